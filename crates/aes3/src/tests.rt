@@ -1,0 +1,231 @@
+//! Worked command lines and calls, with their expected bytes written out from the line code.
+
+ghost use Rattle.std.specs.Prelude.{◌<◌};
+
+use crate::run::run_words;
+use aes3_block::Subframe;
+use aes3_cell::{Counts, FailingSink, FailingSource, MemorySink, MemorySource, RunError};
+use aes3_engine::encode;
+use std::alloc::{AllocError, Global};
+use std::process::Abort;
+use std::test::Fail;
+
+const BLOCK_LEN: usize = 1536;
+
+/// The text of the zero block whose first line is `first` behind its preamble.
+fn block_text(alloc: Global, first: &[u8]) -> Result<Vec<u8>, AllocError> {
+    let mut text = Vec::new(alloc);
+    for slot in 0..384 {
+        let preamble: &[u8] = if slot == 0 {
+            b"11101000"
+        } else if slot % 2 == 1 {
+            b"11100100"
+        } else {
+            b"11100010"
+        };
+        text.extend_from_slice(preamble)?;
+        let cells: &[u8] = if slot == 0 { first } else { ZEROS };
+        text.extend_from_slice(cells)?;
+        text.push(b'\n')?;
+    }
+    Ok(text)
+}
+
+/// 28 slots of bit 0.
+const ZEROS: &[u8] = b"11001100110011001100110011001100110011001100110011001100";
+
+/// A block file of zero words but for the first.
+fn block_file(alloc: Global, first: &[u8], len: usize) -> Result<Vec<u8>, AllocError> {
+    let mut file = Vec::new(alloc);
+    file.extend_from_slice(first)?;
+    for _ in first.len()..len {
+        file.push(0)?;
+    }
+    Ok(file)
+}
+
+/// Runs a command line over memory and compares its output, refusal line and status.
+fn expect_run(
+    rt: &impl Abort,
+    alloc: Global,
+    words: &[&str],
+    input: &[u8],
+    piece: usize,
+    output: &[u8],
+    errors: &[u8],
+    status: u8,
+) -> Result<(), Fail>
+    requires { 0 < piece }
+{
+    let mut source = MemorySource::new(input, piece);
+    let mut sink = MemorySink::new(alloc);
+    let mut lines = MemorySink::new(alloc);
+    let answer = run_words(alloc, words, &mut source, &mut sink, &mut lines);
+    assert_eq!(rt; answer, status);
+    assert!(rt; sink.bytes() == output);
+    assert!(rt; lines.bytes() == errors);
+    Ok(())
+}
+
+#[test]
+fn empty_input_gives_no_output(rt: HostRuntime) -> Result<(), Fail> {
+    expect_run(&rt, rt.alloc(), &["encode"], b"", 7, b"", b"", 0)
+}
+
+#[test]
+fn zero_block_in_any_pieces(rt: HostRuntime) -> Result<(), Fail> {
+    let file = block_file(rt.alloc(), b"", BLOCK_LEN)?;
+    let text = block_text(rt.alloc(), ZEROS)?;
+    for piece in [1, 7, 64, 65, 4096] {
+        expect_run(&rt, rt.alloc(), &["encode"], &file, piece, &text, b"", 0)?;
+    }
+    Ok(())
+}
+
+#[test]
+fn audio_1_has_its_lowest_bit_first(rt: HostRuntime) -> Result<(), Fail> {
+    let file = block_file(rt.alloc(), &[0x10, 0, 0, 0x80], BLOCK_LEN)?;
+    let line = b"10110011001100110011001100110011001100110011001100110010";
+    let text = block_text(rt.alloc(), line)?;
+    expect_run(&rt, rt.alloc(), &["encode"], &file, 4096, &text, b"", 0)
+}
+
+#[test]
+fn all_bits_set(rt: HostRuntime) -> Result<(), Fail> {
+    let file = block_file(rt.alloc(), &[0xF0, 0xFF, 0xFF, 0xFF], BLOCK_LEN)?;
+    let line = b"10101010101010101010101010101010101010101010101010101010";
+    let text = block_text(rt.alloc(), line)?;
+    expect_run(&rt, rt.alloc(), &["encode"], &file, 4096, &text, b"", 0)
+}
+
+#[test]
+fn refused_block_files(rt: HostRuntime) -> Result<(), Fail> {
+    let cut = block_file(rt.alloc(), b"", BLOCK_LEN - 1)?;
+    expect_run(
+        &rt,
+        rt.alloc(),
+        &["encode"],
+        &cut,
+        64,
+        b"",
+        b"aes3: refused 2 at 1535\n",
+        3,
+    )?;
+    let code = block_file(rt.alloc(), &[1], BLOCK_LEN)?;
+    expect_run(
+        &rt,
+        rt.alloc(),
+        &["encode"],
+        &code,
+        64,
+        b"",
+        b"aes3: refused 3 at 0\n",
+        3,
+    )?;
+    let parity = block_file(rt.alloc(), &[0x10], BLOCK_LEN)?;
+    expect_run(
+        &rt,
+        rt.alloc(),
+        &["encode"],
+        &parity,
+        64,
+        b"",
+        b"aes3: refused 4 at 0\n",
+        3,
+    )?;
+    let both = block_file(rt.alloc(), &[0x11], BLOCK_LEN)?;
+    expect_run(
+        &rt,
+        rt.alloc(),
+        &["encode"],
+        &both,
+        64,
+        b"",
+        b"aes3: refused 3 at 0\n",
+        3,
+    )
+}
+
+#[test]
+fn refused_command_lines(rt: HostRuntime) -> Result<(), Fail> {
+    let usage = b"usage: aes3 encode < BLOCK-FILE > CELLS\n";
+    expect_run(&rt, rt.alloc(), &[], b"", 7, b"", usage, 2)?;
+    expect_run(&rt, rt.alloc(), &["decode"], b"", 7, b"", usage, 2)?;
+    expect_run(&rt, rt.alloc(), &["encode", "x"], b"", 7, b"", usage, 2)?;
+    expect_run(
+        &rt,
+        rt.alloc(),
+        &["encode", "--help"],
+        b"",
+        7,
+        usage,
+        b"",
+        0,
+    )
+}
+
+#[test]
+fn the_last_byte_that_fits(rt: HostRuntime) -> Result<(), Fail> {
+    let file = block_file(rt.alloc(), b"", BLOCK_LEN)?;
+    let mut source = MemorySource::new(&file, 100);
+    let mut sink = MemorySink::new(rt.alloc());
+    let counts = Counts {
+        bytes: 1536,
+        cells: 24_576,
+        blocks: 1,
+        faults: 0,
+        unfinished: 0,
+        marks: 0,
+    };
+    assert!(rt; encode(&mut source, &mut sink, 1536) == Ok(counts));
+    assert_eq!(rt; sink.bytes().len(), 24_960);
+    let mut source = MemorySource::new(&file, 100);
+    let mut sink = MemorySink::new(rt.alloc());
+    assert!(rt; encode(&mut source, &mut sink, 1535) == Err(RunError::TooLong));
+    assert_eq!(rt; sink.bytes().len(), 0);
+    Ok(())
+}
+
+#[test]
+fn a_sink_whose_third_call_fails(rt: HostRuntime) -> Result<(), Fail> {
+    let file = block_file(rt.alloc(), b"", BLOCK_LEN)?;
+    let text = block_text(rt.alloc(), ZEROS)?;
+    let mut source = MemorySource::new(&file, 4096);
+    let mut sink = FailingSink::new(rt.alloc(), 3);
+    assert!(rt; encode(&mut source, &mut sink, 4096) == Err(RunError::Write));
+    assert_eq!(rt; sink.bytes().len(), 130);
+    assert!(rt; text.as_slice().starts_with(sink.bytes()));
+    Ok(())
+}
+
+#[test]
+fn each_read_and_each_write_failing_in_turn(rt: HostRuntime) -> Result<(), Fail> {
+    let file = block_file(rt.alloc(), b"", 2 * BLOCK_LEN)?;
+    for call in 1..50 {
+        let mut source = FailingSource::new(&file, 65, call);
+        let mut sink = MemorySink::new(rt.alloc());
+        let answer = encode(&mut source, &mut sink, 4096);
+        let blocks = (call as usize - 1) * 65 / BLOCK_LEN;
+        assert!(rt; answer == Err(RunError::Read) || call == 49);
+        assert!(rt; sink.bytes().len() == blocks.min(2) * 24_960);
+    }
+    for call in 1..769 {
+        let mut source = MemorySource::new(&file, 4096);
+        let mut sink = FailingSink::new(rt.alloc(), call);
+        assert!(rt; encode(&mut source, &mut sink, 4096) == Err(RunError::Write));
+        assert!(rt; sink.bytes().len() == (call as usize - 1) * 65);
+    }
+    Ok(())
+}
+
+#[test]
+fn samples_of_a_subframe(rt: HostRuntime) -> Result<(), Fail> {
+    let one = Subframe::try_new(16_777_205, false, false, false).ok_or("fits")?;
+    assert!(rt; one.aux() == 5 && one.sample20() == -1 && one.signed24() == -11);
+    let lowest = Subframe::try_new(8_388_608, false, false, false).ok_or("fits")?;
+    assert!(rt;
+        lowest.aux() == 0 && lowest.sample20() == -524_288 && lowest.signed24() == -8_388_608
+    );
+    assert!(rt; Subframe::try_new(16_777_216, false, false, false).is_none());
+    Ok(())
+}

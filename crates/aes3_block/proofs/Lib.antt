@@ -1,0 +1,10 @@
+pub mod BitLemmas
+pub mod BlockLemmas
+pub mod Bytes
+pub mod Reading
+pub mod Runs
+pub mod Files
+pub mod Words
+pub mod Streams
+pub mod WholeBlocks
+pub mod FileLaws

@@ -1,0 +1,11 @@
+pub mod Subframes
+pub mod Blocks
+pub mod Files
+pub mod Readers
+pub mod Refusals
+pub use Rattle.aes3_cell.specs.Cells
+pub use Rattle.aes3_cell.specs.Words
+pub use Rattle.aes3_cell.specs.Text
+pub use Rattle.aes3_cell.specs.Ends
+pub use Rattle.aes3_slot.specs.Bits
+pub use Rattle.aes3_slot.specs.Slots

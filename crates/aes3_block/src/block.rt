@@ -1,0 +1,93 @@
+//! Blocks.
+use std::marker::Model;
+
+/// How many frames a block has.
+pub const FRAMES: usize = 192;
+
+/// How many subframes a block has.
+pub const SLOTS: usize = 384;
+
+/// A block: 192 frames that begin with preamble Z (AES3-3, IEC 60958-1).
+///
+/// A contract sees it as its 384 payloads in order of transmission, channel 1 first.
+#[derive(Drop)]
+pub struct Block {
+    words: [u32; SLOTS],
+}
+
+impl Model for Block {
+    ghost use Rattle.std.specs.Prelude.{List, Bool, ℕ, ◌<◌, ◌≡◌, true, get_or, map};
+    ghost use Rattle.aes3_block.specs.Files.{is_lawful, payload_of};
+    ghost use Rattle.aes3_block.specs.Blocks.{block_slots};
+
+    ghost Value = { List (List Bool) };
+
+    ghost view = { λ b. map payload_of b.words };
+
+    ghost invariant = { λ b. (i : ℕ) → i < block_slots → is_lawful (get_or b.words i 0) ≡ true };
+}
+
+ghost use Rattle.std.specs.Prelude.{◌≡◌, ◌<◌, ◌+◌, ◌*◌, ℕ, Some, true, get_or, length, map, replicate, slice_get, slice_set};
+ghost use Rattle.aes3_block.specs.Blocks.{block_slots, zero_block};
+ghost use Rattle.aes3_block.specs.Files.{is_lawful, payload_of};
+ghost use Rattle.aes3_block.specs.Subframes.{bits_of};
+
+use crate::frame::Frame;
+use crate::subframe::Subframe;
+use crate::word::{payload_of_word, word_of_payload};
+
+/// Words of payloads that are 0.
+pub(crate) fn zero_words() -> [u32; SLOTS]
+    ensures { result ≡ replicate block_slots 0 }
+{
+    [0; SLOTS]
+}
+
+impl Block {
+    /// The block all of whose bits are 0.
+    pub fn zero() -> Block
+        ensures { result ≡ zero_block }
+    {
+        Block {
+            words: zero_words(),
+        }
+    }
+
+    /// Frame `i`.
+    pub fn frame(&self, i: usize) -> Frame
+        requires { i < FRAMES }
+        ensures first { slice_get self.now (2 * i) ≡ Some (bits_of result.first) }
+        ensures second { slice_get self.now (2 * i + 1) ≡ Some (bits_of result.second) }
+    {
+        Frame {
+            first: Subframe::of_payload(payload_of_word(self.words[2 * i])),
+            second: Subframe::of_payload(payload_of_word(self.words[2 * i + 1])),
+        }
+    }
+
+    /// Sets frame `i`, and no other.
+    pub fn set_frame(&mut self, i: usize, frame: Frame)
+        requires { i < FRAMES }
+        ensures { self.new ≡ slice_set (slice_set self.old (2 * i) (bits_of frame.first)) (2 * i + 1) (bits_of frame.second) }
+    {
+        self.words[2 * i] = word_of_payload(frame.first.payload());
+        self.words[2 * i + 1] = word_of_payload(frame.second.payload());
+    }
+
+    /// The block of lawful words.
+    pub(crate) fn of_words(words: [u32; SLOTS]) -> Block
+        requires { (i : ℕ) → i < block_slots → is_lawful (get_or words i 0) ≡ true }
+        ensures { result ≡ map payload_of words }
+    {
+        Block { words }
+    }
+
+    /// Its words in a block file.
+    pub(crate) fn words(&self) -> &[u32; SLOTS]
+        ensures count { length result.now ≡ block_slots }
+        ensures lawful { (i : ℕ) → i < block_slots → is_lawful (get_or result.now i 0) ≡ true }
+        ensures payloads { map payload_of result.now ≡ self.now }
+    {
+        &self.words
+    }
+}

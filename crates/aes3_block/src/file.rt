@@ -1,0 +1,159 @@
+//! Block files as they are read.
+use crate::block::{Block, SLOTS, zero_words};
+use crate::word::{has_right_code, has_right_parity};
+use aes3_cell::RunError;
+use std::marker::Model;
+use thiserror::Error;
+
+/// What a block file can't have. Words are counted from 0 over the whole file.
+#[derive(Clone, Copy, PartialEq, Eq, Debug, Error)]
+pub enum FileFault {
+    /// The file ends inside a block; `left` bytes, 1 to 1,535, follow the last whole block.
+    #[error("the block file ends {left} bytes into a block")]
+    BadLength { left: u64 },
+    /// Bits 0 to 3 of word `at` are not zero.
+    #[error("bits 0 to 3 of word {at} are not zero")]
+    BadCode { at: u64 },
+    /// Bit 31 of word `at` is not the right parity.
+    #[error("the parity bit of word {at} is wrong")]
+    BadParity { at: u64 },
+}
+
+impl From<FileFault> for RunError {
+    ghost use Rattle.std.specs.Prelude.{◌≡◌};
+    ghost use Rattle.aes3_block.specs.Refusals.{refusal_of};
+
+    ghost from_gives = { λ fault error. error ≡ refusal_of fault };
+
+    fn from(fault: FileFault) -> RunError {
+        match fault {
+            FileFault::BadLength { left } => RunError::BadLength { left },
+            FileFault::BadCode { at } => RunError::BadCode { at },
+            FileFault::BadParity { at } => RunError::BadParity { at },
+        }
+    }
+}
+
+/// Reads a block file byte by byte.
+///
+/// A contract sees how many bytes it has taken, the words of the block that is begun, the bytes of the word that is
+/// begun, and what it refused.
+#[derive(Drop)]
+pub struct BlockFile {
+    words: [u32; SLOTS],
+    word: u32,
+    seen: u64,
+    fault: Option<FileFault>,
+}
+
+impl Model for BlockFile {
+    ghost use Rattle.std.specs.Prelude.{ℕ, ◌<◌, ◌≡◌, ◌*◌, ◌/◌, ◌%◌, ◌^◌, true, get_or, take};
+    ghost use Rattle.aes3_block.specs.Files.{is_lawful, low_bytes};
+    ghost use Rattle.aes3_block.specs.Readers.{FileReader};
+
+    ghost Value = { FileReader };
+
+    ghost view = { λ f. record { seen = f.seen; words = take (f.seen / 4 % 384) f.words; bytes = low_bytes (f.seen % 4) f.word; fault = f.fault } };
+
+    ghost invariant = { λ f. ((i : ℕ) → i < f.seen / 4 % 384 → is_lawful (get_or f.words i 0) ≡ true) × (f.word < 2 ^ (8 * (f.seen % 4))) };
+}
+
+ghost use Rattle.std.specs.Prelude.{◌≡◌, ◌<◌, ◌+◌, ◌*◌, ◌^◌, [], ◌∷◌, ◌++◌, None};
+ghost use Rattle.aes3_block.specs.Files.{low_bytes};
+ghost use Rattle.aes3_block.specs.Readers.{answer_with, end_answer, next_with, word_fault};
+
+/// The fault of word `at`, its code judged before its parity.
+fn fault_of_word(word: u32, at: u64) -> Option<FileFault>
+    ensures { result ≡ word_fault at word }
+{
+    if !has_right_code(word) {
+        Some(FileFault::BadCode { at })
+    } else if !has_right_parity(word) {
+        Some(FileFault::BadParity { at })
+    } else {
+        None
+    }
+}
+
+/// The word that is begun, of `len` bytes, with one more byte.
+fn word_with_byte(word: u32, len: u32, byte: u8) -> u32
+    requires few { len < 4 }
+    requires bound { word < 2 ^ (8 * len) }
+    ensures bytes { low_bytes (len + 1) result ≡ low_bytes len word ++ byte ∷ [] }
+    ensures bound { result < 2 ^ (8 * (len + 1)) }
+{
+    word | u32::from(byte) << (8 * len)
+}
+
+impl BlockFile {
+    /// A reader that has taken nothing.
+    pub fn new() -> Self
+        ensures seen { result.seen ≡ 0 }
+        ensures words { result.words ≡ [] }
+        ensures bytes { result.bytes ≡ [] }
+        ensures open { result.fault ≡ None }
+    {
+        BlockFile {
+            words: zero_words(),
+            word: 0,
+            seen: 0,
+            fault: None,
+        }
+    }
+
+    /// How many bytes it has taken.
+    pub fn seen(&self) -> u64
+        ensures { result ≡ self.now.seen }
+    {
+        self.seen
+    }
+
+    /// Takes one more byte, and answers the block that it ends.
+    ///
+    /// # Errors
+    /// The fault of the word that the byte ends. Then the byte isn't taken, and each later call answers the same.
+    pub fn feed_byte(&mut self, byte: u8) -> Result<Option<Block>, FileFault>
+        requires { self.old.seen < 2 ^ 40 }
+        ensures answer { result ≡ answer_with self.old byte }
+        ensures next { self.new ≡ next_with self.old byte }
+    {
+        if let Some(fault) = self.fault {
+            return Err(fault);
+        }
+        let word = word_with_byte(self.word, (self.seen % 4) as u32, byte);
+        if self.seen % 4 < 3 {
+            self.word = word;
+            self.seen += 1;
+            return Ok(None);
+        }
+        if let Some(fault) = fault_of_word(word, self.seen / 4) {
+            self.fault = Some(fault);
+            return Err(fault);
+        }
+        let slot = (self.seen / 4) as usize % SLOTS;
+        self.words[slot] = word;
+        self.word = 0;
+        self.seen += 1;
+        if slot + 1 < SLOTS {
+            return Ok(None);
+        }
+        Ok(Some(Block::of_words(self.words)))
+    }
+
+    /// Says whether the file may end here.
+    ///
+    /// # Errors
+    /// `BadLength` where a block is begun and nothing was refused before.
+    pub fn end(&self) -> Result<(), FileFault>
+        ensures { result ≡ end_answer self.now }
+    {
+        let left = self.seen % BLOCK_LEN;
+        match self.fault {
+            None if left > 0 => Err(FileFault::BadLength { left }),
+            _ => Ok(()),
+        }
+    }
+}
+
+/// How many bytes a block has in a block file.
+const BLOCK_LEN: u64 = 1536;

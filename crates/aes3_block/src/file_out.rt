@@ -1,0 +1,43 @@
+//! Block files as they are written.
+
+ghost use Rattle.std.specs.Prelude.{◌≡◌, ◌<◌, ◌+◌, ◌^◌, ℕ, IfOk, OnErr, get_or, length};
+ghost use Rattle.std.specs.List.{flat_map};
+ghost use Rattle.aes3_cell.specs.Ends.{Grew, GrewFront};
+ghost use Rattle.aes3_block.specs.Files.{block_bytes, word_bytes};
+
+use crate::block::{Block, SLOTS};
+use aes3_cell::{Fault, Sink, write_all};
+
+/// How many bytes a block has in a block file.
+const BLOCK_BYTES: usize = 4 * SLOTS;
+
+fn blank_bytes() -> [u8; BLOCK_BYTES]
+    ensures { length result ≡ BLOCK_BYTES }
+{
+    [0; BLOCK_BYTES]
+}
+
+/// The bytes of words, each lowest byte first.
+fn bytes_of_words(words: &[u32; SLOTS]) -> [u8; BLOCK_BYTES]
+    ensures bytes { result ≡ flat_map word_bytes words.now }
+    ensures fits { (i : ℕ) → i < SLOTS → get_or words.now i 0 < 2 ^ 32 }
+{
+    let mut bytes = blank_bytes();
+    for (i, word) in words.iter().enumerate() {
+        bytes[4 * i..4 * i + 4].copy_from_slice(&word.to_le_bytes());
+    }
+    bytes
+}
+
+/// Writes a block as 1,536 bytes, handed on as one buffer.
+///
+/// # Errors
+/// The sink's fault; then it has taken a front of the bytes.
+pub fn put_block_file<T: Sink>(block: &Block, sink: &mut T) -> Result<(), Fault>
+    requires room { T.failed sink.old + 1 < 2 ^ 64 }
+    ensures bytes { IfOk result (λ _. Grew (T.taken sink.old) (T.taken sink.new) (block_bytes block.now)) }
+    ensures count { IfOk result (λ _. T.failed sink.new ≡ T.failed sink.old) }
+    ensures err { OnErr result ((T.failed sink.new ≡ T.failed sink.old + 1) × GrewFront (T.taken sink.old) (T.taken sink.new) (block_bytes block.now)) }
+{
+    write_all(sink, &bytes_of_words(block.words()))
+}

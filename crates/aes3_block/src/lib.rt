@@ -1,0 +1,17 @@
+//! Blocks of 192 frames, their cells and their file form (AES3-2, AES3-3, IEC 60958-1).
+#![tactic(auto)]
+
+mod block;
+mod cells;
+mod file;
+mod file_out;
+mod frame;
+mod subframe;
+mod word;
+
+pub use block::Block;
+pub use cells::put_block_cells;
+pub use file::{BlockFile, FileFault};
+pub use file_out::put_block_file;
+pub use frame::Frame;
+pub use subframe::Subframe;

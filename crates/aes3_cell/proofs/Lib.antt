@@ -1,0 +1,4 @@
+pub mod Growing
+pub mod WordCells
+pub mod Lines
+pub mod Runs

@@ -1,0 +1,29 @@
+-- The numbers of the refusals, and where the fault stands.
+use Rattle.std.specs.Prelude.{ℕ, Option, Some, None}
+use Rattle.aes3_cell.specs.declared.refusal.RunError.{RunError}
+use Rattle.aes3_cell.specs.declared.refusal.RunError.TheVariants.{BadCell, BadLength, BadCode, BadParity, Read, Write, TooLong, Memory, BadStatusText, BadPadding}
+
+abbrev pub number_of : RunError → ℕ
+number_of (BadCell at) = 1
+number_of (BadLength left) = 2
+number_of (BadCode at) = 3
+number_of (BadParity at) = 4
+number_of Read = 5
+number_of Write = 6
+number_of TooLong = 7
+number_of Memory = 8
+number_of BadStatusText = 9
+number_of (BadPadding at) = 10
+
+-- counted from 0 over the whole input; of a block file that is cut, the number of bytes that are left
+abbrev pub place_of : RunError → Option ℕ
+place_of (BadCell at) = Some at
+place_of (BadLength left) = Some left
+place_of (BadCode at) = Some at
+place_of (BadParity at) = Some at
+place_of Read = None
+place_of Write = None
+place_of TooLong = None
+place_of Memory = None
+place_of BadStatusText = None
+place_of (BadPadding at) = Some at

@@ -1,0 +1,76 @@
+//! Where bytes come from and go to.
+
+ghost use Rattle.std.specs.Prelude.{◌≡◌, ℕ, ◌+◌, ◌<◌, ◌≤◌, ◌^◌, ◌↔◌, List, Option, Bool, length, take, IfOk, OnErr, IsTrue};
+ghost use Rattle.aes3_cell.specs.Ends.{Grew, GrewFront};
+
+/// A device's fault. No byte was moved.
+#[derive(Clone, Copy, PartialEq, Eq, Debug)]
+pub struct Fault;
+
+/// Gives bytes, in pieces of any size.
+///
+/// The contract speaks of all bytes given so far (`given`, where the source tells them), of whether it has
+/// ended, and of how often it failed.
+pub trait Source {
+    ghost given: { Self → Option (List ℕ) };
+
+    ghost has_ended: { Self → Bool };
+
+    ghost failed: { Self → ℕ };
+
+    /// Puts bytes into the front of `buf` and says how many: for a `buf` that is not empty at least one, or none
+    /// at the end.
+    fn read(&mut self, buf: &mut [u8]) -> Result<usize, Fault>
+        requires room { failed self.old + 1 < 2 ^ 64 }
+        ensures bound { IfOk result (λ n. n ≤ length buf.new) }
+        ensures bytes { IfOk result (λ n. Grew (given self.old) (given self.new) (take n buf.new)) }
+        ensures end { IfOk result (λ n. 0 < length buf.new → (n ≡ 0 ↔ IsTrue (has_ended self.new))) }
+        ensures count { IfOk result (λ _. failed self.new ≡ failed self.old) }
+        ensures err { OnErr result ((failed self.new ≡ failed self.old + 1) × (given self.new ≡ given self.old)) };
+
+    /// How often the source has failed.
+    fn failures(&self) -> u64
+        ensures { result ≡ failed self.now };
+}
+
+/// Takes bytes, in pieces of any size.
+///
+/// The contract speaks of all bytes taken so far (`taken`, where the sink tells them) and of how often it failed.
+pub trait Sink {
+    ghost taken: { Self → Option (List ℕ) };
+
+    ghost failed: { Self → ℕ };
+
+    /// Takes bytes from the front of `buf` and says how many: of a `buf` that is not empty at least one.
+    fn write(&mut self, buf: &[u8]) -> Result<usize, Fault>
+        requires room { failed self.old + 1 < 2 ^ 64 }
+        ensures bound { IfOk result (λ n. n ≤ length buf.now) }
+        ensures some { IfOk result (λ n. 0 < length buf.now → 0 < n) }
+        ensures bytes { IfOk result (λ n. Grew (taken self.old) (taken self.new) (take n buf.now)) }
+        ensures count { IfOk result (λ _. failed self.new ≡ failed self.old) }
+        ensures err { OnErr result ((failed self.new ≡ failed self.old + 1) × (taken self.new ≡ taken self.old)) };
+
+    /// How often the sink has failed.
+    fn failures(&self) -> u64
+        ensures { result ≡ failed self.now };
+}
+
+/// Hands all the bytes to the sink, again and again what it left.
+///
+/// # Errors
+/// The sink's fault; then it has taken a front of the bytes.
+pub fn write_all<T: Sink>(sink: &mut T, bytes: &[u8]) -> Result<(), Fault>
+    requires room { T.failed sink.old + 1 < 2 ^ 64 }
+    ensures all { IfOk result (λ _. Grew (T.taken sink.old) (T.taken sink.new) bytes.now) }
+    ensures count { IfOk result (λ _. T.failed sink.new ≡ T.failed sink.old) }
+    ensures err { OnErr result ((T.failed sink.new ≡ T.failed sink.old + 1) × GrewFront (T.taken sink.old) (T.taken sink.new) bytes.now) }
+{
+    let mut at = 0;
+    while at < bytes.len() {
+        match sink.write(&bytes[at..]) {
+            Ok(n) => at += n,
+            Err(fault) => return Err(fault),
+        }
+    }
+    Ok(())
+}

@@ -1,0 +1,72 @@
+//! Why a run is refused.
+
+ghost use Rattle.std.specs.Prelude.{◌≡◌};
+ghost use Rattle.aes3_cell.specs.Refusals.{number_of, place_of};
+
+use thiserror::Error;
+
+/// A byte of cell text that is neither cell nor separator.
+#[derive(Clone, Copy, PartialEq, Eq, Debug)]
+pub struct BadCell {
+    /// Its place, counted in bytes from 0 over the whole input.
+    pub at: u64,
+}
+
+/// The ten refusals of a run or a command line.
+#[derive(Clone, Copy, PartialEq, Eq, Debug, Error)]
+pub enum RunError {
+    #[error("byte {at} is neither cell nor separator")]
+    BadCell { at: u64 },
+    #[error("the block file ends {left} bytes into a block")]
+    BadLength { left: u64 },
+    #[error("bits 0 to 3 of word {at} are not zero")]
+    BadCode { at: u64 },
+    #[error("the parity bit of word {at} is wrong")]
+    BadParity { at: u64 },
+    #[error("the input can't be read")]
+    Read,
+    #[error("the output can't be written")]
+    Write,
+    #[error("the input is too long")]
+    TooLong,
+    #[error("there is not enough memory")]
+    Memory,
+    #[error("a status is not 48 hexadecimal digits")]
+    BadStatusText,
+    #[error("the packed cells end wrongly at octet {at}")]
+    BadPadding { at: u64 },
+}
+
+impl RunError {
+    /// The refusal's number, 1 to 10, as the program prints it.
+    pub fn number(&self) -> u8
+        ensures { result ≡ number_of self.now }
+    {
+        match self {
+            RunError::BadCell { .. } => 1,
+            RunError::BadLength { .. } => 2,
+            RunError::BadCode { .. } => 3,
+            RunError::BadParity { .. } => 4,
+            RunError::Read => 5,
+            RunError::Write => 6,
+            RunError::TooLong => 7,
+            RunError::Memory => 8,
+            RunError::BadStatusText => 9,
+            RunError::BadPadding { .. } => 10,
+        }
+    }
+
+    /// Where the fault stands, in bytes, words or octets from 0; for `BadLength` how many bytes are left over.
+    pub fn place(&self) -> Option<u64>
+        ensures { result ≡ place_of self.now }
+    {
+        match *self {
+            RunError::BadCell { at }
+            | RunError::BadCode { at }
+            | RunError::BadParity { at }
+            | RunError::BadPadding { at } => Some(at),
+            RunError::BadLength { left } => Some(left),
+            _ => None,
+        }
+    }
+}

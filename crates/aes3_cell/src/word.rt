@@ -1,0 +1,46 @@
+//! Words of 64 cells, the earliest in the lowest bit, and their line of text.
+
+ghost use Rattle.std.specs.Prelude.{◌≡◌, ◌+◌, ◌<◌, ◌^◌, [], ◌∷◌, ◌++◌};
+ghost use Rattle.std.specs.Int.{bit_at};
+ghost use Rattle.aes3_cell.specs.Words.{level_of, low_cells, word_cells};
+ghost use Rattle.aes3_cell.specs.Text.{byte_of, line_text};
+
+use crate::level::Level;
+
+/// How many cells a word has, and a line of text.
+pub(crate) const WORD_LEN: u32 = 64;
+
+/// How many bytes a line of text has, with its line feed.
+pub const LINE_LEN: usize = 65;
+
+/// The word with one more cell.
+pub(crate) fn with_cell(word: u64, len: u32, level: Level) -> u64
+    requires few { len < WORD_LEN }
+    requires bound { word < 2 ^ len }
+    ensures cells { low_cells (len + 1) result ≡ low_cells len word ++ level ∷ [] }
+    ensures bound { result < 2 ^ (len + 1) }
+{
+    match level {
+        Level::Low => word,
+        Level::High => word | 1 << len,
+    }
+}
+
+/// The character of cell `i`.
+fn cell_byte(word: u64, i: u32) -> u8
+    requires { i < WORD_LEN }
+    ensures { result ≡ byte_of (level_of (bit_at word i)) }
+{
+    b'0' + ((word >> i) & 1) as u8
+}
+
+/// The line of text of a word of cells: 64 characters and a line feed.
+pub fn line_of_word(word: u64) -> [u8; LINE_LEN]
+    ensures { result ≡ line_text (word_cells word) }
+{
+    let mut line = [b'\n'; LINE_LEN];
+    for i in 0..WORD_LEN {
+        line[i as usize] = cell_byte(word, i);
+    }
+    line
+}

@@ -1,0 +1,142 @@
+-- A block file converted byte by byte.
+use Rattle.std.proofs.Common.{◌≡◌, ℕ, zero, suc, ◌+◌, ◌/◌, ◌≤◌, List, [], ◌∷◌, ◌++◌, Bool, true, Option, Some, None, Result, Ok, Err, length, drop, refl, sym, ap, ◌∙◌, subst, arith, append-nil, length-append}
+use Rattle.aes3_cell.specs.declared.level.Level.TheVariants.{Low}
+use Rattle.aes3_cell.specs.declared.refusal.RunError.{RunError}
+use Rattle.aes3_cell.specs.Ends.{Grew, GrewFront}
+use Rattle.aes3_cell.specs.Text.{text_of}
+use Rattle.aes3_cell.proofs.Growing.{grew-none, grew-is, front-is}
+use Rattle.aes3_block.specs.declared.file.FileFault.{FileFault}
+use Rattle.aes3_block.specs.declared.file.FileFault.TheVariants as fault
+use Rattle.aes3_block.specs.Blocks.{block_slots, block_cells}
+use Rattle.aes3_block.specs.Files.{words_of, lawful_words, whole_blocks, blocks_in}
+use Rattle.aes3_block.specs.Readers.{FileReader, reader_of, byte_fault, block_with, answer_with, next_with, end_answer}
+use Rattle.aes3_block.specs.Refusals.{refusal_of}
+use Rattle.aes3_block.proofs.Reading.{answered, answered-err}
+use Rattle.aes3_block.proofs.Words.{all_lawful, lawful-words, all_lawful-from, length-words}
+use Rattle.aes3_block.proofs.WholeBlocks.{reader-next, lawful-next, blocks-next, added_blocks}
+use Rattle.aes3_engine.specs.Converting.{or_else, unless, fault_behind, out_behind}
+use Rattle.aes3_engine.specs.Running.{Fed, Stopped, PieceRan, EndRan}
+use Rattle.aes3_engine.specs.Encoding.{encoding, refused_by, refused_at_end, block_written, Encodes, AllLawful}
+
+no-fault : (b : List ℕ) → (reader_of b).fault ≡ None
+unfolding reader_of
+no-fault b = refl
+
+-- one byte that is no fault
+one-clean : (b : List ℕ) (x : ℕ) (block : Option (List (List Bool))) → byte_fault (reader_of b) x ≡ None → block_with (reader_of b) x ≡ block
+    → (fault_behind encoding b (x ∷ []) ≡ None) × (out_behind encoding b (x ∷ []) ≡ block_written block)
+unfolding encoding
+one-clean b x block e f = (
+  ap (λ o. or_else (refused_by o) None) e,
+  ap (λ o. unless (refused_by o) (block_written (block_with (reader_of b) x) ++ [])) e ∙ append-nil (block_written (block_with (reader_of b) x)) ∙ ap block_written f,
+)
+
+one-fault : (b : List ℕ) (x : ℕ) (f : FileFault) → byte_fault (reader_of b) x ≡ Some f
+    → (fault_behind encoding b (x ∷ []) ≡ Some (refusal_of f)) × (out_behind encoding b (x ∷ []) ≡ [])
+unfolding encoding
+one-fault b x f e =
+    (ap (λ o. or_else (refused_by o) None) e, ap (λ o. unless (refused_by o) (block_written (block_with (reader_of b) x) ++ [])) e)
+
+-- what the answer says, of the reader behind b
+answered-of : (r : FileReader) (b : List ℕ) (x : ℕ) (block : Option (List (List Bool))) → r ≡ reader_of b → Ok block ≡ answer_with r x
+    → (byte_fault (reader_of b) x ≡ None) × (block_with (reader_of b) x ≡ block) × (next_with r x ≡ reader_of (b ++ x ∷ []))
+answered-of r b x block e a =
+    let q = answered (reader_of b) x block (no-fault b) (a ∙ ap (λ v. answer_with v x) e) in
+    (q.0, q.1, ap (λ v. next_with v x) e ∙ q.2 ∙ reader-next b x q.0)
+
+pub all-lawful : {b : List ℕ} → AllLawful b → all_lawful (words_of b) ≡ true
+all-lawful {b} h = all_lawful-from b h.is
+
+-- behind one more byte without a fault the conversion follows one more byte
+next-encodes : {file : FileReader} {blocks : ℕ} (new : FileReader) (b : List ℕ) (x : ℕ) (block : Option (List (List Bool)))
+    → Encodes file blocks b → Ok block ≡ answer_with file x → new ≡ next_with file x → Encodes new (blocks + length (added_blocks block)) (b ++ x ∷ [])
+next-encodes {file} {blocks} new b x block h a n =
+    let q = answered-of file b x block h.reader a in
+    let l = all-lawful h.lawful in
+    let g = blocks-next b x l q.0 ∙ ap (λ o. whole_blocks b ++ added_blocks o) q.1 in
+    record {
+      reader = n ∙ q.2;
+      lawful = record { is = lawful-words (b ++ x ∷ []) (lawful-next b x l q.0) };
+      count = ap (λ k. k + length (added_blocks block)) h.count ∙ sym (length-append (whole_blocks b) (added_blocks block)) ∙ ap length (sym g);
+    }
+
+fed-byte : {file : FileReader} {blocks : ℕ} (new : FileReader) (x : ℕ) (block : Option (List (List Bool))) (t t' : Option (List ℕ))
+    → Ok block ≡ answer_with file x → new ≡ next_with file x → Grew t t' (block_written block)
+    → Fed encoding encoding (Encodes file blocks) (Encodes new (blocks + length (added_blocks block))) t t' (x ∷ [])
+fed-byte {file} {blocks} new x block t t' a n g = record {
+  same = refl;
+  clean = λ b h. let q = answered-of file b x block h.reader a in (one-clean b x block q.0 q.1).0;
+  follows = λ b h. next-encodes new b x block h a n;
+  grew = λ b h. let q = answered-of file b x block h.reader a in grew-is (sym (one-clean b x block q.0 q.1).1) g;
+}
+
+pub byte-none : {file : FileReader} {blocks : ℕ} (new : FileReader) (x : ℕ) (t : Option (List ℕ)) → Ok None ≡ answer_with file x → new ≡ next_with file x
+    → Fed encoding encoding (Encodes file blocks) (Encodes new blocks) t t (x ∷ [])
+byte-none {file} {blocks} new x t a n =
+    subst (λ (k : ℕ). Fed encoding encoding (Encodes file blocks) (Encodes new k) t t (x ∷ [])) (omega arith) (fed-byte new x None t t a n (grew-none refl))
+
+pub byte-block : {file : FileReader} {blocks : ℕ} (new : FileReader) (x : ℕ) (block : List (List Bool)) (t t' : Option (List ℕ))
+    → Ok (Some block) ≡ answer_with file x → new ≡ next_with file x → Grew t t' (text_of (block_cells Low block))
+    → Fed encoding encoding (Encodes file blocks) (Encodes new (blocks + 1)) t t' (x ∷ [])
+byte-block new x block t t' a n g = fed-byte new x (Some block) t t' a n g
+
+pub byte-front : {file : FileReader} {blocks : ℕ} (x : ℕ) (block : List (List Bool)) (t t' : Option (List ℕ))
+    → Ok (Some block) ≡ answer_with file x → GrewFront t t' (text_of (block_cells Low block))
+    → (b : List ℕ) → Encodes file blocks b → GrewFront t t' (out_behind encoding b (x ∷ []))
+byte-front {file} x block t t' a g b h =
+    let q = answered-of file b x (Some block) h.reader a in front-is (sym (one-clean b x (Some block) q.0 q.1).1) g
+
+-- a byte that is refused
+stopped-byte : {file : FileReader} {blocks : ℕ} (x : ℕ) (f : FileFault) (t : Option (List ℕ)) → Err f ≡ answer_with file x
+    → Stopped encoding (Encodes file blocks) t t (x ∷ []) (refusal_of f)
+stopped-byte {file} {blocks} x f t a = record {
+  fault = λ b h. (one-fault b x f (here b h)).0;
+  grew = λ b h. grew-is (sym (one-fault b x f (here b h)).1) (grew-none refl);
+}
+  where
+    here : (b : List ℕ) → Encodes file blocks b → byte_fault (reader_of b) x ≡ Some f
+    here b h = answered-err (reader_of b) x f (no-fault b) (a ∙ ap (λ v. answer_with v x) h.reader)
+
+pub byte-refused : (file : FileReader) (blocks : ℕ) (after : List ℕ → Type 0) (x : ℕ) (f : FileFault) (e : RunError) (t : Option (List ℕ)) (k : ℕ) → e ≡ refusal_of f → Err f ≡ answer_with file x
+    → PieceRan encoding encoding (Encodes file blocks) after (x ∷ []) (record { old = t; new = t; failed_old = k; failed_new = k }) (Err e)
+byte-refused file blocks after x f e t k q a =
+    subst (λ (v : RunError). PieceRan encoding encoding (Encodes file blocks) after (x ∷ []) (record { old = t; new = t; failed_old = k; failed_new = k }) (Err v)) (sym q) (go f (stopped-byte x f t a))
+  where
+    go : (f : FileFault) → Stopped encoding (Encodes file blocks) t t (x ∷ []) (refusal_of f)
+        → PieceRan encoding encoding (Encodes file blocks) after (x ∷ []) (record { old = t; new = t; failed_old = k; failed_new = k }) (Err (refusal_of f))
+    go (fault.BadLength left) s = (s, refl)
+    go (fault.BadCode at) s = (s, refl)
+    go (fault.BadParity at) s = (s, refl)
+
+-- the end
+end-of : (r : FileReader) (b : List ℕ) (e : Result (Unit {0}) FileFault) → r ≡ reader_of b → e ≡ end_answer r → encoding.end_fault b ≡ refused_at_end e
+unfolding encoding
+end-of r b e h q = ap refused_at_end (sym (q ∙ ap end_answer h))
+
+pub end-clean : {file : FileReader} {blocks : ℕ} (t : Option (List ℕ)) → Ok tt ≡ end_answer file
+    → (b : List ℕ) → Encodes file blocks b → (encoding.end_fault b ≡ None) × Encodes file blocks b × Grew t t (encoding.ends b)
+unfolding encoding
+end-clean {file} t q b h = (end-of file b (Ok tt) h.reader q, h, grew-none refl)
+
+pub end-refused : (file : FileReader) (blocks : ℕ) (after : List ℕ → Type 0) (f : FileFault) (e : RunError) (t : Option (List ℕ)) (k : ℕ) → e ≡ refusal_of f → Err f ≡ end_answer file
+    → EndRan encoding (Encodes file blocks) after (record { old = t; new = t; failed_old = k; failed_new = k }) (Err e)
+end-refused file blocks after f e t k q a =
+    subst (λ (v : RunError). EndRan encoding (Encodes file blocks) after (record { old = t; new = t; failed_old = k; failed_new = k }) (Err v)) (sym q) (go f a)
+  where
+    go : (f : FileFault) → Err f ≡ end_answer file → EndRan encoding (Encodes file blocks) after (record { old = t; new = t; failed_old = k; failed_new = k }) (Err (refusal_of f))
+    go (fault.BadLength left) a = (λ b h. (end-of file b (Err (fault.BadLength left)) h.reader a, grew-none refl), refl)
+    go (fault.BadCode at) a = (λ b h. (end-of file b (Err (fault.BadCode at)) h.reader a, grew-none refl), refl)
+    go (fault.BadParity at) a = (λ b h. (end-of file b (Err (fault.BadParity at)) h.reader a, grew-none refl), refl)
+
+-- how many bytes, and how many blocks at most
+pub encodes-seen : {file : FileReader} {blocks : ℕ} {b : List ℕ} → Encodes file blocks b → file.seen ≡ length b
+unfolding reader_of
+encodes-seen h = ap (λ r. r.seen) h.reader
+
+length-blocks : (n : ℕ) (ws : List ℕ) → length (blocks_in n ws) ≡ n
+length-blocks zero ws = refl
+length-blocks (suc n) ws = ap suc (length-blocks n (drop block_slots ws))
+
+pub few-blocks : (b : List ℕ) → AllLawful b → length (whole_blocks b) ≤ length b / 4 / 384
+unfolding whole_blocks block_slots
+few-blocks b h = let n = length-blocks (length (lawful_words b) / 384) (lawful_words b) in let m = ap length h.is in let k = length-words b in omega arith

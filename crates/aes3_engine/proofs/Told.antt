@@ -1,0 +1,65 @@
+-- What a run says of a source that tells its bytes.
+use Rattle.std.proofs.Common.{◌≡◌, ◌≢◌, ℕ, ◌+◌, ◌≤◌, inl, inr, Bool, List, [], ◌++◌, length, take, Some, None, Result, Ok, Err, IsOk, sym, ap, ◌∙◌, subst, append-nil, refl, arith}
+use Rattle.std.proofs.lemmas.List.{take_all}
+use Rattle.aes3_cell.specs.declared.refusal.RunError.{RunError}
+use Rattle.aes3_cell.specs.declared.refusal.RunError.TheVariants.{Read, Write, TooLong}
+use Rattle.aes3_cell.specs.Ends.{Grew, GrewFront, Told}
+use Rattle.aes3_cell.proofs.Growing.{grew-is, front-is, told-is}
+use Rattle.aes3_engine.specs.Converting.{Reading, first_fault, out, whole}
+use Rattle.aes3_engine.specs.Running.{Ran, Run, Change, Quiet, Clean}
+
+-- the bytes of a run are those that the source tells
+pub ran-told : {max : ℕ} {r : Reading} {z : List ℕ → Type 0} {ended : Bool} {source sink : Change} {result : Result ℕ RunError}
+    → Run max r z ended source sink result → (b : List ℕ) → Told source.old source.new b → Ran max r z b ended source sink result
+ran-told {max} {r} {z} {ended} {source} {sink} {result} run b t =
+    subst (λ (v : List ℕ). Ran max r z v ended source sink result) (told-is run.given t) run.ran
+
+pub few-told : {max : ℕ} {r : Reading} {z : List ℕ → Type 0} {ended : Bool} {source sink : Change} {result : Result ℕ RunError}
+    → Run max r z ended source sink result → (b : List ℕ) → Told source.old source.new b → length b ≤ max + 1
+few-told {max} run b t = subst (λ (v : List ℕ). length v ≤ max + 1) (told-is run.given t) run.few
+
+-- what was written before a refusal, unless the sink failed
+wrote : (max : ℕ) (r : Reading) (z : List ℕ → Type 0) (b : List ℕ) (ended : Bool) (source sink : Change) (e : RunError)
+    → Ran max r z b ended source sink (Err e) → e ≢ Write → Grew sink.old sink.new (out r (take max b))
+wrote max r z b ended source sink Write h n = absurd (n refl)
+wrote max r z b ended source sink Read h n = grew-is (ap (out r) (sym (take_all max b h.0.short))) h.3
+wrote max r z b ended source sink TooLong h n = h.4
+wrote max r z b ended source sink e h n = h.2
+
+-- after a fault of the sink, where the end writes nothing
+wrote-front : (max : ℕ) (r : Reading) (z : List ℕ → Type 0) (b : List ℕ) (ended : Bool) (source sink : Change)
+    → ((b : List ℕ) → r.ends b ≡ []) → Ran max r z b ended source sink (Err Write) → GrewFront sink.old sink.new (out r (take max b))
+unfolding whole
+wrote-front max r z b ended source sink n h = elim h.2 [
+  | inl g ↦ g
+  | inr g ↦ front-is (ap (λ v. out r b ++ v) (n b) ∙ append-nil (out r b) ∙ ap (out r) (sym (take_all max b g.0.clean.short))) g.2
+]
+
+-- Ok is owed where nothing failed and the input has no fault and fits
+owed : (max : ℕ) (r : Reading) (z : List ℕ → Type 0) (b : List ℕ) (ended : Bool) (source sink : Change) (result : Result ℕ RunError)
+    → Ran max r z b ended source sink result → Clean max r b → r.end_fault b ≡ None → Quiet source → Quiet sink → IsOk result
+owed max r z b ended source sink (Ok n) h c e q k = refl
+owed max r z b ended source sink (Err Read) h c e q k = absurd (let f = h.1 in omega arith)
+owed max r z b ended source sink (Err Write) h c e q k = absurd (let f = h.1 in omega arith)
+owed max r z b ended source sink (Err TooLong) h c e q k = absurd (let l = h.1 in let s = c.short in omega arith)
+owed max r z b ended source sink (Err x) h c e q k = absurd (elim h.3 [
+  | inl g ↦ some-none (sym g ∙ ap (first_fault r) (take_all max b c.short) ∙ c.clean)
+  | inr g ↦ some-none (sym g.1 ∙ e)
+])
+  where
+    some-none : {x : RunError} → Some x ≡ None → ⊥
+    some-none q = cc
+
+-- the same of a run
+pub told-wrote : {max : ℕ} {r : Reading} {z : List ℕ → Type 0} {ended : Bool} {source sink : Change} {e : RunError} → Run max r z ended source sink (Err e)
+    → e ≢ Write → (b : List ℕ) → Told source.old source.new b → Grew sink.old sink.new (out r (take max b))
+told-wrote {max} {r} {z} {ended} {source} {sink} {e} run n b t = wrote max r z b ended source sink e (ran-told run b t) n
+
+pub told-front : {max : ℕ} {r : Reading} {z : List ℕ → Type 0} {ended : Bool} {source sink : Change} {e : RunError} → Run max r z ended source sink (Err e)
+    → ((b : List ℕ) → r.ends b ≡ []) → e ≡ Write → (b : List ℕ) → Told source.old source.new b → GrewFront sink.old sink.new (out r (take max b))
+told-front {max} {r} {z} {ended} {source} {sink} {e} run n q b t =
+    wrote-front max r z b ended source sink n (ran-told (subst (λ (v : RunError). Run max r z ended source sink (Err v)) q run) b t)
+
+pub told-owed : {max : ℕ} {r : Reading} {z : List ℕ → Type 0} {ended : Bool} {source sink : Change} {result : Result ℕ RunError} → Run max r z ended source sink result
+    → (b : List ℕ) → Told source.old source.new b → Clean max r b → r.end_fault b ≡ None → Quiet source → Quiet sink → IsOk result
+told-owed {max} {r} {z} {ended} {source} {sink} {result} run b t c e q k = owed max r z b ended source sink result (ran-told run b t) c e q k

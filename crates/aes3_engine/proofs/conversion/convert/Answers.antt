@@ -1,0 +1,80 @@
+use Rattle.std.proofs.Common.{rules, ◌≡◌, ◌+◌, ◌-◌, arith, refl, ap, ◌∙◌, [], length, take}
+use Rattle.std.proofs.lemmas.List.{length-take-le}
+use Rattle.aes3_cell.proofs.Growing.{grew-none, grew-is}
+use Rattle.aes3_engine.proofs.Feeding.{fed-none, fed-is}
+use Rattle.aes3_engine.proofs.Pieces.{upto-more, ran-read, ran-end, ran-end_err, ran-piece, ran-long}
+use Rattle.aes3_engine.proofs.conversion.convert.Goals as goal
+
+pub pieces-init : goal.pieces-init
+pieces-init g c = record {
+  upto = record { bytes = []; given = grew-none refl; count = refl; fed = fed-none _ _ _ };
+  short = omega arith;
+  quiet_source = refl;
+  quiet_sink = refl;
+  buffer = c.blank_piece-piece.ensures;
+}
+
+pub returns-in-Err : goal.returns-in-Err
+returns-in-Err g c =
+    let v = c.pieces.invariant in
+    record {
+      run = ran-read c.args.max_bytes _ _ (g.S.Source.has_ended c.read_piece.new.source) _ _ _ _ _
+          v.upto c.requires.start v.short v.quiet_source v.quiet_sink c.in-Err.ensures.err.0 c.in-Err.ensures.err.1;
+    }
+
+pub returns-in-Ok-finish : goal.returns-in-Ok-finish
+returns-in-Ok-finish g c =
+    let v = c.pieces.invariant in
+    record {
+      run = ran-end c.args.max_bytes (g.C.Conversion.finished c.finish.new.self) _ _ _ _ _ _ _
+          v.upto c.requires.start v.short (c.in-Ok.ensures.count ∙ v.quiet_source) v.quiet_sink
+          (grew-is (ap (λ z. take z c.read_piece.new.piece) c.if-n-eq0.true) c.in-Ok.ensures.bytes) (c.in-Ok.ensures.end.0 c.if-n-eq0.true) c.in-Ok-finish.ensures;
+    }
+
+pub returns-in-Err-finish : goal.returns-in-Err-finish
+returns-in-Err-finish g c =
+    let v = c.pieces.invariant in
+    record {
+      run = ran-end_err c.args.max_bytes (g.C.Conversion.finished c.finish.new.self) _ _ _ _ _ _ _ c.in-Err-finish.error
+          v.upto c.requires.start v.short (c.in-Ok.ensures.count ∙ v.quiet_source) v.quiet_sink
+          (grew-is (ap (λ z. take z c.read_piece.new.piece) c.if-n-eq0.true) c.in-Ok.ensures.bytes) (c.in-Ok.ensures.end.0 c.if-n-eq0.true) c.in-Err-finish.ensures;
+    }
+
+pub returns-in-Err-feed : goal.returns-in-Err-feed
+returns-in-Err-feed g c =
+    let v = c.pieces.invariant in
+    let room = c.args.max_bytes + 1 - c.pieces.seen in
+    record {
+      run = ran-piece c.args.max_bytes (g.C.Conversion.reads c.feed.new.self) (g.C.Conversion.follows c.feed.new.self) (g.C.Conversion.finished c.feed.new.self) _ _ _ _ _ _ _
+          c.in-Ok.n c.allowed_of-allowed.result room c.read_piece.new.piece c.in-Err-feed.error
+          v.upto c.requires.start v.short (c.in-Ok.ensures.count ∙ v.quiet_source) v.quiet_sink
+          c.in-Ok.ensures.bytes refl c.in-Ok.ensures.bound.1 c.in-Ok.ensures.bound.0 c.allowed_of-allowed.ensures.last c.allowed_of-allowed.ensures.all c.in-Err-feed.ensures;
+    }
+
+pub returns-then-seen-max_bytes : goal.returns-then-seen-max_bytes
+returns-then-seen-max_bytes g c =
+    let v = c.pieces.invariant in
+    let room = c.args.max_bytes + 1 - c.pieces.seen in
+    record {
+      run = ran-long c.args.max_bytes (g.C.Conversion.finished c.feed.new.self) (g.S.Source.has_ended c.read_piece.new.source) _ _ _ _ _
+          c.in-Ok.n c.allowed_of-allowed.result room c.read_piece.new.piece
+          v.upto c.requires.start v.short (c.in-Ok.ensures.count ∙ v.quiet_source) v.quiet_sink c.in-Ok-feed.ensures.1
+          c.in-Ok.ensures.bytes refl c.in-Ok.ensures.bound.1 c.in-Ok.ensures.bound.0 c.allowed_of-allowed.ensures.last c.allowed_of-allowed.ensures.all (omega arith) c.in-Ok-feed.ensures.0;
+    }
+
+pub pieces-preserved : goal.pieces-preserved
+pieces-preserved g c =
+    let v = c.pieces.invariant in
+    let b = c.read_piece.new.piece in
+    let n = c.in-Ok.n in
+    let e : c.allowed_of-allowed.result ≡ n = c.allowed_of-allowed.ensures.all (omega arith) in
+    let d = fed-is (ap (λ z. take z b) e) c.in-Ok-feed.ensures.0 in
+    let k : length (take n b) ≡ n = length-take-le n b c.in-Ok.ensures.bound.0 in
+    let u = upto-more v.upto c.in-Ok.ensures.bytes d in
+    record {
+      upto = rw k at u;
+      short = omega arith;
+      quiet_source = c.in-Ok.ensures.count ∙ v.quiet_source;
+      quiet_sink = c.in-Ok-feed.ensures.1 ∙ v.quiet_sink;
+      buffer = search rules;
+    }

@@ -1,0 +1,16 @@
+use Rattle.std.proofs.Common.{◌≡◌, ◌+◌, ◌-◌, ◌≤◌, length}
+use Rattle.aes3_engine.proofs.Pieces.{Upto}
+use Rattle.aes3_engine.proofs.conversion.convert.Given as goal
+
+abbrev pub invariant-pieces : goal.invariant-pieces
+invariant-pieces g l = record {
+  upto : Upto (g.C.Conversion.reads l.fn.conversion) (g.C.Conversion.reads l.conversion) (g.C.Conversion.follows l.fn.conversion) (g.C.Conversion.follows l.conversion)
+      (g.S.Source.given l.fn.source) (g.S.Source.given l.source) (g.T.Sink.taken l.fn.sink) (g.T.Sink.taken l.sink) l.seen;
+  short : l.seen ≤ l.max_bytes;
+  quiet_source : g.S.Source.failed l.source ≡ g.S.Source.failed l.fn.source;
+  quiet_sink : g.T.Sink.failed l.sink ≡ g.T.Sink.failed l.fn.sink;
+  buffer : length l.piece ≡ 4096;
+}
+
+abbrev pub decreases-pieces : goal.decreases-pieces
+decreases-pieces g l = l.max_bytes + 1 - l.seen

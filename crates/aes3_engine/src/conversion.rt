@@ -1,0 +1,113 @@
+//! The one loop over an input: pieces of bytes are read and converted until the input ends.
+
+ghost use Rattle.std.specs.Prelude.{◌≡◌, ℕ, ◌+◌, ◌<◌, ◌≤◌, ◌^◌, ◌↔◌, List, [], length, take, IfOk, OnErr, IsTrue};
+ghost use Rattle.aes3_cell.specs.Ends.{Grew};
+ghost use Rattle.aes3_engine.specs.Converting.{Reading};
+ghost use Rattle.aes3_engine.specs.Running.{EndRan, PieceRan, Run};
+
+use aes3_cell::{Fault, RunError, Sink, Source};
+
+/// Takes the bytes of an input, in pieces of any size, and writes what they give.
+///
+/// The contract speaks of the bytes that it has taken (`follows`), of what bytes write and which are faults (`reads`),
+/// and of what holds after the end (`finished`).
+pub trait Conversion {
+    ghost follows: { Self → List ℕ → Type 0 };
+
+    ghost reads: { Self → Reading };
+
+    ghost finished: { Self → List ℕ → Type 0 };
+
+    /// Takes a piece of the input.
+    fn feed<T: Sink>(&mut self, sink: &mut T, piece: &[u8]) -> Result<(), RunError>
+        requires room { T.failed sink.old + 1 < 2 ^ 64 }
+        requires following { (b : List ℕ) × (length b + length piece.now ≤ 2 ^ 40) × follows self.old b }
+        ensures { PieceRan (reads self.old) (reads self.new) (follows self.old) (follows self.new) piece.now
+            (record { old = T.taken sink.old; new = T.taken sink.new; failed_old = T.failed sink.old; failed_new = T.failed sink.new }) result };
+
+    /// Takes the end of the input.
+    fn finish<T: Sink>(&mut self, sink: &mut T) -> Result<(), RunError>
+        requires room { T.failed sink.old + 1 < 2 ^ 64 }
+        requires following { (b : List ℕ) × (length b ≤ 2 ^ 40) × follows self.old b }
+        ensures { EndRan (reads self.old) (follows self.old) (finished self.new)
+            (record { old = T.taken sink.old; new = T.taken sink.new; failed_old = T.failed sink.old; failed_new = T.failed sink.new }) result };
+}
+
+/// How many bytes a read asks for.
+const PIECE_LEN: usize = 4096;
+
+fn blank_piece() -> [u8; PIECE_LEN]
+    ensures { length result ≡ PIECE_LEN }
+{
+    [0; PIECE_LEN]
+}
+
+/// Reads at most `room` bytes.
+fn read_piece<S: Source>(source: &mut S, piece: &mut [u8], room: u64) -> Result<usize, Fault>
+    requires failures { S.failed source.old + 1 < 2 ^ 64 }
+    requires some { 0 < length piece.old }
+    requires room { 0 < room }
+    ensures bound { IfOk result (λ n. (n ≤ length piece.new) × (n ≤ room)) }
+    ensures bytes { IfOk result (λ n. Grew (S.given source.old) (S.given source.new) (take n piece.new)) }
+    ensures end { IfOk result (λ n. n ≡ 0 ↔ IsTrue (S.has_ended source.new)) }
+    ensures count { IfOk result (λ _. S.failed source.new ≡ S.failed source.old) }
+    ensures err { OnErr result ((S.failed source.new ≡ S.failed source.old + 1) × (S.given source.new ≡ S.given source.old)) }
+{
+    let limit = (piece.len() as u64).min(room) as usize;
+    source.read(&mut piece[..limit])
+}
+
+/// How many of `n` bytes may be taken, where the last of `room` bytes is one too many.
+fn allowed_of(n: usize, room: u64) -> usize
+    requires some { 0 < n }
+    requires within { n ≤ room }
+    ensures last { n ≡ room → result + 1 ≡ n }
+    ensures all { n < room → result ≡ n }
+{
+    if n as u64 == room { n - 1 } else { n }
+}
+
+/// Converts all bytes of the source, at most `max_bytes`, and answers how many they are.
+///
+/// # Errors
+/// `Read` and `Write` where the source or the sink failed, `TooLong` where a byte came after `max_bytes` bytes, else
+/// the first fault of the input. At most `max_bytes + 1` bytes are read.
+pub fn convert<S: Source, T: Sink, C: Conversion>(
+    source: &mut S,
+    sink: &mut T,
+    max_bytes: u64,
+    conversion: &mut C,
+) -> Result<u64, RunError>
+    requires source_room { S.failed source.old + 1 < 2 ^ 64 }
+    requires sink_room { T.failed sink.old + 1 < 2 ^ 64 }
+    requires limit { max_bytes ≤ 2 ^ 40 }
+    requires start { C.follows conversion.old [] }
+    ensures run { Run max_bytes (C.reads conversion.old) (C.finished conversion.new) (S.has_ended source.new)
+        (record { old = S.given source.old; new = S.given source.new; failed_old = S.failed source.old; failed_new = S.failed source.new })
+        (record { old = T.taken sink.old; new = T.taken sink.new; failed_old = T.failed sink.old; failed_new = T.failed sink.new }) result }
+{
+    let mut piece = blank_piece();
+    let mut seen: u64 = 0;
+    'pieces: loop {
+        let room = max_bytes + 1 - seen;
+        let n = match read_piece(source, &mut piece, room) {
+            Ok(n) => n,
+            Err(_) => return Err(RunError::Read),
+        };
+        if n == 0 {
+            return match conversion.finish(sink) {
+                Ok(()) => Ok(seen),
+                Err(error) => Err(error),
+            };
+        }
+        let allowed = allowed_of(n, room);
+        match conversion.feed(sink, &piece[..allowed]) {
+            Ok(()) => {}
+            Err(error) => return Err(error),
+        }
+        seen += n as u64;
+        if seen > max_bytes {
+            return Err(RunError::TooLong);
+        }
+    }
+}

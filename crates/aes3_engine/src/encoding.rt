@@ -1,0 +1,127 @@
+//! Block files to cells.
+
+ghost use Rattle.std.specs.Prelude.{◌≡◌, ◌≢◌, ℕ, ◌+◌, ◌<◌, ◌≤◌, ◌^◌, List, [], ◌∷◌, Bool, Err, length, take, IfOk, IfErr, IsOk, OnErr, IsTrue};
+ghost use Rattle.std.specs.List.{All};
+ghost use Rattle.aes3_cell.specs.Ends.{Grew, GrewFront, Told};
+ghost use Rattle.aes3_block.specs.Blocks.{IsBlock, stream};
+ghost use Rattle.aes3_block.specs.Files.{file, IsBlockFile};
+ghost use Rattle.aes3_engine.specs.Encoding.{Encodes, IsCauseOf, encode_counts, encoded, encoding};
+ghost use Rattle.aes3_engine.specs.Output.{written};
+ghost use Rattle.aes3_engine.specs.Running.{PieceRan};
+
+use crate::conversion::{Conversion, convert};
+use aes3_block::{BlockFile, put_block_cells};
+use aes3_cell::{Counts, Level, RunError, Sink, Source};
+
+/// How many cells a block has.
+const BLOCK_CELLS: u64 = 24_576;
+
+/// Reads a block file and writes the cells of each block when it is whole.
+#[derive(Drop)]
+struct Encoding {
+    file: BlockFile,
+    blocks: u64,
+}
+
+impl Encoding {
+    fn take_byte<T: Sink>(&mut self, sink: &mut T, byte: u8) -> Result<(), RunError>
+        requires room { T.failed sink.old + 1 < 2 ^ 64 }
+        requires following { (b : List ℕ) × (length b < 2 ^ 40) × Encodes self.old.file self.old.blocks b }
+        ensures { PieceRan encoding encoding (Encodes self.old.file self.old.blocks) (Encodes self.new.file self.new.blocks) (byte ∷ [])
+            (record { old = T.taken sink.old; new = T.taken sink.new; failed_old = T.failed sink.old; failed_new = T.failed sink.new }) result }
+    {
+        match self.file.feed_byte(byte) {
+            Ok(None) => Ok(()),
+            Ok(Some(block)) => match put_block_cells(Level::Low, &block, sink) {
+                Ok(()) => {
+                    self.blocks += 1;
+                    Ok(())
+                }
+                Err(_) => Err(RunError::Write),
+            },
+            Err(fault) => Err(RunError::from(fault)),
+        }
+    }
+}
+
+impl Conversion for Encoding {
+    ghost follows = { λ e. Encodes e.file e.blocks };
+
+    ghost reads = { λ _. encoding };
+
+    ghost finished = { λ e. Encodes e.file e.blocks };
+
+    fn feed<T: Sink>(&mut self, sink: &mut T, piece: &[u8]) -> Result<(), RunError> {
+        for byte in piece {
+            match self.take_byte(sink, *byte) {
+                Ok(()) => {}
+                Err(error) => return Err(error),
+            }
+        }
+        Ok(())
+    }
+
+    fn finish<T: Sink>(&mut self, _sink: &mut T) -> Result<(), RunError> {
+        match self.file.end() {
+            Ok(()) => Ok(()),
+            Err(fault) => Err(RunError::from(fault)),
+        }
+    }
+}
+
+/// Writes the cells of a block file's blocks, one block behind the other in the normal polarity: the level before the
+/// first is `Low` (AES3-3, IEC 60958-1).
+///
+/// # Errors
+/// `BadCode`, `BadParity` and `BadLength` where the input is no block file, `TooLong` where it has more than
+/// `max_bytes` bytes, `Read` and `Write` where an end failed. Then the blocks that were whole before are written, and
+/// after `Write` a front of their text.
+pub fn encode<S: Source, T: Sink>(
+    source: &mut S,
+    sink: &mut T,
+    max_bytes: u64,
+) -> Result<Counts, RunError>
+    requires source_room { S.failed source.old + 1 < 2 ^ 64 }
+    requires sink_room { T.failed sink.old + 1 < 2 ^ 64 }
+    requires limit { max_bytes ≤ 2 ^ 40 }
+
+    // Where it answers Ok, the input was a block file and the cells of its blocks are written.
+    ensures cells { IfOk result (λ _. (blocks : List (List (List Bool))) → All IsBlock blocks → Told (S.given source.old) (S.given source.new) (file blocks)
+        → Grew (T.taken sink.old) (T.taken sink.new) (written (stream Level.Low blocks))) }
+    ensures text { IfOk result (λ _. (b : List ℕ) → Told (S.given source.old) (S.given source.new) b
+        → Grew (T.taken sink.old) (T.taken sink.new) (encoded b)) }
+    ensures block_file { IfOk result (λ _. (b : List ℕ) → Told (S.given source.old) (S.given source.new) b → IsBlockFile b) }
+    ensures counts { IfOk result (λ counts. (b : List ℕ) → Told (S.given source.old) (S.given source.new) b → counts ≡ encode_counts b) }
+    ensures ended { IfOk result (λ _. IsTrue (S.has_ended source.new)) }
+
+    // It owes Ok where the input is a block file that fits, and neither end failed.
+    ensures owed { (b : List ℕ) → Told (S.given source.old) (S.given source.new) b → IsBlockFile b → length b ≤ max_bytes
+        → S.failed source.new ≡ S.failed source.old → T.failed sink.new ≡ T.failed sink.old → IsOk result }
+
+    // A refusal has its cause, and what was whole before it is written.
+    ensures cause { IfErr result (λ error. (b : List ℕ) → Told (S.given source.old) (S.given source.new) b
+        → IsCauseOf max_bytes b (S.has_ended source.new) error) }
+    ensures read { result ≡ Err RunError.Read → S.failed source.new ≡ S.failed source.old + 1 }
+    ensures write { result ≡ Err RunError.Write → T.failed sink.new ≡ T.failed sink.old + 1 }
+    ensures refused { OnErr result (result ≢ Err RunError.Write → (b : List ℕ) → Told (S.given source.old) (S.given source.new) b
+        → Grew (T.taken sink.old) (T.taken sink.new) (encoded (take max_bytes b))) }
+    ensures front { result ≡ Err RunError.Write → (b : List ℕ) → Told (S.given source.old) (S.given source.new) b
+        → GrewFront (T.taken sink.old) (T.taken sink.new) (encoded (take max_bytes b)) }
+    ensures few { (b : List ℕ) → Told (S.given source.old) (S.given source.new) b → length b ≤ max_bytes + 1 }
+{
+    let mut encoding = Encoding {
+        file: BlockFile::new(),
+        blocks: 0,
+    };
+    match convert(source, sink, max_bytes, &mut encoding) {
+        Ok(bytes) => Ok(Counts {
+            bytes,
+            cells: BLOCK_CELLS * encoding.blocks,
+            blocks: encoding.blocks,
+            faults: 0,
+            unfinished: 0,
+            marks: 0,
+        }),
+        Err(error) => Err(error),
+    }
+}

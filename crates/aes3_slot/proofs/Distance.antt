@@ -1,0 +1,141 @@
+-- Away from its own place a block differs from a line in many cells.
+use Rattle.std.proofs.Common.{◌≡◌, ◌≢◌, ℕ, zero, suc, ◌+◌, ◌*◌, ◌/◌, ◌%◌, ◌<◌, ◌≤◌, ◌⊎◌, inl, inr, List, refl, length, take, drop, ap, ◌∙◌, sym, arith, length-drop, length-take-le, ext_get_or, get_or-take, get_or-drop, lit<}
+use Rattle.std.proofs.lemmas.Bool.{cases_eq}
+use Rattle.aes3_cell.specs.declared.level.Level.{Level}
+use Rattle.aes3_cell.specs.declared.level.Level.TheVariants.{Low, High}
+use Rattle.aes3_slot.specs.declared.mark.Mark.{Mark}
+use Rattle.aes3_slot.specs.declared.mark.Mark.TheVariants.{X, Y, Z}
+use Rattle.aes3_cell.specs.Cells.{line}
+use Rattle.aes3_slot.specs.Slots.{mark_runs}
+use Rattle.aes3_slot.specs.Rules.{StandsMark, at, before, shape, AllKept}
+use Rattle.aes3_slot.proofs.Index.{length-mark}
+use Rattle.aes3_slot.proofs.Aligned.{aligned}
+
+-- two cells are equal or not
+equal-or : (a b : Level) → (a ≡ b) ⊎ (a ≡ b → ⊥)
+equal-or Low Low = inl refl
+equal-or Low High = inr (λ e. cc)
+equal-or High Low = inr (λ e. cc)
+equal-or High High = inl refl
+
+-- some cell below n differs, or none does
+pub differ-some : (n : ℕ) (f g : ℕ → Level) → ((k : ℕ) × (k < n) × (f k ≡ g k → ⊥)) ⊎ ((k : ℕ) → k < n → f k ≡ g k)
+differ-some zero f g = inr (λ k h. absurd (omega arith))
+differ-some (suc n) f g = go (differ-some n f g) (equal-or (f n) (g n))
+  where
+    go : ((k : ℕ) × (k < n) × (f k ≡ g k → ⊥)) ⊎ ((k : ℕ) → k < n → f k ≡ g k) → (f n ≡ g n) ⊎ (f n ≡ g n → ⊥)
+        → ((k : ℕ) × (k < suc n) × (f k ≡ g k → ⊥)) ⊎ ((k : ℕ) → k < suc n → f k ≡ g k)
+    go (inl r) e = let h = r.1 in inl (r.0, omega arith, r.2)
+    go (inr a) (inr e) = inl (n, omega arith, e)
+    go (inr a) (inl e) = inr (λ k h. all k h (cases_eq k n))
+      where
+        all : (k : ℕ) → k < suc n → (k ≡ n) ⊎ (k ≡ n → ⊥) → f k ≡ g k
+        all k h (inl q) = ap f q ∙ e ∙ ap g (sym q)
+        all k h (inr q) = a k (omega arith)
+
+pub stands-from : (m : Mark) (t : Level) (d : List Level) (p : ℕ) → p + 8 ≤ length d → ((k : ℕ) → k < 8 → at d (p + k) ≡ shape m k t) → StandsMark m t d p
+stands-from m t d p r e =
+    let l = length-drop p d in
+    let n : length (take 8 (drop p d)) ≡ 8 = length-take-le 8 (drop p d) (omega (arith, l, r)) in
+    let w = length-mark t m in
+    record {
+      is = ext_get_or Low (take 8 (drop p d)) (line t (mark_runs m)) (n ∙ sym w)
+          (λ i h. get_or-take 8 (drop p d) i Low (omega (arith, n, h)) ∙ get_or-drop p d i Low ∙ e i (omega (arith, n, h)));
+    }
+
+module _ (marks own : ℕ → Mark) (s t : Level) (d e : List Level) (kd : AllKept marks s d) (ke : AllKept own t e) (p : ℕ) (off : p % 64 ≡ 0 → ⊥) where
+  -- a preamble of the block has no place there
+  pub preamble-apart : (j : ℕ) → p + 64 * j + 8 ≤ length d → 64 * j + 8 ≤ length e
+      → (k : ℕ) × (k < 8) × (at d (p + 64 * j + k) ≡ at e (64 * j + k) → ⊥)
+  preamble-apart j rd re = go (differ-some 8 (λ k. at d (p + 64 * j + k)) (λ k. at e (64 * j + k)))
+    where
+      stood : (k : ℕ) → k < 8 → at e (64 * j + k) ≡ shape (own j) k (before t e (64 * j))
+      stood k h =
+          let a : (64 * j + k) / 64 ≡ j = omega arith in
+          let b : (64 * j + k) % 64 ≡ k = omega arith in
+          rw (b, a) at ((ke (64 * j + k) (omega (arith, re, h))).preamble (omega arith))
+
+      go : ((k : ℕ) × (k < 8) × (at d (p + 64 * j + k) ≡ at e (64 * j + k) → ⊥)) ⊎ ((k : ℕ) → k < 8 → at d (p + 64 * j + k) ≡ at e (64 * j + k))
+          → (k : ℕ) × (k < 8) × (at d (p + 64 * j + k) ≡ at e (64 * j + k) → ⊥)
+      go (inl r) = r
+      go (inr a) =
+          let z = stands-from (own j) (before t e (64 * j)) d (p + 64 * j) rd (λ k h. a k h ∙ stood k h) in
+          let w = aligned marks s d kd (own j) (before t e (64 * j)) (p + 64 * j) z in
+          absurd (off (omega (arith, w)))
+
+  -- so at least three cells differ
+  pub three-apart : p + 136 ≤ length d → 136 ≤ length e
+      → (i j k : ℕ) × (i < j) × (j < k) × (k < 136) × (at d (p + i) ≢ at e i) × (at d (p + j) ≢ at e j) × (at d (p + k) ≢ at e k)
+  three-apart rd re =
+      let a = preamble-apart 0 (omega arith) (omega arith) in
+      let b = preamble-apart 1 (omega arith) (omega arith) in
+      let c = preamble-apart 2 (omega arith) (omega arith) in
+      let ah = a.1 in
+      let bh = b.1 in
+      let ch = c.1 in
+      let move = λ (j k : ℕ) (n : at d (p + 64 * j + k) ≡ at e (64 * j + k) → ⊥) (q : at d (p + (64 * j + k)) ≡ at e (64 * j + k)).
+      n (ap (at d) (let y : p + 64 * j + k ≡ p + (64 * j + k) = omega arith in y) ∙ q) in
+      (64 * 0 + a.0, 64 * 1 + b.0, 64 * 2 + c.0, omega arith, omega arith, omega arith, move 0 a.0 a.2, move 1 b.0 b.2, move 2 c.0 c.2)
+
+-- the cells of two different preambles differ in two places at least, whatever the levels
+pub two-apart : (m n : Mark) (t u : Level) → (m ≡ n → ⊥) → (i j : ℕ) × (i < j) × (j < 8) × (shape m i t ≢ shape n i u) × (shape m j t ≢ shape n j u)
+two-apart X X t u h = absurd (h refl)
+two-apart Y Y t u h = absurd (h refl)
+two-apart Z Z t u h = absurd (h refl)
+two-apart X Y Low Low h = (5, 6, lit< tt, lit< tt, λ e. cc, λ e. cc)
+two-apart X Y High High h = (5, 6, lit< tt, lit< tt, λ e. cc, λ e. cc)
+two-apart X Z Low Low h = (4, 6, lit< tt, lit< tt, λ e. cc, λ e. cc)
+two-apart X Z High High h = (4, 6, lit< tt, lit< tt, λ e. cc, λ e. cc)
+two-apart Y X Low Low h = (5, 6, lit< tt, lit< tt, λ e. cc, λ e. cc)
+two-apart Y X High High h = (5, 6, lit< tt, lit< tt, λ e. cc, λ e. cc)
+two-apart Y Z Low Low h = (4, 5, lit< tt, lit< tt, λ e. cc, λ e. cc)
+two-apart Y Z High High h = (4, 5, lit< tt, lit< tt, λ e. cc, λ e. cc)
+two-apart Z X Low Low h = (4, 6, lit< tt, lit< tt, λ e. cc, λ e. cc)
+two-apart Z X High High h = (4, 6, lit< tt, lit< tt, λ e. cc, λ e. cc)
+two-apart Z Y Low Low h = (4, 5, lit< tt, lit< tt, λ e. cc, λ e. cc)
+two-apart Z Y High High h = (4, 5, lit< tt, lit< tt, λ e. cc, λ e. cc)
+two-apart X Y Low High h = (0, 1, lit< tt, lit< tt, λ e. cc, λ e. cc)
+two-apart X Y High Low h = (0, 1, lit< tt, lit< tt, λ e. cc, λ e. cc)
+two-apart X Z Low High h = (0, 1, lit< tt, lit< tt, λ e. cc, λ e. cc)
+two-apart X Z High Low h = (0, 1, lit< tt, lit< tt, λ e. cc, λ e. cc)
+two-apart Y X Low High h = (0, 1, lit< tt, lit< tt, λ e. cc, λ e. cc)
+two-apart Y X High Low h = (0, 1, lit< tt, lit< tt, λ e. cc, λ e. cc)
+two-apart Y Z Low High h = (0, 1, lit< tt, lit< tt, λ e. cc, λ e. cc)
+two-apart Y Z High Low h = (0, 1, lit< tt, lit< tt, λ e. cc, λ e. cc)
+two-apart Z X Low High h = (0, 1, lit< tt, lit< tt, λ e. cc, λ e. cc)
+two-apart Z X High Low h = (0, 1, lit< tt, lit< tt, λ e. cc, λ e. cc)
+two-apart Z Y Low High h = (0, 1, lit< tt, lit< tt, λ e. cc, λ e. cc)
+two-apart Z Y High Low h = (0, 1, lit< tt, lit< tt, λ e. cc, λ e. cc)
+
+-- cell k of the preamble of subframe j
+own-cell : (own : ℕ → Mark) (s : Level) (c : List Level) → AllKept own s c → (j k : ℕ) → 64 * j + 8 ≤ length c → k < 8
+    → at c (64 * j + k) ≡ shape (own j) k (before s c (64 * j))
+own-cell own s c a j k r h =
+    let x : (64 * j + k) / 64 ≡ j = omega arith in
+    let y : (64 * j + k) % 64 ≡ k = omega arith in
+    rw (y, x) at ((a (64 * j + k) (omega (arith, r, h))).preamble (omega arith))
+
+-- where a line has other marks than the block at two subframes, three cells differ (four do)
+pub marks-apart : (marks own : ℕ → Mark) (s t : Level) (d e : List Level) → AllKept marks s d → AllKept own t e → (q i j : ℕ) → i < j
+    → 64 * (q + j) + 8 ≤ length d → 64 * j + 8 ≤ length e → (marks (q + i) ≡ own i → ⊥) → (marks (q + j) ≡ own j → ⊥)
+    → (x y z : ℕ) × (x < y) × (y < z) × (z < 64 * j + 8) × (at d (64 * q + x) ≢ at e x) × (at d (64 * q + y) ≢ at e y) × (at d (64 * q + z) ≢ at e z)
+marks-apart marks own s t d e kd ke q i j h rd re ni nj =
+    let a = two-apart (marks (q + i)) (own i) (before s d (64 * (q + i))) (before t e (64 * i)) ni in
+    let b = two-apart (marks (q + j)) (own j) (before s d (64 * (q + j))) (before t e (64 * j)) nj in
+    let a2 = a.2 in
+    let a3 = a.3 in
+    let b2 = b.2 in
+    let b3 = b.3 in
+    let move = λ (n k : ℕ) (r : 64 * (q + n) + 8 ≤ length d) (w : 64 * n + 8 ≤ length e) (l : k < 8)
+    (ne : shape (marks (q + n)) k (before s d (64 * (q + n))) ≡ shape (own n) k (before t e (64 * n)) → ⊥) (z : at d (64 * q + (64 * n + k)) ≡ at e (64 * n + k)).
+    ne (sym (own-cell marks s d kd (q + n) k r l) ∙ ap (at d) (let y : 64 * (q + n) + k ≡ 64 * q + (64 * n + k) = omega arith in y) ∙ z ∙ own-cell own t e ke n k w l) in (
+      64 * i + a.0,
+      64 * i + a.1,
+      64 * j + b.0,
+      omega arith,
+      omega arith,
+      omega arith,
+      move i a.0 (omega arith) (omega arith) (omega arith) a.4,
+      move i a.1 (omega arith) (omega arith) (omega arith) a.5,
+      move j b.0 (omega arith) (omega arith) (omega arith) b.4,
+    )

@@ -1,0 +1,107 @@
+-- The cells of a word that can't stand where they are, by its bits.
+use Rattle.std.proofs.Common.{◌≡◌, ℕ, zero, suc, ◌+◌, ◌-◌, ◌*◌, ◌%◌, ◌^◌, ◌<◌, ◌≤◌, ◌⊎◌, inl, inr, min, max, Bool, true, false, cond, eqb, ltb, refl, ap, ap₂, ◌∙◌, sym, arith, lt-ltb, le-ltb, eq-eqb, ne_eqb, lit<, w64}
+use Rattle.std.specs.Prelude.{bit_and, bit_or, bit_xor}
+use Rattle.std.specs.Int.{bit_at, bit_not}
+use Rattle.std.proofs.lemmas.Bool.{cases_lt, cases_eq}
+use Rattle.std.proofs.lemmas.Nat.{xor_lt, mod_below}
+use Rattle.std.proofs.lemmas.Nat.Bits.{bit_at_and, bit_at_or, bit_at_xor, bit_at_not, bit_at-lt, bit_at_ones, bit_at_ones_above}
+use Rattle.aes3_cell.specs.declared.level.Level.{Level}
+use Rattle.aes3_cell.specs.Cells.{line}
+use Rattle.aes3_cell.specs.Words.{level_of, low_cells}
+use Rattle.aes3_cell.proofs.WordCells.{low_cells-at}
+use Rattle.aes3_slot.specs.declared.mark.Mark.{Mark}
+use Rattle.aes3_slot.specs.Slots.{mark_runs}
+use Rattle.aes3_slot.specs.Reading.{same, differs}
+use Rattle.aes3_slot.specs.Rules.{at, before, shape, rule}
+use Rattle.aes3_slot.specs.Fronts.{stands}
+use Rattle.aes3_slot.proofs.Moves.{shl-above}
+use Rattle.aes3_slot.proofs.Turns.{slot_starts-bit}
+
+preamble-bit : (i : ℕ) → bit_at 255 i ≡ cond (ltb i 8) 1 0
+preamble-bit i = go (cases_lt i 8)
+  where
+    go : (i < 8) ⊎ (8 ≤ i) → bit_at 255 i ≡ cond (ltb i 8) 1 0
+    go (inl a) = let t = lt-ltb i 8 a in rw t (bit_at_ones 8 i a)
+    go (inr a) = let t = le-ltb i 8 a in rw t (bit_at_ones_above 8 i a)
+
+same-bit : (x y : ℕ) → x < 2 → y < 2 → (x + y) % 2 ≡ cond (same (level_of x) (level_of y)) 0 1
+same-bit zero zero h g = refl
+same-bit zero (suc zero) h g = refl
+same-bit (suc zero) zero h g = refl
+same-bit (suc zero) (suc zero) h g = refl
+same-bit x (suc (suc y)) h g = absurd (omega arith)
+same-bit (suc (suc x)) y h g = absurd (omega arith)
+
+differs-bit : (x y : ℕ) → x < 2 → y < 2 → 1 - (x + y) % 2 ≡ cond (differs (level_of x) (level_of y)) 0 1
+differs-bit zero zero h g = refl
+differs-bit zero (suc zero) h g = refl
+differs-bit (suc zero) zero h g = refl
+differs-bit (suc zero) (suc zero) h g = refl
+differs-bit x (suc (suc y)) h g = absurd (omega arith)
+differs-bit (suc (suc x)) y h g = absurd (omega arith)
+
+small : (b : Bool) → cond {A = ℕ} b 0 1 < 2
+small true = omega arith
+small false = omega arith
+
+-- `((w ^ p) & 0xFF) | (!(w ^ (w << 1)) & 0x5555_5555_5555_5500)`, with p the preamble
+pub wrong-bit : (s : Level) (m : Mark) (w p i : ℕ) → w < 2 ^ 64 → low_cells 8 p ≡ line s (mark_runs m) → i < 64
+    → bit_at (bit_or (bit_and (bit_xor w p) 255) (bit_and (bit_not w64 (bit_xor w (w * 2 ^ 1 % 2 ^ 64))) 6148914691236517120)) i
+    ≡ cond (stands s m (low_cells 64 w) i) 0 1
+unfolding stands
+wrong-bit s m w p i h e g =
+    bit_at_or _ _ i ∙ ap₂ max
+    (bit_at_and _ 255 i ∙ ap₂ min (bit_at_xor w p i) (preamble-bit i))
+    (bit_at_and _ 6148914691236517120 i
+    ∙ ap₂ min (bit_at_not w64 _ i (xor_lt 64 w (w * 2 ^ 1 % 2 ^ 64) h (mod_below (w * 2 ^ 1) (2 ^ 64) (lit< tt))) g ∙ ap (λ x. 1 - x) (bit_at_xor w _ i)) (slot_starts-bit i g))
+    ∙ go (cases_lt i 8) (cases_eq (i % 2) 0)
+  where
+    a : ℕ
+    a = bit_at w i
+
+    here : at (low_cells 64 w) i ≡ level_of (bit_at w i)
+    here = low_cells-at 64 w i g
+
+    own : i < 8 → shape m i s ≡ level_of (bit_at p i)
+    own l = ap (λ c. at c i) (sym e) ∙ low_cells-at 8 p i l
+
+    six : i % 64 ≡ i
+    six = omega arith
+
+    before-is : 8 ≤ i → before s (low_cells 64 w) i ≡ level_of (bit_at w (i - 1))
+    before-is l = step i g l
+      where
+        step : (i : ℕ) → i < 64 → 8 ≤ i → before s (low_cells 64 w) i ≡ level_of (bit_at w (i - 1))
+        step zero g l = absurd (omega arith)
+        step (suc i) g l = low_cells-at 64 w i (omega arith) ∙ ap (λ j. level_of (bit_at w j)) (let q : i ≡ suc i - 1 = omega arith in q)
+
+    go : (i < 8) ⊎ (8 ≤ i) → (i % 2 ≡ 0) ⊎ (i % 2 ≡ 0 → ⊥)
+        → max (min ((bit_at w i + bit_at p i) % 2) (cond (ltb i 8) 1 0))
+        (min (1 - (bit_at w i + bit_at (w * 2 ^ 1 % 2 ^ 64) i) % 2) (cond (ltb i 8) 0 (cond (eqb (i % 2) 0) 1 0)))
+        ≡ cond (rule (λ _. m) i (at (low_cells 64 w) i) s (before s (low_cells 64 w) i)) 0 1
+    go (inl l) v =
+        let t = lt-ltb i 8 l in
+        let b = same-bit (bit_at w i) (bit_at p i) (bit_at-lt w i) (bit_at-lt p i) in
+        let o = own l in
+        let k = small (same (level_of (bit_at w i)) (level_of (bit_at p i))) in
+        rw (six, t, here, o) (omega (arith, b, k))
+    go (inr l) (inl v) =
+        let t = le-ltb i 8 l in
+        let u = eq-eqb (i % 2) 0 v in
+        let b = differs-bit (bit_at w i) (bit_at w (i - 1)) (bit_at-lt w i) (bit_at-lt w (i - 1)) in
+        let n = shl-above w 1 i g (omega arith) in
+        let q = before-is l in
+        let k = small (differs (level_of (bit_at w i)) (level_of (bit_at w (i - 1)))) in
+        rw (six, t, u, here, q, n) (omega (arith, b, k))
+    go (inr l) (inr v) =
+        let t = le-ltb i 8 l in
+        let u = ne_eqb (i % 2) 0 v in
+        rw (six, t, u) (omega arith)
+
+pub true-from_zero : (b : Bool) → cond {A = ℕ} b 0 1 ≡ 0 → b ≡ true
+true-from_zero true e = refl
+true-from_zero false e = absurd (omega arith)
+
+pub false-from_one : (b : Bool) → cond {A = ℕ} b 0 1 ≡ 1 → b ≡ false
+false-from_one true e = absurd (omega arith)
+false-from_one false e = refl

@@ -1,0 +1,14 @@
+//! Subframes of an AES3 line: preambles, time slots, parity (AES3-3, IEC 60958-1).
+#![tactic(auto)]
+
+mod mark;
+mod preamble;
+mod reading;
+mod subframe;
+#[cfg(test)]
+mod tests;
+
+pub use mark::Mark;
+pub use preamble::match_mark;
+pub use reading::{Place, take_either, take_subframe};
+pub use subframe::{payload_parity, slots_cells, subframe_cells};

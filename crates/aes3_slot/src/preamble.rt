@@ -1,0 +1,42 @@
+//! Preambles as cells (AES3-3; IEC 60958-1).
+
+ghost use Rattle.std.specs.Prelude.{◌≡◌, IfSome};
+ghost use Rattle.aes3_cell.specs.declared.level.Level.{Level};
+ghost use Rattle.aes3_cell.specs.Cells.{line};
+ghost use Rattle.aes3_cell.specs.Words.{low_cells};
+ghost use Rattle.aes3_slot.specs.declared.mark.Mark.{Mark};
+ghost use Rattle.aes3_slot.specs.Slots.{mark_runs};
+
+use crate::mark::Mark;
+use aes3_cell::Level;
+
+/// A word whose lowest bits are the eight cells of the preamble after the level `before`.
+pub(crate) fn mark_cells(before: Level, mark: Mark) -> u64
+    ensures { low_cells 8 result ≡ line before (mark_runs mark) }
+{
+    let after_low = match mark {
+        Mark::X => 0x47,
+        Mark::Y => 0x27,
+        Mark::Z => 0x17,
+    };
+    match before {
+        Level::Low => after_low,
+        Level::High => !after_low,
+    }
+}
+
+/// The preamble that eight cells are, the earliest in bit 0, and the level before it.
+pub fn match_mark(window: u8) -> Option<(Mark, Level)>
+    ensures some { IfSome result (λ found. low_cells 8 window ≡ line found.1 (mark_runs found.0)) }
+    ensures owed { (mark : Mark) (before : Level) → low_cells 8 window ≡ line before (mark_runs mark) → result ≡ Some (mark, before) }
+{
+    match window {
+        0x47 => Some((Mark::X, Level::Low)),
+        0xB8 => Some((Mark::X, Level::High)),
+        0x27 => Some((Mark::Y, Level::Low)),
+        0xD8 => Some((Mark::Y, Level::High)),
+        0x17 => Some((Mark::Z, Level::Low)),
+        0xE8 => Some((Mark::Z, Level::High)),
+        _ => None,
+    }
+}

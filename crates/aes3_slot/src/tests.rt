@@ -1,0 +1,111 @@
+//! Outside vectors, and the reader against a plain loop over the cells.
+
+ghost use Rattle.std.specs.Prelude.{◌<◌};
+
+use crate::mark::Mark;
+use crate::preamble::match_mark;
+use crate::reading::{Place, take_either, take_subframe};
+use crate::subframe::subframe_cells;
+use aes3_cell::Level;
+
+const ZEROS: u64 = 0x3333_3333_3333_3317;
+
+const FIRST_BIT: u64 = 0x4CCC_CCCC_CCCC_CD17;
+
+const WRONG_PARITY: u64 = 0xB333_3333_3333_3317;
+
+#[test]
+fn cells_of_a_subframe(rt: HostRuntime) {
+    assert_eq!(rt; subframe_cells(Level::Low, Mark::Z, 0), ZEROS);
+    assert_eq!(rt; subframe_cells(Level::High, Mark::Z, 0), !ZEROS);
+    assert_eq!(rt; subframe_cells(Level::Low, Mark::Z, 1), FIRST_BIT);
+    assert_eq!(rt; subframe_cells(Level::High, Mark::Z, 1), !FIRST_BIT);
+}
+
+#[test]
+fn subframe_of_cells(rt: HostRuntime) {
+    assert_eq!(rt; take_subframe(Level::Low, Mark::Z, ZEROS), Ok(0));
+    assert_eq!(rt; take_subframe(Level::Low, Mark::Z, FIRST_BIT), Ok(1));
+    assert_eq!(rt;
+        take_subframe(Level::Low, Mark::Z, WRONG_PARITY),
+        Err(Place { offset: 63 })
+    );
+    assert_eq!(rt;
+        take_subframe(Level::Low, Mark::Z, ZEROS ^ 1),
+        Err(Place { offset: 0 })
+    );
+    assert_eq!(rt;
+        take_either(Level::Low, Mark::Z, WRONG_PARITY),
+        Ok((0, false))
+    );
+}
+
+const PREAMBLES: [(u8, Mark, Level); 6] = [
+    (0x47, Mark::X, Level::Low),
+    (0xB8, Mark::X, Level::High),
+    (0x27, Mark::Y, Level::Low),
+    (0xD8, Mark::Y, Level::High),
+    (0x17, Mark::Z, Level::Low),
+    (0xE8, Mark::Z, Level::High),
+];
+
+#[test]
+fn preambles_among_all_octets(rt: HostRuntime) {
+    for window in 0..=255 {
+        let mut expected = None;
+        for (cells, mark, before) in PREAMBLES {
+            if cells == window {
+                expected = Some((mark, before));
+            }
+        }
+        assert_eq!(rt; match_mark(window), expected);
+    }
+}
+
+fn differ(cells: u64, i: u32, j: u32) -> bool
+    requires i { i < 64 }
+    requires j { j < 64 }
+{
+    (cells >> i) & 1 != (cells >> j) & 1
+}
+
+/// Reads a subframe with preamble Z after `Low` cell by cell.
+fn read_by_cells(cells: u64) -> Result<u32, Place> {
+    for i in 0..64 {
+        let wrong = if i < 8 {
+            (cells >> i) & 1 != (ZEROS >> i) & 1
+        } else {
+            i % 2 == 0 && !differ(cells, i, i - 1)
+        };
+        if wrong {
+            return Err(Place { offset: i as u8 });
+        }
+    }
+    let mut payload = 0;
+    for k in 0..27 {
+        if differ(cells, 8 + 2 * k, 9 + 2 * k) {
+            payload |= 1 << k;
+        }
+    }
+    if differ(cells, 63, 7) {
+        Err(Place { offset: 63 })
+    } else {
+        Ok(payload)
+    }
+}
+
+#[test]
+fn reader_against_a_plain_loop(rt: HostRuntime) {
+    let mut state: u64 = 1;
+    for _ in 0..10_000 {
+        state = state
+            .wrapping_mul(6_364_136_223_846_793_005)
+            .wrapping_add(1_442_695_040_888_963_407);
+        let flipped = 1 << (state >> 58);
+        let cells = subframe_cells(Level::Low, Mark::Z, (state >> 37) as u32) ^ flipped;
+        assert_eq!(rt;
+            take_subframe(Level::Low, Mark::Z, cells),
+            read_by_cells(cells)
+        );
+    }
+}
