@@ -5,7 +5,7 @@ ghost use Rattle.std.specs.Prelude.{◌<◌};
 use crate::run::run_words;
 use aes3_block::Subframe;
 use aes3_cell::{Counts, FailingSink, FailingSource, MemorySink, MemorySource, RunError};
-use aes3_engine::encode;
+use aes3_engine::{encode, normalise};
 use std::alloc::{AllocError, Global};
 use std::process::Abort;
 use std::test::Fail;
@@ -66,6 +66,11 @@ fn expect_run(
     assert!(rt; lines.bytes() == errors);
     Ok(())
 }
+
+const USAGE_LINES: &[u8] = b"usage: aes3 encode < BLOCK-FILE > CELLS
+       aes3 decode < CELLS > BLOCK-FILE
+       aes3 normal < CELLS > CELLS
+";
 
 #[test]
 fn empty_input_gives_no_output(rt: HostRuntime) -> Result<(), Fail> {
@@ -148,9 +153,9 @@ fn refused_block_files(rt: HostRuntime) -> Result<(), Fail> {
 
 #[test]
 fn refused_command_lines(rt: HostRuntime) -> Result<(), Fail> {
-    let usage = b"usage: aes3 encode < BLOCK-FILE > CELLS\n";
+    let usage = USAGE_LINES;
     expect_run(&rt, rt.alloc(), &[], b"", 7, b"", usage, 2)?;
-    expect_run(&rt, rt.alloc(), &["decode"], b"", 7, b"", usage, 2)?;
+    expect_run(&rt, rt.alloc(), &["cut"], b"", 7, b"", usage, 2)?;
     expect_run(&rt, rt.alloc(), &["encode", "x"], b"", 7, b"", usage, 2)?;
     expect_run(
         &rt,
@@ -227,5 +232,89 @@ fn samples_of_a_subframe(rt: HostRuntime) -> Result<(), Fail> {
         lowest.aux() == 0 && lowest.sample20() == -524_288 && lowest.signed24() == -8_388_608
     );
     assert!(rt; Subframe::try_new(16_777_216, false, false, false).is_none());
+    Ok(())
+}
+
+#[test]
+fn zero_block_read_in_any_pieces(rt: HostRuntime) -> Result<(), Fail> {
+    let file = block_file(rt.alloc(), b"", BLOCK_LEN)?;
+    let text = block_text(rt.alloc(), ZEROS)?;
+    for piece in [1, 7, 64, 65, 4096] {
+        expect_run(&rt, rt.alloc(), &["normal"], &text, piece, &text, b"", 0)?;
+        expect_run(&rt, rt.alloc(), &["decode"], &text, piece, &file, b"", 0)?;
+    }
+    Ok(())
+}
+
+#[test]
+fn cells_before_and_behind_a_block(rt: HostRuntime) -> Result<(), Fail> {
+    let file = block_file(rt.alloc(), b"", BLOCK_LEN)?;
+    let text = block_text(rt.alloc(), ZEROS)?;
+    let mut around = Vec::new(rt.alloc());
+    around.extend_from_slice(b"01 0\r\n")?;
+    around.extend_from_slice(&text)?;
+    around.extend_from_slice(b"110")?;
+    expect_run(&rt, rt.alloc(), &["normal"], &around, 7, &text, b"", 0)?;
+    expect_run(&rt, rt.alloc(), &["decode"], &around, 7, &file, b"", 0)
+}
+
+#[test]
+fn the_other_polarity_reads_the_same(rt: HostRuntime) -> Result<(), Fail> {
+    let text = block_text(rt.alloc(), ZEROS)?;
+    let mut other = Vec::new(rt.alloc());
+    for byte in text.iter() {
+        other.push(match *byte {
+            b'0' => b'1',
+            b'1' => b'0',
+            byte => byte,
+        })?;
+    }
+    expect_run(&rt, rt.alloc(), &["normal"], &other, 64, &text, b"", 0)
+}
+
+#[test]
+fn an_unclosed_block_is_not_given(rt: HostRuntime) -> Result<(), Fail> {
+    let text = block_text(rt.alloc(), ZEROS)?;
+    let mut unclosed = Vec::new(rt.alloc());
+    unclosed.extend_from_slice(&text)?;
+    unclosed.extend_from_slice(b"0")?;
+    expect_run(&rt, rt.alloc(), &["normal"], &unclosed, 64, b"", b"", 0)
+}
+
+#[test]
+fn a_bad_byte_behind_a_block(rt: HostRuntime) -> Result<(), Fail> {
+    let text = block_text(rt.alloc(), ZEROS)?;
+    let mut bad = Vec::new(rt.alloc());
+    bad.extend_from_slice(&text)?;
+    bad.extend_from_slice(b"1x0")?;
+    let line = b"aes3: refused 1 at 24961\n";
+    expect_run(&rt, rt.alloc(), &["normal"], &bad, 64, &text, line, 3)?;
+    expect_run(
+        &rt,
+        rt.alloc(),
+        &["normal"],
+        b"01x",
+        64,
+        b"",
+        b"aes3: refused 1 at 2\n",
+        3,
+    )
+}
+
+#[test]
+fn reads_and_writes_of_normal_failing_in_turn(rt: HostRuntime) -> Result<(), Fail> {
+    let text = block_text(rt.alloc(), ZEROS)?;
+    for call in 1..385 {
+        let mut source = FailingSource::new(&text, 65, call);
+        let mut sink = MemorySink::new(rt.alloc());
+        assert!(rt; normalise(&mut source, &mut sink, 1 << 20) == Err(RunError::Read));
+        assert_eq!(rt; sink.bytes().len(), 0);
+    }
+    for call in 1..385 {
+        let mut source = MemorySource::new(&text, 4096);
+        let mut sink = FailingSink::new(rt.alloc(), call);
+        assert!(rt; normalise(&mut source, &mut sink, 1 << 20) == Err(RunError::Write));
+        assert!(rt; sink.bytes().len() == (call as usize - 1) * 65);
+    }
     Ok(())
 }

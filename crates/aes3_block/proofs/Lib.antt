@@ -8,3 +8,10 @@ pub mod Words
 pub mod Streams
 pub mod WholeBlocks
 pub mod FileLaws
+pub mod Each
+pub mod FileBlocks
+pub mod Feeding
+pub mod StatusBits
+pub mod CellLaws
+pub mod StatusLaws
+pub mod SlotWords

@@ -3,6 +3,9 @@ pub mod Blocks
 pub mod Files
 pub mod Readers
 pub mod Refusals
+pub mod Statuses
+pub mod Feeding
+pub mod Laws
 pub use Rattle.aes3_cell.specs.Cells
 pub use Rattle.aes3_cell.specs.Words
 pub use Rattle.aes3_cell.specs.Text

@@ -6,7 +6,12 @@ mod cells;
 mod file;
 mod file_out;
 mod frame;
+pub mod laws;
+mod slots;
+mod status;
 mod subframe;
+#[cfg(test)]
+mod tests;
 mod word;
 
 pub use block::Block;
@@ -14,4 +19,6 @@ pub use cells::put_block_cells;
 pub use file::{BlockFile, FileFault};
 pub use file_out::put_block_file;
 pub use frame::Frame;
+pub use slots::wrong_parities;
+pub use status::Channel;
 pub use subframe::Subframe;

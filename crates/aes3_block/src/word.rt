@@ -7,7 +7,7 @@ ghost use Rattle.aes3_block.specs.Files.{has_code, has_parity, is_lawful, payloa
 use aes3_slot::payload_parity;
 
 /// How many payloads 27 bits can hold.
-const PAYLOAD_LIMIT: u32 = 1 << 27;
+pub(crate) const PAYLOAD_LIMIT: u32 = 1 << 27;
 
 /// The lawful word of a payload.
 pub(crate) fn word_of_payload(payload: u32) -> u32

@@ -1,6 +1,6 @@
 -- Growth of an end's bytes.
-use Rattle.std.proofs.Common.{◌≡◌, ℕ, ◌+◌, ◌-◌, List, [], ◌++◌, length, take, drop, Option, Some, sym, ap, ap₂, ◌∙◌, append_assoc, append-nil, refl, arith}
-use Rattle.std.proofs.lemmas.List.{take_at, append_cancel_left}
+use Rattle.std.proofs.Common.{◌≡◌, ℕ, ◌+◌, ◌-◌, List, [], ◌++◌, length, take, drop, replicate, Option, Some, sym, ap, ap₂, ◌∙◌, append_assoc, append-nil, refl, arith}
+use Rattle.std.proofs.lemmas.List.{take_at, append_cancel_left, length-replicate, replicate-append-replicate}
 use Rattle.std.proofs.Math.Seq.{take-add}
 use Rattle.aes3_cell.specs.Ends.{Grew, GrewFront, Told}
 
@@ -37,6 +37,15 @@ grew-take l at n s more e h = record {
       let s' : s ≡ take n (drop at l) = e ∙ ap (λ k. take k (drop at l)) e' in
       let x : take at l ≡ xs = cc in
       ap Some (take-add at n l ∙ ap₂ ◌++◌ x (sym s' ∙ sym (take_at s more n h)));
+}
+
+-- a source of one byte again and again
+pub grew-replicate : (k n m x : ℕ) (s more : List ℕ) → s ≡ replicate n x → m ≡ k + n → Grew (Some (replicate k x)) (Some (replicate m x)) (take n (s ++ more))
+grew-replicate k n m x s more e h = record {
+  by = λ xs q.
+      let before : replicate k x ≡ xs = cc in
+      ap Some (ap (λ j. replicate j x) h ∙ sym (replicate-append-replicate k n x)
+      ∙ ap₂ ◌++◌ before (sym (take_at s more n (ap length e ∙ length-replicate n x) ∙ e)));
 }
 
 -- one more write

@@ -2,3 +2,10 @@ pub mod Growing
 pub mod WordCells
 pub mod Lines
 pub mod Runs
+pub mod CellTexts
+pub mod LineSteps
+pub mod Octets
+pub mod PackedCells
+pub mod PackedReads
+pub mod PackedWords
+pub mod PackedSteps

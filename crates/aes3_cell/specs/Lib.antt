@@ -1,7 +1,13 @@
 pub mod Cells
 pub mod Words
 pub mod Text
+pub mod CellText
+pub mod Packed
 pub mod Ends
 pub mod Refusals
 pub mod Memory
 pub mod Pending
+pub mod TextReading
+pub mod PackedReading
+pub mod PackedPending
+pub mod Laws

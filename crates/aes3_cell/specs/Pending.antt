@@ -1,5 +1,5 @@
 -- The line of cell text that is begun.
-use Rattle.std.specs.Prelude.{ℕ, suc, List, [], ◌∷◌, ◌++◌, Bool, length, ◌==◌, if◌then◌else◌}
+use Rattle.std.specs.Prelude.{ℕ, suc, List, [], ◌∷◌, ◌++◌, Bool, length, drop, ◌*◌, ◌/◌, ◌==◌, if◌then◌else◌}
 use Rattle.aes3_cell.specs.declared.level.Level.{Level}
 use Rattle.aes3_cell.specs.Words.{word_len}
 use Rattle.aes3_cell.specs.Text.{line_text}
@@ -15,3 +15,7 @@ text_added cells l = if suc (length cells) == word_len then line_text (cells ++ 
 
 abbrev pub begun_after : List Level → Level → List Level
 begun_after cells l = if suc (length cells) == word_len then [] else cells ++ l ∷ []
+
+-- the cells behind the last whole line
+unfoldable pub begun_cells : List Level → List Level
+begun_cells c = drop (word_len * (length c / word_len)) c

@@ -37,8 +37,9 @@ impl<'a> FailingSource<'a> {
 }
 
 impl<'a> Source for FailingSource<'a> {
-    ghost use Rattle.std.specs.Prelude.{Some};
-    ghost use Rattle.aes3_cell.specs.Memory.{given_bytes, source_ended, source_within, source_failures};
+    ghost use Rattle.std.specs.Prelude.{Some, ◌≡◌, ◌+◌, ◌-◌, ◌<◌, ◌≤◌, ◌^◌, ◌↔◌, length, take, IfOk, IsErr, OnErr, IsTrue};
+    ghost use Rattle.aes3_cell.specs.Ends.{Grew};
+    ghost use Rattle.aes3_cell.specs.Memory.{given_bytes, source_ended, source_within, source_calls_left, source_failures};
 
     ghost given = { λ s. Some (given_bytes (source_within s)) };
 
@@ -46,7 +47,16 @@ impl<'a> Source for FailingSource<'a> {
 
     ghost failed = { source_failures };
 
-    fn read(&mut self, buf: &mut [u8]) -> Result<usize, Fault> {
+    fn read(&mut self, buf: &mut [u8]) -> Result<usize, Fault>
+        requires room { source_failures self.old + 1 < 2 ^ 64 }
+        ensures bound { IfOk result (λ n. n ≤ length buf.new) }
+        ensures bytes { IfOk result (λ n. Grew (Some (given_bytes (source_within self.old))) (Some (given_bytes (source_within self.new))) (take n buf.new)) }
+        ensures end { IfOk result (λ n. 0 < length buf.new → (n ≡ 0 ↔ IsTrue (source_ended (source_within self.new)))) }
+        ensures count { IfOk result (λ _. source_failures self.new ≡ source_failures self.old) }
+        ensures err { OnErr result ((source_failures self.new ≡ source_failures self.old + 1) × (Some (given_bytes (source_within self.new)) ≡ Some (given_bytes (source_within self.old)))) }
+        ensures fails { IsErr result ↔ (source_calls_left self.old ≡ 0) }
+        ensures calls { source_calls_left self.new ≡ source_calls_left self.old - 1 }
+    {
         if self.calls_left == 0 {
             self.failures += 1;
             return Err(Fault);
@@ -95,14 +105,27 @@ impl FailingSink {
 }
 
 impl Sink for FailingSink {
-    ghost use Rattle.std.specs.Prelude.{Some};
-    ghost use Rattle.aes3_cell.specs.Memory.{taken_bytes, sink_within, failing_sink_failures};
+    ghost use Rattle.std.specs.Prelude.{Some, ◌≡◌, ◌+◌, ◌-◌, ◌<◌, ◌≤◌, ◌^◌, length, take, IfOk, IsErr, OnErr};
+    ghost use Rattle.aes3_cell.specs.Ends.{Grew};
+    ghost use Rattle.aes3_cell.specs.Memory.{taken_bytes, sink_within, sink_calls_left, failing_sink_failures};
 
     ghost taken = { λ s. Some (taken_bytes (sink_within s)) };
 
     ghost failed = { failing_sink_failures };
 
-    fn write(&mut self, buf: &[u8]) -> Result<usize, Fault> {
+    fn write(&mut self, buf: &[u8]) -> Result<usize, Fault>
+        requires room { failing_sink_failures self.old + 1 < 2 ^ 64 }
+        ensures bound { IfOk result (λ n. n ≤ length buf.now) }
+        ensures some { IfOk result (λ n. 0 < length buf.now → 0 < n) }
+        ensures bytes { IfOk result (λ n. Grew (Some (taken_bytes (sink_within self.old))) (Some (taken_bytes (sink_within self.new))) (take n buf.now)) }
+        ensures count { IfOk result (λ _. failing_sink_failures self.new ≡ failing_sink_failures self.old) }
+        ensures err { OnErr result ((failing_sink_failures self.new ≡ failing_sink_failures self.old + 1) × (Some (taken_bytes (sink_within self.new)) ≡ Some (taken_bytes (sink_within self.old)))) }
+        ensures all { IfOk result (λ n. n ≡ length buf.now) }
+
+        // memory that is refused is a fault at an earlier call too
+        ensures fails { sink_calls_left self.old ≡ 0 → IsErr result }
+        ensures calls { sink_calls_left self.new ≡ sink_calls_left self.old - 1 }
+    {
         if self.calls_left > 0 {
             self.calls_left -= 1;
             // a growth that the inner sink refuses counts as this sink's failure

@@ -2,21 +2,36 @@
 #![tactic(auto)]
 
 mod counts;
+mod endless;
 mod ends;
 mod failing;
+mod form;
+pub mod laws;
 mod level;
 mod memory;
+mod packed_in;
+mod packed_out;
 mod refusal;
+mod short;
 mod standard;
+#[cfg(test)]
+mod tests;
+mod text_in;
 mod text_out;
 mod word;
 
 pub use counts::Counts;
+pub use endless::EndlessSource;
 pub use ends::{Fault, Sink, Source, write_all};
 pub use failing::{FailingSink, FailingSource};
+pub use form::Form;
 pub use level::Level;
 pub use memory::{MemorySink, MemorySource};
-pub use refusal::{BadCell, RunError};
+pub use packed_in::PackedIn;
+pub use packed_out::PackedOut;
+pub use refusal::{BadCell, BadPadding, RunError};
+pub use short::ShortSink;
 pub use standard::{StdSink, StdSource};
+pub use text_in::CellText;
 pub use text_out::TextOut;
 pub use word::{LINE_LEN, line_of_word};

@@ -37,7 +37,8 @@ impl<'a> MemorySource<'a> {
     }
 }
 
-fn smallest(a: usize, b: usize, c: usize) -> usize
+/// The least of three lengths.
+pub(crate) fn smallest(a: usize, b: usize, c: usize) -> usize
     ensures { result ≡ min (min a b) c }
 {
     a.min(b).min(c)
@@ -117,7 +118,15 @@ impl Sink for MemorySink {
 
     ghost failed = { sink_failures };
 
-    fn write(&mut self, buf: &[u8]) -> Result<usize, Fault> {
+    fn write(&mut self, buf: &[u8]) -> Result<usize, Fault>
+        requires room { sink_failures self.old + 1 < 2 ^ 64 }
+        ensures bound { IfOk result (λ n. n ≤ length buf.now) }
+        ensures some { IfOk result (λ n. 0 < length buf.now → 0 < n) }
+        ensures bytes { IfOk result (λ n. Grew (Some (taken_bytes self.old)) (Some (taken_bytes self.new)) (take n buf.now)) }
+        ensures count { IfOk result (λ _. sink_failures self.new ≡ sink_failures self.old) }
+        ensures err { OnErr result ((sink_failures self.new ≡ sink_failures self.old + 1) × (Some (taken_bytes self.new) ≡ Some (taken_bytes self.old))) }
+        ensures all { IfOk result (λ n. n ≡ length buf.now) }
+    {
         match self.bytes.extend_from_slice(buf) {
             Ok(()) => Ok(buf.len()),
             Err(_) => {

@@ -12,6 +12,13 @@ pub struct BadCell {
     pub at: u64,
 }
 
+/// Packed cells that end wrongly.
+#[derive(Clone, Copy, PartialEq, Eq, Debug)]
+pub struct BadPadding {
+    /// The place of the last octet, counted from 0; 0 where there is none.
+    pub at: u64,
+}
+
 /// The ten refusals of a run or a command line.
 #[derive(Clone, Copy, PartialEq, Eq, Debug, Error)]
 pub enum RunError {

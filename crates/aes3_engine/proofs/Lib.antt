@@ -4,3 +4,10 @@ pub mod Pieces
 pub mod EncodingLemmas
 pub mod Told
 pub mod EncodeRuns
+pub mod Items
+pub mod TextLemmas
+pub mod TextRuns
+pub mod Reports
+pub mod Locking
+pub mod BlockReports
+pub mod BlockRuns

@@ -2,4 +2,10 @@ pub mod Converting
 pub mod Running
 pub mod Output
 pub mod Encoding
+pub mod Taking
+pub mod Forms
+pub mod Inputs
+pub mod Driving
+pub mod Reporting
+pub mod BlockRuns
 pub use Rattle.aes3_cell.specs.Ends

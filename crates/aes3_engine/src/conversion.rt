@@ -7,29 +7,29 @@ ghost use Rattle.aes3_engine.specs.Running.{EndRan, PieceRan, Run};
 
 use aes3_cell::{Fault, RunError, Sink, Source};
 
-/// Takes the bytes of an input, in pieces of any size, and writes what they give.
+/// A form of input: takes bytes, in pieces of any size, and hands what they carry to a taker `K`, which writes.
 ///
-/// The contract speaks of the bytes that it has taken (`follows`), of what bytes write and which are faults (`reads`),
-/// and of what holds after the end (`finished`).
-pub trait Conversion {
-    ghost follows: { Self → List ℕ → Type 0 };
+/// The contract speaks of the bytes that the input and its taker have taken (`follows`), of what bytes write and which
+/// are faults (`reads`), and of what holds after the end (`finished`).
+pub trait Input<K> {
+    ghost follows: { Self → K → List ℕ → Type 0 };
 
-    ghost reads: { Self → Reading };
+    ghost reads: { Self → K → Reading };
 
-    ghost finished: { Self → List ℕ → Type 0 };
+    ghost finished: { Self → K → List ℕ → Type 0 };
 
     /// Takes a piece of the input.
-    fn feed<T: Sink>(&mut self, sink: &mut T, piece: &[u8]) -> Result<(), RunError>
+    fn feed<T: Sink>(&mut self, taker: &mut K, sink: &mut T, piece: &[u8]) -> Result<(), RunError>
         requires room { T.failed sink.old + 1 < 2 ^ 64 }
-        requires following { (b : List ℕ) × (length b + length piece.now ≤ 2 ^ 40) × follows self.old b }
-        ensures { PieceRan (reads self.old) (reads self.new) (follows self.old) (follows self.new) piece.now
+        requires following { (b : List ℕ) × (length b + length piece.now ≤ 2 ^ 40) × follows self.old taker.old b }
+        ensures { PieceRan (reads self.old taker.old) (reads self.new taker.new) (follows self.old taker.old) (follows self.new taker.new) piece.now
             (record { old = T.taken sink.old; new = T.taken sink.new; failed_old = T.failed sink.old; failed_new = T.failed sink.new }) result };
 
     /// Takes the end of the input.
-    fn finish<T: Sink>(&mut self, sink: &mut T) -> Result<(), RunError>
+    fn finish<T: Sink>(&mut self, taker: &mut K, sink: &mut T) -> Result<(), RunError>
         requires room { T.failed sink.old + 1 < 2 ^ 64 }
-        requires following { (b : List ℕ) × (length b ≤ 2 ^ 40) × follows self.old b }
-        ensures { EndRan (reads self.old) (follows self.old) (finished self.new)
+        requires following { (b : List ℕ) × (length b ≤ 2 ^ 40) × follows self.old taker.old b }
+        ensures { EndRan (reads self.old taker.old) (follows self.old taker.old) (finished self.new taker.new)
             (record { old = T.taken sink.old; new = T.taken sink.new; failed_old = T.failed sink.old; failed_new = T.failed sink.new }) result };
 }
 
@@ -72,17 +72,18 @@ fn allowed_of(n: usize, room: u64) -> usize
 /// # Errors
 /// `Read` and `Write` where the source or the sink failed, `TooLong` where a byte came after `max_bytes` bytes, else
 /// the first fault of the input. At most `max_bytes + 1` bytes are read.
-pub fn convert<S: Source, T: Sink, C: Conversion>(
+pub fn convert<S: Source, T: Sink, K, I: Input<K>>(
     source: &mut S,
     sink: &mut T,
     max_bytes: u64,
-    conversion: &mut C,
+    input: &mut I,
+    taker: &mut K,
 ) -> Result<u64, RunError>
     requires source_room { S.failed source.old + 1 < 2 ^ 64 }
     requires sink_room { T.failed sink.old + 1 < 2 ^ 64 }
     requires limit { max_bytes ≤ 2 ^ 40 }
-    requires start { C.follows conversion.old [] }
-    ensures run { Run max_bytes (C.reads conversion.old) (C.finished conversion.new) (S.has_ended source.new)
+    requires start { I.follows input.old taker.old [] }
+    ensures run { Run max_bytes (I.reads input.old taker.old) (I.finished input.new taker.new) (S.has_ended source.new)
         (record { old = S.given source.old; new = S.given source.new; failed_old = S.failed source.old; failed_new = S.failed source.new })
         (record { old = T.taken sink.old; new = T.taken sink.new; failed_old = T.failed sink.old; failed_new = T.failed sink.new }) result }
 {
@@ -95,13 +96,13 @@ pub fn convert<S: Source, T: Sink, C: Conversion>(
             Err(_) => return Err(RunError::Read),
         };
         if n == 0 {
-            return match conversion.finish(sink) {
+            return match input.finish(taker, sink) {
                 Ok(()) => Ok(seen),
                 Err(error) => Err(error),
             };
         }
         let allowed = allowed_of(n, room);
-        match conversion.feed(sink, &piece[..allowed]) {
+        match input.feed(taker, sink, &piece[..allowed]) {
             Ok(()) => {}
             Err(error) => return Err(error),
         }

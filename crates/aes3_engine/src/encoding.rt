@@ -9,51 +9,59 @@ ghost use Rattle.aes3_engine.specs.Encoding.{Encodes, IsCauseOf, encode_counts, 
 ghost use Rattle.aes3_engine.specs.Output.{written};
 ghost use Rattle.aes3_engine.specs.Running.{PieceRan};
 
-use crate::conversion::{Conversion, convert};
+use crate::conversion::{Input, convert};
 use aes3_block::{BlockFile, put_block_cells};
 use aes3_cell::{Counts, Level, RunError, Sink, Source};
 
 /// How many cells a block has.
 const BLOCK_CELLS: u64 = 24_576;
 
-/// Reads a block file and writes the cells of each block when it is whole.
+/// Writes the cells of each block, and counts them.
 #[derive(Drop)]
-struct Encoding {
-    file: BlockFile,
+struct Encoder {
     blocks: u64,
 }
 
-impl Encoding {
-    fn take_byte<T: Sink>(&mut self, sink: &mut T, byte: u8) -> Result<(), RunError>
-        requires room { T.failed sink.old + 1 < 2 ^ 64 }
-        requires following { (b : List ℕ) × (length b < 2 ^ 40) × Encodes self.old.file self.old.blocks b }
-        ensures { PieceRan encoding encoding (Encodes self.old.file self.old.blocks) (Encodes self.new.file self.new.blocks) (byte ∷ [])
-            (record { old = T.taken sink.old; new = T.taken sink.new; failed_old = T.failed sink.old; failed_new = T.failed sink.new }) result }
-    {
-        match self.file.feed_byte(byte) {
-            Ok(None) => Ok(()),
-            Ok(Some(block)) => match put_block_cells(Level::Low, &block, sink) {
-                Ok(()) => {
-                    self.blocks += 1;
-                    Ok(())
-                }
-                Err(_) => Err(RunError::Write),
-            },
-            Err(fault) => Err(RunError::from(fault)),
-        }
+/// Takes one byte of a block file, and writes the block that it ends.
+fn take_byte<T: Sink>(
+    file: &mut BlockFile,
+    encoder: &mut Encoder,
+    sink: &mut T,
+    byte: u8,
+) -> Result<(), RunError>
+    requires room { T.failed sink.old + 1 < 2 ^ 64 }
+    requires following { (b : List ℕ) × (length b < 2 ^ 40) × Encodes file.old encoder.old.blocks b }
+    ensures { PieceRan encoding encoding (Encodes file.old encoder.old.blocks) (Encodes file.new encoder.new.blocks) (byte ∷ [])
+        (record { old = T.taken sink.old; new = T.taken sink.new; failed_old = T.failed sink.old; failed_new = T.failed sink.new }) result }
+{
+    match file.feed_byte(byte) {
+        Ok(None) => Ok(()),
+        Ok(Some(block)) => match put_block_cells(Level::Low, &block, sink) {
+            Ok(()) => {
+                encoder.blocks += 1;
+                Ok(())
+            }
+            Err(_) => Err(RunError::Write),
+        },
+        Err(fault) => Err(RunError::from(fault)),
     }
 }
 
-impl Conversion for Encoding {
-    ghost follows = { λ e. Encodes e.file e.blocks };
+impl Input<Encoder> for BlockFile {
+    ghost follows = { λ file encoder. Encodes file encoder.blocks };
 
-    ghost reads = { λ _. encoding };
+    ghost reads = { λ _ _. encoding };
 
-    ghost finished = { λ e. Encodes e.file e.blocks };
+    ghost finished = { λ file encoder. Encodes file encoder.blocks };
 
-    fn feed<T: Sink>(&mut self, sink: &mut T, piece: &[u8]) -> Result<(), RunError> {
+    fn feed<T: Sink>(
+        &mut self,
+        encoder: &mut Encoder,
+        sink: &mut T,
+        piece: &[u8],
+    ) -> Result<(), RunError> {
         for byte in piece {
-            match self.take_byte(sink, *byte) {
+            match take_byte(self, encoder, sink, *byte) {
                 Ok(()) => {}
                 Err(error) => return Err(error),
             }
@@ -61,8 +69,8 @@ impl Conversion for Encoding {
         Ok(())
     }
 
-    fn finish<T: Sink>(&mut self, _sink: &mut T) -> Result<(), RunError> {
-        match self.file.end() {
+    fn finish<T: Sink>(&mut self, _encoder: &mut Encoder, _sink: &mut T) -> Result<(), RunError> {
+        match self.end() {
             Ok(()) => Ok(()),
             Err(fault) => Err(RunError::from(fault)),
         }
@@ -109,15 +117,13 @@ pub fn encode<S: Source, T: Sink>(
         → GrewFront (T.taken sink.old) (T.taken sink.new) (encoded (take max_bytes b)) }
     ensures few { (b : List ℕ) → Told (S.given source.old) (S.given source.new) b → length b ≤ max_bytes + 1 }
 {
-    let mut encoding = Encoding {
-        file: BlockFile::new(),
-        blocks: 0,
-    };
-    match convert(source, sink, max_bytes, &mut encoding) {
+    let mut file = BlockFile::new();
+    let mut encoder = Encoder { blocks: 0 };
+    match convert(source, sink, max_bytes, &mut file, &mut encoder) {
         Ok(bytes) => Ok(Counts {
             bytes,
-            cells: BLOCK_CELLS * encoding.blocks,
-            blocks: encoding.blocks,
+            cells: BLOCK_CELLS * encoder.blocks,
+            blocks: encoder.blocks,
             faults: 0,
             unfinished: 0,
             marks: 0,

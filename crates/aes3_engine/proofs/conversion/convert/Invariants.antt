@@ -4,7 +4,7 @@ use Rattle.aes3_engine.proofs.conversion.convert.Given as goal
 
 abbrev pub invariant-pieces : goal.invariant-pieces
 invariant-pieces g l = record {
-  upto : Upto (g.C.Conversion.reads l.fn.conversion) (g.C.Conversion.reads l.conversion) (g.C.Conversion.follows l.fn.conversion) (g.C.Conversion.follows l.conversion)
+  upto : Upto (g.I.Input.reads l.fn.input l.fn.taker) (g.I.Input.reads l.input l.taker) (g.I.Input.follows l.fn.input l.fn.taker) (g.I.Input.follows l.input l.taker)
       (g.S.Source.given l.fn.source) (g.S.Source.given l.source) (g.T.Sink.taken l.fn.sink) (g.T.Sink.taken l.sink) l.seen;
   short : l.seen ≤ l.max_bytes;
   quiet_source : g.S.Source.failed l.source ≡ g.S.Source.failed l.fn.source;

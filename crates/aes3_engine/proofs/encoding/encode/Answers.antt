@@ -14,7 +14,7 @@ use Rattle.aes3_engine.proofs.EncodeRuns.{starts, out-encoded, whole-encoded, to
 use Rattle.aes3_engine.proofs.encoding.encode.Goals as goal
 
 pub convert-requires-clause-start : goal.convert-requires-clause-start
-convert-requires-clause-start g c = starts c.new.result c.new.ensures.seen c.new.ensures.words c.new.ensures.bytes c.new.ensures.open
+convert-requires-clause-start g c = starts c.new-file.result c.new-file.ensures.seen c.new-file.ensures.words c.new-file.ensures.bytes c.new-file.ensures.open
 
 pub overflow_mul-result : goal.overflow_mul-result
 overflow_mul-result g c =
@@ -36,7 +36,7 @@ pub returns-in-Ok-clause-block_file : goal.returns-in-Ok-clause-block_file
 returns-in-Ok-clause-block_file g c = λ b t. let r = ran-told c.in-Ok.ensures.run b t in clean-file b r.0.clean.clean r.1
 
 pub returns-in-Ok-clause-counts : goal.returns-in-Ok-clause-counts
-returns-in-Ok-clause-counts g c = λ b t. let r = ran-told c.in-Ok.ensures.run b t in counted b c.in-Ok.bytes c.convert.new.conversion.blocks r.3 r.2.count
+returns-in-Ok-clause-counts g c = λ b t. let r = ran-told c.in-Ok.ensures.run b t in counted b c.in-Ok.bytes c.convert.new.taker.blocks r.3 r.2.count
 
 pub returns-in-Ok-clause-few : goal.returns-in-Ok-clause-few
 returns-in-Ok-clause-few g c = λ b t. few-told c.in-Ok.ensures.run b t

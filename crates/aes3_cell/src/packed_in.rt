@@ -1,0 +1,99 @@
+//! Packed cells as they are read.
+use std::marker::Model;
+
+/// Reads packed cells octet by octet.
+///
+/// A contract sees how many octets it has taken and the last two of them: before the end nobody can tell which octet
+/// is the last, nor how many cells of the one before it are used.
+#[derive(Drop)]
+pub struct PackedIn {
+    seen: u64,
+    before_last: u8,
+    last: u8,
+}
+
+impl Model for PackedIn {
+    ghost use Rattle.aes3_cell.specs.PackedReading.{PackedReader};
+
+    ghost Value = { PackedReader };
+
+    ghost view = { λ p. record { seen = p.seen; before_last = p.before_last; last = p.last } };
+}
+
+ghost use Rattle.std.specs.Prelude.{◌≡◌, ◌<◌, ◌^◌, ◌-◌, ◌↔◌, ℕ, List, [], IsOk, IfErr};
+ghost use Rattle.aes3_cell.specs.Packed.{IsPacked, is_padded};
+ghost use Rattle.aes3_cell.specs.PackedReading.{packed_answer, packed_next, packed_end, packed_reader_of, end_answer};
+
+use crate::refusal::BadPadding;
+
+/// Whether `unused` cells, fewer than eight, are Low at the end of an octet.
+fn is_rightly_padded(octet: u8, unused: u8) -> bool
+    ensures { result ≡ is_padded octet unused }
+{
+    unused < 8 && octet % (1 << unused) == 0
+}
+
+/// The answer to the end behind this many octets, the last two of them given.
+fn end_behind(seen: u64, octet: u8, last: u8) -> Result<Option<(u8, u8)>, BadPadding>
+    ensures { result ≡ end_answer seen octet last }
+{
+    match seen {
+        0 => Err(BadPadding { at: 0 }),
+        1 if last == 0 => Ok(None),
+        1 => Err(BadPadding { at: 0 }),
+        _ if is_rightly_padded(octet, last) => Ok(Some((octet, 8 - last))),
+        _ => Err(BadPadding { at: seen - 1 }),
+    }
+}
+
+impl PackedIn {
+    /// A reader that has taken nothing.
+    #[tactic(auto, unfolding(crate::specs::PackedReading::packed_reader_of))]
+    pub fn new() -> Self
+        ensures start { result ≡ packed_reader_of [] }
+        ensures seen { result.seen ≡ 0 }
+    {
+        PackedIn {
+            seen: 0,
+            before_last: 0,
+            last: 0,
+        }
+    }
+
+    /// How many octets it has taken.
+    pub fn seen(&self) -> u64
+        ensures { result ≡ self.now.seen }
+    {
+        self.seen
+    }
+
+    /// Takes one more octet, and answers the one that came two octets before, all of whose eight cells are used.
+    pub fn feed_byte(&mut self, octet: u8) -> Option<u8>
+        requires { self.old.seen < 2 ^ 40 }
+        ensures answer { result ≡ packed_answer self.old }
+        ensures next { self.new ≡ packed_next self.old octet }
+    {
+        let whole = if self.seen < 2 {
+            None
+        } else {
+            Some(self.before_last)
+        };
+        self.before_last = self.last;
+        self.last = octet;
+        self.seen += 1;
+        whole
+    }
+
+    /// Takes the end: answers the octet before the last and how many of its cells are used, 1 to 8, the first in the
+    /// highest bit; for the one octet 0, which stands for no cells, nothing.
+    ///
+    /// # Errors
+    /// The place of the last octet where the octets are not packed cells, 0 where there is none.
+    pub fn end(&self) -> Result<Option<(u8, u8)>, BadPadding>
+        ensures answer { result ≡ packed_end self.now }
+        ensures place { IfErr result (λ fault. fault.at ≡ self.now.seen - 1) }
+        ensures lawful { (octets : List ℕ) → self.now ≡ packed_reader_of octets → (IsOk result ↔ IsPacked octets) }
+    {
+        end_behind(self.seen, self.before_last, self.last)
+    }
+}

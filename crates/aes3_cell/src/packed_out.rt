@@ -1,0 +1,130 @@
+//! Packed cells as they are written.
+use std::marker::Model;
+
+/// Writes packed cells: eight octets handed on when their 64th cell comes, and at the end the octets of the cells left,
+/// filled up with Low, and one last octet, the number of the cells that fill them up.
+#[derive(Drop)]
+pub struct PackedOut {
+    /// The cells begun, the latest in the lowest bit.
+    word: u64,
+    len: u32,
+    failed: bool,
+}
+
+impl Model for PackedOut {
+    ghost use Rattle.std.specs.Prelude.{◌<◌, ◌^◌, reverse};
+    ghost use Rattle.aes3_cell.specs.Words.{low_cells};
+    ghost use Rattle.aes3_cell.specs.PackedPending.{BegunOctets};
+
+    ghost Value = { BegunOctets };
+
+    ghost view = { λ p. record { cells = reverse (low_cells p.len p.word); failed = p.failed } };
+
+    ghost invariant = { λ p. (p.len < 64) × (p.word < 2 ^ p.len) };
+}
+
+ghost use Rattle.std.specs.Prelude.{◌≡◌, ◌+◌, ◌*◌, ◌<◌, ◌^◌, [], false, take, length, reverse, IfOk, OnErr, IsErr, IsTrue, ◌↔◌};
+ghost use Rattle.aes3_cell.specs.Ends.{Grew, GrewFront};
+ghost use Rattle.aes3_cell.specs.Packed.{octets_needed, octets_of, packed_of};
+ghost use Rattle.aes3_cell.specs.PackedPending.{octets_added};
+ghost use Rattle.aes3_cell.specs.Pending.{begun_after};
+ghost use Rattle.aes3_cell.specs.Words.{bit_of, low_cells};
+
+use crate::ends::{Fault, Sink, write_all};
+use crate::level::Level;
+use crate::word::WORD_LEN;
+
+/// The word with one more cell behind the others, in the lowest bit.
+fn with_cell_behind(word: u64, level: Level) -> u64
+    requires { word < 2 ^ 63 }
+    ensures { result ≡ 2 * word + bit_of level }
+{
+    match level {
+        Level::Low => word << 1,
+        Level::High => word << 1 | 1,
+    }
+}
+
+/// The octets of the cells left, and behind them the last octet.
+fn last_octets(word: u64, len: u32) -> [u8; 9]
+    requires few { len < WORD_LEN }
+    requires bound { word < 2 ^ len }
+    ensures { take (octets_needed len + 1) result ≡ packed_of (reverse (low_cells len word)) }
+{
+    let filled = if len == 0 {
+        0
+    } else {
+        word << (WORD_LEN - len)
+    };
+    let needed = len.div_ceil(8);
+    let mut octets = [0; 9];
+    octets[..8].copy_from_slice(&filled.to_be_bytes());
+    octets[needed as usize] = (8 * needed - len) as u8;
+    octets
+}
+
+impl PackedOut {
+    /// A writer that has taken no cell.
+    pub fn new() -> Self
+        ensures start { result.cells ≡ [] }
+        ensures open { result.failed ≡ false }
+    {
+        PackedOut {
+            word: 0,
+            len: 0,
+            failed: false,
+        }
+    }
+
+    /// Whether writing has failed.
+    pub fn failed(&self) -> bool
+        ensures { result ≡ self.now.failed }
+    {
+        self.failed
+    }
+
+    /// Takes one more cell; each 64th hands eight octets on as one buffer.
+    ///
+    /// # Errors
+    /// The sink's fault; then it has taken a front of the octets, and `failed` answers true.
+    pub fn put<T: Sink>(&mut self, sink: &mut T, level: Level) -> Result<(), Fault>
+        requires open { self.old.failed ≡ false }
+        requires room { T.failed sink.old + 1 < 2 ^ 64 }
+        ensures octets { IfOk result (λ _. Grew (T.taken sink.old) (T.taken sink.new) (octets_added self.old.cells level)) }
+        ensures begun { IfOk result (λ _. self.new.cells ≡ begun_after self.old.cells level) }
+        ensures count { IfOk result (λ _. T.failed sink.new ≡ T.failed sink.old) }
+        ensures failed { IsTrue self.new.failed ↔ IsErr result }
+        ensures err { OnErr result ((T.failed sink.new ≡ T.failed sink.old + 1) × GrewFront (T.taken sink.old) (T.taken sink.new) (octets_added self.old.cells level)) }
+    {
+        let word = with_cell_behind(self.word, level);
+        if self.len + 1 < WORD_LEN {
+            self.word = word;
+            self.len += 1;
+            return Ok(());
+        }
+        self.word = 0;
+        self.len = 0;
+        match write_all(sink, &word.to_be_bytes()) {
+            Ok(()) => Ok(()),
+            Err(fault) => {
+                self.failed = true;
+                Err(fault)
+            }
+        }
+    }
+
+    /// Takes the end: hands on the octets of the cells left and the last octet, as one buffer.
+    ///
+    /// # Errors
+    /// The sink's fault; then it has taken a front of the octets.
+    pub fn end<T: Sink>(self, sink: &mut T) -> Result<(), Fault>
+        requires open { self.failed ≡ false }
+        requires room { T.failed sink.old + 1 < 2 ^ 64 }
+        ensures octets { IfOk result (λ _. Grew (T.taken sink.old) (T.taken sink.new) (packed_of self.cells)) }
+        ensures count { IfOk result (λ _. T.failed sink.new ≡ T.failed sink.old) }
+        ensures err { OnErr result ((T.failed sink.new ≡ T.failed sink.old + 1) × GrewFront (T.taken sink.old) (T.taken sink.new) (packed_of self.cells)) }
+    {
+        let needed = self.len.div_ceil(8) as usize;
+        write_all(sink, &last_octets(self.word, self.len)[..needed + 1])
+    }
+}

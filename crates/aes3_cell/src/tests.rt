@@ -1,0 +1,282 @@
+//! Outside rows of both written forms, ends that fail or move few bytes, and all refusals.
+
+use crate::endless::EndlessSource;
+use crate::ends::{Fault, Sink, Source, write_all};
+use crate::failing::{FailingSink, FailingSource};
+use crate::level::Level;
+use crate::memory::{MemorySink, MemorySource};
+use crate::packed_in::PackedIn;
+use crate::packed_out::PackedOut;
+use crate::refusal::{BadCell, BadPadding, RunError};
+use crate::short::ShortSink;
+use crate::standard::{StdSink, StdSource};
+use crate::text_in::CellText;
+use crate::text_out::TextOut;
+use std::process::Abort;
+
+#[test]
+fn all_bytes_of_cell_text(rt: HostRuntime) {
+    for byte in 0..=255 {
+        let expected = match byte {
+            0x30 => Ok(Some(Level::Low)),
+            0x31 => Ok(Some(Level::High)),
+            0x0A | 0x0D | 0x20 => Ok(None),
+            _ => Err(BadCell { at: 0 }),
+        };
+        let mut text = CellText::new();
+        assert_eq!(rt; text.feed_byte(byte), expected, "at {byte}");
+        assert_eq!(rt; text.seen(), u64::from(expected.is_ok()), "at {byte}");
+    }
+}
+
+#[test]
+fn reader_after_a_bad_byte(rt: HostRuntime) {
+    let mut text = CellText::new();
+    for byte in *b"11101" {
+        assert!(rt; text.seen() < 9);
+        assert!(rt; text.feed_byte(byte).is_ok());
+    }
+    assert!(rt; text.seen() < 9);
+    assert_eq!(rt; text.feed_byte(b'2'), Err(BadCell { at: 5 }));
+    assert!(rt; text.seen() < 9);
+    assert_eq!(rt; text.feed_byte(b'\t'), Err(BadCell { at: 5 }));
+    assert!(rt; text.seen() < 9);
+    assert_eq!(rt; text.feed_byte(b'0'), Ok(Some(Level::Low)));
+    assert_eq!(rt; text.seen(), 6);
+}
+
+/// What the end of packed octets answers.
+fn end_of(rt: &impl Abort, octets: &[u8]) -> Result<Option<(u8, u8)>, BadPadding> {
+    let mut packed = PackedIn::new();
+    for octet in octets {
+        assert!(rt; packed.seen() < 99);
+        packed.feed_byte(*octet);
+    }
+    packed.end()
+}
+
+#[test]
+fn packed_rows_read(rt: HostRuntime) {
+    assert_eq!(rt; end_of(&rt, &[0x00]), Ok(None));
+    assert_eq!(rt; end_of(&rt, &[0xE8, 0x00]), Ok(Some((0xE8, 8))));
+    assert_eq!(rt; end_of(&rt, &[0xE8, 0x03]), Ok(Some((0xE8, 5))));
+    assert_eq!(rt; end_of(&rt, &[0x80, 0x07]), Ok(Some((0x80, 1))));
+    assert_eq!(rt; end_of(&rt, &[0xFF, 0xE4, 0x02]), Ok(Some((0xE4, 6))));
+    assert_eq!(rt; end_of(&rt, &[0xE9, 0x03]), Err(BadPadding { at: 1 }));
+    assert_eq!(rt; end_of(&rt, &[0xE8, 0x08]), Err(BadPadding { at: 1 }));
+    assert_eq!(rt; end_of(&rt, &[0x00, 0x00, 0xFF]), Err(BadPadding { at: 2 }));
+    assert_eq!(rt; end_of(&rt, &[0x05]), Err(BadPadding { at: 0 }));
+    assert_eq!(rt; end_of(&rt, &[]), Err(BadPadding { at: 0 }));
+}
+
+fn level_of(is_high: bool) -> Level {
+    if is_high { Level::High } else { Level::Low }
+}
+
+/// Packs the cells of a text of `0` and `1`.
+fn pack<T: Sink>(rt: &impl Abort, cells: &[u8], sink: &mut T) -> Result<(), Fault> {
+    let mut out = PackedOut::new();
+    for cell in cells {
+        assert!(rt; !out.failed());
+        assert!(rt; sink.failures() < 9);
+        out.put(sink, level_of(*cell == b'1'))?;
+    }
+    assert!(rt; !out.failed());
+    assert!(rt; sink.failures() < 9);
+    out.end(sink)
+}
+
+#[test]
+fn packed_rows_written(rt: HostRuntime) {
+    let rows: [(&[u8], &[u8]); 4] = [
+        (b"", &[0x00]),
+        (b"11101000", &[0xE8, 0x00]),
+        (b"11101", &[0xE8, 0x03]),
+        (b"111010001", &[0xE8, 0x80, 0x07]),
+    ];
+    for (cells, octets) in rows {
+        let mut sink = MemorySink::new(rt.alloc());
+        assert_eq!(rt; pack(&rt, cells, &mut sink), Ok(()));
+        assert!(rt; sink.bytes() == octets);
+    }
+}
+
+const CELLS: [u8; 130] =
+    *b"1110100010110011010101001100111010111000010011100101110100011011001010101\
+011010011110001011000110100100111010110001110001010100111";
+
+/// Compares the first `used` cells of an octet with those of a text, and answers how many are left of it.
+fn compare<'a>(rt: &impl Abort, octet: u8, used: u8, cells: &'a [u8]) -> &'a [u8] {
+    let used = usize::from(used);
+    assert!(rt; used <= cells.len());
+    for (i, cell) in cells[..used].iter().enumerate() {
+        assert!(rt; i < 8);
+        assert_eq!(rt; octet >> (7 - i) & 1, *cell & 1);
+    }
+    &cells[used..]
+}
+
+#[test]
+fn packed_round_trip(rt: HostRuntime) {
+    for len in 0..=CELLS.len() {
+        let cells = &CELLS[..len];
+        let mut sink = MemorySink::new(rt.alloc());
+        assert_eq!(rt; pack(&rt, cells, &mut sink), Ok(()));
+        let mut packed = PackedIn::new();
+        let mut left = cells;
+        for octet in sink.bytes() {
+            assert!(rt; packed.seen() < 99);
+            if let Some(whole) = packed.feed_byte(*octet) {
+                left = compare(&rt, whole, 8, left);
+            }
+        }
+        match packed.end() {
+            Ok(Some((octet, used))) => left = compare(&rt, octet, used, left),
+            answer => assert_eq!(rt; answer, Ok(None)),
+        }
+        assert!(rt; left.is_empty(), "{len} cells");
+    }
+}
+
+/// Writes the cells of a text as text.
+fn put_text<T: Sink>(rt: &impl Abort, cells: &[u8], sink: &mut T) -> Result<(), Fault> {
+    let mut out = TextOut::new();
+    for cell in cells {
+        assert!(rt; !out.failed());
+        assert!(rt; sink.failures() < 9);
+        let put = out.put(sink, level_of(*cell == b'1'));
+        assert_eq!(rt; out.failed(), put.is_err());
+        put?;
+    }
+    Ok(())
+}
+
+#[test]
+fn sinks_that_take_few_bytes(rt: HostRuntime) {
+    let mut whole = MemorySink::new(rt.alloc());
+    assert_eq!(rt; put_text(&rt, &CELLS, &mut whole), Ok(()));
+    assert_eq!(rt; pack(&rt, &CELLS, &mut whole), Ok(()));
+    assert_eq!(rt; whole.bytes().len(), 2 * 65 + 2 * 8 + 2);
+    assert!(rt; whole.bytes().starts_with(&CELLS[..64]));
+    assert!(rt; whole.bytes().ends_with(&[0xC0, 0x06]));
+    for most in [1, 7, 64] {
+        let mut short = ShortSink::new(rt.alloc(), most);
+        assert_eq!(rt; put_text(&rt, &CELLS, &mut short), Ok(()));
+        assert_eq!(rt; pack(&rt, &CELLS, &mut short), Ok(()));
+        assert!(rt; short.bytes() == whole.bytes(), "at most {most}");
+        assert_eq!(rt; short.failures(), 0);
+    }
+}
+
+#[test]
+fn short_sink_takes_a_front(rt: HostRuntime) {
+    let mut short = ShortSink::new(rt.alloc(), 3);
+    assert_eq!(rt; short.write(b"abcde"), Ok(3));
+    assert_eq!(rt; short.write(b"fg"), Ok(2));
+    assert!(rt; short.bytes() == b"abcfg".as_slice());
+}
+
+#[test]
+fn sinks_that_fail_at_each_call(rt: HostRuntime) {
+    for (first_fault, lines, octets) in [(1, 0, 0), (2, 65, 8), (3, 130, 16), (4, 130, 18)] {
+        let mut text = FailingSink::new(rt.alloc(), first_fault);
+        let answer = put_text(&rt, &CELLS, &mut text);
+        assert_eq!(rt; answer.is_ok(), first_fault > 2, "call {first_fault}");
+        assert_eq!(rt; text.failures(), u64::from(first_fault <= 2));
+        assert_eq!(rt; text.bytes().len(), lines, "call {first_fault}");
+        let mut packed = FailingSink::new(rt.alloc(), first_fault);
+        let answer = pack(&rt, &CELLS, &mut packed);
+        assert_eq!(rt; answer.is_ok(), first_fault > 3, "call {first_fault}");
+        assert_eq!(rt; packed.failures(), u64::from(first_fault <= 3));
+        assert_eq!(rt; packed.bytes().len(), octets, "call {first_fault}");
+    }
+}
+
+/// Reads to the end or a fault, and answers how many of the expected bytes never came, and how many calls it took.
+fn read_all<S: Source>(rt: &impl Abort, source: &mut S, expected: &[u8]) -> (usize, u32) {
+    let mut left = expected;
+    for calls in 1..500 {
+        let mut piece = [0; 70];
+        assert!(rt; source.failures() < 9);
+        let n = source.read(&mut piece).unwrap_or(0);
+        if n == 0 {
+            return (left.len(), calls);
+        }
+        assert!(rt; n <= 70);
+        assert!(rt; n <= left.len());
+        assert!(rt; piece[..n] == left[..n]);
+        left = &left[n..];
+    }
+    (left.len(), 500)
+}
+
+#[test]
+fn sources_in_pieces(rt: HostRuntime) {
+    for (piece, calls) in [(1, 131), (7, 20), (64, 4), (65, 3), (4_096, 3)] {
+        let mut source = MemorySource::new(&CELLS, piece);
+        assert_eq!(rt; read_all(&rt, &mut source, &CELLS), (0, calls), "{piece}");
+        assert_eq!(rt; source.failures(), 0);
+    }
+    for first_fault in 1..=6 {
+        let mut source = FailingSource::new(&CELLS, 40, first_fault);
+        let given = (40 * first_fault as usize - 40).min(130);
+        let calls = first_fault.min(5) as u32;
+        assert_eq!(rt;
+            read_all(&rt, &mut source, &CELLS),
+            (130 - given, calls),
+            "{first_fault}"
+        );
+        assert_eq!(rt; source.failures(), u64::from(first_fault < 6));
+    }
+}
+
+#[test]
+fn endless_bytes(rt: HostRuntime) {
+    let mut source = EndlessSource::new(b'1', 64);
+    let mut piece = [0; 100];
+    assert_eq!(rt; source.read(&mut piece), Ok(64));
+    assert!(rt; piece[..64] == [b'1'; 64]);
+    assert!(rt; piece[64..] == [0; 36]);
+    let mut few = [0; 10];
+    assert_eq!(rt; source.read(&mut few), Ok(10));
+    assert_eq!(rt; few, [b'1'; 10]);
+    assert_eq!(rt; source.read(&mut []), Ok(0));
+    assert_eq!(rt; source.read(&mut few), Ok(10));
+    assert_eq!(rt; source.failures(), 0);
+}
+
+#[test]
+fn std_ends(rt: HostRuntime) {
+    let mut source = StdSource::new(b"abcde".as_slice());
+    let mut piece = [0; 3];
+    assert_eq!(rt; source.read(&mut piece), Ok(3));
+    assert_eq!(rt; piece, *b"abc");
+    assert_eq!(rt; source.read(&mut piece), Ok(2));
+    assert_eq!(rt; source.read(&mut piece), Ok(0));
+    assert_eq!(rt; source.failures(), 0);
+    let mut buffer = [0; 3];
+    let mut sink = StdSink::new(buffer.as_mut_slice());
+    assert_eq!(rt; sink.write(b""), Ok(0));
+    assert_eq!(rt; write_all(&mut sink, b"abcde"), Err(Fault));
+    assert_eq!(rt; sink.failures(), 1);
+}
+
+#[test]
+fn all_refusals(rt: HostRuntime) {
+    let rows = [
+        (RunError::BadCell { at: 5 }, 1, Some(5)),
+        (RunError::BadLength { left: 1_535 }, 2, Some(1_535)),
+        (RunError::BadCode { at: 0 }, 3, Some(0)),
+        (RunError::BadParity { at: 7 }, 4, Some(7)),
+        (RunError::Read, 5, None),
+        (RunError::Write, 6, None),
+        (RunError::TooLong, 7, None),
+        (RunError::Memory, 8, None),
+        (RunError::BadStatusText, 9, None),
+        (RunError::BadPadding { at: 1 }, 10, Some(1)),
+    ];
+    for (error, number, place) in rows {
+        assert_eq!(rt; error.number(), number);
+        assert_eq!(rt; error.place(), place, "refusal {number}");
+    }
+}

@@ -1,0 +1,92 @@
+-- What cells write through their reports.
+use Rattle.std.proofs.Common.{◌≡◌, ℕ, ◌≤◌, List, [], ◌∷◌, ◌++◌, length, drop, sym, ap, ap₂, ◌∙◌, append_assoc, append-nil, refl, arith, length-append, Option, Some, None, suc}
+use Rattle.aes3_cell.specs.declared.level.Level.{Level}
+use Rattle.aes3_lock.specs.declared.report.Report.{Report}
+use Rattle.aes3_lock.specs.Outcomes.{Outcome}
+use Rattle.aes3_lock.specs.Reports.{told, outcome_at, decided_at, decided_from, reports_from, decided, reports}
+use Rattle.aes3_lock.proofs.Deciding.{answer, decided-push}
+use Rattle.aes3_lock.proofs.Ends.{final, reports-split}
+use Rattle.aes3_engine.specs.Taking.{Writing, behind, before_end, with_end}
+use Rattle.aes3_engine.specs.Reporting.{decided_by, decided_at_end, reporting}
+use Rattle.aes3_engine.proofs.Items.{before-is, before-join}
+
+drop-front : {A : Type 0} (a b : List A) → drop (length a) (a ++ b) ≡ b
+drop-front [] b = refl
+drop-front (x ∷ a) b = drop-front a b
+
+pub answered : (c : List Level) (l : Level) (r : List Report) → decided (c ++ l ∷ []) ≡ decided c ++ r → decided_by c l ≡ r
+answered c l r e = ap (drop (length (decided c))) e ∙ drop-front (decided c) r
+
+pub concluded : (c : List Level) (r : List Report) → reports c ≡ decided c ++ r → decided_at_end c ≡ r
+concluded c r e = ap (drop (length (decided c))) e ∙ drop-front (decided c) r
+
+pub decided-more : (c : List Level) (l : Level) → decided (c ++ l ∷ []) ≡ decided c ++ decided_by c l
+unfolding decided
+decided-more c l = let e = decided-push 0 c l in e ∙ ap (λ r. decided_from 0 c ++ r) (sym (answered c l (answer 0 c l) e))
+
+pub reports-more : (c : List Level) → reports c ≡ decided c ++ decided_at_end c
+unfolding decided reports
+reports-more c = let e = reports-split 0 c in e ∙ ap (λ r. decided_from 0 c ++ r) (sym (concluded c (final 0 c) e))
+
+none-before : (w : Writing Report) → before_end w (decided []) ≡ []
+unfolding before_end decided
+none-before w = refl
+
+-- the output for cells is that for their reports
+pub before-reports : (w : Writing Report) (c : List Level) → before_end (reporting w) c ≡ before_end w (decided c)
+unfolding reporting
+before-reports w c =
+    before-is (reporting w) (λ c. before_end w (decided c)) (none-before w)
+    (λ c l. ap (before_end w) (decided-more c l) ∙ before-join w (decided c) (decided_by c l)) c
+
+pub with-reports : (w : Writing Report) (c : List Level) → with_end (reporting w) c ≡ with_end w (reports c)
+unfolding with_end reporting
+with-reports w c =
+    ap (λ o. o ++ (behind w (decided c) (decided_at_end c) ++ w.ends (reports c))) (before-reports w c)
+    ∙ sym (append_assoc (before_end w (decided c)) (behind w (decided c) (decided_at_end c)) (w.ends (reports c)))
+    ∙ ap (λ o. o ++ w.ends (reports c)) (sym (before-join w (decided c) (decided_at_end c)) ∙ ap (before_end w) (sym (reports-more c)))
+
+-- a cell begins one report at most
+told-few : (p : ℕ) (o : Option Outcome) → length (told p o) ≤ 1
+told-few p None = omega arith
+told-few p (Some o) = omega arith
+
+decided-few : (p : ℕ) (c : List Level) → length (decided_from p c) ≤ length c
+decided-few p [] = omega arith
+decided-few p (x ∷ c) =
+    let t = told-few p (decided_at (x ∷ c)) in let n = decided-few (suc p) c in let a = length-append (told p (decided_at (x ∷ c))) (decided_from (suc p) c) in omega arith
+
+reports-few : (p : ℕ) (c : List Level) → length (reports_from p c) ≤ length c
+reports-few p [] = omega arith
+reports-few p (x ∷ c) =
+    let t = told-few p (outcome_at (x ∷ c)) in let n = reports-few (suc p) c in let a = length-append (told p (outcome_at (x ∷ c))) (reports_from (suc p) c) in omega arith
+
+pub few-decided : (c : List Level) → length (decided c) ≤ length c
+unfolding decided
+few-decided c = decided-few 0 c
+
+pub few-reports : (c : List Level) → length (reports c) ≤ length c
+unfolding reports
+few-reports c = reports-few 0 c
+
+-- what one cell, and what the end, writes
+pub adds-one : (w : Writing Report) (c : List Level) (l : Level) (r : Report) → decided (c ++ l ∷ []) ≡ decided c ++ r ∷ [] → (reporting w).adds c l ≡ w.adds (decided c) r
+unfolding reporting
+adds-one w c l r e = ap (behind w (decided c)) (answered c l (r ∷ []) e) ∙ append-nil (w.adds (decided c) r)
+
+pub adds-none : (w : Writing Report) (c : List Level) (l : Level) → decided (c ++ l ∷ []) ≡ decided c ++ [] → (reporting w).adds c l ≡ []
+unfolding reporting
+adds-none w c l e = ap (behind w (decided c)) (answered c l [] e)
+
+pub ends-one : (w : Writing Report) (c : List Level) (r : Report) → reports c ≡ decided c ++ r ∷ [] → (reporting w).ends c ≡ w.adds (decided c) r ++ w.ends (decided c ++ r ∷ [])
+unfolding reporting
+ends-one w c r e =
+    ap₂ (λ a b. behind w (decided c) a ++ w.ends b) (concluded c (r ∷ []) e) e
+    ∙ ap (λ z. z ++ w.ends (decided c ++ r ∷ [])) (append-nil (w.adds (decided c) r))
+
+pub ends-none : (w : Writing Report) (c : List Level) → reports c ≡ decided c ++ [] → (reporting w).ends c ≡ w.ends (decided c)
+unfolding reporting
+ends-none w c e = ap₂ (λ a b. behind w (decided c) a ++ w.ends b) (concluded c [] e) (e ∙ append-nil (decided c))
+
+pub same-reporting : {w v : Writing Report} → w ≡ v → reporting w ≡ reporting v
+same-reporting e = ap reporting e

@@ -1,0 +1,67 @@
+-- The payloads of a block and the bits of its subframes.
+use Rattle.std.proofs.Common.{◌≡◌, zero, suc, List, [], ◌∷◌, Bool, true, false, map, refl, length, take, ap, ap₂, ◌∙◌, sym, arith, length-take, ◌⊎◌, inl, inr}
+use Rattle.std.specs.List.{All}
+use Rattle.std.proofs.lemmas.Bool.{cases_Bool}
+use Rattle.std.proofs.lemmas.List.{length-map, take_at}
+use Rattle.aes3_slot.specs.Bits.{odd_ones}
+use Rattle.aes3_slot.specs.Slots.{slots_len, payload_len, with_parity, IsPayload}
+use Rattle.aes3_slot.specs.Rules.{Each28}
+use Rattle.aes3_slot.proofs.Parity.{split-parity}
+use Rattle.aes3_slot.proofs.Subframes.{odd_ones-with_parity, length-with_parity}
+use Rattle.aes3_block.specs.Blocks.{block_slots, IsBlock}
+use Rattle.aes3_block.proofs.Runs.{Each27}
+use Rattle.aes3_lock.specs.Outcomes.{payloads_of, wrong_parities}
+
+-- 27 bits each
+pub each27-all : (b : List (List Bool)) → All IsPayload b → Each27 b
+each27-all [] h = tt
+each27-all (p ∷ b) h = (h 0 [] (omega arith), each27-all b (λ k d l. h (suc k) d (omega arith)))
+
+pub all-each27 : (b : List (List Bool)) → Each27 b → All IsPayload b
+all-each27 [] h k d l = absurd (omega arith)
+all-each27 (p ∷ b) h zero d l = h.0
+all-each27 (p ∷ b) h (suc k) d l = all-each27 b h.1 k d (omega arith)
+
+-- with their parity bits 28
+pub each28-payloads : (b : List (List Bool)) → Each27 b → Each28 (map with_parity b)
+unfolding slots_len
+each28-payloads [] h = tt
+each28-payloads (p ∷ b) h = (length-with_parity p h.0, each28-payloads b h.1)
+
+pub payloads-with_parity : (b : List (List Bool)) → Each27 b → payloads_of (map with_parity b) ≡ b
+unfolding payload_len
+payloads-with_parity [] h = refl
+payloads-with_parity (p ∷ b) h = ap₂ (λ x y. x ∷ y) (take_at p (odd_ones p ∷ []) 27 h.0) (payloads-with_parity b h.1)
+
+pub right-with_parity : (b : List (List Bool)) → wrong_parities (map with_parity b) ≡ 0
+right-with_parity [] = refl
+right-with_parity (p ∷ b) =
+    let o = odd_ones-with_parity p in
+    rw o (right-with_parity b)
+
+-- back: subframes none of which has a wrong parity bit
+pub each27-payloads_of : (slots : List (List Bool)) → Each28 slots → Each27 (payloads_of slots)
+unfolding payload_len
+each27-payloads_of [] e = tt
+each27-payloads_of (bits ∷ more) e = (let l = length-take 27 bits in let n = e.0 in omega arith, each27-payloads_of more e.1)
+
+with_parity-payloads : (bits : List Bool) → length bits ≡ 28 → odd_ones bits ≡ false → with_parity (take payload_len bits) ≡ bits
+unfolding payload_len
+with_parity-payloads bits l o =
+    let p = split-parity 27 bits l o in
+    ap (λ x. with_parity (take 27 x)) p.2 ∙ ap with_parity (take_at p.0 (odd_ones p.0 ∷ []) 27 p.1) ∙ sym p.2
+
+pub slots-right : (slots : List (List Bool)) → Each28 slots → wrong_parities slots ≡ 0 → map with_parity (payloads_of slots) ≡ slots
+slots-right [] e w = refl
+slots-right (bits ∷ more) e w = go (cases_Bool (odd_ones bits)) (slots-right more e.1)
+  where
+    go : (odd_ones bits ≡ true) ⊎ (odd_ones bits ≡ false) → (wrong_parities more ≡ 0 → map with_parity (payloads_of more) ≡ more)
+        → map with_parity (payloads_of (bits ∷ more)) ≡ bits ∷ more
+    go (inl o) rest = absurd (let z : suc (wrong_parities more) ≡ 0 = rw o at w in omega arith)
+    go (inr o) rest =
+        let z : wrong_parities more ≡ 0 = rw o at w in
+        ap₂ (λ x y. x ∷ y) (with_parity-payloads bits e.0 o) (rest z)
+
+pub block-payloads : (slots : List (List Bool)) → length slots ≡ block_slots → Each28 slots → IsBlock (payloads_of slots)
+block-payloads slots n e =
+    record { count = length-map slots (take payload_len) ∙ n; payloads = all-each27 (payloads_of slots) (each27-payloads_of slots e) }

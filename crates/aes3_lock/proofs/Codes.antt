@@ -1,0 +1,136 @@
+-- What the small steps of a lock answer.
+use Rattle.std.proofs.Common.{◌≡◌, ◌≢◌, ℕ, zero, suc, ◌+◌, ◌-◌, ◌*◌, ◌/◌, ◌%◌, ◌^◌, ◌<◌, ◌≤◌, ◌⊎◌, inl, inr, List, [], ◌∷◌, Bool, true, false, not, cond, eqb, leb, ltb, ◌&&◌, Option, Some, None, refl, length, map, take, ap, ap₂, ◌∙◌, sym, arith, eq-eqb, ne_eqb, eqb-true, lt-ltb, le-ltb, ltb-true, le-leb, true≢false}
+use Rattle.std.specs.Prelude.{bit_or}
+use Rattle.std.proofs.lemmas.Bool.{lt-leb, and_parts, false_from_ne_true, cases_lt}
+use Rattle.aes3_cell.specs.declared.level.Level.{Level}
+use Rattle.aes3_cell.specs.declared.level.Level.TheVariants.{Low, High}
+use Rattle.aes3_cell.specs.Cells.{line}
+use Rattle.aes3_slot.specs.declared.mark.Mark.{Mark}
+use Rattle.aes3_slot.specs.declared.mark.Mark.TheVariants.{X, Y, Z}
+use Rattle.aes3_slot.specs.Bits.{low_bits}
+use Rattle.aes3_slot.specs.Slots.{mark_runs, payload_len, payload_bits, slots_len, slots_bits}
+use Rattle.aes3_slot.specs.Rules.{rule}
+use Rattle.aes3_slot.specs.Reading.{same, differs}
+use Rattle.aes3_block.specs.Blocks.{block_slots, block_len, mark_at}
+use Rattle.aes3_lock.specs.declared.report.Report.{Report}
+use Rattle.aes3_lock.specs.declared.report.Report.TheVariants.{Whole, Marked, Fault, Unfinished}
+use Rattle.aes3_lock.specs.declared.report.Why.TheVariants.{Preamble, Biphase, Unclosed}
+use Rattle.aes3_lock.specs.declared.candidate.Candidate.{Candidate}
+use Rattle.aes3_lock.specs.Candidates.{entry, begins_with, begins_block}
+use Rattle.aes3_lock.specs.Outcomes.{fault, unfinished, Outcome, payloads_of, wrong_parities, block_outcome, why_of}
+use Rattle.aes3_lock.specs.Reports.{report_of}
+use Rattle.aes3_lock.specs.Steps.{begins_a_block, begun, ended, left, slots_with}
+use Rattle.aes3_lock.proofs.Deciding.{begins-cells, block_len_24576}
+use Rattle.aes3_lock.proofs.Following.{begun-some, begun-none}
+
+-- the payloads of the bits of subframes
+take-low : (m n w : ℕ) → m ≤ n → take m (low_bits n w) ≡ low_bits m w
+take-low zero n w h = refl
+take-low (suc m) zero w h = absurd (omega arith)
+take-low (suc m) (suc n) w h = ap (λ x. eqb (w % 2) 1 ∷ x) (take-low m n (w / 2) (omega arith))
+
+pub payloads-slots : (slots : List ℕ) → map payload_bits slots ≡ payloads_of (map slots_bits slots)
+unfolding payload_len slots_len
+payloads-slots [] = refl
+payloads-slots (w ∷ slots) = ap₂ (λ x y. x ∷ y) (sym (take-low 27 28 w (omega arith))) (payloads-slots slots)
+
+pub block-whole : (at : ℕ) (s : Level) (slots : List ℕ) (wrong : ℕ) (b : List (List Bool)) → wrong ≡ wrong_parities (map slots_bits slots) → wrong ≡ 0
+    → b ≡ map payload_bits slots → Whole at s b ≡ report_of at (block_outcome s (map slots_bits slots))
+block-whole at s slots wrong b e z f =
+    let t : eqb (wrong_parities (map slots_bits slots)) 0 ≡ true = eq-eqb _ 0 (sym e ∙ z) in
+    rw t (ap (Whole at s) (f ∙ payloads-slots slots))
+
+-- a candidate that the last eight cells show
+Z-begins : (s : Level) → begins_block (line s (mark_runs Z)) ≡ true
+unfolding begins_with
+Z-begins Low = refl
+Z-begins High = refl
+
+Z-entry : (s : Level) → entry (line s (mark_runs Z)) ≡ s
+Z-entry Low = refl
+Z-entry High = refl
+
+pub begun-Z : (n : ℕ) (recent : List Level) (s : Level) → 8 ≤ n → recent ≡ line s (mark_runs Z)
+    → begun n recent ≡ Some (record { at = n - 8; before = s; level = s })
+begun-Z n recent s h e =
+    begun-some n recent h (ap begins_block e ∙ Z-begins s)
+    ∙ ap (λ t. Some (record { at = n - 8; before = t; level = t })) (ap entry e ∙ Z-entry s)
+
+pub begun-short : (n : ℕ) (recent : List Level) → n < 8 → begun n recent ≡ None
+begun-short n recent h = begun-none n recent (λ g. absurd (omega arith))
+
+pub begun-other : (n : ℕ) (recent : List Level) → take 8 recent ≡ recent → ((s : Level) → recent ≡ line s (mark_runs Z) → ⊥) → begun n recent ≡ None
+begun-other n recent e f = begun-none n recent (λ g. false_from_ne_true (begins_block recent) (λ b. f (entry recent) (sym e ∙ begins-cells recent b)))
+
+-- a block's number of cells as the code has it
+pub block_lt : (o : ℕ) (b : Bool) → o < 24576 → ltb o block_len && b ≡ b
+block_lt o b h = let n = block_len_24576 in let t : ltb o block_len ≡ true = lt-ltb o block_len (omega arith) in rw t refl
+
+pub block_ge : (o : ℕ) (b : Bool) → 24576 ≤ o → ltb o block_len && b ≡ false
+block_ge o b h = let n = block_len_24576 in let t : ltb o block_len ≡ false = le-ltb o block_len (omega arith) in rw t refl
+
+pub ended-block : (s : Level) (o : ℕ) (b : Bool) (slots : List (List Bool)) → 24576 ≤ o → b ≡ false → ended s o b slots ≡ block_outcome s slots
+ended-block s o b slots h e =
+    let n = block_len_24576 in
+    let t : ltb o block_len ≡ false = le-ltb o block_len (omega arith) in
+    rw (t, e) refl
+
+pub ended-early : (s : Level) (o : ℕ) (b : Bool) (slots : List (List Bool)) → o < 24576 → ended s o b slots ≡ fault o
+ended-early s o b slots h =
+    let n = block_len_24576 in
+    let t : ltb o block_len ≡ true = lt-ltb o block_len (omega arith) in
+    rw t refl
+
+pub ended-unclosed : (s : Level) (o : ℕ) (b : Bool) (slots : List (List Bool)) → 24576 ≤ o → b ≡ true → ended s o b slots ≡ fault o
+ended-unclosed s o b slots h e =
+    let n = block_len_24576 in
+    let t : ltb o block_len ≡ false = le-ltb o block_len (omega arith) in
+    rw (t, e) refl
+
+pub left-block : (s : Level) (o : ℕ) (slots : List (List Bool)) → 24576 ≤ o → left s o slots ≡ block_outcome s slots
+left-block s o slots h =
+    let n = block_len_24576 in
+    let t : ltb o block_len ≡ false = le-ltb o block_len (omega arith) in
+    rw t refl
+
+pub left-early : (s : Level) (o : ℕ) (slots : List (List Bool)) → o < 24576 → left s o slots ≡ unfinished o
+left-early s o slots h =
+    let n = block_len_24576 in
+    let t : ltb o block_len ≡ true = lt-ltb o block_len (omega arith) in
+    rw t refl
+
+pub same-differs : (a b : Level) → same a b ≡ not (differs b a)
+same-differs Low Low = refl
+same-differs Low High = refl
+same-differs High Low = refl
+same-differs High High = refl
+
+-- by its mark
+pub mark-Z : (m : Mark) → begins_a_block m ≡ true → m ≡ Z
+mark-Z X e = cc
+mark-Z Y e = cc
+mark-Z Z e = refl
+
+is_Z : Option (Mark × Level) → Bool
+is_Z None = false
+is_Z (Some m) = begins_a_block m.0
+
+pub other-mark : (m : Mark) (s t : Level) (r : Option (Mark × Level)) → r ≡ Some (m, s) → begins_a_block m ≡ false → r ≡ Some (Z, t) → ⊥
+unfolding is_Z
+other-mark m s t r e b f = true≢false (sym (ap is_Z (sym e ∙ f)) ∙ b)
+
+pub none-some : {A : Type 0} {x : A} → ◌≡◌ {A = Option A} None (Some x) → ⊥
+none-some e = cc
+
+-- a cell that goes on with a candidate, and one that does not
+pub goes : (o : ℕ) (x b p q : Level) (r : Bool) → r ≡ ltb o block_len && rule mark_at o x b p → p ≡ q → r ≡ true
+    → (o < block_len) × (rule mark_at o x b q ≡ true)
+goes o x b p q r e f h =
+    let t = and_parts (ltb o block_len) (rule mark_at o x b p) (sym e ∙ h) in
+    (ltb-true o block_len t.0, ap (rule mark_at o x b) (sym f) ∙ t.1)
+
+pub stops : (o : ℕ) (x b p q : Level) (r : Bool) → r ≡ ltb o block_len && rule mark_at o x b p → p ≡ q → r ≡ false
+    → o < block_len → rule mark_at o x b q ≡ false
+stops o x b p q r e f h g =
+    let t = lt-ltb o block_len g in
+    ap (rule mark_at o x b) (sym f) ∙ rw t at (sym e ∙ h)

@@ -1,0 +1,78 @@
+-- The last eight cells.
+use Rattle.std.proofs.Common.{◌≡◌, ℕ, zero, suc, ◌+◌, ◌-◌, ◌*◌, ◌/◌, ◌%◌, ◌<◌, ◌≤◌, List, [], ◌∷◌, ◌++◌, refl, length, drop, get_or, replicate, ap, ap₂, ◌∙◌, sym, arith, length-append, length-drop, drop-drop, drop_at, get_or-drop, append_assoc}
+use Rattle.std.proofs.lemmas.List.{drop-append-le}
+use Rattle.aes3_cell.specs.declared.level.Level.{Level}
+use Rattle.aes3_cell.specs.declared.level.Level.TheVariants.{Low, High}
+use Rattle.aes3_cell.specs.Words.{low_cells, level_of, bit_of}
+use Rattle.aes3_slot.specs.Rules.{at, before}
+use Rattle.aes3_lock.specs.Steps.{last_eight, eight_with}
+
+-- a byte with one more cell
+pub byte-with : (w : ℕ) (l : Level) → w < 256 → low_cells 8 (w / 2 + 128 * bit_of l) ≡ eight_with (low_cells 8 w) l
+byte-with w Low h =
+    let e0 : (w / 2 + 128 * 0) % 2 ≡ w / 2 % 2 = omega arith in
+    let e1 : (w / 2 + 128 * 0) / 2 % 2 ≡ w / 2 / 2 % 2 = omega arith in
+    let e2 : (w / 2 + 128 * 0) / 2 / 2 % 2 ≡ w / 2 / 2 / 2 % 2 = omega arith in
+    let e3 : (w / 2 + 128 * 0) / 2 / 2 / 2 % 2 ≡ w / 2 / 2 / 2 / 2 % 2 = omega arith in
+    let e4 : (w / 2 + 128 * 0) / 2 / 2 / 2 / 2 % 2 ≡ w / 2 / 2 / 2 / 2 / 2 % 2 = omega arith in
+    let e5 : (w / 2 + 128 * 0) / 2 / 2 / 2 / 2 / 2 % 2 ≡ w / 2 / 2 / 2 / 2 / 2 / 2 % 2 = omega arith in
+    let e6 : (w / 2 + 128 * 0) / 2 / 2 / 2 / 2 / 2 / 2 % 2 ≡ w / 2 / 2 / 2 / 2 / 2 / 2 / 2 % 2 = omega arith in
+    let e7 : (w / 2 + 128 * 0) / 2 / 2 / 2 / 2 / 2 / 2 / 2 % 2 ≡ 0 = omega arith in
+    rw (e0, e1, e2, e3, e4, e5, e6, e7) refl
+byte-with w High h =
+    let e0 : (w / 2 + 128 * 1) % 2 ≡ w / 2 % 2 = omega arith in
+    let e1 : (w / 2 + 128 * 1) / 2 % 2 ≡ w / 2 / 2 % 2 = omega arith in
+    let e2 : (w / 2 + 128 * 1) / 2 / 2 % 2 ≡ w / 2 / 2 / 2 % 2 = omega arith in
+    let e3 : (w / 2 + 128 * 1) / 2 / 2 / 2 % 2 ≡ w / 2 / 2 / 2 / 2 % 2 = omega arith in
+    let e4 : (w / 2 + 128 * 1) / 2 / 2 / 2 / 2 % 2 ≡ w / 2 / 2 / 2 / 2 / 2 % 2 = omega arith in
+    let e5 : (w / 2 + 128 * 1) / 2 / 2 / 2 / 2 / 2 % 2 ≡ w / 2 / 2 / 2 / 2 / 2 / 2 % 2 = omega arith in
+    let e6 : (w / 2 + 128 * 1) / 2 / 2 / 2 / 2 / 2 / 2 % 2 ≡ w / 2 / 2 / 2 / 2 / 2 / 2 / 2 % 2 = omega arith in
+    let e7 : (w / 2 + 128 * 1) / 2 / 2 / 2 / 2 / 2 / 2 / 2 % 2 ≡ 1 = omega arith in
+    rw (e0, e1, e2, e3, e4, e5, e6, e7) refl
+
+-- its last cell
+pub byte-last : (w : ℕ) → w < 256 → at (low_cells 8 w) 7 ≡ level_of (w / 128)
+byte-last w h = ap level_of (let e : w / 2 / 2 / 2 / 2 / 2 / 2 / 2 % 2 ≡ w / 128 = omega arith in e)
+
+abbrev pad : List Level
+pad = replicate 8 Low
+
+pub last_eight-with : (c : List Level) (l : Level) → last_eight (c ++ l ∷ []) ≡ eight_with (last_eight c) l
+unfolding last_eight
+last_eight-with c l =
+    let n = length-append c (l ∷ []) in
+    let m = length-append pad c in
+    let k = length-drop (length c) (pad ++ c) in
+    ap₂ drop n (sym (append_assoc pad c (l ∷ [])))
+    ∙ sym (drop-drop 1 (length c) ((pad ++ c) ++ l ∷ []))
+    ∙ ap (drop 1) (drop-append-le (length c) (pad ++ c) (l ∷ []) (omega (arith, m)))
+    ∙ drop-append-le 1 (drop (length c) (pad ++ c)) (l ∷ []) (omega (arith, k, m))
+
+pub last_eight-is : (c : List Level) → 8 ≤ length c → last_eight c ≡ drop (length c - 8) c
+unfolding last_eight
+last_eight-is c h =
+    let n : length c ≡ 8 + (length c - 8) = omega arith in
+    ap (λ n. drop n (pad ++ c)) n ∙ sym (drop-drop (length c - 8) 8 (pad ++ c)) ∙ ap (drop (length c - 8)) (drop_at pad c 8 refl)
+
+pub last_eight-nil : last_eight [] ≡ low_cells 8 0
+unfolding last_eight
+last_eight-nil = refl
+
+last-cell : (c : List Level) → 1 ≤ length c → at (last_eight c) 7 ≡ at c (length c - 1)
+unfolding last_eight
+last-cell c h =
+    let b = get_or-drop (length c) (pad ++ c) 7 Low in
+    let n : length c + 7 ≡ 8 + (length c - 1) = omega arith in
+    b ∙ ap (at (pad ++ c)) n ∙ sym (get_or-drop 8 (pad ++ c) (length c - 1) Low) ∙ ap (λ x. at x (length c - 1)) (drop_at pad c 8 refl)
+
+pub before-at : (s : Level) (d : List Level) (n : ℕ) → 1 ≤ n → before s d n ≡ at d (n - 1)
+before-at s d zero h = absurd (omega arith)
+before-at s d (suc n) h = ap (at d) (let e : n ≡ suc n - 1 = omega arith in e)
+
+-- the last cell of what is left from p on
+pub last-before : (s : Level) (c : List Level) (p : ℕ) → p < length c → at (last_eight c) 7 ≡ before s (drop p c) (length (drop p c))
+last-before s c p h =
+    let l = length-drop p c in
+    let n : length c - 1 ≡ p + (length (drop p c) - 1) = omega (arith, l, h) in
+    last-cell c (omega arith) ∙ ap (at c) n ∙ sym (get_or-drop p c (length (drop p c) - 1) Low)
+    ∙ sym (before-at s (drop p c) (length (drop p c)) (omega (arith, l, h)))

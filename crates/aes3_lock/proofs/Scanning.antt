@@ -1,0 +1,141 @@
+-- The preamble that one more cell ends.
+use Rattle.std.proofs.Common.{◌≡◌, ℕ, zero, suc, ◌+◌, ◌-◌, ◌<◌, ◌≤◌, ◌⊎◌, inl, inr, List, [], ◌∷◌, ◌++◌, Bool, true, false, cond, Option, Some, None, refl, length, take, drop, ap, ap₂, ◌∙◌, sym, arith, length-append, length-drop, append_assoc, append-nil, take_all}
+use Rattle.std.specs.Prelude.{option_to_list, option_map}
+use Rattle.std.proofs.lemmas.Bool.{cases_order, false_from_ne_true}
+use Rattle.std.proofs.lemmas.List.{take-append-le}
+use Rattle.aes3_cell.specs.declared.level.Level.{Level}
+use Rattle.aes3_cell.specs.declared.level.Level.TheVariants.{Low, High}
+use Rattle.aes3_cell.specs.Cells.{line}
+use Rattle.aes3_slot.specs.declared.mark.Mark.{Mark}
+use Rattle.aes3_slot.specs.declared.mark.Mark.TheVariants.{X, Y, Z}
+use Rattle.aes3_slot.specs.Slots.{mark_runs}
+use Rattle.aes3_slot.proofs.Index.{length-mark}
+use Rattle.aes3_lock.specs.Candidates.{entry, begins_with, same_cells}
+use Rattle.aes3_lock.specs.Preambles.{first_mark, placed, marks_from, marks}
+use Rattle.aes3_lock.specs.Steps.{last_eight, eight_with}
+use Rattle.aes3_lock.specs.Following.{ScanState, ScanFollows}
+use Rattle.aes3_lock.proofs.Deciding.{same_cells-true, entry-append}
+use Rattle.aes3_lock.proofs.LastEight.{last_eight-with, last_eight-is, last_eight-nil}
+
+-- cells behind the eighth count for nothing
+mark-append : (m : Mark) (c d : List Level) → 8 ≤ length c → begins_with m (c ++ d) ≡ begins_with m c
+unfolding begins_with
+mark-append m c d h = ap₂ (λ x y. same_cells x (line y (mark_runs m))) (take-append-le 8 c d h) (entry-append c d (omega arith))
+
+first_mark-append : (c d : List Level) → 8 ≤ length c → first_mark (c ++ d) ≡ first_mark c
+unfolding first_mark
+first_mark-append c d h =
+    let x = mark-append X c d h in
+    let y = mark-append Y c d h in
+    let z = mark-append Z c d h in
+    let e = entry-append c d (omega arith) in
+    rw (x, y, z, e) refl
+
+-- fewer than eight are no preamble
+mark-short : (m : Mark) (c : List Level) → length c < 8 → begins_with m c ≡ false
+unfolding begins_with
+mark-short m c h = false_from_ne_true (begins_with m c) (λ b.
+    let e = ap length (same_cells-true (take 8 c) (line (entry c) (mark_runs m)) b) ∙ length-mark (entry c) m in
+    let t = ap length (take_all 8 c (omega arith)) in
+    omega (arith, e, t))
+
+first_mark-short : (c : List Level) → length c < 8 → first_mark c ≡ None
+unfolding first_mark
+first_mark-short c h =
+    let x = mark-short X c h in
+    let y = mark-short Y c h in
+    let z = mark-short Z c h in
+    rw (x, y, z) refl
+
+marks-short : (p : ℕ) (c : List Level) → length c < 8 → marks_from p c ≡ []
+marks-short p [] h = refl
+marks-short p (x ∷ c) h =
+    let e = first_mark-short (x ∷ c) h in
+    let r = marks-short (suc p) c (omega arith) in
+    rw (e, r) refl
+
+-- the preamble that the last eight cells are
+abbrev pub ending : ℕ → List Level → List (ℕ × Mark × Level)
+ending p c = option_to_list (option_map (placed (p + (length c - 8))) (first_mark (drop (length c - 8) c)))
+
+marks-push : (p : ℕ) (c : List Level) (l : Level) → marks_from p (c ++ l ∷ []) ≡ marks_from p c ++ ending p (c ++ l ∷ [])
+marks-push p [] l =
+    let e = first_mark-short (l ∷ []) (omega arith) in
+    rw e refl
+marks-push p (x ∷ c) l = go (cases_order (length c) 6) (marks-push (suc p) c l)
+  where
+    n : length (c ++ l ∷ []) ≡ length c + 1
+    n = length-append c (l ∷ [])
+
+    go : (length c ≡ 6) ⊎ ((length c < 6) ⊎ (6 < length c))
+        → marks_from (suc p) (c ++ l ∷ []) ≡ marks_from (suc p) c ++ ending (suc p) (c ++ l ∷ [])
+        → marks_from p (x ∷ c ++ l ∷ []) ≡ marks_from p (x ∷ c) ++ ending p (x ∷ c ++ l ∷ [])
+    go (inl g) ih =
+        let a = marks-short (suc p) (c ++ l ∷ []) (omega (arith, n, g)) in
+        let b = marks-short p (x ∷ c) (omega (arith, g)) in
+        let z : suc (length (c ++ l ∷ [])) - 8 ≡ 0 = omega (arith, n, g) in
+        let q : p + 0 ≡ p = omega arith in
+        rw (a, b, z, q) (append-nil _)
+    go (inr (inl g)) ih =
+        let a = marks-short p (x ∷ c ++ l ∷ []) (omega (arith, n, g)) in
+        let b = marks-short p (x ∷ c) (omega (arith, g)) in
+        let z : suc (length (c ++ l ∷ [])) - 8 ≡ 0 = omega (arith, n, g) in
+        let e = first_mark-short (x ∷ c ++ l ∷ []) (omega (arith, n, g)) in
+        a ∙ sym (ap₂ (λ u v. u ++ v) b (ap (λ k. option_to_list (option_map (placed (p + k)) (first_mark (drop k (x ∷ c ++ l ∷ []))))) z
+        ∙ ap (λ o. option_to_list (option_map (placed (p + 0)) o)) e))
+    go (inr (inr g)) ih =
+        let e = first_mark-append (x ∷ c) (l ∷ []) (omega (arith, g)) in
+        let z : suc (length (c ++ l ∷ [])) - 8 ≡ suc (length (c ++ l ∷ []) - 8) = omega (arith, n, g) in
+        let q : p + suc (length (c ++ l ∷ []) - 8) ≡ suc p + (length (c ++ l ∷ []) - 8) = omega arith in
+        ap₂ (λ o r. option_to_list (option_map (placed p) o) ++ r) e ih
+        ∙ sym (append_assoc (option_to_list (option_map (placed p) (first_mark (x ∷ c)))) (marks_from (suc p) c) (ending (suc p) (c ++ l ∷ [])))
+        ∙ ap (λ r. marks_from p (x ∷ c) ++ r)
+        (sym (ap (λ k. option_to_list (option_map (placed (p + k)) (first_mark (drop k (x ∷ c ++ l ∷ []))))) z
+        ∙ ap (λ k. option_to_list (option_map (placed k) (first_mark (drop (length (c ++ l ∷ []) - 8) (c ++ l ∷ []))))) q))
+
+-- eight cells that are a preamble, or none
+pub first_mark-line : (m : Mark) (s : Level) (d : List Level) → d ≡ line s (mark_runs m) → first_mark d ≡ Some (m, s)
+unfolding first_mark begins_with
+first_mark-line m s d e = ap first_mark e ∙ go m s
+  where
+    go : (m : Mark) (s : Level) → first_mark (line s (mark_runs m)) ≡ Some (m, s)
+    go X Low = refl
+    go X High = refl
+    go Y Low = refl
+    go Y High = refl
+    go Z Low = refl
+    go Z High = refl
+
+pub first_mark-none : (d : List Level) → take 8 d ≡ d → ((m : Mark) (s : Level) → d ≡ line s (mark_runs m) → ⊥) → first_mark d ≡ None
+unfolding first_mark begins_with
+first_mark-none d t f = rw (not X, not Y, not Z) refl
+  where
+    not : (m : Mark) → same_cells (take 8 d) (line (entry d) (mark_runs m)) ≡ false
+    not m = false_from_ne_true (same_cells (take 8 d) (line (entry d) (mark_runs m)))
+        (λ b. f m (entry d) (sym t ∙ same_cells-true (take 8 d) (line (entry d) (mark_runs m)) b))
+
+-- a scan with one more cell
+module _ (k k' : ScanState) (c : List Level) (l : Level) (f : ScanFollows k c) (n : k'.seen ≡ k.seen + 1) (r : k'.recent ≡ eight_with k.recent l) where
+  pub scan-follows : ScanFollows k' (c ++ l ∷ [])
+  scan-follows = record {
+    seen = let a = length-append c (l ∷ []) in let b = f.seen in omega (arith, a, b, n);
+    recent = r ∙ ap (λ x. eight_with x l) f.recent ∙ sym (last_eight-with c l);
+  }
+
+  pub scan-short : k'.seen < 8 → marks (c ++ l ∷ []) ≡ marks c ++ []
+  unfolding marks
+  scan-short h =
+      let s = scan-follows.seen in
+      let a = length-append c (l ∷ []) in
+      marks-short 0 (c ++ l ∷ []) (omega (arith, s, h)) ∙ sym (ap (λ x. x ++ []) (marks-short 0 c (omega (arith, a, s, h))))
+
+  pub scan-mark : 8 ≤ k'.seen → marks (c ++ l ∷ []) ≡ marks c ++ option_to_list (option_map (placed (k'.seen - 8)) (first_mark k'.recent))
+  unfolding marks
+  scan-mark h =
+      let s = scan-follows.seen in
+      let e : k'.recent ≡ drop (length (c ++ l ∷ []) - 8) (c ++ l ∷ []) = scan-follows.recent ∙ last_eight-is (c ++ l ∷ []) (omega (arith, s, h)) in
+      let q : 0 + (length (c ++ l ∷ []) - 8) ≡ k'.seen - 8 = omega (arith, s) in
+      marks-push 0 c l ∙ ap₂ (λ p d. marks_from 0 c ++ option_to_list (option_map (placed p) (first_mark d))) q (sym e)
+
+pub scan-nil : (k : ScanState) → k.seen ≡ 0 → k.recent ≡ last_eight [] → ScanFollows k []
+scan-nil k a b = record { seen = a; recent = b }

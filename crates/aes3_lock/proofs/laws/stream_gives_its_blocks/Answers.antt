@@ -1,0 +1,5 @@
+use Rattle.aes3_lock.proofs.NormalStreams.{stream-blocks, streams-differ}
+use Rattle.aes3_lock.proofs.laws.stream_gives_its_blocks.Goals as goal
+
+pub returns : goal.returns
+returns c = record { blocks = stream-blocks; differ = streams-differ }

@@ -1,0 +1,26 @@
+use Rattle.std.proofs.Common.{◌≡◌, ◌+◌, true, false, not, sym, ap, ◌∙◌, arith, map}
+use Rattle.aes3_slot.specs.Slots.{slots_bits}
+use Rattle.aes3_slot.specs.Reading.{same}
+use Rattle.aes3_lock.specs.declared.report.Report.TheVariants.{Fault}
+use Rattle.aes3_lock.specs.Reports.{report_of}
+use Rattle.aes3_lock.proofs.Codes.{ended-block, ended-early, ended-unclosed, same-differs}
+use Rattle.aes3_lock.proofs.outcome.end_report.Goals as goal
+use Rattle.aes3_lock.proofs.outcome.end_report.Goals.{else-offset-ge-BLOCK_CELLS-via-then-offset-ge-BLOCK_CELLS+else-turns, else-offset-ge-BLOCK_CELLS-via-else-offset-ge-BLOCK_CELLS}
+
+pub returns-then-turns : goal.returns-then-turns
+returns-then-turns c =
+    let e : same c.args.cell c.args.previous ≡ false = same-differs c.args.cell c.args.previous ∙ ap not (sym c.turns.ensures ∙ c.if-turns.true) in
+    c.block_report.ensures
+    ∙ ap (report_of c.args.candidate.at)
+    (sym (ended-block c.args.candidate.before c.args.offset (same c.args.cell c.args.previous) (map slots_bits c.args.slots.now) (omega arith) e))
+
+pub returns-else-offset-ge-BLOCK_CELLS : goal.returns-else-offset-ge-BLOCK_CELLS
+returns-else-offset-ge-BLOCK_CELLS c =
+    ap (Fault c.args.candidate.at (c.args.candidate.at + c.args.offset)) c.reason.ensures
+    ∙ ap (report_of c.args.candidate.at) (elim c.else-offset-ge-BLOCK_CELLS.branch [
+      | else-offset-ge-BLOCK_CELLS-via-then-offset-ge-BLOCK_CELLS+else-turns w ↦
+          sym (ended-unclosed c.args.candidate.before c.args.offset (same c.args.cell c.args.previous) (map slots_bits c.args.slots.now) (omega arith)
+          (same-differs c.args.cell c.args.previous ∙ ap not (sym w.turns.ensures ∙ w.if-turns.false)))
+      | else-offset-ge-BLOCK_CELLS-via-else-offset-ge-BLOCK_CELLS w ↦
+          sym (ended-early c.args.candidate.before c.args.offset (same c.args.cell c.args.previous) (map slots_bits c.args.slots.now) (omega arith))
+    ])

@@ -1,0 +1,9 @@
+use Rattle.std.proofs.Common.{◌≡◌, arith, sym, ap, ◌∙◌}
+use Rattle.aes3_cell.specs.declared.level.Level.TheVariants.{High}
+use Rattle.aes3_lock.specs.Steps.{eight_with}
+use Rattle.aes3_cell.specs.Words.{low_cells}
+use Rattle.aes3_lock.proofs.LastEight.{byte-with}
+use Rattle.aes3_lock.proofs.recent.with_cell.Goals as goal
+
+pub returns-in-High : goal.returns-in-High
+returns-in-High c = byte-with c.args.recent High (omega arith) ∙ ap (eight_with (low_cells 8 c.args.recent)) (sym c.in-High.is)

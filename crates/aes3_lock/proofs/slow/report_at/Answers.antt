@@ -1,0 +1,32 @@
+use Rattle.std.proofs.Common.{◌≡◌, ◌+◌, ◌<◌, ◌≤◌, [], ◌∷◌, Option, Some, None, length, map, take, sym, ap, ap₂, subst, ◌∙◌, arith}
+use Rattle.aes3_slot.specs.Slots.{slots_bits}
+use Rattle.aes3_slot.specs.Rules.{at}
+use Rattle.aes3_slot.specs.Reading.{same}
+use Rattle.aes3_lock.specs.Reports.{told, report_of}
+use Rattle.aes3_lock.specs.Steps.{begun, ended, left}
+use Rattle.aes3_lock.proofs.Deciding.{block_slots_384}
+use Rattle.aes3_lock.proofs.Walking.{outcome_at-short, outcome_at-none, outcome_at-some, place-ended, place-left}
+use Rattle.aes3_lock.proofs.slow.report_at.Goals as goal
+use Rattle.aes3_lock.proofs.slow.report_at.Goals.{then-place-cells, else-place-cells}
+
+pub returns-then-cells-lt8 : goal.returns-then-cells-lt8
+returns-then-cells-lt8 c = sym (ap (told c.args.at) (outcome_at-short c.args.cells.now (omega arith)))
+
+pub returns-in_default : goal.returns-in_default
+returns-in_default c = sym (ap (told c.args.at) (outcome_at-none c.args.cells.now (omega arith)
+    (ap (begun 8) (sym c.first_eight.ensures) ∙ sym c.candidate_in.ensures.value ∙ c.in_default.is)))
+
+pub returns : goal.returns
+returns c =
+    let e = outcome_at-some c.args.cells.now c.in-Some.begun (omega arith)
+    (ap (begun 8) (sym c.first_eight.ensures) ∙ sym c.candidate_in.ensures.value ∙ c.in-Some.is) in
+    sym (ap (told c.args.at) e.0 ∙ ap (λ r. r ∷ []) (elim c.if-place-cells.branch [
+      | then-place-cells w ↦ ap (report_of c.args.at)
+          (place-ended c.args.cells.now c.in-Some.begun.before c.go_through-offset.new.slots c.go_through-offset.result.0 c.go_through-offset.result.1 e.1
+          c.go_through-offset.ensures.front c.go_through-offset.ensures.last c.go_through-offset.ensures.slots (let n = block_slots_384 in omega arith) (omega arith))
+          ∙ sym w.end_report.ensures ∙ sym w.result-is
+      | else-place-cells w ↦ ap (report_of c.args.at)
+          (place-left c.args.cells.now c.in-Some.begun.before c.go_through-offset.new.slots c.go_through-offset.result.0 c.go_through-offset.result.1 e.1
+          c.go_through-offset.ensures.front c.go_through-offset.ensures.last c.go_through-offset.ensures.slots (let n = block_slots_384 in omega arith) (omega arith))
+          ∙ sym w.left_report.ensures ∙ sym w.result-is
+    ]))

@@ -1,0 +1,49 @@
+-- Which lists of cells a lock and a scan follow.
+use Rattle.std.specs.Prelude.{ℕ, List, Bool, true, false, length, ◌≡◌, ◌<◌, ◌≤◌, ◌+◌, ◌*◌, ◌/◌, drop, take, get_or, MatchOption, Option}
+use Rattle.aes3_cell.specs.declared.level.Level.{Level}
+use Rattle.aes3_slot.specs.Bits.{number}
+use Rattle.aes3_slot.specs.Rules.{before}
+use Rattle.aes3_slot.specs.Reading.{read_bits}
+use Rattle.aes3_block.specs.Blocks.{block_slots}
+use Rattle.aes3_lock.specs.declared.candidate.Candidate.{Candidate}
+use Rattle.aes3_lock.specs.Candidates.{entry}
+use Rattle.aes3_lock.specs.Reports.{open_at}
+use Rattle.aes3_lock.specs.Steps.{last_eight}
+
+-- how many cells a lock has seen, the last eight, the candidate in hand, and the bits of its subframes as numbers
+pub record LockState : Type 0 where
+  pub seen : ℕ
+  pub recent : List Level
+  pub candidate : Option Candidate
+  pub slots : List ℕ
+
+-- how many cells a scan has seen, and the last eight
+pub record ScanState : Type 0 where
+  pub seen : ℕ
+  pub recent : List Level
+
+-- the numbers hold the bits of each subframe behind whose preamble a cell has come
+abbrev pub Filled : List ℕ → List Level → Type 0
+Filled slots d = (j : ℕ) → j < block_slots → 64 * j + 8 < length d → get_or slots j 0 ≡ number (read_bits (take 56 (drop (64 * j + 8) d)))
+
+abbrev pub NoneOpen : List Level → Type 0
+NoneOpen c = (q : ℕ) → open_at (drop q c) ≡ false
+
+-- a later cell can still change the outcome of this candidate
+pub record OpenAt (slots : List ℕ) (t : Candidate) (c : List Level) : Type 0 where
+  pub within : t.at + 8 ≤ length c
+  pub opened : open_at (drop t.at c) ≡ true
+  pub first : t.before ≡ entry (drop t.at c)
+  pub level : t.level ≡ before (entry (drop t.at c)) (drop t.at c) (64 * (length (drop t.at c) / 64))
+  pub filled : Filled slots (drop t.at c)
+
+-- a lock that has taken these cells, and no others
+pub record Follows (k : LockState) (c : List Level) : Type 0 where
+  pub seen : k.seen ≡ length c
+  pub recent : k.recent ≡ last_eight c
+  pub candidate : MatchOption k.candidate (NoneOpen c) (λ t. OpenAt k.slots t c)
+
+-- a scan that has
+pub record ScanFollows (k : ScanState) (c : List Level) : Type 0 where
+  pub seen : k.seen ≡ length c
+  pub recent : k.recent ≡ last_eight c

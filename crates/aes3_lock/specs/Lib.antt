@@ -1,0 +1,12 @@
+pub mod Candidates
+pub mod Outcomes
+pub mod Reports
+pub mod Preambles
+pub mod Steps
+pub mod Following
+pub mod Standing
+pub mod Pieces
+pub mod Laws
+pub use Rattle.aes3_cell.specs.Cells
+pub use Rattle.aes3_slot.specs.Slots
+pub use Rattle.aes3_block.specs.Blocks

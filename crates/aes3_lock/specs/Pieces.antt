@@ -1,0 +1,35 @@
+-- Pieces of a lawful stream.
+use Rattle.std.specs.Prelude.{ℕ, zero, suc, List, [], ◌∷◌, ◌++◌, Bool, length, ◌≡◌, ◌≤◌, ◌+◌, ◌-◌, ◌*◌, ◌%◌, ◌&&◌, nat_le, take, drop, if◌then◌else◌}
+use Rattle.std.specs.List.{All}
+use Rattle.aes3_cell.specs.declared.level.Level.{Level}
+use Rattle.aes3_slot.specs.declared.mark.Mark.{Mark}
+use Rattle.aes3_block.specs.Blocks.{mark_at, block_slots, block_len, stream, IsBlock}
+
+-- the cells of a stream of blocks after level s from cell i up to, but without, cell j
+pub record IsPiece (s : Level) (bs : List (List (List Bool))) (i j : ℕ) (c : List Level) : Type 0 where
+  pub blocks : All IsBlock bs
+  pub order : i ≤ j
+  pub within : j ≤ length (stream s bs)
+  pub is : c ≡ take (j - i) (drop i (stream s bs))
+
+-- of blocks of which the first begins at cell p, those that lie in cells i to j
+abbrev pub blocks_within : ℕ → ℕ → ℕ → List (List (List Bool)) → List (List (List Bool))
+blocks_within p i j [] = []
+blocks_within p i j (b ∷ bs) =
+    (if nat_le i p && nat_le (p + block_len) j then b ∷ [] else []) ++ blocks_within (p + block_len) i j bs
+
+-- a piece's whole blocks
+unfoldable pub whole_blocks : List (List (List Bool)) → ℕ → ℕ → List (List (List Bool))
+whole_blocks bs i j = blocks_within 0 i j bs
+
+-- the preambles of n subframes of a stream from subframe k on of which all eight cells lie in cells i to j, their places
+-- counted from cell i; a lawful subframe ends at the level before it, so all are after level s
+abbrev pub marks_within : ℕ → ℕ → Level → ℕ → ℕ → List (ℕ × Mark × Level)
+marks_within zero k s i j = []
+marks_within (suc n) k s i j =
+    (if nat_le i (64 * k) && nat_le (64 * k + 8) j then (64 * k - i, mark_at (k % block_slots), s) ∷ [] else [])
+    ++ marks_within n (suc k) s i j
+
+-- a piece's true preambles
+unfoldable pub true_marks : Level → List (List (List Bool)) → ℕ → ℕ → List (ℕ × Mark × Level)
+true_marks s bs i j = marks_within (block_slots * length bs) 0 s i j

@@ -1,0 +1,47 @@
+-- What one more cell makes of what a lock keeps.
+use Rattle.std.specs.Prelude.{ℕ, suc, List, [], ◌∷◌, ◌++◌, Bool, true, false, ◌+◌, ◌-◌, ◌*◌, ◌/◌, ◌%◌, ◌^◌, ◌==◌, ◌&&◌, Option, Some, None, nat_lt, nat_le, length, drop, replicate, bit_or, if◌then◌else◌}
+use Rattle.aes3_cell.specs.declared.level.Level.{Level}
+use Rattle.aes3_cell.specs.declared.level.Level.TheVariants.{Low}
+use Rattle.aes3_slot.specs.declared.mark.Mark.{Mark}
+use Rattle.aes3_slot.specs.declared.mark.Mark.TheVariants.{X, Y, Z}
+use Rattle.aes3_slot.specs.Reading.{same}
+use Rattle.aes3_block.specs.Blocks.{block_len}
+use Rattle.aes3_lock.specs.declared.candidate.Candidate.{Candidate}
+use Rattle.aes3_lock.specs.Candidates.{entry, begins_block}
+use Rattle.aes3_lock.specs.Outcomes.{Outcome, fault, unfinished, block_outcome}
+
+-- the last eight cells, with Low before the first of all
+unfoldable pub last_eight : List Level → List Level
+last_eight c = drop (length c) (replicate 8 Low ++ c)
+
+-- eight cells with one more
+abbrev pub eight_with : List Level → Level → List Level
+eight_with recent l = drop 1 recent ++ l ∷ []
+
+-- whether a preamble is that of a block's first subframe
+abbrev pub begins_a_block : Mark → Bool
+begins_a_block X = false
+begins_a_block Y = false
+begins_a_block Z = true
+
+-- the candidate whose preamble the last eight of n cells are
+unfoldable pub begun : ℕ → List Level → Option Candidate
+begun n recent =
+    if nat_le 8 n && begins_block recent then Some (record { at = n - 8; before = entry recent; level = entry recent }) else None
+
+-- the level before the subframe of the next cell, behind a cell at an offset in a block
+abbrev pub level_with : ℕ → Level → Level → Level
+level_with offset before cell = if (offset % 64) == 63 then cell else before
+
+-- the bits of a subframe behind its cell k, which differs from the cell before it or not
+unfoldable pub slots_with : ℕ → ℕ → Bool → ℕ
+slots_with slots k differs =
+    if k == 8 then 0 else (if nat_le 9 k && ((k % 2) == 1 && differs) then bit_or slots (2 ^ ((k - 9) / 2)) else slots)
+
+-- the outcome of a candidate after level s which the cell at an offset ends, whether or not that cell equals the one before
+-- it, and where the cells end
+abbrev pub ended : Level → ℕ → Bool → List (List Bool) → Outcome
+ended s offset equal slots = if nat_lt offset block_len then fault offset else (if equal then fault offset else block_outcome s slots)
+
+abbrev pub left : Level → ℕ → List (List Bool) → Outcome
+left s cells slots = if nat_lt cells block_len then unfinished cells else block_outcome s slots

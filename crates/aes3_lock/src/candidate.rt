@@ -1,0 +1,14 @@
+//! A place at which a block may begin.
+
+use aes3_cell::Level;
+
+/// A place at which preamble Z stands, as far as the cells from it on are those of a block.
+#[derive(Clone, Copy)]
+pub(crate) struct Candidate {
+    /// The place of its first cell.
+    pub(crate) at: u64,
+    /// The level before that cell.
+    pub(crate) before: Level,
+    /// The level before the subframe of the next cell.
+    pub(crate) level: Level,
+}

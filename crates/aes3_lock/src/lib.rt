@@ -1,0 +1,19 @@
+//! The lock: every report of any cells, in one pass and fixed memory (AES3-3, IEC 60958-1).
+#![tactic(auto)]
+
+mod candidate;
+pub mod laws;
+mod lock;
+mod outcome;
+mod recent;
+mod report;
+mod rule;
+mod scan;
+mod slow;
+#[cfg(test)]
+mod tests;
+
+pub use lock::Lock;
+pub use report::{Report, Why};
+pub use scan::Scan;
+pub use slow::reports_of;

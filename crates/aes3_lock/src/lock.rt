@@ -1,0 +1,116 @@
+//! The lock.
+use crate::candidate::Candidate;
+use crate::outcome::{SLOTS, end_report, left_report, no_slots};
+use crate::recent::{candidate_in, last_cell, with_cell};
+use crate::report::Report;
+use crate::rule::{BLOCK_CELLS, SUBFRAME_CELLS, level_behind, may_stand, slots_behind, turns};
+use aes3_cell::Level;
+use std::marker::Model;
+
+/// Finds every block and every begun block in cells that come one by one, in fixed memory.
+///
+/// A contract sees how many cells it has seen, the last eight, the candidate in hand and the bits of its subframes.
+#[derive(Drop)]
+pub struct Lock {
+    seen: u64,
+    recent: u8,
+    candidate: Option<Candidate>,
+    slots: [u32; SLOTS],
+}
+
+impl Model for Lock {
+    ghost use Rattle.std.specs.Prelude.{◌≤◌};
+    ghost use Rattle.std.specs.Option.{ForSome};
+    ghost use Rattle.aes3_cell.specs.Words.{low_cells};
+    ghost use Rattle.aes3_lock.specs.Following.{LockState};
+
+    ghost Value = { LockState };
+
+    ghost view = { λ k. record { seen = k.seen; recent = low_cells 8 k.recent; candidate = k.candidate; slots = k.slots } };
+
+    ghost invariant = { λ k. ForSome k.candidate (λ t. t.at ≤ k.seen) };
+}
+
+ghost use Rattle.std.specs.Prelude.{◌≡◌, ◌<◌, ◌+◌, ◌^◌, ◌&&◌, true, List, [], ◌∷◌, ◌++◌, nat_lt, option_to_list};
+ghost use Rattle.aes3_cell.specs.declared.level.Level.{Level};
+ghost use Rattle.aes3_slot.specs.Rules.{rule};
+ghost use Rattle.aes3_block.specs.Blocks.{block_len, mark_at};
+ghost use Rattle.aes3_lock.specs.Reports.{decided, reports};
+ghost use Rattle.aes3_lock.specs.Following.{Follows};
+
+/// Whether a cell behind `previous` goes on with a candidate, at whose `offset` it stands.
+fn goes_on(candidate: Candidate, offset: u64, cell: Level, previous: Level) -> bool
+    ensures inside { result ≡ true → offset < BLOCK_CELLS }
+    ensures value { result ≡ (nat_lt offset block_len && rule mark_at offset cell candidate.level previous) }
+{
+    offset < BLOCK_CELLS && may_stand(offset, cell, candidate.level, previous)
+}
+
+impl Lock {
+    /// A lock that has seen no cell.
+    pub fn new() -> Self
+        ensures { Follows result [] }
+    {
+        Lock {
+            seen: 0,
+            recent: 0,
+            candidate: None,
+            slots: no_slots(),
+        }
+    }
+
+    /// How many cells it has seen.
+    pub fn seen(&self) -> u64
+        ensures { result ≡ self.now.seen }
+    {
+        self.seen
+    }
+
+    /// Takes the next cell, and answers the report that it decides.
+    pub fn push(&mut self, cell: Level) -> Option<Report>
+        requires { self.old.seen < 2 ^ 43 }
+        ensures seen { self.new.seen ≡ self.old.seen + 1 }
+        ensures follows { (cells : List Level) → Follows self.old cells
+            → Follows self.new (cells ++ cell ∷ []) }
+        ensures report { (cells : List Level) → Follows self.old cells
+            → decided (cells ++ cell ∷ []) ≡ decided cells ++ option_to_list result }
+    {
+        let previous = last_cell(self.recent);
+        let seen = self.seen;
+        self.recent = with_cell(self.recent, cell);
+        self.seen = seen + 1;
+        let Some(candidate) = self.candidate else {
+            self.candidate = candidate_in(self.seen, self.recent);
+            return None;
+        };
+        let offset = seen - candidate.at;
+        if goes_on(candidate, offset, cell, previous) {
+            let slot = (offset / SUBFRAME_CELLS) as usize;
+            self.slots[slot] = slots_behind(
+                self.slots[slot],
+                offset % SUBFRAME_CELLS,
+                turns(previous, cell),
+            );
+            self.candidate = Some(Candidate {
+                at: candidate.at,
+                before: candidate.before,
+                level: level_behind(offset, candidate.level, cell),
+            });
+            return None;
+        }
+        let report = end_report(candidate, offset, cell, previous, &self.slots);
+        self.candidate = candidate_in(self.seen, self.recent);
+        Some(report)
+    }
+
+    /// Takes the end of the cells, and answers the report that it decides.
+    pub fn finish(self) -> Option<Report>
+        ensures { (cells : List Level) → Follows self cells
+            → reports cells ≡ decided cells ++ option_to_list result }
+    {
+        let Some(candidate) = self.candidate else {
+            return None;
+        };
+        Some(left_report(candidate, self.seen - candidate.at, &self.slots))
+    }
+}

@@ -1,0 +1,92 @@
+//! Which cells may stand in a block (AES3-3; IEC 60958-1).
+
+ghost use Rattle.std.specs.Prelude.{◌≡◌, ◌<◌};
+ghost use Rattle.aes3_slot.specs.Rules.{rule, shape};
+ghost use Rattle.aes3_slot.specs.Reading.{differs};
+ghost use Rattle.aes3_block.specs.Blocks.{mark_at};
+ghost use Rattle.aes3_lock.specs.Steps.{level_with, slots_with};
+
+use crate::recent::PREAMBLE_CELLS;
+use aes3_cell::Level;
+use aes3_slot::Mark;
+
+/// How many cells a subframe has.
+pub(crate) const SUBFRAME_CELLS: u64 = 64;
+
+/// How many cells a block has.
+pub(crate) const BLOCK_CELLS: u64 = 24_576;
+
+/// The preamble of a block's subframe.
+fn mark_of(slot: u64) -> Mark
+    ensures { result ≡ mark_at slot }
+{
+    if slot == 0 {
+        Mark::Z
+    } else if slot % 2 == 1 {
+        Mark::Y
+    } else {
+        Mark::X
+    }
+}
+
+/// Cell `k` of a preamble after the level `before`.
+fn preamble_cell(mark: Mark, k: u64, before: Level) -> Level
+    requires { k < 8 }
+    ensures { result ≡ shape mark k before }
+{
+    let turned: u8 = match mark {
+        Mark::X => 0x47,
+        Mark::Y => 0x27,
+        Mark::Z => 0x17,
+    };
+    if (turned >> k) & 1 == 1 {
+        before.flip()
+    } else {
+        before
+    }
+}
+
+/// Whether a cell may stand at `offset` of a block, behind the cell `previous` and with the level `before` before its
+/// subframe.
+pub(crate) fn may_stand(offset: u64, cell: Level, before: Level, previous: Level) -> bool
+    ensures { result ≡ rule mark_at offset cell before previous }
+{
+    let k = offset % SUBFRAME_CELLS;
+    if k < PREAMBLE_CELLS {
+        cell == preamble_cell(mark_of(offset / SUBFRAME_CELLS), k, before)
+    } else {
+        offset % 2 == 1 || cell != previous
+    }
+}
+
+/// Whether the level turns between two cells.
+pub(crate) fn turns(previous: Level, cell: Level) -> bool
+    ensures { result ≡ differs previous cell }
+{
+    cell != previous
+}
+
+/// The level before the subframe of the next cell, behind `cell` at `offset` of a block.
+pub(crate) fn level_behind(offset: u64, before: Level, cell: Level) -> Level
+    ensures { result ≡ level_with offset before cell }
+{
+    if offset % SUBFRAME_CELLS == SUBFRAME_CELLS - 1 {
+        cell
+    } else {
+        before
+    }
+}
+
+/// The bits of a subframe, slot 4 in bit 0, behind its cell `k`, which differs from the cell before it or not.
+pub(crate) fn slots_behind(slots: u32, k: u64, differs: bool) -> u32
+    requires { k < 64 }
+    ensures { result ≡ slots_with slots k differs }
+{
+    if k == PREAMBLE_CELLS {
+        0
+    } else if k > PREAMBLE_CELLS && k % 2 == 1 && differs {
+        slots | 1 << ((k - 9) / 2)
+    } else {
+        slots
+    }
+}

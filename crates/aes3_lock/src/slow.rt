@@ -1,0 +1,92 @@
+//! All reports of a list of cells, each place tried by itself.
+ghost use Rattle.std.specs.Prelude.{◌≡◌, ◌<◌, ◌≤◌, ◌+◌, ◌^◌, IfOk, length, option_to_list, take};
+ghost use Rattle.aes3_cell.specs.Words.{low_cells};
+ghost use Rattle.aes3_slot.specs.Rules.{before};
+ghost use Rattle.aes3_lock.specs.Candidates.{front};
+ghost use Rattle.aes3_lock.specs.Reports.{outcome_at, reports, told};
+ghost use Rattle.aes3_lock.specs.Following.{Filled};
+
+use crate::candidate::Candidate;
+use crate::outcome::{SLOTS, end_report, left_report, no_slots};
+use crate::recent::{PREAMBLE_CELLS, candidate_in, with_cell};
+use crate::report::Report;
+use crate::rule::{BLOCK_CELLS, SUBFRAME_CELLS, level_behind, may_stand, slots_behind, turns};
+use aes3_cell::Level;
+use std::alloc::{AllocError, Global};
+
+/// The first eight cells as an octet.
+fn first_eight(cells: &[Level]) -> u8
+    requires { 8 ≤ length cells.now }
+    ensures { low_cells 8 result ≡ take 8 cells.now }
+{
+    let mut recent = 0;
+    for cell in cells[..8].iter() {
+        recent = with_cell(recent, *cell);
+    }
+    recent
+}
+
+/// How many cells go on as a block's after the level `level_before`, and the level of the last of them. The bits of
+/// their subframes go into `slots`.
+fn go_through(level_before: Level, cells: &[Level], slots: &mut [u32; SLOTS]) -> (u64, Level)
+    ensures front { result.0 ≡ front level_before cells.now }
+    ensures last { result.1 ≡ before level_before cells.now result.0 }
+    ensures slots { Filled slots.new (take result.0 cells.now) }
+{
+    let mut level = level_before;
+    let mut previous = level_before;
+    let mut offset = 0;
+    for cell in cells.iter() {
+        if offset == BLOCK_CELLS || !may_stand(offset, *cell, level, previous) {
+            return (offset, previous);
+        }
+        let slot = (offset / SUBFRAME_CELLS) as usize;
+        slots[slot] = slots_behind(slots[slot], offset % SUBFRAME_CELLS, turns(previous, *cell));
+        level = level_behind(offset, level, *cell);
+        previous = *cell;
+        offset += 1;
+    }
+    (offset, previous)
+}
+
+/// The report of the place `at` of the first of these cells.
+fn report_at(at: u64, cells: &[Level]) -> Option<Report>
+    requires { at + length cells.now < 2 ^ 64 }
+    ensures { option_to_list result ≡ told at (outcome_at cells.now) }
+{
+    if cells.len() < 8 {
+        return None;
+    }
+    let Some(begun) = candidate_in(PREAMBLE_CELLS, first_eight(cells)) else {
+        return None;
+    };
+    let candidate = Candidate {
+        at,
+        before: begun.before,
+        level: begun.level,
+    };
+    let mut slots = no_slots();
+    let (offset, previous) = go_through(candidate.before, cells, &mut slots);
+    let place = offset as usize;
+    Some(if place < cells.len() {
+        end_report(candidate, offset, cells[place], previous, &slots)
+    } else {
+        left_report(candidate, offset, &slots)
+    })
+}
+
+/// All reports of these cells, in order of place: every place is tried by itself.
+///
+/// # Errors
+/// No memory for the reports.
+pub fn reports_of(alloc: Global, cells: &[Level]) -> Result<Vec<Report>, AllocError>
+    ensures { IfOk result (λ found. found.items ≡ reports cells.now) }
+{
+    let mut found = Vec::new(alloc);
+    for at in 0..cells.len() {
+        if let Some(report) = report_at(at as u64, &cells[at..]) {
+            found.push(report)?;
+        }
+    }
+    Ok(found)
+}

@@ -1,0 +1,6 @@
+pub mod BitFields
+pub mod Polynomials
+pub mod Weights
+pub mod ShiftRegister
+pub mod CheckBytes
+pub mod Flips

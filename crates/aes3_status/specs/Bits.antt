@@ -1,0 +1,29 @@
+-- The bits of a channel status in order of transmission, and the numbers that they stand for.
+use Rattle.std.specs.Prelude.{ℕ, zero, suc, List, [], ◌∷◌, ◌++◌, Bool, cond, take, drop, ◌+◌, ◌*◌, ◌%◌, ◌/◌, ◌==◌}
+
+-- the lowest bits of a number, the one of weight 1 first
+abbrev pub low_bits : ℕ → ℕ → List Bool
+low_bits zero n = []
+low_bits (suc k) n = ((n % 2) == 1) ∷ low_bits k (n / 2)
+
+-- the number of these bits, the first of weight 1
+abbrev pub number : List Bool → ℕ
+number [] = 0
+number (b ∷ bits) = cond b 1 0 + 2 * number bits
+
+-- the bits of a byte in order of transmission: bit 0 first
+unfoldable pub byte_bits : ℕ → List Bool
+byte_bits byte = low_bits 8 byte
+
+-- the bits of bytes in order of transmission: those of byte 0 first
+abbrev pub status_bits : List ℕ → List Bool
+status_bits [] = []
+status_bits (byte ∷ bytes) = byte_bits byte ++ status_bits bytes
+
+-- a field: the number of `count` bits from bit `bit` of byte `byte` on, in order of transmission
+unfoldable pub field : ℕ → ℕ → ℕ → List ℕ → ℕ
+field byte bit count bytes = number (take count (drop (8 * byte + bit) (status_bits bytes)))
+
+-- a field of whole bytes: `count` bytes from byte `byte` on
+unfoldable pub bytes_field : ℕ → ℕ → List ℕ → List ℕ
+bytes_field byte count bytes = take count (drop byte bytes)
