@@ -1,2 +1,6 @@
-pub mod Commands
+pub mod CommandLine
+pub mod JobRuns
+pub mod WordRuns
+pub mod Jobs
 pub mod Lines
+pub mod StatusTexts

@@ -3,9 +3,14 @@
 
 ghost use Rattle.std.specs.Prelude.{◌+◌, ◌<◌, ◌≤◌, ◌^◌, ◌≡◌};
 
-mod command;
+mod definitions;
+mod job;
+mod job_run;
+#[cfg(test)]
+mod job_tests;
 mod refusal;
 mod run;
+mod status_text;
 #[cfg(test)]
 mod tests;
 

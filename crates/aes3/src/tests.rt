@@ -4,7 +4,7 @@ ghost use Rattle.std.specs.Prelude.{◌<◌};
 
 use crate::run::run_words;
 use aes3_block::Subframe;
-use aes3_cell::{Counts, FailingSink, FailingSource, MemorySink, MemorySource, RunError};
+use aes3_cell::{Counts, FailingSink, FailingSource, Form, MemorySink, MemorySource, RunError};
 use aes3_engine::{encode, normalise};
 use std::alloc::{AllocError, Global};
 use std::process::Abort;
@@ -67,10 +67,16 @@ fn expect_run(
     Ok(())
 }
 
-const USAGE_LINES: &[u8] = b"usage: aes3 encode < BLOCK-FILE > CELLS
-       aes3 decode < CELLS > BLOCK-FILE
-       aes3 normal < CELLS > CELLS
-";
+/// A command line that is refused: nothing is read or written, and the errors say why.
+fn expect_refused_line(rt: &impl Abort, alloc: Global, words: &[&str]) {
+    let mut source = MemorySource::new(b"2", 1);
+    let mut sink = MemorySink::new(alloc);
+    let mut lines = MemorySink::new(alloc);
+    let answer = run_words(alloc, words, &mut source, &mut sink, &mut lines);
+    assert_eq!(rt; answer, 2);
+    assert!(rt; sink.bytes().is_empty());
+    assert!(rt; !lines.bytes().is_empty());
+}
 
 #[test]
 fn empty_input_gives_no_output(rt: HostRuntime) -> Result<(), Fail> {
@@ -152,21 +158,81 @@ fn refused_block_files(rt: HostRuntime) -> Result<(), Fail> {
 }
 
 #[test]
-fn refused_command_lines(rt: HostRuntime) -> Result<(), Fail> {
-    let usage = USAGE_LINES;
-    expect_run(&rt, rt.alloc(), &[], b"", 7, b"", usage, 2)?;
-    expect_run(&rt, rt.alloc(), &["cut"], b"", 7, b"", usage, 2)?;
-    expect_run(&rt, rt.alloc(), &["encode", "x"], b"", 7, b"", usage, 2)?;
-    expect_run(
-        &rt,
-        rt.alloc(),
-        &["encode", "--help"],
-        b"",
-        7,
-        usage,
-        b"",
-        0,
-    )
+fn refused_command_lines(rt: HostRuntime) {
+    let lines: [&[&str]; 7] = [
+        &[],
+        &["help"],
+        &["cut", "1"],
+        &["cut", "1", "18446744073709551616"],
+        &["encode", "x"],
+        &["encode", "--packed-in"],
+        &["rewrite", "--status1", "0", "--x"],
+    ];
+    for words in lines {
+        expect_refused_line(&rt, rt.alloc(), words);
+    }
+}
+
+const ZERO_STATUS: &[u8] =
+    b"block=0 channel=1 consumer payload=pcm copyright=asserted emphasis=none mode=0 category=general generation=0 source=not-specified number=not-specified rate=44100 accuracy=level2 b3high=0 greatest=20 word=not-indicated original=0 rest=00000000000000000000000000000000000000
+block=0 channel=2 consumer payload=pcm copyright=asserted emphasis=none mode=0 category=general generation=0 source=not-specified number=not-specified rate=44100 accuracy=level2 b3high=0 greatest=20 word=not-indicated original=0 rest=00000000000000000000000000000000000000
+";
+
+#[test]
+fn commands_on_the_zero_block(rt: HostRuntime) -> Result<(), Fail> {
+    let text = block_text(rt.alloc(), ZEROS)?;
+    let rows: [(&[&str], &[u8]); 6] = [
+        (&["check"], b"whole at 0 before 0\n"),
+        (&["show"], ZERO_STATUS),
+        (&["cut", "0", "1"], &text),
+        (&["cut", "1", "18446744073709551615"], b""),
+        (&["rewrite"], &text),
+        (&["rewrite", "--mend-check"], &text),
+    ];
+    for (words, output) in rows {
+        expect_run(&rt, rt.alloc(), words, &text, 4096, output, b"", 0)?;
+    }
+    Ok(())
+}
+
+#[test]
+fn few_octets(rt: HostRuntime) -> Result<(), Fail> {
+    let rows: [(&[&str], &[u8], &[u8], &[u8], u8); 6] = [
+        (&["encode", "--packed-out"], b"", b"\0", b"", 0),
+        (&["normal", "--packed-in"], b"\0", b"", b"", 0),
+        (
+            &["normal", "--packed-in"],
+            b"",
+            b"",
+            b"aes3: refused 10 at 0\n",
+            3,
+        ),
+        (
+            &["scan", "--packed-in"],
+            b"\xE8\0",
+            b"mark Z at 0 before 0\n",
+            b"",
+            0,
+        ),
+        (
+            &["check", "--packed-in"],
+            b"\xE8\0",
+            b"unfinished at 0 cells 8\n",
+            b"",
+            0,
+        ),
+        (
+            &["check", "--packed-in"],
+            b"\xE9\x03",
+            b"",
+            b"aes3: refused 10 at 1\n",
+            3,
+        ),
+    ];
+    for (words, input, output, errors, status) in rows {
+        expect_run(&rt, rt.alloc(), words, input, 1, output, errors, status)?;
+    }
+    Ok(())
 }
 
 #[test]
@@ -182,11 +248,11 @@ fn the_last_byte_that_fits(rt: HostRuntime) -> Result<(), Fail> {
         unfinished: 0,
         marks: 0,
     };
-    assert!(rt; encode(&mut source, &mut sink, 1536) == Ok(counts));
+    assert!(rt; encode(&mut source, &mut sink, 1536, Form::Text) == Ok(counts));
     assert_eq!(rt; sink.bytes().len(), 24_960);
     let mut source = MemorySource::new(&file, 100);
     let mut sink = MemorySink::new(rt.alloc());
-    assert!(rt; encode(&mut source, &mut sink, 1535) == Err(RunError::TooLong));
+    assert!(rt; encode(&mut source, &mut sink, 1535, Form::Text) == Err(RunError::TooLong));
     assert_eq!(rt; sink.bytes().len(), 0);
     Ok(())
 }
@@ -197,7 +263,7 @@ fn a_sink_whose_third_call_fails(rt: HostRuntime) -> Result<(), Fail> {
     let text = block_text(rt.alloc(), ZEROS)?;
     let mut source = MemorySource::new(&file, 4096);
     let mut sink = FailingSink::new(rt.alloc(), 3);
-    assert!(rt; encode(&mut source, &mut sink, 4096) == Err(RunError::Write));
+    assert!(rt; encode(&mut source, &mut sink, 4096, Form::Text) == Err(RunError::Write));
     assert_eq!(rt; sink.bytes().len(), 130);
     assert!(rt; text.as_slice().starts_with(sink.bytes()));
     Ok(())
@@ -209,7 +275,7 @@ fn each_read_and_each_write_failing_in_turn(rt: HostRuntime) -> Result<(), Fail>
     for call in 1..50 {
         let mut source = FailingSource::new(&file, 65, call);
         let mut sink = MemorySink::new(rt.alloc());
-        let answer = encode(&mut source, &mut sink, 4096);
+        let answer = encode(&mut source, &mut sink, 4096, Form::Text);
         let blocks = (call as usize - 1) * 65 / BLOCK_LEN;
         assert!(rt; answer == Err(RunError::Read) || call == 49);
         assert!(rt; sink.bytes().len() == blocks.min(2) * 24_960);
@@ -217,7 +283,7 @@ fn each_read_and_each_write_failing_in_turn(rt: HostRuntime) -> Result<(), Fail>
     for call in 1..769 {
         let mut source = MemorySource::new(&file, 4096);
         let mut sink = FailingSink::new(rt.alloc(), call);
-        assert!(rt; encode(&mut source, &mut sink, 4096) == Err(RunError::Write));
+        assert!(rt; encode(&mut source, &mut sink, 4096, Form::Text) == Err(RunError::Write));
         assert!(rt; sink.bytes().len() == (call as usize - 1) * 65);
     }
     Ok(())
@@ -307,13 +373,19 @@ fn reads_and_writes_of_normal_failing_in_turn(rt: HostRuntime) -> Result<(), Fai
     for call in 1..385 {
         let mut source = FailingSource::new(&text, 65, call);
         let mut sink = MemorySink::new(rt.alloc());
-        assert!(rt; normalise(&mut source, &mut sink, 1 << 20) == Err(RunError::Read));
+        assert!(rt;
+            normalise(&mut source, &mut sink, 1 << 20, Form::Text, Form::Text)
+                == Err(RunError::Read)
+        );
         assert_eq!(rt; sink.bytes().len(), 0);
     }
     for call in 1..385 {
         let mut source = MemorySource::new(&text, 4096);
         let mut sink = FailingSink::new(rt.alloc(), call);
-        assert!(rt; normalise(&mut source, &mut sink, 1 << 20) == Err(RunError::Write));
+        assert!(rt;
+            normalise(&mut source, &mut sink, 1 << 20, Form::Text, Form::Text)
+                == Err(RunError::Write)
+        );
         assert!(rt; sink.bytes().len() == (call as usize - 1) * 65);
     }
     Ok(())

@@ -6,8 +6,9 @@ use Rattle.std.proofs.lemmas.List.{take-append-le, drop-append-le}
 use Rattle.aes3_cell.specs.declared.level.Level.{Level}
 use Rattle.aes3_cell.specs.Cells.{line, after}
 use Rattle.aes3_cell.specs.Words.{word_len}
-use Rattle.aes3_cell.specs.Text.{text_of}
-use Rattle.aes3_cell.proofs.Lines.{text_of-append}
+use Rattle.aes3_cell.specs.declared.form.Form.{Form}
+use Rattle.aes3_cell.specs.Written.{bytes_of}
+use Rattle.aes3_cell.proofs.WrittenForms.{bytes-append}
 use Rattle.aes3_cell.proofs.Runs.{line-append, after-append}
 use Rattle.aes3_block.specs.Blocks.{block_slots, mark_at, block_runs, block_cells, stream}
 use Rattle.aes3_block.specs.Files.{payload_of, blocks_in, lawful_words, whole_blocks}
@@ -46,10 +47,10 @@ stream-push s bs b h =
     ∙ line-append s (flat_map block_runs bs) (block_runs b)
     ∙ ap (λ t. line s (flat_map block_runs bs) ++ line t (block_runs b)) (after-stream s bs h)
 
-pub stream-text : (s : Level) (bs : List (List (List Bool))) (b : List (List Bool)) → EachBlock27 bs
-    → text_of (stream s (bs ++ b ∷ [])) ≡ text_of (stream s bs) ++ text_of (block_cells s b)
+pub stream-bytes : (form : Form) (s : Level) (bs : List (List (List Bool))) (b : List (List Bool)) → EachBlock27 bs
+    → bytes_of form (stream s (bs ++ b ∷ [])) ≡ bytes_of form (stream s bs) ++ bytes_of form (block_cells s b)
 unfolding stream
-stream-text s bs b h = ap text_of (stream-push s bs b h) ∙ text_of-append (slot_count bs) (stream s bs) (block_cells s b) (length-stream s bs h)
+stream-bytes form s bs b h = ap (bytes_of form) (stream-push s bs b h) ∙ bytes-append form (slot_count bs) (stream s bs) (block_cells s b) (length-stream s bs h)
 
 -- the blocks of words
 pub each27-blocks : (n : ℕ) (ws : List ℕ) → EachBlock27 (blocks_in n ws)

@@ -53,6 +53,13 @@ impl Block {
         }
     }
 
+    /// The same block once more.
+    pub fn copy(&self) -> Block
+        ensures { result ≡ self.now }
+    {
+        Block { words: self.words }
+    }
+
     /// Frame `i`.
     pub fn frame(&self, i: usize) -> Frame
         requires { i < FRAMES }

@@ -3,11 +3,12 @@
 ghost use Rattle.std.specs.Prelude.{◌≡◌, ◌<◌, ◌+◌, ◌^◌, IfOk, OnErr};
 ghost use Rattle.aes3_cell.specs.Ends.{Grew, GrewFront};
 ghost use Rattle.aes3_cell.specs.Text.{text_of};
+ghost use Rattle.aes3_cell.specs.Written.{bytes_of};
 ghost use Rattle.aes3_block.specs.Blocks.{block_cells, mark_at};
 
 use crate::block::Block;
 use crate::word::slots_of_word;
-use aes3_cell::{Fault, Level, Sink, line_of_word, write_all};
+use aes3_cell::{Fault, Form, Level, Sink, put_word};
 use aes3_slot::{Mark, slots_cells};
 
 /// The preamble of a block's subframe.
@@ -23,6 +24,32 @@ pub(crate) fn mark_of(slot: usize) -> Mark
     }
 }
 
+/// Writes the cells of a block after the level `before`, 64 cells as one buffer: the form's bytes but for its ending.
+///
+/// # Errors
+/// The sink's fault; then it has taken a front of the bytes.
+pub fn put_block<T: Sink>(
+    form: Form,
+    before: Level,
+    block: &Block,
+    sink: &mut T,
+) -> Result<(), Fault>
+    requires room { T.failed sink.old + 1 < 2 ^ 64 }
+    ensures cells { IfOk result (λ _. Grew (T.taken sink.old) (T.taken sink.new) (bytes_of form (block_cells before block.now))) }
+    ensures count { IfOk result (λ _. T.failed sink.new ≡ T.failed sink.old) }
+    ensures err { OnErr result ((T.failed sink.new ≡ T.failed sink.old + 1) × GrewFront (T.taken sink.old) (T.taken sink.new) (bytes_of form (block_cells before block.now))) }
+{
+    let words = block.words();
+    for (slot, word) in words.iter().enumerate() {
+        let cells = slots_cells(before, mark_of(slot), slots_of_word(*word));
+        match put_word(form, cells, sink) {
+            Ok(()) => {}
+            Err(fault) => return Err(fault),
+        }
+    }
+    Ok(())
+}
+
 /// Writes the cells of a block after the level `before` as 384 lines of cell text, each as one buffer.
 ///
 /// # Errors
@@ -33,13 +60,5 @@ pub fn put_block_cells<T: Sink>(before: Level, block: &Block, sink: &mut T) -> R
     ensures count { IfOk result (λ _. T.failed sink.new ≡ T.failed sink.old) }
     ensures err { OnErr result ((T.failed sink.new ≡ T.failed sink.old + 1) × GrewFront (T.taken sink.old) (T.taken sink.new) (text_of (block_cells before block.now))) }
 {
-    let words = block.words();
-    for (slot, word) in words.iter().enumerate() {
-        let cells = slots_cells(before, mark_of(slot), slots_of_word(*word));
-        match write_all(sink, &line_of_word(cells)) {
-            Ok(()) => {}
-            Err(fault) => return Err(fault),
-        }
-    }
-    Ok(())
+    put_block(Form::Text, before, block, sink)
 }

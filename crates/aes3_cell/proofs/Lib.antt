@@ -9,3 +9,4 @@ pub mod PackedCells
 pub mod PackedReads
 pub mod PackedWords
 pub mod PackedSteps
+pub mod WrittenForms

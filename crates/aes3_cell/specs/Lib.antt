@@ -11,3 +11,4 @@ pub mod TextReading
 pub mod PackedReading
 pub mod PackedPending
 pub mod Laws
+pub mod Written

@@ -1,9 +1,10 @@
-//! Words of 64 cells, the earliest in the lowest bit, and their line of text.
+//! Words of 64 cells, the earliest in the lowest bit, their line of text and their octets.
 
 ghost use Rattle.std.specs.Prelude.{◌≡◌, ◌+◌, ◌<◌, ◌^◌, [], ◌∷◌, ◌++◌};
 ghost use Rattle.std.specs.Int.{bit_at};
 ghost use Rattle.aes3_cell.specs.Words.{level_of, low_cells, word_cells};
 ghost use Rattle.aes3_cell.specs.Text.{byte_of, line_text};
+ghost use Rattle.aes3_cell.specs.Packed.{octets_of};
 
 use crate::level::Level;
 
@@ -43,4 +44,11 @@ pub fn line_of_word(word: u64) -> [u8; LINE_LEN]
         line[i as usize] = cell_byte(word, i);
     }
     line
+}
+
+/// The octets of a word of cells, the first cell in the highest bit of the first octet.
+pub fn octets_of_word(word: u64) -> [u8; 8]
+    ensures { result ≡ octets_of (word_cells word) }
+{
+    word.reverse_bits().to_be_bytes()
 }

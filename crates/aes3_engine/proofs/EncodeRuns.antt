@@ -4,21 +4,23 @@ use Rattle.aes3_cell.specs.declared.level.Level.TheVariants.{Low}
 use Rattle.aes3_cell.specs.declared.refusal.RunError.{RunError}
 use Rattle.aes3_cell.specs.declared.refusal.RunError.TheVariants.{BadCell, BadLength, BadCode, BadParity, Read, Write, TooLong, Memory, BadStatusText, BadPadding}
 use Rattle.aes3_cell.specs.declared.counts.Counts.{Counts}
-use Rattle.aes3_cell.specs.Ends.{Told}
-use Rattle.aes3_cell.specs.Text.{text_of}
+use Rattle.aes3_cell.specs.Ends.{Told, GrewFront}
+use Rattle.aes3_cell.proofs.Growing.{front-is}
+use Rattle.aes3_cell.specs.declared.form.Form.{Form}
+use Rattle.aes3_cell.specs.Written.{bytes_of, ending, written}
+use Rattle.aes3_cell.proofs.WrittenForms.{bytes-nothing, written-whole}
 use Rattle.aes3_block.specs.declared.file.FileFault.{FileFault}
 use Rattle.aes3_block.specs.declared.file.FileFault.TheVariants as fault
 use Rattle.aes3_block.specs.Blocks.{block_slots, block_len, stream}
 use Rattle.aes3_block.specs.Files.{words_of, has_code, has_parity, whole_blocks, file, IsBlockFile}
 use Rattle.aes3_block.specs.Readers.{FileReader, reader_of, byte_fault, block_with}
 use Rattle.aes3_block.specs.Refusals.{refusal_of}
-use Rattle.aes3_block.proofs.Runs.{text-nothing}
 use Rattle.aes3_block.proofs.Words.{all_lawful, lawful-words}
 use Rattle.aes3_block.proofs.WholeBlocks.{lawful-next, blocks-next, blocks-stay, added_blocks, fault-place, code-fault, parity-fault, length-fault, end-none, end-whole_file, reader-new}
-use Rattle.aes3_block.proofs.Streams.{each27-whole, stream-text, stream-nil, whole_blocks-nil}
+use Rattle.aes3_block.proofs.Streams.{each27-whole, stream-bytes, stream-nil, whole_blocks-nil, length-stream, slot_count}
 use Rattle.aes3_engine.specs.Converting.{or_else, fault_behind, first_fault, out, whole}
-use Rattle.aes3_engine.specs.Running.{Ran, Run, Change, Clean}
-use Rattle.aes3_engine.specs.Encoding.{encoded, encoding, refused_by, refused_at_end, block_written, Encodes, AllLawful, BadCodeAt, BadParityAt, IsCauseOf, encode_counts}
+use Rattle.aes3_engine.specs.Running.{Ran, Run, Change, Clean, CleanEnd}
+use Rattle.aes3_engine.specs.Encoding.{WholeFile, encoded, encoding, refused_by, refused_at_end, block_written, Encodes, AllLawful, BadCodeAt, BadParityAt, IsCauseOf, encode_counts}
 use Rattle.aes3_engine.proofs.Outputs.{out-is}
 use Rattle.aes3_engine.proofs.Told.{ran-told, few-told}
 use Rattle.aes3_engine.proofs.EncodingLemmas.{all-lawful}
@@ -32,54 +34,56 @@ refused-some None e q = absurd cc
 refused-some (Some f) e q = (f, refl, cc)
 
 -- bytes without a fault are lawful words
-lawful-of-clean : (p d : List ℕ) → all_lawful (words_of p) ≡ true → fault_behind encoding p d ≡ None → all_lawful (words_of (p ++ d)) ≡ true
+lawful-of-clean : (form : Form) (p d : List ℕ) → all_lawful (words_of p) ≡ true → fault_behind (encoding form) p d ≡ None → all_lawful (words_of (p ++ d)) ≡ true
 unfolding encoding
-lawful-of-clean p [] l e = ap (λ b. all_lawful (words_of b)) (append-nil p) ∙ l
-lawful-of-clean p (x ∷ d) l e = go (byte_fault (reader_of p) x) refl e (λ k q. lawful-of-clean (p ++ x ∷ []) d k q)
+lawful-of-clean form p [] l e = ap (λ b. all_lawful (words_of b)) (append-nil p) ∙ l
+lawful-of-clean form p (x ∷ d) l e = go (byte_fault (reader_of p) x) refl e (λ k q. lawful-of-clean form (p ++ x ∷ []) d k q)
   where
-    go : (o : Option FileFault) → byte_fault (reader_of p) x ≡ o → or_else (refused_by o) (fault_behind encoding (p ++ x ∷ []) d) ≡ None
-        → (all_lawful (words_of (p ++ x ∷ [])) ≡ true → fault_behind encoding (p ++ x ∷ []) d ≡ None → all_lawful (words_of ((p ++ x ∷ []) ++ d)) ≡ true)
+    go : (o : Option FileFault) → byte_fault (reader_of p) x ≡ o → or_else (refused_by o) (fault_behind (encoding form) (p ++ x ∷ []) d) ≡ None
+        → (all_lawful (words_of (p ++ x ∷ [])) ≡ true → fault_behind (encoding form) (p ++ x ∷ []) d ≡ None → all_lawful (words_of ((p ++ x ∷ []) ++ d)) ≡ true)
         → all_lawful (words_of (p ++ x ∷ d)) ≡ true
     go None q e next = ap (λ b. all_lawful (words_of b)) (sym (append_assoc p (x ∷ []) d)) ∙ next (lawful-next p x l q) e
     go (Some f) q e next = absurd cc
 
-pub clean-lawful : (b : List ℕ) → first_fault encoding b ≡ None → AllLawful b
+pub clean-lawful : (form : Form) (b : List ℕ) → first_fault (encoding form) b ≡ None → AllLawful b
 unfolding first_fault
-clean-lawful b e = record { is = lawful-words b (lawful-of-clean [] b refl e) }
+clean-lawful form b e = record { is = lawful-words b (lawful-of-clean form [] b refl e) }
 
 -- what the conversion writes
-pub out-encoded : (b : List ℕ) → out encoding b ≡ encoded b
+pub out-encoded : (form : Form) (b : List ℕ) → out (encoding form) b ≡ encoded form b
 unfolding encoding encoded
-out-encoded = out-is encoding encoded nothing more stays
+out-encoded form = out-is (encoding form) (encoded form) nothing more stays
   where
-    nothing : encoded [] ≡ []
-    nothing = ap (λ v. text_of (stream Low v)) whole_blocks-nil ∙ ap text_of (stream-nil Low) ∙ text-nothing
+    nothing : encoded form [] ≡ []
+    nothing = ap (λ v. bytes_of form (stream Low v)) whole_blocks-nil ∙ ap (bytes_of form) (stream-nil Low) ∙ bytes-nothing form
 
-    more : (b : List ℕ) (x : ℕ) → first_fault encoding b ≡ None → encoding.fault b x ≡ None → encoded (b ++ x ∷ []) ≡ encoded b ++ encoding.adds b x
+    more : (b : List ℕ) (x : ℕ) → first_fault (encoding form) b ≡ None → (encoding form).fault b x ≡ None → encoded form (b ++ x ∷ []) ≡ encoded form b ++ (encoding form).adds b x
     more b x c e =
-        let l = all-lawful (clean-lawful b c) in
+        let l = all-lawful (clean-lawful form b c) in
         let n = blocks-next b x l (refused-none (byte_fault (reader_of b) x) e) in
-        ap (λ v. text_of (stream Low v)) n ∙ added (block_with (reader_of b) x)
+        ap (λ v. bytes_of form (stream Low v)) n ∙ added (block_with (reader_of b) x)
       where
-        added : (o : Option (List (List Bool))) → text_of (stream Low (whole_blocks b ++ added_blocks o)) ≡ text_of (stream Low (whole_blocks b)) ++ block_written o
-        added None = ap (λ v. text_of (stream Low v)) (append-nil (whole_blocks b)) ∙ sym (append-nil (text_of (stream Low (whole_blocks b))))
-        added (Some block) = stream-text Low (whole_blocks b) block (each27-whole b)
+        added : (o : Option (List (List Bool))) → bytes_of form (stream Low (whole_blocks b ++ added_blocks o)) ≡ bytes_of form (stream Low (whole_blocks b)) ++ block_written form o
+        added None = ap (λ v. bytes_of form (stream Low v)) (append-nil (whole_blocks b)) ∙ sym (append-nil (bytes_of form (stream Low (whole_blocks b))))
+        added (Some block) = stream-bytes form Low (whole_blocks b) block (each27-whole b)
 
-    stays : (b : List ℕ) (x : ℕ) (d : List ℕ) (e : RunError) → first_fault encoding b ≡ None → encoding.fault b x ≡ Some e → encoded (b ++ x ∷ d) ≡ encoded b
+    stays : (b : List ℕ) (x : ℕ) (d : List ℕ) (e : RunError) → first_fault (encoding form) b ≡ None → (encoding form).fault b x ≡ Some e → encoded form (b ++ x ∷ d) ≡ encoded form b
     stays b x d e c q =
         let r = refused-some (byte_fault (reader_of b) x) e q in
-        ap (λ v. text_of (stream Low v)) (blocks-stay b x d r.0 (all-lawful (clean-lawful b c)) r.1)
+        ap (λ v. bytes_of form (stream Low v)) (blocks-stay b x d r.0 (all-lawful (clean-lawful form b c)) r.1)
 
-pub whole-encoded : (b : List ℕ) → whole encoding b ≡ encoded b
-unfolding whole encoding
-whole-encoded b = append-nil (out encoding b) ∙ out-encoded b
+pub whole-encoded : (form : Form) (b : List ℕ) → whole (encoding form) b ≡ written form (stream Low (whole_blocks b))
+unfolding whole encoding encoded stream
+whole-encoded form b =
+    ap (λ o. o ++ ending form) (out-encoded form b)
+    ∙ written-whole form (slot_count (whole_blocks b)) (stream Low (whole_blocks b)) (length-stream Low (whole_blocks b) (each27-whole b))
 
 -- the first fault of an input is its first word that is not lawful
-cause-behind : (p d : List ℕ) (e : RunError) → all_lawful (words_of p) ≡ true → fault_behind encoding p d ≡ Some e
+cause-behind : (form : Form) (p d : List ℕ) (e : RunError) → all_lawful (words_of p) ≡ true → fault_behind (encoding form) p d ≡ Some e
     → ((at : ℕ) × (e ≡ BadCode at) × BadCodeAt (p ++ d) at) ⊎ ((at : ℕ) × (e ≡ BadParity at) × BadParityAt (p ++ d) at)
 unfolding encoding
-cause-behind p [] e l q = absurd cc
-cause-behind p (x ∷ d) e l q = go (byte_fault (reader_of p) x) refl q (λ k h. cause-behind (p ++ x ∷ []) d e k h)
+cause-behind form p [] e l q = absurd cc
+cause-behind form p (x ∷ d) e l q = go (byte_fault (reader_of p) x) refl q (λ k h. cause-behind form (p ++ x ∷ []) d e k h)
   where
     Cause : List ℕ → Type 0
     Cause b = ((at : ℕ) × (e ≡ BadCode at) × BadCodeAt b at) ⊎ ((at : ℕ) × (e ≡ BadParity at) × BadParityAt b at)
@@ -113,42 +117,42 @@ cause-behind p (x ∷ d) e l q = go (byte_fault (reader_of p) x) refl q (λ k h.
     told (fault.BadLength left) r z =
         absurd (length-fault (length p / 4) (get_or (words_of (p ++ x ∷ d)) (length p / 4) 0) left (fault-place p x d (fault.BadLength left) l r).2)
 
-    go : (o : Option FileFault) → byte_fault (reader_of p) x ≡ o → or_else (refused_by o) (fault_behind encoding (p ++ x ∷ []) d) ≡ Some e
-        → (all_lawful (words_of (p ++ x ∷ [])) ≡ true → fault_behind encoding (p ++ x ∷ []) d ≡ Some e → Cause ((p ++ x ∷ []) ++ d)) → Cause (p ++ x ∷ d)
+    go : (o : Option FileFault) → byte_fault (reader_of p) x ≡ o → or_else (refused_by o) (fault_behind (encoding form) (p ++ x ∷ []) d) ≡ Some e
+        → (all_lawful (words_of (p ++ x ∷ [])) ≡ true → fault_behind (encoding form) (p ++ x ∷ []) d ≡ Some e → Cause ((p ++ x ∷ []) ++ d)) → Cause (p ++ x ∷ d)
     go None r q next = subst Cause (append_assoc p (x ∷ []) d) (next (lawful-next p x l r) q)
     go (Some f) r q next = told f r cc
 
-cause-of : (b : List ℕ) (e : RunError) → first_fault encoding b ≡ Some e
+cause-of : (form : Form) (b : List ℕ) (e : RunError) → first_fault (encoding form) b ≡ Some e
     → ((at : ℕ) × (e ≡ BadCode at) × BadCodeAt b at) ⊎ ((at : ℕ) × (e ≡ BadParity at) × BadParityAt b at)
 unfolding first_fault
-cause-of b e q = cause-behind [] b e refl q
+cause-of form b e q = cause-behind form [] b e refl q
 
-pub lawful-clean : (b : List ℕ) → AllLawful b → first_fault encoding b ≡ None
-lawful-clean b h = go (first_fault encoding b) refl
+pub lawful-clean : (form : Form) (b : List ℕ) → AllLawful b → first_fault (encoding form) b ≡ None
+lawful-clean form b h = go (first_fault (encoding form) b) refl
   where
-    go : (o : Option RunError) → first_fault encoding b ≡ o → first_fault encoding b ≡ None
+    go : (o : Option RunError) → first_fault (encoding form) b ≡ o → first_fault (encoding form) b ≡ None
     go None q = q
-    go (Some e) q = absurd (let n = ap length h.is in elim (cause-of b e q) [
+    go (Some e) q = absurd (let n = ap length h.is in elim (cause-of form b e q) [
       | inl c ↦ (let k = c.2.before in let m = c.2.within in omega arith)
       | inr c ↦ (let k = c.2.before in let m = c.2.within in omega arith)
     ])
 
 -- the end
-pub end-clean_file : (b : List ℕ) → length b % (4 * block_slots) ≡ 0 → encoding.end_fault b ≡ None
+pub end-clean_file : (form : Form) (b : List ℕ) → length b % (4 * block_slots) ≡ 0 → (encoding form).end_fault b ≡ None
 unfolding encoding
-end-clean_file b h = ap refused_at_end (end-whole_file b h)
+end-clean_file form b h = ap refused_at_end (end-whole_file b h)
 
-end-cases : (b : List ℕ) → ((encoding.end_fault b ≡ None) × (length b % (4 * block_slots) ≡ 0))
-    ⊎ ((encoding.end_fault b ≡ Some (BadLength (length b % (4 * block_slots)))) × (0 < length b % (4 * block_slots)))
+end-cases : (form : Form) (b : List ℕ) → (((encoding form).end_fault b ≡ None) × (length b % (4 * block_slots) ≡ 0))
+    ⊎ (((encoding form).end_fault b ≡ Some (BadLength (length b % (4 * block_slots)))) × (0 < length b % (4 * block_slots)))
 unfolding encoding
-end-cases b = elim (end-none b) [
+end-cases form b = elim (end-none b) [
   | inl q ↦ inl (ap refused_at_end q.1, q.0)
   | inr q ↦ inr (ap refused_at_end q.1, q.0)
 ]
 
 -- the cause of each refusal
-code-cause : (b : List ℕ) (at : ℕ) → first_fault encoding b ≡ Some (BadCode at) → BadCodeAt b at
-code-cause b at q = elim (cause-of b (BadCode at) q) [
+code-cause : (form : Form) (b : List ℕ) (at : ℕ) → first_fault (encoding form) b ≡ Some (BadCode at) → BadCodeAt b at
+code-cause form b at q = elim (cause-of form b (BadCode at) q) [
   | inl c ↦ subst (BadCodeAt b) (same c.0 c.1) c.2
   | inr c ↦ absurd (other c.0 c.1)
 ]
@@ -159,8 +163,8 @@ code-cause b at q = elim (cause-of b (BadCode at) q) [
     other : (k : ℕ) → BadCode at ≡ BadParity k → ⊥
     other k e = cc
 
-parity-cause : (b : List ℕ) (at : ℕ) → first_fault encoding b ≡ Some (BadParity at) → BadParityAt b at
-parity-cause b at q = elim (cause-of b (BadParity at) q) [
+parity-cause : (form : Form) (b : List ℕ) (at : ℕ) → first_fault (encoding form) b ≡ Some (BadParity at) → BadParityAt b at
+parity-cause form b at q = elim (cause-of form b (BadParity at) q) [
   | inl c ↦ absurd (other c.0 c.1)
   | inr c ↦ subst (BadParityAt b) (same c.0 c.1) c.2
 ]
@@ -172,11 +176,11 @@ parity-cause b at q = elim (cause-of b (BadParity at) q) [
     other k e = cc
 
 -- a refusal that is neither of a word nor of the end has no cause
-no-fault-cause : (b : List ℕ) (e : RunError) → ((k : ℕ) → e ≡ BadCode k → ⊥) → ((k : ℕ) → e ≡ BadParity k → ⊥) → first_fault encoding b ≡ Some e → ⊥
-no-fault-cause b e c p q = elim (cause-of b e q) [ inl r ↦ c r.0 r.1 | inr r ↦ p r.0 r.1 ]
+no-fault-cause : (form : Form) (b : List ℕ) (e : RunError) → ((k : ℕ) → e ≡ BadCode k → ⊥) → ((k : ℕ) → e ≡ BadParity k → ⊥) → first_fault (encoding form) b ≡ Some e → ⊥
+no-fault-cause form b e c p q = elim (cause-of form b e q) [ inl r ↦ c r.0 r.1 | inr r ↦ p r.0 r.1 ]
 
-no-end-cause : (b : List ℕ) (e : RunError) → ((k : ℕ) → e ≡ BadLength k → ⊥) → encoding.end_fault b ≡ Some e → ⊥
-no-end-cause b e n q = elim (end-cases b) [
+no-end-cause : (form : Form) (b : List ℕ) (e : RunError) → ((k : ℕ) → e ≡ BadLength k → ⊥) → (encoding form).end_fault b ≡ Some e → ⊥
+no-end-cause form b e n q = elim (end-cases form b) [
   | inl r ↦ none-some (sym r.0 ∙ q)
   | inr r ↦ n (length b % (4 * block_slots)) (some-is (sym q ∙ r.0))
 ]
@@ -187,8 +191,8 @@ no-end-cause b e n q = elim (end-cases b) [
     some-is : {x y : RunError} → Some x ≡ Some y → x ≡ y
     some-is q = cc
 
-length-cause : (b : List ℕ) (left : ℕ) → encoding.end_fault b ≡ Some (BadLength left) → (left ≡ length b % (4 * block_slots)) × (0 < left)
-length-cause b left q = elim (end-cases b) [
+length-cause : (form : Form) (b : List ℕ) (left : ℕ) → (encoding form).end_fault b ≡ Some (BadLength left) → (left ≡ length b % (4 * block_slots)) × (0 < left)
+length-cause form b left q = elim (end-cases form b) [
   | inl r ↦ absurd (none-some (sym r.0 ∙ q))
   | inr r ↦ let e : left ≡ length b % (4 * block_slots) = same (length b % (4 * block_slots)) (sym q ∙ r.0) in (e, (let h = r.1 in omega arith))
 ]
@@ -199,57 +203,57 @@ length-cause b left q = elim (end-cases b) [
     same : (k : ℕ) → Some (BadLength left) ≡ Some (BadLength k) → left ≡ k
     same k q = cc
 
-ran-cause : (max : ℕ) (z : List ℕ → Type 0) (b : List ℕ) (ended : Bool) (source sink : Change) (e : RunError)
-    → length b ≤ max + 1 → Ran max encoding z b ended source sink (Err e) → IsCauseOf max b ended e
-ran-cause max z b ended source sink Read few h = (clean-lawful b h.0.clean, h.0.short)
-ran-cause max z b ended source sink Write few h = few
-ran-cause max z b ended source sink TooLong few h = (clean-lawful (take max b) h.0.clean, h.1)
-ran-cause max z b ended source sink (BadCode at) few h = elim h.3 [
-  | inl q ↦ code-cause (take max b) at q
-  | inr q ↦ absurd (no-end-cause b (BadCode at) (λ k e. cc) q.1)
+ran-cause : (form : Form) (max : ℕ) (z : List ℕ → Type 0) (b : List ℕ) (ended : Bool) (source sink : Change) (e : RunError)
+    → length b ≤ max + 1 → Ran max (encoding form) z b ended source sink (Err e) → IsCauseOf max b ended e
+ran-cause form max z b ended source sink Read few h = (clean-lawful form b h.0.clean, h.0.short)
+ran-cause form max z b ended source sink Write few h = few
+ran-cause form max z b ended source sink TooLong few h = (clean-lawful form (take max b) h.0.clean, h.1)
+ran-cause form max z b ended source sink (BadCode at) few h = elim h.3 [
+  | inl q ↦ code-cause form (take max b) at q
+  | inr q ↦ absurd (no-end-cause form b (BadCode at) (λ k e. cc) q.1)
 ]
-ran-cause max z b ended source sink (BadParity at) few h = elim h.3 [
-  | inl q ↦ parity-cause (take max b) at q
-  | inr q ↦ absurd (no-end-cause b (BadParity at) (λ k e. cc) q.1)
+ran-cause form max z b ended source sink (BadParity at) few h = elim h.3 [
+  | inl q ↦ parity-cause form (take max b) at q
+  | inr q ↦ absurd (no-end-cause form b (BadParity at) (λ k e. cc) q.1)
 ]
-ran-cause max z b ended source sink (BadLength left) few h = elim h.3 [
-  | inl q ↦ absurd (no-fault-cause (take max b) (BadLength left) (λ k e. cc) (λ k e. cc) q)
-  | inr q ↦ let c = length-cause b left q.1 in
-      (record { lawful = clean-lawful b q.0.clean.clean; count = c.0; some = c.1 }, q.0.clean.short, q.0.end)
+ran-cause form max z b ended source sink (BadLength left) few h = elim h.3 [
+  | inl q ↦ absurd (no-fault-cause form (take max b) (BadLength left) (λ k e. cc) (λ k e. cc) q)
+  | inr q ↦ let c = length-cause form b left q.1 in
+      (record { lawful = clean-lawful form b q.0.clean.clean; count = c.0; some = c.1 }, q.0.clean.short, q.0.end)
 ]
-ran-cause max z b ended source sink (BadCell at) few h = elim h.3 [
-  | inl q ↦ no-fault-cause (take max b) (BadCell at) (λ k e. cc) (λ k e. cc) q
-  | inr q ↦ no-end-cause b (BadCell at) (λ k e. cc) q.1
+ran-cause form max z b ended source sink (BadCell at) few h = elim h.3 [
+  | inl q ↦ no-fault-cause form (take max b) (BadCell at) (λ k e. cc) (λ k e. cc) q
+  | inr q ↦ no-end-cause form b (BadCell at) (λ k e. cc) q.1
 ]
-ran-cause max z b ended source sink Memory few h = elim h.3 [
-  | inl q ↦ no-fault-cause (take max b) Memory (λ k e. cc) (λ k e. cc) q
-  | inr q ↦ no-end-cause b Memory (λ k e. cc) q.1
+ran-cause form max z b ended source sink Memory few h = elim h.3 [
+  | inl q ↦ no-fault-cause form (take max b) Memory (λ k e. cc) (λ k e. cc) q
+  | inr q ↦ no-end-cause form b Memory (λ k e. cc) q.1
 ]
-ran-cause max z b ended source sink BadStatusText few h = elim h.3 [
-  | inl q ↦ no-fault-cause (take max b) BadStatusText (λ k e. cc) (λ k e. cc) q
-  | inr q ↦ no-end-cause b BadStatusText (λ k e. cc) q.1
+ran-cause form max z b ended source sink BadStatusText few h = elim h.3 [
+  | inl q ↦ no-fault-cause form (take max b) BadStatusText (λ k e. cc) (λ k e. cc) q
+  | inr q ↦ no-end-cause form b BadStatusText (λ k e. cc) q.1
 ]
-ran-cause max z b ended source sink (BadPadding at) few h = elim h.3 [
-  | inl q ↦ no-fault-cause (take max b) (BadPadding at) (λ k e. cc) (λ k e. cc) q
-  | inr q ↦ no-end-cause b (BadPadding at) (λ k e. cc) q.1
+ran-cause form max z b ended source sink (BadPadding at) few h = elim h.3 [
+  | inl q ↦ no-fault-cause form (take max b) (BadPadding at) (λ k e. cc) (λ k e. cc) q
+  | inr q ↦ no-end-cause form b (BadPadding at) (λ k e. cc) q.1
 ]
 
-pub told-cause : {max : ℕ} {z : List ℕ → Type 0} {ended : Bool} {source sink : Change} {e : RunError} → Run max encoding z ended source sink (Err e)
+pub told-cause : (form : Form) {max : ℕ} {z : List ℕ → Type 0} {ended : Bool} {source sink : Change} {e : RunError} → Run max (encoding form) z ended source sink (Err e)
     → (b : List ℕ) → Told source.old source.new b → IsCauseOf max b ended e
-told-cause {max} {z} {ended} {source} {sink} {e} run b t = ran-cause max z b ended source sink e (few-told run b t) (ran-told run b t)
+told-cause form {max} {z} {ended} {source} {sink} {e} run b t = ran-cause form max z b ended source sink e (few-told run b t) (ran-told run b t)
 
 -- an input of whole blocks is one that has no fault
-pub file-clean : (max : ℕ) (b : List ℕ) → IsBlockFile b → length b ≤ max → Clean max encoding b
-file-clean max b h l = record { short = l; clean = lawful-clean b (record { is = h.lawful }) }
+pub file-clean : (form : Form) (max : ℕ) (b : List ℕ) → IsBlockFile b → length b ≤ max → Clean max (encoding form) b
+file-clean form max b h l = record { short = l; clean = lawful-clean form b (record { is = h.lawful }) }
 
-pub clean-file : (b : List ℕ) → first_fault encoding b ≡ None → encoding.end_fault b ≡ None → IsBlockFile b
-clean-file b c e = record { whole = whole; lawful = (clean-lawful b c).is }
+pub clean-file : (form : Form) (b : List ℕ) → first_fault (encoding form) b ≡ None → (encoding form).end_fault b ≡ None → IsBlockFile b
+clean-file form b c e = record { whole = whole; lawful = (clean-lawful form b c).is }
   where
     some-none : {x : RunError} → Some x ≡ None → ⊥
     some-none q = cc
 
     whole : length b % (4 * block_slots) ≡ 0
-    whole = elim (end-cases b) [ inl q ↦ q.1 | inr q ↦ absurd (some-none (sym q.0 ∙ e)) ]
+    whole = elim (end-cases form b) [ inl q ↦ q.1 | inr q ↦ absurd (some-none (sym q.0 ∙ e)) ]
 
 -- the counts of a run
 pub counted : (b : List ℕ) (n blocks : ℕ) → n ≡ length b → blocks ≡ length (whole_blocks b)
@@ -260,7 +264,11 @@ counted b n blocks e f = rw (e, f) refl
 pub starts : (file : FileReader) → file.seen ≡ 0 → file.words ≡ [] → file.bytes ≡ [] → file.fault ≡ None → Encodes file 0 []
 starts file a b c d = record { reader = reader-new file a b c d; lawful = record { is = lawful-words [] refl }; count = sym (ap length whole_blocks-nil) }
 
--- the end of a block file writes nothing
-pub no-end : (b : List ℕ) → encoding.ends b ≡ []
-unfolding encoding
-no-end b = refl
+-- a run stopped by the sink
+pub front-encoded : (form : Form) (max : ℕ) (b : List ℕ) (ended : Bool) (t t' : Option (List ℕ))
+    → GrewFront t t' (out (encoding form) (take max b)) ⊎ (CleanEnd max (encoding form) b ended × ((encoding form).end_fault b ≡ None) × GrewFront t t' (whole (encoding form) b))
+    → GrewFront t t' (encoded form (take max b)) ⊎ (WholeFile max b ended × GrewFront t t' (written form (stream Low (whole_blocks b))))
+front-encoded form max b ended t t' h = elim h [
+  | inl g ↦ inl (front-is (out-encoded form (take max b)) g)
+  | inr g ↦ inr (record { lawful = clean-file form b g.0.clean.clean g.1; short = g.0.clean.short; end = g.0.end }, front-is (whole-encoded form b) g.2)
+]

@@ -3,7 +3,8 @@ use Rattle.std.proofs.Common.{◌≡◌, ℕ, zero, suc, ◌+◌, ◌/◌, ◌�
 use Rattle.aes3_cell.specs.declared.level.Level.TheVariants.{Low}
 use Rattle.aes3_cell.specs.declared.refusal.RunError.{RunError}
 use Rattle.aes3_cell.specs.Ends.{Grew, GrewFront}
-use Rattle.aes3_cell.specs.Text.{text_of}
+use Rattle.aes3_cell.specs.declared.form.Form.{Form}
+use Rattle.aes3_cell.specs.Written.{bytes_of, ending}
 use Rattle.aes3_cell.proofs.Growing.{grew-none, grew-is, front-is}
 use Rattle.aes3_block.specs.declared.file.FileFault.{FileFault}
 use Rattle.aes3_block.specs.declared.file.FileFault.TheVariants as fault
@@ -23,19 +24,19 @@ unfolding reader_of
 no-fault b = refl
 
 -- one byte that is no fault
-one-clean : (b : List ℕ) (x : ℕ) (block : Option (List (List Bool))) → byte_fault (reader_of b) x ≡ None → block_with (reader_of b) x ≡ block
-    → (fault_behind encoding b (x ∷ []) ≡ None) × (out_behind encoding b (x ∷ []) ≡ block_written block)
+one-clean : (form : Form) (b : List ℕ) (x : ℕ) (block : Option (List (List Bool))) → byte_fault (reader_of b) x ≡ None → block_with (reader_of b) x ≡ block
+    → (fault_behind (encoding form) b (x ∷ []) ≡ None) × (out_behind (encoding form) b (x ∷ []) ≡ block_written form block)
 unfolding encoding
-one-clean b x block e f = (
+one-clean form b x block e f = (
   ap (λ o. or_else (refused_by o) None) e,
-  ap (λ o. unless (refused_by o) (block_written (block_with (reader_of b) x) ++ [])) e ∙ append-nil (block_written (block_with (reader_of b) x)) ∙ ap block_written f,
+  ap (λ o. unless (refused_by o) (block_written form (block_with (reader_of b) x) ++ [])) e ∙ append-nil (block_written form (block_with (reader_of b) x)) ∙ ap (block_written form) f,
 )
 
-one-fault : (b : List ℕ) (x : ℕ) (f : FileFault) → byte_fault (reader_of b) x ≡ Some f
-    → (fault_behind encoding b (x ∷ []) ≡ Some (refusal_of f)) × (out_behind encoding b (x ∷ []) ≡ [])
+one-fault : (form : Form) (b : List ℕ) (x : ℕ) (f : FileFault) → byte_fault (reader_of b) x ≡ Some f
+    → (fault_behind (encoding form) b (x ∷ []) ≡ Some (refusal_of f)) × (out_behind (encoding form) b (x ∷ []) ≡ [])
 unfolding encoding
-one-fault b x f e =
-    (ap (λ o. or_else (refused_by o) None) e, ap (λ o. unless (refused_by o) (block_written (block_with (reader_of b) x) ++ [])) e)
+one-fault form b x f e =
+    (ap (λ o. or_else (refused_by o) None) e, ap (λ o. unless (refused_by o) (block_written form (block_with (reader_of b) x) ++ [])) e)
 
 -- what the answer says, of the reader behind b
 answered-of : (r : FileReader) (b : List ℕ) (x : ℕ) (block : Option (List (List Bool))) → r ≡ reader_of b → Ok block ≡ answer_with r x
@@ -60,73 +61,78 @@ next-encodes {file} {blocks} new b x block h a n =
       count = ap (λ k. k + length (added_blocks block)) h.count ∙ sym (length-append (whole_blocks b) (added_blocks block)) ∙ ap length (sym g);
     }
 
-fed-byte : {file : FileReader} {blocks : ℕ} (new : FileReader) (x : ℕ) (block : Option (List (List Bool))) (t t' : Option (List ℕ))
-    → Ok block ≡ answer_with file x → new ≡ next_with file x → Grew t t' (block_written block)
-    → Fed encoding encoding (Encodes file blocks) (Encodes new (blocks + length (added_blocks block))) t t' (x ∷ [])
-fed-byte {file} {blocks} new x block t t' a n g = record {
+fed-byte : (form : Form) {file : FileReader} {blocks : ℕ} (new : FileReader) (x : ℕ) (block : Option (List (List Bool))) (t t' : Option (List ℕ))
+    → Ok block ≡ answer_with file x → new ≡ next_with file x → Grew t t' (block_written form block)
+    → Fed (encoding form) (encoding form) (Encodes file blocks) (Encodes new (blocks + length (added_blocks block))) t t' (x ∷ [])
+fed-byte form {file} {blocks} new x block t t' a n g = record {
   same = refl;
-  clean = λ b h. let q = answered-of file b x block h.reader a in (one-clean b x block q.0 q.1).0;
+  clean = λ b h. let q = answered-of file b x block h.reader a in (one-clean form b x block q.0 q.1).0;
   follows = λ b h. next-encodes new b x block h a n;
-  grew = λ b h. let q = answered-of file b x block h.reader a in grew-is (sym (one-clean b x block q.0 q.1).1) g;
+  grew = λ b h. let q = answered-of file b x block h.reader a in grew-is (sym (one-clean form b x block q.0 q.1).1) g;
 }
 
-pub byte-none : {file : FileReader} {blocks : ℕ} (new : FileReader) (x : ℕ) (t : Option (List ℕ)) → Ok None ≡ answer_with file x → new ≡ next_with file x
-    → Fed encoding encoding (Encodes file blocks) (Encodes new blocks) t t (x ∷ [])
-byte-none {file} {blocks} new x t a n =
-    subst (λ (k : ℕ). Fed encoding encoding (Encodes file blocks) (Encodes new k) t t (x ∷ [])) (omega arith) (fed-byte new x None t t a n (grew-none refl))
+pub byte-none : (form : Form) {file : FileReader} {blocks : ℕ} (new : FileReader) (x : ℕ) (t : Option (List ℕ)) → Ok None ≡ answer_with file x → new ≡ next_with file x
+    → Fed (encoding form) (encoding form) (Encodes file blocks) (Encodes new blocks) t t (x ∷ [])
+byte-none form {file} {blocks} new x t a n =
+    subst (λ (k : ℕ). Fed (encoding form) (encoding form) (Encodes file blocks) (Encodes new k) t t (x ∷ [])) (omega arith) (fed-byte form new x None t t a n (grew-none refl))
 
-pub byte-block : {file : FileReader} {blocks : ℕ} (new : FileReader) (x : ℕ) (block : List (List Bool)) (t t' : Option (List ℕ))
-    → Ok (Some block) ≡ answer_with file x → new ≡ next_with file x → Grew t t' (text_of (block_cells Low block))
-    → Fed encoding encoding (Encodes file blocks) (Encodes new (blocks + 1)) t t' (x ∷ [])
-byte-block new x block t t' a n g = fed-byte new x (Some block) t t' a n g
+pub byte-block : (form : Form) {file : FileReader} {blocks : ℕ} (new : FileReader) (x : ℕ) (block : List (List Bool)) (t t' : Option (List ℕ))
+    → Ok (Some block) ≡ answer_with file x → new ≡ next_with file x → Grew t t' (bytes_of form (block_cells Low block))
+    → Fed (encoding form) (encoding form) (Encodes file blocks) (Encodes new (blocks + 1)) t t' (x ∷ [])
+byte-block form new x block t t' a n g = fed-byte form new x (Some block) t t' a n g
 
-pub byte-front : {file : FileReader} {blocks : ℕ} (x : ℕ) (block : List (List Bool)) (t t' : Option (List ℕ))
-    → Ok (Some block) ≡ answer_with file x → GrewFront t t' (text_of (block_cells Low block))
-    → (b : List ℕ) → Encodes file blocks b → GrewFront t t' (out_behind encoding b (x ∷ []))
-byte-front {file} x block t t' a g b h =
-    let q = answered-of file b x (Some block) h.reader a in front-is (sym (one-clean b x (Some block) q.0 q.1).1) g
+pub byte-front : (form : Form) {file : FileReader} {blocks : ℕ} (x : ℕ) (block : List (List Bool)) (t t' : Option (List ℕ))
+    → Ok (Some block) ≡ answer_with file x → GrewFront t t' (bytes_of form (block_cells Low block))
+    → (b : List ℕ) → Encodes file blocks b → GrewFront t t' (out_behind (encoding form) b (x ∷ []))
+byte-front form {file} x block t t' a g b h =
+    let q = answered-of file b x (Some block) h.reader a in front-is (sym (one-clean form b x (Some block) q.0 q.1).1) g
 
 -- a byte that is refused
-stopped-byte : {file : FileReader} {blocks : ℕ} (x : ℕ) (f : FileFault) (t : Option (List ℕ)) → Err f ≡ answer_with file x
-    → Stopped encoding (Encodes file blocks) t t (x ∷ []) (refusal_of f)
-stopped-byte {file} {blocks} x f t a = record {
-  fault = λ b h. (one-fault b x f (here b h)).0;
-  grew = λ b h. grew-is (sym (one-fault b x f (here b h)).1) (grew-none refl);
+stopped-byte : (form : Form) {file : FileReader} {blocks : ℕ} (x : ℕ) (f : FileFault) (t : Option (List ℕ)) → Err f ≡ answer_with file x
+    → Stopped (encoding form) (Encodes file blocks) t t (x ∷ []) (refusal_of f)
+stopped-byte form {file} {blocks} x f t a = record {
+  fault = λ b h. (one-fault form b x f (here b h)).0;
+  grew = λ b h. grew-is (sym (one-fault form b x f (here b h)).1) (grew-none refl);
 }
   where
     here : (b : List ℕ) → Encodes file blocks b → byte_fault (reader_of b) x ≡ Some f
     here b h = answered-err (reader_of b) x f (no-fault b) (a ∙ ap (λ v. answer_with v x) h.reader)
 
-pub byte-refused : (file : FileReader) (blocks : ℕ) (after : List ℕ → Type 0) (x : ℕ) (f : FileFault) (e : RunError) (t : Option (List ℕ)) (k : ℕ) → e ≡ refusal_of f → Err f ≡ answer_with file x
-    → PieceRan encoding encoding (Encodes file blocks) after (x ∷ []) (record { old = t; new = t; failed_old = k; failed_new = k }) (Err e)
-byte-refused file blocks after x f e t k q a =
-    subst (λ (v : RunError). PieceRan encoding encoding (Encodes file blocks) after (x ∷ []) (record { old = t; new = t; failed_old = k; failed_new = k }) (Err v)) (sym q) (go f (stopped-byte x f t a))
+pub byte-refused : (form : Form) (file : FileReader) (blocks : ℕ) (after : List ℕ → Type 0) (x : ℕ) (f : FileFault) (e : RunError) (t : Option (List ℕ)) (k : ℕ) → e ≡ refusal_of f → Err f ≡ answer_with file x
+    → PieceRan (encoding form) (encoding form) (Encodes file blocks) after (x ∷ []) (record { old = t; new = t; failed_old = k; failed_new = k }) (Err e)
+byte-refused form file blocks after x f e t k q a =
+    subst (λ (v : RunError). PieceRan (encoding form) (encoding form) (Encodes file blocks) after (x ∷ []) (record { old = t; new = t; failed_old = k; failed_new = k }) (Err v)) (sym q) (go f (stopped-byte form x f t a))
   where
-    go : (f : FileFault) → Stopped encoding (Encodes file blocks) t t (x ∷ []) (refusal_of f)
-        → PieceRan encoding encoding (Encodes file blocks) after (x ∷ []) (record { old = t; new = t; failed_old = k; failed_new = k }) (Err (refusal_of f))
+    go : (f : FileFault) → Stopped (encoding form) (Encodes file blocks) t t (x ∷ []) (refusal_of f)
+        → PieceRan (encoding form) (encoding form) (Encodes file blocks) after (x ∷ []) (record { old = t; new = t; failed_old = k; failed_new = k }) (Err (refusal_of f))
     go (fault.BadLength left) s = (s, refl)
     go (fault.BadCode at) s = (s, refl)
     go (fault.BadParity at) s = (s, refl)
 
 -- the end
-end-of : (r : FileReader) (b : List ℕ) (e : Result (Unit {0}) FileFault) → r ≡ reader_of b → e ≡ end_answer r → encoding.end_fault b ≡ refused_at_end e
+end-of : (form : Form) (r : FileReader) (b : List ℕ) (e : Result (Unit {0}) FileFault) → r ≡ reader_of b → e ≡ end_answer r → (encoding form).end_fault b ≡ refused_at_end e
 unfolding encoding
-end-of r b e h q = ap refused_at_end (sym (q ∙ ap end_answer h))
+end-of form r b e h q = ap refused_at_end (sym (q ∙ ap end_answer h))
 
-pub end-clean : {file : FileReader} {blocks : ℕ} (t : Option (List ℕ)) → Ok tt ≡ end_answer file
-    → (b : List ℕ) → Encodes file blocks b → (encoding.end_fault b ≡ None) × Encodes file blocks b × Grew t t (encoding.ends b)
+pub end-clean : (form : Form) {file : FileReader} {blocks : ℕ} (t t' : Option (List ℕ)) → Ok tt ≡ end_answer file → Grew t t' (ending form)
+    → (b : List ℕ) → Encodes file blocks b → ((encoding form).end_fault b ≡ None) × Encodes file blocks b × Grew t t' ((encoding form).ends b)
 unfolding encoding
-end-clean {file} t q b h = (end-of file b (Ok tt) h.reader q, h, grew-none refl)
+end-clean form {file} t t' q g b h = (end-of form file b (Ok tt) h.reader q, h, g)
 
-pub end-refused : (file : FileReader) (blocks : ℕ) (after : List ℕ → Type 0) (f : FileFault) (e : RunError) (t : Option (List ℕ)) (k : ℕ) → e ≡ refusal_of f → Err f ≡ end_answer file
-    → EndRan encoding (Encodes file blocks) after (record { old = t; new = t; failed_old = k; failed_new = k }) (Err e)
-end-refused file blocks after f e t k q a =
-    subst (λ (v : RunError). EndRan encoding (Encodes file blocks) after (record { old = t; new = t; failed_old = k; failed_new = k }) (Err v)) (sym q) (go f a)
+pub end-front : (form : Form) {file : FileReader} {blocks : ℕ} (t t' : Option (List ℕ)) → Ok tt ≡ end_answer file → GrewFront t t' (ending form)
+    → (b : List ℕ) → Encodes file blocks b → ((encoding form).end_fault b ≡ None) × GrewFront t t' ((encoding form).ends b)
+unfolding encoding
+end-front form {file} t t' q g b h = (end-of form file b (Ok tt) h.reader q, g)
+
+pub end-refused : (form : Form) (file : FileReader) (blocks : ℕ) (after : List ℕ → Type 0) (f : FileFault) (e : RunError) (t : Option (List ℕ)) (k : ℕ) → e ≡ refusal_of f → Err f ≡ end_answer file
+    → EndRan (encoding form) (Encodes file blocks) after (record { old = t; new = t; failed_old = k; failed_new = k }) (Err e)
+end-refused form file blocks after f e t k q a =
+    subst (λ (v : RunError). EndRan (encoding form) (Encodes file blocks) after (record { old = t; new = t; failed_old = k; failed_new = k }) (Err v)) (sym q) (go f a)
   where
-    go : (f : FileFault) → Err f ≡ end_answer file → EndRan encoding (Encodes file blocks) after (record { old = t; new = t; failed_old = k; failed_new = k }) (Err (refusal_of f))
-    go (fault.BadLength left) a = (λ b h. (end-of file b (Err (fault.BadLength left)) h.reader a, grew-none refl), refl)
-    go (fault.BadCode at) a = (λ b h. (end-of file b (Err (fault.BadCode at)) h.reader a, grew-none refl), refl)
-    go (fault.BadParity at) a = (λ b h. (end-of file b (Err (fault.BadParity at)) h.reader a, grew-none refl), refl)
+    go : (f : FileFault) → Err f ≡ end_answer file → EndRan (encoding form) (Encodes file blocks) after (record { old = t; new = t; failed_old = k; failed_new = k }) (Err (refusal_of f))
+    go (fault.BadLength left) a = (λ b h. (end-of form file b (Err (fault.BadLength left)) h.reader a, grew-none refl), refl)
+    go (fault.BadCode at) a = (λ b h. (end-of form file b (Err (fault.BadCode at)) h.reader a, grew-none refl), refl)
+    go (fault.BadParity at) a = (λ b h. (end-of form file b (Err (fault.BadParity at)) h.reader a, grew-none refl), refl)
 
 -- how many bytes, and how many blocks at most
 pub encodes-seen : {file : FileReader} {blocks : ℕ} {b : List ℕ} → Encodes file blocks b → file.seen ≡ length b

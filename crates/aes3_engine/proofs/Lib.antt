@@ -9,5 +9,10 @@ pub mod TextLemmas
 pub mod TextRuns
 pub mod Reports
 pub mod Locking
-pub mod BlockReports
+pub mod ReportLemmas
+pub mod CellRuns
+pub mod ReportRuns
 pub mod BlockRuns
+pub mod RewrittenBlocks
+pub mod PackedLemmas
+pub mod PackedRuns

@@ -1,12 +1,12 @@
 -- What a run says of a source that tells its bytes.
-use Rattle.std.proofs.Common.{◌≡◌, ◌≢◌, ℕ, ◌+◌, ◌≤◌, inl, inr, Bool, List, [], ◌++◌, length, take, Some, None, Result, Ok, Err, IsOk, sym, ap, ◌∙◌, subst, append-nil, refl, arith}
+use Rattle.std.proofs.Common.{◌≡◌, ◌≢◌, ℕ, ◌+◌, ◌≤◌, ◌⊎◌, inl, inr, Bool, List, length, take, Some, None, Result, Ok, Err, IsOk, sym, ap, ◌∙◌, subst, refl, arith}
 use Rattle.std.proofs.lemmas.List.{take_all}
 use Rattle.aes3_cell.specs.declared.refusal.RunError.{RunError}
 use Rattle.aes3_cell.specs.declared.refusal.RunError.TheVariants.{Read, Write, TooLong}
 use Rattle.aes3_cell.specs.Ends.{Grew, GrewFront, Told}
-use Rattle.aes3_cell.proofs.Growing.{grew-is, front-is, told-is}
+use Rattle.aes3_cell.proofs.Growing.{grew-is, told-is}
 use Rattle.aes3_engine.specs.Converting.{Reading, first_fault, out, whole}
-use Rattle.aes3_engine.specs.Running.{Ran, Run, Change, Quiet, Clean}
+use Rattle.aes3_engine.specs.Running.{Ran, Run, Change, Quiet, Clean, CleanEnd}
 
 -- the bytes of a run are those that the source tells
 pub ran-told : {max : ℕ} {r : Reading} {z : List ℕ → Type 0} {ended : Bool} {source sink : Change} {result : Result ℕ RunError}
@@ -25,15 +25,6 @@ wrote max r z b ended source sink Write h n = absurd (n refl)
 wrote max r z b ended source sink Read h n = grew-is (ap (out r) (sym (take_all max b h.0.short))) h.3
 wrote max r z b ended source sink TooLong h n = h.4
 wrote max r z b ended source sink e h n = h.2
-
--- after a fault of the sink, where the end writes nothing
-wrote-front : (max : ℕ) (r : Reading) (z : List ℕ → Type 0) (b : List ℕ) (ended : Bool) (source sink : Change)
-    → ((b : List ℕ) → r.ends b ≡ []) → Ran max r z b ended source sink (Err Write) → GrewFront sink.old sink.new (out r (take max b))
-unfolding whole
-wrote-front max r z b ended source sink n h = elim h.2 [
-  | inl g ↦ g
-  | inr g ↦ front-is (ap (λ v. out r b ++ v) (n b) ∙ append-nil (out r b) ∙ ap (out r) (sym (take_all max b g.0.clean.short))) g.2
-]
 
 -- Ok is owed where nothing failed and the input has no fault and fits
 owed : (max : ℕ) (r : Reading) (z : List ℕ → Type 0) (b : List ℕ) (ended : Bool) (source sink : Change) (result : Result ℕ RunError)
@@ -56,9 +47,10 @@ pub told-wrote : {max : ℕ} {r : Reading} {z : List ℕ → Type 0} {ended : Bo
 told-wrote {max} {r} {z} {ended} {source} {sink} {e} run n b t = wrote max r z b ended source sink e (ran-told run b t) n
 
 pub told-front : {max : ℕ} {r : Reading} {z : List ℕ → Type 0} {ended : Bool} {source sink : Change} {e : RunError} → Run max r z ended source sink (Err e)
-    → ((b : List ℕ) → r.ends b ≡ []) → e ≡ Write → (b : List ℕ) → Told source.old source.new b → GrewFront sink.old sink.new (out r (take max b))
-told-front {max} {r} {z} {ended} {source} {sink} {e} run n q b t =
-    wrote-front max r z b ended source sink n (ran-told (subst (λ (v : RunError). Run max r z ended source sink (Err v)) q run) b t)
+    → e ≡ Write → (b : List ℕ) → Told source.old source.new b
+    → GrewFront sink.old sink.new (out r (take max b)) ⊎ (CleanEnd max r b ended × (r.end_fault b ≡ None) × GrewFront sink.old sink.new (whole r b))
+told-front {max} {r} {z} {ended} {source} {sink} run q b t =
+    (ran-told (subst (λ (v : RunError). Run max r z ended source sink (Err v)) q run) b t).2
 
 pub told-owed : {max : ℕ} {r : Reading} {z : List ℕ → Type 0} {ended : Bool} {source sink : Change} {result : Result ℕ RunError} → Run max r z ended source sink result
     → (b : List ℕ) → Told source.old source.new b → Clean max r b → r.end_fault b ≡ None → Quiet source → Quiet sink → IsOk result

@@ -6,15 +6,16 @@ use Rattle.aes3_cell.specs.declared.refusal.RunError.TheVariants.{BadCell, BadLe
 use Rattle.aes3_cell.specs.declared.counts.Counts.{Counts}
 use Rattle.aes3_block.specs.declared.file.FileFault.{FileFault}
 use Rattle.aes3_block.specs.Blocks.{block_slots, block_len, block_cells, stream}
-use Rattle.aes3_block.specs.Files.{words_of, lawful_words, has_code, has_parity, whole_blocks}
+use Rattle.aes3_block.specs.Files.{words_of, lawful_words, has_code, has_parity, whole_blocks, IsBlockFile}
 use Rattle.aes3_block.specs.Readers.{FileReader, reader_of, byte_fault, block_with, end_answer}
 use Rattle.aes3_block.specs.Refusals.{refusal_of}
 use Rattle.aes3_engine.specs.Converting.{Reading}
-use Rattle.aes3_engine.specs.Output.{written}
+use Rattle.aes3_cell.specs.declared.form.Form.{Form}
+use Rattle.aes3_cell.specs.Written.{bytes_of, ending}
 
--- the cells of the blocks that stand whole in a block file before its first fault, in the normal polarity, as they are written
-unfoldable pub encoded : List ℕ → List ℕ
-encoded b = written (stream Low (whole_blocks b))
+-- the cells of the blocks that stand whole in a block file before its first fault, in the normal polarity, in the output's form: without an ending
+unfoldable pub encoded : Form → List ℕ → List ℕ
+encoded form b = bytes_of form (stream Low (whole_blocks b))
 
 -- the same byte by byte
 abbrev pub refused_by : Option FileFault → Option RunError
@@ -25,16 +26,16 @@ abbrev pub refused_at_end : Result (Unit {0}) FileFault → Option RunError
 refused_at_end (Ok u) = None
 refused_at_end (Err f) = Some (refusal_of f)
 
-abbrev pub block_written : Option (List (List Bool)) → List ℕ
-block_written None = []
-block_written (Some b) = written (block_cells Low b)
+abbrev pub block_written : Form → Option (List (List Bool)) → List ℕ
+block_written form None = []
+block_written form (Some b) = bytes_of form (block_cells Low b)
 
-unfoldable pub encoding : Reading
-encoding = record {
+unfoldable pub encoding : Form → Reading
+encoding form = record {
   fault = λ b x. refused_by (byte_fault (reader_of b) x);
-  adds = λ b x. block_written (block_with (reader_of b) x);
+  adds = λ b x. block_written form (block_with (reader_of b) x);
   end_fault = λ b. refused_at_end (end_answer (reader_of b));
-  ends = λ b. [];
+  ends = λ b. ending form;
 }
 
 -- all words of these bytes are lawful
@@ -58,6 +59,12 @@ pub record EndsInBlock (b : List ℕ) (left : ℕ) : Type 0 where
   pub lawful : AllLawful b
   pub count : left ≡ length b % (4 * block_slots)
   pub some : 0 < left
+
+-- the source has ended behind a block file of at most max bytes
+pub record WholeFile (max : ℕ) (b : List ℕ) (ended : Bool) : Type 0 where
+  pub lawful : IsBlockFile b
+  pub short : length b ≤ max
+  pub end : IsTrue ended
 
 -- why a run that read the bytes b was refused
 abbrev pub IsCauseOf : ℕ → List ℕ → Bool → RunError → Type 0

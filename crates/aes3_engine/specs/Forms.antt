@@ -1,10 +1,15 @@
 -- What the two forms of cells make of an input's bytes.
-use Rattle.std.specs.Prelude.{ℕ, List, Some, None, ◌≡◌, length, if◌then◌else◌}
+use Rattle.std.specs.Prelude.{ℕ, List, ◌++◌, Some, None, Result, Ok, Err, ◌≡◌, length, take, if◌then◌else◌}
 use Rattle.aes3_cell.specs.declared.level.Level.{Level}
-use Rattle.aes3_cell.specs.declared.refusal.RunError.TheVariants.{BadCell}
+use Rattle.aes3_cell.specs.declared.refusal.RunError.TheVariants.{BadCell, BadPadding}
+use Rattle.aes3_cell.specs.declared.ends.Fault.{Fault}
+use Rattle.aes3_cell.specs.Ends.{Grew, GrewFront}
+use Rattle.aes3_cell.specs.Packed.{octet_cells, is_packed, last_place, cells_of_packed, whole_cells}
+use Rattle.aes3_cell.specs.PackedReading.{PackedReader, packed_reader_of, packed_answer, packed_end, answer_cells, end_cells}
 use Rattle.aes3_cell.specs.CellText.{is_good_byte, byte_cells, cells_of_text, IsCellText}
 use Rattle.aes3_cell.specs.TextReading.{TextReader, text_reader_of}
 use Rattle.aes3_engine.specs.Converting.{Reading}
+use Rattle.aes3_engine.specs.Running.{Change, Quiet, Failed}
 use Rattle.aes3_engine.specs.Taking.{Writing, behind}
 
 -- cell text: a bad byte is a fault, the cell of any other is handed on
@@ -22,3 +27,37 @@ pub record TextTaken (text : TextReader) (cells : ℕ) (f : List Level → Type 
   pub lawful : IsCellText b
   pub count : cells ≡ length (cells_of_text b)
   pub taker : f (cells_of_text b)
+
+-- the first n cells of an octet
+unfoldable pub octet_front : ℕ → ℕ → List Level
+octet_front n octet = take n (octet_cells octet)
+
+-- packed cells: an octet is handed on when two more have come, and what of the last two is used at the end
+unfoldable pub packed_reading : Writing Level → Reading
+packed_reading w = record {
+  fault = λ b x. None;
+  adds = λ b x. behind w (whole_cells b) (answer_cells (packed_answer (packed_reader_of b)));
+  end_fault = λ b. if is_packed b then None else Some (BadPadding (last_place b));
+  ends = λ b. behind w (whole_cells b) (end_cells (packed_end (packed_reader_of b))) ++ w.ends (cells_of_packed b);
+}
+
+-- a reader that has taken the octets b; those cells of them that stand whatever follows were counted and taken; and the same behind the end
+pub record PackedTaken (packed : PackedReader) (cells : ℕ) (f : List Level → Type 0) (b : List ℕ) : Type 0 where
+  pub reader : packed ≡ packed_reader_of b
+  pub count : cells ≡ length (whole_cells b)
+  pub taker : f (whole_cells b)
+
+pub record PackedEnded (cells : ℕ) (z : List Level → Type 0) (b : List ℕ) : Type 0 where
+  pub count : cells ≡ length (cells_of_packed b)
+  pub taker : z (cells_of_packed b)
+
+-- a taker that followed f₀ and wrote as w₀ was handed the cells d; and the same with the end behind them
+abbrev pub CellsRan : Writing Level → Writing Level → (List Level → Type 0) → (List Level → Type 0) → List Level → Change → Result (Unit {0}) Fault → Type 0
+CellsRan w₀ w f₀ f d sink (Ok u) =
+    (w ≡ w₀) × ((c : List Level) → f₀ c → f (c ++ d)) × ((c : List Level) → f₀ c → Grew sink.old sink.new (behind w₀ c d)) × Quiet sink
+CellsRan w₀ w f₀ f d sink (Err x) = Failed sink × ((c : List Level) → f₀ c → GrewFront sink.old sink.new (behind w₀ c d))
+
+abbrev pub EndCellsRan : Writing Level → (List Level → Type 0) → (List Level → Type 0) → List Level → Change → Result (Unit {0}) Fault → Type 0
+EndCellsRan w₀ f₀ z d sink (Ok u) =
+    ((c : List Level) → f₀ c → z (c ++ d) × Grew sink.old sink.new (behind w₀ c d ++ w₀.ends (c ++ d))) × Quiet sink
+EndCellsRan w₀ f₀ z d sink (Err x) = Failed sink × ((c : List Level) → f₀ c → GrewFront sink.old sink.new (behind w₀ c d ++ w₀.ends (c ++ d)))

@@ -1,24 +1,27 @@
 //! Block files to cells.
 
-ghost use Rattle.std.specs.Prelude.{◌≡◌, ◌≢◌, ℕ, ◌+◌, ◌<◌, ◌≤◌, ◌^◌, List, [], ◌∷◌, Bool, Err, length, take, IfOk, IfErr, IsOk, OnErr, IsTrue};
+ghost use Rattle.std.specs.Prelude.{◌≡◌, ◌≢◌, ℕ, ◌+◌, ◌<◌, ◌≤◌, ◌^◌, ◌⊎◌, List, [], ◌∷◌, Bool, Err, length, take, IfOk, IfErr, IsOk, OnErr, IsTrue};
 ghost use Rattle.std.specs.List.{All};
 ghost use Rattle.aes3_cell.specs.Ends.{Grew, GrewFront, Told};
+ghost use Rattle.aes3_cell.specs.Written.{written};
+ghost use Rattle.aes3_cell.specs.declared.level.Level.{Level};
 ghost use Rattle.aes3_block.specs.Blocks.{IsBlock, stream};
-ghost use Rattle.aes3_block.specs.Files.{file, IsBlockFile};
-ghost use Rattle.aes3_engine.specs.Encoding.{Encodes, IsCauseOf, encode_counts, encoded, encoding};
-ghost use Rattle.aes3_engine.specs.Output.{written};
+ghost use Rattle.aes3_block.specs.Files.{file, IsBlockFile, whole_blocks};
+ghost use Rattle.aes3_lock.specs.Reports.{blocks, normal};
+ghost use Rattle.aes3_engine.specs.Encoding.{Encodes, IsCauseOf, WholeFile, encode_counts, encoded, encoding};
 ghost use Rattle.aes3_engine.specs.Running.{PieceRan};
 
 use crate::conversion::{Input, convert};
-use aes3_block::{BlockFile, put_block_cells};
-use aes3_cell::{Counts, Level, RunError, Sink, Source};
+use aes3_block::{BlockFile, put_block};
+use aes3_cell::{Counts, Form, Level, RunError, Sink, Source, put_ending};
 
 /// How many cells a block has.
 const BLOCK_CELLS: u64 = 24_576;
 
-/// Writes the cells of each block, and counts them.
+/// Writes the cells of each block in a form, and counts the blocks.
 #[derive(Drop)]
 struct Encoder {
+    output: Form,
     blocks: u64,
 }
 
@@ -31,12 +34,12 @@ fn take_byte<T: Sink>(
 ) -> Result<(), RunError>
     requires room { T.failed sink.old + 1 < 2 ^ 64 }
     requires following { (b : List ℕ) × (length b < 2 ^ 40) × Encodes file.old encoder.old.blocks b }
-    ensures { PieceRan encoding encoding (Encodes file.old encoder.old.blocks) (Encodes file.new encoder.new.blocks) (byte ∷ [])
+    ensures { PieceRan (encoding encoder.old.output) (encoding encoder.new.output) (Encodes file.old encoder.old.blocks) (Encodes file.new encoder.new.blocks) (byte ∷ [])
         (record { old = T.taken sink.old; new = T.taken sink.new; failed_old = T.failed sink.old; failed_new = T.failed sink.new }) result }
 {
     match file.feed_byte(byte) {
         Ok(None) => Ok(()),
-        Ok(Some(block)) => match put_block_cells(Level::Low, &block, sink) {
+        Ok(Some(block)) => match put_block(encoder.output, Level::Low, &block, sink) {
             Ok(()) => {
                 encoder.blocks += 1;
                 Ok(())
@@ -50,7 +53,7 @@ fn take_byte<T: Sink>(
 impl Input<Encoder> for BlockFile {
     ghost follows = { λ file encoder. Encodes file encoder.blocks };
 
-    ghost reads = { λ _ _. encoding };
+    ghost reads = { λ _ encoder. encoding encoder.output };
 
     ghost finished = { λ file encoder. Encodes file encoder.blocks };
 
@@ -69,9 +72,12 @@ impl Input<Encoder> for BlockFile {
         Ok(())
     }
 
-    fn finish<T: Sink>(&mut self, _encoder: &mut Encoder, _sink: &mut T) -> Result<(), RunError> {
+    fn finish<T: Sink>(&mut self, encoder: &mut Encoder, sink: &mut T) -> Result<(), RunError> {
         match self.end() {
-            Ok(()) => Ok(()),
+            Ok(()) => match put_ending(encoder.output, sink) {
+                Ok(()) => Ok(()),
+                Err(_) => Err(RunError::Write),
+            },
             Err(fault) => Err(RunError::from(fault)),
         }
     }
@@ -82,12 +88,13 @@ impl Input<Encoder> for BlockFile {
 ///
 /// # Errors
 /// `BadCode`, `BadParity` and `BadLength` where the input is no block file, `TooLong` where it has more than
-/// `max_bytes` bytes, `Read` and `Write` where an end failed. Then the blocks that were whole before are written, and
-/// after `Write` a front of their text.
+/// `max_bytes` bytes, `Read` and `Write` where an end failed. Then the blocks that were whole before are written
+/// without an ending, and after `Write` a front of the output.
 pub fn encode<S: Source, T: Sink>(
     source: &mut S,
     sink: &mut T,
     max_bytes: u64,
+    output: Form,
 ) -> Result<Counts, RunError>
     requires source_room { S.failed source.old + 1 < 2 ^ 64 }
     requires sink_room { T.failed sink.old + 1 < 2 ^ 64 }
@@ -95,9 +102,12 @@ pub fn encode<S: Source, T: Sink>(
 
     // Where it answers Ok, the input was a block file and the cells of its blocks are written.
     ensures cells { IfOk result (λ _. (blocks : List (List (List Bool))) → All IsBlock blocks → Told (S.given source.old) (S.given source.new) (file blocks)
-        → Grew (T.taken sink.old) (T.taken sink.new) (written (stream Level.Low blocks))) }
-    ensures text { IfOk result (λ _. (b : List ℕ) → Told (S.given source.old) (S.given source.new) b
-        → Grew (T.taken sink.old) (T.taken sink.new) (encoded b)) }
+        → Grew (T.taken sink.old) (T.taken sink.new) (written output (stream Level.Low blocks))) }
+    ensures whole { IfOk result (λ _. (b : List ℕ) → Told (S.given source.old) (S.given source.new) b
+        → Grew (T.taken sink.old) (T.taken sink.new) (written output (stream Level.Low (whole_blocks b)))) }
+    // What `decode` writes of cells gives what `normalise` writes of them.
+    ensures decoded { IfOk result (λ _. (c : List Level) → Told (S.given source.old) (S.given source.new) (file (blocks c))
+        → Grew (T.taken sink.old) (T.taken sink.new) (written output (normal c))) }
     ensures block_file { IfOk result (λ _. (b : List ℕ) → Told (S.given source.old) (S.given source.new) b → IsBlockFile b) }
     ensures counts { IfOk result (λ counts. (b : List ℕ) → Told (S.given source.old) (S.given source.new) b → counts ≡ encode_counts b) }
     ensures ended { IfOk result (λ _. IsTrue (S.has_ended source.new)) }
@@ -112,13 +122,14 @@ pub fn encode<S: Source, T: Sink>(
     ensures read { result ≡ Err RunError.Read → S.failed source.new ≡ S.failed source.old + 1 }
     ensures write { result ≡ Err RunError.Write → T.failed sink.new ≡ T.failed sink.old + 1 }
     ensures refused { OnErr result (result ≢ Err RunError.Write → (b : List ℕ) → Told (S.given source.old) (S.given source.new) b
-        → Grew (T.taken sink.old) (T.taken sink.new) (encoded (take max_bytes b))) }
+        → Grew (T.taken sink.old) (T.taken sink.new) (encoded output (take max_bytes b))) }
     ensures front { result ≡ Err RunError.Write → (b : List ℕ) → Told (S.given source.old) (S.given source.new) b
-        → GrewFront (T.taken sink.old) (T.taken sink.new) (encoded (take max_bytes b)) }
+        → GrewFront (T.taken sink.old) (T.taken sink.new) (encoded output (take max_bytes b))
+        ⊎ (WholeFile max_bytes b (S.has_ended source.new) × GrewFront (T.taken sink.old) (T.taken sink.new) (written output (stream Level.Low (whole_blocks b)))) }
     ensures few { (b : List ℕ) → Told (S.given source.old) (S.given source.new) b → length b ≤ max_bytes + 1 }
 {
     let mut file = BlockFile::new();
-    let mut encoder = Encoder { blocks: 0 };
+    let mut encoder = Encoder { output, blocks: 0 };
     match convert(source, sink, max_bytes, &mut file, &mut encoder) {
         Ok(bytes) => Ok(Counts {
             bytes,

@@ -2,18 +2,29 @@
 #![tactic(auto)]
 
 mod blocks;
+mod change;
 mod conversion;
+mod driver;
 mod encoding;
 mod locked;
+mod packed_input;
 mod reading;
+mod report_runs;
 mod reporter;
+mod rewriting;
 mod taker;
+#[cfg(test)]
+mod tests;
 mod text_input;
 
-pub use blocks::BlockWriter;
+pub use blocks::{BlockWriter, run_blocks};
+pub use change::Change;
 pub use conversion::{Input, convert};
+pub use driver::drive;
 pub use encoding::encode;
 pub use locked::Locked;
-pub use reading::{decode, normalise};
+pub use reading::{cut, decode, normalise};
+pub use report_runs::{ReportWriter, run_reports};
 pub use reporter::Reporter;
+pub use rewriting::rewrite;
 pub use taker::Taker;

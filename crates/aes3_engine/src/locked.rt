@@ -1,6 +1,8 @@
 //! Cells as they go through a lock.
 
-ghost use Rattle.std.specs.Prelude.{◌≡◌, List, []};
+ghost use Rattle.std.specs.Prelude.{◌≡◌, ◌+◌, ◌<◌, ◌^◌, ◌++◌, List, [], ◌∷◌, length, IfOk, OnErr};
+ghost use Rattle.aes3_cell.specs.Ends.{Grew, GrewFront};
+ghost use Rattle.aes3_cell.specs.declared.level.Level.{Level};
 ghost use Rattle.aes3_lock.specs.Following.{Follows};
 ghost use Rattle.aes3_lock.specs.Reports.{decided, reports};
 ghost use Rattle.aes3_engine.specs.Reporting.{reporting};
@@ -31,6 +33,31 @@ impl<R: Reporter> Locked<R> {
     }
 }
 
+impl<R: Reporter> Locked<R> {
+    /// Takes a cell that may decide a report.
+    ///
+    /// Apart from `cell`, which goes by almost every cell, since a report holds a whole block.
+    #[inline(never)]
+    fn report_on<T: Sink>(&mut self, sink: &mut T, level: Level) -> Result<(), Fault>
+        requires room { T.failed sink.old + 1 < 2 ^ 64 }
+        requires following { (c : List Level) × (length c + 1 < 2 ^ 43) × Follows self.old.lock c × R.follows self.old.reporter (decided c) }
+        ensures next { IfOk result (λ _. (c : List Level) → Follows self.old.lock c × R.follows self.old.reporter (decided c)
+            → Follows self.new.lock (c ++ level ∷ []) × R.follows self.new.reporter (decided (c ++ level ∷ []))) }
+        ensures same { IfOk result (λ _. R.writes self.new.reporter ≡ R.writes self.old.reporter) }
+        ensures grew { IfOk result (λ _. (c : List Level) → Follows self.old.lock c × R.follows self.old.reporter (decided c)
+            → Grew (T.taken sink.old) (T.taken sink.new) ((reporting (R.writes self.old.reporter)).adds c level)) }
+        ensures count { IfOk result (λ _. T.failed sink.new ≡ T.failed sink.old) }
+        ensures err_count { OnErr result (T.failed sink.new ≡ T.failed sink.old + 1) }
+        ensures err_grew { OnErr result ((c : List Level) → Follows self.old.lock c × R.follows self.old.reporter (decided c)
+            → GrewFront (T.taken sink.old) (T.taken sink.new) ((reporting (R.writes self.old.reporter)).adds c level)) }
+    {
+        match self.lock.push(level) {
+            Some(report) => self.reporter.report(sink, report),
+            None => Ok(()),
+        }
+    }
+}
+
 impl<R: Reporter> Taker for Locked<R> {
     ghost follows = { λ k c. Follows k.lock c × R.follows k.reporter (decided c) };
 
@@ -39,9 +66,10 @@ impl<R: Reporter> Taker for Locked<R> {
     ghost finished = { λ k c. R.finished k.reporter (reports c) };
 
     fn cell<T: Sink>(&mut self, sink: &mut T, level: Level) -> Result<(), Fault> {
-        match self.lock.push(level) {
-            Some(report) => self.reporter.report(sink, report),
-            None => Ok(()),
+        if self.lock.take(level) {
+            Ok(())
+        } else {
+            self.report_on(sink, level)
         }
     }
 

@@ -1,31 +1,41 @@
 //! Cells to blocks, written again as cells or as a block file.
 
-ghost use Rattle.std.specs.Prelude.{◌≡◌, ◌≢◌, ℕ, ◌+◌, ◌<◌, ◌≤◌, ◌^◌, ◌↔◌, ◌⊎◌, List, Bool, Err, length, take, IfOk, IfErr, IsOk, OnErr, IsTrue};
+ghost use Rattle.std.specs.Prelude.{◌≡◌, ◌≢◌, ℕ, ◌+◌, ◌<◌, ◌≤◌, ◌^◌, ◌↔◌, ◌⊎◌, List, [], Bool, Err, length, take, IfOk, IfErr, IsOk, OnErr, IsTrue};
 ghost use Rattle.std.specs.List.{All};
 ghost use Rattle.aes3_cell.specs.Ends.{Grew, GrewFront, Told};
-ghost use Rattle.aes3_cell.specs.CellText.{IsCellText, cells_of_text};
+ghost use Rattle.aes3_cell.specs.Written.{ending, written};
 ghost use Rattle.aes3_cell.specs.declared.level.Level.{Level};
-ghost use Rattle.aes3_block.specs.Blocks.{IsBlock, stream};
+ghost use Rattle.aes3_block.specs.Blocks.{IsBlock};
 ghost use Rattle.aes3_block.specs.Files.{file};
 ghost use Rattle.aes3_lock.specs.Reports.{blocks, normal};
 ghost use Rattle.aes3_lock.specs.Pieces.{IsPiece, whole_blocks};
-ghost use Rattle.aes3_engine.specs.BlockRuns.{IsTextCause, decided_blocks, file_block, normal_block, text_counts, written_stream};
+ghost use Rattle.aes3_engine.specs.BlockRuns.{begun_stream, cut_block, cut_blocks, decided_blocks, file_block, normal_block, written_stream};
 ghost use Rattle.aes3_engine.specs.Driving.{WholeInput};
-ghost use Rattle.aes3_engine.specs.Output.{written};
+ghost use Rattle.aes3_engine.specs.Inputs.{IsInput, cells_before, cells_of};
+ghost use Rattle.aes3_engine.specs.CellRuns.{IsCause};
+ghost use Rattle.aes3_engine.specs.ReportRuns.{counts_of};
 
 use crate::blocks::{BlockWriter, run_blocks};
-use aes3_block::{Block, put_block_cells, put_block_file};
-use aes3_cell::{Counts, Fault, Form, Level, RunError, Sink, Source};
+use aes3_block::{Block, put_block, put_block_file};
+use aes3_cell::{Counts, Fault, Form, Level, RunError, Sink, Source, put_ending};
 
 /// Writes blocks as cells in the normal polarity.
 #[derive(Drop)]
-struct NormalBlocks;
+struct NormalBlocks {
+    output: Form,
+}
 
 impl BlockWriter for NormalBlocks {
-    ghost writes = { λ _. normal_block };
+    ghost writes = { λ k. normal_block k.output };
+
+    ghost ends = { λ k. ending k.output };
 
     fn put<T: Sink>(&self, sink: &mut T, _number: u64, block: &Block) -> Result<(), Fault> {
-        put_block_cells(Level::Low, block, sink)
+        put_block(self.output, Level::Low, block, sink)
+    }
+
+    fn put_end<T: Sink>(&self, sink: &mut T) -> Result<(), Fault> {
+        put_ending(self.output, sink)
     }
 }
 
@@ -36,22 +46,56 @@ struct FileBlocks;
 impl BlockWriter for FileBlocks {
     ghost writes = { λ _. file_block };
 
+    ghost ends = { λ _. [] };
+
     fn put<T: Sink>(&self, sink: &mut T, _number: u64, block: &Block) -> Result<(), Fault> {
         put_block_file(block, sink)
     }
+
+    fn put_end<T: Sink>(&self, _sink: &mut T) -> Result<(), Fault> {
+        Ok(())
+    }
 }
 
-/// Reads cell text from any cell on, and writes the blocks that stand whole and closed in it as one lawful line in the
+/// Writes `count` blocks from number `from` on as cells in the normal polarity.
+#[derive(Drop)]
+struct CutBlocks {
+    stream: NormalBlocks,
+    from: u64,
+    count: u64,
+}
+
+impl BlockWriter for CutBlocks {
+    ghost writes = { λ k. cut_block k.stream.output k.from k.count };
+
+    ghost ends = { λ k. ending k.stream.output };
+
+    fn put<T: Sink>(&self, sink: &mut T, number: u64, block: &Block) -> Result<(), Fault> {
+        if number >= self.from && number - self.from < self.count {
+            self.stream.put(sink, number, block)
+        } else {
+            Ok(())
+        }
+    }
+
+    fn put_end<T: Sink>(&self, sink: &mut T) -> Result<(), Fault> {
+        self.stream.put_end(sink)
+    }
+}
+
+/// Reads cells from any cell on, and writes the blocks that stand whole and closed in them as one lawful line in the
 /// normal polarity: the level before its first cell is `Low` (AES3-3, IEC 60958-1).
 ///
 /// # Errors
-/// `BadCell` where a byte is neither a cell nor a separator, `TooLong` where the input has more than `max_bytes` bytes,
-/// `Read` and `Write` where an end failed. Then the blocks are written that were decided before, and after `Write` a
-/// front of their text.
+/// `BadCell` where a byte of cell text is neither a cell nor a separator, `BadPadding` where packed cells end wrongly,
+/// `TooLong` where the input has more than `max_bytes` bytes, `Read` and `Write` where an end failed. Then the blocks are
+/// written that were decided before, without an ending, and after `Write` a front of the output.
 pub fn normalise<S: Source, T: Sink>(
     source: &mut S,
     sink: &mut T,
     max_bytes: u64,
+    input: Form,
+    output: Form,
 ) -> Result<Counts, RunError>
     requires source_room { S.failed source.old + 1 < 2 ^ 64 }
     requires sink_room { T.failed sink.old + 1 < 2 ^ 64 }
@@ -59,38 +103,38 @@ pub fn normalise<S: Source, T: Sink>(
 
     // Where it answers Ok, exactly the blocks that stand whole and closed in the input are written, as their normal stream.
     ensures normal { IfOk result (λ _. (b : List ℕ) → Told (S.given source.old) (S.given source.new) b
-        → Grew (T.taken sink.old) (T.taken sink.new) (written (normal (cells_of_text b)))) }
+        → Grew (T.taken sink.old) (T.taken sink.new) (written output (normal (cells_of input b)))) }
     // From any starting cell of a lawful stream these are its whole blocks that begin there or later.
     ensures piece { IfOk result (λ _. (s : Level) (bs : List (List (List Bool))) (i j : ℕ) (b : List ℕ) → Told (S.given source.old) (S.given source.new) b
-        → IsPiece s bs i j (cells_of_text b) → Grew (T.taken sink.old) (T.taken sink.new) (written_stream (whole_blocks bs i j))) }
+        → IsPiece s bs i j (cells_of input b) → Grew (T.taken sink.old) (T.taken sink.new) (written_stream output (whole_blocks bs i j))) }
     // Two inputs carry equal block lists exactly if their outputs are equal, and the normal form of an output is that output.
-    ensures tells { (c d : List Level) → written (normal c) ≡ written (normal d) ↔ blocks c ≡ blocks d }
-    ensures again { IfOk result (λ _. (c : List Level) → Told (S.given source.old) (S.given source.new) (written (normal c))
-        → Grew (T.taken sink.old) (T.taken sink.new) (written (normal c))) }
-    ensures text { IfOk result (λ _. (b : List ℕ) → Told (S.given source.old) (S.given source.new) b → IsCellText b) }
-    ensures counts { IfOk result (λ counts. (b : List ℕ) → Told (S.given source.old) (S.given source.new) b → counts ≡ text_counts b) }
+    ensures tells { (c d : List Level) → written output (normal c) ≡ written output (normal d) ↔ blocks c ≡ blocks d }
+    ensures again { IfOk result (λ _. (c : List Level) → Told (S.given source.old) (S.given source.new) (written input (normal c))
+        → Grew (T.taken sink.old) (T.taken sink.new) (written output (normal c))) }
+    ensures input { IfOk result (λ _. (b : List ℕ) → Told (S.given source.old) (S.given source.new) b → IsInput input b) }
+    ensures counts { IfOk result (λ counts. (b : List ℕ) → Told (S.given source.old) (S.given source.new) b → counts ≡ counts_of input b) }
     ensures ended { IfOk result (λ _. IsTrue (S.has_ended source.new)) }
 
-    // It owes Ok where the input is cell text that fits, and neither end failed.
-    ensures owed { (b : List ℕ) → Told (S.given source.old) (S.given source.new) b → IsCellText b → length b ≤ max_bytes
+    // It owes Ok where the input is in its form and fits, and neither end failed.
+    ensures owed { (b : List ℕ) → Told (S.given source.old) (S.given source.new) b → IsInput input b → length b ≤ max_bytes
         → S.failed source.new ≡ S.failed source.old → T.failed sink.new ≡ T.failed sink.old → IsOk result }
 
     // A refusal has its cause, and what was decided before it is written.
     ensures cause { IfErr result (λ error. (b : List ℕ) → Told (S.given source.old) (S.given source.new) b
-        → IsTextCause max_bytes b (S.has_ended source.new) error) }
+        → IsCause input max_bytes b (S.has_ended source.new) error) }
     ensures read { result ≡ Err RunError.Read → S.failed source.new ≡ S.failed source.old + 1 }
     ensures write { result ≡ Err RunError.Write → T.failed sink.new ≡ T.failed sink.old + 1 }
     ensures refused { OnErr result (result ≢ Err RunError.Write → (b : List ℕ) → Told (S.given source.old) (S.given source.new) b
-        → Grew (T.taken sink.old) (T.taken sink.new) (written_stream (decided_blocks (cells_of_text (take max_bytes b))))) }
+        → Grew (T.taken sink.old) (T.taken sink.new) (begun_stream output (decided_blocks (cells_before input (take max_bytes b))))) }
     ensures front { result ≡ Err RunError.Write → (b : List ℕ) → Told (S.given source.old) (S.given source.new) b
-        → GrewFront (T.taken sink.old) (T.taken sink.new) (written_stream (decided_blocks (cells_of_text (take max_bytes b))))
-        ⊎ (WholeInput max_bytes Form.Text b (S.has_ended source.new) × GrewFront (T.taken sink.old) (T.taken sink.new) (written_stream (blocks (cells_of_text b)))) }
+        → GrewFront (T.taken sink.old) (T.taken sink.new) (begun_stream output (decided_blocks (cells_before input (take max_bytes b))))
+        ⊎ (WholeInput max_bytes input b (S.has_ended source.new) × GrewFront (T.taken sink.old) (T.taken sink.new) (written output (normal (cells_of input b)))) }
     ensures few { (b : List ℕ) → Told (S.given source.old) (S.given source.new) b → length b ≤ max_bytes + 1 }
 {
-    run_blocks(source, sink, max_bytes, NormalBlocks)
+    run_blocks(source, sink, max_bytes, input, NormalBlocks { output })
 }
 
-/// Reads cell text from any cell on, and writes the blocks that stand whole and closed in it as a block file.
+/// Reads cells from any cell on, and writes the blocks that stand whole and closed in them as a block file.
 ///
 /// # Errors
 /// Those of `normalise`; then the blocks are written that were decided before, and after `Write` a front of their file.
@@ -98,6 +142,7 @@ pub fn decode<S: Source, T: Sink>(
     source: &mut S,
     sink: &mut T,
     max_bytes: u64,
+    input: Form,
 ) -> Result<Counts, RunError>
     requires source_room { S.failed source.old + 1 < 2 ^ 64 }
     requires sink_room { T.failed sink.old + 1 < 2 ^ 64 }
@@ -105,29 +150,78 @@ pub fn decode<S: Source, T: Sink>(
 
     // Where it answers Ok, exactly the blocks that stand whole and closed in the input are written, as their file.
     ensures file { IfOk result (λ _. (b : List ℕ) → Told (S.given source.old) (S.given source.new) b
-        → Grew (T.taken sink.old) (T.taken sink.new) (file (blocks (cells_of_text b)))) }
+        → Grew (T.taken sink.old) (T.taken sink.new) (file (blocks (cells_of input b)))) }
     // What `encode` writes of blocks gives their file back.
-    ensures back { IfOk result (λ _. (bs : List (List (List Bool))) → All IsBlock bs → Told (S.given source.old) (S.given source.new) (written_stream bs)
+    ensures back { IfOk result (λ _. (bs : List (List (List Bool))) → All IsBlock bs → Told (S.given source.old) (S.given source.new) (written_stream input bs)
         → Grew (T.taken sink.old) (T.taken sink.new) (file bs)) }
-    ensures text { IfOk result (λ _. (b : List ℕ) → Told (S.given source.old) (S.given source.new) b → IsCellText b) }
-    ensures counts { IfOk result (λ counts. (b : List ℕ) → Told (S.given source.old) (S.given source.new) b → counts ≡ text_counts b) }
+    ensures input { IfOk result (λ _. (b : List ℕ) → Told (S.given source.old) (S.given source.new) b → IsInput input b) }
+    ensures counts { IfOk result (λ counts. (b : List ℕ) → Told (S.given source.old) (S.given source.new) b → counts ≡ counts_of input b) }
     ensures ended { IfOk result (λ _. IsTrue (S.has_ended source.new)) }
 
-    // It owes Ok where the input is cell text that fits, and neither end failed.
-    ensures owed { (b : List ℕ) → Told (S.given source.old) (S.given source.new) b → IsCellText b → length b ≤ max_bytes
+    // It owes Ok where the input is in its form and fits, and neither end failed.
+    ensures owed { (b : List ℕ) → Told (S.given source.old) (S.given source.new) b → IsInput input b → length b ≤ max_bytes
         → S.failed source.new ≡ S.failed source.old → T.failed sink.new ≡ T.failed sink.old → IsOk result }
 
     // A refusal has its cause, and what was decided before it is written.
     ensures cause { IfErr result (λ error. (b : List ℕ) → Told (S.given source.old) (S.given source.new) b
-        → IsTextCause max_bytes b (S.has_ended source.new) error) }
+        → IsCause input max_bytes b (S.has_ended source.new) error) }
     ensures read { result ≡ Err RunError.Read → S.failed source.new ≡ S.failed source.old + 1 }
     ensures write { result ≡ Err RunError.Write → T.failed sink.new ≡ T.failed sink.old + 1 }
     ensures refused { OnErr result (result ≢ Err RunError.Write → (b : List ℕ) → Told (S.given source.old) (S.given source.new) b
-        → Grew (T.taken sink.old) (T.taken sink.new) (file (decided_blocks (cells_of_text (take max_bytes b))))) }
+        → Grew (T.taken sink.old) (T.taken sink.new) (file (decided_blocks (cells_before input (take max_bytes b))))) }
     ensures front { result ≡ Err RunError.Write → (b : List ℕ) → Told (S.given source.old) (S.given source.new) b
-        → GrewFront (T.taken sink.old) (T.taken sink.new) (file (decided_blocks (cells_of_text (take max_bytes b))))
-        ⊎ (WholeInput max_bytes Form.Text b (S.has_ended source.new) × GrewFront (T.taken sink.old) (T.taken sink.new) (file (blocks (cells_of_text b)))) }
+        → GrewFront (T.taken sink.old) (T.taken sink.new) (file (decided_blocks (cells_before input (take max_bytes b))))
+        ⊎ (WholeInput max_bytes input b (S.has_ended source.new) × GrewFront (T.taken sink.old) (T.taken sink.new) (file (blocks (cells_of input b)))) }
     ensures few { (b : List ℕ) → Told (S.given source.old) (S.given source.new) b → length b ≤ max_bytes + 1 }
 {
-    run_blocks(source, sink, max_bytes, FileBlocks)
+    run_blocks(source, sink, max_bytes, input, FileBlocks)
+}
+
+/// Reads cells from any cell on, and of the blocks that stand whole and closed in them writes `count` from number `from`
+/// on, counted from 0, as `normalise` does.
+///
+/// # Errors
+/// Those of `normalise`.
+pub fn cut<S: Source, T: Sink>(
+    source: &mut S,
+    sink: &mut T,
+    max_bytes: u64,
+    input: Form,
+    output: Form,
+    from: u64,
+    count: u64,
+) -> Result<Counts, RunError>
+    requires source_room { S.failed source.old + 1 < 2 ^ 64 }
+    requires sink_room { T.failed sink.old + 1 < 2 ^ 64 }
+    requires limit { max_bytes ≤ 2 ^ 40 }
+
+    // Where it answers Ok, exactly the blocks asked for are written, as their normal stream.
+    ensures cut { IfOk result (λ _. (b : List ℕ) → Told (S.given source.old) (S.given source.new) b
+        → Grew (T.taken sink.old) (T.taken sink.new) (written_stream output (cut_blocks from count (blocks (cells_of input b))))) }
+    ensures input { IfOk result (λ _. (b : List ℕ) → Told (S.given source.old) (S.given source.new) b → IsInput input b) }
+    ensures counts { IfOk result (λ counts. (b : List ℕ) → Told (S.given source.old) (S.given source.new) b → counts ≡ counts_of input b) }
+    ensures ended { IfOk result (λ _. IsTrue (S.has_ended source.new)) }
+
+    // It owes Ok where the input is in its form and fits, and neither end failed.
+    ensures owed { (b : List ℕ) → Told (S.given source.old) (S.given source.new) b → IsInput input b → length b ≤ max_bytes
+        → S.failed source.new ≡ S.failed source.old → T.failed sink.new ≡ T.failed sink.old → IsOk result }
+
+    // A refusal has its cause, and what was decided before it is written.
+    ensures cause { IfErr result (λ error. (b : List ℕ) → Told (S.given source.old) (S.given source.new) b
+        → IsCause input max_bytes b (S.has_ended source.new) error) }
+    ensures read { result ≡ Err RunError.Read → S.failed source.new ≡ S.failed source.old + 1 }
+    ensures write { result ≡ Err RunError.Write → T.failed sink.new ≡ T.failed sink.old + 1 }
+    ensures refused { OnErr result (result ≢ Err RunError.Write → (b : List ℕ) → Told (S.given source.old) (S.given source.new) b
+        → Grew (T.taken sink.old) (T.taken sink.new) (begun_stream output (cut_blocks from count (decided_blocks (cells_before input (take max_bytes b)))))) }
+    ensures front { result ≡ Err RunError.Write → (b : List ℕ) → Told (S.given source.old) (S.given source.new) b
+        → GrewFront (T.taken sink.old) (T.taken sink.new) (begun_stream output (cut_blocks from count (decided_blocks (cells_before input (take max_bytes b)))))
+        ⊎ (WholeInput max_bytes input b (S.has_ended source.new) × GrewFront (T.taken sink.old) (T.taken sink.new) (written_stream output (cut_blocks from count (blocks (cells_of input b))))) }
+    ensures few { (b : List ℕ) → Told (S.given source.old) (S.given source.new) b → length b ≤ max_bytes + 1 }
+{
+    let writer = CutBlocks {
+        stream: NormalBlocks { output },
+        from,
+        count,
+    };
+    run_blocks(source, sink, max_bytes, input, writer)
 }

@@ -58,7 +58,7 @@ marks-short p (x ∷ c) h =
 abbrev pub ending : ℕ → List Level → List (ℕ × Mark × Level)
 ending p c = option_to_list (option_map (placed (p + (length c - 8))) (first_mark (drop (length c - 8) c)))
 
-marks-push : (p : ℕ) (c : List Level) (l : Level) → marks_from p (c ++ l ∷ []) ≡ marks_from p c ++ ending p (c ++ l ∷ [])
+pub marks-push : (p : ℕ) (c : List Level) (l : Level) → marks_from p (c ++ l ∷ []) ≡ marks_from p c ++ ending p (c ++ l ∷ [])
 marks-push p [] l =
     let e = first_mark-short (l ∷ []) (omega arith) in
     rw e refl

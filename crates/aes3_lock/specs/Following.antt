@@ -1,10 +1,10 @@
 -- Which lists of cells a lock and a scan follow.
-use Rattle.std.specs.Prelude.{ℕ, List, Bool, true, false, length, ◌≡◌, ◌<◌, ◌≤◌, ◌+◌, ◌*◌, ◌/◌, drop, take, get_or, MatchOption, Option}
+use Rattle.std.specs.Prelude.{ℕ, List, Bool, true, false, length, ◌≡◌, ◌<◌, ◌≤◌, ◌+◌, ◌-◌, ◌*◌, ◌/◌, Some, drop, take, get_or, MatchOption, Option}
 use Rattle.aes3_cell.specs.declared.level.Level.{Level}
 use Rattle.aes3_slot.specs.Bits.{number}
-use Rattle.aes3_slot.specs.Rules.{before}
+use Rattle.aes3_slot.specs.Rules.{at, before, rule}
 use Rattle.aes3_slot.specs.Reading.{read_bits}
-use Rattle.aes3_block.specs.Blocks.{block_slots}
+use Rattle.aes3_block.specs.Blocks.{block_slots, block_len, mark_at}
 use Rattle.aes3_lock.specs.declared.candidate.Candidate.{Candidate}
 use Rattle.aes3_lock.specs.Candidates.{entry}
 use Rattle.aes3_lock.specs.Reports.{open_at}
@@ -42,6 +42,12 @@ pub record Follows (k : LockState) (c : List Level) : Type 0 where
   pub seen : k.seen ≡ length c
   pub recent : k.recent ≡ last_eight c
   pub candidate : MatchOption k.candidate (NoneOpen c) (λ t. OpenAt k.slots t c)
+
+-- this cell does not go on with the candidate in hand
+pub record Stops (k : LockState) (l : Level) : Type 0 where
+  pub in_hand : Candidate
+  pub is : k.candidate ≡ Some in_hand
+  pub stop : k.seen - in_hand.at < block_len → rule mark_at (k.seen - in_hand.at) l in_hand.level (at k.recent 7) ≡ false
 
 -- a scan that has
 pub record ScanFollows (k : ScanState) (c : List Level) : Type 0 where

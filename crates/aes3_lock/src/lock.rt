@@ -31,12 +31,12 @@ impl Model for Lock {
     ghost invariant = { λ k. ForSome k.candidate (λ t. t.at ≤ k.seen) };
 }
 
-ghost use Rattle.std.specs.Prelude.{◌≡◌, ◌<◌, ◌+◌, ◌^◌, ◌&&◌, true, List, [], ◌∷◌, ◌++◌, nat_lt, option_to_list};
+ghost use Rattle.std.specs.Prelude.{◌≡◌, ◌<◌, ◌+◌, ◌^◌, ◌&&◌, true, false, List, [], ◌∷◌, ◌++◌, nat_lt, option_to_list};
 ghost use Rattle.aes3_cell.specs.declared.level.Level.{Level};
 ghost use Rattle.aes3_slot.specs.Rules.{rule};
 ghost use Rattle.aes3_block.specs.Blocks.{block_len, mark_at};
 ghost use Rattle.aes3_lock.specs.Reports.{decided, reports};
-ghost use Rattle.aes3_lock.specs.Following.{Follows};
+ghost use Rattle.aes3_lock.specs.Following.{Follows, Stops};
 
 /// Whether a cell behind `previous` goes on with a candidate, at whose `offset` it stands.
 fn goes_on(candidate: Candidate, offset: u64, cell: Level, previous: Level) -> bool
@@ -66,6 +66,69 @@ impl Lock {
         self.seen
     }
 
+    /// Takes the next cell where it decides no report, and says whether it did; else it changes nothing.
+    ///
+    /// It is `push` for almost every cell, without a report to hand back.
+    pub fn take(&mut self, cell: Level) -> bool
+        requires { self.old.seen < 2 ^ 43 }
+        ensures seen { result ≡ true → self.new.seen ≡ self.old.seen + 1 }
+        ensures follows { result ≡ true → (cells : List Level) → Follows self.old cells
+            → Follows self.new (cells ++ cell ∷ []) }
+        ensures none { result ≡ true → (cells : List Level) → Follows self.old cells
+            → decided (cells ++ cell ∷ []) ≡ decided cells ++ [] }
+        ensures left { result ≡ false → self.new ≡ self.old }
+        ensures stops { result ≡ false → Stops self.old cell }
+    {
+        let seen = self.seen;
+        let Some(candidate) = self.candidate else {
+            self.recent = with_cell(self.recent, cell);
+            self.seen = seen + 1;
+            self.candidate = candidate_in(self.seen, self.recent);
+            return true;
+        };
+        let previous = last_cell(self.recent);
+        let offset = seen - candidate.at;
+        if !goes_on(candidate, offset, cell, previous) {
+            return false;
+        }
+        self.recent = with_cell(self.recent, cell);
+        self.seen = seen + 1;
+        let slot = (offset / SUBFRAME_CELLS) as usize;
+        self.slots[slot] = slots_behind(
+            self.slots[slot],
+            offset % SUBFRAME_CELLS,
+            turns(previous, cell),
+        );
+        self.candidate = Some(Candidate {
+            at: candidate.at,
+            before: candidate.before,
+            level: level_behind(offset, candidate.level, cell),
+        });
+        true
+    }
+
+    /// Takes a cell that ends the candidate in hand, and answers the report on it.
+    fn stop(&mut self, cell: Level) -> Report
+        requires room { self.old.seen < 2 ^ 43 }
+        requires stops { Stops self.old cell }
+        ensures seen { self.new.seen ≡ self.old.seen + 1 }
+        ensures follows { (cells : List Level) → Follows self.old cells
+            → Follows self.new (cells ++ cell ∷ []) }
+        ensures report { (cells : List Level) → Follows self.old cells
+            → decided (cells ++ cell ∷ []) ≡ decided cells ++ result ∷ [] }
+    {
+        let Some(candidate) = self.candidate else {
+            unreachable!();
+        };
+        let previous = last_cell(self.recent);
+        let offset = self.seen - candidate.at;
+        let report = end_report(candidate, offset, cell, previous, &self.slots);
+        self.recent = with_cell(self.recent, cell);
+        self.seen += 1;
+        self.candidate = candidate_in(self.seen, self.recent);
+        report
+    }
+
     /// Takes the next cell, and answers the report that it decides.
     pub fn push(&mut self, cell: Level) -> Option<Report>
         requires { self.old.seen < 2 ^ 43 }
@@ -75,32 +138,11 @@ impl Lock {
         ensures report { (cells : List Level) → Follows self.old cells
             → decided (cells ++ cell ∷ []) ≡ decided cells ++ option_to_list result }
     {
-        let previous = last_cell(self.recent);
-        let seen = self.seen;
-        self.recent = with_cell(self.recent, cell);
-        self.seen = seen + 1;
-        let Some(candidate) = self.candidate else {
-            self.candidate = candidate_in(self.seen, self.recent);
-            return None;
-        };
-        let offset = seen - candidate.at;
-        if goes_on(candidate, offset, cell, previous) {
-            let slot = (offset / SUBFRAME_CELLS) as usize;
-            self.slots[slot] = slots_behind(
-                self.slots[slot],
-                offset % SUBFRAME_CELLS,
-                turns(previous, cell),
-            );
-            self.candidate = Some(Candidate {
-                at: candidate.at,
-                before: candidate.before,
-                level: level_behind(offset, candidate.level, cell),
-            });
-            return None;
+        if self.take(cell) {
+            None
+        } else {
+            Some(self.stop(cell))
         }
-        let report = end_report(candidate, offset, cell, previous, &self.slots);
-        self.candidate = candidate_in(self.seen, self.recent);
-        Some(report)
     }
 
     /// Takes the end of the cells, and answers the report that it decides.

@@ -1,21 +1,24 @@
-use Rattle.aes3_engine.specs.BlockRuns.{written_stream}
-use Rattle.aes3_engine.proofs.BlockRuns.{blocks27, decided27, normal-bytes, run-text, run-counts, run-owed, run-cause, run-refused, run-front, run-few, run-normal, run-piece, tells, run-again}
+use Rattle.aes3_cell.specs.Written.{written}
+use Rattle.aes3_lock.specs.Reports.{normal}
+use Rattle.aes3_engine.specs.BlockRuns.{begun_stream, decided_blocks}
+use Rattle.aes3_engine.proofs.BlockRuns.{normal-whole, normal-begun, run-piece, tells, run-again}
+use Rattle.aes3_engine.proofs.CellRuns.{run-wrote, run-input, run-counts, run-owed, run-cause, run-refused, run-front, run-few}
 use Rattle.aes3_engine.proofs.reading.normalise.Goals as goal
 
 pub returns-clause-normal : goal.returns-clause-normal
-returns-clause-normal g c = run-normal c.run_blocks.result c.run_blocks.ensures
+returns-clause-normal g c = run-wrote c.run_blocks.result (λ d. written c.args.output (normal d)) (normal-whole c.args.output) c.run_blocks.ensures
 
 pub returns-clause-piece : goal.returns-clause-piece
-returns-clause-piece g c = run-piece c.run_blocks.result c.run_blocks.ensures
+returns-clause-piece g c = run-piece c.args.output c.run_blocks.result c.run_blocks.ensures
 
 pub returns-clause-tells : goal.returns-clause-tells
-returns-clause-tells g c = tells
+returns-clause-tells g c = tells c.args.output
 
 pub returns-clause-again : goal.returns-clause-again
-returns-clause-again g c = run-again c.run_blocks.result c.run_blocks.ensures
+returns-clause-again g c = run-again c.args.output c.run_blocks.result c.run_blocks.ensures
 
-pub returns-clause-text : goal.returns-clause-text
-returns-clause-text g c = run-text c.run_blocks.result c.run_blocks.ensures
+pub returns-clause-input : goal.returns-clause-input
+returns-clause-input g c = run-input c.run_blocks.result c.run_blocks.ensures
 
 pub returns-clause-counts : goal.returns-clause-counts
 returns-clause-counts g c = run-counts c.run_blocks.result c.run_blocks.ensures
@@ -27,10 +30,10 @@ pub returns-clause-cause : goal.returns-clause-cause
 returns-clause-cause g c = run-cause c.run_blocks.result c.run_blocks.ensures
 
 pub returns-clause-refused : goal.returns-clause-refused
-returns-clause-refused g c = run-refused c.run_blocks.result written_stream normal-bytes decided27 c.run_blocks.ensures
+returns-clause-refused g c = run-refused c.run_blocks.result (λ d. begun_stream c.args.output (decided_blocks d)) (normal-begun c.args.output) c.run_blocks.ensures
 
 pub returns-clause-front : goal.returns-clause-front
-returns-clause-front g c = run-front c.run_blocks.result written_stream normal-bytes blocks27 decided27 c.run_blocks.ensures
+returns-clause-front g c = run-front c.run_blocks.result (λ d. written c.args.output (normal d)) (λ d. begun_stream c.args.output (decided_blocks d)) (normal-whole c.args.output) (normal-begun c.args.output) c.run_blocks.ensures
 
 pub returns-clause-few : goal.returns-clause-few
 returns-clause-few g c = run-few c.run_blocks.ensures

@@ -28,5 +28,5 @@ returns-in-Err g c =
     let xs = c.args.piece.now in
     let i = c.loop-byte.byte-index in
     let e : take i xs ++ (get_or xs i 0 ∷ drop (suc i) xs) ≡ xs = ap (λ z. take i xs ++ z) (sym (drop-cons xs i 0 (omega arith))) ∙ take-append-drop i xs in
-    ran-join encoding (Encodes c.take_byte.new.file c.take_byte.new.encoder.blocks) (g.T.Sink.taken c.take_byte.new.sink) (g.T.Sink.failed c.take_byte.new.sink)
+    ran-join (encoding c.take_byte.new.encoder.output) (Encodes c.take_byte.new.file c.take_byte.new.encoder.blocks) (g.T.Sink.taken c.take_byte.new.sink) (g.T.Sink.failed c.take_byte.new.sink)
     (get_or xs i 0 ∷ []) (drop (suc i) xs) xs c.in-Err.error c.loop-byte.invariant.fed c.loop-byte.invariant.quiet e c.in-Err.ensures

@@ -1,0 +1,36 @@
+use Rattle.std.proofs.Common.{◌∙◌, ap, codes, true}
+use Rattle.std.proofs.lemmas.Result.{IfOk-weaker}
+use Rattle.clap.specs.Simple.{app_of_fields, new_app, on_top}
+use Rattle.clap.specs.declared.builder.command.Command.TheOpen.{Command-F}
+use Rattle.clap.specs.declared.builder.command.Command.{Command}
+use Rattle.aes3.specs.CommandLine.{IsDefinedAs}
+use Rattle.aes3.proofs.LineDefinitions.{with_command}
+use Rattle.aes3.proofs.definitions.command_line.Goals as goal
+
+pub returns : goal.returns
+returns c =
+    let named : IsDefinedAs (new_app (codes "aes3")) c.about.result = (
+      ap app_of_fields c.about.ensures ∙ (ap app_of_fields c.in_ok-bin_name.ensures.0 ∙ c.new.ensures.app),
+      ap (λ (f : Command-F Command). f.has_globals) c.about.ensures
+          ∙ (ap (λ (f : Command-F Command). f.has_globals) c.in_ok-bin_name.ensures.0 ∙ c.new.ensures.local),
+    ) in
+    let nameless : IsDefinedAs (on_top (λ s. record s { no_binary_name = true }) (new_app (codes "aes3"))) c.no_binary_name.result = (
+      ap app_of_fields c.no_binary_name.ensures ∙ ap (on_top (λ s. record s { no_binary_name = true })) named.0,
+      ap (λ (f : Command-F Command). f.has_globals) c.no_binary_name.ensures ∙ named.1,
+    ) in
+    let helpless : IsDefinedAs (on_top (λ s. record s { no_binary_name = true; disable_help_subcommand = true }) (new_app (codes "aes3"))) c.disable_help_subcommand.result = (
+      ap app_of_fields c.disable_help_subcommand.ensures ∙ ap (on_top (λ s. record s { disable_help_subcommand = true })) nameless.0,
+      ap (λ (f : Command-F Command). f.has_globals) c.disable_help_subcommand.ensures ∙ nameless.1,
+    ) in
+    let bare : IsDefinedAs (on_top (λ s. record s { no_binary_name = true; disable_help_subcommand = true; subcommand_required = true }) (new_app (codes "aes3"))) c.subcommand_required.result = (
+      ap app_of_fields c.subcommand_required.ensures ∙ ap (on_top (λ s. record s { subcommand_required = true })) helpless.0,
+      ap (λ (f : Command-F Command). f.has_globals) c.subcommand_required.ensures ∙ helpless.1,
+    ) in
+    let one = with_command _ _ _ _ _ c.in_ok-subcommand.ensures bare c.in_ok-encode.ensures in
+    let two = with_command _ _ _ _ _ c.in_ok-subcommand-2.ensures one c.in_ok-reader.ensures in
+    let three = with_command _ _ _ _ _ c.in_ok-subcommand-3.ensures two c.in_ok-normal.ensures in
+    let four = with_command _ _ _ _ _ c.in_ok-subcommand-4.ensures three c.in_ok-reader-2.ensures in
+    let five = with_command _ _ _ _ _ c.in_ok-subcommand-5.ensures four c.in_ok-reader-3.ensures in
+    let six = with_command _ _ _ _ _ c.in_ok-subcommand-6.ensures five c.in_ok-reader-4.ensures in
+    let seven = with_command _ _ _ _ _ c.in_ok-subcommand-7.ensures six c.in_ok-cut.ensures in
+    IfOk-weaker c.subcommand-8.result _ _ (λ new added. with_command _ _ _ _ _ added seven c.in_ok-rewrite.ensures) c.subcommand-8.ensures

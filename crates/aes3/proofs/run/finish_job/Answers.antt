@@ -1,0 +1,23 @@
+use Rattle.std.proofs.Common.{◌≡◌, inr, Result, Ok, Err, IsOk, ap, refl}
+use Rattle.aes3_cell.specs.declared.refusal.RunError.{RunError}
+use Rattle.aes3_cell.specs.declared.counts.Counts.{Counts}
+use Rattle.aes3.proofs.run.finish_job.Goals as goal
+
+pub returns-in-Err-clause-ran : goal.returns-in-Err-clause-ran
+returns-in-Err-clause-ran g c = inr (record {
+  error = c.in-Err.error;
+  exit = c.refuse.ensures.status;
+  cause = c.in-Err.ensures.cause;
+  read = λ e. c.in-Err.ensures.read (ap (λ x. Err x) e);
+  write = λ e. c.in-Err.ensures.write (ap (λ x. Err x) e);
+  output = λ n b t. c.in-Err.ensures.refused (λ e. n (error-is e)) b t;
+  unowed = λ b t i l q k. never (Err c.in-Err.error) refl (c.in-Err.ensures.owed b t i l q k);
+  line = c.refuse.ensures.line;
+})
+  where
+    error-is : {x y : RunError} → ◌≡◌ {A = Result Counts RunError} (Err x) (Err y) → x ≡ y
+    error-is e = cc
+
+    never : (r : Result Counts RunError) {x : RunError} → r ≡ Err x → IsOk r → ⊥
+    never (Ok n) q h = cc
+    never (Err x) q h = cc

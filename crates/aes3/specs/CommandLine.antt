@@ -1,0 +1,78 @@
+-- The command line, as definitions of `clap`: the commands, and the options and values of each.
+use Rattle.std.specs.Prelude.{List, [], ◌∷◌, ◌≡◌, Some, true, false, codes}
+use Rattle.clap.specs.Walk.{Rule, Text, rule_of}
+use Rattle.clap.specs.Simple.{App, Shape, app_of, new_rule, new_shape}
+use Rattle.clap.specs.declared.builder.arg.Arg.{Arg}
+use Rattle.clap.specs.declared.builder.action.ArgAction.TheVariants.{SetTrue}
+use Rattle.clap.specs.declared.builder.command.Command.{Command}
+use Rattle.clap.specs.declared.builder.command.Command.TheViews.{out-Command as fields_of}
+use Rattle.clap.specs.declared.builder.value_parser.ValueParser.TheVariants as vp
+
+-- `--name`, which stands or does not
+abbrev pub flag : Text → Rule
+flag name = record (new_rule name) { long = Some name; action = Some SetTrue }
+
+-- `--name TEXT`, which may be left out
+abbrev pub text_option : Text → Rule
+text_option name = record (new_rule name) { long = Some name; value_names = 1 }
+
+-- a whole number from 0 to 2^64 - 1, at its place among the words
+abbrev pub number : Text → Rule
+number name =
+    record (new_rule name) { required = true; parser = Some (vp.Unsigned 0 18446744073709551615) }
+
+-- a command's input has packed cells
+abbrev pub packed_in : Rule
+packed_in = flag (codes "packed-in")
+
+-- a command's output has packed cells
+abbrev pub packed_out : Rule
+packed_out = flag (codes "packed-out")
+
+abbrev pub command : Text → List Rule → Shape
+command name options = record (new_shape name) { rules = options }
+
+abbrev pub encode : Shape
+encode = command (codes "encode") (packed_out ∷ [])
+
+-- a command that reads cells and writes none
+abbrev pub reader : Text → Shape
+reader name = command name (packed_in ∷ [])
+
+abbrev pub normal : Shape
+normal = command (codes "normal") (packed_in ∷ packed_out ∷ [])
+
+abbrev pub cut : Shape
+cut = command (codes "cut")
+    (packed_in ∷ packed_out ∷ number (codes "FROM") ∷ number (codes "COUNT") ∷ [])
+
+abbrev pub rewrite : Shape
+rewrite = command (codes "rewrite")
+    (packed_in ∷ packed_out ∷ text_option (codes "status1") ∷ text_option (codes "status2")
+    ∷ flag (codes "mend-check") ∷ [])
+
+-- the program: one of the commands has to stand, and none of them is called `help`
+abbrev pub command_line : App
+command_line = record {
+  top = record (new_shape (codes "aes3")) {
+    is_leaf = false;
+    no_binary_name = true;
+    disable_help_subcommand = true;
+    subcommand_required = true;
+  };
+  subs = encode ∷ reader (codes "decode") ∷ normal ∷ reader (codes "check")
+      ∷ reader (codes "show") ∷ reader (codes "scan") ∷ cut ∷ rewrite ∷ [];
+}
+
+-- a command by itself
+abbrev pub app_with : Shape → App
+app_with s = record { top = s; subs = [] }
+
+-- the argument is the one defined here
+abbrev pub IsOption : Rule → Arg → Type 0
+IsOption rule argument = (rule_of argument ≡ rule) × (argument.global ≡ false)
+
+-- the command is the one defined here
+abbrev pub IsDefinedAs : App → Command → Type 0
+IsDefinedAs app command =
+    (app_of command ≡ app) × ((fields_of command).has_globals ≡ false)

@@ -1,0 +1,116 @@
+-- What the program does for a job.
+use Rattle.std.specs.Prelude.{ℕ, List, [], Bool, ◌≡◌, ◌≢◌, ◌≤◌, ◌^◌, ◌==◌, ◌⊎◌, IsTrue, length, take, if◌then◌else◌}
+use Rattle.aes3_cell.specs.declared.level.Level.TheVariants.{Low}
+use Rattle.aes3_cell.specs.declared.form.Form.{Form}
+use Rattle.aes3_cell.specs.declared.counts.Counts.{Counts}
+use Rattle.aes3_cell.specs.declared.refusal.RunError.{RunError}
+use Rattle.aes3_cell.specs.declared.refusal.RunError.TheVariants as refusal
+use Rattle.aes3_cell.specs.Ends.{Grew, Told}
+use Rattle.aes3_cell.specs.Written.{written}
+use Rattle.aes3_block.specs.Blocks.{stream}
+use Rattle.aes3_block.specs.Files.{file, whole_blocks, IsBlockFile}
+use Rattle.aes3_lock.specs.Preambles.{marks}
+use Rattle.aes3_lock.specs.Reports.{blocks, decided, normal, reports}
+use Rattle.aes3_engine.specs.Running.{Change, Quiet, Failed}
+use Rattle.aes3_engine.specs.Inputs.{IsInput, cells_of, cells_before}
+use Rattle.aes3_engine.specs.Encoding.{IsCauseOf, encode_counts, encoded}
+use Rattle.aes3_engine.specs.CellRuns.{IsCause}
+use Rattle.aes3_engine.specs.ReportRuns.{counts_of}
+use Rattle.aes3_engine.specs.BlockRuns.{begun_stream, written_stream, cut_blocks, decided_blocks}
+use Rattle.aes3_engine.specs.Rewriting.{rewritten_blocks}
+use Rattle.aes3_text.specs.Runs.{mark_lines, report_lines, scan_counts, status_lines}
+use Rattle.aes3.specs.declared.job.Job.{Job}
+use Rattle.aes3.specs.declared.job.Job.TheVariants.{Encode, Decode, Normal, Check, Show, Scan, Cut, Rewrite}
+use Rattle.aes3.specs.Lines.{refusal_line}
+
+-- how many bytes an input may have
+abbrev pub most : ℕ
+most = 2 ^ 40
+
+-- which bytes are an input of the job
+abbrev pub IsInputOf : Job → List ℕ → Type 0
+IsInputOf (Encode o) b = IsBlockFile b
+IsInputOf (Decode i) b = IsInput i b
+IsInputOf (Normal i o) b = IsInput i b
+IsInputOf (Check i) b = IsInput i b
+IsInputOf (Show i) b = IsInput i b
+IsInputOf (Scan i) b = IsInput i b
+IsInputOf (Cut i o from count) b = IsInput i b
+IsInputOf (Rewrite i o change) b = IsInput i b
+
+-- what it writes of a whole input
+abbrev pub output_of : Job → List ℕ → List ℕ
+output_of (Encode o) b = written o (stream Low (whole_blocks b))
+output_of (Decode i) b = file (blocks (cells_of i b))
+output_of (Normal i o) b = written o (normal (cells_of i b))
+output_of (Check i) b = report_lines (reports (cells_of i b))
+output_of (Show i) b = status_lines (blocks (cells_of i b))
+output_of (Scan i) b = mark_lines (marks (cells_of i b))
+output_of (Cut i o from count) b = written_stream o (cut_blocks from count (blocks (cells_of i b)))
+output_of (Rewrite i o change) b = written_stream o (rewritten_blocks change (blocks (cells_of i b)))
+
+-- what it has written where it is refused behind these bytes
+abbrev pub begun_of : Job → List ℕ → List ℕ
+begun_of (Encode o) b = encoded o b
+begun_of (Decode i) b = file (decided_blocks (cells_before i b))
+begun_of (Normal i o) b = begun_stream o (decided_blocks (cells_before i b))
+begun_of (Check i) b = report_lines (decided (cells_before i b))
+begun_of (Show i) b = status_lines (decided_blocks (cells_before i b))
+begun_of (Scan i) b = mark_lines (marks (cells_before i b))
+begun_of (Cut i o from count) b = begun_stream o (cut_blocks from count (decided_blocks (cells_before i b)))
+begun_of (Rewrite i o change) b = begun_stream o (rewritten_blocks change (decided_blocks (cells_before i b)))
+
+-- what it counts
+abbrev pub counts_for : Job → List ℕ → Counts
+counts_for (Encode o) b = encode_counts b
+counts_for (Decode i) b = counts_of i b
+counts_for (Normal i o) b = counts_of i b
+counts_for (Check i) b = counts_of i b
+counts_for (Show i) b = counts_of i b
+counts_for (Scan i) b = scan_counts i b
+counts_for (Cut i o from count) b = counts_of i b
+counts_for (Rewrite i o change) b = counts_of i b
+
+-- why it is refused behind these bytes
+abbrev pub IsCauseFor : Job → List ℕ → Bool → RunError → Type 0
+IsCauseFor (Encode o) b ended e = IsCauseOf most b ended e
+IsCauseFor (Decode i) b ended e = IsCause i most b ended e
+IsCauseFor (Normal i o) b ended e = IsCause i most b ended e
+IsCauseFor (Check i) b ended e = IsCause i most b ended e
+IsCauseFor (Show i) b ended e = IsCause i most b ended e
+IsCauseFor (Scan i) b ended e = IsCause i most b ended e
+IsCauseFor (Cut i o from count) b ended e = IsCause i most b ended e
+IsCauseFor (Rewrite i o change) b ended e = IsCause i most b ended e
+
+-- its exit status: 1 where `check` finds faults, else 0
+abbrev pub status_by : Job → Counts → ℕ
+status_by (Encode o) n = 0
+status_by (Decode i) n = 0
+status_by (Normal i o) n = 0
+status_by (Check i) n = if n.faults == 0 then 0 else 1
+status_by (Show i) n = 0
+status_by (Scan i) n = 0
+status_by (Cut i o from count) n = 0
+status_by (Rewrite i o change) n = 0
+
+-- a job that ended well: the input, the output and the exit status; nothing is told among the errors
+pub record JobDone (job : Job) (ended : Bool) (source sink errors : Change) (status : ℕ) : Type 0 where
+  pub end : IsTrue ended
+  pub silent : Grew errors.old errors.new []
+  pub input : (b : List ℕ) → Told source.old source.new b → IsInputOf job b
+  pub output : (b : List ℕ) → Told source.old source.new b → Grew sink.old sink.new (output_of job b)
+  pub exit : (b : List ℕ) → Told source.old source.new b → status ≡ status_by job (counts_for job b)
+
+-- a job that was refused: the cause, the output before it and the line that tells it
+pub record JobRefused (job : Job) (ended : Bool) (source sink errors : Change) (status : ℕ) : Type 0 where
+  pub error : RunError
+  pub exit : status ≡ 3
+  pub cause : (b : List ℕ) → Told source.old source.new b → IsCauseFor job b ended error
+  pub read : error ≡ refusal.Read → Failed source
+  pub write : error ≡ refusal.Write → Failed sink
+  pub output : error ≢ refusal.Write → (b : List ℕ) → Told source.old source.new b → Grew sink.old sink.new (begun_of job (take most b))
+  pub unowed : (b : List ℕ) → Told source.old source.new b → IsInputOf job b → length b ≤ most → Quiet source → Quiet sink → ⊥
+  pub line : Quiet errors → Grew errors.old errors.new (refusal_line error)
+
+abbrev pub JobRan : Job → Bool → Change → Change → Change → ℕ → Type 0
+JobRan job ended source sink errors status = JobDone job ended source sink errors status ⊎ JobRefused job ended source sink errors status

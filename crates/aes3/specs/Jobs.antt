@@ -1,0 +1,150 @@
+-- What a command line asks for, by what `clap` makes of its words.
+use Rattle.std.specs.Prelude.{ℕ, Bool, List, [], ◌≡◌, ◌≢◌, ◌⊎◌, Option, Some, None, codes, true, false}
+use Rattle.std.specs.Prelude.{if◌then◌else◌, option_and_then, is_some}
+use Rattle.std.specs.Option.{option_map_or}
+use Rattle.std.specs.Str.{bytes_eq}
+use Rattle.std.specs.Str.Parse.{digits_value, without_leading_plus}
+use Rattle.clap.specs.ValueTests.{is_unsigned_in}
+use Rattle.clap.specs.Faults.{fault_of}
+use Rattle.clap.specs.Kinds.{IsAmong, Kinds}
+use Rattle.clap.specs.Simple.{subcommand_of}
+use Rattle.clap.specs.Walk.{Row, Text, first_of, one_of, rows_of}
+use Rattle.clap.specs.Matches.{found_of}
+use Rattle.clap.specs.declared.parser.matches.ArgMatches.{ArgMatches}
+use Rattle.clap.specs.declared.error.kind.ErrorKind.{ErrorKind}
+use Rattle.clap.specs.declared.error.kind.ErrorKind.TheVariants.{DisplayHelp, OutOfMemory}
+use Rattle.aes3_cell.specs.declared.form.Form.{Form}
+use Rattle.aes3_cell.specs.declared.form.Form.TheVariants as form
+use Rattle.aes3_cell.specs.declared.refusal.RunError.TheVariants.{BadStatusText, Memory}
+use Rattle.aes3_engine.specs.declared.change.Change.{Change}
+use Rattle.aes3.specs.CommandLine.{command_line}
+use Rattle.aes3.specs.StatusTexts.{status_of}
+use Rattle.aes3.specs.declared.job.Job.{Job}
+use Rattle.aes3.specs.declared.job.Job.TheVariants as job
+use Rattle.aes3.specs.declared.job.LineFault.{LineFault}
+use Rattle.aes3.specs.declared.job.LineFault.TheVariants as fault
+
+-- the options of a command, by their names: the values that the words give them, or their defaults
+abbrev pub Options : Type 0
+Options = List Row
+
+-- the command that stands in the words, with its options
+abbrev pub command_in : List Text → Option (Text × Options)
+command_in words = subcommand_of command_line words
+
+-- why the definitions do not take the words: `--help` stands in them, or a fault; empty where they
+-- take them
+abbrev pub faults_in : List Text → Kinds
+faults_in words = fault_of command_line words
+
+-- the definitions take the words, and the command `name` stands in them with these options
+abbrev pub StandsIn : List Text → Text → Options → Type 0
+StandsIn words name options =
+    (faults_in words ≡ []) × (command_in words ≡ Some (name, options))
+
+-- the options that a parse found
+abbrev pub options_of : ArgMatches → Options
+options_of matches = rows_of (found_of matches)
+
+-- ---- values
+
+-- the option is a flag that was given, one that was not, or none
+abbrev pub MayBeFlag : Options → Text → Type 0
+MayBeFlag options name = (one_of name options ≡ None)
+    ⊎ ((one_of name options ≡ Some (codes "true")) ⊎ (one_of name options ≡ Some (codes "false")))
+
+-- the flag stands
+abbrev pub is_set : Options → Text → Bool
+is_set options name =
+    option_map_or (λ text. bytes_eq text (codes "true")) (one_of name options) false
+
+-- the form of the cells that the flag speaks of
+abbrev pub form_by : Options → Text → Form
+form_by options name = if is_set options name then form.Packed else form.Text
+
+-- the number from 0 to 2^64 - 1 that the text writes, a plus before it or none
+abbrev pub number_in : Text → Option ℕ
+number_in text = if is_unsigned_in 0 18446744073709551615 text
+    then Some (digits_value 10 (without_leading_plus text)) else None
+
+-- the number at this place among the words
+abbrev pub IsNumber : Options → Text → ℕ → Type 0
+IsNumber options name n = option_and_then number_in (one_of name options) ≡ Some n
+
+-- the status bytes that an option's text has; none where the option is left out
+abbrev pub HasStatus : Option Text → Option (List ℕ) → Type 0
+HasStatus None bytes = bytes ≡ None
+HasStatus (Some text) bytes = (is_some bytes ≡ true) × (status_of text ≡ bytes)
+
+abbrev pub IsStatus : Options → Text → Option (List ℕ) → Type 0
+IsStatus options name bytes = HasStatus (first_of name options) bytes
+
+abbrev pub IsChange : Options → Change → Type 0
+IsChange options change = IsStatus options (codes "status1") change.status1
+    × IsStatus options (codes "status2") change.status2
+    × (change.mend ≡ is_set options (codes "mend-check"))
+
+-- ---- jobs
+
+-- the command of this name, with these options, asks for the job
+abbrev pub AsksFor : Text → Options → Job → Type 0
+AsksFor name options (job.Encode output) =
+    (name ≡ codes "encode") × (output ≡ form_by options (codes "packed-out"))
+AsksFor name options (job.Decode input) =
+    (name ≡ codes "decode") × (input ≡ form_by options (codes "packed-in"))
+AsksFor name options (job.Normal input output) =
+    (name ≡ codes "normal") × (input ≡ form_by options (codes "packed-in"))
+    × (output ≡ form_by options (codes "packed-out"))
+AsksFor name options (job.Check input) =
+    (name ≡ codes "check") × (input ≡ form_by options (codes "packed-in"))
+AsksFor name options (job.Show input) =
+    (name ≡ codes "show") × (input ≡ form_by options (codes "packed-in"))
+AsksFor name options (job.Scan input) =
+    (name ≡ codes "scan") × (input ≡ form_by options (codes "packed-in"))
+AsksFor name options (job.Cut input output first count) =
+    (name ≡ codes "cut") × (input ≡ form_by options (codes "packed-in"))
+    × (output ≡ form_by options (codes "packed-out"))
+    × IsNumber options (codes "FROM") first × IsNumber options (codes "COUNT") count
+AsksFor name options (job.Rewrite input output change) =
+    (name ≡ codes "rewrite") × (input ≡ form_by options (codes "packed-in"))
+    × (output ≡ form_by options (codes "packed-out")) × IsChange options change
+
+-- the definitions take the words, and the command that stands in them asks for the job
+abbrev pub IsJobOf : List Text → Job → Type 0
+IsJobOf words job =
+    (name : Text) × (options : Options) × StandsIn words name options × AsksFor name options job
+
+-- ---- refusals
+
+-- the option is given with a text that is no status
+abbrev pub IsBadStatus : Options → Text → Type 0
+IsBadStatus options name = (text : Text) × (first_of name options ≡ Some text)
+    × (status_of text ≡ None)
+
+-- one of the status texts among the options is none
+abbrev pub HasBadStatus : Options → Type 0
+HasBadStatus options =
+    IsBadStatus options (codes "status1") ⊎ IsBadStatus options (codes "status2")
+
+-- the definitions do not take the words, and ask for no help
+abbrev pub IsNotTaken : List Text → Type 0
+IsNotTaken words = (kind : _) × IsAmong kind (faults_in words) × (kind ≢ DisplayHelp)
+
+-- why the words are no job
+abbrev pub IsFaultOf : List Text → LineFault → Type 0
+IsFaultOf words (fault.Usage text) = IsNotTaken words
+IsFaultOf words (fault.Help text) = IsAmong DisplayHelp (faults_in words)
+IsFaultOf words (fault.Refused error) =
+    (error ≡ Memory) ⊎ ((error ≡ BadStatusText) × ((options : Options)
+    × StandsIn words (codes "rewrite") options × HasBadStatus options))
+
+-- what is told of an error of this kind
+abbrev pub Tells : ErrorKind → LineFault → Type 0
+Tells kind (fault.Usage text) = (kind ≢ OutOfMemory) × (kind ≢ DisplayHelp)
+Tells kind (fault.Help text) = kind ≡ DisplayHelp
+Tells kind (fault.Refused error) = error ≡ Memory
+
+-- the words are taken and have a bad status
+abbrev pub IsBadStatusOf : Text → Options → LineFault → Type 0
+IsBadStatusOf name options told =
+    (told ≡ fault.Refused BadStatusText) × (name ≡ codes "rewrite") × HasBadStatus options

@@ -1,0 +1,34 @@
+-- What the program does for a command line.
+use Rattle.std.specs.Prelude.{ℕ, List, [], Bool, ◌≡◌, ◌⊎◌}
+use Rattle.aes3_cell.specs.Ends.{Grew}
+use Rattle.aes3_cell.specs.declared.refusal.RunError.TheVariants.{Write}
+use Rattle.aes3_engine.specs.Running.{Change, Quiet, Failed}
+use Rattle.clap.specs.Walk.{Text}
+use Rattle.aes3.specs.declared.job.Job.{Job}
+use Rattle.aes3.specs.declared.job.LineFault.{LineFault}
+use Rattle.aes3.specs.declared.job.LineFault.TheVariants.{Usage, Help, Refused}
+use Rattle.aes3.specs.Jobs.{IsJobOf, IsFaultOf}
+use Rattle.aes3.specs.JobRuns.{JobRan}
+use Rattle.aes3.specs.Lines.{refusal_line}
+
+-- a line that is no job: why not is told among the errors, and help in the output
+abbrev pub FaultRan : LineFault → Change → Change → ℕ → Type 0
+FaultRan (Usage text) sink errors status = (status ≡ 2) × Grew sink.old sink.new [] × (Quiet errors → Grew errors.old errors.new text.bytes.items)
+FaultRan (Help text) sink errors status =
+    ((status ≡ 0) × Grew sink.old sink.new text.bytes.items) ⊎ ((status ≡ 3) × Failed sink × (Quiet errors → Grew errors.old errors.new (refusal_line Write)))
+FaultRan (Refused error) sink errors status = (status ≡ 3) × Grew sink.old sink.new [] × (Quiet errors → Grew errors.old errors.new (refusal_line error))
+
+-- the words ask for a job, which is run; or they ask for none, which is told and nothing is read
+pub record JobOfWords (words : List Text) (ended : Bool) (source sink errors : Change) (status : ℕ) : Type 0 where
+  pub job : Job
+  pub asked : IsJobOf words job
+  pub ran : JobRan job ended source sink errors status
+
+pub record FaultOfWords (words : List Text) (source sink errors : Change) (status : ℕ) : Type 0 where
+  pub fault : LineFault
+  pub told : IsFaultOf words fault
+  pub unread : Grew source.old source.new []
+  pub ran : FaultRan fault sink errors status
+
+abbrev pub WordsRan : List Text → Bool → Change → Change → Change → ℕ → Type 0
+WordsRan words ended source sink errors status = JobOfWords words ended source sink errors status ⊎ FaultOfWords words source sink errors status

@@ -1,0 +1,192 @@
+//! What a command line asks for.
+
+ghost use Rattle.std.specs.Prelude.{◌≡◌, ◌≢◌, ℕ, List, codes, IfOk, IfErr, map};
+ghost use Rattle.clap.specs.Values.{kind_of};
+ghost use Rattle.clap.specs.Walk.{first_of};
+ghost use Rattle.aes3.specs.Jobs.{AsksFor, HasStatus, IsBadStatus, IsBadStatusOf, IsChange, IsFaultOf, IsJobOf, IsNumber};
+ghost use Rattle.aes3.specs.Jobs.{IsStatus, MayBeFlag, StandsIn, Tells, form_by, is_set, options_of};
+ghost use Rattle.aes3.specs.declared.job.LineFault.TheVariants.{Refused};
+ghost use Rattle.aes3_cell.specs.declared.refusal.RunError.TheVariants.{BadStatusText, Memory};
+
+use crate::definitions::command_line;
+use crate::status_text::status_of_text;
+use aes3_cell::{Form, RunError};
+use aes3_engine::Change;
+use clap::error::ErrorKind;
+use clap::{ArgMatches, Error};
+use std::alloc::{AllocError, Global};
+
+/// What the program is asked to do.
+#[derive(Clone, Copy, PartialEq, Eq, Debug)]
+pub enum Job {
+    /// Block file to cells.
+    Encode {
+        output: Form,
+    },
+    /// Cells to a block file.
+    Decode {
+        input: Form,
+    },
+    /// Cells to the normal stream of their blocks.
+    Normal {
+        input: Form,
+        output: Form,
+    },
+    /// A line for each block and each fault.
+    Check {
+        input: Form,
+    },
+    /// Two lines of channel status for each block.
+    Show {
+        input: Form,
+    },
+    /// A line for each preamble.
+    Scan {
+        input: Form,
+    },
+    /// Cells to the normal stream of `count` of their blocks, the first of which has the number `from`.
+    Cut {
+        input: Form,
+        output: Form,
+        from: u64,
+        count: u64,
+    },
+    /// Cells to the normal stream of their blocks, with other channel status.
+    Rewrite {
+        input: Form,
+        output: Form,
+        change: Change,
+    },
+}
+
+/// Why a command line gives no job.
+#[derive(Debug, Drop)]
+pub enum LineFault {
+    /// The words are no command line of the program; the text says why.
+    Usage { text: String },
+    /// The words ask for help; the text is the help.
+    Help { text: String },
+    /// A status text that is none, or want of memory.
+    Refused(RunError),
+}
+
+/// What a command line without the program's name asks for. It reads no input.
+///
+/// # Errors
+/// `Usage` where the definitions of the command line don't take the words, or no command stands in them; `Help` where
+/// `--help` stands in them; `BadStatusText` where they are taken, but a status text isn't 48 hexadecimal digits; `Memory`
+/// where memory was refused.
+pub fn job_of_words<'a>(alloc: Global, words: &'a [&'a str]) -> Result<Job, LineFault>
+    ensures job { IfOk result (IsJobOf (map (λ word. word.now) words.now)) }
+    ensures fault { IfErr result (IsFaultOf (map (λ word. word.now) words.now)) }
+{
+    let command = command_line(alloc)?;
+    let matches = match command.try_get_matches_from(words) {
+        Ok(matches) => matches,
+        Err(error) => return Err(fault_of(alloc, &error)),
+    };
+    let Some((name, options)) = matches.subcommand() else {
+        unreachable!();
+    };
+    job_of_command(name, options)
+}
+
+impl From<AllocError> for LineFault {
+    ghost from_gives = { λ _ fault. fault ≡ Refused Memory };
+
+    fn from(_error: AllocError) -> LineFault {
+        LineFault::Refused(RunError::Memory)
+    }
+}
+
+/// What `clap` tells of words that give no matches.
+fn fault_of(alloc: Global, error: &Error) -> LineFault
+    ensures { Tells (kind_of error.now) result }
+{
+    let Ok(text) = error.to_string(alloc) else {
+        return LineFault::Refused(RunError::Memory);
+    };
+    match error.kind() {
+        ErrorKind::OutOfMemory => LineFault::Refused(RunError::Memory),
+        ErrorKind::DisplayHelp => LineFault::Help { text },
+        _ => LineFault::Usage { text },
+    }
+}
+
+/// The job of a command with its options.
+fn job_of_command(name: &str, options: &ArgMatches<'_>) -> Result<Job, LineFault>
+    requires { (words : List (List ℕ)) × StandsIn words name.now (options_of options.now) }
+    ensures job { IfOk result (AsksFor name.now (options_of options.now)) }
+    ensures fault { IfErr result (IsBadStatusOf name.now (options_of options.now)) }
+{
+    let input = form(options, "packed-in");
+    let output = form(options, "packed-out");
+    match name {
+        "encode" => Ok(Job::Encode { output }),
+        "decode" => Ok(Job::Decode { input }),
+        "normal" => Ok(Job::Normal { input, output }),
+        "check" => Ok(Job::Check { input }),
+        "show" => Ok(Job::Show { input }),
+        "scan" => Ok(Job::Scan { input }),
+        "cut" => Ok(Job::Cut {
+            input,
+            output,
+            from: number(options, "FROM"),
+            count: number(options, "COUNT"),
+        }),
+        "rewrite" => Ok(Job::Rewrite {
+            input,
+            output,
+            change: change(options)?,
+        }),
+        _ => unreachable!(),
+    }
+}
+
+/// The form of cells that a flag speaks of.
+fn form(options: &ArgMatches<'_>, flag: &str) -> Form
+    requires { MayBeFlag (options_of options.now) flag.now }
+    ensures { result ≡ form_by (options_of options.now) flag.now }
+{
+    if options.get_flag(flag) {
+        Form::Packed
+    } else {
+        Form::Text
+    }
+}
+
+/// The number of this name.
+fn number(options: &ArgMatches<'_>, name: &str) -> u64
+    requires { (n : ℕ) × IsNumber (options_of options.now) name.now n }
+    ensures { IsNumber (options_of options.now) name.now result }
+{
+    options.get_one::<u64>(name).unwrap()
+}
+
+/// The change that the options of `rewrite` ask for.
+fn change(options: &ArgMatches<'_>) -> Result<Change, LineFault>
+    requires { MayBeFlag (options_of options.now) (codes "mend-check") }
+    ensures change { IfOk result (IsChange (options_of options.now)) }
+    ensures fault { IfErr result (IsBadStatusOf (codes "rewrite") (options_of options.now)) }
+{
+    Ok(Change {
+        status1: status(options, "status1")?,
+        status2: status(options, "status2")?,
+        mend: options.get_flag("mend-check"),
+    })
+}
+
+/// The channel status that an option gives.
+fn status(options: &ArgMatches<'_>, name: &str) -> Result<Option<[u8; 24]>, LineFault>
+    ensures status { IfOk result (IsStatus (options_of options.now) name.now) }
+    ensures fault { IfErr result (λ fault. (fault ≡ Refused BadStatusText)
+        × IsBadStatus (options_of options.now) name.now) }
+{
+    let Some(text) = options.get_str(name) else {
+        return Ok(None);
+    };
+    match status_of_text(text) {
+        Some(status) => Ok(Some(status)),
+        None => Err(LineFault::Refused(RunError::BadStatusText)),
+    }
+}

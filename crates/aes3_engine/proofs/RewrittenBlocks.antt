@@ -1,0 +1,67 @@
+-- Blocks with other channel status.
+use Rattle.std.proofs.Common.{◌≡◌, ℕ, suc, List, [], ◌∷◌, ◌++◌, Bool, true, false, cond, Option, Some, None, refl, ap, ◌∙◌}
+use Rattle.std.proofs.lemmas.List.{length-set}
+use Rattle.aes3_cell.specs.declared.level.Level.{Level}
+use Rattle.aes3_cell.specs.declared.form.Form.{Form}
+use Rattle.aes3_cell.specs.Written.{ending}
+use Rattle.aes3_block.specs.declared.status.Channel.{Channel}
+use Rattle.aes3_block.specs.declared.status.Channel.TheVariants.{First, Second}
+use Rattle.aes3_block.specs.Statuses.{status_place, status_of, bits_of_bytes, with_bits, with_status}
+use Rattle.aes3_block.proofs.Runs.{Each27}
+use Rattle.aes3_block.proofs.Streams.{EachBlock27}
+use Rattle.aes3_lock.specs.Reports.{reports, decided, blocks}
+use Rattle.aes3_status.specs.Statuses.{is_professional}
+use Rattle.aes3_engine.specs.declared.change.Change.{Change}
+use Rattle.aes3_engine.specs.ReportRuns.{output}
+use Rattle.aes3_engine.specs.BlockRuns.{decided_blocks, report_bytes, numbered, normal_block, begun_stream, written_stream}
+use Rattle.aes3_engine.specs.Rewriting.{set_status, checked, mended, rewritten, rewritten_block, rewritten_blocks}
+use Rattle.aes3_engine.proofs.BlockRuns.{whole-stream, begun-stream, normal-numbered}
+
+-- the payloads keep their lengths
+each-bits : (channel : Channel) (b : List (List Bool)) (bits : List Bool) → Each27 b → Each27 (with_bits channel b bits)
+each-bits channel [] bits h = tt
+each-bits First (p ∷ ps) [] h = h
+each-bits First (p ∷ ps) (c ∷ bits) h = (length-set p status_place c ∙ h.0, each-bits Second ps bits h.1)
+each-bits Second (p ∷ ps) bits h = (h.0, each-bits First ps bits h.1)
+
+each-status : (channel : Channel) (b : List (List Bool)) (status : List ℕ) → Each27 b → Each27 (with_status b channel status)
+unfolding with_status
+each-status channel b status h = each-bits channel b (bits_of_bytes status) h
+
+each-set : (channel : Channel) (status : Option (List ℕ)) (b : List (List Bool)) → Each27 b → Each27 (set_status channel status b)
+each-set channel None b h = h
+each-set channel (Some status) b h = each-status channel b status h
+
+each-if : (t : Bool) (a b : List (List Bool)) → Each27 a → Each27 b → Each27 (cond t a b)
+each-if true a b h k = h
+each-if false a b h k = k
+
+each-mended : (channel : Channel) (b : List (List Bool)) → Each27 b → Each27 (mended channel b)
+each-mended channel b h =
+    each-if (is_professional (status_of b channel)) (with_status b channel (checked (status_of b channel))) b (each-status channel b (checked (status_of b channel)) h) h
+
+each-rewritten : (change : Change) (b : List (List Bool)) → Each27 b → Each27 (rewritten change b)
+each-rewritten change b h =
+    let s = set_status Second change.status2 (set_status First change.status1 b) in
+    let k = each-set Second change.status2 (set_status First change.status1 b) (each-set First change.status1 b h) in
+    each-if change.mend (mended Second (mended First s)) s (each-mended Second (mended First s) (each-mended First s k)) k
+
+each-blocks : (change : Change) (bs : List (List (List Bool))) → EachBlock27 bs → EachBlock27 (rewritten_blocks change bs)
+each-blocks change [] h = tt
+each-blocks change (b ∷ bs) h = (each-rewritten change b h.0, each-blocks change bs h.1)
+
+-- what the changed blocks write
+changed-numbered : (form : Form) (change : Change) (n : ℕ) (bs : List (List (List Bool))) → numbered (rewritten_block form change) n bs ≡ numbered (normal_block form) n (rewritten_blocks change bs)
+changed-numbered form change n [] = refl
+changed-numbered form change n (b ∷ bs) = ap (λ z. normal_block form n (rewritten change b) ++ z) (changed-numbered form change (suc n) bs)
+
+changed-bytes : (form : Form) (change : Change) (bs : List (List (List Bool))) → EachBlock27 bs → numbered (rewritten_block form change) 0 bs ≡ begun_stream form (rewritten_blocks change bs)
+changed-bytes form change bs h = changed-numbered form change 0 bs ∙ normal-numbered form 0 (rewritten_blocks change bs) (each-blocks change bs h)
+
+pub rewritten-whole : (form : Form) (change : Change) (c : List Level)
+    → output (report_bytes (rewritten_block form change)) (reports c) ++ ending form ≡ written_stream form (rewritten_blocks change (blocks c))
+rewritten-whole form change c = whole-stream form (rewritten_block form change) (rewritten_blocks change) (changed-bytes form change) (each-blocks change) c
+
+pub rewritten-begun : (form : Form) (change : Change) (c : List Level)
+    → output (report_bytes (rewritten_block form change)) (decided c) ≡ begun_stream form (rewritten_blocks change (decided_blocks c))
+rewritten-begun form change c = begun-stream form (rewritten_block form change) (rewritten_blocks change) (changed-bytes form change) c

@@ -1,0 +1,12 @@
+use Rattle.std.proofs.Common.{◌≡◌, take}
+use Rattle.aes3_engine.specs.Running.{Fed}
+use Rattle.aes3_engine.specs.Forms.{packed_reading, PackedTaken}
+use Rattle.aes3_engine.proofs.packed_input.PackedInputInput.feed.Given as goal
+
+abbrev pub invariant-loop-octet : goal.invariant-loop-octet
+invariant-loop-octet g l = record {
+  fed : Fed (packed_reading (g.K.Taker.writes l.fn.taker)) (packed_reading (g.K.Taker.writes l.taker))
+      (PackedTaken l.fn.self.packed l.fn.self.cells (g.K.Taker.follows l.fn.taker)) (PackedTaken l.self.packed l.self.cells (g.K.Taker.follows l.taker))
+      (g.T.Sink.taken l.fn.sink) (g.T.Sink.taken l.sink) (take l.octet-index l.piece);
+  quiet : g.T.Sink.failed l.sink ≡ g.T.Sink.failed l.fn.sink;
+}

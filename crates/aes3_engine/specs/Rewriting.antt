@@ -1,0 +1,34 @@
+-- Blocks with other channel status.
+use Rattle.std.specs.Prelude.{ℕ, List, Bool, Option, Some, None, map, take, slice_set, if◌then◌else◌}
+use Rattle.aes3_cell.specs.declared.form.Form.{Form}
+use Rattle.aes3_block.specs.declared.status.Channel.{Channel}
+use Rattle.aes3_block.specs.declared.status.Channel.TheVariants.{First, Second}
+use Rattle.aes3_block.specs.Statuses.{status_of, with_status}
+use Rattle.aes3_status.specs.Statuses.{is_professional}
+use Rattle.aes3_status.specs.Check.{check_byte_of}
+use Rattle.aes3_engine.specs.declared.change.Change.{Change}
+use Rattle.aes3_engine.specs.BlockRuns.{normal_block}
+
+-- the status of a channel set, where one is given
+abbrev pub set_status : Channel → Option (List ℕ) → List (List Bool) → List (List Bool)
+set_status channel None b = b
+set_status channel (Some status) b = with_status b channel status
+
+-- professional status with the check byte of its bytes 0 to 22; consumer status stays
+abbrev pub checked : List ℕ → List ℕ
+checked status = slice_set status 23 (check_byte_of (take 23 status))
+
+abbrev pub mended : Channel → List (List Bool) → List (List Bool)
+mended channel b = if is_professional (status_of b channel) then with_status b channel (checked (status_of b channel)) else b
+
+-- a block with a change: the statuses set, then the check bytes mended where that is asked for
+abbrev pub rewritten : Change → List (List Bool) → List (List Bool)
+rewritten change b =
+    if change.mend then mended Second (mended First (set_status Second change.status2 (set_status First change.status1 b)))
+    else set_status Second change.status2 (set_status First change.status1 b)
+
+abbrev pub rewritten_block : Form → Change → ℕ → List (List Bool) → List ℕ
+rewritten_block form change n b = normal_block form n (rewritten change b)
+
+abbrev pub rewritten_blocks : Change → List (List (List Bool)) → List (List (List Bool))
+rewritten_blocks change bs = map (rewritten change) bs

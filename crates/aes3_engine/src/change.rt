@@ -1,0 +1,12 @@
+//! What a rewritten stream has in place of its channel status.
+
+/// New channel status for each block of a stream (AES3-2, IEC 60958-3).
+#[derive(Clone, Copy, PartialEq, Eq, Debug)]
+pub struct Change {
+    /// The 24 status bytes that channel 1 gets; `None` leaves it as it is.
+    pub status1: Option<[u8; 24]>,
+    /// The 24 status bytes that channel 2 gets; `None` leaves it as it is.
+    pub status2: Option<[u8; 24]>,
+    /// Whether professional status then gets the check byte that it asks for.
+    pub mend: bool,
+}

@@ -1,0 +1,162 @@
+//! Packed cells as an input.
+
+ghost use Rattle.std.specs.Prelude.{◌≡◌, ℕ, ◌+◌, ◌<◌, ◌≤◌, ◌^◌, ◌++◌, List, [], ◌∷◌, length};
+ghost use Rattle.aes3_cell.specs.declared.form.Form.{Form};
+ghost use Rattle.aes3_cell.specs.declared.level.Level.{Level};
+ghost use Rattle.aes3_cell.specs.PackedReading.{packed_reader_of};
+ghost use Rattle.aes3_engine.specs.Driving.{Drive};
+ghost use Rattle.aes3_engine.specs.Forms.{CellsRan, EndCellsRan, PackedEnded, PackedTaken, octet_front, packed_reading};
+ghost use Rattle.aes3_engine.specs.Running.{PieceRan};
+
+use crate::conversion::{Input, convert};
+use crate::taker::Taker;
+use aes3_cell::{Fault, Level, PackedIn, RunError, Sink, Source};
+
+/// Reads packed cells, and counts those handed on.
+#[derive(Drop)]
+pub(crate) struct PackedInput {
+    packed: PackedIn,
+    cells: u64,
+}
+
+impl PackedInput {
+    /// An input of which nothing was taken.
+    fn new() -> Self
+        ensures packed { result.packed ≡ packed_reader_of [] }
+        ensures cells { result.cells ≡ 0 }
+    {
+        PackedInput {
+            packed: PackedIn::new(),
+            cells: 0,
+        }
+    }
+}
+
+/// Cell `i` of an octet, the first in the highest bit.
+fn cell_of(octet: u8, i: u32) -> Level
+    requires { i < 8 }
+    ensures { octet_front (i + 1) octet ≡ octet_front i octet ++ result ∷ [] }
+{
+    if octet >> (7 - i) & 1 == 1 {
+        Level::High
+    } else {
+        Level::Low
+    }
+}
+
+/// Hands the first `used` cells of an octet to the taker.
+fn hand_on<T: Sink, K: Taker>(taker: &mut K, sink: &mut T, octet: u8, used: u8) -> Result<(), Fault>
+    requires few { used ≤ 8 }
+    requires room { T.failed sink.old + 1 < 2 ^ 64 }
+    requires following { (c : List Level) × (length c + 8 < 2 ^ 43) × K.follows taker.old c }
+    ensures { CellsRan (K.writes taker.old) (K.writes taker.new) (K.follows taker.old) (K.follows taker.new) (octet_front used octet)
+        (record { old = T.taken sink.old; new = T.taken sink.new; failed_old = T.failed sink.old; failed_new = T.failed sink.new }) result }
+{
+    for i in 0..u32::from(used) {
+        match taker.cell(sink, cell_of(octet, i)) {
+            Ok(()) => {}
+            Err(fault) => return Err(fault),
+        }
+    }
+    Ok(())
+}
+
+/// Hands the first `used` cells of an octet to the taker, and then the end.
+fn hand_on_last<T: Sink, K: Taker>(
+    taker: &mut K,
+    sink: &mut T,
+    octet: u8,
+    used: u8,
+) -> Result<(), Fault>
+    requires few { used ≤ 8 }
+    requires room { T.failed sink.old + 1 < 2 ^ 64 }
+    requires following { (c : List Level) × (length c + 8 < 2 ^ 43) × K.follows taker.old c }
+    ensures { EndCellsRan (K.writes taker.old) (K.follows taker.old) (K.finished taker.new) (octet_front used octet)
+        (record { old = T.taken sink.old; new = T.taken sink.new; failed_old = T.failed sink.old; failed_new = T.failed sink.new }) result }
+{
+    match hand_on(taker, sink, octet, used) {
+        Ok(()) => taker.finish(sink),
+        Err(fault) => Err(fault),
+    }
+}
+
+/// Takes one octet, and hands on the cells of the one that came two octets before.
+fn take_octet<T: Sink, K: Taker>(
+    input: &mut PackedInput,
+    taker: &mut K,
+    sink: &mut T,
+    octet: u8,
+) -> Result<(), RunError>
+    requires room { T.failed sink.old + 1 < 2 ^ 64 }
+    requires following { (b : List ℕ) × (length b < 2 ^ 40) × PackedTaken input.old.packed input.old.cells (K.follows taker.old) b }
+    ensures { PieceRan (packed_reading (K.writes taker.old)) (packed_reading (K.writes taker.new))
+        (PackedTaken input.old.packed input.old.cells (K.follows taker.old)) (PackedTaken input.new.packed input.new.cells (K.follows taker.new)) (octet ∷ [])
+        (record { old = T.taken sink.old; new = T.taken sink.new; failed_old = T.failed sink.old; failed_new = T.failed sink.new }) result }
+{
+    match input.packed.feed_byte(octet) {
+        Some(whole) => match hand_on(taker, sink, whole, 8) {
+            Ok(()) => {
+                input.cells += 8;
+                Ok(())
+            }
+            Err(_) => Err(RunError::Write),
+        },
+        None => Ok(()),
+    }
+}
+
+/// `drive` over packed cells.
+pub(crate) fn drive_packed<S: Source, T: Sink, K: Taker>(
+    source: &mut S,
+    sink: &mut T,
+    max_bytes: u64,
+    taker: &mut K,
+) -> Result<(u64, u64), RunError>
+    requires source_room { S.failed source.old + 1 < 2 ^ 64 }
+    requires sink_room { T.failed sink.old + 1 < 2 ^ 64 }
+    requires limit { max_bytes ≤ 2 ^ 40 }
+    requires start { K.follows taker.old [] }
+    ensures { Drive max_bytes Form.Packed (K.writes taker.old) (K.finished taker.new) (S.has_ended source.new)
+        (record { old = S.given source.old; new = S.given source.new; failed_old = S.failed source.old; failed_new = S.failed source.new })
+        (record { old = T.taken sink.old; new = T.taken sink.new; failed_old = T.failed sink.old; failed_new = T.failed sink.new }) result }
+{
+    let mut input = PackedInput::new();
+    match convert(source, sink, max_bytes, &mut input, taker) {
+        Ok(bytes) => Ok((bytes, input.cells)),
+        Err(error) => Err(error),
+    }
+}
+
+impl<K: Taker> Input<K> for PackedInput {
+    ghost follows = { λ input taker. PackedTaken input.packed input.cells (K.follows taker) };
+
+    ghost reads = { λ _ taker. packed_reading (K.writes taker) };
+
+    ghost finished = { λ input taker. PackedEnded input.cells (K.finished taker) };
+
+    fn feed<T: Sink>(&mut self, taker: &mut K, sink: &mut T, piece: &[u8]) -> Result<(), RunError> {
+        for octet in piece {
+            match take_octet(self, taker, sink, *octet) {
+                Ok(()) => {}
+                Err(error) => return Err(error),
+            }
+        }
+        Ok(())
+    }
+
+    fn finish<T: Sink>(&mut self, taker: &mut K, sink: &mut T) -> Result<(), RunError> {
+        match self.packed.end() {
+            Ok(last) => {
+                let (octet, used) = last.unwrap_or((0, 0));
+                match hand_on_last(taker, sink, octet, used) {
+                    Ok(()) => {
+                        self.cells += u64::from(used);
+                        Ok(())
+                    }
+                    Err(_) => Err(RunError::Write),
+                }
+            }
+            Err(fault) => Err(RunError::BadPadding { at: fault.at }),
+        }
+    }
+}

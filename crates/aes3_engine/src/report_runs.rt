@@ -1,0 +1,134 @@
+//! Runs that read cells and write something of each report on them.
+
+ghost use Rattle.std.specs.Prelude.{◌≡◌, ℕ, ◌+◌, ◌<◌, ◌≤◌, ◌^◌, ◌++◌, List, [], ◌∷◌, length, IfOk, OnErr};
+ghost use Rattle.aes3_cell.specs.Ends.{Grew, GrewFront};
+ghost use Rattle.aes3_lock.specs.declared.report.Report.{Report};
+ghost use Rattle.aes3_engine.specs.ReportRuns.{ReportRun, Tallies, report_writing};
+
+use crate::driver::drive;
+use crate::locked::Locked;
+use crate::reporter::Reporter;
+use aes3_cell::{Counts, Fault, Form, RunError, Sink, Source};
+use aes3_lock::Report;
+
+/// Writes something of a report.
+pub trait ReportWriter {
+    ghost writes: { Self → ℕ → Report → List ℕ };
+
+    ghost ends: { Self → List ℕ };
+
+    /// Writes what it makes of a report behind `blocks` whole blocks.
+    ///
+    /// # Errors
+    /// The sink's fault; then it has taken a front of the bytes.
+    fn put<T: Sink>(&self, sink: &mut T, blocks: u64, report: &Report) -> Result<(), Fault>
+        requires room { T.failed sink.old + 1 < 2 ^ 64 }
+        ensures grew { IfOk result (λ _. Grew (T.taken sink.old) (T.taken sink.new) (writes self.now blocks report.now)) }
+        ensures count { IfOk result (λ _. T.failed sink.new ≡ T.failed sink.old) }
+        ensures err { OnErr result ((T.failed sink.new ≡ T.failed sink.old + 1) × GrewFront (T.taken sink.old) (T.taken sink.new) (writes self.now blocks report.now)) };
+
+    /// Writes what stands behind the last report.
+    ///
+    /// # Errors
+    /// The sink's fault; then it has taken a front of the bytes.
+    fn put_end<T: Sink>(&self, sink: &mut T) -> Result<(), Fault>
+        requires room { T.failed sink.old + 1 < 2 ^ 64 }
+        ensures grew { IfOk result (λ _. Grew (T.taken sink.old) (T.taken sink.new) (ends self.now)) }
+        ensures count { IfOk result (λ _. T.failed sink.new ≡ T.failed sink.old) }
+        ensures err { OnErr result ((T.failed sink.new ≡ T.failed sink.old + 1) × GrewFront (T.taken sink.old) (T.taken sink.new) (ends self.now)) };
+}
+
+/// Counts reports, and hands them to a writer.
+#[derive(Drop)]
+pub(crate) struct Counting<W> {
+    pub(crate) writer: W,
+    pub(crate) blocks: u64,
+    pub(crate) faults: u64,
+    pub(crate) unfinished: u64,
+}
+
+impl<W: ReportWriter> Counting<W> {
+    /// A reporter that has taken no report.
+    pub(crate) fn new(writer: W) -> Self
+        ensures writer { result.writer ≡ writer }
+        ensures tally { Tallies result.blocks result.faults result.unfinished [] }
+    {
+        Counting {
+            writer,
+            blocks: 0,
+            faults: 0,
+            unfinished: 0,
+        }
+    }
+
+    /// Counts a report.
+    fn count(&mut self, report: &Report)
+        requires room { (r : List Report) × (length r + 1 < 2 ^ 44) × Tallies self.old.blocks self.old.faults self.old.unfinished r }
+        ensures writer { self.new.writer ≡ self.old.writer }
+        ensures tally { (r : List Report) → Tallies self.old.blocks self.old.faults self.old.unfinished r
+            → Tallies self.new.blocks self.new.faults self.new.unfinished (r ++ report.now ∷ []) }
+    {
+        match report {
+            Report::Whole { .. } => self.blocks += 1,
+            Report::Marked { .. } => self.faults += 1,
+            Report::Fault { .. } => self.faults += 1,
+            Report::Unfinished { .. } => self.unfinished += 1,
+        }
+    }
+}
+
+impl<W: ReportWriter> Reporter for Counting<W> {
+    ghost follows = { λ k. Tallies k.blocks k.faults k.unfinished };
+
+    ghost writes = { λ k. report_writing (W.writes k.writer) (W.ends k.writer) };
+
+    ghost finished = { λ k. Tallies k.blocks k.faults k.unfinished };
+
+    fn report<T: Sink>(&mut self, sink: &mut T, report: Report) -> Result<(), Fault> {
+        match self.writer.put(sink, self.blocks, &report) {
+            Ok(()) => {
+                self.count(&report);
+                Ok(())
+            }
+            Err(fault) => Err(fault),
+        }
+    }
+
+    fn finish<T: Sink>(&mut self, sink: &mut T) -> Result<(), Fault> {
+        self.writer.put_end(sink)
+    }
+}
+
+/// Reads cells, and hands each report on them to the writer at the cell that decides it.
+///
+/// # Errors
+/// `BadCell` and `BadPadding` where the input is not in its form, `TooLong` where it has more than `max_bytes` bytes,
+/// `Read` and `Write` where an end failed. Then what the reports decided before give is written, and after `Write` a
+/// front of the output.
+pub fn run_reports<S: Source, T: Sink, W: ReportWriter + Drop>(
+    source: &mut S,
+    sink: &mut T,
+    max_bytes: u64,
+    input: Form,
+    writer: W,
+) -> Result<Counts, RunError>
+    requires source_room { S.failed source.old + 1 < 2 ^ 64 }
+    requires sink_room { T.failed sink.old + 1 < 2 ^ 64 }
+    requires limit { max_bytes ≤ 2 ^ 40 }
+    ensures { ReportRun max_bytes input (W.writes writer) (W.ends writer) (S.has_ended source.new)
+        (record { old = S.given source.old; new = S.given source.new; failed_old = S.failed source.old; failed_new = S.failed source.new })
+        (record { old = T.taken sink.old; new = T.taken sink.new; failed_old = T.failed sink.old; failed_new = T.failed sink.new }) result }
+{
+    let mut taker = Locked::new(Counting::new(writer));
+    match drive(source, sink, max_bytes, input, &mut taker) {
+        Ok((bytes, cells)) => Ok(Counts {
+            bytes,
+            cells,
+            blocks: taker.reporter.blocks,
+            faults: taker.reporter.faults,
+            unfinished: taker.reporter.unfinished,
+            marks: 0,
+        }),
+        Err(error) => Err(error),
+    }
+}

@@ -1,0 +1,121 @@
+//! Cells to the normal stream of their blocks, with other channel status.
+
+ghost use Rattle.std.specs.Prelude.{◌≡◌, ◌≢◌, ℕ, ◌+◌, ◌<◌, ◌≤◌, ◌^◌, ◌⊎◌, List, Err, length, take, IfOk, IfErr, IsOk, OnErr, IsTrue};
+ghost use Rattle.aes3_cell.specs.Ends.{Grew, GrewFront, Told};
+ghost use Rattle.aes3_cell.specs.Written.{ending};
+ghost use Rattle.aes3_lock.specs.Reports.{blocks};
+ghost use Rattle.aes3_engine.specs.BlockRuns.{begun_stream, decided_blocks, written_stream};
+ghost use Rattle.aes3_engine.specs.Driving.{WholeInput};
+ghost use Rattle.aes3_engine.specs.Inputs.{IsInput, cells_before, cells_of};
+ghost use Rattle.aes3_engine.specs.CellRuns.{IsCause};
+ghost use Rattle.aes3_engine.specs.ReportRuns.{counts_of};
+ghost use Rattle.aes3_engine.specs.Rewriting.{mended, rewritten, rewritten_block, rewritten_blocks, set_status};
+
+use crate::blocks::{BlockWriter, run_blocks};
+use crate::change::Change;
+use aes3_block::{Block, Channel, put_block};
+use aes3_cell::{Counts, Fault, Form, Level, RunError, Sink, Source, put_ending};
+use aes3_status::{Status, with_check};
+
+/// Sets the status of a channel, where one is given.
+fn set_status(block: &mut Block, channel: Channel, status: &Option<[u8; 24]>)
+    ensures { block.new ≡ set_status channel status.now block.old }
+{
+    if let Some(status) = status {
+        block.set_channel_status(channel, status);
+    }
+}
+
+/// Sets the check byte of a channel's professional status.
+fn mend(block: &mut Block, channel: Channel)
+    ensures { block.new ≡ mended channel block.old }
+{
+    let status = block.channel_status(channel);
+    match Status::read(&status) {
+        Status::Professional(_) => block.set_channel_status(channel, &with_check(status)),
+        Status::Consumer(_) => {}
+    }
+}
+
+/// Changes the channel status of a block.
+fn rewrite_block(block: &mut Block, change: &Change)
+    ensures { block.new ≡ rewritten change.now block.old }
+{
+    set_status(block, Channel::First, &change.status1);
+    set_status(block, Channel::Second, &change.status2);
+    if change.mend {
+        mend(block, Channel::First);
+        mend(block, Channel::Second);
+    }
+}
+
+/// Writes changed blocks as cells in the normal polarity.
+#[derive(Drop)]
+struct RewrittenBlocks {
+    output: Form,
+    change: Change,
+}
+
+impl BlockWriter for RewrittenBlocks {
+    ghost writes = { λ k. rewritten_block k.output k.change };
+
+    ghost ends = { λ k. ending k.output };
+
+    fn put<T: Sink>(&self, sink: &mut T, _number: u64, block: &Block) -> Result<(), Fault> {
+        let mut block = block.copy();
+        rewrite_block(&mut block, &self.change);
+        put_block(self.output, Level::Low, &block, sink)
+    }
+
+    fn put_end<T: Sink>(&self, sink: &mut T) -> Result<(), Fault> {
+        put_ending(self.output, sink)
+    }
+}
+
+/// Reads cells from any cell on, and writes the blocks that stand whole and closed in them as `normalise` does, each with
+/// its channel status changed: first the statuses of the change are set, then, where it asks for that, professional
+/// status gets its check byte (AES3-2). Consumer status is never mended, and nothing else of a block changes.
+///
+/// # Errors
+/// Those of `normalise`.
+pub fn rewrite<S: Source, T: Sink>(
+    source: &mut S,
+    sink: &mut T,
+    max_bytes: u64,
+    input: Form,
+    output: Form,
+    change: &Change,
+) -> Result<Counts, RunError>
+    requires source_room { S.failed source.old + 1 < 2 ^ 64 }
+    requires sink_room { T.failed sink.old + 1 < 2 ^ 64 }
+    requires limit { max_bytes ≤ 2 ^ 40 }
+
+    // Where it answers Ok, exactly the changed blocks are written, as their normal stream.
+    ensures rewritten { IfOk result (λ _. (b : List ℕ) → Told (S.given source.old) (S.given source.new) b
+        → Grew (T.taken sink.old) (T.taken sink.new) (written_stream output (rewritten_blocks change.now (blocks (cells_of input b))))) }
+    ensures input { IfOk result (λ _. (b : List ℕ) → Told (S.given source.old) (S.given source.new) b → IsInput input b) }
+    ensures counts { IfOk result (λ counts. (b : List ℕ) → Told (S.given source.old) (S.given source.new) b → counts ≡ counts_of input b) }
+    ensures ended { IfOk result (λ _. IsTrue (S.has_ended source.new)) }
+
+    // It owes Ok where the input is in its form and fits, and neither end failed.
+    ensures owed { (b : List ℕ) → Told (S.given source.old) (S.given source.new) b → IsInput input b → length b ≤ max_bytes
+        → S.failed source.new ≡ S.failed source.old → T.failed sink.new ≡ T.failed sink.old → IsOk result }
+
+    // A refusal has its cause, and what was decided before it is written.
+    ensures cause { IfErr result (λ error. (b : List ℕ) → Told (S.given source.old) (S.given source.new) b
+        → IsCause input max_bytes b (S.has_ended source.new) error) }
+    ensures read { result ≡ Err RunError.Read → S.failed source.new ≡ S.failed source.old + 1 }
+    ensures write { result ≡ Err RunError.Write → T.failed sink.new ≡ T.failed sink.old + 1 }
+    ensures refused { OnErr result (result ≢ Err RunError.Write → (b : List ℕ) → Told (S.given source.old) (S.given source.new) b
+        → Grew (T.taken sink.old) (T.taken sink.new) (begun_stream output (rewritten_blocks change.now (decided_blocks (cells_before input (take max_bytes b)))))) }
+    ensures front { result ≡ Err RunError.Write → (b : List ℕ) → Told (S.given source.old) (S.given source.new) b
+        → GrewFront (T.taken sink.old) (T.taken sink.new) (begun_stream output (rewritten_blocks change.now (decided_blocks (cells_before input (take max_bytes b)))))
+        ⊎ (WholeInput max_bytes input b (S.has_ended source.new) × GrewFront (T.taken sink.old) (T.taken sink.new) (written_stream output (rewritten_blocks change.now (blocks (cells_of input b))))) }
+    ensures few { (b : List ℕ) → Told (S.given source.old) (S.given source.new) b → length b ≤ max_bytes + 1 }
+{
+    let writer = RewrittenBlocks {
+        output,
+        change: *change,
+    };
+    run_blocks(source, sink, max_bytes, input, writer)
+}

@@ -1,0 +1,40 @@
+-- The lines of reports and of blocks, one behind the other.
+use Rattle.std.proofs.Common.{◌≡◌, ℕ, ◌+◌, List, [], ◌∷◌, ◌++◌, length, refl, ap, ◌∙◌, append-nil, Option, Result, Ok, Err, IfOk, OnErr}
+use Rattle.aes3_cell.specs.declared.level.Level.{Level}
+use Rattle.aes3_cell.specs.declared.ends.Fault as device
+use Rattle.aes3_cell.specs.Ends.{Grew, GrewFront}
+use Rattle.aes3_cell.proofs.Growing.{grew-join, front-join}
+use Rattle.aes3_lock.specs.declared.report.Report.{Report}
+use Rattle.aes3_lock.specs.Reports.{reports, decided, wholes, blocks}
+use Rattle.aes3_engine.specs.ReportRuns.{output_from, output}
+use Rattle.aes3_engine.specs.BlockRuns.{report_bytes, decided_blocks}
+use Rattle.aes3_engine.proofs.ReportLemmas.{blocks-output}
+use Rattle.aes3_text.specs.Lines.{report_line}
+use Rattle.aes3_text.specs.Runs.{report_lines, channel_lines, status_lines}
+
+lines-from : (n : ℕ) (r : List Report) → output_from (λ m. report_line) n r ≡ report_lines r
+lines-from n [] = refl
+lines-from n (x ∷ r) = ap (λ z. report_line x ++ z) (lines-from (n + length (wholes (x ∷ []))) r)
+
+pub check-whole : (c : List Level) → output (λ m. report_line) (reports c) ++ [] ≡ report_lines (reports c)
+check-whole c = append-nil (output (λ m. report_line) (reports c)) ∙ lines-from 0 (reports c)
+
+pub check-begun : (c : List Level) → output (λ m. report_line) (decided c) ≡ report_lines (decided c)
+check-begun c = lines-from 0 (decided c)
+
+pub show-whole : (c : List Level) → output (report_bytes channel_lines) (reports c) ++ [] ≡ status_lines (blocks c)
+unfolding blocks
+show-whole c = append-nil (output (report_bytes channel_lines) (reports c)) ∙ blocks-output channel_lines 0 (reports c)
+
+pub show-begun : (c : List Level) → output (report_bytes channel_lines) (decided c) ≡ status_lines (decided_blocks c)
+show-begun c = blocks-output channel_lines 0 (decided c)
+
+-- two writes, the second the answer
+pub both-grew : (t t' t'' : Option (List ℕ)) (x y : List ℕ) (result : Result (Unit {0}) device.Fault) → Grew t t' x → IfOk result (λ (u : Unit {0}). Grew t' t'' y) → IfOk result (λ (u : Unit {0}). Grew t t'' (x ++ y))
+both-grew t t' t'' x y (Ok u) g h = grew-join g h
+both-grew t t' t'' x y (Err e) g h = tt
+
+pub both-front : (t t' t'' : Option (List ℕ)) (k k' k'' : ℕ) (x y : List ℕ) (result : Result (Unit {0}) device.Fault) → k' ≡ k → Grew t t' x → OnErr result ((k'' ≡ k' + 1) × GrewFront t' t'' y)
+    → OnErr result ((k'' ≡ k + 1) × GrewFront t t'' (x ++ y))
+both-front t t' t'' k k' k'' x y (Ok u) q g h = tt
+both-front t t' t'' k k' k'' x y (Err e) q g h = (h.0 ∙ ap (λ n. n + 1) q, front-join g h.1)

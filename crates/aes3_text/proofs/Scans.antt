@@ -1,0 +1,113 @@
+-- The lines of preambles, as cells come.
+use Rattle.std.proofs.Common.{◌≡◌, ℕ, suc, ◌+◌, ◌≤◌, List, [], ◌∷◌, ◌++◌, Option, Some, None, Result, Ok, Err, IfOk, OnErr, length, drop, refl, sym, ap, ap₂, ◌∙◌, arith, append-nil, length-append}
+use Rattle.std.specs.Prelude.{option_to_list, option_map}
+use Rattle.std.proofs.lemmas.Grind.{flat_map-append}
+use Rattle.aes3_cell.specs.declared.level.Level.{Level}
+use Rattle.aes3_cell.specs.declared.form.Form.{Form}
+use Rattle.aes3_cell.specs.declared.counts.Counts.{Counts}
+use Rattle.aes3_slot.specs.declared.mark.Mark.{Mark}
+use Rattle.aes3_cell.specs.declared.ends.Fault as device
+use Rattle.aes3_cell.specs.Ends.{Grew, GrewFront}
+use Rattle.aes3_cell.proofs.Growing.{grew-is, front-is}
+use Rattle.aes3_lock.specs.Preambles.{first_mark, placed, marks_from, marks}
+use Rattle.aes3_lock.proofs.Scanning.{ending, marks-push}
+use Rattle.aes3_lock.specs.Following.{ScanState, ScanFollows}
+use Rattle.aes3_engine.specs.Taking.{before_end, with_end}
+use Rattle.aes3_engine.specs.Inputs.{cells_of}
+use Rattle.aes3_engine.proofs.Items.{before-is}
+use Rattle.aes3_text.specs.Lines.{mark_line}
+use Rattle.aes3_text.specs.Runs.{line_of, mark_lines, marks_by, marking, scan_counts, Scanned}
+
+drop-front : {A : Type 0} (a b : List A) → drop (length a) (a ++ b) ≡ b
+drop-front [] b = refl
+drop-front (x ∷ a) b = drop-front a b
+
+-- the preambles of all cells before are those of all cells
+marks-by : (c : List Level) (l : Level) (m : List (ℕ × Mark × Level)) → marks (c ++ l ∷ []) ≡ marks c ++ m → marks_by c l ≡ m
+marks-by c l m e = ap (drop (length (marks c))) e ∙ drop-front (marks c) m
+
+marks-more : (c : List Level) (l : Level) → marks (c ++ l ∷ []) ≡ marks c ++ marks_by c l
+unfolding marks
+marks-more c l =
+    let e : marks (c ++ l ∷ []) ≡ marks c ++ ending 0 (c ++ l ∷ []) = marks-push 0 c l in
+    e ∙ ap (λ m. marks c ++ m) (sym (marks-by c l (ending 0 (c ++ l ∷ [])) e))
+
+-- what a scan's taker writes
+nothing : mark_lines (marks []) ≡ []
+unfolding marks
+nothing = refl
+
+adds-lines : (c : List Level) (l : Level) → marking.adds c l ≡ mark_lines (marks_by c l)
+unfolding marking
+adds-lines c l = refl
+
+pub before-lines : (c : List Level) → before_end marking c ≡ mark_lines (marks c)
+before-lines c =
+    before-is marking (λ c. mark_lines (marks c)) nothing
+    (λ c l. ap mark_lines (marks-more c l) ∙ flat_map-append line_of (marks c) (marks_by c l) ∙ ap (λ z. mark_lines (marks c) ++ z) (sym (adds-lines c l))) c
+
+pub with-lines : (c : List Level) → with_end marking c ≡ mark_lines (marks c)
+unfolding with_end marking
+with-lines c = append-nil (before_end marking c) ∙ before-lines c
+
+pub ends-lines : (c : List Level) → [] ≡ marking.ends c
+unfolding marking
+ends-lines c = refl
+
+pub adds-mark : (c : List Level) (l : Level) (m : ℕ × Mark × Level) → marks (c ++ l ∷ []) ≡ marks c ++ m ∷ [] → line_of m ≡ marking.adds c l
+adds-mark c l m e = sym (append-nil (line_of m)) ∙ ap mark_lines (sym (marks-by c l (m ∷ []) e)) ∙ sym (adds-lines c l)
+
+pub adds-none : (c : List Level) (l : Level) → marks (c ++ l ∷ []) ≡ marks c ++ [] → [] ≡ marking.adds c l
+adds-none c l e = ap mark_lines (sym (marks-by c l [] e)) ∙ sym (adds-lines c l)
+
+-- counted
+one-at-most : {A : Type 0} (o : Option A) → length (option_to_list o) ≤ 1
+one-at-most None = omega arith
+one-at-most (Some x) = omega arith
+
+few-from : (p : ℕ) (c : List Level) → length (marks_from p c) ≤ length c
+few-from p [] = omega arith
+few-from p (x ∷ c) =
+    let o = option_map (placed p) (first_mark (x ∷ c)) in
+    let k = one-at-most o in
+    let n = few-from (suc p) c in
+    let l = length-append (option_to_list o) (marks_from (suc p) c) in
+    omega arith
+
+pub few-marks : (c : List Level) → length (marks c) ≤ length c
+unfolding marks
+few-marks c = few-from 0 c
+
+pub scanned-mark : {scan new : ScanState} {count : ℕ} {c : List Level} (l : Level) (m : ℕ × Mark × Level) → Scanned scan count c → ScanFollows new (c ++ l ∷ []) → marks (c ++ l ∷ []) ≡ marks c ++ m ∷ []
+    → Scanned new (count + 1) (c ++ l ∷ [])
+scanned-mark {c} l m h f e = record { follows = f; count_is = (let n = h.count_is in let k = ap length e in let a = length-append (marks c) (m ∷ []) in omega arith) }
+
+pub scanned-none : {scan new : ScanState} {count : ℕ} {c : List Level} (l : Level) → Scanned scan count c → ScanFollows new (c ++ l ∷ []) → marks (c ++ l ∷ []) ≡ marks c ++ []
+    → Scanned new count (c ++ l ∷ [])
+scanned-none {c} l h f e = record { follows = f; count_is = h.count_is ∙ sym (ap length (e ∙ append-nil (marks c))) }
+
+pub scan-starts : {scan : ScanState} {count : ℕ} → ScanFollows scan [] → count ≡ 0 → Scanned scan count []
+unfolding marks
+scan-starts f e = record { follows = f; count_is = e }
+
+pub counted : (form : Form) (b : List ℕ) (bytes cells count : ℕ) (scan : ScanState) → bytes ≡ length b → cells ≡ length (cells_of form b) → Scanned scan count (cells_of form b)
+    → ◌≡◌ {A = Counts} (record { bytes = bytes; cells = cells; blocks = 0; faults = 0; unfinished = 0; marks = count }) (scan_counts form b)
+unfolding scan_counts
+counted form b bytes cells count scan e f h =
+    ap₂ (λ (x y : ℕ). record { bytes = x; cells = y; blocks = 0; faults = 0; unfinished = 0; marks = count }) e f
+    ∙ ap (λ (x : ℕ). record { bytes = length b; cells = length (cells_of form b); blocks = 0; faults = 0; unfinished = 0; marks = x }) h.count_is
+
+-- what a cell writes that ends a preamble
+pub mark-grew : (scan : ScanState) (count : ℕ) (l : Level) (m : ℕ × Mark × Level) (t t' : Option (List ℕ)) (result : Result (Unit {0}) device.Fault)
+    → ((c : List Level) → ScanFollows scan c → marks (c ++ l ∷ []) ≡ marks c ++ m ∷ []) → IfOk result (λ (u : Unit {0}). Grew t t' (mark_line m.0 m.1 m.2))
+    → IfOk result (λ (u : Unit {0}). (c : List Level) → Scanned scan count c → Grew t t' (marking.adds c l))
+unfolding line_of
+mark-grew scan count l m t t' (Ok u) p g = λ c h. grew-is (adds-mark c l m (p c h.follows)) g
+mark-grew scan count l m t t' (Err e) p g = tt
+
+pub mark-front : (scan : ScanState) (count : ℕ) (l : Level) (m : ℕ × Mark × Level) (t t' : Option (List ℕ)) (k k' : ℕ) (result : Result (Unit {0}) device.Fault)
+    → ((c : List Level) → ScanFollows scan c → marks (c ++ l ∷ []) ≡ marks c ++ m ∷ []) → OnErr result ((k' ≡ k + 1) × GrewFront t t' (mark_line m.0 m.1 m.2))
+    → OnErr result ((c : List Level) → Scanned scan count c → GrewFront t t' (marking.adds c l))
+unfolding line_of
+mark-front scan count l m t t' k k' (Ok u) p g = tt
+mark-front scan count l m t t' k k' (Err e) p g = λ c h. front-is (adds-mark c l m (p c h.follows)) g.1

@@ -1,0 +1,29 @@
+use Rattle.aes3_lock.specs.Reports.{decided, reports}
+use Rattle.aes3_text.specs.Runs.{report_lines}
+use Rattle.aes3_text.proofs.RunLines.{check-whole, check-begun}
+use Rattle.aes3_engine.proofs.CellRuns.{run-wrote, run-input, run-counts, run-owed, run-cause, run-refused, run-front, run-few}
+use Rattle.aes3_text.proofs.checking.check.Goals as goal
+
+pub returns-clause-lines : goal.returns-clause-lines
+returns-clause-lines g c = run-wrote c.run_reports.result (λ d. report_lines (reports d)) check-whole c.run_reports.ensures
+
+pub returns-clause-input : goal.returns-clause-input
+returns-clause-input g c = run-input c.run_reports.result c.run_reports.ensures
+
+pub returns-clause-counts : goal.returns-clause-counts
+returns-clause-counts g c = run-counts c.run_reports.result c.run_reports.ensures
+
+pub returns-clause-owed : goal.returns-clause-owed
+returns-clause-owed g c = run-owed c.run_reports.ensures
+
+pub returns-clause-cause : goal.returns-clause-cause
+returns-clause-cause g c = run-cause c.run_reports.result c.run_reports.ensures
+
+pub returns-clause-refused : goal.returns-clause-refused
+returns-clause-refused g c = run-refused c.run_reports.result (λ d. report_lines (decided d)) check-begun c.run_reports.ensures
+
+pub returns-clause-front : goal.returns-clause-front
+returns-clause-front g c = run-front c.run_reports.result (λ d. report_lines (reports d)) (λ d. report_lines (decided d)) check-whole check-begun c.run_reports.ensures
+
+pub returns-clause-few : goal.returns-clause-few
+returns-clause-few g c = run-few c.run_reports.ensures

@@ -1,0 +1,9 @@
+use Rattle.std.proofs.Common.{append_assoc}
+use Rattle.aes3_text.specs.Consumer.{rate_fields}
+use Rattle.aes3_text.proofs.consumer.put_rate.Goals as goal
+
+pub returns-clause-fields : goal.returns-clause-fields
+unfolding rate_fields
+returns-clause-fields c =
+    rw (c.number_field.ensures.field, c.word_field-2.ensures.field, c.word_field.ensures.field)
+    (rw (c.rate.ensures, c.accuracy.ensures, c.from.ensures, c.b3high.ensures) (simp append_assoc))

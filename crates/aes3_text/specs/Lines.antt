@@ -1,0 +1,41 @@
+-- The lines of reports and preambles. Numbers are decimal.
+use Rattle.std.specs.Prelude.{ℕ, List, [], ◌∷◌, ◌++◌, codes, decimal}
+use Rattle.aes3_cell.specs.declared.level.Level.{Level}
+use Rattle.aes3_cell.specs.declared.level.Level.TheVariants.{Low, High}
+use Rattle.aes3_slot.specs.declared.mark.Mark.{Mark}
+use Rattle.aes3_slot.specs.declared.mark.Mark.TheVariants.{X, Y, Z}
+use Rattle.aes3_lock.specs.declared.report.Report.{Report}
+use Rattle.aes3_lock.specs.declared.report.Report.TheVariants.{Whole, Marked, Fault, Unfinished}
+use Rattle.aes3_lock.specs.declared.report.Why.{Why}
+use Rattle.aes3_lock.specs.declared.report.Why.TheVariants.{Preamble, Biphase, Unclosed}
+
+abbrev pub level_digit : Level → List ℕ
+level_digit Low = codes "0"
+level_digit High = codes "1"
+
+abbrev pub mark_letter : Mark → List ℕ
+mark_letter X = codes "X"
+mark_letter Y = codes "Y"
+mark_letter Z = codes "Z"
+
+abbrev pub reason_word : Why → List ℕ
+reason_word Preamble = codes "preamble"
+reason_word Biphase = codes "biphase"
+reason_word Unclosed = codes "unclosed"
+
+-- the line of a report without its line feed
+abbrev pub report_text : Report → List ℕ
+report_text (Whole at before block) = codes "whole at " ++ decimal at ++ codes " before " ++ level_digit before
+report_text (Marked at before wrong) =
+    codes "marked at " ++ decimal at ++ codes " before " ++ level_digit before ++ codes " wrong " ++ decimal wrong
+report_text (Fault at cell why) =
+    codes "fault at " ++ decimal at ++ codes " cell " ++ decimal cell ++ codes " " ++ reason_word why
+report_text (Unfinished at cells) = codes "unfinished at " ++ decimal at ++ codes " cells " ++ decimal cells
+
+abbrev pub report_line : Report → List ℕ
+report_line report = report_text report ++ 10 ∷ []
+
+-- the line of a preamble at cell `at` after the level `before`
+abbrev pub mark_line : ℕ → Mark → Level → List ℕ
+mark_line at mark before =
+    codes "mark " ++ mark_letter mark ++ codes " at " ++ decimal at ++ codes " before " ++ level_digit before ++ 10 ∷ []

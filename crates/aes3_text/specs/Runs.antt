@@ -1,0 +1,62 @@
+-- The lines of whole runs.
+use Rattle.std.specs.Prelude.{ℕ, List, [], ◌∷◌, ◌++◌, Bool, length, drop, ◌≡◌}
+use Rattle.std.specs.List.{flat_map}
+use Rattle.aes3_cell.specs.declared.level.Level.{Level}
+use Rattle.aes3_cell.specs.declared.form.Form.{Form}
+use Rattle.aes3_cell.specs.declared.counts.Counts.{Counts}
+use Rattle.aes3_slot.specs.declared.mark.Mark.{Mark}
+use Rattle.aes3_block.specs.declared.status.Channel.{Channel}
+use Rattle.aes3_block.specs.declared.status.Channel.TheVariants.{First, Second}
+use Rattle.aes3_block.specs.Statuses.{status_of}
+use Rattle.aes3_lock.specs.declared.report.Report.{Report}
+use Rattle.aes3_lock.specs.Preambles.{marks}
+use Rattle.aes3_lock.specs.Following.{ScanState, ScanFollows}
+use Rattle.aes3_engine.specs.Taking.{Writing}
+use Rattle.aes3_engine.specs.Inputs.{cells_of}
+use Rattle.aes3_engine.specs.BlockRuns.{numbered}
+use Rattle.aes3_text.specs.Lines.{report_line, mark_line}
+use Rattle.aes3_text.specs.StatusLines.{status_line}
+
+-- the lines of reports
+abbrev pub report_lines : List Report → List ℕ
+report_lines r = flat_map report_line r
+
+-- the line of a channel of a block, the lines of both, and of blocks numbered from 0
+unfoldable pub channel_line : Channel → ℕ → List (List Bool) → List ℕ
+channel_line channel n b = status_line n channel (status_of b channel)
+
+abbrev pub channel_lines : ℕ → List (List Bool) → List ℕ
+channel_lines n b = channel_line First n b ++ channel_line Second n b
+
+abbrev pub status_lines : List (List (List Bool)) → List ℕ
+status_lines bs = numbered channel_lines 0 bs
+
+-- the lines of preambles
+unfoldable pub line_of : ℕ × Mark × Level → List ℕ
+line_of m = mark_line m.0 m.1 m.2
+
+abbrev pub mark_lines : List (ℕ × Mark × Level) → List ℕ
+mark_lines ms = flat_map line_of ms
+
+-- what a run counts that tells preambles
+unfoldable pub scan_counts : Form → List ℕ → Counts
+scan_counts form b = record {
+  bytes = length b;
+  cells = length (cells_of form b);
+  blocks = 0;
+  faults = 0;
+  unfinished = 0;
+  marks = length (marks (cells_of form b));
+}
+
+-- the preambles that one more cell ends, and a taker that writes their lines
+abbrev pub marks_by : List Level → Level → List (ℕ × Mark × Level)
+marks_by c l = drop (length (marks c)) (marks (c ++ l ∷ []))
+
+unfoldable pub marking : Writing Level
+marking = record { adds = λ c l. mark_lines (marks_by c l); ends = λ c. [] }
+
+-- a scan that has taken the cells c, with the number of its preambles
+pub record Scanned (scan : ScanState) (count : ℕ) (c : List Level) : Type 0 where
+  pub follows : ScanFollows scan c
+  pub count_is : count ≡ length (marks c)

@@ -1,0 +1,24 @@
+//! Lines of text: reports, preambles and channel status (AES3-2, AES3-3, IEC 60958-1, IEC 60958-3), and the runs that
+//! write them.
+#![tactic(auto)]
+
+mod checking;
+mod consumer;
+mod fields;
+mod line;
+mod mark;
+mod professional;
+mod report;
+mod scanning;
+mod showing;
+mod status;
+#[cfg(test)]
+mod tests;
+mod words;
+
+pub use checking::check;
+pub use mark::line_of_mark;
+pub use report::line_of_report;
+pub use scanning::scan;
+pub use showing::show;
+pub use status::line_of_status;

@@ -1,0 +1,40 @@
+//! The line of a preamble.
+
+ghost use Rattle.std.specs.Prelude.{◌≡◌, ◌<◌, ◌+◌, ◌^◌, IfOk, OnErr};
+ghost use Rattle.aes3_cell.specs.Ends.{Grew, GrewFront};
+ghost use Rattle.aes3_text.specs.Lines.{mark_letter, mark_line};
+
+use crate::line::Line;
+use aes3_cell::{Fault, Level, Sink};
+use aes3_slot::Mark;
+
+/// The letter of a preamble (AES3-3).
+fn letter(mark: Mark) -> &'static str
+    ensures { result.now ≡ mark_letter mark }
+{
+    match mark {
+        Mark::X => "X",
+        Mark::Y => "Y",
+        Mark::Z => "Z",
+    }
+}
+
+/// Writes the line of a preamble at cell `at` after the level `before` as one buffer.
+///
+/// # Errors
+/// The sink's fault; then it has taken a front of the line.
+pub fn line_of_mark<T: Sink>(at: u64, mark: Mark, before: Level, sink: &mut T) -> Result<(), Fault>
+    requires room { T.failed sink.old + 1 < 2 ^ 64 }
+    ensures line { IfOk result (λ _. Grew (T.taken sink.old) (T.taken sink.new) (mark_line at mark before)) }
+    ensures count { IfOk result (λ _. T.failed sink.new ≡ T.failed sink.old) }
+    ensures err { OnErr result ((T.failed sink.new ≡ T.failed sink.old + 1) × GrewFront (T.taken sink.old) (T.taken sink.new) (mark_line at mark before)) }
+{
+    let mut line = Line::new();
+    line.text("mark ");
+    line.text(letter(mark));
+    line.text(" at ");
+    line.number(at);
+    line.text(" before ");
+    line.level(before);
+    line.end(sink)
+}

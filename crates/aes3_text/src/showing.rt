@@ -1,0 +1,95 @@
+//! The channel status of blocks, line by line.
+
+ghost use Rattle.std.specs.Prelude.{◌≡◌, ◌≢◌, ℕ, ◌+◌, ◌<◌, ◌≤◌, ◌^◌, ◌⊎◌, List, [], Err, length, take, IfOk, IfErr, IsOk, OnErr, IsTrue};
+ghost use Rattle.aes3_cell.specs.Ends.{Grew, GrewFront, Told};
+ghost use Rattle.aes3_lock.specs.Reports.{blocks};
+ghost use Rattle.aes3_engine.specs.BlockRuns.{decided_blocks};
+ghost use Rattle.aes3_engine.specs.CellRuns.{IsCause};
+ghost use Rattle.aes3_engine.specs.Driving.{WholeInput};
+ghost use Rattle.aes3_engine.specs.Inputs.{IsInput, cells_before, cells_of};
+ghost use Rattle.aes3_engine.specs.ReportRuns.{counts_of};
+ghost use Rattle.aes3_text.specs.Runs.{channel_line, channel_lines, status_lines};
+
+use crate::status::line_of_status;
+use aes3_block::{Block, Channel};
+use aes3_cell::{Counts, Fault, Form, RunError, Sink, Source};
+use aes3_engine::{BlockWriter, run_blocks};
+
+/// Writes the channel status of a channel of block `number`.
+#[tactic(auto, unfolding(crate::specs::Runs::channel_line))]
+fn put_channel<T: Sink>(
+    channel: Channel,
+    number: u64,
+    block: &Block,
+    sink: &mut T,
+) -> Result<(), Fault>
+    requires room { T.failed sink.old + 1 < 2 ^ 64 }
+    ensures line { IfOk result (λ _. Grew (T.taken sink.old) (T.taken sink.new) (channel_line channel number block.now)) }
+    ensures count { IfOk result (λ _. T.failed sink.new ≡ T.failed sink.old) }
+    ensures err { OnErr result ((T.failed sink.new ≡ T.failed sink.old + 1) × GrewFront (T.taken sink.old) (T.taken sink.new) (channel_line channel number block.now)) }
+{
+    let status = block.channel_status(channel);
+    line_of_status(number, channel, &status, sink)
+}
+
+/// Writes the channel status of each block.
+#[derive(Drop)]
+struct ChannelLines;
+
+impl BlockWriter for ChannelLines {
+    ghost writes = { λ _. channel_lines };
+
+    ghost ends = { λ _. [] };
+
+    fn put<T: Sink>(&self, sink: &mut T, number: u64, block: &Block) -> Result<(), Fault> {
+        match put_channel(Channel::First, number, block, sink) {
+            Ok(()) => put_channel(Channel::Second, number, block, sink),
+            Err(fault) => Err(fault),
+        }
+    }
+
+    fn put_end<T: Sink>(&self, _sink: &mut T) -> Result<(), Fault> {
+        Ok(())
+    }
+}
+
+/// Reads cells from any cell on, and writes two lines for each block that stands whole and closed in them: the channel
+/// status of channel 1 and that of channel 2 (AES3-2, IEC 60958-3).
+///
+/// # Errors
+/// Those of `check`; then the lines of the blocks are written that were decided before, and after `Write` a front of them.
+pub fn show<S: Source, T: Sink>(
+    source: &mut S,
+    sink: &mut T,
+    max_bytes: u64,
+    input: Form,
+) -> Result<Counts, RunError>
+    requires source_room { S.failed source.old + 1 < 2 ^ 64 }
+    requires sink_room { T.failed sink.old + 1 < 2 ^ 64 }
+    requires limit { max_bytes ≤ 2 ^ 40 }
+
+    // Where it answers Ok, exactly the lines of the blocks are written, in order of place.
+    ensures lines { IfOk result (λ _. (b : List ℕ) → Told (S.given source.old) (S.given source.new) b
+        → Grew (T.taken sink.old) (T.taken sink.new) (status_lines (blocks (cells_of input b)))) }
+    ensures input { IfOk result (λ _. (b : List ℕ) → Told (S.given source.old) (S.given source.new) b → IsInput input b) }
+    ensures counts { IfOk result (λ counts. (b : List ℕ) → Told (S.given source.old) (S.given source.new) b → counts ≡ counts_of input b) }
+    ensures ended { IfOk result (λ _. IsTrue (S.has_ended source.new)) }
+
+    // It owes Ok where the input is in its form and fits, and neither end failed.
+    ensures owed { (b : List ℕ) → Told (S.given source.old) (S.given source.new) b → IsInput input b → length b ≤ max_bytes
+        → S.failed source.new ≡ S.failed source.old → T.failed sink.new ≡ T.failed sink.old → IsOk result }
+
+    // A refusal has its cause, and what was decided before it is written.
+    ensures cause { IfErr result (λ error. (b : List ℕ) → Told (S.given source.old) (S.given source.new) b
+        → IsCause input max_bytes b (S.has_ended source.new) error) }
+    ensures read { result ≡ Err RunError.Read → S.failed source.new ≡ S.failed source.old + 1 }
+    ensures write { result ≡ Err RunError.Write → T.failed sink.new ≡ T.failed sink.old + 1 }
+    ensures refused { OnErr result (result ≢ Err RunError.Write → (b : List ℕ) → Told (S.given source.old) (S.given source.new) b
+        → Grew (T.taken sink.old) (T.taken sink.new) (status_lines (decided_blocks (cells_before input (take max_bytes b))))) }
+    ensures front { result ≡ Err RunError.Write → (b : List ℕ) → Told (S.given source.old) (S.given source.new) b
+        → GrewFront (T.taken sink.old) (T.taken sink.new) (status_lines (decided_blocks (cells_before input (take max_bytes b))))
+        ⊎ (WholeInput max_bytes input b (S.has_ended source.new) × GrewFront (T.taken sink.old) (T.taken sink.new) (status_lines (blocks (cells_of input b)))) }
+    ensures few { (b : List ℕ) → Told (S.given source.old) (S.given source.new) b → length b ≤ max_bytes + 1 }
+{
+    run_blocks(source, sink, max_bytes, input, ChannelLines)
+}
