@@ -1,7 +1,6 @@
 -- What the small steps of a lock answer.
-use Rattle.std.proofs.Common.{◌≡◌, ◌≢◌, ℕ, zero, suc, ◌+◌, ◌-◌, ◌*◌, ◌/◌, ◌%◌, ◌^◌, ◌<◌, ◌≤◌, ◌⊎◌, inl, inr, List, [], ◌∷◌, Bool, true, false, not, cond, eqb, leb, ltb, ◌&&◌, Option, Some, None, refl, length, map, take, ap, ap₂, ◌∙◌, sym, arith, eq-eqb, ne_eqb, eqb-true, lt-ltb, le-ltb, ltb-true, le-leb, true≢false}
-use Rattle.std.specs.Prelude.{bit_or}
-use Rattle.std.proofs.lemmas.Bool.{lt-leb, and_parts, false_from_ne_true, cases_lt}
+use Rattle.std.proofs.Common.{◌≡◌, ℕ, zero, suc, ◌-◌, ◌/◌, ◌%◌, ◌<◌, ◌≤◌, List, [], ◌∷◌, Bool, true, false, not, eqb, ltb, ◌&&◌, Option, Some, None, refl, map, take, ap, ap₂, ◌∙◌, sym, arith, eq-eqb, lt-ltb, le-ltb, ltb-true, true≢false}
+use Rattle.std.proofs.lemmas.Bool.{and_parts, false_from_ne_true}
 use Rattle.aes3_cell.specs.declared.level.Level.{Level}
 use Rattle.aes3_cell.specs.declared.level.Level.TheVariants.{Low, High}
 use Rattle.aes3_cell.specs.Cells.{line}
@@ -11,15 +10,12 @@ use Rattle.aes3_slot.specs.Bits.{low_bits}
 use Rattle.aes3_slot.specs.Slots.{mark_runs, payload_len, payload_bits, slots_len, slots_bits}
 use Rattle.aes3_slot.specs.Rules.{rule}
 use Rattle.aes3_slot.specs.Reading.{same, differs}
-use Rattle.aes3_block.specs.Blocks.{block_slots, block_len, mark_at}
-use Rattle.aes3_lock.specs.declared.report.Report.{Report}
-use Rattle.aes3_lock.specs.declared.report.Report.TheVariants.{Whole, Marked, Fault, Unfinished}
-use Rattle.aes3_lock.specs.declared.report.Why.TheVariants.{Preamble, Biphase, Unclosed}
-use Rattle.aes3_lock.specs.declared.candidate.Candidate.{Candidate}
+use Rattle.aes3_block.specs.Blocks.{block_len, mark_at}
+use Rattle.aes3_lock.specs.declared.report.Report.TheVariants.{Whole}
 use Rattle.aes3_lock.specs.Candidates.{entry, begins_with, begins_block}
-use Rattle.aes3_lock.specs.Outcomes.{fault, unfinished, Outcome, payloads_of, wrong_parities, block_outcome, why_of}
+use Rattle.aes3_lock.specs.Outcomes.{fault, unfinished, payloads_of, wrong_parities, block_outcome}
 use Rattle.aes3_lock.specs.Reports.{report_of}
-use Rattle.aes3_lock.specs.Steps.{begins_a_block, begun, ended, left, slots_with}
+use Rattle.aes3_lock.specs.Steps.{begins_a_block, begun, ended, left}
 use Rattle.aes3_lock.proofs.Deciding.{begins-cells, block_len_24576}
 use Rattle.aes3_lock.proofs.Following.{begun-some, begun-none}
 

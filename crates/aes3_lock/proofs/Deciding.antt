@@ -1,24 +1,23 @@
 -- What one more cell decides.
-use Rattle.std.proofs.Common.{◌≡◌, ℕ, zero, suc, ◌+◌, ◌-◌, ◌*◌, ◌/◌, ◌%◌, ◌<◌, ◌≤◌, ◌⊎◌, inl, inr, min, List, [], ◌∷◌, ◌++◌, Bool, true, false, not, cond, ltb, eqb, ◌&&◌, Option, Some, None, refl, length, take, drop, get_or, ap, ap₂, ◌∙◌, sym, subst, arith, length-append, length-take, lt-ltb, le-ltb, ltb-true, ltb-false, eq-eqb, ne_eqb, eqb-true, true≢false, lit<, append_assoc, append-nil, get_or-take}
-use Rattle.std.proofs.lemmas.Bool.{cases_lt, cases_order, cases_eq, and_parts, cases_Bool, and_left, eqb-false}
+use Rattle.std.proofs.Common.{◌≡◌, ℕ, zero, suc, ◌+◌, ◌*◌, ◌/◌, ◌%◌, ◌<◌, ◌≤◌, ◌⊎◌, inl, inr, List, [], ◌∷◌, ◌++◌, Bool, true, false, cond, ltb, eqb, ◌&&◌, Some, None, refl, length, take, drop, ap, ap₂, ◌∙◌, sym, arith, length-append, length-take, lt-ltb, le-ltb, ltb-true, eqb-true, true≢false, lit<, append_assoc, append-nil}
+use Rattle.std.proofs.lemmas.Bool.{cases_lt, and_parts, eqb-false}
 use Rattle.std.proofs.lemmas.List.{get_or_append_left, take-append-le, drop-append-le, length-drop}
 use Rattle.aes3_cell.specs.declared.level.Level.{Level}
-use Rattle.aes3_cell.specs.declared.level.Level.TheVariants.{Low, High}
-use Rattle.aes3_cell.specs.Cells.{line, other}
-use Rattle.aes3_slot.specs.declared.mark.Mark.{Mark}
+use Rattle.aes3_cell.specs.declared.level.Level.TheVariants.{Low}
+use Rattle.aes3_cell.specs.Cells.{line}
 use Rattle.aes3_slot.specs.declared.mark.Mark.TheVariants.{X, Y, Z}
 use Rattle.aes3_slot.specs.Slots.{mark_runs}
-use Rattle.aes3_slot.specs.Rules.{StandsMark, at, before, shape, Kept, AllKept}
-use Rattle.aes3_slot.specs.Reading.{same, differs, read_slots, read_bits}
+use Rattle.aes3_slot.specs.Rules.{StandsMark, at, before, shape, AllKept}
+use Rattle.aes3_slot.specs.Reading.{same, read_slots, read_bits}
 use Rattle.aes3_slot.proofs.Index.{before-append_left, length-mark}
 use Rattle.aes3_slot.proofs.RuleTests.{same-true, same-refl}
 use Rattle.aes3_slot.proofs.Preambles.{only-Z, stands-at}
 use Rattle.aes3_block.specs.Blocks.{mark_at, block_slots, block_len}
 use Rattle.aes3_lock.specs.declared.report.Report.{Report}
 use Rattle.aes3_lock.specs.Candidates.{same_cells, keeps, front, entry, begins_with, begins_block}
-use Rattle.aes3_lock.specs.Outcomes.{outcome, Outcome, whole, marked, fault, unfinished, block_outcome}
+use Rattle.aes3_lock.specs.Outcomes.{outcome, Outcome, fault, unfinished, block_outcome}
 use Rattle.aes3_lock.specs.Reports.{told, decided_at, open_at, decided_from}
-use Rattle.aes3_lock.proofs.Fronts.{front-is, front-stays, IsFront, kept-from-keeps}
+use Rattle.aes3_lock.proofs.Fronts.{front-is, front-stays, kept-from-keeps}
 
 pub block_len_64 : block_len ≡ 64 * block_slots
 unfolding block_len

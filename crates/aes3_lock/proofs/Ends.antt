@@ -1,10 +1,10 @@
 -- What the end of the cells decides.
-use Rattle.std.proofs.Common.{◌≡◌, ℕ, zero, suc, ◌+◌, ◌<◌, ◌≤◌, ◌⊎◌, inl, inr, List, [], ◌∷◌, ◌++◌, Bool, true, false, cond, eqb, ◌&&◌, Option, Some, None, refl, length, drop, ap, ap₂, ◌∙◌, sym, arith, append_assoc, append-nil, true≢false, length-drop}
-use Rattle.std.proofs.lemmas.Bool.{cases_eq, eqb-false}
+use Rattle.std.proofs.Common.{◌≡◌, ℕ, zero, suc, ◌+◌, List, [], ◌∷◌, ◌++◌, Bool, true, false, cond, eqb, Some, None, refl, length, drop, ap, ◌∙◌, sym, arith, append_assoc, append-nil, length-drop}
+use Rattle.std.proofs.lemmas.Bool.{eqb-false}
 use Rattle.aes3_cell.specs.declared.level.Level.{Level}
 use Rattle.aes3_lock.specs.declared.report.Report.{Report}
 use Rattle.aes3_lock.specs.Candidates.{front, entry, begins_block}
-use Rattle.aes3_lock.specs.Outcomes.{outcome, Outcome}
+use Rattle.aes3_lock.specs.Outcomes.{outcome}
 use Rattle.aes3_lock.specs.Reports.{told, report_of, outcome_at, reports_from, decided_at, open_at, decided_from}
 use Rattle.aes3_lock.proofs.Fronts.{front-is}
 use Rattle.aes3_lock.proofs.Deciding.{NoZ, no-tail, no-begins, open-alone, none-from-begins, decided-from, quiet}

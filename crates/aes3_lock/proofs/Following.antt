@@ -1,28 +1,25 @@
 -- A lock goes on following the cells, and answers what each decides.
-use Rattle.std.proofs.Common.{◌≡◌, ℕ, zero, suc, ◌+◌, ◌-◌, ◌*◌, ◌/◌, ◌%◌, ◌<◌, ◌≤◌, ◌⊎◌, inl, inr, List, [], ◌∷◌, ◌++◌, Bool, true, false, cond, eqb, leb, ltb, ◌&&◌, Option, Some, None, MatchOption, refl, length, map, drop, get_or, ap, ap₂, ◌∙◌, sym, subst, arith, length-append, length-drop, eq-eqb, ne_eqb, le-leb, lt-ltb, le-ltb, true≢false}
-use Rattle.std.specs.Prelude.{option_to_list}
+use Rattle.std.proofs.Common.{◌≡◌, ℕ, ◌+◌, ◌-◌, ◌*◌, ◌/◌, ◌%◌, ◌^◌, ◌<◌, ◌≤◌, ◌⊎◌, inl, inr, List, [], ◌∷◌, ◌++◌, Bool, true, false, cond, leb, ltb, ◌&&◌, Option, Some, None, MatchOption, refl, length, map, drop, ap, ap₂, ◌∙◌, sym, subst, arith, length-append, length-drop, append-nil, le-leb, lt-ltb, le-ltb, true≢false}
 use Rattle.std.proofs.lemmas.List.{drop-append-le}
-use Rattle.std.proofs.Math.Seq.{get_or-append_seam}
 use Rattle.std.proofs.lemmas.Bool.{cases_eq, cases_lt, lt-leb, false_from_ne_true, cases_Bool}
 use Rattle.aes3_cell.specs.declared.level.Level.{Level}
-use Rattle.aes3_cell.specs.declared.level.Level.TheVariants.{Low, High}
+use Rattle.aes3_cell.specs.Words.{low_cells}
 use Rattle.aes3_slot.specs.Slots.{slots_bits}
 use Rattle.aes3_slot.specs.Rules.{at, before, rule}
-use Rattle.aes3_slot.specs.Reading.{differs, same, read_slots}
-use Rattle.aes3_slot.proofs.Index.{before-append_left}
+use Rattle.aes3_slot.specs.Reading.{same, read_slots}
 use Rattle.aes3_block.specs.Blocks.{mark_at, block_slots, block_len}
-use Rattle.aes3_lock.specs.declared.report.Report.{Report}
 use Rattle.aes3_lock.specs.declared.candidate.Candidate.{Candidate}
 use Rattle.aes3_lock.specs.Candidates.{entry, begins_block, keeps, front}
-use Rattle.aes3_lock.specs.Outcomes.{Outcome, fault, block_outcome, outcome}
-use Rattle.aes3_lock.specs.Reports.{told, report_of, open_at, decided_at, decided_from, decided, reports_from, reports}
-use Rattle.aes3_lock.specs.Steps.{last_eight, eight_with, begun, level_with, ended, left}
-use Rattle.aes3_lock.specs.Following.{LockState, Filled, Follows, OpenAt, NoneOpen}
-use Rattle.aes3_lock.proofs.Deciding.{answer, decided-push, block_len_64, outcome_by, outcome_is, read_slots-append}
-use Rattle.aes3_lock.proofs.Ends.{final, reports-split, final-none, final-open}
-use Rattle.aes3_lock.proofs.Opens.{IsOpen, is-open, open-room, answer-none, answer-open, keeps-new, open-next, open-ends, open-decides, same-entry, open-eight, none-after, open-only}
-use Rattle.aes3_lock.proofs.LastEight.{last_eight-with, last_eight-is, last-before, before-at}
-use Rattle.aes3_lock.proofs.Gathering.{slots_set, filled-step, slots-filled}
+use Rattle.aes3_lock.specs.Outcomes.{outcome}
+use Rattle.aes3_lock.specs.Reports.{told, report_of, open_at, decided_at, decided_from, decided, reports}
+use Rattle.aes3_lock.specs.Steps.{last_eight, eight_with, begun, ended, left}
+use Rattle.aes3_lock.specs.Following.{LockState, Gathered, Follows, OpenAt, NoneOpen}
+use Rattle.aes3_lock.proofs.Deciding.{decided-push, entry-append, block_len_64, outcome_by, outcome_is, read_slots-append}
+use Rattle.aes3_lock.proofs.Fronts.{keeps-append, front-is}
+use Rattle.aes3_lock.proofs.Ends.{reports-split, final-none, final-open}
+use Rattle.aes3_lock.proofs.Opens.{IsOpen, is-open, open-room, answer-none, answer-open, keeps-new, open-ends, open-decides, open-eight, none-after, open-only, open-cells}
+use Rattle.aes3_lock.proofs.LastEight.{last_eight-with, last_eight-is, last-before}
+use Rattle.aes3_lock.proofs.Gathering.{slots-whole}
 
 -- a candidate that the last eight cells show, and none
 pub begun-some : (n : ℕ) (recent : List Level) → 8 ≤ n → begins_block recent ≡ true
@@ -40,10 +37,10 @@ begun-none n recent h = go (cases_lt n 8)
     go (inr g) = let t = le-leb 8 n g in let b = h g in rw (t, b) refl
 
 -- what is in hand where the last eight cells alone can show it
-restarted : (c : List Level) (slots : List ℕ)
+restarted : (c : List Level) (subframe : ℕ) (slots : List ℕ) → low_cells 8 subframe ≡ last_eight c → subframe < 2 ^ 8
     → ((q : ℕ) → 8 < length (drop q c) → open_at (drop q c) ≡ false)
-    → MatchOption (begun (length c) (last_eight c)) (NoneOpen c) (λ t. OpenAt slots t c)
-restarted c slots none = go (cases_lt (length c) 8) (cases_Bool (begins_block (last_eight c)))
+    → MatchOption (begun (length c) (last_eight c)) (NoneOpen c) (λ t. OpenAt subframe slots t c)
+restarted c subframe slots kept few none = go (cases_lt (length c) 8) (cases_Bool (begins_block (last_eight c)))
   where
     closed : (8 ≤ length c → begins_block (last_eight c) ≡ false) → NoneOpen c
     closed b q = false_from_ne_true (open_at (drop q c)) (λ t. here t (cases_lt 8 (length (drop q c))))
@@ -59,7 +56,7 @@ restarted c slots none = go (cases_lt (length c) 8) (cases_Bool (begins_block (l
             true≢false (sym (ap begins_block s ∙ o.begins) ∙ b (omega (arith, r, l)))
 
     go : (length c < 8) ⊎ (8 ≤ length c) → (begins_block (last_eight c) ≡ true) ⊎ (begins_block (last_eight c) ≡ false)
-        → MatchOption (begun (length c) (last_eight c)) (NoneOpen c) (λ t. OpenAt slots t c)
+        → MatchOption (begun (length c) (last_eight c)) (NoneOpen c) (λ t. OpenAt subframe slots t c)
     go (inl g) b = rw (begun-none (length c) (last_eight c) (λ h. absurd (omega (arith, g, h)))) (closed (λ h. absurd (omega (arith, g, h))))
     go (inr g) (inr b) = rw (begun-none (length c) (last_eight c) (λ h. b)) (closed (λ h. b))
     go (inr g) (inl b) =
@@ -71,8 +68,12 @@ restarted c slots none = go (cases_lt (length c) 8) (cases_Bool (begins_block (l
           within = omega (arith, g);
           opened = open-eight (drop (length c - 8) c) m (sym (ap begins_block s) ∙ b);
           first = ap entry s;
-          level = ap entry s ∙ sym (ap (before (entry (drop (length c - 8) c)) (drop (length c - 8) c)) z);
-          filled = λ j h k. absurd (omega (arith, k, m));
+          gathered = record {
+            level = ap entry s ∙ sym (ap (before (entry (drop (length c - 8) c)) (drop (length c - 8) c)) z);
+            cells = ap (λ n. low_cells (n % 64) subframe) m ∙ kept ∙ s ∙ sym (ap (λ n. drop n (drop (length c - 8) c)) z);
+            few = subst (λ n. subframe < 2 ^ (n % 64)) (sym m) few;
+            whole = λ j h k. absurd (omega (arith, k, m));
+          };
         })
 
 -- what is left of the cells with one more
@@ -91,147 +92,141 @@ module _ (k k' : LockState) (c : List Level) (l : Level) (f : Follows k c) (n : 
   recent-with : k'.recent ≡ last_eight (c ++ l ∷ [])
   recent-with = r ∙ ap (λ x. eight_with x l) f.recent ∙ sym (last_eight-with c l)
 
-  anew : ((q : ℕ) → 8 < length (drop q (c ++ l ∷ [])) → open_at (drop q (c ++ l ∷ [])) ≡ false)
+  anew : k'.recent ≡ low_cells 8 k'.subframe → k'.subframe < 2 ^ 8 → ((q : ℕ) → 8 < length (drop q (c ++ l ∷ [])) → open_at (drop q (c ++ l ∷ [])) ≡ false)
       → k'.candidate ≡ begun k'.seen k'.recent → Follows k' (c ++ l ∷ [])
-  anew none b = record {
+  anew e few none b = record {
     seen = seen-with;
     recent = recent-with;
-    candidate = rw (b, seen-with, recent-with) (restarted (c ++ l ∷ []) k'.slots none);
+    candidate = rw (b, seen-with, recent-with) (restarted (c ++ l ∷ []) k'.subframe k'.slots (sym e ∙ recent-with) few none);
   }
 
 -- no candidate was in hand
 pub push-none : (k k' : LockState) (c : List Level) (l : Level) → Follows k c → k.candidate ≡ None
-    → k'.seen ≡ k.seen + 1 → k'.recent ≡ eight_with k.recent l → k'.candidate ≡ begun k'.seen k'.recent
+    → k'.seen ≡ k.seen + 1 → k'.recent ≡ eight_with k.recent l → k'.candidate ≡ begun k'.seen k'.recent → k'.recent ≡ low_cells 8 k'.subframe → k'.subframe < 2 ^ 8
     → Follows k' (c ++ l ∷ []) × (decided (c ++ l ∷ []) ≡ decided c ++ [])
 unfolding decided
-push-none k k' c l f s e1 e2 e3 = (
-  anew k k' c l f e1 e2 (λ q g. let d = drop-push c l q g in ap open_at d.0 ∙ none-after c l q (none q) d.1) e3,
+push-none k k' c l f s e1 e2 e3 e4 e5 = (
+  anew k k' c l f e1 e2 e4 e5 (λ q g. let d = drop-push c l q g in ap open_at d.0 ∙ none-after c l q (none q) d.1) e3,
   decided-push 0 c l ∙ ap (λ x. decided_from 0 c ++ x) (answer-none 0 c l none),
 )
   where
     none : NoneOpen c
     none = rw s at f.candidate
 
-module _ (k : LockState) (t : Candidate) (c : List Level) (l : Level) (f : Follows k c) (s : k.candidate ≡ Some t) where
-  hand : OpenAt k.slots t c
+module _ (k : LockState) (t : Candidate) (c : List Level) (f : Follows k c) (s : k.candidate ≡ Some t) where
+  pub hand : OpenAt k.subframe k.slots t c
   hand = rw s at f.candidate
 
-  hand-open : IsOpen (drop t.at c)
+  pub hand-open : IsOpen (drop t.at c)
   hand-open = is-open (drop t.at c) hand.opened
 
-  offset : k.seen - t.at ≡ length (drop t.at c)
+  pub offset : k.seen - t.at ≡ length (drop t.at c)
   offset = let a = f.seen in let b = length-drop t.at c in omega (arith, a, b)
 
   previous : (s : Level) → at k.recent 7 ≡ before s (drop t.at c) (length (drop t.at c))
   previous s = let w = hand.within in ap (λ x. at x 7) f.recent ∙ last-before s c t.at (omega (arith, w))
 
+module _ (k : LockState) (t : Candidate) (c : List Level) (l : Level) (f : Follows k c) (s : k.candidate ≡ Some t) where
   -- the code's test is the rule's
   tested : rule mark_at (k.seen - t.at) l t.level (at k.recent 7) ≡ keeps (entry (drop t.at c)) (drop t.at c ++ l ∷ []) (length (drop t.at c))
   tested =
-      ap₂ (λ o b. rule mark_at o l b (at k.recent 7)) offset hand.level
-      ∙ ap (rule mark_at (length (drop t.at c)) l (before (entry (drop t.at c)) (drop t.at c) (64 * (length (drop t.at c) / 64)))) (previous (entry (drop t.at c)))
+      ap₂ (λ o b. rule mark_at o l b (at k.recent 7)) (offset k t c f s) (hand k t c f s).gathered.level
+      ∙ ap (rule mark_at (length (drop t.at c)) l (before (entry (drop t.at c)) (drop t.at c) (64 * (length (drop t.at c) / 64)))) (previous k t c f s (entry (drop t.at c)))
       ∙ sym (keeps-new (entry (drop t.at c)) (drop t.at c) l)
 
   rest : drop t.at (c ++ l ∷ []) ≡ drop t.at c ++ l ∷ []
-  rest = let w = hand.within in drop-append-le t.at c (l ∷ []) (omega (arith, w))
+  rest = let w = (hand k t c f s).within in drop-append-le t.at c (l ∷ []) (omega (arith, w))
 
   answers : decided_from 0 (c ++ l ∷ []) ≡ decided_from 0 c ++ told (0 + t.at) (decided_at (drop t.at c ++ l ∷ []))
-  answers = decided-push 0 c l ∙ ap (λ x. decided_from 0 c ++ x) (answer-open 0 c l t.at hand.opened)
+  answers = decided-push 0 c l ∙ ap (λ x. decided_from 0 c ++ x) (answer-open 0 c l t.at (hand k t c f s).opened)
 
--- the level before the subframe of the next cell
-next-level : (s : Level) (d : List Level) (l : Level) → level_with (length d) (before s d (64 * (length d / 64))) l
-    ≡ before s (d ++ l ∷ []) (64 * (length (d ++ l ∷ []) / 64))
-next-level s d l = go (cases_eq (length d % 64) 63)
+-- the cells go on with the candidate in hand
+pub goes-on : (k k' : LockState) (t u : Candidate) (c d : List Level) → Follows k c → k.candidate ≡ Some t → length (drop t.at c ++ d) ≤ block_len
+    → ((i : ℕ) → i < length (drop t.at c ++ d) → keeps (entry (drop t.at c)) (drop t.at c ++ d) i ≡ true)
+    → k'.seen ≡ length (c ++ d) → k'.recent ≡ last_eight (c ++ d) → k'.candidate ≡ Some u → u.at ≡ t.at → u.before ≡ t.before
+    → Gathered u.level k'.subframe k'.slots (entry (drop t.at c)) (drop t.at c ++ d)
+    → Follows k' (c ++ d) × (decided (c ++ d) ≡ decided c)
+unfolding decided
+goes-on k k' t u c d f s h kept seen recent e same-at same-before g =
+    let w = in-hand.within in
+    let n = length-append c d in
+    let rest : drop u.at (c ++ d) ≡ drop t.at c ++ d = ap (λ n. drop n (c ++ d)) same-at ∙ drop-append-le t.at c d (omega (arith, w)) in
+    let first : entry (drop t.at c ++ d) ≡ entry (drop t.at c) = entry-append (drop t.at c) d (let l = length-drop t.at c in omega (arith, w, l)) in
+    let o = open-cells c d t.at in-hand.opened h kept in (
+      record {
+        seen = seen;
+        recent = recent;
+        candidate = rw e (record {
+          within = omega (arith, n, w, same-at);
+          opened = ap open_at rest ∙ o.0;
+          first = same-before ∙ in-hand.first ∙ sym (ap entry rest ∙ first);
+          gathered = subst (λ v. Gathered u.level k'.subframe k'.slots (entry v) v) (sym rest)
+              (subst (λ x. Gathered u.level k'.subframe k'.slots x (drop t.at c ++ d)) (sym first) g);
+        });
+      },
+      o.1,
+    )
   where
-    n : length (d ++ l ∷ []) ≡ length d + 1
-    n = length-append d (l ∷ [])
-
-    go : (length d % 64 ≡ 63) ⊎ (length d % 64 ≡ 63 → ⊥) → cond (eqb (length d % 64) 63) l (before s d (64 * (length d / 64)))
-        ≡ before s (d ++ l ∷ []) (64 * (length (d ++ l ∷ []) / 64))
-    go (inl e) =
-        let t = eq-eqb _ _ e in
-        let m : 64 * (length (d ++ l ∷ []) / 64) ≡ suc (length d) = omega (arith, n, e) in
-        rw (t, m) (sym (get_or-append_seam d l [] Low))
-    go (inr e) =
-        let t = ne_eqb (length d % 64) 63 e in
-        let m : 64 * (length (d ++ l ∷ []) / 64) ≡ 64 * (length d / 64) = omega (arith, n, e) in
-        rw (t, m) (sym (before-append_left s d (l ∷ []) (64 * (length d / 64)) (omega arith)))
+    in-hand : OpenAt k.subframe k.slots t c
+    in-hand = hand k t c f s
 
 -- the cell goes on with the candidate in hand
-pub push-next : (k k' : LockState) (t : Candidate) (c : List Level) (l : Level) → Follows k c → length k.slots ≡ block_slots → k.candidate ≡ Some t
+pub push-next : (k k' : LockState) (t u : Candidate) (c : List Level) (l : Level) → Follows k c → k.candidate ≡ Some t
     → k.seen - t.at < block_len → rule mark_at (k.seen - t.at) l t.level (at k.recent 7) ≡ true
-    → k'.seen ≡ k.seen + 1 → k'.recent ≡ eight_with k.recent l
-    → k'.candidate ≡ Some (record t { level = level_with (k.seen - t.at) t.level l })
-    → k'.slots ≡ slots_set k.slots (k.seen - t.at) (at k.recent 7) l
+    → k'.seen ≡ k.seen + 1 → k'.recent ≡ eight_with k.recent l → k'.candidate ≡ Some u → u.at ≡ t.at → u.before ≡ t.before
+    → (Gathered t.level k.subframe k.slots (entry (drop t.at c)) (drop t.at c) → k.seen - t.at ≡ length (drop t.at c)
+    → Gathered u.level k'.subframe k'.slots (entry (drop t.at c)) (drop t.at c ++ l ∷ []))
     → Follows k' (c ++ l ∷ []) × (decided (c ++ l ∷ []) ≡ decided c ++ [])
-unfolding decided
-push-next k k' t c l f lw s o r e1 e2 e3 e4 = (
-  record { seen = seen-with k k' c l f e1 e2; recent = recent-with k k' c l f e1 e2; candidate = rw e3 goes },
-  answers k t c l f s ∙ ap (λ x. decided_from 0 c ++ told (0 + t.at) x) next.1,
-)
+push-next k k' t u c l f s o r e1 e2 e3 e4 e5 g =
+    let both = goes-on k k' t u c (l ∷ []) f s (omega (arith, a, o, m)) kept (seen-with k k' c l f e1 e2) (recent-with k k' c l f e1 e2) e3 e4 e5
+    (g (hand k t c f s).gathered a) in
+    (both.0, both.1 ∙ sym (append-nil (decided c)))
   where
-    inside : length (drop t.at c) < block_len
-    inside = let a = offset k t c l f s in omega (arith, a, o)
+    a : k.seen - t.at ≡ length (drop t.at c)
+    a = offset k t c f s
 
-    in-hand : OpenAt k.slots t c
-    in-hand = hand k t c l f s
+    m : length (drop t.at c ++ l ∷ []) ≡ length (drop t.at c) + 1
+    m = length-append (drop t.at c) (l ∷ [])
 
-    rests : drop t.at (c ++ l ∷ []) ≡ drop t.at c ++ l ∷ []
-    rests = rest k t c l f s
+    open-so-far : IsOpen (drop t.at c)
+    open-so-far = hand-open k t c f s
 
-    next : (open_at (drop t.at c ++ l ∷ []) ≡ true) × (decided_at (drop t.at c ++ l ∷ []) ≡ None)
-    next = open-next (drop t.at c) l (hand-open k t c l f s) inside (sym (tested k t c l f s) ∙ r)
-
-    entries : entry (drop t.at (c ++ l ∷ [])) ≡ entry (drop t.at c)
-    entries = ap entry rests ∙ same-entry (drop t.at c) l (hand-open k t c l f s)
-
-    level : level_with (k.seen - t.at) t.level l
-        ≡ before (entry (drop t.at (c ++ l ∷ []))) (drop t.at (c ++ l ∷ [])) (64 * (length (drop t.at (c ++ l ∷ [])) / 64))
-    level =
-        ap₂ (λ o b. level_with o b l) (offset k t c l f s) in-hand.level
-        ∙ next-level (entry (drop t.at c)) (drop t.at c) l
-        ∙ ap₂ (λ s d. before s d (64 * (length d / 64))) (sym entries) (sym rests)
-
-    filled : Filled k'.slots (drop t.at (c ++ l ∷ []))
-    filled = subst (Filled k'.slots) (sym rests)
-        (subst (λ w. Filled w (drop t.at c ++ l ∷ []))
-        (sym (e4 ∙ ap (λ o. slots_set k.slots o (at k.recent 7) l) (offset k t c l f s)))
-        (filled-step k.slots (drop t.at c) l (at k.recent 7) lw inside (λ z. previous k t c l f s l) in-hand.filled))
-
-    goes : OpenAt k'.slots (record t { level = level_with (k.seen - t.at) t.level l }) (c ++ l ∷ [])
-    goes = record {
-      within = let a = length-append c (l ∷ []) in let w = in-hand.within in omega (arith, a, w);
-      opened = ap open_at rests ∙ next.0;
-      first = in-hand.first ∙ sym entries;
-      level = level;
-      filled = filled;
-    }
+    kept : (i : ℕ) → i < length (drop t.at c ++ l ∷ []) → keeps (entry (drop t.at c)) (drop t.at c ++ l ∷ []) i ≡ true
+    kept i h = go (cases_eq i (length (drop t.at c)))
+      where
+        go : (i ≡ length (drop t.at c)) ⊎ (i ≡ length (drop t.at c) → ⊥) → keeps (entry (drop t.at c)) (drop t.at c ++ l ∷ []) i ≡ true
+        go (inl e) = ap (keeps (entry (drop t.at c)) (drop t.at c ++ l ∷ [])) e ∙ sym (tested k t c l f s) ∙ r
+        go (inr e) =
+            let q = open-so-far.all in
+            keeps-append (entry (drop t.at c)) (drop t.at c) (l ∷ []) i (omega (arith, h, m, e))
+            ∙ (front-is (entry (drop t.at c)) (drop t.at c)).kept i (omega (arith, h, m, e, q))
 
 -- the cell ends the candidate in hand
 pub push-last : (k k' : LockState) (t : Candidate) (c : List Level) (l : Level) → Follows k c → length k.slots ≡ block_slots → k.candidate ≡ Some t
     → (k.seen - t.at < block_len → rule mark_at (k.seen - t.at) l t.level (at k.recent 7) ≡ false)
     → k'.seen ≡ k.seen + 1 → k'.recent ≡ eight_with k.recent l → k'.candidate ≡ begun k'.seen k'.recent
+    → k'.recent ≡ low_cells 8 k'.subframe → k'.subframe < 2 ^ 8
     → Follows k' (c ++ l ∷ []) × (decided (c ++ l ∷ []) ≡ decided c ++
     report_of t.at (ended t.before (k.seen - t.at) (same l (at k.recent 7)) (map slots_bits k.slots)) ∷ [])
 unfolding decided
-push-last k k' t c l f lw s r e1 e2 e3 = (
-  anew k k' c l f e1 e2 (λ q g. let d = drop-push c l q g in ap open_at d.0 ∙ none q d.1 (cases_eq q t.at)) e3,
+push-last k k' t c l f lw s r e1 e2 e3 e4 e5 = (
+  anew k k' c l f e1 e2 e4 e5 (λ q g. let d = drop-push c l q g in ap open_at d.0 ∙ none q d.1 (cases_eq q t.at)) e3,
   answers k t c l f s ∙ ap (λ x. decided_from 0 c ++ told (0 + t.at) x) ends
       ∙ ap (λ p. decided_from 0 c ++ report_of p (ended t.before (k.seen - t.at) (same l (at k.recent 7)) (map slots_bits k.slots)) ∷ [])
       (let y : 0 + t.at ≡ t.at = omega arith in y),
 )
   where
-    in-hand : OpenAt k.slots t c
-    in-hand = hand k t c l f s
+    in-hand : OpenAt k.subframe k.slots t c
+    in-hand = hand k t c f s
 
     off : k.seen - t.at ≡ length (drop t.at c)
-    off = offset k t c l f s
+    off = offset k t c f s
 
     wrong : length (drop t.at c) < block_len → keeps (entry (drop t.at c)) (drop t.at c ++ l ∷ []) (length (drop t.at c)) ≡ false
     wrong g = sym (tested k t c l f s) ∙ r (omega (arith, off, g))
 
     none : (q : ℕ) → 8 ≤ length (drop q c) → (q ≡ t.at) ⊎ (q ≡ t.at → ⊥) → open_at (drop q c ++ l ∷ []) ≡ false
-    none q g (inl e) = ap (λ q. open_at (drop q c ++ l ∷ [])) e ∙ open-ends (drop t.at c) l (hand-open k t c l f s) wrong
+    none q g (inl e) = ap (λ q. open_at (drop q c ++ l ∷ [])) e ∙ open-ends (drop t.at c) l (hand-open k t c f s) wrong
     none q g (inr e) = none-after c l q (false_from_ne_true (open_at (drop q c)) (λ z. e (open-only c q t.at z in-hand.opened))) g
 
     same-slots : (o : ℕ) (b : Bool) (ps qs : List (List Bool)) → (block_len ≤ o → ps ≡ qs) → ended t.before o b ps ≡ ended t.before o b qs
@@ -242,13 +237,13 @@ push-last k k' t c l f lw s r e1 e2 e3 = (
         go (inr g) = ap (ended t.before o b) (z g)
 
     ends : decided_at (drop t.at c ++ l ∷ []) ≡ Some (ended t.before (k.seen - t.at) (same l (at k.recent 7)) (map slots_bits k.slots))
-    ends = open-decides (drop t.at c) l (hand-open k t c l f s) wrong
+    ends = open-decides (drop t.at c) l (hand-open k t c f s) wrong
         ∙ ap Some (ap₂ (λ s b. ended s (length (drop t.at c)) (same l b) (read_slots block_slots (drop t.at c ++ l ∷ [])))
-        (sym in-hand.first) (sym (previous k t c l f s (entry (drop t.at c))))
+        (sym in-hand.first) (sym (previous k t c f s (entry (drop t.at c))))
         ∙ same-slots (length (drop t.at c)) (same l (at k.recent 7)) (read_slots block_slots (drop t.at c ++ l ∷ [])) (map slots_bits k.slots)
         (λ g. let b = block_len_64 in
         read_slots-append block_slots (drop t.at c) (l ∷ []) (omega (arith, b, g))
-        ∙ sym (slots-filled k.slots (drop t.at c) lw g in-hand.filled))
+        ∙ sym (slots-whole k.slots (drop t.at c) lw g in-hand.gathered.whole))
         ∙ ap (λ o. ended t.before o (same l (at k.recent 7)) (map slots_bits k.slots)) (sym off))
 
 -- a new lock
@@ -275,7 +270,7 @@ pub finish-open : (k : LockState) (t : Candidate) (c : List Level) → Follows k
 unfolding reports decided
 finish-open k t c f lw s = reports-split 0 c ∙ ap (λ x. decided_from 0 c ++ x) (final-open 0 c t.at in-hand.opened ∙ ap₂ (λ p o. report_of p o ∷ []) (omega arith) says)
   where
-    in-hand : OpenAt k.slots t c
+    in-hand : OpenAt k.subframe k.slots t c
     in-hand = rw s at f.candidate
 
     o : IsOpen (drop t.at c)
@@ -298,5 +293,5 @@ finish-open k t c f lw s = reports-split 0 c ∙ ap (λ x. decided_from 0 c ++ x
     says : outcome (drop t.at c) ≡ left t.before (k.seen - t.at) (map slots_bits k.slots)
     says = outcome_is (drop t.at c)
         ∙ at-end (entry (drop t.at c)) (front (entry (drop t.at c)) (drop t.at c)) (length (drop t.at c)) _ (read_slots block_slots (drop t.at c)) (map slots_bits k.slots) o.all
-        (λ g. sym (slots-filled k.slots (drop t.at c) lw g in-hand.filled))
+        (λ g. sym (slots-whole k.slots (drop t.at c) lw g in-hand.gathered.whole))
         ∙ ap₂ (λ s n. left s n (map slots_bits k.slots)) (sym in-hand.first) (sym off)

@@ -1,13 +1,13 @@
 -- How far the rule holds.
-use Rattle.std.proofs.Common.{◌≡◌, ℕ, zero, suc, ◌+◌, ◌*◌, ◌/◌, ◌<◌, ◌≤◌, ◌⊎◌, inl, inr, min, List, ◌++◌, Bool, true, false, refl, length, ap, ◌∙◌, sym, arith, length-append, true≢false}
+use Rattle.std.proofs.Common.{◌≡◌, ℕ, ◌+◌, ◌*◌, ◌/◌, ◌<◌, ◌≤◌, ◌⊎◌, inl, inr, min, List, ◌++◌, true, false, refl, length, ap, ◌∙◌, sym, arith, length-append, true≢false}
 use Rattle.std.proofs.lemmas.Bool.{cases_order}
 use Rattle.std.proofs.lemmas.List.{get_or_append_left}
 use Rattle.std.proofs.lemmas.List.Sums.{prefix_len_passes, prefix_len_stops, prefix_len-le-length}
 use Rattle.std.proofs.lemmas.List.FromFn.{length-range_with_len, get_or-range_with_len}
-use Rattle.std.specs.List.{prefix_len, range_with_len}
+use Rattle.std.specs.List.{range_with_len}
 use Rattle.aes3_cell.specs.declared.level.Level.{Level}
-use Rattle.aes3_cell.specs.declared.level.Level.TheVariants.{Low, High}
-use Rattle.aes3_slot.specs.Rules.{at, before, Kept, AllKept}
+use Rattle.aes3_cell.specs.declared.level.Level.TheVariants.{Low}
+use Rattle.aes3_slot.specs.Rules.{at, before, Kept}
 use Rattle.aes3_slot.proofs.Index.{before-append_left}
 use Rattle.aes3_slot.proofs.RuleTests.{kept-from-rule, rule-from-kept}
 use Rattle.aes3_block.specs.Blocks.{mark_at, block_len}

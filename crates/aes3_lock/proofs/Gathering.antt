@@ -5,7 +5,7 @@ use Rattle.std.proofs.lemmas.List.{drop-append-le, take-append-le, get_or-set_sa
 use Rattle.std.proofs.lemmas.Nat.{or_shifted, or_comm}
 use Rattle.std.proofs.lemmas.Bool.{cases_eq, cases_lt}
 use Rattle.aes3_cell.specs.declared.level.Level.{Level}
-use Rattle.aes3_cell.specs.declared.level.Level.TheVariants.{Low, High}
+use Rattle.aes3_cell.specs.declared.level.Level.TheVariants.{Low}
 use Rattle.aes3_slot.specs.Bits.{number, low_bits}
 use Rattle.aes3_slot.specs.Slots.{slots_len, slots_bits}
 use Rattle.aes3_slot.specs.Rules.{at, before}
@@ -150,9 +150,14 @@ slots-from (suc n) (w ∷ slots) d l h f =
     ∙ ap (λ y. number (read_bits (take 56 y)))
     (ap (λ i. drop i d) (let y : 64 * suc j + 8 ≡ 64 + (64 * j + 8) = omega arith in y) ∙ sym (drop-drop (64 * j + 8) 64 d))))
 
-pub slots-filled : (slots : List ℕ) (d : List Level) → length slots ≡ block_slots → block_len ≤ length d → Filled slots d
+pub slots-whole : (slots : List ℕ) (d : List Level) → length slots ≡ block_slots → block_len ≤ length d
+    → ((j : ℕ) → j < block_slots → 64 * j + 64 ≤ length d → get_or slots j 0 ≡ number (read_bits (take 56 (drop (64 * j + 8) d))))
     → map slots_bits slots ≡ read_slots block_slots d
 unfolding slots_len
-slots-filled slots d lw h f =
+slots-whole slots d lw h f =
     let b = block_len_64 in
     slots-from block_slots slots d lw (omega (arith, b, h)) (λ j g. f j g (omega (arith, b, g, h)))
+
+pub slots-filled : (slots : List ℕ) (d : List Level) → length slots ≡ block_slots → block_len ≤ length d → Filled slots d
+    → map slots_bits slots ≡ read_slots block_slots d
+slots-filled slots d lw h f = slots-whole slots d lw h (λ j g r. f j g (omega (arith, r)))

@@ -1,5 +1,5 @@
 -- The last eight cells.
-use Rattle.std.proofs.Common.{◌≡◌, ℕ, zero, suc, ◌+◌, ◌-◌, ◌*◌, ◌/◌, ◌%◌, ◌<◌, ◌≤◌, List, [], ◌∷◌, ◌++◌, refl, length, drop, get_or, replicate, ap, ap₂, ◌∙◌, sym, arith, length-append, length-drop, drop-drop, drop_at, get_or-drop, append_assoc}
+use Rattle.std.proofs.Common.{◌≡◌, ℕ, zero, suc, ◌+◌, ◌-◌, ◌*◌, ◌/◌, ◌%◌, ◌<◌, ◌≤◌, List, [], ◌∷◌, ◌++◌, refl, length, drop, replicate, ap, ap₂, ◌∙◌, sym, arith, length-append, length-drop, drop-drop, drop_at, get_or-drop, append_assoc}
 use Rattle.std.proofs.lemmas.List.{drop-append-le}
 use Rattle.aes3_cell.specs.declared.level.Level.{Level}
 use Rattle.aes3_cell.specs.declared.level.Level.TheVariants.{Low, High}
@@ -76,3 +76,10 @@ last-before s c p h =
     let n : length c - 1 ≡ p + (length (drop p c) - 1) = omega (arith, l, h) in
     last-cell c (omega arith) ∙ ap (at c) n ∙ sym (get_or-drop p c (length (drop p c) - 1) Low)
     ∙ sym (before-at s (drop p c) (length (drop p c)) (omega (arith, l, h)))
+
+-- the last eight of 64 cells are those of all
+pub last_eight-word : (c d : List Level) → length d ≡ 64 → last_eight (c ++ d) ≡ drop 56 d
+last_eight-word c d h =
+    let n = length-append c d in
+    let e : length (c ++ d) - 8 ≡ length c + 56 = omega (arith, n, h) in
+    last_eight-is (c ++ d) (omega (arith, n, h)) ∙ ap (λ k. drop k (c ++ d)) e ∙ sym (drop-drop 56 (length c) (c ++ d)) ∙ ap (drop 56) (drop_at c d (length c) refl)

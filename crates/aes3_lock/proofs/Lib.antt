@@ -5,7 +5,10 @@ pub mod Opens
 pub mod Ends
 pub mod LastEight
 pub mod Gathering
+pub mod SubframeWords
+pub mod WordSteps
 pub mod Following
+pub mod TakenWords
 pub mod Codes
 pub mod Scanning
 pub mod Walking

@@ -1,20 +1,19 @@
 -- The one candidate in hand, and what a cell makes of it.
-use Rattle.std.proofs.Common.{◌≡◌, ℕ, zero, suc, ◌+◌, ◌-◌, ◌*◌, ◌/◌, ◌%◌, ◌<◌, ◌≤◌, ◌⊎◌, inl, inr, List, [], ◌∷◌, ◌++◌, Bool, true, false, cond, ltb, eqb, ◌&&◌, Option, Some, None, refl, length, drop, ap, ap₂, ◌∙◌, sym, arith, length-append, length-drop, lt-ltb, eq-eqb, eqb-true, true≢false, append_assoc}
+use Rattle.std.proofs.Common.{◌≡◌, ℕ, zero, suc, ◌+◌, ◌*◌, ◌/◌, ◌<◌, ◌≤◌, ◌⊎◌, inl, inr, List, [], ◌∷◌, ◌++◌, Bool, true, false, cond, eqb, Some, None, refl, length, drop, ap, ap₂, ◌∙◌, sym, arith, length-append, length-drop, lt-ltb, eq-eqb, eqb-true, true≢false, append_assoc, append-nil, subst}
 use Rattle.std.proofs.lemmas.Bool.{cases_eq, and_parts, and_from, false_from_ne_true}
+use Rattle.std.proofs.lemmas.List.{drop-append-le}
 use Rattle.std.proofs.Math.Seq.{get_or-append_seam}
 use Rattle.aes3_cell.specs.declared.level.Level.{Level}
-use Rattle.aes3_cell.specs.declared.level.Level.TheVariants.{Low, High}
-use Rattle.aes3_slot.specs.Rules.{StandsMark, at, before, rule}
+use Rattle.aes3_cell.specs.declared.level.Level.TheVariants.{Low}
+use Rattle.aes3_slot.specs.Rules.{at, before, rule}
 use Rattle.aes3_slot.specs.Reading.{same, read_slots}
 use Rattle.aes3_slot.proofs.Index.{before-append_left}
 use Rattle.aes3_block.specs.Blocks.{mark_at, block_slots, block_len}
-use Rattle.aes3_lock.specs.declared.report.Report.{Report}
 use Rattle.aes3_lock.specs.Candidates.{keeps, front, entry, begins_block}
-use Rattle.aes3_lock.specs.Outcomes.{outcome, Outcome, whole, marked, fault, unfinished, block_outcome}
 use Rattle.aes3_lock.specs.Steps.{ended, left}
 use Rattle.aes3_lock.specs.Reports.{told, decided_at, open_at, decided_from}
 use Rattle.aes3_lock.proofs.Fronts.{front-is, front-unique, keeps-append}
-use Rattle.aes3_lock.proofs.Deciding.{NoZ, answer, open-alone, begins-stands, begins-room, begins-append, entry-append, none-from-front, decided-from, front-eight, outcome_is, outcome_by}
+use Rattle.aes3_lock.proofs.Deciding.{answer, decided-push, open-alone, begins-stands, begins-room, begins-append, entry-append, none-from-front, decided-from, front-eight, outcome_is, outcome_by}
 
 pub record IsOpen (d : List Level) : Type 0 where
   pub begins : begins_block d ≡ true
@@ -197,3 +196,27 @@ open-only (x ∷ c) zero zero a b = refl
 open-only (x ∷ c) zero (suc q) a b = absurd (open-once c q x a b)
 open-only (x ∷ c) (suc p) zero a b = absurd (open-once c p x b a)
 open-only (x ∷ c) (suc p) (suc q) a b = ap suc (open-only c p q a b)
+
+-- cells all of which keep the rule are taken, and nothing is decided
+pub open-cells : (c d : List Level) (q : ℕ) → open_at (drop q c) ≡ true → length (drop q c ++ d) ≤ block_len
+    → ((i : ℕ) → i < length (drop q c ++ d) → keeps (entry (drop q c)) (drop q c ++ d) i ≡ true)
+    → (open_at (drop q c ++ d) ≡ true) × (decided_from 0 (c ++ d) ≡ decided_from 0 c)
+open-cells c [] q o h k = (ap open_at (append-nil (drop q c)) ∙ o, ap (decided_from 0) (append-nil c))
+open-cells c (x ∷ d) q o h k =
+    let n = length-append (drop q c) (x ∷ d) in
+    let m = length-append (drop q c) (x ∷ []) in
+    let w = is-open (drop q c) o in
+    let r = open-room (drop q c) w in
+    let a = append_assoc (drop q c) (x ∷ []) d in
+    let z = open-next (drop q c) x w (omega (arith, n, h))
+    (sym (keeps-append (entry (drop q c)) (drop q c ++ x ∷ []) d (length (drop q c)) (omega (arith, m)))
+    ∙ ap (λ v. keeps (entry (drop q c)) v (length (drop q c))) a ∙ k (length (drop q c)) (omega (arith, n))) in
+    let l = length-drop q c in
+    let t : drop q (c ++ x ∷ []) ≡ drop q c ++ x ∷ [] = drop-append-le q c (x ∷ []) (omega (arith, l, r)) in
+    let b : drop q (c ++ x ∷ []) ++ d ≡ drop q c ++ x ∷ d = ap (λ v. v ++ d) t ∙ a in
+    let more = open-cells (c ++ x ∷ []) d q (ap open_at t ∙ z.0) (subst (λ v. length v ≤ block_len) (sym b) h)
+    (λ i g. ap₂ (λ s v. keeps s v i) (ap entry t ∙ same-entry (drop q c) x w) b ∙ k i (subst (λ v. i < length v) b g)) in (
+      ap open_at (sym b) ∙ more.0,
+      ap (decided_from 0) (sym (append_assoc c (x ∷ []) d)) ∙ more.1 ∙ decided-push 0 c x ∙ ap (λ v. decided_from 0 c ++ v) (answer-open 0 c x q o)
+          ∙ ap (λ v. decided_from 0 c ++ told (0 + q) v) z.1 ∙ append-nil (decided_from 0 c),
+    )

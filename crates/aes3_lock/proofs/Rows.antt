@@ -1,6 +1,5 @@
 -- The definitions on a few cells.
-use Rattle.std.proofs.Common.{◌≡◌, ℕ, List, [], ◌∷◌, ◌++◌, Bool, true, false, refl, replicate, length}
-use Rattle.std.specs.Prelude.{map}
+use Rattle.std.proofs.Common.{◌≡◌, List, [], ◌∷◌, ◌++◌, true, false, refl, replicate}
 use Rattle.aes3_cell.specs.declared.level.Level.{Level}
 use Rattle.aes3_cell.specs.declared.level.Level.TheVariants.{Low, High}
 use Rattle.aes3_slot.specs.declared.mark.Mark.{Mark}
@@ -8,11 +7,9 @@ use Rattle.aes3_slot.specs.declared.mark.Mark.TheVariants.{X, Y, Z}
 use Rattle.aes3_cell.specs.Words.{low_cells}
 use Rattle.aes3_cell.specs.Cells.{line}
 use Rattle.aes3_slot.specs.Slots.{mark_runs, slot_runs}
-use Rattle.aes3_slot.specs.Rules.{shape, rule}
 use Rattle.aes3_block.specs.Blocks.{mark_at, block_len, block_slots}
-use Rattle.aes3_lock.specs.declared.report.Report.{Report}
-use Rattle.aes3_lock.specs.declared.report.Report.TheVariants.{Whole, Marked, Fault, Unfinished}
-use Rattle.aes3_lock.specs.declared.report.Why.TheVariants.{Preamble, Biphase, Unclosed}
+use Rattle.aes3_lock.specs.declared.report.Report.TheVariants.{Fault, Unfinished}
+use Rattle.aes3_lock.specs.declared.report.Why.TheVariants.{Preamble, Biphase}
 use Rattle.aes3_lock.specs.Candidates.{begins_with, keeps, front}
 use Rattle.aes3_lock.specs.Outcomes.{outcome}
 use Rattle.aes3_lock.specs.Reports.{reports, outcome_at, decided, decided_at}

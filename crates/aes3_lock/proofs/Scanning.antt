@@ -1,5 +1,5 @@
 -- The preamble that one more cell ends.
-use Rattle.std.proofs.Common.{◌≡◌, ℕ, zero, suc, ◌+◌, ◌-◌, ◌<◌, ◌≤◌, ◌⊎◌, inl, inr, List, [], ◌∷◌, ◌++◌, Bool, true, false, cond, Option, Some, None, refl, length, take, drop, ap, ap₂, ◌∙◌, sym, arith, length-append, length-drop, append_assoc, append-nil, take_all}
+use Rattle.std.proofs.Common.{◌≡◌, ℕ, suc, ◌+◌, ◌-◌, ◌<◌, ◌≤◌, ◌⊎◌, inl, inr, List, [], ◌∷◌, ◌++◌, false, Some, None, refl, length, take, drop, ap, ap₂, ◌∙◌, sym, arith, length-append, append_assoc, append-nil, take_all}
 use Rattle.std.specs.Prelude.{option_to_list, option_map}
 use Rattle.std.proofs.lemmas.Bool.{cases_order, false_from_ne_true}
 use Rattle.std.proofs.lemmas.List.{take-append-le}
@@ -15,7 +15,7 @@ use Rattle.aes3_lock.specs.Preambles.{first_mark, placed, marks_from, marks}
 use Rattle.aes3_lock.specs.Steps.{last_eight, eight_with}
 use Rattle.aes3_lock.specs.Following.{ScanState, ScanFollows}
 use Rattle.aes3_lock.proofs.Deciding.{same_cells-true, entry-append}
-use Rattle.aes3_lock.proofs.LastEight.{last_eight-with, last_eight-is, last_eight-nil}
+use Rattle.aes3_lock.proofs.LastEight.{last_eight-with, last_eight-is}
 
 -- cells behind the eighth count for nothing
 mark-append : (m : Mark) (c d : List Level) → 8 ≤ length c → begins_with m (c ++ d) ≡ begins_with m c

@@ -1,26 +1,23 @@
 -- One place tried by itself, cell by cell.
-use Rattle.std.proofs.Common.{◌≡◌, ℕ, zero, suc, ◌+◌, ◌-◌, ◌*◌, ◌/◌, ◌%◌, ◌<◌, ◌≤◌, ◌⊎◌, inl, inr, min, List, [], ◌∷◌, ◌++◌, Bool, true, false, cond, eqb, ltb, Option, Some, None, refl, length, map, take, drop, set, get_or, ap, ap₂, ◌∙◌, sym, subst, arith, length-append, length-drop, length-take, length-take-le, take-append-drop, take_all, drop-cons, append_assoc, eq-eqb, ne_eqb, lt-ltb, le-ltb, true≢false}
-use Rattle.std.specs.Prelude.{option_to_list}
+use Rattle.std.proofs.Common.{◌≡◌, ℕ, suc, ◌+◌, ◌-◌, ◌*◌, ◌/◌, ◌%◌, ◌<◌, ◌≤◌, ◌⊎◌, inl, inr, min, List, [], ◌∷◌, ◌++◌, Bool, true, false, cond, eqb, ltb, Some, None, refl, length, map, take, drop, get_or, ap, ap₂, ◌∙◌, sym, subst, arith, length-drop, length-take-le, take-append-drop, take_all, drop-cons, append_assoc, eq-eqb, ne_eqb, lt-ltb, le-ltb}
 use Rattle.std.proofs.lemmas.List.{take_more, get_or-take}
-use Rattle.std.proofs.lemmas.Bool.{cases_eq, cases_lt, false_from_ne_true, cases_Bool}
+use Rattle.std.proofs.lemmas.Bool.{cases_eq, cases_lt, false_from_ne_true}
 use Rattle.aes3_cell.specs.declared.level.Level.{Level}
-use Rattle.aes3_cell.specs.declared.level.Level.TheVariants.{Low, High}
-use Rattle.aes3_slot.specs.declared.mark.Mark.TheVariants.{Z}
+use Rattle.aes3_cell.specs.declared.level.Level.TheVariants.{Low}
 use Rattle.aes3_slot.specs.Slots.{slots_bits}
 use Rattle.aes3_slot.specs.Rules.{at, before, rule}
 use Rattle.aes3_slot.specs.Reading.{same, read_slots}
-use Rattle.aes3_slot.proofs.Index.{before-append_left}
 use Rattle.aes3_block.specs.Blocks.{mark_at, block_slots, block_len}
 use Rattle.aes3_lock.specs.declared.report.Report.{Report}
 use Rattle.aes3_lock.specs.declared.candidate.Candidate.{Candidate}
 use Rattle.aes3_lock.specs.Candidates.{entry, begins_block, keeps, front}
-use Rattle.aes3_lock.specs.Outcomes.{Outcome, outcome}
-use Rattle.aes3_lock.specs.Reports.{told, report_of, outcome_at, reports_from, reports}
+use Rattle.aes3_lock.specs.Outcomes.{outcome}
+use Rattle.aes3_lock.specs.Reports.{told, outcome_at, reports_from, reports}
 use Rattle.aes3_lock.specs.Steps.{last_eight, eight_with, begun, level_with, ended, left}
 use Rattle.aes3_lock.specs.Following.{Filled}
-use Rattle.aes3_lock.proofs.Deciding.{block_len_64, block_len_24576, block_slots_384, outcome_by, outcome_is, read_slots-append, begins-append, begins-room, entry-append}
-use Rattle.aes3_lock.proofs.Fronts.{IsFront, front-is, front-unique}
-use Rattle.aes3_lock.proofs.LastEight.{last_eight-with, last_eight-is, last_eight-nil, before-at}
+use Rattle.aes3_lock.proofs.Deciding.{block_len_64, block_len_24576, outcome_by, outcome_is, read_slots-append, begins-append, begins-room, entry-append}
+use Rattle.aes3_lock.proofs.Fronts.{front-is, front-unique}
+use Rattle.aes3_lock.proofs.LastEight.{last_eight-with, last_eight-is, before-at}
 use Rattle.aes3_lock.proofs.Gathering.{slots_set, filled-step, slots-filled}
 
 -- the first cells as an octet

@@ -1,5 +1,5 @@
 -- What becomes of a candidate.
-use Rattle.std.specs.Prelude.{ℕ, List, Bool, length, ◌%◌, ◌==◌, ◌&&◌, map, take, nat_lt, if◌then◌else◌}
+use Rattle.std.specs.Prelude.{ℕ, List, Bool, length, ◌%◌, ◌==◌, map, take, nat_lt, if◌then◌else◌}
 use Rattle.std.specs.List.{filter}
 use Rattle.aes3_cell.specs.declared.level.Level.{Level}
 use Rattle.aes3_slot.specs.Bits.{odd_ones}

@@ -1,5 +1,5 @@
 -- Blocks that stand at the start of a list of cells.
-use Rattle.std.specs.Prelude.{ℕ, List, ◌++◌, Bool, length, ◌≡◌, ◌≢◌, ◌<◌, ◌-◌, take, map}
+use Rattle.std.specs.Prelude.{List, ◌++◌, Bool, length, ◌≡◌, ◌≢◌, ◌<◌, ◌-◌, take}
 use Rattle.aes3_cell.specs.declared.level.Level.{Level}
 use Rattle.aes3_cell.specs.Cells.{line}
 use Rattle.aes3_slot.specs.Slots.{runs_of}

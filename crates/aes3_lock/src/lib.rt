@@ -10,6 +10,7 @@ mod report;
 mod rule;
 mod scan;
 mod slow;
+mod subframe;
 #[cfg(test)]
 mod tests;
 

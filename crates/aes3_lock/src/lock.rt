@@ -3,8 +3,10 @@ use crate::candidate::Candidate;
 use crate::outcome::{SLOTS, end_report, left_report, no_slots};
 use crate::recent::{candidate_in, last_cell, with_cell};
 use crate::report::Report;
-use crate::rule::{BLOCK_CELLS, SUBFRAME_CELLS, level_behind, may_stand, slots_behind, turns};
+use crate::rule::{BLOCK_CELLS, SUBFRAME_CELLS, mark_of, may_stand};
+use crate::subframe::{completed, last_octet, last_of, rest_of, with_next};
 use aes3_cell::Level;
+use aes3_slot::{begins_subframe, slot_bits};
 use std::marker::Model;
 
 /// Finds every block and every begun block in cells that come one by one, in fixed memory.
@@ -15,6 +17,7 @@ pub struct Lock {
     seen: u64,
     recent: u8,
     candidate: Option<Candidate>,
+    subframe: u64,
     slots: [u32; SLOTS],
 }
 
@@ -26,16 +29,18 @@ impl Model for Lock {
 
     ghost Value = { LockState };
 
-    ghost view = { λ k. record { seen = k.seen; recent = low_cells 8 k.recent; candidate = k.candidate; slots = k.slots } };
+    ghost view = { λ k. record { seen = k.seen; recent = low_cells 8 k.recent; candidate = k.candidate; subframe = k.subframe; slots = k.slots } };
 
     ghost invariant = { λ k. ForSome k.candidate (λ t. t.at ≤ k.seen) };
 }
 
-ghost use Rattle.std.specs.Prelude.{◌≡◌, ◌<◌, ◌+◌, ◌^◌, ◌&&◌, true, false, List, [], ◌∷◌, ◌++◌, nat_lt, option_to_list};
+ghost use Rattle.std.specs.Prelude.{◌≡◌, ◌<◌, ◌≤◌, ◌+◌, ◌^◌, ◌&&◌, true, false, List, [], ◌∷◌, ◌++◌, drop, nat_lt, option_to_list};
+ghost use Rattle.std.specs.Option.{ForSome};
 ghost use Rattle.aes3_cell.specs.declared.level.Level.{Level};
+ghost use Rattle.aes3_cell.specs.Words.{word_cells};
 ghost use Rattle.aes3_slot.specs.Rules.{rule};
 ghost use Rattle.aes3_block.specs.Blocks.{block_len, mark_at};
-ghost use Rattle.aes3_lock.specs.Reports.{decided, reports};
+ghost use Rattle.aes3_lock.specs.Reports.{decided, open_at, reports};
 ghost use Rattle.aes3_lock.specs.Following.{Follows, Stops};
 
 /// Whether a cell behind `previous` goes on with a candidate, at whose `offset` it stands.
@@ -55,6 +60,7 @@ impl Lock {
             seen: 0,
             recent: 0,
             candidate: None,
+            subframe: 0,
             slots: no_slots(),
         }
     }
@@ -84,25 +90,71 @@ impl Lock {
             self.recent = with_cell(self.recent, cell);
             self.seen = seen + 1;
             self.candidate = candidate_in(self.seen, self.recent);
+            self.subframe = u64::from(self.recent);
             return true;
         };
-        let previous = last_cell(self.recent);
         let offset = seen - candidate.at;
-        if !goes_on(candidate, offset, cell, previous) {
+        if !goes_on(candidate, offset, cell, last_cell(self.recent)) {
             return false;
         }
         self.recent = with_cell(self.recent, cell);
         self.seen = seen + 1;
-        let slot = (offset / SUBFRAME_CELLS) as usize;
-        self.slots[slot] = slots_behind(
-            self.slots[slot],
-            offset % SUBFRAME_CELLS,
-            turns(previous, cell),
-        );
+        let len = offset % SUBFRAME_CELLS;
+        let cells = with_next(self.subframe, len, cell);
+        if len < SUBFRAME_CELLS - 1 {
+            self.subframe = cells;
+            return true;
+        }
+        self.slots[(offset / SUBFRAME_CELLS) as usize] = slot_bits(cells);
+        self.subframe = 0;
         self.candidate = Some(Candidate {
             at: candidate.at,
             before: candidate.before,
-            level: level_behind(offset, candidate.level, cell),
+            level: cell,
+        });
+        true
+    }
+
+    /// Takes the 64 cells of a word, the first in the lowest bit, where a candidate is in hand and goes on with all of
+    /// them, and says whether it did; else it changes nothing.
+    ///
+    /// It is `take` for 64 cells at once.
+    pub fn take_word(&mut self, word: u64) -> bool
+        requires { self.old.seen + 64 ≤ 2 ^ 43 }
+        ensures seen { result ≡ true → self.new.seen ≡ self.old.seen + 64 }
+        ensures follows { result ≡ true → (cells : List Level) → Follows self.old cells
+            → Follows self.new (cells ++ word_cells word) }
+        ensures none { result ≡ true → (cells : List Level) → Follows self.old cells
+            → decided (cells ++ word_cells word) ≡ decided cells }
+        ensures left { result ≡ false → self.new ≡ self.old }
+        ensures stops { result ≡ false → (cells : List Level) → Follows self.old cells
+            → ForSome self.old.candidate (λ t. open_at (drop t.at (cells ++ word_cells word)) ≡ false) }
+    {
+        let Some(candidate) = self.candidate else {
+            return false;
+        };
+        let offset = self.seen - candidate.at;
+        if offset > BLOCK_CELLS - SUBFRAME_CELLS {
+            return false;
+        }
+        let slot = offset / SUBFRAME_CELLS;
+        let len = offset % SUBFRAME_CELLS;
+        let cells = completed(self.subframe, len, word);
+        let level = last_of(cells);
+        let rest = rest_of(word, len);
+        if !begins_subframe(candidate.level, mark_of(slot), cells, 64)
+            || !begins_subframe(level, mark_of(slot + 1), rest, len as u32)
+        {
+            return false;
+        }
+        self.seen += 64;
+        self.recent = last_octet(word);
+        self.slots[slot as usize] = slot_bits(cells);
+        self.subframe = rest;
+        self.candidate = Some(Candidate {
+            at: candidate.at,
+            before: candidate.before,
+            level,
         });
         true
     }
@@ -126,6 +178,7 @@ impl Lock {
         self.recent = with_cell(self.recent, cell);
         self.seen += 1;
         self.candidate = candidate_in(self.seen, self.recent);
+        self.subframe = u64::from(self.recent);
         report
     }
 

@@ -17,7 +17,7 @@ pub(crate) const SUBFRAME_CELLS: u64 = 64;
 pub(crate) const BLOCK_CELLS: u64 = 24_576;
 
 /// The preamble of a block's subframe.
-fn mark_of(slot: u64) -> Mark
+pub(crate) fn mark_of(slot: u64) -> Mark
     ensures { result ≡ mark_at slot }
 {
     if slot == 0 {

@@ -109,6 +109,46 @@ fn by_lock(cells: &[Level]) -> [Option<Line>; LINES] {
     lines
 }
 
+/// A word of 64 cells that begin at `at`, the first in the lowest bit; 0 where they are not there.
+fn word_at(cells: &[Level], at: usize) -> u64 {
+    let mut word = 0;
+    if let Some(behind) = cells.get(at..)
+        && let Some(part) = behind.get(..64)
+    {
+        for cell in part.iter() {
+            word = word >> 1 | u64::from(*cell == Level::High) << 63;
+        }
+    }
+    word
+}
+
+/// By words of 64 cells where the lock takes one, every 64 cells from `first` on, else cell by cell.
+fn by_words(cells: &[Level], first: usize) -> [Option<Line>; LINES] {
+    let mut lines = [None; LINES];
+    let mut count = 0;
+    let mut lock = Lock::new();
+    let mut skip = 0;
+    for (i, cell) in cells.iter().enumerate() {
+        if skip > 0 {
+            skip -= 1;
+        } else if i % 64 == first
+            && cells.len() - i >= 64
+            && lock.seen() < MANY
+            && lock.take_word(word_at(cells, i))
+        {
+            skip = 63;
+        } else if lock.seen() < MANY
+            && let Some(report) = lock.push(*cell)
+        {
+            keep(&mut lines, &mut count, report);
+        }
+    }
+    if let Some(report) = lock.finish() {
+        keep(&mut lines, &mut count, report);
+    }
+    lines
+}
+
 fn by_places(alloc: Global, cells: &[Level]) -> Result<[Option<Line>; LINES], AllocError> {
     let mut lines = [None; LINES];
     let mut count = 0;
@@ -121,6 +161,7 @@ fn by_places(alloc: Global, cells: &[Level]) -> Result<[Option<Line>; LINES], Al
 /// The reports of these cells, found both ways.
 fn check(rt: &impl Abort, alloc: Global, cells: &[Level], expected: &[Line]) {
     let lines = by_lock(cells);
+    assert!(rt; by_words(cells, 0) == lines);
     for i in 0..LINES {
         assert_eq!(rt; lines[i], expected.get(i).copied());
     }
@@ -450,6 +491,7 @@ fn damaged_cells(rt: HostRuntime) {
     for seed in 1..=LISTS {
         let cells = damaged(rt.alloc(), seed << 32 | 0x9E37_79B9).expect(&rt, "memory");
         let lines = by_lock(&cells);
+        assert!(rt; by_words(&cells, (seed % 64) as usize) == lines);
         let places = by_places(rt.alloc(), &cells).expect(&rt, "memory");
         assert!(rt; places == lines);
     }

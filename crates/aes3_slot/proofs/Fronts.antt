@@ -110,12 +110,15 @@ front-before s m c n l g h =
     kept-from-stands s m (take n c) i (omega arith)
     (sym (stands-append s m (take n c) (drop n c) i lt) ∙ ap (λ x. stands s m x i) (take-append-drop n c) ∙ h i (omega arith)))
 
+pub front-fails : (s : Level) (m : Mark) (c : List Level) (n i : ℕ) → length c ≡ 64 → n ≤ 64 → i < n → stands s m c i ≡ false → IsFrontOf s m (take n c) → ⊥
+front-fails s m c n i l g lt h f =
+    let t : length (take n c) ≡ n = length-take-le n c (omega arith) in
+    let k = kept-from-front s m (take n c) f i (omega arith) in
+    false≢true (sym h ∙ ap (λ x. stands s m x i) (sym (take-append-drop n c)) ∙ stands-append s m (take n c) (drop n c) i (omega arith)
+    ∙ stands-from-kept s m (take n c) i (omega arith) k)
+
 pub front-ends : (s : Level) (m : Mark) (c : List Level) (n : ℕ) → length c ≡ 64 → n < 64 → stands s m c n ≡ false → IsFrontOf s m (take (n + 1) c) → ⊥
-front-ends s m c n l g h f =
-    let t : length (take (n + 1) c) ≡ n + 1 = length-take-le (n + 1) c (omega arith) in
-    let k = kept-from-front s m (take (n + 1) c) f n (omega arith) in
-    false≢true (sym h ∙ ap (λ x. stands s m x n) (sym (take-append-drop (n + 1) c)) ∙ stands-append s m (take (n + 1) c) (drop (n + 1) c) n (omega arith)
-    ∙ stands-from-kept s m (take (n + 1) c) n g k)
+front-ends s m c n l g h f = front-fails s m c (n + 1) n l (omega arith) (omega arith) h f
 
 -- fewer than 64 cells that begin a subframe begin one whose parity bit is right
 pub lawful-from-front : (s : Level) (m : Mark) (c : List Level) (n : ℕ) → n < 64 → IsFrontOf s m (take n c) → IsLawfulFrontOf s m (take n c)

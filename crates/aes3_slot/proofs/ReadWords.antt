@@ -1,8 +1,8 @@
 -- The bits that the cells of a word carry.
-use Rattle.std.proofs.Common.{◌≡◌, ℕ, zero, suc, ◌+◌, ◌*◌, ◌/◌, ◌%◌, ◌^◌, ◌<◌, ◌∷◌, ◌++◌, eqb, drop, refl, ap, ap₂, ◌∙◌, sym, arith}
+use Rattle.std.proofs.Common.{◌≡◌, ℕ, zero, suc, ◌+◌, ◌*◌, ◌/◌, ◌%◌, ◌^◌, ◌<◌, ◌∷◌, ◌++◌, eqb, take, drop, refl, ap, ap₂, ◌∙◌, sym, arith}
 use Rattle.std.specs.Prelude.{bit_xor}
 use Rattle.std.specs.Int.{bit_at}
-use Rattle.std.proofs.lemmas.List.{drop_at}
+use Rattle.std.proofs.lemmas.List.{drop_at, take_at}
 use Rattle.std.proofs.lemmas.Nat.{shr-shr, shr_le, xor_lt}
 use Rattle.std.proofs.lemmas.Nat.Bits.{bit_at_xor, bit_at-suc, bit_at_lowest, bit_at_above}
 use Rattle.aes3_cell.specs.Words.{level_of, low_cells}
@@ -25,6 +25,9 @@ low_cells-add (suc m) n w =
 
 pub drop-low_cells : (m n w : ℕ) → drop m (low_cells (m + n) w) ≡ low_cells n (w / 2 ^ m)
 drop-low_cells m n w = ap (drop m) (low_cells-add m n w) ∙ drop_at (low_cells m w) (low_cells n (w / 2 ^ m)) m (length-low_cells m w)
+
+pub take-low_cells : (m n w : ℕ) → take m (low_cells (m + n) w) ≡ low_cells m w
+take-low_cells m n w = ap (take m) (low_cells-add m n w) ∙ take_at (low_cells m w) (low_cells n (w / 2 ^ m)) m (length-low_cells m w)
 
 -- a slot carries a one where its cells differ
 pub read_bits-word : (k w v : ℕ) → ((i : ℕ) → i < k → bit_at v i ≡ (bit_at w (2 * i) + bit_at w (suc (2 * i))) % 2) → low_bits k v ≡ read_bits (low_cells (2 * k) w)

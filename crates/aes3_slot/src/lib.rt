@@ -10,5 +10,5 @@ mod tests;
 
 pub use mark::Mark;
 pub use preamble::match_mark;
-pub use reading::{Place, take_either, take_subframe};
+pub use reading::{Place, begins_subframe, slot_bits, take_either, take_subframe};
 pub use subframe::{payload_parity, slots_cells, subframe_cells};

@@ -1,6 +1,6 @@
 //! A subframe read back from its 64 cells (AES3-3; IEC 60958-1).
 
-ghost use Rattle.std.specs.Prelude.{◌≡◌, ℕ, Bool, ◌<◌, ◌+◌, ◌*◌, ◌^◌, drop, take, if◌then◌else◌, IfOk, IfErr};
+ghost use Rattle.std.specs.Prelude.{◌≡◌, ℕ, Bool, true, false, ◌<◌, ◌≤◌, ◌+◌, ◌*◌, ◌^◌, drop, take, if◌then◌else◌, IfOk, IfErr};
 ghost use Rattle.std.specs.Int.{bit_at};
 ghost use Rattle.aes3_cell.specs.Cells.{line};
 ghost use Rattle.aes3_cell.specs.Words.{word_cells};
@@ -51,8 +51,8 @@ fn gather(word: u64) -> u32
     word as u32
 }
 
-/// The bits that slots 4 to 31 carry: whether the two cells of each differ.
-fn slot_bits(cells: u64) -> u32
+/// The bits that slots 4 to 31 of a subframe's 64 cells carry, slot 4 in bit 0: whether the two cells of each differ.
+pub fn slot_bits(cells: u64) -> u32
     ensures bits { slots_bits result ≡ read_bits (drop 8 (word_cells cells)) }
     ensures bound { result < 2 ^ 28 }
 {
@@ -66,6 +66,16 @@ fn split_parity(slots: u32) -> (u32, bool)
     ensures range { result.0 < 2 ^ 27 }
 {
     (slots & PAYLOAD, slots.count_ones() % 2 == 0)
+}
+
+/// Whether the first `len` of 64 cells begin a subframe with this preamble after the level `before`, whatever its parity
+/// bit.
+pub fn begins_subframe(before: Level, mark: Mark, cells: u64, len: u32) -> bool
+    requires { len ≤ 64 }
+    ensures yes { result ≡ true → IsFrontOf before mark (take len (word_cells cells)) }
+    ensures no { result ≡ false → ¬ IsFrontOf before mark (take len (word_cells cells)) }
+{
+    wrong_cells(before, mark, cells).trailing_zeros() >= len
 }
 
 /// The payload of the 64 cells of a subframe with this preamble after the level `before`, and whether its parity

@@ -1,4 +1,4 @@
-use Rattle.std.proofs.Common.{◌≡◌, ◌+◌, true, false, not, sym, ap, ◌∙◌, arith, map}
+use Rattle.std.proofs.Common.{◌≡◌, ◌+◌, false, not, sym, ap, ◌∙◌, arith, map}
 use Rattle.aes3_slot.specs.Slots.{slots_bits}
 use Rattle.aes3_slot.specs.Reading.{same}
 use Rattle.aes3_lock.specs.declared.report.Report.TheVariants.{Fault}

@@ -1,4 +1,4 @@
-use Rattle.std.proofs.Common.{◌≡◌, ◌%◌, ◌∙◌, eqb, ltb, true, false, sym, refl, arith, eq-eqb, ne_eqb, lt-ltb, le-ltb}
+use Rattle.std.proofs.Common.{◌≡◌, ◌%◌, eqb, ltb, true, false, refl, arith, eq-eqb, ne_eqb, lt-ltb, le-ltb}
 use Rattle.aes3_block.specs.Blocks.{block_len}
 use Rattle.aes3_lock.proofs.Deciding.{block_len_24576}
 use Rattle.aes3_lock.proofs.outcome.reason.Goals as goal

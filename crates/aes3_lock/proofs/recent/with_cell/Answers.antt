@@ -1,4 +1,4 @@
-use Rattle.std.proofs.Common.{◌≡◌, arith, sym, ap, ◌∙◌}
+use Rattle.std.proofs.Common.{arith, sym, ap, ◌∙◌}
 use Rattle.aes3_cell.specs.declared.level.Level.TheVariants.{High}
 use Rattle.aes3_lock.specs.Steps.{eight_with}
 use Rattle.aes3_cell.specs.Words.{low_cells}

@@ -1,5 +1,4 @@
-use Rattle.std.proofs.Common.{◌≡◌, ◌+◌, length, take, get_or, sym, ap, ◌∙◌, arith, length-take-le}
-use Rattle.aes3_cell.specs.declared.level.Level.TheVariants.{Low}
+use Rattle.std.proofs.Common.{take, sym, arith, length-take-le}
 use Rattle.aes3_cell.specs.Words.{low_cells}
 use Rattle.aes3_lock.proofs.LastEight.{last_eight-nil}
 use Rattle.aes3_lock.proofs.Walking.{octet-more, octet-all}

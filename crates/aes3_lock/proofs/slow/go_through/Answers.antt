@@ -1,11 +1,10 @@
-use Rattle.std.proofs.Common.{◌≡◌, ◌+◌, ◌/◌, ◌%◌, ◌<◌, ◌≤◌, length, get_or, set, true, false, sym, ap, ap₂, subst, ◌∙◌, arith}
-use Rattle.aes3_cell.specs.declared.level.Level.TheVariants.{Low}
+use Rattle.std.proofs.Common.{◌+◌, ◌/◌, ◌%◌, get_or, set, sym, ap, ◌∙◌, arith}
 use Rattle.aes3_slot.specs.Rules.{at, rule}
 use Rattle.aes3_slot.specs.Reading.{differs}
 use Rattle.aes3_block.specs.Blocks.{mark_at}
 use Rattle.aes3_lock.specs.Steps.{level_with, slots_with}
 use Rattle.aes3_lock.proofs.Deciding.{block_len_24576, block_slots_384}
-use Rattle.aes3_lock.proofs.Walking.{Walked, walk-step, walk-full, walk-stops, walk-all, walk-nil, walk-same}
+use Rattle.aes3_lock.proofs.Walking.{walk-step, walk-full, walk-stops, walk-all, walk-same}
 use Rattle.aes3_lock.proofs.slow.go_through.Goals as goal
 use Rattle.aes3_lock.proofs.slow.go_through.Goals.{then-offset-eq-BLOCK_CELLS-via-then-offset-eq-BLOCK_CELLS, then-offset-eq-BLOCK_CELLS-via-else-offset-eq-BLOCK_CELLS+then-not-may_stand}
 

@@ -1,4 +1,4 @@
-use Rattle.std.proofs.Common.{◌≡◌, length}
+use Rattle.std.proofs.Common.{◌≡◌}
 use Rattle.aes3_lock.proofs.Walking.{Walked}
 use Rattle.aes3_lock.proofs.slow.go_through.Given as goal
 

@@ -1,9 +1,6 @@
-use Rattle.std.proofs.Common.{◌≡◌, ◌+◌, ◌<◌, ◌≤◌, [], ◌∷◌, Option, Some, None, length, map, take, sym, ap, ap₂, subst, ◌∙◌, arith}
-use Rattle.aes3_slot.specs.Slots.{slots_bits}
-use Rattle.aes3_slot.specs.Rules.{at}
-use Rattle.aes3_slot.specs.Reading.{same}
+use Rattle.std.proofs.Common.{[], ◌∷◌, sym, ap, ◌∙◌, arith}
 use Rattle.aes3_lock.specs.Reports.{told, report_of}
-use Rattle.aes3_lock.specs.Steps.{begun, ended, left}
+use Rattle.aes3_lock.specs.Steps.{begun}
 use Rattle.aes3_lock.proofs.Deciding.{block_slots_384}
 use Rattle.aes3_lock.proofs.Walking.{outcome_at-short, outcome_at-none, outcome_at-some, place-ended, place-left}
 use Rattle.aes3_lock.proofs.slow.report_at.Goals as goal

@@ -1,53 +1,97 @@
-use Rattle.std.proofs.Common.{◌≡◌, ◌+◌, ◌-◌, ◌*◌, ◌/◌, ◌%◌, ◌<◌, List, [], ◌∷◌, ◌++◌, length, map, set, get_or, Some, true, false, ltb, ◌&&◌, refl, sym, ap, ap₂, subst, ◌∙◌, arith}
+use Rattle.std.proofs.Common.{◌+◌, ◌-◌, ◌/◌, set, drop, Some, refl, sym, ap, subst, arith}
 use Rattle.aes3_cell.specs.Words.{low_cells}
-use Rattle.aes3_slot.specs.Slots.{slots_bits}
-use Rattle.aes3_slot.specs.Rules.{at, rule}
-use Rattle.aes3_slot.specs.Reading.{differs, same}
-use Rattle.aes3_lock.specs.Reports.{report_of, decided}
-use Rattle.aes3_lock.specs.Steps.{ended, slots_with}
+use Rattle.aes3_slot.specs.Rules.{at}
+use Rattle.aes3_lock.specs.Candidates.{entry}
 use Rattle.aes3_lock.specs.Following.{Follows}
 use Rattle.aes3_lock.proofs.Deciding.{block_slots_384}
-use Rattle.aes3_lock.proofs.Codes.{goes, stops}
-use Rattle.aes3_lock.proofs.Following.{push-none, push-next, push-last}
+use Rattle.aes3_lock.proofs.Codes.{goes}
+use Rattle.aes3_lock.proofs.Following.{push-none, push-next}
+use Rattle.aes3_lock.proofs.TakenWords.{next-inside, next-whole}
 use Rattle.aes3_lock.proofs.lock.Lock.take.Goals as goal
 
 -- no candidate was in hand
 pub returns-in_default-clause-follows : goal.returns-in_default-clause-follows
 returns-in_default-clause-follows c = λ t l f.
-    (push-none _ _ l c.args.cell (subst (λ k. Follows k l) (sym c.self.view_is) f) c.in_default.is refl c.with_cell-self-inside.ensures
-    c.candidate_in-self-inside.ensures.value).0
+    (push-none _ (record {
+      seen = c.self.inside.seen + 1;
+      recent = low_cells 8 c.with_cell-self-inside.result;
+      candidate = c.candidate_in-self-inside.result;
+      subframe = c.from-self-inside.result;
+      slots = c.self.inside.slots;
+    })
+    l c.args.cell (subst (λ k. Follows k l) (sym c.self.view_is) f) c.in_default.is refl c.with_cell-self-inside.ensures
+    c.candidate_in-self-inside.ensures.value (ap (low_cells 8) (sym c.from-self-inside.ensures)) (let e = c.from-self-inside.ensures in omega (arith, e))).0
 
 pub returns-in_default-clause-none : goal.returns-in_default-clause-none
 returns-in_default-clause-none c = λ t l f.
-    (push-none _ (record { seen = c.self.inside.seen + 1; recent = low_cells 8 c.with_cell-self-inside.result; candidate = c.candidate_in-self-inside.result; slots = c.self.inside.slots })
+    (push-none _ (record {
+      seen = c.self.inside.seen + 1;
+      recent = low_cells 8 c.with_cell-self-inside.result;
+      candidate = c.candidate_in-self-inside.result;
+      subframe = c.from-self-inside.result;
+      slots = c.self.inside.slots;
+    })
     l c.args.cell (subst (λ k. Follows k l) (sym c.self.view_is) f) c.in_default.is refl c.with_cell-self-inside.ensures
-    c.candidate_in-self-inside.ensures.value).1
+    c.candidate_in-self-inside.ensures.value (ap (low_cells 8) (sym c.from-self-inside.ensures)) (let e = c.from-self-inside.ensures in omega (arith, e))).1
 
 -- the cell goes on with the candidate in hand
+pub returns-then-len-clause-follows : goal.returns-then-len-clause-follows
+returns-then-len-clause-follows c = λ t l f.
+    let g = goes (c.self.inside.seen - c.in-Some.candidate.at) c.args.cell c.in-Some.candidate.level _ (at (low_cells 8 c.self.inside.recent) 7)
+    c.goes_on.result c.goes_on.ensures.value c.last_cell.ensures c.if-not-goes_on.false in
+    (push-next _ (record {
+      seen = c.self.inside.seen + 1;
+      recent = low_cells 8 c.with_cell-self-inside-2.result;
+      candidate = c.self.inside.candidate;
+      subframe = c.with_next-cells.result;
+      slots = c.self.inside.slots;
+    })
+    c.in-Some.candidate c.in-Some.candidate l c.args.cell (subst (λ k. Follows k l) (sym c.self.view_is) f) c.in-Some.is g.0 g.1 refl c.with_cell-self-inside-2.ensures c.in-Some.is refl refl
+    (next-inside c.in-Some.candidate.level c.self.inside.subframe c.with_next-cells.result c.self.inside.slots (entry (drop c.in-Some.candidate.at l)) (drop c.in-Some.candidate.at l)
+    (c.self.inside.seen - c.in-Some.candidate.at) c.args.cell c.if-len.true c.with_next-cells.ensures.cells c.with_next-cells.ensures.few)).0
+
+pub returns-then-len-clause-none : goal.returns-then-len-clause-none
+returns-then-len-clause-none c = λ t l f.
+    let g = goes (c.self.inside.seen - c.in-Some.candidate.at) c.args.cell c.in-Some.candidate.level _ (at (low_cells 8 c.self.inside.recent) 7)
+    c.goes_on.result c.goes_on.ensures.value c.last_cell.ensures c.if-not-goes_on.false in
+    (push-next _ (record {
+      seen = c.self.inside.seen + 1;
+      recent = low_cells 8 c.with_cell-self-inside-2.result;
+      candidate = c.self.inside.candidate;
+      subframe = c.with_next-cells.result;
+      slots = c.self.inside.slots;
+    })
+    c.in-Some.candidate c.in-Some.candidate l c.args.cell (subst (λ k. Follows k l) (sym c.self.view_is) f) c.in-Some.is g.0 g.1 refl c.with_cell-self-inside-2.ensures c.in-Some.is refl refl
+    (next-inside c.in-Some.candidate.level c.self.inside.subframe c.with_next-cells.result c.self.inside.slots (entry (drop c.in-Some.candidate.at l)) (drop c.in-Some.candidate.at l)
+    (c.self.inside.seen - c.in-Some.candidate.at) c.args.cell c.if-len.true c.with_next-cells.ensures.cells c.with_next-cells.ensures.few)).1
+
+-- and makes its subframe whole
 pub returns-clause-follows : goal.returns-clause-follows
 returns-clause-follows c = λ t l f.
     let g = goes (c.self.inside.seen - c.in-Some.candidate.at) c.args.cell c.in-Some.candidate.level _ (at (low_cells 8 c.self.inside.recent) 7)
-    c.goes_on.result c.goes_on.ensures.value c.last_cell-previous.ensures c.if-not-goes_on.false in
-    (push-next _ _ c.in-Some.candidate l c.args.cell (subst (λ k. Follows k l) (sym c.self.view_is) f) (let n = block_slots_384 in omega arith) c.in-Some.is
-    g.0 g.1 refl c.with_cell-self-inside-2.ensures
-    (ap (λ s. Some (record { at = c.in-Some.candidate.at; before = c.in-Some.candidate.before; level = s })) c.level_behind.ensures)
-    (ap (set c.self.inside.slots ((c.self.inside.seen - c.in-Some.candidate.at) / 64))
-    (c.slots_behind.ensures ∙ ap (slots_with (get_or c.self.inside.slots ((c.self.inside.seen - c.in-Some.candidate.at) / 64) 0) ((c.self.inside.seen - c.in-Some.candidate.at) % 64))
-    (c.turns.ensures ∙ ap (λ p. differs p c.args.cell) c.last_cell-previous.ensures)))).0
+    c.goes_on.result c.goes_on.ensures.value c.last_cell.ensures c.if-not-goes_on.false in
+    (push-next _ (record {
+      seen = c.self.inside.seen + 1;
+      recent = low_cells 8 c.with_cell-self-inside-2.result;
+      candidate = Some (record { at = c.in-Some.candidate.at; before = c.in-Some.candidate.before; level = c.args.cell });
+      subframe = 0;
+      slots = set c.self.inside.slots ((c.self.inside.seen - c.in-Some.candidate.at) / 64) c.slot_bits.result;
+    })
+    c.in-Some.candidate _ l c.args.cell (subst (λ k. Follows k l) (sym c.self.view_is) f) c.in-Some.is g.0 g.1 refl c.with_cell-self-inside-2.ensures refl refl refl
+    (next-whole c.in-Some.candidate.level c.self.inside.subframe c.with_next-cells.result c.slot_bits.result c.self.inside.slots (entry (drop c.in-Some.candidate.at l)) (drop c.in-Some.candidate.at l)
+    (c.self.inside.seen - c.in-Some.candidate.at) c.args.cell (let n = block_slots_384 in omega arith) g.0 (omega arith) c.with_next-cells.ensures.cells c.slot_bits.ensures.bits c.slot_bits.ensures.bound)).0
 
 pub returns-clause-none : goal.returns-clause-none
 returns-clause-none c = λ t l f.
     let g = goes (c.self.inside.seen - c.in-Some.candidate.at) c.args.cell c.in-Some.candidate.level _ (at (low_cells 8 c.self.inside.recent) 7)
-    c.goes_on.result c.goes_on.ensures.value c.last_cell-previous.ensures c.if-not-goes_on.false in
+    c.goes_on.result c.goes_on.ensures.value c.last_cell.ensures c.if-not-goes_on.false in
     (push-next _ (record {
       seen = c.self.inside.seen + 1;
       recent = low_cells 8 c.with_cell-self-inside-2.result;
-      candidate = Some (record { at = c.in-Some.candidate.at; before = c.in-Some.candidate.before; level = c.level_behind.result });
-      slots = set c.self.inside.slots ((c.self.inside.seen - c.in-Some.candidate.at) / 64) c.slots_behind.result;
+      candidate = Some (record { at = c.in-Some.candidate.at; before = c.in-Some.candidate.before; level = c.args.cell });
+      subframe = 0;
+      slots = set c.self.inside.slots ((c.self.inside.seen - c.in-Some.candidate.at) / 64) c.slot_bits.result;
     })
-    c.in-Some.candidate l c.args.cell (subst (λ k. Follows k l) (sym c.self.view_is) f) (let n = block_slots_384 in omega arith) c.in-Some.is
-    g.0 g.1 refl c.with_cell-self-inside-2.ensures
-    (ap (λ s. Some (record { at = c.in-Some.candidate.at; before = c.in-Some.candidate.before; level = s })) c.level_behind.ensures)
-    (ap (set c.self.inside.slots ((c.self.inside.seen - c.in-Some.candidate.at) / 64))
-    (c.slots_behind.ensures ∙ ap (slots_with (get_or c.self.inside.slots ((c.self.inside.seen - c.in-Some.candidate.at) / 64) 0) ((c.self.inside.seen - c.in-Some.candidate.at) % 64))
-    (c.turns.ensures ∙ ap (λ p. differs p c.args.cell) c.last_cell-previous.ensures)))).1
+    c.in-Some.candidate _ l c.args.cell (subst (λ k. Follows k l) (sym c.self.view_is) f) c.in-Some.is g.0 g.1 refl c.with_cell-self-inside-2.ensures refl refl refl
+    (next-whole c.in-Some.candidate.level c.self.inside.subframe c.with_next-cells.result c.slot_bits.result c.self.inside.slots (entry (drop c.in-Some.candidate.at l)) (drop c.in-Some.candidate.at l)
+    (c.self.inside.seen - c.in-Some.candidate.at) c.args.cell (let n = block_slots_384 in omega arith) g.0 (omega arith) c.with_next-cells.ensures.cells c.slot_bits.ensures.bits c.slot_bits.ensures.bound)).1

@@ -1,8 +1,8 @@
-use Rattle.std.proofs.Common.{◌≡◌, ◌+◌, ◌-◌, ◌<◌, List, [], ◌∷◌, ◌++◌, Some, None, refl, sym, ap, subst, ◌∙◌, arith}
+use Rattle.std.proofs.Common.{◌+◌, ◌-◌, ◌++◌, refl, sym, ap, subst, ◌∙◌, arith}
 use Rattle.std.specs.Prelude.{option_to_list, option_map}
 use Rattle.aes3_cell.specs.Words.{low_cells}
-use Rattle.aes3_lock.specs.Preambles.{marks, placed, first_mark}
-use Rattle.aes3_lock.specs.Following.{ScanState, ScanFollows}
+use Rattle.aes3_lock.specs.Preambles.{marks, placed}
+use Rattle.aes3_lock.specs.Following.{ScanFollows}
 use Rattle.aes3_lock.proofs.Codes.{none-some}
 use Rattle.aes3_lock.proofs.Scanning.{scan-follows, scan-short, scan-mark, first_mark-line, first_mark-none}
 use Rattle.aes3_lock.proofs.scan.Scan.push.Goals as goal

@@ -1,0 +1,51 @@
+-- The cells of a subframe in a word, parted and joined by shifts.
+use Rattle.std.proofs.Common.{◌≡◌, ℕ, ◌+◌, ◌-◌, ◌*◌, ◌/◌, ◌%◌, ◌^◌, ◌<◌, max, ◌++◌, take, drop, ap, ap₂, ◌∙◌, sym, arith}
+use Rattle.std.specs.Prelude.{bit_or}
+use Rattle.std.specs.Int.{bit_at}
+use Rattle.std.proofs.Math.Pow.{shr_lt}
+use Rattle.std.proofs.lemmas.Nat.{shr-shr}
+use Rattle.std.proofs.lemmas.Nat.Bits.{bit_at_or, bit_at_above}
+use Rattle.aes3_cell.specs.Words.{low_cells, level_of}
+use Rattle.aes3_cell.proofs.WordCells.{low_cells-same, low_cells-at}
+use Rattle.aes3_slot.specs.Rules.{at}
+use Rattle.aes3_slot.proofs.Bits.{bit_at-shr}
+use Rattle.aes3_slot.proofs.Moves.{shl-above, shl-below}
+use Rattle.aes3_slot.proofs.ReadWords.{low_cells-add, take-low_cells, drop-low_cells}
+
+pub cells-completed : (n cells word : ℕ) → n < 64 → cells < 2 ^ n
+    → low_cells 64 (bit_or cells (word * 2 ^ n % 2 ^ 64)) ≡ low_cells n cells ++ take (64 - n) (low_cells 64 word)
+cells-completed n cells word h b =
+    let x = bit_or cells (word * 2 ^ n % 2 ^ 64) in
+    let e : 64 ≡ n + (64 - n) = omega (arith, h) in
+    let f : 64 ≡ (64 - n) + n = omega (arith, h) in
+    ap (λ m. low_cells m x) e ∙ low_cells-add n (64 - n) x
+    ∙ ap₂ (λ c d. c ++ d)
+    (low_cells-same n x cells (λ i g.
+    let z = shl-below word n i (omega (arith, g, h)) g in
+    bit_at_or cells (word * 2 ^ n % 2 ^ 64) i ∙ (omega (arith, z))))
+    (low_cells-same (64 - n) (x / 2 ^ n) word (λ i g.
+    let z = shl-above word n (n + i) (omega (arith, g, h)) (omega arith) in
+    let a = bit_at_above cells n (n + i) b (omega arith) in
+    let q : n + i - n ≡ i = omega arith in
+    let y : max 0 (bit_at word i) ≡ bit_at word i = omega arith in
+    bit_at-shr x n i ∙ bit_at_or cells (word * 2 ^ n % 2 ^ 64) (n + i) ∙ ap₂ max a (z ∙ ap (bit_at word) q) ∙ y)
+    ∙ sym (ap (λ m. take (64 - n) (low_cells m word)) f ∙ take-low_cells (64 - n) n word))
+
+shifted-twice : (n word : ℕ) → n < 64 → word / 2 ^ 1 / 2 ^ (63 - n) ≡ word / 2 ^ (64 - n)
+shifted-twice n word h = shr-shr word 1 (63 - n) ∙ ap (λ k. word / 2 ^ k) (let e : 1 + (63 - n) ≡ 64 - n = omega (arith, h) in e)
+
+pub cells-rest : (n word : ℕ) → n < 64 → low_cells n (word / 2 ^ 1 / 2 ^ (63 - n)) ≡ drop (64 - n) (low_cells 64 word)
+cells-rest n word h =
+    let f : 64 ≡ (64 - n) + n = omega (arith, h) in
+    ap (low_cells n) (shifted-twice n word h) ∙ sym (ap (λ m. drop (64 - n) (low_cells m word)) f ∙ drop-low_cells (64 - n) n word)
+
+pub rest-few : (n word : ℕ) → n < 64 → word < 2 ^ 64 → word / 2 ^ 1 / 2 ^ (63 - n) < 2 ^ n
+rest-few n word h b =
+    let e : 64 ≡ n + (64 - n) = omega (arith, h) in
+    let s = shifted-twice n word h in
+    let q = ap (λ k. 2 ^ k) e in
+    let r = shr_lt {n = word} n (64 - n) (omega (arith, b, q)) in
+    omega (arith, s, r)
+
+pub last-is : (word b : ℕ) → word / 2 ^ 63 % 2 ≡ b → at (low_cells 64 word) 63 ≡ level_of b
+last-is word b h = low_cells-at 64 word 63 (omega arith) ∙ ap level_of h
