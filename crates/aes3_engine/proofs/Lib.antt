@@ -5,6 +5,7 @@ pub mod EncodingLemmas
 pub mod Told
 pub mod EncodeRuns
 pub mod Items
+pub mod Handing
 pub mod TextLemmas
 pub mod TextRuns
 pub mod Reports

@@ -28,6 +28,6 @@ returns-in-Err g c =
     let xs = c.args.piece.now in
     let i = c.loop-octet.octet-index in
     let e : take i xs ++ (get_or xs i 0 ∷ drop (suc i) xs) ≡ xs = ap (λ z. take i xs ++ z) (sym (drop-cons xs i 0 (omega arith))) ∙ take-append-drop i xs in
-    ran-join (packed_reading (g.K.Taker.writes c.take_octet.new.taker)) (PackedTaken c.take_octet.new.input.packed c.take_octet.new.input.cells (g.K.Taker.follows c.take_octet.new.taker))
+    ran-join (packed_reading (g.K.CellTaker.writes c.take_octet.new.taker)) (PackedTaken c.take_octet.new.input.packed c.take_octet.new.input.cells (g.K.CellTaker.follows c.take_octet.new.taker))
     (g.T.Sink.taken c.take_octet.new.sink) (g.T.Sink.failed c.take_octet.new.sink)
     (get_or xs i 0 ∷ []) (drop (suc i) xs) xs c.in-Err.error c.loop-octet.invariant.fed c.loop-octet.invariant.quiet e c.in-Err.ensures

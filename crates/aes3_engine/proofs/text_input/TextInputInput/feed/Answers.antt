@@ -28,6 +28,6 @@ returns-in-Err g c =
     let xs = c.args.piece.now in
     let i = c.loop-byte.byte-index in
     let e : take i xs ++ (get_or xs i 0 ∷ drop (suc i) xs) ≡ xs = ap (λ z. take i xs ++ z) (sym (drop-cons xs i 0 (omega arith))) ∙ take-append-drop i xs in
-    ran-join (text_reading (g.K.Taker.writes c.take_byte.new.taker)) (TextTaken c.take_byte.new.input.text c.take_byte.new.input.cells (g.K.Taker.follows c.take_byte.new.taker))
+    ran-join (text_reading (g.K.CellTaker.writes c.take_byte.new.taker)) (TextTaken c.take_byte.new.input.text c.take_byte.new.input.cells (g.K.CellTaker.follows c.take_byte.new.taker))
     (g.T.Sink.taken c.take_byte.new.sink) (g.T.Sink.failed c.take_byte.new.sink)
     (get_or xs i 0 ∷ []) (drop (suc i) xs) xs c.in-Err.error c.loop-byte.invariant.fed c.loop-byte.invariant.quiet e c.in-Err.ensures
