@@ -17,3 +17,4 @@ pub mod BlockRuns
 pub mod RewrittenBlocks
 pub mod PackedLemmas
 pub mod PackedRuns
+pub mod Fronts
