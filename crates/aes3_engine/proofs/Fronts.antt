@@ -20,6 +20,7 @@ use Rattle.aes3_engine.specs.Running.{Fed}
 use Rattle.aes3_engine.specs.Taking.{Writing, behind, before_end}
 use Rattle.aes3_engine.specs.Forms.{text_reading, TextTaken, packed_reading, PackedTaken}
 use Rattle.aes3_engine.proofs.Outputs.{behind-clean}
+use Rattle.aes3_engine.proofs.Feeding.{fed-none}
 use Rattle.aes3_engine.proofs.Items.{before-join}
 use Rattle.aes3_engine.proofs.TextRuns as text
 use Rattle.aes3_engine.proofs.PackedRuns as packed
@@ -76,6 +77,12 @@ text-word-front w₀ f₀ reader new cells bytes word t t' e n g b h =
     let q = word-fed {new = new} b bytes word h.reader h.lawful e n in
     front-is (sym (text-writes w₀ b bytes word h.lawful e q.2).1) (g (cells_of_text b) h.taker)
 
+-- a reader that has taken no more
+pub text-same : (w : Writing Level) (f : List Level → Type 0) (reader new : TextReader) (cells : ℕ) (t : Option (List ℕ)) → new ≡ reader
+    → Fed (text_reading w) (text_reading w) (TextTaken reader cells f) (TextTaken new cells f) t t []
+text-same w f reader new cells t e =
+    subst (λ (v : TextReader). Fed (text_reading w) (text_reading w) (TextTaken reader cells f) (TextTaken v cells f) t t []) (sym e) (fed-none (text_reading w) (TextTaken reader cells f) t)
+
 -- eight octets
 octets-write : (w : Writing Level) (b octets : List ℕ) (m : List Level) → whole_cells (b ++ octets) ≡ whole_cells b ++ m
     → (fault_behind (packed_reading w) b octets ≡ None) × (out_behind (packed_reading w) b octets ≡ behind w (whole_cells b) m)
@@ -106,3 +113,9 @@ pub octets-word-front : (w₀ : Writing Level) (f₀ : List Level → Type 0) (r
     → (b : List ℕ) → PackedTaken reader cells f₀ b → GrewFront t t' (out_behind (packed_reading w₀) b octets)
 octets-word-front w₀ f₀ reader new cells octets word t t' l k e n g b h =
     front-is (sym (octets-write w₀ b octets (word_cells word) (eight-fed b octets word h.reader l k e n).1).1) (g (whole_cells b) h.taker)
+
+pub octets-same : (w : Writing Level) (f : List Level → Type 0) (reader new : PackedReader) (cells : ℕ) (t : Option (List ℕ)) → new ≡ reader
+    → Fed (packed_reading w) (packed_reading w) (PackedTaken reader cells f) (PackedTaken new cells f) t t []
+octets-same w f reader new cells t e =
+    subst (λ (v : PackedReader). Fed (packed_reading w) (packed_reading w) (PackedTaken reader cells f) (PackedTaken v cells f) t t []) (sym e)
+    (fed-none (packed_reading w) (PackedTaken reader cells f) t)
