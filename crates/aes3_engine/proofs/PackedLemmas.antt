@@ -1,5 +1,5 @@
 -- Packed cells taken octet by octet.
-use Rattle.std.proofs.Common.{◌≡◌, ℕ, ◌+◌, ◌-◌, ◌*◌, ◌<◌, ◌≤◌, List, [], ◌∷◌, ◌++◌, cond, Option, Some, None, Result, Ok, Err, IfOk, OnErr, length, take, drop, refl, sym, ap, ap₂, ◌∙◌, subst, arith, append-nil, append_assoc, length-append}
+use Rattle.std.proofs.Common.{◌≡◌, ℕ, ◌+◌, ◌-◌, ◌*◌, ◌<◌, ◌≤◌, List, [], ◌∷◌, ◌++◌, cond, Option, Some, None, Result, Ok, Err, IfOk, OnErr, length, take, drop, refl, sym, ap, ap₂, ◌∙◌, subst, arith, append-nil, length-append}
 use Rattle.std.proofs.lemmas.List.{take_more, length-take-le, take-append-drop, take-take}
 use Rattle.std.specs.Option.{unwrap_or}
 use Rattle.std.specs.Int.{bit_at}
@@ -13,14 +13,13 @@ use Rattle.aes3_cell.specs.Ends.{Grew, GrewFront}
 use Rattle.aes3_cell.specs.Words.{level_of}
 use Rattle.aes3_cell.specs.Packed.{octet_cells, last_place, cells_of_packed, whole_cells}
 use Rattle.aes3_cell.specs.PackedReading.{PackedReader, packed_reader_of, packed_answer, packed_next, packed_end, answer_cells, end_cells}
-use Rattle.aes3_cell.proofs.Growing.{grew-none, grew-is, grew-join, front-is, front-join, front-more}
+use Rattle.aes3_cell.proofs.Growing.{grew-none, grew-is, grew-join, front-is, front-join}
 use Rattle.aes3_cell.proofs.Octets.{length-octet_cells, octet_cells-at}
 use Rattle.aes3_cell.proofs.PackedCells.{length-cells_of_octets}
 use Rattle.aes3_cell.proofs.PackedReads.{packed_reader-more, whole_cells-more, end-ok, end-fault, end-used, cells-end}
 use Rattle.aes3_engine.specs.Converting.{fault_behind, out_behind}
 use Rattle.aes3_engine.specs.Running.{Fed}
 use Rattle.aes3_engine.specs.Taking.{Writing, behind}
-use Rattle.aes3_engine.proofs.Items.{items-join}
 use Rattle.aes3_engine.specs.Forms.{octet_front, packed_reading, PackedTaken, PackedEnded, EndCellsRan}
 
 -- cell by cell

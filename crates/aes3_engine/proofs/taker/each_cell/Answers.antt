@@ -1,4 +1,4 @@
-use Rattle.std.proofs.Common.{◌∙◌, ◌+◌, ◌^◌, ◌<◌, ◌++◌, ◌∷◌, [], length, arith, ap, refl, length-append}
+use Rattle.std.proofs.Common.{◌∙◌, ◌+◌, ◌^◌, ◌<◌, ◌++◌, [], length, arith, ap, refl, length-append}
 use Rattle.aes3_cell.specs.Words.{low_cells}
 use Rattle.aes3_cell.proofs.WordCells.{length-low_cells}
 use Rattle.aes3_engine.proofs.Handing.{handed-none, handed-is, handed-more, handed-front, all-cells, cell-more, cells-after}

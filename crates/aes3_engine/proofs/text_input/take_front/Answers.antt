@@ -1,5 +1,5 @@
-use Rattle.std.proofs.Common.{◌<◌, ◌∷◌, [], take, drop, get_or, arith, sym, ap, ◌∙◌, refl}
-use Rattle.std.proofs.lemmas.List.{length-take-le, take-append-drop}
+use Rattle.std.proofs.Common.{◌∷◌, [], take, drop, get_or, arith, sym, refl}
+use Rattle.std.proofs.lemmas.List.{take-append-drop}
 use Rattle.std.proofs.Math.Seq.{drop-cons}
 use Rattle.aes3_cell.specs.CellText.{cells_of_text}
 use Rattle.aes3_cell.proofs.CellTexts.{length-cells_of_text}
