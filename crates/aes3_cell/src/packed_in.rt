@@ -1,7 +1,7 @@
 //! Packed cells as they are read.
 use std::marker::Model;
 
-/// Reads packed cells octet by octet.
+/// Reads packed cells octet by octet, or eight octets at once.
 ///
 /// A contract sees how many octets it has taken and the last two of them: before the end nobody can tell which octet
 /// is the last, nor how many cells of the one before it are used.

@@ -1,7 +1,7 @@
 //! Cell text as it is read.
 use std::marker::Model;
 
-/// Reads cell text byte by byte.
+/// Reads cell text byte by byte, or 64 bytes at once where all are cells.
 ///
 /// A contract sees how many bytes it has taken.
 #[derive(Drop)]

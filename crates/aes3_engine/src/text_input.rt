@@ -1,6 +1,7 @@
 //! Cell text as an input.
 
-ghost use Rattle.std.specs.Prelude.{◌≡◌, ℕ, ◌+◌, ◌<◌, ◌≤◌, ◌^◌, List, [], ◌∷◌, length, map, take, IfSome, OnSome, IfNone};
+ghost use Rattle.std.specs.Prelude.{◌≡◌, ℕ, ◌+◌, ◌<◌, ◌≤◌, ◌^◌, List, [], ◌∷◌, length, map, take, IfSome, OnSome, IfNone, IsTrue, ◌↔◌};
+ghost use Rattle.aes3_cell.specs.CellText.{kind_of, separator};
 ghost use Rattle.aes3_cell.specs.Text.{byte_of};
 ghost use Rattle.aes3_cell.specs.Words.{word_cells};
 ghost use Rattle.aes3_engine.specs.Driving.{Drive};
@@ -103,7 +104,10 @@ fn take_front<T: Sink, K: Taker>(
 }
 
 /// Whether a byte separates cells, as at the end of a line.
-fn is_separator(byte: u8) -> bool {
+#[tactic(auto, unfolding(aes3_cell::specs::CellText::kind_of))]
+fn is_separator(byte: u8) -> bool
+    ensures { IsTrue result ↔ kind_of byte ≡ separator }
+{
     matches!(byte, b'\n' | b'\r' | b' ')
 }
 
