@@ -54,6 +54,9 @@ good_bytes-all a g =
 pub good-join : (a b : List ℕ) → IsCellText a → good (a ++ b) ≡ length a + good b
 good-join a b g = ap length (good_bytes-join a b g.is) ∙ length-append a (good_bytes b)
 
+pub text-join : (a b : List ℕ) → IsCellText a → IsCellText b → IsCellText (a ++ b)
+text-join a b g h = record { is = good-join a b g ∙ ap (λ n. length a + n) h.is ∙ sym (length-append a b) }
+
 pub cells-join : (a b : List ℕ) → IsCellText a → cells_of_text (a ++ b) ≡ cells_of_text a ++ cells_of_text b
 unfolding cells_of_text
 cells-join a b g =
@@ -121,7 +124,7 @@ cells-one x = go (kind_of x) refl
 
 -- one more byte behind text without a bad byte
 pub text-more : (b : List ℕ) (x : ℕ) → IsCellText b → is_good_byte x ≡ true → IsCellText (b ++ x ∷ [])
-text-more b x g e = record { is = good-join b (x ∷ []) g ∙ ap (λ n. length b + n) (good-one x e) ∙ sym (length-append b (x ∷ [])) }
+text-more b x g e = text-join b (x ∷ []) g (record { is = good-one x e })
 
 pub cells-more : (b : List ℕ) (x : ℕ) → IsCellText b → cells_of_text (b ++ x ∷ []) ≡ cells_of_text b ++ byte_cells x
 cells-more b x g = cells-join b (x ∷ []) g ∙ ap (λ c. cells_of_text b ++ c) (cells-one x)
@@ -192,7 +195,7 @@ kind-line_feed : kind_of 10 ≡ separator
 unfolding kind_of
 kind-line_feed = refl
 
-cells-text : (c : List Level) → IsCellText (map byte_of c) × (cells_of_text (map byte_of c) ≡ c)
+pub cells-text : (c : List Level) → IsCellText (map byte_of c) × (cells_of_text (map byte_of c) ≡ c)
 unfolding cells_of_text good_bytes
 cells-text [] = (record { is = refl }, refl)
 cells-text (level ∷ c) =
@@ -222,10 +225,7 @@ cells-lines (suc n) c h =
     let w = word_len_64 in
     let r = cells-lines n (drop word_len c) (omega (arith, length-drop word_len c)) in
     let l = cells-line (take word_len c) in (
-      record {
-        is = good-join (line_text (take word_len c)) (lines_text n (drop word_len c)) l.0 ∙ ap (λ k. length (line_text (take word_len c)) + k) r.0.is
-            ∙ sym (length-append (line_text (take word_len c)) (lines_text n (drop word_len c)));
-      },
+      text-join (line_text (take word_len c)) (lines_text n (drop word_len c)) l.0 r.0,
       cells-join (line_text (take word_len c)) (lines_text n (drop word_len c)) l.0 ∙ ap₂ ◌++◌ l.1 r.1 ∙ take-append-drop word_len c,
     )
 

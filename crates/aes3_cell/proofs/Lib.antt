@@ -10,3 +10,5 @@ pub mod PackedReads
 pub mod PackedWords
 pub mod PackedSteps
 pub mod WrittenForms
+pub mod TextWords
+pub mod OctetWords

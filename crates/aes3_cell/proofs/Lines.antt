@@ -61,13 +61,13 @@ put-done p n w l e h =
     ap (λ b. cond {A = List Level} b [] (p ++ l ∷ [])) (eq-eqb (suc (length p)) word_len (let k = word_len_64 in omega arith))
 
 -- the character of a bit
+pub level-byte : (b : ℕ) → b < 2 → 48 + b ≡ byte_of (level_of b)
+level-byte zero h = refl
+level-byte (suc zero) h = refl
+level-byte (suc (suc b)) h = absurd (omega arith)
+
 pub bit-byte : (w i : ℕ) → 48 + bit_and (w / 2 ^ i) 1 ≡ byte_of (level_of (bit_at w i))
-bit-byte w i = ap (λ n. 48 + n) (shr_and_one w i) ∙ go (bit_at w i) (bit_at-lt w i)
-  where
-    go : (b : ℕ) → b < 2 → 48 + b ≡ byte_of (level_of b)
-    go zero h = refl
-    go (suc zero) h = refl
-    go (suc (suc b)) h = absurd (omega arith)
+bit-byte w i = ap (λ n. 48 + n) (shr_and_one w i) ∙ level-byte (bit_at w i) (bit_at-lt w i)
 
 -- the text of whole lines, joined
 lines-append : (n m : ℕ) (a b : List Level) → length a ≡ n * word_len → lines_text (n + m) (a ++ b) ≡ lines_text n a ++ lines_text m b

@@ -22,15 +22,15 @@ packed_reader-more b x =
     reader a a' c c' d d' e f g = rw (e, f, g) refl
 
 -- octets by their last two
-record LastTwo (b front : List ℕ) (octet last : ℕ) : Type 0 where
+pub record LastTwo (b front : List ℕ) (octet last : ℕ) : Type 0 where
   pub is : b ≡ front ++ octet ∷ last ∷ []
 
-last_two : (b : List ℕ) (last octet : ℕ) (more : List ℕ) → reverse b ≡ last ∷ octet ∷ more → LastTwo b (reverse more) octet last
+pub last_two : (b : List ℕ) (last octet : ℕ) (more : List ℕ) → reverse b ≡ last ∷ octet ∷ more → LastTwo b (reverse more) octet last
 last_two b last octet more e = record {
   is = sym (reverse-reverse b) ∙ ap reverse e ∙ reverse-append (last ∷ octet ∷ []) more;
 }
 
-whole-of : (b front : List ℕ) (octet last : ℕ) → LastTwo b front octet last → whole_cells b ≡ cells_of_octets front
+pub whole-of : (b front : List ℕ) (octet last : ℕ) → LastTwo b front octet last → whole_cells b ≡ cells_of_octets front
 unfolding whole_cells
 whole-of b front octet last e =
     let l = length-append front (octet ∷ last ∷ []) in

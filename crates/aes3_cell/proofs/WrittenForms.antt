@@ -15,7 +15,7 @@ use Rattle.aes3_cell.proofs.PackedCells.{first_octets-append}
 use Rattle.aes3_cell.proofs.PackedWords.{high_cells, high_cells-more, bytes-first_octets}
 
 -- a word turned round: its lowest k bits behind the bits of a
-turned : (k m n a : ℕ) → high_cells (k + m) (reverse_bits_onto k n a) ≡ high_cells m a ++ low_cells k n
+pub turned : (k m n a : ℕ) → high_cells (k + m) (reverse_bits_onto k n a) ≡ high_cells m a ++ low_cells k n
 unfolding reverse_bits_onto
 turned zero m n a = ap (λ i. high_cells i a) (let e : 0 + m ≡ m = omega arith in e) ∙ sym (append-nil (high_cells m a))
 turned (suc k) m n a =

@@ -1,7 +1,7 @@
 //! Packed cells as they are read.
 use std::marker::Model;
 
-/// Reads packed cells octet by octet.
+/// Reads packed cells octet by octet, or eight octets at once.
 ///
 /// A contract sees how many octets it has taken and the last two of them: before the end nobody can tell which octet
 /// is the last, nor how many cells of the one before it are used.
@@ -20,9 +20,10 @@ impl Model for PackedIn {
     ghost view = { λ p. record { seen = p.seen; before_last = p.before_last; last = p.last } };
 }
 
-ghost use Rattle.std.specs.Prelude.{◌≡◌, ◌<◌, ◌^◌, ◌-◌, ◌↔◌, ℕ, List, [], IsOk, IfErr};
+ghost use Rattle.std.specs.Prelude.{◌≡◌, ◌+◌, ◌<◌, ◌≤◌, ◌^◌, ◌-◌, ◌↔◌, ℕ, List, [], IsOk, IfErr, IsSome, IfSome, OnSome, IfNone};
 ghost use Rattle.aes3_cell.specs.Packed.{IsPacked, is_padded};
-ghost use Rattle.aes3_cell.specs.PackedReading.{packed_answer, packed_next, packed_end, packed_reader_of, end_answer};
+ghost use Rattle.aes3_cell.specs.PackedReading.{packed_answer, packed_next, packed_end, packed_reader_of, end_answer, behind_eight, eight_whole};
+ghost use Rattle.aes3_cell.specs.Words.{word_cells};
 
 use crate::refusal::BadPadding;
 
@@ -82,6 +83,44 @@ impl PackedIn {
         self.last = octet;
         self.seen += 1;
         whole
+    }
+
+    /// Takes eight more octets, where two or more came before, and answers the cells of those that are whole now as a
+    /// word, the first in the lowest bit: the last two before and the first six of these.
+    pub fn feed_word(&mut self, octets: &[u8; 8]) -> Option<u64>
+        requires { self.old.seen + 8 ≤ 2 ^ 40 }
+        ensures answer { IsSome result ↔ 2 ≤ self.old.seen }
+        ensures cells { IfSome result (λ word. word_cells word ≡ eight_whole self.old octets.now) }
+        ensures next { OnSome result (self.new ≡ behind_eight self.old octets.now) }
+        ensures none { IfNone result (self.new ≡ self.old) }
+    {
+        if self.seen < 2 {
+            return None;
+        }
+        let [
+            first,
+            second,
+            third,
+            fourth,
+            fifth,
+            sixth,
+            before_last,
+            last,
+        ] = *octets;
+        let whole = [
+            self.before_last,
+            self.last,
+            first,
+            second,
+            third,
+            fourth,
+            fifth,
+            sixth,
+        ];
+        self.seen += 8;
+        self.before_last = before_last;
+        self.last = last;
+        Some(u64::from_be_bytes(whole).reverse_bits())
     }
 
     /// Takes the end: answers the octet before the last and how many of its cells are used, 1 to 8, the first in the

@@ -280,3 +280,33 @@ fn all_refusals(rt: HostRuntime) {
         assert_eq!(rt; error.place(), place, "refusal {number}");
     }
 }
+
+#[test]
+fn words_of_text(rt: HostRuntime) {
+    let line = *b"1010100001001100001010100110111000011001010111010011101101111111";
+    let mut text = CellText::new();
+    assert_eq!(rt; text.feed_word(&line), Some(0xFEDC_BA98_7654_3215));
+    assert_eq!(rt; text.seen(), 64);
+    for byte in [b'\n', b'/', b'2', b'p', 0xB0] {
+        let mut other = line;
+        other[63] = byte;
+        assert!(rt; text.seen() == 64);
+        assert_eq!(rt; text.feed_word(&other), None, "{byte}");
+        assert_eq!(rt; text.seen(), 64);
+    }
+}
+
+#[test]
+fn words_of_octets(rt: HostRuntime) {
+    let octets = [0x80, 0x40, 0xE8, 0x0F, 0x00, 0xFF, 0x12, 0x01];
+    let mut packed = PackedIn::new();
+    assert_eq!(rt; packed.feed_word(&octets), None);
+    assert_eq!(rt; packed.seen(), 0);
+    assert_eq!(rt; packed.feed_byte(0x01), None);
+    assert!(rt; packed.seen() == 1);
+    assert_eq!(rt; packed.feed_byte(0x03), None);
+    assert!(rt; packed.seen() == 2);
+    assert_eq!(rt; packed.feed_word(&octets), Some(0xFF00_F017_0201_C080));
+    assert!(rt; packed.seen() == 10);
+    assert_eq!(rt; packed.feed_byte(0x00), Some(0x12));
+}

@@ -1,7 +1,7 @@
 //! Cell text as it is read.
 use std::marker::Model;
 
-/// Reads cell text byte by byte.
+/// Reads cell text byte by byte, or 64 bytes at once where all are cells.
 ///
 /// A contract sees how many bytes it has taken.
 #[derive(Drop)]
@@ -17,11 +17,14 @@ impl Model for CellText {
     ghost view = { λ t. record { seen = t.seen } };
 }
 
-ghost use Rattle.std.specs.Prelude.{◌≡◌, ◌<◌, ◌^◌, []};
+ghost use Rattle.std.specs.Prelude.{◌≡◌, ◌+◌, ◌<◌, ◌≤◌, ◌^◌, ℕ, [], map, IfSome, OnSome, IfNone};
+ghost use Rattle.aes3_cell.specs.Text.{byte_of};
+ghost use Rattle.aes3_cell.specs.Words.{word_cells};
 ghost use Rattle.aes3_cell.specs.TextReading.{text_answer, text_next, text_reader_of};
 
 use crate::level::Level;
 use crate::refusal::BadCell;
+use crate::word::word_of_text;
 
 impl CellText {
     /// A reader that has taken nothing.
@@ -58,5 +61,18 @@ impl CellText {
         };
         self.seen += 1;
         Ok(cell)
+    }
+    /// Takes 64 bytes all of which are cells, and answers them as a word, the first in the lowest bit; else it takes none
+    /// of them.
+    pub fn feed_word(&mut self, bytes: &[u8; 64]) -> Option<u64>
+        requires { self.old.seen + 64 ≤ 2 ^ 40 }
+        ensures cells { IfSome result (λ word. bytes.now ≡ map byte_of (word_cells word)) }
+        ensures owed { (word : ℕ) → word < 2 ^ 64 → bytes.now ≡ map byte_of (word_cells word) → result ≡ Some word }
+        ensures seen { OnSome result (self.new.seen ≡ self.old.seen + 64) }
+        ensures none { IfNone result (self.new ≡ self.old) }
+    {
+        let word = word_of_text(bytes)?;
+        self.seen += 64;
+        Some(word)
     }
 }

@@ -1,6 +1,7 @@
 //! Words of 64 cells, the earliest in the lowest bit, their line of text and their octets.
 
-ghost use Rattle.std.specs.Prelude.{◌≡◌, ◌+◌, ◌<◌, ◌^◌, [], ◌∷◌, ◌++◌};
+ghost use Rattle.std.specs.Prelude.{◌≡◌, ◌+◌, ◌<◌, ◌^◌, ℕ, [], ◌∷◌, ◌++◌, ◌↔◌, map, IfSome, IsTrue};
+ghost use Rattle.aes3_cell.specs.declared.level.Level.{Level};
 ghost use Rattle.std.specs.Int.{bit_at};
 ghost use Rattle.aes3_cell.specs.Words.{level_of, low_cells, word_cells};
 ghost use Rattle.aes3_cell.specs.Text.{byte_of, line_text};
@@ -51,4 +52,26 @@ pub fn octets_of_word(word: u64) -> [u8; 8]
     ensures { result ≡ octets_of (word_cells word) }
 {
     word.reverse_bits().to_be_bytes()
+}
+
+/// Whether a byte is the character of a cell.
+fn is_cell(byte: u8) -> bool
+    ensures { IsTrue result ↔ (level : Level) × (byte ≡ byte_of level) }
+{
+    byte == b'0' || byte == b'1'
+}
+
+/// The word of 64 bytes all of which are cells, the first in the lowest bit.
+pub(crate) fn word_of_text(bytes: &[u8; 64]) -> Option<u64>
+    ensures cells { IfSome result (λ word. bytes.now ≡ map byte_of (word_cells word)) }
+    ensures owed { (word : ℕ) → word < 2 ^ 64 → bytes.now ≡ map byte_of (word_cells word) → result ≡ Some word }
+{
+    let mut word = 0;
+    let mut are_cells = true;
+    for i in 0..WORD_LEN {
+        let byte = bytes[i as usize];
+        are_cells &= is_cell(byte);
+        word |= u64::from(byte & 1) << i;
+    }
+    if are_cells { Some(word) } else { None }
 }

@@ -1,5 +1,6 @@
 -- Pieces fed one behind the other.
-use Rattle.std.proofs.Common.{◌≡◌, ℕ, ◌+◌, List, [], ◌++◌, Option, Some, Err, sym, ap, ◌∙◌, subst, append_assoc, append-nil, refl}
+use Rattle.std.proofs.Common.{◌≡◌, ℕ, ◌+◌, List, [], ◌++◌, take, drop, Option, Some, Err, sym, ap, ◌∙◌, subst, append_assoc, append-nil, refl}
+use Rattle.std.proofs.Math.Seq.{take-add}
 use Rattle.aes3_cell.specs.declared.refusal.RunError.{RunError}
 use Rattle.aes3_cell.specs.declared.refusal.RunError.TheVariants.{Read, Write, TooLong}
 use Rattle.aes3_cell.specs.Ends.{GrewFront}
@@ -29,6 +30,11 @@ fed-join {r₀} {r} {r'} {f₀} {f} {f'} {t₀} {t} {t'} {a} {d} p q = record {
       (grew-join (p.grew b h) (grew-is (as-before p (b ++ a) d) (q.grew (b ++ a) (p.follows b h))));
 }
 
+-- one more front of the rest of a piece
+pub fed-front : {r₀ r r' : Reading} {f₀ f f' : List ℕ → Type 0} {t₀ t t' : Option (List ℕ)} (xs rest : List ℕ) (at n : ℕ) → rest ≡ drop at xs
+    → Fed r₀ r f₀ f t₀ t (take at xs) → Fed r r' f f' t t' (take n rest) → Fed r₀ r' f₀ f' t₀ t' (take (at + n) xs)
+fed-front xs rest at n e p q = fed-is (ap (λ z. take at xs ++ take n z) e ∙ sym (take-add at n xs)) (fed-join p q)
+
 -- a piece that stops behind one that is fed, and what stands behind it
 stopped-join : {r₀ r : Reading} {f₀ f : List ℕ → Type 0} {t₀ t t' : Option (List ℕ)} {a d : List ℕ} (rest : List ℕ) {e : RunError}
     → Fed r₀ r f₀ f t₀ t a → Stopped r f t t' d e → Stopped r₀ f₀ t₀ t' (a ++ (d ++ rest)) e
@@ -48,6 +54,9 @@ front-joined {r₀} {a = a} d rest p q b h =
     front-is (sym (behind-clean r₀ b a (d ++ rest) (p.clean b h)))
     (front-join (p.grew b h) (front-is (sym (behind-join r₀ (b ++ a) d rest))
     (front-more (front-is (as-before p (b ++ a) d) (q (b ++ a) (p.follows b h))) _)))
+
+pub front-longer : (r : Reading) (b d rest xs : List ℕ) {t t' : Option (List ℕ)} → d ++ rest ≡ xs → GrewFront t t' (out_behind r b d) → GrewFront t t' (out_behind r b xs)
+front-longer r b d rest xs e g = front-is (sym (behind-join r b d rest) ∙ ap (out_behind r b) e) (front-more g _)
 
 pub ran-join : {r₀ r : Reading} (r' : Reading) {f₀ f : List ℕ → Type 0} (f' : List ℕ → Type 0) {t₀ t : Option (List ℕ)} (t' : Option (List ℕ)) {k₀ k : ℕ} (k' : ℕ) {a : List ℕ} (d rest xs : List ℕ) (e : RunError)
     → Fed r₀ r f₀ f t₀ t a → k ≡ k₀ → a ++ (d ++ rest) ≡ xs

@@ -5,6 +5,7 @@ pub mod EncodingLemmas
 pub mod Told
 pub mod EncodeRuns
 pub mod Items
+pub mod Handing
 pub mod TextLemmas
 pub mod TextRuns
 pub mod Reports
@@ -16,3 +17,4 @@ pub mod BlockRuns
 pub mod RewrittenBlocks
 pub mod PackedLemmas
 pub mod PackedRuns
+pub mod Fronts

@@ -1,5 +1,5 @@
 -- Packed cells taken octet by octet.
-use Rattle.std.proofs.Common.{◌≡◌, ℕ, ◌+◌, ◌-◌, ◌*◌, ◌<◌, ◌≤◌, List, [], ◌∷◌, ◌++◌, cond, Option, Some, None, Result, Ok, Err, IfOk, OnErr, length, take, drop, refl, sym, ap, ap₂, ◌∙◌, subst, arith, append-nil, append_assoc, length-append}
+use Rattle.std.proofs.Common.{◌≡◌, ℕ, ◌+◌, ◌-◌, ◌*◌, ◌<◌, ◌≤◌, List, [], ◌∷◌, ◌++◌, cond, Option, Some, None, Result, Ok, Err, IfOk, OnErr, length, take, drop, refl, sym, ap, ap₂, ◌∙◌, subst, arith, append-nil, length-append}
 use Rattle.std.proofs.lemmas.List.{take_more, length-take-le, take-append-drop, take-take}
 use Rattle.std.specs.Option.{unwrap_or}
 use Rattle.std.specs.Int.{bit_at}
@@ -13,14 +13,13 @@ use Rattle.aes3_cell.specs.Ends.{Grew, GrewFront}
 use Rattle.aes3_cell.specs.Words.{level_of}
 use Rattle.aes3_cell.specs.Packed.{octet_cells, last_place, cells_of_packed, whole_cells}
 use Rattle.aes3_cell.specs.PackedReading.{PackedReader, packed_reader_of, packed_answer, packed_next, packed_end, answer_cells, end_cells}
-use Rattle.aes3_cell.proofs.Growing.{grew-none, grew-is, grew-join, front-is, front-join, front-more}
+use Rattle.aes3_cell.proofs.Growing.{grew-none, grew-is, grew-join, front-is, front-join}
 use Rattle.aes3_cell.proofs.Octets.{length-octet_cells, octet_cells-at}
 use Rattle.aes3_cell.proofs.PackedCells.{length-cells_of_octets}
 use Rattle.aes3_cell.proofs.PackedReads.{packed_reader-more, whole_cells-more, end-ok, end-fault, end-used, cells-end}
 use Rattle.aes3_engine.specs.Converting.{fault_behind, out_behind}
 use Rattle.aes3_engine.specs.Running.{Fed}
 use Rattle.aes3_engine.specs.Taking.{Writing, behind}
-use Rattle.aes3_engine.proofs.Items.{items-join}
 use Rattle.aes3_engine.specs.Forms.{octet_front, packed_reading, PackedTaken, PackedEnded, EndCellsRan}
 
 -- cell by cell
@@ -43,38 +42,12 @@ unfolding octet_front
 length-front n octet h = length-take-le n (octet_cells octet) (let k = length-octet_cells octet in omega arith)
 
 -- the cells so far, with one more, are a front of all
-more-front : (octet i n : ℕ) → i ≤ n → n ≤ 8 → (d : List Level) × (octet_front n octet ≡ octet_front i octet ++ d)
+pub more-front : (octet i n : ℕ) → i ≤ n → n ≤ 8 → (d : List Level) × (octet_front n octet ≡ octet_front i octet ++ d)
 unfolding octet_front
 more-front octet i n h k = (
   drop i (take n (octet_cells octet)),
   sym (take-append-drop i (take n (octet_cells octet))) ∙ ap (λ v. v ++ drop i (take n (octet_cells octet))) (take-take i n (octet_cells octet) h),
 )
-
--- cells handed on one by one
-one-behind : (w₀ w : Writing Level) (octet i : ℕ) (l : Level) → octet_front (i + 1) octet ≡ octet_front i octet ++ l ∷ [] → w ≡ w₀ → (c : List Level)
-    → behind w₀ c (octet_front (i + 1) octet) ≡ behind w₀ c (octet_front i octet) ++ w.adds (c ++ octet_front i octet) l
-one-behind w₀ w octet i l e s c =
-    ap (behind w₀ c) e ∙ items-join w₀ c (octet_front i octet) (l ∷ [])
-    ∙ ap (λ v. behind w₀ c (octet_front i octet) ++ v) (append-nil (w₀.adds (c ++ octet_front i octet) l) ∙ ap (λ (v : Writing Level). v.adds (c ++ octet_front i octet) l) (sym s))
-
-pub one-more : (w₀ w : Writing Level) (f₀ f f' : List Level → Type 0) (octet i : ℕ) (l : Level) → octet_front (i + 1) octet ≡ octet_front i octet ++ l ∷ []
-    → ((c : List Level) → f₀ c → f (c ++ octet_front i octet)) → ((c : List Level) → f c → f' (c ++ l ∷ [])) → (c : List Level) → f₀ c → f' (c ++ octet_front (i + 1) octet)
-one-more w₀ w f₀ f f' octet i l e a b c h =
-    subst f' (append_assoc c (octet_front i octet) (l ∷ []) ∙ ap (λ v. c ++ v) (sym e)) (b (c ++ octet_front i octet) (a c h))
-
-pub one-grew : (w₀ w : Writing Level) (f₀ f : List Level → Type 0) (octet i : ℕ) (l : Level) (t t' t'' : Option (List ℕ)) → octet_front (i + 1) octet ≡ octet_front i octet ++ l ∷ [] → w ≡ w₀
-    → ((c : List Level) → f₀ c → f (c ++ octet_front i octet)) → ((c : List Level) → f₀ c → Grew t t' (behind w₀ c (octet_front i octet)))
-    → ((c : List Level) → f c → Grew t' t'' (w.adds c l)) → (c : List Level) → f₀ c → Grew t t'' (behind w₀ c (octet_front (i + 1) octet))
-one-grew w₀ w f₀ f octet i l t t' t'' e s a g b c h =
-    grew-is (sym (one-behind w₀ w octet i l e s c)) (grew-join (g c h) (b (c ++ octet_front i octet) (a c h)))
-
-pub one-front : (w₀ w : Writing Level) (f₀ f : List Level → Type 0) (octet i n : ℕ) (l : Level) (t t' t'' : Option (List ℕ)) → octet_front (i + 1) octet ≡ octet_front i octet ++ l ∷ [] → w ≡ w₀
-    → i + 1 ≤ n → n ≤ 8 → ((c : List Level) → f₀ c → f (c ++ octet_front i octet)) → ((c : List Level) → f₀ c → Grew t t' (behind w₀ c (octet_front i octet)))
-    → ((c : List Level) → f c → GrewFront t' t'' (w.adds c l)) → (c : List Level) → f₀ c → GrewFront t t'' (behind w₀ c (octet_front n octet))
-one-front w₀ w f₀ f octet i n l t t' t'' e s j k a g b c h =
-    let m = more-front octet (i + 1) n j k in
-    front-is (sym (ap (behind w₀ c) m.1 ∙ items-join w₀ c (octet_front (i + 1) octet) m.0))
-    (front-more (front-is (sym (one-behind w₀ w octet i l e s c)) (front-join (g c h) (b (c ++ octet_front i octet) (a c h)))) (behind w₀ (c ++ octet_front (i + 1) octet) m.0))
 
 -- one octet is no fault, and writes what the cells write that it makes whole
 one-octet : (w : Writing Level) (b : List ℕ) (x : ℕ) → out_behind (packed_reading w) b (x ∷ []) ≡ behind w (whole_cells b) (answer_cells (packed_answer (packed_reader_of b)))

@@ -18,12 +18,12 @@ use Rattle.aes3_engine.proofs.Outputs.{out-is}
 use Rattle.aes3_engine.proofs.Items.{before-join}
 
 -- no octet is a fault before the end
-clean-behind : (w : Writing Level) (p d : List ℕ) → fault_behind (packed_reading w) p d ≡ None
+pub clean-behind : (w : Writing Level) (p d : List ℕ) → fault_behind (packed_reading w) p d ≡ None
 unfolding packed_reading
 clean-behind w p [] = refl
 clean-behind w p (x ∷ d) = clean-behind w (p ++ x ∷ []) d
 
-clean : (w : Writing Level) (b : List ℕ) → first_fault (packed_reading w) b ≡ None
+pub clean : (w : Writing Level) (b : List ℕ) → first_fault (packed_reading w) b ≡ None
 unfolding first_fault
 clean w b = clean-behind w [] b
 
@@ -76,7 +76,7 @@ never : (w : Writing Level) (b : List ℕ) (x : ℕ) (e : RunError) → (packed_
 unfolding packed_reading
 never w b x e h = some-none (sym h)
 
-out-packed : (w : Writing Level) (b : List ℕ) → out (packed_reading w) b ≡ before_end w (whole_cells b)
+pub out-packed : (w : Writing Level) (b : List ℕ) → out (packed_reading w) b ≡ before_end w (whole_cells b)
 out-packed w b =
     out-is (packed_reading w) (λ b. before_end w (whole_cells b)) (nothing-out w)
     (λ b x h n. ap (before_end w) (whole_cells-more b x) ∙ before-join w (whole_cells b) (answer_cells (packed_answer (packed_reader_of b)))

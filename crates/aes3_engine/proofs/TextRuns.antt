@@ -63,6 +63,13 @@ bad-behind w p (x ∷ d) f h = go (is_good_byte x) refl (bad-behind w (p ++ x �
         some-is : {x y : RunError} → Some x ≡ Some y → x ≡ y
         some-is q = cc
 
+pub text-clean : (w : Writing Level) (p d : List ℕ) → IsCellText d → fault_behind (text_reading w) p d ≡ None
+text-clean w p d g = go (fault_behind (text_reading w) p d) refl
+  where
+    go : (o : Option RunError) → fault_behind (text_reading w) p d ≡ o → o ≡ None
+    go None e = refl
+    go (Some f) e = absurd (let b = (bad-behind w p d f e).1 in let i = g.is in omega arith)
+
 clean-text : (w : Writing Level) (b : List ℕ) → first_fault (text_reading w) b ≡ None → IsCellText b
 unfolding first_fault
 clean-text w b h = clean-behind w [] b h
@@ -87,7 +94,7 @@ adds-text : (w : Writing Level) (b : List ℕ) (x : ℕ) → (text_reading w).ad
 unfolding text_reading
 adds-text w b x = refl
 
-out-text : (w : Writing Level) (b : List ℕ) → out (text_reading w) b ≡ before_end w (cells_of_text b)
+pub out-text : (w : Writing Level) (b : List ℕ) → out (text_reading w) b ≡ before_end w (cells_of_text b)
 out-text w b =
     out-is (text_reading w) (λ b. before_end w (cells_of_text b)) (nothing-out w)
     (λ b x h n. more b x (is_good_byte x) refl (clean-text w b h) n)

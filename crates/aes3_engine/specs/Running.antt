@@ -1,5 +1,5 @@
 -- What a run answers, and what it has written then.
-use Rattle.std.specs.Prelude.{ℕ, List, [], ◌++◌, Option, Some, None, Result, Ok, Err, ◌≡◌, ◌≤◌, ◌+◌, ◌⊎◌, Bool, IsTrue, length, take}
+use Rattle.std.specs.Prelude.{ℕ, List, [], ◌++◌, Option, Some, None, Result, Ok, Err, ◌≡◌, ◌<◌, ◌≤◌, ◌+◌, ◌⊎◌, Bool, IsTrue, length, take}
 use Rattle.aes3_cell.specs.declared.refusal.RunError.{RunError}
 use Rattle.aes3_cell.specs.declared.refusal.RunError.TheVariants.{Read, Write, TooLong}
 use Rattle.aes3_cell.specs.Ends.{Grew, GrewFront}
@@ -38,6 +38,11 @@ PieceRan r₀ r f₀ f piece sink (Err Write) = Failed sink × ((b : List ℕ) �
 PieceRan r₀ r f₀ f piece sink (Err Read) = ⊥
 PieceRan r₀ r f₀ f piece sink (Err TooLong) = ⊥
 PieceRan r₀ r f₀ f piece sink (Err e) = Stopped r₀ f₀ sink.old sink.new piece e × Quiet sink
+
+-- what taking a front of a piece answers: how many of its bytes these were
+abbrev pub FrontRan : Reading → Reading → (List ℕ → Type 0) → (List ℕ → Type 0) → List ℕ → Change → Result ℕ RunError → Type 0
+FrontRan r₀ r f₀ f piece sink (Ok n) = (0 < n) × (n ≤ length piece) × Fed r₀ r f₀ f sink.old sink.new (take n piece) × Quiet sink
+FrontRan r₀ r f₀ f piece sink (Err e) = PieceRan r₀ r f₀ f piece sink (Err e)
 
 -- what the end answers; where it is no fault, z holds of the bytes
 abbrev pub EndRan : Reading → (List ℕ → Type 0) → (List ℕ → Type 0) → Change → Result (Unit {0}) RunError → Type 0

@@ -8,8 +8,8 @@ use crate::taker::Taker;
 use crate::text_input::drive_text;
 use aes3_cell::{Form, RunError, Sink, Source};
 
-/// Hands the cells of an input to the taker, one by one as they come, and its end; answers how many bytes and cells the
-/// input has.
+/// Hands the cells of an input to the taker as they come, one by one or in words, and its end; answers how many bytes
+/// and cells the input has.
 ///
 /// # Errors
 /// `BadCell` where a byte of cell text is neither a cell nor a separator, `BadPadding` where packed cells end wrongly,

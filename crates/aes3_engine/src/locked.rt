@@ -8,7 +8,7 @@ ghost use Rattle.aes3_lock.specs.Reports.{decided, reports};
 ghost use Rattle.aes3_engine.specs.Reporting.{reporting};
 
 use crate::reporter::Reporter;
-use crate::taker::Taker;
+use crate::taker::{CellTaker, Taker, each_cell};
 use aes3_cell::{Fault, Level, Sink};
 use aes3_lock::Lock;
 
@@ -58,12 +58,10 @@ impl<R: Reporter> Locked<R> {
     }
 }
 
-impl<R: Reporter> Taker for Locked<R> {
+impl<R: Reporter> CellTaker for Locked<R> {
     ghost follows = { λ k c. Follows k.lock c × R.follows k.reporter (decided c) };
 
     ghost writes = { λ k. reporting (R.writes k.reporter) };
-
-    ghost finished = { λ k c. R.finished k.reporter (reports c) };
 
     fn cell<T: Sink>(&mut self, sink: &mut T, level: Level) -> Result<(), Fault> {
         if self.lock.take(level) {
@@ -71,6 +69,14 @@ impl<R: Reporter> Taker for Locked<R> {
         } else {
             self.report_on(sink, level)
         }
+    }
+}
+
+impl<R: Reporter> Taker for Locked<R> {
+    ghost finished = { λ k c. R.finished k.reporter (reports c) };
+
+    fn word<T: Sink>(&mut self, sink: &mut T, word: u64) -> Result<(), Fault> {
+        each_cell(self, sink, word)
     }
 
     fn finish<T: Sink>(&mut self, sink: &mut T) -> Result<(), Fault> {

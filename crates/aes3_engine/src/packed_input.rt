@@ -1,12 +1,13 @@
 //! Packed cells as an input.
 
-ghost use Rattle.std.specs.Prelude.{◌≡◌, ℕ, ◌+◌, ◌<◌, ◌≤◌, ◌^◌, ◌++◌, List, [], ◌∷◌, length};
+ghost use Rattle.std.specs.Prelude.{◌≡◌, ℕ, ◌+◌, ◌<◌, ◌≤◌, ◌^◌, ◌++◌, List, [], ◌∷◌, length, take, IfSome, OnSome, IfNone};
 ghost use Rattle.aes3_cell.specs.declared.form.Form.{Form};
 ghost use Rattle.aes3_cell.specs.declared.level.Level.{Level};
-ghost use Rattle.aes3_cell.specs.PackedReading.{packed_reader_of};
+ghost use Rattle.aes3_cell.specs.PackedReading.{behind_eight, eight_whole, packed_reader_of};
+ghost use Rattle.aes3_cell.specs.Words.{word_cells};
 ghost use Rattle.aes3_engine.specs.Driving.{Drive};
 ghost use Rattle.aes3_engine.specs.Forms.{CellsRan, EndCellsRan, PackedEnded, PackedTaken, octet_front, packed_reading};
-ghost use Rattle.aes3_engine.specs.Running.{PieceRan};
+ghost use Rattle.aes3_engine.specs.Running.{FrontRan, PieceRan};
 
 use crate::conversion::{Input, convert};
 use crate::taker::Taker;
@@ -105,6 +106,50 @@ fn take_octet<T: Sink, K: Taker>(
     }
 }
 
+/// Takes the eight octets that a piece begins with, where two or more came before; else none.
+fn feed_front(packed: &mut PackedIn, piece: &[u8]) -> Option<u64>
+    requires { packed.old.seen + length piece.now ≤ 2 ^ 40 }
+    ensures bound { OnSome result (8 ≤ length piece.now) }
+    ensures some { OnSome result (2 ≤ packed.old.seen) }
+    ensures cells { IfSome result (λ word. word_cells word ≡ eight_whole packed.old (take 8 piece.now)) }
+    ensures next { OnSome result (packed.new ≡ behind_eight packed.old (take 8 piece.now)) }
+    ensures none { IfNone result (packed.new ≡ packed.old) }
+{
+    match piece.first_chunk() {
+        Some(octets) => packed.feed_word(octets),
+        None => None,
+    }
+}
+
+/// Takes what a piece begins with, and answers how many octets that is: eight where they make 64 cells whole, else one.
+fn take_front<T: Sink, K: Taker>(
+    input: &mut PackedInput,
+    taker: &mut K,
+    sink: &mut T,
+    piece: &[u8],
+) -> Result<usize, RunError>
+    requires some { 0 < length piece.now }
+    requires room { T.failed sink.old + 1 < 2 ^ 64 }
+    requires following { (b : List ℕ) × (length b + length piece.now ≤ 2 ^ 40) × PackedTaken input.old.packed input.old.cells (K.follows taker.old) b }
+    ensures { FrontRan (packed_reading (K.writes taker.old)) (packed_reading (K.writes taker.new))
+        (PackedTaken input.old.packed input.old.cells (K.follows taker.old)) (PackedTaken input.new.packed input.new.cells (K.follows taker.new)) piece.now
+        (record { old = T.taken sink.old; new = T.taken sink.new; failed_old = T.failed sink.old; failed_new = T.failed sink.new }) result }
+{
+    match feed_front(&mut input.packed, piece) {
+        Some(word) => match taker.word(sink, word) {
+            Ok(()) => {
+                input.cells += 64;
+                Ok(8)
+            }
+            Err(_) => Err(RunError::Write),
+        },
+        None => match take_octet(input, taker, sink, piece[0]) {
+            Ok(()) => Ok(1),
+            Err(error) => Err(error),
+        },
+    }
+}
+
 /// `drive` over packed cells.
 pub(crate) fn drive_packed<S: Source, T: Sink, K: Taker>(
     source: &mut S,
@@ -135,9 +180,10 @@ impl<K: Taker> Input<K> for PackedInput {
     ghost finished = { λ input taker. PackedEnded input.cells (K.finished taker) };
 
     fn feed<T: Sink>(&mut self, taker: &mut K, sink: &mut T, piece: &[u8]) -> Result<(), RunError> {
-        for octet in piece {
-            match take_octet(self, taker, sink, *octet) {
-                Ok(()) => {}
+        let mut at = 0;
+        while at < piece.len() {
+            match take_front(self, taker, sink, &piece[at..]) {
+                Ok(taken) => at += taken,
                 Err(error) => return Err(error),
             }
         }

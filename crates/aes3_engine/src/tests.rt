@@ -203,6 +203,41 @@ fn pieces_change_no_output(rt: HostRuntime) -> Result<(), Fail> {
     Ok(())
 }
 
+/// The first cells of a text, in lines of so many.
+fn in_lines(alloc: Global, text: &[u8], cells: usize, len: usize) -> Result<Vec<u8>, AllocError>
+    requires { 0 < len }
+{
+    let mut lines = Vec::new(alloc);
+    for (i, cell) in text
+        .iter()
+        .filter(|byte| **byte != b'\n')
+        .take(cells)
+        .enumerate()
+    {
+        lines.push(*cell)?;
+        if i % len == len - 1 {
+            lines.push(b'\n')?;
+        }
+    }
+    Ok(lines)
+}
+
+#[test]
+fn lines_of_any_length_change_no_output(rt: HostRuntime) -> Result<(), Fail> {
+    let one = text_of(rt.alloc(), &[384])?;
+    let more = text_of(rt.alloc(), &[384, 20])?;
+    for (cells, len) in [(25_856, 64), (25_793, 64), (25_856, 63), (25_793, 30_000)] {
+        let text = in_lines(rt.alloc(), &more, cells, len)?;
+        let mut source = MemorySource::new(&text, 4_096);
+        let mut sink = MemorySink::new(rt.alloc());
+        let answer = normalise(&mut source, &mut sink, MANY, Form::Text, Form::Text);
+        let counted = matches!(&answer, Ok(counts) if counts.cells == cells as u64);
+        assert!(rt; counted, "{cells} in lines of {len}");
+        assert!(rt; sink.bytes() == one.as_slice(), "{cells} in lines of {len}");
+    }
+    Ok(())
+}
+
 #[test]
 fn sinks_that_take_few_bytes_change_no_output(rt: HostRuntime) -> Result<(), Fail> {
     let early = text_of(rt.alloc(), &[200, 384])?;

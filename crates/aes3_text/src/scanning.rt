@@ -10,7 +10,7 @@ ghost use Rattle.aes3_text.specs.Runs.{Scanned, mark_lines, marking, scan_counts
 
 use crate::mark::line_of_mark;
 use aes3_cell::{Counts, Fault, Form, Level, RunError, Sink, Source};
-use aes3_engine::{Taker, drive};
+use aes3_engine::{CellTaker, Taker, drive, each_cell};
 use aes3_lock::Scan;
 
 /// Writes the line of each preamble, and counts them.
@@ -32,12 +32,10 @@ impl MarkLines {
     }
 }
 
-impl Taker for MarkLines {
+impl CellTaker for MarkLines {
     ghost follows = { λ k. Scanned k.scan k.marks };
 
     ghost writes = { λ _. marking };
-
-    ghost finished = { λ k. Scanned k.scan k.marks };
 
     fn cell<T: Sink>(&mut self, sink: &mut T, level: Level) -> Result<(), Fault> {
         match self.scan.push(level) {
@@ -47,6 +45,14 @@ impl Taker for MarkLines {
             }
             None => Ok(()),
         }
+    }
+}
+
+impl Taker for MarkLines {
+    ghost finished = { λ k. Scanned k.scan k.marks };
+
+    fn word<T: Sink>(&mut self, sink: &mut T, word: u64) -> Result<(), Fault> {
+        each_cell(self, sink, word)
     }
 
     fn finish<T: Sink>(&mut self, _sink: &mut T) -> Result<(), Fault> {

@@ -24,14 +24,14 @@ overflow_add-input g c =
 
 pub returns-in-Ok-None : goal.returns-in-Ok-None
 returns-in-Ok-None g c = (
-  byte-separator (g.K.Taker.writes c.args.taker.now) (g.K.Taker.follows c.args.taker.now) c.args.input.now.text c.feed_byte.new.self c.args.input.now.cells c.args.byte
+  byte-separator (g.K.CellTaker.writes c.args.taker.now) (g.K.CellTaker.follows c.args.taker.now) c.args.input.now.text c.feed_byte.new.self c.args.input.now.cells c.args.byte
       (g.T.Sink.taken c.args.sink.now) (sym (c.in-Ok-None.is ∙ ap (λ o. Ok o) c.in-Ok-None.field-0-is) ∙ c.feed_byte.ensures.answer) c.feed_byte.ensures.next,
   refl,
 )
 
 pub returns-in-Ok : goal.returns-in-Ok
 returns-in-Ok g c = (
-  byte-cell (g.K.Taker.writes c.args.taker.now) (g.K.Taker.writes c.cell.new.self) (g.K.Taker.follows c.args.taker.now) (g.K.Taker.follows c.cell.new.self)
+  byte-cell (g.K.CellTaker.writes c.args.taker.now) (g.K.CellTaker.writes c.cell.new.self) (g.K.CellTaker.follows c.args.taker.now) (g.K.CellTaker.follows c.cell.new.self)
       c.args.input.now.text c.feed_byte.new.self c.args.input.now.cells c.args.byte c.in-Ok-Some.level (g.T.Sink.taken c.args.sink.now) (g.T.Sink.taken c.cell.new.sink)
       (sym (c.in-Ok-Some.is ∙ ap (λ o. Ok o) c.in-Ok-Some.field-0-is) ∙ c.feed_byte.ensures.answer) c.feed_byte.ensures.next
       c.in-Ok.ensures.same (rw (← c.in-Ok-Some.level-is) c.in-Ok.ensures.next) (rw (← c.in-Ok-Some.level-is) c.in-Ok.ensures.grew),
@@ -41,14 +41,14 @@ returns-in-Ok g c = (
 pub returns-in-Err-cell : goal.returns-in-Err-cell
 returns-in-Err-cell g c = (
   c.in-Err-cell.ensures.err_count,
-  byte-front (g.K.Taker.writes c.args.taker.now) (g.K.Taker.follows c.args.taker.now) c.args.input.now.text c.args.input.now.cells c.args.byte c.in-Ok-Some.level
+  byte-front (g.K.CellTaker.writes c.args.taker.now) (g.K.CellTaker.follows c.args.taker.now) c.args.input.now.text c.args.input.now.cells c.args.byte c.in-Ok-Some.level
       (g.T.Sink.taken c.args.sink.now) (g.T.Sink.taken c.cell.new.sink)
       (sym (c.in-Ok-Some.is ∙ ap (λ o. Ok o) c.in-Ok-Some.field-0-is) ∙ c.feed_byte.ensures.answer) c.in-Err-cell.ensures.err_grew,
 )
 
 pub returns-in-Err : goal.returns-in-Err
 returns-in-Err g c = (
-  byte-bad (g.K.Taker.writes c.args.taker.now) (g.K.Taker.follows c.args.taker.now) c.args.input.now.text c.args.input.now.cells c.args.byte c.in-Err.fault
+  byte-bad (g.K.CellTaker.writes c.args.taker.now) (g.K.CellTaker.follows c.args.taker.now) c.args.input.now.text c.args.input.now.cells c.args.byte c.in-Err.fault
       (g.T.Sink.taken c.args.sink.now) (sym c.in-Err.is ∙ c.feed_byte.ensures.answer),
   refl,
 )

@@ -1,12 +1,16 @@
-use Rattle.std.proofs.Common.{◌≡◌, take}
+use Rattle.std.proofs.Common.{◌≡◌, ◌-◌, ◌≤◌, length, take}
 use Rattle.aes3_engine.specs.Running.{Fed}
 use Rattle.aes3_engine.specs.Forms.{text_reading, TextTaken}
 use Rattle.aes3_engine.proofs.text_input.TextInputInput.feed.Given as goal
 
-abbrev pub invariant-loop-byte : goal.invariant-loop-byte
-invariant-loop-byte g l = record {
-  fed : Fed (text_reading (g.K.Taker.writes l.fn.taker)) (text_reading (g.K.Taker.writes l.taker))
-      (TextTaken l.fn.self.text l.fn.self.cells (g.K.Taker.follows l.fn.taker)) (TextTaken l.self.text l.self.cells (g.K.Taker.follows l.taker))
-      (g.T.Sink.taken l.fn.sink) (g.T.Sink.taken l.sink) (take l.byte-index l.piece);
+abbrev pub invariant-loop-at : goal.invariant-loop-at
+invariant-loop-at g l = record {
+  within : l.at ≤ length l.piece;
+  fed : Fed (text_reading (g.K.CellTaker.writes l.fn.taker)) (text_reading (g.K.CellTaker.writes l.taker))
+      (TextTaken l.fn.self.text l.fn.self.cells (g.K.CellTaker.follows l.fn.taker)) (TextTaken l.self.text l.self.cells (g.K.CellTaker.follows l.taker))
+      (g.T.Sink.taken l.fn.sink) (g.T.Sink.taken l.sink) (take l.at l.piece);
   quiet : g.T.Sink.failed l.sink ≡ g.T.Sink.failed l.fn.sink;
 }
+
+abbrev pub decreases-loop-at : goal.decreases-loop-at
+decreases-loop-at g l = length l.piece - l.at

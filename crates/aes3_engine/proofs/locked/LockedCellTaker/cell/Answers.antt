@@ -1,7 +1,7 @@
 use Rattle.std.proofs.Common.{sym, refl}
 use Rattle.aes3_cell.proofs.Growing.{grew-none, grew-is}
 use Rattle.aes3_engine.proofs.Reports.{adds-none}
-use Rattle.aes3_engine.proofs.locked.LockedTaker.cell.Goals as goal
+use Rattle.aes3_engine.proofs.locked.LockedCellTaker.cell.Goals as goal
 
 pub returns-then-take-clause-grew : goal.returns-then-take-clause-grew
 returns-then-take-clause-grew g c = λ d h.

@@ -1,7 +1,7 @@
 use Rattle.std.proofs.Common.{arith, refl}
 use Rattle.aes3_cell.proofs.Growing.{grew-none, grew-is}
 use Rattle.aes3_text.proofs.Scans.{few-marks, adds-none, mark-grew, mark-front}
-use Rattle.aes3_text.proofs.scanning.MarkLinesTaker.cell.Goals as goal
+use Rattle.aes3_text.proofs.scanning.MarkLinesCellTaker.cell.Goals as goal
 
 pub overflow_add-self : goal.overflow_add-self
 overflow_add-self g c = let h = c.requires.following in let l = h.1 in let e = h.2.count_is in let n = few-marks h.0 in omega arith

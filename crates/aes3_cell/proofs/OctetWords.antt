@@ -1,0 +1,95 @@
+-- Words of cells in octets.
+use Rattle.std.proofs.Common.{◌≡◌, ℕ, zero, suc, ◌+◌, ◌<◌, ◌≤◌, List, [], ◌∷◌, ◌++◌, length, take, get_or, reverse, refl, sym, ap, ap₂, ◌∙◌, arith, append_assoc, length-append, w64}
+use Rattle.std.specs.Int.{reverse_bits_onto, from_be_bytes}
+use Rattle.std.proofs.lemmas.List.{reverse-append, reverse-reverse, length-reverse}
+use Rattle.std.proofs.lemmas.Nat.{be_bytes_8}
+use Rattle.aes3_cell.specs.Words.{low_cells, word_len, word_cells}
+use Rattle.aes3_cell.specs.Packed.{cells_of_octets, whole_cells}
+use Rattle.aes3_cell.specs.PackedReading.{PackedReader, packed_reader_of, behind_eight, eight_whole}
+use Rattle.aes3_cell.proofs.PackedCells.{cells_of_octets-append}
+use Rattle.aes3_cell.proofs.PackedReads.{LastTwo, last_two, whole-of}
+use Rattle.aes3_cell.proofs.PackedWords.{high_cells, bytes-cells}
+use Rattle.aes3_cell.proofs.WrittenForms.{turned}
+
+-- the octets that make a word are octets
+take-fit : (n : ℕ) (xs : List ℕ) → ((i : ℕ) → get_or xs i 0 < 256) → (i : ℕ) → get_or (take n xs) i 0 < 256
+take-fit zero xs h i = omega arith
+take-fit (suc n) [] h i = h i
+take-fit (suc n) (x ∷ xs) h zero = h zero
+take-fit (suc n) (x ∷ xs) h (suc i) = take-fit n xs (λ j. h (suc j)) i
+
+octets-fit : (x y n : ℕ) (xs : List ℕ) → x < 256 → y < 256 → ((i : ℕ) → get_or xs i 0 < 256) → (i : ℕ) → get_or (x ∷ y ∷ take n xs) i 0 < 256
+octets-fit x y n xs h k f zero = h
+octets-fit x y n xs h k f (suc zero) = k
+octets-fit x y n xs h k f (suc (suc i)) = take-fit n xs f i
+
+-- the cells of a word turned round
+turned-cells : (n : ℕ) → low_cells 64 (reverse_bits_onto 64 n 0) ≡ high_cells 64 n
+turned-cells n =
+    let w = reverse_bits_onto 64 n 0 in
+    sym (reverse-reverse (low_cells 64 w)) ∙ ap reverse (turned 64 0 n 0)
+
+octets-word-cells : (octets : List ℕ) (n w : ℕ) → length octets ≡ 8 → ((i : ℕ) → get_or octets i 0 < 256) → n ≡ from_be_bytes w64 octets → w ≡ reverse_bits_onto 64 n 0
+    → word_cells w ≡ cells_of_octets octets
+unfolding word_cells word_len
+octets-word-cells octets n w l b e t =
+    ap (low_cells 64) t ∙ turned-cells n ∙ sym (bytes-cells 8 n) ∙ ap cells_of_octets (be_bytes_8 octets n l b e)
+
+pub eight-word : (x y : ℕ) (octets : List ℕ) (n w : ℕ) → length octets ≡ 8 → x < 256 → y < 256 → ((i : ℕ) → get_or octets i 0 < 256)
+    → n ≡ from_be_bytes w64 (x ∷ y ∷ get_or octets 0 0 ∷ get_or octets 1 0 ∷ get_or octets 2 0 ∷ get_or octets 3 0 ∷ get_or octets 4 0 ∷ get_or octets 5 0 ∷ [])
+    → w ≡ reverse_bits_onto 64 n 0 → word_cells w ≡ cells_of_octets (x ∷ y ∷ take 6 octets)
+eight-word x y (o ∷ p ∷ q ∷ r ∷ s ∷ t ∷ u ∷ v ∷ []) n w l h k f e g =
+    octets-word-cells (x ∷ y ∷ o ∷ p ∷ q ∷ r ∷ s ∷ t ∷ []) n w refl (octets-fit x y 6 (o ∷ p ∷ q ∷ r ∷ s ∷ t ∷ u ∷ v ∷ []) h k f) e g
+eight-word x y _ n w l h k f e g = absurd (omega arith)
+
+-- the reader behind eight more octets
+reader-behind : (b octets : List ℕ) → length octets ≡ 8 → behind_eight (packed_reader_of b) octets ≡ packed_reader_of (b ++ octets)
+unfolding packed_reader_of
+reader-behind b octets h =
+    let l = length-append b octets in
+    let n : length b + 8 ≡ length (b ++ octets) = omega arith in
+    let r = reverse-append b octets in
+    let two = ends octets (reverse b) h in
+    reader _ _ _ _ _ _ n (two.0 ∙ ap (λ v. get_or v 1 0) (sym r)) (two.1 ∙ ap (λ v. get_or v 0 0) (sym r))
+  where
+    reader : (a a' c c' d d' : ℕ) → a ≡ a' → c ≡ c' → d ≡ d'
+        → ◌≡◌ {A = PackedReader} (record { seen = a; before_last = c; last = d }) (record { seen = a'; before_last = c'; last = d' })
+    reader a a' c c' d d' e f g = rw (e, f, g) refl
+
+    ends : (octets back : List ℕ) → length octets ≡ 8 → (get_or octets 6 0 ≡ get_or (reverse octets ++ back) 1 0) × (get_or octets 7 0 ≡ get_or (reverse octets ++ back) 0 0)
+    ends (o ∷ p ∷ q ∷ r ∷ s ∷ t ∷ u ∷ v ∷ []) back h = (refl, refl)
+    ends _ back h = absurd (omega arith)
+
+-- the cells that they make whole
+whole-behind : (b octets : List ℕ) → length octets ≡ 8 → 2 ≤ length b → whole_cells (b ++ octets) ≡ whole_cells b ++ eight_whole (packed_reader_of b) octets
+unfolding packed_reader_of
+whole-behind b octets h some = go (reverse b) refl
+  where
+    back : length (reverse b) ≡ length b
+    back = length-reverse b
+
+    last-two : (octets : List ℕ) → length octets ≡ 8 → LastTwo (b ++ octets) (b ++ take 6 octets) (get_or octets 6 0) (get_or octets 7 0)
+    last-two (o ∷ p ∷ q ∷ r ∷ s ∷ t ∷ u ∷ v ∷ []) h = record { is = sym (append_assoc b (o ∷ p ∷ q ∷ r ∷ s ∷ t ∷ []) (u ∷ v ∷ [])) }
+    last-two _ h = absurd (omega arith)
+
+    go : (back : List ℕ) → reverse b ≡ back → whole_cells (b ++ octets) ≡ whole_cells b ++ eight_whole (packed_reader_of b) octets
+    go [] e = absurd (let q = ap length e in let r = length-reverse b in omega arith)
+    go (last ∷ []) e = absurd (let q = ap length e in let r = length-reverse b in omega arith)
+    go (last ∷ octet ∷ more) e =
+        let two = last_two b last octet more e in
+        let front = reverse more in
+        let behind = octet ∷ last ∷ take 6 octets in
+        whole-of (b ++ octets) (b ++ take 6 octets) (get_or octets 6 0) (get_or octets 7 0) (last-two octets h)
+        ∙ ap cells_of_octets (ap (λ v. v ++ take 6 octets) two.is ∙ append_assoc front (octet ∷ last ∷ []) (take 6 octets))
+        ∙ cells_of_octets-append front behind
+        ∙ ap₂ ◌++◌ (sym (whole-of b front octet last two)) (ap (λ v. cells_of_octets (get_or v 1 0 ∷ get_or v 0 0 ∷ take 6 octets)) (sym e))
+
+-- a reader that has taken two or more is fed eight
+pub eight-fed : {r new : PackedReader} (b octets : List ℕ) (w : ℕ) → r ≡ packed_reader_of b → length octets ≡ 8 → 2 ≤ r.seen → word_cells w ≡ eight_whole r octets → new ≡ behind_eight r octets
+    → (new ≡ packed_reader_of (b ++ octets)) × (whole_cells (b ++ octets) ≡ whole_cells b ++ word_cells w)
+unfolding packed_reader_of
+eight-fed {r} b octets w e h some c n =
+    let s = ap (λ v. v.seen) e in (
+      n ∙ ap (λ v. behind_eight v octets) e ∙ reader-behind b octets h,
+      whole-behind b octets h (omega arith) ∙ ap (λ d. whole_cells b ++ d) (sym (c ∙ ap (λ v. eight_whole v octets) e)),
+    )
