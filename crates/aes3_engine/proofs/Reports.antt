@@ -1,5 +1,6 @@
 -- What cells write through their reports.
 use Rattle.std.proofs.Common.{◌≡◌, ℕ, ◌≤◌, List, [], ◌∷◌, ◌++◌, length, drop, sym, ap, ap₂, ◌∙◌, append_assoc, append-nil, refl, arith, length-append, Option, Some, None, suc}
+use Rattle.std.proofs.lemmas.List.{append_cancel_left}
 use Rattle.aes3_cell.specs.declared.level.Level.{Level}
 use Rattle.aes3_lock.specs.declared.report.Report.{Report}
 use Rattle.aes3_lock.specs.Outcomes.{Outcome}
@@ -77,6 +78,12 @@ adds-one w c l r e = ap (behind w (decided c)) (answered c l (r ∷ []) e) ∙ a
 pub adds-none : (w : Writing Report) (c : List Level) (l : Level) → decided (c ++ l ∷ []) ≡ decided c ++ [] → (reporting w).adds c l ≡ []
 unfolding reporting
 adds-none w c l e = ap (behind w (decided c)) (answered c l [] e)
+
+-- cells that decide no report write nothing
+pub adds-nothing : (w : Writing Report) (c d : List Level) → decided (c ++ d) ≡ decided c → behind (reporting w) c d ≡ []
+adds-nothing w c d e =
+    append_cancel_left (before_end (reporting w) c) (behind (reporting w) c d) []
+    (sym (before-join (reporting w) c d) ∙ before-reports w (c ++ d) ∙ ap (before_end w) e ∙ sym (before-reports w c) ∙ sym (append-nil (before_end (reporting w) c)))
 
 pub ends-one : (w : Writing Report) (c : List Level) (r : Report) → reports c ≡ decided c ++ r ∷ [] → (reporting w).ends c ≡ w.adds (decided c) r ++ w.ends (decided c ++ r ∷ [])
 unfolding reporting

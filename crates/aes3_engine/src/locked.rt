@@ -76,7 +76,11 @@ impl<R: Reporter> Taker for Locked<R> {
     ghost finished = { λ k c. R.finished k.reporter (reports c) };
 
     fn word<T: Sink>(&mut self, sink: &mut T, word: u64) -> Result<(), Fault> {
-        each_cell(self, sink, word)
+        if self.lock.take_word(word) {
+            Ok(())
+        } else {
+            each_cell(self, sink, word)
+        }
     }
 
     fn finish<T: Sink>(&mut self, sink: &mut T) -> Result<(), Fault> {
