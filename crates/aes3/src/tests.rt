@@ -195,6 +195,56 @@ fn commands_on_the_zero_block(rt: HostRuntime) -> Result<(), Fail> {
     Ok(())
 }
 
+/// The first lines of a text, and then other bytes.
+fn begun(
+    alloc: Global,
+    text: &[u8],
+    lines: usize,
+    behind: &[u8],
+) -> Result<Vec<u8>, AllocError>
+    requires { lines < 400 }
+{
+    let mut bytes = Vec::new(alloc);
+    bytes.extend_from_slice(text.get(..65 * lines).unwrap_or(&[]))?;
+    bytes.extend_from_slice(behind)?;
+    Ok(bytes)
+}
+
+const EARLY_LINES: &[u8] = b"fault at 0 cell 12804 preamble
+whole at 12800 before 0
+";
+
+const LATE_LINES: &[u8] = b"fault at 0 cell 138 biphase
+unfinished at 131 cells 8
+";
+
+const LATE_MARKS: &[u8] = b"mark Z at 0 before 0
+mark Y at 64 before 0
+mark X at 128 before 0
+mark Z at 131 before 1
+";
+
+#[test]
+fn commands_on_lines_with_faults(rt: HostRuntime) -> Result<(), Fail> {
+    let text = block_text(rt.alloc(), ZEROS)?;
+    let early = begun(rt.alloc(), &text, 200, &text)?;
+    let late = begun(rt.alloc(), &text, 2, b"11100010111")?;
+    let unclosed = begun(rt.alloc(), &text, 384, b"0")?;
+    let rows: [(&[&str], &[u8], &[u8], u8); 7] = [
+        (&["check"], &early, EARLY_LINES, 1),
+        (&["normal"], &early, &text, 0),
+        (&["show"], &early, ZERO_STATUS, 0),
+        (&["check"], &late, LATE_LINES, 1),
+        (&["scan"], &late, LATE_MARKS, 0),
+        (&["normal"], &late, b"", 0),
+        (&["check"], &unclosed, b"fault at 0 cell 24576 unclosed\n", 1),
+    ];
+    for (words, input, output, status) in rows {
+        expect_run(&rt, rt.alloc(), words, input, 100, output, b"", status)?;
+    }
+    Ok(())
+}
+
 #[test]
 fn few_octets(rt: HostRuntime) -> Result<(), Fail> {
     let rows: [(&[&str], &[u8], &[u8], &[u8], u8); 6] = [

@@ -20,7 +20,7 @@ enum Line {
 }
 
 /// How many reports a test looks at.
-const LINES: usize = 12;
+const LINES: usize = 16;
 
 /// Many more cells than a test has.
 const MANY: u64 = 1 << 40;
@@ -327,12 +327,35 @@ const DENSE: u64 = 0x745D_1745_D174_5D17;
 fn candidates_five_cells_apart(rt: HostRuntime) {
     let mut cells = Vec::new(rt.alloc());
     add(&mut cells, DENSE, 0, 64).expect(&rt, "memory");
-    let mut lines = [Line::Unfinished(55, 9); LINES];
+    let mut lines = [Line::Unfinished(55, 9); 12];
     for i in 0..11 {
         let at = 5 * i as u64;
         lines[i] = Line::Fault(at, at + 12, Why::Biphase);
     }
     check(&rt, rt.alloc(), &cells, &lines);
+}
+
+/// Candidates five cells apart, each of which ends within the second 64 cells.
+fn dense_word(alloc: Global) -> Result<Vec<Level>, AllocError> {
+    let mut cells = Vec::new(alloc);
+    add(&mut cells, 0x5555_5555_5555_5555, 0, 52)?;
+    add(&mut cells, DENSE, 0, 60)?;
+    add(&mut cells, DENSE, 0, 13)?;
+    add(&mut cells, 0b111, 0, 3)?;
+    Ok(cells)
+}
+
+#[test]
+fn fourteen_reports_within_64_cells(rt: HostRuntime) {
+    let cells = dense_word(rt.alloc()).expect(&rt, "memory");
+    let mut lines = [Line::Fault(117, 125, Why::Biphase); 14];
+    for i in 0..13 {
+        let at = 52 + 5 * i as u64;
+        lines[i] = Line::Fault(at, at + 12, Why::Biphase);
+    }
+    check(&rt, rt.alloc(), &cells, &lines);
+    assert_eq!(rt; decided_count(&cells), 14);
+    assert_eq!(rt; decided_count(cells.get(..64).unwrap_or(&[])), 0);
 }
 
 #[test]

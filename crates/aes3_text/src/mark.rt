@@ -21,8 +21,11 @@ fn letter(mark: Mark) -> &'static str
 
 /// Writes the line of a preamble at cell `at` after the level `before` as one buffer.
 ///
+/// Apart from its callers, which go by almost every cell without a line.
+///
 /// # Errors
 /// The sink's fault; then it has taken a front of the line.
+#[inline(never)]
 pub fn line_of_mark<T: Sink>(at: u64, mark: Mark, before: Level, sink: &mut T) -> Result<(), Fault>
     requires room { T.failed sink.old + 1 < 2 ^ 64 }
     ensures line { IfOk result (λ _. Grew (T.taken sink.old) (T.taken sink.new) (mark_line at mark before)) }
