@@ -58,28 +58,20 @@ fn take_byte<T: Sink, K: Taker>(
     }
 }
 
-/// Takes the 64 bytes that a piece begins with as a word, where `may_be_word` and they are all cells; else none.
-fn feed_front(text: &mut CellText, piece: &[u8], may_be_word: bool) -> Option<u64>
-    requires { text.old.seen + length piece.now ≤ 2 ^ 40 }
-    ensures bound { OnSome result (64 ≤ length piece.now) }
-    ensures cells { IfSome result (λ word. take 64 piece.now ≡ map byte_of (word_cells word)) }
-    ensures seen { OnSome result (text.new.seen ≡ text.old.seen + 64) }
-    ensures none { IfNone result (text.new ≡ text.old) }
+/// Whether a byte separates cells, as at the end of a line.
+#[tactic(auto, unfolding(aes3_cell::specs::CellText::kind_of))]
+fn is_separator(byte: u8) -> bool
+    ensures { IsTrue result ↔ kind_of byte ≡ separator }
 {
-    match piece.first_chunk() {
-        Some(bytes) if may_be_word => text.feed_word(bytes),
-        _ => None,
-    }
+    matches!(byte, b'\n' | b'\r' | b' ')
 }
 
-/// Takes what a piece begins with, and answers how many bytes that is: 64 cells where `may_be_word` and there are so
-/// many, else one byte.
-fn take_front<T: Sink, K: Taker>(
+/// Takes what a piece begins with byte by byte, up to its first separator and with it; answers how many bytes that is.
+fn take_line<T: Sink, K: Taker>(
     input: &mut TextInput,
     taker: &mut K,
     sink: &mut T,
     piece: &[u8],
-    may_be_word: bool,
 ) -> Result<usize, RunError>
     requires some { 0 < length piece.now }
     requires room { T.failed sink.old + 1 < 2 ^ 64 }
@@ -88,7 +80,48 @@ fn take_front<T: Sink, K: Taker>(
         (TextTaken input.old.text input.old.cells (K.follows taker.old)) (TextTaken input.new.text input.new.cells (K.follows taker.new)) piece.now
         (record { old = T.taken sink.old; new = T.taken sink.new; failed_old = T.failed sink.old; failed_new = T.failed sink.new }) result }
 {
-    match feed_front(&mut input.text, piece, may_be_word) {
+    for (i, byte) in piece.iter().enumerate() {
+        match take_byte(input, taker, sink, *byte) {
+            Ok(()) => {}
+            Err(error) => return Err(error),
+        }
+        if is_separator(*byte) {
+            return Ok(i + 1);
+        }
+    }
+    Ok(piece.len())
+}
+
+/// Takes the 64 bytes that a piece begins with as a word, where they are all cells; else none.
+fn feed_front(text: &mut CellText, piece: &[u8]) -> Option<u64>
+    requires { text.old.seen + length piece.now ≤ 2 ^ 40 }
+    ensures bound { OnSome result (64 ≤ length piece.now) }
+    ensures cells { IfSome result (λ word. take 64 piece.now ≡ map byte_of (word_cells word)) }
+    ensures seen { OnSome result (text.new.seen ≡ text.old.seen + 64) }
+    ensures none { IfNone result (text.new ≡ text.old) }
+{
+    match piece.first_chunk() {
+        Some(bytes) if !is_separator(bytes[0]) => text.feed_word(bytes),
+        _ => None,
+    }
+}
+
+/// Takes what a piece begins with, 64 cells where there are so many, else a line; answers how many bytes that is. So a
+/// word is looked for once a line, and lines of another length cost no more than that.
+fn take_front<T: Sink, K: Taker>(
+    input: &mut TextInput,
+    taker: &mut K,
+    sink: &mut T,
+    piece: &[u8],
+) -> Result<usize, RunError>
+    requires some { 0 < length piece.now }
+    requires room { T.failed sink.old + 1 < 2 ^ 64 }
+    requires following { (b : List ℕ) × (length b + length piece.now ≤ 2 ^ 40) × TextTaken input.old.text input.old.cells (K.follows taker.old) b }
+    ensures { FrontRan (text_reading (K.writes taker.old)) (text_reading (K.writes taker.new))
+        (TextTaken input.old.text input.old.cells (K.follows taker.old)) (TextTaken input.new.text input.new.cells (K.follows taker.new)) piece.now
+        (record { old = T.taken sink.old; new = T.taken sink.new; failed_old = T.failed sink.old; failed_new = T.failed sink.new }) result }
+{
+    match feed_front(&mut input.text, piece) {
         Some(word) => match taker.word(sink, word) {
             Ok(()) => {
                 input.cells += 64;
@@ -96,19 +129,8 @@ fn take_front<T: Sink, K: Taker>(
             }
             Err(_) => Err(RunError::Write),
         },
-        None => match take_byte(input, taker, sink, piece[0]) {
-            Ok(()) => Ok(1),
-            Err(error) => Err(error),
-        },
+        None => take_line(input, taker, sink, piece),
     }
-}
-
-/// Whether a byte separates cells, as at the end of a line.
-#[tactic(auto, unfolding(aes3_cell::specs::CellText::kind_of))]
-fn is_separator(byte: u8) -> bool
-    ensures { IsTrue result ↔ kind_of byte ≡ separator }
-{
-    matches!(byte, b'\n' | b'\r' | b' ')
 }
 
 /// `drive` over cell text.
@@ -142,15 +164,9 @@ impl<K: Taker> Input<K> for TextInput {
 
     fn feed<T: Sink>(&mut self, taker: &mut K, sink: &mut T, piece: &[u8]) -> Result<(), RunError> {
         let mut at = 0;
-        // A word is looked for once a line: lines of another length cost no more than that.
-        let mut line_begins = true;
         while at < piece.len() {
-            let separates = is_separator(piece[at]);
-            match take_front(self, taker, sink, &piece[at..], line_begins && !separates) {
-                Ok(taken) => {
-                    at += taken;
-                    line_begins = separates || taken > 1;
-                }
+            match take_front(self, taker, sink, &piece[at..]) {
+                Ok(taken) => at += taken,
                 Err(error) => return Err(error),
             }
         }

@@ -1,12 +1,11 @@
-use Rattle.std.proofs.Common.{◌∷◌, [], take, drop, get_or, arith, sym, refl}
+use Rattle.std.proofs.Common.{take, drop, arith}
 use Rattle.std.proofs.lemmas.List.{take-append-drop}
-use Rattle.std.proofs.Math.Seq.{drop-cons}
 use Rattle.aes3_cell.specs.CellText.{cells_of_text}
 use Rattle.aes3_cell.proofs.CellTexts.{length-cells_of_text}
-use Rattle.aes3_engine.specs.Forms.{text_reading, TextTaken}
+use Rattle.aes3_engine.specs.Forms.{text_reading}
 use Rattle.aes3_engine.proofs.TextLemmas.{taken-seen}
-use Rattle.aes3_engine.proofs.Feeding.{front-longer, ran-join}
-use Rattle.aes3_engine.proofs.Fronts.{text-word, text-word-front, text-same}
+use Rattle.aes3_engine.proofs.Feeding.{front-longer}
+use Rattle.aes3_engine.proofs.Fronts.{text-word, text-word-front}
 use Rattle.aes3_engine.proofs.text_input.take_front.Goals as goal
 
 pub feed_front-requires : goal.feed_front-requires
@@ -51,13 +50,3 @@ returns-in-Err g c =
           (text-word-front w₀ (g.K.CellTaker.follows c.args.taker.now) c.args.input.now.text c.feed_front.new.text c.args.input.now.cells (take 64 xs) c.in-Some.word
           (g.T.Sink.taken c.args.sink.now) (g.T.Sink.taken c.word.new.sink) q.cells q.seen r.1 b h),
     )
-
-pub returns-in-Err-take_byte : goal.returns-in-Err-take_byte
-returns-in-Err-take_byte g c =
-    let xs = c.args.piece.now in
-    let k = c.requires.some in
-    ran-join (text_reading (g.K.CellTaker.writes c.take_byte.new.taker)) (TextTaken c.take_byte.new.input.text c.take_byte.new.input.cells (g.K.CellTaker.follows c.take_byte.new.taker))
-    (g.T.Sink.taken c.take_byte.new.sink) (g.T.Sink.failed c.take_byte.new.sink)
-    (get_or xs 0 0 ∷ []) (drop 1 xs) xs c.in-Err-take_byte.error
-    (text-same (g.K.CellTaker.writes c.args.taker.now) (g.K.CellTaker.follows c.args.taker.now) c.args.input.now.text c.feed_front.new.text c.args.input.now.cells (g.T.Sink.taken c.args.sink.now) c.in-None.ensures.none)
-    refl (sym (drop-cons xs 0 0 (omega arith))) c.in-Err-take_byte.ensures

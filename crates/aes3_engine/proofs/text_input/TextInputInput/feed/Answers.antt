@@ -19,18 +19,6 @@ take_front-requires-clause-following g c =
     let d = length-drop at xs in
     (q.0 ++ p, omega arith, c.loop-at.invariant.fed.follows q.0 q.2)
 
-pub loop-at-preserved-then-separates : goal.loop-at-preserved-then-separates
-loop-at-preserved-then-separates g c =
-    let r = c.in-Ok.ensures in
-    let xs = c.args.piece.now in
-    let at = c.loop-at.at in
-    let d = length-drop at xs in
-    record {
-      within = omega arith;
-      fed = fed-front xs (take (length xs - at) (drop at xs)) at c.in-Ok.taken (take_rest xs at) c.loop-at.invariant.fed r.2;
-      quiet = r.3 ∙ c.loop-at.invariant.quiet;
-    }
-
 pub loop-at-preserved : goal.loop-at-preserved
 loop-at-preserved g c =
     let r = c.in-Ok.ensures in
