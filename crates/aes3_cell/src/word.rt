@@ -1,10 +1,10 @@
 //! Words of 64 cells, the earliest in the lowest bit, their line of text and their octets.
 
-ghost use Rattle.std.specs.Prelude.{◌≡◌, ◌+◌, ◌<◌, ◌^◌, ℕ, [], ◌∷◌, ◌++◌, ◌↔◌, map, IfSome, IsTrue};
-ghost use Rattle.aes3_cell.specs.declared.level.Level.{Level};
+ghost use Rattle.std.specs.Prelude.{◌≡◌, ◌+◌, ◌%◌, ◌<◌, ◌^◌, ℕ, [], ◌∷◌, ◌++◌, ◌↔◌, map, IfSome, IsTrue};
 ghost use Rattle.std.specs.Int.{bit_at};
+ghost use Rattle.std.specs.List.{All};
 ghost use Rattle.aes3_cell.specs.Words.{level_of, low_cells, word_cells};
-ghost use Rattle.aes3_cell.specs.Text.{byte_of, line_text};
+ghost use Rattle.aes3_cell.specs.Text.{byte_of, IsCellByte, line_text};
 ghost use Rattle.aes3_cell.specs.Packed.{octets_of};
 
 use crate::level::Level;
@@ -54,11 +54,27 @@ pub fn octets_of_word(word: u64) -> [u8; 8]
     word.reverse_bits().to_be_bytes()
 }
 
-/// Whether a byte is the character of a cell.
-fn is_cell(byte: u8) -> bool
-    ensures { IsTrue result ↔ (level : Level) × (byte ≡ byte_of level) }
+/// Whether all bytes are characters of cells. It neither stops nor branches at a byte, so that it runs on many at once.
+fn are_cells(bytes: &[u8; 64]) -> bool
+    ensures { IsTrue result ↔ All IsCellByte bytes.now }
 {
-    byte == b'0' || byte == b'1'
+    // 0 or 1 at the characters `0` and `1` alone.
+    let mut found = 0;
+    for i in 0..WORD_LEN {
+        found |= bytes[i as usize] ^ b'0';
+    }
+    found <= 1
+}
+
+/// The lowest bits of 64 bytes, the first in the lowest bit.
+fn lowest_bits(bytes: &[u8; 64]) -> u64
+    ensures { word_cells result ≡ map (λ byte. level_of (byte % 2)) bytes.now }
+{
+    let mut word = 0;
+    for i in 0..WORD_LEN {
+        word |= u64::from(bytes[i as usize] & 1) << i;
+    }
+    word
 }
 
 /// The word of 64 bytes all of which are cells, the first in the lowest bit.
@@ -66,12 +82,5 @@ pub(crate) fn word_of_text(bytes: &[u8; 64]) -> Option<u64>
     ensures cells { IfSome result (λ word. bytes.now ≡ map byte_of (word_cells word)) }
     ensures owed { (word : ℕ) → word < 2 ^ 64 → bytes.now ≡ map byte_of (word_cells word) → result ≡ Some word }
 {
-    let mut word = 0;
-    let mut are_cells = true;
-    for i in 0..WORD_LEN {
-        let byte = bytes[i as usize];
-        are_cells &= is_cell(byte);
-        word |= u64::from(byte & 1) << i;
-    }
-    if are_cells { Some(word) } else { None }
+    if are_cells(bytes) { Some(lowest_bits(bytes)) } else { None }
 }
