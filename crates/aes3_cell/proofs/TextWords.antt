@@ -1,13 +1,14 @@
 -- Words of cells in text.
-use Rattle.std.proofs.Common.{◌≡◌, ℕ, zero, suc, ◌+◌, ◌*◌, ◌/◌, ◌%◌, ◌^◌, ◌<◌, ◌≤◌, ◌↔◌, ◌⊎◌, inl, inr, List, [], ◌∷◌, ◌++◌, length, take, map, get_or, leb, refl, sym, ap, ap₂, ◌∙◌, subst, arith, add-one, length-append}
-use Rattle.std.specs.Prelude.{bit_and, bit_or}
-use Rattle.std.specs.Int.Bits.{bit_xor, or_zero_r, xor_add_and}
+use Rattle.std.proofs.Common.{◌≡◌, ℕ, zero, suc, ◌+◌, ◌-◌, ◌*◌, ◌/◌, ◌%◌, ◌^◌, ◌<◌, ◌≤◌, ◌↔◌, ◌⊎◌, inl, inr, List, [], ◌∷◌, ◌++◌, length, take, drop, map, get_or, leb, refl, sym, ap, ap₂, ◌∙◌, subst, arith, length-append, w64}
+use Rattle.std.specs.Prelude.{bit_or}
+use Rattle.std.specs.Int.Bits.{bit_xor, or_shifted_r, xor_add_and}
+use Rattle.std.specs.Int.{bit_at, from_le_bytes, to_le_bytes}
 use Rattle.std.specs.List.{All}
 use Rattle.std.proofs.lemmas.Bool.{cases_lt, cases_eq, agree_below_at, leb-true, le-leb}
-use Rattle.std.proofs.lemmas.Nat.{and_le_r, le_or_l, le_or_r, or_lt}
+use Rattle.std.proofs.lemmas.Nat.{and_le_r, le_bytes_8, le_or_l, le_or_r, or_lt, pow_below, shl_below, shl_whole}
 use Rattle.std.proofs.lemmas.List.Elements.{All-head, All-tail}
-use Rattle.std.proofs.lemmas.List.{map-append, length-map, take_more, take_all}
-use Rattle.std.proofs.lemmas.Nat.Bits.{bit_at_lowest, shr_and_one}
+use Rattle.std.proofs.lemmas.List.{length-map, length-drop, length-take-le, get_or-drop, get_or-take}
+use Rattle.std.proofs.lemmas.Nat.Bits.{bit_at_cat_high, bit_at_cat_low, bit_at_lowest, bit_at-suc}
 use Rattle.std.proofs.Math.Nat.{pow-succ'}
 use Rattle.aes3_cell.specs.declared.level.Level.{Level}
 use Rattle.aes3_cell.specs.declared.level.Level.TheVariants.{Low, High}
@@ -15,49 +16,80 @@ use Rattle.aes3_cell.specs.Words.{level_of, low_cells, word_len, word_cells}
 use Rattle.aes3_cell.specs.Text.{byte_of, IsCellByte}
 use Rattle.aes3_cell.specs.CellText.{cells_of_text, IsCellText}
 use Rattle.aes3_cell.specs.TextReading.{TextReader, text_reader_of}
-use Rattle.aes3_cell.proofs.WordCells.{length-word_cells, low_cells-low, low_cells-high, with_bit-lt}
+use Rattle.aes3_cell.proofs.WordCells.{length-word_cells}
 use Rattle.aes3_cell.proofs.Lines.{word_len_64, level-byte}
+use Rattle.aes3_cell.proofs.OctetWords.{take-fit}
 use Rattle.aes3_cell.proofs.CellTexts.{cells-text, cells-join, text-join}
 
--- a bit put behind the cells of a word
-none-set : (n w : ℕ) → bit_or w (0 * 2 ^ n % 2 ^ 64) ≡ w
-none-set n w = ap (λ v. bit_or w v) (let e : 0 * 2 ^ n % 2 ^ 64 ≡ 0 = omega arith in e) ∙ or_zero_r w
+-- the lowest bit of each of eight bytes, in their number
+bytes-bits : (bytes : List ℕ) (n : ℕ) → length bytes ≡ 8 → ((i : ℕ) → get_or bytes i 0 < 256) → n ≡ from_le_bytes w64 bytes → (i : ℕ) → i < 8
+    → bit_at n (8 * i) ≡ get_or bytes i 0 % 2
+bytes-bits bytes n l fit e i h = go i h ∙ ap (λ b. get_or b i 0 % 2) (le_bytes_8 bytes n l fit e)
+  where
+    low : (m : ℕ) → m % 2 ≡ m % 256 % 2
+    low m = omega arith
 
-bit-cells : (n w b : ℕ) → b < 2 → n < 64 → w < 2 ^ n → low_cells (n + 1) (bit_or w (b * 2 ^ n % 2 ^ 64)) ≡ low_cells n w ++ level_of b ∷ []
-bit-cells n w zero h k f = ap (low_cells (n + 1)) (none-set n w) ∙ low_cells-low n w f
-bit-cells n w (suc zero) h k f = low_cells-high n w k
-bit-cells n w (suc (suc b)) h k f = absurd (omega arith)
+    go : (i : ℕ) → i < 8 → bit_at n (8 * i) ≡ get_or (to_le_bytes w64 n) i 0 % 2
+    go zero h = omega arith
+    go (suc zero) h = low (n / 256)
+    go (suc (suc zero)) h = low (n / 256 ^ 2)
+    go (suc (suc (suc zero))) h = low (n / 256 ^ 3)
+    go (suc (suc (suc (suc zero)))) h = low (n / 256 ^ 4)
+    go (suc (suc (suc (suc (suc zero))))) h = low (n / 256 ^ 5)
+    go (suc (suc (suc (suc (suc (suc zero)))))) h = low (n / 256 ^ 6)
+    go (suc (suc (suc (suc (suc (suc (suc zero))))))) h = low (n / 256 ^ 7)
+    go (suc (suc (suc (suc (suc (suc (suc (suc i)))))))) h = absurd (omega arith)
 
-bit-lt : (n w b : ℕ) → b < 2 → n < 64 → w < 2 ^ n → bit_or w (b * 2 ^ n % 2 ^ 64) < 2 ^ (n + 1)
-bit-lt n w zero h k f =
-    let e = none-set n w in
-    let p : 2 ^ (n + 1) ≡ 2 * 2 ^ n = ap (λ i. 2 ^ i) (add-one n) ∙ pow-succ' 2 n in
-    omega arith
-bit-lt n w (suc zero) h k f = with_bit-lt n w k f
-bit-lt n w (suc (suc b)) h k f = absurd (omega arith)
+-- an octet put above the octets of a word
+pub octet-lt : (k w x : ℕ) → k < 8 → w < 2 ^ (8 * k) → x < 2 ^ 8 → bit_or w (x * 2 ^ (8 * k) % 2 ^ 64) < 2 ^ (8 * (k + 1))
+octet-lt k w x h b f =
+    let p = pow_below (8 * k) (8 * (k + 1)) (omega arith) in
+    let e : 2 ^ (8 + 8 * k) ≡ 2 ^ (8 * (k + 1)) = ap (λ n. 2 ^ n) (let n : 8 + 8 * k ≡ 8 * (k + 1) = omega arith in n) in
+    let s = shl_below x 8 (8 * k) f in
+    let q = shl_whole x 8 (8 * k) 64 f (omega arith) in
+    or_lt (8 * (k + 1)) w (x * 2 ^ (8 * k) % 2 ^ 64) (omega (arith, b, p)) (omega (arith, q, s, e))
 
--- the lowest bit of a byte
-lowest-bit : (x : ℕ) → bit_and x 1 ≡ x % 2
-lowest-bit x = ap (λ v. bit_and v 1) (let e : x ≡ x / 2 ^ 0 = omega arith in e) ∙ shr_and_one x 0 ∙ bit_at_lowest x
+-- and the bits that it adds, which are the lowest of eight more bytes
+pub octet-bits : (bytes eight : List ℕ) (k w n x : ℕ) → k < 8 → length bytes ≡ 64 → ((i : ℕ) → get_or bytes i 0 < 256) → w < 2 ^ (8 * k) → x < 2 ^ 8
+    → eight ≡ take 8 (drop (8 * k) bytes) → n ≡ from_le_bytes w64 eight → ((i : ℕ) → i < 8 → bit_at x i ≡ bit_at n (8 * i))
+    → ((i : ℕ) → i < 8 * k → bit_at w i ≡ get_or bytes i 0 % 2)
+    → (i : ℕ) → i < 8 * (k + 1) → bit_at (bit_or w (x * 2 ^ (8 * k) % 2 ^ 64)) i ≡ get_or bytes i 0 % 2
+octet-bits bytes eight k w n x h l fit b f t e g before i lt = ap (λ v. bit_at v i) whole ∙ go (cases_lt i (8 * k))
+  where
+    whole : bit_or w (x * 2 ^ (8 * k) % 2 ^ 64) ≡ x * 2 ^ (8 * k) + w
+    whole = ap (bit_or w) (shl_whole x 8 (8 * k) 64 f (omega arith)) ∙ or_shifted_r x (8 * k) w b
 
--- one more byte of a text is put into its word
-pub bound-more : (n w x v : ℕ) → n < 64 → w < 2 ^ n → v ≡ bit_and x 1 → bit_or w (v * 2 ^ n % 2 ^ 64) < 2 ^ (n + 1)
-bound-more n w x v k f e = bit-lt n w v (let l = lowest-bit x in omega arith) k f
+    drop-fit : (j : ℕ) → get_or (drop (8 * k) bytes) j 0 < 256
+    drop-fit j = let d = get_or-drop (8 * k) bytes j 0 in let q = fit (8 * k + j) in omega (arith, d, q)
 
--- the lowest bit of one more byte, put behind those of the bytes before it
-pub bits-grow : (bytes : List ℕ) (n w v : ℕ) → n < 64 → n < length bytes → w < 2 ^ n → v ≡ bit_and (get_or bytes n 0) 1
-    → low_cells n w ≡ map (λ byte. level_of (byte % 2)) (take n bytes)
-    → low_cells (n + 1) (bit_or w (v * 2 ^ n % 2 ^ 64)) ≡ map (λ byte. level_of (byte % 2)) (take (n + 1) bytes)
-bits-grow bytes n w v k i f e t =
-    let l = lowest-bit (get_or bytes n 0) in
-    bit-cells n w v (omega arith) k f ∙ ap₂ (λ front b. front ++ level_of b ∷ []) t (e ∙ l)
-    ∙ sym (map-append (λ byte. level_of (byte % 2)) (take n bytes) (get_or bytes n 0 ∷ []))
-    ∙ ap (map (λ byte. level_of (byte % 2))) (sym (take_more bytes n 0 i))
+    eight-fit : (j : ℕ) → get_or eight j 0 < 256
+    eight-fit j = let q = take-fit 8 (drop (8 * k) bytes) drop-fit j in let v = ap (λ b. get_or b j 0) t in omega (arith, q, v)
 
-pub bits-whole : (bytes : List ℕ) (n w : ℕ) → n ≡ 64 → length bytes ≡ 64 → low_cells n w ≡ map (λ byte. level_of (byte % 2)) (take n bytes)
+    eight-len : length eight ≡ 8
+    eight-len = ap length t ∙ length-take-le 8 (drop (8 * k) bytes) (let d = length-drop (8 * k) bytes in omega (arith, d))
+
+    byte : (j : ℕ) → j < 8 → get_or eight j 0 ≡ get_or bytes (8 * k + j) 0
+    byte j a = ap (λ b. get_or b j 0) t ∙ get_or-take 8 (drop (8 * k) bytes) j 0 a ∙ get_or-drop (8 * k) bytes j 0
+
+    go : (i < 8 * k) ⊎ (8 * k ≤ i) → bit_at (x * 2 ^ (8 * k) + w) i ≡ get_or bytes i 0 % 2
+    go (inl a) = bit_at_cat_low x (8 * k) w i a ∙ before i a
+    go (inr a) =
+        let j : i - 8 * k < 8 = omega (arith, lt, a) in
+        bit_at_cat_high x (8 * k) w i b a ∙ g (i - 8 * k) j ∙ bytes-bits eight n eight-len eight-fit e (i - 8 * k) j
+        ∙ ap (λ v. v % 2) (byte (i - 8 * k) j) ∙ ap (λ m. get_or bytes m 0 % 2) (let m : 8 * k + (i - 8 * k) ≡ i = omega (arith, a) in m)
+
+-- the cells of a word whose bits are the lowest of these bytes
+pub bits-cells : (bytes : List ℕ) (n w : ℕ) → n ≡ 64 → length bytes ≡ 64 → ((i : ℕ) → i < n → bit_at w i ≡ get_or bytes i 0 % 2)
     → word_cells w ≡ map (λ byte. level_of (byte % 2)) bytes
 unfolding word_cells word_len
-bits-whole bytes n w h l e = ap (λ k. low_cells k w) (sym h) ∙ e ∙ ap (map (λ byte. level_of (byte % 2))) (take_all n bytes (omega arith))
+bits-cells bytes n w h l bits = ap (λ k. low_cells k w) (sym l) ∙ go bytes w (λ i lt. bits i (omega (arith, h, l, lt)))
+  where
+    go : (bytes : List ℕ) (w : ℕ) → ((i : ℕ) → i < length bytes → bit_at w i ≡ get_or bytes i 0 % 2)
+        → low_cells (length bytes) w ≡ map (λ byte. level_of (byte % 2)) bytes
+    go [] w h = refl
+    go (x ∷ xs) w h =
+        ap₂ (λ bit c. level_of bit ∷ c) (sym (bit_at_lowest w) ∙ h 0 (omega arith))
+        (go xs (w / 2) (λ i lt. sym (bit_at-suc w i) ∙ h (suc i) (omega (arith, lt))))
 
 -- a byte that differs from `0` in its lowest bit alone, or not at all, is a cell
 cell-from-xor : (x : ℕ) → bit_xor x 48 ≤ 1 → IsCellByte x

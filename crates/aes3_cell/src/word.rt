@@ -1,6 +1,6 @@
 //! Words of 64 cells, the earliest in the lowest bit, their line of text and their octets.
 
-ghost use Rattle.std.specs.Prelude.{◌≡◌, ◌+◌, ◌%◌, ◌<◌, ◌^◌, ℕ, [], ◌∷◌, ◌++◌, ◌↔◌, map, IfSome, IsTrue};
+ghost use Rattle.std.specs.Prelude.{◌≡◌, ◌+◌, ◌*◌, ◌%◌, ◌<◌, ◌≤◌, ◌^◌, ℕ, [], ◌∷◌, ◌++◌, ◌↔◌, map, take, drop, IfSome, IsTrue};
 ghost use Rattle.std.specs.Int.{bit_at};
 ghost use Rattle.std.specs.List.{All};
 ghost use Rattle.aes3_cell.specs.Words.{level_of, low_cells, word_cells};
@@ -66,13 +66,42 @@ fn are_cells(bytes: &[u8; 64]) -> bool
     found <= 1
 }
 
+/// Every eighth bit, the lowest first.
+fn eighth_bits(word: u64) -> u64
+    ensures bits { (i : ℕ) → i < 8 → bit_at result i ≡ bit_at word (8 * i) }
+    ensures bound { result < 2 ^ 8 }
+{
+    let word = word & 0x0101_0101_0101_0101;
+    let word = (word | (word >> 7)) & 0x0003_0003_0003_0003;
+    let word = (word | (word >> 14)) & 0x0000_000F_0000_000F;
+    (word | (word >> 28)) & 0xFF
+}
+
+/// The eight bytes from byte `at` on.
+fn eight_at(bytes: &[u8; 64], at: usize) -> [u8; 8]
+    requires { at + 8 ≤ 64 }
+    ensures { result ≡ take 8 (drop at bytes.now) }
+{
+    [
+        bytes[at],
+        bytes[at + 1],
+        bytes[at + 2],
+        bytes[at + 3],
+        bytes[at + 4],
+        bytes[at + 5],
+        bytes[at + 6],
+        bytes[at + 7],
+    ]
+}
+
 /// The lowest bits of 64 bytes, the first in the lowest bit.
 fn lowest_bits(bytes: &[u8; 64]) -> u64
     ensures { word_cells result ≡ map (λ byte. level_of (byte % 2)) bytes.now }
 {
     let mut word = 0;
-    for i in 0..WORD_LEN {
-        word |= u64::from(bytes[i as usize] & 1) << i;
+    for k in 0..8 {
+        let eight = u64::from_le_bytes(eight_at(bytes, 8 * k));
+        word |= eighth_bits(eight) << (8 * k);
     }
     word
 }
@@ -82,5 +111,9 @@ pub(crate) fn word_of_text(bytes: &[u8; 64]) -> Option<u64>
     ensures cells { IfSome result (λ word. bytes.now ≡ map byte_of (word_cells word)) }
     ensures owed { (word : ℕ) → word < 2 ^ 64 → bytes.now ≡ map byte_of (word_cells word) → result ≡ Some word }
 {
-    if are_cells(bytes) { Some(lowest_bits(bytes)) } else { None }
+    if are_cells(bytes) {
+        Some(lowest_bits(bytes))
+    } else {
+        None
+    }
 }
