@@ -1,5 +1,6 @@
 pub mod Growing
 pub mod WordCells
+pub mod Moves
 pub mod Lines
 pub mod Runs
 pub mod CellTexts

@@ -12,7 +12,7 @@ use Rattle.aes3_cell.proofs.PackedWords.{high_cells, bytes-cells}
 use Rattle.aes3_cell.proofs.WrittenForms.{turned}
 
 -- the octets that make a word are octets
-take-fit : (n : ℕ) (xs : List ℕ) → ((i : ℕ) → get_or xs i 0 < 256) → (i : ℕ) → get_or (take n xs) i 0 < 256
+pub take-fit : (n : ℕ) (xs : List ℕ) → ((i : ℕ) → get_or xs i 0 < 256) → (i : ℕ) → get_or (take n xs) i 0 < 256
 take-fit zero xs h i = omega arith
 take-fit (suc n) [] h i = h i
 take-fit (suc n) (x ∷ xs) h zero = h zero

@@ -1,5 +1,5 @@
 -- Cell text as it is written: lines of 64 cells.
-use Rattle.std.specs.Prelude.{ℕ, zero, suc, List, [], ◌∷◌, ◌++◌, ◌/◌, map, take, drop, length}
+use Rattle.std.specs.Prelude.{◌≡◌, ℕ, zero, suc, List, [], ◌∷◌, ◌++◌, ◌/◌, map, take, drop, length}
 use Rattle.aes3_cell.specs.declared.level.Level.{Level}
 use Rattle.aes3_cell.specs.declared.level.Level.TheVariants.{Low, High}
 use Rattle.aes3_cell.specs.Words.{word_len}
@@ -8,6 +8,10 @@ use Rattle.aes3_cell.specs.Words.{word_len}
 abbrev pub byte_of : Level → ℕ
 byte_of Low = 48
 byte_of High = 49
+
+-- the character of a cell
+abbrev pub IsCellByte : ℕ → Type 0
+IsCellByte byte = (level : Level) × (byte ≡ byte_of level)
 
 -- cells and a line feed
 abbrev pub line_text : List Level → List ℕ

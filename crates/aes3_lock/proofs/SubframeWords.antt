@@ -8,8 +8,7 @@ use Rattle.std.proofs.lemmas.Nat.Bits.{bit_at_or, bit_at_above}
 use Rattle.aes3_cell.specs.Words.{low_cells, level_of}
 use Rattle.aes3_cell.proofs.WordCells.{low_cells-same, low_cells-at}
 use Rattle.aes3_slot.specs.Rules.{at}
-use Rattle.aes3_slot.proofs.Bits.{bit_at-shr}
-use Rattle.aes3_slot.proofs.Moves.{shl-above, shl-below}
+use Rattle.aes3_cell.proofs.Moves.{bit_at-shr, shl-above, shl-below}
 use Rattle.aes3_slot.proofs.ReadWords.{low_cells-add, take-low_cells, drop-low_cells}
 
 pub cells-completed : (n cells word : ℕ) → n < 64 → cells < 2 ^ n

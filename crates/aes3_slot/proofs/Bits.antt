@@ -40,9 +40,6 @@ low_bits-add (suc m) n w =
     ap (λ k. low_bits k w) a
     ∙ ap (λ c. eqb (w % 2) 1 ∷ c) (low_bits-add m n (w / 2) ∙ ap (λ v. low_bits m (w / 2) ++ low_bits n v) (shr-shr w 1 m ∙ ap (λ k. w / 2 ^ k) b))
 
-pub bit_at-shr : (w k i : ℕ) → bit_at (w / 2 ^ k) i ≡ bit_at w (k + i)
-bit_at-shr w k i = ap (λ n. n % 2) (shr-shr w k i)
-
 -- the parity of a number of n bits
 pub odd_ones-low_bits : (n w : ℕ) → w < 2 ^ n → eqb (count_ones w % 2) 1 ≡ odd_ones (low_bits n w)
 odd_ones-low_bits zero w h =

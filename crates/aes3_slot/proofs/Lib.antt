@@ -1,5 +1,4 @@
 pub mod Bits
-pub mod Moves
 pub mod Turns
 pub mod Subframes
 pub mod Index

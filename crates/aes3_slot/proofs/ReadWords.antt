@@ -9,7 +9,8 @@ use Rattle.aes3_cell.specs.Words.{level_of, low_cells}
 use Rattle.aes3_cell.proofs.WordCells.{length-low_cells}
 use Rattle.aes3_slot.specs.Bits.{low_bits}
 use Rattle.aes3_slot.specs.Reading.{differs, read_bits}
-use Rattle.aes3_slot.proofs.Bits.{bit_at-shr, lt-from-bits}
+use Rattle.aes3_slot.proofs.Bits.{lt-from-bits}
+use Rattle.aes3_cell.proofs.Moves.{bit_at-shr}
 
 -- the lowest cells and those behind them
 pub low_cells-add : (m n w : ℕ) → low_cells (m + n) w ≡ low_cells m w ++ low_cells n (w / 2 ^ m)

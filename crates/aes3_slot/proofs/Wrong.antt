@@ -14,7 +14,7 @@ use Rattle.aes3_slot.specs.Slots.{mark_runs}
 use Rattle.aes3_slot.specs.Reading.{same, differs}
 use Rattle.aes3_slot.specs.Rules.{at, before, shape, rule}
 use Rattle.aes3_slot.specs.Fronts.{stands}
-use Rattle.aes3_slot.proofs.Moves.{shl-above}
+use Rattle.aes3_cell.proofs.Moves.{shl-above}
 use Rattle.aes3_slot.proofs.Turns.{slot_starts-bit}
 
 preamble-bit : (i : ℕ) → bit_at 255 i ≡ cond (ltb i 8) 1 0
