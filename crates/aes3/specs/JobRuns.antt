@@ -5,15 +5,16 @@ use Rattle.aes3_cell.specs.declared.form.Form.{Form}
 use Rattle.aes3_cell.specs.declared.counts.Counts.{Counts}
 use Rattle.aes3_cell.specs.declared.refusal.RunError.{RunError}
 use Rattle.aes3_cell.specs.declared.refusal.RunError.TheVariants as refusal
-use Rattle.aes3_cell.specs.Ends.{Grew, Told}
+use Rattle.aes3_cell.specs.Ends.{Grew, GrewFront, Told}
 use Rattle.aes3_cell.specs.Written.{written}
 use Rattle.aes3_block.specs.Blocks.{stream}
 use Rattle.aes3_block.specs.Files.{file, whole_blocks, IsBlockFile}
 use Rattle.aes3_lock.specs.Preambles.{marks}
 use Rattle.aes3_lock.specs.Reports.{blocks, decided, normal, reports}
 use Rattle.aes3_engine.specs.Running.{Change, Quiet, Failed}
+use Rattle.aes3_engine.specs.Driving.{WholeInput}
 use Rattle.aes3_engine.specs.Inputs.{IsInput, cells_of, cells_before}
-use Rattle.aes3_engine.specs.Encoding.{IsCauseOf, encode_counts, encoded}
+use Rattle.aes3_engine.specs.Encoding.{IsCauseOf, WholeFile, encode_counts, encoded}
 use Rattle.aes3_engine.specs.CellRuns.{IsCause}
 use Rattle.aes3_engine.specs.ReportRuns.{counts_of}
 use Rattle.aes3_engine.specs.BlockRuns.{begun_stream, written_stream, cut_blocks, decided_blocks}
@@ -59,6 +60,17 @@ begun_of (Show i) b = status_lines (decided_blocks (cells_before i b))
 begun_of (Scan i) b = mark_lines (marks (cells_before i b))
 begun_of (Cut i o from count) b = begun_stream o (cut_blocks from count (decided_blocks (cells_before i b)))
 begun_of (Rewrite i o change) b = begun_stream o (rewritten_blocks change (decided_blocks (cells_before i b)))
+
+-- the source has ended behind an input of the job
+abbrev pub IsWhole : Job → List ℕ → Bool → Type 0
+IsWhole (Encode o) b ended = WholeFile most b ended
+IsWhole (Decode i) b ended = WholeInput most i b ended
+IsWhole (Normal i o) b ended = WholeInput most i b ended
+IsWhole (Check i) b ended = WholeInput most i b ended
+IsWhole (Show i) b ended = WholeInput most i b ended
+IsWhole (Scan i) b ended = WholeInput most i b ended
+IsWhole (Cut i o from count) b ended = WholeInput most i b ended
+IsWhole (Rewrite i o change) b ended = WholeInput most i b ended
 
 -- what it counts
 abbrev pub counts_for : Job → List ℕ → Counts
@@ -109,6 +121,8 @@ pub record JobRefused (job : Job) (ended : Bool) (source sink errors : Change) (
   pub read : error ≡ refusal.Read → Failed source
   pub write : error ≡ refusal.Write → Failed sink
   pub output : error ≢ refusal.Write → (b : List ℕ) → Told source.old source.new b → Grew sink.old sink.new (begun_of job (take most b))
+  pub front : error ≡ refusal.Write → (b : List ℕ) → Told source.old source.new b
+      → GrewFront sink.old sink.new (begun_of job (take most b)) ⊎ (IsWhole job b ended × GrewFront sink.old sink.new (output_of job b))
   pub unowed : (b : List ℕ) → Told source.old source.new b → IsInputOf job b → length b ≤ most → Quiet source → Quiet sink → ⊥
   pub line : Quiet errors → Grew errors.old errors.new (refusal_line error)
 

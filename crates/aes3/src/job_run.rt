@@ -1,8 +1,8 @@
 //! A job between a source and a sink.
 
-ghost use Rattle.std.specs.Prelude.{◌≡◌, ◌≢◌, ◌<◌, ◌≤◌, ◌+◌, ◌^◌, List, ℕ, Err, length, take, IfOk, IfErr, IsOk, OnErr, IsTrue};
-ghost use Rattle.aes3_cell.specs.Ends.{Grew, Told};
-ghost use Rattle.aes3.specs.JobRuns.{IsCauseFor, IsInputOf, begun_of, counts_for, most, output_of, status_by};
+ghost use Rattle.std.specs.Prelude.{◌≡◌, ◌≢◌, ◌<◌, ◌≤◌, ◌+◌, ◌^◌, ◌⊎◌, List, ℕ, Err, length, take, IfOk, IfErr, IsOk, OnErr, IsTrue};
+ghost use Rattle.aes3_cell.specs.Ends.{Grew, GrewFront, Told};
+ghost use Rattle.aes3.specs.JobRuns.{IsCauseFor, IsInputOf, IsWhole, begun_of, counts_for, most, output_of, status_by};
 
 use crate::job::Job;
 use aes3_cell::{Counts, RunError, Sink, Source};
@@ -50,6 +50,9 @@ pub(crate) fn run_job<S: Source, T: Sink>(
     ensures write { result ≡ Err RunError.Write → T.failed sink.new ≡ T.failed sink.old + 1 }
     ensures refused { OnErr result (result ≢ Err RunError.Write → (b : List ℕ) → Told (S.given source.old) (S.given source.new) b
         → Grew (T.taken sink.old) (T.taken sink.new) (begun_of job.now (take most b))) }
+    ensures front { result ≡ Err RunError.Write → (b : List ℕ) → Told (S.given source.old) (S.given source.new) b
+        → GrewFront (T.taken sink.old) (T.taken sink.new) (begun_of job.now (take most b))
+        ⊎ (IsWhole job.now b (S.has_ended source.new) × GrewFront (T.taken sink.old) (T.taken sink.new) (output_of job.now b)) }
 {
     match *job {
         Job::Encode { output } => encode(source, sink, MAX_BYTES, output),

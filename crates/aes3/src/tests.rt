@@ -196,12 +196,7 @@ fn commands_on_the_zero_block(rt: HostRuntime) -> Result<(), Fail> {
 }
 
 /// The first lines of a text, and then other bytes.
-fn begun(
-    alloc: Global,
-    text: &[u8],
-    lines: usize,
-    behind: &[u8],
-) -> Result<Vec<u8>, AllocError>
+fn begun(alloc: Global, text: &[u8], lines: usize, behind: &[u8]) -> Result<Vec<u8>, AllocError>
     requires { lines < 400 }
 {
     let mut bytes = Vec::new(alloc);
@@ -237,7 +232,12 @@ fn commands_on_lines_with_faults(rt: HostRuntime) -> Result<(), Fail> {
         (&["check"], &late, LATE_LINES, 1),
         (&["scan"], &late, LATE_MARKS, 0),
         (&["normal"], &late, b"", 0),
-        (&["check"], &unclosed, b"fault at 0 cell 24576 unclosed\n", 1),
+        (
+            &["check"],
+            &unclosed,
+            b"fault at 0 cell 24576 unclosed\n",
+            1,
+        ),
     ];
     for (words, input, output, status) in rows {
         expect_run(&rt, rt.alloc(), words, input, 100, output, b"", status)?;

@@ -11,6 +11,7 @@ returns-in-Err-clause-ran g c = inr (record {
   read = λ e. c.in-Err.ensures.read (ap (λ x. Err x) e);
   write = λ e. c.in-Err.ensures.write (ap (λ x. Err x) e);
   output = λ n b t. c.in-Err.ensures.refused (λ e. n (error-is e)) b t;
+  front = λ e b t. c.in-Err.ensures.front (ap (λ x. Err x) e) b t;
   unowed = λ b t i l q k. never (Err c.in-Err.error) refl (c.in-Err.ensures.owed b t i l q k);
   line = c.refuse.ensures.line;
 })
