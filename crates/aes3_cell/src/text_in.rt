@@ -62,6 +62,7 @@ impl CellText {
         self.seen += 1;
         Ok(cell)
     }
+
     /// Takes 64 bytes all of which are cells, and answers them as a word, the first in the lowest bit; else it takes none
     /// of them.
     pub fn feed_word(&mut self, bytes: &[u8; 64]) -> Option<u64>

@@ -11,7 +11,8 @@ use std::marker::Model;
 
 /// Finds every block and every begun block in cells that come one by one, in fixed memory.
 ///
-/// A contract sees how many cells it has seen, the last eight, the candidate in hand and the bits of its subframes.
+/// A contract sees how many cells it has seen, the last eight, the candidate in hand, the cells of its last subframe that
+/// isn't whole, and the bits of its whole subframes.
 #[derive(Drop)]
 pub struct Lock {
     seen: u64,
