@@ -130,8 +130,7 @@ fn what_is_decided_before_a_failed_read_is_written(rt: HostRuntime) -> Result<()
     Ok(())
 }
 
-/// Normalises over a sink of which every `step`th write in turn fails. The writes before it are taken, each of `line`
-/// bytes.
+/// Normalises over a sink of which each write in turn fails. The writes before it are taken, each of `line` bytes.
 fn expect_failed_writes(
     rt: &impl Abort,
     alloc: Global,
@@ -139,15 +138,10 @@ fn expect_failed_writes(
     form: Form,
     output: &[u8],
     line: usize,
-    step: usize,
 )
-    requires line { 0 < line }
-    requires step { 0 < step }
+    requires { 0 < line }
 {
     for call in 1..=output.len().div_ceil(line) {
-        if call % step != 1 {
-            continue;
-        }
         let mut source = MemorySource::new(input, 4_096);
         let mut sink = FailingSink::new(alloc, call as u64);
         let answer = normalise(&mut source, &mut sink, MANY, form, form);
@@ -161,7 +155,7 @@ fn expect_failed_writes(
 #[test]
 fn writes_of_two_blocks_failing_in_turn(rt: HostRuntime) -> Result<(), Fail> {
     let two = text_of(rt.alloc(), &[384, 384])?;
-    expect_failed_writes(&rt, rt.alloc(), &two, Form::Text, &two, 65, 59);
+    expect_failed_writes(&rt, rt.alloc(), &two, Form::Text, &two, 65);
     Ok(())
 }
 
@@ -169,14 +163,14 @@ fn writes_of_two_blocks_failing_in_turn(rt: HostRuntime) -> Result<(), Fail> {
 fn writes_behind_an_early_block_failing_in_turn(rt: HostRuntime) -> Result<(), Fail> {
     let early = text_of(rt.alloc(), &[200, 384])?;
     let one = text_of(rt.alloc(), &[384])?;
-    expect_failed_writes(&rt, rt.alloc(), &early, Form::Text, &one, 65, 29);
+    expect_failed_writes(&rt, rt.alloc(), &early, Form::Text, &one, 65);
     Ok(())
 }
 
 #[test]
 fn packed_writes_failing_in_turn(rt: HostRuntime) -> Result<(), Fail> {
     let packed = packed_of(rt.alloc(), 384, &[0])?;
-    expect_failed_writes(&rt, rt.alloc(), &packed, Form::Packed, &packed, 8, 24);
+    expect_failed_writes(&rt, rt.alloc(), &packed, Form::Packed, &packed, 8);
     Ok(())
 }
 
