@@ -1,14 +1,13 @@
 -- Blocks kept as the bits of their slots.
-use Rattle.std.proofs.Common.{◌≡◌, ℕ, zero, suc, ◌+◌, ◌%◌, ◌^◌, ◌<◌, ◌≤◌, ◌⊎◌, inl, inr, List, [], ◌∷◌, ◌++◌, Bool, true, false, cond, eqb, length, map, set, get_or, take, refl, sym, ap, ◌∙◌, arith, length-append, mod-lt}
+use Rattle.std.proofs.Common.{◌≡◌, ℕ, ◌+◌, ◌%◌, ◌^◌, ◌<◌, ◌≤◌, ◌⊎◌, inl, inr, List, [], ◌∷◌, Bool, true, false, cond, eqb, length, map, set, get_or, take, refl, sym, ap, ◌∙◌, arith, length-append}
 use Rattle.std.specs.Prelude.{count_ones}
 use Rattle.std.specs.List.{filter}
 use Rattle.std.proofs.lemmas.Bool.{cases_eq}
 use Rattle.std.proofs.lemmas.List.{length-map, map-append, ext_get_or, get_or-map, get_or-set_same, get_or-set_other, take_more, take_all}
 use Rattle.std.proofs.lemmas.List.Elements.{filter-append}
-use Rattle.aes3_slot.specs.Bits.{low_bits, odd_ones}
+use Rattle.aes3_slot.specs.Bits.{odd_ones}
 use Rattle.aes3_slot.specs.Slots.{payload_len, payload_bits, slots_len, slots_bits}
 use Rattle.aes3_slot.proofs.Bits.{odd_ones-low_bits}
-use Rattle.aes3_block.specs.Blocks.{block_slots}
 use Rattle.aes3_block.specs.Files.{is_lawful, payload_of}
 use Rattle.aes3_block.proofs.BitLemmas.{low_bits-mod}
 

@@ -1,38 +1,52 @@
 -- Lines of cell text.
-use Rattle.std.proofs.Common.{◌≡◌, ℕ, zero, suc, ◌+◌, ◌-◌, ◌*◌, ◌/◌, ◌^◌, ◌<◌, ◌≤◌, List, [], ◌∷◌, ◌++◌, length, take, drop, map, set, replicate, refl, sym, ap, ap₂, ◌∙◌, arith, add-one, cond, eq-eqb, ne_eqb, append_assoc, append-nil, length-append, length-drop, zero-add, suc-add}
-use Rattle.std.proofs.Math.Seq.{set-append_seam}
+use Rattle.std.proofs.Common.{◌≡◌, ℕ, zero, suc, ◌+◌, ◌*◌, ◌/◌, ◌%◌, ◌^◌, ◌<◌, ◌≤◌, List, [], ◌∷◌, ◌++◌, length, take, drop, map, refl, sym, ap, ap₂, ◌∙◌, arith, cond, eq-eqb, ne_eqb, append_assoc, append-nil, length-append, take-append-drop, subst, true, w64, length-drop, zero-add, suc-add}
 use Rattle.std.proofs.lemmas.List.{length-map, map-append, take_all, take-append-le, drop-append-le, nil_from_length}
 use Rattle.aes3_cell.specs.declared.level.Level.{Level}
 use Rattle.aes3_cell.specs.Words.{level_of, low_cells, word_len, word_cells}
 use Rattle.aes3_cell.specs.Text.{byte_of, line_text, lines_text, text_of}
 use Rattle.aes3_cell.specs.Pending.{text_added, begun_after}
-use Rattle.std.specs.Prelude.{bit_and}
-use Rattle.std.specs.Int.{bit_at}
-use Rattle.std.proofs.lemmas.Nat.Bits.{shr_and_one, bit_at-lt}
-use Rattle.aes3_cell.proofs.WordCells.{low_cells-suc, length-low_cells}
+use Rattle.std.specs.Prelude.{bit_and, bit_or}
+use Rattle.std.specs.Int.{to_le_bytes}
+use Rattle.std.proofs.lemmas.Bool.{agree_below_at}
+use Rattle.std.proofs.lemmas.Slice.{take-put_mid}
+use borrow.Rule.Slice.PartMut.{put_mid}
+use Rattle.aes3_cell.proofs.Moves.{same_places, same_places-is}
+use Rattle.aes3_cell.proofs.WordCells.{low_cells-add, low_cells-mod, length-low_cells}
 
 pub word_len_64 : word_len ≡ 64
 unfolding word_len
 word_len_64 = refl
 
--- the line that a cell is written into, its byte given by the bit
-pub line-step : (line : List ℕ) (w i v : ℕ) → i < 64 → line ≡ map byte_of (low_cells i w) ++ replicate (65 - i) 10
-    → v ≡ byte_of (level_of (bit_at w i)) → set line i v ≡ map byte_of (low_cells (i + 1) w) ++ replicate (65 - (i + 1)) 10
-line-step line w i v h e ev =
-    let front = map byte_of (low_cells i w) in
-    let n : length front ≡ i = length-map (low_cells i w) byte_of ∙ length-low_cells i w in
-    let r : replicate (65 - i) 10 ≡ 10 ∷ replicate (65 - (i + 1)) 10 = ap (λ k. replicate k 10) (let y : 65 - i ≡ suc (65 - (i + 1)) = omega arith in y) in
-    ap (λ x. set x i v) (e ∙ ap (λ x. front ++ x) r)
-    ∙ ap (λ k. set (front ++ 10 ∷ replicate (65 - (i + 1)) 10) k v) (sym n)
-    ∙ set-append_seam front 10 (replicate (65 - (i + 1)) 10) v
-    ∙ ap (λ x. front ++ x ∷ replicate (65 - (i + 1)) 10) ev
-    ∙ sym (append_assoc front (byte_of (level_of (bit_at w i)) ∷ []) (replicate (65 - (i + 1)) 10))
-    ∙ ap (λ x. x ++ replicate (65 - (i + 1)) 10) (sym (map-append byte_of (low_cells i w) (level_of (bit_at w i) ∷ [])))
-    ∙ ap (λ x. map byte_of x ++ replicate (65 - (i + 1)) 10) (sym (low_cells-suc i w) ∙ ap (λ k. low_cells k w) (sym (add-one i)))
+-- the characters of an octet, by computation over all
+unfoldable pub characters : ℕ → List ℕ
+characters octet =
+    let a = bit_and (bit_or octet (octet * 2 ^ 28 % 2 ^ 64)) 64424509455 in
+    let b = bit_and (bit_or a (a * 2 ^ 14 % 2 ^ 64)) 844437815230467 in
+    let c = bit_and (bit_or b (b * 2 ^ 7 % 2 ^ 64)) 72340172838076673 in
+    to_le_bytes w64 (bit_or c 3472328296227680304)
 
-pub line-whole : (line : List ℕ) (w i : ℕ) → i ≡ 64 → line ≡ map byte_of (low_cells i w) ++ replicate (65 - i) 10 → line ≡ line_text (word_cells w)
+pub eight-characters : (octet : ℕ) → octet < 256 → characters octet ≡ map byte_of (low_cells 8 octet)
+unfolding characters
+eight-characters octet h =
+    same_places-is (characters octet) (map byte_of (low_cells 8 octet))
+    (agree_below_at (λ n. same_places (characters n) (map byte_of (low_cells 8 n))) (λ _. true) 256 octet refl h)
+
+-- a line with eight characters more
+pub line-eight : (line ys : List ℕ) (w k n octet : ℕ) → k < 8 → length line ≡ 65 → take (8 * k) line ≡ map byte_of (low_cells (8 * k) w)
+    → octet ≡ w / 2 ^ (8 * k) % 256 → ys ≡ map byte_of (low_cells 8 octet) → take (8 * (k + 1)) (put_mid (8 * k) n line ys) ≡ map byte_of (low_cells (8 * (k + 1)) w)
+line-eight line ys w k n octet h l front o e =
+    let y : length ys ≡ 8 = ap length e ∙ length-map (low_cells 8 octet) byte_of in
+    let j : 8 * (k + 1) ≡ 8 * k + 8 = omega arith in
+    take-put_mid (8 * k) n line ys (8 * (k + 1)) (omega (arith, y)) (omega (arith, l))
+    ∙ ap₂ (λ a b. a ++ b) front (e ∙ ap (map byte_of) (ap (low_cells 8) o ∙ low_cells-mod (w / 2 ^ (8 * k))))
+    ∙ sym (map-append byte_of (low_cells (8 * k) w) (low_cells 8 (w / 2 ^ (8 * k))))
+    ∙ ap (map byte_of) (sym (low_cells-add (8 * k) 8 w) ∙ ap (λ m. low_cells m w) (sym j))
+
+pub line-whole : (line : List ℕ) (w k : ℕ) → k ≡ 8 → take (8 * k) line ≡ map byte_of (low_cells (8 * k) w) → drop 64 line ≡ 10 ∷ [] → line ≡ line_text (word_cells w)
 unfolding word_cells word_len
-line-whole line w i e h = h ∙ ap (λ k. map byte_of (low_cells k w) ++ replicate (65 - k) 10) e
+line-whole line w k e front back =
+    let j : 8 * k ≡ 64 = omega (arith, e) in
+    sym (take-append-drop 64 line) ∙ ap₂ (λ a b. a ++ b) (subst (λ n. take n line ≡ map byte_of (low_cells n w)) j front) back
 
 -- a cell put behind the cells begun, which are those of a number
 pub put-short : (p : List Level) (n w : ℕ) (l : Level) → low_cells n w ≡ p → n + 1 < 64 → text_added p l ≡ []
@@ -65,9 +79,6 @@ pub level-byte : (b : ℕ) → b < 2 → 48 + b ≡ byte_of (level_of b)
 level-byte zero h = refl
 level-byte (suc zero) h = refl
 level-byte (suc (suc b)) h = absurd (omega arith)
-
-pub bit-byte : (w i : ℕ) → 48 + bit_and (w / 2 ^ i) 1 ≡ byte_of (level_of (bit_at w i))
-bit-byte w i = ap (λ n. 48 + n) (shr_and_one w i) ∙ level-byte (bit_at w i) (bit_at-lt w i)
 
 -- the text of whole lines, joined
 lines-append : (n m : ℕ) (a b : List Level) → length a ≡ n * word_len → lines_text (n + m) (a ++ b) ≡ lines_text n a ++ lines_text m b

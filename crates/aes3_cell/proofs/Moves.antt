@@ -53,33 +53,55 @@ gathers-masked {w} {x} {f} mask g = record {
     go v is (suc zero) h e l = (let a : min v 1 ≡ v = omega arith in a) ∙ e
     go v is (suc (suc m)) h e l = absurd (omega arith)
 
--- `x | (x << k)`
-abbrev pub with_below : ℕ → (ℕ → List ℕ) → ℕ → List ℕ
-with_below k f i = f i ++ cond {A = List ℕ} (ltb i k) [] (f (i - k))
-
-pub gathers-below : {w x : ℕ} {f : ℕ → List ℕ} (k : ℕ) → Gathers w x f → Gathers w (bit_or x (x * 2 ^ k % 2 ^ 64)) (with_below k f)
-gathers-below {w} {x} {f} k g = record {
-  bound = or_lt 64 x (x * 2 ^ k % 2 ^ 64) g.bound (mod_below (x * 2 ^ k) (2 ^ 64) (lit< tt));
-  bit = λ i h. bit_at_or x _ i ∙ ap₂ max (g.bit i h) (go i h (cases_lt i k)) ∙ sym (any_of-append w (f i) (cond {A = List ℕ} (ltb i k) [] (f (i - k))));
+-- `x | y`
+pub gathers-or : {w x y : ℕ} {f g : ℕ → List ℕ} → Gathers w x f → Gathers w y g → Gathers w (bit_or x y) (λ i. f i ++ g i)
+gathers-or {w} {x} {y} {f} {g} p q = record {
+  bound = or_lt 64 x y p.bound q.bound;
+  bit = λ i h. bit_at_or x y i ∙ ap₂ max (p.bit i h) (q.bit i h) ∙ sym (any_of-append w (f i) (g i));
 }
+
+-- `x << k`
+abbrev pub moved_up : ℕ → (ℕ → List ℕ) → ℕ → List ℕ
+moved_up k f i = cond {A = List ℕ} (ltb i k) [] (f (i - k))
+
+pub gathers-up : {w x : ℕ} {f : ℕ → List ℕ} (k : ℕ) → Gathers w x f → Gathers w (x * 2 ^ k % 2 ^ 64) (moved_up k f)
+gathers-up {w} {x} {f} k g = record { bound = mod_below (x * 2 ^ k) (2 ^ 64) (lit< tt); bit = λ i h. go i h (cases_lt i k) }
   where
     go : (i : ℕ) → i < 64 → (i < k) ⊎ (k ≤ i) → bit_at (x * 2 ^ k % 2 ^ 64) i ≡ any_of w (cond {A = List ℕ} (ltb i k) [] (f (i - k)))
     go i h (inl a) = let t = lt-ltb i k a in rw t (shl-below x k i h a)
     go i h (inr a) = let t = le-ltb i k a in rw t (shl-above x k i h a ∙ g.bit (i - k) (omega arith))
 
--- `x | (x >> k)`
-abbrev pub with_above : ℕ → (ℕ → List ℕ) → ℕ → List ℕ
-with_above k f i = f i ++ cond {A = List ℕ} (ltb (k + i) 64) (f (k + i)) []
+-- `x >> k`
+abbrev pub moved_down : ℕ → (ℕ → List ℕ) → ℕ → List ℕ
+moved_down k f i = cond {A = List ℕ} (ltb (k + i) 64) (f (k + i)) []
 
-pub gathers-above : {w x : ℕ} {f : ℕ → List ℕ} (k : ℕ) → Gathers w x f → Gathers w (bit_or x (x / 2 ^ k)) (with_above k f)
-gathers-above {w} {x} {f} k g = record {
-  bound = or_lt 64 x (x / 2 ^ k) g.bound (let l = shr_le x k in let b = g.bound in omega arith);
-  bit = λ i h. bit_at_or x _ i ∙ ap₂ max (g.bit i h) (bit_at-shr x k i ∙ go i (cases_lt (k + i) 64)) ∙ sym (any_of-append w (f i) (cond {A = List ℕ} (ltb (k + i) 64) (f (k + i)) []));
-}
+pub gathers-down : {w x : ℕ} {f : ℕ → List ℕ} (k : ℕ) → Gathers w x f → Gathers w (x / 2 ^ k) (moved_down k f)
+gathers-down {w} {x} {f} k g = record { bound = let l = shr_le x k in let b = g.bound in omega arith; bit = λ i h. bit_at-shr x k i ∙ go i (cases_lt (k + i) 64) }
   where
     go : (i : ℕ) → (k + i < 64) ⊎ (64 ≤ k + i) → bit_at x (k + i) ≡ any_of w (cond {A = List ℕ} (ltb (k + i) 64) (f (k + i)) [])
     go i (inl a) = let t = lt-ltb (k + i) 64 a in rw t (g.bit (k + i) a)
     go i (inr a) = let t = le-ltb (k + i) 64 a in rw t (bit_at_above x 64 (k + i) g.bound a)
+
+-- `x | (x << k)` and `x | (x >> k)`
+abbrev pub with_below : ℕ → (ℕ → List ℕ) → ℕ → List ℕ
+with_below k f i = f i ++ moved_up k f i
+
+pub gathers-below : {w x : ℕ} {f : ℕ → List ℕ} (k : ℕ) → Gathers w x f → Gathers w (bit_or x (x * 2 ^ k % 2 ^ 64)) (with_below k f)
+gathers-below k g = gathers-or g (gathers-up k g)
+
+abbrev pub with_above : ℕ → (ℕ → List ℕ) → ℕ → List ℕ
+with_above k f i = f i ++ moved_down k f i
+
+pub gathers-above : {w x : ℕ} {f : ℕ → List ℕ} (k : ℕ) → Gathers w x f → Gathers w (bit_or x (x / 2 ^ k)) (with_above k f)
+gathers-above k g = gathers-or g (gathers-down k g)
+
+-- `(x >> k & mask) | (x & mask) << k`
+abbrev pub exchanged : ℕ → ℕ → (ℕ → List ℕ) → ℕ → List ℕ
+exchanged k mask f i = masked mask (moved_down k f) i ++ moved_up k (masked mask f) i
+
+pub gathers-exchanged : {w x : ℕ} {f : ℕ → List ℕ} (k mask : ℕ) → Gathers w x f
+    → Gathers w (bit_or (bit_and (x / 2 ^ k) mask) (bit_and x mask * 2 ^ k % 2 ^ 64)) (exchanged k mask f)
+gathers-exchanged k mask g = gathers-or (gathers-masked mask (gathers-down k g)) (gathers-up k (gathers-masked mask g))
 
 -- a number of n bits itself
 abbrev pub in_place : ℕ → ℕ → List ℕ
@@ -99,7 +121,7 @@ same_places [] (j ∷ js) = false
 same_places (i ∷ is) [] = false
 same_places (i ∷ is) (j ∷ js) = eqb i j && same_places is js
 
-same_places-is : (is js : List ℕ) → same_places is js ≡ true → is ≡ js
+pub same_places-is : (is js : List ℕ) → same_places is js ≡ true → is ≡ js
 same_places-is [] [] h = refl
 same_places-is [] (j ∷ js) h = cc
 same_places-is (i ∷ is) [] h = cc

@@ -1,15 +1,15 @@
 -- Words of cells in octets.
-use Rattle.std.proofs.Common.{◌≡◌, ℕ, zero, suc, ◌+◌, ◌<◌, ◌≤◌, List, [], ◌∷◌, ◌++◌, length, take, get_or, reverse, refl, sym, ap, ap₂, ◌∙◌, arith, append_assoc, length-append, w64}
-use Rattle.std.specs.Int.{reverse_bits_onto, from_be_bytes}
-use Rattle.std.proofs.lemmas.List.{reverse-append, reverse-reverse, length-reverse}
+use Rattle.std.proofs.Common.{◌≡◌, ℕ, zero, suc, ◌+◌, ◌-◌, ◌<◌, ◌≤◌, List, [], ◌∷◌, ◌++◌, length, take, get_or, reverse, refl, sym, ap, ap₂, ◌∙◌, arith, append_assoc, length-append, w64}
+use Rattle.std.specs.Int.{bit_at, from_be_bytes}
+use Rattle.std.proofs.lemmas.List.{reverse-append, length-reverse}
 use Rattle.std.proofs.lemmas.Nat.{be_bytes_8}
-use Rattle.aes3_cell.specs.Words.{low_cells, word_len, word_cells}
+use Rattle.aes3_cell.specs.Words.{word_len, word_cells}
 use Rattle.aes3_cell.specs.Packed.{cells_of_octets, whole_cells}
 use Rattle.aes3_cell.specs.PackedReading.{PackedReader, packed_reader_of, behind_eight, eight_whole}
 use Rattle.aes3_cell.proofs.PackedCells.{cells_of_octets-append}
 use Rattle.aes3_cell.proofs.PackedReads.{LastTwo, last_two, whole-of}
-use Rattle.aes3_cell.proofs.PackedWords.{high_cells, bytes-cells}
-use Rattle.aes3_cell.proofs.WrittenForms.{turned}
+use Rattle.aes3_cell.proofs.PackedWords.{bytes-cells}
+use Rattle.aes3_cell.proofs.WrittenForms.{turned-low}
 
 -- the octets that make a word are octets
 pub take-fit : (n : ℕ) (xs : List ℕ) → ((i : ℕ) → get_or xs i 0 < 256) → (i : ℕ) → get_or (take n xs) i 0 < 256
@@ -23,21 +23,14 @@ octets-fit x y n xs h k f zero = h
 octets-fit x y n xs h k f (suc zero) = k
 octets-fit x y n xs h k f (suc (suc i)) = take-fit n xs f i
 
--- the cells of a word turned round
-turned-cells : (n : ℕ) → low_cells 64 (reverse_bits_onto 64 n 0) ≡ high_cells 64 n
-turned-cells n =
-    let w = reverse_bits_onto 64 n 0 in
-    sym (reverse-reverse (low_cells 64 w)) ∙ ap reverse (turned 64 0 n 0)
-
-octets-word-cells : (octets : List ℕ) (n w : ℕ) → length octets ≡ 8 → ((i : ℕ) → get_or octets i 0 < 256) → n ≡ from_be_bytes w64 octets → w ≡ reverse_bits_onto 64 n 0
-    → word_cells w ≡ cells_of_octets octets
+octets-word-cells : (octets : List ℕ) (n w : ℕ) → length octets ≡ 8 → ((i : ℕ) → get_or octets i 0 < 256) → n ≡ from_be_bytes w64 octets
+    → ((i : ℕ) → i < 64 → bit_at w i ≡ bit_at n (63 - i)) → word_cells w ≡ cells_of_octets octets
 unfolding word_cells word_len
-octets-word-cells octets n w l b e t =
-    ap (low_cells 64) t ∙ turned-cells n ∙ sym (bytes-cells 8 n) ∙ ap cells_of_octets (be_bytes_8 octets n l b e)
+octets-word-cells octets n w l b e t = turned-low n w t ∙ sym (bytes-cells 8 n) ∙ ap cells_of_octets (be_bytes_8 octets n l b e)
 
 pub eight-word : (x y : ℕ) (octets : List ℕ) (n w : ℕ) → length octets ≡ 8 → x < 256 → y < 256 → ((i : ℕ) → get_or octets i 0 < 256)
     → n ≡ from_be_bytes w64 (x ∷ y ∷ get_or octets 0 0 ∷ get_or octets 1 0 ∷ get_or octets 2 0 ∷ get_or octets 3 0 ∷ get_or octets 4 0 ∷ get_or octets 5 0 ∷ [])
-    → w ≡ reverse_bits_onto 64 n 0 → word_cells w ≡ cells_of_octets (x ∷ y ∷ take 6 octets)
+    → ((i : ℕ) → i < 64 → bit_at w i ≡ bit_at n (63 - i)) → word_cells w ≡ cells_of_octets (x ∷ y ∷ take 6 octets)
 eight-word x y (o ∷ p ∷ q ∷ r ∷ s ∷ t ∷ u ∷ v ∷ []) n w l h k f e g =
     octets-word-cells (x ∷ y ∷ o ∷ p ∷ q ∷ r ∷ s ∷ t ∷ []) n w refl (octets-fit x y 6 (o ∷ p ∷ q ∷ r ∷ s ∷ t ∷ u ∷ v ∷ []) h k f) e g
 eight-word x y _ n w l h k f e g = absurd (omega arith)

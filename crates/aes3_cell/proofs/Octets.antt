@@ -3,12 +3,12 @@ use Rattle.std.proofs.Common.{◌≡◌, ℕ, zero, suc, ◌+◌, ◌-◌, ◌*�
 use Rattle.std.specs.Int.{bit_at}
 use Rattle.std.proofs.lemmas.List.{length-reverse, reverse-append, replicate_more, get_or-reverse}
 use Rattle.std.proofs.lemmas.Nat.{mod-pow-add}
-use Rattle.std.proofs.Math.Nat.{pow-succ', div-div-eq-div-mul}
+use Rattle.std.proofs.Math.Nat.{pow-succ'}
 use Rattle.aes3_cell.specs.declared.level.Level.{Level}
 use Rattle.aes3_cell.specs.declared.level.Level.TheVariants.{Low, High}
 use Rattle.aes3_cell.specs.Words.{level_of, bit_of, low_cells}
 use Rattle.aes3_cell.specs.Packed.{octet_cells, weight, octet_of}
-use Rattle.aes3_cell.proofs.WordCells.{length-low_cells, low_cells-at}
+use Rattle.aes3_cell.proofs.WordCells.{length-low_cells, low_cells-add, low_cells-at}
 
 pub bit_of-lt : (level : Level) → bit_of level < 2
 bit_of-lt Low = omega arith
@@ -39,16 +39,6 @@ pub reverse-replicate : {X : Type 0} (n : ℕ) (x : X) → reverse (replicate n 
 reverse-replicate zero x = refl
 reverse-replicate (suc n) x =
     reverse-cons x (replicate n x) ∙ ap (λ c. c ++ x ∷ []) (reverse-replicate n x) ∙ replicate_more n x ∙ ap (λ k. replicate k x) (add-one n)
-
--- cells in a number, joined
-pub low_cells-add : (n m w : ℕ) → low_cells (n + m) w ≡ low_cells n w ++ low_cells m (w / 2 ^ n)
-low_cells-add zero m w = ap₂ low_cells (let e : 0 + m ≡ m = omega arith in e) (let e : w ≡ w / 1 = omega arith in e)
-low_cells-add (suc n) m w =
-    ap (λ k. low_cells k w) (let e : suc n + m ≡ suc (n + m) = omega arith in e)
-    ∙ ap (λ c. level_of (w % 2) ∷ c) (low_cells-add n m (w / 2) ∙ ap (λ v. low_cells n (w / 2) ++ low_cells m v) halves)
-  where
-    halves : w / 2 / 2 ^ n ≡ w / 2 ^ suc n
-    halves = div-div-eq-div-mul w 2 (2 ^ n) ∙ ap (λ d. w / d) (sym (pow-succ' 2 n))
 
 -- the lowest n bits are zero exactly where these cells are Low
 mod-suc : (w n : ℕ) → w % 2 ^ suc n ≡ (w / 2 % 2 ^ n) * 2 + w % 2

@@ -7,8 +7,8 @@ use Rattle.aes3_cell.specs.declared.level.Level.{Level}
 use Rattle.aes3_cell.specs.declared.level.Level.TheVariants.{Low}
 use Rattle.aes3_cell.specs.Words.{low_cells}
 use Rattle.aes3_cell.specs.Packed.{octet_cells, cells_of_octets, Packs, is_padded, ends_packed, is_packed, last_place, last_octet, cells_of_packed, octet_of, first_octets, octets_of, packed_of}
-use Rattle.aes3_cell.proofs.WordCells.{length-low_cells}
-use Rattle.aes3_cell.proofs.Octets.{reverse-more, reverse-replicate, low_bits-zero, low_cells-add, length-octet_cells, octet_cells-unused, weight-fill, weight-take, octet_of-octet_cells, octet_cells-octet_of}
+use Rattle.aes3_cell.proofs.WordCells.{length-low_cells, low_cells-add}
+use Rattle.aes3_cell.proofs.Octets.{reverse-more, reverse-replicate, low_bits-zero, length-octet_cells, octet_cells-unused, weight-fill, weight-take, octet_of-octet_cells, octet_cells-octet_of}
 
 -- the cells of octets joined
 pub cells_of_octets-append : (a b : List ℕ) → cells_of_octets (a ++ b) ≡ cells_of_octets a ++ cells_of_octets b

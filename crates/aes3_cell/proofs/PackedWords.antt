@@ -11,9 +11,9 @@ use Rattle.aes3_cell.specs.Words.{level_of, bit_of, low_cells, word_len}
 use Rattle.aes3_cell.specs.Pending.{begun_after}
 use Rattle.aes3_cell.specs.Packed.{octet_cells, cells_of_octets, first_octets, octets_needed, octets_of, packed_of}
 use Rattle.aes3_cell.specs.PackedPending.{octets_added}
-use Rattle.aes3_cell.proofs.WordCells.{length-low_cells, low_cells-same}
+use Rattle.aes3_cell.proofs.WordCells.{length-low_cells, low_cells-add, low_cells-same}
 use Rattle.aes3_cell.proofs.Lines.{word_len_64}
-use Rattle.aes3_cell.proofs.Octets.{level_of-bit_of, bit_of-lt, reverse-cons, low_cells-add, lowest-cell}
+use Rattle.aes3_cell.proofs.Octets.{level_of-bit_of, bit_of-lt, reverse-cons, lowest-cell}
 use Rattle.aes3_cell.proofs.PackedCells.{first_octets-cells_of_octets, first_octets-fill, take-first_octets, length-first_octets}
 
 -- the cells of a word, the latest in the lowest bit

@@ -1,10 +1,11 @@
 -- Cells in words, by their bits.
-use Rattle.std.proofs.Common.{◌≡◌, ℕ, zero, suc, ◌+◌, ◌*◌, ◌/◌, ◌%◌, ◌^◌, ◌<◌, [], ◌∷◌, ◌++◌, length, get_or, refl, sym, ap, ap₂, ◌∙◌, arith, add-one, w64}
+use Rattle.std.proofs.Common.{◌≡◌, ℕ, zero, suc, ◌+◌, ◌*◌, ◌/◌, ◌%◌, ◌^◌, ◌<◌, [], ◌∷◌, ◌++◌, length, take, drop, min, get_or, refl, sym, ap, ap₂, ◌∙◌, arith, add-one, w64}
 use Rattle.std.specs.Prelude.{bit_or}
 use Rattle.std.specs.Int.{bit_at}
 use Rattle.std.specs.Int.Bits.{or_shifted_r}
-use Rattle.std.proofs.lemmas.Nat.{one_shl}
-use Rattle.std.proofs.lemmas.Nat.Bits.{bit_at_lowest, bit_at-suc, bit_at_above, bit_at_set_same, bit_at_set_other}
+use Rattle.std.proofs.lemmas.List.{drop_at, take_at}
+use Rattle.std.proofs.lemmas.Nat.{one_shl, shr-shr, and_mask}
+use Rattle.std.proofs.lemmas.Nat.Bits.{bit_at_lowest, bit_at-suc, bit_at_above, bit_at_set_same, bit_at_set_other, bit_at_and, bit_at_ones, bit_at-lt}
 use Rattle.std.proofs.Math.Nat.{pow-succ'}
 use Rattle.aes3_cell.specs.declared.level.Level.TheVariants.{Low, High}
 use Rattle.aes3_cell.specs.Words.{level_of, low_cells, word_len, word_cells}
@@ -23,12 +24,36 @@ low_cells-suc zero w = ap (λ b. level_of b ∷ []) (sym (bit_at_lowest w))
 low_cells-suc (suc n) w =
     ap (λ c. level_of (w % 2) ∷ c) (low_cells-suc n (w / 2) ∙ ap (λ b. low_cells n (w / 2) ++ level_of b ∷ []) (sym (bit_at-suc w n)))
 
+-- the lowest cells and those behind them
+pub low_cells-add : (m n w : ℕ) → low_cells (m + n) w ≡ low_cells m w ++ low_cells n (w / 2 ^ m)
+low_cells-add zero n w =
+    let a : zero + n ≡ n = omega arith in
+    let b : w / 1 ≡ w = omega arith in
+    rw (a, b) refl
+low_cells-add (suc m) n w =
+    let a : suc m + n ≡ suc (m + n) = omega arith in
+    let b : 1 + m ≡ suc m = omega arith in
+    ap (λ k. low_cells k w) a
+    ∙ ap (λ c. level_of (w % 2) ∷ c) (low_cells-add m n (w / 2) ∙ ap (λ v. low_cells m (w / 2) ++ low_cells n v) (shr-shr w 1 m ∙ ap (λ k. w / 2 ^ k) b))
+
+pub drop-low_cells : (m n w : ℕ) → drop m (low_cells (m + n) w) ≡ low_cells n (w / 2 ^ m)
+drop-low_cells m n w = ap (drop m) (low_cells-add m n w) ∙ drop_at (low_cells m w) (low_cells n (w / 2 ^ m)) m (length-low_cells m w)
+
+pub take-low_cells : (m n w : ℕ) → take m (low_cells (m + n) w) ≡ low_cells m w
+take-low_cells m n w = ap (take m) (low_cells-add m n w) ∙ take_at (low_cells m w) (low_cells n (w / 2 ^ m)) m (length-low_cells m w)
+
 -- the lowest bits alone count
 pub low_cells-same : (n a b : ℕ) → ((i : ℕ) → i < n → bit_at a i ≡ bit_at b i) → low_cells n a ≡ low_cells n b
 low_cells-same zero a b h = refl
 low_cells-same (suc n) a b h =
     ap₂ (λ bit c. level_of bit ∷ c) (sym (bit_at_lowest a) ∙ h 0 (omega arith) ∙ bit_at_lowest b)
     (low_cells-same n (a / 2) (b / 2) (λ i lt. sym (bit_at-suc a i) ∙ h (suc i) (omega arith) ∙ bit_at-suc b i))
+
+pub low_cells-mod : (w : ℕ) → low_cells 8 (w % 256) ≡ low_cells 8 w
+low_cells-mod w =
+    low_cells-same 8 (w % 256) w (λ i h.
+    let b = bit_at-lt w i in
+    ap (λ n. bit_at n i) (sym (and_mask w 8)) ∙ bit_at_and w 255 i ∙ ap (min (bit_at w i)) (bit_at_ones 8 i h) ∙ omega (arith, b))
 
 -- cell i is bit i
 pub low_cells-at : (n w i : ℕ) → i < n → get_or (low_cells n w) i Low ≡ level_of (bit_at w i)

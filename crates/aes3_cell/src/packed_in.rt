@@ -26,6 +26,7 @@ ghost use Rattle.aes3_cell.specs.PackedReading.{packed_answer, packed_next, pack
 ghost use Rattle.aes3_cell.specs.Words.{word_cells};
 
 use crate::refusal::BadPadding;
+use crate::word::turned;
 
 /// Whether `unused` cells, fewer than eight, are Low at the end of an octet.
 fn is_rightly_padded(octet: u8, unused: u8) -> bool
@@ -120,7 +121,7 @@ impl PackedIn {
         self.seen += 8;
         self.before_last = before_last;
         self.last = last;
-        Some(u64::from_be_bytes(whole).reverse_bits())
+        Some(turned(u64::from_be_bytes(whole)))
     }
 
     /// Takes the end: answers the octet before the last and how many of its cells are used, 1 to 8, the first in the

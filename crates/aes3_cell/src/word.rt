@@ -1,6 +1,6 @@
 //! Words of 64 cells, the earliest in the lowest bit, their line of text and their octets.
 
-ghost use Rattle.std.specs.Prelude.{◌≡◌, ◌+◌, ◌*◌, ◌%◌, ◌<◌, ◌≤◌, ◌^◌, ℕ, [], ◌∷◌, ◌++◌, ◌↔◌, map, take, drop, IfSome, IsTrue};
+ghost use Rattle.std.specs.Prelude.{◌≡◌, ◌+◌, ◌-◌, ◌*◌, ◌%◌, ◌<◌, ◌≤◌, ◌^◌, ℕ, [], ◌∷◌, ◌++◌, ◌↔◌, map, take, drop, IfSome, IsTrue};
 ghost use Rattle.std.specs.Int.{bit_at};
 ghost use Rattle.std.specs.List.{All};
 ghost use Rattle.aes3_cell.specs.Words.{level_of, low_cells, word_cells};
@@ -28,12 +28,17 @@ pub(crate) fn with_cell(word: u64, len: u32, level: Level) -> u64
     }
 }
 
-/// The character of cell `i`.
-fn cell_byte(word: u64, i: u32) -> u8
-    requires { i < WORD_LEN }
-    ensures { result ≡ byte_of (level_of (bit_at word i)) }
+/// The characters of the cells of an octet, the first in its lowest bit.
+fn eight_characters(octet: u8) -> [u8; 8]
+    ensures { result ≡ map byte_of (low_cells 8 octet) }
 {
-    b'0' + ((word >> i) & 1) as u8
+    // Each bit in a byte of its own.
+    let word = u64::from(octet);
+    let word = (word | (word << 28)) & 0x0000_000F_0000_000F;
+    let word = (word | (word << 14)) & 0x0003_0003_0003_0003;
+    let word = (word | (word << 7)) & 0x0101_0101_0101_0101;
+    // The character `0` is 0x30, and `1` the next.
+    (word | 0x3030_3030_3030_3030).to_le_bytes()
 }
 
 /// The line of text of a word of cells: 64 characters and a line feed.
@@ -41,17 +46,30 @@ pub fn line_of_word(word: u64) -> [u8; LINE_LEN]
     ensures { result ≡ line_text (word_cells word) }
 {
     let mut line = [b'\n'; LINE_LEN];
-    for i in 0..WORD_LEN {
-        line[i as usize] = cell_byte(word, i);
+    for k in 0..8 {
+        let octet = ((word >> (8 * k)) % 256) as u8;
+        line[8 * k..8 * k + 8].copy_from_slice(&eight_characters(octet));
     }
     line
+}
+
+/// The bits in the opposite order, by exchanging bits, pairs of bits and so on: std's `reverse_bits` goes bit by bit.
+pub(crate) fn turned(word: u64) -> u64
+    ensures { (i : ℕ) → i < 64 → bit_at result i ≡ bit_at word (63 - i) }
+{
+    let word = (word >> 1) & 0x5555_5555_5555_5555 | (word & 0x5555_5555_5555_5555) << 1;
+    let word = (word >> 2) & 0x3333_3333_3333_3333 | (word & 0x3333_3333_3333_3333) << 2;
+    let word = (word >> 4) & 0x0F0F_0F0F_0F0F_0F0F | (word & 0x0F0F_0F0F_0F0F_0F0F) << 4;
+    let word = (word >> 8) & 0x00FF_00FF_00FF_00FF | (word & 0x00FF_00FF_00FF_00FF) << 8;
+    let word = (word >> 16) & 0x0000_FFFF_0000_FFFF | (word & 0x0000_FFFF_0000_FFFF) << 16;
+    word >> 32 | word << 32
 }
 
 /// The octets of a word of cells, the first cell in the highest bit of the first octet.
 pub fn octets_of_word(word: u64) -> [u8; 8]
     ensures { result ≡ octets_of (word_cells word) }
 {
-    word.reverse_bits().to_be_bytes()
+    turned(word).to_be_bytes()
 }
 
 /// Whether all bytes are characters of cells. It neither stops nor branches at a byte, so that it runs on many at once.

@@ -9,8 +9,8 @@ use Rattle.aes3_cell.specs.declared.level.Level.{Level}
 use Rattle.aes3_slot.specs.declared.mark.Mark.{Mark}
 use Rattle.aes3_slot.specs.declared.mark.Mark.TheVariants.{X, Y, Z}
 use Rattle.aes3_slot.specs.Rules.{StandsMark}
-use Rattle.aes3_slot.proofs.Preambles.{stands-room}
-use Rattle.aes3_lock.specs.Candidates.{entry, begins_with}
+use Rattle.aes3_slot.proofs.OwnPreambles.{stands-room}
+use Rattle.aes3_slot.specs.Preambles.{entry, begins_with}
 use Rattle.aes3_lock.specs.Preambles.{first_mark, placed, marks_from, marks}
 use Rattle.aes3_lock.specs.Laws.{AreAllMarks}
 use Rattle.aes3_lock.proofs.Beginnings.{begins-stands}

@@ -7,9 +7,9 @@ use Rattle.aes3_slot.specs.declared.mark.Mark.{Mark}
 use Rattle.aes3_slot.specs.declared.mark.Mark.TheVariants.{X, Y, Z}
 use Rattle.aes3_slot.specs.Slots.{mark_runs}
 use Rattle.aes3_slot.specs.Rules.{shape, StandsMark}
-use Rattle.aes3_slot.proofs.Preambles.{stands-at, shapes-apart}
+use Rattle.aes3_slot.proofs.OwnPreambles.{stands-at, shapes-apart}
 use Rattle.aes3_lock.proofs.Deciding.{same_cells-true, same_cells-refl}
-use Rattle.aes3_lock.specs.Candidates.{same_cells, entry, begins_with}
+use Rattle.aes3_slot.specs.Preambles.{same_cells, entry, begins_with}
 
 -- the test and the fact
 pub begins-stands : (m : Mark) (c : List Level) → begins_with m c ≡ true → StandsMark m (entry c) c 0

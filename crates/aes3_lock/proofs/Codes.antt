@@ -12,7 +12,8 @@ use Rattle.aes3_slot.specs.Rules.{rule}
 use Rattle.aes3_slot.specs.Reading.{same, differs}
 use Rattle.aes3_block.specs.Blocks.{block_len, mark_at}
 use Rattle.aes3_lock.specs.declared.report.Report.TheVariants.{Whole}
-use Rattle.aes3_lock.specs.Candidates.{entry, begins_with, begins_block}
+use Rattle.aes3_slot.specs.Preambles.{entry, begins_with}
+use Rattle.aes3_lock.specs.Candidates.{begins_block}
 use Rattle.aes3_lock.specs.Outcomes.{fault, unfinished, payloads_of, wrong_parities, block_outcome}
 use Rattle.aes3_lock.specs.Reports.{report_of}
 use Rattle.aes3_lock.specs.Steps.{begins_a_block, begun, ended, left}

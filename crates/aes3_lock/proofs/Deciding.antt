@@ -11,10 +11,11 @@ use Rattle.aes3_slot.specs.Rules.{StandsMark, at, before, shape, AllKept}
 use Rattle.aes3_slot.specs.Reading.{same, read_slots, read_bits}
 use Rattle.aes3_slot.proofs.Index.{before-append_left, length-mark}
 use Rattle.aes3_slot.proofs.RuleTests.{same-true, same-refl}
-use Rattle.aes3_slot.proofs.Preambles.{only-Z, stands-at}
+use Rattle.aes3_slot.proofs.OwnPreambles.{only-Z, stands-at}
 use Rattle.aes3_block.specs.Blocks.{mark_at, block_slots, block_len}
 use Rattle.aes3_lock.specs.declared.report.Report.{Report}
-use Rattle.aes3_lock.specs.Candidates.{same_cells, keeps, front, entry, begins_with, begins_block}
+use Rattle.aes3_slot.specs.Preambles.{same_cells, entry, begins_with}
+use Rattle.aes3_lock.specs.Candidates.{keeps, front, begins_block}
 use Rattle.aes3_lock.specs.Outcomes.{outcome, Outcome, fault, unfinished, block_outcome}
 use Rattle.aes3_lock.specs.Reports.{told, decided_at, open_at, decided_from}
 use Rattle.aes3_lock.proofs.Fronts.{front-is, front-stays, kept-from-keeps}

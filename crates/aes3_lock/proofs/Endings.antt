@@ -10,7 +10,8 @@ use Rattle.aes3_slot.proofs.RuleTests.{same-true, same-refl}
 use Rattle.aes3_slot.proofs.Bridge.{read-runs}
 use Rattle.aes3_slot.proofs.Unique.{read_slots-line}
 use Rattle.aes3_block.specs.Blocks.{mark_at, block_slots, block_len}
-use Rattle.aes3_lock.specs.Candidates.{entry, front}
+use Rattle.aes3_slot.specs.Preambles.{entry}
+use Rattle.aes3_lock.specs.Candidates.{front}
 use Rattle.aes3_lock.specs.Outcomes.{Outcome, fault, unfinished, outcome, block_outcome}
 use Rattle.aes3_lock.specs.Standing.{IsClosed, SubframesStand}
 use Rattle.aes3_lock.proofs.Fronts.{IsFront, front-is, kept-from-keeps}

@@ -6,7 +6,8 @@ use Rattle.std.proofs.lemmas.List.Elements.{filter-append}
 use Rattle.aes3_cell.specs.declared.level.Level.{Level}
 use Rattle.aes3_slot.specs.Reading.{read_slots}
 use Rattle.aes3_block.specs.Blocks.{block_slots, block_len}
-use Rattle.aes3_lock.specs.Candidates.{entry, begins_block, front}
+use Rattle.aes3_slot.specs.Preambles.{entry}
+use Rattle.aes3_lock.specs.Candidates.{begins_block, front}
 use Rattle.aes3_lock.specs.Outcomes.{Outcome, whole, marked, outcome, block_outcome, wrong_parities, payloads_of}
 use Rattle.aes3_lock.specs.Reports.{told, report_of, outcome_at, reports_from, reports, decided_at, decided_from, decided, is_decided}
 use Rattle.aes3_lock.proofs.Fronts.{front-is}

@@ -9,7 +9,8 @@ use Rattle.aes3_slot.specs.Rules.{at, before, rule}
 use Rattle.aes3_slot.specs.Reading.{same, read_slots}
 use Rattle.aes3_block.specs.Blocks.{mark_at, block_slots, block_len}
 use Rattle.aes3_lock.specs.declared.candidate.Candidate.{Candidate}
-use Rattle.aes3_lock.specs.Candidates.{entry, begins_block, keeps, front}
+use Rattle.aes3_slot.specs.Preambles.{entry}
+use Rattle.aes3_lock.specs.Candidates.{begins_block, keeps, front}
 use Rattle.aes3_lock.specs.Outcomes.{outcome}
 use Rattle.aes3_lock.specs.Reports.{told, report_of, open_at, decided_at, decided_from, decided, reports}
 use Rattle.aes3_lock.specs.Steps.{last_eight, eight_with, begun, ended, left}
@@ -36,29 +37,30 @@ begun-none n recent h = go (cases_lt n 8)
     go (inl g) = let t : leb 8 n ≡ false = lt-leb 8 n g in rw t refl
     go (inr g) = let t = le-leb 8 n g in let b = h g in rw (t, b) refl
 
+-- none is open where none longer is and the last eight cells begin none
+pub closed : (c : List Level) → ((q : ℕ) → 8 < length (drop q c) → open_at (drop q c) ≡ false) → (8 ≤ length c → begins_block (last_eight c) ≡ false) → NoneOpen c
+closed c none b q = false_from_ne_true (open_at (drop q c)) (λ t. here t (cases_lt 8 (length (drop q c))))
+  where
+    here : open_at (drop q c) ≡ true → (8 < length (drop q c)) ⊎ (length (drop q c) ≤ 8) → ⊥
+    here t (inl g) = true≢false (sym t ∙ none q g)
+    here t (inr g) =
+        let o = is-open (drop q c) t in
+        let r = open-room (drop q c) o in
+        let l = length-drop q c in
+        let i : length c - 8 ≡ q = omega (arith, r, l, g) in
+        let s : last_eight c ≡ drop q c = last_eight-is c (omega (arith, r, l)) ∙ ap (λ n. drop n c) i in
+        true≢false (sym (ap begins_block s ∙ o.begins) ∙ b (omega (arith, r, l)))
+
 -- what is in hand where the last eight cells alone can show it
 restarted : (c : List Level) (subframe : ℕ) (slots : List ℕ) → low_cells 8 subframe ≡ last_eight c → subframe < 2 ^ 8
     → ((q : ℕ) → 8 < length (drop q c) → open_at (drop q c) ≡ false)
     → MatchOption (begun (length c) (last_eight c)) (NoneOpen c) (λ t. OpenAt subframe slots t c)
 restarted c subframe slots kept few none = go (cases_lt (length c) 8) (cases_Bool (begins_block (last_eight c)))
   where
-    closed : (8 ≤ length c → begins_block (last_eight c) ≡ false) → NoneOpen c
-    closed b q = false_from_ne_true (open_at (drop q c)) (λ t. here t (cases_lt 8 (length (drop q c))))
-      where
-        here : open_at (drop q c) ≡ true → (8 < length (drop q c)) ⊎ (length (drop q c) ≤ 8) → ⊥
-        here t (inl g) = true≢false (sym t ∙ none q g)
-        here t (inr g) =
-            let o = is-open (drop q c) t in
-            let r = open-room (drop q c) o in
-            let l = length-drop q c in
-            let i : length c - 8 ≡ q = omega (arith, r, l, g) in
-            let s : last_eight c ≡ drop q c = last_eight-is c (omega (arith, r, l)) ∙ ap (λ n. drop n c) i in
-            true≢false (sym (ap begins_block s ∙ o.begins) ∙ b (omega (arith, r, l)))
-
     go : (length c < 8) ⊎ (8 ≤ length c) → (begins_block (last_eight c) ≡ true) ⊎ (begins_block (last_eight c) ≡ false)
         → MatchOption (begun (length c) (last_eight c)) (NoneOpen c) (λ t. OpenAt subframe slots t c)
-    go (inl g) b = rw (begun-none (length c) (last_eight c) (λ h. absurd (omega (arith, g, h)))) (closed (λ h. absurd (omega (arith, g, h))))
-    go (inr g) (inr b) = rw (begun-none (length c) (last_eight c) (λ h. b)) (closed (λ h. b))
+    go (inl g) b = rw (begun-none (length c) (last_eight c) (λ h. absurd (omega (arith, g, h)))) (closed c none (λ h. absurd (omega (arith, g, h))))
+    go (inr g) (inr b) = rw (begun-none (length c) (last_eight c) (λ h. b)) (closed c none (λ h. b))
     go (inr g) (inl b) =
         let s : last_eight c ≡ drop (length c - 8) c = last_eight-is c g in
         let l = length-drop (length c - 8) c in
@@ -77,7 +79,7 @@ restarted c subframe slots kept few none = go (cases_lt (length c) 8) (cases_Boo
         })
 
 -- what is left of the cells with one more
-drop-push : (c : List Level) (l : Level) (q : ℕ) → 8 < length (drop q (c ++ l ∷ [])) → (drop q (c ++ l ∷ []) ≡ drop q c ++ l ∷ []) × (8 ≤ length (drop q c))
+pub drop-push : (c : List Level) (l : Level) (q : ℕ) → 8 < length (drop q (c ++ l ∷ [])) → (drop q (c ++ l ∷ []) ≡ drop q c ++ l ∷ []) × (8 ≤ length (drop q c))
 drop-push c l q h =
     let a = length-append c (l ∷ []) in
     let b = length-drop q (c ++ l ∷ []) in

@@ -37,16 +37,21 @@ byte-last w h = ap level_of (let e : w / 2 / 2 / 2 / 2 / 2 / 2 / 2 % 2 ≡ w / 1
 abbrev pad : List Level
 pad = replicate 8 Low
 
-pub last_eight-with : (c : List Level) (l : Level) → last_eight (c ++ l ∷ []) ≡ eight_with (last_eight c) l
+pub length-last_eight : (c : List Level) → length (last_eight c) ≡ 8
 unfolding last_eight
-last_eight-with c l =
-    let n = length-append c (l ∷ []) in
+length-last_eight c = let p = length-drop (length c) (pad ++ c) in let a = length-append pad c in omega (arith, p, a)
+
+-- with more cells behind
+pub last_eight-more : (c d : List Level) → last_eight (c ++ d) ≡ drop (length d) (last_eight c ++ d)
+unfolding last_eight
+last_eight-more c d =
     let m = length-append pad c in
-    let k = length-drop (length c) (pad ++ c) in
-    ap₂ drop n (sym (append_assoc pad c (l ∷ [])))
-    ∙ sym (drop-drop 1 (length c) ((pad ++ c) ++ l ∷ []))
-    ∙ ap (drop 1) (drop-append-le (length c) (pad ++ c) (l ∷ []) (omega (arith, m)))
-    ∙ drop-append-le 1 (drop (length c) (pad ++ c)) (l ∷ []) (omega (arith, k, m))
+    ap₂ drop (length-append c d) (sym (append_assoc pad c d))
+    ∙ sym (drop-drop (length d) (length c) ((pad ++ c) ++ d))
+    ∙ ap (drop (length d)) (drop-append-le (length c) (pad ++ c) d (omega (arith, m)))
+
+pub last_eight-with : (c : List Level) (l : Level) → last_eight (c ++ l ∷ []) ≡ eight_with (last_eight c) l
+last_eight-with c l = let n = length-last_eight c in last_eight-more c (l ∷ []) ∙ drop-append-le 1 (last_eight c) (l ∷ []) (omega (arith, n))
 
 pub last_eight-is : (c : List Level) → 8 ≤ length c → last_eight c ≡ drop (length c - 8) c
 unfolding last_eight

@@ -12,7 +12,7 @@ use Rattle.aes3_slot.proofs.Index.{subframe, subframe-length, subframe-last, bef
 use Rattle.aes3_slot.proofs.Subframes.{after-subframe, length-with_parity}
 use Rattle.aes3_slot.proofs.Bridge.{kept-runs}
 use Rattle.aes3_slot.proofs.Aligned.{aligned, aligned-own}
-use Rattle.aes3_slot.proofs.Preambles.{stands-room}
+use Rattle.aes3_slot.proofs.OwnPreambles.{stands-room}
 use Rattle.aes3_slot.proofs.Distance.{stands-from}
 use Rattle.aes3_block.specs.Blocks.{mark_at, block_slots, block_runs, stream}
 use Rattle.aes3_block.proofs.Runs.{Each27}

@@ -9,8 +9,10 @@ pub mod SubframeWords
 pub mod WordSteps
 pub mod Following
 pub mod TakenWords
+pub mod QuietWords
 pub mod Codes
 pub mod Scanning
+pub mod QuietScans
 pub mod Walking
 pub mod Viability
 pub mod Endings

@@ -9,7 +9,8 @@ use Rattle.aes3_slot.specs.Rules.{at, before, rule}
 use Rattle.aes3_slot.specs.Reading.{same, read_slots}
 use Rattle.aes3_slot.proofs.Index.{before-append_left}
 use Rattle.aes3_block.specs.Blocks.{mark_at, block_slots, block_len}
-use Rattle.aes3_lock.specs.Candidates.{keeps, front, entry, begins_block}
+use Rattle.aes3_slot.specs.Preambles.{entry}
+use Rattle.aes3_lock.specs.Candidates.{keeps, front, begins_block}
 use Rattle.aes3_lock.specs.Steps.{ended, left}
 use Rattle.aes3_lock.specs.Reports.{told, decided_at, open_at, decided_from}
 use Rattle.aes3_lock.proofs.Fronts.{front-is, front-unique, keeps-append}

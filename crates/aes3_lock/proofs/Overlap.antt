@@ -6,7 +6,7 @@ use Rattle.aes3_cell.specs.declared.level.Level.TheVariants.{Low}
 use Rattle.aes3_slot.specs.declared.mark.Mark.TheVariants.{Z}
 use Rattle.aes3_slot.specs.Slots.{with_parity}
 use Rattle.aes3_slot.specs.Rules.{at, AllKept, StandsMark}
-use Rattle.aes3_slot.proofs.Preambles.{only-Z, three, stands-at, stands-room}
+use Rattle.aes3_slot.proofs.OwnPreambles.{only-Z, three, stands-at, stands-room}
 use Rattle.aes3_slot.proofs.Distance.{stands-from}
 use Rattle.aes3_block.specs.Blocks.{mark_at, block_len}
 use Rattle.aes3_lock.specs.Standing.{IsViable, StandsClosed}

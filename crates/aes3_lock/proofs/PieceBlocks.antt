@@ -11,7 +11,7 @@ use Rattle.aes3_slot.specs.declared.mark.Mark.{Mark}
 use Rattle.aes3_slot.specs.declared.mark.Mark.TheVariants.{Z}
 use Rattle.aes3_slot.specs.Slots.{with_parity}
 use Rattle.aes3_slot.specs.Rules.{at, StandsMark}
-use Rattle.aes3_slot.proofs.Preambles.{stands-room, begins}
+use Rattle.aes3_slot.proofs.OwnPreambles.{stands-room, begins}
 use Rattle.aes3_block.specs.Blocks.{mark_at, block_slots, block_len, block_runs, block_cells, stream, IsBlock}
 use Rattle.aes3_block.proofs.FileLaws.{EachBlock, each-block}
 use Rattle.aes3_block.proofs.Runs.{after-runs}

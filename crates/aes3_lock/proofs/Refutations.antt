@@ -4,7 +4,8 @@ use Rattle.std.proofs.lemmas.Bool.{cases_lt}
 use Rattle.aes3_cell.specs.declared.level.Level.{Level}
 use Rattle.aes3_slot.specs.Reading.{read_slots}
 use Rattle.aes3_block.specs.Blocks.{block_slots, block_len}
-use Rattle.aes3_lock.specs.Candidates.{entry, front}
+use Rattle.aes3_slot.specs.Preambles.{entry}
+use Rattle.aes3_lock.specs.Candidates.{front}
 use Rattle.aes3_lock.specs.Outcomes.{whole, marked, fault, unfinished, outcome, block_outcome, wrong_parities, payloads_of}
 use Rattle.aes3_lock.specs.Standing.{IsClosed, IsViable, SubframesStand}
 use Rattle.aes3_lock.proofs.Fronts.{front-is}

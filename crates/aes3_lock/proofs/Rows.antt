@@ -10,7 +10,8 @@ use Rattle.aes3_slot.specs.Slots.{mark_runs, slot_runs}
 use Rattle.aes3_block.specs.Blocks.{mark_at, block_len, block_slots}
 use Rattle.aes3_lock.specs.declared.report.Report.TheVariants.{Fault, Unfinished}
 use Rattle.aes3_lock.specs.declared.report.Why.TheVariants.{Preamble, Biphase}
-use Rattle.aes3_lock.specs.Candidates.{begins_with, keeps, front}
+use Rattle.aes3_slot.specs.Preambles.{begins_with}
+use Rattle.aes3_lock.specs.Candidates.{keeps, front}
 use Rattle.aes3_lock.specs.Outcomes.{outcome}
 use Rattle.aes3_lock.specs.Reports.{reports, outcome_at, decided, decided_at}
 use Rattle.aes3_lock.specs.Preambles.{marks, first_mark}

@@ -1,8 +1,8 @@
 -- The preamble that one more cell ends.
-use Rattle.std.proofs.Common.{◌≡◌, ℕ, suc, ◌+◌, ◌-◌, ◌<◌, ◌≤◌, ◌⊎◌, inl, inr, List, [], ◌∷◌, ◌++◌, false, Some, None, refl, length, take, drop, ap, ap₂, ◌∙◌, sym, arith, length-append, append_assoc, append-nil, take_all}
+use Rattle.std.proofs.Common.{◌≡◌, ℕ, suc, ◌+◌, ◌-◌, ◌<◌, ◌≤◌, ◌⊎◌, inl, inr, List, [], ◌∷◌, ◌++◌, false, Some, None, refl, length, take, drop, ap, ap₂, ◌∙◌, sym, arith, le-leb, length-append, append_assoc, append-nil, take_all}
 use Rattle.std.specs.Prelude.{option_to_list, option_map}
-use Rattle.std.proofs.lemmas.Bool.{cases_order, false_from_ne_true}
-use Rattle.std.proofs.lemmas.List.{take-append-le}
+use Rattle.std.proofs.lemmas.Bool.{cases_lt, cases_order, lt-leb, false_from_ne_true}
+use Rattle.std.proofs.lemmas.List.{take-append-le, drop-append-le}
 use Rattle.aes3_cell.specs.declared.level.Level.{Level}
 use Rattle.aes3_cell.specs.declared.level.Level.TheVariants.{Low, High}
 use Rattle.aes3_cell.specs.Cells.{line}
@@ -10,15 +10,15 @@ use Rattle.aes3_slot.specs.declared.mark.Mark.{Mark}
 use Rattle.aes3_slot.specs.declared.mark.Mark.TheVariants.{X, Y, Z}
 use Rattle.aes3_slot.specs.Slots.{mark_runs}
 use Rattle.aes3_slot.proofs.Index.{length-mark}
-use Rattle.aes3_lock.specs.Candidates.{entry, begins_with, same_cells}
+use Rattle.aes3_slot.specs.Preambles.{entry, begins_with, same_cells}
 use Rattle.aes3_lock.specs.Preambles.{first_mark, placed, marks_from, marks}
-use Rattle.aes3_lock.specs.Steps.{last_eight, eight_with}
+use Rattle.aes3_lock.specs.Steps.{last_eight, eight_with, ended_mark}
 use Rattle.aes3_lock.specs.Following.{ScanState, ScanFollows}
 use Rattle.aes3_lock.proofs.Deciding.{same_cells-true, entry-append}
-use Rattle.aes3_lock.proofs.LastEight.{last_eight-with, last_eight-is}
+use Rattle.aes3_lock.proofs.LastEight.{length-last_eight, last_eight-is, last_eight-more}
 
 -- cells behind the eighth count for nothing
-mark-append : (m : Mark) (c d : List Level) → 8 ≤ length c → begins_with m (c ++ d) ≡ begins_with m c
+pub mark-append : (m : Mark) (c d : List Level) → 8 ≤ length c → begins_with m (c ++ d) ≡ begins_with m c
 unfolding begins_with
 mark-append m c d h = ap₂ (λ x y. same_cells x (line y (mark_runs m))) (take-append-le 8 c d h) (entry-append c d (omega arith))
 
@@ -114,28 +114,46 @@ first_mark-none d t f = rw (not X, not Y, not Z) refl
     not m = false_from_ne_true (same_cells (take 8 d) (line (entry d) (mark_runs m)))
         (λ b. f m (entry d) (sym t ∙ same_cells-true (take 8 d) (line (entry d) (mark_runs m)) b))
 
--- a scan with one more cell
-module _ (k k' : ScanState) (c : List Level) (l : Level) (f : ScanFollows k c) (n : k'.seen ≡ k.seen + 1) (r : k'.recent ≡ eight_with k.recent l) where
-  pub scan-follows : ScanFollows k' (c ++ l ∷ [])
+-- the preamble that the last eight of all cells are
+pub ended-short : (n : ℕ) (recent : List Level) → n < 8 → ended_mark n recent ≡ None
+unfolding ended_mark
+ended-short n recent h = let t = lt-leb 8 n h in rw t refl
+
+pub ended-long : (n : ℕ) (recent : List Level) → 8 ≤ n → ended_mark n recent ≡ option_map (placed (n - 8)) (first_mark recent)
+unfolding ended_mark
+ended-long n recent h = let t = le-leb 8 n h in rw t refl
+
+pub marks-last : (c : List Level) (l : Level) → marks (c ++ l ∷ []) ≡ marks c ++ option_to_list (ended_mark (length (c ++ l ∷ [])) (last_eight (c ++ l ∷ [])))
+unfolding marks
+marks-last c l = go (cases_lt (length (c ++ l ∷ [])) 8)
+  where
+    go : (length (c ++ l ∷ []) < 8) ⊎ (8 ≤ length (c ++ l ∷ []))
+        → marks_from 0 (c ++ l ∷ []) ≡ marks_from 0 c ++ option_to_list (ended_mark (length (c ++ l ∷ [])) (last_eight (c ++ l ∷ [])))
+    go (inl h) =
+        let a = length-append c (l ∷ []) in
+        marks-short 0 (c ++ l ∷ []) h
+        ∙ sym (ap₂ (λ x o. x ++ option_to_list o) (marks-short 0 c (omega (arith, a, h))) (ended-short (length (c ++ l ∷ [])) (last_eight (c ++ l ∷ [])) h))
+    go (inr h) =
+        let q : 0 + (length (c ++ l ∷ []) - 8) ≡ length (c ++ l ∷ []) - 8 = omega arith in
+        marks-push 0 c l ∙ ap₂ (λ p d. marks_from 0 c ++ option_to_list (option_map (placed p) (first_mark d))) q (sym (last_eight-is (c ++ l ∷ []) h))
+        ∙ ap (λ o. marks_from 0 c ++ option_to_list o) (sym (ended-long (length (c ++ l ∷ [])) (last_eight (c ++ l ∷ [])) h))
+
+-- a scan with more cells
+module _ (k k' : ScanState) (c d : List Level) (f : ScanFollows k c) (n : k'.seen ≡ k.seen + length d) (r : k'.recent ≡ drop (length d) (k.recent ++ d)) where
+  pub scan-follows : ScanFollows k' (c ++ d)
   scan-follows = record {
-    seen = let a = length-append c (l ∷ []) in let b = f.seen in omega (arith, a, b, n);
-    recent = r ∙ ap (λ x. eight_with x l) f.recent ∙ sym (last_eight-with c l);
+    seen = let a = length-append c d in let b = f.seen in omega (arith, a, b, n);
+    recent = r ∙ ap (λ x. drop (length d) (x ++ d)) f.recent ∙ sym (last_eight-more c d);
   }
 
-  pub scan-short : k'.seen < 8 → marks (c ++ l ∷ []) ≡ marks c ++ []
-  unfolding marks
-  scan-short h =
-      let s = scan-follows.seen in
-      let a = length-append c (l ∷ []) in
-      marks-short 0 (c ++ l ∷ []) (omega (arith, s, h)) ∙ sym (ap (λ x. x ++ []) (marks-short 0 c (omega (arith, a, s, h))))
+-- a scan with one more cell
+module _ (k k' : ScanState) (c : List Level) (l : Level) (f : ScanFollows k c) (n : k'.seen ≡ k.seen + 1) (r : k'.recent ≡ eight_with k.recent l) where
+  pub scan-next : ScanFollows k' (c ++ l ∷ [])
+  scan-next = scan-follows k k' c (l ∷ []) f n
+      (r ∙ let e = length-last_eight c in sym (drop-append-le 1 k.recent (l ∷ []) (omega (arith, e, ap length f.recent))))
 
-  pub scan-mark : 8 ≤ k'.seen → marks (c ++ l ∷ []) ≡ marks c ++ option_to_list (option_map (placed (k'.seen - 8)) (first_mark k'.recent))
-  unfolding marks
-  scan-mark h =
-      let s = scan-follows.seen in
-      let e : k'.recent ≡ drop (length (c ++ l ∷ []) - 8) (c ++ l ∷ []) = scan-follows.recent ∙ last_eight-is (c ++ l ∷ []) (omega (arith, s, h)) in
-      let q : 0 + (length (c ++ l ∷ []) - 8) ≡ k'.seen - 8 = omega (arith, s) in
-      marks-push 0 c l ∙ ap₂ (λ p d. marks_from 0 c ++ option_to_list (option_map (placed p) (first_mark d))) q (sym e)
+  pub scan-mark : marks (c ++ l ∷ []) ≡ marks c ++ option_to_list (ended_mark k'.seen k'.recent)
+  scan-mark = marks-last c l ∙ ap₂ (λ n d. marks c ++ option_to_list (ended_mark n d)) (sym scan-next.seen) (sym scan-next.recent)
 
 pub scan-nil : (k : ScanState) → k.seen ≡ 0 → k.recent ≡ last_eight [] → ScanFollows k []
 scan-nil k a b = record { seen = a; recent = b }

@@ -15,7 +15,8 @@ use Rattle.aes3_slot.proofs.Subframes.{line-slots}
 use Rattle.aes3_slot.proofs.Bridge.{kept-runs}
 use Rattle.aes3_slot.proofs.Unique.{read_slots-line}
 use Rattle.aes3_block.specs.Blocks.{mark_at, block_slots, block_len, block_cells}
-use Rattle.aes3_lock.specs.Candidates.{entry, begins_block, front}
+use Rattle.aes3_slot.specs.Preambles.{entry}
+use Rattle.aes3_lock.specs.Candidates.{begins_block, front}
 use Rattle.aes3_lock.specs.Outcomes.{whole, marked, fault, unfinished, outcome, block_outcome, wrong_parities, payloads_of}
 use Rattle.aes3_lock.specs.Standing.{IsClosed, StandsClosed, SubframesStand}
 use Rattle.aes3_lock.proofs.Fronts.{keeps-from-kept}

@@ -1,15 +1,14 @@
 -- The cells of a subframe in a word, parted and joined by shifts.
-use Rattle.std.proofs.Common.{◌≡◌, ℕ, ◌+◌, ◌-◌, ◌*◌, ◌/◌, ◌%◌, ◌^◌, ◌<◌, max, ◌++◌, take, drop, ap, ap₂, ◌∙◌, sym, arith}
-use Rattle.std.specs.Prelude.{bit_or}
+use Rattle.std.proofs.Common.{◌≡◌, ℕ, ◌+◌, ◌-◌, ◌*◌, ◌/◌, ◌%◌, ◌^◌, ◌<◌, max, min, ◌++◌, take, drop, ap, ap₂, ◌∙◌, sym, arith}
+use Rattle.std.specs.Prelude.{bit_and, bit_or}
 use Rattle.std.specs.Int.{bit_at}
 use Rattle.std.proofs.Math.Pow.{shr_lt}
-use Rattle.std.proofs.lemmas.Nat.{shr-shr}
-use Rattle.std.proofs.lemmas.Nat.Bits.{bit_at_or, bit_at_above}
+use Rattle.std.proofs.lemmas.Nat.{shr-shr, or_shifted}
+use Rattle.std.proofs.lemmas.Nat.Bits.{bit_at_and, bit_at_or, bit_at-lt, bit_at_above, bit_at_ones, bit_at_cat_low}
 use Rattle.aes3_cell.specs.Words.{low_cells, level_of}
-use Rattle.aes3_cell.proofs.WordCells.{low_cells-same, low_cells-at}
+use Rattle.aes3_cell.proofs.WordCells.{low_cells-add, low_cells-at, low_cells-same, take-low_cells, drop-low_cells}
 use Rattle.aes3_slot.specs.Rules.{at}
 use Rattle.aes3_cell.proofs.Moves.{bit_at-shr, shl-above, shl-below}
-use Rattle.aes3_slot.proofs.ReadWords.{low_cells-add, take-low_cells, drop-low_cells}
 
 pub cells-completed : (n cells word : ℕ) → n < 64 → cells < 2 ^ n
     → low_cells 64 (bit_or cells (word * 2 ^ n % 2 ^ 64)) ≡ low_cells n cells ++ take (64 - n) (low_cells 64 word)
@@ -48,3 +47,14 @@ rest-few n word h b =
 
 pub last-is : (word b : ℕ) → word / 2 ^ 63 % 2 ≡ b → at (low_cells 64 word) 63 ≡ level_of b
 last-is word b h = low_cells-at 64 word 63 (omega arith) ∙ ap level_of h
+
+-- `(word << 8 | recent) >> n & 0xFF`
+pub octet-behind : (n r w : ℕ) → r < 2 ^ 8 → low_cells 8 (bit_and (bit_or (w * 2 ^ 8) r / 2 ^ n) 255) ≡ drop n (low_cells 8 r ++ low_cells n w)
+octet-behind n r w h =
+    low_cells-same 8 (bit_and (bit_or (w * 2 ^ 8) r / 2 ^ n) 255) (bit_or (w * 2 ^ 8) r / 2 ^ n)
+    (λ i g. let b = bit_at-lt (bit_or (w * 2 ^ 8) r / 2 ^ n) i in bit_at_and (bit_or (w * 2 ^ 8) r / 2 ^ n) 255 i ∙ ap (min (bit_at (bit_or (w * 2 ^ 8) r / 2 ^ n) i)) (bit_at_ones 8 i g) ∙ omega (arith, b))
+    ∙ ap (λ y. low_cells 8 (y / 2 ^ n)) (or_shifted w 8 r h)
+    ∙ sym (drop-low_cells n 8 (w * 2 ^ 8 + r))
+    ∙ ap (λ k. drop n (low_cells k (w * 2 ^ 8 + r))) (let e : n + 8 ≡ 8 + n = omega arith in e)
+    ∙ ap (drop n) (low_cells-add 8 n (w * 2 ^ 8 + r)
+    ∙ ap₂ (λ c v. c ++ low_cells n v) (low_cells-same 8 (w * 2 ^ 8 + r) r (λ i g. bit_at_cat_low w 8 r i g)) (let e : (w * 2 ^ 8 + r) / 2 ^ 8 ≡ w = omega (arith, h) in e))

@@ -12,11 +12,12 @@ use Rattle.aes3_slot.specs.Reading.{read_bits}
 use Rattle.aes3_slot.specs.Fronts.{IsFrontOf}
 use Rattle.aes3_slot.proofs.Bits.{number-low_bits}
 use Rattle.aes3_slot.proofs.Fronts.{kept-from-front, front-from-kept}
-use Rattle.aes3_slot.proofs.ReadWords.{take-low_cells}
+use Rattle.aes3_cell.proofs.WordCells.{take-low_cells}
 use Rattle.aes3_slot.proofs.Taken.{length-word}
 use Rattle.aes3_block.specs.Blocks.{mark_at, block_slots, block_len}
 use Rattle.aes3_lock.specs.declared.candidate.Candidate.{Candidate}
-use Rattle.aes3_lock.specs.Candidates.{entry, keeps}
+use Rattle.aes3_slot.specs.Preambles.{entry}
+use Rattle.aes3_lock.specs.Candidates.{keeps}
 use Rattle.aes3_lock.specs.Reports.{open_at, decided}
 use Rattle.aes3_lock.specs.Following.{LockState, Gathered, Follows, OpenAt}
 use Rattle.aes3_lock.proofs.Deciding.{entry-append}

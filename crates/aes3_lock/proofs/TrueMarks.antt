@@ -9,10 +9,10 @@ use Rattle.aes3_slot.specs.declared.mark.Mark.{Mark}
 use Rattle.aes3_slot.specs.declared.mark.Mark.TheVariants.{X, Y, Z}
 use Rattle.aes3_slot.specs.Slots.{mark_runs}
 use Rattle.aes3_slot.specs.Rules.{StandsMark}
-use Rattle.aes3_slot.proofs.Preambles.{stands-room}
+use Rattle.aes3_slot.proofs.OwnPreambles.{stands-room}
 use Rattle.aes3_block.specs.Blocks.{mark_at, block_slots, stream}
 use Rattle.aes3_block.proofs.FileLaws.{EachBlock, each-block}
-use Rattle.aes3_lock.specs.Candidates.{entry, begins_with, same_cells}
+use Rattle.aes3_slot.specs.Preambles.{entry, begins_with, same_cells}
 use Rattle.aes3_lock.specs.Preambles.{first_mark, placed, marks_from, marks}
 use Rattle.aes3_lock.specs.Pieces.{IsPiece, marks_within, true_marks}
 use Rattle.aes3_lock.proofs.Beginnings.{begins-stands, stands-begins, stands-entry, stands-once, stands-drop, drop-stands}

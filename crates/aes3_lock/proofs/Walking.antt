@@ -10,7 +10,8 @@ use Rattle.aes3_slot.specs.Reading.{same, read_slots}
 use Rattle.aes3_block.specs.Blocks.{mark_at, block_slots, block_len}
 use Rattle.aes3_lock.specs.declared.report.Report.{Report}
 use Rattle.aes3_lock.specs.declared.candidate.Candidate.{Candidate}
-use Rattle.aes3_lock.specs.Candidates.{entry, begins_block, keeps, front}
+use Rattle.aes3_slot.specs.Preambles.{entry}
+use Rattle.aes3_lock.specs.Candidates.{begins_block, keeps, front}
 use Rattle.aes3_lock.specs.Outcomes.{outcome}
 use Rattle.aes3_lock.specs.Reports.{told, outcome_at, reports_from, reports}
 use Rattle.aes3_lock.specs.Steps.{last_eight, eight_with, begun, level_with, ended, left}

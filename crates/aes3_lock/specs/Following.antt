@@ -7,7 +7,8 @@ use Rattle.aes3_slot.specs.Rules.{at, before, rule}
 use Rattle.aes3_slot.specs.Reading.{read_bits}
 use Rattle.aes3_block.specs.Blocks.{block_slots, block_len, mark_at}
 use Rattle.aes3_lock.specs.declared.candidate.Candidate.{Candidate}
-use Rattle.aes3_lock.specs.Candidates.{entry}
+use Rattle.aes3_slot.specs.Preambles.{entry}
+use Rattle.aes3_lock.specs.Candidates.{begins_block}
 use Rattle.aes3_lock.specs.Reports.{open_at}
 use Rattle.aes3_lock.specs.Steps.{last_eight}
 
@@ -52,6 +53,12 @@ pub record Follows (k : LockState) (c : List Level) : Type 0 where
   pub seen : k.seen ≡ length c
   pub recent : k.recent ≡ last_eight c
   pub candidate : MatchOption k.candidate (NoneOpen c) (λ t. OpenAt k.subframe k.slots t c)
+
+-- the preamble of a block stands at one of the first 64 places
+pub record BeginsIn (c : List Level) : Type 0 where
+  pub place : ℕ
+  pub within : place < 64
+  pub is : begins_block (drop place c) ≡ true
 
 -- this cell does not go on with the candidate in hand
 pub record Stops (k : LockState) (l : Level) : Type 0 where

@@ -7,7 +7,8 @@ use Rattle.aes3_slot.specs.declared.mark.Mark.TheVariants.{Z}
 use Rattle.aes3_slot.specs.Rules.{StandsMark}
 use Rattle.aes3_block.specs.Blocks.{block_len, stream, IsBlock}
 use Rattle.aes3_lock.specs.declared.report.Report.{Report}
-use Rattle.aes3_lock.specs.Candidates.{entry, begins_block, keeps, front}
+use Rattle.aes3_slot.specs.Preambles.{entry}
+use Rattle.aes3_lock.specs.Candidates.{begins_block, keeps, front}
 use Rattle.aes3_lock.specs.Outcomes.{whole, marked, fault, unfinished, outcome, wrong_parities}
 use Rattle.aes3_lock.specs.Reports.{reports, decided, is_decided, blocks, normal}
 use Rattle.aes3_lock.specs.Preambles.{marks}

@@ -9,7 +9,8 @@ use Rattle.aes3_slot.specs.Reading.{same, read_slots}
 use Rattle.aes3_block.specs.Blocks.{block_slots, block_len}
 use Rattle.aes3_lock.specs.declared.report.Why.{Why}
 use Rattle.aes3_lock.specs.declared.report.Why.TheVariants.{Preamble, Biphase, Unclosed}
-use Rattle.aes3_lock.specs.Candidates.{entry, front}
+use Rattle.aes3_slot.specs.Preambles.{entry}
+use Rattle.aes3_lock.specs.Candidates.{front}
 
 -- a whole block after a level, with its payloads; a block after a level, with how many of its subframes have a wrong
 -- parity bit; the offset of the cell that refutes the candidate; how many cells there are

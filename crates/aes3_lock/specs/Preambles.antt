@@ -3,7 +3,7 @@ use Rattle.std.specs.Prelude.{ℕ, suc, List, [], ◌∷◌, ◌++◌, Option, S
 use Rattle.aes3_cell.specs.declared.level.Level.{Level}
 use Rattle.aes3_slot.specs.declared.mark.Mark.{Mark}
 use Rattle.aes3_slot.specs.declared.mark.Mark.TheVariants.{X, Y, Z}
-use Rattle.aes3_lock.specs.Candidates.{entry, begins_with}
+use Rattle.aes3_slot.specs.Preambles.{entry, begins_with}
 
 -- the preamble that stands at the start, and the level before it
 unfoldable pub first_mark : List Level → Option (Mark × Level)

@@ -1,12 +1,14 @@
 -- What one more cell makes of what a lock keeps.
-use Rattle.std.specs.Prelude.{ℕ, List, [], ◌∷◌, ◌++◌, Bool, true, false, ◌-◌, ◌/◌, ◌%◌, ◌^◌, ◌==◌, ◌&&◌, Option, Some, None, nat_lt, nat_le, length, drop, replicate, bit_or, if◌then◌else◌}
+use Rattle.std.specs.Prelude.{ℕ, List, [], ◌∷◌, ◌++◌, Bool, true, false, ◌-◌, ◌/◌, ◌%◌, ◌^◌, ◌==◌, ◌&&◌, Option, Some, None, nat_lt, nat_le, option_map, length, drop, replicate, bit_or, if◌then◌else◌}
 use Rattle.aes3_cell.specs.declared.level.Level.{Level}
 use Rattle.aes3_cell.specs.declared.level.Level.TheVariants.{Low}
 use Rattle.aes3_slot.specs.declared.mark.Mark.{Mark}
 use Rattle.aes3_slot.specs.declared.mark.Mark.TheVariants.{X, Y, Z}
 use Rattle.aes3_block.specs.Blocks.{block_len}
 use Rattle.aes3_lock.specs.declared.candidate.Candidate.{Candidate}
-use Rattle.aes3_lock.specs.Candidates.{entry, begins_block}
+use Rattle.aes3_slot.specs.Preambles.{entry}
+use Rattle.aes3_lock.specs.Candidates.{begins_block}
+use Rattle.aes3_lock.specs.Preambles.{first_mark, placed}
 use Rattle.aes3_lock.specs.Outcomes.{Outcome, fault, unfinished, block_outcome}
 
 -- the last eight cells, with Low before the first of all
@@ -27,6 +29,10 @@ begins_a_block Z = true
 unfoldable pub begun : ℕ → List Level → Option Candidate
 begun n recent =
     if nat_le 8 n && begins_block recent then Some (record { at = n - 8; before = entry recent; level = entry recent }) else None
+
+-- the preamble that the last eight of n cells are, with its place
+unfoldable pub ended_mark : ℕ → List Level → Option (ℕ × Mark × Level)
+ended_mark n recent = if nat_le 8 n then option_map (placed (n - 8)) (first_mark recent) else None
 
 -- the level before the subframe of the next cell, behind a cell at an offset in a block
 abbrev pub level_with : ℕ → Level → Level → Level

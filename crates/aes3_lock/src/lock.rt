@@ -1,12 +1,12 @@
 //! The lock.
 use crate::candidate::Candidate;
 use crate::outcome::{SLOTS, end_report, left_report, no_slots};
-use crate::recent::{candidate_in, last_cell, with_cell};
+use crate::recent::{PREAMBLE_CELLS, candidate_in, last_cell, with_cell};
 use crate::report::Report;
 use crate::rule::{BLOCK_CELLS, SUBFRAME_CELLS, mark_of, may_stand};
 use crate::subframe::{completed, last_octet, last_of, rest_of, with_next};
 use aes3_cell::Level;
-use aes3_slot::{begins_subframe, slot_bits};
+use aes3_slot::{begins_subframe, block_preambles, slot_bits};
 use std::marker::Model;
 
 /// Finds every block and every begun block in cells that come one by one, in fixed memory.
@@ -35,14 +35,14 @@ impl Model for Lock {
     ghost invariant = { λ k. ForSome k.candidate (λ t. t.at ≤ k.seen) };
 }
 
-ghost use Rattle.std.specs.Prelude.{◌≡◌, ◌<◌, ◌≤◌, ◌+◌, ◌^◌, ◌&&◌, true, false, List, [], ◌∷◌, ◌++◌, drop, nat_lt, option_to_list};
+ghost use Rattle.std.specs.Prelude.{◌≡◌, ◌<◌, ◌≤◌, ◌+◌, ◌^◌, ◌&&◌, true, false, None, List, [], ◌∷◌, ◌++◌, drop, nat_lt, option_to_list};
 ghost use Rattle.std.specs.Option.{ForSome};
 ghost use Rattle.aes3_cell.specs.declared.level.Level.{Level};
 ghost use Rattle.aes3_cell.specs.Words.{word_cells};
 ghost use Rattle.aes3_slot.specs.Rules.{rule};
 ghost use Rattle.aes3_block.specs.Blocks.{block_len, mark_at};
 ghost use Rattle.aes3_lock.specs.Reports.{decided, open_at, reports};
-ghost use Rattle.aes3_lock.specs.Following.{Follows, Stops};
+ghost use Rattle.aes3_lock.specs.Following.{BeginsIn, Follows, Stops};
 
 /// Whether a cell behind `previous` goes on with a candidate, at whose `offset` it stands.
 fn goes_on(candidate: Candidate, offset: u64, cell: Level, previous: Level) -> bool
@@ -116,10 +116,32 @@ impl Lock {
         true
     }
 
-    /// Takes the 64 cells of a word, the first in the lowest bit, where a candidate is in hand and goes on with all of
-    /// them, and says whether it did; else it changes nothing.
+    /// Takes the 64 cells of a word where no candidate is in hand and no preamble of a block ends in them, and says whether
+    /// it did; else it changes nothing.
+    fn pass_word(&mut self, word: u64) -> bool
+        requires room { self.old.seen + 64 ≤ 2 ^ 43 }
+        requires searching { self.old.candidate ≡ None }
+        ensures seen { result ≡ true → self.new.seen ≡ self.old.seen + 64 }
+        ensures follows { result ≡ true → (cells : List Level) → Follows self.old cells
+            → Follows self.new (cells ++ word_cells word) }
+        ensures none { result ≡ true → (cells : List Level) → Follows self.old cells
+            → decided (cells ++ word_cells word) ≡ decided cells }
+        ensures left { result ≡ false → self.new ≡ self.old }
+        ensures begins { result ≡ false → BeginsIn (drop 1 self.old.recent ++ word_cells word) }
+    {
+        let cells = completed(u64::from(self.recent >> 1), PREAMBLE_CELLS - 1, word);
+        if block_preambles(cells, rest_of(word, PREAMBLE_CELLS - 1)) != 0 {
+            return false;
+        }
+        self.seen += 64;
+        self.recent = last_octet(word);
+        true
+    }
+
+    /// Takes the 64 cells of a word, the first in the lowest bit, and says whether it did; else it changes nothing.
     ///
-    /// It is `take` for 64 cells at once.
+    /// It takes them where the candidate in hand goes on with all of them, and where none is in hand and no preamble of a
+    /// block ends in them. It is `take` for 64 cells at once.
     pub fn take_word(&mut self, word: u64) -> bool
         requires { self.old.seen + 64 ≤ 2 ^ 43 }
         ensures seen { result ≡ true → self.new.seen ≡ self.old.seen + 64 }
@@ -130,9 +152,10 @@ impl Lock {
         ensures left { result ≡ false → self.new ≡ self.old }
         ensures stops { result ≡ false → (cells : List Level) → Follows self.old cells
             → ForSome self.old.candidate (λ t. open_at (drop t.at (cells ++ word_cells word)) ≡ false) }
+        ensures begins { result ≡ false → self.old.candidate ≡ None → BeginsIn (drop 1 self.old.recent ++ word_cells word) }
     {
         let Some(candidate) = self.candidate else {
-            return false;
+            return self.pass_word(word);
         };
         let offset = self.seen - candidate.at;
         if offset > BLOCK_CELLS - SUBFRAME_CELLS {

@@ -1,7 +1,8 @@
 //! The scan.
 use crate::recent::{PREAMBLE_CELLS, with_cell};
+use crate::subframe::{completed, last_behind, rest_of};
 use aes3_cell::Level;
-use aes3_slot::{Mark, match_mark};
+use aes3_slot::{Mark, match_mark, preambles};
 use std::marker::Model;
 
 /// Finds every preamble in cells that come one by one, whether or not it stands where a subframe may begin.
@@ -22,7 +23,9 @@ impl Model for Scan {
     ghost view = { λ k. record { seen = k.seen; recent = low_cells 8 k.recent } };
 }
 
-ghost use Rattle.std.specs.Prelude.{◌≡◌, ◌<◌, ◌+◌, ◌^◌, List, [], ◌∷◌, ◌++◌, option_to_list};
+ghost use Rattle.std.specs.Prelude.{◌≡◌, ◌<◌, ◌≤◌, ◌+◌, ◌^◌, None, List, [], ◌∷◌, ◌++◌, drop, length, option_to_list};
+ghost use Rattle.aes3_cell.specs.Words.{low_cells};
+ghost use Rattle.aes3_lock.specs.Steps.{ended_mark};
 ghost use Rattle.aes3_cell.specs.declared.level.Level.{Level};
 ghost use Rattle.aes3_lock.specs.Preambles.{marks};
 ghost use Rattle.aes3_lock.specs.Following.{ScanFollows};
@@ -53,6 +56,50 @@ impl Scan {
     {
         self.recent = with_cell(self.recent, cell);
         self.seen += 1;
+        self.ending()
+    }
+
+    /// Takes the first cells of a word, the first of all in the lowest bit, up to the first that ends a preamble and with it,
+    /// and at most `len`. Answers how many it took, and that preamble as `push` does.
+    ///
+    /// It is `push` for each of these cells.
+    pub fn next_in(&mut self, word: u64, len: u32) -> (u32, Option<(u64, Mark, Level)>)
+        requires room { self.old.seen + len ≤ 2 ^ 43 }
+        requires len { len ≤ 64 }
+        ensures seen { self.new.seen ≡ self.old.seen + result.0 }
+        ensures within { result.0 ≤ len }
+        ensures some { 0 < len → 0 < result.0 }
+        ensures follows { (cells : List Level) → ScanFollows self.old cells
+            → ScanFollows self.new (cells ++ low_cells result.0 word) }
+        ensures mark { (cells : List Level) → ScanFollows self.old cells
+            → marks (cells ++ low_cells result.0 word) ≡ marks cells ++ option_to_list result.1 }
+        ensures all { (cells : List Level) → ScanFollows self.old cells → 7 ≤ length cells → result.1 ≡ None → result.0 ≡ len }
+    {
+        let cells = completed(u64::from(self.recent >> 1), PREAMBLE_CELLS - 1, word);
+        let quiet = preambles(cells, rest_of(word, PREAMBLE_CELLS - 1)).trailing_zeros();
+        if quiet >= len {
+            self.pass(word, len);
+            return (len, None);
+        }
+        self.pass(word, quiet + 1);
+        (quiet + 1, self.ending())
+    }
+
+    /// Takes the first `len` cells of a word.
+    fn pass(&mut self, word: u64, len: u32)
+        requires room { self.old.seen + len ≤ 2 ^ 43 }
+        requires len { len ≤ 64 }
+        ensures seen { self.new.seen ≡ self.old.seen + len }
+        ensures recent { self.new.recent ≡ drop len (self.old.recent ++ low_cells len word) }
+    {
+        self.seen += u64::from(len);
+        self.recent = last_behind(self.recent, word, len);
+    }
+
+    /// The preamble that ends with the last cell.
+    fn ending(&self) -> Option<(u64, Mark, Level)>
+        ensures { result ≡ ended_mark self.now.seen self.now.recent }
+    {
         if self.seen < PREAMBLE_CELLS {
             return None;
         }

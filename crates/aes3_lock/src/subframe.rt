@@ -1,6 +1,6 @@
 //! The cells of a subframe that is not whole yet, in a word, the first in the lowest bit.
 
-ghost use Rattle.std.specs.Prelude.{◌≡◌, ◌+◌, ◌-◌, ◌<◌, ◌^◌, [], ◌∷◌, ◌++◌, drop, take};
+ghost use Rattle.std.specs.Prelude.{◌≡◌, ◌+◌, ◌-◌, ◌<◌, ◌≤◌, ◌^◌, [], ◌∷◌, ◌++◌, drop, take};
 ghost use Rattle.aes3_cell.specs.Words.{low_cells, word_cells};
 ghost use Rattle.aes3_slot.specs.Rules.{at};
 
@@ -44,6 +44,14 @@ pub(crate) fn last_of(word: u64) -> Level
     } else {
         Level::High
     }
+}
+
+/// The last eight of eight cells and the first `len` of a word behind them.
+pub(crate) fn last_behind(recent: u8, word: u64, len: u32) -> u8
+    requires { len ≤ 64 }
+    ensures { low_cells 8 result ≡ drop len (low_cells 8 recent ++ low_cells len word) }
+{
+    ((u128::from(word) << 8 | u128::from(recent)) >> len & 0xFF) as u8
 }
 
 /// The last eight cells of a word.

@@ -453,6 +453,54 @@ fn preambles_in_step_or_not(rt: HostRuntime) {
 }
 
 /// How many reports the cells decide before they end.
+/// The preamble that the last of some cells of a word ends, where no other of them ends one.
+fn last_of_cells(scan: &mut Scan, word: u64, from: u32, to: u32) -> Option<(u64, Mark, Level)>
+    requires { to ≤ 64 }
+{
+    let mut last = None;
+    for k in from..to {
+        let cell = if (word >> k) & 1 == 1 {
+            Level::High
+        } else {
+            Level::Low
+        };
+        if last.is_none() && scan.seen() < MANY {
+            last = scan.push(cell);
+        }
+    }
+    last
+}
+
+/// Whether the preambles found word by word are those found cell by cell.
+fn words_tell_the_same(cells: &[Level]) -> bool {
+    let mut by_words = Scan::new();
+    let mut by_cells = Scan::new();
+    for i in 0..cells.len() / 64 {
+        let word = word_at(cells, 64 * i);
+        let mut taken = 0;
+        for _ in 0..64 {
+            if taken < 64 && by_words.seen() < MANY {
+                let (more, found) = by_words.next_in(word >> taken, 64 - taken);
+                if found != last_of_cells(&mut by_cells, word, taken, taken + more) {
+                    return false;
+                }
+                taken += more;
+            }
+        }
+    }
+    by_words.seen() == by_cells.seen()
+}
+
+#[test]
+fn preambles_by_words(rt: HostRuntime) {
+    let cells = preamble_in_a_preamble(rt.alloc()).expect(&rt, "memory");
+    assert!(rt; words_tell_the_same(&cells));
+    for seed in 1..=20 {
+        let cells = damaged(rt.alloc(), seed << 32 | 0x9E37_79B9).expect(&rt, "memory");
+        assert!(rt; words_tell_the_same(&cells));
+    }
+}
+
 fn decided_count(cells: &[Level]) -> usize {
     let mut count = 0;
     let mut lock = Lock::new();

@@ -7,7 +7,7 @@ use Rattle.aes3_slot.specs.declared.mark.Mark.TheVariants.{X, Y, Z}
 use Rattle.aes3_cell.specs.Cells.{other}
 use Rattle.aes3_slot.specs.Rules.{StandsMark, at, before, shape, AllKept}
 use Rattle.aes3_cell.proofs.Runs.{other_ne}
-use Rattle.aes3_slot.proofs.Preambles.{stands-room, stands-at, change, run-of, two-of, own, shapes-apart, same-from-first}
+use Rattle.aes3_slot.proofs.OwnPreambles.{stands-room, stands-at, change, run-of, two-of, own, shapes-apart, same-from-first}
 
 module _ (marks : ℕ → Mark) (s : Level) (c : List Level) (k : AllKept marks s c) (m : Mark) (t : Level) (p : ℕ) (z : StandsMark m t c p) where
   room : p + 8 ≤ length c

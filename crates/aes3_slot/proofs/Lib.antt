@@ -4,7 +4,7 @@ pub mod Subframes
 pub mod Index
 pub mod Bridge
 pub mod Unique
-pub mod Preambles
+pub mod OwnPreambles
 pub mod Aligned
 pub mod SamePlace
 pub mod Distance
@@ -15,3 +15,4 @@ pub mod Fronts
 pub mod Wrong
 pub mod ReadWords
 pub mod Taken
+pub mod Windows

@@ -1,34 +1,15 @@
 -- The bits that the cells of a word carry.
-use Rattle.std.proofs.Common.{◌≡◌, ℕ, zero, suc, ◌+◌, ◌*◌, ◌/◌, ◌%◌, ◌^◌, ◌<◌, ◌∷◌, ◌++◌, eqb, take, drop, refl, ap, ap₂, ◌∙◌, sym, arith}
+use Rattle.std.proofs.Common.{◌≡◌, ℕ, zero, suc, ◌+◌, ◌*◌, ◌/◌, ◌%◌, ◌^◌, ◌<◌, ◌∷◌, eqb, drop, refl, ap, ap₂, ◌∙◌, sym, arith}
 use Rattle.std.specs.Prelude.{bit_xor}
 use Rattle.std.specs.Int.{bit_at}
-use Rattle.std.proofs.lemmas.List.{drop_at, take_at}
-use Rattle.std.proofs.lemmas.Nat.{shr-shr, shr_le, xor_lt}
+use Rattle.std.proofs.lemmas.Nat.{shr_le, xor_lt}
 use Rattle.std.proofs.lemmas.Nat.Bits.{bit_at_xor, bit_at-suc, bit_at_lowest, bit_at_above}
 use Rattle.aes3_cell.specs.Words.{level_of, low_cells}
-use Rattle.aes3_cell.proofs.WordCells.{length-low_cells}
+use Rattle.aes3_cell.proofs.WordCells.{drop-low_cells}
 use Rattle.aes3_slot.specs.Bits.{low_bits}
 use Rattle.aes3_slot.specs.Reading.{differs, read_bits}
 use Rattle.aes3_slot.proofs.Bits.{lt-from-bits}
 use Rattle.aes3_cell.proofs.Moves.{bit_at-shr}
-
--- the lowest cells and those behind them
-pub low_cells-add : (m n w : ℕ) → low_cells (m + n) w ≡ low_cells m w ++ low_cells n (w / 2 ^ m)
-low_cells-add zero n w =
-    let a : zero + n ≡ n = omega arith in
-    let b : w / 1 ≡ w = omega arith in
-    rw (a, b) refl
-low_cells-add (suc m) n w =
-    let a : suc m + n ≡ suc (m + n) = omega arith in
-    let b : 1 + m ≡ suc m = omega arith in
-    ap (λ k. low_cells k w) a
-    ∙ ap (λ c. level_of (w % 2) ∷ c) (low_cells-add m n (w / 2) ∙ ap (λ v. low_cells m (w / 2) ++ low_cells n v) (shr-shr w 1 m ∙ ap (λ k. w / 2 ^ k) b))
-
-pub drop-low_cells : (m n w : ℕ) → drop m (low_cells (m + n) w) ≡ low_cells n (w / 2 ^ m)
-drop-low_cells m n w = ap (drop m) (low_cells-add m n w) ∙ drop_at (low_cells m w) (low_cells n (w / 2 ^ m)) m (length-low_cells m w)
-
-pub take-low_cells : (m n w : ℕ) → take m (low_cells (m + n) w) ≡ low_cells m w
-take-low_cells m n w = ap (take m) (low_cells-add m n w) ∙ take_at (low_cells m w) (low_cells n (w / 2 ^ m)) m (length-low_cells m w)
 
 -- a slot carries a one where its cells differ
 pub read_bits-word : (k w v : ℕ) → ((i : ℕ) → i < k → bit_at v i ≡ (bit_at w (2 * i) + bit_at w (suc (2 * i))) % 2) → low_bits k v ≡ read_bits (low_cells (2 * k) w)

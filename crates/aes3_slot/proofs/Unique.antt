@@ -10,7 +10,7 @@ use Rattle.aes3_slot.specs.Reading.{read_bits, read_slots}
 use Rattle.aes3_cell.proofs.Runs.{line-append, length-line}
 use Rattle.aes3_slot.proofs.Subframes.{total-bits, line-slots}
 use Rattle.aes3_slot.specs.Rules.{at, shape}
-use Rattle.aes3_slot.proofs.Preambles.{same-from-first, shapes-apart}
+use Rattle.aes3_slot.proofs.OwnPreambles.{same-from-first, shapes-apart}
 use Rattle.aes3_slot.proofs.Index.{subframe-preamble, subframe, subframe-length, length-mark}
 
 pub read_bits-line : (t : Level) (bits : List Bool) → read_bits (line t (bits_runs bits)) ≡ bits

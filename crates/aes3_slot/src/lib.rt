@@ -4,6 +4,7 @@
 mod mark;
 mod preamble;
 mod reading;
+mod search;
 mod subframe;
 #[cfg(test)]
 mod tests;
@@ -11,4 +12,5 @@ mod tests;
 pub use mark::Mark;
 pub use preamble::match_mark;
 pub use reading::{Place, begins_subframe, slot_bits, take_either, take_subframe};
+pub use search::{block_preambles, preambles};
 pub use subframe::{payload_parity, slots_cells, subframe_cells};

@@ -5,6 +5,7 @@ ghost use Rattle.std.specs.Prelude.{◌<◌};
 use crate::mark::Mark;
 use crate::preamble::match_mark;
 use crate::reading::{Place, take_either, take_subframe};
+use crate::search::{block_preambles, preambles};
 use crate::subframe::subframe_cells;
 use aes3_cell::Level;
 
@@ -107,5 +108,60 @@ fn reader_against_a_plain_loop(rt: HostRuntime) {
             take_subframe(Level::Low, Mark::Z, cells),
             read_by_cells(cells)
         );
+    }
+}
+
+/// The cells of a word, the seven behind them and where the preambles of blocks begin.
+const PLACES: [(u64, u64, u64); 7] = [
+    (0, 0, 0),
+    (0x17, 0, 1),
+    (0xE8, 0, 1),
+    (0xE000_0000_0000_0000, 0x02, 0x2000_0000_0000_0000),
+    (0xE000_0000_0000_0000, 0x82, 0x2000_0000_0000_0000),
+    (0x745D_1745_D174_5D17, 0x51, 0x1084_2108_4210_8421),
+    (ZEROS, 0x27, 1),
+];
+
+#[test]
+fn preambles_of_blocks_in_words(rt: HostRuntime) {
+    for (cells, next, places) in PLACES {
+        assert_eq!(rt; block_preambles(cells, next), places);
+    }
+    assert_eq!(rt; preambles(ZEROS, 0x27), 1);
+}
+
+/// Where preambles begin, window by window: those of blocks, and all.
+fn places_by_windows(cells: u64, next: u64) -> (u64, u64) {
+    let mut of_blocks: u64 = 0;
+    let mut all: u64 = 0;
+    for k in 0..64_u32 {
+        let behind = if k == 0 {
+            cells
+        } else {
+            cells >> k | next << (64 - k)
+        };
+        match match_mark((behind % 256) as u8) {
+            Some((Mark::Z, _)) => {
+                of_blocks |= 1 << k;
+                all |= 1 << k;
+            }
+            Some(_) => all |= 1 << k,
+            None => {}
+        }
+    }
+    (of_blocks, all)
+}
+
+#[test]
+fn preambles_against_windows(rt: HostRuntime) {
+    let mut state: u64 = 1;
+    for _ in 0..2_000 {
+        state = state
+            .wrapping_mul(6_364_136_223_846_793_005)
+            .wrapping_add(1_442_695_040_888_963_407);
+        let cells = subframe_cells(Level::Low, Mark::Z, (state >> 37) as u32);
+        let cells = cells.rotate_left((state & 63) as u32) ^ 1 << (state >> 58);
+        let found = (block_preambles(cells, state), preambles(cells, state));
+        assert_eq!(rt; found, places_by_windows(cells, state));
     }
 }

@@ -2,19 +2,20 @@
 use Rattle.std.proofs.Common.{◌≡◌, ℕ, suc, ◌+◌, ◌≤◌, List, [], ◌∷◌, ◌++◌, Option, Some, None, Result, Ok, Err, IfOk, OnErr, length, drop, refl, sym, ap, ap₂, ◌∙◌, arith, append-nil, length-append}
 use Rattle.std.specs.Prelude.{option_to_list, option_map}
 use Rattle.std.proofs.lemmas.Grind.{flat_map-append}
+use Rattle.std.proofs.lemmas.List.{append_cancel_left}
 use Rattle.aes3_cell.specs.declared.level.Level.{Level}
 use Rattle.aes3_cell.specs.declared.form.Form.{Form}
 use Rattle.aes3_cell.specs.declared.counts.Counts.{Counts}
 use Rattle.aes3_slot.specs.declared.mark.Mark.{Mark}
 use Rattle.aes3_cell.specs.declared.ends.Fault as device
 use Rattle.aes3_cell.specs.Ends.{Grew, GrewFront}
-use Rattle.aes3_cell.proofs.Growing.{grew-is, front-is}
+use Rattle.aes3_cell.proofs.Growing.{grew-none, grew-is, front-is}
 use Rattle.aes3_lock.specs.Preambles.{first_mark, placed, marks_from, marks}
 use Rattle.aes3_lock.proofs.Scanning.{ending, marks-push}
 use Rattle.aes3_lock.specs.Following.{ScanState, ScanFollows}
-use Rattle.aes3_engine.specs.Taking.{before_end, with_end}
+use Rattle.aes3_engine.specs.Taking.{behind, before_end, with_end}
 use Rattle.aes3_engine.specs.Inputs.{cells_of}
-use Rattle.aes3_engine.proofs.Items.{before-is}
+use Rattle.aes3_engine.proofs.Items.{before-is, before-join}
 use Rattle.aes3_text.specs.Lines.{mark_line}
 use Rattle.aes3_text.specs.Runs.{line_of, mark_lines, marks_by, marking, scan_counts, Scanned}
 
@@ -54,12 +55,6 @@ pub ends-lines : (c : List Level) → [] ≡ marking.ends c
 unfolding marking
 ends-lines c = refl
 
-pub adds-mark : (c : List Level) (l : Level) (m : ℕ × Mark × Level) → marks (c ++ l ∷ []) ≡ marks c ++ m ∷ [] → line_of m ≡ marking.adds c l
-adds-mark c l m e = sym (append-nil (line_of m)) ∙ ap mark_lines (sym (marks-by c l (m ∷ []) e)) ∙ sym (adds-lines c l)
-
-pub adds-none : (c : List Level) (l : Level) → marks (c ++ l ∷ []) ≡ marks c ++ [] → [] ≡ marking.adds c l
-adds-none c l e = ap mark_lines (sym (marks-by c l [] e)) ∙ sym (adds-lines c l)
-
 -- counted
 one-at-most : {A : Type 0} (o : Option A) → length (option_to_list o) ≤ 1
 one-at-most None = omega arith
@@ -78,13 +73,13 @@ pub few-marks : (c : List Level) → length (marks c) ≤ length c
 unfolding marks
 few-marks c = few-from 0 c
 
-pub scanned-mark : {scan new : ScanState} {count : ℕ} {c : List Level} (l : Level) (m : ℕ × Mark × Level) → Scanned scan count c → ScanFollows new (c ++ l ∷ []) → marks (c ++ l ∷ []) ≡ marks c ++ m ∷ []
-    → Scanned new (count + 1) (c ++ l ∷ [])
-scanned-mark {c} l m h f e = record { follows = f; count_is = (let n = h.count_is in let k = ap length e in let a = length-append (marks c) (m ∷ []) in omega arith) }
+pub scanned-mark : {scan new : ScanState} {count : ℕ} {c : List Level} (d : List Level) (m : ℕ × Mark × Level) → Scanned scan count c → ScanFollows new (c ++ d) → marks (c ++ d) ≡ marks c ++ m ∷ []
+    → Scanned new (count + 1) (c ++ d)
+scanned-mark {c} d m h f e = record { follows = f; count_is = (let n = h.count_is in let k = ap length e in let a = length-append (marks c) (m ∷ []) in omega arith) }
 
-pub scanned-none : {scan new : ScanState} {count : ℕ} {c : List Level} (l : Level) → Scanned scan count c → ScanFollows new (c ++ l ∷ []) → marks (c ++ l ∷ []) ≡ marks c ++ []
-    → Scanned new count (c ++ l ∷ [])
-scanned-none {c} l h f e = record { follows = f; count_is = h.count_is ∙ sym (ap length (e ∙ append-nil (marks c))) }
+pub scanned-none : {scan new : ScanState} {count : ℕ} {c : List Level} (d : List Level) → Scanned scan count c → ScanFollows new (c ++ d) → marks (c ++ d) ≡ marks c ++ []
+    → Scanned new count (c ++ d)
+scanned-none {c} d h f e = record { follows = f; count_is = h.count_is ∙ sym (ap length (e ∙ append-nil (marks c))) }
 
 pub scan-starts : {scan : ScanState} {count : ℕ} → ScanFollows scan [] → count ≡ 0 → Scanned scan count []
 unfolding marks
@@ -97,17 +92,32 @@ counted form b bytes cells count scan e f h =
     ap₂ (λ (x y : ℕ). record { bytes = x; cells = y; blocks = 0; faults = 0; unfinished = 0; marks = count }) e f
     ∙ ap (λ (x : ℕ). record { bytes = length b; cells = length (cells_of form b); blocks = 0; faults = 0; unfinished = 0; marks = x }) h.count_is
 
--- what a cell writes that ends a preamble
+-- what cells write that end a preamble or none
+pub marks-behind : (c d : List Level) (m : List (ℕ × Mark × Level)) → marks (c ++ d) ≡ marks c ++ m → behind marking c d ≡ mark_lines m
+marks-behind c d m e =
+    append_cancel_left (mark_lines (marks c)) (behind marking c d) (mark_lines m)
+    (ap (λ z. z ++ behind marking c d) (sym (before-lines c)) ∙ sym (before-join marking c d) ∙ before-lines (c ++ d) ∙ ap mark_lines e ∙ flat_map-append line_of (marks c) m)
+
+pub told-grew : (t t' : Option (List ℕ)) (c d : List Level) (m : ℕ × Mark × Level) → marks (c ++ d) ≡ marks c ++ m ∷ [] → Grew t t' (mark_line m.0 m.1 m.2) → Grew t t' (behind marking c d)
+unfolding line_of
+told-grew t t' c d m e g = grew-is (sym (append-nil (line_of m)) ∙ sym (marks-behind c d (m ∷ []) e)) g
+
+pub told-front : (t t' : Option (List ℕ)) (c d : List Level) (m : ℕ × Mark × Level) → marks (c ++ d) ≡ marks c ++ m ∷ [] → GrewFront t t' (mark_line m.0 m.1 m.2) → GrewFront t t' (behind marking c d)
+unfolding line_of
+told-front t t' c d m e g = front-is (sym (append-nil (line_of m)) ∙ sym (marks-behind c d (m ∷ []) e)) g
+
+pub none-grew : {t t' : Option (List ℕ)} (c d : List Level) → marks (c ++ d) ≡ marks c ++ [] → t' ≡ t → Grew t t' (behind marking c d)
+none-grew c d e g = grew-is (sym (marks-behind c d [] e)) (grew-none g)
+
+-- what the line of a preamble writes that one cell ends
 pub mark-grew : (scan : ScanState) (count : ℕ) (l : Level) (m : ℕ × Mark × Level) (t t' : Option (List ℕ)) (result : Result (Unit {0}) device.Fault)
     → ((c : List Level) → ScanFollows scan c → marks (c ++ l ∷ []) ≡ marks c ++ m ∷ []) → IfOk result (λ (u : Unit {0}). Grew t t' (mark_line m.0 m.1 m.2))
     → IfOk result (λ (u : Unit {0}). (c : List Level) → Scanned scan count c → Grew t t' (marking.adds c l))
-unfolding line_of
-mark-grew scan count l m t t' (Ok u) p g = λ c h. grew-is (adds-mark c l m (p c h.follows)) g
+mark-grew scan count l m t t' (Ok u) p g = λ c h. grew-is (append-nil (marking.adds c l)) (told-grew t t' c (l ∷ []) m (p c h.follows) g)
 mark-grew scan count l m t t' (Err e) p g = tt
 
 pub mark-front : (scan : ScanState) (count : ℕ) (l : Level) (m : ℕ × Mark × Level) (t t' : Option (List ℕ)) (k k' : ℕ) (result : Result (Unit {0}) device.Fault)
     → ((c : List Level) → ScanFollows scan c → marks (c ++ l ∷ []) ≡ marks c ++ m ∷ []) → OnErr result ((k' ≡ k + 1) × GrewFront t t' (mark_line m.0 m.1 m.2))
     → OnErr result ((c : List Level) → Scanned scan count c → GrewFront t t' (marking.adds c l))
-unfolding line_of
 mark-front scan count l m t t' k k' (Ok u) p g = tt
-mark-front scan count l m t t' k k' (Err e) p g = λ c h. front-is (adds-mark c l m (p c h.follows)) g.1
+mark-front scan count l m t t' k k' (Err e) p g = λ c h. front-is (append-nil (marking.adds c l)) (told-front t t' c (l ∷ []) m (p c h.follows) g.1)

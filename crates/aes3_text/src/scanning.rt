@@ -6,12 +6,14 @@ ghost use Rattle.aes3_lock.specs.Preambles.{marks};
 ghost use Rattle.aes3_engine.specs.CellRuns.{CellRun, IsCause};
 ghost use Rattle.aes3_engine.specs.Driving.{WholeInput};
 ghost use Rattle.aes3_engine.specs.Inputs.{IsInput, cells_before, cells_of};
+ghost use Rattle.aes3_text.specs.Lines.{mark_line};
 ghost use Rattle.aes3_text.specs.Runs.{Scanned, mark_lines, marking, scan_counts};
 
 use crate::mark::line_of_mark;
 use aes3_cell::{Counts, Fault, Form, Level, RunError, Sink, Source};
-use aes3_engine::{CellTaker, Taker, drive, each_cell};
+use aes3_engine::{CellTaker, Taker, drive};
 use aes3_lock::Scan;
+use aes3_slot::Mark;
 
 /// Writes the line of each preamble, and counts them.
 #[derive(Drop)]
@@ -30,6 +32,23 @@ impl MarkLines {
             marks: 0,
         }
     }
+
+    /// Writes the line of a preamble that the scan told, and counts it.
+    ///
+    /// # Errors
+    /// The sink's fault; then it has taken a front of the line.
+    fn tell<T: Sink>(&mut self, sink: &mut T, found: (u64, Mark, Level)) -> Result<(), Fault>
+        requires room { T.failed sink.old + 1 < 2 ^ 64 }
+        requires few { self.old.marks + 1 < 2 ^ 64 }
+        ensures scan { self.new.scan ≡ self.old.scan }
+        ensures marks { self.new.marks ≡ self.old.marks + 1 }
+        ensures line { IfOk result (λ _. Grew (T.taken sink.old) (T.taken sink.new) (mark_line found.0 found.1 found.2)) }
+        ensures count { IfOk result (λ _. T.failed sink.new ≡ T.failed sink.old) }
+        ensures err { OnErr result ((T.failed sink.new ≡ T.failed sink.old + 1) × GrewFront (T.taken sink.old) (T.taken sink.new) (mark_line found.0 found.1 found.2)) }
+    {
+        self.marks += 1;
+        line_of_mark(found.0, found.1, found.2, sink)
+    }
 }
 
 impl CellTaker for MarkLines {
@@ -39,10 +58,7 @@ impl CellTaker for MarkLines {
 
     fn cell<T: Sink>(&mut self, sink: &mut T, level: Level) -> Result<(), Fault> {
         match self.scan.push(level) {
-            Some((at, mark, before)) => {
-                self.marks += 1;
-                line_of_mark(at, mark, before, sink)
-            }
+            Some(found) => self.tell(sink, found),
             None => Ok(()),
         }
     }
@@ -52,7 +68,18 @@ impl Taker for MarkLines {
     ghost finished = { λ k. Scanned k.scan k.marks };
 
     fn word<T: Sink>(&mut self, sink: &mut T, word: u64) -> Result<(), Fault> {
-        each_cell(self, sink, word)
+        let mut taken = 0;
+        while taken < u64::BITS {
+            let (more, found) = self.scan.next_in(word >> taken, u64::BITS - taken);
+            taken += more;
+            if let Some(found) = found {
+                match self.tell(sink, found) {
+                    Ok(()) => {}
+                    Err(fault) => return Err(fault),
+                }
+            }
+        }
+        Ok(())
     }
 
     fn finish<T: Sink>(&mut self, _sink: &mut T) -> Result<(), Fault> {

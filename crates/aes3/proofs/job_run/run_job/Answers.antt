@@ -1,4 +1,4 @@
-use Rattle.std.proofs.Common.{◌≡◌, ◌≢◌, ℕ, List, take, Err, OnErr, sym, subst}
+use Rattle.std.proofs.Common.{◌≢◌, ℕ, List, take, Err, OnErr, sym, subst}
 use Rattle.aes3_cell.specs.declared.refusal.RunError.TheVariants.{Write}
 use Rattle.aes3_cell.specs.Ends.{Grew, Told}
 use Rattle.aes3.specs.declared.job.Job.{Job}

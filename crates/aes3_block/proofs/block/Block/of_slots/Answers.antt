@@ -1,6 +1,5 @@
-use Rattle.std.proofs.Common.{ap, sym, ◌∙◌, arith, rules, length, length-set}
+use Rattle.std.proofs.Common.{ap, ◌∙◌, arith, length, length-set}
 use Rattle.std.proofs.lemmas.List.{length-replicate}
-use Rattle.aes3_block.specs.Files.{payload_of}
 use Rattle.aes3_block.specs.Blocks.{block_slots}
 use Rattle.aes3_block.proofs.BlockLemmas.{zeros-lawful, block_slots_384}
 use Rattle.aes3_block.proofs.SlotWords.{lawful-more, payload-more, payloads-all}

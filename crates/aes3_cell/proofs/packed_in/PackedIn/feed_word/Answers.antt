@@ -7,5 +7,5 @@ pub returns-clause-cells : goal.returns-clause-cells
 returns-clause-cells c =
     let octets = c.args.octets.now in
     let fits = c.self.ranges.1 in
-    eight-word c.self.inside.before_last c.self.inside.last octets c.from_be_bytes.result c.reverse_bits.result c.told-octets fits.0.1 fits.1.0.1 c.fits-octets
-    c.from_be_bytes.ensures c.reverse_bits.ensures ∙ ap (λ p. eight_whole p octets) c.self.view_is
+    eight-word c.self.inside.before_last c.self.inside.last octets c.from_be_bytes.result c.turned.result c.told-octets fits.0.1 fits.1.0.1 c.fits-octets
+    c.from_be_bytes.ensures c.turned.ensures ∙ ap (λ p. eight_whole p octets) c.self.view_is

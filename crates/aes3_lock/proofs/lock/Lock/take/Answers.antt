@@ -1,7 +1,7 @@
 use Rattle.std.proofs.Common.{◌+◌, ◌-◌, ◌/◌, set, drop, Some, refl, sym, ap, subst, arith}
 use Rattle.aes3_cell.specs.Words.{low_cells}
 use Rattle.aes3_slot.specs.Rules.{at}
-use Rattle.aes3_lock.specs.Candidates.{entry}
+use Rattle.aes3_slot.specs.Preambles.{entry}
 use Rattle.aes3_lock.specs.Following.{Follows}
 use Rattle.aes3_lock.proofs.Deciding.{block_slots_384}
 use Rattle.aes3_lock.proofs.Codes.{goes}

@@ -1,0 +1,122 @@
+-- Cells in which no preamble ends, and the first that ends one, for a scan.
+use Rattle.std.proofs.Common.{◌≡◌, ℕ, suc, ◌+◌, ◌-◌, ◌^◌, ◌<◌, ◌≤◌, ◌⊎◌, inl, inr, List, [], ◌∷◌, ◌++◌, Bool, true, false, cond, ◌||◌, Option, Some, None, refl, length, take, drop, ap, ap₂, ◌∙◌, sym, arith, append_assoc, append-nil, w64, add-one}
+use Rattle.std.specs.Prelude.{if◌then◌else◌, option_to_list, option_map}
+use Rattle.std.specs.Int.{bit_at, trailing_zeros}
+use Rattle.std.specs.Int.Count.{trailing_of_zero}
+use Rattle.std.proofs.lemmas.Bool.{cases_eq, cases_lt}
+use Rattle.std.proofs.lemmas.Nat.Bits.{bit_at-trailing_zeros, bit_at-zero}
+use Rattle.aes3_cell.specs.declared.level.Level.{Level}
+use Rattle.aes3_cell.specs.Words.{low_cells, level_of, word_cells, word_len}
+use Rattle.aes3_cell.proofs.WordCells.{length-low_cells, take-low_cells, low_cells-suc}
+use Rattle.aes3_slot.specs.declared.mark.Mark.{Mark}
+use Rattle.aes3_slot.specs.declared.mark.Mark.TheVariants.{X, Y, Z}
+use Rattle.aes3_slot.specs.Preambles.{entry, begins_with, begins_with_any}
+use Rattle.aes3_lock.specs.Preambles.{first_mark, placed, marks}
+use Rattle.aes3_lock.specs.Steps.{last_eight, ended_mark}
+use Rattle.aes3_lock.proofs.QuietWords.{window}
+use Rattle.aes3_lock.proofs.Scanning.{mark-append, ended-short, ended-long, marks-last}
+
+-- whether a preamble begins
+any-append : (c d : List Level) → 8 ≤ length c → begins_with_any (c ++ d) ≡ begins_with_any c
+unfolding begins_with_any
+any-append c d h = let x = mark-append X c d h in let y = mark-append Y c d h in let z = mark-append Z c d h in rw (x, y, z) refl
+
+first-none : (c : List Level) → begins_with_any c ≡ false → first_mark c ≡ None
+unfolding begins_with_any first_mark
+first-none c = go (begins_with X c) (begins_with Y c) (begins_with Z c) (X, entry c) (Y, entry c) (Z, entry c)
+  where
+    go : (x y z : Bool) (a b d : Mark × Level) → (x || (y || z)) ≡ false → cond {A = Option (Mark × Level)} x (Some a) (cond y (Some b) (cond z (Some d) None)) ≡ None
+    go false false false a b d e = refl
+    go false false true a b d e = cc
+    go false true z a b d e = cc
+    go true y z a b d e = cc
+
+first-some : (c : List Level) → begins_with_any c ≡ true → first_mark c ≡ None → ⊥
+unfolding begins_with_any first_mark
+first-some c = go (begins_with X c) (begins_with Y c) (begins_with Z c) (X, entry c) (Y, entry c) (Z, entry c)
+  where
+    go : (x y z : Bool) (a b d : Mark × Level) → (x || (y || z)) ≡ true → cond {A = Option (Mark × Level)} x (Some a) (cond y (Some b) (cond z (Some d) None)) ≡ None → ⊥
+    go false false false a b d e f = cc
+    go false false true a b d e f = cc
+    go false true z a b d e f = cc
+    go true y z a b d e f = cc
+
+ended-none : (n : ℕ) (recent : List Level) → begins_with_any recent ≡ false → ended_mark n recent ≡ None
+ended-none n recent h = go (cases_lt n 8)
+  where
+    go : (n < 8) ⊎ (8 ≤ n) → ended_mark n recent ≡ None
+    go (inl g) = ended-short n recent g
+    go (inr g) = ended-long n recent g ∙ ap (option_map (placed (n - 8))) (first-none recent h)
+
+ended-some : (n : ℕ) (recent : List Level) → 8 ≤ n → begins_with_any recent ≡ true → ended_mark n recent ≡ None → ⊥
+ended-some n recent h b e = go (first_mark recent) (first-some recent b) (sym (ended-long n recent h) ∙ e)
+  where
+    go : (o : Option (Mark × Level)) → (o ≡ None → ⊥) → option_map (placed (n - 8)) o ≡ None → ⊥
+    go None f e = f refl
+    go (Some m) f e = cc
+
+-- a list in which none ends
+marks-quiet : (c d : List Level) → ((i : ℕ) → i < length d → begins_with_any (last_eight (c ++ take (suc i) d)) ≡ false) → marks (c ++ d) ≡ marks c
+marks-quiet c [] h = ap marks (append-nil c)
+marks-quiet c (l ∷ d) h =
+    let rest = marks-quiet (c ++ l ∷ []) d (λ i g. ap (λ x. begins_with_any (last_eight x)) (append_assoc c (l ∷ []) (take (suc i) d)) ∙ h (suc i) (omega arith)) in
+    ap marks (sym (append_assoc c (l ∷ []) d)) ∙ rest ∙ marks-last c l
+    ∙ ap (λ o. marks c ++ option_to_list o) (ended-none (length (c ++ l ∷ [])) (last_eight (c ++ l ∷ [])) (h 0 (omega arith))) ∙ append-nil (marks c)
+
+take-low : (m n w : ℕ) → m ≤ n → take m (low_cells n w) ≡ low_cells m w
+take-low m n w h = ap (λ k. take m (low_cells k w)) (let e : n ≡ m + (n - m) = omega (arith, h) in e) ∙ take-low_cells m (n - m) w
+
+-- of the cells of a word, by the places where preambles begin in the seven before it and its own
+module _ (c b : List Level) (m w : ℕ) (few : m < 2 ^ 64) (is : b ≡ drop 1 (last_eight c) ++ word_cells w)
+    (found : (i : ℕ) → i < 64 → bit_at m i ≡ (if begins_with_any (drop i b) then 1 else 0)) where
+  ends-at : (i : ℕ) → i < 64 → bit_at m i ≡ (if begins_with_any (last_eight (c ++ low_cells (suc i) w)) then 1 else 0)
+  unfolding word_cells word_len
+  ends-at i h =
+      let l = length-low_cells 64 w in
+      found i h ∙ ap (λ x. if begins_with_any (drop i x) then 1 else 0) is
+      ∙ ap (λ p. if p then 1 else 0) (window begins_with_any any-append c (low_cells 64 w) i (omega (arith, l, h)) ∙ ap (λ x. begins_with_any (last_eight (c ++ x))) (take-low (suc i) 64 w (omega arith)))
+
+  below : (i : ℕ) → i < trailing_zeros w64 m → i < 64 → bit_at m i ≡ 0
+  below i g h = go (cases_eq m 0)
+    where
+      go : (m ≡ 0) ⊎ (m ≡ 0 → ⊥) → bit_at m i ≡ 0
+      go (inl z) = ap (λ x. bit_at x i) z ∙ bit_at-zero i
+      go (inr s) = (bit_at-trailing_zeros w64 m (omega (arith, s)) few).2 i g
+
+  quiet-at : (i : ℕ) → i < trailing_zeros w64 m → i < 64 → begins_with_any (last_eight (c ++ low_cells (suc i) w)) ≡ false
+  quiet-at i g h = go (begins_with_any (last_eight (c ++ low_cells (suc i) w))) (sym (ends-at i h) ∙ below i g h)
+    where
+      go : (p : Bool) → ◌≡◌ {A = ℕ} (if p then 1 else 0) 0 → p ≡ false
+      go true e = absurd (omega arith)
+      go false e = refl
+
+  pub none-end : (n : ℕ) → n ≤ trailing_zeros w64 m → n ≤ 64 → marks (c ++ low_cells n w) ≡ marks c
+  none-end n g h =
+      let l = length-low_cells n w in
+      marks-quiet c (low_cells n w) (λ i k. ap (λ x. begins_with_any (last_eight (c ++ x))) (take-low (suc i) n w (omega (arith, l, k))) ∙ quiet-at i (omega (arith, l, k, g)) (omega (arith, l, k, h)))
+
+  -- the first that ends one
+  pub one-ends : trailing_zeros w64 m < 64 → marks (c ++ low_cells (trailing_zeros w64 m + 1) w)
+      ≡ marks c ++ option_to_list (ended_mark (length (c ++ low_cells (trailing_zeros w64 m + 1) w)) (last_eight (c ++ low_cells (trailing_zeros w64 m + 1) w)))
+  one-ends h =
+      let n = trailing_zeros w64 m in
+      let e : (c ++ low_cells n w) ++ level_of (bit_at w n) ∷ [] ≡ c ++ low_cells (n + 1) w =
+      append_assoc c (low_cells n w) (level_of (bit_at w n) ∷ []) ∙ ap (λ x. c ++ x) (sym (low_cells-suc n w) ∙ ap (λ k. low_cells k w) (sym (add-one n))) in
+      ap marks (sym e) ∙ marks-last (c ++ low_cells n w) (level_of (bit_at w n))
+      ∙ ap₂ (λ x y. x ++ option_to_list (ended_mark (length y) (last_eight y))) (none-end n (omega arith) (omega (arith, h))) e
+
+  pub is-told : (k : ℕ) → trailing_zeros w64 m < 64 → 8 ≤ k → ended_mark k (last_eight (c ++ low_cells (trailing_zeros w64 m + 1) w)) ≡ None → ⊥
+  is-told k h g = ended-some k (last_eight (c ++ low_cells (trailing_zeros w64 m + 1) w)) g (go (cases_eq m 0))
+    where
+      n : ℕ
+      n = trailing_zeros w64 m
+
+      one : (p : Bool) → ◌≡◌ {A = ℕ} (if p then 1 else 0) 1 → p ≡ true
+      one true e = refl
+      one false e = absurd (omega arith)
+
+      go : (m ≡ 0) ⊎ (m ≡ 0 → ⊥) → begins_with_any (last_eight (c ++ low_cells (n + 1) w)) ≡ true
+      go (inl z) = absurd (let t = ap (trailing_zeros w64) z ∙ trailing_of_zero 64 in omega (arith, t, h))
+      go (inr s) =
+          let z = bit_at-trailing_zeros w64 m (omega (arith, s)) few in
+          ap (λ k. begins_with_any (last_eight (c ++ low_cells k w))) (add-one n) ∙ one _ (sym (ends-at n z.0) ∙ z.1)

@@ -1,0 +1,116 @@
+-- Cells in which no preamble of a block ends, where no candidate is in hand.
+use Rattle.std.proofs.Common.{◌≡◌, ℕ, suc, ◌+◌, ◌-◌, ◌/◌, ◌^◌, ◌<◌, ◌≤◌, List, [], ◌∷◌, ◌++◌, Bool, true, false, None, refl, length, take, drop, ap, ap₂, ◌∙◌, sym, subst, arith, length-append, length-drop, length-take, min, drop-drop, append_assoc, append-nil, take-append-drop, w64}
+use Rattle.std.specs.Prelude.{if◌then◌else◌}
+use Rattle.std.specs.Int.{bit_at, trailing_zeros}
+use Rattle.std.proofs.lemmas.List.{drop-append-le}
+use Rattle.std.proofs.lemmas.Nat.Bits.{bit_at-trailing_zeros, bit_at-zero}
+use Rattle.aes3_cell.specs.declared.level.Level.{Level}
+use Rattle.aes3_cell.specs.Words.{low_cells, word_cells}
+use Rattle.aes3_cell.proofs.WordCells.{drop-low_cells}
+use Rattle.aes3_slot.specs.Preambles.{with_seven}
+use Rattle.aes3_slot.proofs.Taken.{length-word}
+use Rattle.aes3_lock.specs.Candidates.{begins_block}
+use Rattle.aes3_lock.specs.Reports.{open_at, decided_from, decided}
+use Rattle.aes3_lock.specs.Steps.{last_eight}
+use Rattle.aes3_lock.specs.Following.{LockState, Follows, NoneOpen, BeginsIn}
+use Rattle.aes3_lock.proofs.Deciding.{decided-push, begins-append}
+use Rattle.aes3_lock.proofs.Opens.{answer-none, none-after}
+use Rattle.aes3_lock.proofs.LastEight.{length-last_eight, last_eight-more, last_eight-word}
+use Rattle.aes3_lock.proofs.Following.{closed, drop-push}
+
+-- a property of eight cells that end with cell i of the cells d
+pub window : (q : List Level → Bool) → ((x y : List Level) → 8 ≤ length x → q (x ++ y) ≡ q x) → (c d : List Level) (i : ℕ) → i < length d
+    → q (drop i (drop 1 (last_eight c) ++ d)) ≡ q (last_eight (c ++ take (suc i) d))
+window q stays c d i g =
+    ap q parts ∙ stays (drop (suc i) (last_eight c ++ take (suc i) d)) (drop (suc i) d) (omega (arith, r, a, k, m, g))
+    ∙ sym (ap q (last_eight-more c (take (suc i) d) ∙ ap (λ n. drop n (last_eight c ++ take (suc i) d)) here))
+  where
+    r : length (last_eight c) ≡ 8
+    r = length-last_eight c
+
+    k : length (take (suc i) d) ≡ min (suc i) (length d)
+    k = length-take (suc i) d
+
+    here : length (take (suc i) d) ≡ suc i
+    here = omega (arith, k, g)
+
+    a : length (last_eight c ++ take (suc i) d) ≡ length (last_eight c) + length (take (suc i) d)
+    a = length-append (last_eight c) (take (suc i) d)
+
+    m : length (drop (suc i) (last_eight c ++ take (suc i) d)) ≡ length (last_eight c ++ take (suc i) d) - suc i
+    m = length-drop (suc i) (last_eight c ++ take (suc i) d)
+
+    parts : drop i (drop 1 (last_eight c) ++ d) ≡ drop (suc i) (last_eight c ++ take (suc i) d) ++ drop (suc i) d
+    parts =
+        ap (drop i) (sym (drop-append-le 1 (last_eight c) d (omega (arith, r)))) ∙ drop-drop i 1 (last_eight c ++ d)
+        ∙ ap₂ drop (let q : 1 + i ≡ suc i = omega arith in q)
+        (ap (λ x. last_eight c ++ x) (sym (take-append-drop (suc i) d)) ∙ sym (append_assoc (last_eight c) (take (suc i) d) (drop (suc i) d)))
+        ∙ drop-append-le (suc i) (last_eight c ++ take (suc i) d) (drop (suc i) d) (omega (arith, a, r, here))
+
+quiet-cell : (c : List Level) (l : Level) → NoneOpen c → begins_block (last_eight (c ++ l ∷ [])) ≡ false
+    → NoneOpen (c ++ l ∷ []) × (decided (c ++ l ∷ []) ≡ decided c)
+unfolding decided
+quiet-cell c l none b = (
+  closed (c ++ l ∷ []) (λ q g. let d = drop-push c l q g in ap open_at d.0 ∙ none-after c l q (none q) d.1) (λ h. b),
+  decided-push 0 c l ∙ ap (λ x. decided_from 0 c ++ x) (answer-none 0 c l none) ∙ append-nil (decided_from 0 c),
+)
+
+quiet-cells : (c d : List Level) → NoneOpen c → ((i : ℕ) → i < length d → begins_block (last_eight (c ++ take (suc i) d)) ≡ false)
+    → NoneOpen (c ++ d) × (decided (c ++ d) ≡ decided c)
+quiet-cells c [] none h = (subst NoneOpen (sym (append-nil c)) none, ap decided (append-nil c))
+quiet-cells c (l ∷ d) none h =
+    let e = append_assoc c (l ∷ []) d in
+    let one = quiet-cell c l none (h 0 (omega arith)) in
+    let rest = quiet-cells (c ++ l ∷ []) d one.0 (λ i g. ap (λ x. begins_block (last_eight x)) (append_assoc c (l ∷ []) (take (suc i) d)) ∙ h (suc i) (omega arith)) in
+    (subst NoneOpen e rest.0, ap decided (sym e) ∙ rest.1 ∙ one.1)
+
+-- the seven cells before a word and its own
+pub seven-before : (r b w x y : ℕ) → b ≡ r / 2 ^ 1 → (b < 2 ^ 7 → word_cells x ≡ low_cells 7 b ++ take 57 (word_cells w)) → low_cells 7 y ≡ drop 57 (word_cells w)
+    → r < 2 ^ 8 → with_seven x y ≡ drop 1 (low_cells 8 r) ++ word_cells w
+unfolding with_seven
+seven-before r b w x y i a e h =
+    ap₂ (λ c d. c ++ d) (a (omega (arith, i, h)) ∙ ap (λ v. low_cells 7 v ++ take 57 (word_cells w)) i) e ∙ append_assoc (low_cells 7 (r / 2 ^ 1)) (take 57 (word_cells w)) (drop 57 (word_cells w))
+    ∙ ap₂ (λ c d. c ++ d) (sym (drop-low_cells 1 7 r)) (take-append-drop 57 (word_cells w))
+
+-- a word in which no preamble of a block begins, and one in which one does
+pub none-begins : (m : ℕ) (c d : List Level) → m ≡ 0 → ((i : ℕ) → i < 64 → bit_at m i ≡ (if begins_block (drop i c) then 1 else 0)) → c ≡ d
+    → (i : ℕ) → i < 64 → begins_block (drop i d) ≡ false
+none-begins m c d z h e i g = subst (λ x. begins_block (drop i x) ≡ false) e (go (begins_block (drop i c)) (sym (h i g) ∙ ap (λ w. bit_at w i) z ∙ bit_at-zero i))
+  where
+    go : (b : Bool) → ◌≡◌ {A = ℕ} (if b then 1 else 0) 0 → b ≡ false
+    go true q = absurd (omega arith)
+    go false q = refl
+
+pub one-begins : (m : ℕ) (c d : List Level) → m < 2 ^ 64 → (m ≡ 0 → ⊥) → ((i : ℕ) → i < 64 → bit_at m i ≡ (if begins_block (drop i c) then 1 else 0)) → c ≡ d
+    → BeginsIn d
+one-begins m c d b n h e =
+    let z = bit_at-trailing_zeros w64 m (omega (arith, n)) b in
+    record {
+      place = trailing_zeros w64 m;
+      within = z.0;
+      is = subst (λ x. begins_block (drop (trailing_zeros w64 m) x) ≡ true) e (go (begins_block (drop (trailing_zeros w64 m) c)) (sym (h _ z.0) ∙ z.1));
+    }
+  where
+    go : (b : Bool) → ◌≡◌ {A = ℕ} (if b then 1 else 0) 1 → b ≡ true
+    go true q = refl
+    go false q = absurd (omega arith)
+
+-- a lock with a word of such cells
+module _ (k k' : LockState) (c : List Level) (w : ℕ) (f : Follows k c) (s : k.candidate ≡ None)
+    (quiet : (i : ℕ) → i < 64 → begins_block (drop i (drop 1 k.recent ++ word_cells w)) ≡ false)
+    (seen : k'.seen ≡ k.seen + 64) (recent : k'.recent ≡ drop 56 (word_cells w)) (still : k'.candidate ≡ None) where
+  all : NoneOpen (c ++ word_cells w) × (decided (c ++ word_cells w) ≡ decided c)
+  all =
+      let l = length-word w in
+      quiet-cells c (word_cells w) (rw s at f.candidate)
+      (λ i h. sym (window begins_block begins-append c (word_cells w) i h) ∙ ap (λ r. begins_block (drop i (drop 1 r ++ word_cells w))) (sym f.recent) ∙ quiet i (omega (arith, l, h)))
+
+  pub quiet-follows : Follows k' (c ++ word_cells w)
+  quiet-follows = record {
+    seen = let l = length-word w in let a = length-append c (word_cells w) in let b = f.seen in omega (arith, l, a, b, seen);
+    recent = recent ∙ sym (last_eight-word c (word_cells w) (length-word w));
+    candidate = rw still all.0;
+  }
+
+  pub quiet-none : decided (c ++ word_cells w) ≡ decided c
+  quiet-none = all.1

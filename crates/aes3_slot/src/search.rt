@@ -1,0 +1,48 @@
+//! Preambles in 64 cells at once (AES3-3; IEC 60958-1).
+
+ghost use Rattle.std.specs.Prelude.{◌≡◌, ℕ, ◌<◌, ◌&&◌, not, drop, if◌then◌else◌};
+ghost use Rattle.std.specs.Int.{bit_at};
+ghost use Rattle.aes3_slot.specs.declared.mark.Mark.TheVariants.{Z};
+ghost use Rattle.aes3_slot.specs.Preambles.{begins_with, begins_with_any, unlike_at, with_seven};
+
+/// The cells that differ from the cell `distance` behind them, each a one.
+fn unlike(cells: u64, next: u64, distance: u32) -> u64
+    requires { (0 < distance) × (distance < 8) }
+    ensures { (k : ℕ) → k < 64 → bit_at result k ≡ (if unlike_at (with_seven cells next) k distance then 1 else 0) }
+{
+    cells ^ (cells >> distance | next << (64 - distance))
+}
+
+/// The cells that a preamble may begin with, by those cells of it that no two preambles differ in.
+fn beginnings(cells: u64, next: u64) -> u64
+    ensures { (k : ℕ) → k < 64 → bit_at result k ≡ (if (not (unlike_at (with_seven cells next) k 1) && not (unlike_at (with_seven cells next) k 2))
+        && (unlike_at (with_seven cells next) k 3 && unlike_at (with_seven cells next) k 7) then 1 else 0) }
+{
+    !unlike(cells, next, 1)
+        & !unlike(cells, next, 2)
+        & (unlike(cells, next, 3) & unlike(cells, next, 7))
+}
+
+/// Where the preamble of a block begins, in either polarity, each such cell a one.
+///
+/// The first of the 64 `cells` is in the lowest bit. The lowest seven bits of `next` are the cells behind them, as many as a
+/// preamble needs that begins with the last.
+pub fn block_preambles(cells: u64, next: u64) -> u64
+    ensures { (k : ℕ) → k < 64 → bit_at result k ≡ (if begins_with Z (drop k (with_seven cells next)) then 1 else 0) }
+{
+    beginnings(cells, next)
+        & (!unlike(cells, next, 4) & (unlike(cells, next, 5) & unlike(cells, next, 6)))
+}
+
+/// Where a preamble begins, in either polarity, each such cell a one; the cells are those of `block_preambles`.
+pub fn preambles(cells: u64, next: u64) -> u64
+    ensures { (k : ℕ) → k < 64 → bit_at result k ≡ (if begins_with_any (drop k (with_seven cells next)) then 1 else 0) }
+{
+    let fifth = unlike(cells, next, 4);
+    let sixth = unlike(cells, next, 5);
+    let seventh = unlike(cells, next, 6);
+    let x = fifth & sixth & !seventh;
+    let y = fifth & !sixth & seventh;
+    let z = !fifth & sixth & seventh;
+    beginnings(cells, next) & (x | y | z)
+}
