@@ -3,6 +3,8 @@
 
 ghost use Rattle.std.specs.Prelude.{◌+◌, ◌<◌, ◌≤◌, ◌^◌, ◌≡◌};
 
+#[cfg(test)]
+mod cell_tests;
 mod definitions;
 mod job;
 mod job_run;
@@ -10,6 +12,8 @@ mod job_run;
 mod job_tests;
 mod refusal;
 mod run;
+#[cfg(test)]
+mod status_tests;
 mod status_text;
 #[cfg(test)]
 mod tests;

@@ -13,7 +13,7 @@ use std::test::Fail;
 const BLOCK_LEN: usize = 1536;
 
 /// The text of the zero block whose first line is `first` behind its preamble.
-fn block_text(alloc: Global, first: &[u8]) -> Result<Vec<u8>, AllocError> {
+pub(crate) fn block_text(alloc: Global, first: &[u8]) -> Result<Vec<u8>, AllocError> {
     let mut text = Vec::new(alloc);
     for slot in 0..384 {
         let preamble: &[u8] = if slot == 0 {
@@ -32,7 +32,7 @@ fn block_text(alloc: Global, first: &[u8]) -> Result<Vec<u8>, AllocError> {
 }
 
 /// 28 slots of bit 0.
-const ZEROS: &[u8] = b"11001100110011001100110011001100110011001100110011001100";
+pub(crate) const ZEROS: &[u8] = b"11001100110011001100110011001100110011001100110011001100";
 
 /// A block file of zero words but for the first.
 fn block_file(alloc: Global, first: &[u8], len: usize) -> Result<Vec<u8>, AllocError> {
@@ -45,7 +45,7 @@ fn block_file(alloc: Global, first: &[u8], len: usize) -> Result<Vec<u8>, AllocE
 }
 
 /// Runs a command line over memory and compares its output, refusal line and status.
-fn expect_run(
+pub(crate) fn expect_run(
     rt: &impl Abort,
     alloc: Global,
     words: &[&str],
