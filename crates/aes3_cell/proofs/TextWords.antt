@@ -1,14 +1,11 @@
 -- Words of cells in text.
-use Rattle.std.proofs.Common.{◌≡◌, ℕ, zero, suc, ◌+◌, ◌-◌, ◌*◌, ◌/◌, ◌%◌, ◌^◌, ◌<◌, ◌≤◌, ◌↔◌, ◌⊎◌, inl, inr, List, [], ◌∷◌, ◌++◌, length, take, drop, map, get_or, leb, refl, sym, ap, ap₂, ◌∙◌, subst, arith, length-append, w64}
-use Rattle.std.specs.Prelude.{bit_or}
-use Rattle.std.specs.Int.Bits.{bit_xor, or_shifted_r, xor_add_and}
-use Rattle.std.specs.Int.{bit_at, from_le_bytes, to_le_bytes}
-use Rattle.std.specs.List.{All}
-use Rattle.std.proofs.lemmas.Bool.{cases_lt, cases_eq, agree_below_at, leb-true, le-leb}
-use Rattle.std.proofs.lemmas.Nat.{and_le_r, le_bytes_8, le_or_l, le_or_r, or_lt, pow_below, shl_below, shl_whole}
-use Rattle.std.proofs.lemmas.List.Elements.{All-head, All-tail}
-use Rattle.std.proofs.lemmas.List.{length-map, length-drop, length-take-le, get_or-drop, get_or-take}
-use Rattle.std.proofs.lemmas.Nat.Bits.{bit_at_cat_high, bit_at_cat_low, bit_at_lowest, bit_at-suc}
+use Rattle.std.proofs.Common.{◌≡◌, ℕ, zero, suc, ◌+◌, ◌-◌, ◌/◌, ◌%◌, ◌^◌, ◌<◌, ◌⊎◌, inl, inr, max, List, ◌++◌, length, map, get_or, ext_get_or, eq-eqb, ne_eqb, lit<, refl, sym, ap, ◌∙◌, subst, arith, length-append}
+use Rattle.std.specs.Prelude.{bit_or, ◌==◌, if◌then◌else◌}
+use Rattle.std.specs.Int.{bit_at}
+use Rattle.std.proofs.lemmas.Bool.{cases_eq}
+use Rattle.std.proofs.lemmas.List.{length-map, get_or-map}
+use Rattle.std.proofs.lemmas.Nat.{or_lt}
+use Rattle.std.proofs.lemmas.Nat.Bits.{bit_at_or, bit_at_ones, bit_at-lt, same_from_bits_below}
 use Rattle.std.proofs.Math.Nat.{pow-succ'}
 use Rattle.aes3_cell.specs.declared.level.Level.{Level}
 use Rattle.aes3_cell.specs.declared.level.Level.TheVariants.{Low, High}
@@ -16,123 +13,55 @@ use Rattle.aes3_cell.specs.Words.{level_of, low_cells, word_len, word_cells}
 use Rattle.aes3_cell.specs.Text.{byte_of, IsCellByte}
 use Rattle.aes3_cell.specs.CellText.{cells_of_text, IsCellText}
 use Rattle.aes3_cell.specs.TextReading.{TextReader, text_reader_of}
-use Rattle.aes3_cell.proofs.WordCells.{length-word_cells}
+use Rattle.aes3_cell.proofs.WordCells.{length-low_cells, length-word_cells, low_cells-at}
 use Rattle.aes3_cell.proofs.Lines.{word_len_64, level-byte}
-use Rattle.aes3_cell.proofs.OctetWords.{take-fit}
 use Rattle.aes3_cell.proofs.CellTexts.{cells-text, cells-join, text-join}
 
--- the lowest bit of each of eight bytes, in their number
-bytes-bits : (bytes : List ℕ) (n : ℕ) → length bytes ≡ 8 → ((i : ℕ) → get_or bytes i 0 < 256) → n ≡ from_le_bytes w64 bytes → (i : ℕ) → i < 8
-    → bit_at n (8 * i) ≡ get_or bytes i 0 % 2
-bytes-bits bytes n l fit e i h = go i h ∙ ap (λ b. get_or b i 0 % 2) (le_bytes_8 bytes n l fit e)
-  where
-    low : (m : ℕ) → m % 2 ≡ m % 256 % 2
-    low m = omega arith
+-- where the bytes `1` and the bytes `0` are all 64, they are the text of the former
+module _ (bytes : List ℕ) (h l : ℕ) (len : length bytes ≡ 64)
+    (high : (i : ℕ) → i < 64 → bit_at h i ≡ (if get_or bytes i 0 == 49 then 1 else 0)) (low : (i : ℕ) → i < 64 → bit_at l i ≡ (if get_or bytes i 0 == 48 then 1 else 0)) where
+  byte-is : bit_or h l ≡ 2 ^ 64 - 1 → (i : ℕ) → i < 64 → get_or bytes i 0 ≡ byte_of (level_of (bit_at h i))
+  byte-is e i g = go (cases_eq (get_or bytes i 0) 49) (cases_eq (get_or bytes i 0) 48)
+    where
+      one : max (bit_at h i) (bit_at l i) ≡ 1
+      one = sym (bit_at_or h l i) ∙ ap (λ n. bit_at n i) e ∙ bit_at_ones 64 i g
 
-    go : (i : ℕ) → i < 8 → bit_at n (8 * i) ≡ get_or (to_le_bytes w64 n) i 0 % 2
-    go zero h = omega arith
-    go (suc zero) h = low (n / 256)
-    go (suc (suc zero)) h = low (n / 256 ^ 2)
-    go (suc (suc (suc zero))) h = low (n / 256 ^ 3)
-    go (suc (suc (suc (suc zero)))) h = low (n / 256 ^ 4)
-    go (suc (suc (suc (suc (suc zero))))) h = low (n / 256 ^ 5)
-    go (suc (suc (suc (suc (suc (suc zero)))))) h = low (n / 256 ^ 6)
-    go (suc (suc (suc (suc (suc (suc (suc zero))))))) h = low (n / 256 ^ 7)
-    go (suc (suc (suc (suc (suc (suc (suc (suc i)))))))) h = absurd (omega arith)
+      go : (get_or bytes i 0 ≡ 49) ⊎ (get_or bytes i 0 ≡ 49 → ⊥) → (get_or bytes i 0 ≡ 48) ⊎ (get_or bytes i 0 ≡ 48 → ⊥) → get_or bytes i 0 ≡ byte_of (level_of (bit_at h i))
+      go (inl a) b =
+          let t = eq-eqb (get_or bytes i 0) 49 a in
+          a ∙ sym (ap (λ n. byte_of (level_of n)) (high i g ∙ ap (λ b. if b then 1 else 0) t))
+      go (inr a) (inl b) =
+          let t = ne_eqb (get_or bytes i 0) 49 a in
+          b ∙ sym (ap (λ n. byte_of (level_of n)) (high i g ∙ ap (λ b. if b then 1 else 0) t))
+      go (inr a) (inr b) =
+          let t = high i g ∙ ap (λ b. if b then 1 else 0) (ne_eqb (get_or bytes i 0) 49 a) in
+          let u = low i g ∙ ap (λ b. if b then 1 else 0) (ne_eqb (get_or bytes i 0) 48 b) in
+          absurd (omega (arith, one, t, u))
 
--- an octet put above the octets of a word
-pub octet-lt : (k w x : ℕ) → k < 8 → w < 2 ^ (8 * k) → x < 2 ^ 8 → bit_or w (x * 2 ^ (8 * k) % 2 ^ 64) < 2 ^ (8 * (k + 1))
-octet-lt k w x h b f =
-    let p = pow_below (8 * k) (8 * (k + 1)) (omega arith) in
-    let e : 2 ^ (8 + 8 * k) ≡ 2 ^ (8 * (k + 1)) = ap (λ n. 2 ^ n) (let n : 8 + 8 * k ≡ 8 * (k + 1) = omega arith in n) in
-    let s = shl_below x 8 (8 * k) f in
-    let q = shl_whole x 8 (8 * k) 64 f (omega arith) in
-    or_lt (8 * (k + 1)) w (x * 2 ^ (8 * k) % 2 ^ 64) (omega (arith, b, p)) (omega (arith, q, s, e))
+  pub word-text : bit_or h l ≡ 2 ^ 64 - 1 → bytes ≡ map byte_of (word_cells h)
+  unfolding word_cells word_len
+  word-text e =
+      let n = length-low_cells 64 h in
+      let m = length-map (low_cells 64 h) byte_of in
+      ext_get_or 0 bytes (map byte_of (low_cells 64 h)) (omega (arith, len, n, m))
+      (λ i g. byte-is e i (omega (arith, g, len)) ∙ ap byte_of (sym (low_cells-at 64 h i (omega (arith, g, len))))
+      ∙ sym (get_or-map byte_of (low_cells 64 h) i Low 0 (omega (arith, g, len, n))))
 
--- and the bits that it adds, which are the lowest of eight more bytes
-pub octet-bits : (bytes eight : List ℕ) (k w n x : ℕ) → k < 8 → length bytes ≡ 64 → ((i : ℕ) → get_or bytes i 0 < 256) → w < 2 ^ (8 * k) → x < 2 ^ 8
-    → eight ≡ take 8 (drop (8 * k) bytes) → n ≡ from_le_bytes w64 eight → ((i : ℕ) → i < 8 → bit_at x i ≡ bit_at n (8 * i))
-    → ((i : ℕ) → i < 8 * k → bit_at w i ≡ get_or bytes i 0 % 2)
-    → (i : ℕ) → i < 8 * (k + 1) → bit_at (bit_or w (x * 2 ^ (8 * k) % 2 ^ 64)) i ≡ get_or bytes i 0 % 2
-octet-bits bytes eight k w n x h l fit b f t e g before i lt = ap (λ v. bit_at v i) whole ∙ go (cases_lt i (8 * k))
-  where
-    whole : bit_or w (x * 2 ^ (8 * k) % 2 ^ 64) ≡ x * 2 ^ (8 * k) + w
-    whole = ap (bit_or w) (shl_whole x 8 (8 * k) 64 f (omega arith)) ∙ or_shifted_r x (8 * k) w b
-
-    drop-fit : (j : ℕ) → get_or (drop (8 * k) bytes) j 0 < 256
-    drop-fit j = let d = get_or-drop (8 * k) bytes j 0 in let q = fit (8 * k + j) in omega (arith, d, q)
-
-    eight-fit : (j : ℕ) → get_or eight j 0 < 256
-    eight-fit j = let q = take-fit 8 (drop (8 * k) bytes) drop-fit j in let v = ap (λ b. get_or b j 0) t in omega (arith, q, v)
-
-    eight-len : length eight ≡ 8
-    eight-len = ap length t ∙ length-take-le 8 (drop (8 * k) bytes) (let d = length-drop (8 * k) bytes in omega (arith, d))
-
-    byte : (j : ℕ) → j < 8 → get_or eight j 0 ≡ get_or bytes (8 * k + j) 0
-    byte j a = ap (λ b. get_or b j 0) t ∙ get_or-take 8 (drop (8 * k) bytes) j 0 a ∙ get_or-drop (8 * k) bytes j 0
-
-    go : (i < 8 * k) ⊎ (8 * k ≤ i) → bit_at (x * 2 ^ (8 * k) + w) i ≡ get_or bytes i 0 % 2
-    go (inl a) = bit_at_cat_low x (8 * k) w i a ∙ before i a
-    go (inr a) =
-        let j : i - 8 * k < 8 = omega (arith, lt, a) in
-        bit_at_cat_high x (8 * k) w i b a ∙ g (i - 8 * k) j ∙ bytes-bits eight n eight-len eight-fit e (i - 8 * k) j
-        ∙ ap (λ v. v % 2) (byte (i - 8 * k) j) ∙ ap (λ m. get_or bytes m 0 % 2) (let m : 8 * k + (i - 8 * k) ≡ i = omega (arith, a) in m)
-
--- the cells of a word whose bits are the lowest of these bytes
-pub bits-cells : (bytes : List ℕ) (n w : ℕ) → n ≡ 64 → length bytes ≡ 64 → ((i : ℕ) → i < n → bit_at w i ≡ get_or bytes i 0 % 2)
-    → word_cells w ≡ map (λ byte. level_of (byte % 2)) bytes
-unfolding word_cells word_len
-bits-cells bytes n w h l bits = ap (λ k. low_cells k w) (sym l) ∙ go bytes w (λ i lt. bits i (omega (arith, h, l, lt)))
-  where
-    go : (bytes : List ℕ) (w : ℕ) → ((i : ℕ) → i < length bytes → bit_at w i ≡ get_or bytes i 0 % 2)
-        → low_cells (length bytes) w ≡ map (λ byte. level_of (byte % 2)) bytes
-    go [] w h = refl
-    go (x ∷ xs) w h =
-        ap₂ (λ bit c. level_of bit ∷ c) (sym (bit_at_lowest w) ∙ h 0 (omega arith))
-        (go xs (w / 2) (λ i lt. sym (bit_at-suc w i) ∙ h (suc i) (omega (arith, lt))))
-
--- a byte that differs from `0` in its lowest bit alone, or not at all, is a cell
-cell-from-xor : (x : ℕ) → bit_xor x 48 ≤ 1 → IsCellByte x
-cell-from-xor x h =
-    let s = xor_add_and x 48 in
-    let l = and_le_r x 48 in
-    let few : x < 50 = omega (arith, h, s, l) in
-    let t = agree_below_at (λ y. leb (bit_xor y 48) 1) (leb 48) 50 x refl few in
-    go (leb-true 48 x (sym t ∙ le-leb (bit_xor x 48) 1 h)) few (cases_eq x 48)
-  where
-    go : 48 ≤ x → x < 50 → (x ≡ 48) ⊎ (x ≡ 48 → ⊥) → IsCellByte x
-    go a b (inl e) = (Low, e)
-    go a b (inr e) = (High, omega (arith, a, b, e))
-
-xor-of-cell : (level : Level) (x : ℕ) → x ≡ byte_of level → bit_xor x 48 ≤ 1
-xor-of-cell Low x e = let f : bit_xor x 48 ≡ 0 = ap (λ y. bit_xor y 48) e in omega (arith, f)
-xor-of-cell High x e = let f : bit_xor x 48 ≡ 1 = ap (λ y. bit_xor y 48) e in omega (arith, f)
-
--- one more byte is judged with those before it
-pub cells-judged : (bytes : List ℕ) (n f : ℕ) → (f ≤ 1) ↔ ((k : ℕ) → k < n → IsCellByte (get_or bytes k 0))
-    → (bit_or f (bit_xor (get_or bytes n 0) 48) ≤ 1) ↔ ((k : ℕ) → k < n + 1 → IsCellByte (get_or bytes k 0))
-cells-judged bytes n f h = (each, all)
-  where
-    x : ℕ
-    x = bit_xor (get_or bytes n 0) 48
-
-    each : bit_or f x ≤ 1 → (k : ℕ) → k < n + 1 → IsCellByte (get_or bytes k 0)
-    each le k lt = go (cases_lt k n)
-      where
-        go : (k < n) ⊎ (n ≤ k) → IsCellByte (get_or bytes k 0)
-        go (inl a) = h.0 (let l = le_or_l f x in omega (arith, le, l)) k a
-        go (inr a) =
-            let e : k ≡ n = omega (arith, lt, a) in
-            let c = cell-from-xor (get_or bytes n 0) (let l = le_or_r f x in omega (arith, le, l)) in
-            (c.0, ap (λ i. get_or bytes i 0) e ∙ c.1)
-
-    all : ((k : ℕ) → k < n + 1 → IsCellByte (get_or bytes k 0)) → bit_or f x ≤ 1
-    all g =
-        let c = g n (omega arith) in
-        let a = h.1 (λ k lt. g k (omega (arith, lt))) in
-        let b = xor-of-cell c.0 (get_or bytes n 0) c.1 in
-        let l = or_lt 1 f x (omega (arith, a)) (omega (arith, b)) in
-        omega (arith, l)
+  -- and are so where they are cells
+  pub all-set : h < 2 ^ 64 → l < 2 ^ 64 → ((i : ℕ) → i < 64 → IsCellByte (get_or bytes i 0)) → bit_or h l ≡ 2 ^ 64 - 1
+  all-set a b cells =
+      same_from_bits_below 64 (bit_or h l) (2 ^ 64 - 1) (or_lt 64 h l a b) (lit< tt)
+      (λ i g. bit_at_or h l i ∙ set i g (cells i g) ∙ sym (bit_at_ones 64 i g))
+    where
+      set : (i : ℕ) → i < 64 → IsCellByte (get_or bytes i 0) → max (bit_at h i) (bit_at l i) ≡ 1
+      set i g (Low, e) =
+          let t = low i g ∙ ap (λ b. if b then 1 else 0) (eq-eqb (get_or bytes i 0) 48 e) in
+          let u = high i g ∙ ap (λ b. if b then 1 else 0) (ne_eqb (get_or bytes i 0) 49 (λ q. omega (arith, e, q))) in
+          omega (arith, t, u)
+      set i g (High, e) =
+          let t = high i g ∙ ap (λ b. if b then 1 else 0) (eq-eqb (get_or bytes i 0) 49 e) in
+          let u = bit_at-lt l i in
+          omega (arith, t, u)
 
 -- text of cells has no other byte
 pub cell-bytes : (bytes : List ℕ) (w i : ℕ) → bytes ≡ map byte_of (word_cells w) → i < 64 → IsCellByte (get_or bytes i 0)
@@ -155,21 +84,6 @@ same-word (suc n) a b h k e =
     let v = level-byte (b % 2) (omega arith) in
     let r : a / 2 ≡ b / 2 = same-word n (a / 2) (b / 2) (omega arith) (omega arith) others in
     omega arith
-
--- where all bytes are cells, they are the text of their lowest bits
-pub word-text : (bytes : List ℕ) (w : ℕ) → All IsCellByte bytes → word_cells w ≡ map (λ byte. level_of (byte % 2)) bytes
-    → bytes ≡ map byte_of (word_cells w)
-word-text bytes w h e = go bytes h ∙ ap (map byte_of) (sym e)
-  where
-    char : (level : Level) (x : ℕ) → x ≡ byte_of level → x ≡ byte_of (level_of (x % 2))
-    char Low x e = e ∙ sym (ap (λ y. byte_of (level_of (y % 2))) e)
-    char High x e = e ∙ sym (ap (λ y. byte_of (level_of (y % 2))) e)
-
-    go : (xs : List ℕ) → All IsCellByte xs → xs ≡ map byte_of (map (λ byte. level_of (byte % 2)) xs)
-    go [] h = refl
-    go (x ∷ xs) h =
-        let c = All-head IsCellByte x xs h in
-        ap₂ (λ y ys. y ∷ ys) (char c.0 x c.1) (go xs (All-tail IsCellByte x xs h))
 
 pub word-owed : (bytes : List ℕ) (v w : ℕ) → v < 2 ^ 64 → w < 2 ^ 64 → bytes ≡ map byte_of (word_cells v) → bytes ≡ map byte_of (word_cells w) → v ≡ w
 unfolding word_cells word_len

@@ -1,13 +1,13 @@
 //! Words of 64 cells, the earliest in the lowest bit, their line of text and their octets.
 
-ghost use Rattle.std.specs.Prelude.{◌≡◌, ◌+◌, ◌-◌, ◌*◌, ◌%◌, ◌<◌, ◌≤◌, ◌^◌, ℕ, [], ◌∷◌, ◌++◌, ◌↔◌, map, take, drop, IfSome, IsTrue};
+ghost use Rattle.std.specs.Prelude.{◌≡◌, ◌+◌, ◌-◌, ◌<◌, ◌^◌, ◌==◌, ℕ, [], ◌∷◌, ◌++◌, map, get_or, if◌then◌else◌, IfSome};
 ghost use Rattle.std.specs.Int.{bit_at};
-ghost use Rattle.std.specs.List.{All};
 ghost use Rattle.aes3_cell.specs.Words.{level_of, low_cells, word_cells};
-ghost use Rattle.aes3_cell.specs.Text.{byte_of, IsCellByte, line_text};
+ghost use Rattle.aes3_cell.specs.Text.{byte_of, line_text};
 ghost use Rattle.aes3_cell.specs.Packed.{octets_of};
 
 use crate::level::Level;
+use std::simd::prelude::*;
 
 /// How many cells a word has, and a line of text.
 pub(crate) const WORD_LEN: u32 = 64;
@@ -72,56 +72,13 @@ pub fn octets_of_word(word: u64) -> [u8; 8]
     turned(word).to_be_bytes()
 }
 
-/// Whether all bytes are characters of cells. It neither stops nor branches at a byte, so that it runs on many at once.
-fn are_cells(bytes: &[u8; 64]) -> bool
-    ensures { IsTrue result ↔ All IsCellByte bytes.now }
+/// The bytes that are `byte`, each a one.
+fn equal_to(bytes: &[u8; 64], byte: u8) -> u64
+    ensures { (i : ℕ) → i < 64 → bit_at result i ≡ (if get_or bytes.now i 0 == byte then 1 else 0) }
 {
-    // 0 or 1 at the characters `0` and `1` alone.
-    let mut found = 0;
-    for i in 0..WORD_LEN {
-        found |= bytes[i as usize] ^ b'0';
-    }
-    found <= 1
-}
-
-/// Every eighth bit, the lowest first.
-fn eighth_bits(word: u64) -> u64
-    ensures bits { (i : ℕ) → i < 8 → bit_at result i ≡ bit_at word (8 * i) }
-    ensures bound { result < 2 ^ 8 }
-{
-    let word = word & 0x0101_0101_0101_0101;
-    let word = (word | (word >> 7)) & 0x0003_0003_0003_0003;
-    let word = (word | (word >> 14)) & 0x0000_000F_0000_000F;
-    (word | (word >> 28)) & 0xFF
-}
-
-/// The eight bytes from byte `at` on.
-fn eight_at(bytes: &[u8; 64], at: usize) -> [u8; 8]
-    requires { at + 8 ≤ 64 }
-    ensures { result ≡ take 8 (drop at bytes.now) }
-{
-    [
-        bytes[at],
-        bytes[at + 1],
-        bytes[at + 2],
-        bytes[at + 3],
-        bytes[at + 4],
-        bytes[at + 5],
-        bytes[at + 6],
-        bytes[at + 7],
-    ]
-}
-
-/// The lowest bits of 64 bytes, the first in the lowest bit.
-fn lowest_bits(bytes: &[u8; 64]) -> u64
-    ensures { word_cells result ≡ map (λ byte. level_of (byte % 2)) bytes.now }
-{
-    let mut word = 0;
-    for k in 0..8 {
-        let eight = u64::from_le_bytes(eight_at(bytes, 8 * k));
-        word |= eighth_bits(eight) << (8 * k);
-    }
-    word
+    u8x64::from_array(*bytes)
+        .simd_eq(u8x64::splat(byte))
+        .to_bitmask()
 }
 
 /// The word of 64 bytes all of which are cells, the first in the lowest bit.
@@ -129,8 +86,10 @@ pub(crate) fn word_of_text(bytes: &[u8; 64]) -> Option<u64>
     ensures cells { IfSome result (λ word. bytes.now ≡ map byte_of (word_cells word)) }
     ensures owed { (word : ℕ) → word < 2 ^ 64 → bytes.now ≡ map byte_of (word_cells word) → result ≡ Some word }
 {
-    if are_cells(bytes) {
-        Some(lowest_bits(bytes))
+    let high = equal_to(bytes, b'1');
+    let low = equal_to(bytes, b'0');
+    if high | low == u64::MAX {
+        Some(high)
     } else {
         None
     }
