@@ -2,6 +2,7 @@ pub mod BitLemmas
 pub mod BlockLemmas
 pub mod Bytes
 pub mod Reading
+pub mod WordReads
 pub mod Runs
 pub mod Files
 pub mod Words

@@ -1,5 +1,5 @@
 -- A block file read byte by byte.
-use Rattle.std.specs.Prelude.{ℕ, suc, List, [], ◌∷◌, ◌++◌, Bool, false, Option, Some, None, Result, Ok, Err, length, drop, ◌*◌, ◌/◌, ◌%◌, ◌==◌, map, if◌then◌else◌}
+use Rattle.std.specs.Prelude.{ℕ, suc, List, [], ◌∷◌, ◌++◌, Bool, false, Option, Some, None, Result, Ok, Err, length, drop, ◌≡◌, ◌*◌, ◌/◌, ◌%◌, ◌==◌, map, if◌then◌else◌}
 use Rattle.aes3_block.specs.declared.file.FileFault.{FileFault}
 use Rattle.aes3_block.specs.declared.file.FileFault.TheVariants.{BadLength, BadCode, BadParity}
 use Rattle.aes3_block.specs.Blocks.{block_slots}
@@ -74,6 +74,11 @@ next_with r x = next (fault_with r x)
     next : Option FileFault → FileReader
     next (Some f) = record r { fault = Some f }
     next None = reader_with r x
+
+-- bytes that a reader takes one by one, none of which is refused or ends a block, and the reader behind them
+abbrev pub TakesQuietly : FileReader → List ℕ → FileReader → Type 0
+TakesQuietly r [] s = s ≡ r
+TakesQuietly r (x ∷ b) s = (answer_with r x ≡ Ok None) × TakesQuietly (next_with r x) b s
 
 -- what a reader answers to the end: nothing may be left of a block
 abbrev pub left_of : FileReader → ℕ

@@ -58,9 +58,9 @@ impl Model for BlockFile {
     ghost invariant = { λ f. ((i : ℕ) → i < f.seen / 4 % 384 → is_lawful (get_or f.words i 0) ≡ true) × (f.word < 2 ^ (8 * (f.seen % 4))) };
 }
 
-ghost use Rattle.std.specs.Prelude.{◌≡◌, ◌<◌, ◌+◌, ◌*◌, ◌^◌, [], ◌∷◌, ◌++◌, None};
+ghost use Rattle.std.specs.Prelude.{◌≡◌, ◌<◌, ◌≤◌, ◌+◌, ◌*◌, ◌^◌, true, false, [], ◌∷◌, ◌++◌, None};
 ghost use Rattle.aes3_block.specs.Files.{low_bytes};
-ghost use Rattle.aes3_block.specs.Readers.{answer_with, end_answer, next_with, word_fault};
+ghost use Rattle.aes3_block.specs.Readers.{FileReader, TakesQuietly, answer_with, end_answer, next_with, word_fault};
 
 /// The fault of word `at`, its code judged before its parity.
 fn fault_of_word(word: u32, at: u64) -> Option<FileFault>
@@ -138,6 +138,30 @@ impl BlockFile {
             return Ok(None);
         }
         Ok(Some(Block::of_words(self.words)))
+    }
+
+    /// Takes the four bytes of a word where none is begun, and it is lawful and ends no block, and says whether it did; else
+    /// it changes nothing.
+    ///
+    /// It is `feed_byte` for almost every word of a file.
+    pub fn feed_word(&mut self, bytes: &[u8; 4]) -> bool
+        requires { self.old.seen + 4 ≤ 2 ^ 40 }
+        ensures quiet { result ≡ true → TakesQuietly self.old bytes.now self.new }
+        ensures left { result ≡ false → self.new ≡ self.old }
+        ensures stops { result ≡ false → self.old.bytes ≡ [] → (next : FileReader) → ¬ TakesQuietly self.old bytes.now next }
+    {
+        if self.fault.is_some() || self.seen % 4 != 0 {
+            return false;
+        }
+        let word = u32::from_le_bytes(*bytes);
+        let slot = (self.seen / 4) as usize % SLOTS;
+        if slot + 1 == SLOTS || fault_of_word(word, self.seen / 4).is_some() {
+            return false;
+        }
+        self.words[slot] = word;
+        self.word = 0;
+        self.seen += 4;
+        true
     }
 
     /// Says whether the file may end here.

@@ -1,6 +1,7 @@
 //! The channel status of a block, set and read back.
 
 use crate::block::Block;
+use crate::file::{BlockFile, FileFault};
 use crate::status::Channel;
 
 #[test]
@@ -36,4 +37,51 @@ fn frames_that_carry_a_bit(rt: HostRuntime) {
             );
         }
     }
+}
+
+/// A word with audio 1 and its parity bit.
+const WORD: [u8; 4] = [0x10, 0, 0, 0x80];
+
+/// The same without the parity bit.
+const WRONG: [u8; 4] = [0x10, 0, 0, 0];
+
+/// A word's bytes one by one, as far as they are no fault and end no block.
+fn by_bytes(file: &mut BlockFile, bytes: [u8; 4]) -> Result<bool, FileFault> {
+    let mut block = false;
+    for byte in bytes {
+        if file.seen() < 1 << 20 && file.feed_byte(byte)?.is_some() {
+            block = true;
+        }
+    }
+    Ok(block)
+}
+
+#[test]
+fn words_of_a_file(rt: HostRuntime) {
+    let mut by_words = BlockFile::new();
+    for i in 0..383 {
+        assert_eq!(rt; by_words.seen(), 4 * i);
+        assert!(rt; by_words.seen() < 1 << 20);
+        assert!(rt; by_words.feed_word(&WORD));
+    }
+    // The last word of the block.
+    assert!(rt; by_words.seen() < 1 << 20);
+    assert!(rt; !by_words.feed_word(&WORD));
+    assert_eq!(rt; by_words.seen(), 1532);
+    assert_eq!(rt; by_bytes(&mut by_words, WORD), Ok(true));
+    // A word that is not lawful, and one behind a byte.
+    assert!(rt; by_words.seen() < 1 << 20);
+    assert!(rt; !by_words.feed_word(&WRONG));
+    assert_eq!(rt; by_words.seen(), 1536);
+    assert!(rt; matches!(by_words.feed_byte(0), Ok(None)));
+    assert!(rt; by_words.seen() < 1 << 20);
+    assert!(rt; !by_words.feed_word(&WORD));
+    assert_eq!(rt; by_words.seen(), 1537);
+    // Nothing behind a fault.
+    assert_eq!(rt;
+        by_bytes(&mut by_words, WORD),
+        Err(FileFault::BadParity { at: 384 })
+    );
+    assert!(rt; by_words.seen() < 1 << 20);
+    assert!(rt; !by_words.feed_word(&WORD));
 }

@@ -10,13 +10,14 @@ use Rattle.aes3_block.specs.declared.file.FileFault.{FileFault}
 use Rattle.aes3_block.specs.declared.file.FileFault.TheVariants as fault
 use Rattle.aes3_block.specs.Blocks.{block_slots, block_cells}
 use Rattle.aes3_block.specs.Files.{words_of, lawful_words, whole_blocks, blocks_in}
-use Rattle.aes3_block.specs.Readers.{FileReader, reader_of, byte_fault, block_with, answer_with, next_with, end_answer}
+use Rattle.aes3_block.specs.Readers.{FileReader, reader_of, byte_fault, block_with, TakesQuietly, answer_with, next_with, end_answer}
 use Rattle.aes3_block.specs.Refusals.{refusal_of}
 use Rattle.aes3_block.proofs.Reading.{answered, answered-err}
 use Rattle.aes3_block.proofs.Words.{all_lawful, lawful-words, all_lawful-from, length-words}
 use Rattle.aes3_block.proofs.WholeBlocks.{reader-next, lawful-next, blocks-next, added_blocks}
 use Rattle.aes3_engine.specs.Converting.{or_else, unless, fault_behind, out_behind}
 use Rattle.aes3_engine.specs.Running.{Fed, Stopped, PieceRan, EndRan}
+use Rattle.aes3_engine.proofs.Feeding.{fed-none, fed-join}
 use Rattle.aes3_engine.specs.Encoding.{encoding, refused_by, refused_at_end, block_written, Encodes, AllLawful}
 
 no-fault : (b : List ℕ) → (reader_of b).fault ≡ None
@@ -75,6 +76,13 @@ pub byte-none : (form : Form) {file : FileReader} {blocks : ℕ} (new : FileRead
     → Fed (encoding form) (encoding form) (Encodes file blocks) (Encodes new blocks) t t (x ∷ [])
 byte-none form {file} {blocks} new x t a n =
     subst (λ (k : ℕ). Fed (encoding form) (encoding form) (Encodes file blocks) (Encodes new k) t t (x ∷ [])) (omega arith) (fed-byte form new x None t t a n (grew-none refl))
+
+-- bytes that are taken quietly, and a reader that has taken none
+pub bytes-quiet : (form : Form) {blocks : ℕ} (file new : FileReader) (bytes : List ℕ) (t : Option (List ℕ)) → TakesQuietly file bytes new
+    → Fed (encoding form) (encoding form) (Encodes file blocks) (Encodes new blocks) t t bytes
+bytes-quiet form {blocks} file new [] t q =
+    subst (λ (v : FileReader). Fed (encoding form) (encoding form) (Encodes file blocks) (Encodes v blocks) t t []) (sym q) (fed-none (encoding form) (Encodes file blocks) t)
+bytes-quiet form file new (x ∷ b) t q = fed-join (byte-none form (next_with file x) x t (sym q.0) refl) (bytes-quiet form (next_with file x) new b t q.1)
 
 pub byte-block : (form : Form) {file : FileReader} {blocks : ℕ} (new : FileReader) (x : ℕ) (block : List (List Bool)) (t t' : Option (List ℕ))
     → Ok (Some block) ≡ answer_with file x → new ≡ next_with file x → Grew t t' (bytes_of form (block_cells Low block))

@@ -1,15 +1,16 @@
 //! Block files to cells.
 
-ghost use Rattle.std.specs.Prelude.{◌≡◌, ◌≢◌, ℕ, ◌+◌, ◌<◌, ◌≤◌, ◌^◌, ◌⊎◌, List, [], ◌∷◌, Bool, Err, length, take, IfOk, IfErr, IsOk, OnErr, IsTrue};
+ghost use Rattle.std.specs.Prelude.{◌≡◌, ◌≢◌, ℕ, ◌+◌, ◌<◌, ◌≤◌, ◌^◌, ◌⊎◌, List, [], ◌∷◌, Bool, true, false, Err, length, take, IfOk, IfErr, IsOk, OnErr, IsTrue};
 ghost use Rattle.std.specs.List.{All};
 ghost use Rattle.aes3_cell.specs.Ends.{Grew, GrewFront, Told};
 ghost use Rattle.aes3_cell.specs.Written.{written};
 ghost use Rattle.aes3_cell.specs.declared.level.Level.{Level};
 ghost use Rattle.aes3_block.specs.Blocks.{IsBlock, stream};
 ghost use Rattle.aes3_block.specs.Files.{file, IsBlockFile, whole_blocks};
+ghost use Rattle.aes3_block.specs.Readers.{TakesQuietly};
 ghost use Rattle.aes3_lock.specs.Reports.{blocks, normal};
 ghost use Rattle.aes3_engine.specs.Encoding.{Encodes, IsCauseOf, WholeFile, encode_counts, encoded, encoding};
-ghost use Rattle.aes3_engine.specs.Running.{PieceRan};
+ghost use Rattle.aes3_engine.specs.Running.{FrontRan, PieceRan};
 
 use crate::conversion::{Input, convert};
 use aes3_block::{BlockFile, put_block};
@@ -50,6 +51,42 @@ fn take_byte<T: Sink>(
     }
 }
 
+/// Takes the four bytes that a piece begins with, where a reader takes them as a word; says whether it did.
+fn feed_front(file: &mut BlockFile, piece: &[u8]) -> bool
+    requires { file.old.seen + length piece.now ≤ 2 ^ 40 }
+    ensures bound { result ≡ true → 4 ≤ length piece.now }
+    ensures quiet { result ≡ true → TakesQuietly file.old (take 4 piece.now) file.new }
+    ensures left { result ≡ false → file.new ≡ file.old }
+{
+    match piece.first_chunk() {
+        Some(bytes) => file.feed_word(bytes),
+        None => false,
+    }
+}
+
+/// Takes what a piece begins with, and answers how many bytes that is: a word's four where they neither are a fault nor end
+/// a block, else one.
+fn take_front<T: Sink>(
+    file: &mut BlockFile,
+    encoder: &mut Encoder,
+    sink: &mut T,
+    piece: &[u8],
+) -> Result<usize, RunError>
+    requires some { 0 < length piece.now }
+    requires room { T.failed sink.old + 1 < 2 ^ 64 }
+    requires following { (b : List ℕ) × (length b + length piece.now ≤ 2 ^ 40) × Encodes file.old encoder.old.blocks b }
+    ensures { FrontRan (encoding encoder.old.output) (encoding encoder.new.output) (Encodes file.old encoder.old.blocks) (Encodes file.new encoder.new.blocks) piece.now
+        (record { old = T.taken sink.old; new = T.taken sink.new; failed_old = T.failed sink.old; failed_new = T.failed sink.new }) result }
+{
+    if feed_front(file, piece) {
+        return Ok(4);
+    }
+    match take_byte(file, encoder, sink, piece[0]) {
+        Ok(()) => Ok(1),
+        Err(error) => Err(error),
+    }
+}
+
 impl Input<Encoder> for BlockFile {
     ghost follows = { λ file encoder. Encodes file encoder.blocks };
 
@@ -63,9 +100,10 @@ impl Input<Encoder> for BlockFile {
         sink: &mut T,
         piece: &[u8],
     ) -> Result<(), RunError> {
-        for byte in piece {
-            match take_byte(self, encoder, sink, *byte) {
-                Ok(()) => {}
+        let mut at = 0;
+        while at < piece.len() {
+            match take_front(self, encoder, sink, &piece[at..]) {
+                Ok(taken) => at += taken,
                 Err(error) => return Err(error),
             }
         }

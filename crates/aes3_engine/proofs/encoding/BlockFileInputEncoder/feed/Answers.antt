@@ -1,32 +1,41 @@
-use Rattle.std.proofs.Common.{◌≡◌, ◌+◌, ◌^◌, ◌≤◌, ◌++◌, ◌∷◌, [], length, take, drop, get_or, suc, arith, sym, ap, ◌∙◌, refl, length-append}
-use Rattle.std.proofs.lemmas.List.{length-take-le, take-append-drop, take_more}
-use Rattle.std.proofs.Math.Seq.{drop-cons}
+use Rattle.std.proofs.Common.{◌≡◌, ◌+◌, ◌-◌, ◌^◌, ◌≤◌, ◌++◌, [], length, take, drop, arith, ap, ◌∙◌, refl, append-nil, length-append, length-drop}
+use Rattle.std.proofs.lemmas.List.{length-take-le, take-append-drop, take_rest}
 use Rattle.aes3_engine.specs.Encoding.{encoding, Encodes}
-use Rattle.aes3_engine.proofs.Feeding.{fed-none, fed-is, fed-join, ran-join}
+use Rattle.aes3_engine.proofs.Feeding.{fed-none, fed-front, ran-join}
 use Rattle.aes3_engine.proofs.encoding.BlockFileInputEncoder.feed.Goals as goal
 
-pub loop-byte-init : goal.loop-byte-init
-loop-byte-init g c = record { fed = fed-none _ _ _; quiet = refl }
+pub loop-at-init : goal.loop-at-init
+loop-at-init g c = record { within = omega arith; fed = fed-none _ _ _; quiet = refl }
 
-pub loop-byte-preserved : goal.loop-byte-preserved
-loop-byte-preserved g c = record {
-  fed = fed-is (sym (take_more c.args.piece.now c.loop-byte.byte-index 0 (omega arith))) (fed-join c.loop-byte.invariant.fed c.in-Ok.ensures.0);
-  quiet = c.in-Ok.ensures.1 ∙ c.loop-byte.invariant.quiet;
-}
-
-pub take_byte-requires-clause-following : goal.take_byte-requires-clause-following
-take_byte-requires-clause-following g c =
+pub take_front-requires-clause-following : goal.take_front-requires-clause-following
+take_front-requires-clause-following g c =
     let q = c.requires.following in
-    let l : length q.0 + length c.args.piece.now ≤ 2 ^ 40 = q.1 in
-    let p = take c.loop-byte.byte-index c.args.piece.now in
+    let xs = c.args.piece.now in
+    let at = c.loop-at.at in
+    let l : length q.0 + length xs ≤ 2 ^ 40 = q.1 in
+    let p = take at xs in
     let n = length-append q.0 p in
-    let k : length p ≡ c.loop-byte.byte-index = length-take-le _ _ (omega arith) in
-    (q.0 ++ p, omega arith, c.loop-byte.invariant.fed.follows q.0 q.2)
+    let k : length p ≡ at = length-take-le at xs c.loop-at.invariant.within in
+    let d = length-drop at xs in
+    (q.0 ++ p, omega arith, c.loop-at.invariant.fed.follows q.0 q.2)
+
+pub loop-at-preserved : goal.loop-at-preserved
+loop-at-preserved g c =
+    let r = c.in-Ok.ensures in
+    let xs = c.args.piece.now in
+    let at = c.loop-at.at in
+    let d = length-drop at xs in
+    record {
+      within = omega arith;
+      fed = fed-front xs (take (length xs - at) (drop at xs)) at c.in-Ok.taken (take_rest xs at) c.loop-at.invariant.fed r.2;
+      quiet = r.3 ∙ c.loop-at.invariant.quiet;
+    }
 
 pub returns-in-Err : goal.returns-in-Err
 returns-in-Err g c =
     let xs = c.args.piece.now in
-    let i = c.loop-byte.byte-index in
-    let e : take i xs ++ (get_or xs i 0 ∷ drop (suc i) xs) ≡ xs = ap (λ z. take i xs ++ z) (sym (drop-cons xs i 0 (omega arith))) ∙ take-append-drop i xs in
-    ran-join (encoding c.take_byte.new.encoder.output) (Encodes c.take_byte.new.file c.take_byte.new.encoder.blocks) (g.T.Sink.taken c.take_byte.new.sink) (g.T.Sink.failed c.take_byte.new.sink)
-    (get_or xs i 0 ∷ []) (drop (suc i) xs) xs c.in-Err.error c.loop-byte.invariant.fed c.loop-byte.invariant.quiet e c.in-Err.ensures
+    let at = c.loop-at.at in
+    let rest = take (length xs - at) (drop at xs) in
+    ran-join (encoding c.take_front.new.encoder.output) (Encodes c.take_front.new.file c.take_front.new.encoder.blocks)
+    (g.T.Sink.taken c.take_front.new.sink) (g.T.Sink.failed c.take_front.new.sink)
+    rest [] xs c.in-Err.error c.loop-at.invariant.fed c.loop-at.invariant.quiet (ap (λ v. take at xs ++ v) (append-nil rest ∙ take_rest xs at) ∙ take-append-drop at xs) c.in-Err.ensures
