@@ -11,8 +11,9 @@ use Rattle.std.proofs.lemmas.List.{take_at}
 use Rattle.aes3_slot.specs.Bits.{low_bits, odd_ones}
 use Rattle.aes3_slot.specs.Slots.{payload_len, slots_len, payload_bits, slots_bits, with_parity}
 use Rattle.aes3_slot.proofs.Bits.{low_bits-suc, low_bits-same, low_bits-above, low_bits-with_parity, length-low_bits, odd_ones-low_bits}
-use Rattle.aes3_slot.proofs.Subframes.{odd_ones-with_parity, odd_ones-push, xor}
+use Rattle.aes3_slot.proofs.Subframes.{odd_ones-with_parity}
 use Rattle.aes3_block.specs.Files.{has_parity, is_lawful, payload_of}
+use Rattle.aes3_slot.proofs.Parity.{last-is}
 
 -- the lowest n bits are those of what 2 ^ n leaves
 pub low_bits-mod : (n w : ℕ) → low_bits n (w % 2 ^ n) ≡ low_bits n w
@@ -82,19 +83,11 @@ unfolding slots_len payload_len
 lawful-slots w h =
     let n = w / 16 in
     let e : low_bits 28 n ≡ low_bits 27 n ++ eqb (bit_at n 27) 1 ∷ [] = low_bits-suc 27 n in
-    e ∙ ap (λ b. low_bits 27 n ++ b ∷ []) (last (low_bits 27 n) (eqb (bit_at n 27) 1) (ap odd_ones (sym e) ∙ not-true (odd_ones (low_bits 28 n)) h))
+    e ∙ ap (λ b. low_bits 27 n ++ b ∷ []) (last-is (low_bits 27 n) (eqb (bit_at n 27) 1) (ap odd_ones (sym e) ∙ not-true (odd_ones (low_bits 28 n)) h))
   where
     not-true : (b : Bool) → not b ≡ true → b ≡ false
     not-true false h = refl
     not-true true h = cc
-
-    last : (bits : List Bool) (b : Bool) → odd_ones (bits ++ b ∷ []) ≡ false → b ≡ odd_ones bits
-    last bits b e = same b (odd_ones bits) (sym (odd_ones-push bits b) ∙ e)
-      where
-        same : (a b : Bool) → xor a b ≡ false → a ≡ b
-        same false b e = sym e
-        same true true e = refl
-        same true false e = cc
 
 -- the parity of a word
 pub word-parity : (w : ℕ) → w < 2 ^ 32 → eqb (count_ones (w / 16) % 2) 0 ≡ has_parity w

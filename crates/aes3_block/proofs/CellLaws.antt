@@ -72,7 +72,7 @@ unfolding block_cells mark_at
 first-cell s [] h = absurd (omega arith)
 first-cell s (p ∷ ps) h = refl
 
-each28 : (ps : List (List Bool)) → Each27 ps → Each28 (map with_parity ps)
+pub each28 : (ps : List (List Bool)) → Each27 ps → Each28 (map with_parity ps)
 each28 [] h = tt
 each28 (p ∷ ps) h = (slots-28 (with_parity p) (length-with_parity p h.0), each28 ps h.1)
 
@@ -113,7 +113,7 @@ stream-append s bs ds h =
     ap (line s) (flat_map-append block_runs bs ds) ∙ line-append s (flat_map block_runs bs) (flat_map block_runs ds)
     ∙ ap (λ t. line s (flat_map block_runs bs) ++ line t (flat_map block_runs ds)) (after-stream s bs (each27-blocks bs (each-block bs h)))
 
-stream-cons : (s : Level) (b : List (List Bool)) (bs : List (List (List Bool))) → IsBlock b → stream s (b ∷ bs) ≡ block_cells s b ++ stream s bs
+pub stream-cons : (s : Level) (b : List (List Bool)) (bs : List (List (List Bool))) → IsBlock b → stream s (b ∷ bs) ≡ block_cells s b ++ stream s bs
 unfolding stream block_cells
 stream-cons s b bs h =
     line-append s (block_runs b) (flat_map block_runs bs)

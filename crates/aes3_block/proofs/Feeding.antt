@@ -27,7 +27,7 @@ byte-behind r x f e =
     let some : fault_with r x ≡ Some f = rw e refl in
     (rw some refl, rw some refl)
 
-reader-open : (b : List ℕ) → (reader_of b).fault ≡ None
+pub reader-open : (b : List ℕ) → (reader_of b).fault ≡ None
 unfolding reader_of
 reader-open b = refl
 

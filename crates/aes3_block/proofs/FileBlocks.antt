@@ -11,6 +11,7 @@ use Rattle.aes3_block.proofs.Each.{all-nil, all-cons, all-payloads, EachByte, ea
 use Rattle.aes3_block.proofs.Files.{bytes-of-payloads}
 use Rattle.aes3_block.proofs.Runs.{each27-payloads}
 use Rattle.aes3_block.proofs.Words.{length-words, all_lawful, all_lawful-from}
+use Rattle.aes3_block.proofs.WholeBlocks.{count-within}
 
 -- the words of bytes, and their bytes
 word-back : (a b c d : ℕ) → a < 256 → b < 256 → c < 256 → d < 256 → word_bytes (bytes_number (a ∷ b ∷ c ∷ d ∷ [])) ≡ a ∷ b ∷ c ∷ d ∷ []
@@ -80,10 +81,7 @@ blocks-blocks (suc n) ws l =
 
 pub whole_blocks-blocks : (bytes : List ℕ) → All IsBlock (whole_blocks bytes)
 unfolding whole_blocks
-whole_blocks-blocks bytes = blocks-blocks (length (lawful_words bytes) / block_slots) (lawful_words bytes) (within (length (lawful_words bytes)))
-  where
-    within : (n : ℕ) → block_slots * (n / block_slots) ≤ n
-    within n = let k = block_slots_384 in omega arith
+whole_blocks-blocks bytes = blocks-blocks (length (lawful_words bytes) / block_slots) (lawful_words bytes) (count-within (length (lawful_words bytes)))
 
 pub file-whole_blocks : (bytes : List ℕ) → All (λ x. x < 256) bytes → IsBlockFile bytes → file (whole_blocks bytes) ≡ bytes
 unfolding whole_blocks

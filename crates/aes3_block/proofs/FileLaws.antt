@@ -13,6 +13,7 @@ use Rattle.aes3_block.proofs.BitLemmas.{payload-slots}
 use Rattle.aes3_block.proofs.Bytes.{bytes_number-low_bytes}
 use Rattle.aes3_block.proofs.Runs.{Each27}
 use Rattle.aes3_block.proofs.Words.{all_lawful, lawful-words}
+use Rattle.aes3_block.proofs.Each.{each-payload}
 
 -- the word of a payload
 slots-number : (p : List Bool) → IsPayload p → (number (with_parity p) < 2 ^ 28) × (slots_bits (number (with_parity p)) ≡ with_parity p)
@@ -48,10 +49,6 @@ words-of-payloads (p ∷ ps) rest h =
     ∙ ap (λ ws. word_of p ∷ ws) (words-of-payloads ps rest h.1)
 
 -- the facts of each block
-each27 : (b : List (List Bool)) → All IsPayload b → Each27 b
-each27 [] h = tt
-each27 (p ∷ ps) h = (h 0 [] (omega arith), each27 ps (λ k d lt. h (suc k) d (omega arith)))
-
 abbrev pub EachBlock : List (List (List Bool)) → Type 0
 EachBlock [] = Unit {0}
 EachBlock (b ∷ bs) = IsBlock b × EachBlock bs
@@ -63,7 +60,7 @@ each-block (b ∷ bs) h = (h 0 [] (omega arith), each-block bs (λ k d lt. h (su
 pub words-of-file : (bs : List (List (List Bool))) → EachBlock bs → words_of (file bs) ≡ flat_map (map word_of) bs
 unfolding block_bytes
 words-of-file [] h = refl
-words-of-file (b ∷ bs) h = words-of-payloads b (file bs) (each27 b h.0.payloads) ∙ ap (λ ws. map word_of b ++ ws) (words-of-file bs h.1)
+words-of-file (b ∷ bs) h = words-of-payloads b (file bs) (each-payload b h.0.payloads) ∙ ap (λ ws. map word_of b ++ ws) (words-of-file bs h.1)
 
 lawful-append : (ws vs : List ℕ) → all_lawful ws ≡ true → all_lawful vs ≡ true → all_lawful (ws ++ vs) ≡ true
 lawful-append [] vs h g = g
@@ -79,7 +76,7 @@ lawful-payloads (p ∷ ps) h = ap₂ ◌&&◌ (lawful-word p h.0) (lawful-payloa
 
 pub lawful-file : (bs : List (List (List Bool))) → EachBlock bs → all_lawful (flat_map (map word_of) bs) ≡ true
 lawful-file [] h = refl
-lawful-file (b ∷ bs) h = lawful-append (map word_of b) (flat_map (map word_of) bs) (lawful-payloads b (each27 b h.0.payloads)) (lawful-file bs h.1)
+lawful-file (b ∷ bs) h = lawful-append (map word_of b) (flat_map (map word_of) bs) (lawful-payloads b (each-payload b h.0.payloads)) (lawful-file bs h.1)
 
 -- how many words and bytes
 count-words : (bs : List (List (List Bool))) → EachBlock bs → length (flat_map (map word_of) bs) ≡ block_slots * length bs
@@ -117,7 +114,7 @@ blocks-of-words (b ∷ bs) h =
     let n : length (map word_of b) ≡ block_slots = length-map b word_of ∙ h.0.count in
     ap₂ (λ x y. map payload_of x ∷ y) (take_at (map word_of b) (flat_map (map word_of) bs) block_slots n)
     (ap (blocks_in (length bs)) (drop_at (map word_of b) (flat_map (map word_of) bs) block_slots n) ∙ blocks-of-words bs h.1)
-    ∙ ap (λ x. x ∷ bs) (payloads-back b (each27 b h.0.payloads))
+    ∙ ap (λ x. x ∷ bs) (payloads-back b (each-payload b h.0.payloads))
 
 pub whole_blocks-file : (bs : List (List (List Bool))) → All IsBlock bs → whole_blocks (file bs) ≡ bs
 unfolding whole_blocks

@@ -117,7 +117,7 @@ length-with_bits First (p ∷ b) [] = refl
 length-with_bits First (p ∷ b) (c ∷ bits) = ap suc (length-with_bits Second b bits)
 length-with_bits Second (p ∷ b) bits = ap suc (length-with_bits First b bits)
 
-payloads-stay : (channel : Channel) (b : List (List Bool)) (bits : List Bool) → Each27 b → Each27 (with_bits channel b bits)
+pub payloads-stay : (channel : Channel) (b : List (List Bool)) (bits : List Bool) → Each27 b → Each27 (with_bits channel b bits)
 payloads-stay channel [] bits h = tt
 payloads-stay First (p ∷ b) [] h = h
 payloads-stay First (p ∷ b) (c ∷ bits) h = (length-set p status_place c ∙ h.0, payloads-stay Second b bits h.1)

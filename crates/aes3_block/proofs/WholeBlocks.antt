@@ -29,7 +29,7 @@ count-whole : (n : ℕ) → n % block_slots + 1 ≡ block_slots → block_slots 
 unfolding block_slots
 count-whole n h = omega arith
 
-count-within : (n : ℕ) → block_slots * (n / block_slots) ≤ n
+pub count-within : (n : ℕ) → block_slots * (n / block_slots) ≤ n
 unfolding block_slots
 count-within n = omega arith
 

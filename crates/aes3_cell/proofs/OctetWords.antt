@@ -7,7 +7,7 @@ use Rattle.aes3_cell.specs.Words.{word_len, word_cells}
 use Rattle.aes3_cell.specs.Packed.{cells_of_octets, whole_cells}
 use Rattle.aes3_cell.specs.PackedReading.{PackedReader, packed_reader_of, behind_eight, eight_whole}
 use Rattle.aes3_cell.proofs.PackedCells.{cells_of_octets-append}
-use Rattle.aes3_cell.proofs.PackedReads.{LastTwo, last_two, whole-of}
+use Rattle.aes3_cell.proofs.PackedReads.{LastTwo, last_two, whole-of, reader-is}
 use Rattle.aes3_cell.proofs.PackedWords.{bytes-cells}
 use Rattle.aes3_cell.proofs.WrittenForms.{turned-low}
 
@@ -43,12 +43,8 @@ reader-behind b octets h =
     let n : length b + 8 ≡ length (b ++ octets) = omega arith in
     let r = reverse-append b octets in
     let two = ends octets (reverse b) h in
-    reader _ _ _ _ _ _ n (two.0 ∙ ap (λ v. get_or v 1 0) (sym r)) (two.1 ∙ ap (λ v. get_or v 0 0) (sym r))
+    reader-is n (two.0 ∙ ap (λ v. get_or v 1 0) (sym r)) (two.1 ∙ ap (λ v. get_or v 0 0) (sym r))
   where
-    reader : (a a' c c' d d' : ℕ) → a ≡ a' → c ≡ c' → d ≡ d'
-        → ◌≡◌ {A = PackedReader} (record { seen = a; before_last = c; last = d }) (record { seen = a'; before_last = c'; last = d' })
-    reader a a' c c' d d' e f g = rw (e, f, g) refl
-
     ends : (octets back : List ℕ) → length octets ≡ 8 → (get_or octets 6 0 ≡ get_or (reverse octets ++ back) 1 0) × (get_or octets 7 0 ≡ get_or (reverse octets ++ back) 0 0)
     ends (o ∷ p ∷ q ∷ r ∷ s ∷ t ∷ u ∷ v ∷ []) back h = (refl, refl)
     ends _ back h = absurd (omega arith)

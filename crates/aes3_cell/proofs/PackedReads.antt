@@ -9,17 +9,16 @@ use Rattle.aes3_cell.specs.PackedReading.{PackedReader, packed_reader_of, packed
 use Rattle.aes3_cell.proofs.Octets.{reverse-more}
 use Rattle.aes3_cell.proofs.PackedCells.{LastOctet, cells_of_octets-append, cells_of_octets-one, length-cells_of_octets, last_octet-is, last_place-is, take-front, is_packed-packs, packs-is_packed, last-reverse, padded-parts}
 
+pub reader-is : {a a' c c' d d' : ℕ} → a ≡ a' → c ≡ c' → d ≡ d'
+    → ◌≡◌ {A = PackedReader} (record { seen = a; before_last = c; last = d }) (record { seen = a'; before_last = c'; last = d' })
+reader-is e f g = rw (e, f, g) refl
+
 -- the reader behind one more octet
 pub packed_reader-more : (b : List ℕ) (x : ℕ) → packed_next (packed_reader_of b) x ≡ packed_reader_of (b ++ x ∷ [])
 unfolding packed_reader_of
 packed_reader-more b x =
     let e = reverse-more b x in
-    reader (length b + 1) (length (b ++ x ∷ [])) (get_or (reverse b) 0 0) (get_or (reverse (b ++ x ∷ [])) 1 0) x (get_or (reverse (b ++ x ∷ [])) 0 0)
-    (sym (length-append b (x ∷ []))) (sym (ap (λ v. get_or v 1 0) e)) (sym (ap (λ v. get_or v 0 0) e))
-  where
-    reader : (a a' c c' d d' : ℕ) → a ≡ a' → c ≡ c' → d ≡ d'
-        → ◌≡◌ {A = PackedReader} (record { seen = a; before_last = c; last = d }) (record { seen = a'; before_last = c'; last = d' })
-    reader a a' c c' d d' e f g = rw (e, f, g) refl
+    reader-is (sym (length-append b (x ∷ []))) (sym (ap (λ v. get_or v 1 0) e)) (sym (ap (λ v. get_or v 0 0) e))
 
 -- octets by their last two
 pub record LastTwo (b front : List ℕ) (octet last : ℕ) : Type 0 where

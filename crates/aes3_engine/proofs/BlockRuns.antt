@@ -25,7 +25,7 @@ use Rattle.aes3_block.proofs.Streams.{EachBlock27, stream-bytes, stream-nil, len
 use Rattle.aes3_lock.specs.Reports.{reports, decided, wholes, blocks, normal}
 use Rattle.aes3_lock.specs.Pieces.{IsPiece, whole_blocks}
 use Rattle.aes3_lock.proofs.AllStanding.{wholes-append}
-use Rattle.aes3_lock.proofs.BlockPayloads.{each27-all}
+use Rattle.aes3_block.proofs.Each.{each-payload}
 use Rattle.aes3_lock.proofs.DecidedStand.{decided-stand}
 use Rattle.aes3_lock.proofs.NormalStreams.{stream-blocks, blocks-lawful, normal-tells, normal-same, normal-fixed}
 use Rattle.aes3_lock.proofs.PieceBlocks.{blocks-whole}
@@ -39,7 +39,7 @@ use Rattle.aes3_engine.proofs.CellRuns.{run-wrote}
 -- the blocks of cells are blocks
 pub each27 : (bs : List (List (List Bool))) → All IsBlock bs → EachBlock27 bs
 each27 [] h = tt
-each27 (b ∷ bs) h = (each27-all b (h 0 [] (omega arith)).payloads, each27 bs (λ k d l. h (suc k) d (omega arith)))
+each27 (b ∷ bs) h = (each-payload b (h 0 [] (omega arith)).payloads, each27 bs (λ k d l. h (suc k) d (omega arith)))
 
 front27 : (p q : List (List (List Bool))) → EachBlock27 (p ++ q) → EachBlock27 p
 front27 [] q h = tt

@@ -19,10 +19,7 @@ use Rattle.aes3_engine.specs.Converting.{or_else, unless, fault_behind, out_behi
 use Rattle.aes3_engine.specs.Running.{Fed, Stopped, PieceRan, EndRan}
 use Rattle.aes3_engine.proofs.Feeding.{fed-none, fed-join}
 use Rattle.aes3_engine.specs.Encoding.{encoding, refused_by, refused_at_end, block_written, Encodes, AllLawful}
-
-no-fault : (b : List ℕ) → (reader_of b).fault ≡ None
-unfolding reader_of
-no-fault b = refl
+use Rattle.aes3_block.proofs.Feeding.{reader-open}
 
 -- one byte that is no fault
 one-clean : (form : Form) (b : List ℕ) (x : ℕ) (block : Option (List (List Bool))) → byte_fault (reader_of b) x ≡ None → block_with (reader_of b) x ≡ block
@@ -43,7 +40,7 @@ one-fault form b x f e =
 answered-of : (r : FileReader) (b : List ℕ) (x : ℕ) (block : Option (List (List Bool))) → r ≡ reader_of b → Ok block ≡ answer_with r x
     → (byte_fault (reader_of b) x ≡ None) × (block_with (reader_of b) x ≡ block) × (next_with r x ≡ reader_of (b ++ x ∷ []))
 answered-of r b x block e a =
-    let q = answered (reader_of b) x block (no-fault b) (a ∙ ap (λ v. answer_with v x) e) in
+    let q = answered (reader_of b) x block (reader-open b) (a ∙ ap (λ v. answer_with v x) e) in
     (q.0, q.1, ap (λ v. next_with v x) e ∙ q.2 ∙ reader-next b x q.0)
 
 pub all-lawful : {b : List ℕ} → AllLawful b → all_lawful (words_of b) ≡ true
@@ -104,7 +101,7 @@ stopped-byte form {file} {blocks} x f t a = record {
 }
   where
     here : (b : List ℕ) → Encodes file blocks b → byte_fault (reader_of b) x ≡ Some f
-    here b h = answered-err (reader_of b) x f (no-fault b) (a ∙ ap (λ v. answer_with v x) h.reader)
+    here b h = answered-err (reader_of b) x f (reader-open b) (a ∙ ap (λ v. answer_with v x) h.reader)
 
 pub byte-refused : (form : Form) (file : FileReader) (blocks : ℕ) (after : List ℕ → Type 0) (x : ℕ) (f : FileFault) (e : RunError) (t : Option (List ℕ)) (k : ℕ) → e ≡ refusal_of f → Err f ≡ answer_with file x
     → PieceRan (encoding form) (encoding form) (Encodes file blocks) after (x ∷ []) (record { old = t; new = t; failed_old = k; failed_new = k }) (Err e)

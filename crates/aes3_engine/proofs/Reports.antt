@@ -1,6 +1,6 @@
 -- What cells write through their reports.
 use Rattle.std.proofs.Common.{◌≡◌, ℕ, ◌≤◌, List, [], ◌∷◌, ◌++◌, length, drop, sym, ap, ap₂, ◌∙◌, append_assoc, append-nil, refl, arith, length-append, Option, Some, None, suc}
-use Rattle.std.proofs.lemmas.List.{append_cancel_left}
+use Rattle.std.proofs.lemmas.List.{append_cancel_left, drop_at}
 use Rattle.aes3_cell.specs.declared.level.Level.{Level}
 use Rattle.aes3_lock.specs.declared.report.Report.{Report}
 use Rattle.aes3_lock.specs.Outcomes.{Outcome}
@@ -11,15 +11,11 @@ use Rattle.aes3_engine.specs.Taking.{Writing, behind, before_end, with_end}
 use Rattle.aes3_engine.specs.Reporting.{decided_by, decided_at_end, reporting}
 use Rattle.aes3_engine.proofs.Items.{before-is, before-join}
 
-drop-front : {A : Type 0} (a b : List A) → drop (length a) (a ++ b) ≡ b
-drop-front [] b = refl
-drop-front (x ∷ a) b = drop-front a b
-
 pub answered : (c : List Level) (l : Level) (r : List Report) → decided (c ++ l ∷ []) ≡ decided c ++ r → decided_by c l ≡ r
-answered c l r e = ap (drop (length (decided c))) e ∙ drop-front (decided c) r
+answered c l r e = ap (drop (length (decided c))) e ∙ drop_at (decided c) r (length (decided c)) refl
 
 pub concluded : (c : List Level) (r : List Report) → reports c ≡ decided c ++ r → decided_at_end c ≡ r
-concluded c r e = ap (drop (length (decided c))) e ∙ drop-front (decided c) r
+concluded c r e = ap (drop (length (decided c))) e ∙ drop_at (decided c) r (length (decided c)) refl
 
 pub decided-more : (c : List Level) (l : Level) → decided (c ++ l ∷ []) ≡ decided c ++ decided_by c l
 unfolding decided

@@ -1,12 +1,11 @@
 -- Blocks with other channel status.
 use Rattle.std.proofs.Common.{◌≡◌, ℕ, suc, List, [], ◌∷◌, ◌++◌, Bool, true, false, cond, Option, Some, None, refl, ap, ◌∙◌}
-use Rattle.std.proofs.lemmas.List.{length-set}
 use Rattle.aes3_cell.specs.declared.level.Level.{Level}
 use Rattle.aes3_cell.specs.declared.form.Form.{Form}
 use Rattle.aes3_cell.specs.Written.{ending}
 use Rattle.aes3_block.specs.declared.status.Channel.{Channel}
 use Rattle.aes3_block.specs.declared.status.Channel.TheVariants.{First, Second}
-use Rattle.aes3_block.specs.Statuses.{status_place, status_of, bits_of_bytes, with_bits, with_status}
+use Rattle.aes3_block.specs.Statuses.{status_of, bits_of_bytes, with_status}
 use Rattle.aes3_block.proofs.Runs.{Each27}
 use Rattle.aes3_block.proofs.Streams.{EachBlock27}
 use Rattle.aes3_lock.specs.Reports.{reports, decided, blocks}
@@ -16,17 +15,12 @@ use Rattle.aes3_engine.specs.ReportRuns.{output}
 use Rattle.aes3_engine.specs.BlockRuns.{decided_blocks, report_bytes, numbered, normal_block, begun_stream, written_stream}
 use Rattle.aes3_engine.specs.Rewriting.{set_status, checked, mended, rewritten, rewritten_block, rewritten_blocks}
 use Rattle.aes3_engine.proofs.BlockRuns.{whole-stream, begun-stream, normal-numbered}
+use Rattle.aes3_block.proofs.StatusLaws.{payloads-stay}
 
 -- the payloads keep their lengths
-each-bits : (channel : Channel) (b : List (List Bool)) (bits : List Bool) → Each27 b → Each27 (with_bits channel b bits)
-each-bits channel [] bits h = tt
-each-bits First (p ∷ ps) [] h = h
-each-bits First (p ∷ ps) (c ∷ bits) h = (length-set p status_place c ∙ h.0, each-bits Second ps bits h.1)
-each-bits Second (p ∷ ps) bits h = (h.0, each-bits First ps bits h.1)
-
 each-status : (channel : Channel) (b : List (List Bool)) (status : List ℕ) → Each27 b → Each27 (with_status b channel status)
 unfolding with_status
-each-status channel b status h = each-bits channel b (bits_of_bytes status) h
+each-status channel b status h = payloads-stay channel b (bits_of_bytes status) h
 
 each-set : (channel : Channel) (status : Option (List ℕ)) (b : List (List Bool)) → Each27 b → Each27 (set_status channel status b)
 each-set channel None b h = h

@@ -13,7 +13,7 @@ use Rattle.aes3_slot.proofs.OwnPreambles.{stands-room}
 use Rattle.aes3_slot.specs.Preambles.{entry, begins_with}
 use Rattle.aes3_lock.specs.Preambles.{first_mark, placed, marks_from, marks}
 use Rattle.aes3_lock.specs.Laws.{AreAllMarks}
-use Rattle.aes3_lock.proofs.Beginnings.{begins-stands}
+use Rattle.aes3_slot.proofs.Beginnings.{begins-stands}
 use Rattle.aes3_lock.proofs.TrueMarks.{first_mark-some}
 use Rattle.aes3_lock.proofs.AllStanding.{all-one}
 

@@ -18,7 +18,7 @@ use Rattle.aes3_lock.specs.Standing.{StandsClosed}
 use Rattle.aes3_lock.specs.Laws.{PlacedBlock, AreAllBlocks}
 use Rattle.aes3_lock.proofs.Deciding.{block_len_24576}
 use Rattle.aes3_lock.proofs.StandingBlocks.{block-stands, standing-begins, standing-room, standing-whole, whole-standing}
-use Rattle.aes3_lock.proofs.Filtered.{outcome_at-some, outcome_at-none}
+use Rattle.aes3_lock.proofs.Ends.{outcome_at-none, outcome_at-some}
 
 pub standing-at : (b : List (List Bool)) (s : Level) (c : List Level) → StandsClosed b s c → outcome_at c ≡ Some (whole s b)
 standing-at b s c h = outcome_at-some c (standing-begins (map with_parity b) s c (block-stands b s c h)) ∙ ap Some (standing-whole b s c h)

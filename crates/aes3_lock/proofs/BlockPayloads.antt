@@ -1,33 +1,18 @@
 -- The payloads of a block and the bits of its subframes.
-use Rattle.std.proofs.Common.{◌≡◌, zero, suc, List, [], ◌∷◌, Bool, true, false, map, refl, length, take, ap, ap₂, ◌∙◌, sym, arith, length-take, ◌⊎◌, inl, inr}
-use Rattle.std.specs.List.{All}
+use Rattle.std.proofs.Common.{◌≡◌, suc, List, [], ◌∷◌, Bool, true, false, map, refl, length, take, ap, ap₂, ◌∙◌, sym, arith, length-take, ◌⊎◌, inl, inr}
 use Rattle.std.proofs.lemmas.Bool.{cases_Bool}
 use Rattle.std.proofs.lemmas.List.{length-map, take_at}
 use Rattle.aes3_slot.specs.Bits.{odd_ones}
-use Rattle.aes3_slot.specs.Slots.{slots_len, payload_len, with_parity, IsPayload}
+use Rattle.aes3_slot.specs.Slots.{payload_len, with_parity}
 use Rattle.aes3_slot.specs.Rules.{Each28}
 use Rattle.aes3_slot.proofs.Parity.{split-parity}
-use Rattle.aes3_slot.proofs.Subframes.{odd_ones-with_parity, length-with_parity}
+use Rattle.aes3_slot.proofs.Subframes.{odd_ones-with_parity}
 use Rattle.aes3_block.specs.Blocks.{block_slots, IsBlock}
 use Rattle.aes3_block.proofs.Runs.{Each27}
 use Rattle.aes3_lock.specs.Outcomes.{payloads_of, wrong_parities}
-
--- 27 bits each
-pub each27-all : (b : List (List Bool)) → All IsPayload b → Each27 b
-each27-all [] h = tt
-each27-all (p ∷ b) h = (h 0 [] (omega arith), each27-all b (λ k d l. h (suc k) d (omega arith)))
-
-pub all-each27 : (b : List (List Bool)) → Each27 b → All IsPayload b
-all-each27 [] h k d l = absurd (omega arith)
-all-each27 (p ∷ b) h zero d l = h.0
-all-each27 (p ∷ b) h (suc k) d l = all-each27 b h.1 k d (omega arith)
+use Rattle.aes3_block.proofs.Each.{all-payloads}
 
 -- with their parity bits 28
-pub each28-payloads : (b : List (List Bool)) → Each27 b → Each28 (map with_parity b)
-unfolding slots_len
-each28-payloads [] h = tt
-each28-payloads (p ∷ b) h = (length-with_parity p h.0, each28-payloads b h.1)
-
 pub payloads-with_parity : (b : List (List Bool)) → Each27 b → payloads_of (map with_parity b) ≡ b
 unfolding payload_len
 payloads-with_parity [] h = refl
@@ -64,4 +49,4 @@ slots-right (bits ∷ more) e w = go (cases_Bool (odd_ones bits)) (slots-right m
 
 pub block-payloads : (slots : List (List Bool)) → length slots ≡ block_slots → Each28 slots → IsBlock (payloads_of slots)
 block-payloads slots n e =
-    record { count = length-map slots (take payload_len) ∙ n; payloads = all-each27 (payloads_of slots) (each27-payloads_of slots e) }
+    record { count = length-map slots (take payload_len) ∙ n; payloads = all-payloads (payloads_of slots) (each27-payloads_of slots e) }

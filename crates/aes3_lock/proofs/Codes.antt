@@ -17,7 +17,8 @@ use Rattle.aes3_lock.specs.Candidates.{begins_block}
 use Rattle.aes3_lock.specs.Outcomes.{fault, unfinished, payloads_of, wrong_parities, block_outcome}
 use Rattle.aes3_lock.specs.Reports.{report_of}
 use Rattle.aes3_lock.specs.Steps.{begins_a_block, begun, ended, left}
-use Rattle.aes3_lock.proofs.Deciding.{begins-cells, block_len_24576}
+use Rattle.aes3_slot.proofs.Beginnings.{begins-stands}
+use Rattle.aes3_lock.proofs.Deciding.{block_len_24576}
 use Rattle.aes3_lock.proofs.Following.{begun-some, begun-none}
 
 -- the payloads of the bits of subframes
@@ -57,7 +58,7 @@ pub begun-short : (n : ℕ) (recent : List Level) → n < 8 → begun n recent �
 begun-short n recent h = begun-none n recent (λ g. absurd (omega arith))
 
 pub begun-other : (n : ℕ) (recent : List Level) → take 8 recent ≡ recent → ((s : Level) → recent ≡ line s (mark_runs Z) → ⊥) → begun n recent ≡ None
-begun-other n recent e f = begun-none n recent (λ g. false_from_ne_true (begins_block recent) (λ b. f (entry recent) (sym e ∙ begins-cells recent b)))
+begun-other n recent e f = begun-none n recent (λ g. false_from_ne_true (begins_block recent) (λ b. f (entry recent) (sym e ∙ (begins-stands Z recent b).is)))
 
 -- a block's number of cells as the code has it
 pub block_lt : (o : ℕ) (b : Bool) → o < 24576 → ltb o block_len && b ≡ b

@@ -1,24 +1,23 @@
 -- What one more cell decides.
-use Rattle.std.proofs.Common.{◌≡◌, ℕ, zero, suc, ◌+◌, ◌*◌, ◌/◌, ◌%◌, ◌<◌, ◌≤◌, ◌⊎◌, inl, inr, List, [], ◌∷◌, ◌++◌, Bool, true, false, cond, ltb, eqb, ◌&&◌, Some, None, refl, length, take, drop, ap, ap₂, ◌∙◌, sym, arith, length-append, length-take, lt-ltb, le-ltb, ltb-true, eqb-true, true≢false, lit<, append_assoc, append-nil}
+use Rattle.std.proofs.Common.{◌≡◌, ℕ, zero, suc, ◌+◌, ◌*◌, ◌/◌, ◌%◌, ◌<◌, ◌≤◌, ◌⊎◌, inl, inr, List, [], ◌∷◌, ◌++◌, Bool, true, false, cond, ltb, eqb, ◌&&◌, Some, None, refl, length, take, drop, ap, ap₂, ◌∙◌, sym, arith, length-append, lt-ltb, le-ltb, ltb-true, eqb-true, true≢false, lit<, append_assoc, append-nil}
 use Rattle.std.proofs.lemmas.Bool.{cases_lt, and_parts, eqb-false}
 use Rattle.std.proofs.lemmas.List.{get_or_append_left, take-append-le, drop-append-le, length-drop}
 use Rattle.aes3_cell.specs.declared.level.Level.{Level}
 use Rattle.aes3_cell.specs.declared.level.Level.TheVariants.{Low}
-use Rattle.aes3_cell.specs.Cells.{line}
 use Rattle.aes3_slot.specs.declared.mark.Mark.TheVariants.{X, Y, Z}
-use Rattle.aes3_slot.specs.Slots.{mark_runs}
 use Rattle.aes3_slot.specs.Rules.{StandsMark, at, before, shape, AllKept}
 use Rattle.aes3_slot.specs.Reading.{same, read_slots, read_bits}
-use Rattle.aes3_slot.proofs.Index.{before-append_left, length-mark}
-use Rattle.aes3_slot.proofs.RuleTests.{same-true, same-refl}
+use Rattle.aes3_slot.proofs.Index.{before-append_left}
+use Rattle.aes3_slot.proofs.RuleTests.{same-refl}
 use Rattle.aes3_slot.proofs.OwnPreambles.{only-Z, stands-at}
 use Rattle.aes3_block.specs.Blocks.{mark_at, block_slots, block_len}
 use Rattle.aes3_lock.specs.declared.report.Report.{Report}
-use Rattle.aes3_slot.specs.Preambles.{same_cells, entry, begins_with}
+use Rattle.aes3_slot.specs.Preambles.{entry}
 use Rattle.aes3_lock.specs.Candidates.{keeps, front, begins_block}
 use Rattle.aes3_lock.specs.Outcomes.{outcome, Outcome, fault, unfinished, block_outcome}
 use Rattle.aes3_lock.specs.Reports.{told, decided_at, open_at, decided_from}
 use Rattle.aes3_lock.proofs.Fronts.{front-is, front-stays, kept-from-keeps}
+use Rattle.aes3_slot.proofs.Beginnings.{begins-stands, begins-room, entry-append, begins-append}
 
 pub block_len_64 : block_len ≡ 64 * block_slots
 unfolding block_len
@@ -31,43 +30,6 @@ block_slots_384 = refl
 pub block_len_24576 : block_len ≡ 24576
 unfolding block_len block_slots
 block_len_24576 = refl
-
-pub same_cells-true : (c d : List Level) → same_cells c d ≡ true → c ≡ d
-same_cells-true [] [] e = refl
-same_cells-true [] (b ∷ d) e = cc
-same_cells-true (a ∷ c) [] e = cc
-same_cells-true (a ∷ c) (b ∷ d) e =
-    let r = and_parts (same a b) (same_cells c d) e in
-    ap₂ (λ x y. x ∷ y) (same-true a b r.0) (same_cells-true c d r.1)
-
-pub same_cells-refl : (c : List Level) → same_cells c c ≡ true
-same_cells-refl [] = refl
-same_cells-refl (a ∷ c) = rw (same-refl a) (same_cells-refl c)
-
--- where a block's preamble begins
-pub begins-cells : (c : List Level) → begins_block c ≡ true → take 8 c ≡ line (entry c) (mark_runs Z)
-unfolding begins_with
-begins-cells c e = same_cells-true (take 8 c) (line (entry c) (mark_runs Z)) e
-
-pub begins-stands : (c : List Level) → begins_block c ≡ true → StandsMark Z (entry c) c 0
-unfolding begins_with
-begins-stands c e = record { is = same_cells-true (take 8 c) (line (entry c) (mark_runs Z)) e }
-
-pub begins-room : (c : List Level) → begins_block c ≡ true → 8 ≤ length c
-begins-room c e =
-    let z = begins-stands c e in
-    let l = length-take 8 c in
-    let m = ap length z.is ∙ length-mark (entry c) Z in
-    omega (arith, l, m)
-
-pub entry-append : (c d : List Level) → 1 ≤ length c → entry (c ++ d) ≡ entry c
-entry-append [] d h = absurd (omega arith)
-entry-append (x ∷ c) d h = refl
-
-pub begins-append : (c d : List Level) → 8 ≤ length c → begins_block (c ++ d) ≡ begins_block c
-unfolding begins_with
-begins-append c d h =
-    ap₂ (λ x y. same_cells x (line y (mark_runs Z))) (take-append-le 8 c d h) (entry-append c d (omega arith))
 
 pub read_slots-append : (n : ℕ) (c d : List Level) → 64 * n ≤ length c → read_slots n (c ++ d) ≡ read_slots n c
 read_slots-append zero c d h = refl
@@ -147,11 +109,11 @@ decided-from c a b = let t = lt-ltb _ _ b in rw (a, t) refl
 pub decided-stays : (c d : List Level) (r : Outcome) → decided_at c ≡ Some r → decided_at (c ++ d) ≡ Some r
 decided-stays c d r e =
     let t = decided-tests c r e in
-    let room = begins-room c t.0 in
+    let room = begins-room Z c t.0 in
     let l = length-append c d in
     let ef : front (entry (c ++ d)) (c ++ d) ≡ front (entry c) c =
     ap (λ s. front s (c ++ d)) (entry-append c d (omega arith)) ∙ front-stays (entry c) c d t.1 in
-    decided-from (c ++ d) (begins-append c d room ∙ t.0) (omega (arith, ef, l, t.1))
+    decided-from (c ++ d) (begins-append Z c d room ∙ t.0) (omega (arith, ef, l, t.1))
     ∙ ap Some (outcome-stays c d (omega arith) t.1 ∙ t.2)
 
 -- where no preamble of a block begins nothing is decided
@@ -186,10 +148,10 @@ front-eight c e = go (cases_lt (front (entry c) c) 8)
     go : (front (entry c) c < 8) ⊎ (8 ≤ front (entry c) c) → 8 ≤ front (entry c) c
     go (inr h) = h
     go (inl h) =
-        let room = begins-room c e in
+        let room = begins-room Z c e in
         let big = block-room in
         let f = front-is (entry c) c in
-        absurd (true≢false (sym (keeps-first c (front (entry c) c) h (begins-stands c e)) ∙ f.stops (omega (arith, room, big, h))))
+        absurd (true≢false (sym (keeps-first c (front (entry c) c) h (begins-stands Z c e)) ∙ f.stops (omega (arith, room, big, h))))
 
 -- eight cells decide nothing
 pub short : (c : List Level) → length c ≤ 8 → decided_at c ≡ None
@@ -210,7 +172,7 @@ no-begins c n = go (begins_block c) refl
   where
     go : (b : Bool) → begins_block c ≡ b → begins_block c ≡ false
     go false e = e
-    go true e = absurd (n 0 (entry c) (begins-stands c e))
+    go true e = absurd (n 0 (entry c) (begins-stands Z c e))
 
 pub no-decided : (c d : List Level) → NoZ c → length d ≤ 1 → decided_at (c ++ d) ≡ None
 no-decided c d n h = go (cases_lt (length c) 8)
@@ -220,7 +182,7 @@ no-decided c d n h = go (cases_lt (length c) 8)
 
     go : (length c < 8) ⊎ (8 ≤ length c) → decided_at (c ++ d) ≡ None
     go (inl o) = short (c ++ d) (omega (arith, l, o, h))
-    go (inr o) = none-from-begins (c ++ d) (begins-append c d o ∙ no-begins c n)
+    go (inr o) = none-from-begins (c ++ d) (begins-append Z c d o ∙ no-begins c n)
 
 pub quiet : (p : ℕ) (c d : List Level) → NoZ c → length d ≤ 1 → decided_from p (c ++ d) ≡ []
 quiet p [] [] n h = refl
@@ -266,7 +228,7 @@ closed-same c l e = go (cases_lt (length c) 8) (begins_block c) refl
 
     go : (length c < 8) ⊎ (8 ≤ length c) → (b : Bool) → begins_block c ≡ b → decided_at (c ++ l ∷ []) ≡ decided_at c
     go (inl h) b q = short (c ++ l ∷ []) (omega (arith, len, h)) ∙ sym (short c (omega (arith, h)))
-    go (inr h) false q = none-from-begins (c ++ l ∷ []) (begins-append c (l ∷ []) h ∙ q) ∙ sym (none-from-begins c q)
+    go (inr h) false q = none-from-begins (c ++ l ∷ []) (begins-append Z c (l ∷ []) h ∙ q) ∙ sym (none-from-begins c q)
     go (inr h) true q =
         let ne : eqb (front (entry c) c) (length c) ≡ false = rw q at e in
         let w = (front-is (entry c) c).within in

@@ -16,18 +16,18 @@ abbrev pub final : ℕ → List Level → List Report
 final p [] = []
 final p (x ∷ c) = cond (open_at (x ∷ c)) (told p (outcome_at (x ∷ c))) (final (suc p) c)
 
-no-report : (c : List Level) → begins_block c ≡ false → outcome_at c ≡ None
+pub outcome_at-none : (c : List Level) → begins_block c ≡ false → outcome_at c ≡ None
 unfolding outcome_at
-no-report c e = rw e refl
+outcome_at-none c e = rw e refl
 
-one-report : (c : List Level) → begins_block c ≡ true → outcome_at c ≡ Some (outcome c)
+pub outcome_at-some : (c : List Level) → begins_block c ≡ true → outcome_at c ≡ Some (outcome c)
 unfolding outcome_at
-one-report c e = rw e refl
+outcome_at-some c e = rw e refl
 
 quiet-reports : (p : ℕ) (c : List Level) → NoZ c → reports_from p c ≡ []
 quiet-reports p [] n = refl
 quiet-reports p (x ∷ c) n =
-    let e = no-report (x ∷ c) (no-begins (x ∷ c) n) in
+    let e = outcome_at-none (x ∷ c) (no-begins (x ∷ c) n) in
     let r = quiet-reports (suc p) c (no-tail x c n) in
     rw (e, r) refl
 
@@ -36,11 +36,11 @@ unfolding open_at
 same-report c e = go (begins_block c) refl
   where
     go : (b : Bool) → begins_block c ≡ b → outcome_at c ≡ decided_at c
-    go false q = no-report c q ∙ sym (none-from-begins c q)
+    go false q = outcome_at-none c q ∙ sym (none-from-begins c q)
     go true q =
         let ne : eqb (front (entry c) c) (length c) ≡ false = rw q at e in
         let w = (front-is (entry c) c).within in
-        one-report c q ∙ sym (decided-from c q (let n = eqb-false _ _ ne in omega (arith, n, w)))
+        outcome_at-some c q ∙ sym (decided-from c q (let n = eqb-false _ _ ne in omega (arith, n, w)))
 
 pub reports-split : (p : ℕ) (c : List Level) → reports_from p c ≡ decided_from p c ++ final p c
 reports-split p [] = refl
@@ -71,7 +71,7 @@ final-open p [] q h =
     absurd (omega (arith, r, n))
 final-open p (x ∷ c) zero h =
     let z : p + zero ≡ p = omega arith in
-    let o = one-report (x ∷ c) (is-open (x ∷ c) h).begins in
+    let o = outcome_at-some (x ∷ c) (is-open (x ∷ c) h).begins in
     rw (h, z, o) refl
 final-open p (x ∷ c) (suc q) h = go (open_at (x ∷ c)) refl (final-open (suc p) c q h)
   where

@@ -1,5 +1,5 @@
 -- The reports that stand whatever follows are all but those that only the end gives.
-use Rattle.std.proofs.Common.{◌≡◌, ℕ, suc, ◌+◌, ◌<◌, ◌≤◌, ◌⊎◌, inl, inr, List, [], ◌∷◌, ◌++◌, Bool, true, false, not, cond, eqb, Some, None, refl, length, ap, ap₂, ◌∙◌, sym, arith, eq-eqb, ne_eqb}
+use Rattle.std.proofs.Common.{◌≡◌, ℕ, suc, ◌+◌, ◌<◌, ◌≤◌, ◌⊎◌, inl, inr, List, [], ◌∷◌, ◌++◌, Bool, true, false, not, cond, eqb, Some, refl, length, ap, ap₂, ◌∙◌, sym, arith, eq-eqb, ne_eqb}
 use Rattle.std.specs.List.{filter}
 use Rattle.std.proofs.lemmas.Bool.{cases_lt, cases_Bool}
 use Rattle.std.proofs.lemmas.List.Elements.{filter-append}
@@ -13,14 +13,7 @@ use Rattle.aes3_lock.specs.Reports.{told, report_of, outcome_at, reports_from, r
 use Rattle.aes3_lock.proofs.Fronts.{front-is}
 use Rattle.aes3_lock.proofs.Deciding.{decided-from, none-from-front, none-from-begins}
 use Rattle.aes3_lock.proofs.Endings.{Ending, refuted, ended, unclosed, closed, ending}
-
-pub outcome_at-some : (c : List Level) → begins_block c ≡ true → outcome_at c ≡ Some (outcome c)
-unfolding outcome_at
-outcome_at-some c e = rw e refl
-
-pub outcome_at-none : (c : List Level) → begins_block c ≡ false → outcome_at c ≡ None
-unfolding outcome_at
-outcome_at-none c e = rw e refl
+use Rattle.aes3_lock.proofs.Ends.{outcome_at-none, outcome_at-some}
 
 -- the report of a block is decided where cells lie behind it
 block-passes : (p n : ℕ) (s : Level) (slots : List (List Bool)) (b : Bool) → eqb (p + block_len) n ≡ b → is_decided n (report_of p (block_outcome s slots)) ≡ not b

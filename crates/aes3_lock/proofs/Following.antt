@@ -15,7 +15,8 @@ use Rattle.aes3_lock.specs.Outcomes.{outcome}
 use Rattle.aes3_lock.specs.Reports.{told, report_of, open_at, decided_at, decided_from, decided, reports}
 use Rattle.aes3_lock.specs.Steps.{last_eight, eight_with, begun, ended, left}
 use Rattle.aes3_lock.specs.Following.{LockState, Gathered, Follows, OpenAt, NoneOpen}
-use Rattle.aes3_lock.proofs.Deciding.{decided-push, entry-append, block_len_64, outcome_by, outcome_is, read_slots-append}
+use Rattle.aes3_slot.proofs.Beginnings.{entry-append}
+use Rattle.aes3_lock.proofs.Deciding.{decided-push, block_len_64, outcome_by, outcome_is, read_slots-append}
 use Rattle.aes3_lock.proofs.Fronts.{keeps-append, front-is}
 use Rattle.aes3_lock.proofs.Ends.{reports-split, final-none, final-open}
 use Rattle.aes3_lock.proofs.Opens.{IsOpen, is-open, open-room, answer-none, answer-open, keeps-new, open-ends, open-decides, open-eight, none-after, open-only, open-cells}

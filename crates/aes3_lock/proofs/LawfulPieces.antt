@@ -18,7 +18,8 @@ use Rattle.aes3_block.specs.Blocks.{mark_at, block_slots, block_runs, stream}
 use Rattle.aes3_block.proofs.Runs.{Each27}
 use Rattle.aes3_block.proofs.FileLaws.{EachBlock}
 use Rattle.aes3_lock.proofs.Viability.{length-runs_of}
-use Rattle.aes3_lock.proofs.BlockPayloads.{each27-all, each28-payloads}
+use Rattle.aes3_block.proofs.Each.{each-payload}
+use Rattle.aes3_block.proofs.CellLaws.{each28}
 
 -- the payloads of blocks one behind the other
 abbrev pub payloads_in : List (List (List Bool)) → List (List Bool)
@@ -31,7 +32,7 @@ each27-append (p ∷ a) b h g = (h.0, each27-append a b h.1 g)
 
 pub each27-in : (bs : List (List (List Bool))) → EachBlock bs → Each27 (payloads_in bs)
 each27-in [] h = tt
-each27-in (b ∷ bs) h = each27-append b (payloads_in bs) (each27-all b h.0.payloads) (each27-in bs h.1)
+each27-in (b ∷ bs) h = each27-append b (payloads_in bs) (each-payload b h.0.payloads) (each27-in bs h.1)
 
 pub length-in : (bs : List (List (List Bool))) → EachBlock bs → length (payloads_in bs) ≡ block_slots * length bs
 length-in [] h = omega arith
@@ -102,12 +103,12 @@ module _ (s : Level) (bs : List (List (List Bool))) (h : EachBlock bs) where
   pub stream-kept : AllKept stream_marks s (stream s bs)
   stream-kept =
       subst (AllKept stream_marks s) (sym (stream-line s bs h))
-      (kept-runs stream_marks s (map with_parity (payloads_in bs)) (each28-payloads (payloads_in bs) (each27-in bs h)))
+      (kept-runs stream_marks s (map with_parity (payloads_in bs)) (each28 (payloads_in bs) (each27-in bs h)))
 
   pub stream-length : length (stream s bs) ≡ 64 * (block_slots * length bs)
   stream-length =
       ap length (stream-line s bs h)
-      ∙ length-runs_of stream_marks s (map with_parity (payloads_in bs)) (each28-payloads (payloads_in bs) (each27-in bs h))
+      ∙ length-runs_of stream_marks s (map with_parity (payloads_in bs)) (each28 (payloads_in bs) (each27-in bs h))
       ∙ ap (λ n. 64 * n) (length-map (payloads_in bs) with_parity ∙ length-in bs h)
 
   pub stream-level : (k : ℕ) → k ≤ block_slots * length bs → before s (stream s bs) (64 * k) ≡ s

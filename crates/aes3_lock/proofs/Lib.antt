@@ -16,7 +16,6 @@ pub mod QuietScans
 pub mod Walking
 pub mod Viability
 pub mod Endings
-pub mod Beginnings
 pub mod BlockPayloads
 pub mod StandingBlocks
 pub mod Refutations

@@ -38,9 +38,6 @@ stream-blocks s bs a =
     })
     ∙ all-whole bs (length (stream s bs)) (omega (arith, n, m))
 
-pub streams-differ : (s : Level) (bs ds : List (List (List Bool))) → All IsBlock bs → All IsBlock ds → stream s bs ≡ stream s ds → bs ≡ ds
-streams-differ s bs ds a d e = sym (stream-blocks s bs a) ∙ ap blocks e ∙ stream-blocks s ds d
-
 -- what stands closed is a block
 pub blocks-lawful : (c : List Level) → All IsBlock (blocks c)
 blocks-lawful c =

@@ -14,7 +14,9 @@ use Rattle.aes3_lock.specs.Candidates.{keeps, front, begins_block}
 use Rattle.aes3_lock.specs.Steps.{ended, left}
 use Rattle.aes3_lock.specs.Reports.{told, decided_at, open_at, decided_from}
 use Rattle.aes3_lock.proofs.Fronts.{front-is, front-unique, keeps-append}
-use Rattle.aes3_lock.proofs.Deciding.{answer, decided-push, open-alone, begins-stands, begins-room, begins-append, entry-append, none-from-front, decided-from, front-eight, outcome_is, outcome_by}
+use Rattle.aes3_slot.specs.declared.mark.Mark.TheVariants.{Z}
+use Rattle.aes3_slot.proofs.Beginnings.{begins-stands, begins-room, begins-append, entry-append}
+use Rattle.aes3_lock.proofs.Deciding.{answer, decided-push, open-alone, none-from-front, decided-from, front-eight, outcome_is, outcome_by}
 
 pub record IsOpen (d : List Level) : Type 0 where
   pub begins : begins_block d ≡ true
@@ -34,13 +36,13 @@ pub open-room : (d : List Level) → IsOpen d → (8 ≤ length d) × (length d 
 open-room d o =
     let w = (front-is (entry d) d).within in
     let a = o.all in
-    (begins-room d o.begins, omega (arith, w, a))
+    (begins-room Z d o.begins, omega (arith, w, a))
 
 -- two blocks are not in hand at once
 pub open-once : (c : List Level) (q : ℕ) (x : Level) → open_at (x ∷ c) ≡ true → open_at (drop q c) ≡ true → ⊥
 open-once c q x a b =
     let n = (open-alone x c a).0 in
-    let s = begins-stands (drop q c) (is-open (drop q c) b).begins in
+    let s = begins-stands Z (drop q c) (is-open (drop q c) b).begins in
     n q (entry (drop q c)) (record { is = s.is })
 
 pub answer-none : (p : ℕ) (c : List Level) (l : Level) → ((q : ℕ) → open_at (drop q c) ≡ false) → answer p c l ≡ []
@@ -116,7 +118,7 @@ module _ (d : List Level) (l : Level) (o : IsOpen d) where
   same-entry = let r = open-room d o in entry-append d (l ∷ []) (omega arith)
 
   pub still-begins : begins_block (d ++ l ∷ []) ≡ true
-  still-begins = let r = open-room d o in begins-append d (l ∷ []) (omega arith) ∙ o.begins
+  still-begins = let r = open-room d o in begins-append Z d (l ∷ []) (omega arith) ∙ o.begins
 
   -- a cell that keeps the rule is taken, and nothing is decided
   pub open-next : length d < block_len → keeps (entry d) (d ++ l ∷ []) (length d) ≡ true
@@ -167,7 +169,7 @@ open-back d l h e =
     let n = length-append d (l ∷ []) in
     let s : entry (d ++ l ∷ []) ≡ entry d = entry-append d (l ∷ []) (omega arith) in
     open-from d (record {
-      begins = sym (begins-append d (l ∷ []) h) ∙ o.begins;
+      begins = sym (begins-append Z d (l ∷ []) h) ∙ o.begins;
       all = front-unique (entry d) d (front (entry d) d) (length d) (front-is (entry d) d)
           (record {
             within = omega (arith, v, a, n);

@@ -13,7 +13,7 @@ use Rattle.aes3_lock.specs.Standing.{IsViable, StandsClosed}
 use Rattle.aes3_lock.proofs.Deciding.{block_len_24576, later-marks}
 use Rattle.aes3_lock.proofs.Viability.{viable-kept}
 use Rattle.aes3_lock.proofs.StandingBlocks.{block-stands, standing-kept, standing-mark, standing-room}
-use Rattle.aes3_lock.proofs.Beginnings.{stands-drop, drop-stands, stands-entry}
+use Rattle.aes3_slot.proofs.Beginnings.{stands-drop, drop-stands, stands-entry}
 
 -- in a viable list Z stands at the start alone
 pub viable-once : (s : Level) (c : List Level) → IsViable s c → (p : ℕ) (t : Level) → StandsMark Z t c p → p ≡ 0

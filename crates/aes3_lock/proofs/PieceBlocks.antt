@@ -1,33 +1,27 @@
 -- The blocks of a piece of a lawful stream are those that lie whole in it.
 use Rattle.std.proofs.Common.{◌≡◌, ℕ, zero, suc, ◌+◌, ◌-◌, ◌*◌, ◌/◌, ◌%◌, ◌<◌, ◌≤◌, ◌⊎◌, inl, inr, List, [], ◌∷◌, ◌++◌, Bool, true, false, ◌&&◌, cond, leb, Option, Some, None, map, refl, length, take, drop, ap, ap₂, ◌∙◌, sym, subst, arith, length-take, take-take, drop-drop, take_at, drop_at, get_or-take}
-use Rattle.std.specs.List.{flat_map}
-use Rattle.std.proofs.lemmas.List.{length-map}
 use Rattle.std.proofs.lemmas.Bool.{cases_lt}
 use Rattle.aes3_cell.specs.declared.level.Level.{Level}
 use Rattle.aes3_cell.specs.declared.level.Level.TheVariants.{Low}
-use Rattle.aes3_cell.specs.Cells.{line}
-use Rattle.aes3_cell.proofs.Runs.{line-append}
 use Rattle.aes3_slot.specs.declared.mark.Mark.{Mark}
 use Rattle.aes3_slot.specs.declared.mark.Mark.TheVariants.{Z}
 use Rattle.aes3_slot.specs.Slots.{with_parity}
 use Rattle.aes3_slot.specs.Rules.{at, StandsMark}
 use Rattle.aes3_slot.proofs.OwnPreambles.{stands-room, begins}
-use Rattle.aes3_block.specs.Blocks.{mark_at, block_slots, block_len, block_runs, block_cells, stream, IsBlock}
+use Rattle.aes3_block.specs.Blocks.{mark_at, block_slots, block_len, block_cells, stream}
 use Rattle.aes3_block.proofs.FileLaws.{EachBlock, each-block}
-use Rattle.aes3_block.proofs.Runs.{after-runs}
 use Rattle.aes3_lock.specs.Outcomes.{Outcome, whole, marked, fault, unfinished}
 use Rattle.aes3_lock.specs.Reports.{told, outcome_at, reports_from, reports, wholes, blocks}
 use Rattle.aes3_lock.specs.Standing.{StandsClosed}
 use Rattle.aes3_lock.specs.Pieces.{IsPiece, blocks_within, whole_blocks}
-use Rattle.aes3_lock.proofs.Deciding.{block_len_64, block_len_24576, later-marks}
-use Rattle.aes3_lock.proofs.Viability.{length-runs_of}
-use Rattle.aes3_lock.proofs.BlockPayloads.{each27-all, each28-payloads}
-use Rattle.aes3_lock.proofs.Beginnings.{stands-drop}
+use Rattle.aes3_lock.proofs.Deciding.{block_len_24576, later-marks}
+use Rattle.aes3_slot.proofs.Beginnings.{stands-drop}
 use Rattle.aes3_lock.proofs.StandingBlocks.{block-stands, standing-mark}
 use Rattle.aes3_lock.proofs.AllStanding.{standing-at, at-standing, closed-room, wholes-append}
 use Rattle.aes3_lock.proofs.Places.{collect, gather, spaced, collect-gather, gather-within, Sparse, gather-spaced}
 use Rattle.aes3_lock.proofs.LawfulPieces.{stream_marks, stream-kept, stream-length, stream-aligned}
 use Rattle.aes3_lock.proofs.PieceBounds.{piece-rest, length-piece, both-true, first-false, second-false}
+use Rattle.aes3_block.proofs.CellLaws.{length-block_cells, stream-cons}
 
 -- place by place
 abbrev block_here : ℕ → List Level → List (List (List Bool))
@@ -61,19 +55,6 @@ here-any p q c = go (outcome_at c)
     go (Some (fault f)) = refl
     go (Some (unfinished k)) = refl
 
--- a stream by its blocks
-length-block : (s : Level) (b : List (List Bool)) → IsBlock b → length (block_cells s b) ≡ block_len
-unfolding block_cells
-length-block s b h =
-    length-runs_of mark_at s (map with_parity b) (each28-payloads b (each27-all b h.payloads))
-    ∙ ap (λ n. 64 * n) (length-map b with_parity ∙ h.count) ∙ sym block_len_64
-
-stream-cons : (s : Level) (b : List (List Bool)) (bs : List (List (List Bool))) → IsBlock b → stream s (b ∷ bs) ≡ block_cells s b ++ stream s bs
-unfolding stream block_cells
-stream-cons s b bs h =
-    line-append s (block_runs b) (flat_map block_runs bs)
-    ∙ ap (λ t. line s (block_runs b) ++ line t (flat_map block_runs bs)) (after-runs s mark_at b (each27-all b h.payloads))
-
 -- a block of it stands closed, where the piece has all of its cells
 cons-stands : (s : Level) (b : List (List Bool)) (bs : List (List (List Bool))) (n : ℕ) → EachBlock (b ∷ bs) → block_len ≤ n
     → StandsClosed b s (take n (stream s (b ∷ bs)))
@@ -81,7 +62,7 @@ cons-stands s b bs n h l =
     record {
       block = h.0;
       cells = take-take block_len n (stream s (b ∷ bs)) l ∙ ap (take block_len) (stream-cons s b bs h.0)
-          ∙ take_at (block_cells s b) (stream s bs) block_len (length-block s b h.0);
+          ∙ take_at (block_cells s b) (stream s bs) block_len (length-block_cells s b h.0);
       closed = record {
         turns = λ o e.
             let m = block_len_24576 in
@@ -205,7 +186,7 @@ module _ (s : Level) (bs : List (List (List Bool))) (h : EachBlock bs) (i j : �
       ap₂ (λ u v. u ++ v) (given-own p b more g e)
       (spaced-blocks (p + block_len) more g.1
       (sym (drop-drop block_len p (stream s bs)) ∙ ap (drop block_len) (e ∙ stream-cons s b more g.0)
-      ∙ drop_at (block_cells s b) (stream s more) block_len (length-block s b g.0)))
+      ∙ drop_at (block_cells s b) (stream s more) block_len (length-block_cells s b g.0)))
 
   piece-blocks : wholes (reports_from 0 (take (j - i) (drop i (stream s bs)))) ≡ blocks_within 0 i j bs
   piece-blocks =

@@ -11,16 +11,13 @@ use Rattle.aes3_cell.proofs.WordCells.{length-low_cells, take-low_cells, low_cel
 use Rattle.aes3_slot.specs.declared.mark.Mark.{Mark}
 use Rattle.aes3_slot.specs.declared.mark.Mark.TheVariants.{X, Y, Z}
 use Rattle.aes3_slot.specs.Preambles.{entry, begins_with, begins_with_any}
+use Rattle.aes3_slot.proofs.Beginnings.{any-append}
 use Rattle.aes3_lock.specs.Preambles.{first_mark, placed, marks}
 use Rattle.aes3_lock.specs.Steps.{last_eight, ended_mark}
-use Rattle.aes3_lock.proofs.QuietWords.{window}
-use Rattle.aes3_lock.proofs.Scanning.{mark-append, ended-short, ended-long, marks-last}
+use Rattle.aes3_lock.proofs.QuietWords.{window, says-no, says-yes}
+use Rattle.aes3_lock.proofs.Scanning.{ended-short, ended-long, marks-last}
 
 -- whether a preamble begins
-any-append : (c d : List Level) → 8 ≤ length c → begins_with_any (c ++ d) ≡ begins_with_any c
-unfolding begins_with_any
-any-append c d h = let x = mark-append X c d h in let y = mark-append Y c d h in let z = mark-append Z c d h in rw (x, y, z) refl
-
 first-none : (c : List Level) → begins_with_any c ≡ false → first_mark c ≡ None
 unfolding begins_with_any first_mark
 first-none c = go (begins_with X c) (begins_with Y c) (begins_with Z c) (X, entry c) (Y, entry c) (Z, entry c)
@@ -84,11 +81,7 @@ module _ (c b : List Level) (m w : ℕ) (few : m < 2 ^ 64) (is : b ≡ drop 1 (l
       go (inr s) = (bit_at-trailing_zeros w64 m (omega (arith, s)) few).2 i g
 
   quiet-at : (i : ℕ) → i < trailing_zeros w64 m → i < 64 → begins_with_any (last_eight (c ++ low_cells (suc i) w)) ≡ false
-  quiet-at i g h = go (begins_with_any (last_eight (c ++ low_cells (suc i) w))) (sym (ends-at i h) ∙ below i g h)
-    where
-      go : (p : Bool) → ◌≡◌ {A = ℕ} (if p then 1 else 0) 0 → p ≡ false
-      go true e = absurd (omega arith)
-      go false e = refl
+  quiet-at i g h = says-no (begins_with_any (last_eight (c ++ low_cells (suc i) w))) (sym (ends-at i h) ∙ below i g h)
 
   pub none-end : (n : ℕ) → n ≤ trailing_zeros w64 m → n ≤ 64 → marks (c ++ low_cells n w) ≡ marks c
   none-end n g h =
@@ -111,12 +104,8 @@ module _ (c b : List Level) (m w : ℕ) (few : m < 2 ^ 64) (is : b ≡ drop 1 (l
       n : ℕ
       n = trailing_zeros w64 m
 
-      one : (p : Bool) → ◌≡◌ {A = ℕ} (if p then 1 else 0) 1 → p ≡ true
-      one true e = refl
-      one false e = absurd (omega arith)
-
       go : (m ≡ 0) ⊎ (m ≡ 0 → ⊥) → begins_with_any (last_eight (c ++ low_cells (n + 1) w)) ≡ true
       go (inl z) = absurd (let t = ap (trailing_zeros w64) z ∙ trailing_of_zero 64 in omega (arith, t, h))
       go (inr s) =
           let z = bit_at-trailing_zeros w64 m (omega (arith, s)) few in
-          ap (λ k. begins_with_any (last_eight (c ++ low_cells k w))) (add-one n) ∙ one _ (sym (ends-at n z.0) ∙ z.1)
+          ap (λ k. begins_with_any (last_eight (c ++ low_cells k w))) (add-one n) ∙ says-yes _ (sym (ends-at n z.0) ∙ z.1)

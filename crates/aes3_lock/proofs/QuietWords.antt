@@ -7,13 +7,15 @@ use Rattle.std.proofs.lemmas.Nat.Bits.{bit_at-trailing_zeros, bit_at-zero}
 use Rattle.aes3_cell.specs.declared.level.Level.{Level}
 use Rattle.aes3_cell.specs.Words.{low_cells, word_cells}
 use Rattle.aes3_cell.proofs.WordCells.{drop-low_cells}
+use Rattle.aes3_slot.specs.declared.mark.Mark.TheVariants.{Z}
 use Rattle.aes3_slot.specs.Preambles.{with_seven}
 use Rattle.aes3_slot.proofs.Taken.{length-word}
 use Rattle.aes3_lock.specs.Candidates.{begins_block}
 use Rattle.aes3_lock.specs.Reports.{open_at, decided_from, decided}
 use Rattle.aes3_lock.specs.Steps.{last_eight}
 use Rattle.aes3_lock.specs.Following.{LockState, Follows, NoneOpen, BeginsIn}
-use Rattle.aes3_lock.proofs.Deciding.{decided-push, begins-append}
+use Rattle.aes3_slot.proofs.Beginnings.{begins-append}
+use Rattle.aes3_lock.proofs.Deciding.{decided-push}
 use Rattle.aes3_lock.proofs.Opens.{answer-none, none-after}
 use Rattle.aes3_lock.proofs.LastEight.{length-last_eight, last_eight-more, last_eight-word}
 use Rattle.aes3_lock.proofs.Following.{closed, drop-push}
@@ -72,14 +74,19 @@ seven-before r b w x y i a e h =
     ap₂ (λ c d. c ++ d) (a (omega (arith, i, h)) ∙ ap (λ v. low_cells 7 v ++ take 57 (word_cells w)) i) e ∙ append_assoc (low_cells 7 (r / 2 ^ 1)) (take 57 (word_cells w)) (drop 57 (word_cells w))
     ∙ ap₂ (λ c d. c ++ d) (sym (drop-low_cells 1 7 r)) (take-append-drop 57 (word_cells w))
 
+-- a bit that says whether
+pub says-no : (b : Bool) → ◌≡◌ {A = ℕ} (if b then 1 else 0) 0 → b ≡ false
+says-no true q = absurd (omega arith)
+says-no false q = refl
+
+pub says-yes : (b : Bool) → ◌≡◌ {A = ℕ} (if b then 1 else 0) 1 → b ≡ true
+says-yes true q = refl
+says-yes false q = absurd (omega arith)
+
 -- a word in which no preamble of a block begins, and one in which one does
 pub none-begins : (m : ℕ) (c d : List Level) → m ≡ 0 → ((i : ℕ) → i < 64 → bit_at m i ≡ (if begins_block (drop i c) then 1 else 0)) → c ≡ d
     → (i : ℕ) → i < 64 → begins_block (drop i d) ≡ false
-none-begins m c d z h e i g = subst (λ x. begins_block (drop i x) ≡ false) e (go (begins_block (drop i c)) (sym (h i g) ∙ ap (λ w. bit_at w i) z ∙ bit_at-zero i))
-  where
-    go : (b : Bool) → ◌≡◌ {A = ℕ} (if b then 1 else 0) 0 → b ≡ false
-    go true q = absurd (omega arith)
-    go false q = refl
+none-begins m c d z h e i g = subst (λ x. begins_block (drop i x) ≡ false) e (says-no (begins_block (drop i c)) (sym (h i g) ∙ ap (λ w. bit_at w i) z ∙ bit_at-zero i))
 
 pub one-begins : (m : ℕ) (c d : List Level) → m < 2 ^ 64 → (m ≡ 0 → ⊥) → ((i : ℕ) → i < 64 → bit_at m i ≡ (if begins_block (drop i c) then 1 else 0)) → c ≡ d
     → BeginsIn d
@@ -88,12 +95,8 @@ one-begins m c d b n h e =
     record {
       place = trailing_zeros w64 m;
       within = z.0;
-      is = subst (λ x. begins_block (drop (trailing_zeros w64 m) x) ≡ true) e (go (begins_block (drop (trailing_zeros w64 m) c)) (sym (h _ z.0) ∙ z.1));
+      is = subst (λ x. begins_block (drop (trailing_zeros w64 m) x) ≡ true) e (says-yes (begins_block (drop (trailing_zeros w64 m) c)) (sym (h _ z.0) ∙ z.1));
     }
-  where
-    go : (b : Bool) → ◌≡◌ {A = ℕ} (if b then 1 else 0) 1 → b ≡ true
-    go true q = refl
-    go false q = absurd (omega arith)
 
 -- a lock with a word of such cells
 module _ (k k' : LockState) (c : List Level) (w : ℕ) (f : Follows k c) (s : k.candidate ≡ None)
@@ -103,7 +106,7 @@ module _ (k k' : LockState) (c : List Level) (w : ℕ) (f : Follows k c) (s : k.
   all =
       let l = length-word w in
       quiet-cells c (word_cells w) (rw s at f.candidate)
-      (λ i h. sym (window begins_block begins-append c (word_cells w) i h) ∙ ap (λ r. begins_block (drop i (drop 1 r ++ word_cells w))) (sym f.recent) ∙ quiet i (omega (arith, l, h)))
+      (λ i h. sym (window begins_block (begins-append Z) c (word_cells w) i h) ∙ ap (λ r. begins_block (drop i (drop 1 r ++ word_cells w))) (sym f.recent) ∙ quiet i (omega (arith, l, h)))
 
   pub quiet-follows : Follows k' (c ++ word_cells w)
   quiet-follows = record {

@@ -1,50 +1,38 @@
 -- The preamble that one more cell ends.
-use Rattle.std.proofs.Common.{◌≡◌, ℕ, suc, ◌+◌, ◌-◌, ◌<◌, ◌≤◌, ◌⊎◌, inl, inr, List, [], ◌∷◌, ◌++◌, false, Some, None, refl, length, take, drop, ap, ap₂, ◌∙◌, sym, arith, le-leb, length-append, append_assoc, append-nil, take_all}
+use Rattle.std.proofs.Common.{◌≡◌, ℕ, suc, ◌+◌, ◌-◌, ◌<◌, ◌≤◌, ◌⊎◌, inl, inr, List, [], ◌∷◌, ◌++◌, false, Some, None, refl, length, take, drop, ap, ap₂, ◌∙◌, sym, arith, le-leb, length-append, append_assoc, append-nil}
 use Rattle.std.specs.Prelude.{option_to_list, option_map}
 use Rattle.std.proofs.lemmas.Bool.{cases_lt, cases_order, lt-leb, false_from_ne_true}
-use Rattle.std.proofs.lemmas.List.{take-append-le, drop-append-le}
+use Rattle.std.proofs.lemmas.List.{drop-append-le}
 use Rattle.aes3_cell.specs.declared.level.Level.{Level}
 use Rattle.aes3_cell.specs.declared.level.Level.TheVariants.{Low, High}
 use Rattle.aes3_cell.specs.Cells.{line}
 use Rattle.aes3_slot.specs.declared.mark.Mark.{Mark}
 use Rattle.aes3_slot.specs.declared.mark.Mark.TheVariants.{X, Y, Z}
 use Rattle.aes3_slot.specs.Slots.{mark_runs}
-use Rattle.aes3_slot.proofs.Index.{length-mark}
-use Rattle.aes3_slot.specs.Preambles.{entry, begins_with, same_cells}
+use Rattle.aes3_slot.specs.Preambles.{entry, begins_with}
 use Rattle.aes3_lock.specs.Preambles.{first_mark, placed, marks_from, marks}
 use Rattle.aes3_lock.specs.Steps.{last_eight, eight_with, ended_mark}
 use Rattle.aes3_lock.specs.Following.{ScanState, ScanFollows}
-use Rattle.aes3_lock.proofs.Deciding.{same_cells-true, entry-append}
+use Rattle.aes3_slot.proofs.Beginnings.{begins-short, begins-append, entry-append, begins-stands}
 use Rattle.aes3_lock.proofs.LastEight.{length-last_eight, last_eight-is, last_eight-more}
 
 -- cells behind the eighth count for nothing
-pub mark-append : (m : Mark) (c d : List Level) → 8 ≤ length c → begins_with m (c ++ d) ≡ begins_with m c
-unfolding begins_with
-mark-append m c d h = ap₂ (λ x y. same_cells x (line y (mark_runs m))) (take-append-le 8 c d h) (entry-append c d (omega arith))
-
 first_mark-append : (c d : List Level) → 8 ≤ length c → first_mark (c ++ d) ≡ first_mark c
 unfolding first_mark
 first_mark-append c d h =
-    let x = mark-append X c d h in
-    let y = mark-append Y c d h in
-    let z = mark-append Z c d h in
+    let x = begins-append X c d h in
+    let y = begins-append Y c d h in
+    let z = begins-append Z c d h in
     let e = entry-append c d (omega arith) in
     rw (x, y, z, e) refl
 
 -- fewer than eight are no preamble
-mark-short : (m : Mark) (c : List Level) → length c < 8 → begins_with m c ≡ false
-unfolding begins_with
-mark-short m c h = false_from_ne_true (begins_with m c) (λ b.
-    let e = ap length (same_cells-true (take 8 c) (line (entry c) (mark_runs m)) b) ∙ length-mark (entry c) m in
-    let t = ap length (take_all 8 c (omega arith)) in
-    omega (arith, e, t))
-
 first_mark-short : (c : List Level) → length c < 8 → first_mark c ≡ None
 unfolding first_mark
 first_mark-short c h =
-    let x = mark-short X c h in
-    let y = mark-short Y c h in
-    let z = mark-short Z c h in
+    let x = begins-short X c h in
+    let y = begins-short Y c h in
+    let z = begins-short Z c h in
     rw (x, y, z) refl
 
 marks-short : (p : ℕ) (c : List Level) → length c < 8 → marks_from p c ≡ []
@@ -107,12 +95,12 @@ first_mark-line m s d e = ap first_mark e ∙ go m s
     go Z High = refl
 
 pub first_mark-none : (d : List Level) → take 8 d ≡ d → ((m : Mark) (s : Level) → d ≡ line s (mark_runs m) → ⊥) → first_mark d ≡ None
-unfolding first_mark begins_with
+unfolding first_mark
 first_mark-none d t f = rw (not X, not Y, not Z) refl
   where
-    not : (m : Mark) → same_cells (take 8 d) (line (entry d) (mark_runs m)) ≡ false
-    not m = false_from_ne_true (same_cells (take 8 d) (line (entry d) (mark_runs m)))
-        (λ b. f m (entry d) (sym t ∙ same_cells-true (take 8 d) (line (entry d) (mark_runs m)) b))
+    not : (m : Mark) → begins_with m d ≡ false
+    not m = false_from_ne_true (begins_with m d)
+        (λ b. f m (entry d) (sym t ∙ (begins-stands m d b).is))
 
 -- the preamble that the last eight of all cells are
 pub ended-short : (n : ℕ) (recent : List Level) → n < 8 → ended_mark n recent ≡ None

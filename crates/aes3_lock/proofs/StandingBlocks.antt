@@ -23,8 +23,10 @@ use Rattle.aes3_lock.proofs.Fronts.{keeps-from-kept}
 use Rattle.aes3_lock.proofs.Deciding.{block_len_64, block_len_24576}
 use Rattle.aes3_lock.proofs.Viability.{length-runs_of, front-from, keeps-take}
 use Rattle.aes3_lock.proofs.Endings.{Ending, refuted, ended, unclosed, closed, ending, read-stands}
-use Rattle.aes3_lock.proofs.Beginnings.{stands-begins, stands-entry}
-use Rattle.aes3_lock.proofs.BlockPayloads.{each27-all, each28-payloads, payloads-with_parity, right-with_parity, slots-right, block-payloads}
+use Rattle.aes3_slot.proofs.Beginnings.{stands-begins, stands-entry}
+use Rattle.aes3_lock.proofs.BlockPayloads.{payloads-with_parity, right-with_parity, slots-right, block-payloads}
+use Rattle.aes3_block.proofs.Each.{each-payload}
+use Rattle.aes3_block.proofs.CellLaws.{each28}
 
 first-mark : mark_at 0 ≡ Z
 unfolding mark_at
@@ -131,7 +133,7 @@ unfolding block_cells
 block-stands b s c h =
     record {
       count = length-map b with_parity ∙ h.block.count;
-      each = each28-payloads b (each27-all b h.block.payloads);
+      each = each28 b (each-payload b h.block.payloads);
       cells = h.cells;
     }
 
@@ -150,7 +152,7 @@ pub standing-whole : (b : List (List Bool)) (s : Level) (c : List Level) → Sta
 standing-whole b s c h =
     standing-outcome (map with_parity b) s c (block-stands b s c h) h.closed
     ∙ block_outcome-right s (map with_parity b) (right-with_parity b)
-    ∙ ap (whole s) (payloads-with_parity b (each27-all b h.block.payloads))
+    ∙ ap (whole s) (payloads-with_parity b (each-payload b h.block.payloads))
 
 pub whole-standing : (b : List (List Bool)) (s : Level) (c : List Level) → outcome c ≡ whole s b → StandsClosed b s c
 whole-standing b s c w = go (ending c)

@@ -20,7 +20,7 @@ use Rattle.aes3_slot.specs.Preambles.{entry}
 use Rattle.aes3_lock.specs.Candidates.{keeps}
 use Rattle.aes3_lock.specs.Reports.{open_at, decided}
 use Rattle.aes3_lock.specs.Following.{LockState, Gathered, Follows, OpenAt}
-use Rattle.aes3_lock.proofs.Deciding.{entry-append}
+use Rattle.aes3_slot.proofs.Beginnings.{entry-append}
 use Rattle.aes3_lock.proofs.Fronts.{front-is}
 use Rattle.aes3_lock.proofs.Opens.{IsOpen, is-open, open-room}
 use Rattle.aes3_lock.proofs.LastEight.{last_eight-word}

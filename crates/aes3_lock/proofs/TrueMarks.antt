@@ -15,7 +15,7 @@ use Rattle.aes3_block.proofs.FileLaws.{EachBlock, each-block}
 use Rattle.aes3_slot.specs.Preambles.{entry, begins_with, same_cells}
 use Rattle.aes3_lock.specs.Preambles.{first_mark, placed, marks_from, marks}
 use Rattle.aes3_lock.specs.Pieces.{IsPiece, marks_within, true_marks}
-use Rattle.aes3_lock.proofs.Beginnings.{begins-stands, stands-begins, stands-entry, stands-once, stands-drop, drop-stands}
+use Rattle.aes3_slot.proofs.Beginnings.{begins-stands, stands-begins, stands-entry, stands-once, stands-drop, drop-stands}
 use Rattle.aes3_lock.proofs.Places.{collect, gather, spaced, collect-gather, gather-within, Sparse, gather-spaced}
 use Rattle.aes3_lock.proofs.PieceBounds.{piece-rest, length-piece, both-true, second-false, first-false}
 use Rattle.aes3_lock.proofs.LawfulPieces.{stream_marks, stream-length, stream-stands, stream-aligned}

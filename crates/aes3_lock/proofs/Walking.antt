@@ -16,7 +16,9 @@ use Rattle.aes3_lock.specs.Outcomes.{outcome}
 use Rattle.aes3_lock.specs.Reports.{told, outcome_at, reports_from, reports}
 use Rattle.aes3_lock.specs.Steps.{last_eight, eight_with, begun, level_with, ended, left}
 use Rattle.aes3_lock.specs.Following.{Filled}
-use Rattle.aes3_lock.proofs.Deciding.{block_len_64, block_len_24576, outcome_by, outcome_is, read_slots-append, begins-append, begins-room, entry-append}
+use Rattle.aes3_slot.specs.declared.mark.Mark.TheVariants.{Z}
+use Rattle.aes3_slot.proofs.Beginnings.{begins-append, begins-room, entry-append}
+use Rattle.aes3_lock.proofs.Deciding.{block_len_64, block_len_24576, outcome_by, outcome_is, read_slots-append}
 use Rattle.aes3_lock.proofs.Fronts.{front-is, front-unique}
 use Rattle.aes3_lock.proofs.LastEight.{last_eight-with, last_eight-is, before-at}
 use Rattle.aes3_lock.proofs.Gathering.{slots_set, filled-step, slots-filled}
@@ -177,14 +179,14 @@ module _ (c : List Level) (s : Level) (slots : List ℕ) (f : ℕ) (p : Level) (
 begins-take : (c : List Level) → 8 ≤ length c → (begins_block (take 8 c) ≡ begins_block c) × (entry (take 8 c) ≡ entry c)
 begins-take c h =
     let n : length (take 8 c) ≡ 8 = length-take-le 8 c h in (
-      sym (ap begins_block (sym (take-append-drop 8 c)) ∙ begins-append (take 8 c) (drop 8 c) (omega (arith, n))),
+      sym (ap begins_block (sym (take-append-drop 8 c)) ∙ begins-append Z (take 8 c) (drop 8 c) (omega (arith, n))),
       sym (ap entry (sym (take-append-drop 8 c)) ∙ entry-append (take 8 c) (drop 8 c) (omega (arith, n))),
     )
 
 pub outcome_at-short : (c : List Level) → length c < 8 → outcome_at c ≡ None
 unfolding outcome_at
 outcome_at-short c h =
-    let b : begins_block c ≡ false = false_from_ne_true (begins_block c) (λ e. let r = begins-room c e in omega (arith, r, h)) in
+    let b : begins_block c ≡ false = false_from_ne_true (begins_block c) (λ e. let r = begins-room Z c e in omega (arith, r, h)) in
     rw b refl
 
 pub outcome_at-none : (c : List Level) → 8 ≤ length c → begun 8 (take 8 c) ≡ None → outcome_at c ≡ None

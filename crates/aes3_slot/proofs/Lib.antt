@@ -16,3 +16,4 @@ pub mod Wrong
 pub mod ReadWords
 pub mod Taken
 pub mod Windows
+pub mod Beginnings

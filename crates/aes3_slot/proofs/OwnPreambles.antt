@@ -5,23 +5,18 @@ use Rattle.aes3_cell.specs.declared.level.Level.{Level}
 use Rattle.aes3_cell.specs.declared.level.Level.TheVariants.{Low}
 use Rattle.aes3_slot.specs.declared.mark.Mark.{Mark}
 use Rattle.aes3_slot.specs.declared.mark.Mark.TheVariants.{X, Y, Z}
-use Rattle.aes3_cell.specs.Cells.{line, other}
-use Rattle.aes3_slot.specs.Slots.{mark_runs}
+use Rattle.aes3_cell.specs.Cells.{other}
 use Rattle.aes3_slot.specs.Rules.{StandsMark, at, before, shape, AllKept}
 use Rattle.aes3_cell.proofs.Runs.{other-other, other_ne}
+use Rattle.aes3_slot.proofs.Index.{length-mark}
 
 pub stands-room : (m : Mark) (t : Level) (c : List Level) (p : ℕ) → StandsMark m t c p → p + 8 ≤ length c
 stands-room m t c p z =
     let e = ap length z.is in
-    let l = eight t m in
+    let l = length-mark t m in
     let f = length-take 8 (drop p c) in
     let g = length-drop p c in
     omega (arith, e, f, g, l)
-  where
-    eight : (s : Level) (m : Mark) → length (line s (mark_runs m)) ≡ 8
-    eight s X = refl
-    eight s Y = refl
-    eight s Z = refl
 
 pub stands-at : (m : Mark) (t : Level) (c : List Level) (p k : ℕ) → k < 8 → StandsMark m t c p → at c (p + k) ≡ shape m k t
 stands-at m t c p k h z =

@@ -2,7 +2,7 @@
 use Rattle.std.proofs.Common.{◌≡◌, ℕ, suc, ◌+◌, ◌≤◌, List, [], ◌∷◌, ◌++◌, Option, Some, None, Result, Ok, Err, IfOk, OnErr, length, drop, refl, sym, ap, ap₂, ◌∙◌, arith, append-nil, length-append}
 use Rattle.std.specs.Prelude.{option_to_list, option_map}
 use Rattle.std.proofs.lemmas.Grind.{flat_map-append}
-use Rattle.std.proofs.lemmas.List.{append_cancel_left}
+use Rattle.std.proofs.lemmas.List.{append_cancel_left, drop_at}
 use Rattle.aes3_cell.specs.declared.level.Level.{Level}
 use Rattle.aes3_cell.specs.declared.form.Form.{Form}
 use Rattle.aes3_cell.specs.declared.counts.Counts.{Counts}
@@ -19,13 +19,9 @@ use Rattle.aes3_engine.proofs.Items.{before-is, before-join}
 use Rattle.aes3_text.specs.Lines.{mark_line}
 use Rattle.aes3_text.specs.Runs.{line_of, mark_lines, marks_by, marking, scan_counts, Scanned}
 
-drop-front : {A : Type 0} (a b : List A) → drop (length a) (a ++ b) ≡ b
-drop-front [] b = refl
-drop-front (x ∷ a) b = drop-front a b
-
 -- the preambles of all cells before are those of all cells
 marks-by : (c : List Level) (l : Level) (m : List (ℕ × Mark × Level)) → marks (c ++ l ∷ []) ≡ marks c ++ m → marks_by c l ≡ m
-marks-by c l m e = ap (drop (length (marks c))) e ∙ drop-front (marks c) m
+marks-by c l m e = ap (drop (length (marks c))) e ∙ drop_at (marks c) m (length (marks c)) refl
 
 marks-more : (c : List Level) (l : Level) → marks (c ++ l ∷ []) ≡ marks c ++ marks_by c l
 unfolding marks

@@ -1,4 +1,4 @@
-use Rattle.std.proofs.Common.{ap, ◌∙◌, Some, arith}
+use Rattle.std.proofs.Common.{ap, Some, arith}
 use Rattle.aes3_cell.proofs.TextWords.{cell-bytes, word-text, all-set, word-owed}
 use Rattle.aes3_cell.proofs.word.word_of_text.Goals as goal
 

@@ -1,6 +1,6 @@
 use Rattle.aes3_slot.specs.declared.mark.Mark.TheVariants.{Z}
 use Rattle.aes3_slot.specs.Preambles.{entry}
-use Rattle.aes3_lock.proofs.Beginnings.{begins-stands, stands-begins}
+use Rattle.aes3_slot.proofs.Beginnings.{begins-stands, stands-begins}
 use Rattle.aes3_lock.proofs.laws.candidate_where_z_stands.Goals as goal
 
 pub returns : goal.returns
