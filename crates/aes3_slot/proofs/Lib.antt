@@ -17,3 +17,4 @@ pub mod ReadWords
 pub mod Taken
 pub mod Windows
 pub mod Beginnings
+pub mod WordMarks

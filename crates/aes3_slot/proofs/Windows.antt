@@ -59,7 +59,7 @@ seven-above w n i h =
     get_or-append_right (low_cells 64 w) (low_cells 7 n) 64 (64 + i) Low (length-low_cells 64 w) (omega arith)
     ∙ ap (at (low_cells 7 n)) (let e : 64 + i - 64 ≡ i = omega arith in e) ∙ low_cells-at 7 n i h
 
-length-seven : (w n : ℕ) → length (with_seven w n) ≡ 71
+pub length-seven : (w n : ℕ) → length (with_seven w n) ≡ 71
 unfolding with_seven word_cells word_len
 length-seven w n =
     let a = length-append (low_cells 64 w) (low_cells 7 n) in

@@ -1,5 +1,6 @@
 -- Preambles where cells begin, and in a word of cells.
 use Rattle.std.specs.Prelude.{ℕ, List, [], ◌∷◌, ◌++◌, Bool, true, false, ◌&&◌, ◌||◌, ◌+◌, take}
+use Rattle.std.specs.List.{flat_map}
 use Rattle.aes3_cell.specs.declared.level.Level.{Level}
 use Rattle.aes3_cell.specs.Cells.{line, other}
 use Rattle.aes3_cell.specs.Words.{low_cells, word_cells}
@@ -29,6 +30,10 @@ begins_with_any c = begins_with X c || (begins_with Y c || begins_with Z c)
 -- whether cell k differs from the cell so far behind it
 abbrev pub unlike_at : List Level → ℕ → ℕ → Bool
 unlike_at c k distance = differs (at c k) (at c (k + distance))
+
+-- the cells of words one behind the other, and seven behind them
+abbrev pub words_with_seven : List ℕ → ℕ → List Level
+words_with_seven words next = flat_map word_cells words ++ low_cells 7 next
 
 -- the 64 cells of a word and seven behind them, as many as a preamble needs that begins with the last
 unfoldable pub with_seven : ℕ → ℕ → List Level

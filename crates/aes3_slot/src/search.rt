@@ -1,9 +1,9 @@
 //! Preambles in 64 cells at once (AES3-3; IEC 60958-1).
 
-ghost use Rattle.std.specs.Prelude.{◌≡◌, ℕ, ◌<◌, ◌&&◌, not, drop, if◌then◌else◌};
+ghost use Rattle.std.specs.Prelude.{◌≡◌, ℕ, ◌+◌, ◌*◌, ◌<◌, ◌&&◌, not, length, get_or, drop, if◌then◌else◌};
 ghost use Rattle.std.specs.Int.{bit_at};
 ghost use Rattle.aes3_slot.specs.declared.mark.Mark.TheVariants.{Z};
-ghost use Rattle.aes3_slot.specs.Preambles.{begins_with, begins_with_any, unlike_at, with_seven};
+ghost use Rattle.aes3_slot.specs.Preambles.{begins_with, begins_with_any, unlike_at, with_seven, words_with_seven};
 
 /// The cells that differ from the cell `distance` behind them, each a one.
 fn unlike(cells: u64, next: u64, distance: u32) -> u64
@@ -45,4 +45,21 @@ pub fn preambles(cells: u64, next: u64) -> u64
     let y = fifth & !sixth & seventh;
     let z = !fifth & sixth & seventh;
     beginnings(cells, next) & (x | y | z)
+}
+
+/// Where the preamble of a block begins in words of 64 cells: bit `k` of `out[i]` is one exactly where it stands, in either
+/// polarity, in the eight cells from cell `64 i + k` on. The lowest seven bits of `next` are the cells behind the last word.
+pub fn find_marks(words: &[u64], next: u8, out: &mut [u64])
+    requires { length out.old ≡ length words.now }
+    ensures len { length out.new ≡ length words.now }
+    ensures marks { (i k : ℕ) → i < length words.now → k < 64
+        → bit_at (get_or out.new i 0) k ≡ (if begins_with Z (drop (64 * i + k) (words_with_seven words.now next)) then 1 else 0) }
+{
+    for (i, word) in words.iter().enumerate() {
+        let behind = match words.get(i + 1) {
+            Some(behind) => *behind,
+            None => u64::from(next),
+        };
+        out[i] = block_preambles(*word, behind);
+    }
 }

@@ -5,7 +5,7 @@ ghost use Rattle.std.specs.Prelude.{◌<◌};
 use crate::mark::Mark;
 use crate::preamble::match_mark;
 use crate::reading::{Place, take_either, take_subframe};
-use crate::search::{block_preambles, preambles};
+use crate::search::{block_preambles, find_marks, preambles};
 use crate::subframe::subframe_cells;
 use aes3_cell::Level;
 
@@ -163,5 +163,49 @@ fn preambles_against_windows(rt: HostRuntime) {
         let cells = cells.rotate_left((state & 63) as u32) ^ 1 << (state >> 58);
         let found = (block_preambles(cells, state), preambles(cells, state));
         assert_eq!(rt; found, places_by_windows(cells, state));
+    }
+}
+
+/// The preamble of a block, the first cell in the lowest bit, among cells that are `Low`.
+const BLOCK_PREAMBLE: u64 = 0x17;
+
+fn low_octet(word: u64) -> u8 {
+    (word % 256) as u8
+}
+
+#[test]
+fn preambles_of_blocks_across_words(rt: HostRuntime) {
+    for len in 1..18 {
+        for at in 0..len {
+            for shift in 57..64_u32 {
+                let mut words = [0; 17];
+                words[at] = BLOCK_PREAMBLE << shift;
+                let cut = BLOCK_PREAMBLE >> (64 - shift);
+                if at + 1 < len {
+                    words[at + 1] = cut;
+                }
+                let next = if at + 1 < len { 0 } else { low_octet(cut) };
+                let mut out = [1; 17];
+                find_marks(&words[..len], next, &mut out[..len]);
+                for (i, places) in out.iter().enumerate() {
+                    let expected = if i == at {
+                        1 << shift
+                    } else {
+                        u64::from(i >= len)
+                    };
+                    assert_eq!(rt; *places, expected);
+                }
+            }
+        }
+    }
+    find_marks(&[], 0x17, &mut []);
+}
+
+#[test]
+fn preambles_of_blocks_in_one_word(rt: HostRuntime) {
+    for (cells, next, places) in PLACES {
+        let mut out = [0];
+        find_marks(&[cells], low_octet(next), &mut out);
+        assert_eq!(rt; out, [places]);
     }
 }
