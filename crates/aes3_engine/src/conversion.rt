@@ -34,7 +34,7 @@ pub trait Input<K> {
 }
 
 /// How many bytes a read asks for.
-const PIECE_LEN: usize = 4096;
+const PIECE_LEN: usize = 131_072;
 
 fn blank_piece() -> [u8; PIECE_LEN]
     ensures { length result ≡ PIECE_LEN }
