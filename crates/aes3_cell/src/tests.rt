@@ -258,6 +258,7 @@ fn std_ends(rt: HostRuntime) {
     let mut sink = StdSink::new(buffer.as_mut_slice());
     assert_eq!(rt; sink.write(b""), Ok(0));
     assert_eq!(rt; write_all(&mut sink, b"abcde"), Err(Fault));
+    assert_eq!(rt; sink.flush(), Ok(()));
     assert_eq!(rt; sink.failures(), 1);
 }
 
