@@ -23,11 +23,11 @@ use refusal::put_refusal;
 use run::{REFUSED, USAGE, run_words};
 use std::alloc::AllocError;
 use std::env;
-use std::io::{self, BufReader, BufWriter, Write};
+use std::io::{self, BufWriter, Write};
 use std::process::ExitCode;
 
 /// How many bytes are read from standard input and written to standard output at once.
-const BUFFER_LEN: usize = 65_536;
+const BUFFER_LEN: usize = 131_072;
 
 fn main(rt: HostRuntime) -> ExitCode {
     let mut errors = StdSink::new(rt.stderr());
@@ -55,9 +55,7 @@ fn run_program<E: Sink>(rt: &HostRuntime, errors: &mut E) -> Result<u8, RunError
         .map(|word| word.as_str())
         .collect(rt.alloc())
         .map_err(no_memory)?;
-    let input = BufReader::with_capacity(rt.alloc(), BUFFER_LEN, rt.stdin().lock()).map_err(
-        |_| RunError::Memory,
-    )?;
+    let input = rt.stdin().lock();
     let mut output = BufWriter::with_capacity(rt.alloc(), BUFFER_LEN, rt.stdout().lock()).map_err(
         |_| RunError::Memory,
     )?;

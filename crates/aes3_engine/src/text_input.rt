@@ -162,15 +162,13 @@ impl<K: Taker> Input<K> for TextInput {
 
     ghost finished = { λ input taker. TextTaken input.text input.cells (K.finished taker) };
 
-    fn feed<T: Sink>(&mut self, taker: &mut K, sink: &mut T, piece: &[u8]) -> Result<(), RunError> {
-        let mut at = 0;
-        while at < piece.len() {
-            match take_front(self, taker, sink, &piece[at..]) {
-                Ok(taken) => at += taken,
-                Err(error) => return Err(error),
-            }
-        }
-        Ok(())
+    fn take_front<T: Sink>(
+        &mut self,
+        taker: &mut K,
+        sink: &mut T,
+        piece: &[u8],
+    ) -> Result<usize, RunError> {
+        take_front(self, taker, sink, piece)
     }
 
     fn finish<T: Sink>(&mut self, taker: &mut K, sink: &mut T) -> Result<(), RunError> {

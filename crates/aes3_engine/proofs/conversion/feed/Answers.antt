@@ -1,8 +1,7 @@
 use Rattle.std.proofs.Common.{◌≡◌, ◌+◌, ◌-◌, ◌^◌, ◌≤◌, ◌++◌, [], length, take, drop, arith, ap, ◌∙◌, refl, append-nil, length-append, length-drop}
 use Rattle.std.proofs.lemmas.List.{length-take-le, take-append-drop, take_rest}
-use Rattle.aes3_engine.specs.Encoding.{encoding, Encodes}
 use Rattle.aes3_engine.proofs.Feeding.{fed-none, fed-front, ran-join}
-use Rattle.aes3_engine.proofs.encoding.BlockFileInputEncoder.feed.Goals as goal
+use Rattle.aes3_engine.proofs.conversion.feed.Goals as goal
 
 pub loop-at-init : goal.loop-at-init
 loop-at-init g c = record { within = omega arith; fed = fed-none _ _ _; quiet = refl }
@@ -36,6 +35,6 @@ returns-in-Err g c =
     let xs = c.args.piece.now in
     let at = c.loop-at.at in
     let rest = take (length xs - at) (drop at xs) in
-    ran-join (encoding c.take_front.new.encoder.output) (Encodes c.take_front.new.file c.take_front.new.encoder.blocks)
+    ran-join (g.I.Input.reads c.take_front.new.self c.take_front.new.taker) (g.I.Input.follows c.take_front.new.self c.take_front.new.taker)
     (g.T.Sink.taken c.take_front.new.sink) (g.T.Sink.failed c.take_front.new.sink)
     rest [] xs c.in-Err.error c.loop-at.invariant.fed c.loop-at.invariant.quiet (ap (λ v. take at xs ++ v) (append-nil rest ∙ take_rest xs at) ∙ take-append-drop at xs) c.in-Err.ensures
