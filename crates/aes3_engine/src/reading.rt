@@ -8,7 +8,9 @@ ghost use Rattle.aes3_cell.specs.declared.level.Level.{Level};
 ghost use Rattle.aes3_block.specs.Blocks.{IsBlock};
 ghost use Rattle.aes3_block.specs.Files.{file};
 ghost use Rattle.aes3_lock.specs.Reports.{blocks, normal};
-ghost use Rattle.aes3_lock.specs.Pieces.{IsPiece, whole_blocks};
+ghost use Rattle.aes3_lock.specs.Damage.{apart, without};
+ghost use Rattle.aes3_lock.specs.Remains.{after_changes, after_loss};
+ghost use Rattle.aes3_lock.specs.Pieces.{IsPiece, given_blocks, whole_blocks};
 ghost use Rattle.aes3_engine.specs.BlockRuns.{begun_stream, cut_block, cut_blocks, decided_blocks, file_block, normal_block, written_stream};
 ghost use Rattle.aes3_engine.specs.Driving.{WholeInput};
 ghost use Rattle.aes3_engine.specs.Inputs.{IsInput, cells_before, cells_of};
@@ -107,6 +109,14 @@ pub fn normalise<S: Source, T: Sink>(
     // From any starting cell of a lawful stream these are its whole blocks that begin there or later.
     ensures piece { IfOk result (λ _. (s : Level) (bs : List (List (List Bool))) (i j : ℕ) (b : List ℕ) → Told (S.given source.old) (S.given source.new) b
         → IsPiece s bs i j (cells_of input b) → Grew (T.taken sink.old) (T.taken sink.new) (written_stream output (whole_blocks bs i j))) }
+    // With up to three cells of the piece changed they are those blocks, each as the changed cells in it and directly behind it
+    // leave it; with one cell lost all but the one that held it.
+    ensures damaged { IfOk result (λ _. (s : Level) (bs : List (List (List Bool))) (i j : ℕ) (c : List Level) (b : List ℕ) → Told (S.given source.old) (S.given source.new) b
+        → IsPiece s bs i j c → length (cells_of input b) ≡ length c → apart c (cells_of input b) ≤ 3
+        → Grew (T.taken sink.old) (T.taken sink.new) (written_stream output (given_blocks (after_changes i c (cells_of input b)) bs i j))) }
+    ensures lost { IfOk result (λ _. (s : Level) (bs : List (List (List Bool))) (i j : ℕ) (c : List Level) (b : List ℕ) → Told (S.given source.old) (S.given source.new) b
+        → IsPiece s bs i j c → (k : ℕ) → k < length c → cells_of input b ≡ without k c
+        → Grew (T.taken sink.old) (T.taken sink.new) (written_stream output (given_blocks (after_loss (i + k)) bs i j))) }
     // Two inputs carry equal block lists exactly if their outputs are equal, and the normal form of an output is that output.
     ensures tells { (c d : List Level) → written output (normal c) ≡ written output (normal d) ↔ blocks c ≡ blocks d }
     ensures again { IfOk result (λ _. (c : List Level) → Told (S.given source.old) (S.given source.new) (written input (normal c))

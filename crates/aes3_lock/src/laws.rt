@@ -1,6 +1,13 @@
 //! Laws over the definitions alone: what reports, blocks and preambles are, whatever the cells.
 ghost use Rattle.aes3_lock.specs.Laws.{CandidateWhereZStands, WholeWhereBlockStands, BlockTellsLevel, MarkedWhereSubframesStand, ViableIfEachKeeps, ViableIfFrontIsAll, FaultWhereViableEnds, FaultWhereUnclosed, FaultWithinBlock, UnfinishedWhereViable, DecidedAreFiltered, DecidedStand, ZStandsOnce, BlocksNeverOverlap, BlocksAreAllStanding, MarksAreAllStanding, MarksAreTrue, BlocksAreWhole, StreamGivesBlocks, StreamsDiffer, NormalIsFixed, NormalTellsBlocks};
 
+mod damage;
+
+pub use damage::{
+    blocks_are_far_apart, blocks_stand_by_their_cells, few_changes_make_no_block, one_changed_cell,
+    one_lost_cell, two_changed_cells,
+};
+
 /// A candidate begins exactly where preamble Z stands, in either polarity.
 pub fn candidate_where_z_stands()
     ensures { CandidateWhereZStands }

@@ -1,7 +1,7 @@
 use Rattle.aes3_cell.specs.Written.{written}
 use Rattle.aes3_lock.specs.Reports.{normal}
 use Rattle.aes3_engine.specs.BlockRuns.{begun_stream, decided_blocks}
-use Rattle.aes3_engine.proofs.BlockRuns.{normal-whole, normal-begun, run-piece, tells, run-again}
+use Rattle.aes3_engine.proofs.BlockRuns.{normal-whole, normal-begun, run-piece, run-damaged, run-lost, tells, run-again}
 use Rattle.aes3_engine.proofs.CellRuns.{run-wrote, run-input, run-counts, run-owed, run-cause, run-refused, run-front, run-few}
 use Rattle.aes3_engine.proofs.reading.normalise.Goals as goal
 
@@ -10,6 +10,12 @@ returns-clause-normal g c = run-wrote c.run_blocks.result (λ d. written c.args.
 
 pub returns-clause-piece : goal.returns-clause-piece
 returns-clause-piece g c = run-piece c.args.output c.run_blocks.result c.run_blocks.ensures
+
+pub returns-clause-damaged : goal.returns-clause-damaged
+returns-clause-damaged g c = run-damaged c.args.output c.run_blocks.result c.run_blocks.ensures
+
+pub returns-clause-lost : goal.returns-clause-lost
+returns-clause-lost g c = run-lost c.args.output c.run_blocks.result c.run_blocks.ensures
 
 pub returns-clause-tells : goal.returns-clause-tells
 returns-clause-tells g c = tells c.args.output

@@ -1,0 +1,51 @@
+-- What is given of a block whose cells change or are lost, by its place, and which reports cover a change.
+use Rattle.std.specs.Prelude.{ℕ, suc, List, [], ◌∷◌, Bool, true, false, ◌+◌, ◌-◌, ◌==◌, ◌&&◌, ◌||◌, nat_lt, nat_le, take, drop, if◌then◌else◌}
+use Rattle.aes3_cell.specs.declared.level.Level.{Level}
+use Rattle.aes3_block.specs.Blocks.{block_len}
+use Rattle.aes3_lock.specs.declared.report.Report.{Report}
+use Rattle.aes3_lock.specs.declared.report.Report.TheVariants.{Whole, Marked, Fault, Unfinished}
+use Rattle.aes3_lock.specs.Damage.{places_apart, between_slots, exchanged}
+
+-- whether cell k is one of the cells of a block that begins at cell p, or else the one directly behind them
+abbrev pub holds : ℕ → ℕ → Bool
+holds k p = nat_le p k && nat_lt k (p + block_len)
+
+abbrev pub reaches : ℕ → ℕ → Bool
+reaches k p = nat_le p k && nat_le k (p + block_len)
+
+-- what is given of a block that begins at cell p: after cell k changed, after cells k and l changed, after cell k was lost
+abbrev pub after_change : ℕ → ℕ → List (List Bool) → List (List (List Bool))
+after_change k p b = if reaches k p then [] else b ∷ []
+
+abbrev pub after_two_changes : ℕ → ℕ → ℕ → List (List Bool) → List (List (List Bool))
+after_two_changes k l p b =
+    if holds k p && (l == suc k && between_slots (k - p)) then exchanged (k - p) b ∷ []
+    else (if reaches k p || reaches l p then [] else b ∷ [])
+
+abbrev pub after_loss : ℕ → ℕ → List (List Bool) → List (List (List Bool))
+after_loss k p b = if holds k p then [] else b ∷ []
+
+-- what is given of a block of which these cells changed, or the cell behind its last
+abbrev pub left_of : List ℕ → List (List Bool) → List (List (List Bool))
+left_of [] b = b ∷ []
+left_of (x ∷ []) b = []
+left_of (x ∷ y ∷ []) b = if y == suc x && between_slots x then exchanged x b ∷ [] else []
+left_of (x ∷ y ∷ z ∷ more) b = []
+
+-- of a block that begins at cell p, where the piece from cell i on was c and is d
+abbrev pub after_changes : ℕ → List Level → List Level → ℕ → List (List Bool) → List (List (List Bool))
+after_changes i c d p b = left_of (places_apart 0 (take (suc block_len) (drop (p - i) c)) (take (suc block_len) (drop (p - i) d))) b
+
+-- the place of a report
+abbrev pub place_of : Report → ℕ
+place_of (Whole at s b) = at
+place_of (Marked at s wrong) = at
+place_of (Fault at cell why) = at
+place_of (Unfinished at cells) = at
+
+-- whether a report tells of a change in cell k: it isn't whole, and a fault's cell is none before that one
+abbrev pub covers : ℕ → Report → Bool
+covers k (Whole at s b) = false
+covers k (Marked at s wrong) = true
+covers k (Fault at cell why) = nat_le k cell
+covers k (Unfinished at cells) = false
