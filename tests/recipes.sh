@@ -1,0 +1,192 @@
+# shellcheck shell=sh disable=SC2154 # `work` is the folder of the script that reads this
+# Recipes for the inputs and the expected output of rows: each writes bytes to standard output. They use the line code alone
+# and plain tools, never the program. `zero` is the text of the zero block: 384 lines of 64 cells.
+
+# 28 slots of bit 0, behind a preamble that ends at the level before it.
+slots=11001100110011001100110011001100110011001100110011001100
+
+# The line of a subframe of the zero block, by its number.
+zero_line() {
+    case $(($1 % 384)) in
+    0) echo "11101000$slots" ;;
+    *[13579]) echo "11100100$slots" ;;
+    *) echo "11100010$slots" ;;
+    esac
+}
+
+make_zero() {
+    echo "11101000$slots"
+    subframe=1
+    while [ $subframe -lt 383 ]; do
+        printf '%s\n' "11100100$slots" "11100010$slots"
+        subframe=$((subframe + 2))
+    done
+    echo "11100100$slots"
+}
+
+# A file so many times.
+repeated() {
+    left=$1
+    while [ "$left" -gt 0 ]; do
+        cat "$2"
+        left=$((left - 1))
+    done
+}
+
+# Ten cells, so many times, in which a preamble of a block begins at every fifth.
+dense() {
+    left=$1
+    while [ "$left" -gt 0 ]; do
+        printf 1110100010
+        left=$((left - 1))
+    done
+}
+
+# So many zero blocks as text.
+blocks() { repeated "$1" "$work/zero"; }
+
+# So many zero bytes: words of a block file whose payload is 0.
+zeros() { head -c "$1" /dev/zero; }
+
+# The bytes that the words name in hexadecimal digits.
+octets() {
+    for octet; do
+        # shellcheck disable=SC2059 # the format is the octet
+        printf "\\$(printf %03o "0x$octet")"
+    done
+}
+
+# So many zero blocks packed, without the last octet.
+packed_blocks() { repeated "$1" "$work/packed"; }
+
+make_packed() {
+    octets E8 CC CC CC CC CC CC CC
+    subframe=1
+    while [ $subframe -lt 383 ]; do
+        printf '\344\314\314\314\314\314\314\314\342\314\314\314\314\314\314\314'
+        subframe=$((subframe + 2))
+    done
+    octets E4 CC CC CC CC CC CC CC
+}
+
+# Filters of text: its cells alone; with 0 and 1 exchanged; cells that follow on; the first so many cells; lines so many
+# cells long.
+cells() { tr -d '\n'; }
+exchanged() { tr 01 10; }
+without_first() { tail -c +$(($1 + 1)); }
+first() { head -c "$1"; }
+spaced() { sed "s/......../& /g; s/\$/$(printf '\r')/"; }
+
+# Filters of cells in a file: the cells at these places exchanged, or left out.
+with_exchanged() {
+    cat >"$work/cells"
+    for place; do
+        {
+            head -c "$place" "$work/cells"
+            tail -c +$((place + 1)) "$work/cells" | head -c 1 | tr 01 10
+            tail -c +$((place + 2)) "$work/cells"
+        } >"$work/cells.new"
+        mv "$work/cells.new" "$work/cells"
+    done
+    cat "$work/cells"
+}
+
+# Filters of text: lines with these numbers, from 1, end in other cells.
+ending() {
+    cells=$1
+    shift
+    script=
+    for number; do
+        script="$script${number}s/.\\{${#cells}\\}\$/$cells/;"
+    done
+    sed "$script"
+}
+
+# The first line of the text is another.
+first_line() {
+    echo "$1"
+    tail -n +2
+}
+
+# The last line of the text is another.
+last_line() {
+    sed '$d'
+    echo "$1"
+}
+
+# The zero block with the channel status of 48 hexadecimal digits in channel 1 or 2: a set bit turns the level within slot
+# 30, and parity with it.
+with_status() {
+    status=$2
+    frame=0
+    set_lines=
+    while [ -n "$status" ]; do
+        rest=${status#??}
+        byte=$((0x${status%"$rest"}))
+        status=$rest
+        for bit in 0 1 2 3 4 5 6 7; do
+            [ $((byte >> bit & 1)) = 0 ] || set_lines="$set_lines $((2 * frame + $1))"
+            frame=$((frame + 1))
+        done
+    done
+    # shellcheck disable=SC2086
+    ending 1010 $set_lines
+}
+
+# A block file with the channel status of 48 hexadecimal digits in channel 1, all else zero.
+status_file() {
+    status=$1
+    while [ -n "$status" ]; do
+        rest=${status#??}
+        byte=$((0x${status%"$rest"}))
+        status=$rest
+        for bit in 0 1 2 3 4 5 6 7; do
+            [ $((byte >> bit & 1)) = 0 ] && printf '\0\0\0\0\0\0\0\0' || printf '\0\0\0\300\0\0\0\0'
+        done
+    done
+}
+
+# Lines of text, one an argument.
+say() { [ $# = 0 ] || printf '%s\n' "$@"; }
+
+# The marks of so many zero blocks of which the first cells are missing, after this level.
+marks() {
+    awk -v missing="$1" -v blocks="$2" -v level="$3" 'BEGIN {
+        for (i = 0; i < 384 * blocks; i++)
+            if (64 * i >= missing)
+                printf "mark %s at %d before %s\n", i % 384 == 0 ? "Z" : i % 2 ? "Y" : "X", 64 * i - missing, level
+    }'
+}
+
+# The status lines of a block: its number, the channel, and the fields.
+professional="professional payload=pcm emphasis=not-indicated unlocked=no rate=not-indicated mode=not-indicated"
+professional="$professional user=not-indicated aux=undefined word=not-indicated b2high=0 b3=0 b4=0 b5=0 origin=...."
+professional="$professional destination=.... local=0 time=0 unreliable=0000 b22low=0 check=good"
+consumer="consumer payload=pcm copyright=asserted emphasis=none mode=0 category=general generation=0"
+consumer="$consumer source=not-specified number=not-specified rate=44100 accuracy=level2 b3high=0 greatest=20"
+consumer="$consumer word=not-indicated original=0 rest=00000000000000000000000000000000000000"
+
+# The status line of a block and a channel whose fields are those given, with some of them replaced.
+status_line() {
+    line="block=$1 channel=$2 $3"
+    shift 3
+    for field; do
+        line=$(printf '%s' "$line" | sed "s|${field%%=*}=[^ ]*|$field|")
+    done
+    printf '%s\n' "$line"
+}
+
+# The lines of so many whole blocks one behind the other: the place of the first, how many, and the level before.
+speech_blocks() {
+    awk -v at="$1" -v blocks="$2" -v level="$3" 'BEGIN {
+        for (i = 0; i < blocks; i++) printf "whole at %d before %s\n", at + 24576 * i, level
+    }'
+}
+
+# What is shown of so many blocks of the speech: consumer use, no copyright asserted, 48 kHz, 24 bits, on both channels.
+speech_status() {
+    fields=$(status_line 0 1 "$consumer" copyright=not-asserted rate=48000 greatest=24 word=24)
+    awk -v fields="${fields#block=0 channel=1}" -v blocks="$1" 'BEGIN {
+        for (i = 0; i < blocks; i++) printf "block=%d channel=1%s\nblock=%d channel=2%s\n", i, fields, i, fields
+    }'
+}
