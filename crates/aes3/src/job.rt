@@ -64,7 +64,7 @@ pub enum Job {
 pub enum LineFault {
     /// The words are no command line of the program; the text says why.
     Usage { text: String },
-    /// The words ask for help; the text is the help.
+    /// The words ask for help or the version, which the text is.
     Help { text: String },
     /// A status text that is none, or want of memory.
     Refused(RunError),
@@ -108,7 +108,7 @@ fn fault_of(alloc: Global, error: &Error) -> LineFault
     };
     match error.kind() {
         ErrorKind::OutOfMemory => LineFault::Refused(RunError::Memory),
-        ErrorKind::DisplayHelp => LineFault::Help { text },
+        ErrorKind::DisplayHelp | ErrorKind::DisplayVersion => LineFault::Help { text },
         _ => LineFault::Usage { text },
     }
 }

@@ -6,6 +6,7 @@ ghost use Rattle.std.specs.Prelude.{◌+◌, ◌<◌, ◌≤◌, ◌^◌, ◌≡
 #[cfg(test)]
 mod cell_tests;
 mod definitions;
+mod help;
 mod job;
 mod job_run;
 #[cfg(test)]
