@@ -58,7 +58,7 @@ judge() {
     if [ $got != "$status" ]; then
         fail "status $got, not $status: $(head -n 1 "$work/err")"
     elif ! is_written; then
-        fail "output: $(head -n 1 "$work/out" | head -c 200), not $(head -n 1 "$work/want" | head -c 200)"
+        fail "the output is not right: $(cmp "$work/out" "$work/want" 2>&1 | sed 's/.*: //')"
     elif ! is_told; then
         fail "standard error: $(head -n 1 "$work/err")"
     elif [ -n "$unread" ] && ! cmp -s "$work/rest" "$work/in"; then
