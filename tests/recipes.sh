@@ -190,3 +190,45 @@ speech_status() {
         for (i = 0; i < blocks; i++) printf "block=%d channel=1%s\nblock=%d channel=2%s\n", i, fields, i, fields
     }'
 }
+
+# 48 hexadecimal digits of zeros but for bytes given as `number:digits`.
+status_of() {
+    number=0
+    while [ $number -lt 24 ]; do
+        byte=00
+        for given; do
+            [ "${given%:*}" != $number ] || byte=${given#*:}
+        done
+        printf %s "$byte"
+        number=$((number + 1))
+    done
+}
+
+# Zero blocks, one for each value of a byte of channel 1's status, whose first byte is given too where it is another.
+blocks_with_byte() {
+    first_byte=$1
+    number=$2
+    shift 2
+    for value; do
+        blocks 1 | with_status 1 "$(status_of "0:$first_byte" "$number:$value")"
+    done
+}
+
+# What is shown of these blocks: the fields of the first status, a field, and its word in each block.
+shown() {
+    base=$1
+    changed=$2
+    shift 2
+    block=0
+    for word; do
+        status_line $block 1 "$base" "$changed=$word"
+        status_line $block 2 "$consumer"
+        block=$((block + 1))
+    done
+}
+
+# A status line's fields with some of them replaced.
+fields() {
+    line=$(status_line 0 1 "$@")
+    printf %s "${line#block=0 channel=1 }"
+}

@@ -6,6 +6,8 @@
 # A row is a name, then indented lines, and ends at an empty line:
 #
 #   in RECIPE       the input
+#   from FILE       this file as input
+#   to FILE         this file as output, of which nothing is compared
 #   run WORDS       the words of a command line, as the shell reads them
 #   out RECIPE      the output; `any` where it must only not be empty. With no such line: nothing
 #   err TEXT        the line on standard error behind `aes3: `; `any` where it must not be empty nor a refusal. Else: nothing
@@ -49,14 +51,14 @@ judge() {
     is_run=
     eval "set -- $words"
     {
-        "$program" "$@"
+        "$program" "$@" >"$to"
         got=$?
-        cat >"$work/rest"
-    } <"$work/in" >"$work/out" 2>"$work/err"
+        [ -z "$unread" ] || cat >"$work/rest"
+    } <"$from" 2>"$work/err"
     if [ $got != "$status" ]; then
         fail "status $got, not $status: $(head -n 1 "$work/err")"
     elif ! is_written; then
-        fail "output: $(head -n 1 "$work/out" | head -c 200), not $(head -n 1 "$work/want" | head -c 200)"
+        fail "the output is not right: $(cmp "$work/out" "$work/want" 2>&1 | sed 's/.*: //')"
     elif ! is_told; then
         fail "standard error: $(head -n 1 "$work/err")"
     elif [ -n "$unread" ] && ! cmp -s "$work/rest" "$work/in"; then
@@ -67,6 +69,7 @@ judge() {
 }
 
 is_written() {
+    [ "$to" = "$work/out" ] || return 0
     case $out in
     any) [ -s "$work/out" ] ;;
     sum\ *) [ "$(cksum <"$work/out")" = "${out#sum }" ] ;;
@@ -95,7 +98,12 @@ read_row() {
     value=${1#"$key"}
     value=${value#"${value%%[! ]*}"}
     case $key in
-    in) (eval "$value") >"$work/in" </dev/null ;;
+    in)
+        (eval "$value") >"$work/in" </dev/null
+        from=$work/in
+        ;;
+    from) from=$value ;;
+    to) to=$value ;;
     run) begin_run "$value" ;;
     out) out=$value ;;
     err) err=$value ;;
@@ -118,7 +126,7 @@ run_file() {
         ' '*) read_row "${line#"${line%%[! ]*}"}" ;;
         *)
             judge
-            name=$line
+            name=$line from=/dev/null to=$work/out
             ;;
         esac
     done 3<"$1"
