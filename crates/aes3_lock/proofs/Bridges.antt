@@ -22,7 +22,7 @@ use Rattle.aes3_lock.proofs.AllStanding.{closed-room}
 use Rattle.aes3_lock.proofs.Apart.{apart-self}
 use Rattle.aes3_lock.proofs.Damaged.{piece-cell, no-other, own-stays}
 use Rattle.aes3_lock.proofs.Deciding.{block_len_24576}
-use Rattle.aes3_lock.proofs.Distances.{block-kept, block-level, mark-first, mark-second}
+use Rattle.aes3_lock.proofs.Distances.{block-level, block-mark, mark-first, mark-second}
 use Rattle.aes3_lock.proofs.Damaged.{line-cell}
 use Rattle.aes3_lock.proofs.Given.{gather-given, gather-same}
 use Rattle.aes3_lock.proofs.LawfulPieces.{stream_marks, stream-kept, stream-length, stream-level, stream-aligned}
@@ -51,11 +51,7 @@ module _ (s : Level) (bs : List (List (List Bool))) (h : EachBlock bs) where
       (early : (x : ℕ) → x < m → at (block_cells t d) x ≡ at (stream s bs) (p + x))
       (late : (x : ℕ) → m ≤ x → x < 24576 → at (block_cells t d) x ≡ at (stream s bs) (suc p + x)) where
     own-mark : (j k : ℕ) → j < 384 → k < 8 → at (block_cells t d) (64 * j + k) ≡ shape (mark_at j) k t
-    unfolding block_slots
-    own-mark j k l o =
-        let n = length-block_cells t d g in
-        let b = block_len_24576 in
-        own-cell mark_at t (block_cells t d) (block-kept t d g) j k (omega arith) o ∙ ap (shape (mark_at j) k) (block-level t d g j (omega arith))
+    own-mark j k l o = block-mark t d g j k l o
 
     -- a preamble before the lost cell, and one behind it, stand in the stream
     before-it : (j : ℕ) → j < 384 → 64 * j + 8 ≤ m → ((p + 64 * j) % 64 ≡ 0) × (t ≡ s)

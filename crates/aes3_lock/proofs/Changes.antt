@@ -18,7 +18,7 @@ use Rattle.aes3_lock.proofs.Apart.{length-changed, at-changed, at-others, other-
 use Rattle.aes3_lock.proofs.Damaged.{blocks-places, short-none, no-other, own-near, own-cell-at, own-closing, own-stands, own-stays}
 use Rattle.aes3_lock.proofs.Deciding.{block_len_24576}
 use Rattle.aes3_lock.proofs.OtherLevel.{other-level}
-use Rattle.aes3_lock.proofs.EvenApart.{even-apart}
+use Rattle.aes3_lock.proofs.Balance.{even-apart}
 use Rattle.aes3_lock.proofs.Exchanged.{Between, between-true, true-between, exchanged-block, exchanged-cells}
 use Rattle.aes3_lock.proofs.Damaged.{line-cell}
 use Rattle.aes3_lock.proofs.Given.{gather-given}
@@ -328,7 +328,7 @@ module _ (s : Level) (bs : List (List (List Bool))) (h : EachBlock bs) (i j : �
 
             two : apart (block_cells s b) (block_cells s f) ≤ 2
             two =
-                let a = even-apart s b f g.0 z.block in
+                let a = even-apart s s b f g.0 z.block in
                 let c = close in
                 let d = ap (λ t. apart (block_cells s b) (block_cells t f)) u in
                 omega arith

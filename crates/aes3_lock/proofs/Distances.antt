@@ -34,6 +34,14 @@ pub block_slots_384 : block_slots ≡ 384
 unfolding block_slots
 block_slots_384 = refl
 
+-- the preambles of a block
+pub block-mark : (t : Level) (d : List (List Bool)) → IsBlock d → (j k : ℕ) → j < 384 → k < 8 → at (block_cells t d) (64 * j + k) ≡ shape (mark_at j) k t
+block-mark t d g j k l o =
+    let n = length-block_cells t d g in
+    let b = block_len_24576 in
+    let i = block_slots_384 in
+    own-cell mark_at t (block_cells t d) (block-kept t d g) j k (omega arith) o ∙ ap (shape (mark_at j) k) (block-level t d g j (omega arith))
+
 -- the cells of 64
 pub part-cell : (j k : ℕ) (c : List Level) → k < 64 → at (take 64 (drop (64 * j) c)) k ≡ at c (64 * j + k)
 part-cell j k c l = get_or-take 64 (drop (64 * j) c) k Low l ∙ get_or-drop (64 * j) c k Low

@@ -42,7 +42,8 @@ pub mod Bridges
 pub mod Lost
 pub mod ChangeReports
 pub mod DamageLaws
-pub mod EvenApart
+pub mod Balance
 pub mod Changes
 pub mod TwoChanges
 pub mod Slips
+pub mod Inserted

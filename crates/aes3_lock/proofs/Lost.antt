@@ -60,7 +60,7 @@ drop-without (suc k) (y ∷ c) (suc q) h = drop-without k c q (omega arith)
 apart-nothing : (c d : List Level) (n : ℕ) → c ≡ d → suc n ≤ apart c d → ⊥
 apart-nothing c d n e h = let a = ap (λ x. apart c x) (sym e) in let b = apart-self c in omega arith
 
-far : (s : Level) (bs : List (List (List Bool))) → EachBlock bs → (p : ℕ) → p + block_len ≤ length (stream s bs) → 0 < p % 24576
+pub far : (s : Level) (bs : List (List (List Bool))) → EachBlock bs → (p : ℕ) → p + block_len ≤ length (stream s bs) → 0 < p % 24576
     → (d : List (List Bool)) (t : Level) → IsBlock d → take block_len (drop p (stream s bs)) ≡ block_cells t d → ⊥
 far s bs h p r o d t g e = go (cases_eq (p % 64) 0)
   where

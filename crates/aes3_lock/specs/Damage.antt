@@ -1,6 +1,7 @@
--- Changed and lost cells, and the block that two changed cells between two slots make of another.
+-- Changed, lost and inserted cells, and the block that two changed cells between two slots make of another.
 use Rattle.std.specs.Prelude.{ℕ, zero, suc, List, [], ◌∷◌, Bool, not, ◌-◌, ◌/◌, ◌%◌, ◌==◌, ◌&&◌, nat_le, if◌then◌else◌}
 use Rattle.aes3_cell.specs.declared.level.Level.{Level}
+use Rattle.aes3_cell.specs.declared.level.Level.TheVariants.{Low, High}
 use Rattle.aes3_cell.specs.Cells.{other}
 use Rattle.aes3_slot.specs.Reading.{differs}
 
@@ -16,6 +17,12 @@ without k [] = []
 without zero (x ∷ c) = c
 without (suc k) (x ∷ c) = x ∷ without k c
 
+-- cells with x put in before cell k
+abbrev pub inserted : ℕ → Level → List Level → List Level
+inserted zero x c = x ∷ c
+inserted (suc k) x [] = x ∷ []
+inserted (suc k) x (y ∷ c) = y ∷ inserted k x c
+
 -- at how many places two lists of cells differ
 abbrev pub apart : List Level → List Level → ℕ
 apart [] d = 0
@@ -27,6 +34,12 @@ abbrev pub places_apart : ℕ → List Level → List Level → List ℕ
 places_apart n [] d = []
 places_apart n (x ∷ c) [] = []
 places_apart n (x ∷ c) (y ∷ d) = if differs x y then n ∷ places_apart (suc n) c d else places_apart (suc n) c d
+
+-- how many cells are high
+abbrev pub high_count : List Level → ℕ
+high_count [] = 0
+high_count (Low ∷ c) = high_count c
+high_count (High ∷ c) = suc (high_count c)
 
 -- whether cell x of a block is the second of a slot behind which another slot of its subframe follows
 abbrev pub between_slots : ℕ → Bool

@@ -1,11 +1,11 @@
--- Laws over the definitions: what stays of a piece of a lawful stream of which cells change or are lost.
+-- Laws over the definitions: what stays of a piece of a lawful stream of which cells change, are lost or put in.
 use Rattle.std.specs.Prelude.{ℕ, List, Bool, true, length, ◌≡◌, ◌≢◌, ◌<◌, ◌≤◌, ◌+◌, ◌-◌, ◌%◌, take, drop}
-use Rattle.std.specs.List.{Contains}
+use Rattle.std.specs.List.{All, Contains}
 use Rattle.aes3_cell.specs.declared.level.Level.{Level}
-use Rattle.aes3_block.specs.Blocks.{block_len, block_cells, IsBlock}
+use Rattle.aes3_block.specs.Blocks.{block_len, block_cells, stream, IsBlock}
 use Rattle.aes3_lock.specs.declared.report.Report.{Report}
-use Rattle.aes3_lock.specs.Damage.{changed, without, apart}
-use Rattle.aes3_lock.specs.Remains.{after_change, after_two_changes, after_loss, after_changes, place_of, covers}
+use Rattle.aes3_lock.specs.Damage.{changed, without, inserted, apart}
+use Rattle.aes3_lock.specs.Remains.{after_change, after_two_changes, after_loss, after_insertion, after_changes, place_of, covers}
 use Rattle.aes3_lock.specs.Pieces.{IsPiece, given_blocks}
 use Rattle.aes3_lock.specs.Reports.{reports, blocks}
 use Rattle.aes3_lock.specs.Standing.{StandsClosed}
@@ -46,6 +46,13 @@ abbrev pub LossLeavesTheOthers : Type 0
 LossLeavesTheOthers =
     (s : Level) (bs : List (List (List Bool))) (i j : ℕ) (c : List Level) → IsPiece s bs i j c → (k : ℕ) → k < length c
     → blocks (without k c) ≡ given_blocks (after_loss (i + k)) bs i j
+
+-- of a stream that isn't cut and has one cell put in, all blocks are given but one whose cells it stands between or that it doesn't
+-- close; between the cells of the first run of a preamble it stands before the block
+abbrev pub InsertionLeavesTheOthers : Type 0
+InsertionLeavesTheOthers =
+    (s : Level) (bs : List (List (List Bool))) → All IsBlock bs → (k : ℕ) (x : Level) → k ≤ length (stream s bs)
+    → blocks (inserted k x (stream s bs)) ≡ given_blocks (after_insertion s k x) bs 0 (length (stream s bs))
 
 -- where the first m cells of a block, 8 or more and not those of its last subframe, are those of a piece from place p on, and the
 -- others those from place q on, the places are whole subframes apart: no slip by lost or by inserted cells is bridged

@@ -1,9 +1,11 @@
 -- Laws over the definitions: how far the cells of blocks and of lawful streams are apart.
 use Rattle.std.specs.Prelude.{ℕ, suc, List, Bool, true, length, ◌≡◌, ◌≢◌, ◌<◌, ◌≤◌, ◌+◌, ◌%◌, take, drop}
 use Rattle.aes3_cell.specs.declared.level.Level.{Level}
-use Rattle.aes3_cell.specs.Cells.{other}
+use Rattle.aes3_cell.specs.Cells.{line, other}
+use Rattle.aes3_slot.specs.declared.mark.Mark.{Mark}
+use Rattle.aes3_slot.specs.Slots.{subframe_runs, IsPayload}
 use Rattle.aes3_block.specs.Blocks.{block_len, block_cells, IsBlock}
-use Rattle.aes3_lock.specs.Damage.{changed, apart, between_slots, exchanged}
+use Rattle.aes3_lock.specs.Damage.{changed, apart, high_count, between_slots, exchanged}
 use Rattle.aes3_lock.specs.Pieces.{IsPiece}
 use Rattle.aes3_lock.specs.Standing.{StandsClosed}
 
@@ -54,3 +56,13 @@ ExchangedHasTheseCells =
 abbrev pub BlocksStandByTheirCells : Type 0
 BlocksStandByTheirCells =
     (b : List (List Bool)) (s : Level) (c d : List Level) → take (suc block_len) c ≡ take (suc block_len) d → StandsClosed b s c → StandsClosed b s d
+
+-- half of the cells of a subframe are high; so where blocks stand in cells and, at the same place, in changed cells, an even number of
+-- theirs changed: an odd number always takes the block
+abbrev pub SubframesAreBalanced : Type 0
+SubframesAreBalanced = (s : Level) (m : Mark) (p : List Bool) → IsPayload p → high_count (line s (subframe_runs m p)) ≡ 32
+
+abbrev pub OddChangesTakeTheBlock : Type 0
+OddChangesTakeTheBlock =
+    (b d : List (List Bool)) (s t : Level) (c e : List Level) → StandsClosed b s c → StandsClosed d t e
+    → apart (take block_len c) (take block_len e) % 2 ≡ 0

@@ -1,6 +1,7 @@
--- What is given of a block whose cells change or are lost, by its place, and which reports cover a change.
+-- What is given of a block whose cells change, are lost or have one put in between, by its place, and which reports cover a change.
 use Rattle.std.specs.Prelude.{ℕ, suc, List, [], ◌∷◌, Bool, true, false, ◌+◌, ◌-◌, ◌==◌, ◌&&◌, ◌||◌, nat_lt, nat_le, take, drop, if◌then◌else◌}
 use Rattle.aes3_cell.specs.declared.level.Level.{Level}
+use Rattle.aes3_slot.specs.Reading.{differs}
 use Rattle.aes3_block.specs.Blocks.{block_len}
 use Rattle.aes3_lock.specs.declared.report.Report.{Report}
 use Rattle.aes3_lock.specs.declared.report.Report.TheVariants.{Whole, Marked, Fault, Unfinished}
@@ -24,6 +25,12 @@ after_two_changes k l p b =
 
 abbrev pub after_loss : ℕ → ℕ → List (List Bool) → List (List (List Bool))
 after_loss k p b = if holds k p then [] else b ∷ []
+
+-- after cell x was put in before cell k of a stream after level s: the block stays where x stands before it, or behind the cell that
+-- closes it, or closes it, or makes the first run of its preamble, three cells of the level that isn't s, one cell longer
+abbrev pub after_insertion : Level → ℕ → Level → ℕ → List (List Bool) → List (List (List Bool))
+after_insertion s k x p b =
+    if nat_le k p || (nat_lt (p + block_len) k || (differs s x && (nat_le k (p + 3) || k == p + block_len))) then b ∷ [] else []
 
 -- what is given of a block of which these cells changed, or the cell behind its last
 abbrev pub left_of : List ℕ → List (List Bool) → List (List (List Bool))

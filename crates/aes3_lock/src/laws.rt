@@ -5,7 +5,7 @@ mod damage;
 
 pub use damage::{
     blocks_are_far_apart, blocks_stand_by_their_cells, few_changes_make_no_block, one_changed_cell,
-    one_lost_cell, two_changed_cells,
+    one_inserted_cell, one_lost_cell, subframes_are_balanced, two_changed_cells,
 };
 
 /// A candidate begins exactly where preamble Z stands, in either polarity.

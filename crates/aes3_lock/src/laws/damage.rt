@@ -1,7 +1,7 @@
 //! Laws of damage: how far apart the cells of blocks are, and what stays of a lawful stream of which cells change or are
 //! lost.
-ghost use Rattle.aes3_lock.specs.DistanceLaws.{BlocksAreApart, BlocksStandByTheirCells, ExchangedHasTheseCells, FarAfterOtherLevel, FarFromTheOtherLevel, FarWhereNoBlockBegins, FarWhereNoFrameBegins, NearestAreExchanged};
-ghost use Rattle.aes3_lock.specs.DamageLaws.{ChangeEndsCandidate, ChangeIsReported, ChangeLeavesTheOthers, ChangesLeaveTheOthers, ChangesMakeNoBlockElsewhere, FewChangesMakeNoBlock, LossLeavesTheOthers, SlipsAreNotBridged, TwoChangesLeaveTheOthers};
+ghost use Rattle.aes3_lock.specs.DistanceLaws.{BlocksAreApart, BlocksStandByTheirCells, ExchangedHasTheseCells, FarAfterOtherLevel, FarFromTheOtherLevel, FarWhereNoBlockBegins, FarWhereNoFrameBegins, NearestAreExchanged, OddChangesTakeTheBlock, SubframesAreBalanced};
+ghost use Rattle.aes3_lock.specs.DamageLaws.{ChangeEndsCandidate, ChangeIsReported, ChangeLeavesTheOthers, ChangesLeaveTheOthers, ChangesMakeNoBlockElsewhere, FewChangesMakeNoBlock, InsertionLeavesTheOthers, LossLeavesTheOthers, SlipsAreNotBridged, TwoChangesLeaveTheOthers};
 
 /// Where no block of a lawful stream begins its cells differ from those of every block in 4 cells or more, and where no
 /// frame begins, or after the other level, in 384; two blocks after one level differ in 2 cells next to each other between
@@ -14,6 +14,13 @@ pub fn blocks_are_far_apart()
     ensures other_block { BlocksAreApart }
     ensures nearest { NearestAreExchanged }
     ensures exchanged { ExchangedHasTheseCells }
+{}
+
+/// Half of the 64 cells of a subframe are high, so an odd number of changed cells in a block always takes it, wherever they
+/// are and however many.
+pub fn subframes_are_balanced()
+    ensures balanced { SubframesAreBalanced }
+    ensures odd { OddChangesTakeTheBlock }
 {}
 
 /// Where few cells of a piece of a lawful stream change, no block is given at a place where none began, and each block of
@@ -48,4 +55,10 @@ pub fn two_changed_cells()
 pub fn one_lost_cell()
     ensures blocks { LossLeavesTheOthers }
     ensures slips { SlipsAreNotBridged }
+{}
+
+/// One cell put into a lawful stream that isn't cut takes the block between whose cells it stands, or that it doesn't close,
+/// and no other. In the first run of a preamble it only makes the run longer, and takes none.
+pub fn one_inserted_cell()
+    ensures { InsertionLeavesTheOthers }
 {}
