@@ -2,6 +2,8 @@
 #![tactic(auto)]
 
 mod candidate;
+#[cfg(test)]
+mod damage_tests;
 pub mod laws;
 mod lock;
 mod outcome;

@@ -23,7 +23,7 @@ enum Line {
 const LINES: usize = 16;
 
 /// Many more cells than a test has.
-const MANY: u64 = 1 << 40;
+pub(crate) const MANY: u64 = 1 << 40;
 
 /// The bits of slots 4 to 31 of a subframe whose parity bit alone is set, and wrong.
 const ODD: u32 = 1 << 27;
@@ -60,16 +60,20 @@ fn add(cells: &mut Vec<Level>, word: u64, from: u32, to: u32) -> Result<(), Allo
     Ok(())
 }
 
-/// The subframe `line` of the zero block after a level.
-fn zeros(line: usize, before: Level) -> u64 {
-    let mark = if line == 0 {
+/// The preamble of the subframe `line` of a block.
+pub(crate) fn mark_of(line: usize) -> Mark {
+    if line == 0 {
         Mark::Z
     } else if line % 2 == 1 {
         Mark::Y
     } else {
         Mark::X
-    };
-    slots_cells(before, mark, 0)
+    }
+}
+
+/// The subframe `line` of the zero block after a level.
+fn zeros(line: usize, before: Level) -> u64 {
+    slots_cells(before, mark_of(line), 0)
 }
 
 /// Adds the subframes `from` to `to` of the zero block after a level.
@@ -521,7 +525,7 @@ fn nothing_decided_before_the_end(rt: HostRuntime) {
 }
 
 /// The next of a row of numbers (xorshift).
-fn next(number: u64) -> u64 {
+pub(crate) fn next(number: u64) -> u64 {
     let number = number ^ (number << 13);
     let number = number ^ (number >> 7);
     number ^ (number << 17)
