@@ -11,6 +11,7 @@ pub mod Remains
 pub mod Laws
 pub mod DistanceLaws
 pub mod DamageLaws
+pub mod Spacing
 pub use Rattle.aes3_cell.specs.Cells
 pub use Rattle.aes3_slot.specs.Slots
 pub use Rattle.aes3_block.specs.Blocks
