@@ -2,7 +2,7 @@
 
 ghost use Rattle.std.specs.Prelude.{◌<◌};
 
-use crate::run::run_words;
+use crate::run::{Unread, run_words, tell_unread};
 use aes3_block::Subframe;
 use aes3_cell::{Counts, FailingSink, FailingSource, Form, MemorySink, MemorySource, RunError};
 use aes3_engine::{encode, normalise};
@@ -439,4 +439,17 @@ fn reads_and_writes_of_normal_failing_in_turn(rt: HostRuntime) -> Result<(), Fai
         assert!(rt; sink.bytes().len() == (call as usize - 1) * 65);
     }
     Ok(())
+}
+
+#[test]
+fn words_that_cannot_be_read(rt: HostRuntime) {
+    let rows: [(Unread, u8, &[u8]); 2] = [
+        (Unread::NotUtf8, 2, b"aes3: the words are not UTF-8\n"),
+        (Unread::Memory, 3, b"aes3: refused 8\n"),
+    ];
+    for (fault, status, line) in rows {
+        let mut lines = MemorySink::new(rt.alloc());
+        assert_eq!(&rt; tell_unread(fault, &mut lines), status);
+        assert!(&rt; lines.bytes() == line);
+    }
 }
