@@ -358,6 +358,16 @@ fn fourteen_reports_within_64_cells(rt: HostRuntime) {
     assert_eq!(rt; decided_count(cells.get(..64).unwrap_or(&[])), 0);
 }
 
+/// Run with each allocation refused in turn, this shows that the slow form answers its error or the same reports.
+#[test]
+fn refused_memory_is_told(rt: HostRuntime) {
+    if let Ok(cells) = dense_word(rt.alloc())
+        && let Ok(lines) = by_places(rt.alloc(), &cells)
+    {
+        assert!(rt; lines == by_lock(&cells));
+    }
+}
+
 #[test]
 fn no_candidates(rt: HostRuntime) {
     for word in [0, u64::MAX, 0x5555_5555_5555_5555] {
@@ -452,7 +462,6 @@ fn preambles_in_step_or_not(rt: HostRuntime) {
     assert_eq!(rt; marks[1], Some((125, Mark::X, Level::Low)));
 }
 
-/// How many reports the cells decide before they end.
 /// The preamble that the last of some cells of a word ends, where no other of them ends one.
 fn last_of_cells(scan: &mut Scan, word: u64, from: u32, to: u32) -> Option<(u64, Mark, Level)>
     requires { to ≤ 64 }
@@ -501,6 +510,7 @@ fn preambles_by_words(rt: HostRuntime) {
     }
 }
 
+/// How many reports the cells decide before they end.
 fn decided_count(cells: &[Level]) -> usize {
     let mut count = 0;
     let mut lock = Lock::new();
@@ -514,8 +524,10 @@ fn decided_count(cells: &[Level]) -> usize {
 
 #[test]
 fn nothing_decided_before_the_end(rt: HostRuntime) {
-    let cells = zero_block(rt.alloc(), Level::Low).expect(&rt, "memory");
+    let mut cells = zero_block(rt.alloc(), Level::Low).expect(&rt, "memory");
     assert_eq!(rt; decided_count(&cells), 0);
+    cells.push(Level::High).expect(&rt, "memory");
+    assert_eq!(rt; decided_count(&cells), 1, "by the cell behind the block");
     let cells = wrong_first(rt.alloc(), Level::High).expect(&rt, "memory");
     assert_eq!(rt; decided_count(&cells), 0);
 }
