@@ -1,6 +1,11 @@
-# shellcheck shell=sh disable=SC2154 # `work` is the folder of the script that reads this
-# Recipes for the inputs and the expected output of rows: each writes bytes to standard output. They use the line code alone
-# and plain tools, never the program.
+# shellcheck shell=sh disable=SC2034 # `passed` and `failed` are counted by the scripts that read this
+# A folder for work, and recipes for the inputs and the expected output of rows: each writes bytes to standard output. They
+# use the line code alone and plain tools, never the program.
+
+work=$(mktemp -d) || exit 2
+trap 'rm -rf "$work"' EXIT
+trap 'exit 130' INT TERM
+passed=0 failed=0
 
 # 28 slots of bit 0, behind a preamble that ends at the level before it.
 slots=11001100110011001100110011001100110011001100110011001100
@@ -211,3 +216,6 @@ fields() {
     line=$(status_line 0 1 "$@")
     printf %s "${line#block=0 channel=1 }"
 }
+
+make_zero >"$work/zero"
+make_packed >"$work/packed"
