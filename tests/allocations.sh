@@ -6,18 +6,17 @@
 # Each refused allocation must be told as refusal 8, with nothing written, or change nothing. Of a program of tests, as `rt test`
 # leaves it in a crate's out/, the test NAME must pass whichever allocation is refused.
 
+[ $# -gt 0 ] || {
+    sed -n '2,7s/^# \{0,1\}//p' "$0" >&2
+    exit 2
+}
 program=$(realpath "$1") || exit 2
 shift
 here=$(dirname "$(realpath "$0")")
-work=$(mktemp -d) || exit 2
-trap 'rm -rf "$work"' EXIT
-trap 'exit 130' INT TERM
-passed=0 failed=0
-export REFUSED_MARK="$work/mark"
 
 # shellcheck source=tests/recipes.sh
 . "$here/recipes.sh"
-make_zero >"$work/zero"
+export REFUSED_MARK="$work/mark"
 "${CC:-cc}" -shared -fPIC -O1 -o "$work/refuse.so" "$here/refuse_allocation.c" -ldl || exit 2
 
 # Runs a command with the allocation of a number refused, and answers whether there was one.

@@ -1,19 +1,16 @@
-# shellcheck shell=sh disable=SC2154 # `work` is the folder of the script that reads this
-# Recipes for the inputs and the expected output of rows: each writes bytes to standard output. They use the line code alone
-# and plain tools, never the program. `zero` is the text of the zero block: 384 lines of 64 cells.
+# shellcheck shell=sh disable=SC2034 # `passed` and `failed` are counted by the scripts that read this
+# A folder for work, and recipes for the inputs and the expected output of rows: each writes bytes to standard output. They
+# use the line code alone and plain tools, never the program.
+
+work=$(mktemp -d) || exit 2
+trap 'rm -rf "$work"' EXIT
+trap 'exit 130' INT TERM
+passed=0 failed=0
 
 # 28 slots of bit 0, behind a preamble that ends at the level before it.
 slots=11001100110011001100110011001100110011001100110011001100
 
-# The line of a subframe of the zero block, by its number.
-zero_line() {
-    case $(($1 % 384)) in
-    0) echo "11101000$slots" ;;
-    *[13579]) echo "11100100$slots" ;;
-    *) echo "11100010$slots" ;;
-    esac
-}
-
+# The text of the zero block, whose payloads are all 0: 384 lines of 64 cells.
 make_zero() {
     echo "11101000$slots"
     subframe=1
@@ -59,6 +56,7 @@ octets() {
 # So many zero blocks packed, without the last octet.
 packed_blocks() { repeated "$1" "$work/packed"; }
 
+# The zero block packed, without the last octet.
 make_packed() {
     octets E8 CC CC CC CC CC CC CC
     subframe=1
@@ -69,29 +67,15 @@ make_packed() {
     octets E4 CC CC CC CC CC CC CC
 }
 
-# Filters of text: its cells alone; with 0 and 1 exchanged; cells that follow on; the first so many cells; lines so many
-# cells long.
+# Filters of text: its cells alone; with 0 and 1 exchanged; without the first bytes; the first bytes alone; with a space behind
+# every 8 cells and CR LF behind each line.
 cells() { tr -d '\n'; }
 exchanged() { tr 01 10; }
 without_first() { tail -c +$(($1 + 1)); }
 first() { head -c "$1"; }
 spaced() { sed "s/......../& /g; s/\$/$(printf '\r')/"; }
 
-# Filters of cells in a file: the cells at these places exchanged, or left out.
-with_exchanged() {
-    cat >"$work/cells"
-    for place; do
-        {
-            head -c "$place" "$work/cells"
-            tail -c +$((place + 1)) "$work/cells" | head -c 1 | tr 01 10
-            tail -c +$((place + 2)) "$work/cells"
-        } >"$work/cells.new"
-        mv "$work/cells.new" "$work/cells"
-    done
-    cat "$work/cells"
-}
-
-# Filters of text: lines with these numbers, from 1, end in other cells.
+# Filter of text: the lines with these numbers, from 1, end in other cells.
 ending() {
     cells=$1
     shift
@@ -232,3 +216,6 @@ fields() {
     line=$(status_line 0 1 "$@")
     printf %s "${line#block=0 channel=1 }"
 }
+
+make_zero >"$work/zero"
+make_packed >"$work/packed"

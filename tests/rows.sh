@@ -18,13 +18,13 @@
 # lines from the line code, so that no expected value comes from the program. Where a recipe calls `aes3`, the row is a round
 # trip. `sum N LEN` as output gives the cksum and the length of the output, as an encoder of its own in Python made them.
 
+[ $# -gt 0 ] || {
+    sed -n '2,20s/^# \{0,1\}//p' "$0" >&2
+    exit 2
+}
 program=$(realpath "$1") || exit 2
 shift
 here=$(dirname "$(realpath "$0")")
-work=$(mktemp -d) || exit 2
-trap 'rm -rf "$work"' EXIT
-trap 'exit 130' INT TERM
-passed=0 failed=0
 [ -x "$program" ] || {
     echo "rows.sh: $program is no program" >&2
     exit 2
@@ -34,8 +34,6 @@ passed=0 failed=0
 . "$here/recipes.sh"
 # shellcheck disable=SC2034 # for the recipes of rows
 examples=$here/../examples
-make_zero >"$work/zero"
-make_packed >"$work/packed"
 
 aes3() { "$program" "$@" 2>/dev/null; }
 sum() { :; }

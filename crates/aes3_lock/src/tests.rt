@@ -387,6 +387,16 @@ fn fourteen_reports_within_64_cells(rt: HostRuntime) {
     assert_eq!(rt; decided_count(cells.get(..64).unwrap_or(&[])), 0);
 }
 
+/// Run with each allocation refused in turn, this shows that the slow form answers its error or the same reports.
+#[test]
+fn refused_memory_is_told(rt: HostRuntime) {
+    if let Ok(cells) = dense_word(rt.alloc())
+        && let Ok(lines) = by_places(rt.alloc(), &cells)
+    {
+        assert!(rt; lines == by_lock(&cells));
+    }
+}
+
 #[test]
 fn no_candidates(rt: HostRuntime) {
     for word in [0, u64::MAX, 0x5555_5555_5555_5555] {
@@ -543,8 +553,10 @@ fn decided_count(cells: &[Level]) -> usize {
 
 #[test]
 fn nothing_decided_before_the_end(rt: HostRuntime) {
-    let cells = zero_block(rt.alloc(), Level::Low).expect(&rt, "memory");
+    let mut cells = zero_block(rt.alloc(), Level::Low).expect(&rt, "memory");
     assert_eq!(rt; decided_count(&cells), 0);
+    cells.push(Level::High).expect(&rt, "memory");
+    assert_eq!(rt; decided_count(&cells), 1, "by the cell behind the block");
     let cells = wrong_first(rt.alloc(), Level::High).expect(&rt, "memory");
     assert_eq!(rt; decided_count(&cells), 0);
 }
