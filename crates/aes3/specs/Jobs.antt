@@ -32,8 +32,8 @@ Options = List Row
 abbrev pub command_in : List Text → Option (Text × Options)
 command_in words = subcommand_of command_line words
 
--- why the definitions do not take the words: `--help` stands in them, or a fault; empty where they
--- take them
+-- why the definitions do not take the words: `--help` or `--version` stands in them, or a fault;
+-- empty where they take them
 abbrev pub faults_in : List Text → Kinds
 faults_in words = fault_of command_line words
 

@@ -74,8 +74,8 @@ pub enum LineFault {
 ///
 /// # Errors
 /// `Usage` where the definitions of the command line don't take the words, or no command stands in them; `Help` where
-/// `--help` stands in them; `BadStatusText` where they are taken, but a status text isn't 48 hexadecimal digits; `Memory`
-/// where memory was refused.
+/// `--help` or `--version` stands in them; `BadStatusText` where they are taken, but a status text isn't 48 hexadecimal
+/// digits; `Memory` where memory was refused.
 pub fn job_of_words<'a>(alloc: Global, words: &'a [&'a str]) -> Result<Job, LineFault>
     ensures job { IfOk result (IsJobOf (map (λ word. word.now) words.now)) }
     ensures fault { IfErr result (IsFaultOf (map (λ word. word.now) words.now)) }
