@@ -14,3 +14,4 @@ pub mod DamageLaws
 pub use Rattle.aes3_cell.specs.Cells
 pub use Rattle.aes3_slot.specs.Slots
 pub use Rattle.aes3_block.specs.Blocks
+pub mod Parts

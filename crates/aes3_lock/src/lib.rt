@@ -5,6 +5,7 @@ mod candidate;
 pub mod laws;
 mod lock;
 mod outcome;
+mod parts;
 mod recent;
 mod report;
 mod rule;
@@ -14,7 +15,9 @@ mod subframe;
 #[cfg(test)]
 mod tests;
 
+pub use candidate::Candidate;
 pub use lock::Lock;
+pub use parts::LockParts;
 pub use report::{Report, Why};
 pub use scan::Scan;
 pub use slow::reports_of;
