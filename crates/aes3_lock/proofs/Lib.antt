@@ -46,3 +46,4 @@ pub mod EvenApart
 pub mod Changes
 pub mod TwoChanges
 pub mod Slips
+pub mod Splits
