@@ -1,23 +1,25 @@
 /*
  * aes3.h - the AES3 / IEC 60958 line codec for C, over libaes3_c.a (`rt lib` in crates/aes3_c).
  *
- * No function allocates, prints, waits, aborts or keeps anything between calls, and each returns for all arguments that
- * meet what is said here. The library wants memcpy and memset, and nothing else. Different locks may be used by
- * different threads at once, one lock by one thread at a time.
+ * No function allocates, prints, waits, aborts or keeps anything between calls, and each returns
+ * for all arguments that meet what is said here. The library wants memcpy and memset, and nothing
+ * else. Different locks may be used by different threads at once, one lock by one thread at a time.
  *
- * What the caller owes, and nothing checks: no pointer is null; each points to as many objects as its type says (words of
- * aes3_lock_take_words to `count`), aligned as C wants it; what a function writes overlaps no other argument of that call;
- * a lock was made by aes3_lock_init, and only the functions here write it.
+ * What the caller owes, and nothing checks: no pointer is null; each points to as many objects as
+ * its type says (words of aes3_lock_take_words to `count`), aligned as C wants it; what a function
+ * writes overlaps no other argument of that call; a lock was made by aes3_lock_init, and only the
+ * functions here write it.
  *
- * A cell is half of a time slot, low or high. A level is 0 for low; 1, and every other number, for high. A word of cells
- * is a uint64_t, the earliest of its 64 cells in bit 0, 1 for high.
+ * A cell is half of a time slot, low or high. A level is 0 for low; 1, and every other number, for
+ * high. A word of cells is a uint64_t, the earliest of its 64 cells in bit 0, 1 for high.
  *
- * A block has 384 words, as in a block file: a word a subframe, channel 1 first. Bit n of a word is time slot n: bits 0 to
- * 3 are zero, 4 to 27 the audio sample, 28 V, 29 U, 30 C, and 31 P, which makes the ones in bits 4 to 31 even in number.
- * A word that is so is lawful.
+ * A block has 384 words, as in a block file: a word a subframe, channel 1 first. Bit n of a word is
+ * time slot n: bits 0 to 3 are zero, 4 to 27 the audio sample, 28 V, 29 U, 30 C, and 31 P, which
+ * makes the ones in bits 4 to 31 even in number. A word that is so is lawful.
  *
- * Stack in bytes that a call used (examples/c/stack.c, x86-64): aes3_lock_push 7,872, aes3_lock_finish 4,712,
- * aes3_lock_take_words 1,704, aes3_encode_block and aes3_block_status 1,592, each other 70 at most.
+ * Stack in bytes that a call used (examples/c/stack.c, x86-64): aes3_lock_push 7,872,
+ * aes3_lock_finish 4,712, aes3_lock_take_words 1,704, aes3_encode_block and aes3_block_status
+ * 1,592, each other 70 at most.
  */
 #ifndef AES3_H
 #define AES3_H
@@ -38,7 +40,10 @@ enum {
 
 /* ---- The lock: finds blocks in cells that come one behind the other ---- */
 
-/* A lock, in memory of its caller. It may be copied by assignment: the copy goes on from there by itself. */
+/*
+ * A lock, in memory of its caller. It may be copied by assignment: the copy goes on from there by
+ * itself.
+ */
 typedef struct aes3_lock {
     uint64_t state[196];
 } aes3_lock;
@@ -77,15 +82,16 @@ void aes3_lock_init(aes3_lock *lock);
 uint64_t aes3_lock_seen(const aes3_lock *lock);
 
 /*
- * Takes words of cells as long as no cell of a word decides a report. Answers how many it took; that may be none. The
- * next word, if there is one, goes to aes3_lock_push.
+ * Takes words of cells as long as no cell of a word decides a report. Answers how many it took;
+ * that may be none. The next word, if there is one, goes to aes3_lock_push.
  */
 size_t aes3_lock_take_words(aes3_lock *lock, const uint64_t *words, size_t count);
 
 /*
- * Takes the first `count` cells of a word, 64 at most, or as far as the first that decides a report, and that one too.
- * Puts the report, or AES3_NONE, into *report. Answers how many cells it took: fewer than `count` only behind a report, or
- * where a lock has seen 2^43 cells, which is 16 days of a line at 48 kHz; then it takes none, and has to be made anew.
+ * Takes the first `count` cells of a word, 64 at most, or as far as the first that decides a
+ * report, and that one too. Puts the report, or AES3_NONE, into *report. Answers how many cells it
+ * took: fewer than `count` only behind a report, or where a lock has seen 2^43 cells, which is 16
+ * days of a line at 48 kHz; then it takes none, and has to be made anew.
  */
 uint32_t aes3_lock_push(aes3_lock *lock, uint64_t word, uint32_t count, aes3_report *report);
 
@@ -95,21 +101,26 @@ void aes3_lock_finish(const aes3_lock *lock, aes3_report *report);
 /* ---- Blocks ---- */
 
 /*
- * Puts the cells of a block behind a cell of the level `before` into cells[], a word a subframe. A block ends at the level
- * before it, so blocks follow one another with the same `before`. Answers 384; or, where a word is not lawful, the number
- * of the first that is not, and leaves cells[] as it was.
+ * Puts the cells of a block behind a cell of the level `before` into cells[], a word a subframe. A
+ * block ends at the level before it, so blocks follow one another with the same `before`. Answers
+ * 384; or, where a word is not lawful, the number of the first that is not, and leaves cells[] as
+ * it was.
  */
 uint32_t aes3_encode_block(const uint32_t words[384], uint8_t before, uint64_t cells[384]);
 
 /*
- * Puts the channel status of a block's channel, 1 or 2, into status[]: bit i % 8 of byte i / 8 is the C bit of frame i.
- * Answers 384; or, where a word is not lawful, the number of the first that is not, and leaves status[] as it was.
+ * Puts the channel status of a block's channel, 1 or 2, into status[]: bit i % 8 of byte i / 8 is
+ * the C bit of frame i. Answers 384; or, where a word is not lawful, the number of the first that
+ * is not, and leaves status[] as it was.
  */
 uint32_t aes3_block_status(const uint32_t words[384], uint8_t channel, uint8_t status[24]);
 
 /* ---- Words of cells, written ---- */
 
-/* Where each of 64 characters is '0' or '1', puts their cells into *word and answers true; else changes nothing. */
+/*
+ * Where each of 64 characters is '0' or '1', puts their cells into *word and answers true; else
+ * changes nothing.
+ */
 bool aes3_word_of_text(const uint8_t text[64], uint64_t *word);
 
 /* The cells of eight octets, the first in the highest bit of the first. */
@@ -118,12 +129,18 @@ uint64_t aes3_word_of_octets(const uint8_t octets[8]);
 /* Puts the cells of a word as 64 characters and a line feed. */
 void aes3_line_of_word(uint64_t word, uint8_t line[65]);
 
-/* Puts the cells of a word as eight octets. Packed cells end with one more: how many of the cells are unused, here 0. */
+/*
+ * Puts the cells of a word as eight octets. Packed cells end with one more: how many of the cells
+ * are unused, here 0.
+ */
 void aes3_octets_of_word(uint64_t word, uint8_t octets[8]);
 
 /* ---- Channel status, of 24 bytes ---- */
 
-/* The fields of a status for professional use (AES3-2). A field of bits is a number, its lowest bit the first sent. */
+/*
+ * The fields of a status for professional use (AES3-2). A field of bits is a number, its lowest bit
+ * the first sent.
+ */
 typedef struct aes3_professional {
     uint8_t payload;        /* byte 0 bit 1: 0 linear PCM, 1 other */
     uint8_t emphasis;       /* byte 0 bits 2 to 4: pre-emphasis */
@@ -164,7 +181,9 @@ typedef struct aes3_consumer {
     uint8_t rest[19];   /* bytes 5 to 23 */
 } aes3_consumer;
 
-/* Where a status is for professional use, puts its fields and answers true; else changes nothing. */
+/*
+ * Where a status is for professional use, puts its fields and answers true; else changes nothing.
+ */
 bool aes3_status_professional(const uint8_t status[24], aes3_professional *fields);
 
 /* Where a status is for consumer use, puts its fields and answers true; else changes nothing. */
