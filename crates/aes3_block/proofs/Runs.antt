@@ -1,7 +1,9 @@
 -- The cells of payloads one behind the other.
-use Rattle.std.proofs.Common.{◌≡◌, ℕ, zero, suc, ◌+◌, ◌*◌, ◌/◌, ◌<◌, ◌≤◌, List, [], ◌∷◌, ◌++◌, Bool, true, length, map, take, get_or, refl, sym, ap, ap₂, ◌∙◌, arith, append_assoc, append-nil, length-append}
+use Rattle.std.proofs.Common.{◌≡◌, ℕ, zero, suc, ◌+◌, ◌*◌, ◌/◌, ◌<◌, ◌≤◌, List, [], ◌∷◌, ◌++◌, Bool, true, length, map, take, set, get_or, refl, sym, ap, ap₂, ◌∙◌, arith, append_assoc, append-nil, length-append}
 use Rattle.std.proofs.lemmas.Bool.{and_parts}
-use Rattle.std.proofs.lemmas.List.{map-append, length-map, take_all, take_more, length-take-le}
+use Rattle.std.proofs.lemmas.List.{map-append, length-map, take_all, take_more, take_more_set, length-take-le}
+use Rattle.std.proofs.lemmas.Grind.{flat_map-append}
+use Rattle.std.specs.List.{flat_map}
 use Rattle.aes3_cell.specs.declared.level.Level.{Level}
 use Rattle.aes3_cell.specs.Cells.{line, after}
 use Rattle.aes3_cell.specs.Words.{word_len, word_cells}
@@ -105,3 +107,43 @@ bytes-front form s words b (suc n) i h e =
       sym (append_assoc (bytes_of form (line s (block_runs (map payload_of (take i words))))) one next.0)
           ∙ ap (λ t. t ++ next.0) (bytes-more form s words i (omega arith)) ∙ next.1,
     )
+
+-- the cells of one more subframe
+pub cells-push : (s : Level) (ps : List (List Bool)) (p : List Bool) → Each27 ps
+    → line s (block_runs (ps ++ p ∷ [])) ≡ line s (block_runs ps) ++ line s (subframe_runs (mark_at (length ps)) p)
+cells-push s ps p h =
+    let runs = block_runs ps in
+    let more = subframe_runs (mark_at (length ps)) p in
+    let e : block_runs (ps ++ p ∷ []) ≡ runs ++ more =
+    ap (runs_of mark_at) (map-append with_parity ps (p ∷ [])) ∙ runs-push mark_at (map with_parity ps) (with_parity p)
+    ∙ ap (λ n. runs ++ subframe_runs (mark_at n) p) (length-map ps with_parity) in
+    ap (λ r. line s r) e
+    ∙ line-append s runs more ∙ ap (λ t. line s runs ++ line t more) (after-runs s mark_at ps h)
+
+-- the cells so far, with those of one more word
+pub cells-more : (s : Level) (words cells : List ℕ) (i w : ℕ) (m : Mark) (slots : ℕ) → i < length words → length cells ≡ length words
+    → m ≡ mark_at i → slots ≡ get_or words i 0 / 16 → is_lawful (get_or words i 0) ≡ true
+    → word_cells w ≡ line s (slot_runs m (slots_bits slots))
+    → flat_map word_cells (take i cells) ≡ line s (block_runs (map payload_of (take i words)))
+    → flat_map word_cells (take (i + 1) (set cells i w)) ≡ line s (block_runs (map payload_of (take (i + 1) words)))
+cells-more s words cells i w m slots h k em es lawful e so =
+    let ps = map payload_of (take i words) in
+    let p = payload_of (get_or words i 0) in
+    let n : length ps ≡ i = length-map (take i words) payload_of ∙ length-take-le i words (omega arith) in
+    let q : map payload_of (take (i + 1) words) ≡ ps ++ p ∷ [] =
+    ap (map payload_of) (take_more words i 0 h) ∙ map-append payload_of (take i words) (get_or words i 0 ∷ []) in
+    let one : word_cells w ≡ line s (subframe_runs (mark_at i) p) =
+    e ∙ ap₂ (λ mark bits. line s (slot_runs mark bits)) em
+    (ap slots_bits es ∙ lawful-slots (get_or words i 0) (and_parts (has_code (get_or words i 0)) (has_parity (get_or words i 0)) lawful).1) in
+    ap (flat_map word_cells) (take_more_set cells i w (omega arith))
+    ∙ flat_map-append word_cells (take i cells) (w ∷ [])
+    ∙ ap₂ (λ x y. x ++ y) so (append-nil (word_cells w) ∙ one)
+    ∙ ap (λ j. line s (block_runs ps) ++ line s (subframe_runs (mark_at j) p)) (sym n)
+    ∙ sym (cells-push s ps p (each27-payloads (take i words)))
+    ∙ ap (λ x. line s (block_runs x)) (sym q)
+
+-- the cells of the whole block
+pub cells-whole : (s : Level) (words : List ℕ) (b : List (List Bool)) (i : ℕ) → length words ≤ i → map payload_of words ≡ b
+    → line s (block_runs (map payload_of (take i words))) ≡ block_cells s b
+unfolding block_cells
+cells-whole s words b i h e = ap (λ x. line s (block_runs x)) (ap (map payload_of) (take_all i words h) ∙ e)

@@ -3,10 +3,12 @@
 ghost use Rattle.std.specs.Prelude.{◌≡◌, ◌<◌, ◌+◌, ◌^◌, IfOk, OnErr};
 ghost use Rattle.aes3_cell.specs.Ends.{Grew, GrewFront};
 ghost use Rattle.aes3_cell.specs.Text.{text_of};
+ghost use Rattle.aes3_cell.specs.Words.{word_cells};
+ghost use Rattle.std.specs.List.{flat_map};
 ghost use Rattle.aes3_cell.specs.Written.{bytes_of};
 ghost use Rattle.aes3_block.specs.Blocks.{block_cells, mark_at};
 
-use crate::block::Block;
+use crate::block::{Block, SLOTS};
 use crate::word::slots_of_word;
 use aes3_cell::{Fault, Form, Level, Sink, put_word};
 use aes3_slot::{Mark, slots_cells};
@@ -61,4 +63,14 @@ pub fn put_block_cells<T: Sink>(before: Level, block: &Block, sink: &mut T) -> R
     ensures err { OnErr result ((T.failed sink.new ≡ T.failed sink.old + 1) × GrewFront (T.taken sink.old) (T.taken sink.new) (text_of (block_cells before block.now))) }
 {
     put_block(Form::Text, before, block, sink)
+}
+
+/// Puts the cells of a block after the level `before` into `cells`, a word a subframe, the earliest cell in bit 0.
+pub fn fill_block_cells(before: Level, block: &Block, cells: &mut [u64; SLOTS])
+    ensures { flat_map word_cells cells.new ≡ block_cells before block.now }
+{
+    let words = block.words();
+    for (slot, word) in words.iter().enumerate() {
+        cells[slot] = slots_cells(before, mark_of(slot), slots_of_word(*word));
+    }
 }

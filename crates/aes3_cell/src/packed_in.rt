@@ -26,7 +26,7 @@ ghost use Rattle.aes3_cell.specs.PackedReading.{packed_answer, packed_next, pack
 ghost use Rattle.aes3_cell.specs.Words.{word_cells};
 
 use crate::refusal::BadPadding;
-use crate::word::turned;
+use crate::word::word_of_octets;
 
 /// Whether `unused` cells, fewer than eight, are Low at the end of an octet.
 fn is_rightly_padded(octet: u8, unused: u8) -> bool
@@ -121,7 +121,7 @@ impl PackedIn {
         self.seen += 8;
         self.before_last = before_last;
         self.last = last;
-        Some(turned(u64::from_be_bytes(whole)))
+        Some(word_of_octets(&whole))
     }
 
     /// Takes the end: answers the octet before the last and how many of its cells are used, 1 to 8, the first in the

@@ -50,3 +50,4 @@ pub mod Changes
 pub mod TwoChanges
 pub mod Slips
 pub mod Inserted
+pub mod Splits

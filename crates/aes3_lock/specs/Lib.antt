@@ -15,3 +15,5 @@ pub mod Spacing
 pub use Rattle.aes3_cell.specs.Cells
 pub use Rattle.aes3_slot.specs.Slots
 pub use Rattle.aes3_block.specs.Blocks
+pub mod Parts
+pub mod Splits
