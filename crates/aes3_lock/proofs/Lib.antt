@@ -46,8 +46,11 @@ pub mod Lost
 pub mod ChangeReports
 pub mod DamageLaws
 pub mod Balance
+pub mod PlacesApart
 pub mod Changes
 pub mod TwoChanges
 pub mod Slips
+pub mod InsertedCells
 pub mod Inserted
 pub mod Splits
+pub mod AnyChanges

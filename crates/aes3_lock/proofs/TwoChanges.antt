@@ -13,7 +13,8 @@ use Rattle.aes3_lock.specs.Remains.{holds, reaches, left_of, after_changes, afte
 use Rattle.aes3_lock.specs.Pieces.{IsPiece, given_within, given_blocks}
 use Rattle.aes3_lock.specs.Reports.{blocks}
 use Rattle.aes3_lock.proofs.Apart.{apart-changed, apart-third, length-changed, at-changed, at-others}
-use Rattle.aes3_lock.proofs.Changes.{places-none, places-one, places-two, own-left, blocks-few-changed}
+use Rattle.aes3_lock.proofs.Changes.{own-left, blocks-few-changed}
+use Rattle.aes3_lock.proofs.PlacesApart.{places-none, places-one, places-two}
 use Rattle.aes3_lock.proofs.PieceBounds.{length-piece, first-false, second-false}
 use Rattle.aes3_lock.proofs.PlaceBlocks.{block_here}
 

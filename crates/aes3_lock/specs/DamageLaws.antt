@@ -1,11 +1,11 @@
 -- Laws over the definitions: what stays of a piece of a lawful stream of which cells change, are lost or put in.
-use Rattle.std.specs.Prelude.{ℕ, List, Bool, true, length, ◌≡◌, ◌≢◌, ◌<◌, ◌≤◌, ◌+◌, ◌-◌, ◌%◌, take, drop}
+use Rattle.std.specs.Prelude.{ℕ, suc, List, [], ◌∷◌, Bool, true, length, ◌≡◌, ◌≢◌, ◌<◌, ◌≤◌, ◌+◌, ◌-◌, ◌%◌, ◌↔◌, take, drop}
 use Rattle.std.specs.List.{All, Contains}
 use Rattle.aes3_cell.specs.declared.level.Level.{Level}
 use Rattle.aes3_block.specs.Blocks.{block_len, block_cells, stream, IsBlock}
 use Rattle.aes3_lock.specs.declared.report.Report.{Report}
-use Rattle.aes3_lock.specs.Damage.{changed, without, inserted, apart}
-use Rattle.aes3_lock.specs.Remains.{after_change, after_two_changes, after_loss, after_insertion, after_changes, place_of, covers}
+use Rattle.aes3_lock.specs.Damage.{changed, without, inserted, apart, places_apart}
+use Rattle.aes3_lock.specs.Remains.{after_change, after_two_changes, after_loss, after_insertion, after_changes, left_of, place_of, covers}
 use Rattle.aes3_lock.specs.Pieces.{IsPiece, given_blocks}
 use Rattle.aes3_lock.specs.Reports.{reports, blocks}
 use Rattle.aes3_lock.specs.Standing.{StandsClosed}
@@ -27,6 +27,12 @@ abbrev pub ChangesLeaveTheOthers : Type 0
 ChangesLeaveTheOthers =
     (s : Level) (bs : List (List (List Bool))) (i j : ℕ) (c d : List Level) → IsPiece s bs i j c → length d ≡ length c → apart c d ≤ 3
     → blocks d ≡ given_blocks (after_changes i c d) bs i j
+
+-- where block b stands closed after level s and any of its cells or the next one change, exactly the block that they leave does
+abbrev pub ChangesTellTheBlock : Type 0
+ChangesTellTheBlock =
+    (b d : List (List Bool)) (s : Level) (c e : List Level) → StandsClosed b s c → length e ≡ length c
+    → StandsClosed d s e ↔ (left_of (places_apart 0 (take (suc block_len) c) (take (suc block_len) e)) b ≡ d ∷ [])
 
 -- of a piece with one cell changed all whole blocks are given but one that holds this cell and one that ends directly before it
 abbrev pub ChangeLeavesTheOthers : Type 0

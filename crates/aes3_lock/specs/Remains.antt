@@ -32,12 +32,12 @@ abbrev pub after_insertion : Level → ℕ → Level → ℕ → List (List Bool
 after_insertion s k x p b =
     if nat_le k p || (nat_lt (p + block_len) k || (differs s x && (nat_le k (p + 3) || k == p + block_len))) then b ∷ [] else []
 
--- what is given of a block of which these cells changed, or the cell behind its last
+-- what is given of a block of which these cells changed, or the cell behind its last: two next to each other between two slots make
+-- another block of it, and any other takes it
 abbrev pub left_of : List ℕ → List (List Bool) → List (List (List Bool))
 left_of [] b = b ∷ []
 left_of (x ∷ []) b = []
-left_of (x ∷ y ∷ []) b = if y == suc x && between_slots x then exchanged x b ∷ [] else []
-left_of (x ∷ y ∷ z ∷ more) b = []
+left_of (x ∷ y ∷ more) b = if y == suc x && between_slots x then left_of more (exchanged x b) else []
 
 -- of a block that begins at cell p, where the piece from cell i on was c and is d
 abbrev pub after_changes : ℕ → List Level → List Level → ℕ → List (List Bool) → List (List (List Bool))

@@ -1,7 +1,7 @@
 //! Laws of damage: how far apart the cells of blocks are, and what stays of a lawful stream of which cells change or are
 //! lost.
 ghost use Rattle.aes3_lock.specs.DistanceLaws.{BlocksAreApart, BlocksStandByTheirCells, ExchangedHasTheseCells, FarAfterOtherLevel, FarFromTheOtherLevel, FarWhereNoBlockBegins, FarWhereNoFrameBegins, NearestAreExchanged, OddChangesTakeTheBlock, SubframesAreBalanced};
-ghost use Rattle.aes3_lock.specs.DamageLaws.{ChangeEndsCandidate, ChangeIsReported, ChangeLeavesTheOthers, ChangesLeaveTheOthers, ChangesMakeNoBlockElsewhere, FewChangesMakeNoBlock, InsertionLeavesTheOthers, LossLeavesTheOthers, SlipsAreNotBridged, TwoChangesLeaveTheOthers};
+ghost use Rattle.aes3_lock.specs.DamageLaws.{ChangeEndsCandidate, ChangeIsReported, ChangeLeavesTheOthers, ChangesLeaveTheOthers, ChangesMakeNoBlockElsewhere, ChangesTellTheBlock, FewChangesMakeNoBlock, InsertionLeavesTheOthers, LossLeavesTheOthers, SlipsAreNotBridged, TwoChangesLeaveTheOthers};
 
 /// Where no block of a lawful stream begins its cells differ from those of every block in 4 cells or more, and where no
 /// frame begins, or after the other level, in 384; two blocks after one level differ in 2 cells next to each other between
@@ -29,6 +29,12 @@ pub fn few_changes_make_no_block()
     ensures blocks { FewChangesMakeNoBlock }
     ensures frames { ChangesMakeNoBlockElsewhere }
     ensures left { ChangesLeaveTheOthers }
+{}
+
+/// Where a block stands closed and any of its cells change, or the one behind it, a block stands closed after the same level
+/// exactly if the changed cells are pairs between two slots, and it is the one with the bits of these slots inverted.
+pub fn changes_tell_the_block()
+    ensures { ChangesTellTheBlock }
 {}
 
 /// A block that stands closed stands whatever happens to cells that are neither its own nor directly behind it.
