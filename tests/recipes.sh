@@ -75,6 +75,10 @@ without_first() { tail -c +$(($1 + 1)); }
 first() { head -c "$1"; }
 spaced() { sed "s/......../& /g; s/\$/$(printf '\r')/"; }
 
+# Filters of cells without line feeds: without the cell of this number, from 0; with that cell turned.
+lost() { awk -v n="$1" '{ print substr($0, 1, n) substr($0, n + 2) }'; }
+turned() { awk -v n="$1" '{ print substr($0, 1, n) (1 - substr($0, n + 1, 1)) substr($0, n + 2) }'; }
+
 # Filter of text: the lines with these numbers, from 1, end in other cells.
 ending() {
     cells=$1
