@@ -73,7 +73,7 @@ pub fn octets_of_word(word: u64) -> [u8; 8]
 }
 
 /// The bytes that are `byte`, each a one.
-fn equal_to(bytes: &[u8; 64], byte: u8) -> u64
+pub(crate) fn equal_to(bytes: &[u8; 64], byte: u8) -> u64
     ensures { (i : ℕ) → i < 64 → bit_at result i ≡ (if get_or bytes.now i 0 == byte then 1 else 0) }
 {
     u8x64::from_array(*bytes)
