@@ -1,14 +1,17 @@
 //! The cells of a block.
 
-ghost use Rattle.std.specs.Prelude.{◌≡◌, ◌<◌, ◌+◌, ◌^◌, IfOk, OnErr};
+ghost use Rattle.std.specs.Prelude.{◌≡◌, ◌<◌, ◌+◌, ◌^◌, ℕ, true, get_or, map, IfOk, OnErr};
+ghost use Rattle.std.specs.List.{flat_map};
 ghost use Rattle.aes3_cell.specs.Ends.{Grew, GrewFront};
 ghost use Rattle.aes3_cell.specs.Text.{text_of};
+ghost use Rattle.aes3_cell.specs.Words.{word_cells};
 ghost use Rattle.aes3_cell.specs.Written.{bytes_of};
-ghost use Rattle.aes3_block.specs.Blocks.{block_cells, mark_at};
+ghost use Rattle.aes3_block.specs.Blocks.{block_cells, block_slots, mark_at};
+ghost use Rattle.aes3_block.specs.Files.{is_lawful, payload_of};
 
-use crate::block::Block;
+use crate::block::{Block, SLOTS};
 use crate::word::slots_of_word;
-use aes3_cell::{Fault, Form, Level, Sink, put_word};
+use aes3_cell::{Fault, Form, Level, Sink, put_words};
 use aes3_slot::{Mark, slots_cells};
 
 /// The preamble of a block's subframe.
@@ -24,7 +27,19 @@ pub(crate) fn mark_of(slot: usize) -> Mark
     }
 }
 
-/// Writes the cells of a block after the level `before`, 64 cells as one buffer: the form's bytes but for its ending.
+/// The cells of words after the level `before`, a word of 64 cells for each.
+fn cells_of_words(before: Level, words: &[u32; SLOTS]) -> [u64; SLOTS]
+    requires { (i : ℕ) → i < block_slots → is_lawful (get_or words.now i 0) ≡ true }
+    ensures { flat_map word_cells result ≡ block_cells before (map payload_of words.now) }
+{
+    let mut cells = [0; SLOTS];
+    for (slot, word) in words.iter().enumerate() {
+        cells[slot] = slots_cells(before, mark_of(slot), slots_of_word(*word));
+    }
+    cells
+}
+
+/// Writes the cells of a block after the level `before`: the form's bytes but for its ending.
 ///
 /// # Errors
 /// The sink's fault; then it has taken a front of the bytes.
@@ -39,18 +54,10 @@ pub fn put_block<T: Sink>(
     ensures count { IfOk result (λ _. T.failed sink.new ≡ T.failed sink.old) }
     ensures err { OnErr result ((T.failed sink.new ≡ T.failed sink.old + 1) × GrewFront (T.taken sink.old) (T.taken sink.new) (bytes_of form (block_cells before block.now))) }
 {
-    let words = block.words();
-    for (slot, word) in words.iter().enumerate() {
-        let cells = slots_cells(before, mark_of(slot), slots_of_word(*word));
-        match put_word(form, cells, sink) {
-            Ok(()) => {}
-            Err(fault) => return Err(fault),
-        }
-    }
-    Ok(())
+    put_words(form, &cells_of_words(before, block.words()), sink)
 }
 
-/// Writes the cells of a block after the level `before` as 384 lines of cell text, each as one buffer.
+/// Writes the cells of a block after the level `before` as 384 lines of cell text.
 ///
 /// # Errors
 /// The sink's fault; then it has taken a front of the text.

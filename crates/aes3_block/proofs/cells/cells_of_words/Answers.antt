@@ -1,0 +1,23 @@
+use Rattle.std.proofs.Common.{get_or, arith, length-set, ◌∙◌}
+use Rattle.aes3_block.proofs.BlockLemmas.{block_slots_384}
+use Rattle.aes3_block.proofs.Runs.{cells-word, cells-more, cells-whole}
+use Rattle.aes3_block.proofs.cells.cells_of_words.Goals as goal
+
+pub loop-slot-preserved : goal.loop-slot-preserved
+loop-slot-preserved c =
+    let words = c.args.words.now in
+    let i = c.loop-slot.slot in
+    let len = c.loop-slot.invariant.len in
+    let told = c.told-words in
+    let lawful = c.requires i (let n = block_slots_384 in omega (arith, n, told)) in
+    record {
+      len = length-set c.loop-slot.cells i c.slots_cells.result ∙ len;
+      cells = cells-more c.args.before words c.loop-slot.cells i c.slots_cells.result (omega (arith, told)) (omega (arith, told, len)) c.loop-slot.invariant.cells
+          (cells-word c.args.before c.mark_of.result i (get_or words i 0) c.slots_of_word.result c.slots_cells.result c.mark_of.ensures c.slots_of_word.ensures.value lawful c.slots_cells.ensures);
+    }
+
+pub returns : goal.returns
+returns c =
+    let told = c.told-words in
+    let len = c.loop-slot.invariant.len in
+    cells-whole c.args.before c.args.words.now c.loop-slot.cells c.loop-slot.slot (omega (arith, told)) (omega (arith, told, len)) c.loop-slot.invariant.cells
