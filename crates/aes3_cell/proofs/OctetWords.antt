@@ -1,5 +1,5 @@
 -- Words of cells in octets.
-use Rattle.std.proofs.Common.{◌≡◌, ℕ, ◌+◌, ◌-◌, ◌<◌, ◌≤◌, List, [], ◌∷◌, ◌++◌, length, take, get_or, reverse, refl, sym, ap, ap₂, ◌∙◌, arith, append_assoc, length-append, w64}
+use Rattle.std.proofs.Common.{◌≡◌, ℕ, zero, suc, ◌+◌, ◌-◌, ◌<◌, ◌≤◌, List, [], ◌∷◌, ◌++◌, length, take, get_or, reverse, refl, sym, ap, ap₂, ◌∙◌, arith, append_assoc, length-append, w64}
 use Rattle.std.specs.Int.{bit_at, from_be_bytes}
 use Rattle.std.proofs.lemmas.List.{reverse-append, length-reverse}
 use Rattle.std.proofs.lemmas.Nat.{be_bytes_8}
@@ -16,11 +16,11 @@ pub octets-word-cells : (octets : List ℕ) (n w : ℕ) → length octets ≡ 8 
 unfolding word_cells word_len
 octets-word-cells octets n w l b e t = turned-low n w t ∙ sym (bytes-cells 8 n) ∙ ap cells_of_octets (be_bytes_8 octets n l b e)
 
--- the first six of eight octets
-pub first-six : (octets : List ℕ) → length octets ≡ 8
+-- the first six octets, one by one
+pub first-six : (octets : List ℕ) → 6 ≤ length octets
     → get_or octets 0 0 ∷ get_or octets 1 0 ∷ get_or octets 2 0 ∷ get_or octets 3 0 ∷ get_or octets 4 0 ∷ get_or octets 5 0 ∷ [] ≡ take 6 octets
-first-six (o ∷ p ∷ q ∷ r ∷ s ∷ t ∷ u ∷ v ∷ []) h = refl
-first-six _ h = absurd (omega arith)
+first-six (o ∷ p ∷ q ∷ r ∷ s ∷ t ∷ more) l = refl
+first-six _ l = absurd (omega arith)
 
 -- the reader behind eight more octets
 reader-behind : (b octets : List ℕ) → length octets ≡ 8 → behind_eight (packed_reader_of b) octets ≡ packed_reader_of (b ++ octets)

@@ -80,7 +80,7 @@ pub fn word_of_octets(octets: &[u8; 8]) -> u64
 }
 
 /// The bytes that are `byte`, each a one.
-fn equal_to(bytes: &[u8; 64], byte: u8) -> u64
+pub(crate) fn equal_to(bytes: &[u8; 64], byte: u8) -> u64
     ensures { (i : ℕ) → i < 64 → bit_at result i ≡ (if get_or bytes.now i 0 == byte then 1 else 0) }
 {
     u8x64::from_array(*bytes)
