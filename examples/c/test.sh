@@ -19,16 +19,18 @@ differs() {
 
 "$program" encode <"$speech" >line.txt
 sed '48200s/^1/0/' line.txt | tail -c +12538 >damaged.txt
-# A parity bit that is wrong, in the other polarity, and a block that the end cuts.
-head -c 3200000 line.txt | tr 01 10 | sed '385s/.$/x/; 385s/0x$/1/; 385s/1x$/0/' >turned.txt
-for name in line damaged turned; do
+# In the other polarity, cut by the end; and with the last parity bit of all wrong.
+head -c 3200000 line.txt | tr 01 10 >turned.txt
+head -n 1152 line.txt | sed '$ { s/0$/x/; s/1$/0/; s/x$/1/; }' >marked.txt
+inputs="line damaged turned marked"
+for name in $inputs; do
     "$program" check <$name.txt >$name.want
     echo $? >>$name.want
 done
 
-# run NAME COMMAND..: the examples that a compiler made.
+# A command that tells the reports of cells, on each input.
 compare() {
-    for name in line damaged turned; do
+    for name in $inputs; do
         { "$@" <$name.txt && echo 0 || echo $?; } >got
         cmp -s $name.want got || differs "$* on $name"
     done
