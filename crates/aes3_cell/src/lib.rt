@@ -35,5 +35,5 @@ pub use short::ShortSink;
 pub use standard::{StdSink, StdSource};
 pub use text_in::CellText;
 pub use text_out::TextOut;
-pub use word::{LINE_LEN, line_of_word, octets_of_word};
+pub use word::{LINE_LEN, line_of_word, octets_of_word, with_cell};
 pub use written::{put_ending, put_word};
