@@ -32,11 +32,11 @@ unfolding payload_len slots_len
 payloads-slots [] = refl
 payloads-slots (w ∷ slots) = ap₂ (λ x y. x ∷ y) (sym (take-low 27 28 w (omega arith))) (payloads-slots slots)
 
-pub block-whole : (at : ℕ) (s : Level) (slots : List ℕ) (wrong : ℕ) (b : List (List Bool)) → wrong ≡ wrong_parities (map slots_bits slots) → wrong ≡ 0
-    → b ≡ map payload_bits slots → Whole at s b ≡ report_of at (block_outcome s (map slots_bits slots))
-block-whole at s slots wrong b e z f =
-    let t : eqb (wrong_parities (map slots_bits slots)) 0 ≡ true = eq-eqb _ 0 (sym e ∙ z) in
-    rw t (ap (Whole at s) (f ∙ payloads-slots slots))
+pub block-whole : (at : ℕ) (s : Level) (slots : List (List Bool)) (wrong : ℕ) → wrong ≡ wrong_parities slots → wrong ≡ 0
+    → Whole at s (payloads_of slots) ≡ report_of at (block_outcome s slots)
+block-whole at s slots wrong e z =
+    let t : eqb (wrong_parities slots) 0 ≡ true = eq-eqb _ 0 (sym e ∙ z) in
+    rw t refl
 
 -- a candidate that the last eight cells show
 Z-begins : (s : Level) → begins_block (line s (mark_runs Z)) ≡ true

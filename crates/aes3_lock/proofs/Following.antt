@@ -14,7 +14,7 @@ use Rattle.aes3_lock.specs.Candidates.{begins_block, keeps, front}
 use Rattle.aes3_lock.specs.Outcomes.{outcome}
 use Rattle.aes3_lock.specs.Reports.{told, report_of, open_at, decided_at, decided_from, decided, reports}
 use Rattle.aes3_lock.specs.Steps.{last_eight, eight_with, begun, ended, left}
-use Rattle.aes3_lock.specs.Following.{LockState, Gathered, Follows, OpenAt, NoneOpen}
+use Rattle.aes3_lock.specs.Following.{LockState, Gathered, Follows, OpenAt, NoneOpen, Stops}
 use Rattle.aes3_slot.proofs.Beginnings.{entry-append}
 use Rattle.aes3_lock.proofs.Deciding.{decided-push, block_len_64, outcome_by, outcome_is, read_slots-append}
 use Rattle.aes3_lock.proofs.Fronts.{keeps-append, front-is}
@@ -131,7 +131,7 @@ module _ (k : LockState) (t : Candidate) (c : List Level) (f : Follows k c) (s :
 
 module _ (k : LockState) (t : Candidate) (c : List Level) (l : Level) (f : Follows k c) (s : k.candidate ≡ Some t) where
   -- the code's test is the rule's
-  tested : rule mark_at (k.seen - t.at) l t.level (at k.recent 7) ≡ keeps (entry (drop t.at c)) (drop t.at c ++ l ∷ []) (length (drop t.at c))
+  pub tested : rule mark_at (k.seen - t.at) l t.level (at k.recent 7) ≡ keeps (entry (drop t.at c)) (drop t.at c ++ l ∷ []) (length (drop t.at c))
   tested =
       ap₂ (λ o b. rule mark_at o l b (at k.recent 7)) (offset k t c f s) (hand k t c f s).gathered.level
       ∙ ap (rule mark_at (length (drop t.at c)) l (before (entry (drop t.at c)) (drop t.at c) (64 * (length (drop t.at c) / 64)))) (previous k t c f s (entry (drop t.at c)))
@@ -298,3 +298,7 @@ finish-open k t c f lw s = reports-split 0 c ∙ ap (λ x. decided_from 0 c ++ x
         ∙ at-end (entry (drop t.at c)) (front (entry (drop t.at c)) (drop t.at c)) (length (drop t.at c)) _ (read_slots block_slots (drop t.at c)) (map slots_bits k.slots) o.all
         (λ g. sym (slots-whole k.slots (drop t.at c) lw g in-hand.gathered.whole))
         ∙ ap₂ (λ s n. left s n (map slots_bits k.slots)) (sym in-hand.first) (sym off)
+
+-- a cell behind a whole block ends its candidate
+pub past-stops : (k : LockState) (t : Candidate) (l : Level) → k.candidate ≡ Some t → block_len ≤ k.seen - t.at → Stops k l
+past-stops k t l s h = record { in_hand = t; is = s; stop = λ g. absurd (omega (arith, g, h)) }

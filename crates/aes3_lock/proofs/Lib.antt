@@ -10,7 +10,10 @@ pub mod WordSteps
 pub mod Following
 pub mod TakenWords
 pub mod QuietWords
+pub mod PartWords
 pub mod Codes
+pub mod Spacing
+pub mod PushedWords
 pub mod Scanning
 pub mod QuietScans
 pub mod Walking

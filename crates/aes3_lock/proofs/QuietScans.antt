@@ -4,17 +4,18 @@ use Rattle.std.specs.Prelude.{if◌then◌else◌, option_to_list, option_map}
 use Rattle.std.specs.Int.{bit_at, trailing_zeros}
 use Rattle.std.specs.Int.Count.{trailing_of_zero}
 use Rattle.std.proofs.lemmas.Bool.{cases_eq, cases_lt}
-use Rattle.std.proofs.lemmas.Nat.Bits.{bit_at-trailing_zeros, bit_at-zero}
+use Rattle.std.proofs.lemmas.Nat.Bits.{bit_at-trailing_zeros}
 use Rattle.aes3_cell.specs.declared.level.Level.{Level}
-use Rattle.aes3_cell.specs.Words.{low_cells, level_of, word_cells, word_len}
-use Rattle.aes3_cell.proofs.WordCells.{length-low_cells, take-low_cells, low_cells-suc}
+use Rattle.aes3_cell.specs.Words.{low_cells, level_of, word_cells}
+use Rattle.aes3_cell.proofs.WordCells.{length-low_cells}
 use Rattle.aes3_slot.specs.declared.mark.Mark.{Mark}
 use Rattle.aes3_slot.specs.declared.mark.Mark.TheVariants.{X, Y, Z}
 use Rattle.aes3_slot.specs.Preambles.{entry, begins_with, begins_with_any}
 use Rattle.aes3_slot.proofs.Beginnings.{any-append}
 use Rattle.aes3_lock.specs.Preambles.{first_mark, placed, marks}
 use Rattle.aes3_lock.specs.Steps.{last_eight, ended_mark}
-use Rattle.aes3_lock.proofs.QuietWords.{window, says-no, says-yes}
+use Rattle.aes3_lock.proofs.SubframeWords.{take-low}
+use Rattle.aes3_lock.proofs.QuietWords.{says-yes, ends-at, quiet-at, with-last}
 use Rattle.aes3_lock.proofs.Scanning.{ended-short, ended-long, marks-last}
 
 -- whether a preamble begins
@@ -60,41 +61,20 @@ marks-quiet c (l ∷ d) h =
     ap marks (sym (append_assoc c (l ∷ []) d)) ∙ rest ∙ marks-last c l
     ∙ ap (λ o. marks c ++ option_to_list o) (ended-none (length (c ++ l ∷ [])) (last_eight (c ++ l ∷ [])) (h 0 (omega arith))) ∙ append-nil (marks c)
 
-take-low : (m n w : ℕ) → m ≤ n → take m (low_cells n w) ≡ low_cells m w
-take-low m n w h = ap (λ k. take m (low_cells k w)) (let e : n ≡ m + (n - m) = omega (arith, h) in e) ∙ take-low_cells m (n - m) w
-
 -- of the cells of a word, by the places where preambles begin in the seven before it and its own
 module _ (c b : List Level) (m w : ℕ) (few : m < 2 ^ 64) (is : b ≡ drop 1 (last_eight c) ++ word_cells w)
     (found : (i : ℕ) → i < 64 → bit_at m i ≡ (if begins_with_any (drop i b) then 1 else 0)) where
-  ends-at : (i : ℕ) → i < 64 → bit_at m i ≡ (if begins_with_any (last_eight (c ++ low_cells (suc i) w)) then 1 else 0)
-  unfolding word_cells word_len
-  ends-at i h =
-      let l = length-low_cells 64 w in
-      found i h ∙ ap (λ x. if begins_with_any (drop i x) then 1 else 0) is
-      ∙ ap (λ p. if p then 1 else 0) (window begins_with_any any-append c (low_cells 64 w) i (omega (arith, l, h)) ∙ ap (λ x. begins_with_any (last_eight (c ++ x))) (take-low (suc i) 64 w (omega arith)))
-
-  below : (i : ℕ) → i < trailing_zeros w64 m → i < 64 → bit_at m i ≡ 0
-  below i g h = go (cases_eq m 0)
-    where
-      go : (m ≡ 0) ⊎ (m ≡ 0 → ⊥) → bit_at m i ≡ 0
-      go (inl z) = ap (λ x. bit_at x i) z ∙ bit_at-zero i
-      go (inr s) = (bit_at-trailing_zeros w64 m (omega (arith, s)) few).2 i g
-
-  quiet-at : (i : ℕ) → i < trailing_zeros w64 m → i < 64 → begins_with_any (last_eight (c ++ low_cells (suc i) w)) ≡ false
-  quiet-at i g h = says-no (begins_with_any (last_eight (c ++ low_cells (suc i) w))) (sym (ends-at i h) ∙ below i g h)
-
   pub none-end : (n : ℕ) → n ≤ trailing_zeros w64 m → n ≤ 64 → marks (c ++ low_cells n w) ≡ marks c
   none-end n g h =
       let l = length-low_cells n w in
-      marks-quiet c (low_cells n w) (λ i k. ap (λ x. begins_with_any (last_eight (c ++ x))) (take-low (suc i) n w (omega (arith, l, k))) ∙ quiet-at i (omega (arith, l, k, g)) (omega (arith, l, k, h)))
+      marks-quiet c (low_cells n w) (λ i k. ap (λ x. begins_with_any (last_eight (c ++ x))) (take-low (suc i) n w (omega (arith, l, k))) ∙ quiet-at begins_with_any any-append c b m w few is found i (omega (arith, l, k, g)) (omega (arith, l, k, h)))
 
   -- the first that ends one
   pub one-ends : trailing_zeros w64 m < 64 → marks (c ++ low_cells (trailing_zeros w64 m + 1) w)
       ≡ marks c ++ option_to_list (ended_mark (length (c ++ low_cells (trailing_zeros w64 m + 1) w)) (last_eight (c ++ low_cells (trailing_zeros w64 m + 1) w)))
   one-ends h =
       let n = trailing_zeros w64 m in
-      let e : (c ++ low_cells n w) ++ level_of (bit_at w n) ∷ [] ≡ c ++ low_cells (n + 1) w =
-      append_assoc c (low_cells n w) (level_of (bit_at w n) ∷ []) ∙ ap (λ x. c ++ x) (sym (low_cells-suc n w) ∙ ap (λ k. low_cells k w) (sym (add-one n))) in
+      let e = with-last c n w in
       ap marks (sym e) ∙ marks-last (c ++ low_cells n w) (level_of (bit_at w n))
       ∙ ap₂ (λ x y. x ++ option_to_list (ended_mark (length y) (last_eight y))) (none-end n (omega arith) (omega (arith, h))) e
 
@@ -108,4 +88,4 @@ module _ (c b : List Level) (m w : ℕ) (few : m < 2 ^ 64) (is : b ≡ drop 1 (l
       go (inl z) = absurd (let t = ap (trailing_zeros w64) z ∙ trailing_of_zero 64 in omega (arith, t, h))
       go (inr s) =
           let z = bit_at-trailing_zeros w64 m (omega (arith, s)) few in
-          ap (λ k. begins_with_any (last_eight (c ++ low_cells k w))) (add-one n) ∙ says-yes _ (sym (ends-at n z.0) ∙ z.1)
+          ap (λ k. begins_with_any (last_eight (c ++ low_cells k w))) (add-one n) ∙ says-yes _ (sym (ends-at begins_with_any any-append c b m w few is found n z.0) ∙ z.1)

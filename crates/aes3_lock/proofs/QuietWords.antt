@@ -1,24 +1,27 @@
 -- Cells in which no preamble of a block ends, where no candidate is in hand.
-use Rattle.std.proofs.Common.{◌≡◌, ℕ, suc, ◌+◌, ◌-◌, ◌/◌, ◌^◌, ◌<◌, ◌≤◌, List, [], ◌∷◌, ◌++◌, Bool, true, false, None, refl, length, take, drop, ap, ap₂, ◌∙◌, sym, subst, arith, length-append, length-drop, length-take, min, drop-drop, append_assoc, append-nil, take-append-drop, w64}
+use Rattle.std.proofs.Common.{◌≡◌, ℕ, suc, ◌+◌, ◌-◌, ◌/◌, ◌^◌, ◌<◌, ◌≤◌, ◌⊎◌, inl, inr, List, [], ◌∷◌, ◌++◌, Bool, true, false, None, refl, length, take, drop, ap, ap₂, ◌∙◌, sym, subst, arith, length-append, length-drop, length-take, min, drop-drop, append_assoc, append-nil, take-append-drop, w64, add-one}
 use Rattle.std.specs.Prelude.{if◌then◌else◌}
 use Rattle.std.specs.Int.{bit_at, trailing_zeros}
+use Rattle.std.specs.Int.Count.{trailing_of_zero}
 use Rattle.std.proofs.lemmas.List.{drop-append-le}
+use Rattle.std.proofs.lemmas.Bool.{cases_eq}
 use Rattle.std.proofs.lemmas.Nat.Bits.{bit_at-trailing_zeros, bit_at-zero}
 use Rattle.aes3_cell.specs.declared.level.Level.{Level}
-use Rattle.aes3_cell.specs.Words.{low_cells, word_cells}
-use Rattle.aes3_cell.proofs.WordCells.{drop-low_cells}
+use Rattle.aes3_cell.specs.Words.{level_of, low_cells, word_cells}
+use Rattle.aes3_cell.proofs.WordCells.{length-low_cells, drop-low_cells, low_cells-suc}
 use Rattle.aes3_slot.specs.declared.mark.Mark.TheVariants.{Z}
 use Rattle.aes3_slot.specs.Preambles.{with_seven}
 use Rattle.aes3_slot.proofs.Taken.{length-word}
 use Rattle.aes3_lock.specs.Candidates.{begins_block}
 use Rattle.aes3_lock.specs.Reports.{open_at, decided_from, decided}
-use Rattle.aes3_lock.specs.Steps.{last_eight}
+use Rattle.aes3_lock.specs.Steps.{last_eight, begun}
 use Rattle.aes3_lock.specs.Following.{LockState, Follows, NoneOpen, BeginsIn}
 use Rattle.aes3_slot.proofs.Beginnings.{begins-append}
 use Rattle.aes3_lock.proofs.Deciding.{decided-push}
 use Rattle.aes3_lock.proofs.Opens.{answer-none, none-after}
-use Rattle.aes3_lock.proofs.LastEight.{length-last_eight, last_eight-more, last_eight-word}
-use Rattle.aes3_lock.proofs.Following.{closed, drop-push}
+use Rattle.aes3_lock.proofs.LastEight.{length-last_eight, last_eight-more, last_eight-with, last_eight-word}
+use Rattle.aes3_lock.proofs.SubframeWords.{take-low, take-word}
+use Rattle.aes3_lock.proofs.Following.{closed, drop-push, push-none}
 
 -- a property of eight cells that end with cell i of the cells d
 pub window : (q : List Level → Bool) → ((x y : List Level) → 8 ≤ length x → q (x ++ y) ≡ q x) → (c d : List Level) (i : ℕ) → i < length d
@@ -83,6 +86,38 @@ pub says-yes : (b : Bool) → ◌≡◌ {A = ℕ} (if b then 1 else 0) 1 → b �
 says-yes true q = refl
 says-yes false q = absurd (omega arith)
 
+-- the bits below the lowest one, and that
+pub below-trailing : (m i : ℕ) → m < 2 ^ 64 → i < trailing_zeros w64 m → bit_at m i ≡ 0
+below-trailing m i few g = go (cases_eq m 0)
+  where
+    go : (m ≡ 0) ⊎ (m ≡ 0 → ⊥) → bit_at m i ≡ 0
+    go (inl z) = ap (λ x. bit_at x i) z ∙ bit_at-zero i
+    go (inr s) = (bit_at-trailing_zeros w64 m (omega (arith, s)) few).2 i g
+
+pub no-trailing : (m : ℕ) → m < 2 ^ 64 → trailing_zeros w64 m ≡ 0 → bit_at m 0 ≡ 1
+no-trailing m few e = go (cases_eq m 0)
+  where
+    go : (m ≡ 0) ⊎ (m ≡ 0 → ⊥) → bit_at m 0 ≡ 1
+    go (inl z) = absurd (let t = ap (trailing_zeros w64) z ∙ trailing_of_zero 64 in omega (arith, t, e))
+    go (inr s) = sym (ap (bit_at m) e) ∙ (bit_at-trailing_zeros w64 m (omega (arith, s)) few).1
+
+-- of the cells of a word, by the places where eight cells with a property begin in the seven before it and its own
+module _ (q : List Level → Bool) (stays : (x y : List Level) → 8 ≤ length x → q (x ++ y) ≡ q x) (c b : List Level) (m w : ℕ) (few : m < 2 ^ 64)
+    (is : b ≡ drop 1 (last_eight c) ++ word_cells w) (found : (i : ℕ) → i < 64 → bit_at m i ≡ (if q (drop i b) then 1 else 0)) where
+  pub ends-at : (i : ℕ) → i < 64 → bit_at m i ≡ (if q (last_eight (c ++ low_cells (suc i) w)) then 1 else 0)
+  ends-at i h =
+      let l = length-word w in
+      found i h ∙ ap (λ x. if q (drop i x) then 1 else 0) is
+      ∙ ap (λ p. if p then 1 else 0) (window q stays c (word_cells w) i (omega (arith, l, h)) ∙ ap (λ x. q (last_eight (c ++ x))) (take-word (suc i) w (omega arith)))
+
+  pub quiet-at : (i : ℕ) → i < trailing_zeros w64 m → i < 64 → q (last_eight (c ++ low_cells (suc i) w)) ≡ false
+  quiet-at i g h = says-no (q (last_eight (c ++ low_cells (suc i) w))) (sym (ends-at i h) ∙ below-trailing m i few g)
+
+-- the first cells of a word and one more
+pub with-last : (c : List Level) (n w : ℕ) → (c ++ low_cells n w) ++ level_of (bit_at w n) ∷ [] ≡ c ++ low_cells (n + 1) w
+with-last c n w =
+    append_assoc c (low_cells n w) (level_of (bit_at w n) ∷ []) ∙ ap (λ x. c ++ x) (sym (low_cells-suc n w) ∙ ap (λ k. low_cells k w) (sym (add-one n)))
+
 -- a word in which no preamble of a block begins, and one in which one does
 pub none-begins : (m : ℕ) (c d : List Level) → m ≡ 0 → ((i : ℕ) → i < 64 → bit_at m i ≡ (if begins_block (drop i c) then 1 else 0)) → c ≡ d
     → (i : ℕ) → i < 64 → begins_block (drop i d) ≡ false
@@ -117,3 +152,43 @@ module _ (k k' : LockState) (c : List Level) (w : ℕ) (f : Follows k c) (s : k.
 
   pub quiet-none : decided (c ++ word_cells w) ≡ decided c
   quiet-none = all.1
+
+-- a lock with the first cells of a word up to the first that ends such a preamble
+module _ (k k' : LockState) (c b : List Level) (m w n : ℕ) (f : Follows k c) (s : k.candidate ≡ None) (few : m < 2 ^ 64)
+    (is : b ≡ drop 1 k.recent ++ word_cells w) (found : (i : ℕ) → i < 64 → bit_at m i ≡ (if begins_block (drop i b) then 1 else 0))
+    (some : 0 < n) (within : n ≤ trailing_zeros w64 m + 1) (room : n ≤ 64)
+    (seen : k'.seen ≡ k.seen + n) (recent : k'.recent ≡ drop n (k.recent ++ low_cells n w)) (anew : k'.candidate ≡ begun k'.seen k'.recent)
+    (kept : k'.recent ≡ low_cells 8 k'.subframe) (small : k'.subframe < 2 ^ 8) where
+  quiet-before : NoneOpen (c ++ low_cells (n - 1) w) × (decided (c ++ low_cells (n - 1) w) ≡ decided c)
+  quiet-before =
+      let l = length-low_cells (n - 1) w in
+      quiet-cells c (low_cells (n - 1) w) (rw s at f.candidate)
+      (λ i h. ap (λ x. begins_block (last_eight (c ++ x))) (take-low (suc i) (n - 1) w (omega (arith, l, h)))
+      ∙ quiet-at begins_block (begins-append Z) c b m w few (is ∙ ap (λ r. drop 1 r ++ word_cells w) f.recent) found i (omega (arith, l, h)) (omega (arith, l, h)))
+
+  midst : LockState
+  midst = record { seen = length (c ++ low_cells (n - 1) w); recent = last_eight (c ++ low_cells (n - 1) w); candidate = None; subframe = 0; slots = k.slots }
+
+  all-of : (c ++ low_cells (n - 1) w) ++ level_of (bit_at w (n - 1)) ∷ [] ≡ c ++ low_cells n w
+  all-of = with-last c (n - 1) w ∙ ap (λ j. c ++ low_cells j w) (let e : n - 1 + 1 ≡ n = omega arith in e)
+
+  recent-is : k'.recent ≡ last_eight (c ++ low_cells n w)
+  recent-is =
+      recent ∙ ap₂ (λ j r. drop j (r ++ low_cells n w)) (sym (length-low_cells n w)) f.recent ∙ sym (last_eight-more c (low_cells n w))
+
+  pushed : Follows k' ((c ++ low_cells (n - 1) w) ++ level_of (bit_at w (n - 1)) ∷ [])
+      × (decided ((c ++ low_cells (n - 1) w) ++ level_of (bit_at w (n - 1)) ∷ []) ≡ decided (c ++ low_cells (n - 1) w) ++ [])
+  unfolding midst
+  pushed =
+      let l = length-low_cells (n - 1) w in
+      let a = length-append c (low_cells (n - 1) w) in
+      let g = f.seen in
+      push-none midst k' (c ++ low_cells (n - 1) w) (level_of (bit_at w (n - 1))) (record { seen = refl; recent = refl; candidate = quiet-before.0 }) refl
+      (omega (arith, l, a, g, seen))
+      (recent-is ∙ ap last_eight (sym all-of) ∙ last_eight-with (c ++ low_cells (n - 1) w) (level_of (bit_at w (n - 1)))) anew kept small
+
+  pub searched : Follows k' (c ++ low_cells n w) × (decided (c ++ low_cells n w) ≡ decided c)
+  searched = (
+    subst (Follows k') all-of pushed.0,
+    ap decided (sym all-of) ∙ pushed.1 ∙ append-nil (decided (c ++ low_cells (n - 1) w)) ∙ quiet-before.1,
+  )

@@ -1,11 +1,11 @@
 -- The cells of a subframe in a word, parted and joined by shifts.
-use Rattle.std.proofs.Common.{◌≡◌, ℕ, ◌+◌, ◌-◌, ◌*◌, ◌/◌, ◌%◌, ◌^◌, ◌<◌, max, min, ◌++◌, take, drop, ap, ap₂, ◌∙◌, sym, arith}
+use Rattle.std.proofs.Common.{◌≡◌, ℕ, ◌+◌, ◌-◌, ◌*◌, ◌/◌, ◌%◌, ◌^◌, ◌<◌, ◌≤◌, max, min, ◌++◌, take, drop, ap, ap₂, ◌∙◌, sym, arith}
 use Rattle.std.specs.Prelude.{bit_and, bit_or}
 use Rattle.std.specs.Int.{bit_at}
 use Rattle.std.proofs.Math.Pow.{shr_lt}
-use Rattle.std.proofs.lemmas.Nat.{shr-shr, or_shifted}
+use Rattle.std.proofs.lemmas.Nat.{one_shl, shr-shr, or_shifted}
 use Rattle.std.proofs.lemmas.Nat.Bits.{bit_at_and, bit_at_or, bit_at-lt, bit_at_above, bit_at_ones, bit_at_cat_low}
-use Rattle.aes3_cell.specs.Words.{low_cells, level_of}
+use Rattle.aes3_cell.specs.Words.{low_cells, level_of, word_cells, word_len}
 use Rattle.aes3_cell.proofs.WordCells.{low_cells-add, low_cells-at, low_cells-same, take-low_cells, drop-low_cells}
 use Rattle.aes3_slot.specs.Rules.{at}
 use Rattle.aes3_cell.proofs.Moves.{bit_at-shr, shl-above, shl-below}
@@ -44,6 +44,19 @@ rest-few n word h b =
     let q = ap (λ k. 2 ^ k) e in
     let r = shr_lt {n = word} n (64 - n) (omega (arith, b, q)) in
     omega (arith, s, r)
+
+-- the first cells of a word
+pub take-low : (m n w : ℕ) → m ≤ n → take m (low_cells n w) ≡ low_cells m w
+take-low m n w h = ap (λ k. take m (low_cells k w)) (let e : n ≡ m + (n - m) = omega (arith, h) in e) ∙ take-low_cells m (n - m) w
+
+pub take-word : (n w : ℕ) → n ≤ 64 → take n (word_cells w) ≡ low_cells n w
+unfolding word_cells word_len
+take-word n w h = take-low n 64 w h
+
+pub cells-first : (n w : ℕ) → n < 64 → low_cells n (bit_and w (1 * 2 ^ n % 2 ^ 64 - 1)) ≡ low_cells n w
+cells-first n w h =
+    low_cells-same n (bit_and w (1 * 2 ^ n % 2 ^ 64 - 1)) w
+    (λ i g. let b = bit_at-lt w i in ap (λ m. bit_at (bit_and w (m - 1)) i) (one_shl n 64 h) ∙ bit_at_and w (2 ^ n - 1) i ∙ ap (min (bit_at w i)) (bit_at_ones n i g) ∙ omega (arith, b))
 
 pub last-is : (word b : ℕ) → word / 2 ^ 63 % 2 ≡ b → at (low_cells 64 word) 63 ≡ level_of b
 last-is word b h = low_cells-at 64 word 63 (omega arith) ∙ ap level_of h

@@ -12,7 +12,7 @@ use Rattle.aes3_slot.specs.Reading.{read_bits}
 use Rattle.aes3_slot.specs.Fronts.{IsFrontOf}
 use Rattle.aes3_slot.proofs.Bits.{number-low_bits}
 use Rattle.aes3_slot.proofs.Fronts.{kept-from-front, front-from-kept}
-use Rattle.aes3_cell.proofs.WordCells.{take-low_cells}
+use Rattle.aes3_lock.proofs.SubframeWords.{take-word}
 use Rattle.aes3_slot.proofs.Taken.{length-word}
 use Rattle.aes3_block.specs.Blocks.{mark_at, block_slots, block_len}
 use Rattle.aes3_lock.specs.declared.candidate.Candidate.{Candidate}
@@ -24,7 +24,7 @@ use Rattle.aes3_slot.proofs.Beginnings.{entry-append}
 use Rattle.aes3_lock.proofs.Fronts.{front-is}
 use Rattle.aes3_lock.proofs.Opens.{IsOpen, is-open, open-room}
 use Rattle.aes3_lock.proofs.LastEight.{last_eight-word}
-use Rattle.aes3_lock.proofs.WordSteps.{next-cell, made-whole, all-keep, begins-whole, begins-next}
+use Rattle.aes3_lock.proofs.WordSteps.{more-cells, made-whole, all-keep, begins-whole, begins-next}
 use Rattle.aes3_lock.proofs.Following.{hand, hand-open, offset, goes-on}
 
 -- x has the first cells of the word w behind those of the subframe at offset o of the candidate, and y the others
@@ -39,14 +39,10 @@ pub record Fits (t : Candidate) (x y o : ℕ) : Type 0 where
   pub whole : IsFrontOf t.level (mark_at (o / 64)) (take 64 (word_cells x))
   pub next : IsFrontOf (at (word_cells x) 63) (mark_at (o / 64 + 1)) (take (o % 64) (word_cells y))
 
-take-word : (n w : ℕ) → n ≤ 64 → take n (word_cells w) ≡ low_cells n w
-unfolding word_cells word_len
-take-word n w h = ap (λ m. take n (low_cells m w)) (let e : 64 ≡ n + (64 - n) = omega arith in e) ∙ take-low_cells n (64 - n) w
-
-all-64 : (x : ℕ) → take 64 (word_cells x) ≡ word_cells x
+pub all-64 : (x : ℕ) → take 64 (word_cells x) ≡ word_cells x
 all-64 x = let l = length-word x in take_all 64 (word_cells x) (omega (arith, l))
 
-bits-number : (v : ℕ) (bits : List Bool) → slots_bits v ≡ bits → v < 2 ^ 28 → v ≡ number bits
+pub bits-number : (v : ℕ) (bits : List Bool) → slots_bits v ≡ bits → v < 2 ^ 28 → v ≡ number bits
 unfolding slots_len
 bits-number v bits e h = sym (number-low_bits 28 v h) ∙ ap number e
 
@@ -197,7 +193,7 @@ pub next-inside : (u : Level) (sub new : ℕ) (slots : List ℕ) (s : Level) (d 
     → (sub < 2 ^ (o % 64) → low_cells (o % 64 + 1) new ≡ low_cells (o % 64) sub ++ l ∷ []) → (sub < 2 ^ (o % 64) → new < 2 ^ (o % 64 + 1))
     → Gathered u sub slots s d → o ≡ length d → Gathered u new slots s (d ++ l ∷ [])
 next-inside u sub new slots s d o l h cells few g e =
-    next-cell u sub new slots s d l g (subst (λ n. n % 64 < 63) e h)
+    more-cells u sub new slots s d (l ∷ []) g (omega (arith, e, h))
     (subst (λ n. sub < 2 ^ (n % 64) → low_cells (n % 64 + 1) new ≡ low_cells (n % 64) sub ++ l ∷ []) e cells)
     (subst (λ n. sub < 2 ^ (n % 64) → new < 2 ^ (n % 64 + 1)) e few)
 

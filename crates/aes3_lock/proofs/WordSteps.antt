@@ -1,5 +1,5 @@
 -- Cells that make a subframe whole, and the cells of the next one behind them.
-use Rattle.std.proofs.Common.{◌≡◌, ℕ, suc, ◌+◌, ◌-◌, ◌*◌, ◌/◌, ◌%◌, ◌^◌, ◌<◌, ◌≤◌, ◌⊎◌, inl, inr, List, [], ◌∷◌, ◌++◌, true, refl, length, take, drop, set, get_or, ap, ap₂, ◌∙◌, sym, subst, arith, length-append, length-drop, length-take-le, take-append-drop, append_assoc, drop-drop, drop_at}
+use Rattle.std.proofs.Common.{◌≡◌, ℕ, suc, ◌+◌, ◌-◌, ◌*◌, ◌/◌, ◌%◌, ◌^◌, ◌<◌, ◌≤◌, ◌⊎◌, inl, inr, List, ◌++◌, true, refl, length, take, drop, set, get_or, ap, ap₂, ◌∙◌, sym, subst, arith, length-append, length-drop, length-take-le, take-append-drop, append_assoc, drop-drop, drop_at}
 use Rattle.std.proofs.lemmas.List.{drop-append-le, take-append-le, take_at, get_or-set_same, get_or-set_other, get_or-append_right}
 use Rattle.std.proofs.lemmas.Bool.{cases_eq, cases_lt}
 use Rattle.aes3_cell.specs.declared.level.Level.{Level}
@@ -18,61 +18,63 @@ use Rattle.aes3_lock.proofs.Deciding.{block_len_64}
 use Rattle.aes3_lock.proofs.Fronts.{keeps-append}
 use Rattle.aes3_lock.proofs.LastEight.{before-at}
 
--- one more cell of a subframe that it does not make whole
-pub next-cell : (u : Level) (sub new : ℕ) (slots : List ℕ) (s : Level) (d : List Level) (x : Level) → Gathered u sub slots s d → length d % 64 < 63
-    → (sub < 2 ^ (length d % 64) → low_cells (length d % 64 + 1) new ≡ low_cells (length d % 64) sub ++ x ∷ [])
-    → (sub < 2 ^ (length d % 64) → new < 2 ^ (length d % 64 + 1))
-    → Gathered u new slots s (d ++ x ∷ [])
-next-cell u sub new slots s d x g h cells few =
-    let n = length-append d (x ∷ []) in
-    let whole-is : length (d ++ x ∷ []) / 64 ≡ length d / 64 = omega (arith, n, h) in
-    let len-is : length (d ++ x ∷ []) % 64 ≡ length d % 64 + 1 = omega (arith, n, h) in
+-- more cells of a subframe that they don't make whole
+pub more-cells : (u : Level) (sub new : ℕ) (slots : List ℕ) (s : Level) (d e : List Level) → Gathered u sub slots s d → length d % 64 + length e < 64
+    → (sub < 2 ^ (length d % 64) → low_cells (length d % 64 + length e) new ≡ low_cells (length d % 64) sub ++ e)
+    → (sub < 2 ^ (length d % 64) → new < 2 ^ (length d % 64 + length e))
+    → Gathered u new slots s (d ++ e)
+more-cells u sub new slots s d e g h cells few =
+    let n = length-append d e in
+    let whole-is : length (d ++ e) / 64 ≡ length d / 64 = omega (arith, n, h) in
+    let len-is : length (d ++ e) % 64 ≡ length d % 64 + length e = omega (arith, n, h) in
     record {
-      level = g.level ∙ sym (ap (λ k. before s (d ++ x ∷ []) (64 * k)) whole-is ∙ before-append_left s d (x ∷ []) (64 * (length d / 64)) (omega arith));
-      cells = ap (λ k. low_cells k new) len-is ∙ cells g.few ∙ ap (λ c. c ++ x ∷ []) g.cells
-          ∙ sym (ap (λ k. drop (64 * k) (d ++ x ∷ [])) whole-is ∙ drop-append-le (64 * (length d / 64)) d (x ∷ []) (omega arith));
+      level = g.level ∙ sym (ap (λ k. before s (d ++ e) (64 * k)) whole-is ∙ before-append_left s d e (64 * (length d / 64)) (omega arith));
+      cells = ap (λ k. low_cells k new) len-is ∙ cells g.few ∙ ap (λ c. c ++ e) g.cells
+          ∙ sym (ap (λ k. drop (64 * k) (d ++ e)) whole-is ∙ drop-append-le (64 * (length d / 64)) d e (omega arith));
       few = subst (λ k. new < 2 ^ k) (sym len-is) (few g.few);
       whole = λ j l r.
           let m = length-drop (64 * j + 8) d in
           g.whole j l (omega (arith, n, h, r))
-          ∙ ap (λ y. number (read_bits y)) (sym (ap (take 56) (drop-append-le (64 * j + 8) d (x ∷ []) (omega (arith, n, h, r)))
-          ∙ take-append-le 56 (drop (64 * j + 8) d) (x ∷ []) (omega (arith, n, h, r, m))));
+          ∙ ap (λ y. number (read_bits y)) (sym (ap (take 56) (drop-append-le (64 * j + 8) d e (omega (arith, n, h, r)))
+          ∙ take-append-le 56 (drop (64 * j + 8) d) e (omega (arith, n, h, r, m))));
     }
 
--- cells d of which the last subframe isn't whole, cells e that make it whole as w, and cells f behind it
-module _ (s : Level) (d e f w : List Level) (is : w ≡ drop (64 * (length d / 64)) d ++ e) (all : length w ≡ 64) where
-  abbrev start : List Level
+-- the whole subframes of cells
+module _ (s : Level) (d : List Level) where
+  abbrev pub start : List Level
   start = take (64 * (length d / 64)) d
 
-  start-length : length start ≡ 64 * (length d / 64)
+  pub start-length : length start ≡ 64 * (length d / 64)
   start-length = length-take-le (64 * (length d / 64)) d (omega arith)
 
-  whole-length : length (start ++ w) ≡ 64 * suc (length d / 64)
-  whole-length = let n = length-append start w in let m = start-length in omega (arith, n, m, all)
-
-  joined : d ++ (e ++ f) ≡ (start ++ w) ++ f
-  joined =
-      ap (λ v. v ++ (e ++ f)) (sym (take-append-drop (64 * (length d / 64)) d))
-      ∙ append_assoc start (drop (64 * (length d / 64)) d) (e ++ f)
-      ∙ ap (λ v. start ++ v) (sym (append_assoc (drop (64 * (length d / 64)) d) e f) ∙ ap (λ v. v ++ f) (sym is))
-      ∙ sym (append_assoc start w f)
-
-  joined-length : length (d ++ (e ++ f)) ≡ 64 * suc (length d / 64) + length f
-  joined-length = let n = length-append (start ++ w) f in let m = whole-length in ap length joined ∙ omega (arith, n, m)
-
-  last-is : before s (start ++ w) (length (start ++ w)) ≡ at w 63
-  last-is =
-      let m = start-length in
-      let n = whole-length in
-      before-at s (start ++ w) (length (start ++ w)) (omega (arith, n))
-      ∙ get_or-append_right start w (64 * (length d / 64)) (length (start ++ w) - 1) Low m (omega (arith, n))
-      ∙ ap (at w) (let q : length (start ++ w) - 1 - 64 * (length d / 64) ≡ 63 = omega (arith, n) in q)
-
-  start-last : before s d (64 * (length d / 64)) ≡ before s start (length start)
+  pub start-last : before s d (64 * (length d / 64)) ≡ before s start (length start)
   start-last =
       let m = start-length in
       ap₂ (before s) (sym (take-append-drop (64 * (length d / 64)) d)) (sym m)
       ∙ before-append_left s start (drop (64 * (length d / 64)) d) (length start) (omega arith)
+
+-- cells d of which the last subframe isn't whole, cells e that make it whole as w, and cells f behind it
+module _ (s : Level) (d e f w : List Level) (is : w ≡ drop (64 * (length d / 64)) d ++ e) (all : length w ≡ 64) where
+  whole-length : length ((start s d) ++ w) ≡ 64 * suc (length d / 64)
+  whole-length = let n = length-append (start s d) w in let m = start-length s d in omega (arith, n, m, all)
+
+  joined : d ++ (e ++ f) ≡ ((start s d) ++ w) ++ f
+  joined =
+      ap (λ v. v ++ (e ++ f)) (sym (take-append-drop (64 * (length d / 64)) d))
+      ∙ append_assoc (start s d) (drop (64 * (length d / 64)) d) (e ++ f)
+      ∙ ap (λ v. (start s d) ++ v) (sym (append_assoc (drop (64 * (length d / 64)) d) e f) ∙ ap (λ v. v ++ f) (sym is))
+      ∙ sym (append_assoc (start s d) w f)
+
+  joined-length : length (d ++ (e ++ f)) ≡ 64 * suc (length d / 64) + length f
+  joined-length = let n = length-append ((start s d) ++ w) f in let m = whole-length in ap length joined ∙ omega (arith, n, m)
+
+  last-is : before s ((start s d) ++ w) (length ((start s d) ++ w)) ≡ at w 63
+  last-is =
+      let m = start-length s d in
+      let n = whole-length in
+      before-at s ((start s d) ++ w) (length ((start s d) ++ w)) (omega (arith, n))
+      ∙ get_or-append_right (start s d) w (64 * (length d / 64)) (length ((start s d) ++ w) - 1) Low m (omega (arith, n))
+      ∙ ap (at w) (let q : length ((start s d) ++ w) - 1 - 64 * (length d / 64) ≡ 63 = omega (arith, n) in q)
 
   -- what is kept then
   pub made-whole : (u : Level) (sub new v : ℕ) (slots : List ℕ) → Gathered u sub slots s d → length slots ≡ block_slots → length d < block_len
@@ -84,10 +86,10 @@ module _ (s : Level) (d e f w : List Level) (is : w ≡ drop (64 * (length d / 6
       let len-is : length (d ++ (e ++ f)) % 64 ≡ length f = omega (arith, n, few) in
       let m = whole-length in
       record {
-        level = sym (ap₂ (λ c k. before s c (64 * k)) joined whole-is ∙ ap (before s ((start ++ w) ++ f)) (sym m)
-            ∙ before-append_left s (start ++ w) f (length (start ++ w)) (omega arith) ∙ last-is);
+        level = sym (ap₂ (λ c k. before s c (64 * k)) joined whole-is ∙ ap (before s (((start s d) ++ w) ++ f)) (sym m)
+            ∙ before-append_left s ((start s d) ++ w) f (length ((start s d) ++ w)) (omega arith) ∙ last-is);
         cells = ap (λ k. low_cells k new) len-is ∙ cells
-            ∙ sym (ap₂ (λ k c. drop (64 * k) c) whole-is joined ∙ drop_at (start ++ w) f (64 * suc (length d / 64)) m);
+            ∙ sym (ap₂ (λ k c. drop (64 * k) c) whole-is joined ∙ drop_at ((start s d) ++ w) f (64 * suc (length d / 64)) m);
         few = subst (λ k. new < 2 ^ k) (sym len-is) bound;
         whole = λ j l r. slot j (cases_eq j (length d / 64)) (omega (arith, n, r, few));
       }
@@ -98,11 +100,11 @@ module _ (s : Level) (d e f w : List Level) (is : w ≡ drop (64 * (length d / 6
       slot : (j : ℕ) → (j ≡ length d / 64) ⊎ (j ≡ length d / 64 → ⊥) → j ≤ length d / 64
           → get_or (set slots (length d / 64) v) j 0 ≡ number (read_bits (take 56 (drop (64 * j + 8) (d ++ (e ++ f)))))
       slot j (inl q) le =
-          let a = start-length in
+          let a = start-length s d in
           let k = length-drop 8 w in
           let part : take 56 (drop (64 * (length d / 64) + 8) (d ++ (e ++ f))) ≡ drop 8 w =
-          ap (λ c. take 56 (drop (64 * (length d / 64) + 8) c)) (joined ∙ append_assoc start w f)
-          ∙ ap (take 56) (sym (drop-drop 8 (64 * (length d / 64)) (start ++ (w ++ f))) ∙ ap (drop 8) (drop_at start (w ++ f) (64 * (length d / 64)) a)
+          ap (λ c. take 56 (drop (64 * (length d / 64) + 8) c)) (joined ∙ append_assoc (start s d) w f)
+          ∙ ap (take 56) (sym (drop-drop 8 (64 * (length d / 64)) ((start s d) ++ (w ++ f))) ∙ ap (drop 8) (drop_at (start s d) (w ++ f) (64 * (length d / 64)) a)
           ∙ drop-append-le 8 w f (omega (arith, all)))
           ∙ take_at (drop 8 w) f 56 (omega (arith, k, all)) in
           ap (λ i. get_or (set slots (length d / 64) v) i 0) q ∙ get_or-set_same slots (length d / 64) v 0 here ∙ bits
@@ -114,7 +116,7 @@ module _ (s : Level) (d e f w : List Level) (is : w ≡ drop (64 * (length d / 6
           ∙ take-append-le 56 (drop (64 * j + 8) d) (e ++ f) (omega (arith, le, q, m))))
 
 -- the rule by the place in a subframe
-keeps-part : (s u : Level) (a b : List Level) (j i : ℕ) → length a ≡ 64 * j → before s a (length a) ≡ u → i < 64
+pub keeps-part : (s u : Level) (a b : List Level) (j i : ℕ) → length a ≡ 64 * j → before s a (length a) ≡ u → i < 64
     → keeps s (a ++ b) (64 * j + i) ≡ stands u (mark_at j) b i
 unfolding keeps stands
 keeps-part s u a b j i l e h =
@@ -134,13 +136,13 @@ module _ (s u : Level) (d e f w : List Level) (is : w ≡ drop (64 * (length d /
   in-whole i h =
       let n = whole-length s d e f w is all in
       ap (λ c. keeps s c (64 * (length d / 64) + i)) (joined s d e f w is all)
-      ∙ keeps-append s (start s d e f w is all ++ w) f (64 * (length d / 64) + i) (omega (arith, n, h))
-      ∙ keeps-part s u (start s d e f w is all) w (length d / 64) i (start-length s d e f w is all) (sym (level ∙ start-last s d e f w is all)) h
+      ∙ keeps-append s (start s d ++ w) f (64 * (length d / 64) + i) (omega (arith, n, h))
+      ∙ keeps-part s u (start s d) w (length d / 64) i (start-length s d) (sym (level ∙ start-last s d)) h
 
   in-next : (i : ℕ) → i < 64 → keeps s (d ++ (e ++ f)) (64 * suc (length d / 64) + i) ≡ stands (at w 63) (mark_at (suc (length d / 64))) f i
   in-next i h =
       ap (λ c. keeps s c (64 * suc (length d / 64) + i)) (joined s d e f w is all)
-      ∙ keeps-part s (at w 63) (start s d e f w is all ++ w) f (suc (length d / 64)) i (whole-length s d e f w is all) (last-is s d e f w is all) h
+      ∙ keeps-part s (at w 63) (start s d ++ w) f (suc (length d / 64)) i (whole-length s d e f w is all) (last-is s d e f w is all) h
 
   -- cells that keep the rule so far go on with these where these begin their subframes
   pub all-keep : ((i : ℕ) → i < length d → keeps s d i ≡ true) → AllKept (λ _. mark_at (length d / 64)) u w

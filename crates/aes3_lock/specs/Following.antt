@@ -1,15 +1,18 @@
 -- Which lists of cells a lock and a scan follow.
-use Rattle.std.specs.Prelude.{ℕ, List, true, false, length, ◌≡◌, ◌<◌, ◌≤◌, ◌+◌, ◌-◌, ◌*◌, ◌/◌, ◌%◌, ◌^◌, Some, drop, take, get_or, MatchOption, Option}
+use Rattle.std.specs.Prelude.{ℕ, List, true, false, length, ◌≡◌, ◌<◌, ◌≤◌, ◌+◌, ◌-◌, ◌*◌, ◌/◌, ◌%◌, ◌^◌, Some, drop, take, get_or, map, MatchOption, Option}
 use Rattle.aes3_cell.specs.declared.level.Level.{Level}
 use Rattle.aes3_cell.specs.Words.{low_cells}
 use Rattle.aes3_slot.specs.Bits.{number}
+use Rattle.aes3_slot.specs.Slots.{slots_bits}
 use Rattle.aes3_slot.specs.Rules.{at, before, rule}
 use Rattle.aes3_slot.specs.Reading.{read_bits}
 use Rattle.aes3_block.specs.Blocks.{block_slots, block_len, mark_at}
 use Rattle.aes3_lock.specs.declared.candidate.Candidate.{Candidate}
 use Rattle.aes3_slot.specs.Preambles.{entry}
 use Rattle.aes3_lock.specs.Candidates.{begins_block}
-use Rattle.aes3_lock.specs.Reports.{open_at}
+use Rattle.aes3_lock.specs.declared.report.Ending.{Ending}
+use Rattle.aes3_lock.specs.declared.report.Report.{Report}
+use Rattle.aes3_lock.specs.Reports.{open_at, ending_report}
 use Rattle.aes3_lock.specs.Steps.{last_eight}
 
 -- how many cells a lock has seen, the last eight, the candidate in hand, the cells of its last subframe that isn't whole, the
@@ -59,6 +62,10 @@ pub record BeginsIn (c : List Level) : Type 0 where
   pub place : ℕ
   pub within : place < 64
   pub is : begins_block (drop place c) ≡ true
+
+-- the report of an ending that a lock answers, with the block that it holds
+abbrev pub report_in : LockState → Ending → Report
+report_in k e = ending_report (map slots_bits k.slots) e
 
 -- this cell does not go on with the candidate in hand
 pub record Stops (k : LockState) (l : Level) : Type 0 where

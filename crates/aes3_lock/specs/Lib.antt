@@ -7,6 +7,7 @@ pub mod Following
 pub mod Standing
 pub mod Pieces
 pub mod Laws
+pub mod Spacing
 pub use Rattle.aes3_cell.specs.Cells
 pub use Rattle.aes3_slot.specs.Slots
 pub use Rattle.aes3_block.specs.Blocks

@@ -3,11 +3,13 @@ use Rattle.std.specs.Prelude.{ℕ, suc, List, [], ◌∷◌, ◌++◌, Bool, tru
 use Rattle.aes3_cell.specs.declared.level.Level.{Level}
 use Rattle.aes3_cell.specs.declared.level.Level.TheVariants.{Low}
 use Rattle.aes3_block.specs.Blocks.{block_len, stream}
+use Rattle.aes3_lock.specs.declared.report.Ending.{Ending}
+use Rattle.aes3_lock.specs.declared.report.Ending.TheVariants.{Whole as EndsWhole, Marked as EndsMarked, Fault as EndsFault}
 use Rattle.aes3_lock.specs.declared.report.Report.{Report}
 use Rattle.aes3_lock.specs.declared.report.Report.TheVariants.{Whole, Marked, Fault, Unfinished}
 use Rattle.aes3_slot.specs.Preambles.{entry}
 use Rattle.aes3_lock.specs.Candidates.{begins_block, front}
-use Rattle.aes3_lock.specs.Outcomes.{Outcome, whole, marked, fault, unfinished, outcome, why_of}
+use Rattle.aes3_lock.specs.Outcomes.{Outcome, whole, marked, fault, unfinished, outcome, payloads_of, why_of}
 
 -- the report of an outcome at a place
 abbrev pub report_of : ℕ → Outcome → Report
@@ -15,6 +17,12 @@ report_of at (whole s b) = Whole at s b
 report_of at (marked s wrong) = Marked at s wrong
 report_of at (fault offset) = Fault at (at + offset) (why_of offset)
 report_of at (unfinished cells) = Unfinished at cells
+
+-- the report of an ending, with the bits of the block's subframes
+abbrev pub ending_report : List (List Bool) → Ending → Report
+ending_report slots (EndsWhole at s) = Whole at s (payloads_of slots)
+ending_report slots (EndsMarked at s wrong) = Marked at s wrong
+ending_report slots (EndsFault at cell why) = Fault at cell why
 
 abbrev pub told : ℕ → Option Outcome → List Report
 told at o = option_to_list (option_map (report_of at) o)

@@ -1,4 +1,7 @@
 //! Laws over the definitions alone: what reports, blocks and preambles are, whatever the cells.
+
+pub mod spacing;
+
 ghost use Rattle.aes3_lock.specs.Laws.{CandidateWhereZStands, WholeWhereBlockStands, BlockTellsLevel, MarkedWhereSubframesStand, ViableIfEachKeeps, ViableIfFrontIsAll, FaultWhereViableEnds, FaultWhereUnclosed, FaultWithinBlock, UnfinishedWhereViable, DecidedAreFiltered, DecidedStand, ZStandsOnce, BlocksNeverOverlap, BlocksAreAllStanding, MarksAreAllStanding, MarksAreTrue, BlocksAreWhole, StreamGivesBlocks, StreamsDiffer, NormalIsFixed, NormalTellsBlocks};
 
 /// A candidate begins exactly where preamble Z stands, in either polarity.

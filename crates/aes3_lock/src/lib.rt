@@ -15,6 +15,6 @@ mod subframe;
 mod tests;
 
 pub use lock::Lock;
-pub use report::{Report, Why};
+pub use report::{Ending, Pushed, Report, Why};
 pub use scan::Scan;
 pub use slow::reports_of;

@@ -1,12 +1,15 @@
 //! The lock.
 use crate::candidate::Candidate;
-use crate::outcome::{SLOTS, end_report, left_report, no_slots};
+use crate::outcome::{SLOTS, ending_at, left_report, no_slots, report_with};
 use crate::recent::{PREAMBLE_CELLS, candidate_in, last_cell, with_cell};
-use crate::report::Report;
+use crate::report::{Ending, Pushed, Report};
 use crate::rule::{BLOCK_CELLS, SUBFRAME_CELLS, mark_of, may_stand};
-use crate::subframe::{completed, last_octet, last_of, rest_of, with_next};
+use crate::subframe::{
+    completed, first_cell, first_of, last_behind, last_octet, last_of, rest_of, with_next,
+};
 use aes3_cell::Level;
-use aes3_slot::{begins_subframe, block_preambles, slot_bits};
+use aes3_slot::{begins_subframe, block_preambles, slot_bits, wrong_cells};
+use arrayvec::ArrayVec;
 use std::marker::Model;
 
 /// Finds every block and every begun block in cells that come one by one, in fixed memory.
@@ -35,14 +38,14 @@ impl Model for Lock {
     ghost invariant = { λ k. ForSome k.candidate (λ t. t.at ≤ k.seen) };
 }
 
-ghost use Rattle.std.specs.Prelude.{◌≡◌, ◌<◌, ◌≤◌, ◌+◌, ◌^◌, ◌&&◌, true, false, None, List, [], ◌∷◌, ◌++◌, drop, nat_lt, option_to_list};
+ghost use Rattle.std.specs.Prelude.{◌≡◌, ◌≢◌, ◌<◌, ◌≤◌, ◌+◌, ◌%◌, ◌^◌, ◌&&◌, true, false, None, Some, List, [], ◌∷◌, ◌++◌, drop, length, nat_lt, option_map, option_to_list};
 ghost use Rattle.std.specs.Option.{ForSome};
 ghost use Rattle.aes3_cell.specs.declared.level.Level.{Level};
-ghost use Rattle.aes3_cell.specs.Words.{word_cells};
+ghost use Rattle.aes3_cell.specs.Words.{level_of, low_cells, word_cells};
 ghost use Rattle.aes3_slot.specs.Rules.{rule};
 ghost use Rattle.aes3_block.specs.Blocks.{block_len, mark_at};
 ghost use Rattle.aes3_lock.specs.Reports.{decided, open_at, reports};
-ghost use Rattle.aes3_lock.specs.Following.{BeginsIn, Follows, Stops};
+ghost use Rattle.aes3_lock.specs.Following.{BeginsIn, Follows, Stops, report_in};
 
 /// Whether a cell behind `previous` goes on with a candidate, at whose `offset` it stands.
 fn goes_on(candidate: Candidate, offset: u64, cell: Level, previous: Level) -> bool
@@ -183,27 +186,186 @@ impl Lock {
         true
     }
 
-    /// Takes a cell that ends the candidate in hand, and answers the report on it.
-    fn stop(&mut self, cell: Level) -> Report
+    /// Takes the first `len` cells of a word into the last eight.
+    fn count(&mut self, word: u64, len: u32)
+        requires room { self.old.seen + len ≤ 2 ^ 43 }
+        requires len { len ≤ 64 }
+        ensures seen { self.new.seen ≡ self.old.seen + len }
+        ensures recent { self.new.recent ≡ drop len (self.old.recent ++ low_cells len word) }
+        ensures candidate { self.new.candidate ≡ self.old.candidate }
+        ensures subframe { self.new.subframe ≡ self.old.subframe }
+        ensures slots { self.new.slots ≡ self.old.slots }
+    {
+        self.seen += u64::from(len);
+        self.recent = last_behind(self.recent, word, len);
+    }
+
+    /// Takes the first cells of a word, at most `len`, up to the first with which the preamble of a block ends, where no
+    /// candidate is in hand. Answers how many.
+    fn search(&mut self, word: u64, len: u32) -> u32
+        requires room { self.old.seen + len ≤ 2 ^ 43 }
+        requires len { len ≤ 64 }
+        requires some { 0 < len }
+        requires searching { self.old.candidate ≡ None }
+        ensures some { 0 < result }
+        ensures within { result ≤ len }
+        ensures seen { self.new.seen ≡ self.old.seen + result }
+        ensures follows { (cells : List Level) → Follows self.old cells → Follows self.new (cells ++ low_cells result word) }
+        ensures none { (cells : List Level) → Follows self.old cells → decided (cells ++ low_cells result word) ≡ decided cells }
+    {
+        let cells = completed(u64::from(self.recent >> 1), PREAMBLE_CELLS - 1, word);
+        let begun = block_preambles(cells, rest_of(word, PREAMBLE_CELLS - 1));
+        let taken = (begun.trailing_zeros() + 1).min(len);
+        self.count(word, taken);
+        self.candidate = candidate_in(self.seen, self.recent);
+        self.subframe = u64::from(self.recent);
+        taken
+    }
+
+    /// Takes the first cells of a word, at most `len`, that go on with the candidate in hand, up to the end of the subframe
+    /// in hand. Answers how many; where none does, it changes nothing.
+    fn go_on(&mut self, candidate: Candidate, word: u64, len: u32) -> u32
+        requires room { self.old.seen + len ≤ 2 ^ 43 }
+        requires len { len ≤ 64 }
+        requires some { 0 < len }
+        requires in_hand { self.old.candidate ≡ Some candidate }
+        ensures within { result ≤ len }
+        ensures seen { self.new.seen ≡ self.old.seen + result }
+        ensures follows { (cells : List Level) → Follows self.old cells → Follows self.new (cells ++ low_cells result word) }
+        ensures none { (cells : List Level) → Follows self.old cells → decided (cells ++ low_cells result word) ≡ decided cells }
+        ensures left { result ≡ 0 → self.new ≡ self.old }
+        ensures stops { result ≡ 0 → (cells : List Level) → Follows self.old cells → Stops self.old (level_of (word % 2)) }
+    {
+        let offset = self.seen - candidate.at;
+        if offset >= BLOCK_CELLS {
+            return 0;
+        }
+        let slot = offset / SUBFRAME_CELLS;
+        let begun = offset % SUBFRAME_CELLS;
+        let cells = completed(self.subframe, begun, word);
+        let wrong = wrong_cells(candidate.level, mark_of(slot), cells) >> begun;
+        let taken = wrong
+            .trailing_zeros()
+            .min(len)
+            .min((SUBFRAME_CELLS - begun) as u32);
+        if taken == 0 {
+            return 0;
+        }
+        self.count(word, taken);
+        let end = begun + u64::from(taken);
+        if end < SUBFRAME_CELLS {
+            self.subframe = first_of(cells, end);
+            return taken;
+        }
+        self.slots[slot as usize] = slot_bits(cells);
+        self.subframe = 0;
+        self.candidate = Some(Candidate {
+            at: candidate.at,
+            before: candidate.before,
+            level: last_of(cells),
+        });
+        taken
+    }
+
+    /// Takes a cell that ends the candidate in hand, and answers what it makes of it.
+    fn stop(&mut self, cell: Level) -> Ending
         requires room { self.old.seen < 2 ^ 43 }
-        requires stops { Stops self.old cell }
+        requires in_hand { self.old.candidate ≢ None }
         ensures seen { self.new.seen ≡ self.old.seen + 1 }
-        ensures follows { (cells : List Level) → Follows self.old cells
+        ensures follows { (cells : List Level) → Follows self.old cells → Stops self.old cell
             → Follows self.new (cells ++ cell ∷ []) }
-        ensures report { (cells : List Level) → Follows self.old cells
-            → decided (cells ++ cell ∷ []) ≡ decided cells ++ result ∷ [] }
+        ensures report { (cells : List Level) → Follows self.old cells → Stops self.old cell
+            → decided (cells ++ cell ∷ []) ≡ decided cells ++ report_in self.new result ∷ [] }
     {
         let Some(candidate) = self.candidate else {
             unreachable!();
         };
         let previous = last_cell(self.recent);
         let offset = self.seen - candidate.at;
-        let report = end_report(candidate, offset, cell, previous, &self.slots);
+        let ending = ending_at(candidate, offset, cell, previous, &self.slots);
         self.recent = with_cell(self.recent, cell);
         self.seen += 1;
         self.candidate = candidate_in(self.seen, self.recent);
         self.subframe = u64::from(self.recent);
-        report
+        ending
+    }
+
+    /// Takes the first cells of a word, the first of all in the lowest bit, up to the first that decides a report and with
+    /// it, and at most `len`.
+    ///
+    /// It is `push` for each of these cells, but makes no report: `report` does, until more cells are taken.
+    pub fn push_front(&mut self, word: u64, len: u32) -> Pushed
+        requires room { self.old.seen + len ≤ 2 ^ 43 }
+        requires len { len ≤ 64 }
+        ensures within { result.taken ≤ len }
+        ensures all { result.ending ≡ None → result.taken ≡ len }
+        ensures some { 0 < len → 0 < result.taken }
+        ensures seen { self.new.seen ≡ self.old.seen + result.taken }
+        ensures follows { (cells : List Level) → Follows self.old cells
+            → Follows self.new (cells ++ low_cells result.taken word) }
+        ensures report { (cells : List Level) → Follows self.old cells
+            → decided (cells ++ low_cells result.taken word) ≡ decided cells ++ option_to_list (option_map (report_in self.new) result.ending) }
+    {
+        let mut taken = 0;
+        while taken < len {
+            let rest = word >> taken;
+            let more = match self.candidate {
+                None => self.search(rest, len - taken),
+                Some(candidate) => self.go_on(candidate, rest, len - taken),
+            };
+            if more == 0 {
+                let ending = self.stop(first_cell(rest));
+                return Pushed {
+                    taken: taken + 1,
+                    ending: Some(ending),
+                };
+            }
+            taken += more;
+        }
+        Pushed {
+            taken,
+            ending: None,
+        }
+    }
+
+    /// The report of an ending that it answered with the last cell that it took.
+    pub fn report(&self, ending: Ending) -> Report
+        ensures { result ≡ report_in self.now ending }
+    {
+        report_with(ending, &self.slots)
+    }
+
+    /// Adds the report of an ending, if there is one, where there is room.
+    fn tell(&self, ending: Option<Ending>, out: &mut ArrayVec<Report, 16>)
+        ensures { length out.old.items < 16
+            → out.new.items ≡ out.old.items ++ option_to_list (option_map (report_in self.now) ending) }
+    {
+        if let Some(ending) = ending
+            && !out.is_full()
+        {
+            out.push(self.report(ending));
+        }
+    }
+
+    /// Takes the 64 cells of a word, the first in the lowest bit, and puts the reports that they decide.
+    ///
+    /// It is `push` for each of these cells. There are fourteen at most, since candidates are at least five cells apart.
+    pub fn push_word(&mut self, word: u64, out: &mut ArrayVec<Report, 16>)
+        requires room { self.old.seen + 64 ≤ 2 ^ 43 }
+        requires empty { out.old.items ≡ [] }
+        ensures seen { self.new.seen ≡ self.old.seen + 64 }
+        ensures follows { (cells : List Level) → Follows self.old cells
+            → Follows self.new (cells ++ word_cells word) }
+        ensures reports { (cells : List Level) → Follows self.old cells
+            → decided (cells ++ word_cells word) ≡ decided cells ++ out.new.items }
+        ensures few { (cells : List Level) → Follows self.old cells → length out.new.items ≤ 14 }
+    {
+        let mut taken = 0;
+        while taken < 64 {
+            let pushed = self.push_front(word >> taken, 64 - taken);
+            self.tell(pushed.ending, out);
+            taken += pushed.taken;
+        }
     }
 
     /// Takes the next cell, and answers the report that it decides.
@@ -216,10 +378,10 @@ impl Lock {
             → decided (cells ++ cell ∷ []) ≡ decided cells ++ option_to_list result }
     {
         if self.take(cell) {
-            None
-        } else {
-            Some(self.stop(cell))
+            return None;
         }
+        let ending = self.stop(cell);
+        Some(self.report(ending))
     }
 
     /// Takes the end of the cells, and answers the report that it decides.

@@ -42,6 +42,26 @@ pub enum Report {
     },
 }
 
+/// What a cell makes of the candidate that it ends: its report without the block, which stands in the lock.
+#[derive(Clone, Copy, PartialEq, Eq, Debug)]
+pub enum Ending {
+    /// A whole block with right parity bits, and the level before its first cell.
+    Whole { at: u64, before: Level },
+    /// A whole block of which `wrong` subframes have a wrong parity bit.
+    Marked { at: u64, before: Level, wrong: u16 },
+    /// `cell` is the first cell at which the cells from `at` on begin no block.
+    Fault { at: u64, cell: u64, why: Why },
+}
+
+/// What a lock took of the front of a word.
+#[derive(Clone, Copy, PartialEq, Eq, Debug)]
+pub struct Pushed {
+    /// How many cells it took.
+    pub taken: u32,
+    /// What the last of them made of the candidate that it ended, if it ended one.
+    pub ending: Option<Ending>,
+}
+
 impl Default for Report {
     ghost use Rattle.std.specs.Prelude.{◌≡◌};
     ghost use Rattle.aes3_lock.specs.declared.report.Report.TheVariants.{Unfinished};

@@ -7,7 +7,7 @@ ghost use Rattle.aes3_lock.specs.Reports.{outcome_at, reports, told};
 ghost use Rattle.aes3_lock.specs.Following.{Filled};
 
 use crate::candidate::Candidate;
-use crate::outcome::{SLOTS, end_report, left_report, no_slots};
+use crate::outcome::{SLOTS, ending_at, left_report, no_slots, report_with};
 use crate::recent::{PREAMBLE_CELLS, candidate_in, with_cell};
 use crate::report::Report;
 use crate::rule::{BLOCK_CELLS, SUBFRAME_CELLS, level_behind, may_stand, slots_behind, turns};
@@ -69,7 +69,8 @@ fn report_at(at: u64, cells: &[Level]) -> Option<Report>
     let (offset, previous) = go_through(candidate.before, cells, &mut slots);
     let place = offset as usize;
     Some(if place < cells.len() {
-        end_report(candidate, offset, cells[place], previous, &slots)
+        let ending = ending_at(candidate, offset, cells[place], previous, &slots);
+        report_with(ending, &slots)
     } else {
         left_report(candidate, offset, &slots)
     })

@@ -1,7 +1,7 @@
 //! The cells of a subframe that is not whole yet, in a word, the first in the lowest bit.
 
-ghost use Rattle.std.specs.Prelude.{◌≡◌, ◌+◌, ◌-◌, ◌<◌, ◌≤◌, ◌^◌, [], ◌∷◌, ◌++◌, drop, take};
-ghost use Rattle.aes3_cell.specs.Words.{low_cells, word_cells};
+ghost use Rattle.std.specs.Prelude.{◌≡◌, ◌+◌, ◌-◌, ◌%◌, ◌<◌, ◌≤◌, ◌^◌, [], ◌∷◌, ◌++◌, drop, take};
+ghost use Rattle.aes3_cell.specs.Words.{level_of, low_cells, word_cells};
 ghost use Rattle.aes3_slot.specs.Rules.{at};
 
 use aes3_cell::Level;
@@ -24,6 +24,26 @@ pub(crate) fn completed(cells: u64, len: u64, word: u64) -> u64
     ensures { cells < 2 ^ len → word_cells result ≡ low_cells len cells ++ take (64 - len) (word_cells word) }
 {
     cells | word << len
+}
+
+/// The first `len` cells of a word.
+pub(crate) fn first_of(word: u64, len: u64) -> u64
+    requires { len < 64 }
+    ensures cells { low_cells len result ≡ low_cells len word }
+    ensures few { result < 2 ^ len }
+{
+    word & (1 << len) - 1
+}
+
+/// The first cell of a word.
+pub(crate) fn first_cell(word: u64) -> Level
+    ensures { result ≡ level_of (word % 2) }
+{
+    if word % 2 == 0 {
+        Level::Low
+    } else {
+        Level::High
+    }
 }
 
 /// The last `len` cells of a word.

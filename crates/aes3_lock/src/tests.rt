@@ -7,6 +7,7 @@ use crate::scan::Scan;
 use crate::slow::reports_of;
 use aes3_cell::Level;
 use aes3_slot::{Mark, slots_cells};
+use arrayvec::ArrayVec;
 use std::alloc::{AllocError, Global};
 use std::process::Abort;
 
@@ -122,8 +123,26 @@ fn word_at(cells: &[Level], at: usize) -> u64 {
     word
 }
 
-/// By words of 64 cells where the lock takes one, every 64 cells from `first` on, else cell by cell.
-fn by_words(cells: &[Level], first: usize) -> [Option<Line>; LINES] {
+/// Takes a word, and keeps what it decides; where `quick` is set, as one that decides nothing if it does.
+fn push_word(
+    lock: &mut Lock,
+    word: u64,
+    quick: bool,
+    lines: &mut [Option<Line>; LINES],
+    count: &mut usize,
+) {
+    if lock.seen() >= MANY || quick && lock.take_word(word) {
+        return;
+    }
+    let mut told = ArrayVec::new();
+    lock.push_word(word, &mut told);
+    for report in told {
+        keep(lines, count, report);
+    }
+}
+
+/// By words of 64 cells, every 64 cells from `first` on, else cell by cell.
+fn by_words(cells: &[Level], first: usize, quick: bool) -> [Option<Line>; LINES] {
     let mut lines = [None; LINES];
     let mut count = 0;
     let mut lock = Lock::new();
@@ -131,11 +150,8 @@ fn by_words(cells: &[Level], first: usize) -> [Option<Line>; LINES] {
     for (i, cell) in cells.iter().enumerate() {
         if skip > 0 {
             skip -= 1;
-        } else if i % 64 == first
-            && cells.len() - i >= 64
-            && lock.seen() < MANY
-            && lock.take_word(word_at(cells, i))
-        {
+        } else if i % 64 == first && cells.len() - i >= 64 {
+            push_word(&mut lock, word_at(cells, i), quick, &mut lines, &mut count);
             skip = 63;
         } else if lock.seen() < MANY
             && let Some(report) = lock.push(*cell)
@@ -161,7 +177,8 @@ fn by_places(alloc: Global, cells: &[Level]) -> Result<[Option<Line>; LINES], Al
 /// The reports of these cells, found both ways.
 fn check(rt: &impl Abort, alloc: Global, cells: &[Level], expected: &[Line]) {
     let lines = by_lock(cells);
-    assert!(rt; by_words(cells, 0) == lines);
+    assert!(rt; by_words(cells, 0, true) == lines);
+    assert!(rt; by_words(cells, 0, false) == lines);
     for i in 0..LINES {
         assert_eq!(rt; lines[i], expected.get(i).copied());
     }
@@ -333,6 +350,14 @@ fn candidates_five_cells_apart(rt: HostRuntime) {
         lines[i] = Line::Fault(at, at + 12, Why::Biphase);
     }
     check(&rt, rt.alloc(), &cells, &lines);
+    let mut lock = Lock::new();
+    let mut told = ArrayVec::new();
+    lock.push_word(DENSE, &mut told);
+    assert_eq!(rt; told.len(), 11);
+    for (i, report) in told.into_iter().enumerate() {
+        assert!(rt; lines.get(i).copied() == Some(line_of(report)));
+    }
+    assert!(rt; lock.finish().map(line_of) == Some(Line::Unfinished(55, 9)));
 }
 
 /// Candidates five cells apart, each of which ends within the second 64 cells.
@@ -452,7 +477,6 @@ fn preambles_in_step_or_not(rt: HostRuntime) {
     assert_eq!(rt; marks[1], Some((125, Mark::X, Level::Low)));
 }
 
-/// How many reports the cells decide before they end.
 /// The preamble that the last of some cells of a word ends, where no other of them ends one.
 fn last_of_cells(scan: &mut Scan, word: u64, from: u32, to: u32) -> Option<(u64, Mark, Level)>
     requires { to ≤ 64 }
@@ -501,6 +525,7 @@ fn preambles_by_words(rt: HostRuntime) {
     }
 }
 
+/// How many reports the cells decide before they end.
 fn decided_count(cells: &[Level]) -> usize {
     let mut count = 0;
     let mut lock = Lock::new();
@@ -562,7 +587,9 @@ fn damaged_cells(rt: HostRuntime) {
     for seed in 1..=LISTS {
         let cells = damaged(rt.alloc(), seed << 32 | 0x9E37_79B9).expect(&rt, "memory");
         let lines = by_lock(&cells);
-        assert!(rt; by_words(&cells, (seed % 64) as usize) == lines);
+        let first = (seed % 64) as usize;
+        assert!(rt; by_words(&cells, first, false) == lines);
+        assert!(rt; by_words(&cells, first, true) == lines);
         let places = by_places(rt.alloc(), &cells).expect(&rt, "memory");
         assert!(rt; places == lines);
     }

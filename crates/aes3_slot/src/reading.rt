@@ -29,8 +29,9 @@ const PAYLOAD: u32 = 0x07FF_FFFF;
 /// The last cell of a subframe, the only one at which the parity bit shows.
 const LAST: u8 = 63;
 
-/// The cells that can't stand where they are, whatever the bits, each a one.
-fn wrong_cells(before: Level, mark: Mark, cells: u64) -> u64
+/// The cells of a subframe with this preamble after the level `before` that can't stand where they are, whatever its bits:
+/// a one for each (AES3-3, IEC 60958-1: preambles and biphase-mark coding).
+pub fn wrong_cells(before: Level, mark: Mark, cells: u64) -> u64
     ensures { (i : ℕ) → i < 64 → bit_at result i ≡ (if stands before mark (word_cells cells) i then 0 else 1) }
 {
     let preamble = (cells ^ mark_cells(before, mark)) & PREAMBLE;

@@ -6,7 +6,7 @@ use Rattle.aes3_lock.proofs.outcome.left_report.Goals as goal
 
 pub returns-then-cells-ge-BLOCK_CELLS : goal.returns-then-cells-ge-BLOCK_CELLS
 returns-then-cells-ge-BLOCK_CELLS c =
-    c.block_report.ensures ∙ ap (report_of c.args.candidate.at) (sym (left-block c.args.candidate.before c.args.cells (map slots_bits c.args.slots.now) (omega arith)))
+    c.report_with.ensures ∙ c.block_ending.ensures ∙ ap (report_of c.args.candidate.at) (sym (left-block c.args.candidate.before c.args.cells (map slots_bits c.args.slots.now) (omega arith)))
 
 pub returns-else-cells-ge-BLOCK_CELLS : goal.returns-else-cells-ge-BLOCK_CELLS
 returns-else-cells-ge-BLOCK_CELLS c =

@@ -21,7 +21,7 @@ returns c =
       | then-place-cells w ↦ ap (report_of c.args.at)
           (place-ended c.args.cells.now c.in-Some.begun.before c.go_through-offset.new.slots c.go_through-offset.result.0 c.go_through-offset.result.1 e.1
           c.go_through-offset.ensures.front c.go_through-offset.ensures.last c.go_through-offset.ensures.slots (let n = block_slots_384 in omega arith) (omega arith))
-          ∙ sym w.end_report.ensures ∙ sym w.result-is
+          ∙ sym (w.report_with.ensures ∙ w.ending_at-ending.ensures) ∙ sym w.result-is
       | else-place-cells w ↦ ap (report_of c.args.at)
           (place-left c.args.cells.now c.in-Some.begun.before c.go_through-offset.new.slots c.go_through-offset.result.0 c.go_through-offset.result.1 e.1
           c.go_through-offset.ensures.front c.go_through-offset.ensures.last c.go_through-offset.ensures.slots (let n = block_slots_384 in omega arith) (omega arith))

@@ -15,8 +15,8 @@ some-is : {x y : Candidate} → Some x ≡ Some y → x ≡ y
 some-is e = cc
 
 pub returns-clause-follows : goal.returns-clause-follows
-returns-clause-follows c = λ l f.
-    let s = subst (λ k. Stops k c.args.cell) (sym c.self.view_is) c.requires.stops in
+returns-clause-follows c = λ l f p.
+    let s = subst (λ k. Stops k c.args.cell) (sym c.self.view_is) p in
     (push-last _ (record {
       seen = c.self.inside.seen + 1;
       recent = low_cells 8 c.with_cell-self-inside.result;
@@ -28,8 +28,8 @@ returns-clause-follows c = λ l f.
     refl c.with_cell-self-inside.ensures c.candidate_in-self-inside.ensures.value (ap (low_cells 8) (sym c.from-self-inside.ensures)) (let e = c.from-self-inside.ensures in omega (arith, e))).0
 
 pub returns-clause-report : goal.returns-clause-report
-returns-clause-report c = λ l f.
-    let s = subst (λ k. Stops k c.args.cell) (sym c.self.view_is) c.requires.stops in
+returns-clause-report c = λ l f p.
+    let s = subst (λ k. Stops k c.args.cell) (sym c.self.view_is) p in
     let e : s.in_hand ≡ c.in-Some.candidate = some-is (sym s.is ∙ c.in-Some.is) in
     (push-last _ (record {
       seen = c.self.inside.seen + 1;
@@ -41,6 +41,6 @@ returns-clause-report c = λ l f.
     s.in_hand l c.args.cell (subst (λ k. Follows k l) (sym c.self.view_is) f) (let n = block_slots_384 in omega arith) s.is s.stop
     refl c.with_cell-self-inside.ensures c.candidate_in-self-inside.ensures.value (ap (low_cells 8) (sym c.from-self-inside.ensures)) (let e = c.from-self-inside.ensures in omega (arith, e))).1
     ∙ ap (λ (t : Candidate). decided l ++ report_of t.at (ended t.before (c.self.inside.seen - t.at) (same c.args.cell (at (low_cells 8 c.self.inside.recent) 7)) (map slots_bits c.self.inside.slots)) ∷ []) e
-    ∙ ap (λ r. decided l ++ r ∷ []) (sym (c.end_report-report.ensures
+    ∙ ap (λ r. decided l ++ r ∷ []) (sym (c.ending_at-ending.ensures
     ∙ ap (λ p. report_of c.in-Some.candidate.at (ended c.in-Some.candidate.before (c.self.inside.seen - c.in-Some.candidate.at) (same c.args.cell p) (map slots_bits c.self.inside.slots)))
     c.last_cell-previous.ensures))

@@ -4,13 +4,13 @@ use Rattle.aes3_slot.specs.Reading.{same}
 use Rattle.aes3_lock.specs.declared.report.Report.TheVariants.{Fault}
 use Rattle.aes3_lock.specs.Reports.{report_of}
 use Rattle.aes3_lock.proofs.Codes.{ended-block, ended-early, ended-unclosed, same-differs}
-use Rattle.aes3_lock.proofs.outcome.end_report.Goals as goal
-use Rattle.aes3_lock.proofs.outcome.end_report.Goals.{else-offset-ge-BLOCK_CELLS-via-then-offset-ge-BLOCK_CELLS+else-turns, else-offset-ge-BLOCK_CELLS-via-else-offset-ge-BLOCK_CELLS}
+use Rattle.aes3_lock.proofs.outcome.ending_at.Goals as goal
+use Rattle.aes3_lock.proofs.outcome.ending_at.Goals.{else-offset-ge-BLOCK_CELLS-via-then-offset-ge-BLOCK_CELLS+else-turns, else-offset-ge-BLOCK_CELLS-via-else-offset-ge-BLOCK_CELLS}
 
 pub returns-then-turns : goal.returns-then-turns
 returns-then-turns c =
     let e : same c.args.cell c.args.previous ≡ false = same-differs c.args.cell c.args.previous ∙ ap not (sym c.turns.ensures ∙ c.if-turns.true) in
-    c.block_report.ensures
+    c.block_ending.ensures
     ∙ ap (report_of c.args.candidate.at)
     (sym (ended-block c.args.candidate.before c.args.offset (same c.args.cell c.args.previous) (map slots_bits c.args.slots.now) (omega arith) e))
 

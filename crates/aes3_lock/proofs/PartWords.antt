@@ -1,0 +1,176 @@
+-- The first cells of a word behind those that a lock follows, inside the subframe in hand.
+use Rattle.std.proofs.Common.{◌≡◌, ℕ, ◌+◌, ◌-◌, ◌*◌, ◌/◌, ◌%◌, ◌^◌, ◌<◌, ◌≤◌, ◌⊎◌, inl, inr, List, [], ◌++◌, true, false, Some, refl, length, take, drop, set, ap, ap₂, ◌∙◌, sym, subst, arith, length-append, length-take-le, take-append-drop, append_assoc, append-nil, w64}
+use Rattle.std.specs.Prelude.{if◌then◌else◌}
+use Rattle.std.specs.Int.{bit_at, trailing_zeros}
+use Rattle.std.proofs.Math.Seq.{take-append-add}
+use Rattle.std.proofs.lemmas.Bool.{cases_lt}
+use Rattle.std.proofs.lemmas.Nat.{shr_le}
+use Rattle.aes3_cell.specs.declared.level.Level.{Level}
+use Rattle.aes3_cell.specs.Words.{level_of, low_cells, word_cells}
+use Rattle.aes3_cell.proofs.WordCells.{length-low_cells}
+use Rattle.aes3_cell.proofs.Moves.{bit_at-shr}
+use Rattle.aes3_slot.specs.declared.mark.Mark.{Mark}
+use Rattle.aes3_slot.specs.Slots.{slots_bits}
+use Rattle.aes3_slot.specs.Rules.{at}
+use Rattle.aes3_slot.specs.Reading.{read_bits}
+use Rattle.aes3_slot.specs.Fronts.{stands}
+use Rattle.aes3_slot.specs.Preambles.{entry}
+use Rattle.aes3_slot.proofs.RuleTests.{stands-append}
+use Rattle.aes3_slot.proofs.Wrong.{true-from_zero, false-from_one}
+use Rattle.aes3_slot.proofs.Taken.{length-word}
+use Rattle.aes3_block.specs.Blocks.{mark_at, block_slots, block_len}
+use Rattle.aes3_lock.specs.declared.candidate.Candidate.{Candidate}
+use Rattle.aes3_lock.specs.Candidates.{keeps}
+use Rattle.aes3_lock.specs.Reports.{decided}
+use Rattle.aes3_lock.specs.Following.{LockState, Gathered, Follows, OpenAt, Stops}
+use Rattle.aes3_lock.proofs.Deciding.{block_len_64}
+use Rattle.aes3_lock.proofs.Fronts.{front-is, keeps-append}
+use Rattle.aes3_lock.proofs.LastEight.{last_eight-more}
+use Rattle.aes3_lock.proofs.SubframeWords.{take-low, take-word}
+use Rattle.aes3_lock.proofs.QuietWords.{below-trailing, no-trailing}
+use Rattle.aes3_lock.proofs.WordSteps.{more-cells, made-whole, start, start-length, start-last, keeps-part}
+use Rattle.aes3_lock.proofs.Following.{hand, hand-open, offset, tested, goes-on}
+use Rattle.aes3_lock.proofs.TakenWords.{all-64, bits-number}
+
+-- x has the first cells of the word w behind those of the subframe at offset o of the candidate, and there is room for n of these
+pub record Joined (k : LockState) (w x n o : ℕ) : Type 0 where
+  pub cells : k.subframe < 2 ^ (o % 64) → word_cells x ≡ low_cells (o % 64) k.subframe ++ take (64 - o % 64) (word_cells w)
+  pub fits : o % 64 + n ≤ 64
+  pub room : o < block_len
+
+-- and they stand as they may
+abbrev pub AllRight : Candidate → ℕ → ℕ → ℕ → Type 0
+AllRight t x n o = (i : ℕ) → i < n → stands t.level (mark_at (o / 64)) (word_cells x) (o % 64 + i) ≡ true
+
+-- the subframe begun at offset o has these n cells more, and isn't whole
+pub record Begun (sub x n o : ℕ) : Type 0 where
+  pub short : o % 64 + n < 64
+  pub cells : low_cells (o % 64 + n) sub ≡ low_cells (o % 64 + n) x
+  pub few : sub < 2 ^ (o % 64 + n)
+
+-- as the word m of the cells that don't says
+module _ (t : Candidate) (x o m : ℕ) (mark : Mark) (few : m < 2 ^ 64) (is : mark ≡ mark_at (o / 64))
+    (says : (i : ℕ) → i < 64 → bit_at m i ≡ (if stands t.level mark (word_cells x) i then 0 else 1)) where
+  pub all-right : (n : ℕ) → n ≤ trailing_zeros w64 (m / 2 ^ (o % 64)) → o % 64 + n ≤ 64 → AllRight t x n o
+  all-right n h fits i g =
+      ap (λ y. stands t.level y (word_cells x) (o % 64 + i)) (sym is)
+      ∙ true-from_zero _ (sym (says (o % 64 + i) (omega (arith, fits, g))) ∙ sym (bit_at-shr m (o % 64) i)
+      ∙ below-trailing (m / 2 ^ (o % 64)) i (let d = shr_le m (o % 64) in omega (arith, d, few)) (omega (arith, h, g)))
+
+  pub first-wrong : trailing_zeros w64 (m / 2 ^ (o % 64)) ≡ 0 → stands t.level (mark_at (o / 64)) (word_cells x) (o % 64) ≡ false
+  first-wrong e =
+      ap (λ y. stands t.level y (word_cells x) (o % 64)) (sym is)
+      ∙ false-from_one _ (sym (says (o % 64) (omega arith)) ∙ ap (bit_at m) (let q : o % 64 ≡ o % 64 + 0 = omega arith in q) ∙ sym (bit_at-shr m (o % 64) 0)
+      ∙ no-trailing (m / 2 ^ (o % 64)) (let d = shr_le m (o % 64) in omega (arith, d, few)) e)
+
+module _ (k : LockState) (t : Candidate) (c : List Level) (w x n : ℕ) (f : Follows k c) (s : k.candidate ≡ Some t)
+    (given : Joined k w x n (k.seen - t.at)) where
+  abbrev d : List Level
+  d = drop t.at c
+
+  abbrev p : ℕ
+  p = length (drop t.at c) % 64
+
+  abbrev tail : List Level
+  tail = drop (64 * (length (drop t.at c) / 64)) (drop t.at c)
+
+  in-hand : OpenAt k.subframe k.slots t c
+  in-hand = hand k t c f s
+
+  here : Joined k w x n (length d)
+  here = subst (λ o. Joined k w x n o) (offset k t c f s) given
+
+  len : length (low_cells n w) ≡ n
+  len = length-low_cells n w
+
+  parts : take (p + n) (word_cells x) ≡ low_cells p k.subframe ++ low_cells n w
+  parts =
+      let j = here.fits in
+      ap (take (p + n)) (here.cells in-hand.gathered.few)
+      ∙ ap (λ m. take (m + n) (low_cells p k.subframe ++ take (64 - p) (word_cells w))) (sym (length-low_cells p k.subframe))
+      ∙ take-append-add (low_cells p k.subframe) (take (64 - p) (word_cells w)) n
+      ∙ ap (λ b. low_cells p k.subframe ++ b) (ap (take n) (take-word (64 - p) w (omega arith)) ∙ take-low n (64 - p) w (omega (arith, j)))
+
+  part : take (p + n) (word_cells x) ≡ tail ++ low_cells n w
+  part = parts ∙ ap (λ a. a ++ low_cells n w) in-hand.gathered.cells
+
+  inside : (i : ℕ) → i < p + n → keeps (entry d) (d ++ low_cells n w) (64 * (length d / 64) + i) ≡ stands t.level (mark_at (length d / 64)) (word_cells x) i
+  inside i h =
+      let j = here.fits in
+      let m = length-word x in
+      let l = length-take-le (p + n) (word_cells x) (omega (arith, j, m)) in
+      ap (λ v. keeps (entry d) v (64 * (length d / 64) + i))
+      (ap (λ v. v ++ low_cells n w) (sym (take-append-drop (64 * (length d / 64)) d)) ∙ append_assoc (start (entry d) d) tail (low_cells n w))
+      ∙ keeps-part (entry d) t.level (start (entry d) d) (tail ++ low_cells n w) (length d / 64) i (start-length (entry d) d)
+      (sym (in-hand.gathered.level ∙ start-last (entry d) d)) (omega (arith, h, j))
+      ∙ ap (λ v. stands t.level (mark_at (length d / 64)) v i) (sym part)
+      ∙ sym (stands-append t.level (mark_at (length d / 64)) (take (p + n) (word_cells x)) (drop (p + n) (word_cells x)) i (omega (arith, l, h)))
+      ∙ ap (λ v. stands t.level (mark_at (length d / 64)) v i) (take-append-drop (p + n) (word_cells x))
+
+  kept : AllRight t x n (length d) → (i : ℕ) → i < length (d ++ low_cells n w) → keeps (entry d) (d ++ low_cells n w) i ≡ true
+  kept right i h = go (cases_lt i (length d))
+    where
+      go : (i < length d) ⊎ (length d ≤ i) → keeps (entry d) (d ++ low_cells n w) i ≡ true
+      go (inl g) =
+          let a = (hand-open k t c f s).all in
+          keeps-append (entry d) d (low_cells n w) i g ∙ (front-is (entry d) d).kept i (omega (arith, a, g))
+      go (inr g) =
+          let a = length-append d (low_cells n w) in
+          let l = len in
+          let e : i ≡ 64 * (length d / 64) + (p + (i - length d)) = omega (arith, g) in
+          ap (keeps (entry d) (d ++ low_cells n w)) e ∙ inside (p + (i - length d)) (omega (arith, a, l, h, g)) ∙ right (i - length d) (omega (arith, a, l, h, g))
+
+  on : AllRight t x n (k.seen - t.at) → (k' : LockState) (u : Candidate) → k'.seen ≡ k.seen + n → k'.recent ≡ drop n (k.recent ++ low_cells n w) → k'.candidate ≡ Some u → u.at ≡ t.at → u.before ≡ t.before
+      → Gathered u.level k'.subframe k'.slots (entry d) (d ++ low_cells n w) → Follows k' (c ++ low_cells n w) × (decided (c ++ low_cells n w) ≡ decided c)
+  on right k' u e1 e2 e3 e4 e5 g =
+      let a = length-append d (low_cells n w) in
+      let b = length-append c (low_cells n w) in
+      let l = len in
+      let j = here.fits in
+      let r = here.room in
+      let z = block_len_64 in
+      let q = f.seen in
+      goes-on k k' t u c (low_cells n w) f s (omega (arith, a, l, j, r, z)) (kept (subst (AllRight t x n) (offset k t c f s) right)) (omega (arith, b, l, q, e1))
+      (e2 ∙ ap₂ (λ m r. drop m (r ++ low_cells n w)) (sym len) f.recent ∙ sym (last_eight-more c (low_cells n w))) e3 e4 e5 g
+
+  -- the subframe isn't whole then
+  pub part-next : AllRight t x n (k.seen - t.at) → (k' : LockState) → k'.seen ≡ k.seen + n → k'.recent ≡ drop n (k.recent ++ low_cells n w) → k'.candidate ≡ Some t → k'.slots ≡ k.slots
+      → Begun k'.subframe x n (k.seen - t.at) → Follows k' (c ++ low_cells n w) × (decided (c ++ low_cells n w) ≡ decided c)
+  part-next right k' e1 e2 e3 e4 b =
+      on right k' t e1 e2 e3 refl refl (subst (λ v. Gathered t.level k'.subframe v (entry d) (d ++ low_cells n w)) (sym e4)
+      (more-cells t.level k.subframe k'.subframe k.slots (entry d) d (low_cells n w) in-hand.gathered (let l = len in let q = r.short in omega (arith, l, q))
+      (λ g. ap (λ m. low_cells (p + m) k'.subframe) len ∙ r.cells ∙ sym (take-word (p + n) x (let q = r.short in omega (arith, q))) ∙ parts)
+      (λ g. subst (λ m. k'.subframe < 2 ^ (p + m)) (sym len) r.few)))
+    where
+      r : Begun k'.subframe x n (length d)
+      r = subst (λ o. Begun k'.subframe x n o) (offset k t c f s) b
+
+  -- or it is
+  pub part-whole : AllRight t x n (k.seen - t.at) → (k' : LockState) (v : ℕ) → k'.seen ≡ k.seen + n → k'.recent ≡ drop n (k.recent ++ low_cells n w)
+      → k'.candidate ≡ Some (record { at = t.at; before = t.before; level = at (word_cells x) 63 }) → k'.subframe ≡ 0
+      → k'.slots ≡ set k.slots ((k.seen - t.at) / 64) v → length k.slots ≡ block_slots → (k.seen - t.at) % 64 + n ≡ 64
+      → slots_bits v ≡ read_bits (drop 8 (word_cells x)) → v < 2 ^ 28
+      → Follows k' (c ++ low_cells n w) × (decided (c ++ low_cells n w) ≡ decided c)
+  part-whole right k' v e1 e2 e3 e4 e5 lw h bits few =
+      on right k' (record { at = t.at; before = t.before; level = at (word_cells x) 63 }) e1 e2 e3 refl refl
+      (subst (λ y. Gathered (at (word_cells x) 63) y k'.slots (entry d) (d ++ low_cells n w)) (sym e4)
+      (subst (λ y. Gathered (at (word_cells x) 63) 0 y (entry d) (d ++ low_cells n w)) (sym (e5 ∙ ap (λ o. set k.slots (o / 64) v) off))
+      (subst (λ y. Gathered (at (word_cells x) 63) 0 (set k.slots (length d / 64) v) (entry d) (d ++ y)) (append-nil (low_cells n w))
+      (made-whole (entry d) d (low_cells n w) [] (word_cells x) (sym (all-64 x) ∙ ap (λ m. take m (word_cells x)) (let e : 64 ≡ p + n = omega (arith, h, off) in e) ∙ part) (length-word x)
+      t.level k.subframe 0 v k.slots in-hand.gathered lw here.room (omega arith) refl (omega arith) (bits-number v (read_bits (drop 8 (word_cells x))) bits few)))))
+    where
+      off : k.seen - t.at ≡ length d
+      off = offset k t c f s
+
+-- a cell that does not stand as it may ends the candidate
+pub part-stops : (k : LockState) (t : Candidate) (c : List Level) (w x : ℕ) → Follows k c → k.candidate ≡ Some t → Joined k w x 1 (k.seen - t.at)
+    → stands t.level (mark_at ((k.seen - t.at) / 64)) (word_cells x) ((k.seen - t.at) % 64) ≡ false → Stops k (level_of (w % 2))
+part-stops k t c w x f s given wrong =
+    let o = offset k t c f s in record {
+      in_hand = t;
+      is = s;
+      stop = λ h. tested k t c (level_of (w % 2)) f s
+          ∙ ap (keeps (entry (drop t.at c)) (drop t.at c ++ low_cells 1 w)) (omega arith)
+          ∙ inside k t c w x 1 f s given (length (drop t.at c) % 64) (omega arith)
+          ∙ ap (λ o. stands t.level (mark_at (o / 64)) (word_cells x) (o % 64)) (sym o) ∙ wrong;
+    }

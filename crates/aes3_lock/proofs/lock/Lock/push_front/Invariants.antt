@@ -1,0 +1,17 @@
+use Rattle.std.proofs.Common.{◌≡◌, ◌+◌, ◌-◌, ◌≤◌, ◌++◌, List}
+use Rattle.aes3_cell.specs.declared.level.Level.{Level}
+use Rattle.aes3_cell.specs.Words.{low_cells}
+use Rattle.aes3_lock.specs.Reports.{decided}
+use Rattle.aes3_lock.specs.Following.{Follows}
+use Rattle.aes3_lock.proofs.lock.Lock.push_front.Given as goal
+
+abbrev pub invariant-loop-taken : goal.invariant-loop-taken
+invariant-loop-taken l = record {
+  within : l.taken ≤ l.len;
+  seen : l.self.seen ≡ l.fn.self.seen + l.taken;
+  follows : (cells : List Level) → Follows l.fn.self cells → Follows l.self (cells ++ low_cells l.taken l.word);
+  none : (cells : List Level) → Follows l.fn.self cells → decided (cells ++ low_cells l.taken l.word) ≡ decided cells;
+}
+
+abbrev pub decreases-loop-taken : goal.decreases-loop-taken
+decreases-loop-taken l = l.len - l.taken
