@@ -11,7 +11,7 @@ ghost use Rattle.aes3_text.specs.Runs.{Scanned, mark_lines, marking, scan_counts
 
 use crate::mark::line_of_mark;
 use aes3_cell::{Counts, Fault, Form, Level, RunError, Sink, Source};
-use aes3_engine::{CellTaker, Taker, drive};
+use aes3_engine::{Taker, drive};
 use aes3_lock::Scan;
 use aes3_slot::Mark;
 
@@ -51,35 +51,22 @@ impl MarkLines {
     }
 }
 
-impl CellTaker for MarkLines {
+impl Taker for MarkLines {
     ghost follows = { λ k. Scanned k.scan k.marks };
 
     ghost writes = { λ _. marking };
 
-    fn cell<T: Sink>(&mut self, sink: &mut T, level: Level) -> Result<(), Fault> {
-        match self.scan.push(level) {
-            Some(found) => self.tell(sink, found),
-            None => Ok(()),
-        }
-    }
-}
-
-impl Taker for MarkLines {
     ghost finished = { λ k. Scanned k.scan k.marks };
 
-    fn word<T: Sink>(&mut self, sink: &mut T, word: u64) -> Result<(), Fault> {
-        let mut taken = 0;
-        while taken < u64::BITS {
-            let (more, found) = self.scan.next_in(word >> taken, u64::BITS - taken);
-            taken += more;
-            if let Some(found) = found {
-                match self.tell(sink, found) {
-                    Ok(()) => {}
-                    Err(fault) => return Err(fault),
-                }
-            }
+    fn take_front<T: Sink>(&mut self, sink: &mut T, word: u64, len: u32) -> Result<u32, Fault> {
+        let (taken, found) = self.scan.next_in(word, len);
+        match found {
+            Some(found) => match self.tell(sink, found) {
+                Ok(()) => Ok(taken),
+                Err(fault) => Err(fault),
+            },
+            None => Ok(taken),
         }
-        Ok(())
     }
 
     fn finish<T: Sink>(&mut self, _sink: &mut T) -> Result<(), Fault> {
