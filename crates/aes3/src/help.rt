@@ -29,7 +29,8 @@ Forms of input and output:
                 first in the highest bit, and then one octet with the number of unused
                 cells before it
   block         192 frames of two subframes, 24,576 cells. It is whole where all its
-                cells stand, with right parity, and the next cell ends its last run
+                cells stand, with right parity, and the next cell, if there is one, ends
+                its last run
   block file    1,536 bytes a block: 384 words of 4 bytes, lowest first, channel 1 and
                 then channel 2 of each frame. Bit N of a word is time slot N: bits 0
                 to 3 are zero, 4 to 27 the sample, 28 V, 29 U, 30 C, 31 even parity
@@ -38,7 +39,7 @@ Exit status:
   0  done, or help or the version was asked for
   1  `check` is done and found faults
   2  the words are no command line; why is told on standard error
-  3  refused; standard error has one line, `aes3: refused NUMBER`, and ` at PLACE`
+  3  refused; standard error has one line, `aes3: refused NUMBER at PLACE`, or no place
 
 Refusals, with what PLACE counts from 0:
    1  a byte of cell text is neither a cell nor a separator; bytes
