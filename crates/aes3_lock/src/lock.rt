@@ -39,7 +39,8 @@ impl Model for Lock {
     ghost invariant = { λ k. ForSome k.candidate (λ t. t.at ≤ k.seen) };
 }
 
-ghost use Rattle.std.specs.Prelude.{◌≡◌, ◌≢◌, ◌<◌, ◌≤◌, ◌+◌, ◌%◌, ◌^◌, ◌&&◌, true, false, None, Some, List, [], ◌∷◌, ◌++◌, drop, length, nat_lt, option_map, option_to_list};
+ghost use Rattle.std.specs.Prelude.{◌≡◌, ◌≢◌, ◌<◌, ◌≤◌, ◌+◌, ◌*◌, ◌%◌, ◌^◌, ◌&&◌, true, false, None, Some, List, [], ◌∷◌, ◌++◌, drop, get_or, length, nat_lt, option_map, option_to_list, take};
+ghost use Rattle.std.specs.List.{flat_map};
 ghost use Rattle.std.specs.Option.{ForSome};
 ghost use Rattle.aes3_cell.specs.declared.level.Level.{Level};
 ghost use Rattle.aes3_cell.specs.Words.{level_of, low_cells, word_cells};
@@ -216,6 +217,30 @@ impl Lock {
             level,
         });
         true
+    }
+
+    /// Takes the words from the front, the first cell of each in its lowest bit, that decide no report, and answers how many.
+    ///
+    /// It is `take_word` for each of them: the next, if there is one, decides a report or begins a block.
+    pub fn take_words(&mut self, words: &[u64]) -> usize
+        requires { self.old.seen + 64 * length words.now ≤ 2 ^ 43 }
+        ensures within { result ≤ length words.now }
+        ensures seen { self.new.seen ≡ self.old.seen + 64 * result }
+        ensures follows { (cells : List Level) → Follows self.old cells
+            → Follows self.new (cells ++ flat_map word_cells (take result words.now)) }
+        ensures none { (cells : List Level) → Follows self.old cells
+            → decided (cells ++ flat_map word_cells (take result words.now)) ≡ decided cells }
+        ensures stops { result < length words.now → (cells : List Level) → Follows self.new cells
+            → ForSome self.new.candidate (λ t. open_at (drop t.at (cells ++ word_cells (get_or words.now result 0))) ≡ false) }
+        ensures begins { result < length words.now → self.new.candidate ≡ None
+            → BeginsIn (drop 1 self.new.recent ++ word_cells (get_or words.now result 0)) }
+    {
+        for (taken, word) in words.iter().enumerate() {
+            if !self.take_word(*word) {
+                return taken;
+            }
+        }
+        words.len()
     }
 
     /// Takes the first `len` cells of a word into the last eight.
