@@ -357,10 +357,11 @@ fn words_of_lines(rt: HostRuntime) {
     }
 }
 
-/// Whether words are written as one by one, in each form.
+/// Whether words into a sink that takes much at once are written as one by one, in each form.
 fn same_as_one_by_one(rt: &HostRuntime, words: &[u64]) -> bool {
     for form in [Form::Text, Form::Packed] {
-        let mut many = MemorySink::new(rt.alloc());
+        let mut buffer = [0; 2_145];
+        let mut many = StdSink::new(buffer.as_mut_slice());
         let mut one = MemorySink::new(rt.alloc());
         if many.failures() > 0 || put_words(form, words, &mut many).is_err() {
             return false;
@@ -370,7 +371,7 @@ fn same_as_one_by_one(rt: &HostRuntime, words: &[u64]) -> bool {
                 return false;
             }
         }
-        if many.bytes() != one.bytes() {
+        if !buffer.starts_with(one.bytes()) {
             return false;
         }
     }

@@ -65,7 +65,7 @@ fn put_many<T: Sink>(form: Form, words: &[u64; MANY], sink: &mut T) -> Result<()
     }
 }
 
-/// Writes the first words, as many as fill buffers, and answers how many.
+/// Writes the first words, as many as fill buffers, where the sink takes much at once; answers how many.
 fn put_front<T: Sink>(form: Form, words: &[u64], sink: &mut T) -> Result<usize, Fault>
     requires room { T.failed sink.old + 1 < 2 ^ 64 }
     ensures within { IfOk result (λ n. n ≤ length words.now) }
@@ -73,6 +73,9 @@ fn put_front<T: Sink>(form: Form, words: &[u64], sink: &mut T) -> Result<usize, 
     ensures count { IfOk result (λ _. T.failed sink.new ≡ T.failed sink.old) }
     ensures err { OnErr result ((T.failed sink.new ≡ T.failed sink.old + 1) × GrewFront (T.taken sink.old) (T.taken sink.new) (bytes_of form (flat_map word_cells words.now))) }
 {
+    if !sink.takes_much() {
+        return Ok(0);
+    }
     let mut at = 0;
     while let Some(many) = words[at..].first_chunk() {
         match put_many(form, many, sink) {
@@ -99,7 +102,7 @@ fn put_each<T: Sink>(form: Form, words: &[u64], sink: &mut T) -> Result<(), Faul
     Ok(())
 }
 
-/// Writes words of cells, 16 of them as one buffer while there are so many.
+/// Writes words of cells, each as one buffer, or 16 as one where the sink takes much at once.
 ///
 /// # Errors
 /// The sink's fault; then it has taken a front of the bytes.

@@ -8,6 +8,9 @@ use Rattle.aes3_cell.proofs.ManyWords.{bytes-block, bytes-split}
 use Rattle.aes3_cell.proofs.WrittenForms.{bytes-nothing}
 use Rattle.aes3_cell.proofs.written.put_front.Goals as goal
 
+pub returns-then-not-takes_much-clause-cells : goal.returns-then-not-takes_much-clause-cells
+returns-then-not-takes_much-clause-cells g c = grew-is (sym (bytes-nothing c.args.form)) (grew-none refl)
+
 pub loop-many-init : goal.loop-many-init
 loop-many-init g c = record { within = omega arith; grew = grew-is (sym (bytes-nothing c.args.form)) (grew-none refl); quiet = refl }
 
