@@ -10,6 +10,8 @@ mod help;
 mod job;
 mod job_run;
 #[cfg(test)]
+mod job_run_tests;
+#[cfg(test)]
 mod job_tests;
 mod refusal;
 mod run;
