@@ -415,17 +415,23 @@ fn preambles_of_cells(rt: HostRuntime) -> Result<(), Fail> {
     add_marks(&mut early, rt.alloc(), 12_800, 384, 0)?;
     let mut other = Vec::new(rt.alloc());
     add_marks(&mut other, rt.alloc(), 0, 384, 1)?;
-    let mut two = Vec::new(rt.alloc());
-    add_marks(&mut two, rt.alloc(), 0, 384, 0)?;
-    add_marks(&mut two, rt.alloc(), 24_576, 384, 0)?;
-    let text = Job::Scan { input: TEXT };
-    let packed = Job::Scan { input: PACKED };
-    let lines = |first, len| Early::Lines { first, len };
+    let job = Job::Scan { input: TEXT };
     let rows = [
-        to_lines(text, &of.early, &early, lines(8, 65)),
-        to_lines(text, &of.other, &other, lines(8, 74)),
-        to_lines(packed, &of.packed, &two, lines(3, 8)),
+        to_lines(job, &of.early, &early, Early::Lines { first: 8, len: 65 }),
+        to_lines(job, &of.other, &other, Early::Lines { first: 8, len: 74 }),
     ];
+    expect_rows(&rt, rt.alloc(), &rows);
+    Ok(())
+}
+
+#[test]
+fn preambles_of_packed_cells(rt: HostRuntime) -> Result<(), Fail> {
+    let of = inputs_of_rows(rt.alloc())?;
+    let mut marks = Vec::new(rt.alloc());
+    add_marks(&mut marks, rt.alloc(), 0, 384, 0)?;
+    add_marks(&mut marks, rt.alloc(), 24_576, 384, 0)?;
+    let job = Job::Scan { input: PACKED };
+    let rows = [to_lines(job, &of.packed, &marks, Early::Lines { first: 3, len: 8 })];
     expect_rows(&rt, rt.alloc(), &rows);
     Ok(())
 }
