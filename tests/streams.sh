@@ -1,9 +1,8 @@
 #!/bin/sh
-# What the program owes to the machine's own streams: no clause can speak of them, so this runs the built program.
-#
-# It builds the program first where its source has changed (bin/aes3), and ends with status 0 where all is as expected.
-# It needs /dev/full, and a shell whose ulimit knows -v.
+# tests/streams.sh PROGRAM: what the program owes to the machine's own streams. No clause can speak of them, so this runs
+# the built program, and ends with status 0 where all is as expected. It needs /dev/full, and a shell whose ulimit knows -v.
 
+program=$(realpath "$1") || exit 2
 root=$(dirname "$(dirname "$(realpath "$0")")")
 zero=$root/examples/zero.block
 folder=$(mktemp -d) || exit 1
@@ -11,7 +10,7 @@ trap 'rm -rf "$folder"' EXIT
 failed=0
 
 aes3() {
-    "$root/bin/aes3" "$@"
+    "$program" "$@"
 }
 
 # expect NAME STATUS LINE: compares the last run's status, and what it told on standard error, with these.
@@ -64,7 +63,6 @@ expect "words that are not UTF-8" 2 "aes3: the words are not UTF-8"
 
 # Memory refused anywhere before the input is read: from a limit at which the program can't be loaded to one at which it
 # runs, each run is done, or it ends with refusal 8 and its line.
-program=$root/crates/aes3/out/aes3
 refused=0
 limit=2000
 while [ "$limit" -le 4000 ]; do
