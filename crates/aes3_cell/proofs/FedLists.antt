@@ -1,9 +1,9 @@
 -- Readers and writers that are given a whole list, one by one.
-use Rattle.std.proofs.Common.{◌≡◌, ℕ, ◌+◌, ◌<◌, List, [], ◌∷◌, ◌++◌, true, Option, Some, None, Result, Ok, Err, length, refl, sym, ap, ap₂, ◌∙◌, subst, arith, append_assoc, append-nil, length-append}
+use Rattle.std.proofs.Common.{◌≡◌, ℕ, ◌<◌, List, [], ◌∷◌, ◌++◌, true, Option, Some, None, Result, Ok, Err, length, refl, sym, ap, ap₂, ◌∙◌, subst, arith, append_assoc, append-nil, length-append}
 use Rattle.aes3_cell.specs.declared.level.Level.{Level}
 use Rattle.aes3_cell.specs.declared.refusal.BadCell.{BadCell}
 use Rattle.aes3_cell.specs.CellText.{IsCellText, cells_of_text, good}
-use Rattle.aes3_cell.specs.Packed.{is_packed, cells_of_packed, packed_of, whole_cells}
+use Rattle.aes3_cell.specs.Packed.{is_packed, cells_of_packed, packed_of}
 use Rattle.aes3_cell.specs.PackedFeeding.{cells_fed, octets_fed}
 use Rattle.aes3_cell.specs.PackedPending.{octets_added, whole_octets}
 use Rattle.aes3_cell.specs.PackedReading.{packed_reader_of, packed_end, end_cells}

@@ -4,7 +4,7 @@ use Rattle.std.proofs.lemmas.List.{take_at, take_more, get_or-append_right, leng
 use Rattle.std.proofs.Math.Seq.{take-suc}
 use Rattle.aes3_cell.specs.declared.level.Level.{Level}
 use Rattle.aes3_cell.specs.Text.{byte_of, line_text, IsCellByte}
-use Rattle.aes3_cell.specs.Words.{low_cells, word_cells, word_len}
+use Rattle.aes3_cell.specs.Words.{low_cells, word_cells}
 use Rattle.aes3_cell.proofs.Lines.{word_len_64}
 use Rattle.aes3_cell.proofs.WordCells.{length-word_cells}
 

@@ -349,11 +349,10 @@ fn words_of_lines(rt: HostRuntime) {
     assert!(rt; text.seen() == 131);
     let none = text.feed_cells(&two[131..]);
     assert_eq!(rt; (none.word, none.len), (0, 0));
-    assert!(rt; text.seen() == 131);
     for (from, word, len) in [(0, 0xFEDC_BA98_7654_3215, 64), (60, 15, 4), (64, 0, 0)] {
+        assert!(rt; text.seen() < 1_000);
         let cells = text.feed_cells(&two[from..]);
         assert_eq!(rt; (cells.word, cells.len), (word, len), "{from}");
-        assert!(rt; text.seen() < 1_000);
     }
 }
 

@@ -1,12 +1,12 @@
 -- Eight words at once, lane by lane.
-use Rattle.std.proofs.Common.{◌≡◌, ℕ, zero, suc, ◌+◌, ◌-◌, ◌*◌, ◌/◌, ◌%◌, ◌^◌, ◌<◌, ◌≤◌, ◌⊎◌, inl, inr, List, Bool, ◌&&◌, not, length, get_or, map, drop, replicate, refl, sym, ap, ap₂, ◌∙◌, subst, arith, w64, lit<}
+use Rattle.std.proofs.Common.{◌≡◌, ℕ, ◌+◌, ◌-◌, ◌*◌, ◌/◌, ◌%◌, ◌^◌, ◌<◌, ◌≤◌, ◌⊎◌, inl, inr, List, Bool, ◌&&◌, not, length, get_or, map, drop, replicate, refl, sym, ap, ap₂, ◌∙◌, subst, arith, w64, lit<}
 use Rattle.std.specs.Prelude.{bit_and, bit_or, bit_xor, if◌then◌else◌}
 use Rattle.std.specs.Int.{bit_at, bit_not}
-use Rattle.std.specs.Simd.Lanes.{zip2, chunk, put_chunk, Each1}
+use Rattle.std.specs.Simd.Lanes.{zip2, chunk, put_chunk}
 use Rattle.std.proofs.lemmas.Bool.{cases_lt}
 use Rattle.std.proofs.lemmas.List.{get_or-map, length-map}
 use Rattle.std.proofs.lemmas.Nat.{and_le_l, xor_lt, or_lt, mod_below, shr_le}
-use Rattle.std.proofs.lemmas.Simd.{get_or-zip2, length-zip2, get_or-chunk, length-chunk, get_or-put_chunk_below, get_or-put_chunk_at, get_or-replicate, length-replicate}
+use Rattle.std.proofs.lemmas.Simd.{get_or-zip2, length-zip2, get_or-chunk, get_or-put_chunk_below, get_or-put_chunk_at, get_or-replicate, length-replicate}
 use Rattle.aes3_slot.specs.declared.mark.Mark.TheVariants.{Z}
 use Rattle.aes3_slot.specs.Preambles.{begins_with, unlike_at, with_seven, words_with_seven, InLanes, MarksAreTold}
 use Rattle.aes3_slot.proofs.Windows.{Says, says-and, says-not, unlike-bit, block-begins}

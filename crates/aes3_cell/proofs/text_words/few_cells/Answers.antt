@@ -1,4 +1,4 @@
-use Rattle.std.proofs.Common.{arith, refl}
+use Rattle.std.proofs.Common.{arith}
 use Rattle.aes3_cell.proofs.TextLines.{byte-more, no-cell}
 use Rattle.aes3_cell.proofs.text_words.few_cells.Goals as goal
 
