@@ -33,7 +33,7 @@ pub trait Source {
         ensures { result ≡ failed self.now };
 }
 
-/// Takes bytes, in pieces of any size.
+/// Takes bytes, in pieces of any size. It may hold some of them until it is flushed.
 ///
 /// The contract speaks of all bytes taken so far (`taken`, where the sink tells them) and of how often it failed.
 pub trait Sink {
@@ -49,6 +49,13 @@ pub trait Sink {
         ensures bytes { IfOk result (λ n. Grew (taken self.old) (taken self.new) (take n buf.now)) }
         ensures count { IfOk result (λ _. failed self.new ≡ failed self.old) }
         ensures err { OnErr result ((failed self.new ≡ failed self.old + 1) × (taken self.new ≡ taken self.old)) };
+
+    /// Passes on what it holds of the bytes that it took.
+    fn flush(&mut self) -> Result<(), Fault>
+        requires room { failed self.old + 1 < 2 ^ 64 }
+        ensures bytes { taken self.new ≡ taken self.old }
+        ensures count { IfOk result (λ _. failed self.new ≡ failed self.old) }
+        ensures err { OnErr result (failed self.new ≡ failed self.old + 1) };
 
     /// How often the sink has failed.
     fn failures(&self) -> u64

@@ -137,6 +137,11 @@ impl Sink for FailingSink {
         Err(Fault)
     }
 
+    /// It holds nothing back.
+    fn flush(&mut self) -> Result<(), Fault> {
+        Ok(())
+    }
+
     fn failures(&self) -> u64 {
         self.failures
     }

@@ -136,6 +136,11 @@ impl Sink for MemorySink {
         }
     }
 
+    /// It holds nothing back.
+    fn flush(&mut self) -> Result<(), Fault> {
+        Ok(())
+    }
+
     fn failures(&self) -> u64 {
         self.failures
     }

@@ -60,6 +60,11 @@ impl Sink for ShortSink {
         self.inner.write(&buf[..buf.len().min(self.most)])
     }
 
+    /// It holds nothing back.
+    fn flush(&mut self) -> Result<(), Fault> {
+        Ok(())
+    }
+
     fn failures(&self) -> u64 {
         self.inner.failures()
     }

@@ -91,6 +91,16 @@ impl<W: Write + Drop> Sink for StdSink<W> {
         }
     }
 
+    fn flush(&mut self) -> Result<(), Fault> {
+        match self.writer.flush() {
+            Ok(()) => Ok(()),
+            Err(_) => {
+                self.failures += 1;
+                Err(Fault)
+            }
+        }
+    }
+
     fn failures(&self) -> u64 {
         self.failures
     }

@@ -1,26 +1,22 @@
 -- Words of cells taken from the front of a piece.
-use Rattle.std.proofs.Common.{◌≡◌, ℕ, ◌+◌, ◌≤◌, List, [], ◌++◌, Option, None, length, map, sym, ap, ◌∙◌, subst, arith, length-append}
+use Rattle.std.proofs.Common.{◌≡◌, ℕ, ◌+◌, ◌≤◌, List, [], ◌++◌, Option, None, length, sym, ap, ap₂, ◌∙◌, subst, append_assoc, length-append}
 use Rattle.std.proofs.lemmas.List.{append_cancel_left}
 use Rattle.aes3_cell.specs.declared.level.Level.{Level}
 use Rattle.aes3_cell.specs.Ends.{Grew, GrewFront}
 use Rattle.aes3_cell.specs.Words.{word_cells}
-use Rattle.aes3_cell.specs.Text.{byte_of}
 use Rattle.aes3_cell.specs.CellText.{cells_of_text, IsCellText}
-use Rattle.aes3_cell.specs.TextReading.{TextReader}
+use Rattle.aes3_cell.specs.TextReading.{TextReader, text_reader_of}
 use Rattle.aes3_cell.specs.Packed.{whole_cells}
-use Rattle.aes3_cell.specs.PackedReading.{PackedReader, behind_eight, eight_whole}
+use Rattle.aes3_cell.specs.PackedReading.{PackedReader, packed_reader_of, behind_eight, eight_whole}
 use Rattle.aes3_cell.proofs.Growing.{grew-is, front-is}
-use Rattle.aes3_cell.proofs.Lines.{word_len_64}
-use Rattle.aes3_cell.proofs.WordCells.{length-word_cells}
-use Rattle.aes3_cell.proofs.CellTexts.{cells-text}
-use Rattle.aes3_cell.proofs.TextWords.{word-fed}
+use Rattle.aes3_cell.proofs.CellTexts.{cells-join, text-join}
 use Rattle.aes3_cell.proofs.OctetWords.{eight-fed}
 use Rattle.aes3_engine.specs.Converting.{Reading, fault_behind, out_behind, first_fault, out}
 use Rattle.aes3_engine.specs.Running.{Fed}
 use Rattle.aes3_engine.specs.Taking.{Writing, behind, before_end}
-use Rattle.aes3_engine.specs.Forms.{text_reading, TextTaken, packed_reading, PackedTaken}
+use Rattle.aes3_engine.specs.Forms.{TextRead, text_reading, TextTaken, packed_reading, PackedTaken}
 use Rattle.aes3_engine.proofs.Outputs.{behind-clean}
-use Rattle.aes3_engine.proofs.Feeding.{fed-none}
+use Rattle.aes3_engine.proofs.Feeding.{front-longer}
 use Rattle.aes3_engine.proofs.Items.{before-join}
 use Rattle.aes3_engine.proofs.TextRuns as text
 use Rattle.aes3_engine.proofs.PackedRuns as packed
@@ -33,89 +29,87 @@ piece-writes r w cells is b d m clean e =
     append_cancel_left (out r b) (out_behind r b d) (behind w (cells b) m)
     (sym (behind-clean r [] b d clean) ∙ is (b ++ d) ∙ ap (before_end w) e ∙ before-join w (cells b) m ∙ ap (λ z. z ++ behind w (cells b) m) (sym (is b)))
 
--- the cells of a piece that is a word, behind those before it
-length-more : (c d : List Level) (w : ℕ) → d ≡ c ++ word_cells w → length d ≡ length c + 64
-length-more c d w e =
-    let l = length-append c (word_cells w) in
-    let n = length-word_cells w in
-    let k = word_len_64 in
-    let q = ap length e in
-    omega arith
-
--- text of 64 cells
-text-writes : (w : Writing Level) (b bytes : List ℕ) (word : ℕ) → IsCellText b → bytes ≡ map byte_of (word_cells word) → cells_of_text (b ++ bytes) ≡ cells_of_text b ++ word_cells word
-    → (fault_behind (text_reading w) b bytes ≡ None) × (out_behind (text_reading w) b bytes ≡ behind w (cells_of_text b) (word_cells word))
+-- text that a reader took
+text-writes : (w : Writing Level) (b d : List ℕ) (m : List Level) → IsCellText b → IsCellText d → cells_of_text d ≡ m
+    → (fault_behind (text_reading w) b d ≡ None) × (out_behind (text_reading w) b d ≡ behind w (cells_of_text b) m)
 unfolding first_fault
-text-writes w b bytes word g t e = (
-  text.text-clean w b bytes (subst IsCellText (sym t) (cells-text (word_cells word)).0),
-  piece-writes (text_reading w) w cells_of_text (text.out-text w) b bytes (word_cells word) (text.text-clean w [] b g) e,
+text-writes w b d m g k e = (
+  text.text-clean w b d k,
+  piece-writes (text_reading w) w cells_of_text (text.out-text w) b d m (text.text-clean w [] b g) (cells-join b d g ∙ ap (λ v. cells_of_text b ++ v) e),
 )
 
-pub text-word : (w₀ w : Writing Level) (f₀ f : List Level → Type 0) (reader new : TextReader) (cells : ℕ) (bytes : List ℕ) (word : ℕ) (t t' : Option (List ℕ))
-    → bytes ≡ map byte_of (word_cells word) → new.seen ≡ reader.seen + 64 → w ≡ w₀
-    → ((c : List Level) → f₀ c → f (c ++ word_cells word)) → ((c : List Level) → f₀ c → Grew t t' (behind w₀ c (word_cells word)))
-    → Fed (text_reading w₀) (text_reading w) (TextTaken reader cells f₀) (TextTaken new (cells + 64) f) t t' bytes
-text-word w₀ w f₀ f reader new cells bytes word t t' e n s next g = record {
+reader-behind : {reader new : TextReader} {cells : ℕ} {f : List Level → Type 0} {d : List ℕ} {m : List Level} (b : List ℕ)
+    → TextRead reader new d m → TextTaken reader cells f b → new ≡ text_reader_of (b ++ d)
+unfolding text_reader_of
+reader-behind {d = d} b p h =
+    ap (λ v. record { seen = v }) (p.seen ∙ ap (λ v. v.seen + length d) h.reader ∙ sym (length-append b d))
+
+pub text-front : (w₀ w : Writing Level) (f₀ f : List Level → Type 0) (reader new : TextReader) (cells n : ℕ) (d : List ℕ) (m : List Level) (t t' : Option (List ℕ))
+    → TextRead reader new d m → length m ≡ n → w ≡ w₀
+    → ((c : List Level) → f₀ c → f (c ++ m)) → ((c : List Level) → f₀ c → Grew t t' (behind w₀ c m))
+    → Fed (text_reading w₀) (text_reading w) (TextTaken reader cells f₀) (TextTaken new (cells + n) f) t t' d
+text-front w₀ w f₀ f reader new cells n d m t t' p l s next g = record {
   same = ap text_reading s;
-  clean = λ b h. (text-writes w₀ b bytes word h.lawful e (word-fed b bytes word h.reader h.lawful e n).2).0;
+  clean = λ b h. (text-writes w₀ b d m h.lawful p.lawful p.cells).0;
   follows = λ b h.
-      let q = word-fed b bytes word h.reader h.lawful e n in
+      let e : cells_of_text (b ++ d) ≡ cells_of_text b ++ m = cells-join b d h.lawful ∙ ap (λ v. cells_of_text b ++ v) p.cells in
       record {
-        reader = q.1;
-        lawful = q.0;
-        count = ap (λ k. k + 64) h.count ∙ sym (length-more (cells_of_text b) (cells_of_text (b ++ bytes)) word q.2);
-        taker = subst f (sym q.2) (next (cells_of_text b) h.taker);
+        reader = reader-behind b p h;
+        lawful = text-join b d h.lawful p.lawful;
+        count = ap₂ ◌+◌ h.count (sym l) ∙ sym (length-append (cells_of_text b) m) ∙ ap length (sym e);
+        taker = subst f (sym e) (next (cells_of_text b) h.taker);
       };
-  grew = λ b h.
-      grew-is (sym (text-writes w₀ b bytes word h.lawful e (word-fed b bytes word h.reader h.lawful e n).2).1) (g (cells_of_text b) h.taker);
+  grew = λ b h. grew-is (sym (text-writes w₀ b d m h.lawful p.lawful p.cells).1) (g (cells_of_text b) h.taker);
 }
 
-pub text-word-front : (w₀ : Writing Level) (f₀ : List Level → Type 0) (reader new : TextReader) (cells : ℕ) (bytes : List ℕ) (word : ℕ) (t t' : Option (List ℕ))
-    → bytes ≡ map byte_of (word_cells word) → new.seen ≡ reader.seen + 64 → ((c : List Level) → f₀ c → GrewFront t t' (behind w₀ c (word_cells word)))
-    → (b : List ℕ) → TextTaken reader cells f₀ b → GrewFront t t' (out_behind (text_reading w₀) b bytes)
-text-word-front w₀ f₀ reader new cells bytes word t t' e n g b h =
-    let q = word-fed {new = new} b bytes word h.reader h.lawful e n in
-    front-is (sym (text-writes w₀ b bytes word h.lawful e q.2).1) (g (cells_of_text b) h.taker)
+pub text-part : (w₀ : Writing Level) (f₀ : List Level → Type 0) (reader new : TextReader) (cells : ℕ) (d rest xs : List ℕ) (m : List Level) (t t' : Option (List ℕ))
+    → d ++ rest ≡ xs → TextRead reader new d m → ((c : List Level) → f₀ c → GrewFront t t' (behind w₀ c m))
+    → (b : List ℕ) → TextTaken reader cells f₀ b → GrewFront t t' (out_behind (text_reading w₀) b xs)
+text-part w₀ f₀ reader new cells d rest xs m t t' e p g b h =
+    front-longer (text_reading w₀) b d rest xs e
+    (front-is (sym (text-writes w₀ b d m h.lawful p.lawful p.cells).1) (g (cells_of_text b) h.taker))
 
--- a reader that has taken no more
-pub text-same : (w : Writing Level) (f : List Level → Type 0) (reader new : TextReader) (cells : ℕ) (t : Option (List ℕ)) → new ≡ reader
-    → Fed (text_reading w) (text_reading w) (TextTaken reader cells f) (TextTaken new cells f) t t []
-text-same w f reader new cells t e =
-    subst (λ (v : TextReader). Fed (text_reading w) (text_reading w) (TextTaken reader cells f) (TextTaken v cells f) t t []) (sym e) (fed-none (text_reading w) (TextTaken reader cells f) t)
-
--- eight octets
+-- octets that a reader took, and the cells that they make whole
 octets-write : (w : Writing Level) (b octets : List ℕ) (m : List Level) → whole_cells (b ++ octets) ≡ whole_cells b ++ m
     → (fault_behind (packed_reading w) b octets ≡ None) × (out_behind (packed_reading w) b octets ≡ behind w (whole_cells b) m)
 octets-write w b octets m e =
     (packed.clean-behind w b octets, piece-writes (packed_reading w) w whole_cells (packed.out-packed w) b octets m (packed.clean w b) e)
 
-pub octets-word : (w₀ w : Writing Level) (f₀ f : List Level → Type 0) (reader new : PackedReader) (cells : ℕ) (octets : List ℕ) (word : ℕ) (t t' : Option (List ℕ))
-    → length octets ≡ 8 → 2 ≤ reader.seen → word_cells word ≡ eight_whole reader octets → new ≡ behind_eight reader octets → w ≡ w₀
-    → ((c : List Level) → f₀ c → f (c ++ word_cells word)) → ((c : List Level) → f₀ c → Grew t t' (behind w₀ c (word_cells word)))
-    → Fed (packed_reading w₀) (packed_reading w) (PackedTaken reader cells f₀) (PackedTaken new (cells + 64) f) t t' octets
-octets-word w₀ w f₀ f reader new cells octets word t t' l k e n s next g = record {
+pub octets-front : (w₀ w : Writing Level) (f₀ f : List Level → Type 0) (reader new : PackedReader) (cells n : ℕ) (octets : List ℕ) (m : List Level) (t t' : Option (List ℕ))
+    → ((b : List ℕ) → reader ≡ packed_reader_of b → new ≡ packed_reader_of (b ++ octets))
+    → ((b : List ℕ) → reader ≡ packed_reader_of b → whole_cells (b ++ octets) ≡ whole_cells b ++ m)
+    → length m ≡ n → w ≡ w₀
+    → ((c : List Level) → f₀ c → f (c ++ m)) → ((c : List Level) → f₀ c → Grew t t' (behind w₀ c m))
+    → Fed (packed_reading w₀) (packed_reading w) (PackedTaken reader cells f₀) (PackedTaken new (cells + n) f) t t' octets
+octets-front w₀ w f₀ f reader new cells n octets m t t' r p l s next g = record {
   same = ap packed_reading s;
   clean = λ b h. packed.clean-behind w₀ b octets;
   follows = λ b h.
-      let q = eight-fed b octets word h.reader l k e n in
+      let e = p b h.reader in
       record {
-        reader = q.0;
-        count = ap (λ k. k + 64) h.count ∙ sym (length-more (whole_cells b) (whole_cells (b ++ octets)) word q.1);
-        taker = subst f (sym q.1) (next (whole_cells b) h.taker);
+        reader = r b h.reader;
+        count = ap₂ ◌+◌ h.count (sym l) ∙ sym (length-append (whole_cells b) m) ∙ ap length (sym e);
+        taker = subst f (sym e) (next (whole_cells b) h.taker);
       };
-  grew = λ b h.
-      grew-is (sym (octets-write w₀ b octets (word_cells word) (eight-fed b octets word h.reader l k e n).1).1) (g (whole_cells b) h.taker);
+  grew = λ b h. grew-is (sym (octets-write w₀ b octets m (p b h.reader)).1) (g (whole_cells b) h.taker);
 }
 
-pub octets-word-front : (w₀ : Writing Level) (f₀ : List Level → Type 0) (reader new : PackedReader) (cells : ℕ) (octets : List ℕ) (word : ℕ) (t t' : Option (List ℕ))
-    → length octets ≡ 8 → 2 ≤ reader.seen → word_cells word ≡ eight_whole reader octets → new ≡ behind_eight reader octets
-    → ((c : List Level) → f₀ c → GrewFront t t' (behind w₀ c (word_cells word)))
-    → (b : List ℕ) → PackedTaken reader cells f₀ b → GrewFront t t' (out_behind (packed_reading w₀) b octets)
-octets-word-front w₀ f₀ reader new cells octets word t t' l k e n g b h =
-    front-is (sym (octets-write w₀ b octets (word_cells word) (eight-fed b octets word h.reader l k e n).1).1) (g (whole_cells b) h.taker)
+pub octets-part : (w₀ : Writing Level) (f₀ : List Level → Type 0) (reader : PackedReader) (cells : ℕ) (octets rest xs : List ℕ) (m : List Level) (t t' : Option (List ℕ))
+    → octets ++ rest ≡ xs
+    → ((b : List ℕ) → reader ≡ packed_reader_of b → whole_cells (b ++ octets) ≡ whole_cells b ++ m)
+    → ((c : List Level) → f₀ c → GrewFront t t' (behind w₀ c m))
+    → (b : List ℕ) → PackedTaken reader cells f₀ b → GrewFront t t' (out_behind (packed_reading w₀) b xs)
+octets-part w₀ f₀ reader cells octets rest xs m t t' e p g b h =
+    front-longer (packed_reading w₀) b octets rest xs e
+    (front-is (sym (octets-write w₀ b octets m (p b h.reader)).1) (g (whole_cells b) h.taker))
 
-pub octets-same : (w : Writing Level) (f : List Level → Type 0) (reader new : PackedReader) (cells : ℕ) (t : Option (List ℕ)) → new ≡ reader
-    → Fed (packed_reading w) (packed_reading w) (PackedTaken reader cells f) (PackedTaken new cells f) t t []
-octets-same w f reader new cells t e =
-    subst (λ (v : PackedReader). Fed (packed_reading w) (packed_reading w) (PackedTaken reader cells f) (PackedTaken v cells f) t t []) (sym e)
-    (fed-none (packed_reading w) (PackedTaken reader cells f) t)
+-- eight octets behind those before them
+pub eight-more : (s new : PackedReader) (b a octets : List ℕ) (c : List Level) (w : ℕ) → s ≡ packed_reader_of (b ++ a) → whole_cells (b ++ a) ≡ whole_cells b ++ c
+    → length octets ≡ 8 → 2 ≤ s.seen → word_cells w ≡ eight_whole s octets → new ≡ behind_eight s octets
+    → (new ≡ packed_reader_of (b ++ (a ++ octets))) × (whole_cells (b ++ (a ++ octets)) ≡ whole_cells b ++ (c ++ word_cells w))
+eight-more s new b a octets c w e f l k p n =
+    let q = eight-fed {new = new} (b ++ a) octets w e l k p n in
+    let j : (b ++ a) ++ octets ≡ b ++ (a ++ octets) = append_assoc b a octets in (
+      q.0 ∙ ap packed_reader_of j,
+      ap whole_cells (sym j) ∙ q.1 ∙ ap (λ v. v ++ word_cells w) f ∙ append_assoc (whole_cells b) c (word_cells w),
+    )

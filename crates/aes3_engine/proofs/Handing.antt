@@ -1,11 +1,19 @@
 -- Cells handed to a taker one by one.
-use Rattle.std.proofs.Common.{◌≡◌, ℕ, ◌+◌, ◌-◌, ◌/◌, ◌^◌, ◌≤◌, List, [], ◌∷◌, ◌++◌, Option, refl, sym, ap, ◌∙◌, subst, arith, add-one, append-nil, append_assoc}
+use Rattle.std.proofs.Common.{◌≡◌, ℕ, ◌+◌, ◌-◌, ◌/◌, ◌*◌, ◌^◌, ◌<◌, ◌≤◌, length, length-append, take, drop, get_or, set, Result, List, [], ◌∷◌, ◌++◌, Option, refl, sym, ap, ◌∙◌, subst, arith, add-one, append-nil, append_assoc}
 use Rattle.std.specs.Int.{bit_at}
+use Rattle.std.specs.List.{flat_map}
+use Rattle.std.proofs.lemmas.Grind.{flat_map-append}
+use Rattle.std.proofs.lemmas.List.{take_more, take_more_set, take-append-drop}
+use Rattle.std.proofs.Math.Seq.{take-add}
 use Rattle.aes3_cell.specs.declared.level.Level.{Level}
 use Rattle.aes3_cell.specs.Ends.{Grew, GrewFront}
 use Rattle.aes3_cell.specs.Words.{level_of, low_cells, word_len, word_cells}
-use Rattle.aes3_cell.proofs.WordCells.{low_cells-suc, low_cells-add}
+use Rattle.aes3_cell.proofs.Lines.{word_len_64}
+use Rattle.aes3_cell.proofs.WordCells.{low_cells-suc, low_cells-add, length-word_cells}
 use Rattle.aes3_cell.proofs.Growing.{grew-none, grew-is, grew-join, front-is, front-join, front-more}
+use Rattle.aes3_cell.specs.declared.ends.Fault.{Fault}
+use Rattle.aes3_engine.specs.Running.{Change}
+use Rattle.aes3_engine.specs.Forms.{CellsRan}
 use Rattle.aes3_engine.specs.Taking.{Writing, behind}
 use Rattle.aes3_engine.proofs.Items.{items-join}
 
@@ -58,10 +66,44 @@ handed-front {w = w} l more e m h g = handed-cells-front (l ∷ []) more e m h (
 pub cell-more : (w i : ℕ) {l : Level} → l ≡ level_of (bit_at w i) → low_cells (i + 1) w ≡ low_cells i w ++ l ∷ []
 cell-more w i e = ap (λ k. low_cells k w) (add-one i) ∙ low_cells-suc i w ∙ ap (λ v. low_cells i w ++ v ∷ []) (sym e)
 
-pub cells-after : (w i : ℕ) → i ≤ 64 → (d : List Level) × (word_cells w ≡ low_cells i w ++ d)
-unfolding word_cells word_len
-cells-after w i h = (low_cells (64 - i) (w / 2 ^ i), ap (λ k. low_cells k w) (let e : 64 ≡ i + (64 - i) = omega arith in e) ∙ low_cells-add i (64 - i) w)
+pub cell-behind : (c : List Level) (w i : ℕ) (l : Level) → l ≡ level_of (bit_at w i) → (c ++ low_cells i w) ++ l ∷ [] ≡ c ++ low_cells (i + 1) w
+cell-behind c w i l e = append_assoc c (low_cells i w) (l ∷ []) ∙ ap (λ v. c ++ v) (sym (cell-more w i e))
 
-pub all-cells : (w i : ℕ) → i ≡ 64 → low_cells i w ≡ word_cells w
-unfolding word_cells word_len
-all-cells w i e = ap (λ k. low_cells k w) e
+-- the first cells of a word, and the others
+pub cells-parted : (w i n : ℕ) → i ≤ n → low_cells n w ≡ low_cells i w ++ low_cells (n - i) (w / 2 ^ i)
+cells-parted w i n h = ap (λ k. low_cells k w) (let e : n ≡ i + (n - i) = omega arith in e) ∙ low_cells-add i (n - i) w
+
+-- words one by one
+pub length-words : (ws : List ℕ) → length (flat_map word_cells ws) ≡ 64 * length ws
+length-words [] = omega arith
+length-words (w ∷ ws) =
+    let a = length-append (word_cells w) (flat_map word_cells ws) in
+    let n = length-word_cells w in
+    let k = word_len_64 in
+    let r = length-words ws in
+    omega arith
+
+pub one-word : (w : ℕ) → flat_map word_cells (w ∷ []) ≡ word_cells w
+one-word w = append-nil (word_cells w)
+
+pub words-more : (ws : List ℕ) (i : ℕ) → i < length ws → flat_map word_cells (take (i + 1) ws) ≡ flat_map word_cells (take i ws) ++ word_cells (get_or ws i 0)
+words-more ws i h =
+    ap (flat_map word_cells) (take_more ws i 0 h) ∙ flat_map-append word_cells (take i ws) (get_or ws i 0 ∷ [])
+    ∙ ap (λ v. flat_map word_cells (take i ws) ++ v) (one-word (get_or ws i 0))
+
+pub words-set : (ws : List ℕ) (i w : ℕ) → i < length ws → flat_map word_cells (take (i + 1) (set ws i w)) ≡ flat_map word_cells (take i ws) ++ word_cells w
+words-set ws i w h =
+    ap (flat_map word_cells) (take_more_set ws i w h) ∙ flat_map-append word_cells (take i ws) (w ∷ []) ∙ ap (λ v. flat_map word_cells (take i ws) ++ v) (one-word w)
+
+pub words-parted : (ws : List ℕ) (i : ℕ) → flat_map word_cells ws ≡ flat_map word_cells (take i ws) ++ flat_map word_cells (drop i ws)
+words-parted ws i = ap (flat_map word_cells) (sym (take-append-drop i ws)) ∙ flat_map-append word_cells (take i ws) (drop i ws)
+
+pub words-further : (ws rest : List ℕ) (i n : ℕ) → rest ≡ drop i ws
+    → flat_map word_cells (take (i + n) ws) ≡ flat_map word_cells (take i ws) ++ flat_map word_cells (take n rest)
+words-further ws rest i n e =
+    ap (flat_map word_cells) (take-add i n ws ∙ ap (λ v. take i ws ++ take n v) (sym e)) ∙ flat_map-append word_cells (take i ws) (take n rest)
+
+-- the same cells
+pub cells-ran-is : (w₀ w : Writing Level) (f₀ f : List Level → Type 0) (d e : List Level) (sink : Change) (result : Result (Unit {0}) Fault) → d ≡ e
+    → CellsRan w₀ w f₀ f d sink result → CellsRan w₀ w f₀ f e sink result
+cells-ran-is w₀ w f₀ f d e sink result q r = subst (λ (z : List Level). CellsRan w₀ w f₀ f z sink result) q r

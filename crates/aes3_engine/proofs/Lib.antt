@@ -6,6 +6,7 @@ pub mod Told
 pub mod EncodeRuns
 pub mod Items
 pub mod Handing
+pub mod TextReads
 pub mod TextLemmas
 pub mod TextRuns
 pub mod Reports

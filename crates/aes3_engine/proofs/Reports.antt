@@ -66,21 +66,21 @@ pub few-reports : (c : List Level) → length (reports c) ≤ length c
 unfolding reports
 few-reports c = reports-few 0 c
 
--- what one cell, and what the end, writes
-pub adds-one : (w : Writing Report) (c : List Level) (l : Level) (r : Report) → decided (c ++ l ∷ []) ≡ decided c ++ r ∷ [] → (reporting w).adds c l ≡ w.adds (decided c) r
-unfolding reporting
-adds-one w c l r e = ap (behind w (decided c)) (answered c l (r ∷ []) e) ∙ append-nil (w.adds (decided c) r)
+-- what cells write that decide these reports
+pub adds-decided : (w : Writing Report) (c d : List Level) (m : List Report) → decided (c ++ d) ≡ decided c ++ m → behind (reporting w) c d ≡ behind w (decided c) m
+adds-decided w c d m e =
+    append_cancel_left (before_end (reporting w) c) (behind (reporting w) c d) (behind w (decided c) m)
+    (sym (before-join (reporting w) c d) ∙ before-reports w (c ++ d) ∙ ap (before_end w) e ∙ before-join w (decided c) m
+    ∙ ap (λ z. z ++ behind w (decided c) m) (sym (before-reports w c)))
 
-pub adds-none : (w : Writing Report) (c : List Level) (l : Level) → decided (c ++ l ∷ []) ≡ decided c ++ [] → (reporting w).adds c l ≡ []
-unfolding reporting
-adds-none w c l e = ap (behind w (decided c)) (answered c l [] e)
+pub adds-report : (w : Writing Report) (c d : List Level) (r : Report) → decided (c ++ d) ≡ decided c ++ r ∷ [] → behind (reporting w) c d ≡ w.adds (decided c) r
+adds-report w c d r e = adds-decided w c d (r ∷ []) e ∙ append-nil (w.adds (decided c) r)
 
 -- cells that decide no report write nothing
 pub adds-nothing : (w : Writing Report) (c d : List Level) → decided (c ++ d) ≡ decided c → behind (reporting w) c d ≡ []
-adds-nothing w c d e =
-    append_cancel_left (before_end (reporting w) c) (behind (reporting w) c d) []
-    (sym (before-join (reporting w) c d) ∙ before-reports w (c ++ d) ∙ ap (before_end w) e ∙ sym (before-reports w c) ∙ sym (append-nil (before_end (reporting w) c)))
+adds-nothing w c d e = adds-decided w c d [] (e ∙ sym (append-nil (decided c)))
 
+-- what the end writes
 pub ends-one : (w : Writing Report) (c : List Level) (r : Report) → reports c ≡ decided c ++ r ∷ [] → (reporting w).ends c ≡ w.adds (decided c) r ++ w.ends (decided c ++ r ∷ [])
 unfolding reporting
 ends-one w c r e =

@@ -1,9 +1,10 @@
 -- What the two forms of cells make of an input's bytes.
-use Rattle.std.specs.Prelude.{ℕ, List, ◌++◌, Some, None, Result, Ok, Err, ◌≡◌, length, take, if◌then◌else◌}
+use Rattle.std.specs.Prelude.{ℕ, List, ◌++◌, Some, None, Result, Ok, Err, ◌≡◌, ◌+◌, ◌<◌, ◌≤◌, length, take, if◌then◌else◌}
 use Rattle.aes3_cell.specs.declared.level.Level.{Level}
 use Rattle.aes3_cell.specs.declared.refusal.RunError.TheVariants.{BadCell, BadPadding}
 use Rattle.aes3_cell.specs.declared.ends.Fault.{Fault}
 use Rattle.aes3_cell.specs.Ends.{Grew, GrewFront}
+use Rattle.aes3_cell.specs.Words.{low_cells}
 use Rattle.aes3_cell.specs.Packed.{octet_cells, is_packed, last_place, cells_of_packed, whole_cells}
 use Rattle.aes3_cell.specs.PackedReading.{PackedReader, packed_reader_of, packed_answer, packed_end, answer_cells, end_cells}
 use Rattle.aes3_cell.specs.CellText.{is_good_byte, byte_cells, cells_of_text, IsCellText}
@@ -27,6 +28,12 @@ pub record TextTaken (text : TextReader) (cells : ℕ) (f : List Level → Type 
   pub lawful : IsCellText b
   pub count : cells ≡ length (cells_of_text b)
   pub taker : f (cells_of_text b)
+
+-- a reader of text took the bytes d, which are the cells c and separators
+pub record TextRead (old new : TextReader) (d : List ℕ) (c : List Level) : Type 0 where
+  pub lawful : IsCellText d
+  pub cells : cells_of_text d ≡ c
+  pub seen : new.seen ≡ old.seen + length d
 
 -- the first n cells of an octet
 unfoldable pub octet_front : ℕ → ℕ → List Level
@@ -56,6 +63,11 @@ abbrev pub CellsRan : Writing Level → Writing Level → (List Level → Type 0
 CellsRan w₀ w f₀ f d sink (Ok u) =
     (w ≡ w₀) × ((c : List Level) → f₀ c → f (c ++ d)) × ((c : List Level) → f₀ c → Grew sink.old sink.new (behind w₀ c d)) × Quiet sink
 CellsRan w₀ w f₀ f d sink (Err x) = Failed sink × ((c : List Level) → f₀ c → GrewFront sink.old sink.new (behind w₀ c d))
+
+-- of the first cells of a word, as many as told and one at least; where the sink failed, a front of what they write was taken
+abbrev pub FirstCellsRan : Writing Level → Writing Level → (List Level → Type 0) → (List Level → Type 0) → ℕ → ℕ → Change → Result ℕ Fault → Type 0
+FirstCellsRan w₀ w f₀ f len word sink (Ok n) = (0 < n) × (n ≤ len) × CellsRan w₀ w f₀ f (low_cells n word) sink (Ok tt)
+FirstCellsRan w₀ w f₀ f len word sink (Err x) = CellsRan w₀ w f₀ f (low_cells len word) sink (Err x)
 
 abbrev pub EndCellsRan : Writing Level → (List Level → Type 0) → (List Level → Type 0) → List Level → Change → Result (Unit {0}) Fault → Type 0
 EndCellsRan w₀ f₀ z d sink (Ok u) =

@@ -3,11 +3,11 @@
 ghost use Rattle.std.specs.Prelude.{◌≡◌, ℕ, ◌+◌, ◌<◌, ◌≤◌, ◌^◌, ◌↔◌, List, [], length, take, IfOk, OnErr, IsTrue};
 ghost use Rattle.aes3_cell.specs.Ends.{Grew};
 ghost use Rattle.aes3_engine.specs.Converting.{Reading};
-ghost use Rattle.aes3_engine.specs.Running.{EndRan, PieceRan, Run};
+ghost use Rattle.aes3_engine.specs.Running.{EndRan, FrontRan, PieceRan, Run};
 
 use aes3_cell::{Fault, RunError, Sink, Source};
 
-/// A form of input: takes bytes, in pieces of any size, and hands what they carry to a taker `K`, which writes.
+/// A form of input: takes bytes, in pieces of any size, front by front, and hands what they carry to a taker `K`, which writes.
 ///
 /// The contract speaks of the bytes that the input and its taker have taken (`follows`), of what bytes write and which
 /// are faults (`reads`), and of what holds after the end (`finished`).
@@ -18,11 +18,17 @@ pub trait Input<K> {
 
     ghost finished: { Self → K → List ℕ → Type 0 };
 
-    /// Takes a piece of the input.
-    fn feed<T: Sink>(&mut self, taker: &mut K, sink: &mut T, piece: &[u8]) -> Result<(), RunError>
+    /// Takes a front of a piece, at least one byte, and answers how many bytes it is.
+    fn take_front<T: Sink>(
+        &mut self,
+        taker: &mut K,
+        sink: &mut T,
+        piece: &[u8],
+    ) -> Result<usize, RunError>
+        requires some { 0 < length piece.now }
         requires room { T.failed sink.old + 1 < 2 ^ 64 }
         requires following { (b : List ℕ) × (length b + length piece.now ≤ 2 ^ 40) × follows self.old taker.old b }
-        ensures { PieceRan (reads self.old taker.old) (reads self.new taker.new) (follows self.old taker.old) (follows self.new taker.new) piece.now
+        ensures { FrontRan (reads self.old taker.old) (reads self.new taker.new) (follows self.old taker.old) (follows self.new taker.new) piece.now
             (record { old = T.taken sink.old; new = T.taken sink.new; failed_old = T.failed sink.old; failed_new = T.failed sink.new }) result };
 
     /// Takes the end of the input.
@@ -34,7 +40,7 @@ pub trait Input<K> {
 }
 
 /// How many bytes a read asks for.
-const PIECE_LEN: usize = 4096;
+const PIECE_LEN: usize = 131_072;
 
 fn blank_piece() -> [u8; PIECE_LEN]
     ensures { length result ≡ PIECE_LEN }
@@ -65,6 +71,28 @@ fn allowed_of(n: usize, room: u64) -> usize
     ensures all { n < room → result ≡ n }
 {
     if n as u64 == room { n - 1 } else { n }
+}
+
+/// Takes all of a piece, one front of what is left after the other.
+fn feed<T: Sink, K, I: Input<K>>(
+    input: &mut I,
+    taker: &mut K,
+    sink: &mut T,
+    piece: &[u8],
+) -> Result<(), RunError>
+    requires room { T.failed sink.old + 1 < 2 ^ 64 }
+    requires following { (b : List ℕ) × (length b + length piece.now ≤ 2 ^ 40) × I.follows input.old taker.old b }
+    ensures { PieceRan (I.reads input.old taker.old) (I.reads input.new taker.new) (I.follows input.old taker.old) (I.follows input.new taker.new) piece.now
+        (record { old = T.taken sink.old; new = T.taken sink.new; failed_old = T.failed sink.old; failed_new = T.failed sink.new }) result }
+{
+    let mut at = 0;
+    while at < piece.len() {
+        match input.take_front(taker, sink, &piece[at..]) {
+            Ok(taken) => at += taken,
+            Err(error) => return Err(error),
+        }
+    }
+    Ok(())
 }
 
 /// Converts all bytes of the source, at most `max_bytes`, and answers how many they are.
@@ -102,7 +130,7 @@ pub fn convert<S: Source, T: Sink, K, I: Input<K>>(
             };
         }
         let allowed = allowed_of(n, room);
-        match input.feed(taker, sink, &piece[..allowed]) {
+        match feed(input, taker, sink, &piece[..allowed]) {
             Ok(()) => {}
             Err(error) => return Err(error),
         }

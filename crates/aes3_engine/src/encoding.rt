@@ -10,7 +10,7 @@ ghost use Rattle.aes3_block.specs.Files.{file, IsBlockFile, whole_blocks};
 ghost use Rattle.aes3_block.specs.Readers.{TakesQuietly};
 ghost use Rattle.aes3_lock.specs.Reports.{blocks, normal};
 ghost use Rattle.aes3_engine.specs.Encoding.{Encodes, IsCauseOf, WholeFile, encode_counts, encoded, encoding};
-ghost use Rattle.aes3_engine.specs.Running.{FrontRan, PieceRan};
+ghost use Rattle.aes3_engine.specs.Running.{PieceRan};
 
 use crate::conversion::{Input, convert};
 use aes3_block::{BlockFile, put_block};
@@ -64,29 +64,6 @@ fn feed_front(file: &mut BlockFile, piece: &[u8]) -> bool
     }
 }
 
-/// Takes what a piece begins with, and answers how many bytes that is: a word's four where they neither are a fault nor end
-/// a block, else one.
-fn take_front<T: Sink>(
-    file: &mut BlockFile,
-    encoder: &mut Encoder,
-    sink: &mut T,
-    piece: &[u8],
-) -> Result<usize, RunError>
-    requires some { 0 < length piece.now }
-    requires room { T.failed sink.old + 1 < 2 ^ 64 }
-    requires following { (b : List ℕ) × (length b + length piece.now ≤ 2 ^ 40) × Encodes file.old encoder.old.blocks b }
-    ensures { FrontRan (encoding encoder.old.output) (encoding encoder.new.output) (Encodes file.old encoder.old.blocks) (Encodes file.new encoder.new.blocks) piece.now
-        (record { old = T.taken sink.old; new = T.taken sink.new; failed_old = T.failed sink.old; failed_new = T.failed sink.new }) result }
-{
-    if feed_front(file, piece) {
-        return Ok(4);
-    }
-    match take_byte(file, encoder, sink, piece[0]) {
-        Ok(()) => Ok(1),
-        Err(error) => Err(error),
-    }
-}
-
 impl Input<Encoder> for BlockFile {
     ghost follows = { λ file encoder. Encodes file encoder.blocks };
 
@@ -94,20 +71,20 @@ impl Input<Encoder> for BlockFile {
 
     ghost finished = { λ file encoder. Encodes file encoder.blocks };
 
-    fn feed<T: Sink>(
+    /// Takes a word's four bytes where they neither are a fault nor end a block, else one byte.
+    fn take_front<T: Sink>(
         &mut self,
         encoder: &mut Encoder,
         sink: &mut T,
         piece: &[u8],
-    ) -> Result<(), RunError> {
-        let mut at = 0;
-        while at < piece.len() {
-            match take_front(self, encoder, sink, &piece[at..]) {
-                Ok(taken) => at += taken,
-                Err(error) => return Err(error),
-            }
+    ) -> Result<usize, RunError> {
+        if feed_front(self, piece) {
+            return Ok(4);
         }
-        Ok(())
+        match take_byte(self, encoder, sink, piece[0]) {
+            Ok(()) => Ok(1),
+            Err(error) => Err(error),
+        }
     }
 
     fn finish<T: Sink>(&mut self, encoder: &mut Encoder, sink: &mut T) -> Result<(), RunError> {
@@ -148,7 +125,9 @@ pub fn encode<S: Source, T: Sink>(
         → Grew (T.taken sink.old) (T.taken sink.new) (written output (normal c))) }
     ensures block_file { IfOk result (λ _. (b : List ℕ) → Told (S.given source.old) (S.given source.new) b → IsBlockFile b) }
     ensures counts { IfOk result (λ counts. (b : List ℕ) → Told (S.given source.old) (S.given source.new) b → counts ≡ encode_counts b) }
+    ensures fits { IfOk result (λ _. (b : List ℕ) → Told (S.given source.old) (S.given source.new) b → length b ≤ max_bytes) }
     ensures ended { IfOk result (λ _. IsTrue (S.has_ended source.new)) }
+    ensures quiet { IfOk result (λ _. (S.failed source.new ≡ S.failed source.old) × (T.failed sink.new ≡ T.failed sink.old)) }
 
     // It owes Ok where the input is a block file that fits, and neither end failed.
     ensures owed { (b : List ℕ) → Told (S.given source.old) (S.given source.new) b → IsBlockFile b → length b ≤ max_bytes
@@ -159,6 +138,7 @@ pub fn encode<S: Source, T: Sink>(
         → IsCauseOf max_bytes b (S.has_ended source.new) error) }
     ensures read { result ≡ Err RunError.Read → S.failed source.new ≡ S.failed source.old + 1 }
     ensures write { result ≡ Err RunError.Write → T.failed sink.new ≡ T.failed sink.old + 1 }
+    ensures sink_quiet { result ≢ Err RunError.Write → T.failed sink.new ≡ T.failed sink.old }
     ensures refused { OnErr result (result ≢ Err RunError.Write → (b : List ℕ) → Told (S.given source.old) (S.given source.new) b
         → Grew (T.taken sink.old) (T.taken sink.new) (encoded output (take max_bytes b))) }
     ensures front { result ≡ Err RunError.Write → (b : List ℕ) → Told (S.given source.old) (S.given source.new) b

@@ -27,4 +27,4 @@ pub use reading::{cut, decode, normalise};
 pub use report_runs::{ReportWriter, run_reports};
 pub use reporter::Reporter;
 pub use rewriting::rewrite;
-pub use taker::{CellTaker, Taker, each_cell};
+pub use taker::Taker;

@@ -1,16 +1,18 @@
 //! Cells as they go through a lock.
 
-ghost use Rattle.std.specs.Prelude.{◌≡◌, ◌+◌, ◌<◌, ◌^◌, ◌++◌, List, [], ◌∷◌, length, IfOk, OnErr};
-ghost use Rattle.aes3_cell.specs.Ends.{Grew, GrewFront};
+ghost use Rattle.std.specs.Prelude.{◌≡◌, ◌+◌, ◌*◌, ◌<◌, ◌≤◌, ◌^◌, ◌++◌, List, [], take, length, option_to_list};
+ghost use Rattle.std.specs.List.{flat_map};
+ghost use Rattle.std.specs.Int.{bit_at};
 ghost use Rattle.aes3_cell.specs.declared.level.Level.{Level};
+ghost use Rattle.aes3_cell.specs.Words.{level_of, low_cells, word_cells};
 ghost use Rattle.aes3_lock.specs.Following.{Follows};
 ghost use Rattle.aes3_lock.specs.Reports.{decided, reports};
 ghost use Rattle.aes3_engine.specs.Reporting.{reporting};
 
 use crate::reporter::Reporter;
-use crate::taker::{CellTaker, Taker, each_cell};
+use crate::taker::Taker;
 use aes3_cell::{Fault, Level, Sink};
-use aes3_lock::Lock;
+use aes3_lock::{Lock, Report};
 
 /// Takes cells, and hands each report on them to a reporter when it is decided.
 #[derive(Drop)]
@@ -33,60 +35,92 @@ impl<R: Reporter> Locked<R> {
     }
 }
 
-impl<R: Reporter> Locked<R> {
-    /// Takes a cell that may decide a report.
-    ///
-    /// Apart from `cell`, which goes by almost every cell, since a report holds a whole block.
-    #[inline(never)]
-    fn report_on<T: Sink>(&mut self, sink: &mut T, level: Level) -> Result<(), Fault>
-        requires room { T.failed sink.old + 1 < 2 ^ 64 }
-        requires following { (c : List Level) × (length c + 1 < 2 ^ 43) × Follows self.old.lock c × R.follows self.old.reporter (decided c) }
-        ensures next { IfOk result (λ _. (c : List Level) → Follows self.old.lock c × R.follows self.old.reporter (decided c)
-            → Follows self.new.lock (c ++ level ∷ []) × R.follows self.new.reporter (decided (c ++ level ∷ []))) }
-        ensures same { IfOk result (λ _. R.writes self.new.reporter ≡ R.writes self.old.reporter) }
-        ensures grew { IfOk result (λ _. (c : List Level) → Follows self.old.lock c × R.follows self.old.reporter (decided c)
-            → Grew (T.taken sink.old) (T.taken sink.new) ((reporting (R.writes self.old.reporter)).adds c level)) }
-        ensures count { IfOk result (λ _. T.failed sink.new ≡ T.failed sink.old) }
-        ensures err_count { OnErr result (T.failed sink.new ≡ T.failed sink.old + 1) }
-        ensures err_grew { OnErr result ((c : List Level) → Follows self.old.lock c × R.follows self.old.reporter (decided c)
-            → GrewFront (T.taken sink.old) (T.taken sink.new) ((reporting (R.writes self.old.reporter)).adds c level)) }
-    {
-        match self.lock.push(level) {
-            Some(report) => self.reporter.report(sink, report),
-            None => Ok(()),
-        }
+/// Cell `i` of a word.
+fn cell_of_word(word: u64, i: u32) -> Level
+    requires { i < 64 }
+    ensures { result ≡ level_of (bit_at word i) }
+{
+    if word >> i & 1 == 1 {
+        Level::High
+    } else {
+        Level::Low
     }
 }
 
-impl<R: Reporter> CellTaker for Locked<R> {
+/// Takes the first of these words that decide no report, and answers how many they are.
+fn take_words(lock: &mut Lock, words: &[u64]) -> usize
+    requires { lock.old.seen + 64 * length words.now ≤ 2 ^ 43 }
+    ensures within { result ≤ length words.now }
+    ensures follows { (cells : List Level) → Follows lock.old cells
+        → Follows lock.new (cells ++ flat_map word_cells (take result words.now)) }
+    ensures none { (cells : List Level) → Follows lock.old cells
+        → decided (cells ++ flat_map word_cells (take result words.now)) ≡ decided cells }
+{
+    for (taken, word) in words.iter().enumerate() {
+        if !lock.take_word(*word) {
+            return taken;
+        }
+    }
+    words.len()
+}
+
+/// Takes the first cells of a word up to the first that decides a report and with it, and at most `len`. Answers how many
+/// it took, and that report.
+fn push_front(lock: &mut Lock, word: u64, len: u32) -> (u32, Option<Report>)
+    requires room { lock.old.seen + len ≤ 2 ^ 43 }
+    requires few { len ≤ 64 }
+    ensures within { result.0 ≤ len }
+    ensures some { 0 < len → 0 < result.0 }
+    ensures follows { (cells : List Level) → Follows lock.old cells
+        → Follows lock.new (cells ++ low_cells result.0 word) }
+    ensures report { (cells : List Level) → Follows lock.old cells
+        → decided (cells ++ low_cells result.0 word) ≡ decided cells ++ option_to_list result.1 }
+{
+    for i in 0..len {
+        let cell = cell_of_word(word, i);
+        if !lock.take(cell) {
+            return (i + 1, lock.push(cell));
+        }
+    }
+    (len, None)
+}
+
+impl<R: Reporter> Taker for Locked<R> {
     ghost follows = { λ k c. Follows k.lock c × R.follows k.reporter (decided c) };
 
     ghost writes = { λ k. reporting (R.writes k.reporter) };
 
-    fn cell<T: Sink>(&mut self, sink: &mut T, level: Level) -> Result<(), Fault> {
-        if self.lock.take(level) {
-            Ok(())
-        } else {
-            self.report_on(sink, level)
-        }
-    }
-}
-
-impl<R: Reporter> Taker for Locked<R> {
     ghost finished = { λ k c. R.finished k.reporter (reports c) };
 
-    fn word<T: Sink>(&mut self, sink: &mut T, word: u64) -> Result<(), Fault> {
-        if self.lock.take_word(word) {
-            Ok(())
-        } else {
-            each_cell(self, sink, word)
+    fn take_front<T: Sink>(&mut self, sink: &mut T, word: u64, len: u32) -> Result<u32, Fault> {
+        let (taken, report) = push_front(&mut self.lock, word, len);
+        match report {
+            Some(report) => match self.reporter.report(sink, &report) {
+                Ok(()) => Ok(taken),
+                Err(fault) => Err(fault),
+            },
+            None => Ok(taken),
+        }
+    }
+
+    fn words<T: Sink>(&mut self, sink: &mut T, words: &[u64]) -> Result<(), Fault> {
+        let mut at = 0;
+        loop {
+            at += take_words(&mut self.lock, &words[at..]);
+            if at == words.len() {
+                return Ok(());
+            }
+            match self.cells(sink, words[at], u64::BITS) {
+                Ok(()) => at += 1,
+                Err(fault) => return Err(fault),
+            }
         }
     }
 
     fn finish<T: Sink>(&mut self, sink: &mut T) -> Result<(), Fault> {
         let lock = std::mem::replace(&mut self.lock, Lock::new());
         match lock.finish() {
-            Some(report) => match self.reporter.report(sink, report) {
+            Some(report) => match self.reporter.report(sink, &report) {
                 Ok(()) => self.reporter.finish(sink),
                 Err(fault) => Err(fault),
             },

@@ -1,23 +1,30 @@
 //! Packed cells as an input.
 
-ghost use Rattle.std.specs.Prelude.{◌≡◌, ℕ, ◌+◌, ◌<◌, ◌≤◌, ◌^◌, ◌++◌, List, [], ◌∷◌, length, take, IfSome, OnSome, IfNone};
+ghost use Rattle.std.specs.Prelude.{◌≡◌, ℕ, ◌+◌, ◌*◌, ◌<◌, ◌≤◌, ◌^◌, ◌++◌, List, [], ◌∷◌, length, take, IfSome, OnSome, IfNone};
+ghost use Rattle.std.specs.List.{flat_map};
 ghost use Rattle.aes3_cell.specs.declared.form.Form.{Form};
 ghost use Rattle.aes3_cell.specs.declared.level.Level.{Level};
+ghost use Rattle.aes3_cell.specs.Packed.{octet_cells, whole_cells};
 ghost use Rattle.aes3_cell.specs.PackedReading.{behind_eight, eight_whole, packed_reader_of};
-ghost use Rattle.aes3_cell.specs.Words.{word_cells};
+ghost use Rattle.aes3_cell.specs.Words.{low_cells, word_cells};
 ghost use Rattle.aes3_engine.specs.Driving.{Drive};
 ghost use Rattle.aes3_engine.specs.Forms.{CellsRan, EndCellsRan, PackedEnded, PackedTaken, octet_front, packed_reading};
 ghost use Rattle.aes3_engine.specs.Running.{FrontRan, PieceRan};
 
 use crate::conversion::{Input, convert};
 use crate::taker::Taker;
-use aes3_cell::{Fault, Level, PackedIn, RunError, Sink, Source};
+use aes3_cell::{Fault, PackedIn, RunError, Sink, Source};
+
+/// How many words are handed on at once.
+const WORDS: usize = 64;
 
 /// Reads packed cells, and counts those handed on.
 #[derive(Drop)]
 pub(crate) struct PackedInput {
     packed: PackedIn,
     cells: u64,
+    /// The words of the latest octets.
+    words: [u64; WORDS],
 }
 
 impl PackedInput {
@@ -29,20 +36,19 @@ impl PackedInput {
         PackedInput {
             packed: PackedIn::new(),
             cells: 0,
+            words: [0; WORDS],
         }
     }
 }
 
-/// Cell `i` of an octet, the first in the highest bit.
-fn cell_of(octet: u8, i: u32) -> Level
-    requires { i < 8 }
-    ensures { octet_front (i + 1) octet ≡ octet_front i octet ++ result ∷ [] }
+/// The cells of an octet as a word, the first in the lowest bit.
+fn word_of_octet(octet: u8) -> u64
+    ensures { low_cells 8 result ≡ octet_cells octet }
 {
-    if octet >> (7 - i) & 1 == 1 {
-        Level::High
-    } else {
-        Level::Low
-    }
+    let word = u64::from(octet);
+    let word = (word >> 1) & 0x55 | (word & 0x55) << 1;
+    let word = (word >> 2) & 0x33 | (word & 0x33) << 2;
+    (word >> 4) & 0x0F | (word & 0x0F) << 4
 }
 
 /// Hands the first `used` cells of an octet to the taker.
@@ -53,13 +59,7 @@ fn hand_on<T: Sink, K: Taker>(taker: &mut K, sink: &mut T, octet: u8, used: u8) 
     ensures { CellsRan (K.writes taker.old) (K.writes taker.new) (K.follows taker.old) (K.follows taker.new) (octet_front used octet)
         (record { old = T.taken sink.old; new = T.taken sink.new; failed_old = T.failed sink.old; failed_new = T.failed sink.new }) result }
 {
-    for i in 0..u32::from(used) {
-        match taker.cell(sink, cell_of(octet, i)) {
-            Ok(()) => {}
-            Err(fault) => return Err(fault),
-        }
-    }
-    Ok(())
+    taker.cells(sink, word_of_octet(octet), u32::from(used))
 }
 
 /// Hands the first `used` cells of an octet to the taker, and then the end.
@@ -106,8 +106,9 @@ fn take_octet<T: Sink, K: Taker>(
     }
 }
 
-/// Takes the eight octets that a piece begins with, where two or more came before; else none.
-fn feed_front(packed: &mut PackedIn, piece: &[u8]) -> Option<u64>
+/// Takes the eight octets that a piece begins with, where two or more came before, and answers the word of the cells that
+/// they make whole; else none.
+fn feed_eight(packed: &mut PackedIn, piece: &[u8]) -> Option<u64>
     requires { packed.old.seen + length piece.now ≤ 2 ^ 40 }
     ensures bound { OnSome result (8 ≤ length piece.now) }
     ensures some { OnSome result (2 ≤ packed.old.seen) }
@@ -121,8 +122,29 @@ fn feed_front(packed: &mut PackedIn, piece: &[u8]) -> Option<u64>
     }
 }
 
-/// Takes what a piece begins with, and answers how many octets that is: eight where they make 64 cells whole, else one.
-fn take_front<T: Sink, K: Taker>(
+/// Takes eight octets of a piece for each word, as many as there are and as make words, where two or more octets came
+/// before; answers how many words these are. The words are the cells that these octets make whole.
+fn feed_words(packed: &mut PackedIn, piece: &[u8], words: &mut [u64; WORDS]) -> usize
+    requires { packed.old.seen + length piece.now ≤ 2 ^ 40 }
+    ensures within { 8 * result ≤ length piece.now }
+    ensures few { result ≤ 64 }
+    ensures len { length words.new ≡ 64 }
+    ensures next { (b : List ℕ) → packed.old ≡ packed_reader_of b → packed.new ≡ packed_reader_of (b ++ take (8 * result) piece.now) }
+    ensures cells { (b : List ℕ) → packed.old ≡ packed_reader_of b
+        → whole_cells (b ++ take (8 * result) piece.now) ≡ whole_cells b ++ flat_map word_cells (take result words.new) }
+    ensures none { result ≡ 0 → packed.new ≡ packed.old }
+{
+    for count in 0..WORDS {
+        match feed_eight(packed, &piece[8 * count..]) {
+            Some(word) => words[count] = word,
+            None => return count,
+        }
+    }
+    WORDS
+}
+
+/// Takes the octet that a piece begins with, and answers that it is one.
+fn take_first<T: Sink, K: Taker>(
     input: &mut PackedInput,
     taker: &mut K,
     sink: &mut T,
@@ -135,18 +157,9 @@ fn take_front<T: Sink, K: Taker>(
         (PackedTaken input.old.packed input.old.cells (K.follows taker.old)) (PackedTaken input.new.packed input.new.cells (K.follows taker.new)) piece.now
         (record { old = T.taken sink.old; new = T.taken sink.new; failed_old = T.failed sink.old; failed_new = T.failed sink.new }) result }
 {
-    match feed_front(&mut input.packed, piece) {
-        Some(word) => match taker.word(sink, word) {
-            Ok(()) => {
-                input.cells += 64;
-                Ok(8)
-            }
-            Err(_) => Err(RunError::Write),
-        },
-        None => match take_octet(input, taker, sink, piece[0]) {
-            Ok(()) => Ok(1),
-            Err(error) => Err(error),
-        },
+    match take_octet(input, taker, sink, piece[0]) {
+        Ok(()) => Ok(1),
+        Err(error) => Err(error),
     }
 }
 
@@ -179,15 +192,23 @@ impl<K: Taker> Input<K> for PackedInput {
 
     ghost finished = { λ input taker. PackedEnded input.cells (K.finished taker) };
 
-    fn feed<T: Sink>(&mut self, taker: &mut K, sink: &mut T, piece: &[u8]) -> Result<(), RunError> {
-        let mut at = 0;
-        while at < piece.len() {
-            match take_front(self, taker, sink, &piece[at..]) {
-                Ok(taken) => at += taken,
-                Err(error) => return Err(error),
-            }
+    fn take_front<T: Sink>(
+        &mut self,
+        taker: &mut K,
+        sink: &mut T,
+        piece: &[u8],
+    ) -> Result<usize, RunError> {
+        let count = feed_words(&mut self.packed, piece, &mut self.words);
+        if count == 0 {
+            return take_first(self, taker, sink, piece);
         }
-        Ok(())
+        match taker.words(sink, &self.words[..count]) {
+            Ok(()) => {
+                self.cells += 64 * count as u64;
+                Ok(8 * count)
+            }
+            Err(_) => Err(RunError::Write),
+        }
     }
 
     fn finish<T: Sink>(&mut self, taker: &mut K, sink: &mut T) -> Result<(), RunError> {

@@ -84,10 +84,10 @@ impl<W: ReportWriter> Reporter for Counting<W> {
 
     ghost finished = { λ k. Tallies k.blocks k.faults k.unfinished };
 
-    fn report<T: Sink>(&mut self, sink: &mut T, report: Report) -> Result<(), Fault> {
-        match self.writer.put(sink, self.blocks, &report) {
+    fn report<T: Sink>(&mut self, sink: &mut T, report: &Report) -> Result<(), Fault> {
+        match self.writer.put(sink, self.blocks, report) {
             Ok(()) => {
-                self.count(&report);
+                self.count(report);
                 Ok(())
             }
             Err(fault) => Err(fault),

@@ -23,15 +23,15 @@ pub trait Reporter {
     ///
     /// # Errors
     /// The sink's fault; then it has taken a front of what the report writes.
-    fn report<T: Sink>(&mut self, sink: &mut T, report: Report) -> Result<(), Fault>
+    fn report<T: Sink>(&mut self, sink: &mut T, report: &Report) -> Result<(), Fault>
         requires room { T.failed sink.old + 1 < 2 ^ 64 }
         requires following { (r : List Report) × (length r + 1 < 2 ^ 44) × follows self.old r }
-        ensures next { IfOk result (λ _. (r : List Report) → follows self.old r → follows self.new (r ++ report ∷ [])) }
+        ensures next { IfOk result (λ _. (r : List Report) → follows self.old r → follows self.new (r ++ report.now ∷ [])) }
         ensures same { IfOk result (λ _. writes self.new ≡ writes self.old) }
-        ensures grew { IfOk result (λ _. (r : List Report) → follows self.old r → Grew (T.taken sink.old) (T.taken sink.new) ((writes self.old).adds r report)) }
+        ensures grew { IfOk result (λ _. (r : List Report) → follows self.old r → Grew (T.taken sink.old) (T.taken sink.new) ((writes self.old).adds r report.now)) }
         ensures count { IfOk result (λ _. T.failed sink.new ≡ T.failed sink.old) }
         ensures err_count { OnErr result (T.failed sink.new ≡ T.failed sink.old + 1) }
-        ensures err_grew { OnErr result ((r : List Report) → follows self.old r → GrewFront (T.taken sink.old) (T.taken sink.new) ((writes self.old).adds r report)) };
+        ensures err_grew { OnErr result ((r : List Report) → follows self.old r → GrewFront (T.taken sink.old) (T.taken sink.new) ((writes self.old).adds r report.now)) };
 
     /// Takes the end of the reports.
     ///

@@ -1,22 +1,29 @@
 //! Cell text as an input.
 
-ghost use Rattle.std.specs.Prelude.{◌≡◌, ℕ, ◌+◌, ◌<◌, ◌≤◌, ◌^◌, List, [], ◌∷◌, length, map, take, IfSome, OnSome, IfNone, IsTrue, ◌↔◌};
-ghost use Rattle.aes3_cell.specs.CellText.{kind_of, separator};
+ghost use Rattle.std.specs.Prelude.{◌≡◌, ℕ, ◌+◌, ◌<◌, ◌≤◌, ◌^◌, ◌++◌, List, [], ◌∷◌, length, map, take, slice_index, Err, IfOk, IfErr, OnErr, IfSome, OnSome, IfNone, IsTrue, ◌↔◌};
+ghost use Rattle.std.specs.List.{flat_map};
+ghost use Rattle.aes3_cell.specs.CellText.{byte_cells, kind_of, separator};
 ghost use Rattle.aes3_cell.specs.Text.{byte_of};
-ghost use Rattle.aes3_cell.specs.Words.{word_cells};
+ghost use Rattle.aes3_cell.specs.TextReading.{text_answer};
+ghost use Rattle.aes3_cell.specs.Words.{low_cells, word_cells};
 ghost use Rattle.aes3_engine.specs.Driving.{Drive};
-ghost use Rattle.aes3_engine.specs.Forms.{TextTaken, text_reading};
-ghost use Rattle.aes3_engine.specs.Running.{FrontRan, PieceRan};
+ghost use Rattle.aes3_engine.specs.Forms.{TextRead, TextTaken, text_reading};
+ghost use Rattle.aes3_engine.specs.Running.{FrontRan};
 
 use crate::conversion::{Input, convert};
 use crate::taker::Taker;
-use aes3_cell::{CellText, Form, RunError, Sink, Source};
+use aes3_cell::{BadCell, CellText, Form, RunError, Sink, Source, with_cell};
+
+/// How many lines become words at once.
+const LINES: usize = 64;
 
 /// Reads cell text, and counts its cells.
 #[derive(Drop)]
 pub(crate) struct TextInput {
     text: CellText,
     cells: u64,
+    /// The words of the latest lines.
+    words: [u64; LINES],
 }
 
 impl TextInput {
@@ -28,33 +35,8 @@ impl TextInput {
         TextInput {
             text: CellText::new(),
             cells: 0,
+            words: [0; LINES],
         }
-    }
-}
-
-/// Takes one byte of cell text, and hands its cell on.
-fn take_byte<T: Sink, K: Taker>(
-    input: &mut TextInput,
-    taker: &mut K,
-    sink: &mut T,
-    byte: u8,
-) -> Result<(), RunError>
-    requires room { T.failed sink.old + 1 < 2 ^ 64 }
-    requires following { (b : List ℕ) × (length b < 2 ^ 40) × TextTaken input.old.text input.old.cells (K.follows taker.old) b }
-    ensures { PieceRan (text_reading (K.writes taker.old)) (text_reading (K.writes taker.new))
-        (TextTaken input.old.text input.old.cells (K.follows taker.old)) (TextTaken input.new.text input.new.cells (K.follows taker.new)) (byte ∷ [])
-        (record { old = T.taken sink.old; new = T.taken sink.new; failed_old = T.failed sink.old; failed_new = T.failed sink.new }) result }
-{
-    match input.text.feed_byte(byte) {
-        Ok(Some(level)) => match taker.cell(sink, level) {
-            Ok(()) => {
-                input.cells += 1;
-                Ok(())
-            }
-            Err(_) => Err(RunError::Write),
-        },
-        Ok(None) => Ok(()),
-        Err(fault) => Err(RunError::BadCell { at: fault.at }),
     }
 }
 
@@ -66,30 +48,19 @@ fn is_separator(byte: u8) -> bool
     matches!(byte, b'\n' | b'\r' | b' ')
 }
 
-/// Takes what a piece begins with byte by byte, up to its first separator and with it; answers how many bytes that is.
-fn take_line<T: Sink, K: Taker>(
-    input: &mut TextInput,
-    taker: &mut K,
-    sink: &mut T,
-    piece: &[u8],
-) -> Result<usize, RunError>
-    requires some { 0 < length piece.now }
-    requires room { T.failed sink.old + 1 < 2 ^ 64 }
-    requires following { (b : List ℕ) × (length b + length piece.now ≤ 2 ^ 40) × TextTaken input.old.text input.old.cells (K.follows taker.old) b }
-    ensures { FrontRan (text_reading (K.writes taker.old)) (text_reading (K.writes taker.new))
-        (TextTaken input.old.text input.old.cells (K.follows taker.old)) (TextTaken input.new.text input.new.cells (K.follows taker.new)) piece.now
-        (record { old = T.taken sink.old; new = T.taken sink.new; failed_old = T.failed sink.old; failed_new = T.failed sink.new }) result }
+/// Takes the separators that a piece begins with, and answers how many they are.
+fn skip_separators(text: &mut CellText, piece: &[u8]) -> usize
+    requires { text.old.seen + length piece.now ≤ 2 ^ 40 }
+    ensures within { result ≤ length piece.now }
+    ensures read { TextRead text.old text.new (take result piece.now) [] }
 {
     for (i, byte) in piece.iter().enumerate() {
-        match take_byte(input, taker, sink, *byte) {
-            Ok(()) => {}
-            Err(error) => return Err(error),
+        if !is_separator(*byte) {
+            return i;
         }
-        if is_separator(*byte) {
-            return Ok(i + 1);
-        }
+        let _ = text.feed_byte(*byte);
     }
-    Ok(piece.len())
+    piece.len()
 }
 
 /// Takes the 64 bytes that a piece begins with as a word, where they are all cells; else none.
@@ -101,14 +72,130 @@ fn feed_front(text: &mut CellText, piece: &[u8]) -> Option<u64>
     ensures none { IfNone result (text.new ≡ text.old) }
 {
     match piece.first_chunk() {
-        Some(bytes) if !is_separator(bytes[0]) => text.feed_word(bytes),
-        _ => None,
+        Some(bytes) => text.feed_word(bytes),
+        None => None,
     }
 }
 
-/// Takes what a piece begins with, 64 cells where there are so many, else a line; answers how many bytes that is. So a
-/// word is looked for once a line, and lines of another length cost no more than that.
-fn take_front<T: Sink, K: Taker>(
+/// Takes the 64 cells that a piece begins with as a word, where it begins with so many, and the separators behind them.
+/// Answers how many bytes these are, and the word.
+fn feed_line(text: &mut CellText, piece: &[u8]) -> Option<(usize, u64)>
+    requires { text.old.seen + length piece.now ≤ 2 ^ 40 }
+    ensures within { IfSome result (λ line. (64 ≤ line.0) × (line.0 ≤ length piece.now)) }
+    ensures read { IfSome result (λ line. TextRead text.old text.new (take line.0 piece.now) (word_cells line.1)) }
+    ensures none { IfNone result (text.new ≡ text.old) }
+{
+    match feed_front(text, piece) {
+        Some(word) => {
+            let separators = skip_separators(text, &piece[64..]);
+            Some((64 + separators, word))
+        }
+        None => None,
+    }
+}
+
+/// Takes the lines of 64 cells that a piece begins with, as many as there are and as make words; answers how many bytes
+/// and how many words these are.
+fn feed_lines(text: &mut CellText, piece: &[u8], words: &mut [u64; LINES]) -> (usize, usize)
+    requires { text.old.seen + length piece.now ≤ 2 ^ 40 }
+    ensures within { result.0 ≤ length piece.now }
+    ensures few { result.1 ≤ 64 }
+    ensures len { length words.new ≡ 64 }
+    ensures read { TextRead text.old text.new (take result.0 piece.now) (flat_map word_cells (take result.1 words.new)) }
+    ensures none { result.0 ≡ 0 → text.new ≡ text.old }
+{
+    let mut at = 0;
+    for count in 0..LINES {
+        match feed_line(text, &piece[at..]) {
+            Some((bytes, word)) => {
+                words[count] = word;
+                at += bytes;
+            }
+            None => return (at, count),
+        }
+    }
+    (at, LINES)
+}
+
+/// Cells, the first in the lowest bit.
+#[derive(Clone, Copy)]
+struct SomeCells {
+    word: u64,
+    len: u32,
+}
+
+/// Takes one more byte, and puts its cell behind the others.
+fn with_byte(text: &mut CellText, cells: SomeCells, byte: u8) -> Result<SomeCells, BadCell>
+    requires room { text.old.seen < 2 ^ 40 }
+    requires few { cells.len < 64 }
+    requires bound { cells.word < 2 ^ cells.len }
+    ensures read { IfOk result (λ _. TextRead text.old text.new (byte ∷ []) (byte_cells byte)) }
+    ensures cells { IfOk result (λ more. low_cells more.len more.word ≡ low_cells cells.len cells.word ++ byte_cells byte) }
+    ensures few { IfOk result (λ more. more.len ≤ 64) }
+    ensures bound { IfOk result (λ more. more.word < 2 ^ more.len) }
+    ensures fault { IfErr result (λ fault. Err fault ≡ text_answer text.old byte) }
+    ensures same { OnErr result (text.new ≡ text.old) }
+{
+    match text.feed_byte(byte) {
+        Ok(Some(level)) => Ok(SomeCells {
+            word: with_cell(cells.word, cells.len, level),
+            len: cells.len + 1,
+        }),
+        Ok(None) => Ok(cells),
+        Err(fault) => Err(fault),
+    }
+}
+
+/// Takes the bytes that a piece begins with, until they have 64 cells or a byte is neither a cell nor a separator. Answers
+/// how many bytes these are, and their cells.
+fn feed_some(text: &mut CellText, piece: &[u8]) -> Result<(usize, SomeCells), BadCell>
+    requires some { 0 < length piece.now }
+    requires room { text.old.seen + length piece.now ≤ 2 ^ 40 }
+    ensures within { IfOk result (λ taken. (0 < taken.0) × (taken.0 ≤ length piece.now)) }
+    ensures few { IfOk result (λ taken. taken.1.len ≤ 64) }
+    ensures read { IfOk result (λ taken. TextRead text.old text.new (take taken.0 piece.now) (low_cells taken.1.len taken.1.word)) }
+    ensures fault { IfErr result (λ fault. Err fault ≡ text_answer text.old (slice_index piece.now 0)) }
+    ensures same { OnErr result (text.new ≡ text.old) }
+{
+    let mut cells = match with_byte(text, SomeCells { word: 0, len: 0 }, piece[0]) {
+        Ok(cells) => cells,
+        Err(fault) => return Err(fault),
+    };
+    let mut at = 1;
+    while at < piece.len() && cells.len < u64::BITS {
+        match with_byte(text, cells, piece[at]) {
+            Ok(more) => {
+                cells = more;
+                at += 1;
+            }
+            Err(_) => return Ok((at, cells)),
+        }
+    }
+    Ok((at, cells))
+}
+
+/// Takes the 64 cells or fewer that a piece begins with, whatever separators stand between them, and those behind them.
+/// Answers how many bytes these are, and the cells.
+fn feed_cells(text: &mut CellText, piece: &[u8]) -> Result<(usize, SomeCells), BadCell>
+    requires some { 0 < length piece.now }
+    requires room { text.old.seen + length piece.now ≤ 2 ^ 40 }
+    ensures within { IfOk result (λ taken. (0 < taken.0) × (taken.0 ≤ length piece.now)) }
+    ensures few { IfOk result (λ taken. taken.1.len ≤ 64) }
+    ensures read { IfOk result (λ taken. TextRead text.old text.new (take taken.0 piece.now) (low_cells taken.1.len taken.1.word)) }
+    ensures fault { IfErr result (λ fault. Err fault ≡ text_answer text.old (slice_index piece.now 0)) }
+    ensures same { OnErr result (text.new ≡ text.old) }
+{
+    match feed_some(text, piece) {
+        Ok((taken, cells)) => {
+            let separators = skip_separators(text, &piece[taken..]);
+            Ok((taken + separators, cells))
+        }
+        Err(fault) => Err(fault),
+    }
+}
+
+/// Takes what a piece begins with as one word of cells, and answers how many bytes that is.
+fn take_cells<T: Sink, K: Taker>(
     input: &mut TextInput,
     taker: &mut K,
     sink: &mut T,
@@ -121,15 +208,15 @@ fn take_front<T: Sink, K: Taker>(
         (TextTaken input.old.text input.old.cells (K.follows taker.old)) (TextTaken input.new.text input.new.cells (K.follows taker.new)) piece.now
         (record { old = T.taken sink.old; new = T.taken sink.new; failed_old = T.failed sink.old; failed_new = T.failed sink.new }) result }
 {
-    match feed_front(&mut input.text, piece) {
-        Some(word) => match taker.word(sink, word) {
+    match feed_cells(&mut input.text, piece) {
+        Ok((taken, cells)) => match taker.cells(sink, cells.word, cells.len) {
             Ok(()) => {
-                input.cells += 64;
-                Ok(64)
+                input.cells += u64::from(cells.len);
+                Ok(taken)
             }
             Err(_) => Err(RunError::Write),
         },
-        None => take_line(input, taker, sink, piece),
+        Err(fault) => Err(RunError::BadCell { at: fault.at }),
     }
 }
 
@@ -162,15 +249,23 @@ impl<K: Taker> Input<K> for TextInput {
 
     ghost finished = { λ input taker. TextTaken input.text input.cells (K.finished taker) };
 
-    fn feed<T: Sink>(&mut self, taker: &mut K, sink: &mut T, piece: &[u8]) -> Result<(), RunError> {
-        let mut at = 0;
-        while at < piece.len() {
-            match take_front(self, taker, sink, &piece[at..]) {
-                Ok(taken) => at += taken,
-                Err(error) => return Err(error),
-            }
+    fn take_front<T: Sink>(
+        &mut self,
+        taker: &mut K,
+        sink: &mut T,
+        piece: &[u8],
+    ) -> Result<usize, RunError> {
+        let (bytes, count) = feed_lines(&mut self.text, piece, &mut self.words);
+        if bytes == 0 {
+            return take_cells(self, taker, sink, piece);
         }
-        Ok(())
+        match taker.words(sink, &self.words[..count]) {
+            Ok(()) => {
+                self.cells += 64 * count as u64;
+                Ok(bytes)
+            }
+            Err(_) => Err(RunError::Write),
+        }
     }
 
     fn finish<T: Sink>(&mut self, taker: &mut K, sink: &mut T) -> Result<(), RunError> {

@@ -1,6 +1,7 @@
 //! The lock.
 use crate::candidate::Candidate;
 use crate::outcome::{SLOTS, ending_at, left_report, no_slots, report_with};
+use crate::parts::LockParts;
 use crate::recent::{PREAMBLE_CELLS, candidate_in, last_cell, with_cell};
 use crate::report::{Ending, Pushed, Report};
 use crate::rule::{BLOCK_CELLS, SUBFRAME_CELLS, mark_of, may_stand};
@@ -47,6 +48,7 @@ ghost use Rattle.aes3_slot.specs.Rules.{rule};
 ghost use Rattle.aes3_block.specs.Blocks.{block_len, mark_at};
 ghost use Rattle.aes3_lock.specs.Reports.{decided, open_at, reports};
 ghost use Rattle.aes3_lock.specs.Following.{BeginsIn, Follows, Stops, report_in};
+ghost use Rattle.aes3_lock.specs.Parts.{parts_state};
 
 /// Whether a cell behind `previous` goes on with a candidate, at whose `offset` it stands.
 fn goes_on(candidate: Candidate, offset: u64, cell: Level, previous: Level) -> bool
@@ -67,6 +69,36 @@ impl Lock {
             candidate: None,
             subframe: 0,
             slots: no_slots(),
+        }
+    }
+
+    /// The lock of what another lock kept.
+    pub fn of_parts(parts: LockParts) -> Lock
+        requires { ForSome parts.candidate (λ t. t.at ≤ parts.seen) }
+        ensures { result ≡ parts_state parts }
+    {
+        let slots = parts.slots;
+        Lock {
+            seen: parts.seen,
+            recent: parts.recent,
+            candidate: parts.candidate,
+            subframe: parts.subframe,
+            slots,
+        }
+    }
+
+    /// All that it keeps.
+    pub fn parts(&self) -> LockParts
+        ensures state { parts_state result ≡ self.now }
+        ensures placed { ForSome result.candidate (λ t. t.at ≤ result.seen) }
+    {
+        let slots = self.slots;
+        LockParts {
+            seen: self.seen,
+            recent: self.recent,
+            candidate: self.candidate,
+            subframe: self.subframe,
+            slots,
         }
     }
 

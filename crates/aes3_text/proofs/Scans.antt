@@ -1,5 +1,5 @@
 -- The lines of preambles, as cells come.
-use Rattle.std.proofs.Common.{◌≡◌, ℕ, suc, ◌+◌, ◌≤◌, List, [], ◌∷◌, ◌++◌, Option, Some, None, Result, Ok, Err, IfOk, OnErr, length, drop, refl, sym, ap, ap₂, ◌∙◌, arith, append-nil, length-append}
+use Rattle.std.proofs.Common.{◌≡◌, ℕ, suc, ◌+◌, ◌≤◌, List, [], ◌∷◌, ◌++◌, Option, Some, None, length, drop, refl, sym, ap, ap₂, ◌∙◌, arith, append-nil, length-append}
 use Rattle.std.specs.Prelude.{option_to_list, option_map}
 use Rattle.std.proofs.lemmas.Grind.{flat_map-append}
 use Rattle.std.proofs.lemmas.List.{append_cancel_left, drop_at}
@@ -7,7 +7,6 @@ use Rattle.aes3_cell.specs.declared.level.Level.{Level}
 use Rattle.aes3_cell.specs.declared.form.Form.{Form}
 use Rattle.aes3_cell.specs.declared.counts.Counts.{Counts}
 use Rattle.aes3_slot.specs.declared.mark.Mark.{Mark}
-use Rattle.aes3_cell.specs.declared.ends.Fault as device
 use Rattle.aes3_cell.specs.Ends.{Grew, GrewFront}
 use Rattle.aes3_cell.proofs.Growing.{grew-none, grew-is, front-is}
 use Rattle.aes3_lock.specs.Preambles.{first_mark, placed, marks_from, marks}
@@ -104,16 +103,3 @@ told-front t t' c d m e g = front-is (sym (append-nil (line_of m)) ∙ sym (mark
 
 pub none-grew : {t t' : Option (List ℕ)} (c d : List Level) → marks (c ++ d) ≡ marks c ++ [] → t' ≡ t → Grew t t' (behind marking c d)
 none-grew c d e g = grew-is (sym (marks-behind c d [] e)) (grew-none g)
-
--- what the line of a preamble writes that one cell ends
-pub mark-grew : (scan : ScanState) (count : ℕ) (l : Level) (m : ℕ × Mark × Level) (t t' : Option (List ℕ)) (result : Result (Unit {0}) device.Fault)
-    → ((c : List Level) → ScanFollows scan c → marks (c ++ l ∷ []) ≡ marks c ++ m ∷ []) → IfOk result (λ (u : Unit {0}). Grew t t' (mark_line m.0 m.1 m.2))
-    → IfOk result (λ (u : Unit {0}). (c : List Level) → Scanned scan count c → Grew t t' (marking.adds c l))
-mark-grew scan count l m t t' (Ok u) p g = λ c h. grew-is (append-nil (marking.adds c l)) (told-grew t t' c (l ∷ []) m (p c h.follows) g)
-mark-grew scan count l m t t' (Err e) p g = tt
-
-pub mark-front : (scan : ScanState) (count : ℕ) (l : Level) (m : ℕ × Mark × Level) (t t' : Option (List ℕ)) (k k' : ℕ) (result : Result (Unit {0}) device.Fault)
-    → ((c : List Level) → ScanFollows scan c → marks (c ++ l ∷ []) ≡ marks c ++ m ∷ []) → OnErr result ((k' ≡ k + 1) × GrewFront t t' (mark_line m.0 m.1 m.2))
-    → OnErr result ((c : List Level) → Scanned scan count c → GrewFront t t' (marking.adds c l))
-mark-front scan count l m t t' k k' (Ok u) p g = tt
-mark-front scan count l m t t' k k' (Err e) p g = λ c h. front-is (append-nil (marking.adds c l)) (told-front t t' c (l ∷ []) m (p c h.follows) g.1)

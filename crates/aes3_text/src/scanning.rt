@@ -11,7 +11,7 @@ ghost use Rattle.aes3_text.specs.Runs.{Scanned, mark_lines, marking, scan_counts
 
 use crate::mark::line_of_mark;
 use aes3_cell::{Counts, Fault, Form, Level, RunError, Sink, Source};
-use aes3_engine::{CellTaker, Taker, drive};
+use aes3_engine::{Taker, drive};
 use aes3_lock::Scan;
 use aes3_slot::Mark;
 
@@ -51,35 +51,22 @@ impl MarkLines {
     }
 }
 
-impl CellTaker for MarkLines {
+impl Taker for MarkLines {
     ghost follows = { λ k. Scanned k.scan k.marks };
 
     ghost writes = { λ _. marking };
 
-    fn cell<T: Sink>(&mut self, sink: &mut T, level: Level) -> Result<(), Fault> {
-        match self.scan.push(level) {
-            Some(found) => self.tell(sink, found),
-            None => Ok(()),
-        }
-    }
-}
-
-impl Taker for MarkLines {
     ghost finished = { λ k. Scanned k.scan k.marks };
 
-    fn word<T: Sink>(&mut self, sink: &mut T, word: u64) -> Result<(), Fault> {
-        let mut taken = 0;
-        while taken < u64::BITS {
-            let (more, found) = self.scan.next_in(word >> taken, u64::BITS - taken);
-            taken += more;
-            if let Some(found) = found {
-                match self.tell(sink, found) {
-                    Ok(()) => {}
-                    Err(fault) => return Err(fault),
-                }
-            }
+    fn take_front<T: Sink>(&mut self, sink: &mut T, word: u64, len: u32) -> Result<u32, Fault> {
+        let (taken, found) = self.scan.next_in(word, len);
+        match found {
+            Some(found) => match self.tell(sink, found) {
+                Ok(()) => Ok(taken),
+                Err(fault) => Err(fault),
+            },
+            None => Ok(taken),
         }
-        Ok(())
     }
 
     fn finish<T: Sink>(&mut self, _sink: &mut T) -> Result<(), Fault> {
@@ -135,7 +122,9 @@ pub fn scan<S: Source, T: Sink>(
         → Grew (T.taken sink.old) (T.taken sink.new) (mark_lines (marks (cells_of input b)))) }
     ensures input { IfOk result (λ _. (b : List ℕ) → Told (S.given source.old) (S.given source.new) b → IsInput input b) }
     ensures counts { IfOk result (λ counts. (b : List ℕ) → Told (S.given source.old) (S.given source.new) b → counts ≡ scan_counts input b) }
+    ensures fits { IfOk result (λ _. (b : List ℕ) → Told (S.given source.old) (S.given source.new) b → length b ≤ max_bytes) }
     ensures ended { IfOk result (λ _. IsTrue (S.has_ended source.new)) }
+    ensures quiet { IfOk result (λ _. (S.failed source.new ≡ S.failed source.old) × (T.failed sink.new ≡ T.failed sink.old)) }
 
     // It owes Ok where the input is in its form and fits, and neither end failed.
     ensures owed { (b : List ℕ) → Told (S.given source.old) (S.given source.new) b → IsInput input b → length b ≤ max_bytes
@@ -146,6 +135,7 @@ pub fn scan<S: Source, T: Sink>(
         → IsCause input max_bytes b (S.has_ended source.new) error) }
     ensures read { result ≡ Err RunError.Read → S.failed source.new ≡ S.failed source.old + 1 }
     ensures write { result ≡ Err RunError.Write → T.failed sink.new ≡ T.failed sink.old + 1 }
+    ensures sink_quiet { result ≢ Err RunError.Write → T.failed sink.new ≡ T.failed sink.old }
     ensures refused { OnErr result (result ≢ Err RunError.Write → (b : List ℕ) → Told (S.given source.old) (S.given source.new) b
         → Grew (T.taken sink.old) (T.taken sink.new) (mark_lines (marks (cells_before input (take max_bytes b))))) }
     ensures front { result ≡ Err RunError.Write → (b : List ℕ) → Told (S.given source.old) (S.given source.new) b

@@ -45,7 +45,7 @@ returns-in-Err-feed g c =
     let v = c.pieces.invariant in
     let room = c.args.max_bytes + 1 - c.pieces.seen in
     record {
-      run = ran-piece c.args.max_bytes (g.I.Input.reads c.feed.new.self c.feed.new.taker) (g.I.Input.follows c.feed.new.self c.feed.new.taker) (g.I.Input.finished c.feed.new.self c.feed.new.taker) _ _ _ _ _ _ _
+      run = ran-piece c.args.max_bytes (g.I.Input.reads c.feed.new.input c.feed.new.taker) (g.I.Input.follows c.feed.new.input c.feed.new.taker) (g.I.Input.finished c.feed.new.input c.feed.new.taker) _ _ _ _ _ _ _
           c.in-Ok.n c.allowed_of-allowed.result room c.read_piece.new.piece c.in-Err-feed.error
           v.upto c.requires.start v.short (c.in-Ok.ensures.count ∙ v.quiet_source) v.quiet_sink
           c.in-Ok.ensures.bytes refl c.in-Ok.ensures.bound.1 c.in-Ok.ensures.bound.0 c.allowed_of-allowed.ensures.last c.allowed_of-allowed.ensures.all c.in-Err-feed.ensures;
@@ -56,7 +56,7 @@ returns-then-seen-max_bytes g c =
     let v = c.pieces.invariant in
     let room = c.args.max_bytes + 1 - c.pieces.seen in
     record {
-      run = ran-long c.args.max_bytes (g.I.Input.finished c.feed.new.self c.feed.new.taker) (g.S.Source.has_ended c.read_piece.new.source) _ _ _ _ _
+      run = ran-long c.args.max_bytes (g.I.Input.finished c.feed.new.input c.feed.new.taker) (g.S.Source.has_ended c.read_piece.new.source) _ _ _ _ _
           c.in-Ok.n c.allowed_of-allowed.result room c.read_piece.new.piece
           v.upto c.requires.start v.short (c.in-Ok.ensures.count ∙ v.quiet_source) v.quiet_sink c.in-Ok-feed.ensures.1
           c.in-Ok.ensures.bytes refl c.in-Ok.ensures.bound.1 c.in-Ok.ensures.bound.0 c.allowed_of-allowed.ensures.last c.allowed_of-allowed.ensures.all (omega arith) c.in-Ok-feed.ensures.0;

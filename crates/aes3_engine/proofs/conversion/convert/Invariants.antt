@@ -9,7 +9,7 @@ invariant-pieces g l = record {
   short : l.seen ≤ l.max_bytes;
   quiet_source : g.S.Source.failed l.source ≡ g.S.Source.failed l.fn.source;
   quiet_sink : g.T.Sink.failed l.sink ≡ g.T.Sink.failed l.fn.sink;
-  buffer : length l.piece ≡ 4096;
+  buffer : length l.piece ≡ 131072;
 }
 
 abbrev pub decreases-pieces : goal.decreases-pieces

@@ -2,7 +2,7 @@ use Rattle.aes3_engine.proofs.PackedRuns.{packed-starts, packed-ok, packed-err}
 use Rattle.aes3_engine.proofs.packed_input.drive_packed.Goals as goal
 
 pub convert-requires-clause-start : goal.convert-requires-clause-start
-convert-requires-clause-start g c = packed-starts (g.K.CellTaker.follows c.args.taker.now) c.new-input.ensures.packed c.new-input.ensures.cells c.requires.start
+convert-requires-clause-start g c = packed-starts (g.K.Taker.follows c.args.taker.now) c.new-input.ensures.packed c.new-input.ensures.cells c.requires.start
 
 pub returns-in-Ok : goal.returns-in-Ok
 returns-in-Ok g c = packed-ok c.in-Ok.ensures.run

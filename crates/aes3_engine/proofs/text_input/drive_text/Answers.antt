@@ -8,4 +8,4 @@ pub returns-in-Err : goal.returns-in-Err
 returns-in-Err g c = text-err c.in-Err.ensures.run
 
 pub convert-requires-clause-start : goal.convert-requires-clause-start
-convert-requires-clause-start g c = starts (g.K.CellTaker.follows c.args.taker.now) c.new-input.ensures.text c.new-input.ensures.cells c.requires.start
+convert-requires-clause-start g c = starts (g.K.Taker.follows c.args.taker.now) c.new-input.ensures.text c.new-input.ensures.cells c.requires.start

@@ -1,0 +1,76 @@
+use Rattle.std.proofs.Common.{◌≡◌, ◌-◌, ◌/◌, ◌^◌, ◌++◌, ◌∷◌, [], List, arith, refl, sym, ap, ◌∙◌, subst, append-nil}
+use Rattle.std.specs.Prelude.{option_to_list}
+use Rattle.aes3_cell.specs.Words.{low_cells}
+use Rattle.aes3_cell.proofs.Growing.{grew-none, grew-is, front-is, front-more}
+use Rattle.aes3_lock.specs.Reports.{decided}
+use Rattle.aes3_engine.specs.Reporting.{reporting}
+use Rattle.aes3_engine.specs.Taking.{behind}
+use Rattle.aes3_engine.proofs.Items.{items-join}
+use Rattle.aes3_engine.proofs.Handing.{cells-parted}
+use Rattle.aes3_engine.proofs.Reports.{few-decided, adds-report, adds-nothing, same-reporting}
+use Rattle.aes3_engine.proofs.locked.LockedTaker.take_front.Goals as goal
+
+pub report-requires-clause-following : goal.report-requires-clause-following
+report-requires-clause-following g c =
+    let h = c.requires.following in
+    let l = h.1 in
+    let f = few-decided h.0 in
+    (decided h.0, omega arith, h.2.1)
+
+pub returns-in-Ok : goal.returns-in-Ok
+returns-in-Ok g c =
+    let p = c.push_front-taken.ensures in
+    let d = low_cells c.push_front-taken.result.0 c.args.word in
+    let w = g.R.Reporter.writes c.args.self.now.reporter in
+    record {
+      ran = (
+        p.some c.requires.some,
+        p.within,
+        (
+          same-reporting c.in-Ok.ensures.same,
+          (λ b h. (
+            p.follows b h.0,
+            subst (g.R.Reporter.follows c.report.new.self) (sym (p.report b h.0 ∙ ap (λ o. decided b ++ option_to_list o) c.in-Some.is)) (c.in-Ok.ensures.next (decided b) h.1),
+          )),
+          (λ b h. grew-is (sym (adds-report w b d c.in-Some.report (p.report b h.0 ∙ ap (λ o. decided b ++ option_to_list o) c.in-Some.is))) (c.in-Ok.ensures.grew (decided b) h.1)),
+          c.in-Ok.ensures.count,
+        ),
+      );
+    }
+
+pub returns-in-Err : goal.returns-in-Err
+returns-in-Err g c =
+    let p = c.push_front-taken.ensures in
+    let n = c.push_front-taken.result.0 in
+    let d = low_cells n c.args.word in
+    let rest = low_cells (c.args.len - n) (c.args.word / 2 ^ n) in
+    let w = g.R.Reporter.writes c.args.self.now.reporter in
+    record {
+      ran = (
+        c.in-Err.ensures.err_count,
+        (λ b h.
+            front-is (sym (ap (λ z. behind (reporting w) b z) (cells-parted c.args.word n c.args.len p.within) ∙ items-join (reporting w) b d rest))
+            (front-more (front-is (sym (adds-report w b d c.in-Some.report (p.report b h.0 ∙ ap (λ o. decided b ++ option_to_list o) c.in-Some.is))) (c.in-Err.ensures.err_grew (decided b) h.1)) _)),
+      );
+    }
+
+pub returns-in-None : goal.returns-in-None
+returns-in-None g c =
+    let p = c.push_front-taken.ensures in
+    let d = low_cells c.push_front-taken.result.0 c.args.word in
+    let w = g.R.Reporter.writes c.args.self.now.reporter in
+    record {
+      ran = (
+        p.some c.requires.some,
+        p.within,
+        (
+          refl,
+          (λ b h. (
+            p.follows b h.0,
+            subst (g.R.Reporter.follows c.args.self.now.reporter) (sym (p.report b h.0 ∙ ap (λ o. decided b ++ option_to_list o) c.in-None.is ∙ append-nil (decided b))) h.1,
+          )),
+          (λ b h. grew-is (sym (adds-nothing w b d (p.report b h.0 ∙ ap (λ o. decided b ++ option_to_list o) c.in-None.is ∙ append-nil (decided b)))) (grew-none refl)),
+          refl,
+        ),
+      );
+    }
