@@ -1,17 +1,15 @@
 //! The lock, kept by its caller.
 
 ghost use Rattle.std.specs.Prelude.{◌≡◌, ◌+◌, ◌<◌, ◌≤◌, ◌^◌, None, List, [], ◌++◌, length, take, option_to_list};
-ghost use Rattle.std.specs.Int.{bit_at};
 ghost use Rattle.std.specs.List.{flat_map};
 ghost use Rattle.aes3_cell.specs.declared.level.Level.{Level};
-ghost use Rattle.aes3_cell.specs.Words.{level_of, low_cells, word_cells};
+ghost use Rattle.aes3_cell.specs.Words.{low_cells, word_cells};
 ghost use Rattle.aes3_lock.specs.Reports.{decided, reports};
 ghost use Rattle.aes3_lock.specs.Following.{Follows};
 ghost use Rattle.aes3_c.specs.States.{candidate_in, state_of, told_in};
 
 use crate::level::{byte_of_level, level_of_byte};
 use crate::report::{Aes3Report, put_none, put_report};
-use aes3_cell::Level;
 use aes3_lock::{Candidate, Lock, LockParts};
 
 /// A lock as plain numbers. Its fields are nobody's but the functions' here.
@@ -98,18 +96,6 @@ pub extern "C" fn aes3_lock_seen(lock: &Aes3Lock) -> u64
     lock.seen
 }
 
-/// Cell `i` of a word.
-fn cell_of_word(word: u64, i: u32) -> Level
-    requires { i < 64 }
-    ensures { result ≡ level_of (bit_at word i) }
-{
-    if word >> i & 1 == 1 {
-        Level::High
-    } else {
-        Level::Low
-    }
-}
-
 /// How many cells of a word a lock that has seen so many takes at most.
 fn most_of(seen: u64, count: u32) -> u32
     ensures count { result ≤ count }
@@ -141,21 +127,18 @@ pub extern "C" fn aes3_lock_push(
         → decided (cells ++ low_cells result word) ≡ decided cells ++ option_to_list (told_in report.new) }
 {
     let most = most_of(lock.seen, count);
-    let mut state = lock_of(lock);
-    for taken in 0..most {
-        let cell = cell_of_word(word, taken);
-        if state.take(cell) {
-            continue;
-        }
-        if let Some(told) = state.push(cell) {
-            put_report(&told, report);
-            keep(&state, lock);
-            return taken + 1;
-        }
+    if most == 0 {
+        put_none(report);
+        return 0;
     }
-    put_none(report);
+    let mut state = lock_of(lock);
+    let pushed = state.push_front(word, most);
+    match pushed.ending {
+        Some(ending) => put_report(&state.report(ending), report),
+        None => put_none(report),
+    }
     keep(&state, lock);
-    most
+    pushed.taken
 }
 
 /// Takes words of 64 cells, the earliest in bit 0, as far as none decides a report. Answers how many it took.

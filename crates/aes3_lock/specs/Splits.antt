@@ -6,13 +6,11 @@ use Rattle.aes3_block.specs.Blocks.{block_len}
 use Rattle.aes3_lock.specs.declared.report.Report.{Report}
 use Rattle.aes3_lock.specs.declared.report.Report.TheVariants.{Whole, Marked, Fault, Unfinished}
 use Rattle.aes3_lock.specs.Reports.{reports}
+use Rattle.aes3_lock.specs.Remains.{place_of}
 
 -- whether a report is of a place before place n
 abbrev pub begins_before : ℕ → Report → Bool
-begins_before n (Whole at s b) = nat_lt at n
-begins_before n (Marked at s wrong) = nat_lt at n
-begins_before n (Fault at cell why) = nat_lt at n
-begins_before n (Unfinished at cells) = nat_lt at n
+begins_before n r = nat_lt (place_of r) n
 
 -- a report on cells that stand behind n others, as it counts those too
 abbrev pub behind : ℕ → Report → Report
