@@ -1,3 +1,4 @@
+pub mod Flushes
 pub mod LineAnswers
 pub mod LineDefinitions
 pub mod LineWalks

@@ -59,6 +59,7 @@ command_line = record {
     no_binary_name = true;
     disable_help_subcommand = true;
     subcommand_required = true;
+    has_version = true;
   };
   subs = encode ∷ reader (codes "decode") ∷ normal ∷ reader (codes "check")
       ∷ reader (codes "show") ∷ reader (codes "scan") ∷ cut ∷ rewrite ∷ [];

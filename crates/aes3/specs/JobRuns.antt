@@ -105,13 +105,21 @@ status_by (Scan i) n = 0
 status_by (Cut i o from count) n = 0
 status_by (Rewrite i o change) n = 0
 
--- a job that ended well: the input, the output and the exit status; nothing is told among the errors
+-- a job that ended well: no end failed; the input, the output and the exit status; nothing is told among the errors
 pub record JobDone (job : Job) (ended : Bool) (source sink errors : Change) (status : ℕ) : Type 0 where
   pub end : IsTrue ended
+  pub quiet_source : Quiet source
+  pub quiet_sink : Quiet sink
   pub silent : Grew errors.old errors.new []
+  pub fits : (b : List ℕ) → Told source.old source.new b → length b ≤ most
   pub input : (b : List ℕ) → Told source.old source.new b → IsInputOf job b
   pub output : (b : List ℕ) → Told source.old source.new b → Grew sink.old sink.new (output_of job b)
   pub exit : (b : List ℕ) → Told source.old source.new b → status ≡ status_by job (counts_for job b)
+
+-- a refusal behind which the sink was flushed: it stays what it was, or that failed
+abbrev pub Flushed : RunError → Change → RunError → Type 0
+Flushed error sink told = (sink.new ≡ sink.old)
+    × (((told ≡ error) × Quiet sink) ⊎ ((error ≢ refusal.Write) × (told ≡ refusal.Write) × Failed sink))
 
 -- a job that was refused: the cause, the output before it and the line that tells it
 pub record JobRefused (job : Job) (ended : Bool) (source sink errors : Change) (status : ℕ) : Type 0 where

@@ -12,7 +12,7 @@ use Rattle.clap.specs.Walk.{Row, Text, first_of, one_of, rows_of}
 use Rattle.clap.specs.Matches.{found_of}
 use Rattle.clap.specs.declared.parser.matches.ArgMatches.{ArgMatches}
 use Rattle.clap.specs.declared.error.kind.ErrorKind.{ErrorKind}
-use Rattle.clap.specs.declared.error.kind.ErrorKind.TheVariants.{DisplayHelp, OutOfMemory}
+use Rattle.clap.specs.declared.error.kind.ErrorKind.TheVariants.{DisplayHelp, DisplayVersion, OutOfMemory}
 use Rattle.aes3_cell.specs.declared.form.Form.{Form}
 use Rattle.aes3_cell.specs.declared.form.Form.TheVariants as form
 use Rattle.aes3_cell.specs.declared.refusal.RunError.TheVariants.{BadStatusText, Memory}
@@ -32,8 +32,8 @@ Options = List Row
 abbrev pub command_in : List Text → Option (Text × Options)
 command_in words = subcommand_of command_line words
 
--- why the definitions do not take the words: `--help` stands in them, or a fault; empty where they
--- take them
+-- why the definitions do not take the words: `--help` or `--version` stands in them, or a fault;
+-- empty where they take them
 abbrev pub faults_in : List Text → Kinds
 faults_in words = fault_of command_line words
 
@@ -126,22 +126,22 @@ abbrev pub HasBadStatus : Options → Type 0
 HasBadStatus options =
     IsBadStatus options (codes "status1") ⊎ IsBadStatus options (codes "status2")
 
--- the definitions do not take the words, and ask for no help
+-- the definitions do not take the words, and ask for no help and no version
 abbrev pub IsNotTaken : List Text → Type 0
-IsNotTaken words = (kind : _) × IsAmong kind (faults_in words) × (kind ≢ DisplayHelp)
+IsNotTaken words = (kind : _) × IsAmong kind (faults_in words) × (kind ≢ DisplayHelp) × (kind ≢ DisplayVersion)
 
 -- why the words are no job
 abbrev pub IsFaultOf : List Text → LineFault → Type 0
 IsFaultOf words (fault.Usage text) = IsNotTaken words
-IsFaultOf words (fault.Help text) = IsAmong DisplayHelp (faults_in words)
+IsFaultOf words (fault.Help text) = IsAmong DisplayHelp (faults_in words) ⊎ IsAmong DisplayVersion (faults_in words)
 IsFaultOf words (fault.Refused error) =
     (error ≡ Memory) ⊎ ((error ≡ BadStatusText) × ((options : Options)
     × StandsIn words (codes "rewrite") options × HasBadStatus options))
 
 -- what is told of an error of this kind
 abbrev pub Tells : ErrorKind → LineFault → Type 0
-Tells kind (fault.Usage text) = (kind ≢ OutOfMemory) × (kind ≢ DisplayHelp)
-Tells kind (fault.Help text) = kind ≡ DisplayHelp
+Tells kind (fault.Usage text) = (kind ≢ OutOfMemory) × (kind ≢ DisplayHelp) × (kind ≢ DisplayVersion)
+Tells kind (fault.Help text) = (kind ≡ DisplayHelp) ⊎ (kind ≡ DisplayVersion)
 Tells kind (fault.Refused error) = error ≡ Memory
 
 -- the words are taken and have a bad status

@@ -1,9 +1,11 @@
 //! The program's command line, as definitions for `clap`.
 
 ghost use Rattle.std.specs.Prelude.{IfOk};
+ghost use Rattle.clap.specs.Simple.{new_app};
 ghost use Rattle.aes3.specs.CommandLine.{IsDefinedAs, IsOption, app_with, command_line, cut, encode, flag, normal, number};
 ghost use Rattle.aes3.specs.CommandLine.{packed_in, packed_out, reader, rewrite, text_option};
 
+use crate::help::{self, Texts};
 use clap::{Arg, ArgAction, Command, value_parser};
 use std::alloc::{AllocError, Global};
 
@@ -49,26 +51,33 @@ fn number<'a>(alloc: Global, name: &'a str, help: &'a str) -> Arg<'a>
         .help(help)
 }
 
+/// A command that takes no words yet, with its texts.
+fn command<'a>(alloc: Global, name: &'a str, texts: Texts<'a>) -> Command<'a>
+    ensures { IsDefinedAs (new_app name.now) result }
+{
+    Command::new(alloc, name)
+        .about(texts.about)
+        .override_usage(texts.usage)
+        .after_help(texts.more)
+}
+
 fn encode<'a>(alloc: Global) -> Result<Command<'a>, AllocError>
     ensures { IfOk result (IsDefinedAs (app_with encode)) }
 {
-    Command::new(alloc, "encode")
-        .about("Write the cells of a block file")
-        .arg(packed_out(alloc))
+    command(alloc, "encode", help::ENCODE).arg(packed_out(alloc))
 }
 
 /// A command that reads cells and writes none.
-fn reader<'a>(alloc: Global, name: &'a str, about: &'a str) -> Result<Command<'a>, AllocError>
+fn reader<'a>(alloc: Global, name: &'a str, texts: Texts<'a>) -> Result<Command<'a>, AllocError>
     ensures { IfOk result (IsDefinedAs (app_with (reader name.now))) }
 {
-    Command::new(alloc, name).about(about).arg(packed_in(alloc))
+    command(alloc, name, texts).arg(packed_in(alloc))
 }
 
 fn normal<'a>(alloc: Global) -> Result<Command<'a>, AllocError>
     ensures { IfOk result (IsDefinedAs (app_with normal)) }
 {
-    Command::new(alloc, "normal")
-        .about("Write the whole blocks again, in the normal polarity")
+    command(alloc, "normal", help::NORMAL)
         .arg(packed_in(alloc))?
         .arg(packed_out(alloc))
 }
@@ -76,8 +85,7 @@ fn normal<'a>(alloc: Global) -> Result<Command<'a>, AllocError>
 fn cut<'a>(alloc: Global) -> Result<Command<'a>, AllocError>
     ensures { IfOk result (IsDefinedAs (app_with cut)) }
 {
-    Command::new(alloc, "cut")
-        .about("Write COUNT of the whole blocks, from number FROM on")
+    command(alloc, "cut", help::CUT)
         .arg(packed_in(alloc))?
         .arg(packed_out(alloc))?
         .arg(number(alloc, "FROM", "The number of the first block, from 0 on"))?
@@ -87,8 +95,7 @@ fn cut<'a>(alloc: Global) -> Result<Command<'a>, AllocError>
 fn rewrite<'a>(alloc: Global) -> Result<Command<'a>, AllocError>
     ensures { IfOk result (IsDefinedAs (app_with rewrite)) }
 {
-    Command::new(alloc, "rewrite")
-        .about("Write the whole blocks with new channel status")
+    command(alloc, "rewrite", help::REWRITE)
         .arg(packed_in(alloc))?
         .arg(packed_out(alloc))?
         .arg(status(alloc, "status1", "The status of channel 1, in hexadecimal"))?
@@ -104,22 +111,18 @@ fn rewrite<'a>(alloc: Global) -> Result<Command<'a>, AllocError>
 pub fn command_line<'a>(alloc: Global) -> Result<Command<'a>, AllocError>
     ensures { IfOk result (IsDefinedAs command_line) }
 {
-    Command::new(alloc, "aes3")
+    command(alloc, "aes3", help::PROGRAM)
         .bin_name("aes3")?
-        .about("An AES3 line codec, from standard input to standard output")
         .no_binary_name(true)
+        .version(help::VERSION)
         .disable_help_subcommand(true)
         .subcommand_required(true)
         .subcommand(encode(alloc)?)?
-        .subcommand(reader(alloc, "decode", "Write the whole blocks as a block file")?)?
+        .subcommand(reader(alloc, "decode", help::DECODE)?)?
         .subcommand(normal(alloc)?)?
-        .subcommand(reader(alloc, "check", "Print each whole block and each fault")?)?
-        .subcommand(reader(
-            alloc,
-            "show",
-            "Print the channel status of each whole block",
-        )?)?
-        .subcommand(reader(alloc, "scan", "Print each preamble")?)?
+        .subcommand(reader(alloc, "check", help::CHECK)?)?
+        .subcommand(reader(alloc, "show", help::SHOW)?)?
+        .subcommand(reader(alloc, "scan", help::SCAN)?)?
         .subcommand(cut(alloc)?)?
         .subcommand(rewrite(alloc)?)
 }

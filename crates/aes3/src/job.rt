@@ -64,7 +64,7 @@ pub enum Job {
 pub enum LineFault {
     /// The words are no command line of the program; the text says why.
     Usage { text: String },
-    /// The words ask for help; the text is the help.
+    /// The words ask for help or the version, which the text is.
     Help { text: String },
     /// A status text that is none, or want of memory.
     Refused(RunError),
@@ -74,8 +74,8 @@ pub enum LineFault {
 ///
 /// # Errors
 /// `Usage` where the definitions of the command line don't take the words, or no command stands in them; `Help` where
-/// `--help` stands in them; `BadStatusText` where they are taken, but a status text isn't 48 hexadecimal digits; `Memory`
-/// where memory was refused.
+/// `--help` or `--version` stands in them; `BadStatusText` where they are taken, but a status text isn't 48 hexadecimal
+/// digits; `Memory` where memory was refused.
 pub fn job_of_words<'a>(alloc: Global, words: &'a [&'a str]) -> Result<Job, LineFault>
     ensures job { IfOk result (IsJobOf (map (λ word. word.now) words.now)) }
     ensures fault { IfErr result (IsFaultOf (map (λ word. word.now) words.now)) }
@@ -108,7 +108,7 @@ fn fault_of(alloc: Global, error: &Error) -> LineFault
     };
     match error.kind() {
         ErrorKind::OutOfMemory => LineFault::Refused(RunError::Memory),
-        ErrorKind::DisplayHelp => LineFault::Help { text },
+        ErrorKind::DisplayHelp | ErrorKind::DisplayVersion => LineFault::Help { text },
         _ => LineFault::Usage { text },
     }
 }

@@ -42,17 +42,21 @@ pub(crate) fn run_job<S: Source, T: Sink>(
     ensures output { IfOk result (λ _. (b : List ℕ) → Told (S.given source.old) (S.given source.new) b → Grew (T.taken sink.old) (T.taken sink.new) (output_of job.now b)) }
     ensures input { IfOk result (λ _. (b : List ℕ) → Told (S.given source.old) (S.given source.new) b → IsInputOf job.now b) }
     ensures counts { IfOk result (λ counts. (b : List ℕ) → Told (S.given source.old) (S.given source.new) b → counts ≡ counts_for job.now b) }
+    ensures fits { IfOk result (λ _. (b : List ℕ) → Told (S.given source.old) (S.given source.new) b → length b ≤ most) }
     ensures ended { IfOk result (λ _. IsTrue (S.has_ended source.new)) }
+    ensures quiet { IfOk result (λ _. (S.failed source.new ≡ S.failed source.old) × (T.failed sink.new ≡ T.failed sink.old)) }
     ensures owed { (b : List ℕ) → Told (S.given source.old) (S.given source.new) b → IsInputOf job.now b → length b ≤ most
         → S.failed source.new ≡ S.failed source.old → T.failed sink.new ≡ T.failed sink.old → IsOk result }
     ensures cause { IfErr result (λ error. (b : List ℕ) → Told (S.given source.old) (S.given source.new) b → IsCauseFor job.now b (S.has_ended source.new) error) }
     ensures read { result ≡ Err RunError.Read → S.failed source.new ≡ S.failed source.old + 1 }
     ensures write { result ≡ Err RunError.Write → T.failed sink.new ≡ T.failed sink.old + 1 }
+    ensures sink_quiet { result ≢ Err RunError.Write → T.failed sink.new ≡ T.failed sink.old }
     ensures refused { OnErr result (result ≢ Err RunError.Write → (b : List ℕ) → Told (S.given source.old) (S.given source.new) b
         → Grew (T.taken sink.old) (T.taken sink.new) (begun_of job.now (take most b))) }
     ensures front { result ≡ Err RunError.Write → (b : List ℕ) → Told (S.given source.old) (S.given source.new) b
         → GrewFront (T.taken sink.old) (T.taken sink.new) (begun_of job.now (take most b))
         ⊎ (IsWhole job.now b (S.has_ended source.new) × GrewFront (T.taken sink.old) (T.taken sink.new) (output_of job.now b)) }
+    ensures few { (b : List ℕ) → Told (S.given source.old) (S.given source.new) b → length b ≤ most + 1 }
 {
     match *job {
         Job::Encode { output } => encode(source, sink, MAX_BYTES, output),

@@ -279,7 +279,7 @@ fn refused_status_texts(rt: HostRuntime) {
 
 #[test]
 fn refused_words(rt: HostRuntime) {
-    let lines: [(&[&str], Told); 26] = [
+    let lines: [(&[&str], Told); 27] = [
         (&[], Told::Usage),
         (&[""], Told::Usage),
         (&["copy"], Told::Usage),
@@ -288,7 +288,8 @@ fn refused_words(rt: HostRuntime) {
         (&["help", "cut"], Told::Usage),
         (&["--packed-in"], Told::Usage),
         (&["--packed-in", "decode"], Told::Usage),
-        (&["--version"], Told::Usage),
+        (&["version"], Told::Usage),
+        (&["check", "--version"], Told::Usage),
         (&["encode", "decode"], Told::Usage),
         (&["encode", "--packed-in"], Told::Usage),
         (&["decode", "--packed-out"], Told::Usage),
@@ -314,8 +315,10 @@ fn refused_words(rt: HostRuntime) {
 }
 
 #[test]
-fn help_at_both_levels(rt: HostRuntime) {
-    let lines: [(&[&str], Told); 12] = [
+fn help_and_version(rt: HostRuntime) {
+    let lines: [(&[&str], Told); 14] = [
+        (&["--version"], Told::Help),
+        (&["-V"], Told::Help),
         (&["--help"], Told::Help),
         (&["-h"], Told::Help),
         (&["--help", "copy"], Told::Help),
@@ -338,7 +341,11 @@ fn texts_of_faults(rt: HostRuntime) {
         &rt,
         rt.alloc(),
         &[],
-        &["requires a subcommand", "Usage: aes3 <COMMAND>"],
+        &[
+            "requires a subcommand",
+            "Usage: aes3 COMMAND",
+            " aes3 check < FILE",
+        ],
     );
     expect_text(
         &rt,
@@ -350,7 +357,7 @@ fn texts_of_faults(rt: HostRuntime) {
         &rt,
         rt.alloc(),
         &["cut", "1"],
-        &["<COUNT>", "Usage: aes3 cut <FROM> <COUNT>"],
+        &["<COUNT>", "Usage: aes3 cut ", "<FROM> <COUNT> < CELLS"],
     );
     expect_text(
         &rt,
@@ -361,9 +368,16 @@ fn texts_of_faults(rt: HostRuntime) {
     expect_text(
         &rt,
         rt.alloc(),
+        &["check", "line.txt"],
+        &["'line.txt'", "aes3 check [--packed-in] < FILE"],
+    );
+    expect_text(&rt, rt.alloc(), &["--version"], &["aes3 0."]);
+    expect_text(
+        &rt,
+        rt.alloc(),
         &["--help"],
         &[
-            "Usage: aes3 <COMMAND>",
+            "Usage: aes3 COMMAND",
             "\n  encode ",
             "\n  decode ",
             "\n  normal ",
@@ -379,7 +393,7 @@ fn texts_of_faults(rt: HostRuntime) {
         rt.alloc(),
         &["rewrite", "--help"],
         &[
-            "Usage: aes3 rewrite [OPTIONS]",
+            "Usage: aes3 rewrite [OPTIONS] < CELLS",
             "--packed-in ",
             "--packed-out ",
             "--status1 <HEX48>",

@@ -1,16 +1,16 @@
 //! Everything but the machine's own streams.
 
-ghost use Rattle.std.specs.Prelude.{◌≡◌, ◌<◌, ◌≤◌, ◌+◌, ◌^◌, map};
+ghost use Rattle.std.specs.Prelude.{◌≡◌, ◌≢◌, ◌<◌, ◌≤◌, ◌+◌, ◌^◌, IfErr, IfOk, OnErr, map};
 ghost use Rattle.aes3_cell.specs.Ends.{Grew};
-ghost use Rattle.aes3.specs.JobRuns.{JobRan};
+ghost use Rattle.aes3.specs.JobRuns.{Flushed, JobRan};
 ghost use Rattle.aes3.specs.Lines.{refusal_line};
-ghost use Rattle.aes3.specs.WordRuns.{FaultRan, WordsRan};
+ghost use Rattle.aes3.specs.WordRuns.{FaultRan, UnreadTold, WordsRan};
 
 use crate::job::{Job, LineFault, job_of_words};
 use crate::job_run::{DONE, exit_status, run_job};
 use crate::refusal::put_refusal;
-use aes3_cell::{RunError, Sink, Source, write_all};
-use std::alloc::Global;
+use aes3_cell::{Fault, RunError, Sink, Source, write_all};
+use std::alloc::{AllocError, Global};
 
 /// The exit status of a refused command line.
 pub const USAGE: u8 = 2;
@@ -29,7 +29,22 @@ fn refuse<E: Sink>(error: RunError, errors: &mut E) -> u8
     REFUSED
 }
 
-/// Runs a job, and answers the exit status.
+/// The refusal of a run once the sink has passed on what it holds: `Write` where that failed, else the first one.
+fn flushed<T: Sink>(error: RunError, sink: &mut T) -> RunError
+    requires room { error ≢ RunError.Write → T.failed sink.old + 1 < 2 ^ 64 }
+    ensures { Flushed error
+        (record { old = T.taken sink.old; new = T.taken sink.new; failed_old = T.failed sink.old; failed_new = T.failed sink.new }) result }
+{
+    match error {
+        RunError::Write => error,
+        _ => match sink.flush() {
+            Ok(()) => error,
+            Err(_) => RunError::Write,
+        },
+    }
+}
+
+/// Runs a job, flushes the output, and answers the exit status.
 fn finish_job<S: Source, T: Sink, E: Sink>(
     job: &Job,
     source: &mut S,
@@ -46,8 +61,27 @@ fn finish_job<S: Source, T: Sink, E: Sink>(
     ensures errors { E.failed errors.new ≤ E.failed errors.old + 1 }
 {
     match run_job(job, source, sink) {
-        Ok(counts) => exit_status(job, &counts),
-        Err(error) => refuse(error, errors),
+        Ok(counts) => match sink.flush() {
+            Ok(()) => exit_status(job, &counts),
+            Err(_) => refuse(RunError::Write, errors),
+        },
+        Err(error) => refuse(flushed(error, sink), errors),
+    }
+}
+
+/// Writes all of a text and flushes it.
+///
+/// # Errors
+/// The sink's fault; then it may have taken a front of the text.
+fn put_text<T: Sink>(text: &str, sink: &mut T) -> Result<(), Fault>
+    requires room { T.failed sink.old + 1 < 2 ^ 64 }
+    ensures text { IfOk result (λ _. Grew (T.taken sink.old) (T.taken sink.new) text.now) }
+    ensures count { IfOk result (λ _. T.failed sink.new ≡ T.failed sink.old) }
+    ensures err { OnErr result (T.failed sink.new ≡ T.failed sink.old + 1) }
+{
+    match write_all(sink, text.as_bytes()) {
+        Ok(()) => sink.flush(),
+        Err(fault) => Err(fault),
     }
 }
 
@@ -65,7 +99,7 @@ fn tell_fault<T: Sink, E: Sink>(fault: LineFault, sink: &mut T, errors: &mut E) 
             let _ = write_all(errors, text.as_bytes());
             USAGE
         }
-        LineFault::Help { text } => match write_all(sink, text.as_bytes()) {
+        LineFault::Help { text } => match put_text(text.as_str(), sink) {
             Ok(()) => DONE,
             Err(_) => refuse(RunError::Write, errors),
         },
@@ -73,8 +107,39 @@ fn tell_fault<T: Sink, E: Sink>(fault: LineFault, sink: &mut T, errors: &mut E) 
     }
 }
 
+/// Why the words of a command line could not be read.
+#[derive(Clone, Copy, PartialEq, Eq, Debug)]
+pub enum Unread {
+    /// They are not UTF-8.
+    NotUtf8,
+    /// Memory was refused.
+    Memory,
+}
+
+impl From<AllocError> for Unread {
+    fn from(_error: AllocError) -> Unread {
+        Unread::Memory
+    }
+}
+
+/// Tells why the words could not be read, and answers the exit status.
+pub fn tell_unread<E: Sink>(fault: Unread, errors: &mut E) -> u8
+    requires { E.failed errors.old + 1 < 2 ^ 64 }
+    ensures { UnreadTold fault
+        (record { old = E.taken errors.old; new = E.taken errors.new; failed_old = E.failed errors.old; failed_new = E.failed errors.new }) result }
+{
+    match fault {
+        Unread::NotUtf8 => {
+            let _ = write_all(errors, b"aes3: the words are not UTF-8\n");
+            USAGE
+        }
+        Unread::Memory => refuse(RunError::Memory, errors),
+    }
+}
+
 /// Runs a command line, without the program's name, and answers the exit status: 0 done, 1 where `check` found faults, 2
-/// for a refused command line, 3 for a refusal. Refusals are told on `errors`, whose own faults change nothing.
+/// for a refused command line, 3 for a refusal. The sink is flushed before. Refusals are told on `errors`, whose own faults
+/// change nothing.
 pub fn run_words<S: Source, T: Sink, E: Sink>(
     alloc: Global,
     words: &[&str],

@@ -3,7 +3,7 @@
 use crate::run::run_words;
 use crate::tests::{ZEROS, block_text, expect_run};
 use aes3_cell::{MemorySink, MemorySource};
-use std::alloc::Global;
+use std::alloc::{AllocError, Global};
 use std::process::Abort;
 use std::test::Fail;
 
@@ -33,11 +33,10 @@ const FIRST_BIT_SHOWN: &[u8] =
 block=0 channel=2 consumer payload=pcm copyright=asserted emphasis=none mode=0 category=general generation=0 source=not-specified number=not-specified rate=44100 accuracy=level2 b3high=0 greatest=20 word=not-indicated original=0 rest=00000000000000000000000000000000000000
 ";
 
-/// The check byte of the status whose only bit is the first is 32 in hexadecimal: three more bits of the last byte are set.
-#[test]
-fn a_mended_check_byte(rt: HostRuntime) -> Result<(), Fail> {
-    let mut text = block_text(rt.alloc(), ZEROS)?;
-    // The last two slots, channel status and parity, of the first channel in frames 0, 185, 188 and 189.
+/// The zero block whose first channel has the status of which the first bit is 1 and no other but those of its check byte, 32 in
+/// hexadecimal: the last two slots, channel status and parity, of the first channel in frames 0, 185, 188 and 189.
+pub(crate) fn first_bit_text(alloc: Global) -> Result<Vec<u8>, AllocError> {
+    let mut text = block_text(alloc, ZEROS)?;
     for line in [0, 370, 376, 378] {
         for cell in 60..64 {
             if let Some(byte) = text.get_mut(65 * line + cell) {
@@ -45,6 +44,12 @@ fn a_mended_check_byte(rt: HostRuntime) -> Result<(), Fail> {
             }
         }
     }
+    Ok(text)
+}
+
+#[test]
+fn a_mended_check_byte(rt: HostRuntime) -> Result<(), Fail> {
+    let text = first_bit_text(rt.alloc())?;
     expect_shown(
         &rt,
         rt.alloc(),

@@ -2,9 +2,11 @@
 
 ghost use Rattle.std.specs.Prelude.{◌<◌};
 
-use crate::run::run_words;
+use crate::run::{Unread, run_words, tell_unread};
 use aes3_block::Subframe;
-use aes3_cell::{Counts, FailingSink, FailingSource, Form, MemorySink, MemorySource, RunError};
+use aes3_cell::{
+    Counts, FailingSink, FailingSource, Form, MemorySink, MemorySource, RunError, Source,
+};
 use aes3_engine::{encode, normalise};
 use std::alloc::{AllocError, Global};
 use std::process::Abort;
@@ -173,6 +175,20 @@ fn refused_command_lines(rt: HostRuntime) {
     }
 }
 
+#[test]
+fn a_bad_status_text_reads_nothing(rt: HostRuntime) {
+    let mut source = MemorySource::new(b"2", 1);
+    let mut sink = MemorySink::new(rt.alloc());
+    let mut lines = MemorySink::new(rt.alloc());
+    let words = ["rewrite", "--status1", "0"];
+    let answer = run_words(rt.alloc(), &words, &mut source, &mut sink, &mut lines);
+    assert_eq!(rt; answer, 3);
+    assert!(rt; sink.bytes().is_empty());
+    assert!(rt; lines.bytes() == b"aes3: refused 9\n".as_slice());
+    assert!(rt; source.failures() < 9);
+    assert_eq!(rt; source.read(&mut [0]), Ok(1));
+}
+
 const ZERO_STATUS: &[u8] =
     b"block=0 channel=1 consumer payload=pcm copyright=asserted emphasis=none mode=0 category=general generation=0 source=not-specified number=not-specified rate=44100 accuracy=level2 b3high=0 greatest=20 word=not-indicated original=0 rest=00000000000000000000000000000000000000
 block=0 channel=2 consumer payload=pcm copyright=asserted emphasis=none mode=0 category=general generation=0 source=not-specified number=not-specified rate=44100 accuracy=level2 b3high=0 greatest=20 word=not-indicated original=0 rest=00000000000000000000000000000000000000
@@ -196,7 +212,12 @@ fn commands_on_the_zero_block(rt: HostRuntime) -> Result<(), Fail> {
 }
 
 /// The first lines of a text, and then other bytes.
-fn begun(alloc: Global, text: &[u8], lines: usize, behind: &[u8]) -> Result<Vec<u8>, AllocError>
+pub(crate) fn begun(
+    alloc: Global,
+    text: &[u8],
+    lines: usize,
+    behind: &[u8],
+) -> Result<Vec<u8>, AllocError>
     requires { lines < 400 }
 {
     let mut bytes = Vec::new(alloc);
@@ -439,4 +460,17 @@ fn reads_and_writes_of_normal_failing_in_turn(rt: HostRuntime) -> Result<(), Fai
         assert!(rt; sink.bytes().len() == (call as usize - 1) * 65);
     }
     Ok(())
+}
+
+#[test]
+fn words_that_cannot_be_read(rt: HostRuntime) {
+    let rows: [(Unread, u8, &[u8]); 2] = [
+        (Unread::NotUtf8, 2, b"aes3: the words are not UTF-8\n"),
+        (Unread::Memory, 3, b"aes3: refused 8\n"),
+    ];
+    for (fault, status, line) in rows {
+        let mut lines = MemorySink::new(rt.alloc());
+        assert_eq!(&rt; tell_unread(fault, &mut lines), status);
+        assert!(&rt; lines.bytes() == line);
+    }
 }

@@ -8,6 +8,7 @@ use Rattle.aes3_block.specs.Readers.{FileReader, reader_of, byte_fault, block_wi
 use Rattle.aes3_block.specs.Feeding.{blocks_of_answer, blocks_fed, reader_fed}
 use Rattle.aes3_block.specs.Laws.{IsAccepted}
 use Rattle.aes3_block.proofs.Streams.{whole_blocks-nil}
+use Rattle.aes3_block.proofs.Reading.{ends-open}
 use Rattle.aes3_block.proofs.Words.{all_lawful, all_lawful-from, lawful-words}
 use Rattle.aes3_block.proofs.WholeBlocks.{added_blocks, reader-next, lawful-next, blocks-next, blocks-stay, fault-place, end-none, end-whole_file}
 
@@ -113,16 +114,12 @@ lawful-on b (x ∷ more) l e = go (byte_fault (reader_of b) x) refl (λ q. lawfu
 
 pub accepted : (bytes : List ℕ) → IsBlockFile bytes → IsAccepted bytes
 accepted bytes h =
-    let r = lawful-on [] bytes refl (all_lawful-from bytes h.lawful) in
-    record {
-      no_fault = ap (λ (s : FileReader). s.fault) r ∙ reader-open bytes;
-      ends = ap end_answer r ∙ end-whole_file bytes h.whole;
-    }
+    ap end_answer (lawful-on [] bytes refl (all_lawful-from bytes h.lawful)) ∙ end-whole_file bytes h.whole
 
 pub accepted-only : (bytes : List ℕ) → IsAccepted bytes → IsBlockFile bytes
 accepted-only bytes h =
-    let o = open-on [] bytes refl h.no_fault in
-    record { whole = go (end-none bytes) (ap end_answer (sym o.1) ∙ h.ends); lawful = lawful-words bytes o.0 }
+    let o = open-on [] bytes refl (ends-open (reader_fed (reader_of []) bytes) h) in
+    record { whole = go (end-none bytes) (ap end_answer (sym o.1) ∙ h); lawful = lawful-words bytes o.0 }
   where
     go : ((length bytes % (4 * block_slots) ≡ 0) × (end_answer (reader_of bytes) ≡ Ok tt)) ⊎ ((0 < length bytes % (4 * block_slots)) × (end_answer (reader_of bytes) ≡ Err (BadLength (length bytes % (4 * block_slots)))))
         → end_answer (reader_of bytes) ≡ Ok tt → length bytes % (4 * block_slots) ≡ 0

@@ -152,13 +152,25 @@ end-left seen ws w f e h =
     let t : eqb (seen % (4 * block_slots)) 0 ≡ false = ne_eqb (seen % (4 * block_slots)) 0 (λ y. omega arith) in
     rw e (rw t (ap (λ n. Err (BadLength n)) k))
 
-pub end-whole : (seen : ℕ) (ws : List ℕ) (w : ℕ) (f : Option FileFault) → (f ≡ None → seen % 1536 ≡ 0) → end_answer (stored seen ws w f) ≡ Ok tt
-end-whole seen ws w (Some f) h = refl
-end-whole seen ws w None h =
+pub end-whole : (seen : ℕ) (ws : List ℕ) (w : ℕ) (f : Option FileFault) → f ≡ None → seen % 1536 ≡ 0 → end_answer (stored seen ws w f) ≡ Ok tt
+end-whole seen ws w f e z =
     let k : seen % (4 * block_slots) ≡ seen % 1536 = ap (λ n. seen % n) block_bytes_1536 in
-    let z : seen % 1536 ≡ 0 = h refl in
     let t : eqb (seen % (4 * block_slots)) 0 ≡ true = eq-eqb (seen % (4 * block_slots)) 0 (omega arith) in
-    rw t refl
+    rw e (rw t refl)
+
+-- a reader that lets a file end has refused nothing
+pub ends-open : (r : FileReader) → end_answer r ≡ Ok tt → r.fault ≡ None
+ends-open r e = go r.fault refl
+  where
+    go : (f : Option FileFault) → r.fault ≡ f → r.fault ≡ None
+    go None q = q
+    go (Some f) q = absurd (refused-not (sym (the-fault q) ∙ e))
+      where
+        the-fault : r.fault ≡ Some f → end_answer r ≡ Err f
+        the-fault q = rw q refl
+
+        refused-not : ◌≡◌ {A = Result (Unit {0}) FileFault} (Err f) (Ok tt) → ⊥
+        refused-not e = cc
 
 -- what an answer tells of a reader that has refused nothing
 pub answered : (r : FileReader) (x : ℕ) (block : Option (List (List Bool))) → r.fault ≡ None → Ok block ≡ answer_with r x

@@ -1,14 +1,13 @@
 -- The cells of payloads one behind the other.
-use Rattle.std.proofs.Common.{◌≡◌, ℕ, zero, suc, ◌+◌, ◌*◌, ◌/◌, ◌<◌, ◌≤◌, List, [], ◌∷◌, ◌++◌, Bool, true, length, map, take, get_or, refl, sym, ap, ap₂, ◌∙◌, arith, append_assoc, append-nil, length-append}
+use Rattle.std.proofs.Common.{◌≡◌, ℕ, zero, suc, ◌+◌, ◌*◌, ◌/◌, ◌<◌, ◌≤◌, List, [], ◌∷◌, ◌++◌, Bool, true, length, map, take, get_or, set, refl, sym, ap, ap₂, ◌∙◌, arith, append_assoc, append-nil, length-append}
+use Rattle.std.specs.List.{flat_map}
 use Rattle.std.proofs.lemmas.Bool.{and_parts}
 use Rattle.std.proofs.lemmas.List.{map-append, length-map, take_all, take_more, length-take-le}
 use Rattle.aes3_cell.specs.declared.level.Level.{Level}
 use Rattle.aes3_cell.specs.Cells.{line, after}
 use Rattle.aes3_cell.specs.Words.{word_len, word_cells}
-use Rattle.aes3_cell.specs.declared.form.Form.{Form}
-use Rattle.aes3_cell.specs.Written.{bytes_of}
 use Rattle.aes3_cell.proofs.Lines.{word_len_64}
-use Rattle.aes3_cell.proofs.WrittenForms.{bytes-append}
+use Rattle.aes3_cell.proofs.ManyWords.{words-more}
 use Rattle.aes3_cell.proofs.Runs.{line-append, after-append}
 use Rattle.aes3_slot.specs.declared.mark.Mark.{Mark}
 use Rattle.aes3_slot.specs.Slots.{IsPayload, payload_len, slots_bits, slot_runs, subframe_runs, with_parity, runs_of}
@@ -54,54 +53,39 @@ length-runs s marks (p ∷ ps) h =
     ap length (line-append s (subframe_runs (marks 0) p) rest) ∙ length-append (line s (subframe_runs (marks 0) p)) (line (after s (subframe_runs (marks 0) p)) rest)
     ∙ ap₂ ◌+◌ (n ∙ sym w) (ap (λ t. length (line t rest)) (after-subframe s (marks 0) p h.0) ∙ m) ∙ k
 
--- the bytes of one more subframe
-pub bytes-push : (form : Form) (s : Level) (ps : List (List Bool)) (p : List Bool) → Each27 ps
-    → bytes_of form (line s (block_runs (ps ++ p ∷ []))) ≡ bytes_of form (line s (block_runs ps)) ++ bytes_of form (line s (subframe_runs (mark_at (length ps)) p))
-bytes-push form s ps p h =
+-- the cells of one more subframe
+cells-push : (s : Level) (ps : List (List Bool)) (p : List Bool) → Each27 ps
+    → line s (block_runs (ps ++ p ∷ [])) ≡ line s (block_runs ps) ++ line s (subframe_runs (mark_at (length ps)) p)
+cells-push s ps p h =
     let runs = block_runs ps in
     let more = subframe_runs (mark_at (length ps)) p in
     let e : block_runs (ps ++ p ∷ []) ≡ runs ++ more =
     ap (runs_of mark_at) (map-append with_parity ps (p ∷ [])) ∙ runs-push mark_at (map with_parity ps) (with_parity p)
     ∙ ap (λ n. runs ++ subframe_runs (mark_at n) p) (length-map ps with_parity) in
-    ap (λ r. bytes_of form (line s r)) e
-    ∙ ap (bytes_of form) (line-append s runs more ∙ ap (λ t. line s runs ++ line t more) (after-runs s mark_at ps h))
-    ∙ bytes-append form (length ps) (line s runs) (line s more) (length-runs s mark_at ps h)
+    ap (line s) e ∙ line-append s runs more ∙ ap (λ t. line s runs ++ line t more) (after-runs s mark_at ps h)
 
 -- the cells of a lawful word
-pub bytes-word : (form : Form) (s : Level) (m : Mark) (i w slots cells : ℕ) → m ≡ mark_at i → slots ≡ w / 16 → is_lawful w ≡ true
-    → word_cells cells ≡ line s (slot_runs m (slots_bits slots)) → bytes_of form (word_cells cells) ≡ bytes_of form (line s (subframe_runs (mark_at i) (payload_of w)))
-bytes-word form s m i w slots cells em es h e =
-    ap (bytes_of form) (e ∙ ap₂ (λ mark bits. line s (slot_runs mark bits)) em
-    (ap slots_bits es ∙ lawful-slots w (and_parts (has_code w) (has_parity w) h).1))
+pub cells-word : (s : Level) (m : Mark) (i w slots cells : ℕ) → m ≡ mark_at i → slots ≡ w / 16 → is_lawful w ≡ true
+    → word_cells cells ≡ line s (slot_runs m (slots_bits slots)) → word_cells cells ≡ line s (subframe_runs (mark_at i) (payload_of w))
+cells-word s m i w slots cells em es h e =
+    e ∙ ap₂ (λ mark bits. line s (slot_runs mark bits)) em (ap slots_bits es ∙ lawful-slots w (and_parts (has_code w) (has_parity w) h).1)
 
--- the bytes so far, with one more word
-pub bytes-more : (form : Form) (s : Level) (words : List ℕ) (i : ℕ) → i < length words
-    → bytes_of form (line s (block_runs (map payload_of (take i words)))) ++ bytes_of form (line s (subframe_runs (mark_at i) (payload_of (get_or words i 0))))
-    ≡ bytes_of form (line s (block_runs (map payload_of (take (i + 1) words))))
-bytes-more form s words i h =
+-- the cells so far, with one more word
+pub cells-more : (s : Level) (words cells : List ℕ) (i v : ℕ) → i < length words → i < length cells
+    → flat_map word_cells (take i cells) ≡ line s (block_runs (map payload_of (take i words))) → word_cells v ≡ line s (subframe_runs (mark_at i) (payload_of (get_or words i 0)))
+    → flat_map word_cells (take (i + 1) (set cells i v)) ≡ line s (block_runs (map payload_of (take (i + 1) words)))
+cells-more s words cells i v h l front q =
     let ps = map payload_of (take i words) in
     let p = payload_of (get_or words i 0) in
     let n : length ps ≡ i = length-map (take i words) payload_of ∙ length-take-le i words (omega arith) in
     let e : map payload_of (take (i + 1) words) ≡ ps ++ p ∷ [] =
     ap (map payload_of) (take_more words i 0 h) ∙ map-append payload_of (take i words) (get_or words i 0 ∷ []) in
-    ap (λ k. bytes_of form (line s (block_runs ps)) ++ bytes_of form (line s (subframe_runs (mark_at k) p))) (sym n)
-    ∙ sym (bytes-push form s ps p (each27-payloads (take i words)))
-    ∙ ap (λ x. bytes_of form (line s (block_runs x))) (sym e)
+    words-more cells i v l ∙ ap₂ ◌++◌ front q ∙ ap (λ k. line s (block_runs ps) ++ line s (subframe_runs (mark_at k) p)) (sym n)
+    ∙ sym (cells-push s ps p (each27-payloads (take i words))) ∙ ap (λ x. line s (block_runs x)) (sym e)
 
--- the bytes of the whole block, which begin with those of its first words
-pub bytes-whole : (form : Form) (s : Level) (words : List ℕ) (b : List (List Bool)) (i : ℕ) → length words ≤ i → map payload_of words ≡ b
-    → bytes_of form (line s (block_runs (map payload_of (take i words)))) ≡ bytes_of form (block_cells s b)
+-- the cells of the whole block
+pub cells-whole : (s : Level) (words cells : List ℕ) (i : ℕ) → length words ≤ i → length cells ≤ i
+    → flat_map word_cells (take i cells) ≡ line s (block_runs (map payload_of (take i words))) → flat_map word_cells cells ≡ block_cells s (map payload_of words)
 unfolding block_cells
-bytes-whole form s words b i h e = ap (λ x. bytes_of form (line s (block_runs x))) (ap (map payload_of) (take_all i words h) ∙ e)
-
-pub bytes-front : (form : Form) (s : Level) (words : List ℕ) (b : List (List Bool)) (n i : ℕ) → i + n ≡ length words → map payload_of words ≡ b
-    → (rest : List ℕ) × (bytes_of form (line s (block_runs (map payload_of (take i words)))) ++ rest ≡ bytes_of form (block_cells s b))
-bytes-front form s words b zero i h e =
-    ([], append-nil (bytes_of form (line s (block_runs (map payload_of (take i words))))) ∙ bytes-whole form s words b i (omega arith) e)
-bytes-front form s words b (suc n) i h e =
-    let next = bytes-front form s words b n (i + 1) (omega arith) e in
-    let one = bytes_of form (line s (subframe_runs (mark_at i) (payload_of (get_or words i 0)))) in (
-      one ++ next.0,
-      sym (append_assoc (bytes_of form (line s (block_runs (map payload_of (take i words))))) one next.0)
-          ∙ ap (λ t. t ++ next.0) (bytes-more form s words i (omega arith)) ∙ next.1,
-    )
+cells-whole s words cells i h l e =
+    ap (flat_map word_cells) (sym (take_all i cells l)) ∙ e ∙ ap (λ x. line s (block_runs (map payload_of x))) (take_all i words h)

@@ -52,10 +52,9 @@ FilesAreOfBlocks =
 abbrev pub ReaderAnswersBlocks : Type 0
 ReaderAnswersBlocks = (bytes : List ℕ) → blocks_fed (reader_of []) bytes ≡ whole_blocks bytes
 
--- it refuses no byte of a block file and lets it end, and does so for block files only
-pub record IsAccepted (bytes : List ℕ) : Type 0 where
-  pub no_fault : (reader_fed (reader_of []) bytes).fault ≡ None
-  pub ends : end_answer (reader_fed (reader_of []) bytes) ≡ Ok tt
+-- it lets a block file end, and nothing else
+abbrev pub IsAccepted : List ℕ → Type 0
+IsAccepted bytes = end_answer (reader_fed (reader_of []) bytes) ≡ Ok tt
 
 abbrev pub ReaderAcceptsBlockFiles : Type 0
 ReaderAcceptsBlockFiles = (bytes : List ℕ) → (IsBlockFile bytes → IsAccepted bytes) × (IsAccepted bytes → IsBlockFile bytes)

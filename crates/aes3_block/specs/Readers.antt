@@ -80,7 +80,7 @@ abbrev pub TakesQuietly : FileReader → List ℕ → FileReader → Type 0
 TakesQuietly r [] s = s ≡ r
 TakesQuietly r (x ∷ b) s = (answer_with r x ≡ Ok None) × TakesQuietly (next_with r x) b s
 
--- what a reader answers to the end: nothing may be left of a block
+-- what a reader answers to the end: the fault that it refused before; else nothing may be left of a block
 abbrev pub left_of : FileReader → ℕ
 left_of r = r.seen % (4 * block_slots)
 
@@ -88,5 +88,5 @@ abbrev pub end_answer : FileReader → Result (Unit {0}) FileFault
 end_answer r = answer r.fault
   where
     answer : Option FileFault → Result (Unit {0}) FileFault
-    answer (Some f) = Ok tt
+    answer (Some f) = Err f
     answer None = if left_of r == 0 then Ok tt else Err (BadLength (left_of r))

@@ -27,20 +27,27 @@ impl Model for Block {
     ghost invariant = { λ b. (i : ℕ) → i < block_slots → is_lawful (get_or b.words i 0) ≡ true };
 }
 
-ghost use Rattle.std.specs.Prelude.{◌≡◌, ◌<◌, ◌+◌, ◌*◌, ℕ, Some, true, get_or, length, map, replicate, slice_get, slice_set};
+ghost use Rattle.std.specs.Prelude.{◌≡◌, ◌<◌, ◌+◌, ◌*◌, ℕ, IfErr, IfOk, Some, true, false, get_or, length, map, replicate, slice_get, slice_set};
 ghost use Rattle.aes3_block.specs.Blocks.{block_slots, zero_block};
 ghost use Rattle.aes3_block.specs.Files.{is_lawful, payload_of};
 ghost use Rattle.aes3_block.specs.Subframes.{bits_of};
 
 use crate::frame::Frame;
 use crate::subframe::Subframe;
-use crate::word::{payload_of_word, word_of_payload};
+use crate::word::{has_right_code, has_right_parity, payload_of_word, word_of_payload};
 
 /// Words of payloads that are 0.
 pub(crate) fn zero_words() -> [u32; SLOTS]
     ensures { result ≡ replicate block_slots 0 }
 {
     [0; SLOTS]
+}
+
+/// Whether a word is as a block file may have it.
+fn is_lawful_word(word: u32) -> bool
+    ensures { result ≡ is_lawful word }
+{
+    has_right_code(word) && has_right_parity(word)
 }
 
 impl Block {
@@ -81,6 +88,26 @@ impl Block {
         self.words[2 * i + 1] = word_of_payload(frame.second.payload());
     }
 
+    /// The block of these words, as a block file has them.
+    ///
+    /// # Errors
+    /// The number of the first word that is not lawful.
+    #[tactic(auto, unfolding(crate::specs::Blocks::block_slots))]
+    pub fn try_of_words(words: &[u32; SLOTS]) -> Result<Block, usize>
+        ensures block { IfOk result (λ b. b ≡ map payload_of words.now) }
+        ensures lawful { IfOk result (λ _. (i : ℕ) → i < block_slots → is_lawful (get_or words.now i 0) ≡ true) }
+        ensures within { IfErr result (λ n. n < block_slots) }
+        ensures unlawful { IfErr result (λ n. is_lawful (get_or words.now n 0) ≡ false) }
+        ensures first { IfErr result (λ n. (i : ℕ) → i < n → is_lawful (get_or words.now i 0) ≡ true) }
+    {
+        for (i, word) in words.iter().enumerate() {
+            if !is_lawful_word(*word) {
+                return Err(i);
+            }
+        }
+        Ok(Block::of_words(*words))
+    }
+
     /// The block of lawful words.
     pub(crate) fn of_words(words: [u32; SLOTS]) -> Block
         requires { (i : ℕ) → i < block_slots → is_lawful (get_or words i 0) ≡ true }
@@ -90,7 +117,7 @@ impl Block {
     }
 
     /// Its words in a block file.
-    pub(crate) fn words(&self) -> &[u32; SLOTS]
+    pub fn words(&self) -> &[u32; SLOTS]
         ensures count { length result.now ≡ block_slots }
         ensures lawful { (i : ℕ) → i < block_slots → is_lawful (get_or result.now i 0) ≡ true }
         ensures payloads { map payload_of result.now ≡ self.now }

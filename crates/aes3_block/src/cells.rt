@@ -1,14 +1,16 @@
 //! The cells of a block.
 
 ghost use Rattle.std.specs.Prelude.{◌≡◌, ◌<◌, ◌+◌, ◌^◌, IfOk, OnErr};
+ghost use Rattle.std.specs.List.{flat_map};
 ghost use Rattle.aes3_cell.specs.Ends.{Grew, GrewFront};
 ghost use Rattle.aes3_cell.specs.Text.{text_of};
+ghost use Rattle.aes3_cell.specs.Words.{word_cells};
 ghost use Rattle.aes3_cell.specs.Written.{bytes_of};
 ghost use Rattle.aes3_block.specs.Blocks.{block_cells, mark_at};
 
-use crate::block::Block;
+use crate::block::{Block, SLOTS};
 use crate::word::slots_of_word;
-use aes3_cell::{Fault, Form, Level, Sink, put_word};
+use aes3_cell::{Fault, Form, Level, Sink, put_words};
 use aes3_slot::{Mark, slots_cells};
 
 /// The preamble of a block's subframe.
@@ -24,7 +26,17 @@ pub(crate) fn mark_of(slot: usize) -> Mark
     }
 }
 
-/// Writes the cells of a block after the level `before`, 64 cells as one buffer: the form's bytes but for its ending.
+/// Puts the cells of a block after the level `before` into `cells`, a word a subframe, the earliest cell in bit 0.
+pub fn fill_block_cells(before: Level, block: &Block, cells: &mut [u64; SLOTS])
+    ensures { flat_map word_cells cells.new ≡ block_cells before block.now }
+{
+    let words = block.words();
+    for (slot, word) in words.iter().enumerate() {
+        cells[slot] = slots_cells(before, mark_of(slot), slots_of_word(*word));
+    }
+}
+
+/// Writes the cells of a block after the level `before`: the form's bytes but for its ending.
 ///
 /// # Errors
 /// The sink's fault; then it has taken a front of the bytes.
@@ -39,18 +51,12 @@ pub fn put_block<T: Sink>(
     ensures count { IfOk result (λ _. T.failed sink.new ≡ T.failed sink.old) }
     ensures err { OnErr result ((T.failed sink.new ≡ T.failed sink.old + 1) × GrewFront (T.taken sink.old) (T.taken sink.new) (bytes_of form (block_cells before block.now))) }
 {
-    let words = block.words();
-    for (slot, word) in words.iter().enumerate() {
-        let cells = slots_cells(before, mark_of(slot), slots_of_word(*word));
-        match put_word(form, cells, sink) {
-            Ok(()) => {}
-            Err(fault) => return Err(fault),
-        }
-    }
-    Ok(())
+    let mut cells = [0; SLOTS];
+    fill_block_cells(before, block, &mut cells);
+    put_words(form, &cells, sink)
 }
 
-/// Writes the cells of a block after the level `before` as 384 lines of cell text, each as one buffer.
+/// Writes the cells of a block after the level `before` as 384 lines of cell text.
 ///
 /// # Errors
 /// The sink's fault; then it has taken a front of the text.

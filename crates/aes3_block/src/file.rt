@@ -167,14 +167,15 @@ impl BlockFile {
     /// Says whether the file may end here.
     ///
     /// # Errors
-    /// `BadLength` where a block is begun and nothing was refused before.
+    /// The fault that was refused before; else `BadLength` where a block is begun.
     pub fn end(&self) -> Result<(), FileFault>
         ensures { result ≡ end_answer self.now }
     {
         let left = self.seen % BLOCK_LEN;
         match self.fault {
+            Some(fault) => Err(fault),
             None if left > 0 => Err(FileFault::BadLength { left }),
-            _ => Ok(()),
+            None => Ok(()),
         }
     }
 }

@@ -15,7 +15,7 @@ mod tests;
 mod word;
 
 pub use block::Block;
-pub use cells::{put_block, put_block_cells};
+pub use cells::{fill_block_cells, put_block, put_block_cells};
 pub use file::{BlockFile, FileFault};
 pub use file_out::put_block_file;
 pub use frame::Frame;

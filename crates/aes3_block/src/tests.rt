@@ -84,4 +84,5 @@ fn words_of_a_file(rt: HostRuntime) {
     );
     assert!(rt; by_words.seen() < 1 << 20);
     assert!(rt; !by_words.feed_word(&WORD));
+    assert_eq!(rt; by_words.end(), Err(FileFault::BadParity { at: 384 }));
 }

@@ -13,3 +13,7 @@ pub mod PackedSteps
 pub mod WrittenForms
 pub mod TextWords
 pub mod OctetWords
+pub mod PackedFeeding
+pub mod ManyWords
+pub mod TextLines
+pub mod FedLists

@@ -11,29 +11,16 @@ use Rattle.aes3_cell.proofs.PackedReads.{LastTwo, last_two, whole-of, reader-is}
 use Rattle.aes3_cell.proofs.PackedWords.{bytes-cells}
 use Rattle.aes3_cell.proofs.WrittenForms.{turned-low}
 
--- the octets that make a word are octets
-pub take-fit : (n : ℕ) (xs : List ℕ) → ((i : ℕ) → get_or xs i 0 < 256) → (i : ℕ) → get_or (take n xs) i 0 < 256
-take-fit zero xs h i = omega arith
-take-fit (suc n) [] h i = h i
-take-fit (suc n) (x ∷ xs) h zero = h zero
-take-fit (suc n) (x ∷ xs) h (suc i) = take-fit n xs (λ j. h (suc j)) i
-
-octets-fit : (x y n : ℕ) (xs : List ℕ) → x < 256 → y < 256 → ((i : ℕ) → get_or xs i 0 < 256) → (i : ℕ) → get_or (x ∷ y ∷ take n xs) i 0 < 256
-octets-fit x y n xs h k f zero = h
-octets-fit x y n xs h k f (suc zero) = k
-octets-fit x y n xs h k f (suc (suc i)) = take-fit n xs f i
-
-octets-word-cells : (octets : List ℕ) (n w : ℕ) → length octets ≡ 8 → ((i : ℕ) → get_or octets i 0 < 256) → n ≡ from_be_bytes w64 octets
+pub octets-word-cells : (octets : List ℕ) (n w : ℕ) → length octets ≡ 8 → ((i : ℕ) → get_or octets i 0 < 256) → n ≡ from_be_bytes w64 octets
     → ((i : ℕ) → i < 64 → bit_at w i ≡ bit_at n (63 - i)) → word_cells w ≡ cells_of_octets octets
 unfolding word_cells word_len
 octets-word-cells octets n w l b e t = turned-low n w t ∙ sym (bytes-cells 8 n) ∙ ap cells_of_octets (be_bytes_8 octets n l b e)
 
-pub eight-word : (x y : ℕ) (octets : List ℕ) (n w : ℕ) → length octets ≡ 8 → x < 256 → y < 256 → ((i : ℕ) → get_or octets i 0 < 256)
-    → n ≡ from_be_bytes w64 (x ∷ y ∷ get_or octets 0 0 ∷ get_or octets 1 0 ∷ get_or octets 2 0 ∷ get_or octets 3 0 ∷ get_or octets 4 0 ∷ get_or octets 5 0 ∷ [])
-    → ((i : ℕ) → i < 64 → bit_at w i ≡ bit_at n (63 - i)) → word_cells w ≡ cells_of_octets (x ∷ y ∷ take 6 octets)
-eight-word x y (o ∷ p ∷ q ∷ r ∷ s ∷ t ∷ u ∷ v ∷ []) n w l h k f e g =
-    octets-word-cells (x ∷ y ∷ o ∷ p ∷ q ∷ r ∷ s ∷ t ∷ []) n w refl (octets-fit x y 6 (o ∷ p ∷ q ∷ r ∷ s ∷ t ∷ u ∷ v ∷ []) h k f) e g
-eight-word x y _ n w l h k f e g = absurd (omega arith)
+-- the first six octets, one by one
+pub first-six : (octets : List ℕ) → 6 ≤ length octets
+    → get_or octets 0 0 ∷ get_or octets 1 0 ∷ get_or octets 2 0 ∷ get_or octets 3 0 ∷ get_or octets 4 0 ∷ get_or octets 5 0 ∷ [] ≡ take 6 octets
+first-six (o ∷ p ∷ q ∷ r ∷ s ∷ t ∷ more) l = refl
+first-six _ l = absurd (omega arith)
 
 -- the reader behind eight more octets
 reader-behind : (b octets : List ℕ) → length octets ≡ 8 → behind_eight (packed_reader_of b) octets ≡ packed_reader_of (b ++ octets)

@@ -37,7 +37,7 @@ whole-of b front octet last e =
     let n : length b - 2 ≡ length front = omega arith in
     ap cells_of_octets (ap₂ take n e.is ∙ take_at front (octet ∷ last ∷ []) (length front) refl)
 
-whole-few : (b : List ℕ) → length b < 3 → whole_cells b ≡ []
+pub whole-few : (b : List ℕ) → length b < 3 → whole_cells b ≡ []
 unfolding whole_cells
 whole-few b h = let n : length b - 2 ≡ 0 = omega arith in ap (λ k. cells_of_octets (take k b)) n
 

@@ -9,6 +9,7 @@ pub mod Memory
 pub mod Pending
 pub mod TextReading
 pub mod PackedReading
+pub mod PackedFeeding
 pub mod PackedPending
 pub mod Laws
 pub mod Written

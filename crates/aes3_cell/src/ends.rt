@@ -60,6 +60,12 @@ pub trait Sink {
     /// How often the sink has failed.
     fn failures(&self) -> u64
         ensures { result ≡ failed self.now };
+
+    /// Whether it would rather take many bytes at once: then words of cells are handed on 16 as one buffer, else each as
+    /// one.
+    fn takes_much(&self) -> bool {
+        false
+    }
 }
 
 /// Hands all the bytes to the sink, again and again what it left.

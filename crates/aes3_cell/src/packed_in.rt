@@ -20,13 +20,16 @@ impl Model for PackedIn {
     ghost view = { λ p. record { seen = p.seen; before_last = p.before_last; last = p.last } };
 }
 
-ghost use Rattle.std.specs.Prelude.{◌≡◌, ◌+◌, ◌<◌, ◌≤◌, ◌^◌, ◌-◌, ◌↔◌, ℕ, List, [], IsOk, IfErr, IsSome, IfSome, OnSome, IfNone};
+ghost use Rattle.std.specs.Prelude.{◌≡◌, ◌+◌, ◌*◌, ◌<◌, ◌≤◌, ◌^◌, ◌-◌, ◌↔◌, ℕ, List, [], length, IsOk, IfErr, IsSome, IfSome, OnSome, IfNone};
+ghost use Rattle.std.specs.List.{flat_map};
 ghost use Rattle.aes3_cell.specs.Packed.{IsPacked, is_padded};
+ghost use Rattle.aes3_cell.specs.PackedFeeding.{cells_fed, octets_fed};
 ghost use Rattle.aes3_cell.specs.PackedReading.{packed_answer, packed_next, packed_end, packed_reader_of, end_answer, behind_eight, eight_whole};
 ghost use Rattle.aes3_cell.specs.Words.{word_cells};
 
+use crate::packed_words::words_of_octets;
 use crate::refusal::BadPadding;
-use crate::word::turned;
+use crate::word::word_of_octets;
 
 /// Whether `unused` cells, fewer than eight, are Low at the end of an octet.
 fn is_rightly_padded(octet: u8, unused: u8) -> bool
@@ -121,7 +124,39 @@ impl PackedIn {
         self.seen += 8;
         self.before_last = before_last;
         self.last = last;
-        Some(turned(u64::from_be_bytes(whole)))
+        Some(word_of_octets(&whole))
+    }
+
+    /// Takes eight more octets for each word, where two or more came before; the words are then the cells of those that
+    /// are whole now, the first of each in the lowest bit.
+    ///
+    /// It is `feed_word` for many words.
+    pub fn feed_words(&mut self, octets: &[u8], words: &mut [u64])
+        requires begun { 2 ≤ self.old.seen }
+        requires room { self.old.seen + length octets.now ≤ 2 ^ 40 }
+        requires len { length octets.now ≡ 8 * length words.old }
+        ensures len { length words.new ≡ length words.old }
+        ensures cells { flat_map word_cells words.new ≡ cells_fed self.old octets.now }
+        ensures next { self.new ≡ octets_fed self.old octets.now }
+    {
+        if words.is_empty() {
+            return;
+        }
+        let end = octets.len();
+        words[0] = word_of_octets(&[
+            self.before_last,
+            self.last,
+            octets[0],
+            octets[1],
+            octets[2],
+            octets[3],
+            octets[4],
+            octets[5],
+        ]);
+        words_of_octets(&octets[6..end - 2], &mut words[1..]);
+        self.seen += end as u64;
+        self.before_last = octets[end - 2];
+        self.last = octets[end - 1];
     }
 
     /// Takes the end: answers the octet before the last and how many of its cells are used, 1 to 8, the first in the

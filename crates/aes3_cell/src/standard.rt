@@ -104,4 +104,8 @@ impl<W: Write + Drop> Sink for StdSink<W> {
     fn failures(&self) -> u64 {
         self.failures
     }
+
+    fn takes_much(&self) -> bool {
+        true
+    }
 }

@@ -3,6 +3,7 @@
 use crate::endless::EndlessSource;
 use crate::ends::{Fault, Sink, Source, write_all};
 use crate::failing::{FailingSink, FailingSource};
+use crate::form::Form;
 use crate::level::Level;
 use crate::memory::{MemorySink, MemorySource};
 use crate::packed_in::PackedIn;
@@ -12,6 +13,7 @@ use crate::short::ShortSink;
 use crate::standard::{StdSink, StdSource};
 use crate::text_in::CellText;
 use crate::text_out::TextOut;
+use crate::written::{put_word, put_words};
 use std::process::Abort;
 
 #[test]
@@ -310,4 +312,79 @@ fn words_of_octets(rt: HostRuntime) {
     assert_eq!(rt; packed.feed_word(&octets), Some(0xFF00_F017_0201_C080));
     assert!(rt; packed.seen() == 10);
     assert_eq!(rt; packed.feed_byte(0x00), Some(0x12));
+}
+
+#[test]
+fn words_of_many_octets(rt: HostRuntime) {
+    let octets = [
+        0x80, 0x40, 0xE8, 0x0F, 0x00, 0xFF, 0x12, 0x01, 0x80, 0x40, 0xE8, 0x0F, 0x00, 0xFF, 0x12,
+        0x01,
+    ];
+    let mut packed = PackedIn::new();
+    packed.feed_byte(0x01);
+    assert!(rt; packed.seen() == 1);
+    packed.feed_byte(0x03);
+    assert!(rt; packed.seen() == 2);
+    let mut words = [0; 2];
+    packed.feed_words(&octets, &mut words);
+    assert_eq!(rt; words, [0xFF00_F017_0201_C080, 0xFF00_F017_0201_8048]);
+    assert!(rt; packed.seen() == 18);
+    assert_eq!(rt; packed.feed_byte(0x00), Some(0x12));
+}
+
+#[test]
+fn words_of_lines(rt: HostRuntime) {
+    let line = *b"1010100001001100001010100110111000011001010111010011101101111111\n";
+    let mut two = [b' '; 135];
+    two[..65].copy_from_slice(&line);
+    two[65..130].copy_from_slice(&line);
+    two[130] = b'1';
+    let mut text = CellText::new();
+    let mut words = [0; 3];
+    assert_eq!(rt; text.feed_lines(&two, &mut words), 2);
+    assert_eq!(rt; words, [0xFEDC_BA98_7654_3215, 0xFEDC_BA98_7654_3215, 0]);
+    assert!(rt; text.seen() == 130);
+    let one = text.feed_cells(&two[130..]);
+    assert_eq!(rt; (one.word, one.len), (1, 1));
+    assert!(rt; text.seen() == 131);
+    let none = text.feed_cells(&two[131..]);
+    assert_eq!(rt; (none.word, none.len), (0, 0));
+    assert!(rt; text.seen() == 131);
+    for (from, word, len) in [(0, 0xFEDC_BA98_7654_3215, 64), (60, 15, 4), (64, 0, 0)] {
+        let cells = text.feed_cells(&two[from..]);
+        assert_eq!(rt; (cells.word, cells.len), (word, len), "{from}");
+        assert!(rt; text.seen() < 1_000);
+    }
+}
+
+/// Whether words into a sink that takes much at once are written as one by one, in each form.
+fn same_as_one_by_one(rt: &HostRuntime, words: &[u64]) -> bool {
+    for form in [Form::Text, Form::Packed] {
+        let mut buffer = [0; 2_145];
+        let mut many = StdSink::new(buffer.as_mut_slice());
+        let mut one = MemorySink::new(rt.alloc());
+        if many.failures() > 0 || put_words(form, words, &mut many).is_err() {
+            return false;
+        }
+        for word in words.iter() {
+            if one.failures() > 0 || put_word(form, *word, &mut one).is_err() {
+                return false;
+            }
+        }
+        if !buffer.starts_with(one.bytes()) {
+            return false;
+        }
+    }
+    true
+}
+
+#[test]
+fn many_words_written(rt: HostRuntime) {
+    let mut words = [0x0123_4567_89AB_CDEF; 33];
+    words[0] = 1;
+    words[16] = 2;
+    words[32] = 3;
+    for len in [0, 1, 15, 16, 17, 32, 33] {
+        assert!(rt; same_as_one_by_one(&rt, &words[..len]), "{len}");
+    }
 }

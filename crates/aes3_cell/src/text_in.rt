@@ -17,14 +17,16 @@ impl Model for CellText {
     ghost view = { λ t. record { seen = t.seen } };
 }
 
-ghost use Rattle.std.specs.Prelude.{◌≡◌, ◌+◌, ◌<◌, ◌≤◌, ◌^◌, ℕ, [], map, IfSome, OnSome, IfNone};
-ghost use Rattle.aes3_cell.specs.Text.{byte_of};
-ghost use Rattle.aes3_cell.specs.Words.{word_cells};
+ghost use Rattle.std.specs.Prelude.{◌≡◌, ◌≢◌, ◌+◌, ◌*◌, ◌<◌, ◌≤◌, ◌^◌, ℕ, [], drop, length, map, slice_index_or, take, IfSome, OnSome, IfNone};
+ghost use Rattle.std.specs.List.{flat_map};
+ghost use Rattle.aes3_cell.specs.Text.{byte_of, line_text, text_of, IsCellByte};
+ghost use Rattle.aes3_cell.specs.Words.{low_cells, word_cells};
 ghost use Rattle.aes3_cell.specs.TextReading.{text_answer, text_next, text_reader_of};
 
 use crate::level::Level;
 use crate::refusal::BadCell;
-use crate::word::word_of_text;
+use crate::text_words::{SomeCells, front_cells, words_of_lines};
+use crate::word::{LINE_LEN, word_of_text};
 
 impl CellText {
     /// A reader that has taken nothing.
@@ -75,5 +77,35 @@ impl CellText {
         let word = word_of_text(bytes)?;
         self.seen += 64;
         Some(word)
+    }
+
+    /// Takes lines of 64 cells and a line feed, as many as come first and as there are words, and answers how many: these
+    /// words are then their cells.
+    pub fn feed_lines(&mut self, text: &[u8], words: &mut [u64]) -> usize
+        requires { self.old.seen + length text.now ≤ 2 ^ 40 }
+        ensures len { length words.new ≡ length words.old }
+        ensures room { result ≤ length words.new }
+        ensures within { 65 * result ≤ length text.now }
+        ensures lines { take (65 * result) text.now ≡ text_of (flat_map word_cells (take result words.new)) }
+        ensures stops { result < length words.new → 65 * result + 65 ≤ length text.now → (word : ℕ) → word < 2 ^ 64
+            → take 65 (drop (65 * result) text.now) ≢ line_text (word_cells word) }
+        ensures seen { self.new.seen ≡ self.old.seen + 65 * result }
+    {
+        let taken = words_of_lines(text, words);
+        self.seen += (LINE_LEN * taken) as u64;
+        taken
+    }
+
+    /// Takes the cells that come first, at most 64.
+    pub fn feed_cells(&mut self, text: &[u8]) -> SomeCells
+        requires { self.old.seen + length text.now ≤ 2 ^ 40 }
+        ensures within { result.len ≤ length text.now }
+        ensures cells { take result.len text.now ≡ map byte_of (low_cells result.len result.word) }
+        ensures stops { result.len < 64 → result.len < length text.now → ¬ IsCellByte (slice_index_or text.now result.len 0) }
+        ensures seen { self.new.seen ≡ self.old.seen + result.len }
+    {
+        let cells = front_cells(text);
+        self.seen += u64::from(cells.len);
+        cells
     }
 }

@@ -4,7 +4,7 @@ ghost use Rattle.std.specs.Prelude.{◌≡◌, ◌+◌, ◌-◌, ◌<◌, ◌^�
 ghost use Rattle.std.specs.Int.{bit_at};
 ghost use Rattle.aes3_cell.specs.Words.{level_of, low_cells, word_cells};
 ghost use Rattle.aes3_cell.specs.Text.{byte_of, line_text};
-ghost use Rattle.aes3_cell.specs.Packed.{octets_of};
+ghost use Rattle.aes3_cell.specs.Packed.{cells_of_octets, octets_of};
 
 use crate::level::Level;
 use std::simd::prelude::*;
@@ -54,7 +54,7 @@ pub fn line_of_word(word: u64) -> [u8; LINE_LEN]
 }
 
 /// The bits in the opposite order, by exchanging bits, pairs of bits and so on: std's `reverse_bits` goes bit by bit.
-pub(crate) fn turned(word: u64) -> u64
+fn turned(word: u64) -> u64
     ensures { (i : ℕ) → i < 64 → bit_at result i ≡ bit_at word (63 - i) }
 {
     let word = (word >> 1) & 0x5555_5555_5555_5555 | (word & 0x5555_5555_5555_5555) << 1;
@@ -72,8 +72,15 @@ pub fn octets_of_word(word: u64) -> [u8; 8]
     turned(word).to_be_bytes()
 }
 
+/// The word of the cells of eight octets, the first cell in the highest bit of the first octet.
+pub fn word_of_octets(octets: &[u8; 8]) -> u64
+    ensures { word_cells result ≡ cells_of_octets octets.now }
+{
+    turned(u64::from_be_bytes(*octets))
+}
+
 /// The bytes that are `byte`, each a one.
-fn equal_to(bytes: &[u8; 64], byte: u8) -> u64
+pub(crate) fn equal_to(bytes: &[u8; 64], byte: u8) -> u64
     ensures { (i : ℕ) → i < 64 → bit_at result i ≡ (if get_or bytes.now i 0 == byte then 1 else 0) }
 {
     u8x64::from_array(*bytes)
@@ -82,7 +89,7 @@ fn equal_to(bytes: &[u8; 64], byte: u8) -> u64
 }
 
 /// The word of 64 bytes all of which are cells, the first in the lowest bit.
-pub(crate) fn word_of_text(bytes: &[u8; 64]) -> Option<u64>
+pub fn word_of_text(bytes: &[u8; 64]) -> Option<u64>
     ensures cells { IfSome result (λ word. bytes.now ≡ map byte_of (word_cells word)) }
     ensures owed { (word : ℕ) → word < 2 ^ 64 → bytes.now ≡ map byte_of (word_cells word) → result ≡ Some word }
 {

@@ -1,13 +1,15 @@
 //! Words of cells written in either form.
 
-ghost use Rattle.std.specs.Prelude.{◌≡◌, ◌<◌, ◌+◌, ◌^◌, IfOk, OnErr};
+ghost use Rattle.std.specs.Prelude.{◌≡◌, ◌<◌, ◌≤◌, ◌+◌, ◌^◌, length, take, IfOk, OnErr};
+ghost use Rattle.std.specs.List.{flat_map};
 ghost use Rattle.aes3_cell.specs.Ends.{Grew, GrewFront};
 ghost use Rattle.aes3_cell.specs.Words.{word_cells};
 ghost use Rattle.aes3_cell.specs.Written.{bytes_of, ending};
+ghost use Rattle.aes3_cell.specs.declared.form.Form.TheVariants.{Text, Packed};
 
 use crate::ends::{Fault, Sink, write_all};
 use crate::form::Form;
-use crate::word::{line_of_word, octets_of_word};
+use crate::word::{LINE_LEN, line_of_word, octets_of_word};
 
 /// Writes the 64 cells of a word, as one buffer.
 ///
@@ -22,6 +24,97 @@ pub fn put_word<T: Sink>(form: Form, word: u64, sink: &mut T) -> Result<(), Faul
     match form {
         Form::Text => write_all(sink, &line_of_word(word)),
         Form::Packed => write_all(sink, &octets_of_word(word)),
+    }
+}
+
+/// How many words are handed on as one buffer.
+const MANY: usize = 16;
+
+/// The lines of words.
+fn lines_of_words(words: &[u64; MANY]) -> [u8; LINE_LEN * MANY]
+    ensures { result ≡ bytes_of Text (flat_map word_cells words.now) }
+{
+    let mut text = [0; LINE_LEN * MANY];
+    for (i, word) in words.iter().enumerate() {
+        text[LINE_LEN * i..LINE_LEN * i + LINE_LEN].copy_from_slice(&line_of_word(*word));
+    }
+    text
+}
+
+/// The octets of words.
+fn octets_of_words(words: &[u64; MANY]) -> [u8; 8 * MANY]
+    ensures { result ≡ bytes_of Packed (flat_map word_cells words.now) }
+{
+    let mut octets = [0; 8 * MANY];
+    for (i, word) in words.iter().enumerate() {
+        octets[8 * i..8 * i + 8].copy_from_slice(&octets_of_word(*word));
+    }
+    octets
+}
+
+/// Writes as many words as one buffer holds.
+fn put_many<T: Sink>(form: Form, words: &[u64; MANY], sink: &mut T) -> Result<(), Fault>
+    requires room { T.failed sink.old + 1 < 2 ^ 64 }
+    ensures cells { IfOk result (λ _. Grew (T.taken sink.old) (T.taken sink.new) (bytes_of form (flat_map word_cells words.now))) }
+    ensures count { IfOk result (λ _. T.failed sink.new ≡ T.failed sink.old) }
+    ensures err { OnErr result ((T.failed sink.new ≡ T.failed sink.old + 1) × GrewFront (T.taken sink.old) (T.taken sink.new) (bytes_of form (flat_map word_cells words.now))) }
+{
+    match form {
+        Form::Text => write_all(sink, &lines_of_words(words)),
+        Form::Packed => write_all(sink, &octets_of_words(words)),
+    }
+}
+
+/// Writes the first words, as many as fill buffers, where the sink takes much at once; answers how many.
+fn put_front<T: Sink>(form: Form, words: &[u64], sink: &mut T) -> Result<usize, Fault>
+    requires room { T.failed sink.old + 1 < 2 ^ 64 }
+    ensures within { IfOk result (λ n. n ≤ length words.now) }
+    ensures cells { IfOk result (λ n. Grew (T.taken sink.old) (T.taken sink.new) (bytes_of form (flat_map word_cells (take n words.now)))) }
+    ensures count { IfOk result (λ _. T.failed sink.new ≡ T.failed sink.old) }
+    ensures err { OnErr result ((T.failed sink.new ≡ T.failed sink.old + 1) × GrewFront (T.taken sink.old) (T.taken sink.new) (bytes_of form (flat_map word_cells words.now))) }
+{
+    if !sink.takes_much() {
+        return Ok(0);
+    }
+    let mut at = 0;
+    while let Some(many) = words[at..].first_chunk() {
+        match put_many(form, many, sink) {
+            Ok(()) => at += MANY,
+            Err(fault) => return Err(fault),
+        }
+    }
+    Ok(at)
+}
+
+/// Writes words one by one.
+fn put_each<T: Sink>(form: Form, words: &[u64], sink: &mut T) -> Result<(), Fault>
+    requires room { T.failed sink.old + 1 < 2 ^ 64 }
+    ensures cells { IfOk result (λ _. Grew (T.taken sink.old) (T.taken sink.new) (bytes_of form (flat_map word_cells words.now))) }
+    ensures count { IfOk result (λ _. T.failed sink.new ≡ T.failed sink.old) }
+    ensures err { OnErr result ((T.failed sink.new ≡ T.failed sink.old + 1) × GrewFront (T.taken sink.old) (T.taken sink.new) (bytes_of form (flat_map word_cells words.now))) }
+{
+    for word in words.iter() {
+        match put_word(form, *word, sink) {
+            Ok(()) => {}
+            Err(fault) => return Err(fault),
+        }
+    }
+    Ok(())
+}
+
+/// Writes words of cells, each as one buffer, or 16 as one where the sink takes much at once.
+///
+/// # Errors
+/// The sink's fault; then it has taken a front of the bytes.
+pub fn put_words<T: Sink>(form: Form, words: &[u64], sink: &mut T) -> Result<(), Fault>
+    requires room { T.failed sink.old + 1 < 2 ^ 64 }
+    ensures cells { IfOk result (λ _. Grew (T.taken sink.old) (T.taken sink.new) (bytes_of form (flat_map word_cells words.now))) }
+    ensures count { IfOk result (λ _. T.failed sink.new ≡ T.failed sink.old) }
+    ensures err { OnErr result ((T.failed sink.new ≡ T.failed sink.old + 1) × GrewFront (T.taken sink.old) (T.taken sink.new) (bytes_of form (flat_map word_cells words.now))) }
+{
+    match put_front(form, words, sink) {
+        Ok(written) => put_each(form, &words[written..], sink),
+        Err(fault) => Err(fault),
     }
 }
 

@@ -1,5 +1,5 @@
 -- Runs that read cells and write something of each block.
-use Rattle.std.proofs.Common.{◌≡◌, ℕ, zero, suc, ◌-◌, ◌%◌, ◌*◌, ◌↔◌, Bool, true, false, cond, nat_le, nat_lt, ◌&&◌, List, [], ◌∷◌, ◌++◌, length, take, drop, Result, Ok, Err, IfOk, refl, sym, ap, ap₂, ◌∙◌, subst, arith, append-nil, append_assoc}
+use Rattle.std.proofs.Common.{◌≡◌, ◌<◌, ◌≤◌, ℕ, zero, suc, ◌+◌, ◌-◌, ◌%◌, ◌*◌, ◌↔◌, Bool, true, false, cond, nat_le, nat_lt, ◌&&◌, List, [], ◌∷◌, ◌++◌, length, take, drop, Result, Ok, Err, IfOk, refl, sym, ap, ap₂, ◌∙◌, subst, arith, append-nil, append_assoc}
 use Rattle.std.specs.List.{All}
 use Rattle.std.proofs.Math.Seq.{take-nil, drop-nil}
 use Rattle.std.proofs.lemmas.Bool.{leb-true, leb-false, ltb-true, ltb-false}
@@ -23,12 +23,16 @@ use Rattle.aes3_block.specs.Blocks.{block_cells, stream, IsBlock}
 use Rattle.aes3_block.specs.Files.{block_bytes, file}
 use Rattle.aes3_block.proofs.Streams.{EachBlock27, stream-bytes, stream-nil, length-stream, slot_count}
 use Rattle.aes3_lock.specs.Reports.{reports, decided, wholes, blocks, normal}
-use Rattle.aes3_lock.specs.Pieces.{IsPiece, whole_blocks}
+use Rattle.aes3_lock.specs.Damage.{apart, without}
+use Rattle.aes3_lock.specs.Remains.{after_changes, after_loss}
+use Rattle.aes3_lock.specs.Pieces.{IsPiece, given_blocks, whole_blocks}
 use Rattle.aes3_lock.proofs.AllStanding.{wholes-append}
 use Rattle.aes3_block.proofs.Each.{each-payload}
 use Rattle.aes3_lock.proofs.DecidedStand.{decided-stand}
 use Rattle.aes3_lock.proofs.NormalStreams.{stream-blocks, blocks-lawful, normal-tells, normal-same, normal-fixed}
 use Rattle.aes3_lock.proofs.PieceBlocks.{blocks-whole}
+use Rattle.aes3_lock.proofs.Changes.{blocks-few-changed}
+use Rattle.aes3_lock.proofs.Lost.{blocks-lost}
 use Rattle.aes3_engine.specs.Running.{Change}
 use Rattle.aes3_engine.specs.Inputs.{cells_of}
 use Rattle.aes3_engine.specs.ReportRuns.{output, ReportRun}
@@ -187,11 +191,31 @@ pub tells : (form : Form) (c d : List Level) → (written form (normal c) ≡ wr
 tells form c d = (λ e. normal-tells c d (sym (read-normal form c) ∙ ap (cells_of form) e ∙ read-normal form d), λ e. ap (written form) (normal-same c d e))
 
 -- the clauses of a normal stream
+run-stream : {max : ℕ} {input : Form} {ended : Bool} {source sink : Change} (form : Form) (r : Result Counts RunError) → ReportRun max input (report_bytes (normal_block form)) (ending form) ended source sink r
+    → IfOk r (λ (n : Counts). (b : List ℕ) (ds : List (List (List Bool))) → Told source.old source.new b → blocks (cells_of input b) ≡ ds → Grew sink.old sink.new (written_stream form ds))
+unfolding normal
+run-stream {input} form (Ok n) run = λ b ds t e. grew-is (ap (written_stream form) e) (run-wrote (Ok n) (λ c. written form (normal c)) (normal-whole form) run b t)
+run-stream form (Err e) run = tt
+
 pub run-piece : {max : ℕ} {input : Form} {ended : Bool} {source sink : Change} (form : Form) (r : Result Counts RunError) → ReportRun max input (report_bytes (normal_block form)) (ending form) ended source sink r
     → IfOk r (λ (n : Counts). (s : Level) (bs : List (List (List Bool))) (i j : ℕ) (b : List ℕ) → Told source.old source.new b → IsPiece s bs i j (cells_of input b) → Grew sink.old sink.new (written_stream form (whole_blocks bs i j)))
-unfolding normal
-run-piece {input} form (Ok n) run = λ s bs i j b t p. grew-is (ap (written_stream form) (blocks-whole s bs i j (cells_of input b) p)) (run-wrote (Ok n) (λ c. written form (normal c)) (normal-whole form) run b t)
+run-piece {input} form (Ok n) run = λ s bs i j b t p. run-stream form (Ok n) run b (whole_blocks bs i j) t (blocks-whole s bs i j (cells_of input b) p)
 run-piece form (Err e) run = tt
+
+-- and of a piece of which cells are changed or lost
+pub run-damaged : {max : ℕ} {input : Form} {ended : Bool} {source sink : Change} (form : Form) (r : Result Counts RunError) → ReportRun max input (report_bytes (normal_block form)) (ending form) ended source sink r
+    → IfOk r (λ (n : Counts). (s : Level) (bs : List (List (List Bool))) (i j : ℕ) (c : List Level) (b : List ℕ) → Told source.old source.new b → IsPiece s bs i j c
+    → length (cells_of input b) ≡ length c → apart c (cells_of input b) ≤ 3 → Grew sink.old sink.new (written_stream form (given_blocks (after_changes i c (cells_of input b)) bs i j)))
+run-damaged {input} form (Ok n) run = λ s bs i j c b t p l a.
+    run-stream form (Ok n) run b (given_blocks (after_changes i c (cells_of input b)) bs i j) t (blocks-few-changed s bs i j c (cells_of input b) p l a)
+run-damaged form (Err e) run = tt
+
+pub run-lost : {max : ℕ} {input : Form} {ended : Bool} {source sink : Change} (form : Form) (r : Result Counts RunError) → ReportRun max input (report_bytes (normal_block form)) (ending form) ended source sink r
+    → IfOk r (λ (n : Counts). (s : Level) (bs : List (List (List Bool))) (i j : ℕ) (c : List Level) (b : List ℕ) → Told source.old source.new b → IsPiece s bs i j c
+    → (k : ℕ) → k < length c → cells_of input b ≡ without k c → Grew sink.old sink.new (written_stream form (given_blocks (after_loss (i + k)) bs i j)))
+run-lost {input} form (Ok n) run = λ s bs i j c b t p k l e.
+    run-stream form (Ok n) run b (given_blocks (after_loss (i + k)) bs i j) t (ap blocks e ∙ blocks-lost s bs i j c p k l)
+run-lost form (Err e) run = tt
 
 pub run-again : {max : ℕ} {input : Form} {ended : Bool} {source sink : Change} (form : Form) (r : Result Counts RunError) → ReportRun max input (report_bytes (normal_block form)) (ending form) ended source sink r
     → IfOk r (λ (n : Counts). (c : List Level) → Told source.old source.new (written input (normal c)) → Grew sink.old sink.new (written form (normal c)))

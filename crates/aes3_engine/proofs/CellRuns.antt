@@ -81,6 +81,11 @@ pub run-counts : {max : ℕ} {form : Form} {whole begun : List Level → List �
 run-counts (Ok n) run = λ b t. (run-told run b t).1
 run-counts (Err x) run = tt
 
+pub run-fits : {max : ℕ} {form : Form} {whole begun : List Level → List ℕ} {counts : List ℕ → Counts} {ended : Bool} {source sink : Change} (r : Result Counts RunError)
+    → CellRun max form whole begun counts ended source sink r → IfOk r (λ (n : Counts). (b : List ℕ) → Told source.old source.new b → length b ≤ max)
+run-fits (Ok n) run = λ b t. (run-told run b t).0.short
+run-fits (Err x) run = tt
+
 pub run-ended : {max : ℕ} {form : Form} {whole begun : List Level → List ℕ} {counts : List ℕ → Counts} {ended : Bool} {source sink : Change} (r : Result Counts RunError)
     → CellRun max form whole begun counts ended source sink r → IfOk r (λ (n : Counts). IsTrue ended)
 run-ended (Ok n) run = run.ran.0.end
@@ -126,6 +131,18 @@ run-read {max} {form} {whole} {begun} {counts} {ended} {source} {sink} run q = (
 pub run-write : {max : ℕ} {form : Form} {whole begun : List Level → List ℕ} {counts : List ℕ → Counts} {ended : Bool} {source sink : Change} {r : Result Counts RunError}
     → CellRun max form whole begun counts ended source sink r → r ≡ Err Write → Failed sink
 run-write {max} {form} {whole} {begun} {counts} {ended} {source} {sink} run q = (subst (λ (v : Result Counts RunError). CellRan max form whole begun counts run.bytes ended source sink v) q run.ran).1
+
+quiet-sink : (max : ℕ) (form : Form) (whole begun : List Level → List ℕ) (counts : List ℕ → Counts) (b : List ℕ) (ended : Bool) (source sink : Change) (x : RunError)
+    → CellRan max form whole begun counts b ended source sink (Err x) → x ≢ Write → Quiet sink
+quiet-sink max form whole begun counts b ended source sink Write r n = absurd (n refl)
+quiet-sink max form whole begun counts b ended source sink Read r n = r.2
+quiet-sink max form whole begun counts b ended source sink x r n = r.2
+
+pub run-sink_quiet : {max : ℕ} {form : Form} {whole begun : List Level → List ℕ} {counts : List ℕ → Counts} {ended : Bool} {source sink : Change} (r : Result Counts RunError)
+    → CellRun max form whole begun counts ended source sink r → r ≢ Err Write → Quiet sink
+run-sink_quiet (Ok n) run p = run.ran.3
+run-sink_quiet {max} {form} {whole} {begun} {counts} {ended} {source} {sink} (Err x) run p =
+    quiet-sink max form whole begun counts run.bytes ended source sink x run.ran (λ q. p (ap (λ v. Err v) q))
 
 no-bad-byte : (form : Form) (max : ℕ) (b : List ℕ) (at : ℕ) → IsInput form b → length b ≤ max → BadByteAt form (take max b) at → ⊥
 no-bad-byte Text max b at c l h = let e = take_all max b l in let v = h.0 in let w = h.1 in let g = ap good e in let n = ap length e in let i = c.is in omega arith

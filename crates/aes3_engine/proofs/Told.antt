@@ -26,6 +26,14 @@ wrote max r z b ended source sink Read h n = grew-is (ap (out r) (sym (take_all 
 wrote max r z b ended source sink TooLong h n = h.4
 wrote max r z b ended source sink e h n = h.2
 
+-- unless it was refused with Write the sink did not fail
+quiet-sink : (max : ℕ) (r : Reading) (z : List ℕ → Type 0) (b : List ℕ) (ended : Bool) (source sink : Change) (e : RunError)
+    → Ran max r z b ended source sink (Err e) → e ≢ Write → Quiet sink
+quiet-sink max r z b ended source sink Write h n = absurd (n refl)
+quiet-sink max r z b ended source sink Read h n = h.2
+quiet-sink max r z b ended source sink TooLong h n = h.3
+quiet-sink max r z b ended source sink e h n = h.1
+
 -- Ok is owed where nothing failed and the input has no fault and fits
 owed : (max : ℕ) (r : Reading) (z : List ℕ → Type 0) (b : List ℕ) (ended : Bool) (source sink : Change) (result : Result ℕ RunError)
     → Ran max r z b ended source sink result → Clean max r b → r.end_fault b ≡ None → Quiet source → Quiet sink → IsOk result
@@ -45,6 +53,10 @@ owed max r z b ended source sink (Err x) h c e q k = absurd (elim h.3 [
 pub told-wrote : {max : ℕ} {r : Reading} {z : List ℕ → Type 0} {ended : Bool} {source sink : Change} {e : RunError} → Run max r z ended source sink (Err e)
     → e ≢ Write → (b : List ℕ) → Told source.old source.new b → Grew sink.old sink.new (out r (take max b))
 told-wrote {max} {r} {z} {ended} {source} {sink} {e} run n b t = wrote max r z b ended source sink e (ran-told run b t) n
+
+pub told-sink_quiet : {max : ℕ} {r : Reading} {z : List ℕ → Type 0} {ended : Bool} {source sink : Change} {e : RunError} → Run max r z ended source sink (Err e)
+    → e ≢ Write → Quiet sink
+told-sink_quiet {max} {r} {z} {ended} {source} {sink} {e} run n = quiet-sink max r z run.bytes ended source sink e run.ran n
 
 pub told-front : {max : ℕ} {r : Reading} {z : List ℕ → Type 0} {ended : Bool} {source sink : Change} {e : RunError} → Run max r z ended source sink (Err e)
     → e ≡ Write → (b : List ℕ) → Told source.old source.new b

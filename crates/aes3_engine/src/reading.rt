@@ -8,7 +8,9 @@ ghost use Rattle.aes3_cell.specs.declared.level.Level.{Level};
 ghost use Rattle.aes3_block.specs.Blocks.{IsBlock};
 ghost use Rattle.aes3_block.specs.Files.{file};
 ghost use Rattle.aes3_lock.specs.Reports.{blocks, normal};
-ghost use Rattle.aes3_lock.specs.Pieces.{IsPiece, whole_blocks};
+ghost use Rattle.aes3_lock.specs.Damage.{apart, without};
+ghost use Rattle.aes3_lock.specs.Remains.{after_changes, after_loss};
+ghost use Rattle.aes3_lock.specs.Pieces.{IsPiece, given_blocks, whole_blocks};
 ghost use Rattle.aes3_engine.specs.BlockRuns.{begun_stream, cut_block, cut_blocks, decided_blocks, file_block, normal_block, written_stream};
 ghost use Rattle.aes3_engine.specs.Driving.{WholeInput};
 ghost use Rattle.aes3_engine.specs.Inputs.{IsInput, cells_before, cells_of};
@@ -107,13 +109,23 @@ pub fn normalise<S: Source, T: Sink>(
     // From any starting cell of a lawful stream these are its whole blocks that begin there or later.
     ensures piece { IfOk result (λ _. (s : Level) (bs : List (List (List Bool))) (i j : ℕ) (b : List ℕ) → Told (S.given source.old) (S.given source.new) b
         → IsPiece s bs i j (cells_of input b) → Grew (T.taken sink.old) (T.taken sink.new) (written_stream output (whole_blocks bs i j))) }
+    // With up to three cells of the piece changed they are those blocks, each as the changed cells in it and directly behind it
+    // leave it; with one cell lost all but the one that held it.
+    ensures damaged { IfOk result (λ _. (s : Level) (bs : List (List (List Bool))) (i j : ℕ) (c : List Level) (b : List ℕ) → Told (S.given source.old) (S.given source.new) b
+        → IsPiece s bs i j c → length (cells_of input b) ≡ length c → apart c (cells_of input b) ≤ 3
+        → Grew (T.taken sink.old) (T.taken sink.new) (written_stream output (given_blocks (after_changes i c (cells_of input b)) bs i j))) }
+    ensures lost { IfOk result (λ _. (s : Level) (bs : List (List (List Bool))) (i j : ℕ) (c : List Level) (b : List ℕ) → Told (S.given source.old) (S.given source.new) b
+        → IsPiece s bs i j c → (k : ℕ) → k < length c → cells_of input b ≡ without k c
+        → Grew (T.taken sink.old) (T.taken sink.new) (written_stream output (given_blocks (after_loss (i + k)) bs i j))) }
     // Two inputs carry equal block lists exactly if their outputs are equal, and the normal form of an output is that output.
     ensures tells { (c d : List Level) → written output (normal c) ≡ written output (normal d) ↔ blocks c ≡ blocks d }
     ensures again { IfOk result (λ _. (c : List Level) → Told (S.given source.old) (S.given source.new) (written input (normal c))
         → Grew (T.taken sink.old) (T.taken sink.new) (written output (normal c))) }
     ensures input { IfOk result (λ _. (b : List ℕ) → Told (S.given source.old) (S.given source.new) b → IsInput input b) }
     ensures counts { IfOk result (λ counts. (b : List ℕ) → Told (S.given source.old) (S.given source.new) b → counts ≡ counts_of input b) }
+    ensures fits { IfOk result (λ _. (b : List ℕ) → Told (S.given source.old) (S.given source.new) b → length b ≤ max_bytes) }
     ensures ended { IfOk result (λ _. IsTrue (S.has_ended source.new)) }
+    ensures quiet { IfOk result (λ _. (S.failed source.new ≡ S.failed source.old) × (T.failed sink.new ≡ T.failed sink.old)) }
 
     // It owes Ok where the input is in its form and fits, and neither end failed.
     ensures owed { (b : List ℕ) → Told (S.given source.old) (S.given source.new) b → IsInput input b → length b ≤ max_bytes
@@ -124,6 +136,7 @@ pub fn normalise<S: Source, T: Sink>(
         → IsCause input max_bytes b (S.has_ended source.new) error) }
     ensures read { result ≡ Err RunError.Read → S.failed source.new ≡ S.failed source.old + 1 }
     ensures write { result ≡ Err RunError.Write → T.failed sink.new ≡ T.failed sink.old + 1 }
+    ensures sink_quiet { result ≢ Err RunError.Write → T.failed sink.new ≡ T.failed sink.old }
     ensures refused { OnErr result (result ≢ Err RunError.Write → (b : List ℕ) → Told (S.given source.old) (S.given source.new) b
         → Grew (T.taken sink.old) (T.taken sink.new) (begun_stream output (decided_blocks (cells_before input (take max_bytes b))))) }
     ensures front { result ≡ Err RunError.Write → (b : List ℕ) → Told (S.given source.old) (S.given source.new) b
@@ -156,7 +169,9 @@ pub fn decode<S: Source, T: Sink>(
         → Grew (T.taken sink.old) (T.taken sink.new) (file bs)) }
     ensures input { IfOk result (λ _. (b : List ℕ) → Told (S.given source.old) (S.given source.new) b → IsInput input b) }
     ensures counts { IfOk result (λ counts. (b : List ℕ) → Told (S.given source.old) (S.given source.new) b → counts ≡ counts_of input b) }
+    ensures fits { IfOk result (λ _. (b : List ℕ) → Told (S.given source.old) (S.given source.new) b → length b ≤ max_bytes) }
     ensures ended { IfOk result (λ _. IsTrue (S.has_ended source.new)) }
+    ensures quiet { IfOk result (λ _. (S.failed source.new ≡ S.failed source.old) × (T.failed sink.new ≡ T.failed sink.old)) }
 
     // It owes Ok where the input is in its form and fits, and neither end failed.
     ensures owed { (b : List ℕ) → Told (S.given source.old) (S.given source.new) b → IsInput input b → length b ≤ max_bytes
@@ -167,6 +182,7 @@ pub fn decode<S: Source, T: Sink>(
         → IsCause input max_bytes b (S.has_ended source.new) error) }
     ensures read { result ≡ Err RunError.Read → S.failed source.new ≡ S.failed source.old + 1 }
     ensures write { result ≡ Err RunError.Write → T.failed sink.new ≡ T.failed sink.old + 1 }
+    ensures sink_quiet { result ≢ Err RunError.Write → T.failed sink.new ≡ T.failed sink.old }
     ensures refused { OnErr result (result ≢ Err RunError.Write → (b : List ℕ) → Told (S.given source.old) (S.given source.new) b
         → Grew (T.taken sink.old) (T.taken sink.new) (file (decided_blocks (cells_before input (take max_bytes b))))) }
     ensures front { result ≡ Err RunError.Write → (b : List ℕ) → Told (S.given source.old) (S.given source.new) b
@@ -200,7 +216,9 @@ pub fn cut<S: Source, T: Sink>(
         → Grew (T.taken sink.old) (T.taken sink.new) (written_stream output (cut_blocks from count (blocks (cells_of input b))))) }
     ensures input { IfOk result (λ _. (b : List ℕ) → Told (S.given source.old) (S.given source.new) b → IsInput input b) }
     ensures counts { IfOk result (λ counts. (b : List ℕ) → Told (S.given source.old) (S.given source.new) b → counts ≡ counts_of input b) }
+    ensures fits { IfOk result (λ _. (b : List ℕ) → Told (S.given source.old) (S.given source.new) b → length b ≤ max_bytes) }
     ensures ended { IfOk result (λ _. IsTrue (S.has_ended source.new)) }
+    ensures quiet { IfOk result (λ _. (S.failed source.new ≡ S.failed source.old) × (T.failed sink.new ≡ T.failed sink.old)) }
 
     // It owes Ok where the input is in its form and fits, and neither end failed.
     ensures owed { (b : List ℕ) → Told (S.given source.old) (S.given source.new) b → IsInput input b → length b ≤ max_bytes
@@ -211,6 +229,7 @@ pub fn cut<S: Source, T: Sink>(
         → IsCause input max_bytes b (S.has_ended source.new) error) }
     ensures read { result ≡ Err RunError.Read → S.failed source.new ≡ S.failed source.old + 1 }
     ensures write { result ≡ Err RunError.Write → T.failed sink.new ≡ T.failed sink.old + 1 }
+    ensures sink_quiet { result ≢ Err RunError.Write → T.failed sink.new ≡ T.failed sink.old }
     ensures refused { OnErr result (result ≢ Err RunError.Write → (b : List ℕ) → Told (S.given source.old) (S.given source.new) b
         → Grew (T.taken sink.old) (T.taken sink.new) (begun_stream output (cut_blocks from count (decided_blocks (cells_before input (take max_bytes b)))))) }
     ensures front { result ≡ Err RunError.Write → (b : List ℕ) → Told (S.given source.old) (S.given source.new) b

@@ -8,7 +8,7 @@ use crate::reading::{cut, decode, normalise};
 use crate::rewriting::rewrite;
 use aes3_cell::{
     Counts, EndlessSource, FailingSink, FailingSource, Form, MemorySink, MemorySource, RunError,
-    ShortSink, StdSink,
+    ShortSink, Source, StdSink,
 };
 use std::alloc::{AllocError, Global};
 use std::io::BufWriter;
@@ -339,6 +339,32 @@ fn inputs_without_an_end(rt: HostRuntime) {
         let answer = normalise(&mut source, &mut sink, 1_000, form, form);
         assert!(rt; answer == Err(RunError::TooLong));
         assert!(rt; sink.bytes().is_empty());
+    }
+}
+
+/// How many bytes a source still gives.
+fn bytes_left(rt: &impl Abort, source: &mut MemorySource<'_>) -> usize {
+    let mut left: usize = 0;
+    for _ in 0..2_000 {
+        let mut piece = [0; 64];
+        assert!(rt; source.failures() < 9);
+        left = left.saturating_add(source.read(&mut piece).unwrap_or(0));
+    }
+    left
+}
+
+#[test]
+fn one_byte_past_the_limit_is_read(rt: HostRuntime) {
+    for byte in [b'1', b' '] {
+        for piece in [1, 7, 64, 65, 4_096] {
+            let input = [byte; 2_000];
+            let mut source = MemorySource::new(&input, piece);
+            let mut sink = MemorySink::new(rt.alloc());
+            let answer = normalise(&mut source, &mut sink, 1_000, Form::Text, Form::Text);
+            assert!(rt; answer == Err(RunError::TooLong), "{piece} at once");
+            assert!(rt; sink.bytes().is_empty(), "{piece} at once");
+            assert_eq!(rt; bytes_left(&rt, &mut source), 999, "{piece} at once");
+        }
     }
 }
 

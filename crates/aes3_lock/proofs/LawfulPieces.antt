@@ -83,7 +83,7 @@ unfolding stream
 stream-line s bs h = ap (line s) (stream-runs bs h)
 
 -- its subframes all end at the level before it
-runs-level : (marks : ℕ → Mark) (s : Level) (ps : List (List Bool)) → Each27 ps → (k : ℕ) → k ≤ length ps
+pub runs-level : (marks : ℕ → Mark) (s : Level) (ps : List (List Bool)) → Each27 ps → (k : ℕ) → k ≤ length ps
     → before s (line s (runs_of marks (map with_parity ps))) (64 * k) ≡ s
 unfolding slots_len
 runs-level marks s ps h zero l = refl

@@ -8,14 +8,15 @@ use Rattle.aes3_cell.specs.declared.level.Level.TheVariants.{Low}
 use Rattle.aes3_block.specs.Blocks.{block_len, stream, IsBlock}
 use Rattle.aes3_block.proofs.FileLaws.{each-block}
 use Rattle.aes3_lock.specs.Reports.{blocks, normal}
-use Rattle.aes3_lock.specs.Pieces.{blocks_within, whole_blocks}
+use Rattle.aes3_lock.specs.Pieces.{given_within, whole_blocks}
 use Rattle.aes3_lock.proofs.AllStanding.{blocks-all_standing}
 use Rattle.aes3_lock.proofs.LawfulPieces.{stream-length}
 use Rattle.aes3_lock.proofs.PieceBounds.{both-true}
-use Rattle.aes3_lock.proofs.PieceBlocks.{blocks-whole, whole-len}
+use Rattle.aes3_lock.proofs.PieceBlocks.{blocks-whole}
+use Rattle.aes3_lock.proofs.PlaceBlocks.{whole-len}
 
 -- all blocks lie in all cells
-all-within : (bs : List (List (List Bool))) (p j : ℕ) → p + length bs * block_len ≤ j → blocks_within p 0 j bs ≡ bs
+all-within : (bs : List (List (List Bool))) (p j : ℕ) → p + length bs * block_len ≤ j → given_within (λ p b. b ∷ []) p 0 j bs ≡ bs
 all-within [] p j h = refl
 all-within (b ∷ bs) p j h =
     let e : suc (length bs) * block_len ≡ block_len + length bs * block_len = omega arith in

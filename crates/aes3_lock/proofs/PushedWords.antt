@@ -1,7 +1,9 @@
 -- The cells of a word taken part by part.
-use Rattle.std.proofs.Common.{◌≡◌, ℕ, ◌+◌, ◌/◌, ◌%◌, ◌^◌, ◌<◌, ◌≤◌, List, [], ◌∷◌, ◌++◌, length, ap, ◌∙◌, sym, subst, arith, append_assoc}
+use Rattle.std.proofs.Common.{◌≡◌, ℕ, ◌+◌, ◌/◌, ◌%◌, ◌^◌, ◌<◌, ◌≤◌, List, [], ◌∷◌, ◌++◌, length, take, take_all, get_or, append-nil, ap, ◌∙◌, sym, subst, arith, append_assoc}
+use Rattle.std.specs.List.{flat_map}
+use Rattle.std.proofs.lemmas.List.{flat_map_more, take_more}
 use Rattle.aes3_cell.specs.declared.level.Level.{Level}
-use Rattle.aes3_cell.specs.Words.{level_of, low_cells}
+use Rattle.aes3_cell.specs.Words.{level_of, low_cells, word_cells}
 use Rattle.aes3_cell.proofs.WordCells.{length-low_cells, low_cells-add}
 use Rattle.aes3_lock.specs.declared.report.Report.{Report}
 use Rattle.aes3_lock.specs.Reports.{decided}
@@ -51,3 +53,15 @@ more-told k c a b w out new more h report f g e =
     let few = few-told c (low_cells a w) out (omega (arith, n, h)) g in
     ap decided (sym (parts c a b w)) ∙ report (c ++ low_cells a w) f ∙ ap (λ x. x ++ more) g ∙ append_assoc (decided c) out more
     ∙ ap (λ x. decided c ++ x) (sym (e (omega (arith, few))))
+
+-- words one behind the other
+pub no-words : (c : List Level) (words : List ℕ) → c ++ flat_map word_cells (take 0 words) ≡ c
+no-words c words = append-nil c
+
+pub next-word : (c : List Level) (words : List ℕ) (i : ℕ) → i < length words
+    → (c ++ flat_map word_cells (take i words)) ++ word_cells (get_or words i 0) ≡ c ++ flat_map word_cells (take (i + 1) words)
+next-word c words i h =
+    flat_map_more word_cells c (take i words) (get_or words i 0) ∙ ap (λ x. c ++ flat_map word_cells x) (sym (take_more words i 0 h))
+
+pub all-words : (words : List ℕ) (i : ℕ) → length words ≤ i → take i words ≡ take (length words) words
+all-words words i h = take_all i words h ∙ sym (take_all (length words) words (omega arith))

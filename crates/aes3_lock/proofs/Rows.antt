@@ -1,17 +1,19 @@
 -- The definitions on a few cells.
-use Rattle.std.proofs.Common.{◌≡◌, List, [], ◌∷◌, ◌++◌, true, false, refl, replicate}
+use Rattle.std.proofs.Common.{◌≡◌, List, [], ◌∷◌, ◌++◌, true, false, refl, replicate, take, ◌+◌}
 use Rattle.aes3_cell.specs.declared.level.Level.{Level}
 use Rattle.aes3_cell.specs.declared.level.Level.TheVariants.{Low, High}
 use Rattle.aes3_slot.specs.declared.mark.Mark.{Mark}
 use Rattle.aes3_slot.specs.declared.mark.Mark.TheVariants.{X, Y, Z}
 use Rattle.aes3_cell.specs.Words.{low_cells}
 use Rattle.aes3_cell.specs.Cells.{line}
-use Rattle.aes3_slot.specs.Slots.{mark_runs, slot_runs}
-use Rattle.aes3_block.specs.Blocks.{mark_at, block_len, block_slots}
+use Rattle.aes3_slot.specs.Slots.{mark_runs, slot_runs, payload_len}
+use Rattle.aes3_block.specs.Blocks.{mark_at, block_len, block_slots, block_cells, zero_block}
 use Rattle.aes3_lock.specs.declared.report.Report.TheVariants.{Fault, Unfinished}
 use Rattle.aes3_lock.specs.declared.report.Why.TheVariants.{Preamble, Biphase}
 use Rattle.aes3_slot.specs.Preambles.{begins_with}
 use Rattle.aes3_lock.specs.Candidates.{keeps, front}
+use Rattle.aes3_lock.specs.Damage.{changed, between_slots, exchanged, places_apart}
+use Rattle.aes3_lock.specs.Remains.{left_of}
 use Rattle.aes3_lock.specs.Outcomes.{outcome}
 use Rattle.aes3_lock.specs.Reports.{reports, outcome_at, decided, decided_at}
 use Rattle.aes3_lock.specs.Preambles.{marks, first_mark}
@@ -43,3 +45,25 @@ odd = line Low (slot_runs Z (replicate 27 false ++ true ∷ [])) ++ line Low (ma
 reports-odd : reports odd ≡ Fault 0 64 Preamble ∷ []
 unfolding reports outcome_at outcome begins_with keeps front mark_at block_len block_slots odd
 reports-odd = refl
+
+-- the first two slots of the zero block with the cells between them changed, and the last two: the second of these is parity
+exchanged-first : take 16 (block_cells Low (exchanged 9 zero_block)) ≡ line Low (3 ∷ 1 ∷ 1 ∷ 3 ∷ 1 ∷ 1 ∷ 1 ∷ 1 ∷ 2 ∷ 2 ∷ [])
+unfolding block_cells zero_block mark_at block_slots payload_len
+exchanged-first = refl
+
+exchanged-last : take 2 (exchanged (64 + 61) zero_block) ≡ replicate 27 false ∷ (replicate 26 false ++ true ∷ []) ∷ []
+unfolding zero_block block_slots payload_len
+exchanged-last = refl
+
+-- cells between slots: not those within one, nor those of which one is of a preamble
+between-rows : (between_slots 7 ≡ false) × (between_slots 9 ≡ true) × (between_slots 10 ≡ false) × (between_slots 61 ≡ true) × (between_slots 63 ≡ false)
+between-rows = (refl, refl, refl, refl, refl)
+
+-- what changed cells leave of the zero block
+left-rows : (left_of [] zero_block ≡ zero_block ∷ []) × (left_of (9 ∷ []) zero_block ≡ []) × (left_of (10 ∷ 11 ∷ []) zero_block ≡ [])
+    × (left_of (9 ∷ 10 ∷ []) zero_block ≡ exchanged 9 zero_block ∷ []) × (left_of (9 ∷ 10 ∷ 24576 ∷ []) zero_block ≡ [])
+left-rows = (refl, refl, refl, refl, refl)
+
+changed-row : places_apart 0 broken (changed 100 (changed 3 broken)) ≡ 3 ∷ 100 ∷ []
+unfolding broken zeros
+changed-row = refl

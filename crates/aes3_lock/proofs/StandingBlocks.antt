@@ -28,7 +28,7 @@ use Rattle.aes3_lock.proofs.BlockPayloads.{payloads-with_parity, right-with_pari
 use Rattle.aes3_block.proofs.Each.{each-payload}
 use Rattle.aes3_block.proofs.CellLaws.{each28}
 
-first-mark : mark_at 0 ≡ Z
+pub first-mark : mark_at 0 ≡ Z
 unfolding mark_at
 first-mark = refl
 

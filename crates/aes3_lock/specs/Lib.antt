@@ -6,8 +6,14 @@ pub mod Steps
 pub mod Following
 pub mod Standing
 pub mod Pieces
+pub mod Damage
+pub mod Remains
 pub mod Laws
+pub mod DistanceLaws
+pub mod DamageLaws
 pub mod Spacing
 pub use Rattle.aes3_cell.specs.Cells
 pub use Rattle.aes3_slot.specs.Slots
 pub use Rattle.aes3_block.specs.Blocks
+pub mod Parts
+pub mod Splits

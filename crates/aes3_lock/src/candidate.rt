@@ -3,12 +3,12 @@
 use aes3_cell::Level;
 
 /// A place at which preamble Z stands, as far as the cells from it on are those of a block.
-#[derive(Clone, Copy)]
-pub(crate) struct Candidate {
+#[derive(Clone, Copy, PartialEq, Eq, Debug)]
+pub struct Candidate {
     /// The place of its first cell.
-    pub(crate) at: u64,
+    pub at: u64,
     /// The level before that cell.
-    pub(crate) before: Level,
+    pub before: Level,
     /// The level before the subframe of the next cell.
-    pub(crate) level: Level,
+    pub level: Level,
 }

@@ -4,6 +4,16 @@ pub mod spacing;
 
 ghost use Rattle.aes3_lock.specs.Laws.{CandidateWhereZStands, WholeWhereBlockStands, BlockTellsLevel, MarkedWhereSubframesStand, ViableIfEachKeeps, ViableIfFrontIsAll, FaultWhereViableEnds, FaultWhereUnclosed, FaultWithinBlock, UnfinishedWhereViable, DecidedAreFiltered, DecidedStand, ZStandsOnce, BlocksNeverOverlap, BlocksAreAllStanding, MarksAreAllStanding, MarksAreTrue, BlocksAreWhole, StreamGivesBlocks, StreamsDiffer, NormalIsFixed, NormalTellsBlocks};
 
+mod damage;
+mod splitting;
+
+pub use damage::{
+    blocks_are_far_apart, blocks_stand_by_their_cells, changes_tell_the_block,
+    few_changes_make_no_block, one_changed_cell, one_inserted_cell, one_lost_cell,
+    subframes_are_balanced, two_changed_cells,
+};
+pub use splitting::reports_join;
+
 /// A candidate begins exactly where preamble Z stands, in either polarity.
 pub fn candidate_where_z_stands()
     ensures { CandidateWhereZStands }

@@ -2,9 +2,12 @@
 #![tactic(auto)]
 
 mod candidate;
+#[cfg(test)]
+mod damage_tests;
 pub mod laws;
 mod lock;
 mod outcome;
+mod parts;
 mod recent;
 mod report;
 mod rule;
@@ -14,7 +17,9 @@ mod subframe;
 #[cfg(test)]
 mod tests;
 
+pub use candidate::Candidate;
 pub use lock::Lock;
+pub use parts::LockParts;
 pub use report::{Ending, Pushed, Report, Why};
 pub use scan::Scan;
 pub use slow::reports_of;

@@ -1,6 +1,7 @@
 //! The lock.
 use crate::candidate::Candidate;
 use crate::outcome::{SLOTS, ending_at, left_report, no_slots, report_with};
+use crate::parts::LockParts;
 use crate::recent::{PREAMBLE_CELLS, candidate_in, last_cell, with_cell};
 use crate::report::{Ending, Pushed, Report};
 use crate::rule::{BLOCK_CELLS, SUBFRAME_CELLS, mark_of, may_stand};
@@ -38,7 +39,8 @@ impl Model for Lock {
     ghost invariant = { λ k. ForSome k.candidate (λ t. t.at ≤ k.seen) };
 }
 
-ghost use Rattle.std.specs.Prelude.{◌≡◌, ◌≢◌, ◌<◌, ◌≤◌, ◌+◌, ◌%◌, ◌^◌, ◌&&◌, true, false, None, Some, List, [], ◌∷◌, ◌++◌, drop, length, nat_lt, option_map, option_to_list};
+ghost use Rattle.std.specs.Prelude.{◌≡◌, ◌≢◌, ◌<◌, ◌≤◌, ◌+◌, ◌*◌, ◌%◌, ◌^◌, ◌&&◌, true, false, None, Some, List, [], ◌∷◌, ◌++◌, drop, get_or, length, nat_lt, option_map, option_to_list, take};
+ghost use Rattle.std.specs.List.{flat_map};
 ghost use Rattle.std.specs.Option.{ForSome};
 ghost use Rattle.aes3_cell.specs.declared.level.Level.{Level};
 ghost use Rattle.aes3_cell.specs.Words.{level_of, low_cells, word_cells};
@@ -46,6 +48,7 @@ ghost use Rattle.aes3_slot.specs.Rules.{rule};
 ghost use Rattle.aes3_block.specs.Blocks.{block_len, mark_at};
 ghost use Rattle.aes3_lock.specs.Reports.{decided, open_at, reports};
 ghost use Rattle.aes3_lock.specs.Following.{BeginsIn, Follows, Stops, report_in};
+ghost use Rattle.aes3_lock.specs.Parts.{parts_state};
 
 /// Whether a cell behind `previous` goes on with a candidate, at whose `offset` it stands.
 fn goes_on(candidate: Candidate, offset: u64, cell: Level, previous: Level) -> bool
@@ -66,6 +69,36 @@ impl Lock {
             candidate: None,
             subframe: 0,
             slots: no_slots(),
+        }
+    }
+
+    /// The lock of what another lock kept.
+    pub fn of_parts(parts: LockParts) -> Lock
+        requires { ForSome parts.candidate (λ t. t.at ≤ parts.seen) }
+        ensures { result ≡ parts_state parts }
+    {
+        let slots = parts.slots;
+        Lock {
+            seen: parts.seen,
+            recent: parts.recent,
+            candidate: parts.candidate,
+            subframe: parts.subframe,
+            slots,
+        }
+    }
+
+    /// All that it keeps.
+    pub fn parts(&self) -> LockParts
+        ensures state { parts_state result ≡ self.now }
+        ensures placed { ForSome result.candidate (λ t. t.at ≤ result.seen) }
+    {
+        let slots = self.slots;
+        LockParts {
+            seen: self.seen,
+            recent: self.recent,
+            candidate: self.candidate,
+            subframe: self.subframe,
+            slots,
         }
     }
 
@@ -184,6 +217,30 @@ impl Lock {
             level,
         });
         true
+    }
+
+    /// Takes the words from the front, the first cell of each in its lowest bit, that decide no report, and answers how many.
+    ///
+    /// It is `take_word` for each of them: the next, if there is one, decides a report or begins a block.
+    pub fn take_words(&mut self, words: &[u64]) -> usize
+        requires { self.old.seen + 64 * length words.now ≤ 2 ^ 43 }
+        ensures within { result ≤ length words.now }
+        ensures seen { self.new.seen ≡ self.old.seen + 64 * result }
+        ensures follows { (cells : List Level) → Follows self.old cells
+            → Follows self.new (cells ++ flat_map word_cells (take result words.now)) }
+        ensures none { (cells : List Level) → Follows self.old cells
+            → decided (cells ++ flat_map word_cells (take result words.now)) ≡ decided cells }
+        ensures stops { result < length words.now → (cells : List Level) → Follows self.new cells
+            → ForSome self.new.candidate (λ t. open_at (drop t.at (cells ++ word_cells (get_or words.now result 0))) ≡ false) }
+        ensures begins { result < length words.now → self.new.candidate ≡ None
+            → BeginsIn (drop 1 self.new.recent ++ word_cells (get_or words.now result 0)) }
+    {
+        for (taken, word) in words.iter().enumerate() {
+            if !self.take_word(*word) {
+                return taken;
+            }
+        }
+        words.len()
     }
 
     /// Takes the first `len` cells of a word into the last eight.

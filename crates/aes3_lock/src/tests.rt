@@ -24,7 +24,7 @@ enum Line {
 const LINES: usize = 16;
 
 /// Many more cells than a test has.
-const MANY: u64 = 1 << 40;
+pub(crate) const MANY: u64 = 1 << 40;
 
 /// The bits of slots 4 to 31 of a subframe whose parity bit alone is set, and wrong.
 const ODD: u32 = 1 << 27;
@@ -61,16 +61,20 @@ fn add(cells: &mut Vec<Level>, word: u64, from: u32, to: u32) -> Result<(), Allo
     Ok(())
 }
 
-/// The subframe `line` of the zero block after a level.
-fn zeros(line: usize, before: Level) -> u64 {
-    let mark = if line == 0 {
+/// The preamble of the subframe `line` of a block.
+pub(crate) fn mark_of(line: usize) -> Mark {
+    if line == 0 {
         Mark::Z
     } else if line % 2 == 1 {
         Mark::Y
     } else {
         Mark::X
-    };
-    slots_cells(before, mark, 0)
+    }
+}
+
+/// The subframe `line` of the zero block after a level.
+fn zeros(line: usize, before: Level) -> u64 {
+    slots_cells(before, mark_of(line), 0)
 }
 
 /// Adds the subframes `from` to `to` of the zero block after a level.
@@ -383,6 +387,16 @@ fn fourteen_reports_within_64_cells(rt: HostRuntime) {
     assert_eq!(rt; decided_count(cells.get(..64).unwrap_or(&[])), 0);
 }
 
+/// Run with each allocation refused in turn, this shows that the slow form answers its error or the same reports.
+#[test]
+fn refused_memory_is_told(rt: HostRuntime) {
+    if let Ok(cells) = dense_word(rt.alloc())
+        && let Ok(lines) = by_places(rt.alloc(), &cells)
+    {
+        assert!(rt; lines == by_lock(&cells));
+    }
+}
+
 #[test]
 fn no_candidates(rt: HostRuntime) {
     for word in [0, u64::MAX, 0x5555_5555_5555_5555] {
@@ -539,14 +553,16 @@ fn decided_count(cells: &[Level]) -> usize {
 
 #[test]
 fn nothing_decided_before_the_end(rt: HostRuntime) {
-    let cells = zero_block(rt.alloc(), Level::Low).expect(&rt, "memory");
+    let mut cells = zero_block(rt.alloc(), Level::Low).expect(&rt, "memory");
     assert_eq!(rt; decided_count(&cells), 0);
+    cells.push(Level::High).expect(&rt, "memory");
+    assert_eq!(rt; decided_count(&cells), 1, "by the cell behind the block");
     let cells = wrong_first(rt.alloc(), Level::High).expect(&rt, "memory");
     assert_eq!(rt; decided_count(&cells), 0);
 }
 
 /// The next of a row of numbers (xorshift).
-fn next(number: u64) -> u64 {
+pub(crate) fn next(number: u64) -> u64 {
     let number = number ^ (number << 13);
     let number = number ^ (number >> 7);
     number ^ (number << 17)

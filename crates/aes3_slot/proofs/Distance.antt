@@ -108,7 +108,7 @@ two-apart Z Y Low High h = (0, 1, lit< tt, lit< tt, λ e. cc, λ e. cc)
 two-apart Z Y High Low h = (0, 1, lit< tt, lit< tt, λ e. cc, λ e. cc)
 
 -- cell k of the preamble of subframe j
-own-cell : (own : ℕ → Mark) (s : Level) (c : List Level) → AllKept own s c → (j k : ℕ) → 64 * j + 8 ≤ length c → k < 8
+pub own-cell : (own : ℕ → Mark) (s : Level) (c : List Level) → AllKept own s c → (j k : ℕ) → 64 * j + 8 ≤ length c → k < 8
     → at c (64 * j + k) ≡ shape (own j) k (before s c (64 * j))
 own-cell own s c a j k r h =
     let x : (64 * j + k) / 64 ≡ j = omega arith in

@@ -18,3 +18,4 @@ pub mod Taken
 pub mod Windows
 pub mod Beginnings
 pub mod WordMarks
+pub mod EightWords

@@ -1,17 +1,17 @@
 -- The parity bit, and the level after a subframe.
 use Rattle.std.proofs.Common.{◌≡◌, ℕ, zero, suc, ◌-◌, ◌%◌, ◌^◌, ◌<◌, min, List, [], ◌∷◌, ◌++◌, Bool, true, false, not, eqb, refl, length, length-append, ap, ap₂, ◌∙◌, sym, arith}
-use Rattle.std.specs.Prelude.{bit_and, count_ones}
+use Rattle.std.specs.Prelude.{bit_and, count_ones, if◌then◌else◌}
 use Rattle.std.specs.Int.{bit_at}
 use Rattle.std.proofs.lemmas.List.{same_from_push}
 use Rattle.std.proofs.lemmas.Nat.Bits.{bit_at_and, bit_at-lt, bit_at_ones}
 use Rattle.aes3_cell.specs.declared.level.Level.{Level}
-use Rattle.aes3_cell.specs.Cells.{after, line}
+use Rattle.aes3_cell.specs.Cells.{after, line, other}
 use Rattle.aes3_cell.proofs.Runs.{other_ne}
 use Rattle.aes3_slot.specs.declared.mark.Mark.{Mark}
 use Rattle.aes3_slot.specs.Bits.{low_bits, odd_ones}
 use Rattle.aes3_slot.specs.Slots.{slot_runs, slots_len, payload_len, with_parity, IsPayload}
 use Rattle.aes3_slot.specs.Turns.{turned}
-use Rattle.aes3_slot.specs.Rules.{before}
+use Rattle.aes3_slot.specs.Rules.{at, before}
 use Rattle.aes3_slot.specs.Fronts.{with_some_parity}
 use Rattle.aes3_slot.proofs.Bits.{low_bits-suc, low_bits-same, odd_ones-low_bits}
 use Rattle.aes3_slot.proofs.Subframes.{after-slots, odd_ones-push, odd_ones-with_parity, xor}
@@ -90,6 +90,16 @@ pub length-some : (right : Bool) (bits : List Bool) → IsPayload bits → lengt
 unfolding slots_len payload_len
 length-some true bits h = let e = length-append bits (odd_ones bits ∷ []) in omega (arith, e, h)
 length-some false bits h = let e = length-append bits (not (odd_ones bits) ∷ []) in omega (arith, e, h)
+
+-- the level behind them
+pub some-level : (s : Level) (m : Mark) (bits : List Bool) (right : Bool) → IsPayload bits
+    → at (line s (slot_runs m (with_some_parity right bits))) 63 ≡ (if right then s else other s)
+some-level s m bits right h =
+    last-slots s m (with_some_parity right bits) (length-some right bits h) ∙ ap (λ b. turned b s) (odd_ones-some right bits) ∙ go right
+  where
+    go : (right : Bool) → turned (not right) s ≡ (if right then s else other s)
+    go true = refl
+    go false = refl
 
 -- a number of 28 bits taken apart
 pub split-word : (n w : ℕ) → w < 2 ^ suc n → low_bits (suc n) w ≡ with_some_parity (eqb (count_ones w % 2) 0) (low_bits n (bit_and w (2 ^ n - 1)))

@@ -26,7 +26,7 @@ last-word : (w next : ℕ) → words_with_seven (w ∷ []) next ≡ with_seven w
 unfolding with_seven
 last-word w next = ap (λ c. c ++ low_cells 7 next) (append-nil (word_cells w))
 
-word-mark : (words : List ℕ) (next i k b : ℕ) → i < length words → k < 64 → (i + 1 < length words → b ≡ get_or words (i + 1) 0) → (length words ≤ i + 1 → b ≡ next)
+pub word-mark : (words : List ℕ) (next i k b : ℕ) → i < length words → k < 64 → (i + 1 < length words → b ≡ get_or words (i + 1) 0) → (length words ≤ i + 1 → b ≡ next)
     → begins_with Z (drop k (with_seven (get_or words i 0) b)) ≡ begins_with Z (drop (64 * i + k) (words_with_seven words next))
 word-mark [] next i k b h g inner outer = absurd (omega arith)
 word-mark (w ∷ []) next zero k b h g inner outer =

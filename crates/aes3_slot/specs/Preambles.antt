@@ -1,5 +1,6 @@
 -- Preambles where cells begin, and in a word of cells.
-use Rattle.std.specs.Prelude.{ℕ, List, [], ◌∷◌, ◌++◌, Bool, true, false, ◌&&◌, ◌||◌, ◌+◌, take}
+use Rattle.std.specs.Prelude.{ℕ, List, [], ◌∷◌, ◌++◌, Bool, true, false, ◌&&◌, ◌||◌, ◌≡◌, ◌+◌, ◌*◌, ◌^◌, ◌<◌, length, take, drop, get_or, if◌then◌else◌}
+use Rattle.std.specs.Int.{bit_at}
 use Rattle.std.specs.List.{flat_map}
 use Rattle.aes3_cell.specs.declared.level.Level.{Level}
 use Rattle.aes3_cell.specs.Cells.{line, other}
@@ -38,3 +39,14 @@ words_with_seven words next = flat_map word_cells words ++ low_cells 7 next
 -- the 64 cells of a word and seven behind them, as many as a preamble needs that begins with the last
 unfoldable pub with_seven : ℕ → ℕ → List Level
 with_seven word next = word_cells word ++ low_cells 7 next
+
+-- bit k of number i of eight says whether
+pub record InLanes (lanes : List ℕ) (test : ℕ → ℕ → Bool) : Type 0 where
+  pub count : length lanes ≡ 8
+  pub fit : (i : ℕ) → i < 8 → get_or lanes i 0 < 2 ^ 64
+  pub bits : (i k : ℕ) → i < 8 → k < 64 → bit_at (get_or lanes i 0) k ≡ (if test i k then 1 else 0)
+
+-- where the preambles of blocks begin in the first words is told
+abbrev pub MarksAreTold : List ℕ → ℕ → List ℕ → ℕ → Type 0
+MarksAreTold words next out n =
+    (i k : ℕ) → i < n → k < 64 → bit_at (get_or out i 0) k ≡ (if begins_with Z (drop (64 * i + k) (words_with_seven words next)) then 1 else 0)

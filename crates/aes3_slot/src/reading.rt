@@ -2,10 +2,11 @@
 
 ghost use Rattle.std.specs.Prelude.{◌≡◌, ℕ, Bool, true, false, ◌<◌, ◌≤◌, ◌+◌, ◌*◌, ◌^◌, drop, take, if◌then◌else◌, IfOk, IfErr};
 ghost use Rattle.std.specs.Int.{bit_at};
-ghost use Rattle.aes3_cell.specs.Cells.{line};
+ghost use Rattle.aes3_cell.specs.Cells.{line, other};
 ghost use Rattle.aes3_cell.specs.Words.{word_cells};
 ghost use Rattle.aes3_slot.specs.Slots.{payload_bits, slot_runs, slots_bits, subframe_runs};
 ghost use Rattle.aes3_slot.specs.Reading.{read_bits};
+ghost use Rattle.aes3_slot.specs.Rules.{at};
 ghost use Rattle.aes3_slot.specs.Fronts.{IsFrontOf, IsLawfulFrontOf, stands, with_some_parity};
 
 use crate::mark::Mark;
@@ -80,13 +81,14 @@ pub fn begins_subframe(before: Level, mark: Mark, cells: u64, len: u32) -> bool
 }
 
 /// The payload of the 64 cells of a subframe with this preamble after the level `before`, and whether its parity
-/// bit is right.
+/// bit is right. The last cell has the level `before` again where it is right, else the other.
 ///
 /// # Errors
 /// The first cell at which the cells so far begin no such subframe, whatever its parity bit.
 pub fn take_either(before: Level, mark: Mark, cells: u64) -> Result<(u32, bool), Place>
     ensures ok { IfOk result (λ taken. word_cells cells ≡ line before (slot_runs mark (with_some_parity taken.1 (payload_bits taken.0)))) }
     ensures range { IfOk result (λ taken. taken.0 < 2 ^ 27) }
+    ensures level { IfOk result (λ taken. at (word_cells cells) 63 ≡ (if taken.1 then before else other before)) }
     ensures owed { (payload : ℕ) (right : Bool) → payload < 2 ^ 27
         → word_cells cells ≡ line before (slot_runs mark (with_some_parity right (payload_bits payload)))
         → result ≡ Ok (payload, right) }

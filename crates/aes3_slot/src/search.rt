@@ -1,9 +1,11 @@
 //! Preambles in 64 cells at once (AES3-3; IEC 60958-1).
 
-ghost use Rattle.std.specs.Prelude.{◌≡◌, ℕ, ◌+◌, ◌*◌, ◌<◌, ◌&&◌, not, length, get_or, drop, if◌then◌else◌};
+ghost use Rattle.std.specs.Prelude.{◌≡◌, ℕ, ◌+◌, ◌*◌, ◌<◌, ◌≤◌, ◌&&◌, not, length, get_or, drop, slice_index_or, if◌then◌else◌};
 ghost use Rattle.std.specs.Int.{bit_at};
 ghost use Rattle.aes3_slot.specs.declared.mark.Mark.TheVariants.{Z};
-ghost use Rattle.aes3_slot.specs.Preambles.{begins_with, begins_with_any, unlike_at, with_seven, words_with_seven};
+ghost use Rattle.aes3_slot.specs.Preambles.{begins_with, begins_with_any, unlike_at, with_seven, words_with_seven, InLanes, MarksAreTold};
+
+use std::simd::prelude::*;
 
 /// The cells that differ from the cell `distance` behind them, each a one.
 fn unlike(cells: u64, next: u64, distance: u32) -> u64
@@ -47,6 +49,42 @@ pub fn preambles(cells: u64, next: u64) -> u64
     beginnings(cells, next) & (x | y | z)
 }
 
+/// `unlike` of eight words at once, each with the cells behind it.
+fn unlike_of_eight(cells: u64x8, next: u64x8, distance: u64) -> u64x8
+    requires { (0 < distance) × (distance < 8) }
+    ensures { InLanes result (λ i k. unlike_at (with_seven (slice_index_or cells i 0) (slice_index_or next i 0)) k distance) }
+{
+    cells ^ (cells >> u64x8::splat(distance) | next << u64x8::splat(64 - distance))
+}
+
+/// `block_preambles` of eight words at once, each with the cells behind it.
+fn block_preambles_of_eight(cells: u64x8, next: u64x8) -> u64x8
+    ensures { InLanes result (λ i k. begins_with Z (drop k (with_seven (slice_index_or cells i 0) (slice_index_or next i 0)))) }
+{
+    !unlike_of_eight(cells, next, 1)
+        & !unlike_of_eight(cells, next, 2)
+        & (unlike_of_eight(cells, next, 3) & unlike_of_eight(cells, next, 7))
+        & (!unlike_of_eight(cells, next, 4)
+            & (unlike_of_eight(cells, next, 5) & unlike_of_eight(cells, next, 6)))
+}
+
+/// `find_marks` of the first words, eight at once, as far as all eight have a word behind them; answers how many.
+fn find_marks_of_eights(words: &[u64], next: u8, out: &mut [u64]) -> usize
+    requires { length out.old ≡ length words.now }
+    ensures len { length out.new ≡ length words.now }
+    ensures within { result ≤ length words.now }
+    ensures marks { MarksAreTold words.now next out.new result }
+{
+    let mut i = 0;
+    while i + 9 <= words.len() {
+        let cells = u64x8::from_slice(&words[i..]);
+        let behind = u64x8::from_slice(&words[i + 1..]);
+        block_preambles_of_eight(cells, behind).copy_to_slice(&mut out[i..]);
+        i += 8;
+    }
+    i
+}
+
 /// Where the preamble of a block begins in words of 64 cells: bit `k` of `out[i]` is one exactly where it stands, in either
 /// polarity, in the eight cells from cell `64 i + k` on. The lowest seven bits of `next` are the cells behind the last word.
 pub fn find_marks(words: &[u64], next: u8, out: &mut [u64])
@@ -55,11 +93,12 @@ pub fn find_marks(words: &[u64], next: u8, out: &mut [u64])
     ensures marks { (i k : ℕ) → i < length words.now → k < 64
         → bit_at (get_or out.new i 0) k ≡ (if begins_with Z (drop (64 * i + k) (words_with_seven words.now next)) then 1 else 0) }
 {
-    for (i, word) in words.iter().enumerate() {
+    let told = find_marks_of_eights(words, next, out);
+    for i in told..words.len() {
         let behind = match words.get(i + 1) {
             Some(behind) => *behind,
             None => u64::from(next),
         };
-        out[i] = block_preambles(*word, behind);
+        out[i] = block_preambles(words[i], behind);
     }
 }

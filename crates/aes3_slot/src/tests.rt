@@ -1,6 +1,6 @@
 //! Outside vectors, and the reader against a plain loop over the cells.
 
-ghost use Rattle.std.specs.Prelude.{◌<◌};
+ghost use Rattle.std.specs.Prelude.{◌<◌, ◌≤◌};
 
 use crate::mark::Mark;
 use crate::preamble::match_mark;
@@ -8,6 +8,7 @@ use crate::reading::{Place, take_either, take_subframe};
 use crate::search::{block_preambles, find_marks, preambles};
 use crate::subframe::subframe_cells;
 use aes3_cell::Level;
+use std::process::Abort;
 
 const ZEROS: u64 = 0x3333_3333_3333_3317;
 
@@ -173,28 +174,38 @@ fn low_octet(word: u64) -> u8 {
     (word % 256) as u8
 }
 
+/// A preamble of a block in word `at` of `len`, among cells that are all as before it.
+fn told_across_words(rt: &impl Abort, len: usize, at: usize, shift: u32, before: u64)
+    requires len { len < 18 }
+    requires at { at < len }
+    requires shift { (57 ≤ shift) × (shift < 64) }
+{
+    let mut words = [before; 17];
+    words[at] = before ^ BLOCK_PREAMBLE << shift;
+    let cut = before ^ BLOCK_PREAMBLE >> (64 - shift);
+    if at + 1 < len {
+        words[at + 1] = cut;
+    }
+    let next = low_octet(if at + 1 < len { before } else { cut });
+    let mut out = [1; 17];
+    find_marks(&words[..len], next, &mut out[..len]);
+    for (i, places) in out.iter().enumerate() {
+        let expected = if i == at {
+            1 << shift
+        } else {
+            u64::from(i >= len)
+        };
+        assert_eq!(rt; *places, expected, "{i} of {len}");
+    }
+}
+
 #[test]
 fn preambles_of_blocks_across_words(rt: HostRuntime) {
     for len in 1..18 {
         for at in 0..len {
             for shift in 57..64_u32 {
-                let mut words = [0; 17];
-                words[at] = BLOCK_PREAMBLE << shift;
-                let cut = BLOCK_PREAMBLE >> (64 - shift);
-                if at + 1 < len {
-                    words[at + 1] = cut;
-                }
-                let next = if at + 1 < len { 0 } else { low_octet(cut) };
-                let mut out = [1; 17];
-                find_marks(&words[..len], next, &mut out[..len]);
-                for (i, places) in out.iter().enumerate() {
-                    let expected = if i == at {
-                        1 << shift
-                    } else {
-                        u64::from(i >= len)
-                    };
-                    assert_eq!(rt; *places, expected);
-                }
+                told_across_words(&rt, len, at, shift, 0);
+                told_across_words(&rt, len, at, shift, u64::MAX);
             }
         }
     }

@@ -1,3 +1,4 @@
 pub mod Tables
 pub mod RunLines
 pub mod Scans
+pub mod StatusFlips

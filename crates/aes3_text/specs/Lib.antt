@@ -5,3 +5,4 @@ pub mod Professional
 pub mod Consumer
 pub mod StatusLines
 pub mod Runs
+pub mod Laws

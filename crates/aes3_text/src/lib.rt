@@ -5,6 +5,7 @@
 mod checking;
 mod consumer;
 mod fields;
+pub mod laws;
 mod line;
 mod mark;
 mod professional;

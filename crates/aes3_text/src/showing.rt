@@ -73,7 +73,9 @@ pub fn show<S: Source, T: Sink>(
         → Grew (T.taken sink.old) (T.taken sink.new) (status_lines (blocks (cells_of input b)))) }
     ensures input { IfOk result (λ _. (b : List ℕ) → Told (S.given source.old) (S.given source.new) b → IsInput input b) }
     ensures counts { IfOk result (λ counts. (b : List ℕ) → Told (S.given source.old) (S.given source.new) b → counts ≡ counts_of input b) }
+    ensures fits { IfOk result (λ _. (b : List ℕ) → Told (S.given source.old) (S.given source.new) b → length b ≤ max_bytes) }
     ensures ended { IfOk result (λ _. IsTrue (S.has_ended source.new)) }
+    ensures quiet { IfOk result (λ _. (S.failed source.new ≡ S.failed source.old) × (T.failed sink.new ≡ T.failed sink.old)) }
 
     // It owes Ok where the input is in its form and fits, and neither end failed.
     ensures owed { (b : List ℕ) → Told (S.given source.old) (S.given source.new) b → IsInput input b → length b ≤ max_bytes
@@ -84,6 +86,7 @@ pub fn show<S: Source, T: Sink>(
         → IsCause input max_bytes b (S.has_ended source.new) error) }
     ensures read { result ≡ Err RunError.Read → S.failed source.new ≡ S.failed source.old + 1 }
     ensures write { result ≡ Err RunError.Write → T.failed sink.new ≡ T.failed sink.old + 1 }
+    ensures sink_quiet { result ≢ Err RunError.Write → T.failed sink.new ≡ T.failed sink.old }
     ensures refused { OnErr result (result ≢ Err RunError.Write → (b : List ℕ) → Told (S.given source.old) (S.given source.new) b
         → Grew (T.taken sink.old) (T.taken sink.new) (status_lines (decided_blocks (cells_before input (take max_bytes b))))) }
     ensures front { result ≡ Err RunError.Write → (b : List ℕ) → Told (S.given source.old) (S.given source.new) b

@@ -9,20 +9,21 @@ use Rattle.aes3.proofs.definitions.command_line.Goals as goal
 
 pub returns : goal.returns
 returns c =
-    let named : IsDefinedAs (new_app (codes "aes3")) c.about.result = (
-      ap app_of_fields c.about.ensures ∙ (ap app_of_fields c.in_ok-bin_name.ensures.0 ∙ c.new.ensures.app),
-      ap (λ (f : Command-F Command). f.has_globals) c.about.ensures
-          ∙ (ap (λ (f : Command-F Command). f.has_globals) c.in_ok-bin_name.ensures.0 ∙ c.new.ensures.local),
-    ) in
     let nameless : IsDefinedAs (on_top (λ s. record s { no_binary_name = true }) (new_app (codes "aes3"))) c.no_binary_name.result = (
-      ap app_of_fields c.no_binary_name.ensures ∙ ap (on_top (λ s. record s { no_binary_name = true })) named.0,
-      ap (λ (f : Command-F Command). f.has_globals) c.no_binary_name.ensures ∙ named.1,
+      ap app_of_fields c.no_binary_name.ensures
+          ∙ ap (on_top (λ s. record s { no_binary_name = true })) (ap app_of_fields c.in_ok-bin_name.ensures.0 ∙ c.command.ensures.0),
+      ap (λ (f : Command-F Command). f.has_globals) c.no_binary_name.ensures
+          ∙ (ap (λ (f : Command-F Command). f.has_globals) c.in_ok-bin_name.ensures.0 ∙ c.command.ensures.1),
     ) in
-    let helpless : IsDefinedAs (on_top (λ s. record s { no_binary_name = true; disable_help_subcommand = true }) (new_app (codes "aes3"))) c.disable_help_subcommand.result = (
-      ap app_of_fields c.disable_help_subcommand.ensures ∙ ap (on_top (λ s. record s { disable_help_subcommand = true })) nameless.0,
-      ap (λ (f : Command-F Command). f.has_globals) c.disable_help_subcommand.ensures ∙ nameless.1,
+    let versioned : IsDefinedAs (on_top (λ s. record s { no_binary_name = true; has_version = true }) (new_app (codes "aes3"))) c.version.result = (
+      ap app_of_fields c.version.ensures ∙ ap (on_top (λ s. record s { has_version = true })) nameless.0,
+      ap (λ (f : Command-F Command). f.has_globals) c.version.ensures ∙ nameless.1,
     ) in
-    let bare : IsDefinedAs (on_top (λ s. record s { no_binary_name = true; disable_help_subcommand = true; subcommand_required = true }) (new_app (codes "aes3"))) c.subcommand_required.result = (
+    let helpless : IsDefinedAs (on_top (λ s. record s { no_binary_name = true; has_version = true; disable_help_subcommand = true }) (new_app (codes "aes3"))) c.disable_help_subcommand.result = (
+      ap app_of_fields c.disable_help_subcommand.ensures ∙ ap (on_top (λ s. record s { disable_help_subcommand = true })) versioned.0,
+      ap (λ (f : Command-F Command). f.has_globals) c.disable_help_subcommand.ensures ∙ versioned.1,
+    ) in
+    let bare : IsDefinedAs (on_top (λ s. record s { no_binary_name = true; has_version = true; disable_help_subcommand = true; subcommand_required = true }) (new_app (codes "aes3"))) c.subcommand_required.result = (
       ap app_of_fields c.subcommand_required.ensures ∙ ap (on_top (λ s. record s { subcommand_required = true })) helpless.0,
       ap (λ (f : Command-F Command). f.has_globals) c.subcommand_required.ensures ∙ helpless.1,
     ) in

@@ -9,7 +9,7 @@ use Rattle.aes3_block.specs.Files.{file}
 use Rattle.aes3_block.proofs.FileLaws.{whole_blocks-file}
 use Rattle.aes3_lock.specs.Reports.{blocks, normal}
 use Rattle.aes3_lock.proofs.NormalStreams.{blocks-lawful}
-use Rattle.aes3_engine.proofs.Told.{ran-told, few-told, told-wrote, told-front, told-owed}
+use Rattle.aes3_engine.proofs.Told.{ran-told, few-told, told-wrote, told-sink_quiet, told-front, told-owed}
 use Rattle.aes3_engine.proofs.EncodingLemmas.{few-blocks}
 use Rattle.aes3_engine.proofs.EncodeRuns.{starts, out-encoded, whole-encoded, told-cause, file-clean, clean-file, end-clean_file, counted, front-encoded}
 use Rattle.aes3_engine.proofs.encoding.encode.Goals as goal
@@ -43,6 +43,9 @@ returns-in-Ok-clause-block_file g c = λ b t. let r = ran-told c.in-Ok.ensures.r
 pub returns-in-Ok-clause-counts : goal.returns-in-Ok-clause-counts
 returns-in-Ok-clause-counts g c = λ b t. let r = ran-told c.in-Ok.ensures.run b t in counted b c.in-Ok.bytes c.convert.new.taker.blocks r.3 r.2.count
 
+pub returns-in-Ok-clause-fits : goal.returns-in-Ok-clause-fits
+returns-in-Ok-clause-fits g c = λ b t. (ran-told c.in-Ok.ensures.run b t).0.clean.short
+
 pub returns-in-Ok-clause-few : goal.returns-in-Ok-clause-few
 returns-in-Ok-clause-few g c = λ b t. few-told c.in-Ok.ensures.run b t
 
@@ -54,6 +57,9 @@ returns-in-Err-clause-owed g c = λ b t h l q k. told-owed c.in-Err.ensures.run 
 
 pub returns-in-Err-clause-cause : goal.returns-in-Err-clause-cause
 returns-in-Err-clause-cause g c = λ b t. told-cause c.args.output c.in-Err.ensures.run b t
+
+pub returns-in-Err-clause-sink_quiet : goal.returns-in-Err-clause-sink_quiet
+returns-in-Err-clause-sink_quiet g c = λ n. told-sink_quiet c.in-Err.ensures.run (λ e. n (ap (λ x. Err x) e))
 
 pub returns-in-Err-clause-refused : goal.returns-in-Err-clause-refused
 returns-in-Err-clause-refused g c = λ n b t. grew-is (out-encoded c.args.output _) (told-wrote c.in-Err.ensures.run (λ e. n (ap (λ x. Err x) e)) b t)

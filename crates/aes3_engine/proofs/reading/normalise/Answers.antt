@@ -1,8 +1,8 @@
 use Rattle.aes3_cell.specs.Written.{written}
 use Rattle.aes3_lock.specs.Reports.{normal}
 use Rattle.aes3_engine.specs.BlockRuns.{begun_stream, decided_blocks}
-use Rattle.aes3_engine.proofs.BlockRuns.{normal-whole, normal-begun, run-piece, tells, run-again}
-use Rattle.aes3_engine.proofs.CellRuns.{run-wrote, run-input, run-counts, run-owed, run-cause, run-refused, run-front, run-few}
+use Rattle.aes3_engine.proofs.BlockRuns.{normal-whole, normal-begun, run-piece, run-damaged, run-lost, tells, run-again}
+use Rattle.aes3_engine.proofs.CellRuns.{run-wrote, run-input, run-counts, run-fits, run-owed, run-cause, run-sink_quiet, run-refused, run-front, run-few}
 use Rattle.aes3_engine.proofs.reading.normalise.Goals as goal
 
 pub returns-clause-normal : goal.returns-clause-normal
@@ -10,6 +10,12 @@ returns-clause-normal g c = run-wrote c.run_blocks.result (λ d. written c.args.
 
 pub returns-clause-piece : goal.returns-clause-piece
 returns-clause-piece g c = run-piece c.args.output c.run_blocks.result c.run_blocks.ensures
+
+pub returns-clause-damaged : goal.returns-clause-damaged
+returns-clause-damaged g c = run-damaged c.args.output c.run_blocks.result c.run_blocks.ensures
+
+pub returns-clause-lost : goal.returns-clause-lost
+returns-clause-lost g c = run-lost c.args.output c.run_blocks.result c.run_blocks.ensures
 
 pub returns-clause-tells : goal.returns-clause-tells
 returns-clause-tells g c = tells c.args.output
@@ -23,11 +29,17 @@ returns-clause-input g c = run-input c.run_blocks.result c.run_blocks.ensures
 pub returns-clause-counts : goal.returns-clause-counts
 returns-clause-counts g c = run-counts c.run_blocks.result c.run_blocks.ensures
 
+pub returns-clause-fits : goal.returns-clause-fits
+returns-clause-fits g c = run-fits c.run_blocks.result c.run_blocks.ensures
+
 pub returns-clause-owed : goal.returns-clause-owed
 returns-clause-owed g c = run-owed c.run_blocks.ensures
 
 pub returns-clause-cause : goal.returns-clause-cause
 returns-clause-cause g c = run-cause c.run_blocks.result c.run_blocks.ensures
+
+pub returns-clause-sink_quiet : goal.returns-clause-sink_quiet
+returns-clause-sink_quiet g c = run-sink_quiet c.run_blocks.result c.run_blocks.ensures
 
 pub returns-clause-refused : goal.returns-clause-refused
 returns-clause-refused g c = run-refused c.run_blocks.result (λ d. begun_stream c.args.output (decided_blocks d)) (normal-begun c.args.output) c.run_blocks.ensures

@@ -2,7 +2,7 @@ use Rattle.aes3_lock.specs.Reports.{blocks}
 use Rattle.aes3_engine.specs.BlockRuns.{begun_stream, decided_blocks, written_stream}
 use Rattle.aes3_engine.specs.Rewriting.{rewritten_blocks}
 use Rattle.aes3_engine.proofs.RewrittenBlocks.{rewritten-whole, rewritten-begun}
-use Rattle.aes3_engine.proofs.CellRuns.{run-wrote, run-input, run-counts, run-owed, run-cause, run-refused, run-front, run-few}
+use Rattle.aes3_engine.proofs.CellRuns.{run-wrote, run-input, run-counts, run-fits, run-owed, run-cause, run-sink_quiet, run-refused, run-front, run-few}
 use Rattle.aes3_engine.proofs.rewriting.rewrite.Goals as goal
 
 pub returns-clause-rewritten : goal.returns-clause-rewritten
@@ -14,11 +14,17 @@ returns-clause-input g c = run-input c.run_blocks.result c.run_blocks.ensures
 pub returns-clause-counts : goal.returns-clause-counts
 returns-clause-counts g c = run-counts c.run_blocks.result c.run_blocks.ensures
 
+pub returns-clause-fits : goal.returns-clause-fits
+returns-clause-fits g c = run-fits c.run_blocks.result c.run_blocks.ensures
+
 pub returns-clause-owed : goal.returns-clause-owed
 returns-clause-owed g c = run-owed c.run_blocks.ensures
 
 pub returns-clause-cause : goal.returns-clause-cause
 returns-clause-cause g c = run-cause c.run_blocks.result c.run_blocks.ensures
+
+pub returns-clause-sink_quiet : goal.returns-clause-sink_quiet
+returns-clause-sink_quiet g c = run-sink_quiet c.run_blocks.result c.run_blocks.ensures
 
 pub returns-clause-refused : goal.returns-clause-refused
 returns-clause-refused g c = run-refused c.run_blocks.result (λ d. begun_stream c.args.output (rewritten_blocks c.args.change.now (decided_blocks d))) (rewritten-begun c.args.output c.args.change.now) c.run_blocks.ensures

@@ -4,9 +4,12 @@ use Rattle.std.proofs.lemmas.Nat.Bits.{bit_at-trailing_zeros, bit_at-zero}
 use Rattle.std.specs.Int.{bit_at}
 use Rattle.aes3_cell.specs.Cells.{line}
 use Rattle.aes3_cell.specs.Words.{word_cells}
-use Rattle.aes3_slot.specs.Slots.{slot_runs}
+use Rattle.aes3_slot.specs.Rules.{at}
+use Rattle.aes3_slot.specs.Slots.{payload_bits, payload_len, slot_runs}
 use Rattle.aes3_slot.specs.Fronts.{stands}
 use Rattle.aes3_slot.proofs.Wrong.{true-from_zero, false-from_one}
+use Rattle.aes3_slot.proofs.Bits.{length-low_bits}
+use Rattle.aes3_slot.proofs.Parity.{some-level}
 use Rattle.aes3_slot.proofs.Fronts.{front-before, front-ends}
 use Rattle.aes3_slot.proofs.Taken.{length-word, word-read, some-stands, some-owed}
 use Rattle.aes3_slot.proofs.reading.take_either.Goals as goal
@@ -42,3 +45,9 @@ returns-clause-owed c = λ payload right h e.
     let own = returns-clause-ok c in
     let same = some-owed c.args.before c.args.mark (word_cells c.args.cells) c.split_parity.result.0 payload c.split_parity.result.1 right c.split_parity.ensures.range h own e in
     ap₂ (λ p r. Ok (p, r)) same.0 same.1
+
+pub returns-clause-level : goal.returns-clause-level
+returns-clause-level c =
+    let p = c.split_parity.result.0 in
+    let right = c.split_parity.result.1 in
+    ap (λ d. at d 63) (returns-clause-ok c) ∙ some-level c.args.before c.args.mark (payload_bits p) right (length-low_bits payload_len p)

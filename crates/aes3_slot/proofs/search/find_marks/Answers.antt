@@ -20,6 +20,6 @@ outer c h = elim c.match-get.branch [
 pub loop-i-preserved : goal.loop-i-preserved
 loop-i-preserved c = record {
   len = length-set c.loop-i.out c.loop-i.i c.block_preambles.result ∙ c.loop-i.invariant.len;
-  told = one-more c.args.words.now c.loop-i.out c.args.next c.loop-i.i c.block_preambles.result c.match-get.behind c.loop-i-test.true c.loop-i.invariant.len
+  told = one-more c.args.words.now c.loop-i.out c.args.next c.loop-i.i c.block_preambles.result c.match-get.behind (omega arith) c.loop-i.invariant.len
       c.block_preambles.ensures (inner c) (outer c) c.loop-i.invariant.told;
 }

@@ -1,0 +1,205 @@
+//! What the program says of itself: the texts of `--help` and `--version`.
+
+/// What `--version` prints behind the program's name.
+pub const VERSION: &str = "0.1.0";
+
+/// The texts of one command.
+#[derive(Clone, Copy)]
+pub struct Texts<'a> {
+    /// One line, which also stands in the list of commands.
+    pub about: &'a str,
+    /// How the command is called, told by its help and where its words are refused.
+    pub usage: &'a str,
+    /// What it reads and writes, its exit statuses and examples.
+    pub more: &'a str,
+}
+
+pub const PROGRAM: Texts<'static> = Texts {
+    about: "An AES3 / IEC 60958 line codec, from standard input to standard output",
+    usage: "aes3 COMMAND [OPTIONS] < INPUT > OUTPUT
+       aes3 check < FILE
+       aes3 COMMAND --help",
+    more: "Input comes from standard input, as in `aes3 check < FILE`: no command takes the
+name of a file. `aes3 COMMAND --help` says what a command reads and writes.
+
+Forms of input and output:
+  cells         half time slots of the line, one level each. They may begin anywhere
+                and in either polarity. As text `0` and `1`, between which line feeds,
+                carriage returns and spaces are skipped; packed eight an octet, the
+                first in the highest bit, and then one octet with the number of unused
+                cells before it
+  block         192 frames of two subframes, 24,576 cells. It is whole where all its
+                cells stand, with right parity, and the next cell, if there is one, ends
+                its last run
+  block file    1,536 bytes a block: 384 words of 4 bytes, lowest first, channel 1 and
+                then channel 2 of each frame. Bit N of a word is time slot N: bits 0
+                to 3 are zero, 4 to 27 the sample, 28 V, 29 U, 30 C, 31 even parity
+
+Exit status:
+  0  done, or help or the version was asked for
+  1  `check` is done and found faults
+  2  the words are no command line; why is told on standard error
+  3  refused; standard error has one line, `aes3: refused NUMBER at PLACE`, or no place
+
+Refusals, with what PLACE counts from 0:
+   1  a byte of cell text is neither a cell nor a separator; bytes
+   2  the block file ends inside a block; PLACE is the number of bytes left over
+   3  bits 0 to 3 of a word are not zero; words
+   4  bit 31 of a word is not the right parity; words
+   5  the input can't be read
+   6  the output can't be written
+   7  the input has more than 2^40 bytes
+   8  memory was refused
+   9  a status on the command line is not 48 hexadecimal digits
+  10  packed cells end wrongly; octets
+
+Examples, three tasks with examples/speech.block of the sources:
+  Make a line of a block file, and look whether it is whole:
+    aes3 encode < speech.block > line.txt
+    aes3 check < line.txt | head -n 3
+  Take the whole blocks of a damaged line, as a clean line and as a block file:
+    sed '48200s/^1/0/' line.txt | tail -c +12538 > damaged.txt
+    aes3 check < damaged.txt | grep -v whole
+    aes3 normal < damaged.txt > clean.txt
+    aes3 decode < damaged.txt > clean.block
+  Read the channel status, and give channel 1 another:
+    aes3 cut 0 1 < line.txt | aes3 show
+    status=85022c0000004a4154480000000000000000000000000000
+    aes3 rewrite --status1 $status --mend-check < line.txt > new.txt",
+};
+
+pub const ENCODE: Texts<'static> = Texts {
+    about: "Write the cells of a block file",
+    usage: "aes3 encode [--packed-out] < BLOCKFILE > CELLS",
+    more: "Reads a block file: 1,536 bytes a block, 384 words of 4 bytes, the lowest first.
+Writes the cells of its blocks as one line in the normal polarity, in which each
+preamble begins 111: as text 64 cells, a subframe, a line.
+
+Exit status: 0 done; 3 refused: 2 the file ends inside a block, 3 a word has bits 0 to
+3 that are not zero, 4 a word has the wrong parity; or as for every command.
+
+Examples:
+    aes3 encode < speech.block > line.txt
+    aes3 encode --packed-out < speech.block | wc -c",
+};
+
+pub const DECODE: Texts<'static> = Texts {
+    about: "Write the whole blocks as a block file",
+    usage: "aes3 decode [--packed-in] < CELLS > BLOCKFILE",
+    more: "Reads cells, begun anywhere and in either polarity.
+Writes the whole blocks that stand in them as a block file, 1,536 bytes each. What is
+cut or damaged is left out, and nothing is told of it: `aes3 check` tells it.
+
+Exit status: 0 done, also where no block was found; 3 refused: 1 a byte is no cell, 10
+packed cells end wrongly; or as for every command.
+
+Examples:
+    aes3 decode < line.txt > line.block
+    aes3 encode --packed-out < speech.block | aes3 decode --packed-in | cmp - speech.block",
+};
+
+pub const NORMAL: Texts<'static> = Texts {
+    about: "Write the whole blocks again, in the normal polarity",
+    usage: "aes3 normal [--packed-in] [--packed-out] < CELLS > CELLS",
+    more: "Reads cells, begun anywhere and in either polarity.
+Writes the cells of the whole blocks that stand in them, one behind the other, as one
+line in the normal polarity: as text 64 cells, a subframe, a line. What is cut or
+damaged is left out, and nothing is told of it: `aes3 check` tells it.
+
+Exit status: 0 done, also where no block was found; 3 refused: 1 a byte is no cell, 10
+packed cells end wrongly; or as for every command.
+
+Examples:
+    tr 01 10 < line.txt | aes3 normal > same.txt
+    aes3 normal --packed-out < line.txt > line.packed",
+};
+
+pub const CHECK: Texts<'static> = Texts {
+    about: "Print each whole block and each fault",
+    usage: "aes3 check [--packed-in] < FILE",
+    more: "Reads cells, begun anywhere and in either polarity.
+Writes a line for each place where a block's first preamble stands. P and C number the
+cells of the input from 0; L is the level before P, 0 or 1.
+  whole at P before L           the block that begins at cell P is whole
+  marked at P before L wrong N  its cells stand, but N of its subframes have wrong parity
+  fault at P cell C preamble    cell C is not that of the preamble that is due there
+  fault at P cell C biphase     cell C does not begin its time slot with a change
+  fault at P cell C unclosed    cell C, behind the block, does not end its last run
+  unfinished at P cells N       the input ends after N cells of a block, without fault
+A block whose first preamble is damaged gets no line, nor do cells outside of blocks.
+
+Exit status: 0 no fault; 1 there are `marked` or `fault` lines; 3 refused: 1 a byte is
+no cell, 10 packed cells end wrongly; or as for every command.
+
+Examples:
+    aes3 check < line.txt | head -n 3
+    aes3 encode < speech.block | sed '48200s/^1/0/' | aes3 check | grep -v whole",
+};
+
+pub const SHOW: Texts<'static> = Texts {
+    about: "Print the channel status of each whole block",
+    usage: "aes3 show [--packed-in] < FILE",
+    more: "Reads cells, begun anywhere and in either polarity.
+Writes two lines for each whole block, channel 1 and then channel 2: `block=N channel=C`,
+N from 0, then `consumer` or `professional`, then each field as `name=value`. A code that
+its table has no word for is printed as `code` and its number. `check` of professional
+use is `good`, `bad`, or `absent` where it does not hold and byte 23 is zero.
+
+Exit status: 0 done, also where no block was found; 3 refused: 1 a byte is no cell, 10
+packed cells end wrongly; or as for every command.
+
+Examples:
+    aes3 cut 0 1 < line.txt | aes3 show
+    aes3 show < line.txt | grep -c rate=48000",
+};
+
+pub const SCAN: Texts<'static> = Texts {
+    about: "Print each preamble",
+    usage: "aes3 scan [--packed-in] < FILE",
+    more: "Reads cells, begun anywhere and in either polarity.
+Writes a line for each place where the eight cells of a preamble stand, in step with a
+block or not:
+  mark M at P before L  preamble M at cell P, counted from 0, after level L. Z begins a
+                        block, X is channel 1 of its other frames, Y is channel 2
+
+Exit status: 0 done, also where there is none; 3 refused: 1 a byte is no cell, 10 packed
+cells end wrongly; or as for every command.
+
+Examples:
+    aes3 cut 0 1 < line.txt | aes3 scan | head -n 3
+    aes3 scan < line.txt | grep -c 'mark Z'",
+};
+
+pub const CUT: Texts<'static> = Texts {
+    about: "Write COUNT of the whole blocks, from number FROM on",
+    usage: "aes3 cut [--packed-in] [--packed-out] <FROM> <COUNT> < CELLS > CELLS",
+    more: "Reads cells as `aes3 normal` does, to their end.
+Writes the cells of COUNT of the whole blocks in them, or as many as there are, from
+number FROM on, counted from 0, as one line in the normal polarity. A block lasts 192
+frames, 4 milliseconds at 48 kHz.
+
+Exit status: 0 done, also where no block was found; 3 refused: 1 a byte is no cell, 10
+packed cells end wrongly; or as for every command.
+
+Examples:
+    aes3 cut 0 1 < line.txt > first.txt
+    aes3 cut 125 25 < line.txt | aes3 decode | wc -c",
+};
+
+pub const REWRITE: Texts<'static> = Texts {
+    about: "Write the whole blocks with new channel status",
+    usage: "aes3 rewrite [OPTIONS] < CELLS > CELLS",
+    more: "Reads cells as `aes3 normal` does.
+Writes what it would, with the channel status of each block set as the options ask.
+HEX48 is the 24 bytes of a channel's status as 48 hexadecimal digits, byte 0 first. With
+--mend-check byte 23 of each channel whose status is professional then becomes its check
+byte. Without any option the blocks are as they were.
+
+Exit status: 0 done, also where no block was found; 3 refused: 9 a status is not 48
+hexadecimal digits, and nothing is read, 1 a byte is no cell, 10 packed cells end
+wrongly; or as for every command.
+
+Examples:
+    aes3 rewrite --mend-check < line.txt > mended.txt
+    aes3 rewrite --status2 040000020b00000000000000000000000000000000000000 < line.txt > new.txt",
+};

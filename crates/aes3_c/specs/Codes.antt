@@ -1,0 +1,22 @@
+-- Numbers that stand for the variants of an enum.
+use Rattle.std.specs.Prelude.{ℕ, ◌==◌, if◌then◌else◌}
+use Rattle.aes3_block.specs.declared.status.Channel.{Channel}
+use Rattle.aes3_block.specs.declared.status.Channel.TheVariants.{First, Second}
+use Rattle.aes3_status.specs.declared.check.Check.{Check}
+use Rattle.aes3_status.specs.declared.check.Check.TheVariants.{Good, Absent, Bad}
+use Rattle.aes3_lock.specs.declared.report.Why.{Why}
+use Rattle.aes3_lock.specs.declared.report.Why.TheVariants.{Preamble, Biphase, Unclosed}
+
+-- how a status stands to its check byte
+abbrev pub check_code : Check → ℕ
+check_code Good = 0
+check_code Absent = 1
+check_code Bad = 2
+
+-- why a cell refutes a candidate
+abbrev pub why_of_code : ℕ → Why
+why_of_code n = if n == 0 then Preamble else if n == 1 then Biphase else Unclosed
+
+-- the channel of a number
+abbrev pub channel_of : ℕ → Channel
+channel_of n = if n == 1 then First else Second

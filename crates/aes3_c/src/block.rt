@@ -1,0 +1,63 @@
+//! Blocks.
+
+ghost use Rattle.std.specs.Prelude.{◌≡◌, ◌≢◌, ◌<◌, ◌≤◌, ℕ, true, false, get_or, map};
+ghost use Rattle.std.specs.List.{flat_map};
+ghost use Rattle.aes3_cell.specs.Words.{level_of, word_cells};
+ghost use Rattle.aes3_block.specs.Blocks.{block_cells};
+ghost use Rattle.aes3_block.specs.Files.{is_lawful, payload_of};
+ghost use Rattle.aes3_block.specs.Statuses.{status_of};
+ghost use Rattle.aes3_c.specs.Codes.{channel_of};
+
+use crate::level::level_of_byte;
+use aes3_block::{Block, Channel, fill_block_cells};
+
+/// Puts the cells of the block of these words, behind a cell of the level `before`, into `cells`, a word a subframe.
+/// Answers 384, or the number of the first word that no block file may have; then no cell is put.
+#[unsafe(no_mangle)]
+#[tactic(auto, unfolding(aes3_block::specs::Blocks::block_slots))]
+pub extern "C" fn aes3_encode_block(words: &[u32; 384], before: u8, cells: &mut [u64; 384]) -> u32
+    ensures cells { result ≡ 384 → flat_map word_cells cells.new ≡ block_cells (level_of before) (map payload_of words.now) }
+    ensures within { result ≤ 384 }
+    ensures lawful { (i : ℕ) → i < result → is_lawful (get_or words.now i 0) ≡ true }
+    ensures unlawful { result ≢ 384 → is_lawful (get_or words.now result 0) ≡ false }
+    ensures left { result ≢ 384 → cells.new ≡ cells.old }
+{
+    match Block::try_of_words(words) {
+        Ok(block) => {
+            fill_block_cells(level_of_byte(before), &block, cells);
+            384
+        }
+        Err(place) => place as u32,
+    }
+}
+
+/// The channel of a number: 1 for the first, else the second.
+fn channel_of_number(number: u8) -> Channel
+    ensures { result ≡ channel_of number }
+{
+    if number == 1 {
+        Channel::First
+    } else {
+        Channel::Second
+    }
+}
+
+/// Puts the 24 bytes of a channel's status, of the block of these words, into `status`. Answers 384, or the number of the
+/// first word that no block file may have; then no byte is put.
+#[unsafe(no_mangle)]
+#[tactic(auto, unfolding(aes3_block::specs::Blocks::block_slots))]
+pub extern "C" fn aes3_block_status(words: &[u32; 384], channel: u8, status: &mut [u8; 24]) -> u32
+    ensures status { result ≡ 384 → status.new ≡ status_of (map payload_of words.now) (channel_of channel) }
+    ensures within { result ≤ 384 }
+    ensures lawful { (i : ℕ) → i < result → is_lawful (get_or words.now i 0) ≡ true }
+    ensures unlawful { result ≢ 384 → is_lawful (get_or words.now result 0) ≡ false }
+    ensures left { result ≢ 384 → status.new ≡ status.old }
+{
+    match Block::try_of_words(words) {
+        Ok(block) => {
+            *status = block.channel_status(channel_of_number(channel));
+            384
+        }
+        Err(place) => place as u32,
+    }
+}

@@ -1,0 +1,189 @@
+//! The lock, kept by its caller.
+
+ghost use Rattle.std.specs.Prelude.{◌≡◌, ◌+◌, ◌<◌, ◌≤◌, ◌^◌, None, List, [], ◌++◌, length, take, option_to_list};
+ghost use Rattle.std.specs.Int.{bit_at};
+ghost use Rattle.std.specs.List.{flat_map};
+ghost use Rattle.aes3_cell.specs.declared.level.Level.{Level};
+ghost use Rattle.aes3_cell.specs.Words.{level_of, low_cells, word_cells};
+ghost use Rattle.aes3_lock.specs.Reports.{decided, reports};
+ghost use Rattle.aes3_lock.specs.Following.{Follows};
+ghost use Rattle.aes3_c.specs.States.{candidate_in, state_of, told_in};
+
+use crate::level::{byte_of_level, level_of_byte};
+use crate::report::{Aes3Report, put_none, put_report};
+use aes3_cell::Level;
+use aes3_lock::{Candidate, Lock, LockParts};
+
+/// A lock as plain numbers. Its fields are nobody's but the functions' here.
+#[repr(C)]
+#[derive(Drop)]
+pub struct Aes3Lock {
+    pub seen: u64,
+    pub at: u64,
+    pub subframe: u64,
+    pub slots: [u32; 384],
+    pub recent: u8,
+    pub in_hand: u8,
+    pub before: u8,
+    pub level: u8,
+}
+
+// The header keeps 196 words of 64 bits for it.
+const _: () = prove!(size_of::<Aes3Lock>() == 1568);
+
+const _: () = prove!(align_of::<Aes3Lock>() <= 8);
+
+/// How many cells a lock takes.
+const MOST: u64 = 1 << 43;
+
+fn candidate_of(kept: &Aes3Lock) -> Option<Candidate>
+    ensures { result ≡ candidate_in kept.now }
+{
+    if kept.in_hand == 0 || kept.seen < kept.at {
+        return None;
+    }
+    Some(Candidate {
+        at: kept.at,
+        before: level_of_byte(kept.before),
+        level: level_of_byte(kept.level),
+    })
+}
+
+fn lock_of(kept: &Aes3Lock) -> Lock
+    ensures { result ≡ state_of kept.now }
+{
+    let slots = kept.slots;
+    Lock::of_parts(LockParts {
+        seen: kept.seen,
+        recent: kept.recent,
+        candidate: candidate_of(kept),
+        subframe: kept.subframe,
+        slots,
+    })
+}
+
+fn keep(lock: &Lock, kept: &mut Aes3Lock)
+    ensures { state_of kept.new ≡ lock.now }
+{
+    let parts = lock.parts();
+    kept.seen = parts.seen;
+    kept.recent = parts.recent;
+    kept.subframe = parts.subframe;
+    let slots = parts.slots;
+    kept.slots = slots;
+    match parts.candidate {
+        None => kept.in_hand = 0,
+        Some(candidate) => {
+            kept.in_hand = 1;
+            kept.at = candidate.at;
+            kept.before = byte_of_level(candidate.before);
+            kept.level = byte_of_level(candidate.level);
+        }
+    }
+}
+
+/// Makes a lock that has seen no cell.
+#[unsafe(no_mangle)]
+pub extern "C" fn aes3_lock_init(lock: &mut Aes3Lock)
+    ensures { Follows (state_of lock.new) [] }
+{
+    keep(&Lock::new(), lock);
+}
+
+/// How many cells a lock has seen.
+#[unsafe(no_mangle)]
+pub extern "C" fn aes3_lock_seen(lock: &Aes3Lock) -> u64
+    ensures { result ≡ lock.now.seen }
+{
+    lock.seen
+}
+
+/// Cell `i` of a word.
+fn cell_of_word(word: u64, i: u32) -> Level
+    requires { i < 64 }
+    ensures { result ≡ level_of (bit_at word i) }
+{
+    if word >> i & 1 == 1 {
+        Level::High
+    } else {
+        Level::Low
+    }
+}
+
+/// How many cells of a word a lock that has seen so many takes at most.
+fn most_of(seen: u64, count: u32) -> u32
+    ensures count { result ≤ count }
+    ensures word { result ≤ 64 }
+    ensures room { 0 < result → seen + result ≤ 2 ^ 43 }
+    ensures all { seen + 64 ≤ 2 ^ 43 → count ≤ 64 → result ≡ count }
+{
+    if seen >= MOST {
+        return 0;
+    }
+    u64::from(count.min(64)).min(MOST - seen) as u32
+}
+
+/// Takes the first cells of a word, the earliest in bit 0, up to the first that decides a report and with it, and at most
+/// `count` and 64, and puts that report, if any. Answers how many it took; no lock takes more than 2^43 cells.
+#[unsafe(no_mangle)]
+pub extern "C" fn aes3_lock_push(
+    lock: &mut Aes3Lock,
+    word: u64,
+    count: u32,
+    report: &mut Aes3Report,
+) -> u32
+    ensures within { result ≤ count }
+    ensures word { result ≤ 64 }
+    ensures all { told_in report.new ≡ None → lock.old.seen + 64 ≤ 2 ^ 43 → count ≤ 64 → result ≡ count }
+    ensures follows { (cells : List Level) → Follows (state_of lock.old) cells
+        → Follows (state_of lock.new) (cells ++ low_cells result word) }
+    ensures report { (cells : List Level) → Follows (state_of lock.old) cells
+        → decided (cells ++ low_cells result word) ≡ decided cells ++ option_to_list (told_in report.new) }
+{
+    let most = most_of(lock.seen, count);
+    let mut state = lock_of(lock);
+    for taken in 0..most {
+        let cell = cell_of_word(word, taken);
+        if state.take(cell) {
+            continue;
+        }
+        if let Some(told) = state.push(cell) {
+            put_report(&told, report);
+            keep(&state, lock);
+            return taken + 1;
+        }
+    }
+    put_none(report);
+    keep(&state, lock);
+    most
+}
+
+/// Takes words of 64 cells, the earliest in bit 0, as far as none decides a report. Answers how many it took.
+#[unsafe(no_mangle)]
+pub extern "C" fn aes3_lock_take_words(lock: &mut Aes3Lock, words: &[u64]) -> usize
+    ensures within { result ≤ length words.now }
+    ensures follows { (cells : List Level) → Follows (state_of lock.old) cells
+        → Follows (state_of lock.new) (cells ++ flat_map word_cells (take result words.now)) }
+    ensures none { (cells : List Level) → Follows (state_of lock.old) cells
+        → decided (cells ++ flat_map word_cells (take result words.now)) ≡ decided cells }
+{
+    let mut state = lock_of(lock);
+    let mut taken = 0;
+    while taken < words.len() && state.seen() <= MOST - 64 && state.take_word(words[taken]) {
+        taken += 1;
+    }
+    keep(&state, lock);
+    taken
+}
+
+/// Takes the end of the cells, and puts the report that it decides, if any.
+#[unsafe(no_mangle)]
+pub extern "C" fn aes3_lock_finish(lock: &Aes3Lock, report: &mut Aes3Report)
+    ensures { (cells : List Level) → Follows (state_of lock.now) cells
+        → reports cells ≡ decided cells ++ option_to_list (told_in report.new) }
+{
+    match lock_of(lock).finish() {
+        Some(told) => put_report(&told, report),
+        None => put_none(report),
+    }
+}

@@ -1,0 +1,76 @@
+//! Reports.
+
+ghost use Rattle.std.specs.Prelude.{◌≡◌, Some, None};
+ghost use Rattle.aes3_c.specs.Codes.{why_of_code};
+ghost use Rattle.aes3_c.specs.States.{told_in};
+
+use crate::level::byte_of_level;
+use aes3_lock::{Report, Why};
+
+/// A report, or none. `kind` is 0 for none, 1 for a whole block, 2 for a marked one, 3 for a fault, 4 for the begun block at
+/// the end of the cells.
+#[repr(C)]
+#[derive(Drop)]
+pub struct Aes3Report {
+    /// The place of the block's first cell.
+    pub at: u64,
+    /// Of a fault the cell that refutes the block, of a begun block how many cells of it there are.
+    pub cell: u64,
+    /// Of a whole block its words, as a block file has them.
+    pub words: [u32; 384],
+    /// Of a marked block how many subframes have a wrong parity bit.
+    pub wrong: u16,
+    pub kind: u8,
+    /// Of a whole or a marked block the level before its first cell.
+    pub before: u8,
+    /// Of a fault 0 for a preamble, 1 for biphase, 2 for a block that isn't closed.
+    pub why: u8,
+}
+
+fn byte_of_why(why: Why) -> u8
+    ensures { why_of_code result ≡ why }
+{
+    match why {
+        Why::Preamble => 0,
+        Why::Biphase => 1,
+        Why::Unclosed => 2,
+    }
+}
+
+/// Puts a report.
+pub(crate) fn put_report(report: &Report, out: &mut Aes3Report)
+    ensures { told_in out.new ≡ Some report.now }
+{
+    match report {
+        Report::Whole { at, before, block } => {
+            out.kind = 1;
+            out.at = *at;
+            out.before = byte_of_level(*before);
+            out.words = *block.words();
+        }
+        Report::Marked { at, before, wrong } => {
+            out.kind = 2;
+            out.at = *at;
+            out.before = byte_of_level(*before);
+            out.wrong = *wrong;
+        }
+        Report::Fault { at, cell, why } => {
+            out.kind = 3;
+            out.at = *at;
+            out.cell = *cell;
+            out.why = byte_of_why(*why);
+        }
+        Report::Unfinished { at, cells } => {
+            out.kind = 4;
+            out.at = *at;
+            out.cell = *cells;
+        }
+    }
+}
+
+/// Puts that there is none.
+pub(crate) fn put_none(out: &mut Aes3Report)
+    ensures { told_in out.new ≡ None }
+{
+    out.kind = 0;
+}

@@ -1,0 +1,112 @@
+/* Each call of aes3.h once, with answers that are known. Status 1 where one is another. */
+#include "aes3.h"
+#include <stdio.h>
+#include <string.h>
+
+static int failed;
+
+static void want(int line, int holds) {
+    if (!holds) {
+        fprintf(stderr, "calls.c:%d is not so\n", line);
+        failed = 1;
+    }
+}
+#define WANT(holds) want(__LINE__, (holds))
+
+static uint32_t words[AES3_BLOCK_WORDS];
+static uint64_t cells[AES3_BLOCK_WORDS];
+
+/* Puts a bit of a word, and the parity bit that follows. */
+static void set_bit(uint32_t *word, int slot, int bit) {
+    uint32_t ones = 0;
+    *word = (*word & ~((uint32_t)1 << slot)) | (uint32_t)bit << slot;
+    for (int i = 4; i < 31; i++)
+        ones += *word >> i & 1;
+    *word = (*word & 0x7FFFFFFF) | (ones & 1) << 31;
+}
+
+/* 48 kHz, two channels, from JATH (AES3-2). */
+static const uint8_t sent[AES3_STATUS_BYTES] = {0x85, 0x02, 0x2C, 0, 0, 0, 'J', 'A', 'T', 'H'};
+
+static void statuses(void) {
+    uint8_t status[AES3_STATUS_BYTES];
+    aes3_professional professional;
+    aes3_consumer consumer;
+    memcpy(status, sent, sizeof status);
+    WANT(aes3_status_check_state(status) == AES3_ABSENT);
+    status[23] = aes3_status_check_byte(status);
+    WANT(aes3_status_check_state(status) == AES3_GOOD);
+    status[23] ^= 0x10;
+    WANT(aes3_status_check_state(status) == AES3_BAD);
+    WANT(!aes3_status_consumer(sent, &consumer));
+    WANT(aes3_status_professional(sent, &professional));
+    WANT(professional.rate == 2 && professional.emphasis == 1 && professional.mode == 2);
+    WANT(professional.aux == 4 && professional.word == 5);
+    WANT(memcmp(professional.origin, "JATH", 4) == 0 && professional.time == 0);
+    status[0] = 0x04;
+    status[3] = 0x02;
+    WANT(!aes3_status_professional(status, &professional));
+    WANT(aes3_status_consumer(status, &consumer));
+    WANT(consumer.copyright == 1 && consumer.rate == 2 && consumer.rest[1] == 'J');
+    for (int frame = 0; frame < 192; frame++)
+        set_bit(&words[2 * frame + 1], 30, sent[frame / 8] >> frame % 8 & 1);
+    WANT(aes3_block_status(words, 2, status) == AES3_BLOCK_WORDS && memcmp(status, sent, sizeof status) == 0);
+    WANT(aes3_block_status(words, 1, status) == AES3_BLOCK_WORDS && status[0] == 0 && status[6] == 0);
+}
+
+static void written(void) {
+    uint8_t line[65], octets[8];
+    uint64_t word = 0;
+    aes3_line_of_word(cells[0], line);
+    /* The preamble of a block behind a low cell. */
+    WANT(memcmp(line, "11101000", 8) == 0 && line[64] == '\n');
+    WANT(aes3_word_of_text(line, &word) && word == cells[0]);
+    line[63] = 'x';
+    WANT(!aes3_word_of_text(line, &word) && word == cells[0]);
+    aes3_octets_of_word(cells[0], octets);
+    WANT(octets[0] == 0xE8 && aes3_word_of_octets(octets) == cells[0]);
+}
+
+/* A block, one with a wrong parity bit, one with a wrong cell, and one that the end cuts. */
+static void locks(void) {
+    static aes3_lock lock, copy;
+    static aes3_report report;
+    aes3_lock_init(&lock);
+    WANT(aes3_lock_push(&lock, cells[0], 64, &report) == 64 && report.kind == AES3_NONE);
+    WANT(aes3_lock_take_words(&lock, cells + 1, AES3_BLOCK_WORDS - 1) == AES3_BLOCK_WORDS - 1);
+    WANT(aes3_lock_seen(&lock) == AES3_BLOCK_CELLS);
+    aes3_lock_finish(&lock, &report);
+    WANT(report.kind == AES3_WHOLE && report.at == 0 && memcmp(report.words, words, sizeof words) == 0);
+    WANT(aes3_lock_take_words(&lock, cells, 1) == 0);
+    WANT(aes3_lock_push(&lock, cells[0], 64, &report) == 1);
+    WANT(report.kind == AES3_WHOLE && report.before == 0 && memcmp(report.words, words, sizeof words) == 0);
+    WANT(aes3_lock_push(&lock, cells[0] >> 1, 63, &report) == 63 && report.kind == AES3_NONE);
+    copy = lock;
+    WANT(aes3_lock_push(&copy, cells[1], 10, &report) == 10 && report.kind == AES3_NONE);
+    aes3_lock_finish(&copy, &report);
+    WANT(report.kind == AES3_UNFINISHED && report.at == AES3_BLOCK_CELLS && report.cell == 74);
+    WANT(aes3_lock_push(&lock, cells[1] ^ 2, 64, &report) == 2);
+    WANT(report.kind == AES3_FAULT && report.at == AES3_BLOCK_CELLS);
+    WANT(report.cell == AES3_BLOCK_CELLS + 65 && report.why == AES3_PREAMBLE);
+    aes3_lock_init(&lock);
+    for (int i = 0; i < AES3_BLOCK_WORDS - 1; i++)
+        WANT(aes3_lock_push(&lock, cells[i], 64, &report) == 64);
+    /* The parity bit of the last subframe is wrong, and nothing else. */
+    WANT(aes3_lock_push(&lock, cells[AES3_BLOCK_WORDS - 1] ^ (uint64_t)1 << 63, 64, &report) == 64);
+    aes3_lock_finish(&lock, &report);
+    WANT(report.kind == AES3_MARKED && report.wrong == 1);
+}
+
+int main(void) {
+    statuses();
+    words[5] ^= 0x80000000;
+    memset(cells, 0x55, sizeof cells);
+    WANT(aes3_encode_block(words, 0, cells) == 5 && cells[0] == 0x5555555555555555);
+    words[5] ^= 0x80000000;
+    WANT(aes3_encode_block(words, 0, cells) == AES3_BLOCK_WORDS);
+    written();
+    locks();
+    if (!failed)
+        puts("each call answers as it should");
+    return failed;
+}

@@ -1,0 +1,85 @@
+/* How much stack each call of aes3.h uses: each runs on a stack of its own that was painted before. Linux. */
+#define _XOPEN_SOURCE 700
+#include "aes3.h"
+#include <stdio.h>
+#include <stdlib.h>
+#include <string.h>
+#include <ucontext.h>
+
+enum { SIZE = 65536, PAINT = 0xA5 };
+
+static unsigned char stack[SIZE];
+static ucontext_t back, there;
+
+static aes3_lock lock;
+static aes3_report report;
+static aes3_professional professional;
+static aes3_consumer consumer;
+static uint32_t words[AES3_BLOCK_WORDS];
+static uint64_t cells[AES3_BLOCK_WORDS], word;
+static uint8_t status[AES3_STATUS_BYTES], line[65];
+
+static void nothing(void) {}
+static void init(void) { aes3_lock_init(&lock); }
+static void seen(void) { word = aes3_lock_seen(&lock); }
+static void begin_block(void) { aes3_lock_push(&lock, cells[0], 64, &report); }
+static void take_words(void) { aes3_lock_take_words(&lock, cells + 1, AES3_BLOCK_WORDS - 1); }
+static void end_block(void) { aes3_lock_push(&lock, cells[0], 64, &report); }
+static void finish(void) { aes3_lock_finish(&lock, &report); }
+static void encode_block(void) { aes3_encode_block(words, 0, cells); }
+static void block_status(void) { aes3_block_status(words, 1, status); }
+static void word_of_text(void) { aes3_word_of_text(line, &word); }
+static void word_of_octets(void) { word = aes3_word_of_octets(status); }
+static void line_of_word(void) { aes3_line_of_word(word, line); }
+static void octets_of_word(void) { aes3_octets_of_word(word, line); }
+static void read_professional(void) { aes3_status_professional(status, &professional); }
+static void read_consumer(void) { aes3_status_consumer(status, &consumer); }
+static void check_byte(void) { status[23] = aes3_status_check_byte(status); }
+static void check_state(void) { status[22] = aes3_status_check_state(status); }
+
+static size_t used(void (*call)(void)) {
+    size_t unused = 0;
+    memset(stack, PAINT, SIZE);
+    getcontext(&there);
+    there.uc_stack.ss_sp = stack;
+    there.uc_stack.ss_size = SIZE;
+    there.uc_link = &back;
+    makecontext(&there, call, 0);
+    swapcontext(&back, &there);
+    while (unused < SIZE && stack[unused] == PAINT)
+        unused++;
+    return SIZE - unused;
+}
+
+/* Tells a call, and fails where it used more than `most`. */
+static int tell(const char *name, void (*call)(void), size_t most) {
+    size_t bytes = used(call) - used(nothing);
+    printf("%-26s %5lu\n", name, (unsigned long)bytes);
+    if (bytes <= most)
+        return 0;
+    fprintf(stderr, "stack: %s used more than %lu bytes\n", name, (unsigned long)most);
+    return 1;
+}
+
+int main(void) {
+    int failed = 0;
+    failed |= tell("aes3_encode_block", encode_block, 2048);
+    failed |= tell("aes3_lock_init", init, 256);
+    failed |= tell("aes3_lock_push, none", begin_block, 8192);
+    failed |= tell("aes3_lock_take_words", take_words, 2048);
+    failed |= tell("aes3_lock_finish, whole", finish, 8192);
+    failed |= report.kind != AES3_WHOLE;
+    failed |= tell("aes3_lock_push, whole", end_block, 8192);
+    failed |= report.kind != AES3_WHOLE;
+    failed |= tell("aes3_lock_seen", seen, 256);
+    failed |= tell("aes3_block_status", block_status, 2048);
+    failed |= tell("aes3_line_of_word", line_of_word, 256);
+    failed |= tell("aes3_word_of_text", word_of_text, 256);
+    failed |= tell("aes3_octets_of_word", octets_of_word, 256);
+    failed |= tell("aes3_word_of_octets", word_of_octets, 256);
+    failed |= tell("aes3_status_professional", read_professional, 256);
+    failed |= tell("aes3_status_consumer", read_consumer, 256);
+    failed |= tell("aes3_status_check_byte", check_byte, 256);
+    failed |= tell("aes3_status_check_state", check_state, 256);
+    return failed;
+}

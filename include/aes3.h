@@ -1,0 +1,207 @@
+/*
+ * aes3.h - the AES3 / IEC 60958 line codec for C, over libaes3_c.a (`rt lib` in crates/aes3_c).
+ *
+ * No function allocates, prints, waits, aborts or keeps anything between calls, and each returns
+ * for all arguments that meet what is said here. The library wants memcpy and memset, and nothing
+ * else. Different locks may be used by different threads at once, one lock by one thread at a time.
+ *
+ * What the caller owes, and nothing checks: no pointer is null; each points to as many objects as
+ * its type says (words of aes3_lock_take_words to `count`), aligned as C wants it; what a function
+ * writes overlaps no other argument of that call; a lock was made by aes3_lock_init, and only the
+ * functions here write it.
+ *
+ * A cell is half of a time slot, low or high. A level is 0 for low; 1, and every other number, for
+ * high. A word of cells is a uint64_t, the earliest of its 64 cells in bit 0, 1 for high.
+ *
+ * A block has 384 words, as in a block file: a word a subframe, channel 1 first. Bit n of a word is
+ * time slot n: bits 0 to 3 are zero, 4 to 27 the audio sample, 28 V, 29 U, 30 C, and 31 P, which
+ * makes the ones in bits 4 to 31 even in number. A word that is so is lawful.
+ *
+ * Stack in bytes that a call used (examples/c/stack.c, x86-64): aes3_lock_push 7,872,
+ * aes3_lock_finish 4,712, aes3_lock_take_words 1,704, aes3_encode_block and aes3_block_status
+ * 1,592, each other 70 at most.
+ */
+#ifndef AES3_H
+#define AES3_H
+
+#include <stdbool.h>
+#include <stddef.h>
+#include <stdint.h>
+
+#ifdef __cplusplus
+extern "C" {
+#endif
+
+enum {
+    AES3_BLOCK_WORDS = 384,   /* words of a block, and words of its cells */
+    AES3_BLOCK_CELLS = 24576, /* cells of a block */
+    AES3_STATUS_BYTES = 24    /* bytes of a channel status */
+};
+
+/* ---- The lock: finds blocks in cells that come one behind the other ---- */
+
+/*
+ * A lock, in memory of its caller. It may be copied by assignment: the copy goes on from there by
+ * itself.
+ */
+typedef struct aes3_lock {
+    uint64_t state[196];
+} aes3_lock;
+
+/* What is told of a place where the preamble of a block stands. */
+enum aes3_kind {
+    AES3_NONE = 0,      /* nothing */
+    AES3_WHOLE = 1,     /* a whole block, all of whose parity bits are right: at, before, words */
+    AES3_MARKED = 2,    /* a whole block with wrong parity bits: at, before, wrong */
+    AES3_FAULT = 3,     /* no block: at, cell, why */
+    AES3_UNFINISHED = 4 /* a block that the end of the cells cuts: at, cell; only of aes3_lock_finish */
+};
+
+/* Why a cell shows that no block stands there. */
+enum aes3_why {
+    AES3_PREAMBLE = 0, /* the preamble of its subframe has the other level there */
+    AES3_BIPHASE = 1,  /* a time slot does not begin with a change of level */
+    AES3_UNCLOSED = 2  /* the cell behind a block's last does not change the level */
+};
+
+/* A report. A field that its kind does not name above has no meaning. */
+typedef struct aes3_report {
+    uint64_t at;         /* place of the block's first cell, counted from the lock's first */
+    uint64_t cell;       /* of a fault the cell's place; of an unfinished block how many cells of it there are */
+    uint32_t words[384]; /* the block */
+    uint16_t wrong;      /* how many subframes have a wrong parity bit, 1 to 384 */
+    uint8_t kind;        /* an aes3_kind */
+    uint8_t before;      /* the level before the block's first cell */
+    uint8_t why;         /* an aes3_why */
+} aes3_report;
+
+/* Makes a lock that has seen no cell. */
+void aes3_lock_init(aes3_lock *lock);
+
+/* How many cells it has seen. */
+uint64_t aes3_lock_seen(const aes3_lock *lock);
+
+/*
+ * Takes words of cells as long as no cell of a word decides a report. Answers how many it took;
+ * that may be none. The next word, if there is one, goes to aes3_lock_push.
+ */
+size_t aes3_lock_take_words(aes3_lock *lock, const uint64_t *words, size_t count);
+
+/*
+ * Takes the first `count` cells of a word, 64 at most, or as far as the first that decides a
+ * report, and that one too. Puts the report, or AES3_NONE, into *report. Answers how many cells it
+ * took: fewer than `count` only behind a report, or where a lock has seen 2^43 cells, which is 16
+ * days of a line at 48 kHz; then it takes none, and has to be made anew.
+ */
+uint32_t aes3_lock_push(aes3_lock *lock, uint64_t word, uint32_t count, aes3_report *report);
+
+/* Puts what the end of the cells decides, or AES3_NONE, into *report. The lock stays as it was. */
+void aes3_lock_finish(const aes3_lock *lock, aes3_report *report);
+
+/* ---- Blocks ---- */
+
+/*
+ * Puts the cells of a block behind a cell of the level `before` into cells[], a word a subframe. A
+ * block ends at the level before it, so blocks follow one another with the same `before`. Answers
+ * 384; or, where a word is not lawful, the number of the first that is not, and leaves cells[] as
+ * it was.
+ */
+uint32_t aes3_encode_block(const uint32_t words[384], uint8_t before, uint64_t cells[384]);
+
+/*
+ * Puts the channel status of a block's channel, 1 or 2, into status[]: bit i % 8 of byte i / 8 is
+ * the C bit of frame i. Answers 384; or, where a word is not lawful, the number of the first that
+ * is not, and leaves status[] as it was.
+ */
+uint32_t aes3_block_status(const uint32_t words[384], uint8_t channel, uint8_t status[24]);
+
+/* ---- Words of cells, written ---- */
+
+/*
+ * Where each of 64 characters is '0' or '1', puts their cells into *word and answers true; else
+ * changes nothing.
+ */
+bool aes3_word_of_text(const uint8_t text[64], uint64_t *word);
+
+/* The cells of eight octets, the first in the highest bit of the first. */
+uint64_t aes3_word_of_octets(const uint8_t octets[8]);
+
+/* Puts the cells of a word as 64 characters and a line feed. */
+void aes3_line_of_word(uint64_t word, uint8_t line[65]);
+
+/*
+ * Puts the cells of a word as eight octets. Packed cells end with one more: how many of the cells
+ * are unused, here 0.
+ */
+void aes3_octets_of_word(uint64_t word, uint8_t octets[8]);
+
+/* ---- Channel status, of 24 bytes ---- */
+
+/*
+ * The fields of a status for professional use (AES3-2). A field of bits is a number, its lowest bit
+ * the first sent.
+ */
+typedef struct aes3_professional {
+    uint8_t payload;        /* byte 0 bit 1: 0 linear PCM, 1 other */
+    uint8_t emphasis;       /* byte 0 bits 2 to 4: pre-emphasis */
+    uint8_t unlocked;       /* byte 0 bit 5: the source's sampling frequency is unlocked */
+    uint8_t rate;           /* byte 0 bits 6 and 7: sampling frequency */
+    uint8_t mode;           /* byte 1 bits 0 to 3: channel mode */
+    uint8_t user;           /* byte 1 bits 4 to 7: management of the user bits */
+    uint8_t aux;            /* byte 2 bits 0 to 2: use of the auxiliary bits */
+    uint8_t word;           /* byte 2 bits 3 to 5: sample word length, a code under that of aux */
+    uint8_t b2high;         /* byte 2 bits 6 and 7: alignment level */
+    uint8_t b3;             /* byte 3: multichannel use */
+    uint8_t b4;             /* byte 4: reference signal, further sampling frequencies */
+    uint8_t b5;             /* byte 5 */
+    uint8_t origin[4];      /* bytes 6 to 9: four characters */
+    uint8_t destination[4]; /* bytes 10 to 13: four characters */
+    uint32_t local;         /* bytes 14 to 17: local sample address */
+    uint32_t time;          /* bytes 18 to 21: sample address of the time of day */
+    uint8_t unreliable;     /* byte 22 bits 4 to 7: bytes 0 to 5, 6 to 13, 14 to 17, 18 to 21 are unreliable */
+    uint8_t b22low;         /* byte 22 bits 0 to 3 */
+} aes3_professional;
+
+/* The fields of a status for consumer use (IEC 60958-3), likewise. */
+typedef struct aes3_consumer {
+    uint8_t payload;    /* byte 0 bit 1: 0 linear PCM, 1 other */
+    uint8_t copyright;  /* byte 0 bit 2: 0 asserted, 1 not asserted */
+    uint8_t emphasis;   /* byte 0 bits 3 to 5: of linear PCM the pre-emphasis */
+    uint8_t mode;       /* byte 0 bits 6 and 7: status mode */
+    uint8_t category;   /* byte 1 bits 0 to 6: category code without its last bit */
+    uint8_t generation; /* byte 1 bit 7: generation status */
+    uint8_t source;     /* byte 2 bits 0 to 3: source number */
+    uint8_t number;     /* byte 2 bits 4 to 7: channel number */
+    uint8_t rate;       /* byte 3 bits 0 to 3: sampling frequency */
+    uint8_t accuracy;   /* byte 3 bits 4 and 5: clock accuracy */
+    uint8_t b3high;     /* byte 3 bits 6 and 7 */
+    uint8_t greatest;   /* byte 4 bit 0: greatest sample word length, 0 for 20 bits, 1 for 24 */
+    uint8_t word;       /* byte 4 bits 1 to 3: sample word length, a code under that of greatest */
+    uint8_t original;   /* byte 4 bits 4 to 7: original sampling frequency */
+    uint8_t rest[19];   /* bytes 5 to 23 */
+} aes3_consumer;
+
+/*
+ * Where a status is for professional use, puts its fields and answers true; else changes nothing.
+ */
+bool aes3_status_professional(const uint8_t status[24], aes3_professional *fields);
+
+/* Where a status is for consumer use, puts its fields and answers true; else changes nothing. */
+bool aes3_status_consumer(const uint8_t status[24], aes3_consumer *fields);
+
+/* The check byte (CRCC) of a professional status, from its bytes 0 to 22 (AES3-2, byte 23). */
+uint8_t aes3_status_check_byte(const uint8_t status[24]);
+
+enum aes3_check {
+    AES3_GOOD = 0,   /* byte 23 is the check byte */
+    AES3_ABSENT = 1, /* it is not, and is zero, as from a source that sends none */
+    AES3_BAD = 2     /* it is not, and is not zero */
+};
+
+/* How a professional status stands to its check byte, an aes3_check. */
+uint8_t aes3_status_check_state(const uint8_t status[24]);
+
+#ifdef __cplusplus
+}
+#endif
+#endif

@@ -1,0 +1,39 @@
+#!/bin/sh
+# tests/help.sh PROGRAM runs the examples that the program's help and that of each command show, in the order of the
+# program's own help first: each has to end with status 0 and to say nothing on standard error.
+#
+# The status is 0 where each did.
+
+[ $# = 1 ] || { sed -n '2,5s/^# \{0,1\}//p' "$0" >&2; exit 2; }
+root=$(dirname "$(dirname "$(realpath "$0")")")
+program=$(realpath "$1") || exit 2
+work=$(mktemp -d) || exit 2
+trap 'rm -rf "$work"' EXIT
+mkdir "$work/bin" "$work/here"
+ln -s "$program" "$work/bin/aes3"
+cp "$root/examples/speech.block" "$work/here"
+PATH=$work/bin:$PATH
+
+# The commands, and of a help text the lines below the heading that begins with Examples.
+commands() { aes3 --help | sed -n '/^Commands:$/,/^$/s/^  \([a-z0-9-]*\) .*/\1/p'; }
+examples() { sed -n '/^Examples/,$s/^    \([^ ].*\)/\1/p'; }
+
+aes3 --help | examples >"$work/all"
+for name in $(commands); do
+    aes3 "$name" --help | examples >"$work/some"
+    [ -s "$work/some" ] || { echo "aes3 $name --help has no examples" >&2; exit 1; }
+    cat "$work/some" >>"$work/all"
+done
+
+# One shell for all, since an example may set a variable for the next.
+cd "$work/here" || exit 2
+count=0 failed=0
+while IFS= read -r line; do
+    count=$((count + 1))
+    eval "$line" >/dev/null 2>"$work/said" </dev/null && [ ! -s "$work/said" ] && continue
+    failed=$((failed + 1))
+    echo "$line" >&2
+    cat "$work/said" >&2
+done <"$work/all"
+echo "$count examples, $failed failed"
+[ "$failed" = 0 ] && [ "$count" -gt 0 ]

@@ -1,0 +1,73 @@
+#!/bin/sh
+# tests/readme.sh PROGRAM [FILE..] runs the examples of README.md and docs/TUTORIAL.md, or of the FILEs, and compares
+# what they print with what stands there.
+#
+# An example is a line that begins with '$ ' in a block that begins with ```sh; what is expected, standard error with
+# it, are the lines below it up to the next. A command may go on in lines that end in a backslash. Each FILE's examples
+# run in a folder of their own, one after the other, by sh: PROGRAM is there as bin/aes3 and on the PATH as aes3, and
+# the folder examples is a copy. A block that begins with ```sh needs TOOL.. is left out, with a word, where one of the
+# tools is not there.
+#
+# The status is 0 where each example printed what it should.
+
+[ $# -gt 0 ] || { sed -n '2,11s/^# \{0,1\}//p' "$0" >&2; exit 2; }
+root=$(dirname "$(dirname "$(realpath "$0")")")
+program=$(realpath "$1") || exit 2
+shift
+[ $# -gt 0 ] || set -- "$root/README.md" "$root/docs/TUTORIAL.md"
+work=$(mktemp -d) || exit 2
+trap 'rm -rf "$work"' EXIT
+
+# Writes each example of a file as examples N.cmd, N.out and N.at, which says where it stands and what it needs.
+parted() {
+    awk -v to="$work/parts" '
+        /^```sh( needs .*)?$/ && !inside { inside = 1; needs = substr($0, 13); next }
+        /^```/ { inside = 0; name = ""; next }
+        !inside { next }
+        goes_on { print > (name ".cmd"); goes_on = /\\$/; next }
+        /^\$ / {
+            name = sprintf("%s/%03d", to, ++count)
+            print substr($0, 3) > (name ".cmd")
+            printf "" > (name ".out")
+            print FNR ":" needs > (name ".at")
+            goes_on = /\\$/
+            next
+        }
+        name { print > (name ".out") }
+    ' "$1"
+}
+
+lacking() {
+    for tool in $1; do
+        command -v "$tool" >/dev/null 2>&1 || echo "$tool"
+    done
+}
+
+failed=0 ran=0 left=0
+for file in "$@"; do
+    rm -rf "$work/parts" "$work/here"
+    mkdir -p "$work/parts" "$work/here/bin"
+    ln -s "$program" "$work/here/bin/aes3"
+    cp -R "$root/examples" "$work/here/examples"
+    parted "$file"
+    for command in "$work"/parts/*.cmd; do
+        [ -f "$command" ] || continue
+        part=${command%.cmd}
+        IFS=: read -r line needs <"$part.at"
+        lacks=$(lacking "$needs")
+        if [ -n "$lacks" ]; then
+            echo "$file:$line: left out: no $lacks" >&2
+            left=$((left + 1))
+            continue
+        fi
+        (cd "$work/here" && PATH=$work/here/bin:$PATH sh "$command") >"$part.got" 2>&1 </dev/null
+        ran=$((ran + 1))
+        if ! cmp -s "$part.out" "$part.got"; then
+            echo "$file:$line: $(cat "$command")" >&2
+            diff "$part.out" "$part.got" >&2
+            failed=$((failed + 1))
+        fi
+    done
+done
+echo "$ran examples, $failed failed, $left left out"
+[ "$failed" = 0 ] && [ "$ran" -gt 0 ]

@@ -1,0 +1,225 @@
+# shellcheck shell=sh disable=SC2034 # `passed` and `failed` are counted by the scripts that read this
+# A folder for work, and recipes for the inputs and the expected output of rows: each writes bytes to standard output. They
+# use the line code alone and plain tools, never the program.
+
+work=$(mktemp -d) || exit 2
+trap 'rm -rf "$work"' EXIT
+trap 'exit 130' INT TERM
+passed=0 failed=0
+
+# 28 slots of bit 0, behind a preamble that ends at the level before it.
+slots=11001100110011001100110011001100110011001100110011001100
+
+# The text of the zero block, whose payloads are all 0: 384 lines of 64 cells.
+make_zero() {
+    echo "11101000$slots"
+    subframe=1
+    while [ $subframe -lt 383 ]; do
+        printf '%s\n' "11100100$slots" "11100010$slots"
+        subframe=$((subframe + 2))
+    done
+    echo "11100100$slots"
+}
+
+# A file so many times.
+repeated() {
+    left=$1
+    while [ "$left" -gt 0 ]; do
+        cat "$2"
+        left=$((left - 1))
+    done
+}
+
+# Ten cells, so many times, in which a preamble of a block begins at every fifth.
+dense() {
+    left=$1
+    while [ "$left" -gt 0 ]; do
+        printf 1110100010
+        left=$((left - 1))
+    done
+}
+
+# So many zero blocks as text.
+blocks() { repeated "$1" "$work/zero"; }
+
+# So many zero bytes: words of a block file whose payload is 0.
+zeros() { head -c "$1" /dev/zero; }
+
+# The bytes that the words name in hexadecimal digits.
+octets() {
+    for octet; do
+        # shellcheck disable=SC2059 # the format is the octet
+        printf "\\$(printf %03o "0x$octet")"
+    done
+}
+
+# So many zero blocks packed, without the last octet.
+packed_blocks() { repeated "$1" "$work/packed"; }
+
+# The zero block packed, without the last octet.
+make_packed() {
+    octets E8 CC CC CC CC CC CC CC
+    subframe=1
+    while [ $subframe -lt 383 ]; do
+        printf '\344\314\314\314\314\314\314\314\342\314\314\314\314\314\314\314'
+        subframe=$((subframe + 2))
+    done
+    octets E4 CC CC CC CC CC CC CC
+}
+
+# Filters of text: its cells alone; with 0 and 1 exchanged; without the first bytes; the first bytes alone; with a space behind
+# every 8 cells and CR LF behind each line.
+cells() { tr -d '\n'; }
+exchanged() { tr 01 10; }
+without_first() { tail -c +$(($1 + 1)); }
+first() { head -c "$1"; }
+spaced() { sed "s/......../& /g; s/\$/$(printf '\r')/"; }
+
+# Filters of cells without line feeds: without the cell of this number, from 0; with that cell turned.
+lost() { awk -v n="$1" '{ print substr($0, 1, n) substr($0, n + 2) }'; }
+turned() { awk -v n="$1" '{ print substr($0, 1, n) (1 - substr($0, n + 1, 1)) substr($0, n + 2) }'; }
+
+# Filter of text: the lines with these numbers, from 1, end in other cells.
+ending() {
+    cells=$1
+    shift
+    script=
+    for number; do
+        script="$script${number}s/.\\{${#cells}\\}\$/$cells/;"
+    done
+    sed "$script"
+}
+
+# The first line of the text is another.
+first_line() {
+    echo "$1"
+    tail -n +2
+}
+
+# The last line of the text is another.
+last_line() {
+    sed '$d'
+    echo "$1"
+}
+
+# The zero block with the channel status of 48 hexadecimal digits in channel 1 or 2: a set bit turns the level within slot
+# 30, and parity with it.
+with_status() {
+    status=$2
+    frame=0
+    set_lines=
+    while [ -n "$status" ]; do
+        rest=${status#??}
+        byte=$((0x${status%"$rest"}))
+        status=$rest
+        for bit in 0 1 2 3 4 5 6 7; do
+            [ $((byte >> bit & 1)) = 0 ] || set_lines="$set_lines $((2 * frame + $1))"
+            frame=$((frame + 1))
+        done
+    done
+    # shellcheck disable=SC2086
+    ending 1010 $set_lines
+}
+
+# A block file with the channel status of 48 hexadecimal digits in channel 1, all else zero.
+status_file() {
+    status=$1
+    while [ -n "$status" ]; do
+        rest=${status#??}
+        byte=$((0x${status%"$rest"}))
+        status=$rest
+        for bit in 0 1 2 3 4 5 6 7; do
+            [ $((byte >> bit & 1)) = 0 ] && printf '\0\0\0\0\0\0\0\0' || printf '\0\0\0\300\0\0\0\0'
+        done
+    done
+}
+
+# Lines of text, one an argument.
+say() { [ $# = 0 ] || printf '%s\n' "$@"; }
+
+# The marks of so many zero blocks of which the first cells are missing, after this level.
+marks() {
+    awk -v missing="$1" -v blocks="$2" -v level="$3" 'BEGIN {
+        for (i = 0; i < 384 * blocks; i++)
+            if (64 * i >= missing)
+                printf "mark %s at %d before %s\n", i % 384 == 0 ? "Z" : i % 2 ? "Y" : "X", 64 * i - missing, level
+    }'
+}
+
+# The status lines of a block: its number, the channel, and the fields.
+professional="professional payload=pcm emphasis=not-indicated unlocked=no rate=not-indicated mode=not-indicated"
+professional="$professional user=not-indicated aux=undefined word=not-indicated b2high=0 b3=0 b4=0 b5=0 origin=...."
+professional="$professional destination=.... local=0 time=0 unreliable=0000 b22low=0 check=good"
+consumer="consumer payload=pcm copyright=asserted emphasis=none mode=0 category=general generation=0"
+consumer="$consumer source=not-specified number=not-specified rate=44100 accuracy=level2 b3high=0 greatest=20"
+consumer="$consumer word=not-indicated original=0 rest=00000000000000000000000000000000000000"
+
+# The status line of a block and a channel whose fields are those given, with some of them replaced.
+status_line() {
+    line="block=$1 channel=$2 $3"
+    shift 3
+    for field; do
+        line=$(printf '%s' "$line" | sed "s|${field%%=*}=[^ ]*|$field|")
+    done
+    printf '%s\n' "$line"
+}
+
+# The lines of so many whole blocks one behind the other: the place of the first, how many, and the level before.
+speech_blocks() {
+    awk -v at="$1" -v blocks="$2" -v level="$3" 'BEGIN {
+        for (i = 0; i < blocks; i++) printf "whole at %d before %s\n", at + 24576 * i, level
+    }'
+}
+
+# What is shown of so many blocks of the speech: consumer use, no copyright asserted, 48 kHz, 24 bits, on both channels.
+speech_status() {
+    fields=$(status_line 0 1 "$consumer" copyright=not-asserted rate=48000 greatest=24 word=24)
+    awk -v fields="${fields#block=0 channel=1}" -v blocks="$1" 'BEGIN {
+        for (i = 0; i < blocks; i++) printf "block=%d channel=1%s\nblock=%d channel=2%s\n", i, fields, i, fields
+    }'
+}
+
+# 48 hexadecimal digits of zeros but for bytes given as `number:digits`.
+status_of() {
+    number=0
+    while [ $number -lt 24 ]; do
+        byte=00
+        for given; do
+            [ "${given%:*}" != $number ] || byte=${given#*:}
+        done
+        printf %s "$byte"
+        number=$((number + 1))
+    done
+}
+
+# Zero blocks, one for each value of a byte of channel 1's status, whose first byte is given too where it is another.
+blocks_with_byte() {
+    first_byte=$1
+    number=$2
+    shift 2
+    for value; do
+        blocks 1 | with_status 1 "$(status_of "0:$first_byte" "$number:$value")"
+    done
+}
+
+# What is shown of these blocks: the fields of the first status, a field, and its word in each block.
+shown() {
+    base=$1
+    changed=$2
+    shift 2
+    block=0
+    for word; do
+        status_line $block 1 "$base" "$changed=$word"
+        status_line $block 2 "$consumer"
+        block=$((block + 1))
+    done
+}
+
+# A status line's fields with some of them replaced.
+fields() {
+    line=$(status_line 0 1 "$@")
+    printf %s "${line#block=0 channel=1 }"
+}
+
+make_zero >"$work/zero"
+make_packed >"$work/packed"

@@ -1,0 +1,90 @@
+#!/bin/sh
+# tests/streams.sh PROGRAM: what the program owes to the machine's own streams. No clause can speak of them, so this runs
+# the built program, and ends with status 0 where all is as expected. It needs /dev/full, and a shell whose ulimit knows -v.
+
+program=$(realpath "$1") || exit 2
+root=$(dirname "$(dirname "$(realpath "$0")")")
+zero=$root/examples/zero.block
+folder=$(mktemp -d) || exit 1
+trap 'rm -rf "$folder"' EXIT
+failed=0
+
+aes3() {
+    "$program" "$@"
+}
+
+# expect NAME STATUS LINE: compares the last run's status, and what it told on standard error, with these.
+expect() {
+    if [ "$status" = "$2" ] && [ "$(cat "$folder/errors")" = "$3" ]; then
+        echo "ok: $1"
+    else
+        echo "FAILED: $1: status $status, not $2; told: $(cat "$folder/errors")"
+        failed=1
+    fi
+}
+
+# Two blocks of which the first is decided, and behind them a byte that is no cell: the decided block is held in the
+# buffer when the run is refused.
+{ aes3 encode < "$zero" && aes3 encode < "$zero" && printf 2; } > "$folder/refused" || exit 1
+
+aes3 normal < "$folder/refused" > "$folder/output" 2> "$folder/errors"
+status=$?
+expect "a refusal behind a block that left" 3 "aes3: refused 1 at 49920"
+aes3 encode < "$zero" | cmp - "$folder/output" || failed=1
+
+aes3 normal < "$folder/refused" > /dev/full 2> "$folder/errors"
+status=$?
+expect "a full disk behind a refusal" 3 "aes3: refused 6"
+
+aes3 normal < "$folder/refused" >&- 2> "$folder/errors"
+status=$?
+expect "a closed output behind a refusal" 3 "aes3: refused 6"
+
+{ sleep 1; aes3 normal < "$folder/refused" 2> "$folder/errors"; echo $? > "$folder/status"; } | :
+status=$(cat "$folder/status")
+expect "a closed pipe behind a refusal" 3 "aes3: refused 6"
+
+aes3 encode < "$zero" > /dev/full 2> "$folder/errors"
+status=$?
+expect "a full disk at the end" 3 "aes3: refused 6"
+
+aes3 --help > /dev/full 2> "$folder/errors"
+status=$?
+expect "a full disk for help" 3 "aes3: refused 6"
+
+aes3 encode < / > /dev/null 2> "$folder/errors"
+status=$?
+expect "a folder as input" 3 "aes3: refused 5"
+
+aes3 encode "$(printf '\377')" < "$zero" > "$folder/output" 2> "$folder/errors"
+status=$?
+expect "words that are not UTF-8" 2 "aes3: the words are not UTF-8"
+[ -s "$folder/output" ] && failed=1
+
+# Memory refused anywhere before the input is read: from a limit at which the program can't be loaded to one at which it
+# runs, each run is done, or it ends with refusal 8 and its line.
+refused=0
+limit=2000
+while [ "$limit" -le 4000 ]; do
+    if (ulimit -v "$limit" && exec "$program" --help) > /dev/null 2> "$folder/loaded"; then
+        break
+    fi
+    (ulimit -v "$limit" && exec "$program" encode) < "$zero" > /dev/null 2> "$folder/errors"
+    status=$?
+    if [ "$status" = 3 ]; then
+        refused=$((refused + 1))
+        [ "$(cat "$folder/errors")" = "aes3: refused 8" ] || { cat "$folder/errors"; failed=1; }
+    elif [ "$status" != 127 ] && [ "$status" != 0 ] && [ "$status" != 137 ]; then
+        echo "FAILED: memory of $limit KiB: status $status"
+        failed=1
+    fi
+    limit=$((limit + 20))
+done
+if [ "$refused" -gt 0 ]; then
+    echo "ok: refused memory, at $refused limits"
+else
+    echo "FAILED: no limit at which memory was refused"
+    failed=1
+fi
+
+exit "$failed"
