@@ -1,16 +1,15 @@
--- Cells handed to a taker one by one.
-use Rattle.std.proofs.Common.{◌≡◌, ℕ, ◌+◌, ◌-◌, ◌/◌, ◌*◌, ◌^◌, ◌<◌, ◌≤◌, length, length-append, take, drop, get_or, set, Result, List, [], ◌∷◌, ◌++◌, Option, refl, sym, ap, ◌∙◌, subst, arith, add-one, append-nil, append_assoc}
-use Rattle.std.specs.Int.{bit_at}
+-- Cells and words handed to a taker, one behind the other.
+use Rattle.std.proofs.Common.{◌≡◌, ℕ, ◌+◌, ◌-◌, ◌/◌, ◌*◌, ◌^◌, ◌<◌, ◌≤◌, length, length-append, take, drop, get_or, set, Result, List, [], ◌∷◌, ◌++◌, Option, sym, ap, ◌∙◌, subst, arith, append-nil, append_assoc}
 use Rattle.std.specs.List.{flat_map}
 use Rattle.std.proofs.lemmas.Grind.{flat_map-append}
 use Rattle.std.proofs.lemmas.List.{take_more, take_more_set, take-append-drop}
 use Rattle.std.proofs.Math.Seq.{take-add}
 use Rattle.aes3_cell.specs.declared.level.Level.{Level}
 use Rattle.aes3_cell.specs.Ends.{Grew, GrewFront}
-use Rattle.aes3_cell.specs.Words.{level_of, low_cells, word_len, word_cells}
+use Rattle.aes3_cell.specs.Words.{low_cells, word_cells}
 use Rattle.aes3_cell.proofs.Lines.{word_len_64}
-use Rattle.aes3_cell.proofs.WordCells.{low_cells-suc, low_cells-add, length-word_cells}
-use Rattle.aes3_cell.proofs.Growing.{grew-none, grew-is, grew-join, front-is, front-join, front-more}
+use Rattle.aes3_cell.proofs.WordCells.{low_cells-add, length-word_cells}
+use Rattle.aes3_cell.proofs.Growing.{grew-is, grew-join, front-is, front-join, front-more}
 use Rattle.aes3_cell.specs.declared.ends.Fault.{Fault}
 use Rattle.aes3_engine.specs.Running.{Change}
 use Rattle.aes3_engine.specs.Forms.{CellsRan}
@@ -22,13 +21,6 @@ pub record Handed (w₀ w : Writing Level) (f₀ f : List Level → Type 0) (t�
   pub same : w ≡ w₀
   pub follows : (c : List Level) → f₀ c → f (c ++ a)
   pub grew : (c : List Level) → f₀ c → Grew t₀ t (behind w₀ c a)
-
-pub handed-none : (w : Writing Level) (f : List Level → Type 0) (t : Option (List ℕ)) (a : List Level) → a ≡ [] → Handed w w f f t t a
-handed-none w f t a e = record {
-  same = refl;
-  follows = λ c h. subst f (sym (ap (λ v. c ++ v) e ∙ append-nil c)) h;
-  grew = λ c h. grew-is (sym (ap (behind w c) e)) (grew-none refl);
-}
 
 pub handed-is : {w₀ w : Writing Level} {f₀ f : List Level → Type 0} {t₀ t : Option (List ℕ)} {a b : List Level} → a ≡ b → Handed w₀ w f₀ f t₀ t a → Handed w₀ w f₀ f t₀ t b
 handed-is {w₀} {w} {f₀} {f} {t₀} {t} e h = subst (λ (z : List Level). Handed w₀ w f₀ f t₀ t z) e h
@@ -52,22 +44,6 @@ pub handed-cells-front : {w₀ w : Writing Level} {f₀ f : List Level → Type 
 handed-cells-front {w₀} {a = a} {d = d} b more e m h g c q =
     front-is (sym (ap (behind w₀ c) m ∙ items-join w₀ c d more))
     (front-more (front-is (sym (more-behind a b d e h.same c)) (front-join (h.grew c q) (g (c ++ a) (h.follows c q)))) (behind w₀ (c ++ d) more))
-
--- one more
-pub handed-more : {w₀ w w' : Writing Level} {f₀ f f' : List Level → Type 0} {t₀ t t' : Option (List ℕ)} {a d : List Level} (l : Level) → d ≡ a ++ l ∷ []
-    → Handed w₀ w f₀ f t₀ t a → w' ≡ w → ((c : List Level) → f c → f' (c ++ l ∷ [])) → ((c : List Level) → f c → Grew t t' (w.adds c l)) → Handed w₀ w' f₀ f' t₀ t' d
-handed-more {w = w} l e h s next g = handed-cells (l ∷ []) e h s next (λ c q. grew-is (sym (append-nil (w.adds c l))) (g c q))
-
-pub handed-front : {w₀ w : Writing Level} {f₀ f : List Level → Type 0} {t₀ t t' : Option (List ℕ)} {a d all : List Level} (l : Level) (more : List Level)
-    → d ≡ a ++ l ∷ [] → all ≡ d ++ more → Handed w₀ w f₀ f t₀ t a → ((c : List Level) → f c → GrewFront t t' (w.adds c l)) → (c : List Level) → f₀ c → GrewFront t₀ t' (behind w₀ c all)
-handed-front {w = w} l more e m h g = handed-cells-front (l ∷ []) more e m h (λ c q. front-is (sym (append-nil (w.adds c l))) (g c q))
-
--- the cells of a word one by one
-pub cell-more : (w i : ℕ) {l : Level} → l ≡ level_of (bit_at w i) → low_cells (i + 1) w ≡ low_cells i w ++ l ∷ []
-cell-more w i e = ap (λ k. low_cells k w) (add-one i) ∙ low_cells-suc i w ∙ ap (λ v. low_cells i w ++ v ∷ []) (sym e)
-
-pub cell-behind : (c : List Level) (w i : ℕ) (l : Level) → l ≡ level_of (bit_at w i) → (c ++ low_cells i w) ++ l ∷ [] ≡ c ++ low_cells (i + 1) w
-cell-behind c w i l e = append_assoc c (low_cells i w) (l ∷ []) ∙ ap (λ v. c ++ v) (sym (cell-more w i e))
 
 -- the first cells of a word, and the others
 pub cells-parted : (w i n : ℕ) → i ≤ n → low_cells n w ≡ low_cells i w ++ low_cells (n - i) (w / 2 ^ i)

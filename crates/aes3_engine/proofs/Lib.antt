@@ -1,6 +1,7 @@
 pub mod Outputs
 pub mod Feeding
 pub mod Pieces
+pub mod Flushing
 pub mod EncodingLemmas
 pub mod Told
 pub mod EncodeRuns

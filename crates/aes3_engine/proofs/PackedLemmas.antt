@@ -1,20 +1,17 @@
 -- Packed cells taken octet by octet.
-use Rattle.std.proofs.Common.{◌≡◌, ℕ, ◌+◌, ◌-◌, ◌*◌, ◌<◌, ◌≤◌, List, [], ◌∷◌, ◌++◌, cond, Option, Some, None, Result, Ok, Err, IfOk, OnErr, length, take, drop, refl, sym, ap, ap₂, ◌∙◌, subst, arith, append-nil, length-append}
-use Rattle.std.proofs.lemmas.List.{take_more, length-take-le, take-append-drop, take-take}
+use Rattle.std.proofs.Common.{◌≡◌, ℕ, ◌+◌, ◌-◌, ◌*◌, ◌≤◌, List, [], ◌∷◌, ◌++◌, cond, Option, Some, None, Result, Ok, Err, IfOk, OnErr, length, take, refl, sym, ap, ap₂, ◌∙◌, subst, arith, append-nil, length-append}
+use Rattle.std.proofs.lemmas.List.{length-take-le}
 use Rattle.std.specs.Option.{unwrap_or}
-use Rattle.std.specs.Int.{bit_at}
 use Rattle.aes3_cell.specs.declared.level.Level.{Level}
-use Rattle.aes3_cell.specs.declared.level.Level.TheVariants.{Low}
 use Rattle.aes3_cell.specs.declared.refusal.RunError.{RunError}
 use Rattle.aes3_cell.specs.declared.refusal.RunError.TheVariants.{BadPadding}
 use Rattle.aes3_cell.specs.declared.refusal.BadPadding as padding
 use Rattle.aes3_cell.specs.declared.ends.Fault as device
 use Rattle.aes3_cell.specs.Ends.{Grew, GrewFront}
-use Rattle.aes3_cell.specs.Words.{level_of}
 use Rattle.aes3_cell.specs.Packed.{octet_cells, last_place, cells_of_packed, whole_cells}
 use Rattle.aes3_cell.specs.PackedReading.{PackedReader, packed_reader_of, packed_answer, packed_next, packed_end, answer_cells, end_cells}
 use Rattle.aes3_cell.proofs.Growing.{grew-none, grew-is, grew-join, front-is, front-join}
-use Rattle.aes3_cell.proofs.Octets.{length-octet_cells, octet_cells-at}
+use Rattle.aes3_cell.proofs.Octets.{length-octet_cells}
 use Rattle.aes3_cell.proofs.PackedCells.{length-cells_of_octets}
 use Rattle.aes3_cell.proofs.PackedReads.{packed_reader-more, whole_cells-more, end-ok, end-fault, end-used, cells-end}
 use Rattle.aes3_engine.specs.Converting.{fault_behind, out_behind}
@@ -22,32 +19,14 @@ use Rattle.aes3_engine.specs.Running.{Fed}
 use Rattle.aes3_engine.specs.Taking.{Writing, behind}
 use Rattle.aes3_engine.specs.Forms.{octet_front, packed_reading, PackedTaken, PackedEnded, EndCellsRan}
 
--- cell by cell
-pub octet-more : (octet i : ℕ) (l : Level) → i < 8 → l ≡ level_of (bit_at octet (7 - i)) → octet_front (i + 1) octet ≡ octet_front i octet ++ l ∷ []
-unfolding octet_front
-octet-more octet i l h e =
-    take_more (octet_cells octet) i Low (let n = length-octet_cells octet in omega arith)
-    ∙ ap (λ v. take i (octet_cells octet) ++ v ∷ []) (octet_cells-at octet i h ∙ sym e)
-
+-- the first cells of an octet
 all-eight : (octet : ℕ) → octet_front 8 octet ≡ octet_cells octet
 unfolding octet_front
 all-eight octet = refl
 
-pub none-front : (octet : ℕ) → octet_front 0 octet ≡ []
-unfolding octet_front
-none-front octet = refl
-
 pub length-front : (n octet : ℕ) → n ≤ 8 → length (octet_front n octet) ≡ n
 unfolding octet_front
 length-front n octet h = length-take-le n (octet_cells octet) (let k = length-octet_cells octet in omega arith)
-
--- the cells so far, with one more, are a front of all
-pub more-front : (octet i n : ℕ) → i ≤ n → n ≤ 8 → (d : List Level) × (octet_front n octet ≡ octet_front i octet ++ d)
-unfolding octet_front
-more-front octet i n h k = (
-  drop i (take n (octet_cells octet)),
-  sym (take-append-drop i (take n (octet_cells octet))) ∙ ap (λ v. v ++ drop i (take n (octet_cells octet))) (take-take i n (octet_cells octet) h),
-)
 
 -- one octet is no fault, and writes what the cells write that it makes whole
 one-octet : (w : Writing Level) (b : List ℕ) (x : ℕ) → out_behind (packed_reading w) b (x ∷ []) ≡ behind w (whole_cells b) (answer_cells (packed_answer (packed_reader_of b)))

@@ -53,18 +53,9 @@ decided-few p [] = omega arith
 decided-few p (x ∷ c) =
     let t = told-few p (decided_at (x ∷ c)) in let n = decided-few (suc p) c in let a = length-append (told p (decided_at (x ∷ c))) (decided_from (suc p) c) in omega arith
 
-reports-few : (p : ℕ) (c : List Level) → length (reports_from p c) ≤ length c
-reports-few p [] = omega arith
-reports-few p (x ∷ c) =
-    let t = told-few p (outcome_at (x ∷ c)) in let n = reports-few (suc p) c in let a = length-append (told p (outcome_at (x ∷ c))) (reports_from (suc p) c) in omega arith
-
 pub few-decided : (c : List Level) → length (decided c) ≤ length c
 unfolding decided
 few-decided c = decided-few 0 c
-
-pub few-reports : (c : List Level) → length (reports c) ≤ length c
-unfolding reports
-few-reports c = reports-few 0 c
 
 -- what cells write that decide these reports
 pub adds-decided : (w : Writing Report) (c d : List Level) (m : List Report) → decided (c ++ d) ≡ decided c ++ m → behind (reporting w) c d ≡ behind w (decided c) m

@@ -17,9 +17,6 @@ pub read-none : (r : TextReader) → TextRead r r [] []
 unfolding cells_of_text good_bytes
 read-none r = record { lawful = record { is = refl }; cells = refl; seen = omega arith }
 
-pub read-same : {r s : TextReader} → s ≡ r → TextRead r s [] []
-read-same {r} e = subst (λ (v : TextReader). TextRead r v [] []) (sym e) (read-none r)
-
 pub read-is : {r s : TextReader} {d e : List ℕ} {c f : List Level} → d ≡ e → c ≡ f → TextRead r s d c → TextRead r s e f
 read-is {r} {s} {d} {e} {c} {f} p q h = subst (λ (v : List ℕ). TextRead r s v f) p (subst (λ (v : List Level). TextRead r s d v) q h)
 

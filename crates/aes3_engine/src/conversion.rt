@@ -74,7 +74,7 @@ fn allowed_of(n: usize, room: u64) -> usize
 }
 
 /// Takes all of a piece, one front of what is left after the other.
-fn feed<T: Sink, K, I: Input<K>>(
+fn feed_fronts<T: Sink, K, I: Input<K>>(
     input: &mut I,
     taker: &mut K,
     sink: &mut T,
@@ -93,6 +93,47 @@ fn feed<T: Sink, K, I: Input<K>>(
         }
     }
     Ok(())
+}
+
+/// Takes all of a piece, and passes on what the sink then holds: what is decided leaves before more is read.
+fn feed<T: Sink, K, I: Input<K>>(
+    input: &mut I,
+    taker: &mut K,
+    sink: &mut T,
+    piece: &[u8],
+) -> Result<(), RunError>
+    requires room { T.failed sink.old + 1 < 2 ^ 64 }
+    requires following { (b : List ℕ) × (length b + length piece.now ≤ 2 ^ 40) × I.follows input.old taker.old b }
+    ensures { PieceRan (I.reads input.old taker.old) (I.reads input.new taker.new) (I.follows input.old taker.old) (I.follows input.new taker.new) piece.now
+        (record { old = T.taken sink.old; new = T.taken sink.new; failed_old = T.failed sink.old; failed_new = T.failed sink.new }) result }
+{
+    match feed_fronts(input, taker, sink, piece) {
+        Ok(()) => match sink.flush() {
+            Ok(()) => Ok(()),
+            Err(_) => Err(RunError::Write),
+        },
+        Err(error) => Err(error),
+    }
+}
+
+/// Takes the end, and passes on what the sink then holds.
+fn finish<T: Sink, K, I: Input<K>>(
+    input: &mut I,
+    taker: &mut K,
+    sink: &mut T,
+) -> Result<(), RunError>
+    requires room { T.failed sink.old + 1 < 2 ^ 64 }
+    requires following { (b : List ℕ) × (length b ≤ 2 ^ 40) × I.follows input.old taker.old b }
+    ensures { EndRan (I.reads input.old taker.old) (I.follows input.old taker.old) (I.finished input.new taker.new)
+        (record { old = T.taken sink.old; new = T.taken sink.new; failed_old = T.failed sink.old; failed_new = T.failed sink.new }) result }
+{
+    match input.finish(taker, sink) {
+        Ok(()) => match sink.flush() {
+            Ok(()) => Ok(()),
+            Err(_) => Err(RunError::Write),
+        },
+        Err(error) => Err(error),
+    }
 }
 
 /// Converts all bytes of the source, at most `max_bytes`, and answers how many they are.
@@ -124,7 +165,7 @@ pub fn convert<S: Source, T: Sink, K, I: Input<K>>(
             Err(_) => return Err(RunError::Read),
         };
         if n == 0 {
-            return match input.finish(taker, sink) {
+            return match finish(input, taker, sink) {
                 Ok(()) => Ok(seen),
                 Err(error) => Err(error),
             };

@@ -1,18 +1,17 @@
 //! Cells as they go through a lock.
 
-ghost use Rattle.std.specs.Prelude.{◌≡◌, ◌+◌, ◌*◌, ◌<◌, ◌≤◌, ◌^◌, ◌++◌, List, [], take, length, option_to_list};
+ghost use Rattle.std.specs.Prelude.{◌≡◌, ◌+◌, ◌*◌, ◌<◌, ◌≤◌, ◌^◌, ◌++◌, List, [], take, length};
 ghost use Rattle.std.specs.List.{flat_map};
-ghost use Rattle.std.specs.Int.{bit_at};
 ghost use Rattle.aes3_cell.specs.declared.level.Level.{Level};
-ghost use Rattle.aes3_cell.specs.Words.{level_of, low_cells, word_cells};
+ghost use Rattle.aes3_cell.specs.Words.{word_cells};
 ghost use Rattle.aes3_lock.specs.Following.{Follows};
 ghost use Rattle.aes3_lock.specs.Reports.{decided, reports};
 ghost use Rattle.aes3_engine.specs.Reporting.{reporting};
 
 use crate::reporter::Reporter;
 use crate::taker::Taker;
-use aes3_cell::{Fault, Level, Sink};
-use aes3_lock::{Lock, Report};
+use aes3_cell::{Fault, Sink};
+use aes3_lock::Lock;
 
 /// Takes cells, and hands each report on them to a reporter when it is decided.
 #[derive(Drop)]
@@ -35,18 +34,6 @@ impl<R: Reporter> Locked<R> {
     }
 }
 
-/// Cell `i` of a word.
-fn cell_of_word(word: u64, i: u32) -> Level
-    requires { i < 64 }
-    ensures { result ≡ level_of (bit_at word i) }
-{
-    if word >> i & 1 == 1 {
-        Level::High
-    } else {
-        Level::Low
-    }
-}
-
 /// Takes the first of these words that decide no report, and answers how many they are.
 fn take_words(lock: &mut Lock, words: &[u64]) -> usize
     requires { lock.old.seen + 64 * length words.now ≤ 2 ^ 43 }
@@ -64,27 +51,6 @@ fn take_words(lock: &mut Lock, words: &[u64]) -> usize
     words.len()
 }
 
-/// Takes the first cells of a word up to the first that decides a report and with it, and at most `len`. Answers how many
-/// it took, and that report.
-fn push_front(lock: &mut Lock, word: u64, len: u32) -> (u32, Option<Report>)
-    requires room { lock.old.seen + len ≤ 2 ^ 43 }
-    requires few { len ≤ 64 }
-    ensures within { result.0 ≤ len }
-    ensures some { 0 < len → 0 < result.0 }
-    ensures follows { (cells : List Level) → Follows lock.old cells
-        → Follows lock.new (cells ++ low_cells result.0 word) }
-    ensures report { (cells : List Level) → Follows lock.old cells
-        → decided (cells ++ low_cells result.0 word) ≡ decided cells ++ option_to_list result.1 }
-{
-    for i in 0..len {
-        let cell = cell_of_word(word, i);
-        if !lock.take(cell) {
-            return (i + 1, lock.push(cell));
-        }
-    }
-    (len, None)
-}
-
 impl<R: Reporter> Taker for Locked<R> {
     ghost follows = { λ k c. Follows k.lock c × R.follows k.reporter (decided c) };
 
@@ -93,13 +59,16 @@ impl<R: Reporter> Taker for Locked<R> {
     ghost finished = { λ k c. R.finished k.reporter (reports c) };
 
     fn take_front<T: Sink>(&mut self, sink: &mut T, word: u64, len: u32) -> Result<u32, Fault> {
-        let (taken, report) = push_front(&mut self.lock, word, len);
-        match report {
-            Some(report) => match self.reporter.report(sink, &report) {
-                Ok(()) => Ok(taken),
-                Err(fault) => Err(fault),
-            },
-            None => Ok(taken),
+        let pushed = self.lock.push_front(word, len);
+        match pushed.ending {
+            Some(ending) => {
+                let told = self.lock.report(ending);
+                match self.reporter.report(sink, &told) {
+                    Ok(()) => Ok(pushed.taken),
+                    Err(fault) => Err(fault),
+                }
+            }
+            None => Ok(pushed.taken),
         }
     }
 

@@ -55,7 +55,7 @@ fn word_of_octet(octet: u8) -> u64
 fn hand_on<T: Sink, K: Taker>(taker: &mut K, sink: &mut T, octet: u8, used: u8) -> Result<(), Fault>
     requires few { used ≤ 8 }
     requires room { T.failed sink.old + 1 < 2 ^ 64 }
-    requires following { (c : List Level) × (length c + 8 < 2 ^ 43) × K.follows taker.old c }
+    requires following { (c : List Level) × (length c + 8 ≤ 2 ^ 43) × K.follows taker.old c }
     ensures { CellsRan (K.writes taker.old) (K.writes taker.new) (K.follows taker.old) (K.follows taker.new) (octet_front used octet)
         (record { old = T.taken sink.old; new = T.taken sink.new; failed_old = T.failed sink.old; failed_new = T.failed sink.new }) result }
 {
@@ -71,7 +71,7 @@ fn hand_on_last<T: Sink, K: Taker>(
 ) -> Result<(), Fault>
     requires few { used ≤ 8 }
     requires room { T.failed sink.old + 1 < 2 ^ 64 }
-    requires following { (c : List Level) × (length c + 8 < 2 ^ 43) × K.follows taker.old c }
+    requires following { (c : List Level) × (length c + 8 ≤ 2 ^ 43) × K.follows taker.old c }
     ensures { EndCellsRan (K.writes taker.old) (K.follows taker.old) (K.finished taker.new) (octet_front used octet)
         (record { old = T.taken sink.old; new = T.taken sink.new; failed_old = T.failed sink.old; failed_new = T.failed sink.new }) result }
 {

@@ -29,7 +29,7 @@ pub trait Taker {
         requires some { 0 < len }
         requires few { len ≤ 64 }
         requires room { T.failed sink.old + 1 < 2 ^ 64 }
-        requires following { (c : List Level) × (length c + len < 2 ^ 43) × follows self.old c }
+        requires following { (c : List Level) × (length c + len ≤ 2 ^ 43) × follows self.old c }
         ensures ran { FirstCellsRan (writes self.old) (writes self.new) (follows self.old) (follows self.new) len word
             (record { old = T.taken sink.old; new = T.taken sink.new; failed_old = T.failed sink.old; failed_new = T.failed sink.new }) result };
 
@@ -39,7 +39,7 @@ pub trait Taker {
     /// The sink's fault; then it has taken a front of what the end writes.
     fn finish<T: Sink>(&mut self, sink: &mut T) -> Result<(), Fault>
         requires room { T.failed sink.old + 1 < 2 ^ 64 }
-        requires following { (c : List Level) × (length c < 2 ^ 43) × follows self.old c }
+        requires following { (c : List Level) × (length c ≤ 2 ^ 43) × follows self.old c }
         ensures done { IfOk result (λ _. (c : List Level) → follows self.old c → finished self.new c) }
         ensures grew { IfOk result (λ _. (c : List Level) → follows self.old c → Grew (T.taken sink.old) (T.taken sink.new) ((writes self.old).ends c)) }
         ensures count { IfOk result (λ _. T.failed sink.new ≡ T.failed sink.old) }
@@ -53,7 +53,7 @@ pub trait Taker {
     fn cells<T: Sink>(&mut self, sink: &mut T, word: u64, len: u32) -> Result<(), Fault>
         requires few { len ≤ 64 }
         requires room { T.failed sink.old + 1 < 2 ^ 64 }
-        requires following { (c : List Level) × (length c + len < 2 ^ 43) × follows self.old c }
+        requires following { (c : List Level) × (length c + len ≤ 2 ^ 43) × follows self.old c }
         ensures ran { CellsRan (writes self.old) (writes self.new) (follows self.old) (follows self.new) (low_cells len word)
             (record { old = T.taken sink.old; new = T.taken sink.new; failed_old = T.failed sink.old; failed_new = T.failed sink.new }) result }
     {
@@ -73,7 +73,7 @@ pub trait Taker {
     /// The sink's fault; then it has taken a front of what the cells write.
     fn words<T: Sink>(&mut self, sink: &mut T, words: &[u64]) -> Result<(), Fault>
         requires room { T.failed sink.old + 1 < 2 ^ 64 }
-        requires following { (c : List Level) × (length c + 64 * length words.now < 2 ^ 43) × follows self.old c }
+        requires following { (c : List Level) × (length c + 64 * length words.now ≤ 2 ^ 43) × follows self.old c }
         ensures ran { CellsRan (writes self.old) (writes self.new) (follows self.old) (follows self.new) (flat_map word_cells words.now)
             (record { old = T.taken sink.old; new = T.taken sink.new; failed_old = T.failed sink.old; failed_new = T.failed sink.new }) result }
     {
@@ -92,7 +92,7 @@ pub trait Taker {
     /// The sink's fault; then it has taken a front of what the cell writes.
     fn cell<T: Sink>(&mut self, sink: &mut T, level: Level) -> Result<(), Fault>
         requires room { T.failed sink.old + 1 < 2 ^ 64 }
-        requires following { (c : List Level) × (length c + 1 < 2 ^ 43) × follows self.old c }
+        requires following { (c : List Level) × (length c + 1 ≤ 2 ^ 43) × follows self.old c }
         ensures next { IfOk result (λ _. (c : List Level) → follows self.old c → follows self.new (c ++ level ∷ [])) }
         ensures same { IfOk result (λ _. writes self.new ≡ writes self.old) }
         ensures grew { IfOk result (λ _. (c : List Level) → follows self.old c → Grew (T.taken sink.old) (T.taken sink.new) ((writes self.old).adds c level)) }
@@ -109,7 +109,7 @@ pub trait Taker {
     /// The sink's fault; then it has taken a front of what the cells write.
     fn word<T: Sink>(&mut self, sink: &mut T, word: u64) -> Result<(), Fault>
         requires room { T.failed sink.old + 1 < 2 ^ 64 }
-        requires following { (c : List Level) × (length c + 64 < 2 ^ 43) × follows self.old c }
+        requires following { (c : List Level) × (length c + 64 ≤ 2 ^ 43) × follows self.old c }
         ensures ran { CellsRan (writes self.old) (writes self.new) (follows self.old) (follows self.new) (word_cells word)
             (record { old = T.taken sink.old; new = T.taken sink.new; failed_old = T.failed sink.old; failed_new = T.failed sink.new }) result }
     {

@@ -8,9 +8,10 @@ use crate::reading::{cut, decode, normalise};
 use crate::rewriting::rewrite;
 use aes3_cell::{
     Counts, EndlessSource, FailingSink, FailingSource, Form, MemorySink, MemorySource, RunError,
-    ShortSink, Source,
+    ShortSink, Source, StdSink,
 };
 use std::alloc::{AllocError, Global};
+use std::io::BufWriter;
 use std::process::Abort;
 use std::test::Fail;
 
@@ -197,8 +198,15 @@ fn pieces_change_no_output(rt: HostRuntime) -> Result<(), Fail> {
     Ok(())
 }
 
-/// The first cells of a text, in lines of so many.
-fn in_lines(alloc: Global, text: &[u8], cells: usize, len: usize) -> Result<Vec<u8>, AllocError>
+/// The first cells of a text, in lines of so many, with one separator behind every eight and another behind every line.
+fn in_lines(
+    alloc: Global,
+    text: &[u8],
+    cells: usize,
+    len: usize,
+    between: &[u8],
+    end: &[u8],
+) -> Result<Vec<u8>, AllocError>
     requires { 0 < len }
 {
     let mut lines = Vec::new(alloc);
@@ -210,7 +218,9 @@ fn in_lines(alloc: Global, text: &[u8], cells: usize, len: usize) -> Result<Vec<
     {
         lines.push(*cell)?;
         if i % len == len - 1 {
-            lines.push(b'\n')?;
+            lines.extend_from_slice(end)?;
+        } else if i % 8 == 7 {
+            lines.extend_from_slice(between)?;
         }
     }
     Ok(lines)
@@ -220,14 +230,40 @@ fn in_lines(alloc: Global, text: &[u8], cells: usize, len: usize) -> Result<Vec<
 fn lines_of_any_length_change_no_output(rt: HostRuntime) -> Result<(), Fail> {
     let one = text_of(rt.alloc(), &[384])?;
     let more = text_of(rt.alloc(), &[384, 20])?;
-    for (cells, len) in [(25_856, 64), (25_793, 64), (25_856, 63), (25_793, 30_000)] {
-        let text = in_lines(rt.alloc(), &more, cells, len)?;
-        let mut source = MemorySource::new(&text, 4_096);
+    let rows: [(usize, usize, &[u8], &[u8], usize); 9] = [
+        (25_856, 64, b"", b"\n", 4_096),
+        (25_793, 64, b"", b"\n", 4_096),
+        (25_856, 63, b"", b"\n", 4_096),
+        (25_793, 30_000, b"", b"\n", 4_096),
+        (25_793, 64, b"", b"\r\n", 1_000),
+        (25_856, 64, b" ", b"\r\n", 4_096),
+        (25_793, 64, b" ", b"\r\n", 77),
+        (25_793, 65, b"  ", b" \n", 4_096),
+        (25_856, 1, b"", b"\n", 4_096),
+    ];
+    for (cells, len, between, end, piece) in rows {
+        assert!(rt; len > 0 && piece > 0);
+        let text = in_lines(rt.alloc(), &more, cells, len, between, end)?;
+        let mut source = MemorySource::new(&text, piece);
         let mut sink = MemorySink::new(rt.alloc());
         let answer = normalise(&mut source, &mut sink, MANY, Form::Text, Form::Text);
         let counted = matches!(&answer, Ok(counts) if counts.cells == cells as u64);
         assert!(rt; counted, "{cells} in lines of {len}");
         assert!(rt; sink.bytes() == one.as_slice(), "{cells} in lines of {len}");
+    }
+    Ok(())
+}
+
+#[test]
+fn what_is_decided_leaves_before_the_next_read(rt: HostRuntime) -> Result<(), Fail> {
+    let two = text_of(rt.alloc(), &[384, 384])?;
+    for (call, written) in [(385, 0), (386, BLOCK_TEXT), (769, BLOCK_TEXT)] {
+        let mut output = BufWriter::with_capacity(rt.alloc(), 1 << 16, Vec::new(rt.alloc()))?;
+        let mut source = FailingSource::new(&two, 65, call);
+        let mut sink = StdSink::new(&mut output);
+        let answer = normalise(&mut source, &mut sink, MANY, Form::Text, Form::Text);
+        assert!(rt; answer == Err(RunError::Read), "read {call}");
+        assert_eq!(rt; output.get_ref().len(), written, "read {call}");
     }
     Ok(())
 }

@@ -26,7 +26,7 @@ pub returns-in-Ok-finish : goal.returns-in-Ok-finish
 returns-in-Ok-finish g c =
     let v = c.pieces.invariant in
     record {
-      run = ran-end c.args.max_bytes (g.I.Input.finished c.finish.new.self c.finish.new.taker) _ _ _ _ _ _ _
+      run = ran-end c.args.max_bytes (g.I.Input.finished c.finish.new.input c.finish.new.taker) _ _ _ _ _ _ _
           v.upto c.requires.start v.short (c.in-Ok.ensures.count ∙ v.quiet_source) v.quiet_sink
           (grew-is (ap (λ z. take z c.read_piece.new.piece) c.if-n-eq0.true) c.in-Ok.ensures.bytes) (c.in-Ok.ensures.end.0 c.if-n-eq0.true) c.in-Ok-finish.ensures;
     }
@@ -35,7 +35,7 @@ pub returns-in-Err-finish : goal.returns-in-Err-finish
 returns-in-Err-finish g c =
     let v = c.pieces.invariant in
     record {
-      run = ran-end_err c.args.max_bytes (g.I.Input.finished c.finish.new.self c.finish.new.taker) _ _ _ _ _ _ _ c.in-Err-finish.error
+      run = ran-end_err c.args.max_bytes (g.I.Input.finished c.finish.new.input c.finish.new.taker) _ _ _ _ _ _ _ c.in-Err-finish.error
           v.upto c.requires.start v.short (c.in-Ok.ensures.count ∙ v.quiet_source) v.quiet_sink
           (grew-is (ap (λ z. take z c.read_piece.new.piece) c.if-n-eq0.true) c.in-Ok.ensures.bytes) (c.in-Ok.ensures.end.0 c.if-n-eq0.true) c.in-Err-finish.ensures;
     }

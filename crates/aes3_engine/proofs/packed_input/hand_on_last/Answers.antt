@@ -1,4 +1,4 @@
-use Rattle.std.proofs.Common.{◌+◌, ◌^◌, ◌<◌, ◌++◌, length, length-append, arith}
+use Rattle.std.proofs.Common.{◌+◌, ◌^◌, ◌≤◌, ◌++◌, length, length-append, arith}
 use Rattle.aes3_engine.specs.Forms.{octet_front}
 use Rattle.aes3_engine.proofs.PackedLemmas.{length-front, ended}
 use Rattle.aes3_engine.proofs.packed_input.hand_on_last.Goals as goal
@@ -6,7 +6,7 @@ use Rattle.aes3_engine.proofs.packed_input.hand_on_last.Goals as goal
 pub finish-requires-clause-following : goal.finish-requires-clause-following
 finish-requires-clause-following g c =
     let q = c.requires.following in
-    let l : length q.0 + 8 < 2 ^ 43 = q.1 in
+    let l : length q.0 + 8 ≤ 2 ^ 43 = q.1 in
     let d = octet_front c.args.used c.args.octet in
     let n = length-append q.0 d in
     let k = length-front c.args.used c.args.octet c.requires.few in

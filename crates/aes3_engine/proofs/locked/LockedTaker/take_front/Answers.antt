@@ -1,10 +1,11 @@
 use Rattle.std.proofs.Common.{◌≡◌, ◌-◌, ◌/◌, ◌^◌, ◌++◌, ◌∷◌, [], List, arith, refl, sym, ap, ◌∙◌, subst, append-nil}
-use Rattle.std.specs.Prelude.{option_to_list}
+use Rattle.std.specs.Prelude.{option_to_list, option_map}
 use Rattle.aes3_cell.specs.Words.{low_cells}
 use Rattle.aes3_cell.proofs.Growing.{grew-none, grew-is, front-is, front-more}
+use Rattle.aes3_lock.specs.Following.{report_in}
 use Rattle.aes3_lock.specs.Reports.{decided}
-use Rattle.aes3_engine.specs.Reporting.{reporting}
 use Rattle.aes3_engine.specs.Taking.{behind}
+use Rattle.aes3_engine.specs.Reporting.{reporting}
 use Rattle.aes3_engine.proofs.Items.{items-join}
 use Rattle.aes3_engine.proofs.Handing.{cells-parted}
 use Rattle.aes3_engine.proofs.Reports.{few-decided, adds-report, adds-nothing, same-reporting}
@@ -19,9 +20,11 @@ report-requires-clause-following g c =
 
 pub returns-in-Ok : goal.returns-in-Ok
 returns-in-Ok g c =
-    let p = c.push_front-taken.ensures in
-    let d = low_cells c.push_front-taken.result.0 c.args.word in
+    let p = c.push_front-pushed.ensures in
+    let k = c.push_front-pushed.new.self in
+    let d = low_cells c.push_front-pushed.result.taken c.args.word in
     let w = g.R.Reporter.writes c.args.self.now.reporter in
+    let told = ap (λ o. option_to_list (option_map (report_in k) o)) c.in-Some.is ∙ ap (λ r. r ∷ []) (sym c.report-told.ensures) in
     record {
       ran = (
         p.some c.requires.some,
@@ -30,9 +33,9 @@ returns-in-Ok g c =
           same-reporting c.in-Ok.ensures.same,
           (λ b h. (
             p.follows b h.0,
-            subst (g.R.Reporter.follows c.report.new.self) (sym (p.report b h.0 ∙ ap (λ o. decided b ++ option_to_list o) c.in-Some.is)) (c.in-Ok.ensures.next (decided b) h.1),
+            subst (g.R.Reporter.follows c.report.new.self) (sym (p.report b h.0 ∙ ap (λ o. decided b ++ o) told)) (c.in-Ok.ensures.next (decided b) h.1),
           )),
-          (λ b h. grew-is (sym (adds-report w b d c.in-Some.report (p.report b h.0 ∙ ap (λ o. decided b ++ option_to_list o) c.in-Some.is))) (c.in-Ok.ensures.grew (decided b) h.1)),
+          (λ b h. grew-is (sym (adds-report w b d c.report-told.result (p.report b h.0 ∙ ap (λ o. decided b ++ o) told))) (c.in-Ok.ensures.grew (decided b) h.1)),
           c.in-Ok.ensures.count,
         ),
       );
@@ -40,25 +43,29 @@ returns-in-Ok g c =
 
 pub returns-in-Err : goal.returns-in-Err
 returns-in-Err g c =
-    let p = c.push_front-taken.ensures in
-    let n = c.push_front-taken.result.0 in
+    let p = c.push_front-pushed.ensures in
+    let k = c.push_front-pushed.new.self in
+    let n = c.push_front-pushed.result.taken in
     let d = low_cells n c.args.word in
     let rest = low_cells (c.args.len - n) (c.args.word / 2 ^ n) in
     let w = g.R.Reporter.writes c.args.self.now.reporter in
+    let told = ap (λ o. option_to_list (option_map (report_in k) o)) c.in-Some.is ∙ ap (λ r. r ∷ []) (sym c.report-told.ensures) in
     record {
       ran = (
         c.in-Err.ensures.err_count,
         (λ b h.
             front-is (sym (ap (λ z. behind (reporting w) b z) (cells-parted c.args.word n c.args.len p.within) ∙ items-join (reporting w) b d rest))
-            (front-more (front-is (sym (adds-report w b d c.in-Some.report (p.report b h.0 ∙ ap (λ o. decided b ++ option_to_list o) c.in-Some.is))) (c.in-Err.ensures.err_grew (decided b) h.1)) _)),
+            (front-more (front-is (sym (adds-report w b d c.report-told.result (p.report b h.0 ∙ ap (λ o. decided b ++ o) told))) (c.in-Err.ensures.err_grew (decided b) h.1)) _)),
       );
     }
 
 pub returns-in-None : goal.returns-in-None
 returns-in-None g c =
-    let p = c.push_front-taken.ensures in
-    let d = low_cells c.push_front-taken.result.0 c.args.word in
+    let p = c.push_front-pushed.ensures in
+    let k = c.push_front-pushed.new.self in
+    let d = low_cells c.push_front-pushed.result.taken c.args.word in
     let w = g.R.Reporter.writes c.args.self.now.reporter in
+    let told = ap (λ o. option_to_list (option_map (report_in k) o)) c.in-None.is in
     record {
       ran = (
         p.some c.requires.some,
@@ -67,9 +74,9 @@ returns-in-None g c =
           refl,
           (λ b h. (
             p.follows b h.0,
-            subst (g.R.Reporter.follows c.args.self.now.reporter) (sym (p.report b h.0 ∙ ap (λ o. decided b ++ option_to_list o) c.in-None.is ∙ append-nil (decided b))) h.1,
+            subst (g.R.Reporter.follows c.args.self.now.reporter) (sym (p.report b h.0 ∙ ap (λ o. decided b ++ o) told ∙ append-nil (decided b))) h.1,
           )),
-          (λ b h. grew-is (sym (adds-nothing w b d (p.report b h.0 ∙ ap (λ o. decided b ++ option_to_list o) c.in-None.is ∙ append-nil (decided b)))) (grew-none refl)),
+          (λ b h. grew-is (sym (adds-nothing w b d (p.report b h.0 ∙ ap (λ o. decided b ++ o) told ∙ append-nil (decided b)))) (grew-none refl)),
           refl,
         ),
       );

@@ -1,4 +1,4 @@
-use Rattle.std.proofs.Common.{◌≡◌, ◌+◌, ◌-◌, ◌*◌, ◌^◌, ◌<◌, ◌++◌, [], List, length, take, drop, get_or, arith, refl, sym, ap, ◌∙◌, subst, length-append, length-drop}
+use Rattle.std.proofs.Common.{◌≡◌, ◌+◌, ◌-◌, ◌*◌, ◌^◌, ◌≤◌, ◌++◌, [], List, length, take, drop, get_or, arith, refl, sym, ap, ◌∙◌, subst, length-append, length-drop}
 use Rattle.std.specs.List.{flat_map}
 use Rattle.std.proofs.lemmas.List.{length-take-le, take_rest, take_all}
 use Rattle.aes3_cell.specs.Words.{word_len, word_cells}
@@ -13,7 +13,7 @@ take_words-at-requires g c =
     let at = c.loop-at.at in
     let v = c.loop-at.invariant in
     let o = v.within in
-    let l : length q.0 + 64 * length ws < 2 ^ 43 = q.1 in
+    let l : length q.0 + 64 * length ws ≤ 2 ^ 43 = q.1 in
     let s = (v.handed.follows q.0 q.2).0.seen in
     let a = length-append q.0 (flat_map word_cells (take at ws)) in
     let k = length-words (take at ws) in
@@ -40,7 +40,7 @@ cells-requires-clause-following g c =
     let at = c.loop-at.at in
     let v = c.loop-at.invariant in
     let n = c.take_words-at.result in
-    let l : length q.0 + 64 * length ws < 2 ^ 43 = q.1 in
+    let l : length q.0 + 64 * length ws ≤ 2 ^ 43 = q.1 in
     let h =
     handed-quiet (g.R.Reporter.writes c.loop-at.self.reporter) c.loop-at.self.lock c.take_words-at.new.lock (g.R.Reporter.follows c.loop-at.self.reporter)
     ws (take (length ws - at) (drop at ws)) at n (take_rest ws at) v.handed c.take_words-at.ensures.follows c.take_words-at.ensures.none in

@@ -1,4 +1,4 @@
-use Rattle.std.proofs.Common.{◌+◌, ◌-◌, ◌/◌, ◌^◌, ◌<◌, ◌++◌, [], length, sym, ap, ◌∙◌, arith, append-nil, length-append}
+use Rattle.std.proofs.Common.{◌+◌, ◌-◌, ◌/◌, ◌^◌, ◌≤◌, ◌++◌, [], length, sym, ap, ◌∙◌, arith, append-nil, length-append}
 use Rattle.aes3_cell.specs.Words.{low_cells}
 use Rattle.aes3_cell.proofs.WordCells.{length-low_cells, low_cells-add}
 use Rattle.aes3_engine.proofs.Handing.{handed-cells, handed-cells-front, cells-parted}
@@ -7,7 +7,7 @@ use Rattle.aes3_engine.proofs.taker.Taker.cells.Goals as goal
 pub take_front-requires-clause-following : goal.take_front-requires-clause-following
 take_front-requires-clause-following g c =
     let q = c.requires.following in
-    let l : length q.0 + c.args.len < 2 ^ 43 = q.1 in
+    let l : length q.0 + c.args.len ≤ 2 ^ 43 = q.1 in
     let i = c.loop-taken.taken in
     let v = c.loop-taken.invariant in
     let o = v.within in

@@ -1,4 +1,4 @@
-use Rattle.std.proofs.Common.{◌+◌, ◌*◌, ◌^◌, ◌<◌, ◌≡◌, ◌++◌, length, take, drop, get_or, sym, ap, ◌∙◌, arith, length-append}
+use Rattle.std.proofs.Common.{◌+◌, ◌*◌, ◌^◌, ◌≤◌, ◌≡◌, ◌++◌, length, take, drop, get_or, sym, ap, ◌∙◌, arith, length-append}
 use Rattle.std.specs.List.{flat_map}
 use Rattle.std.proofs.lemmas.List.{length-take-le}
 use Rattle.aes3_cell.specs.Words.{word_len, word_cells}
@@ -10,7 +10,7 @@ cells-requires-clause-following g c =
     let q = c.requires.following in
     let ws = c.args.words.now in
     let i = c.loop-word.word-index in
-    let l : length q.0 + 64 * length ws < 2 ^ 43 = q.1 in
+    let l : length q.0 + 64 * length ws ≤ 2 ^ 43 = q.1 in
     let d = flat_map word_cells (take i ws) in
     let n = length-append q.0 d in
     let k = length-words (take i ws) in

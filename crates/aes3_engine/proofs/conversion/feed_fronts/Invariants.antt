@@ -1,6 +1,6 @@
 use Rattle.std.proofs.Common.{◌≡◌, ◌-◌, ◌≤◌, length, take}
 use Rattle.aes3_engine.specs.Running.{Fed}
-use Rattle.aes3_engine.proofs.conversion.feed.Given as goal
+use Rattle.aes3_engine.proofs.conversion.feed_fronts.Given as goal
 
 abbrev pub invariant-loop-at : goal.invariant-loop-at
 invariant-loop-at g l = record {
