@@ -56,7 +56,7 @@ Refusals, with what PLACE counts from 0:
 Examples, three tasks with examples/speech.block of the sources:
   Make a line of a block file, and look whether it is whole:
     aes3 encode < speech.block > line.txt
-    aes3 check < line.txt | head -n 3
+    aes3 check < line.txt | sed -n 1,3p
   Take the whole blocks of a damaged line, as a clean line and as a block file:
     sed '48200s/^1/0/' line.txt | tail -c +12538 > damaged.txt
     aes3 check < damaged.txt | grep -v whole
@@ -132,7 +132,7 @@ Exit status: 0 no fault; 1 there are `marked` or `fault` lines; 3 refused: 1 a b
 no cell, 10 packed cells end wrongly; or as for every command.
 
 Examples:
-    aes3 check < line.txt | head -n 3
+    aes3 check < line.txt | sed -n 1,3p
     aes3 encode < speech.block | sed '48200s/^1/0/' | aes3 check | grep -v whole",
 };
 
@@ -166,7 +166,7 @@ Exit status: 0 done, also where there is none; 3 refused: 1 a byte is no cell, 1
 cells end wrongly; or as for every command.
 
 Examples:
-    aes3 cut 0 1 < line.txt | aes3 scan | head -n 3
+    aes3 cut 0 1 < line.txt | aes3 scan | sed -n 1,3p
     aes3 scan < line.txt | grep -c 'mark Z'",
 };
 
