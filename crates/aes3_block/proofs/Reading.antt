@@ -1,18 +1,18 @@
 -- A block file read byte by byte.
-use Rattle.std.proofs.Common.{◌≡◌, ℕ, suc, ◌+◌, ◌*◌, ◌/◌, ◌%◌, ◌^◌, ◌<◌, ◌≤◌, List, [], ◌∷◌, ◌++◌, Bool, true, false, cond, eqb, ◌&&◌, length, get_or, take, set, map, Option, Some, None, Result, Ok, Err, refl, sym, ap, ◌∙◌, arith, eq-eqb, ne_eqb, add-one}
-use Rattle.std.proofs.lemmas.List.{take_all, length-take-le, length-set}
-use Rattle.std.proofs.Math.Seq.{take-suc-set}
+use Rattle.std.proofs.Common.{◌≡◌, ℕ, suc, ◌+◌, ◌*◌, ◌/◌, ◌%◌, ◌^◌, ◌<◌, ◌≤◌, ◌≢◌, ◌-◌, ◌⊎◌, inl, inr, List, [], ◌∷◌, ◌++◌, Bool, true, false, cond, eqb, ◌&&◌, length, length-append, get_or, map, Option, Some, None, Result, Ok, Err, refl, sym, ap, ◌∙◌, arith, eq-eqb, ne_eqb, add-one}
+use Rattle.std.proofs.lemmas.Bool.{cases_eq, cases_lt}
+use Rattle.std.proofs.lemmas.List.{get_or_append_left, get_or-append_right}
 use Rattle.aes3_block.specs.declared.file.FileFault.{FileFault}
 use Rattle.aes3_block.specs.declared.file.FileFault.TheVariants.{BadLength, BadCode, BadParity}
 use Rattle.aes3_block.specs.Blocks.{block_slots}
 use Rattle.aes3_block.specs.Files.{bytes_number, has_code, has_parity, is_lawful, low_bytes, payload_of}
 use Rattle.aes3_block.specs.Readers.{FileReader, word_fault, ends_word, word_with, byte_fault, ends_block, block_with, reader_with, fault_with, answer_with, next_with, end_answer}
 use Rattle.aes3_block.proofs.Bytes.{length-low_bytes, bytes_number-low_bytes}
-use Rattle.aes3_block.proofs.BlockLemmas.{block_slots_384, put-lawful}
+use Rattle.aes3_block.proofs.BlockLemmas.{block_slots_384}
 
 -- a reader by what it stores
 abbrev pub stored : ℕ → List ℕ → ℕ → Option FileFault → FileReader
-stored seen ws w f = record { seen = seen; words = take (seen / 4 % 384) ws; bytes = low_bytes (seen % 4) w; fault = f }
+stored seen ws w f = record { seen = seen; words = ws; bytes = low_bytes (seen % 4) w; fault = f }
 
 in-word : (seen : ℕ) (ws : List ℕ) (w : ℕ) (f : Option FileFault) → seen % 4 < 3 → ends_word (stored seen ws w f) ≡ false
 in-word seen ws w f h = ne_eqb (length (low_bytes (seen % 4) w)) 3 (λ e. let l = length-low_bytes (seen % 4) w in omega arith)
@@ -50,9 +50,8 @@ byte-short seen ws w v x h b =
     let r = stored seen ws w None in
     let e : ends_word r ≡ false = in-word seen ws w None h in
     let q = same-block r x false false e (rw e refl) (rw e refl) refl in
-    let i : seen / 4 ≡ (seen + 1) / 4 = omega arith in
     let j : seen % 4 + 1 ≡ (seen + 1) % 4 = omega arith in
-    (q.0, q.1 ∙ reader-is (sym (add-one seen)) (ap (λ k. take (k % 384) ws) i) (sym b ∙ ap (λ k. low_bytes k v) j))
+    (q.0, q.1 ∙ reader-is (sym (add-one seen)) refl (sym b ∙ ap (λ k. low_bytes k v) j))
 
 -- the word that a byte ends
 word-whole : (seen : ℕ) (ws : List ℕ) (w v x : ℕ) → 3 ≤ seen % 4 → low_bytes (seen % 4 + 1) v ≡ low_bytes (seen % 4) w ++ x ∷ [] → v < 2 ^ 32
@@ -74,47 +73,93 @@ pub byte-refused : (seen : ℕ) (ws : List ℕ) (w v x : ℕ) (f : FileFault) �
     → (answer_with (stored seen ws w None) x ≡ Err f) × (next_with (stored seen ws w None) x ≡ stored seen ws w (Some f))
 byte-refused seen ws w v x f h b l e = refused (stored seen ws w None) x f refl (fault-whole seen ws w v x h b l ∙ e)
 
--- the words with one more
-words-more : (seen v : ℕ) (ws : List ℕ) → length ws ≡ 384 → take (seen / 4 % 384) ws ++ v ∷ [] ≡ take (suc (seen / 4 % 384)) (set ws (seen / 4 % 384) v)
-words-more seen v ws l = sym (take-suc-set ws (seen / 4 % 384) v (omega arith))
-
 -- a byte that ends a word inside a block
-pub byte-word : (seen : ℕ) (ws : List ℕ) (w v x : ℕ) → length ws ≡ 384 → 3 ≤ seen % 4 → low_bytes (seen % 4 + 1) v ≡ low_bytes (seen % 4) w ++ x ∷ [] → v < 2 ^ 32
+pub byte-word : (seen : ℕ) (ws : List ℕ) (w v x : ℕ) → length ws ≡ seen / 4 % 384 → 3 ≤ seen % 4 → low_bytes (seen % 4 + 1) v ≡ low_bytes (seen % 4) w ++ x ∷ [] → v < 2 ^ 32
     → word_fault (seen / 4) v ≡ None → seen / 4 % 384 + 1 < 384
-    → (answer_with (stored seen ws w None) x ≡ Ok None) × (next_with (stored seen ws w None) x ≡ stored (seen + 1) (set ws (seen / 4 % 384) v) 0 None)
+    → (answer_with (stored seen ws w None) x ≡ Ok None) × (next_with (stored seen ws w None) x ≡ stored (seen + 1) (ws ++ v ∷ []) 0 None)
 byte-word seen ws w v x lw h b l e s =
     let r = stored seen ws w None in
     let ew : ends_word r ≡ true = at-word seen ws w None h in
-    let n : length (take (seen / 4 % 384) ws) ≡ seen / 4 % 384 = length-take-le (seen / 4 % 384) ws (omega arith) in
-    let nb : eqb (suc (length (take (seen / 4 % 384) ws))) block_slots ≡ false = ne_eqb (suc (length (take (seen / 4 % 384) ws))) block_slots (λ y. let k = block_slots_384 in omega arith) in
+    let nb : eqb (suc (length ws)) block_slots ≡ false = ne_eqb (suc (length ws)) block_slots (λ y. let k = block_slots_384 in omega arith) in
     let q = same-block r x true false ew (rw (ew, nb) refl) (fault-whole seen ws w v x h b l ∙ e) refl in
-    let i : suc (seen / 4 % 384) ≡ (seen + 1) / 4 % 384 = omega arith in
     let j : (seen + 1) % 4 ≡ 0 = omega arith in (
       q.0,
-      q.1 ∙ reader-is (sym (add-one seen))
-          (ap (λ y. take (seen / 4 % 384) ws ++ y ∷ []) (word-whole seen ws w v x h b l) ∙ words-more seen v ws lw ∙ ap (λ k. take k (set ws (seen / 4 % 384) v)) i)
-          (sym (ap (λ k. low_bytes k 0) j)),
+      q.1 ∙ reader-is (sym (add-one seen)) (ap (λ y. ws ++ y ∷ []) (word-whole seen ws w v x h b l)) (sym (ap (λ k. low_bytes k 0) j)),
     )
 
 -- a byte that ends a block
-pub byte-block : (seen : ℕ) (ws : List ℕ) (w v x : ℕ) → length ws ≡ 384 → 3 ≤ seen % 4 → low_bytes (seen % 4 + 1) v ≡ low_bytes (seen % 4) w ++ x ∷ [] → v < 2 ^ 32
+pub byte-block : (seen : ℕ) (ws : List ℕ) (w v x : ℕ) → length ws ≡ seen / 4 % 384 → 3 ≤ seen % 4 → low_bytes (seen % 4 + 1) v ≡ low_bytes (seen % 4) w ++ x ∷ [] → v < 2 ^ 32
     → word_fault (seen / 4) v ≡ None → 384 ≤ seen / 4 % 384 + 1
-    → (answer_with (stored seen ws w None) x ≡ Ok (Some (map payload_of (set ws (seen / 4 % 384) v))))
-    × (next_with (stored seen ws w None) x ≡ stored (seen + 1) (set ws (seen / 4 % 384) v) 0 None)
+    → (answer_with (stored seen ws w None) x ≡ Ok (Some (map payload_of (ws ++ v ∷ []))))
+    × (next_with (stored seen ws w None) x ≡ stored (seen + 1) [] 0 None)
 byte-block seen ws w v x lw h b l e s =
     let r = stored seen ws w None in
     let ew : ends_word r ≡ true = at-word seen ws w None h in
-    let n : length (take (seen / 4 % 384) ws) ≡ seen / 4 % 384 = length-take-le (seen / 4 % 384) ws (omega arith) in
-    let nb : eqb (suc (length (take (seen / 4 % 384) ws))) block_slots ≡ true = eq-eqb (suc (length (take (seen / 4 % 384) ws))) block_slots (let k = block_slots_384 in omega arith) in
+    let nb : eqb (suc (length ws)) block_slots ≡ true = eq-eqb (suc (length ws)) block_slots (let k = block_slots_384 in omega arith) in
     let q = same-block r x true true ew (rw (ew, nb) refl) (fault-whole seen ws w v x h b l ∙ e) refl in
-    let i : (seen + 1) / 4 % 384 ≡ 0 = omega arith in
-    let j : (seen + 1) % 4 ≡ 0 = omega arith in
-    let all : take (suc (seen / 4 % 384)) (set ws (seen / 4 % 384) v) ≡ set ws (seen / 4 % 384) v =
-    take_all (suc (seen / 4 % 384)) (set ws (seen / 4 % 384) v) (let y = length-set ws (seen / 4 % 384) v in omega arith) in (
-      q.0 ∙ ap (λ y. Ok (Some (map payload_of y)))
-          (ap (λ y. take (seen / 4 % 384) ws ++ y ∷ []) (word-whole seen ws w v x h b l) ∙ words-more seen v ws lw ∙ all),
-      q.1 ∙ reader-is (sym (add-one seen)) (sym (ap (λ k. take k (set ws (seen / 4 % 384) v)) i)) (sym (ap (λ k. low_bytes k 0) j)),
+    let j : (seen + 1) % 4 ≡ 0 = omega arith in (
+      q.0 ∙ ap (λ y. Ok (Some (map payload_of (ws ++ y ∷ [])))) (word-whole seen ws w v x h b l),
+      q.1 ∙ reader-is (sym (add-one seen)) refl (sym (ap (λ k. low_bytes k 0) j)),
     )
+
+-- the words with one more, and what is left of them where they are a block
+pub record Taken (all left : List ℕ) (block : Option (List (List Bool))) : Type 0 where
+  pub whole : length all ≡ 384 → (block ≡ Some (map payload_of all)) × (left ≡ [])
+  pub begun : length all ≢ 384 → (block ≡ None) × (left ≡ all)
+
+-- a byte that ends a word
+pub byte-ends : (seen : ℕ) (ws left : List ℕ) (w v x : ℕ) (block : Option (List (List Bool))) → Taken (ws ++ v ∷ []) left block → length ws ≡ seen / 4 % 384 → 3 ≤ seen % 4
+    → low_bytes (seen % 4 + 1) v ≡ low_bytes (seen % 4) w ++ x ∷ [] → v < 2 ^ 32 → word_fault (seen / 4) v ≡ None
+    → (answer_with (stored seen ws w None) x ≡ Ok block) × (next_with (stored seen ws w None) x ≡ stored (seen + 1) left 0 None)
+byte-ends seen ws left w v x block t lw h b l e = go (cases_lt (seen / 4 % 384 + 1) 384)
+  where
+    n : length (ws ++ v ∷ []) ≡ length ws + 1
+    n = length-append ws (v ∷ [])
+
+    go : (seen / 4 % 384 + 1 < 384) ⊎ (384 ≤ seen / 4 % 384 + 1)
+        → (answer_with (stored seen ws w None) x ≡ Ok block) × (next_with (stored seen ws w None) x ≡ stored (seen + 1) left 0 None)
+    go (inl s) =
+        let q = byte-word seen ws w v x lw h b l e s in
+        let u = t.begun (λ y. omega (arith, y, n, lw, s)) in
+        (q.0 ∙ ap Ok (sym u.0), q.1 ∙ ap (λ k. stored (seen + 1) k 0 None) (sym u.1))
+    go (inr s) =
+        let q = byte-block seen ws w v x lw h b l e s in
+        let u = t.whole (omega (arith, n, lw, s)) in
+        (q.0 ∙ ap Ok (sym u.0), q.1 ∙ ap (λ k. stored (seen + 1) k 0 None) (sym u.1))
+
+-- words that are lawful, with one more
+pub push-lawful : (ws : List ℕ) (v : ℕ) → is_lawful v ≡ true → ((i : ℕ) → i < length ws → is_lawful (get_or ws i 0) ≡ true)
+    → (i : ℕ) → i < length (ws ++ v ∷ []) → is_lawful (get_or (ws ++ v ∷ []) i 0) ≡ true
+push-lawful ws v e old i lt = go (cases_lt i (length ws))
+  where
+    go : (i < length ws) ⊎ (length ws ≤ i) → is_lawful (get_or (ws ++ v ∷ []) i 0) ≡ true
+    go (inl h) = ap is_lawful (get_or_append_left ws (v ∷ []) 0 i h) ∙ old i h
+    go (inr h) =
+        let n = length-append ws (v ∷ []) in
+        let z : i - length ws ≡ 0 = omega (arith, lt, n, h) in
+        ap is_lawful (get_or-append_right ws (v ∷ []) (length ws) i 0 refl h ∙ ap (λ k. get_or (v ∷ []) k 0) z) ∙ e
+
+-- what is left keeps what a reader promises of its words
+pub left-count : (seen : ℕ) (ws left : List ℕ) (v : ℕ) (block : Option (List (List Bool))) → Taken (ws ++ v ∷ []) left block → length ws ≡ seen / 4 % 384 → 3 ≤ seen % 4
+    → length left ≡ (seen + 1) / 4 % 384
+left-count seen ws left v block t lw h = go (cases_lt (seen / 4 % 384 + 1) 384)
+  where
+    n : length (ws ++ v ∷ []) ≡ length ws + 1
+    n = length-append ws (v ∷ [])
+
+    go : (seen / 4 % 384 + 1 < 384) ⊎ (384 ≤ seen / 4 % 384 + 1) → length left ≡ (seen + 1) / 4 % 384
+    go (inl s) = let l = ap length (t.begun (λ y. omega (arith, y, n, lw, s))).1 in omega (arith, l, n, lw, s, h)
+    go (inr s) = let l = ap length (t.whole (omega (arith, n, lw, s))).1 in omega (arith, l, lw, s, h)
+
+pub left-lawful : (all left : List ℕ) (block : Option (List (List Bool))) → Taken all left block → ((i : ℕ) → i < length all → is_lawful (get_or all i 0) ≡ true)
+    → (i : ℕ) → i < length left → is_lawful (get_or left i 0) ≡ true
+left-lawful all left block t e i lt = go (cases_eq (length all) 384)
+  where
+    go : (length all ≡ 384) ⊎ (length all ≡ 384 → ⊥) → is_lawful (get_or left i 0) ≡ true
+    go (inl q) = absurd (let l = ap length (t.whole q).1 in omega (arith, l, lt))
+    go (inr q) =
+        let same = (t.begun q).1 in
+        ap (λ k. is_lawful (get_or k i 0)) same ∙ e i (let l = ap length same in omega (arith, l, lt))
 
 -- a word without a fault is lawful
 pub fault-lawful : (at w : ℕ) → word_fault at w ≡ None → is_lawful w ≡ true
@@ -134,12 +179,6 @@ fault-unlawful at w f = go (has_code w) (has_parity w)
     go true true e = cc
     go true false e = refl
     go false parity e = refl
-
--- the words of the block begun, with one more, are lawful
-pub words-lawful : (ws : List ℕ) (seen v : ℕ) → length ws ≡ 384 → 3 ≤ seen % 4 → is_lawful v ≡ true
-    → ((i : ℕ) → i < seen / 4 % 384 → is_lawful (get_or ws i 0) ≡ true)
-    → (i : ℕ) → i < (seen + 1) / 4 % 384 → is_lawful (get_or (set ws (seen / 4 % 384) v) i 0) ≡ true
-words-lawful ws seen v l h e old i lt = put-lawful ws (seen / 4 % 384) v (omega arith) e old i (omega arith)
 
 -- the end of a file
 block_bytes_1536 : 4 * block_slots ≡ 1536

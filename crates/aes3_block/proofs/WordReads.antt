@@ -1,5 +1,5 @@
 -- The four bytes of a word read at once.
-use Rattle.std.proofs.Common.{◌≡◌, ℕ, ◌+◌, ◌/◌, ◌%◌, ◌^◌, ◌<◌, ◌≤◌, ◌⊎◌, inl, inr, List, [], ◌∷◌, ◌++◌, length, get_or, set, true, false, true≢false, Option, Some, None, Ok, refl, sym, ap, ◌∙◌, subst, arith, w32}
+use Rattle.std.proofs.Common.{◌≡◌, ℕ, ◌+◌, ◌/◌, ◌%◌, ◌^◌, ◌<◌, ◌≤◌, ◌⊎◌, inl, inr, List, [], ◌∷◌, ◌++◌, length, get_or, true, false, true≢false, Option, Some, None, Ok, refl, sym, ap, ◌∙◌, subst, arith, w32}
 use Rattle.std.specs.Prelude.{is_some}
 use Rattle.std.specs.Int.{from_le_bytes}
 use Rattle.std.proofs.lemmas.Bool.{cases_lt}
@@ -42,26 +42,25 @@ module _ (seen : ℕ) (ws : List ℕ) (u w : ℕ) (start : seen % 4 ≡ 0) where
   same-word = omega (arith, start)
 
   -- the four bytes are taken quietly
-  pub takes-word : length ws ≡ 384 → w < 2 ^ 32 → word_fault (seen / 4) w ≡ None → seen / 4 % 384 + 1 < 384
-      → TakesQuietly (stored seen ws u None) (word_bytes w) (stored (seen + 4) (set ws (seen / 4 % 384) w) 0 None)
+  pub takes-word : length ws ≡ seen / 4 % 384 → w < 2 ^ 32 → word_fault (seen / 4) w ≡ None → seen / 4 % 384 + 1 < 384
+      → TakesQuietly (stored seen ws u None) (word_bytes w) (stored (seen + 4) (ws ++ w ∷ []) 0 None)
   takes-word lw b f s =
-      let q = byte-word (seen + 1 + 1 + 1) ws w w (w / 256 / 256 / 256 % 256) lw (omega (arith, start)) last-place b
+      let q = byte-word (seen + 1 + 1 + 1) ws w w (w / 256 / 256 / 256 % 256) (lw ∙ ap (λ k. k % 384) (sym same-word)) (omega (arith, start)) last-place b
       (ap (λ k. word_fault k w) same-word ∙ f) (omega (arith, s, same-word)) in
-      let e : stored (seen + 4) (set ws (seen / 4 % 384) w) 0 None ≡ stored (seen + 1 + 1 + 1 + 1) (set ws ((seen + 1 + 1 + 1) / 4 % 384) w) 0 None =
-      ap (λ n. stored n (set ws (seen / 4 % 384) w) 0 None) (let p : seen + 4 ≡ seen + 1 + 1 + 1 + 1 = omega arith in p)
-      ∙ ap (λ k. stored (seen + 1 + 1 + 1 + 1) (set ws (k % 384) w) 0 None) (sym same-word) in (
+      let e : stored (seen + 4) (ws ++ w ∷ []) 0 None ≡ stored (seen + 1 + 1 + 1 + 1) (ws ++ w ∷ []) 0 None =
+      ap (λ n. stored n (ws ++ w ∷ []) 0 None) (let p : seen + 4 ≡ seen + 1 + 1 + 1 + 1 = omega arith in p) in (
         first.0,
-        subst (λ r. TakesQuietly r ((w / 256 % 256) ∷ (w / 256 / 256 % 256) ∷ (w / 256 / 256 / 256 % 256) ∷ []) (stored (seen + 4) (set ws (seen / 4 % 384) w) 0 None)) (sym first.1) (
+        subst (λ r. TakesQuietly r ((w / 256 % 256) ∷ (w / 256 / 256 % 256) ∷ (w / 256 / 256 / 256 % 256) ∷ []) (stored (seen + 4) (ws ++ w ∷ []) 0 None)) (sym first.1) (
           second.0,
-          subst (λ r. TakesQuietly r ((w / 256 / 256 % 256) ∷ (w / 256 / 256 / 256 % 256) ∷ []) (stored (seen + 4) (set ws (seen / 4 % 384) w) 0 None)) (sym second.1) (
+          subst (λ r. TakesQuietly r ((w / 256 / 256 % 256) ∷ (w / 256 / 256 / 256 % 256) ∷ []) (stored (seen + 4) (ws ++ w ∷ []) 0 None)) (sym second.1) (
             third.0,
-            subst (λ r. TakesQuietly r ((w / 256 / 256 / 256 % 256) ∷ []) (stored (seen + 4) (set ws (seen / 4 % 384) w) 0 None)) (sym third.1) (q.0, e ∙ sym q.1),
+            subst (λ r. TakesQuietly r ((w / 256 / 256 / 256 % 256) ∷ []) (stored (seen + 4) (ws ++ w ∷ []) 0 None)) (sym third.1) (q.0, e ∙ sym q.1),
           ),
         ),
       )
 
   -- and then it is lawful and ends no block
-  pub quiet-word : (s : FileReader) → length ws ≡ 384 → w < 2 ^ 32 → TakesQuietly (stored seen ws u None) (word_bytes w) s
+  pub quiet-word : (s : FileReader) → length ws ≡ seen / 4 % 384 → w < 2 ^ 32 → TakesQuietly (stored seen ws u None) (word_bytes w) s
       → (word_fault (seen / 4) w ≡ None) × (seen / 4 % 384 + 1 < 384)
   quiet-word s lw b t = go (word_fault (seen / 4) w) refl (cases_lt (seen / 4 % 384 + 1) 384)
     where
@@ -75,7 +74,7 @@ module _ (seen : ℕ) (ws : List ℕ) (u w : ℕ) (start : seen % 4 ≡ 0) where
           → (word_fault (seen / 4) w ≡ None) × (seen / 4 % 384 + 1 < 384)
       go None e (inl h) = (e, h)
       go None e (inr h) =
-          let q = byte-block (seen + 1 + 1 + 1) ws w w (w / 256 / 256 / 256 % 256) lw (omega (arith, start)) last-place b
+          let q = byte-block (seen + 1 + 1 + 1) ws w w (w / 256 / 256 / 256 % 256) (lw ∙ ap (λ k. k % 384) (sym same-word)) (omega (arith, start)) last-place b
           (ap (λ k. word_fault k w) same-word ∙ e) (omega (arith, h, same-word)) in
           let z = sym answer ∙ q.0 in cc
       go (Some f) e h =

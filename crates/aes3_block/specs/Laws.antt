@@ -1,5 +1,5 @@
 -- The laws of blocks, of their file form and of their channel status.
-use Rattle.std.specs.Prelude.{ℕ, List, [], ◌++◌, Bool, Some, None, Ok, length, map, take, slice_get, slice_index, slice_index_or, All, ◌≡◌, ◌<◌, ◌+◌, ◌-◌, ◌*◌, ◌/◌, ◌%◌, ◌==◌}
+use Rattle.std.specs.Prelude.{ℕ, List, [], ◌++◌, Bool, Some, Ok, length, map, take, slice_get, slice_index, slice_index_or, All, ◌≡◌, ◌<◌, ◌+◌, ◌-◌, ◌*◌, ◌/◌, ◌%◌, ◌==◌}
 use Rattle.std.specs.Int.{bit_at}
 use Rattle.aes3_cell.specs.declared.level.Level.{Level}
 use Rattle.aes3_block.specs.declared.status.Channel.{Channel}

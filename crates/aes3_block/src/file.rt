@@ -1,7 +1,8 @@
 //! Block files as they are read.
-use crate::block::{Block, SLOTS, zero_words};
+use crate::block::{Block, SLOTS};
 use crate::word::{has_right_code, has_right_parity};
 use aes3_cell::RunError;
+use arrayvec::ArrayVec;
 use std::marker::Model;
 use thiserror::Error;
 
@@ -40,26 +41,26 @@ impl From<FileFault> for RunError {
 /// begun, and what it refused.
 #[derive(Drop)]
 pub struct BlockFile {
-    words: [u32; SLOTS],
+    words: ArrayVec<u32, SLOTS>,
     word: u32,
     seen: u64,
     fault: Option<FileFault>,
 }
 
 impl Model for BlockFile {
-    ghost use Rattle.std.specs.Prelude.{ℕ, ◌<◌, ◌≡◌, ◌*◌, ◌/◌, ◌%◌, ◌^◌, true, get_or, take};
+    ghost use Rattle.std.specs.Prelude.{ℕ, ◌<◌, ◌≡◌, ◌*◌, ◌/◌, ◌%◌, ◌^◌, true, get_or, length};
     ghost use Rattle.aes3_block.specs.Files.{is_lawful, low_bytes};
     ghost use Rattle.aes3_block.specs.Readers.{FileReader};
 
     ghost Value = { FileReader };
 
-    ghost view = { λ f. record { seen = f.seen; words = take (f.seen / 4 % 384) f.words; bytes = low_bytes (f.seen % 4) f.word; fault = f.fault } };
+    ghost view = { λ f. record { seen = f.seen; words = f.words.items; bytes = low_bytes (f.seen % 4) f.word; fault = f.fault } };
 
-    ghost invariant = { λ f. ((i : ℕ) → i < f.seen / 4 % 384 → is_lawful (get_or f.words i 0) ≡ true) × (f.word < 2 ^ (8 * (f.seen % 4))) };
+    ghost invariant = { λ f. (length f.words.items ≡ f.seen / 4 % 384) × ((i : ℕ) → i < length f.words.items → is_lawful (get_or f.words.items i 0) ≡ true) × (f.word < 2 ^ (8 * (f.seen % 4))) };
 }
 
-ghost use Rattle.std.specs.Prelude.{◌≡◌, ◌<◌, ◌≤◌, ◌+◌, ◌*◌, ◌^◌, true, false, [], ◌∷◌, ◌++◌, None};
-ghost use Rattle.aes3_block.specs.Files.{low_bytes};
+ghost use Rattle.std.specs.Prelude.{◌≡◌, ◌≢◌, ℕ, ◌<◌, ◌≤◌, ◌+◌, ◌*◌, ◌^◌, true, false, [], ◌∷◌, ◌++◌, Some, None, get_or, length, map};
+ghost use Rattle.aes3_block.specs.Files.{is_lawful, low_bytes, payload_of};
 ghost use Rattle.aes3_block.specs.Readers.{FileReader, TakesQuietly, answer_with, end_answer, next_with, word_fault};
 
 /// The fault of word `at`, its code judged before its parity.
@@ -85,6 +86,21 @@ fn word_with_byte(word: u32, len: u32, byte: u8) -> u32
     word | u32::from(byte) << (8 * len)
 }
 
+/// The block of the words where they are so many; then none are left.
+fn take_block(words: &mut ArrayVec<u32, SLOTS>) -> Option<Block>
+    requires { (i : ℕ) → i < length words.old.items → is_lawful (get_or words.old.items i 0) ≡ true }
+    ensures whole { length words.old.items ≡ SLOTS → (result ≡ Some (map payload_of words.old.items)) × (words.new.items ≡ []) }
+    ensures begun { length words.old.items ≢ SLOTS → (result ≡ None) × (words.new.items ≡ words.old.items) }
+{
+    if words.len() != SLOTS {
+        return None;
+    }
+    match words.take().into_inner() {
+        Ok(words) => Some(Block::of_words(words)),
+        Err(_) => None,
+    }
+}
+
 impl BlockFile {
     /// A reader that has taken nothing.
     pub fn new() -> Self
@@ -94,7 +110,7 @@ impl BlockFile {
         ensures open { result.fault ≡ None }
     {
         BlockFile {
-            words: zero_words(),
+            words: ArrayVec::new(),
             word: 0,
             seen: 0,
             fault: None,
@@ -130,14 +146,11 @@ impl BlockFile {
             self.fault = Some(fault);
             return Err(fault);
         }
-        let slot = (self.seen / 4) as usize % SLOTS;
-        self.words[slot] = word;
+        self.words.push(word);
+        let block = take_block(&mut self.words);
         self.word = 0;
         self.seen += 1;
-        if slot + 1 < SLOTS {
-            return Ok(None);
-        }
-        Ok(Some(Block::of_words(self.words)))
+        Ok(block)
     }
 
     /// Takes the four bytes of a word where none is begun, and it is lawful and ends no block, and says whether it did; else
@@ -154,11 +167,10 @@ impl BlockFile {
             return false;
         }
         let word = u32::from_le_bytes(*bytes);
-        let slot = (self.seen / 4) as usize % SLOTS;
-        if slot + 1 == SLOTS || fault_of_word(word, self.seen / 4).is_some() {
+        if self.words.len() + 1 == SLOTS || fault_of_word(word, self.seen / 4).is_some() {
             return false;
         }
-        self.words[slot] = word;
+        self.words.push(word);
         self.word = 0;
         self.seen += 4;
         true
