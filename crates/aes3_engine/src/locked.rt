@@ -1,9 +1,6 @@
 //! Cells as they go through a lock.
 
-ghost use Rattle.std.specs.Prelude.{◌≡◌, ◌+◌, ◌*◌, ◌<◌, ◌≤◌, ◌^◌, ◌++◌, List, [], take, length};
-ghost use Rattle.std.specs.List.{flat_map};
-ghost use Rattle.aes3_cell.specs.declared.level.Level.{Level};
-ghost use Rattle.aes3_cell.specs.Words.{word_cells};
+ghost use Rattle.std.specs.Prelude.{◌≡◌, []};
 ghost use Rattle.aes3_lock.specs.Following.{Follows};
 ghost use Rattle.aes3_lock.specs.Reports.{decided, reports};
 ghost use Rattle.aes3_engine.specs.Reporting.{reporting};
@@ -34,23 +31,6 @@ impl<R: Reporter> Locked<R> {
     }
 }
 
-/// Takes the first of these words that decide no report, and answers how many they are.
-fn take_words(lock: &mut Lock, words: &[u64]) -> usize
-    requires { lock.old.seen + 64 * length words.now ≤ 2 ^ 43 }
-    ensures within { result ≤ length words.now }
-    ensures follows { (cells : List Level) → Follows lock.old cells
-        → Follows lock.new (cells ++ flat_map word_cells (take result words.now)) }
-    ensures none { (cells : List Level) → Follows lock.old cells
-        → decided (cells ++ flat_map word_cells (take result words.now)) ≡ decided cells }
-{
-    for (taken, word) in words.iter().enumerate() {
-        if !lock.take_word(*word) {
-            return taken;
-        }
-    }
-    words.len()
-}
-
 impl<R: Reporter> Taker for Locked<R> {
     ghost follows = { λ k c. Follows k.lock c × R.follows k.reporter (decided c) };
 
@@ -75,7 +55,7 @@ impl<R: Reporter> Taker for Locked<R> {
     fn words<T: Sink>(&mut self, sink: &mut T, words: &[u64]) -> Result<(), Fault> {
         let mut at = 0;
         loop {
-            at += take_words(&mut self.lock, &words[at..]);
+            at += self.lock.take_words(&words[at..]);
             if at == words.len() {
                 return Ok(());
             }

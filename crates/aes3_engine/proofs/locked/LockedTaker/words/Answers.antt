@@ -28,7 +28,7 @@ returns-then-at-words g c =
     let v = c.loop-at.invariant in
     let n = c.take_words-at.result in
     let h =
-    handed-quiet (g.R.Reporter.writes c.loop-at.self.reporter) c.loop-at.self.lock c.take_words-at.new.lock (g.R.Reporter.follows c.loop-at.self.reporter)
+    handed-quiet (g.R.Reporter.writes c.loop-at.self.reporter) c.loop-at.self.lock c.take_words-at.new.self (g.R.Reporter.follows c.loop-at.self.reporter)
     ws (take (length ws - at) (drop at ws)) at n (take_rest ws at) v.handed c.take_words-at.ensures.follows c.take_words-at.ensures.none in
     let e = handed-is (ap (flat_map word_cells) (take_all (at + n) ws (omega arith))) h in
     record { ran = (e.same, e.follows, e.grew, v.quiet) }
@@ -42,7 +42,7 @@ cells-requires-clause-following g c =
     let n = c.take_words-at.result in
     let l : length q.0 + 64 * length ws ≤ 2 ^ 43 = q.1 in
     let h =
-    handed-quiet (g.R.Reporter.writes c.loop-at.self.reporter) c.loop-at.self.lock c.take_words-at.new.lock (g.R.Reporter.follows c.loop-at.self.reporter)
+    handed-quiet (g.R.Reporter.writes c.loop-at.self.reporter) c.loop-at.self.lock c.take_words-at.new.self (g.R.Reporter.follows c.loop-at.self.reporter)
     ws (take (length ws - at) (drop at ws)) at n (take_rest ws at) v.handed c.take_words-at.ensures.follows c.take_words-at.ensures.none in
     let b = flat_map word_cells (take (at + n) ws) in
     let a = length-append q.0 b in
@@ -59,7 +59,7 @@ loop-at-preserved g c =
     let n = c.take_words-at.result in
     let r = c.in-Ok.ensures.ran in
     let h =
-    handed-quiet (g.R.Reporter.writes c.loop-at.self.reporter) c.loop-at.self.lock c.take_words-at.new.lock (g.R.Reporter.follows c.loop-at.self.reporter)
+    handed-quiet (g.R.Reporter.writes c.loop-at.self.reporter) c.loop-at.self.lock c.take_words-at.new.self (g.R.Reporter.follows c.loop-at.self.reporter)
     ws (take (length ws - at) (drop at ws)) at n (take_rest ws at) v.handed c.take_words-at.ensures.follows c.take_words-at.ensures.none in
     record {
       within = omega arith;
@@ -76,7 +76,7 @@ returns-in-Err g c =
     let n = c.take_words-at.result in
     let r = c.in-Err.ensures.ran in
     let h =
-    handed-quiet (g.R.Reporter.writes c.loop-at.self.reporter) c.loop-at.self.lock c.take_words-at.new.lock (g.R.Reporter.follows c.loop-at.self.reporter)
+    handed-quiet (g.R.Reporter.writes c.loop-at.self.reporter) c.loop-at.self.lock c.take_words-at.new.self (g.R.Reporter.follows c.loop-at.self.reporter)
     ws (take (length ws - at) (drop at ws)) at n (take_rest ws at) v.handed c.take_words-at.ensures.follows c.take_words-at.ensures.none in
     record {
       ran = (
