@@ -17,6 +17,9 @@ use aes3_cell::{BadCell, CellText, Form, RunError, Sink, Source, with_cell};
 /// How many lines become words at once.
 const LINES: usize = 64;
 
+/// How many cells a line has as it is written.
+const LINE_CELLS: usize = 64;
+
 /// Reads cell text, and counts its cells.
 #[derive(Drop)]
 pub(crate) struct TextInput {
@@ -146,8 +149,17 @@ fn with_byte(text: &mut CellText, cells: SomeCells, byte: u8) -> Result<SomeCell
     }
 }
 
-/// Takes the bytes that a piece begins with, until they have 64 cells or a byte is neither a cell nor a separator. Answers
-/// how many bytes these are, and their cells.
+/// Whether a line of 64 cells seems to begin at a place of a piece: a line feed stands before it, and a separator behind 64
+/// bytes. No promise rests on it: where cells are gathered only up to there, the lines behind are met at their beginning.
+fn begins_line(piece: &[u8], at: usize) -> bool
+    requires some { 0 < at }
+    requires within { at ≤ length piece.now }
+{
+    piece[at - 1] == b'\n' && piece.len() - at > LINE_CELLS && is_separator(piece[at + LINE_CELLS])
+}
+
+/// Takes the bytes that a piece begins with, until they have 64 cells, a line of so many seems to begin, or a byte is neither
+/// a cell nor a separator. Answers how many bytes these are, and their cells.
 fn feed_some(text: &mut CellText, piece: &[u8]) -> Result<(usize, SomeCells), BadCell>
     requires some { 0 < length piece.now }
     requires room { text.old.seen + length piece.now ≤ 2 ^ 40 }
@@ -162,7 +174,7 @@ fn feed_some(text: &mut CellText, piece: &[u8]) -> Result<(usize, SomeCells), Ba
         Err(fault) => return Err(fault),
     };
     let mut at = 1;
-    while at < piece.len() && cells.len < u64::BITS {
+    while at < piece.len() && cells.len < u64::BITS && !begins_line(piece, at) {
         match with_byte(text, cells, piece[at]) {
             Ok(more) => {
                 cells = more;
