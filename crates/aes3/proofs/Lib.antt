@@ -1,4 +1,3 @@
-pub mod Flushes
 pub mod LineAnswers
 pub mod LineDefinitions
 pub mod LineWalks

@@ -19,8 +19,8 @@ use Rattle.aes3_cell.specs.declared.refusal.RunError.TheVariants.{BadStatusText,
 use Rattle.aes3_engine.specs.declared.change.Change.{Change}
 use Rattle.aes3.specs.CommandLine.{command_line}
 use Rattle.aes3.specs.StatusTexts.{status_of}
-use Rattle.aes3.specs.declared.job.Job.{Job}
-use Rattle.aes3.specs.declared.job.Job.TheVariants as job
+use Rattle.aes3_job.specs.declared.job.Job.{Job}
+use Rattle.aes3_job.specs.declared.job.Job.TheVariants as job
 use Rattle.aes3.specs.declared.job.LineFault.{LineFault}
 use Rattle.aes3.specs.declared.job.LineFault.TheVariants as fault
 

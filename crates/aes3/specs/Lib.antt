@@ -1,5 +1,4 @@
 pub mod CommandLine
-pub mod JobRuns
 pub mod WordRuns
 pub mod Jobs
 pub mod Lines

@@ -4,14 +4,15 @@ use Rattle.aes3_cell.specs.Ends.{Grew}
 use Rattle.aes3_cell.specs.declared.refusal.RunError.TheVariants.{Memory, Write}
 use Rattle.aes3_engine.specs.Running.{Change, Quiet, Failed}
 use Rattle.clap.specs.Walk.{Text}
-use Rattle.aes3.specs.declared.job.Job.{Job}
+use Rattle.aes3_job.specs.declared.job.Job.{Job}
 use Rattle.aes3.specs.declared.job.LineFault.{LineFault}
 use Rattle.aes3.specs.declared.run.Unread.{Unread}
 use Rattle.aes3.specs.declared.run.Unread.TheVariants as unread
 use Rattle.aes3.specs.declared.job.LineFault.TheVariants.{Usage, Help, Refused}
 use Rattle.aes3.specs.Jobs.{IsJobOf, IsFaultOf}
-use Rattle.aes3.specs.JobRuns.{JobRan}
-use Rattle.aes3.specs.Lines.{not_utf8_line, refusal_line}
+use Rattle.aes3_job.specs.JobRuns.{JobRan}
+use Rattle.aes3_job.specs.Lines.{refusal_line}
+use Rattle.aes3.specs.Lines.{not_utf8_line}
 
 -- a line that is no job: why not is told among the errors, and help in the output
 abbrev pub FaultRan : LineFault → Change → Change → ℕ → Type 0

@@ -3,20 +3,12 @@
 
 ghost use Rattle.std.specs.Prelude.{◌+◌, ◌<◌, ◌^◌, ◌≡◌, IfErr};
 
-#[cfg(test)]
-mod cell_tests;
 mod definitions;
 mod help;
 mod job;
-mod job_run;
-#[cfg(test)]
-mod job_run_tests;
 #[cfg(test)]
 mod job_tests;
-mod refusal;
 mod run;
-#[cfg(test)]
-mod status_tests;
 mod status_text;
 #[cfg(test)]
 mod tests;

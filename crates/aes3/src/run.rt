@@ -1,73 +1,16 @@
 //! Everything but the machine's own streams.
 
-ghost use Rattle.std.specs.Prelude.{◌≡◌, ◌≢◌, ◌<◌, ◌≤◌, ◌+◌, ◌^◌, IfErr, IfOk, OnErr, map};
+ghost use Rattle.std.specs.Prelude.{◌≡◌, ◌<◌, ◌≤◌, ◌+◌, ◌^◌, IfOk, OnErr, map};
 ghost use Rattle.aes3_cell.specs.Ends.{Grew};
-ghost use Rattle.aes3.specs.JobRuns.{Flushed, JobRan};
-ghost use Rattle.aes3.specs.Lines.{refusal_line};
 ghost use Rattle.aes3.specs.WordRuns.{FaultRan, UnreadTold, WordsRan};
 
-use crate::job::{Job, LineFault, job_of_words};
-use crate::job_run::{DONE, exit_status, run_job};
-use crate::refusal::put_refusal;
+use crate::job::{LineFault, job_of_words};
 use aes3_cell::{Fault, RunError, Sink, Source, write_all};
+use aes3_job::{DONE, finish_job, refuse};
 use std::alloc::{AllocError, Global};
 
 /// The exit status of a refused command line.
 pub const USAGE: u8 = 2;
-
-/// The exit status of a refused run.
-pub const REFUSED: u8 = 3;
-
-/// Tells a refusal, and answers its exit status.
-fn refuse<E: Sink>(error: RunError, errors: &mut E) -> u8
-    requires { E.failed errors.old + 1 < 2 ^ 64 }
-    ensures status { result ≡ 3 }
-    ensures line { E.failed errors.new ≡ E.failed errors.old → Grew (E.taken errors.old) (E.taken errors.new) (refusal_line error) }
-    ensures errors { E.failed errors.new ≤ E.failed errors.old + 1 }
-{
-    let _ = put_refusal(error, errors);
-    REFUSED
-}
-
-/// The refusal of a run once the sink has passed on what it holds: `Write` where that failed, else the first one.
-fn flushed<T: Sink>(error: RunError, sink: &mut T) -> RunError
-    requires room { error ≢ RunError.Write → T.failed sink.old + 1 < 2 ^ 64 }
-    ensures { Flushed error
-        (record { old = T.taken sink.old; new = T.taken sink.new; failed_old = T.failed sink.old; failed_new = T.failed sink.new }) result }
-{
-    match error {
-        RunError::Write => error,
-        _ => match sink.flush() {
-            Ok(()) => error,
-            Err(_) => RunError::Write,
-        },
-    }
-}
-
-/// Runs a job, flushes the output, and answers the exit status.
-fn finish_job<S: Source, T: Sink, E: Sink>(
-    job: &Job,
-    source: &mut S,
-    sink: &mut T,
-    errors: &mut E,
-) -> u8
-    requires source_room { S.failed source.old + 1 < 2 ^ 64 }
-    requires sink_room { T.failed sink.old + 1 < 2 ^ 64 }
-    requires errors_room { E.failed errors.old + 1 < 2 ^ 64 }
-    ensures ran { JobRan job.now (S.has_ended source.new)
-        (record { old = S.given source.old; new = S.given source.new; failed_old = S.failed source.old; failed_new = S.failed source.new })
-        (record { old = T.taken sink.old; new = T.taken sink.new; failed_old = T.failed sink.old; failed_new = T.failed sink.new })
-        (record { old = E.taken errors.old; new = E.taken errors.new; failed_old = E.failed errors.old; failed_new = E.failed errors.new }) result }
-    ensures errors { E.failed errors.new ≤ E.failed errors.old + 1 }
-{
-    match run_job(job, source, sink) {
-        Ok(counts) => match sink.flush() {
-            Ok(()) => exit_status(job, &counts),
-            Err(_) => refuse(RunError::Write, errors),
-        },
-        Err(error) => refuse(flushed(error, sink), errors),
-    }
-}
 
 /// Writes all of a text and flushes it.
 ///

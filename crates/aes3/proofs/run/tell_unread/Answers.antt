@@ -1,4 +1,4 @@
-use Rattle.std.proofs.Common.{◌≡◌, ℕ, ◌+◌, Result, Ok, Err, IfOk, OnErr, refl, arith}
+use Rattle.std.proofs.Common.{◌≡◌, Result, Ok, Err, IfOk, OnErr, refl, arith}
 use Rattle.aes3_cell.specs.Ends.{Grew}
 use Rattle.aes3_engine.specs.Running.{Change, Quiet, Failed}
 use Rattle.aes3.specs.Lines.{not_utf8_line}

@@ -1,9 +1,9 @@
 use Rattle.std.proofs.Common.{◌≢◌, ℕ, List, take, Err, OnErr, sym, subst}
 use Rattle.aes3_cell.specs.declared.refusal.RunError.TheVariants.{Write}
 use Rattle.aes3_cell.specs.Ends.{Grew, Told}
-use Rattle.aes3.specs.declared.job.Job.{Job}
-use Rattle.aes3.specs.JobRuns.{begun_of, most}
-use Rattle.aes3.proofs.job_run.run_job.Goals as goal
+use Rattle.aes3_job.specs.declared.job.Job.{Job}
+use Rattle.aes3_job.specs.JobRuns.{begun_of, most}
+use Rattle.aes3_job.proofs.job_run.run_job.Goals as goal
 
 pub returns-in-Encode-clause-refused : goal.returns-in-Encode-clause-refused
 returns-in-Encode-clause-refused g c =

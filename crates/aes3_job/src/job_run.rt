@@ -2,7 +2,7 @@
 
 ghost use Rattle.std.specs.Prelude.{◌≡◌, ◌≢◌, ◌<◌, ◌≤◌, ◌+◌, ◌^◌, ◌⊎◌, List, ℕ, Err, length, take, IfOk, IfErr, IsOk, OnErr, IsTrue};
 ghost use Rattle.aes3_cell.specs.Ends.{Grew, GrewFront, Told};
-ghost use Rattle.aes3.specs.JobRuns.{IsCauseFor, IsInputOf, IsWhole, begun_of, counts_for, most, output_of, status_by};
+ghost use Rattle.aes3_job.specs.JobRuns.{IsCauseFor, IsInputOf, IsWhole, begun_of, counts_for, most, output_of, status_by};
 
 use crate::job::Job;
 use aes3_cell::{Counts, RunError, Sink, Source};
@@ -32,7 +32,7 @@ pub(crate) fn exit_status(job: &Job, counts: &Counts) -> u8
 ///
 /// # Errors
 /// Those of the call that does the job.
-pub(crate) fn run_job<S: Source, T: Sink>(
+pub fn run_job<S: Source, T: Sink>(
     job: &Job,
     source: &mut S,
     sink: &mut T,

@@ -2,7 +2,7 @@
 
 ghost use Rattle.std.specs.Prelude.{◌<◌};
 
-use crate::tests::{ZEROS, block_text, expect_run};
+use crate::tests::{CHECK, NORMAL, ZEROS, block_text, expect_run};
 use std::alloc::{AllocError, Global};
 use std::process::Abort;
 use std::test::Fail;
@@ -83,14 +83,14 @@ fn expect_told(
         expect_run(
             rt,
             alloc,
-            &["check"],
+            &CHECK,
             &text,
             piece,
             told.lines,
             b"",
             told.status,
         )?;
-        expect_run(rt, alloc, &["normal"], &text, piece, &normal, b"", 0)?;
+        expect_run(rt, alloc, &NORMAL, &text, piece, &normal, b"", 0)?;
     }
     Ok(())
 }

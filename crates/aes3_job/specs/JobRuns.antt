@@ -1,7 +1,6 @@
 -- What the program does for a job.
 use Rattle.std.specs.Prelude.{ℕ, List, [], Bool, ◌≡◌, ◌≢◌, ◌≤◌, ◌^◌, ◌==◌, ◌⊎◌, IsTrue, length, take, if◌then◌else◌}
 use Rattle.aes3_cell.specs.declared.level.Level.TheVariants.{Low}
-use Rattle.aes3_cell.specs.declared.form.Form.{Form}
 use Rattle.aes3_cell.specs.declared.counts.Counts.{Counts}
 use Rattle.aes3_cell.specs.declared.refusal.RunError.{RunError}
 use Rattle.aes3_cell.specs.declared.refusal.RunError.TheVariants as refusal
@@ -20,9 +19,9 @@ use Rattle.aes3_engine.specs.ReportRuns.{counts_of}
 use Rattle.aes3_engine.specs.BlockRuns.{begun_stream, written_stream, cut_blocks, decided_blocks}
 use Rattle.aes3_engine.specs.Rewriting.{rewritten_blocks}
 use Rattle.aes3_text.specs.Runs.{mark_lines, report_lines, scan_counts, status_lines}
-use Rattle.aes3.specs.declared.job.Job.{Job}
-use Rattle.aes3.specs.declared.job.Job.TheVariants.{Encode, Decode, Normal, Check, Show, Scan, Cut, Rewrite}
-use Rattle.aes3.specs.Lines.{refusal_line}
+use Rattle.aes3_job.specs.declared.job.Job.{Job}
+use Rattle.aes3_job.specs.declared.job.Job.TheVariants.{Encode, Decode, Normal, Check, Show, Scan, Cut, Rewrite}
+use Rattle.aes3_job.specs.Lines.{refusal_line}
 
 -- how many bytes an input may have
 abbrev pub most : ℕ

@@ -1,8 +1,8 @@
 use Rattle.std.proofs.Common.{◌≡◌, inr, Result, Ok, Err, IsOk, ap, refl}
 use Rattle.aes3_cell.specs.declared.refusal.RunError.{RunError}
 use Rattle.aes3_cell.specs.declared.counts.Counts.{Counts}
-use Rattle.aes3.proofs.Flushes.{done-unflushed, refused-flushed}
-use Rattle.aes3.proofs.run.finish_job.Goals as goal
+use Rattle.aes3_job.proofs.Flushes.{done-unflushed, refused-flushed}
+use Rattle.aes3_job.proofs.finish.finish_job.Goals as goal
 
 pub returns-in-Err-flush-clause-ran : goal.returns-in-Err-flush-clause-ran
 returns-in-Err-flush-clause-ran g c = inr (done-unflushed c.args.job.now _ _ _ _ _ _ _ _ _ _ c.in-Ok.ensures.ended c.in-Ok.ensures.input c.in-Ok.ensures.fits c.in-Ok.ensures.output c.in-Ok.ensures.quiet.1

@@ -1,13 +1,16 @@
-//! The line of a refusal.
+//! The line of a refusal, and its exit status.
 
 ghost use Rattle.std.specs.Prelude.{◌≡◌, ◌<◌, ◌≤◌, ◌+◌, ◌++◌, ◌^◌, decimal, length, IfOk, OnErr};
 ghost use Rattle.arrayvec.specs.ArrayVec.{array_vec_len};
 ghost use Rattle.aes3_cell.specs.Ends.{Grew, GrewFront};
-ghost use Rattle.aes3.specs.Lines.{place_text, refusal_line};
+ghost use Rattle.aes3_job.specs.Lines.{place_text, refusal_line};
 
 use aes3_cell::{Fault, RunError, Sink, write_all};
 use arrayvec::ArrayVec;
 use itoa::Buffer;
+
+/// The exit status of a refused run.
+pub const REFUSED: u8 = 3;
 
 /// How many bytes a refusal line has at most.
 const LINE_LEN: usize = 128;
@@ -61,4 +64,15 @@ pub fn put_refusal<T: Sink>(error: RunError, sink: &mut T) -> Result<(), Fault>
     append_place(&mut line, error.place());
     append(&mut line, b"\n");
     write_all(sink, line.as_slice())
+}
+
+/// Tells a refusal on `errors`, whose own faults change nothing, and answers its exit status.
+pub fn refuse<E: Sink>(error: RunError, errors: &mut E) -> u8
+    requires { E.failed errors.old + 1 < 2 ^ 64 }
+    ensures status { result ≡ 3 }
+    ensures line { E.failed errors.new ≡ E.failed errors.old → Grew (E.taken errors.old) (E.taken errors.new) (refusal_line error) }
+    ensures errors { E.failed errors.new ≤ E.failed errors.old + 1 }
+{
+    let _ = put_refusal(error, errors);
+    REFUSED
 }

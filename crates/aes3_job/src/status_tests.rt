@@ -1,8 +1,10 @@
 //! Channel status written into a block and shown (AES3-2, IEC 60958-3).
 
-use crate::run::run_words;
-use crate::tests::{ZEROS, block_text, expect_run};
+use crate::finish::finish_job;
+use crate::job::Job;
+use crate::tests::{SHOW, TEXT, ZEROS, block_text, expect_run};
 use aes3_cell::{MemorySink, MemorySource};
+use aes3_engine::Change;
 use std::alloc::{AllocError, Global};
 use std::process::Abort;
 use std::test::Fail;
@@ -11,7 +13,7 @@ use std::test::Fail;
 fn expect_shown(
     rt: &impl Abort,
     alloc: Global,
-    words: &[&str],
+    change: Change,
     text: Option<&[u8]>,
     shown: &[u8],
 ) -> Result<(), Fail> {
@@ -19,13 +21,25 @@ fn expect_shown(
     let mut source = MemorySource::new(&zeros, 4096);
     let mut sink = MemorySink::new(alloc);
     let mut lines = MemorySink::new(alloc);
-    let answer = run_words(alloc, words, &mut source, &mut sink, &mut lines);
+    let job = Job::Rewrite {
+        input: TEXT,
+        output: TEXT,
+        change,
+    };
+    let answer = finish_job(&job, &mut source, &mut sink, &mut lines);
     assert_eq!(rt; answer, 0);
     assert!(rt; lines.bytes().is_empty());
     if let Some(text) = text {
         assert!(rt; sink.bytes() == text);
     }
-    expect_run(rt, alloc, &["show"], sink.bytes(), 100, shown, b"", 0)
+    expect_run(rt, alloc, &SHOW, sink.bytes(), 100, shown, b"", 0)
+}
+
+/// A status of five bytes and zeros behind them.
+fn begun_status(bytes: [u8; 5]) -> [u8; 24] {
+    let mut status = [0; 24];
+    status[..5].copy_from_slice(&bytes);
+    status
 }
 
 const FIRST_BIT_SHOWN: &[u8] =
@@ -53,12 +67,11 @@ fn a_mended_check_byte(rt: HostRuntime) -> Result<(), Fail> {
     expect_shown(
         &rt,
         rt.alloc(),
-        &[
-            "rewrite",
-            "--status1",
-            "010000000000000000000000000000000000000000000000",
-            "--mend-check",
-        ],
+        Change {
+            status1: Some(begun_status([1, 0, 0, 0, 0])),
+            status2: None,
+            mend: true,
+        },
         Some(&text),
         FIRST_BIT_SHOWN,
     )
@@ -71,16 +84,16 @@ block=0 channel=2 consumer payload=pcm copyright=not-asserted emphasis=none mode
 
 #[test]
 fn a_status_for_each_channel(rt: HostRuntime) -> Result<(), Fail> {
+    let mut first = begun_status([0x3D, 0x02, 0, 0, 0x02]);
+    first[23] = 0x9B;
     expect_shown(
         &rt,
         rt.alloc(),
-        &[
-            "rewrite",
-            "--status1",
-            "3d020000020000000000000000000000000000000000009b",
-            "--status2",
-            "040121020b00000000000000000000000000000000000000",
-        ],
+        Change {
+            status1: Some(first),
+            status2: Some(begun_status([0x04, 0x01, 0x21, 0x02, 0x0B])),
+            mend: false,
+        },
         None,
         BOTH_SHOWN,
     )

@@ -1,14 +1,14 @@
 -- A run that is flushed: what is told of it where it was refused, or where that failed.
-use Rattle.std.proofs.Common.{◌≡◌, ◌≢◌, ℕ, ◌+◌, ◌≤◌, ◌^◌, ◌⊎◌, inl, inr, Bool, List, Option, length, take, IsTrue, refl, sym, ap, ◌∙◌, subst, arith}
+use Rattle.std.proofs.Common.{◌≡◌, ◌≢◌, ℕ, ◌+◌, ◌≤◌, ◌⊎◌, inl, inr, Bool, List, Option, length, take, IsTrue, refl, sym, ap, ◌∙◌, subst, arith}
 use Rattle.aes3_cell.specs.Ends.{Grew, GrewFront, Told}
 use Rattle.aes3_cell.specs.declared.refusal.RunError.{RunError}
 use Rattle.aes3_cell.specs.declared.refusal.RunError.TheVariants.{Read, Write}
 use Rattle.aes3_cell.proofs.Growing.{front-all}
 use Rattle.aes3_engine.specs.Running.{Change, Quiet, Failed}
-use Rattle.aes3.specs.declared.job.Job.{Job}
-use Rattle.aes3.specs.declared.job.Job.TheVariants.{Encode, Decode, Normal, Check, Show, Scan, Cut, Rewrite}
-use Rattle.aes3.specs.JobRuns.{Flushed, IsCauseFor, IsInputOf, IsWhole, JobRefused, begun_of, most, output_of}
-use Rattle.aes3.specs.Lines.{refusal_line}
+use Rattle.aes3_job.specs.declared.job.Job.{Job}
+use Rattle.aes3_job.specs.declared.job.Job.TheVariants.{Encode, Decode, Normal, Check, Show, Scan, Cut, Rewrite}
+use Rattle.aes3_job.specs.JobRuns.{Flushed, IsCauseFor, IsInputOf, IsWhole, JobRefused, begun_of, most, output_of}
+use Rattle.aes3_job.specs.Lines.{refusal_line}
 
 -- what a run says of its refusal, for a sink before the run and behind it
 pub record Refusal (job : Job) (ended : Bool) (source sink : Change) (x : RunError) : Type 0 where

@@ -1,0 +1,2 @@
+pub mod JobRuns
+pub mod Lines

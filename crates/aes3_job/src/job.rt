@@ -1,0 +1,47 @@
+//! What the program is asked to do.
+
+use aes3_cell::Form;
+use aes3_engine::Change;
+
+/// What the program is asked to do.
+#[derive(Clone, Copy, PartialEq, Eq, Debug)]
+pub enum Job {
+    /// Block file to cells.
+    Encode {
+        output: Form,
+    },
+    /// Cells to a block file.
+    Decode {
+        input: Form,
+    },
+    /// Cells to the normal stream of their blocks.
+    Normal {
+        input: Form,
+        output: Form,
+    },
+    /// A line for each block and each fault.
+    Check {
+        input: Form,
+    },
+    /// Two lines of channel status for each block.
+    Show {
+        input: Form,
+    },
+    /// A line for each preamble.
+    Scan {
+        input: Form,
+    },
+    /// Cells to the normal stream of `count` of their blocks, the first of which has the number `from`.
+    Cut {
+        input: Form,
+        output: Form,
+        from: u64,
+        count: u64,
+    },
+    /// Cells to the normal stream of their blocks, with other channel status.
+    Rewrite {
+        input: Form,
+        output: Form,
+        change: Change,
+    },
+}
