@@ -45,7 +45,7 @@ enum {
  * itself.
  */
 typedef struct aes3_lock {
-    uint64_t state[196];
+    uint64_t state[388];
 } aes3_lock;
 
 /* What is told of a place where the preamble of a block stands. */

@@ -17,7 +17,7 @@ _Status = c.c_uint8 * 24
 
 
 class _Lock(c.Structure):
-    _fields_ = [("state", c.c_uint64 * 196)]
+    _fields_ = [("state", c.c_uint64 * 388)]
 
 
 class Report(c.Structure):

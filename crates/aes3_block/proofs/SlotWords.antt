@@ -1,23 +1,58 @@
--- Blocks kept as the bits of their slots.
-use Rattle.std.proofs.Common.{◌≡◌, ℕ, ◌+◌, ◌%◌, ◌^◌, ◌<◌, ◌≤◌, ◌⊎◌, inl, inr, List, [], ◌∷◌, Bool, true, false, cond, eqb, length, map, set, get_or, take, refl, sym, ap, ◌∙◌, arith, length-append}
+-- Blocks of the bits that words of cells carry.
+use Rattle.std.proofs.Common.{◌≡◌, ℕ, zero, suc, ◌+◌, ◌*◌, ◌/◌, ◌%◌, ◌^◌, ◌<◌, ◌≤◌, ◌⊎◌, inl, inr, List, [], ◌∷◌, Bool, true, false, not, cond, eqb, length, map, set, get_or, take, refl, sym, ap, ◌∙◌, arith, length-append}
 use Rattle.std.specs.Prelude.{count_ones}
 use Rattle.std.specs.List.{filter}
 use Rattle.std.proofs.lemmas.Bool.{cases_eq}
 use Rattle.std.proofs.lemmas.List.{length-map, map-append, ext_get_or, get_or-map, get_or-set_same, get_or-set_other, take_more, take_all}
 use Rattle.std.proofs.lemmas.List.Elements.{filter-append}
-use Rattle.aes3_slot.specs.Bits.{odd_ones}
+use Rattle.std.proofs.lemmas.Simd.{map-map}
+use Rattle.aes3_cell.specs.Words.{level_of, low_cells, word_cells, word_len}
+use Rattle.aes3_cell.proofs.WordCells.{drop-low_cells}
+use Rattle.aes3_slot.specs.Bits.{low_bits, odd_ones}
 use Rattle.aes3_slot.specs.Slots.{payload_len, payload_bits, slots_len, slots_bits}
+use Rattle.aes3_slot.specs.Reading.{differs, read_bits}
+use Rattle.aes3_slot.specs.ReadWords.{read_word, read_words}
 use Rattle.aes3_slot.proofs.Bits.{odd_ones-low_bits}
 use Rattle.aes3_block.specs.Files.{is_lawful, payload_of}
 use Rattle.aes3_block.proofs.BitLemmas.{low_bits-mod}
 
-pub payload-low : (w : ℕ) → payload_bits (w % 2 ^ 27) ≡ payload_bits w
-unfolding payload_len
-payload-low w = low_bits-mod 27 w
+take-low : (m n w : ℕ) → m ≤ n → take m (low_bits n w) ≡ low_bits m w
+take-low zero n w h = refl
+take-low (suc m) zero w h = absurd (omega arith)
+take-low (suc m) (suc n) w h = ap (λ x. eqb (w % 2) 1 ∷ x) (take-low m n (w / 2) (omega arith))
 
-pub odd-low : (w : ℕ) → eqb (count_ones (w % 2 ^ 28) % 2) 1 ≡ odd_ones (slots_bits w)
-unfolding slots_len
-odd-low w = odd_ones-low_bits 28 (w % 2 ^ 28) (omega arith) ∙ ap odd_ones (low_bits-mod 28 w)
+-- the payload in the lowest bits of the slots
+pub payload-low : (w : ℕ) (bits : List Bool) → slots_bits w ≡ bits → payload_bits (w % 2 ^ 27) ≡ take payload_len bits
+unfolding payload_len slots_len
+payload-low w bits e = low_bits-mod 27 w ∙ sym (take-low 27 28 w (omega arith)) ∙ ap (take 27) e
+
+-- two cells differ where just one of them is high
+odd-read : (k w : ℕ) → odd_ones (low_bits (2 * k) w) ≡ odd_ones (read_bits (low_cells (2 * k) w))
+odd-read zero w = refl
+odd-read (suc k) w =
+    let n : 2 * suc k ≡ suc (suc (2 * k)) = omega arith in
+    ap (λ m. odd_ones (low_bits m w)) n
+    ∙ two (w % 2) (w / 2 % 2) (omega arith) (omega arith) (low_bits (2 * k) (w / 2 / 2)) (read_bits (low_cells (2 * k) (w / 2 / 2))) (odd-read k (w / 2 / 2))
+    ∙ sym (ap (λ m. odd_ones (read_bits (low_cells m w))) n)
+  where
+    twice : (b : Bool) → not (not b) ≡ b
+    twice true = refl
+    twice false = refl
+
+    two : (x y : ℕ) → x < 2 → y < 2 → (a b : List Bool) → odd_ones a ≡ odd_ones b
+        → odd_ones (eqb x 1 ∷ eqb y 1 ∷ a) ≡ odd_ones (differs (level_of x) (level_of y) ∷ b)
+    two zero zero h g a b e = e
+    two zero (suc zero) h g a b e = ap not e
+    two (suc zero) zero h g a b e = ap not e
+    two (suc zero) (suc zero) h g a b e = twice (odd_ones a) ∙ e
+    two x (suc (suc y)) h g a b e = absurd (omega arith)
+    two (suc (suc x)) y h g a b e = absurd (omega arith)
+
+pub odd-word : (w : ℕ) → w < 2 ^ 64 → eqb (count_ones (w / 2 ^ 8) % 2) 1 ≡ odd_ones (read_word w)
+unfolding word_cells word_len
+odd-word w h =
+    odd_ones-low_bits 56 (w / 2 ^ 8) (omega arith) ∙ odd-read 28 (w / 2 ^ 8)
+    ∙ ap (λ c. odd_ones (read_bits c)) (sym (drop-low_cells 8 56 w))
 
 -- one more word
 pub lawful-more : (xs : List ℕ) (i x k : ℕ) → i < length xs → is_lawful x ≡ true → is_lawful (get_or xs k 0) ≡ true
@@ -28,39 +63,45 @@ lawful-more xs i x k h e f = go (cases_eq k i)
     go (inl q) = ap (λ k. is_lawful (get_or (set xs i x) k 0)) q ∙ ap is_lawful (get_or-set_same xs i x 0 h) ∙ e
     go (inr q) = ap is_lawful (get_or-set_other xs i k x 0 q) ∙ f
 
-pub payload-more : (xs ys : List ℕ) (i x : ℕ) → i < length xs → payload_of x ≡ payload_bits (get_or ys i 0)
-    → ((k : ℕ) → k < i → payload_of (get_or xs k 0) ≡ payload_bits (get_or ys k 0))
-    → (k : ℕ) → k < i + 1 → payload_of (get_or (set xs i x) k 0) ≡ payload_bits (get_or ys k 0)
+pub payload-more : (xs ys : List ℕ) (i x : ℕ) → i < length xs → payload_of x ≡ take payload_len (read_word (get_or ys i 0))
+    → ((k : ℕ) → k < i → payload_of (get_or xs k 0) ≡ take payload_len (read_word (get_or ys k 0)))
+    → (k : ℕ) → k < i + 1 → payload_of (get_or (set xs i x) k 0) ≡ take payload_len (read_word (get_or ys k 0))
 payload-more xs ys i x h e f k g = go (cases_eq k i)
   where
-    go : (k ≡ i) ⊎ (k ≡ i → ⊥) → payload_of (get_or (set xs i x) k 0) ≡ payload_bits (get_or ys k 0)
-    go (inl q) = ap (λ k. payload_of (get_or (set xs i x) k 0)) q ∙ ap payload_of (get_or-set_same xs i x 0 h) ∙ e ∙ ap (λ k. payload_bits (get_or ys k 0)) (sym q)
+    go : (k ≡ i) ⊎ (k ≡ i → ⊥) → payload_of (get_or (set xs i x) k 0) ≡ take payload_len (read_word (get_or ys k 0))
+    go (inl q) = ap (λ k. payload_of (get_or (set xs i x) k 0)) q ∙ ap payload_of (get_or-set_same xs i x 0 h) ∙ e
+        ∙ ap (λ k. take payload_len (read_word (get_or ys k 0))) (sym q)
     go (inr q) = ap payload_of (get_or-set_other xs i k x 0 q) ∙ f k (omega arith)
 
 -- all of them
-pub payloads-all : (xs ys : List ℕ) → length xs ≡ length ys → ((k : ℕ) → k < length xs → payload_of (get_or xs k 0) ≡ payload_bits (get_or ys k 0))
-    → map payload_of xs ≡ map payload_bits ys
+abbrev payload : ℕ → List Bool
+payload w = take payload_len (read_word w)
+
+pub payloads-all : (xs ys : List ℕ) → length xs ≡ length ys
+    → ((k : ℕ) → k < length xs → payload_of (get_or xs k 0) ≡ take payload_len (read_word (get_or ys k 0)))
+    → map payload_of xs ≡ map (take payload_len) (read_words ys)
 payloads-all xs ys l f =
-    ext_get_or [] (map payload_of xs) (map payload_bits ys) (length-map xs payload_of ∙ l ∙ sym (length-map ys payload_bits))
+    ext_get_or [] (map payload_of xs) (map payload ys) (length-map xs payload_of ∙ l ∙ sym (length-map ys payload))
     (λ k h. let n = length-map xs payload_of in
-    get_or-map payload_of xs k 0 [] (omega arith) ∙ f k (omega arith) ∙ sym (get_or-map payload_bits ys k 0 [] (omega arith)))
+    get_or-map payload_of xs k 0 [] (omega arith) ∙ f k (omega arith) ∙ sym (get_or-map payload ys k 0 [] (omega arith)))
+    ∙ sym (map-map (take payload_len) read_word ys)
 
 -- how many have odd ones
 abbrev pub odd_count : List ℕ → ℕ
-odd_count slots = length (filter odd_ones (map slots_bits slots))
+odd_count words = length (filter odd_ones (read_words words))
 
-pub odd-more : (slots : List ℕ) (i : ℕ) → i < length slots
-    → odd_count (take (i + 1) slots) ≡ odd_count (take i slots) + cond (odd_ones (slots_bits (get_or slots i 0))) 1 0
-odd-more slots i h =
-    ap odd_count (take_more slots i 0 h)
-    ∙ ap (λ x. length (filter odd_ones x)) (map-append slots_bits (take i slots) (get_or slots i 0 ∷ []))
-    ∙ ap length (filter-append odd_ones (map slots_bits (take i slots)) (slots_bits (get_or slots i 0) ∷ []))
-    ∙ length-append (filter odd_ones (map slots_bits (take i slots))) (filter odd_ones (slots_bits (get_or slots i 0) ∷ []))
-    ∙ ap (λ n. odd_count (take i slots) + n) (last (odd_ones (slots_bits (get_or slots i 0))) refl)
+pub odd-more : (words : List ℕ) (i : ℕ) → i < length words
+    → odd_count (take (i + 1) words) ≡ odd_count (take i words) + cond (odd_ones (read_word (get_or words i 0))) 1 0
+odd-more words i h =
+    ap odd_count (take_more words i 0 h)
+    ∙ ap (λ x. length (filter odd_ones x)) (map-append read_word (take i words) (get_or words i 0 ∷ []))
+    ∙ ap length (filter-append odd_ones (map read_word (take i words)) (read_word (get_or words i 0) ∷ []))
+    ∙ length-append (filter odd_ones (map read_word (take i words))) (filter odd_ones (read_word (get_or words i 0) ∷ []))
+    ∙ ap (λ n. odd_count (take i words) + n) (last (odd_ones (read_word (get_or words i 0))) refl)
   where
-    last : (b : Bool) → odd_ones (slots_bits (get_or slots i 0)) ≡ b → length (filter odd_ones (slots_bits (get_or slots i 0) ∷ [])) ≡ cond (odd_ones (slots_bits (get_or slots i 0))) 1 0
+    last : (b : Bool) → odd_ones (read_word (get_or words i 0)) ≡ b → length (filter odd_ones (read_word (get_or words i 0) ∷ [])) ≡ cond (odd_ones (read_word (get_or words i 0))) 1 0
     last true e = rw e refl
     last false e = rw e refl
 
-pub odd-all : (slots : List ℕ) (i : ℕ) → length slots ≤ i → odd_count (take i slots) ≡ odd_count slots
-odd-all slots i h = ap odd_count (take_all i slots h)
+pub odd-all : (words : List ℕ) (i : ℕ) → length words ≤ i → odd_count (take i words) ≡ odd_count words
+odd-all words i h = ap odd_count (take_all i words h)

@@ -15,7 +15,7 @@ abbrev pub candidate_in : Aes3Lock → Option Candidate
 candidate_in k = if k.in_hand == 0 then None else if nat_lt k.seen k.at then None else Some (record { at = k.at; before = level_of k.before; level = level_of k.level })
 
 abbrev pub state_of : Aes3Lock → LockState
-state_of k = record { seen = k.seen; recent = low_cells 8 k.recent; candidate = candidate_in k; subframe = k.subframe; slots = k.slots }
+state_of k = record { seen = k.seen; recent = low_cells 8 k.recent; candidate = candidate_in k; subframe = k.subframe; words = k.words }
 
 -- the report that these numbers tell
 abbrev pub told_in : Aes3Report → Option Report

@@ -19,15 +19,15 @@ pub struct Aes3Lock {
     pub seen: u64,
     pub at: u64,
     pub subframe: u64,
-    pub slots: [u32; 384],
+    pub words: [u64; 384],
     pub recent: u8,
     pub in_hand: u8,
     pub before: u8,
     pub level: u8,
 }
 
-// The header keeps 196 words of 64 bits for it.
-const _: () = prove!(size_of::<Aes3Lock>() == 1568);
+// The header keeps 388 words of 64 bits for it.
+const _: () = prove!(size_of::<Aes3Lock>() == 3104);
 
 const _: () = prove!(align_of::<Aes3Lock>() <= 8);
 
@@ -50,13 +50,13 @@ fn candidate_of(kept: &Aes3Lock) -> Option<Candidate>
 fn lock_of(kept: &Aes3Lock) -> Lock
     ensures { result ≡ state_of kept.now }
 {
-    let slots = kept.slots;
+    let words = kept.words;
     Lock::of_parts(LockParts {
         seen: kept.seen,
         recent: kept.recent,
         candidate: candidate_of(kept),
         subframe: kept.subframe,
-        slots,
+        words,
     })
 }
 
@@ -67,8 +67,8 @@ fn keep(lock: &Lock, kept: &mut Aes3Lock)
     kept.seen = parts.seen;
     kept.recent = parts.recent;
     kept.subframe = parts.subframe;
-    let slots = parts.slots;
-    kept.slots = slots;
+    let words = parts.words;
+    kept.words = words;
     match parts.candidate {
         None => kept.in_hand = 0,
         Some(candidate) => {

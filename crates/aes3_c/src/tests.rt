@@ -14,7 +14,7 @@ fn memory() -> Aes3Lock {
         seen: 9,
         at: 9,
         subframe: 9,
-        slots: [9; 384],
+        words: [9; 384],
         recent: 9,
         in_hand: 9,
         before: 9,

@@ -1,13 +1,12 @@
 -- What the small steps of a lock answer.
-use Rattle.std.proofs.Common.{◌≡◌, ℕ, zero, suc, ◌-◌, ◌/◌, ◌%◌, ◌<◌, ◌≤◌, List, [], ◌∷◌, Bool, true, false, not, eqb, ltb, ◌&&◌, Option, Some, None, refl, map, take, ap, ap₂, ◌∙◌, sym, arith, eq-eqb, lt-ltb, le-ltb, ltb-true, true≢false}
+use Rattle.std.proofs.Common.{◌≡◌, ℕ, ◌-◌, ◌<◌, ◌≤◌, List, Bool, true, false, not, eqb, ltb, ◌&&◌, Option, Some, None, refl, take, ap, ◌∙◌, sym, arith, eq-eqb, lt-ltb, le-ltb, ltb-true, true≢false}
 use Rattle.std.proofs.lemmas.Bool.{and_parts, false_from_ne_true}
 use Rattle.aes3_cell.specs.declared.level.Level.{Level}
 use Rattle.aes3_cell.specs.declared.level.Level.TheVariants.{Low, High}
 use Rattle.aes3_cell.specs.Cells.{line}
 use Rattle.aes3_slot.specs.declared.mark.Mark.{Mark}
 use Rattle.aes3_slot.specs.declared.mark.Mark.TheVariants.{X, Y, Z}
-use Rattle.aes3_slot.specs.Bits.{low_bits}
-use Rattle.aes3_slot.specs.Slots.{mark_runs, payload_len, payload_bits, slots_len, slots_bits}
+use Rattle.aes3_slot.specs.Slots.{mark_runs}
 use Rattle.aes3_slot.specs.Rules.{rule}
 use Rattle.aes3_slot.specs.Reading.{same, differs}
 use Rattle.aes3_block.specs.Blocks.{block_len, mark_at}
@@ -20,17 +19,6 @@ use Rattle.aes3_lock.specs.Steps.{begins_a_block, begun, ended, left}
 use Rattle.aes3_slot.proofs.Beginnings.{begins-stands}
 use Rattle.aes3_lock.proofs.Deciding.{block_len_24576}
 use Rattle.aes3_lock.proofs.Following.{begun-some, begun-none}
-
--- the payloads of the bits of subframes
-take-low : (m n w : ℕ) → m ≤ n → take m (low_bits n w) ≡ low_bits m w
-take-low zero n w h = refl
-take-low (suc m) zero w h = absurd (omega arith)
-take-low (suc m) (suc n) w h = ap (λ x. eqb (w % 2) 1 ∷ x) (take-low m n (w / 2) (omega arith))
-
-pub payloads-slots : (slots : List ℕ) → map payload_bits slots ≡ payloads_of (map slots_bits slots)
-unfolding payload_len slots_len
-payloads-slots [] = refl
-payloads-slots (w ∷ slots) = ap₂ (λ x y. x ∷ y) (sym (take-low 27 28 w (omega arith))) (payloads-slots slots)
 
 pub block-whole : (at : ℕ) (s : Level) (slots : List (List Bool)) (wrong : ℕ) → wrong ≡ wrong_parities slots → wrong ≡ 0
     → Whole at s (payloads_of slots) ≡ report_of at (block_outcome s slots)

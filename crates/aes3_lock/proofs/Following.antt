@@ -1,10 +1,10 @@
 -- A lock goes on following the cells, and answers what each decides.
-use Rattle.std.proofs.Common.{◌≡◌, ℕ, ◌+◌, ◌-◌, ◌*◌, ◌/◌, ◌%◌, ◌^◌, ◌<◌, ◌≤◌, ◌⊎◌, inl, inr, List, [], ◌∷◌, ◌++◌, Bool, true, false, cond, leb, ltb, ◌&&◌, Option, Some, None, MatchOption, refl, length, map, drop, ap, ap₂, ◌∙◌, sym, subst, arith, length-append, length-drop, append-nil, le-leb, lt-ltb, le-ltb, true≢false}
+use Rattle.std.proofs.Common.{◌≡◌, ℕ, ◌+◌, ◌-◌, ◌*◌, ◌/◌, ◌%◌, ◌^◌, ◌<◌, ◌≤◌, ◌⊎◌, inl, inr, List, [], ◌∷◌, ◌++◌, Bool, true, false, cond, leb, ltb, ◌&&◌, Option, Some, None, MatchOption, refl, length, drop, ap, ap₂, ◌∙◌, sym, subst, arith, length-append, length-drop, append-nil, le-leb, lt-ltb, le-ltb, true≢false}
 use Rattle.std.proofs.lemmas.List.{drop-append-le}
 use Rattle.std.proofs.lemmas.Bool.{cases_eq, cases_lt, lt-leb, false_from_ne_true, cases_Bool}
 use Rattle.aes3_cell.specs.declared.level.Level.{Level}
 use Rattle.aes3_cell.specs.Words.{low_cells}
-use Rattle.aes3_slot.specs.Slots.{slots_bits}
+use Rattle.aes3_slot.specs.ReadWords.{read_words}
 use Rattle.aes3_slot.specs.Rules.{at, before, rule}
 use Rattle.aes3_slot.specs.Reading.{same, read_slots}
 use Rattle.aes3_block.specs.Blocks.{mark_at, block_slots, block_len}
@@ -21,7 +21,7 @@ use Rattle.aes3_lock.proofs.Fronts.{keeps-append, front-is}
 use Rattle.aes3_lock.proofs.Ends.{reports-split, final-none, final-open}
 use Rattle.aes3_lock.proofs.Opens.{IsOpen, is-open, open-room, answer-none, answer-open, keeps-new, open-ends, open-decides, open-eight, none-after, open-only, open-cells}
 use Rattle.aes3_lock.proofs.LastEight.{last_eight-with, last_eight-is, last-before}
-use Rattle.aes3_lock.proofs.Gathering.{slots-whole}
+use Rattle.aes3_lock.proofs.Gathering.{words-whole}
 
 -- a candidate that the last eight cells show, and none
 pub begun-some : (n : ℕ) (recent : List Level) → 8 ≤ n → begins_block recent ≡ true
@@ -53,13 +53,13 @@ closed c none b q = false_from_ne_true (open_at (drop q c)) (λ t. here t (cases
         true≢false (sym (ap begins_block s ∙ o.begins) ∙ b (omega (arith, r, l)))
 
 -- what is in hand where the last eight cells alone can show it
-restarted : (c : List Level) (subframe : ℕ) (slots : List ℕ) → low_cells 8 subframe ≡ last_eight c → subframe < 2 ^ 8
+restarted : (c : List Level) (subframe : ℕ) (words : List ℕ) → low_cells 8 subframe ≡ last_eight c → subframe < 2 ^ 8
     → ((q : ℕ) → 8 < length (drop q c) → open_at (drop q c) ≡ false)
-    → MatchOption (begun (length c) (last_eight c)) (NoneOpen c) (λ t. OpenAt subframe slots t c)
-restarted c subframe slots kept few none = go (cases_lt (length c) 8) (cases_Bool (begins_block (last_eight c)))
+    → MatchOption (begun (length c) (last_eight c)) (NoneOpen c) (λ t. OpenAt subframe words t c)
+restarted c subframe words kept few none = go (cases_lt (length c) 8) (cases_Bool (begins_block (last_eight c)))
   where
     go : (length c < 8) ⊎ (8 ≤ length c) → (begins_block (last_eight c) ≡ true) ⊎ (begins_block (last_eight c) ≡ false)
-        → MatchOption (begun (length c) (last_eight c)) (NoneOpen c) (λ t. OpenAt subframe slots t c)
+        → MatchOption (begun (length c) (last_eight c)) (NoneOpen c) (λ t. OpenAt subframe words t c)
     go (inl g) b = rw (begun-none (length c) (last_eight c) (λ h. absurd (omega (arith, g, h)))) (closed c none (λ h. absurd (omega (arith, g, h))))
     go (inr g) (inr b) = rw (begun-none (length c) (last_eight c) (λ h. b)) (closed c none (λ h. b))
     go (inr g) (inl b) =
@@ -100,7 +100,7 @@ module _ (k k' : LockState) (c : List Level) (l : Level) (f : Follows k c) (n : 
   anew e few none b = record {
     seen = seen-with;
     recent = recent-with;
-    candidate = rw (b, seen-with, recent-with) (restarted (c ++ l ∷ []) k'.subframe k'.slots (sym e ∙ recent-with) few none);
+    candidate = rw (b, seen-with, recent-with) (restarted (c ++ l ∷ []) k'.subframe k'.words (sym e ∙ recent-with) few none);
   }
 
 -- no candidate was in hand
@@ -117,7 +117,7 @@ push-none k k' c l f s e1 e2 e3 e4 e5 = (
     none = rw s at f.candidate
 
 module _ (k : LockState) (t : Candidate) (c : List Level) (f : Follows k c) (s : k.candidate ≡ Some t) where
-  pub hand : OpenAt k.subframe k.slots t c
+  pub hand : OpenAt k.subframe k.words t c
   hand = rw s at f.candidate
 
   pub hand-open : IsOpen (drop t.at c)
@@ -147,7 +147,7 @@ module _ (k : LockState) (t : Candidate) (c : List Level) (l : Level) (f : Follo
 pub goes-on : (k k' : LockState) (t u : Candidate) (c d : List Level) → Follows k c → k.candidate ≡ Some t → length (drop t.at c ++ d) ≤ block_len
     → ((i : ℕ) → i < length (drop t.at c ++ d) → keeps (entry (drop t.at c)) (drop t.at c ++ d) i ≡ true)
     → k'.seen ≡ length (c ++ d) → k'.recent ≡ last_eight (c ++ d) → k'.candidate ≡ Some u → u.at ≡ t.at → u.before ≡ t.before
-    → Gathered u.level k'.subframe k'.slots (entry (drop t.at c)) (drop t.at c ++ d)
+    → Gathered u.level k'.subframe k'.words (entry (drop t.at c)) (drop t.at c ++ d)
     → Follows k' (c ++ d) × (decided (c ++ d) ≡ decided c)
 unfolding decided
 goes-on k k' t u c d f s h kept seen recent e same-at same-before g =
@@ -163,22 +163,22 @@ goes-on k k' t u c d f s h kept seen recent e same-at same-before g =
           within = omega (arith, n, w, same-at);
           opened = ap open_at rest ∙ o.0;
           first = same-before ∙ in-hand.first ∙ sym (ap entry rest ∙ first);
-          gathered = subst (λ v. Gathered u.level k'.subframe k'.slots (entry v) v) (sym rest)
-              (subst (λ x. Gathered u.level k'.subframe k'.slots x (drop t.at c ++ d)) (sym first) g);
+          gathered = subst (λ v. Gathered u.level k'.subframe k'.words (entry v) v) (sym rest)
+              (subst (λ x. Gathered u.level k'.subframe k'.words x (drop t.at c ++ d)) (sym first) g);
         });
       },
       o.1,
     )
   where
-    in-hand : OpenAt k.subframe k.slots t c
+    in-hand : OpenAt k.subframe k.words t c
     in-hand = hand k t c f s
 
 -- the cell goes on with the candidate in hand
 pub push-next : (k k' : LockState) (t u : Candidate) (c : List Level) (l : Level) → Follows k c → k.candidate ≡ Some t
     → k.seen - t.at < block_len → rule mark_at (k.seen - t.at) l t.level (at k.recent 7) ≡ true
     → k'.seen ≡ k.seen + 1 → k'.recent ≡ eight_with k.recent l → k'.candidate ≡ Some u → u.at ≡ t.at → u.before ≡ t.before
-    → (Gathered t.level k.subframe k.slots (entry (drop t.at c)) (drop t.at c) → k.seen - t.at ≡ length (drop t.at c)
-    → Gathered u.level k'.subframe k'.slots (entry (drop t.at c)) (drop t.at c ++ l ∷ []))
+    → (Gathered t.level k.subframe k.words (entry (drop t.at c)) (drop t.at c) → k.seen - t.at ≡ length (drop t.at c)
+    → Gathered u.level k'.subframe k'.words (entry (drop t.at c)) (drop t.at c ++ l ∷ []))
     → Follows k' (c ++ l ∷ []) × (decided (c ++ l ∷ []) ≡ decided c ++ [])
 push-next k k' t u c l f s o r e1 e2 e3 e4 e5 g =
     let both = goes-on k k' t u c (l ∷ []) f s (omega (arith, a, o, m)) kept (seen-with k k' c l f e1 e2) (recent-with k k' c l f e1 e2) e3 e4 e5
@@ -205,21 +205,21 @@ push-next k k' t u c l f s o r e1 e2 e3 e4 e5 g =
             ∙ (front-is (entry (drop t.at c)) (drop t.at c)).kept i (omega (arith, h, m, e, q))
 
 -- the cell ends the candidate in hand
-pub push-last : (k k' : LockState) (t : Candidate) (c : List Level) (l : Level) → Follows k c → length k.slots ≡ block_slots → k.candidate ≡ Some t
+pub push-last : (k k' : LockState) (t : Candidate) (c : List Level) (l : Level) → Follows k c → length k.words ≡ block_slots → k.candidate ≡ Some t
     → (k.seen - t.at < block_len → rule mark_at (k.seen - t.at) l t.level (at k.recent 7) ≡ false)
     → k'.seen ≡ k.seen + 1 → k'.recent ≡ eight_with k.recent l → k'.candidate ≡ begun k'.seen k'.recent
     → k'.recent ≡ low_cells 8 k'.subframe → k'.subframe < 2 ^ 8
     → Follows k' (c ++ l ∷ []) × (decided (c ++ l ∷ []) ≡ decided c ++
-    report_of t.at (ended t.before (k.seen - t.at) (same l (at k.recent 7)) (map slots_bits k.slots)) ∷ [])
+    report_of t.at (ended t.before (k.seen - t.at) (same l (at k.recent 7)) (read_words k.words)) ∷ [])
 unfolding decided
 push-last k k' t c l f lw s r e1 e2 e3 e4 e5 = (
   anew k k' c l f e1 e2 e4 e5 (λ q g. let d = drop-push c l q g in ap open_at d.0 ∙ none q d.1 (cases_eq q t.at)) e3,
   answers k t c l f s ∙ ap (λ x. decided_from 0 c ++ told (0 + t.at) x) ends
-      ∙ ap (λ p. decided_from 0 c ++ report_of p (ended t.before (k.seen - t.at) (same l (at k.recent 7)) (map slots_bits k.slots)) ∷ [])
+      ∙ ap (λ p. decided_from 0 c ++ report_of p (ended t.before (k.seen - t.at) (same l (at k.recent 7)) (read_words k.words)) ∷ [])
       (let y : 0 + t.at ≡ t.at = omega arith in y),
 )
   where
-    in-hand : OpenAt k.subframe k.slots t c
+    in-hand : OpenAt k.subframe k.words t c
     in-hand = hand k t c f s
 
     off : k.seen - t.at ≡ length (drop t.at c)
@@ -239,15 +239,15 @@ push-last k k' t c l f lw s r e1 e2 e3 e4 e5 = (
         go (inl g) = let t1 = lt-ltb o block_len g in rw t1 refl
         go (inr g) = ap (ended t.before o b) (z g)
 
-    ends : decided_at (drop t.at c ++ l ∷ []) ≡ Some (ended t.before (k.seen - t.at) (same l (at k.recent 7)) (map slots_bits k.slots))
+    ends : decided_at (drop t.at c ++ l ∷ []) ≡ Some (ended t.before (k.seen - t.at) (same l (at k.recent 7)) (read_words k.words))
     ends = open-decides (drop t.at c) l (hand-open k t c f s) wrong
         ∙ ap Some (ap₂ (λ s b. ended s (length (drop t.at c)) (same l b) (read_slots block_slots (drop t.at c ++ l ∷ [])))
         (sym in-hand.first) (sym (previous k t c f s (entry (drop t.at c))))
-        ∙ same-slots (length (drop t.at c)) (same l (at k.recent 7)) (read_slots block_slots (drop t.at c ++ l ∷ [])) (map slots_bits k.slots)
+        ∙ same-slots (length (drop t.at c)) (same l (at k.recent 7)) (read_slots block_slots (drop t.at c ++ l ∷ [])) (read_words k.words)
         (λ g. let b = block_len_64 in
         read_slots-append block_slots (drop t.at c) (l ∷ []) (omega (arith, b, g))
-        ∙ sym (slots-whole k.slots (drop t.at c) lw g in-hand.gathered.whole))
-        ∙ ap (λ o. ended t.before o (same l (at k.recent 7)) (map slots_bits k.slots)) (sym off))
+        ∙ sym (words-whole k.words (drop t.at c) lw g in-hand.gathered.whole))
+        ∙ ap (λ o. ended t.before o (same l (at k.recent 7)) (read_words k.words)) (sym off))
 
 -- a new lock
 pub follows-nil : (k : LockState) → k.seen ≡ 0 → k.recent ≡ last_eight [] → k.candidate ≡ None → Follows k []
@@ -268,12 +268,12 @@ finish-none k c f s = reports-split 0 c ∙ ap (λ x. decided_from 0 c ++ x) (fi
     none = rw s at f.candidate
 
 -- the end, where one is
-pub finish-open : (k : LockState) (t : Candidate) (c : List Level) → Follows k c → length k.slots ≡ block_slots → k.candidate ≡ Some t
-    → reports c ≡ decided c ++ report_of t.at (left t.before (k.seen - t.at) (map slots_bits k.slots)) ∷ []
+pub finish-open : (k : LockState) (t : Candidate) (c : List Level) → Follows k c → length k.words ≡ block_slots → k.candidate ≡ Some t
+    → reports c ≡ decided c ++ report_of t.at (left t.before (k.seen - t.at) (read_words k.words)) ∷ []
 unfolding reports decided
 finish-open k t c f lw s = reports-split 0 c ∙ ap (λ x. decided_from 0 c ++ x) (final-open 0 c t.at in-hand.opened ∙ ap₂ (λ p o. report_of p o ∷ []) (omega arith) says)
   where
-    in-hand : OpenAt k.subframe k.slots t c
+    in-hand : OpenAt k.subframe k.words t c
     in-hand = rw s at f.candidate
 
     o : IsOpen (drop t.at c)
@@ -293,11 +293,11 @@ finish-open k t c f lw s = reports-split 0 c ∙ ap (λ x. decided_from 0 c ++ x
         go (inl g) = let t1 = lt-ltb n block_len g in rw (e, t2, t1) refl
         go (inr g) = let t1 = le-ltb n block_len g in rw (e, t2, t1, z g) refl
 
-    says : outcome (drop t.at c) ≡ left t.before (k.seen - t.at) (map slots_bits k.slots)
+    says : outcome (drop t.at c) ≡ left t.before (k.seen - t.at) (read_words k.words)
     says = outcome_is (drop t.at c)
-        ∙ at-end (entry (drop t.at c)) (front (entry (drop t.at c)) (drop t.at c)) (length (drop t.at c)) _ (read_slots block_slots (drop t.at c)) (map slots_bits k.slots) o.all
-        (λ g. sym (slots-whole k.slots (drop t.at c) lw g in-hand.gathered.whole))
-        ∙ ap₂ (λ s n. left s n (map slots_bits k.slots)) (sym in-hand.first) (sym off)
+        ∙ at-end (entry (drop t.at c)) (front (entry (drop t.at c)) (drop t.at c)) (length (drop t.at c)) _ (read_slots block_slots (drop t.at c)) (read_words k.words) o.all
+        (λ g. sym (words-whole k.words (drop t.at c) lw g in-hand.gathered.whole))
+        ∙ ap₂ (λ s n. left s n (read_words k.words)) (sym in-hand.first) (sym off)
 
 -- a cell behind a whole block ends its candidate
 pub past-stops : (k : LockState) (t : Candidate) (l : Level) → k.candidate ≡ Some t → block_len ≤ k.seen - t.at → Stops k l

@@ -10,9 +10,7 @@ use Rattle.aes3_cell.specs.Words.{level_of, low_cells, word_cells}
 use Rattle.aes3_cell.proofs.WordCells.{length-low_cells}
 use Rattle.aes3_cell.proofs.Moves.{bit_at-shr}
 use Rattle.aes3_slot.specs.declared.mark.Mark.{Mark}
-use Rattle.aes3_slot.specs.Slots.{slots_bits}
 use Rattle.aes3_slot.specs.Rules.{at}
-use Rattle.aes3_slot.specs.Reading.{read_bits}
 use Rattle.aes3_slot.specs.Fronts.{stands}
 use Rattle.aes3_slot.specs.Preambles.{entry}
 use Rattle.aes3_slot.proofs.RuleTests.{stands-append}
@@ -30,7 +28,7 @@ use Rattle.aes3_lock.proofs.SubframeWords.{take-low, take-word}
 use Rattle.aes3_lock.proofs.QuietWords.{below-trailing, no-trailing}
 use Rattle.aes3_lock.proofs.WordSteps.{more-cells, made-whole, start, start-length, start-last, keeps-part}
 use Rattle.aes3_lock.proofs.Following.{hand, hand-open, offset, tested, goes-on}
-use Rattle.aes3_lock.proofs.TakenWords.{all-64, bits-number}
+use Rattle.aes3_lock.proofs.TakenWords.{all-64}
 
 -- x has the first cells of the word w behind those of the subframe at offset o of the candidate, and there is room for n of these
 pub record Joined (k : LockState) (w x n o : ℕ) : Type 0 where
@@ -74,7 +72,7 @@ module _ (k : LockState) (t : Candidate) (c : List Level) (w x n : ℕ) (f : Fol
   abbrev tail : List Level
   tail = drop (64 * (length (drop t.at c) / 64)) (drop t.at c)
 
-  in-hand : OpenAt k.subframe k.slots t c
+  in-hand : OpenAt k.subframe k.words t c
   in-hand = hand k t c f s
 
   here : Joined k w x n (length d)
@@ -121,7 +119,7 @@ module _ (k : LockState) (t : Candidate) (c : List Level) (w x n : ℕ) (f : Fol
           ap (keeps (entry d) (d ++ low_cells n w)) e ∙ inside (p + (i - length d)) (omega (arith, a, l, h, g)) ∙ right (i - length d) (omega (arith, a, l, h, g))
 
   on : AllRight t x n (k.seen - t.at) → (k' : LockState) (u : Candidate) → k'.seen ≡ k.seen + n → k'.recent ≡ drop n (k.recent ++ low_cells n w) → k'.candidate ≡ Some u → u.at ≡ t.at → u.before ≡ t.before
-      → Gathered u.level k'.subframe k'.slots (entry d) (d ++ low_cells n w) → Follows k' (c ++ low_cells n w) × (decided (c ++ low_cells n w) ≡ decided c)
+      → Gathered u.level k'.subframe k'.words (entry d) (d ++ low_cells n w) → Follows k' (c ++ low_cells n w) × (decided (c ++ low_cells n w) ≡ decided c)
   on right k' u e1 e2 e3 e4 e5 g =
       let a = length-append d (low_cells n w) in
       let b = length-append c (low_cells n w) in
@@ -134,11 +132,11 @@ module _ (k : LockState) (t : Candidate) (c : List Level) (w x n : ℕ) (f : Fol
       (e2 ∙ ap₂ (λ m r. drop m (r ++ low_cells n w)) (sym len) f.recent ∙ sym (last_eight-more c (low_cells n w))) e3 e4 e5 g
 
   -- the subframe isn't whole then
-  pub part-next : AllRight t x n (k.seen - t.at) → (k' : LockState) → k'.seen ≡ k.seen + n → k'.recent ≡ drop n (k.recent ++ low_cells n w) → k'.candidate ≡ Some t → k'.slots ≡ k.slots
+  pub part-next : AllRight t x n (k.seen - t.at) → (k' : LockState) → k'.seen ≡ k.seen + n → k'.recent ≡ drop n (k.recent ++ low_cells n w) → k'.candidate ≡ Some t → k'.words ≡ k.words
       → Begun k'.subframe x n (k.seen - t.at) → Follows k' (c ++ low_cells n w) × (decided (c ++ low_cells n w) ≡ decided c)
   part-next right k' e1 e2 e3 e4 b =
       on right k' t e1 e2 e3 refl refl (subst (λ v. Gathered t.level k'.subframe v (entry d) (d ++ low_cells n w)) (sym e4)
-      (more-cells t.level k.subframe k'.subframe k.slots (entry d) d (low_cells n w) in-hand.gathered (let l = len in let q = r.short in omega (arith, l, q))
+      (more-cells t.level k.subframe k'.subframe k.words (entry d) d (low_cells n w) in-hand.gathered (let l = len in let q = r.short in omega (arith, l, q))
       (λ g. ap (λ m. low_cells (p + m) k'.subframe) len ∙ r.cells ∙ sym (take-word (p + n) x (let q = r.short in omega (arith, q))) ∙ parts)
       (λ g. subst (λ m. k'.subframe < 2 ^ (p + m)) (sym len) r.few)))
     where
@@ -146,18 +144,17 @@ module _ (k : LockState) (t : Candidate) (c : List Level) (w x n : ℕ) (f : Fol
       r = subst (λ o. Begun k'.subframe x n o) (offset k t c f s) b
 
   -- or it is
-  pub part-whole : AllRight t x n (k.seen - t.at) → (k' : LockState) (v : ℕ) → k'.seen ≡ k.seen + n → k'.recent ≡ drop n (k.recent ++ low_cells n w)
+  pub part-whole : AllRight t x n (k.seen - t.at) → (k' : LockState) → k'.seen ≡ k.seen + n → k'.recent ≡ drop n (k.recent ++ low_cells n w)
       → k'.candidate ≡ Some (record { at = t.at; before = t.before; level = at (word_cells x) 63 }) → k'.subframe ≡ 0
-      → k'.slots ≡ set k.slots ((k.seen - t.at) / 64) v → length k.slots ≡ block_slots → (k.seen - t.at) % 64 + n ≡ 64
-      → slots_bits v ≡ read_bits (drop 8 (word_cells x)) → v < 2 ^ 28
+      → k'.words ≡ set k.words ((k.seen - t.at) / 64) x → length k.words ≡ block_slots → (k.seen - t.at) % 64 + n ≡ 64
       → Follows k' (c ++ low_cells n w) × (decided (c ++ low_cells n w) ≡ decided c)
-  part-whole right k' v e1 e2 e3 e4 e5 lw h bits few =
+  part-whole right k' e1 e2 e3 e4 e5 lw h =
       on right k' (record { at = t.at; before = t.before; level = at (word_cells x) 63 }) e1 e2 e3 refl refl
-      (subst (λ y. Gathered (at (word_cells x) 63) y k'.slots (entry d) (d ++ low_cells n w)) (sym e4)
-      (subst (λ y. Gathered (at (word_cells x) 63) 0 y (entry d) (d ++ low_cells n w)) (sym (e5 ∙ ap (λ o. set k.slots (o / 64) v) off))
-      (subst (λ y. Gathered (at (word_cells x) 63) 0 (set k.slots (length d / 64) v) (entry d) (d ++ y)) (append-nil (low_cells n w))
+      (subst (λ y. Gathered (at (word_cells x) 63) y k'.words (entry d) (d ++ low_cells n w)) (sym e4)
+      (subst (λ y. Gathered (at (word_cells x) 63) 0 y (entry d) (d ++ low_cells n w)) (sym (e5 ∙ ap (λ o. set k.words (o / 64) x) off))
+      (subst (λ y. Gathered (at (word_cells x) 63) 0 (set k.words (length d / 64) x) (entry d) (d ++ y)) (append-nil (low_cells n w))
       (made-whole (entry d) d (low_cells n w) [] (word_cells x) (sym (all-64 x) ∙ ap (λ m. take m (word_cells x)) (let e : 64 ≡ p + n = omega (arith, h, off) in e) ∙ part) (length-word x)
-      t.level k.subframe 0 v k.slots in-hand.gathered lw here.room (omega arith) refl (omega arith) (bits-number v (read_bits (drop 8 (word_cells x))) bits few)))))
+      t.level k.subframe 0 x k.words in-hand.gathered lw here.room (omega arith) refl (omega arith) refl))))
     where
       off : k.seen - t.at ≡ length d
       off = offset k t c f s

@@ -167,7 +167,7 @@ module _ (k k' : LockState) (c b : List Level) (m w n : ℕ) (f : Follows k c) (
       ∙ quiet-at begins_block (begins-append Z) c b m w few (is ∙ ap (λ r. drop 1 r ++ word_cells w) f.recent) found i (omega (arith, l, h)) (omega (arith, l, h)))
 
   midst : LockState
-  midst = record { seen = length (c ++ low_cells (n - 1) w); recent = last_eight (c ++ low_cells (n - 1) w); candidate = None; subframe = 0; slots = k.slots }
+  midst = record { seen = length (c ++ low_cells (n - 1) w); recent = last_eight (c ++ low_cells (n - 1) w); candidate = None; subframe = 0; words = k.words }
 
   all-of : (c ++ low_cells (n - 1) w) ++ level_of (bit_at w (n - 1)) ∷ [] ≡ c ++ low_cells n w
   all-of = with-last c (n - 1) w ∙ ap (λ j. c ++ low_cells j w) (let e : n - 1 + 1 ≡ n = omega arith in e)

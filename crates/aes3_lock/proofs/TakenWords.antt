@@ -1,16 +1,12 @@
 -- A word of cells behind those that a lock follows.
-use Rattle.std.proofs.Common.{◌≡◌, ℕ, suc, ◌+◌, ◌-◌, ◌*◌, ◌/◌, ◌%◌, ◌^◌, ◌<◌, ◌≤◌, List, [], ◌∷◌, ◌++◌, Bool, true, Some, refl, length, take, drop, set, ap, ap₂, ◌∙◌, sym, subst, arith, length-append, length-drop, take-append-drop, take_all, add-one}
+use Rattle.std.proofs.Common.{◌≡◌, ℕ, suc, ◌+◌, ◌-◌, ◌*◌, ◌/◌, ◌%◌, ◌^◌, ◌<◌, ◌≤◌, List, [], ◌∷◌, ◌++◌, true, Some, refl, length, take, drop, set, ap, ap₂, ◌∙◌, sym, subst, arith, length-append, length-drop, take-append-drop, take_all, add-one}
 use Rattle.std.proofs.lemmas.List.{drop-append-le}
 use Rattle.std.proofs.Math.Seq.{get_or-append_seam}
 use Rattle.aes3_cell.specs.declared.level.Level.{Level}
 use Rattle.aes3_cell.specs.declared.level.Level.TheVariants.{Low}
 use Rattle.aes3_cell.specs.Words.{low_cells, word_cells, word_len}
-use Rattle.aes3_slot.specs.Bits.{number}
-use Rattle.aes3_slot.specs.Slots.{slots_bits, slots_len}
 use Rattle.aes3_slot.specs.Rules.{at, AllKept}
-use Rattle.aes3_slot.specs.Reading.{read_bits}
 use Rattle.aes3_slot.specs.Fronts.{IsFrontOf}
-use Rattle.aes3_slot.proofs.Bits.{number-low_bits}
 use Rattle.aes3_slot.proofs.Fronts.{kept-from-front, front-from-kept}
 use Rattle.aes3_lock.proofs.SubframeWords.{take-word}
 use Rattle.aes3_slot.proofs.Taken.{length-word}
@@ -42,10 +38,6 @@ pub record Fits (t : Candidate) (x y o : ℕ) : Type 0 where
 pub all-64 : (x : ℕ) → take 64 (word_cells x) ≡ word_cells x
 all-64 x = let l = length-word x in take_all 64 (word_cells x) (omega (arith, l))
 
-pub bits-number : (v : ℕ) (bits : List Bool) → slots_bits v ≡ bits → v < 2 ^ 28 → v ≡ number bits
-unfolding slots_len
-bits-number v bits e h = sym (number-low_bits 28 v h) ∙ ap number e
-
 module _ (k : LockState) (t : Candidate) (c : List Level) (w x y : ℕ) (f : Follows k c) (s : k.candidate ≡ Some t)
     (given : Parted k w x y (k.seen - t.at)) where
   abbrev d : List Level
@@ -60,7 +52,7 @@ module _ (k : LockState) (t : Candidate) (c : List Level) (w x y : ℕ) (f : Fol
   abbrev rest : List Level
   rest = drop (64 - length (drop t.at c) % 64) (word_cells w)
 
-  in-hand : OpenAt k.subframe k.slots t c
+  in-hand : OpenAt k.subframe k.words t c
   in-hand = hand k t c f s
 
   parted : Parted k w x y (length d)
@@ -82,18 +74,17 @@ module _ (k : LockState) (t : Candidate) (c : List Level) (w x y : ℕ) (f : Fol
   so-far i h = let a = (hand-open k t c f s).all in (front-is (entry d) d).kept i (omega (arith, a, h))
 
   -- where it fits, the lock goes on
-  pub word-next : (k' : LockState) (v : ℕ) → length k.slots ≡ block_slots → Fits t x y (k.seen - t.at)
-      → slots_bits v ≡ read_bits (drop 8 (word_cells x)) → v < 2 ^ 28
+  pub word-next : (k' : LockState) → length k.words ≡ block_slots → Fits t x y (k.seen - t.at)
       → k'.seen ≡ k.seen + 64 → k'.recent ≡ drop 56 (word_cells w)
       → k'.candidate ≡ Some (record { at = t.at; before = t.before; level = at (word_cells x) 63 })
-      → k'.subframe ≡ y → k'.slots ≡ set k.slots ((k.seen - t.at) / 64) v
+      → k'.subframe ≡ y → k'.words ≡ set k.words ((k.seen - t.at) / 64) x
       → Follows k' (c ++ word_cells w) × (decided (c ++ word_cells w) ≡ decided c)
-  word-next k' v lw fits bits few e1 e2 e3 e4 e5 =
+  word-next k' lw fits e1 e2 e3 e4 e5 =
       goes-on k k' t (record { at = t.at; before = t.before; level = at (word_cells x) 63 }) c (word_cells w) f s
       (omega (arith, n, l, room)) kept
       (let a = f.seen in let b = length-append c (word_cells w) in omega (arith, a, b, e1, l))
       (e2 ∙ sym (last_eight-word c (word_cells w) l)) e3 refl refl
-      (subst (λ u. Gathered (at (word_cells x) 63) u k'.slots (entry d) (d ++ word_cells w)) (sym e4)
+      (subst (λ u. Gathered (at (word_cells x) 63) u k'.words (entry d) (d ++ word_cells w)) (sym e4)
       (subst (λ u. Gathered (at (word_cells x) 63) y u (entry d) (d ++ word_cells w)) (sym e5 ∙ refl) gathered))
     where
       l : length (word_cells w) ≡ 64
@@ -126,11 +117,11 @@ module _ (k : LockState) (t : Candidate) (c : List Level) (w x y : ℕ) (f : Fol
       kept = subst (λ u. (i : ℕ) → i < length (d ++ u) → keeps (entry d) (d ++ u) i ≡ true) both
           (all-keep (entry d) t.level d first rest (word_cells x) is-whole (length-word x) in-hand.gathered.level so-far k1 k2 small)
 
-      gathered : Gathered (at (word_cells x) 63) y (set k.slots ((k.seen - t.at) / 64) v) (entry d) (d ++ word_cells w)
-      gathered = subst (λ o. Gathered (at (word_cells x) 63) y (set k.slots (o / 64) v) (entry d) (d ++ word_cells w)) (sym off)
-          (subst (λ u. Gathered (at (word_cells x) 63) y (set k.slots (length d / 64) v) (entry d) (d ++ u)) both
-          (made-whole (entry d) d first rest (word_cells x) is-whole (length-word x) t.level k.subframe y v k.slots in-hand.gathered lw (omega (arith, room)) small
-          (ap (λ m. low_cells m y) rest-length ∙ rest-cells) (subst (λ m. y < 2 ^ m) (sym rest-length) parted.few) (bits-number v (read_bits (drop 8 (word_cells x))) bits few)))
+      gathered : Gathered (at (word_cells x) 63) y (set k.words ((k.seen - t.at) / 64) x) (entry d) (d ++ word_cells w)
+      gathered = subst (λ o. Gathered (at (word_cells x) 63) y (set k.words (o / 64) x) (entry d) (d ++ word_cells w)) (sym off)
+          (subst (λ u. Gathered (at (word_cells x) 63) y (set k.words (length d / 64) x) (entry d) (d ++ u)) both
+          (made-whole (entry d) d first rest (word_cells x) is-whole (length-word x) t.level k.subframe y x k.words in-hand.gathered lw (omega (arith, room)) small
+          (ap (λ m. low_cells m y) rest-length ∙ rest-cells) (subst (λ m. y < 2 ^ m) (sym rest-length) parted.few) refl))
 
 -- a candidate in hand behind the word has room there
 pub word-room : (k : LockState) (t : Candidate) (c : List Level) (w : ℕ) → Follows k c → k.candidate ≡ Some t → open_at (drop t.at (c ++ word_cells w)) ≡ true
@@ -163,7 +154,7 @@ module _ (k : LockState) (t : Candidate) (c : List Level) (w x y : ℕ) (f : Fol
         (omega (arith, r)) kept)));
   })
     where
-      in-hand : OpenAt k.subframe k.slots t c
+      in-hand : OpenAt k.subframe k.words t c
       in-hand = hand k t c f s
 
       r : length (rest k t c w x y f s given) ≡ length e % 64
@@ -189,24 +180,23 @@ module _ (k : LockState) (t : Candidate) (c : List Level) (w x y : ℕ) (f : Fol
       kept = subst (λ u. (i : ℕ) → i < length (e ++ u) → keeps (entry e) (e ++ u) i ≡ true) (sym (both k t c w x y f s given)) kept-word
 
 -- one more cell of a subframe
-pub next-inside : (u : Level) (sub new : ℕ) (slots : List ℕ) (s : Level) (d : List Level) (o : ℕ) (l : Level) → o % 64 < 63
+pub next-inside : (u : Level) (sub new : ℕ) (words : List ℕ) (s : Level) (d : List Level) (o : ℕ) (l : Level) → o % 64 < 63
     → (sub < 2 ^ (o % 64) → low_cells (o % 64 + 1) new ≡ low_cells (o % 64) sub ++ l ∷ []) → (sub < 2 ^ (o % 64) → new < 2 ^ (o % 64 + 1))
-    → Gathered u sub slots s d → o ≡ length d → Gathered u new slots s (d ++ l ∷ [])
-next-inside u sub new slots s d o l h cells few g e =
-    more-cells u sub new slots s d (l ∷ []) g (omega (arith, e, h))
+    → Gathered u sub words s d → o ≡ length d → Gathered u new words s (d ++ l ∷ [])
+next-inside u sub new words s d o l h cells few g e =
+    more-cells u sub new words s d (l ∷ []) g (omega (arith, e, h))
     (subst (λ n. sub < 2 ^ (n % 64) → low_cells (n % 64 + 1) new ≡ low_cells (n % 64) sub ++ l ∷ []) e cells)
     (subst (λ n. sub < 2 ^ (n % 64) → new < 2 ^ (n % 64 + 1)) e few)
 
 -- its last cell
-pub next-whole : (u : Level) (sub new v : ℕ) (slots : List ℕ) (s : Level) (d : List Level) (o : ℕ) (l : Level) → length slots ≡ block_slots → o < block_len → o % 64 ≡ 63
-    → (sub < 2 ^ (o % 64) → low_cells (o % 64 + 1) new ≡ low_cells (o % 64) sub ++ l ∷ []) → slots_bits v ≡ read_bits (drop 8 (word_cells new)) → v < 2 ^ 28
-    → Gathered u sub slots s d → o ≡ length d → Gathered l 0 (set slots (o / 64) v) s (d ++ l ∷ [])
+pub next-whole : (u : Level) (sub new : ℕ) (words : List ℕ) (s : Level) (d : List Level) (o : ℕ) (l : Level) → length words ≡ block_slots → o < block_len → o % 64 ≡ 63
+    → (sub < 2 ^ (o % 64) → low_cells (o % 64 + 1) new ≡ low_cells (o % 64) sub ++ l ∷ [])
+    → Gathered u sub words s d → o ≡ length d → Gathered l 0 (set words (o / 64) new) s (d ++ l ∷ [])
 unfolding word_cells word_len
-next-whole u sub new v slots s d o l lw room h cells bits few g e =
-    subst (λ n. Gathered l 0 (set slots (n / 64) v) s (d ++ l ∷ [])) (sym e)
-    (subst (λ a. Gathered a 0 (set slots (length d / 64) v) s (d ++ l ∷ [])) last-is
-    (made-whole s d (l ∷ []) [] (word_cells new) is (length-word new) u sub 0 v slots g lw (omega (arith, e, room)) (omega arith) refl (omega arith)
-    (bits-number v (read_bits (drop 8 (word_cells new))) bits few)))
+next-whole u sub new words s d o l lw room h cells g e =
+    subst (λ n. Gathered l 0 (set words (n / 64) new) s (d ++ l ∷ [])) (sym e)
+    (subst (λ a. Gathered a 0 (set words (length d / 64) new) s (d ++ l ∷ [])) last-is
+    (made-whole s d (l ∷ []) [] (word_cells new) is (length-word new) u sub 0 new words g lw (omega (arith, e, room)) (omega arith) refl (omega arith) refl))
   where
     here : length d % 64 ≡ 63
     here = omega (arith, e, h)

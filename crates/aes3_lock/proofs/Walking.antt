@@ -1,12 +1,13 @@
 -- One place tried by itself, cell by cell.
-use Rattle.std.proofs.Common.{◌≡◌, ℕ, suc, ◌+◌, ◌-◌, ◌*◌, ◌/◌, ◌%◌, ◌<◌, ◌≤◌, ◌⊎◌, inl, inr, min, List, [], ◌∷◌, ◌++◌, Bool, true, false, cond, eqb, ltb, Some, None, refl, length, map, take, drop, get_or, ap, ap₂, ◌∙◌, sym, subst, arith, length-drop, length-take-le, take-append-drop, take_all, drop-cons, append_assoc, eq-eqb, ne_eqb, lt-ltb, le-ltb}
-use Rattle.std.proofs.lemmas.List.{take_more, get_or-take}
+use Rattle.std.proofs.Common.{◌≡◌, ℕ, suc, ◌+◌, ◌-◌, ◌*◌, ◌/◌, ◌%◌, ◌^◌, ◌<◌, ◌≤◌, ◌⊎◌, inl, inr, min, List, [], ◌∷◌, ◌++◌, Bool, true, false, cond, ltb, Some, None, refl, length, take, drop, set, get_or, ap, ap₂, ◌∙◌, sym, subst, arith, length-drop, length-take-le, take-append-drop, take_all, drop-cons, append_assoc, lt-ltb, le-ltb}
+use Rattle.std.proofs.lemmas.List.{take_more}
 use Rattle.std.proofs.lemmas.Bool.{cases_eq, cases_lt, false_from_ne_true}
 use Rattle.aes3_cell.specs.declared.level.Level.{Level}
 use Rattle.aes3_cell.specs.declared.level.Level.TheVariants.{Low}
-use Rattle.aes3_slot.specs.Slots.{slots_bits}
+use Rattle.aes3_cell.specs.Words.{low_cells}
 use Rattle.aes3_slot.specs.Rules.{at, before, rule}
 use Rattle.aes3_slot.specs.Reading.{same, read_slots}
+use Rattle.aes3_slot.specs.ReadWords.{read_words}
 use Rattle.aes3_block.specs.Blocks.{mark_at, block_slots, block_len}
 use Rattle.aes3_lock.specs.declared.report.Report.{Report}
 use Rattle.aes3_lock.specs.declared.candidate.Candidate.{Candidate}
@@ -14,14 +15,15 @@ use Rattle.aes3_slot.specs.Preambles.{entry}
 use Rattle.aes3_lock.specs.Candidates.{begins_block, keeps, front}
 use Rattle.aes3_lock.specs.Outcomes.{outcome}
 use Rattle.aes3_lock.specs.Reports.{told, outcome_at, reports_from, reports}
-use Rattle.aes3_lock.specs.Steps.{last_eight, eight_with, begun, level_with, ended, left}
-use Rattle.aes3_lock.specs.Following.{Filled}
+use Rattle.aes3_lock.specs.Steps.{last_eight, eight_with, begun, ended, left}
+use Rattle.aes3_lock.specs.Following.{Filled, Gathered}
 use Rattle.aes3_slot.specs.declared.mark.Mark.TheVariants.{Z}
 use Rattle.aes3_slot.proofs.Beginnings.{begins-append, begins-room, entry-append}
 use Rattle.aes3_lock.proofs.Deciding.{block_len_64, block_len_24576, outcome_by, outcome_is, read_slots-append}
 use Rattle.aes3_lock.proofs.Fronts.{front-is, front-unique}
-use Rattle.aes3_lock.proofs.LastEight.{last_eight-with, last_eight-is, before-at}
-use Rattle.aes3_lock.proofs.Gathering.{slots_set, filled-step, slots-filled}
+use Rattle.aes3_lock.proofs.LastEight.{last_eight-with, last_eight-is}
+use Rattle.aes3_lock.proofs.Gathering.{words-whole}
+use Rattle.aes3_lock.proofs.TakenWords.{next-inside, next-whole}
 
 -- the first cells as an octet
 pub octet-more : (c recent new : List Level) (i : ℕ) → i < length c → recent ≡ last_eight (take i c) → new ≡ eight_with recent (get_or c i Low)
@@ -34,104 +36,108 @@ octet-all c recent i h g e =
     e ∙ ap last_eight (take_all i c g) ∙ last_eight-is c (omega arith) ∙ ap (λ n. drop n c) (let z : length c - 8 ≡ 0 = omega arith in z)
 
 -- a place tried as far as cell o
-pub record Walked (s : Level) (c : List Level) (slots : List ℕ) (u v : Level) (o : ℕ) : Type 0 where
+pub record Walked (s : Level) (c : List Level) (subframe : ℕ) (words : List ℕ) (u v : Level) (o : ℕ) : Type 0 where
   pub few : o ≤ block_len
   pub kept : (i : ℕ) → i < o → keeps s c i ≡ true
   pub level : u ≡ before s c (64 * (o / 64))
   pub previous : v ≡ before s c o
-  pub filled : Filled slots (take o c)
+  pub gathered : Gathered u subframe words s (take o c)
 
-pub walk-nil : (s : Level) (c : List Level) (slots : List ℕ) → Walked s c slots s s 0
-walk-nil s c slots = record { few = omega arith; kept = λ i h. absurd (omega arith); level = refl; previous = refl; filled = λ j g h. absurd (omega arith) }
-
-level-step : (s : Level) (c : List Level) (o : ℕ) → level_with o (before s c (64 * (o / 64))) (at c o) ≡ before s c (64 * ((o + 1) / 64))
-level-step s c o = go (cases_eq (o % 64) 63)
-  where
-    go : (o % 64 ≡ 63) ⊎ (o % 64 ≡ 63 → ⊥) → cond (eqb (o % 64) 63) (at c o) (before s c (64 * (o / 64))) ≡ before s c (64 * ((o + 1) / 64))
-    go (inl e) =
-        let t = eq-eqb _ _ e in
-        let m : 64 * ((o + 1) / 64) ≡ suc o = omega arith in
-        rw (t, m) refl
-    go (inr e) =
-        let t = ne_eqb (o % 64) 63 e in
-        let m : 64 * ((o + 1) / 64) ≡ 64 * (o / 64) = omega arith in
-        rw (t, m) refl
+pub walk-nil : (s : Level) (c : List Level) (words : List ℕ) → Walked s c 0 words s s 0
+walk-nil s c words = record {
+  few = omega arith;
+  kept = λ i h. absurd (omega arith);
+  level = refl;
+  previous = refl;
+  gathered = record { level = refl; cells = refl; few = omega arith; whole = λ j g h. absurd (omega arith) };
+}
 
 -- the rule of the next cell
-pub walk-keeps : (s : Level) (c : List Level) (slots : List ℕ) (level previous : Level) (o : ℕ) (b : Bool) → Walked s c slots level previous o
+pub walk-keeps : (s : Level) (c : List Level) (subframe : ℕ) (words : List ℕ) (level previous : Level) (o : ℕ) (b : Bool) → Walked s c subframe words level previous o
     → rule mark_at o (at c o) level previous ≡ b → keeps s c o ≡ b
 unfolding keeps
-walk-keeps s c slots level previous o b w e = ap₂ (rule mark_at o (at c o)) (sym w.level) (sym w.previous) ∙ e
+walk-keeps s c subframe words level previous o b w e = ap₂ (rule mark_at o (at c o)) (sym w.level) (sym w.previous) ∙ e
 
-pub walk-step : (s : Level) (c : List Level) (slots : List ℕ) (level previous : Level) (o : ℕ) → Walked s c slots level previous o
-    → o < length c → o < block_len → length slots ≡ block_slots → rule mark_at o (at c o) level previous ≡ true
-    → Walked s c (slots_set slots o previous (at c o)) (level_with o level (at c o)) (at c o) (o + 1)
-walk-step s c slots level previous o w h g lw e = record {
-  few = omega arith;
-  kept = λ i l. kept i l (cases_eq i o);
-  level = ap (λ b. level_with o b (at c o)) w.level ∙ level-step s c o;
-  previous = ap (before s c) (let q : suc o ≡ o + 1 = omega arith in q);
-  filled = subst (Filled (slots_set slots o previous (at c o))) (sym (take_more c o Low h))
-      (subst (λ k. Filled (slots_set slots k previous (at c o)) (take o c ++ at c o ∷ [])) n
-      (filled-step slots (take o c) (at c o) previous lw (omega (arith, n, g)) last w.filled));
-}
-  where
-    n : length (take o c) ≡ o
-    n = length-take-le o c (omega arith)
+module _ (s : Level) (c : List Level) (subframe new : ℕ) (words : List ℕ) (level previous : Level) (o : ℕ) (w : Walked s c subframe words level previous o)
+    (h : o < length c) (g : o < block_len) (e : rule mark_at o (at c o) level previous ≡ true)
+    (cells : subframe < 2 ^ (o % 64) → low_cells (o % 64 + 1) new ≡ low_cells (o % 64) subframe ++ at c o ∷ []) where
+  n : o ≡ length (take o c)
+  n = sym (length-take-le o c (omega arith))
 
-    kept : (i : ℕ) → i < o + 1 → (i ≡ o) ⊎ (i ≡ o → ⊥) → keeps s c i ≡ true
-    kept i l (inl q) = ap (keeps s c) q ∙ walk-keeps s c slots level previous o true w e
-    kept i l (inr q) = w.kept i (omega arith)
+  more : take (o + 1) c ≡ take o c ++ at c o ∷ []
+  more = take_more c o Low h
 
-    last : 1 ≤ length (take o c) → previous ≡ before (at c o) (take o c) (length (take o c))
-    last z =
-        w.previous ∙ before-at s c o (omega (arith, n, z)) ∙ sym (get_or-take o c (o - 1) Low (omega (arith, n, z)))
-        ∙ ap (at (take o c)) (let q : o - 1 ≡ length (take o c) - 1 = omega (arith, n) in q) ∙ sym (before-at (at c o) (take o c) (length (take o c)) z)
+  kept : (i : ℕ) → i < o + 1 → keeps s c i ≡ true
+  kept i l = go (cases_eq i o)
+    where
+      go : (i ≡ o) ⊎ (i ≡ o → ⊥) → keeps s c i ≡ true
+      go (inl q) = ap (keeps s c) q ∙ walk-keeps s c subframe words level previous o true w e
+      go (inr q) = w.kept i (omega arith)
+
+  -- the next cell inside a subframe, and its last
+  pub walk-inside : o % 64 < 63 → (subframe < 2 ^ (o % 64) → new < 2 ^ (o % 64 + 1)) → Walked s c new words level (at c o) (o + 1)
+  walk-inside l few = record {
+    few = omega arith;
+    kept = kept;
+    level = w.level ∙ ap (λ k. before s c (64 * k)) (omega (arith, l));
+    previous = ap (before s c) (let q : suc o ≡ o + 1 = omega arith in q);
+    gathered = subst (Gathered level new words s) (sym more) (next-inside level subframe new words s (take o c) o (at c o) l cells few w.gathered n);
+  }
+
+  pub walk-whole : length words ≡ block_slots → o % 64 ≡ 63 → Walked s c 0 (set words (o / 64) new) (at c o) (at c o) (o + 1)
+  walk-whole lw l = record {
+    few = omega arith;
+    kept = kept;
+    level = ap (before s c) (let q : suc o ≡ 64 * ((o + 1) / 64) = omega (arith, l) in q);
+    previous = ap (before s c) (let q : suc o ≡ o + 1 = omega arith in q);
+    gathered = subst (Gathered (at c o) 0 (set words (o / 64) new) s) (sym more) (next-whole level subframe new words s (take o c) o (at c o) lw g l cells w.gathered n);
+  }
 
 -- as the code has it
-pub walk-same : (s : Level) (c : List Level) (o : ℕ) {slots slots' : List ℕ} {u v u' v' : Level} → Walked s c slots u v o
-    → slots' ≡ slots → u' ≡ u → v' ≡ v → Walked s c slots' u' v' o
-walk-same s c o w a b d = record {
+pub walk-same : (s : Level) (c : List Level) (o : ℕ) {subframe subframe' : ℕ} {words words' : List ℕ} {u v u' v' : Level} → Walked s c subframe words u v o
+    → subframe' ≡ subframe → words' ≡ words → u' ≡ u → v' ≡ v → Walked s c subframe' words' u' v' o
+walk-same s c o {subframe = x} {subframe' = x'} {words = y} {words' = y'} {u = u} {u' = u'} w a b d e = record {
   few = w.few;
   kept = w.kept;
-  level = b ∙ w.level;
-  previous = d ∙ w.previous;
-  filled = subst (λ x. Filled x (take o c)) (sym a) w.filled;
+  level = d ∙ w.level;
+  previous = e ∙ w.previous;
+  gathered = subst (λ l. Gathered l x' y' s (take o c)) (sym d)
+      (subst (λ m. Gathered u m y' s (take o c)) (sym a) (subst (λ l. Gathered u x l s (take o c)) (sym b) w.gathered));
 }
 
 -- where it ends
-pub walk-front : (s : Level) (c : List Level) (slots : List ℕ) (level previous : Level) (o : ℕ) → Walked s c slots level previous o → o ≤ length c
+pub walk-front : (s : Level) (c : List Level) (subframe : ℕ) (words : List ℕ) (level previous : Level) (o : ℕ) → Walked s c subframe words level previous o → o ≤ length c
     → (o < min block_len (length c) → keeps s c o ≡ false) → o ≡ front s c
-walk-front s c slots level previous o w h e =
+walk-front s c subframe words level previous o w h e =
     front-unique s c o (front s c) (record { within = let f = w.few in omega (arith, f, h); kept = w.kept; stops = e }) (front-is s c)
 
-pub walk-full : (s : Level) (c : List Level) (slots : List ℕ) (level previous : Level) (o : ℕ) → Walked s c slots level previous o → o < length c
+pub walk-full : (s : Level) (c : List Level) (subframe : ℕ) (words : List ℕ) (level previous : Level) (o : ℕ) → Walked s c subframe words level previous o → o < length c
     → o ≡ 24576 → o ≡ front s c
-walk-full s c slots level previous o w h e =
-    walk-front s c slots level previous o w (omega arith) (λ g. let n = block_len_24576 in absurd (omega (arith, n, g, e)))
+walk-full s c subframe words level previous o w h e =
+    walk-front s c subframe words level previous o w (omega arith) (λ g. let n = block_len_24576 in absurd (omega (arith, n, g, e)))
 
-pub walk-stops : (s : Level) (c : List Level) (slots : List ℕ) (level previous : Level) (o : ℕ) → Walked s c slots level previous o → o < length c
+pub walk-stops : (s : Level) (c : List Level) (subframe : ℕ) (words : List ℕ) (level previous : Level) (o : ℕ) → Walked s c subframe words level previous o → o < length c
     → rule mark_at o (at c o) level previous ≡ false → o ≡ front s c
-walk-stops s c slots level previous o w h e =
-    walk-front s c slots level previous o w (omega arith) (λ g. walk-keeps s c slots level previous o false w e)
+walk-stops s c subframe words level previous o w h e =
+    walk-front s c subframe words level previous o w (omega arith) (λ g. walk-keeps s c subframe words level previous o false w e)
 
-pub walk-all : (s : Level) (c : List Level) (slots : List ℕ) (level previous : Level) (o : ℕ) → Walked s c slots level previous o → o ≡ length c
+pub walk-all : (s : Level) (c : List Level) (subframe : ℕ) (words : List ℕ) (level previous : Level) (o : ℕ) → Walked s c subframe words level previous o → o ≡ length c
     → o ≡ front s c
-walk-all s c slots level previous o w e = walk-front s c slots level previous o w (omega arith) (λ g. absurd (omega (arith, g, e)))
+walk-all s c subframe words level previous o w e = walk-front s c subframe words level previous o w (omega arith) (λ g. absurd (omega (arith, g, e)))
 
 -- the outcome by the bits that were gathered
-module _ (c : List Level) (slots : List ℕ) (lw : length slots ≡ block_slots) (f : Filled slots (take (front (entry c) c) c)) where
-  read-all : block_len ≤ front (entry c) c → read_slots block_slots c ≡ map slots_bits slots
+module _ (c : List Level) (words : List ℕ) (lw : length words ≡ block_slots) (f : Filled words (take (front (entry c) c) c)) where
+  read-all : block_len ≤ front (entry c) c → read_slots block_slots c ≡ read_words words
   read-all h =
       let w = (front-is (entry c) c).within in
       let n : length (take (front (entry c) c) c) ≡ front (entry c) c = length-take-le (front (entry c) c) c (omega (arith, w)) in
       let b = block_len_64 in
       ap (read_slots block_slots) (sym (take-append-drop (front (entry c) c) c))
       ∙ read_slots-append block_slots (take (front (entry c) c) c) (drop (front (entry c) c) c) (omega (arith, n, b, h))
-      ∙ sym (slots-filled slots (take (front (entry c) c) c) lw (omega (arith, n, h)) f)
+      ∙ sym (words-whole words (take (front (entry c) c) c) lw (omega (arith, n, h)) f)
 
   pub outcome-ended : front (entry c) c < length c
-      → outcome c ≡ ended (entry c) (front (entry c) c) (same (at c (front (entry c) c)) (before (entry c) c (front (entry c) c))) (map slots_bits slots)
+      → outcome c ≡ ended (entry c) (front (entry c) c) (same (at c (front (entry c) c)) (before (entry c) c (front (entry c) c))) (read_words words)
   outcome-ended h = outcome_is c ∙ go (cases_lt (front (entry c) c) block_len)
     where
       t : ltb (front (entry c) c) (length c) ≡ true
@@ -139,11 +145,11 @@ module _ (c : List Level) (slots : List ℕ) (lw : length slots ≡ block_slots)
 
       go : (front (entry c) c < block_len) ⊎ (block_len ≤ front (entry c) c)
           → outcome_by (entry c) (front (entry c) c) (length c) (same (at c (front (entry c) c)) (before (entry c) c (front (entry c) c))) (read_slots block_slots c)
-          ≡ ended (entry c) (front (entry c) c) (same (at c (front (entry c) c)) (before (entry c) c (front (entry c) c))) (map slots_bits slots)
+          ≡ ended (entry c) (front (entry c) c) (same (at c (front (entry c) c)) (before (entry c) c (front (entry c) c))) (read_words words)
       go (inl g) = let u = lt-ltb _ _ g in rw (t, u) refl
       go (inr g) = let u = le-ltb _ _ g in let r = read-all g in rw (t, u, r) refl
 
-  pub outcome-left : length c ≤ front (entry c) c → outcome c ≡ left (entry c) (front (entry c) c) (map slots_bits slots)
+  pub outcome-left : length c ≤ front (entry c) c → outcome c ≡ left (entry c) (front (entry c) c) (read_words words)
   outcome-left h = outcome_is c ∙ go (cases_lt (front (entry c) c) block_len)
     where
       t : ltb (front (entry c) c) (length c) ≡ false
@@ -151,29 +157,29 @@ module _ (c : List Level) (slots : List ℕ) (lw : length slots ≡ block_slots)
 
       go : (front (entry c) c < block_len) ⊎ (block_len ≤ front (entry c) c)
           → outcome_by (entry c) (front (entry c) c) (length c) (same (at c (front (entry c) c)) (before (entry c) c (front (entry c) c))) (read_slots block_slots c)
-          ≡ left (entry c) (front (entry c) c) (map slots_bits slots)
+          ≡ left (entry c) (front (entry c) c) (read_words words)
       go (inl g) = let u = lt-ltb _ _ g in rw (t, u) refl
       go (inr g) = let u = le-ltb _ _ g in let r = read-all g in rw (t, u, r) refl
 
 -- by the values that the code has
-module _ (c : List Level) (s : Level) (slots : List ℕ) (f : ℕ) (p : Level) (es : s ≡ entry c) (ef : f ≡ front s c) (ep : p ≡ before s c f)
-    (k : Filled slots (take f c)) (lw : length slots ≡ block_slots) where
+module _ (c : List Level) (s : Level) (words : List ℕ) (f : ℕ) (p : Level) (es : s ≡ entry c) (ef : f ≡ front s c) (ep : p ≡ before s c f)
+    (k : Filled words (take f c)) (lw : length words ≡ block_slots) where
   front-entry : f ≡ front (entry c) c
   front-entry = ef ∙ ap (λ s. front s c) es
 
-  filled-front : Filled slots (take (front (entry c) c) c)
-  filled-front = subst (λ n. Filled slots (take n c)) front-entry k
+  filled-front : Filled words (take (front (entry c) c) c)
+  filled-front = subst (λ n. Filled words (take n c)) front-entry k
 
-  pub place-ended : f < length c → outcome c ≡ ended s f (same (at c f) p) (map slots_bits slots)
+  pub place-ended : f < length c → outcome c ≡ ended s f (same (at c f) p) (read_words words)
   place-ended h =
-      outcome-ended c slots lw filled-front (let e = front-entry in omega (arith, e, h))
-      ∙ ap₂ (λ s f. ended s f (same (at c f) (before s c f)) (map slots_bits slots)) (sym es) (sym front-entry)
-      ∙ ap (λ b. ended s f (same (at c f) b) (map slots_bits slots)) (sym ep)
+      outcome-ended c words lw filled-front (let e = front-entry in omega (arith, e, h))
+      ∙ ap₂ (λ s f. ended s f (same (at c f) (before s c f)) (read_words words)) (sym es) (sym front-entry)
+      ∙ ap (λ b. ended s f (same (at c f) b) (read_words words)) (sym ep)
 
-  pub place-left : length c ≤ f → outcome c ≡ left s f (map slots_bits slots)
+  pub place-left : length c ≤ f → outcome c ≡ left s f (read_words words)
   place-left h =
-      outcome-left c slots lw filled-front (let e = front-entry in omega (arith, e, h))
-      ∙ ap₂ (λ s f. left s f (map slots_bits slots)) (sym es) (sym front-entry)
+      outcome-left c words lw filled-front (let e = front-entry in omega (arith, e, h))
+      ∙ ap₂ (λ s f. left s f (read_words words)) (sym es) (sym front-entry)
 
 -- what the first eight cells show
 begins-take : (c : List Level) → 8 ≤ length c → (begins_block (take 8 c) ≡ begins_block c) × (entry (take 8 c) ≡ entry c)

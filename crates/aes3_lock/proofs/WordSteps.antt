@@ -1,13 +1,11 @@
 -- Cells that make a subframe whole, and the cells of the next one behind them.
-use Rattle.std.proofs.Common.{◌≡◌, ℕ, suc, ◌+◌, ◌-◌, ◌*◌, ◌/◌, ◌%◌, ◌^◌, ◌<◌, ◌≤◌, ◌⊎◌, inl, inr, List, ◌++◌, true, refl, length, take, drop, set, get_or, ap, ap₂, ◌∙◌, sym, subst, arith, length-append, length-drop, length-take-le, take-append-drop, append_assoc, drop-drop, drop_at}
+use Rattle.std.proofs.Common.{◌≡◌, ℕ, suc, ◌+◌, ◌-◌, ◌*◌, ◌/◌, ◌%◌, ◌^◌, ◌<◌, ◌≤◌, ◌⊎◌, inl, inr, List, ◌++◌, true, refl, length, take, drop, set, get_or, ap, ap₂, ◌∙◌, sym, subst, arith, length-append, length-drop, length-take-le, take-append-drop, append_assoc, drop_at}
 use Rattle.std.proofs.lemmas.List.{drop-append-le, take-append-le, take_at, get_or-set_same, get_or-set_other, get_or-append_right}
 use Rattle.std.proofs.lemmas.Bool.{cases_eq, cases_lt}
 use Rattle.aes3_cell.specs.declared.level.Level.{Level}
 use Rattle.aes3_cell.specs.declared.level.Level.TheVariants.{Low}
-use Rattle.aes3_cell.specs.Words.{low_cells}
-use Rattle.aes3_slot.specs.Bits.{number}
+use Rattle.aes3_cell.specs.Words.{low_cells, word_cells}
 use Rattle.aes3_slot.specs.Rules.{at, before, AllKept}
-use Rattle.aes3_slot.specs.Reading.{read_bits}
 use Rattle.aes3_slot.specs.Fronts.{stands}
 use Rattle.aes3_slot.proofs.Index.{before-append_left, before-append_right}
 use Rattle.aes3_slot.proofs.RuleTests.{kept-from-stands, stands-from-kept}
@@ -19,11 +17,11 @@ use Rattle.aes3_lock.proofs.Fronts.{keeps-append}
 use Rattle.aes3_lock.proofs.LastEight.{before-at}
 
 -- more cells of a subframe that they don't make whole
-pub more-cells : (u : Level) (sub new : ℕ) (slots : List ℕ) (s : Level) (d e : List Level) → Gathered u sub slots s d → length d % 64 + length e < 64
+pub more-cells : (u : Level) (sub new : ℕ) (words : List ℕ) (s : Level) (d e : List Level) → Gathered u sub words s d → length d % 64 + length e < 64
     → (sub < 2 ^ (length d % 64) → low_cells (length d % 64 + length e) new ≡ low_cells (length d % 64) sub ++ e)
     → (sub < 2 ^ (length d % 64) → new < 2 ^ (length d % 64 + length e))
-    → Gathered u new slots s (d ++ e)
-more-cells u sub new slots s d e g h cells few =
+    → Gathered u new words s (d ++ e)
+more-cells u sub new words s d e g h cells few =
     let n = length-append d e in
     let whole-is : length (d ++ e) / 64 ≡ length d / 64 = omega (arith, n, h) in
     let len-is : length (d ++ e) % 64 ≡ length d % 64 + length e = omega (arith, n, h) in
@@ -33,10 +31,10 @@ more-cells u sub new slots s d e g h cells few =
           ∙ sym (ap (λ k. drop (64 * k) (d ++ e)) whole-is ∙ drop-append-le (64 * (length d / 64)) d e (omega arith));
       few = subst (λ k. new < 2 ^ k) (sym len-is) (few g.few);
       whole = λ j l r.
-          let m = length-drop (64 * j + 8) d in
+          let m = length-drop (64 * j) d in
           g.whole j l (omega (arith, n, h, r))
-          ∙ ap (λ y. number (read_bits y)) (sym (ap (take 56) (drop-append-le (64 * j + 8) d e (omega (arith, n, h, r)))
-          ∙ take-append-le 56 (drop (64 * j + 8) d) e (omega (arith, n, h, r, m))));
+          ∙ sym (ap (take 64) (drop-append-le (64 * j) d e (omega (arith, n, h, r)))
+          ∙ take-append-le 64 (drop (64 * j) d) e (omega (arith, n, h, r, m)));
     }
 
 -- the whole subframes of cells
@@ -77,10 +75,10 @@ module _ (s : Level) (d e f w : List Level) (is : w ≡ drop (64 * (length d / 6
       ∙ ap (at w) (let q : length ((start s d) ++ w) - 1 - 64 * (length d / 64) ≡ 63 = omega (arith, n) in q)
 
   -- what is kept then
-  pub made-whole : (u : Level) (sub new v : ℕ) (slots : List ℕ) → Gathered u sub slots s d → length slots ≡ block_slots → length d < block_len
-      → length f < 64 → low_cells (length f) new ≡ f → new < 2 ^ length f → v ≡ number (read_bits (drop 8 w))
-      → Gathered (at w 63) new (set slots (length d / 64) v) s (d ++ (e ++ f))
-  made-whole u sub new v slots g lw room few cells bound bits =
+  pub made-whole : (u : Level) (sub new x : ℕ) (words : List ℕ) → Gathered u sub words s d → length words ≡ block_slots → length d < block_len
+      → length f < 64 → low_cells (length f) new ≡ f → new < 2 ^ length f → word_cells x ≡ w
+      → Gathered (at w 63) new (set words (length d / 64) x) s (d ++ (e ++ f))
+  made-whole u sub new x words g lw room few cells bound same =
       let n = joined-length in
       let whole-is : length (d ++ (e ++ f)) / 64 ≡ suc (length d / 64) = omega (arith, n, few) in
       let len-is : length (d ++ (e ++ f)) % 64 ≡ length f = omega (arith, n, few) in
@@ -94,26 +92,24 @@ module _ (s : Level) (d e f w : List Level) (is : w ≡ drop (64 * (length d / 6
         whole = λ j l r. slot j (cases_eq j (length d / 64)) (omega (arith, n, r, few));
       }
     where
-      here : length d / 64 < length slots
+      here : length d / 64 < length words
       here = let b = block_len_64 in omega (arith, b, lw, room)
 
       slot : (j : ℕ) → (j ≡ length d / 64) ⊎ (j ≡ length d / 64 → ⊥) → j ≤ length d / 64
-          → get_or (set slots (length d / 64) v) j 0 ≡ number (read_bits (take 56 (drop (64 * j + 8) (d ++ (e ++ f)))))
+          → word_cells (get_or (set words (length d / 64) x) j 0) ≡ take 64 (drop (64 * j) (d ++ (e ++ f)))
       slot j (inl q) le =
           let a = start-length s d in
-          let k = length-drop 8 w in
-          let part : take 56 (drop (64 * (length d / 64) + 8) (d ++ (e ++ f))) ≡ drop 8 w =
-          ap (λ c. take 56 (drop (64 * (length d / 64) + 8) c)) (joined ∙ append_assoc (start s d) w f)
-          ∙ ap (take 56) (sym (drop-drop 8 (64 * (length d / 64)) ((start s d) ++ (w ++ f))) ∙ ap (drop 8) (drop_at (start s d) (w ++ f) (64 * (length d / 64)) a)
-          ∙ drop-append-le 8 w f (omega (arith, all)))
-          ∙ take_at (drop 8 w) f 56 (omega (arith, k, all)) in
-          ap (λ i. get_or (set slots (length d / 64) v) i 0) q ∙ get_or-set_same slots (length d / 64) v 0 here ∙ bits
-          ∙ ap (λ c. number (read_bits c)) (sym part) ∙ ap (λ i. number (read_bits (take 56 (drop (64 * i + 8) (d ++ (e ++ f)))))) (sym q)
+          let part : take 64 (drop (64 * (length d / 64)) (d ++ (e ++ f))) ≡ w =
+          ap (λ c. take 64 (drop (64 * (length d / 64)) c)) (joined ∙ append_assoc (start s d) w f)
+          ∙ ap (take 64) (drop_at (start s d) (w ++ f) (64 * (length d / 64)) a)
+          ∙ take_at w f 64 all in
+          ap (λ i. word_cells (get_or (set words (length d / 64) x) i 0)) q ∙ ap word_cells (get_or-set_same words (length d / 64) x 0 here) ∙ same
+          ∙ sym part ∙ ap (λ i. take 64 (drop (64 * i) (d ++ (e ++ f)))) (sym q)
       slot j (inr q) le =
-          let m = length-drop (64 * j + 8) d in
-          get_or-set_other slots (length d / 64) j v 0 q ∙ g.whole j (omega (arith, le, here, lw)) (omega (arith, le, q))
-          ∙ ap (λ y. number (read_bits y)) (sym (ap (take 56) (drop-append-le (64 * j + 8) d (e ++ f) (omega (arith, le, q)))
-          ∙ take-append-le 56 (drop (64 * j + 8) d) (e ++ f) (omega (arith, le, q, m))))
+          let m = length-drop (64 * j) d in
+          ap word_cells (get_or-set_other words (length d / 64) j x 0 q) ∙ g.whole j (omega (arith, le, here, lw)) (omega (arith, le, q))
+          ∙ sym (ap (take 64) (drop-append-le (64 * j) d (e ++ f) (omega (arith, le, q)))
+          ∙ take-append-le 64 (drop (64 * j) d) (e ++ f) (omega (arith, le, q, m)))
 
 -- the rule by the place in a subframe
 pub keeps-part : (s u : Level) (a b : List Level) (j i : ℕ) → length a ≡ 64 * j → before s a (length a) ≡ u → i < 64

@@ -1,11 +1,9 @@
 -- Which lists of cells a lock and a scan follow.
-use Rattle.std.specs.Prelude.{ℕ, List, true, false, length, ◌≡◌, ◌<◌, ◌≤◌, ◌+◌, ◌-◌, ◌*◌, ◌/◌, ◌%◌, ◌^◌, Some, drop, take, get_or, map, MatchOption, Option}
+use Rattle.std.specs.Prelude.{ℕ, List, true, false, length, ◌≡◌, ◌<◌, ◌≤◌, ◌+◌, ◌-◌, ◌*◌, ◌/◌, ◌%◌, ◌^◌, Some, drop, take, get_or, MatchOption, Option}
 use Rattle.aes3_cell.specs.declared.level.Level.{Level}
-use Rattle.aes3_cell.specs.Words.{low_cells}
-use Rattle.aes3_slot.specs.Bits.{number}
-use Rattle.aes3_slot.specs.Slots.{slots_bits}
+use Rattle.aes3_cell.specs.Words.{low_cells, word_cells}
 use Rattle.aes3_slot.specs.Rules.{at, before, rule}
-use Rattle.aes3_slot.specs.Reading.{read_bits}
+use Rattle.aes3_slot.specs.ReadWords.{read_words}
 use Rattle.aes3_block.specs.Blocks.{block_slots, block_len, mark_at}
 use Rattle.aes3_lock.specs.declared.candidate.Candidate.{Candidate}
 use Rattle.aes3_slot.specs.Preambles.{entry}
@@ -16,46 +14,46 @@ use Rattle.aes3_lock.specs.Reports.{open_at, ending_report}
 use Rattle.aes3_lock.specs.Steps.{last_eight}
 
 -- how many cells a lock has seen, the last eight, the candidate in hand, the cells of its last subframe that isn't whole, the
--- first in the lowest bit, and the bits of its whole subframes as numbers
+-- first in the lowest bit, and words with the cells of its whole subframes
 pub record LockState : Type 0 where
   pub seen : ℕ
   pub recent : List Level
   pub candidate : Option Candidate
   pub subframe : ℕ
-  pub slots : List ℕ
+  pub words : List ℕ
 
 -- how many cells a scan has seen, and the last eight
 pub record ScanState : Type 0 where
   pub seen : ℕ
   pub recent : List Level
 
--- the numbers hold the bits of each subframe behind whose preamble a cell has come
+-- the words have the cells of each whole subframe
 abbrev pub Filled : List ℕ → List Level → Type 0
-Filled slots d = (j : ℕ) → j < block_slots → 64 * j + 8 < length d → get_or slots j 0 ≡ number (read_bits (take 56 (drop (64 * j + 8) d)))
+Filled words d = (j : ℕ) → j < block_slots → 64 * j + 64 ≤ length d → word_cells (get_or words j 0) ≡ take 64 (drop (64 * j) d)
 
--- what is kept of a candidate's cells d after level s: the level before the subframe that isn't whole, its cells, and the bits of
+-- what is kept of a candidate's cells d after level s: the level before the subframe that isn't whole, its cells, and those of
 -- each subframe before it
-pub record Gathered (u : Level) (subframe : ℕ) (slots : List ℕ) (s : Level) (d : List Level) : Type 0 where
+pub record Gathered (u : Level) (subframe : ℕ) (words : List ℕ) (s : Level) (d : List Level) : Type 0 where
   pub level : u ≡ before s d (64 * (length d / 64))
   pub cells : low_cells (length d % 64) subframe ≡ drop (64 * (length d / 64)) d
   pub few : subframe < 2 ^ (length d % 64)
-  pub whole : (j : ℕ) → j < block_slots → 64 * j + 64 ≤ length d → get_or slots j 0 ≡ number (read_bits (take 56 (drop (64 * j + 8) d)))
+  pub whole : Filled words d
 
 abbrev pub NoneOpen : List Level → Type 0
 NoneOpen c = (q : ℕ) → open_at (drop q c) ≡ false
 
 -- a later cell can still change the outcome of this candidate
-pub record OpenAt (subframe : ℕ) (slots : List ℕ) (t : Candidate) (c : List Level) : Type 0 where
+pub record OpenAt (subframe : ℕ) (words : List ℕ) (t : Candidate) (c : List Level) : Type 0 where
   pub within : t.at + 8 ≤ length c
   pub opened : open_at (drop t.at c) ≡ true
   pub first : t.before ≡ entry (drop t.at c)
-  pub gathered : Gathered t.level subframe slots (entry (drop t.at c)) (drop t.at c)
+  pub gathered : Gathered t.level subframe words (entry (drop t.at c)) (drop t.at c)
 
 -- a lock that has taken these cells, and no others
 pub record Follows (k : LockState) (c : List Level) : Type 0 where
   pub seen : k.seen ≡ length c
   pub recent : k.recent ≡ last_eight c
-  pub candidate : MatchOption k.candidate (NoneOpen c) (λ t. OpenAt k.subframe k.slots t c)
+  pub candidate : MatchOption k.candidate (NoneOpen c) (λ t. OpenAt k.subframe k.words t c)
 
 -- the preamble of a block stands at one of the first 64 places
 pub record BeginsIn (c : List Level) : Type 0 where
@@ -65,7 +63,7 @@ pub record BeginsIn (c : List Level) : Type 0 where
 
 -- the report of an ending that a lock answers, with the block that it holds
 abbrev pub report_in : LockState → Ending → Report
-report_in k e = ending_report (map slots_bits k.slots) e
+report_in k e = ending_report (read_words k.words) e
 
 -- this cell does not go on with the candidate in hand
 pub record Stops (k : LockState) (l : Level) : Type 0 where

@@ -1,5 +1,5 @@
 -- What one more cell makes of what a lock keeps.
-use Rattle.std.specs.Prelude.{ℕ, List, [], ◌∷◌, ◌++◌, Bool, true, false, ◌-◌, ◌/◌, ◌%◌, ◌^◌, ◌==◌, ◌&&◌, Option, Some, None, nat_lt, nat_le, option_map, length, drop, replicate, bit_or, if◌then◌else◌}
+use Rattle.std.specs.Prelude.{ℕ, List, [], ◌∷◌, ◌++◌, Bool, true, false, ◌-◌, ◌&&◌, Option, Some, None, nat_lt, nat_le, option_map, length, drop, replicate, if◌then◌else◌}
 use Rattle.aes3_cell.specs.declared.level.Level.{Level}
 use Rattle.aes3_cell.specs.declared.level.Level.TheVariants.{Low}
 use Rattle.aes3_slot.specs.declared.mark.Mark.{Mark}
@@ -33,15 +33,6 @@ begun n recent =
 -- the preamble that the last eight of n cells are, with its place
 unfoldable pub ended_mark : ℕ → List Level → Option (ℕ × Mark × Level)
 ended_mark n recent = if nat_le 8 n then option_map (placed (n - 8)) (first_mark recent) else None
-
--- the level before the subframe of the next cell, behind a cell at an offset in a block
-abbrev pub level_with : ℕ → Level → Level → Level
-level_with offset before cell = if (offset % 64) == 63 then cell else before
-
--- the bits of a subframe behind its cell k, which differs from the cell before it or not
-unfoldable pub slots_with : ℕ → ℕ → Bool → ℕ
-slots_with slots k differs =
-    if k == 8 then 0 else (if nat_le 9 k && ((k % 2) == 1 && differs) then bit_or slots (2 ^ ((k - 9) / 2)) else slots)
 
 -- the outcome of a candidate after level s which the cell at an offset ends, whether or not that cell equals the one before
 -- it, and where the cells end

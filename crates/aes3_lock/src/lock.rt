@@ -1,6 +1,6 @@
 //! The lock.
 use crate::candidate::Candidate;
-use crate::outcome::{SLOTS, ending_at, left_report, no_slots, report_with};
+use crate::outcome::{SLOTS, ending_at, left_report, no_words, report_with};
 use crate::parts::LockParts;
 use crate::recent::{PREAMBLE_CELLS, candidate_in, last_cell, with_cell};
 use crate::report::{Ending, Pushed, Report};
@@ -9,21 +9,21 @@ use crate::subframe::{
     completed, first_cell, first_of, last_behind, last_octet, last_of, rest_of, with_next,
 };
 use aes3_cell::Level;
-use aes3_slot::{begins_subframe, block_preambles, slot_bits, wrong_cells};
+use aes3_slot::{begins_subframe, block_preambles, wrong_cells};
 use arrayvec::ArrayVec;
 use std::marker::Model;
 
 /// Finds every block and every begun block in cells that come one by one, in fixed memory.
 ///
 /// A contract sees how many cells it has seen, the last eight, the candidate in hand, the cells of its last subframe that
-/// isn't whole, and the bits of its whole subframes.
+/// isn't whole, and words with the cells of its whole subframes.
 #[derive(Drop)]
 pub struct Lock {
     seen: u64,
     recent: u8,
     candidate: Option<Candidate>,
     subframe: u64,
-    slots: [u32; SLOTS],
+    words: [u64; SLOTS],
 }
 
 impl Model for Lock {
@@ -34,7 +34,7 @@ impl Model for Lock {
 
     ghost Value = { LockState };
 
-    ghost view = { λ k. record { seen = k.seen; recent = low_cells 8 k.recent; candidate = k.candidate; subframe = k.subframe; slots = k.slots } };
+    ghost view = { λ k. record { seen = k.seen; recent = low_cells 8 k.recent; candidate = k.candidate; subframe = k.subframe; words = k.words } };
 
     ghost invariant = { λ k. ForSome k.candidate (λ t. t.at ≤ k.seen) };
 }
@@ -68,7 +68,7 @@ impl Lock {
             recent: 0,
             candidate: None,
             subframe: 0,
-            slots: no_slots(),
+            words: no_words(),
         }
     }
 
@@ -77,13 +77,13 @@ impl Lock {
         requires { ForSome parts.candidate (λ t. t.at ≤ parts.seen) }
         ensures { result ≡ parts_state parts }
     {
-        let slots = parts.slots;
+        let words = parts.words;
         Lock {
             seen: parts.seen,
             recent: parts.recent,
             candidate: parts.candidate,
             subframe: parts.subframe,
-            slots,
+            words,
         }
     }
 
@@ -92,13 +92,13 @@ impl Lock {
         ensures state { parts_state result ≡ self.now }
         ensures placed { ForSome result.candidate (λ t. t.at ≤ result.seen) }
     {
-        let slots = self.slots;
+        let words = self.words;
         LockParts {
             seen: self.seen,
             recent: self.recent,
             candidate: self.candidate,
             subframe: self.subframe,
-            slots,
+            words,
         }
     }
 
@@ -142,7 +142,7 @@ impl Lock {
             self.subframe = cells;
             return true;
         }
-        self.slots[(offset / SUBFRAME_CELLS) as usize] = slot_bits(cells);
+        self.words[(offset / SUBFRAME_CELLS) as usize] = cells;
         self.subframe = 0;
         self.candidate = Some(Candidate {
             at: candidate.at,
@@ -209,7 +209,7 @@ impl Lock {
         }
         self.seen += 64;
         self.recent = last_octet(word);
-        self.slots[slot as usize] = slot_bits(cells);
+        self.words[slot as usize] = cells;
         self.subframe = rest;
         self.candidate = Some(Candidate {
             at: candidate.at,
@@ -251,7 +251,7 @@ impl Lock {
         ensures recent { self.new.recent ≡ drop len (self.old.recent ++ low_cells len word) }
         ensures candidate { self.new.candidate ≡ self.old.candidate }
         ensures subframe { self.new.subframe ≡ self.old.subframe }
-        ensures slots { self.new.slots ≡ self.old.slots }
+        ensures words { self.new.words ≡ self.old.words }
     {
         self.seen += u64::from(len);
         self.recent = last_behind(self.recent, word, len);
@@ -314,7 +314,7 @@ impl Lock {
             self.subframe = first_of(cells, end);
             return taken;
         }
-        self.slots[slot as usize] = slot_bits(cells);
+        self.words[slot as usize] = cells;
         self.subframe = 0;
         self.candidate = Some(Candidate {
             at: candidate.at,
@@ -339,7 +339,7 @@ impl Lock {
         };
         let previous = last_cell(self.recent);
         let offset = self.seen - candidate.at;
-        let ending = ending_at(candidate, offset, cell, previous, &self.slots);
+        let ending = ending_at(candidate, offset, cell, previous, &self.words);
         self.recent = with_cell(self.recent, cell);
         self.seen += 1;
         self.candidate = candidate_in(self.seen, self.recent);
@@ -389,7 +389,7 @@ impl Lock {
     pub fn report(&self, ending: Ending) -> Report
         ensures { result ≡ report_in self.now ending }
     {
-        report_with(ending, &self.slots)
+        report_with(ending, &self.words)
     }
 
     /// Adds the report of an ending, if there is one, where there is room.
@@ -449,6 +449,6 @@ impl Lock {
         let Some(candidate) = self.candidate else {
             return None;
         };
-        Some(left_report(candidate, self.seen - candidate.at, &self.slots))
+        Some(left_report(candidate, self.seen - candidate.at, &self.words))
     }
 }

@@ -1,7 +1,7 @@
 //! What becomes of a candidate that goes on no further.
 
-ghost use Rattle.std.specs.Prelude.{◌≡◌, ◌<◌, ◌+◌, ◌^◌, length, map};
-ghost use Rattle.aes3_slot.specs.Slots.{slots_bits};
+ghost use Rattle.std.specs.Prelude.{◌≡◌, ◌<◌, ◌+◌, ◌^◌, length};
+ghost use Rattle.aes3_slot.specs.ReadWords.{read_words};
 ghost use Rattle.aes3_slot.specs.Reading.{same};
 ghost use Rattle.aes3_lock.specs.Outcomes.{block_outcome, why_of};
 ghost use Rattle.aes3_lock.specs.Reports.{ending_report, report_of};
@@ -17,18 +17,18 @@ use aes3_cell::Level;
 /// How many subframes a block has.
 pub(crate) const SLOTS: usize = 384;
 
-/// Slots of which no bit is set.
-pub(crate) fn no_slots() -> [u32; SLOTS]
+/// Words all of whose cells are low.
+pub(crate) fn no_words() -> [u64; SLOTS]
     ensures { length result ≡ SLOTS }
 {
     [0; SLOTS]
 }
 
 /// What becomes of a block all of whose subframes are there and which is closed.
-fn block_ending(at: u64, before: Level, slots: &[u32; SLOTS]) -> Ending
-    ensures { ending_report (map slots_bits slots.now) result ≡ report_of at (block_outcome before (map slots_bits slots.now)) }
+fn block_ending(at: u64, before: Level, words: &[u64; SLOTS]) -> Ending
+    ensures { ending_report (read_words words.now) result ≡ report_of at (block_outcome before (read_words words.now)) }
 {
-    let wrong = wrong_parities(slots);
+    let wrong = wrong_parities(words);
     if wrong == 0 {
         Ending::Whole { at, before }
     } else {
@@ -36,15 +36,15 @@ fn block_ending(at: u64, before: Level, slots: &[u32; SLOTS]) -> Ending
     }
 }
 
-/// The report of an ending, with the block that has these slots.
-pub(crate) fn report_with(ending: Ending, slots: &[u32; SLOTS]) -> Report
-    ensures { result ≡ ending_report (map slots_bits slots.now) ending }
+/// The report of an ending, with the block whose subframes have these cells.
+pub(crate) fn report_with(ending: Ending, words: &[u64; SLOTS]) -> Report
+    ensures { result ≡ ending_report (read_words words.now) ending }
 {
     match ending {
         Ending::Whole { at, before } => Report::Whole {
             at,
             before,
-            block: Block::of_slots(slots),
+            block: Block::of_cells(words),
         },
         Ending::Marked { at, before, wrong } => Report::Marked { at, before, wrong },
         Ending::Fault { at, cell, why } => Report::Fault { at, cell, why },
@@ -70,13 +70,13 @@ pub(crate) fn ending_at(
     offset: u64,
     cell: Level,
     previous: Level,
-    slots: &[u32; SLOTS],
+    words: &[u64; SLOTS],
 ) -> Ending
     requires { candidate.at + offset < 2 ^ 64 }
-    ensures { ending_report (map slots_bits slots.now) result ≡ report_of candidate.at (ended candidate.before offset (same cell previous) (map slots_bits slots.now)) }
+    ensures { ending_report (read_words words.now) result ≡ report_of candidate.at (ended candidate.before offset (same cell previous) (read_words words.now)) }
 {
     if offset >= BLOCK_CELLS && turns(previous, cell) {
-        block_ending(candidate.at, candidate.before, slots)
+        block_ending(candidate.at, candidate.before, words)
     } else {
         Ending::Fault {
             at: candidate.at,
@@ -87,11 +87,11 @@ pub(crate) fn ending_at(
 }
 
 /// The report of a candidate of which no more than `cells` cells come.
-pub(crate) fn left_report(candidate: Candidate, cells: u64, slots: &[u32; SLOTS]) -> Report
-    ensures { result ≡ report_of candidate.at (left candidate.before cells (map slots_bits slots.now)) }
+pub(crate) fn left_report(candidate: Candidate, cells: u64, words: &[u64; SLOTS]) -> Report
+    ensures { result ≡ report_of candidate.at (left candidate.before cells (read_words words.now)) }
 {
     if cells >= BLOCK_CELLS {
-        report_with(block_ending(candidate.at, candidate.before, slots), slots)
+        report_with(block_ending(candidate.at, candidate.before, words), words)
     } else {
         Report::Unfinished {
             at: candidate.at,

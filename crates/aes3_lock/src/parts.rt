@@ -15,6 +15,6 @@ pub struct LockParts {
     pub candidate: Option<Candidate>,
     /// The cells of its last subframe that isn't whole, the earliest in bit 0.
     pub subframe: u64,
-    /// The bits of its whole subframes.
-    pub slots: [u32; SLOTS],
+    /// The cells of its whole subframes, each as they came, the earliest in bit 0.
+    pub words: [u64; SLOTS],
 }

@@ -4,7 +4,6 @@ ghost use Rattle.std.specs.Prelude.{◌≡◌, ◌<◌};
 ghost use Rattle.aes3_slot.specs.Rules.{rule, shape};
 ghost use Rattle.aes3_slot.specs.Reading.{differs};
 ghost use Rattle.aes3_block.specs.Blocks.{mark_at};
-ghost use Rattle.aes3_lock.specs.Steps.{level_with, slots_with};
 
 use crate::recent::PREAMBLE_CELLS;
 use aes3_cell::Level;
@@ -64,29 +63,4 @@ pub(crate) fn turns(previous: Level, cell: Level) -> bool
     ensures { result ≡ differs previous cell }
 {
     cell != previous
-}
-
-/// The level before the subframe of the next cell, behind `cell` at `offset` of a block.
-pub(crate) fn level_behind(offset: u64, before: Level, cell: Level) -> Level
-    ensures { result ≡ level_with offset before cell }
-{
-    if offset % SUBFRAME_CELLS == SUBFRAME_CELLS - 1 {
-        cell
-    } else {
-        before
-    }
-}
-
-/// The bits of a subframe, slot 4 in bit 0, behind its cell `k`, which differs from the cell before it or not.
-pub(crate) fn slots_behind(slots: u32, k: u64, differs: bool) -> u32
-    requires { k < 64 }
-    ensures { result ≡ slots_with slots k differs }
-{
-    if k == PREAMBLE_CELLS {
-        0
-    } else if k > PREAMBLE_CELLS && k % 2 == 1 && differs {
-        slots | 1 << ((k - 9) / 2)
-    } else {
-        slots
-    }
 }

@@ -7,10 +7,11 @@ ghost use Rattle.aes3_lock.specs.Reports.{outcome_at, reports, told};
 ghost use Rattle.aes3_lock.specs.Following.{Filled};
 
 use crate::candidate::Candidate;
-use crate::outcome::{SLOTS, ending_at, left_report, no_slots, report_with};
+use crate::outcome::{SLOTS, ending_at, left_report, no_words, report_with};
 use crate::recent::{PREAMBLE_CELLS, candidate_in, with_cell};
 use crate::report::Report;
-use crate::rule::{BLOCK_CELLS, SUBFRAME_CELLS, level_behind, may_stand, slots_behind, turns};
+use crate::rule::{BLOCK_CELLS, SUBFRAME_CELLS, may_stand};
+use crate::subframe::with_next;
 use aes3_cell::Level;
 use std::alloc::{AllocError, Global};
 
@@ -26,23 +27,28 @@ fn first_eight(cells: &[Level]) -> u8
     recent
 }
 
-/// How many cells go on as a block's after the level `level_before`, and the level of the last of them. The bits of
-/// their subframes go into `slots`.
-fn go_through(level_before: Level, cells: &[Level], slots: &mut [u32; SLOTS]) -> (u64, Level)
+/// How many cells go on as a block's after the level `level_before`, and the level of the last of them. Those of their
+/// whole subframes go into `words`.
+fn go_through(level_before: Level, cells: &[Level], words: &mut [u64; SLOTS]) -> (u64, Level)
     ensures front { result.0 ≡ front level_before cells.now }
     ensures last { result.1 ≡ before level_before cells.now result.0 }
-    ensures slots { Filled slots.new (take result.0 cells.now) }
+    ensures words { Filled words.new (take result.0 cells.now) }
 {
     let mut level = level_before;
     let mut previous = level_before;
+    let mut subframe = 0;
     let mut offset = 0;
     for cell in cells.iter() {
         if offset == BLOCK_CELLS || !may_stand(offset, *cell, level, previous) {
             return (offset, previous);
         }
-        let slot = (offset / SUBFRAME_CELLS) as usize;
-        slots[slot] = slots_behind(slots[slot], offset % SUBFRAME_CELLS, turns(previous, *cell));
-        level = level_behind(offset, level, *cell);
+        let len = offset % SUBFRAME_CELLS;
+        subframe = with_next(subframe, len, *cell);
+        if len == SUBFRAME_CELLS - 1 {
+            words[(offset / SUBFRAME_CELLS) as usize] = subframe;
+            subframe = 0;
+            level = *cell;
+        }
         previous = *cell;
         offset += 1;
     }
@@ -65,14 +71,14 @@ fn report_at(at: u64, cells: &[Level]) -> Option<Report>
         before: begun.before,
         level: begun.level,
     };
-    let mut slots = no_slots();
-    let (offset, previous) = go_through(candidate.before, cells, &mut slots);
+    let mut words = no_words();
+    let (offset, previous) = go_through(candidate.before, cells, &mut words);
     let place = offset as usize;
     Some(if place < cells.len() {
-        let ending = ending_at(candidate, offset, cells[place], previous, &slots);
-        report_with(ending, &slots)
+        let ending = ending_at(candidate, offset, cells[place], previous, &words);
+        report_with(ending, &words)
     } else {
-        left_report(candidate, offset, &slots)
+        left_report(candidate, offset, &words)
     })
 }
 

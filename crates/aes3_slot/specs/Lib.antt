@@ -3,6 +3,7 @@ pub mod Slots
 pub mod Turns
 pub mod Rules
 pub mod Reading
+pub mod ReadWords
 pub mod Preambles
 pub mod Fronts
 pub use Rattle.aes3_cell.specs.Cells

@@ -1,5 +1,5 @@
-use Rattle.std.proofs.Common.{◌≡◌, ◌+◌, false, not, sym, ap, ◌∙◌, arith, map}
-use Rattle.aes3_slot.specs.Slots.{slots_bits}
+use Rattle.std.proofs.Common.{◌≡◌, ◌+◌, false, not, sym, ap, ◌∙◌, arith}
+use Rattle.aes3_slot.specs.ReadWords.{read_words}
 use Rattle.aes3_slot.specs.Reading.{same}
 use Rattle.aes3_lock.specs.declared.report.Report.TheVariants.{Fault}
 use Rattle.aes3_lock.specs.Reports.{report_of}
@@ -12,15 +12,15 @@ returns-then-turns c =
     let e : same c.args.cell c.args.previous ≡ false = same-differs c.args.cell c.args.previous ∙ ap not (sym c.turns.ensures ∙ c.if-turns.true) in
     c.block_ending.ensures
     ∙ ap (report_of c.args.candidate.at)
-    (sym (ended-block c.args.candidate.before c.args.offset (same c.args.cell c.args.previous) (map slots_bits c.args.slots.now) (omega arith) e))
+    (sym (ended-block c.args.candidate.before c.args.offset (same c.args.cell c.args.previous) (read_words c.args.words.now) (omega arith) e))
 
 pub returns-else-offset-ge-BLOCK_CELLS : goal.returns-else-offset-ge-BLOCK_CELLS
 returns-else-offset-ge-BLOCK_CELLS c =
     ap (Fault c.args.candidate.at (c.args.candidate.at + c.args.offset)) c.reason.ensures
     ∙ ap (report_of c.args.candidate.at) (elim c.else-offset-ge-BLOCK_CELLS.branch [
       | else-offset-ge-BLOCK_CELLS-via-then-offset-ge-BLOCK_CELLS+else-turns w ↦
-          sym (ended-unclosed c.args.candidate.before c.args.offset (same c.args.cell c.args.previous) (map slots_bits c.args.slots.now) (omega arith)
+          sym (ended-unclosed c.args.candidate.before c.args.offset (same c.args.cell c.args.previous) (read_words c.args.words.now) (omega arith)
           (same-differs c.args.cell c.args.previous ∙ ap not (sym w.turns.ensures ∙ w.if-turns.false)))
       | else-offset-ge-BLOCK_CELLS-via-else-offset-ge-BLOCK_CELLS w ↦
-          sym (ended-early c.args.candidate.before c.args.offset (same c.args.cell c.args.previous) (map slots_bits c.args.slots.now) (omega arith))
+          sym (ended-early c.args.candidate.before c.args.offset (same c.args.cell c.args.previous) (read_words c.args.words.now) (omega arith))
     ])

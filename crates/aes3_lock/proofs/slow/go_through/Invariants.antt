@@ -5,5 +5,5 @@ use Rattle.aes3_lock.proofs.slow.go_through.Given as goal
 abbrev pub invariant-loop-cell : goal.invariant-loop-cell
 invariant-loop-cell l = record {
   count : l.offset ≡ l.cell-index;
-  walked : Walked l.fn.level_before l.cells l.slots l.level l.previous l.offset;
+  walked : Walked l.fn.level_before l.cells l.subframe l.words l.level l.previous l.offset;
 }

@@ -19,11 +19,11 @@ returns c =
     (ap (begun 8) (sym c.first_eight.ensures) ∙ sym c.candidate_in.ensures.value ∙ c.in-Some.is) in
     sym (ap (told c.args.at) e.0 ∙ ap (λ r. r ∷ []) (elim c.if-place-cells.branch [
       | then-place-cells w ↦ ap (report_of c.args.at)
-          (place-ended c.args.cells.now c.in-Some.begun.before c.go_through-offset.new.slots c.go_through-offset.result.0 c.go_through-offset.result.1 e.1
-          c.go_through-offset.ensures.front c.go_through-offset.ensures.last c.go_through-offset.ensures.slots (let n = block_slots_384 in omega arith) (omega arith))
+          (place-ended c.args.cells.now c.in-Some.begun.before c.go_through-offset.new.words c.go_through-offset.result.0 c.go_through-offset.result.1 e.1
+          c.go_through-offset.ensures.front c.go_through-offset.ensures.last c.go_through-offset.ensures.words (let n = block_slots_384 in omega arith) (omega arith))
           ∙ sym (w.report_with.ensures ∙ w.ending_at-ending.ensures) ∙ sym w.result-is
       | else-place-cells w ↦ ap (report_of c.args.at)
-          (place-left c.args.cells.now c.in-Some.begun.before c.go_through-offset.new.slots c.go_through-offset.result.0 c.go_through-offset.result.1 e.1
-          c.go_through-offset.ensures.front c.go_through-offset.ensures.last c.go_through-offset.ensures.slots (let n = block_slots_384 in omega arith) (omega arith))
+          (place-left c.args.cells.now c.in-Some.begun.before c.go_through-offset.new.words c.go_through-offset.result.0 c.go_through-offset.result.1 e.1
+          c.go_through-offset.ensures.front c.go_through-offset.ensures.last c.go_through-offset.ensures.words (let n = block_slots_384 in omega arith) (omega arith))
           ∙ sym w.left_report.ensures ∙ sym w.result-is
     ]))

@@ -35,7 +35,7 @@ next c = record {
   recent = low_cells 8 c.self-2.inside.recent;
   candidate = c.self-2.inside.candidate;
   subframe = c.first_of-self-inside.result;
-  slots = c.self-2.inside.slots;
+  words = c.self-2.inside.words;
 }
 
 goes-next : (c : goal.After-self-1) (l : List Level) → Follows c.args.self.now l
@@ -57,7 +57,7 @@ goes-next c l f =
     (ap (λ (k : LockState). k.recent) c.self-2.view_is ∙ c.count.ensures.recent
     ∙ ap (λ (k : LockState). drop c.min-taken.result (k.recent ++ low_cells c.min-taken.result c.args.word)) (sym c.self.view_is))
     (ap (λ (k : LockState). k.candidate) c.self-2.view_is ∙ c.count.ensures.candidate ∙ c.requires.in_hand)
-    (ap (λ (k : LockState). k.slots) c.self-2.view_is ∙ c.count.ensures.slots ∙ ap (λ (k : LockState). k.slots) (sym c.self.view_is))
+    (ap (λ (k : LockState). k.words) c.self-2.view_is ∙ c.count.ensures.words ∙ ap (λ (k : LockState). k.words) (sym c.self.view_is))
     (record {
       short = omega (arith, e, t);
       cells = subst (λ j. low_cells ((c.self.inside.seen - c.args.candidate.at) % 64 + j) c.first_of-self-inside.result ≡ low_cells ((c.self.inside.seen - c.args.candidate.at) % 64 + j) c.completed-cells.result)
@@ -78,7 +78,7 @@ whole c = record {
   recent = low_cells 8 c.self-2.inside.recent;
   candidate = Some (record { at = c.args.candidate.at; before = c.args.candidate.before; level = c.last_of.result });
   subframe = 0;
-  slots = set c.self-2.inside.slots ((c.self.inside.seen - c.args.candidate.at) / 64) c.slot_bits.result;
+  words = set c.self-2.inside.words ((c.self.inside.seen - c.args.candidate.at) / 64) c.completed-cells.result;
 }
 
 goes-whole : (c : goal.After-self-3-1) (l : List Level) → Follows c.args.self.now l
@@ -96,14 +96,14 @@ goes-whole c l f =
     (record { cells = c.completed-cells.ensures; fits = omega (arith, n); room = omega (arith, b, o) })
     (all-right c.args.candidate c.completed-cells.result (c.self.inside.seen - c.args.candidate.at) c.wrong_cells.result c.mark_of.result (omega arith) c.mark_of.ensures c.wrong_cells.ensures
     c.min-taken.result (omega (arith, m, n)) (omega (arith, n)))
-    (whole c) c.slot_bits.result
+    (whole c)
     (ap (λ (k : LockState). k.seen) c.self-2.view_is ∙ c.count.ensures.seen ∙ ap (λ (k : LockState). k.seen + c.min-taken.result) (sym c.self.view_is))
     (ap (λ (k : LockState). k.recent) c.self-2.view_is ∙ c.count.ensures.recent
     ∙ ap (λ (k : LockState). drop c.min-taken.result (k.recent ++ low_cells c.min-taken.result c.args.word)) (sym c.self.view_is))
     (ap (λ v. Some (record { at = c.args.candidate.at; before = c.args.candidate.before; level = v })) c.last_of.ensures) refl
-    (ap (λ v. set v ((c.self.inside.seen - c.args.candidate.at) / 64) c.slot_bits.result)
-    (ap (λ (k : LockState). k.slots) c.self-2.view_is ∙ c.count.ensures.slots ∙ ap (λ (k : LockState). k.slots) (sym c.self.view_is)))
-    (let s = c.self.told in omega (arith, s, z)) (omega (arith, e, t, n)) c.slot_bits.ensures.bits c.slot_bits.ensures.bound
+    (ap (λ v. set v ((c.self.inside.seen - c.args.candidate.at) / 64) c.completed-cells.result)
+    (ap (λ (k : LockState). k.words) c.self-2.view_is ∙ c.count.ensures.words ∙ ap (λ (k : LockState). k.words) (sym c.self.view_is)))
+    (let s = c.self.told in omega (arith, s, z)) (omega (arith, e, t, n))
 
 pub returns-clause-follows : goal.returns-clause-follows
 returns-clause-follows c = λ l f. (goes-whole c l f).0

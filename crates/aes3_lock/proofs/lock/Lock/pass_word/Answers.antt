@@ -31,6 +31,6 @@ returns-clause-none c = λ r l f.
       recent = low_cells 8 c.last_octet-self-inside.result;
       candidate = c.self.inside.candidate;
       subframe = c.self.inside.subframe;
-      slots = c.self.inside.slots;
+      words = c.self.inside.words;
     })
     l c.args.word (subst (λ k. Follows k l) (sym c.self.view_is) f) (searching c) (quiet c) refl c.last_octet-self-inside.ensures (searching c)

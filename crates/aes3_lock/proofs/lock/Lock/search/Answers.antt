@@ -12,7 +12,7 @@ after c = record {
   recent = low_cells 8 c.self-2.inside.recent;
   candidate = c.candidate_in-self-inside.result;
   subframe = c.from-self-inside.result;
-  slots = c.self-2.inside.slots;
+  words = c.self-2.inside.words;
 }
 
 both : (c : goal.After-self-2-1) (l : List Level) → Follows c.args.self.now l

@@ -1,6 +1,6 @@
-use Rattle.std.proofs.Common.{refl, ◌≡◌, ◌+◌, ◌-◌, [], ◌∷◌, ◌++◌, map, Some, sym, ap, subst, ◌∙◌, arith}
+use Rattle.std.proofs.Common.{refl, ◌≡◌, ◌+◌, ◌-◌, [], ◌∷◌, ◌++◌, Some, sym, ap, subst, ◌∙◌, arith}
 use Rattle.aes3_cell.specs.Words.{low_cells}
-use Rattle.aes3_slot.specs.Slots.{slots_bits}
+use Rattle.aes3_slot.specs.ReadWords.{read_words}
 use Rattle.aes3_slot.specs.Rules.{at}
 use Rattle.aes3_slot.specs.Reading.{same}
 use Rattle.aes3_lock.specs.declared.candidate.Candidate.{Candidate}
@@ -22,7 +22,7 @@ returns-clause-follows c = λ l f p.
       recent = low_cells 8 c.with_cell-self-inside.result;
       candidate = c.candidate_in-self-inside.result;
       subframe = c.from-self-inside.result;
-      slots = c.self.inside.slots;
+      words = c.self.inside.words;
     })
     s.in_hand l c.args.cell (subst (λ k. Follows k l) (sym c.self.view_is) f) (let n = block_slots_384 in omega arith) s.is s.stop
     refl c.with_cell-self-inside.ensures c.candidate_in-self-inside.ensures.value (ap (low_cells 8) (sym c.from-self-inside.ensures)) (let e = c.from-self-inside.ensures in omega (arith, e))).0
@@ -36,11 +36,11 @@ returns-clause-report c = λ l f p.
       recent = low_cells 8 c.with_cell-self-inside.result;
       candidate = c.candidate_in-self-inside.result;
       subframe = c.from-self-inside.result;
-      slots = c.self.inside.slots;
+      words = c.self.inside.words;
     })
     s.in_hand l c.args.cell (subst (λ k. Follows k l) (sym c.self.view_is) f) (let n = block_slots_384 in omega arith) s.is s.stop
     refl c.with_cell-self-inside.ensures c.candidate_in-self-inside.ensures.value (ap (low_cells 8) (sym c.from-self-inside.ensures)) (let e = c.from-self-inside.ensures in omega (arith, e))).1
-    ∙ ap (λ (t : Candidate). decided l ++ report_of t.at (ended t.before (c.self.inside.seen - t.at) (same c.args.cell (at (low_cells 8 c.self.inside.recent) 7)) (map slots_bits c.self.inside.slots)) ∷ []) e
+    ∙ ap (λ (t : Candidate). decided l ++ report_of t.at (ended t.before (c.self.inside.seen - t.at) (same c.args.cell (at (low_cells 8 c.self.inside.recent) 7)) (read_words c.self.inside.words)) ∷ []) e
     ∙ ap (λ r. decided l ++ r ∷ []) (sym (c.ending_at-ending.ensures
-    ∙ ap (λ p. report_of c.in-Some.candidate.at (ended c.in-Some.candidate.before (c.self.inside.seen - c.in-Some.candidate.at) (same c.args.cell p) (map slots_bits c.self.inside.slots)))
+    ∙ ap (λ p. report_of c.in-Some.candidate.at (ended c.in-Some.candidate.before (c.self.inside.seen - c.in-Some.candidate.at) (same c.args.cell p) (read_words c.self.inside.words)))
     c.last_cell-previous.ensures))

@@ -17,7 +17,7 @@ returns-in_default-clause-follows c = λ t l f.
       recent = low_cells 8 c.with_cell-self-inside.result;
       candidate = c.candidate_in-self-inside.result;
       subframe = c.from-self-inside.result;
-      slots = c.self.inside.slots;
+      words = c.self.inside.words;
     })
     l c.args.cell (subst (λ k. Follows k l) (sym c.self.view_is) f) c.in_default.is refl c.with_cell-self-inside.ensures
     c.candidate_in-self-inside.ensures.value (ap (low_cells 8) (sym c.from-self-inside.ensures)) (let e = c.from-self-inside.ensures in omega (arith, e))).0
@@ -29,7 +29,7 @@ returns-in_default-clause-none c = λ t l f.
       recent = low_cells 8 c.with_cell-self-inside.result;
       candidate = c.candidate_in-self-inside.result;
       subframe = c.from-self-inside.result;
-      slots = c.self.inside.slots;
+      words = c.self.inside.words;
     })
     l c.args.cell (subst (λ k. Follows k l) (sym c.self.view_is) f) c.in_default.is refl c.with_cell-self-inside.ensures
     c.candidate_in-self-inside.ensures.value (ap (low_cells 8) (sym c.from-self-inside.ensures)) (let e = c.from-self-inside.ensures in omega (arith, e))).1
@@ -44,10 +44,10 @@ returns-then-len-clause-follows c = λ t l f.
       recent = low_cells 8 c.with_cell-self-inside-2.result;
       candidate = c.self.inside.candidate;
       subframe = c.with_next-cells.result;
-      slots = c.self.inside.slots;
+      words = c.self.inside.words;
     })
     c.in-Some.candidate c.in-Some.candidate l c.args.cell (subst (λ k. Follows k l) (sym c.self.view_is) f) c.in-Some.is g.0 g.1 refl c.with_cell-self-inside-2.ensures c.in-Some.is refl refl
-    (next-inside c.in-Some.candidate.level c.self.inside.subframe c.with_next-cells.result c.self.inside.slots (entry (drop c.in-Some.candidate.at l)) (drop c.in-Some.candidate.at l)
+    (next-inside c.in-Some.candidate.level c.self.inside.subframe c.with_next-cells.result c.self.inside.words (entry (drop c.in-Some.candidate.at l)) (drop c.in-Some.candidate.at l)
     (c.self.inside.seen - c.in-Some.candidate.at) c.args.cell c.if-len.true c.with_next-cells.ensures.cells c.with_next-cells.ensures.few)).0
 
 pub returns-then-len-clause-none : goal.returns-then-len-clause-none
@@ -59,10 +59,10 @@ returns-then-len-clause-none c = λ t l f.
       recent = low_cells 8 c.with_cell-self-inside-2.result;
       candidate = c.self.inside.candidate;
       subframe = c.with_next-cells.result;
-      slots = c.self.inside.slots;
+      words = c.self.inside.words;
     })
     c.in-Some.candidate c.in-Some.candidate l c.args.cell (subst (λ k. Follows k l) (sym c.self.view_is) f) c.in-Some.is g.0 g.1 refl c.with_cell-self-inside-2.ensures c.in-Some.is refl refl
-    (next-inside c.in-Some.candidate.level c.self.inside.subframe c.with_next-cells.result c.self.inside.slots (entry (drop c.in-Some.candidate.at l)) (drop c.in-Some.candidate.at l)
+    (next-inside c.in-Some.candidate.level c.self.inside.subframe c.with_next-cells.result c.self.inside.words (entry (drop c.in-Some.candidate.at l)) (drop c.in-Some.candidate.at l)
     (c.self.inside.seen - c.in-Some.candidate.at) c.args.cell c.if-len.true c.with_next-cells.ensures.cells c.with_next-cells.ensures.few)).1
 
 -- and makes its subframe whole
@@ -75,11 +75,11 @@ returns-clause-follows c = λ t l f.
       recent = low_cells 8 c.with_cell-self-inside-2.result;
       candidate = Some (record { at = c.in-Some.candidate.at; before = c.in-Some.candidate.before; level = c.args.cell });
       subframe = 0;
-      slots = set c.self.inside.slots ((c.self.inside.seen - c.in-Some.candidate.at) / 64) c.slot_bits.result;
+      words = set c.self.inside.words ((c.self.inside.seen - c.in-Some.candidate.at) / 64) c.with_next-cells.result;
     })
     c.in-Some.candidate _ l c.args.cell (subst (λ k. Follows k l) (sym c.self.view_is) f) c.in-Some.is g.0 g.1 refl c.with_cell-self-inside-2.ensures refl refl refl
-    (next-whole c.in-Some.candidate.level c.self.inside.subframe c.with_next-cells.result c.slot_bits.result c.self.inside.slots (entry (drop c.in-Some.candidate.at l)) (drop c.in-Some.candidate.at l)
-    (c.self.inside.seen - c.in-Some.candidate.at) c.args.cell (let n = block_slots_384 in omega arith) g.0 (omega arith) c.with_next-cells.ensures.cells c.slot_bits.ensures.bits c.slot_bits.ensures.bound)).0
+    (next-whole c.in-Some.candidate.level c.self.inside.subframe c.with_next-cells.result c.self.inside.words (entry (drop c.in-Some.candidate.at l)) (drop c.in-Some.candidate.at l)
+    (c.self.inside.seen - c.in-Some.candidate.at) c.args.cell (let n = block_slots_384 in omega arith) g.0 (omega arith) c.with_next-cells.ensures.cells)).0
 
 pub returns-clause-none : goal.returns-clause-none
 returns-clause-none c = λ t l f.
@@ -90,8 +90,8 @@ returns-clause-none c = λ t l f.
       recent = low_cells 8 c.with_cell-self-inside-2.result;
       candidate = Some (record { at = c.in-Some.candidate.at; before = c.in-Some.candidate.before; level = c.args.cell });
       subframe = 0;
-      slots = set c.self.inside.slots ((c.self.inside.seen - c.in-Some.candidate.at) / 64) c.slot_bits.result;
+      words = set c.self.inside.words ((c.self.inside.seen - c.in-Some.candidate.at) / 64) c.with_next-cells.result;
     })
     c.in-Some.candidate _ l c.args.cell (subst (λ k. Follows k l) (sym c.self.view_is) f) c.in-Some.is g.0 g.1 refl c.with_cell-self-inside-2.ensures refl refl refl
-    (next-whole c.in-Some.candidate.level c.self.inside.subframe c.with_next-cells.result c.slot_bits.result c.self.inside.slots (entry (drop c.in-Some.candidate.at l)) (drop c.in-Some.candidate.at l)
-    (c.self.inside.seen - c.in-Some.candidate.at) c.args.cell (let n = block_slots_384 in omega arith) g.0 (omega arith) c.with_next-cells.ensures.cells c.slot_bits.ensures.bits c.slot_bits.ensures.bound)).1
+    (next-whole c.in-Some.candidate.level c.self.inside.subframe c.with_next-cells.result c.self.inside.words (entry (drop c.in-Some.candidate.at l)) (drop c.in-Some.candidate.at l)
+    (c.self.inside.seen - c.in-Some.candidate.at) c.args.cell (let n = block_slots_384 in omega arith) g.0 (omega arith) c.with_next-cells.ensures.cells)).1

@@ -50,9 +50,9 @@ returns-clause-follows c = λ t l f.
       recent = low_cells 8 c.last_octet-self-inside.result;
       candidate = Some (record { at = c.in-Some.candidate.at; before = c.in-Some.candidate.before; level = c.last_of-level.result });
       subframe = c.rest_of-rest.result;
-      slots = set c.self.inside.slots ((c.self.inside.seen - c.in-Some.candidate.at) / 64) c.slot_bits.result;
+      words = set c.self.inside.words ((c.self.inside.seen - c.in-Some.candidate.at) / 64) c.completed-cells.result;
     })
-    c.slot_bits.result (let n = block_slots_384 in omega arith)
+    (let n = block_slots_384 in omega arith)
     (record {
       room = let b = block_len_24576 in omega (arith, b);
       whole = subst (λ m. IsFrontOf c.in-Some.candidate.level m (take 64 (word_cells c.completed-cells.result))) c.mark_of.ensures
@@ -61,7 +61,7 @@ returns-clause-follows c = λ t l f.
           (subst (λ m. IsFrontOf c.last_of-level.result m (take ((c.self.inside.seen - c.in-Some.candidate.at) % 64) (word_cells c.rest_of-rest.result))) c.mark_of-else-not-begins_subframe.ensures
           (c.begins_subframe-else-not-begins_subframe.ensures.yes c.if-not-begins_subframe-2.false));
     })
-    c.slot_bits.ensures.bits c.slot_bits.ensures.bound refl c.last_octet-self-inside.ensures
+    refl c.last_octet-self-inside.ensures
     (ap (λ v. Some (record { at = c.in-Some.candidate.at; before = c.in-Some.candidate.before; level = v })) c.last_of-level.ensures) refl refl).0
 
 pub returns-clause-none : goal.returns-clause-none
@@ -73,9 +73,9 @@ returns-clause-none c = λ t l f.
       recent = low_cells 8 c.last_octet-self-inside.result;
       candidate = Some (record { at = c.in-Some.candidate.at; before = c.in-Some.candidate.before; level = c.last_of-level.result });
       subframe = c.rest_of-rest.result;
-      slots = set c.self.inside.slots ((c.self.inside.seen - c.in-Some.candidate.at) / 64) c.slot_bits.result;
+      words = set c.self.inside.words ((c.self.inside.seen - c.in-Some.candidate.at) / 64) c.completed-cells.result;
     })
-    c.slot_bits.result (let n = block_slots_384 in omega arith)
+    (let n = block_slots_384 in omega arith)
     (record {
       room = let b = block_len_24576 in omega (arith, b);
       whole = subst (λ m. IsFrontOf c.in-Some.candidate.level m (take 64 (word_cells c.completed-cells.result))) c.mark_of.ensures
@@ -84,5 +84,5 @@ returns-clause-none c = λ t l f.
           (subst (λ m. IsFrontOf c.last_of-level.result m (take ((c.self.inside.seen - c.in-Some.candidate.at) % 64) (word_cells c.rest_of-rest.result))) c.mark_of-else-not-begins_subframe.ensures
           (c.begins_subframe-else-not-begins_subframe.ensures.yes c.if-not-begins_subframe-2.false));
     })
-    c.slot_bits.ensures.bits c.slot_bits.ensures.bound refl c.last_octet-self-inside.ensures
+    refl c.last_octet-self-inside.ensures
     (ap (λ v. Some (record { at = c.in-Some.candidate.at; before = c.in-Some.candidate.before; level = v })) c.last_of-level.ensures) refl refl).1
