@@ -16,3 +16,4 @@ pub mod StatusBits
 pub mod CellLaws
 pub mod StatusLaws
 pub mod SlotWords
+pub mod Samples

@@ -1,6 +1,7 @@
 pub mod Subframes
 pub mod Blocks
 pub mod Files
+pub mod Samples
 pub mod Readers
 pub mod Refusals
 pub mod Statuses

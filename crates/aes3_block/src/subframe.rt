@@ -20,7 +20,7 @@ pub struct Subframe {
 }
 
 /// How many values an audio sample word of 24 bits has.
-const AUDIO_LIMIT: u32 = 1 << 24;
+pub(crate) const AUDIO_LIMIT: u32 = 1 << 24;
 
 impl Subframe {
     ghost use Rattle.aes3_block.specs.Subframes.{bits_of, signed_of};

@@ -1,8 +1,13 @@
-//! The channel status of a block, set and read back.
+//! The channel status of a block, set and read back, its samples, and block files read by words.
 
 use crate::block::Block;
 use crate::file::{BlockFile, FileFault};
+use crate::frame::Frame;
+use crate::samples_out::put_block_samples;
 use crate::status::Channel;
+use crate::subframe::Subframe;
+use aes3_cell::MemorySink;
+use std::test::Fail;
 
 #[test]
 fn status_of_one_channel(rt: HostRuntime) {
@@ -85,4 +90,22 @@ fn words_of_a_file(rt: HostRuntime) {
     assert!(rt; by_words.seen() < 1 << 20);
     assert!(rt; !by_words.feed_word(&WORD));
     assert_eq!(rt; by_words.end(), Err(FileFault::BadParity { at: 384 }));
+}
+
+#[test]
+fn samples_of_the_last_frame(rt: HostRuntime) -> Result<(), Fail> {
+    let mut block = Block::zero();
+    let frame = Frame {
+        first: Subframe::try_new(0x12_3456, true, true, true).ok_or("24 bits")?,
+        second: Subframe::try_new(0x80_0001, false, false, false).ok_or("24 bits")?,
+    };
+    block.set_frame(191, frame);
+    let mut sink = MemorySink::new(rt.alloc());
+    assert!(rt; put_block_samples(&block, &mut sink).is_ok());
+    let bytes = sink.bytes();
+    assert_eq!(rt; bytes.len(), 1536);
+    assert_eq!(rt; bytes.iter().take_while(|byte| **byte == 0).count(), 1529);
+    let last: [u8; 8] = [0, 0x56, 0x34, 0x12, 0, 0x01, 0, 0x80];
+    assert!(rt; bytes.ends_with(&last));
+    Ok(())
 }

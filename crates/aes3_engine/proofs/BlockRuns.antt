@@ -1,6 +1,6 @@
 -- Runs that read cells and write something of each block.
 use Rattle.std.proofs.Common.{◌≡◌, ◌<◌, ◌≤◌, ℕ, zero, suc, ◌+◌, ◌-◌, ◌%◌, ◌*◌, ◌↔◌, Bool, true, false, cond, nat_le, nat_lt, ◌&&◌, List, [], ◌∷◌, ◌++◌, length, take, drop, Result, Ok, Err, IfOk, refl, sym, ap, ap₂, ◌∙◌, subst, arith, append-nil, append_assoc}
-use Rattle.std.specs.List.{All}
+use Rattle.std.specs.List.{All, flat_map}
 use Rattle.std.proofs.Math.Seq.{take-nil, drop-nil}
 use Rattle.std.proofs.lemmas.Bool.{leb-true, leb-false, ltb-true, ltb-false}
 use Rattle.std.proofs.lemmas.List.{take-append-drop}
@@ -20,7 +20,6 @@ use Rattle.aes3_cell.proofs.PackedCells.{packed_of-packs, cells-packs}
 use Rattle.aes3_cell.proofs.WrittenForms.{bytes-nothing, written-whole}
 use Rattle.aes3_cell.proofs.Growing.{grew-is}
 use Rattle.aes3_block.specs.Blocks.{block_cells, stream, IsBlock}
-use Rattle.aes3_block.specs.Files.{block_bytes, file}
 use Rattle.aes3_block.proofs.Streams.{EachBlock27, stream-bytes, stream-nil, length-stream, slot_count}
 use Rattle.aes3_lock.specs.Reports.{reports, decided, wholes, blocks, normal}
 use Rattle.aes3_lock.specs.Damage.{apart, without}
@@ -36,7 +35,7 @@ use Rattle.aes3_lock.proofs.Lost.{blocks-lost}
 use Rattle.aes3_engine.specs.Running.{Change}
 use Rattle.aes3_engine.specs.Inputs.{cells_of}
 use Rattle.aes3_engine.specs.ReportRuns.{output, ReportRun}
-use Rattle.aes3_engine.specs.BlockRuns.{decided_blocks, report_bytes, numbered, normal_block, file_block, cut_block, begun_stream, written_stream, cut_blocks}
+use Rattle.aes3_engine.specs.BlockRuns.{decided_blocks, report_bytes, numbered, normal_block, cut_block, begun_stream, written_stream, cut_blocks}
 use Rattle.aes3_engine.proofs.ReportLemmas.{blocks-output}
 use Rattle.aes3_engine.proofs.CellRuns.{run-wrote}
 
@@ -159,17 +158,17 @@ pub cut-begun : (form : Form) (from count : ℕ) (c : List Level)
     → output (report_bytes (cut_block form from count)) (decided c) ≡ begun_stream form (cut_blocks from count (decided_blocks c))
 cut-begun form from count c = begun-stream form (cut_block form from count) (cut_blocks from count) (cut-bytes form from count) c
 
--- a block file
-file-behind : (n : ℕ) (bs : List (List (List Bool))) → numbered file_block n bs ≡ file bs
-file-behind n [] = refl
-file-behind n (b ∷ bs) = ap (λ z. block_bytes b ++ z) (file-behind (suc n) bs)
+-- blocks that have the same bytes whatever their number, as in a block file and as samples
+alike-behind : (f : List (List Bool) → List ℕ) (n : ℕ) (bs : List (List (List Bool))) → numbered (λ k b. f b) n bs ≡ flat_map f bs
+alike-behind f n [] = refl
+alike-behind f n (b ∷ bs) = ap (λ z. f b ++ z) (alike-behind f (suc n) bs)
 
-pub file-whole : (c : List Level) → output (report_bytes file_block) (reports c) ++ [] ≡ file (blocks c)
+pub alike-whole : (f : List (List Bool) → List ℕ) (c : List Level) → output (report_bytes (λ n b. f b)) (reports c) ++ [] ≡ flat_map f (blocks c)
 unfolding blocks
-file-whole c = append-nil (output (report_bytes file_block) (reports c)) ∙ blocks-output file_block 0 (reports c) ∙ file-behind 0 (wholes (reports c))
+alike-whole f c = append-nil (output (report_bytes (λ n b. f b)) (reports c)) ∙ blocks-output (λ n b. f b) 0 (reports c) ∙ alike-behind f 0 (wholes (reports c))
 
-pub file-begun : (c : List Level) → output (report_bytes file_block) (decided c) ≡ file (decided_blocks c)
-file-begun c = blocks-output file_block 0 (decided c) ∙ file-behind 0 (decided_blocks c)
+pub alike-begun : (f : List (List Bool) → List ℕ) (c : List Level) → output (report_bytes (λ n b. f b)) (decided c) ≡ flat_map f (decided_blocks c)
+alike-begun f c = blocks-output (λ n b. f b) 0 (decided c) ∙ alike-behind f 0 (decided_blocks c)
 
 -- a lawful line is read back
 lines : (bs : List (List (List Bool))) → EachBlock27 bs → length (stream Low bs) % word_len ≡ 0
@@ -223,9 +222,20 @@ run-again {input} form (Ok n) run = λ c t.
     grew-is (ap (λ v. written form (normal v)) (read-normal input c) ∙ ap (written form) (normal-fixed c)) (run-wrote (Ok n) (λ c. written form (normal c)) (normal-whole form) run (written input (normal c)) t)
 run-again form (Err e) run = tt
 
--- and of a block file
-pub run-back : {max : ℕ} {input : Form} {ended : Bool} {source sink : Change} (r : Result Counts RunError) → ReportRun max input (report_bytes file_block) [] ended source sink r
-    → IfOk r (λ (n : Counts). (bs : List (List (List Bool))) → All IsBlock bs → Told source.old source.new (written_stream input bs) → Grew sink.old sink.new (file bs))
-run-back {input} (Ok n) run = λ bs a t.
-    grew-is (ap (λ c. file (blocks c)) (read-back input bs (each27 bs a)) ∙ ap file (stream-blocks Low bs a)) (run-wrote (Ok n) (λ c. file (blocks c)) file-whole run (written_stream input bs) t)
-run-back (Err e) run = tt
+-- and of such blocks: of two lines with the same blocks, of a line that was written of blocks, and of a normal stream
+pub run-alike : {max : ℕ} {input : Form} {ended : Bool} {source sink : Change} (f : List (List Bool) → List ℕ) (r : Result Counts RunError) → ReportRun max input (report_bytes (λ n b. f b)) [] ended source sink r
+    → IfOk r (λ (n : Counts). (b : List ℕ) (ds : List (List (List Bool))) → Told source.old source.new b → blocks (cells_of input b) ≡ ds → Grew sink.old sink.new (flat_map f ds))
+run-alike {input} f (Ok n) run = λ b ds t e. grew-is (ap (flat_map f) e) (run-wrote (Ok n) (λ c. flat_map f (blocks c)) (alike-whole f) run b t)
+run-alike f (Err e) run = tt
+
+pub run-back : {max : ℕ} {input : Form} {ended : Bool} {source sink : Change} (f : List (List Bool) → List ℕ) (r : Result Counts RunError) → ReportRun max input (report_bytes (λ n b. f b)) [] ended source sink r
+    → IfOk r (λ (n : Counts). (bs : List (List (List Bool))) → All IsBlock bs → Told source.old source.new (written_stream input bs) → Grew sink.old sink.new (flat_map f bs))
+run-back {input} f (Ok n) run = λ bs a t.
+    run-alike f (Ok n) run (written_stream input bs) bs t (ap blocks (read-back input bs (each27 bs a)) ∙ stream-blocks Low bs a)
+run-back f (Err e) run = tt
+
+pub run-normal : {max : ℕ} {input : Form} {ended : Bool} {source sink : Change} (f : List (List Bool) → List ℕ) (r : Result Counts RunError) → ReportRun max input (report_bytes (λ n b. f b)) [] ended source sink r
+    → IfOk r (λ (n : Counts). (c : List Level) → Told source.old source.new (written input (normal c)) → Grew sink.old sink.new (flat_map f (blocks c)))
+unfolding normal
+run-normal f (Ok n) run = λ c t. run-back f (Ok n) run (blocks c) (blocks-lawful c) t
+run-normal f (Err e) run = tt

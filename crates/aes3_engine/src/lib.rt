@@ -12,6 +12,7 @@ mod reading;
 mod report_runs;
 mod reporter;
 mod rewriting;
+mod samples;
 mod taker;
 #[cfg(test)]
 mod tests;
@@ -27,4 +28,5 @@ pub use reading::{cut, decode, normalise};
 pub use report_runs::{ReportWriter, run_reports};
 pub use reporter::Reporter;
 pub use rewriting::rewrite;
+pub use samples::to_pcm;
 pub use taker::Taker;

@@ -6,6 +6,7 @@ use crate::change::Change;
 use crate::encoding::encode;
 use crate::reading::{cut, decode, normalise};
 use crate::rewriting::rewrite;
+use crate::samples::to_pcm;
 use aes3_cell::{
     Counts, EndlessSource, FailingSink, FailingSource, Form, MemorySink, MemorySource, RunError,
     ShortSink, Source, StdSink,
@@ -194,6 +195,27 @@ fn pieces_change_no_output(rt: HostRuntime) -> Result<(), Fail> {
         let mut source = MemorySource::new(&file, piece);
         assert!(rt; encode(&mut source, &mut octets, MANY, Form::Packed).is_ok());
         assert!(rt; octets.bytes() == packed.as_slice(), "{piece}");
+    }
+    Ok(())
+}
+
+#[test]
+fn samples_of_a_line(rt: HostRuntime) -> Result<(), Fail> {
+    let mut file = Vec::new(rt.alloc());
+    let mut samples = Vec::new(rt.alloc());
+    for _ in 0..384 {
+        // Audio 1 in slot 4, and its parity bit.
+        file.extend_from_slice(&[0x10, 0, 0, 0x80])?;
+        samples.extend_from_slice(&[0, 1, 0, 0])?;
+    }
+    for form in [Form::Text, Form::Packed] {
+        let mut line = MemorySink::new(rt.alloc());
+        let mut source = MemorySource::new(&file, 4_096);
+        assert!(rt; encode(&mut source, &mut line, MANY, form).is_ok());
+        let mut pcm = MemorySink::new(rt.alloc());
+        let mut source = MemorySource::new(line.bytes(), 4_096);
+        assert!(rt; to_pcm(&mut source, &mut pcm, MANY, form).is_ok());
+        assert!(rt; pcm.bytes() == samples.as_slice());
     }
     Ok(())
 }

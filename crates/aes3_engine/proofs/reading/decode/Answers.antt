@@ -1,15 +1,15 @@
-use Rattle.aes3_block.specs.Files.{file}
+use Rattle.aes3_block.specs.Files.{block_bytes, file}
 use Rattle.aes3_lock.specs.Reports.{blocks}
 use Rattle.aes3_engine.specs.BlockRuns.{decided_blocks}
-use Rattle.aes3_engine.proofs.BlockRuns.{file-whole, file-begun, run-back}
+use Rattle.aes3_engine.proofs.BlockRuns.{alike-whole, alike-begun, run-back}
 use Rattle.aes3_engine.proofs.CellRuns.{run-wrote, run-input, run-counts, run-fits, run-owed, run-cause, run-sink_quiet, run-refused, run-front, run-few}
 use Rattle.aes3_engine.proofs.reading.decode.Goals as goal
 
 pub returns-clause-file : goal.returns-clause-file
-returns-clause-file g c = run-wrote c.run_blocks.result (λ d. file (blocks d)) (file-whole) c.run_blocks.ensures
+returns-clause-file g c = run-wrote c.run_blocks.result (λ d. file (blocks d)) (alike-whole block_bytes) c.run_blocks.ensures
 
 pub returns-clause-back : goal.returns-clause-back
-returns-clause-back g c = run-back c.run_blocks.result c.run_blocks.ensures
+returns-clause-back g c = run-back block_bytes c.run_blocks.result c.run_blocks.ensures
 
 pub returns-clause-input : goal.returns-clause-input
 returns-clause-input g c = run-input c.run_blocks.result c.run_blocks.ensures
@@ -30,10 +30,10 @@ pub returns-clause-sink_quiet : goal.returns-clause-sink_quiet
 returns-clause-sink_quiet g c = run-sink_quiet c.run_blocks.result c.run_blocks.ensures
 
 pub returns-clause-refused : goal.returns-clause-refused
-returns-clause-refused g c = run-refused c.run_blocks.result (λ d. file (decided_blocks d)) (file-begun) c.run_blocks.ensures
+returns-clause-refused g c = run-refused c.run_blocks.result (λ d. file (decided_blocks d)) (alike-begun block_bytes) c.run_blocks.ensures
 
 pub returns-clause-front : goal.returns-clause-front
-returns-clause-front g c = run-front c.run_blocks.result (λ d. file (blocks d)) (λ d. file (decided_blocks d)) (file-whole) (file-begun) c.run_blocks.ensures
+returns-clause-front g c = run-front c.run_blocks.result (λ d. file (blocks d)) (λ d. file (decided_blocks d)) (alike-whole block_bytes) (alike-begun block_bytes) c.run_blocks.ensures
 
 pub returns-clause-few : goal.returns-clause-few
 returns-clause-few g c = run-few c.run_blocks.ensures

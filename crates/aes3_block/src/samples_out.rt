@@ -1,0 +1,45 @@
+//! Samples as they are written for sound programs.
+
+ghost use Rattle.std.specs.Prelude.{◌≡◌, ◌<◌, ◌+◌, ◌^◌, IfOk, OnErr, map};
+ghost use Rattle.std.specs.List.{flat_map};
+ghost use Rattle.aes3_cell.specs.Ends.{Grew, GrewFront};
+ghost use Rattle.aes3_block.specs.Files.{payload_of, word_bytes};
+ghost use Rattle.aes3_block.specs.Samples.{block_samples, sample_of};
+
+use crate::block::{Block, SLOTS};
+use crate::file_out::{BLOCK_BYTES, blank_bytes};
+use crate::subframe::AUDIO_LIMIT;
+use crate::word::payload_of_word;
+use aes3_cell::{Fault, Sink, write_all};
+
+/// The sample in a word of a block file, in the highest 24 of 32 bits.
+fn sample_of_word(word: u32) -> u32
+    ensures { result ≡ sample_of (payload_of word) }
+{
+    (payload_of_word(word) % AUDIO_LIMIT) << 8
+}
+
+/// The bytes of the samples in words of a block file, each lowest byte first.
+fn bytes_of_samples(words: &[u32; SLOTS]) -> [u8; BLOCK_BYTES]
+    ensures { result ≡ flat_map word_bytes (map sample_of (map payload_of words.now)) }
+{
+    let mut bytes = blank_bytes();
+    for (i, word) in words.iter().enumerate() {
+        bytes[4 * i..4 * i + 4].copy_from_slice(&sample_of_word(*word).to_le_bytes());
+    }
+    bytes
+}
+
+/// Writes the samples of a block, channel 1 and then channel 2 of each frame: 384 words of 32 bits, lowest byte first,
+/// each with the 24 audio bits of its subframe in the highest ones (AES3-1, IEC 60958-1); handed on as one buffer.
+///
+/// # Errors
+/// The sink's fault; then it has taken a front of the bytes.
+pub fn put_block_samples<T: Sink>(block: &Block, sink: &mut T) -> Result<(), Fault>
+    requires room { T.failed sink.old + 1 < 2 ^ 64 }
+    ensures bytes { IfOk result (λ _. Grew (T.taken sink.old) (T.taken sink.new) (block_samples block.now)) }
+    ensures count { IfOk result (λ _. T.failed sink.new ≡ T.failed sink.old) }
+    ensures err { OnErr result ((T.failed sink.new ≡ T.failed sink.old + 1) × GrewFront (T.taken sink.old) (T.taken sink.new) (block_samples block.now)) }
+{
+    write_all(sink, &bytes_of_samples(block.words()))
+}

@@ -1,0 +1,92 @@
+//! Cells to the samples of their blocks.
+
+ghost use Rattle.std.specs.Prelude.{◌≡◌, ◌≢◌, ℕ, ◌+◌, ◌<◌, ◌≤◌, ◌^◌, ◌⊎◌, List, [], Bool, Err, length, take, IfOk, IfErr, IsOk, OnErr, IsTrue};
+ghost use Rattle.std.specs.List.{All};
+ghost use Rattle.aes3_cell.specs.Ends.{Grew, GrewFront, Told};
+ghost use Rattle.aes3_cell.specs.Written.{written};
+ghost use Rattle.aes3_cell.specs.declared.level.Level.{Level};
+ghost use Rattle.aes3_block.specs.Blocks.{IsBlock};
+ghost use Rattle.aes3_block.specs.Samples.{samples};
+ghost use Rattle.aes3_lock.specs.Reports.{blocks, normal};
+ghost use Rattle.aes3_engine.specs.BlockRuns.{decided_blocks, sample_block, written_stream};
+ghost use Rattle.aes3_engine.specs.Driving.{WholeInput};
+ghost use Rattle.aes3_engine.specs.Inputs.{IsInput, cells_before, cells_of};
+ghost use Rattle.aes3_engine.specs.CellRuns.{IsCause};
+ghost use Rattle.aes3_engine.specs.ReportRuns.{counts_of};
+
+use crate::blocks::{BlockWriter, run_blocks};
+use aes3_block::{Block, put_block_samples};
+use aes3_cell::{Counts, Fault, Form, RunError, Sink, Source};
+
+/// Writes blocks as their samples.
+#[derive(Drop)]
+struct SampleBlocks;
+
+impl BlockWriter for SampleBlocks {
+    ghost writes = { λ _. sample_block };
+
+    ghost ends = { λ _. [] };
+
+    fn put<T: Sink>(&self, sink: &mut T, _number: u64, block: &Block) -> Result<(), Fault> {
+        put_block_samples(block, sink)
+    }
+
+    fn put_end<T: Sink>(&self, _sink: &mut T) -> Result<(), Fault> {
+        Ok(())
+    }
+}
+
+/// Reads cells from any cell on, and writes the samples of the blocks that stand whole and closed in them: of each
+/// frame that of channel 1 and that of channel 2, words of 32 bits, lowest byte first, with the 24 audio bits in the highest
+/// ones (AES3-1, IEC 60958-1).
+///
+/// # Errors
+/// Those of `normalise`; then the samples are written of the blocks that were decided before, and after `Write` a front of
+/// them.
+pub fn to_pcm<S: Source, T: Sink>(
+    source: &mut S,
+    sink: &mut T,
+    max_bytes: u64,
+    input: Form,
+) -> Result<Counts, RunError>
+    requires source_room { S.failed source.old + 1 < 2 ^ 64 }
+    requires sink_room { T.failed sink.old + 1 < 2 ^ 64 }
+    requires limit { max_bytes ≤ 2 ^ 40 }
+
+    // Where it answers Ok, exactly the blocks that stand whole and closed in the input are written, as their samples.
+    ensures samples { IfOk result (λ _. (b : List ℕ) → Told (S.given source.old) (S.given source.new) b
+        → Grew (T.taken sink.old) (T.taken sink.new) (samples (blocks (cells_of input b)))) }
+    // They are those of the blocks alone: of any line with the same blocks.
+    ensures alone { IfOk result (λ _. (b : List ℕ) (bs : List (List (List Bool))) → Told (S.given source.old) (S.given source.new) b
+        → blocks (cells_of input b) ≡ bs → Grew (T.taken sink.old) (T.taken sink.new) (samples bs)) }
+    // What `normalise` writes of cells gives the samples of the cells.
+    ensures normal { IfOk result (λ _. (c : List Level) → Told (S.given source.old) (S.given source.new) (written input (normal c))
+        → Grew (T.taken sink.old) (T.taken sink.new) (samples (blocks c))) }
+    // What `encode` writes of blocks gives their samples.
+    ensures back { IfOk result (λ _. (bs : List (List (List Bool))) → All IsBlock bs → Told (S.given source.old) (S.given source.new) (written_stream input bs)
+        → Grew (T.taken sink.old) (T.taken sink.new) (samples bs)) }
+    ensures input { IfOk result (λ _. (b : List ℕ) → Told (S.given source.old) (S.given source.new) b → IsInput input b) }
+    ensures counts { IfOk result (λ counts. (b : List ℕ) → Told (S.given source.old) (S.given source.new) b → counts ≡ counts_of input b) }
+    ensures fits { IfOk result (λ _. (b : List ℕ) → Told (S.given source.old) (S.given source.new) b → length b ≤ max_bytes) }
+    ensures ended { IfOk result (λ _. IsTrue (S.has_ended source.new)) }
+    ensures quiet { IfOk result (λ _. (S.failed source.new ≡ S.failed source.old) × (T.failed sink.new ≡ T.failed sink.old)) }
+
+    // It owes Ok where the input is in its form and fits, and neither end failed.
+    ensures owed { (b : List ℕ) → Told (S.given source.old) (S.given source.new) b → IsInput input b → length b ≤ max_bytes
+        → S.failed source.new ≡ S.failed source.old → T.failed sink.new ≡ T.failed sink.old → IsOk result }
+
+    // A refusal has its cause, and what was decided before it is written.
+    ensures cause { IfErr result (λ error. (b : List ℕ) → Told (S.given source.old) (S.given source.new) b
+        → IsCause input max_bytes b (S.has_ended source.new) error) }
+    ensures read { result ≡ Err RunError.Read → S.failed source.new ≡ S.failed source.old + 1 }
+    ensures write { result ≡ Err RunError.Write → T.failed sink.new ≡ T.failed sink.old + 1 }
+    ensures sink_quiet { result ≢ Err RunError.Write → T.failed sink.new ≡ T.failed sink.old }
+    ensures refused { OnErr result (result ≢ Err RunError.Write → (b : List ℕ) → Told (S.given source.old) (S.given source.new) b
+        → Grew (T.taken sink.old) (T.taken sink.new) (samples (decided_blocks (cells_before input (take max_bytes b))))) }
+    ensures front { result ≡ Err RunError.Write → (b : List ℕ) → Told (S.given source.old) (S.given source.new) b
+        → GrewFront (T.taken sink.old) (T.taken sink.new) (samples (decided_blocks (cells_before input (take max_bytes b))))
+        ⊎ (WholeInput max_bytes input b (S.has_ended source.new) × GrewFront (T.taken sink.old) (T.taken sink.new) (samples (blocks (cells_of input b)))) }
+    ensures few { (b : List ℕ) → Told (S.given source.old) (S.given source.new) b → length b ≤ max_bytes + 1 }
+{
+    run_blocks(source, sink, max_bytes, input, SampleBlocks)
+}
