@@ -12,7 +12,7 @@ ghost use Rattle.aes3_engine.specs.Running.{FrontRan};
 
 use crate::conversion::{Input, convert};
 use crate::taker::Taker;
-use aes3_cell::{BadCell, CellText, Form, RunError, Sink, Source, with_cell};
+use aes3_cell::{BadCell, CellText, Form, RunError, Sink, Source, with_cell, word_of_text};
 
 /// How many lines become words at once.
 const LINES: usize = 64;
@@ -149,16 +149,27 @@ fn with_byte(text: &mut CellText, cells: SomeCells, byte: u8) -> Result<SomeCell
     }
 }
 
-/// Whether a line of 64 cells seems to begin at a place of a piece: a line feed stands before it, and a separator behind 64
-/// bytes. No promise rests on it: where cells are gathered only up to there, the lines behind are met at their beginning.
+/// Whether text begins with a line of 64 cells.
+fn is_line(text: &[u8]) -> bool {
+    match text.first_chunk() {
+        Some(bytes) => word_of_text(bytes).is_some(),
+        None => false,
+    }
+}
+
+/// Whether a line of 64 cells begins at a place of a piece: a line feed stands before it, and a separator behind it. No
+/// promise rests on it: where cells are gathered only up to there, the lines behind are met at their beginning.
 fn begins_line(piece: &[u8], at: usize) -> bool
     requires some { 0 < at }
     requires within { at ≤ length piece.now }
 {
-    piece[at - 1] == b'\n' && piece.len() - at > LINE_CELLS && is_separator(piece[at + LINE_CELLS])
+    piece[at - 1] == b'\n'
+        && piece.len() - at > LINE_CELLS
+        && is_separator(piece[at + LINE_CELLS])
+        && is_line(&piece[at..])
 }
 
-/// Takes the bytes that a piece begins with, until they have 64 cells, a line of so many seems to begin, or a byte is neither
+/// Takes the bytes that a piece begins with, until they have 64 cells, a line of so many begins, or a byte is neither
 /// a cell nor a separator. Answers how many bytes these are, and their cells.
 fn feed_some(text: &mut CellText, piece: &[u8]) -> Result<(usize, SomeCells), BadCell>
     requires some { 0 < length piece.now }
