@@ -3,7 +3,10 @@
 ghost use Rattle.std.specs.Prelude.{◌≡◌, None, false};
 
 use crate::ends::{Fault, Sink, Source};
-use std::io::{Read, Write};
+use std::io::{ErrorKind, Read, Write};
+
+/// How often a read that a signal interrupts is tried again.
+const TRIES: u32 = 1_000_000;
 
 /// A source over a reader.
 #[derive(Drop)]
@@ -36,16 +39,18 @@ impl<R: Read + Drop> Source for StdSource<R> {
     ghost failed = { λ s. s.failures };
 
     fn read(&mut self, buf: &mut [u8]) -> Result<usize, Fault> {
-        match self.reader.read(buf) {
-            Ok(n) => {
-                self.ended = n == 0;
-                Ok(n)
-            }
-            Err(_) => {
-                self.failures += 1;
-                Err(Fault)
+        for _ in 0..TRIES {
+            match self.reader.read(buf) {
+                Ok(n) => {
+                    self.ended = n == 0;
+                    return Ok(n);
+                }
+                Err(error) if error.kind() == ErrorKind::Interrupted => {}
+                Err(_) => break,
             }
         }
+        self.failures += 1;
+        Err(Fault)
     }
 
     fn failures(&self) -> u64 {

@@ -1,0 +1,5 @@
+use Rattle.std.proofs.Common.{◌≡◌}
+use Rattle.aes3_cell.proofs.standard.StdSourceSource.read.Given as goal
+
+abbrev pub invariant-loop : goal.invariant-loop
+invariant-loop g l = record { failures : l.self.failures ≡ l.fn.self.failures }
