@@ -1,5 +1,5 @@
 -- Any changed cells of a block: what stands in its place after its level is told by them.
-use Rattle.std.proofs.Common.{◌≡◌, ◌≢◌, ℕ, zero, suc, ◌+◌, ◌-◌, ◌*◌, ◌/◌, ◌%◌, ◌<◌, ◌≤◌, ◌↔◌, ◌⊎◌, inl, inr, List, [], ◌∷◌, ◌++◌, Bool, true, false, ◌&&◌, ◌==◌, cond, refl, length, take, drop, ap, ap₂, ◌∙◌, sym, subst, arith, length-take, length-take-le, length-drop, take-take, get_or-take, get_or-drop, ext_get_or, eq-eqb}
+use Rattle.std.proofs.Common.{◌≡◌, ℕ, zero, suc, ◌+◌, ◌-◌, ◌*◌, ◌/◌, ◌%◌, ◌<◌, ◌≤◌, ◌↔◌, ◌⊎◌, inl, inr, List, [], ◌∷◌, ◌++◌, Bool, true, false, ◌&&◌, ◌==◌, cond, refl, length, take, drop, ap, ap₂, ◌∙◌, sym, subst, arith, length-take, length-drop, take-take, get_or-take, get_or-drop, ext_get_or, eq-eqb}
 use Rattle.std.proofs.lemmas.Bool.{cases_eq, cases_lt, cases_Bool, and_parts, eqb-true}
 use Rattle.std.proofs.lemmas.List.{take-append-drop}
 use Rattle.aes3_cell.specs.declared.level.Level.{Level}
@@ -7,12 +7,11 @@ use Rattle.aes3_cell.specs.declared.level.Level.TheVariants.{Low}
 use Rattle.aes3_cell.specs.Cells.{other}
 use Rattle.aes3_slot.specs.Reading.{differs}
 use Rattle.aes3_slot.specs.Rules.{at, before, shape}
-use Rattle.aes3_block.specs.Blocks.{mark_at, block_slots, block_len, block_cells, IsBlock}
+use Rattle.aes3_block.specs.Blocks.{mark_at, block_len, block_cells, IsBlock}
 use Rattle.aes3_block.proofs.CellLaws.{length-block_cells, block_cells-unique}
 use Rattle.aes3_lock.specs.Damage.{changed, between_slots, exchanged, places_apart}
 use Rattle.aes3_lock.specs.Remains.{left_of}
 use Rattle.aes3_lock.specs.Standing.{StandsClosed}
-use Rattle.aes3_lock.proofs.AllStanding.{closed-room}
 use Rattle.aes3_lock.proofs.Apart.{length-changed, at-changed, at-others, other-of, differs-true, differs-false}
 use Rattle.aes3_lock.proofs.DamageLaws.{stands-local}
 use Rattle.aes3_lock.proofs.Deciding.{block_len_24576}

@@ -1,34 +1,16 @@
 -- No block is made of cells of a stream from one place on and, behind some of them, those from the next place on.
-use Rattle.std.proofs.Common.{◌≡◌, ℕ, zero, suc, ◌+◌, ◌-◌, ◌*◌, ◌/◌, ◌%◌, ◌<◌, ◌≤◌, ◌⊎◌, inl, inr, List, [], ◌∷◌, ◌++◌, Bool, ◌&&◌, ◌==◌, cond, leb, ltb, refl, length, take, drop, ap, ap₂, ◌∙◌, sym, arith, length-take-le, length-drop, get_or-take, get_or-drop, ext_get_or, le-leb, le-ltb, eq-eqb, ne_eqb, lt-ltb, lit<}
-use Rattle.std.proofs.lemmas.Bool.{cases_eq, cases_lt, lt-leb}
+use Rattle.std.proofs.Common.{◌≡◌, ℕ, suc, ◌+◌, ◌*◌, ◌/◌, ◌%◌, ◌<◌, ◌≤◌, ◌⊎◌, inl, inr, List, Bool, length, ap, ◌∙◌, sym, arith, lit<}
+use Rattle.std.proofs.lemmas.Bool.{cases_lt}
 use Rattle.aes3_cell.specs.declared.level.Level.{Level}
-use Rattle.aes3_cell.specs.declared.level.Level.TheVariants.{Low}
 use Rattle.aes3_cell.specs.Cells.{other}
 use Rattle.aes3_cell.proofs.Runs.{other_ne}
-use Rattle.aes3_slot.specs.declared.mark.Mark.{Mark}
-use Rattle.aes3_slot.specs.declared.mark.Mark.TheVariants.{X, Y, Z}
 use Rattle.aes3_slot.specs.Rules.{at, shape}
 use Rattle.aes3_slot.proofs.Distance.{own-cell, stands-from}
 use Rattle.aes3_slot.proofs.OwnPreambles.{begins}
-use Rattle.aes3_block.specs.Blocks.{mark_at, block_slots, block_len, block_cells, stream, IsBlock}
-use Rattle.aes3_block.proofs.FileLaws.{EachBlock, each-block}
-use Rattle.aes3_block.proofs.CellLaws.{length-block_cells}
-use Rattle.aes3_lock.specs.Damage.{without, apart}
-use Rattle.aes3_lock.specs.Remains.{after_loss}
-use Rattle.aes3_lock.specs.Pieces.{IsPiece, given_within, given_blocks}
-use Rattle.aes3_lock.specs.Reports.{reports_from, reports, wholes, blocks}
-use Rattle.aes3_lock.specs.Standing.{StandsClosed}
-use Rattle.aes3_lock.proofs.AllStanding.{closed-room}
-use Rattle.aes3_lock.proofs.Apart.{apart-self}
-use Rattle.aes3_lock.proofs.Damaged.{piece-cell, no-other, own-stays}
-use Rattle.aes3_lock.proofs.Deciding.{block_len_24576}
+use Rattle.aes3_block.specs.Blocks.{mark_at, block_slots, block_cells, stream, IsBlock}
+use Rattle.aes3_block.proofs.FileLaws.{EachBlock}
 use Rattle.aes3_lock.proofs.Distances.{block-level, block-mark, mark-first, mark-second}
-use Rattle.aes3_lock.proofs.Damaged.{line-cell}
-use Rattle.aes3_lock.proofs.Given.{gather-given, gather-same}
 use Rattle.aes3_lock.proofs.LawfulPieces.{stream_marks, stream-kept, stream-length, stream-level, stream-aligned}
-use Rattle.aes3_lock.proofs.PlaceBlocks.{block_here, blocks-collect, here-none, here-some, here-any}
-use Rattle.aes3_lock.proofs.PieceBounds.{length-piece}
-use Rattle.aes3_lock.proofs.Places.{gather, collect-gather, gather-add}
 
 module _ (s : Level) (bs : List (List (List Bool))) (h : EachBlock bs) where
   -- the first two cells of a subframe of the stream

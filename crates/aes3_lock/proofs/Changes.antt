@@ -1,31 +1,30 @@
 -- The blocks of a piece of a lawful stream of which up to three cells are changed.
-use Rattle.std.proofs.Common.{◌≡◌, ◌≢◌, ℕ, zero, suc, ◌+◌, ◌-◌, ◌<◌, ◌≤◌, ◌⊎◌, inl, inr, List, [], ◌∷◌, Bool, true, false, ◌&&◌, ◌==◌, cond, refl, length, take, drop, ap, ap₂, ◌∙◌, sym, subst, arith, length-drop, length-take, length-take-le, get_or-take, get_or-drop, ext_get_or, eq-eqb}
-use Rattle.std.proofs.lemmas.Bool.{cases_eq, cases_lt, cases_Bool, and_parts, eqb-true}
+use Rattle.std.proofs.Common.{◌≡◌, ◌≢◌, ℕ, suc, ◌+◌, ◌-◌, ◌<◌, ◌≤◌, ◌⊎◌, inl, inr, List, [], ◌∷◌, Bool, refl, length, take, drop, ap, ap₂, ◌∙◌, sym, subst, arith, length-drop, length-take, length-take-le, get_or-take, get_or-drop, ext_get_or}
+use Rattle.std.proofs.lemmas.Bool.{cases_eq, cases_lt}
 use Rattle.aes3_cell.specs.declared.level.Level.{Level}
 use Rattle.aes3_cell.specs.declared.level.Level.TheVariants.{Low}
 use Rattle.aes3_cell.specs.Cells.{other}
-use Rattle.aes3_slot.specs.Reading.{differs}
 use Rattle.aes3_slot.specs.Rules.{at}
 use Rattle.aes3_block.specs.Blocks.{block_len, block_cells, stream}
 use Rattle.aes3_block.proofs.FileLaws.{EachBlock, each-block}
 use Rattle.aes3_block.proofs.CellLaws.{length-block_cells}
-use Rattle.aes3_lock.specs.Damage.{changed, apart, between_slots, exchanged, places_apart}
+use Rattle.aes3_lock.specs.Damage.{changed, apart, exchanged, places_apart}
 use Rattle.aes3_lock.specs.Remains.{left_of, after_changes}
 use Rattle.aes3_lock.specs.Pieces.{IsPiece, given_within, given_blocks}
 use Rattle.aes3_lock.specs.Reports.{reports_from, reports, wholes, blocks}
 use Rattle.aes3_lock.specs.Standing.{StandsClosed}
-use Rattle.aes3_lock.proofs.Apart.{apart-take, apart-drop, length-changed, at-changed, at-others, other-of, differs-true, differs-false}
+use Rattle.aes3_lock.proofs.Apart.{apart-take, apart-drop, length-changed, at-changed, at-others, other-of}
 use Rattle.aes3_lock.proofs.Damaged.{blocks-places, short-none, no-other, own-near, own-cell-at, own-closing, own-stands, own-stays}
 use Rattle.aes3_lock.proofs.Deciding.{block_len_24576}
 use Rattle.aes3_lock.proofs.OtherLevel.{other-level}
 use Rattle.aes3_lock.proofs.Balance.{even-apart}
-use Rattle.aes3_lock.proofs.Exchanged.{Between, between-true, true-between, exchanged-block, exchanged-cells}
+use Rattle.aes3_lock.proofs.Exchanged.{exchanged-block, exchanged-cells}
 use Rattle.aes3_lock.proofs.Damaged.{line-cell}
 use Rattle.aes3_lock.proofs.Given.{gather-given}
 use Rattle.aes3_lock.proofs.OwnPlace.{PairApart, pair-cells, blocks-pair, equal-levels, equal-blocks}
 use Rattle.aes3_lock.proofs.PlaceBlocks.{block_here, here-none, here-some}
 use Rattle.aes3_lock.proofs.PieceBounds.{length-piece}
-use Rattle.aes3_lock.proofs.PlacesApart.{Has, IsPair, places-has, has-places, places-none, places-one, places-two, pair-left, none-left, pair-or, length-places}
+use Rattle.aes3_lock.proofs.PlacesApart.{Has, IsPair, places-has, has-places, places-none, places-two, pair-left, none-left, pair-or, length-places}
 
 module _ (s : Level) (bs : List (List (List Bool))) (h : EachBlock bs) (i j : ℕ) (order : i ≤ j) (within : j ≤ length (stream s bs))
     (e : List Level) (same : length e ≡ j - i) (three : apart (take (j - i) (drop i (stream s bs))) e ≤ 3) where

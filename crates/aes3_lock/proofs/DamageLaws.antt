@@ -28,7 +28,7 @@ use Rattle.aes3_lock.proofs.ChangeReports.{report-at, at-report, place-report, c
 use Rattle.aes3_lock.proofs.OwnPlace.{pair-two, blocks-pair, pair-exchanged, equal-blocks, equal-levels}
 use Rattle.aes3_lock.proofs.PieceBounds.{length-piece}
 
-length-of : (s : Level) (bs : List (List (List Bool))) (i j : ℕ) (c : List Level) → IsPiece s bs i j c → length c ≡ j - i
+pub length-of : (s : Level) (bs : List (List (List Bool))) (i j : ℕ) (c : List Level) → IsPiece s bs i j c → length c ≡ j - i
 length-of s bs i j c p = ap length p.is ∙ length-piece i j (stream s bs) p.order p.within
 
 window-of : (s : Level) (bs : List (List (List Bool))) (i j : ℕ) (c : List Level) → IsPiece s bs i j c → (q : ℕ) → q + block_len ≤ length c

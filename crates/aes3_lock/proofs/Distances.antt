@@ -64,7 +64,7 @@ pub other-same : (s t : Level) → other s ≡ other t → s ≡ t
 other-same s t e = sym (other-other s) ∙ ap other e ∙ other-other t
 
 -- the second subframe of each frame, and no other, begins with Y
-odd-mark : (j : ℕ) → j % 2 ≡ 1 → mark_at j ≡ Y
+pub odd-mark : (j : ℕ) → j % 2 ≡ 1 → mark_at j ≡ Y
 unfolding mark_at
 odd-mark zero h = absurd (omega arith)
 odd-mark (suc j) h = let e = eq-eqb (j % 2) 0 (omega arith) in rw e refl

@@ -54,3 +54,7 @@ pub mod InsertedCells
 pub mod Inserted
 pub mod Splits
 pub mod AnyChanges
+pub mod ChangedPlaces
+pub mod FrameBlocks
+pub mod Frames
+pub mod Losses

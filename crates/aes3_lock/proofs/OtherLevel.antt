@@ -1,5 +1,5 @@
 -- Two blocks after different levels differ in all cells of all preambles, the one behind each and the last of each subframe.
-use Rattle.std.proofs.Common.{◌≡◌, ℕ, zero, suc, ◌+◌, ◌*◌, ◌<◌, ◌≤◌, ◌⊎◌, inl, inr, cond, ltb, lt-ltb, le-ltb, List, Bool, refl, length, take, drop, ap, ◌∙◌, sym, arith, lit<}
+use Rattle.std.proofs.Common.{◌≡◌, ℕ, zero, suc, ◌+◌, ◌*◌, ◌<◌, ◌≤◌, ◌⊎◌, inl, inr, cond, ltb, lt-ltb, le-ltb, List, Bool, refl, take, drop, ap, ◌∙◌, sym, arith, lit<}
 use Rattle.std.proofs.lemmas.Bool.{cases_lt}
 use Rattle.aes3_cell.specs.declared.level.Level.{Level}
 use Rattle.aes3_cell.specs.declared.level.Level.TheVariants.{Low, High}

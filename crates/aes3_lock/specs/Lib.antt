@@ -11,6 +11,8 @@ pub mod Remains
 pub mod Laws
 pub mod DistanceLaws
 pub mod DamageLaws
+pub mod FrameLaws
+pub mod LossLaws
 pub mod Spacing
 pub use Rattle.aes3_cell.specs.Cells
 pub use Rattle.aes3_slot.specs.Slots

@@ -8,9 +8,9 @@ mod damage;
 mod splitting;
 
 pub use damage::{
-    blocks_are_far_apart, blocks_stand_by_their_cells, changes_tell_the_block,
-    few_changes_make_no_block, one_changed_cell, one_inserted_cell, one_lost_cell,
-    subframes_are_balanced, two_changed_cells,
+    blocks_are_far_apart, blocks_stand_by_their_cells, changes_tell_all_blocks,
+    changes_tell_the_block, few_changes_make_no_block, few_lost_cells, one_changed_cell,
+    one_inserted_cell, one_lost_cell, subframes_are_balanced, two_changed_cells,
 };
 pub use splitting::reports_join;
 

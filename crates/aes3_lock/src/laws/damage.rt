@@ -1,6 +1,8 @@
 //! Laws of damage: how far apart the cells of blocks are, and what stays of a lawful stream of which cells change or are
 //! lost.
 ghost use Rattle.aes3_lock.specs.DistanceLaws.{BlocksAreApart, BlocksStandByTheirCells, ExchangedHasTheseCells, FarAfterOtherLevel, FarFromTheOtherLevel, FarWhereNoBlockBegins, FarWhereNoFrameBegins, NearestAreExchanged, OddChangesTakeTheBlock, SubframesAreBalanced};
+ghost use Rattle.aes3_lock.specs.FrameLaws.{BlocksAreAllLeft, ChangesTellAllBlocks, ChangesTellTheFrame};
+ghost use Rattle.aes3_lock.specs.LossLaws.{LossesChangeNoBlock, LossesGiveNoOther};
 ghost use Rattle.aes3_lock.specs.DamageLaws.{ChangeEndsCandidate, ChangeIsReported, ChangeLeavesTheOthers, ChangesLeaveTheOthers, ChangesMakeNoBlockElsewhere, ChangesTellTheBlock, FewChangesMakeNoBlock, InsertionLeavesTheOthers, LossLeavesTheOthers, SlipsAreNotBridged, TwoChangesLeaveTheOthers};
 
 /// Where no block of a lawful stream begins its cells differ from those of every block in 4 cells or more, and where no
@@ -37,6 +39,15 @@ pub fn changes_tell_the_block()
     ensures { ChangesTellTheBlock }
 {}
 
+/// Where any cells of a piece of a lawful stream change, a block stands closed at a frame exactly if the changed cells leave
+/// one there: those in which its preambles are not the stream's, and pairs between two slots. Where at most 383 change, no
+/// block stands anywhere else.
+pub fn changes_tell_all_blocks()
+    ensures frames { ChangesTellTheFrame }
+    ensures blocks { ChangesTellAllBlocks }
+    ensures given { BlocksAreAllLeft }
+{}
+
 /// A block that stands closed stands whatever happens to cells that are neither its own nor directly behind it.
 pub fn blocks_stand_by_their_cells()
     ensures { BlocksStandByTheirCells }
@@ -61,6 +72,13 @@ pub fn two_changed_cells()
 pub fn one_lost_cell()
     ensures blocks { LossLeavesTheOthers }
     ensures slips { SlipsAreNotBridged }
+{}
+
+/// Where two or three cells are lost, no block is changed: each that is given stood in the piece. A block behind the lost cells
+/// can be given even where one of its first cells is lost, if a cell before it takes that one's place.
+pub fn few_lost_cells()
+    ensures stood { LossesChangeNoBlock }
+    ensures blocks { LossesGiveNoOther }
 {}
 
 /// One cell put into a lawful stream that isn't cut takes the block between whose cells it stands, or that it doesn't close,
