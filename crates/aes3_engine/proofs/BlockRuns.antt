@@ -4,6 +4,7 @@ use Rattle.std.specs.List.{All, flat_map}
 use Rattle.std.proofs.Math.Seq.{take-nil, drop-nil}
 use Rattle.std.proofs.lemmas.Bool.{leb-true, leb-false, ltb-true, ltb-false}
 use Rattle.std.proofs.lemmas.List.{take-append-drop}
+use Rattle.std.specs.Prelude.{map}
 use Rattle.aes3_cell.specs.declared.refusal.RunError.{RunError}
 use Rattle.aes3_cell.specs.declared.level.Level.{Level}
 use Rattle.aes3_cell.specs.declared.level.Level.TheVariants.{Low}
@@ -23,6 +24,8 @@ use Rattle.aes3_block.specs.Blocks.{block_cells, stream, IsBlock}
 use Rattle.aes3_block.proofs.Streams.{EachBlock27, stream-bytes, stream-nil, length-stream, slot_count}
 use Rattle.aes3_lock.specs.Reports.{reports, decided, wholes, blocks, normal}
 use Rattle.aes3_lock.specs.Damage.{apart, without}
+use Rattle.aes3_lock.specs.FrameLaws.{AreAllLeft, AreClose}
+use Rattle.aes3_lock.specs.Laws.{PlacedBlock}
 use Rattle.aes3_lock.specs.Remains.{after_changes, after_loss}
 use Rattle.aes3_lock.specs.Pieces.{IsPiece, given_blocks, whole_blocks}
 use Rattle.aes3_lock.proofs.AllStanding.{wholes-append}
@@ -31,6 +34,7 @@ use Rattle.aes3_lock.proofs.DecidedStand.{decided-stand}
 use Rattle.aes3_lock.proofs.NormalStreams.{stream-blocks, blocks-lawful, normal-tells, normal-same, normal-fixed}
 use Rattle.aes3_lock.proofs.PieceBlocks.{blocks-whole}
 use Rattle.aes3_lock.proofs.Changes.{blocks-few-changed}
+use Rattle.aes3_lock.proofs.Frames.{blocks-left}
 use Rattle.aes3_lock.proofs.Lost.{blocks-lost}
 use Rattle.aes3_engine.specs.Running.{Change}
 use Rattle.aes3_engine.specs.Inputs.{cells_of}
@@ -208,6 +212,15 @@ pub run-damaged : {max : ℕ} {input : Form} {ended : Bool} {source sink : Chang
 run-damaged {input} form (Ok n) run = λ s bs i j c b t p l a.
     run-stream form (Ok n) run b (given_blocks (after_changes i c (cells_of input b)) bs i j) t (blocks-few-changed s bs i j c (cells_of input b) p l a)
 run-damaged form (Err e) run = tt
+
+pub run-left : {max : ℕ} {input : Form} {ended : Bool} {source sink : Change} (form : Form) (r : Result Counts RunError) → ReportRun max input (report_bytes (normal_block form)) (ending form) ended source sink r
+    → IfOk r (λ (n : Counts). (s : Level) (bs : List (List (List Bool))) (i j : ℕ) (c : List Level) (b : List ℕ) → Told source.old source.new b → IsPiece s bs i j c
+    → length (cells_of input b) ≡ length c → AreClose c (cells_of input b)
+    → (found : List PlacedBlock) × AreAllLeft found s bs i c (cells_of input b) × Grew sink.old sink.new (written_stream form (map (λ f. f.block) found)))
+run-left {input} form (Ok n) run = λ s bs i j c b t p l a.
+    let r = blocks-left s bs i j c (cells_of input b) p l a in
+    (r.0, r.1, run-stream form (Ok n) run b (map (λ f. f.block) r.0) t r.2)
+run-left form (Err e) run = tt
 
 pub run-lost : {max : ℕ} {input : Form} {ended : Bool} {source sink : Change} (form : Form) (r : Result Counts RunError) → ReportRun max input (report_bytes (normal_block form)) (ending form) ended source sink r
     → IfOk r (λ (n : Counts). (s : Level) (bs : List (List (List Bool))) (i j : ℕ) (c : List Level) (b : List ℕ) → Told source.old source.new b → IsPiece s bs i j c

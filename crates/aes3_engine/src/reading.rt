@@ -1,6 +1,6 @@
 //! Cells to blocks, written again as cells or as a block file.
 
-ghost use Rattle.std.specs.Prelude.{◌≡◌, ◌≢◌, ℕ, ◌+◌, ◌<◌, ◌≤◌, ◌^◌, ◌↔◌, ◌⊎◌, List, [], Bool, Err, length, take, IfOk, IfErr, IsOk, OnErr, IsTrue};
+ghost use Rattle.std.specs.Prelude.{◌≡◌, ◌≢◌, ℕ, ◌+◌, ◌<◌, ◌≤◌, ◌^◌, ◌↔◌, ◌⊎◌, List, [], Bool, Err, length, map, take, IfOk, IfErr, IsOk, OnErr, IsTrue};
 ghost use Rattle.std.specs.List.{All};
 ghost use Rattle.aes3_cell.specs.Ends.{Grew, GrewFront, Told};
 ghost use Rattle.aes3_cell.specs.Written.{ending, written};
@@ -9,6 +9,8 @@ ghost use Rattle.aes3_block.specs.Blocks.{IsBlock};
 ghost use Rattle.aes3_block.specs.Files.{file};
 ghost use Rattle.aes3_lock.specs.Reports.{blocks, normal};
 ghost use Rattle.aes3_lock.specs.Damage.{apart, without};
+ghost use Rattle.aes3_lock.specs.FrameLaws.{AreAllLeft, AreClose};
+ghost use Rattle.aes3_lock.specs.Laws.{PlacedBlock};
 ghost use Rattle.aes3_lock.specs.Remains.{after_changes, after_loss};
 ghost use Rattle.aes3_lock.specs.Pieces.{IsPiece, given_blocks, whole_blocks};
 ghost use Rattle.aes3_engine.specs.BlockRuns.{begun_stream, cut_block, cut_blocks, decided_blocks, file_block, normal_block, written_stream};
@@ -110,10 +112,16 @@ pub fn normalise<S: Source, T: Sink>(
     ensures piece { IfOk result (λ _. (s : Level) (bs : List (List (List Bool))) (i j : ℕ) (b : List ℕ) → Told (S.given source.old) (S.given source.new) b
         → IsPiece s bs i j (cells_of input b) → Grew (T.taken sink.old) (T.taken sink.new) (written_stream output (whole_blocks bs i j))) }
     // With up to three cells of the piece changed they are those blocks, each as the changed cells in it and directly behind it
-    // leave it; with one cell lost all but the one that held it.
+    // leave it.
     ensures damaged { IfOk result (λ _. (s : Level) (bs : List (List (List Bool))) (i j : ℕ) (c : List Level) (b : List ℕ) → Told (S.given source.old) (S.given source.new) b
         → IsPiece s bs i j c → length (cells_of input b) ≡ length c → apart c (cells_of input b) ≤ 3
         → Grew (T.taken sink.old) (T.taken sink.new) (written_stream output (given_blocks (after_changes i c (cells_of input b)) bs i j))) }
+    // With up to 383 they are all that these leave at the frames of the piece, in order of place.
+    ensures left { IfOk result (λ _. (s : Level) (bs : List (List (List Bool))) (i j : ℕ) (c : List Level) (b : List ℕ) → Told (S.given source.old) (S.given source.new) b
+        → IsPiece s bs i j c → length (cells_of input b) ≡ length c → AreClose c (cells_of input b)
+        → (found : List PlacedBlock) × AreAllLeft found s bs i c (cells_of input b)
+        × Grew (T.taken sink.old) (T.taken sink.new) (written_stream output (map (λ f. f.block) found))) }
+    // With one cell lost they are all but the block that held it.
     ensures lost { IfOk result (λ _. (s : Level) (bs : List (List (List Bool))) (i j : ℕ) (c : List Level) (b : List ℕ) → Told (S.given source.old) (S.given source.new) b
         → IsPiece s bs i j c → (k : ℕ) → k < length c → cells_of input b ≡ without k c
         → Grew (T.taken sink.old) (T.taken sink.new) (written_stream output (given_blocks (after_loss (i + k)) bs i j))) }

@@ -1,7 +1,7 @@
 use Rattle.aes3_cell.specs.Written.{written}
 use Rattle.aes3_lock.specs.Reports.{normal}
 use Rattle.aes3_engine.specs.BlockRuns.{begun_stream, decided_blocks}
-use Rattle.aes3_engine.proofs.BlockRuns.{normal-whole, normal-begun, run-piece, run-damaged, run-lost, tells, run-again}
+use Rattle.aes3_engine.proofs.BlockRuns.{normal-whole, normal-begun, run-piece, run-damaged, run-left, run-lost, tells, run-again}
 use Rattle.aes3_engine.proofs.CellRuns.{run-wrote, run-input, run-counts, run-fits, run-owed, run-cause, run-sink_quiet, run-refused, run-front, run-few}
 use Rattle.aes3_engine.proofs.reading.normalise.Goals as goal
 
@@ -13,6 +13,9 @@ returns-clause-piece g c = run-piece c.args.output c.run_blocks.result c.run_blo
 
 pub returns-clause-damaged : goal.returns-clause-damaged
 returns-clause-damaged g c = run-damaged c.args.output c.run_blocks.result c.run_blocks.ensures
+
+pub returns-clause-left : goal.returns-clause-left
+returns-clause-left g c = run-left c.args.output c.run_blocks.result c.run_blocks.ensures
 
 pub returns-clause-lost : goal.returns-clause-lost
 returns-clause-lost g c = run-lost c.args.output c.run_blocks.result c.run_blocks.ensures
