@@ -30,7 +30,6 @@ use Rattle.aes3_lock.proofs.Distances.{block-level, block_slots_384}
 use Rattle.aes3_lock.proofs.Exchanged.{Between}
 use Rattle.aes3_lock.proofs.FrameBlocks.{IsPreambleCell, has-preamble, from-block, own-alike, own-unlike}
 use Rattle.aes3_lock.proofs.OwnPlace.{equal-levels}
-use Rattle.aes3_lock.proofs.PieceBounds.{length-piece}
 use Rattle.aes3_lock.proofs.PlacesApart.{Has, places-has, has-places}
 
 module _ (s : Level) (bs : List (List (List Bool))) (i j : ℕ) (c e : List Level) (p : IsPiece s bs i j c) (same : length e ≡ length c)

@@ -1,20 +1,17 @@
 -- The blocks of a lawful stream into which a cell is put.
-use Rattle.std.proofs.Common.{◌≡◌, ◌≢◌, ℕ, zero, suc, ◌+◌, ◌-◌, ◌*◌, ◌/◌, ◌%◌, ◌<◌, ◌≤◌, ◌⊎◌, inl, inr, List, [], ◌∷◌, ◌++◌, Bool, ◌&&◌, ◌||◌, ◌==◌, cond, leb, ltb, refl, length, take, drop, ap, ap₂, ◌∙◌, sym, subst, arith, length-take-le, length-take, length-drop, get_or-take, get_or-drop, ext_get_or, le-leb, le-ltb, lt-ltb, eq-eqb, ne_eqb, lit<}
+use Rattle.std.proofs.Common.{◌≡◌, ℕ, suc, ◌+◌, ◌-◌, ◌%◌, ◌<◌, ◌≤◌, ◌⊎◌, inl, inr, List, [], ◌∷◌, ◌++◌, Bool, ◌&&◌, ◌||◌, ◌==◌, cond, leb, ltb, refl, length, take, drop, ap, ap₂, ◌∙◌, sym, subst, arith, length-take-le, length-take, length-drop, get_or-take, get_or-drop, ext_get_or, le-leb, le-ltb, lt-ltb, eq-eqb, ne_eqb}
 use Rattle.std.specs.List.{All}
 use Rattle.std.proofs.lemmas.Bool.{cases_eq, cases_lt, lt-leb}
 use Rattle.aes3_cell.specs.declared.level.Level.{Level}
-use Rattle.aes3_cell.specs.declared.level.Level.TheVariants.{Low, High}
+use Rattle.aes3_cell.specs.declared.level.Level.TheVariants.{Low}
 use Rattle.aes3_cell.specs.Cells.{other}
 use Rattle.aes3_cell.proofs.Runs.{other_ne}
-use Rattle.aes3_slot.specs.declared.mark.Mark.{Mark}
-use Rattle.aes3_slot.specs.declared.mark.Mark.TheVariants.{X, Y, Z}
 use Rattle.aes3_slot.specs.Reading.{differs}
-use Rattle.aes3_slot.specs.Rules.{at, before, shape}
-use Rattle.aes3_slot.proofs.Distance.{own-cell, stands-from}
-use Rattle.aes3_block.specs.Blocks.{mark_at, block_slots, block_len, block_cells, stream, IsBlock}
+use Rattle.aes3_slot.specs.Rules.{at}
+use Rattle.aes3_block.specs.Blocks.{block_len, block_cells, stream, IsBlock}
 use Rattle.aes3_block.proofs.FileLaws.{EachBlock, each-block}
-use Rattle.aes3_block.proofs.CellLaws.{length-block_cells, stream-cons}
-use Rattle.aes3_lock.specs.Damage.{inserted, apart}
+use Rattle.aes3_block.proofs.CellLaws.{length-block_cells}
+use Rattle.aes3_lock.specs.Damage.{inserted}
 use Rattle.aes3_lock.specs.Remains.{after_insertion}
 use Rattle.aes3_lock.specs.Pieces.{given_within, given_blocks}
 use Rattle.aes3_lock.specs.Reports.{reports_from, reports, wholes, blocks}
@@ -24,14 +21,13 @@ use Rattle.aes3_lock.proofs.Apart.{differs-true, differs-false, other-of}
 use Rattle.aes3_lock.proofs.Damaged.{own-stays}
 use Rattle.aes3_lock.proofs.DamageLaws.{stands-local}
 use Rattle.aes3_lock.proofs.Deciding.{block_len_24576}
-use Rattle.aes3_lock.proofs.Distances.{block-level, block-mark, block_slots_384, mark-first, mark-second, other-same}
+use Rattle.aes3_lock.proofs.Distances.{block-level, block_slots_384}
 use Rattle.aes3_lock.proofs.Given.{gather-given, gather-same}
-use Rattle.aes3_lock.proofs.LawfulPieces.{stream_marks, stream-kept, stream-length, stream-level, stream-aligned}
+use Rattle.aes3_lock.proofs.LawfulPieces.{stream-length}
 use Rattle.aes3_lock.proofs.Lost.{far}
 use Rattle.aes3_lock.proofs.OwnPlace.{equal-levels}
 use Rattle.aes3_lock.proofs.PlaceBlocks.{block_here, blocks-collect, here-none, here-some, here-any}
 use Rattle.aes3_lock.proofs.Places.{gather, collect-gather, gather-add}
-use Rattle.aes3_lock.proofs.StandingBlocks.{first-mark}
 use Rattle.aes3_lock.proofs.InsertedCells.{length-inserted, inserted-before, inserted-there, inserted-behind, drop-inserted, run-cell, last-cell, in-middle, in-last, begun, in-run, of-run, as-stream}
 
 module _ (s : Level) (bs : List (List (List Bool))) (h : EachBlock bs) (k : ℕ) (x : Level) (within : k ≤ length (stream s bs)) where

@@ -1,5 +1,5 @@
 -- Reports of cells that are cut in two.
-use Rattle.std.proofs.Common.{◌≡◌, ℕ, zero, suc, ◌+◌, ◌<◌, ◌≤◌, ◌⊎◌, inl, inr, List, [], ◌∷◌, ◌++◌, Option, Some, None, ltb, refl, length, take, drop, map, ap, ap₂, ◌∙◌, sym, arith, lt-ltb, le-ltb, append_assoc}
+use Rattle.std.proofs.Common.{◌≡◌, ℕ, zero, suc, ◌+◌, ◌<◌, ◌≤◌, ◌⊎◌, inl, inr, List, [], ◌∷◌, ◌++◌, Option, Some, None, refl, length, take, drop, map, ap, ap₂, ◌∙◌, sym, arith, lt-ltb, le-ltb, append_assoc}
 use Rattle.std.specs.List.{filter}
 use Rattle.std.proofs.lemmas.Bool.{cases_lt}
 use Rattle.std.proofs.lemmas.List.{map-append, take_all, take-append-drop, length-take-le}
@@ -9,9 +9,8 @@ use Rattle.aes3_slot.specs.declared.mark.Mark.TheVariants.{Z}
 use Rattle.aes3_slot.specs.Preambles.{entry}
 use Rattle.aes3_slot.proofs.Beginnings.{begins-append}
 use Rattle.aes3_block.specs.Blocks.{block_len}
-use Rattle.aes3_lock.specs.declared.report.Report.{Report}
 use Rattle.aes3_lock.specs.declared.report.Report.TheVariants.{Whole, Marked, Fault, Unfinished}
-use Rattle.aes3_lock.specs.Outcomes.{Outcome, whole, marked, fault, unfinished, outcome, why_of}
+use Rattle.aes3_lock.specs.Outcomes.{Outcome, whole, marked, fault, unfinished, why_of}
 use Rattle.aes3_lock.specs.Reports.{told, outcome_at, reports_from, reports}
 use Rattle.aes3_lock.specs.Splits.{begins_before, behind}
 use Rattle.aes3_lock.proofs.Fronts.{front-is}
