@@ -229,7 +229,7 @@ all_known = (
         reader_known (codes "check") refl,
         (
           reader_known (codes "show") refl,
-          (reader_known (codes "scan") refl, (cut_known, (rewrite_known, tt))),
+          (reader_known (codes "scan") refl, (cut_known, (rewrite_known, (reader_known (codes "to-pcm") refl, tt)))),
         ),
       ),
     ),

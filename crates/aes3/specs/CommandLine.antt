@@ -62,7 +62,8 @@ command_line = record {
     has_version = true;
   };
   subs = encode ∷ reader (codes "decode") ∷ normal ∷ reader (codes "check")
-      ∷ reader (codes "show") ∷ reader (codes "scan") ∷ cut ∷ rewrite ∷ [];
+      ∷ reader (codes "show") ∷ reader (codes "scan") ∷ cut ∷ rewrite
+      ∷ reader (codes "to-pcm") ∷ [];
 }
 
 -- a command by itself

@@ -108,6 +108,8 @@ AsksFor name options (job.Cut input output first count) =
 AsksFor name options (job.Rewrite input output change) =
     (name ≡ codes "rewrite") × (input ≡ form_by options (codes "packed-in"))
     × (output ≡ form_by options (codes "packed-out")) × IsChange options change
+AsksFor name options (job.ToPcm input) =
+    (name ≡ codes "to-pcm") × (input ≡ form_by options (codes "packed-in"))
 
 -- the definitions take the words, and the command that stands in them asks for the job
 abbrev pub IsJobOf : List Text → Job → Type 0

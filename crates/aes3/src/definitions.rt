@@ -124,5 +124,6 @@ pub fn command_line<'a>(alloc: Global) -> Result<Command<'a>, AllocError>
         .subcommand(reader(alloc, "show", help::SHOW)?)?
         .subcommand(reader(alloc, "scan", help::SCAN)?)?
         .subcommand(cut(alloc)?)?
-        .subcommand(rewrite(alloc)?)
+        .subcommand(rewrite(alloc)?)?
+        .subcommand(reader(alloc, "to-pcm", help::TO_PCM)?)
 }

@@ -98,6 +98,24 @@ Examples:
     aes3 encode --packed-out < speech.block | aes3 decode --packed-in | cmp - speech.block",
 };
 
+pub const TO_PCM: Texts<'static> = Texts {
+    about: "Write the samples of the whole blocks",
+    usage: "aes3 to-pcm [--packed-in] < CELLS > PCM",
+    more: "Reads cells, begun anywhere and in either polarity.
+Writes the samples of the whole blocks that stand in them: of each frame channel 1 and
+then channel 2, 4 bytes each, lowest first, the 24 bits of the sample in the highest
+ones (S32LE: `ffmpeg -f s32le`, `sox -t raw -e signed -b 32 -L`, ALSA's S32_LE). V, U
+and C are left out, as is what is cut or damaged, and nothing is told of it: `aes3
+check` tells it.
+
+Exit status: 0 done, also where no block was found; 3 refused: 1 a byte is no cell, 10
+packed cells end wrongly; or as for every command.
+
+Examples:
+    aes3 to-pcm < line.txt > line.s32
+    aes3 to-pcm < line.txt | sox -t raw -r 48000 -e signed -b 32 -c 2 -L - -b 24 line.wav",
+};
+
 pub const NORMAL: Texts<'static> = Texts {
     about: "Write the whole blocks again, in the normal polarity",
     usage: "aes3 normal [--packed-in] [--packed-out] < CELLS > CELLS",

@@ -86,6 +86,7 @@ fn job_of_command(name: &str, options: &ArgMatches<'_>) -> Result<Job, LineFault
         "check" => Ok(Job::Check { input }),
         "show" => Ok(Job::Show { input }),
         "scan" => Ok(Job::Scan { input }),
+        "to-pcm" => Ok(Job::ToPcm { input }),
         "cut" => Ok(Job::Cut {
             input,
             output,

@@ -93,7 +93,7 @@ fn rewrite(status1: Option<[u8; 24]>, status2: Option<[u8; 24]>, mend: bool) -> 
 
 #[test]
 fn commands_and_forms(rt: HostRuntime) {
-    let lines: [(&[&str], Job); 14] = [
+    let lines: [(&[&str], Job); 16] = [
         (&["encode"], Job::Encode { output: TEXT }),
         (&["encode", "--packed-out"], Job::Encode { output: PACKED }),
         (&["decode"], Job::Decode { input: TEXT }),
@@ -104,6 +104,8 @@ fn commands_and_forms(rt: HostRuntime) {
         (&["show", "--packed-in"], Job::Show { input: PACKED }),
         (&["scan"], Job::Scan { input: TEXT }),
         (&["scan", "--packed-in"], Job::Scan { input: PACKED }),
+        (&["to-pcm"], Job::ToPcm { input: TEXT }),
+        (&["to-pcm", "--packed-in"], Job::ToPcm { input: PACKED }),
         (
             &["normal"],
             Job::Normal {
@@ -316,7 +318,7 @@ fn refused_words(rt: HostRuntime) {
 
 #[test]
 fn help_and_version(rt: HostRuntime) {
-    let lines: [(&[&str], Told); 14] = [
+    let lines: [(&[&str], Told); 15] = [
         (&["--version"], Told::Help),
         (&["-V"], Told::Help),
         (&["--help"], Told::Help),
@@ -331,6 +333,7 @@ fn help_and_version(rt: HostRuntime) {
         (&["cut", "--help"], Told::Help),
         (&["cut", "1", "--help"], Told::Help),
         (&["rewrite", "--help"], Told::Help),
+        (&["to-pcm", "--help"], Told::Help),
     ];
     expect_faults(&rt, rt.alloc(), &lines);
 }
@@ -386,6 +389,7 @@ fn texts_of_faults(rt: HostRuntime) {
             "\n  scan ",
             "\n  cut ",
             "\n  rewrite ",
+            "\n  to-pcm ",
         ],
     );
     expect_text(

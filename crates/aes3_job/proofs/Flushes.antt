@@ -6,7 +6,7 @@ use Rattle.aes3_cell.specs.declared.refusal.RunError.TheVariants.{Read, Write}
 use Rattle.aes3_cell.proofs.Growing.{front-all}
 use Rattle.aes3_engine.specs.Running.{Change, Quiet, Failed}
 use Rattle.aes3_job.specs.declared.job.Job.{Job}
-use Rattle.aes3_job.specs.declared.job.Job.TheVariants.{Encode, Decode, Normal, Check, Show, Scan, Cut, Rewrite}
+use Rattle.aes3_job.specs.declared.job.Job.TheVariants.{Encode, Decode, Normal, Check, Show, Scan, Cut, Rewrite, ToPcm}
 use Rattle.aes3_job.specs.JobRuns.{Flushed, IsCauseFor, IsInputOf, IsWhole, JobRefused, begun_of, most, output_of}
 use Rattle.aes3_job.specs.Lines.{refusal_line}
 
@@ -37,6 +37,7 @@ write-cause (Show i) b ended l = l
 write-cause (Scan i) b ended l = l
 write-cause (Cut i o from count) b ended l = l
 write-cause (Rewrite i o change) b ended l = l
+write-cause (ToPcm i) b ended l = l
 
 whole-is : (job : Job) (b : List ℕ) (ended : Bool) → IsInputOf job b → length b ≤ most → IsTrue ended → IsWhole job b ended
 whole-is (Encode o) b ended i l e = record { lawful = i; short = l; end = e }
@@ -47,6 +48,7 @@ whole-is (Show f) b ended i l e = record { input = i; short = l; end = e }
 whole-is (Scan f) b ended i l e = record { input = i; short = l; end = e }
 whole-is (Cut f o from count) b ended i l e = record { input = i; short = l; end = e }
 whole-is (Rewrite f o change) b ended i l e = record { input = i; short = l; end = e }
+whole-is (ToPcm f) b ended i l e = record { input = i; short = l; end = e }
 
 -- a refusal behind which the sink did not fail
 kept : (job : Job) (ended : Bool) (source : Change) (t₀ t₁ t₂ : Option (List ℕ)) (f₀ f₁ f₂ : ℕ) (errors : Change) (status : ℕ) (x : RunError)

@@ -8,6 +8,7 @@ use Rattle.aes3_cell.specs.Ends.{Grew, GrewFront, Told}
 use Rattle.aes3_cell.specs.Written.{written}
 use Rattle.aes3_block.specs.Blocks.{stream}
 use Rattle.aes3_block.specs.Files.{file, whole_blocks, IsBlockFile}
+use Rattle.aes3_block.specs.Samples.{samples}
 use Rattle.aes3_lock.specs.Preambles.{marks}
 use Rattle.aes3_lock.specs.Reports.{blocks, decided, normal, reports}
 use Rattle.aes3_engine.specs.Running.{Change, Quiet, Failed}
@@ -20,7 +21,7 @@ use Rattle.aes3_engine.specs.BlockRuns.{begun_stream, written_stream, cut_blocks
 use Rattle.aes3_engine.specs.Rewriting.{rewritten_blocks}
 use Rattle.aes3_text.specs.Runs.{mark_lines, report_lines, scan_counts, status_lines}
 use Rattle.aes3_job.specs.declared.job.Job.{Job}
-use Rattle.aes3_job.specs.declared.job.Job.TheVariants.{Encode, Decode, Normal, Check, Show, Scan, Cut, Rewrite}
+use Rattle.aes3_job.specs.declared.job.Job.TheVariants.{Encode, Decode, Normal, Check, Show, Scan, Cut, Rewrite, ToPcm}
 use Rattle.aes3_job.specs.Lines.{refusal_line}
 
 -- how many bytes an input may have
@@ -37,6 +38,7 @@ IsInputOf (Show i) b = IsInput i b
 IsInputOf (Scan i) b = IsInput i b
 IsInputOf (Cut i o from count) b = IsInput i b
 IsInputOf (Rewrite i o change) b = IsInput i b
+IsInputOf (ToPcm i) b = IsInput i b
 
 -- what it writes of a whole input
 abbrev pub output_of : Job → List ℕ → List ℕ
@@ -48,6 +50,7 @@ output_of (Show i) b = status_lines (blocks (cells_of i b))
 output_of (Scan i) b = mark_lines (marks (cells_of i b))
 output_of (Cut i o from count) b = written_stream o (cut_blocks from count (blocks (cells_of i b)))
 output_of (Rewrite i o change) b = written_stream o (rewritten_blocks change (blocks (cells_of i b)))
+output_of (ToPcm i) b = samples (blocks (cells_of i b))
 
 -- what it has written where it is refused behind these bytes
 abbrev pub begun_of : Job → List ℕ → List ℕ
@@ -59,6 +62,7 @@ begun_of (Show i) b = status_lines (decided_blocks (cells_before i b))
 begun_of (Scan i) b = mark_lines (marks (cells_before i b))
 begun_of (Cut i o from count) b = begun_stream o (cut_blocks from count (decided_blocks (cells_before i b)))
 begun_of (Rewrite i o change) b = begun_stream o (rewritten_blocks change (decided_blocks (cells_before i b)))
+begun_of (ToPcm i) b = samples (decided_blocks (cells_before i b))
 
 -- the source has ended behind an input of the job
 abbrev pub IsWhole : Job → List ℕ → Bool → Type 0
@@ -70,6 +74,7 @@ IsWhole (Show i) b ended = WholeInput most i b ended
 IsWhole (Scan i) b ended = WholeInput most i b ended
 IsWhole (Cut i o from count) b ended = WholeInput most i b ended
 IsWhole (Rewrite i o change) b ended = WholeInput most i b ended
+IsWhole (ToPcm i) b ended = WholeInput most i b ended
 
 -- what it counts
 abbrev pub counts_for : Job → List ℕ → Counts
@@ -81,6 +86,7 @@ counts_for (Show i) b = counts_of i b
 counts_for (Scan i) b = scan_counts i b
 counts_for (Cut i o from count) b = counts_of i b
 counts_for (Rewrite i o change) b = counts_of i b
+counts_for (ToPcm i) b = counts_of i b
 
 -- why it is refused behind these bytes
 abbrev pub IsCauseFor : Job → List ℕ → Bool → RunError → Type 0
@@ -92,6 +98,7 @@ IsCauseFor (Show i) b ended e = IsCause i most b ended e
 IsCauseFor (Scan i) b ended e = IsCause i most b ended e
 IsCauseFor (Cut i o from count) b ended e = IsCause i most b ended e
 IsCauseFor (Rewrite i o change) b ended e = IsCause i most b ended e
+IsCauseFor (ToPcm i) b ended e = IsCause i most b ended e
 
 -- its exit status: 1 where `check` finds faults, else 0
 abbrev pub status_by : Job → Counts → ℕ
@@ -103,6 +110,7 @@ status_by (Show i) n = 0
 status_by (Scan i) n = 0
 status_by (Cut i o from count) n = 0
 status_by (Rewrite i o change) n = 0
+status_by (ToPcm i) n = 0
 
 -- a job that ended well: no end failed; the input, the output and the exit status; nothing is told among the errors
 pub record JobDone (job : Job) (ended : Bool) (source sink errors : Change) (status : ℕ) : Type 0 where

@@ -44,4 +44,8 @@ pub enum Job {
         output: Form,
         change: Change,
     },
+    /// Cells to the samples of their blocks.
+    ToPcm {
+        input: Form,
+    },
 }

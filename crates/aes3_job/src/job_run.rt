@@ -6,7 +6,7 @@ ghost use Rattle.aes3_job.specs.JobRuns.{IsCauseFor, IsInputOf, IsWhole, begun_o
 
 use crate::job::Job;
 use aes3_cell::{Counts, RunError, Sink, Source};
-use aes3_engine::{cut, decode, encode, normalise, rewrite};
+use aes3_engine::{cut, decode, encode, normalise, rewrite, to_pcm};
 use aes3_text::{check, scan, show};
 
 /// How many bytes an input may have.
@@ -76,5 +76,6 @@ pub fn run_job<S: Source, T: Sink>(
             output,
             change,
         } => rewrite(source, sink, MAX_BYTES, input, output, &change),
+        Job::ToPcm { input } => to_pcm(source, sink, MAX_BYTES, input),
     }
 }

@@ -447,12 +447,16 @@ fn blocks_of_cells(rt: HostRuntime) -> Result<(), Fail> {
     let one = of.file.get(..1_536).unwrap_or(&[]);
     let text = Job::Decode { input: TEXT };
     let packed = Job::Decode { input: PACKED };
+    // The samples of the zero block are zeros, as its file is.
+    let samples = Job::ToPcm { input: TEXT };
     let first = |read| first_block(read, 1_536);
     let rows = [
         in_buffers(text, &of.two, &of.file, first(24_961), 1_536),
         in_buffers(text, &of.early, one, Early::Nothing, 1_536),
         in_buffers(text, &of.other, one, Early::Nothing, 1_536),
         in_buffers(packed, &of.packed, &of.file, first(3_075), 1_536),
+        in_buffers(samples, &of.early, one, Early::Nothing, 1_536),
+        in_buffers(samples, &of.two, &of.file, first(24_961), 1_536),
     ];
     expect_rows(&rt, rt.alloc(), &rows);
     Ok(())

@@ -34,4 +34,5 @@ returns c =
     let five = with_command _ _ _ _ _ c.in_ok-subcommand-5.ensures four c.in_ok-reader-3.ensures in
     let six = with_command _ _ _ _ _ c.in_ok-subcommand-6.ensures five c.in_ok-reader-4.ensures in
     let seven = with_command _ _ _ _ _ c.in_ok-subcommand-7.ensures six c.in_ok-cut.ensures in
-    IfOk-weaker c.subcommand-8.result _ _ (λ new added. with_command _ _ _ _ _ added seven c.in_ok-rewrite.ensures) c.subcommand-8.ensures
+    let eight = with_command _ _ _ _ _ c.in_ok-subcommand-8.ensures seven c.in_ok-rewrite.ensures in
+    IfOk-weaker c.subcommand-9.result _ _ (λ new added. with_command _ _ _ _ _ added eight c.in_ok-reader-5.ensures) c.subcommand-9.ensures

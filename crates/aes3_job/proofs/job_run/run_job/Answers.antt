@@ -1,8 +1,8 @@
-use Rattle.std.proofs.Common.{◌≢◌, ℕ, List, take, Err, OnErr, sym, subst}
+use Rattle.std.proofs.Common.{◌≢◌, ℕ, List, take, Err, IfOk, OnErr, sym, subst}
 use Rattle.aes3_cell.specs.declared.refusal.RunError.TheVariants.{Write}
 use Rattle.aes3_cell.specs.Ends.{Grew, Told}
 use Rattle.aes3_job.specs.declared.job.Job.{Job}
-use Rattle.aes3_job.specs.JobRuns.{begun_of, most}
+use Rattle.aes3_job.specs.JobRuns.{begun_of, most, output_of}
 use Rattle.aes3_job.proofs.job_run.run_job.Goals as goal
 
 pub returns-in-Encode-clause-refused : goal.returns-in-Encode-clause-refused
@@ -60,3 +60,17 @@ returns-in-Rewrite-clause-refused g c =
     (λ (j : Job). OnErr c.rewrite.result (c.rewrite.result ≢ Err Write → (b : List ℕ) → Told (g.S.Source.given c.args.source.now) (g.S.Source.given c.rewrite.new.source) b
     → Grew (g.T.Sink.taken c.args.sink.now) (g.T.Sink.taken c.rewrite.new.sink) (begun_of j (take most b))))
     (sym c.in-Rewrite.is) c.rewrite.ensures.refused
+
+pub returns-in-ToPcm-clause-refused : goal.returns-in-ToPcm-clause-refused
+returns-in-ToPcm-clause-refused g c =
+    subst
+    (λ (j : Job). OnErr c.to_pcm.result (c.to_pcm.result ≢ Err Write → (b : List ℕ) → Told (g.S.Source.given c.args.source.now) (g.S.Source.given c.to_pcm.new.source) b
+    → Grew (g.T.Sink.taken c.args.sink.now) (g.T.Sink.taken c.to_pcm.new.sink) (begun_of j (take most b))))
+    (sym c.in-ToPcm.is) c.to_pcm.ensures.refused
+
+pub returns-in-ToPcm-clause-output : goal.returns-in-ToPcm-clause-output
+returns-in-ToPcm-clause-output g c =
+    subst
+    (λ (j : Job). IfOk c.to_pcm.result (λ _. (b : List ℕ) → Told (g.S.Source.given c.args.source.now) (g.S.Source.given c.to_pcm.new.source) b
+    → Grew (g.T.Sink.taken c.args.sink.now) (g.T.Sink.taken c.to_pcm.new.sink) (output_of j b)))
+    (sym c.in-ToPcm.is) c.to_pcm.ensures.samples
