@@ -14,7 +14,7 @@ _aes3() {
         encode) COMPREPLY=($(compgen -W "--packed-out --help" -- "$word")) ;;
         decode) COMPREPLY=($(compgen -W "--packed-in --help" -- "$word")) ;;
         normal) COMPREPLY=($(compgen -W "--packed-in --packed-out --help" -- "$word")) ;;
-        check) COMPREPLY=($(compgen -W "--packed-in --help" -- "$word")) ;;
+        check) COMPREPLY=($(compgen -W "--packed-in --faults --gaps --help" -- "$word")) ;;
         show) COMPREPLY=($(compgen -W "--packed-in --help" -- "$word")) ;;
         scan) COMPREPLY=($(compgen -W "--packed-in --help" -- "$word")) ;;
         cut) COMPREPLY=($(compgen -W "--packed-in --packed-out --help" -- "$word")) ;;

@@ -18,6 +18,8 @@ complete -c aes3 -n '__fish_seen_subcommand_from normal' -l packed-in -d 'Read p
 complete -c aes3 -n '__fish_seen_subcommand_from normal' -l packed-out -d 'Write packed cells, eight an octet'
 complete -c aes3 -n '__fish_seen_subcommand_from normal' -l help -s h -d 'Print help'
 complete -c aes3 -n '__fish_seen_subcommand_from check' -l packed-in -d 'Read packed cells, eight an octet'
+complete -c aes3 -n '__fish_seen_subcommand_from check' -l faults -d 'Leave the whole blocks out'
+complete -c aes3 -n '__fish_seen_subcommand_from check' -l gaps -d 'Tell and count cells in no whole block'
 complete -c aes3 -n '__fish_seen_subcommand_from check' -l help -s h -d 'Print help'
 complete -c aes3 -n '__fish_seen_subcommand_from show' -l packed-in -d 'Read packed cells, eight an octet'
 complete -c aes3 -n '__fish_seen_subcommand_from show' -l help -s h -d 'Print help'

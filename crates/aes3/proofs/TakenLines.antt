@@ -16,7 +16,7 @@ use Rattle.clap.specs.Simple.{App, Shape, argument_words, built, built_leaf, ent
 use Rattle.clap.specs.Walk.{Row, Rule, Text, answers_to, arg_by_id, nothing_held, one_of, reading_by, row_text, rows_after, stop_after}
 use Rattle.clap.specs.declared.builder.value_parser.ValueParser.{ValueParser}
 use Rattle.clap.specs.declared.builder.value_parser.ValueParser.TheVariants as vp
-use Rattle.aes3.specs.CommandLine.{command_line, cut, encode, normal, reader, rewrite}
+use Rattle.aes3.specs.CommandLine.{check, command_line, cut, encode, normal, reader, rewrite}
 use Rattle.aes3.specs.Jobs.{IsNumber, MayBeFlag, Options, StandsIn, number_in}
 use Rattle.aes3.proofs.LineWalks.{level_checked, level_fits}
 use Rattle.aes3.proofs.OptionRows.{FitAll, Fits, SoundAll, flag_sound, help_sound, or_nil, some_inj, value_sound}
@@ -132,6 +132,8 @@ pub record IsKnown (s : Shape) : Type 0 where
   pub packed_in : FlagOrNone (arg_by_id s.rules (codes "packed-in"))
   pub packed_out : FlagOrNone (arg_by_id s.rules (codes "packed-out"))
   pub mend_check : FlagOrNone (arg_by_id s.rules (codes "mend-check"))
+  pub faults : FlagOrNone (arg_by_id s.rules (codes "faults"))
+  pub gaps : FlagOrNone (arg_by_id s.rules (codes "gaps"))
   pub numbers : (rows : List Row) → s.name ≡ codes "cut" → FitAll s.rules rows → check_fault s rows false ≡ [] → Numbers rows
 
 abbrev KnownAll : List Shape → Type 0
@@ -160,6 +162,8 @@ encode_known = record {
   packed_in = tt;
   packed_out = refl;
   mend_check = tt;
+  faults = tt;
+  gaps = tt;
   numbers = λ rows name fit passed. other_name (codes "encode") refl name;
 }
 
@@ -169,7 +173,23 @@ reader_known name differs = record {
   packed_in = refl;
   packed_out = tt;
   mend_check = tt;
+  faults = tt;
+  gaps = tt;
   numbers = λ rows same fit passed. other_name name differs same;
+}
+
+check_known : IsKnown (leaf check)
+check_known = record {
+  sound = (
+    flag_sound _ _ (codes "true") refl refl refl refl,
+    (flag_sound _ _ (codes "true") refl refl refl refl, (flag_sound _ _ (codes "true") refl refl refl refl, (help_sound _ _ refl refl, tt))),
+  );
+  packed_in = refl;
+  packed_out = tt;
+  mend_check = tt;
+  faults = refl;
+  gaps = refl;
+  numbers = λ rows name fit passed. other_name (codes "check") refl name;
 }
 
 normal_known : IsKnown (leaf normal)
@@ -178,6 +198,8 @@ normal_known = record {
   packed_in = refl;
   packed_out = refl;
   mend_check = tt;
+  faults = tt;
+  gaps = tt;
   numbers = λ rows name fit passed. other_name (codes "normal") refl name;
 }
 
@@ -190,6 +212,8 @@ cut_known = record {
   packed_in = refl;
   packed_out = refl;
   mend_check = tt;
+  faults = tt;
+  gaps = tt;
   numbers = λ rows name fit passed.
       let given = both_given (is_given (codes "FROM") rows) (is_given (codes "COUNT") rows) (nothing_wanted false false _ passed) in (
         number_reads (leaf cut).rules rows (codes "FROM") _ fit refl refl given.0,
@@ -215,6 +239,8 @@ rewrite_known = record {
   packed_in = refl;
   packed_out = refl;
   mend_check = refl;
+  faults = tt;
+  gaps = tt;
   numbers = λ rows name fit passed. other_name (codes "rewrite") refl name;
 }
 
@@ -226,7 +252,7 @@ all_known = (
     (
       normal_known,
       (
-        reader_known (codes "check") refl,
+        check_known,
         (
           reader_known (codes "show") refl,
           (reader_known (codes "scan") refl, (cut_known, (rewrite_known, (reader_known (codes "to-pcm") refl, tt)))),
@@ -275,6 +301,7 @@ entered_command a words name options none stands =
 -- the flags read as flags
 pub flags_stand : (words : List Text) (name : Text) (options : Options) → StandsIn words name options
     → MayBeFlag options (codes "packed-in") × MayBeFlag options (codes "packed-out") × MayBeFlag options (codes "mend-check")
+    × MayBeFlag options (codes "faults") × MayBeFlag options (codes "gaps")
 flags_stand words name options stands =
     let e = entered_command command_line words name options stands.0 stands.1 in
     let known = found_known (built command_line).subs e.by e.found all_known e.is_found in
@@ -282,6 +309,8 @@ flags_stand words name options stands =
       flag_reads e.found.rules options (codes "packed-in") _ fit refl known.packed_in,
       flag_reads e.found.rules options (codes "packed-out") _ fit refl known.packed_out,
       flag_reads e.found.rules options (codes "mend-check") _ fit refl known.mend_check,
+      flag_reads e.found.rules options (codes "faults") _ fit refl known.faults,
+      flag_reads e.found.rules options (codes "gaps") _ fit refl known.gaps,
     )
 
 -- `cut` has its numbers

@@ -39,6 +39,9 @@ encode = command (codes "encode") (packed_out ∷ [])
 abbrev pub reader : Text → Shape
 reader name = command name (packed_in ∷ [])
 
+abbrev pub check : Shape
+check = command (codes "check") (packed_in ∷ flag (codes "faults") ∷ flag (codes "gaps") ∷ [])
+
 abbrev pub normal : Shape
 normal = command (codes "normal") (packed_in ∷ packed_out ∷ [])
 
@@ -61,7 +64,7 @@ command_line = record {
     subcommand_required = true;
     has_version = true;
   };
-  subs = encode ∷ reader (codes "decode") ∷ normal ∷ reader (codes "check")
+  subs = encode ∷ reader (codes "decode") ∷ normal ∷ check
       ∷ reader (codes "show") ∷ reader (codes "scan") ∷ cut ∷ rewrite
       ∷ reader (codes "to-pcm") ∷ [];
 }

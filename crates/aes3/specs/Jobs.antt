@@ -17,6 +17,8 @@ use Rattle.aes3_cell.specs.declared.form.Form.{Form}
 use Rattle.aes3_cell.specs.declared.form.Form.TheVariants as form
 use Rattle.aes3_cell.specs.declared.refusal.RunError.TheVariants.{BadStatusText, Memory}
 use Rattle.aes3_engine.specs.declared.change.Change.{Change}
+use Rattle.aes3_text.specs.declared.lines.Lines.{Lines}
+use Rattle.aes3_text.specs.declared.lines.Lines.TheVariants as lines
 use Rattle.aes3.specs.CommandLine.{command_line}
 use Rattle.aes3.specs.StatusTexts.{status_of}
 use Rattle.aes3_job.specs.declared.job.Job.{Job}
@@ -62,6 +64,10 @@ is_set options name =
 abbrev pub form_by : Options → Text → Form
 form_by options name = if is_set options name then form.Packed else form.Text
 
+-- which reports get a line
+abbrev pub lines_by : Options → Lines
+lines_by options = if is_set options (codes "faults") then lines.Faults else lines.All
+
 -- the number from 0 to 2^64 - 1 that the text writes, a plus before it or none
 abbrev pub number_in : Text → Option ℕ
 number_in text = if is_unsigned_in 0 18446744073709551615 text
@@ -95,8 +101,12 @@ AsksFor name options (job.Decode input) =
 AsksFor name options (job.Normal input output) =
     (name ≡ codes "normal") × (input ≡ form_by options (codes "packed-in"))
     × (output ≡ form_by options (codes "packed-out"))
-AsksFor name options (job.Check input) =
+AsksFor name options (job.Check input told) =
     (name ≡ codes "check") × (input ≡ form_by options (codes "packed-in"))
+    × (told ≡ lines_by options) × (is_set options (codes "gaps") ≡ false)
+AsksFor name options (job.Account input told) =
+    (name ≡ codes "check") × (input ≡ form_by options (codes "packed-in"))
+    × (told ≡ lines_by options) × (is_set options (codes "gaps") ≡ true)
 AsksFor name options (job.Show input) =
     (name ≡ codes "show") × (input ≡ form_by options (codes "packed-in"))
 AsksFor name options (job.Scan input) =

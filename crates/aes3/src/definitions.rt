@@ -2,7 +2,7 @@
 
 ghost use Rattle.std.specs.Prelude.{IfOk};
 ghost use Rattle.clap.specs.Simple.{new_app};
-ghost use Rattle.aes3.specs.CommandLine.{IsDefinedAs, IsOption, app_with, command_line, cut, encode, flag, normal, number};
+ghost use Rattle.aes3.specs.CommandLine.{IsDefinedAs, IsOption, app_with, check, command_line, cut, encode, flag, normal, number};
 ghost use Rattle.aes3.specs.CommandLine.{packed_in, packed_out, reader, rewrite, text_option};
 
 use crate::help::{self, Texts};
@@ -74,6 +74,15 @@ fn reader<'a>(alloc: Global, name: &'a str, texts: Texts<'a>) -> Result<Command<
     command(alloc, name, texts).arg(packed_in(alloc))
 }
 
+fn check<'a>(alloc: Global) -> Result<Command<'a>, AllocError>
+    ensures { IfOk result (IsDefinedAs (app_with check)) }
+{
+    command(alloc, "check", help::CHECK)
+        .arg(packed_in(alloc))?
+        .arg(flag(alloc, "faults", "Leave the whole blocks out"))?
+        .arg(flag(alloc, "gaps", "Tell and count cells in no whole block"))
+}
+
 fn normal<'a>(alloc: Global) -> Result<Command<'a>, AllocError>
     ensures { IfOk result (IsDefinedAs (app_with normal)) }
 {
@@ -120,7 +129,7 @@ pub fn command_line<'a>(alloc: Global) -> Result<Command<'a>, AllocError>
         .subcommand(encode(alloc)?)?
         .subcommand(reader(alloc, "decode", help::DECODE)?)?
         .subcommand(normal(alloc)?)?
-        .subcommand(reader(alloc, "check", help::CHECK)?)?
+        .subcommand(check(alloc)?)?
         .subcommand(reader(alloc, "show", help::SHOW)?)?
         .subcommand(reader(alloc, "scan", help::SCAN)?)?
         .subcommand(cut(alloc)?)?

@@ -134,7 +134,7 @@ Examples:
 
 pub const CHECK: Texts<'static> = Texts {
     about: "Print each whole block and each fault",
-    usage: "aes3 check [--packed-in] < FILE",
+    usage: "aes3 check [--packed-in] [--faults] [--gaps] < FILE",
     more: "Reads cells, begun anywhere and in either polarity.
 Writes a line for each place where a block's first preamble stands. P and C number the
 cells of the input from 0; L is the level before P, 0 or 1.
@@ -144,10 +144,17 @@ cells of the input from 0; L is the level before P, 0 or 1.
   fault at P cell C biphase     cell C does not begin its time slot with a change
   fault at P cell C unclosed    cell C, behind the block, does not end its last run
   unfinished at P cells N       the input ends after N cells of a block, without fault
-A block whose first preamble is damaged gets no line, nor do cells outside of blocks.
+A block whose first preamble is damaged gets no line, nor do cells outside of blocks:
+--gaps tells them. With --faults the `whole` lines are left out. With --gaps each cell
+lies in a `whole` block or in one gap:
+  gap at P cells N              N cells from cell P on, 24,576 at most, are in no whole block
+The line stands behind those of the places in the gap. It comes once a line behind it is
+due, or two blocks' cells have come from P on: so a line without signal is told as it is.
+A gap of 24,576 cells counts as a fault, and so does each gap between two whole blocks. A
+shorter one before the first or behind the last is where the input is cut, and does not.
 
-Exit status: 0 no fault; 1 there are `marked` or `fault` lines; 3 refused: 1 a byte is
-no cell, 10 packed cells end wrongly; or as for every command.
+Exit status: 0 no fault; 1 there are `marked` or `fault` lines, or gaps that count; 3
+refused: 1 a byte is no cell, 10 packed cells end wrongly; or as for every command.
 
 Examples:
     aes3 check < line.txt | sed -n 1,3p

@@ -4,7 +4,7 @@ ghost use Rattle.std.specs.Prelude.{◌≡◌, ◌≢◌, ℕ, List, codes, IfOk
 ghost use Rattle.clap.specs.Values.{kind_of};
 ghost use Rattle.clap.specs.Walk.{first_of};
 ghost use Rattle.aes3.specs.Jobs.{AsksFor, HasStatus, IsBadStatus, IsBadStatusOf, IsChange, IsFaultOf, IsJobOf, IsNumber};
-ghost use Rattle.aes3.specs.Jobs.{IsStatus, MayBeFlag, StandsIn, Tells, form_by, is_set, options_of};
+ghost use Rattle.aes3.specs.Jobs.{IsStatus, MayBeFlag, StandsIn, Tells, form_by, is_set, lines_by, options_of};
 ghost use Rattle.aes3.specs.declared.job.LineFault.TheVariants.{Refused};
 ghost use Rattle.aes3_cell.specs.declared.refusal.RunError.TheVariants.{BadStatusText, Memory};
 
@@ -13,6 +13,7 @@ use crate::status_text::status_of_text;
 use aes3_cell::{Form, RunError};
 use aes3_engine::Change;
 use aes3_job::Job;
+use aes3_text::Lines;
 use clap::error::ErrorKind;
 use clap::{ArgMatches, Error};
 use std::alloc::{AllocError, Global};
@@ -83,7 +84,7 @@ fn job_of_command(name: &str, options: &ArgMatches<'_>) -> Result<Job, LineFault
         "encode" => Ok(Job::Encode { output }),
         "decode" => Ok(Job::Decode { input }),
         "normal" => Ok(Job::Normal { input, output }),
-        "check" => Ok(Job::Check { input }),
+        "check" => Ok(check(options, input)),
         "show" => Ok(Job::Show { input }),
         "scan" => Ok(Job::Scan { input }),
         "to-pcm" => Ok(Job::ToPcm { input }),
@@ -111,6 +112,33 @@ fn form(options: &ArgMatches<'_>, flag: &str) -> Form
         Form::Packed
     } else {
         Form::Text
+    }
+}
+
+/// Which reports get a line.
+fn lines(options: &ArgMatches<'_>) -> Lines
+    requires { MayBeFlag (options_of options.now) (codes "faults") }
+    ensures { result ≡ lines_by (options_of options.now) }
+{
+    if options.get_flag("faults") {
+        Lines::Faults
+    } else {
+        Lines::All
+    }
+}
+
+/// The job of `check` with its options.
+fn check(options: &ArgMatches<'_>, input: Form) -> Job
+    requires faults { MayBeFlag (options_of options.now) (codes "faults") }
+    requires gaps { MayBeFlag (options_of options.now) (codes "gaps") }
+    requires form { input ≡ form_by (options_of options.now) (codes "packed-in") }
+    ensures { AsksFor (codes "check") (options_of options.now) result }
+{
+    let lines = lines(options);
+    if options.get_flag("gaps") {
+        Job::Account { input, lines }
+    } else {
+        Job::Check { input, lines }
     }
 }
 

@@ -4,6 +4,7 @@ use crate::job::{Job, LineFault, job_of_words};
 use crate::status_text::status_of_text;
 use aes3_cell::{Form, RunError};
 use aes3_engine::Change;
+use aes3_text::Lines;
 use std::alloc::Global;
 use std::process::Abort;
 use std::test::Fail;
@@ -91,15 +92,34 @@ fn rewrite(status1: Option<[u8; 24]>, status2: Option<[u8; 24]>, mend: bool) -> 
     }
 }
 
+fn check(input: Form, lines: Lines) -> Job {
+    Job::Check { input, lines }
+}
+
 #[test]
 fn commands_and_forms(rt: HostRuntime) {
-    let lines: [(&[&str], Job); 16] = [
+    let lines: [(&[&str], Job); 19] = [
         (&["encode"], Job::Encode { output: TEXT }),
         (&["encode", "--packed-out"], Job::Encode { output: PACKED }),
         (&["decode"], Job::Decode { input: TEXT }),
         (&["decode", "--packed-in"], Job::Decode { input: PACKED }),
-        (&["check"], Job::Check { input: TEXT }),
-        (&["check", "--packed-in"], Job::Check { input: PACKED }),
+        (&["check"], check(TEXT, Lines::All)),
+        (&["check", "--packed-in"], check(PACKED, Lines::All)),
+        (&["check", "--faults"], check(TEXT, Lines::Faults)),
+        (
+            &["check", "--gaps"],
+            Job::Account {
+                input: TEXT,
+                lines: Lines::All,
+            },
+        ),
+        (
+            &["check", "--gaps", "--packed-in", "--faults"],
+            Job::Account {
+                input: PACKED,
+                lines: Lines::Faults,
+            },
+        ),
         (&["show"], Job::Show { input: TEXT }),
         (&["show", "--packed-in"], Job::Show { input: PACKED }),
         (&["scan"], Job::Scan { input: TEXT }),
@@ -372,7 +392,10 @@ fn texts_of_faults(rt: HostRuntime) {
         &rt,
         rt.alloc(),
         &["check", "line.txt"],
-        &["'line.txt'", "aes3 check [--packed-in] < FILE"],
+        &[
+            "'line.txt'",
+            "aes3 check [--packed-in] [--faults] [--gaps] < FILE",
+        ],
     );
     expect_text(&rt, rt.alloc(), &["--version"], &["aes3 0."]);
     expect_text(

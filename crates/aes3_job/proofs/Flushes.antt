@@ -6,7 +6,7 @@ use Rattle.aes3_cell.specs.declared.refusal.RunError.TheVariants.{Read, Write}
 use Rattle.aes3_cell.proofs.Growing.{front-all}
 use Rattle.aes3_engine.specs.Running.{Change, Quiet, Failed}
 use Rattle.aes3_job.specs.declared.job.Job.{Job}
-use Rattle.aes3_job.specs.declared.job.Job.TheVariants.{Encode, Decode, Normal, Check, Show, Scan, Cut, Rewrite, ToPcm}
+use Rattle.aes3_job.specs.declared.job.Job.TheVariants.{Encode, Decode, Normal, Check, Account, Show, Scan, Cut, Rewrite, ToPcm}
 use Rattle.aes3_job.specs.JobRuns.{Flushed, IsCauseFor, IsInputOf, IsWhole, JobRefused, begun_of, most, output_of}
 use Rattle.aes3_job.specs.Lines.{refusal_line}
 
@@ -32,7 +32,8 @@ write-cause : (job : Job) (b : List ℕ) (ended : Bool) → length b ≤ most + 
 write-cause (Encode o) b ended l = l
 write-cause (Decode i) b ended l = l
 write-cause (Normal i o) b ended l = l
-write-cause (Check i) b ended l = l
+write-cause (Check i lines) b ended l = l
+write-cause (Account i lines) b ended l = l
 write-cause (Show i) b ended l = l
 write-cause (Scan i) b ended l = l
 write-cause (Cut i o from count) b ended l = l
@@ -43,7 +44,8 @@ whole-is : (job : Job) (b : List ℕ) (ended : Bool) → IsInputOf job b → len
 whole-is (Encode o) b ended i l e = record { lawful = i; short = l; end = e }
 whole-is (Decode f) b ended i l e = record { input = i; short = l; end = e }
 whole-is (Normal f o) b ended i l e = record { input = i; short = l; end = e }
-whole-is (Check f) b ended i l e = record { input = i; short = l; end = e }
+whole-is (Check f lines) b ended i l e = record { input = i; short = l; end = e }
+whole-is (Account f lines) b ended i l e = record { input = i; short = l; end = e }
 whole-is (Show f) b ended i l e = record { input = i; short = l; end = e }
 whole-is (Scan f) b ended i l e = record { input = i; short = l; end = e }
 whole-is (Cut f o from count) b ended i l e = record { input = i; short = l; end = e }

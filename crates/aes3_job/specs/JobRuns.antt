@@ -19,9 +19,10 @@ use Rattle.aes3_engine.specs.CellRuns.{IsCause}
 use Rattle.aes3_engine.specs.ReportRuns.{counts_of}
 use Rattle.aes3_engine.specs.BlockRuns.{begun_stream, written_stream, cut_blocks, decided_blocks}
 use Rattle.aes3_engine.specs.Rewriting.{rewritten_blocks}
-use Rattle.aes3_text.specs.Runs.{mark_lines, report_lines, scan_counts, status_lines}
+use Rattle.aes3_text.specs.Gaps.{account, begun_account}
+use Rattle.aes3_text.specs.Runs.{account_counts, account_lines, mark_lines, report_lines, scan_counts, status_lines}
 use Rattle.aes3_job.specs.declared.job.Job.{Job}
-use Rattle.aes3_job.specs.declared.job.Job.TheVariants.{Encode, Decode, Normal, Check, Show, Scan, Cut, Rewrite, ToPcm}
+use Rattle.aes3_job.specs.declared.job.Job.TheVariants.{Encode, Decode, Normal, Check, Account, Show, Scan, Cut, Rewrite, ToPcm}
 use Rattle.aes3_job.specs.Lines.{refusal_line}
 
 -- how many bytes an input may have
@@ -33,7 +34,8 @@ abbrev pub IsInputOf : Job → List ℕ → Type 0
 IsInputOf (Encode o) b = IsBlockFile b
 IsInputOf (Decode i) b = IsInput i b
 IsInputOf (Normal i o) b = IsInput i b
-IsInputOf (Check i) b = IsInput i b
+IsInputOf (Check i lines) b = IsInput i b
+IsInputOf (Account i lines) b = IsInput i b
 IsInputOf (Show i) b = IsInput i b
 IsInputOf (Scan i) b = IsInput i b
 IsInputOf (Cut i o from count) b = IsInput i b
@@ -45,7 +47,8 @@ abbrev pub output_of : Job → List ℕ → List ℕ
 output_of (Encode o) b = written o (stream Low (whole_blocks b))
 output_of (Decode i) b = file (blocks (cells_of i b))
 output_of (Normal i o) b = written o (normal (cells_of i b))
-output_of (Check i) b = report_lines (reports (cells_of i b))
+output_of (Check i lines) b = report_lines lines (reports (cells_of i b))
+output_of (Account i lines) b = account_lines lines (account (cells_of i b))
 output_of (Show i) b = status_lines (blocks (cells_of i b))
 output_of (Scan i) b = mark_lines (marks (cells_of i b))
 output_of (Cut i o from count) b = written_stream o (cut_blocks from count (blocks (cells_of i b)))
@@ -57,7 +60,8 @@ abbrev pub begun_of : Job → List ℕ → List ℕ
 begun_of (Encode o) b = encoded o b
 begun_of (Decode i) b = file (decided_blocks (cells_before i b))
 begun_of (Normal i o) b = begun_stream o (decided_blocks (cells_before i b))
-begun_of (Check i) b = report_lines (decided (cells_before i b))
+begun_of (Check i lines) b = report_lines lines (decided (cells_before i b))
+begun_of (Account i lines) b = account_lines lines (begun_account (cells_before i b))
 begun_of (Show i) b = status_lines (decided_blocks (cells_before i b))
 begun_of (Scan i) b = mark_lines (marks (cells_before i b))
 begun_of (Cut i o from count) b = begun_stream o (cut_blocks from count (decided_blocks (cells_before i b)))
@@ -69,7 +73,8 @@ abbrev pub IsWhole : Job → List ℕ → Bool → Type 0
 IsWhole (Encode o) b ended = WholeFile most b ended
 IsWhole (Decode i) b ended = WholeInput most i b ended
 IsWhole (Normal i o) b ended = WholeInput most i b ended
-IsWhole (Check i) b ended = WholeInput most i b ended
+IsWhole (Check i lines) b ended = WholeInput most i b ended
+IsWhole (Account i lines) b ended = WholeInput most i b ended
 IsWhole (Show i) b ended = WholeInput most i b ended
 IsWhole (Scan i) b ended = WholeInput most i b ended
 IsWhole (Cut i o from count) b ended = WholeInput most i b ended
@@ -81,7 +86,8 @@ abbrev pub counts_for : Job → List ℕ → Counts
 counts_for (Encode o) b = encode_counts b
 counts_for (Decode i) b = counts_of i b
 counts_for (Normal i o) b = counts_of i b
-counts_for (Check i) b = counts_of i b
+counts_for (Check i lines) b = counts_of i b
+counts_for (Account i lines) b = account_counts i b
 counts_for (Show i) b = counts_of i b
 counts_for (Scan i) b = scan_counts i b
 counts_for (Cut i o from count) b = counts_of i b
@@ -93,19 +99,21 @@ abbrev pub IsCauseFor : Job → List ℕ → Bool → RunError → Type 0
 IsCauseFor (Encode o) b ended e = IsCauseOf most b ended e
 IsCauseFor (Decode i) b ended e = IsCause i most b ended e
 IsCauseFor (Normal i o) b ended e = IsCause i most b ended e
-IsCauseFor (Check i) b ended e = IsCause i most b ended e
+IsCauseFor (Check i lines) b ended e = IsCause i most b ended e
+IsCauseFor (Account i lines) b ended e = IsCause i most b ended e
 IsCauseFor (Show i) b ended e = IsCause i most b ended e
 IsCauseFor (Scan i) b ended e = IsCause i most b ended e
 IsCauseFor (Cut i o from count) b ended e = IsCause i most b ended e
 IsCauseFor (Rewrite i o change) b ended e = IsCause i most b ended e
 IsCauseFor (ToPcm i) b ended e = IsCause i most b ended e
 
--- its exit status: 1 where `check` finds faults, else 0
+-- its exit status: 1 where `check` finds faults, with gaps or without, else 0
 abbrev pub status_by : Job → Counts → ℕ
 status_by (Encode o) n = 0
 status_by (Decode i) n = 0
 status_by (Normal i o) n = 0
-status_by (Check i) n = if n.faults == 0 then 0 else 1
+status_by (Check i lines) n = if n.faults == 0 then 0 else 1
+status_by (Account i lines) n = if n.faults == 0 then 0 else 1
 status_by (Show i) n = 0
 status_by (Scan i) n = 0
 status_by (Cut i o from count) n = 0

@@ -2,6 +2,7 @@
 
 use aes3_cell::Form;
 use aes3_engine::Change;
+use aes3_text::Lines;
 
 /// What the program is asked to do.
 #[derive(Clone, Copy, PartialEq, Eq, Debug)]
@@ -19,9 +20,15 @@ pub enum Job {
         input: Form,
         output: Form,
     },
-    /// A line for each block and each fault.
+    /// A line for each block and each fault, or for each fault.
     Check {
         input: Form,
+        lines: Lines,
+    },
+    /// The same, and a line for each gap, cells that lie in no whole block.
+    Account {
+        input: Form,
+        lines: Lines,
     },
     /// Two lines of channel status for each block.
     Show {

@@ -7,7 +7,7 @@ ghost use Rattle.aes3_job.specs.JobRuns.{IsCauseFor, IsInputOf, IsWhole, begun_o
 use crate::job::Job;
 use aes3_cell::{Counts, RunError, Sink, Source};
 use aes3_engine::{cut, decode, encode, normalise, rewrite, to_pcm};
-use aes3_text::{check, scan, show};
+use aes3_text::{account, check, scan, show};
 
 /// How many bytes an input may have.
 const MAX_BYTES: u64 = 1 << 40;
@@ -24,6 +24,7 @@ pub(crate) fn exit_status(job: &Job, counts: &Counts) -> u8
 {
     match job {
         Job::Check { .. } if counts.faults > 0 => FAULTY,
+        Job::Account { .. } if counts.faults > 0 => FAULTY,
         _ => DONE,
     }
 }
@@ -62,7 +63,8 @@ pub fn run_job<S: Source, T: Sink>(
         Job::Encode { output } => encode(source, sink, MAX_BYTES, output),
         Job::Decode { input } => decode(source, sink, MAX_BYTES, input),
         Job::Normal { input, output } => normalise(source, sink, MAX_BYTES, input, output),
-        Job::Check { input } => check(source, sink, MAX_BYTES, input),
+        Job::Check { input, lines } => check(source, sink, MAX_BYTES, input, lines),
+        Job::Account { input, lines } => account(source, sink, MAX_BYTES, input, lines),
         Job::Show { input } => show(source, sink, MAX_BYTES, input),
         Job::Scan { input } => scan(source, sink, MAX_BYTES, input),
         Job::Cut {

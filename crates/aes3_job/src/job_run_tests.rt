@@ -8,6 +8,7 @@ use crate::status_tests::first_bit_text;
 use crate::tests::{ZEROS, begun, block_text};
 use aes3_cell::{FailingSink, FailingSource, Form, MemorySink, MemorySource, RunError, ShortSink};
 use aes3_engine::Change;
+use aes3_text::Lines;
 use std::alloc::{AllocError, Global};
 use std::process::Abort;
 use std::test::Fail;
@@ -336,8 +337,14 @@ fn first_line(read: usize, line: &[u8]) -> Early {
 #[test]
 fn reports_of_cells(rt: HostRuntime) -> Result<(), Fail> {
     let of = inputs_of_rows(rt.alloc())?;
-    let text = Job::Check { input: TEXT };
-    let packed = Job::Check { input: PACKED };
+    let text = Job::Check {
+        input: TEXT,
+        lines: Lines::All,
+    };
+    let packed = Job::Check {
+        input: PACKED,
+        lines: Lines::All,
+    };
     let whole = b"whole at 0 before 0\n";
     let fault = b"fault at 0 cell 12804 preamble\n";
     let wholes = b"whole at 0 before 0\nwhole at 24576 before 0\n";

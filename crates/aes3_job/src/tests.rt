@@ -7,6 +7,7 @@ use crate::job::Job;
 use aes3_block::Subframe;
 use aes3_cell::{Counts, FailingSink, FailingSource, Form, MemorySink, MemorySource, RunError};
 use aes3_engine::{Change, encode, normalise};
+use aes3_text::Lines;
 use std::alloc::{AllocError, Global};
 use std::process::Abort;
 use std::test::Fail;
@@ -24,7 +25,10 @@ pub(crate) const NORMAL: Job = Job::Normal {
     output: TEXT,
 };
 
-pub(crate) const CHECK: Job = Job::Check { input: TEXT };
+pub(crate) const CHECK: Job = Job::Check {
+    input: TEXT,
+    lines: Lines::All,
+};
 
 pub(crate) const SHOW: Job = Job::Show { input: TEXT };
 

@@ -2,3 +2,8 @@ pub mod Tables
 pub mod RunLines
 pub mod Scans
 pub mod StatusFlips
+pub mod GapLemmas
+pub mod ReportPlaces
+pub mod Accounts
+pub mod Covering
+pub mod Rowed

@@ -9,18 +9,19 @@ use Rattle.aes3_lock.specs.Reports.{reports, decided, wholes, blocks}
 use Rattle.aes3_engine.specs.ReportRuns.{output_from, output}
 use Rattle.aes3_engine.specs.BlockRuns.{report_bytes, decided_blocks}
 use Rattle.aes3_engine.proofs.ReportLemmas.{blocks-output}
-use Rattle.aes3_text.specs.Lines.{report_line}
+use Rattle.aes3_text.specs.declared.lines.Lines.{Lines}
+use Rattle.aes3_text.specs.Lines.{told_line}
 use Rattle.aes3_text.specs.Runs.{report_lines, channel_lines, status_lines}
 
-lines-from : (n : ℕ) (r : List Report) → output_from (λ m. report_line) n r ≡ report_lines r
-lines-from n [] = refl
-lines-from n (x ∷ r) = ap (λ z. report_line x ++ z) (lines-from (n + length (wholes (x ∷ []))) r)
+lines-from : (l : Lines) (n : ℕ) (r : List Report) → output_from (λ m. told_line l) n r ≡ report_lines l r
+lines-from l n [] = refl
+lines-from l n (x ∷ r) = ap (λ z. told_line l x ++ z) (lines-from l (n + length (wholes (x ∷ []))) r)
 
-pub check-whole : (c : List Level) → output (λ m. report_line) (reports c) ++ [] ≡ report_lines (reports c)
-check-whole c = append-nil (output (λ m. report_line) (reports c)) ∙ lines-from 0 (reports c)
+pub check-whole : (l : Lines) (c : List Level) → output (λ m. told_line l) (reports c) ++ [] ≡ report_lines l (reports c)
+check-whole l c = append-nil (output (λ m. told_line l) (reports c)) ∙ lines-from l 0 (reports c)
 
-pub check-begun : (c : List Level) → output (λ m. report_line) (decided c) ≡ report_lines (decided c)
-check-begun c = lines-from 0 (decided c)
+pub check-begun : (l : Lines) (c : List Level) → output (λ m. told_line l) (decided c) ≡ report_lines l (decided c)
+check-begun l c = lines-from l 0 (decided c)
 
 pub show-whole : (c : List Level) → output (report_bytes channel_lines) (reports c) ++ [] ≡ status_lines (blocks c)
 unfolding blocks

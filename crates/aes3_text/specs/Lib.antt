@@ -1,3 +1,4 @@
+pub mod Gaps
 pub mod Lines
 pub mod Words
 pub mod Fields
@@ -6,3 +7,4 @@ pub mod Consumer
 pub mod StatusLines
 pub mod Runs
 pub mod Laws
+pub mod GapLaws

@@ -8,6 +8,9 @@ use Rattle.aes3_lock.specs.declared.report.Report.{Report}
 use Rattle.aes3_lock.specs.declared.report.Report.TheVariants.{Whole, Marked, Fault, Unfinished}
 use Rattle.aes3_lock.specs.declared.report.Why.{Why}
 use Rattle.aes3_lock.specs.declared.report.Why.TheVariants.{Preamble, Biphase, Unclosed}
+use Rattle.aes3_text.specs.declared.lines.Lines.{Lines}
+use Rattle.aes3_text.specs.declared.lines.Lines.TheVariants.{All, Faults}
+use Rattle.aes3_text.specs.Gaps.{Entry, reported, lost, cut}
 
 abbrev pub level_digit : Level → List ℕ
 level_digit Low = codes "0"
@@ -34,6 +37,24 @@ report_text (Unfinished at cells) = codes "unfinished at " ++ decimal at ++ code
 
 abbrev pub report_line : Report → List ℕ
 report_line report = report_text report ++ 10 ∷ []
+
+-- the line that a report gets, if it gets one
+abbrev pub told_line : Lines → Report → List ℕ
+told_line All x = report_line x
+told_line Faults (Whole at before block) = []
+told_line Faults (Marked at before wrong) = report_line (Marked at before wrong)
+told_line Faults (Fault at cell why) = report_line (Fault at cell why)
+told_line Faults (Unfinished at cells) = report_line (Unfinished at cells)
+
+-- the line of a gap of some cells from cell `at` on
+abbrev pub gap_line : ℕ → ℕ → List ℕ
+gap_line at cells = codes "gap at " ++ decimal at ++ codes " cells " ++ decimal cells ++ 10 ∷ []
+
+-- the line of an entry of an account
+abbrev pub entry_line : Lines → Entry → List ℕ
+entry_line lines (reported x) = told_line lines x
+entry_line lines (lost at cells) = gap_line at cells
+entry_line lines (cut at cells) = gap_line at cells
 
 -- the line of a preamble at cell `at` after the level `before`
 abbrev pub mark_line : ℕ → Mark → Level → List ℕ

@@ -1,6 +1,6 @@
 -- The lines of whole runs.
-use Rattle.std.specs.Prelude.{ℕ, List, [], ◌∷◌, ◌++◌, Bool, length, drop, ◌≡◌}
-use Rattle.std.specs.List.{flat_map}
+use Rattle.std.specs.Prelude.{ℕ, List, [], ◌∷◌, ◌++◌, Bool, length, drop, ◌≡◌, ◌≤◌, ◌+◌, ◌^◌}
+use Rattle.std.specs.List.{filter, flat_map}
 use Rattle.aes3_cell.specs.declared.level.Level.{Level}
 use Rattle.aes3_cell.specs.declared.form.Form.{Form}
 use Rattle.aes3_cell.specs.declared.counts.Counts.{Counts}
@@ -10,16 +10,53 @@ use Rattle.aes3_block.specs.declared.status.Channel.TheVariants.{First, Second}
 use Rattle.aes3_block.specs.Statuses.{status_of}
 use Rattle.aes3_lock.specs.declared.report.Report.{Report}
 use Rattle.aes3_lock.specs.Preambles.{marks}
+use Rattle.aes3_lock.specs.Reports.{blocks, decided, reports}
 use Rattle.aes3_lock.specs.Following.{ScanState, ScanFollows}
 use Rattle.aes3_engine.specs.Taking.{Writing}
 use Rattle.aes3_engine.specs.Inputs.{cells_of}
 use Rattle.aes3_engine.specs.BlockRuns.{numbered}
-use Rattle.aes3_text.specs.Lines.{report_line, mark_line}
+use Rattle.aes3_engine.specs.ReportRuns.{is_faulty, is_unfinished, Tallies}
+use Rattle.aes3_text.specs.declared.lines.Lines.{Lines}
+use Rattle.aes3_text.specs.Gaps.{Entry, account, accounted, begun_account, is_lost}
+use Rattle.aes3_text.specs.Lines.{entry_line, told_line, mark_line}
 use Rattle.aes3_text.specs.StatusLines.{status_line}
 
 -- the lines of reports
-abbrev pub report_lines : List Report → List ℕ
-report_lines r = flat_map report_line r
+abbrev pub report_lines : Lines → List Report → List ℕ
+report_lines lines r = flat_map (told_line lines) r
+
+-- the lines of an account
+abbrev pub account_lines : Lines → List Entry → List ℕ
+account_lines lines e = flat_map (entry_line lines) e
+
+-- what a run counts that accounts for all cells: the gaps that count are faults too
+unfoldable pub account_counts : Form → List ℕ → Counts
+account_counts form b = record {
+  bytes = length b;
+  cells = length (cells_of form b);
+  blocks = length (blocks (cells_of form b));
+  faults = length (filter is_faulty (reports (cells_of form b))) + length (filter is_lost (account (cells_of form b)));
+  unfinished = length (filter is_unfinished (reports (cells_of form b)));
+  marks = 0;
+}
+
+-- a taker that writes the lines of an account: with one more cell those that now stand whatever follows, at the end all others
+unfoldable pub accounting : Lines → Writing Level
+accounting lines = record {
+  adds = λ c l. account_lines lines (drop (length (begun_account c)) (begun_account (c ++ l ∷ [])));
+  ends = λ c. account_lines lines (drop (length (begun_account c)) (account c));
+}
+
+-- the counters of what stands whatever cells follow the cells c, and of all
+pub record Accounts (place lost blocks faults unfinished : ℕ) (c : List Level) : Type 0 where
+  pub place_is : place ≡ accounted c
+  pub lost_is : lost ≡ length (filter is_lost (begun_account c))
+  pub tally : Tallies blocks faults unfinished (decided c)
+
+pub record Accounted (lost blocks faults unfinished : ℕ) (c : List Level) : Type 0 where
+  pub short : length c ≤ 2 ^ 43
+  pub lost_is : lost ≡ length (filter is_lost (account c))
+  pub tally : Tallies blocks faults unfinished (reports c)
 
 -- the line of a channel of a block, the lines of both, and of blocks numbered from 0
 unfoldable pub channel_line : Channel → ℕ → List (List Bool) → List ℕ

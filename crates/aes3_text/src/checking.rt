@@ -7,25 +7,28 @@ ghost use Rattle.aes3_engine.specs.CellRuns.{IsCause};
 ghost use Rattle.aes3_engine.specs.Driving.{WholeInput};
 ghost use Rattle.aes3_engine.specs.Inputs.{IsInput, cells_before, cells_of};
 ghost use Rattle.aes3_engine.specs.ReportRuns.{counts_of};
-ghost use Rattle.aes3_text.specs.Lines.{report_line};
+ghost use Rattle.aes3_text.specs.Lines.{told_line};
 ghost use Rattle.aes3_text.specs.Runs.{report_lines};
 
-use crate::report::line_of_report;
+use crate::lines::Lines;
+use crate::report::tell_report;
 use aes3_cell::{Counts, Fault, Form, RunError, Sink, Source};
 use aes3_engine::{ReportWriter, run_reports};
 use aes3_lock::Report;
 
-/// Writes the line of each report.
+/// Writes the line of each report that gets one.
 #[derive(Drop)]
-struct ReportLines;
+struct ReportLines {
+    lines: Lines,
+}
 
 impl ReportWriter for ReportLines {
-    ghost writes = { λ _ _. report_line };
+    ghost writes = { λ k _. told_line k.lines };
 
     ghost ends = { λ _. [] };
 
     fn put<T: Sink>(&self, sink: &mut T, _blocks: u64, report: &Report) -> Result<(), Fault> {
-        line_of_report(report, sink)
+        tell_report(self.lines, report, sink)
     }
 
     fn put_end<T: Sink>(&self, _sink: &mut T) -> Result<(), Fault> {
@@ -34,7 +37,7 @@ impl ReportWriter for ReportLines {
 }
 
 /// Reads cells from any cell on, and writes a line for each report on them: each block that stands whole and closed, each
-/// with wrong parity bits, each place where a block begins and is faulty or cut.
+/// with wrong parity bits, each place where a block begins and is faulty or cut; or for each but the whole blocks.
 ///
 /// # Errors
 /// `BadCell` where a byte of cell text is neither a cell nor a separator, `BadPadding` where packed cells end wrongly,
@@ -45,6 +48,7 @@ pub fn check<S: Source, T: Sink>(
     sink: &mut T,
     max_bytes: u64,
     input: Form,
+    lines: Lines,
 ) -> Result<Counts, RunError>
     requires source_room { S.failed source.old + 1 < 2 ^ 64 }
     requires sink_room { T.failed sink.old + 1 < 2 ^ 64 }
@@ -52,7 +56,7 @@ pub fn check<S: Source, T: Sink>(
 
     // Where it answers Ok, exactly the lines of the reports are written, in order of place.
     ensures lines { IfOk result (λ _. (b : List ℕ) → Told (S.given source.old) (S.given source.new) b
-        → Grew (T.taken sink.old) (T.taken sink.new) (report_lines (reports (cells_of input b)))) }
+        → Grew (T.taken sink.old) (T.taken sink.new) (report_lines lines (reports (cells_of input b)))) }
     ensures input { IfOk result (λ _. (b : List ℕ) → Told (S.given source.old) (S.given source.new) b → IsInput input b) }
     ensures counts { IfOk result (λ counts. (b : List ℕ) → Told (S.given source.old) (S.given source.new) b → counts ≡ counts_of input b) }
     ensures fits { IfOk result (λ _. (b : List ℕ) → Told (S.given source.old) (S.given source.new) b → length b ≤ max_bytes) }
@@ -70,11 +74,11 @@ pub fn check<S: Source, T: Sink>(
     ensures write { result ≡ Err RunError.Write → T.failed sink.new ≡ T.failed sink.old + 1 }
     ensures sink_quiet { result ≢ Err RunError.Write → T.failed sink.new ≡ T.failed sink.old }
     ensures refused { OnErr result (result ≢ Err RunError.Write → (b : List ℕ) → Told (S.given source.old) (S.given source.new) b
-        → Grew (T.taken sink.old) (T.taken sink.new) (report_lines (decided (cells_before input (take max_bytes b))))) }
+        → Grew (T.taken sink.old) (T.taken sink.new) (report_lines lines (decided (cells_before input (take max_bytes b))))) }
     ensures front { result ≡ Err RunError.Write → (b : List ℕ) → Told (S.given source.old) (S.given source.new) b
-        → GrewFront (T.taken sink.old) (T.taken sink.new) (report_lines (decided (cells_before input (take max_bytes b))))
-        ⊎ (WholeInput max_bytes input b (S.has_ended source.new) × GrewFront (T.taken sink.old) (T.taken sink.new) (report_lines (reports (cells_of input b)))) }
+        → GrewFront (T.taken sink.old) (T.taken sink.new) (report_lines lines (decided (cells_before input (take max_bytes b))))
+        ⊎ (WholeInput max_bytes input b (S.has_ended source.new) × GrewFront (T.taken sink.old) (T.taken sink.new) (report_lines lines (reports (cells_of input b)))) }
     ensures few { (b : List ℕ) → Told (S.given source.old) (S.given source.new) b → length b ≤ max_bytes + 1 }
 {
-    run_reports(source, sink, max_bytes, input, ReportLines)
+    run_reports(source, sink, max_bytes, input, ReportLines { lines })
 }

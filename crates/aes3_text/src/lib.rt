@@ -2,22 +2,29 @@
 //! write them.
 #![tactic(auto)]
 
+mod accounting;
 mod checking;
 mod consumer;
 mod fields;
+mod gap;
 pub mod laws;
 mod line;
+mod lines;
 mod mark;
 mod professional;
 mod report;
 mod scanning;
 mod showing;
 mod status;
+mod tally;
 #[cfg(test)]
 mod tests;
 mod words;
 
+pub use accounting::account;
 pub use checking::check;
+pub use gap::line_of_gap;
+pub use lines::Lines;
 pub use mark::line_of_mark;
 pub use report::line_of_report;
 pub use scanning::scan;

@@ -2,9 +2,10 @@
 
 ghost use Rattle.std.specs.Prelude.{◌≡◌, ◌<◌, ◌≤◌, ◌+◌, ◌^◌, ◌++◌, [], length, IfOk, OnErr};
 ghost use Rattle.aes3_cell.specs.Ends.{Grew, GrewFront};
-ghost use Rattle.aes3_text.specs.Lines.{reason_word, report_text, report_line};
+ghost use Rattle.aes3_text.specs.Lines.{reason_word, report_text, report_line, told_line};
 
 use crate::line::{LINE_LEN, Line};
+use crate::lines::Lines;
 use aes3_cell::{Fault, Sink};
 use aes3_lock::{Report, Why};
 
@@ -70,4 +71,25 @@ pub fn line_of_report<T: Sink>(report: &Report, sink: &mut T) -> Result<(), Faul
     ensures err { OnErr result ((T.failed sink.new ≡ T.failed sink.old + 1) × GrewFront (T.taken sink.old) (T.taken sink.new) (report_line report.now)) }
 {
     text_of(report).end(sink)
+}
+
+/// Writes the line of a report where it gets one.
+///
+/// # Errors
+/// The sink's fault; then it has taken a front of the line.
+pub(crate) fn tell_report<T: Sink>(lines: Lines, report: &Report, sink: &mut T) -> Result<(), Fault>
+    requires room { T.failed sink.old + 1 < 2 ^ 64 }
+    ensures line { IfOk result (λ _. Grew (T.taken sink.old) (T.taken sink.new) (told_line lines report.now)) }
+    ensures count { IfOk result (λ _. T.failed sink.new ≡ T.failed sink.old) }
+    ensures err { OnErr result ((T.failed sink.new ≡ T.failed sink.old + 1) × GrewFront (T.taken sink.old) (T.taken sink.new) (told_line lines report.now)) }
+{
+    match lines {
+        Lines::All => line_of_report(report, sink),
+        Lines::Faults => match report {
+            Report::Whole { .. } => Ok(()),
+            Report::Marked { .. } => line_of_report(report, sink),
+            Report::Fault { .. } => line_of_report(report, sink),
+            Report::Unfinished { .. } => line_of_report(report, sink),
+        },
+    }
 }

@@ -2,7 +2,7 @@
 
 ghost use Rattle.std.specs.Prelude.{◌<◌};
 
-use crate::{line_of_mark, line_of_report};
+use crate::{line_of_gap, line_of_mark, line_of_report};
 use aes3_block::Block;
 use aes3_cell::{Level, MemorySink};
 use aes3_lock::{Report, Why};
@@ -95,6 +95,19 @@ fn lines_of_preambles(rt: HostRuntime) {
     ] {
         let mut sink = MemorySink::new(rt.alloc());
         let answer = line_of_mark(at, mark, before, &mut sink);
+        assert_eq!(rt; answer, Ok(()), "{expected}");
+        assert!(rt; sink.bytes() == expected.as_bytes(), "{expected}");
+    }
+}
+
+#[test]
+fn lines_of_gaps(rt: HostRuntime) {
+    for (at, cells, expected) in [
+        (0, 24_576, "gap at 0 cells 24576\n"),
+        (576, 1, "gap at 576 cells 1\n"),
+    ] {
+        let mut sink = MemorySink::new(rt.alloc());
+        let answer = line_of_gap(at, cells, &mut sink);
         assert_eq!(rt; answer, Ok(()), "{expected}");
         assert!(rt; sink.bytes() == expected.as_bytes(), "{expected}");
     }

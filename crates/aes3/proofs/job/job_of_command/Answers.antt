@@ -1,4 +1,5 @@
-use Rattle.aes3.specs.Jobs.{options_of}
+use Rattle.std.proofs.Common.{sym, subst}
+use Rattle.aes3.specs.Jobs.{AsksFor, options_of}
 use Rattle.aes3.proofs.TakenLines.{flags_stand, numbers_stand}
 use Rattle.aes3.proofs.job.job_of_command.Goals as goal
 
@@ -7,6 +8,15 @@ form-input-requires c = (flags_stand c.requires.0 c.args.name.now (options_of c.
 
 pub form-output-requires : goal.form-output-requires
 form-output-requires c = (flags_stand c.requires.0 c.args.name.now (options_of c.args.options.now) c.requires.1).1
+
+pub check-requires-clause-faults : goal.check-requires-clause-faults
+check-requires-clause-faults c = (flags_stand c.requires.0 c.args.name.now (options_of c.args.options.now) c.requires.1).3
+
+pub check-requires-clause-gaps : goal.check-requires-clause-gaps
+check-requires-clause-gaps c = (flags_stand c.requires.0 c.args.name.now (options_of c.args.options.now) c.requires.1).4
+
+pub returns-in-check-clause-job : goal.returns-in-check-clause-job
+returns-in-check-clause-job c = subst (λ n. AsksFor n (options_of c.args.options.now) c.check.result) (sym c.in-check.is) c.check.ensures
 
 pub number-requires : goal.number-requires
 number-requires c = (numbers_stand c.requires.0 c.args.name.now (options_of c.args.options.now) c.requires.1 c.in-cut.is).0

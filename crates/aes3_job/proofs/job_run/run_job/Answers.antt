@@ -33,6 +33,13 @@ returns-in-Check-clause-refused g c =
     → Grew (g.T.Sink.taken c.args.sink.now) (g.T.Sink.taken c.check.new.sink) (begun_of j (take most b))))
     (sym c.in-Check.is) c.check.ensures.refused
 
+pub returns-in-Account-clause-refused : goal.returns-in-Account-clause-refused
+returns-in-Account-clause-refused g c =
+    subst
+    (λ (j : Job). OnErr c.account.result (c.account.result ≢ Err Write → (b : List ℕ) → Told (g.S.Source.given c.args.source.now) (g.S.Source.given c.account.new.source) b
+    → Grew (g.T.Sink.taken c.args.sink.now) (g.T.Sink.taken c.account.new.sink) (begun_of j (take most b))))
+    (sym c.in-Account.is) c.account.ensures.refused
+
 pub returns-in-Show-clause-refused : goal.returns-in-Show-clause-refused
 returns-in-Show-clause-refused g c =
     subst

@@ -5,7 +5,7 @@ use Rattle.aes3_engine.proofs.CellRuns.{run-wrote, run-input, run-counts, run-fi
 use Rattle.aes3_text.proofs.checking.check.Goals as goal
 
 pub returns-clause-lines : goal.returns-clause-lines
-returns-clause-lines g c = run-wrote c.run_reports.result (λ d. report_lines (reports d)) check-whole c.run_reports.ensures
+returns-clause-lines g c = run-wrote c.run_reports.result (λ d. report_lines c.args.lines (reports d)) (check-whole c.args.lines) c.run_reports.ensures
 
 pub returns-clause-input : goal.returns-clause-input
 returns-clause-input g c = run-input c.run_reports.result c.run_reports.ensures
@@ -26,10 +26,10 @@ pub returns-clause-sink_quiet : goal.returns-clause-sink_quiet
 returns-clause-sink_quiet g c = run-sink_quiet c.run_reports.result c.run_reports.ensures
 
 pub returns-clause-refused : goal.returns-clause-refused
-returns-clause-refused g c = run-refused c.run_reports.result (λ d. report_lines (decided d)) check-begun c.run_reports.ensures
+returns-clause-refused g c = run-refused c.run_reports.result (λ d. report_lines c.args.lines (decided d)) (check-begun c.args.lines) c.run_reports.ensures
 
 pub returns-clause-front : goal.returns-clause-front
-returns-clause-front g c = run-front c.run_reports.result (λ d. report_lines (reports d)) (λ d. report_lines (decided d)) check-whole check-begun c.run_reports.ensures
+returns-clause-front g c = run-front c.run_reports.result (λ d. report_lines c.args.lines (reports d)) (λ d. report_lines c.args.lines (decided d)) (check-whole c.args.lines) (check-begun c.args.lines) c.run_reports.ensures
 
 pub returns-clause-few : goal.returns-clause-few
 returns-clause-few g c = run-few c.run_reports.ensures

@@ -1,0 +1,27 @@
+use Rattle.std.proofs.Common.{◌+◌, ◌++◌, ◌∷◌, [], sym, ap, ◌∙◌, append-nil}
+use Rattle.std.proofs.lemmas.Result.{err_from_is_err_and}
+use Rattle.aes3_cell.proofs.Growing.{grew-is, grew-join, front-is, front-join}
+use Rattle.aes3_text.specs.Gaps.{gaps_before, reported}
+use Rattle.aes3_text.specs.Lines.{told_line}
+use Rattle.aes3_text.specs.Runs.{account_lines}
+use Rattle.aes3_text.proofs.GapLemmas.{lines-append}
+use Rattle.aes3_text.proofs.accounting.Ledger.tell.Goals as goal
+
+pub returns-in_err-tell_report-clause-err : goal.returns-in_err-tell_report-clause-err
+returns-in_err-tell_report-clause-err g c =
+    let k = c.args.self.now in
+    let x = c.args.report.now in
+    let p = err_from_is_err_and c.from_residual-in_err-tell_report.result c.from_residual-in_err-tell_report.ensures.1 in
+    let f = c.in_err-tell_report.ensures.err in
+    rw p.1 (
+      f.0 ∙ ap (λ m. m + 1) c.in_ok-tell_before.ensures.count,
+      front-is (ap (λ z. account_lines k.lines (gaps_before k.tally.blocks k.place x) ++ z) (sym (append-nil (told_line k.lines x))) ∙ sym (lines-append k.lines (gaps_before k.tally.blocks k.place x) (reported x ∷ [])))
+          (front-join c.in_ok-tell_before.ensures.grew (rw c.tell_before.ensures.lines at f.1)),
+    )
+
+pub returns-clause-grew : goal.returns-clause-grew
+returns-clause-grew g c =
+    let k = c.args.self.now in
+    let x = c.args.report.now in
+    grew-is (ap (λ z. account_lines k.lines (gaps_before k.tally.blocks k.place x) ++ z) (sym (append-nil (told_line k.lines x))) ∙ sym (lines-append k.lines (gaps_before k.tally.blocks k.place x) (reported x ∷ [])))
+    (grew-join c.in_ok-tell_before.ensures.grew (rw c.tell_before.ensures.lines at c.in_ok-tell_report.ensures.line))

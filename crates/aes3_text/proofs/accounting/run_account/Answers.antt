@@ -1,0 +1,28 @@
+use Rattle.std.proofs.Common.{◌+◌, ap, ◌∙◌, arith}
+use Rattle.aes3_engine.proofs.CellRuns.{drove-ok, drove-err}
+use Rattle.aes3_text.specs.Gaps.{account, begun_account}
+use Rattle.aes3_text.specs.Runs.{account_counts, account_lines}
+use Rattle.aes3_text.proofs.Accounts.{before-account, with-account, counted, drive-room}
+use Rattle.aes3_text.proofs.accounting.run_account.Goals as goal
+
+pub overflow_add-result : goal.overflow_add-result
+overflow_add-result g c =
+    let t = c.drive.new.taker.ledger in
+    let r = drive-room t.lost t.tally.blocks t.tally.faults t.tally.unfinished c.in-Ok.ensures in
+    omega arith
+
+pub returns-in-Ok : goal.returns-in-Ok
+returns-in-Ok g c =
+    let t = c.drive.new.taker.ledger in
+    let l = c.new-taker.result.ledger.lines in
+    drove-ok (λ d. account_lines c.args.lines (account d)) (λ d. account_lines c.args.lines (begun_account d)) (account_counts c.args.input)
+    (record { bytes = c.in-Ok.bytes; cells = c.in-Ok.cells; blocks = t.tally.blocks; faults = t.tally.faults + t.lost; unfinished = t.tally.unfinished; marks = 0 })
+    (λ d. with-account l d ∙ ap (λ v. account_lines v (account d)) c.new-taker.ensures.lines)
+    (λ b e f h. counted c.args.input b c.in-Ok.bytes c.in-Ok.cells t.lost t.tally.blocks t.tally.faults t.tally.unfinished e f h) c.in-Ok.ensures
+
+pub returns-in-Err : goal.returns-in-Err
+returns-in-Err g c =
+    let l = c.new-taker.result.ledger.lines in
+    drove-err (λ d. account_lines c.args.lines (account d)) (λ d. account_lines c.args.lines (begun_account d)) (account_counts c.args.input)
+    (λ d. with-account l d ∙ ap (λ v. account_lines v (account d)) c.new-taker.ensures.lines)
+    (λ d. before-account l d ∙ ap (λ v. account_lines v (begun_account d)) c.new-taker.ensures.lines) c.in-Err.ensures

@@ -1,0 +1,5 @@
+use Rattle.aes3_text.proofs.Covering.{begun-covers, accounted-soon}
+use Rattle.aes3_text.proofs.laws.account_is_in_time.Goals as goal
+
+pub returns : goal.returns
+returns c = λ d. (begun-covers d, accounted-soon d)

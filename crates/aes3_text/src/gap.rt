@@ -1,0 +1,26 @@
+//! The line of a gap.
+
+ghost use Rattle.std.specs.Prelude.{◌≡◌, ◌+◌, ◌<◌, ◌^◌, IfOk, OnErr};
+ghost use Rattle.aes3_cell.specs.Ends.{Grew, GrewFront};
+ghost use Rattle.aes3_text.specs.Lines.{gap_line};
+
+use crate::line::Line;
+use aes3_cell::{Fault, Sink};
+
+/// Writes the line of a gap of `cells` cells from cell `at` on as one buffer.
+///
+/// # Errors
+/// The sink's fault; then it has taken a front of the line.
+pub fn line_of_gap<T: Sink>(at: u64, cells: u64, sink: &mut T) -> Result<(), Fault>
+    requires room { T.failed sink.old + 1 < 2 ^ 64 }
+    ensures line { IfOk result (λ _. Grew (T.taken sink.old) (T.taken sink.new) (gap_line at cells)) }
+    ensures count { IfOk result (λ _. T.failed sink.new ≡ T.failed sink.old) }
+    ensures err { OnErr result ((T.failed sink.new ≡ T.failed sink.old + 1) × GrewFront (T.taken sink.old) (T.taken sink.new) (gap_line at cells)) }
+{
+    let mut line = Line::new();
+    line.text("gap at ");
+    line.number(at);
+    line.text(" cells ");
+    line.number(cells);
+    line.end(sink)
+}
