@@ -22,7 +22,8 @@ use Rattle.aes3_engine.proofs.ReportLemmas.{tallies-few}
 use Rattle.aes3_engine.proofs.Reports.{few-decided}
 use Rattle.aes3_engine.proofs.Items.{before-is, before-join as end-join}
 use Rattle.aes3_text.specs.declared.lines.Lines.{Lines}
-use Rattle.aes3_text.specs.Gaps.{Entry, reported, place_of, full_gaps, full_count, behind_full, rest_gap, gaps, gaps_before, behind_report, account_from, reached_from, account, begun_account, accounted, is_lost}
+use Rattle.aes3_lock.specs.Remains.{place_of}
+use Rattle.aes3_text.specs.Gaps.{Entry, reported, full_gaps, full_count, behind_full, rest_gap, gaps, gaps_before, behind_report, account_from, reached_from, account, begun_account, accounted, is_lost}
 use Rattle.aes3_text.specs.Lines.{entry_line}
 use Rattle.aes3_text.specs.Runs.{Accounts, Accounted, account_counts, account_lines, accounting}
 use Rattle.aes3_text.proofs.GapLemmas.{behind-join, full-join, gaps-join, before-join, report-join, account-push, reached-push, lost-append, lost-full, lost-rest, behind-near, behind-far, behind-most, count-few}

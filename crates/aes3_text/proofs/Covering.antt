@@ -9,7 +9,8 @@ use Rattle.aes3_lock.specs.Outcomes.{Outcome, whole, marked, fault, unfinished}
 use Rattle.aes3_lock.specs.Reports.{told, outcome_at, reports_from, reports, decided, wholes}
 use Rattle.aes3_lock.proofs.Deciding.{block_len_24576}
 use Rattle.aes3_lock.proofs.AllStanding.{at-standing, closed-room}
-use Rattle.aes3_text.specs.Gaps.{Entry, reported, lost, cut, full_gaps, full_count, behind_full, kind, rest_gap, gaps, gaps_before, behind_report, account_from, reached_from, account, begun_account, accounted, place_of}
+use Rattle.aes3_lock.specs.Remains.{place_of}
+use Rattle.aes3_text.specs.Gaps.{Entry, reported, lost, cut, full_gaps, full_count, behind_full, kind, rest_gap, gaps, gaps_before, behind_report, account_from, reached_from, account, begun_account, accounted}
 use Rattle.aes3_text.specs.GapLaws.{Covers, reports_in}
 use Rattle.aes3_text.proofs.GapLemmas.{behind-near}
 use Rattle.aes3_text.proofs.ReportPlaces.{Spaced, next_place, spaced-weaker, spaced-reports, spaced-decided}

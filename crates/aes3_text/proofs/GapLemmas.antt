@@ -14,7 +14,8 @@ use Rattle.aes3_cell.proofs.Growing.{front-is, front-join, front-more}
 use Rattle.aes3_text.specs.declared.lines.Lines.{Lines}
 use Rattle.aes3_text.specs.Lines.{entry_line, gap_line}
 use Rattle.aes3_text.specs.Runs.{account_lines}
-use Rattle.aes3_text.specs.Gaps.{Entry, reported, lost, place_of, full_gaps, full_count, behind_full, kind, rest_gap, gaps, gaps_before, behind_report, account_from, reached_from, is_lost}
+use Rattle.aes3_lock.specs.Remains.{place_of}
+use Rattle.aes3_text.specs.Gaps.{Entry, reported, lost, full_gaps, full_count, behind_full, kind, rest_gap, gaps, gaps_before, behind_report, account_from, reached_from, is_lost}
 
 -- gaps of a block's length
 full-add : (p m k : ℕ) → full_gaps p (m + k) ≡ full_gaps p m ++ full_gaps (p + block_len * m) k

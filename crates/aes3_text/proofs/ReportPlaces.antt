@@ -18,7 +18,7 @@ use Rattle.aes3_lock.proofs.Ends.{final, outcome_at-none, reports-split}
 use Rattle.aes3_lock.proofs.Opens.{is-open, open-room}
 use Rattle.aes3_lock.proofs.AllStanding.{at-standing}
 use Rattle.aes3_lock.proofs.Overlap.{no-Z-within}
-use Rattle.aes3_text.specs.Gaps.{place_of}
+use Rattle.aes3_lock.specs.Remains.{place_of}
 
 -- all reports stand at place p or behind it; at place p or before it
 abbrev pub From : ℕ → List Report → Type 0

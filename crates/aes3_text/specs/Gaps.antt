@@ -13,13 +13,6 @@ pub data Entry : Type 0 where
   lost : ℕ → ℕ → Entry
   cut : ℕ → ℕ → Entry
 
--- the place of a report
-abbrev pub place_of : Report → ℕ
-place_of (Whole at s b) = at
-place_of (Marked at s wrong) = at
-place_of (Fault at cell why) = at
-place_of (Unfinished at cells) = at
-
 -- n gaps of a block's length from place p on
 abbrev pub full_gaps : ℕ → ℕ → List Entry
 full_gaps p zero = []

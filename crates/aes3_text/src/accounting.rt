@@ -11,7 +11,8 @@ ghost use Rattle.aes3_engine.specs.CellRuns.{CellRun, IsCause};
 ghost use Rattle.aes3_engine.specs.Driving.{WholeInput};
 ghost use Rattle.aes3_engine.specs.Inputs.{IsInput, cells_before, cells_of};
 ghost use Rattle.aes3_engine.specs.ReportRuns.{Tallies};
-ghost use Rattle.aes3_text.specs.Gaps.{account, begun_account, behind_full, behind_report, full_count, full_gaps, gaps, gaps_before, is_lost, place_of, reported, rest_gap};
+ghost use Rattle.aes3_lock.specs.Remains.{place_of};
+ghost use Rattle.aes3_text.specs.Gaps.{account, begun_account, behind_full, behind_report, full_count, full_gaps, gaps, gaps_before, is_lost, reported, rest_gap};
 ghost use Rattle.aes3_text.specs.Runs.{Accounted, Accounts, account_counts, account_lines, accounting};
 
 use crate::gap::line_of_gap;
