@@ -1,8 +1,9 @@
-use Rattle.std.proofs.Common.{◌≢◌, ℕ, List, take, Err, IfOk, OnErr, sym, subst}
+use Rattle.std.proofs.Common.{◌≡◌, ◌≢◌, ◌⊎◌, ℕ, List, take, Err, IfOk, OnErr, sym, subst}
 use Rattle.aes3_cell.specs.declared.refusal.RunError.TheVariants.{Write}
-use Rattle.aes3_cell.specs.Ends.{Grew, Told}
+use Rattle.aes3_cell.specs.declared.counts.Counts.{Counts}
+use Rattle.aes3_cell.specs.Ends.{Grew, GrewFront, Told}
 use Rattle.aes3_job.specs.declared.job.Job.{Job}
-use Rattle.aes3_job.specs.JobRuns.{begun_of, most, output_of}
+use Rattle.aes3_job.specs.JobRuns.{IsWhole, begun_of, most, output_of}
 use Rattle.aes3_job.proofs.job_run.run_job.Goals as goal
 
 pub returns-in-Encode-clause-refused : goal.returns-in-Encode-clause-refused
@@ -32,6 +33,21 @@ returns-in-Check-clause-refused g c =
     (λ (j : Job). OnErr c.check.result (c.check.result ≢ Err Write → (b : List ℕ) → Told (g.S.Source.given c.args.source.now) (g.S.Source.given c.check.new.source) b
     → Grew (g.T.Sink.taken c.args.sink.now) (g.T.Sink.taken c.check.new.sink) (begun_of j (take most b))))
     (sym c.in-Check.is) c.check.ensures.refused
+
+pub returns-in-Account-clause-output : goal.returns-in-Account-clause-output
+returns-in-Account-clause-output g c =
+    subst
+    (λ (j : Job). IfOk c.account.result (λ (n : Counts). (b : List ℕ) → Told (g.S.Source.given c.args.source.now) (g.S.Source.given c.account.new.source) b
+    → Grew (g.T.Sink.taken c.args.sink.now) (g.T.Sink.taken c.account.new.sink) (output_of j b)))
+    (sym c.in-Account.is) c.account.ensures.lines
+
+pub returns-in-Account-clause-front : goal.returns-in-Account-clause-front
+returns-in-Account-clause-front g c =
+    subst
+    (λ (j : Job). c.account.result ≡ Err Write → (b : List ℕ) → Told (g.S.Source.given c.args.source.now) (g.S.Source.given c.account.new.source) b
+    → GrewFront (g.T.Sink.taken c.args.sink.now) (g.T.Sink.taken c.account.new.sink) (begun_of j (take most b))
+    ⊎ (IsWhole j b (g.S.Source.has_ended c.account.new.source) × GrewFront (g.T.Sink.taken c.args.sink.now) (g.T.Sink.taken c.account.new.sink) (output_of j b)))
+    (sym c.in-Account.is) c.account.ensures.front
 
 pub returns-in-Account-clause-refused : goal.returns-in-Account-clause-refused
 returns-in-Account-clause-refused g c =
