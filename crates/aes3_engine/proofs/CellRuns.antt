@@ -22,10 +22,10 @@ ran-ok : (max : ℕ) (form : Form) (w : Writing Level) (z : List Level → Type 
     → Drove max form w z b ended source sink (Ok (bytes, cells)) → CellRan max form whole begun counts b ended source sink (Ok n)
 ran-ok max form w z whole begun counts b ended source sink bytes cells n p k r = (r.0, k r.2 r.3 r.1, r.4, r.5, grew-is (p (cells_of form b)) r.6)
 
-pub drove-ok : {max : ℕ} {form : Form} {w : Writing Level} {z : List Level → Type 0} (whole begun : List Level → List ℕ) (counts : List ℕ → Counts) {ended : Bool} {source sink : Change} {bytes cells : ℕ} (n : Counts)
+pub drove-ok : {max : ℕ} {form : Form} {w : Writing Level} {f z : List Level → Type 0} (whole begun : List Level → List ℕ) (counts : List ℕ → Counts) {ended : Bool} {source sink : Change} {bytes cells : ℕ} (n : Counts)
     → ((c : List Level) → with_end w c ≡ whole c) → ((b : List ℕ) → bytes ≡ length b → cells ≡ length (cells_of form b) → z (cells_of form b) → n ≡ counts b)
-    → Drive max form w z ended source sink (Ok (bytes, cells)) → CellRun max form whole begun counts ended source sink (Ok n)
-drove-ok {max} {form} {w} {z} whole begun counts {ended} {source} {sink} {bytes} {cells} n p k r =
+    → Drive max form w f z ended source sink (Ok (bytes, cells)) → CellRun max form whole begun counts ended source sink (Ok n)
+drove-ok {max} {form} {w} {f} {z} whole begun counts {ended} {source} {sink} {bytes} {cells} n p k r =
     record { bytes = r.bytes; given = r.given; few = r.few; ran = ran-ok max form w z whole begun counts r.bytes ended source sink bytes cells n p (k r.bytes) r.ran }
 
 ran-err : (max : ℕ) (form : Form) (w : Writing Level) (z : List Level → Type 0) (whole begun : List Level → List ℕ) (counts : List ℕ → Counts) (b : List ℕ) (ended : Bool) (source sink : Change) (x : RunError)
@@ -49,9 +49,9 @@ ran-err max form w z whole begun counts b ended source sink (BadParity n) p q r 
 ran-err max form w z whole begun counts b ended source sink Memory p q r = absurd r
 ran-err max form w z whole begun counts b ended source sink BadStatusText p q r = absurd r
 
-pub drove-err : {max : ℕ} {form : Form} {w : Writing Level} {z : List Level → Type 0} (whole begun : List Level → List ℕ) (counts : List ℕ → Counts) {ended : Bool} {source sink : Change} {x : RunError}
-    → ((c : List Level) → with_end w c ≡ whole c) → ((c : List Level) → before_end w c ≡ begun c) → Drive max form w z ended source sink (Err x) → CellRun max form whole begun counts ended source sink (Err x)
-drove-err {max} {form} {w} {z} whole begun counts {ended} {source} {sink} {x} p q r =
+pub drove-err : {max : ℕ} {form : Form} {w : Writing Level} {f z : List Level → Type 0} (whole begun : List Level → List ℕ) (counts : List ℕ → Counts) {ended : Bool} {source sink : Change} {x : RunError}
+    → ((c : List Level) → with_end w c ≡ whole c) → ((c : List Level) → before_end w c ≡ begun c) → Drive max form w f z ended source sink (Err x) → CellRun max form whole begun counts ended source sink (Err x)
+drove-err {max} {form} {w} {f} {z} whole begun counts {ended} {source} {sink} {x} p q r =
     record { bytes = r.bytes; given = r.given; few = r.few; ran = ran-err max form w z whole begun counts r.bytes ended source sink x p q r.ran }
 
 -- of a source that tells its bytes

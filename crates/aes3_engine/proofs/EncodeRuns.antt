@@ -238,9 +238,9 @@ ran-cause form max z b ended source sink (BadPadding at) few h = elim h.3 [
   | inr q ↦ no-end-cause form b (BadPadding at) (λ k e. cc) q.1
 ]
 
-pub told-cause : (form : Form) {max : ℕ} {z : List ℕ → Type 0} {ended : Bool} {source sink : Change} {e : RunError} → Run max (encoding form) z ended source sink (Err e)
+pub told-cause : (form : Form) {max : ℕ} {f s z : List ℕ → Type 0} {ended : Bool} {source sink : Change} {e : RunError} → Run max (encoding form) f s z ended source sink (Err e)
     → (b : List ℕ) → Told source.old source.new b → IsCauseOf max b ended e
-told-cause form {max} {z} {ended} {source} {sink} {e} run b t = ran-cause form max z b ended source sink e (few-told run b t) (ran-told run b t)
+told-cause form {max} {f} {s} {z} {ended} {source} {sink} {e} run b t = ran-cause form max z b ended source sink e (few-told run b t) (ran-told run b t)
 
 -- an input of whole blocks is one that has no fault
 pub file-clean : (form : Form) (max : ℕ) (b : List ℕ) → IsBlockFile b → length b ≤ max → Clean max (encoding form) b

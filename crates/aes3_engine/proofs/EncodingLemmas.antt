@@ -15,7 +15,7 @@ use Rattle.aes3_block.specs.Refusals.{refusal_of}
 use Rattle.aes3_block.proofs.Reading.{answered, answered-err}
 use Rattle.aes3_block.proofs.Words.{all_lawful, lawful-words, all_lawful-from, length-words}
 use Rattle.aes3_block.proofs.WholeBlocks.{reader-next, lawful-next, blocks-next, added_blocks}
-use Rattle.aes3_engine.specs.Converting.{or_else, unless, fault_behind, out_behind}
+use Rattle.aes3_engine.specs.Converting.{or_else, unless, fault_behind, out_behind, before_fault}
 use Rattle.aes3_engine.specs.Running.{Fed, Stopped, PieceRan, EndRan}
 use Rattle.aes3_engine.proofs.Feeding.{fed-none, fed-join}
 use Rattle.aes3_engine.specs.Encoding.{encoding, refused_by, refused_at_end, block_written, Encodes, AllLawful}
@@ -31,10 +31,13 @@ one-clean form b x block e f = (
 )
 
 one-fault : (form : Form) (b : List ℕ) (x : ℕ) (f : FileFault) → byte_fault (reader_of b) x ≡ Some f
-    → (fault_behind (encoding form) b (x ∷ []) ≡ Some (refusal_of f)) × (out_behind (encoding form) b (x ∷ []) ≡ [])
+    → (fault_behind (encoding form) b (x ∷ []) ≡ Some (refusal_of f)) × (out_behind (encoding form) b (x ∷ []) ≡ []) × (before_fault (encoding form) b (x ∷ []) ≡ [])
 unfolding encoding
-one-fault form b x f e =
-    (ap (λ o. or_else (refused_by o) None) e, ap (λ o. unless (refused_by o) (block_written form (block_with (reader_of b) x) ++ [])) e)
+one-fault form b x f e = (
+  ap (λ o. or_else (refused_by o) None) e,
+  ap (λ o. unless (refused_by o) (block_written form (block_with (reader_of b) x) ++ [])) e,
+  ap (λ o. unless (refused_by o) (x ∷ [])) e,
+)
 
 -- what the answer says, of the reader behind b
 answered-of : (r : FileReader) (b : List ℕ) (x : ℕ) (block : Option (List (List Bool))) → r ≡ reader_of b → Ok block ≡ answer_with r x
@@ -93,10 +96,15 @@ byte-front form {file} x block t t' a g b h =
     let q = answered-of file b x (Some block) h.reader a in front-is (sym (one-clean form b x (Some block) q.0 q.1).1) g
 
 -- a byte that is refused
+-- how many whole blocks were written
+abbrev pub Blocks : ℕ → List ℕ → Type 0
+Blocks blocks = λ b. blocks ≡ length (whole_blocks b)
+
 stopped-byte : (form : Form) {file : FileReader} {blocks : ℕ} (x : ℕ) (f : FileFault) (t : Option (List ℕ)) → Err f ≡ answer_with file x
-    → Stopped (encoding form) (Encodes file blocks) t t (x ∷ []) (refusal_of f)
+    → Stopped (encoding form) (Encodes file blocks) (Blocks blocks) t t (x ∷ []) (refusal_of f)
 stopped-byte form {file} {blocks} x f t a = record {
   fault = λ b h. (one-fault form b x f (here b h)).0;
+  left = λ b h. subst (Blocks blocks) (sym (ap (λ z. b ++ z) (one-fault form b x f (here b h)).2 ∙ append-nil b)) h.count;
   grew = λ b h. grew-is (sym (one-fault form b x f (here b h)).1) (grew-none refl);
 }
   where
@@ -104,12 +112,12 @@ stopped-byte form {file} {blocks} x f t a = record {
     here b h = answered-err (reader_of b) x f (reader-open b) (a ∙ ap (λ v. answer_with v x) h.reader)
 
 pub byte-refused : (form : Form) (file : FileReader) (blocks : ℕ) (after : List ℕ → Type 0) (x : ℕ) (f : FileFault) (e : RunError) (t : Option (List ℕ)) (k : ℕ) → e ≡ refusal_of f → Err f ≡ answer_with file x
-    → PieceRan (encoding form) (encoding form) (Encodes file blocks) after (x ∷ []) (record { old = t; new = t; failed_old = k; failed_new = k }) (Err e)
+    → PieceRan (encoding form) (encoding form) (Encodes file blocks) after (Blocks blocks) (x ∷ []) (record { old = t; new = t; failed_old = k; failed_new = k }) (Err e)
 byte-refused form file blocks after x f e t k q a =
-    subst (λ (v : RunError). PieceRan (encoding form) (encoding form) (Encodes file blocks) after (x ∷ []) (record { old = t; new = t; failed_old = k; failed_new = k }) (Err v)) (sym q) (go f (stopped-byte form x f t a))
+    subst (λ (v : RunError). PieceRan (encoding form) (encoding form) (Encodes file blocks) after (Blocks blocks) (x ∷ []) (record { old = t; new = t; failed_old = k; failed_new = k }) (Err v)) (sym q) (go f (stopped-byte form x f t a))
   where
-    go : (f : FileFault) → Stopped (encoding form) (Encodes file blocks) t t (x ∷ []) (refusal_of f)
-        → PieceRan (encoding form) (encoding form) (Encodes file blocks) after (x ∷ []) (record { old = t; new = t; failed_old = k; failed_new = k }) (Err (refusal_of f))
+    go : (f : FileFault) → Stopped (encoding form) (Encodes file blocks) (Blocks blocks) t t (x ∷ []) (refusal_of f)
+        → PieceRan (encoding form) (encoding form) (Encodes file blocks) after (Blocks blocks) (x ∷ []) (record { old = t; new = t; failed_old = k; failed_new = k }) (Err (refusal_of f))
     go (fault.BadLength left) s = (s, refl)
     go (fault.BadCode at) s = (s, refl)
     go (fault.BadParity at) s = (s, refl)
@@ -130,14 +138,14 @@ unfolding encoding
 end-front form {file} t t' q g b h = (end-of form file b (Ok tt) h.reader q, g)
 
 pub end-refused : (form : Form) (file : FileReader) (blocks : ℕ) (after : List ℕ → Type 0) (f : FileFault) (e : RunError) (t : Option (List ℕ)) (k : ℕ) → e ≡ refusal_of f → Err f ≡ end_answer file
-    → EndRan (encoding form) (Encodes file blocks) after (record { old = t; new = t; failed_old = k; failed_new = k }) (Err e)
+    → EndRan (encoding form) (Encodes file blocks) (Blocks blocks) after (record { old = t; new = t; failed_old = k; failed_new = k }) (Err e)
 end-refused form file blocks after f e t k q a =
-    subst (λ (v : RunError). EndRan (encoding form) (Encodes file blocks) after (record { old = t; new = t; failed_old = k; failed_new = k }) (Err v)) (sym q) (go f a)
+    subst (λ (v : RunError). EndRan (encoding form) (Encodes file blocks) (Blocks blocks) after (record { old = t; new = t; failed_old = k; failed_new = k }) (Err v)) (sym q) (go f a)
   where
-    go : (f : FileFault) → Err f ≡ end_answer file → EndRan (encoding form) (Encodes file blocks) after (record { old = t; new = t; failed_old = k; failed_new = k }) (Err (refusal_of f))
-    go (fault.BadLength left) a = (λ b h. (end-of form file b (Err (fault.BadLength left)) h.reader a, grew-none refl), refl)
-    go (fault.BadCode at) a = (λ b h. (end-of form file b (Err (fault.BadCode at)) h.reader a, grew-none refl), refl)
-    go (fault.BadParity at) a = (λ b h. (end-of form file b (Err (fault.BadParity at)) h.reader a, grew-none refl), refl)
+    go : (f : FileFault) → Err f ≡ end_answer file → EndRan (encoding form) (Encodes file blocks) (Blocks blocks) after (record { old = t; new = t; failed_old = k; failed_new = k }) (Err (refusal_of f))
+    go (fault.BadLength left) a = (λ b h. (end-of form file b (Err (fault.BadLength left)) h.reader a, h.count, grew-none refl), refl)
+    go (fault.BadCode at) a = (λ b h. (end-of form file b (Err (fault.BadCode at)) h.reader a, h.count, grew-none refl), refl)
+    go (fault.BadParity at) a = (λ b h. (end-of form file b (Err (fault.BadParity at)) h.reader a, h.count, grew-none refl), refl)
 
 -- how many bytes, and how many blocks at most
 pub encodes-seen : {file : FileReader} {blocks : ℕ} {b : List ℕ} → Encodes file blocks b → file.seen ≡ length b

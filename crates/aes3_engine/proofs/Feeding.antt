@@ -5,9 +5,9 @@ use Rattle.aes3_cell.specs.declared.refusal.RunError.{RunError}
 use Rattle.aes3_cell.specs.declared.refusal.RunError.TheVariants.{Read, Write, TooLong}
 use Rattle.aes3_cell.specs.Ends.{GrewFront}
 use Rattle.aes3_cell.proofs.Growing.{grew-none, grew-join, grew-is, front-join, front-more, front-is}
-use Rattle.aes3_engine.specs.Converting.{Reading, fault_behind, out_behind}
+use Rattle.aes3_engine.specs.Converting.{Reading, fault_behind, out_behind, before_fault}
 use Rattle.aes3_engine.specs.Running.{Fed, Stopped, PieceRan}
-use Rattle.aes3_engine.proofs.Outputs.{behind-join, behind-clean, fault-clean, behind-fault, fault-first}
+use Rattle.aes3_engine.proofs.Outputs.{behind-join, behind-clean, fault-clean, behind-fault, fault-first, before-clean, before-first}
 
 pub fed-none : (r : Reading) (f : List ℕ → Type 0) (t : Option (List ℕ)) → Fed r r f f t t []
 fed-none r f t = record { same = refl; clean = λ b h. refl; follows = λ b h. subst f (sym (append-nil b)) h; grew = λ b h. grew-none refl }
@@ -36,10 +36,15 @@ pub fed-front : {r₀ r r' : Reading} {f₀ f f' : List ℕ → Type 0} {t₀ t 
 fed-front xs rest at n e p q = fed-is (ap (λ z. take at xs ++ take n z) e ∙ sym (take-add at n xs)) (fed-join p q)
 
 -- a piece that stops behind one that is fed, and what stands behind it
-stopped-join : {r₀ r : Reading} {f₀ f : List ℕ → Type 0} {t₀ t t' : Option (List ℕ)} {a d : List ℕ} (rest : List ℕ) {e : RunError}
-    → Fed r₀ r f₀ f t₀ t a → Stopped r f t t' d e → Stopped r₀ f₀ t₀ t' (a ++ (d ++ rest)) e
-stopped-join {r₀} {r} {f₀} {a = a} {d = d} rest {e} p q = record {
+stopped-join : {r₀ r : Reading} {f₀ f s : List ℕ → Type 0} {t₀ t t' : Option (List ℕ)} {a d : List ℕ} (rest : List ℕ) {e : RunError}
+    → Fed r₀ r f₀ f t₀ t a → Stopped r f s t t' d e → Stopped r₀ f₀ s t₀ t' (a ++ (d ++ rest)) e
+stopped-join {r₀} {r} {f₀} {s = s} {a = a} {d = d} rest {e} p q = record {
   fault = λ b h. fault-clean r₀ b a (d ++ rest) (p.clean b h) ∙ fault-first r₀ (b ++ a) d rest e (here b h);
+  left = λ b h. subst s
+      (append_assoc b a (before_fault r (b ++ a) d)
+      ∙ ap (λ z. b ++ z) (ap (λ v. a ++ before_fault v (b ++ a) d) p.same
+      ∙ ap (λ z. a ++ z) (sym (before-first r₀ (b ++ a) d rest e (here b h))) ∙ sym (before-clean r₀ b a (d ++ rest) (p.clean b h))))
+      (q.left (b ++ a) (p.follows b h));
   grew = λ b h. grew-is (sym (behind-clean r₀ b a (d ++ rest) (p.clean b h) ∙ ap (λ z. out_behind r₀ b a ++ z) (behind-fault r₀ (b ++ a) d rest e (here b h))))
       (grew-join (p.grew b h) (grew-is (as-before p (b ++ a) d) (q.grew (b ++ a) (p.follows b h))));
 }
@@ -58,15 +63,15 @@ front-joined {r₀} {a = a} d rest p q b h =
 pub front-longer : (r : Reading) (b d rest xs : List ℕ) {t t' : Option (List ℕ)} → d ++ rest ≡ xs → GrewFront t t' (out_behind r b d) → GrewFront t t' (out_behind r b xs)
 front-longer r b d rest xs e g = front-is (sym (behind-join r b d rest) ∙ ap (out_behind r b) e) (front-more g _)
 
-pub ran-join : {r₀ r : Reading} (r' : Reading) {f₀ f : List ℕ → Type 0} (f' : List ℕ → Type 0) {t₀ t : Option (List ℕ)} (t' : Option (List ℕ)) {k₀ k : ℕ} (k' : ℕ) {a : List ℕ} (d rest xs : List ℕ) (e : RunError)
+pub ran-join : {r₀ r : Reading} (r' : Reading) {f₀ f : List ℕ → Type 0} (f' s : List ℕ → Type 0) {t₀ t : Option (List ℕ)} (t' : Option (List ℕ)) {k₀ k : ℕ} (k' : ℕ) {a : List ℕ} (d rest xs : List ℕ) (e : RunError)
     → Fed r₀ r f₀ f t₀ t a → k ≡ k₀ → a ++ (d ++ rest) ≡ xs
-    → PieceRan r r' f f' d (record { old = t; new = t'; failed_old = k; failed_new = k' }) (Err e)
-    → PieceRan r₀ r' f₀ f' xs (record { old = t₀; new = t'; failed_old = k₀; failed_new = k' }) (Err e)
-ran-join {r₀} {r} r' {f₀} {f} f' {t₀} {t} t' {k₀} {k} k' {a} d rest xs e p q l ran =
-    subst (λ (z : List ℕ). PieceRan r₀ r' f₀ f' z (record { old = t₀; new = t'; failed_old = k₀; failed_new = k' }) (Err e)) l (go e ran)
+    → PieceRan r r' f f' s d (record { old = t; new = t'; failed_old = k; failed_new = k' }) (Err e)
+    → PieceRan r₀ r' f₀ f' s xs (record { old = t₀; new = t'; failed_old = k₀; failed_new = k' }) (Err e)
+ran-join {r₀} {r} r' {f₀} {f} f' s {t₀} {t} t' {k₀} {k} k' {a} d rest xs e p q l ran =
+    subst (λ (z : List ℕ). PieceRan r₀ r' f₀ f' s z (record { old = t₀; new = t'; failed_old = k₀; failed_new = k' }) (Err e)) l (go e ran)
   where
-    go : (e : RunError) → PieceRan r r' f f' d (record { old = t; new = t'; failed_old = k; failed_new = k' }) (Err e)
-        → PieceRan r₀ r' f₀ f' (a ++ (d ++ rest)) (record { old = t₀; new = t'; failed_old = k₀; failed_new = k' }) (Err e)
+    go : (e : RunError) → PieceRan r r' f f' s d (record { old = t; new = t'; failed_old = k; failed_new = k' }) (Err e)
+        → PieceRan r₀ r' f₀ f' s (a ++ (d ++ rest)) (record { old = t₀; new = t'; failed_old = k₀; failed_new = k' }) (Err e)
     go Write w = (w.0 ∙ ap (λ z. z + 1) q, front-joined d rest p w.1)
     go Read w = absurd w
     go TooLong w = absurd w

@@ -1,7 +1,7 @@
 -- Faults and outputs of joined bytes.
 use Rattle.std.proofs.Common.{◌≡◌, ℕ, List, [], ◌∷◌, ◌++◌, Option, Some, None, sym, ap, ◌∙◌, append_assoc, append-nil, refl}
 use Rattle.aes3_cell.specs.declared.refusal.RunError.{RunError}
-use Rattle.aes3_engine.specs.Converting.{Reading, or_else, unless, fault_behind, out_behind, first_fault, out}
+use Rattle.aes3_engine.specs.Converting.{Reading, or_else, unless, fault_behind, out_behind, before_fault, first_fault, out}
 
 pub fault-join : (r : Reading) (b d e : List ℕ) → fault_behind r b (d ++ e) ≡ or_else (fault_behind r b d) (fault_behind r (b ++ d) e)
 fault-join r b [] e = ap (λ z. fault_behind r z e) (sym (append-nil b))
@@ -41,6 +41,37 @@ behind-fault r b d e f h = behind-join r b d e ∙ ap (λ z. out_behind r b d ++
 
 pub fault-first : (r : Reading) (b d e : List ℕ) (f : RunError) → fault_behind r b d ≡ Some f → fault_behind r b (d ++ e) ≡ Some f
 fault-first r b d e f h = fault-join r b d e ∙ ap (λ z. or_else z (fault_behind r (b ++ d) e)) h
+
+-- the bytes before the first fault
+pub before-join : (r : Reading) (b d e : List ℕ) → before_fault r b (d ++ e) ≡ before_fault r b d ++ unless (fault_behind r b d) (before_fault r (b ++ d) e)
+before-join r b [] e = ap (λ z. before_fault r z e) (sym (append-nil b))
+before-join r b (x ∷ d) e =
+    go (r.fault b x) (before-join r (b ++ x ∷ []) d e
+    ∙ ap (λ z. before_fault r (b ++ x ∷ []) d ++ unless (fault_behind r (b ++ x ∷ []) d) (before_fault r z e)) (append_assoc b (x ∷ []) d))
+  where
+    go : (o : Option RunError)
+        → before_fault r (b ++ x ∷ []) (d ++ e) ≡ before_fault r (b ++ x ∷ []) d ++ unless (fault_behind r (b ++ x ∷ []) d) (before_fault r (b ++ x ∷ d) e)
+        → unless o (x ∷ before_fault r (b ++ x ∷ []) (d ++ e))
+        ≡ unless o (x ∷ before_fault r (b ++ x ∷ []) d) ++ unless (or_else o (fault_behind r (b ++ x ∷ []) d)) (before_fault r (b ++ x ∷ d) e)
+    go (Some f) h = refl
+    go None h = ap (λ z. x ∷ z) h
+
+pub before-all : (r : Reading) (b d : List ℕ) → fault_behind r b d ≡ None → before_fault r b d ≡ d
+before-all r b [] h = refl
+before-all r b (x ∷ d) h = go (r.fault b x) h (before-all r (b ++ x ∷ []) d)
+  where
+    go : (o : Option RunError) → or_else o (fault_behind r (b ++ x ∷ []) d) ≡ None
+        → (fault_behind r (b ++ x ∷ []) d ≡ None → before_fault r (b ++ x ∷ []) d ≡ d) → unless o (x ∷ before_fault r (b ++ x ∷ []) d) ≡ x ∷ d
+    go (Some f) e next = absurd cc
+    go None e next = ap (λ z. x ∷ z) (next e)
+
+pub before-clean : (r : Reading) (b d e : List ℕ) → fault_behind r b d ≡ None → before_fault r b (d ++ e) ≡ d ++ before_fault r (b ++ d) e
+before-clean r b d e h =
+    before-join r b d e ∙ ap (λ z. before_fault r b d ++ unless z (before_fault r (b ++ d) e)) h ∙ ap (λ z. z ++ before_fault r (b ++ d) e) (before-all r b d h)
+
+pub before-first : (r : Reading) (b d e : List ℕ) (f : RunError) → fault_behind r b d ≡ Some f → before_fault r b (d ++ e) ≡ before_fault r b d
+before-first r b d e f h =
+    before-join r b d e ∙ ap (λ z. before_fault r b d ++ unless z (before_fault r (b ++ d) e)) h ∙ append-nil (before_fault r b d)
 
 -- a function that grows as clean bytes write, and stays as it is behind a fault, is what they write
 pub out-is : (r : Reading) (f : List ℕ → List ℕ) → f [] ≡ []

@@ -140,11 +140,11 @@ last-front w₀ f₀ packed cells o p t t' a e g b h =
     )
 
 pub last-bad : (w₀ : Writing Level) (f₀ : List Level → Type 0) (packed : PackedReader) (cells : ℕ) (fault : padding.BadPadding) (t : Option (List ℕ))
-    → Err fault ≡ packed_end packed → (b : List ℕ) → PackedTaken packed cells f₀ b → ((packed_reading w₀).end_fault b ≡ Some (BadPadding fault.at)) × Grew t t []
+    → Err fault ≡ packed_end packed → (b : List ℕ) → PackedTaken packed cells f₀ b → ((packed_reading w₀).end_fault b ≡ Some (BadPadding fault.at)) × f₀ (whole_cells b) × Grew t t []
 unfolding packed_reading
 last-bad w₀ f₀ packed cells fault t a b h =
     let q = end-fault b fault (sym (a ∙ ap packed_end h.reader)) in
-    (ap₂ (λ v k. cond {A = Option RunError} v None (Some (BadPadding k))) q.0 (sym q.1), grew-none refl)
+    (ap₂ (λ v k. cond {A = Option RunError} v None (Some (BadPadding k))) q.0 (sym q.1), h.taker, grew-none refl)
 
 -- the last cells, and the end
 pub ended : (w₀ w : Writing Level) (f₀ f z : List Level → Type 0) (d : List Level) (t t' t'' : Option (List ℕ)) (k k' k'' : ℕ) (result : Result (Unit {0}) device.Fault)

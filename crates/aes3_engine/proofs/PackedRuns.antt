@@ -10,11 +10,11 @@ use Rattle.aes3_cell.proofs.Growing.{grew-is, front-is}
 use Rattle.aes3_cell.proofs.PackedCells.{is_packed-packs, packs-is_packed}
 use Rattle.aes3_cell.proofs.PackedReads.{whole_cells-more, cells-end}
 use Rattle.aes3_engine.specs.Converting.{fault_behind, first_fault, out, whole}
-use Rattle.aes3_engine.specs.Running.{Change, Ran, Run, CleanEnd}
+use Rattle.aes3_engine.specs.Running.{Change, Ran, Left, Run, CleanEnd}
 use Rattle.aes3_engine.specs.Taking.{Writing, behind, before_end, with_end}
 use Rattle.aes3_engine.specs.Forms.{packed_reading, PackedTaken, PackedEnded}
-use Rattle.aes3_engine.specs.Driving.{Drove, Drive}
-use Rattle.aes3_engine.proofs.Outputs.{out-is}
+use Rattle.aes3_engine.specs.Driving.{Drove, LeftCells, Drive}
+use Rattle.aes3_engine.proofs.Outputs.{out-is, before-all}
 use Rattle.aes3_engine.proofs.Items.{before-join}
 
 -- no octet is a fault before the end
@@ -145,12 +145,25 @@ packed-ran-err max w cells z b ended source sink (BadParity n) r = absurd (let q
 packed-ran-err max w cells z b ended source sink Memory r = absurd (let q = (bad-of max w b ended Memory r.3).2 in cc)
 packed-ran-err max w cells z b ended source sink BadStatusText r = absurd (let q = (bad-of max w b ended BadStatusText r.3).2 in cc)
 
-pub packed-ok : {max : ℕ} {w : Writing Level} {cells : ℕ} {z : List Level → Type 0} {ended : Bool} {source sink : Change} {n : ℕ}
-    → Run max (packed_reading w) (PackedEnded cells z) ended source sink (Ok n) → Drive max Packed w z ended source sink (Ok (n, cells))
-packed-ok {max} {w} {cells} {z} {ended} {source} {sink} {n} r =
-    record { bytes = r.bytes; given = r.given; few = r.few; ran = packed-ran-ok max w cells z r.bytes ended source sink n r.ran }
+packed-left : (max : ℕ) (w : Writing Level) (packed : PackedReader) (cells : ℕ) (f : List Level → Type 0) (b : List ℕ) (e : RunError)
+    → Left max (packed_reading w) (PackedTaken packed cells f) (λ b. f (whole_cells b)) b (Err e) → LeftCells max Packed f b (Err e)
+packed-left max w packed cells f b Write h = tt
+packed-left max w packed cells f b Read h = h.taker
+packed-left max w packed cells f b TooLong h = h.taker
+packed-left max w packed cells f b e h = subst (λ (v : List ℕ). f (whole_cells v)) (before-all (packed_reading w) [] (take max b) (clean-behind w [] (take max b))) h
 
-pub packed-err : {max : ℕ} {w : Writing Level} {cells : ℕ} {z : List Level → Type 0} {ended : Bool} {source sink : Change} {e : RunError}
-    → Run max (packed_reading w) (PackedEnded cells z) ended source sink (Err e) → Drive max Packed w z ended source sink (Err e)
-packed-err {max} {w} {cells} {z} {ended} {source} {sink} {e} r =
-    record { bytes = r.bytes; given = r.given; few = r.few; ran = packed-ran-err max w cells z r.bytes ended source sink e r.ran }
+pub packed-ok : {max : ℕ} {w : Writing Level} {packed : PackedReader} {cells : ℕ} {f z : List Level → Type 0} {ended : Bool} {source sink : Change} {n : ℕ}
+    → Run max (packed_reading w) (PackedTaken packed cells f) (λ b. f (whole_cells b)) (PackedEnded cells z) ended source sink (Ok n) → Drive max Packed w f z ended source sink (Ok (n, cells))
+packed-ok {max} {w} {packed} {cells} {f} {z} {ended} {source} {sink} {n} r =
+    record { bytes = r.bytes; given = r.given; few = r.few; ran = packed-ran-ok max w cells z r.bytes ended source sink n r.ran; left = tt }
+
+pub packed-err : {max : ℕ} {w : Writing Level} {packed : PackedReader} {cells : ℕ} {f z : List Level → Type 0} {ended : Bool} {source sink : Change} {e : RunError}
+    → Run max (packed_reading w) (PackedTaken packed cells f) (λ b. f (whole_cells b)) (PackedEnded cells z) ended source sink (Err e) → Drive max Packed w f z ended source sink (Err e)
+packed-err {max} {w} {packed} {cells} {f} {z} {ended} {source} {sink} {e} r =
+    record {
+      bytes = r.bytes;
+      given = r.given;
+      few = r.few;
+      ran = packed-ran-err max w cells z r.bytes ended source sink e r.ran;
+      left = packed-left max w packed cells f r.bytes e r.left;
+    }

@@ -35,15 +35,15 @@ counted form b n c k f u e d t =
     ∙ ap (λ (x : ℕ). record { bytes = length b; cells = length (cells_of form b); blocks = length (wholes r); faults = length (filter is_faulty r); unfinished = x; marks = 0 }) t.unfinished_is
 
 -- the run
-pub run-ok : {max : ℕ} {form : Form} (f : ℕ → Report → List ℕ) (e : List ℕ) {blocks faults unfinished : ℕ} {ended : Bool} {source sink : Change} {bytes cells : ℕ}
-    → Drive max form (reporting (report_writing f e)) (λ c. Tallies blocks faults unfinished (reports c)) ended source sink (Ok (bytes, cells))
+pub run-ok : {max : ℕ} {form : Form} (f : ℕ → Report → List ℕ) (e : List ℕ) {g : List Level → Type 0} {blocks faults unfinished : ℕ} {ended : Bool} {source sink : Change} {bytes cells : ℕ}
+    → Drive max form (reporting (report_writing f e)) g (λ c. Tallies blocks faults unfinished (reports c)) ended source sink (Ok (bytes, cells))
     → ReportRun max form f e ended source sink (Ok (record { bytes = bytes; cells = cells; blocks = blocks; faults = faults; unfinished = unfinished; marks = 0 }))
 run-ok {form} f e {blocks = k} {faults = u} {unfinished = v} {bytes = n} {cells = m} r =
     drove-ok (λ c. output f (reports c) ++ e) (λ c. output f (decided c)) (counts_of form) (record { bytes = n; cells = m; blocks = k; faults = u; unfinished = v; marks = 0 })
     (with-cells f e) (λ b p q t. counted form b n m k u v p q t) r
 
-pub run-err : {max : ℕ} {form : Form} (f : ℕ → Report → List ℕ) (e : List ℕ) {z : List Level → Type 0} {ended : Bool} {source sink : Change} {x : RunError}
-    → Drive max form (reporting (report_writing f e)) z ended source sink (Err x) → ReportRun max form f e ended source sink (Err x)
+pub run-err : {max : ℕ} {form : Form} (f : ℕ → Report → List ℕ) (e : List ℕ) {g z : List Level → Type 0} {ended : Bool} {source sink : Change} {x : RunError}
+    → Drive max form (reporting (report_writing f e)) g z ended source sink (Err x) → ReportRun max form f e ended source sink (Err x)
 run-err {form} f e r = drove-err (λ c. output f (reports c) ++ e) (λ c. output f (decided c)) (counts_of form) (with-cells f e) (before-cells f e) r
 
 pub run-same : {max : ℕ} {form : Form} (f h : ℕ → Report → List ℕ) (e k : List ℕ) {ended : Bool} {source sink : Change} {r : Result Counts RunError}

@@ -1,5 +1,5 @@
 -- A run over cell text.
-use Rattle.std.proofs.Common.{◌≡◌, ℕ, ◌+◌, ◌<◌, ◌⊎◌, inl, inr, Bool, true, false, cond, List, [], ◌∷◌, ◌++◌, length, take, Option, Some, None, Ok, Err, refl, sym, ap, ◌∙◌, subst, arith, length-append}
+use Rattle.std.proofs.Common.{◌≡◌, ℕ, ◌+◌, ◌<◌, ◌⊎◌, inl, inr, Bool, true, false, cond, List, [], ◌∷◌, ◌++◌, length, take, Option, Some, None, Ok, Err, refl, sym, ap, ◌∙◌, subst, arith, append_assoc, append-nil, length-append}
 use Rattle.aes3_cell.specs.declared.level.Level.{Level}
 use Rattle.aes3_cell.specs.declared.form.Form.TheVariants.{Text}
 use Rattle.aes3_cell.specs.declared.refusal.RunError.{RunError}
@@ -8,11 +8,11 @@ use Rattle.aes3_cell.specs.CellText.{is_good_byte, byte_cells, good_bytes, good,
 use Rattle.aes3_cell.specs.TextReading.{TextReader, text_reader_of}
 use Rattle.aes3_cell.proofs.Growing.{grew-is, front-is}
 use Rattle.aes3_cell.proofs.CellTexts.{good-join, good-bad, text-more, cells-more, cells-bad}
-use Rattle.aes3_engine.specs.Converting.{or_else, fault_behind, first_fault, out, whole}
-use Rattle.aes3_engine.specs.Running.{Change, Ran, Run, CleanEnd}
+use Rattle.aes3_engine.specs.Converting.{or_else, unless, fault_behind, before_fault, first_fault, out, whole}
+use Rattle.aes3_engine.specs.Running.{Change, Ran, Left, Run, CleanEnd}
 use Rattle.aes3_engine.specs.Taking.{Writing, behind, before_end, with_end}
 use Rattle.aes3_engine.specs.Forms.{text_reading, TextTaken}
-use Rattle.aes3_engine.specs.Driving.{Drove, Drive}
+use Rattle.aes3_engine.specs.Driving.{Drove, LeftCells, Drive}
 use Rattle.aes3_engine.proofs.Outputs.{out-is}
 use Rattle.aes3_engine.proofs.Items.{before-join}
 
@@ -120,6 +120,25 @@ whole-text : (w : Writing Level) (b : List ℕ) → whole (text_reading w) b ≡
 unfolding whole with_end text_reading
 whole-text w b = ap (λ o. o ++ w.ends (cells_of_text b)) (out-text w b)
 
+-- the cells before the first bad byte are those of all bytes
+cells-left : (w : Writing Level) (b : List ℕ) → cells_of_text (before_fault (text_reading w) [] b) ≡ cells_of_text b
+cells-left w b = go [] b text-none
+  where
+    go : (p d : List ℕ) → IsCellText p → cells_of_text (p ++ before_fault (text_reading w) p d) ≡ cells_of_text (p ++ d)
+    go p [] g = refl
+    go p (x ∷ d) g = step (is_good_byte x) refl (λ k. go (p ++ x ∷ []) d k)
+      where
+        step : (t : Bool) → is_good_byte x ≡ t
+            → (IsCellText (p ++ x ∷ []) → cells_of_text ((p ++ x ∷ []) ++ before_fault (text_reading w) (p ++ x ∷ []) d) ≡ cells_of_text ((p ++ x ∷ []) ++ d))
+            → cells_of_text (p ++ before_fault (text_reading w) p (x ∷ d)) ≡ cells_of_text (p ++ x ∷ d)
+        step true e next =
+            ap (λ o. cells_of_text (p ++ unless o (x ∷ before_fault (text_reading w) (p ++ x ∷ []) d))) (byte-fault w p x true e)
+            ∙ ap cells_of_text (sym (append_assoc p (x ∷ []) (before_fault (text_reading w) (p ++ x ∷ []) d))) ∙ next (text-more p x g e)
+            ∙ ap cells_of_text (append_assoc p (x ∷ []) d)
+        step false e next =
+            ap (λ o. cells_of_text (p ++ unless o (x ∷ before_fault (text_reading w) (p ++ x ∷ []) d))) (byte-fault w p x false e)
+            ∙ ap cells_of_text (append-nil p) ∙ sym (cells-bad p x d g e)
+
 text_reader-new : {r : TextReader} → r.seen ≡ 0 → r ≡ text_reader_of []
 unfolding text_reader_of
 text_reader-new {r} e = ap (λ n. record { seen = n }) e
@@ -181,12 +200,25 @@ text-ran-err max w text cells z b ended source sink Memory r = absurd (let q = (
 text-ran-err max w text cells z b ended source sink BadStatusText r = absurd (let q = (bad-of max w b ended BadStatusText r.3).0 in cc)
 text-ran-err max w text cells z b ended source sink (BadPadding n) r = absurd (let q = (bad-of max w b ended (BadPadding n) r.3).0 in cc)
 
-pub text-ok : {max : ℕ} {w : Writing Level} {text : TextReader} {cells : ℕ} {z : List Level → Type 0} {ended : Bool} {source sink : Change} {n : ℕ}
-    → Run max (text_reading w) (TextTaken text cells z) ended source sink (Ok n) → Drive max Text w z ended source sink (Ok (n, cells))
-text-ok {max} {w} {text} {cells} {z} {ended} {source} {sink} {n} r =
-    record { bytes = r.bytes; given = r.given; few = r.few; ran = text-ran-ok max w text cells z r.bytes ended source sink n r.ran }
+text-left : (max : ℕ) (w : Writing Level) (text : TextReader) (cells : ℕ) (f : List Level → Type 0) (b : List ℕ) (e : RunError)
+    → Left max (text_reading w) (TextTaken text cells f) (λ b. f (cells_of_text b)) b (Err e) → LeftCells max Text f b (Err e)
+text-left max w text cells f b Write h = tt
+text-left max w text cells f b Read h = h.taker
+text-left max w text cells f b TooLong h = h.taker
+text-left max w text cells f b e h = subst f (cells-left w (take max b)) h
 
-pub text-err : {max : ℕ} {w : Writing Level} {text : TextReader} {cells : ℕ} {z : List Level → Type 0} {ended : Bool} {source sink : Change} {e : RunError}
-    → Run max (text_reading w) (TextTaken text cells z) ended source sink (Err e) → Drive max Text w z ended source sink (Err e)
-text-err {max} {w} {text} {cells} {z} {ended} {source} {sink} {e} r =
-    record { bytes = r.bytes; given = r.given; few = r.few; ran = text-ran-err max w text cells z r.bytes ended source sink e r.ran }
+pub text-ok : {max : ℕ} {w : Writing Level} {text : TextReader} {cells : ℕ} {f z : List Level → Type 0} {ended : Bool} {source sink : Change} {n : ℕ}
+    → Run max (text_reading w) (TextTaken text cells f) (λ b. f (cells_of_text b)) (TextTaken text cells z) ended source sink (Ok n) → Drive max Text w f z ended source sink (Ok (n, cells))
+text-ok {max} {w} {text} {cells} {f} {z} {ended} {source} {sink} {n} r =
+    record { bytes = r.bytes; given = r.given; few = r.few; ran = text-ran-ok max w text cells z r.bytes ended source sink n r.ran; left = tt }
+
+pub text-err : {max : ℕ} {w : Writing Level} {text : TextReader} {cells : ℕ} {f z : List Level → Type 0} {ended : Bool} {source sink : Change} {e : RunError}
+    → Run max (text_reading w) (TextTaken text cells f) (λ b. f (cells_of_text b)) (TextTaken text cells z) ended source sink (Err e) → Drive max Text w f z ended source sink (Err e)
+text-err {max} {w} {text} {cells} {f} {z} {ended} {source} {sink} {e} r =
+    record {
+      bytes = r.bytes;
+      given = r.given;
+      few = r.few;
+      ran = text-ran-err max w text cells z r.bytes ended source sink e r.ran;
+      left = text-left max w text cells f r.bytes e r.left;
+    }

@@ -9,13 +9,13 @@ use Rattle.aes3_engine.specs.Converting.{Reading, first_fault, out, whole}
 use Rattle.aes3_engine.specs.Running.{Ran, Run, Change, Quiet, Clean, CleanEnd}
 
 -- the bytes of a run are those that the source tells
-pub ran-told : {max : ℕ} {r : Reading} {z : List ℕ → Type 0} {ended : Bool} {source sink : Change} {result : Result ℕ RunError}
-    → Run max r z ended source sink result → (b : List ℕ) → Told source.old source.new b → Ran max r z b ended source sink result
-ran-told {max} {r} {z} {ended} {source} {sink} {result} run b t =
+pub ran-told : {max : ℕ} {r : Reading} {f s z : List ℕ → Type 0} {ended : Bool} {source sink : Change} {result : Result ℕ RunError}
+    → Run max r f s z ended source sink result → (b : List ℕ) → Told source.old source.new b → Ran max r z b ended source sink result
+ran-told {max} {r} {f} {s} {z} {ended} {source} {sink} {result} run b t =
     subst (λ (v : List ℕ). Ran max r z v ended source sink result) (told-is run.given t) run.ran
 
-pub few-told : {max : ℕ} {r : Reading} {z : List ℕ → Type 0} {ended : Bool} {source sink : Change} {result : Result ℕ RunError}
-    → Run max r z ended source sink result → (b : List ℕ) → Told source.old source.new b → length b ≤ max + 1
+pub few-told : {max : ℕ} {r : Reading} {f s z : List ℕ → Type 0} {ended : Bool} {source sink : Change} {result : Result ℕ RunError}
+    → Run max r f s z ended source sink result → (b : List ℕ) → Told source.old source.new b → length b ≤ max + 1
 few-told {max} run b t = subst (λ (v : List ℕ). length v ≤ max + 1) (told-is run.given t) run.few
 
 -- what was written before a refusal, unless the sink failed
@@ -50,20 +50,20 @@ owed max r z b ended source sink (Err x) h c e q k = absurd (elim h.3 [
     some-none q = cc
 
 -- the same of a run
-pub told-wrote : {max : ℕ} {r : Reading} {z : List ℕ → Type 0} {ended : Bool} {source sink : Change} {e : RunError} → Run max r z ended source sink (Err e)
+pub told-wrote : {max : ℕ} {r : Reading} {f s z : List ℕ → Type 0} {ended : Bool} {source sink : Change} {e : RunError} → Run max r f s z ended source sink (Err e)
     → e ≢ Write → (b : List ℕ) → Told source.old source.new b → Grew sink.old sink.new (out r (take max b))
-told-wrote {max} {r} {z} {ended} {source} {sink} {e} run n b t = wrote max r z b ended source sink e (ran-told run b t) n
+told-wrote {max} {r} {f} {s} {z} {ended} {source} {sink} {e} run n b t = wrote max r z b ended source sink e (ran-told run b t) n
 
-pub told-sink_quiet : {max : ℕ} {r : Reading} {z : List ℕ → Type 0} {ended : Bool} {source sink : Change} {e : RunError} → Run max r z ended source sink (Err e)
+pub told-sink_quiet : {max : ℕ} {r : Reading} {f s z : List ℕ → Type 0} {ended : Bool} {source sink : Change} {e : RunError} → Run max r f s z ended source sink (Err e)
     → e ≢ Write → Quiet sink
-told-sink_quiet {max} {r} {z} {ended} {source} {sink} {e} run n = quiet-sink max r z run.bytes ended source sink e run.ran n
+told-sink_quiet {max} {r} {f} {s} {z} {ended} {source} {sink} {e} run n = quiet-sink max r z run.bytes ended source sink e run.ran n
 
-pub told-front : {max : ℕ} {r : Reading} {z : List ℕ → Type 0} {ended : Bool} {source sink : Change} {e : RunError} → Run max r z ended source sink (Err e)
+pub told-front : {max : ℕ} {r : Reading} {f s z : List ℕ → Type 0} {ended : Bool} {source sink : Change} {e : RunError} → Run max r f s z ended source sink (Err e)
     → e ≡ Write → (b : List ℕ) → Told source.old source.new b
     → GrewFront sink.old sink.new (out r (take max b)) ⊎ (CleanEnd max r b ended × (r.end_fault b ≡ None) × GrewFront sink.old sink.new (whole r b))
-told-front {max} {r} {z} {ended} {source} {sink} run q b t =
-    (ran-told (subst (λ (v : RunError). Run max r z ended source sink (Err v)) q run) b t).2
+told-front {max} {r} {f} {s} {z} {ended} {source} {sink} run q b t =
+    (ran-told (subst (λ (v : RunError). Run max r f s z ended source sink (Err v)) q run) b t).2
 
-pub told-owed : {max : ℕ} {r : Reading} {z : List ℕ → Type 0} {ended : Bool} {source sink : Change} {result : Result ℕ RunError} → Run max r z ended source sink result
+pub told-owed : {max : ℕ} {r : Reading} {f s z : List ℕ → Type 0} {ended : Bool} {source sink : Change} {result : Result ℕ RunError} → Run max r f s z ended source sink result
     → (b : List ℕ) → Told source.old source.new b → Clean max r b → r.end_fault b ≡ None → Quiet source → Quiet sink → IsOk result
-told-owed {max} {r} {z} {ended} {source} {sink} {result} run b t c e q k = owed max r z b ended source sink result (ran-told run b t) c e q k
+told-owed {max} {r} {f} {s} {z} {ended} {source} {sink} {result} run b t c e q k = owed max r z b ended source sink result (ran-told run b t) c e q k

@@ -26,6 +26,11 @@ abbrev pub out_behind : Reading → List ℕ → List ℕ → List ℕ
 out_behind r b [] = []
 out_behind r b (x ∷ d) = unless (r.fault b x) (r.adds b x ++ out_behind r (b ++ x ∷ []) d)
 
+-- the bytes of d before the first fault
+abbrev pub before_fault : Reading → List ℕ → List ℕ → List ℕ
+before_fault r b [] = []
+before_fault r b (x ∷ d) = unless (r.fault b x) (x ∷ before_fault r (b ++ x ∷ []) d)
+
 -- the first fault of an input, what it writes without its end, and with it
 unfoldable pub first_fault : Reading → List ℕ → Option RunError
 first_fault r b = fault_behind r [] b

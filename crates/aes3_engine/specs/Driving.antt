@@ -33,9 +33,16 @@ Drove max form w z b ended source sink (Err (BadPadding at)) =
     BadEndAt form b at × (length b ≤ max) × IsTrue ended × Quiet source × Quiet sink × Grew sink.old sink.new (before_end w (cells_before form (take max b)))
 Drove max form w z b ended source sink (Err e) = ⊥
 
+-- what holds where a run over the bytes b was refused, and not by the sink: f of the cells before
+abbrev pub LeftCells : ℕ → Form → (List Level → Type 0) → List ℕ → Result (ℕ × ℕ) RunError → Type 0
+LeftCells max form f b (Ok n) = Unit {0}
+LeftCells max form f b (Err Write) = Unit {0}
+LeftCells max form f b (Err e) = f (cells_before form (take max b))
+
 -- a run over cells: with the bytes that the source gave in it, at most one more than max
-pub record Drive (max : ℕ) (form : Form) (w : Writing Level) (z : List Level → Type 0) (ended : Bool) (source sink : Change) (result : Result (ℕ × ℕ) RunError) : Type 0 where
+pub record Drive (max : ℕ) (form : Form) (w : Writing Level) (f z : List Level → Type 0) (ended : Bool) (source sink : Change) (result : Result (ℕ × ℕ) RunError) : Type 0 where
   pub bytes : List ℕ
   pub given : Grew source.old source.new bytes
   pub few : length bytes ≤ max + 1
   pub ran : Drove max form w z bytes ended source sink result
+  pub left : LeftCells max form f bytes result

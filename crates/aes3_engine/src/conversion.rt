@@ -10,13 +10,16 @@ use aes3_cell::{Fault, RunError, Sink, Source};
 /// A form of input: takes bytes, in pieces of any size, front by front, and hands what they carry to a taker `K`, which writes.
 ///
 /// The contract speaks of the bytes that the input and its taker have taken (`follows`), of what bytes write and which
-/// are faults (`reads`), and of what holds after the end (`finished`).
+/// are faults (`reads`), of what holds after the end (`finished`), and of what holds of the bytes before a fault when it was
+/// refused (`stopped`).
 pub trait Input<K> {
     ghost follows: { Self → K → List ℕ → Type 0 };
 
     ghost reads: { Self → K → Reading };
 
     ghost finished: { Self → K → List ℕ → Type 0 };
+
+    ghost stopped: { Self → K → List ℕ → Type 0 };
 
     /// Takes a front of a piece, at least one byte, and answers how many bytes it is.
     fn take_front<T: Sink>(
@@ -28,14 +31,14 @@ pub trait Input<K> {
         requires some { 0 < length piece.now }
         requires room { T.failed sink.old + 1 < 2 ^ 64 }
         requires following { (b : List ℕ) × (length b + length piece.now ≤ 2 ^ 40) × follows self.old taker.old b }
-        ensures { FrontRan (reads self.old taker.old) (reads self.new taker.new) (follows self.old taker.old) (follows self.new taker.new) piece.now
+        ensures { FrontRan (reads self.old taker.old) (reads self.new taker.new) (follows self.old taker.old) (follows self.new taker.new) (stopped self.new taker.new) piece.now
             (record { old = T.taken sink.old; new = T.taken sink.new; failed_old = T.failed sink.old; failed_new = T.failed sink.new }) result };
 
     /// Takes the end of the input.
     fn finish<T: Sink>(&mut self, taker: &mut K, sink: &mut T) -> Result<(), RunError>
         requires room { T.failed sink.old + 1 < 2 ^ 64 }
         requires following { (b : List ℕ) × (length b ≤ 2 ^ 40) × follows self.old taker.old b }
-        ensures { EndRan (reads self.old taker.old) (follows self.old taker.old) (finished self.new taker.new)
+        ensures { EndRan (reads self.old taker.old) (follows self.old taker.old) (stopped self.new taker.new) (finished self.new taker.new)
             (record { old = T.taken sink.old; new = T.taken sink.new; failed_old = T.failed sink.old; failed_new = T.failed sink.new }) result };
 }
 
@@ -82,7 +85,7 @@ fn feed_fronts<T: Sink, K, I: Input<K>>(
 ) -> Result<(), RunError>
     requires room { T.failed sink.old + 1 < 2 ^ 64 }
     requires following { (b : List ℕ) × (length b + length piece.now ≤ 2 ^ 40) × I.follows input.old taker.old b }
-    ensures { PieceRan (I.reads input.old taker.old) (I.reads input.new taker.new) (I.follows input.old taker.old) (I.follows input.new taker.new) piece.now
+    ensures { PieceRan (I.reads input.old taker.old) (I.reads input.new taker.new) (I.follows input.old taker.old) (I.follows input.new taker.new) (I.stopped input.new taker.new) piece.now
         (record { old = T.taken sink.old; new = T.taken sink.new; failed_old = T.failed sink.old; failed_new = T.failed sink.new }) result }
 {
     let mut at = 0;
@@ -104,7 +107,7 @@ fn feed<T: Sink, K, I: Input<K>>(
 ) -> Result<(), RunError>
     requires room { T.failed sink.old + 1 < 2 ^ 64 }
     requires following { (b : List ℕ) × (length b + length piece.now ≤ 2 ^ 40) × I.follows input.old taker.old b }
-    ensures { PieceRan (I.reads input.old taker.old) (I.reads input.new taker.new) (I.follows input.old taker.old) (I.follows input.new taker.new) piece.now
+    ensures { PieceRan (I.reads input.old taker.old) (I.reads input.new taker.new) (I.follows input.old taker.old) (I.follows input.new taker.new) (I.stopped input.new taker.new) piece.now
         (record { old = T.taken sink.old; new = T.taken sink.new; failed_old = T.failed sink.old; failed_new = T.failed sink.new }) result }
 {
     match feed_fronts(input, taker, sink, piece) {
@@ -124,7 +127,7 @@ fn finish<T: Sink, K, I: Input<K>>(
 ) -> Result<(), RunError>
     requires room { T.failed sink.old + 1 < 2 ^ 64 }
     requires following { (b : List ℕ) × (length b ≤ 2 ^ 40) × I.follows input.old taker.old b }
-    ensures { EndRan (I.reads input.old taker.old) (I.follows input.old taker.old) (I.finished input.new taker.new)
+    ensures { EndRan (I.reads input.old taker.old) (I.follows input.old taker.old) (I.stopped input.new taker.new) (I.finished input.new taker.new)
         (record { old = T.taken sink.old; new = T.taken sink.new; failed_old = T.failed sink.old; failed_new = T.failed sink.new }) result }
 {
     match input.finish(taker, sink) {
@@ -152,7 +155,7 @@ pub fn convert<S: Source, T: Sink, K, I: Input<K>>(
     requires sink_room { T.failed sink.old + 1 < 2 ^ 64 }
     requires limit { max_bytes ≤ 2 ^ 40 }
     requires start { I.follows input.old taker.old [] }
-    ensures run { Run max_bytes (I.reads input.old taker.old) (I.finished input.new taker.new) (S.has_ended source.new)
+    ensures run { Run max_bytes (I.reads input.old taker.old) (I.follows input.new taker.new) (I.stopped input.new taker.new) (I.finished input.new taker.new) (S.has_ended source.new)
         (record { old = S.given source.old; new = S.given source.new; failed_old = S.failed source.old; failed_new = S.failed source.new })
         (record { old = T.taken sink.old; new = T.taken sink.new; failed_old = T.failed sink.old; failed_new = T.failed sink.new }) result }
 {

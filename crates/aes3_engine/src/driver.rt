@@ -13,9 +13,9 @@ use aes3_cell::{Form, RunError, Sink, Source};
 ///
 /// # Errors
 /// `BadCell` where a byte of cell text is neither a cell nor a separator, `BadPadding` where packed cells end wrongly,
-/// `TooLong` where the input has more than `max_bytes` bytes, `Read` and `Write` where an end failed. Then the taker has
-/// taken the cells before, of packed cells those of all octets but the last two, and no end. At most `max_bytes + 1`
-/// bytes are read.
+/// `TooLong` where the input has more than `max_bytes` bytes, `Read` and `Write` where an end failed. Then, unless the sink
+/// failed, the taker has taken the cells before, of packed cells those of all octets but the last two, and no end. At most
+/// `max_bytes + 1` bytes are read.
 pub fn drive<S: Source, T: Sink, K: Taker>(
     source: &mut S,
     sink: &mut T,
@@ -27,7 +27,7 @@ pub fn drive<S: Source, T: Sink, K: Taker>(
     requires sink_room { T.failed sink.old + 1 < 2 ^ 64 }
     requires limit { max_bytes ≤ 2 ^ 40 }
     requires start { K.follows taker.old [] }
-    ensures { Drive max_bytes input (K.writes taker.old) (K.finished taker.new) (S.has_ended source.new)
+    ensures { Drive max_bytes input (K.writes taker.old) (K.follows taker.new) (K.finished taker.new) (S.has_ended source.new)
         (record { old = S.given source.old; new = S.given source.new; failed_old = S.failed source.old; failed_new = S.failed source.new })
         (record { old = T.taken sink.old; new = T.taken sink.new; failed_old = T.failed sink.old; failed_new = T.failed sink.new }) result }
 {

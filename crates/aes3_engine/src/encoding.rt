@@ -35,7 +35,7 @@ fn take_byte<T: Sink>(
 ) -> Result<(), RunError>
     requires room { T.failed sink.old + 1 < 2 ^ 64 }
     requires following { (b : List ℕ) × (length b < 2 ^ 40) × Encodes file.old encoder.old.blocks b }
-    ensures { PieceRan (encoding encoder.old.output) (encoding encoder.new.output) (Encodes file.old encoder.old.blocks) (Encodes file.new encoder.new.blocks) (byte ∷ [])
+    ensures { PieceRan (encoding encoder.old.output) (encoding encoder.new.output) (Encodes file.old encoder.old.blocks) (Encodes file.new encoder.new.blocks) (λ b. encoder.new.blocks ≡ length (whole_blocks b)) (byte ∷ [])
         (record { old = T.taken sink.old; new = T.taken sink.new; failed_old = T.failed sink.old; failed_new = T.failed sink.new }) result }
 {
     match file.feed_byte(byte) {
@@ -70,6 +70,8 @@ impl Input<Encoder> for BlockFile {
     ghost reads = { λ _ encoder. encoding encoder.output };
 
     ghost finished = { λ file encoder. Encodes file encoder.blocks };
+
+    ghost stopped = { λ _ encoder b. encoder.blocks ≡ length (whole_blocks b) };
 
     /// Takes a word's four bytes where they neither are a fault nor end a block, else one byte.
     fn take_front<T: Sink>(

@@ -91,7 +91,7 @@ fn take_octet<T: Sink, K: Taker>(
     requires room { T.failed sink.old + 1 < 2 ^ 64 }
     requires following { (b : List ℕ) × (length b < 2 ^ 40) × PackedTaken input.old.packed input.old.cells (K.follows taker.old) b }
     ensures { PieceRan (packed_reading (K.writes taker.old)) (packed_reading (K.writes taker.new))
-        (PackedTaken input.old.packed input.old.cells (K.follows taker.old)) (PackedTaken input.new.packed input.new.cells (K.follows taker.new)) (octet ∷ [])
+        (PackedTaken input.old.packed input.old.cells (K.follows taker.old)) (PackedTaken input.new.packed input.new.cells (K.follows taker.new)) (λ b. K.follows taker.new (whole_cells b)) (octet ∷ [])
         (record { old = T.taken sink.old; new = T.taken sink.new; failed_old = T.failed sink.old; failed_new = T.failed sink.new }) result }
 {
     match input.packed.feed_byte(octet) {
@@ -154,7 +154,7 @@ fn take_first<T: Sink, K: Taker>(
     requires room { T.failed sink.old + 1 < 2 ^ 64 }
     requires following { (b : List ℕ) × (length b + length piece.now ≤ 2 ^ 40) × PackedTaken input.old.packed input.old.cells (K.follows taker.old) b }
     ensures { FrontRan (packed_reading (K.writes taker.old)) (packed_reading (K.writes taker.new))
-        (PackedTaken input.old.packed input.old.cells (K.follows taker.old)) (PackedTaken input.new.packed input.new.cells (K.follows taker.new)) piece.now
+        (PackedTaken input.old.packed input.old.cells (K.follows taker.old)) (PackedTaken input.new.packed input.new.cells (K.follows taker.new)) (λ b. K.follows taker.new (whole_cells b)) piece.now
         (record { old = T.taken sink.old; new = T.taken sink.new; failed_old = T.failed sink.old; failed_new = T.failed sink.new }) result }
 {
     match take_octet(input, taker, sink, piece[0]) {
@@ -174,7 +174,7 @@ pub(crate) fn drive_packed<S: Source, T: Sink, K: Taker>(
     requires sink_room { T.failed sink.old + 1 < 2 ^ 64 }
     requires limit { max_bytes ≤ 2 ^ 40 }
     requires start { K.follows taker.old [] }
-    ensures { Drive max_bytes Form.Packed (K.writes taker.old) (K.finished taker.new) (S.has_ended source.new)
+    ensures { Drive max_bytes Form.Packed (K.writes taker.old) (K.follows taker.new) (K.finished taker.new) (S.has_ended source.new)
         (record { old = S.given source.old; new = S.given source.new; failed_old = S.failed source.old; failed_new = S.failed source.new })
         (record { old = T.taken sink.old; new = T.taken sink.new; failed_old = T.failed sink.old; failed_new = T.failed sink.new }) result }
 {
@@ -191,6 +191,8 @@ impl<K: Taker> Input<K> for PackedInput {
     ghost reads = { λ _ taker. packed_reading (K.writes taker) };
 
     ghost finished = { λ input taker. PackedEnded input.cells (K.finished taker) };
+
+    ghost stopped = { λ _ taker b. K.follows taker (whole_cells b) };
 
     fn take_front<T: Sink>(
         &mut self,

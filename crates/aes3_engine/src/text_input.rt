@@ -2,7 +2,7 @@
 
 ghost use Rattle.std.specs.Prelude.{◌≡◌, ℕ, ◌+◌, ◌<◌, ◌≤◌, ◌^◌, ◌++◌, List, [], ◌∷◌, length, map, take, slice_index, Err, IfOk, IfErr, OnErr, IfSome, OnSome, IfNone, IsTrue, ◌↔◌};
 ghost use Rattle.std.specs.List.{flat_map};
-ghost use Rattle.aes3_cell.specs.CellText.{byte_cells, kind_of, separator};
+ghost use Rattle.aes3_cell.specs.CellText.{byte_cells, cells_of_text, kind_of, separator};
 ghost use Rattle.aes3_cell.specs.Text.{byte_of};
 ghost use Rattle.aes3_cell.specs.TextReading.{text_answer};
 ghost use Rattle.aes3_cell.specs.Words.{low_cells, word_cells};
@@ -228,7 +228,7 @@ fn take_cells<T: Sink, K: Taker>(
     requires room { T.failed sink.old + 1 < 2 ^ 64 }
     requires following { (b : List ℕ) × (length b + length piece.now ≤ 2 ^ 40) × TextTaken input.old.text input.old.cells (K.follows taker.old) b }
     ensures { FrontRan (text_reading (K.writes taker.old)) (text_reading (K.writes taker.new))
-        (TextTaken input.old.text input.old.cells (K.follows taker.old)) (TextTaken input.new.text input.new.cells (K.follows taker.new)) piece.now
+        (TextTaken input.old.text input.old.cells (K.follows taker.old)) (TextTaken input.new.text input.new.cells (K.follows taker.new)) (λ b. K.follows taker.new (cells_of_text b)) piece.now
         (record { old = T.taken sink.old; new = T.taken sink.new; failed_old = T.failed sink.old; failed_new = T.failed sink.new }) result }
 {
     match feed_cells(&mut input.text, piece) {
@@ -254,7 +254,7 @@ pub(crate) fn drive_text<S: Source, T: Sink, K: Taker>(
     requires sink_room { T.failed sink.old + 1 < 2 ^ 64 }
     requires limit { max_bytes ≤ 2 ^ 40 }
     requires start { K.follows taker.old [] }
-    ensures { Drive max_bytes Form.Text (K.writes taker.old) (K.finished taker.new) (S.has_ended source.new)
+    ensures { Drive max_bytes Form.Text (K.writes taker.old) (K.follows taker.new) (K.finished taker.new) (S.has_ended source.new)
         (record { old = S.given source.old; new = S.given source.new; failed_old = S.failed source.old; failed_new = S.failed source.new })
         (record { old = T.taken sink.old; new = T.taken sink.new; failed_old = T.failed sink.old; failed_new = T.failed sink.new }) result }
 {
@@ -271,6 +271,8 @@ impl<K: Taker> Input<K> for TextInput {
     ghost reads = { λ _ taker. text_reading (K.writes taker) };
 
     ghost finished = { λ input taker. TextTaken input.text input.cells (K.finished taker) };
+
+    ghost stopped = { λ _ taker b. K.follows taker (cells_of_text b) };
 
     fn take_front<T: Sink>(
         &mut self,

@@ -18,7 +18,7 @@ pub returns-in-Err : goal.returns-in-Err
 returns-in-Err g c =
     let v = c.pieces.invariant in
     record {
-      run = ran-read c.args.max_bytes _ _ (g.S.Source.has_ended c.read_piece.new.source) _ _ _ _ _
+      run = ran-read c.args.max_bytes _ _ _ (g.S.Source.has_ended c.read_piece.new.source) _ _ _ _ _
           v.upto c.requires.start v.short v.quiet_source v.quiet_sink c.in-Err.ensures.err.0 c.in-Err.ensures.err.1;
     }
 
@@ -26,7 +26,7 @@ pub returns-in-Ok-finish : goal.returns-in-Ok-finish
 returns-in-Ok-finish g c =
     let v = c.pieces.invariant in
     record {
-      run = ran-end c.args.max_bytes (g.I.Input.finished c.finish.new.input c.finish.new.taker) _ _ _ _ _ _ _
+      run = ran-end c.args.max_bytes (g.I.Input.follows c.finish.new.input c.finish.new.taker) (g.I.Input.stopped c.finish.new.input c.finish.new.taker) (g.I.Input.finished c.finish.new.input c.finish.new.taker) _ _ _ _ _ _ _
           v.upto c.requires.start v.short (c.in-Ok.ensures.count ∙ v.quiet_source) v.quiet_sink
           (grew-is (ap (λ z. take z c.read_piece.new.piece) c.if-n-eq0.true) c.in-Ok.ensures.bytes) (c.in-Ok.ensures.end.0 c.if-n-eq0.true) c.in-Ok-finish.ensures;
     }
@@ -35,7 +35,7 @@ pub returns-in-Err-finish : goal.returns-in-Err-finish
 returns-in-Err-finish g c =
     let v = c.pieces.invariant in
     record {
-      run = ran-end_err c.args.max_bytes (g.I.Input.finished c.finish.new.input c.finish.new.taker) _ _ _ _ _ _ _ c.in-Err-finish.error
+      run = ran-end_err c.args.max_bytes (g.I.Input.follows c.finish.new.input c.finish.new.taker) (g.I.Input.stopped c.finish.new.input c.finish.new.taker) (g.I.Input.finished c.finish.new.input c.finish.new.taker) _ _ _ _ _ _ _ c.in-Err-finish.error
           v.upto c.requires.start v.short (c.in-Ok.ensures.count ∙ v.quiet_source) v.quiet_sink
           (grew-is (ap (λ z. take z c.read_piece.new.piece) c.if-n-eq0.true) c.in-Ok.ensures.bytes) (c.in-Ok.ensures.end.0 c.if-n-eq0.true) c.in-Err-finish.ensures;
     }
@@ -45,7 +45,7 @@ returns-in-Err-feed g c =
     let v = c.pieces.invariant in
     let room = c.args.max_bytes + 1 - c.pieces.seen in
     record {
-      run = ran-piece c.args.max_bytes (g.I.Input.reads c.feed.new.input c.feed.new.taker) (g.I.Input.follows c.feed.new.input c.feed.new.taker) (g.I.Input.finished c.feed.new.input c.feed.new.taker) _ _ _ _ _ _ _
+      run = ran-piece c.args.max_bytes (g.I.Input.reads c.feed.new.input c.feed.new.taker) (g.I.Input.follows c.feed.new.input c.feed.new.taker) (g.I.Input.stopped c.feed.new.input c.feed.new.taker) (g.I.Input.finished c.feed.new.input c.feed.new.taker) _ _ _ _ _ _ _
           c.in-Ok.n c.allowed_of-allowed.result room c.read_piece.new.piece c.in-Err-feed.error
           v.upto c.requires.start v.short (c.in-Ok.ensures.count ∙ v.quiet_source) v.quiet_sink
           c.in-Ok.ensures.bytes refl c.in-Ok.ensures.bound.1 c.in-Ok.ensures.bound.0 c.allowed_of-allowed.ensures.last c.allowed_of-allowed.ensures.all c.in-Err-feed.ensures;
@@ -56,7 +56,7 @@ returns-then-seen-max_bytes g c =
     let v = c.pieces.invariant in
     let room = c.args.max_bytes + 1 - c.pieces.seen in
     record {
-      run = ran-long c.args.max_bytes (g.I.Input.finished c.feed.new.input c.feed.new.taker) (g.S.Source.has_ended c.read_piece.new.source) _ _ _ _ _
+      run = ran-long c.args.max_bytes (g.I.Input.stopped c.feed.new.input c.feed.new.taker) (g.I.Input.finished c.feed.new.input c.feed.new.taker) (g.S.Source.has_ended c.read_piece.new.source) _ _ _ _ _
           c.in-Ok.n c.allowed_of-allowed.result room c.read_piece.new.piece
           v.upto c.requires.start v.short (c.in-Ok.ensures.count ∙ v.quiet_source) v.quiet_sink c.in-Ok-feed.ensures.1
           c.in-Ok.ensures.bytes refl c.in-Ok.ensures.bound.1 c.in-Ok.ensures.bound.0 c.allowed_of-allowed.ensures.last c.allowed_of-allowed.ensures.all (omega arith) c.in-Ok-feed.ensures.0;

@@ -4,7 +4,7 @@ use Rattle.aes3_engine.proofs.conversion.feed.Goals as goal
 pub returns-in-Ok-flush : goal.returns-in-Ok-flush
 returns-in-Ok-flush g c =
     piece-passed (g.I.Input.reads c.args.input.now c.args.taker.now) (g.I.Input.reads c.feed_fronts.new.input c.feed_fronts.new.taker)
-    (g.I.Input.follows c.args.input.now c.args.taker.now) (g.I.Input.follows c.feed_fronts.new.input c.feed_fronts.new.taker) c.args.piece.now
+    (g.I.Input.follows c.args.input.now c.args.taker.now) (g.I.Input.follows c.feed_fronts.new.input c.feed_fronts.new.taker) (g.I.Input.stopped c.feed_fronts.new.input c.feed_fronts.new.taker) c.args.piece.now
     (g.T.Sink.taken c.args.sink.now) (g.T.Sink.taken c.feed_fronts.new.sink) (g.T.Sink.taken c.flush.new.self)
     (g.T.Sink.failed c.args.sink.now) (g.T.Sink.failed c.feed_fronts.new.sink) (g.T.Sink.failed c.flush.new.self)
     c.flush.ensures.bytes c.in-Ok-flush.ensures.count c.in-Ok.ensures
@@ -12,7 +12,7 @@ returns-in-Ok-flush g c =
 pub returns-in-Err-flush : goal.returns-in-Err-flush
 returns-in-Err-flush g c =
     piece-stuck (g.I.Input.reads c.args.input.now c.args.taker.now) (g.I.Input.reads c.feed_fronts.new.input c.feed_fronts.new.taker)
-    (g.I.Input.follows c.args.input.now c.args.taker.now) (g.I.Input.follows c.feed_fronts.new.input c.feed_fronts.new.taker) c.args.piece.now
+    (g.I.Input.follows c.args.input.now c.args.taker.now) (g.I.Input.follows c.feed_fronts.new.input c.feed_fronts.new.taker) (g.I.Input.stopped c.feed_fronts.new.input c.feed_fronts.new.taker) c.args.piece.now
     (g.T.Sink.taken c.args.sink.now) (g.T.Sink.taken c.feed_fronts.new.sink) (g.T.Sink.taken c.flush.new.self)
     (g.T.Sink.failed c.args.sink.now) (g.T.Sink.failed c.feed_fronts.new.sink) (g.T.Sink.failed c.flush.new.self)
     c.flush.ensures.bytes c.in-Err-flush.ensures.err c.in-Ok.ensures

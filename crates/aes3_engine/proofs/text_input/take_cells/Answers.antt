@@ -64,7 +64,7 @@ returns-in-Err g c =
     let w = g.K.Taker.writes c.args.taker.now in
     let f = g.K.Taker.follows c.args.taker.now in
     let t = g.T.Sink.taken c.args.sink.now in
-    ran-join (text_reading w) (TextTaken c.feed_cells.new.text c.args.input.now.cells f) t (g.T.Sink.failed c.args.sink.now)
+    ran-join (text_reading w) (TextTaken c.feed_cells.new.text c.args.input.now.cells f) (λ b. f (cells_of_text b)) t (g.T.Sink.failed c.args.sink.now)
     (get_or xs 0 0 ∷ []) (drop 1 xs) xs (BadCell c.in-Err.fault.at) (fed-none (text_reading w) (TextTaken c.args.input.now.text c.args.input.now.cells f) t) refl
     (sym (drop-cons xs 0 0 (omega arith)))
     (byte-bad w f c.args.input.now.text c.args.input.now.cells (get_or xs 0 0) c.in-Err.fault t c.in-Err.ensures.fault, refl)

@@ -1,7 +1,7 @@
 use Rattle.std.proofs.Common.{◌∷◌, [], take, drop, get_or, arith, sym, refl}
 use Rattle.std.proofs.Math.Seq.{drop-cons}
 use Rattle.aes3_engine.specs.Encoding.{encoding, Encodes}
-use Rattle.aes3_engine.proofs.EncodingLemmas.{bytes-quiet, encodes-seen}
+use Rattle.aes3_engine.proofs.EncodingLemmas.{Blocks, bytes-quiet, encodes-seen}
 use Rattle.aes3_engine.proofs.Feeding.{ran-join}
 use Rattle.aes3_engine.proofs.encoding.BlockFileInputEncoder.take_front.Goals as goal
 
@@ -20,7 +20,7 @@ pub returns-in-Err : goal.returns-in-Err
 returns-in-Err g c =
     let xs = c.args.piece.now in
     let k = c.requires.some in
-    ran-join (encoding c.take_byte.new.encoder.output) (Encodes c.take_byte.new.file c.take_byte.new.encoder.blocks)
+    ran-join (encoding c.take_byte.new.encoder.output) (Encodes c.take_byte.new.file c.take_byte.new.encoder.blocks) (Blocks c.take_byte.new.encoder.blocks)
     (g.T.Sink.taken c.take_byte.new.sink) (g.T.Sink.failed c.take_byte.new.sink)
     (get_or xs 0 0 ∷ []) (drop 1 xs) xs c.in-Err.error
     (bytes-quiet c.args.encoder.now.output c.args.self.now c.feed_front.new.file [] (g.T.Sink.taken c.args.sink.now) (c.feed_front.ensures.left c.if-feed_front.false))
