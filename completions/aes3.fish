@@ -10,6 +10,7 @@ complete -c aes3 -n __fish_use_subcommand -a show -d 'Print the channel status o
 complete -c aes3 -n __fish_use_subcommand -a scan -d 'Print each preamble'
 complete -c aes3 -n __fish_use_subcommand -a cut -d 'Write COUNT of the whole blocks, from number FROM on'
 complete -c aes3 -n __fish_use_subcommand -a rewrite -d 'Write the whole blocks with new channel status'
+complete -c aes3 -n __fish_use_subcommand -a to-pcm -d 'Write the samples of the whole blocks'
 complete -c aes3 -n '__fish_seen_subcommand_from encode' -l packed-out -d 'Write packed cells, eight an octet'
 complete -c aes3 -n '__fish_seen_subcommand_from encode' -l help -s h -d 'Print help'
 complete -c aes3 -n '__fish_seen_subcommand_from decode' -l packed-in -d 'Read packed cells, eight an octet'
@@ -34,3 +35,5 @@ complete -c aes3 -n '__fish_seen_subcommand_from rewrite' -l status1 -x -d 'The 
 complete -c aes3 -n '__fish_seen_subcommand_from rewrite' -l status2 -x -d 'The status of channel 2, in hexadecimal'
 complete -c aes3 -n '__fish_seen_subcommand_from rewrite' -l mend-check -d 'Write the check byte that professional status asks for'
 complete -c aes3 -n '__fish_seen_subcommand_from rewrite' -l help -s h -d 'Print help'
+complete -c aes3 -n '__fish_seen_subcommand_from to-pcm' -l packed-in -d 'Read packed cells, eight an octet'
+complete -c aes3 -n '__fish_seen_subcommand_from to-pcm' -l help -s h -d 'Print help'

@@ -1,10 +1,11 @@
 #!/bin/sh
 # tests/help.sh PROGRAM runs the examples that the program's help and that of each command show, in the order of the
-# program's own help first: each has to end with status 0 and to say nothing on standard error.
+# program's own help first: each has to end with status 0 and to say nothing on standard error. Those that need sox are left
+# out where it isn't installed.
 #
 # The status is 0 where each did.
 
-[ $# = 1 ] || { sed -n '2,5s/^# \{0,1\}//p' "$0" >&2; exit 2; }
+[ $# = 1 ] || { sed -n '2,6s/^# \{0,1\}//p' "$0" >&2; exit 2; }
 root=$(dirname "$(dirname "$(realpath "$0")")")
 program=$(realpath "$1") || exit 2
 work=$(mktemp -d) || exit 2
@@ -27,13 +28,16 @@ done
 
 # One shell for all, since an example may set a variable for the next.
 cd "$work/here" || exit 2
-count=0 failed=0
+count=0 failed=0 left=0
 while IFS= read -r line; do
+    case $line in
+    *'| sox '*) command -v sox >/dev/null || { left=$((left + 1)); continue; } ;;
+    esac
     count=$((count + 1))
     eval "$line" >/dev/null 2>"$work/said" </dev/null && [ ! -s "$work/said" ] && continue
     failed=$((failed + 1))
     echo "$line" >&2
     cat "$work/said" >&2
 done <"$work/all"
-echo "$count examples, $failed failed"
+echo "$count examples, $failed failed, $left left out"
 [ "$failed" = 0 ] && [ "$count" -gt 0 ]
