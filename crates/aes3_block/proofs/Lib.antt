@@ -17,3 +17,4 @@ pub mod CellLaws
 pub mod StatusLaws
 pub mod SlotWords
 pub mod Samples
+pub mod ReadCells

@@ -70,22 +70,31 @@ pub cells-word : (s : Level) (m : Mark) (i w slots cells : ℕ) → m ≡ mark_a
 cells-word s m i w slots cells em es h e =
     e ∙ ap₂ (λ mark bits. line s (slot_runs mark bits)) em (ap slots_bits es ∙ lawful-slots w (and_parts (has_code w) (has_parity w) h).1)
 
--- the cells so far, with one more word
-pub cells-more : (s : Level) (words cells : List ℕ) (i v : ℕ) → i < length words → i < length cells
-    → flat_map word_cells (take i cells) ≡ line s (block_runs (map payload_of (take i words))) → word_cells v ≡ line s (subframe_runs (mark_at i) (payload_of (get_or words i 0)))
-    → flat_map word_cells (take (i + 1) (set cells i v)) ≡ line s (block_runs (map payload_of (take (i + 1) words)))
-cells-more s words cells i v h l front q =
-    let ps = map payload_of (take i words) in
-    let p = payload_of (get_or words i 0) in
-    let n : length ps ≡ i = length-map (take i words) payload_of ∙ length-take-le i words (omega arith) in
-    let e : map payload_of (take (i + 1) words) ≡ ps ++ p ∷ [] =
-    ap (map payload_of) (take_more words i 0 h) ∙ map-append payload_of (take i words) (get_or words i 0 ∷ []) in
-    words-more cells i v l ∙ ap₂ ◌++◌ front q ∙ ap (λ k. line s (block_runs ps) ++ line s (subframe_runs (mark_at k) p)) (sym n)
-    ∙ sym (cells-push s ps p (each27-payloads (take i words))) ∙ ap (λ x. line s (block_runs x)) (sym e)
+-- words, each with a payload
+module _ (payload : ℕ → List Bool) (each : (w : ℕ) → IsPayload (payload w)) where
+  each27 : (words : List ℕ) → Each27 (map payload words)
+  each27 [] = tt
+  each27 (w ∷ words) = (each w, each27 words)
 
--- the cells of the whole block
-pub cells-whole : (s : Level) (words cells : List ℕ) (i : ℕ) → length words ≤ i → length cells ≤ i
-    → flat_map word_cells (take i cells) ≡ line s (block_runs (map payload_of (take i words))) → flat_map word_cells cells ≡ block_cells s (map payload_of words)
-unfolding block_cells
-cells-whole s words cells i h l e =
-    ap (flat_map word_cells) (sym (take_all i cells l)) ∙ e ∙ ap (λ x. line s (block_runs (map payload_of x))) (take_all i words h)
+  -- the cells so far, with one more word
+  pub cells-more : (s : Level) (words cells : List ℕ) (i v : ℕ) → i < length words → i < length cells
+      → flat_map word_cells (take i cells) ≡ line s (block_runs (map payload (take i words))) → word_cells v ≡ line s (subframe_runs (mark_at i) (payload (get_or words i 0)))
+      → flat_map word_cells (take (i + 1) (set cells i v)) ≡ line s (block_runs (map payload (take (i + 1) words)))
+  cells-more s words cells i v h l front q =
+      let ps = map payload (take i words) in
+      let p = payload (get_or words i 0) in
+      let n : length ps ≡ i = length-map (take i words) payload ∙ length-take-le i words (omega arith) in
+      let e : map payload (take (i + 1) words) ≡ ps ++ p ∷ [] =
+      ap (map payload) (take_more words i 0 h) ∙ map-append payload (take i words) (get_or words i 0 ∷ []) in
+      words-more cells i v l ∙ ap₂ ◌++◌ front q ∙ ap (λ k. line s (block_runs ps) ++ line s (subframe_runs (mark_at k) p)) (sym n)
+      ∙ sym (cells-push s ps p (each27 (take i words))) ∙ ap (λ x. line s (block_runs x)) (sym e)
+
+  -- the cells of the whole block
+  pub cells-whole : (s : Level) (words cells : List ℕ) (i : ℕ) → length words ≤ i → length cells ≤ i
+      → flat_map word_cells (take i cells) ≡ line s (block_runs (map payload (take i words))) → flat_map word_cells cells ≡ block_cells s (map payload words)
+  unfolding block_cells
+  cells-whole s words cells i h l e =
+      ap (flat_map word_cells) (sym (take_all i cells l)) ∙ e ∙ ap (λ x. line s (block_runs (map payload x))) (take_all i words h)
+
+pub payload-length : (w : ℕ) → IsPayload (payload_of w)
+payload-length w = length-low_bits payload_len (w / 16)

@@ -20,7 +20,7 @@ fn word_of_cells(cells: u64) -> u32
 }
 
 /// Whether the number of ones that a subframe's 64 cells carry is odd. A one has one high cell, a zero none or two.
-fn has_odd_ones(cells: u64) -> bool
+pub(crate) fn has_odd_ones(cells: u64) -> bool
     ensures { result ≡ odd_ones (read_word cells) }
 {
     (cells >> 8).count_ones() % 2 == 1

@@ -1,14 +1,16 @@
 //! Runs that read cells and write something of each block.
 
-ghost use Rattle.std.specs.Prelude.{◌≡◌, ℕ, ◌+◌, ◌<◌, ◌≤◌, ◌^◌, List, Bool, IfOk, OnErr};
+ghost use Rattle.std.specs.Prelude.{◌≡◌, ℕ, ◌+◌, ◌<◌, ◌≤◌, ◌^◌, List, Bool, IfOk, OnErr, map, take};
 ghost use Rattle.aes3_cell.specs.Ends.{Grew, GrewFront};
+ghost use Rattle.aes3_slot.specs.ReadWords.{read_words};
+ghost use Rattle.aes3_slot.specs.Slots.{payload_len};
 ghost use Rattle.aes3_engine.specs.ReportRuns.{ReportRun};
 ghost use Rattle.aes3_engine.specs.BlockRuns.{report_bytes};
 
 use crate::report_runs::{ReportWriter, run_reports};
 use aes3_block::Block;
 use aes3_cell::{Counts, Fault, Form, RunError, Sink, Source};
-use aes3_lock::Report;
+use aes3_lock::{Ending, Lock, Report};
 
 /// Writes something of a block that stands whole and closed.
 pub trait BlockWriter {
@@ -25,6 +27,21 @@ pub trait BlockWriter {
         ensures grew { IfOk result (λ _. Grew (T.taken sink.old) (T.taken sink.new) (writes self.now number block.now)) }
         ensures count { IfOk result (λ _. T.failed sink.new ≡ T.failed sink.old) }
         ensures err { OnErr result ((T.failed sink.new ≡ T.failed sink.old + 1) × GrewFront (T.taken sink.old) (T.taken sink.new) (writes self.now number block.now)) };
+
+    /// Writes what it makes of block `number` as `put` does, where the cells of its 384 subframes are at hand, 64 each, the
+    /// earliest in bit 0. What needs no bits gathers none.
+    ///
+    /// # Errors
+    /// The sink's fault; then it has taken a front of the bytes.
+    fn put_read<T: Sink>(&self, sink: &mut T, number: u64, words: &[u64; 384]) -> Result<(), Fault>
+        requires room { T.failed sink.old + 1 < 2 ^ 64 }
+        ensures grew { IfOk result (λ _. Grew (T.taken sink.old) (T.taken sink.new) (writes self.now number (map (take payload_len) (read_words words.now)))) }
+        ensures count { IfOk result (λ _. T.failed sink.new ≡ T.failed sink.old) }
+        ensures err { OnErr result ((T.failed sink.new ≡ T.failed sink.old + 1) × GrewFront (T.taken sink.old) (T.taken sink.new) (writes self.now number (map (take payload_len) (read_words words.now)))) }
+    {
+        let block = Block::of_cells(words);
+        self.put(sink, number, &block)
+    }
 
     /// Writes what stands behind the last block.
     ///
@@ -54,6 +71,20 @@ impl<W: BlockWriter> ReportWriter for Blocks<W> {
             Report::Marked { .. } => Ok(()),
             Report::Fault { .. } => Ok(()),
             Report::Unfinished { .. } => Ok(()),
+        }
+    }
+
+    fn tell<T: Sink>(
+        &self,
+        sink: &mut T,
+        blocks: u64,
+        lock: &Lock,
+        ending: Ending,
+    ) -> Result<(), Fault> {
+        match ending {
+            Ending::Whole { .. } => self.writer.put_read(sink, blocks, lock.words()),
+            Ending::Marked { .. } => Ok(()),
+            Ending::Fault { .. } => Ok(()),
         }
     }
 

@@ -41,13 +41,10 @@ impl<R: Reporter> Taker for Locked<R> {
     fn take_front<T: Sink>(&mut self, sink: &mut T, word: u64, len: u32) -> Result<u32, Fault> {
         let pushed = self.lock.push_front(word, len);
         match pushed.ending {
-            Some(ending) => {
-                let told = self.lock.report(ending);
-                match self.reporter.report(sink, &told) {
-                    Ok(()) => Ok(pushed.taken),
-                    Err(fault) => Err(fault),
-                }
-            }
+            Some(ending) => match self.reporter.tell(sink, &self.lock, ending) {
+                Ok(()) => Ok(pushed.taken),
+                Err(fault) => Err(fault),
+            },
             None => Ok(pushed.taken),
         }
     }

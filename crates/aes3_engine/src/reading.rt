@@ -20,7 +20,7 @@ ghost use Rattle.aes3_engine.specs.CellRuns.{IsCause};
 ghost use Rattle.aes3_engine.specs.ReportRuns.{counts_of};
 
 use crate::blocks::{BlockWriter, run_blocks};
-use aes3_block::{Block, put_block, put_block_file};
+use aes3_block::{Block, put_block, put_block_file, put_read_block};
 use aes3_cell::{Counts, Fault, Form, Level, RunError, Sink, Source, put_ending};
 
 /// Writes blocks as cells in the normal polarity.
@@ -36,6 +36,15 @@ impl BlockWriter for NormalBlocks {
 
     fn put<T: Sink>(&self, sink: &mut T, _number: u64, block: &Block) -> Result<(), Fault> {
         put_block(self.output, Level::Low, block, sink)
+    }
+
+    fn put_read<T: Sink>(
+        &self,
+        sink: &mut T,
+        _number: u64,
+        words: &[u64; 384],
+    ) -> Result<(), Fault> {
+        put_read_block(self.output, Level::Low, words, sink)
     }
 
     fn put_end<T: Sink>(&self, sink: &mut T) -> Result<(), Fault> {
@@ -77,6 +86,20 @@ impl BlockWriter for CutBlocks {
     fn put<T: Sink>(&self, sink: &mut T, number: u64, block: &Block) -> Result<(), Fault> {
         if number >= self.from && number - self.from < self.count {
             self.stream.put(sink, number, block)
+        } else {
+            Ok(())
+        }
+    }
+
+    fn put_read<T: Sink>(
+        &self,
+        sink: &mut T,
+        number: u64,
+        words: &[u64; 384],
+    ) -> Result<(), Fault> {
+        let from = self.from;
+        if number >= from && number - from < self.count {
+            self.stream.put_read(sink, number, words)
         } else {
             Ok(())
         }

@@ -3,13 +3,14 @@
 ghost use Rattle.std.specs.Prelude.{◌≡◌, ℕ, ◌+◌, ◌<◌, ◌≤◌, ◌^◌, ◌++◌, List, [], ◌∷◌, length, IfOk, OnErr};
 ghost use Rattle.aes3_cell.specs.Ends.{Grew, GrewFront};
 ghost use Rattle.aes3_lock.specs.declared.report.Report.{Report};
+ghost use Rattle.aes3_lock.specs.Following.{report_in};
 ghost use Rattle.aes3_engine.specs.ReportRuns.{ReportRun, Tallies, report_writing};
 
 use crate::driver::drive;
 use crate::locked::Locked;
 use crate::reporter::Reporter;
 use aes3_cell::{Counts, Fault, Form, RunError, Sink, Source};
-use aes3_lock::Report;
+use aes3_lock::{Ending, Lock, Report};
 
 /// Writes something of a report.
 pub trait ReportWriter {
@@ -26,6 +27,27 @@ pub trait ReportWriter {
         ensures grew { IfOk result (λ _. Grew (T.taken sink.old) (T.taken sink.new) (writes self.now blocks report.now)) }
         ensures count { IfOk result (λ _. T.failed sink.new ≡ T.failed sink.old) }
         ensures err { OnErr result ((T.failed sink.new ≡ T.failed sink.old + 1) × GrewFront (T.taken sink.old) (T.taken sink.new) (writes self.now blocks report.now)) };
+
+    /// Writes what it makes of the report of an ending that a lock has just answered, as `put` does. What needs no block
+    /// makes none.
+    ///
+    /// # Errors
+    /// The sink's fault; then it has taken a front of the bytes.
+    fn tell<T: Sink>(
+        &self,
+        sink: &mut T,
+        blocks: u64,
+        lock: &Lock,
+        ending: Ending,
+    ) -> Result<(), Fault>
+        requires room { T.failed sink.old + 1 < 2 ^ 64 }
+        ensures grew { IfOk result (λ _. Grew (T.taken sink.old) (T.taken sink.new) (writes self.now blocks (report_in lock.now ending))) }
+        ensures count { IfOk result (λ _. T.failed sink.new ≡ T.failed sink.old) }
+        ensures err { OnErr result ((T.failed sink.new ≡ T.failed sink.old + 1) × GrewFront (T.taken sink.old) (T.taken sink.new) (writes self.now blocks (report_in lock.now ending))) }
+    {
+        let told = lock.report(ending);
+        self.put(sink, blocks, &told)
+    }
 
     /// Writes what stands behind the last report.
     ///
@@ -77,6 +99,22 @@ impl<W: ReportWriter> Counting<W> {
     }
 }
 
+impl<W: ReportWriter> Counting<W> {
+    /// Counts the report of an ending.
+    fn count_ending(&mut self, lock: &Lock, ending: Ending)
+        requires room { (r : List Report) × (length r + 1 < 2 ^ 44) × Tallies self.old.blocks self.old.faults self.old.unfinished r }
+        ensures writer { self.new.writer ≡ self.old.writer }
+        ensures tally { (r : List Report) → Tallies self.old.blocks self.old.faults self.old.unfinished r
+            → Tallies self.new.blocks self.new.faults self.new.unfinished (r ++ report_in lock.now ending ∷ []) }
+    {
+        match ending {
+            Ending::Whole { .. } => self.blocks += 1,
+            Ending::Marked { .. } => self.faults += 1,
+            Ending::Fault { .. } => self.faults += 1,
+        }
+    }
+}
+
 impl<W: ReportWriter> Reporter for Counting<W> {
     ghost follows = { λ k. Tallies k.blocks k.faults k.unfinished };
 
@@ -88,6 +126,16 @@ impl<W: ReportWriter> Reporter for Counting<W> {
         match self.writer.put(sink, self.blocks, report) {
             Ok(()) => {
                 self.count(report);
+                Ok(())
+            }
+            Err(fault) => Err(fault),
+        }
+    }
+
+    fn tell<T: Sink>(&mut self, sink: &mut T, lock: &Lock, ending: Ending) -> Result<(), Fault> {
+        match self.writer.tell(sink, self.blocks, lock, ending) {
+            Ok(()) => {
+                self.count_ending(lock, ending);
                 Ok(())
             }
             Err(fault) => Err(fault),

@@ -392,6 +392,14 @@ impl Lock {
         report_with(ending, &self.words)
     }
 
+    /// The cells of the subframes of the last candidate that are whole, a word each, the earliest cell in bit 0. Where an
+    /// ending was `Whole` they are those of its block, until more cells are taken.
+    pub fn words(&self) -> &[u64; SLOTS]
+        ensures { result.now ≡ self.now.words }
+    {
+        &self.words
+    }
+
     /// Adds the report of an ending, if there is one, where there is room.
     fn tell(&self, ending: Option<Ending>, out: &mut ArrayVec<Report, 16>)
         ensures { length out.old.items < 16

@@ -11,10 +11,10 @@ ghost use Rattle.aes3_text.specs.Lines.{told_line};
 ghost use Rattle.aes3_text.specs.Runs.{report_lines};
 
 use crate::lines::Lines;
-use crate::report::tell_report;
+use crate::report::{tell_ending, tell_report};
 use aes3_cell::{Counts, Fault, Form, RunError, Sink, Source};
 use aes3_engine::{ReportWriter, run_reports};
-use aes3_lock::Report;
+use aes3_lock::{Ending, Lock, Report};
 
 /// Writes the line of each report that gets one.
 #[derive(Drop)]
@@ -29,6 +29,16 @@ impl ReportWriter for ReportLines {
 
     fn put<T: Sink>(&self, sink: &mut T, _blocks: u64, report: &Report) -> Result<(), Fault> {
         tell_report(self.lines, report, sink)
+    }
+
+    fn tell<T: Sink>(
+        &self,
+        sink: &mut T,
+        _blocks: u64,
+        _lock: &Lock,
+        ending: Ending,
+    ) -> Result<(), Fault> {
+        tell_ending(self.lines, ending, sink)
     }
 
     fn put_end<T: Sink>(&self, _sink: &mut T) -> Result<(), Fault> {

@@ -2,12 +2,13 @@
 
 ghost use Rattle.std.specs.Prelude.{◌≡◌, ◌<◌, ◌≤◌, ◌+◌, ◌^◌, ◌++◌, [], length, IfOk, OnErr};
 ghost use Rattle.aes3_cell.specs.Ends.{Grew, GrewFront};
+ghost use Rattle.aes3_lock.specs.Reports.{ending_report};
 ghost use Rattle.aes3_text.specs.Lines.{reason_word, report_text, report_line, told_line};
 
 use crate::line::{LINE_LEN, Line};
 use crate::lines::Lines;
 use aes3_cell::{Fault, Sink};
-use aes3_lock::{Report, Why};
+use aes3_lock::{Ending, Report, Why};
 
 /// Why a cell refutes a candidate, in one word.
 fn reason(why: Why) -> &'static str
@@ -21,43 +22,87 @@ fn reason(why: Why) -> &'static str
     }
 }
 
+/// The line of the report of an ending without its line feed. None of it is of the block's bits.
+fn text_of_ending(ending: Ending) -> Line
+    ensures text { result ≡ report_text (ending_report [] ending) }
+    ensures len { length result < LINE_LEN }
+{
+    let mut line = Line::new();
+    match ending {
+        Ending::Whole { at, before } => {
+            line.text("whole at ");
+            line.number(at);
+            line.text(" before ");
+            line.level(before);
+        }
+        Ending::Marked { at, before, wrong } => {
+            line.text("marked at ");
+            line.number(at);
+            line.text(" before ");
+            line.level(before);
+            line.text(" wrong ");
+            line.number(u64::from(wrong));
+        }
+        Ending::Fault { at, cell, why } => {
+            line.text("fault at ");
+            line.number(at);
+            line.text(" cell ");
+            line.number(cell);
+            line.text(" ");
+            line.text(reason(why));
+        }
+    }
+    line
+}
+
+/// The line of a begun block that the end of the cells cuts, without its line feed.
+fn text_of_begun(at: u64, cells: u64) -> Line
+    ensures text { result ≡ report_text (Report.Unfinished at cells) }
+    ensures len { length result < LINE_LEN }
+{
+    let mut line = Line::new();
+    line.text("unfinished at ");
+    line.number(at);
+    line.text(" cells ");
+    line.number(cells);
+    line
+}
+
 /// The line of a report without its line feed.
 fn text_of(report: &Report) -> Line
     ensures text { result ≡ report_text report.now }
     ensures len { length result < LINE_LEN }
 {
-    let mut line = Line::new();
     match report {
-        Report::Whole { at, before, .. } => {
-            line.text("whole at ");
-            line.number(*at);
-            line.text(" before ");
-            line.level(*before);
-        }
-        Report::Marked { at, before, wrong } => {
-            line.text("marked at ");
-            line.number(*at);
-            line.text(" before ");
-            line.level(*before);
-            line.text(" wrong ");
-            line.number(u64::from(*wrong));
-        }
-        Report::Fault { at, cell, why } => {
-            line.text("fault at ");
-            line.number(*at);
-            line.text(" cell ");
-            line.number(*cell);
-            line.text(" ");
-            line.text(reason(*why));
-        }
-        Report::Unfinished { at, cells } => {
-            line.text("unfinished at ");
-            line.number(*at);
-            line.text(" cells ");
-            line.number(*cells);
-        }
+        Report::Whole { at, before, .. } => text_of_ending(Ending::Whole {
+            at: *at,
+            before: *before,
+        }),
+        Report::Marked { at, before, wrong } => text_of_ending(Ending::Marked {
+            at: *at,
+            before: *before,
+            wrong: *wrong,
+        }),
+        Report::Fault { at, cell, why } => text_of_ending(Ending::Fault {
+            at: *at,
+            cell: *cell,
+            why: *why,
+        }),
+        Report::Unfinished { at, cells } => text_of_begun(*at, *cells),
     }
-    line
+}
+
+/// Writes the line of the report of an ending as one buffer.
+///
+/// # Errors
+/// The sink's fault; then it has taken a front of the line.
+fn line_of_ending<T: Sink>(ending: Ending, sink: &mut T) -> Result<(), Fault>
+    requires room { T.failed sink.old + 1 < 2 ^ 64 }
+    ensures line { IfOk result (λ _. Grew (T.taken sink.old) (T.taken sink.new) (report_line (ending_report [] ending))) }
+    ensures count { IfOk result (λ _. T.failed sink.new ≡ T.failed sink.old) }
+    ensures err { OnErr result ((T.failed sink.new ≡ T.failed sink.old + 1) × GrewFront (T.taken sink.old) (T.taken sink.new) (report_line (ending_report [] ending))) }
+{
+    text_of_ending(ending).end(sink)
 }
 
 /// Writes the line of a report as one buffer.
@@ -90,6 +135,26 @@ pub(crate) fn tell_report<T: Sink>(lines: Lines, report: &Report, sink: &mut T) 
             Report::Marked { .. } => line_of_report(report, sink),
             Report::Fault { .. } => line_of_report(report, sink),
             Report::Unfinished { .. } => line_of_report(report, sink),
+        },
+    }
+}
+
+/// Writes the line of the report of an ending where it gets one.
+///
+/// # Errors
+/// The sink's fault; then it has taken a front of the line.
+pub(crate) fn tell_ending<T: Sink>(lines: Lines, ending: Ending, sink: &mut T) -> Result<(), Fault>
+    requires room { T.failed sink.old + 1 < 2 ^ 64 }
+    ensures line { IfOk result (λ _. Grew (T.taken sink.old) (T.taken sink.new) (told_line lines (ending_report [] ending))) }
+    ensures count { IfOk result (λ _. T.failed sink.new ≡ T.failed sink.old) }
+    ensures err { OnErr result ((T.failed sink.new ≡ T.failed sink.old + 1) × GrewFront (T.taken sink.old) (T.taken sink.new) (told_line lines (ending_report [] ending))) }
+{
+    match lines {
+        Lines::All => line_of_ending(ending, sink),
+        Lines::Faults => match ending {
+            Ending::Whole { .. } => Ok(()),
+            Ending::Marked { .. } => line_of_ending(ending, sink),
+            Ending::Fault { .. } => line_of_ending(ending, sink),
         },
     }
 }

@@ -11,8 +11,8 @@ use Rattle.aes3_engine.proofs.Handing.{cells-parted}
 use Rattle.aes3_engine.proofs.Reports.{few-decided, adds-report, adds-nothing, same-reporting}
 use Rattle.aes3_engine.proofs.locked.LockedTaker.take_front.Goals as goal
 
-pub report-requires-clause-following : goal.report-requires-clause-following
-report-requires-clause-following g c =
+pub tell-requires-clause-following : goal.tell-requires-clause-following
+tell-requires-clause-following g c =
     let h = c.requires.following in
     let l = h.1 in
     let f = few-decided h.0 in
@@ -24,7 +24,7 @@ returns-in-Ok g c =
     let k = c.push_front-pushed.new.self in
     let d = low_cells c.push_front-pushed.result.taken c.args.word in
     let w = g.R.Reporter.writes c.args.self.now.reporter in
-    let told = ap (λ o. option_to_list (option_map (report_in k) o)) c.in-Some.is ∙ ap (λ r. r ∷ []) (sym c.report-told.ensures) in
+    let told = ap (λ o. option_to_list (option_map (report_in k) o)) c.in-Some.is in
     record {
       ran = (
         p.some c.requires.some,
@@ -33,9 +33,9 @@ returns-in-Ok g c =
           same-reporting c.in-Ok.ensures.same,
           (λ b h. (
             p.follows b h.0,
-            subst (g.R.Reporter.follows c.report.new.self) (sym (p.report b h.0 ∙ ap (λ o. decided b ++ o) told)) (c.in-Ok.ensures.next (decided b) h.1),
+            subst (g.R.Reporter.follows c.tell.new.self) (sym (p.report b h.0 ∙ ap (λ o. decided b ++ o) told)) (c.in-Ok.ensures.next (decided b) h.1),
           )),
-          (λ b h. grew-is (sym (adds-report w b d c.report-told.result (p.report b h.0 ∙ ap (λ o. decided b ++ o) told))) (c.in-Ok.ensures.grew (decided b) h.1)),
+          (λ b h. grew-is (sym (adds-report w b d (report_in k c.in-Some.ending) (p.report b h.0 ∙ ap (λ o. decided b ++ o) told))) (c.in-Ok.ensures.grew (decided b) h.1)),
           c.in-Ok.ensures.count,
         ),
       );
@@ -49,13 +49,13 @@ returns-in-Err g c =
     let d = low_cells n c.args.word in
     let rest = low_cells (c.args.len - n) (c.args.word / 2 ^ n) in
     let w = g.R.Reporter.writes c.args.self.now.reporter in
-    let told = ap (λ o. option_to_list (option_map (report_in k) o)) c.in-Some.is ∙ ap (λ r. r ∷ []) (sym c.report-told.ensures) in
+    let told = ap (λ o. option_to_list (option_map (report_in k) o)) c.in-Some.is in
     record {
       ran = (
         c.in-Err.ensures.err_count,
         (λ b h.
             front-is (sym (ap (λ z. behind (reporting w) b z) (cells-parted c.args.word n c.args.len p.within) ∙ items-join (reporting w) b d rest))
-            (front-more (front-is (sym (adds-report w b d c.report-told.result (p.report b h.0 ∙ ap (λ o. decided b ++ o) told))) (c.in-Err.ensures.err_grew (decided b) h.1)) _)),
+            (front-more (front-is (sym (adds-report w b d (report_in k c.in-Some.ending) (p.report b h.0 ∙ ap (λ o. decided b ++ o) told))) (c.in-Err.ensures.err_grew (decided b) h.1)) _)),
       );
     }
 

@@ -1,0 +1,13 @@
+use Rattle.std.proofs.Common.{ap, ◌∙◌, take}
+use Rattle.aes3_cell.specs.Cells.{line}
+use Rattle.aes3_slot.specs.Slots.{payload_len, subframe_runs}
+use Rattle.aes3_block.proofs.SlotWords.{payload-low}
+use Rattle.aes3_block.proofs.read_cells.renewed.Goals as goal
+
+pub returns-then-is_subframe : goal.returns-then-is_subframe
+returns-then-is_subframe c =
+    c.is_subframe.ensures c.if-is_subframe.true ∙ ap (λ bits. line c.args.before (subframe_runs c.args.mark (take payload_len bits))) c.turning-same.ensures
+
+pub returns : goal.returns
+returns c =
+    c.subframe_cells.ensures ∙ ap (λ bits. line c.args.before (subframe_runs c.args.mark bits)) (payload-low c.slot_bits.result _ c.slot_bits.ensures.bits)

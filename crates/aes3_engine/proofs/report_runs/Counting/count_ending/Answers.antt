@@ -1,0 +1,24 @@
+use Rattle.std.proofs.Common.{arith, ap}
+use Rattle.aes3_slot.specs.ReadWords.{read_words}
+use Rattle.aes3_lock.specs.Following.{LockState}
+use Rattle.aes3_lock.specs.Reports.{ending_report}
+use Rattle.aes3_engine.proofs.ReportLemmas.{tallies-few, push-whole, push-marked, push-fault}
+use Rattle.aes3_engine.proofs.report_runs.Counting.count_ending.Goals as goal
+
+pub overflow_add-self : goal.overflow_add-self
+overflow_add-self g c = let h = c.requires.room in let l = h.1 in let f = (tallies-few h.2).few_blocks in omega arith
+
+pub overflow_add-self-in-Marked : goal.overflow_add-self-in-Marked
+overflow_add-self-in-Marked g c = let h = c.requires.room in let l = h.1 in let f = (tallies-few h.2).few_faults in omega arith
+
+pub overflow_add-self-in-Fault : goal.overflow_add-self-in-Fault
+overflow_add-self-in-Fault g c = let h = c.requires.room in let l = h.1 in let f = (tallies-few h.2).few_faults in omega arith
+
+pub returns-in-Whole-clause-tally : goal.returns-in-Whole-clause-tally
+returns-in-Whole-clause-tally g c = λ r h. push-whole _ (ap (ending_report (read_words c.args.lock.now.words)) c.in-Whole.is) h
+
+pub returns-in-Marked-clause-tally : goal.returns-in-Marked-clause-tally
+returns-in-Marked-clause-tally g c = λ r h. push-marked _ (ap (ending_report (read_words c.args.lock.now.words)) c.in-Marked.is) h
+
+pub returns-in-Fault-clause-tally : goal.returns-in-Fault-clause-tally
+returns-in-Fault-clause-tally g c = λ r h. push-fault _ (ap (ending_report (read_words c.args.lock.now.words)) c.in-Fault.is) h
