@@ -1,9 +1,10 @@
 //! Command lines and what they ask for.
 
-use crate::job::{Job, LineFault, job_of_words};
+use crate::job::{LineFault, job_of_words};
 use crate::status_text::status_of_text;
 use aes3_cell::{Form, RunError};
 use aes3_engine::Change;
+use aes3_job::Job;
 use aes3_text::Lines;
 use std::alloc::Global;
 use std::process::Abort;
