@@ -20,8 +20,8 @@ fn status_of_one_channel(rt: HostRuntime) {
     ] {
         let mut block = Block::zero();
         block.set_channel_status(channel, &status);
-        assert_eq!(rt; block.channel_status(channel), status);
-        assert_eq!(rt; block.channel_status(other), [0; 24]);
+        assert!(rt; block.channel_status(channel) == status);
+        assert!(rt; block.channel_status(other) == [0; 24]);
     }
 }
 
@@ -34,11 +34,10 @@ fn frames_that_carry_a_bit(rt: HostRuntime) {
         block.set_channel_status(Channel::First, &status);
         for i in 0..192 {
             let carried = block.frame(i);
-            assert_eq!(rt; carried.first.c, i == frame);
-            assert_eq!(rt; carried.second.c, false);
-            assert_eq!(rt;
-                (carried.first.audio, carried.first.v, carried.first.u),
-                (0, false, false)
+            assert!(rt; carried.first.c == (i == frame));
+            assert!(rt; carried.second.c == false);
+            assert!(rt;
+                (carried.first.audio, carried.first.v, carried.first.u) == (0, false, false)
             );
         }
     }
@@ -65,31 +64,28 @@ fn by_bytes(file: &mut BlockFile, bytes: [u8; 4]) -> Result<bool, FileFault> {
 fn words_of_a_file(rt: HostRuntime) {
     let mut by_words = BlockFile::new();
     for i in 0..383 {
-        assert_eq!(rt; by_words.seen(), 4 * i);
+        assert!(rt; by_words.seen() == 4 * i);
         assert!(rt; by_words.seen() < 1 << 20);
         assert!(rt; by_words.feed_word(&WORD));
     }
     // The last word of the block.
     assert!(rt; by_words.seen() < 1 << 20);
     assert!(rt; !by_words.feed_word(&WORD));
-    assert_eq!(rt; by_words.seen(), 1532);
-    assert_eq!(rt; by_bytes(&mut by_words, WORD), Ok(true));
+    assert!(rt; by_words.seen() == 1532);
+    assert!(rt; by_bytes(&mut by_words, WORD) == Ok(true));
     // A word that is not lawful, and one behind a byte.
     assert!(rt; by_words.seen() < 1 << 20);
     assert!(rt; !by_words.feed_word(&WRONG));
-    assert_eq!(rt; by_words.seen(), 1536);
+    assert!(rt; by_words.seen() == 1536);
     assert!(rt; matches!(by_words.feed_byte(0), Ok(None)));
     assert!(rt; by_words.seen() < 1 << 20);
     assert!(rt; !by_words.feed_word(&WORD));
-    assert_eq!(rt; by_words.seen(), 1537);
+    assert!(rt; by_words.seen() == 1537);
     // Nothing behind a fault.
-    assert_eq!(rt;
-        by_bytes(&mut by_words, WORD),
-        Err(FileFault::BadParity { at: 384 })
-    );
+    assert!(rt; by_bytes(&mut by_words, WORD) == Err(FileFault::BadParity { at: 384 }));
     assert!(rt; by_words.seen() < 1 << 20);
     assert!(rt; !by_words.feed_word(&WORD));
-    assert_eq!(rt; by_words.end(), Err(FileFault::BadParity { at: 384 }));
+    assert!(rt; by_words.end() == Err(FileFault::BadParity { at: 384 }));
 }
 
 #[test]
@@ -103,8 +99,8 @@ fn samples_of_the_last_frame(rt: HostRuntime) -> Result<(), Fail> {
     let mut sink = MemorySink::new(rt.alloc());
     assert!(rt; put_block_samples(&block, &mut sink).is_ok());
     let bytes = sink.bytes();
-    assert_eq!(rt; bytes.len(), 1536);
-    assert_eq!(rt; bytes.iter().take_while(|byte| **byte == 0).count(), 1529);
+    assert!(rt; bytes.len() == 1536);
+    assert!(rt; bytes.iter().take_while(|byte| **byte == 0).count() == 1529);
     let last: [u8; 8] = [0, 0x56, 0x34, 0x12, 0, 0x01, 0, 0x80];
     assert!(rt; bytes.ends_with(&last));
     Ok(())

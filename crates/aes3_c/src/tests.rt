@@ -44,20 +44,20 @@ fn words() -> [u32; 384] {
 #[test]
 fn a_block_comes_back(rt: HostRuntime) -> Result<(), Fail> {
     let mut cells = [0; 384];
-    assert_eq!(rt; aes3_encode_block(&words(), 0, &mut cells), 384);
+    assert!(rt; aes3_encode_block(&words(), 0, &mut cells) == 384);
     let mut lock = memory();
     let mut report = room();
     aes3_lock_init(&mut lock);
-    assert_eq!(rt; aes3_lock_push(&mut lock, cells[0], 64, &mut report), 64);
-    assert_eq!(rt; report.kind, 0);
-    assert_eq!(rt; aes3_lock_take_words(&mut lock, &cells[1..]), 383);
-    assert_eq!(rt; aes3_lock_seen(&lock), 24576);
+    assert!(rt; aes3_lock_push(&mut lock, cells[0], 64, &mut report) == 64);
+    assert!(rt; report.kind == 0);
+    assert!(rt; aes3_lock_take_words(&mut lock, &cells[1..]) == 383);
+    assert!(rt; aes3_lock_seen(&lock) == 24576);
     aes3_lock_finish(&lock, &mut report);
-    assert_eq!(rt; (report.kind, report.at, report.before), (1, 0, 0));
+    assert!(rt; (report.kind, report.at, report.before) == (1, 0, 0));
     assert!(rt; report.words == words());
     // The next block decides it with its first cell.
-    assert_eq!(rt; aes3_lock_push(&mut lock, cells[0], 64, &mut report), 1);
-    assert_eq!(rt; (report.kind, report.at, report.before), (1, 0, 0));
+    assert!(rt; aes3_lock_push(&mut lock, cells[0], 64, &mut report) == 1);
+    assert!(rt; (report.kind, report.at, report.before) == (1, 0, 0));
     assert!(rt; report.words == words());
     Ok(())
 }
@@ -66,12 +66,12 @@ fn a_block_comes_back(rt: HostRuntime) -> Result<(), Fail> {
 fn a_word_that_is_not_lawful_is_told(rt: HostRuntime) -> Result<(), Fail> {
     let mut words = words();
     let mut status = [9; 24];
-    assert_eq!(rt; aes3_block_status(&words, 1, &mut status), 384);
-    assert_eq!(rt; (status[0], status[23]), (1, 0));
+    assert!(rt; aes3_block_status(&words, 1, &mut status) == 384);
+    assert!(rt; (status[0], status[23]) == (1, 0));
     words[7] = 1;
     let mut cells = [9; 384];
-    assert_eq!(rt; aes3_block_status(&words, 1, &mut status), 7);
-    assert_eq!(rt; aes3_encode_block(&words, 0, &mut cells), 7);
-    assert_eq!(rt; cells[383], 9);
+    assert!(rt; aes3_block_status(&words, 1, &mut status) == 7);
+    assert!(rt; aes3_encode_block(&words, 0, &mut cells) == 7);
+    assert!(rt; cells[383] == 9);
     Ok(())
 }

@@ -117,7 +117,7 @@ fn what_is_decided_before_a_failed_read_is_written(rt: HostRuntime) -> Result<()
         let mut sink = MemorySink::new(rt.alloc());
         let answer = normalise(&mut source, &mut sink, MANY, Form::Text, Form::Text);
         assert!(rt; answer == Err(RunError::Read), "read {call}");
-        assert_eq!(rt; sink.bytes().len(), written, "read {call}");
+        assert!(rt; sink.bytes().len() == written, "read {call}");
         assert!(rt; two.as_slice().starts_with(sink.bytes()), "read {call}");
     }
     let ends: [(&[u8], usize); 2] = [(&[0x80; 2], 0), (&[0x80; 3], BLOCK_TEXT)];
@@ -127,7 +127,7 @@ fn what_is_decided_before_a_failed_read_is_written(rt: HostRuntime) -> Result<()
         let mut sink = MemorySink::new(rt.alloc());
         let answer = normalise(&mut source, &mut sink, MANY, Form::Packed, Form::Text);
         assert!(rt; answer == Err(RunError::Read));
-        assert_eq!(rt; sink.bytes().len(), written);
+        assert!(rt; sink.bytes().len() == written);
     }
     Ok(())
 }
@@ -150,7 +150,7 @@ fn expect_failed_writes(
         assert!(rt; answer == Err(RunError::Write), "write {call}");
         let written = sink.bytes();
         assert!(rt; output.starts_with(written), "write {call}");
-        assert_eq!(rt; written.len() / line, call - 1, "write {call}");
+        assert!(rt; written.len() / line == call - 1, "write {call}");
     }
 }
 
@@ -285,7 +285,7 @@ fn what_is_decided_leaves_before_the_next_read(rt: HostRuntime) -> Result<(), Fa
         let mut sink = StdSink::new(&mut output);
         let answer = normalise(&mut source, &mut sink, MANY, Form::Text, Form::Text);
         assert!(rt; answer == Err(RunError::Read), "read {call}");
-        assert_eq!(rt; output.get_ref().len(), written, "read {call}");
+        assert!(rt; output.get_ref().len() == written, "read {call}");
     }
     Ok(())
 }
@@ -346,9 +346,9 @@ fn the_last_byte_that_fits(rt: HostRuntime) -> Result<(), Fail> {
     for (input, form, max_bytes, fits, written) in rows {
         assert!(rt; max_bytes <= 1 << 40);
         let (answer, len) = written_within(rt.alloc(), input, max_bytes, form);
-        assert_eq!(rt; answer.is_ok(), fits, "{max_bytes}");
+        assert!(rt; answer.is_ok() == fits, "{max_bytes}");
         assert!(rt; fits || answer == Err(RunError::TooLong), "{max_bytes}");
-        assert_eq!(rt; len, written, "{max_bytes}");
+        assert!(rt; len == written, "{max_bytes}");
     }
     Ok(())
 }
@@ -385,7 +385,7 @@ fn one_byte_past_the_limit_is_read(rt: HostRuntime) {
             let answer = normalise(&mut source, &mut sink, 1_000, Form::Text, Form::Text);
             assert!(rt; answer == Err(RunError::TooLong), "{piece} at once");
             assert!(rt; sink.bytes().is_empty(), "{piece} at once");
-            assert_eq!(rt; bytes_left(&rt, &mut source), 999, "{piece} at once");
+            assert!(rt; bytes_left(&rt, &mut source) == 999, "{piece} at once");
         }
     }
 }
@@ -430,7 +430,7 @@ fn block_files_as_long_as_allowed(rt: HostRuntime) -> Result<(), Fail> {
         let mut sink = MemorySink::new(rt.alloc());
         let answer = encode(&mut source, &mut sink, max_bytes, Form::Text);
         assert!(rt; answer == expected, "{max_bytes}");
-        assert_eq!(rt; sink.bytes().len(), written, "{max_bytes}");
+        assert!(rt; sink.bytes().len() == written, "{max_bytes}");
     }
     Ok(())
 }
@@ -458,7 +458,7 @@ fn a_rewritten_block_into_a_sink_that_fails(rt: HostRuntime) -> Result<(), Fail>
         );
         assert!(rt; answer == Err(RunError::Write), "write {call}");
         let written = sink.bytes().len() as u64;
-        assert_eq!(rt; written / 65, call - 1, "write {call}");
+        assert!(rt; written / 65 == call - 1, "write {call}");
     }
     Ok(())
 }
@@ -472,7 +472,7 @@ fn encoded_blocks_into_a_sink_that_fails(rt: HostRuntime) -> Result<(), Fail> {
         let mut sink = FailingSink::new(rt.alloc(), call);
         let answer = encode(&mut source, &mut sink, 4_096, Form::Text);
         assert!(rt; answer == Err(RunError::Write), "write {call}");
-        assert_eq!(rt; sink.bytes().len(), written, "write {call}");
+        assert!(rt; sink.bytes().len() == written, "write {call}");
         assert!(rt; two.as_slice().starts_with(sink.bytes()), "write {call}");
     }
     Ok(())

@@ -9,7 +9,11 @@ mod job;
 mod job_run;
 #[cfg(test)]
 mod job_run_tests;
+#[cfg(test)]
+mod line_tests;
 mod refusal;
+#[cfg(test)]
+mod status_line_tests;
 #[cfg(test)]
 mod status_tests;
 #[cfg(test)]

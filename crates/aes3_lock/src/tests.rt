@@ -184,7 +184,7 @@ fn check(rt: &impl Abort, alloc: Global, cells: &[Level], expected: &[Line]) {
     assert!(rt; by_words(cells, 0, true) == lines);
     assert!(rt; by_words(cells, 0, false) == lines);
     for i in 0..LINES {
-        assert_eq!(rt; lines[i], expected.get(i).copied());
+        assert!(rt; lines[i] == expected.get(i).copied());
     }
     let places = by_places(alloc, cells).expect(rt, "memory");
     assert!(rt; places == lines);
@@ -357,7 +357,7 @@ fn candidates_five_cells_apart(rt: HostRuntime) {
     let mut lock = Lock::new();
     let mut told = ArrayVec::new();
     lock.push_word(DENSE, &mut told);
-    assert_eq!(rt; told.len(), 11);
+    assert!(rt; told.len() == 11);
     for (i, report) in told.into_iter().enumerate() {
         assert!(rt; lines.get(i).copied() == Some(line_of(report)));
     }
@@ -383,8 +383,8 @@ fn fourteen_reports_within_64_cells(rt: HostRuntime) {
         lines[i] = Line::Fault(at, at + 12, Why::Biphase);
     }
     check(&rt, rt.alloc(), &cells, &lines);
-    assert_eq!(rt; decided_count(&cells), 14);
-    assert_eq!(rt; decided_count(cells.get(..64).unwrap_or(&[])), 0);
+    assert!(rt; decided_count(&cells) == 14);
+    assert!(rt; decided_count(cells.get(..64).unwrap_or(&[])) == 0);
 }
 
 /// Run with each allocation refused in turn, this shows that the slow form answers its error or the same reports.
@@ -480,15 +480,15 @@ fn by_scan(cells: &[Level]) -> [Option<(u64, Mark, Level)>; LINES] {
 fn preambles_in_step_or_not(rt: HostRuntime) {
     let cells = preamble_in_a_preamble(rt.alloc()).expect(&rt, "memory");
     let marks = by_scan(&cells);
-    assert_eq!(rt; marks[0], Some((0, Mark::Z, Level::Low)));
-    assert_eq!(rt; marks[1], Some((64, Mark::Y, Level::Low)));
-    assert_eq!(rt; marks[2], Some((128, Mark::X, Level::Low)));
-    assert_eq!(rt; marks[3], Some((131, Mark::Z, Level::High)));
-    assert_eq!(rt; marks[4], None);
+    assert!(rt; marks[0] == Some((0, Mark::Z, Level::Low)));
+    assert!(rt; marks[1] == Some((64, Mark::Y, Level::Low)));
+    assert!(rt; marks[2] == Some((128, Mark::X, Level::Low)));
+    assert!(rt; marks[3] == Some((131, Mark::Z, Level::High)));
+    assert!(rt; marks[4] == None);
     let cells = twice_without(rt.alloc(), 131).expect(&rt, "memory");
     let marks = by_scan(&cells);
-    assert_eq!(rt; marks[0], Some((61, Mark::Y, Level::Low)));
-    assert_eq!(rt; marks[1], Some((125, Mark::X, Level::Low)));
+    assert!(rt; marks[0] == Some((61, Mark::Y, Level::Low)));
+    assert!(rt; marks[1] == Some((125, Mark::X, Level::Low)));
 }
 
 /// The preamble that the last of some cells of a word ends, where no other of them ends one.
@@ -554,11 +554,11 @@ fn decided_count(cells: &[Level]) -> usize {
 #[test]
 fn nothing_decided_before_the_end(rt: HostRuntime) {
     let mut cells = zero_block(rt.alloc(), Level::Low).expect(&rt, "memory");
-    assert_eq!(rt; decided_count(&cells), 0);
+    assert!(rt; decided_count(&cells) == 0);
     cells.push(Level::High).expect(&rt, "memory");
-    assert_eq!(rt; decided_count(&cells), 1, "by the cell behind the block");
+    assert!(rt; decided_count(&cells) == 1, "by the cell behind the block");
     let cells = wrong_first(rt.alloc(), Level::High).expect(&rt, "memory");
-    assert_eq!(rt; decided_count(&cells), 0);
+    assert!(rt; decided_count(&cells) == 0);
 }
 
 /// The next of a row of numbers (xorshift).

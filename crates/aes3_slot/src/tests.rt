@@ -18,28 +18,19 @@ const WRONG_PARITY: u64 = 0xB333_3333_3333_3317;
 
 #[test]
 fn cells_of_a_subframe(rt: HostRuntime) {
-    assert_eq!(rt; subframe_cells(Level::Low, Mark::Z, 0), ZEROS);
-    assert_eq!(rt; subframe_cells(Level::High, Mark::Z, 0), !ZEROS);
-    assert_eq!(rt; subframe_cells(Level::Low, Mark::Z, 1), FIRST_BIT);
-    assert_eq!(rt; subframe_cells(Level::High, Mark::Z, 1), !FIRST_BIT);
+    assert!(rt; subframe_cells(Level::Low, Mark::Z, 0) == ZEROS);
+    assert!(rt; subframe_cells(Level::High, Mark::Z, 0) == !ZEROS);
+    assert!(rt; subframe_cells(Level::Low, Mark::Z, 1) == FIRST_BIT);
+    assert!(rt; subframe_cells(Level::High, Mark::Z, 1) == !FIRST_BIT);
 }
 
 #[test]
 fn subframe_of_cells(rt: HostRuntime) {
-    assert_eq!(rt; take_subframe(Level::Low, Mark::Z, ZEROS), Ok(0));
-    assert_eq!(rt; take_subframe(Level::Low, Mark::Z, FIRST_BIT), Ok(1));
-    assert_eq!(rt;
-        take_subframe(Level::Low, Mark::Z, WRONG_PARITY),
-        Err(Place { offset: 63 })
-    );
-    assert_eq!(rt;
-        take_subframe(Level::Low, Mark::Z, ZEROS ^ 1),
-        Err(Place { offset: 0 })
-    );
-    assert_eq!(rt;
-        take_either(Level::Low, Mark::Z, WRONG_PARITY),
-        Ok((0, false))
-    );
+    assert!(rt; take_subframe(Level::Low, Mark::Z, ZEROS) == Ok(0));
+    assert!(rt; take_subframe(Level::Low, Mark::Z, FIRST_BIT) == Ok(1));
+    assert!(rt; take_subframe(Level::Low, Mark::Z, WRONG_PARITY) == Err(Place { offset: 63 }));
+    assert!(rt; take_subframe(Level::Low, Mark::Z, ZEROS ^ 1) == Err(Place { offset: 0 }));
+    assert!(rt; take_either(Level::Low, Mark::Z, WRONG_PARITY) == Ok((0, false)));
 }
 
 const PREAMBLES: [(u8, Mark, Level); 6] = [
@@ -60,7 +51,7 @@ fn preambles_among_all_octets(rt: HostRuntime) {
                 expected = Some((mark, before));
             }
         }
-        assert_eq!(rt; match_mark(window), expected);
+        assert!(rt; match_mark(window) == expected);
     }
 }
 
@@ -105,10 +96,7 @@ fn reader_against_a_plain_loop(rt: HostRuntime) {
             .wrapping_add(1_442_695_040_888_963_407);
         let flipped = 1 << (state >> 58);
         let cells = subframe_cells(Level::Low, Mark::Z, (state >> 37) as u32) ^ flipped;
-        assert_eq!(rt;
-            take_subframe(Level::Low, Mark::Z, cells),
-            read_by_cells(cells)
-        );
+        assert!(rt; take_subframe(Level::Low, Mark::Z, cells) == read_by_cells(cells));
     }
 }
 
@@ -126,9 +114,9 @@ const PLACES: [(u64, u64, u64); 7] = [
 #[test]
 fn preambles_of_blocks_in_words(rt: HostRuntime) {
     for (cells, next, places) in PLACES {
-        assert_eq!(rt; block_preambles(cells, next), places);
+        assert!(rt; block_preambles(cells, next) == places);
     }
-    assert_eq!(rt; preambles(ZEROS, 0x27), 1);
+    assert!(rt; preambles(ZEROS, 0x27) == 1);
 }
 
 /// Where preambles begin, window by window: those of blocks, and all.
@@ -163,7 +151,7 @@ fn preambles_against_windows(rt: HostRuntime) {
         let cells = subframe_cells(Level::Low, Mark::Z, (state >> 37) as u32);
         let cells = cells.rotate_left((state & 63) as u32) ^ 1 << (state >> 58);
         let found = (block_preambles(cells, state), preambles(cells, state));
-        assert_eq!(rt; found, places_by_windows(cells, state));
+        assert!(rt; found == places_by_windows(cells, state));
     }
 }
 
@@ -195,7 +183,7 @@ fn told_across_words(rt: &impl Abort, len: usize, at: usize, shift: u32, before:
         } else {
             u64::from(i >= len)
         };
-        assert_eq!(rt; *places, expected, "{i} of {len}");
+        assert!(rt; *places == expected, "{i} of {len}");
     }
 }
 
@@ -217,6 +205,6 @@ fn preambles_of_blocks_in_one_word(rt: HostRuntime) {
     for (cells, next, places) in PLACES {
         let mut out = [0];
         find_marks(&[cells], low_octet(next), &mut out);
-        assert_eq!(rt; out, [places]);
+        assert!(rt; out == [places]);
     }
 }

@@ -17,8 +17,6 @@ mod scanning;
 mod showing;
 mod status;
 mod tally;
-#[cfg(test)]
-mod tests;
 mod words;
 
 pub use accounting::account;

@@ -69,6 +69,3 @@ pub fn line_of_status<T: Sink>(
     put_status(&mut line, status);
     line.end(sink)
 }
-
-#[cfg(test)]
-mod tests;
