@@ -1,15 +1,16 @@
 -- Lines of cell text.
-use Rattle.std.proofs.Common.{◌≡◌, ℕ, zero, suc, ◌+◌, ◌*◌, ◌/◌, ◌%◌, ◌^◌, ◌<◌, ◌≤◌, List, [], ◌∷◌, ◌++◌, length, take, drop, map, refl, sym, ap, ap₂, ◌∙◌, arith, cond, eq-eqb, ne_eqb, append_assoc, append-nil, length-append, take-append-drop, subst, true, w64, length-drop, zero-add, suc-add}
-use Rattle.std.proofs.lemmas.List.{length-map, map-append, take_all, take-append-le, drop-append-le, nil_from_length}
+use Rattle.std.proofs.Common.{◌≡◌, ℕ, zero, suc, ◌+◌, ◌*◌, ◌/◌, ◌%◌, ◌^◌, ◌<◌, ◌≤◌, List, [], ◌∷◌, ◌++◌, length, take, drop, map, refl, sym, ap, ap₂, ◌∙◌, arith, cond, eqb, replicate, eq-eqb, ne_eqb, append_assoc, append-nil, length-append, take-append-drop, subst, true, w64, length-drop, zero-add, suc-add}
+use Rattle.std.proofs.lemmas.List.{map-append, take_all, take-append-le, drop-append-le, nil_from_length}
 use Rattle.aes3_cell.specs.declared.level.Level.{Level}
 use Rattle.aes3_cell.specs.Words.{level_of, low_cells, word_len, word_cells}
 use Rattle.aes3_cell.specs.Text.{byte_of, line_text, lines_text, text_of}
 use Rattle.aes3_cell.specs.Pending.{text_added, begun_after}
-use Rattle.std.specs.Prelude.{bit_and, bit_or}
-use Rattle.std.specs.Int.{to_le_bytes}
+use Rattle.std.specs.Prelude.{bit_and}
+use Rattle.std.specs.Int.{byte_at, to_le_bytes}
+use Rattle.std.specs.List.{flat_map}
+use Rattle.std.specs.Simd.Lanes.{zip2, pick_l, sel_l, top}
 use Rattle.std.proofs.lemmas.Bool.{agree_below_at}
-use Rattle.std.proofs.lemmas.Slice.{take-put_mid}
-use borrow.Rule.Slice.PartMut.{put_mid}
+use Rattle.std.proofs.lemmas.Nat.{shr-shr}
 use Rattle.aes3_cell.proofs.Moves.{same_places, same_places-is}
 use Rattle.aes3_cell.proofs.WordCells.{low_cells-add, low_cells-mod, length-low_cells}
 
@@ -17,13 +18,14 @@ pub word_len_64 : word_len ≡ 64
 unfolding word_len
 word_len_64 = refl
 
+-- which of its bits an octet has for cell 0, cell 1, and so on
+abbrev places : List ℕ
+places = 1 ∷ 2 ∷ 4 ∷ 8 ∷ 16 ∷ 32 ∷ 64 ∷ 128 ∷ []
+
 -- the characters of an octet, by computation over all
 unfoldable pub characters : ℕ → List ℕ
 characters octet =
-    let a = bit_and (bit_or octet (octet * 2 ^ 28 % 2 ^ 64)) 64424509455 in
-    let b = bit_and (bit_or a (a * 2 ^ 14 % 2 ^ 64)) 844437815230467 in
-    let c = bit_and (bit_or b (b * 2 ^ 7 % 2 ^ 64)) 72340172838076673 in
-    to_le_bytes w64 (bit_or c 3472328296227680304)
+    sel_l (map (top 7) (zip2 (λ a b. cond (eqb a b) 255 0) (zip2 bit_and (replicate 8 octet) places) places)) (replicate 8 49) (replicate 8 48)
 
 pub eight-characters : (octet : ℕ) → octet < 256 → characters octet ≡ map byte_of (low_cells 8 octet)
 unfolding characters
@@ -31,16 +33,47 @@ eight-characters octet h =
     same_places-is (characters octet) (map byte_of (low_cells 8 octet))
     (agree_below_at (λ n. same_places (characters n) (map byte_of (low_cells 8 n))) (λ _. true) 256 octet refl h)
 
--- a line with eight characters more
-pub line-eight : (line ys : List ℕ) (w k n octet : ℕ) → k < 8 → length line ≡ 65 → take (8 * k) line ≡ map byte_of (low_cells (8 * k) w)
-    → octet ≡ w / 2 ^ (8 * k) % 256 → ys ≡ map byte_of (low_cells 8 octet) → take (8 * (k + 1)) (put_mid (8 * k) n line ys) ≡ map byte_of (low_cells (8 * (k + 1)) w)
-line-eight line ys w k n octet h l front o e =
-    let y : length ys ≡ 8 = ap length e ∙ length-map (low_cells 8 octet) byte_of in
-    let j : 8 * (k + 1) ≡ 8 * k + 8 = omega arith in
-    take-put_mid (8 * k) n line ys (8 * (k + 1)) (omega (arith, y)) (omega (arith, l))
-    ∙ ap₂ (λ a b. a ++ b) front (e ∙ ap (map byte_of) (ap (low_cells 8) o ∙ low_cells-mod (w / 2 ^ (8 * k))))
-    ∙ sym (map-append byte_of (low_cells (8 * k) w) (low_cells 8 (w / 2 ^ (8 * k))))
-    ∙ ap (map byte_of) (sym (low_cells-add (8 * k) 8 w) ∙ ap (λ m. low_cells m w) (sym j))
+-- the octet that has each cell of a word, and its bit there
+abbrev octet_numbers : List ℕ
+octet_numbers = flat_map {X = ℕ} (replicate 8) (0 ∷ 1 ∷ 2 ∷ 3 ∷ 4 ∷ 5 ∷ 6 ∷ 7 ∷ [])
+
+abbrev all_places : List ℕ
+all_places = flat_map {X = ℕ} (λ _. places) (0 ∷ 1 ∷ 2 ∷ 3 ∷ 4 ∷ 5 ∷ 6 ∷ 7 ∷ [])
+
+-- the characters of eight octets, all at once
+abbrev pub lanes_text : List ℕ → List ℕ
+lanes_text octets =
+    sel_l (map (top 7) (zip2 (λ a b. cond (eqb a b) 255 0) (zip2 bit_and (pick_l 0 (octets ++ octets) octet_numbers) all_places) all_places))
+    (replicate 64 49) (replicate 64 48)
+
+eight-octets : (a b c d e f g h : ℕ) → lanes_text (a ∷ b ∷ c ∷ d ∷ e ∷ f ∷ g ∷ h ∷ [])
+    ≡ characters a ++ (characters b ++ (characters c ++ (characters d ++ (characters e ++ (characters f ++ (characters g ++ (characters h ++ [])))))))
+unfolding characters
+eight-octets a b c d e f g h = refl
+
+-- the characters of an octet of a word and those behind it
+octet-text : (w n m octet : ℕ) (behind : List ℕ) → octet ≡ w / 2 ^ n % 256 → behind ≡ map byte_of (low_cells m (w / 2 ^ (n + 8)))
+    → characters octet ++ behind ≡ map byte_of (low_cells (8 + m) (w / 2 ^ n))
+octet-text w n m octet behind o e =
+    ap₂ (λ a b. a ++ b)
+    (eight-characters octet (omega (arith, o)) ∙ ap (λ v. map byte_of (low_cells 8 v)) o ∙ ap (map byte_of) (low_cells-mod (w / 2 ^ n)))
+    (e ∙ ap (λ v. map byte_of (low_cells m v)) (sym (shr-shr w n 8)))
+    ∙ sym (map-append byte_of (low_cells 8 (w / 2 ^ n)) (low_cells m (w / 2 ^ n / 2 ^ 8)))
+    ∙ ap (map byte_of) (sym (low_cells-add 8 m (w / 2 ^ n)))
+
+pub word-text : (w : ℕ) → lanes_text (to_le_bytes w64 w) ≡ map byte_of (word_cells w)
+unfolding word_cells word_len
+word-text w =
+    eight-octets _ _ _ _ _ _ _ _
+    ∙ octet-text w 0 56 (byte_at 0 w) _ (omega arith)
+    (octet-text w 8 48 (byte_at 1 w) _ (omega arith)
+    (octet-text w 16 40 (byte_at 2 w) _ (omega arith)
+    (octet-text w 24 32 (byte_at 3 w) _ (omega arith)
+    (octet-text w 32 24 (byte_at 4 w) _ (omega arith)
+    (octet-text w 40 16 (byte_at 5 w) _ (omega arith)
+    (octet-text w 48 8 (byte_at 6 w) _ (omega arith)
+    (octet-text w 56 0 (byte_at 7 w) [] (omega arith) refl)))))))
+    ∙ ap (λ v. map byte_of (low_cells 64 v)) (let e : w / 2 ^ 0 ≡ w = omega arith in e)
 
 pub line-whole : (line : List ℕ) (w k : ℕ) → k ≡ 8 → take (8 * k) line ≡ map byte_of (low_cells (8 * k) w) → drop 64 line ≡ 10 ∷ [] → line ≡ line_text (word_cells w)
 unfolding word_cells word_len

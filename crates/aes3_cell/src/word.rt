@@ -28,17 +28,23 @@ pub fn with_cell(word: u64, len: u32, level: Level) -> u64
     }
 }
 
-/// The characters of the cells of an octet, the first in its lowest bit.
-fn eight_characters(octet: u8) -> [u8; 8]
-    ensures { result ≡ map byte_of (low_cells 8 octet) }
+/// The number of the octet that has each cell of a word, the first eight cells in octet 0.
+const OCTETS: [usize; 64] = [
+    0, 0, 0, 0, 0, 0, 0, 0, 1, 1, 1, 1, 1, 1, 1, 1, 2, 2, 2, 2, 2, 2, 2, 2, 3, 3, 3, 3, 3, 3, 3, 3,
+    4, 4, 4, 4, 4, 4, 4, 4, 5, 5, 5, 5, 5, 5, 5, 5, 6, 6, 6, 6, 6, 6, 6, 6, 7, 7, 7, 7, 7, 7, 7, 7,
+];
+
+/// The characters of the cells of a word, all at once.
+fn characters(word: u64) -> [u8; 64]
+    ensures { result ≡ map byte_of (word_cells word) }
 {
-    // Each bit in a byte of its own.
-    let word = u64::from(octet);
-    let word = (word | (word << 28)) & 0x0000_000F_0000_000F;
-    let word = (word | (word << 14)) & 0x0003_0003_0003_0003;
-    let word = (word | (word << 7)) & 0x0101_0101_0101_0101;
-    // The character `0` is 0x30, and `1` the next.
-    (word | 0x3030_3030_3030_3030).to_le_bytes()
+    let octets = u8x8::from_array(word.to_le_bytes()).swizzle(OCTETS);
+    // In each octet the bit of cell 0, of cell 1, and so on.
+    let bits = u64x8::splat(0x8040_2010_0804_0201).to_le_bytes();
+    (octets & bits)
+        .simd_eq(bits)
+        .select(u8x64::splat(b'1'), u8x64::splat(b'0'))
+        .to_array()
 }
 
 /// The line of text of a word of cells: 64 characters and a line feed.
@@ -46,10 +52,7 @@ pub fn line_of_word(word: u64) -> [u8; LINE_LEN]
     ensures { result ≡ line_text (word_cells word) }
 {
     let mut line = [b'\n'; LINE_LEN];
-    for k in 0..8 {
-        let octet = ((word >> (8 * k)) % 256) as u8;
-        line[8 * k..8 * k + 8].copy_from_slice(&eight_characters(octet));
-    }
+    line[..64].copy_from_slice(&characters(word));
     line
 }
 
