@@ -54,6 +54,26 @@ pub drove-err : {max : ℕ} {form : Form} {w : Writing Level} {f z : List Level 
 drove-err {max} {form} {w} {f} {z} whole begun counts {ended} {source} {sink} {x} p q r =
     record { bytes = r.bytes; given = r.given; few = r.few; ran = ran-err max form w z whole begun counts r.bytes ended source sink x p q r.ran }
 
+-- the same run, said of what cells write in other words
+ran-is : (max : ℕ) (form : Form) (whole begun g h : List Level → List ℕ) (counts : List ℕ → Counts) (b : List ℕ) (ended : Bool) (source sink : Change) (r : Result Counts RunError)
+    → ((c : List Level) → whole c ≡ g c) → ((c : List Level) → begun c ≡ h c) → CellRan max form whole begun counts b ended source sink r → CellRan max form g h counts b ended source sink r
+ran-is max form whole begun g h counts b ended source sink (Ok n) p q k = (k.0, k.1, k.2, k.3, grew-is (p (cells_of form b)) k.4)
+ran-is max form whole begun g h counts b ended source sink (Err Write) p q k = (
+  k.0,
+  k.1,
+  elim k.2 [
+    | inl f ↦ inl (front-is (q (cells_before form (take max b))) f)
+    | inr f ↦ inr (f.0, front-is (p (cells_of form b)) f.1)
+  ],
+)
+ran-is max form whole begun g h counts b ended source sink (Err Read) p q k = (k.0, k.1, k.2, grew-is (q (cells_before form (take max b))) k.3)
+ran-is max form whole begun g h counts b ended source sink (Err x) p q k = (k.0, k.1, k.2, grew-is (q (cells_before form (take max b))) k.3)
+
+pub run-is : {max : ℕ} {form : Form} {whole begun : List Level → List ℕ} {counts : List ℕ → Counts} {ended : Bool} {source sink : Change} {r : Result Counts RunError} (g h : List Level → List ℕ)
+    → ((c : List Level) → whole c ≡ g c) → ((c : List Level) → begun c ≡ h c) → CellRun max form whole begun counts ended source sink r → CellRun max form g h counts ended source sink r
+run-is {max} {form} {whole} {begun} {counts} {ended} {source} {sink} {r} g h p q run =
+    record { bytes = run.bytes; given = run.given; few = run.few; ran = ran-is max form whole begun g h counts run.bytes ended source sink r p q run.ran }
+
 -- of a source that tells its bytes
 pub run-told : {max : ℕ} {form : Form} {whole begun : List Level → List ℕ} {counts : List ℕ → Counts} {ended : Bool} {source sink : Change} {r : Result Counts RunError}
     → CellRun max form whole begun counts ended source sink r → (b : List ℕ) → Told source.old source.new b → CellRan max form whole begun counts b ended source sink r

@@ -1,4 +1,4 @@
--- What a run over cells answers, and what it has written then.
+-- What a run over cells answers, and what it has written then: what every command that reads cells promises, and `normalise` clause by clause.
 use Rattle.std.specs.Prelude.{ℕ, List, Bool, ◌≡◌, ◌≤◌, ◌+◌, ◌⊎◌, Result, Ok, Err, length, take, IsTrue}
 use Rattle.aes3_cell.specs.declared.level.Level.{Level}
 use Rattle.aes3_cell.specs.declared.form.Form.{Form}
@@ -23,7 +23,14 @@ IsCause form max b ended (BadParity at) = ⊥
 IsCause form max b ended Memory = ⊥
 IsCause form max b ended BadStatusText = ⊥
 
--- of a run for which all cells write `whole`, and cells behind which more may come write `begun`; the bytes b count as `counts` says
+-- What a run answers to the bytes b, of which all cells write `whole`, cells behind which more may come write `begun`, and which count as
+-- `counts` says:
+-- Ok: they are an input of at most `max` bytes, and the source has ended; the counts; neither end failed; what its cells write is written
+-- Write: the sink failed, once, and the source did not; a front is written of what the cells before the first fault and the limit write,
+--   or, where the input is whole, of what its cells write
+-- Read: its cause; the source failed, once, and the sink did not; what the cells before write is written
+-- any other refusal: its cause; neither end failed; what the cells before the first fault and the limit write is written
+-- So Ok is owed where the input is in its form and fits and neither end failed: each refusal has a failure or a cause that says otherwise.
 abbrev pub CellRan : ℕ → Form → (List Level → List ℕ) → (List Level → List ℕ) → (List ℕ → Counts) → List ℕ → Bool → Change → Change → Result Counts RunError → Type 0
 CellRan max form whole begun counts b ended source sink (Ok n) =
     WholeInput max form b ended × (n ≡ counts b) × Quiet source × Quiet sink × Grew sink.old sink.new (whole (cells_of form b))
@@ -35,7 +42,8 @@ CellRan max form whole begun counts b ended source sink (Err Read) =
 CellRan max form whole begun counts b ended source sink (Err x) =
     IsCause form max b ended x × Quiet source × Quiet sink × Grew sink.old sink.new (begun (cells_before form (take max b)))
 
--- such a run: with the bytes that the source gave in it
+-- such a run, from an input form `form` of at most `max` bytes: the bytes that the source gave in it, which are those that it tells where it
+-- tells them, at most one more than `max`; and what it answered to them, where `ended` says whether the source has ended
 pub record CellRun (max : ℕ) (form : Form) (whole begun : List Level → List ℕ) (counts : List ℕ → Counts) (ended : Bool) (source sink : Change) (result : Result Counts RunError) : Type 0 where
   pub bytes : List ℕ
   pub given : Grew source.old source.new bytes

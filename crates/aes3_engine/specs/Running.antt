@@ -12,6 +12,11 @@ pub record Change : Type 0 where
   pub failed_old : ℕ
   pub failed_new : ℕ
 
+-- of an end of which `bytes` tells its bytes and `failed` its count of failures
+abbrev pub change_of : {A : Type 0} → (A → Option (List ℕ)) → (A → ℕ) → A → A → Change
+change_of bytes failed before after =
+    record { old = bytes before; new = bytes after; failed_old = failed before; failed_new = failed after }
+
 -- no failure, one failure
 abbrev pub Quiet : Change → Type 0
 Quiet e = e.failed_new ≡ e.failed_old

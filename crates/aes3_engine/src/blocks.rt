@@ -5,6 +5,7 @@ ghost use Rattle.aes3_cell.specs.Ends.{Grew, GrewFront};
 ghost use Rattle.aes3_slot.specs.ReadWords.{read_words};
 ghost use Rattle.aes3_slot.specs.Slots.{payload_len};
 ghost use Rattle.aes3_engine.specs.ReportRuns.{ReportRun};
+ghost use Rattle.aes3_engine.specs.Running.{change_of};
 ghost use Rattle.aes3_engine.specs.BlockRuns.{report_bytes};
 
 use crate::report_runs::{ReportWriter, run_reports};
@@ -108,8 +109,7 @@ pub fn run_blocks<S: Source, T: Sink, W: BlockWriter + Drop>(
     requires sink_room { T.failed sink.old + 1 < 2 ^ 64 }
     requires limit { max_bytes ≤ 2 ^ 40 }
     ensures { ReportRun max_bytes input (report_bytes (W.writes writer)) (W.ends writer) (S.has_ended source.new)
-        (record { old = S.given source.old; new = S.given source.new; failed_old = S.failed source.old; failed_new = S.failed source.new })
-        (record { old = T.taken sink.old; new = T.taken sink.new; failed_old = T.failed sink.old; failed_new = T.failed sink.new }) result }
+        (change_of S.given S.failed source.old source.new) (change_of T.taken T.failed sink.old sink.new) result }
 {
     run_reports(source, sink, max_bytes, input, Blocks { writer })
 }

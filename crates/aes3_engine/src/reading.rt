@@ -16,8 +16,9 @@ ghost use Rattle.aes3_lock.specs.Pieces.{IsPiece, given_blocks, whole_blocks};
 ghost use Rattle.aes3_engine.specs.BlockRuns.{begun_stream, cut_block, cut_blocks, decided_blocks, file_block, normal_block, written_stream};
 ghost use Rattle.aes3_engine.specs.Driving.{WholeInput};
 ghost use Rattle.aes3_engine.specs.Inputs.{IsInput, cells_before, cells_of};
-ghost use Rattle.aes3_engine.specs.CellRuns.{IsCause};
+ghost use Rattle.aes3_engine.specs.CellRuns.{CellRun, IsCause};
 ghost use Rattle.aes3_engine.specs.ReportRuns.{counts_of};
+ghost use Rattle.aes3_engine.specs.Running.{change_of};
 
 use crate::blocks::{BlockWriter, run_blocks};
 use aes3_block::{Block, put_block, put_block_file, put_read_block};
@@ -198,28 +199,10 @@ pub fn decode<S: Source, T: Sink>(
     // What `encode` writes of blocks gives their file back.
     ensures back { IfOk result (λ _. (bs : List (List (List Bool))) → All IsBlock bs → Told (S.given source.old) (S.given source.new) (written_stream input bs)
         → Grew (T.taken sink.old) (T.taken sink.new) (file bs)) }
-    ensures input { IfOk result (λ _. (b : List ℕ) → Told (S.given source.old) (S.given source.new) b → IsInput input b) }
-    ensures counts { IfOk result (λ counts. (b : List ℕ) → Told (S.given source.old) (S.given source.new) b → counts ≡ counts_of input b) }
-    ensures fits { IfOk result (λ _. (b : List ℕ) → Told (S.given source.old) (S.given source.new) b → length b ≤ max_bytes) }
-    ensures ended { IfOk result (λ _. IsTrue (S.has_ended source.new)) }
-    ensures quiet { IfOk result (λ _. (S.failed source.new ≡ S.failed source.old) × (T.failed sink.new ≡ T.failed sink.old)) }
-
-    // It owes Ok where the input is in its form and fits, and neither end failed.
-    ensures owed { (b : List ℕ) → Told (S.given source.old) (S.given source.new) b → IsInput input b → length b ≤ max_bytes
-        → S.failed source.new ≡ S.failed source.old → T.failed sink.new ≡ T.failed sink.old → IsOk result }
-
-    // A refusal has its cause, and what was decided before it is written.
-    ensures cause { IfErr result (λ error. (b : List ℕ) → Told (S.given source.old) (S.given source.new) b
-        → IsCause input max_bytes b (S.has_ended source.new) error) }
-    ensures read { result ≡ Err RunError.Read → S.failed source.new ≡ S.failed source.old + 1 }
-    ensures write { result ≡ Err RunError.Write → T.failed sink.new ≡ T.failed sink.old + 1 }
-    ensures sink_quiet { result ≢ Err RunError.Write → T.failed sink.new ≡ T.failed sink.old }
-    ensures refused { OnErr result (result ≢ Err RunError.Write → (b : List ℕ) → Told (S.given source.old) (S.given source.new) b
-        → Grew (T.taken sink.old) (T.taken sink.new) (file (decided_blocks (cells_before input (take max_bytes b))))) }
-    ensures front { result ≡ Err RunError.Write → (b : List ℕ) → Told (S.given source.old) (S.given source.new) b
-        → GrewFront (T.taken sink.old) (T.taken sink.new) (file (decided_blocks (cells_before input (take max_bytes b))))
-        ⊎ (WholeInput max_bytes input b (S.has_ended source.new) × GrewFront (T.taken sink.old) (T.taken sink.new) (file (blocks (cells_of input b)))) }
-    ensures few { (b : List ℕ) → Told (S.given source.old) (S.given source.new) b → length b ≤ max_bytes + 1 }
+    // It is a run over cells: Ok is owed, a refusal has its cause, and what was decided before it is written.
+    ensures run { CellRun max_bytes input (λ c. file (blocks c)) (λ c. file (decided_blocks c)) (counts_of input)
+        (S.has_ended source.new) (change_of S.given S.failed source.old source.new)
+        (change_of T.taken T.failed sink.old sink.new) result }
 {
     run_blocks(source, sink, max_bytes, input, FileBlocks)
 }
@@ -245,28 +228,10 @@ pub fn cut<S: Source, T: Sink>(
     // Where it answers Ok, exactly the blocks asked for are written, as their normal stream.
     ensures cut { IfOk result (λ _. (b : List ℕ) → Told (S.given source.old) (S.given source.new) b
         → Grew (T.taken sink.old) (T.taken sink.new) (written_stream output (cut_blocks from count (blocks (cells_of input b))))) }
-    ensures input { IfOk result (λ _. (b : List ℕ) → Told (S.given source.old) (S.given source.new) b → IsInput input b) }
-    ensures counts { IfOk result (λ counts. (b : List ℕ) → Told (S.given source.old) (S.given source.new) b → counts ≡ counts_of input b) }
-    ensures fits { IfOk result (λ _. (b : List ℕ) → Told (S.given source.old) (S.given source.new) b → length b ≤ max_bytes) }
-    ensures ended { IfOk result (λ _. IsTrue (S.has_ended source.new)) }
-    ensures quiet { IfOk result (λ _. (S.failed source.new ≡ S.failed source.old) × (T.failed sink.new ≡ T.failed sink.old)) }
-
-    // It owes Ok where the input is in its form and fits, and neither end failed.
-    ensures owed { (b : List ℕ) → Told (S.given source.old) (S.given source.new) b → IsInput input b → length b ≤ max_bytes
-        → S.failed source.new ≡ S.failed source.old → T.failed sink.new ≡ T.failed sink.old → IsOk result }
-
-    // A refusal has its cause, and what was decided before it is written.
-    ensures cause { IfErr result (λ error. (b : List ℕ) → Told (S.given source.old) (S.given source.new) b
-        → IsCause input max_bytes b (S.has_ended source.new) error) }
-    ensures read { result ≡ Err RunError.Read → S.failed source.new ≡ S.failed source.old + 1 }
-    ensures write { result ≡ Err RunError.Write → T.failed sink.new ≡ T.failed sink.old + 1 }
-    ensures sink_quiet { result ≢ Err RunError.Write → T.failed sink.new ≡ T.failed sink.old }
-    ensures refused { OnErr result (result ≢ Err RunError.Write → (b : List ℕ) → Told (S.given source.old) (S.given source.new) b
-        → Grew (T.taken sink.old) (T.taken sink.new) (begun_stream output (cut_blocks from count (decided_blocks (cells_before input (take max_bytes b)))))) }
-    ensures front { result ≡ Err RunError.Write → (b : List ℕ) → Told (S.given source.old) (S.given source.new) b
-        → GrewFront (T.taken sink.old) (T.taken sink.new) (begun_stream output (cut_blocks from count (decided_blocks (cells_before input (take max_bytes b)))))
-        ⊎ (WholeInput max_bytes input b (S.has_ended source.new) × GrewFront (T.taken sink.old) (T.taken sink.new) (written_stream output (cut_blocks from count (blocks (cells_of input b))))) }
-    ensures few { (b : List ℕ) → Told (S.given source.old) (S.given source.new) b → length b ≤ max_bytes + 1 }
+    // It is a run over cells: Ok is owed, a refusal has its cause, and what was decided before it is written.
+    ensures run { CellRun max_bytes input (λ c. written_stream output (cut_blocks from count (blocks c))) (λ c. begun_stream output (cut_blocks from count (decided_blocks c))) (counts_of input)
+        (S.has_ended source.new) (change_of S.given S.failed source.old source.new)
+        (change_of T.taken T.failed sink.old sink.new) result }
 {
     let writer = CutBlocks {
         stream: NormalBlocks { output },

@@ -5,6 +5,7 @@ ghost use Rattle.aes3_cell.specs.Ends.{Grew, GrewFront};
 ghost use Rattle.aes3_lock.specs.declared.report.Report.{Report};
 ghost use Rattle.aes3_lock.specs.Following.{report_in};
 ghost use Rattle.aes3_engine.specs.ReportRuns.{ReportRun, Tallies, report_writing};
+ghost use Rattle.aes3_engine.specs.Running.{change_of};
 
 use crate::driver::drive;
 use crate::locked::Locked;
@@ -164,8 +165,7 @@ pub fn run_reports<S: Source, T: Sink, W: ReportWriter + Drop>(
     requires sink_room { T.failed sink.old + 1 < 2 ^ 64 }
     requires limit { max_bytes ≤ 2 ^ 40 }
     ensures { ReportRun max_bytes input (W.writes writer) (W.ends writer) (S.has_ended source.new)
-        (record { old = S.given source.old; new = S.given source.new; failed_old = S.failed source.old; failed_new = S.failed source.new })
-        (record { old = T.taken sink.old; new = T.taken sink.new; failed_old = T.failed sink.old; failed_new = T.failed sink.new }) result }
+        (change_of S.given S.failed source.old source.new) (change_of T.taken T.failed sink.old sink.new) result }
 {
     let mut taker = Locked::new(Counting::new(writer));
     match drive(source, sink, max_bytes, input, &mut taker) {

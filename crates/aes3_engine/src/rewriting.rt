@@ -1,14 +1,14 @@
 //! Cells to the normal stream of their blocks, with other channel status.
 
-ghost use Rattle.std.specs.Prelude.{◌≡◌, ◌≢◌, ℕ, ◌+◌, ◌<◌, ◌≤◌, ◌^◌, ◌⊎◌, List, Err, length, take, IfOk, IfErr, IsOk, OnErr, IsTrue};
-ghost use Rattle.aes3_cell.specs.Ends.{Grew, GrewFront, Told};
+ghost use Rattle.std.specs.Prelude.{◌≡◌, ℕ, ◌+◌, ◌<◌, ◌≤◌, ◌^◌, List, IfOk};
+ghost use Rattle.aes3_cell.specs.Ends.{Grew, Told};
 ghost use Rattle.aes3_cell.specs.Written.{ending};
 ghost use Rattle.aes3_lock.specs.Reports.{blocks};
 ghost use Rattle.aes3_engine.specs.BlockRuns.{begun_stream, decided_blocks, written_stream};
-ghost use Rattle.aes3_engine.specs.Driving.{WholeInput};
-ghost use Rattle.aes3_engine.specs.Inputs.{IsInput, cells_before, cells_of};
-ghost use Rattle.aes3_engine.specs.CellRuns.{IsCause};
+ghost use Rattle.aes3_engine.specs.Inputs.{cells_of};
+ghost use Rattle.aes3_engine.specs.CellRuns.{CellRun};
 ghost use Rattle.aes3_engine.specs.ReportRuns.{counts_of};
+ghost use Rattle.aes3_engine.specs.Running.{change_of};
 ghost use Rattle.aes3_engine.specs.Rewriting.{mended, rewritten, rewritten_block, rewritten_blocks, set_status};
 
 use crate::blocks::{BlockWriter, run_blocks};
@@ -93,28 +93,10 @@ pub fn rewrite<S: Source, T: Sink>(
     // Where it answers Ok, exactly the changed blocks are written, as their normal stream.
     ensures rewritten { IfOk result (λ _. (b : List ℕ) → Told (S.given source.old) (S.given source.new) b
         → Grew (T.taken sink.old) (T.taken sink.new) (written_stream output (rewritten_blocks change.now (blocks (cells_of input b))))) }
-    ensures input { IfOk result (λ _. (b : List ℕ) → Told (S.given source.old) (S.given source.new) b → IsInput input b) }
-    ensures counts { IfOk result (λ counts. (b : List ℕ) → Told (S.given source.old) (S.given source.new) b → counts ≡ counts_of input b) }
-    ensures fits { IfOk result (λ _. (b : List ℕ) → Told (S.given source.old) (S.given source.new) b → length b ≤ max_bytes) }
-    ensures ended { IfOk result (λ _. IsTrue (S.has_ended source.new)) }
-    ensures quiet { IfOk result (λ _. (S.failed source.new ≡ S.failed source.old) × (T.failed sink.new ≡ T.failed sink.old)) }
-
-    // It owes Ok where the input is in its form and fits, and neither end failed.
-    ensures owed { (b : List ℕ) → Told (S.given source.old) (S.given source.new) b → IsInput input b → length b ≤ max_bytes
-        → S.failed source.new ≡ S.failed source.old → T.failed sink.new ≡ T.failed sink.old → IsOk result }
-
-    // A refusal has its cause, and what was decided before it is written.
-    ensures cause { IfErr result (λ error. (b : List ℕ) → Told (S.given source.old) (S.given source.new) b
-        → IsCause input max_bytes b (S.has_ended source.new) error) }
-    ensures read { result ≡ Err RunError.Read → S.failed source.new ≡ S.failed source.old + 1 }
-    ensures write { result ≡ Err RunError.Write → T.failed sink.new ≡ T.failed sink.old + 1 }
-    ensures sink_quiet { result ≢ Err RunError.Write → T.failed sink.new ≡ T.failed sink.old }
-    ensures refused { OnErr result (result ≢ Err RunError.Write → (b : List ℕ) → Told (S.given source.old) (S.given source.new) b
-        → Grew (T.taken sink.old) (T.taken sink.new) (begun_stream output (rewritten_blocks change.now (decided_blocks (cells_before input (take max_bytes b)))))) }
-    ensures front { result ≡ Err RunError.Write → (b : List ℕ) → Told (S.given source.old) (S.given source.new) b
-        → GrewFront (T.taken sink.old) (T.taken sink.new) (begun_stream output (rewritten_blocks change.now (decided_blocks (cells_before input (take max_bytes b)))))
-        ⊎ (WholeInput max_bytes input b (S.has_ended source.new) × GrewFront (T.taken sink.old) (T.taken sink.new) (written_stream output (rewritten_blocks change.now (blocks (cells_of input b))))) }
-    ensures few { (b : List ℕ) → Told (S.given source.old) (S.given source.new) b → length b ≤ max_bytes + 1 }
+    // It is a run over cells: Ok is owed, a refusal has its cause, and what was decided before it is written.
+    ensures run { CellRun max_bytes input (λ c. written_stream output (rewritten_blocks change.now (blocks c))) (λ c. begun_stream output (rewritten_blocks change.now (decided_blocks c))) (counts_of input)
+        (S.has_ended source.new) (change_of S.given S.failed source.old source.new)
+        (change_of T.taken T.failed sink.old sink.new) result }
 {
     let writer = RewrittenBlocks {
         output,

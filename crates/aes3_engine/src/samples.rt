@@ -1,18 +1,18 @@
 //! Cells to the samples of their blocks.
 
-ghost use Rattle.std.specs.Prelude.{◌≡◌, ◌≢◌, ℕ, ◌+◌, ◌<◌, ◌≤◌, ◌^◌, ◌⊎◌, List, [], Bool, Err, length, take, IfOk, IfErr, IsOk, OnErr, IsTrue};
+ghost use Rattle.std.specs.Prelude.{◌≡◌, ℕ, ◌+◌, ◌<◌, ◌≤◌, ◌^◌, List, [], Bool, IfOk};
 ghost use Rattle.std.specs.List.{All};
-ghost use Rattle.aes3_cell.specs.Ends.{Grew, GrewFront, Told};
+ghost use Rattle.aes3_cell.specs.Ends.{Grew, Told};
 ghost use Rattle.aes3_cell.specs.Written.{written};
 ghost use Rattle.aes3_cell.specs.declared.level.Level.{Level};
 ghost use Rattle.aes3_block.specs.Blocks.{IsBlock};
 ghost use Rattle.aes3_block.specs.Samples.{samples};
 ghost use Rattle.aes3_lock.specs.Reports.{blocks, normal};
 ghost use Rattle.aes3_engine.specs.BlockRuns.{decided_blocks, sample_block, written_stream};
-ghost use Rattle.aes3_engine.specs.Driving.{WholeInput};
-ghost use Rattle.aes3_engine.specs.Inputs.{IsInput, cells_before, cells_of};
-ghost use Rattle.aes3_engine.specs.CellRuns.{IsCause};
+ghost use Rattle.aes3_engine.specs.Inputs.{cells_of};
+ghost use Rattle.aes3_engine.specs.CellRuns.{CellRun};
 ghost use Rattle.aes3_engine.specs.ReportRuns.{counts_of};
+ghost use Rattle.aes3_engine.specs.Running.{change_of};
 
 use crate::blocks::{BlockWriter, run_blocks};
 use aes3_block::{Block, put_block_samples};
@@ -65,28 +65,10 @@ pub fn to_pcm<S: Source, T: Sink>(
     // What `encode` writes of blocks gives their samples.
     ensures back { IfOk result (λ _. (bs : List (List (List Bool))) → All IsBlock bs → Told (S.given source.old) (S.given source.new) (written_stream input bs)
         → Grew (T.taken sink.old) (T.taken sink.new) (samples bs)) }
-    ensures input { IfOk result (λ _. (b : List ℕ) → Told (S.given source.old) (S.given source.new) b → IsInput input b) }
-    ensures counts { IfOk result (λ counts. (b : List ℕ) → Told (S.given source.old) (S.given source.new) b → counts ≡ counts_of input b) }
-    ensures fits { IfOk result (λ _. (b : List ℕ) → Told (S.given source.old) (S.given source.new) b → length b ≤ max_bytes) }
-    ensures ended { IfOk result (λ _. IsTrue (S.has_ended source.new)) }
-    ensures quiet { IfOk result (λ _. (S.failed source.new ≡ S.failed source.old) × (T.failed sink.new ≡ T.failed sink.old)) }
-
-    // It owes Ok where the input is in its form and fits, and neither end failed.
-    ensures owed { (b : List ℕ) → Told (S.given source.old) (S.given source.new) b → IsInput input b → length b ≤ max_bytes
-        → S.failed source.new ≡ S.failed source.old → T.failed sink.new ≡ T.failed sink.old → IsOk result }
-
-    // A refusal has its cause, and what was decided before it is written.
-    ensures cause { IfErr result (λ error. (b : List ℕ) → Told (S.given source.old) (S.given source.new) b
-        → IsCause input max_bytes b (S.has_ended source.new) error) }
-    ensures read { result ≡ Err RunError.Read → S.failed source.new ≡ S.failed source.old + 1 }
-    ensures write { result ≡ Err RunError.Write → T.failed sink.new ≡ T.failed sink.old + 1 }
-    ensures sink_quiet { result ≢ Err RunError.Write → T.failed sink.new ≡ T.failed sink.old }
-    ensures refused { OnErr result (result ≢ Err RunError.Write → (b : List ℕ) → Told (S.given source.old) (S.given source.new) b
-        → Grew (T.taken sink.old) (T.taken sink.new) (samples (decided_blocks (cells_before input (take max_bytes b))))) }
-    ensures front { result ≡ Err RunError.Write → (b : List ℕ) → Told (S.given source.old) (S.given source.new) b
-        → GrewFront (T.taken sink.old) (T.taken sink.new) (samples (decided_blocks (cells_before input (take max_bytes b))))
-        ⊎ (WholeInput max_bytes input b (S.has_ended source.new) × GrewFront (T.taken sink.old) (T.taken sink.new) (samples (blocks (cells_of input b)))) }
-    ensures few { (b : List ℕ) → Told (S.given source.old) (S.given source.new) b → length b ≤ max_bytes + 1 }
+    // It is a run over cells: Ok is owed, a refusal has its cause, and what was decided before it is written.
+    ensures run { CellRun max_bytes input (λ c. samples (blocks c)) (λ c. samples (decided_blocks c)) (counts_of input)
+        (S.has_ended source.new) (change_of S.given S.failed source.old source.new)
+        (change_of T.taken T.failed sink.old sink.new) result }
 {
     run_blocks(source, sink, max_bytes, input, SampleBlocks)
 }

@@ -1,26 +1,15 @@
 -- A run that is flushed: what is told of it where it was refused, or where that failed.
-use Rattle.std.proofs.Common.{◌≡◌, ◌≢◌, ℕ, ◌+◌, ◌≤◌, ◌⊎◌, inl, inr, Bool, List, Option, length, take, IsTrue, refl, sym, ap, ◌∙◌, subst, arith}
-use Rattle.aes3_cell.specs.Ends.{Grew, GrewFront, Told}
+use Rattle.std.proofs.Common.{◌≡◌, ◌≢◌, ℕ, ◌+◌, ◌≤◌, ◌⊎◌, inl, inr, Bool, List, [], Option, length, IsTrue, refl, sym, ap, ◌∙◌, subst, arith}
+use Rattle.aes3_cell.specs.Ends.{Grew, GrewFront}
 use Rattle.aes3_cell.specs.declared.refusal.RunError.{RunError}
-use Rattle.aes3_cell.specs.declared.refusal.RunError.TheVariants.{Read, Write}
+use Rattle.aes3_cell.specs.declared.refusal.RunError.TheVariants.{Write}
+use Rattle.aes3_cell.specs.declared.counts.Counts.{Counts}
 use Rattle.aes3_cell.proofs.Growing.{front-all}
-use Rattle.aes3_engine.specs.Running.{Change, Quiet, Failed}
+use Rattle.aes3_engine.specs.Running.{Change, Quiet}
 use Rattle.aes3_job.specs.declared.job.Job.{Job}
 use Rattle.aes3_job.specs.declared.job.Job.TheVariants.{Encode, Decode, Normal, Check, Account, Show, Scan, Cut, Rewrite, ToPcm}
-use Rattle.aes3_job.specs.JobRuns.{Flushed, IsCauseFor, IsInputOf, IsWhole, JobRefused, begun_of, most, output_of}
+use Rattle.aes3_job.specs.JobRuns.{Flushed, IsCauseFor, IsInputOf, IsWhole, JobDone, JobRefused, RunDone, RunRefused, most, status_by}
 use Rattle.aes3_job.specs.Lines.{refusal_line}
-
--- what a run says of its refusal, for a sink before the run and behind it
-pub record Refusal (job : Job) (ended : Bool) (source sink : Change) (x : RunError) : Type 0 where
-  pub cause : (b : List ℕ) → Told source.old source.new b → IsCauseFor job b ended x
-  pub read : x ≡ Read → Failed source
-  pub write : x ≡ Write → Failed sink
-  pub quiet : x ≢ Write → Quiet sink
-  pub output : x ≢ Write → (b : List ℕ) → Told source.old source.new b → Grew sink.old sink.new (begun_of job (take most b))
-  pub front : x ≡ Write → (b : List ℕ) → Told source.old source.new b
-      → GrewFront sink.old sink.new (begun_of job (take most b)) ⊎ (IsWhole job b ended × GrewFront sink.old sink.new (output_of job b))
-  pub unowed : (b : List ℕ) → Told source.old source.new b → IsInputOf job b → length b ≤ most → Quiet source → Quiet sink → ⊥
-  pub few : (b : List ℕ) → Told source.old source.new b → length b ≤ most + 1
 
 grew-to : {a b d : Option (List ℕ)} {x : List ℕ} → d ≡ b → Grew a b x → Grew a d x
 grew-to {a} {b} {d} {x} e g = subst (λ (v : Option (List ℕ)). Grew a v x) (sym e) g
@@ -53,63 +42,80 @@ whole-is (Rewrite f o change) b ended i l e = record { input = i; short = l; end
 whole-is (ToPcm f) b ended i l e = record { input = i; short = l; end = e }
 
 -- a refusal behind which the sink did not fail
-kept : (job : Job) (ended : Bool) (source : Change) (t₀ t₁ t₂ : Option (List ℕ)) (f₀ f₁ f₂ : ℕ) (errors : Change) (status : ℕ) (x : RunError)
-    → Refusal job ended source (record { old = t₀; new = t₁; failed_old = f₀; failed_new = f₁ }) x → t₂ ≡ t₁ → f₂ ≡ f₁ → status ≡ 3
-    → (Quiet errors → Grew errors.old errors.new (refusal_line x)) → JobRefused job ended source (record { old = t₀; new = t₂; failed_old = f₀; failed_new = f₂ }) errors status
-kept job ended source t₀ t₁ t₂ f₀ f₁ f₂ errors status x r t f s l = record {
-  error = x;
-  exit = s;
+kept : {job : Job} {ended : Bool} {source : Change} {t₀ t₁ t₂ : Option (List ℕ)} {f₀ f₁ f₂ : ℕ} {x : RunError}
+    → RunRefused job ended source (record { old = t₀; new = t₁; failed_old = f₀; failed_new = f₁ }) x → t₂ ≡ t₁ → f₂ ≡ f₁
+    → RunRefused job ended source (record { old = t₀; new = t₂; failed_old = f₀; failed_new = f₂ }) x
+kept r t f = record {
   cause = r.cause;
   read = r.read;
   write = λ e. f ∙ r.write e;
+  quiet = λ n. f ∙ r.quiet n;
   output = λ n b h. grew-to t (r.output n b h);
   front = λ e b h. elim (r.front e b h) [ inl g ↦ inl (front-to t g) | inr g ↦ inr (g.0, front-to t g.1) ];
   unowed = λ b h i k q p. r.unowed b h i k q (sym f ∙ p);
-  line = l;
+  few = r.few;
 }
 
 -- one behind which it failed
-unflushed : (job : Job) (ended : Bool) (source : Change) (t₀ t₁ t₂ : Option (List ℕ)) (f₀ f₁ f₂ : ℕ) (errors : Change) (status : ℕ) (x : RunError)
-    → Refusal job ended source (record { old = t₀; new = t₁; failed_old = f₀; failed_new = f₁ }) x → x ≢ Write → t₂ ≡ t₁ → f₂ ≡ f₁ + 1 → status ≡ 3
-    → (Quiet errors → Grew errors.old errors.new (refusal_line Write)) → JobRefused job ended source (record { old = t₀; new = t₂; failed_old = f₀; failed_new = f₂ }) errors status
-unflushed job ended source t₀ t₁ t₂ f₀ f₁ f₂ errors status x r n t f s l =
+unflushed : {job : Job} {ended : Bool} {source : Change} {t₀ t₁ t₂ : Option (List ℕ)} {f₀ f₁ f₂ : ℕ} {x : RunError}
+    → RunRefused job ended source (record { old = t₀; new = t₁; failed_old = f₀; failed_new = f₁ }) x → x ≢ Write → t₂ ≡ t₁ → f₂ ≡ f₁ + 1
+    → RunRefused job ended source (record { old = t₀; new = t₂; failed_old = f₀; failed_new = f₂ }) Write
+unflushed {job} {ended} {f₀} {f₁} r n t f =
     let q : f₁ ≡ f₀ = r.quiet n in
     record {
-      error = Write;
-      exit = s;
       cause = λ b h. write-cause job b ended (r.few b h);
       read = λ e. cc;
       write = λ e. f ∙ ap (λ v. v + 1) q;
+      quiet = λ m. absurd (m refl);
       output = λ m. absurd (m refl);
       front = λ e b h. inl (front-to t (front-all (r.output n b h)));
       unowed = λ b h i k p w. omega arith;
+      few = r.few;
+    }
+
+pub refused-flushed : {job : Job} {ended : Bool} {source : Change} {t₀ t₁ t₂ : Option (List ℕ)} {f₀ f₁ f₂ : ℕ} {errors : Change} {status : ℕ} {x told : RunError}
+    → RunRefused job ended source (record { old = t₀; new = t₁; failed_old = f₀; failed_new = f₁ }) x
+    → Flushed x (record { old = t₁; new = t₂; failed_old = f₁; failed_new = f₂ }) told → status ≡ 3
+    → (Quiet errors → Grew errors.old errors.new (refusal_line told)) → JobRefused job ended source (record { old = t₀; new = t₂; failed_old = f₀; failed_new = f₂ }) errors status
+refused-flushed {job} {ended} {source} {t₀} {t₂} {f₀} {f₂} {told} r f s l =
+    let Refused : RunError → Type 0 = λ e. RunRefused job ended source (record { old = t₀; new = t₂; failed_old = f₀; failed_new = f₂ }) e in
+    record {
+      error = told;
+      run = elim f.1 [
+        | inl k ↦ subst Refused (sym k.0) (kept r f.0 k.1)
+        | inr k ↦ subst Refused (sym k.1) (unflushed r k.0 f.0 k.2)
+      ];
+      exit = s;
       line = l;
     }
 
-pub refused-flushed : (job : Job) (ended : Bool) (source : Change) (t₀ t₁ t₂ : Option (List ℕ)) (f₀ f₁ f₂ : ℕ) (errors : Change) (status : ℕ) (x told : RunError)
-    → Refusal job ended source (record { old = t₀; new = t₁; failed_old = f₀; failed_new = f₁ }) x
-    → Flushed x (record { old = t₁; new = t₂; failed_old = f₁; failed_new = f₂ }) told → status ≡ 3
-    → (Quiet errors → Grew errors.old errors.new (refusal_line told)) → JobRefused job ended source (record { old = t₀; new = t₂; failed_old = f₀; failed_new = f₂ }) errors status
-refused-flushed job ended source t₀ t₁ t₂ f₀ f₁ f₂ errors status x told r f s l =
-    let Lines : RunError → Type 0 = λ e. Quiet errors → Grew errors.old errors.new (refusal_line e) in
-    elim f.1 [
-      | inl k ↦ kept job ended source t₀ t₁ t₂ f₀ f₁ f₂ errors status x r f.0 k.1 s (subst Lines k.0 l)
-      | inr k ↦ unflushed job ended source t₀ t₁ t₂ f₀ f₁ f₂ errors status x r k.0 f.0 k.2 s (subst Lines k.1 l)
-    ]
+-- a run that ended well, behind which the sink failed, or did not
+pub done-unflushed : {job : Job} {ended : Bool} {source : Change} {t₀ t₁ t₂ : Option (List ℕ)} {f₀ f₁ f₂ : ℕ} {counts : Counts}
+    → RunDone job ended source (record { old = t₀; new = t₁; failed_old = f₀; failed_new = f₁ }) counts → t₂ ≡ t₁ → f₂ ≡ f₁ + 1
+    → RunRefused job ended source (record { old = t₀; new = t₂; failed_old = f₀; failed_new = f₂ }) Write
+done-unflushed {job} {ended} {f₀} {f₁} r t f =
+    let q : f₁ ≡ f₀ = r.quiet_sink in
+    record {
+      cause = λ b h. write-cause job b ended (let k = r.fits b h in omega arith);
+      read = λ e. cc;
+      write = λ e. f ∙ ap (λ v. v + 1) q;
+      quiet = λ m. absurd (m refl);
+      output = λ m. absurd (m refl);
+      front = λ e b h. inr (whole-is job b ended (r.input b h) (r.fits b h) r.end, front-to t (front-all (r.output b h)));
+      unowed = λ b h i k p w. omega arith;
+      few = λ b h. let k = r.fits b h in omega arith;
+    }
 
--- a run that ended well, behind which the sink failed
-pub done-unflushed : (job : Job) (ended : Bool) (source : Change) (t₀ t₁ t₂ : Option (List ℕ)) (f₀ f₁ f₂ : ℕ) (errors : Change) (status : ℕ) → IsTrue ended
-    → ((b : List ℕ) → Told source.old source.new b → IsInputOf job b) → ((b : List ℕ) → Told source.old source.new b → length b ≤ most)
-    → ((b : List ℕ) → Told source.old source.new b → Grew t₀ t₁ (output_of job b)) → f₁ ≡ f₀ → t₂ ≡ t₁ → f₂ ≡ f₁ + 1 → status ≡ 3
-    → (Quiet errors → Grew errors.old errors.new (refusal_line Write)) → JobRefused job ended source (record { old = t₀; new = t₂; failed_old = f₀; failed_new = f₂ }) errors status
-done-unflushed job ended source t₀ t₁ t₂ f₀ f₁ f₂ errors status z input fits output q t f s l = record {
-  error = Write;
-  exit = s;
-  cause = λ b h. write-cause job b ended (let k = fits b h in omega arith);
-  read = λ e. cc;
-  write = λ e. f ∙ ap (λ v. v + 1) q;
-  output = λ m. absurd (m refl);
-  front = λ e b h. inr (whole-is job b ended (input b h) (fits b h) z, front-to t (front-all (output b h)));
-  unowed = λ b h i k p w. omega arith;
-  line = l;
+pub done-flushed : {job : Job} {ended : Bool} {source : Change} {t₀ t₁ t₂ : Option (List ℕ)} {f₀ f₁ f₂ : ℕ} {errors : Change} {status : ℕ} {counts : Counts}
+    → RunDone job ended source (record { old = t₀; new = t₁; failed_old = f₀; failed_new = f₁ }) counts → t₂ ≡ t₁ → f₂ ≡ f₁ → status ≡ status_by job counts
+    → Grew errors.old errors.new [] → JobDone job ended source (record { old = t₀; new = t₂; failed_old = f₀; failed_new = f₂ }) errors status
+done-flushed {job} r t f s l = record {
+  end = r.end;
+  quiet_source = r.quiet_source;
+  quiet_sink = f ∙ r.quiet_sink;
+  silent = l;
+  fits = r.fits;
+  input = r.input;
+  output = λ b h. grew-to t (r.output b h);
+  exit = λ b h. s ∙ ap (status_by job) (r.counted b h);
 }

@@ -1,5 +1,5 @@
 -- What the program does for a job.
-use Rattle.std.specs.Prelude.{ℕ, List, [], Bool, ◌≡◌, ◌≢◌, ◌≤◌, ◌^◌, ◌==◌, ◌⊎◌, IsTrue, length, take, if◌then◌else◌}
+use Rattle.std.specs.Prelude.{ℕ, List, [], Bool, Result, Ok, Err, ◌≡◌, ◌≢◌, ◌≤◌, ◌+◌, ◌^◌, ◌==◌, ◌⊎◌, IsTrue, length, take, if◌then◌else◌}
 use Rattle.aes3_cell.specs.declared.level.Level.TheVariants.{Low}
 use Rattle.aes3_cell.specs.declared.counts.Counts.{Counts}
 use Rattle.aes3_cell.specs.declared.refusal.RunError.{RunError}
@@ -120,6 +120,33 @@ status_by (Cut i o from count) n = 0
 status_by (Rewrite i o change) n = 0
 status_by (ToPcm i) n = 0
 
+-- a run of a job that was not refused: the source has ended, neither end failed; the bytes that the source tells fit, are an input, are counted
+-- so, and their output is written
+pub record RunDone (job : Job) (ended : Bool) (source sink : Change) (counts : Counts) : Type 0 where
+  pub end : IsTrue ended
+  pub quiet_source : Quiet source
+  pub quiet_sink : Quiet sink
+  pub fits : (b : List ℕ) → Told source.old source.new b → length b ≤ most
+  pub input : (b : List ℕ) → Told source.old source.new b → IsInputOf job b
+  pub counted : (b : List ℕ) → Told source.old source.new b → counts ≡ counts_for job b
+  pub output : (b : List ℕ) → Told source.old source.new b → Grew sink.old sink.new (output_of job b)
+
+-- one that was refused: the cause; which end failed; what is written, after `Write` a front; that Ok was not owed; how much was read
+pub record RunRefused (job : Job) (ended : Bool) (source sink : Change) (error : RunError) : Type 0 where
+  pub cause : (b : List ℕ) → Told source.old source.new b → IsCauseFor job b ended error
+  pub read : error ≡ refusal.Read → Failed source
+  pub write : error ≡ refusal.Write → Failed sink
+  pub quiet : error ≢ refusal.Write → Quiet sink
+  pub output : error ≢ refusal.Write → (b : List ℕ) → Told source.old source.new b → Grew sink.old sink.new (begun_of job (take most b))
+  pub front : error ≡ refusal.Write → (b : List ℕ) → Told source.old source.new b
+      → GrewFront sink.old sink.new (begun_of job (take most b)) ⊎ (IsWhole job b ended × GrewFront sink.old sink.new (output_of job b))
+  pub unowed : (b : List ℕ) → Told source.old source.new b → IsInputOf job b → length b ≤ most → Quiet source → Quiet sink → ⊥
+  pub few : (b : List ℕ) → Told source.old source.new b → length b ≤ most + 1
+
+abbrev pub RunRan : Job → Bool → Change → Change → Result Counts RunError → Type 0
+RunRan job ended source sink (Ok counts) = RunDone job ended source sink counts
+RunRan job ended source sink (Err error) = RunRefused job ended source sink error
+
 -- a job that ended well: no end failed; the input, the output and the exit status; nothing is told among the errors
 pub record JobDone (job : Job) (ended : Bool) (source sink errors : Change) (status : ℕ) : Type 0 where
   pub end : IsTrue ended
@@ -136,17 +163,11 @@ abbrev pub Flushed : RunError → Change → RunError → Type 0
 Flushed error sink told = (sink.new ≡ sink.old)
     × (((told ≡ error) × Quiet sink) ⊎ ((error ≢ refusal.Write) × (told ≡ refusal.Write) × Failed sink))
 
--- a job that was refused: the cause, the output before it and the line that tells it
+-- a job that was refused, and the line that tells it
 pub record JobRefused (job : Job) (ended : Bool) (source sink errors : Change) (status : ℕ) : Type 0 where
   pub error : RunError
+  pub run : RunRefused job ended source sink error
   pub exit : status ≡ 3
-  pub cause : (b : List ℕ) → Told source.old source.new b → IsCauseFor job b ended error
-  pub read : error ≡ refusal.Read → Failed source
-  pub write : error ≡ refusal.Write → Failed sink
-  pub output : error ≢ refusal.Write → (b : List ℕ) → Told source.old source.new b → Grew sink.old sink.new (begun_of job (take most b))
-  pub front : error ≡ refusal.Write → (b : List ℕ) → Told source.old source.new b
-      → GrewFront sink.old sink.new (begun_of job (take most b)) ⊎ (IsWhole job b ended × GrewFront sink.old sink.new (output_of job b))
-  pub unowed : (b : List ℕ) → Told source.old source.new b → IsInputOf job b → length b ≤ most → Quiet source → Quiet sink → ⊥
   pub line : Quiet errors → Grew errors.old errors.new (refusal_line error)
 
 abbrev pub JobRan : Job → Bool → Change → Change → Change → ℕ → Type 0

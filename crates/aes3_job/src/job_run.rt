@@ -1,8 +1,8 @@
 //! A job between a source and a sink.
 
-ghost use Rattle.std.specs.Prelude.{◌≡◌, ◌≢◌, ◌<◌, ◌≤◌, ◌+◌, ◌^◌, ◌⊎◌, List, ℕ, Err, length, take, IfOk, IfErr, IsOk, OnErr, IsTrue};
-ghost use Rattle.aes3_cell.specs.Ends.{Grew, GrewFront, Told};
-ghost use Rattle.aes3_job.specs.JobRuns.{IsCauseFor, IsInputOf, IsWhole, begun_of, counts_for, most, output_of, status_by};
+ghost use Rattle.std.specs.Prelude.{◌≡◌, ◌<◌, ◌+◌, ◌^◌};
+ghost use Rattle.aes3_engine.specs.Running.{change_of};
+ghost use Rattle.aes3_job.specs.JobRuns.{RunRan, status_by};
 
 use crate::job::Job;
 use aes3_cell::{Counts, RunError, Sink, Source};
@@ -40,24 +40,8 @@ pub fn run_job<S: Source, T: Sink>(
 ) -> Result<Counts, RunError>
     requires source_room { S.failed source.old + 1 < 2 ^ 64 }
     requires sink_room { T.failed sink.old + 1 < 2 ^ 64 }
-    ensures output { IfOk result (λ _. (b : List ℕ) → Told (S.given source.old) (S.given source.new) b → Grew (T.taken sink.old) (T.taken sink.new) (output_of job.now b)) }
-    ensures input { IfOk result (λ _. (b : List ℕ) → Told (S.given source.old) (S.given source.new) b → IsInputOf job.now b) }
-    ensures counts { IfOk result (λ counts. (b : List ℕ) → Told (S.given source.old) (S.given source.new) b → counts ≡ counts_for job.now b) }
-    ensures fits { IfOk result (λ _. (b : List ℕ) → Told (S.given source.old) (S.given source.new) b → length b ≤ most) }
-    ensures ended { IfOk result (λ _. IsTrue (S.has_ended source.new)) }
-    ensures quiet { IfOk result (λ _. (S.failed source.new ≡ S.failed source.old) × (T.failed sink.new ≡ T.failed sink.old)) }
-    ensures owed { (b : List ℕ) → Told (S.given source.old) (S.given source.new) b → IsInputOf job.now b → length b ≤ most
-        → S.failed source.new ≡ S.failed source.old → T.failed sink.new ≡ T.failed sink.old → IsOk result }
-    ensures cause { IfErr result (λ error. (b : List ℕ) → Told (S.given source.old) (S.given source.new) b → IsCauseFor job.now b (S.has_ended source.new) error) }
-    ensures read { result ≡ Err RunError.Read → S.failed source.new ≡ S.failed source.old + 1 }
-    ensures write { result ≡ Err RunError.Write → T.failed sink.new ≡ T.failed sink.old + 1 }
-    ensures sink_quiet { result ≢ Err RunError.Write → T.failed sink.new ≡ T.failed sink.old }
-    ensures refused { OnErr result (result ≢ Err RunError.Write → (b : List ℕ) → Told (S.given source.old) (S.given source.new) b
-        → Grew (T.taken sink.old) (T.taken sink.new) (begun_of job.now (take most b))) }
-    ensures front { result ≡ Err RunError.Write → (b : List ℕ) → Told (S.given source.old) (S.given source.new) b
-        → GrewFront (T.taken sink.old) (T.taken sink.new) (begun_of job.now (take most b))
-        ⊎ (IsWhole job.now b (S.has_ended source.new) × GrewFront (T.taken sink.old) (T.taken sink.new) (output_of job.now b)) }
-    ensures few { (b : List ℕ) → Told (S.given source.old) (S.given source.new) b → length b ≤ most + 1 }
+    ensures { RunRan job.now (S.has_ended source.new) (change_of S.given S.failed source.old source.new)
+        (change_of T.taken T.failed sink.old sink.new) result }
 {
     match *job {
         Job::Encode { output } => encode(source, sink, MAX_BYTES, output),

@@ -1,16 +1,16 @@
 //! The account of all cells, line by line: the reports on them, and the gaps between whole blocks.
 
-ghost use Rattle.std.specs.Prelude.{◌≡◌, ◌≢◌, ℕ, ◌+◌, ◌-◌, ◌<◌, ◌≤◌, ◌^◌, ◌⊎◌, List, [], ◌∷◌, ◌++◌, Err, length, take, IfOk, IfErr, IsOk, OnErr, IsTrue};
+ghost use Rattle.std.specs.Prelude.{◌≡◌, ℕ, ◌+◌, ◌-◌, ◌<◌, ◌≤◌, ◌^◌, List, [], ◌∷◌, ◌++◌, length, IfOk, OnErr};
 ghost use Rattle.std.specs.List.{filter};
 ghost use Rattle.aes3_cell.specs.declared.level.Level.{Level};
 ghost use Rattle.aes3_cell.specs.Ends.{Grew, GrewFront, Told};
 ghost use Rattle.aes3_lock.specs.Following.{Follows};
 ghost use Rattle.aes3_lock.specs.Reports.{decided, reports};
 ghost use Rattle.aes3_engine.specs.Taking.{behind};
-ghost use Rattle.aes3_engine.specs.CellRuns.{CellRun, IsCause};
-ghost use Rattle.aes3_engine.specs.Driving.{WholeInput};
-ghost use Rattle.aes3_engine.specs.Inputs.{IsInput, cells_before, cells_of};
+ghost use Rattle.aes3_engine.specs.CellRuns.{CellRun};
+ghost use Rattle.aes3_engine.specs.Inputs.{cells_of};
 ghost use Rattle.aes3_engine.specs.ReportRuns.{Tallies};
+ghost use Rattle.aes3_engine.specs.Running.{change_of};
 ghost use Rattle.aes3_lock.specs.Remains.{place_of};
 ghost use Rattle.aes3_text.specs.Gaps.{account, begun_account, behind_full, behind_report, full_count, full_gaps, gaps, gaps_before, is_lost, reported, rest_gap};
 ghost use Rattle.aes3_text.specs.Runs.{Accounted, Accounts, account_counts, account_lines, accounting};
@@ -346,38 +346,6 @@ impl Taker for Accountant {
     }
 }
 
-/// `account` as a run over cells.
-fn run_account<S: Source, T: Sink>(
-    source: &mut S,
-    sink: &mut T,
-    max_bytes: u64,
-    input: Form,
-    lines: Lines,
-) -> Result<Counts, RunError>
-    requires source_room { S.failed source.old + 1 < 2 ^ 64 }
-    requires sink_room { T.failed sink.old + 1 < 2 ^ 64 }
-    requires limit { max_bytes ≤ 2 ^ 40 }
-    ensures { CellRun max_bytes input (λ c. account_lines lines (account c)) (λ c. account_lines lines (begun_account c)) (account_counts input) (S.has_ended source.new)
-        (record { old = S.given source.old; new = S.given source.new; failed_old = S.failed source.old; failed_new = S.failed source.new })
-        (record { old = T.taken sink.old; new = T.taken sink.new; failed_old = T.failed sink.old; failed_new = T.failed sink.new }) result }
-{
-    let mut taker = Accountant::new(lines);
-    match drive(source, sink, max_bytes, input, &mut taker) {
-        Ok((bytes, cells)) => {
-            let told = &taker.ledger;
-            Ok(Counts {
-                bytes,
-                cells,
-                blocks: told.tally.blocks,
-                faults: told.tally.faults + told.lost,
-                unfinished: told.tally.unfinished,
-                marks: 0,
-            })
-        }
-        Err(error) => Err(error),
-    }
-}
-
 /// Reads cells from any cell on, and accounts for all of them: writes a line for each report on them, or each but those of
 /// whole blocks, and between these a line for each gap, cells that lie in no whole block, of 24,576 cells at most.
 ///
@@ -401,28 +369,24 @@ pub fn account<S: Source, T: Sink>(
     // Where it answers Ok, exactly the lines of the account are written.
     ensures lines { IfOk result (λ _. (b : List ℕ) → Told (S.given source.old) (S.given source.new) b
         → Grew (T.taken sink.old) (T.taken sink.new) (account_lines lines (account (cells_of input b)))) }
-    ensures input { IfOk result (λ _. (b : List ℕ) → Told (S.given source.old) (S.given source.new) b → IsInput input b) }
-    ensures counts { IfOk result (λ counts. (b : List ℕ) → Told (S.given source.old) (S.given source.new) b → counts ≡ account_counts input b) }
-    ensures fits { IfOk result (λ _. (b : List ℕ) → Told (S.given source.old) (S.given source.new) b → length b ≤ max_bytes) }
-    ensures ended { IfOk result (λ _. IsTrue (S.has_ended source.new)) }
-    ensures quiet { IfOk result (λ _. (S.failed source.new ≡ S.failed source.old) × (T.failed sink.new ≡ T.failed sink.old)) }
-
-    // It owes Ok where the input is in its form and fits, and neither end failed.
-    ensures owed { (b : List ℕ) → Told (S.given source.old) (S.given source.new) b → IsInput input b → length b ≤ max_bytes
-        → S.failed source.new ≡ S.failed source.old → T.failed sink.new ≡ T.failed sink.old → IsOk result }
-
-    // A refusal has its cause, and what stood before it whatever cells follow is written.
-    ensures cause { IfErr result (λ error. (b : List ℕ) → Told (S.given source.old) (S.given source.new) b
-        → IsCause input max_bytes b (S.has_ended source.new) error) }
-    ensures read { result ≡ Err RunError.Read → S.failed source.new ≡ S.failed source.old + 1 }
-    ensures write { result ≡ Err RunError.Write → T.failed sink.new ≡ T.failed sink.old + 1 }
-    ensures sink_quiet { result ≢ Err RunError.Write → T.failed sink.new ≡ T.failed sink.old }
-    ensures refused { OnErr result (result ≢ Err RunError.Write → (b : List ℕ) → Told (S.given source.old) (S.given source.new) b
-        → Grew (T.taken sink.old) (T.taken sink.new) (account_lines lines (begun_account (cells_before input (take max_bytes b))))) }
-    ensures front { result ≡ Err RunError.Write → (b : List ℕ) → Told (S.given source.old) (S.given source.new) b
-        → GrewFront (T.taken sink.old) (T.taken sink.new) (account_lines lines (begun_account (cells_before input (take max_bytes b))))
-        ⊎ (WholeInput max_bytes input b (S.has_ended source.new) × GrewFront (T.taken sink.old) (T.taken sink.new) (account_lines lines (account (cells_of input b)))) }
-    ensures few { (b : List ℕ) → Told (S.given source.old) (S.given source.new) b → length b ≤ max_bytes + 1 }
+    // It is a run over cells: Ok is owed, a refusal has its cause, and what stood before it is written.
+    ensures run { CellRun max_bytes input (λ c. account_lines lines (account c)) (λ c. account_lines lines (begun_account c)) (account_counts input)
+        (S.has_ended source.new) (change_of S.given S.failed source.old source.new)
+        (change_of T.taken T.failed sink.old sink.new) result }
 {
-    run_account(source, sink, max_bytes, input, lines)
+    let mut taker = Accountant::new(lines);
+    match drive(source, sink, max_bytes, input, &mut taker) {
+        Ok((bytes, cells)) => {
+            let told = &taker.ledger;
+            Ok(Counts {
+                bytes,
+                cells,
+                blocks: told.tally.blocks,
+                faults: told.tally.faults + told.lost,
+                unfinished: told.tally.unfinished,
+                marks: 0,
+            })
+        }
+        Err(error) => Err(error),
+    }
 }

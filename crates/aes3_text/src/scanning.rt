@@ -1,11 +1,11 @@
 //! Preambles, line by line.
 
-ghost use Rattle.std.specs.Prelude.{◌≡◌, ◌≢◌, ℕ, ◌+◌, ◌<◌, ◌≤◌, ◌^◌, ◌⊎◌, List, [], Err, length, take, IfOk, IfErr, IsOk, OnErr, IsTrue};
+ghost use Rattle.std.specs.Prelude.{◌≡◌, ℕ, ◌+◌, ◌<◌, ◌≤◌, ◌^◌, List, [], IfOk, OnErr};
 ghost use Rattle.aes3_cell.specs.Ends.{Grew, GrewFront, Told};
 ghost use Rattle.aes3_lock.specs.Preambles.{marks};
-ghost use Rattle.aes3_engine.specs.CellRuns.{CellRun, IsCause};
-ghost use Rattle.aes3_engine.specs.Driving.{WholeInput};
-ghost use Rattle.aes3_engine.specs.Inputs.{IsInput, cells_before, cells_of};
+ghost use Rattle.aes3_engine.specs.CellRuns.{CellRun};
+ghost use Rattle.aes3_engine.specs.Inputs.{cells_of};
+ghost use Rattle.aes3_engine.specs.Running.{change_of};
 ghost use Rattle.aes3_text.specs.Lines.{mark_line};
 ghost use Rattle.aes3_text.specs.Runs.{Scanned, mark_lines, marking, scan_counts};
 
@@ -74,34 +74,6 @@ impl Taker for MarkLines {
     }
 }
 
-/// `scan` as a run over cells.
-fn run_marks<S: Source, T: Sink>(
-    source: &mut S,
-    sink: &mut T,
-    max_bytes: u64,
-    input: Form,
-) -> Result<Counts, RunError>
-    requires source_room { S.failed source.old + 1 < 2 ^ 64 }
-    requires sink_room { T.failed sink.old + 1 < 2 ^ 64 }
-    requires limit { max_bytes ≤ 2 ^ 40 }
-    ensures { CellRun max_bytes input (λ c. mark_lines (marks c)) (λ c. mark_lines (marks c)) (scan_counts input) (S.has_ended source.new)
-        (record { old = S.given source.old; new = S.given source.new; failed_old = S.failed source.old; failed_new = S.failed source.new })
-        (record { old = T.taken sink.old; new = T.taken sink.new; failed_old = T.failed sink.old; failed_new = T.failed sink.new }) result }
-{
-    let mut taker = MarkLines::new();
-    match drive(source, sink, max_bytes, input, &mut taker) {
-        Ok((bytes, cells)) => Ok(Counts {
-            bytes,
-            cells,
-            blocks: 0,
-            faults: 0,
-            unfinished: 0,
-            marks: taker.marks,
-        }),
-        Err(error) => Err(error),
-    }
-}
-
 /// Reads cells from any cell on, and writes a line for each place where eight cells are a preamble, in step with a block
 /// or not (AES3-3; IEC 60958-1).
 ///
@@ -120,28 +92,21 @@ pub fn scan<S: Source, T: Sink>(
     // Where it answers Ok, exactly the lines of the preambles are written, in order of place.
     ensures lines { IfOk result (λ _. (b : List ℕ) → Told (S.given source.old) (S.given source.new) b
         → Grew (T.taken sink.old) (T.taken sink.new) (mark_lines (marks (cells_of input b)))) }
-    ensures input { IfOk result (λ _. (b : List ℕ) → Told (S.given source.old) (S.given source.new) b → IsInput input b) }
-    ensures counts { IfOk result (λ counts. (b : List ℕ) → Told (S.given source.old) (S.given source.new) b → counts ≡ scan_counts input b) }
-    ensures fits { IfOk result (λ _. (b : List ℕ) → Told (S.given source.old) (S.given source.new) b → length b ≤ max_bytes) }
-    ensures ended { IfOk result (λ _. IsTrue (S.has_ended source.new)) }
-    ensures quiet { IfOk result (λ _. (S.failed source.new ≡ S.failed source.old) × (T.failed sink.new ≡ T.failed sink.old)) }
-
-    // It owes Ok where the input is in its form and fits, and neither end failed.
-    ensures owed { (b : List ℕ) → Told (S.given source.old) (S.given source.new) b → IsInput input b → length b ≤ max_bytes
-        → S.failed source.new ≡ S.failed source.old → T.failed sink.new ≡ T.failed sink.old → IsOk result }
-
-    // A refusal has its cause, and what was decided before it is written.
-    ensures cause { IfErr result (λ error. (b : List ℕ) → Told (S.given source.old) (S.given source.new) b
-        → IsCause input max_bytes b (S.has_ended source.new) error) }
-    ensures read { result ≡ Err RunError.Read → S.failed source.new ≡ S.failed source.old + 1 }
-    ensures write { result ≡ Err RunError.Write → T.failed sink.new ≡ T.failed sink.old + 1 }
-    ensures sink_quiet { result ≢ Err RunError.Write → T.failed sink.new ≡ T.failed sink.old }
-    ensures refused { OnErr result (result ≢ Err RunError.Write → (b : List ℕ) → Told (S.given source.old) (S.given source.new) b
-        → Grew (T.taken sink.old) (T.taken sink.new) (mark_lines (marks (cells_before input (take max_bytes b))))) }
-    ensures front { result ≡ Err RunError.Write → (b : List ℕ) → Told (S.given source.old) (S.given source.new) b
-        → GrewFront (T.taken sink.old) (T.taken sink.new) (mark_lines (marks (cells_before input (take max_bytes b))))
-        ⊎ (WholeInput max_bytes input b (S.has_ended source.new) × GrewFront (T.taken sink.old) (T.taken sink.new) (mark_lines (marks (cells_of input b)))) }
-    ensures few { (b : List ℕ) → Told (S.given source.old) (S.given source.new) b → length b ≤ max_bytes + 1 }
+    // It is a run over cells: Ok is owed, a refusal has its cause, and what was told before it is written.
+    ensures run { CellRun max_bytes input (λ c. mark_lines (marks c)) (λ c. mark_lines (marks c)) (scan_counts input)
+        (S.has_ended source.new) (change_of S.given S.failed source.old source.new)
+        (change_of T.taken T.failed sink.old sink.new) result }
 {
-    run_marks(source, sink, max_bytes, input)
+    let mut taker = MarkLines::new();
+    match drive(source, sink, max_bytes, input, &mut taker) {
+        Ok((bytes, cells)) => Ok(Counts {
+            bytes,
+            cells,
+            blocks: 0,
+            faults: 0,
+            unfinished: 0,
+            marks: taker.marks,
+        }),
+        Err(error) => Err(error),
+    }
 }

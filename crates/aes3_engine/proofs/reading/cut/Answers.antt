@@ -1,35 +1,13 @@
 use Rattle.aes3_lock.specs.Reports.{blocks}
 use Rattle.aes3_engine.specs.BlockRuns.{begun_stream, cut_blocks, decided_blocks, written_stream}
 use Rattle.aes3_engine.proofs.BlockRuns.{cut-whole, cut-begun}
-use Rattle.aes3_engine.proofs.CellRuns.{run-wrote, run-input, run-counts, run-fits, run-owed, run-cause, run-sink_quiet, run-refused, run-front, run-few}
+use Rattle.aes3_engine.proofs.CellRuns.{run-is, run-wrote}
 use Rattle.aes3_engine.proofs.reading.cut.Goals as goal
 
 pub returns-clause-cut : goal.returns-clause-cut
 returns-clause-cut g c = run-wrote c.run_blocks.result (λ d. written_stream c.args.output (cut_blocks c.args.from c.args.count (blocks d))) (cut-whole c.args.output c.args.from c.args.count) c.run_blocks.ensures
 
-pub returns-clause-input : goal.returns-clause-input
-returns-clause-input g c = run-input c.run_blocks.result c.run_blocks.ensures
-
-pub returns-clause-counts : goal.returns-clause-counts
-returns-clause-counts g c = run-counts c.run_blocks.result c.run_blocks.ensures
-
-pub returns-clause-fits : goal.returns-clause-fits
-returns-clause-fits g c = run-fits c.run_blocks.result c.run_blocks.ensures
-
-pub returns-clause-owed : goal.returns-clause-owed
-returns-clause-owed g c = run-owed c.run_blocks.ensures
-
-pub returns-clause-cause : goal.returns-clause-cause
-returns-clause-cause g c = run-cause c.run_blocks.result c.run_blocks.ensures
-
-pub returns-clause-sink_quiet : goal.returns-clause-sink_quiet
-returns-clause-sink_quiet g c = run-sink_quiet c.run_blocks.result c.run_blocks.ensures
-
-pub returns-clause-refused : goal.returns-clause-refused
-returns-clause-refused g c = run-refused c.run_blocks.result (λ d. begun_stream c.args.output (cut_blocks c.args.from c.args.count (decided_blocks d))) (cut-begun c.args.output c.args.from c.args.count) c.run_blocks.ensures
-
-pub returns-clause-front : goal.returns-clause-front
-returns-clause-front g c = run-front c.run_blocks.result (λ d. written_stream c.args.output (cut_blocks c.args.from c.args.count (blocks d))) (λ d. begun_stream c.args.output (cut_blocks c.args.from c.args.count (decided_blocks d))) (cut-whole c.args.output c.args.from c.args.count) (cut-begun c.args.output c.args.from c.args.count) c.run_blocks.ensures
-
-pub returns-clause-few : goal.returns-clause-few
-returns-clause-few g c = run-few c.run_blocks.ensures
+pub returns-clause-run : goal.returns-clause-run
+returns-clause-run g c =
+    run-is (λ d. written_stream c.args.output (cut_blocks c.args.from c.args.count (blocks d))) (λ d. begun_stream c.args.output (cut_blocks c.args.from c.args.count (decided_blocks d)))
+    (cut-whole c.args.output c.args.from c.args.count) (cut-begun c.args.output c.args.from c.args.count) c.run_blocks.ensures

@@ -1,35 +1,29 @@
-use Rattle.std.proofs.Common.{refl}
+use Rattle.std.proofs.Common.{◌+◌, ap, ◌∙◌, arith}
+use Rattle.aes3_engine.proofs.CellRuns.{drove-ok, drove-err, run-told}
 use Rattle.aes3_text.specs.Gaps.{account, begun_account}
-use Rattle.aes3_text.specs.Runs.{account_lines}
-use Rattle.aes3_engine.proofs.CellRuns.{run-wrote, run-input, run-counts, run-fits, run-owed, run-cause, run-sink_quiet, run-refused, run-front, run-few}
+use Rattle.aes3_text.specs.Runs.{account_counts, account_lines}
+use Rattle.aes3_text.proofs.Accounts.{before-account, with-account, counted, drive-room}
 use Rattle.aes3_text.proofs.accounting.account.Goals as goal
 
-pub returns-clause-lines : goal.returns-clause-lines
-returns-clause-lines g c = run-wrote c.run_account.result (λ d. account_lines c.args.lines (account d)) (λ d. refl) c.run_account.ensures
+pub overflow_add-result : goal.overflow_add-result
+overflow_add-result g c =
+    let t = c.drive.new.taker.ledger in
+    let r = drive-room t.lost t.tally.blocks t.tally.faults t.tally.unfinished c.in-Ok.ensures in
+    omega arith
 
-pub returns-clause-input : goal.returns-clause-input
-returns-clause-input g c = run-input c.run_account.result c.run_account.ensures
+pub returns-in-Ok : goal.returns-in-Ok
+returns-in-Ok g c =
+    let t = c.drive.new.taker.ledger in
+    let l = c.new-taker.result.ledger.lines in
+    let r = drove-ok (λ d. account_lines c.args.lines (account d)) (λ d. account_lines c.args.lines (begun_account d)) (account_counts c.args.input)
+    (record { bytes = c.in-Ok.bytes; cells = c.in-Ok.cells; blocks = t.tally.blocks; faults = t.tally.faults + t.lost; unfinished = t.tally.unfinished; marks = 0 })
+    (λ d. with-account l d ∙ ap (λ v. account_lines v (account d)) c.new-taker.ensures.lines)
+    (λ b e f h. counted c.args.input b c.in-Ok.bytes c.in-Ok.cells t.lost t.tally.blocks t.tally.faults t.tally.unfinished e f h) c.in-Ok.ensures in
+    record { lines = λ b t. (run-told r b t).4; run = r }
 
-pub returns-clause-counts : goal.returns-clause-counts
-returns-clause-counts g c = run-counts c.run_account.result c.run_account.ensures
-
-pub returns-clause-fits : goal.returns-clause-fits
-returns-clause-fits g c = run-fits c.run_account.result c.run_account.ensures
-
-pub returns-clause-owed : goal.returns-clause-owed
-returns-clause-owed g c = run-owed c.run_account.ensures
-
-pub returns-clause-cause : goal.returns-clause-cause
-returns-clause-cause g c = run-cause c.run_account.result c.run_account.ensures
-
-pub returns-clause-sink_quiet : goal.returns-clause-sink_quiet
-returns-clause-sink_quiet g c = run-sink_quiet c.run_account.result c.run_account.ensures
-
-pub returns-clause-refused : goal.returns-clause-refused
-returns-clause-refused g c = run-refused c.run_account.result (λ d. account_lines c.args.lines (begun_account d)) (λ d. refl) c.run_account.ensures
-
-pub returns-clause-front : goal.returns-clause-front
-returns-clause-front g c = run-front c.run_account.result (λ d. account_lines c.args.lines (account d)) (λ d. account_lines c.args.lines (begun_account d)) (λ d. refl) (λ d. refl) c.run_account.ensures
-
-pub returns-clause-few : goal.returns-clause-few
-returns-clause-few g c = run-few c.run_account.ensures
+pub returns-in-Err-clause-run : goal.returns-in-Err-clause-run
+returns-in-Err-clause-run g c =
+    let l = c.new-taker.result.ledger.lines in
+    drove-err (λ d. account_lines c.args.lines (account d)) (λ d. account_lines c.args.lines (begun_account d)) (account_counts c.args.input)
+    (λ d. with-account l d ∙ ap (λ v. account_lines v (account d)) c.new-taker.ensures.lines)
+    (λ d. before-account l d ∙ ap (λ v. account_lines v (begun_account d)) c.new-taker.ensures.lines) c.in-Err.ensures

@@ -1,35 +1,15 @@
-use Rattle.std.proofs.Common.{refl}
 use Rattle.aes3_lock.specs.Preambles.{marks}
-use Rattle.aes3_text.specs.Runs.{mark_lines}
-use Rattle.aes3_engine.proofs.CellRuns.{run-wrote, run-input, run-counts, run-fits, run-owed, run-cause, run-sink_quiet, run-refused, run-front, run-few}
+use Rattle.aes3_engine.proofs.CellRuns.{drove-ok, drove-err, run-told}
+use Rattle.aes3_text.specs.Runs.{mark_lines, scan_counts}
+use Rattle.aes3_text.proofs.Scans.{before-lines, with-lines, counted}
 use Rattle.aes3_text.proofs.scanning.scan.Goals as goal
 
-pub returns-clause-lines : goal.returns-clause-lines
-returns-clause-lines g c = run-wrote c.run_marks.result (λ d. mark_lines (marks d)) (λ d. refl) c.run_marks.ensures
+pub returns-in-Ok : goal.returns-in-Ok
+returns-in-Ok g c =
+    let k = c.drive.new.taker in
+    let r = drove-ok (λ d. mark_lines (marks d)) (λ d. mark_lines (marks d)) (scan_counts c.args.input) (record { bytes = c.in-Ok.bytes; cells = c.in-Ok.cells; blocks = 0; faults = 0; unfinished = 0; marks = k.marks })
+    with-lines (λ b e f h. counted c.args.input b c.in-Ok.bytes c.in-Ok.cells k.marks k.scan e f h) c.in-Ok.ensures in
+    record { lines = λ b t. (run-told r b t).4; run = r }
 
-pub returns-clause-input : goal.returns-clause-input
-returns-clause-input g c = run-input c.run_marks.result c.run_marks.ensures
-
-pub returns-clause-counts : goal.returns-clause-counts
-returns-clause-counts g c = run-counts c.run_marks.result c.run_marks.ensures
-
-pub returns-clause-fits : goal.returns-clause-fits
-returns-clause-fits g c = run-fits c.run_marks.result c.run_marks.ensures
-
-pub returns-clause-owed : goal.returns-clause-owed
-returns-clause-owed g c = run-owed c.run_marks.ensures
-
-pub returns-clause-cause : goal.returns-clause-cause
-returns-clause-cause g c = run-cause c.run_marks.result c.run_marks.ensures
-
-pub returns-clause-sink_quiet : goal.returns-clause-sink_quiet
-returns-clause-sink_quiet g c = run-sink_quiet c.run_marks.result c.run_marks.ensures
-
-pub returns-clause-refused : goal.returns-clause-refused
-returns-clause-refused g c = run-refused c.run_marks.result (λ d. mark_lines (marks d)) (λ d. refl) c.run_marks.ensures
-
-pub returns-clause-front : goal.returns-clause-front
-returns-clause-front g c = run-front c.run_marks.result (λ d. mark_lines (marks d)) (λ d. mark_lines (marks d)) (λ d. refl) (λ d. refl) c.run_marks.ensures
-
-pub returns-clause-few : goal.returns-clause-few
-returns-clause-few g c = run-few c.run_marks.ensures
+pub returns-in-Err-clause-run : goal.returns-in-Err-clause-run
+returns-in-Err-clause-run g c = drove-err (λ d. mark_lines (marks d)) (λ d. mark_lines (marks d)) (scan_counts c.args.input) with-lines before-lines c.in-Err.ensures

@@ -2,35 +2,11 @@ use Rattle.aes3_lock.specs.Reports.{blocks}
 use Rattle.aes3_engine.specs.BlockRuns.{decided_blocks}
 use Rattle.aes3_text.specs.Runs.{status_lines}
 use Rattle.aes3_text.proofs.RunLines.{show-whole, show-begun}
-use Rattle.aes3_engine.proofs.CellRuns.{run-wrote, run-input, run-counts, run-fits, run-owed, run-cause, run-sink_quiet, run-refused, run-front, run-few}
+use Rattle.aes3_engine.proofs.CellRuns.{run-is, run-wrote}
 use Rattle.aes3_text.proofs.showing.show.Goals as goal
 
 pub returns-clause-lines : goal.returns-clause-lines
 returns-clause-lines g c = run-wrote c.run_blocks.result (λ d. status_lines (blocks d)) show-whole c.run_blocks.ensures
 
-pub returns-clause-input : goal.returns-clause-input
-returns-clause-input g c = run-input c.run_blocks.result c.run_blocks.ensures
-
-pub returns-clause-counts : goal.returns-clause-counts
-returns-clause-counts g c = run-counts c.run_blocks.result c.run_blocks.ensures
-
-pub returns-clause-fits : goal.returns-clause-fits
-returns-clause-fits g c = run-fits c.run_blocks.result c.run_blocks.ensures
-
-pub returns-clause-owed : goal.returns-clause-owed
-returns-clause-owed g c = run-owed c.run_blocks.ensures
-
-pub returns-clause-cause : goal.returns-clause-cause
-returns-clause-cause g c = run-cause c.run_blocks.result c.run_blocks.ensures
-
-pub returns-clause-sink_quiet : goal.returns-clause-sink_quiet
-returns-clause-sink_quiet g c = run-sink_quiet c.run_blocks.result c.run_blocks.ensures
-
-pub returns-clause-refused : goal.returns-clause-refused
-returns-clause-refused g c = run-refused c.run_blocks.result (λ d. status_lines (decided_blocks d)) show-begun c.run_blocks.ensures
-
-pub returns-clause-front : goal.returns-clause-front
-returns-clause-front g c = run-front c.run_blocks.result (λ d. status_lines (blocks d)) (λ d. status_lines (decided_blocks d)) show-whole show-begun c.run_blocks.ensures
-
-pub returns-clause-few : goal.returns-clause-few
-returns-clause-few g c = run-few c.run_blocks.ensures
+pub returns-clause-run : goal.returns-clause-run
+returns-clause-run g c = run-is (λ d. status_lines (blocks d)) (λ d. status_lines (decided_blocks d)) show-whole show-begun c.run_blocks.ensures
