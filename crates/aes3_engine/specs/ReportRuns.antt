@@ -7,6 +7,7 @@ use Rattle.aes3_cell.specs.declared.counts.Counts.{Counts}
 use Rattle.aes3_lock.specs.declared.report.Report.{Report}
 use Rattle.aes3_lock.specs.declared.report.Report.TheVariants.{Whole, Marked, Fault, Unfinished}
 use Rattle.aes3_lock.specs.Reports.{reports, decided, wholes, blocks}
+use Rattle.aes3_engine.specs.declared.tally.Tally.{Tally}
 use Rattle.aes3_engine.specs.Taking.{Writing}
 use Rattle.aes3_engine.specs.Running.{Change}
 use Rattle.aes3_engine.specs.Inputs.{cells_of}
@@ -53,6 +54,9 @@ pub record Tallies (blocks faults unfinished : ℕ) (r : List Report) : Type 0 w
   pub blocks_is : blocks ≡ length (wholes r)
   pub faults_is : faults ≡ length (filter is_faulty r)
   pub unfinished_is : unfinished ≡ length (filter is_unfinished r)
+
+abbrev pub IsTallyOf : Tally → List Report → Type 0
+IsTallyOf t r = Tallies t.blocks t.faults t.unfinished r
 
 -- a run over cells that gives each report its bytes, and at the end e
 abbrev pub ReportRun : ℕ → Form → (ℕ → Report → List ℕ) → List ℕ → Bool → Change → Change → Result Counts RunError → Type 0

@@ -14,6 +14,7 @@ mod reporter;
 mod rewriting;
 mod samples;
 mod taker;
+mod tally;
 #[cfg(test)]
 mod tests;
 mod text_input;
@@ -30,3 +31,4 @@ pub use reporter::Reporter;
 pub use rewriting::rewrite;
 pub use samples::to_pcm;
 pub use taker::Taker;
+pub use tally::Tally;

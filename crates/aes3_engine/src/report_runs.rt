@@ -1,15 +1,16 @@
 //! Runs that read cells and write something of each report on them.
 
-ghost use Rattle.std.specs.Prelude.{◌≡◌, ℕ, ◌+◌, ◌<◌, ◌≤◌, ◌^◌, ◌++◌, List, [], ◌∷◌, length, IfOk, OnErr};
+ghost use Rattle.std.specs.Prelude.{◌≡◌, ℕ, ◌+◌, ◌<◌, ◌≤◌, ◌^◌, List, [], IfOk, OnErr};
 ghost use Rattle.aes3_cell.specs.Ends.{Grew, GrewFront};
 ghost use Rattle.aes3_lock.specs.declared.report.Report.{Report};
 ghost use Rattle.aes3_lock.specs.Following.{report_in};
-ghost use Rattle.aes3_engine.specs.ReportRuns.{ReportRun, Tallies, report_writing};
+ghost use Rattle.aes3_engine.specs.ReportRuns.{IsTallyOf, ReportRun, report_writing};
 ghost use Rattle.aes3_engine.specs.Running.{change_of};
 
 use crate::driver::drive;
 use crate::locked::Locked;
 use crate::reporter::Reporter;
+use crate::tally::Tally;
 use aes3_cell::{Counts, Fault, Form, RunError, Sink, Source};
 use aes3_lock::{Ending, Lock, Report};
 
@@ -65,68 +66,33 @@ pub trait ReportWriter {
 #[derive(Drop)]
 pub(crate) struct Counting<W> {
     pub(crate) writer: W,
-    pub(crate) blocks: u64,
-    pub(crate) faults: u64,
-    pub(crate) unfinished: u64,
+    pub(crate) tally: Tally,
 }
 
 impl<W: ReportWriter> Counting<W> {
     /// A reporter that has taken no report.
     pub(crate) fn new(writer: W) -> Self
         ensures writer { result.writer ≡ writer }
-        ensures tally { Tallies result.blocks result.faults result.unfinished [] }
+        ensures tally { IsTallyOf result.tally [] }
     {
         Counting {
             writer,
-            blocks: 0,
-            faults: 0,
-            unfinished: 0,
-        }
-    }
-
-    /// Counts a report.
-    fn count(&mut self, report: &Report)
-        requires room { (r : List Report) × (length r + 1 < 2 ^ 44) × Tallies self.old.blocks self.old.faults self.old.unfinished r }
-        ensures writer { self.new.writer ≡ self.old.writer }
-        ensures tally { (r : List Report) → Tallies self.old.blocks self.old.faults self.old.unfinished r
-            → Tallies self.new.blocks self.new.faults self.new.unfinished (r ++ report.now ∷ []) }
-    {
-        match report {
-            Report::Whole { .. } => self.blocks += 1,
-            Report::Marked { .. } => self.faults += 1,
-            Report::Fault { .. } => self.faults += 1,
-            Report::Unfinished { .. } => self.unfinished += 1,
-        }
-    }
-}
-
-impl<W: ReportWriter> Counting<W> {
-    /// Counts the report of an ending.
-    fn count_ending(&mut self, lock: &Lock, ending: Ending)
-        requires room { (r : List Report) × (length r + 1 < 2 ^ 44) × Tallies self.old.blocks self.old.faults self.old.unfinished r }
-        ensures writer { self.new.writer ≡ self.old.writer }
-        ensures tally { (r : List Report) → Tallies self.old.blocks self.old.faults self.old.unfinished r
-            → Tallies self.new.blocks self.new.faults self.new.unfinished (r ++ report_in lock.now ending ∷ []) }
-    {
-        match ending {
-            Ending::Whole { .. } => self.blocks += 1,
-            Ending::Marked { .. } => self.faults += 1,
-            Ending::Fault { .. } => self.faults += 1,
+            tally: Tally::new(),
         }
     }
 }
 
 impl<W: ReportWriter> Reporter for Counting<W> {
-    ghost follows = { λ k. Tallies k.blocks k.faults k.unfinished };
+    ghost follows = { λ k. IsTallyOf k.tally };
 
     ghost writes = { λ k. report_writing (W.writes k.writer) (W.ends k.writer) };
 
-    ghost finished = { λ k. Tallies k.blocks k.faults k.unfinished };
+    ghost finished = { λ k. IsTallyOf k.tally };
 
     fn report<T: Sink>(&mut self, sink: &mut T, report: &Report) -> Result<(), Fault> {
-        match self.writer.put(sink, self.blocks, report) {
+        match self.writer.put(sink, self.tally.blocks, report) {
             Ok(()) => {
-                self.count(report);
+                self.tally.count(report);
                 Ok(())
             }
             Err(fault) => Err(fault),
@@ -134,9 +100,9 @@ impl<W: ReportWriter> Reporter for Counting<W> {
     }
 
     fn tell<T: Sink>(&mut self, sink: &mut T, lock: &Lock, ending: Ending) -> Result<(), Fault> {
-        match self.writer.tell(sink, self.blocks, lock, ending) {
+        match self.writer.tell(sink, self.tally.blocks, lock, ending) {
             Ok(()) => {
-                self.count_ending(lock, ending);
+                self.tally.count_ending(lock, ending);
                 Ok(())
             }
             Err(fault) => Err(fault),
@@ -172,9 +138,9 @@ pub fn run_reports<S: Source, T: Sink, W: ReportWriter + Drop>(
         Ok((bytes, cells)) => Ok(Counts {
             bytes,
             cells,
-            blocks: taker.reporter.blocks,
-            faults: taker.reporter.faults,
-            unfinished: taker.reporter.unfinished,
+            blocks: taker.reporter.tally.blocks,
+            faults: taker.reporter.tally.faults,
+            unfinished: taker.reporter.tally.unfinished,
             marks: 0,
         }),
         Err(error) => Err(error),

@@ -16,6 +16,7 @@ use Rattle.aes3_engine.specs.Taking.{Writing}
 use Rattle.aes3_engine.specs.Inputs.{cells_of}
 use Rattle.aes3_engine.specs.BlockRuns.{numbered}
 use Rattle.aes3_engine.specs.ReportRuns.{is_faulty, is_unfinished, Tallies}
+use Rattle.aes3_text.specs.declared.ledger.Ledger.{Ledger}
 use Rattle.aes3_text.specs.declared.lines.Lines.{Lines}
 use Rattle.aes3_text.specs.Gaps.{Entry, account, accounted, begun_account, is_lost}
 use Rattle.aes3_text.specs.Lines.{entry_line, told_line, mark_line}
@@ -57,6 +58,24 @@ pub record Accounted (lost blocks faults unfinished : ℕ) (c : List Level) : Ty
   pub short : length c ≤ 2 ^ 43
   pub lost_is : lost ≡ length (filter is_lost (account c))
   pub tally : Tallies blocks faults unfinished (reports c)
+
+-- a ledger of the cells c, and one that has taken their end
+abbrev pub IsLedgerOf : Ledger → List Level → Type 0
+IsLedgerOf k c = Accounts k.place k.lost k.tally.blocks k.tally.faults k.tally.unfinished c
+
+abbrev pub IsClosedLedgerOf : Ledger → List Level → Type 0
+IsClosedLedgerOf k c = Accounted k.lost k.tally.blocks k.tally.faults k.tally.unfinished c
+
+-- what holds of the cells c of a ledger and d behind them, `seen` cells in all: where d decides no report, and where it decides this one
+abbrev pub WhereNone : Ledger → ℕ → (List Level → List Level → Type 0) → Type 0
+WhereNone k seen P = (c d : List Level) → IsLedgerOf k c → decided (c ++ d) ≡ decided c → seen ≡ length (c ++ d) → P c d
+
+abbrev pub WhereDecided : Ledger → ℕ → Report → (List Level → List Level → Type 0) → Type 0
+WhereDecided k seen x P = (c d : List Level) → IsLedgerOf k c → decided (c ++ d) ≡ decided c ++ x ∷ [] → seen ≡ length (c ++ d) → P c d
+
+-- and of the `seen` cells c of a ledger whose end decides the reports r
+abbrev pub AtEnd : Ledger → ℕ → List Report → (List Level → Type 0) → Type 0
+AtEnd k seen r P = (c : List Level) → IsLedgerOf k c → reports c ≡ decided c ++ r → seen ≡ length c → P c
 
 -- the line of a channel of a block, the lines of both, and of blocks numbered from 0
 unfoldable pub channel_line : Channel → ℕ → List (List Bool) → List ℕ

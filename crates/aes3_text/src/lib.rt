@@ -8,6 +8,7 @@ mod consumer;
 mod fields;
 mod gap;
 pub mod laws;
+mod ledger;
 mod line;
 mod lines;
 mod mark;
@@ -16,7 +17,6 @@ mod report;
 mod scanning;
 mod showing;
 mod status;
-mod tally;
 mod words;
 
 pub use accounting::account;

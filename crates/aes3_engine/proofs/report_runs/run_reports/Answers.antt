@@ -5,7 +5,7 @@ use Rattle.aes3_engine.proofs.report_runs.run_reports.Goals as goal
 pub drive-requires-clause-start : goal.drive-requires-clause-start
 drive-requires-clause-start g c = (
   c.new-taker.ensures.lock,
-  tally-is (ap (λ k. k.blocks) c.new-taker.ensures.reporter) (ap (λ k. k.faults) c.new-taker.ensures.reporter) (ap (λ k. k.unfinished) c.new-taker.ensures.reporter) c.new.ensures.tally,
+  tally-is (ap (λ k. k.tally.blocks) c.new-taker.ensures.reporter) (ap (λ k. k.tally.faults) c.new-taker.ensures.reporter) (ap (λ k. k.tally.unfinished) c.new-taker.ensures.reporter) c.new.ensures.tally,
 )
 
 pub returns-in-Ok : goal.returns-in-Ok

@@ -1,7 +1,7 @@
 use Rattle.std.proofs.Common.{refl}
 use Rattle.aes3_lock.proofs.Deciding.{block_len_24576}
 use Rattle.aes3_text.proofs.GapLemmas.{full-lost}
-use Rattle.aes3_text.proofs.accounting.Ledger.tell_before.Goals as goal
+use Rattle.aes3_text.proofs.ledger.Ledger.tell_before.Goals as goal
 
 pub returns-in_ok-tell_gaps-in-Whole-clause-place : goal.returns-in_ok-tell_gaps-in-Whole-clause-place
 returns-in_ok-tell_gaps-in-Whole-clause-place g c = rw (c.in-Whole.is, block_len_24576) refl

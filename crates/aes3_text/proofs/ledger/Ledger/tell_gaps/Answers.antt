@@ -2,7 +2,7 @@ use Rattle.std.proofs.Common.{◌+◌, ap, ◌∙◌}
 use Rattle.std.proofs.lemmas.Result.{err_from_is_err_and}
 use Rattle.aes3_cell.proofs.Growing.{grew-is, grew-join, front-is, front-join}
 use Rattle.aes3_text.proofs.GapLemmas.{gaps-lines, gaps-lost}
-use Rattle.aes3_text.proofs.accounting.Ledger.tell_gaps.Goals as goal
+use Rattle.aes3_text.proofs.ledger.Ledger.tell_gaps.Goals as goal
 
 pub returns-in_err-tell_rest-clause-err : goal.returns-in_err-tell_rest-clause-err
 returns-in_err-tell_rest-clause-err g c =

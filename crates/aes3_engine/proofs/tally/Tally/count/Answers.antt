@@ -1,6 +1,6 @@
 use Rattle.std.proofs.Common.{arith}
 use Rattle.aes3_engine.proofs.ReportLemmas.{tallies-few, push-whole, push-marked, push-fault, push-unfinished}
-use Rattle.aes3_text.proofs.tally.Tally.count.Goals as goal
+use Rattle.aes3_engine.proofs.tally.Tally.count.Goals as goal
 
 pub overflow_add-self : goal.overflow_add-self
 overflow_add-self c = let h = c.requires in let l = h.1 in let f = (tallies-few h.2).few_blocks in omega arith

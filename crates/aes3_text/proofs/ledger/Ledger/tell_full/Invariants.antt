@@ -3,7 +3,7 @@ use Rattle.aes3_cell.specs.Ends.{Grew}
 use Rattle.aes3_block.specs.Blocks.{block_len}
 use Rattle.aes3_text.specs.Gaps.{full_gaps}
 use Rattle.aes3_text.specs.Runs.{account_lines}
-use Rattle.aes3_text.proofs.accounting.Ledger.tell_full.Given as goal
+use Rattle.aes3_text.proofs.ledger.Ledger.tell_full.Given as goal
 
 abbrev pub invariant-gaps : goal.invariant-gaps
 invariant-gaps g l = record {

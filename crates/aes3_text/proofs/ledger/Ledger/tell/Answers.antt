@@ -5,7 +5,7 @@ use Rattle.aes3_text.specs.Gaps.{gaps_before, reported}
 use Rattle.aes3_text.specs.Lines.{told_line}
 use Rattle.aes3_text.specs.Runs.{account_lines}
 use Rattle.aes3_text.proofs.GapLemmas.{lines-append}
-use Rattle.aes3_text.proofs.accounting.Ledger.tell.Goals as goal
+use Rattle.aes3_text.proofs.ledger.Ledger.tell.Goals as goal
 
 pub returns-in_err-tell_report-clause-err : goal.returns-in_err-tell_report-clause-err
 returns-in_err-tell_report-clause-err g c =

@@ -5,7 +5,7 @@ use Rattle.aes3_lock.proofs.Deciding.{block_len_24576}
 use Rattle.aes3_text.specs.Gaps.{full_count, full_gaps}
 use Rattle.aes3_text.specs.Runs.{account_lines}
 use Rattle.aes3_text.proofs.GapLemmas.{count-is, behind-is, full-line, full-front}
-use Rattle.aes3_text.proofs.accounting.Ledger.tell_full.Goals as goal
+use Rattle.aes3_text.proofs.ledger.Ledger.tell_full.Goals as goal
 
 pub returns-in_err-line_of_gap-clause-err : goal.returns-in_err-line_of_gap-clause-err
 returns-in_err-line_of_gap-clause-err g c =

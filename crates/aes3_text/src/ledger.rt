@@ -1,0 +1,270 @@
+//! What is accounted for of all cells: the reports, and the gaps before them.
+
+ghost use Rattle.std.specs.Prelude.{◌≡◌, ◌+◌, ◌-◌, ◌<◌, ◌≤◌, ◌^◌, List, [], ◌∷◌, ◌++◌, length, IfOk, OnErr};
+ghost use Rattle.std.specs.List.{filter};
+ghost use Rattle.aes3_cell.specs.declared.level.Level.{Level};
+ghost use Rattle.aes3_cell.specs.Ends.{Grew, GrewFront};
+ghost use Rattle.aes3_lock.specs.declared.report.Report.{Report};
+ghost use Rattle.aes3_lock.specs.Remains.{place_of};
+ghost use Rattle.aes3_lock.specs.Reports.{decided, reports};
+ghost use Rattle.aes3_engine.specs.ReportRuns.{IsTallyOf};
+ghost use Rattle.aes3_engine.specs.Taking.{behind};
+ghost use Rattle.aes3_text.specs.Gaps.{behind_full, behind_report, full_count, full_gaps, gaps, gaps_before, is_lost, reported, rest_gap};
+ghost use Rattle.aes3_text.specs.Runs.{AtEnd, IsClosedLedgerOf, IsLedgerOf, WhereDecided, WhereNone, account_lines, accounting};
+
+use crate::gap::line_of_gap;
+use crate::lines::Lines;
+use crate::report::tell_report;
+use aes3_cell::{Fault, Sink};
+use aes3_engine::Tally;
+use aes3_lock::Report;
+
+/// How many cells a block has (AES3-3).
+const BLOCK_CELLS: u64 = 24_576;
+
+/// What is accounted for: the cells before a place, and how many gaps of them count.
+#[derive(Drop)]
+pub(crate) struct Ledger {
+    pub(crate) lines: Lines,
+    pub(crate) place: u64,
+    pub(crate) lost: u64,
+    pub(crate) tally: Tally,
+}
+
+impl Ledger {
+    /// No cell is accounted for.
+    pub(crate) fn new(lines: Lines) -> Self
+        ensures lines { result.lines ≡ lines }
+        ensures none { IsLedgerOf result [] }
+    {
+        Ledger {
+            lines,
+            place: 0,
+            lost: 0,
+            tally: Tally::new(),
+        }
+    }
+
+    /// Writes the gaps of a block's length before place `to`.
+    ///
+    /// # Errors
+    /// The sink's fault; then it has taken a front of their lines.
+    fn tell_full<T: Sink>(&mut self, sink: &mut T, to: u64) -> Result<(), Fault>
+        requires room { T.failed sink.old + 1 < 2 ^ 64 }
+        requires few { self.old.lost + to < 2 ^ 64 }
+        ensures lines { self.new.lines ≡ self.old.lines }
+        ensures tally { self.new.tally ≡ self.old.tally }
+        ensures place { IfOk result (λ _. self.new.place ≡ behind_full self.old.place to) }
+        ensures lost { IfOk result (λ _. self.new.lost ≡ self.old.lost + full_count self.old.place to) }
+        ensures few { IfOk result (λ _. self.new.lost ≤ self.old.lost + to) }
+        ensures grew { IfOk result (λ _. Grew (T.taken sink.old) (T.taken sink.new) (account_lines self.old.lines (full_gaps self.old.place (full_count self.old.place to)))) }
+        ensures count { IfOk result (λ _. T.failed sink.new ≡ T.failed sink.old) }
+        ensures err { OnErr result ((T.failed sink.new ≡ T.failed sink.old + 1)
+            × GrewFront (T.taken sink.old) (T.taken sink.new) (account_lines self.old.lines (full_gaps self.old.place (full_count self.old.place to)))) }
+    {
+        let count = to.saturating_sub(self.place) / BLOCK_CELLS;
+        'gaps: for _told in 0..count {
+            line_of_gap(self.place, BLOCK_CELLS, sink)?;
+            self.place += BLOCK_CELLS;
+            self.lost += 1;
+        }
+        Ok(())
+    }
+
+    /// Writes the gap of the cells that are left before place `to`, if there are any.
+    ///
+    /// # Errors
+    /// The sink's fault; then it has taken a front of its line.
+    fn tell_rest<T: Sink>(&mut self, sink: &mut T, to: u64, counts: bool) -> Result<(), Fault>
+        requires room { T.failed sink.old + 1 < 2 ^ 64 }
+        requires few { self.old.lost + 1 < 2 ^ 64 }
+        ensures lines { self.new.lines ≡ self.old.lines }
+        ensures tally { self.new.tally ≡ self.old.tally }
+        ensures lost { self.new.lost ≡ self.old.lost + length (filter is_lost (rest_gap counts self.old.place to)) }
+        ensures few { self.new.lost ≤ self.old.lost + 1 }
+        ensures grew { IfOk result (λ _. Grew (T.taken sink.old) (T.taken sink.new) (account_lines self.old.lines (rest_gap counts self.old.place to))) }
+        ensures count { IfOk result (λ _. T.failed sink.new ≡ T.failed sink.old) }
+        ensures err { OnErr result ((T.failed sink.new ≡ T.failed sink.old + 1)
+            × GrewFront (T.taken sink.old) (T.taken sink.new) (account_lines self.old.lines (rest_gap counts self.old.place to))) }
+    {
+        if self.place >= to {
+            return Ok(());
+        }
+        if counts {
+            self.lost += 1;
+        }
+        line_of_gap(self.place, to - self.place, sink)
+    }
+
+    /// Writes all gaps before place `to`; a short one counts or not.
+    ///
+    /// # Errors
+    /// The sink's fault; then it has taken a front of their lines.
+    fn tell_gaps<T: Sink>(&mut self, sink: &mut T, to: u64, counts: bool) -> Result<(), Fault>
+        requires room { T.failed sink.old + 1 < 2 ^ 64 }
+        requires few { self.old.lost + to + 1 < 2 ^ 64 }
+        ensures lines { self.new.lines ≡ self.old.lines }
+        ensures tally { self.new.tally ≡ self.old.tally }
+        ensures lost { IfOk result (λ _. self.new.lost ≡ self.old.lost + length (filter is_lost (gaps counts self.old.place to))) }
+        ensures few { IfOk result (λ _. self.new.lost ≤ self.old.lost + to + 1) }
+        ensures grew { IfOk result (λ _. Grew (T.taken sink.old) (T.taken sink.new) (account_lines self.old.lines (gaps counts self.old.place to))) }
+        ensures count { IfOk result (λ _. T.failed sink.new ≡ T.failed sink.old) }
+        ensures err { OnErr result ((T.failed sink.new ≡ T.failed sink.old + 1)
+            × GrewFront (T.taken sink.old) (T.taken sink.new) (account_lines self.old.lines (gaps counts self.old.place to))) }
+    {
+        self.tell_full(sink, to)?;
+        self.tell_rest(sink, to, counts)?;
+        Ok(())
+    }
+
+    /// Writes the gaps before a report, and takes the place up to which it accounts for the cells.
+    ///
+    /// # Errors
+    /// The sink's fault; then it has taken a front of their lines.
+    fn tell_before<T: Sink>(&mut self, sink: &mut T, report: &Report) -> Result<(), Fault>
+        requires room { T.failed sink.old + 1 < 2 ^ 64 }
+        requires few { self.old.lost + place_of report.now + 1 < 2 ^ 64 }
+        requires near { place_of report.now ≤ 2 ^ 43 }
+        ensures lines { self.new.lines ≡ self.old.lines }
+        ensures tally { self.new.tally ≡ self.old.tally }
+        ensures place { IfOk result (λ _. self.new.place ≡ behind_report self.old.place report.now) }
+        ensures lost { IfOk result (λ _. self.new.lost ≡ self.old.lost + length (filter is_lost (gaps_before self.old.tally.blocks self.old.place report.now))) }
+        ensures few { IfOk result (λ _. self.new.lost ≤ self.old.lost + place_of report.now + 1) }
+        ensures grew { IfOk result (λ _. Grew (T.taken sink.old) (T.taken sink.new) (account_lines self.old.lines (gaps_before self.old.tally.blocks self.old.place report.now))) }
+        ensures count { IfOk result (λ _. T.failed sink.new ≡ T.failed sink.old) }
+        ensures err { OnErr result ((T.failed sink.new ≡ T.failed sink.old + 1)
+            × GrewFront (T.taken sink.old) (T.taken sink.new) (account_lines self.old.lines (gaps_before self.old.tally.blocks self.old.place report.now))) }
+    {
+        match report {
+            Report::Whole { at, .. } => {
+                let behind_first = self.tally.blocks > 0;
+                self.tell_gaps(sink, *at, behind_first)?;
+                self.place = *at + BLOCK_CELLS;
+            }
+            Report::Marked { at, .. } => self.tell_full(sink, *at)?,
+            Report::Fault { at, .. } => self.tell_full(sink, *at)?,
+            Report::Unfinished { at, .. } => self.tell_full(sink, *at)?,
+        }
+        Ok(())
+    }
+
+    /// Writes a report behind the gaps before it, and counts it.
+    ///
+    /// # Errors
+    /// The sink's fault; then it has taken a front of their lines.
+    fn tell<T: Sink>(&mut self, sink: &mut T, report: &Report) -> Result<(), Fault>
+        requires room { T.failed sink.old + 1 < 2 ^ 64 }
+        requires few { self.old.lost + place_of report.now + 1 < 2 ^ 64 }
+        requires near { place_of report.now ≤ 2 ^ 43 }
+        requires tally { (r : List Report) × (length r + 1 < 2 ^ 44) × IsTallyOf self.old.tally r }
+        ensures lines { self.new.lines ≡ self.old.lines }
+        ensures tally { IfOk result (λ _. (r : List Report) → IsTallyOf self.old.tally r → IsTallyOf self.new.tally (r ++ report.now ∷ [])) }
+        ensures place { IfOk result (λ _. self.new.place ≡ behind_report self.old.place report.now) }
+        ensures lost { IfOk result (λ _. self.new.lost ≡ self.old.lost + length (filter is_lost (gaps_before self.old.tally.blocks self.old.place report.now))) }
+        ensures few { IfOk result (λ _. self.new.lost ≤ self.old.lost + place_of report.now + 1) }
+        ensures grew { IfOk result (λ _. Grew (T.taken sink.old) (T.taken sink.new)
+            (account_lines self.old.lines (gaps_before self.old.tally.blocks self.old.place report.now ++ reported report.now ∷ []))) }
+        ensures count { IfOk result (λ _. T.failed sink.new ≡ T.failed sink.old) }
+        ensures err { OnErr result ((T.failed sink.new ≡ T.failed sink.old + 1) × GrewFront (T.taken sink.old) (T.taken sink.new)
+            (account_lines self.old.lines (gaps_before self.old.tally.blocks self.old.place report.now ++ reported report.now ∷ []))) }
+    {
+        self.tell_before(sink, report)?;
+        tell_report(self.lines, report, sink)?;
+        self.tally.count(report);
+        Ok(())
+    }
+
+    /// Goes on to `seen` cells, which decide no report.
+    ///
+    /// # Errors
+    /// The sink's fault; then it has taken a front of what these cells write.
+    pub(crate) fn pass<T: Sink>(&mut self, sink: &mut T, seen: u64) -> Result<(), Fault>
+        requires room { T.failed sink.old + 1 < 2 ^ 64 }
+        requires following { (c d : List Level) × (seen ≤ 2 ^ 43) × (seen ≡ length (c ++ d))
+            × IsLedgerOf self.old c }
+        ensures lines { self.new.lines ≡ self.old.lines }
+        ensures next { IfOk result (λ _. WhereNone self.old seen (λ c d. IsLedgerOf self.new (c ++ d))) }
+        ensures grew { IfOk result (λ _. WhereNone self.old seen (λ c d.
+            Grew (T.taken sink.old) (T.taken sink.new) (behind (accounting self.old.lines) c d))) }
+        ensures count { IfOk result (λ _. T.failed sink.new ≡ T.failed sink.old) }
+        ensures err_count { OnErr result (T.failed sink.new ≡ T.failed sink.old + 1) }
+        ensures err_grew { OnErr result (WhereNone self.old seen (λ c d.
+            GrewFront (T.taken sink.old) (T.taken sink.new) (behind (accounting self.old.lines) c d))) }
+    {
+        self.tell_full(sink, seen.saturating_sub(BLOCK_CELLS))?;
+        Ok(())
+    }
+
+    /// Goes on to `seen` cells, which decide a report.
+    ///
+    /// # Errors
+    /// The sink's fault; then it has taken a front of what these cells write.
+    pub(crate) fn take<T: Sink>(
+        &mut self,
+        sink: &mut T,
+        report: &Report,
+        seen: u64,
+    ) -> Result<(), Fault>
+        requires room { T.failed sink.old + 1 < 2 ^ 64 }
+        requires following { (c d : List Level) × (seen ≤ 2 ^ 43) × (seen ≡ length (c ++ d)) × (decided (c ++ d) ≡ decided c ++ report.now ∷ [])
+            × IsLedgerOf self.old c }
+        ensures lines { self.new.lines ≡ self.old.lines }
+        ensures next { IfOk result (λ _. WhereDecided self.old seen report.now (λ c d. IsLedgerOf self.new (c ++ d))) }
+        ensures grew { IfOk result (λ _. WhereDecided self.old seen report.now (λ c d.
+            Grew (T.taken sink.old) (T.taken sink.new) (behind (accounting self.old.lines) c d))) }
+        ensures count { IfOk result (λ _. T.failed sink.new ≡ T.failed sink.old) }
+        ensures err_count { OnErr result (T.failed sink.new ≡ T.failed sink.old + 1) }
+        ensures err_grew { OnErr result (WhereDecided self.old seen report.now (λ c d.
+            GrewFront (T.taken sink.old) (T.taken sink.new) (behind (accounting self.old.lines) c d))) }
+    {
+        self.tell(sink, report)?;
+        self.tell_full(sink, seen.saturating_sub(BLOCK_CELLS))?;
+        Ok(())
+    }
+
+    /// Takes the end of `seen` cells, which decides no report.
+    ///
+    /// # Errors
+    /// The sink's fault; then it has taken a front of what the end writes.
+    pub(crate) fn close<T: Sink>(&mut self, sink: &mut T, seen: u64) -> Result<(), Fault>
+        requires room { T.failed sink.old + 1 < 2 ^ 64 }
+        requires following { (c : List Level) × (seen ≤ 2 ^ 43) × (seen ≡ length c)
+            × IsLedgerOf self.old c }
+        ensures done { IfOk result (λ _. AtEnd self.old seen [] (IsClosedLedgerOf self.new)) }
+        ensures grew { IfOk result (λ _. AtEnd self.old seen [] (λ c.
+            Grew (T.taken sink.old) (T.taken sink.new) ((accounting self.old.lines).ends c))) }
+        ensures count { IfOk result (λ _. T.failed sink.new ≡ T.failed sink.old) }
+        ensures err_count { OnErr result (T.failed sink.new ≡ T.failed sink.old + 1) }
+        ensures err_grew { OnErr result (AtEnd self.old seen [] (λ c.
+            GrewFront (T.taken sink.old) (T.taken sink.new) ((accounting self.old.lines).ends c))) }
+    {
+        self.tell_gaps(sink, seen, false)?;
+        Ok(())
+    }
+
+    /// Takes the end of `seen` cells, which decides a report.
+    ///
+    /// # Errors
+    /// The sink's fault; then it has taken a front of what the end writes.
+    pub(crate) fn close_with<T: Sink>(
+        &mut self,
+        sink: &mut T,
+        report: &Report,
+        seen: u64,
+    ) -> Result<(), Fault>
+        requires room { T.failed sink.old + 1 < 2 ^ 64 }
+        requires following { (c : List Level) × (seen ≤ 2 ^ 43) × (seen ≡ length c) × (reports c ≡ decided c ++ report.now ∷ [])
+            × IsLedgerOf self.old c }
+        ensures done { IfOk result (λ _. AtEnd self.old seen (report.now ∷ []) (IsClosedLedgerOf self.new)) }
+        ensures grew { IfOk result (λ _. AtEnd self.old seen (report.now ∷ []) (λ c.
+            Grew (T.taken sink.old) (T.taken sink.new) ((accounting self.old.lines).ends c))) }
+        ensures count { IfOk result (λ _. T.failed sink.new ≡ T.failed sink.old) }
+        ensures err_count { OnErr result (T.failed sink.new ≡ T.failed sink.old + 1) }
+        ensures err_grew { OnErr result (AtEnd self.old seen (report.now ∷ []) (λ c.
+            GrewFront (T.taken sink.old) (T.taken sink.new) ((accounting self.old.lines).ends c))) }
+    {
+        self.tell(sink, report)?;
+        self.tell_gaps(sink, seen, false)?;
+        Ok(())
+    }
+}
