@@ -1,7 +1,9 @@
 -- The cells of a word taken part by part.
-use Rattle.std.proofs.Common.{◌≡◌, ℕ, ◌+◌, ◌/◌, ◌%◌, ◌^◌, ◌<◌, ◌≤◌, List, [], ◌∷◌, ◌++◌, length, take, take_all, get_or, append-nil, ap, ◌∙◌, sym, subst, arith, append_assoc}
+use Rattle.std.proofs.Common.{◌≡◌, ℕ, ◌+◌, ◌/◌, ◌%◌, ◌^◌, ◌<◌, ◌≤◌, List, [], ◌∷◌, ◌++◌, length, take, drop, take_all, get_or, append-nil, ap, ◌∙◌, sym, subst, arith, append_assoc}
 use Rattle.std.specs.List.{flat_map}
+use Rattle.std.proofs.lemmas.Grind.{flat_map-append}
 use Rattle.std.proofs.lemmas.List.{flat_map_more, take_more}
+use Rattle.std.proofs.Math.Seq.{take-add}
 use Rattle.aes3_cell.specs.declared.level.Level.{Level}
 use Rattle.aes3_cell.specs.Words.{level_of, low_cells, word_cells}
 use Rattle.aes3_cell.proofs.WordCells.{length-low_cells, low_cells-add}
@@ -62,6 +64,12 @@ pub next-word : (c : List Level) (words : List ℕ) (i : ℕ) → i < length wor
     → (c ++ flat_map word_cells (take i words)) ++ word_cells (get_or words i 0) ≡ c ++ flat_map word_cells (take (i + 1) words)
 next-word c words i h =
     flat_map_more word_cells c (take i words) (get_or words i 0) ∙ ap (λ x. c ++ flat_map word_cells x) (sym (take_more words i 0 h))
+
+pub next-words : (c : List Level) (words rest : List ℕ) (i n : ℕ) → i ≤ length words → rest ≡ drop i words
+    → (c ++ flat_map word_cells (take i words)) ++ flat_map word_cells (take n rest) ≡ c ++ flat_map word_cells (take (i + n) words)
+next-words c words rest i n h e =
+    append_assoc c (flat_map word_cells (take i words)) (flat_map word_cells (take n rest))
+    ∙ ap (λ x. c ++ x) (sym (flat_map-append word_cells (take i words) (take n rest)) ∙ ap (flat_map word_cells) (ap (λ r. take i words ++ take n r) e ∙ sym (take-add i n words)))
 
 pub all-words : (words : List ℕ) (i : ℕ) → length words ≤ i → take i words ≡ take (length words) words
 all-words words i h = take_all i words h ∙ sym (take_all (length words) words (omega arith))

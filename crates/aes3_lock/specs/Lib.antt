@@ -19,3 +19,4 @@ pub use Rattle.aes3_slot.specs.Slots
 pub use Rattle.aes3_block.specs.Blocks
 pub mod Parts
 pub mod Splits
+pub mod Eights

@@ -4,6 +4,7 @@
 mod candidate;
 #[cfg(test)]
 mod damage_tests;
+mod eight;
 pub mod laws;
 mod lock;
 mod outcome;

@@ -1,5 +1,6 @@
 //! The lock.
 use crate::candidate::Candidate;
+use crate::eight::{are_subframes, eight_completed, keep_eight};
 use crate::outcome::{SLOTS, ending_at, left_report, no_words, report_with};
 use crate::parts::LockParts;
 use crate::recent::{PREAMBLE_CELLS, candidate_in, last_cell, with_cell};
@@ -219,6 +220,57 @@ impl Lock {
         true
     }
 
+    /// Takes eight words where all that they make whole are subframes behind the first of the candidate in hand, with right
+    /// parity, and says whether it did; else it changes nothing. It is `take_word` for almost every eight words of a line.
+    fn take_eight(&mut self, words: &[u64; 8]) -> bool
+        requires { self.old.seen + 512 ≤ 2 ^ 43 }
+        ensures seen { result ≡ true → self.new.seen ≡ self.old.seen + 512 }
+        ensures follows { result ≡ true → (cells : List Level) → Follows self.old cells
+            → Follows self.new (cells ++ flat_map word_cells words.now) }
+        ensures none { result ≡ true → (cells : List Level) → Follows self.old cells
+            → decided (cells ++ flat_map word_cells words.now) ≡ decided cells }
+        ensures left { result ≡ false → self.new ≡ self.old }
+    {
+        let Some(candidate) = self.candidate else {
+            return false;
+        };
+        let offset = self.seen - candidate.at;
+        if offset < SUBFRAME_CELLS || offset > BLOCK_CELLS - 8 * SUBFRAME_CELLS {
+            return false;
+        }
+        let slot = offset / SUBFRAME_CELLS;
+        let len = offset % SUBFRAME_CELLS;
+        let subframes = eight_completed(self.subframe, len, words);
+        let behind = rest_of(words[7], len);
+        if !are_subframes(candidate.level, slot, &subframes)
+            || !begins_subframe(candidate.level, mark_of(slot + 8), behind, len as u32)
+        {
+            return false;
+        }
+        self.seen += 512;
+        self.recent = last_octet(words[7]);
+        keep_eight(&mut self.words, slot as usize, &subframes);
+        self.subframe = behind;
+        true
+    }
+
+    /// Takes eight words from the front, as `take_eight` does, where there are so many.
+    fn take_front_eight(&mut self, words: &[u64]) -> bool
+        requires { self.old.seen + 64 * length words.now ≤ 2 ^ 43 }
+        ensures within { result ≡ true → 8 ≤ length words.now }
+        ensures seen { result ≡ true → self.new.seen ≡ self.old.seen + 512 }
+        ensures follows { result ≡ true → (cells : List Level) → Follows self.old cells
+            → Follows self.new (cells ++ flat_map word_cells (take 8 words.now)) }
+        ensures none { result ≡ true → (cells : List Level) → Follows self.old cells
+            → decided (cells ++ flat_map word_cells (take 8 words.now)) ≡ decided cells }
+        ensures left { result ≡ false → self.new ≡ self.old }
+    {
+        match words.first_chunk() {
+            Some(eight) => self.take_eight(eight),
+            None => false,
+        }
+    }
+
     /// Takes the words from the front, the first cell of each in its lowest bit, that decide no report, and answers how many.
     ///
     /// It is `take_word` for each of them: the next, if there is one, decides a report or begins a block.
@@ -235,12 +287,17 @@ impl Lock {
         ensures begins { result < length words.now → self.new.candidate ≡ None
             → BeginsIn (drop 1 self.new.recent ++ word_cells (get_or words.now result 0)) }
     {
-        for (taken, word) in words.iter().enumerate() {
-            if !self.take_word(*word) {
+        let mut taken = 0;
+        while taken < words.len() {
+            if self.take_front_eight(&words[taken..]) {
+                taken += 8;
+            } else if self.take_word(words[taken]) {
+                taken += 1;
+            } else {
                 return taken;
             }
         }
-        words.len()
+        taken
     }
 
     /// Takes the first `len` cells of a word into the last eight.

@@ -1,0 +1,222 @@
+-- Eight words of cells at once, behind those that a lock follows.
+use Rattle.std.proofs.Common.{◌≡◌, ℕ, zero, suc, ◌+◌, ◌-◌, ◌*◌, ◌/◌, ◌%◌, ◌==◌, ◌^◌, ◌<◌, ◌≤◌, ◌⊎◌, inl, inr, List, ◌++◌, Some, refl, length, take, drop, set, get_or, ap, ap₂, ◌∙◌, sym, subst, arith, length-drop, length-set, take-append-drop, take_all, append_assoc, add-one, get_or-set_same, get_or-set_other}
+use Rattle.std.specs.Prelude.{bit_or, if◌then◌else◌}
+use Rattle.std.specs.Int.{bit_at}
+use Rattle.std.specs.List.{flat_map}
+use Rattle.std.proofs.lemmas.Bool.{cases_eq}
+use Rattle.std.proofs.lemmas.List.{take_at}
+use Rattle.std.proofs.lemmas.Nat.{le_or_l, le_or_r}
+use Rattle.std.proofs.lemmas.Nat.Bits.{bit_at-zero}
+use Rattle.aes3_cell.specs.declared.level.Level.{Level}
+use Rattle.aes3_cell.specs.Words.{low_cells, word_cells, word_len}
+use Rattle.aes3_slot.specs.declared.mark.Mark.{Mark}
+use Rattle.aes3_slot.specs.declared.mark.Mark.TheVariants.{X, Y}
+use Rattle.aes3_slot.specs.Rules.{at}
+use Rattle.aes3_slot.specs.Fronts.{IsFrontOf, stands}
+use Rattle.aes3_slot.proofs.Fronts.{front-before}
+use Rattle.aes3_slot.proofs.Taken.{length-word}
+use Rattle.aes3_slot.proofs.Wrong.{true-from_zero}
+use Rattle.aes3_block.specs.Blocks.{mark_at, block_slots, block_len}
+use Rattle.aes3_lock.specs.declared.candidate.Candidate.{Candidate}
+use Rattle.aes3_lock.specs.Reports.{decided}
+use Rattle.aes3_lock.specs.Following.{LockState, Follows}
+use Rattle.aes3_lock.specs.Eights.{begun_before, with_first}
+use Rattle.aes3_lock.proofs.Following.{hand, offset}
+use Rattle.aes3_lock.proofs.SubframeWords.{cells-rest, rest-few, take-word}
+use Rattle.aes3_lock.proofs.TakenWords.{Parted, Fits, all-64, word-next}
+use Rattle.aes3_lock.proofs.PushedWords.{next-word, no-words}
+
+-- one more subframe is made whole
+pub one-completed : (len begun x front : ℕ) (words subframes : List ℕ) (i : ℕ) → i < length subframes → low_cells len front ≡ begun_before len begun words i
+    → word_cells x ≡ low_cells len front ++ take (64 - len) (word_cells (get_or words i 0))
+    → ((j : ℕ) → j < i → word_cells (get_or subframes j 0) ≡ begun_before len begun words j ++ take (64 - len) (word_cells (get_or words j 0)))
+    → (j : ℕ) → j < i + 1 → word_cells (get_or (set subframes i x) j 0) ≡ begun_before len begun words j ++ take (64 - len) (word_cells (get_or words j 0))
+one-completed len begun x front words subframes i h f is before j g = go (cases_eq j i)
+  where
+    go : (j ≡ i) ⊎ (j ≡ i → ⊥) → word_cells (get_or (set subframes i x) j 0) ≡ begun_before len begun words j ++ take (64 - len) (word_cells (get_or words j 0))
+    go (inl e) =
+        ap (λ n. word_cells (get_or (set subframes i x) n 0)) e ∙ ap word_cells (get_or-set_same subframes i x 0 h)
+        ∙ is ∙ ap (λ v. v ++ take (64 - len) (word_cells (get_or words i 0))) f
+        ∙ ap (λ n. begun_before len begun words n ++ take (64 - len) (word_cells (get_or words n 0))) (sym e)
+    go (inr e) = ap word_cells (get_or-set_other subframes i j x 0 e) ∙ before j (omega (arith, g, e))
+
+-- the preambles of subframes that are not a block's first
+pub mark-behind : (slot i : ℕ) → 0 < slot → (if (i % 2) == 0 then mark_at slot else mark_at (slot + 1)) ≡ mark_at (slot + i)
+unfolding mark_at
+mark-behind zero i h = absurd (omega arith)
+mark-behind (suc s) i h = go (cases_eq (i % 2) 0)
+  where
+    by : ℕ → Mark
+    by n = if n == 0 then Y else X
+
+    here : mark_at (suc s + i) ≡ (if ((s + i) % 2) == 0 then Y else X)
+    here = ap mark_at (let e : suc s + i ≡ suc (s + i) = omega arith in e)
+
+    next : mark_at (suc s + 1) ≡ (if ((s + 1) % 2) == 0 then Y else X)
+    next = ap mark_at (let e : suc s + 1 ≡ suc (s + 1) = omega arith in e)
+
+    go : (i % 2 ≡ 0) ⊎ (i % 2 ≡ 0 → ⊥) → (if (i % 2) == 0 then mark_at (suc s) else mark_at (suc s + 1)) ≡ mark_at (suc s + i)
+    go (inl e) =
+        ap (λ n. if n == 0 then mark_at (suc s) else mark_at (suc s + 1)) e
+        ∙ ap (λ n. if n == 0 then Y else X) (let q : s % 2 ≡ (s + i) % 2 = omega (arith, e) in q) ∙ sym here
+    go (inr e) =
+        ap (λ n. if n == 0 then mark_at (suc s) else mark_at (suc s + 1)) (let q : i % 2 ≡ 1 = omega (arith, e) in q)
+        ∙ next ∙ ap (λ n. if n == 0 then Y else X) (let q : (s + 1) % 2 ≡ (s + i) % 2 = omega (arith, e) in q) ∙ sym here
+
+-- what is wrong with subframes so far, and with one more
+pub none-wrong : (a b c : ℕ) → bit_or a (bit_or b c) ≡ 0 → (a ≡ 0) × (b ≡ 0) × (c ≡ 0)
+none-wrong a b c e =
+    let p = le_or_l a (bit_or b c) in
+    let q = le_or_r a (bit_or b c) in
+    let r = le_or_l b c in
+    let s = le_or_r b c in
+    (omega (arith, e, p), omega (arith, e, q, r), omega (arith, e, q, s))
+
+pub right-front : (s : Level) (m : Mark) (c w : ℕ) → w ≡ 0 → ((i : ℕ) → i < 64 → bit_at w i ≡ (if stands s m (word_cells c) i then 0 else 1))
+    → IsFrontOf s m (take 64 (word_cells c))
+right-front s m c w z h =
+    front-before s m (word_cells c) 64 (length-word c) (omega arith) (λ i g.
+    true-from_zero (stands s m (word_cells c) i) (sym (h i g) ∙ ap (λ x. bit_at x i) z ∙ bit_at-zero i))
+
+-- what holds of each so far, and of one more
+pub one-more : (P : ℕ → Type 0) (i : ℕ) → ((j : ℕ) → j < i → P j) → P i → (j : ℕ) → j < i + 1 → P j
+one-more P i before here j h = go (cases_eq j i)
+  where
+    go : (j ≡ i) ⊎ (j ≡ i → ⊥) → P j
+    go (inl e) = subst P (sym e) here
+    go (inr e) = before j (omega (arith, h, e))
+
+pub length-with_first : (place : ℕ) (kept new : List ℕ) (n : ℕ) → length (with_first place kept new n) ≡ length kept
+length-with_first place kept new zero = refl
+length-with_first place kept new (suc n) = length-set (with_first place kept new n) (place + n) (get_or new n 0) ∙ length-with_first place kept new n
+
+front-take : (s : Level) (m : Mark) (v : List Level) (p : ℕ) → IsFrontOf s m v → IsFrontOf s m (take p v)
+front-take s m v p f = record {
+  bits = f.bits;
+  count = f.count;
+  rest = drop p v ++ f.rest;
+  is = f.is ∙ ap (λ x. x ++ f.rest) (sym (take-append-drop p v)) ∙ append_assoc (take p v) (drop p v) f.rest;
+}
+
+rest-cells : (p w : ℕ) → p < 64 → low_cells p (w / 2 ^ 1 / 2 ^ (63 - p)) ≡ drop (64 - p) (word_cells w)
+unfolding word_cells word_len
+rest-cells p w h = cells-rest p w h
+
+-- the cells begun are few
+pub begun-few : (k : LockState) (t : Candidate) (c : List Level) → Follows k c → k.candidate ≡ Some t → k.subframe < 2 ^ ((k.seen - t.at) % 64)
+begun-few k t c f s = subst (λ n. k.subframe < 2 ^ (n % 64)) (sym (offset k t c f s)) (hand k t c f s).gathered.few
+
+-- words ws that make the subframes xs whole, which are right
+module _ (k : LockState) (t : Candidate) (c : List Level) (ws xs : List ℕ) (f : Follows k c) (s : k.candidate ≡ Some t) (lw : length k.words ≡ block_slots)
+    (count : length ws ≡ 8) (fit : (i : ℕ) → get_or ws i 0 < 2 ^ 64) (room : k.seen - t.at + 512 ≤ block_len)
+    (joined : (i : ℕ) → i < 8 → word_cells (get_or xs i 0) ≡ begun_before ((k.seen - t.at) % 64) k.subframe ws i ++ take (64 - (k.seen - t.at) % 64) (word_cells (get_or ws i 0)))
+    (fronts : (i : ℕ) → i < 8 → IsFrontOf t.level (mark_at ((k.seen - t.at) / 64 + i)) (take 64 (word_cells (get_or xs i 0))))
+    (levels : (i : ℕ) → i < 8 → at (word_cells (get_or xs i 0)) 63 ≡ t.level) where
+  abbrev o : ℕ
+  o = k.seen - t.at
+
+  abbrev p : ℕ
+  p = (k.seen - t.at) % 64
+
+  abbrev so_far : ℕ → List Level
+  so_far n = c ++ flat_map word_cells (take n ws)
+
+  -- the cells behind the last whole subframe begin the next one
+  abbrev rest : ℕ → ℕ
+  rest n = get_or ws n 0 / 2 ^ 1 / 2 ^ (63 - (k.seen - t.at) % 64)
+
+  rest-is : (n : ℕ) → low_cells p (rest n) ≡ drop (64 - p) (word_cells (get_or ws n 0))
+  rest-is n = rest-cells p (get_or ws n 0) (omega arith)
+
+  next-front : (n : ℕ) → suc n < 8 → IsFrontOf t.level (mark_at (o / 64 + suc n)) (take p (word_cells (rest n)))
+  next-front n h =
+      let w = get_or ws n 0 in
+      let x = get_or xs (suc n) 0 in
+      let a = length-drop (64 - p) (word_cells w) in
+      let l = length-word w in
+      subst (IsFrontOf t.level (mark_at (o / 64 + suc n)))
+      (ap (take p) (joined (suc n) h)
+      ∙ take_at (drop (64 - p) (word_cells w)) (take (64 - p) (word_cells (get_or ws (suc n) 0))) p (omega (arith, a, l))
+      ∙ sym (rest-is n) ∙ sym (take-word p (rest n) (omega arith)))
+      (front-take t.level (mark_at (o / 64 + suc n)) (word_cells x) p (subst (IsFrontOf t.level (mark_at (o / 64 + suc n))) (all-64 x) (fronts (suc n) h)))
+
+  -- a lock behind the first n words takes one more
+  step : (n : ℕ) → n < 8 → (kn : LockState) → Follows kn (so_far n) → decided (so_far n) ≡ decided c → kn.candidate ≡ Some t → kn.seen ≡ k.seen + 64 * n
+      → kn.words ≡ with_first (o / 64) k.words xs n
+      → (kn.subframe < 2 ^ p → low_cells p kn.subframe ≡ begun_before p k.subframe ws n)
+      → (y : ℕ) → low_cells p y ≡ drop (64 - p) (word_cells (get_or ws n 0)) → y < 2 ^ p → IsFrontOf t.level (mark_at (o / 64 + suc n)) (take p (word_cells y))
+      → (k' : LockState) → k'.seen ≡ k.seen + 64 * suc n → k'.recent ≡ drop 56 (word_cells (get_or ws n 0)) → k'.candidate ≡ Some t → k'.subframe ≡ y
+      → k'.words ≡ with_first (o / 64) k.words xs (suc n)
+      → Follows k' (so_far (suc n)) × (decided (so_far (suc n)) ≡ decided c)
+  step n h kn fn dn sn seen words begun y yc yf next k' e1 e2 e3 e4 e5 = (subst (Follows k') more one.0, ap decided (sym more) ∙ one.1 ∙ dn)
+    where
+      w : ℕ
+      w = get_or ws n 0
+
+      x : ℕ
+      x = get_or xs n 0
+
+      within : t.at ≤ k.seen
+      within = let a = (hand k t c f s).within in let b = f.seen in omega (arith, a, b)
+
+      off : kn.seen - t.at ≡ o + 64 * n
+      off = omega (arith, within, seen)
+
+      place : o / 64 + n ≡ (kn.seen - t.at) / 64
+      place = omega (arith, off)
+
+      part : p ≡ (kn.seen - t.at) % 64
+      part = omega (arith, off)
+
+      more : so_far n ++ word_cells w ≡ so_far (suc n)
+      more = next-word c ws n (omega (arith, count, h)) ∙ ap so_far (add-one n)
+
+      parted : Parted kn w x y (kn.seen - t.at)
+      parted = record {
+        whole = subst (λ q. kn.subframe < 2 ^ q → word_cells x ≡ low_cells q kn.subframe ++ take (64 - q) (word_cells w)) part
+            (λ b. joined n h ∙ ap (λ v. v ++ take (64 - p) (word_cells w)) (sym (begun b)));
+        rest = subst (λ q. low_cells q y ≡ drop (64 - q) (word_cells w)) part yc;
+        few = subst (λ q. y < 2 ^ q) part yf;
+      }
+
+      fits : Fits t x y (kn.seen - t.at)
+      fits = record {
+        room = omega (arith, off, room, h);
+        whole = subst (λ q. IsFrontOf t.level (mark_at q) (take 64 (word_cells x))) place (fronts n h);
+        next = subst (λ u. IsFrontOf u (mark_at ((kn.seen - t.at) / 64 + 1)) (take ((kn.seen - t.at) % 64) (word_cells y))) (sym (levels n h))
+            (subst (λ q. IsFrontOf t.level (mark_at q) (take ((kn.seen - t.at) % 64) (word_cells y))) (let q : o / 64 + suc n ≡ (kn.seen - t.at) / 64 + 1 = omega (arith, place) in q)
+            (subst (λ q. IsFrontOf t.level (mark_at (o / 64 + suc n)) (take q (word_cells y))) part next));
+      }
+
+      one : Follows k' (so_far n ++ word_cells w) × (decided (so_far n ++ word_cells w) ≡ decided (so_far n))
+      one = word-next kn t (so_far n) w x y fn sn parted k' (ap length words ∙ length-with_first (o / 64) k.words xs n ∙ lw) fits
+          (omega (arith, e1, seen)) e2 (e3 ∙ ap (λ v. Some (record { at = t.at; before = t.before; level = v })) (sym (levels n h))) e4
+          (e5 ∙ ap₂ (λ v q. set v q x) (sym words) place)
+
+  behind : (n : ℕ) → n < 8
+      → (y : ℕ) → low_cells p y ≡ drop (64 - p) (word_cells (get_or ws n 0)) → y < 2 ^ p → IsFrontOf t.level (mark_at (o / 64 + suc n)) (take p (word_cells y))
+      → (k' : LockState) → k'.seen ≡ k.seen + 64 * suc n → k'.recent ≡ drop 56 (word_cells (get_or ws n 0)) → k'.candidate ≡ Some t → k'.subframe ≡ y
+      → k'.words ≡ with_first (o / 64) k.words xs (suc n)
+      → Follows k' (so_far (suc n)) × (decided (so_far (suc n)) ≡ decided c)
+  behind zero h =
+      step 0 h k (subst (Follows k) (sym (no-words c ws)) f) (ap decided (no-words c ws)) s (omega arith) refl (λ b. refl)
+  behind (suc n) h =
+      let a = behind n (omega arith) (rest n) (rest-is n) (rest-few p (get_or ws n 0) (omega arith) (fit n)) (next-front n h) (mid n) refl refl refl refl refl in
+      step (suc n) h (mid n) a.0 a.1 refl refl refl (λ b. rest-is n)
+    where
+      mid : ℕ → LockState
+      mid n = record {
+        seen = k.seen + 64 * suc n;
+        recent = drop 56 (word_cells (get_or ws n 0));
+        candidate = Some t;
+        subframe = rest n;
+        words = with_first (o / 64) k.words xs (suc n);
+      }
+
+  pub eight-next : (y : ℕ) → low_cells p y ≡ drop (64 - p) (word_cells (get_or ws 7 0)) → y < 2 ^ p → IsFrontOf t.level (mark_at (o / 64 + 8)) (take p (word_cells y))
+      → (k' : LockState) → k'.seen ≡ k.seen + 512 → k'.recent ≡ drop 56 (word_cells (get_or ws 7 0)) → k'.candidate ≡ Some t → k'.subframe ≡ y
+      → k'.words ≡ with_first (o / 64) k.words xs 8
+      → Follows k' (c ++ flat_map word_cells ws) × (decided (c ++ flat_map word_cells ws) ≡ decided c)
+  eight-next y yc yf next k' e1 e2 e3 e4 e5 =
+      subst (λ v. Follows k' (c ++ flat_map word_cells v) × (decided (c ++ flat_map word_cells v) ≡ decided c)) (take_all 8 ws (omega (arith, count)))
+      (behind 7 (omega arith) y yc yf next k' e1 e2 e3 e4 e5)
