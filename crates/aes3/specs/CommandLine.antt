@@ -42,6 +42,9 @@ reader name = command name (packed_in ∷ [])
 abbrev pub check : Shape
 check = command (codes "check") (packed_in ∷ flag (codes "faults") ∷ flag (codes "gaps") ∷ [])
 
+abbrev pub show : Shape
+show = command (codes "show") (packed_in ∷ flag (codes "changes") ∷ [])
+
 abbrev pub normal : Shape
 normal = command (codes "normal") (packed_in ∷ packed_out ∷ [])
 
@@ -65,7 +68,7 @@ command_line = record {
     has_version = true;
   };
   subs = encode ∷ reader (codes "decode") ∷ normal ∷ check
-      ∷ reader (codes "show") ∷ reader (codes "scan") ∷ cut ∷ rewrite
+      ∷ show ∷ reader (codes "scan") ∷ cut ∷ rewrite
       ∷ reader (codes "to-pcm") ∷ [];
 }
 

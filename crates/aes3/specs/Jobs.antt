@@ -109,6 +109,10 @@ AsksFor name options (job.Account input told) =
     × (told ≡ lines_by options) × (is_set options (codes "gaps") ≡ true)
 AsksFor name options (job.Show input) =
     (name ≡ codes "show") × (input ≡ form_by options (codes "packed-in"))
+    × (is_set options (codes "changes") ≡ false)
+AsksFor name options (job.ShowChanges input) =
+    (name ≡ codes "show") × (input ≡ form_by options (codes "packed-in"))
+    × (is_set options (codes "changes") ≡ true)
 AsksFor name options (job.Scan input) =
     (name ≡ codes "scan") × (input ≡ form_by options (codes "packed-in"))
 AsksFor name options (job.Cut input output first count) =

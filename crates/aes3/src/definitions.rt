@@ -2,7 +2,7 @@
 
 ghost use Rattle.std.specs.Prelude.{IfOk};
 ghost use Rattle.clap.specs.Simple.{new_app};
-ghost use Rattle.aes3.specs.CommandLine.{IsDefinedAs, IsOption, app_with, check, command_line, cut, encode, flag, normal, number};
+ghost use Rattle.aes3.specs.CommandLine.{IsDefinedAs, IsOption, app_with, check, command_line, cut, encode, flag, normal, number, show};
 ghost use Rattle.aes3.specs.CommandLine.{packed_in, packed_out, reader, rewrite, text_option};
 
 use crate::help::{self, Texts};
@@ -83,6 +83,14 @@ fn check<'a>(alloc: Global) -> Result<Command<'a>, AllocError>
         .arg(flag(alloc, "gaps", "Tell and count cells in no whole block"))
 }
 
+fn show<'a>(alloc: Global) -> Result<Command<'a>, AllocError>
+    ensures { IfOk result (IsDefinedAs (app_with show)) }
+{
+    command(alloc, "show", help::SHOW)
+        .arg(packed_in(alloc))?
+        .arg(flag(alloc, "changes", "Leave out what is as in the block before"))
+}
+
 fn normal<'a>(alloc: Global) -> Result<Command<'a>, AllocError>
     ensures { IfOk result (IsDefinedAs (app_with normal)) }
 {
@@ -130,7 +138,7 @@ pub fn command_line<'a>(alloc: Global) -> Result<Command<'a>, AllocError>
         .subcommand(reader(alloc, "decode", help::DECODE)?)?
         .subcommand(normal(alloc)?)?
         .subcommand(check(alloc)?)?
-        .subcommand(reader(alloc, "show", help::SHOW)?)?
+        .subcommand(show(alloc)?)?
         .subcommand(reader(alloc, "scan", help::SCAN)?)?
         .subcommand(cut(alloc)?)?
         .subcommand(rewrite(alloc)?)?

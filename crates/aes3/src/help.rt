@@ -163,19 +163,22 @@ Examples:
 
 pub const SHOW: Texts<'static> = Texts {
     about: "Print the channel status of each whole block",
-    usage: "aes3 show [--packed-in] < FILE",
+    usage: "aes3 show [--packed-in] [--changes] < FILE",
     more: "Reads cells, begun anywhere and in either polarity.
 Writes two lines for each whole block, channel 1 and then channel 2: `block=N channel=C`,
 N from 0, then `consumer` or `professional`, then each field as `name=value`. A code that
 its table has no word for is printed as `code` and its number. `check` of professional
-use is `good`, `bad`, or `absent` where it does not hold and byte 23 is zero.
+use is `good`, `bad`, or `absent` where it does not hold and byte 23 is zero. With
+--changes both lines of the first block are written, and of each other a channel's line
+where its status is not that of the block before.
 
 Exit status: 0 done, also where no block was found; 3 refused: 1 a byte is no cell, 10
 packed cells end wrongly; or as for every command.
 
 Examples:
     aes3 cut 0 1 < line.txt | aes3 show
-    aes3 show < line.txt | grep -c rate=48000",
+    aes3 show < line.txt | grep -c rate=48000
+    aes3 show --changes < line.txt",
 };
 
 pub const SCAN: Texts<'static> = Texts {

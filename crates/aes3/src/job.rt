@@ -85,7 +85,7 @@ fn job_of_command(name: &str, options: &ArgMatches<'_>) -> Result<Job, LineFault
         "decode" => Ok(Job::Decode { input }),
         "normal" => Ok(Job::Normal { input, output }),
         "check" => Ok(check(options, input)),
-        "show" => Ok(Job::Show { input }),
+        "show" => Ok(show(options, input)),
         "scan" => Ok(Job::Scan { input }),
         "to-pcm" => Ok(Job::ToPcm { input }),
         "cut" => Ok(Job::Cut {
@@ -139,6 +139,19 @@ fn check(options: &ArgMatches<'_>, input: Form) -> Job
         Job::Account { input, lines }
     } else {
         Job::Check { input, lines }
+    }
+}
+
+/// The job of `show` with its options.
+fn show(options: &ArgMatches<'_>, input: Form) -> Job
+    requires changes { MayBeFlag (options_of options.now) (codes "changes") }
+    requires form { input ≡ form_by (options_of options.now) (codes "packed-in") }
+    ensures { AsksFor (codes "show") (options_of options.now) result }
+{
+    if options.get_flag("changes") {
+        Job::ShowChanges { input }
+    } else {
+        Job::Show { input }
     }
 }
 

@@ -123,6 +123,11 @@ fn commands_and_forms(rt: HostRuntime) {
         ),
         (&["show"], Job::Show { input: TEXT }),
         (&["show", "--packed-in"], Job::Show { input: PACKED }),
+        (&["show", "--changes"], Job::ShowChanges { input: TEXT }),
+        (
+            &["show", "--packed-in", "--changes"],
+            Job::ShowChanges { input: PACKED },
+        ),
         (&["scan"], Job::Scan { input: TEXT }),
         (&["scan", "--packed-in"], Job::Scan { input: PACKED }),
         (&["to-pcm"], Job::ToPcm { input: TEXT }),

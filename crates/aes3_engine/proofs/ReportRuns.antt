@@ -25,7 +25,7 @@ with-cells : (f : ℕ → Report → List ℕ) (e : List ℕ) (c : List Level) �
 with-cells f e c = with-reports (report_writing f e) c ∙ with-output f e (reports c)
 
 -- the counts
-counted : (form : Form) (b : List ℕ) (bytes cells blocks faults unfinished : ℕ) → bytes ≡ length b → cells ≡ length (cells_of form b) → Tallies blocks faults unfinished (reports (cells_of form b))
+pub counted : (form : Form) (b : List ℕ) (bytes cells blocks faults unfinished : ℕ) → bytes ≡ length b → cells ≡ length (cells_of form b) → Tallies blocks faults unfinished (reports (cells_of form b))
     → record { bytes = bytes; cells = cells; blocks = blocks; faults = faults; unfinished = unfinished; marks = 0 } ≡ counts_of form b
 unfolding counts_of blocks
 counted form b n c k f u e d t =

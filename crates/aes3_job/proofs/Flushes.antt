@@ -7,7 +7,7 @@ use Rattle.aes3_cell.specs.declared.counts.Counts.{Counts}
 use Rattle.aes3_cell.proofs.Growing.{front-all}
 use Rattle.aes3_engine.specs.Running.{Change, Quiet}
 use Rattle.aes3_job.specs.declared.job.Job.{Job}
-use Rattle.aes3_job.specs.declared.job.Job.TheVariants.{Encode, Decode, Normal, Check, Account, Show, Scan, Cut, Rewrite, ToPcm}
+use Rattle.aes3_job.specs.declared.job.Job.TheVariants.{Encode, Decode, Normal, Check, Account, Show, ShowChanges, Scan, Cut, Rewrite, ToPcm}
 use Rattle.aes3_job.specs.JobRuns.{Flushed, IsCauseFor, IsInputOf, IsWhole, JobDone, JobRefused, RunDone, RunRefused, most, status_by}
 use Rattle.aes3_job.specs.Lines.{refusal_line}
 
@@ -24,6 +24,7 @@ write-cause (Normal i o) b ended l = l
 write-cause (Check i lines) b ended l = l
 write-cause (Account i lines) b ended l = l
 write-cause (Show i) b ended l = l
+write-cause (ShowChanges i) b ended l = l
 write-cause (Scan i) b ended l = l
 write-cause (Cut i o from count) b ended l = l
 write-cause (Rewrite i o change) b ended l = l
@@ -36,6 +37,7 @@ whole-is (Normal f o) b ended i l e = record { input = i; short = l; end = e }
 whole-is (Check f lines) b ended i l e = record { input = i; short = l; end = e }
 whole-is (Account f lines) b ended i l e = record { input = i; short = l; end = e }
 whole-is (Show f) b ended i l e = record { input = i; short = l; end = e }
+whole-is (ShowChanges f) b ended i l e = record { input = i; short = l; end = e }
 whole-is (Scan f) b ended i l e = record { input = i; short = l; end = e }
 whole-is (Cut f o from count) b ended i l e = record { input = i; short = l; end = e }
 whole-is (Rewrite f o change) b ended i l e = record { input = i; short = l; end = e }

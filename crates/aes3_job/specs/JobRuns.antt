@@ -20,9 +20,9 @@ use Rattle.aes3_engine.specs.ReportRuns.{counts_of}
 use Rattle.aes3_engine.specs.BlockRuns.{begun_stream, written_stream, cut_blocks, decided_blocks}
 use Rattle.aes3_engine.specs.Rewriting.{rewritten_blocks}
 use Rattle.aes3_text.specs.Gaps.{account, begun_account}
-use Rattle.aes3_text.specs.Runs.{account_counts, account_lines, mark_lines, report_lines, scan_counts, status_lines}
+use Rattle.aes3_text.specs.Runs.{account_counts, account_lines, change_lines, mark_lines, report_lines, scan_counts, status_lines}
 use Rattle.aes3_job.specs.declared.job.Job.{Job}
-use Rattle.aes3_job.specs.declared.job.Job.TheVariants.{Encode, Decode, Normal, Check, Account, Show, Scan, Cut, Rewrite, ToPcm}
+use Rattle.aes3_job.specs.declared.job.Job.TheVariants.{Encode, Decode, Normal, Check, Account, Show, ShowChanges, Scan, Cut, Rewrite, ToPcm}
 use Rattle.aes3_job.specs.Lines.{refusal_line}
 
 -- how many bytes an input may have
@@ -37,6 +37,7 @@ IsInputOf (Normal i o) b = IsInput i b
 IsInputOf (Check i lines) b = IsInput i b
 IsInputOf (Account i lines) b = IsInput i b
 IsInputOf (Show i) b = IsInput i b
+IsInputOf (ShowChanges i) b = IsInput i b
 IsInputOf (Scan i) b = IsInput i b
 IsInputOf (Cut i o from count) b = IsInput i b
 IsInputOf (Rewrite i o change) b = IsInput i b
@@ -50,6 +51,7 @@ output_of (Normal i o) b = written o (normal (cells_of i b))
 output_of (Check i lines) b = report_lines lines (reports (cells_of i b))
 output_of (Account i lines) b = account_lines lines (account (cells_of i b))
 output_of (Show i) b = status_lines (blocks (cells_of i b))
+output_of (ShowChanges i) b = change_lines (blocks (cells_of i b))
 output_of (Scan i) b = mark_lines (marks (cells_of i b))
 output_of (Cut i o from count) b = written_stream o (cut_blocks from count (blocks (cells_of i b)))
 output_of (Rewrite i o change) b = written_stream o (rewritten_blocks change (blocks (cells_of i b)))
@@ -63,6 +65,7 @@ begun_of (Normal i o) b = begun_stream o (decided_blocks (cells_before i b))
 begun_of (Check i lines) b = report_lines lines (decided (cells_before i b))
 begun_of (Account i lines) b = account_lines lines (begun_account (cells_before i b))
 begun_of (Show i) b = status_lines (decided_blocks (cells_before i b))
+begun_of (ShowChanges i) b = change_lines (decided_blocks (cells_before i b))
 begun_of (Scan i) b = mark_lines (marks (cells_before i b))
 begun_of (Cut i o from count) b = begun_stream o (cut_blocks from count (decided_blocks (cells_before i b)))
 begun_of (Rewrite i o change) b = begun_stream o (rewritten_blocks change (decided_blocks (cells_before i b)))
@@ -76,6 +79,7 @@ IsWhole (Normal i o) b ended = WholeInput most i b ended
 IsWhole (Check i lines) b ended = WholeInput most i b ended
 IsWhole (Account i lines) b ended = WholeInput most i b ended
 IsWhole (Show i) b ended = WholeInput most i b ended
+IsWhole (ShowChanges i) b ended = WholeInput most i b ended
 IsWhole (Scan i) b ended = WholeInput most i b ended
 IsWhole (Cut i o from count) b ended = WholeInput most i b ended
 IsWhole (Rewrite i o change) b ended = WholeInput most i b ended
@@ -89,6 +93,7 @@ counts_for (Normal i o) b = counts_of i b
 counts_for (Check i lines) b = counts_of i b
 counts_for (Account i lines) b = account_counts i b
 counts_for (Show i) b = counts_of i b
+counts_for (ShowChanges i) b = counts_of i b
 counts_for (Scan i) b = scan_counts i b
 counts_for (Cut i o from count) b = counts_of i b
 counts_for (Rewrite i o change) b = counts_of i b
@@ -102,6 +107,7 @@ IsCauseFor (Normal i o) b ended e = IsCause i most b ended e
 IsCauseFor (Check i lines) b ended e = IsCause i most b ended e
 IsCauseFor (Account i lines) b ended e = IsCause i most b ended e
 IsCauseFor (Show i) b ended e = IsCause i most b ended e
+IsCauseFor (ShowChanges i) b ended e = IsCause i most b ended e
 IsCauseFor (Scan i) b ended e = IsCause i most b ended e
 IsCauseFor (Cut i o from count) b ended e = IsCause i most b ended e
 IsCauseFor (Rewrite i o change) b ended e = IsCause i most b ended e
@@ -115,6 +121,7 @@ status_by (Normal i o) n = 0
 status_by (Check i lines) n = if n.faults == 0 then 0 else 1
 status_by (Account i lines) n = if n.faults == 0 then 0 else 1
 status_by (Show i) n = 0
+status_by (ShowChanges i) n = 0
 status_by (Scan i) n = 0
 status_by (Cut i o from count) n = 0
 status_by (Rewrite i o change) n = 0

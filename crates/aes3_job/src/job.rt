@@ -34,6 +34,10 @@ pub enum Job {
     Show {
         input: Form,
     },
+    /// Those of them that differ from the block before.
+    ShowChanges {
+        input: Form,
+    },
     /// A line for each preamble.
     Scan {
         input: Form,

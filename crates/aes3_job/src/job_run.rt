@@ -7,7 +7,7 @@ ghost use Rattle.aes3_job.specs.JobRuns.{RunRan, status_by};
 use crate::job::Job;
 use aes3_cell::{Counts, RunError, Sink, Source};
 use aes3_engine::{cut, decode, encode, normalise, rewrite, to_pcm};
-use aes3_text::{account, check, scan, show};
+use aes3_text::{account, check, scan, show, show_changes};
 
 /// How many bytes an input may have.
 const MAX_BYTES: u64 = 1 << 40;
@@ -50,6 +50,7 @@ pub fn run_job<S: Source, T: Sink>(
         Job::Check { input, lines } => check(source, sink, MAX_BYTES, input, lines),
         Job::Account { input, lines } => account(source, sink, MAX_BYTES, input, lines),
         Job::Show { input } => show(source, sink, MAX_BYTES, input),
+        Job::ShowChanges { input } => show_changes(source, sink, MAX_BYTES, input),
         Job::Scan { input } => scan(source, sink, MAX_BYTES, input),
         Job::Cut {
             input,

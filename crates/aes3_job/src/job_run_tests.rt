@@ -380,11 +380,13 @@ fn status_of_cells(rt: HostRuntime) -> Result<(), Fail> {
     let two = shown(rt.alloc(), 2)?;
     let text = Job::Show { input: TEXT };
     let packed = Job::Show { input: PACKED };
+    let changes = Job::ShowChanges { input: TEXT };
     let rows = [
         to_lines(text, &of.two, &two, first_line(24_961, &one)),
         to_lines(text, &of.early, &one, Early::Nothing),
         to_lines(text, &of.other, &one, Early::Nothing),
         to_lines(packed, &of.packed, &two, first_line(3_075, &one)),
+        to_lines(changes, &of.two, &one, first_line(24_961, &one)),
     ];
     expect_rows(&rt, rt.alloc(), &rows);
     Ok(())

@@ -1,5 +1,6 @@
 pub mod Tables
 pub mod RunLines
+pub mod StatusChanges
 pub mod Scans
 pub mod StatusFlips
 pub mod GapLemmas

@@ -1,6 +1,8 @@
 -- The lines of whole runs.
-use Rattle.std.specs.Prelude.{ℕ, List, [], ◌∷◌, ◌++◌, Bool, length, drop, ◌≡◌, ◌≤◌, ◌+◌, ◌^◌}
-use Rattle.std.specs.List.{filter, flat_map}
+use Rattle.std.specs.Prelude.{ℕ, suc, List, [], ◌∷◌, ◌++◌, Bool, length, drop, ◌≡◌, ◌≤◌, ◌+◌, ◌^◌, Option, Some, None, if◌then◌else◌}
+use Rattle.std.specs.List.{filter, flat_map, last_or}
+use Rattle.std.specs.Option.{option_map}
+use Rattle.std.specs.Str.{bytes_eq}
 use Rattle.aes3_cell.specs.declared.level.Level.{Level}
 use Rattle.aes3_cell.specs.declared.form.Form.{Form}
 use Rattle.aes3_cell.specs.declared.counts.Counts.{Counts}
@@ -9,8 +11,9 @@ use Rattle.aes3_block.specs.declared.status.Channel.{Channel}
 use Rattle.aes3_block.specs.declared.status.Channel.TheVariants.{First, Second}
 use Rattle.aes3_block.specs.Statuses.{status_of}
 use Rattle.aes3_lock.specs.declared.report.Report.{Report}
+use Rattle.aes3_lock.specs.declared.report.Report.TheVariants.{Whole, Marked, Fault, Unfinished}
 use Rattle.aes3_lock.specs.Preambles.{marks}
-use Rattle.aes3_lock.specs.Reports.{blocks, decided, reports}
+use Rattle.aes3_lock.specs.Reports.{blocks, decided, reports, wholes}
 use Rattle.aes3_lock.specs.Following.{ScanState, ScanFollows}
 use Rattle.aes3_engine.specs.Taking.{Writing}
 use Rattle.aes3_engine.specs.Inputs.{cells_of}
@@ -86,6 +89,47 @@ channel_lines n b = channel_line First n b ++ channel_line Second n b
 
 abbrev pub status_lines : List (List (List Bool)) → List ℕ
 status_lines bs = numbered channel_lines 0 bs
+
+-- the line of a channel's status in block n, unless the block before it, if there is one, has the same status
+unfoldable pub change_line : Channel → ℕ → Option (List ℕ) → List ℕ → List ℕ
+change_line channel n None status = status_line n channel status
+change_line channel n (Some before) status = if bytes_eq before status then [] else status_line n channel status
+
+-- a channel's status in a block, if there is one
+abbrev pub status_in : Channel → Option (List (List Bool)) → Option (List ℕ)
+status_in channel b = option_map (λ a. status_of a channel) b
+
+-- the lines of block n behind a block, if there is one; and those of blocks, the first of number n: each behind the one before it
+unfoldable pub block_changes : ℕ → Option (List (List Bool)) → List (List Bool) → List ℕ
+block_changes n before b =
+    change_line First n (status_in First before) (status_of b First) ++ change_line Second n (status_in Second before) (status_of b Second)
+
+abbrev pub changes_from : ℕ → Option (List (List Bool)) → List (List (List Bool)) → List ℕ
+changes_from n before [] = []
+changes_from n before (b ∷ bs) = block_changes n before b ++ changes_from (suc n) (Some b) bs
+
+-- of blocks numbered from 0: both lines of the first, and each channel's line where its status is not that of the block before
+abbrev pub change_lines : List (List (List Bool)) → List ℕ
+change_lines bs = changes_from 0 None bs
+
+-- a reporter that writes so
+abbrev pub report_changes : List (List (List Bool)) → Report → List ℕ
+report_changes bs (Whole at s b) = block_changes (length bs) (last_or None bs) b
+report_changes bs (Marked at s wrong) = []
+report_changes bs (Fault at cell why) = []
+report_changes bs (Unfinished at cells) = []
+
+unfoldable pub changing : Writing Report
+changing = record { adds = λ r x. report_changes (wholes r) x; ends = λ r. [] }
+
+-- the statuses of the last of blocks, if there is one; and with them the counters of the reports r
+pub record AreLast (first second : Option (List ℕ)) (bs : List (List (List Bool))) : Type 0 where
+  pub first_is : first ≡ status_in First (last_or None bs)
+  pub second_is : second ≡ status_in Second (last_or None bs)
+
+pub record Changes (first second : Option (List ℕ)) (blocks faults unfinished : ℕ) (r : List Report) : Type 0 where
+  pub last : AreLast first second (wholes r)
+  pub tally : Tallies blocks faults unfinished r
 
 -- the lines of preambles
 unfoldable pub line_of : ℕ × Mark × Level → List ℕ

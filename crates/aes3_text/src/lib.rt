@@ -3,6 +3,7 @@
 #![tactic(auto)]
 
 mod accounting;
+mod changing;
 mod checking;
 mod consumer;
 mod fields;
@@ -20,6 +21,7 @@ mod status;
 mod words;
 
 pub use accounting::account;
+pub use changing::show_changes;
 pub use checking::check;
 pub use gap::line_of_gap;
 pub use lines::Lines;

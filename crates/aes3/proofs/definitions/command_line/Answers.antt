@@ -31,8 +31,8 @@ returns c =
     let two = with_command _ _ _ _ _ c.in_ok-subcommand-2.ensures one c.in_ok-reader.ensures in
     let three = with_command _ _ _ _ _ c.in_ok-subcommand-3.ensures two c.in_ok-normal.ensures in
     let four = with_command _ _ _ _ _ c.in_ok-subcommand-4.ensures three c.in_ok-check.ensures in
-    let five = with_command _ _ _ _ _ c.in_ok-subcommand-5.ensures four c.in_ok-reader-2.ensures in
-    let six = with_command _ _ _ _ _ c.in_ok-subcommand-6.ensures five c.in_ok-reader-3.ensures in
+    let five = with_command _ _ _ _ _ c.in_ok-subcommand-5.ensures four c.in_ok-show.ensures in
+    let six = with_command _ _ _ _ _ c.in_ok-subcommand-6.ensures five c.in_ok-reader-2.ensures in
     let seven = with_command _ _ _ _ _ c.in_ok-subcommand-7.ensures six c.in_ok-cut.ensures in
     let eight = with_command _ _ _ _ _ c.in_ok-subcommand-8.ensures seven c.in_ok-rewrite.ensures in
-    IfOk-weaker c.subcommand-9.result _ _ (λ new added. with_command _ _ _ _ _ added eight c.in_ok-reader-4.ensures) c.subcommand-9.ensures
+    IfOk-weaker c.subcommand-9.result _ _ (λ new added. with_command _ _ _ _ _ added eight c.in_ok-reader-3.ensures) c.subcommand-9.ensures

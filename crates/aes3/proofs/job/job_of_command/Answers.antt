@@ -18,6 +18,12 @@ check-requires-clause-gaps c = (flags_stand c.requires.0 c.args.name.now (option
 pub returns-in-check-clause-job : goal.returns-in-check-clause-job
 returns-in-check-clause-job c = subst (λ n. AsksFor n (options_of c.args.options.now) c.check.result) (sym c.in-check.is) c.check.ensures
 
+pub show-requires-clause-changes : goal.show-requires-clause-changes
+show-requires-clause-changes c = (flags_stand c.requires.0 c.args.name.now (options_of c.args.options.now) c.requires.1).5
+
+pub returns-in-show-clause-job : goal.returns-in-show-clause-job
+returns-in-show-clause-job c = subst (λ n. AsksFor n (options_of c.args.options.now) c.show.result) (sym c.in-show.is) c.show.ensures
+
 pub number-requires : goal.number-requires
 number-requires c = (numbers_stand c.requires.0 c.args.name.now (options_of c.args.options.now) c.requires.1 c.in-cut.is).0
 

@@ -35,6 +35,11 @@ returns-in-Show g c =
     cells-job c.show.result c.in-Show.is c.show.ensures.run
     (record { input = λ b i. i; given = λ b i. i; output = λ b. refl; begun_is = λ b. refl; counts_is = λ b. refl; cause = λ b e x h. h; whole_is = λ b e w. w })
 
+pub returns-in-ShowChanges : goal.returns-in-ShowChanges
+returns-in-ShowChanges g c =
+    cells-job c.show_changes.result c.in-ShowChanges.is c.show_changes.ensures.run
+    (record { input = λ b i. i; given = λ b i. i; output = λ b. refl; begun_is = λ b. refl; counts_is = λ b. refl; cause = λ b e x h. h; whole_is = λ b e w. w })
+
 pub returns-in-Scan : goal.returns-in-Scan
 returns-in-Scan g c =
     cells-job c.scan.result c.in-Scan.is c.scan.ensures.run
