@@ -1,8 +1,8 @@
 //! The cells of a block.
 
-ghost use Rattle.std.specs.Prelude.{◌≡◌, ◌<◌, ◌+◌, ◌^◌, IfOk, OnErr};
+ghost use Rattle.std.specs.Prelude.{◌≡◌, ◌<◌, ◌+◌, ◌^◌};
 ghost use Rattle.std.specs.List.{flat_map};
-ghost use Rattle.aes3_cell.specs.Ends.{Grew, GrewFront};
+ghost use Rattle.aes3_cell.specs.Writes.{Wrote};
 ghost use Rattle.aes3_cell.specs.Text.{text_of};
 ghost use Rattle.aes3_cell.specs.Words.{word_cells};
 ghost use Rattle.aes3_cell.specs.Written.{bytes_of};
@@ -47,9 +47,8 @@ pub fn put_block<T: Sink>(
     sink: &mut T,
 ) -> Result<(), Fault>
     requires room { T.failed sink.old + 1 < 2 ^ 64 }
-    ensures cells { IfOk result (λ _. Grew (T.taken sink.old) (T.taken sink.new) (bytes_of form (block_cells before block.now))) }
-    ensures count { IfOk result (λ _. T.failed sink.new ≡ T.failed sink.old) }
-    ensures err { OnErr result ((T.failed sink.new ≡ T.failed sink.old + 1) × GrewFront (T.taken sink.old) (T.taken sink.new) (bytes_of form (block_cells before block.now))) }
+    ensures { Wrote T.taken T.failed sink.old sink.new
+        (bytes_of form (block_cells before block.now)) result }
 {
     let mut cells = [0; SLOTS];
     fill_block_cells(before, block, &mut cells);
@@ -62,9 +61,8 @@ pub fn put_block<T: Sink>(
 /// The sink's fault; then it has taken a front of the text.
 pub fn put_block_cells<T: Sink>(before: Level, block: &Block, sink: &mut T) -> Result<(), Fault>
     requires room { T.failed sink.old + 1 < 2 ^ 64 }
-    ensures text { IfOk result (λ _. Grew (T.taken sink.old) (T.taken sink.new) (text_of (block_cells before block.now))) }
-    ensures count { IfOk result (λ _. T.failed sink.new ≡ T.failed sink.old) }
-    ensures err { OnErr result ((T.failed sink.new ≡ T.failed sink.old + 1) × GrewFront (T.taken sink.old) (T.taken sink.new) (text_of (block_cells before block.now))) }
+    ensures { Wrote T.taken T.failed sink.old sink.new
+        (text_of (block_cells before block.now)) result }
 {
     put_block(Form::Text, before, block, sink)
 }

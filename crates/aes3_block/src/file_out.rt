@@ -1,8 +1,8 @@
 //! Block files as they are written.
 
-ghost use Rattle.std.specs.Prelude.{◌≡◌, ◌<◌, ◌+◌, ◌^◌, ℕ, IfOk, OnErr, get_or, length};
+ghost use Rattle.std.specs.Prelude.{◌≡◌, ◌<◌, ◌+◌, ◌^◌, ℕ, get_or, length};
 ghost use Rattle.std.specs.List.{flat_map};
-ghost use Rattle.aes3_cell.specs.Ends.{Grew, GrewFront};
+ghost use Rattle.aes3_cell.specs.Writes.{Wrote};
 ghost use Rattle.aes3_block.specs.Files.{block_bytes, word_bytes};
 
 use crate::block::{Block, SLOTS};
@@ -35,9 +35,7 @@ fn bytes_of_words(words: &[u32; SLOTS]) -> [u8; BLOCK_BYTES]
 /// The sink's fault; then it has taken a front of the bytes.
 pub fn put_block_file<T: Sink>(block: &Block, sink: &mut T) -> Result<(), Fault>
     requires room { T.failed sink.old + 1 < 2 ^ 64 }
-    ensures bytes { IfOk result (λ _. Grew (T.taken sink.old) (T.taken sink.new) (block_bytes block.now)) }
-    ensures count { IfOk result (λ _. T.failed sink.new ≡ T.failed sink.old) }
-    ensures err { OnErr result ((T.failed sink.new ≡ T.failed sink.old + 1) × GrewFront (T.taken sink.old) (T.taken sink.new) (block_bytes block.now)) }
+    ensures { Wrote T.taken T.failed sink.old sink.new (block_bytes block.now) result }
 {
     write_all(sink, &bytes_of_words(block.words()))
 }

@@ -1,9 +1,9 @@
 //! The cells of a block that was read from a line.
 
-ghost use Rattle.std.specs.Prelude.{◌≡◌, ◌<◌, ◌+◌, ◌^◌, IfOk, OnErr, map, take, true};
+ghost use Rattle.std.specs.Prelude.{◌≡◌, ◌<◌, ◌+◌, ◌^◌, map, take, true};
 ghost use Rattle.std.specs.List.{flat_map};
 ghost use Rattle.aes3_cell.specs.Cells.{line};
-ghost use Rattle.aes3_cell.specs.Ends.{Grew, GrewFront};
+ghost use Rattle.aes3_cell.specs.Writes.{Wrote};
 ghost use Rattle.aes3_cell.specs.Words.{word_cells};
 ghost use Rattle.aes3_cell.specs.Written.{bytes_of};
 ghost use Rattle.aes3_slot.specs.ReadWords.{read_word, read_words};
@@ -72,9 +72,8 @@ pub fn put_read_block<T: Sink>(
     sink: &mut T,
 ) -> Result<(), Fault>
     requires room { T.failed sink.old + 1 < 2 ^ 64 }
-    ensures cells { IfOk result (λ _. Grew (T.taken sink.old) (T.taken sink.new) (bytes_of form (block_cells before (map (take payload_len) (read_words words.now))))) }
-    ensures count { IfOk result (λ _. T.failed sink.new ≡ T.failed sink.old) }
-    ensures err { OnErr result ((T.failed sink.new ≡ T.failed sink.old + 1) × GrewFront (T.taken sink.old) (T.taken sink.new) (bytes_of form (block_cells before (map (take payload_len) (read_words words.now))))) }
+    ensures { Wrote T.taken T.failed sink.old sink.new
+        (bytes_of form (block_cells before (map (take payload_len) (read_words words.now)))) result }
 {
     let mut cells = [0; SLOTS];
     fill_read_cells(before, words, &mut cells);

@@ -1,8 +1,8 @@
 //! Samples as they are written for sound programs.
 
-ghost use Rattle.std.specs.Prelude.{◌≡◌, ◌<◌, ◌+◌, ◌^◌, IfOk, OnErr, map};
+ghost use Rattle.std.specs.Prelude.{◌≡◌, ◌<◌, ◌+◌, ◌^◌, map};
 ghost use Rattle.std.specs.List.{flat_map};
-ghost use Rattle.aes3_cell.specs.Ends.{Grew, GrewFront};
+ghost use Rattle.aes3_cell.specs.Writes.{Wrote};
 ghost use Rattle.aes3_block.specs.Files.{payload_of, word_bytes};
 ghost use Rattle.aes3_block.specs.Samples.{block_samples, sample_of};
 
@@ -37,9 +37,7 @@ fn bytes_of_samples(words: &[u32; SLOTS]) -> [u8; BLOCK_BYTES]
 /// The sink's fault; then it has taken a front of the bytes.
 pub fn put_block_samples<T: Sink>(block: &Block, sink: &mut T) -> Result<(), Fault>
     requires room { T.failed sink.old + 1 < 2 ^ 64 }
-    ensures bytes { IfOk result (λ _. Grew (T.taken sink.old) (T.taken sink.new) (block_samples block.now)) }
-    ensures count { IfOk result (λ _. T.failed sink.new ≡ T.failed sink.old) }
-    ensures err { OnErr result ((T.failed sink.new ≡ T.failed sink.old + 1) × GrewFront (T.taken sink.old) (T.taken sink.new) (block_samples block.now)) }
+    ensures { Wrote T.taken T.failed sink.old sink.new (block_samples block.now) result }
 {
     write_all(sink, &bytes_of_samples(block.words()))
 }

@@ -1,4 +1,5 @@
 pub mod Growing
+pub mod Writing
 pub mod WordCells
 pub mod Moves
 pub mod Lines

@@ -4,6 +4,7 @@ pub mod Text
 pub mod CellText
 pub mod Packed
 pub mod Ends
+pub mod Writes
 pub mod Refusals
 pub mod Memory
 pub mod Pending

@@ -1,7 +1,8 @@
 //! Where bytes come from and go to.
 
 ghost use Rattle.std.specs.Prelude.{◌≡◌, ℕ, ◌+◌, ◌<◌, ◌≤◌, ◌^◌, ◌↔◌, List, Option, Bool, length, take, IfOk, OnErr, IsTrue};
-ghost use Rattle.aes3_cell.specs.Ends.{Grew, GrewFront};
+ghost use Rattle.aes3_cell.specs.Ends.{Grew};
+ghost use Rattle.aes3_cell.specs.Writes.{Wrote};
 
 /// A device's fault. No byte was moved.
 #[derive(Clone, Copy, PartialEq, Eq, Debug)]
@@ -74,9 +75,7 @@ pub trait Sink {
 /// The sink's fault; then it has taken a front of the bytes.
 pub fn write_all<T: Sink>(sink: &mut T, bytes: &[u8]) -> Result<(), Fault>
     requires room { T.failed sink.old + 1 < 2 ^ 64 }
-    ensures all { IfOk result (λ _. Grew (T.taken sink.old) (T.taken sink.new) bytes.now) }
-    ensures count { IfOk result (λ _. T.failed sink.new ≡ T.failed sink.old) }
-    ensures err { OnErr result ((T.failed sink.new ≡ T.failed sink.old + 1) × GrewFront (T.taken sink.old) (T.taken sink.new) bytes.now) }
+    ensures { Wrote T.taken T.failed sink.old sink.new bytes.now result }
 {
     let mut at = 0;
     while at < bytes.len() {

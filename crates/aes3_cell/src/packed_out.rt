@@ -23,9 +23,9 @@ impl Model for PackedOut {
     ghost invariant = { λ p. (p.len < 64) × (p.word < 2 ^ p.len) };
 }
 
-ghost use Rattle.std.specs.Prelude.{◌≡◌, ◌+◌, ◌*◌, ◌<◌, ◌^◌, [], false, take, length, reverse, IfOk, OnErr, IsErr, IsTrue, ◌↔◌};
-ghost use Rattle.aes3_cell.specs.Ends.{Grew, GrewFront};
-ghost use Rattle.aes3_cell.specs.Packed.{octets_needed, octets_of, packed_of};
+ghost use Rattle.std.specs.Prelude.{◌≡◌, ◌+◌, ◌*◌, ◌<◌, ◌^◌, [], false, take, reverse, IfOk, IsErr, IsTrue, ◌↔◌};
+ghost use Rattle.aes3_cell.specs.Writes.{Wrote};
+ghost use Rattle.aes3_cell.specs.Packed.{octets_needed, packed_of};
 ghost use Rattle.aes3_cell.specs.PackedPending.{octets_added};
 ghost use Rattle.aes3_cell.specs.Pending.{begun_after};
 ghost use Rattle.aes3_cell.specs.Words.{bit_of, low_cells};
@@ -90,11 +90,9 @@ impl PackedOut {
     pub fn put<T: Sink>(&mut self, sink: &mut T, level: Level) -> Result<(), Fault>
         requires open { self.old.failed ≡ false }
         requires room { T.failed sink.old + 1 < 2 ^ 64 }
-        ensures octets { IfOk result (λ _. Grew (T.taken sink.old) (T.taken sink.new) (octets_added self.old.cells level)) }
+        ensures wrote { Wrote T.taken T.failed sink.old sink.new (octets_added self.old.cells level) result }
         ensures begun { IfOk result (λ _. self.new.cells ≡ begun_after self.old.cells level) }
-        ensures count { IfOk result (λ _. T.failed sink.new ≡ T.failed sink.old) }
         ensures failed { IsTrue self.new.failed ↔ IsErr result }
-        ensures err { OnErr result ((T.failed sink.new ≡ T.failed sink.old + 1) × GrewFront (T.taken sink.old) (T.taken sink.new) (octets_added self.old.cells level)) }
     {
         let word = with_cell_behind(self.word, level);
         if self.len + 1 < WORD_LEN {
@@ -120,9 +118,7 @@ impl PackedOut {
     pub fn end<T: Sink>(self, sink: &mut T) -> Result<(), Fault>
         requires open { self.failed ≡ false }
         requires room { T.failed sink.old + 1 < 2 ^ 64 }
-        ensures octets { IfOk result (λ _. Grew (T.taken sink.old) (T.taken sink.new) (packed_of self.cells)) }
-        ensures count { IfOk result (λ _. T.failed sink.new ≡ T.failed sink.old) }
-        ensures err { OnErr result ((T.failed sink.new ≡ T.failed sink.old + 1) × GrewFront (T.taken sink.old) (T.taken sink.new) (packed_of self.cells)) }
+        ensures { Wrote T.taken T.failed sink.old sink.new (packed_of self.cells) result }
     {
         let needed = self.len.div_ceil(8) as usize;
         write_all(sink, &last_octets(self.word, self.len)[..needed + 1])

@@ -21,8 +21,8 @@ impl Model for TextOut {
     ghost invariant = { λ t. (t.len < 64) × (t.word < 2 ^ t.len) };
 }
 
-ghost use Rattle.std.specs.Prelude.{◌≡◌, ◌+◌, ◌<◌, ◌^◌, [], false, IfOk, OnErr, IsErr, IsTrue, ◌↔◌};
-ghost use Rattle.aes3_cell.specs.Ends.{Grew, GrewFront};
+ghost use Rattle.std.specs.Prelude.{◌≡◌, ◌+◌, ◌<◌, ◌^◌, [], false, IfOk, IsErr, IsTrue, ◌↔◌};
+ghost use Rattle.aes3_cell.specs.Writes.{Wrote};
 ghost use Rattle.aes3_cell.specs.Pending.{text_added, begun_after};
 
 use crate::ends::{Fault, Sink, write_all};
@@ -56,11 +56,9 @@ impl TextOut {
     pub fn put<T: Sink>(&mut self, sink: &mut T, level: Level) -> Result<(), Fault>
         requires open { self.old.failed ≡ false }
         requires room { T.failed sink.old + 1 < 2 ^ 64 }
-        ensures text { IfOk result (λ _. Grew (T.taken sink.old) (T.taken sink.new) (text_added self.old.cells level)) }
+        ensures wrote { Wrote T.taken T.failed sink.old sink.new (text_added self.old.cells level) result }
         ensures begun { IfOk result (λ _. self.new.cells ≡ begun_after self.old.cells level) }
-        ensures count { IfOk result (λ _. T.failed sink.new ≡ T.failed sink.old) }
         ensures failed { IsTrue self.new.failed ↔ IsErr result }
-        ensures err { OnErr result ((T.failed sink.new ≡ T.failed sink.old + 1) × GrewFront (T.taken sink.old) (T.taken sink.new) (text_added self.old.cells level)) }
     {
         let word = with_cell(self.word, self.len, level);
         if self.len + 1 < WORD_LEN {

@@ -3,6 +3,7 @@
 ghost use Rattle.std.specs.Prelude.{◌≡◌, ◌<◌, ◌≤◌, ◌+◌, ◌^◌, length, take, IfOk, OnErr};
 ghost use Rattle.std.specs.List.{flat_map};
 ghost use Rattle.aes3_cell.specs.Ends.{Grew, GrewFront};
+ghost use Rattle.aes3_cell.specs.Writes.{Wrote};
 ghost use Rattle.aes3_cell.specs.Words.{word_cells};
 ghost use Rattle.aes3_cell.specs.Written.{bytes_of, ending};
 ghost use Rattle.aes3_cell.specs.declared.form.Form.TheVariants.{Text, Packed};
@@ -17,9 +18,7 @@ use crate::word::{LINE_LEN, line_of_word, octets_of_word};
 /// The sink's fault; then it has taken a front of the bytes.
 pub fn put_word<T: Sink>(form: Form, word: u64, sink: &mut T) -> Result<(), Fault>
     requires room { T.failed sink.old + 1 < 2 ^ 64 }
-    ensures cells { IfOk result (λ _. Grew (T.taken sink.old) (T.taken sink.new) (bytes_of form (word_cells word))) }
-    ensures count { IfOk result (λ _. T.failed sink.new ≡ T.failed sink.old) }
-    ensures err { OnErr result ((T.failed sink.new ≡ T.failed sink.old + 1) × GrewFront (T.taken sink.old) (T.taken sink.new) (bytes_of form (word_cells word))) }
+    ensures { Wrote T.taken T.failed sink.old sink.new (bytes_of form (word_cells word)) result }
 {
     match form {
         Form::Text => write_all(sink, &line_of_word(word)),
@@ -55,9 +54,8 @@ fn octets_of_words(words: &[u64; MANY]) -> [u8; 8 * MANY]
 /// Writes as many words as one buffer holds.
 fn put_many<T: Sink>(form: Form, words: &[u64; MANY], sink: &mut T) -> Result<(), Fault>
     requires room { T.failed sink.old + 1 < 2 ^ 64 }
-    ensures cells { IfOk result (λ _. Grew (T.taken sink.old) (T.taken sink.new) (bytes_of form (flat_map word_cells words.now))) }
-    ensures count { IfOk result (λ _. T.failed sink.new ≡ T.failed sink.old) }
-    ensures err { OnErr result ((T.failed sink.new ≡ T.failed sink.old + 1) × GrewFront (T.taken sink.old) (T.taken sink.new) (bytes_of form (flat_map word_cells words.now))) }
+    ensures { Wrote T.taken T.failed sink.old sink.new
+        (bytes_of form (flat_map word_cells words.now)) result }
 {
     match form {
         Form::Text => write_all(sink, &lines_of_words(words)),
@@ -89,9 +87,8 @@ fn put_front<T: Sink>(form: Form, words: &[u64], sink: &mut T) -> Result<usize, 
 /// Writes words one by one.
 fn put_each<T: Sink>(form: Form, words: &[u64], sink: &mut T) -> Result<(), Fault>
     requires room { T.failed sink.old + 1 < 2 ^ 64 }
-    ensures cells { IfOk result (λ _. Grew (T.taken sink.old) (T.taken sink.new) (bytes_of form (flat_map word_cells words.now))) }
-    ensures count { IfOk result (λ _. T.failed sink.new ≡ T.failed sink.old) }
-    ensures err { OnErr result ((T.failed sink.new ≡ T.failed sink.old + 1) × GrewFront (T.taken sink.old) (T.taken sink.new) (bytes_of form (flat_map word_cells words.now))) }
+    ensures { Wrote T.taken T.failed sink.old sink.new
+        (bytes_of form (flat_map word_cells words.now)) result }
 {
     for word in words.iter() {
         match put_word(form, *word, sink) {
@@ -108,9 +105,8 @@ fn put_each<T: Sink>(form: Form, words: &[u64], sink: &mut T) -> Result<(), Faul
 /// The sink's fault; then it has taken a front of the bytes.
 pub fn put_words<T: Sink>(form: Form, words: &[u64], sink: &mut T) -> Result<(), Fault>
     requires room { T.failed sink.old + 1 < 2 ^ 64 }
-    ensures cells { IfOk result (λ _. Grew (T.taken sink.old) (T.taken sink.new) (bytes_of form (flat_map word_cells words.now))) }
-    ensures count { IfOk result (λ _. T.failed sink.new ≡ T.failed sink.old) }
-    ensures err { OnErr result ((T.failed sink.new ≡ T.failed sink.old + 1) × GrewFront (T.taken sink.old) (T.taken sink.new) (bytes_of form (flat_map word_cells words.now))) }
+    ensures { Wrote T.taken T.failed sink.old sink.new
+        (bytes_of form (flat_map word_cells words.now)) result }
 {
     match put_front(form, words, sink) {
         Ok(written) => put_each(form, &words[written..], sink),
@@ -124,9 +120,7 @@ pub fn put_words<T: Sink>(form: Form, words: &[u64], sink: &mut T) -> Result<(),
 /// The sink's fault; then it has taken nothing.
 pub fn put_ending<T: Sink>(form: Form, sink: &mut T) -> Result<(), Fault>
     requires room { T.failed sink.old + 1 < 2 ^ 64 }
-    ensures ending { IfOk result (λ _. Grew (T.taken sink.old) (T.taken sink.new) (ending form)) }
-    ensures count { IfOk result (λ _. T.failed sink.new ≡ T.failed sink.old) }
-    ensures err { OnErr result ((T.failed sink.new ≡ T.failed sink.old + 1) × GrewFront (T.taken sink.old) (T.taken sink.new) (ending form)) }
+    ensures { Wrote T.taken T.failed sink.old sink.new (ending form) result }
 {
     match form {
         Form::Text => Ok(()),

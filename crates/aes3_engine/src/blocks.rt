@@ -1,7 +1,7 @@
 //! Runs that read cells and write something of each block.
 
-ghost use Rattle.std.specs.Prelude.{◌≡◌, ℕ, ◌+◌, ◌<◌, ◌≤◌, ◌^◌, List, Bool, IfOk, OnErr, map, take};
-ghost use Rattle.aes3_cell.specs.Ends.{Grew, GrewFront};
+ghost use Rattle.std.specs.Prelude.{ℕ, ◌+◌, ◌<◌, ◌≤◌, ◌^◌, List, Bool, map, take};
+ghost use Rattle.aes3_cell.specs.Writes.{Wrote};
 ghost use Rattle.aes3_slot.specs.ReadWords.{read_words};
 ghost use Rattle.aes3_slot.specs.Slots.{payload_len};
 ghost use Rattle.aes3_engine.specs.ReportRuns.{ReportRun};
@@ -25,9 +25,8 @@ pub trait BlockWriter {
     /// The sink's fault; then it has taken a front of the bytes.
     fn put<T: Sink>(&self, sink: &mut T, number: u64, block: &Block) -> Result<(), Fault>
         requires room { T.failed sink.old + 1 < 2 ^ 64 }
-        ensures grew { IfOk result (λ _. Grew (T.taken sink.old) (T.taken sink.new) (writes self.now number block.now)) }
-        ensures count { IfOk result (λ _. T.failed sink.new ≡ T.failed sink.old) }
-        ensures err { OnErr result ((T.failed sink.new ≡ T.failed sink.old + 1) × GrewFront (T.taken sink.old) (T.taken sink.new) (writes self.now number block.now)) };
+        ensures { Wrote T.taken T.failed sink.old sink.new
+            (writes self.now number block.now) result };
 
     /// Writes what it makes of block `number` as `put` does, where the cells of its 384 subframes are at hand, 64 each, the
     /// earliest in bit 0. What needs no bits gathers none.
@@ -36,9 +35,8 @@ pub trait BlockWriter {
     /// The sink's fault; then it has taken a front of the bytes.
     fn put_read<T: Sink>(&self, sink: &mut T, number: u64, words: &[u64; 384]) -> Result<(), Fault>
         requires room { T.failed sink.old + 1 < 2 ^ 64 }
-        ensures grew { IfOk result (λ _. Grew (T.taken sink.old) (T.taken sink.new) (writes self.now number (map (take payload_len) (read_words words.now)))) }
-        ensures count { IfOk result (λ _. T.failed sink.new ≡ T.failed sink.old) }
-        ensures err { OnErr result ((T.failed sink.new ≡ T.failed sink.old + 1) × GrewFront (T.taken sink.old) (T.taken sink.new) (writes self.now number (map (take payload_len) (read_words words.now)))) }
+        ensures { Wrote T.taken T.failed sink.old sink.new
+            (writes self.now number (map (take payload_len) (read_words words.now))) result }
     {
         let block = Block::of_cells(words);
         self.put(sink, number, &block)
@@ -50,9 +48,7 @@ pub trait BlockWriter {
     /// The sink's fault; then it has taken a front of the bytes.
     fn put_end<T: Sink>(&self, sink: &mut T) -> Result<(), Fault>
         requires room { T.failed sink.old + 1 < 2 ^ 64 }
-        ensures grew { IfOk result (λ _. Grew (T.taken sink.old) (T.taken sink.new) (ends self.now)) }
-        ensures count { IfOk result (λ _. T.failed sink.new ≡ T.failed sink.old) }
-        ensures err { OnErr result ((T.failed sink.new ≡ T.failed sink.old + 1) × GrewFront (T.taken sink.old) (T.taken sink.new) (ends self.now)) };
+        ensures { Wrote T.taken T.failed sink.old sink.new (ends self.now) result };
 }
 
 /// Hands the blocks of whole reports to a writer.

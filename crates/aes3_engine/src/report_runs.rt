@@ -1,7 +1,7 @@
 //! Runs that read cells and write something of each report on them.
 
-ghost use Rattle.std.specs.Prelude.{◌≡◌, ℕ, ◌+◌, ◌<◌, ◌≤◌, ◌^◌, List, [], IfOk, OnErr};
-ghost use Rattle.aes3_cell.specs.Ends.{Grew, GrewFront};
+ghost use Rattle.std.specs.Prelude.{◌≡◌, ℕ, ◌+◌, ◌<◌, ◌≤◌, ◌^◌, List, []};
+ghost use Rattle.aes3_cell.specs.Writes.{Wrote};
 ghost use Rattle.aes3_lock.specs.declared.report.Report.{Report};
 ghost use Rattle.aes3_lock.specs.Following.{report_in};
 ghost use Rattle.aes3_engine.specs.ReportRuns.{IsTallyOf, ReportRun, report_writing};
@@ -26,9 +26,8 @@ pub trait ReportWriter {
     /// The sink's fault; then it has taken a front of the bytes.
     fn put<T: Sink>(&self, sink: &mut T, blocks: u64, report: &Report) -> Result<(), Fault>
         requires room { T.failed sink.old + 1 < 2 ^ 64 }
-        ensures grew { IfOk result (λ _. Grew (T.taken sink.old) (T.taken sink.new) (writes self.now blocks report.now)) }
-        ensures count { IfOk result (λ _. T.failed sink.new ≡ T.failed sink.old) }
-        ensures err { OnErr result ((T.failed sink.new ≡ T.failed sink.old + 1) × GrewFront (T.taken sink.old) (T.taken sink.new) (writes self.now blocks report.now)) };
+        ensures { Wrote T.taken T.failed sink.old sink.new
+            (writes self.now blocks report.now) result };
 
     /// Writes what it makes of the report of an ending that a lock has just answered, as `put` does. What needs no block
     /// makes none.
@@ -43,9 +42,8 @@ pub trait ReportWriter {
         ending: Ending,
     ) -> Result<(), Fault>
         requires room { T.failed sink.old + 1 < 2 ^ 64 }
-        ensures grew { IfOk result (λ _. Grew (T.taken sink.old) (T.taken sink.new) (writes self.now blocks (report_in lock.now ending))) }
-        ensures count { IfOk result (λ _. T.failed sink.new ≡ T.failed sink.old) }
-        ensures err { OnErr result ((T.failed sink.new ≡ T.failed sink.old + 1) × GrewFront (T.taken sink.old) (T.taken sink.new) (writes self.now blocks (report_in lock.now ending))) }
+        ensures { Wrote T.taken T.failed sink.old sink.new
+            (writes self.now blocks (report_in lock.now ending)) result }
     {
         let told = lock.report(ending);
         self.put(sink, blocks, &told)
@@ -57,9 +55,7 @@ pub trait ReportWriter {
     /// The sink's fault; then it has taken a front of the bytes.
     fn put_end<T: Sink>(&self, sink: &mut T) -> Result<(), Fault>
         requires room { T.failed sink.old + 1 < 2 ^ 64 }
-        ensures grew { IfOk result (λ _. Grew (T.taken sink.old) (T.taken sink.new) (ends self.now)) }
-        ensures count { IfOk result (λ _. T.failed sink.new ≡ T.failed sink.old) }
-        ensures err { OnErr result ((T.failed sink.new ≡ T.failed sink.old + 1) × GrewFront (T.taken sink.old) (T.taken sink.new) (ends self.now)) };
+        ensures { Wrote T.taken T.failed sink.old sink.new (ends self.now) result };
 }
 
 /// Counts reports, and hands them to a writer.

@@ -1,8 +1,9 @@
 //! The line of a refusal, and its exit status.
 
-ghost use Rattle.std.specs.Prelude.{◌≡◌, ◌<◌, ◌≤◌, ◌+◌, ◌++◌, ◌^◌, decimal, length, IfOk, OnErr};
+ghost use Rattle.std.specs.Prelude.{◌≡◌, ◌<◌, ◌≤◌, ◌+◌, ◌++◌, ◌^◌, decimal, length};
 ghost use Rattle.arrayvec.specs.ArrayVec.{array_vec_len};
-ghost use Rattle.aes3_cell.specs.Ends.{Grew, GrewFront};
+ghost use Rattle.aes3_cell.specs.Ends.{Grew};
+ghost use Rattle.aes3_cell.specs.Writes.{Wrote};
 ghost use Rattle.aes3_job.specs.Lines.{place_text, refusal_line};
 
 use aes3_cell::{Fault, RunError, Sink, write_all};
@@ -54,9 +55,7 @@ fn append_place(line: &mut ArrayVec<u8, LINE_LEN>, place: Option<u64>)
 /// The sink's fault; then it has taken a front of the line.
 pub fn put_refusal<T: Sink>(error: RunError, sink: &mut T) -> Result<(), Fault>
     requires room { T.failed sink.old + 1 < 2 ^ 64 }
-    ensures line { IfOk result (λ _. Grew (T.taken sink.old) (T.taken sink.new) (refusal_line error)) }
-    ensures count { IfOk result (λ _. T.failed sink.new ≡ T.failed sink.old) }
-    ensures err { OnErr result ((T.failed sink.new ≡ T.failed sink.old + 1) × GrewFront (T.taken sink.old) (T.taken sink.new) (refusal_line error)) }
+    ensures { Wrote T.taken T.failed sink.old sink.new (refusal_line error) result }
 {
     let mut line: ArrayVec<u8, LINE_LEN> = ArrayVec::new();
     append(&mut line, b"aes3: refused ");

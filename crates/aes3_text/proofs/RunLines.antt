@@ -1,9 +1,6 @@
 -- The lines of reports and of blocks, one behind the other.
-use Rattle.std.proofs.Common.{◌≡◌, ℕ, Bool, ◌+◌, List, [], ◌∷◌, ◌++◌, length, refl, ap, ◌∙◌, append-nil, Option, Result, Ok, Err, IfOk, OnErr}
+use Rattle.std.proofs.Common.{◌≡◌, ℕ, Bool, ◌+◌, List, [], ◌∷◌, ◌++◌, length, refl, ap, ◌∙◌, append-nil}
 use Rattle.aes3_cell.specs.declared.level.Level.{Level}
-use Rattle.aes3_cell.specs.declared.ends.Fault as device
-use Rattle.aes3_cell.specs.Ends.{Grew, GrewFront}
-use Rattle.aes3_cell.proofs.Growing.{grew-join, front-join}
 use Rattle.aes3_lock.specs.declared.report.Ending.{Ending}
 use Rattle.aes3_lock.specs.declared.report.Ending.TheVariants.{Whole, Marked, Fault}
 use Rattle.aes3_lock.specs.declared.report.Report.{Report}
@@ -41,13 +38,3 @@ show-whole c = append-nil (output (report_bytes channel_lines) (reports c)) ∙ 
 
 pub show-begun : (c : List Level) → output (report_bytes channel_lines) (decided c) ≡ status_lines (decided_blocks c)
 show-begun c = blocks-output channel_lines 0 (decided c)
-
--- two writes, the second the answer
-pub both-grew : (t t' t'' : Option (List ℕ)) (x y : List ℕ) (result : Result (Unit {0}) device.Fault) → Grew t t' x → IfOk result (λ (u : Unit {0}). Grew t' t'' y) → IfOk result (λ (u : Unit {0}). Grew t t'' (x ++ y))
-both-grew t t' t'' x y (Ok u) g h = grew-join g h
-both-grew t t' t'' x y (Err e) g h = tt
-
-pub both-front : (t t' t'' : Option (List ℕ)) (k k' k'' : ℕ) (x y : List ℕ) (result : Result (Unit {0}) device.Fault) → k' ≡ k → Grew t t' x → OnErr result ((k'' ≡ k' + 1) × GrewFront t' t'' y)
-    → OnErr result ((k'' ≡ k + 1) × GrewFront t t'' (x ++ y))
-both-front t t' t'' k k' k'' x y (Ok u) q g h = tt
-both-front t t' t'' k k' k'' x y (Err e) q g h = (h.0 ∙ ap (λ n. n + 1) q, front-join g h.1)

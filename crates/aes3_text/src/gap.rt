@@ -1,7 +1,7 @@
 //! The line of a gap.
 
-ghost use Rattle.std.specs.Prelude.{◌≡◌, ◌+◌, ◌<◌, ◌^◌, IfOk, OnErr};
-ghost use Rattle.aes3_cell.specs.Ends.{Grew, GrewFront};
+ghost use Rattle.std.specs.Prelude.{◌+◌, ◌<◌, ◌^◌};
+ghost use Rattle.aes3_cell.specs.Writes.{Wrote};
 ghost use Rattle.aes3_text.specs.Lines.{gap_line};
 
 use crate::line::Line;
@@ -13,9 +13,7 @@ use aes3_cell::{Fault, Sink};
 /// The sink's fault; then it has taken a front of the line.
 pub fn line_of_gap<T: Sink>(at: u64, cells: u64, sink: &mut T) -> Result<(), Fault>
     requires room { T.failed sink.old + 1 < 2 ^ 64 }
-    ensures line { IfOk result (λ _. Grew (T.taken sink.old) (T.taken sink.new) (gap_line at cells)) }
-    ensures count { IfOk result (λ _. T.failed sink.new ≡ T.failed sink.old) }
-    ensures err { OnErr result ((T.failed sink.new ≡ T.failed sink.old + 1) × GrewFront (T.taken sink.old) (T.taken sink.new) (gap_line at cells)) }
+    ensures { Wrote T.taken T.failed sink.old sink.new (gap_line at cells) result }
 {
     let mut line = Line::new();
     line.text("gap at ");

@@ -4,6 +4,7 @@ ghost use Rattle.std.specs.Prelude.{◌≡◌, ◌+◌, ◌-◌, ◌<◌, ◌≤
 ghost use Rattle.std.specs.List.{filter};
 ghost use Rattle.aes3_cell.specs.declared.level.Level.{Level};
 ghost use Rattle.aes3_cell.specs.Ends.{Grew, GrewFront};
+ghost use Rattle.aes3_cell.specs.Writes.{Wrote};
 ghost use Rattle.aes3_lock.specs.declared.report.Report.{Report};
 ghost use Rattle.aes3_lock.specs.Remains.{place_of};
 ghost use Rattle.aes3_lock.specs.Reports.{decided, reports};
@@ -57,10 +58,8 @@ impl Ledger {
         ensures place { IfOk result (λ _. self.new.place ≡ behind_full self.old.place to) }
         ensures lost { IfOk result (λ _. self.new.lost ≡ self.old.lost + full_count self.old.place to) }
         ensures few { IfOk result (λ _. self.new.lost ≤ self.old.lost + to) }
-        ensures grew { IfOk result (λ _. Grew (T.taken sink.old) (T.taken sink.new) (account_lines self.old.lines (full_gaps self.old.place (full_count self.old.place to)))) }
-        ensures count { IfOk result (λ _. T.failed sink.new ≡ T.failed sink.old) }
-        ensures err { OnErr result ((T.failed sink.new ≡ T.failed sink.old + 1)
-            × GrewFront (T.taken sink.old) (T.taken sink.new) (account_lines self.old.lines (full_gaps self.old.place (full_count self.old.place to)))) }
+        ensures wrote { Wrote T.taken T.failed sink.old sink.new
+            (account_lines self.old.lines (full_gaps self.old.place (full_count self.old.place to))) result }
     {
         let count = to.saturating_sub(self.place) / BLOCK_CELLS;
         'gaps: for _told in 0..count {
@@ -82,10 +81,8 @@ impl Ledger {
         ensures tally { self.new.tally ≡ self.old.tally }
         ensures lost { self.new.lost ≡ self.old.lost + length (filter is_lost (rest_gap counts self.old.place to)) }
         ensures few { self.new.lost ≤ self.old.lost + 1 }
-        ensures grew { IfOk result (λ _. Grew (T.taken sink.old) (T.taken sink.new) (account_lines self.old.lines (rest_gap counts self.old.place to))) }
-        ensures count { IfOk result (λ _. T.failed sink.new ≡ T.failed sink.old) }
-        ensures err { OnErr result ((T.failed sink.new ≡ T.failed sink.old + 1)
-            × GrewFront (T.taken sink.old) (T.taken sink.new) (account_lines self.old.lines (rest_gap counts self.old.place to))) }
+        ensures wrote { Wrote T.taken T.failed sink.old sink.new
+            (account_lines self.old.lines (rest_gap counts self.old.place to)) result }
     {
         if self.place >= to {
             return Ok(());
@@ -107,10 +104,8 @@ impl Ledger {
         ensures tally { self.new.tally ≡ self.old.tally }
         ensures lost { IfOk result (λ _. self.new.lost ≡ self.old.lost + length (filter is_lost (gaps counts self.old.place to))) }
         ensures few { IfOk result (λ _. self.new.lost ≤ self.old.lost + to + 1) }
-        ensures grew { IfOk result (λ _. Grew (T.taken sink.old) (T.taken sink.new) (account_lines self.old.lines (gaps counts self.old.place to))) }
-        ensures count { IfOk result (λ _. T.failed sink.new ≡ T.failed sink.old) }
-        ensures err { OnErr result ((T.failed sink.new ≡ T.failed sink.old + 1)
-            × GrewFront (T.taken sink.old) (T.taken sink.new) (account_lines self.old.lines (gaps counts self.old.place to))) }
+        ensures wrote { Wrote T.taken T.failed sink.old sink.new
+            (account_lines self.old.lines (gaps counts self.old.place to)) result }
     {
         self.tell_full(sink, to)?;
         self.tell_rest(sink, to, counts)?;
@@ -130,10 +125,8 @@ impl Ledger {
         ensures place { IfOk result (λ _. self.new.place ≡ behind_report self.old.place report.now) }
         ensures lost { IfOk result (λ _. self.new.lost ≡ self.old.lost + length (filter is_lost (gaps_before self.old.tally.blocks self.old.place report.now))) }
         ensures few { IfOk result (λ _. self.new.lost ≤ self.old.lost + place_of report.now + 1) }
-        ensures grew { IfOk result (λ _. Grew (T.taken sink.old) (T.taken sink.new) (account_lines self.old.lines (gaps_before self.old.tally.blocks self.old.place report.now))) }
-        ensures count { IfOk result (λ _. T.failed sink.new ≡ T.failed sink.old) }
-        ensures err { OnErr result ((T.failed sink.new ≡ T.failed sink.old + 1)
-            × GrewFront (T.taken sink.old) (T.taken sink.new) (account_lines self.old.lines (gaps_before self.old.tally.blocks self.old.place report.now))) }
+        ensures wrote { Wrote T.taken T.failed sink.old sink.new
+            (account_lines self.old.lines (gaps_before self.old.tally.blocks self.old.place report.now)) result }
     {
         match report {
             Report::Whole { at, .. } => {
@@ -162,11 +155,8 @@ impl Ledger {
         ensures place { IfOk result (λ _. self.new.place ≡ behind_report self.old.place report.now) }
         ensures lost { IfOk result (λ _. self.new.lost ≡ self.old.lost + length (filter is_lost (gaps_before self.old.tally.blocks self.old.place report.now))) }
         ensures few { IfOk result (λ _. self.new.lost ≤ self.old.lost + place_of report.now + 1) }
-        ensures grew { IfOk result (λ _. Grew (T.taken sink.old) (T.taken sink.new)
-            (account_lines self.old.lines (gaps_before self.old.tally.blocks self.old.place report.now ++ reported report.now ∷ []))) }
-        ensures count { IfOk result (λ _. T.failed sink.new ≡ T.failed sink.old) }
-        ensures err { OnErr result ((T.failed sink.new ≡ T.failed sink.old + 1) × GrewFront (T.taken sink.old) (T.taken sink.new)
-            (account_lines self.old.lines (gaps_before self.old.tally.blocks self.old.place report.now ++ reported report.now ∷ []))) }
+        ensures wrote { Wrote T.taken T.failed sink.old sink.new
+            (account_lines self.old.lines (gaps_before self.old.tally.blocks self.old.place report.now ++ reported report.now ∷ [])) result }
     {
         self.tell_before(sink, report)?;
         tell_report(self.lines, report, sink)?;

@@ -26,8 +26,8 @@ impl Model for Line {
 }
 
 impl Line {
-    ghost use Rattle.std.specs.Prelude.{◌≡◌, ◌<◌, ◌≤◌, ◌+◌, [], ◌∷◌, ◌++◌, ◌^◌, decimal, length, IfOk, OnErr};
-    ghost use Rattle.aes3_cell.specs.Ends.{Grew, GrewFront};
+    ghost use Rattle.std.specs.Prelude.{◌≡◌, ◌<◌, ◌≤◌, ◌+◌, [], ◌∷◌, ◌++◌, ◌^◌, decimal, length};
+    ghost use Rattle.aes3_cell.specs.Writes.{Wrote};
     ghost use Rattle.aes3_text.specs.Lines.{level_digit};
 
     /// An empty line.
@@ -85,9 +85,7 @@ impl Line {
     pub(crate) fn end<T: Sink>(mut self, sink: &mut T) -> Result<(), Fault>
         requires space { length self + 1 ≤ LINE_LEN }
         requires room { T.failed sink.old + 1 < 2 ^ 64 }
-        ensures line { IfOk result (λ _. Grew (T.taken sink.old) (T.taken sink.new) (self ++ 10 ∷ [])) }
-        ensures count { IfOk result (λ _. T.failed sink.new ≡ T.failed sink.old) }
-        ensures err { OnErr result ((T.failed sink.new ≡ T.failed sink.old + 1) × GrewFront (T.taken sink.old) (T.taken sink.new) (self ++ 10 ∷ [])) }
+        ensures { Wrote T.taken T.failed sink.old sink.new (self ++ 10 ∷ []) result }
     {
         self.text("\n");
         write_all(sink, self.bytes.as_slice())

@@ -1,7 +1,7 @@
 //! The line of a preamble.
 
-ghost use Rattle.std.specs.Prelude.{◌≡◌, ◌<◌, ◌+◌, ◌^◌, IfOk, OnErr};
-ghost use Rattle.aes3_cell.specs.Ends.{Grew, GrewFront};
+ghost use Rattle.std.specs.Prelude.{◌≡◌, ◌<◌, ◌+◌, ◌^◌};
+ghost use Rattle.aes3_cell.specs.Writes.{Wrote};
 ghost use Rattle.aes3_text.specs.Lines.{mark_letter, mark_line};
 
 use crate::line::Line;
@@ -28,9 +28,7 @@ fn letter(mark: Mark) -> &'static str
 #[inline(never)]
 pub fn line_of_mark<T: Sink>(at: u64, mark: Mark, before: Level, sink: &mut T) -> Result<(), Fault>
     requires room { T.failed sink.old + 1 < 2 ^ 64 }
-    ensures line { IfOk result (λ _. Grew (T.taken sink.old) (T.taken sink.new) (mark_line at mark before)) }
-    ensures count { IfOk result (λ _. T.failed sink.new ≡ T.failed sink.old) }
-    ensures err { OnErr result ((T.failed sink.new ≡ T.failed sink.old + 1) × GrewFront (T.taken sink.old) (T.taken sink.new) (mark_line at mark before)) }
+    ensures { Wrote T.taken T.failed sink.old sink.new (mark_line at mark before) result }
 {
     let mut line = Line::new();
     line.text("mark ");

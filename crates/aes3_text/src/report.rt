@@ -1,7 +1,7 @@
 //! The line of a report.
 
-ghost use Rattle.std.specs.Prelude.{◌≡◌, ◌<◌, ◌≤◌, ◌+◌, ◌^◌, ◌++◌, [], length, IfOk, OnErr};
-ghost use Rattle.aes3_cell.specs.Ends.{Grew, GrewFront};
+ghost use Rattle.std.specs.Prelude.{◌≡◌, ◌<◌, ◌≤◌, ◌+◌, ◌^◌, ◌++◌, [], length};
+ghost use Rattle.aes3_cell.specs.Writes.{Wrote};
 ghost use Rattle.aes3_lock.specs.Reports.{ending_report};
 ghost use Rattle.aes3_text.specs.Lines.{reason_word, report_text, report_line, told_line};
 
@@ -98,9 +98,8 @@ fn text_of(report: &Report) -> Line
 /// The sink's fault; then it has taken a front of the line.
 fn line_of_ending<T: Sink>(ending: Ending, sink: &mut T) -> Result<(), Fault>
     requires room { T.failed sink.old + 1 < 2 ^ 64 }
-    ensures line { IfOk result (λ _. Grew (T.taken sink.old) (T.taken sink.new) (report_line (ending_report [] ending))) }
-    ensures count { IfOk result (λ _. T.failed sink.new ≡ T.failed sink.old) }
-    ensures err { OnErr result ((T.failed sink.new ≡ T.failed sink.old + 1) × GrewFront (T.taken sink.old) (T.taken sink.new) (report_line (ending_report [] ending))) }
+    ensures { Wrote T.taken T.failed sink.old sink.new
+        (report_line (ending_report [] ending)) result }
 {
     text_of_ending(ending).end(sink)
 }
@@ -111,9 +110,7 @@ fn line_of_ending<T: Sink>(ending: Ending, sink: &mut T) -> Result<(), Fault>
 /// The sink's fault; then it has taken a front of the line.
 pub fn line_of_report<T: Sink>(report: &Report, sink: &mut T) -> Result<(), Fault>
     requires room { T.failed sink.old + 1 < 2 ^ 64 }
-    ensures line { IfOk result (λ _. Grew (T.taken sink.old) (T.taken sink.new) (report_line report.now)) }
-    ensures count { IfOk result (λ _. T.failed sink.new ≡ T.failed sink.old) }
-    ensures err { OnErr result ((T.failed sink.new ≡ T.failed sink.old + 1) × GrewFront (T.taken sink.old) (T.taken sink.new) (report_line report.now)) }
+    ensures { Wrote T.taken T.failed sink.old sink.new (report_line report.now) result }
 {
     text_of(report).end(sink)
 }
@@ -124,9 +121,7 @@ pub fn line_of_report<T: Sink>(report: &Report, sink: &mut T) -> Result<(), Faul
 /// The sink's fault; then it has taken a front of the line.
 pub(crate) fn tell_report<T: Sink>(lines: Lines, report: &Report, sink: &mut T) -> Result<(), Fault>
     requires room { T.failed sink.old + 1 < 2 ^ 64 }
-    ensures line { IfOk result (λ _. Grew (T.taken sink.old) (T.taken sink.new) (told_line lines report.now)) }
-    ensures count { IfOk result (λ _. T.failed sink.new ≡ T.failed sink.old) }
-    ensures err { OnErr result ((T.failed sink.new ≡ T.failed sink.old + 1) × GrewFront (T.taken sink.old) (T.taken sink.new) (told_line lines report.now)) }
+    ensures { Wrote T.taken T.failed sink.old sink.new (told_line lines report.now) result }
 {
     match lines {
         Lines::All => line_of_report(report, sink),
@@ -145,9 +140,8 @@ pub(crate) fn tell_report<T: Sink>(lines: Lines, report: &Report, sink: &mut T) 
 /// The sink's fault; then it has taken a front of the line.
 pub(crate) fn tell_ending<T: Sink>(lines: Lines, ending: Ending, sink: &mut T) -> Result<(), Fault>
     requires room { T.failed sink.old + 1 < 2 ^ 64 }
-    ensures line { IfOk result (λ _. Grew (T.taken sink.old) (T.taken sink.new) (told_line lines (ending_report [] ending))) }
-    ensures count { IfOk result (λ _. T.failed sink.new ≡ T.failed sink.old) }
-    ensures err { OnErr result ((T.failed sink.new ≡ T.failed sink.old + 1) × GrewFront (T.taken sink.old) (T.taken sink.new) (told_line lines (ending_report [] ending))) }
+    ensures { Wrote T.taken T.failed sink.old sink.new
+        (told_line lines (ending_report [] ending)) result }
 {
     match lines {
         Lines::All => line_of_ending(ending, sink),

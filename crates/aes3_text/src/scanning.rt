@@ -1,7 +1,8 @@
 //! Preambles, line by line.
 
-ghost use Rattle.std.specs.Prelude.{◌≡◌, ℕ, ◌+◌, ◌<◌, ◌≤◌, ◌^◌, List, [], IfOk, OnErr};
-ghost use Rattle.aes3_cell.specs.Ends.{Grew, GrewFront, Told};
+ghost use Rattle.std.specs.Prelude.{◌≡◌, ℕ, ◌+◌, ◌<◌, ◌≤◌, ◌^◌, List, [], IfOk};
+ghost use Rattle.aes3_cell.specs.Ends.{Grew, Told};
+ghost use Rattle.aes3_cell.specs.Writes.{Wrote};
 ghost use Rattle.aes3_lock.specs.Preambles.{marks};
 ghost use Rattle.aes3_engine.specs.CellRuns.{CellRun};
 ghost use Rattle.aes3_engine.specs.Inputs.{cells_of};
@@ -42,9 +43,8 @@ impl MarkLines {
         requires few { self.old.marks + 1 < 2 ^ 64 }
         ensures scan { self.new.scan ≡ self.old.scan }
         ensures marks { self.new.marks ≡ self.old.marks + 1 }
-        ensures line { IfOk result (λ _. Grew (T.taken sink.old) (T.taken sink.new) (mark_line found.0 found.1 found.2)) }
-        ensures count { IfOk result (λ _. T.failed sink.new ≡ T.failed sink.old) }
-        ensures err { OnErr result ((T.failed sink.new ≡ T.failed sink.old + 1) × GrewFront (T.taken sink.old) (T.taken sink.new) (mark_line found.0 found.1 found.2)) }
+        ensures wrote { Wrote T.taken T.failed sink.old sink.new
+            (mark_line found.0 found.1 found.2) result }
     {
         self.marks += 1;
         line_of_mark(found.0, found.1, found.2, sink)

@@ -1,7 +1,8 @@
 //! The channel status of blocks, line by line.
 
-ghost use Rattle.std.specs.Prelude.{◌≡◌, ℕ, ◌+◌, ◌<◌, ◌≤◌, ◌^◌, List, [], IfOk, OnErr};
-ghost use Rattle.aes3_cell.specs.Ends.{Grew, GrewFront, Told};
+ghost use Rattle.std.specs.Prelude.{ℕ, ◌+◌, ◌<◌, ◌≤◌, ◌^◌, List, [], IfOk};
+ghost use Rattle.aes3_cell.specs.Ends.{Grew, Told};
+ghost use Rattle.aes3_cell.specs.Writes.{Wrote};
 ghost use Rattle.aes3_lock.specs.Reports.{blocks};
 ghost use Rattle.aes3_engine.specs.BlockRuns.{decided_blocks};
 ghost use Rattle.aes3_engine.specs.CellRuns.{CellRun};
@@ -24,9 +25,8 @@ fn put_channel<T: Sink>(
     sink: &mut T,
 ) -> Result<(), Fault>
     requires room { T.failed sink.old + 1 < 2 ^ 64 }
-    ensures line { IfOk result (λ _. Grew (T.taken sink.old) (T.taken sink.new) (channel_line channel number block.now)) }
-    ensures count { IfOk result (λ _. T.failed sink.new ≡ T.failed sink.old) }
-    ensures err { OnErr result ((T.failed sink.new ≡ T.failed sink.old + 1) × GrewFront (T.taken sink.old) (T.taken sink.new) (channel_line channel number block.now)) }
+    ensures { Wrote T.taken T.failed sink.old sink.new
+        (channel_line channel number block.now) result }
 {
     let status = block.channel_status(channel);
     line_of_status(number, channel, &status, sink)

@@ -1,7 +1,7 @@
 //! The line of a channel status.
 
-ghost use Rattle.std.specs.Prelude.{◌≡◌, ◌<◌, ◌≤◌, ◌+◌, ◌++◌, ◌^◌, length, IfOk, OnErr};
-ghost use Rattle.aes3_cell.specs.Ends.{Grew, GrewFront};
+ghost use Rattle.std.specs.Prelude.{◌≡◌, ◌<◌, ◌≤◌, ◌+◌, ◌++◌, ◌^◌, length};
+ghost use Rattle.aes3_cell.specs.Writes.{Wrote};
 ghost use Rattle.aes3_text.specs.StatusLines.{channel_digit, head_text, status_line, status_text};
 
 use crate::consumer::put_consumer;
@@ -61,9 +61,8 @@ pub fn line_of_status<T: Sink>(
     sink: &mut T,
 ) -> Result<(), Fault>
     requires room { T.failed sink.old + 1 < 2 ^ 64 }
-    ensures line { IfOk result (λ _. Grew (T.taken sink.old) (T.taken sink.new) (status_line block channel status.now)) }
-    ensures count { IfOk result (λ _. T.failed sink.new ≡ T.failed sink.old) }
-    ensures err { OnErr result ((T.failed sink.new ≡ T.failed sink.old + 1) × GrewFront (T.taken sink.old) (T.taken sink.new) (status_line block channel status.now)) }
+    ensures { Wrote T.taken T.failed sink.old sink.new
+        (status_line block channel status.now) result }
 {
     let mut line = head_of(block, channel);
     put_status(&mut line, status);

@@ -10,8 +10,9 @@ loop-at-preserved g c = record {
   count = search rules;
 }
 
-pub returns-in-Err-clause-err : goal.returns-in-Err-clause-err
-returns-in-Err-clause-err g c = (
-  search rules,
-  front-is (take-append-drop c.loop-at.at c.args.bytes.now) (front-join c.loop-at.invariant.grew (front-none c.in-Err.ensures.err.1 _)),
-)
+pub returns-in-Err : goal.returns-in-Err
+returns-in-Err g c = record {
+  grew = tt;
+  count = tt;
+  err = (search rules, front-is (take-append-drop c.loop-at.at c.args.bytes.now) (front-join c.loop-at.invariant.grew (front-none c.in-Err.ensures.err.1 _)));
+}

@@ -12,16 +12,21 @@ loop-word-init g c = record { grew = grew-is (sym (bytes-nothing c.args.form)) (
 
 pub loop-word-preserved : goal.loop-word-preserved
 loop-word-preserved g c = record {
-  grew = grew-is (bytes-words c.args.form c.args.words.now c.loop-word.word-index c.loop-word-test.true) (grew-join c.loop-word.invariant.grew c.in-Ok.ensures.cells);
+  grew = grew-is (bytes-words c.args.form c.args.words.now c.loop-word.word-index c.loop-word-test.true) (grew-join c.loop-word.invariant.grew c.in-Ok.ensures.grew);
   quiet = c.in-Ok.ensures.count ∙ c.loop-word.invariant.quiet;
 }
 
-pub returns-in-Err-clause-err : goal.returns-in-Err-clause-err
-returns-in-Err-clause-err g c =
+pub returns-in-Err : goal.returns-in-Err
+returns-in-Err g c =
     let words = c.args.words.now in
-    let i = c.loop-word.word-index in (
-      c.in-Err.ensures.err.0 ∙ ap (λ n. n + 1) c.loop-word.invariant.quiet,
-      front-is (bytes-split c.args.form words (i + 1) (omega arith))
-          (front-more (front-is (bytes-words c.args.form words i c.loop-word-test.true) (front-join c.loop-word.invariant.grew c.in-Err.ensures.err.1))
-          (bytes_of c.args.form (flat_map word_cells (drop (i + 1) words)))),
-    )
+    let i = c.loop-word.word-index in
+    record {
+      grew = tt;
+      count = tt;
+      err = (
+        c.in-Err.ensures.err.0 ∙ ap (λ n. n + 1) c.loop-word.invariant.quiet,
+        front-is (bytes-split c.args.form words (i + 1) (omega arith))
+            (front-more (front-is (bytes-words c.args.form words i c.loop-word-test.true) (front-join c.loop-word.invariant.grew c.in-Err.ensures.err.1))
+            (bytes_of c.args.form (flat_map word_cells (drop (i + 1) words)))),
+      );
+    }

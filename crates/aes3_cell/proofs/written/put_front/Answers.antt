@@ -25,7 +25,7 @@ loop-many-preserved g c =
     let many = ap (λ w. bytes_of c.args.form (flat_map word_cells w)) (c.in-Some.ensures.cases.same ∙ ap (take 16) rest) in
     record {
       within = omega (arith, enough, l);
-      grew = grew-is (bytes-block c.args.form words at 16 within) (grew-join c.loop-many.invariant.grew (grew-is many c.in-Ok.ensures.cells));
+      grew = grew-is (bytes-block c.args.form words at 16 within) (grew-join c.loop-many.invariant.grew (grew-is many c.in-Ok.ensures.grew));
       quiet = c.in-Ok.ensures.count ∙ c.loop-many.invariant.quiet;
     }
 

@@ -22,7 +22,7 @@ pub returns-in-Ok : goal.returns-in-Ok
 returns-in-Ok g c = (
   byte-block c.args.encoder.now.output c.feed_byte.new.self c.args.byte c.in-Ok-Some.block (g.T.Sink.taken c.args.sink.now) (g.T.Sink.taken c.put_block.new.sink)
       (sym (c.in-Ok-Some.is ∙ ap (λ o. Ok o) c.in-Ok-Some.field-0-is) ∙ c.feed_byte.ensures.answer) c.feed_byte.ensures.next
-      (rw (← c.in-Ok-Some.block-is) c.in-Ok.ensures.cells),
+      (rw (← c.in-Ok-Some.block-is) c.in-Ok.ensures.grew),
   c.in-Ok.ensures.count,
 )
 

@@ -2,15 +2,16 @@ use Rattle.std.proofs.Common.{◌+◌, ◌<◌, length, arith, refl, sym, ap, �
 use Rattle.std.specs.Int.{bytes_high_first}
 use Rattle.aes3_cell.specs.Pending.{begun_after}
 use Rattle.aes3_cell.specs.PackedPending.{octets_added}
-use Rattle.aes3_cell.proofs.Growing.{grew-none, grew-is, front-is}
+use Rattle.aes3_cell.proofs.Growing.{grew-none, grew-is}
+use Rattle.aes3_cell.proofs.Writing.{wrote-is}
 use Rattle.aes3_cell.proofs.PackedWords.{high_cells, length-high_cells, packed-short, packed-begun, packed-full, packed-done}
 use Rattle.aes3_cell.proofs.packed_out.PackedOut.put.Goals as goal
 
-pub returns-then-self-lt-WORD_LEN-clause-octets : goal.returns-then-self-lt-WORD_LEN-clause-octets
-returns-then-self-lt-WORD_LEN-clause-octets g c =
+pub returns-then-self-lt-WORD_LEN-clause-wrote : goal.returns-then-self-lt-WORD_LEN-clause-wrote
+returns-then-self-lt-WORD_LEN-clause-wrote g c =
     let v = c.self.inside in
     let cells = ap (λ x. x.cells) c.self.view_is in
-    grew-is (sym (packed-short _ v.len c.args.level (sym (ap length cells) ∙ length-high_cells v.len v.word) c.if-self-lt-WORD_LEN.true)) (grew-none refl)
+    record { grew = grew-is (sym (packed-short _ v.len c.args.level (sym (ap length cells) ∙ length-high_cells v.len v.word) c.if-self-lt-WORD_LEN.true)) (grew-none refl); count = refl; err = tt }
 
 pub returns-then-self-lt-WORD_LEN-clause-begun : goal.returns-then-self-lt-WORD_LEN-clause-begun
 returns-then-self-lt-WORD_LEN-clause-begun g c =
@@ -19,13 +20,13 @@ returns-then-self-lt-WORD_LEN-clause-begun g c =
     ap (high_cells (v.len + 1)) c.with_cell_behind-word.ensures ∙ packed-begun v.len v.word c.args.level c.if-self-lt-WORD_LEN.true
     ∙ ap (λ p. begun_after p c.args.level) cells
 
-pub returns-in-Ok-clause-octets : goal.returns-in-Ok-clause-octets
-returns-in-Ok-clause-octets g c =
+pub returns-in-Ok-clause-wrote : goal.returns-in-Ok-clause-wrote
+returns-in-Ok-clause-wrote g c =
     let v = c.self.inside in
     let few : v.len < 64 = c.self.invariant.0 in
     let cells = ap (λ x. x.cells) c.self.view_is in
-    grew-is (c.to_be_bytes.ensures ∙ ap (bytes_high_first 8) c.with_cell_behind-word.ensures ∙ packed-full v.len v.word c.args.level (omega arith)
-    ∙ ap (λ p. octets_added p c.args.level) cells) c.in-Ok.ensures.all
+    wrote-is (c.to_be_bytes.ensures ∙ ap (bytes_high_first 8) c.with_cell_behind-word.ensures ∙ packed-full v.len v.word c.args.level (omega arith)
+    ∙ ap (λ p. octets_added p c.args.level) cells) c.in-Ok.ensures
 
 pub returns-in-Ok-clause-begun : goal.returns-in-Ok-clause-begun
 returns-in-Ok-clause-begun g c =
@@ -33,12 +34,10 @@ returns-in-Ok-clause-begun g c =
     let few : v.len < 64 = c.self.invariant.0 in
     packed-done v.len v.word c.args.level (omega arith) ∙ ap (λ p. begun_after p c.args.level) (ap (λ x. x.cells) c.self.view_is)
 
-pub returns-in-Err-clause-err : goal.returns-in-Err-clause-err
-returns-in-Err-clause-err g c =
+pub returns-in-Err-clause-wrote : goal.returns-in-Err-clause-wrote
+returns-in-Err-clause-wrote g c =
     let v = c.self.inside in
     let few : v.len < 64 = c.self.invariant.0 in
-    let cells = ap (λ x. x.cells) c.self.view_is in (
-      c.in-Err.ensures.err.0,
-      front-is (c.to_be_bytes.ensures ∙ ap (bytes_high_first 8) c.with_cell_behind-word.ensures ∙ packed-full v.len v.word c.args.level (omega arith)
-          ∙ ap (λ p. octets_added p c.args.level) cells) c.in-Err.ensures.err.1,
-    )
+    let cells = ap (λ x. x.cells) c.self.view_is in
+    wrote-is (c.to_be_bytes.ensures ∙ ap (bytes_high_first 8) c.with_cell_behind-word.ensures ∙ packed-full v.len v.word c.args.level (omega arith)
+    ∙ ap (λ p. octets_added p c.args.level) cells) c.in-Err.ensures

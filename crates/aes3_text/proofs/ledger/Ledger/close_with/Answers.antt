@@ -40,7 +40,7 @@ returns-in_err-tell-clause-err_grew g c =
     rw p.1 (λ d h q n.
     let r = behind_report (accounted d) x in
     front-is (close_with-lines k.lines r (length d) d x refl refl q)
-    (front-more (front-is (report-lines k.lines k.tally.blocks k.place d x h.tally.blocks_is h.place_is) c.in_err-tell.ensures.err.1)
+    (front-more (front-is (report-lines k.lines k.tally.blocks k.place d x h.tally.blocks_is h.place_is) c.in_err-tell.ensures.wrote.err.1)
     (account_lines k.lines (gaps false r (length d)))))
 
 pub tell_gaps-requires-clause-few : goal.tell_gaps-requires-clause-few
@@ -60,8 +60,8 @@ returns-in_err-tell_gaps-clause-err_grew g c =
     let p = err_from_is_err_and c.from_residual-in_err-tell_gaps.result c.from_residual-in_err-tell_gaps.ensures.1 in
     rw p.1 (λ d h q n.
     front-is (close_with-lines k.lines m.place c.args.seen d x (reached-is m.place d x h c.in_ok-tell.ensures.place) n q)
-    (front-join (grew-is (report-lines k.lines k.tally.blocks k.place d x h.tally.blocks_is h.place_is) c.in_ok-tell.ensures.grew)
-    (rw c.tell.ensures.lines at c.in_err-tell_gaps.ensures.err.1)))
+    (front-join (grew-is (report-lines k.lines k.tally.blocks k.place d x h.tally.blocks_is h.place_is) c.in_ok-tell.ensures.wrote.grew)
+    (rw c.tell.ensures.lines at c.in_err-tell_gaps.ensures.wrote.err.1)))
 
 pub returns-clause-done : goal.returns-clause-done
 returns-clause-done g c =
@@ -78,5 +78,5 @@ returns-clause-grew g c =
     let x = c.args.report.now in
     λ d h q n.
     grew-is (close_with-lines k.lines m.place c.args.seen d x (reached-is m.place d x h c.in_ok-tell.ensures.place) n q)
-    (grew-join (grew-is (report-lines k.lines k.tally.blocks k.place d x h.tally.blocks_is h.place_is) c.in_ok-tell.ensures.grew)
-    (rw c.tell.ensures.lines at c.in_ok-tell_gaps.ensures.grew))
+    (grew-join (grew-is (report-lines k.lines k.tally.blocks k.place d x h.tally.blocks_is h.place_is) c.in_ok-tell.ensures.wrote.grew)
+    (rw c.tell.ensures.lines at c.in_ok-tell_gaps.ensures.wrote.grew))

@@ -16,7 +16,7 @@ returns-in_err-tell_full-clause-err_grew g c =
     let k = c.args.self.now in
     let s = c.saturating_sub.result in
     let p = err_from_is_err_and c.from_residual.result c.from_residual.ensures.1 in
-    rw p.1 (λ d e h q n. front-is (pass-lines k.lines k.place s d e h.place_is (less s c.args.seen _ (omega arith) n) q) c.in_err-tell_full.ensures.err.1)
+    rw p.1 (λ d e h q n. front-is (pass-lines k.lines k.place s d e h.place_is (less s c.args.seen _ (omega arith) n) q) c.in_err-tell_full.ensures.wrote.err.1)
 
 pub returns-clause-next : goal.returns-clause-next
 returns-clause-next g c =
@@ -28,4 +28,4 @@ pub returns-clause-grew : goal.returns-clause-grew
 returns-clause-grew g c =
     let k = c.args.self.now in
     let s = c.saturating_sub.result in
-    λ d e h q n. grew-is (pass-lines k.lines k.place s d e h.place_is (less s c.args.seen _ (omega arith) n) q) c.in_ok-tell_full.ensures.grew
+    λ d e h q n. grew-is (pass-lines k.lines k.place s d e h.place_is (less s c.args.seen _ (omega arith) n) q) c.in_ok-tell_full.ensures.wrote.grew

@@ -42,7 +42,7 @@ returns-in_err-tell-clause-err_grew g c =
     let r = behind_report (accounted d) x in
     let s = length (d ++ e) - block_len in
     front-is (take-lines k.lines r s d e x refl refl q)
-    (front-more (front-is (report-lines k.lines k.tally.blocks k.place d x h.tally.blocks_is h.place_is) c.in_err-tell.ensures.err.1)
+    (front-more (front-is (report-lines k.lines k.tally.blocks k.place d x h.tally.blocks_is h.place_is) c.in_err-tell.ensures.wrote.err.1)
     (account_lines k.lines (full_gaps r (full_count r s)))))
 
 pub tell_full-requires-clause-few : goal.tell_full-requires-clause-few
@@ -63,8 +63,8 @@ returns-in_err-tell_full-clause-err_grew g c =
     let p = err_from_is_err_and c.from_residual-in_err-tell_full.result c.from_residual-in_err-tell_full.ensures.1 in
     rw p.1 (λ d e h q n.
     front-is (take-lines k.lines m.place s d e x (reached-is m.place d x h c.in_ok-tell.ensures.place) (less s c.args.seen _ (omega arith) n) q)
-    (front-join (grew-is (report-lines k.lines k.tally.blocks k.place d x h.tally.blocks_is h.place_is) c.in_ok-tell.ensures.grew)
-    (rw c.tell.ensures.lines at c.in_err-tell_full.ensures.err.1)))
+    (front-join (grew-is (report-lines k.lines k.tally.blocks k.place d x h.tally.blocks_is h.place_is) c.in_ok-tell.ensures.wrote.grew)
+    (rw c.tell.ensures.lines at c.in_err-tell_full.ensures.wrote.err.1)))
 
 pub returns-clause-next : goal.returns-clause-next
 returns-clause-next g c =
@@ -85,5 +85,5 @@ returns-clause-grew g c =
     let s = c.saturating_sub.result in
     λ d e h q n.
     grew-is (take-lines k.lines m.place s d e x (reached-is m.place d x h c.in_ok-tell.ensures.place) (less s c.args.seen _ (omega arith) n) q)
-    (grew-join (grew-is (report-lines k.lines k.tally.blocks k.place d x h.tally.blocks_is h.place_is) c.in_ok-tell.ensures.grew)
-    (rw c.tell.ensures.lines at c.in_ok-tell_full.ensures.grew))
+    (grew-join (grew-is (report-lines k.lines k.tally.blocks k.place d x h.tally.blocks_is h.place_is) c.in_ok-tell.ensures.wrote.grew)
+    (rw c.tell.ensures.lines at c.in_ok-tell_full.ensures.wrote.grew))

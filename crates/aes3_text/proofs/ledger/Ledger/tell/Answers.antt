@@ -7,21 +7,29 @@ use Rattle.aes3_text.specs.Runs.{account_lines}
 use Rattle.aes3_text.proofs.GapLemmas.{lines-append}
 use Rattle.aes3_text.proofs.ledger.Ledger.tell.Goals as goal
 
-pub returns-in_err-tell_report-clause-err : goal.returns-in_err-tell_report-clause-err
-returns-in_err-tell_report-clause-err g c =
+pub returns-in_err-tell_report-clause-wrote : goal.returns-in_err-tell_report-clause-wrote
+returns-in_err-tell_report-clause-wrote g c =
     let k = c.args.self.now in
     let x = c.args.report.now in
     let p = err_from_is_err_and c.from_residual-in_err-tell_report.result c.from_residual-in_err-tell_report.ensures.1 in
     let f = c.in_err-tell_report.ensures.err in
-    rw p.1 (
-      f.0 ∙ ap (λ m. m + 1) c.in_ok-tell_before.ensures.count,
-      front-is (ap (λ z. account_lines k.lines (gaps_before k.tally.blocks k.place x) ++ z) (sym (append-nil (told_line k.lines x))) ∙ sym (lines-append k.lines (gaps_before k.tally.blocks k.place x) (reported x ∷ [])))
-          (front-join c.in_ok-tell_before.ensures.grew (rw c.tell_before.ensures.lines at f.1)),
-    )
+    rw p.1 (record {
+      grew = tt;
+      count = tt;
+      err = (
+        f.0 ∙ ap (λ m. m + 1) c.in_ok-tell_before.ensures.wrote.count,
+        front-is (ap (λ z. account_lines k.lines (gaps_before k.tally.blocks k.place x) ++ z) (sym (append-nil (told_line k.lines x))) ∙ sym (lines-append k.lines (gaps_before k.tally.blocks k.place x) (reported x ∷ [])))
+            (front-join c.in_ok-tell_before.ensures.wrote.grew (rw c.tell_before.ensures.lines at f.1)),
+      );
+    })
 
-pub returns-clause-grew : goal.returns-clause-grew
-returns-clause-grew g c =
+pub returns-clause-wrote : goal.returns-clause-wrote
+returns-clause-wrote g c =
     let k = c.args.self.now in
     let x = c.args.report.now in
-    grew-is (ap (λ z. account_lines k.lines (gaps_before k.tally.blocks k.place x) ++ z) (sym (append-nil (told_line k.lines x))) ∙ sym (lines-append k.lines (gaps_before k.tally.blocks k.place x) (reported x ∷ [])))
-    (grew-join c.in_ok-tell_before.ensures.grew (rw c.tell_before.ensures.lines at c.in_ok-tell_report.ensures.line))
+    record {
+      grew = grew-is (ap (λ z. account_lines k.lines (gaps_before k.tally.blocks k.place x) ++ z) (sym (append-nil (told_line k.lines x))) ∙ sym (lines-append k.lines (gaps_before k.tally.blocks k.place x) (reported x ∷ [])))
+          (grew-join c.in_ok-tell_before.ensures.wrote.grew (rw c.tell_before.ensures.lines at c.in_ok-tell_report.ensures.grew));
+      count = c.in_ok-tell_report.ensures.count ∙ c.in_ok-tell_before.ensures.wrote.count;
+      err = tt;
+    }

@@ -7,17 +7,21 @@ use Rattle.aes3_text.specs.Runs.{account_lines}
 use Rattle.aes3_text.proofs.GapLemmas.{count-is, behind-is, full-line, full-front}
 use Rattle.aes3_text.proofs.ledger.Ledger.tell_full.Goals as goal
 
-pub returns-in_err-line_of_gap-clause-err : goal.returns-in_err-line_of_gap-clause-err
-returns-in_err-line_of_gap-clause-err g c =
+pub returns-in_err-line_of_gap-clause-wrote : goal.returns-in_err-line_of_gap-clause-wrote
+returns-in_err-line_of_gap-clause-wrote g c =
     let v = c.gaps.invariant in
     let k = c.gaps._told in
     let s = c.saturating_sub-count.result in
     let e = count-is c.args.self.now.place c.args.to s (s / 24576) (omega arith) (omega arith) in
     let p = err_from_is_err_and c.from_residual.result c.from_residual.ensures.1 in
-    rw p.1 (
-      c.in_err-line_of_gap.ensures.err.0 ∙ ap (λ n. n + 1) v.quiet,
-      full-front c.args.self.now.lines c.args.self.now.place k (full_count c.args.self.now.place c.args.to) c.gaps.self.place v.place (omega arith) v.grew c.in_err-line_of_gap.ensures.err.1,
-    )
+    rw p.1 (record {
+      grew = tt;
+      count = tt;
+      err = (
+        c.in_err-line_of_gap.ensures.err.0 ∙ ap (λ n. n + 1) v.quiet,
+        full-front c.args.self.now.lines c.args.self.now.place k (full_count c.args.self.now.place c.args.to) c.gaps.self.place v.place (omega arith) v.grew c.in_err-line_of_gap.ensures.err.1,
+      );
+    })
 
 pub overflow_add-self : goal.overflow_add-self
 overflow_add-self g c =
@@ -34,7 +38,7 @@ gaps-preserved g c =
       tally = v.tally;
       place = rw b (let p : c.gaps.self.place ≡ c.args.self.now.place + 24576 * c.gaps._told = v.place ∙ ap (λ (n : ℕ). c.args.self.now.place + n * c.gaps._told) b in omega arith);
       lost = (let l = v.lost in omega arith);
-      grew = grew-is (full-line c.args.self.now.lines c.args.self.now.place k c.gaps.self.place v.place) (grew-join v.grew c.in_ok-line_of_gap.ensures.line);
+      grew = grew-is (full-line c.args.self.now.lines c.args.self.now.place k c.gaps.self.place v.place) (grew-join v.grew c.in_ok-line_of_gap.ensures.grew);
       quiet = c.in_ok-line_of_gap.ensures.count ∙ v.quiet;
     }
 
@@ -51,8 +55,8 @@ returns-clause-lost g c =
     let l = c.gaps.invariant.lost in
     omega arith
 
-pub returns-clause-grew : goal.returns-clause-grew
-returns-clause-grew g c =
+pub returns-clause-wrote : goal.returns-clause-wrote
+returns-clause-wrote g c =
     let s = c.saturating_sub-count.result in
     let e = count-is c.args.self.now.place c.args.to s c.gaps._told (omega arith) (omega arith) in
-    grew-is (ap (λ k. account_lines c.args.self.now.lines (full_gaps c.args.self.now.place k)) e) c.gaps.invariant.grew
+    record { grew = grew-is (ap (λ k. account_lines c.args.self.now.lines (full_gaps c.args.self.now.place k)) e) c.gaps.invariant.grew; count = c.gaps.invariant.quiet; err = tt }

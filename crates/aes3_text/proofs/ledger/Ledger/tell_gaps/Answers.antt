@@ -4,17 +4,21 @@ use Rattle.aes3_cell.proofs.Growing.{grew-is, grew-join, front-is, front-join}
 use Rattle.aes3_text.proofs.GapLemmas.{gaps-lines, gaps-lost}
 use Rattle.aes3_text.proofs.ledger.Ledger.tell_gaps.Goals as goal
 
-pub returns-in_err-tell_rest-clause-err : goal.returns-in_err-tell_rest-clause-err
-returns-in_err-tell_rest-clause-err g c =
+pub returns-in_err-tell_rest-clause-wrote : goal.returns-in_err-tell_rest-clause-wrote
+returns-in_err-tell_rest-clause-wrote g c =
     let k = c.args.self.now in
     let n = c.tell_full.new.self in
     let p = err_from_is_err_and c.from_residual-in_err-tell_rest.result c.from_residual-in_err-tell_rest.ensures.1 in
-    let f = c.in_err-tell_rest.ensures.err in
-    rw p.1 (
-      f.0 ∙ ap (λ m. m + 1) c.in_ok-tell_full.ensures.count,
-      front-is (gaps-lines k.lines c.args.counts k.place c.args.to n.place c.in_ok-tell_full.ensures.place)
-          (front-join c.in_ok-tell_full.ensures.grew (rw c.tell_full.ensures.lines at f.1)),
-    )
+    let f = c.in_err-tell_rest.ensures.wrote.err in
+    rw p.1 (record {
+      grew = tt;
+      count = tt;
+      err = (
+        f.0 ∙ ap (λ m. m + 1) c.in_ok-tell_full.ensures.wrote.count,
+        front-is (gaps-lines k.lines c.args.counts k.place c.args.to n.place c.in_ok-tell_full.ensures.place)
+            (front-join c.in_ok-tell_full.ensures.wrote.grew (rw c.tell_full.ensures.lines at f.1)),
+      );
+    })
 
 pub returns-clause-lost : goal.returns-clause-lost
 returns-clause-lost g c =
@@ -22,8 +26,12 @@ returns-clause-lost g c =
     gaps-lost c.args.counts k.place c.args.to c.tell_full.new.self.place k.lost c.tell_full.new.self.lost c.tell_rest.new.self.lost
     c.in_ok-tell_full.ensures.place c.in_ok-tell_full.ensures.lost c.tell_rest.ensures.lost
 
-pub returns-clause-grew : goal.returns-clause-grew
-returns-clause-grew g c =
+pub returns-clause-wrote : goal.returns-clause-wrote
+returns-clause-wrote g c =
     let k = c.args.self.now in
-    grew-is (gaps-lines k.lines c.args.counts k.place c.args.to c.tell_full.new.self.place c.in_ok-tell_full.ensures.place)
-    (grew-join c.in_ok-tell_full.ensures.grew (rw c.tell_full.ensures.lines at c.in_ok-tell_rest.ensures.grew))
+    record {
+      grew = grew-is (gaps-lines k.lines c.args.counts k.place c.args.to c.tell_full.new.self.place c.in_ok-tell_full.ensures.place)
+          (grew-join c.in_ok-tell_full.ensures.wrote.grew (rw c.tell_full.ensures.lines at c.in_ok-tell_rest.ensures.wrote.grew));
+      count = c.in_ok-tell_rest.ensures.wrote.count ∙ c.in_ok-tell_full.ensures.wrote.count;
+      err = tt;
+    }

@@ -39,8 +39,8 @@ returns-in-Ok g c =
               subst (λ k. Scanned k c.tell.new.self.marks (d ++ b)) (sym c.tell.ensures.scan)
               (subst (λ m. Scanned c.next_in-taken.new.self m (d ++ b)) (sym c.tell.ensures.marks)
               (scanned-mark b c.in-Some.found h (p.follows d h.follows) (p.mark d h.follows ∙ ap (λ o. marks d ++ option_to_list o) c.in-Some.is)))),
-          (λ d h. told-grew _ _ d b c.in-Some.found (p.mark d h.follows ∙ ap (λ o. marks d ++ option_to_list o) c.in-Some.is) c.in-Ok.ensures.line),
-          c.in-Ok.ensures.count,
+          (λ d h. told-grew _ _ d b c.in-Some.found (p.mark d h.follows ∙ ap (λ o. marks d ++ option_to_list o) c.in-Some.is) c.in-Ok.ensures.wrote.grew),
+          c.in-Ok.ensures.wrote.count,
         ),
       );
     }
@@ -53,10 +53,10 @@ returns-in-Err g c =
     let rest = low_cells (c.args.len - n) (c.args.word / 2 ^ n) in
     record {
       ran = (
-        c.in-Err.ensures.err.0,
+        c.in-Err.ensures.wrote.err.0,
         (λ d h.
             front-is (sym (ap (λ z. behind marking d z) (cells-parted c.args.word n c.args.len p.within) ∙ items-join marking d b rest))
-            (front-more (told-front _ _ d b c.in-Some.found (p.mark d h.follows ∙ ap (λ o. marks d ++ option_to_list o) c.in-Some.is) c.in-Err.ensures.err.1) _)),
+            (front-more (told-front _ _ d b c.in-Some.found (p.mark d h.follows ∙ ap (λ o. marks d ++ option_to_list o) c.in-Some.is) c.in-Err.ensures.wrote.err.1) _)),
       );
     }
 
