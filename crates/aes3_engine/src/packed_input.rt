@@ -106,22 +106,6 @@ fn take_octet<T: Sink, K: Taker>(
     }
 }
 
-/// Takes the eight octets that a piece begins with, where two or more came before, and answers the word of the cells that
-/// they make whole; else none.
-fn feed_eight(packed: &mut PackedIn, piece: &[u8]) -> Option<u64>
-    requires { packed.old.seen + length piece.now ≤ 2 ^ 40 }
-    ensures bound { OnSome result (8 ≤ length piece.now) }
-    ensures some { OnSome result (2 ≤ packed.old.seen) }
-    ensures cells { IfSome result (λ word. word_cells word ≡ eight_whole packed.old (take 8 piece.now)) }
-    ensures next { OnSome result (packed.new ≡ behind_eight packed.old (take 8 piece.now)) }
-    ensures none { IfNone result (packed.new ≡ packed.old) }
-{
-    match piece.first_chunk() {
-        Some(octets) => packed.feed_word(octets),
-        None => None,
-    }
-}
-
 /// Takes eight octets of a piece for each word, as many as there are and as make words, where two or more octets came
 /// before; answers how many words these are. The words are the cells that these octets make whole.
 fn feed_words(packed: &mut PackedIn, piece: &[u8], words: &mut [u64; WORDS]) -> usize
@@ -134,13 +118,12 @@ fn feed_words(packed: &mut PackedIn, piece: &[u8], words: &mut [u64; WORDS]) -> 
         → whole_cells (b ++ take (8 * result) piece.now) ≡ whole_cells b ++ flat_map word_cells (take result words.new) }
     ensures none { result ≡ 0 → packed.new ≡ packed.old }
 {
-    for count in 0..WORDS {
-        match feed_eight(packed, &piece[8 * count..]) {
-            Some(word) => words[count] = word,
-            None => return count,
-        }
+    if packed.seen() < 2 {
+        return 0;
     }
-    WORDS
+    let count = (piece.len() / 8).min(WORDS);
+    packed.feed_words(&piece[..8 * count], &mut words[..count]);
+    count
 }
 
 /// Takes the octet that a piece begins with, and answers that it is one.
