@@ -12,7 +12,9 @@ ghost use Rattle.aes3_engine.specs.Running.{FrontRan};
 
 use crate::conversion::{Input, convert};
 use crate::taker::Taker;
-use aes3_cell::{BadCell, CellText, Form, RunError, Sink, Source, with_cell, word_of_text};
+use aes3_cell::{
+    BadCell, CellText, Form, LINE_LEN, RunError, Sink, Source, with_cell, word_of_text,
+};
 
 /// How many lines become words at once.
 const LINES: usize = 64;
@@ -97,9 +99,9 @@ fn feed_line(text: &mut CellText, piece: &[u8]) -> Option<(usize, u64)>
     }
 }
 
-/// Takes the lines of 64 cells that a piece begins with, as many as there are and as make words; answers how many bytes
-/// and how many words these are.
-fn feed_lines(text: &mut CellText, piece: &[u8], words: &mut [u64; LINES]) -> (usize, usize)
+/// Takes the lines of 64 cells that a piece begins with, with what separators there are behind each, as many as there are
+/// and as make words; answers how many bytes and how many words these are.
+fn feed_any_lines(text: &mut CellText, piece: &[u8], words: &mut [u64; LINES]) -> (usize, usize)
     requires { text.old.seen + length piece.now ≤ 2 ^ 40 }
     ensures within { result.0 ≤ length piece.now }
     ensures few { result.1 ≤ 64 }
@@ -118,6 +120,23 @@ fn feed_lines(text: &mut CellText, piece: &[u8], words: &mut [u64; LINES]) -> (u
         }
     }
     (at, LINES)
+}
+
+/// Takes the lines of 64 cells that a piece begins with: those that end with one line feed, if there are such, else those
+/// with what separators there are behind each. Answers how many bytes and how many words these are.
+fn feed_lines(text: &mut CellText, piece: &[u8], words: &mut [u64; LINES]) -> (usize, usize)
+    requires { text.old.seen + length piece.now ≤ 2 ^ 40 }
+    ensures within { result.0 ≤ length piece.now }
+    ensures few { result.1 ≤ 64 }
+    ensures len { length words.new ≡ 64 }
+    ensures read { TextRead text.old text.new (take result.0 piece.now) (flat_map word_cells (take result.1 words.new)) }
+    ensures none { result.0 ≡ 0 → text.new ≡ text.old }
+{
+    let count = text.feed_lines(piece, words);
+    if count == 0 {
+        return feed_any_lines(text, piece, words);
+    }
+    (LINE_LEN * count, count)
 }
 
 /// Cells, the first in the lowest bit.

@@ -2,7 +2,7 @@ use Rattle.std.proofs.Common.{◌-◌, ◌∙◌, length, take, drop, arith, ref
 use Rattle.std.proofs.lemmas.List.{length-set, take_rest}
 use Rattle.aes3_engine.proofs.Handing.{words-set}
 use Rattle.aes3_engine.proofs.TextReads.{read-none, read-is, read-front}
-use Rattle.aes3_engine.proofs.text_input.feed_lines.Goals as goal
+use Rattle.aes3_engine.proofs.text_input.feed_any_lines.Goals as goal
 
 pub loop-count-init : goal.loop-count-init
 loop-count-init c = record { within = omega arith; long = omega arith; len = c.told-words; read = read-none c.args.text.now }

@@ -2,7 +2,7 @@ use Rattle.std.proofs.Common.{◌≡◌, ◌*◌, ◌≤◌, length, take}
 use Rattle.std.specs.List.{flat_map}
 use Rattle.aes3_cell.specs.Words.{word_cells}
 use Rattle.aes3_engine.specs.Forms.{TextRead}
-use Rattle.aes3_engine.proofs.text_input.feed_lines.Given as goal
+use Rattle.aes3_engine.proofs.text_input.feed_any_lines.Given as goal
 
 abbrev pub invariant-loop-count : goal.invariant-loop-count
 invariant-loop-count l = record {
