@@ -78,14 +78,21 @@ impl Line {
         });
     }
 
+    /// Empties the line.
+    pub(crate) fn clear(&mut self)
+        ensures { self.new ≡ [] }
+    {
+        self.bytes.clear();
+    }
+
     /// Hands the line and a line feed to the sink as one buffer.
     ///
     /// # Errors
     /// The sink's fault; then it has taken a front of the line.
-    pub(crate) fn end<T: Sink>(mut self, sink: &mut T) -> Result<(), Fault>
-        requires space { length self + 1 ≤ LINE_LEN }
+    pub(crate) fn end<T: Sink>(&mut self, sink: &mut T) -> Result<(), Fault>
+        requires space { length self.old + 1 ≤ LINE_LEN }
         requires room { T.failed sink.old + 1 < 2 ^ 64 }
-        ensures { Wrote T.taken T.failed sink.old sink.new (self ++ 10 ∷ []) result }
+        ensures { Wrote T.taken T.failed sink.old sink.new (self.old ++ 10 ∷ []) result }
     {
         self.text("\n");
         write_all(sink, self.bytes.as_slice())
