@@ -5,6 +5,7 @@ use Rattle.aes3_cell.specs.declared.memory.MemorySink.{MemorySink}
 use Rattle.aes3_cell.specs.declared.failing.FailingSource.{FailingSource}
 use Rattle.aes3_cell.specs.declared.failing.FailingSink.{FailingSink}
 use Rattle.aes3_cell.specs.declared.short.ShortSink.{ShortSink}
+use Rattle.aes3_cell.specs.declared.holding.HoldingSink.{HoldingSink}
 use Rattle.aes3_cell.specs.declared.endless.EndlessSource.{EndlessSource}
 
 -- all bytes that a source gives, those that it has given, whether it has ended, the most bytes a call
@@ -56,6 +57,13 @@ short_within s = s.inner
 
 abbrev pub most_of : ShortSink → ℕ
 most_of s = s.most
+
+-- the sink that holds what it took until it is flushed: what it is over, and what it has passed on
+abbrev pub holding_within : HoldingSink → MemorySink
+holding_within s = s.inner
+
+abbrev pub passed_bytes : HoldingSink → List ℕ
+passed_bytes s = take s.passed s.inner.bytes.items
 
 -- the source of one byte: the byte, the most bytes a call, how many are left, whether it has ended
 abbrev pub endless_byte : EndlessSource → ℕ

@@ -36,9 +36,12 @@ pub trait Source {
 
 /// Takes bytes, in pieces of any size. It may hold some of them until it is flushed.
 ///
-/// The contract speaks of all bytes taken so far (`taken`, where the sink tells them) and of how often it failed.
+/// The contract speaks of all bytes taken so far (`taken`, where the sink tells them), of those that it has passed on
+/// (`passed`, likewise), and of how often it failed.
 pub trait Sink {
     ghost taken: { Self → Option (List ℕ) };
+
+    ghost passed: { Self → Option (List ℕ) };
 
     ghost failed: { Self → ℕ };
 
@@ -55,6 +58,7 @@ pub trait Sink {
     fn flush(&mut self) -> Result<(), Fault>
         requires room { failed self.old + 1 < 2 ^ 64 }
         ensures bytes { taken self.new ≡ taken self.old }
+        ensures passed_on { IfOk result (λ _. passed self.new ≡ taken self.new) }
         ensures count { IfOk result (λ _. failed self.new ≡ failed self.old) }
         ensures err { OnErr result (failed self.new ≡ failed self.old + 1) };
 

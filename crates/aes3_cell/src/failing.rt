@@ -111,6 +111,9 @@ impl Sink for FailingSink {
 
     ghost taken = { λ s. Some (taken_bytes (sink_within s)) };
 
+    // it holds nothing back
+    ghost passed = { λ s. Some (taken_bytes (sink_within s)) };
+
     ghost failed = { failing_sink_failures };
 
     fn write(&mut self, buf: &[u8]) -> Result<usize, Fault>

@@ -81,6 +81,8 @@ impl<W: Write + Drop> StdSink<W> {
 impl<W: Write + Drop> Sink for StdSink<W> {
     ghost taken = { λ _. None };
 
+    ghost passed = { λ _. None };
+
     ghost failed = { λ s. s.failures };
 
     fn write(&mut self, buf: &[u8]) -> Result<usize, Fault> {
