@@ -4,6 +4,7 @@ use crate::endless::EndlessSource;
 use crate::ends::{Fault, Sink, Source, write_all};
 use crate::failing::{FailingSink, FailingSource};
 use crate::form::Form;
+use crate::holding::HoldingSink;
 use crate::level::Level;
 use crate::memory::{MemorySink, MemorySource};
 use crate::packed_in::PackedIn;
@@ -14,6 +15,7 @@ use crate::standard::{StdSink, StdSource};
 use crate::text_in::CellText;
 use crate::text_out::TextOut;
 use crate::written::{put_word, put_words};
+use std::io::{ErrorKind, Read};
 use std::process::Abort;
 
 #[test]
@@ -262,6 +264,51 @@ fn std_ends(rt: HostRuntime) {
     assert_eq!(rt; write_all(&mut sink, b"abcde"), Err(Fault));
     assert_eq!(rt; sink.flush(), Ok(()));
     assert_eq!(rt; sink.failures(), 1);
+}
+
+/// A reader that a signal interrupts `left` times before it gives bytes.
+#[derive(Drop)]
+struct InterruptedReader {
+    left: u32,
+}
+
+impl Read for InterruptedReader {
+    fn read(&mut self, buf: &mut [u8]) -> std::io::Result<usize> {
+        if self.left > 0 {
+            self.left -= 1;
+            return Err(ErrorKind::Interrupted.into());
+        }
+        buf.fill(b'1');
+        Ok(buf.len())
+    }
+}
+
+#[test]
+fn interrupted_reads(rt: HostRuntime) {
+    for left in [0, 1, 999_999] {
+        let mut source = StdSource::new(InterruptedReader { left });
+        let mut piece = [0; 3];
+        assert_eq!(rt; source.read(&mut piece), Ok(3), "{left}");
+        assert_eq!(rt; piece, *b"111");
+        assert_eq!(rt; source.failures(), 0);
+    }
+    let mut source = StdSource::new(InterruptedReader { left: 1_000_001 });
+    assert_eq!(rt; source.read(&mut [0; 3]), Err(Fault));
+    assert_eq!(rt; source.failures(), 1);
+    assert_eq!(rt; source.read(&mut [0; 3]), Ok(3));
+}
+
+#[test]
+fn bytes_held_until_flushed(rt: HostRuntime) {
+    let mut sink = HoldingSink::new(rt.alloc());
+    for (bytes, held, passed) in [(b"ab", "ab", ""), (b"cd", "abcd", "ab")] {
+        assert!(rt; sink.failures() == 0);
+        assert_eq!(rt; write_all(&mut sink, bytes), Ok(()));
+        assert!(rt; sink.bytes() == held.as_bytes());
+        assert!(rt; sink.passed() == passed.as_bytes());
+        assert_eq!(rt; sink.flush(), Ok(()));
+        assert!(rt; sink.passed() == held.as_bytes());
+    }
 }
 
 #[test]
