@@ -17,4 +17,5 @@ pub mod CellLaws
 pub mod StatusLaws
 pub mod SlotWords
 pub mod Samples
+pub mod SampleBlocks
 pub mod ReadCells

@@ -63,28 +63,31 @@ lawful-more xs i x k h e f = go (cases_eq k i)
     go (inl q) = ap (λ k. is_lawful (get_or (set xs i x) k 0)) q ∙ ap is_lawful (get_or-set_same xs i x 0 h) ∙ e
     go (inr q) = ap is_lawful (get_or-set_other xs i k x 0 q) ∙ f
 
-pub payload-more : (xs ys : List ℕ) (i x : ℕ) → i < length xs → payload_of x ≡ take payload_len (read_word (get_or ys i 0))
-    → ((k : ℕ) → k < i → payload_of (get_or xs k 0) ≡ take payload_len (read_word (get_or ys k 0)))
-    → (k : ℕ) → k < i + 1 → payload_of (get_or (set xs i x) k 0) ≡ take payload_len (read_word (get_or ys k 0))
-payload-more xs ys i x h e f k g = go (cases_eq k i)
+pub payload-more : (payload : ℕ → List Bool) (xs ys : List ℕ) (i x : ℕ) → i < length xs → payload_of x ≡ payload (get_or ys i 0)
+    → ((k : ℕ) → k < i → payload_of (get_or xs k 0) ≡ payload (get_or ys k 0))
+    → (k : ℕ) → k < i + 1 → payload_of (get_or (set xs i x) k 0) ≡ payload (get_or ys k 0)
+payload-more payload xs ys i x h e f k g = go (cases_eq k i)
   where
-    go : (k ≡ i) ⊎ (k ≡ i → ⊥) → payload_of (get_or (set xs i x) k 0) ≡ take payload_len (read_word (get_or ys k 0))
+    go : (k ≡ i) ⊎ (k ≡ i → ⊥) → payload_of (get_or (set xs i x) k 0) ≡ payload (get_or ys k 0)
     go (inl q) = ap (λ k. payload_of (get_or (set xs i x) k 0)) q ∙ ap payload_of (get_or-set_same xs i x 0 h) ∙ e
-        ∙ ap (λ k. take payload_len (read_word (get_or ys k 0))) (sym q)
+        ∙ ap (λ k. payload (get_or ys k 0)) (sym q)
     go (inr q) = ap payload_of (get_or-set_other xs i k x 0 q) ∙ f k (omega arith)
 
 -- all of them
-abbrev payload : ℕ → List Bool
-payload w = take payload_len (read_word w)
-
-pub payloads-all : (xs ys : List ℕ) → length xs ≡ length ys
-    → ((k : ℕ) → k < length xs → payload_of (get_or xs k 0) ≡ take payload_len (read_word (get_or ys k 0)))
-    → map payload_of xs ≡ map (take payload_len) (read_words ys)
-payloads-all xs ys l f =
+pub payloads-all : (payload : ℕ → List Bool) (xs ys : List ℕ) → length xs ≡ length ys
+    → ((k : ℕ) → k < length xs → payload_of (get_or xs k 0) ≡ payload (get_or ys k 0)) → map payload_of xs ≡ map payload ys
+payloads-all payload xs ys l f =
     ext_get_or [] (map payload_of xs) (map payload ys) (length-map xs payload_of ∙ l ∙ sym (length-map ys payload))
     (λ k h. let n = length-map xs payload_of in
     get_or-map payload_of xs k 0 [] (omega arith) ∙ f k (omega arith) ∙ sym (get_or-map payload ys k 0 [] (omega arith)))
-    ∙ sym (map-map (take payload_len) read_word ys)
+
+-- the payload that a word of cells carries
+abbrev pub carried : ℕ → List Bool
+carried w = take payload_len (read_word w)
+
+pub carried-all : (xs ys : List ℕ) → length xs ≡ length ys → ((k : ℕ) → k < length xs → payload_of (get_or xs k 0) ≡ carried (get_or ys k 0))
+    → map payload_of xs ≡ map (take payload_len) (read_words ys)
+carried-all xs ys l f = payloads-all carried xs ys l f ∙ sym (map-map (take payload_len) read_word ys)
 
 -- how many have odd ones
 abbrev pub odd_count : List ℕ → ℕ

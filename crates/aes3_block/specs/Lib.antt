@@ -2,6 +2,7 @@ pub mod Subframes
 pub mod Blocks
 pub mod Files
 pub mod Samples
+pub mod Sampled
 pub mod Readers
 pub mod Refusals
 pub mod Statuses

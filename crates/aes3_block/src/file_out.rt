@@ -9,7 +9,7 @@ use crate::block::{Block, SLOTS};
 use aes3_cell::{Fault, Sink, write_all};
 
 /// How many bytes a block has in a block file.
-pub(crate) const BLOCK_BYTES: usize = 4 * SLOTS;
+pub const BLOCK_BYTES: usize = 4 * SLOTS;
 
 pub(crate) fn blank_bytes() -> [u8; BLOCK_BYTES]
     ensures { length result ≡ BLOCK_BYTES }

@@ -1,7 +1,7 @@
 -- The numbers of the refusals, and where the fault stands.
 use Rattle.std.specs.Prelude.{ℕ, Option, Some, None}
 use Rattle.aes3_cell.specs.declared.refusal.RunError.{RunError}
-use Rattle.aes3_cell.specs.declared.refusal.RunError.TheVariants.{BadCell, BadLength, BadCode, BadParity, Read, Write, TooLong, Memory, BadStatusText, BadPadding}
+use Rattle.aes3_cell.specs.declared.refusal.RunError.TheVariants.{BadCell, BadLength, BadCode, BadParity, Read, Write, TooLong, Memory, BadStatusText, BadPadding, BadSample}
 
 abbrev pub number_of : RunError → ℕ
 number_of (BadCell at) = 1
@@ -14,8 +14,9 @@ number_of TooLong = 7
 number_of Memory = 8
 number_of BadStatusText = 9
 number_of (BadPadding at) = 10
+number_of (BadSample at) = 11
 
--- counted from 0 over the whole input; of a block file that is cut, the number of bytes that are left
+-- counted from 0 over the whole input; of a block file or of samples that are cut, the number of bytes that are left
 abbrev pub place_of : RunError → Option ℕ
 place_of (BadCell at) = Some at
 place_of (BadLength left) = Some left
@@ -27,3 +28,4 @@ place_of TooLong = None
 place_of Memory = None
 place_of BadStatusText = None
 place_of (BadPadding at) = Some at
+place_of (BadSample at) = Some at

@@ -19,12 +19,12 @@ pub struct BadPadding {
     pub at: u64,
 }
 
-/// The ten refusals of a run or a command line.
+/// The eleven refusals of a run or a command line.
 #[derive(Clone, Copy, PartialEq, Eq, Debug, Error)]
 pub enum RunError {
     #[error("byte {at} is neither cell nor separator")]
     BadCell { at: u64 },
-    #[error("the block file ends {left} bytes into a block")]
+    #[error("the input ends {left} bytes into a block or a frame")]
     BadLength { left: u64 },
     #[error("bits 0 to 3 of word {at} are not zero")]
     BadCode { at: u64 },
@@ -42,10 +42,12 @@ pub enum RunError {
     BadStatusText,
     #[error("the packed cells end wrongly at octet {at}")]
     BadPadding { at: u64 },
+    #[error("the sample word that begins at byte {at} has bits below the highest 24")]
+    BadSample { at: u64 },
 }
 
 impl RunError {
-    /// The refusal's number, 1 to 10, as the program prints it.
+    /// The refusal's number, 1 to 11, as the program prints it.
     pub fn number(&self) -> u8
         ensures { result ≡ number_of self.now }
     {
@@ -60,6 +62,7 @@ impl RunError {
             RunError::Memory => 8,
             RunError::BadStatusText => 9,
             RunError::BadPadding { .. } => 10,
+            RunError::BadSample { .. } => 11,
         }
     }
 
@@ -71,7 +74,8 @@ impl RunError {
             RunError::BadCell { at }
             | RunError::BadCode { at }
             | RunError::BadParity { at }
-            | RunError::BadPadding { at } => Some(at),
+            | RunError::BadPadding { at }
+            | RunError::BadSample { at } => Some(at),
             RunError::BadLength { left } => Some(left),
             _ => None,
         }

@@ -324,6 +324,7 @@ fn all_refusals(rt: HostRuntime) {
         (RunError::Memory, 8, None),
         (RunError::BadStatusText, 9, None),
         (RunError::BadPadding { at: 1 }, 10, Some(1)),
+        (RunError::BadSample { at: 4 }, 11, Some(4)),
     ];
     for (error, number, place) in rows {
         assert_eq!(rt; error.number(), number);

@@ -5,7 +5,7 @@ use Rattle.aes3_cell.specs.declared.level.Level.{Level}
 use Rattle.aes3_cell.specs.declared.form.Form.{Form}
 use Rattle.aes3_cell.specs.declared.form.Form.TheVariants.{Text, Packed}
 use Rattle.aes3_cell.specs.declared.refusal.RunError.{RunError}
-use Rattle.aes3_cell.specs.declared.refusal.RunError.TheVariants.{BadCell, BadLength, BadCode, BadParity, Read, Write, TooLong, Memory, BadStatusText, BadPadding}
+use Rattle.aes3_cell.specs.declared.refusal.RunError.TheVariants.{BadCell, BadLength, BadCode, BadParity, Read, Write, TooLong, Memory, BadStatusText, BadPadding, BadSample}
 use Rattle.aes3_cell.specs.declared.counts.Counts.{Counts}
 use Rattle.aes3_cell.specs.Ends.{Grew, GrewFront, Told}
 use Rattle.aes3_cell.specs.CellText.{good}
@@ -48,6 +48,7 @@ ran-err max form w z whole begun counts b ended source sink (BadCode n) p q r = 
 ran-err max form w z whole begun counts b ended source sink (BadParity n) p q r = absurd r
 ran-err max form w z whole begun counts b ended source sink Memory p q r = absurd r
 ran-err max form w z whole begun counts b ended source sink BadStatusText p q r = absurd r
+ran-err max form w z whole begun counts b ended source sink (BadSample n) p q r = absurd r
 
 pub drove-err : {max : ℕ} {form : Form} {w : Writing Level} {f z : List Level → Type 0} (whole begun : List Level → List ℕ) (counts : List ℕ → Counts) {ended : Bool} {source sink : Change} {x : RunError}
     → ((c : List Level) → with_end w c ≡ whole c) → ((c : List Level) → before_end w c ≡ begun c) → Drive max form w f z ended source sink (Err x) → CellRun max form whole begun counts ended source sink (Err x)
@@ -182,6 +183,7 @@ owed max form whole begun counts b ended source sink (Err (BadCode at)) h c l q 
 owed max form whole begun counts b ended source sink (Err (BadParity at)) h c l q k = absurd h.0
 owed max form whole begun counts b ended source sink (Err Memory) h c l q k = absurd h.0
 owed max form whole begun counts b ended source sink (Err BadStatusText) h c l q k = absurd h.0
+owed max form whole begun counts b ended source sink (Err (BadSample at)) h c l q k = absurd h.0
 
 pub run-owed : {max : ℕ} {form : Form} {whole begun : List Level → List ℕ} {counts : List ℕ → Counts} {ended : Bool} {source sink : Change} {r : Result Counts RunError}
     → CellRun max form whole begun counts ended source sink r → (b : List ℕ) → Told source.old source.new b → IsInput form b → length b ≤ max → Quiet source → Quiet sink → IsOk r

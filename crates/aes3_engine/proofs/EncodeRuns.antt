@@ -2,7 +2,7 @@
 use Rattle.std.proofs.Common.{◌≡◌, ℕ, ◌+◌, ◌*◌, ◌/◌, ◌%◌, ◌<◌, ◌≤◌, ◌⊎◌, inl, inr, List, [], ◌∷◌, ◌++◌, Bool, true, Option, Some, None, Err, length, take, get_or, refl, sym, ap, ◌∙◌, subst, arith, append_assoc, append-nil}
 use Rattle.aes3_cell.specs.declared.level.Level.TheVariants.{Low}
 use Rattle.aes3_cell.specs.declared.refusal.RunError.{RunError}
-use Rattle.aes3_cell.specs.declared.refusal.RunError.TheVariants.{BadCell, BadLength, BadCode, BadParity, Read, Write, TooLong, Memory, BadStatusText, BadPadding}
+use Rattle.aes3_cell.specs.declared.refusal.RunError.TheVariants.{BadCell, BadLength, BadCode, BadParity, Read, Write, TooLong, Memory, BadStatusText, BadPadding, BadSample}
 use Rattle.aes3_cell.specs.declared.counts.Counts.{Counts}
 use Rattle.aes3_cell.specs.Ends.{Told, GrewFront}
 use Rattle.aes3_cell.proofs.Growing.{front-is}
@@ -236,6 +236,10 @@ ran-cause form max z b ended source sink BadStatusText few h = elim h.3 [
 ran-cause form max z b ended source sink (BadPadding at) few h = elim h.3 [
   | inl q ↦ no-fault-cause form (take max b) (BadPadding at) (λ k e. cc) (λ k e. cc) q
   | inr q ↦ no-end-cause form b (BadPadding at) (λ k e. cc) q.1
+]
+ran-cause form max z b ended source sink (BadSample at) few h = elim h.3 [
+  | inl q ↦ no-fault-cause form (take max b) (BadSample at) (λ k e. cc) (λ k e. cc) q
+  | inr q ↦ no-end-cause form b (BadSample at) (λ k e. cc) q.1
 ]
 
 pub told-cause : (form : Form) {max : ℕ} {f s z : List ℕ → Type 0} {ended : Bool} {source sink : Change} {e : RunError} → Run max (encoding form) f s z ended source sink (Err e)

@@ -17,6 +17,8 @@ pub mod CellRuns
 pub mod ReportRuns
 pub mod BlockRuns
 pub mod RewrittenBlocks
+pub mod SampleReads
+pub mod SampleRuns
 pub mod PackedLemmas
 pub mod PackedRuns
 pub mod Fronts

@@ -3,7 +3,7 @@ use Rattle.std.proofs.Common.{◌≡◌, ℕ, ◌⊎◌, inl, inr, Bool, true, f
 use Rattle.aes3_cell.specs.declared.level.Level.{Level}
 use Rattle.aes3_cell.specs.declared.form.Form.TheVariants.{Packed}
 use Rattle.aes3_cell.specs.declared.refusal.RunError.{RunError}
-use Rattle.aes3_cell.specs.declared.refusal.RunError.TheVariants.{Read, Write, TooLong, BadCell, BadLength, BadCode, BadParity, Memory, BadStatusText, BadPadding}
+use Rattle.aes3_cell.specs.declared.refusal.RunError.TheVariants.{Read, Write, TooLong, BadCell, BadLength, BadCode, BadParity, Memory, BadStatusText, BadPadding, BadSample}
 use Rattle.aes3_cell.specs.Packed.{IsPacked, is_packed, last_place, cells_of_packed, whole_cells}
 use Rattle.aes3_cell.specs.PackedReading.{PackedReader, packed_reader_of, packed_answer, packed_end, answer_cells, end_cells}
 use Rattle.aes3_cell.proofs.Growing.{grew-is, front-is}
@@ -144,6 +144,7 @@ packed-ran-err max w cells z b ended source sink (BadCode n) r = absurd (let q =
 packed-ran-err max w cells z b ended source sink (BadParity n) r = absurd (let q = (bad-of max w b ended (BadParity n) r.3).2 in cc)
 packed-ran-err max w cells z b ended source sink Memory r = absurd (let q = (bad-of max w b ended Memory r.3).2 in cc)
 packed-ran-err max w cells z b ended source sink BadStatusText r = absurd (let q = (bad-of max w b ended BadStatusText r.3).2 in cc)
+packed-ran-err max w cells z b ended source sink (BadSample n) r = absurd (let q = (bad-of max w b ended (BadSample n) r.3).2 in cc)
 
 packed-left : (max : ℕ) (w : Writing Level) (packed : PackedReader) (cells : ℕ) (f : List Level → Type 0) (b : List ℕ) (e : RunError)
     → Left max (packed_reading w) (PackedTaken packed cells f) (λ b. f (whole_cells b)) b (Err e) → LeftCells max Packed f b (Err e)

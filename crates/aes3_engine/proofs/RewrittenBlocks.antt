@@ -22,27 +22,29 @@ each-status : (channel : Channel) (b : List (List Bool)) (status : List ℕ) →
 unfolding with_status
 each-status channel b status h = payloads-stay channel b (bits_of_bytes status) h
 
-each-set : (channel : Channel) (status : Option (List ℕ)) (b : List (List Bool)) → Each27 b → Each27 (set_status channel status b)
-each-set channel None b h = h
-each-set channel (Some status) b h = each-status channel b status h
+-- what each new status keeps of a block, a change keeps
+module _ (P : List (List Bool) → Type 0) (keeps : (channel : Channel) (b : List (List Bool)) (status : List ℕ) → P b → P (with_status b channel status)) where
+  set-keeps : (channel : Channel) (status : Option (List ℕ)) (b : List (List Bool)) → P b → P (set_status channel status b)
+  set-keeps channel None b h = h
+  set-keeps channel (Some status) b h = keeps channel b status h
 
-each-if : (t : Bool) (a b : List (List Bool)) → Each27 a → Each27 b → Each27 (cond t a b)
-each-if true a b h k = h
-each-if false a b h k = k
+  if-keeps : (t : Bool) (a b : List (List Bool)) → P a → P b → P (cond t a b)
+  if-keeps true a b h k = h
+  if-keeps false a b h k = k
 
-each-mended : (channel : Channel) (b : List (List Bool)) → Each27 b → Each27 (mended channel b)
-each-mended channel b h =
-    each-if (is_professional (status_of b channel)) (with_status b channel (checked (status_of b channel))) b (each-status channel b (checked (status_of b channel)) h) h
+  mended-keeps : (channel : Channel) (b : List (List Bool)) → P b → P (mended channel b)
+  mended-keeps channel b h =
+      if-keeps (is_professional (status_of b channel)) (with_status b channel (checked (status_of b channel))) b (keeps channel b (checked (status_of b channel)) h) h
 
-each-rewritten : (change : Change) (b : List (List Bool)) → Each27 b → Each27 (rewritten change b)
-each-rewritten change b h =
-    let s = set_status Second change.status2 (set_status First change.status1 b) in
-    let k = each-set Second change.status2 (set_status First change.status1 b) (each-set First change.status1 b h) in
-    each-if change.mend (mended Second (mended First s)) s (each-mended Second (mended First s) (each-mended First s k)) k
+  pub rewritten-keeps : (change : Change) (b : List (List Bool)) → P b → P (rewritten change b)
+  rewritten-keeps change b h =
+      let s = set_status Second change.status2 (set_status First change.status1 b) in
+      let k = set-keeps Second change.status2 (set_status First change.status1 b) (set-keeps First change.status1 b h) in
+      if-keeps change.mend (mended Second (mended First s)) s (mended-keeps Second (mended First s) (mended-keeps First s k)) k
 
 each-blocks : (change : Change) (bs : List (List (List Bool))) → EachBlock27 bs → EachBlock27 (rewritten_blocks change bs)
 each-blocks change [] h = tt
-each-blocks change (b ∷ bs) h = (each-rewritten change b h.0, each-blocks change bs h.1)
+each-blocks change (b ∷ bs) h = (rewritten-keeps Each27 each-status change b h.0, each-blocks change bs h.1)
 
 -- what the changed blocks write
 changed-numbered : (form : Form) (change : Change) (n : ℕ) (bs : List (List (List Bool))) → numbered (rewritten_block form change) n bs ≡ numbered (normal_block form) n (rewritten_blocks change bs)

@@ -3,7 +3,7 @@ use Rattle.std.proofs.Common.{◌≡◌, ℕ, ◌+◌, ◌<◌, ◌⊎◌, inl, 
 use Rattle.aes3_cell.specs.declared.level.Level.{Level}
 use Rattle.aes3_cell.specs.declared.form.Form.TheVariants.{Text}
 use Rattle.aes3_cell.specs.declared.refusal.RunError.{RunError}
-use Rattle.aes3_cell.specs.declared.refusal.RunError.TheVariants.{Read, Write, TooLong, BadCell, BadLength, BadCode, BadParity, Memory, BadStatusText, BadPadding}
+use Rattle.aes3_cell.specs.declared.refusal.RunError.TheVariants.{Read, Write, TooLong, BadCell, BadLength, BadCode, BadParity, Memory, BadStatusText, BadPadding, BadSample}
 use Rattle.aes3_cell.specs.CellText.{is_good_byte, byte_cells, good_bytes, good, cells_of_text, IsCellText}
 use Rattle.aes3_cell.specs.TextReading.{TextReader, text_reader_of}
 use Rattle.aes3_cell.proofs.Growing.{grew-is, front-is}
@@ -199,6 +199,7 @@ text-ran-err max w text cells z b ended source sink (BadParity n) r = absurd (le
 text-ran-err max w text cells z b ended source sink Memory r = absurd (let q = (bad-of max w b ended Memory r.3).0 in cc)
 text-ran-err max w text cells z b ended source sink BadStatusText r = absurd (let q = (bad-of max w b ended BadStatusText r.3).0 in cc)
 text-ran-err max w text cells z b ended source sink (BadPadding n) r = absurd (let q = (bad-of max w b ended (BadPadding n) r.3).0 in cc)
+text-ran-err max w text cells z b ended source sink (BadSample n) r = absurd (let q = (bad-of max w b ended (BadSample n) r.3).0 in cc)
 
 text-left : (max : ℕ) (w : Writing Level) (text : TextReader) (cells : ℕ) (f : List Level → Type 0) (b : List ℕ) (e : RunError)
     → Left max (text_reading w) (TextTaken text cells f) (λ b. f (cells_of_text b)) b (Err e) → LeftCells max Text f b (Err e)

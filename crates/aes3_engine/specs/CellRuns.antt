@@ -3,7 +3,7 @@ use Rattle.std.specs.Prelude.{ℕ, List, Bool, ◌≡◌, ◌≤◌, ◌+◌, �
 use Rattle.aes3_cell.specs.declared.level.Level.{Level}
 use Rattle.aes3_cell.specs.declared.form.Form.{Form}
 use Rattle.aes3_cell.specs.declared.refusal.RunError.{RunError}
-use Rattle.aes3_cell.specs.declared.refusal.RunError.TheVariants.{BadCell, BadLength, BadCode, BadParity, Read, Write, TooLong, Memory, BadStatusText, BadPadding}
+use Rattle.aes3_cell.specs.declared.refusal.RunError.TheVariants.{BadCell, BadLength, BadCode, BadParity, Read, Write, TooLong, Memory, BadStatusText, BadPadding, BadSample}
 use Rattle.aes3_cell.specs.declared.counts.Counts.{Counts}
 use Rattle.aes3_cell.specs.Ends.{Grew, GrewFront}
 use Rattle.aes3_engine.specs.Running.{Change, Quiet, Failed}
@@ -22,6 +22,7 @@ IsCause form max b ended (BadCode at) = ⊥
 IsCause form max b ended (BadParity at) = ⊥
 IsCause form max b ended Memory = ⊥
 IsCause form max b ended BadStatusText = ⊥
+IsCause form max b ended (BadSample at) = ⊥
 
 -- What a run answers to the bytes b, of which all cells write `whole`, cells behind which more may come write `begun`, and which count as
 -- `counts` says:

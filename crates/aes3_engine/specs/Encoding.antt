@@ -2,7 +2,7 @@
 use Rattle.std.specs.Prelude.{ℕ, List, [], Bool, true, false, Option, Some, None, Result, Ok, Err, ◌≡◌, ◌<◌, ◌≤◌, ◌+◌, ◌*◌, ◌%◌, IsTrue, length, take, get_or}
 use Rattle.aes3_cell.specs.declared.level.Level.TheVariants.{Low}
 use Rattle.aes3_cell.specs.declared.refusal.RunError.{RunError}
-use Rattle.aes3_cell.specs.declared.refusal.RunError.TheVariants.{BadCell, BadLength, BadCode, BadParity, Read, Write, TooLong, Memory, BadStatusText, BadPadding}
+use Rattle.aes3_cell.specs.declared.refusal.RunError.TheVariants.{BadCell, BadLength, BadCode, BadParity, Read, Write, TooLong, Memory, BadStatusText, BadPadding, BadSample}
 use Rattle.aes3_cell.specs.declared.counts.Counts.{Counts}
 use Rattle.aes3_block.specs.declared.file.FileFault.{FileFault}
 use Rattle.aes3_block.specs.Blocks.{block_slots, block_len, block_cells, stream}
@@ -78,6 +78,7 @@ IsCauseOf max b ended (BadCell at) = ⊥
 IsCauseOf max b ended Memory = ⊥
 IsCauseOf max b ended BadStatusText = ⊥
 IsCauseOf max b ended (BadPadding at) = ⊥
+IsCauseOf max b ended (BadSample at) = ⊥
 
 -- what a run over a whole block file counts
 unfoldable pub encode_counts : List ℕ → Counts

@@ -10,4 +10,5 @@ pub mod CellRuns
 pub mod ReportRuns
 pub mod BlockRuns
 pub mod Rewriting
+pub mod Sampling
 pub use Rattle.aes3_cell.specs.Ends

@@ -13,6 +13,7 @@ mod report_runs;
 mod reporter;
 mod rewriting;
 mod samples;
+mod sampling;
 mod taker;
 mod tally;
 #[cfg(test)]
@@ -30,5 +31,6 @@ pub use report_runs::{ReportWriter, run_reports};
 pub use reporter::Reporter;
 pub use rewriting::rewrite;
 pub use samples::to_pcm;
+pub use sampling::from_pcm;
 pub use taker::Taker;
 pub use tally::Tally;

@@ -38,7 +38,7 @@ fn mend(block: &mut Block, channel: Channel)
 }
 
 /// Changes the channel status of a block.
-fn rewrite_block(block: &mut Block, change: &Change)
+pub(crate) fn rewrite_block(block: &mut Block, change: &Change)
     ensures { block.new ≡ rewritten change.now block.old }
 {
     set_status(block, Channel::First, &change.status1);
