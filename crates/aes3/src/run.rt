@@ -19,6 +19,7 @@ pub const USAGE: u8 = 2;
 fn put_text<T: Sink>(text: &str, sink: &mut T) -> Result<(), Fault>
     requires room { T.failed sink.old + 1 < 2 ^ 64 }
     ensures text { IfOk result (λ _. Grew (T.taken sink.old) (T.taken sink.new) text.now) }
+    ensures passed_on { IfOk result (λ _. T.passed sink.new ≡ T.taken sink.new) }
     ensures count { IfOk result (λ _. T.failed sink.new ≡ T.failed sink.old) }
     ensures err { OnErr result (T.failed sink.new ≡ T.failed sink.old + 1) }
 {
@@ -35,6 +36,7 @@ fn tell_fault<T: Sink, E: Sink>(fault: LineFault, sink: &mut T, errors: &mut E) 
     ensures told { FaultRan fault
         (record { old = T.taken sink.old; new = T.taken sink.new; failed_old = T.failed sink.old; failed_new = T.failed sink.new })
         (record { old = E.taken errors.old; new = E.taken errors.new; failed_old = E.failed errors.old; failed_new = E.failed errors.new }) result }
+    ensures passed_on { T.passed sink.old ≡ T.taken sink.old → T.failed sink.new ≡ T.failed sink.old → T.passed sink.new ≡ T.taken sink.new }
     ensures errors { E.failed errors.new ≤ E.failed errors.old + 1 }
 {
     match fault {
@@ -81,8 +83,8 @@ pub fn tell_unread<E: Sink>(fault: Unread, errors: &mut E) -> u8
 }
 
 /// Runs a command line, without the program's name, and answers the exit status: 0 done, 1 where `check` found faults, 2
-/// for a refused command line, 3 for a refusal. The sink is flushed before. Refusals are told on `errors`, whose own faults
-/// change nothing.
+/// for a refused command line, 3 for a refusal. A sink that held nothing before and did not fail has passed on all that it
+/// took. Refusals are told on `errors`, whose own faults change nothing.
 pub fn run_words<S: Source, T: Sink, E: Sink>(
     alloc: Global,
     words: &[&str],
@@ -97,6 +99,7 @@ pub fn run_words<S: Source, T: Sink, E: Sink>(
         (record { old = S.given source.old; new = S.given source.new; failed_old = S.failed source.old; failed_new = S.failed source.new })
         (record { old = T.taken sink.old; new = T.taken sink.new; failed_old = T.failed sink.old; failed_new = T.failed sink.new })
         (record { old = E.taken errors.old; new = E.taken errors.new; failed_old = E.failed errors.old; failed_new = E.failed errors.new }) result }
+    ensures passed_on { T.passed sink.old ≡ T.taken sink.old → T.failed sink.new ≡ T.failed sink.old → T.passed sink.new ≡ T.taken sink.new }
     ensures errors { E.failed errors.new ≤ E.failed errors.old + 1 }
 {
     match job_of_words(alloc, words) {

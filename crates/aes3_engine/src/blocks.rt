@@ -1,6 +1,6 @@
 //! Runs that read cells and write something of each block.
 
-ghost use Rattle.std.specs.Prelude.{ℕ, ◌+◌, ◌<◌, ◌≤◌, ◌^◌, List, Bool, map, take};
+ghost use Rattle.std.specs.Prelude.{◌≡◌, ℕ, ◌+◌, ◌<◌, ◌≤◌, ◌^◌, List, Bool, map, take, IfOk};
 ghost use Rattle.aes3_cell.specs.Writes.{Wrote};
 ghost use Rattle.aes3_slot.specs.ReadWords.{read_words};
 ghost use Rattle.aes3_slot.specs.Slots.{payload_len};
@@ -104,8 +104,9 @@ pub fn run_blocks<S: Source, T: Sink, W: BlockWriter + Drop>(
     requires source_room { S.failed source.old + 1 < 2 ^ 64 }
     requires sink_room { T.failed sink.old + 1 < 2 ^ 64 }
     requires limit { max_bytes ≤ 2 ^ 40 }
-    ensures { ReportRun max_bytes input (report_bytes (W.writes writer)) (W.ends writer) (S.has_ended source.new)
+    ensures ran { ReportRun max_bytes input (report_bytes (W.writes writer)) (W.ends writer) (S.has_ended source.new)
         (change_of S.given S.failed source.old source.new) (change_of T.taken T.failed sink.old sink.new) result }
+    ensures passed_on { IfOk result (λ _. T.passed sink.new ≡ T.taken sink.new) }
 {
     run_reports(source, sink, max_bytes, input, Blocks { writer })
 }

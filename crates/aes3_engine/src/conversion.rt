@@ -107,8 +107,9 @@ fn feed<T: Sink, K, I: Input<K>>(
 ) -> Result<(), RunError>
     requires room { T.failed sink.old + 1 < 2 ^ 64 }
     requires following { (b : List ℕ) × (length b + length piece.now ≤ 2 ^ 40) × I.follows input.old taker.old b }
-    ensures { PieceRan (I.reads input.old taker.old) (I.reads input.new taker.new) (I.follows input.old taker.old) (I.follows input.new taker.new) (I.stopped input.new taker.new) piece.now
+    ensures ran { PieceRan (I.reads input.old taker.old) (I.reads input.new taker.new) (I.follows input.old taker.old) (I.follows input.new taker.new) (I.stopped input.new taker.new) piece.now
         (record { old = T.taken sink.old; new = T.taken sink.new; failed_old = T.failed sink.old; failed_new = T.failed sink.new }) result }
+    ensures passed_on { IfOk result (λ _. T.passed sink.new ≡ T.taken sink.new) }
 {
     match feed_fronts(input, taker, sink, piece) {
         Ok(()) => match sink.flush() {
@@ -127,8 +128,9 @@ fn finish<T: Sink, K, I: Input<K>>(
 ) -> Result<(), RunError>
     requires room { T.failed sink.old + 1 < 2 ^ 64 }
     requires following { (b : List ℕ) × (length b ≤ 2 ^ 40) × I.follows input.old taker.old b }
-    ensures { EndRan (I.reads input.old taker.old) (I.follows input.old taker.old) (I.stopped input.new taker.new) (I.finished input.new taker.new)
+    ensures ran { EndRan (I.reads input.old taker.old) (I.follows input.old taker.old) (I.stopped input.new taker.new) (I.finished input.new taker.new)
         (record { old = T.taken sink.old; new = T.taken sink.new; failed_old = T.failed sink.old; failed_new = T.failed sink.new }) result }
+    ensures passed_on { IfOk result (λ _. T.passed sink.new ≡ T.taken sink.new) }
 {
     match input.finish(taker, sink) {
         Ok(()) => match sink.flush() {
@@ -158,6 +160,10 @@ pub fn convert<S: Source, T: Sink, K, I: Input<K>>(
     ensures run { Run max_bytes (I.reads input.old taker.old) (I.follows input.new taker.new) (I.stopped input.new taker.new) (I.finished input.new taker.new) (S.has_ended source.new)
         (record { old = S.given source.old; new = S.given source.new; failed_old = S.failed source.old; failed_new = S.failed source.new })
         (record { old = T.taken sink.old; new = T.taken sink.new; failed_old = T.failed sink.old; failed_new = T.failed sink.new }) result }
+
+    // At Ok the sink has passed on all that it took, and so it had before a read that failed.
+    ensures passed_on { IfOk result (λ _. T.passed sink.new ≡ T.taken sink.new) }
+    ensures passed_before { S.failed source.new ≡ S.failed source.old + 1 → T.passed sink.old ≡ T.taken sink.old → T.passed sink.new ≡ T.taken sink.new }
 {
     let mut piece = blank_piece();
     let mut seen: u64 = 0;

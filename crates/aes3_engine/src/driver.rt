@@ -1,6 +1,6 @@
 //! The run over an input of cells.
 
-ghost use Rattle.std.specs.Prelude.{◌≡◌, ◌+◌, ◌<◌, ◌≤◌, ◌^◌, []};
+ghost use Rattle.std.specs.Prelude.{◌≡◌, ◌+◌, ◌<◌, ◌≤◌, ◌^◌, [], IfOk};
 ghost use Rattle.aes3_engine.specs.Driving.{Drive};
 
 use crate::packed_input::drive_packed;
@@ -27,9 +27,10 @@ pub fn drive<S: Source, T: Sink, K: Taker>(
     requires sink_room { T.failed sink.old + 1 < 2 ^ 64 }
     requires limit { max_bytes ≤ 2 ^ 40 }
     requires start { K.follows taker.old [] }
-    ensures { Drive max_bytes input (K.writes taker.old) (K.follows taker.new) (K.finished taker.new) (S.has_ended source.new)
+    ensures ran { Drive max_bytes input (K.writes taker.old) (K.follows taker.new) (K.finished taker.new) (S.has_ended source.new)
         (record { old = S.given source.old; new = S.given source.new; failed_old = S.failed source.old; failed_new = S.failed source.new })
         (record { old = T.taken sink.old; new = T.taken sink.new; failed_old = T.failed sink.old; failed_new = T.failed sink.new }) result }
+    ensures passed_on { IfOk result (λ _. T.passed sink.new ≡ T.taken sink.new) }
 {
     match input {
         Form::Text => drive_text(source, sink, max_bytes, taker),

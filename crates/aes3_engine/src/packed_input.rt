@@ -1,6 +1,6 @@
 //! Packed cells as an input.
 
-ghost use Rattle.std.specs.Prelude.{◌≡◌, ℕ, ◌+◌, ◌*◌, ◌<◌, ◌≤◌, ◌^◌, ◌++◌, List, [], ◌∷◌, length, take, IfSome, OnSome, IfNone};
+ghost use Rattle.std.specs.Prelude.{◌≡◌, ℕ, ◌+◌, ◌*◌, ◌<◌, ◌≤◌, ◌^◌, ◌++◌, List, [], ◌∷◌, length, take, IfOk, IfSome, OnSome, IfNone};
 ghost use Rattle.std.specs.List.{flat_map};
 ghost use Rattle.aes3_cell.specs.declared.form.Form.{Form};
 ghost use Rattle.aes3_cell.specs.declared.level.Level.{Level};
@@ -157,9 +157,10 @@ pub(crate) fn drive_packed<S: Source, T: Sink, K: Taker>(
     requires sink_room { T.failed sink.old + 1 < 2 ^ 64 }
     requires limit { max_bytes ≤ 2 ^ 40 }
     requires start { K.follows taker.old [] }
-    ensures { Drive max_bytes Form.Packed (K.writes taker.old) (K.follows taker.new) (K.finished taker.new) (S.has_ended source.new)
+    ensures ran { Drive max_bytes Form.Packed (K.writes taker.old) (K.follows taker.new) (K.finished taker.new) (S.has_ended source.new)
         (record { old = S.given source.old; new = S.given source.new; failed_old = S.failed source.old; failed_new = S.failed source.new })
         (record { old = T.taken sink.old; new = T.taken sink.new; failed_old = T.failed sink.old; failed_new = T.failed sink.new }) result }
+    ensures passed_on { IfOk result (λ _. T.passed sink.new ≡ T.taken sink.new) }
 {
     let mut input = PackedInput::new();
     match convert(source, sink, max_bytes, &mut input, taker) {

@@ -158,6 +158,7 @@ pub fn normalise<S: Source, T: Sink>(
     ensures fits { IfOk result (λ _. (b : List ℕ) → Told (S.given source.old) (S.given source.new) b → length b ≤ max_bytes) }
     ensures ended { IfOk result (λ _. IsTrue (S.has_ended source.new)) }
     ensures quiet { IfOk result (λ _. (S.failed source.new ≡ S.failed source.old) × (T.failed sink.new ≡ T.failed sink.old)) }
+    ensures passed_on { IfOk result (λ _. T.passed sink.new ≡ T.taken sink.new) }
 
     // It owes Ok where the input is in its form and fits, and neither end failed.
     ensures owed { (b : List ℕ) → Told (S.given source.old) (S.given source.new) b → IsInput input b → length b ≤ max_bytes
@@ -203,6 +204,7 @@ pub fn decode<S: Source, T: Sink>(
     ensures run { CellRun max_bytes input (λ c. file (blocks c)) (λ c. file (decided_blocks c)) (counts_of input)
         (S.has_ended source.new) (change_of S.given S.failed source.old source.new)
         (change_of T.taken T.failed sink.old sink.new) result }
+    ensures passed_on { IfOk result (λ _. T.passed sink.new ≡ T.taken sink.new) }
 {
     run_blocks(source, sink, max_bytes, input, FileBlocks)
 }
@@ -232,6 +234,7 @@ pub fn cut<S: Source, T: Sink>(
     ensures run { CellRun max_bytes input (λ c. written_stream output (cut_blocks from count (blocks c))) (λ c. begun_stream output (cut_blocks from count (decided_blocks c))) (counts_of input)
         (S.has_ended source.new) (change_of S.given S.failed source.old source.new)
         (change_of T.taken T.failed sink.old sink.new) result }
+    ensures passed_on { IfOk result (λ _. T.passed sink.new ≡ T.taken sink.new) }
 {
     let writer = CutBlocks {
         stream: NormalBlocks { output },

@@ -1,6 +1,6 @@
 //! Runs that read cells and write something of each report on them.
 
-ghost use Rattle.std.specs.Prelude.{◌≡◌, ℕ, ◌+◌, ◌<◌, ◌≤◌, ◌^◌, List, []};
+ghost use Rattle.std.specs.Prelude.{◌≡◌, ℕ, ◌+◌, ◌<◌, ◌≤◌, ◌^◌, List, [], IfOk};
 ghost use Rattle.aes3_cell.specs.Writes.{Wrote};
 ghost use Rattle.aes3_lock.specs.declared.report.Report.{Report};
 ghost use Rattle.aes3_lock.specs.Following.{report_in};
@@ -126,8 +126,9 @@ pub fn run_reports<S: Source, T: Sink, W: ReportWriter + Drop>(
     requires source_room { S.failed source.old + 1 < 2 ^ 64 }
     requires sink_room { T.failed sink.old + 1 < 2 ^ 64 }
     requires limit { max_bytes ≤ 2 ^ 40 }
-    ensures { ReportRun max_bytes input (W.writes writer) (W.ends writer) (S.has_ended source.new)
+    ensures ran { ReportRun max_bytes input (W.writes writer) (W.ends writer) (S.has_ended source.new)
         (change_of S.given S.failed source.old source.new) (change_of T.taken T.failed sink.old sink.new) result }
+    ensures passed_on { IfOk result (λ _. T.passed sink.new ≡ T.taken sink.new) }
 {
     let mut taker = Locked::new(Counting::new(writer));
     match drive(source, sink, max_bytes, input, &mut taker) {

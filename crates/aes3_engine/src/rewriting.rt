@@ -97,6 +97,7 @@ pub fn rewrite<S: Source, T: Sink>(
     ensures run { CellRun max_bytes input (λ c. written_stream output (rewritten_blocks change.now (blocks c))) (λ c. begun_stream output (rewritten_blocks change.now (decided_blocks c))) (counts_of input)
         (S.has_ended source.new) (change_of S.given S.failed source.old source.new)
         (change_of T.taken T.failed sink.old sink.new) result }
+    ensures passed_on { IfOk result (λ _. T.passed sink.new ≡ T.taken sink.new) }
 {
     let writer = RewrittenBlocks {
         output,

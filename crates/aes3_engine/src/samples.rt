@@ -69,6 +69,7 @@ pub fn to_pcm<S: Source, T: Sink>(
     ensures run { CellRun max_bytes input (λ c. samples (blocks c)) (λ c. samples (decided_blocks c)) (counts_of input)
         (S.has_ended source.new) (change_of S.given S.failed source.old source.new)
         (change_of T.taken T.failed sink.old sink.new) result }
+    ensures passed_on { IfOk result (λ _. T.passed sink.new ≡ T.taken sink.new) }
 {
     run_blocks(source, sink, max_bytes, input, SampleBlocks)
 }

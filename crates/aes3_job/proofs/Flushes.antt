@@ -30,19 +30,6 @@ write-cause (Cut i o from count) b ended l = l
 write-cause (Rewrite i o change) b ended l = l
 write-cause (ToPcm i) b ended l = l
 
-whole-is : (job : Job) (b : List ℕ) (ended : Bool) → IsInputOf job b → length b ≤ most → IsTrue ended → IsWhole job b ended
-whole-is (Encode o) b ended i l e = record { lawful = i; short = l; end = e }
-whole-is (Decode f) b ended i l e = record { input = i; short = l; end = e }
-whole-is (Normal f o) b ended i l e = record { input = i; short = l; end = e }
-whole-is (Check f lines) b ended i l e = record { input = i; short = l; end = e }
-whole-is (Account f lines) b ended i l e = record { input = i; short = l; end = e }
-whole-is (Show f) b ended i l e = record { input = i; short = l; end = e }
-whole-is (ShowChanges f) b ended i l e = record { input = i; short = l; end = e }
-whole-is (Scan f) b ended i l e = record { input = i; short = l; end = e }
-whole-is (Cut f o from count) b ended i l e = record { input = i; short = l; end = e }
-whole-is (Rewrite f o change) b ended i l e = record { input = i; short = l; end = e }
-whole-is (ToPcm f) b ended i l e = record { input = i; short = l; end = e }
-
 -- a refusal behind which the sink did not fail
 kept : {job : Job} {ended : Bool} {source : Change} {t₀ t₁ t₂ : Option (List ℕ)} {f₀ f₁ f₂ : ℕ} {x : RunError}
     → RunRefused job ended source (record { old = t₀; new = t₁; failed_old = f₀; failed_new = f₁ }) x → t₂ ≡ t₁ → f₂ ≡ f₁
@@ -91,33 +78,25 @@ refused-flushed {job} {ended} {source} {t₀} {t₂} {f₀} {f₂} {told} r f s 
       line = l;
     }
 
--- a run that ended well, behind which the sink failed, or did not
-pub done-unflushed : {job : Job} {ended : Bool} {source : Change} {t₀ t₁ t₂ : Option (List ℕ)} {f₀ f₁ f₂ : ℕ} {counts : Counts}
-    → RunDone job ended source (record { old = t₀; new = t₁; failed_old = f₀; failed_new = f₁ }) counts → t₂ ≡ t₁ → f₂ ≡ f₁ + 1
-    → RunRefused job ended source (record { old = t₀; new = t₂; failed_old = f₀; failed_new = f₂ }) Write
-done-unflushed {job} {ended} {f₀} {f₁} r t f =
-    let q : f₁ ≡ f₀ = r.quiet_sink in
-    record {
-      cause = λ b h. write-cause job b ended (let k = r.fits b h in omega arith);
-      read = λ e. cc;
-      write = λ e. f ∙ ap (λ v. v + 1) q;
-      quiet = λ m. absurd (m refl);
-      output = λ m. absurd (m refl);
-      front = λ e b h. inr (whole-is job b ended (r.input b h) (r.fits b h) r.end, front-to t (front-all (r.output b h)));
-      unowed = λ b h i k p w. omega arith;
-      few = λ b h. let k = r.fits b h in omega arith;
-    }
+-- where the sink did not fail, it was flushed
+pub passed-on : {job : Job} {ended : Bool} {source : Change} {t₀ t₁ t₂ : Option (List ℕ)} {f₀ f₁ f₂ : ℕ} {x told : RunError} {P : Type 0}
+    → RunRefused job ended source (record { old = t₀; new = t₁; failed_old = f₀; failed_new = f₁ }) x
+    → Flushed x (record { old = t₁; new = t₂; failed_old = f₁; failed_new = f₂ }) told → (f₂ ≡ f₁ → x ≢ Write → P) → f₂ ≡ f₀ → P
+passed-on {f₀} {f₁} {f₂} {x} r f p h =
+    let n : x ≢ Write = λ e. let v : f₁ ≡ f₀ + 1 = r.write e in elim f.1 [ inl k ↦ let i = k.1 in omega arith | inr k ↦ k.0 e ] in
+    let v : f₁ ≡ f₀ = r.quiet n in
+    p (omega arith) n
 
-pub done-flushed : {job : Job} {ended : Bool} {source : Change} {t₀ t₁ t₂ : Option (List ℕ)} {f₀ f₁ f₂ : ℕ} {errors : Change} {status : ℕ} {counts : Counts}
-    → RunDone job ended source (record { old = t₀; new = t₁; failed_old = f₀; failed_new = f₁ }) counts → t₂ ≡ t₁ → f₂ ≡ f₁ → status ≡ status_by job counts
-    → Grew errors.old errors.new [] → JobDone job ended source (record { old = t₀; new = t₂; failed_old = f₀; failed_new = f₂ }) errors status
-done-flushed {job} r t f s l = record {
+-- a run that ended well
+pub done : {job : Job} {ended : Bool} {source sink errors : Change} {status : ℕ} {counts : Counts}
+    → RunDone job ended source sink counts → status ≡ status_by job counts → Grew errors.old errors.new [] → JobDone job ended source sink errors status
+done {job} r s l = record {
   end = r.end;
   quiet_source = r.quiet_source;
-  quiet_sink = f ∙ r.quiet_sink;
+  quiet_sink = r.quiet_sink;
   silent = l;
   fits = r.fits;
   input = r.input;
-  output = λ b h. grew-to t (r.output b h);
+  output = r.output;
   exit = λ b h. s ∙ ap (status_by job) (r.counted b h);
 }

@@ -108,6 +108,7 @@ pub fn account<S: Source, T: Sink>(
     ensures run { CellRun max_bytes input (λ c. account_lines lines (account c)) (λ c. account_lines lines (begun_account c)) (account_counts input)
         (S.has_ended source.new) (change_of S.given S.failed source.old source.new)
         (change_of T.taken T.failed sink.old sink.new) result }
+    ensures passed_on { IfOk result (λ _. T.passed sink.new ≡ T.taken sink.new) }
 {
     let mut taker = Accountant::new(lines);
     match drive(source, sink, max_bytes, input, &mut taker) {

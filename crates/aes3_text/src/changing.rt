@@ -180,6 +180,7 @@ pub fn show_changes<S: Source, T: Sink>(
     ensures run { CellRun max_bytes input (λ c. change_lines (blocks c)) (λ c. change_lines (decided_blocks c)) (counts_of input)
         (S.has_ended source.new) (change_of S.given S.failed source.old source.new)
         (change_of T.taken T.failed sink.old sink.new) result }
+    ensures passed_on { IfOk result (λ _. T.passed sink.new ≡ T.taken sink.new) }
 {
     let mut taker = Locked::new(ChangeLines::new());
     match drive(source, sink, max_bytes, input, &mut taker) {

@@ -1,6 +1,6 @@
 //! The reports on cells, line by line.
 
-ghost use Rattle.std.specs.Prelude.{ℕ, ◌+◌, ◌<◌, ◌≤◌, ◌^◌, List, [], IfOk};
+ghost use Rattle.std.specs.Prelude.{◌≡◌, ℕ, ◌+◌, ◌<◌, ◌≤◌, ◌^◌, List, [], IfOk};
 ghost use Rattle.aes3_cell.specs.Ends.{Grew, Told};
 ghost use Rattle.aes3_lock.specs.Reports.{decided, reports};
 ghost use Rattle.aes3_engine.specs.CellRuns.{CellRun};
@@ -71,6 +71,7 @@ pub fn check<S: Source, T: Sink>(
     ensures run { CellRun max_bytes input (λ c. report_lines lines (reports c)) (λ c. report_lines lines (decided c)) (counts_of input)
         (S.has_ended source.new) (change_of S.given S.failed source.old source.new)
         (change_of T.taken T.failed sink.old sink.new) result }
+    ensures passed_on { IfOk result (λ _. T.passed sink.new ≡ T.taken sink.new) }
 {
     run_reports(source, sink, max_bytes, input, ReportLines { lines })
 }

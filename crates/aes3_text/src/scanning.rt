@@ -100,6 +100,7 @@ pub fn scan<S: Source, T: Sink>(
     ensures run { CellRun max_bytes input (λ c. mark_lines (marks c)) (λ c. mark_lines (marks c)) (scan_counts input)
         (S.has_ended source.new) (change_of S.given S.failed source.old source.new)
         (change_of T.taken T.failed sink.old sink.new) result }
+    ensures passed_on { IfOk result (λ _. T.passed sink.new ≡ T.taken sink.new) }
 {
     let mut taker = MarkLines::new();
     match drive(source, sink, max_bytes, input, &mut taker) {

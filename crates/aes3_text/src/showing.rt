@@ -1,6 +1,6 @@
 //! The channel status of blocks, line by line.
 
-ghost use Rattle.std.specs.Prelude.{ℕ, ◌+◌, ◌<◌, ◌≤◌, ◌^◌, List, [], IfOk};
+ghost use Rattle.std.specs.Prelude.{◌≡◌, ℕ, ◌+◌, ◌<◌, ◌≤◌, ◌^◌, List, [], IfOk};
 ghost use Rattle.aes3_cell.specs.Ends.{Grew, Told};
 ghost use Rattle.aes3_cell.specs.Writes.{Wrote};
 ghost use Rattle.aes3_lock.specs.Reports.{blocks};
@@ -75,6 +75,7 @@ pub fn show<S: Source, T: Sink>(
     ensures run { CellRun max_bytes input (λ c. status_lines (blocks c)) (λ c. status_lines (decided_blocks c)) (counts_of input)
         (S.has_ended source.new) (change_of S.given S.failed source.old source.new)
         (change_of T.taken T.failed sink.old sink.new) result }
+    ensures passed_on { IfOk result (λ _. T.passed sink.new ≡ T.taken sink.new) }
 {
     run_blocks(source, sink, max_bytes, input, ChannelLines)
 }

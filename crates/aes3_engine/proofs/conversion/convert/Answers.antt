@@ -11,56 +11,47 @@ pieces-init g c = record {
   short = omega arith;
   quiet_source = refl;
   quiet_sink = refl;
+  passed = λ h. h;
   buffer = c.blank_piece-piece.ensures;
 }
 
-pub returns-in-Err : goal.returns-in-Err
-returns-in-Err g c =
+pub returns-in-Err-clause-run : goal.returns-in-Err-clause-run
+returns-in-Err-clause-run g c =
     let v = c.pieces.invariant in
-    record {
-      run = ran-read c.args.max_bytes _ _ _ (g.S.Source.has_ended c.read_piece.new.source) _ _ _ _ _
-          v.upto c.requires.start v.short v.quiet_source v.quiet_sink c.in-Err.ensures.err.0 c.in-Err.ensures.err.1;
-    }
+    ran-read c.args.max_bytes _ _ _ (g.S.Source.has_ended c.read_piece.new.source) _ _ _ _ _
+    v.upto c.requires.start v.short v.quiet_source v.quiet_sink c.in-Err.ensures.err.0 c.in-Err.ensures.err.1
 
-pub returns-in-Ok-finish : goal.returns-in-Ok-finish
-returns-in-Ok-finish g c =
+pub returns-in-Ok-finish-clause-run : goal.returns-in-Ok-finish-clause-run
+returns-in-Ok-finish-clause-run g c =
     let v = c.pieces.invariant in
-    record {
-      run = ran-end c.args.max_bytes (g.I.Input.follows c.finish.new.input c.finish.new.taker) (g.I.Input.stopped c.finish.new.input c.finish.new.taker) (g.I.Input.finished c.finish.new.input c.finish.new.taker) _ _ _ _ _ _ _
-          v.upto c.requires.start v.short (c.in-Ok.ensures.count ∙ v.quiet_source) v.quiet_sink
-          (grew-is (ap (λ z. take z c.read_piece.new.piece) c.if-n-eq0.true) c.in-Ok.ensures.bytes) (c.in-Ok.ensures.end.0 c.if-n-eq0.true) c.in-Ok-finish.ensures;
-    }
+    ran-end c.args.max_bytes (g.I.Input.follows c.finish.new.input c.finish.new.taker) (g.I.Input.stopped c.finish.new.input c.finish.new.taker) (g.I.Input.finished c.finish.new.input c.finish.new.taker) _ _ _ _ _ _ _
+    v.upto c.requires.start v.short (c.in-Ok.ensures.count ∙ v.quiet_source) v.quiet_sink
+    (grew-is (ap (λ z. take z c.read_piece.new.piece) c.if-n-eq0.true) c.in-Ok.ensures.bytes) (c.in-Ok.ensures.end.0 c.if-n-eq0.true) c.in-Ok-finish.ensures.ran
 
-pub returns-in-Err-finish : goal.returns-in-Err-finish
-returns-in-Err-finish g c =
+pub returns-in-Err-finish-clause-run : goal.returns-in-Err-finish-clause-run
+returns-in-Err-finish-clause-run g c =
     let v = c.pieces.invariant in
-    record {
-      run = ran-end_err c.args.max_bytes (g.I.Input.follows c.finish.new.input c.finish.new.taker) (g.I.Input.stopped c.finish.new.input c.finish.new.taker) (g.I.Input.finished c.finish.new.input c.finish.new.taker) _ _ _ _ _ _ _ c.in-Err-finish.error
-          v.upto c.requires.start v.short (c.in-Ok.ensures.count ∙ v.quiet_source) v.quiet_sink
-          (grew-is (ap (λ z. take z c.read_piece.new.piece) c.if-n-eq0.true) c.in-Ok.ensures.bytes) (c.in-Ok.ensures.end.0 c.if-n-eq0.true) c.in-Err-finish.ensures;
-    }
+    ran-end_err c.args.max_bytes (g.I.Input.follows c.finish.new.input c.finish.new.taker) (g.I.Input.stopped c.finish.new.input c.finish.new.taker) (g.I.Input.finished c.finish.new.input c.finish.new.taker) _ _ _ _ _ _ _ c.in-Err-finish.error
+    v.upto c.requires.start v.short (c.in-Ok.ensures.count ∙ v.quiet_source) v.quiet_sink
+    (grew-is (ap (λ z. take z c.read_piece.new.piece) c.if-n-eq0.true) c.in-Ok.ensures.bytes) (c.in-Ok.ensures.end.0 c.if-n-eq0.true) c.in-Err-finish.ensures.ran
 
-pub returns-in-Err-feed : goal.returns-in-Err-feed
-returns-in-Err-feed g c =
+pub returns-in-Err-feed-clause-run : goal.returns-in-Err-feed-clause-run
+returns-in-Err-feed-clause-run g c =
     let v = c.pieces.invariant in
     let room = c.args.max_bytes + 1 - c.pieces.seen in
-    record {
-      run = ran-piece c.args.max_bytes (g.I.Input.reads c.feed.new.input c.feed.new.taker) (g.I.Input.follows c.feed.new.input c.feed.new.taker) (g.I.Input.stopped c.feed.new.input c.feed.new.taker) (g.I.Input.finished c.feed.new.input c.feed.new.taker) _ _ _ _ _ _ _
-          c.in-Ok.n c.allowed_of-allowed.result room c.read_piece.new.piece c.in-Err-feed.error
-          v.upto c.requires.start v.short (c.in-Ok.ensures.count ∙ v.quiet_source) v.quiet_sink
-          c.in-Ok.ensures.bytes refl c.in-Ok.ensures.bound.1 c.in-Ok.ensures.bound.0 c.allowed_of-allowed.ensures.last c.allowed_of-allowed.ensures.all c.in-Err-feed.ensures;
-    }
+    ran-piece c.args.max_bytes (g.I.Input.reads c.feed.new.input c.feed.new.taker) (g.I.Input.follows c.feed.new.input c.feed.new.taker) (g.I.Input.stopped c.feed.new.input c.feed.new.taker) (g.I.Input.finished c.feed.new.input c.feed.new.taker) _ _ _ _ _ _ _
+    c.in-Ok.n c.allowed_of-allowed.result room c.read_piece.new.piece c.in-Err-feed.error
+    v.upto c.requires.start v.short (c.in-Ok.ensures.count ∙ v.quiet_source) v.quiet_sink
+    c.in-Ok.ensures.bytes refl c.in-Ok.ensures.bound.1 c.in-Ok.ensures.bound.0 c.allowed_of-allowed.ensures.last c.allowed_of-allowed.ensures.all c.in-Err-feed.ensures.ran
 
-pub returns-then-seen-max_bytes : goal.returns-then-seen-max_bytes
-returns-then-seen-max_bytes g c =
+pub returns-then-seen-max_bytes-clause-run : goal.returns-then-seen-max_bytes-clause-run
+returns-then-seen-max_bytes-clause-run g c =
     let v = c.pieces.invariant in
     let room = c.args.max_bytes + 1 - c.pieces.seen in
-    record {
-      run = ran-long c.args.max_bytes (g.I.Input.stopped c.feed.new.input c.feed.new.taker) (g.I.Input.finished c.feed.new.input c.feed.new.taker) (g.S.Source.has_ended c.read_piece.new.source) _ _ _ _ _
-          c.in-Ok.n c.allowed_of-allowed.result room c.read_piece.new.piece
-          v.upto c.requires.start v.short (c.in-Ok.ensures.count ∙ v.quiet_source) v.quiet_sink c.in-Ok-feed.ensures.1
-          c.in-Ok.ensures.bytes refl c.in-Ok.ensures.bound.1 c.in-Ok.ensures.bound.0 c.allowed_of-allowed.ensures.last c.allowed_of-allowed.ensures.all (omega arith) c.in-Ok-feed.ensures.0;
-    }
+    ran-long c.args.max_bytes (g.I.Input.stopped c.feed.new.input c.feed.new.taker) (g.I.Input.finished c.feed.new.input c.feed.new.taker) (g.S.Source.has_ended c.read_piece.new.source) _ _ _ _ _
+    c.in-Ok.n c.allowed_of-allowed.result room c.read_piece.new.piece
+    v.upto c.requires.start v.short (c.in-Ok.ensures.count ∙ v.quiet_source) v.quiet_sink c.in-Ok-feed.ensures.ran.1
+    c.in-Ok.ensures.bytes refl c.in-Ok.ensures.bound.1 c.in-Ok.ensures.bound.0 c.allowed_of-allowed.ensures.last c.allowed_of-allowed.ensures.all (omega arith) c.in-Ok-feed.ensures.ran.0
 
 pub pieces-preserved : goal.pieces-preserved
 pieces-preserved g c =
@@ -68,13 +59,14 @@ pieces-preserved g c =
     let b = c.read_piece.new.piece in
     let n = c.in-Ok.n in
     let e : c.allowed_of-allowed.result ≡ n = c.allowed_of-allowed.ensures.all (omega arith) in
-    let d = fed-is (ap (λ z. take z b) e) c.in-Ok-feed.ensures.0 in
+    let d = fed-is (ap (λ z. take z b) e) c.in-Ok-feed.ensures.ran.0 in
     let k : length (take n b) ≡ n = length-take-le n b c.in-Ok.ensures.bound.0 in
     let u = upto-more v.upto c.in-Ok.ensures.bytes d in
     record {
       upto = rw k at u;
       short = omega arith;
       quiet_source = c.in-Ok.ensures.count ∙ v.quiet_source;
-      quiet_sink = c.in-Ok-feed.ensures.1 ∙ v.quiet_sink;
+      quiet_sink = c.in-Ok-feed.ensures.ran.1 ∙ v.quiet_sink;
+      passed = λ _. c.in-Ok-feed.ensures.passed_on;
       buffer = search rules;
     }

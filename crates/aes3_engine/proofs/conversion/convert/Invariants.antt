@@ -9,6 +9,7 @@ invariant-pieces g l = record {
   short : l.seen ≤ l.max_bytes;
   quiet_source : g.S.Source.failed l.source ≡ g.S.Source.failed l.fn.source;
   quiet_sink : g.T.Sink.failed l.sink ≡ g.T.Sink.failed l.fn.sink;
+  passed : g.T.Sink.passed l.fn.sink ≡ g.T.Sink.taken l.fn.sink → g.T.Sink.passed l.sink ≡ g.T.Sink.taken l.sink;
   buffer : length l.piece ≡ 131072;
 }
 

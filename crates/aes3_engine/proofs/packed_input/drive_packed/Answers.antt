@@ -4,8 +4,8 @@ use Rattle.aes3_engine.proofs.packed_input.drive_packed.Goals as goal
 pub convert-requires-clause-start : goal.convert-requires-clause-start
 convert-requires-clause-start g c = packed-starts (g.K.Taker.follows c.args.taker.now) c.new-input.ensures.packed c.new-input.ensures.cells c.requires.start
 
-pub returns-in-Ok : goal.returns-in-Ok
-returns-in-Ok g c = packed-ok c.in-Ok.ensures.run
+pub returns-in-Ok-clause-ran : goal.returns-in-Ok-clause-ran
+returns-in-Ok-clause-ran g c = packed-ok c.in-Ok.ensures.run
 
-pub returns-in-Err : goal.returns-in-Err
-returns-in-Err g c = packed-err c.in-Err.ensures.run
+pub returns-in-Err-clause-ran : goal.returns-in-Err-clause-ran
+returns-in-Err-clause-ran g c = packed-err c.in-Err.ensures.run

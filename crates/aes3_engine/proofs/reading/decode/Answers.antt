@@ -6,12 +6,12 @@ use Rattle.aes3_engine.proofs.CellRuns.{run-is, run-wrote}
 use Rattle.aes3_engine.proofs.reading.decode.Goals as goal
 
 pub returns-clause-file : goal.returns-clause-file
-returns-clause-file g c = run-wrote c.run_blocks.result (λ d. file (blocks d)) (alike-whole block_bytes) c.run_blocks.ensures
+returns-clause-file g c = run-wrote c.run_blocks.result (λ d. file (blocks d)) (alike-whole block_bytes) c.run_blocks.ensures.ran
 
 pub returns-clause-back : goal.returns-clause-back
-returns-clause-back g c = run-back block_bytes c.run_blocks.result c.run_blocks.ensures
+returns-clause-back g c = run-back block_bytes c.run_blocks.result c.run_blocks.ensures.ran
 
 pub returns-clause-run : goal.returns-clause-run
 returns-clause-run g c =
     run-is (λ d. file (blocks d)) (λ d. file (decided_blocks d))
-    (alike-whole block_bytes) (alike-begun block_bytes) c.run_blocks.ensures
+    (alike-whole block_bytes) (alike-begun block_bytes) c.run_blocks.ensures.ran

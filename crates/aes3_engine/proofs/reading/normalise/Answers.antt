@@ -6,49 +6,49 @@ use Rattle.aes3_engine.proofs.CellRuns.{run-wrote, run-input, run-counts, run-fi
 use Rattle.aes3_engine.proofs.reading.normalise.Goals as goal
 
 pub returns-clause-normal : goal.returns-clause-normal
-returns-clause-normal g c = run-wrote c.run_blocks.result (λ d. written c.args.output (normal d)) (normal-whole c.args.output) c.run_blocks.ensures
+returns-clause-normal g c = run-wrote c.run_blocks.result (λ d. written c.args.output (normal d)) (normal-whole c.args.output) c.run_blocks.ensures.ran
 
 pub returns-clause-piece : goal.returns-clause-piece
-returns-clause-piece g c = run-piece c.args.output c.run_blocks.result c.run_blocks.ensures
+returns-clause-piece g c = run-piece c.args.output c.run_blocks.result c.run_blocks.ensures.ran
 
 pub returns-clause-damaged : goal.returns-clause-damaged
-returns-clause-damaged g c = run-damaged c.args.output c.run_blocks.result c.run_blocks.ensures
+returns-clause-damaged g c = run-damaged c.args.output c.run_blocks.result c.run_blocks.ensures.ran
 
 pub returns-clause-left : goal.returns-clause-left
-returns-clause-left g c = run-left c.args.output c.run_blocks.result c.run_blocks.ensures
+returns-clause-left g c = run-left c.args.output c.run_blocks.result c.run_blocks.ensures.ran
 
 pub returns-clause-lost : goal.returns-clause-lost
-returns-clause-lost g c = run-lost c.args.output c.run_blocks.result c.run_blocks.ensures
+returns-clause-lost g c = run-lost c.args.output c.run_blocks.result c.run_blocks.ensures.ran
 
 pub returns-clause-tells : goal.returns-clause-tells
 returns-clause-tells g c = tells c.args.output
 
 pub returns-clause-again : goal.returns-clause-again
-returns-clause-again g c = run-again c.args.output c.run_blocks.result c.run_blocks.ensures
+returns-clause-again g c = run-again c.args.output c.run_blocks.result c.run_blocks.ensures.ran
 
 pub returns-clause-input : goal.returns-clause-input
-returns-clause-input g c = run-input c.run_blocks.result c.run_blocks.ensures
+returns-clause-input g c = run-input c.run_blocks.result c.run_blocks.ensures.ran
 
 pub returns-clause-counts : goal.returns-clause-counts
-returns-clause-counts g c = run-counts c.run_blocks.result c.run_blocks.ensures
+returns-clause-counts g c = run-counts c.run_blocks.result c.run_blocks.ensures.ran
 
 pub returns-clause-fits : goal.returns-clause-fits
-returns-clause-fits g c = run-fits c.run_blocks.result c.run_blocks.ensures
+returns-clause-fits g c = run-fits c.run_blocks.result c.run_blocks.ensures.ran
 
 pub returns-clause-owed : goal.returns-clause-owed
-returns-clause-owed g c = run-owed c.run_blocks.ensures
+returns-clause-owed g c = run-owed c.run_blocks.ensures.ran
 
 pub returns-clause-cause : goal.returns-clause-cause
-returns-clause-cause g c = run-cause c.run_blocks.result c.run_blocks.ensures
+returns-clause-cause g c = run-cause c.run_blocks.result c.run_blocks.ensures.ran
 
 pub returns-clause-sink_quiet : goal.returns-clause-sink_quiet
-returns-clause-sink_quiet g c = run-sink_quiet c.run_blocks.result c.run_blocks.ensures
+returns-clause-sink_quiet g c = run-sink_quiet c.run_blocks.result c.run_blocks.ensures.ran
 
 pub returns-clause-refused : goal.returns-clause-refused
-returns-clause-refused g c = run-refused c.run_blocks.result (λ d. begun_stream c.args.output (decided_blocks d)) (normal-begun c.args.output) c.run_blocks.ensures
+returns-clause-refused g c = run-refused c.run_blocks.result (λ d. begun_stream c.args.output (decided_blocks d)) (normal-begun c.args.output) c.run_blocks.ensures.ran
 
 pub returns-clause-front : goal.returns-clause-front
-returns-clause-front g c = run-front c.run_blocks.result (λ d. written c.args.output (normal d)) (λ d. begun_stream c.args.output (decided_blocks d)) (normal-whole c.args.output) (normal-begun c.args.output) c.run_blocks.ensures
+returns-clause-front g c = run-front c.run_blocks.result (λ d. written c.args.output (normal d)) (λ d. begun_stream c.args.output (decided_blocks d)) (normal-whole c.args.output) (normal-begun c.args.output) c.run_blocks.ensures.ran
 
 pub returns-clause-few : goal.returns-clause-few
-returns-clause-few g c = run-few c.run_blocks.ensures
+returns-clause-few g c = run-few c.run_blocks.ensures.ran

@@ -8,18 +8,18 @@ drive-requires-clause-start g c = (
   tally-is (ap (λ k. k.tally.blocks) c.new-taker.ensures.reporter) (ap (λ k. k.tally.faults) c.new-taker.ensures.reporter) (ap (λ k. k.tally.unfinished) c.new-taker.ensures.reporter) c.new.ensures.tally,
 )
 
-pub returns-in-Ok : goal.returns-in-Ok
-returns-in-Ok g c =
+pub returns-in-Ok-clause-ran : goal.returns-in-Ok-clause-ran
+returns-in-Ok-clause-ran g c =
     let k = c.new-taker.result.reporter.writer in
     run-same (g.W.ReportWriter.writes k) (g.W.ReportWriter.writes c.args.writer) (g.W.ReportWriter.ends k) (g.W.ReportWriter.ends c.args.writer)
     (ap (λ v. g.W.ReportWriter.writes v.writer) c.new-taker.ensures.reporter ∙ ap (λ v. g.W.ReportWriter.writes v) c.new.ensures.writer)
     (ap (λ v. g.W.ReportWriter.ends v.writer) c.new-taker.ensures.reporter ∙ ap (λ v. g.W.ReportWriter.ends v) c.new.ensures.writer)
-    (run-ok (g.W.ReportWriter.writes k) (g.W.ReportWriter.ends k) c.in-Ok.ensures)
+    (run-ok (g.W.ReportWriter.writes k) (g.W.ReportWriter.ends k) c.in-Ok.ensures.ran)
 
-pub returns : goal.returns
-returns g c =
+pub returns-clause-ran : goal.returns-clause-ran
+returns-clause-ran g c =
     let k = c.new-taker.result.reporter.writer in
     run-same (g.W.ReportWriter.writes k) (g.W.ReportWriter.writes c.args.writer) (g.W.ReportWriter.ends k) (g.W.ReportWriter.ends c.args.writer)
     (ap (λ v. g.W.ReportWriter.writes v.writer) c.new-taker.ensures.reporter ∙ ap (λ v. g.W.ReportWriter.writes v) c.new.ensures.writer)
     (ap (λ v. g.W.ReportWriter.ends v.writer) c.new-taker.ensures.reporter ∙ ap (λ v. g.W.ReportWriter.ends v) c.new.ensures.writer)
-    (run-err (g.W.ReportWriter.writes k) (g.W.ReportWriter.ends k) c.in-Err.ensures)
+    (run-err (g.W.ReportWriter.writes k) (g.W.ReportWriter.ends k) c.in-Err.ensures.ran)

@@ -6,18 +6,18 @@ use Rattle.aes3_engine.proofs.CellRuns.{run-is, run-wrote}
 use Rattle.aes3_engine.proofs.samples.to_pcm.Goals as goal
 
 pub returns-clause-samples : goal.returns-clause-samples
-returns-clause-samples g c = run-wrote c.run_blocks.result (λ d. samples (blocks d)) (alike-whole block_samples) c.run_blocks.ensures
+returns-clause-samples g c = run-wrote c.run_blocks.result (λ d. samples (blocks d)) (alike-whole block_samples) c.run_blocks.ensures.ran
 
 pub returns-clause-back : goal.returns-clause-back
-returns-clause-back g c = run-back block_samples c.run_blocks.result c.run_blocks.ensures
+returns-clause-back g c = run-back block_samples c.run_blocks.result c.run_blocks.ensures.ran
 
 pub returns-clause-alone : goal.returns-clause-alone
-returns-clause-alone g c = run-alike block_samples c.run_blocks.result c.run_blocks.ensures
+returns-clause-alone g c = run-alike block_samples c.run_blocks.result c.run_blocks.ensures.ran
 
 pub returns-clause-normal : goal.returns-clause-normal
-returns-clause-normal g c = run-normal block_samples c.run_blocks.result c.run_blocks.ensures
+returns-clause-normal g c = run-normal block_samples c.run_blocks.result c.run_blocks.ensures.ran
 
 pub returns-clause-run : goal.returns-clause-run
 returns-clause-run g c =
     run-is (λ d. samples (blocks d)) (λ d. samples (decided_blocks d))
-    (alike-whole block_samples) (alike-begun block_samples) c.run_blocks.ensures
+    (alike-whole block_samples) (alike-begun block_samples) c.run_blocks.ensures.ran

@@ -5,9 +5,9 @@ use Rattle.aes3_engine.proofs.CellRuns.{run-is, run-wrote}
 use Rattle.aes3_text.proofs.checking.check.Goals as goal
 
 pub returns-clause-lines : goal.returns-clause-lines
-returns-clause-lines g c = run-wrote c.run_reports.result (λ d. report_lines c.args.lines (reports d)) (check-whole c.args.lines) c.run_reports.ensures
+returns-clause-lines g c = run-wrote c.run_reports.result (λ d. report_lines c.args.lines (reports d)) (check-whole c.args.lines) c.run_reports.ensures.ran
 
 pub returns-clause-run : goal.returns-clause-run
 returns-clause-run g c =
     run-is (λ d. report_lines c.args.lines (reports d)) (λ d. report_lines c.args.lines (decided d))
-    (check-whole c.args.lines) (check-begun c.args.lines) c.run_reports.ensures
+    (check-whole c.args.lines) (check-begun c.args.lines) c.run_reports.ensures.ran

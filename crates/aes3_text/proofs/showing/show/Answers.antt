@@ -6,7 +6,7 @@ use Rattle.aes3_engine.proofs.CellRuns.{run-is, run-wrote}
 use Rattle.aes3_text.proofs.showing.show.Goals as goal
 
 pub returns-clause-lines : goal.returns-clause-lines
-returns-clause-lines g c = run-wrote c.run_blocks.result (λ d. status_lines (blocks d)) show-whole c.run_blocks.ensures
+returns-clause-lines g c = run-wrote c.run_blocks.result (λ d. status_lines (blocks d)) show-whole c.run_blocks.ensures.ran
 
 pub returns-clause-run : goal.returns-clause-run
-returns-clause-run g c = run-is (λ d. status_lines (blocks d)) (λ d. status_lines (decided_blocks d)) show-whole show-begun c.run_blocks.ensures
+returns-clause-run g c = run-is (λ d. status_lines (blocks d)) (λ d. status_lines (decided_blocks d)) show-whole show-begun c.run_blocks.ensures.ran
