@@ -154,6 +154,7 @@ pub fn from_pcm<S: Source, T: Sink>(
     ensures fits { IfOk result (λ _. (b : List ℕ) → Told (S.given source.old) (S.given source.new) b → length b ≤ max_bytes) }
     ensures ended { IfOk result (λ _. IsTrue (S.has_ended source.new)) }
     ensures quiet { IfOk result (λ _. (S.failed source.new ≡ S.failed source.old) × (T.failed sink.new ≡ T.failed sink.old)) }
+    ensures passed_on { IfOk result (λ _. T.passed sink.new ≡ T.taken sink.new) }
 
     // It owes Ok where the input is whole frames, of 24 bits where that is asked, and fits, and neither end failed.
     ensures owed { (b : List ℕ) → Told (S.given source.old) (S.given source.new) b → IsPcm exact b → length b ≤ max_bytes
