@@ -21,6 +21,7 @@ pub struct SomeCells {
 }
 
 /// The word of the line of 64 cells that text begins with.
+#[inline(always)]
 fn front_line(text: &[u8]) -> Option<u64>
     ensures bound { OnSome result (65 ≤ length text.now) }
     ensures cells { IfSome result (λ word. take 65 text.now ≡ line_text (word_cells word)) }

@@ -83,6 +83,7 @@ pub fn word_of_octets(octets: &[u8; 8]) -> u64
 }
 
 /// The bytes that are `byte`, each a one.
+#[inline(always)]
 pub(crate) fn equal_to(bytes: &[u8; 64], byte: u8) -> u64
     ensures { (i : ℕ) → i < 64 → bit_at result i ≡ (if get_or bytes.now i 0 == byte then 1 else 0) }
 {
@@ -92,6 +93,7 @@ pub(crate) fn equal_to(bytes: &[u8; 64], byte: u8) -> u64
 }
 
 /// The word of 64 bytes all of which are cells, the first in the lowest bit.
+#[inline(always)]
 pub fn word_of_text(bytes: &[u8; 64]) -> Option<u64>
     ensures cells { IfSome result (λ word. bytes.now ≡ map byte_of (word_cells word)) }
     ensures owed { (word : ℕ) → word < 2 ^ 64 → bytes.now ≡ map byte_of (word_cells word) → result ≡ Some word }

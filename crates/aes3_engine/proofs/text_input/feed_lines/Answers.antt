@@ -1,11 +1,10 @@
-use Rattle.std.proofs.Common.{◌≡◌, ◌+◌, ◌*◌, ◌%◌, length, take, arith, sym, ap, subst, refl, ◌∙◌}
+use Rattle.std.proofs.Common.{◌≡◌, ◌*◌, ◌%◌, length, take, arith, sym, ap, subst, ◌∙◌}
 use Rattle.std.specs.List.{flat_map}
 use Rattle.std.proofs.lemmas.List.{length-take-le}
 use Rattle.aes3_cell.specs.CellText.{cells_of_text, IsCellText}
-use Rattle.aes3_cell.specs.Words.{word_cells, word_len}
+use Rattle.aes3_cell.specs.Words.{word_cells}
 use Rattle.aes3_cell.proofs.CellTexts.{text-read}
 use Rattle.aes3_cell.proofs.Lines.{word_len_64}
-use Rattle.aes3_engine.specs.Forms.{TextRead}
 use Rattle.aes3_engine.proofs.Handing.{length-words}
 use Rattle.aes3_engine.proofs.text_input.feed_lines.Goals as goal
 
