@@ -52,6 +52,26 @@ aes3 --help > /dev/full 2> "$folder/errors"
 status=$?
 expect "a full disk for help" 3 "aes3: refused 6"
 
+# A line in use: two blocks have come, and more may. The first is decided by the second, and it leaves while the program waits
+# for the next cell.
+mkfifo "$folder/line" || exit 1
+aes3 normal < "$folder/line" > "$folder/output" 2> "$folder/errors" &
+exec 3> "$folder/line"
+{ aes3 encode < "$zero" && aes3 encode < "$zero"; } >&3
+waited=0
+until [ "$(wc -c < "$folder/output")" = 24960 ] || [ "$waited" = 50 ]; do
+    sleep 0.1
+    waited=$((waited + 1))
+done
+aes3 encode < "$zero" | cmp - "$folder/output" || {
+    echo "FAILED: a decided block has not left while the program waits"
+    failed=1
+}
+exec 3>&-
+wait "$!"
+status=$?
+expect "the end of a line in use" 0 ""
+
 aes3 encode < / > /dev/null 2> "$folder/errors"
 status=$?
 expect "a folder as input" 3 "aes3: refused 5"
