@@ -11,9 +11,10 @@ use Rattle.aes3_block.specs.declared.status.Channel.TheVariants.{First, Second}
 use Rattle.aes3_block.specs.Blocks.{block_slots, IsBlock}
 use Rattle.aes3_block.specs.Files.{bytes_number, words_of, word_bytes}
 use Rattle.aes3_block.specs.Samples.{sample_of, block_samples, samples}
-use Rattle.aes3_block.specs.Sampled.{payload_of_sample, sample_blocks, sampled, filled}
+use Rattle.aes3_block.specs.Sampled.{IsSample, payload_of_sample, sample_blocks, sampled, filled}
 use Rattle.aes3_block.specs.Statuses.{status_place, bits_of_bytes, with_bits, with_status}
 use Rattle.aes3_block.specs.Subframes.{audio_len}
+use Rattle.aes3_block.proofs.Bytes.{bytes_number-low_bytes}
 use Rattle.aes3_block.proofs.Each.{all-nil, all-cons, all-payloads}
 use Rattle.aes3_block.proofs.Runs.{Each27}
 use Rattle.aes3_block.proofs.WholeBlocks.{count-within}
@@ -31,10 +32,6 @@ length-payload w =
     let l = length-low_bits 24 (w / 256) in
     let k = length-append (low_bits 24 (w / 256)) (false ∷ false ∷ false ∷ []) in
     omega arith
-
--- a word that has a sample of 24 bits
-abbrev pub IsSample : ℕ → Type 0
-IsSample w = (w < 2 ^ 32) × (w % 256 ≡ 0)
 
 sample-back : (w : ℕ) → IsSample w → sample_of (payload_of_sample w) ≡ w
 unfolding audio_len
@@ -182,6 +179,13 @@ each-filled : (n : ℕ) (ws : List ℕ) → EachSample ws → EachSample (ws ++ 
 each-filled zero [] h = tt
 each-filled (suc n) [] h = ((omega arith, refl), each-filled n [] tt)
 each-filled n (w ∷ ws) h = (h.0, each-filled n ws h.1)
+
+each-words : (ws : List ℕ) → EachSample ws → words_of (flat_map word_bytes ws) ≡ ws
+each-words [] h = refl
+each-words (w ∷ ws) h = ap₂ (λ x xs. x ∷ xs) (bytes_number-low_bytes w h.0.0) (each-words ws h.1)
+
+pub words-back : (ws : List ℕ) → All IsSample ws → words_of (flat_map word_bytes ws) ≡ ws
+words-back ws h = each-words ws (each-of ws h)
 
 filled-whole : (n k : ℕ) → k ≡ n + (384 - n % 384) % 384 → k % block_slots ≡ 0
 unfolding block_slots

@@ -1,5 +1,5 @@
 -- Blocks made of samples: words of 32 bits of which the 24 highest are the sample, channel 1 and then channel 2 of each frame.
-use Rattle.std.specs.Prelude.{ℕ, zero, suc, List, [], ◌∷◌, ◌++◌, Bool, false, length, ◌-◌, ◌/◌, ◌%◌, map, take, drop, replicate}
+use Rattle.std.specs.Prelude.{ℕ, ◌≡◌, ◌<◌, ◌^◌, zero, suc, List, [], ◌∷◌, ◌++◌, Bool, false, length, ◌-◌, ◌/◌, ◌%◌, map, take, drop, replicate}
 use Rattle.aes3_slot.specs.Bits.{low_bits}
 use Rattle.aes3_block.specs.Blocks.{block_slots}
 use Rattle.aes3_block.specs.Subframes.{audio_len}
@@ -7,6 +7,10 @@ use Rattle.aes3_block.specs.Subframes.{audio_len}
 -- the payload of a sample: its audio, and V, U and C zero
 abbrev pub payload_of_sample : ℕ → List Bool
 payload_of_sample w = low_bits audio_len (w / 256) ++ false ∷ false ∷ false ∷ []
+
+-- a word that is a sample of 24 bits
+abbrev pub IsSample : ℕ → Type 0
+IsSample w = (w < 2 ^ 32) × (w % 256 ≡ 0)
 
 -- the first n blocks of samples, and all that are whole
 abbrev pub sample_blocks : ℕ → List ℕ → List (List (List Bool))

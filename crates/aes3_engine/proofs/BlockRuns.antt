@@ -182,7 +182,7 @@ lines bs h = ap (λ n. n % word_len) (length-stream Low bs h ∙ ap (λ k. slot_
     no-rest : (n : ℕ) → (n * 64) % 64 ≡ 0
     no-rest n = omega arith
 
-read-back : (form : Form) (bs : List (List (List Bool))) → EachBlock27 bs → cells_of form (written_stream form bs) ≡ stream Low bs
+pub read-back : (form : Form) (bs : List (List (List Bool))) → EachBlock27 bs → cells_of form (written_stream form bs) ≡ stream Low bs
 read-back Text bs h = (text-read (stream Low bs) (lines bs h)).1
 read-back Packed bs h = cells-packs (packed_of (stream Low bs)) (stream Low bs) (packed_of-packs (stream Low bs))
 

@@ -19,6 +19,7 @@ pub mod BlockRuns
 pub mod RewrittenBlocks
 pub mod SampleReads
 pub mod SampleRuns
+pub mod SamplesBack
 pub mod PackedLemmas
 pub mod PackedRuns
 pub mod Fronts

@@ -11,4 +11,5 @@ pub mod ReportRuns
 pub mod BlockRuns
 pub mod Rewriting
 pub mod Sampling
+pub mod SampleLaws
 pub use Rattle.aes3_cell.specs.Ends

@@ -6,6 +6,7 @@ mod change;
 mod conversion;
 mod driver;
 mod encoding;
+pub mod laws;
 mod locked;
 mod packed_input;
 mod reading;
