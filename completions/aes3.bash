@@ -7,7 +7,7 @@ _aes3() {
         --status1 | --status2) return ;;
     esac
     if [ "$COMP_CWORD" = 1 ]; then
-        COMPREPLY=($(compgen -W "encode decode normal check show scan cut rewrite to-pcm --help --version" -- "$word"))
+        COMPREPLY=($(compgen -W "encode decode normal check show scan cut rewrite to-pcm --help --version --explain" -- "$word"))
         return
     fi
     case ${COMP_WORDS[1]} in
@@ -15,7 +15,7 @@ _aes3() {
         decode) COMPREPLY=($(compgen -W "--packed-in --help" -- "$word")) ;;
         normal) COMPREPLY=($(compgen -W "--packed-in --packed-out --help" -- "$word")) ;;
         check) COMPREPLY=($(compgen -W "--packed-in --faults --gaps --help" -- "$word")) ;;
-        show) COMPREPLY=($(compgen -W "--packed-in --help" -- "$word")) ;;
+        show) COMPREPLY=($(compgen -W "--packed-in --changes --help" -- "$word")) ;;
         scan) COMPREPLY=($(compgen -W "--packed-in --help" -- "$word")) ;;
         cut) COMPREPLY=($(compgen -W "--packed-in --packed-out --help" -- "$word")) ;;
         rewrite) COMPREPLY=($(compgen -W "--packed-in --packed-out --status1 --status2 --mend-check --help" -- "$word")) ;;

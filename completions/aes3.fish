@@ -2,6 +2,7 @@
 complete -c aes3 -f
 complete -c aes3 -n __fish_use_subcommand -s h -l help -d 'Print help'
 complete -c aes3 -n __fish_use_subcommand -s V -l version -d 'Print version'
+complete -c aes3 -n __fish_use_subcommand -l explain -d 'Print what the refusals mean, or the one of this NUMBER, and what to do'
 complete -c aes3 -n __fish_use_subcommand -a encode -d 'Write the cells of a block file'
 complete -c aes3 -n __fish_use_subcommand -a decode -d 'Write the whole blocks as a block file'
 complete -c aes3 -n __fish_use_subcommand -a normal -d 'Write the whole blocks again, in the normal polarity'
@@ -23,6 +24,7 @@ complete -c aes3 -n '__fish_seen_subcommand_from check' -l faults -d 'Leave the 
 complete -c aes3 -n '__fish_seen_subcommand_from check' -l gaps -d 'Tell and count cells in no whole block'
 complete -c aes3 -n '__fish_seen_subcommand_from check' -l help -s h -d 'Print help'
 complete -c aes3 -n '__fish_seen_subcommand_from show' -l packed-in -d 'Read packed cells, eight an octet'
+complete -c aes3 -n '__fish_seen_subcommand_from show' -l changes -d 'Leave out what is as in the block before'
 complete -c aes3 -n '__fish_seen_subcommand_from show' -l help -s h -d 'Print help'
 complete -c aes3 -n '__fish_seen_subcommand_from scan' -l packed-in -d 'Read packed cells, eight an octet'
 complete -c aes3 -n '__fish_seen_subcommand_from scan' -l help -s h -d 'Print help'

@@ -1,7 +1,7 @@
 #!/bin/sh
 # tests/help.sh PROGRAM runs the examples that the program's help and that of each command show, in the order of the
 # program's own help first: each has to end with status 0 and to say nothing on standard error. Those that need sox are left
-# out where it isn't installed.
+# out where it isn't installed. What `--explain` prints has to stand in the README's table of refusals, word for word.
 #
 # The status is 0 where each did.
 
@@ -39,5 +39,11 @@ while IFS= read -r line; do
     echo "$line" >&2
     cat "$work/said" >&2
 done <"$work/all"
+aes3 --explain | sed 's/^[0-9]*: //; s/^ *//' >"$work/sentences"
+while IFS= read -r sentence; do
+    grep -qF -e "$sentence" "$root/README.md" && continue
+    failed=$((failed + 1))
+    echo "not in the README: $sentence" >&2
+done <"$work/sentences"
 echo "$count examples, $failed failed, $left left out"
 [ "$failed" = 0 ] && [ "$count" -gt 0 ]

@@ -27,13 +27,13 @@ line_is_simple = refl
 pub error_told : (words : List Text) (e : Error) (told : LineFault) → HasKind (faults_in words) e → Tells (kind_of e) told → IsFaultOf words told
 error_told words e (fault.Usage text) kind tells = elim kind [
   | inl memory ↦ absurd (tells.0 memory)
-  | inr among ↦ (kind_of e, among, tells.1, tells.2)
+  | inr among ↦ inl (kind_of e, among, tells.1, tells.2)
 ]
 error_told words e (fault.Help text) kind tells = elim kind [
   | inl memory ↦ elim tells [ inl help ↦ cc | inr version ↦ cc ]
   | inr among ↦ elim tells [
-    | inl help ↦ inl (subst (λ (k : ErrorKind). Rattle.clap.specs.Kinds.IsAmong k (faults_in words)) help among)
-    | inr version ↦ inr (subst (λ (k : ErrorKind). Rattle.clap.specs.Kinds.IsAmong k (faults_in words)) version among)
+    | inl help ↦ inl (inl (subst (λ (k : ErrorKind). Rattle.clap.specs.Kinds.IsAmong k (faults_in words)) help among))
+    | inr version ↦ inl (inr (subst (λ (k : ErrorKind). Rattle.clap.specs.Kinds.IsAmong k (faults_in words)) version among))
   ]
 ]
 error_told words e (fault.Refused error) kind tells = inl tells

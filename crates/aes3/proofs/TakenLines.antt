@@ -273,7 +273,7 @@ all_known = (
       (
         check_known,
         (
-          reader_known (codes "show") refl,
+          show_known,
           (reader_known (codes "scan") refl, (cut_known, (rewrite_known, (reader_known (codes "to-pcm") refl, tt)))),
         ),
       ),

@@ -1,5 +1,5 @@
 -- What a command line asks for, by what `clap` makes of its words.
-use Rattle.std.specs.Prelude.{ℕ, Bool, List, [], ◌≡◌, ◌≢◌, ◌⊎◌, Option, Some, None, codes, true, false}
+use Rattle.std.specs.Prelude.{ℕ, Bool, List, [], ◌∷◌, ◌≡◌, ◌≢◌, ◌⊎◌, Option, Some, None, codes, true, false}
 use Rattle.std.specs.Prelude.{if◌then◌else◌, option_and_then, is_some}
 use Rattle.std.specs.Option.{option_map_or}
 use Rattle.std.specs.Str.{bytes_eq}
@@ -146,10 +146,22 @@ HasBadStatus options =
 abbrev pub IsNotTaken : List Text → Type 0
 IsNotTaken words = (kind : _) × IsAmong kind (faults_in words) × (kind ≢ DisplayHelp) × (kind ≢ DisplayVersion)
 
+-- the words ask what refusals mean
+abbrev pub asks_to_explain : List Text → Bool
+asks_to_explain [] = false
+asks_to_explain (word ∷ words) = bytes_eq word (codes "--explain")
+
+-- what is told of that
+abbrev pub IsExplanation : LineFault → Type 0
+IsExplanation (fault.Usage text) = Unit {0}
+IsExplanation (fault.Help text) = Unit {0}
+IsExplanation (fault.Refused error) = error ≡ Memory
+
 -- why the words are no job
 abbrev pub IsFaultOf : List Text → LineFault → Type 0
-IsFaultOf words (fault.Usage text) = IsNotTaken words
-IsFaultOf words (fault.Help text) = IsAmong DisplayHelp (faults_in words) ⊎ IsAmong DisplayVersion (faults_in words)
+IsFaultOf words (fault.Usage text) = IsNotTaken words ⊎ (asks_to_explain words ≡ true)
+IsFaultOf words (fault.Help text) =
+    (IsAmong DisplayHelp (faults_in words) ⊎ IsAmong DisplayVersion (faults_in words)) ⊎ (asks_to_explain words ≡ true)
 IsFaultOf words (fault.Refused error) =
     (error ≡ Memory) ⊎ ((error ≡ BadStatusText) × ((options : Options)
     × StandsIn words (codes "rewrite") options × HasBadStatus options))

@@ -18,7 +18,8 @@ pub const PROGRAM: Texts<'static> = Texts {
     about: "An AES3 / IEC 60958 line codec, from standard input to standard output",
     usage: "aes3 COMMAND [OPTIONS] < INPUT > OUTPUT
        aes3 check < FILE
-       aes3 COMMAND --help",
+       aes3 COMMAND --help
+       aes3 --explain [NUMBER]",
     more: "Input comes from standard input, as in `aes3 check < FILE`: no command takes the
 name of a file. `aes3 COMMAND --help` says what a command reads and writes.
 
@@ -41,17 +42,8 @@ Exit status:
   2  the words are no command line; why is told on standard error
   3  refused; standard error has one line, `aes3: refused NUMBER at PLACE`, or no place
 
-Refusals, with what PLACE counts from 0:
-   1  a byte of cell text is neither a cell nor a separator; bytes
-   2  the block file ends inside a block; PLACE is the number of bytes left over
-   3  bits 0 to 3 of a word are not zero; words
-   4  bit 31 of a word is not the right parity; words
-   5  the input can't be read
-   6  the output can't be written
-   7  the input has more than 2^40 bytes
-   8  memory was refused
-   9  a status on the command line is not 48 hexadecimal digits
-  10  packed cells end wrongly; octets
+Refusals have the numbers 1 to 10; PLACE counts bytes, words or octets from 0. `aes3
+--explain` prints what was wrong and what to do, with a NUMBER of that refusal alone.
 
 Examples, three tasks with examples/speech.block of the sources:
   Make a line of a block file, and look whether it is whole:

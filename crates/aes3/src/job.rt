@@ -9,6 +9,7 @@ ghost use Rattle.aes3.specs.declared.job.LineFault.TheVariants.{Refused};
 ghost use Rattle.aes3_cell.specs.declared.refusal.RunError.TheVariants.{BadStatusText, Memory};
 
 use crate::definitions::command_line;
+use crate::explain::{asks_to_explain, explanation};
 use crate::status_text::status_of_text;
 use aes3_cell::{Form, RunError};
 use aes3_engine::Change;
@@ -23,7 +24,7 @@ use std::alloc::{AllocError, Global};
 pub enum LineFault {
     /// The words are no command line of the program; the text says why.
     Usage { text: String },
-    /// The words ask for help or the version, which the text is.
+    /// The words ask for help, the version or what refusals mean, which the text is.
     Help { text: String },
     /// A status text that is none, or want of memory.
     Refused(RunError),
@@ -33,12 +34,15 @@ pub enum LineFault {
 ///
 /// # Errors
 /// `Usage` where the definitions of the command line don't take the words, or no command stands in them; `Help` where
-/// `--help` or `--version` stands in them; `BadStatusText` where they are taken, but a status text isn't 48 hexadecimal
+/// `--help` or `--version` stands in them; either where `--explain` is the first of them; `BadStatusText` where they are taken, but a status text isn't 48 hexadecimal
 /// digits; `Memory` where memory was refused.
 pub fn job_of_words<'a>(alloc: Global, words: &'a [&'a str]) -> Result<Job, LineFault>
     ensures job { IfOk result (IsJobOf (map (λ word. word.now) words.now)) }
     ensures fault { IfErr result (IsFaultOf (map (λ word. word.now) words.now)) }
 {
+    if asks_to_explain(words) {
+        return Err(explanation(alloc, &words[1..])?);
+    }
     let command = command_line(alloc)?;
     let matches = match command.try_get_matches_from(words) {
         Ok(matches) => matches,

@@ -4,6 +4,7 @@
 ghost use Rattle.std.specs.Prelude.{◌+◌, ◌<◌, ◌^◌, ◌≡◌, IfErr};
 
 mod definitions;
+mod explain;
 mod help;
 mod job;
 #[cfg(test)]
