@@ -1,10 +1,6 @@
 -- Blocks kept as words.
-use Rattle.std.proofs.Common.{◌≡◌, ◌≢◌, ℕ, zero, suc, ◌+◌, ◌*◌, ◌/◌, ◌%◌, ◌<◌, ◌⊎◌, inl, inr, List, ◌∷◌, Bool, true, cond, length, map, set, get_or, replicate, Some, refl, ap, ap₂, ◌∙◌, arith, eq-eqb, ne_eqb}
-use Rattle.std.specs.Prelude.{slice_get}
-use Rattle.std.proofs.lemmas.Bool.{cases_eq}
-use Rattle.std.proofs.lemmas.List.{map-set, get_or-set_same, get_or-set_other}
-use Rattle.std.proofs.lemmas.Option.{slice_get-map, slice_get-get_or}
-use Rattle.std.specs.Option.{option_map}
+use Rattle.std.proofs.Common.{◌≡◌, ◌≢◌, ℕ, zero, suc, ◌*◌, ◌/◌, ◌%◌, List, ◌∷◌, Bool, true, cond, map, set, get_or, replicate, refl, ap, ap₂, ◌∙◌, arith, eq-eqb, ne_eqb}
+use Rattle.std.proofs.lemmas.List.{map-set}
 use Rattle.aes3_slot.specs.declared.mark.Mark.{Mark}
 use Rattle.aes3_slot.specs.declared.mark.Mark.TheVariants.{X, Y, Z}
 use Rattle.aes3_slot.specs.Slots.{payload_len, slots_len}
@@ -36,23 +32,11 @@ zero-lawful = refl
 pub zeros-lawful : (words : List ℕ) → words ≡ replicate block_slots 0 → (i : ℕ) → is_lawful (get_or words i 0) ≡ true
 zeros-lawful words e i = ap is_lawful (ap (λ w. get_or w i 0) e ∙ get_or-zeros block_slots i) ∙ zero-lawful
 
--- one payload read and one written
-pub payload-at : (words : List ℕ) (i : ℕ) → i < length words → slice_get (map payload_of words) i ≡ Some (payload_of (get_or words i 0))
-payload-at words i h = slice_get-map payload_of words i ∙ ap (option_map payload_of) (slice_get-get_or words i 0 h)
-
+-- two payloads written
 pub payloads-set : (words : List ℕ) (i j v w : ℕ) (x y : List Bool) → payload_of v ≡ x → payload_of w ≡ y
     → map payload_of (set (set words i v) j w) ≡ set (set (map payload_of words) i x) j y
 payloads-set words i j v w x y e f =
     map-set payload_of (set words i v) j w ∙ ap₂ (λ ws p. set ws j p) (map-set payload_of words i v ∙ ap (set (map payload_of words) i) e) f
-
--- a lawful word put behind n lawful words
-pub put-lawful : (words : List ℕ) (n w : ℕ) → n < length words → is_lawful w ≡ true
-    → ((i : ℕ) → i < n → is_lawful (get_or words i 0) ≡ true) → (i : ℕ) → i < n + 1 → is_lawful (get_or (set words n w) i 0) ≡ true
-put-lawful words n w l e h i lt = go (cases_eq i n)
-  where
-    go : (i ≡ n) ⊎ (i ≡ n → ⊥) → is_lawful (get_or (set words n w) i 0) ≡ true
-    go (inl q) = ap (λ k. is_lawful (get_or (set words n w) k 0)) q ∙ ap is_lawful (get_or-set_same words n w 0 l) ∙ e
-    go (inr q) = ap is_lawful (get_or-set_other words n i w 0 q) ∙ h i (omega arith)
 
 -- the preambles of a block
 pub mark_at-zero : (i : ℕ) → i ≡ 0 → mark_at i ≡ Z

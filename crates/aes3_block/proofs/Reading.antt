@@ -1,6 +1,6 @@
 -- A block file read byte by byte.
 use Rattle.std.proofs.Common.{◌≡◌, ℕ, suc, ◌+◌, ◌*◌, ◌/◌, ◌%◌, ◌^◌, ◌<◌, ◌≤◌, ◌≢◌, ◌-◌, ◌⊎◌, inl, inr, List, [], ◌∷◌, ◌++◌, Bool, true, false, cond, eqb, ◌&&◌, length, length-append, get_or, map, Option, Some, None, Result, Ok, Err, refl, sym, ap, ◌∙◌, arith, eq-eqb, ne_eqb, add-one}
-use Rattle.std.proofs.lemmas.Bool.{cases_eq, cases_lt}
+use Rattle.std.proofs.lemmas.Bool.{cases_lt}
 use Rattle.std.proofs.lemmas.List.{get_or_append_left, get_or-append_right}
 use Rattle.aes3_block.specs.declared.file.FileFault.{FileFault}
 use Rattle.aes3_block.specs.declared.file.FileFault.TheVariants.{BadLength, BadCode, BadParity}
@@ -138,28 +138,6 @@ push-lawful ws v e old i lt = go (cases_lt i (length ws))
         let n = length-append ws (v ∷ []) in
         let z : i - length ws ≡ 0 = omega (arith, lt, n, h) in
         ap is_lawful (get_or-append_right ws (v ∷ []) (length ws) i 0 refl h ∙ ap (λ k. get_or (v ∷ []) k 0) z) ∙ e
-
--- what is left keeps what a reader promises of its words
-pub left-count : (seen : ℕ) (ws left : List ℕ) (v : ℕ) (block : Option (List (List Bool))) → Taken (ws ++ v ∷ []) left block → length ws ≡ seen / 4 % 384 → 3 ≤ seen % 4
-    → length left ≡ (seen + 1) / 4 % 384
-left-count seen ws left v block t lw h = go (cases_lt (seen / 4 % 384 + 1) 384)
-  where
-    n : length (ws ++ v ∷ []) ≡ length ws + 1
-    n = length-append ws (v ∷ [])
-
-    go : (seen / 4 % 384 + 1 < 384) ⊎ (384 ≤ seen / 4 % 384 + 1) → length left ≡ (seen + 1) / 4 % 384
-    go (inl s) = let l = ap length (t.begun (λ y. omega (arith, y, n, lw, s))).1 in omega (arith, l, n, lw, s, h)
-    go (inr s) = let l = ap length (t.whole (omega (arith, n, lw, s))).1 in omega (arith, l, lw, s, h)
-
-pub left-lawful : (all left : List ℕ) (block : Option (List (List Bool))) → Taken all left block → ((i : ℕ) → i < length all → is_lawful (get_or all i 0) ≡ true)
-    → (i : ℕ) → i < length left → is_lawful (get_or left i 0) ≡ true
-left-lawful all left block t e i lt = go (cases_eq (length all) 384)
-  where
-    go : (length all ≡ 384) ⊎ (length all ≡ 384 → ⊥) → is_lawful (get_or left i 0) ≡ true
-    go (inl q) = absurd (let l = ap length (t.whole q).1 in omega (arith, l, lt))
-    go (inr q) =
-        let same = (t.begun q).1 in
-        ap (λ k. is_lawful (get_or k i 0)) same ∙ e i (let l = ap length same in omega (arith, l, lt))
 
 -- a word without a fault is lawful
 pub fault-lawful : (at w : ℕ) → word_fault at w ≡ None → is_lawful w ≡ true

@@ -1,10 +1,9 @@
 -- Blocks of the bits that words of cells carry.
-use Rattle.std.proofs.Common.{◌≡◌, ℕ, zero, suc, ◌+◌, ◌*◌, ◌/◌, ◌%◌, ◌^◌, ◌<◌, ◌≤◌, ◌⊎◌, inl, inr, List, [], ◌∷◌, Bool, true, false, not, cond, eqb, length, map, set, get_or, take, refl, sym, ap, ◌∙◌, arith, length-append}
+use Rattle.std.proofs.Common.{◌≡◌, ℕ, zero, suc, ◌+◌, ◌*◌, ◌/◌, ◌%◌, ◌^◌, ◌<◌, ◌≤◌, ◌⊎◌, inl, inr, List, [], ◌∷◌, Bool, true, false, not, eqb, length, map, set, get_or, take, refl, sym, ap, ◌∙◌, arith}
 use Rattle.std.specs.Prelude.{count_ones}
 use Rattle.std.specs.List.{filter}
 use Rattle.std.proofs.lemmas.Bool.{cases_eq}
-use Rattle.std.proofs.lemmas.List.{length-map, map-append, ext_get_or, get_or-map, get_or-set_same, get_or-set_other, take_more, take_all}
-use Rattle.std.proofs.lemmas.List.Elements.{filter-append}
+use Rattle.std.proofs.lemmas.List.{length-map, ext_get_or, get_or-map, get_or-set_same, get_or-set_other}
 use Rattle.std.proofs.lemmas.Simd.{map-map}
 use Rattle.aes3_cell.specs.Words.{level_of, low_cells, word_cells, word_len}
 use Rattle.aes3_cell.proofs.WordCells.{drop-low_cells}
@@ -92,19 +91,3 @@ carried-all xs ys l f = payloads-all carried xs ys l f ∙ sym (map-map (take pa
 -- how many have odd ones
 abbrev pub odd_count : List ℕ → ℕ
 odd_count words = length (filter odd_ones (read_words words))
-
-pub odd-more : (words : List ℕ) (i : ℕ) → i < length words
-    → odd_count (take (i + 1) words) ≡ odd_count (take i words) + cond (odd_ones (read_word (get_or words i 0))) 1 0
-odd-more words i h =
-    ap odd_count (take_more words i 0 h)
-    ∙ ap (λ x. length (filter odd_ones x)) (map-append read_word (take i words) (get_or words i 0 ∷ []))
-    ∙ ap length (filter-append odd_ones (map read_word (take i words)) (read_word (get_or words i 0) ∷ []))
-    ∙ length-append (filter odd_ones (map read_word (take i words))) (filter odd_ones (read_word (get_or words i 0) ∷ []))
-    ∙ ap (λ n. odd_count (take i words) + n) (last (odd_ones (read_word (get_or words i 0))) refl)
-  where
-    last : (b : Bool) → odd_ones (read_word (get_or words i 0)) ≡ b → length (filter odd_ones (read_word (get_or words i 0) ∷ [])) ≡ cond (odd_ones (read_word (get_or words i 0))) 1 0
-    last true e = rw e refl
-    last false e = rw e refl
-
-pub odd-all : (words : List ℕ) (i : ℕ) → length words ≤ i → odd_count (take i words) ≡ odd_count words
-odd-all words i h = ap odd_count (take_all i words h)

@@ -1,7 +1,6 @@
 -- Cell text joined, read byte by byte, and written and read again.
-use Rattle.std.proofs.Common.{◌≡◌, ℕ, zero, suc, ◌+◌, ◌*◌, ◌/◌, ◌%◌, ◌<◌, ◌≤◌, List, [], ◌∷◌, ◌++◌, Bool, true, false, cond, length, take, drop, map, Option, Some, None, Ok, Err, refl, sym, ap, ap₂, ◌∙◌, arith, append-nil, length-append, length-drop, option_to_list, inl, inr}
+use Rattle.std.proofs.Common.{◌≡◌, ℕ, zero, suc, ◌+◌, ◌*◌, ◌/◌, ◌%◌, ◌≤◌, List, [], ◌∷◌, ◌++◌, Bool, true, false, cond, length, take, drop, map, Option, Some, None, Ok, Err, refl, sym, ap, ap₂, ◌∙◌, arith, append-nil, length-append, length-drop, option_to_list}
 use Rattle.std.specs.List.{flat_map, take_while}
-use Rattle.std.proofs.lemmas.Bool.{cases_lt}
 use Rattle.std.proofs.lemmas.Grind.{flat_map-append}
 use Rattle.std.proofs.lemmas.List.{take-append-drop}
 use Rattle.std.proofs.lemmas.List.Sums.{take_while-cons}
@@ -62,36 +61,6 @@ unfolding cells_of_text
 cells-join a b g =
     ap (flat_map byte_cells) (good_bytes-join a b g.is) ∙ flat_map-append byte_cells a (good_bytes b)
     ∙ ap (λ c. flat_map byte_cells c ++ flat_map byte_cells (good_bytes b)) (sym (good_bytes-all a g))
-
--- behind a bad byte nothing counts
-good_bytes-stay : (a b : List ℕ) → good a < length a → good_bytes (a ++ b) ≡ good_bytes a
-good_bytes-stay [] b h = absurd (omega arith)
-good_bytes-stay (x ∷ a) b h = go (is_good_byte x) refl (good_bytes-stay a b)
-  where
-    go : (p : Bool) → is_good_byte x ≡ p → (good a < length a → good_bytes (a ++ b) ≡ good_bytes a) → good_bytes (x ∷ a ++ b) ≡ good_bytes (x ∷ a)
-    go true e next =
-        let l : good a < length a = omega (arith, ap length (good_bytes-good x a e)) in
-        good_bytes-good x (a ++ b) e ∙ ap (λ c. x ∷ c) (next l) ∙ sym (good_bytes-good x a e)
-    go false e next = good_bytes-bad x (a ++ b) e ∙ sym (good_bytes-bad x a e)
-
--- text with a bad byte
-pub record HasBadByte (a : List ℕ) : Type 0 where
-  pub is : good a < length a
-
-pub good-stay : (a b : List ℕ) → HasBadByte a → good (a ++ b) ≡ good a
-good-stay a b h = ap length (good_bytes-stay a b h.is)
-
-pub cells-stay : (a b : List ℕ) → HasBadByte a → cells_of_text (a ++ b) ≡ cells_of_text a
-unfolding cells_of_text
-cells-stay a b h = ap (flat_map byte_cells) (good_bytes-stay a b h.is)
-
--- the cells of a front are a front of the cells
-pub cells-front : (a b : List ℕ) → (more : List Level) × (cells_of_text (a ++ b) ≡ cells_of_text a ++ more)
-cells-front a b =
-    elim (cases_lt (good a) (length a)) [
-      | inl h ↦ ([], cells-stay a b (record { is = h }) ∙ sym (append-nil (cells_of_text a)))
-      | inr h ↦ (cells_of_text b, cells-join a b (record { is = let q = good-le-length a in omega arith }))
-    ]
 
 pub length-cells_of_text : (b : List ℕ) → length (cells_of_text b) ≤ length b
 unfolding cells_of_text

@@ -4,7 +4,7 @@ use Rattle.std.proofs.lemmas.List.{take_at, take_all, length-reverse, reverse-ap
 use Rattle.std.proofs.Math.Seq.{take-append-add}
 use Rattle.aes3_cell.specs.declared.level.Level.{Level}
 use Rattle.aes3_cell.specs.declared.refusal.BadPadding.{BadPadding}
-use Rattle.aes3_cell.specs.Packed.{octet_cells, cells_of_octets, Packs, IsPacked, is_padded, ends_packed, is_packed, last_place, last_octet, cells_of_packed, whole_cells}
+use Rattle.aes3_cell.specs.Packed.{octet_cells, cells_of_octets, IsPacked, is_padded, ends_packed, is_packed, last_place, last_octet, cells_of_packed, whole_cells}
 use Rattle.aes3_cell.specs.PackedReading.{PackedReader, packed_reader_of, packed_answer, packed_next, end_answer, packed_end, answer_cells, end_cells}
 use Rattle.aes3_cell.proofs.Octets.{reverse-more}
 use Rattle.aes3_cell.proofs.PackedCells.{LastOctet, cells_of_octets-append, cells_of_octets-one, length-cells_of_octets, last_octet-is, last_place-is, take-front, is_packed-packs, packs-is_packed, last-reverse, padded-parts}
@@ -211,22 +211,3 @@ whole_cells-front a (x ∷ b) =
     let r = whole_cells-front (a ++ x ∷ []) b in
     let added = answer_cells (packed_answer (packed_reader_of a)) in
     (added ++ r.0, ap whole_cells (sym (append_assoc a (x ∷ []) b)) ∙ r.1 ∙ ap (λ c. c ++ r.0) (whole_cells-more a x) ∙ append_assoc (whole_cells a) added r.0)
-
--- a reader is fed one more octet
-pub packed-fed : {r new : PackedReader} (b : List ℕ) (x : ℕ) (answer : Option ℕ) → r ≡ packed_reader_of b → answer ≡ packed_answer r → new ≡ packed_next r x
-    → (new ≡ packed_reader_of (b ++ x ∷ [])) × (whole_cells (b ++ x ∷ []) ≡ whole_cells b ++ answer_cells answer)
-packed-fed b x answer e a n = (
-  n ∙ ap (λ v. packed_next v x) e ∙ packed_reader-more b x,
-  whole_cells-more b x ∙ ap (λ o. whole_cells b ++ answer_cells o) (sym (a ∙ ap packed_answer e)),
-)
-
--- and the end
-pub packed-ended : {r : PackedReader} (b : List ℕ) (o : Option (ℕ × ℕ)) → r ≡ packed_reader_of b → Ok o ≡ packed_end r
-    → Packs b (cells_of_packed b) × (cells_of_packed b ≡ whole_cells b ++ end_cells (Ok o))
-packed-ended b o e a =
-    let q : packed_end (packed_reader_of b) ≡ Ok o = ap packed_end (sym e) ∙ sym a in
-    let t = end-ok b o q in
-    (packs-is_packed b t, cells-end b t ∙ ap (λ v. whole_cells b ++ end_cells v) q)
-
-pub packed-refused : {r : PackedReader} (b : List ℕ) (f : BadPadding) → r ≡ packed_reader_of b → Err f ≡ packed_end r → (is_packed b ≡ false) × (f.at ≡ last_place b)
-packed-refused b f e a = end-fault b f (ap packed_end (sym e) ∙ sym a)

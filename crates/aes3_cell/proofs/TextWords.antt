@@ -1,5 +1,5 @@
 -- Words of cells in text.
-use Rattle.std.proofs.Common.{◌≡◌, ℕ, zero, suc, ◌+◌, ◌-◌, ◌/◌, ◌%◌, ◌^◌, ◌<◌, ◌≤◌, ◌⊎◌, inl, inr, max, List, ◌++◌, length, map, get_or, ext_get_or, eq-eqb, ne_eqb, lit<, w64, min, take, refl, sym, ap, ◌∙◌, subst, arith, length-append}
+use Rattle.std.proofs.Common.{◌≡◌, ℕ, zero, suc, ◌-◌, ◌/◌, ◌%◌, ◌^◌, ◌<◌, ◌≤◌, ◌⊎◌, inl, inr, max, List, length, map, get_or, ext_get_or, eq-eqb, ne_eqb, lit<, w64, min, take, refl, sym, ap, ◌∙◌, arith}
 use Rattle.std.specs.Prelude.{bit_or, ◌==◌, if◌then◌else◌}
 use Rattle.std.specs.Int.{bit_at, bit_not, trailing_zeros}
 use Rattle.std.specs.Int.Count.{trailing_of_zero}
@@ -12,11 +12,8 @@ use Rattle.aes3_cell.specs.declared.level.Level.{Level}
 use Rattle.aes3_cell.specs.declared.level.Level.TheVariants.{Low, High}
 use Rattle.aes3_cell.specs.Words.{level_of, low_cells, word_len, word_cells}
 use Rattle.aes3_cell.specs.Text.{byte_of, IsCellByte}
-use Rattle.aes3_cell.specs.CellText.{cells_of_text, IsCellText}
-use Rattle.aes3_cell.specs.TextReading.{TextReader, text_reader_of}
-use Rattle.aes3_cell.proofs.WordCells.{length-low_cells, length-word_cells, low_cells-at}
-use Rattle.aes3_cell.proofs.Lines.{word_len_64, level-byte}
-use Rattle.aes3_cell.proofs.CellTexts.{cells-text, cells-join, text-join}
+use Rattle.aes3_cell.proofs.WordCells.{length-low_cells, low_cells-at}
+use Rattle.aes3_cell.proofs.Lines.{level-byte}
 
 -- where the bytes `1` and the bytes `0` are all 64, they are the text of the former
 module _ (bytes : List ℕ) (h l : ℕ) (len : length bytes ≡ 64)
@@ -145,19 +142,3 @@ same-word (suc n) a b h k e =
 pub word-owed : (bytes : List ℕ) (v w : ℕ) → v < 2 ^ 64 → w < 2 ^ 64 → bytes ≡ map byte_of (word_cells v) → bytes ≡ map byte_of (word_cells w) → v ≡ w
 unfolding word_cells word_len
 word-owed bytes v w h k e t = same-word 64 v w h k (sym e ∙ t)
-
--- a reader behind text without a bad byte is fed 64 cells
-pub word-fed : {r new : TextReader} (b bytes : List ℕ) (w : ℕ) → r ≡ text_reader_of b → IsCellText b → bytes ≡ map byte_of (word_cells w) → new.seen ≡ r.seen + 64
-    → IsCellText (b ++ bytes) × (new ≡ text_reader_of (b ++ bytes)) × (cells_of_text (b ++ bytes) ≡ cells_of_text b ++ word_cells w)
-unfolding text_reader_of
-word-fed {r} {new} b bytes w e g t n =
-    let c = cells-text (word_cells w) in
-    let k = word_len_64 in
-    let l : length bytes ≡ 64 = ap length t ∙ length-map (word_cells w) byte_of ∙ length-word_cells w ∙ k in
-    let s = ap (λ v. v.seen) e in
-    let m = length-append b bytes in
-    let seen : new.seen ≡ length (b ++ bytes) = omega arith in (
-      text-join b bytes g (subst IsCellText (sym t) c.0),
-      ap (λ v. record { seen = v }) seen,
-      ap (λ v. cells_of_text (b ++ v)) t ∙ cells-join b (map byte_of (word_cells w)) g ∙ ap (λ v. cells_of_text b ++ v) c.1,
-    )

@@ -108,15 +108,9 @@ other-mark m s t r e b f = true≢false (sym (ap is_Z (sym e ∙ f)) ∙ b)
 pub none-some : {A : Type 0} {x : A} → ◌≡◌ {A = Option A} None (Some x) → ⊥
 none-some e = cc
 
--- a cell that goes on with a candidate, and one that does not
+-- a cell that goes on with a candidate
 pub goes : (o : ℕ) (x b p q : Level) (r : Bool) → r ≡ ltb o block_len && rule mark_at o x b p → p ≡ q → r ≡ true
     → (o < block_len) × (rule mark_at o x b q ≡ true)
 goes o x b p q r e f h =
     let t = and_parts (ltb o block_len) (rule mark_at o x b p) (sym e ∙ h) in
     (ltb-true o block_len t.0, ap (rule mark_at o x b) (sym f) ∙ t.1)
-
-pub stops : (o : ℕ) (x b p q : Level) (r : Bool) → r ≡ ltb o block_len && rule mark_at o x b p → p ≡ q → r ≡ false
-    → o < block_len → rule mark_at o x b q ≡ false
-stops o x b p q r e f h g =
-    let t = lt-ltb o block_len g in
-    ap (rule mark_at o x b) (sym f) ∙ rw t at (sym e ∙ h)

@@ -3,7 +3,7 @@ use Rattle.std.proofs.Common.{◌≡◌, ℕ, zero, suc, ◌+◌, ◌-◌, ◌*�
 use Rattle.std.proofs.lemmas.List.{drop-append-le}
 use Rattle.aes3_cell.specs.declared.level.Level.{Level}
 use Rattle.aes3_cell.specs.declared.level.Level.TheVariants.{Low, High}
-use Rattle.aes3_cell.specs.Words.{low_cells, level_of, bit_of}
+use Rattle.aes3_cell.specs.Words.{low_cells, bit_of}
 use Rattle.aes3_slot.specs.Rules.{at, before}
 use Rattle.aes3_lock.specs.Steps.{last_eight, eight_with}
 
@@ -29,10 +29,6 @@ byte-with w High h =
     let e6 : (w / 2 + 128 * 1) / 2 / 2 / 2 / 2 / 2 / 2 % 2 ≡ w / 2 / 2 / 2 / 2 / 2 / 2 / 2 % 2 = omega arith in
     let e7 : (w / 2 + 128 * 1) / 2 / 2 / 2 / 2 / 2 / 2 / 2 % 2 ≡ 1 = omega arith in
     rw (e0, e1, e2, e3, e4, e5, e6, e7) refl
-
--- its last cell
-pub byte-last : (w : ℕ) → w < 256 → at (low_cells 8 w) 7 ≡ level_of (w / 128)
-byte-last w h = ap level_of (let e : w / 2 / 2 / 2 / 2 / 2 / 2 / 2 % 2 ≡ w / 128 = omega arith in e)
 
 abbrev pad : List Level
 pad = replicate 8 Low

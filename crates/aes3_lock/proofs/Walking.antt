@@ -43,15 +43,6 @@ pub record Walked (s : Level) (c : List Level) (subframe : ℕ) (words : List �
   pub previous : v ≡ before s c o
   pub gathered : Gathered u subframe words s (take o c)
 
-pub walk-nil : (s : Level) (c : List Level) (words : List ℕ) → Walked s c 0 words s s 0
-walk-nil s c words = record {
-  few = omega arith;
-  kept = λ i h. absurd (omega arith);
-  level = refl;
-  previous = refl;
-  gathered = record { level = refl; cells = refl; few = omega arith; whole = λ j g h. absurd (omega arith) };
-}
-
 -- the rule of the next cell
 pub walk-keeps : (s : Level) (c : List Level) (subframe : ℕ) (words : List ℕ) (level previous : Level) (o : ℕ) (b : Bool) → Walked s c subframe words level previous o
     → rule mark_at o (at c o) level previous ≡ b → keeps s c o ≡ b

@@ -114,28 +114,3 @@ own-cell own s c a j k r h =
     let x : (64 * j + k) / 64 ≡ j = omega arith in
     let y : (64 * j + k) % 64 ≡ k = omega arith in
     rw (y, x) at ((a (64 * j + k) (omega (arith, r, h))).preamble (omega arith))
-
--- where a line has other marks than the block at two subframes, three cells differ (four do)
-pub marks-apart : (marks own : ℕ → Mark) (s t : Level) (d e : List Level) → AllKept marks s d → AllKept own t e → (q i j : ℕ) → i < j
-    → 64 * (q + j) + 8 ≤ length d → 64 * j + 8 ≤ length e → (marks (q + i) ≡ own i → ⊥) → (marks (q + j) ≡ own j → ⊥)
-    → (x y z : ℕ) × (x < y) × (y < z) × (z < 64 * j + 8) × (at d (64 * q + x) ≢ at e x) × (at d (64 * q + y) ≢ at e y) × (at d (64 * q + z) ≢ at e z)
-marks-apart marks own s t d e kd ke q i j h rd re ni nj =
-    let a = two-apart (marks (q + i)) (own i) (before s d (64 * (q + i))) (before t e (64 * i)) ni in
-    let b = two-apart (marks (q + j)) (own j) (before s d (64 * (q + j))) (before t e (64 * j)) nj in
-    let a2 = a.2 in
-    let a3 = a.3 in
-    let b2 = b.2 in
-    let b3 = b.3 in
-    let move = λ (n k : ℕ) (r : 64 * (q + n) + 8 ≤ length d) (w : 64 * n + 8 ≤ length e) (l : k < 8)
-    (ne : shape (marks (q + n)) k (before s d (64 * (q + n))) ≡ shape (own n) k (before t e (64 * n)) → ⊥) (z : at d (64 * q + (64 * n + k)) ≡ at e (64 * n + k)).
-    ne (sym (own-cell marks s d kd (q + n) k r l) ∙ ap (at d) (let y : 64 * (q + n) + k ≡ 64 * q + (64 * n + k) = omega arith in y) ∙ z ∙ own-cell own t e ke n k w l) in (
-      64 * i + a.0,
-      64 * i + a.1,
-      64 * j + b.0,
-      omega arith,
-      omega arith,
-      omega arith,
-      move i a.0 (omega arith) (omega arith) (omega arith) a.4,
-      move i a.1 (omega arith) (omega arith) (omega arith) a.5,
-      move j b.0 (omega arith) (omega arith) (omega arith) b.4,
-    )

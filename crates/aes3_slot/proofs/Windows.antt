@@ -131,12 +131,6 @@ last Low High = refl
 last High Low = refl
 last High High = refl
 
-last-like : (a b : Level) → (same b a && true) ≡ not (differs a b)
-last-like Low Low = refl
-last-like Low High = refl
-last-like High Low = refl
-last-like High High = refl
-
 cells-X : (a : Level) → line (other a) (mark_runs X) ≡ a ∷ a ∷ a ∷ other a ∷ other a ∷ other a ∷ a ∷ other a ∷ []
 cells-X Low = refl
 cells-X High = refl
