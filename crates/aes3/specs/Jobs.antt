@@ -20,7 +20,7 @@ use Rattle.aes3_engine.specs.declared.change.Change.{Change}
 use Rattle.aes3_text.specs.declared.lines.Lines.{Lines}
 use Rattle.aes3_text.specs.declared.lines.Lines.TheVariants as lines
 use Rattle.aes3.specs.CommandLine.{command_line}
-use Rattle.aes3.specs.StatusTexts.{status_of}
+use Rattle.aes3.specs.StatusTexts.{status_in}
 use Rattle.aes3_job.specs.declared.job.Job.{Job}
 use Rattle.aes3_job.specs.declared.job.Job.TheVariants as job
 use Rattle.aes3.specs.declared.job.LineFault.{LineFault}
@@ -80,7 +80,7 @@ IsNumber options name n = option_and_then number_in (one_of name options) ≡ So
 -- the status bytes that an option's text has; none where the option is left out
 abbrev pub HasStatus : Option Text → Option (List ℕ) → Type 0
 HasStatus None bytes = bytes ≡ None
-HasStatus (Some text) bytes = (is_some bytes ≡ true) × (status_of text ≡ bytes)
+HasStatus (Some text) bytes = (is_some bytes ≡ true) × (status_in text ≡ bytes)
 
 abbrev pub IsStatus : Options → Text → Option (List ℕ) → Type 0
 IsStatus options name bytes = HasStatus (first_of name options) bytes
@@ -135,7 +135,7 @@ IsJobOf words job =
 -- the option is given with a text that is no status
 abbrev pub IsBadStatus : Options → Text → Type 0
 IsBadStatus options name = (text : Text) × (first_of name options ≡ Some text)
-    × (status_of text ≡ None)
+    × (status_in text ≡ None)
 
 -- one of the status texts among the options is none
 abbrev pub HasBadStatus : Options → Type 0

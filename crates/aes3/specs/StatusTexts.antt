@@ -5,8 +5,8 @@ use Rattle.std.specs.Result.{result_ok}
 use Rattle.hex.specs.Hex.{decode_sized, is_hex_digit}
 
 -- the 24 bytes that the text writes
-abbrev pub status_of : List ℕ → Option (List ℕ)
-status_of text = result_ok (decode_sized text 24)
+abbrev pub status_in : List ℕ → Option (List ℕ)
+status_in text = result_ok (decode_sized text 24)
 
 -- 48 hexadecimal digits
 abbrev pub IsStatusText : List ℕ → Type 0

@@ -8,8 +8,8 @@ use Rattle.aes3_status.specs.Bits.{field}
 abbrev pub is_professional : List ℕ → Bool
 is_professional bytes = field 0 0 1 bytes == 1
 
-abbrev pub status_of : List ℕ → Status
-status_of bytes = if is_professional bytes then Professional bytes else Consumer bytes
+abbrev pub read_status : List ℕ → Status
+read_status bytes = if is_professional bytes then Professional bytes else Consumer bytes
 
 abbrev pub bytes_of : Status → List ℕ
 bytes_of (Professional bytes) = bytes

@@ -15,12 +15,12 @@ pub enum Status {
 }
 
 impl Status {
-    ghost use Rattle.aes3_status.specs.Statuses.{status_of, bytes_of};
+    ghost use Rattle.aes3_status.specs.Statuses.{read_status, bytes_of};
 
     /// Reads a channel status: byte 0 bit 0 is 1 for professional, 0 for consumer use
     /// (AES3-2, IEC 60958-1).
     pub fn read(bytes: &[u8; 24]) -> Status
-        ensures status { result ≡ status_of bytes.now }
+        ensures status { result ≡ read_status bytes.now }
         ensures bytes { bytes_of result ≡ bytes.now }
     {
         if bits_at(bytes, 0, 0, 1) == 1 {
