@@ -42,7 +42,7 @@ error_told words e (fault.Refused error) kind tells = inl tells
 pub bad_status_told : (words : List Text) (name : Text) (options : Options) (told : LineFault) → StandsIn words name options
     → IsBadStatusOf name options told → IsFaultOf words told
 bad_status_told words name options told stands bad =
-    subst (IsFaultOf words) (sym bad.0) (inr (refl, (options, (stands.0, stands.1 ∙ ap (λ (n : Text). Some (n, options)) bad.1), bad.2)))
+    subst (IsFaultOf words) (sym bad.0) (inr (refl, (name, options, stands, bad.1, bad.2)))
 
 both_parts : {X : Type 0} (f : X → Text) (g : X → List Row) (o : Option X) (name : Text) (options : List Row) → Some name ≡ option_map f o
     → Some options ≡ option_map (λ (p : Text × List Row). p.1) (option_map {U = Text × List Row} (λ b. (f b, g b)) o)

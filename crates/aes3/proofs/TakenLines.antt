@@ -16,7 +16,7 @@ use Rattle.clap.specs.Simple.{App, Shape, argument_words, built, built_leaf, ent
 use Rattle.clap.specs.Walk.{Row, Rule, Text, answers_to, arg_by_id, nothing_held, one_of, reading_by, row_text, rows_after, stop_after}
 use Rattle.clap.specs.declared.builder.value_parser.ValueParser.{ValueParser}
 use Rattle.clap.specs.declared.builder.value_parser.ValueParser.TheVariants as vp
-use Rattle.aes3.specs.CommandLine.{check, command_line, cut, encode, normal, reader, rewrite, show}
+use Rattle.aes3.specs.CommandLine.{check, command_line, cut, encode, from_pcm, normal, reader, rewrite, show}
 use Rattle.aes3.specs.Jobs.{IsNumber, MayBeFlag, Options, StandsIn, number_in}
 use Rattle.aes3.proofs.LineWalks.{level_checked, level_fits}
 use Rattle.aes3.proofs.OptionRows.{FitAll, Fits, SoundAll, flag_sound, help_sound, or_nil, some_inj, value_sound}
@@ -135,6 +135,7 @@ pub record IsKnown (s : Shape) : Type 0 where
   pub faults : FlagOrNone (arg_by_id s.rules (codes "faults"))
   pub gaps : FlagOrNone (arg_by_id s.rules (codes "gaps"))
   pub changes : FlagOrNone (arg_by_id s.rules (codes "changes"))
+  pub exact : FlagOrNone (arg_by_id s.rules (codes "exact"))
   pub numbers : (rows : List Row) → s.name ≡ codes "cut" → FitAll s.rules rows → check_fault s rows false ≡ [] → Numbers rows
 
 abbrev KnownAll : List Shape → Type 0
@@ -166,6 +167,7 @@ encode_known = record {
   faults = tt;
   gaps = tt;
   changes = tt;
+  exact = tt;
   numbers = λ rows name fit passed. other_name (codes "encode") refl name;
 }
 
@@ -178,6 +180,7 @@ reader_known name differs = record {
   faults = tt;
   gaps = tt;
   changes = tt;
+  exact = tt;
   numbers = λ rows same fit passed. other_name name differs same;
 }
 
@@ -193,6 +196,7 @@ check_known = record {
   faults = refl;
   gaps = refl;
   changes = tt;
+  exact = tt;
   numbers = λ rows name fit passed. other_name (codes "check") refl name;
 }
 
@@ -205,6 +209,7 @@ show_known = record {
   faults = tt;
   gaps = tt;
   changes = refl;
+  exact = tt;
   numbers = λ rows name fit passed. other_name (codes "show") refl name;
 }
 
@@ -217,6 +222,7 @@ normal_known = record {
   faults = tt;
   gaps = tt;
   changes = tt;
+  exact = tt;
   numbers = λ rows name fit passed. other_name (codes "normal") refl name;
 }
 
@@ -232,6 +238,7 @@ cut_known = record {
   faults = tt;
   gaps = tt;
   changes = tt;
+  exact = tt;
   numbers = λ rows name fit passed.
       let given = both_given (is_given (codes "FROM") rows) (is_given (codes "COUNT") rows) (nothing_wanted false false _ passed) in (
         number_reads (leaf cut).rules rows (codes "FROM") _ fit refl refl given.0,
@@ -260,7 +267,27 @@ rewrite_known = record {
   faults = tt;
   gaps = tt;
   changes = tt;
+  exact = tt;
   numbers = λ rows name fit passed. other_name (codes "rewrite") refl name;
+}
+
+from_pcm_known : IsKnown (leaf from_pcm)
+from_pcm_known = record {
+  sound = (
+    value_sound _ _ refl refl refl,
+    (
+      value_sound _ _ refl refl refl,
+      (flag_sound _ _ (codes "true") refl refl refl refl, (flag_sound _ _ (codes "true") refl refl refl refl, (help_sound _ _ refl refl, tt))),
+    ),
+  );
+  packed_in = tt;
+  packed_out = tt;
+  mend_check = refl;
+  faults = tt;
+  gaps = tt;
+  changes = tt;
+  exact = refl;
+  numbers = λ rows name fit passed. other_name (codes "from-pcm") refl name;
 }
 
 all_known : KnownAll (built command_line).subs
@@ -274,7 +301,7 @@ all_known = (
         check_known,
         (
           show_known,
-          (reader_known (codes "scan") refl, (cut_known, (rewrite_known, (reader_known (codes "to-pcm") refl, tt)))),
+          (reader_known (codes "scan") refl, (cut_known, (rewrite_known, (reader_known (codes "to-pcm") refl, (from_pcm_known, tt))))),
         ),
       ),
     ),
@@ -321,7 +348,7 @@ entered_command a words name options none stands =
 pub flags_stand : (words : List Text) (name : Text) (options : Options) → StandsIn words name options
     → MayBeFlag options (codes "packed-in") × MayBeFlag options (codes "packed-out") × MayBeFlag options (codes "mend-check")
     × MayBeFlag options (codes "faults") × MayBeFlag options (codes "gaps")
-    × MayBeFlag options (codes "changes")
+    × MayBeFlag options (codes "changes") × MayBeFlag options (codes "exact")
 flags_stand words name options stands =
     let e = entered_command command_line words name options stands.0 stands.1 in
     let known = found_known (built command_line).subs e.by e.found all_known e.is_found in
@@ -332,6 +359,7 @@ flags_stand words name options stands =
       flag_reads e.found.rules options (codes "faults") _ fit refl known.faults,
       flag_reads e.found.rules options (codes "gaps") _ fit refl known.gaps,
       flag_reads e.found.rules options (codes "changes") _ fit refl known.changes,
+      flag_reads e.found.rules options (codes "exact") _ fit refl known.exact,
     )
 
 -- `cut` has its numbers

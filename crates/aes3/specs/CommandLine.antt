@@ -57,6 +57,11 @@ rewrite = command (codes "rewrite")
     (packed_in ∷ packed_out ∷ text_option (codes "status1") ∷ text_option (codes "status2")
     ∷ flag (codes "mend-check") ∷ [])
 
+abbrev pub from_pcm : Shape
+from_pcm = command (codes "from-pcm")
+    (text_option (codes "status1") ∷ text_option (codes "status2")
+    ∷ flag (codes "mend-check") ∷ flag (codes "exact") ∷ [])
+
 -- the program: one of the commands has to stand, and none of them is called `help`
 abbrev pub command_line : App
 command_line = record {
@@ -69,7 +74,7 @@ command_line = record {
   };
   subs = encode ∷ reader (codes "decode") ∷ normal ∷ check
       ∷ show ∷ reader (codes "scan") ∷ cut ∷ rewrite
-      ∷ reader (codes "to-pcm") ∷ [];
+      ∷ reader (codes "to-pcm") ∷ from_pcm ∷ [];
 }
 
 -- a command by itself

@@ -124,6 +124,8 @@ AsksFor name options (job.Rewrite input output change) =
     × (output ≡ form_by options (codes "packed-out")) × IsChange options change
 AsksFor name options (job.ToPcm input) =
     (name ≡ codes "to-pcm") × (input ≡ form_by options (codes "packed-in"))
+AsksFor name options (job.FromPcm exact change) =
+    (name ≡ codes "from-pcm") × (exact ≡ is_set options (codes "exact")) × IsChange options change
 
 -- the definitions take the words, and the command that stands in them asks for the job
 abbrev pub IsJobOf : List Text → Job → Type 0
@@ -141,6 +143,10 @@ IsBadStatus options name = (text : Text) × (first_of name options ≡ Some text
 abbrev pub HasBadStatus : Options → Type 0
 HasBadStatus options =
     IsBadStatus options (codes "status1") ⊎ IsBadStatus options (codes "status2")
+
+-- the commands that take the status of a channel
+abbrev pub TakesStatus : Text → Type 0
+TakesStatus name = (name ≡ codes "rewrite") ⊎ (name ≡ codes "from-pcm")
 
 -- the definitions do not take the words, and ask for no help and no version
 abbrev pub IsNotTaken : List Text → Type 0
@@ -163,8 +169,8 @@ IsFaultOf words (fault.Usage text) = IsNotTaken words ⊎ (asks_to_explain words
 IsFaultOf words (fault.Help text) =
     (IsAmong DisplayHelp (faults_in words) ⊎ IsAmong DisplayVersion (faults_in words)) ⊎ (asks_to_explain words ≡ true)
 IsFaultOf words (fault.Refused error) =
-    (error ≡ Memory) ⊎ ((error ≡ BadStatusText) × ((options : Options)
-    × StandsIn words (codes "rewrite") options × HasBadStatus options))
+    (error ≡ Memory) ⊎ ((error ≡ BadStatusText) × ((name : Text) × (options : Options)
+    × StandsIn words name options × TakesStatus name × HasBadStatus options))
 
 -- what is told of an error of this kind
 abbrev pub Tells : ErrorKind → LineFault → Type 0
@@ -175,4 +181,4 @@ Tells kind (fault.Refused error) = error ≡ Memory
 -- the words are taken and have a bad status
 abbrev pub IsBadStatusOf : Text → Options → LineFault → Type 0
 IsBadStatusOf name options told =
-    (told ≡ fault.Refused BadStatusText) × (name ≡ codes "rewrite") × HasBadStatus options
+    (told ≡ fault.Refused BadStatusText) × TakesStatus name × HasBadStatus options

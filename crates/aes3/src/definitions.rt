@@ -2,7 +2,7 @@
 
 ghost use Rattle.std.specs.Prelude.{IfOk};
 ghost use Rattle.clap.specs.Simple.{new_app};
-ghost use Rattle.aes3.specs.CommandLine.{IsDefinedAs, IsOption, app_with, check, command_line, cut, encode, flag, normal, number, show};
+ghost use Rattle.aes3.specs.CommandLine.{IsDefinedAs, IsOption, app_with, check, command_line, cut, encode, flag, from_pcm, normal, number, show};
 ghost use Rattle.aes3.specs.CommandLine.{packed_in, packed_out, reader, rewrite, text_option};
 
 use crate::help::{self, Texts};
@@ -124,6 +124,20 @@ fn rewrite<'a>(alloc: Global) -> Result<Command<'a>, AllocError>
         ))
 }
 
+fn from_pcm<'a>(alloc: Global) -> Result<Command<'a>, AllocError>
+    ensures { IfOk result (IsDefinedAs (app_with from_pcm)) }
+{
+    command(alloc, "from-pcm", help::FROM_PCM)
+        .arg(status(alloc, "status1", "The status of channel 1, in hexadecimal"))?
+        .arg(status(alloc, "status2", "The status of channel 2, in hexadecimal"))?
+        .arg(flag(
+            alloc,
+            "mend-check",
+            "Write the check byte that professional status asks for",
+        ))?
+        .arg(flag(alloc, "exact", "Refuse samples of more than 24 bits"))
+}
+
 /// The program's command line.
 pub fn command_line<'a>(alloc: Global) -> Result<Command<'a>, AllocError>
     ensures { IfOk result (IsDefinedAs command_line) }
@@ -142,5 +156,6 @@ pub fn command_line<'a>(alloc: Global) -> Result<Command<'a>, AllocError>
         .subcommand(reader(alloc, "scan", help::SCAN)?)?
         .subcommand(cut(alloc)?)?
         .subcommand(rewrite(alloc)?)?
-        .subcommand(reader(alloc, "to-pcm", help::TO_PCM)?)
+        .subcommand(reader(alloc, "to-pcm", help::TO_PCM)?)?
+        .subcommand(from_pcm(alloc)?)
 }

@@ -10,7 +10,7 @@ use std::alloc::{AllocError, Global};
 const EXPLAIN: &str = "--explain";
 
 /// What is told of words behind it that are no number of a refusal.
-const UNKNOWN: &str = "error: the refusals have the numbers 1 to 10
+const UNKNOWN: &str = "error: the refusals have the numbers 1 to 11
 
 Usage: aes3 --explain [NUMBER]
 
@@ -26,7 +26,7 @@ struct Meaning {
     advice: &'static str,
 }
 
-const MEANINGS: [Meaning; 10] = [
+const MEANINGS: [Meaning; 11] = [
     Meaning {
         number: "1",
         wrong: "a byte of cell text is neither `0`, `1` nor a separator; PLACE is its number",
@@ -34,8 +34,8 @@ const MEANINGS: [Meaning; 10] = [
     },
     Meaning {
         number: "2",
-        wrong: "the block file ends inside a block; PLACE is how many bytes are left over",
-        advice: "cut it to a multiple of 1,536 bytes, or fill the block up",
+        wrong: "the block file ends inside a block, or samples inside a frame; PLACE is how many bytes are left over",
+        advice: "cut the file to a multiple of 1,536 bytes, samples to one of 8, or fill them up",
     },
     Meaning {
         number: "3",
@@ -76,6 +76,11 @@ const MEANINGS: [Meaning; 10] = [
         number: "10",
         wrong: "packed cells end wrongly, at octet PLACE",
         advice: "the last octet counts the unused cells before it, 0 to 7, and these are 0: `printf '\\0' >> FILE` adds it where there are none",
+    },
+    Meaning {
+        number: "11",
+        wrong: "with `--exact`, the sample word that begins at byte PLACE has bits below the highest 24",
+        advice: "leave `--exact` out to drop them, or make samples of 24 bits first (`sox IN -b 24 OUT`)",
     },
 ];
 

@@ -42,7 +42,7 @@ Exit status:
   2  the words are no command line; why is told on standard error
   3  refused; standard error has one line, `aes3: refused NUMBER at PLACE`, or no place
 
-Refusals have the numbers 1 to 10; PLACE counts bytes, words or octets from 0. `aes3
+Refusals have the numbers 1 to 11; PLACE counts bytes, words or octets from 0. `aes3
 --explain` prints what was wrong and what to do, with a NUMBER of that refusal alone.
 
 Examples, three tasks with examples/speech.block of the sources:
@@ -106,6 +106,26 @@ packed cells end wrongly; or as for every command.
 Examples:
     aes3 to-pcm < line.txt > line.s32
     aes3 to-pcm < line.txt | sox -t raw -r 48000 -e signed -b 32 -c 2 -L - -b 24 line.wav",
+};
+
+pub const FROM_PCM: Texts<'static> = Texts {
+    about: "Write a block file of samples",
+    usage: "aes3 from-pcm [OPTIONS] < PCM > BLOCKFILE",
+    more: "Reads samples as `aes3 to-pcm` writes them: of each frame channel 1 and then channel 2,
+4 bytes each, lowest first (S32LE: `ffmpeg -f s32le`, `sox -t raw -e signed -b 32 -L`,
+ALSA's S32_LE). The 24 highest bits of each are the sample, the lowest 8 are dropped; with
+--exact they have to be zero. Samples that are zero fill up the last block.
+Writes a block file with V and U 0 and the channel status that the options give, as `aes3
+rewrite` has them, else zeros: that is consumer status.
+
+Exit status: 0 done; 3 refused: 9 a status is not 48 hexadecimal digits, and nothing is
+read, 2 the samples end inside a frame, 11 a sample has more than 24 bits; or as for
+every command.
+
+Examples:
+    aes3 from-pcm --exact < line.s32 | aes3 encode | aes3 to-pcm | cmp - line.s32
+    status=85022c0000004a4154480000000000000000000000000000
+    aes3 from-pcm --status1 $status --status2 $status --mend-check < line.s32 > new.block",
 };
 
 pub const NORMAL: Texts<'static> = Texts {

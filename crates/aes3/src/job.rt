@@ -3,7 +3,7 @@
 ghost use Rattle.std.specs.Prelude.{◌≡◌, ◌≢◌, ℕ, List, codes, IfOk, IfErr, map};
 ghost use Rattle.clap.specs.Values.{kind_of};
 ghost use Rattle.clap.specs.Walk.{first_of};
-ghost use Rattle.aes3.specs.Jobs.{AsksFor, HasStatus, IsBadStatus, IsBadStatusOf, IsChange, IsFaultOf, IsJobOf, IsNumber};
+ghost use Rattle.aes3.specs.Jobs.{AsksFor, HasBadStatus, HasStatus, IsBadStatus, IsBadStatusOf, IsChange, IsFaultOf, IsJobOf, IsNumber};
 ghost use Rattle.aes3.specs.Jobs.{IsStatus, MayBeFlag, StandsIn, Tells, form_by, is_set, lines_by, options_of};
 ghost use Rattle.aes3.specs.declared.job.LineFault.TheVariants.{Refused};
 ghost use Rattle.aes3_cell.specs.declared.refusal.RunError.TheVariants.{BadStatusText, Memory};
@@ -92,6 +92,10 @@ fn job_of_command(name: &str, options: &ArgMatches<'_>) -> Result<Job, LineFault
         "show" => Ok(show(options, input)),
         "scan" => Ok(Job::Scan { input }),
         "to-pcm" => Ok(Job::ToPcm { input }),
+        "from-pcm" => Ok(Job::FromPcm {
+            exact: exact(options),
+            change: change(options)?,
+        }),
         "cut" => Ok(Job::Cut {
             input,
             output,
@@ -159,6 +163,14 @@ fn show(options: &ArgMatches<'_>, input: Form) -> Job
     }
 }
 
+/// Whether samples of more than 24 bits are refused.
+fn exact(options: &ArgMatches<'_>) -> bool
+    requires { MayBeFlag (options_of options.now) (codes "exact") }
+    ensures { result ≡ is_set (options_of options.now) (codes "exact") }
+{
+    options.get_flag("exact")
+}
+
 /// The number of this name.
 fn number(options: &ArgMatches<'_>, name: &str) -> u64
     requires { (n : ℕ) × IsNumber (options_of options.now) name.now n }
@@ -167,11 +179,11 @@ fn number(options: &ArgMatches<'_>, name: &str) -> u64
     options.get_one::<u64>(name).unwrap()
 }
 
-/// The change that the options of `rewrite` ask for.
+/// The change that the options of `rewrite` and `from-pcm` ask for.
 fn change(options: &ArgMatches<'_>) -> Result<Change, LineFault>
     requires { MayBeFlag (options_of options.now) (codes "mend-check") }
     ensures change { IfOk result (IsChange (options_of options.now)) }
-    ensures fault { IfErr result (IsBadStatusOf (codes "rewrite") (options_of options.now)) }
+    ensures fault { IfErr result (λ fault. (fault ≡ Refused BadStatusText) × HasBadStatus (options_of options.now)) }
 {
     Ok(Change {
         status1: status(options, "status1")?,

@@ -93,13 +93,24 @@ fn rewrite(status1: Option<[u8; 24]>, status2: Option<[u8; 24]>, mend: bool) -> 
     }
 }
 
+fn from_pcm(exact: bool, mend: bool) -> Job {
+    Job::FromPcm {
+        exact,
+        change: Change {
+            status1: None,
+            status2: None,
+            mend,
+        },
+    }
+}
+
 fn check(input: Form, lines: Lines) -> Job {
     Job::Check { input, lines }
 }
 
 #[test]
 fn commands_and_forms(rt: HostRuntime) {
-    let lines: [(&[&str], Job); 19] = [
+    let lines: [(&[&str], Job); 21] = [
         (&["encode"], Job::Encode { output: TEXT }),
         (&["encode", "--packed-out"], Job::Encode { output: PACKED }),
         (&["decode"], Job::Decode { input: TEXT }),
@@ -132,6 +143,11 @@ fn commands_and_forms(rt: HostRuntime) {
         (&["scan", "--packed-in"], Job::Scan { input: PACKED }),
         (&["to-pcm"], Job::ToPcm { input: TEXT }),
         (&["to-pcm", "--packed-in"], Job::ToPcm { input: PACKED }),
+        (&["from-pcm"], from_pcm(false, false)),
+        (
+            &["from-pcm", "--mend-check", "--exact"],
+            from_pcm(true, true),
+        ),
         (
             &["normal"],
             Job::Normal {
@@ -419,6 +435,7 @@ fn texts_of_faults(rt: HostRuntime) {
             "\n  cut ",
             "\n  rewrite ",
             "\n  to-pcm ",
+            "\n  from-pcm ",
         ],
     );
     expect_text(

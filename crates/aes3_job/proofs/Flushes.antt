@@ -7,7 +7,7 @@ use Rattle.aes3_cell.specs.declared.counts.Counts.{Counts}
 use Rattle.aes3_cell.proofs.Growing.{front-all}
 use Rattle.aes3_engine.specs.Running.{Change, Quiet}
 use Rattle.aes3_job.specs.declared.job.Job.{Job}
-use Rattle.aes3_job.specs.declared.job.Job.TheVariants.{Encode, Decode, Normal, Check, Account, Show, ShowChanges, Scan, Cut, Rewrite, ToPcm}
+use Rattle.aes3_job.specs.declared.job.Job.TheVariants.{Encode, Decode, Normal, Check, Account, Show, ShowChanges, Scan, Cut, Rewrite, ToPcm, FromPcm}
 use Rattle.aes3_job.specs.JobRuns.{Flushed, IsCauseFor, IsInputOf, IsWhole, JobDone, JobRefused, RunDone, RunRefused, most, status_by}
 use Rattle.aes3_job.specs.Lines.{refusal_line}
 
@@ -29,6 +29,7 @@ write-cause (Scan i) b ended l = l
 write-cause (Cut i o from count) b ended l = l
 write-cause (Rewrite i o change) b ended l = l
 write-cause (ToPcm i) b ended l = l
+write-cause (FromPcm exact change) b ended l = l
 
 -- a refusal behind which the sink did not fail
 kept : {job : Job} {ended : Bool} {source : Change} {t₀ t₁ t₂ : Option (List ℕ)} {f₀ f₁ f₂ : ℕ} {x : RunError}

@@ -19,10 +19,11 @@ use Rattle.aes3_engine.specs.CellRuns.{IsCause}
 use Rattle.aes3_engine.specs.ReportRuns.{counts_of}
 use Rattle.aes3_engine.specs.BlockRuns.{begun_stream, written_stream, cut_blocks, decided_blocks}
 use Rattle.aes3_engine.specs.Rewriting.{rewritten_blocks}
+use Rattle.aes3_engine.specs.Sampling.{IsPcm, IsPcmCause, WholePcm, begun_pcm, pcm_counts, pcm_file}
 use Rattle.aes3_text.specs.Gaps.{account, begun_account}
 use Rattle.aes3_text.specs.Runs.{account_counts, account_lines, change_lines, mark_lines, report_lines, scan_counts, status_lines}
 use Rattle.aes3_job.specs.declared.job.Job.{Job}
-use Rattle.aes3_job.specs.declared.job.Job.TheVariants.{Encode, Decode, Normal, Check, Account, Show, ShowChanges, Scan, Cut, Rewrite, ToPcm}
+use Rattle.aes3_job.specs.declared.job.Job.TheVariants.{Encode, Decode, Normal, Check, Account, Show, ShowChanges, Scan, Cut, Rewrite, ToPcm, FromPcm}
 use Rattle.aes3_job.specs.Lines.{refusal_line}
 
 -- how many bytes an input may have
@@ -42,6 +43,7 @@ IsInputOf (Scan i) b = IsInput i b
 IsInputOf (Cut i o from count) b = IsInput i b
 IsInputOf (Rewrite i o change) b = IsInput i b
 IsInputOf (ToPcm i) b = IsInput i b
+IsInputOf (FromPcm exact change) b = IsPcm exact b
 
 -- what it writes of a whole input
 abbrev pub output_of : Job → List ℕ → List ℕ
@@ -56,6 +58,7 @@ output_of (Scan i) b = mark_lines (marks (cells_of i b))
 output_of (Cut i o from count) b = written_stream o (cut_blocks from count (blocks (cells_of i b)))
 output_of (Rewrite i o change) b = written_stream o (rewritten_blocks change (blocks (cells_of i b)))
 output_of (ToPcm i) b = samples (blocks (cells_of i b))
+output_of (FromPcm exact change) b = pcm_file change b
 
 -- what it has written where it is refused behind these bytes
 abbrev pub begun_of : Job → List ℕ → List ℕ
@@ -70,6 +73,7 @@ begun_of (Scan i) b = mark_lines (marks (cells_before i b))
 begun_of (Cut i o from count) b = begun_stream o (cut_blocks from count (decided_blocks (cells_before i b)))
 begun_of (Rewrite i o change) b = begun_stream o (rewritten_blocks change (decided_blocks (cells_before i b)))
 begun_of (ToPcm i) b = samples (decided_blocks (cells_before i b))
+begun_of (FromPcm exact change) b = begun_pcm exact change b
 
 -- the source has ended behind an input of the job
 abbrev pub IsWhole : Job → List ℕ → Bool → Type 0
@@ -84,6 +88,7 @@ IsWhole (Scan i) b ended = WholeInput most i b ended
 IsWhole (Cut i o from count) b ended = WholeInput most i b ended
 IsWhole (Rewrite i o change) b ended = WholeInput most i b ended
 IsWhole (ToPcm i) b ended = WholeInput most i b ended
+IsWhole (FromPcm exact change) b ended = WholePcm most exact b ended
 
 -- what it counts
 abbrev pub counts_for : Job → List ℕ → Counts
@@ -98,6 +103,7 @@ counts_for (Scan i) b = scan_counts i b
 counts_for (Cut i o from count) b = counts_of i b
 counts_for (Rewrite i o change) b = counts_of i b
 counts_for (ToPcm i) b = counts_of i b
+counts_for (FromPcm exact change) b = pcm_counts b
 
 -- why it is refused behind these bytes
 abbrev pub IsCauseFor : Job → List ℕ → Bool → RunError → Type 0
@@ -112,6 +118,7 @@ IsCauseFor (Scan i) b ended e = IsCause i most b ended e
 IsCauseFor (Cut i o from count) b ended e = IsCause i most b ended e
 IsCauseFor (Rewrite i o change) b ended e = IsCause i most b ended e
 IsCauseFor (ToPcm i) b ended e = IsCause i most b ended e
+IsCauseFor (FromPcm exact change) b ended e = IsPcmCause exact most b ended e
 
 -- its exit status: 1 where `check` finds faults, with gaps or without, else 0
 abbrev pub status_by : Job → Counts → ℕ
@@ -126,6 +133,7 @@ status_by (Scan i) n = 0
 status_by (Cut i o from count) n = 0
 status_by (Rewrite i o change) n = 0
 status_by (ToPcm i) n = 0
+status_by (FromPcm exact change) n = 0
 
 -- a run of a job that was not refused: the source has ended, neither end failed; the bytes that the source tells fit, are an input, are counted
 -- so, and their output is written

@@ -59,4 +59,9 @@ pub enum Job {
     ToPcm {
         input: Form,
     },
+    /// Samples to a block file, with channel status; where `exact`, of 24 bits alone.
+    FromPcm {
+        exact: bool,
+        change: Change,
+    },
 }

@@ -6,7 +6,7 @@ ghost use Rattle.aes3_job.specs.JobRuns.{RunRan, status_by};
 
 use crate::job::Job;
 use aes3_cell::{Counts, RunError, Sink, Source};
-use aes3_engine::{cut, decode, encode, normalise, rewrite, to_pcm};
+use aes3_engine::{cut, decode, encode, from_pcm, normalise, rewrite, to_pcm};
 use aes3_text::{account, check, scan, show, show_changes};
 
 /// How many bytes an input may have.
@@ -65,5 +65,6 @@ pub fn run_job<S: Source, T: Sink>(
             change,
         } => rewrite(source, sink, MAX_BYTES, input, output, &change),
         Job::ToPcm { input } => to_pcm(source, sink, MAX_BYTES, input),
+        Job::FromPcm { exact, change } => from_pcm(source, sink, MAX_BYTES, exact, &change),
     }
 }

@@ -458,6 +458,14 @@ fn blocks_of_cells(rt: HostRuntime) -> Result<(), Fail> {
     let packed = Job::Decode { input: PACKED };
     // The samples of the zero block are zeros, as its file is.
     let samples = Job::ToPcm { input: TEXT };
+    let file = Job::FromPcm {
+        exact: true,
+        change: Change {
+            status1: None,
+            status2: None,
+            mend: false,
+        },
+    };
     let first = |read| first_block(read, 1_536);
     let rows = [
         in_buffers(text, &of.two, &of.file, first(24_961), 1_536),
@@ -466,6 +474,7 @@ fn blocks_of_cells(rt: HostRuntime) -> Result<(), Fail> {
         in_buffers(packed, &of.packed, &of.file, first(3_075), 1_536),
         in_buffers(samples, &of.early, one, Early::Nothing, 1_536),
         in_buffers(samples, &of.two, &of.file, first(24_961), 1_536),
+        in_buffers(file, &of.file, &of.file, first(1_536), 1_536),
     ];
     expect_rows(&rt, rt.alloc(), &rows);
     Ok(())

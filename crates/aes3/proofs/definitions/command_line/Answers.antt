@@ -35,4 +35,5 @@ returns c =
     let six = with_command _ _ _ _ _ c.in_ok-subcommand-6.ensures five c.in_ok-reader-2.ensures in
     let seven = with_command _ _ _ _ _ c.in_ok-subcommand-7.ensures six c.in_ok-cut.ensures in
     let eight = with_command _ _ _ _ _ c.in_ok-subcommand-8.ensures seven c.in_ok-rewrite.ensures in
-    IfOk-weaker c.subcommand-9.result _ _ (λ new added. with_command _ _ _ _ _ added eight c.in_ok-reader-3.ensures) c.subcommand-9.ensures
+    let nine = with_command _ _ _ _ _ c.in_ok-subcommand-9.ensures eight c.in_ok-reader-3.ensures in
+    IfOk-weaker c.subcommand-10.result _ _ (λ new added. with_command _ _ _ _ _ added nine c.in_ok-from_pcm.ensures) c.subcommand-10.ensures

@@ -30,5 +30,11 @@ number-requires c = (numbers_stand c.requires.0 c.args.name.now (options_of c.ar
 pub number-requires-in-cut : goal.number-requires-in-cut
 number-requires-in-cut c = (numbers_stand c.requires.0 c.args.name.now (options_of c.args.options.now) c.requires.1 c.in-cut.is).1
 
+pub exact-requires : goal.exact-requires
+exact-requires c = (flags_stand c.requires.0 c.args.name.now (options_of c.args.options.now) c.requires.1).6
+
 pub change-requires : goal.change-requires
 change-requires c = (flags_stand c.requires.0 c.args.name.now (options_of c.args.options.now) c.requires.1).2
+
+pub change-requires-in-rewrite : goal.change-requires-in-rewrite
+change-requires-in-rewrite c = (flags_stand c.requires.0 c.args.name.now (options_of c.args.options.now) c.requires.1).2

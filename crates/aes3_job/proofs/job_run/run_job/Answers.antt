@@ -59,3 +59,9 @@ pub returns-in-ToPcm-clause-ran : goal.returns-in-ToPcm-clause-ran
 returns-in-ToPcm-clause-ran g c =
     cells-job c.to_pcm.result c.in-ToPcm.is c.to_pcm.ensures.run
     (record { input = λ b i. i; given = λ b i. i; output = λ b. refl; begun_is = λ b. refl; counts_is = λ b. refl; cause = λ b e x h. h; whole_is = λ b e w. w })
+
+pub returns-in-FromPcm-clause-ran : goal.returns-in-FromPcm-clause-ran
+returns-in-FromPcm-clause-ran g c =
+    let e = c.from_pcm.ensures in
+    told-job (g.S.Source.has_ended c.from_pcm.new.source) (change_of g.S.Source.given g.S.Source.failed c.args.source.now c.from_pcm.new.source)
+    (change_of g.T.Sink.taken g.T.Sink.failed c.args.sink.now c.from_pcm.new.sink) c.from_pcm.result c.in-FromPcm.is e.file e.samples e.counts e.fits e.ended e.quiet e.owed e.cause e.read e.write e.sink_quiet e.refused e.front e.few

@@ -1,0 +1,10 @@
+use Rattle.std.proofs.lemmas.Result.{IfOk-weaker}
+use Rattle.aes3.proofs.LineDefinitions.{with_option}
+use Rattle.aes3.proofs.definitions.from_pcm.Goals as goal
+
+pub returns : goal.returns
+returns c =
+    let one = with_option _ _ _ _ _ c.in_ok-arg.ensures c.command.ensures c.status.ensures in
+    let two = with_option _ _ _ _ _ c.in_ok-arg-2.ensures one c.status-2.ensures in
+    let three = with_option _ _ _ _ _ c.in_ok-arg-3.ensures two c.flag.ensures in
+    IfOk-weaker c.arg-4.result _ _ (λ new added. with_option _ _ _ _ _ added three c.flag-2.ensures) c.arg-4.ensures
