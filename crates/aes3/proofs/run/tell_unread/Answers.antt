@@ -8,7 +8,7 @@ use Rattle.aes3.specs.declared.run.Unread.TheVariants.{NotUtf8, Memory}
 use Rattle.aes3.proofs.run.tell_unread.Goals as goal
 
 pub returns-in-NotUtf8 : goal.returns-in-NotUtf8
-returns-in-NotUtf8 g c = not-utf8 c.args.fault _ c.in-NotUtf8.is (λ q. quietly _ c.write_all.result _ c.write_all.ensures.all c.write_all.ensures.err q)
+returns-in-NotUtf8 g c = not-utf8 c.args.fault _ c.in-NotUtf8.is (λ q. quietly _ c.write_all.result _ c.write_all.ensures.grew c.write_all.ensures.err q)
   where
     not-utf8 : (fault : Unread) (errors : Change) → fault ≡ NotUtf8 → (Quiet errors → Grew errors.old errors.new not_utf8_line) → UnreadTold fault errors 2
     not-utf8 NotUtf8 errors e h = (refl, h)
