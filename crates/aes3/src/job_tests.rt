@@ -110,7 +110,7 @@ fn check(input: Form, lines: Lines) -> Job {
 
 #[test]
 fn commands_and_forms(rt: HostRuntime) {
-    let lines: [(&[&str], Job); 21] = [
+    let lines: [(&[&str], Job); 23] = [
         (&["encode"], Job::Encode { output: TEXT }),
         (&["encode", "--packed-out"], Job::Encode { output: PACKED }),
         (&["decode"], Job::Decode { input: TEXT }),

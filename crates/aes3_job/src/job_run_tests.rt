@@ -474,7 +474,13 @@ fn blocks_of_cells(rt: HostRuntime) -> Result<(), Fail> {
         in_buffers(packed, &of.packed, &of.file, first(3_075), 1_536),
         in_buffers(samples, &of.early, one, Early::Nothing, 1_536),
         in_buffers(samples, &of.two, &of.file, first(24_961), 1_536),
-        in_buffers(file, &of.file, &of.file, first(1_536), 1_536),
+        in_buffers(
+            file,
+            &of.file,
+            &of.file,
+            Early::Blocks { written: 1_536 },
+            1_536,
+        ),
     ];
     expect_rows(&rt, rt.alloc(), &rows);
     Ok(())
