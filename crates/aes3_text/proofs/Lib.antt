@@ -8,3 +8,6 @@ pub mod ReportPlaces
 pub mod Accounts
 pub mod Covering
 pub mod Rowed
+pub mod LostGaps
+pub mod PieceGaps
+pub mod LostCells

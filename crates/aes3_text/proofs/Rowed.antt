@@ -150,3 +150,21 @@ no-gap c e =
       row = f.row.row;
       ends = ends-soon f.first p (length (wholes r)) (length c) f.row.reached n;
     }
+
+-- where none is whole, no cells are accounted for before the last gap
+stays : (p : ℕ) (r : List Report) → wholes r ≡ [] → Spaced p r → length (filter is_lost (account_from 0 p r)) ≡ 0 → reached_from p r ≡ p
+stays p [] w s e = refl
+stays p (Whole at t b ∷ r) w s e = absurd (let n = ap length w in omega arith)
+stays p (Marked at t wrong ∷ r) w s e = let k = skipped 0 p at (Marked at t wrong) r e in stays (behind_full p at) r w (later p at r s.0 s.1) k.rest ∙ k.same
+stays p (Fault at cell why ∷ r) w s e = let k = skipped 0 p at (Fault at cell why) r e in stays (behind_full p at) r w (later p at r s.0 s.1) k.rest ∙ k.same
+stays p (Unfinished at cells ∷ r) w s e = let k = skipped 0 p at (Unfinished at cells) r e in stays (behind_full p at) r w (later p at r s.0 s.1) k.rest ∙ k.same
+
+pub no-block : (c : List Level) → length (filter is_lost (account c)) ≡ 0 → wholes (reports c) ≡ [] → length c < block_len
+unfolding account
+no-block c e w =
+    let r = reports c in
+    let p = reached_from 0 r in
+    let a = lost-append (account_from 0 0 r) (gaps false p (length c)) in
+    let n = count-none p (length c) (cut-count p (length c) (omega arith)) in
+    let z = stays 0 r w (spaced-reports c) (omega arith) in
+    omega arith

@@ -1,10 +1,12 @@
 -- Laws of the account of an input's cells.
-use Rattle.std.specs.Prelude.{ℕ, List, [], ◌∷◌, length, ◌≡◌, ◌<◌, ◌+◌, ◌*◌}
-use Rattle.std.specs.List.{filter}
+use Rattle.std.specs.Prelude.{ℕ, List, [], ◌∷◌, Bool, length, ◌≡◌, ◌<◌, ◌≤◌, ◌+◌, ◌*◌}
+use Rattle.std.specs.List.{All, filter}
 use Rattle.aes3_cell.specs.declared.level.Level.{Level}
-use Rattle.aes3_block.specs.Blocks.{block_len}
+use Rattle.aes3_block.specs.Blocks.{block_len, stream, IsBlock}
 use Rattle.aes3_lock.specs.declared.report.Report.{Report}
 use Rattle.aes3_lock.specs.declared.report.Report.TheVariants.{Whole, Marked, Fault, Unfinished}
+use Rattle.aes3_lock.specs.Damage.{changed, without}
+use Rattle.aes3_lock.specs.Pieces.{IsPiece}
 use Rattle.aes3_lock.specs.Reports.{blocks, reports}
 use Rattle.aes3_text.specs.Gaps.{Entry, reported, lost, cut, account, begun_account, accounted, is_lost}
 
@@ -51,3 +53,24 @@ pub record LosesNothing (c : List Level) : Type 0 where
 -- where no gap counts nothing but a cut block at either end is lost
 abbrev pub NoGapLosesNothing : Type 0
 NoGapLosesNothing = (c : List Level) → length (filter is_lost (account c)) ≡ 0 → LosesNothing c
+
+-- where one cell of a stream of whole blocks changes, a gap counts
+abbrev pub ChangeIsLost : Type 0
+ChangeIsLost =
+    (s : Level) (bs : List (List (List Bool))) → All IsBlock bs → (k : ℕ) → k < length (stream s bs)
+    → 0 < length (filter is_lost (account (changed k (stream s bs))))
+
+-- and where one is lost that stands between the first block and the last
+abbrev pub LossIsLost : Type 0
+LossIsLost =
+    (s : Level) (bs : List (List (List Bool))) → All IsBlock bs → (k : ℕ) → block_len ≤ k → k + block_len < length (stream s bs)
+    → 0 < length (filter is_lost (account (without k (stream s bs))))
+
+-- where the whole blocks of cells, one at least, stand so, no gap counts; and so in a piece of a lawful stream with a whole block
+abbrev pub RowHasNoGap : Type 0
+RowHasNoGap = (c : List Level) → LosesNothing c → 0 < length (blocks c) → length (filter is_lost (account c)) ≡ 0
+
+abbrev pub PieceHasNoGap : Type 0
+PieceHasNoGap =
+    (s : Level) (bs : List (List (List Bool))) (i j : ℕ) (c : List Level) → IsPiece s bs i j c → 0 < length (blocks c)
+    → length (filter is_lost (account c)) ≡ 0

@@ -1,7 +1,7 @@
 //! Laws that join what is given of changed cells and what the check of a channel status tells, and laws of the account of an
 //! input's cells.
 
-ghost use Rattle.aes3_text.specs.GapLaws.{AccountIsInTime, AccountIsWhole, NoGapLosesNothing};
+ghost use Rattle.aes3_text.specs.GapLaws.{AccountIsInTime, AccountIsWhole, ChangeIsLost, LossIsLost, NoGapLosesNothing, PieceHasNoGap, RowHasNoGap};
 ghost use Rattle.aes3_text.specs.Laws.{ExchangedStatusIsFound};
 
 /// Two changed cells that leave a block, with the bits of two slots inverted, leave no good check of a channel status
@@ -25,4 +25,21 @@ pub fn account_is_in_time()
 /// the first and behind the last are fewer cells than a block has.
 pub fn no_gap_loses_nothing()
     ensures { NoGapLosesNothing }
+{}
+
+/// Where one cell of a stream of whole blocks changes, a gap of the account counts: so `check --gaps` ends with status 1.
+pub fn change_is_lost()
+    ensures { ChangeIsLost }
+{}
+
+/// Where one cell of a stream of whole blocks is lost that stands between the first of them and the last, a gap counts too.
+pub fn loss_is_lost()
+    ensures { LossIsLost }
+{}
+
+/// Where the whole blocks of cells, one at least, stand in a row, and before the first and behind the last are fewer cells
+/// than a block has, no gap of the account counts; so none does in a piece of a lawful stream that has a whole block.
+pub fn whole_rows_have_no_gap()
+    ensures row { RowHasNoGap }
+    ensures piece { PieceHasNoGap }
 {}
