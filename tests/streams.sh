@@ -81,6 +81,17 @@ status=$?
 expect "words that are not UTF-8" 2 "aes3: the words are not UTF-8"
 [ -s "$folder/output" ] && failed=1
 
+# At a terminal a sentence stands behind the line of a refusal, and hints before a run; elsewhere neither.
+if command -v script > /dev/null; then
+    script -qec "$program normal < '$folder/refused' > '$folder/output'" /dev/null < /dev/null | tr -d '\r' > "$folder/errors"
+    status=3
+    expect "a sentence at a terminal" 3 "aes3: refused 1 at 49920
+aes3: byte 49920 is neither cell nor separator: are these packed cells (\`--packed-in\`), or a block file (\`encode\`)?"
+    script -qec "$program encode --packed-out < '$folder/refused' | cat" /dev/null < /dev/null | tr -d '\r' > "$folder/errors"
+    expect "no hint where the output is no terminal" 3 "aes3: refused 3 at 0
+aes3: bits 0 to 3 of word 0 are not zero: clear them: ALSA's words have codes there"
+fi
+
 # Memory refused anywhere before the input is read: from a limit at which the program can't be loaded to one at which it
 # runs, each run is done, or it ends with refusal 8 and its line.
 refused=0

@@ -84,6 +84,12 @@ const MEANINGS: [Meaning; 11] = [
     },
 ];
 
+/// What to do about the refusal of this number.
+pub fn advice(number: u8) -> &'static str {
+    let place = usize::from(number).saturating_sub(1);
+    MEANINGS.get(place).map_or("", |meaning| meaning.advice)
+}
+
 /// Whether the words ask what refusals mean.
 pub fn asks_to_explain(words: &[&str]) -> bool
     ensures { result ≡ asks_to_explain (map (λ word. word.now) words.now) }

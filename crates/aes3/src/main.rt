@@ -6,6 +6,7 @@ ghost use Rattle.std.specs.Prelude.{◌+◌, ◌<◌, ◌^◌, ◌≡◌, IfErr}
 mod definitions;
 mod explain;
 mod help;
+mod hints;
 mod job;
 #[cfg(test)]
 mod job_tests;
@@ -15,6 +16,7 @@ mod status_text;
 mod tests;
 
 use aes3_cell::{Sink, StdSink, StdSource};
+use hints::{Hints, Terminals};
 use run::{Unread, run_words, tell_unread};
 use std::env;
 use std::io::{BufWriter, ErrorKind};
@@ -27,7 +29,10 @@ fn main(rt: HostRuntime) -> ExitCode {
     let mut errors = StdSink::new(rt.stderr());
     let status = match run_program(&rt, &mut errors) {
         Ok(status) => status,
-        Err(fault) => tell_unread(fault, &mut errors),
+        Err(fault) => {
+            let mut hints = Hints::new(&rt, Terminals::new(&rt));
+            tell_unread(fault, &mut errors, &mut hints)
+        }
     };
     ExitCode::from(status)
 }
@@ -44,7 +49,15 @@ fn run_program<E: Sink>(rt: &HostRuntime, errors: &mut E) -> Result<u8, Unread>
     )?;
     let mut source = StdSource::new(rt.stdin().lock());
     let mut sink = StdSink::new(output);
-    Ok(run_words(rt.alloc(), &words, &mut source, &mut sink, errors))
+    let mut hints = Hints::new(rt, Terminals::new(rt));
+    Ok(run_words(
+        rt.alloc(),
+        &words,
+        &mut source,
+        &mut sink,
+        errors,
+        &mut hints,
+    ))
 }
 
 /// The words of the command line behind the program's name.

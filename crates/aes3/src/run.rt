@@ -6,7 +6,7 @@ ghost use Rattle.aes3.specs.WordRuns.{FaultRan, UnreadTold, WordsRan};
 
 use crate::job::{LineFault, job_of_words};
 use aes3_cell::{Fault, RunError, Sink, Source, write_all};
-use aes3_job::{DONE, finish_job, refuse};
+use aes3_job::{DONE, Observer, finish_job, refuse};
 use std::alloc::{AllocError, Global};
 
 /// The exit status of a refused command line.
@@ -30,7 +30,12 @@ fn put_text<T: Sink>(text: &str, sink: &mut T) -> Result<(), Fault>
 }
 
 /// Tells why words are no job, and answers the exit status.
-fn tell_fault<T: Sink, E: Sink>(fault: LineFault, sink: &mut T, errors: &mut E) -> u8
+fn tell_fault<T: Sink, E: Sink, O: Observer>(
+    fault: LineFault,
+    sink: &mut T,
+    errors: &mut E,
+    observer: &mut O,
+) -> u8
     requires sink_room { T.failed sink.old + 1 < 2 ^ 64 }
     requires errors_room { E.failed errors.old + 1 < 2 ^ 64 }
     ensures told { FaultRan fault
@@ -46,9 +51,9 @@ fn tell_fault<T: Sink, E: Sink>(fault: LineFault, sink: &mut T, errors: &mut E) 
         }
         LineFault::Help { text } => match put_text(text.as_str(), sink) {
             Ok(()) => DONE,
-            Err(_) => refuse(RunError::Write, errors),
+            Err(_) => refuse(RunError::Write, errors, observer),
         },
-        LineFault::Refused(error) => refuse(error, errors),
+        LineFault::Refused(error) => refuse(error, errors, observer),
     }
 }
 
@@ -68,7 +73,7 @@ impl From<AllocError> for Unread {
 }
 
 /// Tells why the words could not be read, and answers the exit status.
-pub fn tell_unread<E: Sink>(fault: Unread, errors: &mut E) -> u8
+pub fn tell_unread<E: Sink, O: Observer>(fault: Unread, errors: &mut E, observer: &mut O) -> u8
     requires { E.failed errors.old + 1 < 2 ^ 64 }
     ensures { UnreadTold fault
         (record { old = E.taken errors.old; new = E.taken errors.new; failed_old = E.failed errors.old; failed_new = E.failed errors.new }) result }
@@ -78,19 +83,21 @@ pub fn tell_unread<E: Sink>(fault: Unread, errors: &mut E) -> u8
             let _ = write_all(errors, b"aes3: the words are not UTF-8\n");
             USAGE
         }
-        Unread::Memory => refuse(RunError::Memory, errors),
+        Unread::Memory => refuse(RunError::Memory, errors, observer),
     }
 }
 
 /// Runs a command line, without the program's name, and answers the exit status: 0 done, 1 where `check` found faults, 2
 /// for a refused command line, 3 for a refusal. A sink that held nothing before and did not fail has passed on all that it
-/// took. Refusals are told on `errors`, whose own faults change nothing.
-pub fn run_words<S: Source, T: Sink, E: Sink>(
+/// took. Refusals are told on `errors`, whose own faults change nothing. The
+/// observer is told how it goes on.
+pub fn run_words<S: Source, T: Sink, E: Sink, O: Observer>(
     alloc: Global,
     words: &[&str],
     source: &mut S,
     sink: &mut T,
     errors: &mut E,
+    observer: &mut O,
 ) -> u8
     requires source_room { S.failed source.old + 1 < 2 ^ 64 }
     requires sink_room { T.failed sink.old + 1 < 2 ^ 64 }
@@ -103,7 +110,7 @@ pub fn run_words<S: Source, T: Sink, E: Sink>(
     ensures errors { E.failed errors.new ≤ E.failed errors.old + 1 }
 {
     match job_of_words(alloc, words) {
-        Ok(job) => finish_job(&job, source, sink, errors),
-        Err(fault) => tell_fault(fault, sink, errors),
+        Ok(job) => finish_job(&job, source, sink, errors, observer),
+        Err(fault) => tell_fault(fault, sink, errors, observer),
     }
 }

@@ -2,6 +2,7 @@
 
 use crate::run::{Unread, run_words, tell_unread};
 use aes3_cell::{MemorySink, MemorySource, Source};
+use aes3_job::Nobody;
 use std::alloc::Global;
 use std::process::Abort;
 
@@ -18,7 +19,14 @@ fn expect_run(
     let mut source = MemorySource::new(input, 1);
     let mut sink = MemorySink::new(alloc);
     let mut lines = MemorySink::new(alloc);
-    let answer = run_words(alloc, words, &mut source, &mut sink, &mut lines);
+    let answer = run_words(
+        alloc,
+        words,
+        &mut source,
+        &mut sink,
+        &mut lines,
+        &mut Nobody,
+    );
     assert_eq!(rt; answer, status);
     assert!(rt; sink.bytes() == output);
     assert!(rt; lines.bytes() == errors);
@@ -86,7 +94,14 @@ fn expect_refused_line(rt: &impl Abort, alloc: Global, words: &[&str]) {
     let mut source = MemorySource::new(b"2", 1);
     let mut sink = MemorySink::new(alloc);
     let mut lines = MemorySink::new(alloc);
-    let answer = run_words(alloc, words, &mut source, &mut sink, &mut lines);
+    let answer = run_words(
+        alloc,
+        words,
+        &mut source,
+        &mut sink,
+        &mut lines,
+        &mut Nobody,
+    );
     assert_eq!(rt; answer, 2);
     assert!(rt; sink.bytes().is_empty());
     assert!(rt; !lines.bytes().is_empty());
@@ -114,7 +129,14 @@ fn a_bad_status_text_reads_nothing(rt: HostRuntime) {
     let mut sink = MemorySink::new(rt.alloc());
     let mut lines = MemorySink::new(rt.alloc());
     let words = ["rewrite", "--status1", "0"];
-    let answer = run_words(rt.alloc(), &words, &mut source, &mut sink, &mut lines);
+    let answer = run_words(
+        rt.alloc(),
+        &words,
+        &mut source,
+        &mut sink,
+        &mut lines,
+        &mut Nobody,
+    );
     assert_eq!(rt; answer, 3);
     assert!(rt; sink.bytes().is_empty());
     assert!(rt; lines.bytes() == b"aes3: refused 9\n".as_slice());
@@ -130,7 +152,7 @@ fn words_that_cannot_be_read(rt: HostRuntime) {
     ];
     for (fault, status, line) in rows {
         let mut lines = MemorySink::new(rt.alloc());
-        assert_eq!(&rt; tell_unread(fault, &mut lines), status);
+        assert_eq!(&rt; tell_unread(fault, &mut lines, &mut Nobody), status);
         assert!(&rt; lines.bytes() == line);
     }
 }

@@ -5,6 +5,7 @@ ghost use Rattle.aes3_job.specs.JobRuns.{Flushed, JobRan};
 
 use crate::job::Job;
 use crate::job_run::{exit_status, run_job};
+use crate::observer::Observer;
 use crate::refusal::refuse;
 use aes3_cell::{RunError, Sink, Source};
 
@@ -25,12 +26,14 @@ fn flushed<T: Sink>(error: RunError, sink: &mut T) -> RunError
 }
 
 /// Runs a job, and answers the exit status: 0 done, 1 where `check` found faults, 3 for a refusal. Unless the sink failed, it
-/// has passed on all that it took, also behind a refusal. A refusal is told on `errors`, whose own faults change nothing.
-pub fn finish_job<S: Source, T: Sink, E: Sink>(
+/// has passed on all that it took, also behind a refusal. A refusal is told on `errors`, whose own faults change nothing. The
+/// observer is told too.
+pub fn finish_job<S: Source, T: Sink, E: Sink, O: Observer>(
     job: &Job,
     source: &mut S,
     sink: &mut T,
     errors: &mut E,
+    observer: &mut O,
 ) -> u8
     requires source_room { S.failed source.old + 1 < 2 ^ 64 }
     requires sink_room { T.failed sink.old + 1 < 2 ^ 64 }
@@ -42,8 +45,9 @@ pub fn finish_job<S: Source, T: Sink, E: Sink>(
     ensures passed_on { T.failed sink.new ≡ T.failed sink.old → T.passed sink.new ≡ T.taken sink.new }
     ensures errors { E.failed errors.new ≤ E.failed errors.old + 1 }
 {
+    observer.begins(job);
     match run_job(job, source, sink) {
         Ok(counts) => exit_status(job, &counts),
-        Err(error) => refuse(flushed(error, sink), errors),
+        Err(error) => refuse(flushed(error, sink), errors, observer),
     }
 }

@@ -11,6 +11,7 @@ mod job_run;
 mod job_run_tests;
 #[cfg(test)]
 mod line_tests;
+mod observer;
 mod refusal;
 #[cfg(test)]
 mod status_line_tests;
@@ -22,4 +23,5 @@ mod tests;
 pub use finish::finish_job;
 pub use job::Job;
 pub use job_run::{DONE, FAULTY, run_job};
+pub use observer::{Nobody, Observer};
 pub use refusal::{REFUSED, put_refusal, refuse};

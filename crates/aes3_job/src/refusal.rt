@@ -6,6 +6,7 @@ ghost use Rattle.aes3_cell.specs.Ends.{Grew};
 ghost use Rattle.aes3_cell.specs.Writes.{Wrote};
 ghost use Rattle.aes3_job.specs.Lines.{place_text, refusal_line};
 
+use crate::observer::Observer;
 use aes3_cell::{Fault, RunError, Sink, write_all};
 use arrayvec::ArrayVec;
 use itoa::Buffer;
@@ -65,13 +66,14 @@ pub fn put_refusal<T: Sink>(error: RunError, sink: &mut T) -> Result<(), Fault>
     write_all(sink, line.as_slice())
 }
 
-/// Tells a refusal on `errors`, whose own faults change nothing, and answers its exit status.
-pub fn refuse<E: Sink>(error: RunError, errors: &mut E) -> u8
+/// Tells a refusal on `errors`, whose own faults change nothing, and then the observer, and answers its exit status.
+pub fn refuse<E: Sink, O: Observer>(error: RunError, errors: &mut E, observer: &mut O) -> u8
     requires { E.failed errors.old + 1 < 2 ^ 64 }
     ensures status { result ≡ 3 }
     ensures line { E.failed errors.new ≡ E.failed errors.old → Grew (E.taken errors.old) (E.taken errors.new) (refusal_line error) }
     ensures errors { E.failed errors.new ≤ E.failed errors.old + 1 }
 {
     let _ = put_refusal(error, errors);
+    observer.refused(error);
     REFUSED
 }

@@ -2,6 +2,7 @@
 
 use crate::finish::finish_job;
 use crate::job::Job;
+use crate::observer::Nobody;
 use crate::tests::{SHOW, TEXT, ZEROS, block_text, expect_run};
 use aes3_cell::{MemorySink, MemorySource};
 use aes3_engine::Change;
@@ -26,7 +27,7 @@ fn expect_shown(
         output: TEXT,
         change,
     };
-    let answer = finish_job(&job, &mut source, &mut sink, &mut lines);
+    let answer = finish_job(&job, &mut source, &mut sink, &mut lines, &mut Nobody);
     assert_eq!(rt; answer, 0);
     assert!(rt; lines.bytes().is_empty());
     if let Some(text) = text {

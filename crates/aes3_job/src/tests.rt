@@ -4,6 +4,7 @@ ghost use Rattle.std.specs.Prelude.{◌<◌};
 
 use crate::finish::finish_job;
 use crate::job::Job;
+use crate::observer::Nobody;
 use aes3_block::Subframe;
 use aes3_cell::{Counts, FailingSink, FailingSource, Form, MemorySink, MemorySource, RunError};
 use aes3_engine::{Change, encode, normalise};
@@ -82,7 +83,7 @@ pub(crate) fn expect_run(
     let mut source = MemorySource::new(input, piece);
     let mut sink = MemorySink::new(alloc);
     let mut lines = MemorySink::new(alloc);
-    let answer = finish_job(job, &mut source, &mut sink, &mut lines);
+    let answer = finish_job(job, &mut source, &mut sink, &mut lines, &mut Nobody);
     assert_eq!(rt; answer, status);
     assert!(rt; sink.bytes() == output);
     assert!(rt; lines.bytes() == errors);
