@@ -28,8 +28,8 @@ fn all_bytes_of_cell_text(rt: HostRuntime) {
             _ => Err(BadCell { at: 0 }),
         };
         let mut text = CellText::new();
-        assert_eq!(rt; text.feed_byte(byte), expected, "at {byte}");
-        assert_eq!(rt; text.seen(), u64::from(expected.is_ok()), "at {byte}");
+        assert!(rt; text.feed_byte(byte) == expected, "at {byte}");
+        assert!(rt; text.seen() == u64::from(expected.is_ok()), "at {byte}");
     }
 }
 
@@ -41,12 +41,12 @@ fn reader_after_a_bad_byte(rt: HostRuntime) {
         assert!(rt; text.feed_byte(byte).is_ok());
     }
     assert!(rt; text.seen() < 9);
-    assert_eq!(rt; text.feed_byte(b'2'), Err(BadCell { at: 5 }));
+    assert!(rt; text.feed_byte(b'2') == Err(BadCell { at: 5 }));
     assert!(rt; text.seen() < 9);
-    assert_eq!(rt; text.feed_byte(b'\t'), Err(BadCell { at: 5 }));
+    assert!(rt; text.feed_byte(b'\t') == Err(BadCell { at: 5 }));
     assert!(rt; text.seen() < 9);
-    assert_eq!(rt; text.feed_byte(b'0'), Ok(Some(Level::Low)));
-    assert_eq!(rt; text.seen(), 6);
+    assert!(rt; text.feed_byte(b'0') == Ok(Some(Level::Low)));
+    assert!(rt; text.seen() == 6);
 }
 
 /// What the end of packed octets answers.
@@ -61,16 +61,16 @@ fn end_of(rt: &impl Abort, octets: &[u8]) -> Result<Option<(u8, u8)>, BadPadding
 
 #[test]
 fn packed_rows_read(rt: HostRuntime) {
-    assert_eq!(rt; end_of(&rt, &[0x00]), Ok(None));
-    assert_eq!(rt; end_of(&rt, &[0xE8, 0x00]), Ok(Some((0xE8, 8))));
-    assert_eq!(rt; end_of(&rt, &[0xE8, 0x03]), Ok(Some((0xE8, 5))));
-    assert_eq!(rt; end_of(&rt, &[0x80, 0x07]), Ok(Some((0x80, 1))));
-    assert_eq!(rt; end_of(&rt, &[0xFF, 0xE4, 0x02]), Ok(Some((0xE4, 6))));
-    assert_eq!(rt; end_of(&rt, &[0xE9, 0x03]), Err(BadPadding { at: 1 }));
-    assert_eq!(rt; end_of(&rt, &[0xE8, 0x08]), Err(BadPadding { at: 1 }));
-    assert_eq!(rt; end_of(&rt, &[0x00, 0x00, 0xFF]), Err(BadPadding { at: 2 }));
-    assert_eq!(rt; end_of(&rt, &[0x05]), Err(BadPadding { at: 0 }));
-    assert_eq!(rt; end_of(&rt, &[]), Err(BadPadding { at: 0 }));
+    assert!(rt; end_of(&rt, &[0x00]) == Ok(None));
+    assert!(rt; end_of(&rt, &[0xE8, 0x00]) == Ok(Some((0xE8, 8))));
+    assert!(rt; end_of(&rt, &[0xE8, 0x03]) == Ok(Some((0xE8, 5))));
+    assert!(rt; end_of(&rt, &[0x80, 0x07]) == Ok(Some((0x80, 1))));
+    assert!(rt; end_of(&rt, &[0xFF, 0xE4, 0x02]) == Ok(Some((0xE4, 6))));
+    assert!(rt; end_of(&rt, &[0xE9, 0x03]) == Err(BadPadding { at: 1 }));
+    assert!(rt; end_of(&rt, &[0xE8, 0x08]) == Err(BadPadding { at: 1 }));
+    assert!(rt; end_of(&rt, &[0x00, 0x00, 0xFF]) == Err(BadPadding { at: 2 }));
+    assert!(rt; end_of(&rt, &[0x05]) == Err(BadPadding { at: 0 }));
+    assert!(rt; end_of(&rt, &[]) == Err(BadPadding { at: 0 }));
 }
 
 fn level_of(is_high: bool) -> Level {
@@ -100,7 +100,7 @@ fn packed_rows_written(rt: HostRuntime) {
     ];
     for (cells, octets) in rows {
         let mut sink = MemorySink::new(rt.alloc());
-        assert_eq!(rt; pack(&rt, cells, &mut sink), Ok(()));
+        assert!(rt; pack(&rt, cells, &mut sink) == Ok(()));
         assert!(rt; sink.bytes() == octets);
     }
 }
@@ -115,7 +115,7 @@ fn compare<'a>(rt: &impl Abort, octet: u8, used: u8, cells: &'a [u8]) -> &'a [u8
     assert!(rt; used <= cells.len());
     for (i, cell) in cells[..used].iter().enumerate() {
         assert!(rt; i < 8);
-        assert_eq!(rt; octet >> (7 - i) & 1, *cell & 1);
+        assert!(rt; (octet >> (7 - i) & 1) == *cell & 1);
     }
     &cells[used..]
 }
@@ -125,7 +125,7 @@ fn packed_round_trip(rt: HostRuntime) {
     for len in 0..=CELLS.len() {
         let cells = &CELLS[..len];
         let mut sink = MemorySink::new(rt.alloc());
-        assert_eq!(rt; pack(&rt, cells, &mut sink), Ok(()));
+        assert!(rt; pack(&rt, cells, &mut sink) == Ok(()));
         let mut packed = PackedIn::new();
         let mut left = cells;
         for octet in sink.bytes() {
@@ -136,7 +136,7 @@ fn packed_round_trip(rt: HostRuntime) {
         }
         match packed.end() {
             Ok(Some((octet, used))) => left = compare(&rt, octet, used, left),
-            answer => assert_eq!(rt; answer, Ok(None)),
+            answer => assert!(rt; answer == Ok(None)),
         }
         assert!(rt; left.is_empty(), "{len} cells");
     }
@@ -149,7 +149,7 @@ fn put_text<T: Sink>(rt: &impl Abort, cells: &[u8], sink: &mut T) -> Result<(), 
         assert!(rt; !out.failed());
         assert!(rt; sink.failures() < 9);
         let put = out.put(sink, level_of(*cell == b'1'));
-        assert_eq!(rt; out.failed(), put.is_err());
+        assert!(rt; out.failed() == put.is_err());
         put?;
     }
     Ok(())
@@ -158,25 +158,25 @@ fn put_text<T: Sink>(rt: &impl Abort, cells: &[u8], sink: &mut T) -> Result<(), 
 #[test]
 fn sinks_that_take_few_bytes(rt: HostRuntime) {
     let mut whole = MemorySink::new(rt.alloc());
-    assert_eq!(rt; put_text(&rt, &CELLS, &mut whole), Ok(()));
-    assert_eq!(rt; pack(&rt, &CELLS, &mut whole), Ok(()));
-    assert_eq!(rt; whole.bytes().len(), 2 * 65 + 2 * 8 + 2);
+    assert!(rt; put_text(&rt, &CELLS, &mut whole) == Ok(()));
+    assert!(rt; pack(&rt, &CELLS, &mut whole) == Ok(()));
+    assert!(rt; whole.bytes().len() == 2 * 65 + 2 * 8 + 2);
     assert!(rt; whole.bytes().starts_with(&CELLS[..64]));
     assert!(rt; whole.bytes().ends_with(&[0xC0, 0x06]));
     for most in [1, 7, 64] {
         let mut short = ShortSink::new(rt.alloc(), most);
-        assert_eq!(rt; put_text(&rt, &CELLS, &mut short), Ok(()));
-        assert_eq!(rt; pack(&rt, &CELLS, &mut short), Ok(()));
+        assert!(rt; put_text(&rt, &CELLS, &mut short) == Ok(()));
+        assert!(rt; pack(&rt, &CELLS, &mut short) == Ok(()));
         assert!(rt; short.bytes() == whole.bytes(), "at most {most}");
-        assert_eq!(rt; short.failures(), 0);
+        assert!(rt; short.failures() == 0);
     }
 }
 
 #[test]
 fn short_sink_takes_a_front(rt: HostRuntime) {
     let mut short = ShortSink::new(rt.alloc(), 3);
-    assert_eq!(rt; short.write(b"abcde"), Ok(3));
-    assert_eq!(rt; short.write(b"fg"), Ok(2));
+    assert!(rt; short.write(b"abcde") == Ok(3));
+    assert!(rt; short.write(b"fg") == Ok(2));
     assert!(rt; short.bytes() == b"abcfg".as_slice());
 }
 
@@ -185,14 +185,14 @@ fn sinks_that_fail_at_each_call(rt: HostRuntime) {
     for (first_fault, lines, octets) in [(1, 0, 0), (2, 65, 8), (3, 130, 16), (4, 130, 18)] {
         let mut text = FailingSink::new(rt.alloc(), first_fault);
         let answer = put_text(&rt, &CELLS, &mut text);
-        assert_eq!(rt; answer.is_ok(), first_fault > 2, "call {first_fault}");
-        assert_eq!(rt; text.failures(), u64::from(first_fault <= 2));
-        assert_eq!(rt; text.bytes().len(), lines, "call {first_fault}");
+        assert!(rt; answer.is_ok() == (first_fault > 2), "call {first_fault}");
+        assert!(rt; text.failures() == u64::from(first_fault <= 2));
+        assert!(rt; text.bytes().len() == lines, "call {first_fault}");
         let mut packed = FailingSink::new(rt.alloc(), first_fault);
         let answer = pack(&rt, &CELLS, &mut packed);
-        assert_eq!(rt; answer.is_ok(), first_fault > 3, "call {first_fault}");
-        assert_eq!(rt; packed.failures(), u64::from(first_fault <= 3));
-        assert_eq!(rt; packed.bytes().len(), octets, "call {first_fault}");
+        assert!(rt; answer.is_ok() == (first_fault > 3), "call {first_fault}");
+        assert!(rt; packed.failures() == u64::from(first_fault <= 3));
+        assert!(rt; packed.bytes().len() == octets, "call {first_fault}");
     }
 }
 
@@ -218,19 +218,18 @@ fn read_all<S: Source>(rt: &impl Abort, source: &mut S, expected: &[u8]) -> (usi
 fn sources_in_pieces(rt: HostRuntime) {
     for (piece, calls) in [(1, 131), (7, 20), (64, 4), (65, 3), (4_096, 3)] {
         let mut source = MemorySource::new(&CELLS, piece);
-        assert_eq!(rt; read_all(&rt, &mut source, &CELLS), (0, calls), "{piece}");
-        assert_eq!(rt; source.failures(), 0);
+        assert!(rt; read_all(&rt, &mut source, &CELLS) == (0, calls), "{piece}");
+        assert!(rt; source.failures() == 0);
     }
     for first_fault in 1..=6 {
         let mut source = FailingSource::new(&CELLS, 40, first_fault);
         let given = (40 * first_fault as usize - 40).min(130);
         let calls = first_fault.min(5) as u32;
-        assert_eq!(rt;
-            read_all(&rt, &mut source, &CELLS),
-            (130 - given, calls),
+        assert!(rt;
+            read_all(&rt, &mut source, &CELLS) == (130 - given, calls),
             "{first_fault}"
         );
-        assert_eq!(rt; source.failures(), u64::from(first_fault < 6));
+        assert!(rt; source.failures() == u64::from(first_fault < 6));
     }
 }
 
@@ -238,32 +237,32 @@ fn sources_in_pieces(rt: HostRuntime) {
 fn endless_bytes(rt: HostRuntime) {
     let mut source = EndlessSource::new(b'1', 64);
     let mut piece = [0; 100];
-    assert_eq!(rt; source.read(&mut piece), Ok(64));
+    assert!(rt; source.read(&mut piece) == Ok(64));
     assert!(rt; piece[..64] == [b'1'; 64]);
     assert!(rt; piece[64..] == [0; 36]);
     let mut few = [0; 10];
-    assert_eq!(rt; source.read(&mut few), Ok(10));
-    assert_eq!(rt; few, [b'1'; 10]);
-    assert_eq!(rt; source.read(&mut []), Ok(0));
-    assert_eq!(rt; source.read(&mut few), Ok(10));
-    assert_eq!(rt; source.failures(), 0);
+    assert!(rt; source.read(&mut few) == Ok(10));
+    assert!(rt; few == [b'1'; 10]);
+    assert!(rt; source.read(&mut []) == Ok(0));
+    assert!(rt; source.read(&mut few) == Ok(10));
+    assert!(rt; source.failures() == 0);
 }
 
 #[test]
 fn std_ends(rt: HostRuntime) {
     let mut source = StdSource::new(b"abcde".as_slice());
     let mut piece = [0; 3];
-    assert_eq!(rt; source.read(&mut piece), Ok(3));
-    assert_eq!(rt; piece, *b"abc");
-    assert_eq!(rt; source.read(&mut piece), Ok(2));
-    assert_eq!(rt; source.read(&mut piece), Ok(0));
-    assert_eq!(rt; source.failures(), 0);
+    assert!(rt; source.read(&mut piece) == Ok(3));
+    assert!(rt; piece == *b"abc");
+    assert!(rt; source.read(&mut piece) == Ok(2));
+    assert!(rt; source.read(&mut piece) == Ok(0));
+    assert!(rt; source.failures() == 0);
     let mut buffer = [0; 3];
     let mut sink = StdSink::new(buffer.as_mut_slice());
-    assert_eq!(rt; sink.write(b""), Ok(0));
-    assert_eq!(rt; write_all(&mut sink, b"abcde"), Err(Fault));
-    assert_eq!(rt; sink.flush(), Ok(()));
-    assert_eq!(rt; sink.failures(), 1);
+    assert!(rt; sink.write(b"") == Ok(0));
+    assert!(rt; write_all(&mut sink, b"abcde") == Err(Fault));
+    assert!(rt; sink.flush() == Ok(()));
+    assert!(rt; sink.failures() == 1);
 }
 
 /// A reader that a signal interrupts `left` times before it gives bytes.
@@ -288,14 +287,14 @@ fn interrupted_reads(rt: HostRuntime) {
     for left in [0, 1, 999_999] {
         let mut source = StdSource::new(InterruptedReader { left });
         let mut piece = [0; 3];
-        assert_eq!(rt; source.read(&mut piece), Ok(3), "{left}");
-        assert_eq!(rt; piece, *b"111");
-        assert_eq!(rt; source.failures(), 0);
+        assert!(rt; source.read(&mut piece) == Ok(3), "{left}");
+        assert!(rt; piece == *b"111");
+        assert!(rt; source.failures() == 0);
     }
     let mut source = StdSource::new(InterruptedReader { left: 1_000_001 });
-    assert_eq!(rt; source.read(&mut [0; 3]), Err(Fault));
-    assert_eq!(rt; source.failures(), 1);
-    assert_eq!(rt; source.read(&mut [0; 3]), Ok(3));
+    assert!(rt; source.read(&mut [0; 3]) == Err(Fault));
+    assert!(rt; source.failures() == 1);
+    assert!(rt; source.read(&mut [0; 3]) == Ok(3));
 }
 
 #[test]
@@ -303,10 +302,10 @@ fn bytes_held_until_flushed(rt: HostRuntime) {
     let mut sink = HoldingSink::new(rt.alloc());
     for (bytes, held, passed) in [(b"ab", "ab", ""), (b"cd", "abcd", "ab")] {
         assert!(rt; sink.failures() == 0);
-        assert_eq!(rt; write_all(&mut sink, bytes), Ok(()));
+        assert!(rt; write_all(&mut sink, bytes) == Ok(()));
         assert!(rt; sink.bytes() == held.as_bytes());
         assert!(rt; sink.passed() == passed.as_bytes());
-        assert_eq!(rt; sink.flush(), Ok(()));
+        assert!(rt; sink.flush() == Ok(()));
         assert!(rt; sink.passed() == held.as_bytes());
     }
 }
@@ -327,8 +326,8 @@ fn all_refusals(rt: HostRuntime) {
         (RunError::BadSample { at: 4 }, 11, Some(4)),
     ];
     for (error, number, place) in rows {
-        assert_eq!(rt; error.number(), number);
-        assert_eq!(rt; error.place(), place, "refusal {number}");
+        assert!(rt; error.number() == number);
+        assert!(rt; error.place() == place, "refusal {number}");
     }
 }
 
@@ -336,14 +335,14 @@ fn all_refusals(rt: HostRuntime) {
 fn words_of_text(rt: HostRuntime) {
     let line = *b"1010100001001100001010100110111000011001010111010011101101111111";
     let mut text = CellText::new();
-    assert_eq!(rt; text.feed_word(&line), Some(0xFEDC_BA98_7654_3215));
-    assert_eq!(rt; text.seen(), 64);
+    assert!(rt; text.feed_word(&line) == Some(0xFEDC_BA98_7654_3215));
+    assert!(rt; text.seen() == 64);
     for byte in [b'\n', b'/', b'2', b'p', 0xB0] {
         let mut other = line;
         other[63] = byte;
         assert!(rt; text.seen() == 64);
-        assert_eq!(rt; text.feed_word(&other), None, "{byte}");
-        assert_eq!(rt; text.seen(), 64);
+        assert!(rt; text.feed_word(&other) == None, "{byte}");
+        assert!(rt; text.seen() == 64);
     }
 }
 
@@ -351,15 +350,15 @@ fn words_of_text(rt: HostRuntime) {
 fn words_of_octets(rt: HostRuntime) {
     let octets = [0x80, 0x40, 0xE8, 0x0F, 0x00, 0xFF, 0x12, 0x01];
     let mut packed = PackedIn::new();
-    assert_eq!(rt; packed.feed_word(&octets), None);
-    assert_eq!(rt; packed.seen(), 0);
-    assert_eq!(rt; packed.feed_byte(0x01), None);
+    assert!(rt; packed.feed_word(&octets) == None);
+    assert!(rt; packed.seen() == 0);
+    assert!(rt; packed.feed_byte(0x01) == None);
     assert!(rt; packed.seen() == 1);
-    assert_eq!(rt; packed.feed_byte(0x03), None);
+    assert!(rt; packed.feed_byte(0x03) == None);
     assert!(rt; packed.seen() == 2);
-    assert_eq!(rt; packed.feed_word(&octets), Some(0xFF00_F017_0201_C080));
+    assert!(rt; packed.feed_word(&octets) == Some(0xFF00_F017_0201_C080));
     assert!(rt; packed.seen() == 10);
-    assert_eq!(rt; packed.feed_byte(0x00), Some(0x12));
+    assert!(rt; packed.feed_byte(0x00) == Some(0x12));
 }
 
 #[test]
@@ -375,9 +374,9 @@ fn words_of_many_octets(rt: HostRuntime) {
     assert!(rt; packed.seen() == 2);
     let mut words = [0; 2];
     packed.feed_words(&octets, &mut words);
-    assert_eq!(rt; words, [0xFF00_F017_0201_C080, 0xFF00_F017_0201_8048]);
+    assert!(rt; words == [0xFF00_F017_0201_C080, 0xFF00_F017_0201_8048]);
     assert!(rt; packed.seen() == 18);
-    assert_eq!(rt; packed.feed_byte(0x00), Some(0x12));
+    assert!(rt; packed.feed_byte(0x00) == Some(0x12));
 }
 
 #[test]
@@ -389,18 +388,18 @@ fn words_of_lines(rt: HostRuntime) {
     two[130] = b'1';
     let mut text = CellText::new();
     let mut words = [0; 3];
-    assert_eq!(rt; text.feed_lines(&two, &mut words), 2);
-    assert_eq!(rt; words, [0xFEDC_BA98_7654_3215, 0xFEDC_BA98_7654_3215, 0]);
+    assert!(rt; text.feed_lines(&two, &mut words) == 2);
+    assert!(rt; words == [0xFEDC_BA98_7654_3215, 0xFEDC_BA98_7654_3215, 0]);
     assert!(rt; text.seen() == 130);
     let one = text.feed_cells(&two[130..]);
-    assert_eq!(rt; (one.word, one.len), (1, 1));
+    assert!(rt; (one.word, one.len) == (1, 1));
     assert!(rt; text.seen() == 131);
     let none = text.feed_cells(&two[131..]);
-    assert_eq!(rt; (none.word, none.len), (0, 0));
+    assert!(rt; (none.word, none.len) == (0, 0));
     for (from, word, len) in [(0, 0xFEDC_BA98_7654_3215, 64), (60, 15, 4), (64, 0, 0)] {
         assert!(rt; text.seen() < 1_000);
         let cells = text.feed_cells(&two[from..]);
-        assert_eq!(rt; (cells.word, cells.len), (word, len), "{from}");
+        assert!(rt; (cells.word, cells.len) == (word, len), "{from}");
     }
 }
 

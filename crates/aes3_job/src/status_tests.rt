@@ -28,7 +28,7 @@ fn expect_shown(
         change,
     };
     let answer = finish_job(&job, &mut source, &mut sink, &mut lines, &mut Nobody);
-    assert_eq!(rt; answer, 0);
+    assert!(rt; answer == 0);
     assert!(rt; lines.bytes().is_empty());
     if let Some(text) = text {
         assert!(rt; sink.bytes() == text);
