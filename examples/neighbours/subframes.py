@@ -1,12 +1,8 @@
 #!/usr/bin/env python3
 """Between block files and the words of other programs, from standard input to standard output.
 
-  subframes.py from-alsa         ALSA's IEC958_SUBFRAME_LE -> block file, from the first block that begins in it on
-  subframes.py to-alsa           block file -> ALSA's IEC958_SUBFRAME_LE
-  subframes.py from-pcm STATUS   samples (S32LE, two channels) -> block file. STATUS: the first bytes of the channel status
-                                 of both channels as hexadecimal digits. Samples are cut to 24 bits, and frames that do
-                                 not fill a block are left out.
-  subframes.py to-pcm            block file -> samples (S32LE, two channels)
+  subframes.py from-alsa   ALSA's IEC958_SUBFRAME_LE -> block file, from the first block that begins in it on
+  subframes.py to-alsa     block file -> ALSA's IEC958_SUBFRAME_LE
 
 A word of a block file is one of IEC958_SUBFRAME_LE without its bits 0 to 3, where ALSA has a code for the preamble. What
 does not fill a block at the end is left out.
@@ -44,21 +40,6 @@ def put(words):
     sys.stdout.buffer.write(words.tobytes())
 
 
-def with_parity(word):
-    return word | (bin(word).count("1") & 1) << 31
-
-
-def from_pcm(read, status):
-    c_bits = [(status[i // 8] >> (i % 8) & 1) << 30 for i in range(192)]
-    for samples in pieces(read, 4 * BLOCK):
-        put(with_parity(sample >> 8 << 4 | c_bits[i % BLOCK // 2]) for i, sample in enumerate(samples))
-
-
-def to_pcm(read):
-    for words in pieces(read, 4 * BLOCK):
-        put(word << 4 & 0xFFFFFF00 for word in words)
-
-
 def from_alsa(read):
     begun, held = False, array.array("I")
     for words in pieces(read, 4):
@@ -86,11 +67,9 @@ def to_alsa(read):
 def main(words):
     # Not buffered: what has come goes on at once.
     read = sys.stdin.buffer.raw.read
-    commands = {"from-alsa": from_alsa, "to-alsa": to_alsa, "to-pcm": to_pcm}
+    commands = {"from-alsa": from_alsa, "to-alsa": to_alsa}
     if len(words) == 1 and words[0] in commands:
         commands[words[0]](read)
-    elif len(words) == 2 and words[0] == "from-pcm" and len(words[1]) <= 48:
-        from_pcm(read, bytes.fromhex(words[1]).ljust(24, b"\0"))
     else:
         sys.exit(__doc__)
 
