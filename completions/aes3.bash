@@ -7,7 +7,7 @@ _aes3() {
         --status1 | --status2) return ;;
     esac
     if [ "$COMP_CWORD" = 1 ]; then
-        COMPREPLY=($(compgen -W "encode decode normal check show scan cut rewrite to-pcm --help --version --explain" -- "$word"))
+        COMPREPLY=($(compgen -W "encode decode normal check show scan cut rewrite to-pcm from-pcm --help --version --explain" -- "$word"))
         return
     fi
     case ${COMP_WORDS[1]} in
@@ -20,6 +20,7 @@ _aes3() {
         cut) COMPREPLY=($(compgen -W "--packed-in --packed-out --help" -- "$word")) ;;
         rewrite) COMPREPLY=($(compgen -W "--packed-in --packed-out --status1 --status2 --mend-check --help" -- "$word")) ;;
         to-pcm) COMPREPLY=($(compgen -W "--packed-in --help" -- "$word")) ;;
+        from-pcm) COMPREPLY=($(compgen -W "--status1 --status2 --mend-check --exact --help" -- "$word")) ;;
     esac
 }
 complete -F _aes3 aes3
