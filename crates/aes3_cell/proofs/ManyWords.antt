@@ -1,12 +1,12 @@
 -- Words of cells, one more.
-use Rattle.std.proofs.Common.{◌≡◌, ℕ, zero, suc, replicate, append_assoc, drop-drop, ◌+◌, ◌*◌, ◌<◌, ◌≤◌, List, [], ◌∷◌, ◌++◌, length, map, take, drop, get_or, set, sym, ap, ap₂, ◌∙◌, arith, append-nil, length-append, take-append-drop}
+use Rattle.std.proofs.Common.{◌≡◌, ℕ, ◌+◌, ◌*◌, ◌<◌, ◌≤◌, List, [], ◌∷◌, ◌++◌, length, map, take, drop, get_or, set, sym, ap, ap₂, ◌∙◌, arith, append-nil, length-append, take-append-drop}
 use Rattle.std.specs.List.{flat_map}
 use Rattle.std.specs.Simd.Lanes.{chunk}
 use Rattle.std.proofs.lemmas.Grind.{flat_map-append}
 use Rattle.std.proofs.lemmas.List.{take_more, take_more_set, length-map, length-take-le}
 use Rattle.std.proofs.Math.Seq.{take-add}
 use borrow.Rule.Slice.PartMut.{put_mid}
-use Rattle.std.proofs.lemmas.Slice.{take-put_mid, drop-put_mid}
+use Rattle.std.proofs.lemmas.Slice.{take-put_mid}
 use Rattle.aes3_cell.specs.declared.form.Form.{Form}
 use Rattle.aes3_cell.specs.declared.form.Form.TheVariants.{Text}
 use Rattle.aes3_cell.specs.Words.{word_cells, word_len}
@@ -80,36 +80,6 @@ length-line w =
     let k = word_len_64 in
     let l = length-append (map byte_of (word_cells w)) (10 ∷ []) in
     omega (arith, m, n, k, l)
-
--- the characters of one more word put where line feeds stand
-drop-feeds : (n k : ℕ) → drop {A = ℕ} n (replicate (n + k) 10) ≡ replicate k 10
-drop-feeds zero k = ap (λ m. replicate {A = ℕ} m 10) (let e : 0 + k ≡ k = omega arith in e)
-drop-feeds (suc n) k = ap (λ m. drop {A = ℕ} (suc n) (replicate m 10)) (let e : suc n + k ≡ suc (n + k) = omega arith in e) ∙ drop-feeds n k
-
-pub line-put : (words text ys : List ℕ) (i n m : ℕ) → i < length words → length ys ≡ 64 → n ≡ 64 → 65 * i + 65 ≤ length text
-    → take (65 * i) text ≡ bytes_of Text (flat_map word_cells (take i words)) → drop (65 * i) text ≡ replicate (65 + m) 10
-    → ys ≡ map byte_of (word_cells (get_or words i 0))
-    → (take (65 * (i + 1)) (put_mid (65 * i) n text ys) ≡ bytes_of Text (flat_map word_cells (take (i + 1) words)))
-    × (drop (65 * (i + 1)) (put_mid (65 * i) n text ys) ≡ replicate m 10)
-line-put words text ys i n m h l e room front behind is = (
-  ap (λ j. take j new) next ∙ take-add (65 * i + 64) 1 new
-      ∙ ap₂ ◌++◌ (take-put_mid (65 * i) n text ys (65 * i + 64) (omega (arith, l)) (omega (arith, room))) (ap (take 1) back)
-      ∙ append_assoc (take (65 * i) text) ys (10 ∷ [])
-      ∙ ap₂ ◌++◌ front (ap (λ v. v ++ 10 ∷ []) is ∙ line-bytes (get_or words i 0)) ∙ bytes-words Text words i h,
-  ap (λ j. drop j new) next ∙ sym (drop-drop 1 (65 * i + 64) new) ∙ ap (drop 1) back,
-)
-  where
-    new : List ℕ
-    new = put_mid (65 * i) n text ys
-
-    next : 65 * (i + 1) ≡ 65 * i + 64 + 1
-    next = omega arith
-
-    back : drop (65 * i + 64) new ≡ 10 ∷ replicate m 10
-    back =
-        drop-put_mid (65 * i) n text ys (65 * i + 64) (omega (arith, e)) (omega (arith, room)) (l ∙ sym e)
-        ∙ sym (drop-drop 64 (65 * i) text) ∙ ap (drop 64) behind
-        ∙ ap (λ k. drop {A = ℕ} 64 (replicate k 10)) (let q : 65 + m ≡ 64 + suc m = omega arith in q) ∙ drop-feeds 64 (suc m)
 
 -- the words from one on, and more of them
 pub bytes-block : (form : Form) (words : List ℕ) (at n : ℕ) → at ≤ length words

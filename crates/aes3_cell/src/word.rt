@@ -35,7 +35,7 @@ const OCTETS: [usize; 64] = [
 ];
 
 /// The characters of the cells of a word, all at once.
-pub(crate) fn characters(word: u64) -> [u8; 64]
+fn characters(word: u64) -> [u8; 64]
     ensures { result ≡ map byte_of (word_cells word) }
 {
     let octets = u8x8::from_array(word.to_le_bytes()).swizzle(OCTETS);

@@ -10,7 +10,7 @@ ghost use Rattle.aes3_cell.specs.declared.form.Form.TheVariants.{Text, Packed};
 
 use crate::ends::{Fault, Sink, write_all};
 use crate::form::Form;
-use crate::word::{LINE_LEN, characters, line_of_word, octets_of_word};
+use crate::word::{LINE_LEN, line_of_word, octets_of_word};
 
 /// Writes the 64 cells of a word, as one buffer.
 ///
@@ -33,9 +33,9 @@ const MANY: usize = 16;
 fn lines_of_words(words: &[u64; MANY]) -> [u8; LINE_LEN * MANY]
     ensures { result ≡ bytes_of Text (flat_map word_cells words.now) }
 {
-    let mut text = [b'\n'; LINE_LEN * MANY];
+    let mut text = [0; LINE_LEN * MANY];
     for (i, word) in words.iter().enumerate() {
-        text[LINE_LEN * i..LINE_LEN * i + 64].copy_from_slice(&characters(*word));
+        text[LINE_LEN * i..LINE_LEN * i + LINE_LEN].copy_from_slice(&line_of_word(*word));
     }
     text
 }
