@@ -3,11 +3,11 @@ use Rattle.std.proofs.Common.{◌≡◌, ℕ, ◌*◌, ◌%◌, ◌<◌, ◌⊎�
 use Rattle.aes3_block.specs.declared.file.FileFault.{FileFault}
 use Rattle.aes3_block.specs.declared.file.FileFault.TheVariants.{BadLength}
 use Rattle.aes3_block.specs.Blocks.{block_slots}
-use Rattle.aes3_block.specs.Files.{words_of, whole_blocks, IsBlockFile}
+use Rattle.aes3_block.specs.Files.{words_of, file_blocks, IsBlockFile}
 use Rattle.aes3_block.specs.Readers.{FileReader, reader_of, byte_fault, block_with, reader_with, fault_with, answer_with, next_with, end_answer}
 use Rattle.aes3_block.specs.Feeding.{blocks_of_answer, blocks_fed, reader_fed}
 use Rattle.aes3_block.specs.Laws.{IsAccepted}
-use Rattle.aes3_block.proofs.Streams.{whole_blocks-nil}
+use Rattle.aes3_block.proofs.Streams.{file_blocks-nil}
 use Rattle.aes3_block.proofs.Reading.{ends-open}
 use Rattle.aes3_block.proofs.Words.{all_lawful, all_lawful-from, lawful-words}
 use Rattle.aes3_block.proofs.WholeBlocks.{added_blocks, reader-next, lawful-next, blocks-next, blocks-stay, fault-place, end-none, end-whole_file}
@@ -55,26 +55,26 @@ blocks-added None = refl
 blocks-added (Some b) = refl
 
 -- the blocks
-blocks-on : (b more : List ℕ) → all_lawful (words_of b) ≡ true → whole_blocks (b ++ more) ≡ whole_blocks b ++ blocks_fed (reader_of b) more
-blocks-on b [] l = ap whole_blocks (append-nil b) ∙ sym (append-nil (whole_blocks b))
+blocks-on : (b more : List ℕ) → all_lawful (words_of b) ≡ true → file_blocks (b ++ more) ≡ file_blocks b ++ blocks_fed (reader_of b) more
+blocks-on b [] l = ap file_blocks (append-nil b) ∙ sym (append-nil (file_blocks b))
 blocks-on b (x ∷ more) l = go (byte_fault (reader_of b) x) refl (λ q. blocks-on (b ++ x ∷ []) more (lawful-next b x l q))
   where
     go : (o : Option FileFault) → byte_fault (reader_of b) x ≡ o
-        → (byte_fault (reader_of b) x ≡ None → whole_blocks ((b ++ x ∷ []) ++ more) ≡ whole_blocks (b ++ x ∷ []) ++ blocks_fed (reader_of (b ++ x ∷ [])) more)
-        → whole_blocks (b ++ x ∷ more) ≡ whole_blocks b ++ (blocks_of_answer (answer_with (reader_of b) x) ++ blocks_fed (next_with (reader_of b) x) more)
+        → (byte_fault (reader_of b) x ≡ None → file_blocks ((b ++ x ∷ []) ++ more) ≡ file_blocks (b ++ x ∷ []) ++ blocks_fed (reader_of (b ++ x ∷ [])) more)
+        → file_blocks (b ++ x ∷ more) ≡ file_blocks b ++ (blocks_of_answer (answer_with (reader_of b) x) ++ blocks_fed (next_with (reader_of b) x) more)
     go None q rest =
-        ap whole_blocks (sym (append_assoc b (x ∷ []) more)) ∙ rest q
+        ap file_blocks (sym (append_assoc b (x ∷ []) more)) ∙ rest q
         ∙ ap (λ z. z ++ blocks_fed (reader_of (b ++ x ∷ [])) more) (blocks-next b x l q)
-        ∙ append_assoc (whole_blocks b) (added_blocks (block_with (reader_of b) x)) (blocks_fed (reader_of (b ++ x ∷ [])) more)
-        ∙ ap₂ (λ z r. whole_blocks b ++ (z ++ blocks_fed r more))
+        ∙ append_assoc (file_blocks b) (added_blocks (block_with (reader_of b) x)) (blocks_fed (reader_of (b ++ x ∷ [])) more)
+        ∙ ap₂ (λ z r. file_blocks b ++ (z ++ blocks_fed r more))
         (blocks-added (block_with (reader_of b) x) ∙ ap blocks_of_answer (sym (byte-open (reader_of b) x (reader-open b) q).0)) (sym (next-open b x q))
     go (Some f) q rest =
         let e = byte-fault (reader_of b) x f (reader-open b) q in
-        blocks-stay b x more f l q ∙ sym (append-nil (whole_blocks b))
-        ∙ ap₂ (λ a bs. whole_blocks b ++ (blocks_of_answer a ++ bs)) (sym e.0) (sym (blocks-behind (next_with (reader_of b) x) f more e.1))
+        blocks-stay b x more f l q ∙ sym (append-nil (file_blocks b))
+        ∙ ap₂ (λ a bs. file_blocks b ++ (blocks_of_answer a ++ bs)) (sym e.0) (sym (blocks-behind (next_with (reader_of b) x) f more e.1))
 
-pub blocks-fed : (bytes : List ℕ) → blocks_fed (reader_of []) bytes ≡ whole_blocks bytes
-blocks-fed bytes = ap (λ z. z ++ blocks_fed (reader_of []) bytes) (sym whole_blocks-nil) ∙ sym (blocks-on [] bytes refl)
+pub blocks-fed : (bytes : List ℕ) → blocks_fed (reader_of []) bytes ≡ file_blocks bytes
+blocks-fed bytes = ap (λ z. z ++ blocks_fed (reader_of []) bytes) (sym file_blocks-nil) ∙ sym (blocks-on [] bytes refl)
 
 -- the reader behind bytes that it did not refuse
 open-on : (b more : List ℕ) → all_lawful (words_of b) ≡ true → (reader_fed (reader_of b) more).fault ≡ None

@@ -5,7 +5,7 @@ use Rattle.std.proofs.lemmas.Grind.{flat_map-append}
 use Rattle.std.proofs.lemmas.Bool.{and_parts}
 use Rattle.std.proofs.lemmas.List.{length-map, length-take-le, length-drop, take-append-drop, get_or-take, get_or-drop}
 use Rattle.aes3_block.specs.Blocks.{IsBlock, block_slots}
-use Rattle.aes3_block.specs.Files.{bytes_number, word_bytes, words_of, file, is_lawful, payload_of, blocks_in, lawful_words, whole_blocks, IsBlockFile}
+use Rattle.aes3_block.specs.Files.{bytes_number, word_bytes, words_of, file, is_lawful, payload_of, blocks_in, lawful_words, file_blocks, IsBlockFile}
 use Rattle.aes3_block.proofs.BlockLemmas.{block_slots_384}
 use Rattle.aes3_block.proofs.Each.{all-nil, all-cons, all-payloads, EachByte, each-byte}
 use Rattle.aes3_block.proofs.Files.{bytes-of-payloads}
@@ -79,13 +79,13 @@ blocks-blocks (suc n) ws l =
     }
     (blocks-blocks n (drop block_slots ws) (omega arith))
 
-pub whole_blocks-blocks : (bytes : List ℕ) → All IsBlock (whole_blocks bytes)
-unfolding whole_blocks
-whole_blocks-blocks bytes = blocks-blocks (length (lawful_words bytes) / block_slots) (lawful_words bytes) (count-within (length (lawful_words bytes)))
+pub file_blocks-blocks : (bytes : List ℕ) → All IsBlock (file_blocks bytes)
+unfolding file_blocks
+file_blocks-blocks bytes = blocks-blocks (length (lawful_words bytes) / block_slots) (lawful_words bytes) (count-within (length (lawful_words bytes)))
 
-pub file-whole_blocks : (bytes : List ℕ) → All (λ x. x < 256) bytes → IsBlockFile bytes → file (whole_blocks bytes) ≡ bytes
-unfolding whole_blocks
-file-whole_blocks bytes e h =
+pub file-file_blocks : (bytes : List ℕ) → All (λ x. x < 256) bytes → IsBlockFile bytes → file (file_blocks bytes) ≡ bytes
+unfolding file_blocks
+file-file_blocks bytes e h =
     let b = each-byte bytes e in
     let k = block_slots_384 in
     let w = h.whole in

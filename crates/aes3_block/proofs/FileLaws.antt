@@ -7,7 +7,7 @@ use Rattle.aes3_slot.specs.Slots.{IsPayload, payload_bits, slots_len, slots_bits
 use Rattle.aes3_slot.proofs.Bits.{number-lt, low_bits-number}
 use Rattle.aes3_slot.proofs.Subframes.{odd_ones-with_parity, length-with_parity}
 use Rattle.aes3_block.specs.Blocks.{block_slots, IsBlock}
-use Rattle.aes3_block.specs.Files.{word_of, word_bytes, words_of, block_bytes, file, has_code, is_lawful, payload_of, blocks_in, whole_blocks, IsBlockFile}
+use Rattle.aes3_block.specs.Files.{word_of, word_bytes, words_of, block_bytes, file, has_code, is_lawful, payload_of, blocks_in, file_blocks, IsBlockFile}
 use Rattle.aes3_block.proofs.BlockLemmas.{slots-whole, bytes-whole}
 use Rattle.aes3_block.proofs.BitLemmas.{payload-slots}
 use Rattle.aes3_block.proofs.Bytes.{bytes_number-low_bytes}
@@ -116,9 +116,9 @@ blocks-of-words (b ∷ bs) h =
     (ap (blocks_in (length bs)) (drop_at (map word_of b) (flat_map (map word_of) bs) block_slots n) ∙ blocks-of-words bs h.1)
     ∙ ap (λ x. x ∷ bs) (payloads-back b (each-payload b h.0.payloads))
 
-pub whole_blocks-file : (bs : List (List (List Bool))) → All IsBlock bs → whole_blocks (file bs) ≡ bs
-unfolding whole_blocks
-whole_blocks-file bs h =
+pub file_blocks-file : (bs : List (List (List Bool))) → All IsBlock bs → file_blocks (file bs) ≡ bs
+unfolding file_blocks
+file_blocks-file bs h =
     let e = each-block bs h in
     let w = words-of-file bs e in
     let l = lawful-words (file bs) (ap all_lawful w ∙ lawful-file bs e) ∙ w in

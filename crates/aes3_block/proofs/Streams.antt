@@ -11,7 +11,7 @@ use Rattle.aes3_cell.specs.Written.{bytes_of}
 use Rattle.aes3_cell.proofs.WrittenForms.{bytes-append}
 use Rattle.aes3_cell.proofs.Runs.{line-append, after-append}
 use Rattle.aes3_block.specs.Blocks.{block_slots, mark_at, block_runs, block_cells, stream}
-use Rattle.aes3_block.specs.Files.{payload_of, blocks_in, lawful_words, whole_blocks}
+use Rattle.aes3_block.specs.Files.{payload_of, blocks_in, lawful_words, file_blocks}
 use Rattle.aes3_block.proofs.Runs.{Each27, each27-payloads, after-runs, length-runs}
 
 -- 27 bits each, in each block
@@ -72,13 +72,13 @@ blocks-more (suc n) ws =
     ∙ ap (λ k. blocks_in n (drop block_slots ws) ++ map payload_of (take block_slots k) ∷ [])
     (drop-drop (block_slots * n) block_slots ws ∙ ap (λ k. drop k ws) (let e : block_slots + block_slots * n ≡ block_slots * suc n = omega arith in e)))
 
-pub each27-whole : (b : List ℕ) → EachBlock27 (whole_blocks b)
-unfolding whole_blocks
+pub each27-whole : (b : List ℕ) → EachBlock27 (file_blocks b)
+unfolding file_blocks
 each27-whole b = each27-blocks (length (lawful_words b) / block_slots) (lawful_words b)
 
-pub whole_blocks-nil : whole_blocks [] ≡ []
-unfolding whole_blocks lawful_words block_slots
-whole_blocks-nil = refl
+pub file_blocks-nil : file_blocks [] ≡ []
+unfolding file_blocks lawful_words block_slots
+file_blocks-nil = refl
 
 pub stream-nil : (s : Level) → stream s [] ≡ []
 unfolding stream

@@ -5,7 +5,7 @@ use Rattle.std.proofs.lemmas.List.{take_all, drop-append-le, drop_all, get_or-ap
 use Rattle.aes3_block.specs.declared.file.FileFault.{FileFault}
 use Rattle.aes3_block.specs.declared.file.FileFault.TheVariants.{BadLength, BadCode, BadParity}
 use Rattle.aes3_block.specs.Blocks.{block_slots}
-use Rattle.aes3_block.specs.Files.{bytes_number, words_of, has_code, has_parity, lawful_words, payload_of, blocks_in, whole_blocks}
+use Rattle.aes3_block.specs.Files.{bytes_number, words_of, has_code, has_parity, lawful_words, payload_of, blocks_in, file_blocks}
 use Rattle.aes3_block.specs.Readers.{FileReader, reader_of, word_fault, ends_word, byte_fault, block_with, reader_with, end_answer}
 use Rattle.aes3_block.proofs.BlockLemmas.{block_slots_384}
 use Rattle.aes3_block.proofs.Reading.{fault-lawful, fault-unlawful, reader-is}
@@ -141,8 +141,8 @@ lawful-next b x l e = elim (cases_lt (length b % 4) 3) [
 ]
 
 -- the blocks of lawful words
-blocks-lawful : (b : List ℕ) → all_lawful (words_of b) ≡ true → whole_blocks b ≡ blocks_in (length (words_of b) / block_slots) (words_of b)
-unfolding whole_blocks
+blocks-lawful : (b : List ℕ) → all_lawful (words_of b) ≡ true → file_blocks b ≡ blocks_in (length (words_of b) / block_slots) (words_of b)
+unfolding file_blocks
 blocks-lawful b l = ap (λ ws. blocks_in (length ws / block_slots) ws) (lawful-words b l)
 
 -- the blocks that one more byte adds
@@ -151,7 +151,7 @@ added_blocks None = []
 added_blocks (Some b) = b ∷ []
 
 pub blocks-next : (b : List ℕ) (x : ℕ) → all_lawful (words_of b) ≡ true → byte_fault (reader_of b) x ≡ None
-    → whole_blocks (b ++ x ∷ []) ≡ whole_blocks b ++ added_blocks (block_with (reader_of b) x)
+    → file_blocks (b ++ x ∷ []) ≡ file_blocks b ++ added_blocks (block_with (reader_of b) x)
 blocks-next b x l e = blocks-lawful (b ++ x ∷ []) (lawful-next b x l e) ∙ go (cases_lt (length b % 4) 3) ∙ ap (λ z. z ++ added_blocks (block_with (reader_of b) x)) (sym (blocks-lawful b l))
   where
     ws : List ℕ
@@ -191,8 +191,8 @@ blocks-next b x l e = blocks-lawful (b ++ x ∷ []) (lawful-next b x l e) ∙ go
 
 -- behind a byte that is a fault nothing counts
 pub blocks-stay : (b : List ℕ) (x : ℕ) (more : List ℕ) (f : FileFault) → all_lawful (words_of b) ≡ true → byte_fault (reader_of b) x ≡ Some f
-    → whole_blocks (b ++ x ∷ more) ≡ whole_blocks b
-unfolding whole_blocks
+    → file_blocks (b ++ x ∷ more) ≡ file_blocks b
+unfolding file_blocks
 blocks-stay b x more f l e = ap (λ ws. blocks_in (length ws / block_slots) ws) (elim (cases_lt (length b % 4) 3) [
   | inl h ↦ absurd (let s = short b x h in none-some f (sym s.0 ∙ e))
   | inr h ↦ let t : length b % 4 ≡ 3 = omega arith in lawful-stays b x more t l (fault-unlawful (length b / 4) (last_word b x) f (sym (whole-fault b x t) ∙ e))

@@ -58,8 +58,8 @@ blocks_in zero words = []
 blocks_in (suc n) words = map payload_of (take block_slots words) ∷ blocks_in n (drop block_slots words)
 
 -- the blocks that stand whole in bytes before the first word that is not lawful
-unfoldable pub whole_blocks : List ℕ → List (List (List Bool))
-whole_blocks bytes = blocks_in (length (lawful_words bytes) / block_slots) (lawful_words bytes)
+unfoldable pub file_blocks : List ℕ → List (List (List Bool))
+file_blocks bytes = blocks_in (length (lawful_words bytes) / block_slots) (lawful_words bytes)
 
 -- bytes that are a block file: whole blocks of lawful words
 pub record IsBlockFile (bytes : List ℕ) : Type 0 where

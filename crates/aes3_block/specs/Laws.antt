@@ -5,7 +5,7 @@ use Rattle.aes3_cell.specs.declared.level.Level.{Level}
 use Rattle.aes3_block.specs.declared.status.Channel.{Channel}
 use Rattle.aes3_block.specs.declared.status.Channel.TheVariants.{First, Second}
 use Rattle.aes3_block.specs.Blocks.{IsBlock, block_len, block_cells, stream}
-use Rattle.aes3_block.specs.Files.{file, whole_blocks, IsBlockFile}
+use Rattle.aes3_block.specs.Files.{file, file_blocks, IsBlockFile}
 use Rattle.aes3_block.specs.Readers.{reader_of, end_answer}
 use Rattle.aes3_block.specs.Feeding.{blocks_fed, reader_fed}
 use Rattle.aes3_block.specs.Statuses.{of_channel, status_bit, status_place, status_len, status_of, with_status}
@@ -37,7 +37,7 @@ StreamTellsTheBlocks =
 
 -- the file of blocks is a block file that is read back as these blocks
 abbrev pub FilesReadBack : Type 0
-FilesReadBack = (bs : List (List (List Bool))) → All IsBlock bs → IsBlockFile (file bs) × (whole_blocks (file bs) ≡ bs)
+FilesReadBack = (bs : List (List (List Bool))) → All IsBlock bs → IsBlockFile (file bs) × (file_blocks (file bs) ≡ bs)
 
 -- one byte of a file or of a status
 abbrev pub IsByte : ℕ → Type 0
@@ -46,11 +46,11 @@ IsByte byte = byte < 256
 -- each block file is the file of the blocks that are read from it
 abbrev pub FilesAreOfBlocks : Type 0
 FilesAreOfBlocks =
-    (bytes : List ℕ) → All IsByte bytes → IsBlockFile bytes → All IsBlock (whole_blocks bytes) × (file (whole_blocks bytes) ≡ bytes)
+    (bytes : List ℕ) → All IsByte bytes → IsBlockFile bytes → All IsBlock (file_blocks bytes) × (file (file_blocks bytes) ≡ bytes)
 
 -- a new reader answers the whole blocks of the bytes that it is fed
 abbrev pub ReaderAnswersBlocks : Type 0
-ReaderAnswersBlocks = (bytes : List ℕ) → blocks_fed (reader_of []) bytes ≡ whole_blocks bytes
+ReaderAnswersBlocks = (bytes : List ℕ) → blocks_fed (reader_of []) bytes ≡ file_blocks bytes
 
 -- it lets a block file end, and nothing else
 abbrev pub IsAccepted : List ℕ → Type 0

@@ -1,4 +1,5 @@
 //! Blocks.
+use aes3_slot::SUBFRAME_CELLS;
 use std::marker::Model;
 
 /// How many frames a block has.
@@ -6,6 +7,9 @@ pub const FRAMES: usize = 192;
 
 /// How many subframes a block has.
 pub const SLOTS: usize = 384;
+
+/// How many cells a block has.
+pub const BLOCK_CELLS: u64 = SUBFRAME_CELLS * SLOTS as u64;
 
 /// A block: 192 frames that begin with preamble Z (AES3-3, IEC 60958-1).
 ///

@@ -13,8 +13,8 @@ use crate::word::slots_of_word;
 use aes3_cell::{Fault, Form, Level, Sink, put_words};
 use aes3_slot::{Mark, slots_cells};
 
-/// The preamble of a block's subframe.
-pub(crate) fn mark_of(slot: usize) -> Mark
+/// The preamble of a block's subframe, given its number from 0 on (AES3-3; IEC 60958-1).
+pub fn mark_of(slot: u64) -> Mark
     ensures { result ≡ mark_at slot }
 {
     if slot == 0 {
@@ -32,7 +32,7 @@ pub fn fill_block_cells(before: Level, block: &Block, cells: &mut [u64; SLOTS])
 {
     let words = block.words();
     for (slot, word) in words.iter().enumerate() {
-        cells[slot] = slots_cells(before, mark_of(slot), slots_of_word(*word));
+        cells[slot] = slots_cells(before, mark_of(slot as u64), slots_of_word(*word));
     }
 }
 

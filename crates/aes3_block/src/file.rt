@@ -1,5 +1,6 @@
 //! Block files as they are read.
 use crate::block::{Block, SLOTS};
+use crate::file_out::BLOCK_BYTES;
 use crate::word::{has_right_code, has_right_parity};
 use aes3_cell::RunError;
 use arrayvec::ArrayVec;
@@ -183,7 +184,7 @@ impl BlockFile {
     pub fn end(&self) -> Result<(), FileFault>
         ensures { result ≡ end_answer self.now }
     {
-        let left = self.seen % BLOCK_LEN;
+        let left = self.seen % BLOCK_BYTES as u64;
         match self.fault {
             Some(fault) => Err(fault),
             None if left > 0 => Err(FileFault::BadLength { left }),
@@ -191,6 +192,3 @@ impl BlockFile {
         }
     }
 }
-
-/// How many bytes a block has in a block file.
-const BLOCK_LEN: u64 = 1536;

@@ -17,8 +17,8 @@ mod subframe;
 mod tests;
 mod word;
 
-pub use block::Block;
-pub use cells::{fill_block_cells, put_block, put_block_cells};
+pub use block::{BLOCK_CELLS, Block, SLOTS};
+pub use cells::{fill_block_cells, mark_of, put_block, put_block_cells};
 pub use file::{BlockFile, FileFault};
 pub use file_out::{BLOCK_BYTES, put_block_file};
 pub use frame::Frame;

@@ -55,7 +55,7 @@ fn fill_read_cells(before: Level, words: &[u64; SLOTS], cells: &mut [u64; SLOTS]
     ensures { flat_map word_cells cells.new ≡ block_cells before (map (take payload_len) (read_words words.now)) }
 {
     for (slot, word) in words.iter().enumerate() {
-        cells[slot] = renewed(before, mark_of(slot), *word);
+        cells[slot] = renewed(before, mark_of(slot as u64), *word);
     }
 }
 

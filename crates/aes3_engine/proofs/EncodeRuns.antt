@@ -12,12 +12,12 @@ use Rattle.aes3_cell.proofs.WrittenForms.{bytes-nothing, written-whole}
 use Rattle.aes3_block.specs.declared.file.FileFault.{FileFault}
 use Rattle.aes3_block.specs.declared.file.FileFault.TheVariants as fault
 use Rattle.aes3_block.specs.Blocks.{block_slots, block_len, stream}
-use Rattle.aes3_block.specs.Files.{words_of, has_code, has_parity, whole_blocks, file, IsBlockFile}
+use Rattle.aes3_block.specs.Files.{words_of, has_code, has_parity, file_blocks, file, IsBlockFile}
 use Rattle.aes3_block.specs.Readers.{FileReader, reader_of, byte_fault, block_with}
 use Rattle.aes3_block.specs.Refusals.{refusal_of}
 use Rattle.aes3_block.proofs.Words.{all_lawful, lawful-words}
 use Rattle.aes3_block.proofs.WholeBlocks.{lawful-next, blocks-next, blocks-stay, added_blocks, fault-place, code-fault, parity-fault, length-fault, end-none, end-whole_file, reader-new}
-use Rattle.aes3_block.proofs.Streams.{each27-whole, stream-bytes, stream-nil, whole_blocks-nil, length-stream, slot_count}
+use Rattle.aes3_block.proofs.Streams.{each27-whole, stream-bytes, stream-nil, file_blocks-nil, length-stream, slot_count}
 use Rattle.aes3_engine.specs.Converting.{or_else, fault_behind, first_fault, out, whole}
 use Rattle.aes3_engine.specs.Running.{Ran, Run, Change, Clean, CleanEnd}
 use Rattle.aes3_engine.specs.Encoding.{WholeFile, encoded, encoding, refused_by, refused_at_end, block_written, Encodes, AllLawful, BadCodeAt, BadParityAt, IsCauseOf, encode_counts}
@@ -55,7 +55,7 @@ unfolding encoding encoded
 out-encoded form = out-is (encoding form) (encoded form) nothing more stays
   where
     nothing : encoded form [] ≡ []
-    nothing = ap (λ v. bytes_of form (stream Low v)) whole_blocks-nil ∙ ap (bytes_of form) (stream-nil Low) ∙ bytes-nothing form
+    nothing = ap (λ v. bytes_of form (stream Low v)) file_blocks-nil ∙ ap (bytes_of form) (stream-nil Low) ∙ bytes-nothing form
 
     more : (b : List ℕ) (x : ℕ) → first_fault (encoding form) b ≡ None → (encoding form).fault b x ≡ None → encoded form (b ++ x ∷ []) ≡ encoded form b ++ (encoding form).adds b x
     more b x c e =
@@ -63,20 +63,20 @@ out-encoded form = out-is (encoding form) (encoded form) nothing more stays
         let n = blocks-next b x l (refused-none (byte_fault (reader_of b) x) e) in
         ap (λ v. bytes_of form (stream Low v)) n ∙ added (block_with (reader_of b) x)
       where
-        added : (o : Option (List (List Bool))) → bytes_of form (stream Low (whole_blocks b ++ added_blocks o)) ≡ bytes_of form (stream Low (whole_blocks b)) ++ block_written form o
-        added None = ap (λ v. bytes_of form (stream Low v)) (append-nil (whole_blocks b)) ∙ sym (append-nil (bytes_of form (stream Low (whole_blocks b))))
-        added (Some block) = stream-bytes form Low (whole_blocks b) block (each27-whole b)
+        added : (o : Option (List (List Bool))) → bytes_of form (stream Low (file_blocks b ++ added_blocks o)) ≡ bytes_of form (stream Low (file_blocks b)) ++ block_written form o
+        added None = ap (λ v. bytes_of form (stream Low v)) (append-nil (file_blocks b)) ∙ sym (append-nil (bytes_of form (stream Low (file_blocks b))))
+        added (Some block) = stream-bytes form Low (file_blocks b) block (each27-whole b)
 
     stays : (b : List ℕ) (x : ℕ) (d : List ℕ) (e : RunError) → first_fault (encoding form) b ≡ None → (encoding form).fault b x ≡ Some e → encoded form (b ++ x ∷ d) ≡ encoded form b
     stays b x d e c q =
         let r = refused-some (byte_fault (reader_of b) x) e q in
         ap (λ v. bytes_of form (stream Low v)) (blocks-stay b x d r.0 (all-lawful (clean-lawful form b c)) r.1)
 
-pub whole-encoded : (form : Form) (b : List ℕ) → whole (encoding form) b ≡ written form (stream Low (whole_blocks b))
+pub whole-encoded : (form : Form) (b : List ℕ) → whole (encoding form) b ≡ written form (stream Low (file_blocks b))
 unfolding whole encoding encoded stream
 whole-encoded form b =
     ap (λ o. o ++ ending form) (out-encoded form b)
-    ∙ written-whole form (slot_count (whole_blocks b)) (stream Low (whole_blocks b)) (length-stream Low (whole_blocks b) (each27-whole b))
+    ∙ written-whole form (slot_count (file_blocks b)) (stream Low (file_blocks b)) (length-stream Low (file_blocks b) (each27-whole b))
 
 -- the first fault of an input is its first word that is not lawful
 cause-behind : (form : Form) (p d : List ℕ) (e : RunError) → all_lawful (words_of p) ≡ true → fault_behind (encoding form) p d ≡ Some e
@@ -260,18 +260,18 @@ clean-file form b c e = record { whole = whole; lawful = (clean-lawful form b c)
     whole = elim (end-cases form b) [ inl q ↦ q.1 | inr q ↦ absurd (some-none (sym q.0 ∙ e)) ]
 
 -- the counts of a run
-pub counted : (b : List ℕ) (n blocks : ℕ) → n ≡ length b → blocks ≡ length (whole_blocks b)
+pub counted : (b : List ℕ) (n blocks : ℕ) → n ≡ length b → blocks ≡ length (file_blocks b)
     → ◌≡◌ {A = Counts} (record { bytes = n; cells = 24576 * blocks; blocks = blocks; faults = 0; unfinished = 0; marks = 0 }) (encode_counts b)
 unfolding encode_counts block_len block_slots
 counted b n blocks e f = rw (e, f) refl
 
 pub starts : (file : FileReader) → file.seen ≡ 0 → file.words ≡ [] → file.bytes ≡ [] → file.fault ≡ None → Encodes file 0 []
-starts file a b c d = record { reader = reader-new file a b c d; lawful = record { is = lawful-words [] refl }; count = sym (ap length whole_blocks-nil) }
+starts file a b c d = record { reader = reader-new file a b c d; lawful = record { is = lawful-words [] refl }; count = sym (ap length file_blocks-nil) }
 
 -- a run stopped by the sink
 pub front-encoded : (form : Form) (max : ℕ) (b : List ℕ) (ended : Bool) (t t' : Option (List ℕ))
     → GrewFront t t' (out (encoding form) (take max b)) ⊎ (CleanEnd max (encoding form) b ended × ((encoding form).end_fault b ≡ None) × GrewFront t t' (whole (encoding form) b))
-    → GrewFront t t' (encoded form (take max b)) ⊎ (WholeFile max b ended × GrewFront t t' (written form (stream Low (whole_blocks b))))
+    → GrewFront t t' (encoded form (take max b)) ⊎ (WholeFile max b ended × GrewFront t t' (written form (stream Low (file_blocks b))))
 front-encoded form max b ended t t' h = elim h [
   | inl g ↦ inl (front-is (out-encoded form (take max b)) g)
   | inr g ↦ inr (record { lawful = clean-file form b g.0.clean.clean g.1; short = g.0.clean.short; end = g.0.end }, front-is (whole-encoded form b) g.2)

@@ -9,7 +9,7 @@ use Rattle.aes3_cell.proofs.Growing.{grew-none, grew-is, front-is}
 use Rattle.aes3_block.specs.declared.file.FileFault.{FileFault}
 use Rattle.aes3_block.specs.declared.file.FileFault.TheVariants as fault
 use Rattle.aes3_block.specs.Blocks.{block_slots, block_cells}
-use Rattle.aes3_block.specs.Files.{words_of, lawful_words, whole_blocks, blocks_in}
+use Rattle.aes3_block.specs.Files.{words_of, lawful_words, file_blocks, blocks_in}
 use Rattle.aes3_block.specs.Readers.{FileReader, reader_of, byte_fault, block_with, TakesQuietly, answer_with, next_with, end_answer}
 use Rattle.aes3_block.specs.Refusals.{refusal_of}
 use Rattle.aes3_block.proofs.Reading.{answered, answered-err}
@@ -55,11 +55,11 @@ next-encodes : {file : FileReader} {blocks : ℕ} (new : FileReader) (b : List �
 next-encodes {file} {blocks} new b x block h a n =
     let q = answered-of file b x block h.reader a in
     let l = all-lawful h.lawful in
-    let g = blocks-next b x l q.0 ∙ ap (λ o. whole_blocks b ++ added_blocks o) q.1 in
+    let g = blocks-next b x l q.0 ∙ ap (λ o. file_blocks b ++ added_blocks o) q.1 in
     record {
       reader = n ∙ q.2;
       lawful = record { is = lawful-words (b ++ x ∷ []) (lawful-next b x l q.0) };
-      count = ap (λ k. k + length (added_blocks block)) h.count ∙ sym (length-append (whole_blocks b) (added_blocks block)) ∙ ap length (sym g);
+      count = ap (λ k. k + length (added_blocks block)) h.count ∙ sym (length-append (file_blocks b) (added_blocks block)) ∙ ap length (sym g);
     }
 
 fed-byte : (form : Form) {file : FileReader} {blocks : ℕ} (new : FileReader) (x : ℕ) (block : Option (List (List Bool))) (t t' : Option (List ℕ))
@@ -98,7 +98,7 @@ byte-front form {file} x block t t' a g b h =
 -- a byte that is refused
 -- how many whole blocks were written
 abbrev pub Blocks : ℕ → List ℕ → Type 0
-Blocks blocks = λ b. blocks ≡ length (whole_blocks b)
+Blocks blocks = λ b. blocks ≡ length (file_blocks b)
 
 stopped-byte : (form : Form) {file : FileReader} {blocks : ℕ} (x : ℕ) (f : FileFault) (t : Option (List ℕ)) → Err f ≡ answer_with file x
     → Stopped (encoding form) (Encodes file blocks) (Blocks blocks) t t (x ∷ []) (refusal_of f)
@@ -156,6 +156,6 @@ length-blocks : (n : ℕ) (ws : List ℕ) → length (blocks_in n ws) ≡ n
 length-blocks zero ws = refl
 length-blocks (suc n) ws = ap suc (length-blocks n (drop block_slots ws))
 
-pub few-blocks : (b : List ℕ) → AllLawful b → length (whole_blocks b) ≤ length b / 4 / 384
-unfolding whole_blocks block_slots
+pub few-blocks : (b : List ℕ) → AllLawful b → length (file_blocks b) ≤ length b / 4 / 384
+unfolding file_blocks block_slots
 few-blocks b h = let n = length-blocks (length (lawful_words b) / 384) (lawful_words b) in let m = ap length h.is in let k = length-words b in omega arith

@@ -5,12 +5,12 @@ use Rattle.aes3_cell.specs.declared.form.Form.{Form}
 use Rattle.aes3_cell.specs.declared.level.Level.TheVariants.{Low}
 use Rattle.aes3_block.specs.declared.status.Channel.{Channel}
 use Rattle.aes3_block.specs.Blocks.{IsBlock}
-use Rattle.aes3_block.specs.Files.{word_bytes, whole_blocks}
+use Rattle.aes3_block.specs.Files.{word_bytes, file_blocks}
 use Rattle.aes3_block.specs.Samples.{sample_of, block_samples, samples}
 use Rattle.aes3_block.specs.Sampled.{IsSample, sampled, filled}
 use Rattle.aes3_block.specs.Statuses.{with_status}
 use Rattle.aes3_block.proofs.Each.{all-nil, all-cons}
-use Rattle.aes3_block.proofs.FileLaws.{whole_blocks-file}
+use Rattle.aes3_block.proofs.FileLaws.{file_blocks-file}
 use Rattle.aes3_block.proofs.SampleBlocks.{sampled-lawful, samples-filled, samples-status, words-back}
 use Rattle.aes3_block.proofs.StatusLaws.{status-only}
 use Rattle.aes3_lock.specs.Reports.{blocks}
@@ -50,5 +50,5 @@ unfolding sample_file
 samples-back form change ws h =
     let bs = rewritten_blocks change (sampled (filled ws)) in
     let k = rewritten-lawful change (sampled (filled ws)) (sampled-lawful (filled ws)) in
-    ap (λ v. pcm_of_line form (written_stream form v)) (ap (λ v. whole_blocks (sample_file change (filled v))) (words-back ws h) ∙ whole_blocks-file bs k)
+    ap (λ v. pcm_of_line form (written_stream form v)) (ap (λ v. file_blocks (sample_file change (filled v))) (words-back ws h) ∙ file_blocks-file bs k)
     ∙ line-samples form bs k ∙ samples-same change (sampled (filled ws)) ∙ samples-filled ws h

@@ -6,7 +6,7 @@ use Rattle.aes3_cell.specs.declared.refusal.RunError.TheVariants.{BadCell, BadLe
 use Rattle.aes3_cell.specs.declared.counts.Counts.{Counts}
 use Rattle.aes3_block.specs.declared.file.FileFault.{FileFault}
 use Rattle.aes3_block.specs.Blocks.{block_slots, block_len, block_cells, stream}
-use Rattle.aes3_block.specs.Files.{words_of, lawful_words, has_code, has_parity, whole_blocks, IsBlockFile}
+use Rattle.aes3_block.specs.Files.{words_of, lawful_words, has_code, has_parity, file_blocks, IsBlockFile}
 use Rattle.aes3_block.specs.Readers.{FileReader, reader_of, byte_fault, block_with, end_answer}
 use Rattle.aes3_block.specs.Refusals.{refusal_of}
 use Rattle.aes3_engine.specs.Converting.{Reading}
@@ -15,7 +15,7 @@ use Rattle.aes3_cell.specs.Written.{bytes_of, ending}
 
 -- the cells of the blocks that stand whole in a block file before its first fault, in the normal polarity, in the output's form: without an ending
 unfoldable pub encoded : Form → List ℕ → List ℕ
-encoded form b = bytes_of form (stream Low (whole_blocks b))
+encoded form b = bytes_of form (stream Low (file_blocks b))
 
 -- the same byte by byte
 abbrev pub refused_by : Option FileFault → Option RunError
@@ -84,8 +84,8 @@ IsCauseOf max b ended (BadSample at) = ⊥
 unfoldable pub encode_counts : List ℕ → Counts
 encode_counts b = record {
   bytes = length b;
-  cells = block_len * length (whole_blocks b);
-  blocks = length (whole_blocks b);
+  cells = block_len * length (file_blocks b);
+  blocks = length (file_blocks b);
   faults = 0;
   unfinished = 0;
   marks = 0;
@@ -95,4 +95,4 @@ encode_counts b = record {
 pub record Encodes (file : FileReader) (blocks : ℕ) (b : List ℕ) : Type 0 where
   pub reader : file ≡ reader_of b
   pub lawful : AllLawful b
-  pub count : blocks ≡ length (whole_blocks b)
+  pub count : blocks ≡ length (file_blocks b)

@@ -2,7 +2,7 @@
 use Rattle.std.specs.Prelude.{ℕ, List, ◌≡◌}
 use Rattle.std.specs.List.{flat_map, All}
 use Rattle.aes3_cell.specs.declared.form.Form.{Form}
-use Rattle.aes3_block.specs.Files.{word_bytes, whole_blocks}
+use Rattle.aes3_block.specs.Files.{word_bytes, file_blocks}
 use Rattle.aes3_block.specs.Samples.{samples}
 use Rattle.aes3_block.specs.Sampled.{IsSample, filled}
 use Rattle.aes3_lock.specs.Reports.{blocks}
@@ -13,7 +13,7 @@ use Rattle.aes3_engine.specs.Sampling.{pcm_file}
 
 -- the line that `encode` writes of what `from_pcm` writes of bytes, and the samples that `to_pcm` writes of a line
 abbrev pub line_of_pcm : Form → Change → List ℕ → List ℕ
-line_of_pcm form change b = written_stream form (whole_blocks (pcm_file change b))
+line_of_pcm form change b = written_stream form (file_blocks (pcm_file change b))
 
 abbrev pub pcm_of_line : Form → List ℕ → List ℕ
 pcm_of_line form b = samples (blocks (cells_of form b))

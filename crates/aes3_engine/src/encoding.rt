@@ -6,18 +6,15 @@ ghost use Rattle.aes3_cell.specs.Ends.{Grew, GrewFront, Told};
 ghost use Rattle.aes3_cell.specs.Written.{written};
 ghost use Rattle.aes3_cell.specs.declared.level.Level.{Level};
 ghost use Rattle.aes3_block.specs.Blocks.{IsBlock, stream};
-ghost use Rattle.aes3_block.specs.Files.{file, IsBlockFile, whole_blocks};
+ghost use Rattle.aes3_block.specs.Files.{file, IsBlockFile, file_blocks};
 ghost use Rattle.aes3_block.specs.Readers.{TakesQuietly};
 ghost use Rattle.aes3_lock.specs.Reports.{blocks, normal};
 ghost use Rattle.aes3_engine.specs.Encoding.{Encodes, IsCauseOf, WholeFile, encode_counts, encoded, encoding};
 ghost use Rattle.aes3_engine.specs.Running.{PieceRan};
 
 use crate::conversion::{Input, convert};
-use aes3_block::{BlockFile, put_block};
+use aes3_block::{BLOCK_CELLS, BlockFile, put_block};
 use aes3_cell::{Counts, Form, Level, RunError, Sink, Source, put_ending};
-
-/// How many cells a block has.
-const BLOCK_CELLS: u64 = 24_576;
 
 /// Writes the cells of each block in a form, and counts the blocks.
 #[derive(Drop)]
@@ -35,7 +32,7 @@ fn take_byte<T: Sink>(
 ) -> Result<(), RunError>
     requires room { T.failed sink.old + 1 < 2 ^ 64 }
     requires following { (b : List ℕ) × (length b < 2 ^ 40) × Encodes file.old encoder.old.blocks b }
-    ensures { PieceRan (encoding encoder.old.output) (encoding encoder.new.output) (Encodes file.old encoder.old.blocks) (Encodes file.new encoder.new.blocks) (λ b. encoder.new.blocks ≡ length (whole_blocks b)) (byte ∷ [])
+    ensures { PieceRan (encoding encoder.old.output) (encoding encoder.new.output) (Encodes file.old encoder.old.blocks) (Encodes file.new encoder.new.blocks) (λ b. encoder.new.blocks ≡ length (file_blocks b)) (byte ∷ [])
         (record { old = T.taken sink.old; new = T.taken sink.new; failed_old = T.failed sink.old; failed_new = T.failed sink.new }) result }
 {
     match file.feed_byte(byte) {
@@ -71,7 +68,7 @@ impl Input<Encoder> for BlockFile {
 
     ghost finished = { λ file encoder. Encodes file encoder.blocks };
 
-    ghost stopped = { λ _ encoder b. encoder.blocks ≡ length (whole_blocks b) };
+    ghost stopped = { λ _ encoder b. encoder.blocks ≡ length (file_blocks b) };
 
     /// Takes a word's four bytes where they neither are a fault nor end a block, else one byte.
     fn take_front<T: Sink>(
@@ -121,7 +118,7 @@ pub fn encode<S: Source, T: Sink>(
     ensures cells { IfOk result (λ _. (blocks : List (List (List Bool))) → All IsBlock blocks → Told (S.given source.old) (S.given source.new) (file blocks)
         → Grew (T.taken sink.old) (T.taken sink.new) (written output (stream Level.Low blocks))) }
     ensures whole { IfOk result (λ _. (b : List ℕ) → Told (S.given source.old) (S.given source.new) b
-        → Grew (T.taken sink.old) (T.taken sink.new) (written output (stream Level.Low (whole_blocks b)))) }
+        → Grew (T.taken sink.old) (T.taken sink.new) (written output (stream Level.Low (file_blocks b)))) }
     // What `decode` writes of cells gives what `normalise` writes of them.
     ensures decoded { IfOk result (λ _. (c : List Level) → Told (S.given source.old) (S.given source.new) (file (blocks c))
         → Grew (T.taken sink.old) (T.taken sink.new) (written output (normal c))) }
@@ -146,7 +143,7 @@ pub fn encode<S: Source, T: Sink>(
         → Grew (T.taken sink.old) (T.taken sink.new) (encoded output (take max_bytes b))) }
     ensures front { result ≡ Err RunError.Write → (b : List ℕ) → Told (S.given source.old) (S.given source.new) b
         → GrewFront (T.taken sink.old) (T.taken sink.new) (encoded output (take max_bytes b))
-        ⊎ (WholeFile max_bytes b (S.has_ended source.new) × GrewFront (T.taken sink.old) (T.taken sink.new) (written output (stream Level.Low (whole_blocks b)))) }
+        ⊎ (WholeFile max_bytes b (S.has_ended source.new) × GrewFront (T.taken sink.old) (T.taken sink.new) (written output (stream Level.Low (file_blocks b)))) }
     ensures few { (b : List ℕ) → Told (S.given source.old) (S.given source.new) b → length b ≤ max_bytes + 1 }
 {
     let mut file = BlockFile::new();

@@ -7,7 +7,7 @@ use Rattle.aes3_cell.specs.declared.refusal.RunError.TheVariants as refusal
 use Rattle.aes3_cell.specs.Ends.{Grew, GrewFront, Told}
 use Rattle.aes3_cell.specs.Written.{written}
 use Rattle.aes3_block.specs.Blocks.{stream}
-use Rattle.aes3_block.specs.Files.{file, whole_blocks, IsBlockFile}
+use Rattle.aes3_block.specs.Files.{file, file_blocks, IsBlockFile}
 use Rattle.aes3_block.specs.Samples.{samples}
 use Rattle.aes3_lock.specs.Preambles.{marks}
 use Rattle.aes3_lock.specs.Reports.{blocks, decided, normal, reports}
@@ -47,7 +47,7 @@ IsInputOf (FromPcm exact change) b = IsPcm exact b
 
 -- what it writes of a whole input
 abbrev pub output_of : Job → List ℕ → List ℕ
-output_of (Encode o) b = written o (stream Low (whole_blocks b))
+output_of (Encode o) b = written o (stream Low (file_blocks b))
 output_of (Decode i) b = file (blocks (cells_of i b))
 output_of (Normal i o) b = written o (normal (cells_of i b))
 output_of (Check i lines) b = report_lines lines (reports (cells_of i b))

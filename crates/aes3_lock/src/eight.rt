@@ -7,9 +7,8 @@ ghost use Rattle.aes3_slot.specs.Rules.{at};
 ghost use Rattle.aes3_block.specs.Blocks.{mark_at};
 ghost use Rattle.aes3_lock.specs.Eights.{begun_before, with_first};
 
-use crate::outcome::SLOTS;
-use crate::rule::mark_of;
 use crate::subframe::{completed, rest_of};
+use aes3_block::{SLOTS, mark_of};
 use aes3_cell::Level;
 use aes3_slot::{Mark, wrong_cells};
 

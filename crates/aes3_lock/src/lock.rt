@@ -1,16 +1,17 @@
 //! The lock.
 use crate::candidate::Candidate;
 use crate::eight::{are_subframes, eight_completed, keep_eight};
-use crate::outcome::{SLOTS, ending_at, left_report, no_words, report_with};
+use crate::outcome::{ending_at, left_report, no_words, report_with};
 use crate::parts::LockParts;
 use crate::recent::{PREAMBLE_CELLS, candidate_in, last_cell, with_cell};
 use crate::report::{Ending, Pushed, Report};
-use crate::rule::{BLOCK_CELLS, SUBFRAME_CELLS, mark_of, may_stand};
+use crate::rule::may_stand;
 use crate::subframe::{
     completed, first_cell, first_of, last_behind, last_octet, last_of, rest_of, with_next,
 };
+use aes3_block::{BLOCK_CELLS, SLOTS, mark_of};
 use aes3_cell::Level;
-use aes3_slot::{begins_subframe, block_preambles, wrong_cells};
+use aes3_slot::{SUBFRAME_CELLS, begins_subframe, block_preambles, wrong_cells};
 use arrayvec::ArrayVec;
 use std::marker::Model;
 

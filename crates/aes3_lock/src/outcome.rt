@@ -10,12 +10,10 @@ ghost use Rattle.aes3_lock.specs.Steps.{ended, left};
 use crate::candidate::Candidate;
 use crate::recent::PREAMBLE_CELLS;
 use crate::report::{Ending, Report, Why};
-use crate::rule::{BLOCK_CELLS, SUBFRAME_CELLS, turns};
-use aes3_block::{Block, wrong_parities};
+use crate::rule::turns;
+use aes3_block::{BLOCK_CELLS, Block, SLOTS, wrong_parities};
 use aes3_cell::Level;
-
-/// How many subframes a block has.
-pub(crate) const SLOTS: usize = 384;
+use aes3_slot::SUBFRAME_CELLS;
 
 /// Words all of whose cells are low.
 pub(crate) fn no_words() -> [u64; SLOTS]

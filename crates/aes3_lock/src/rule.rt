@@ -6,42 +6,19 @@ ghost use Rattle.aes3_slot.specs.Reading.{differs};
 ghost use Rattle.aes3_block.specs.Blocks.{mark_at};
 
 use crate::recent::PREAMBLE_CELLS;
+use aes3_block::mark_of;
 use aes3_cell::Level;
-use aes3_slot::Mark;
-
-/// How many cells a subframe has.
-pub(crate) const SUBFRAME_CELLS: u64 = 64;
-
-/// How many cells a block has.
-pub(crate) const BLOCK_CELLS: u64 = 24_576;
-
-/// The preamble of a block's subframe.
-pub(crate) fn mark_of(slot: u64) -> Mark
-    ensures { result ≡ mark_at slot }
-{
-    if slot == 0 {
-        Mark::Z
-    } else if slot % 2 == 1 {
-        Mark::Y
-    } else {
-        Mark::X
-    }
-}
+use aes3_slot::{Mark, SUBFRAME_CELLS, mark_cells};
 
 /// Cell `k` of a preamble after the level `before`.
 fn preamble_cell(mark: Mark, k: u64, before: Level) -> Level
     requires { k < 8 }
     ensures { result ≡ shape mark k before }
 {
-    let turned: u8 = match mark {
-        Mark::X => 0x47,
-        Mark::Y => 0x27,
-        Mark::Z => 0x17,
-    };
-    if (turned >> k) & 1 == 1 {
-        before.flip()
+    if (mark_cells(before, mark) >> k) % 2 == 1 {
+        Level::High
     } else {
-        before
+        Level::Low
     }
 }
 

@@ -7,12 +7,14 @@ ghost use Rattle.aes3_lock.specs.Reports.{outcome_at, reports, told};
 ghost use Rattle.aes3_lock.specs.Following.{Filled};
 
 use crate::candidate::Candidate;
-use crate::outcome::{SLOTS, ending_at, left_report, no_words, report_with};
+use crate::outcome::{ending_at, left_report, no_words, report_with};
 use crate::recent::{PREAMBLE_CELLS, candidate_in, with_cell};
 use crate::report::Report;
-use crate::rule::{BLOCK_CELLS, SUBFRAME_CELLS, may_stand};
+use crate::rule::may_stand;
 use crate::subframe::with_next;
+use aes3_block::{BLOCK_CELLS, SLOTS};
 use aes3_cell::Level;
+use aes3_slot::SUBFRAME_CELLS;
 use std::alloc::{AllocError, Global};
 
 /// The first eight cells as an octet.

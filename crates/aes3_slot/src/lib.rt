@@ -10,7 +10,7 @@ mod subframe;
 mod tests;
 
 pub use mark::Mark;
-pub use preamble::match_mark;
+pub use preamble::{mark_cells, match_mark};
 pub use reading::{Place, begins_subframe, slot_bits, take_either, take_subframe, wrong_cells};
 pub use search::{block_preambles, find_marks, preambles};
-pub use subframe::{payload_parity, slots_cells, subframe_cells};
+pub use subframe::{SUBFRAME_CELLS, payload_parity, slots_cells, subframe_cells};

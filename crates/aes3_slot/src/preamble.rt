@@ -10,8 +10,9 @@ ghost use Rattle.aes3_slot.specs.Slots.{mark_runs};
 use crate::mark::Mark;
 use aes3_cell::Level;
 
-/// A word whose lowest bits are the eight cells of the preamble after the level `before`.
-pub(crate) fn mark_cells(before: Level, mark: Mark) -> u64
+/// A word whose lowest bits are the eight cells of the preamble after the level `before`, the earliest in bit 0 (AES3-3;
+/// IEC 60958-1).
+pub fn mark_cells(before: Level, mark: Mark) -> u64
     ensures { low_cells 8 result ≡ line before (mark_runs mark) }
 {
     let after_low = match mark {

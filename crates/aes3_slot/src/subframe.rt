@@ -11,6 +11,9 @@ ghost use Rattle.aes3_slot.specs.Turns.{cells_of_turns, run_turns, word_turns};
 use crate::mark::Mark;
 use aes3_cell::Level;
 
+/// How many cells a subframe has (AES3-3; IEC 60958-1).
+pub const SUBFRAME_CELLS: u64 = 64;
+
 /// The parity bit of a payload, time slot 31: it makes the number of ones in slots 4 to 31 even.
 ///
 /// Bit `n` of a payload is time slot `4 + n`: audio in bits 0 to 23, V, U and C in 24 to 26.

@@ -6,7 +6,7 @@ use Rattle.aes3_cell.specs.declared.counts.Counts.{Counts}
 use Rattle.aes3_cell.proofs.Growing.{grew-is}
 use Rattle.aes3_block.specs.Blocks.{stream}
 use Rattle.aes3_block.specs.Files.{file}
-use Rattle.aes3_block.proofs.FileLaws.{whole_blocks-file}
+use Rattle.aes3_block.proofs.FileLaws.{file_blocks-file}
 use Rattle.aes3_lock.specs.Reports.{blocks, normal}
 use Rattle.aes3_lock.proofs.NormalStreams.{blocks-lawful}
 use Rattle.aes3_engine.proofs.Told.{ran-told, few-told, told-wrote, told-sink_quiet, told-front, told-owed}
@@ -30,12 +30,12 @@ returns-in-Ok-clause-whole g c = λ b t. grew-is (whole-encoded c.args.output b)
 
 pub returns-in-Ok-clause-cells : goal.returns-in-Ok-clause-cells
 returns-in-Ok-clause-cells g c = λ blocks h t.
-    grew-is (whole-encoded c.args.output (file blocks) ∙ ap (λ v. written c.args.output (stream Low v)) (whole_blocks-file blocks h)) (ran-told c.in-Ok.ensures.run (file blocks) t).6
+    grew-is (whole-encoded c.args.output (file blocks) ∙ ap (λ v. written c.args.output (stream Low v)) (file_blocks-file blocks h)) (ran-told c.in-Ok.ensures.run (file blocks) t).6
 
 pub returns-in-Ok-clause-decoded : goal.returns-in-Ok-clause-decoded
 unfolding normal
 returns-in-Ok-clause-decoded g c = λ d t.
-    grew-is (whole-encoded c.args.output (file (blocks d)) ∙ ap (λ v. written c.args.output (stream Low v)) (whole_blocks-file (blocks d) (blocks-lawful d))) (ran-told c.in-Ok.ensures.run (file (blocks d)) t).6
+    grew-is (whole-encoded c.args.output (file (blocks d)) ∙ ap (λ v. written c.args.output (stream Low v)) (file_blocks-file (blocks d) (blocks-lawful d))) (ran-told c.in-Ok.ensures.run (file (blocks d)) t).6
 
 pub returns-in-Ok-clause-block_file : goal.returns-in-Ok-clause-block_file
 returns-in-Ok-clause-block_file g c = λ b t. let r = ran-told c.in-Ok.ensures.run b t in clean-file c.args.output b r.0.clean.clean r.1
