@@ -85,7 +85,7 @@ const MEANINGS: [Meaning; 11] = [
 ];
 
 /// What to do about the refusal of this number.
-pub fn advice(number: u8) -> &'static str {
+pub(crate) fn advice(number: u8) -> &'static str {
     let place = usize::from(number).saturating_sub(1);
     MEANINGS.get(place).map_or("", |meaning| meaning.advice)
 }

@@ -1,7 +1,10 @@
 //! Sentences for whoever sits at a terminal.
 
 use crate::explain::advice;
-use aes3_cell::{Form, RunError};
+use crate::looks::{advice_by_looks, looks_of};
+use crate::status_text::status_of_text;
+use crate::watched::{Position, Watched};
+use aes3_cell::{Form, RunError, Source};
 use aes3_job::{Job, Observer};
 use std::io::IsTerminal;
 
@@ -15,7 +18,7 @@ pub struct Terminals {
 
 impl Terminals {
     /// As the machine says.
-    pub fn new(rt: &HostRuntime) -> Self {
+    pub(crate) fn new(rt: &HostRuntime) -> Self {
         Terminals {
             input: rt.stdin().is_terminal(),
             output: rt.stdout().is_terminal(),
@@ -29,13 +32,88 @@ impl Terminals {
 pub struct Hints<'a> {
     rt: &'a HostRuntime,
     terminals: Terminals,
+    refusal: Option<RunError>,
 }
 
 impl<'a> Hints<'a> {
     /// Hints for these streams.
-    pub fn new(rt: &'a HostRuntime, terminals: Terminals) -> Self {
-        Hints { rt, terminals }
+    pub(crate) fn new(rt: &'a HostRuntime, terminals: Terminals) -> Self {
+        Hints {
+            rt,
+            terminals,
+            refusal: None,
+        }
     }
+
+    /// Says in a sentence what was refused of these words or their input, if anything was, and what to do.
+    pub(crate) fn explain<S: Source + Drop>(&self, words: &[&str], source: &Watched<S>) {
+        if let Some(error) = self.refusal {
+            let told = advice_by_looks(error, looks_of(source.first()));
+            self.say(error, place_of(error, words, source), told);
+        }
+    }
+
+    /// Says what was refused where the words could not be read.
+    pub(crate) fn explain_unread(&self) {
+        if let Some(error) = self.refusal {
+            self.say(error, None, None);
+        }
+    }
+
+    /// Says a sentence: what was refused, where, and what to do.
+    fn say(&self, error: RunError, place: Option<Place>, told: Option<&'static str>) {
+        if !self.terminals.errors {
+            return;
+        }
+        let told = told.unwrap_or_else(|| advice(error.number()));
+        let _ = match place {
+            Some(Place::Byte(Position { line, column })) => {
+                eprintln!(self.rt; "aes3: {error} (line {line}, column {column}): {told}")
+            }
+            Some(Place::Option(name)) => eprintln!(self.rt; "aes3: {error} ({name}): {told}"),
+            None => eprintln!(self.rt; "aes3: {error}: {told}"),
+        };
+    }
+}
+
+/// Where a refusal stands, as a person looks for it.
+#[derive(Clone, Copy, PartialEq, Eq, Debug)]
+enum Place {
+    /// A byte of cell text.
+    Byte(Position),
+    /// An option of the command line.
+    Option(&'static str),
+}
+
+/// Where to look for what was refused.
+fn place_of<S: Source + Drop>(
+    error: RunError,
+    words: &[&str],
+    source: &Watched<S>,
+) -> Option<Place> {
+    match error {
+        RunError::BadCell { at } => source.position(at).map(Place::Byte),
+        RunError::BadStatusText => ["--status1", "--status2"]
+            .into_iter()
+            .find(|name| has_bad_status(words, name))
+            .map(Place::Option),
+        _ => None,
+    }
+}
+
+/// Whether the option stands among the words with a text that is no channel status.
+fn has_bad_status(words: &[&str], name: &str) -> bool {
+    words.iter().enumerate().any(|(at, word)| {
+        match word.strip_prefix(name) {
+            Some("") => words
+                .get(at + 1)
+                .is_some_and(|text| status_of_text(text).is_none()),
+            Some(rest) => rest
+                .strip_prefix("=")
+                .is_some_and(|text| status_of_text(text).is_none()),
+            None => false,
+        }
+    })
 }
 
 /// Whether the job writes packed cells.
@@ -67,9 +145,6 @@ impl Observer for Hints<'_> {
     }
 
     fn refused(&mut self, error: RunError) {
-        if self.terminals.errors {
-            let told = advice(error.number());
-            let _ = eprintln!(self.rt; "aes3: {error}: {told}");
-        }
+        self.refusal = Some(error);
     }
 }

@@ -10,10 +10,12 @@ mod hints;
 mod job;
 #[cfg(test)]
 mod job_tests;
+mod looks;
 mod run;
 mod status_text;
 #[cfg(test)]
 mod tests;
+mod watched;
 
 use aes3_cell::{Sink, StdSink, StdSource};
 use hints::{Hints, Terminals};
@@ -21,6 +23,7 @@ use run::{Unread, run_words, tell_unread};
 use std::env;
 use std::io::{BufWriter, ErrorKind};
 use std::process::ExitCode;
+use watched::Watched;
 
 /// How many bytes are written to standard output at once.
 const BUFFER_LEN: usize = 131_072;
@@ -31,7 +34,9 @@ fn main(rt: HostRuntime) -> ExitCode {
         Ok(status) => status,
         Err(fault) => {
             let mut hints = Hints::new(&rt, Terminals::new(&rt));
-            tell_unread(fault, &mut errors, &mut hints)
+            let status = tell_unread(fault, &mut errors, &mut hints);
+            hints.explain_unread();
+            status
         }
     };
     ExitCode::from(status)
@@ -47,17 +52,24 @@ fn run_program<E: Sink>(rt: &HostRuntime, errors: &mut E) -> Result<u8, Unread>
     let output = BufWriter::with_capacity(rt.alloc(), BUFFER_LEN, rt.stdout().lock()).map_err(
         |_| Unread::Memory,
     )?;
-    let mut source = StdSource::new(rt.stdin().lock());
+    let terminals = Terminals::new(rt);
+    let mut source = Watched::new(
+        rt.alloc(),
+        StdSource::new(rt.stdin().lock()),
+        terminals.errors,
+    );
     let mut sink = StdSink::new(output);
-    let mut hints = Hints::new(rt, Terminals::new(rt));
-    Ok(run_words(
+    let mut hints = Hints::new(rt, terminals);
+    let status = run_words(
         rt.alloc(),
         &words,
         &mut source,
         &mut sink,
         errors,
         &mut hints,
-    ))
+    );
+    hints.explain(&words, &source);
+    Ok(status)
 }
 
 /// The words of the command line behind the program's name.
