@@ -81,15 +81,31 @@ status=$?
 expect "words that are not UTF-8" 2 "aes3: the words are not UTF-8"
 [ -s "$folder/output" ] && failed=1
 
+# at_terminal NAME LINES COMMAND..: what the command tells where standard error is a terminal.
+at_terminal() {
+    script -qec "$3" /dev/null < /dev/null | tr -d '\r' > "$folder/errors"
+    status=3
+    expect "$1" 3 "$2"
+}
+
 # At a terminal a sentence stands behind the line of a refusal, and hints before a run; elsewhere neither.
 if command -v script > /dev/null; then
-    script -qec "$program normal < '$folder/refused' > '$folder/output'" /dev/null < /dev/null | tr -d '\r' > "$folder/errors"
-    status=3
-    expect "a sentence at a terminal" 3 "aes3: refused 1 at 49920
-aes3: byte 49920 is neither cell nor separator: are these packed cells (\`--packed-in\`), or a block file (\`encode\`)?"
-    script -qec "$program encode --packed-out < '$folder/refused' | cat" /dev/null < /dev/null | tr -d '\r' > "$folder/errors"
-    expect "no hint where the output is no terminal" 3 "aes3: refused 3 at 0
-aes3: bits 0 to 3 of word 0 are not zero: clear them: ALSA's words have codes there"
+    "$program" encode --packed-out < "$zero" > "$folder/packed"
+    at_terminal "a sentence at a terminal" "aes3: refused 1 at 49920
+aes3: byte 49920 is neither cell nor separator (line 769, column 1): are these packed cells (\`--packed-in\`), or a block file (\`encode\`)?" \
+        "$program normal < '$folder/refused' > '$folder/output'"
+    at_terminal "no hint where the output is no terminal" "aes3: refused 3 at 0
+aes3: bits 0 to 3 of word 0 are not zero: these are cells as text: \`aes3 decode\` makes a block file of them" \
+        "$program encode --packed-out < '$folder/refused' | cat"
+    at_terminal "a block file as cells" "aes3: refused 1 at 0
+aes3: byte 0 is neither cell nor separator (line 1, column 1): a block file begins so: \`aes3 encode\` makes cells of it" \
+        "$program check < '$zero'"
+    at_terminal "packed cells as text" "aes3: refused 1 at 0
+aes3: byte 0 is neither cell nor separator (line 1, column 1): these look like packed cells: try \`--packed-in\`" \
+        "$program check < '$folder/packed'"
+    at_terminal "the option of a refused status" "aes3: refused 9
+aes3: a status is not 48 hexadecimal digits (--status2): \`--status1\` and \`--status2\` take 24 bytes, two digits each" \
+        "$program rewrite --status2=12 < '$folder/refused'"
 fi
 
 # Memory refused anywhere before the input is read: from a limit at which the program can't be loaded to one at which it
