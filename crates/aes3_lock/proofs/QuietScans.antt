@@ -1,12 +1,15 @@
 -- Cells in which no preamble ends, and the first that ends one, for a scan.
-use Rattle.std.proofs.Common.{◌≡◌, ℕ, suc, ◌+◌, ◌-◌, ◌^◌, ◌<◌, ◌≤◌, ◌⊎◌, inl, inr, List, [], ◌∷◌, ◌++◌, Bool, true, false, cond, ◌||◌, Option, Some, None, refl, length, take, drop, ap, ap₂, ◌∙◌, sym, arith, append_assoc, append-nil, w64, add-one}
+use Rattle.std.proofs.Common.{◌≡◌, ℕ, suc, ◌+◌, ◌-◌, ◌/◌, ◌^◌, ◌<◌, ◌≤◌, ◌⊎◌, inl, inr, List, [], ◌∷◌, ◌++◌, Bool, true, false, cond, ◌||◌, Option, Some, None, refl, length, take, drop, ap, ap₂, ◌∙◌, sym, arith, append_assoc, append-nil, take-append-drop, length-drop, w64, add-one}
 use Rattle.std.specs.Prelude.{if◌then◌else◌, option_to_list, option_map}
 use Rattle.std.specs.Int.{bit_at, trailing_zeros}
 use Rattle.std.specs.Int.Count.{trailing_of_zero}
 use Rattle.std.proofs.lemmas.Bool.{cases_eq, cases_lt}
+use Rattle.std.proofs.lemmas.Nat.{shr_le}
 use Rattle.std.proofs.lemmas.Nat.Bits.{bit_at-trailing_zeros}
+use Rattle.std.proofs.Math.Seq.{take-add}
 use Rattle.aes3_cell.specs.declared.level.Level.{Level}
 use Rattle.aes3_cell.specs.Words.{low_cells, level_of, word_cells}
+use Rattle.aes3_cell.proofs.Moves.{bit_at-shr}
 use Rattle.aes3_cell.proofs.WordCells.{length-low_cells}
 use Rattle.aes3_slot.specs.declared.mark.Mark.{Mark}
 use Rattle.aes3_slot.specs.declared.mark.Mark.TheVariants.{X, Y, Z}
@@ -15,7 +18,7 @@ use Rattle.aes3_slot.proofs.Beginnings.{any-append}
 use Rattle.aes3_lock.specs.Preambles.{first_mark, placed, marks}
 use Rattle.aes3_lock.specs.Steps.{last_eight, ended_mark}
 use Rattle.aes3_lock.proofs.SubframeWords.{take-low}
-use Rattle.aes3_lock.proofs.QuietWords.{says-yes, ends-at, quiet-at, with-last}
+use Rattle.aes3_lock.proofs.QuietWords.{says-no, says-yes, below-trailing, ends-at, quiet-at, with-last}
 use Rattle.aes3_lock.proofs.Scanning.{ended-short, ended-long, marks-last}
 
 -- whether a preamble begins
@@ -77,6 +80,43 @@ module _ (c b : List Level) (m w : ℕ) (few : m < 2 ^ 64) (is : b ≡ drop 1 (l
       let e = with-last c n w in
       ap marks (sym e) ∙ marks-last (c ++ low_cells n w) (level_of (bit_at w n))
       ∙ ap₂ (λ x y. x ++ option_to_list (ended_mark (length y) (last_eight y))) (none-end n (omega arith) (omega (arith, h))) e
+
+  -- from the first that ends one to before the second
+  pub none-further : (n : ℕ) → trailing_zeros w64 m < n → n ≤ trailing_zeros w64 m + 1 + trailing_zeros w64 (m / 2 ^ trailing_zeros w64 m / 2 ^ 1) → n ≤ 64
+      → marks (c ++ low_cells n w) ≡ marks (c ++ low_cells (trailing_zeros w64 m + 1) w)
+  none-further n more g h =
+      ap marks (sym parts) ∙ marks-quiet (c ++ low_cells t w) rest (λ i k. ap (λ x. begins_with_any (last_eight x)) (first i k)
+      ∙ says-no (begins_with_any (last_eight (c ++ low_cells (suc (trailing_zeros w64 m + suc i)) w)))
+      (sym (ends-at begins_with_any any-append c b m w few is found (trailing_zeros w64 m + suc i) (omega (arith, long, k, h))) ∙ sym (bits i)
+      ∙ below-trailing (m / 2 ^ trailing_zeros w64 m / 2 ^ 1) i small (omega (arith, long, k, g))))
+    where
+      t : ℕ
+      t = trailing_zeros w64 m + 1
+
+      rest : List Level
+      rest = drop t (low_cells n w)
+
+      long : length rest ≡ n - t
+      long = length-drop t (low_cells n w) ∙ ap (λ k. k - t) (length-low_cells n w)
+
+      front : low_cells t w ≡ take t (low_cells n w)
+      front = sym (take-low t n w (omega (arith, more)))
+
+      parts : (c ++ low_cells t w) ++ rest ≡ c ++ low_cells n w
+      parts = append_assoc c (low_cells t w) rest ∙ ap (λ x. c ++ x) (ap (λ x. x ++ rest) front ∙ take-append-drop t (low_cells n w))
+
+      first : (i : ℕ) → i < length rest → (c ++ low_cells t w) ++ take (suc i) rest ≡ c ++ low_cells (suc (trailing_zeros w64 m + suc i)) w
+      first i k =
+          append_assoc c (low_cells t w) (take (suc i) rest)
+          ∙ ap (λ x. c ++ x) (ap (λ x. x ++ take (suc i) rest) front ∙ sym (take-add t (suc i) (low_cells n w)) ∙ take-low (t + suc i) n w (omega (arith, long, k))
+          ∙ ap (λ j. low_cells j w) (let e : t + suc i ≡ suc (trailing_zeros w64 m + suc i) = omega arith in e))
+
+      bits : (i : ℕ) → bit_at (m / 2 ^ trailing_zeros w64 m / 2 ^ 1) i ≡ bit_at m (trailing_zeros w64 m + suc i)
+      bits i = bit_at-shr (m / 2 ^ trailing_zeros w64 m) 1 i ∙ bit_at-shr m (trailing_zeros w64 m) (1 + i)
+          ∙ ap (λ j. bit_at m (trailing_zeros w64 m + j)) (let e : 1 + i ≡ suc i = omega arith in e)
+
+      small : m / 2 ^ trailing_zeros w64 m / 2 ^ 1 < 2 ^ 64
+      small = let a = shr_le m (trailing_zeros w64 m) in let b = shr_le (m / 2 ^ trailing_zeros w64 m) 1 in omega (arith, a, b, few)
 
   pub is-told : (k : ℕ) → trailing_zeros w64 m < 64 → 8 ≤ k → ended_mark k (last_eight (c ++ low_cells (trailing_zeros w64 m + 1) w)) ≡ None → ⊥
   is-told k h g = ended-some k (last_eight (c ++ low_cells (trailing_zeros w64 m + 1) w)) g (go (cases_eq m 0))

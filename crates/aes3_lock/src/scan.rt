@@ -30,6 +30,19 @@ ghost use Rattle.aes3_cell.specs.declared.level.Level.{Level};
 ghost use Rattle.aes3_lock.specs.Preambles.{marks};
 ghost use Rattle.aes3_lock.specs.Following.{ScanFollows};
 
+/// The preamble that ends with the last of `seen` cells, of which the last eight are these.
+fn mark_ending(seen: u64, recent: u8) -> Option<(u64, Mark, Level)>
+    ensures { result ≡ ended_mark seen (low_cells 8 recent) }
+{
+    if seen < PREAMBLE_CELLS {
+        return None;
+    }
+    match match_mark(recent) {
+        Some((mark, before)) => Some((seen - PREAMBLE_CELLS, mark, before)),
+        None => None,
+    }
+}
+
 impl Scan {
     /// A scan that has seen no cell.
     pub fn new() -> Self
@@ -56,11 +69,11 @@ impl Scan {
     {
         self.recent = with_cell(self.recent, cell);
         self.seen += 1;
-        self.ending()
+        mark_ending(self.seen, self.recent)
     }
 
-    /// Takes the first cells of a word, the first of all in the lowest bit, up to the first that ends a preamble and with it,
-    /// and at most `len`. Answers how many it took, and that preamble as `push` does.
+    /// Takes the first cells of a word, the first of all in the lowest bit, before the second that ends a preamble, and at most
+    /// `len`. Answers how many it took, and the preamble that ends in them as `push` does.
     ///
     /// It is `push` for each of these cells.
     pub fn next_in(&mut self, word: u64, len: u32) -> (u32, Option<(u64, Mark, Level)>)
@@ -76,13 +89,20 @@ impl Scan {
         ensures all { (cells : List Level) → ScanFollows self.old cells → 7 ≤ length cells → result.1 ≡ None → result.0 ≡ len }
     {
         let cells = completed(u64::from(self.recent >> 1), PREAMBLE_CELLS - 1, word);
-        let quiet = preambles(cells, rest_of(word, PREAMBLE_CELLS - 1)).trailing_zeros();
+        let begun = preambles(cells, rest_of(word, PREAMBLE_CELLS - 1));
+        let quiet = begun.trailing_zeros();
         if quiet >= len {
             self.pass(word, len);
             return (len, None);
         }
-        self.pass(word, quiet + 1);
-        (quiet + 1, self.ending())
+        let found = mark_ending(
+            self.seen + u64::from(quiet + 1),
+            last_behind(self.recent, word, quiet + 1),
+        );
+        let further = (begun >> quiet >> 1).trailing_zeros();
+        let taken = (quiet + 1 + further).min(len);
+        self.pass(word, taken);
+        (taken, found)
     }
 
     /// Takes the first `len` cells of a word.
@@ -94,18 +114,5 @@ impl Scan {
     {
         self.seen += u64::from(len);
         self.recent = last_behind(self.recent, word, len);
-    }
-
-    /// The preamble that ends with the last cell.
-    fn ending(&self) -> Option<(u64, Mark, Level)>
-        ensures { result ≡ ended_mark self.now.seen self.now.recent }
-    {
-        if self.seen < PREAMBLE_CELLS {
-            return None;
-        }
-        match match_mark(self.recent) {
-            Some((mark, before)) => Some((self.seen - PREAMBLE_CELLS, mark, before)),
-            None => None,
-        }
     }
 }
