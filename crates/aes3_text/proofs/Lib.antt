@@ -9,5 +9,6 @@ pub mod Accounts
 pub mod Covering
 pub mod Rowed
 pub mod LostGaps
+mod MarkTexts
 pub mod PieceGaps
 pub mod LostCells

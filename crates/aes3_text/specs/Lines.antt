@@ -60,3 +60,10 @@ entry_line lines (cut at cells) = gap_line at cells
 abbrev pub mark_line : ℕ → Mark → Level → List ℕ
 mark_line at mark before =
     codes "mark " ++ mark_letter mark ++ codes " at " ++ decimal at ++ codes " before " ++ level_digit before ++ 10 ∷ []
+
+-- what stands in it before the number and behind it
+abbrev pub mark_beginning : Mark → List ℕ
+mark_beginning mark = codes "mark " ++ mark_letter mark ++ codes " at "
+
+abbrev pub mark_ending : Level → List ℕ
+mark_ending before = codes " before " ++ level_digit before ++ 10 ∷ []

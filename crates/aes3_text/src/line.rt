@@ -78,13 +78,6 @@ impl Line {
         });
     }
 
-    /// Empties the line.
-    pub(crate) fn clear(&mut self)
-        ensures { self.new ≡ [] }
-    {
-        self.bytes.clear();
-    }
-
     /// Hands the line and a line feed to the sink as one buffer.
     ///
     /// # Errors

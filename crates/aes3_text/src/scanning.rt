@@ -10,8 +10,7 @@ ghost use Rattle.aes3_engine.specs.Running.{change_of};
 ghost use Rattle.aes3_text.specs.Lines.{mark_line};
 ghost use Rattle.aes3_text.specs.Runs.{Scanned, mark_lines, marking, scan_counts};
 
-use crate::line::Line;
-use crate::mark::put_mark;
+use crate::mark::{UpperDigits, put_mark};
 use aes3_cell::{Counts, Fault, Form, Level, RunError, Sink, Source};
 use aes3_engine::{Taker, drive};
 use aes3_lock::Scan;
@@ -22,8 +21,8 @@ use aes3_slot::Mark;
 struct MarkLines {
     scan: Scan,
     marks: u64,
-    /// The latest line.
-    line: Line,
+    /// The digits of the latest line's number.
+    upper: UpperDigits,
 }
 
 impl MarkLines {
@@ -34,7 +33,7 @@ impl MarkLines {
         MarkLines {
             scan: Scan::new(),
             marks: 0,
-            line: Line::new(),
+            upper: UpperDigits::new(0),
         }
     }
 
@@ -51,7 +50,7 @@ impl MarkLines {
             (mark_line found.0 found.1 found.2) result }
     {
         self.marks += 1;
-        put_mark(&mut self.line, found.0, found.1, found.2, sink)
+        put_mark(&mut self.upper, found.0, found.1, found.2, sink)
     }
 }
 
