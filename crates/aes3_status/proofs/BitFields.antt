@@ -1,9 +1,9 @@
 -- The number of a field's bits, from the bytes that hold them.
-use Rattle.std.proofs.Common.{◌≡◌, ℕ, zero, suc, ◌+◌, ◌-◌, ◌*◌, ◌/◌, ◌%◌, ◌^◌, ◌<◌, ◌≤◌, ◌⊎◌, inl, inr, Bool, false, cond, List, [], ◌∷◌, ◌++◌, length, take, drop, get_or, refl, ap, ap₂, ◌∙◌, sym, arith, eqb, eq-eqb, ne_eqb, mul_assoc}
+use Rattle.std.proofs.Common.{◌≡◌, ℕ, zero, suc, ◌+◌, ◌-◌, ◌*◌, ◌/◌, ◌%◌, ◌^◌, ◌<◌, ◌≤◌, ◌⊎◌, inl, inr, Bool, true, false, cond, List, [], ◌∷◌, ◌++◌, length, take, drop, get_or, refl, ap, ap₂, ◌∙◌, sym, arith, eqb, eq-eqb, ne_eqb, mul_assoc}
 use Rattle.std.specs.Prelude.{bit_and}
 use Rattle.std.proofs.lemmas.Bool.{cases_eq}
 use Rattle.std.proofs.Math.Nat.{pow-suc}
-use Rattle.std.proofs.lemmas.List.{take_all, drop-append-le, take-append-le, drop_at, drop-drop, length-drop, take_more}
+use Rattle.std.proofs.lemmas.List.{take_all, drop-append-le, take-append-le, drop_at, drop-drop, length-drop, length-take, take_more}
 use Rattle.std.proofs.lemmas.Nat.{shr-shr, mod-pow-add, and_mask}
 use Rattle.std.proofs.lemmas.Nat.Bits.{ones_shr}
 use Rattle.aes3_status.specs.Bits.{low_bits, number, byte_bits, status_bits, field, bytes_field}
@@ -101,11 +101,11 @@ take-bits byte k h =
     take_more (low_bits 8 byte) k false (omega (arith, length-low_bits 8 byte))
     ∙ ap (λ bit. take k (low_bits 8 byte) ++ bit ∷ []) (bit-at 8 byte k h ∙ ap (λ n. eqb n 1) (sym (and_mask (byte / 2 ^ k) 1)))
 
-number-append : (a b : List Bool) → number (a ++ b) ≡ number a + 2 ^ length a * number b
+pub number-append : (a b : List Bool) → number (a ++ b) ≡ number a + 2 ^ length a * number b
 number-append [] b = omega arith
 number-append (bit ∷ a) b = rw (number-append a b, pow-suc) (omega (arith, mul_assoc 2 (2 ^ length a) (number b)))
 
-take-past : (n : ℕ) (a b : List Bool) → take (length a + n) (a ++ b) ≡ a ++ take n b
+pub take-past : (n : ℕ) (a b : List Bool) → take (length a + n) (a ++ b) ≡ a ++ take n b
 take-past n [] b = ap (λ k. take k b) (omega arith)
 take-past n (bit ∷ a) b =
     ap (λ k. take k (bit ∷ a ++ b)) (let e : suc (length a) + n ≡ suc (length a + n) = omega arith in e) ∙ ap (λ bits. bit ∷ bits) (take-past n a b)
@@ -140,3 +140,16 @@ four-bytes (x ∷ bytes) (suc byte) h f =
     let third : suc byte + 2 ≡ suc (byte + 2) = omega arith in
     let fourth : suc byte + 3 ≡ suc (byte + 3) = omega arith in
     rw (second, third, fourth) (ap (λ bits. number (take 32 bits)) (drop-first x bytes byte 0) ∙ four-bytes bytes byte (omega arith) (λ i. f (suc i)))
+
+number-below : (bits : List Bool) (count : ℕ) → length bits ≤ count → number bits < 2 ^ count
+number-below [] zero h = omega arith
+number-below [] (suc count) h = let g = number-below [] count (omega arith) in omega (arith, pow-suc 2 count)
+number-below (bit ∷ bits) zero h = absurd (omega arith)
+number-below (true ∷ bits) (suc count) h = let g = number-below bits count (omega arith) in omega (arith, pow-suc 2 count)
+number-below (false ∷ bits) (suc count) h = let g = number-below bits count (omega arith) in omega (arith, pow-suc 2 count)
+
+-- a field of so many bits
+pub field-fits : (byte bit count : ℕ) (bytes : List ℕ) → field byte bit count bytes < 2 ^ count
+unfolding field
+field-fits byte bit count bytes =
+    number-below (take count (drop (8 * byte + bit) (status_bits bytes))) count (omega (arith, length-take count (drop (8 * byte + bit) (status_bits bytes))))

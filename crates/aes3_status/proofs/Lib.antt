@@ -1,4 +1,6 @@
 pub mod BitFields
+pub mod SetFields
+pub mod SettingLemmas
 pub mod Polynomials
 pub mod Weights
 pub mod ShiftRegister

@@ -2,6 +2,8 @@ pub mod Bits
 pub mod Professional
 pub mod Consumer
 pub mod Statuses
+pub mod Settings
+pub mod SettingLaws
 pub mod Check
 pub mod Register
 pub mod Laws

@@ -1,6 +1,7 @@
-//! Laws of the check, each the contract of a function.
+//! Laws of the check and of fields that are set, each the contract of a function.
 
 ghost use Rattle.aes3_status.specs.Laws.{OneFlipIsFound, TwoFlipsAreFound, WeightsArePowers};
+ghost use Rattle.aes3_status.specs.SettingLaws.{CodeIsReadBack, MeaningStays, OnlyItsBitsChange, OtherFieldsStay, SettingIsReadBack};
 
 /// The check tells of one or two inverted bits, wherever they stand.
 pub fn flips_are_found()
@@ -11,4 +12,18 @@ pub fn flips_are_found()
 /// Each bit weighs x times the next modulo the generator, and the last weighs 1.
 pub fn weights_are_powers()
     ensures { WeightsArePowers }
+{}
+
+/// A code that is written to a field changes its bits alone: the code is read back, and every other field stays.
+pub fn codes_are_read_back()
+    ensures bits { OnlyItsBitsChange }
+    ensures code { CodeIsReadBack }
+    ensures others { OtherFieldsStay }
+{}
+
+/// A setting changes neither the use of a status nor what tells the meaning of its field's codes, and where it has a code
+/// for the status, the field has it then.
+pub fn settings_are_read_back()
+    ensures meaning { MeaningStays }
+    ensures code { SettingIsReadBack }
 {}

@@ -1,0 +1,157 @@
+-- Bits of a byte, and with it of a status, replaced.
+use Rattle.std.proofs.Common.{◌≡◌, ℕ, zero, suc, ◌+◌, ◌-◌, ◌*◌, ◌/◌, ◌%◌, ◌^◌, ◌<◌, ◌≤◌, Bool, true, false, List, [], ◌∷◌, ◌++◌, length, take, drop, get_or, set, refl, ap, ap₂, ◌∙◌, sym, arith, append_assoc, length-append, length-drop}
+use Rattle.std.proofs.Math.Nat.{pow-suc, mod-eq_of_lt, mul_assoc, mul_comm, mul-add, pow-le-pow_right}
+use Rattle.std.proofs.Math.Seq.{take-append-add, drop-append-add}
+use Rattle.std.proofs.lemmas.List.{take_all, take-append-le, drop-append-le, drop-drop, drop-take, length-take-le, take-append-drop}
+use Rattle.std.proofs.lemmas.Nat.{shr-shr, pow-add}
+use Rattle.aes3_status.specs.Bits.{low_bits, number, byte_bits, status_bits}
+use Rattle.aes3_status.specs.Settings.{with_bits}
+use Rattle.aes3_status.proofs.BitFields.{length-low_bits, length-byte_bits, number-take, number-append}
+
+-- ---- numbers and their bits
+pub number-low : (k n : ℕ) → number (low_bits k n) ≡ n % 2 ^ k
+number-low k n = ap number (sym (take_all k (low_bits k n) (omega (arith, length-low_bits k n)))) ∙ number-take k k n (omega arith)
+
+pub low-number : (bits : List Bool) → low_bits (length bits) (number bits) ≡ bits
+low-number [] = refl
+low-number (true ∷ bits) =
+    let half : (1 + 2 * number bits) / 2 ≡ number bits = omega arith in
+    let odd : (1 + 2 * number bits) % 2 ≡ 1 = omega arith in
+    rw (odd, half) (ap (λ b. true ∷ b) (low-number bits))
+low-number (false ∷ bits) =
+    let half : (0 + 2 * number bits) / 2 ≡ number bits = omega arith in
+    let even : (0 + 2 * number bits) % 2 ≡ 0 = omega arith in
+    rw (even, half) (ap (λ b. false ∷ b) (low-number bits))
+
+number-fits : (bits : List Bool) → number bits < 2 ^ length bits
+number-fits [] = omega arith
+number-fits (true ∷ bits) = let h = number-fits bits in omega (arith, pow-suc 2 (length bits))
+number-fits (false ∷ bits) = let h = number-fits bits in omega (arith, pow-suc 2 (length bits))
+
+number-drop : (from k n : ℕ) → n < 2 ^ k → from ≤ k → number (drop from (low_bits k n)) ≡ n / 2 ^ from
+number-drop zero k n h g = number-low k n ∙ mod-eq_of_lt h ∙ omega arith
+number-drop (suc from) zero n h g = absurd (omega arith)
+number-drop (suc from) (suc k) n h g =
+    number-drop from k (n / 2) (omega (arith, pow-suc 2 k)) (omega arith)
+    ∙ shr-shr n 1 from ∙ ap (λ j. n / 2 ^ j) (let e : 1 + from ≡ suc from = omega arith in e)
+
+-- ---- a byte
+length-with_bits : (at : ℕ) (new bits : List Bool) → at + length new ≤ length bits → length (with_bits at new bits) ≡ length bits
+length-with_bits at new bits h =
+    length-append (take at bits) (new ++ drop (at + length new) bits)
+    ∙ omega (arith, length-take-le at bits (omega arith), length-append new (drop (at + length new) bits), length-drop (at + length new) bits)
+
+regrouped : (p q a d : ℕ) → p * (a + q * d) ≡ a * p + d * (p * q)
+regrouped p q a d = mul-add p a (q * d) ∙ ap₂ ◌+◌ (mul_comm p a) (sym (mul_assoc p q d) ∙ mul_comm (p * q) d)
+
+-- a byte with bits replaced, as a number
+replaced-number : (n first count code : ℕ) → n < 256 → first + count ≤ 8
+    → number (with_bits first (low_bits count code) (byte_bits n)) ≡ n % 2 ^ first + (code % 2 ^ count * 2 ^ first + n / 2 ^ (first + count) * 2 ^ (first + count))
+unfolding byte_bits
+replaced-number n first count code h g =
+    let l = length-low_bits count code in
+    let low = length-take-le first (low_bits 8 n) (omega (arith, length-low_bits 8 n)) in
+    number-append (take first (low_bits 8 n)) (low_bits count code ++ drop (first + length (low_bits count code)) (low_bits 8 n))
+    ∙ ap₂ (λ a b. a + b) (number-take first 8 n (omega arith))
+    (ap₂ (λ k m. 2 ^ k * m) low
+    (number-append (low_bits count code) (drop (first + length (low_bits count code)) (low_bits 8 n))
+    ∙ ap₂ (λ a b. a + b) (number-low count code)
+    (ap (λ k. 2 ^ k * number (drop (first + k) (low_bits 8 n))) l
+    ∙ ap (λ m. 2 ^ count * m) (number-drop (first + count) 8 n h g)))
+    ∙ regrouped (2 ^ first) (2 ^ count) (code % 2 ^ count) (n / 2 ^ (first + count))
+    ∙ ap (λ r. code % 2 ^ count * 2 ^ first + n / 2 ^ (first + count) * r) (sym (pow-add 2 first count)))
+
+length-replaced : (n first count code : ℕ) → first + count ≤ 8 → length (with_bits first (low_bits count code) (byte_bits n)) ≡ 8
+length-replaced n first count code g =
+    length-with_bits first (low_bits count code) (byte_bits n) (omega (arith, length-low_bits count code, length-byte_bits n)) ∙ length-byte_bits n
+
+replaced-fits : (n first count code : ℕ) → first + count ≤ 8 → number (with_bits first (low_bits count code) (byte_bits n)) < 256
+replaced-fits n first count code g =
+    let w = with_bits first (low_bits count code) (byte_bits n) in
+    let e : 2 ^ length w ≡ 256 = ap (λ k. 2 ^ k) (length-replaced n first count code g) in
+    omega (arith, number-fits w)
+
+small : (k : ℕ) → k ≤ 8 → 1 * 2 ^ k % 4294967296 ≡ 2 ^ k
+small k h =
+    let e : 1 * 2 ^ k ≡ 2 ^ k = omega arith in
+    let b : 2 ^ k ≤ 256 = pow-le-pow_right {n = 2} (omega arith) {i = k} {j = 8} h in
+    ap (λ x. x % 4294967296) e ∙ mod-eq_of_lt (omega arith)
+
+-- the same as the program adds it up
+pub replaced-sum : (n first count code : ℕ) → n < 256 → first + count ≤ 8
+    → n % (1 * 2 ^ first % 4294967296) + code % (1 * 2 ^ count % 4294967296) * 2 ^ first % 4294967296 + n / 2 ^ (first + count) * 2 ^ (first + count) % 4294967296
+    ≡ number (with_bits first (low_bits count code) (byte_bits n))
+replaced-sum n first count code h g =
+    let e = replaced-number n first count code h g in
+    let f = replaced-fits n first count code g in
+    let x : code % 2 ^ count * 2 ^ first % 4294967296 ≡ code % 2 ^ count * 2 ^ first = mod-eq_of_lt (omega arith) in
+    let y : n / 2 ^ (first + count) * 2 ^ (first + count) % 4294967296 ≡ n / 2 ^ (first + count) * 2 ^ (first + count) = mod-eq_of_lt (omega arith) in
+    rw (small first (omega arith), small count (omega arith), x, y) (omega arith)
+
+pub replaced-byte : (n first count code : ℕ) → n < 256 → first + count ≤ 8
+    → n % (1 * 2 ^ first % 4294967296) + code % (1 * 2 ^ count % 4294967296) * 2 ^ first % 4294967296 + n / 2 ^ (first + count) * 2 ^ (first + count) % 4294967296 < 256
+replaced-byte n first count code h g = omega (arith, replaced-sum n first count code h g, replaced-fits n first count code g)
+
+-- ---- a status
+byte-bits-of : (bits : List Bool) → length bits ≡ 8 → byte_bits (number bits) ≡ bits
+unfolding byte_bits
+byte-bits-of bits e = ap (λ k. low_bits k (number bits)) (sym e) ∙ low-number bits
+
+pub status-set : (bytes : List ℕ) (byte first : ℕ) (new : List Bool) → byte < length bytes → first + length new ≤ 8
+    → status_bits (set bytes byte (number (with_bits first new (byte_bits (get_or bytes byte 0))))) ≡ with_bits (8 * byte + first) new (status_bits bytes)
+status-set [] byte first new h g = absurd (omega arith)
+status-set (x ∷ bytes) zero first new h g =
+    let l = length-byte_bits x in
+    let e : 8 * zero + first ≡ first = omega arith in
+    ap (λ b. b ++ status_bits bytes) (byte-bits-of (with_bits first new (byte_bits x)) (length-with_bits first new (byte_bits x) (omega arith) ∙ l))
+    ∙ append_assoc (take first (byte_bits x)) (new ++ drop (first + length new) (byte_bits x)) (status_bits bytes)
+    ∙ ap₂ (λ a b. a ++ b) (sym (take-append-le first (byte_bits x) (status_bits bytes) (omega arith)))
+    (append_assoc new (drop (first + length new) (byte_bits x)) (status_bits bytes)
+    ∙ ap (λ b. new ++ b) (sym (drop-append-le (first + length new) (byte_bits x) (status_bits bytes) (omega arith))))
+    ∙ ap (λ k. with_bits k new (byte_bits x ++ status_bits bytes)) (sym e)
+status-set (x ∷ bytes) (suc byte) first new h g =
+    let l = length-byte_bits x in
+    let at = 8 * byte + first in
+    let e : 8 * suc byte + first ≡ length (byte_bits x) + at = omega arith in
+    let d : length (byte_bits x) + at + length new ≡ length (byte_bits x) + (at + length new) = omega arith in
+    ap (λ b. byte_bits x ++ b) (status-set bytes byte first new (omega arith) g)
+    ∙ sym (append_assoc (byte_bits x) (take at (status_bits bytes)) (new ++ drop (at + length new) (status_bits bytes)))
+    ∙ ap₂ (λ a b. a ++ (new ++ b)) (sym (take-append-add (byte_bits x) (status_bits bytes) at))
+    (sym (drop-append-add (byte_bits x) (status_bits bytes) (at + length new)) ∙ ap (λ k. drop k (byte_bits x ++ status_bits bytes)) (sym d))
+    ∙ ap (λ k. with_bits k new (byte_bits x ++ status_bits bytes)) (sym e)
+
+-- ---- bits from another place
+pub new-back : (at : ℕ) (new bits : List Bool) → at + length new ≤ length bits → take (length new) (drop at (with_bits at new bits)) ≡ new
+new-back at new bits h =
+    let l = length-take-le at bits (omega arith) in
+    let e : at ≡ length (take at bits) + 0 = omega arith in
+    let k : length new ≡ length new + 0 = omega arith in
+    ap (take (length new)) (ap (λ n. drop n (with_bits at new bits)) e ∙ drop-append-add (take at bits) (new ++ drop (at + length new) bits) 0)
+    ∙ ap (λ n. take n (new ++ drop (at + length new) bits)) k
+    ∙ take-append-add new (drop (at + length new) bits) 0
+    ∙ simp append-nil-take
+  where
+    append-nil-take : {X : Type 0} (xs ys : List X) → xs ++ take 0 ys ≡ xs
+    append-nil-take [] ys = refl
+    append-nil-take (x ∷ xs) ys = ap (λ zs. x ∷ zs) (append-nil-take xs ys)
+
+pub before-stays : (at from count : ℕ) (new bits : List Bool) → at + length new ≤ length bits → from + count ≤ at
+    → take count (drop from (with_bits at new bits)) ≡ take count (drop from bits)
+before-stays at from count new bits h g =
+    sym (drop-take from count (with_bits at new bits))
+    ∙ ap (drop from) (take-append-le (from + count) (take at bits) (new ++ drop (at + length new) bits) (omega (arith, length-take-le at bits (omega arith)))
+    ∙ sym (take-append-le (from + count) (take at bits) (drop at bits) (omega (arith, length-take-le at bits (omega arith))))
+    ∙ ap (take (from + count)) (take-append-drop at bits))
+    ∙ drop-take from count bits
+
+pub behind-stays : (at from : ℕ) (new bits : List Bool) → at + length new ≤ length bits → at + length new ≤ from
+    → drop from (with_bits at new bits) ≡ drop from bits
+behind-stays at from new bits h g =
+    let l = length-take-le at bits (omega arith) in
+    let e : from ≡ length (take at bits) + (length new + (from - (at + length new))) = omega arith in
+    let d : at + length new + (from - (at + length new)) ≡ from = omega arith in
+    ap (λ n. drop n (with_bits at new bits)) e
+    ∙ drop-append-add (take at bits) (new ++ drop (at + length new) bits) (length new + (from - (at + length new)))
+    ∙ drop-append-add new (drop (at + length new) bits) (from - (at + length new))
+    ∙ drop-drop (from - (at + length new)) (at + length new) bits
+    ∙ ap (λ n. drop n bits) d

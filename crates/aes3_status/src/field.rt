@@ -1,0 +1,153 @@
+//! The fields of channel status that a code can be written to: those within one byte.
+
+ghost use Rattle.std.specs.Prelude.{◌≡◌, ◌+◌, ◌<◌, ◌≤◌};
+ghost use Rattle.aes3_status.specs.Settings.{con_place, is_for, place_of, pro_place, under};
+
+use crate::fields::bits_at;
+use crate::place::Place;
+
+/// A field of professional channel status (AES3-2), as `Pro` reads it.
+#[derive(Clone, Copy, PartialEq, Eq, Debug)]
+pub enum ProField {
+    Payload,
+    Emphasis,
+    Unlocked,
+    Rate,
+    Mode,
+    User,
+    Aux,
+    Word,
+    B2high,
+    B3,
+    B4,
+    B5,
+    Unreliable,
+    B22low,
+}
+
+/// A field of consumer channel status (IEC 60958-3), as `Con` reads it.
+#[derive(Clone, Copy, PartialEq, Eq, Debug)]
+pub enum ConField {
+    Payload,
+    Copyright,
+    Emphasis,
+    Mode,
+    Category,
+    Generation,
+    Source,
+    Number,
+    Rate,
+    Accuracy,
+    B3high,
+    Greatest,
+    Word,
+    Original,
+}
+
+/// A field of channel status for one of the two uses.
+#[derive(Clone, Copy, PartialEq, Eq, Debug)]
+pub enum Field {
+    /// Of professional status (AES3-2).
+    Professional(ProField),
+    /// Of consumer status (IEC 60958-3).
+    Consumer(ConField),
+}
+
+fn place(byte: usize, first: u32, count: u32) -> Place
+    ensures byte { result.byte ≡ byte }
+    ensures first { result.first ≡ first }
+    ensures count { result.count ≡ count }
+{
+    Place { byte, first, count }
+}
+
+impl ProField {
+    /// Where the field stands (AES3-2).
+    pub(crate) fn place(self) -> Place
+        ensures place { result ≡ pro_place self }
+        ensures within { result.byte < 24 }
+        ensures inside { result.first + result.count ≤ 8 }
+    {
+        match self {
+            ProField::Payload => place(0, 1, 1),
+            ProField::Emphasis => place(0, 2, 3),
+            ProField::Unlocked => place(0, 5, 1),
+            ProField::Rate => place(0, 6, 2),
+            ProField::Mode => place(1, 0, 4),
+            ProField::User => place(1, 4, 4),
+            ProField::Aux => place(2, 0, 3),
+            ProField::Word => place(2, 3, 3),
+            ProField::B2high => place(2, 6, 2),
+            ProField::B3 => place(3, 0, 8),
+            ProField::B4 => place(4, 0, 8),
+            ProField::B5 => place(5, 0, 8),
+            ProField::Unreliable => place(22, 4, 4),
+            ProField::B22low => place(22, 0, 4),
+        }
+    }
+}
+
+impl ConField {
+    /// Where the field stands (IEC 60958-3).
+    pub(crate) fn place(self) -> Place
+        ensures place { result ≡ con_place self }
+        ensures within { result.byte < 24 }
+        ensures inside { result.first + result.count ≤ 8 }
+    {
+        match self {
+            ConField::Payload => place(0, 1, 1),
+            ConField::Copyright => place(0, 2, 1),
+            ConField::Emphasis => place(0, 3, 3),
+            ConField::Mode => place(0, 6, 2),
+            ConField::Category => place(1, 0, 7),
+            ConField::Generation => place(1, 7, 1),
+            ConField::Source => place(2, 0, 4),
+            ConField::Number => place(2, 4, 4),
+            ConField::Rate => place(3, 0, 4),
+            ConField::Accuracy => place(3, 4, 2),
+            ConField::B3high => place(3, 6, 2),
+            ConField::Greatest => place(4, 0, 1),
+            ConField::Word => place(4, 1, 3),
+            ConField::Original => place(4, 4, 4),
+        }
+    }
+}
+
+impl Field {
+    /// Where the field stands.
+    pub(crate) fn place(self) -> Place
+        ensures place { result ≡ place_of self }
+        ensures within { result.byte < 24 }
+        ensures inside { result.first + result.count ≤ 8 }
+    {
+        match self {
+            Field::Professional(field) => field.place(),
+            Field::Consumer(field) => field.place(),
+        }
+    }
+
+    /// Whether the status is for the field's use: byte 0 bit 0 is 1 for professional, 0 for consumer use.
+    pub(crate) fn is_for(self, bytes: &[u8; 24]) -> bool
+        ensures { result ≡ is_for self bytes.now }
+    {
+        let professional = bits_at(bytes, 0, 0, 1) == 1;
+        match self {
+            Field::Professional(_) => professional,
+            Field::Consumer(_) => !professional,
+        }
+    }
+
+    /// The number that tells what the field's codes mean: the use of the auxiliary bits or the greatest length for
+    /// the sample word length, what the sample words carry for the emphasis of consumer use, otherwise 0.
+    pub(crate) fn under(self, bytes: &[u8; 24]) -> u8
+        ensures number { result ≡ under self bytes.now }
+        ensures few { result < 8 }
+    {
+        match self {
+            Field::Professional(ProField::Word) => bits_at(bytes, 2, 0, 3),
+            Field::Consumer(ConField::Emphasis) => bits_at(bytes, 0, 1, 1),
+            Field::Consumer(ConField::Word) => bits_at(bytes, 4, 0, 1),
+            _ => 0,
+        }
+    }
+}

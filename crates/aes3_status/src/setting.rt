@@ -1,0 +1,63 @@
+//! Codes for the fields of channel status.
+
+ghost use Rattle.std.specs.Prelude.{◌≡◌};
+ghost use Rattle.aes3_status.specs.Settings.{code_for, set_by, set_in_turn};
+
+use crate::field::{ConField, Field};
+use crate::place::put_code;
+
+/// How many settings a channel gets at most.
+pub const SETTINGS: usize = 64;
+
+/// A field and the code that it gets.
+#[derive(Clone, Copy, PartialEq, Eq, Debug)]
+pub struct Setting {
+    /// The field, of status for one of the two uses.
+    pub field: Field,
+    /// The code that it gets, by the number that tells what its codes mean: of a sample word length in professional
+    /// status the use of the auxiliary bits, in consumer status the greatest length; of the emphasis in consumer status
+    /// what the sample words carry; of every other field 0. `None` leaves the field as it is.
+    pub codes: [Option<u8>; 8],
+}
+
+impl Setting {
+    /// A setting that leaves every status as it is.
+    pub const NOTHING: Setting = Setting {
+        field: Field::Consumer(ConField::Payload),
+        codes: [None; 8],
+    };
+}
+
+/// The code that a setting has for a status.
+fn code_for(bytes: &[u8; 24], setting: &Setting) -> Option<u8>
+    ensures { result ≡ code_for setting.now bytes.now }
+{
+    if setting.field.is_for(bytes) {
+        setting.codes[usize::from(setting.field.under(bytes))]
+    } else {
+        None
+    }
+}
+
+/// Writes the setting's code to its field, and leaves all other bits as they were. A status for the other use than the
+/// field's stays as it is, and so does one that the setting has no code for.
+pub fn set_field(bytes: &mut [u8; 24], setting: &Setting)
+    ensures { bytes.new ≡ set_by setting.now bytes.old }
+{
+    match code_for(bytes, setting) {
+        Some(code) => put_code(bytes, setting.field.place(), code),
+        None => {}
+    }
+}
+
+/// Writes one setting after the other.
+pub fn set_fields(bytes: &mut [u8; 24], settings: &[Setting])
+    ensures { bytes.new ≡ set_in_turn settings.now bytes.old }
+{
+    for setting in settings {
+        set_field(bytes, setting);
+    }
+}
+
+#[cfg(test)]
+mod tests;
