@@ -13,7 +13,9 @@ use Rattle.aes3_status.specs.Statuses.{is_professional}
 use Rattle.aes3_engine.specs.declared.change.Change.{Change}
 use Rattle.aes3_engine.specs.ReportRuns.{output}
 use Rattle.aes3_engine.specs.BlockRuns.{decided_blocks, report_bytes, numbered, normal_block, begun_stream, written_stream}
-use Rattle.aes3_engine.specs.Rewriting.{set_status, checked, mended, rewritten, rewritten_block, rewritten_blocks}
+use Rattle.aes3_status.specs.declared.setting.Setting.{Setting}
+use Rattle.aes3_status.specs.Settings.{set_in_turn}
+use Rattle.aes3_engine.specs.Rewriting.{set_status, set_settings, checked, mended, changed, rewritten, rewritten_block, rewritten_blocks}
 use Rattle.aes3_engine.proofs.BlockRuns.{whole-stream, begun-stream, normal-numbered}
 use Rattle.aes3_block.proofs.StatusLaws.{payloads-stay}
 
@@ -28,6 +30,16 @@ module _ (P : List (List Bool) → Type 0) (keeps : (channel : Channel) (b : Lis
   set-keeps channel None b h = h
   set-keeps channel (Some status) b h = keeps channel b status h
 
+  settings-keep : (channel : Channel) (settings : Option (List Setting)) (b : List (List Bool)) → P b → P (set_settings channel settings b)
+  settings-keep channel None b h = h
+  settings-keep channel (Some settings) b h = keeps channel b (set_in_turn settings (status_of b channel)) h
+
+  changed-keeps : (change : Change) (b : List (List Bool)) → P b → P (changed change b)
+  changed-keeps change b h =
+      let s = set_status Second change.status2 (set_status First change.status1 b) in
+      let k = set-keeps Second change.status2 (set_status First change.status1 b) (set-keeps First change.status1 b h) in
+      settings-keep Second change.settings2 (set_settings First change.settings1 s) (settings-keep First change.settings1 s k)
+
   if-keeps : (t : Bool) (a b : List (List Bool)) → P a → P b → P (cond t a b)
   if-keeps true a b h k = h
   if-keeps false a b h k = k
@@ -38,8 +50,8 @@ module _ (P : List (List Bool) → Type 0) (keeps : (channel : Channel) (b : Lis
 
   pub rewritten-keeps : (change : Change) (b : List (List Bool)) → P b → P (rewritten change b)
   rewritten-keeps change b h =
-      let s = set_status Second change.status2 (set_status First change.status1 b) in
-      let k = set-keeps Second change.status2 (set_status First change.status1 b) (set-keeps First change.status1 b h) in
+      let s = changed change b in
+      let k = changed-keeps change b h in
       if-keeps change.mend (mended Second (mended First s)) s (mended-keeps Second (mended First s) (mended-keeps First s k)) k
 
 each-blocks : (change : Change) (bs : List (List (List Bool))) → EachBlock27 bs → EachBlock27 (rewritten_blocks change bs)

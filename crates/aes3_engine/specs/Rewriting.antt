@@ -6,6 +6,8 @@ use Rattle.aes3_block.specs.declared.status.Channel.TheVariants.{First, Second}
 use Rattle.aes3_block.specs.Statuses.{status_of, with_status}
 use Rattle.aes3_status.specs.Statuses.{is_professional}
 use Rattle.aes3_status.specs.Check.{check_byte_of}
+use Rattle.aes3_status.specs.declared.setting.Setting.{Setting}
+use Rattle.aes3_status.specs.Settings.{set_in_turn}
 use Rattle.aes3_engine.specs.declared.change.Change.{Change}
 use Rattle.aes3_engine.specs.BlockRuns.{normal_block}
 
@@ -14,6 +16,11 @@ abbrev pub set_status : Channel → Option (List ℕ) → List (List Bool) → L
 set_status channel None b = b
 set_status channel (Some status) b = with_status b channel status
 
+-- fields set in the status of a channel, where some are given
+abbrev pub set_settings : Channel → Option (List Setting) → List (List Bool) → List (List Bool)
+set_settings channel None b = b
+set_settings channel (Some settings) b = with_status b channel (set_in_turn settings (status_of b channel))
+
 -- professional status with the check byte of its bytes 0 to 22; consumer status stays
 abbrev pub checked : List ℕ → List ℕ
 checked status = slice_set status 23 (check_byte_of (take 23 status))
@@ -21,11 +28,15 @@ checked status = slice_set status 23 (check_byte_of (take 23 status))
 abbrev pub mended : Channel → List (List Bool) → List (List Bool)
 mended channel b = if is_professional (status_of b channel) then with_status b channel (checked (status_of b channel)) else b
 
--- a block with a change: the statuses set, then the check bytes mended where that is asked for
+-- the statuses of a change set, then its fields
+abbrev pub changed : Change → List (List Bool) → List (List Bool)
+changed change b =
+    set_settings Second change.settings2 (set_settings First change.settings1
+    (set_status Second change.status2 (set_status First change.status1 b)))
+
+-- a block with a change, and then the check bytes mended where that is asked for
 abbrev pub rewritten : Change → List (List Bool) → List (List Bool)
-rewritten change b =
-    if change.mend then mended Second (mended First (set_status Second change.status2 (set_status First change.status1 b)))
-    else set_status Second change.status2 (set_status First change.status1 b)
+rewritten change b = if change.mend then mended Second (mended First (changed change b)) else changed change b
 
 abbrev pub rewritten_block : Form → Change → ℕ → List (List Bool) → List ℕ
 rewritten_block form change n b = normal_block form n (rewritten change b)

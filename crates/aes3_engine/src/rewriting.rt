@@ -9,13 +9,13 @@ ghost use Rattle.aes3_engine.specs.Inputs.{cells_of};
 ghost use Rattle.aes3_engine.specs.CellRuns.{CellRun};
 ghost use Rattle.aes3_engine.specs.ReportRuns.{counts_of};
 ghost use Rattle.aes3_engine.specs.Running.{change_of};
-ghost use Rattle.aes3_engine.specs.Rewriting.{mended, rewritten, rewritten_block, rewritten_blocks, set_status};
+ghost use Rattle.aes3_engine.specs.Rewriting.{mended, rewritten, rewritten_block, rewritten_blocks, set_settings, set_status};
 
 use crate::blocks::{BlockWriter, run_blocks};
 use crate::change::Change;
 use aes3_block::{Block, Channel, put_block};
 use aes3_cell::{Counts, Fault, Form, Level, RunError, Sink, Source, put_ending};
-use aes3_status::{Status, with_check};
+use aes3_status::{SETTINGS, Setting, Status, set_fields, with_check};
 
 /// Sets the status of a channel, where one is given.
 fn set_status(block: &mut Block, channel: Channel, status: &Option<[u8; 24]>)
@@ -23,6 +23,17 @@ fn set_status(block: &mut Block, channel: Channel, status: &Option<[u8; 24]>)
 {
     if let Some(status) = status {
         block.set_channel_status(channel, status);
+    }
+}
+
+/// Sets fields in the status of a channel, where some are given.
+fn set_settings(block: &mut Block, channel: Channel, settings: &Option<[Setting; SETTINGS]>)
+    ensures { block.new ≡ set_settings channel settings.now block.old }
+{
+    if let Some(settings) = settings {
+        let mut status = block.channel_status(channel);
+        set_fields(&mut status, settings);
+        block.set_channel_status(channel, &status);
     }
 }
 
@@ -43,6 +54,8 @@ pub(crate) fn rewrite_block(block: &mut Block, change: &Change)
 {
     set_status(block, Channel::First, &change.status1);
     set_status(block, Channel::Second, &change.status2);
+    set_settings(block, Channel::First, &change.settings1);
+    set_settings(block, Channel::Second, &change.settings2);
     if change.mend {
         mend(block, Channel::First);
         mend(block, Channel::Second);
@@ -73,8 +86,8 @@ impl BlockWriter for RewrittenBlocks {
 }
 
 /// Reads cells from any cell on, and writes the blocks that stand whole and closed in them as `normalise` does, each with
-/// its channel status changed: first the statuses of the change are set, then, where it asks for that, professional
-/// status gets its check byte (AES3-2). Consumer status is never mended, and nothing else of a block changes.
+/// its channel status changed: first the statuses of the change are set, then its fields, then, where it asks for that,
+/// professional status gets its check byte (AES3-2). Consumer status is never mended, and nothing else of a block changes.
 ///
 /// # Errors
 /// Those of `normalise`.

@@ -443,6 +443,8 @@ fn a_rewritten_block_into_a_sink_that_fails(rt: HostRuntime) -> Result<(), Fail>
     let change = Change {
         status1: Some(status),
         status2: None,
+        settings1: None,
+        settings2: None,
         mend: true,
     };
     for call in [1, 2, 3, 371, 384] {
