@@ -71,10 +71,13 @@ replaced-fits n first count code g =
     let e : 2 ^ length w ≡ 256 = ap (λ k. 2 ^ k) (length-replaced n first count code g) in
     omega (arith, number-fits w)
 
-small : (k : ℕ) → k ≤ 8 → 1 * 2 ^ k % 4294967296 ≡ 2 ^ k
+pub few-codes : (k : ℕ) → k ≤ 8 → 2 ^ k ≤ 256
+few-codes k h = pow-le-pow_right {n = 2} (omega arith) {i = k} {j = 8} h
+
+pub small : (k : ℕ) → k ≤ 8 → 1 * 2 ^ k % 4294967296 ≡ 2 ^ k
 small k h =
     let e : 1 * 2 ^ k ≡ 2 ^ k = omega arith in
-    let b : 2 ^ k ≤ 256 = pow-le-pow_right {n = 2} (omega arith) {i = k} {j = 8} h in
+    let b = few-codes k h in
     ap (λ x. x % 4294967296) e ∙ mod-eq_of_lt (omega arith)
 
 -- the same as the program adds it up

@@ -1,6 +1,6 @@
 //! The fields of channel status that a code can be written to: those within one byte.
 
-ghost use Rattle.std.specs.Prelude.{◌≡◌, ◌+◌, ◌<◌, ◌≤◌};
+ghost use Rattle.std.specs.Prelude.{◌≡◌, ◌+◌, ◌^◌, ◌<◌, ◌≤◌};
 ghost use Rattle.aes3_status.specs.Settings.{con_place, is_for, place_of, pro_place, under};
 
 use crate::fields::bits_at;
@@ -124,6 +124,14 @@ impl Field {
             Field::Professional(field) => field.place(),
             Field::Consumer(field) => field.place(),
         }
+    }
+
+    /// How many codes the field has: those below this number.
+    pub fn codes(self) -> u32
+        ensures count { result ≡ 2 ^ (place_of self).count }
+        ensures few { result ≤ 256 }
+    {
+        1 << self.place().count
     }
 
     /// Whether the status is for the field's use: byte 0 bit 0 is 1 for professional, 0 for consumer use.
