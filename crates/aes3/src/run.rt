@@ -3,6 +3,7 @@
 ghost use Rattle.std.specs.Prelude.{◌≡◌, ◌<◌, ◌≤◌, ◌+◌, ◌^◌, IfOk, OnErr, map};
 ghost use Rattle.aes3_cell.specs.Ends.{Grew};
 ghost use Rattle.aes3.specs.WordRuns.{FaultRan, UnreadTold, WordsRan};
+ghost use Rattle.aes3_engine.specs.Running.{movement_of};
 
 use crate::job::{LineFault, job_of_words};
 use aes3_cell::{Fault, RunError, Sink, Source, write_all};
@@ -39,8 +40,8 @@ fn tell_fault<T: Sink, E: Sink, O: Observer>(
     requires sink_room { T.failed sink.old + 1 < 2 ^ 64 }
     requires errors_room { E.failed errors.old + 1 < 2 ^ 64 }
     ensures told { FaultRan fault
-        (record { old = T.taken sink.old; new = T.taken sink.new; failed_old = T.failed sink.old; failed_new = T.failed sink.new })
-        (record { old = E.taken errors.old; new = E.taken errors.new; failed_old = E.failed errors.old; failed_new = E.failed errors.new }) result }
+        (movement_of T.taken T.failed sink.old sink.new)
+        (movement_of E.taken E.failed errors.old errors.new) result }
     ensures passed_on { T.passed sink.old ≡ T.taken sink.old → T.failed sink.new ≡ T.failed sink.old → T.passed sink.new ≡ T.taken sink.new }
     ensures errors { E.failed errors.new ≤ E.failed errors.old + 1 }
 {
@@ -76,7 +77,7 @@ impl From<AllocError> for Unread {
 pub fn tell_unread<E: Sink, O: Observer>(fault: Unread, errors: &mut E, observer: &mut O) -> u8
     requires { E.failed errors.old + 1 < 2 ^ 64 }
     ensures { UnreadTold fault
-        (record { old = E.taken errors.old; new = E.taken errors.new; failed_old = E.failed errors.old; failed_new = E.failed errors.new }) result }
+        (movement_of E.taken E.failed errors.old errors.new) result }
 {
     match fault {
         Unread::NotUtf8 => {
@@ -103,9 +104,9 @@ pub fn run_words<S: Source, T: Sink, E: Sink, O: Observer>(
     requires sink_room { T.failed sink.old + 1 < 2 ^ 64 }
     requires errors_room { E.failed errors.old + 1 < 2 ^ 64 }
     ensures ran { WordsRan (map (λ word. word.now) words.now) (S.has_ended source.new)
-        (record { old = S.given source.old; new = S.given source.new; failed_old = S.failed source.old; failed_new = S.failed source.new })
-        (record { old = T.taken sink.old; new = T.taken sink.new; failed_old = T.failed sink.old; failed_new = T.failed sink.new })
-        (record { old = E.taken errors.old; new = E.taken errors.new; failed_old = E.failed errors.old; failed_new = E.failed errors.new }) result }
+        (movement_of S.given S.failed source.old source.new)
+        (movement_of T.taken T.failed sink.old sink.new)
+        (movement_of E.taken E.failed errors.old errors.new) result }
     ensures passed_on { T.passed sink.old ≡ T.taken sink.old → T.failed sink.new ≡ T.failed sink.old → T.passed sink.new ≡ T.taken sink.new }
     ensures errors { E.failed errors.new ≤ E.failed errors.old + 1 }
 {

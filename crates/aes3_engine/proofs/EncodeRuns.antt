@@ -19,7 +19,7 @@ use Rattle.aes3_block.proofs.Words.{all_lawful, lawful-words}
 use Rattle.aes3_block.proofs.WholeBlocks.{lawful-next, blocks-next, blocks-stay, added_blocks, fault-place, code-fault, parity-fault, length-fault, end-none, end-whole_file, reader-new}
 use Rattle.aes3_block.proofs.Streams.{each27-whole, stream-bytes, stream-nil, file_blocks-nil, length-stream, slot_count}
 use Rattle.aes3_engine.specs.Converting.{or_else, fault_behind, first_fault, out, whole}
-use Rattle.aes3_engine.specs.Running.{Ran, Run, Change, Clean, CleanEnd}
+use Rattle.aes3_engine.specs.Running.{Ran, Run, Movement, Clean, CleanEnd}
 use Rattle.aes3_engine.specs.Encoding.{WholeFile, encoded, encoding, refused_by, refused_at_end, block_written, Encodes, AllLawful, BadCodeAt, BadParityAt, IsCauseOf, encode_counts}
 use Rattle.aes3_engine.proofs.Outputs.{out-is}
 use Rattle.aes3_engine.proofs.Told.{ran-told, few-told}
@@ -203,7 +203,7 @@ length-cause form b left q = elim (end-cases form b) [
     same : (k : ℕ) → Some (BadLength left) ≡ Some (BadLength k) → left ≡ k
     same k q = cc
 
-ran-cause : (form : Form) (max : ℕ) (z : List ℕ → Type 0) (b : List ℕ) (ended : Bool) (source sink : Change) (e : RunError)
+ran-cause : (form : Form) (max : ℕ) (z : List ℕ → Type 0) (b : List ℕ) (ended : Bool) (source sink : Movement) (e : RunError)
     → length b ≤ max + 1 → Ran max (encoding form) z b ended source sink (Err e) → IsCauseOf max b ended e
 ran-cause form max z b ended source sink Read few h = (clean-lawful form b h.0.clean, h.0.short)
 ran-cause form max z b ended source sink Write few h = few
@@ -242,7 +242,7 @@ ran-cause form max z b ended source sink (BadSample at) few h = elim h.3 [
   | inr q ↦ no-end-cause form b (BadSample at) (λ k e. cc) q.1
 ]
 
-pub told-cause : (form : Form) {max : ℕ} {f s z : List ℕ → Type 0} {ended : Bool} {source sink : Change} {e : RunError} → Run max (encoding form) f s z ended source sink (Err e)
+pub told-cause : (form : Form) {max : ℕ} {f s z : List ℕ → Type 0} {ended : Bool} {source sink : Movement} {e : RunError} → Run max (encoding form) f s z ended source sink (Err e)
     → (b : List ℕ) → Told source.old source.new b → IsCauseOf max b ended e
 told-cause form {max} {f} {s} {z} {ended} {source} {sink} {e} run b t = ran-cause form max z b ended source sink e (few-told run b t) (ran-told run b t)
 

@@ -4,10 +4,10 @@ use Rattle.aes3_cell.specs.declared.refusal.RunError.TheVariants.{Write}
 use Rattle.aes3_cell.specs.Ends.{GrewFront}
 use Rattle.aes3_cell.proofs.Growing.{front-all}
 use Rattle.aes3_engine.specs.Converting.{Reading, out_behind}
-use Rattle.aes3_engine.specs.Running.{Change, PieceRan, EndRan}
+use Rattle.aes3_engine.specs.Running.{Movement, PieceRan, EndRan}
 
 -- it has taken no more, and failed or did not
-with-sink : (P : Change → Type 0) (t t' u : Option (List ℕ)) (k k' n : ℕ) → u ≡ t' → n ≡ k'
+with-sink : (P : Movement → Type 0) (t t' u : Option (List ℕ)) (k k' n : ℕ) → u ≡ t' → n ≡ k'
     → P (record { old = t; new = t'; failed_old = k; failed_new = k' }) → P (record { old = t; new = u; failed_old = k; failed_new = n })
 with-sink P t t' u k k' n e q p =
     subst (λ (v : Option (List ℕ)). P (record { old = t; new = v; failed_old = k; failed_new = n })) (sym e)

@@ -11,7 +11,7 @@ use Rattle.aes3_cell.proofs.Lines.{word_len_64}
 use Rattle.aes3_cell.proofs.WordCells.{low_cells-add, length-word_cells}
 use Rattle.aes3_cell.proofs.Growing.{grew-is, grew-join, front-is, front-join, front-more}
 use Rattle.aes3_cell.specs.declared.ends.Fault.{Fault}
-use Rattle.aes3_engine.specs.Running.{Change}
+use Rattle.aes3_engine.specs.Running.{Movement}
 use Rattle.aes3_engine.specs.Forms.{CellsRan}
 use Rattle.aes3_engine.specs.Taking.{Writing, behind}
 use Rattle.aes3_engine.proofs.Items.{items-join}
@@ -80,6 +80,6 @@ words-further ws rest i n e =
     ap (flat_map word_cells) (take-add i n ws ∙ ap (λ v. take i ws ++ take n v) (sym e)) ∙ flat_map-append word_cells (take i ws) (take n rest)
 
 -- the same cells
-pub cells-ran-is : (w₀ w : Writing Level) (f₀ f : List Level → Type 0) (d e : List Level) (sink : Change) (result : Result (Unit {0}) Fault) → d ≡ e
+pub cells-ran-is : (w₀ w : Writing Level) (f₀ f : List Level → Type 0) (d e : List Level) (sink : Movement) (result : Result (Unit {0}) Fault) → d ≡ e
     → CellsRan w₀ w f₀ f d sink result → CellsRan w₀ w f₀ f e sink result
 cells-ran-is w₀ w f₀ f d e sink result q r = subst (λ (z : List Level). CellsRan w₀ w f₀ f z sink result) q r

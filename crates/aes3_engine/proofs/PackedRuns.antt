@@ -10,7 +10,7 @@ use Rattle.aes3_cell.proofs.Growing.{grew-is, front-is}
 use Rattle.aes3_cell.proofs.PackedCells.{is_packed-packs, packs-is_packed}
 use Rattle.aes3_cell.proofs.PackedReads.{whole_cells-more, cells-end}
 use Rattle.aes3_engine.specs.Converting.{fault_behind, first_fault, out, whole}
-use Rattle.aes3_engine.specs.Running.{Change, Ran, Left, Run, CleanEnd}
+use Rattle.aes3_engine.specs.Running.{Movement, Ran, Left, Run, CleanEnd}
 use Rattle.aes3_engine.specs.Taking.{Writing, behind, before_end, with_end}
 use Rattle.aes3_engine.specs.Forms.{packed_reading, PackedTaken, PackedEnded}
 use Rattle.aes3_engine.specs.Driving.{Drove, LeftCells, Drive}
@@ -100,7 +100,7 @@ pub packed-starts : {packed : PackedReader} {cells : ℕ} (z : List Level → Ty
 packed-starts z e n h = record { reader = e; count = n ∙ sym (ap length no-cells); taker = subst z (sym no-cells) h }
 
 -- the run
-packed-ran-ok : (max : ℕ) (w : Writing Level) (cells : ℕ) (z : List Level → Type 0) (b : List ℕ) (ended : Bool) (source sink : Change) (n : ℕ)
+packed-ran-ok : (max : ℕ) (w : Writing Level) (cells : ℕ) (z : List Level → Type 0) (b : List ℕ) (ended : Bool) (source sink : Movement) (n : ℕ)
     → Ran max (packed_reading w) (PackedEnded cells z) b ended source sink (Ok n) → Drove max Packed w z b ended source sink (Ok (n, cells))
 packed-ran-ok max w cells z b ended source sink n r = (
   record { input = lawful w b r.1; short = r.0.clean.short; end = r.0.end },
@@ -120,7 +120,7 @@ bad-of max w b ended e h = elim h [
   | inr g ↦ let q = end-bad w b e g.1 in (g.0, q.0, q.1)
 ]
 
-packed-ran-err : (max : ℕ) (w : Writing Level) (cells : ℕ) (z : List Level → Type 0) (b : List ℕ) (ended : Bool) (source sink : Change) (e : RunError)
+packed-ran-err : (max : ℕ) (w : Writing Level) (cells : ℕ) (z : List Level → Type 0) (b : List ℕ) (ended : Bool) (source sink : Movement) (e : RunError)
     → Ran max (packed_reading w) (PackedEnded cells z) b ended source sink (Err e) → Drove max Packed w z b ended source sink (Err e)
 packed-ran-err max w cells z b ended source sink Read r = (tt, r.0.short, r.1, r.2, grew-is (out-packed w b) r.3)
 packed-ran-err max w cells z b ended source sink Write r = (
@@ -153,12 +153,12 @@ packed-left max w packed cells f b Read h = h.taker
 packed-left max w packed cells f b TooLong h = h.taker
 packed-left max w packed cells f b e h = subst (λ (v : List ℕ). f (whole_cells v)) (before-all (packed_reading w) [] (take max b) (clean-behind w [] (take max b))) h
 
-pub packed-ok : {max : ℕ} {w : Writing Level} {packed : PackedReader} {cells : ℕ} {f z : List Level → Type 0} {ended : Bool} {source sink : Change} {n : ℕ}
+pub packed-ok : {max : ℕ} {w : Writing Level} {packed : PackedReader} {cells : ℕ} {f z : List Level → Type 0} {ended : Bool} {source sink : Movement} {n : ℕ}
     → Run max (packed_reading w) (PackedTaken packed cells f) (λ b. f (whole_cells b)) (PackedEnded cells z) ended source sink (Ok n) → Drive max Packed w f z ended source sink (Ok (n, cells))
 packed-ok {max} {w} {packed} {cells} {f} {z} {ended} {source} {sink} {n} r =
     record { bytes = r.bytes; given = r.given; few = r.few; ran = packed-ran-ok max w cells z r.bytes ended source sink n r.ran; left = tt }
 
-pub packed-err : {max : ℕ} {w : Writing Level} {packed : PackedReader} {cells : ℕ} {f z : List Level → Type 0} {ended : Bool} {source sink : Change} {e : RunError}
+pub packed-err : {max : ℕ} {w : Writing Level} {packed : PackedReader} {cells : ℕ} {f z : List Level → Type 0} {ended : Bool} {source sink : Movement} {e : RunError}
     → Run max (packed_reading w) (PackedTaken packed cells f) (λ b. f (whole_cells b)) (PackedEnded cells z) ended source sink (Err e) → Drive max Packed w f z ended source sink (Err e)
 packed-err {max} {w} {packed} {cells} {f} {z} {ended} {source} {sink} {e} r =
     record {

@@ -8,7 +8,7 @@ use Rattle.aes3_cell.specs.declared.refusal.RunError.TheVariants.{Read, Write, T
 use Rattle.aes3_cell.specs.Ends.{Grew}
 use Rattle.aes3_cell.proofs.Growing.{grew-join, grew-is, front-join, front-is}
 use Rattle.aes3_engine.specs.Converting.{Reading, before_fault, first_fault, out, whole}
-use Rattle.aes3_engine.specs.Running.{Fed, PieceRan, EndRan, Ran, Left, Run, Change, Quiet, Clean, CleanEnd}
+use Rattle.aes3_engine.specs.Running.{Fed, PieceRan, EndRan, Ran, Left, Run, Movement, Quiet, Clean, CleanEnd}
 use Rattle.aes3_engine.proofs.Outputs.{before-all}
 use Rattle.aes3_engine.proofs.Feeding.{fed-is, fed-join, ran-join}
 
@@ -20,7 +20,7 @@ pub record Upto (r₀ r : Reading) (f₀ f : List ℕ → Type 0) (g₀ g t₀ t
   pub fed : Fed r₀ r f₀ f t₀ t bytes
 
 -- the change of an end
-abbrev pub changed : Option (List ℕ) → Option (List ℕ) → ℕ → ℕ → Change
+abbrev pub changed : Option (List ℕ) → Option (List ℕ) → ℕ → ℕ → Movement
 changed old new failed_old failed_new = record { old = old; new = new; failed_old = failed_old; failed_new = failed_new }
 
 -- which of the bytes may be taken, with the last piece
@@ -90,7 +90,7 @@ ran-end max {r₀ = r₀} f' s z t' ended n₀ n k₀ k k' u h le es ek eg en e 
       left = tt;
     }
 
-ended-as : (max : ℕ) (r₀ r : Reading) (f s z : List ℕ → Type 0) (b : List ℕ) (ended : Bool) (source : Change) (t₀ t t' : Option (List ℕ)) (k₀ k k' : ℕ) (e : RunError)
+ended-as : (max : ℕ) (r₀ r : Reading) (f s z : List ℕ → Type 0) (b : List ℕ) (ended : Bool) (source : Movement) (t₀ t t' : Option (List ℕ)) (k₀ k k' : ℕ) (e : RunError)
     → CleanEnd max r₀ b ended → r ≡ r₀ → f b → Quiet source → k ≡ k₀ → Grew t₀ t (out r₀ b)
     → EndRan r f s z (changed t t' k k') (Err e) → Ran max r₀ z b ended source (changed t₀ t' k₀ k') (Err e)
 unfolding whole
@@ -107,7 +107,7 @@ ended-as max r₀ r f s z b ended source t₀ t t' k₀ k k' e c same h q ek g w
       inr (c, ap (λ v. v.end_fault b) (sym same) ∙ v.0),
     )
 
-ended-left : (max : ℕ) (r₀ r : Reading) (f f' s z : List ℕ → Type 0) (b : List ℕ) (sink : Change) (e : RunError)
+ended-left : (max : ℕ) (r₀ r : Reading) (f f' s z : List ℕ → Type 0) (b : List ℕ) (sink : Movement) (e : RunError)
     → Clean max r₀ b → f b → EndRan r f s z sink (Err e) → Left max r₀ f' s b (Err e)
 unfolding first_fault
 ended-left max r₀ r f f' s z b sink Write c h w = tt
@@ -133,7 +133,7 @@ ran-end_err max {r₀} {r} {f₀} {f} f' s z {g₀} {g} {g'} {t₀} {t} t' {seen
     }
 
 -- a piece stops the run
-piece-as : (max : ℕ) (r₀ r' : Reading) (f₀ f' s z : List ℕ → Type 0) (b : List ℕ) (ended : Bool) (source sink : Change) (e : RunError)
+piece-as : (max : ℕ) (r₀ r' : Reading) (f₀ f' s z : List ℕ → Type 0) (b : List ℕ) (ended : Bool) (source sink : Movement) (e : RunError)
     → PieceRan r₀ r' f₀ f' s (take max b) sink (Err e) → f₀ [] → Quiet source → Ran max r₀ z b ended source sink (Err e)
 unfolding out first_fault
 piece-as max r₀ r' f₀ f' s z b ended source sink Write w h q = (q, w.0, inl (w.1 [] h))
@@ -141,7 +141,7 @@ piece-as max r₀ r' f₀ f' s z b ended source sink Read w h q = absurd w
 piece-as max r₀ r' f₀ f' s z b ended source sink TooLong w h q = absurd w
 piece-as max r₀ r' f₀ f' s z b ended source sink e w h q = (q, w.1, w.0.grew [] h, inl (w.0.fault [] h))
 
-piece-left : (max : ℕ) (r₀ r' : Reading) (f₀ f' s : List ℕ → Type 0) (b : List ℕ) (sink : Change) (e : RunError)
+piece-left : (max : ℕ) (r₀ r' : Reading) (f₀ f' s : List ℕ → Type 0) (b : List ℕ) (sink : Movement) (e : RunError)
     → PieceRan r₀ r' f₀ f' s (take max b) sink (Err e) → f₀ [] → Left max r₀ f' s b (Err e)
 piece-left max r₀ r' f₀ f' s b sink Write w h = tt
 piece-left max r₀ r' f₀ f' s b sink Read w h = absurd w

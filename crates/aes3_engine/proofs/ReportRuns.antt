@@ -7,7 +7,7 @@ use Rattle.aes3_cell.specs.declared.refusal.RunError.{RunError}
 use Rattle.aes3_cell.specs.declared.counts.Counts.{Counts}
 use Rattle.aes3_lock.specs.declared.report.Report.{Report}
 use Rattle.aes3_lock.specs.Reports.{reports, decided, wholes, blocks}
-use Rattle.aes3_engine.specs.Running.{Change}
+use Rattle.aes3_engine.specs.Running.{Movement}
 use Rattle.aes3_engine.specs.Taking.{before_end, with_end}
 use Rattle.aes3_engine.specs.Reporting.{reporting}
 use Rattle.aes3_engine.specs.Inputs.{cells_of}
@@ -35,18 +35,18 @@ counted form b n c k f u e d t =
     ∙ ap (λ (x : ℕ). record { bytes = length b; cells = length (cells_of form b); blocks = length (wholes r); faults = length (filter is_faulty r); unfinished = x; marks = 0 }) t.unfinished_is
 
 -- the run
-pub run-ok : {max : ℕ} {form : Form} (f : ℕ → Report → List ℕ) (e : List ℕ) {g : List Level → Type 0} {blocks faults unfinished : ℕ} {ended : Bool} {source sink : Change} {bytes cells : ℕ}
+pub run-ok : {max : ℕ} {form : Form} (f : ℕ → Report → List ℕ) (e : List ℕ) {g : List Level → Type 0} {blocks faults unfinished : ℕ} {ended : Bool} {source sink : Movement} {bytes cells : ℕ}
     → Drive max form (reporting (report_writing f e)) g (λ c. Tallies blocks faults unfinished (reports c)) ended source sink (Ok (bytes, cells))
     → ReportRun max form f e ended source sink (Ok (record { bytes = bytes; cells = cells; blocks = blocks; faults = faults; unfinished = unfinished; marks = 0 }))
 run-ok {form} f e {blocks = k} {faults = u} {unfinished = v} {bytes = n} {cells = m} r =
     drove-ok (λ c. output f (reports c) ++ e) (λ c. output f (decided c)) (counts_of form) (record { bytes = n; cells = m; blocks = k; faults = u; unfinished = v; marks = 0 })
     (with-cells f e) (λ b p q t. counted form b n m k u v p q t) r
 
-pub run-err : {max : ℕ} {form : Form} (f : ℕ → Report → List ℕ) (e : List ℕ) {g z : List Level → Type 0} {ended : Bool} {source sink : Change} {x : RunError}
+pub run-err : {max : ℕ} {form : Form} (f : ℕ → Report → List ℕ) (e : List ℕ) {g z : List Level → Type 0} {ended : Bool} {source sink : Movement} {x : RunError}
     → Drive max form (reporting (report_writing f e)) g z ended source sink (Err x) → ReportRun max form f e ended source sink (Err x)
 run-err {form} f e r = drove-err (λ c. output f (reports c) ++ e) (λ c. output f (decided c)) (counts_of form) (with-cells f e) (before-cells f e) r
 
-pub run-same : {max : ℕ} {form : Form} (f h : ℕ → Report → List ℕ) (e k : List ℕ) {ended : Bool} {source sink : Change} {r : Result Counts RunError}
+pub run-same : {max : ℕ} {form : Form} (f h : ℕ → Report → List ℕ) (e k : List ℕ) {ended : Bool} {source sink : Movement} {r : Result Counts RunError}
     → f ≡ h → e ≡ k → ReportRun max form f e ended source sink r → ReportRun max form h k ended source sink r
 run-same {max} {form} f h e k {ended} {source} {sink} {r} p q run =
     subst (λ (v : List ℕ). ReportRun max form h v ended source sink r) q (subst (λ (v : ℕ → Report → List ℕ). ReportRun max form v e ended source sink r) p run)

@@ -14,7 +14,7 @@ use Rattle.aes3_block.proofs.SampleBlocks.{length-sampled, length-filled}
 use Rattle.aes3_block.proofs.Words.{length-words}
 use Rattle.aes3_engine.specs.declared.change.Change as change
 use Rattle.aes3_engine.specs.Converting.{or_else, fault_behind, first_fault, out, whole}
-use Rattle.aes3_engine.specs.Running.{Ran, Run, Change, Clean, CleanEnd}
+use Rattle.aes3_engine.specs.Running.{Ran, Run, Movement, Clean, CleanEnd}
 use Rattle.aes3_engine.specs.Sampling.{sample_file, pcm_file, begun_pcm, frame_len, AllExact, IsPcm, BadSampleAt, EndsInFrame, WholePcm, IsPcmCause, pcm_counts, more_of, sampling}
 use Rattle.aes3_engine.proofs.SampleReads.{made, file-more, begun-all, out-samples, byte-clean, byte-bad, clean-all, all-clean, end-whole, end-left}
 use Rattle.aes3_engine.proofs.Told.{ran-told, few-told}
@@ -140,7 +140,7 @@ not-length exact k b left h = let r = cause-of exact k b (BadLength left) h in o
     other : {n : ℕ} → ◌≡◌ {A = RunError} (BadLength left) (BadSample n) → ⊥
     other q = cc
 
-ran-cause : (exact : Bool) (k : change.Change) (max : ℕ) (z : List ℕ → Type 0) (b : List ℕ) (ended : Bool) (source sink : Change) (e : RunError)
+ran-cause : (exact : Bool) (k : change.Change) (max : ℕ) (z : List ℕ → Type 0) (b : List ℕ) (ended : Bool) (source sink : Movement) (e : RunError)
     → length b ≤ max + 1 → Ran max (sampling exact k) z b ended source sink (Err e) → IsPcmCause exact max b ended e
 ran-cause exact k max z b ended source sink Read few h = (clean-all exact k b h.0.clean, h.0.short)
 ran-cause exact k max z b ended source sink Write few h = few
@@ -161,7 +161,7 @@ ran-cause exact k max z b ended source sink Memory few h = no-cause exact k max 
 ran-cause exact k max z b ended source sink BadStatusText few h = no-cause exact k max b ended BadStatusText (λ n e. cc) (λ n e. cc) h.3
 ran-cause exact k max z b ended source sink (BadPadding at) few h = no-cause exact k max b ended (BadPadding at) (λ n e. cc) (λ n e. cc) h.3
 
-pub pcm-cause : (exact : Bool) (k : change.Change) {max : ℕ} {f s z : List ℕ → Type 0} {ended : Bool} {source sink : Change} {e : RunError}
+pub pcm-cause : (exact : Bool) (k : change.Change) {max : ℕ} {f s z : List ℕ → Type 0} {ended : Bool} {source sink : Movement} {e : RunError}
     → Run max (sampling exact k) f s z ended source sink (Err e) → (b : List ℕ) → Told source.old source.new b → IsPcmCause exact max b ended e
 pcm-cause exact k {max} {f} {s} {z} {ended} {source} {sink} {e} run b t = ran-cause exact k max z b ended source sink e (few-told run b t) (ran-told run b t)
 

@@ -9,7 +9,7 @@ use Rattle.aes3_cell.specs.TextReading.{TextReader, text_reader_of}
 use Rattle.aes3_cell.proofs.Growing.{grew-is, front-is}
 use Rattle.aes3_cell.proofs.CellTexts.{good-join, good-bad, text-more, cells-more, cells-bad}
 use Rattle.aes3_engine.specs.Converting.{or_else, unless, fault_behind, before_fault, first_fault, out, whole}
-use Rattle.aes3_engine.specs.Running.{Change, Ran, Left, Run, CleanEnd}
+use Rattle.aes3_engine.specs.Running.{Movement, Ran, Left, Run, CleanEnd}
 use Rattle.aes3_engine.specs.Taking.{Writing, behind, before_end, with_end}
 use Rattle.aes3_engine.specs.Forms.{text_reading, TextTaken}
 use Rattle.aes3_engine.specs.Driving.{Drove, LeftCells, Drive}
@@ -149,7 +149,7 @@ starts {text} {cells} z e n h =
     record { reader = text_reader-new e; lawful = text-none; count = n ∙ sym (ap length no-cells); taker = subst z (sym no-cells) h }
 
 -- the run
-text-ran-ok : (max : ℕ) (w : Writing Level) (text : TextReader) (cells : ℕ) (z : List Level → Type 0) (b : List ℕ) (ended : Bool) (source sink : Change) (n : ℕ)
+text-ran-ok : (max : ℕ) (w : Writing Level) (text : TextReader) (cells : ℕ) (z : List Level → Type 0) (b : List ℕ) (ended : Bool) (source sink : Movement) (n : ℕ)
     → Ran max (text_reading w) (TextTaken text cells z) b ended source sink (Ok n) → Drove max Text w z b ended source sink (Ok (n, cells))
 text-ran-ok max w text cells z b ended source sink n r = (
   record { input = clean-text w b r.0.clean.clean; short = r.0.clean.short; end = r.0.end },
@@ -173,7 +173,7 @@ bad-of max w b ended e h = elim h [
     none-some : {x : RunError} → None ≡ Some x → ⊥
     none-some q = cc
 
-text-ran-err : (max : ℕ) (w : Writing Level) (text : TextReader) (cells : ℕ) (z : List Level → Type 0) (b : List ℕ) (ended : Bool) (source sink : Change) (e : RunError)
+text-ran-err : (max : ℕ) (w : Writing Level) (text : TextReader) (cells : ℕ) (z : List Level → Type 0) (b : List ℕ) (ended : Bool) (source sink : Movement) (e : RunError)
     → Ran max (text_reading w) (TextTaken text cells z) b ended source sink (Err e) → Drove max Text w z b ended source sink (Err e)
 text-ran-err max w text cells z b ended source sink Read r = (clean-text w b r.0.clean, r.0.short, r.1, r.2, grew-is (out-text w b) r.3)
 text-ran-err max w text cells z b ended source sink Write r = (
@@ -208,12 +208,12 @@ text-left max w text cells f b Read h = h.taker
 text-left max w text cells f b TooLong h = h.taker
 text-left max w text cells f b e h = subst f (cells-left w (take max b)) h
 
-pub text-ok : {max : ℕ} {w : Writing Level} {text : TextReader} {cells : ℕ} {f z : List Level → Type 0} {ended : Bool} {source sink : Change} {n : ℕ}
+pub text-ok : {max : ℕ} {w : Writing Level} {text : TextReader} {cells : ℕ} {f z : List Level → Type 0} {ended : Bool} {source sink : Movement} {n : ℕ}
     → Run max (text_reading w) (TextTaken text cells f) (λ b. f (cells_of_text b)) (TextTaken text cells z) ended source sink (Ok n) → Drive max Text w f z ended source sink (Ok (n, cells))
 text-ok {max} {w} {text} {cells} {f} {z} {ended} {source} {sink} {n} r =
     record { bytes = r.bytes; given = r.given; few = r.few; ran = text-ran-ok max w text cells z r.bytes ended source sink n r.ran; left = tt }
 
-pub text-err : {max : ℕ} {w : Writing Level} {text : TextReader} {cells : ℕ} {f z : List Level → Type 0} {ended : Bool} {source sink : Change} {e : RunError}
+pub text-err : {max : ℕ} {w : Writing Level} {text : TextReader} {cells : ℕ} {f z : List Level → Type 0} {ended : Bool} {source sink : Movement} {e : RunError}
     → Run max (text_reading w) (TextTaken text cells f) (λ b. f (cells_of_text b)) (TextTaken text cells z) ended source sink (Err e) → Drive max Text w f z ended source sink (Err e)
 text-err {max} {w} {text} {cells} {f} {z} {ended} {source} {sink} {e} r =
     record {

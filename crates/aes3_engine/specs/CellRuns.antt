@@ -6,7 +6,7 @@ use Rattle.aes3_cell.specs.declared.refusal.RunError.{RunError}
 use Rattle.aes3_cell.specs.declared.refusal.RunError.TheVariants.{BadCell, BadLength, BadCode, BadParity, Read, Write, TooLong, Memory, BadStatusText, BadPadding, BadSample}
 use Rattle.aes3_cell.specs.declared.counts.Counts.{Counts}
 use Rattle.aes3_cell.specs.Ends.{Grew, GrewFront}
-use Rattle.aes3_engine.specs.Running.{Change, Quiet, Failed}
+use Rattle.aes3_engine.specs.Running.{Movement, Quiet, Failed}
 use Rattle.aes3_engine.specs.Inputs.{cells_of, cells_before, NoBadByte, BadByteAt, BadEndAt}
 use Rattle.aes3_engine.specs.Driving.{WholeInput}
 
@@ -32,7 +32,7 @@ IsCause form max b ended (BadSample at) = ⊥
 -- Read: its cause; the source failed, once, and the sink did not; what the cells before write is written
 -- any other refusal: its cause; neither end failed; what the cells before the first fault and the limit write is written
 -- So Ok is owed where the input is in its form and fits and neither end failed: each refusal has a failure or a cause that says otherwise.
-abbrev pub CellRan : ℕ → Form → (List Level → List ℕ) → (List Level → List ℕ) → (List ℕ → Counts) → List ℕ → Bool → Change → Change → Result Counts RunError → Type 0
+abbrev pub CellRan : ℕ → Form → (List Level → List ℕ) → (List Level → List ℕ) → (List ℕ → Counts) → List ℕ → Bool → Movement → Movement → Result Counts RunError → Type 0
 CellRan max form whole begun counts b ended source sink (Ok n) =
     WholeInput max form b ended × (n ≡ counts b) × Quiet source × Quiet sink × Grew sink.old sink.new (whole (cells_of form b))
 CellRan max form whole begun counts b ended source sink (Err Write) =
@@ -45,7 +45,7 @@ CellRan max form whole begun counts b ended source sink (Err x) =
 
 -- such a run, from an input form `form` of at most `max` bytes: the bytes that the source gave in it, which are those that it tells where it
 -- tells them, at most one more than `max`; and what it answered to them, where `ended` says whether the source has ended
-pub record CellRun (max : ℕ) (form : Form) (whole begun : List Level → List ℕ) (counts : List ℕ → Counts) (ended : Bool) (source sink : Change) (result : Result Counts RunError) : Type 0 where
+pub record CellRun (max : ℕ) (form : Form) (whole begun : List Level → List ℕ) (counts : List ℕ → Counts) (ended : Bool) (source sink : Movement) (result : Result Counts RunError) : Type 0 where
   pub bytes : List ℕ
   pub given : Grew source.old source.new bytes
   pub few : length bytes ≤ max + 1

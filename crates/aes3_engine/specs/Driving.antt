@@ -5,7 +5,7 @@ use Rattle.aes3_cell.specs.declared.form.Form.{Form}
 use Rattle.aes3_cell.specs.declared.refusal.RunError.{RunError}
 use Rattle.aes3_cell.specs.declared.refusal.RunError.TheVariants.{Read, Write, TooLong, BadCell, BadPadding}
 use Rattle.aes3_cell.specs.Ends.{Grew, GrewFront}
-use Rattle.aes3_engine.specs.Running.{Change, Quiet, Failed}
+use Rattle.aes3_engine.specs.Running.{Movement, Quiet, Failed}
 use Rattle.aes3_engine.specs.Taking.{Writing, before_end, with_end}
 use Rattle.aes3_engine.specs.Inputs.{IsInput, cells_of, cells_before, NoBadByte, BadByteAt, BadEndAt}
 
@@ -16,7 +16,7 @@ pub record WholeInput (max : ℕ) (form : Form) (b : List ℕ) (ended : Bool) : 
   pub end : IsTrue ended
 
 -- what a run over the bytes b answers: at Ok the taker was given exactly their cells, else those before the fault
-abbrev pub Drove : ℕ → Form → Writing Level → (List Level → Type 0) → List ℕ → Bool → Change → Change → Result (ℕ × ℕ) RunError → Type 0
+abbrev pub Drove : ℕ → Form → Writing Level → (List Level → Type 0) → List ℕ → Bool → Movement → Movement → Result (ℕ × ℕ) RunError → Type 0
 Drove max form w z b ended source sink (Ok n) =
     WholeInput max form b ended × z (cells_of form b) × (n.0 ≡ length b) × (n.1 ≡ length (cells_of form b))
     × Quiet source × Quiet sink × Grew sink.old sink.new (with_end w (cells_of form b))
@@ -40,7 +40,7 @@ LeftCells max form f b (Err Write) = Unit {0}
 LeftCells max form f b (Err e) = f (cells_before form (take max b))
 
 -- a run over cells: with the bytes that the source gave in it, at most one more than max
-pub record Drive (max : ℕ) (form : Form) (w : Writing Level) (f z : List Level → Type 0) (ended : Bool) (source sink : Change) (result : Result (ℕ × ℕ) RunError) : Type 0 where
+pub record Drive (max : ℕ) (form : Form) (w : Writing Level) (f z : List Level → Type 0) (ended : Bool) (source sink : Movement) (result : Result (ℕ × ℕ) RunError) : Type 0 where
   pub bytes : List ℕ
   pub given : Grew source.old source.new bytes
   pub few : length bytes ≤ max + 1

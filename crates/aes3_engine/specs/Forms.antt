@@ -10,7 +10,7 @@ use Rattle.aes3_cell.specs.PackedReading.{PackedReader, packed_reader_of, packed
 use Rattle.aes3_cell.specs.CellText.{is_good_byte, byte_cells, cells_of_text, IsCellText}
 use Rattle.aes3_cell.specs.TextReading.{TextReader, text_reader_of}
 use Rattle.aes3_engine.specs.Converting.{Reading}
-use Rattle.aes3_engine.specs.Running.{Change, Quiet, Failed}
+use Rattle.aes3_engine.specs.Running.{Movement, Quiet, Failed}
 use Rattle.aes3_engine.specs.Taking.{Writing, behind}
 
 -- cell text: a bad byte is a fault, the cell of any other is handed on
@@ -59,17 +59,17 @@ pub record PackedEnded (cells : ℕ) (z : List Level → Type 0) (b : List ℕ) 
   pub taker : z (cells_of_packed b)
 
 -- a taker that followed f₀ and wrote as w₀ was handed the cells d; and the same with the end behind them
-abbrev pub CellsRan : Writing Level → Writing Level → (List Level → Type 0) → (List Level → Type 0) → List Level → Change → Result (Unit {0}) Fault → Type 0
+abbrev pub CellsRan : Writing Level → Writing Level → (List Level → Type 0) → (List Level → Type 0) → List Level → Movement → Result (Unit {0}) Fault → Type 0
 CellsRan w₀ w f₀ f d sink (Ok u) =
     (w ≡ w₀) × ((c : List Level) → f₀ c → f (c ++ d)) × ((c : List Level) → f₀ c → Grew sink.old sink.new (behind w₀ c d)) × Quiet sink
 CellsRan w₀ w f₀ f d sink (Err x) = Failed sink × ((c : List Level) → f₀ c → GrewFront sink.old sink.new (behind w₀ c d))
 
 -- of the first cells of a word, as many as told and one at least; where the sink failed, a front of what they write was taken
-abbrev pub FirstCellsRan : Writing Level → Writing Level → (List Level → Type 0) → (List Level → Type 0) → ℕ → ℕ → Change → Result ℕ Fault → Type 0
+abbrev pub FirstCellsRan : Writing Level → Writing Level → (List Level → Type 0) → (List Level → Type 0) → ℕ → ℕ → Movement → Result ℕ Fault → Type 0
 FirstCellsRan w₀ w f₀ f len word sink (Ok n) = (0 < n) × (n ≤ len) × CellsRan w₀ w f₀ f (low_cells n word) sink (Ok tt)
 FirstCellsRan w₀ w f₀ f len word sink (Err x) = CellsRan w₀ w f₀ f (low_cells len word) sink (Err x)
 
-abbrev pub EndCellsRan : Writing Level → (List Level → Type 0) → (List Level → Type 0) → List Level → Change → Result (Unit {0}) Fault → Type 0
+abbrev pub EndCellsRan : Writing Level → (List Level → Type 0) → (List Level → Type 0) → List Level → Movement → Result (Unit {0}) Fault → Type 0
 EndCellsRan w₀ f₀ z d sink (Ok u) =
     ((c : List Level) → f₀ c → z (c ++ d) × Grew sink.old sink.new (behind w₀ c d ++ w₀.ends (c ++ d))) × Quiet sink
 EndCellsRan w₀ f₀ z d sink (Err x) = Failed sink × ((c : List Level) → f₀ c → GrewFront sink.old sink.new (behind w₀ c d ++ w₀.ends (c ++ d)))

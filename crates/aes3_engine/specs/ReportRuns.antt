@@ -9,7 +9,7 @@ use Rattle.aes3_lock.specs.declared.report.Report.TheVariants.{Whole, Marked, Fa
 use Rattle.aes3_lock.specs.Reports.{reports, decided, wholes, blocks}
 use Rattle.aes3_engine.specs.declared.tally.Tally.{Tally}
 use Rattle.aes3_engine.specs.Taking.{Writing}
-use Rattle.aes3_engine.specs.Running.{Change}
+use Rattle.aes3_engine.specs.Running.{Movement}
 use Rattle.aes3_engine.specs.Inputs.{cells_of}
 use Rattle.aes3_engine.specs.CellRuns.{CellRun}
 
@@ -59,5 +59,5 @@ abbrev pub IsTallyOf : Tally → List Report → Type 0
 IsTallyOf t r = Tallies t.blocks t.faults t.unfinished r
 
 -- a run over cells that gives each report its bytes, and at the end e
-abbrev pub ReportRun : ℕ → Form → (ℕ → Report → List ℕ) → List ℕ → Bool → Change → Change → Result Counts RunError → Type 0
+abbrev pub ReportRun : ℕ → Form → (ℕ → Report → List ℕ) → List ℕ → Bool → Movement → Movement → Result Counts RunError → Type 0
 ReportRun max form f e = CellRun max form (λ c. output f (reports c) ++ e) (λ c. output f (decided c)) (counts_of form)

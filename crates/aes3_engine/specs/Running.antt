@@ -6,22 +6,22 @@ use Rattle.aes3_cell.specs.Ends.{Grew, GrewFront}
 use Rattle.aes3_engine.specs.Converting.{Reading, fault_behind, out_behind, before_fault, first_fault, out, whole}
 
 -- an end's bytes and its count of failures, before a call and after it
-pub record Change : Type 0 where
+pub record Movement : Type 0 where
   pub old : Option (List ℕ)
   pub new : Option (List ℕ)
   pub failed_old : ℕ
   pub failed_new : ℕ
 
 -- of an end of which `bytes` tells its bytes and `failed` its count of failures
-abbrev pub change_of : {A : Type 0} → (A → Option (List ℕ)) → (A → ℕ) → A → A → Change
-change_of bytes failed before after =
+abbrev pub movement_of : {A : Type 0} → (A → Option (List ℕ)) → (A → ℕ) → A → A → Movement
+movement_of bytes failed before after =
     record { old = bytes before; new = bytes after; failed_old = failed before; failed_new = failed after }
 
 -- no failure, one failure
-abbrev pub Quiet : Change → Type 0
+abbrev pub Quiet : Movement → Type 0
 Quiet e = e.failed_new ≡ e.failed_old
 
-abbrev pub Failed : Change → Type 0
+abbrev pub Failed : Movement → Type 0
 Failed e = e.failed_new ≡ e.failed_old + 1
 
 -- a conversion that followed f₀ was fed the bytes a, which are no fault
@@ -38,7 +38,7 @@ pub record Stopped (r₀ : Reading) (f₀ s : List ℕ → Type 0) (t₀ t : Opt
   pub grew : (b : List ℕ) → f₀ b → Grew t₀ t (out_behind r₀ b a)
 
 -- what feeding a piece answers; only the loop tells Read and TooLong
-abbrev pub PieceRan : Reading → Reading → (List ℕ → Type 0) → (List ℕ → Type 0) → (List ℕ → Type 0) → List ℕ → Change → Result (Unit {0}) RunError → Type 0
+abbrev pub PieceRan : Reading → Reading → (List ℕ → Type 0) → (List ℕ → Type 0) → (List ℕ → Type 0) → List ℕ → Movement → Result (Unit {0}) RunError → Type 0
 PieceRan r₀ r f₀ f s piece sink (Ok u) = Fed r₀ r f₀ f sink.old sink.new piece × Quiet sink
 PieceRan r₀ r f₀ f s piece sink (Err Write) = Failed sink × ((b : List ℕ) → f₀ b → GrewFront sink.old sink.new (out_behind r₀ b piece))
 PieceRan r₀ r f₀ f s piece sink (Err Read) = ⊥
@@ -46,12 +46,12 @@ PieceRan r₀ r f₀ f s piece sink (Err TooLong) = ⊥
 PieceRan r₀ r f₀ f s piece sink (Err e) = Stopped r₀ f₀ s sink.old sink.new piece e × Quiet sink
 
 -- what taking a front of a piece answers: how many of its bytes these were
-abbrev pub FrontRan : Reading → Reading → (List ℕ → Type 0) → (List ℕ → Type 0) → (List ℕ → Type 0) → List ℕ → Change → Result ℕ RunError → Type 0
+abbrev pub FrontRan : Reading → Reading → (List ℕ → Type 0) → (List ℕ → Type 0) → (List ℕ → Type 0) → List ℕ → Movement → Result ℕ RunError → Type 0
 FrontRan r₀ r f₀ f s piece sink (Ok n) = (0 < n) × (n ≤ length piece) × Fed r₀ r f₀ f sink.old sink.new (take n piece) × Quiet sink
 FrontRan r₀ r f₀ f s piece sink (Err e) = PieceRan r₀ r f₀ f s piece sink (Err e)
 
 -- what the end answers; where it is no fault, z holds of the bytes, else s
-abbrev pub EndRan : Reading → (List ℕ → Type 0) → (List ℕ → Type 0) → (List ℕ → Type 0) → Change → Result (Unit {0}) RunError → Type 0
+abbrev pub EndRan : Reading → (List ℕ → Type 0) → (List ℕ → Type 0) → (List ℕ → Type 0) → Movement → Result (Unit {0}) RunError → Type 0
 EndRan r f s z sink (Ok u) = ((b : List ℕ) → f b → (r.end_fault b ≡ None) × z b × Grew sink.old sink.new (r.ends b)) × Quiet sink
 EndRan r f s z sink (Err Write) = ((b : List ℕ) → f b → (r.end_fault b ≡ None) × GrewFront sink.old sink.new (r.ends b)) × Failed sink
 EndRan r f s z sink (Err Read) = ⊥
@@ -69,7 +69,7 @@ pub record CleanEnd (max : ℕ) (r : Reading) (b : List ℕ) (ended : Bool) : Ty
   pub end : IsTrue ended
 
 -- what a run answers to the bytes b, and what it has written
-abbrev pub Ran : ℕ → Reading → (List ℕ → Type 0) → List ℕ → Bool → Change → Change → Result ℕ RunError → Type 0
+abbrev pub Ran : ℕ → Reading → (List ℕ → Type 0) → List ℕ → Bool → Movement → Movement → Result ℕ RunError → Type 0
 Ran max r z b ended source sink (Ok n) =
     CleanEnd max r b ended × (r.end_fault b ≡ None) × z b × (n ≡ length b) × Quiet source × Quiet sink × Grew sink.old sink.new (whole r b)
 Ran max r z b ended source sink (Err Read) =
@@ -92,7 +92,7 @@ Left max r f s b (Err TooLong) = f (take max b)
 Left max r f s b (Err e) = s (before_fault r [] (take max b))
 
 -- a run: with the bytes that the source gave in it, at most one more than max
-pub record Run (max : ℕ) (r : Reading) (f s z : List ℕ → Type 0) (ended : Bool) (source sink : Change) (result : Result ℕ RunError) : Type 0 where
+pub record Run (max : ℕ) (r : Reading) (f s z : List ℕ → Type 0) (ended : Bool) (source sink : Movement) (result : Result ℕ RunError) : Type 0 where
   pub bytes : List ℕ
   pub given : Grew source.old source.new bytes
   pub few : length bytes ≤ max + 1

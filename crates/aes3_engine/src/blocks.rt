@@ -5,7 +5,7 @@ ghost use Rattle.aes3_cell.specs.Writes.{Wrote};
 ghost use Rattle.aes3_slot.specs.ReadWords.{read_words};
 ghost use Rattle.aes3_slot.specs.Slots.{payload_len};
 ghost use Rattle.aes3_engine.specs.ReportRuns.{ReportRun};
-ghost use Rattle.aes3_engine.specs.Running.{change_of};
+ghost use Rattle.aes3_engine.specs.Running.{movement_of};
 ghost use Rattle.aes3_engine.specs.BlockRuns.{report_bytes};
 
 use crate::report_runs::{ReportWriter, run_reports};
@@ -105,7 +105,7 @@ pub fn run_blocks<S: Source, T: Sink, W: BlockWriter + Drop>(
     requires sink_room { T.failed sink.old + 1 < 2 ^ 64 }
     requires limit { max_bytes ≤ 2 ^ 40 }
     ensures ran { ReportRun max_bytes input (report_bytes (W.writes writer)) (W.ends writer) (S.has_ended source.new)
-        (change_of S.given S.failed source.old source.new) (change_of T.taken T.failed sink.old sink.new) result }
+        (movement_of S.given S.failed source.old source.new) (movement_of T.taken T.failed sink.old sink.new) result }
     ensures passed_on { IfOk result (λ _. T.passed sink.new ≡ T.taken sink.new) }
 {
     run_reports(source, sink, max_bytes, input, Blocks { writer })

@@ -3,7 +3,7 @@
 ghost use Rattle.std.specs.Prelude.{◌≡◌, ℕ, ◌+◌, ◌<◌, ◌≤◌, ◌^◌, ◌↔◌, List, [], length, take, IfOk, OnErr, IsTrue};
 ghost use Rattle.aes3_cell.specs.Ends.{Grew};
 ghost use Rattle.aes3_engine.specs.Converting.{Reading};
-ghost use Rattle.aes3_engine.specs.Running.{EndRan, FrontRan, PieceRan, Run};
+ghost use Rattle.aes3_engine.specs.Running.{EndRan, FrontRan, PieceRan, Run, movement_of};
 
 use aes3_cell::{Fault, RunError, Sink, Source};
 
@@ -32,14 +32,14 @@ pub trait Input<K> {
         requires room { T.failed sink.old + 1 < 2 ^ 64 }
         requires following { (b : List ℕ) × (length b + length piece.now ≤ 2 ^ 40) × follows self.old taker.old b }
         ensures { FrontRan (reads self.old taker.old) (reads self.new taker.new) (follows self.old taker.old) (follows self.new taker.new) (stopped self.new taker.new) piece.now
-            (record { old = T.taken sink.old; new = T.taken sink.new; failed_old = T.failed sink.old; failed_new = T.failed sink.new }) result };
+            (movement_of T.taken T.failed sink.old sink.new) result };
 
     /// Takes the end of the input.
     fn finish<T: Sink>(&mut self, taker: &mut K, sink: &mut T) -> Result<(), RunError>
         requires room { T.failed sink.old + 1 < 2 ^ 64 }
         requires following { (b : List ℕ) × (length b ≤ 2 ^ 40) × follows self.old taker.old b }
         ensures { EndRan (reads self.old taker.old) (follows self.old taker.old) (stopped self.new taker.new) (finished self.new taker.new)
-            (record { old = T.taken sink.old; new = T.taken sink.new; failed_old = T.failed sink.old; failed_new = T.failed sink.new }) result };
+            (movement_of T.taken T.failed sink.old sink.new) result };
 }
 
 /// How many bytes a read asks for.
@@ -86,7 +86,7 @@ fn feed_fronts<T: Sink, K, I: Input<K>>(
     requires room { T.failed sink.old + 1 < 2 ^ 64 }
     requires following { (b : List ℕ) × (length b + length piece.now ≤ 2 ^ 40) × I.follows input.old taker.old b }
     ensures { PieceRan (I.reads input.old taker.old) (I.reads input.new taker.new) (I.follows input.old taker.old) (I.follows input.new taker.new) (I.stopped input.new taker.new) piece.now
-        (record { old = T.taken sink.old; new = T.taken sink.new; failed_old = T.failed sink.old; failed_new = T.failed sink.new }) result }
+        (movement_of T.taken T.failed sink.old sink.new) result }
 {
     let mut at = 0;
     while at < piece.len() {
@@ -108,7 +108,7 @@ fn feed<T: Sink, K, I: Input<K>>(
     requires room { T.failed sink.old + 1 < 2 ^ 64 }
     requires following { (b : List ℕ) × (length b + length piece.now ≤ 2 ^ 40) × I.follows input.old taker.old b }
     ensures ran { PieceRan (I.reads input.old taker.old) (I.reads input.new taker.new) (I.follows input.old taker.old) (I.follows input.new taker.new) (I.stopped input.new taker.new) piece.now
-        (record { old = T.taken sink.old; new = T.taken sink.new; failed_old = T.failed sink.old; failed_new = T.failed sink.new }) result }
+        (movement_of T.taken T.failed sink.old sink.new) result }
     ensures passed_on { IfOk result (λ _. T.passed sink.new ≡ T.taken sink.new) }
 {
     match feed_fronts(input, taker, sink, piece) {
@@ -129,7 +129,7 @@ fn finish<T: Sink, K, I: Input<K>>(
     requires room { T.failed sink.old + 1 < 2 ^ 64 }
     requires following { (b : List ℕ) × (length b ≤ 2 ^ 40) × I.follows input.old taker.old b }
     ensures ran { EndRan (I.reads input.old taker.old) (I.follows input.old taker.old) (I.stopped input.new taker.new) (I.finished input.new taker.new)
-        (record { old = T.taken sink.old; new = T.taken sink.new; failed_old = T.failed sink.old; failed_new = T.failed sink.new }) result }
+        (movement_of T.taken T.failed sink.old sink.new) result }
     ensures passed_on { IfOk result (λ _. T.passed sink.new ≡ T.taken sink.new) }
 {
     match input.finish(taker, sink) {
@@ -158,8 +158,8 @@ pub fn convert<S: Source, T: Sink, K, I: Input<K>>(
     requires limit { max_bytes ≤ 2 ^ 40 }
     requires start { I.follows input.old taker.old [] }
     ensures run { Run max_bytes (I.reads input.old taker.old) (I.follows input.new taker.new) (I.stopped input.new taker.new) (I.finished input.new taker.new) (S.has_ended source.new)
-        (record { old = S.given source.old; new = S.given source.new; failed_old = S.failed source.old; failed_new = S.failed source.new })
-        (record { old = T.taken sink.old; new = T.taken sink.new; failed_old = T.failed sink.old; failed_new = T.failed sink.new }) result }
+        (movement_of S.given S.failed source.old source.new)
+        (movement_of T.taken T.failed sink.old sink.new) result }
 
     // At Ok the sink has passed on all that it took, and so it had before a read that failed.
     ensures passed_on { IfOk result (λ _. T.passed sink.new ≡ T.taken sink.new) }

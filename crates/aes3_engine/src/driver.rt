@@ -2,6 +2,7 @@
 
 ghost use Rattle.std.specs.Prelude.{◌≡◌, ◌+◌, ◌<◌, ◌≤◌, ◌^◌, [], IfOk};
 ghost use Rattle.aes3_engine.specs.Driving.{Drive};
+ghost use Rattle.aes3_engine.specs.Running.{movement_of};
 
 use crate::packed_input::drive_packed;
 use crate::taker::Taker;
@@ -28,8 +29,8 @@ pub fn drive<S: Source, T: Sink, K: Taker>(
     requires limit { max_bytes ≤ 2 ^ 40 }
     requires start { K.follows taker.old [] }
     ensures ran { Drive max_bytes input (K.writes taker.old) (K.follows taker.new) (K.finished taker.new) (S.has_ended source.new)
-        (record { old = S.given source.old; new = S.given source.new; failed_old = S.failed source.old; failed_new = S.failed source.new })
-        (record { old = T.taken sink.old; new = T.taken sink.new; failed_old = T.failed sink.old; failed_new = T.failed sink.new }) result }
+        (movement_of S.given S.failed source.old source.new)
+        (movement_of T.taken T.failed sink.old sink.new) result }
     ensures passed_on { IfOk result (λ _. T.passed sink.new ≡ T.taken sink.new) }
 {
     match input {

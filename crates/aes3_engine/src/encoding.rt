@@ -10,7 +10,7 @@ ghost use Rattle.aes3_block.specs.Files.{file, IsBlockFile, file_blocks};
 ghost use Rattle.aes3_block.specs.Readers.{TakesQuietly};
 ghost use Rattle.aes3_lock.specs.Reports.{blocks, normal};
 ghost use Rattle.aes3_engine.specs.Encoding.{Encodes, IsCauseOf, WholeFile, encode_counts, encoded, encoding};
-ghost use Rattle.aes3_engine.specs.Running.{PieceRan};
+ghost use Rattle.aes3_engine.specs.Running.{PieceRan, movement_of};
 
 use crate::conversion::{Input, convert};
 use aes3_block::{BLOCK_CELLS, BlockFile, put_block};
@@ -33,7 +33,7 @@ fn take_byte<T: Sink>(
     requires room { T.failed sink.old + 1 < 2 ^ 64 }
     requires following { (b : List ℕ) × (length b < 2 ^ 40) × Encodes file.old encoder.old.blocks b }
     ensures { PieceRan (encoding encoder.old.output) (encoding encoder.new.output) (Encodes file.old encoder.old.blocks) (Encodes file.new encoder.new.blocks) (λ b. encoder.new.blocks ≡ length (file_blocks b)) (byte ∷ [])
-        (record { old = T.taken sink.old; new = T.taken sink.new; failed_old = T.failed sink.old; failed_new = T.failed sink.new }) result }
+        (movement_of T.taken T.failed sink.old sink.new) result }
 {
     match file.feed_byte(byte) {
         Ok(None) => Ok(()),

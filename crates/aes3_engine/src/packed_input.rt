@@ -9,7 +9,7 @@ ghost use Rattle.aes3_cell.specs.PackedReading.{behind_eight, eight_whole, packe
 ghost use Rattle.aes3_cell.specs.Words.{low_cells, word_cells};
 ghost use Rattle.aes3_engine.specs.Driving.{Drive};
 ghost use Rattle.aes3_engine.specs.Forms.{CellsRan, EndCellsRan, PackedEnded, PackedTaken, octet_front, packed_reading};
-ghost use Rattle.aes3_engine.specs.Running.{FrontRan, PieceRan};
+ghost use Rattle.aes3_engine.specs.Running.{FrontRan, PieceRan, movement_of};
 
 use crate::conversion::{Input, convert};
 use crate::taker::Taker;
@@ -57,7 +57,7 @@ fn hand_on<T: Sink, K: Taker>(taker: &mut K, sink: &mut T, octet: u8, used: u8) 
     requires room { T.failed sink.old + 1 < 2 ^ 64 }
     requires following { (c : List Level) × (length c + 8 ≤ 2 ^ 43) × K.follows taker.old c }
     ensures { CellsRan (K.writes taker.old) (K.writes taker.new) (K.follows taker.old) (K.follows taker.new) (octet_front used octet)
-        (record { old = T.taken sink.old; new = T.taken sink.new; failed_old = T.failed sink.old; failed_new = T.failed sink.new }) result }
+        (movement_of T.taken T.failed sink.old sink.new) result }
 {
     taker.cells(sink, word_of_octet(octet), u32::from(used))
 }
@@ -73,7 +73,7 @@ fn hand_on_last<T: Sink, K: Taker>(
     requires room { T.failed sink.old + 1 < 2 ^ 64 }
     requires following { (c : List Level) × (length c + 8 ≤ 2 ^ 43) × K.follows taker.old c }
     ensures { EndCellsRan (K.writes taker.old) (K.follows taker.old) (K.finished taker.new) (octet_front used octet)
-        (record { old = T.taken sink.old; new = T.taken sink.new; failed_old = T.failed sink.old; failed_new = T.failed sink.new }) result }
+        (movement_of T.taken T.failed sink.old sink.new) result }
 {
     match hand_on(taker, sink, octet, used) {
         Ok(()) => taker.finish(sink),
@@ -92,7 +92,7 @@ fn take_octet<T: Sink, K: Taker>(
     requires following { (b : List ℕ) × (length b < 2 ^ 40) × PackedTaken input.old.packed input.old.cells (K.follows taker.old) b }
     ensures { PieceRan (packed_reading (K.writes taker.old)) (packed_reading (K.writes taker.new))
         (PackedTaken input.old.packed input.old.cells (K.follows taker.old)) (PackedTaken input.new.packed input.new.cells (K.follows taker.new)) (λ b. K.follows taker.new (whole_cells b)) (octet ∷ [])
-        (record { old = T.taken sink.old; new = T.taken sink.new; failed_old = T.failed sink.old; failed_new = T.failed sink.new }) result }
+        (movement_of T.taken T.failed sink.old sink.new) result }
 {
     match input.packed.feed_byte(octet) {
         Some(whole) => match hand_on(taker, sink, whole, 8) {
@@ -138,7 +138,7 @@ fn take_first<T: Sink, K: Taker>(
     requires following { (b : List ℕ) × (length b + length piece.now ≤ 2 ^ 40) × PackedTaken input.old.packed input.old.cells (K.follows taker.old) b }
     ensures { FrontRan (packed_reading (K.writes taker.old)) (packed_reading (K.writes taker.new))
         (PackedTaken input.old.packed input.old.cells (K.follows taker.old)) (PackedTaken input.new.packed input.new.cells (K.follows taker.new)) (λ b. K.follows taker.new (whole_cells b)) piece.now
-        (record { old = T.taken sink.old; new = T.taken sink.new; failed_old = T.failed sink.old; failed_new = T.failed sink.new }) result }
+        (movement_of T.taken T.failed sink.old sink.new) result }
 {
     match take_octet(input, taker, sink, piece[0]) {
         Ok(()) => Ok(1),
@@ -158,8 +158,8 @@ pub(crate) fn drive_packed<S: Source, T: Sink, K: Taker>(
     requires limit { max_bytes ≤ 2 ^ 40 }
     requires start { K.follows taker.old [] }
     ensures ran { Drive max_bytes Form.Packed (K.writes taker.old) (K.follows taker.new) (K.finished taker.new) (S.has_ended source.new)
-        (record { old = S.given source.old; new = S.given source.new; failed_old = S.failed source.old; failed_new = S.failed source.new })
-        (record { old = T.taken sink.old; new = T.taken sink.new; failed_old = T.failed sink.old; failed_new = T.failed sink.new }) result }
+        (movement_of S.given S.failed source.old source.new)
+        (movement_of T.taken T.failed sink.old sink.new) result }
     ensures passed_on { IfOk result (λ _. T.passed sink.new ≡ T.taken sink.new) }
 {
     let mut input = PackedInput::new();

@@ -18,7 +18,7 @@ ghost use Rattle.aes3_engine.specs.Driving.{WholeInput};
 ghost use Rattle.aes3_engine.specs.Inputs.{IsInput, cells_before, cells_of};
 ghost use Rattle.aes3_engine.specs.CellRuns.{CellRun, IsCause};
 ghost use Rattle.aes3_engine.specs.ReportRuns.{counts_of};
-ghost use Rattle.aes3_engine.specs.Running.{change_of};
+ghost use Rattle.aes3_engine.specs.Running.{movement_of};
 
 use crate::blocks::{BlockWriter, run_blocks};
 use aes3_block::{Block, put_block, put_block_file, put_read_block};
@@ -202,8 +202,8 @@ pub fn decode<S: Source, T: Sink>(
         → Grew (T.taken sink.old) (T.taken sink.new) (file bs)) }
     // It is a run over cells: Ok is owed, a refusal has its cause, and what was decided before it is written.
     ensures run { CellRun max_bytes input (λ c. file (blocks c)) (λ c. file (decided_blocks c)) (counts_of input)
-        (S.has_ended source.new) (change_of S.given S.failed source.old source.new)
-        (change_of T.taken T.failed sink.old sink.new) result }
+        (S.has_ended source.new) (movement_of S.given S.failed source.old source.new)
+        (movement_of T.taken T.failed sink.old sink.new) result }
     ensures passed_on { IfOk result (λ _. T.passed sink.new ≡ T.taken sink.new) }
 {
     run_blocks(source, sink, max_bytes, input, FileBlocks)
@@ -232,8 +232,8 @@ pub fn cut<S: Source, T: Sink>(
         → Grew (T.taken sink.old) (T.taken sink.new) (written_stream output (cut_blocks from count (blocks (cells_of input b))))) }
     // It is a run over cells: Ok is owed, a refusal has its cause, and what was decided before it is written.
     ensures run { CellRun max_bytes input (λ c. written_stream output (cut_blocks from count (blocks c))) (λ c. begun_stream output (cut_blocks from count (decided_blocks c))) (counts_of input)
-        (S.has_ended source.new) (change_of S.given S.failed source.old source.new)
-        (change_of T.taken T.failed sink.old sink.new) result }
+        (S.has_ended source.new) (movement_of S.given S.failed source.old source.new)
+        (movement_of T.taken T.failed sink.old sink.new) result }
     ensures passed_on { IfOk result (λ _. T.passed sink.new ≡ T.taken sink.new) }
 {
     let writer = CutBlocks {

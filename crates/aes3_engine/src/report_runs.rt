@@ -5,7 +5,7 @@ ghost use Rattle.aes3_cell.specs.Writes.{Wrote};
 ghost use Rattle.aes3_lock.specs.declared.report.Report.{Report};
 ghost use Rattle.aes3_lock.specs.Following.{report_in};
 ghost use Rattle.aes3_engine.specs.ReportRuns.{IsTallyOf, ReportRun, report_writing};
-ghost use Rattle.aes3_engine.specs.Running.{change_of};
+ghost use Rattle.aes3_engine.specs.Running.{movement_of};
 
 use crate::driver::drive;
 use crate::locked::Locked;
@@ -127,7 +127,7 @@ pub fn run_reports<S: Source, T: Sink, W: ReportWriter + Drop>(
     requires sink_room { T.failed sink.old + 1 < 2 ^ 64 }
     requires limit { max_bytes ≤ 2 ^ 40 }
     ensures ran { ReportRun max_bytes input (W.writes writer) (W.ends writer) (S.has_ended source.new)
-        (change_of S.given S.failed source.old source.new) (change_of T.taken T.failed sink.old sink.new) result }
+        (movement_of S.given S.failed source.old source.new) (movement_of T.taken T.failed sink.old sink.new) result }
     ensures passed_on { IfOk result (λ _. T.passed sink.new ≡ T.taken sink.new) }
 {
     let mut taker = Locked::new(Counting::new(writer));

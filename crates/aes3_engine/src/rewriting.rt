@@ -8,7 +8,7 @@ ghost use Rattle.aes3_engine.specs.BlockRuns.{begun_stream, decided_blocks, writ
 ghost use Rattle.aes3_engine.specs.Inputs.{cells_of};
 ghost use Rattle.aes3_engine.specs.CellRuns.{CellRun};
 ghost use Rattle.aes3_engine.specs.ReportRuns.{counts_of};
-ghost use Rattle.aes3_engine.specs.Running.{change_of};
+ghost use Rattle.aes3_engine.specs.Running.{movement_of};
 ghost use Rattle.aes3_engine.specs.Rewriting.{mended, rewritten, rewritten_block, rewritten_blocks, set_settings, set_status};
 
 use crate::blocks::{BlockWriter, run_blocks};
@@ -108,8 +108,8 @@ pub fn rewrite<S: Source, T: Sink>(
         → Grew (T.taken sink.old) (T.taken sink.new) (written_stream output (rewritten_blocks change.now (blocks (cells_of input b))))) }
     // It is a run over cells: Ok is owed, a refusal has its cause, and what was decided before it is written.
     ensures run { CellRun max_bytes input (λ c. written_stream output (rewritten_blocks change.now (blocks c))) (λ c. begun_stream output (rewritten_blocks change.now (decided_blocks c))) (counts_of input)
-        (S.has_ended source.new) (change_of S.given S.failed source.old source.new)
-        (change_of T.taken T.failed sink.old sink.new) result }
+        (S.has_ended source.new) (movement_of S.given S.failed source.old source.new)
+        (movement_of T.taken T.failed sink.old sink.new) result }
     ensures passed_on { IfOk result (λ _. T.passed sink.new ≡ T.taken sink.new) }
 {
     let writer = RewrittenBlocks {

@@ -12,7 +12,7 @@ ghost use Rattle.aes3_engine.specs.BlockRuns.{decided_blocks, sample_block, writ
 ghost use Rattle.aes3_engine.specs.Inputs.{cells_of};
 ghost use Rattle.aes3_engine.specs.CellRuns.{CellRun};
 ghost use Rattle.aes3_engine.specs.ReportRuns.{counts_of};
-ghost use Rattle.aes3_engine.specs.Running.{change_of};
+ghost use Rattle.aes3_engine.specs.Running.{movement_of};
 
 use crate::blocks::{BlockWriter, run_blocks};
 use aes3_block::{Block, put_block_samples};
@@ -67,8 +67,8 @@ pub fn to_pcm<S: Source, T: Sink>(
         → Grew (T.taken sink.old) (T.taken sink.new) (samples bs)) }
     // It is a run over cells: Ok is owed, a refusal has its cause, and what was decided before it is written.
     ensures run { CellRun max_bytes input (λ c. samples (blocks c)) (λ c. samples (decided_blocks c)) (counts_of input)
-        (S.has_ended source.new) (change_of S.given S.failed source.old source.new)
-        (change_of T.taken T.failed sink.old sink.new) result }
+        (S.has_ended source.new) (movement_of S.given S.failed source.old source.new)
+        (movement_of T.taken T.failed sink.old sink.new) result }
     ensures passed_on { IfOk result (λ _. T.passed sink.new ≡ T.taken sink.new) }
 {
     run_blocks(source, sink, max_bytes, input, SampleBlocks)

@@ -7,6 +7,7 @@ ghost use Rattle.aes3_cell.specs.Ends.{Grew, GrewFront};
 ghost use Rattle.aes3_cell.specs.Words.{low_cells, word_cells};
 ghost use Rattle.aes3_engine.specs.Forms.{CellsRan, FirstCellsRan};
 ghost use Rattle.aes3_engine.specs.Taking.{Writing};
+ghost use Rattle.aes3_engine.specs.Running.{movement_of};
 
 use aes3_cell::{Fault, Level, Sink};
 
@@ -31,7 +32,7 @@ pub trait Taker {
         requires room { T.failed sink.old + 1 < 2 ^ 64 }
         requires following { (c : List Level) × (length c + len ≤ 2 ^ 43) × follows self.old c }
         ensures ran { FirstCellsRan (writes self.old) (writes self.new) (follows self.old) (follows self.new) len word
-            (record { old = T.taken sink.old; new = T.taken sink.new; failed_old = T.failed sink.old; failed_new = T.failed sink.new }) result };
+            (movement_of T.taken T.failed sink.old sink.new) result };
 
     /// Takes the end of the cells.
     ///
@@ -55,7 +56,7 @@ pub trait Taker {
         requires room { T.failed sink.old + 1 < 2 ^ 64 }
         requires following { (c : List Level) × (length c + len ≤ 2 ^ 43) × follows self.old c }
         ensures ran { CellsRan (writes self.old) (writes self.new) (follows self.old) (follows self.new) (low_cells len word)
-            (record { old = T.taken sink.old; new = T.taken sink.new; failed_old = T.failed sink.old; failed_new = T.failed sink.new }) result }
+            (movement_of T.taken T.failed sink.old sink.new) result }
     {
         let mut taken = 0;
         while taken < len {
@@ -75,7 +76,7 @@ pub trait Taker {
         requires room { T.failed sink.old + 1 < 2 ^ 64 }
         requires following { (c : List Level) × (length c + 64 * length words.now ≤ 2 ^ 43) × follows self.old c }
         ensures ran { CellsRan (writes self.old) (writes self.new) (follows self.old) (follows self.new) (flat_map word_cells words.now)
-            (record { old = T.taken sink.old; new = T.taken sink.new; failed_old = T.failed sink.old; failed_new = T.failed sink.new }) result }
+            (movement_of T.taken T.failed sink.old sink.new) result }
     {
         for word in words.iter() {
             match self.cells(sink, *word, u64::BITS) {
@@ -111,7 +112,7 @@ pub trait Taker {
         requires room { T.failed sink.old + 1 < 2 ^ 64 }
         requires following { (c : List Level) × (length c + 64 ≤ 2 ^ 43) × follows self.old c }
         ensures ran { CellsRan (writes self.old) (writes self.new) (follows self.old) (follows self.new) (word_cells word)
-            (record { old = T.taken sink.old; new = T.taken sink.new; failed_old = T.failed sink.old; failed_new = T.failed sink.new }) result }
+            (movement_of T.taken T.failed sink.old sink.new) result }
     {
         self.cells(sink, word, u64::BITS)
     }

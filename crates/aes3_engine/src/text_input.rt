@@ -8,7 +8,7 @@ ghost use Rattle.aes3_cell.specs.TextReading.{text_answer};
 ghost use Rattle.aes3_cell.specs.Words.{low_cells, word_cells};
 ghost use Rattle.aes3_engine.specs.Driving.{Drive};
 ghost use Rattle.aes3_engine.specs.Forms.{TextRead, TextTaken, text_reading};
-ghost use Rattle.aes3_engine.specs.Running.{FrontRan};
+ghost use Rattle.aes3_engine.specs.Running.{FrontRan, movement_of};
 
 use crate::conversion::{Input, convert};
 use crate::taker::Taker;
@@ -248,7 +248,7 @@ fn take_cells<T: Sink, K: Taker>(
     requires following { (b : List ℕ) × (length b + length piece.now ≤ 2 ^ 40) × TextTaken input.old.text input.old.cells (K.follows taker.old) b }
     ensures { FrontRan (text_reading (K.writes taker.old)) (text_reading (K.writes taker.new))
         (TextTaken input.old.text input.old.cells (K.follows taker.old)) (TextTaken input.new.text input.new.cells (K.follows taker.new)) (λ b. K.follows taker.new (cells_of_text b)) piece.now
-        (record { old = T.taken sink.old; new = T.taken sink.new; failed_old = T.failed sink.old; failed_new = T.failed sink.new }) result }
+        (movement_of T.taken T.failed sink.old sink.new) result }
 {
     match feed_cells(&mut input.text, piece) {
         Ok((taken, cells)) => match taker.cells(sink, cells.word, cells.len) {
@@ -274,8 +274,8 @@ pub(crate) fn drive_text<S: Source, T: Sink, K: Taker>(
     requires limit { max_bytes ≤ 2 ^ 40 }
     requires start { K.follows taker.old [] }
     ensures ran { Drive max_bytes Form.Text (K.writes taker.old) (K.follows taker.new) (K.finished taker.new) (S.has_ended source.new)
-        (record { old = S.given source.old; new = S.given source.new; failed_old = S.failed source.old; failed_new = S.failed source.new })
-        (record { old = T.taken sink.old; new = T.taken sink.new; failed_old = T.failed sink.old; failed_new = T.failed sink.new }) result }
+        (movement_of S.given S.failed source.old source.new)
+        (movement_of T.taken T.failed sink.old sink.new) result }
     ensures passed_on { IfOk result (λ _. T.passed sink.new ≡ T.taken sink.new) }
 {
     let mut input = TextInput::new();

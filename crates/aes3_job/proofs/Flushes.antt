@@ -5,7 +5,7 @@ use Rattle.aes3_cell.specs.declared.refusal.RunError.{RunError}
 use Rattle.aes3_cell.specs.declared.refusal.RunError.TheVariants.{Write}
 use Rattle.aes3_cell.specs.declared.counts.Counts.{Counts}
 use Rattle.aes3_cell.proofs.Growing.{front-all}
-use Rattle.aes3_engine.specs.Running.{Change, Quiet}
+use Rattle.aes3_engine.specs.Running.{Movement, Quiet}
 use Rattle.aes3_job.specs.declared.job.Job.{Job}
 use Rattle.aes3_job.specs.declared.job.Job.TheVariants.{Encode, Decode, Normal, Check, Account, Show, ShowChanges, Scan, Cut, Rewrite, ToPcm, FromPcm}
 use Rattle.aes3_job.specs.JobRuns.{Flushed, IsCauseFor, IsInputOf, IsWhole, JobDone, JobRefused, RunDone, RunRefused, most, status_by}
@@ -32,7 +32,7 @@ write-cause (ToPcm i) b ended l = l
 write-cause (FromPcm exact change) b ended l = l
 
 -- a refusal behind which the sink did not fail
-kept : {job : Job} {ended : Bool} {source : Change} {t₀ t₁ t₂ : Option (List ℕ)} {f₀ f₁ f₂ : ℕ} {x : RunError}
+kept : {job : Job} {ended : Bool} {source : Movement} {t₀ t₁ t₂ : Option (List ℕ)} {f₀ f₁ f₂ : ℕ} {x : RunError}
     → RunRefused job ended source (record { old = t₀; new = t₁; failed_old = f₀; failed_new = f₁ }) x → t₂ ≡ t₁ → f₂ ≡ f₁
     → RunRefused job ended source (record { old = t₀; new = t₂; failed_old = f₀; failed_new = f₂ }) x
 kept r t f = record {
@@ -47,7 +47,7 @@ kept r t f = record {
 }
 
 -- one behind which it failed
-unflushed : {job : Job} {ended : Bool} {source : Change} {t₀ t₁ t₂ : Option (List ℕ)} {f₀ f₁ f₂ : ℕ} {x : RunError}
+unflushed : {job : Job} {ended : Bool} {source : Movement} {t₀ t₁ t₂ : Option (List ℕ)} {f₀ f₁ f₂ : ℕ} {x : RunError}
     → RunRefused job ended source (record { old = t₀; new = t₁; failed_old = f₀; failed_new = f₁ }) x → x ≢ Write → t₂ ≡ t₁ → f₂ ≡ f₁ + 1
     → RunRefused job ended source (record { old = t₀; new = t₂; failed_old = f₀; failed_new = f₂ }) Write
 unflushed {job} {ended} {f₀} {f₁} r n t f =
@@ -63,7 +63,7 @@ unflushed {job} {ended} {f₀} {f₁} r n t f =
       few = r.few;
     }
 
-pub refused-flushed : {job : Job} {ended : Bool} {source : Change} {t₀ t₁ t₂ : Option (List ℕ)} {f₀ f₁ f₂ : ℕ} {errors : Change} {status : ℕ} {x told : RunError}
+pub refused-flushed : {job : Job} {ended : Bool} {source : Movement} {t₀ t₁ t₂ : Option (List ℕ)} {f₀ f₁ f₂ : ℕ} {errors : Movement} {status : ℕ} {x told : RunError}
     → RunRefused job ended source (record { old = t₀; new = t₁; failed_old = f₀; failed_new = f₁ }) x
     → Flushed x (record { old = t₁; new = t₂; failed_old = f₁; failed_new = f₂ }) told → status ≡ 3
     → (Quiet errors → Grew errors.old errors.new (refusal_line told)) → JobRefused job ended source (record { old = t₀; new = t₂; failed_old = f₀; failed_new = f₂ }) errors status
@@ -80,7 +80,7 @@ refused-flushed {job} {ended} {source} {t₀} {t₂} {f₀} {f₂} {told} r f s 
     }
 
 -- where the sink did not fail, it was flushed
-pub passed-on : {job : Job} {ended : Bool} {source : Change} {t₀ t₁ t₂ : Option (List ℕ)} {f₀ f₁ f₂ : ℕ} {x told : RunError} {P : Type 0}
+pub passed-on : {job : Job} {ended : Bool} {source : Movement} {t₀ t₁ t₂ : Option (List ℕ)} {f₀ f₁ f₂ : ℕ} {x told : RunError} {P : Type 0}
     → RunRefused job ended source (record { old = t₀; new = t₁; failed_old = f₀; failed_new = f₁ }) x
     → Flushed x (record { old = t₁; new = t₂; failed_old = f₁; failed_new = f₂ }) told → (f₂ ≡ f₁ → x ≢ Write → P) → f₂ ≡ f₀ → P
 passed-on {f₀} {f₁} {f₂} {x} r f p h =
@@ -89,7 +89,7 @@ passed-on {f₀} {f₁} {f₂} {x} r f p h =
     p (omega arith) n
 
 -- a run that ended well
-pub done : {job : Job} {ended : Bool} {source sink errors : Change} {status : ℕ} {counts : Counts}
+pub done : {job : Job} {ended : Bool} {source sink errors : Movement} {status : ℕ} {counts : Counts}
     → RunDone job ended source sink counts → status ≡ status_by job counts → Grew errors.old errors.new [] → JobDone job ended source sink errors status
 done {job} r s l = record {
   end = r.end;

@@ -7,7 +7,7 @@ use Rattle.aes3_cell.specs.declared.counts.Counts.{Counts}
 use Rattle.aes3_cell.specs.declared.refusal.RunError.{RunError}
 use Rattle.aes3_cell.specs.declared.refusal.RunError.TheVariants.{Read, Write}
 use Rattle.aes3_cell.proofs.Growing.{grew-is, front-is}
-use Rattle.aes3_engine.specs.Running.{Change, Quiet, Failed}
+use Rattle.aes3_engine.specs.Running.{Movement, Quiet, Failed}
 use Rattle.aes3_engine.specs.Driving.{WholeInput}
 use Rattle.aes3_engine.specs.Inputs.{IsInput, cells_of, cells_before}
 use Rattle.aes3_engine.specs.CellRuns.{IsCause, CellRun}
@@ -32,7 +32,7 @@ pub record OverCells (job : Job) (form : Form) (whole begun : List Level → Lis
   pub cause : (b : List ℕ) (ended : Bool) (x : RunError) → IsCause form most b ended x → IsCauseFor job b ended x
   pub whole_is : (b : List ℕ) (ended : Bool) → WholeInput most form b ended → IsWhole job b ended
 
-cells-ran : {job : Job} {form : Form} {whole begun : List Level → List ℕ} {counts : List ℕ → Counts} {ended : Bool} {source sink : Change} (r : Result Counts RunError)
+cells-ran : {job : Job} {form : Form} {whole begun : List Level → List ℕ} {counts : List ℕ → Counts} {ended : Bool} {source sink : Movement} (r : Result Counts RunError)
     → CellRun most form whole begun counts ended source sink r → OverCells job form whole begun counts → RunRan job ended source sink r
 cells-ran {whole} (Ok n) run o = record {
   end = run-ended (Ok n) run;
@@ -57,12 +57,12 @@ cells-ran {whole} {begun} {ended} (Err x) run o = record {
   few = run-few run;
 }
 
-pub cells-job : {job job' : Job} {form : Form} {whole begun : List Level → List ℕ} {counts : List ℕ → Counts} {ended : Bool} {source sink : Change} (r : Result Counts RunError)
+pub cells-job : {job job' : Job} {form : Form} {whole begun : List Level → List ℕ} {counts : List ℕ → Counts} {ended : Bool} {source sink : Movement} (r : Result Counts RunError)
     → job ≡ job' → CellRun most form whole begun counts ended source sink r → OverCells job' form whole begun counts → RunRan job ended source sink r
 cells-job {ended} {source} {sink} r e run o = subst (λ (j : Job). RunRan j ended source sink r) (sym e) (cells-ran r run o)
 
 -- the same of a run that says it clause by clause
-told-ran : (job : Job) (ended : Bool) (source sink : Change) (r : Result Counts RunError)
+told-ran : (job : Job) (ended : Bool) (source sink : Movement) (r : Result Counts RunError)
     → IfOk r (λ (n : Counts). (b : List ℕ) → Told source.old source.new b → Grew sink.old sink.new (output_of job b))
     → IfOk r (λ (n : Counts). (b : List ℕ) → Told source.old source.new b → IsInputOf job b)
     → IfOk r (λ (n : Counts). (b : List ℕ) → Told source.old source.new b → n ≡ counts_for job b)
@@ -90,7 +90,7 @@ told-ran job ended source sink (Err x) output input counts fits z quiet owed cau
   few = few;
 }
 
-pub told-job : {job job' : Job} (ended : Bool) (source sink : Change) (r : Result Counts RunError) → job ≡ job'
+pub told-job : {job job' : Job} (ended : Bool) (source sink : Movement) (r : Result Counts RunError) → job ≡ job'
     → IfOk r (λ (n : Counts). (b : List ℕ) → Told source.old source.new b → Grew sink.old sink.new (output_of job' b))
     → IfOk r (λ (n : Counts). (b : List ℕ) → Told source.old source.new b → IsInputOf job' b)
     → IfOk r (λ (n : Counts). (b : List ℕ) → Told source.old source.new b → n ≡ counts_for job' b)

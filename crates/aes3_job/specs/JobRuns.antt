@@ -11,7 +11,7 @@ use Rattle.aes3_block.specs.Files.{file, file_blocks, IsBlockFile}
 use Rattle.aes3_block.specs.Samples.{samples}
 use Rattle.aes3_lock.specs.Preambles.{marks}
 use Rattle.aes3_lock.specs.Reports.{blocks, decided, normal, reports}
-use Rattle.aes3_engine.specs.Running.{Change, Quiet, Failed}
+use Rattle.aes3_engine.specs.Running.{Movement, Quiet, Failed}
 use Rattle.aes3_engine.specs.Driving.{WholeInput}
 use Rattle.aes3_engine.specs.Inputs.{IsInput, cells_of, cells_before}
 use Rattle.aes3_engine.specs.Encoding.{IsCauseOf, WholeFile, encode_counts, encoded}
@@ -137,7 +137,7 @@ status_by (FromPcm exact change) n = 0
 
 -- a run of a job that was not refused: the source has ended, neither end failed; the bytes that the source tells fit, are an input, are counted
 -- so, and their output is written
-pub record RunDone (job : Job) (ended : Bool) (source sink : Change) (counts : Counts) : Type 0 where
+pub record RunDone (job : Job) (ended : Bool) (source sink : Movement) (counts : Counts) : Type 0 where
   pub end : IsTrue ended
   pub quiet_source : Quiet source
   pub quiet_sink : Quiet sink
@@ -147,7 +147,7 @@ pub record RunDone (job : Job) (ended : Bool) (source sink : Change) (counts : C
   pub output : (b : List ℕ) → Told source.old source.new b → Grew sink.old sink.new (output_of job b)
 
 -- one that was refused: the cause; which end failed; what is written, after `Write` a front; that Ok was not owed; how much was read
-pub record RunRefused (job : Job) (ended : Bool) (source sink : Change) (error : RunError) : Type 0 where
+pub record RunRefused (job : Job) (ended : Bool) (source sink : Movement) (error : RunError) : Type 0 where
   pub cause : (b : List ℕ) → Told source.old source.new b → IsCauseFor job b ended error
   pub read : error ≡ refusal.Read → Failed source
   pub write : error ≡ refusal.Write → Failed sink
@@ -158,12 +158,12 @@ pub record RunRefused (job : Job) (ended : Bool) (source sink : Change) (error :
   pub unowed : (b : List ℕ) → Told source.old source.new b → IsInputOf job b → length b ≤ most → Quiet source → Quiet sink → ⊥
   pub few : (b : List ℕ) → Told source.old source.new b → length b ≤ most + 1
 
-abbrev pub RunRan : Job → Bool → Change → Change → Result Counts RunError → Type 0
+abbrev pub RunRan : Job → Bool → Movement → Movement → Result Counts RunError → Type 0
 RunRan job ended source sink (Ok counts) = RunDone job ended source sink counts
 RunRan job ended source sink (Err error) = RunRefused job ended source sink error
 
 -- a job that ended well: no end failed; the input, the output and the exit status; nothing is told among the errors
-pub record JobDone (job : Job) (ended : Bool) (source sink errors : Change) (status : ℕ) : Type 0 where
+pub record JobDone (job : Job) (ended : Bool) (source sink errors : Movement) (status : ℕ) : Type 0 where
   pub end : IsTrue ended
   pub quiet_source : Quiet source
   pub quiet_sink : Quiet sink
@@ -174,16 +174,16 @@ pub record JobDone (job : Job) (ended : Bool) (source sink errors : Change) (sta
   pub exit : (b : List ℕ) → Told source.old source.new b → status ≡ status_by job (counts_for job b)
 
 -- a refusal behind which the sink was flushed: it stays what it was, or that failed
-abbrev pub Flushed : RunError → Change → RunError → Type 0
+abbrev pub Flushed : RunError → Movement → RunError → Type 0
 Flushed error sink told = (sink.new ≡ sink.old)
     × (((told ≡ error) × Quiet sink) ⊎ ((error ≢ refusal.Write) × (told ≡ refusal.Write) × Failed sink))
 
 -- a job that was refused, and the line that tells it
-pub record JobRefused (job : Job) (ended : Bool) (source sink errors : Change) (status : ℕ) : Type 0 where
+pub record JobRefused (job : Job) (ended : Bool) (source sink errors : Movement) (status : ℕ) : Type 0 where
   pub error : RunError
   pub run : RunRefused job ended source sink error
   pub exit : status ≡ 3
   pub line : Quiet errors → Grew errors.old errors.new (refusal_line error)
 
-abbrev pub JobRan : Job → Bool → Change → Change → Change → ℕ → Type 0
+abbrev pub JobRan : Job → Bool → Movement → Movement → Movement → ℕ → Type 0
 JobRan job ended source sink errors status = JobDone job ended source sink errors status ⊎ JobRefused job ended source sink errors status

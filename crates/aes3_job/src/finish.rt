@@ -2,6 +2,7 @@
 
 ghost use Rattle.std.specs.Prelude.{◌≡◌, ◌≢◌, ◌<◌, ◌≤◌, ◌+◌, ◌^◌};
 ghost use Rattle.aes3_job.specs.JobRuns.{Flushed, JobRan};
+ghost use Rattle.aes3_engine.specs.Running.{movement_of};
 
 use crate::job::Job;
 use crate::job_run::{exit_status, run_job};
@@ -13,7 +14,7 @@ use aes3_cell::{RunError, Sink, Source};
 fn flushed<T: Sink>(error: RunError, sink: &mut T) -> RunError
     requires room { error ≢ RunError.Write → T.failed sink.old + 1 < 2 ^ 64 }
     ensures told { Flushed error
-        (record { old = T.taken sink.old; new = T.taken sink.new; failed_old = T.failed sink.old; failed_new = T.failed sink.new }) result }
+        (movement_of T.taken T.failed sink.old sink.new) result }
     ensures passed_on { T.failed sink.new ≡ T.failed sink.old → error ≢ RunError.Write → T.passed sink.new ≡ T.taken sink.new }
 {
     match error {
@@ -39,9 +40,9 @@ pub fn finish_job<S: Source, T: Sink, E: Sink, O: Observer>(
     requires sink_room { T.failed sink.old + 1 < 2 ^ 64 }
     requires errors_room { E.failed errors.old + 1 < 2 ^ 64 }
     ensures ran { JobRan job.now (S.has_ended source.new)
-        (record { old = S.given source.old; new = S.given source.new; failed_old = S.failed source.old; failed_new = S.failed source.new })
-        (record { old = T.taken sink.old; new = T.taken sink.new; failed_old = T.failed sink.old; failed_new = T.failed sink.new })
-        (record { old = E.taken errors.old; new = E.taken errors.new; failed_old = E.failed errors.old; failed_new = E.failed errors.new }) result }
+        (movement_of S.given S.failed source.old source.new)
+        (movement_of T.taken T.failed sink.old sink.new)
+        (movement_of E.taken E.failed errors.old errors.new) result }
     ensures passed_on { T.failed sink.new ≡ T.failed sink.old → T.passed sink.new ≡ T.taken sink.new }
     ensures errors { E.failed errors.new ≤ E.failed errors.old + 1 }
 {

@@ -1,7 +1,7 @@
 //! A job between a source and a sink.
 
 ghost use Rattle.std.specs.Prelude.{◌≡◌, ◌<◌, ◌+◌, ◌^◌, IfOk};
-ghost use Rattle.aes3_engine.specs.Running.{change_of};
+ghost use Rattle.aes3_engine.specs.Running.{movement_of};
 ghost use Rattle.aes3_job.specs.JobRuns.{RunRan, status_by};
 
 use crate::job::Job;
@@ -40,8 +40,8 @@ pub fn run_job<S: Source, T: Sink>(
 ) -> Result<Counts, RunError>
     requires source_room { S.failed source.old + 1 < 2 ^ 64 }
     requires sink_room { T.failed sink.old + 1 < 2 ^ 64 }
-    ensures ran { RunRan job.now (S.has_ended source.new) (change_of S.given S.failed source.old source.new)
-        (change_of T.taken T.failed sink.old sink.new) result }
+    ensures ran { RunRan job.now (S.has_ended source.new) (movement_of S.given S.failed source.old source.new)
+        (movement_of T.taken T.failed sink.old sink.new) result }
     ensures passed_on { IfOk result (λ _. T.passed sink.new ≡ T.taken sink.new) }
 {
     match *job {

@@ -13,7 +13,7 @@ use Rattle.aes3_lock.specs.Outcomes.{Outcome}
 use Rattle.aes3_lock.specs.Reports.{told, outcome_at, decided_at, open_at, reports, decided, wholes, blocks}
 use Rattle.aes3_lock.proofs.Deciding.{answer, decided-push, block_len_24576}
 use Rattle.aes3_lock.proofs.Ends.{final}
-use Rattle.aes3_engine.specs.Running.{Change}
+use Rattle.aes3_engine.specs.Running.{Movement}
 use Rattle.aes3_engine.specs.Taking.{Writing, behind, before_end, with_end}
 use Rattle.aes3_engine.specs.Inputs.{cells_of}
 use Rattle.aes3_engine.specs.Driving.{Drive}
@@ -427,7 +427,7 @@ sum-room c h =
     let m = block_len_24576 in
     omega arith
 
-pub drive-room : {max : ℕ} {form : Form} {w : Writing Level} {g : List Level → Type 0} (l b f u : ℕ) {ended : Bool} {source sink : Change} {bytes cells : ℕ}
+pub drive-room : {max : ℕ} {form : Form} {w : Writing Level} {g : List Level → Type 0} (l b f u : ℕ) {ended : Bool} {source sink : Movement} {bytes cells : ℕ}
     → Drive max form w g (λ c. Accounted l b f u c) ended source sink (Ok (bytes, cells)) → f + l < 2 ^ 64
 drive-room {form = form} l b f u r = sum-room (cells_of form r.bytes) r.ran.1
 

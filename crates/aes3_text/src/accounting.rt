@@ -5,7 +5,7 @@ ghost use Rattle.aes3_cell.specs.Ends.{Grew, Told};
 ghost use Rattle.aes3_lock.specs.Following.{Follows};
 ghost use Rattle.aes3_engine.specs.CellRuns.{CellRun};
 ghost use Rattle.aes3_engine.specs.Inputs.{cells_of};
-ghost use Rattle.aes3_engine.specs.Running.{change_of};
+ghost use Rattle.aes3_engine.specs.Running.{movement_of};
 ghost use Rattle.aes3_text.specs.Gaps.{account, begun_account};
 ghost use Rattle.aes3_text.specs.Runs.{IsClosedLedgerOf, IsLedgerOf, account_counts, account_lines, accounting};
 
@@ -106,8 +106,8 @@ pub fn account<S: Source, T: Sink>(
         → Grew (T.taken sink.old) (T.taken sink.new) (account_lines lines (account (cells_of input b)))) }
     // It is a run over cells: Ok is owed, a refusal has its cause, and what stood before it is written.
     ensures run { CellRun max_bytes input (λ c. account_lines lines (account c)) (λ c. account_lines lines (begun_account c)) (account_counts input)
-        (S.has_ended source.new) (change_of S.given S.failed source.old source.new)
-        (change_of T.taken T.failed sink.old sink.new) result }
+        (S.has_ended source.new) (movement_of S.given S.failed source.old source.new)
+        (movement_of T.taken T.failed sink.old sink.new) result }
     ensures passed_on { IfOk result (λ _. T.passed sink.new ≡ T.taken sink.new) }
 {
     let mut taker = Accountant::new(lines);

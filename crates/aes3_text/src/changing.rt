@@ -9,7 +9,7 @@ ghost use Rattle.aes3_engine.specs.BlockRuns.{decided_blocks};
 ghost use Rattle.aes3_engine.specs.CellRuns.{CellRun};
 ghost use Rattle.aes3_engine.specs.Inputs.{cells_of};
 ghost use Rattle.aes3_engine.specs.ReportRuns.{Tallies, counts_of};
-ghost use Rattle.aes3_engine.specs.Running.{change_of};
+ghost use Rattle.aes3_engine.specs.Running.{movement_of};
 ghost use Rattle.aes3_text.specs.Runs.{AreLast, Changes, change_line, change_lines, changing, report_changes};
 
 use crate::status::line_of_status;
@@ -178,8 +178,8 @@ pub fn show_changes<S: Source, T: Sink>(
         → Grew (T.taken sink.old) (T.taken sink.new) (change_lines (blocks (cells_of input b)))) }
     // It is a run over cells: Ok is owed, a refusal has its cause, and what was decided before it is written.
     ensures run { CellRun max_bytes input (λ c. change_lines (blocks c)) (λ c. change_lines (decided_blocks c)) (counts_of input)
-        (S.has_ended source.new) (change_of S.given S.failed source.old source.new)
-        (change_of T.taken T.failed sink.old sink.new) result }
+        (S.has_ended source.new) (movement_of S.given S.failed source.old source.new)
+        (movement_of T.taken T.failed sink.old sink.new) result }
     ensures passed_on { IfOk result (λ _. T.passed sink.new ≡ T.taken sink.new) }
 {
     let mut taker = Locked::new(ChangeLines::new());

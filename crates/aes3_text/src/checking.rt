@@ -6,7 +6,7 @@ ghost use Rattle.aes3_lock.specs.Reports.{decided, reports};
 ghost use Rattle.aes3_engine.specs.CellRuns.{CellRun};
 ghost use Rattle.aes3_engine.specs.Inputs.{cells_of};
 ghost use Rattle.aes3_engine.specs.ReportRuns.{counts_of};
-ghost use Rattle.aes3_engine.specs.Running.{change_of};
+ghost use Rattle.aes3_engine.specs.Running.{movement_of};
 ghost use Rattle.aes3_text.specs.Lines.{told_line};
 ghost use Rattle.aes3_text.specs.Runs.{report_lines};
 
@@ -69,8 +69,8 @@ pub fn check<S: Source, T: Sink>(
         → Grew (T.taken sink.old) (T.taken sink.new) (report_lines lines (reports (cells_of input b)))) }
     // It is a run over cells: Ok is owed, a refusal has its cause, and what was decided before it is written.
     ensures run { CellRun max_bytes input (λ c. report_lines lines (reports c)) (λ c. report_lines lines (decided c)) (counts_of input)
-        (S.has_ended source.new) (change_of S.given S.failed source.old source.new)
-        (change_of T.taken T.failed sink.old sink.new) result }
+        (S.has_ended source.new) (movement_of S.given S.failed source.old source.new)
+        (movement_of T.taken T.failed sink.old sink.new) result }
     ensures passed_on { IfOk result (λ _. T.passed sink.new ≡ T.taken sink.new) }
 {
     run_reports(source, sink, max_bytes, input, ReportLines { lines })

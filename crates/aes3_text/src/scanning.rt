@@ -6,7 +6,7 @@ ghost use Rattle.aes3_cell.specs.Writes.{Wrote};
 ghost use Rattle.aes3_lock.specs.Preambles.{marks};
 ghost use Rattle.aes3_engine.specs.CellRuns.{CellRun};
 ghost use Rattle.aes3_engine.specs.Inputs.{cells_of};
-ghost use Rattle.aes3_engine.specs.Running.{change_of};
+ghost use Rattle.aes3_engine.specs.Running.{movement_of};
 ghost use Rattle.aes3_text.specs.Lines.{mark_line};
 ghost use Rattle.aes3_text.specs.Runs.{Scanned, mark_lines, marking, scan_counts};
 
@@ -97,8 +97,8 @@ pub fn scan<S: Source, T: Sink>(
         → Grew (T.taken sink.old) (T.taken sink.new) (mark_lines (marks (cells_of input b)))) }
     // It is a run over cells: Ok is owed, a refusal has its cause, and what was told before it is written.
     ensures run { CellRun max_bytes input (λ c. mark_lines (marks c)) (λ c. mark_lines (marks c)) (scan_counts input)
-        (S.has_ended source.new) (change_of S.given S.failed source.old source.new)
-        (change_of T.taken T.failed sink.old sink.new) result }
+        (S.has_ended source.new) (movement_of S.given S.failed source.old source.new)
+        (movement_of T.taken T.failed sink.old sink.new) result }
     ensures passed_on { IfOk result (λ _. T.passed sink.new ≡ T.taken sink.new) }
 {
     let mut taker = MarkLines::new();

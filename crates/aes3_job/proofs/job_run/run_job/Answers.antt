@@ -1,19 +1,19 @@
 use Rattle.std.proofs.Common.{refl}
-use Rattle.aes3_engine.specs.Running.{change_of}
+use Rattle.aes3_engine.specs.Running.{movement_of}
 use Rattle.aes3_job.proofs.JobAnswers.{cells-job, told-job}
 use Rattle.aes3_job.proofs.job_run.run_job.Goals as goal
 
 pub returns-in-Encode-clause-ran : goal.returns-in-Encode-clause-ran
 returns-in-Encode-clause-ran g c =
     let e = c.encode.ensures in
-    told-job (g.S.Source.has_ended c.encode.new.source) (change_of g.S.Source.given g.S.Source.failed c.args.source.now c.encode.new.source)
-    (change_of g.T.Sink.taken g.T.Sink.failed c.args.sink.now c.encode.new.sink) c.encode.result c.in-Encode.is e.whole e.block_file e.counts e.fits e.ended e.quiet e.owed e.cause e.read e.write e.sink_quiet e.refused e.front e.few
+    told-job (g.S.Source.has_ended c.encode.new.source) (movement_of g.S.Source.given g.S.Source.failed c.args.source.now c.encode.new.source)
+    (movement_of g.T.Sink.taken g.T.Sink.failed c.args.sink.now c.encode.new.sink) c.encode.result c.in-Encode.is e.whole e.block_file e.counts e.fits e.ended e.quiet e.owed e.cause e.read e.write e.sink_quiet e.refused e.front e.few
 
 pub returns-in-Normal-clause-ran : goal.returns-in-Normal-clause-ran
 returns-in-Normal-clause-ran g c =
     let e = c.normalise.ensures in
-    told-job (g.S.Source.has_ended c.normalise.new.source) (change_of g.S.Source.given g.S.Source.failed c.args.source.now c.normalise.new.source)
-    (change_of g.T.Sink.taken g.T.Sink.failed c.args.sink.now c.normalise.new.sink) c.normalise.result c.in-Normal.is e.normal e.input e.counts e.fits e.ended e.quiet e.owed e.cause e.read e.write e.sink_quiet e.refused e.front e.few
+    told-job (g.S.Source.has_ended c.normalise.new.source) (movement_of g.S.Source.given g.S.Source.failed c.args.source.now c.normalise.new.source)
+    (movement_of g.T.Sink.taken g.T.Sink.failed c.args.sink.now c.normalise.new.sink) c.normalise.result c.in-Normal.is e.normal e.input e.counts e.fits e.ended e.quiet e.owed e.cause e.read e.write e.sink_quiet e.refused e.front e.few
 
 pub returns-in-Decode-clause-ran : goal.returns-in-Decode-clause-ran
 returns-in-Decode-clause-ran g c =
@@ -63,5 +63,5 @@ returns-in-ToPcm-clause-ran g c =
 pub returns-in-FromPcm-clause-ran : goal.returns-in-FromPcm-clause-ran
 returns-in-FromPcm-clause-ran g c =
     let e = c.from_pcm.ensures in
-    told-job (g.S.Source.has_ended c.from_pcm.new.source) (change_of g.S.Source.given g.S.Source.failed c.args.source.now c.from_pcm.new.source)
-    (change_of g.T.Sink.taken g.T.Sink.failed c.args.sink.now c.from_pcm.new.sink) c.from_pcm.result c.in-FromPcm.is e.file e.samples e.counts e.fits e.ended e.quiet e.owed e.cause e.read e.write e.sink_quiet e.refused e.front e.few
+    told-job (g.S.Source.has_ended c.from_pcm.new.source) (movement_of g.S.Source.given g.S.Source.failed c.args.source.now c.from_pcm.new.source)
+    (movement_of g.T.Sink.taken g.T.Sink.failed c.args.sink.now c.from_pcm.new.sink) c.from_pcm.result c.in-FromPcm.is e.file e.samples e.counts e.fits e.ended e.quiet e.owed e.cause e.read e.write e.sink_quiet e.refused e.front e.few
