@@ -1,5 +1,5 @@
 -- The cells of subframes that were read, and of those with the same payload.
-use Rattle.std.proofs.Common.{◌≡◌, ℕ, zero, suc, ◌*◌, ◌<◌, ◌^◌, List, [], ◌∷◌, Bool, true, false, length, map, take, drop, refl, sym, ap, ap₂, ◌∙◌, arith, w64, length-drop, length-take-le}
+use Rattle.std.proofs.Common.{◌≡◌, ℕ, zero, suc, ◌*◌, ◌<◌, ◌^◌, ◌/◌, ◌%◌, List, [], ◌∷◌, Bool, true, false, length, map, take, drop, refl, sym, ap, ap₂, ◌∙◌, arith, w64, length-drop, length-take-le}
 use Rattle.std.specs.Int.{bit_at, bit_not}
 use Rattle.std.specs.Prelude.{if◌then◌else◌}
 use Rattle.std.proofs.lemmas.List.{drop-map, take_at}
@@ -8,14 +8,18 @@ use Rattle.std.proofs.lemmas.Simd.{map-map}
 use Rattle.aes3_cell.specs.declared.level.Level.{Level}
 use Rattle.aes3_cell.specs.declared.level.Level.TheVariants.{Low, High}
 use Rattle.aes3_cell.specs.Cells.{line, other}
-use Rattle.aes3_cell.specs.Words.{word_cells, word_len}
+use Rattle.aes3_cell.specs.Words.{level_of, low_cells, word_cells, word_len}
 use Rattle.aes3_slot.specs.declared.mark.Mark.{Mark}
 use Rattle.aes3_slot.specs.Bits.{odd_ones}
-use Rattle.aes3_slot.specs.Slots.{payload_len, slot_runs, subframe_runs, with_parity, IsPayload}
+use Rattle.aes3_slot.specs.Slots.{payload_len, slots_len, slot_runs, subframe_runs, with_parity, IsPayload}
 use Rattle.aes3_slot.specs.Reading.{differs, read_bits}
 use Rattle.aes3_slot.specs.ReadWords.{read_word, read_words}
 use Rattle.aes3_slot.specs.Fronts.{stands}
-use Rattle.aes3_slot.proofs.Parity.{split-parity}
+use Rattle.aes3_slot.specs.Rules.{at, before}
+use Rattle.aes3_slot.specs.Turns.{turned}
+use Rattle.aes3_slot.proofs.Parity.{last-slots, split-parity}
+use Rattle.aes3_cell.proofs.Runs.{other_ne}
+use Rattle.aes3_cell.proofs.WordCells.{low_cells-at}
 use Rattle.aes3_slot.proofs.Taken.{length-word, word-read}
 use Rattle.aes3_slot.proofs.Turns.{low_cells-not}
 use Rattle.aes3_slot.proofs.Wrong.{true-from_zero}
@@ -80,3 +84,18 @@ read-payload w = length-take-le 27 (read_word w) (let l = read-length w in omega
 
 pub payloads-read : (words : List ℕ) → map read_payload words ≡ map (take payload_len) (read_words words)
 payloads-read words = sym (map-map (take payload_len) read_word words)
+
+-- the last cell of a word
+pub last-of : (word b : ℕ) → word / 2 ^ 63 % 2 ≡ b → at (low_cells 64 word) 63 ≡ level_of b
+last-of word b h = low_cells-at 64 word 63 (omega arith) ∙ ap level_of h
+
+-- the last cell of a subframe has the level before it again where its parity is right
+pub even-by-last : (s : Level) (m : Mark) (w : ℕ) → ((i : ℕ) → i < 64 → stands s m (word_cells w) i ≡ true)
+    → at (word_cells w) 63 ≡ s → odd_ones (read_word w) ≡ false
+unfolding slots_len
+even-by-last s m w h e =
+    go (odd_ones (read_word w)) (sym (last-slots s m (read_word w) (read-length w)) ∙ sym (ap (λ c. before s c 64) (word-read s m w h)) ∙ e)
+  where
+    go : (b : Bool) → turned b s ≡ s → b ≡ false
+    go false q = refl
+    go true q = absurd (other_ne s q)

@@ -7,6 +7,7 @@ ghost use Rattle.aes3_cell.specs.Writes.{Wrote};
 ghost use Rattle.aes3_cell.specs.Words.{word_cells};
 ghost use Rattle.aes3_cell.specs.Written.{bytes_of};
 ghost use Rattle.aes3_slot.specs.ReadWords.{read_word, read_words};
+ghost use Rattle.aes3_slot.specs.Rules.{at};
 ghost use Rattle.aes3_slot.specs.Slots.{payload_len, subframe_runs};
 ghost use Rattle.aes3_block.specs.Blocks.{block_cells};
 
@@ -17,15 +18,16 @@ use crate::word::PAYLOAD_LIMIT;
 use aes3_cell::{Fault, Form, Level, Sink, put_words};
 use aes3_slot::{Mark, slot_bits, subframe_cells, wrong_cells};
 
-/// A subframe's cells, or all of them inverted, so that the first turns the level `before`.
-fn turning(before: Level, cells: u64) -> u64
+/// A subframe's cells, or all of them inverted.
+fn turned(inverted: bool, cells: u64) -> u64
     ensures { read_word result ≡ read_word cells }
 {
-    if (cells % 2 == 1) == (before == Level::Low) {
-        cells
-    } else {
-        !cells
-    }
+    if inverted { !cells } else { cells }
+}
+
+/// Whether a subframe's cells are inverted, so that the first does not turn the level `before`.
+fn is_inverted(before: Level, cells: u64) -> bool {
+    (cells % 2 == 1) != (before == Level::Low)
 }
 
 /// Whether these are the cells of a subframe with this preamble after the level `before`, with right parity.
@@ -43,19 +45,62 @@ fn is_subframe(before: Level, mark: Mark, cells: u64) -> bool
 fn renewed(before: Level, mark: Mark, cells: u64) -> u64
     ensures { word_cells result ≡ line before (subframe_runs mark (take payload_len (read_word cells))) }
 {
-    let same = turning(before, cells);
+    let same = turned(is_inverted(before, cells), cells);
     if is_subframe(before, mark, same) {
         return same;
     }
     subframe_cells(before, mark, slot_bits(cells) % PAYLOAD_LIMIT)
 }
 
-/// Puts the cells of the block whose payloads these subframes carry into `cells`, after the level `before`.
-fn fill_read_cells(before: Level, words: &[u64; SLOTS], cells: &mut [u64; SLOTS])
+/// Puts the cells of the block whose payloads these subframes carry into `cells`, after the level `before`, each anew where it
+/// has to be.
+fn renew_each(before: Level, words: &[u64; SLOTS], cells: &mut [u64; SLOTS])
     ensures { flat_map word_cells cells.new ≡ block_cells before (map (take payload_len) (read_words words.now)) }
 {
     for (slot, word) in words.iter().enumerate() {
         cells[slot] = renewed(before, mark_of(slot as u64), *word);
+    }
+}
+
+/// What a subframe's last cell has of another level than `before`: zero, or a one in the highest bit.
+fn other_last(before: Level, cells: u64) -> u64
+    ensures { result ≡ 0 → at (word_cells cells) 63 ≡ before }
+{
+    match before {
+        Level::Low => cells >> 63,
+        Level::High => !cells >> 63,
+    }
+}
+
+/// What is wrong with the cells of a subframe with this preamble after the level `before`: zero, where they are those of its
+/// payload, with right parity.
+fn wrong_in(before: Level, mark: Mark, cells: u64) -> u64
+    ensures { result ≡ 0 → word_cells cells ≡ line before (subframe_runs mark (take payload_len (read_word cells))) }
+{
+    wrong_cells(before, mark, cells) | other_last(before, cells)
+}
+
+/// Puts the cells of the subframes into `cells`, all of them inverted where the first are, and says whether they are then
+/// the block whose payloads they carry, after the level `before`.
+fn turn_all(before: Level, words: &[u64; SLOTS], cells: &mut [u64; SLOTS]) -> bool
+    ensures { result ≡ true → flat_map word_cells cells.new ≡ block_cells before (map (take payload_len) (read_words words.now)) }
+{
+    let inverted = is_inverted(before, words[0]);
+    let mut wrong = 0;
+    for (slot, word) in words.iter().enumerate() {
+        let same = turned(inverted, *word);
+        cells[slot] = same;
+        wrong |= wrong_in(before, mark_of(slot), same);
+    }
+    wrong == 0
+}
+
+/// Puts the cells of the block whose payloads these subframes carry into `cells`, after the level `before`.
+fn fill_read_cells(before: Level, words: &[u64; SLOTS], cells: &mut [u64; SLOTS])
+    ensures { flat_map word_cells cells.new ≡ block_cells before (map (take payload_len) (read_words words.now)) }
+{
+    if !turn_all(before, words, cells) {
+        renew_each(before, words, cells);
     }
 }
 

@@ -6,7 +6,7 @@ use Rattle.aes3_block.proofs.read_cells.renewed.Goals as goal
 
 pub returns-then-is_subframe : goal.returns-then-is_subframe
 returns-then-is_subframe c =
-    c.is_subframe.ensures c.if-is_subframe.true ∙ ap (λ bits. line c.args.before (subframe_runs c.args.mark (take payload_len bits))) c.turning-same.ensures
+    c.is_subframe.ensures c.if-is_subframe.true ∙ ap (λ bits. line c.args.before (subframe_runs c.args.mark (take payload_len bits))) c.turned-same.ensures
 
 pub returns : goal.returns
 returns c =

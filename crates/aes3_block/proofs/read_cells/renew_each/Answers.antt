@@ -5,7 +5,7 @@ use Rattle.aes3_block.specs.Blocks.{block_cells}
 use Rattle.aes3_block.proofs.BlockLemmas.{block_slots_384}
 use Rattle.aes3_block.proofs.ReadCells.{read_payload, read-payload, payloads-read}
 use Rattle.aes3_block.proofs.Runs.{cells-more, cells-whole}
-use Rattle.aes3_block.proofs.read_cells.fill_read_cells.Goals as goal
+use Rattle.aes3_block.proofs.read_cells.renew_each.Goals as goal
 
 pub loop-slot-preserved : goal.loop-slot-preserved
 loop-slot-preserved c =

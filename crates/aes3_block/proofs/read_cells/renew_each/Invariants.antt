@@ -4,7 +4,7 @@ use Rattle.aes3_cell.specs.Cells.{line}
 use Rattle.aes3_cell.specs.Words.{word_cells}
 use Rattle.aes3_block.specs.Blocks.{block_runs}
 use Rattle.aes3_block.proofs.ReadCells.{read_payload}
-use Rattle.aes3_block.proofs.read_cells.fill_read_cells.Given as goal
+use Rattle.aes3_block.proofs.read_cells.renew_each.Given as goal
 
 abbrev pub invariant-loop-slot : goal.invariant-loop-slot
 invariant-loop-slot l = record {
