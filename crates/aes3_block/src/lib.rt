@@ -13,8 +13,6 @@ mod samples_out;
 mod slots;
 mod status;
 mod subframe;
-#[cfg(test)]
-mod tests;
 mod word;
 
 pub use block::{BLOCK_CELLS, Block, SLOTS};

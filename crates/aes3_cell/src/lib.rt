@@ -16,8 +16,6 @@ mod packed_words;
 mod refusal;
 mod short;
 mod standard;
-#[cfg(test)]
-mod tests;
 mod text_in;
 mod text_out;
 mod text_words;

@@ -6,8 +6,6 @@ mod preamble;
 mod reading;
 mod search;
 mod subframe;
-#[cfg(test)]
-mod tests;
 
 pub use mark::Mark;
 pub use preamble::{mark_cells, match_mark};

@@ -94,6 +94,3 @@ pub fn with_check(mut bytes: [u8; 24]) -> [u8; 24]
     bytes[CHECK] = check_byte(&bytes);
     bytes
 }
-
-#[cfg(test)]
-mod tests;

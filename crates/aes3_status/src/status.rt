@@ -40,6 +40,3 @@ impl Status {
         }
     }
 }
-
-#[cfg(test)]
-mod tests;

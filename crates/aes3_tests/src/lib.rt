@@ -1,0 +1,11 @@
+//! What no contract says of the crates below: worked vectors, ends that fail in mid-stream, a call of each function.
+#![tactic(auto)]
+
+#[cfg(test)]
+mod block;
+#[cfg(test)]
+mod cell;
+#[cfg(test)]
+mod slot;
+#[cfg(test)]
+mod status;
