@@ -17,8 +17,6 @@ mod samples;
 mod sampling;
 mod taker;
 mod tally;
-#[cfg(test)]
-mod tests;
 mod text_input;
 
 pub use blocks::{BlockWriter, run_blocks};

@@ -2,8 +2,6 @@
 #![tactic(auto)]
 
 mod candidate;
-#[cfg(test)]
-mod damage_tests;
 mod eight;
 pub mod laws;
 mod lock;
@@ -15,8 +13,6 @@ mod rule;
 mod scan;
 mod slow;
 mod subframe;
-#[cfg(test)]
-mod tests;
 
 pub use candidate::Candidate;
 pub use lock::Lock;

@@ -6,6 +6,10 @@ mod block;
 #[cfg(test)]
 mod cell;
 #[cfg(test)]
+mod engine;
+#[cfg(test)]
+mod lock;
+#[cfg(test)]
 mod slot;
 #[cfg(test)]
 mod status;

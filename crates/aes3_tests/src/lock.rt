@@ -1,0 +1,293 @@
+//! Worked lists of cells, by the lock and by trying every place, and their preambles.
+ghost use Rattle.std.specs.Prelude.{◌≤◌};
+
+use aes3_cell::Level;
+use aes3_lock::{Lock, Report, Scan, Why, reports_of};
+use aes3_slot::{Mark, slots_cells};
+use arrayvec::ArrayVec;
+use std::alloc::{AllocError, Global};
+use std::process::Abort;
+
+/// A report in few words; of a whole block, whether it is the zero block.
+#[derive(Clone, Copy, PartialEq, Eq)]
+enum Line {
+    Whole(u64, Level, bool),
+    Marked(u64, Level, u16),
+    Fault(u64, u64, Why),
+    Unfinished(u64, u64),
+}
+
+/// How many reports a test looks at.
+const LINES: usize = 16;
+
+/// Many more cells than a test has.
+const MANY: u64 = 1 << 40;
+
+/// The bits of slots 4 to 31 of a subframe whose parity bit alone is set, and wrong.
+const ODD: u32 = 1 << 27;
+
+fn line_of(report: Report) -> Line {
+    match report {
+        Report::Whole { at, before, block } => {
+            Line::Whole(at, before, *block.words() == [0; 384])
+        }
+        Report::Marked { at, before, wrong } => Line::Marked(at, before, wrong),
+        Report::Fault { at, cell, why } => Line::Fault(at, cell, why),
+        Report::Unfinished { at, cells } => Line::Unfinished(at, cells),
+    }
+}
+
+/// Adds cells `from` to `to` of a word.
+fn add(cells: &mut Vec<Level>, word: u64, from: u32, to: u32) -> Result<(), AllocError>
+    requires { to ≤ 64 }
+{
+    for k in from..to {
+        cells.push(if (word >> k) & 1 == 1 {
+            Level::High
+        } else {
+            Level::Low
+        })?;
+    }
+    Ok(())
+}
+
+/// The subframe `line` of the zero block after a level.
+fn zeros(line: usize, before: Level) -> u64 {
+    let mark = match (line, line % 2) {
+        (0, _) => Mark::Z,
+        (_, 1) => Mark::Y,
+        _ => Mark::X,
+    };
+    slots_cells(before, mark, 0)
+}
+
+/// Adds the subframes `from` to `to` of the zero block after a level.
+fn add_lines(
+    cells: &mut Vec<Level>,
+    before: Level,
+    from: usize,
+    to: usize,
+) -> Result<(), AllocError> {
+    for line in from..to {
+        add(cells, zeros(line, before), 0, 64)?;
+    }
+    Ok(())
+}
+
+/// The cells `1110100010` again and again: candidates five cells apart.
+const DENSE: u64 = 0x745D_1745_D174_5D17;
+
+#[derive(Clone, Copy)]
+enum Piece {
+    /// The subframes `0` to `1` of the zero block after a level.
+    Lines(Level, usize, usize),
+    /// The cells `1` to `2` of a word.
+    Cells(u64, u32, u32),
+}
+
+/// Candidates five cells apart, each of which ends within the second 64 cells.
+const DENSE_PIECES: [Piece; 4] = [
+    Piece::Cells(0x5555_5555_5555_5555, 0, 52),
+    Piece::Cells(DENSE, 0, 60),
+    Piece::Cells(DENSE, 0, 13),
+    Piece::Cells(0b111, 0, 3),
+];
+
+/// A preamble that begins within another.
+const PREAMBLE_IN_A_PREAMBLE: [Piece; 2] = [
+    Piece::Lines(Level::Low, 0, 2),
+    Piece::Cells(0b111_0100_0111, 0, 11),
+];
+
+fn cells_of(alloc: Global, pieces: &[Piece]) -> Result<Vec<Level>, AllocError> {
+    let mut cells = Vec::new(alloc);
+    for piece in pieces.iter() {
+        match *piece {
+            Piece::Lines(before, from, to) => add_lines(&mut cells, before, from, to)?,
+            Piece::Cells(word, from, to) => add(&mut cells, word, from, to.min(64))?,
+        }
+    }
+    Ok(cells)
+}
+
+fn keep(lines: &mut [Option<Line>; LINES], count: &mut usize, report: Report) {
+    if *count < LINES {
+        lines[*count] = Some(line_of(report));
+        *count += 1;
+    }
+}
+
+fn by_lock(cells: &[Level]) -> [Option<Line>; LINES] {
+    let mut lines = [None; LINES];
+    let mut count = 0;
+    let mut lock = Lock::new();
+    for cell in cells.iter() {
+        if lock.seen() < MANY
+            && let Some(report) = lock.push(*cell)
+        {
+            keep(&mut lines, &mut count, report);
+        }
+    }
+    if let Some(report) = lock.finish() {
+        keep(&mut lines, &mut count, report);
+    }
+    lines
+}
+
+fn by_places(alloc: Global, cells: &[Level]) -> Result<[Option<Line>; LINES], AllocError> {
+    let mut lines = [None; LINES];
+    let mut count = 0;
+    for report in reports_of(alloc, cells)? {
+        keep(&mut lines, &mut count, report);
+    }
+    Ok(lines)
+}
+
+/// These lines, and none behind them.
+fn only(lines: &[Line]) -> [Option<Line>; LINES] {
+    let mut all = [None; LINES];
+    for (i, line) in lines.iter().enumerate() {
+        if i < LINES {
+            all[i] = Some(*line);
+        }
+    }
+    all
+}
+
+fn expect(rt: &impl Abort, alloc: Global, pieces: &[Piece], lines: &[Line]) {
+    let cells = cells_of(alloc, pieces).expect(rt, "memory");
+    let places = by_places(alloc, &cells).expect(rt, "memory");
+    assert!(rt; places == only(lines) && by_lock(&cells) == places);
+}
+
+#[test]
+fn reports_of_blocks(rt: HostRuntime) {
+    let wrong_first = slots_cells(Level::Low, Mark::Z, ODD);
+    let one_last = slots_cells(Level::Low, Mark::Y, ODD | 1);
+    let rows: [(&[Piece], [Line; 2]); 5] = [
+        // A block that begins within another.
+        (
+            &[
+                Piece::Lines(Level::Low, 0, 200),
+                Piece::Lines(Level::Low, 0, 384),
+            ],
+            [
+                Line::Fault(0, 12_804, Why::Preamble),
+                Line::Whole(12_800, Level::Low, true),
+            ],
+        ),
+        (
+            &PREAMBLE_IN_A_PREAMBLE,
+            [Line::Fault(0, 138, Why::Biphase), Line::Unfinished(131, 8)],
+        ),
+        // A block of the other polarity whose first cell is the last of the block before.
+        (
+            &[
+                Piece::Lines(Level::Low, 0, 383),
+                Piece::Cells(one_last, 0, 64),
+                Piece::Cells(zeros(0, Level::High), 1, 64),
+                Piece::Lines(Level::High, 1, 384),
+            ],
+            [
+                Line::Fault(0, 24_576, Why::Unclosed),
+                Line::Whole(24_575, Level::High, true),
+            ],
+        ),
+        // A block with one wrong parity bit, and one behind it.
+        (
+            &[
+                Piece::Cells(wrong_first, 0, 64),
+                Piece::Lines(Level::High, 1, 384),
+                Piece::Lines(Level::High, 0, 384),
+            ],
+            [
+                Line::Marked(0, Level::Low, 1),
+                Line::Whole(24_576, Level::High, true),
+            ],
+        ),
+        // Four cells changed make a block where none began: a third preamble becomes a first one, and the next first one
+        // a third.
+        (
+            &[
+                Piece::Lines(Level::Low, 0, 2),
+                Piece::Lines(Level::Low, 0, 1),
+                Piece::Lines(Level::Low, 3, 384),
+                Piece::Lines(Level::Low, 2, 3),
+                Piece::Lines(Level::Low, 1, 384),
+            ],
+            [
+                Line::Fault(0, 132, Why::Preamble),
+                Line::Whole(128, Level::Low, true),
+            ],
+        ),
+    ];
+    for (pieces, lines) in rows {
+        expect(&rt, rt.alloc(), pieces, &lines);
+    }
+}
+
+#[test]
+fn fourteen_reports_within_64_cells(rt: HostRuntime) {
+    let mut lines = [Line::Fault(117, 125, Why::Biphase); 14];
+    for i in 0..13 {
+        let at = 52 + 5 * i as u64;
+        lines[i] = Line::Fault(at, at + 12, Why::Biphase);
+    }
+    expect(&rt, rt.alloc(), &DENSE_PIECES, &lines);
+}
+
+/// Run with each allocation refused in turn, this shows that the slow form answers its error or the same reports.
+#[test]
+fn refused_memory_is_told(rt: HostRuntime) {
+    if let Ok(cells) = cells_of(rt.alloc(), &DENSE_PIECES)
+        && let Ok(lines) = by_places(rt.alloc(), &cells)
+    {
+        assert!(rt; lines == by_lock(&cells));
+    }
+}
+
+#[test]
+fn reports_of_a_word(rt: HostRuntime) {
+    let mut lock = Lock::new();
+    let mut told = ArrayVec::new();
+    lock.push_word(DENSE, &mut told);
+    let mut lines = [None; LINES];
+    let mut count = 0;
+    for report in told {
+        keep(&mut lines, &mut count, report);
+    }
+    if let Some(report) = lock.finish() {
+        keep(&mut lines, &mut count, report);
+    }
+    let mut expected = [Line::Unfinished(55, 9); 12];
+    for i in 0..11 {
+        let at = 5 * i as u64;
+        expected[i] = Line::Fault(at, at + 12, Why::Biphase);
+    }
+    assert!(rt; lines == only(&expected));
+}
+
+#[test]
+fn preambles_of_cells(rt: HostRuntime) {
+    let cells = cells_of(rt.alloc(), &PREAMBLE_IN_A_PREAMBLE).expect(&rt, "memory");
+    let mut marks = [None; 5];
+    let mut count = 0;
+    let mut scan = Scan::new();
+    for cell in cells.iter() {
+        if scan.seen() < MANY
+            && let Some(mark) = scan.push(*cell)
+            && count < 5
+        {
+            marks[count] = Some(mark);
+            count += 1;
+        }
+    }
+    let expected = [
+        Some((0, Mark::Z, Level::Low)),
+        Some((64, Mark::Y, Level::Low)),
+        Some((128, Mark::X, Level::Low)),
+        Some((131, Mark::Z, Level::High)),
+        None,
+    ];
+    assert!(rt; marks == expected);
+}
