@@ -2,23 +2,11 @@
 //! exit status.
 #![tactic(auto)]
 
-#[cfg(test)]
-mod cell_tests;
 mod finish;
 mod job;
 mod job_run;
-#[cfg(test)]
-mod job_run_tests;
-#[cfg(test)]
-mod line_tests;
 mod observer;
 mod refusal;
-#[cfg(test)]
-mod status_line_tests;
-#[cfg(test)]
-mod status_tests;
-#[cfg(test)]
-mod tests;
 
 pub use finish::finish_job;
 pub use job::Job;

@@ -8,7 +8,13 @@ mod cell;
 #[cfg(test)]
 mod engine;
 #[cfg(test)]
+mod job;
+#[cfg(test)]
+mod lines;
+#[cfg(test)]
 mod lock;
+#[cfg(test)]
+mod runs;
 #[cfg(test)]
 mod slot;
 #[cfg(test)]

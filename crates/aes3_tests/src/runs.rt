@@ -2,12 +2,10 @@
 
 ghost use Rattle.std.specs.Prelude.{◌<◌, ◌≤◌};
 
-use crate::job::Job;
-use crate::job_run::run_job;
-use crate::status_tests::first_bit_text;
-use crate::tests::{ZEROS, begun, block_text};
+use crate::job::{ZEROS, begun, block_text};
 use aes3_cell::{FailingSink, FailingSource, Form, MemorySink, MemorySource, RunError, ShortSink};
 use aes3_engine::Change;
+use aes3_job::{Job, run_job};
 use aes3_text::Lines;
 use std::alloc::{AllocError, Global};
 use std::process::Abort;
@@ -101,71 +99,55 @@ fn first_buffers<'a>(row: &Row<'a>, buffers: usize) -> &'a [u8] {
     }
 }
 
-fn expect_failed_reads(rt: &impl Abort, alloc: Global, row: &Row<'_>) {
+/// Whether each failed read in turn is told behind what was decided before it.
+fn tells_failed_reads(alloc: Global, row: &Row<'_>) -> bool {
     for call in 1..=row.input.len().div_ceil(PIECE) + 1 {
         let mut source = FailingSource::new(row.input, PIECE, call as u64);
         let mut sink = MemorySink::new(alloc);
         let answer = run_job(&row.job, &mut source, &mut sink);
-        assert!(rt; answer == Err(RunError::Read), "{:?}: read {call}", row.job);
         let given = (call - 1).saturating_mul(PIECE);
-        assert!(rt;
-            sink.bytes() == decided(row, given),
-            "{:?}: read {call}",
-            row.job
-        );
+        if answer != Err(RunError::Read) || sink.bytes() != decided(row, given) {
+            return false;
+        }
     }
+    true
 }
 
-fn expect_failed_writes(rt: &impl Abort, alloc: Global, row: &Row<'_>) {
+/// Whether each failed write in turn is told behind the buffers before it.
+fn tells_failed_writes(alloc: Global, row: &Row<'_>) -> bool {
     for call in 1..=row.output.len() {
         let front = first_buffers(row, call - 1);
         if front.len() == row.output.len() {
-            return;
+            return true;
         }
         let mut source = MemorySource::new(row.input, 4_096);
         let mut sink = FailingSink::new(alloc, call as u64);
         let answer = run_job(&row.job, &mut source, &mut sink);
-        assert!(rt;
-            answer == Err(RunError::Write),
-            "{:?}: write {call}",
-            row.job
-        );
-        assert!(rt; sink.bytes() == front, "{:?}: write {call}", row.job);
+        if answer != Err(RunError::Write) || sink.bytes() != front {
+            return false;
+        }
     }
+    true
 }
 
-fn expect_any_pieces(rt: &impl Abort, alloc: Global, row: &Row<'_>) {
-    for piece in [1, 7, 64, 65, 4_096] {
+/// Whether the output is the same however many bytes are given and taken at once.
+fn takes_any_pieces(alloc: Global, row: &Row<'_>) -> bool {
+    for (piece, most) in [(1, 4_096), (7, 64), (64, 7), (65, 1), (4_096, 4_096)] {
         let mut source = MemorySource::new(row.input, piece);
-        let mut sink = MemorySink::new(alloc);
-        assert!(rt;
-            run_job(&row.job, &mut source, &mut sink).is_ok(),
-            "{:?}",
-            row.job
-        );
-        assert!(rt;
-            sink.bytes() == row.output,
-            "{:?}: {piece} at once",
-            row.job
-        );
-    }
-    for most in [1, 7, 64] {
-        let mut source = MemorySource::new(row.input, 4_096);
         let mut sink = ShortSink::new(alloc, most);
-        assert!(rt;
-            run_job(&row.job, &mut source, &mut sink).is_ok(),
-            "{:?}",
-            row.job
-        );
-        assert!(rt; sink.bytes() == row.output, "{:?}: {most} at once", row.job);
+        let answer = run_job(&row.job, &mut source, &mut sink);
+        if answer.is_err() || sink.bytes() != row.output {
+            return false;
+        }
     }
+    true
 }
 
 fn expect_rows(rt: &impl Abort, alloc: Global, rows: &[Row<'_>]) {
-    for row in rows.iter() {
-        expect_failed_reads(rt, alloc, row);
-        expect_failed_writes(rt, alloc, row);
-        expect_any_pieces(rt, alloc, row);
+    for (number, row) in rows.iter().enumerate() {
+        assert!(rt; tells_failed_reads(alloc, row), "row {number}");
+        assert!(rt; tells_failed_writes(alloc, row), "row {number}");
+        assert!(rt; takes_any_pieces(alloc, row), "row {number}");
     }
 }
 
@@ -255,37 +237,39 @@ fn to_cells<'a>(job: Job, input: &'a [u8], output: &'a [u8], early: Early) -> Ro
 #[test]
 fn normal_cells(rt: HostRuntime) -> Result<(), Fail> {
     let of = inputs_of_rows(rt.alloc())?;
-    let job = Job::Normal {
+    let normal = Job::Normal {
         input: TEXT,
         output: TEXT,
     };
-    let two = to_cells(job, &of.two, &of.two, FIRST_OF_TWO);
-    expect_failed_reads(&rt, rt.alloc(), &two);
-    let rows = [
-        to_cells(job, &of.early, &of.block, Early::Nothing),
-        to_cells(job, &of.other, &of.block, Early::Nothing),
-    ];
-    expect_rows(&rt, rt.alloc(), &rows);
-    Ok(())
-}
-
-#[test]
-fn cells_of_a_cut(rt: HostRuntime) -> Result<(), Fail> {
-    let of = inputs_of_rows(rt.alloc())?;
-    let job = Job::Cut {
+    let cut = Job::Cut {
         input: TEXT,
         output: TEXT,
         from: 0,
         count: 1,
     };
-    let two = to_cells(job, &of.two, &of.block, FIRST_OF_TWO);
-    expect_failed_reads(&rt, rt.alloc(), &two);
     let rows = [
-        to_cells(job, &of.early, &of.block, Early::Nothing),
-        to_cells(job, &of.other, &of.block, Early::Nothing),
+        to_cells(normal, &of.two, &of.two, FIRST_OF_TWO),
+        to_cells(normal, &of.early, &of.block, Early::Nothing),
+        to_cells(normal, &of.other, &of.block, Early::Nothing),
+        to_cells(cut, &of.early, &of.block, Early::Nothing),
+        to_cells(cut, &of.two, &of.block, FIRST_OF_TWO),
     ];
     expect_rows(&rt, rt.alloc(), &rows);
     Ok(())
+}
+
+/// The zero block whose first channel has the status of which the first bit is 1 and no other but those of its check byte, 32 in
+/// hexadecimal: the last two slots, channel status and parity, of the first channel in frames 0, 185, 188 and 189.
+fn first_bit_text(alloc: Global) -> Result<Vec<u8>, AllocError> {
+    let mut text = block_text(alloc, ZEROS)?;
+    for line in [0, 370, 376, 378] {
+        for cell in 60..64 {
+            if let Some(byte) = text.get_mut(65 * line + cell) {
+                *byte = if cell % 2 == 0 { b'1' } else { b'0' };
+            }
+        }
+    }
+    Ok(text)
 }
 
 #[test]
@@ -304,10 +288,8 @@ fn cells_with_other_status(rt: HostRuntime) -> Result<(), Fail> {
             mend: true,
         },
     };
-    let two = to_cells(job, &of.two, &two, FIRST_OF_TWO);
-    expect_failed_reads(&rt, rt.alloc(), &two);
     let rows = [
-        to_cells(job, &of.block, &output, Early::Nothing),
+        to_cells(job, &of.two, &two, FIRST_OF_TWO),
         to_cells(job, &of.early, &output, Early::Nothing),
         to_cells(job, &of.other, &output, Early::Nothing),
     ];
@@ -345,6 +327,10 @@ fn reports_of_cells(rt: HostRuntime) -> Result<(), Fail> {
         input: PACKED,
         lines: Lines::All,
     };
+    let account = Job::Account {
+        input: TEXT,
+        lines: Lines::All,
+    };
     let whole = b"whole at 0 before 0\n";
     let fault = b"fault at 0 cell 12804 preamble\n";
     let wholes = b"whole at 0 before 0\nwhole at 24576 before 0\n";
@@ -354,6 +340,7 @@ fn reports_of_cells(rt: HostRuntime) -> Result<(), Fail> {
         to_lines(text, &of.early, faults, first_line(13_005, fault)),
         to_lines(text, &of.other, b"whole at 0 before 1\n", Early::Nothing),
         to_lines(packed, &of.packed, wholes, first_line(3_075, whole)),
+        to_lines(account, &of.two, wholes, first_line(24_961, whole)),
     ];
     expect_rows(&rt, rt.alloc(), &rows);
     Ok(())
@@ -422,25 +409,15 @@ fn preambles_of_cells(rt: HostRuntime) -> Result<(), Fail> {
     let mut early = Vec::new(rt.alloc());
     add_marks(&mut early, rt.alloc(), 0, 200, 0)?;
     add_marks(&mut early, rt.alloc(), 12_800, 384, 0)?;
-    let mut other = Vec::new(rt.alloc());
-    add_marks(&mut other, rt.alloc(), 0, 384, 1)?;
-    let job = Job::Scan { input: TEXT };
+    let mut two = Vec::new(rt.alloc());
+    add_marks(&mut two, rt.alloc(), 0, 384, 0)?;
+    add_marks(&mut two, rt.alloc(), 24_576, 384, 0)?;
+    let text = Job::Scan { input: TEXT };
+    let packed = Job::Scan { input: PACKED };
     let rows = [
-        to_lines(job, &of.early, &early, Early::Lines { first: 8, len: 65 }),
-        to_lines(job, &of.other, &other, Early::Lines { first: 8, len: 74 }),
+        to_lines(text, &of.early, &early, Early::Lines { first: 8, len: 65 }),
+        to_lines(packed, &of.packed, &two, Early::Lines { first: 3, len: 8 }),
     ];
-    expect_rows(&rt, rt.alloc(), &rows);
-    Ok(())
-}
-
-#[test]
-fn preambles_of_packed_cells(rt: HostRuntime) -> Result<(), Fail> {
-    let of = inputs_of_rows(rt.alloc())?;
-    let mut marks = Vec::new(rt.alloc());
-    add_marks(&mut marks, rt.alloc(), 0, 384, 0)?;
-    add_marks(&mut marks, rt.alloc(), 24_576, 384, 0)?;
-    let job = Job::Scan { input: PACKED };
-    let rows = [to_lines(job, &of.packed, &marks, Early::Lines { first: 3, len: 8 })];
     expect_rows(&rt, rt.alloc(), &rows);
     Ok(())
 }

@@ -1,11 +1,83 @@
-//! Status lines as they are printed.
+//! Lines as they are printed.
 
-use aes3_block::Channel;
-use aes3_cell::MemorySink;
-use aes3_text::line_of_status;
+ghost use Rattle.std.specs.Prelude.{◌<◌};
+
+use aes3_block::{Block, Channel};
+use aes3_cell::{Level, MemorySink};
+use aes3_lock::{Report, Why};
+use aes3_slot::Mark;
+use aes3_text::{line_of_gap, line_of_mark, line_of_report, line_of_status};
 use std::alloc::Global;
-use std::process::Abort;
 use std::test::Fail;
+
+#[test]
+fn lines_of_reports(rt: HostRuntime) {
+    let whole = Report::Whole {
+        at: 24_445,
+        before: Level::High,
+        block: Block::zero(),
+    };
+    let marked = Report::Marked {
+        at: 64,
+        before: Level::Low,
+        wrong: 384,
+    };
+    let fault = |why| Report::Fault {
+        at: 0,
+        cell: u64::MAX,
+        why,
+    };
+    for (report, expected) in [
+        (whole, "whole at 24445 before 1\n"),
+        (marked, "marked at 64 before 0 wrong 384\n"),
+        (
+            fault(Why::Unclosed),
+            "fault at 0 cell 18446744073709551615 unclosed\n",
+        ),
+        (
+            fault(Why::Biphase),
+            "fault at 0 cell 18446744073709551615 biphase\n",
+        ),
+        (
+            fault(Why::Preamble),
+            "fault at 0 cell 18446744073709551615 preamble\n",
+        ),
+        (
+            Report::Unfinished { at: 131, cells: 8 },
+            "unfinished at 131 cells 8\n",
+        ),
+    ] {
+        let mut sink = MemorySink::new(rt.alloc());
+        let _ = line_of_report(&report, &mut sink);
+        assert!(rt; sink.bytes() == expected.as_bytes(), "{expected}");
+    }
+}
+
+#[test]
+fn lines_of_preambles_and_gaps(rt: HostRuntime) {
+    for (mark, before, expected) in [
+        (
+            Mark::Z,
+            Level::Low,
+            "mark Z at 131 before 0\ngap at 131 cells 24576\n",
+        ),
+        (
+            Mark::Y,
+            Level::High,
+            "mark Y at 131 before 1\ngap at 131 cells 24576\n",
+        ),
+        (
+            Mark::X,
+            Level::Low,
+            "mark X at 131 before 0\ngap at 131 cells 24576\n",
+        ),
+    ] {
+        let mut sink = MemorySink::new(rt.alloc());
+        assert!(rt; line_of_mark(131, mark, before, &mut sink).is_ok());
+        assert!(rt; line_of_gap(131, 24_576, &mut sink).is_ok());
+        assert!(rt; sink.bytes() == expected.as_bytes(), "{expected}");
+    }
+}
 
 /// A channel status that begins with these bytes, zeros behind them but for the last.
 fn status_of(front: &[u8], last: u8) -> [u8; 24] {
@@ -41,23 +113,22 @@ const LINES: &[(&[u8], u8, &str)] = &[
     ),
 ];
 
-#[test]
-fn whole_lines(rt: HostRuntime) {
-    for (front, last, expected) in LINES {
-        let mut sink = MemorySink::new(rt.alloc());
-        let answer = line_of_status(0, Channel::First, &status_of(front, *last), &mut sink);
-        assert!(rt; answer == Ok(()));
-        assert!(rt; sink.bytes() == expected.as_bytes(), "{expected}");
-    }
+/// The line of a channel status.
+fn line_of(alloc: Global, block: u64, channel: Channel, status: &[u8; 24]) -> MemorySink {
+    let mut sink = MemorySink::new(alloc);
+    let _ = line_of_status(block, channel, status, &mut sink);
+    sink
 }
 
 #[test]
-fn second_channel_of_the_last_block(rt: HostRuntime) {
-    let mut sink = MemorySink::new(rt.alloc());
-    let answer = line_of_status(u64::MAX, Channel::Second, &[0; 24], &mut sink);
-    assert!(rt; answer == Ok(()));
+fn lines_of_status(rt: HostRuntime) {
+    for (front, last, expected) in LINES {
+        let line = line_of(rt.alloc(), 0, Channel::First, &status_of(front, *last));
+        assert!(rt; line.bytes() == expected.as_bytes(), "{expected}");
+    }
+    let line = line_of(rt.alloc(), u64::MAX, Channel::Second, &[0; 24]);
     let head = b"block=18446744073709551615 channel=2 consumer payload=";
-    assert!(rt; sink.bytes().starts_with(head));
+    assert!(rt; line.bytes().starts_with(head));
 }
 
 /// A byte's number, its value, and what the line then has. The other bytes are zero, but for byte 0, which is 1.
@@ -193,31 +264,16 @@ const CONSUMER: &[(usize, u8, &str)] = &[
     (23, 0x0F, " rest=0000000000000000000000000000000000000f\n"),
 ];
 
-/// Looks for each row's part in the line of its channel status.
-fn expect_parts(
-    rt: &impl Abort,
-    alloc: Global,
-    first: u8,
-    rows: &[(usize, u8, &str)],
-) -> Result<(), Fail> {
-    for (at, value, part) in rows {
-        let mut status = status_of(&[first], 0);
-        assert!(rt; *at < status.len(), "{part}");
-        status[*at] = *value;
-        let mut sink = MemorySink::new(alloc);
-        assert!(rt; line_of_status(0, Channel::First, &status, &mut sink) == Ok(()));
-        let line = str::from_utf8(sink.bytes())?;
-        assert!(rt; line.contains(*part), "{part} in {line}");
+#[test]
+fn fields_of_status_lines(rt: HostRuntime) -> Result<(), Fail> {
+    for (first, rows) in [(1, PROFESSIONAL), (0, CONSUMER)] {
+        for (at, value, part) in rows {
+            let mut status = status_of(&[first], 0);
+            assert!(rt; *at < 24);
+            status[*at] = *value;
+            let line = line_of(rt.alloc(), 0, Channel::First, &status);
+            assert!(rt; str::from_utf8(line.bytes())?.contains(*part), "{part}");
+        }
     }
     Ok(())
-}
-
-#[test]
-fn professional_fields(rt: HostRuntime) -> Result<(), Fail> {
-    expect_parts(&rt, rt.alloc(), 1, PROFESSIONAL)
-}
-
-#[test]
-fn consumer_fields(rt: HostRuntime) -> Result<(), Fail> {
-    expect_parts(&rt, rt.alloc(), 0, CONSUMER)
 }
