@@ -50,6 +50,8 @@ const REWRITE: Job = Job::Rewrite {
     change: Change {
         status1: Some(STATUS_BYTES),
         status2: None,
+        settings1: None,
+        settings2: None,
         mend: true,
     },
 };

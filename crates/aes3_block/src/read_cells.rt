@@ -13,7 +13,6 @@ ghost use Rattle.aes3_block.specs.Blocks.{block_cells};
 
 use crate::block::SLOTS;
 use crate::cells::mark_of;
-use crate::slots::has_odd_ones;
 use crate::word::PAYLOAD_LIMIT;
 use aes3_cell::{Fault, Form, Level, Sink, put_words};
 use aes3_slot::{Mark, slot_bits, subframe_cells, wrong_cells};
@@ -30,23 +29,12 @@ fn is_inverted(before: Level, cells: u64) -> bool {
     (cells % 2 == 1) != (before == Level::Low)
 }
 
-/// Whether these are the cells of a subframe with this preamble after the level `before`, with right parity.
-fn is_subframe(before: Level, mark: Mark, cells: u64) -> bool
-    ensures { result ≡ true → word_cells cells ≡ line before (subframe_runs mark (take payload_len (read_word cells))) }
-{
-    let wrong = wrong_cells(before, mark, cells);
-    if wrong != 0 {
-        return false;
-    }
-    !has_odd_ones(cells)
-}
-
 /// The cells of the subframe with this preamble after the level `before` whose payload these cells carry.
 fn renewed(before: Level, mark: Mark, cells: u64) -> u64
     ensures { word_cells result ≡ line before (subframe_runs mark (take payload_len (read_word cells))) }
 {
     let same = turned(is_inverted(before, cells), cells);
-    if is_subframe(before, mark, same) {
+    if wrong_in(before, mark, same) == 0 {
         return same;
     }
     subframe_cells(before, mark, slot_bits(cells) % PAYLOAD_LIMIT)
@@ -62,7 +50,7 @@ fn renew_each(before: Level, words: &[u64; SLOTS], cells: &mut [u64; SLOTS])
     }
 }
 
-/// What a subframe's last cell has of another level than `before`: zero, or a one in the highest bit.
+/// One where a subframe's last cell is another level than `before`, as it is where its parity is wrong, else zero.
 fn other_last(before: Level, cells: u64) -> u64
     ensures { result ≡ 0 → at (word_cells cells) 63 ≡ before }
 {
@@ -90,7 +78,7 @@ fn turn_all(before: Level, words: &[u64; SLOTS], cells: &mut [u64; SLOTS]) -> bo
     for (slot, word) in words.iter().enumerate() {
         let same = turned(inverted, *word);
         cells[slot] = same;
-        wrong |= wrong_in(before, mark_of(slot), same);
+        wrong |= wrong_in(before, mark_of(slot as u64), same);
     }
     wrong == 0
 }

@@ -39,6 +39,8 @@ const MENDED: Job = Job::Rewrite {
     change: Change {
         status1: None,
         status2: None,
+        settings1: None,
+        settings2: None,
         mend: true,
     },
 };

@@ -285,6 +285,8 @@ fn cells_with_other_status(rt: HostRuntime) -> Result<(), Fail> {
         change: Change {
             status1: Some(status),
             status2: None,
+            settings1: None,
+            settings2: None,
             mend: true,
         },
     };
@@ -440,6 +442,8 @@ fn blocks_of_cells(rt: HostRuntime) -> Result<(), Fail> {
         change: Change {
             status1: None,
             status2: None,
+            settings1: None,
+            settings2: None,
             mend: false,
         },
     };

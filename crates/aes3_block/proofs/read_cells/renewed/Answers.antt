@@ -4,9 +4,9 @@ use Rattle.aes3_slot.specs.Slots.{payload_len, subframe_runs}
 use Rattle.aes3_block.proofs.SlotWords.{payload-low}
 use Rattle.aes3_block.proofs.read_cells.renewed.Goals as goal
 
-pub returns-then-is_subframe : goal.returns-then-is_subframe
-returns-then-is_subframe c =
-    c.is_subframe.ensures c.if-is_subframe.true ∙ ap (λ bits. line c.args.before (subframe_runs c.args.mark (take payload_len bits))) c.turned-same.ensures
+pub returns-then-wrong_in-eq0 : goal.returns-then-wrong_in-eq0
+returns-then-wrong_in-eq0 c =
+    c.wrong_in.ensures c.if-wrong_in-eq0.true ∙ ap (λ bits. line c.args.before (subframe_runs c.args.mark (take payload_len bits))) c.turned-same.ensures
 
 pub returns : goal.returns
 returns c =
