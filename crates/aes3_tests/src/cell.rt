@@ -217,7 +217,7 @@ fn all_refusals(rt: HostRuntime) {
         (RunError::BadSample { at: 4 }, 11, Some(4)),
     ] {
         assert!(rt;
-            (error.number(), error.place()) == (number, place),
+            error.number() == number && error.place() == place,
             "refusal {number}"
         );
     }

@@ -5,13 +5,17 @@ ghost use Rattle.std.specs.Prelude.{◌<◌, ◌≤◌, ◌^◌};
 use aes3_cell::{
     Counts, EndlessSource, FailingSource, Form, MemorySink, MemorySource, RunError, StdSink,
 };
-use aes3_engine::{cut, encode, normalise, to_pcm};
+use aes3_engine::cut;
+use aes3_job::{Job, run_job};
 use std::alloc::{AllocError, Global};
 use std::io::BufWriter;
 use std::test::Fail;
 
 /// More bytes than a test has.
 const MANY: u64 = 1 << 20;
+
+/// As many blocks as there are.
+const ALL: u64 = u64::MAX;
 
 /// How many bytes a block has as cell text.
 const BLOCK_TEXT: usize = 24_960;
@@ -68,10 +72,10 @@ fn samples_of_a_line(rt: HostRuntime) -> Result<(), Fail> {
     for form in [Form::Text, Form::Packed] {
         let mut line = MemorySink::new(rt.alloc());
         let mut source = MemorySource::new(&file, 4_096);
-        assert!(rt; encode(&mut source, &mut line, MANY, form).is_ok());
+        assert!(rt; run_job(&Job::Encode { output: form }, &mut source, &mut line).is_ok());
         let mut pcm = MemorySink::new(rt.alloc());
         let mut source = MemorySource::new(line.bytes(), 4_096);
-        assert!(rt; to_pcm(&mut source, &mut pcm, MANY, form).is_ok());
+        assert!(rt; run_job(&Job::ToPcm { input: form }, &mut source, &mut pcm).is_ok());
         assert!(rt; pcm.bytes() == samples.as_slice());
     }
     Ok(())
@@ -104,8 +108,8 @@ fn in_lines(
     Ok(lines)
 }
 
-/// Normalises at most `max_bytes` to text, and answers what was written too.
-fn normal(
+/// Writes the blocks of at most `max_bytes` as text, and answers what was written too.
+fn blocks_within(
     alloc: Global,
     input: &[u8],
     piece: usize,
@@ -117,7 +121,7 @@ fn normal(
 {
     let mut source = MemorySource::new(input, piece);
     let mut sink = MemorySink::new(alloc);
-    let answer = normalise(&mut source, &mut sink, max_bytes, form, Form::Text);
+    let answer = cut(&mut source, &mut sink, max_bytes, form, Form::Text, 0, ALL);
     (answer, sink)
 }
 
@@ -139,7 +143,7 @@ fn lines_of_any_length_change_no_output(rt: HostRuntime) -> Result<(), Fail> {
     for (cells, len, between, end, piece) in rows {
         assert!(rt; len > 0 && piece > 0);
         let text = in_lines(rt.alloc(), &more, cells, len, between, end)?;
-        let (answer, sink) = normal(rt.alloc(), &text, piece, MANY, Form::Text);
+        let (answer, sink) = blocks_within(rt.alloc(), &text, piece, MANY, Form::Text);
         let counted = matches!(answer, Ok(counts) if counts.cells == cells as u64);
         assert!(rt;
             counted && sink.bytes() == one.as_slice(),
@@ -156,7 +160,7 @@ fn what_is_decided_leaves_before_the_next_read(rt: HostRuntime) -> Result<(), Fa
         let mut output = BufWriter::with_capacity(rt.alloc(), 1 << 16, Vec::new(rt.alloc()))?;
         let mut source = FailingSource::new(&two, 65, call);
         let mut sink = StdSink::new(&mut output);
-        let answer = normalise(&mut source, &mut sink, MANY, Form::Text, Form::Text);
+        let answer = cut(&mut source, &mut sink, MANY, Form::Text, Form::Text, 0, ALL);
         assert!(rt; answer == Err(RunError::Read), "read {call}");
         assert!(rt; output.get_ref().len() == written, "read {call}");
     }
@@ -185,7 +189,7 @@ fn the_last_byte_that_fits(rt: HostRuntime) -> Result<(), Fail> {
     ];
     for (input, form, max_bytes, fits, written) in rows {
         assert!(rt; max_bytes <= 1 << 40);
-        let (answer, sink) = normal(rt.alloc(), input, 4_096, max_bytes, form);
+        let (answer, sink) = blocks_within(rt.alloc(), input, 4_096, max_bytes, form);
         let expected = if fits { None } else { Some(RunError::TooLong) };
         assert!(rt;
             answer.err() == expected && sink.bytes().len() == written,
@@ -200,7 +204,7 @@ fn inputs_without_an_end(rt: HostRuntime) {
     for (byte, form) in [(b'1', Form::Text), (b' ', Form::Text), (0xE8, Form::Packed)] {
         let mut source = EndlessSource::new(byte, 64);
         let mut sink = MemorySink::new(rt.alloc());
-        let answer = normalise(&mut source, &mut sink, 1_000, form, form);
+        let answer = cut(&mut source, &mut sink, 1_000, form, form, 0, ALL);
         assert!(rt; answer == Err(RunError::TooLong));
         assert!(rt; sink.bytes().is_empty());
     }

@@ -247,12 +247,14 @@ fn normal_cells(rt: HostRuntime) -> Result<(), Fail> {
         from: 0,
         count: 1,
     };
+    for (job, output) in [(normal, &of.two), (cut, &of.block)] {
+        let two = to_cells(job, &of.two, output, FIRST_OF_TWO);
+        assert!(rt; tells_failed_reads(rt.alloc(), &two));
+    }
     let rows = [
-        to_cells(normal, &of.two, &of.two, FIRST_OF_TWO),
         to_cells(normal, &of.early, &of.block, Early::Nothing),
         to_cells(normal, &of.other, &of.block, Early::Nothing),
         to_cells(cut, &of.early, &of.block, Early::Nothing),
-        to_cells(cut, &of.two, &of.block, FIRST_OF_TWO),
     ];
     expect_rows(&rt, rt.alloc(), &rows);
     Ok(())
@@ -290,8 +292,9 @@ fn cells_with_other_status(rt: HostRuntime) -> Result<(), Fail> {
             mend: true,
         },
     };
+    let two = to_cells(job, &of.two, &two, FIRST_OF_TWO);
+    assert!(rt; tells_failed_reads(rt.alloc(), &two));
     let rows = [
-        to_cells(job, &of.two, &two, FIRST_OF_TWO),
         to_cells(job, &of.early, &output, Early::Nothing),
         to_cells(job, &of.other, &output, Early::Nothing),
     ];
