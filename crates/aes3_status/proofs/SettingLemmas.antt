@@ -12,7 +12,7 @@ use Rattle.aes3_status.specs.Bits.{low_bits, number, status_bits, field}
 use Rattle.aes3_status.specs.Statuses.{is_professional}
 use Rattle.aes3_status.specs.Settings.{with_bits, with_field, number_at, pro_place, con_place, place_of, under, code_for, with_code}
 use Rattle.aes3_status.specs.SettingLaws.{IsPlace, first_bit, OnlyItsBitsChange, CodeIsReadBack, OtherFieldsStay, MeaningStays, SettingIsReadBack}
-use Rattle.aes3_status.proofs.BitFields.{length-low_bits}
+use Rattle.aes3_status.proofs.BitFields.{length-low_bits, field-fits}
 use Rattle.aes3_status.proofs.Weights.{length-status_bits}
 use Rattle.aes3_status.proofs.SetFields.{number-low, status-set, new-back, before-stays, behind-stays}
 
@@ -145,3 +145,34 @@ pub setting-back : SettingIsReadBack
 setting-back setting bytes code e h =
     ap (λ o. number_at (place_of setting.field) (with_code (place_of setting.field) o bytes)) h
     ∙ code-back (place_of setting.field) code bytes (field-lies setting.field).is e
+
+-- the number that tells what the codes mean has three bits at most
+pub under-few : (f : Field) (bytes : List ℕ) → under f bytes < 8
+under-few (Professional pro.Payload) bytes = omega arith
+under-few (Professional pro.Emphasis) bytes = omega arith
+under-few (Professional pro.Unlocked) bytes = omega arith
+under-few (Professional pro.Rate) bytes = omega arith
+under-few (Professional pro.Mode) bytes = omega arith
+under-few (Professional pro.User) bytes = omega arith
+under-few (Professional pro.Aux) bytes = omega arith
+under-few (Professional pro.Word) bytes = omega (arith, field-fits 2 0 3 bytes)
+under-few (Professional pro.B2high) bytes = omega arith
+under-few (Professional pro.B3) bytes = omega arith
+under-few (Professional pro.B4) bytes = omega arith
+under-few (Professional pro.B5) bytes = omega arith
+under-few (Professional pro.Unreliable) bytes = omega arith
+under-few (Professional pro.B22low) bytes = omega arith
+under-few (Consumer con.Payload) bytes = omega arith
+under-few (Consumer con.Copyright) bytes = omega arith
+under-few (Consumer con.Emphasis) bytes = omega (arith, field-fits 0 1 1 bytes)
+under-few (Consumer con.Mode) bytes = omega arith
+under-few (Consumer con.Category) bytes = omega arith
+under-few (Consumer con.Generation) bytes = omega arith
+under-few (Consumer con.Source) bytes = omega arith
+under-few (Consumer con.Number) bytes = omega arith
+under-few (Consumer con.Rate) bytes = omega arith
+under-few (Consumer con.Accuracy) bytes = omega arith
+under-few (Consumer con.B3high) bytes = omega arith
+under-few (Consumer con.Greatest) bytes = omega arith
+under-few (Consumer con.Word) bytes = omega (arith, field-fits 4 0 1 bytes)
+under-few (Consumer con.Original) bytes = omega arith

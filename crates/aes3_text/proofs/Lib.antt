@@ -12,3 +12,5 @@ pub mod LostGaps
 mod MarkTexts
 pub mod PieceGaps
 pub mod LostCells
+pub mod SettingTexts
+pub mod SettingLines

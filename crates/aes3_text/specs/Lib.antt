@@ -8,3 +8,4 @@ pub mod StatusLines
 pub mod Runs
 pub mod Laws
 pub mod GapLaws
+pub mod Settings

@@ -3,11 +3,12 @@
 ghost use Rattle.std.specs.Prelude.{◌≡◌, ◌≤◌, ◌+◌, ◌*◌, ◌++◌, length, IsTrue};
 ghost use Rattle.aes3_text.specs.Words.{are_within, rows_of};
 ghost use Rattle.aes3_text.specs.Consumer.{consumer_text, emphasis_words, length_fields, length_words, rate_fields, signal_fields, source_fields};
+ghost use Rattle.aes3_text.specs.Settings.{con_text};
 
 use crate::fields::FIELD_LEN;
 use crate::line::{LINE_LEN, Line};
 use crate::words::{PAYLOAD, UP_TO_20, UP_TO_24, WORD_LEN};
-use aes3_status::Con;
+use aes3_status::{Con, ConField};
 
 /// Copyright (byte 0 bit 2).
 const COPYRIGHT: &[(u8, &str)] = &[(0, "asserted"), (1, "not-asserted")];
@@ -120,4 +121,27 @@ pub(crate) fn put_consumer(line: &mut Line, status: &Con)
     put_source(line, status);
     put_rate(line, status);
     put_length(line, status);
+}
+
+/// Appends a code of one of these fields, where the number `under` tells what its codes mean.
+pub(crate) fn put_consumer_code(line: &mut Line, field: ConField, under: u8, code: u8)
+    requires { length line.old + FIELD_LEN ≤ LINE_LEN }
+    ensures { line.new ≡ line.old ++ con_text field under code }
+{
+    match field {
+        ConField::Payload => line.word_field("payload", PAYLOAD, code),
+        ConField::Copyright => line.word_field("copyright", COPYRIGHT, code),
+        ConField::Emphasis => line.word_field("emphasis", emphasis_words(under), code),
+        ConField::Mode => line.number_field("mode", u64::from(code)),
+        ConField::Category => line.word_field("category", CATEGORY, code),
+        ConField::Generation => line.number_field("generation", u64::from(code)),
+        ConField::Source => line.specified_field("source", u64::from(code)),
+        ConField::Number => line.specified_field("number", u64::from(code)),
+        ConField::Rate => line.word_field("rate", RATE, code),
+        ConField::Accuracy => line.word_field("accuracy", ACCURACY, code),
+        ConField::B3high => line.number_field("b3high", u64::from(code)),
+        ConField::Greatest => line.word_field("greatest", GREATEST, code),
+        ConField::Word => line.word_field("word", length_words(under), code),
+        ConField::Original => line.number_field("original", u64::from(code)),
+    }
 }

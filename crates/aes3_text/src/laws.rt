@@ -3,6 +3,7 @@
 
 ghost use Rattle.aes3_text.specs.GapLaws.{AccountIsInTime, AccountIsWhole, ChangeIsLost, LossIsLost, NoGapLosesNothing, PieceHasNoGap, RowHasNoGap};
 ghost use Rattle.aes3_text.specs.Laws.{ExchangedStatusIsFound};
+ghost use Rattle.aes3_text.specs.Settings.{LineShowsFields};
 
 /// Two changed cells that leave a block, with the bits of two slots inverted, leave no good check of a channel status
 /// that they change.
@@ -42,4 +43,9 @@ pub fn loss_is_lost()
 pub fn whole_rows_have_no_gap()
     ensures row { RowHasNoGap }
     ensures piece { PieceHasNoGap }
+{}
+
+/// The line of a channel status is made of what is printed of each field that can be set, in order, and of the others.
+pub fn line_shows_fields()
+    ensures { LineShowsFields }
 {}

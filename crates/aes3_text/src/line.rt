@@ -26,7 +26,7 @@ impl Model for Line {
 }
 
 impl Line {
-    ghost use Rattle.std.specs.Prelude.{◌≡◌, ◌<◌, ◌≤◌, ◌+◌, [], ◌∷◌, ◌++◌, ◌^◌, decimal, length};
+    ghost use Rattle.std.specs.Prelude.{◌≡◌, ◌↔◌, ◌<◌, ◌≤◌, ◌+◌, [], ◌∷◌, ◌++◌, ◌^◌, IsTrue, codes, decimal, length};
     ghost use Rattle.aes3_cell.specs.Writes.{Wrote};
     ghost use Rattle.aes3_text.specs.Lines.{level_digit};
 
@@ -76,6 +76,24 @@ impl Line {
             Level::Low => "0",
             Level::High => "1",
         });
+    }
+
+    /// Whether the line is a space and this text.
+    pub(crate) fn is_spaced(&self, text: &str) -> bool
+        ensures { IsTrue result ↔ self.now ≡ codes " " ++ text.now }
+    {
+        let bytes = self.bytes.as_slice();
+        if bytes.is_empty() || bytes[0] != b' ' {
+            return false;
+        }
+        &bytes[1..] == text.as_bytes()
+    }
+
+    /// Empties the line.
+    pub(crate) fn clear(&mut self)
+        ensures { self.new ≡ [] }
+    {
+        self.bytes.clear();
     }
 
     /// Hands the line and a line feed to the sink as one buffer.

@@ -3,11 +3,12 @@
 ghost use Rattle.std.specs.Prelude.{◌≡◌, ◌≤◌, ◌+◌, ◌*◌, ◌++◌, length, IsTrue};
 ghost use Rattle.aes3_text.specs.Words.{are_within, rows_of};
 ghost use Rattle.aes3_text.specs.Professional.{address_fields, check_word, length_words, mode_fields, name_fields, professional_text, signal_fields};
+ghost use Rattle.aes3_text.specs.Settings.{pro_text};
 
 use crate::fields::FIELD_LEN;
 use crate::line::{LINE_LEN, Line};
 use crate::words::{PAYLOAD, UP_TO_20, UP_TO_24, UP_TO_ANY, WORD_LEN};
-use aes3_status::{Check, Pro};
+use aes3_status::{Check, Pro, ProField};
 
 /// Pre-emphasis (byte 0 bits 2 to 4).
 const EMPHASIS: &[(u8, &str)] = &[(0, "not-indicated"), (1, "none"), (3, "50/15"), (7, "j17")];
@@ -131,4 +132,27 @@ pub(crate) fn put_professional(line: &mut Line, status: &Pro, check: Check)
     put_names(line, status);
     put_addresses(line, status);
     line.text_field("check", check_word(check));
+}
+
+/// Appends a code of one of these fields, where the number `under` tells what its codes mean.
+pub(crate) fn put_professional_code(line: &mut Line, field: ProField, under: u8, code: u8)
+    requires { length line.old + FIELD_LEN ≤ LINE_LEN }
+    ensures { line.new ≡ line.old ++ pro_text field under code }
+{
+    match field {
+        ProField::Payload => line.word_field("payload", PAYLOAD, code),
+        ProField::Emphasis => line.word_field("emphasis", EMPHASIS, code),
+        ProField::Unlocked => line.word_field("unlocked", UNLOCKED, code),
+        ProField::Rate => line.word_field("rate", RATE, code),
+        ProField::Mode => line.word_field("mode", MODE, code),
+        ProField::User => line.word_field("user", USER, code),
+        ProField::Aux => line.word_field("aux", AUX, code),
+        ProField::Word => line.word_field("word", length_words(under), code),
+        ProField::B2high => line.number_field("b2high", u64::from(code)),
+        ProField::B3 => line.number_field("b3", u64::from(code)),
+        ProField::B4 => line.number_field("b4", u64::from(code)),
+        ProField::B5 => line.number_field("b5", u64::from(code)),
+        ProField::Unreliable => line.bits_field("unreliable", code),
+        ProField::B22low => line.number_field("b22low", u64::from(code)),
+    }
 }

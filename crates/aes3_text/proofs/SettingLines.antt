@@ -1,0 +1,10 @@
+-- The line of a status, field by field.
+use Rattle.std.proofs.Common.{append_assoc}
+use Rattle.std.proofs.lemmas.List.{append-nil}
+use Rattle.aes3_text.specs.Professional as professional
+use Rattle.aes3_text.specs.Consumer as consumer
+use Rattle.aes3_text.specs.Settings.{LineShowsFields}
+
+pub line-shows : LineShowsFields
+unfolding professional.signal_fields professional.mode_fields professional.name_fields professional.address_fields professional.professional_text consumer.signal_fields consumer.source_fields consumer.rate_fields consumer.length_fields consumer.consumer_text
+line-shows bytes check = (simp (append_assoc, append-nil), simp (append_assoc, append-nil))

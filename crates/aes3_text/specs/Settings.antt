@@ -1,0 +1,101 @@
+-- Fields of channel status by their names and the words that `show` prints.
+use Rattle.std.specs.Prelude.{ℕ, List, [], ◌∷◌, ◌++◌, Option, Some, None, ◌≡◌, ◌≢◌, ◌<◌, ◌^◌, codes, decimal, length, map, take, drop, get_or}
+use Rattle.std.specs.List.{Contains, flat_map}
+use Rattle.aes3_status.specs.declared.check.Check.{Check}
+use Rattle.aes3_status.specs.declared.field.ProField.{ProField}
+use Rattle.aes3_status.specs.declared.field.ProField.TheVariants as pro
+use Rattle.aes3_status.specs.declared.field.ConField.{ConField}
+use Rattle.aes3_status.specs.declared.field.ConField.TheVariants as con
+use Rattle.aes3_status.specs.declared.field.Field.{Field}
+use Rattle.aes3_status.specs.declared.field.Field.TheVariants.{Professional, Consumer}
+use Rattle.aes3_status.specs.declared.setting.Setting.{Setting}
+use Rattle.aes3_status.specs.Professional as status
+use Rattle.aes3_status.specs.Consumer as consumer_status
+use Rattle.aes3_status.specs.Settings.{number_at, place_of, under, code_for, set_by}
+use Rattle.hex.specs.Hex.{encode_lower}
+use Rattle.aes3_text.specs.Fields.{field_text, four_bits, shown, specified}
+use Rattle.aes3_text.specs.Words.{payload_words, word_for}
+use Rattle.aes3_text.specs.Professional as professional
+use Rattle.aes3_text.specs.Consumer as consumer
+
+-- what `show` prints of each code of a field of professional status, where another field tells what its codes mean
+abbrev pub pro_text : ProField → ℕ → ℕ → List ℕ
+pro_text pro.Payload under code = field_text (codes "payload") (word_for payload_words code)
+pro_text pro.Emphasis under code = field_text (codes "emphasis") (word_for professional.emphasis_words code)
+pro_text pro.Unlocked under code = field_text (codes "unlocked") (word_for professional.unlocked_words code)
+pro_text pro.Rate under code = field_text (codes "rate") (word_for professional.rate_words code)
+pro_text pro.Mode under code = field_text (codes "mode") (word_for professional.mode_words code)
+pro_text pro.User under code = field_text (codes "user") (word_for professional.user_words code)
+pro_text pro.Aux under code = field_text (codes "aux") (word_for professional.aux_words code)
+pro_text pro.Word under code = field_text (codes "word") (word_for (professional.length_words under) code)
+pro_text pro.B2high under code = field_text (codes "b2high") (decimal code)
+pro_text pro.B3 under code = field_text (codes "b3") (decimal code)
+pro_text pro.B4 under code = field_text (codes "b4") (decimal code)
+pro_text pro.B5 under code = field_text (codes "b5") (decimal code)
+pro_text pro.Unreliable under code = field_text (codes "unreliable") (four_bits code)
+pro_text pro.B22low under code = field_text (codes "b22low") (decimal code)
+
+-- the same of consumer status
+abbrev pub con_text : ConField → ℕ → ℕ → List ℕ
+con_text con.Payload under code = field_text (codes "payload") (word_for payload_words code)
+con_text con.Copyright under code = field_text (codes "copyright") (word_for consumer.copyright_words code)
+con_text con.Emphasis under code = field_text (codes "emphasis") (word_for (consumer.emphasis_words under) code)
+con_text con.Mode under code = field_text (codes "mode") (decimal code)
+con_text con.Category under code = field_text (codes "category") (word_for consumer.category_words code)
+con_text con.Generation under code = field_text (codes "generation") (decimal code)
+con_text con.Source under code = field_text (codes "source") (specified code)
+con_text con.Number under code = field_text (codes "number") (specified code)
+con_text con.Rate under code = field_text (codes "rate") (word_for consumer.rate_words code)
+con_text con.Accuracy under code = field_text (codes "accuracy") (word_for consumer.accuracy_words code)
+con_text con.B3high under code = field_text (codes "b3high") (decimal code)
+con_text con.Greatest under code = field_text (codes "greatest") (word_for consumer.greatest_words code)
+con_text con.Word under code = field_text (codes "word") (word_for (consumer.length_words under) code)
+con_text con.Original under code = field_text (codes "original") (decimal code)
+
+abbrev pub code_text : Field → ℕ → ℕ → List ℕ
+code_text (Professional f) under code = pro_text f under code
+code_text (Consumer f) under code = con_text f under code
+
+-- what `show` prints of the field in a status
+abbrev pub shown_of : Field → List ℕ → List ℕ
+shown_of f bytes = code_text f (under f bytes) (number_at (place_of f) bytes)
+
+-- a field's code that is printed as a text `NAME=WORD`
+abbrev pub IsCodeOf : List ℕ → Field → ℕ → ℕ → Type 0
+IsCodeOf text f under code = (code < 2 ^ (place_of f).count) × (code_text f under code ≡ codes " " ++ text)
+
+-- the codes of a setting are printed as the text; some code is, and where one is, the setting has one
+pub record IsSettingOf (text : List ℕ) (fields : List Field) (setting : Setting) : Type 0 where
+  pub field : Contains fields setting.field
+  pub is : (under code : ℕ) → under < 8 → get_or setting.codes under None ≡ Some code → IsCodeOf text setting.field under code
+  pub some : (under : ℕ) × (under < 8) × (get_or setting.codes under None ≢ None)
+  pub all : (under code : ℕ) → under < 8 → IsCodeOf text setting.field under code → get_or setting.codes under None ≢ None
+
+-- no code of these fields is printed as the text
+abbrev pub IsNoSetting : List ℕ → List Field → Type 0
+IsNoSetting text fields = (f : Field) (under code : ℕ) → Contains fields f → under < 8 → ¬ IsCodeOf text f under code
+
+-- the fields in the order in which `show` prints them
+abbrev pub professional_fields : List Field
+professional_fields = map Professional (pro.Payload ∷ pro.Emphasis ∷ pro.Unlocked ∷ pro.Rate ∷ pro.Mode ∷ pro.User ∷ pro.Aux ∷ pro.Word ∷ pro.B2high ∷ pro.B3 ∷ pro.B4 ∷ pro.B5 ∷ pro.Unreliable ∷ pro.B22low ∷ [])
+
+abbrev pub consumer_fields : List Field
+consumer_fields = map Consumer (con.Payload ∷ con.Copyright ∷ con.Emphasis ∷ con.Mode ∷ con.Category ∷ con.Generation ∷ con.Source ∷ con.Number ∷ con.Rate ∷ con.Accuracy ∷ con.B3high ∷ con.Greatest ∷ con.Word ∷ con.Original ∷ [])
+
+-- where the setting has a code for a status, `show` then prints the text of it
+abbrev pub IsShownThen : List ℕ → Setting → Type 0
+IsShownThen text setting = (bytes : List ℕ) (code : ℕ) → length bytes ≡ 24 → code_for setting bytes ≡ Some code
+    → shown_of setting.field (set_by setting bytes) ≡ codes " " ++ text
+
+-- the line of `show` is made of these: the texts of the fields, with those of the fields that can't be set between them
+abbrev pub shown_fields : List Field → List ℕ → List ℕ
+shown_fields fields bytes = flat_map (λ f. shown_of f bytes) fields
+
+abbrev pub LineShowsFields : Type 0
+LineShowsFields = (bytes : List ℕ) (check : Check)
+    → (consumer.consumer_text bytes ≡ codes " consumer" ++ shown_fields consumer_fields bytes ++ field_text (codes "rest") (encode_lower (consumer_status.rest bytes)))
+    × (professional.professional_text bytes check
+    ≡ codes " professional" ++ shown_fields (take 12 professional_fields) bytes
+    ++ field_text (codes "origin") (map shown (status.origin bytes)) ++ field_text (codes "destination") (map shown (status.destination bytes))
+    ++ field_text (codes "local") (decimal (status.local bytes)) ++ field_text (codes "time") (decimal (status.time bytes))
+    ++ shown_fields (drop 12 professional_fields) bytes ++ field_text (codes "check") (professional.check_word check))
