@@ -19,3 +19,4 @@ pub mod Windows
 pub mod Beginnings
 pub mod WordMarks
 pub mod EightWords
+pub mod EightSubframes

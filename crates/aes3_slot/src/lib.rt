@@ -9,6 +9,9 @@ mod subframe;
 
 pub use mark::Mark;
 pub use preamble::{mark_cells, match_mark};
-pub use reading::{Place, begins_subframe, slot_bits, take_either, take_subframe, wrong_cells};
+pub use reading::{
+    Place, begins_subframe, slot_bits, take_either, take_subframe, wrong_cells,
+    wrong_cells_of_eight,
+};
 pub use search::{block_preambles, find_marks, preambles};
 pub use subframe::{SUBFRAME_CELLS, payload_parity, slots_cells, subframe_cells};

@@ -1,10 +1,11 @@
 //! A subframe read back from its 64 cells (AES3-3; IEC 60958-1).
 
-ghost use Rattle.std.specs.Prelude.{◌≡◌, ℕ, Bool, true, false, ◌<◌, ◌≤◌, ◌+◌, ◌*◌, ◌^◌, drop, take, if◌then◌else◌, IfOk, IfErr};
+ghost use Rattle.std.specs.Prelude.{◌≡◌, ◌==◌, ℕ, Bool, true, false, not, ◌<◌, ◌≤◌, ◌+◌, ◌*◌, ◌%◌, ◌^◌, drop, take, slice_index_or, if◌then◌else◌, IfOk, IfErr};
 ghost use Rattle.std.specs.Int.{bit_at};
 ghost use Rattle.aes3_cell.specs.Cells.{line, other};
 ghost use Rattle.aes3_cell.specs.Words.{word_cells};
 ghost use Rattle.aes3_slot.specs.Slots.{payload_bits, slot_runs, slots_bits, subframe_runs};
+ghost use Rattle.aes3_slot.specs.Preambles.{InLanes};
 ghost use Rattle.aes3_slot.specs.Reading.{read_bits};
 ghost use Rattle.aes3_slot.specs.Rules.{at};
 ghost use Rattle.aes3_slot.specs.Fronts.{IsFrontOf, IsLawfulFrontOf, stands, with_some_parity};
@@ -13,6 +14,7 @@ use crate::mark::Mark;
 use crate::preamble::mark_cells;
 use crate::subframe::SLOT_STARTS;
 use aes3_cell::Level;
+use std::simd::prelude::*;
 
 /// Where 64 cells are no subframe.
 #[derive(Clone, Copy, PartialEq, Eq, Debug)]
@@ -38,6 +40,18 @@ pub fn wrong_cells(before: Level, mark: Mark, cells: u64) -> u64
     let preamble = (cells ^ mark_cells(before, mark)) & PREAMBLE;
     let slots = !(cells ^ (cells << 1)) & SLOT_STARTS;
     preamble | slots
+}
+
+/// `wrong_cells` of eight subframes at once, whose preambles are `even` and `odd` in turn.
+pub fn wrong_cells_of_eight(before: Level, even: Mark, odd: Mark, cells: u64x8) -> u64x8
+    ensures { InLanes result (λ i k. not (stands before (if (i % 2) == 0 then even else odd) (word_cells (slice_index_or cells i 0)) k)) }
+{
+    let first = mark_cells(before, even);
+    let second = mark_cells(before, odd);
+    let marks = u64x8::from_array([first, second, first, second, first, second, first, second]);
+    let in_preambles = (cells ^ marks) & u64x8::splat(PREAMBLE);
+    let in_slots = !(cells ^ cells << u64x8::splat(1)) & u64x8::splat(SLOT_STARTS);
+    in_preambles | in_slots
 }
 
 /// The bits at even places, each at half its place.
