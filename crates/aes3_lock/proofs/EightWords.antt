@@ -1,8 +1,10 @@
 -- Eight words of cells at once, behind those that a lock follows.
-use Rattle.std.proofs.Common.{◌≡◌, ℕ, zero, suc, ◌+◌, ◌-◌, ◌*◌, ◌/◌, ◌%◌, ◌==◌, ◌^◌, ◌<◌, ◌≤◌, ◌⊎◌, inl, inr, List, ◌++◌, Some, refl, length, take, drop, set, get_or, ap, ap₂, ◌∙◌, sym, subst, arith, length-drop, length-set, take-append-drop, take_all, append_assoc, add-one, get_or-set_same, get_or-set_other}
+use Rattle.std.proofs.Common.{◌≡◌, ℕ, zero, suc, ◌+◌, ◌-◌, ◌*◌, ◌/◌, ◌%◌, ◌==◌, ◌^◌, ◌<◌, ◌≤◌, ◌⊎◌, inl, inr, List, [], ◌∷◌, ◌++◌, Bool, true, false, not, Some, refl, length, take, drop, set, get_or, ap, ap₂, ◌∙◌, sym, subst, arith, length-drop, length-set, take-append-drop, take_all, append_assoc, add-one, get_or-set_same, get_or-set_other}
 use Rattle.std.specs.Prelude.{bit_or, if◌then◌else◌}
 use Rattle.std.specs.Int.{bit_at}
 use Rattle.std.specs.List.{flat_map}
+use Rattle.std.specs.Simd.Lanes.{zip2, fold_l}
+use Rattle.std.proofs.lemmas.Simd.{get_or-zip2}
 use Rattle.std.proofs.lemmas.Bool.{cases_eq}
 use Rattle.std.proofs.lemmas.List.{take_at}
 use Rattle.std.proofs.lemmas.Nat.{le_or_l, le_or_r}
@@ -63,28 +65,36 @@ mark-behind (suc s) i h = go (cases_eq (i % 2) 0)
         ap (λ n. if n == 0 then mark_at (suc s) else mark_at (suc s + 1)) (let q : i % 2 ≡ 1 = omega (arith, e) in q)
         ∙ next ∙ ap (λ n. if n == 0 then Y else X) (let q : (s + 1) % 2 ≡ (s + i) % 2 = omega (arith, e) in q) ∙ sym here
 
--- what is wrong with subframes so far, and with one more
-pub none-wrong : (a b c : ℕ) → bit_or a (bit_or b c) ≡ 0 → (a ≡ 0) × (b ≡ 0) × (c ≡ 0)
-none-wrong a b c e =
-    let p = le_or_l a (bit_or b c) in
-    let q = le_or_r a (bit_or b c) in
-    let r = le_or_l b c in
-    let s = le_or_r b c in
-    (omega (arith, e, p), omega (arith, e, q, r), omega (arith, e, q, s))
-
 pub right-front : (s : Level) (m : Mark) (c w : ℕ) → w ≡ 0 → ((i : ℕ) → i < 64 → bit_at w i ≡ (if stands s m (word_cells c) i then 0 else 1))
     → IsFrontOf s m (take 64 (word_cells c))
 right-front s m c w z h =
     front-before s m (word_cells c) 64 (length-word c) (omega arith) (λ i g.
     true-from_zero (stands s m (word_cells c) i) (sym (h i g) ∙ ap (λ x. bit_at x i) z ∙ bit_at-zero i))
 
--- what holds of each so far, and of one more
-pub one-more : (P : ℕ → Type 0) (i : ℕ) → ((j : ℕ) → j < i → P j) → P i → (j : ℕ) → j < i + 1 → P j
-one-more P i before here j h = go (cases_eq j i)
+-- numbers whose or is zero
+or-zero : (a : ℕ) (xs : List ℕ) → fold_l bit_or a xs ≡ 0 → (a ≡ 0) × ((i : ℕ) → get_or xs i 0 ≡ 0)
+or-zero a [] e = (e, λ i. refl)
+or-zero a (x ∷ xs) e =
+    let rest = or-zero (bit_or a x) xs e in
+    let z = rest.0 in
+    let p = le_or_l a x in
+    let q = le_or_r a x in
+    (omega (arith, z, p), each x xs (omega (arith, z, q)) rest.1)
   where
-    go : (j ≡ i) ⊎ (j ≡ i → ⊥) → P j
-    go (inl e) = subst P (sym e) here
-    go (inr e) = before j (omega (arith, h, e))
+    each : (x : ℕ) (xs : List ℕ) → x ≡ 0 → ((i : ℕ) → get_or xs i 0 ≡ 0) → (i : ℕ) → get_or (x ∷ xs) i 0 ≡ 0
+    each x xs z f zero = z
+    each x xs z f (suc i) = f i
+
+pub lanes-zero : (v w : List ℕ) → length v ≡ 8 → length w ≡ 8 → fold_l bit_or 0 (zip2 bit_or v w) ≡ 0 → (i : ℕ) → i < 8 → (get_or v i 0 ≡ 0) × (get_or w i 0 ≡ 0)
+lanes-zero v w lv lw e i h =
+    let z = sym (get_or-zip2 bit_or v w i 0 0 0 (omega (arith, h, lv)) (omega (arith, h, lw))) ∙ (or-zero 0 (zip2 bit_or v w) e).1 i in
+    let p = le_or_l (get_or v i 0) (get_or w i 0) in
+    let q = le_or_r (get_or v i 0) (get_or w i 0) in
+    (omega (arith, z, p), omega (arith, z, q))
+
+pub not-else : (b : Bool) → ◌≡◌ {A = ℕ} (if not b then 1 else 0) (if b then 0 else 1)
+not-else true = refl
+not-else false = refl
 
 pub length-with_first : (place : ℕ) (kept new : List ℕ) (n : ℕ) → length (with_first place kept new n) ≡ length kept
 length-with_first place kept new zero = refl

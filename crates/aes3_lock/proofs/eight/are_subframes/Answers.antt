@@ -1,23 +1,23 @@
-use Rattle.std.proofs.Common.{◌≡◌, ◌+◌, ◌%◌, ◌==◌, ◌∙◌, ap₂, subst, get_or, take}
+use Rattle.std.proofs.Common.{◌≡◌, ℕ, ◌+◌, ◌<◌, ◌%◌, ◌==◌, ◌∙◌, true, nat_eq, ap₂, subst, get_or, take}
 use Rattle.std.specs.Prelude.{if◌then◌else◌}
+use Rattle.std.proofs.lemmas.Bool.{eqb-true}
 use Rattle.aes3_cell.specs.Words.{word_cells}
-use Rattle.aes3_slot.specs.Fronts.{IsFrontOf}
-use Rattle.aes3_slot.specs.Rules.{at}
-use Rattle.aes3_block.specs.Blocks.{mark_at}
-use Rattle.aes3_lock.proofs.EightWords.{mark-behind, none-wrong, one-more, right-front}
+use Rattle.aes3_slot.specs.Fronts.{IsFrontOf, stands}
+use Rattle.aes3_lock.proofs.EightWords.{lanes-zero, mark-behind, not-else, right-front}
 use Rattle.aes3_lock.proofs.eight.are_subframes.Goals as goal
 
-pub loop-i-preserved : goal.loop-i-preserved
-loop-i-preserved c =
-    let i = c.loop-i.i in
+pub returns-clause-fronts : goal.returns-clause-fronts
+returns-clause-fronts c = λ z i h.
     let x = get_or c.args.cells.now i 0 in
-    let mark = c.in_turn-mark.ensures ∙ ap₂ (λ a b. if (i % 2) == 0 then a else b) c.mark_of-even.ensures c.mark_of-odd.ensures ∙ mark-behind c.args.slot i c.requires.some in
-    record {
-      fronts = λ z.
-          let n = none-wrong c.loop-i.wrong c.wrong_cells.result c.other_last.result z in
-          one-more (λ j. IsFrontOf c.args.before (mark_at (c.args.slot + j)) (take 64 (word_cells (get_or c.args.cells.now j 0)))) i (c.loop-i.invariant.fronts n.0)
-          (subst (λ m. IsFrontOf c.args.before m (take 64 (word_cells x))) mark (right-front c.args.before c.in_turn-mark.result x c.wrong_cells.result n.1 c.wrong_cells.ensures));
-      levels = λ z.
-          let n = none-wrong c.loop-i.wrong c.wrong_cells.result c.other_last.result z in
-          one-more (λ j. at (word_cells (get_or c.args.cells.now j 0)) 63 ≡ c.args.before) i (c.loop-i.invariant.levels n.0) (c.other_last.ensures n.2);
-    }
+    let m = if (i % 2) == 0 then c.mark_of.result else c.mark_of-2.result in
+    let wrong = c.wrong_cells_of_eight-wrong in
+    let n = lanes-zero wrong.result c.other_last.result wrong.ensures.count c.other_last.ensures.len (eqb-true _ 0 z) i h in
+    subst (λ m. IsFrontOf c.args.before m (take 64 (word_cells x)))
+    (ap₂ (λ a b. if (i % 2) == 0 then a else b) c.mark_of.ensures c.mark_of-2.ensures ∙ mark-behind c.args.slot i c.requires.some)
+    (right-front c.args.before m x (get_or wrong.result i 0) n.0 (λ k g. wrong.ensures.bits i k h g ∙ not-else (stands c.args.before m (word_cells x) k)))
+
+pub returns-clause-levels : goal.returns-clause-levels
+returns-clause-levels c = λ z i h.
+    let wrong = c.wrong_cells_of_eight-wrong in
+    let n = lanes-zero wrong.result c.other_last.result wrong.ensures.count c.other_last.ensures.len (eqb-true _ 0 z) i h in
+    c.other_last.ensures.levels i h n.1
