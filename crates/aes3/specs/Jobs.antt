@@ -88,6 +88,7 @@ IsStatus options name bytes = HasStatus (first_of name options) bytes
 abbrev pub IsChange : Options → Change → Type 0
 IsChange options change = IsStatus options (codes "status1") change.status1
     × IsStatus options (codes "status2") change.status2
+    × (change.settings1 ≡ None) × (change.settings2 ≡ None)
     × (change.mend ≡ is_set options (codes "mend-check"))
 
 -- ---- jobs

@@ -188,6 +188,8 @@ fn change(options: &ArgMatches<'_>) -> Result<Change, LineFault>
     Ok(Change {
         status1: status(options, "status1")?,
         status2: status(options, "status2")?,
+        settings1: None,
+        settings2: None,
         mend: options.get_flag("mend-check"),
     })
 }
