@@ -58,6 +58,3 @@ pub fn set_fields(bytes: &mut [u8; 24], settings: &[Setting])
         set_field(bytes, setting);
     }
 }
-
-#[cfg(test)]
-mod tests;

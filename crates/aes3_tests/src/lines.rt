@@ -6,7 +6,11 @@ use aes3_block::{Block, Channel};
 use aes3_cell::{Level, MemorySink};
 use aes3_lock::{Report, Why};
 use aes3_slot::Mark;
-use aes3_text::{line_of_gap, line_of_mark, line_of_report, line_of_status};
+use aes3_status::{SETTINGS, Setting, set_fields};
+use aes3_text::{
+    consumer_setting, line_of_gap, line_of_mark, line_of_report, line_of_status,
+    professional_setting,
+};
 use std::alloc::Global;
 use std::test::Fail;
 
@@ -275,5 +279,20 @@ fn fields_of_status_lines(rt: HostRuntime) -> Result<(), Fail> {
             assert!(rt; str::from_utf8(line.bytes())?.contains(*part), "{part}");
         }
     }
+    Ok(())
+}
+
+/// Fields that are set by name are shown by name, in the code of each use.
+#[test]
+fn fields_set_by_name(rt: HostRuntime) -> Result<(), Fail> {
+    let mut settings = [Setting::NOTHING; SETTINGS];
+    settings[0] = professional_setting("rate=32000").ok_or("professional")?;
+    settings[1] = consumer_setting("rate=32000").ok_or("consumer")?;
+    let is_unknown = professional_setting("rate=96000").is_none();
+    let mut professional = status_of(&[0x01], 0);
+    let mut consumer = [0; 24];
+    set_fields(&mut professional, &settings);
+    set_fields(&mut consumer, &settings);
+    assert!(rt; (professional[0], consumer[3], is_unknown) == (0xC1, 0x03, true));
     Ok(())
 }
