@@ -6,6 +6,8 @@ mod block;
 #[cfg(test)]
 mod cell;
 #[cfg(test)]
+mod damage;
+#[cfg(test)]
 mod engine;
 #[cfg(test)]
 mod job;
