@@ -13,4 +13,5 @@ mod MarkTexts
 pub mod PieceGaps
 pub mod LostCells
 pub mod SettingTexts
+pub mod SettingLists
 pub mod SettingLines

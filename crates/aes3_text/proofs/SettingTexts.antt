@@ -1,15 +1,14 @@
 -- Settings by the texts of their codes.
-use Rattle.std.proofs.Common.{◌≡◌, ℕ, ◌+◌, ◌%◌, ◌^◌, ◌<◌, ◌≤◌, ◌⊎◌, inl, inr, Bool, true, false, cond, List, ◌++◌, length, take, get_or, Option, Some, None, refl, ap, ap₂, ◌∙◌, sym, subst, arith}
-use Rattle.std.specs.Prelude.{codes, IfSome}
-use Rattle.std.specs.List.{Contains}
+use Rattle.std.proofs.Common.{◌≡◌, ℕ, ◌+◌, ◌<◌, ◌≤◌, ◌⊎◌, inl, inr, Bool, true, false, cond, List, length, take, get_or, Option, Some, None, refl, ap, ap₂, ◌∙◌, sym, subst, arith}
+use Rattle.std.specs.Prelude.{IfSome}
 use Rattle.std.proofs.Math.Nat.{mod-eq_of_lt}
 use Rattle.std.proofs.lemmas.Bool.{cases_lt}
 use Rattle.std.proofs.lemmas.List.{get_or-take, get_or_default, length-take-le}
 use Rattle.aes3_status.specs.declared.field.Field.{Field}
 use Rattle.aes3_status.specs.declared.setting.Setting.{Setting}
-use Rattle.aes3_status.specs.Settings.{number_at, place_of, is_for, under, code_for, set_by}
+use Rattle.aes3_status.specs.Settings.{is_for, under}
 use Rattle.aes3_status.proofs.SettingLemmas.{meaning-stays, setting-back, under-few}
-use Rattle.aes3_text.specs.Settings.{code_text, shown_of, IsCodeOf, IsSettingOf, IsNoSetting, IsShownThen}
+use Rattle.aes3_text.specs.Settings.{code_text, IsCodeOf, IsSettingOf, IsNoSetting, IsShownThen}
 
 -- one more field of which no code is printed so
 pub more-none : (text : List ℕ) (fields : List Field) (i : ℕ) (d : Field) → i < length fields → IsNoSetting text (take i fields)
@@ -54,3 +53,11 @@ shown-then text fields setting is bytes code e h =
 pub all-shown : (text : List ℕ) (fields : List Field) (o : Option Setting) → IfSome o (IsSettingOf text fields) → IfSome o (IsShownThen text)
 all-shown text fields None h = h
 all-shown text fields (Some setting) h = shown-then text fields setting h
+
+-- a text of a setting is known
+pub is-known : (text : List ℕ) (fields : List Field) (setting : Setting) → IsSettingOf text fields setting → ¬ IsNoSetting text fields
+is-known text fields setting is none = go (get_or setting.codes is.some.0 None) refl
+  where
+    go : (o : Option ℕ) → get_or setting.codes is.some.0 None ≡ o → ⊥
+    go None e = is.some.2 e
+    go (Some code) e = none setting.field is.some.0 code is.field is.some.1 (is.is is.some.0 code is.some.1 e)

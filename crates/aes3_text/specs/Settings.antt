@@ -1,5 +1,5 @@
 -- Fields of channel status by their names and the words that `show` prints.
-use Rattle.std.specs.Prelude.{ℕ, List, [], ◌∷◌, ◌++◌, Option, Some, None, ◌≡◌, ◌≢◌, ◌<◌, ◌^◌, codes, decimal, length, map, take, drop, get_or}
+use Rattle.std.specs.Prelude.{ℕ, List, [], ◌∷◌, ◌++◌, Some, None, ◌≡◌, ◌≢◌, ◌⊎◌, ◌<◌, ◌≤◌, ◌+◌, ◌*◌, ◌^◌, codes, decimal, length, map, take, drop, get_or, replicate}
 use Rattle.std.specs.List.{Contains, flat_map}
 use Rattle.aes3_status.specs.declared.check.Check.{Check}
 use Rattle.aes3_status.specs.declared.field.ProField.{ProField}
@@ -13,6 +13,8 @@ use Rattle.aes3_status.specs.Professional as status
 use Rattle.aes3_status.specs.Consumer as consumer_status
 use Rattle.aes3_status.specs.Settings.{number_at, place_of, under, code_for, set_by}
 use Rattle.hex.specs.Hex.{encode_lower}
+use Rattle.aes3_text.specs.declared.listed.SettingsFault.{SettingsFault}
+use Rattle.aes3_text.specs.declared.listed.SettingsFault.TheVariants.{Unknown, TooMany}
 use Rattle.aes3_text.specs.Fields.{field_text, four_bits, shown, specified}
 use Rattle.aes3_text.specs.Words.{payload_words, word_for}
 use Rattle.aes3_text.specs.Professional as professional
@@ -81,6 +83,31 @@ professional_fields = map Professional (pro.Payload ∷ pro.Emphasis ∷ pro.Unl
 
 abbrev pub consumer_fields : List Field
 consumer_fields = map Consumer (con.Payload ∷ con.Copyright ∷ con.Emphasis ∷ con.Mode ∷ con.Category ∷ con.Generation ∷ con.Source ∷ con.Number ∷ con.Rate ∷ con.Accuracy ∷ con.B3high ∷ con.Greatest ∷ con.Word ∷ con.Original ∷ [])
+
+-- the setting that leaves each status as it is
+abbrev pub nothing : Setting
+nothing = record { field = Consumer con.Payload; codes = replicate 8 None }
+
+-- what the text sets of these fields: nothing where none of their codes is printed so
+abbrev pub IsSetBy : List ℕ → List Field → Setting → Type 0
+IsSetBy text fields setting = IsSettingOf text fields setting ⊎ ((setting ≡ nothing) × IsNoSetting text fields)
+
+-- no code of a field is printed as the text, for either use
+abbrev pub IsUnknown : List ℕ → Type 0
+IsUnknown text = IsNoSetting text professional_fields × IsNoSetting text consumer_fields
+
+-- what texts set, in their order: of text `k` that of professional status at `2 k`, that of consumer status behind it; each sets something
+pub record AreSettingsOf (texts : List (List ℕ)) (settings : List Setting) : Type 0 where
+  pub few : length texts ≤ 32
+  pub known : (k : ℕ) → k < length texts → ¬ IsUnknown (get_or texts k [])
+  pub professional : (k : ℕ) → k < length texts → IsSetBy (get_or texts k []) professional_fields (get_or settings (2 * k) nothing)
+  pub consumer : (k : ℕ) → k < length texts → IsSetBy (get_or texts k []) consumer_fields (get_or settings (2 * k + 1) nothing)
+  pub rest : (k : ℕ) → 2 * length texts ≤ k → get_or settings k nothing ≡ nothing
+
+-- why texts have no settings
+abbrev pub IsSettingsFault : List (List ℕ) → SettingsFault → Type 0
+IsSettingsFault texts (Unknown at) = (at < length texts) × IsUnknown (get_or texts at [])
+IsSettingsFault texts TooMany = 32 < length texts
 
 -- where the setting has a code for a status, `show` then prints the text of it
 abbrev pub IsShownThen : List ℕ → Setting → Type 0

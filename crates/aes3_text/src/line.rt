@@ -89,6 +89,11 @@ impl Line {
         &bytes[1..] == text.as_bytes()
     }
 
+    /// The line as text.
+    pub(crate) fn as_str(&self) -> &str {
+        str::from_utf8(self.bytes.as_slice()).unwrap_or("")
+    }
+
     /// Empties the line.
     pub(crate) fn clear(&mut self)
         ensures { self.new ≡ [] }

@@ -10,7 +10,7 @@ use crate::professional::put_professional_code;
 use aes3_status::{ConField, Field, ProField, Setting};
 
 /// The fields of professional status (AES3-2) that can be set, as `show` prints them.
-const PROFESSIONAL: &[Field] = &[
+pub(crate) const PROFESSIONAL: &[Field] = &[
     Field::Professional(ProField::Payload),
     Field::Professional(ProField::Emphasis),
     Field::Professional(ProField::Unlocked),
@@ -28,7 +28,7 @@ const PROFESSIONAL: &[Field] = &[
 ];
 
 /// The fields of consumer status (IEC 60958-3) that can be set, as `show` prints them.
-const CONSUMER: &[Field] = &[
+pub(crate) const CONSUMER: &[Field] = &[
     Field::Consumer(ConField::Payload),
     Field::Consumer(ConField::Copyright),
     Field::Consumer(ConField::Emphasis),
@@ -46,7 +46,7 @@ const CONSUMER: &[Field] = &[
 ];
 
 /// Appends a code of a field, where the number `under` tells what its codes mean.
-fn put_code(line: &mut Line, field: Field, under: u8, code: u8)
+pub(crate) fn put_code(line: &mut Line, field: Field, under: u8, code: u8)
     requires { length line.old + FIELD_LEN ≤ LINE_LEN }
     ensures { line.new ≡ line.old ++ code_text field under code }
 {
@@ -57,7 +57,7 @@ fn put_code(line: &mut Line, field: Field, under: u8, code: u8)
 }
 
 /// The first code of a field that `show` prints as this text, where the number `under` tells what its codes mean.
-fn code_of(field: Field, under: u8, text: &str) -> Option<u8>
+pub(crate) fn code_of(field: Field, under: u8, text: &str) -> Option<u8>
     ensures some { IfSome result (IsCodeOf text.now field under) }
     ensures none { result ≡ None → (code : ℕ) → ¬ IsCodeOf text.now field under code }
 {
