@@ -12,7 +12,7 @@ use Rattle.clap.specs.declared.error.kind.ErrorKind.{ErrorKind}
 use Rattle.clap.specs.declared.parser.matches.ArgMatches.{ArgMatches}
 use Rattle.clap.specs.declared.parser.matches.ArgMatches.TheViews.{out-ArgMatches}
 use Rattle.aes3.specs.CommandLine.{command_line}
-use Rattle.aes3.specs.Jobs.{IsBadStatusOf, IsFaultOf, Options, StandsIn, Tells, faults_in}
+use Rattle.aes3.specs.Jobs.{AreBadSettings, IsBadOptionOf, IsFaultOf, IsSettingsFaultOf, Options, StandsIn, Tells, TellsSettings, faults_in}
 use Rattle.aes3.specs.declared.job.LineFault.{LineFault}
 use Rattle.aes3.specs.declared.job.LineFault.TheVariants as fault
 use Rattle.aes3.proofs.OptionRows.{some_inj}
@@ -27,7 +27,7 @@ line_is_simple = refl
 pub error_told : (words : List Text) (e : Error) (told : LineFault) → HasKind (faults_in words) e → Tells (kind_of e) told → IsFaultOf words told
 error_told words e (fault.Usage text) kind tells = elim kind [
   | inl memory ↦ absurd (tells.0 memory)
-  | inr among ↦ inl (kind_of e, among, tells.1, tells.2)
+  | inr among ↦ inl (inl (kind_of e, among, tells.1, tells.2))
 ]
 error_told words e (fault.Help text) kind tells = elim kind [
   | inl memory ↦ elim tells [ inl help ↦ cc | inr version ↦ cc ]
@@ -38,11 +38,15 @@ error_told words e (fault.Help text) kind tells = elim kind [
 ]
 error_told words e (fault.Refused error) kind tells = inl tells
 
--- a bad status is told
-pub bad_status_told : (words : List Text) (name : Text) (options : Options) (told : LineFault) → StandsIn words name options
-    → IsBadStatusOf name options told → IsFaultOf words told
-bad_status_told words name options told stands bad =
-    subst (IsFaultOf words) (sym bad.0) (inr (refl, (name, options, stands, bad.1, bad.2)))
+-- a bad status is told, and so are bad settings
+pub bad_option_told : (words : List Text) (name : Text) (options : Options) (told : LineFault) → StandsIn words name options
+    → IsBadOptionOf name options told → IsFaultOf words told
+bad_option_told words name options (fault.Usage text) stands bad = inr (name, options, stands, bad.0, bad.1)
+bad_option_told words name options (fault.Help text) stands bad = absurd bad.1
+bad_option_told words name options (fault.Refused error) stands bad = elim bad.1 [
+  | inl memory ↦ inl memory
+  | inr status ↦ inr (status.0, (name, options, stands, bad.0, status.1))
+]
 
 both_parts : {X : Type 0} (f : X → Text) (g : X → List Row) (o : Option X) (name : Text) (options : List Row) → Some name ≡ option_map f o
     → Some options ≡ option_map (λ (p : Text × List Row). p.1) (option_map {U = Text × List Row} (λ b. (f b, g b)) o)
@@ -55,3 +59,9 @@ pub command_stands : (words : List Text) (m : ArgMatches) (name : Text) (options
     → Some name ≡ subcommand_name_of m → Some options ≡ option_map (λ (p : Text × List Row). p.1) (subcommand_rows_of m) → StandsIn words name options
 command_stands words m name options none matches named rows =
     (none, sym (matches line_is_simple).1 ∙ both_parts _ _ (out-ArgMatches m).subcommand name options named rows)
+
+-- what is told of settings that are none
+pub settings_told : (options : Options) (name : Text) (told : LineFault) → TellsSettings told → AreBadSettings options name → IsSettingsFaultOf options name told
+settings_told options name (fault.Usage text) tells bad = bad
+settings_told options name (fault.Help text) tells bad = tells
+settings_told options name (fault.Refused error) tells bad = tells

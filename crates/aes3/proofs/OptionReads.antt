@@ -1,16 +1,16 @@
 -- What the getters of a parse's matches read, by the options that the matches have.
-use Rattle.std.proofs.Common.{◌≡◌, ◌∙◌, ℕ, Bool, Option, Some, None, Result, Ok, Err, inl, inr, true, false, codes, refl, sym, ap, cond}
+use Rattle.std.proofs.Common.{◌≡◌, ◌∙◌, ℕ, Bool, List, map, Bor, Option, Some, None, Result, Ok, Err, inl, inr, true, false, codes, refl, sym, ap, cond}
 use Rattle.std.specs.Prelude.{option_and_then}
-use Rattle.std.specs.Option.{option_map_or}
+use Rattle.std.specs.Option.{option_map, option_map_or}
 use Rattle.std.specs.Str.{bytes_eq}
 use Rattle.std.specs.Str.Parse.{ParsesUnsigned, digits_value, without_leading_plus}
-use Rattle.clap.specs.Matches.{ReadsOne, found_of, one_text}
-use Rattle.clap.specs.Walk.{Text, one_of}
+use Rattle.clap.specs.Matches.{ReadsOne, found_of, matched_of, one_text, raw_values}
+use Rattle.clap.specs.Walk.{Text, all_of, one_of}
 use Rattle.clap.specs.ValueTests.{is_unsigned_in}
 use Rattle.clap.specs.declared.builder.value_parser.ValueParser.TheVariants as vp
 use Rattle.clap.specs.declared.parser.matches.ArgMatches.{ArgMatches}
 use Rattle.clap.proofs.ValueTestLemmas.{accepts-Accepts}
-use Rattle.clap.proofs.WalkLemmas.{one_text-rows}
+use Rattle.clap.proofs.WalkLemmas.{one_text-rows, raw_values-rows}
 use Rattle.aes3.specs.Jobs.{IsNumber, MayBeFlag, is_set, number_in, options_of}
 
 -- `get_flag` tells whether the flag stands
@@ -59,3 +59,11 @@ number_is E G m name n answer only is value = go (one_of name (options_of m)) re
     go None at same = cc
     go (Some text) at same =
         number_parses E G text n answer only same (value text (one_text-rows (found_of m) name ∙ at))
+
+-- `get_strs` reads all the texts
+abbrev pub texts_in : Option (Bor (List (Bor Text))) → Option (List Text)
+texts_in = option_map (λ (s : Bor (List (Bor Text))). map (λ (v : Bor Text). v.now) s.now)
+
+pub texts_are : (m : ArgMatches) (name : Text) (answer is : Option (Bor (List (Bor Text)))) → texts_in answer ≡ option_map raw_values (matched_of (found_of m) name)
+    → answer ≡ is → all_of name (options_of m) ≡ texts_in is
+texts_are m name answer is read same = sym (raw_values-rows (found_of m) name) ∙ (sym read ∙ ap texts_in same)

@@ -10,7 +10,7 @@ use Rattle.clap.specs.Kinds.{Kinds, or_else, range_kinds, request_kinds}
 use Rattle.clap.specs.Faults.{action_fault, use_fault, values_fault}
 use Rattle.clap.specs.Walk.{Row, Rule, Text, arg_by_id, more_values, reading_by, used, values_or_missing, with_values, without}
 use Rattle.clap.specs.declared.builder.action.ArgAction.{ArgAction}
-use Rattle.clap.specs.declared.builder.action.ArgAction.TheVariants.{Help, Set, SetTrue}
+use Rattle.clap.specs.declared.builder.action.ArgAction.TheVariants.{Append, Help, Set, SetTrue}
 use Rattle.clap.specs.declared.builder.range.ValueRange.{ValueRange}
 use Rattle.clap.specs.declared.parser.matches.ValueSource.{ValueSource}
 use Rattle.clap.specs.declared.parser.matches.ValueSource.TheVariants.{CommandLine}
@@ -80,16 +80,16 @@ fit_with c a s values (r ∷ rs) own passed given fit = go (bytes_eq r.id a.id) 
         )
     go false same rest = (fit.0, rest)
 
--- what a use that passes does: it gives the argument values that its parser takes
+-- what a use that passes does: it gives the argument values that its parser takes, in place of those that it had
 abbrev pub UsedWell : Rule → List Text → List Row → Type 0
 UsedWell a values rows = (given : List Text)
     × (used a values rows ≡ with_values a.id (reading_by a) CommandLine given (without a.id rows))
     × (values_fault a given ≡ []) × (0 < length given)
 
--- the definition is the only one with its id, and each use that passes gives it values
+-- the definition is the only one with its id, and after each use that passes it still has values that its parser takes
 pub record IsSound (c : List Rule) (a : Rule) : Type 0 where
   pub own : arg_by_id c a.id ≡ Some a
-  pub uses : (again : Bool) (values : List Text) (rows : List Row) → use_fault again a values rows ≡ [] → UsedWell a values rows
+  pub uses : (again : Bool) (values : List Text) (rows : List Row) → use_fault again a values rows ≡ [] → FitAll c rows → FitAll c (used a values rows)
 
 abbrev pub SoundAll : List Rule → List Rule → Type 0
 SoundAll c [] = ⊤
@@ -97,9 +97,12 @@ SoundAll c (a ∷ rest) = IsSound c a × SoundAll c rest
 
 pub fit_used : (c : List Rule) (again : Bool) (a : Rule) (values : List Text) (rows : List Row) → IsSound c a → use_fault again a values rows ≡ []
     → FitAll c rows → FitAll c (used a values rows)
-fit_used c again a values rows sound passed fit =
-    let well = sound.uses again values rows passed in
-    subst (FitAll c) (sym well.1) (fit_with c a CommandLine well.0 (without a.id rows) sound.own well.2 well.3 (fit_without c a.id rows fit))
+fit_used c again a values rows sound passed fit = sound.uses again values rows passed fit
+
+well_fits : (c : List Rule) (a : Rule) (values : List Text) (rows : List Row) → arg_by_id c a.id ≡ Some a → UsedWell a values rows
+    → FitAll c rows → FitAll c (used a values rows)
+well_fits c a values rows own well fit =
+    subst (FitAll c) (sym well.1) (fit_with c a CommandLine well.0 (without a.id rows) own well.2 well.3 (fit_without c a.id rows fit))
 
 -- the same by an argument's action and range
 abbrev fault_by : Option ArgAction → Option ValueRange → Bool → Rule → List Text → List Row → Kinds
@@ -114,7 +117,8 @@ exactly n = record { start_inclusive = n; end_inclusive = n }
 pub value_sound : (c : List Rule) (a : Rule) → arg_by_id c a.id ≡ Some a → a.action ≡ Some Set → a.range ≡ Some (exactly 1) → IsSound c a
 value_sound c a own action range = record {
   own = own;
-  uses = λ again values rows e. go again values rows ((λ i. fault_by (sym action i) (sym range i) again a values rows) ∙ e);
+  uses = λ again values rows e fit.
+      well_fits c a values rows own (go again values rows ((λ i. fault_by (sym action i) (sym range i) again a values rows) ∙ e)) fit;
 }
   where
     go : (again : Bool) (values : List Text) (rows : List Row) → fault_by (Some Set) (Some (exactly 1)) again a values rows ≡ [] → UsedWell a values rows
@@ -123,6 +127,19 @@ value_sound c a own action range = record {
         let parts = or_nil _ _ e in
         let set = or_nil _ _ parts.1 in
         (v ∷ vs, rw action refl, set.1, omega arith)
+
+-- an option of one value that may stand more than once
+pub values_sound : (c : List Rule) (a : Rule) → arg_by_id c a.id ≡ Some a → a.action ≡ Some Append → a.range ≡ Some (exactly 1) → IsSound c a
+values_sound c a own action range = record {
+  own = own;
+  uses = λ again values rows e. go again values rows ((λ i. fault_by (sym action i) (sym range i) again a values rows) ∙ e);
+}
+  where
+    go : (again : Bool) (values : List Text) (rows : List Row) → fault_by (Some Append) (Some (exactly 1)) again a values rows ≡ [] → FitAll c rows → FitAll c (used a values rows)
+    go again [] rows e fit = no_kind _ refl e
+    go again (v ∷ vs) rows e fit =
+        let is : used a (v ∷ vs) rows ≡ with_values a.id (reading_by a) CommandLine (v ∷ vs) rows = rw action refl in
+        subst (FitAll c) (sym is) (fit_with c a CommandLine (v ∷ vs) rows own (or_nil _ _ e).1 (omega arith) fit)
 
 none_wanted : (n : ℕ) → range_kinds 0 0 n ≡ [] → n ≡ 0
 none_wanted n e = go (0 == n) refl e
@@ -136,7 +153,8 @@ pub flag_sound : (c : List Rule) (a : Rule) (v : Text) → arg_by_id c a.id ≡ 
     → a.missing ≡ v ∷ [] → IsSound c a
 flag_sound c a v own action range missing = record {
   own = own;
-  uses = λ again values rows e. go again values rows ((λ i. fault_by (sym action i) (sym range i) again a values rows) ∙ e);
+  uses = λ again values rows e fit.
+      well_fits c a values rows own (go again values rows ((λ i. fault_by (sym action i) (sym range i) again a values rows) ∙ e)) fit;
 }
   where
     go : (again : Bool) (values : List Text) (rows : List Row) → fault_by (Some SetTrue) (Some (exactly 0)) again a values rows ≡ [] → UsedWell a values rows
@@ -149,7 +167,7 @@ flag_sound c a v own action range missing = record {
 pub help_sound : (c : List Rule) (a : Rule) → arg_by_id c a.id ≡ Some a → a.action ≡ Some Help → IsSound c a
 help_sound c a own action = record {
   own = own;
-  uses = λ again values rows e. absurd (go again values rows ((λ i. fault_by (sym action i) a.range again a values rows) ∙ e));
+  uses = λ again values rows e fit. absurd (go again values rows ((λ i. fault_by (sym action i) a.range again a values rows) ∙ e));
 }
   where
     go : (again : Bool) (values : List Text) (rows : List Row) → fault_by (Some Help) a.range again a values rows ≡ [] → ⊥

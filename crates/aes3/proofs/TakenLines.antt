@@ -19,7 +19,7 @@ use Rattle.clap.specs.declared.builder.value_parser.ValueParser.TheVariants as v
 use Rattle.aes3.specs.CommandLine.{check, command_line, cut, encode, from_pcm, normal, reader, rewrite, show}
 use Rattle.aes3.specs.Jobs.{IsNumber, MayBeFlag, Options, StandsIn, number_in}
 use Rattle.aes3.proofs.LineWalks.{level_checked, level_fits}
-use Rattle.aes3.proofs.OptionRows.{FitAll, Fits, SoundAll, flag_sound, help_sound, or_nil, some_inj, value_sound}
+use Rattle.aes3.proofs.OptionRows.{FitAll, Fits, SoundAll, flag_sound, help_sound, or_nil, some_inj, value_sound, values_sound}
 
 -- ---- the options by their definitions
 
@@ -256,7 +256,13 @@ rewrite_known = record {
         value_sound _ _ refl refl refl,
         (
           value_sound _ _ refl refl refl,
-          (flag_sound _ _ (codes "true") refl refl refl refl, (help_sound _ _ refl refl, tt)),
+          (
+            values_sound _ _ refl refl refl,
+            (
+              values_sound _ _ refl refl refl,
+              (flag_sound _ _ (codes "true") refl refl refl refl, (help_sound _ _ refl refl, tt)),
+            ),
+          ),
         ),
       ),
     ),
@@ -277,7 +283,13 @@ from_pcm_known = record {
     value_sound _ _ refl refl refl,
     (
       value_sound _ _ refl refl refl,
-      (flag_sound _ _ (codes "true") refl refl refl refl, (flag_sound _ _ (codes "true") refl refl refl refl, (help_sound _ _ refl refl, tt))),
+      (
+        values_sound _ _ refl refl refl,
+        (
+          values_sound _ _ refl refl refl,
+          (flag_sound _ _ (codes "true") refl refl refl refl, (flag_sound _ _ (codes "true") refl refl refl refl, (help_sound _ _ refl refl, tt))),
+        ),
+      ),
     ),
   );
   packed_in = tt;

@@ -3,7 +3,7 @@ use Rattle.std.specs.Prelude.{List, [], ◌∷◌, ◌≡◌, Some, true, false,
 use Rattle.clap.specs.Walk.{Rule, Text, rule_of}
 use Rattle.clap.specs.Simple.{App, Shape, app_of, new_rule, new_shape}
 use Rattle.clap.specs.declared.builder.arg.Arg.{Arg}
-use Rattle.clap.specs.declared.builder.action.ArgAction.TheVariants.{SetTrue}
+use Rattle.clap.specs.declared.builder.action.ArgAction.TheVariants.{Append, SetTrue}
 use Rattle.clap.specs.declared.builder.command.Command.{Command}
 use Rattle.clap.specs.declared.builder.command.Command.TheViews.{out-Command as fields_of}
 use Rattle.clap.specs.declared.builder.value_parser.ValueParser.TheVariants as vp
@@ -15,6 +15,10 @@ flag name = record (new_rule name) { long = Some name; action = Some SetTrue }
 -- `--name TEXT`, which may be left out
 abbrev pub text_option : Text → Rule
 text_option name = record (new_rule name) { long = Some name; value_names = 1 }
+
+-- `--name TEXT`, which may be left out or stand more than once
+abbrev pub settings_option : Text → Rule
+settings_option name = record (new_rule name) { long = Some name; action = Some Append; value_names = 1 }
 
 -- a whole number from 0 to 2^64 - 1, at its place among the words
 abbrev pub number : Text → Rule
@@ -55,11 +59,13 @@ cut = command (codes "cut")
 abbrev pub rewrite : Shape
 rewrite = command (codes "rewrite")
     (packed_in ∷ packed_out ∷ text_option (codes "status1") ∷ text_option (codes "status2")
+    ∷ settings_option (codes "set1") ∷ settings_option (codes "set2")
     ∷ flag (codes "mend-check") ∷ [])
 
 abbrev pub from_pcm : Shape
 from_pcm = command (codes "from-pcm")
     (text_option (codes "status1") ∷ text_option (codes "status2")
+    ∷ settings_option (codes "set1") ∷ settings_option (codes "set2")
     ∷ flag (codes "mend-check") ∷ flag (codes "exact") ∷ [])
 
 -- the program: one of the commands has to stand, and none of them is called `help`

@@ -8,7 +8,7 @@ use Rattle.clap.specs.ValueTests.{is_unsigned_in}
 use Rattle.clap.specs.Faults.{fault_of}
 use Rattle.clap.specs.Kinds.{IsAmong, Kinds}
 use Rattle.clap.specs.Simple.{subcommand_of}
-use Rattle.clap.specs.Walk.{Row, Text, first_of, one_of, rows_of}
+use Rattle.clap.specs.Walk.{Row, Text, all_of, first_of, one_of, rows_of}
 use Rattle.clap.specs.Matches.{found_of}
 use Rattle.clap.specs.declared.parser.matches.ArgMatches.{ArgMatches}
 use Rattle.clap.specs.declared.error.kind.ErrorKind.{ErrorKind}
@@ -17,6 +17,9 @@ use Rattle.aes3_cell.specs.declared.form.Form.{Form}
 use Rattle.aes3_cell.specs.declared.form.Form.TheVariants as form
 use Rattle.aes3_cell.specs.declared.refusal.RunError.TheVariants.{BadStatusText, Memory}
 use Rattle.aes3_engine.specs.declared.change.Change.{Change}
+use Rattle.aes3_status.specs.declared.setting.Setting.{Setting}
+use Rattle.aes3_text.specs.Settings.{AreSettingsOf, IsSettingsFault}
+use Rattle.aes3_text.specs.declared.listed.SettingsFault.{SettingsFault}
 use Rattle.aes3_text.specs.declared.lines.Lines.{Lines}
 use Rattle.aes3_text.specs.declared.lines.Lines.TheVariants as lines
 use Rattle.aes3.specs.CommandLine.{command_line}
@@ -85,10 +88,20 @@ HasStatus (Some text) bytes = (is_some bytes ≡ true) × (status_in text ≡ by
 abbrev pub IsStatus : Options → Text → Option (List ℕ) → Type 0
 IsStatus options name bytes = HasStatus (first_of name options) bytes
 
+-- the settings that an option's texts name; none where the option is left out
+abbrev pub HaveSettings : Option (List Text) → Option (List Setting) → Type 0
+HaveSettings None settings = settings ≡ None
+HaveSettings (Some texts) None = ⊥
+HaveSettings (Some texts) (Some settings) = AreSettingsOf texts settings
+
+abbrev pub AreSettings : Options → Text → Option (List Setting) → Type 0
+AreSettings options name settings = HaveSettings (all_of name options) settings
+
 abbrev pub IsChange : Options → Change → Type 0
 IsChange options change = IsStatus options (codes "status1") change.status1
     × IsStatus options (codes "status2") change.status2
-    × (change.settings1 ≡ None) × (change.settings2 ≡ None)
+    × AreSettings options (codes "set1") change.settings1
+    × AreSettings options (codes "set2") change.settings2
     × (change.mend ≡ is_set options (codes "mend-check"))
 
 -- ---- jobs
@@ -145,6 +158,16 @@ abbrev pub HasBadStatus : Options → Type 0
 HasBadStatus options =
     IsBadStatus options (codes "status1") ⊎ IsBadStatus options (codes "status2")
 
+-- the option's texts have no settings
+abbrev pub AreBadSettings : Options → Text → Type 0
+AreBadSettings options name = (texts : List Text) × (why : SettingsFault)
+    × (all_of name options ≡ Some texts) × IsSettingsFault texts why
+
+-- the texts for one of the channels have none
+abbrev pub HasBadSettings : Options → Type 0
+HasBadSettings options =
+    AreBadSettings options (codes "set1") ⊎ AreBadSettings options (codes "set2")
+
 -- the commands that take the status of a channel
 abbrev pub TakesStatus : Text → Type 0
 TakesStatus name = (name ≡ codes "rewrite") ⊎ (name ≡ codes "from-pcm")
@@ -166,7 +189,8 @@ IsExplanation (fault.Refused error) = error ≡ Memory
 
 -- why the words are no job
 abbrev pub IsFaultOf : List Text → LineFault → Type 0
-IsFaultOf words (fault.Usage text) = IsNotTaken words ⊎ (asks_to_explain words ≡ true)
+IsFaultOf words (fault.Usage text) = (IsNotTaken words ⊎ (asks_to_explain words ≡ true))
+    ⊎ ((name : Text) × (options : Options) × StandsIn words name options × TakesStatus name × HasBadSettings options)
 IsFaultOf words (fault.Help text) =
     (IsAmong DisplayHelp (faults_in words) ⊎ IsAmong DisplayVersion (faults_in words)) ⊎ (asks_to_explain words ≡ true)
 IsFaultOf words (fault.Refused error) =
@@ -179,7 +203,25 @@ Tells kind (fault.Usage text) = (kind ≢ OutOfMemory) × (kind ≢ DisplayHelp)
 Tells kind (fault.Help text) = (kind ≡ DisplayHelp) ⊎ (kind ≡ DisplayVersion)
 Tells kind (fault.Refused error) = error ≡ Memory
 
--- the words are taken and have a bad status
-abbrev pub IsBadStatusOf : Text → Options → LineFault → Type 0
-IsBadStatusOf name options told =
-    (told ≡ fault.Refused BadStatusText) × TakesStatus name × HasBadStatus options
+-- what is told of settings that are none
+abbrev pub TellsSettings : LineFault → Type 0
+TellsSettings (fault.Usage text) = Unit {0}
+TellsSettings (fault.Help text) = ⊥
+TellsSettings (fault.Refused error) = error ≡ Memory
+
+-- why an option's texts give no settings
+abbrev pub IsSettingsFaultOf : Options → Text → LineFault → Type 0
+IsSettingsFaultOf options name (fault.Usage text) = AreBadSettings options name
+IsSettingsFaultOf options name (fault.Help text) = ⊥
+IsSettingsFaultOf options name (fault.Refused error) = error ≡ Memory
+
+-- why the options give no change
+abbrev pub IsChangeFaultOf : Options → LineFault → Type 0
+IsChangeFaultOf options (fault.Usage text) = HasBadSettings options
+IsChangeFaultOf options (fault.Help text) = ⊥
+IsChangeFaultOf options (fault.Refused error) =
+    (error ≡ Memory) ⊎ ((error ≡ BadStatusText) × HasBadStatus options)
+
+-- the words are taken and have a bad status or bad settings
+abbrev pub IsBadOptionOf : Text → Options → LineFault → Type 0
+IsBadOptionOf name options told = TakesStatus name × IsChangeFaultOf options told

@@ -3,7 +3,7 @@
 ghost use Rattle.std.specs.Prelude.{IfOk};
 ghost use Rattle.clap.specs.Simple.{new_app};
 ghost use Rattle.aes3.specs.CommandLine.{IsDefinedAs, IsOption, app_with, check, command_line, cut, encode, flag, from_pcm, normal, number, show};
-ghost use Rattle.aes3.specs.CommandLine.{packed_in, packed_out, reader, rewrite, text_option};
+ghost use Rattle.aes3.specs.CommandLine.{packed_in, packed_out, reader, rewrite, settings_option, text_option};
 
 use crate::help::{self, Texts};
 use clap::{Arg, ArgAction, Command, value_parser};
@@ -38,6 +38,17 @@ fn status<'a>(alloc: Global, name: &'a str, help: &'a str) -> Arg<'a>
     Arg::new(alloc, name)
         .long(name)
         .value_name("HEX48")
+        .help(help)
+}
+
+/// The option `--name` with a setting, which may stand more than once.
+fn settings<'a>(alloc: Global, name: &'a str, help: &'a str) -> Arg<'a>
+    ensures { IsOption (settings_option name.now) result }
+{
+    Arg::new(alloc, name)
+        .long(name)
+        .value_name("NAME=WORD")
+        .action(ArgAction::Append)
         .help(help)
 }
 
@@ -117,6 +128,12 @@ fn rewrite<'a>(alloc: Global) -> Result<Command<'a>, AllocError>
         .arg(packed_out(alloc))?
         .arg(status(alloc, "status1", "The status of channel 1, in hexadecimal"))?
         .arg(status(alloc, "status2", "The status of channel 2, in hexadecimal"))?
+        .arg(settings(
+            alloc,
+            "set1",
+            "A field of channel 1 as `show` prints it; may be repeated",
+        ))?
+        .arg(settings(alloc, "set2", "The same of channel 2"))?
         .arg(flag(
             alloc,
             "mend-check",
@@ -130,6 +147,12 @@ fn from_pcm<'a>(alloc: Global) -> Result<Command<'a>, AllocError>
     command(alloc, "from-pcm", help::FROM_PCM)
         .arg(status(alloc, "status1", "The status of channel 1, in hexadecimal"))?
         .arg(status(alloc, "status2", "The status of channel 2, in hexadecimal"))?
+        .arg(settings(
+            alloc,
+            "set1",
+            "A field of channel 1 as `show` prints it; may be repeated",
+        ))?
+        .arg(settings(alloc, "set2", "The same of channel 2"))?
         .arg(flag(
             alloc,
             "mend-check",

@@ -116,7 +116,8 @@ pub const FROM_PCM: Texts<'static> = Texts {
 ALSA's S32_LE). The 24 highest bits of each are the sample, the lowest 8 are dropped; with
 --exact they have to be zero. Samples that are zero fill up the last block.
 Writes a block file with V and U 0 and the channel status that the options give, as `aes3
-rewrite` has them, else zeros: that is consumer status.
+rewrite` has them, else zeros: that is consumer status, whose fields --set1 NAME=WORD and
+--set2 NAME=WORD then set.
 
 Exit status: 0 done; 3 refused: 9 a status is not 48 hexadecimal digits, and nothing is
 read, 2 the samples end inside a frame, 11 a sample has more than 24 bits; or as for
@@ -124,6 +125,7 @@ every command.
 
 Examples:
     aes3 from-pcm --exact < line.s32 | aes3 encode | aes3 to-pcm | cmp - line.s32
+    aes3 from-pcm --set1 rate=48000 --set2 rate=48000 < line.s32 > consumer.block
     status=85022c0000004a4154480000000000000000000000000000
     aes3 from-pcm --status1 $status --status2 $status --mend-check < line.s32 > new.block",
 };
@@ -231,9 +233,12 @@ pub const REWRITE: Texts<'static> = Texts {
     usage: "aes3 rewrite [OPTIONS] < CELLS > CELLS",
     more: "Reads cells as `aes3 normal` does.
 Writes what it would, with the channel status of each block set as the options ask.
-HEX48 is the 24 bytes of a channel's status as 48 hexadecimal digits, byte 0 first. With
---mend-check byte 23 of each channel whose status is professional then becomes its check
-byte. Without any option the blocks are as they were.
+HEX48 is the 24 bytes of a channel's status as 48 hexadecimal digits, byte 0 first. Then
+--set1 NAME=WORD and --set2 NAME=WORD set fields, by the names and words that `aes3 show`
+prints; each may stand 32 times, and they are set in that order. A status for the use
+that has no such field stays as it is. With --mend-check byte 23 of each channel whose
+status is professional then becomes its check byte. Without any option the blocks are as
+they were.
 
 Exit status: 0 done, also where no block was found; 3 refused: 9 a status is not 48
 hexadecimal digits, and nothing is read, 1 a byte is no cell, 10 packed cells end
@@ -241,5 +246,6 @@ wrongly; or as for every command.
 
 Examples:
     aes3 rewrite --mend-check < line.txt > mended.txt
+    aes3 rewrite --set1 rate=48000 --set1 emphasis=none --mend-check < line.txt > new.txt
     aes3 rewrite --status2 040000020b00000000000000000000000000000000000000 < line.txt > new.txt",
 };

@@ -3,18 +3,21 @@
 ghost use Rattle.std.specs.Prelude.{◌≡◌, ◌≢◌, ℕ, List, codes, IfOk, IfErr, map};
 ghost use Rattle.clap.specs.Values.{kind_of};
 ghost use Rattle.clap.specs.Walk.{first_of};
-ghost use Rattle.aes3.specs.Jobs.{AsksFor, HasBadStatus, HasStatus, IsBadStatus, IsBadStatusOf, IsChange, IsFaultOf, IsJobOf, IsNumber};
-ghost use Rattle.aes3.specs.Jobs.{IsStatus, MayBeFlag, StandsIn, Tells, form_by, is_set, lines_by, options_of};
+ghost use Rattle.aes3.specs.Jobs.{AreSettings, AsksFor, HasStatus, IsBadOptionOf, IsBadStatus, IsChange, IsChangeFaultOf, IsFaultOf, IsJobOf, IsNumber};
+ghost use Rattle.aes3.specs.Jobs.{IsSettingsFaultOf, IsStatus, MayBeFlag, StandsIn, Tells, TellsSettings, form_by, is_set, lines_by, options_of};
 ghost use Rattle.aes3.specs.declared.job.LineFault.TheVariants.{Refused};
 ghost use Rattle.aes3_cell.specs.declared.refusal.RunError.TheVariants.{BadStatusText, Memory};
 
 use crate::definitions::command_line;
 use crate::explain::{asks_to_explain, explanation};
+use crate::help;
+use crate::refusals::settings_refused;
 use crate::status_text::status_of_text;
 use aes3_cell::{Form, RunError};
 use aes3_engine::Change;
 use aes3_job::Job;
-use aes3_text::Lines;
+use aes3_status::{SETTINGS, Setting};
+use aes3_text::{Lines, SettingsFault, settings_of_texts};
 use clap::error::ErrorKind;
 use clap::{ArgMatches, Error};
 use std::alloc::{AllocError, Global};
@@ -33,7 +36,7 @@ pub enum LineFault {
 /// What a command line without the program's name asks for. It reads no input.
 ///
 /// # Errors
-/// `Usage` where the definitions of the command line don't take the words, or no command stands in them; `Help` where
+/// `Usage` where the definitions of the command line don't take the words, no command stands in them, or a text of a setting is none; `Help` where
 /// `--help` or `--version` stands in them; either where `--explain` is the first of them; `BadStatusText` where they are taken, but a status text isn't 48 hexadecimal
 /// digits; `Memory` where memory was refused.
 pub fn job_of_words<'a>(alloc: Global, words: &'a [&'a str]) -> Result<Job, LineFault>
@@ -51,7 +54,7 @@ pub fn job_of_words<'a>(alloc: Global, words: &'a [&'a str]) -> Result<Job, Line
     let Some((name, options)) = matches.subcommand() else {
         unreachable!();
     };
-    job_of_command(name, options)
+    job_of_command(alloc, name, options)
 }
 
 impl From<AllocError> for LineFault {
@@ -77,10 +80,10 @@ fn fault_of(alloc: Global, error: &Error) -> LineFault
 }
 
 /// The job of a command with its options.
-fn job_of_command(name: &str, options: &ArgMatches<'_>) -> Result<Job, LineFault>
+fn job_of_command(alloc: Global, name: &str, options: &ArgMatches<'_>) -> Result<Job, LineFault>
     requires { (words : List (List ℕ)) × StandsIn words name.now (options_of options.now) }
     ensures job { IfOk result (AsksFor name.now (options_of options.now)) }
-    ensures fault { IfErr result (IsBadStatusOf name.now (options_of options.now)) }
+    ensures fault { IfErr result (IsBadOptionOf name.now (options_of options.now)) }
 {
     let input = form(options, "packed-in");
     let output = form(options, "packed-out");
@@ -94,7 +97,7 @@ fn job_of_command(name: &str, options: &ArgMatches<'_>) -> Result<Job, LineFault
         "to-pcm" => Ok(Job::ToPcm { input }),
         "from-pcm" => Ok(Job::FromPcm {
             exact: exact(options),
-            change: change(options)?,
+            change: change(alloc, options, help::FROM_PCM.usage)?,
         }),
         "cut" => Ok(Job::Cut {
             input,
@@ -105,7 +108,7 @@ fn job_of_command(name: &str, options: &ArgMatches<'_>) -> Result<Job, LineFault
         "rewrite" => Ok(Job::Rewrite {
             input,
             output,
-            change: change(options)?,
+            change: change(alloc, options, help::REWRITE.usage)?,
         }),
         _ => unreachable!(),
     }
@@ -179,17 +182,17 @@ fn number(options: &ArgMatches<'_>, name: &str) -> u64
     options.get_one::<u64>(name).unwrap()
 }
 
-/// The change that the options of `rewrite` and `from-pcm` ask for.
-fn change(options: &ArgMatches<'_>) -> Result<Change, LineFault>
+/// The change that the options of `rewrite` and `from-pcm` ask for; `usage` says how the command is called.
+fn change(alloc: Global, options: &ArgMatches<'_>, usage: &str) -> Result<Change, LineFault>
     requires { MayBeFlag (options_of options.now) (codes "mend-check") }
     ensures change { IfOk result (IsChange (options_of options.now)) }
-    ensures fault { IfErr result (λ fault. (fault ≡ Refused BadStatusText) × HasBadStatus (options_of options.now)) }
+    ensures fault { IfErr result (IsChangeFaultOf (options_of options.now)) }
 {
     Ok(Change {
         status1: status(options, "status1")?,
         status2: status(options, "status2")?,
-        settings1: None,
-        settings2: None,
+        settings1: settings(alloc, options, "set1", usage)?,
+        settings2: settings(alloc, options, "set2", usage)?,
         mend: options.get_flag("mend-check"),
     })
 }
@@ -206,5 +209,40 @@ fn status(options: &ArgMatches<'_>, name: &str) -> Result<Option<[u8; 24]>, Line
     match status_of_text(text) {
         Some(status) => Ok(Some(status)),
         None => Err(LineFault::Refused(RunError::BadStatusText)),
+    }
+}
+
+/// The settings that the texts of an option name; `usage` says how the command is called.
+fn settings(
+    alloc: Global,
+    options: &ArgMatches<'_>,
+    name: &str,
+    usage: &str,
+) -> Result<Option<[Setting; SETTINGS]>, LineFault>
+    ensures settings { IfOk result (AreSettings (options_of options.now) name.now) }
+    ensures fault { IfErr result (IsSettingsFaultOf (options_of options.now) name.now) }
+{
+    let Some(texts) = options.get_strs(name) else {
+        return Ok(None);
+    };
+    match settings_of_texts(texts) {
+        Ok(settings) => Ok(Some(settings)),
+        Err(fault) => Err(settings_fault(alloc, name, usage, texts, fault)),
+    }
+}
+
+/// What is told of texts that have no settings.
+fn settings_fault(
+    alloc: Global,
+    name: &str,
+    usage: &str,
+    texts: &[&str],
+    fault: SettingsFault,
+) -> LineFault
+    ensures { TellsSettings result }
+{
+    match settings_refused(alloc, name, usage, texts, fault) {
+        Ok(text) => LineFault::Usage { text },
+        Err(_) => LineFault::Refused(RunError::Memory),
     }
 }

@@ -11,6 +11,7 @@ mod job;
 #[cfg(test)]
 mod job_tests;
 mod looks;
+mod refusals;
 mod run;
 mod status_text;
 #[cfg(test)]

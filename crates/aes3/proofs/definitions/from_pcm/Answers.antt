@@ -6,5 +6,7 @@ pub returns : goal.returns
 returns c =
     let one = with_option _ _ _ _ _ c.in_ok-arg.ensures c.command.ensures c.status.ensures in
     let two = with_option _ _ _ _ _ c.in_ok-arg-2.ensures one c.status-2.ensures in
-    let three = with_option _ _ _ _ _ c.in_ok-arg-3.ensures two c.flag.ensures in
-    IfOk-weaker c.arg-4.result _ _ (λ new added. with_option _ _ _ _ _ added three c.flag-2.ensures) c.arg-4.ensures
+    let three = with_option _ _ _ _ _ c.in_ok-arg-3.ensures two c.settings.ensures in
+    let four = with_option _ _ _ _ _ c.in_ok-arg-4.ensures three c.settings-2.ensures in
+    let five = with_option _ _ _ _ _ c.in_ok-arg-5.ensures four c.flag.ensures in
+    IfOk-weaker c.arg-6.result _ _ (λ new added. with_option _ _ _ _ _ added five c.flag-2.ensures) c.arg-6.ensures

@@ -8,4 +8,6 @@ returns c =
     let two = with_option _ _ _ _ _ c.in_ok-arg-2.ensures one c.packed_out.ensures in
     let three = with_option _ _ _ _ _ c.in_ok-arg-3.ensures two c.status.ensures in
     let four = with_option _ _ _ _ _ c.in_ok-arg-4.ensures three c.status-2.ensures in
-    IfOk-weaker c.arg-5.result _ _ (λ new added. with_option _ _ _ _ _ added four c.flag.ensures) c.arg-5.ensures
+    let five = with_option _ _ _ _ _ c.in_ok-arg-5.ensures four c.settings.ensures in
+    let six = with_option _ _ _ _ _ c.in_ok-arg-6.ensures five c.settings-2.ensures in
+    IfOk-weaker c.arg-7.result _ _ (λ new added. with_option _ _ _ _ _ added six c.flag.ensures) c.arg-7.ensures

@@ -4,7 +4,7 @@ use Rattle.clap.specs.Faults.{fault_of, is_simple_and_free}
 use Rattle.clap.specs.Kinds.{HasKind}
 use Rattle.clap.specs.Simple.{App, HasMatchesOf}
 use Rattle.aes3.specs.Jobs.{StandsIn, options_of}
-use Rattle.aes3.proofs.LineAnswers.{bad_status_told, command_stands, error_told, line_is_free}
+use Rattle.aes3.proofs.LineAnswers.{bad_option_told, command_stands, error_told, line_is_free}
 use Rattle.aes3.proofs.job.job_of_words.Goals as goal
 
 pub returns-in-Err-clause-fault : goal.returns-in-Err-clause-fault
@@ -41,4 +41,4 @@ returns-clause-fault c =
     let none = subst (λ (a : App). fault_of a words ≡ []) is (c.in-Ok.ensures.kinds (ap is_simple_and_free is ∙ line_is_free)) in
     let matches = subst (λ (a : App). HasMatchesOf a words c.in-Ok.matches) is c.in-Ok.ensures.matches in
     let here = command_stands words c.in-Ok.matches c.in-Some.name.now (options_of c.in-Some.options.now) none matches c.in-Some.ensures.name c.in-Some.ensures.rows in
-    IfErr-weaker c.job_of_command.result _ _ (λ told bad. bad_status_told words c.in-Some.name.now (options_of c.in-Some.options.now) told here bad) c.job_of_command.ensures.fault
+    IfErr-weaker c.job_of_command.result _ _ (λ told bad. bad_option_told words c.in-Some.name.now (options_of c.in-Some.options.now) told here bad) c.job_of_command.ensures.fault
