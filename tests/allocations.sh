@@ -57,6 +57,8 @@ in_turn() {
 
 in_turn is_told "$program" cut 1 0
 in_turn is_told "$program" rewrite --status1 010000000000000000000000000000000000000000000000 --mend-check
+in_turn is_told "$program" rewrite --set1 rate=48000 --set1 emphasis=none --set2 word=16
+in_turn is_told "$program" rewrite --set2 rate=47000
 in_turn is_told "$program" encode --packed-out
 while [ $# -gt 1 ]; do
     in_turn false "$(realpath "$1")" "$2"
