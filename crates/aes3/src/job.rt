@@ -36,9 +36,10 @@ pub enum LineFault {
 /// What a command line without the program's name asks for. It reads no input.
 ///
 /// # Errors
-/// `Usage` where the definitions of the command line don't take the words, no command stands in them, or a text of a setting is none; `Help` where
-/// `--help` or `--version` stands in them; either where `--explain` is the first of them; `BadStatusText` where they are taken, but a status text isn't 48 hexadecimal
-/// digits; `Memory` where memory was refused.
+/// `Usage` where the definitions of the command line don't take the words, no command stands in
+/// them, or a text of `--set1` or `--set2` is no setting; `Help` where `--help` or `--version`
+/// stands in them; either where `--explain` is the first of them; `BadStatusText` where they are
+/// taken, but a status text isn't 48 hexadecimal digits; `Memory` where memory was refused.
 pub fn job_of_words<'a>(alloc: Global, words: &'a [&'a str]) -> Result<Job, LineFault>
     ensures job { IfOk result (IsJobOf (map (λ word. word.now) words.now)) }
     ensures fault { IfErr result (IsFaultOf (map (λ word. word.now) words.now)) }

@@ -31,8 +31,8 @@ fn add_fault(
     }
 }
 
-/// What is told of texts of the option `--name` that have no settings, as `clap` tells of words that it doesn't take;
-/// `usage` says how the command is called.
+/// What is told of texts of the option `--name` that have no settings, as `clap` tells of words
+/// that it doesn't take; `usage` says how the command is called.
 ///
 /// # Errors
 /// Memory was refused.
