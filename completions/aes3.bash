@@ -18,9 +18,9 @@ _aes3() {
         show) COMPREPLY=($(compgen -W "--packed-in --changes --help" -- "$word")) ;;
         scan) COMPREPLY=($(compgen -W "--packed-in --help" -- "$word")) ;;
         cut) COMPREPLY=($(compgen -W "--packed-in --packed-out --help" -- "$word")) ;;
-        rewrite) COMPREPLY=($(compgen -W "--packed-in --packed-out --status1 --status2 --mend-check --help" -- "$word")) ;;
+        rewrite) COMPREPLY=($(compgen -W "--packed-in --packed-out --status1 --status2 --set1 --set2 --mend-check --help" -- "$word")) ;;
         to-pcm) COMPREPLY=($(compgen -W "--packed-in --help" -- "$word")) ;;
-        from-pcm) COMPREPLY=($(compgen -W "--status1 --status2 --mend-check --exact --help" -- "$word")) ;;
+        from-pcm) COMPREPLY=($(compgen -W "--status1 --status2 --set1 --set2 --mend-check --exact --help" -- "$word")) ;;
     esac
 }
 complete -F _aes3 aes3
