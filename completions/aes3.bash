@@ -4,7 +4,7 @@ _aes3() {
     COMPREPLY=()
     case $before in
         *'<' | *'>') compopt -o filenames 2>/dev/null; COMPREPLY=($(compgen -f -- "$word")); return ;;
-        --status1 | --status2) return ;;
+        --set1 | --set2 | --status1 | --status2) return ;;
     esac
     if [ "$COMP_CWORD" = 1 ]; then
         COMPREPLY=($(compgen -W "encode decode normal check show scan cut rewrite to-pcm from-pcm --help --version --explain" -- "$word"))
