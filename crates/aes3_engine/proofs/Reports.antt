@@ -4,7 +4,7 @@ use Rattle.std.proofs.lemmas.List.{append_cancel_left, drop_at}
 use Rattle.aes3_cell.specs.declared.level.Level.{Level}
 use Rattle.aes3_lock.specs.declared.report.Report.{Report}
 use Rattle.aes3_lock.specs.Outcomes.{Outcome}
-use Rattle.aes3_lock.specs.Reports.{told, outcome_at, decided_at, decided_from, reports_from, decided, reports}
+use Rattle.aes3_lock.specs.Reports.{told, decided_at, decided_from, decided, reports}
 use Rattle.aes3_lock.proofs.Deciding.{answer, decided-push}
 use Rattle.aes3_lock.proofs.Ends.{final, reports-split}
 use Rattle.aes3_engine.specs.Taking.{Writing, behind, before_end, with_end}

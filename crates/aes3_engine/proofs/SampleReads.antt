@@ -1,5 +1,5 @@
 -- Samples converted byte by byte.
-use Rattle.std.proofs.Common.{◌≡◌, ◌≢◌, ℕ, zero, suc, ◌+◌, ◌-◌, ◌*◌, ◌/◌, ◌%◌, ◌<◌, ◌≤◌, ◌⊎◌, inl, inr, List, [], ◌∷◌, ◌++◌, Bool, true, false, not, cond, ◌&&◌, eqb, Option, Some, None, Err, Ok, length, take, drop, replicate, get_or, map, refl, sym, ap, ap₂, ◌∙◌, subst, arith, append_assoc, append-nil, length-append, eq-eqb, ne_eqb}
+use Rattle.std.proofs.Common.{◌≡◌, ◌≢◌, ℕ, zero, suc, ◌+◌, ◌-◌, ◌*◌, ◌/◌, ◌%◌, ◌<◌, ◌≤◌, inl, inr, List, [], ◌∷◌, ◌++◌, Bool, true, false, not, cond, ◌&&◌, eqb, Option, Some, None, length, take, drop, replicate, get_or, map, refl, sym, ap, ap₂, ◌∙◌, subst, arith, append_assoc, append-nil, length-append, eq-eqb, ne_eqb}
 use borrow.Rule.Slice.PartMut.{put_mid}
 use Rattle.std.proofs.lemmas.Bool.{cases_eq, cases_lt}
 use Rattle.std.proofs.lemmas.Grind.{flat_map-append}
@@ -14,10 +14,10 @@ use Rattle.aes3_block.specs.Sampled.{payload_of_sample, sampled, filled}
 use Rattle.aes3_block.proofs.SampleBlocks.{words-join, words-zeros, sampled-join, sampled-short, sampled-one}
 use Rattle.aes3_block.proofs.Words.{length-words}
 use Rattle.aes3_engine.specs.declared.change.Change.{Change}
-use Rattle.aes3_engine.specs.Converting.{Reading, or_else, unless, fault_behind, out_behind, before_fault, first_fault, out}
+use Rattle.aes3_engine.specs.Converting.{or_else, unless, fault_behind, out_behind, first_fault, out}
 use Rattle.aes3_engine.specs.Rewriting.{rewritten, rewritten_blocks}
-use Rattle.aes3_engine.specs.Running.{Fed, Stopped, PieceRan, EndRan}
-use Rattle.aes3_engine.specs.Sampling.{sample_file, exact_words, sample_words, pcm_file, begun_pcm, AllExact, is_low, more_of, sampling, Samples, block_bytes_len, frame_len}
+use Rattle.aes3_engine.specs.Running.{Fed, Stopped}
+use Rattle.aes3_engine.specs.Sampling.{sample_file, exact_words, pcm_file, begun_pcm, AllExact, is_low, more_of, sampling, Samples, block_bytes_len, frame_len}
 use Rattle.aes3_engine.proofs.Feeding.{front-longer}
 use Rattle.aes3_engine.proofs.Outputs.{out-is, behind-clean, fault-clean}
 

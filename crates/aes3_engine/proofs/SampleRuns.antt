@@ -1,5 +1,5 @@
 -- A whole run over samples.
-use Rattle.std.proofs.Common.{◌≡◌, ◌≢◌, ℕ, zero, suc, ◌+◌, ◌-◌, ◌*◌, ◌/◌, ◌%◌, ◌<◌, ◌≤◌, ◌⊎◌, inl, inr, List, [], ◌∷◌, ◌++◌, Bool, true, false, cond, Option, Some, None, Err, length, take, drop, replicate, get_or, min, refl, sym, ap, ap₂, ◌∙◌, subst, arith, append_assoc, append-nil, length-append, eq-eqb, ne_eqb}
+use Rattle.std.proofs.Common.{◌≡◌, ◌≢◌, ℕ, zero, suc, ◌+◌, ◌-◌, ◌%◌, ◌<◌, ◌≤◌, ◌⊎◌, inl, inr, List, [], ◌∷◌, ◌++◌, Bool, true, Option, Some, None, Err, length, take, replicate, get_or, refl, sym, ap, ap₂, ◌∙◌, subst, arith, length-append}
 use Rattle.std.specs.Int.{div_ceil}
 use Rattle.std.proofs.lemmas.Bool.{cases_eq}
 use Rattle.aes3_cell.specs.declared.refusal.RunError.{RunError}
@@ -15,7 +15,7 @@ use Rattle.aes3_block.proofs.Words.{length-words}
 use Rattle.aes3_engine.specs.declared.change.Change as change
 use Rattle.aes3_engine.specs.Converting.{or_else, fault_behind, first_fault, out, whole}
 use Rattle.aes3_engine.specs.Running.{Ran, Run, Movement, Clean, CleanEnd}
-use Rattle.aes3_engine.specs.Sampling.{sample_file, pcm_file, begun_pcm, frame_len, AllExact, IsPcm, BadSampleAt, EndsInFrame, WholePcm, IsPcmCause, pcm_counts, more_of, sampling}
+use Rattle.aes3_engine.specs.Sampling.{pcm_file, begun_pcm, frame_len, AllExact, IsPcm, BadSampleAt, WholePcm, IsPcmCause, pcm_counts, more_of, sampling}
 use Rattle.aes3_engine.proofs.SampleReads.{made, file-more, begun-all, out-samples, byte-clean, byte-bad, clean-all, all-clean, end-whole, end-left}
 use Rattle.aes3_engine.proofs.Told.{ran-told, few-told}
 

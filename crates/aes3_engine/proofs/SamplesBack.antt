@@ -19,7 +19,7 @@ use Rattle.aes3_engine.specs.declared.change.Change.{Change}
 use Rattle.aes3_engine.specs.BlockRuns.{written_stream}
 use Rattle.aes3_engine.specs.Rewriting.{rewritten, rewritten_blocks}
 use Rattle.aes3_engine.specs.SampleLaws.{line_of_pcm, pcm_of_line}
-use Rattle.aes3_engine.specs.Sampling.{sample_file, pcm_file}
+use Rattle.aes3_engine.specs.Sampling.{sample_file}
 use Rattle.aes3_engine.proofs.BlockRuns.{each27, read-back}
 use Rattle.aes3_engine.proofs.RewrittenBlocks.{rewritten-keeps}
 

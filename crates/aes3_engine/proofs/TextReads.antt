@@ -1,6 +1,5 @@
 -- Bytes of cell text that a reader took, joined.
 use Rattle.std.proofs.Common.{◌≡◌, ℕ, ◌+◌, List, [], ◌∷◌, ◌++◌, true, Option, Ok, length, take, drop, map, refl, ap, ap₂, sym, ◌∙◌, subst, arith, length-append}
-use Rattle.std.specs.Prelude.{option_to_list}
 use Rattle.std.proofs.lemmas.List.{length-map}
 use Rattle.std.proofs.Math.Seq.{take-add}
 use Rattle.aes3_cell.specs.declared.level.Level.{Level}

@@ -1,5 +1,5 @@
 -- A run that is flushed: what is told of it where it was refused, or where that failed.
-use Rattle.std.proofs.Common.{◌≡◌, ◌≢◌, ℕ, ◌+◌, ◌≤◌, ◌⊎◌, inl, inr, Bool, List, [], Option, length, IsTrue, refl, sym, ap, ◌∙◌, subst, arith}
+use Rattle.std.proofs.Common.{◌≡◌, ◌≢◌, ℕ, ◌+◌, ◌≤◌, inl, inr, Bool, List, [], Option, length, refl, sym, ap, ◌∙◌, subst, arith}
 use Rattle.aes3_cell.specs.Ends.{Grew, GrewFront}
 use Rattle.aes3_cell.specs.declared.refusal.RunError.{RunError}
 use Rattle.aes3_cell.specs.declared.refusal.RunError.TheVariants.{Write}
@@ -8,7 +8,7 @@ use Rattle.aes3_cell.proofs.Growing.{front-all}
 use Rattle.aes3_engine.specs.Running.{Movement, Quiet}
 use Rattle.aes3_job.specs.declared.job.Job.{Job}
 use Rattle.aes3_job.specs.declared.job.Job.TheVariants.{Encode, Decode, Normal, Check, Account, Show, ShowChanges, Scan, Cut, Rewrite, ToPcm, FromPcm}
-use Rattle.aes3_job.specs.JobRuns.{Flushed, IsCauseFor, IsInputOf, IsWhole, JobDone, JobRefused, RunDone, RunRefused, most, status_by}
+use Rattle.aes3_job.specs.JobRuns.{Flushed, IsCauseFor, JobDone, JobRefused, RunDone, RunRefused, most, status_by}
 use Rattle.aes3_job.specs.Lines.{refusal_line}
 
 grew-to : {a b d : Option (List ℕ)} {x : List ℕ} → d ≡ b → Grew a b x → Grew a d x

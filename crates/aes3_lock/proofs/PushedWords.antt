@@ -1,5 +1,5 @@
 -- The cells of a word taken part by part.
-use Rattle.std.proofs.Common.{◌≡◌, ℕ, ◌+◌, ◌/◌, ◌%◌, ◌^◌, ◌<◌, ◌≤◌, List, [], ◌∷◌, ◌++◌, length, take, drop, take_all, get_or, append-nil, ap, ◌∙◌, sym, subst, arith, append_assoc}
+use Rattle.std.proofs.Common.{◌≡◌, ℕ, ◌+◌, ◌/◌, ◌%◌, ◌^◌, ◌<◌, ◌≤◌, List, [], ◌∷◌, ◌++◌, length, take, drop, get_or, append-nil, ap, ◌∙◌, sym, subst, arith, append_assoc}
 use Rattle.std.specs.List.{flat_map}
 use Rattle.std.proofs.lemmas.Grind.{flat_map-append}
 use Rattle.std.proofs.lemmas.List.{flat_map_more, take_more}
@@ -70,6 +70,3 @@ pub next-words : (c : List Level) (words rest : List ℕ) (i n : ℕ) → i ≤ 
 next-words c words rest i n h e =
     append_assoc c (flat_map word_cells (take i words)) (flat_map word_cells (take n rest))
     ∙ ap (λ x. c ++ x) (sym (flat_map-append word_cells (take i words) (take n rest)) ∙ ap (flat_map word_cells) (ap (λ r. take i words ++ take n r) e ∙ sym (take-add i n words)))
-
-pub all-words : (words : List ℕ) (i : ℕ) → length words ≤ i → take i words ≡ take (length words) words
-all-words words i h = take_all i words h ∙ sym (take_all (length words) words (omega arith))

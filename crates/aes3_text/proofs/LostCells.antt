@@ -21,7 +21,7 @@ use Rattle.aes3_lock.proofs.ChangeReports.{at-report}
 use Rattle.aes3_lock.proofs.DamageLaws.{stands-local}
 use Rattle.aes3_lock.proofs.Deciding.{block_len_24576}
 use Rattle.aes3_lock.proofs.LawfulPieces.{stream_marks, stream-length, stream-stands}
-use Rattle.aes3_lock.proofs.Lost.{drop-without, length-without}
+use Rattle.aes3_lock.proofs.Lost.{drop-without}
 use Rattle.aes3_text.specs.Gaps.{account, is_lost}
 use Rattle.aes3_text.specs.GapLaws.{InRow}
 use Rattle.aes3_text.proofs.LostGaps.{all-piece, length-blocks}

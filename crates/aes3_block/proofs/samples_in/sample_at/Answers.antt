@@ -1,4 +1,4 @@
-use Rattle.std.proofs.Common.{◌∙◌, sym, arith}
+use Rattle.std.proofs.Common.{arith}
 use Rattle.aes3_block.proofs.SampleBlocks.{word-at}
 use Rattle.aes3_block.proofs.samples_in.sample_at.Goals as goal
 

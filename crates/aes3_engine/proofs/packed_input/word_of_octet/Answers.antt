@@ -1,4 +1,4 @@
-use Rattle.std.proofs.Common.{ℕ, ◌≡◌, ◌+◌, ◌<◌, ◌∷◌, ◌-◌, [], ◌∙◌, arith, refl, sym, ap, ext_get_or}
+use Rattle.std.proofs.Common.{ℕ, ◌≡◌, ◌<◌, ◌∷◌, ◌-◌, [], ◌∙◌, arith, refl, sym, ap, ext_get_or}
 use Rattle.std.specs.Int.{bit_at}
 use Rattle.aes3_cell.specs.declared.level.Level.TheVariants.{Low}
 use Rattle.aes3_cell.specs.Words.{level_of, low_cells}

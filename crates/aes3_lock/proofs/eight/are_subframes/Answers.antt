@@ -1,4 +1,4 @@
-use Rattle.std.proofs.Common.{◌≡◌, ℕ, ◌+◌, ◌<◌, ◌%◌, ◌==◌, ◌∙◌, true, nat_eq, ap₂, subst, get_or, take}
+use Rattle.std.proofs.Common.{◌%◌, ◌==◌, ◌∙◌, ap₂, subst, get_or, take}
 use Rattle.std.specs.Prelude.{if◌then◌else◌}
 use Rattle.std.proofs.lemmas.Bool.{eqb-true}
 use Rattle.aes3_cell.specs.Words.{word_cells}

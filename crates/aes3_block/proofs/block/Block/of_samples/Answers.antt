@@ -1,4 +1,4 @@
-use Rattle.std.proofs.Common.{ap, ◌∙◌, sym, arith, length, length-set}
+use Rattle.std.proofs.Common.{ap, ◌∙◌, arith, length, length-set}
 use Rattle.std.proofs.lemmas.List.{length-replicate}
 use Rattle.aes3_block.specs.Blocks.{block_slots}
 use Rattle.aes3_block.specs.Files.{words_of}

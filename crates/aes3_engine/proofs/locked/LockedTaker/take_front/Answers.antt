@@ -1,4 +1,4 @@
-use Rattle.std.proofs.Common.{◌≡◌, ◌-◌, ◌/◌, ◌^◌, ◌++◌, ◌∷◌, [], List, arith, refl, sym, ap, ◌∙◌, subst, append-nil}
+use Rattle.std.proofs.Common.{◌-◌, ◌/◌, ◌^◌, ◌++◌, arith, refl, sym, ap, ◌∙◌, subst, append-nil}
 use Rattle.std.specs.Prelude.{option_to_list, option_map}
 use Rattle.aes3_cell.specs.Words.{low_cells}
 use Rattle.aes3_cell.proofs.Growing.{grew-none, grew-is, front-is, front-more}

@@ -1,4 +1,4 @@
-use Rattle.std.proofs.Common.{◌≡◌, ◌+◌, ◌-◌, ◌*◌, ◌^◌, ◌≤◌, ◌++◌, [], List, length, take, drop, get_or, arith, refl, sym, ap, ◌∙◌, subst, length-append, length-drop}
+use Rattle.std.proofs.Common.{◌≡◌, ◌+◌, ◌-◌, ◌*◌, ◌^◌, ◌≤◌, ◌++◌, length, take, drop, get_or, arith, ap, ◌∙◌, length-append, length-drop}
 use Rattle.std.specs.List.{flat_map}
 use Rattle.std.proofs.lemmas.List.{length-take-le, take_rest, take_all}
 use Rattle.aes3_cell.specs.Words.{word_len, word_cells}

@@ -1,4 +1,4 @@
-use Rattle.std.proofs.Common.{◌≡◌, ◌+◌, ◌-◌, ◌%◌, ◌<◌, ◌++◌, ℕ, List, length, take, replicate, refl, sym, ap, ap₂, ◌∙◌, arith, length-append}
+use Rattle.std.proofs.Common.{◌≡◌, ◌-◌, ◌%◌, ◌++◌, ℕ, length, take, replicate, refl, sym, ap, ap₂, ◌∙◌, arith, length-append}
 use Rattle.std.proofs.lemmas.List.{length-take-le, length-replicate}
 use Rattle.aes3_cell.proofs.Growing.{grew-is, front-is}
 use Rattle.aes3_engine.proofs.SampleReads.{end-none, end-tail, end-part, end-refused, put-whole, block-made}

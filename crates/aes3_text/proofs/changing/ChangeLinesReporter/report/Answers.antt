@@ -1,4 +1,4 @@
-use Rattle.std.proofs.Common.{ap, sym, subst}
+use Rattle.std.proofs.Common.{sym, subst}
 use Rattle.aes3_lock.specs.Reports.{wholes}
 use Rattle.aes3_engine.specs.ReportRuns.{Tallies}
 use Rattle.aes3_cell.proofs.Growing.{grew-is, front-is}
