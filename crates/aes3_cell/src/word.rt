@@ -35,6 +35,7 @@ const OCTETS: [usize; 64] = [
 ];
 
 /// The characters of the cells of a word, all at once.
+#[inline(always)]
 fn characters(word: u64) -> [u8; 64]
     ensures { result ≡ map byte_of (word_cells word) }
 {
@@ -48,6 +49,7 @@ fn characters(word: u64) -> [u8; 64]
 }
 
 /// The line of text of a word of cells: 64 characters and a line feed.
+#[inline(always)]
 pub fn line_of_word(word: u64) -> [u8; LINE_LEN]
     ensures { result ≡ line_text (word_cells word) }
 {

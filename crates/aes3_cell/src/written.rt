@@ -29,15 +29,19 @@ pub fn put_word<T: Sink>(form: Form, word: u64, sink: &mut T) -> Result<(), Faul
 /// How many words are handed on as one buffer.
 const MANY: usize = 16;
 
-/// The lines of words.
-fn lines_of_words(words: &[u64; MANY]) -> [u8; LINE_LEN * MANY]
-    ensures { result ≡ bytes_of Text (flat_map word_cells words.now) }
+/// A buffer for the lines of words.
+fn blank_lines() -> [u8; LINE_LEN * MANY] {
+    [0; LINE_LEN * MANY]
+}
+
+/// Puts the lines of words into `text`.
+#[inline(always)]
+fn fill_lines(words: &[u64; MANY], text: &mut [u8; LINE_LEN * MANY])
+    ensures { text.new ≡ bytes_of Text (flat_map word_cells words.now) }
 {
-    let mut text = [0; LINE_LEN * MANY];
     for (i, word) in words.iter().enumerate() {
         text[LINE_LEN * i..LINE_LEN * i + LINE_LEN].copy_from_slice(&line_of_word(*word));
     }
-    text
 }
 
 /// The octets of words.
@@ -51,14 +55,22 @@ fn octets_of_words(words: &[u64; MANY]) -> [u8; 8 * MANY]
     octets
 }
 
-/// Writes as many words as one buffer holds.
-fn put_many<T: Sink>(form: Form, words: &[u64; MANY], sink: &mut T) -> Result<(), Fault>
+/// Writes as many words as one buffer holds; lines are made in `text`.
+fn put_many<T: Sink>(
+    form: Form,
+    words: &[u64; MANY],
+    text: &mut [u8; LINE_LEN * MANY],
+    sink: &mut T,
+) -> Result<(), Fault>
     requires room { T.failed sink.old + 1 < 2 ^ 64 }
     ensures { Wrote T.taken T.failed sink.old sink.new
         (bytes_of form (flat_map word_cells words.now)) result }
 {
     match form {
-        Form::Text => write_all(sink, &lines_of_words(words)),
+        Form::Text => {
+            fill_lines(words, text);
+            write_all(sink, text)
+        }
         Form::Packed => write_all(sink, &octets_of_words(words)),
     }
 }
@@ -74,9 +86,10 @@ fn put_front<T: Sink>(form: Form, words: &[u64], sink: &mut T) -> Result<usize, 
     if !sink.takes_much() {
         return Ok(0);
     }
+    let mut text = blank_lines();
     let mut at = 0;
     while let Some(many) = words[at..].first_chunk() {
-        match put_many(form, many, sink) {
+        match put_many(form, many, &mut text, sink) {
             Ok(()) => at += MANY,
             Err(fault) => return Err(fault),
         }

@@ -3,7 +3,7 @@ use Rattle.std.specs.List.{flat_map}
 use Rattle.aes3_cell.specs.declared.form.Form.TheVariants.{Text}
 use Rattle.aes3_cell.specs.Words.{word_cells}
 use Rattle.aes3_cell.specs.Written.{bytes_of}
-use Rattle.aes3_cell.proofs.written.lines_of_words.Given as goal
+use Rattle.aes3_cell.proofs.written.fill_lines.Given as goal
 
 abbrev pub invariant-loop-i : goal.invariant-loop-i
 invariant-loop-i l = record {

@@ -3,7 +3,7 @@ use Rattle.std.proofs.lemmas.Slice.{overwrites}
 use Rattle.aes3_cell.specs.declared.form.Form.TheVariants.{Text}
 use Rattle.aes3_cell.proofs.ManyWords.{put-more, line-bytes, length-line}
 use Rattle.aes3_cell.proofs.WrittenForms.{bytes-nothing}
-use Rattle.aes3_cell.proofs.written.lines_of_words.Goals as goal
+use Rattle.aes3_cell.proofs.written.fill_lines.Goals as goal
 
 pub loop-i-init : goal.loop-i-init
 loop-i-init c = record { len = search rules; bytes = sym (bytes-nothing Text) }
