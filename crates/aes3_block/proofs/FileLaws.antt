@@ -37,7 +37,7 @@ pub payload-word : (p : List Bool) → IsPayload p → payload_of (word_of p) �
 payload-word p h = ap payload_bits (word-slots p) ∙ payload-slots (number (with_parity p)) p (slots-number p h).1 h
 
 -- the words of a block's file
-words-of-word : (w : ℕ) (rest : List ℕ) → w < 2 ^ 32 → words_of (word_bytes w ++ rest) ≡ w ∷ words_of rest
+pub words-of-word : (w : ℕ) (rest : List ℕ) → w < 2 ^ 32 → words_of (word_bytes w ++ rest) ≡ w ∷ words_of rest
 words-of-word w rest h = ap (λ v. v ∷ words_of rest) (bytes_number-low_bytes w h)
 
 words-of-payloads : (ps : List (List Bool)) (rest : List ℕ) → Each27 ps → words_of (flat_map word_bytes (map word_of ps) ++ rest) ≡ map word_of ps ++ words_of rest

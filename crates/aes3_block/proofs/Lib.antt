@@ -9,6 +9,7 @@ pub mod Words
 pub mod Streams
 pub mod WholeBlocks
 pub mod FileLaws
+pub mod BlockReads
 pub mod Each
 pub mod FileBlocks
 pub mod Feeding

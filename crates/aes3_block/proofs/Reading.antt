@@ -149,6 +149,14 @@ fault-lawful at w = go (has_code w) (has_parity w)
     go true false e = cc
     go false parity e = cc
 
+pub lawful-fault : (at w : ℕ) → is_lawful w ≡ true → word_fault at w ≡ None
+lawful-fault at w = go (has_code w) (has_parity w)
+  where
+    go : (code parity : Bool) → (code && parity) ≡ true → cond {A = Option FileFault} code (cond {A = Option FileFault} parity None (Some (BadParity at))) (Some (BadCode at)) ≡ None
+    go true true e = refl
+    go true false e = cc
+    go false parity e = cc
+
 pub fault-unlawful : (at w : ℕ) (f : FileFault) → word_fault at w ≡ Some f → is_lawful w ≡ false
 fault-unlawful at w f = go (has_code w) (has_parity w)
   where

@@ -1,12 +1,12 @@
 -- The four bytes of a word read at once.
-use Rattle.std.proofs.Common.{◌≡◌, ℕ, ◌+◌, ◌/◌, ◌%◌, ◌^◌, ◌<◌, ◌≤◌, ◌⊎◌, inl, inr, List, [], ◌∷◌, ◌++◌, length, get_or, true, false, true≢false, Option, Some, None, Ok, refl, sym, ap, ◌∙◌, subst, arith, w32}
+use Rattle.std.proofs.Common.{◌≡◌, ℕ, ◌+◌, ◌/◌, ◌%◌, ◌^◌, ◌<◌, ◌≤◌, ◌⊎◌, inl, inr, List, [], ◌∷◌, ◌++◌, length, get_or, true, false, true≢false, Option, Some, None, Ok, refl, sym, ap, ◌∙◌, subst, arith, map, w32}
 use Rattle.std.specs.Prelude.{is_some}
 use Rattle.std.specs.Int.{from_le_bytes}
 use Rattle.std.proofs.lemmas.Bool.{cases_lt}
 use Rattle.std.proofs.lemmas.Nat.{le_bytes_4}
 use Rattle.aes3_block.specs.declared.file.FileFault.{FileFault}
-use Rattle.aes3_block.specs.Files.{low_bytes, word_bytes}
-use Rattle.aes3_block.specs.Readers.{FileReader, TakesQuietly, word_fault, answer_with, next_with}
+use Rattle.aes3_block.specs.Files.{low_bytes, payload_of, word_bytes}
+use Rattle.aes3_block.specs.Readers.{FileReader, TakesBlock, TakesQuietly, word_fault, answer_with, next_with}
 use Rattle.aes3_block.proofs.Files.{le_bytes-is}
 use Rattle.aes3_block.proofs.Reading.{stored, byte-short, byte-word, byte-block, byte-refused}
 
@@ -58,6 +58,30 @@ module _ (seen : ℕ) (ws : List ℕ) (u w : ℕ) (start : seen % 4 ≡ 0) where
           ),
         ),
       )
+
+  -- where they end a block, all but the last are
+  pub ends-block : length ws ≡ seen / 4 % 384 → w < 2 ^ 32 → word_fault (seen / 4) w ≡ None → 384 ≤ seen / 4 % 384 + 1
+      → TakesBlock (stored seen ws u None) (word_bytes w) (map payload_of (ws ++ w ∷ [])) (stored (seen + 4) [] 0 None)
+  ends-block lw b f s =
+      let q = byte-block (seen + 1 + 1 + 1) ws w w (w / 256 / 256 / 256 % 256) (lw ∙ ap (λ k. k % 384) (sym same-word)) (omega (arith, start)) last-place b
+      (ap (λ k. word_fault k w) same-word ∙ f) (omega (arith, s, same-word)) in
+      let e : stored (seen + 4) [] 0 None ≡ stored (seen + 1 + 1 + 1 + 1) [] 0 None =
+      ap (λ n. stored n [] 0 None) (let p : seen + 4 ≡ seen + 1 + 1 + 1 + 1 = omega arith in p) in
+      record {
+        quiet = (w % 256) ∷ (w / 256 % 256) ∷ (w / 256 / 256 % 256) ∷ [];
+        last = w / 256 / 256 / 256 % 256;
+        is = refl;
+        behind = stored (seen + 1 + 1 + 1) ws w None;
+        taken = (
+          first.0,
+          subst (λ r. TakesQuietly r ((w / 256 % 256) ∷ (w / 256 / 256 % 256) ∷ []) (stored (seen + 1 + 1 + 1) ws w None)) (sym first.1) (
+            second.0,
+            subst (λ r. TakesQuietly r ((w / 256 / 256 % 256) ∷ []) (stored (seen + 1 + 1 + 1) ws w None)) (sym second.1) (third.0, sym third.1),
+          ),
+        );
+        ends = q.0;
+        next = e ∙ sym q.1;
+      }
 
   -- and then it is lawful and ends no block
   pub quiet-word : (s : FileReader) → length ws ≡ seen / 4 % 384 → w < 2 ^ 32 → TakesQuietly (stored seen ws u None) (word_bytes w) s

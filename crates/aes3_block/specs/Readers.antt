@@ -80,6 +80,16 @@ abbrev pub TakesQuietly : FileReader → List ℕ → FileReader → Type 0
 TakesQuietly r [] s = s ≡ r
 TakesQuietly r (x ∷ b) s = (answer_with r x ≡ Ok None) × TakesQuietly (next_with r x) b s
 
+-- bytes that a reader takes one by one, the last of which ends a block and each other is taken quietly, and the reader behind them
+pub record TakesBlock (r : FileReader) (b : List ℕ) (block : List (List Bool)) (s : FileReader) : Type 0 where
+  pub quiet : List ℕ
+  pub last : ℕ
+  pub is : quiet ++ last ∷ [] ≡ b
+  pub behind : FileReader
+  pub taken : TakesQuietly r quiet behind
+  pub ends : answer_with behind last ≡ Ok (Some block)
+  pub next : s ≡ next_with behind last
+
 -- what a reader answers to the end: the fault that it refused before; else nothing may be left of a block
 abbrev pub left_of : FileReader → ℕ
 left_of r = r.seen % (4 * block_slots)

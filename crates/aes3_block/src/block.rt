@@ -48,7 +48,7 @@ pub(crate) fn zero_words() -> [u32; SLOTS]
 }
 
 /// Whether a word is as a block file may have it.
-fn is_lawful_word(word: u32) -> bool
+pub(crate) fn is_lawful_word(word: u32) -> bool
     ensures { result ≡ is_lawful word }
 {
     has_right_code(word) && has_right_parity(word)

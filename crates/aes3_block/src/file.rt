@@ -1,5 +1,5 @@
 //! Block files as they are read.
-use crate::block::{Block, SLOTS};
+use crate::block::{Block, SLOTS, is_lawful_word, zero_words};
 use crate::file_out::BLOCK_BYTES;
 use crate::word::{has_right_code, has_right_parity};
 use aes3_cell::RunError;
@@ -60,9 +60,11 @@ impl Model for BlockFile {
     ghost invariant = { λ f. (length f.words.items ≡ f.seen / 4 % 384) × ((i : ℕ) → i < length f.words.items → is_lawful (get_or f.words.items i 0) ≡ true) × (f.word < 2 ^ (8 * (f.seen % 4))) };
 }
 
-ghost use Rattle.std.specs.Prelude.{◌≡◌, ◌≢◌, ℕ, ◌<◌, ◌≤◌, ◌+◌, ◌*◌, ◌^◌, true, false, [], ◌∷◌, ◌++◌, Some, None, get_or, length, map};
-ghost use Rattle.aes3_block.specs.Files.{is_lawful, low_bytes, payload_of};
-ghost use Rattle.aes3_block.specs.Readers.{FileReader, TakesQuietly, answer_with, end_answer, next_with, word_fault};
+ghost use Rattle.std.specs.Prelude.{◌≡◌, ◌≢◌, ℕ, ◌<◌, ◌≤◌, ◌+◌, ◌*◌, ◌^◌, true, false, [], ◌∷◌, ◌++◌, Some, None, IfSome, IsSome, get_or, length, map};
+ghost use Rattle.std.specs.List.{flat_map};
+ghost use Rattle.aes3_block.specs.Blocks.{block_slots};
+ghost use Rattle.aes3_block.specs.Files.{is_lawful, low_bytes, payload_of, word_bytes, words_of};
+ghost use Rattle.aes3_block.specs.Readers.{FileReader, TakesBlock, TakesQuietly, answer_with, end_answer, next_with, word_fault};
 
 /// The fault of word `at`, its code judged before its parity.
 fn fault_of_word(word: u32, at: u64) -> Option<FileFault>
@@ -100,6 +102,32 @@ fn take_block(words: &mut ArrayVec<u32, SLOTS>) -> Option<Block>
         Ok(words) => Some(Block::of_words(words)),
         Err(_) => None,
     }
+}
+
+/// The words of a block's bytes.
+fn words_of_block(bytes: &[u8; BLOCK_BYTES]) -> [u32; SLOTS]
+    ensures { flat_map word_bytes result ≡ bytes.now }
+{
+    let mut words = zero_words();
+    for i in 0..SLOTS {
+        let at = 4 * i;
+        let word = [bytes[at], bytes[at + 1], bytes[at + 2], bytes[at + 3]];
+        words[i] = u32::from_le_bytes(word);
+    }
+    words
+}
+
+/// Whether all words are lawful. It judges each, so that the compiler takes several at once.
+fn are_lawful(words: &[u32; SLOTS]) -> bool
+    ensures each { result ≡ true → (i : ℕ) → i < block_slots → is_lawful (get_or words.now i 0) ≡ true }
+    ensures owed { ((i : ℕ) → i < block_slots → is_lawful (get_or words.now i 0) ≡ true) → result ≡ true }
+    ensures fits { (i : ℕ) → i < SLOTS → get_or words.now i 0 < 2 ^ 32 }
+{
+    let mut lawful = true;
+    for word in words.iter() {
+        lawful &= is_lawful_word(*word);
+    }
+    lawful
 }
 
 impl BlockFile {
@@ -175,6 +203,28 @@ impl BlockFile {
         self.word = 0;
         self.seen += 4;
         true
+    }
+
+    /// Takes the bytes of a whole block where none is begun and all its words are lawful, and answers it; else it changes
+    /// nothing.
+    ///
+    /// It is `feed_byte` for almost every block of a file.
+    pub fn feed_block(&mut self, bytes: &[u8; BLOCK_BYTES]) -> Option<Block>
+        requires { self.old.seen + BLOCK_BYTES ≤ 2 ^ 40 }
+        ensures taken { IfSome result (λ block. TakesBlock self.old bytes.now block self.new) }
+        ensures left { result ≡ None → self.new ≡ self.old }
+        ensures owed { self.old.fault ≡ None → self.old.bytes ≡ [] → self.old.words ≡ []
+            → ((i : ℕ) → i < block_slots → is_lawful (get_or (words_of bytes.now) i 0) ≡ true) → IsSome result }
+    {
+        if self.fault.is_some() || self.seen % BLOCK_BYTES as u64 != 0 {
+            return None;
+        }
+        let words = words_of_block(bytes);
+        if !are_lawful(&words) {
+            return None;
+        }
+        self.seen += BLOCK_BYTES as u64;
+        Some(Block::of_words(words))
     }
 
     /// Says whether the file may end here.
