@@ -1,5 +1,5 @@
 -- A block file converted byte by byte.
-use Rattle.std.proofs.Common.{◌≡◌, ℕ, zero, suc, ◌+◌, ◌/◌, ◌≤◌, List, [], ◌∷◌, ◌++◌, Bool, true, Option, Some, None, Result, Ok, Err, length, drop, refl, sym, ap, ◌∙◌, subst, arith, append-nil, length-append}
+use Rattle.std.proofs.Common.{◌≡◌, ℕ, zero, suc, ◌+◌, ◌/◌, ◌≤◌, List, [], ◌∷◌, ◌++◌, Bool, true, Option, Some, None, Result, Ok, Err, length, drop, refl, sym, ap, ◌∙◌, subst, arith, append-nil, append_assoc, length-append}
 use Rattle.aes3_cell.specs.declared.level.Level.TheVariants.{Low}
 use Rattle.aes3_cell.specs.declared.refusal.RunError.{RunError}
 use Rattle.aes3_cell.specs.Ends.{Grew, GrewFront}
@@ -10,14 +10,14 @@ use Rattle.aes3_block.specs.declared.file.FileFault.{FileFault}
 use Rattle.aes3_block.specs.declared.file.FileFault.TheVariants as fault
 use Rattle.aes3_block.specs.Blocks.{block_slots, block_cells}
 use Rattle.aes3_block.specs.Files.{words_of, lawful_words, file_blocks, blocks_in}
-use Rattle.aes3_block.specs.Readers.{FileReader, reader_of, byte_fault, block_with, TakesQuietly, answer_with, next_with, end_answer}
+use Rattle.aes3_block.specs.Readers.{FileReader, reader_of, byte_fault, block_with, TakesBlock, TakesQuietly, answer_with, next_with, end_answer}
 use Rattle.aes3_block.specs.Refusals.{refusal_of}
 use Rattle.aes3_block.proofs.Reading.{answered, answered-err}
 use Rattle.aes3_block.proofs.Words.{all_lawful, lawful-words, all_lawful-from, length-words}
 use Rattle.aes3_block.proofs.WholeBlocks.{reader-next, lawful-next, blocks-next, added_blocks}
 use Rattle.aes3_engine.specs.Converting.{or_else, unless, fault_behind, out_behind, before_fault}
 use Rattle.aes3_engine.specs.Running.{Fed, Stopped, PieceRan, EndRan}
-use Rattle.aes3_engine.proofs.Feeding.{fed-none, fed-join}
+use Rattle.aes3_engine.proofs.Feeding.{fed-none, fed-is, fed-join, front-joined}
 use Rattle.aes3_engine.specs.Encoding.{encoding, refused_by, refused_at_end, block_written, Encodes, AllLawful}
 use Rattle.aes3_block.proofs.Feeding.{reader-open}
 
@@ -94,6 +94,20 @@ pub byte-front : (form : Form) {file : FileReader} {blocks : ℕ} (x : ℕ) (blo
     → (b : List ℕ) → Encodes file blocks b → GrewFront t t' (out_behind (encoding form) b (x ∷ []))
 byte-front form {file} x block t t' a g b h =
     let q = answered-of file b x (Some block) h.reader a in front-is (sym (one-clean form b x (Some block) q.0 q.1).1) g
+
+-- the bytes of a block that are taken at once
+pub block-fed : (form : Form) {blocks : ℕ} (file new : FileReader) (bytes : List ℕ) (block : List (List Bool)) (t t' : Option (List ℕ))
+    → TakesBlock file bytes block new → Grew t t' (bytes_of form (block_cells Low block))
+    → Fed (encoding form) (encoding form) (Encodes file blocks) (Encodes new (blocks + 1)) t t' bytes
+block-fed form file new bytes block t t' h g =
+    fed-is h.is (fed-join (bytes-quiet form file h.behind h.quiet t h.taken) (byte-block form new h.last block t t' (sym h.ends) h.next g))
+
+pub block-front : (form : Form) {blocks : ℕ} (file new : FileReader) (bytes rest xs : List ℕ) (block : List (List Bool)) (t t' : Option (List ℕ))
+    → TakesBlock file bytes block new → bytes ++ rest ≡ xs → GrewFront t t' (bytes_of form (block_cells Low block))
+    → (b : List ℕ) → Encodes file blocks b → GrewFront t t' (out_behind (encoding form) b xs)
+block-front form {blocks} file new bytes rest xs block t t' h e g b k =
+    front-is (ap (out_behind (encoding form) b) (sym (append_assoc h.quiet (h.last ∷ []) rest) ∙ ap (λ z. z ++ rest) h.is ∙ e))
+    (front-joined (h.last ∷ []) rest (bytes-quiet form {blocks = blocks} file h.behind h.quiet t h.taken) (byte-front form {file = h.behind} {blocks = blocks} h.last block t t' (sym h.ends) g) b k)
 
 -- a byte that is refused
 -- how many whole blocks were written

@@ -52,7 +52,7 @@ stopped-join {r₀} {r} {f₀} {s = s} {a = a} {d = d} rest {e} p q = record {
     here : (b : List ℕ) → f₀ b → fault_behind r₀ (b ++ a) d ≡ Some e
     here b h = ap (λ v. fault_behind v (b ++ a) d) (sym p.same) ∙ q.fault (b ++ a) (p.follows b h)
 
-front-joined : {r₀ r : Reading} {f₀ f : List ℕ → Type 0} {t₀ t t' : Option (List ℕ)} {a : List ℕ} (d rest : List ℕ)
+pub front-joined : {r₀ r : Reading} {f₀ f : List ℕ → Type 0} {t₀ t t' : Option (List ℕ)} {a : List ℕ} (d rest : List ℕ)
     → Fed r₀ r f₀ f t₀ t a → ((b : List ℕ) → f b → GrewFront t t' (out_behind r b d))
     → (b : List ℕ) → f₀ b → GrewFront t₀ t' (out_behind r₀ b (a ++ (d ++ rest)))
 front-joined {r₀} {a = a} d rest p q b h =

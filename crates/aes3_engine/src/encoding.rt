@@ -1,19 +1,19 @@
 //! Block files to cells.
 
-ghost use Rattle.std.specs.Prelude.{◌≡◌, ◌≢◌, ℕ, ◌+◌, ◌<◌, ◌≤◌, ◌^◌, ◌⊎◌, List, [], ◌∷◌, Bool, true, false, Err, length, take, IfOk, IfErr, IsOk, OnErr, IsTrue};
+ghost use Rattle.std.specs.Prelude.{◌≡◌, ◌≢◌, ℕ, ◌+◌, ◌<◌, ◌≤◌, ◌^◌, ◌⊎◌, List, [], ◌∷◌, Bool, true, false, None, Err, length, take, IfOk, IfErr, IfSome, IsOk, OnErr, IsTrue};
 ghost use Rattle.std.specs.List.{All};
 ghost use Rattle.aes3_cell.specs.Ends.{Grew, GrewFront, Told};
 ghost use Rattle.aes3_cell.specs.Written.{written};
 ghost use Rattle.aes3_cell.specs.declared.level.Level.{Level};
 ghost use Rattle.aes3_block.specs.Blocks.{IsBlock, stream};
 ghost use Rattle.aes3_block.specs.Files.{file, IsBlockFile, file_blocks};
-ghost use Rattle.aes3_block.specs.Readers.{TakesQuietly};
+ghost use Rattle.aes3_block.specs.Readers.{TakesBlock, TakesQuietly};
 ghost use Rattle.aes3_lock.specs.Reports.{blocks, normal};
 ghost use Rattle.aes3_engine.specs.Encoding.{Encodes, IsCauseOf, WholeFile, encode_counts, encoded, encoding};
-ghost use Rattle.aes3_engine.specs.Running.{PieceRan, movement_of};
+ghost use Rattle.aes3_engine.specs.Running.{FrontRan, PieceRan, movement_of};
 
 use crate::conversion::{Input, convert};
-use aes3_block::{BLOCK_CELLS, BlockFile, put_block};
+use aes3_block::{BLOCK_BYTES, BLOCK_CELLS, Block, BlockFile, put_block};
 use aes3_cell::{Counts, Form, Level, RunError, Sink, Source, put_ending};
 
 /// Writes the cells of each block in a form, and counts the blocks.
@@ -61,6 +61,41 @@ fn feed_front(file: &mut BlockFile, piece: &[u8]) -> bool
     }
 }
 
+/// Takes the bytes of a whole block that a piece begins with, where a reader takes them as one.
+fn feed_block(file: &mut BlockFile, piece: &[u8]) -> Option<Block>
+    requires { file.old.seen + length piece.now ≤ 2 ^ 40 }
+    ensures bound { IfSome result (λ _. BLOCK_BYTES ≤ length piece.now) }
+    ensures taken { IfSome result (λ block. TakesBlock file.old (take BLOCK_BYTES piece.now) block file.new) }
+    ensures left { result ≡ None → file.new ≡ file.old }
+{
+    match piece.first_chunk() {
+        Some(bytes) => file.feed_block(bytes),
+        None => None,
+    }
+}
+
+/// Takes a word's four bytes where they neither are a fault nor end a block, else one byte; answers how many.
+fn take_few<T: Sink>(
+    file: &mut BlockFile,
+    encoder: &mut Encoder,
+    sink: &mut T,
+    piece: &[u8],
+) -> Result<usize, RunError>
+    requires some { 0 < length piece.now }
+    requires room { T.failed sink.old + 1 < 2 ^ 64 }
+    requires following { (b : List ℕ) × (length b + length piece.now ≤ 2 ^ 40) × Encodes file.old encoder.old.blocks b }
+    ensures { FrontRan (encoding encoder.old.output) (encoding encoder.new.output) (Encodes file.old encoder.old.blocks) (Encodes file.new encoder.new.blocks) (λ b. encoder.new.blocks ≡ length (file_blocks b)) piece.now
+        (movement_of T.taken T.failed sink.old sink.new) result }
+{
+    if feed_front(file, piece) {
+        return Ok(4);
+    }
+    match take_byte(file, encoder, sink, piece[0]) {
+        Ok(()) => Ok(1),
+        Err(error) => Err(error),
+    }
+}
+
 impl Input<Encoder> for BlockFile {
     ghost follows = { λ file encoder. Encodes file encoder.blocks };
 
@@ -70,19 +105,22 @@ impl Input<Encoder> for BlockFile {
 
     ghost stopped = { λ _ encoder b. encoder.blocks ≡ length (file_blocks b) };
 
-    /// Takes a word's four bytes where they neither are a fault nor end a block, else one byte.
+    /// Takes the bytes of a whole block where none is begun and its words are lawful, else a word's or one.
     fn take_front<T: Sink>(
         &mut self,
         encoder: &mut Encoder,
         sink: &mut T,
         piece: &[u8],
     ) -> Result<usize, RunError> {
-        if feed_front(self, piece) {
-            return Ok(4);
-        }
-        match take_byte(self, encoder, sink, piece[0]) {
-            Ok(()) => Ok(1),
-            Err(error) => Err(error),
+        match feed_block(self, piece) {
+            Some(block) => match put_block(encoder.output, Level::Low, &block, sink) {
+                Ok(()) => {
+                    encoder.blocks += 1;
+                    Ok(BLOCK_BYTES)
+                }
+                Err(_) => Err(RunError::Write),
+            },
+            None => take_few(self, encoder, sink, piece),
         }
     }
 
