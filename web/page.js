@@ -285,7 +285,9 @@ class Reports {
         }
         this.places[this.count] = report.at;
         this.cells[this.count] = report.cell;
-        this.rest[this.count++] = report.kind | report.before << 3 | report.why << 4 | report.wrong << 6;
+        const why = report.kind === 3 ? report.why : 0;
+        const wrong = report.kind === 2 ? report.wrong : 0;
+        this.rest[this.count++] = report.kind | report.before << 3 | why << 4 | wrong << 6;
     }
 
     kind(i) {
