@@ -9,7 +9,7 @@ use Rattle.std.proofs.lemmas.Nat.{and_le_l, xor_lt, or_lt, mod_below, shr_le}
 use Rattle.std.proofs.lemmas.Simd.{get_or-zip2, length-zip2, get_or-chunk, get_or-put_chunk_below, get_or-put_chunk_at, get_or-replicate, length-replicate}
 use Rattle.aes3_slot.specs.declared.mark.Mark.TheVariants.{Z}
 use Rattle.aes3_slot.specs.Preambles.{begins_with, unlike_at, with_seven, words_with_seven, InLanes, MarksAreTold}
-use Rattle.aes3_slot.proofs.Windows.{Says, says-and, says-not, unlike-bit, block-begins}
+use Rattle.aes3_slot.proofs.Windows.{Says, says-and, says-not, unlike-bit, mark-begins}
 use Rattle.aes3_slot.proofs.WordMarks.{word-mark}
 
 says : {v : List ℕ} {p : ℕ → ℕ → Bool} (l : InLanes v p) (i k : ℕ) → i < 8 → k < 64 → Says (get_or v i 0) k (p i k)
@@ -85,7 +85,7 @@ pub block-lanes : {v : List ℕ} (cells next : List ℕ)
 block-lanes cells next a = record {
   count = a.count;
   fit = a.fit;
-  bits = λ i k h g. a.bits i k h g ∙ ap (λ b. if b then 1 else 0) (block-begins (get_or cells i 0) (get_or next i 0) k g);
+  bits = λ i k h g. a.bits i k h g ∙ ap (λ b. if b then 1 else 0) (mark-begins (get_or cells i 0) (get_or next i 0) k g Z);
 }
 
 -- eight more words are told

@@ -16,7 +16,7 @@ use Rattle.aes3_slot.specs.declared.mark.Mark.TheVariants.{X, Y, Z}
 use Rattle.aes3_slot.specs.Slots.{mark_runs}
 use Rattle.aes3_slot.specs.Reading.{same, differs}
 use Rattle.aes3_slot.specs.Rules.{at}
-use Rattle.aes3_slot.specs.Preambles.{same_cells, begins_with, begins_with_any, unlike_at, with_seven}
+use Rattle.aes3_slot.specs.Preambles.{same_cells, begins_with, unlike_at, with_seven}
 
 -- bit k says whether
 pub record Says (x k : ℕ) (p : Bool) : Type 0 where
@@ -183,6 +183,19 @@ and-true : (b : Bool) → (b && true) ≡ b
 and-true true = refl
 and-true false = refl
 
+and-last : (p q r h : Bool) → (h && (p && (q && r))) ≡ (p && (q && (r && h)))
+and-last p q r true = ap (λ x. p && (q && x)) (sym (and-true r))
+and-last false q r false = refl
+and-last true false r false = refl
+and-last true true false false = refl
+and-last true true true false = refl
+
+-- the cells in which the preambles differ
+abbrev pub apart : Mark → Bool → Bool → Bool → Bool
+apart X e f g = e && (f && not g)
+apart Y e f g = e && (not f && g)
+apart Z e f g = not e && (f && g)
+
 module _ (w n k : ℕ) (h : k < 64) where
   abbrev u : ℕ → Bool
   u d = unlike_at (with_seven w n) k d
@@ -197,46 +210,20 @@ module _ (w n k : ℕ) (h : k < 64) where
       window-tells m (drop k c) (omega (arith, l, s, h))
       ∙ rw (unlike-drop c k 1, unlike-drop c k 2, unlike-drop c k 3, unlike-drop c k 4, unlike-drop c k 5, unlike-drop c k 6, unlike-drop c k 7) refl
 
-  pub block-begins : (((not (u 1) && not (u 2)) && (u 3 && u 7))
-      && (not (u 4) && (u 5 && u 6))) ≡ begins_with Z (drop k (with_seven w n))
+  pub mark-begins : (m : Mark) → (((not (u 1) && not (u 2)) && (u 3 && u 7)) && apart m (u 4) (u 5) (u 6)) ≡ begins_with m (drop k (with_seven w n))
   unfolding tells
-  block-begins = go (u 1) (u 2) (u 3) (u 4) (u 5) (u 6) (u 7) ∙ sym (place-tells Z)
+  mark-begins m = go m (u 1) (u 2) (u 3) (u 4) (u 5) (u 6) (u 7) ∙ sym (place-tells m)
     where
-      go : (b c d e f g h : Bool) → (((not b && not c) && (d && h)) && (not e && (f && g))) ≡ tells Z b c d e f g h
-      go true c d e f g h = refl
-      go false true d e f g h = refl
-      go false false false e f g h = refl
-      go false false true e f g true = ap (λ x. not e && (f && x)) (sym (and-true g))
-      go false false true true f g false = refl
-      go false false true false false g false = refl
-      go false false true false true true false = refl
-      go false false true false true false false = refl
-
-  pub any-begins : (((not (u 1) && not (u 2)) && (u 3 && u 7))
-      && ((((u 4 && u 5) && not (u 6))
-      || ((u 4 && not (u 5)) && u 6))
-      || ((not (u 4) && u 5) && u 6))) ≡ begins_with_any (drop k (with_seven w n))
-  unfolding tells begins_with_any
-  any-begins = go (u 1) (u 2) (u 3) (u 4) (u 5) (u 6) (u 7) ∙ sym (ap₂ (λ x y. x || y) (place-tells X) (ap₂ (λ x y. x || y) (place-tells Y) (place-tells Z)))
-    where
-      go : (b c d e f g h : Bool) → (((not b && not c) && (d && h)) && ((((e && f) && not g) || ((e && not f) && g)) || ((not e && f) && g)))
-          ≡ (tells X b c d e f g h || (tells Y b c d e f g h || tells Z b c d e f g h))
-      go true c d e f g h = refl
-      go false true d e f g h = refl
-      go false false false e f g h = refl
-      go false false true true true true true = refl
-      go false false true true true false true = refl
-      go false false true true false true true = refl
-      go false false true true false false true = refl
-      go false false true false true true true = refl
-      go false false true false true false true = refl
-      go false false true false false true true = refl
-      go false false true false false false true = refl
-      go false false true true true true false = refl
-      go false false true true true false false = refl
-      go false false true true false true false = refl
-      go false false true true false false false = refl
-      go false false true false true true false = refl
-      go false false true false true false false = refl
-      go false false true false false true false = refl
-      go false false true false false false false = refl
+      go : (m : Mark) (b c d e f g h : Bool) → (((not b && not c) && (d && h)) && apart m e f g) ≡ tells m b c d e f g h
+      go X true c d e f g h = refl
+      go X false true d e f g h = refl
+      go X false false false e f g h = refl
+      go X false false true e f g h = and-last e f (not g) h
+      go Y true c d e f g h = refl
+      go Y false true d e f g h = refl
+      go Y false false false e f g h = refl
+      go Y false false true e f g h = and-last e (not f) g h
+      go Z true c d e f g h = refl
+      go Z false true d e f g h = refl
+      go Z false false false e f g h = refl
+      go Z false false true e f g h = and-last (not e) f g h

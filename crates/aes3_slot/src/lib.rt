@@ -13,5 +13,5 @@ pub use reading::{
     Place, begins_subframe, slot_bits, take_either, take_subframe, wrong_cells,
     wrong_cells_of_eight,
 };
-pub use search::{block_preambles, find_marks, preambles};
+pub use search::{MarkPlaces, block_preambles, find_marks, mark_places, preambles};
 pub use subframe::{SUBFRAME_CELLS, payload_parity, slots_cells, subframe_cells};

@@ -2,7 +2,7 @@
 
 ghost use Rattle.std.specs.Prelude.{◌≡◌, ℕ, ◌+◌, ◌*◌, ◌<◌, ◌≤◌, ◌&&◌, not, length, get_or, drop, slice_index_or, if◌then◌else◌};
 ghost use Rattle.std.specs.Int.{bit_at};
-ghost use Rattle.aes3_slot.specs.declared.mark.Mark.TheVariants.{Z};
+ghost use Rattle.aes3_slot.specs.declared.mark.Mark.TheVariants.{X, Y, Z};
 ghost use Rattle.aes3_slot.specs.Preambles.{begins_with, begins_with_any, unlike_at, with_seven, words_with_seven, InLanes, MarksAreTold};
 
 use std::simd::prelude::*;
@@ -36,17 +36,40 @@ pub fn block_preambles(cells: u64, next: u64) -> u64
         & (!unlike(cells, next, 4) & (unlike(cells, next, 5) & unlike(cells, next, 6)))
 }
 
+/// Where each preamble begins in 64 cells, in either polarity, each such cell a one.
+#[derive(Clone, Copy, PartialEq, Eq, Debug)]
+pub struct MarkPlaces {
+    /// Those of X.
+    pub x: u64,
+    /// Those of Y.
+    pub y: u64,
+    /// Those of Z.
+    pub z: u64,
+}
+
+/// Where each preamble begins; the cells are those of `block_preambles`.
+pub fn mark_places(cells: u64, next: u64) -> MarkPlaces
+    ensures x { (k : ℕ) → k < 64 → bit_at result.x k ≡ (if begins_with X (drop k (with_seven cells next)) then 1 else 0) }
+    ensures y { (k : ℕ) → k < 64 → bit_at result.y k ≡ (if begins_with Y (drop k (with_seven cells next)) then 1 else 0) }
+    ensures z { (k : ℕ) → k < 64 → bit_at result.z k ≡ (if begins_with Z (drop k (with_seven cells next)) then 1 else 0) }
+{
+    let begun = beginnings(cells, next);
+    let fifth = unlike(cells, next, 4);
+    let sixth = unlike(cells, next, 5);
+    let seventh = unlike(cells, next, 6);
+    MarkPlaces {
+        x: begun & (fifth & (sixth & !seventh)),
+        y: begun & (fifth & (!sixth & seventh)),
+        z: begun & (!fifth & (sixth & seventh)),
+    }
+}
+
 /// Where a preamble begins, in either polarity, each such cell a one; the cells are those of `block_preambles`.
 pub fn preambles(cells: u64, next: u64) -> u64
     ensures { (k : ℕ) → k < 64 → bit_at result k ≡ (if begins_with_any (drop k (with_seven cells next)) then 1 else 0) }
 {
-    let fifth = unlike(cells, next, 4);
-    let sixth = unlike(cells, next, 5);
-    let seventh = unlike(cells, next, 6);
-    let x = fifth & sixth & !seventh;
-    let y = fifth & !sixth & seventh;
-    let z = !fifth & sixth & seventh;
-    beginnings(cells, next) & (x | y | z)
+    let places = mark_places(cells, next);
+    places.x | (places.y | places.z)
 }
 
 /// `unlike` of eight words at once, each with the cells behind it.
