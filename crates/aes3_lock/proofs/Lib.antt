@@ -17,6 +17,7 @@ pub mod PushedWords
 pub mod EightWords
 pub mod Scanning
 pub mod QuietScans
+pub mod MarkBits
 pub mod Walking
 pub mod Viability
 pub mod Endings

@@ -22,7 +22,7 @@ use Rattle.aes3_lock.proofs.QuietWords.{says-no, says-yes, below-trailing, ends-
 use Rattle.aes3_lock.proofs.Scanning.{ended-short, ended-long, marks-last}
 
 -- whether a preamble begins
-first-none : (c : List Level) → begins_with_any c ≡ false → first_mark c ≡ None
+pub first-none : (c : List Level) → begins_with_any c ≡ false → first_mark c ≡ None
 unfolding begins_with_any first_mark
 first-none c = go (begins_with X c) (begins_with Y c) (begins_with Z c) (X, entry c) (Y, entry c) (Z, entry c)
   where

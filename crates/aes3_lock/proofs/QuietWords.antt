@@ -24,7 +24,7 @@ use Rattle.aes3_lock.proofs.SubframeWords.{take-low, take-word}
 use Rattle.aes3_lock.proofs.Following.{closed, drop-push, push-none}
 
 -- a property of eight cells that end with cell i of the cells d
-pub window : (q : List Level → Bool) → ((x y : List Level) → 8 ≤ length x → q (x ++ y) ≡ q x) → (c d : List Level) (i : ℕ) → i < length d
+pub window : {A : Type 0} (q : List Level → A) → ((x y : List Level) → 8 ≤ length x → q (x ++ y) ≡ q x) → (c d : List Level) (i : ℕ) → i < length d
     → q (drop i (drop 1 (last_eight c) ++ d)) ≡ q (last_eight (c ++ take (suc i) d))
 window q stays c d i g =
     ap q parts ∙ stays (drop (suc i) (last_eight c ++ take (suc i) d)) (drop (suc i) d) (omega (arith, r, a, k, m, g))

@@ -17,7 +17,7 @@ use Rattle.aes3_slot.proofs.Beginnings.{begins-short, begins-append, entry-appen
 use Rattle.aes3_lock.proofs.LastEight.{length-last_eight, last_eight-is, last_eight-more}
 
 -- cells behind the eighth count for nothing
-first_mark-append : (c d : List Level) → 8 ≤ length c → first_mark (c ++ d) ≡ first_mark c
+pub first_mark-append : (c d : List Level) → 8 ≤ length c → first_mark (c ++ d) ≡ first_mark c
 unfolding first_mark
 first_mark-append c d h =
     let x = begins-append X c d h in

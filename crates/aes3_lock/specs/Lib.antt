@@ -4,6 +4,7 @@ pub mod Reports
 pub mod Preambles
 pub mod Steps
 pub mod Following
+pub mod MarkBits
 pub mod Standing
 pub mod Pieces
 pub mod Damage

@@ -13,6 +13,7 @@ mod rule;
 mod scan;
 mod slow;
 mod subframe;
+mod word_marks;
 
 pub use candidate::Candidate;
 pub use lock::Lock;
@@ -20,3 +21,4 @@ pub use parts::LockParts;
 pub use report::{Ending, Pushed, Report, Why};
 pub use scan::Scan;
 pub use slow::reports_of;
+pub use word_marks::WordMarks;

@@ -1,6 +1,7 @@
 //! The scan.
 use crate::recent::{PREAMBLE_CELLS, with_cell};
 use crate::subframe::{completed, last_behind, rest_of};
+use crate::word_marks::WordMarks;
 use aes3_cell::Level;
 use aes3_slot::{Mark, match_mark, preambles};
 use std::marker::Model;
@@ -24,7 +25,7 @@ impl Model for Scan {
 }
 
 ghost use Rattle.std.specs.Prelude.{◌≡◌, ◌<◌, ◌≤◌, ◌+◌, ◌^◌, None, List, [], ◌∷◌, ◌++◌, drop, length, option_to_list};
-ghost use Rattle.aes3_cell.specs.Words.{low_cells};
+ghost use Rattle.aes3_cell.specs.Words.{low_cells, word_cells};
 ghost use Rattle.aes3_lock.specs.Steps.{ended_mark};
 ghost use Rattle.aes3_cell.specs.declared.level.Level.{Level};
 ghost use Rattle.aes3_lock.specs.Preambles.{marks};
@@ -103,6 +104,22 @@ impl Scan {
         let taken = (quiet + 1 + further).min(len);
         self.pass(word, taken);
         (taken, found)
+    }
+
+    /// Takes the 64 cells of a word, the first of all in the lowest bit, and answers the preambles that end in them.
+    ///
+    /// It is `push` for each of these cells.
+    pub fn take_word(&mut self, word: u64) -> WordMarks
+        requires { self.old.seen + 64 ≤ 2 ^ 43 }
+        ensures follows { (cells : List Level) → ScanFollows self.old cells
+            → ScanFollows self.new (cells ++ word_cells word) }
+        ensures marks { (cells : List Level) → ScanFollows self.old cells
+            → marks (cells ++ word_cells word) ≡ marks cells ++ result }
+    {
+        let cells = completed(u64::from(self.recent >> 1), PREAMBLE_CELLS - 1, word);
+        let found = WordMarks::new(self.seen, cells, rest_of(word, PREAMBLE_CELLS - 1));
+        self.pass(word, u64::BITS);
+        found
     }
 
     /// Takes the first `len` cells of a word.

@@ -48,7 +48,7 @@ says-not {x} {k} {p} h g e = record { is = bit_at_not w64 x k h g ∙ ap (λ b. 
     go false = refl
 
 -- cell k of a word and seven behind it
-seven-below : (w n k : ℕ) → k < 64 → at (with_seven w n) k ≡ level_of (bit_at w k)
+pub seven-below : (w n k : ℕ) → k < 64 → at (with_seven w n) k ≡ level_of (bit_at w k)
 unfolding with_seven word_cells word_len
 seven-below w n k h =
     get_or_append_left (low_cells 64 w) (low_cells 7 n) Low k (let l = length-low_cells 64 w in omega (arith, l, h)) ∙ low_cells-at 64 w k h
