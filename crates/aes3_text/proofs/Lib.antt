@@ -2,6 +2,7 @@ pub mod Tables
 pub mod RunLines
 pub mod StatusChanges
 pub mod Scans
+pub mod Gathering
 pub mod StatusFlips
 pub mod GapLemmas
 pub mod ReportPlaces

@@ -1,8 +1,8 @@
 -- The line of a preamble, made in an array.
-use Rattle.std.proofs.Common.{◌≡◌, ℕ, ◌+◌, ◌*◌, ◌/◌, ◌%◌, ◌^◌, ◌<◌, ◌≤◌, List, [], ◌∷◌, ◌++◌, length, take, refl, sym, ap, ap₂, ◌∙◌, arith, append_assoc, length-append}
+use Rattle.std.proofs.Common.{◌≡◌, ℕ, ◌+◌, ◌*◌, ◌/◌, ◌%◌, ◌^◌, ◌<◌, ◌≤◌, List, [], ◌∷◌, ◌++◌, length, take, refl, sym, ap, ap₂, ◌∙◌, arith, append_assoc, length-append, length-take, min}
 use Rattle.std.specs.Prelude.{codes, decimal}
 use Rattle.std.proofs.lemmas.List.{take_at, drop_at, take-append-le}
-use Rattle.std.proofs.lemmas.Slice.{take-put_mid}
+use Rattle.std.proofs.lemmas.Slice.{take-put_mid, take-put_mid_below}
 use Rattle.std.proofs.Math.Seq.{take-add}
 use Rattle.itoa.proofs.Decimal.{pair, decimal_four}
 use Rattle.aes3_cell.specs.declared.level.Level.{Level}
@@ -12,30 +12,59 @@ use Rattle.aes3_slot.specs.declared.mark.Mark.TheVariants.{X, Y, Z}
 use Rattle.aes3_text.specs.Lines.{level_digit, mark_beginning, mark_ending, mark_line}
 use borrow.Rule.Slice.PartMut.{put_mid, post_of}
 
--- b of ten bytes, then the first of t, then e
-pub made : (b z t e : List ℕ) (len n k : ℕ) → length b ≡ 10 → length t ≡ 16 → len ≤ 16 → n ≡ 10 + len + length e
-    → take n (put_mid (10 + len) k (put_mid 10 16 (b ++ z) t) e) ≡ (b ++ take len t) ++ e
-made b z t e len n k hb ht few h =
-    take-put_mid (10 + len) k (put_mid 10 16 (b ++ z) t) e n h (omega (arith, long, front10, rest, hb, ht, few)) ∙ ap (λ x. x ++ e) front
+-- bytes put over a part of others: a front, and one that ends in them
+front-put : (x y : List ℕ) (a k : ℕ) → a ≤ length x → take a (put_mid a k x y) ≡ take a x
+front-put x y a k h = take-put_mid_below a k x y a (omega arith) h
+
+pub part-put : (x y : List ℕ) (a k n : ℕ) → a ≤ length x → n ≤ length y → take (a + n) (put_mid a k x y) ≡ take a x ++ take n y
+part-put x y a k n h g =
+    let l = length-take a x in
+    take-add a n (put_mid a k x y)
+    ∙ ap₂ (λ u v. u ++ take n v) (front-put x y a k h) (drop_at (take a x) (y ++ post_of a k x) a (omega (arith, l, h)))
+    ∙ ap (λ v. take a x ++ v) (take-append-le n y (post_of a k x) g)
+
+put-next : (x f y : List ℕ) (a k n : ℕ) → take a x ≡ f → length f ≡ a → n ≡ a + length y → take n (put_mid a k x y) ≡ f ++ y
+put-next x f y a k n e l h =
+    let m = length-take a x in
+    let q = ap length e in
+    take-put_mid a k x y n h (omega (arith, m, q, l)) ∙ ap (λ v. v ++ y) e
+
+-- b of ten bytes, then the first of t, then the others
+pub made : (b z t p q e : List ℕ) (len i j k n : ℕ) → length b ≡ 10 → length t ≡ 16 → len ≤ 16 → length p ≡ 2 → length q ≡ 2 → n ≡ 10 + len + 4 + length e
+    → take n (put_mid (10 + len + 4) k (put_mid (10 + len + 2) j (put_mid (10 + len) i (put_mid 10 16 (b ++ z) t) p) q) e) ≡ (b ++ take len t) ++ (p ++ (q ++ e))
+made b z t p q e len i j k n hb ht few hp hq h =
+    put-next (put_mid (10 + len + 2) j (put_mid (10 + len) i x p) q) ((f ++ p) ++ q) e (10 + len + 4) k n third (omega (arith, lf, lp, lq, lt, hb, ht, hp, hq, few)) h
+    ∙ append_assoc (f ++ p) q e ∙ append_assoc f p (q ++ e)
   where
-    begun : take 10 (b ++ z) ≡ b
-    begun = take_at b z 10 hb
+    x : List ℕ
+    x = put_mid 10 16 (b ++ z) t
 
-    front10 : length (take 10 (b ++ z)) ≡ length b
-    front10 = ap length begun
+    f : List ℕ
+    f = b ++ take len t
 
-    long : length (put_mid 10 16 (b ++ z) t) ≡ length (take 10 (b ++ z)) + length (t ++ post_of 10 16 (b ++ z))
-    long = length-append (take 10 (b ++ z)) (t ++ post_of 10 16 (b ++ z))
+    lb : length (b ++ z) ≡ length b + length z
+    lb = length-append b z
 
-    rest : length (t ++ post_of 10 16 (b ++ z)) ≡ length t + length (post_of 10 16 (b ++ z))
-    rest = length-append t (post_of 10 16 (b ++ z))
+    lt : length (take len t) ≡ min len (length t)
+    lt = length-take len t
 
-    front : take (10 + len) (put_mid 10 16 (b ++ z) t) ≡ b ++ take len t
-    front =
-        ap (λ x. take (10 + len) (x ++ (t ++ post_of 10 16 (b ++ z)))) begun
-        ∙ take-add 10 len (b ++ (t ++ post_of 10 16 (b ++ z)))
-        ∙ ap₂ (λ x y. x ++ take len y) (take_at b (t ++ post_of 10 16 (b ++ z)) 10 hb) (drop_at b (t ++ post_of 10 16 (b ++ z)) 10 hb)
-        ∙ ap (λ x. b ++ x) (take-append-le len t (post_of 10 16 (b ++ z)) (omega (arith, ht, few)))
+    lf : length (b ++ take len t) ≡ length b + length (take len t)
+    lf = length-append b (take len t)
+
+    lp : length ((b ++ take len t) ++ p) ≡ length (b ++ take len t) + length p
+    lp = length-append (b ++ take len t) p
+
+    lq : length (((b ++ take len t) ++ p) ++ q) ≡ length ((b ++ take len t) ++ p) + length q
+    lq = length-append ((b ++ take len t) ++ p) q
+
+    first : take (10 + len) (put_mid 10 16 (b ++ z) t) ≡ b ++ take len t
+    first = part-put (b ++ z) t 10 16 len (omega (arith, lb, hb)) (omega (arith, ht, few)) ∙ ap (λ v. v ++ take len t) (take_at b z 10 hb)
+
+    second : take (10 + len + 2) (put_mid (10 + len) i (put_mid 10 16 (b ++ z) t) p) ≡ (b ++ take len t) ++ p
+    second = put-next x f p (10 + len) i (10 + len + 2) first (omega (arith, lf, lt, hb, ht, few)) (omega (arith, hp))
+
+    third : take (10 + len + 4) (put_mid (10 + len + 2) j (put_mid (10 + len) i (put_mid 10 16 (b ++ z) t) p) q) ≡ ((b ++ take len t) ++ p) ++ q
+    third = put-next (put_mid (10 + len) i x p) (f ++ p) q (10 + len + 2) j (10 + len + 4) second (omega (arith, lp, lf, lt, hb, ht, hp, few)) (omega (arith, hq))
 
 -- a number's text by its upper digits and its last four
 upper-last : (upper last : ℕ) → 0 < upper → last < 10000 → 10000 * upper + last < 2 ^ 64

@@ -72,6 +72,10 @@ pub scanned-mark : {scan new : ScanState} {count : ℕ} {c : List Level} (d : Li
     → Scanned new (count + 1) (c ++ d)
 scanned-mark {c} d m h f e = record { follows = f; count_is = (let n = h.count_is in let k = ap length e in let a = length-append (marks c) (m ∷ []) in omega arith) }
 
+pub scanned-marks : {scan new : ScanState} {count n : ℕ} {c : List Level} (d : List Level) (m : List (ℕ × Mark × Level)) → Scanned scan count c → ScanFollows new (c ++ d) → marks (c ++ d) ≡ marks c ++ m
+    → n ≡ count + length m → Scanned new n (c ++ d)
+scanned-marks {c = c} d m h f e s = record { follows = f; count_is = (let n = h.count_is in let k = ap length e in let a = length-append (marks c) m in omega arith) }
+
 pub scanned-none : {scan new : ScanState} {count : ℕ} {c : List Level} (d : List Level) → Scanned scan count c → ScanFollows new (c ++ d) → marks (c ++ d) ≡ marks c ++ []
     → Scanned new count (c ++ d)
 scanned-none {c} d h f e = record { follows = f; count_is = h.count_is ∙ sym (ap length (e ∙ append-nil (marks c))) }

@@ -6,6 +6,7 @@ pub mod Professional
 pub mod Consumer
 pub mod StatusLines
 pub mod Runs
+pub mod Gathering
 pub mod Laws
 pub mod GapLaws
 pub mod Settings

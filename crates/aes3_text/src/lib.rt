@@ -9,6 +9,7 @@ mod choices;
 mod consumer;
 mod fields;
 mod gap;
+mod gathered;
 pub mod laws;
 mod ledger;
 mod line;

@@ -1,13 +1,19 @@
 //! The line of a preamble.
 
-ghost use Rattle.std.specs.Prelude.{◌≡◌, ◌<◌, ◌≤◌, ◌+◌, ◌*◌, ◌/◌, ◌%◌, ◌^◌, ◌∷◌, decimal, take};
+ghost use Rattle.std.specs.Prelude.{◌≡◌, ◌<◌, ◌≤◌, ◌+◌, ◌*◌, ◌/◌, ◌%◌, ◌^◌, ◌++◌, ◌∷◌, [], codes, decimal, length, take};
 ghost use Rattle.aes3_cell.specs.Writes.{Wrote};
-ghost use Rattle.aes3_text.specs.Lines.{mark_beginning, mark_ending, mark_letter, mark_line};
+ghost use Rattle.aes3_text.specs.Lines.{level_digit, mark_beginning, mark_ending, mark_letter, mark_line};
 
 use crate::line::Line;
-use aes3_cell::{Fault, Level, Sink, write_all};
+use aes3_cell::{Fault, Level, Sink};
 use aes3_slot::Mark;
 use itoa::Buffer;
+
+/// How many bytes a preamble's line has at most.
+pub(crate) const MARK_LEN: usize = 40;
+
+/// From here on a number has digits before its last four.
+pub(crate) const LONG: u64 = 10_000;
 
 /// How many digits a number has at most, but for its last four.
 const UPPER_LEN: usize = 16;
@@ -15,25 +21,45 @@ const UPPER_LEN: usize = 16;
 /// A number's digits but the last four: lines whose numbers differ in those alone share them.
 #[derive(Drop)]
 pub(crate) struct UpperDigits {
-    pub(crate) number: u64,
+    number: u64,
+    /// The least number with these digits.
+    first: u64,
     text: [u8; UPPER_LEN],
     len: usize,
+    ghost some: { 0 < number },
+    ghost first_is: { first ≡ 10000 * number },
     ghost few: { len ≤ 16 },
     ghost digits: { take len text ≡ decimal number },
 }
 
 impl UpperDigits {
-    /// The digits of a number.
+    /// The digits of a number that has some before its last four.
     pub(crate) fn new(number: u64) -> Self
-        requires { number < 10 ^ 16 }
-        ensures { result.number ≡ number }
+        requires { 10000 ≤ number }
+        ensures { result.number ≡ number / 10000 }
     {
+        let number = number / LONG;
         let mut buffer = Buffer::new();
         let digits = buffer.format(number).as_bytes();
         let mut text = [0; UPPER_LEN];
         let len = digits.len();
         text[..len].copy_from_slice(digits);
-        UpperDigits { number, text, len }
+        UpperDigits {
+            number,
+            first: LONG * number,
+            text,
+            len,
+        }
+    }
+
+    /// Makes them those of a number that has some before its last four.
+    pub(crate) fn renew(&mut self, number: u64)
+        requires { 10000 ≤ number }
+        ensures { self.new.number ≡ number / 10000 }
+    {
+        if number < self.first || number - self.first >= LONG {
+            *self = UpperDigits::new(number);
+        }
     }
 }
 
@@ -48,13 +74,10 @@ fn letter(mark: Mark) -> &'static str
     }
 }
 
-/// Writes the line of a preamble at cell `at` after the level `before` as one buffer.
-///
-/// # Errors
-/// The sink's fault; then it has taken a front of the line.
-pub fn line_of_mark<T: Sink>(at: u64, mark: Mark, before: Level, sink: &mut T) -> Result<(), Fault>
-    requires room { T.failed sink.old + 1 < 2 ^ 64 }
-    ensures { Wrote T.taken T.failed sink.old sink.new (mark_line at mark before) result }
+/// The line of a preamble at cell `at` after the level `before`, without its line feed.
+pub(crate) fn text_of_mark(at: u64, mark: Mark, before: Level) -> Line
+    ensures text { result ≡ codes "mark " ++ mark_letter mark ++ codes " at " ++ decimal at ++ codes " before " ++ level_digit before }
+    ensures len { length result < MARK_LEN }
 {
     let mut line = Line::new();
     line.text("mark ");
@@ -63,6 +86,18 @@ pub fn line_of_mark<T: Sink>(at: u64, mark: Mark, before: Level, sink: &mut T) -
     line.number(at);
     line.text(" before ");
     line.level(before);
+    line
+}
+
+/// Writes the line of a preamble at cell `at` after the level `before` as one buffer.
+///
+/// # Errors
+/// The sink's fault; then it has taken a front of the line.
+pub fn line_of_mark<T: Sink>(at: u64, mark: Mark, before: Level, sink: &mut T) -> Result<(), Fault>
+    requires room { T.failed sink.old + 1 < 2 ^ 64 }
+    ensures { Wrote T.taken T.failed sink.old sink.new (mark_line at mark before) result }
+{
+    let mut line = text_of_mark(at, mark, before);
     line.end(sink)
 }
 
@@ -77,74 +112,44 @@ fn beginning(mark: Mark) -> &'static [u8; 10]
     }
 }
 
-/// The last four digits of a number, and what stands behind it in a preamble's line.
-fn ending(last: u64, before: Level) -> [u8; 14]
-    requires { last < 10_000 }
-    ensures { result ≡ (48 + last / 100 / 10) ∷ (48 + last / 100 % 10) ∷ (48 + last % 100 / 10) ∷ (48 + last % 100 % 10) ∷ mark_ending before }
+/// What stands behind the number in it.
+fn ending(before: Level) -> &'static [u8; 10]
+    ensures { result.now ≡ mark_ending before }
 {
-    let level = match before {
-        Level::Low => b'0',
-        Level::High => b'1',
-    };
-    [
-        b'0' + (last / 100 / 10) as u8,
-        b'0' + (last / 100 % 10) as u8,
-        b'0' + (last % 100 / 10) as u8,
-        b'0' + (last % 100 % 10) as u8,
-        b' ',
-        b'b',
-        b'e',
-        b'f',
-        b'o',
-        b'r',
-        b'e',
-        b' ',
-        level,
-        b'\n',
-    ]
+    match before {
+        Level::Low => b" before 0\n",
+        Level::High => b" before 1\n",
+    }
 }
 
-/// How many bytes a preamble's line is made in.
-const MADE_LEN: usize = 40;
-
-/// The line of a preamble whose number has these digits before its last four, and how many bytes it has.
-fn made_line(upper: &UpperDigits, last: u64, mark: Mark, before: Level) -> ([u8; MADE_LEN], usize)
-    requires some { 0 < upper.now.number }
-    requires fits { 10_000 * upper.now.number + last < 2 ^ 64 }
-    requires last { last < 10_000 }
-    ensures len { result.1 ≤ MADE_LEN }
-    ensures line { take result.1 result.0 ≡ mark_line (10_000 * upper.now.number + last) mark before }
+/// Two digits of a number.
+fn two_digits(number: u32) -> [u8; 2]
+    requires { number < 100 }
+    ensures { result ≡ (48 + number / 10) ∷ (48 + number % 10) ∷ [] }
 {
-    let mut line = [0; MADE_LEN];
-    line[..10].copy_from_slice(beginning(mark));
-    line[10..26].copy_from_slice(&upper.text);
-    let end = 10 + upper.len;
-    line[end..end + 14].copy_from_slice(&ending(last, before));
-    (line, end + 14)
+    [b'0' + (number / 10) as u8, b'0' + (number % 10) as u8]
 }
 
-/// Writes the line of a preamble as `line_of_mark` does, with the digits of the line before where they are the same but for
-/// the last four; then it keeps the new ones.
-///
-/// # Errors
-/// The sink's fault; then it has taken a front of the line.
-pub(crate) fn put_mark<T: Sink>(
-    upper: &mut UpperDigits,
+/// Puts the line of a preamble at cell `at`, whose number begins with these digits, and answers how many bytes it has.
+pub(crate) fn put_mark(
+    line: &mut [u8],
+    upper: &UpperDigits,
     at: u64,
     mark: Mark,
     before: Level,
-    sink: &mut T,
-) -> Result<(), Fault>
-    requires room { T.failed sink.old + 1 < 2 ^ 64 }
-    ensures { Wrote T.taken T.failed sink.old sink.new (mark_line at mark before) result }
+) -> usize
+    requires room { length line.old ≡ MARK_LEN }
+    requires upper { upper.now.number ≡ at / 10000 }
+    ensures same { length line.new ≡ MARK_LEN }
+    ensures len { result ≤ MARK_LEN }
+    ensures line { take result line.new ≡ mark_line at mark before }
 {
-    let number = at / 10_000;
-    if number == 0 {
-        return line_of_mark(at, mark, before, sink);
-    }
-    if number != upper.number {
-        *upper = UpperDigits::new(number);
-    }
-    let (line, len) = made_line(upper, at % 10_000, mark, before);
-    write_all(sink, &line[..len])
+    let last = (at - upper.first) as u32;
+    let end = 10 + upper.len;
+    line[..10].copy_from_slice(beginning(mark));
+    line[10..26].copy_from_slice(&upper.text);
+    line[end..end + 2].copy_from_slice(&two_digits(last / 100));
+    line[end + 2..end + 4].copy_from_slice(&two_digits(last % 100));
+    line[end + 4..end + 14].copy_from_slice(ending(before));
+    end + 14
 }

@@ -1,61 +1,150 @@
 //! Preambles, line by line.
 
-ghost use Rattle.std.specs.Prelude.{◌≡◌, ℕ, ◌+◌, ◌<◌, ◌≤◌, ◌^◌, List, [], IfOk};
-ghost use Rattle.aes3_cell.specs.Ends.{Grew, Told};
+ghost use Rattle.std.specs.Prelude.{◌≡◌, ℕ, ◌+◌, ◌<◌, ◌≤◌, ◌^◌, ◌++◌, List, [], length, IfOk, OnErr};
+ghost use Rattle.aes3_cell.specs.Ends.{Grew, GrewFront, Told};
+ghost use Rattle.aes3_cell.specs.Words.{word_cells};
 ghost use Rattle.aes3_cell.specs.Writes.{Wrote};
+ghost use Rattle.aes3_cell.specs.declared.level.Level.{Level};
 ghost use Rattle.aes3_lock.specs.Preambles.{marks};
 ghost use Rattle.aes3_engine.specs.CellRuns.{CellRun};
 ghost use Rattle.aes3_engine.specs.Inputs.{cells_of};
 ghost use Rattle.aes3_engine.specs.Running.{movement_of};
+ghost use Rattle.aes3_engine.specs.Taking.{behind};
+ghost use Rattle.aes3_text.specs.Gathering.{AllButHeld};
 ghost use Rattle.aes3_text.specs.Lines.{mark_line};
 ghost use Rattle.aes3_text.specs.Runs.{Scanned, mark_lines, marking, scan_counts};
 
-use crate::mark::{UpperDigits, put_mark};
+use crate::gathered::{GATHERED_LEN, GatheredLines};
+use crate::mark::MARK_LEN;
 use aes3_cell::{Counts, Fault, Form, Level, RunError, Sink, Source};
 use aes3_engine::{Taker, drive};
-use aes3_lock::Scan;
+use aes3_lock::{Scan, WordMarks};
 use aes3_slot::Mark;
 
-/// Writes the line of each preamble, and counts them.
+/// Writes the line of each preamble, and counts them. Between its calls it holds no line.
 #[derive(Drop)]
 struct MarkLines {
     scan: Scan,
     marks: u64,
-    /// The digits of the latest line's number.
-    upper: UpperDigits,
+    lines: GatheredLines,
 }
 
 impl MarkLines {
     /// A taker that has taken no cell.
     fn new() -> Self
-        ensures { Scanned result.scan result.marks [] }
+        ensures scanned { Scanned result.scan result.marks [] }
+        ensures lines { result.lines ≡ [] }
     {
         MarkLines {
             scan: Scan::new(),
             marks: 0,
-            upper: UpperDigits::new(0),
+            lines: GatheredLines::new(),
         }
     }
 
-    /// Writes the line of a preamble that the scan told, and counts it.
+    /// Counts a preamble that the scan told, and makes its line. It hands on the lines where a further one might not fit,
+    /// or where the sink would rather take each alone.
     ///
     /// # Errors
-    /// The sink's fault; then it has taken a front of the line.
+    /// The sink's fault; then it has taken a front of the lines.
     fn tell<T: Sink>(&mut self, sink: &mut T, found: (u64, Mark, Level)) -> Result<(), Fault>
+        requires fits { length self.old.lines + MARK_LEN ≤ GATHERED_LEN }
         requires room { T.failed sink.old + 1 < 2 ^ 64 }
         requires few { self.old.marks + 1 < 2 ^ 64 }
         ensures scan { self.new.scan ≡ self.old.scan }
         ensures marks { self.new.marks ≡ self.old.marks + 1 }
+        ensures fits { IfOk result (λ _. length self.new.lines + MARK_LEN ≤ GATHERED_LEN) }
+        ensures wrote { IfOk result (λ _. AllButHeld (T.taken sink.old) (T.taken sink.new) self.old.lines self.new.lines (mark_line found.0 found.1 found.2)) }
+        ensures count { IfOk result (λ _. T.failed sink.new ≡ T.failed sink.old) }
+        ensures err { OnErr result ((T.failed sink.new ≡ T.failed sink.old + 1)
+            × GrewFront (T.taken sink.old) (T.taken sink.new) (self.old.lines ++ mark_line found.0 found.1 found.2)) }
+    {
+        self.marks += 1;
+        self.lines.push(found.0, found.1, found.2);
+        if sink.takes_much() && !self.lines.is_full() {
+            return Ok(());
+        }
+        match self.lines.hand_on(sink) {
+            Ok(()) => Ok(()),
+            Err(fault) => Err(fault),
+        }
+    }
+
+    /// Writes the line of a preamble that the scan told at once, and counts it.
+    ///
+    /// # Errors
+    /// The sink's fault; then it has taken a front of the line.
+    fn tell_alone<T: Sink>(&mut self, sink: &mut T, found: (u64, Mark, Level)) -> Result<(), Fault>
+        requires none { self.old.lines ≡ [] }
+        requires room { T.failed sink.old + 1 < 2 ^ 64 }
+        requires few { self.old.marks + 1 < 2 ^ 64 }
+        ensures scan { self.new.scan ≡ self.old.scan }
+        ensures marks { self.new.marks ≡ self.old.marks + 1 }
+        ensures none { IfOk result (λ _. self.new.lines ≡ []) }
         ensures wrote { Wrote T.taken T.failed sink.old sink.new
             (mark_line found.0 found.1 found.2) result }
     {
         self.marks += 1;
-        put_mark(&mut self.upper, found.0, found.1, found.2, sink)
+        self.lines.push(found.0, found.1, found.2);
+        match self.lines.hand_on(sink) {
+            Ok(()) => Ok(()),
+            Err(fault) => Err(fault),
+        }
+    }
+
+    /// Tells the preambles of a word.
+    ///
+    /// # Errors
+    /// The sink's fault; then it has taken a front of the lines.
+    fn tell_all<T: Sink>(&mut self, sink: &mut T, found: WordMarks) -> Result<(), Fault>
+        requires fits { length self.old.lines + MARK_LEN ≤ GATHERED_LEN }
+        requires room { T.failed sink.old + 1 < 2 ^ 64 }
+        requires few { self.old.marks + length found < 2 ^ 64 }
+        ensures scan { IfOk result (λ _. self.new.scan ≡ self.old.scan) }
+        ensures marks { IfOk result (λ _. self.new.marks ≡ self.old.marks + length found) }
+        ensures fits { IfOk result (λ _. length self.new.lines + MARK_LEN ≤ GATHERED_LEN) }
+        ensures wrote { IfOk result (λ _. AllButHeld (T.taken sink.old) (T.taken sink.new) self.old.lines self.new.lines (mark_lines found)) }
+        ensures count { IfOk result (λ _. T.failed sink.new ≡ T.failed sink.old) }
+        ensures err { OnErr result ((T.failed sink.new ≡ T.failed sink.old + 1)
+            × GrewFront (T.taken sink.old) (T.taken sink.new) (self.old.lines ++ mark_lines found)) }
+    {
+        let mut left = found;
+        while let Some(mark) = left.take_next() {
+            match self.tell(sink, mark) {
+                Ok(()) => {}
+                Err(fault) => return Err(fault),
+            }
+        }
+        Ok(())
+    }
+
+    /// Takes the cells of a word.
+    ///
+    /// # Errors
+    /// The sink's fault; then it has taken a front of the lines.
+    fn take_word<T: Sink>(&mut self, sink: &mut T, word: u64) -> Result<(), Fault>
+        requires fits { length self.old.lines + MARK_LEN ≤ GATHERED_LEN }
+        requires room { T.failed sink.old + 1 < 2 ^ 64 }
+        requires following { (c : List Level) × (length c + 64 ≤ 2 ^ 43) × Scanned self.old.scan self.old.marks c }
+        ensures next { IfOk result (λ _. (c : List Level) → Scanned self.old.scan self.old.marks c → Scanned self.new.scan self.new.marks (c ++ word_cells word)) }
+        ensures fits { IfOk result (λ _. length self.new.lines + MARK_LEN ≤ GATHERED_LEN) }
+        ensures wrote { IfOk result (λ _. (c : List Level) → Scanned self.old.scan self.old.marks c
+            → AllButHeld (T.taken sink.old) (T.taken sink.new) self.old.lines self.new.lines (behind marking c (word_cells word))) }
+        ensures count { IfOk result (λ _. T.failed sink.new ≡ T.failed sink.old) }
+        ensures err_count { OnErr result (T.failed sink.new ≡ T.failed sink.old + 1) }
+        ensures err_grew { OnErr result ((c : List Level) → Scanned self.old.scan self.old.marks c
+            → GrewFront (T.taken sink.old) (T.taken sink.new) (self.old.lines ++ behind marking c (word_cells word))) }
+    {
+        let found = self.scan.take_word(word);
+        match self.tell_all(sink, found) {
+            Ok(()) => Ok(()),
+            Err(fault) => Err(fault),
+        }
     }
 }
 
 impl Taker for MarkLines {
-    ghost follows = { λ k. Scanned k.scan k.marks };
+    ghost follows = { λ k c. (k.lines ≡ []) × Scanned k.scan k.marks c };
 
     ghost writes = { λ _. marking };
 
@@ -64,11 +153,24 @@ impl Taker for MarkLines {
     fn take_front<T: Sink>(&mut self, sink: &mut T, word: u64, len: u32) -> Result<u32, Fault> {
         let (taken, found) = self.scan.next_in(word, len);
         match found {
-            Some(found) => match self.tell(sink, found) {
+            Some(found) => match self.tell_alone(sink, found) {
                 Ok(()) => Ok(taken),
                 Err(fault) => Err(fault),
             },
             None => Ok(taken),
+        }
+    }
+
+    fn words<T: Sink>(&mut self, sink: &mut T, words: &[u64]) -> Result<(), Fault> {
+        for word in words.iter() {
+            match self.take_word(sink, *word) {
+                Ok(()) => {}
+                Err(fault) => return Err(fault),
+            }
+        }
+        match self.lines.hand_on(sink) {
+            Ok(()) => Ok(()),
+            Err(fault) => Err(fault),
         }
     }
 

@@ -14,14 +14,14 @@ pub next_in-taken-requires-clause-room : goal.next_in-taken-requires-clause-room
 next_in-taken-requires-clause-room g c =
     let q = c.requires.following in
     let l = q.1 in
-    let s = q.2.follows.seen in
+    let s = q.2.1.follows.seen in
     omega arith
 
-pub tell-requires-clause-few : goal.tell-requires-clause-few
-tell-requires-clause-few g c =
+pub tell_alone-requires-clause-few : goal.tell_alone-requires-clause-few
+tell_alone-requires-clause-few g c =
     let q = c.requires.following in
     let l = q.1 in
-    let s = q.2.count_is in
+    let s = q.2.1.count_is in
     let n = few-marks q.0 in
     omega arith
 
@@ -35,11 +35,13 @@ returns-in-Ok g c =
         p.within,
         (
           refl,
-          (λ d h.
-              subst (λ k. Scanned k c.tell.new.self.marks (d ++ b)) (sym c.tell.ensures.scan)
-              (subst (λ m. Scanned c.next_in-taken.new.self m (d ++ b)) (sym c.tell.ensures.marks)
-              (scanned-mark b c.in-Some.found h (p.follows d h.follows) (p.mark d h.follows ∙ ap (λ o. marks d ++ option_to_list o) c.in-Some.is)))),
-          (λ d h. told-grew _ _ d b c.in-Some.found (p.mark d h.follows ∙ ap (λ o. marks d ++ option_to_list o) c.in-Some.is) c.in-Ok.ensures.wrote.grew),
+          (λ d h. (
+            c.in-Ok.ensures.none,
+            subst (λ k. Scanned k c.tell_alone.new.self.marks (d ++ b)) (sym c.tell_alone.ensures.scan)
+                (subst (λ m. Scanned c.next_in-taken.new.self m (d ++ b)) (sym c.tell_alone.ensures.marks)
+                (scanned-mark b c.in-Some.found h.1 (p.follows d h.1.follows) (p.mark d h.1.follows ∙ ap (λ o. marks d ++ option_to_list o) c.in-Some.is))),
+          )),
+          (λ d h. told-grew _ _ d b c.in-Some.found (p.mark d h.1.follows ∙ ap (λ o. marks d ++ option_to_list o) c.in-Some.is) c.in-Ok.ensures.wrote.grew),
           c.in-Ok.ensures.wrote.count,
         ),
       );
@@ -56,7 +58,7 @@ returns-in-Err g c =
         c.in-Err.ensures.wrote.err.0,
         (λ d h.
             front-is (sym (ap (λ z. behind marking d z) (cells-parted c.args.word n c.args.len p.within) ∙ items-join marking d b rest))
-            (front-more (told-front _ _ d b c.in-Some.found (p.mark d h.follows ∙ ap (λ o. marks d ++ option_to_list o) c.in-Some.is) c.in-Err.ensures.wrote.err.1) _)),
+            (front-more (told-front _ _ d b c.in-Some.found (p.mark d h.1.follows ∙ ap (λ o. marks d ++ option_to_list o) c.in-Some.is) c.in-Err.ensures.wrote.err.1) _)),
       );
     }
 
@@ -70,8 +72,8 @@ returns-in-None g c =
         p.within,
         (
           refl,
-          (λ d h. scanned-none b h (p.follows d h.follows) (p.mark d h.follows ∙ ap (λ o. marks d ++ option_to_list o) c.in-None.is)),
-          (λ d h. none-grew d b (p.mark d h.follows ∙ ap (λ o. marks d ++ option_to_list o) c.in-None.is) refl),
+          (λ d h. (h.0, scanned-none b h.1 (p.follows d h.1.follows) (p.mark d h.1.follows ∙ ap (λ o. marks d ++ option_to_list o) c.in-None.is))),
+          (λ d h. none-grew d b (p.mark d h.1.follows ∙ ap (λ o. marks d ++ option_to_list o) c.in-None.is) refl),
           refl,
         ),
       );
