@@ -927,10 +927,12 @@ class Picture {
         this.parts.push(`<polyline points="${all}" fill="none" stroke="${stroke}" stroke-width="${width}"/>`);
     }
 
-    subframe(place, found) {
+    /* A subframe, as far as the place where the next begins. */
+    subframe(place, found, next) {
         const { mark, name } = typeof found === "string" ? { mark: found, name: "" } : found;
+        const shown = Math.min(next, this.end);
         for (const [first, end, part] of PARTS) {
-            const [left, right] = [Math.max(place + 2 * first, this.seen.first), Math.min(place + 2 * end, this.end)];
+            const [left, right] = [Math.max(place + 2 * first, this.seen.first), Math.min(place + 2 * end, shown)];
             if (left < right) {
                 this.rect(this.x(left), HIGH - 22, (right - left) * CELL, LOW - HIGH + 62, COLOURS[part]);
                 const title = { preamble: `preamble ${mark}`, sample: "sample, lowest bit first" }[part] ?? part;
@@ -940,7 +942,7 @@ class Picture {
         this.text(this.x(Math.max(place, this.seen.first)), HIGH - 44, name, 11, "#555", "start");
         for (let slot = 0; slot < 32; slot++) {
             const cell = place + 2 * slot;
-            if (cell >= this.seen.first && cell + 2 <= this.end) {
+            if (cell >= this.seen.first && cell + 2 <= shown) {
                 this.line([[this.x(cell), HIGH - 16], [this.x(cell), LOW + 24]], "#bbb", 0.7);
                 this.text(this.x(cell + 1), LOW + 36, slot, 8, "#888");
                 slot >= 4 && this.text(this.x(cell + 1), LOW + 22, Number(this.cell(cell) !== this.cell(cell + 1)), 12);
@@ -975,9 +977,8 @@ class Picture {
 
 function drawLevels(svg, seen, reports) {
     const picture = new Picture(seen);
-    for (const [place, found] of subframesIn(seen, reports)) {
-        picture.subframe(place, found);
-    }
+    const subframes = subframesIn(seen, reports);
+    subframes.forEach(([place, found], i) => picture.subframe(place, found, subframes[i + 1]?.[0] ?? picture.end));
     const height = picture.faults(reports);
     picture.levels();
     svg.setAttribute("height", height);
@@ -1029,6 +1030,9 @@ async function start() {
     }
     page = new Page(await Codec.make(octets));
     document.body.dataset.state = "ready";
+    if (location.hash === "#example") {
+        await page.open(exampleFile(page.codec));
+    }
 }
 
 start();
