@@ -103,6 +103,9 @@ aes3: byte 0 is neither cell nor separator (line 1, column 1): a block file begi
     at_terminal "packed cells as text" "aes3: refused 1 at 0
 aes3: byte 0 is neither cell nor separator (line 1, column 1): these look like packed cells: try \`--packed-in\`" \
         "$program check < '$folder/packed'"
+    at_terminal "no input as packed cells" "aes3: refused 10 at 0
+aes3: the packed cells end wrongly at octet 0: the input is empty" \
+        "$program check --packed-in < /dev/null"
     at_terminal "the option of a refused status" "aes3: refused 9
 aes3: a status is not 48 hexadecimal digits (--status2): \`--status1\` and \`--status2\` take 24 bytes, two digits each" \
         "$program rewrite --status2=12 < '$folder/refused'"

@@ -5,6 +5,8 @@ use aes3_cell::RunError;
 /// A kind of file that is given to the wrong command.
 #[derive(Clone, Copy, PartialEq, Eq, Debug)]
 pub enum Looks {
+    /// Nothing.
+    Empty,
     /// Only cells and separators.
     CellText,
     /// Words of 32 bits, lowest byte first, of which each has its four lowest bits clear.
@@ -36,7 +38,9 @@ fn are_block_words(first: &[u8]) -> bool {
 
 /// What these first bytes of an input look like.
 pub(crate) fn looks_of(first: &[u8]) -> Looks {
-    if first.starts_with(b"RIFF") {
+    if first.is_empty() {
+        Looks::Empty
+    } else if first.starts_with(b"RIFF") {
         Looks::Wave
     } else if first.starts_with(b"\x1F\x8B")
         || first.starts_with(b"\xFD7zXZ")
@@ -69,6 +73,7 @@ pub(crate) fn advice_by_looks(error: RunError, looks: Looks) -> Option<&'static 
         (_, Looks::Octets) if is_of_text => {
             Some("these look like packed cells: try `--packed-in`")
         }
+        (RunError::BadPadding { .. }, Looks::Empty) => Some("the input is empty"),
         (RunError::BadPadding { .. }, Looks::CellText) => {
             Some("these are cells as text: leave `--packed-in` out")
         }
