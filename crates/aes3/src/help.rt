@@ -113,8 +113,10 @@ pub const FROM_PCM: Texts<'static> = Texts {
     usage: "aes3 from-pcm [OPTIONS] < PCM > BLOCKFILE",
     more: "Reads samples as `aes3 to-pcm` writes them: of each frame channel 1 and then channel 2,
 4 bytes each, lowest first (S32LE: `ffmpeg -f s32le`, `sox -t raw -e signed -b 32 -L`,
-ALSA's S32_LE). The 24 highest bits of each are the sample, the lowest 8 are dropped; with
---exact they have to be zero. Samples that are zero fill up the last block.
+ALSA's S32_LE), without the header of a WAV file, which would be taken as samples (`sox
+FILE -t s32 -` leaves it off). The 24 highest bits of each are the sample, the lowest 8
+are dropped; with --exact they have to be zero. Samples that are zero fill up the last
+block.
 Writes a block file with V and U 0 and the channel status that the options give, as `aes3
 rewrite` has them, else zeros: that is consumer status, whose fields --set1 NAME=WORD and
 --set2 NAME=WORD then set.
