@@ -1,6 +1,7 @@
 pub mod BitFields
 pub mod SetFields
 pub mod SettingLemmas
+pub mod SettingsApart
 pub mod Polynomials
 pub mod Weights
 pub mod ShiftRegister

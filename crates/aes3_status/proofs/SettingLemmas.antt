@@ -8,9 +8,11 @@ use Rattle.aes3_status.specs.declared.field.ConField.{ConField}
 use Rattle.aes3_status.specs.declared.field.ConField.TheVariants as con
 use Rattle.aes3_status.specs.declared.field.Field.{Field}
 use Rattle.aes3_status.specs.declared.field.Field.TheVariants.{Professional, Consumer}
-use Rattle.aes3_status.specs.Bits.{low_bits, number, status_bits, field}
+use Rattle.aes3_status.specs.Bits.{low_bits, number, status_bits, field, number_at}
+use Rattle.aes3_status.specs.Consumer.{con_place}
+use Rattle.aes3_status.specs.Professional.{pro_place}
 use Rattle.aes3_status.specs.Statuses.{is_professional}
-use Rattle.aes3_status.specs.Settings.{with_bits, with_field, number_at, pro_place, con_place, place_of, under, code_for, with_code}
+use Rattle.aes3_status.specs.Settings.{with_bits, with_field, place_of, is_for, under, code_for, with_code}
 use Rattle.aes3_status.specs.SettingLaws.{IsPlace, first_bit, OnlyItsBitsChange, CodeIsReadBack, OtherFieldsStay, MeaningStays, SettingIsReadBack}
 use Rattle.aes3_status.proofs.BitFields.{length-low_bits, field-fits}
 use Rattle.aes3_status.proofs.Weights.{length-status_bits}
@@ -91,6 +93,9 @@ con-lies con.Original = lies _ (omega arith) (omega arith) (omega arith)
 field-lies : (f : Field) → Lies (place_of f)
 field-lies (Professional f) = pro-lies f
 field-lies (Consumer f) = con-lies f
+
+pub field-is : (f : Field) → IsPlace (place_of f)
+field-is f = (field-lies f).is
 
 use-stays : (f : Field) (code : ℕ) (bytes : List ℕ) → length bytes ≡ 24 → is_professional (with_field (place_of f) code bytes) ≡ is_professional bytes
 use-stays f code bytes e =

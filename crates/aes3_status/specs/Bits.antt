@@ -1,5 +1,6 @@
 -- The bits of a channel status in order of transmission, and the numbers that they stand for.
 use Rattle.std.specs.Prelude.{ℕ, zero, suc, List, [], ◌∷◌, ◌++◌, Bool, cond, take, drop, ◌+◌, ◌*◌, ◌%◌, ◌/◌, ◌==◌}
+use Rattle.aes3_status.specs.declared.place.Place.{Place}
 
 -- the lowest bits of a number, the one of weight 1 first
 abbrev pub low_bits : ℕ → ℕ → List Bool
@@ -27,3 +28,11 @@ field byte bit count bytes = number (take count (drop (8 * byte + bit) (status_b
 -- a field of whole bytes: `count` bytes from byte `byte` on
 unfoldable pub bytes_field : ℕ → ℕ → List ℕ → List ℕ
 bytes_field byte count bytes = take count (drop byte bytes)
+
+-- `count` bits from bit `first` of byte `byte` on
+abbrev pub place : ℕ → ℕ → ℕ → Place
+place byte first count = record { byte = byte; first = first; count = count }
+
+-- the number there
+abbrev pub number_at : Place → List ℕ → ℕ
+number_at place bytes = field place.byte place.first place.count bytes

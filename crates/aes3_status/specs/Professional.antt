@@ -1,46 +1,66 @@
 -- The fields of professional channel status (AES3-2), each by its byte, its first bit there and its number of bits.
 use Rattle.std.specs.Prelude.{ℕ, List}
-use Rattle.aes3_status.specs.Bits.{field, bytes_field}
+use Rattle.aes3_status.specs.declared.place.Place.{Place}
+use Rattle.aes3_status.specs.declared.field.ProField.{ProField}
+use Rattle.aes3_status.specs.declared.field.ProField.TheVariants as pro
+use Rattle.aes3_status.specs.Bits.{field, bytes_field, number_at, place}
+
+-- where the fields within a byte stand: each by its byte, its first bit there and its number of bits
+abbrev pub pro_place : ProField → Place
+pro_place pro.Payload = place 0 1 1
+pro_place pro.Emphasis = place 0 2 3
+pro_place pro.Unlocked = place 0 5 1
+pro_place pro.Rate = place 0 6 2
+pro_place pro.Mode = place 1 0 4
+pro_place pro.User = place 1 4 4
+pro_place pro.Aux = place 2 0 3
+pro_place pro.Word = place 2 3 3
+pro_place pro.B2high = place 2 6 2
+pro_place pro.B3 = place 3 0 8
+pro_place pro.B4 = place 4 0 8
+pro_place pro.B5 = place 5 0 8
+pro_place pro.Unreliable = place 22 4 4
+pro_place pro.B22low = place 22 0 4
 
 -- byte 0: linear PCM or other, pre-emphasis, lock, sampling frequency
 abbrev pub payload : List ℕ → ℕ
-payload = field 0 1 1
+payload = number_at (pro_place pro.Payload)
 
 abbrev pub emphasis : List ℕ → ℕ
-emphasis = field 0 2 3
+emphasis = number_at (pro_place pro.Emphasis)
 
 abbrev pub unlocked : List ℕ → ℕ
-unlocked = field 0 5 1
+unlocked = number_at (pro_place pro.Unlocked)
 
 abbrev pub rate : List ℕ → ℕ
-rate = field 0 6 2
+rate = number_at (pro_place pro.Rate)
 
 -- byte 1: channel mode, management of the user bits
 abbrev pub mode : List ℕ → ℕ
-mode = field 1 0 4
+mode = number_at (pro_place pro.Mode)
 
 abbrev pub user : List ℕ → ℕ
-user = field 1 4 4
+user = number_at (pro_place pro.User)
 
 -- byte 2: use of the auxiliary bits, sample word length, alignment level
 abbrev pub aux : List ℕ → ℕ
-aux = field 2 0 3
+aux = number_at (pro_place pro.Aux)
 
 abbrev pub word : List ℕ → ℕ
-word = field 2 3 3
+word = number_at (pro_place pro.Word)
 
 abbrev pub b2high : List ℕ → ℕ
-b2high = field 2 6 2
+b2high = number_at (pro_place pro.B2high)
 
 -- bytes 3 to 5, whole
 abbrev pub b3 : List ℕ → ℕ
-b3 = field 3 0 8
+b3 = number_at (pro_place pro.B3)
 
 abbrev pub b4 : List ℕ → ℕ
-b4 = field 4 0 8
+b4 = number_at (pro_place pro.B4)
 
 abbrev pub b5 : List ℕ → ℕ
-b5 = field 5 0 8
+b5 = number_at (pro_place pro.B5)
 
 -- bytes 6 to 13: origin and destination of the channel, by the first byte and their number
 abbrev pub origin : List ℕ → List ℕ
@@ -58,7 +78,7 @@ time = field 18 0 32
 
 -- byte 22: reserved, reliability of bytes 0 to 5, 6 to 13, 14 to 17 and 18 to 21
 abbrev pub b22low : List ℕ → ℕ
-b22low = field 22 0 4
+b22low = number_at (pro_place pro.B22low)
 
 abbrev pub unreliable : List ℕ → ℕ
-unreliable = field 22 4 4
+unreliable = number_at (pro_place pro.Unreliable)

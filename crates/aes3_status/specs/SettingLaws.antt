@@ -1,10 +1,11 @@
 -- What a code in a field does to a status of 24 bytes.
-use Rattle.std.specs.Prelude.{ℕ, List, Some, ◌≡◌, ◌≤◌, ◌<◌, ◌⊎◌, ◌+◌, ◌*◌, ◌%◌, ◌^◌, length}
+use Rattle.std.specs.Prelude.{ℕ, List, Some, true, ◌≡◌, ◌≢◌, ◌≤◌, ◌<◌, ◌⊎◌, ◌+◌, ◌*◌, ◌%◌, ◌^◌, length}
 use Rattle.aes3_status.specs.declared.place.Place.{Place}
+use Rattle.aes3_status.specs.declared.field.Field.{Field}
 use Rattle.aes3_status.specs.declared.setting.Setting.{Setting}
-use Rattle.aes3_status.specs.Bits.{low_bits, status_bits, field}
+use Rattle.aes3_status.specs.Bits.{low_bits, status_bits, field, number_at}
 use Rattle.aes3_status.specs.Statuses.{is_professional}
-use Rattle.aes3_status.specs.Settings.{with_bits, with_field, number_at, place_of, under, code_for, set_by}
+use Rattle.aes3_status.specs.Settings.{with_bits, with_field, place_of, is_for, told_by, under, code_for, set_by}
 
 -- a field that lies within one of the bytes
 pub record IsPlace (place : Place) : Type 0 where
@@ -41,3 +42,13 @@ MeaningStays = (setting : Setting) (bytes : List ℕ) → length bytes ≡ 24
 abbrev pub SettingIsReadBack : Type 0
 SettingIsReadBack = (setting : Setting) (bytes : List ℕ) (code : ℕ) → length bytes ≡ 24 → code_for setting bytes ≡ Some code
     → number_at (place_of setting.field) (set_by setting bytes) ≡ code % 2 ^ (place_of setting.field).count
+
+-- a setting leaves the code of each other field, where the status is for that field's use
+abbrev pub OtherCodesStay : Type 0
+OtherCodesStay = (setting : Setting) (f : Field) (bytes : List ℕ) → length bytes ≡ 24 → is_for f bytes ≡ true → f ≢ setting.field
+    → number_at (place_of f) (set_by setting bytes) ≡ number_at (place_of f) bytes
+
+-- and what tells the meaning of its codes, unless this is the field that is set
+abbrev pub OtherMeaningsStay : Type 0
+OtherMeaningsStay = (setting : Setting) (f : Field) (bytes : List ℕ) → length bytes ≡ 24 → is_for f bytes ≡ true → told_by f ≢ Some setting.field
+    → under f (set_by setting bytes) ≡ under f bytes

@@ -1,5 +1,6 @@
 -- Fields of channel status that get another code.
 use Rattle.std.specs.Prelude.{ℕ, List, ◌++◌, Bool, not, Option, Some, None, ◌+◌, length, take, drop, get_or, slice_set, fold, if◌then◌else◌}
+use Rattle.std.specs.Option.{option_map_or}
 use Rattle.aes3_status.specs.declared.place.Place.{Place}
 use Rattle.aes3_status.specs.declared.field.ProField.{ProField}
 use Rattle.aes3_status.specs.declared.field.ProField.TheVariants as pro
@@ -8,7 +9,7 @@ use Rattle.aes3_status.specs.declared.field.ConField.TheVariants as con
 use Rattle.aes3_status.specs.declared.field.Field.{Field}
 use Rattle.aes3_status.specs.declared.field.Field.TheVariants.{Professional, Consumer}
 use Rattle.aes3_status.specs.declared.setting.Setting.{Setting}
-use Rattle.aes3_status.specs.Bits.{low_bits, number, byte_bits, field}
+use Rattle.aes3_status.specs.Bits.{low_bits, number, byte_bits, number_at}
 use Rattle.aes3_status.specs.Statuses.{is_professional}
 use Rattle.aes3_status.specs.Professional as professional
 use Rattle.aes3_status.specs.Consumer as consumer
@@ -22,69 +23,33 @@ unfoldable pub with_field : Place → ℕ → List ℕ → List ℕ
 with_field place code bytes =
     slice_set bytes place.byte (number (with_bits place.first (low_bits place.count code) (byte_bits (get_or bytes place.byte 0))))
 
--- the number in a field
-abbrev pub number_at : Place → List ℕ → ℕ
-number_at place bytes = field place.byte place.first place.count bytes
-
-abbrev pub place : ℕ → ℕ → ℕ → Place
-place byte first count = record { byte = byte; first = first; count = count }
-
--- where the fields of professional status stand: each by its byte, its first bit there and its number of bits
-abbrev pub pro_place : ProField → Place
-pro_place pro.Payload = place 0 1 1
-pro_place pro.Emphasis = place 0 2 3
-pro_place pro.Unlocked = place 0 5 1
-pro_place pro.Rate = place 0 6 2
-pro_place pro.Mode = place 1 0 4
-pro_place pro.User = place 1 4 4
-pro_place pro.Aux = place 2 0 3
-pro_place pro.Word = place 2 3 3
-pro_place pro.B2high = place 2 6 2
-pro_place pro.B3 = place 3 0 8
-pro_place pro.B4 = place 4 0 8
-pro_place pro.B5 = place 5 0 8
-pro_place pro.Unreliable = place 22 4 4
-pro_place pro.B22low = place 22 0 4
-
--- the same of consumer status
-abbrev pub con_place : ConField → Place
-con_place con.Payload = place 0 1 1
-con_place con.Copyright = place 0 2 1
-con_place con.Emphasis = place 0 3 3
-con_place con.Mode = place 0 6 2
-con_place con.Category = place 1 0 7
-con_place con.Generation = place 1 7 1
-con_place con.Source = place 2 0 4
-con_place con.Number = place 2 4 4
-con_place con.Rate = place 3 0 4
-con_place con.Accuracy = place 3 4 2
-con_place con.B3high = place 3 6 2
-con_place con.Greatest = place 4 0 1
-con_place con.Word = place 4 1 3
-con_place con.Original = place 4 4 4
-
+-- where a field stands
 abbrev pub place_of : Field → Place
-place_of (Professional f) = pro_place f
-place_of (Consumer f) = con_place f
+place_of (Professional f) = professional.pro_place f
+place_of (Consumer f) = consumer.con_place f
 
 -- whether a status is for the field's use
 abbrev pub is_for : Field → List ℕ → Bool
 is_for (Professional f) bytes = is_professional bytes
 is_for (Consumer f) bytes = not (is_professional bytes)
 
--- the number that tells what the codes of a field mean: that of another field, 0 where they mean the same under each
-abbrev pub pro_under : ProField → List ℕ → ℕ
-pro_under pro.Word bytes = professional.aux bytes
-pro_under f bytes = 0
+-- the field whose number tells what the codes of a field mean; none where they mean the same under each
+abbrev pub pro_told_by : ProField → Option Field
+pro_told_by pro.Word = Some (Professional pro.Aux)
+pro_told_by f = None
 
-abbrev pub con_under : ConField → List ℕ → ℕ
-con_under con.Emphasis bytes = consumer.payload bytes
-con_under con.Word bytes = consumer.greatest bytes
-con_under f bytes = 0
+abbrev pub con_told_by : ConField → Option Field
+con_told_by con.Emphasis = Some (Consumer con.Payload)
+con_told_by con.Word = Some (Consumer con.Greatest)
+con_told_by f = None
 
+abbrev pub told_by : Field → Option Field
+told_by (Professional f) = pro_told_by f
+told_by (Consumer f) = con_told_by f
+
+-- that number, 0 where there is none
 abbrev pub under : Field → List ℕ → ℕ
-under (Professional f) bytes = pro_under f bytes
-under (Consumer f) bytes = con_under f bytes
+under f bytes = option_map_or (λ g. number_at (place_of g) bytes) (told_by f) 0
 
 -- the code that a setting has for a status; none where the status is for the other use
 abbrev pub code_for : Setting → List ℕ → Option ℕ

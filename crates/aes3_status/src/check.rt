@@ -5,8 +5,8 @@ ghost use Rattle.aes3_status.specs.Check.{CheckHolds, check_byte_of, check_state
 ghost use Rattle.aes3_status.specs.Register.{polynomial, after_bit, after_bits};
 ghost use Rattle.aes3_status.specs.Laws.{OneFlipped, TwoFlipped};
 
-/// How a channel status stands to its check byte. The standard asks only whether the check holds; `Absent` is told
-/// apart from `Bad` by this crate.
+/// How a channel status stands to its check byte. The standard asks only whether the check holds;
+/// `Absent` is told apart from `Bad` by this crate.
 #[derive(Clone, Copy, PartialEq, Eq, Debug)]
 pub enum Check {
     /// The check holds.
@@ -23,8 +23,8 @@ const CHECK: usize = 23;
 /// The register before the first bit.
 const PRESET: u8 = 0xFF;
 
-/// The generator x^8 + x^4 + x^3 + x^2 + 1 without x^8. In the register, as in the check byte, bit 0 is the
-/// coefficient of x^7.
+/// The generator x^8 + x^4 + x^3 + x^2 + 1 without x^8. In the register, as in the check byte, bit
+/// 0 is the coefficient of x^7.
 const GENERATOR: u8 = 0b1011_1000;
 
 /// The register after one more bit of the channel status.
@@ -65,7 +65,8 @@ pub fn check_byte(bytes: &[u8; 24]) -> u8
     register
 }
 
-/// How a channel status stands to its check byte (AES3-2, byte 23). Only professional channel status has one.
+/// How a channel status stands to its check byte (AES3-2, byte 23). Only professional channel
+/// status has one.
 pub fn check_state(bytes: &[u8; 24]) -> Check
     ensures state { result ≡ check_state_of bytes.now }
 
@@ -85,8 +86,8 @@ pub fn check_state(bytes: &[u8; 24]) -> Check
     }
 }
 
-/// The channel status with the check byte of its bytes 0 to 22 in byte 23 (AES3-2). Only professional channel
-/// status has one.
+/// The channel status with the check byte of its bytes 0 to 22 in byte 23 (AES3-2). Only
+/// professional channel status has one.
 pub fn with_check(mut bytes: [u8; 24]) -> [u8; 24]
     ensures changed { result ≡ slice_set bytes 23 (check_byte_of (take 23 bytes)) }
     ensures holds { CheckHolds (status_bits result) }

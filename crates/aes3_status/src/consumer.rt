@@ -1,5 +1,5 @@
 //! Consumer channel status.
-use crate::fields::bits_at;
+use crate::bits::bits_at;
 use std::marker::Model;
 
 /// A channel status for consumer use (IEC 60958-3): byte 0 bit 0 is 0.
@@ -22,7 +22,9 @@ impl Model for Con {
 
 impl Con {
     ghost use Rattle.std.specs.Prelude.{◌≡◌};
-    ghost use Rattle.aes3_status.specs.Consumer.{payload, copyright, emphasis, mode, category, generation, source, number, rate, accuracy, b3high, greatest, word, original, rest};
+    ghost use Rattle.aes3_status.specs.Consumer.{payload, copyright, emphasis, mode, category};
+    ghost use Rattle.aes3_status.specs.Consumer.{generation, source, number, rate, accuracy};
+    ghost use Rattle.aes3_status.specs.Consumer.{b3high, greatest, word, original, rest};
 
     /// The status of these bytes.
     pub(crate) fn of_bytes(bytes: &[u8; 24]) -> Con
@@ -52,7 +54,8 @@ impl Con {
         bits_at(&self.bytes, 0, 2, 1)
     }
 
-    /// Additional format information; of linear PCM the pre-emphasis (IEC 60958-3, byte 0 bits 3 to 5).
+    /// Additional format information; of linear PCM the pre-emphasis (IEC 60958-3, byte 0 bits 3 to
+    /// 5).
     pub fn emphasis(&self) -> u8
         ensures { result ≡ emphasis self.now }
     {

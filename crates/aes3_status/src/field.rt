@@ -1,9 +1,11 @@
 //! The fields of channel status that a code can be written to: those within one byte.
 
 ghost use Rattle.std.specs.Prelude.{◌≡◌, ◌+◌, ◌^◌, ◌<◌, ◌≤◌};
-ghost use Rattle.aes3_status.specs.Settings.{con_place, is_for, place_of, pro_place, under};
+ghost use Rattle.aes3_status.specs.Consumer.{con_place};
+ghost use Rattle.aes3_status.specs.Professional.{pro_place};
+ghost use Rattle.aes3_status.specs.Settings.{is_for, place_of, under};
 
-use crate::fields::bits_at;
+use crate::bits::bits_at;
 use crate::place::Place;
 
 /// A field of professional channel status (AES3-2), as `Pro` reads it.
@@ -134,7 +136,8 @@ impl Field {
         1 << self.place().count
     }
 
-    /// Whether the status is for the field's use: byte 0 bit 0 is 1 for professional, 0 for consumer use.
+    /// Whether the status is for the field's use: byte 0 bit 0 is 1 for professional, 0 for
+    /// consumer use.
     pub(crate) fn is_for(self, bytes: &[u8; 24]) -> bool
         ensures { result ≡ is_for self bytes.now }
     {
@@ -145,8 +148,9 @@ impl Field {
         }
     }
 
-    /// The number that tells what the field's codes mean: the use of the auxiliary bits or the greatest length for
-    /// the sample word length, what the sample words carry for the emphasis of consumer use, otherwise 0.
+    /// The number that tells what the field's codes mean: the use of the auxiliary bits or the
+    /// greatest length for the sample word length, what the sample words carry for the emphasis of
+    /// consumer use, otherwise 0.
     pub(crate) fn under(self, bytes: &[u8; 24]) -> u8
         ensures number { result ≡ under self bytes.now }
         ensures few { result < 8 }

@@ -1,7 +1,9 @@
 //! Laws of the check and of fields that are set, each the contract of a function.
 
 ghost use Rattle.aes3_status.specs.Laws.{OneFlipIsFound, TwoFlipsAreFound, WeightsArePowers};
-ghost use Rattle.aes3_status.specs.SettingLaws.{CodeIsReadBack, MeaningStays, OnlyItsBitsChange, OtherFieldsStay, SettingIsReadBack};
+ghost use Rattle.aes3_status.specs.SettingLaws.{CodeIsReadBack, MeaningStays, OnlyItsBitsChange};
+ghost use Rattle.aes3_status.specs.SettingLaws.{OtherCodesStay, OtherFieldsStay, OtherMeaningsStay};
+ghost use Rattle.aes3_status.specs.SettingLaws.{SettingIsReadBack};
 
 /// The check tells of one or two inverted bits, wherever they stand.
 pub fn flips_are_found()
@@ -14,16 +16,24 @@ pub fn weights_are_powers()
     ensures { WeightsArePowers }
 {}
 
-/// A code that is written to a field changes its bits alone: the code is read back, and every other field stays.
+/// A code that is written to a field changes its bits alone: the code is read back, and every other
+/// field stays.
 pub fn codes_are_read_back()
     ensures bits { OnlyItsBitsChange }
     ensures code { CodeIsReadBack }
     ensures others { OtherFieldsStay }
 {}
 
-/// A setting changes neither the use of a status nor what tells the meaning of its field's codes, and where it has a code
-/// for the status, the field has it then.
+/// A setting changes neither the use of a status nor what tells the meaning of its field's codes,
+/// and where it has a code for the status, the field has it then.
 pub fn settings_are_read_back()
     ensures meaning { MeaningStays }
     ensures code { SettingIsReadBack }
+{}
+
+/// No two fields for one use have a bit in common: a setting leaves the code of each other field as
+/// it is, and what tells the meaning of its codes too, unless this is the field that it sets.
+pub fn fields_are_apart()
+    ensures codes { OtherCodesStay }
+    ensures meanings { OtherMeaningsStay }
 {}

@@ -1,11 +1,11 @@
-//! The channel status of one channel in one block: its 24 bytes read as fields, fields of them set, and
-//! their check byte (AES3-2, IEC 60958-3).
+//! The channel status of one channel in one block: its 24 bytes read as fields, fields of them set,
+//! and their check byte (AES3-2, IEC 60958-3).
 #![tactic(auto)]
 
+mod bits;
 mod check;
 mod consumer;
 mod field;
-mod fields;
 pub mod laws;
 mod place;
 mod professional;

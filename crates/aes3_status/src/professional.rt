@@ -1,5 +1,5 @@
 //! Professional channel status.
-use crate::fields::{bits_at, bytes_at, u32_at};
+use crate::bits::{bits_at, bytes_at, u32_at};
 use std::marker::Model;
 
 /// A channel status for professional use (AES3-2): byte 0 bit 0 is 1.
@@ -22,7 +22,9 @@ impl Model for Pro {
 
 impl Pro {
     ghost use Rattle.std.specs.Prelude.{◌≡◌};
-    ghost use Rattle.aes3_status.specs.Professional.{payload, emphasis, unlocked, rate, mode, user, aux, word, b2high, b3, b4, b5, origin, destination, local, time, b22low, unreliable};
+    ghost use Rattle.aes3_status.specs.Professional.{payload, emphasis, unlocked, rate, mode, user};
+    ghost use Rattle.aes3_status.specs.Professional.{aux, word, b2high, b3, b4, b5, origin};
+    ghost use Rattle.aes3_status.specs.Professional.{destination, local, time, b22low, unreliable};
 
     /// The status of these bytes.
     pub(crate) fn of_bytes(bytes: &[u8; 24]) -> Pro
@@ -80,7 +82,8 @@ impl Pro {
         bits_at(&self.bytes, 1, 4, 4)
     }
 
-    /// The use of the auxiliary bits, and with it the greatest sample word length (AES3-2, byte 2 bits 0 to 2).
+    /// The use of the auxiliary bits, and with it the greatest sample word length (AES3-2, byte 2
+    /// bits 0 to 2).
     pub fn aux(&self) -> u8
         ensures { result ≡ aux self.now }
     {
@@ -136,14 +139,16 @@ impl Pro {
         bytes_at(&self.bytes, 10)
     }
 
-    /// The local sample address code, counted in samples (AES3-2, bytes 14 to 17, lowest byte first).
+    /// The local sample address code, counted in samples (AES3-2, bytes 14 to 17, lowest byte
+    /// first).
     pub fn local(&self) -> u32
         ensures { result ≡ local self.now }
     {
         u32_at(&self.bytes, 14)
     }
 
-    /// The time-of-day sample address code, counted in samples (AES3-2, bytes 18 to 21, lowest byte first).
+    /// The time-of-day sample address code, counted in samples (AES3-2, bytes 18 to 21, lowest byte
+    /// first).
     pub fn time(&self) -> u32
         ensures { result ≡ time self.now }
     {

@@ -14,9 +14,10 @@ pub const SETTINGS: usize = 64;
 pub struct Setting {
     /// The field, of status for one of the two uses.
     pub field: Field,
-    /// The code that it gets, by the number that tells what its codes mean: of a sample word length in professional
-    /// status the use of the auxiliary bits, in consumer status the greatest length; of the emphasis in consumer status
-    /// what the sample words carry; of every other field 0. `None` leaves the field as it is.
+    /// The code that it gets, by the number that tells what its codes mean: of a sample word length
+    /// in professional status the use of the auxiliary bits, in consumer status the greatest
+    /// length; of the emphasis in consumer status what the sample words carry; of every other field
+    /// 0. `None` leaves the field as it is.
     pub codes: [Option<u8>; 8],
 }
 
@@ -39,8 +40,8 @@ fn code_for(bytes: &[u8; 24], setting: &Setting) -> Option<u8>
     }
 }
 
-/// Writes the setting's code to its field, and leaves all other bits as they were. A status for the other use than the
-/// field's stays as it is, and so does one that the setting has no code for.
+/// Writes the setting's code to its field, and leaves all other bits as they were. A status for the
+/// other use than the field's stays as it is, and so does one that the setting has no code for.
 pub fn set_field(bytes: &mut [u8; 24], setting: &Setting)
     ensures { bytes.new ≡ set_by setting.now bytes.old }
 {

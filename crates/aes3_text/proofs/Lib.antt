@@ -16,3 +16,4 @@ pub mod LostCells
 pub mod SettingTexts
 pub mod SettingLists
 pub mod SettingLines
+pub mod ChoiceTexts

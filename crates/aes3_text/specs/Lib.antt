@@ -10,3 +10,4 @@ pub mod Gathering
 pub mod Laws
 pub mod GapLaws
 pub mod Settings
+pub mod Choices

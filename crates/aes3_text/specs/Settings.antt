@@ -1,5 +1,5 @@
 -- Fields of channel status by their names and the words that `show` prints.
-use Rattle.std.specs.Prelude.{ℕ, List, [], ◌∷◌, ◌++◌, Some, None, ◌≡◌, ◌≢◌, ◌⊎◌, ◌<◌, ◌≤◌, ◌+◌, ◌*◌, ◌^◌, codes, decimal, length, map, take, drop, get_or, replicate}
+use Rattle.std.specs.Prelude.{ℕ, List, [], ◌∷◌, ◌++◌, Some, None, true, ◌≡◌, ◌≢◌, ◌⊎◌, ◌<◌, ◌≤◌, ◌+◌, ◌*◌, ◌^◌, codes, decimal, length, map, take, drop, get_or, replicate}
 use Rattle.std.specs.List.{Contains, flat_map}
 use Rattle.aes3_status.specs.declared.check.Check.{Check}
 use Rattle.aes3_status.specs.declared.field.ProField.{ProField}
@@ -11,7 +11,8 @@ use Rattle.aes3_status.specs.declared.field.Field.TheVariants.{Professional, Con
 use Rattle.aes3_status.specs.declared.setting.Setting.{Setting}
 use Rattle.aes3_status.specs.Professional as status
 use Rattle.aes3_status.specs.Consumer as consumer_status
-use Rattle.aes3_status.specs.Settings.{number_at, place_of, under, code_for, set_by}
+use Rattle.aes3_status.specs.Bits.{number_at}
+use Rattle.aes3_status.specs.Settings.{is_for, place_of, told_by, under, code_for, set_by}
 use Rattle.hex.specs.Hex.{encode_lower}
 use Rattle.aes3_text.specs.declared.listed.SettingsFault.{SettingsFault}
 use Rattle.aes3_text.specs.declared.listed.SettingsFault.TheVariants.{Unknown, TooMany}
@@ -20,43 +21,10 @@ use Rattle.aes3_text.specs.Words.{payload_words, word_for}
 use Rattle.aes3_text.specs.Professional as professional
 use Rattle.aes3_text.specs.Consumer as consumer
 
--- what `show` prints of each code of a field of professional status, where another field tells what its codes mean
-abbrev pub pro_text : ProField → ℕ → ℕ → List ℕ
-pro_text pro.Payload under code = field_text (codes "payload") (word_for payload_words code)
-pro_text pro.Emphasis under code = field_text (codes "emphasis") (word_for professional.emphasis_words code)
-pro_text pro.Unlocked under code = field_text (codes "unlocked") (word_for professional.unlocked_words code)
-pro_text pro.Rate under code = field_text (codes "rate") (word_for professional.rate_words code)
-pro_text pro.Mode under code = field_text (codes "mode") (word_for professional.mode_words code)
-pro_text pro.User under code = field_text (codes "user") (word_for professional.user_words code)
-pro_text pro.Aux under code = field_text (codes "aux") (word_for professional.aux_words code)
-pro_text pro.Word under code = field_text (codes "word") (word_for (professional.length_words under) code)
-pro_text pro.B2high under code = field_text (codes "b2high") (decimal code)
-pro_text pro.B3 under code = field_text (codes "b3") (decimal code)
-pro_text pro.B4 under code = field_text (codes "b4") (decimal code)
-pro_text pro.B5 under code = field_text (codes "b5") (decimal code)
-pro_text pro.Unreliable under code = field_text (codes "unreliable") (four_bits code)
-pro_text pro.B22low under code = field_text (codes "b22low") (decimal code)
-
--- the same of consumer status
-abbrev pub con_text : ConField → ℕ → ℕ → List ℕ
-con_text con.Payload under code = field_text (codes "payload") (word_for payload_words code)
-con_text con.Copyright under code = field_text (codes "copyright") (word_for consumer.copyright_words code)
-con_text con.Emphasis under code = field_text (codes "emphasis") (word_for (consumer.emphasis_words under) code)
-con_text con.Mode under code = field_text (codes "mode") (decimal code)
-con_text con.Category under code = field_text (codes "category") (word_for consumer.category_words code)
-con_text con.Generation under code = field_text (codes "generation") (decimal code)
-con_text con.Source under code = field_text (codes "source") (specified code)
-con_text con.Number under code = field_text (codes "number") (specified code)
-con_text con.Rate under code = field_text (codes "rate") (word_for consumer.rate_words code)
-con_text con.Accuracy under code = field_text (codes "accuracy") (word_for consumer.accuracy_words code)
-con_text con.B3high under code = field_text (codes "b3high") (decimal code)
-con_text con.Greatest under code = field_text (codes "greatest") (word_for consumer.greatest_words code)
-con_text con.Word under code = field_text (codes "word") (word_for (consumer.length_words under) code)
-con_text con.Original under code = field_text (codes "original") (decimal code)
-
+-- what `show` prints of a code of a field, where another field tells what its codes mean
 abbrev pub code_text : Field → ℕ → ℕ → List ℕ
-code_text (Professional f) under code = pro_text f under code
-code_text (Consumer f) under code = con_text f under code
+code_text (Professional f) under code = professional.pro_text f under code
+code_text (Consumer f) under code = consumer.con_text f under code
 
 -- what `show` prints of the field in a status
 abbrev pub shown_of : Field → List ℕ → List ℕ
@@ -113,6 +81,13 @@ IsSettingsFault texts TooMany = 32 < length texts
 abbrev pub IsShownThen : List ℕ → Setting → Type 0
 IsShownThen text setting = (bytes : List ℕ) (code : ℕ) → length bytes ≡ 24 → code_for setting bytes ≡ Some code
     → shown_of setting.field (set_by setting bytes) ≡ codes " " ++ text
+
+-- a setting leaves what `show` prints of each other field for the use of the status, unless the codes of that field have
+-- another meaning under the number that is set: of the sample word length under the use of the auxiliary bits or the greatest
+-- length, of the emphasis in consumer status under what the sample words carry
+abbrev pub OtherWordsStay : Type 0
+OtherWordsStay = (setting : Setting) (f : Field) (bytes : List ℕ) → length bytes ≡ 24 → is_for f bytes ≡ true
+    → f ≢ setting.field → told_by f ≢ Some setting.field → shown_of f (set_by setting bytes) ≡ shown_of f bytes
 
 -- the line of `show` is made of these: the texts of the fields, with those of the fields that can't be set between them
 abbrev pub shown_fields : List Field → List ℕ → List ℕ

@@ -7,7 +7,8 @@ ghost use Rattle.aes3_engine.specs.CellRuns.{CellRun};
 ghost use Rattle.aes3_engine.specs.Inputs.{cells_of};
 ghost use Rattle.aes3_engine.specs.Running.{movement_of};
 ghost use Rattle.aes3_text.specs.Gaps.{account, begun_account};
-ghost use Rattle.aes3_text.specs.Runs.{IsClosedLedgerOf, IsLedgerOf, account_counts, account_lines, accounting};
+ghost use Rattle.aes3_text.specs.Runs.{IsClosedLedgerOf, IsLedgerOf, account_counts, account_lines};
+ghost use Rattle.aes3_text.specs.Runs.{accounting};
 
 use crate::ledger::Ledger;
 use crate::lines::Lines;
@@ -81,15 +82,18 @@ impl Taker for Accountant {
     }
 }
 
-/// Reads cells from any cell on, and accounts for all of them: writes a line for each report on them, or each but those of
-/// whole blocks, and between these a line for each gap, cells that lie in no whole block, of 24,576 cells at most.
+/// Reads cells from any cell on, and accounts for all of them: writes a line for each report on
+/// them, or each but those of whole blocks, and between these a line for each gap, cells that lie
+/// in no whole block, of 24,576 cells at most.
 ///
-/// A gap stands behind the reports that begin in it, and is written when a report behind it is decided or two blocks'
-/// cells have come from its first cell on. The counts have the gaps of 24,576 cells and those between two whole blocks
-/// among the faults: shorter ones before the first and behind the last whole block are where the input is cut.
+/// A gap stands behind the reports that begin in it, and is written when a report behind it is
+/// decided or two blocks' cells have come from its first cell on. The counts have the gaps of
+/// 24,576 cells and those between two whole blocks among the faults: shorter ones before the first
+/// and behind the last whole block are where the input is cut.
 ///
 /// # Errors
-/// Those of `check`; then the lines are written that stood before, whatever cells follow, and after `Write` a front of them.
+/// Those of `check`; then the lines are written that stood before, whatever cells follow, and after
+/// `Write` a front of them.
 pub fn account<S: Source, T: Sink>(
     source: &mut S,
     sink: &mut T,
@@ -104,7 +108,8 @@ pub fn account<S: Source, T: Sink>(
     // Where it answers Ok, exactly the lines of the account are written.
     ensures lines { IfOk result (λ _. (b : List ℕ) → Told (S.given source.old) (S.given source.new) b
         → Grew (T.taken sink.old) (T.taken sink.new) (account_lines lines (account (cells_of input b)))) }
-    // It is a run over cells: Ok is owed, a refusal has its cause, and what stood before it is written.
+    // It is a run over cells: Ok is owed, a refusal has its cause, and what stood before it is
+    // written.
     ensures run { CellRun max_bytes input (λ c. account_lines lines (account c)) (λ c. account_lines lines (begun_account c)) (account_counts input)
         (S.has_ended source.new) (movement_of S.given S.failed source.old source.new)
         (movement_of T.taken T.failed sink.old sink.new) result }

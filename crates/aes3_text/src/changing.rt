@@ -1,6 +1,7 @@
 //! The channel status of blocks where it changes.
 
-ghost use Rattle.std.specs.Prelude.{ℕ, ◌≡◌, ◌+◌, ◌<◌, ◌≤◌, ◌^◌, ◌++◌, List, [], ◌∷◌, Bool, Some, length, IfOk, OnErr};
+ghost use Rattle.std.specs.Prelude.{ℕ, ◌≡◌, ◌+◌, ◌<◌, ◌≤◌, ◌^◌, ◌++◌, List, [], ◌∷◌, Bool, Some};
+ghost use Rattle.std.specs.Prelude.{length, IfOk, OnErr};
 ghost use Rattle.aes3_cell.specs.Ends.{Grew, GrewFront, Told};
 ghost use Rattle.aes3_block.specs.Statuses.{status_of};
 ghost use Rattle.aes3_block.specs.declared.status.Channel.TheVariants as channel;
@@ -10,7 +11,8 @@ ghost use Rattle.aes3_engine.specs.CellRuns.{CellRun};
 ghost use Rattle.aes3_engine.specs.Inputs.{cells_of};
 ghost use Rattle.aes3_engine.specs.ReportRuns.{Tallies, counts_of};
 ghost use Rattle.aes3_engine.specs.Running.{movement_of};
-ghost use Rattle.aes3_text.specs.Runs.{AreLast, Changes, change_line, change_lines, changing, report_changes};
+ghost use Rattle.aes3_text.specs.Runs.{AreLast, Changes, change_line, change_lines, changing};
+ghost use Rattle.aes3_text.specs.Runs.{report_changes};
 
 use crate::status::line_of_status;
 use aes3_block::{Block, Channel};
@@ -157,12 +159,13 @@ impl Reporter for ChangeLines {
     }
 }
 
-/// Reads cells from any cell on, and writes the channel status of the blocks that stand whole and closed in them, where it
-/// changes (AES3-2, IEC 60958-3): both lines of the first, and of each other a channel's line where its status is not that
-/// of the block before.
+/// Reads cells from any cell on, and writes the channel status of the blocks that stand whole and
+/// closed in them, where it changes (AES3-2, IEC 60958-3): both lines of the first, and of each
+/// other a channel's line where its status is not that of the block before.
 ///
 /// # Errors
-/// Those of `show`; then the lines of the blocks are written that were decided before, and after `Write` a front of them.
+/// Those of `show`; then the lines of the blocks are written that were decided before, and after
+/// `Write` a front of them.
 pub fn show_changes<S: Source, T: Sink>(
     source: &mut S,
     sink: &mut T,
@@ -173,10 +176,12 @@ pub fn show_changes<S: Source, T: Sink>(
     requires sink_room { T.failed sink.old + 1 < 2 ^ 64 }
     requires limit { max_bytes ≤ 2 ^ 40 }
 
-    // Where it answers Ok, exactly the lines of the blocks are written that are their first or a change, in order of place.
+    // Where it answers Ok, exactly the lines of the blocks are written that are their first or a
+    // change, in order of place.
     ensures lines { IfOk result (λ _. (b : List ℕ) → Told (S.given source.old) (S.given source.new) b
         → Grew (T.taken sink.old) (T.taken sink.new) (change_lines (blocks (cells_of input b)))) }
-    // It is a run over cells: Ok is owed, a refusal has its cause, and what was decided before it is written.
+    // It is a run over cells: Ok is owed, a refusal has its cause, and what was decided before it
+    // is written.
     ensures run { CellRun max_bytes input (λ c. change_lines (blocks c)) (λ c. change_lines (decided_blocks c)) (counts_of input)
         (S.has_ended source.new) (movement_of S.given S.failed source.old source.new)
         (movement_of T.taken T.failed sink.old sink.new) result }

@@ -46,13 +46,15 @@ impl ReportWriter for ReportLines {
     }
 }
 
-/// Reads cells from any cell on, and writes a line for each report on them: each block that stands whole and closed, each
-/// with wrong parity bits, each place where a block begins and is faulty or cut; or for each but the whole blocks.
+/// Reads cells from any cell on, and writes a line for each report on them: each block that stands
+/// whole and closed, each with wrong parity bits, each place where a block begins and is faulty or
+/// cut; or for each but the whole blocks.
 ///
 /// # Errors
-/// `BadCell` where a byte of cell text is neither a cell nor a separator, `BadPadding` where packed cells end wrongly,
-/// `TooLong` where the input has more than `max_bytes` bytes, `Read` and `Write` where an end failed. Then the lines of
-/// the reports are written that were decided before, and after `Write` a front of them.
+/// `BadCell` where a byte of cell text is neither a cell nor a separator, `BadPadding` where packed
+/// cells end wrongly, `TooLong` where the input has more than `max_bytes` bytes, `Read` and `Write`
+/// where an end failed. Then the lines of the reports are written that were decided before, and
+/// after `Write` a front of them.
 pub fn check<S: Source, T: Sink>(
     source: &mut S,
     sink: &mut T,
@@ -67,7 +69,8 @@ pub fn check<S: Source, T: Sink>(
     // Where it answers Ok, exactly the lines of the reports are written, in order of place.
     ensures lines { IfOk result (λ _. (b : List ℕ) → Told (S.given source.old) (S.given source.new) b
         → Grew (T.taken sink.old) (T.taken sink.new) (report_lines lines (reports (cells_of input b)))) }
-    // It is a run over cells: Ok is owed, a refusal has its cause, and what was decided before it is written.
+    // It is a run over cells: Ok is owed, a refusal has its cause, and what was decided before it
+    // is written.
     ensures run { CellRun max_bytes input (λ c. report_lines lines (reports c)) (λ c. report_lines lines (decided c)) (counts_of input)
         (S.has_ended source.new) (movement_of S.given S.failed source.old source.new)
         (movement_of T.taken T.failed sink.old sink.new) result }

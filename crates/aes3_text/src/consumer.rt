@@ -2,10 +2,11 @@
 
 ghost use Rattle.std.specs.Prelude.{◌≡◌, ◌≤◌, ◌+◌, ◌*◌, ◌++◌, length, IsTrue};
 ghost use Rattle.aes3_text.specs.Words.{are_within, rows_of};
-ghost use Rattle.aes3_text.specs.Consumer.{consumer_text, emphasis_words, length_fields, length_words, rate_fields, signal_fields, source_fields};
-ghost use Rattle.aes3_text.specs.Settings.{con_text};
+ghost use Rattle.aes3_text.specs.Consumer.{con_name, con_text, consumer_text, emphasis_words};
+ghost use Rattle.aes3_text.specs.Consumer.{length_fields, length_words};
+ghost use Rattle.aes3_text.specs.Consumer.{rate_fields, signal_fields, source_fields};
 
-use crate::fields::FIELD_LEN;
+use crate::fields::{FIELD_LEN, NAME_LEN};
 use crate::line::{LINE_LEN, Line};
 use crate::words::{PAYLOAD, UP_TO_20, UP_TO_24, WORD_LEN};
 use aes3_status::{Con, ConField};
@@ -55,6 +56,51 @@ fn length_words(greatest: u8) -> &'static [(u8, &'static str)]
     if greatest == 0 { UP_TO_20 } else { UP_TO_24 }
 }
 
+/// The name of a field, as `show` prints it.
+pub(crate) fn consumer_name(field: ConField) -> &'static str
+    ensures name { result.now ≡ con_name field }
+    ensures len { length result.now ≤ NAME_LEN }
+{
+    match field {
+        ConField::Payload => "payload",
+        ConField::Copyright => "copyright",
+        ConField::Emphasis => "emphasis",
+        ConField::Mode => "mode",
+        ConField::Category => "category",
+        ConField::Generation => "generation",
+        ConField::Source => "source",
+        ConField::Number => "number",
+        ConField::Rate => "rate",
+        ConField::Accuracy => "accuracy",
+        ConField::B3high => "b3high",
+        ConField::Greatest => "greatest",
+        ConField::Word => "word",
+        ConField::Original => "original",
+    }
+}
+
+/// Appends a code of a field, where the number `under` tells what its codes mean.
+pub(crate) fn put_consumer_code(line: &mut Line, field: ConField, under: u8, code: u8)
+    requires { length line.old + FIELD_LEN ≤ LINE_LEN }
+    ensures code { line.new ≡ line.old ++ con_text field under code }
+    ensures len { length line.new ≤ length line.old + FIELD_LEN }
+{
+    let name = consumer_name(field);
+    match field {
+        ConField::Payload => line.word_field(name, PAYLOAD, code),
+        ConField::Copyright => line.word_field(name, COPYRIGHT, code),
+        ConField::Emphasis => line.word_field(name, emphasis_words(under), code),
+        ConField::Category => line.word_field(name, CATEGORY, code),
+        ConField::Source | ConField::Number => line.specified_field(name, u64::from(code)),
+        ConField::Rate => line.word_field(name, RATE, code),
+        ConField::Accuracy => line.word_field(name, ACCURACY, code),
+        ConField::Greatest => line.word_field(name, GREATEST, code),
+        ConField::Word => line.word_field(name, length_words(under), code),
+        ConField::Mode | ConField::Generation | ConField::B3high | ConField::Original =>
+            line.number_field(name, u64::from(code)),
+    }
+}
+
 /// Appends the fields of byte 0.
 #[tactic(auto, unfolding(crate::specs::Consumer::signal_fields))]
 fn put_signal(line: &mut Line, status: &Con)
@@ -62,14 +108,15 @@ fn put_signal(line: &mut Line, status: &Con)
     ensures fields { line.new ≡ line.old ++ signal_fields status.now }
     ensures len { length line.new ≤ length line.old + 4 * FIELD_LEN }
 {
-    line.word_field("payload", PAYLOAD, status.payload());
-    line.word_field("copyright", COPYRIGHT, status.copyright());
-    line.word_field(
-        "emphasis",
-        emphasis_words(status.payload()),
+    put_consumer_code(line, ConField::Payload, 0, status.payload());
+    put_consumer_code(line, ConField::Copyright, 0, status.copyright());
+    put_consumer_code(
+        line,
+        ConField::Emphasis,
+        status.payload(),
         status.emphasis(),
     );
-    line.number_field("mode", u64::from(status.mode()));
+    put_consumer_code(line, ConField::Mode, 0, status.mode());
 }
 
 /// Appends the fields of bytes 1 and 2.
@@ -79,10 +126,10 @@ fn put_source(line: &mut Line, status: &Con)
     ensures fields { line.new ≡ line.old ++ source_fields status.now }
     ensures len { length line.new ≤ length line.old + 4 * FIELD_LEN }
 {
-    line.word_field("category", CATEGORY, status.category());
-    line.number_field("generation", u64::from(status.generation()));
-    line.specified_field("source", u64::from(status.source()));
-    line.specified_field("number", u64::from(status.number()));
+    put_consumer_code(line, ConField::Category, 0, status.category());
+    put_consumer_code(line, ConField::Generation, 0, status.generation());
+    put_consumer_code(line, ConField::Source, 0, status.source());
+    put_consumer_code(line, ConField::Number, 0, status.number());
 }
 
 /// Appends the fields of byte 3.
@@ -91,9 +138,9 @@ fn put_rate(line: &mut Line, status: &Con)
     ensures fields { line.new ≡ line.old ++ rate_fields status.now }
     ensures len { length line.new ≤ length line.old + 3 * FIELD_LEN }
 {
-    line.word_field("rate", RATE, status.rate());
-    line.word_field("accuracy", ACCURACY, status.accuracy());
-    line.number_field("b3high", u64::from(status.b3high()));
+    put_consumer_code(line, ConField::Rate, 0, status.rate());
+    put_consumer_code(line, ConField::Accuracy, 0, status.accuracy());
+    put_consumer_code(line, ConField::B3high, 0, status.b3high());
 }
 
 /// Appends the fields of bytes 4 to 23.
@@ -103,9 +150,9 @@ fn put_length(line: &mut Line, status: &Con)
     ensures fields { line.new ≡ line.old ++ length_fields status.now }
     ensures len { length line.new ≤ length line.old + 5 * FIELD_LEN }
 {
-    line.word_field("greatest", GREATEST, status.greatest());
-    line.word_field("word", length_words(status.greatest()), status.word());
-    line.number_field("original", u64::from(status.original()));
+    put_consumer_code(line, ConField::Greatest, 0, status.greatest());
+    put_consumer_code(line, ConField::Word, status.greatest(), status.word());
+    put_consumer_code(line, ConField::Original, 0, status.original());
     line.hex_field("rest", &status.rest());
 }
 
@@ -121,27 +168,4 @@ pub(crate) fn put_consumer(line: &mut Line, status: &Con)
     put_source(line, status);
     put_rate(line, status);
     put_length(line, status);
-}
-
-/// Appends a code of one of these fields, where the number `under` tells what its codes mean.
-pub(crate) fn put_consumer_code(line: &mut Line, field: ConField, under: u8, code: u8)
-    requires { length line.old + FIELD_LEN ≤ LINE_LEN }
-    ensures { line.new ≡ line.old ++ con_text field under code }
-{
-    match field {
-        ConField::Payload => line.word_field("payload", PAYLOAD, code),
-        ConField::Copyright => line.word_field("copyright", COPYRIGHT, code),
-        ConField::Emphasis => line.word_field("emphasis", emphasis_words(under), code),
-        ConField::Mode => line.number_field("mode", u64::from(code)),
-        ConField::Category => line.word_field("category", CATEGORY, code),
-        ConField::Generation => line.number_field("generation", u64::from(code)),
-        ConField::Source => line.specified_field("source", u64::from(code)),
-        ConField::Number => line.specified_field("number", u64::from(code)),
-        ConField::Rate => line.word_field("rate", RATE, code),
-        ConField::Accuracy => line.word_field("accuracy", ACCURACY, code),
-        ConField::B3high => line.number_field("b3high", u64::from(code)),
-        ConField::Greatest => line.word_field("greatest", GREATEST, code),
-        ConField::Word => line.word_field("word", length_words(under), code),
-        ConField::Original => line.number_field("original", u64::from(code)),
-    }
 }

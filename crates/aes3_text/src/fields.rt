@@ -1,6 +1,7 @@
 //! The fields of a status line.
 
-ghost use Rattle.std.specs.Prelude.{◌≡◌, ◌≤◌, ◌<◌, ◌+◌, ◌*◌, ◌++◌, codes, decimal, length, map, IsTrue};
+ghost use Rattle.std.specs.Prelude.{◌≡◌, ◌≤◌, ◌<◌, ◌+◌, ◌*◌, ◌++◌, codes, decimal, length, map};
+ghost use Rattle.std.specs.Prelude.{IsTrue};
 ghost use Rattle.std.specs.Int.{bit_at};
 ghost use Rattle.hex.specs.Hex.{encode_lower};
 ghost use Rattle.aes3_text.specs.Words.{are_within, rows_of, word_for};
@@ -20,7 +21,7 @@ const REST_DIGITS: usize = 38;
 
 impl Line {
     /// Appends the name of a field, with a space before it and the equals sign.
-    fn field(&mut self, name: &str)
+    pub(crate) fn field(&mut self, name: &str)
         requires name { length name.now ≤ NAME_LEN }
         requires space { length self.old + FIELD_LEN ≤ LINE_LEN }
         ensures name { self.new ≡ self.old ++ (codes " " ++ name.now ++ codes "=") }
@@ -71,7 +72,8 @@ impl Line {
         }
     }
 
-    /// Appends a field with the word of this code, or `code` and the number where the table has none.
+    /// Appends a field with the word of this code, or `code` and the number where the table has
+    /// none.
     #[tactic(auto, unfolding(crate::specs::Fields::field_text, crate::specs::Words::word_for))]
     pub(crate) fn word_field(&mut self, name: &str, words: &[(u8, &str)], code: u8)
         requires name { length name.now ≤ NAME_LEN }

@@ -1,51 +1,64 @@
-//! Laws that join what is given of changed cells and what the check of a channel status tells, and laws of the account of an
-//! input's cells.
+//! Laws that join what is given of changed cells and what the check of a channel status tells, and
+//! laws of the account of an input's cells.
 
-ghost use Rattle.aes3_text.specs.GapLaws.{AccountIsInTime, AccountIsWhole, ChangeIsLost, LossIsLost, NoGapLosesNothing, PieceHasNoGap, RowHasNoGap};
+ghost use Rattle.aes3_text.specs.GapLaws.{AccountIsInTime, AccountIsWhole, ChangeIsLost};
+ghost use Rattle.aes3_text.specs.GapLaws.{LossIsLost, NoGapLosesNothing, PieceHasNoGap};
+ghost use Rattle.aes3_text.specs.GapLaws.{RowHasNoGap};
 ghost use Rattle.aes3_text.specs.Laws.{ExchangedStatusIsFound};
-ghost use Rattle.aes3_text.specs.Settings.{LineShowsFields};
+ghost use Rattle.aes3_text.specs.Settings.{LineShowsFields, OtherWordsStay};
 
-/// Two changed cells that leave a block, with the bits of two slots inverted, leave no good check of a channel status
-/// that they change.
+/// Two changed cells that leave a block, with the bits of two slots inverted, leave no good check
+/// of a channel status that they change.
 pub fn changed_status_is_found()
     ensures { ExchangedStatusIsFound }
 {}
 
-/// The whole blocks and the gaps of the account of any cells are these cells, each exactly once, in order, and its reports
-/// are all reports on them.
+/// The whole blocks and the gaps of the account of any cells are these cells, each exactly once, in
+/// order, and its reports are all reports on them.
 pub fn account_is_whole()
     ensures { AccountIsWhole }
 {}
 
-/// What stands of an account whatever cells follow accounts for all cells but the last 49,151 at most.
+/// What stands of an account whatever cells follow accounts for all cells but the last 49,151 at
+/// most.
 pub fn account_is_in_time()
     ensures { AccountIsInTime }
 {}
 
-/// Where no gap of the account counts, the whole blocks stand in a row, each directly behind the one before it, and before
-/// the first and behind the last are fewer cells than a block has.
+/// Where no gap of the account counts, the whole blocks stand in a row, each directly behind the
+/// one before it, and before the first and behind the last are fewer cells than a block has.
 pub fn no_gap_loses_nothing()
     ensures { NoGapLosesNothing }
 {}
 
-/// Where one cell of a stream of whole blocks changes, a gap of the account counts: so `check --gaps` ends with status 1.
+/// Where one cell of a stream of whole blocks changes, a gap of the account counts: so
+/// `check --gaps` ends with status 1.
 pub fn change_is_lost()
     ensures { ChangeIsLost }
 {}
 
-/// Where one cell of a stream of whole blocks is lost that stands between the first of them and the last, a gap counts too.
+/// Where one cell of a stream of whole blocks is lost that stands between the first of them and the
+/// last, a gap counts too.
 pub fn loss_is_lost()
     ensures { LossIsLost }
 {}
 
-/// Where the whole blocks of cells, one at least, stand in a row, and before the first and behind the last are fewer cells
-/// than a block has, no gap of the account counts; so none does in a piece of a lawful stream that has a whole block.
+/// Where the whole blocks of cells, one at least, stand in a row, and before the first and behind
+/// the last are fewer cells than a block has, no gap of the account counts; so none does in a piece
+/// of a lawful stream that has a whole block.
 pub fn whole_rows_have_no_gap()
     ensures row { RowHasNoGap }
     ensures piece { PieceHasNoGap }
 {}
 
-/// The line of a channel status is made of what is printed of each field that can be set, in order, and of the others.
+/// The line of a channel status is made of what is printed of each field that can be set, in order,
+/// and of the others.
 pub fn line_shows_fields()
     ensures { LineShowsFields }
+{}
+
+/// A field that is set by name leaves what is printed of every other field, but where it tells what
+/// the other's codes mean.
+pub fn other_words_stay()
+    ensures { OtherWordsStay }
 {}

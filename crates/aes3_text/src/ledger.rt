@@ -1,6 +1,7 @@
 //! What is accounted for of all cells: the reports, and the gaps before them.
 
-ghost use Rattle.std.specs.Prelude.{◌≡◌, ◌+◌, ◌-◌, ◌<◌, ◌≤◌, ◌^◌, List, [], ◌∷◌, ◌++◌, length, IfOk, OnErr};
+ghost use Rattle.std.specs.Prelude.{◌≡◌, ◌+◌, ◌-◌, ◌<◌, ◌≤◌, ◌^◌, List, [], ◌∷◌, ◌++◌, length};
+ghost use Rattle.std.specs.Prelude.{IfOk, OnErr};
 ghost use Rattle.std.specs.List.{filter};
 ghost use Rattle.aes3_cell.specs.declared.level.Level.{Level};
 ghost use Rattle.aes3_cell.specs.Ends.{Grew, GrewFront};
@@ -10,8 +11,10 @@ ghost use Rattle.aes3_lock.specs.Remains.{place_of};
 ghost use Rattle.aes3_lock.specs.Reports.{decided, reports};
 ghost use Rattle.aes3_engine.specs.ReportRuns.{IsTallyOf};
 ghost use Rattle.aes3_engine.specs.Taking.{behind};
-ghost use Rattle.aes3_text.specs.Gaps.{behind_full, behind_report, full_count, full_gaps, gaps, gaps_before, is_lost, reported, rest_gap};
-ghost use Rattle.aes3_text.specs.Runs.{AtEnd, IsClosedLedgerOf, IsLedgerOf, WhereDecided, WhereNone, account_lines, accounting};
+ghost use Rattle.aes3_text.specs.Gaps.{behind_full, behind_report, full_count, full_gaps, gaps};
+ghost use Rattle.aes3_text.specs.Gaps.{gaps_before, is_lost, reported, rest_gap};
+ghost use Rattle.aes3_text.specs.Runs.{AtEnd, IsClosedLedgerOf, IsLedgerOf, WhereDecided};
+ghost use Rattle.aes3_text.specs.Runs.{WhereNone, account_lines, accounting};
 
 use crate::gap::line_of_gap;
 use crate::lines::Lines;

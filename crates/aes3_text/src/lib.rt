@@ -1,5 +1,5 @@
-//! Lines of text: reports, preambles and channel status (AES3-2, AES3-3, IEC 60958-1, IEC 60958-3), and the runs that
-//! write them.
+//! Lines of text: reports, preambles and channel status (AES3-2, AES3-3, IEC 60958-1, IEC 60958-3),
+//! and the runs that write them.
 #![tactic(auto)]
 
 mod accounting;

@@ -89,16 +89,11 @@ impl Line {
         &bytes[1..] == text.as_bytes()
     }
 
-    /// The bytes of the line.
+    /// The bytes so far.
     pub(crate) fn as_bytes(&self) -> &[u8]
         ensures { result.now ≡ self.now }
     {
         self.bytes.as_slice()
-    }
-
-    /// The line as text.
-    pub(crate) fn as_str(&self) -> &str {
-        str::from_utf8(self.bytes.as_slice()).unwrap_or("")
     }
 
     /// Empties the line.

@@ -1,7 +1,8 @@
 //! The settings of several texts.
 
 ghost use Rattle.std.specs.Prelude.{◌≡◌, None, length, map, IfOk, IfErr, IfSome};
-ghost use Rattle.aes3_text.specs.Settings.{AreSettingsOf, IsSetBy, IsSettingsFault, IsUnknown, consumer_fields, professional_fields};
+ghost use Rattle.aes3_text.specs.Settings.{AreSettingsOf, IsSetBy, IsSettingsFault, IsUnknown};
+ghost use Rattle.aes3_text.specs.Settings.{consumer_fields, professional_fields};
 
 use crate::settings::{consumer_setting, professional_setting};
 use aes3_status::{SETTINGS, Setting};
@@ -44,11 +45,13 @@ fn pair_of(text: &str) -> Option<Pair>
     }
 }
 
-/// The settings of texts `NAME=WORD` as `show` prints them, in their order. Each text has two places among them, one for
-/// the setting of professional status (AES3-2) and one for that of consumer status (IEC 60958-3).
+/// The settings of texts `NAME=WORD` as `show` prints them, in their order. Each text has two
+/// places among them, one for the setting of professional status (AES3-2) and one for that of
+/// consumer status (IEC 60958-3).
 ///
 /// # Errors
-/// `Unknown` where `show` prints no field so as a text, `TooMany` where there are more than 32 texts.
+/// `Unknown` where `show` prints no field so as a text, `TooMany` where there are more than 32
+/// texts.
 pub fn settings_of_texts(texts: &[&str]) -> Result<[Setting; SETTINGS], SettingsFault>
     ensures settings { IfOk result (AreSettingsOf (map (λ text. text.now) texts.now)) }
     ensures fault { IfErr result (IsSettingsFault (map (λ text. text.now) texts.now)) }

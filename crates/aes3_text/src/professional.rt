@@ -2,10 +2,11 @@
 
 ghost use Rattle.std.specs.Prelude.{◌≡◌, ◌≤◌, ◌+◌, ◌*◌, ◌++◌, length, IsTrue};
 ghost use Rattle.aes3_text.specs.Words.{are_within, rows_of};
-ghost use Rattle.aes3_text.specs.Professional.{address_fields, check_word, length_words, mode_fields, name_fields, professional_text, signal_fields};
-ghost use Rattle.aes3_text.specs.Settings.{pro_text};
+ghost use Rattle.aes3_text.specs.Professional.{address_fields, check_word, length_words};
+ghost use Rattle.aes3_text.specs.Professional.{mode_fields, name_fields, pro_name};
+ghost use Rattle.aes3_text.specs.Professional.{pro_text, professional_text, signal_fields};
 
-use crate::fields::FIELD_LEN;
+use crate::fields::{FIELD_LEN, NAME_LEN};
 use crate::line::{LINE_LEN, Line};
 use crate::words::{PAYLOAD, UP_TO_20, UP_TO_24, UP_TO_ANY, WORD_LEN};
 use aes3_status::{Check, Pro, ProField};
@@ -68,16 +69,61 @@ fn check_word(check: Check) -> &'static str
     }
 }
 
+/// The name of a field, as `show` prints it.
+pub(crate) fn professional_name(field: ProField) -> &'static str
+    ensures name { result.now ≡ pro_name field }
+    ensures len { length result.now ≤ NAME_LEN }
+{
+    match field {
+        ProField::Payload => "payload",
+        ProField::Emphasis => "emphasis",
+        ProField::Unlocked => "unlocked",
+        ProField::Rate => "rate",
+        ProField::Mode => "mode",
+        ProField::User => "user",
+        ProField::Aux => "aux",
+        ProField::Word => "word",
+        ProField::B2high => "b2high",
+        ProField::B3 => "b3",
+        ProField::B4 => "b4",
+        ProField::B5 => "b5",
+        ProField::Unreliable => "unreliable",
+        ProField::B22low => "b22low",
+    }
+}
+
+/// Appends a code of a field, where the number `under` tells what its codes mean.
+pub(crate) fn put_professional_code(line: &mut Line, field: ProField, under: u8, code: u8)
+    requires { length line.old + FIELD_LEN ≤ LINE_LEN }
+    ensures code { line.new ≡ line.old ++ pro_text field under code }
+    ensures len { length line.new ≤ length line.old + FIELD_LEN }
+{
+    let name = professional_name(field);
+    match field {
+        ProField::Payload => line.word_field(name, PAYLOAD, code),
+        ProField::Emphasis => line.word_field(name, EMPHASIS, code),
+        ProField::Unlocked => line.word_field(name, UNLOCKED, code),
+        ProField::Rate => line.word_field(name, RATE, code),
+        ProField::Mode => line.word_field(name, MODE, code),
+        ProField::User => line.word_field(name, USER, code),
+        ProField::Aux => line.word_field(name, AUX, code),
+        ProField::Word => line.word_field(name, length_words(under), code),
+        ProField::Unreliable => line.bits_field(name, code),
+        ProField::B2high | ProField::B3 | ProField::B4 | ProField::B5 | ProField::B22low =>
+            line.number_field(name, u64::from(code)),
+    }
+}
+
 /// Appends the fields of byte 0.
 fn put_signal(line: &mut Line, status: &Pro)
     requires { length line.old + 4 * FIELD_LEN ≤ LINE_LEN }
     ensures fields { line.new ≡ line.old ++ signal_fields status.now }
     ensures len { length line.new ≤ length line.old + 4 * FIELD_LEN }
 {
-    line.word_field("payload", PAYLOAD, status.payload());
-    line.word_field("emphasis", EMPHASIS, status.emphasis());
-    line.word_field("unlocked", UNLOCKED, status.unlocked());
-    line.word_field("rate", RATE, status.rate());
+    put_professional_code(line, ProField::Payload, 0, status.payload());
+    put_professional_code(line, ProField::Emphasis, 0, status.emphasis());
+    put_professional_code(line, ProField::Unlocked, 0, status.unlocked());
+    put_professional_code(line, ProField::Rate, 0, status.rate());
 }
 
 /// Appends the fields of bytes 1 and 2.
@@ -86,11 +132,11 @@ fn put_mode(line: &mut Line, status: &Pro)
     ensures fields { line.new ≡ line.old ++ mode_fields status.now }
     ensures len { length line.new ≤ length line.old + 5 * FIELD_LEN }
 {
-    line.word_field("mode", MODE, status.mode());
-    line.word_field("user", USER, status.user());
-    line.word_field("aux", AUX, status.aux());
-    line.word_field("word", length_words(status.aux()), status.word());
-    line.number_field("b2high", u64::from(status.b2high()));
+    put_professional_code(line, ProField::Mode, 0, status.mode());
+    put_professional_code(line, ProField::User, 0, status.user());
+    put_professional_code(line, ProField::Aux, 0, status.aux());
+    put_professional_code(line, ProField::Word, status.aux(), status.word());
+    put_professional_code(line, ProField::B2high, 0, status.b2high());
 }
 
 /// Appends the fields of bytes 3 to 13.
@@ -100,9 +146,9 @@ fn put_names(line: &mut Line, status: &Pro)
     ensures fields { line.new ≡ line.old ++ name_fields status.now }
     ensures len { length line.new ≤ length line.old + 5 * FIELD_LEN }
 {
-    line.number_field("b3", u64::from(status.b3()));
-    line.number_field("b4", u64::from(status.b4()));
-    line.number_field("b5", u64::from(status.b5()));
+    put_professional_code(line, ProField::B3, 0, status.b3());
+    put_professional_code(line, ProField::B4, 0, status.b4());
+    put_professional_code(line, ProField::B5, 0, status.b5());
     line.characters_field("origin", status.origin());
     line.characters_field("destination", status.destination());
 }
@@ -116,8 +162,8 @@ fn put_addresses(line: &mut Line, status: &Pro)
 {
     line.number_field("local", u64::from(status.local()));
     line.number_field("time", u64::from(status.time()));
-    line.bits_field("unreliable", status.unreliable());
-    line.number_field("b22low", u64::from(status.b22low()));
+    put_professional_code(line, ProField::Unreliable, 0, status.unreliable());
+    put_professional_code(line, ProField::B22low, 0, status.b22low());
 }
 
 /// Appends a channel status for professional use.
@@ -132,27 +178,4 @@ pub(crate) fn put_professional(line: &mut Line, status: &Pro, check: Check)
     put_names(line, status);
     put_addresses(line, status);
     line.text_field("check", check_word(check));
-}
-
-/// Appends a code of one of these fields, where the number `under` tells what its codes mean.
-pub(crate) fn put_professional_code(line: &mut Line, field: ProField, under: u8, code: u8)
-    requires { length line.old + FIELD_LEN ≤ LINE_LEN }
-    ensures { line.new ≡ line.old ++ pro_text field under code }
-{
-    match field {
-        ProField::Payload => line.word_field("payload", PAYLOAD, code),
-        ProField::Emphasis => line.word_field("emphasis", EMPHASIS, code),
-        ProField::Unlocked => line.word_field("unlocked", UNLOCKED, code),
-        ProField::Rate => line.word_field("rate", RATE, code),
-        ProField::Mode => line.word_field("mode", MODE, code),
-        ProField::User => line.word_field("user", USER, code),
-        ProField::Aux => line.word_field("aux", AUX, code),
-        ProField::Word => line.word_field("word", length_words(under), code),
-        ProField::B2high => line.number_field("b2high", u64::from(code)),
-        ProField::B3 => line.number_field("b3", u64::from(code)),
-        ProField::B4 => line.number_field("b4", u64::from(code)),
-        ProField::B5 => line.number_field("b5", u64::from(code)),
-        ProField::Unreliable => line.bits_field("unreliable", code),
-        ProField::B22low => line.number_field("b22low", u64::from(code)),
-    }
 }

@@ -1,12 +1,16 @@
 //! Fields of channel status by their names and the words that `show` prints.
 
-ghost use Rattle.std.specs.Prelude.{◌≡◌, ◌≢◌, ◌<◌, ◌≤◌, ◌+◌, ◌++◌, ℕ, None, length, get_or, IfSome, IsFalse, IsTrue};
-ghost use Rattle.aes3_text.specs.Settings.{IsCodeOf, IsNoSetting, IsSettingOf, IsShownThen, code_text, consumer_fields, professional_fields};
+ghost use Rattle.std.specs.Prelude.{◌≡◌, ◌≢◌, ◌<◌, ◌≤◌, ◌+◌, ◌++◌, ℕ, None, length, get_or, IfSome};
+ghost use Rattle.std.specs.Prelude.{IsFalse, IsTrue};
+ghost use Rattle.aes3_text.specs.Choices.{name_of};
+ghost use Rattle.aes3_text.specs.Settings.{IsCodeOf, IsNoSetting, IsSettingOf, IsShownThen};
+ghost use Rattle.aes3_text.specs.Settings.{code_text};
+ghost use Rattle.aes3_text.specs.Settings.{consumer_fields, professional_fields};
 
-use crate::consumer::put_consumer_code;
-use crate::fields::FIELD_LEN;
+use crate::consumer::{consumer_name, put_consumer_code};
+use crate::fields::{FIELD_LEN, NAME_LEN};
 use crate::line::{LINE_LEN, Line};
-use crate::professional::put_professional_code;
+use crate::professional::{professional_name, put_professional_code};
 use aes3_status::{ConField, Field, ProField, Setting};
 
 /// The fields of professional status (AES3-2) that can be set, as `show` prints them.
@@ -45,10 +49,22 @@ pub(crate) const CONSUMER: &[Field] = &[
     Field::Consumer(ConField::Original),
 ];
 
+/// The name of a field, as `show` prints it.
+pub(crate) fn name_of(field: Field) -> &'static str
+    ensures name { result.now ≡ name_of field }
+    ensures len { length result.now ≤ NAME_LEN }
+{
+    match field {
+        Field::Professional(field) => professional_name(field),
+        Field::Consumer(field) => consumer_name(field),
+    }
+}
+
 /// Appends a code of a field, where the number `under` tells what its codes mean.
 pub(crate) fn put_code(line: &mut Line, field: Field, under: u8, code: u8)
     requires { length line.old + FIELD_LEN ≤ LINE_LEN }
-    ensures { line.new ≡ line.old ++ code_text field under code }
+    ensures code { line.new ≡ line.old ++ code_text field under code }
+    ensures len { length line.new ≤ length line.old + FIELD_LEN }
 {
     match field {
         Field::Professional(field) => put_professional_code(line, field, under, code),
@@ -56,7 +72,8 @@ pub(crate) fn put_code(line: &mut Line, field: Field, under: u8, code: u8)
     }
 }
 
-/// The first code of a field that `show` prints as this text, where the number `under` tells what its codes mean.
+/// The first code of a field that `show` prints as this text, where the number `under` tells what
+/// its codes mean.
 pub(crate) fn code_of(field: Field, under: u8, text: &str) -> Option<u8>
     ensures some { IfSome result (IsCodeOf text.now field under) }
     ensures none { result ≡ None → (code : ℕ) → ¬ IsCodeOf text.now field under code }
@@ -72,7 +89,8 @@ pub(crate) fn code_of(field: Field, under: u8, text: &str) -> Option<u8>
     None
 }
 
-/// The codes of a field that `show` prints as this text, by the number that tells what its codes mean.
+/// The codes of a field that `show` prints as this text, by the number that tells what its codes
+/// mean.
 fn codes_of(field: Field, text: &str) -> [Option<u8>; 8]
     ensures len { length result ≡ 8 }
     ensures some { (under : ℕ) → under < 8 → IfSome (get_or result under None) (IsCodeOf text.now field under) }
@@ -120,8 +138,9 @@ fn setting_in(fields: &[Field], text: &str) -> Option<Setting>
     None
 }
 
-/// The setting of a field of professional status (AES3-2) by a text `NAME=WORD` as `show` prints it, a code without a word
-/// as `code` and its number; `None` where no code of such a field is printed so.
+/// The setting of a field of professional status (AES3-2) by a text `NAME=WORD` as `show` prints
+/// it, a code without a word as `code` and its number; `None` where no code of such a field is
+/// printed so.
 pub fn professional_setting(text: &str) -> Option<Setting>
     ensures some { IfSome result (IsSettingOf text.now professional_fields) }
     ensures shown { IfSome result (IsShownThen text.now) }

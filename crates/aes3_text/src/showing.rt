@@ -53,11 +53,12 @@ impl BlockWriter for ChannelLines {
     }
 }
 
-/// Reads cells from any cell on, and writes two lines for each block that stands whole and closed in them: the channel
-/// status of channel 1 and that of channel 2 (AES3-2, IEC 60958-3).
+/// Reads cells from any cell on, and writes two lines for each block that stands whole and closed
+/// in them: the channel status of channel 1 and that of channel 2 (AES3-2, IEC 60958-3).
 ///
 /// # Errors
-/// Those of `check`; then the lines of the blocks are written that were decided before, and after `Write` a front of them.
+/// Those of `check`; then the lines of the blocks are written that were decided before, and after
+/// `Write` a front of them.
 pub fn show<S: Source, T: Sink>(
     source: &mut S,
     sink: &mut T,
@@ -71,7 +72,8 @@ pub fn show<S: Source, T: Sink>(
     // Where it answers Ok, exactly the lines of the blocks are written, in order of place.
     ensures lines { IfOk result (λ _. (b : List ℕ) → Told (S.given source.old) (S.given source.new) b
         → Grew (T.taken sink.old) (T.taken sink.new) (status_lines (blocks (cells_of input b)))) }
-    // It is a run over cells: Ok is owed, a refusal has its cause, and what was decided before it is written.
+    // It is a run over cells: Ok is owed, a refusal has its cause, and what was decided before it
+    // is written.
     ensures run { CellRun max_bytes input (λ c. status_lines (blocks c)) (λ c. status_lines (decided_blocks c)) (counts_of input)
         (S.has_ended source.new) (movement_of S.given S.failed source.old source.new)
         (movement_of T.taken T.failed sink.old sink.new) result }

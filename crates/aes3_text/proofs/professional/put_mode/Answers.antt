@@ -6,20 +6,10 @@ pub returns-clause-fields : goal.returns-clause-fields
 unfolding mode_fields
 returns-clause-fields c =
     rw (
-      c.number_field.ensures.field,
-      c.word_field-4.ensures.field,
-      c.word_field-3.ensures.field,
-      c.word_field-2.ensures.field,
-      c.word_field.ensures.field,
+      c.put_professional_code-5.ensures.code,
+      c.put_professional_code-4.ensures.code,
+      c.put_professional_code-3.ensures.code,
+      c.put_professional_code-2.ensures.code,
+      c.put_professional_code.ensures.code,
     )
-    (rw (
-      c.mode.ensures,
-      c.user.ensures,
-      c.aux.ensures,
-      c.word.ensures,
-      c.length_words.ensures.rows,
-      c.aux-2.ensures,
-      c.from.ensures,
-      c.b2high.ensures,
-    )
-    (simp append_assoc))
+    (rw (c.mode.ensures, c.user.ensures, c.aux.ensures, c.word.ensures, c.aux-2.ensures, c.b2high.ensures) (simp append_assoc))

@@ -1,6 +1,6 @@
 use Rattle.std.proofs.Common.{ℕ, List, ◌+◌, ◌*◌, get_or, ap, ◌∙◌, sym, arith}
 use Rattle.aes3_status.proofs.BitFields.{four-bytes, take-four}
-use Rattle.aes3_status.proofs.fields.u32_at.Goals as goal
+use Rattle.aes3_status.proofs.bits.u32_at.Goals as goal
 
 pub returns : goal.returns
 returns c =
