@@ -10,7 +10,8 @@ use crate::observer::Observer;
 use crate::refusal::refuse;
 use aes3_cell::{RunError, Sink, Source};
 
-/// The refusal of a run once the sink has passed on what it holds: `Write` where that failed, else the first one.
+/// The refusal of a run once the sink has passed on what it holds: `Write` where that failed, else
+/// the first one.
 fn flushed<T: Sink>(error: RunError, sink: &mut T) -> RunError
     requires room { error ≢ RunError.Write → T.failed sink.old + 1 < 2 ^ 64 }
     ensures told { Flushed error
@@ -26,9 +27,9 @@ fn flushed<T: Sink>(error: RunError, sink: &mut T) -> RunError
     }
 }
 
-/// Runs a job, and answers the exit status: 0 done, 1 where `check` found faults, 3 for a refusal. Unless the sink failed, it
-/// has passed on all that it took, also behind a refusal. A refusal is told on `errors`, whose own faults change nothing. The
-/// observer is told too.
+/// Runs a job, and answers the exit status: 0 done, 1 where `check` found faults, 3 for a refusal.
+/// Unless the sink failed, it has passed on all that it took, also behind a refusal. A refusal is
+/// told on `errors`, whose own faults change nothing. The observer is told too.
 pub fn finish_job<S: Source, T: Sink, E: Sink, O: Observer>(
     job: &Job,
     source: &mut S,

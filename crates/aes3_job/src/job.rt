@@ -42,7 +42,8 @@ pub enum Job {
     Scan {
         input: Form,
     },
-    /// Cells to the normal stream of `count` of their blocks, the first of which has the number `from`.
+    /// Cells to the normal stream of `count` of their blocks, the first of which has the number
+    /// `from`.
     Cut {
         input: Form,
         output: Form,

@@ -1,5 +1,5 @@
-//! What the program does once its command line is read: a job between a source and a sink, the line of its refusal and its
-//! exit status.
+//! What the program does once its command line is read: a job between a source and a sink, the line
+//! of its refusal and its exit status.
 #![tactic(auto)]
 
 mod finish;

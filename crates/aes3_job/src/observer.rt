@@ -3,8 +3,8 @@
 use crate::job::Job;
 use aes3_cell::RunError;
 
-/// Is told how the program goes on. No clause speaks of what it does: it has neither the input nor the output, and what the
-/// errors are told stands without it.
+/// Is told how the program goes on. No clause speaks of what it does: it has neither the input nor
+/// the output, and what the errors are told stands without it.
 pub trait Observer {
     /// The job is about to run.
     fn begins(&mut self, job: &Job);

@@ -66,7 +66,8 @@ pub fn put_refusal<T: Sink>(error: RunError, sink: &mut T) -> Result<(), Fault>
     write_all(sink, line.as_slice())
 }
 
-/// Tells a refusal on `errors`, whose own faults change nothing, and then the observer, and answers its exit status.
+/// Tells a refusal on `errors`, whose own faults change nothing, and then the observer, and answers
+/// its exit status.
 pub fn refuse<E: Sink, O: Observer>(error: RunError, errors: &mut E, observer: &mut O) -> u8
     requires { E.failed errors.old + 1 < 2 ^ 64 }
     ensures status { result ≡ 3 }
