@@ -3,9 +3,10 @@
 ghost use Rattle.std.specs.Prelude.{◌≡◌, ◌≢◌, ℕ, ◌+◌, ◌<◌, ◌≤◌, ◌^◌, ◌⊎◌, List, [], ◌∷◌, Bool, true, false, None, Err, length, take, IfOk, IfErr, IfSome, IsOk, OnErr, IsTrue};
 ghost use Rattle.std.specs.List.{All};
 ghost use Rattle.aes3_cell.specs.Ends.{Grew, GrewFront, Told};
-ghost use Rattle.aes3_cell.specs.Written.{written};
+ghost use Rattle.aes3_cell.specs.Writes.{Wrote};
+ghost use Rattle.aes3_cell.specs.Written.{bytes_of, written};
 ghost use Rattle.aes3_cell.specs.declared.level.Level.{Level};
-ghost use Rattle.aes3_block.specs.Blocks.{IsBlock, stream};
+ghost use Rattle.aes3_block.specs.Blocks.{IsBlock, block_cells, stream};
 ghost use Rattle.aes3_block.specs.Files.{file, IsBlockFile, file_blocks};
 ghost use Rattle.aes3_block.specs.Readers.{TakesBlock, TakesQuietly};
 ghost use Rattle.aes3_lock.specs.Reports.{blocks, normal};
@@ -13,14 +14,34 @@ ghost use Rattle.aes3_engine.specs.Encoding.{Encodes, IsCauseOf, WholeFile, enco
 ghost use Rattle.aes3_engine.specs.Running.{FrontRan, PieceRan, movement_of};
 
 use crate::conversion::{Input, convert};
-use aes3_block::{BLOCK_BYTES, BLOCK_CELLS, Block, BlockFile, put_block};
-use aes3_cell::{Counts, Form, Level, RunError, Sink, Source, put_ending};
+use aes3_block::{BLOCK_BYTES, BLOCK_CELLS, Block, BlockFile, SLOTS, fill_block_cells};
+use aes3_cell::{Counts, Fault, Form, Level, RunError, Sink, Source, put_ending, put_words};
 
-/// Writes the cells of each block in a form, and counts the blocks.
+/// Writes the cells of each block in a form, and counts the blocks. The cells are made in words that it keeps, which so
+/// are cleared once.
 #[derive(Drop)]
 struct Encoder {
     output: Form,
     blocks: u64,
+    cells: [u64; SLOTS],
+}
+
+fn blank_cells() -> [u64; SLOTS] {
+    [0; SLOTS]
+}
+
+/// Writes the cells of a block, which it makes in `cells`.
+fn put_cells<T: Sink>(
+    output: Form,
+    block: &Block,
+    cells: &mut [u64; SLOTS],
+    sink: &mut T,
+) -> Result<(), Fault>
+    requires room { T.failed sink.old + 1 < 2 ^ 64 }
+    ensures { Wrote T.taken T.failed sink.old sink.new (bytes_of output (block_cells Level.Low block.now)) result }
+{
+    fill_block_cells(Level::Low, block, cells);
+    put_words(output, cells, sink)
 }
 
 /// Takes one byte of a block file, and writes the block that it ends.
@@ -37,7 +58,7 @@ fn take_byte<T: Sink>(
 {
     match file.feed_byte(byte) {
         Ok(None) => Ok(()),
-        Ok(Some(block)) => match put_block(encoder.output, Level::Low, &block, sink) {
+        Ok(Some(block)) => match put_cells(encoder.output, &block, &mut encoder.cells, sink) {
             Ok(()) => {
                 encoder.blocks += 1;
                 Ok(())
@@ -113,7 +134,7 @@ impl Input<Encoder> for BlockFile {
         piece: &[u8],
     ) -> Result<usize, RunError> {
         match feed_block(self, piece) {
-            Some(block) => match put_block(encoder.output, Level::Low, &block, sink) {
+            Some(block) => match put_cells(encoder.output, &block, &mut encoder.cells, sink) {
                 Ok(()) => {
                     encoder.blocks += 1;
                     Ok(BLOCK_BYTES)
@@ -185,7 +206,11 @@ pub fn encode<S: Source, T: Sink>(
     ensures few { (b : List ℕ) → Told (S.given source.old) (S.given source.new) b → length b ≤ max_bytes + 1 }
 {
     let mut file = BlockFile::new();
-    let mut encoder = Encoder { output, blocks: 0 };
+    let mut encoder = Encoder {
+        output,
+        blocks: 0,
+        cells: blank_cells(),
+    };
     match convert(source, sink, max_bytes, &mut file, &mut encoder) {
         Ok(bytes) => Ok(Counts {
             bytes,

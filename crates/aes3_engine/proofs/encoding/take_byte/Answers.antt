@@ -20,17 +20,17 @@ returns-in-Ok-None g c =
 
 pub returns-in-Ok : goal.returns-in-Ok
 returns-in-Ok g c = (
-  byte-block c.args.encoder.now.output c.feed_byte.new.self c.args.byte c.in-Ok-Some.block (g.T.Sink.taken c.args.sink.now) (g.T.Sink.taken c.put_block.new.sink)
+  byte-block c.args.encoder.now.output c.feed_byte.new.self c.args.byte c.in-Ok-Some.block (g.T.Sink.taken c.args.sink.now) (g.T.Sink.taken c.put_cells.new.sink)
       (sym (c.in-Ok-Some.is ∙ ap (λ o. Ok o) c.in-Ok-Some.field-0-is) ∙ c.feed_byte.ensures.answer) c.feed_byte.ensures.next
       (rw (← c.in-Ok-Some.block-is) c.in-Ok.ensures.grew),
   c.in-Ok.ensures.count,
 )
 
-pub returns-in-Err-put_block : goal.returns-in-Err-put_block
-returns-in-Err-put_block g c = (
-  c.in-Err-put_block.ensures.err.0,
-  byte-front c.args.encoder.now.output c.args.byte c.in-Ok-Some.block (g.T.Sink.taken c.args.sink.now) (g.T.Sink.taken c.put_block.new.sink)
-      (sym (c.in-Ok-Some.is ∙ ap (λ o. Ok o) c.in-Ok-Some.field-0-is) ∙ c.feed_byte.ensures.answer) c.in-Err-put_block.ensures.err.1,
+pub returns-in-Err-put_cells : goal.returns-in-Err-put_cells
+returns-in-Err-put_cells g c = (
+  c.in-Err-put_cells.ensures.err.0,
+  byte-front c.args.encoder.now.output c.args.byte c.in-Ok-Some.block (g.T.Sink.taken c.args.sink.now) (g.T.Sink.taken c.put_cells.new.sink)
+      (sym (c.in-Ok-Some.is ∙ ap (λ o. Ok o) c.in-Ok-Some.field-0-is) ∙ c.feed_byte.ensures.answer) c.in-Err-put_cells.ensures.err.1,
 )
 
 pub returns-in-Err : goal.returns-in-Err

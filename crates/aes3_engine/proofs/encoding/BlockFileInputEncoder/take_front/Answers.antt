@@ -20,7 +20,7 @@ pub returns-in-Ok : goal.returns-in-Ok
 returns-in-Ok g c = (
   omega arith,
   c.in-Some.ensures.bound,
-  block-fed c.args.encoder.now.output c.args.self.now c.feed_block.new.file (take 1536 c.args.piece.now) c.in-Some.block (g.T.Sink.taken c.args.sink.now) (g.T.Sink.taken c.put_block.new.sink)
+  block-fed c.args.encoder.now.output c.args.self.now c.feed_block.new.file (take 1536 c.args.piece.now) c.in-Some.block (g.T.Sink.taken c.args.sink.now) (g.T.Sink.taken c.put_cells.new.sink)
       c.in-Some.ensures.taken c.in-Ok.ensures.grew,
   c.in-Ok.ensures.count,
 )
@@ -29,7 +29,7 @@ pub returns-in-Err : goal.returns-in-Err
 returns-in-Err g c = (
   c.in-Err.ensures.err.0,
   block-front c.args.encoder.now.output c.args.self.now c.feed_block.new.file (take 1536 c.args.piece.now) (drop 1536 c.args.piece.now) c.args.piece.now c.in-Some.block
-      (g.T.Sink.taken c.args.sink.now) (g.T.Sink.taken c.put_block.new.sink) c.in-Some.ensures.taken (take-append-drop 1536 c.args.piece.now) c.in-Err.ensures.err.1,
+      (g.T.Sink.taken c.args.sink.now) (g.T.Sink.taken c.put_cells.new.sink) c.in-Some.ensures.taken (take-append-drop 1536 c.args.piece.now) c.in-Err.ensures.err.1,
 )
 
 pub take_few-requires-clause-following : goal.take_few-requires-clause-following
