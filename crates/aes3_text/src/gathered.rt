@@ -53,6 +53,8 @@ impl GatheredLines {
     }
 
     /// Adds the line of a preamble whose number has no more than four digits.
+    #[cold]
+    #[inline(never)]
     fn push_short(&mut self, at: u64, mark: Mark, before: Level)
         requires { length self.old + MARK_LEN ≤ GATHERED_LEN }
         ensures { self.new ≡ self.old ++ mark_line at mark before }
@@ -66,6 +68,7 @@ impl GatheredLines {
     }
 
     /// Adds the line of a preamble at cell `at` after the level `before`.
+    #[inline(always)]
     pub(crate) fn push(&mut self, at: u64, mark: Mark, before: Level)
         requires { length self.old + MARK_LEN ≤ GATHERED_LEN }
         ensures { self.new ≡ self.old ++ mark_line at mark before }

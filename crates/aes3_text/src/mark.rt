@@ -34,6 +34,8 @@ pub(crate) struct UpperDigits {
 
 impl UpperDigits {
     /// The digits of a number that has some before its last four.
+    #[cold]
+    #[inline(never)]
     pub(crate) fn new(number: u64) -> Self
         requires { 10000 ≤ number }
         ensures { result.number ≡ number / 10000 }
@@ -53,6 +55,7 @@ impl UpperDigits {
     }
 
     /// Makes them those of a number that has some before its last four.
+    #[inline(always)]
     pub(crate) fn renew(&mut self, number: u64)
         requires { 10000 ≤ number }
         ensures { self.new.number ≡ number / 10000 }
@@ -113,13 +116,14 @@ fn beginning(mark: Mark) -> &'static [u8; 10]
 }
 
 /// What stands behind the number in it.
-fn ending(before: Level) -> &'static [u8; 10]
-    ensures { result.now ≡ mark_ending before }
+fn ending(before: Level) -> [u8; 10]
+    ensures { result ≡ mark_ending before }
 {
-    match before {
-        Level::Low => b" before 0\n",
-        Level::High => b" before 1\n",
-    }
+    let level = match before {
+        Level::Low => b'0',
+        Level::High => b'1',
+    };
+    [b' ', b'b', b'e', b'f', b'o', b'r', b'e', b' ', level, b'\n']
 }
 
 /// Two digits of a number.
@@ -131,6 +135,7 @@ fn two_digits(number: u32) -> [u8; 2]
 }
 
 /// Puts the line of a preamble at cell `at`, whose number begins with these digits, and answers how many bytes it has.
+#[inline(always)]
 pub(crate) fn put_mark(
     line: &mut [u8],
     upper: &UpperDigits,
@@ -146,10 +151,13 @@ pub(crate) fn put_mark(
 {
     let last = (at - upper.first) as u32;
     let end = 10 + upper.len;
-    line[..10].copy_from_slice(beginning(mark));
-    line[10..26].copy_from_slice(&upper.text);
+    // Copied at first: the compiler need not ask then whether they lie in the line.
+    let beginning = *beginning(mark);
+    let text = upper.text;
+    line[..10].copy_from_slice(&beginning);
+    line[10..26].copy_from_slice(&text);
     line[end..end + 2].copy_from_slice(&two_digits(last / 100));
     line[end + 2..end + 4].copy_from_slice(&two_digits(last % 100));
-    line[end + 4..end + 14].copy_from_slice(ending(before));
+    line[end + 4..end + 14].copy_from_slice(&ending(before));
     end + 14
 }

@@ -42,6 +42,19 @@ impl MarkLines {
         }
     }
 
+    /// Counts a preamble that the scan told, and makes its line.
+    #[inline(always)]
+    fn gather(&mut self, found: (u64, Mark, Level))
+        requires fits { length self.old.lines + MARK_LEN ≤ GATHERED_LEN }
+        requires few { self.old.marks + 1 < 2 ^ 64 }
+        ensures scan { self.new.scan ≡ self.old.scan }
+        ensures marks { self.new.marks ≡ self.old.marks + 1 }
+        ensures lines { self.new.lines ≡ self.old.lines ++ mark_line found.0 found.1 found.2 }
+    {
+        self.marks += 1;
+        self.lines.push(found.0, found.1, found.2);
+    }
+
     /// Counts a preamble that the scan told, and makes its line. It hands on the lines where a further one might not fit,
     /// or where the sink would rather take each alone.
     ///
@@ -59,8 +72,7 @@ impl MarkLines {
         ensures err { OnErr result ((T.failed sink.new ≡ T.failed sink.old + 1)
             × GrewFront (T.taken sink.old) (T.taken sink.new) (self.old.lines ++ mark_line found.0 found.1 found.2)) }
     {
-        self.marks += 1;
-        self.lines.push(found.0, found.1, found.2);
+        self.gather(found);
         if sink.takes_much() && !self.lines.is_full() {
             return Ok(());
         }
@@ -84,8 +96,7 @@ impl MarkLines {
         ensures wrote { Wrote T.taken T.failed sink.old sink.new
             (mark_line found.0 found.1 found.2) result }
     {
-        self.marks += 1;
-        self.lines.push(found.0, found.1, found.2);
+        self.gather(found);
         match self.lines.hand_on(sink) {
             Ok(()) => Ok(()),
             Err(fault) => Err(fault),
