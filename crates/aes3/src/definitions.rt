@@ -2,8 +2,10 @@
 
 ghost use Rattle.std.specs.Prelude.{IfOk};
 ghost use Rattle.clap.specs.Simple.{new_app};
-ghost use Rattle.aes3.specs.CommandLine.{IsDefinedAs, IsOption, app_with, check, command_line, cut, encode, flag, from_pcm, normal, number, show};
-ghost use Rattle.aes3.specs.CommandLine.{packed_in, packed_out, reader, rewrite, settings_option, text_option};
+ghost use Rattle.aes3.specs.CommandLine.{IsDefinedAs, IsOption, app_with, check, command_line, cut};
+ghost use Rattle.aes3.specs.CommandLine.{encode, flag, from_pcm, normal, number, show};
+ghost use Rattle.aes3.specs.CommandLine.{packed_in, packed_out, reader, rewrite, settings_option};
+ghost use Rattle.aes3.specs.CommandLine.{text_option};
 
 use crate::help::{self, Texts};
 use clap::{Arg, ArgAction, Command, value_parser};
@@ -133,7 +135,11 @@ fn rewrite<'a>(alloc: Global) -> Result<Command<'a>, AllocError>
             "set1",
             "A field of channel 1 as `show` prints it; may be repeated",
         ))?
-        .arg(settings(alloc, "set2", "The same of channel 2"))?
+        .arg(settings(
+            alloc,
+            "set2",
+            "A field of channel 2 as `show` prints it; may be repeated",
+        ))?
         .arg(flag(
             alloc,
             "mend-check",
@@ -152,7 +158,11 @@ fn from_pcm<'a>(alloc: Global) -> Result<Command<'a>, AllocError>
             "set1",
             "A field of channel 1 as `show` prints it; may be repeated",
         ))?
-        .arg(settings(alloc, "set2", "The same of channel 2"))?
+        .arg(settings(
+            alloc,
+            "set2",
+            "A field of channel 2 as `show` prints it; may be repeated",
+        ))?
         .arg(flag(
             alloc,
             "mend-check",
