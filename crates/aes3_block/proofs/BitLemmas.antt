@@ -64,6 +64,15 @@ word-lawful w p b h e f =
     let o : odd_ones (slots_bits (bit_or w (p * 2 ^ 27 % 2 ^ 32))) ≡ false = ap odd_ones (word-slots w p b h e f) ∙ odd_ones-with_parity (payload_bits w) in
     rw (s.0, s.1, o) refl
 
+-- a number of 28 bits with even ones, moved to its slots
+pub even-lawful : (s : ℕ) → s < 2 ^ 28 → odd_ones (slots_bits s) ≡ false → is_lawful (s * 16 % 2 ^ 32) ≡ true
+even-lawful s h o =
+    let w = word-shr s h in
+    rw (w.0, w.1, o) refl
+
+pub moved-payload : (s : ℕ) → s < 2 ^ 28 → payload_of (s * 16 % 2 ^ 32) ≡ payload_bits s
+moved-payload s h = ap payload_bits (word-shr s h).0
+
 -- the payload of a number of 28 bits
 pub payload-slots : (s : ℕ) (bits : List Bool) → slots_bits s ≡ with_parity bits → length bits ≡ payload_len → payload_bits s ≡ bits
 unfolding slots_len payload_len

@@ -20,3 +20,4 @@ pub mod SlotWords
 pub mod Samples
 pub mod SampleBlocks
 pub mod ReadCells
+pub mod GatheredWords

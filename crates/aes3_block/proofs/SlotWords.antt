@@ -13,7 +13,7 @@ use Rattle.aes3_slot.specs.Reading.{differs, read_bits}
 use Rattle.aes3_slot.specs.ReadWords.{read_word, read_words}
 use Rattle.aes3_slot.proofs.Bits.{odd_ones-low_bits}
 use Rattle.aes3_block.specs.Files.{is_lawful, payload_of}
-use Rattle.aes3_block.proofs.BitLemmas.{low_bits-mod}
+use Rattle.aes3_block.proofs.BitLemmas.{low_bits-mod, moved-payload}
 
 take-low : (m n w : ℕ) → m ≤ n → take m (low_bits n w) ≡ low_bits m w
 take-low zero n w h = refl
@@ -24,6 +24,10 @@ take-low (suc m) (suc n) w h = ap (λ x. eqb (w % 2) 1 ∷ x) (take-low m n (w /
 pub payload-low : (w : ℕ) (bits : List Bool) → slots_bits w ≡ bits → payload_bits (w % 2 ^ 27) ≡ take payload_len bits
 unfolding payload_len slots_len
 payload-low w bits e = low_bits-mod 27 w ∙ sym (take-low 27 28 w (omega arith)) ∙ ap (take 27) e
+
+pub payload-even : (s : ℕ) (bits : List Bool) → s < 2 ^ 28 → slots_bits s ≡ bits → payload_of (s * 16 % 2 ^ 32) ≡ take payload_len bits
+unfolding payload_len
+payload-even s bits h e = moved-payload s h ∙ sym (low_bits-mod 27 s) ∙ payload-low s bits e
 
 -- two cells differ where just one of them is high
 odd-read : (k w : ℕ) → odd_ones (low_bits (2 * k) w) ≡ odd_ones (read_bits (low_cells (2 * k) w))

@@ -1,6 +1,7 @@
 pub mod Subframes
 pub mod Blocks
 pub mod Files
+pub mod Gathered
 pub mod Samples
 pub mod Sampled
 pub mod Readers

@@ -13,6 +13,7 @@ ghost use Rattle.aes3_block.specs.Blocks.{block_cells};
 
 use crate::block::SLOTS;
 use crate::cells::mark_of;
+use crate::gathered::GatheredCells;
 use crate::word::PAYLOAD_LIMIT;
 use aes3_cell::{Fault, Form, Level, Sink, put_words};
 use aes3_slot::{Mark, slot_bits, subframe_cells, wrong_cells};
@@ -62,7 +63,7 @@ fn other_last(before: Level, cells: u64) -> u64
 
 /// What is wrong with the cells of a subframe with this preamble after the level `before`: zero, where they are those of its
 /// payload, with right parity.
-fn wrong_in(before: Level, mark: Mark, cells: u64) -> u64
+pub(crate) fn wrong_in(before: Level, mark: Mark, cells: u64) -> u64
     ensures { result ≡ 0 → word_cells cells ≡ line before (subframe_runs mark (take payload_len (read_word cells))) }
 {
     wrong_cells(before, mark, cells) | other_last(before, cells)
@@ -92,13 +93,8 @@ fn fill_read_cells(before: Level, words: &[u64; SLOTS], cells: &mut [u64; SLOTS]
     }
 }
 
-/// Writes the cells of the block whose payloads these subframes carry, 64 cells each, the earliest in bit 0, after the level
-/// `before`: the form's bytes but for its ending. It is `put_block` of `Block::of_cells`, and gathers no bits of a
-/// subframe that is right in either polarity.
-///
-/// # Errors
-/// The sink's fault; then it has taken a front of the bytes.
-pub fn put_read_block<T: Sink>(
+/// Writes the cells of the block whose payloads these subframes carry, after the level `before`.
+fn put_renewed<T: Sink>(
     form: Form,
     before: Level,
     words: &[u64; SLOTS],
@@ -111,4 +107,28 @@ pub fn put_read_block<T: Sink>(
     let mut cells = [0; SLOTS];
     fill_read_cells(before, words, &mut cells);
     put_words(form, &cells, sink)
+}
+
+/// Writes the cells of the block whose payloads these subframes carry after the level `before`: the form's bytes but for its
+/// ending. It is `put_block` of `Block::of_cells`, gathers no bits of a subframe that is right in either polarity, and
+/// writes the cells as they came where they are known to be right.
+///
+/// # Errors
+/// The sink's fault; then it has taken a front of the bytes.
+pub fn put_read_block<T: Sink>(
+    form: Form,
+    before: Level,
+    gathered: &GatheredCells,
+    sink: &mut T,
+) -> Result<(), Fault>
+    requires room { T.failed sink.old + 1 < 2 ^ 64 }
+    ensures { Wrote T.taken T.failed sink.old sink.new
+        (bytes_of form (block_cells before (map (take payload_len) (read_words gathered.now)))) result }
+{
+    if let Some(level) = gathered.level_before()
+        && level == before
+    {
+        return put_words(form, gathered.words(), sink);
+    }
+    put_renewed(form, before, gathered.words(), sink)
 }

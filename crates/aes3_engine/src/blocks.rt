@@ -9,7 +9,7 @@ ghost use Rattle.aes3_engine.specs.Running.{movement_of};
 ghost use Rattle.aes3_engine.specs.BlockRuns.{report_bytes};
 
 use crate::report_runs::{ReportWriter, run_reports};
-use aes3_block::Block;
+use aes3_block::{Block, GatheredCells};
 use aes3_cell::{Counts, Fault, Form, RunError, Sink, Source};
 use aes3_lock::{Ending, Lock, Report};
 
@@ -28,17 +28,22 @@ pub trait BlockWriter {
         ensures { Wrote T.taken T.failed sink.old sink.new
             (writes self.now number block.now) result };
 
-    /// Writes what it makes of block `number` as `put` does, where the cells of its 384 subframes are at hand, 64 each, the
-    /// earliest in bit 0. What needs no bits gathers none.
+    /// Writes what it makes of block `number` as `put` does, where the cells of its 384 subframes are at hand. What needs no
+    /// bits gathers none.
     ///
     /// # Errors
     /// The sink's fault; then it has taken a front of the bytes.
-    fn put_read<T: Sink>(&self, sink: &mut T, number: u64, words: &[u64; 384]) -> Result<(), Fault>
+    fn put_read<T: Sink>(
+        &self,
+        sink: &mut T,
+        number: u64,
+        cells: &GatheredCells,
+    ) -> Result<(), Fault>
         requires room { T.failed sink.old + 1 < 2 ^ 64 }
         ensures { Wrote T.taken T.failed sink.old sink.new
-            (writes self.now number (map (take payload_len) (read_words words.now))) result }
+            (writes self.now number (map (take payload_len) (read_words cells.now))) result }
     {
-        let block = Block::of_cells(words);
+        let block = cells.block();
         self.put(sink, number, &block)
     }
 
@@ -79,7 +84,7 @@ impl<W: BlockWriter> ReportWriter for Blocks<W> {
         ending: Ending,
     ) -> Result<(), Fault> {
         match ending {
-            Ending::Whole { .. } => self.writer.put_read(sink, blocks, lock.words()),
+            Ending::Whole { .. } => self.writer.put_read(sink, blocks, lock.gathered()),
             Ending::Marked { .. } => Ok(()),
             Ending::Fault { .. } => Ok(()),
         }

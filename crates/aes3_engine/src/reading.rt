@@ -21,7 +21,7 @@ ghost use Rattle.aes3_engine.specs.ReportRuns.{counts_of};
 ghost use Rattle.aes3_engine.specs.Running.{movement_of};
 
 use crate::blocks::{BlockWriter, run_blocks};
-use aes3_block::{Block, put_block, put_block_file, put_read_block};
+use aes3_block::{Block, GatheredCells, put_block, put_block_file, put_read_block};
 use aes3_cell::{Counts, Fault, Form, Level, RunError, Sink, Source, put_ending};
 
 /// Writes blocks as cells in the normal polarity.
@@ -43,9 +43,9 @@ impl BlockWriter for NormalBlocks {
         &self,
         sink: &mut T,
         _number: u64,
-        words: &[u64; 384],
+        cells: &GatheredCells,
     ) -> Result<(), Fault> {
-        put_read_block(self.output, Level::Low, words, sink)
+        put_read_block(self.output, Level::Low, cells, sink)
     }
 
     fn put_end<T: Sink>(&self, sink: &mut T) -> Result<(), Fault> {
@@ -96,11 +96,11 @@ impl BlockWriter for CutBlocks {
         &self,
         sink: &mut T,
         number: u64,
-        words: &[u64; 384],
+        cells: &GatheredCells,
     ) -> Result<(), Fault> {
         let from = self.from;
         if number >= from && number - from < self.count {
-            self.stream.put_read(sink, number, words)
+            self.stream.put_read(sink, number, cells)
         } else {
             Ok(())
         }

@@ -1,9 +1,9 @@
 -- Eight words of cells at once, behind those that a lock follows.
-use Rattle.std.proofs.Common.{◌≡◌, ℕ, zero, suc, ◌+◌, ◌-◌, ◌*◌, ◌/◌, ◌%◌, ◌==◌, ◌^◌, ◌<◌, ◌≤◌, ◌⊎◌, inl, inr, List, [], ◌∷◌, ◌++◌, Bool, true, false, not, Some, refl, length, take, drop, set, get_or, ap, ap₂, ◌∙◌, sym, subst, arith, length-drop, length-set, take-append-drop, take_all, append_assoc, add-one, get_or-set_same, get_or-set_other}
+use Rattle.std.proofs.Common.{◌≡◌, ℕ, zero, suc, ◌+◌, ◌-◌, ◌*◌, ◌/◌, ◌%◌, ◌==◌, ◌^◌, ◌<◌, ◌≤◌, ◌⊎◌, inl, inr, List, [], ◌∷◌, ◌++◌, Bool, true, false, not, Some, refl, length, take, drop, set, get_or, replicate, ap, ap₂, ◌∙◌, sym, subst, arith, length-drop, length-set, take-append-drop, take_all, append_assoc, add-one, get_or-set_same, get_or-set_other}
 use Rattle.std.specs.Prelude.{bit_or, if◌then◌else◌}
 use Rattle.std.specs.Int.{bit_at}
 use Rattle.std.specs.List.{flat_map}
-use Rattle.std.specs.Simd.Lanes.{zip2, fold_l}
+use Rattle.std.specs.Simd.Lanes.{zip2, fold_l, pick_l}
 use Rattle.std.proofs.lemmas.Simd.{get_or-zip2}
 use Rattle.std.proofs.lemmas.Bool.{cases_eq}
 use Rattle.std.proofs.lemmas.List.{take_at}
@@ -19,10 +19,13 @@ use Rattle.aes3_slot.proofs.Fronts.{front-before}
 use Rattle.aes3_slot.proofs.Taken.{length-word}
 use Rattle.aes3_slot.proofs.Wrong.{true-from_zero}
 use Rattle.aes3_block.specs.Blocks.{mark_at, block_slots, block_len}
+use Rattle.aes3_block.specs.Gathered.{IsRight, with_first}
+use Rattle.aes3_block.proofs.GatheredWords.{length-with_first}
+use Rattle.aes3_block.proofs.ReadCells.{right-subframe, none-wrong, even-by-last}
 use Rattle.aes3_lock.specs.declared.candidate.Candidate.{Candidate}
 use Rattle.aes3_lock.specs.Reports.{decided}
 use Rattle.aes3_lock.specs.Following.{LockState, Follows}
-use Rattle.aes3_lock.specs.Eights.{begun_before, with_first}
+use Rattle.aes3_lock.specs.Eights.{begun_before}
 use Rattle.aes3_lock.proofs.Following.{hand, offset}
 use Rattle.aes3_lock.proofs.SubframeWords.{cells-rest, rest-few, take-word}
 use Rattle.aes3_lock.proofs.TakenWords.{Parted, Fits, all-64, word-next}
@@ -71,6 +74,13 @@ right-front s m c w z h =
     front-before s m (word_cells c) 64 (length-word c) (omega arith) (λ i g.
     true-from_zero (stands s m (word_cells c) i) (sym (h i g) ∙ ap (λ x. bit_at x i) z ∙ bit_at-zero i))
 
+-- with right parity it is the subframe of its payload
+pub right-word : (s : Level) (m : Mark) (c w : ℕ) → w ≡ 0 → ((i : ℕ) → i < 64 → bit_at w i ≡ (if stands s m (word_cells c) i then 0 else 1))
+    → at (word_cells c) 63 ≡ s → IsRight s m c
+right-word s m c w z h e =
+    let n = none-wrong s m c w z h in
+    right-subframe s m c n (even-by-last s m c n e)
+
 -- numbers whose or is zero
 or-zero : (a : ℕ) (xs : List ℕ) → fold_l bit_or a xs ≡ 0 → (a ≡ 0) × ((i : ℕ) → get_or xs i 0 ≡ 0)
 or-zero a [] e = (e, λ i. refl)
@@ -96,10 +106,6 @@ pub not-else : (b : Bool) → ◌≡◌ {A = ℕ} (if not b then 1 else 0) (if b
 not-else true = refl
 not-else false = refl
 
-pub length-with_first : (place : ℕ) (kept new : List ℕ) (n : ℕ) → length (with_first place kept new n) ≡ length kept
-length-with_first place kept new zero = refl
-length-with_first place kept new (suc n) = length-set (with_first place kept new n) (place + n) (get_or new n 0) ∙ length-with_first place kept new n
-
 front-take : (s : Level) (m : Mark) (v : List Level) (p : ℕ) → IsFrontOf s m v → IsFrontOf s m (take p v)
 front-take s m v p f = record {
   bits = f.bits;
@@ -111,6 +117,37 @@ front-take s m v p f = record {
 rest-cells : (p w : ℕ) → p < 64 → low_cells p (w / 2 ^ 1 / 2 ^ (63 - p)) ≡ drop (64 - p) (word_cells w)
 unfolding word_cells word_len
 rest-cells p w h = cells-rest p w h
+
+-- the last cells of each of eight words, moved down, one word on, with others before them
+abbrev pub moved_on : ℕ → ℕ → List ℕ → List ℕ
+moved_on len begun ws =
+    let rests = zip2 (λ x s. x / 2 ^ s) (zip2 (λ x s. x / 2 ^ s) ws (replicate 8 1)) (replicate 8 (63 - len)) in
+    set (pick_l 0 (rests ++ rests) (7 ∷ 0 ∷ 1 ∷ 2 ∷ 3 ∷ 4 ∷ 5 ∷ 6 ∷ [])) 0 begun
+
+pub moved-cells : (len begun : ℕ) (ws : List ℕ) → length ws ≡ 8 → len < 64 → (i : ℕ) → i < 8 → low_cells len (get_or (moved_on len begun ws) i 0) ≡ begun_before len begun ws i
+moved-cells len begun (a ∷ b ∷ c ∷ d ∷ e ∷ f ∷ g ∷ h ∷ []) l m zero k = refl
+moved-cells len begun (a ∷ b ∷ c ∷ d ∷ e ∷ f ∷ g ∷ h ∷ []) l m (suc zero) k = rest-cells len a m
+moved-cells len begun (a ∷ b ∷ c ∷ d ∷ e ∷ f ∷ g ∷ h ∷ []) l m (suc (suc zero)) k = rest-cells len b m
+moved-cells len begun (a ∷ b ∷ c ∷ d ∷ e ∷ f ∷ g ∷ h ∷ []) l m (suc (suc (suc zero))) k = rest-cells len c m
+moved-cells len begun (a ∷ b ∷ c ∷ d ∷ e ∷ f ∷ g ∷ h ∷ []) l m (suc (suc (suc (suc zero)))) k = rest-cells len d m
+moved-cells len begun (a ∷ b ∷ c ∷ d ∷ e ∷ f ∷ g ∷ h ∷ []) l m (suc (suc (suc (suc (suc zero))))) k = rest-cells len e m
+moved-cells len begun (a ∷ b ∷ c ∷ d ∷ e ∷ f ∷ g ∷ h ∷ []) l m (suc (suc (suc (suc (suc (suc zero)))))) k = rest-cells len f m
+moved-cells len begun (a ∷ b ∷ c ∷ d ∷ e ∷ f ∷ g ∷ h ∷ []) l m (suc (suc (suc (suc (suc (suc (suc zero))))))) k = rest-cells len g m
+moved-cells len begun (a ∷ b ∷ c ∷ d ∷ e ∷ f ∷ g ∷ h ∷ []) l m (suc (suc (suc (suc (suc (suc (suc (suc i)))))))) k = absurd (omega arith)
+moved-cells len begun _ l m i k = absurd (omega arith)
+
+pub moved-few : (len begun : ℕ) (ws : List ℕ) → length ws ≡ 8 → len < 64 → begun < 2 ^ len → ((i : ℕ) → i < 8 → get_or ws i 0 < 2 ^ 64)
+    → (i : ℕ) → i < 8 → get_or (moved_on len begun ws) i 0 < 2 ^ len
+moved-few len begun (a ∷ b ∷ c ∷ d ∷ e ∷ f ∷ g ∷ h ∷ []) l m q fit zero k = q
+moved-few len begun (a ∷ b ∷ c ∷ d ∷ e ∷ f ∷ g ∷ h ∷ []) l m q fit (suc zero) k = rest-few len a m (fit 0 (omega arith))
+moved-few len begun (a ∷ b ∷ c ∷ d ∷ e ∷ f ∷ g ∷ h ∷ []) l m q fit (suc (suc zero)) k = rest-few len b m (fit 1 (omega arith))
+moved-few len begun (a ∷ b ∷ c ∷ d ∷ e ∷ f ∷ g ∷ h ∷ []) l m q fit (suc (suc (suc zero))) k = rest-few len c m (fit 2 (omega arith))
+moved-few len begun (a ∷ b ∷ c ∷ d ∷ e ∷ f ∷ g ∷ h ∷ []) l m q fit (suc (suc (suc (suc zero)))) k = rest-few len d m (fit 3 (omega arith))
+moved-few len begun (a ∷ b ∷ c ∷ d ∷ e ∷ f ∷ g ∷ h ∷ []) l m q fit (suc (suc (suc (suc (suc zero))))) k = rest-few len e m (fit 4 (omega arith))
+moved-few len begun (a ∷ b ∷ c ∷ d ∷ e ∷ f ∷ g ∷ h ∷ []) l m q fit (suc (suc (suc (suc (suc (suc zero)))))) k = rest-few len f m (fit 5 (omega arith))
+moved-few len begun (a ∷ b ∷ c ∷ d ∷ e ∷ f ∷ g ∷ h ∷ []) l m q fit (suc (suc (suc (suc (suc (suc (suc zero))))))) k = rest-few len g m (fit 6 (omega arith))
+moved-few len begun (a ∷ b ∷ c ∷ d ∷ e ∷ f ∷ g ∷ h ∷ []) l m q fit (suc (suc (suc (suc (suc (suc (suc (suc i)))))))) k = absurd (omega arith)
+moved-few len begun _ l m q fit i k = absurd (omega arith)
 
 -- the cells begun are few
 pub begun-few : (k : LockState) (t : Candidate) (c : List Level) → Follows k c → k.candidate ≡ Some t → k.subframe < 2 ^ ((k.seen - t.at) % 64)

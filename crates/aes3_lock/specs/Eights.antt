@@ -1,5 +1,5 @@
 -- Eight words of cells at once, and the subframes that they make whole.
-use Rattle.std.specs.Prelude.{ℕ, zero, suc, List, ◌+◌, ◌-◌, get_or, set, drop}
+use Rattle.std.specs.Prelude.{ℕ, zero, suc, List, ◌-◌, get_or, drop}
 use Rattle.aes3_cell.specs.declared.level.Level.{Level}
 use Rattle.aes3_cell.specs.Words.{low_cells, word_cells}
 
@@ -7,8 +7,3 @@ use Rattle.aes3_cell.specs.Words.{low_cells, word_cells}
 abbrev pub begun_before : ℕ → ℕ → List ℕ → ℕ → List Level
 begun_before len begun words zero = low_cells len begun
 begun_before len begun words (suc i) = drop (64 - len) (word_cells (get_or words i 0))
-
--- a list with the first n of others from a place on
-abbrev pub with_first : ℕ → List ℕ → List ℕ → ℕ → List ℕ
-with_first place kept new zero = kept
-with_first place kept new (suc n) = set (with_first place kept new n) (place + n) (get_or new n 0)

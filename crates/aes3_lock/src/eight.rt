@@ -1,17 +1,31 @@
 //! Eight subframes at once, each as the word of its 64 cells, the first in the lowest bit.
 
 ghost use Rattle.std.specs.Prelude.{◌≡◌, ℕ, ◌+◌, ◌-◌, ◌<◌, ◌≤◌, ◌^◌, ◌++◌, true, get_or, length, slice_index_or, take};
-ghost use Rattle.aes3_cell.specs.Words.{word_cells};
+ghost use Rattle.aes3_cell.specs.Words.{low_cells, word_cells};
 ghost use Rattle.aes3_slot.specs.Fronts.{IsFrontOf};
 ghost use Rattle.aes3_slot.specs.Rules.{at};
 ghost use Rattle.aes3_block.specs.Blocks.{mark_at};
-ghost use Rattle.aes3_lock.specs.Eights.{begun_before, with_first};
+ghost use Rattle.aes3_block.specs.Gathered.{IsRight};
+ghost use Rattle.aes3_lock.specs.Eights.{begun_before};
 
-use crate::subframe::{completed, rest_of};
-use aes3_block::{SLOTS, mark_of};
+use crate::subframe::completed;
+use aes3_block::mark_of;
 use aes3_cell::Level;
 use aes3_slot::wrong_cells_of_eight;
 use std::simd::prelude::*;
+
+/// The cells with which the eight subframes begin that eight words make whole: the `len` cells of `begun`, and the last `len`
+/// of each word but the last.
+fn fronts_of(begun: u64, len: u64, words: u64x8) -> [u64; 8]
+    requires { len < 64 }
+    ensures cells { (i : ℕ) → i < 8 → low_cells len (get_or result i 0) ≡ begun_before len begun words i }
+    ensures few { begun < 2 ^ len → (i : ℕ) → i < 8 → get_or result i 0 < 2 ^ len }
+{
+    let rests = words >> u64x8::splat(1) >> u64x8::splat(63 - len);
+    let mut fronts = rests.rotate_elements_right::<1>().to_array();
+    fronts[0] = begun;
+    fronts
+}
 
 /// The subframes that eight words make whole: the first begins with the `len` cells of `begun`, each other one with the
 /// last `len` of the word before.
@@ -20,11 +34,10 @@ pub(crate) fn eight_completed(begun: u64, len: u64, words: &[u64; 8]) -> [u64; 8
     ensures { begun < 2 ^ len → (i : ℕ) → i < 8
         → word_cells (get_or result i 0) ≡ begun_before len begun words.now i ++ take (64 - len) (word_cells (get_or words.now i 0)) }
 {
+    let fronts = fronts_of(begun, len, u64x8::from_array(*words));
     let mut subframes = [0; 8];
-    let mut front = begun;
     for (i, word) in words.iter().enumerate() {
-        subframes[i] = completed(front, len, *word);
-        front = rest_of(*word, len);
+        subframes[i] = completed(fronts[i], len, *word);
     }
     subframes
 }
@@ -47,18 +60,9 @@ pub(crate) fn are_subframes(before: Level, slot: u64, cells: &[u64; 8]) -> bool
     requires room { slot < 384 }
     ensures fronts { result ≡ true → (i : ℕ) → i < 8 → IsFrontOf before (mark_at (slot + i)) (take 64 (word_cells (get_or cells.now i 0))) }
     ensures levels { result ≡ true → (i : ℕ) → i < 8 → at (word_cells (get_or cells.now i 0)) 63 ≡ before }
+    ensures right { result ≡ true → (i : ℕ) → i < 8 → IsRight before (mark_at (slot + i)) (get_or cells.now i 0) }
 {
     let cells = u64x8::from_array(*cells);
     let wrong = wrong_cells_of_eight(before, mark_of(slot), mark_of(slot + 1), cells);
     (wrong | other_last(before, cells)).reduce_or() == 0
-}
-
-/// Puts eight subframes from `slot` on.
-pub(crate) fn keep_eight(words: &mut [u64; SLOTS], slot: usize, subframes: &[u64; 8])
-    requires { slot + 8 ≤ SLOTS }
-    ensures { words.new ≡ with_first slot words.old subframes.now 8 }
-{
-    for (i, cells) in subframes.iter().enumerate() {
-        words[slot + i] = *cells;
-    }
 }

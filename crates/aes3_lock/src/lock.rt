@@ -1,7 +1,7 @@
 //! The lock.
 use crate::candidate::Candidate;
-use crate::eight::{are_subframes, eight_completed, keep_eight};
-use crate::outcome::{ending_at, left_report, no_words, report_with};
+use crate::eight::{are_subframes, eight_completed};
+use crate::outcome::{ending_at, left_report, report_with};
 use crate::parts::LockParts;
 use crate::recent::{PREAMBLE_CELLS, candidate_in, last_cell, with_cell};
 use crate::report::{Ending, Pushed, Report};
@@ -9,7 +9,7 @@ use crate::rule::may_stand;
 use crate::subframe::{
     completed, first_cell, first_of, last_behind, last_octet, last_of, rest_of, with_next,
 };
-use aes3_block::{BLOCK_CELLS, SLOTS, mark_of};
+use aes3_block::{BLOCK_CELLS, GatheredCells, SLOTS, mark_of};
 use aes3_cell::Level;
 use aes3_slot::{SUBFRAME_CELLS, begins_subframe, block_preambles, wrong_cells};
 use arrayvec::ArrayVec;
@@ -25,20 +25,21 @@ pub struct Lock {
     recent: u8,
     candidate: Option<Candidate>,
     subframe: u64,
-    words: [u64; SLOTS],
+    words: GatheredCells,
 }
 
 impl Model for Lock {
-    ghost use Rattle.std.specs.Prelude.{◌≤◌};
+    ghost use Rattle.std.specs.Prelude.{◌≡◌, ◌≤◌, length};
     ghost use Rattle.std.specs.Option.{ForSome};
     ghost use Rattle.aes3_cell.specs.Words.{low_cells};
+    ghost use Rattle.aes3_block.specs.Blocks.{block_slots};
     ghost use Rattle.aes3_lock.specs.Following.{LockState};
 
     ghost Value = { LockState };
 
     ghost view = { λ k. record { seen = k.seen; recent = low_cells 8 k.recent; candidate = k.candidate; subframe = k.subframe; words = k.words } };
 
-    ghost invariant = { λ k. ForSome k.candidate (λ t. t.at ≤ k.seen) };
+    ghost invariant = { λ k. (ForSome k.candidate (λ t. t.at ≤ k.seen)) × (length k.words ≡ block_slots) };
 }
 
 ghost use Rattle.std.specs.Prelude.{◌≡◌, ◌≢◌, ◌<◌, ◌≤◌, ◌+◌, ◌*◌, ◌%◌, ◌^◌, ◌&&◌, true, false, None, Some, List, [], ◌∷◌, ◌++◌, drop, get_or, length, nat_lt, option_map, option_to_list, take};
@@ -70,7 +71,7 @@ impl Lock {
             recent: 0,
             candidate: None,
             subframe: 0,
-            words: no_words(),
+            words: GatheredCells::new(),
         }
     }
 
@@ -85,7 +86,7 @@ impl Lock {
             recent: parts.recent,
             candidate: parts.candidate,
             subframe: parts.subframe,
-            words,
+            words: GatheredCells::of_words(words),
         }
     }
 
@@ -94,7 +95,7 @@ impl Lock {
         ensures state { parts_state result ≡ self.now }
         ensures placed { ForSome result.candidate (λ t. t.at ≤ result.seen) }
     {
-        let words = self.words;
+        let words = *self.words.words();
         LockParts {
             seen: self.seen,
             recent: self.recent,
@@ -144,7 +145,8 @@ impl Lock {
             self.subframe = cells;
             return true;
         }
-        self.words[(offset / SUBFRAME_CELLS) as usize] = cells;
+        self.words
+            .keep((offset / SUBFRAME_CELLS) as usize, candidate.level, cells);
         self.subframe = 0;
         self.candidate = Some(Candidate {
             at: candidate.at,
@@ -211,7 +213,7 @@ impl Lock {
         }
         self.seen += 64;
         self.recent = last_octet(word);
-        self.words[slot as usize] = cells;
+        self.words.keep(slot as usize, candidate.level, cells);
         self.subframe = rest;
         self.candidate = Some(Candidate {
             at: candidate.at,
@@ -250,7 +252,8 @@ impl Lock {
         }
         self.seen += 512;
         self.recent = last_octet(words[7]);
-        keep_eight(&mut self.words, slot as usize, &subframes);
+        self.words
+            .keep_eight(slot as usize, candidate.level, &subframes);
         self.subframe = behind;
         true
     }
@@ -372,7 +375,7 @@ impl Lock {
             self.subframe = first_of(cells, end);
             return taken;
         }
-        self.words[slot as usize] = cells;
+        self.words.keep(slot as usize, candidate.level, cells);
         self.subframe = 0;
         self.candidate = Some(Candidate {
             at: candidate.at,
@@ -453,6 +456,13 @@ impl Lock {
     /// The cells of the subframes of the last candidate that are whole, a word each, the earliest cell in bit 0. Where an
     /// ending was `Whole` they are those of its block, until more cells are taken.
     pub fn words(&self) -> &[u64; SLOTS]
+        ensures { result.now ≡ self.now.words }
+    {
+        self.words.words()
+    }
+
+    /// The same, as they were gathered.
+    pub fn gathered(&self) -> &GatheredCells
         ensures { result.now ≡ self.now.words }
     {
         &self.words

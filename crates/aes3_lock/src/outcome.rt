@@ -1,6 +1,6 @@
 //! What becomes of a candidate that goes on no further.
 
-ghost use Rattle.std.specs.Prelude.{◌≡◌, ◌<◌, ◌+◌, ◌^◌, length};
+ghost use Rattle.std.specs.Prelude.{◌≡◌, ◌<◌, ◌+◌, ◌^◌};
 ghost use Rattle.aes3_slot.specs.ReadWords.{read_words};
 ghost use Rattle.aes3_slot.specs.Reading.{same};
 ghost use Rattle.aes3_lock.specs.Outcomes.{block_outcome, why_of};
@@ -11,22 +11,15 @@ use crate::candidate::Candidate;
 use crate::recent::PREAMBLE_CELLS;
 use crate::report::{Ending, Report, Why};
 use crate::rule::turns;
-use aes3_block::{BLOCK_CELLS, Block, SLOTS, wrong_parities};
+use aes3_block::{BLOCK_CELLS, GatheredCells};
 use aes3_cell::Level;
 use aes3_slot::SUBFRAME_CELLS;
 
-/// Words all of whose cells are low.
-pub(crate) fn no_words() -> [u64; SLOTS]
-    ensures { length result ≡ SLOTS }
-{
-    [0; SLOTS]
-}
-
 /// What becomes of a block all of whose subframes are there and which is closed.
-fn block_ending(at: u64, before: Level, words: &[u64; SLOTS]) -> Ending
+fn block_ending(at: u64, before: Level, words: &GatheredCells) -> Ending
     ensures { ending_report (read_words words.now) result ≡ report_of at (block_outcome before (read_words words.now)) }
 {
-    let wrong = wrong_parities(words);
+    let wrong = words.wrong_parities();
     if wrong == 0 {
         Ending::Whole { at, before }
     } else {
@@ -35,14 +28,14 @@ fn block_ending(at: u64, before: Level, words: &[u64; SLOTS]) -> Ending
 }
 
 /// The report of an ending, with the block whose subframes have these cells.
-pub(crate) fn report_with(ending: Ending, words: &[u64; SLOTS]) -> Report
+pub(crate) fn report_with(ending: Ending, words: &GatheredCells) -> Report
     ensures { result ≡ ending_report (read_words words.now) ending }
 {
     match ending {
         Ending::Whole { at, before } => Report::Whole {
             at,
             before,
-            block: Block::of_cells(words),
+            block: words.block(),
         },
         Ending::Marked { at, before, wrong } => Report::Marked { at, before, wrong },
         Ending::Fault { at, cell, why } => Report::Fault { at, cell, why },
@@ -68,7 +61,7 @@ pub(crate) fn ending_at(
     offset: u64,
     cell: Level,
     previous: Level,
-    words: &[u64; SLOTS],
+    words: &GatheredCells,
 ) -> Ending
     requires { candidate.at + offset < 2 ^ 64 }
     ensures { ending_report (read_words words.now) result ≡ report_of candidate.at (ended candidate.before offset (same cell previous) (read_words words.now)) }
@@ -85,7 +78,7 @@ pub(crate) fn ending_at(
 }
 
 /// The report of a candidate of which no more than `cells` cells come.
-pub(crate) fn left_report(candidate: Candidate, cells: u64, words: &[u64; SLOTS]) -> Report
+pub(crate) fn left_report(candidate: Candidate, cells: u64, words: &GatheredCells) -> Report
     ensures { result ≡ report_of candidate.at (left candidate.before cells (read_words words.now)) }
 {
     if cells >= BLOCK_CELLS {

@@ -7,12 +7,12 @@ ghost use Rattle.aes3_lock.specs.Reports.{outcome_at, reports, told};
 ghost use Rattle.aes3_lock.specs.Following.{Filled};
 
 use crate::candidate::Candidate;
-use crate::outcome::{ending_at, left_report, no_words, report_with};
+use crate::outcome::{ending_at, left_report, report_with};
 use crate::recent::{PREAMBLE_CELLS, candidate_in, with_cell};
 use crate::report::Report;
 use crate::rule::may_stand;
 use crate::subframe::with_next;
-use aes3_block::{BLOCK_CELLS, SLOTS};
+use aes3_block::{BLOCK_CELLS, GatheredCells, SLOTS};
 use aes3_cell::Level;
 use aes3_slot::SUBFRAME_CELLS;
 use std::alloc::{AllocError, Global};
@@ -73,14 +73,15 @@ fn report_at(at: u64, cells: &[Level]) -> Option<Report>
         before: begun.before,
         level: begun.level,
     };
-    let mut words = no_words();
+    let mut words = [0; SLOTS];
     let (offset, previous) = go_through(candidate.before, cells, &mut words);
+    let gathered = GatheredCells::of_words(words);
     let place = offset as usize;
     Some(if place < cells.len() {
-        let ending = ending_at(candidate, offset, cells[place], previous, &words);
-        report_with(ending, &words)
+        let ending = ending_at(candidate, offset, cells[place], previous, &gathered);
+        report_with(ending, &gathered)
     } else {
-        left_report(candidate, offset, &words)
+        left_report(candidate, offset, &gathered)
     })
 }
 

@@ -6,5 +6,5 @@ use Rattle.aes3_lock.proofs.outcome.report_with.Goals as goal
 
 pub returns-in-Whole : goal.returns-in-Whole
 returns-in-Whole c =
-    ap (Whole c.in-Whole.at c.in-Whole.before) c.of_cells.ensures
+    ap (Whole c.in-Whole.at c.in-Whole.before) c.block.ensures
     ∙ sym (ap (ending_report (read_words c.args.words.now)) c.in-Whole.is)

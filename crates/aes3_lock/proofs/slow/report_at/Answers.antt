@@ -1,7 +1,7 @@
-use Rattle.std.proofs.Common.{[], ◌∷◌, sym, ap, ◌∙◌, arith}
+use Rattle.std.proofs.Common.{[], ◌∷◌, take, sym, ap, subst, ◌∙◌, arith}
 use Rattle.aes3_lock.specs.Reports.{told, report_of}
 use Rattle.aes3_lock.specs.Steps.{begun}
-use Rattle.aes3_lock.proofs.Deciding.{block_slots_384}
+use Rattle.aes3_lock.specs.Following.{Filled}
 use Rattle.aes3_lock.proofs.Walking.{outcome_at-short, outcome_at-none, outcome_at-some, place-ended, place-left}
 use Rattle.aes3_lock.proofs.slow.report_at.Goals as goal
 use Rattle.aes3_lock.proofs.slow.report_at.Goals.{then-place-cells, else-place-cells}
@@ -19,11 +19,13 @@ returns c =
     (ap (begun 8) (sym c.first_eight.ensures) ∙ sym c.candidate_in.ensures.value ∙ c.in-Some.is) in
     sym (ap (told c.args.at) e.0 ∙ ap (λ r. r ∷ []) (elim c.if-place-cells.branch [
       | then-place-cells w ↦ ap (report_of c.args.at)
-          (place-ended c.args.cells.now c.in-Some.begun.before c.go_through-offset.new.words c.go_through-offset.result.0 c.go_through-offset.result.1 e.1
-          c.go_through-offset.ensures.front c.go_through-offset.ensures.last c.go_through-offset.ensures.words (let n = block_slots_384 in omega arith) (omega arith))
+          (place-ended c.args.cells.now c.in-Some.begun.before c.of_words-gathered.result c.go_through-offset.result.0 c.go_through-offset.result.1 e.1
+          c.go_through-offset.ensures.front c.go_through-offset.ensures.last (subst (λ ws. Filled ws (take c.go_through-offset.result.0 c.args.cells.now)) (sym c.of_words-gathered.ensures.words) c.go_through-offset.ensures.words)
+          c.of_words-gathered.ensures.len (omega arith))
           ∙ sym (w.report_with.ensures ∙ w.ending_at-ending.ensures) ∙ sym w.result-is
       | else-place-cells w ↦ ap (report_of c.args.at)
-          (place-left c.args.cells.now c.in-Some.begun.before c.go_through-offset.new.words c.go_through-offset.result.0 c.go_through-offset.result.1 e.1
-          c.go_through-offset.ensures.front c.go_through-offset.ensures.last c.go_through-offset.ensures.words (let n = block_slots_384 in omega arith) (omega arith))
+          (place-left c.args.cells.now c.in-Some.begun.before c.of_words-gathered.result c.go_through-offset.result.0 c.go_through-offset.result.1 e.1
+          c.go_through-offset.ensures.front c.go_through-offset.ensures.last (subst (λ ws. Filled ws (take c.go_through-offset.result.0 c.args.cells.now)) (sym c.of_words-gathered.ensures.words) c.go_through-offset.ensures.words)
+          c.of_words-gathered.ensures.len (omega arith))
           ∙ sym w.left_report.ensures ∙ sym w.result-is
     ]))

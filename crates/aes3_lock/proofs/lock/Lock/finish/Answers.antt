@@ -1,7 +1,6 @@
 use Rattle.std.proofs.Common.{[], ◌∷◌, ◌++◌, sym, ap, subst, ◌∙◌, arith}
 use Rattle.aes3_lock.specs.Reports.{decided}
 use Rattle.aes3_lock.specs.Following.{Follows}
-use Rattle.aes3_lock.proofs.Deciding.{block_slots_384}
 use Rattle.aes3_lock.proofs.Following.{finish-none, finish-open}
 use Rattle.aes3_lock.proofs.lock.Lock.finish.Goals as goal
 
@@ -10,5 +9,5 @@ returns-in_default c = λ l f. finish-none _ l (subst (λ k. Follows k l) (sym c
 
 pub returns : goal.returns
 returns c = λ l f.
-    finish-open _ c.in-Some.candidate l (subst (λ k. Follows k l) (sym c.self.view_is) f) (let n = block_slots_384 in omega arith) c.in-Some.is
+    finish-open _ c.in-Some.candidate l (subst (λ k. Follows k l) (sym c.self.view_is) f) c.self.invariant.1 c.in-Some.is
     ∙ ap (λ r. decided l ++ r ∷ []) (sym c.left_report.ensures)

@@ -3,7 +3,7 @@ use Rattle.aes3_cell.specs.declared.level.Level.{Level}
 use Rattle.aes3_cell.specs.Words.{level_of, low_cells}
 use Rattle.aes3_lock.specs.Reports.{decided}
 use Rattle.aes3_lock.specs.Following.{LockState, Follows, Stops}
-use Rattle.aes3_lock.proofs.Deciding.{block_slots_384, block_len_24576}
+use Rattle.aes3_lock.proofs.Deciding.{block_len_24576}
 use Rattle.aes3_lock.proofs.Following.{past-stops}
 use Rattle.aes3_lock.proofs.PartWords.{all-right, first-wrong, part-next, part-whole, part-stops}
 use Rattle.aes3_lock.proofs.lock.Lock.go_on.Goals as goal
@@ -78,7 +78,7 @@ whole c = record {
   recent = low_cells 8 c.self-2.inside.recent;
   candidate = Some (record { at = c.args.candidate.at; before = c.args.candidate.before; level = c.last_of.result });
   subframe = 0;
-  words = set c.self-2.inside.words ((c.self.inside.seen - c.args.candidate.at) / 64) c.completed-cells.result;
+  words = c.keep.new.self;
 }
 
 goes-whole : (c : goal.After-self-3-1) (l : List Level) → Follows c.args.self.now l
@@ -90,7 +90,6 @@ goes-whole c l f =
     let n = c.min-taken.ensures in
     let e = c.if-end-lt-SUBFRAME_CELLS.false in
     let t = c.from.ensures in
-    let z = block_slots_384 in
     part-whole _ c.args.candidate l c.args.word c.completed-cells.result c.min-taken.result (subst (λ k. Follows k l) (sym c.self.view_is) f)
     (ap (λ (k : LockState). k.candidate) c.self.view_is ∙ c.requires.in_hand)
     (record { cells = c.completed-cells.ensures; fits = omega (arith, n); room = omega (arith, b, o) })
@@ -101,9 +100,9 @@ goes-whole c l f =
     (ap (λ (k : LockState). k.recent) c.self-2.view_is ∙ c.count.ensures.recent
     ∙ ap (λ (k : LockState). drop c.min-taken.result (k.recent ++ low_cells c.min-taken.result c.args.word)) (sym c.self.view_is))
     (ap (λ v. Some (record { at = c.args.candidate.at; before = c.args.candidate.before; level = v })) c.last_of.ensures) refl
-    (ap (λ v. set v ((c.self.inside.seen - c.args.candidate.at) / 64) c.completed-cells.result)
+    (c.keep.ensures ∙ ap (λ v. set v ((c.self.inside.seen - c.args.candidate.at) / 64) c.completed-cells.result)
     (ap (λ (k : LockState). k.words) c.self-2.view_is ∙ c.count.ensures.words ∙ ap (λ (k : LockState). k.words) (sym c.self.view_is)))
-    (let s = c.self.told in omega (arith, s, z)) (omega (arith, e, t, n))
+    c.self.invariant.1 (omega (arith, e, t, n))
 
 pub returns-clause-follows : goal.returns-clause-follows
 returns-clause-follows c = λ l f. (goes-whole c l f).0

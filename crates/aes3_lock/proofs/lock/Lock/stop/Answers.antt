@@ -7,7 +7,6 @@ use Rattle.aes3_lock.specs.declared.candidate.Candidate.{Candidate}
 use Rattle.aes3_lock.specs.Reports.{report_of, decided}
 use Rattle.aes3_lock.specs.Steps.{ended}
 use Rattle.aes3_lock.specs.Following.{Follows, Stops}
-use Rattle.aes3_lock.proofs.Deciding.{block_slots_384}
 use Rattle.aes3_lock.proofs.Following.{push-last}
 use Rattle.aes3_lock.proofs.lock.Lock.stop.Goals as goal
 
@@ -24,7 +23,7 @@ returns-clause-follows c = λ l f p.
       subframe = c.from-self-inside.result;
       words = c.self.inside.words;
     })
-    s.in_hand l c.args.cell (subst (λ k. Follows k l) (sym c.self.view_is) f) (let n = block_slots_384 in omega arith) s.is s.stop
+    s.in_hand l c.args.cell (subst (λ k. Follows k l) (sym c.self.view_is) f) c.self.invariant.1 s.is s.stop
     refl c.with_cell-self-inside.ensures c.candidate_in-self-inside.ensures.value (ap (low_cells 8) (sym c.from-self-inside.ensures)) (let e = c.from-self-inside.ensures in omega (arith, e))).0
 
 pub returns-clause-report : goal.returns-clause-report
@@ -38,7 +37,7 @@ returns-clause-report c = λ l f p.
       subframe = c.from-self-inside.result;
       words = c.self.inside.words;
     })
-    s.in_hand l c.args.cell (subst (λ k. Follows k l) (sym c.self.view_is) f) (let n = block_slots_384 in omega arith) s.is s.stop
+    s.in_hand l c.args.cell (subst (λ k. Follows k l) (sym c.self.view_is) f) c.self.invariant.1 s.is s.stop
     refl c.with_cell-self-inside.ensures c.candidate_in-self-inside.ensures.value (ap (low_cells 8) (sym c.from-self-inside.ensures)) (let e = c.from-self-inside.ensures in omega (arith, e))).1
     ∙ ap (λ (t : Candidate). decided l ++ report_of t.at (ended t.before (c.self.inside.seen - t.at) (same c.args.cell (at (low_cells 8 c.self.inside.recent) 7)) (read_words c.self.inside.words)) ∷ []) e
     ∙ ap (λ r. decided l ++ r ∷ []) (sym (c.ending_at-ending.ensures

@@ -1,9 +1,8 @@
-use Rattle.std.proofs.Common.{◌+◌, ◌-◌, ◌/◌, set, drop, Some, refl, sym, ap, subst, arith}
+use Rattle.std.proofs.Common.{◌+◌, ◌-◌, [], ◌∷◌, ◌++◌, drop, Some, refl, sym, ap, subst, arith}
 use Rattle.aes3_cell.specs.Words.{low_cells}
 use Rattle.aes3_slot.specs.Rules.{at}
 use Rattle.aes3_slot.specs.Preambles.{entry}
-use Rattle.aes3_lock.specs.Following.{Follows}
-use Rattle.aes3_lock.proofs.Deciding.{block_slots_384}
+use Rattle.aes3_lock.specs.Following.{Follows, Gathered}
 use Rattle.aes3_lock.proofs.Codes.{goes}
 use Rattle.aes3_lock.proofs.Following.{push-none, push-next}
 use Rattle.aes3_lock.proofs.TakenWords.{next-inside, next-whole}
@@ -75,11 +74,12 @@ returns-clause-follows c = λ t l f.
       recent = low_cells 8 c.with_cell-self-inside-2.result;
       candidate = Some (record { at = c.in-Some.candidate.at; before = c.in-Some.candidate.before; level = c.args.cell });
       subframe = 0;
-      words = set c.self.inside.words ((c.self.inside.seen - c.in-Some.candidate.at) / 64) c.with_next-cells.result;
+      words = c.keep.new.self;
     })
     c.in-Some.candidate _ l c.args.cell (subst (λ k. Follows k l) (sym c.self.view_is) f) c.in-Some.is g.0 g.1 refl c.with_cell-self-inside-2.ensures refl refl refl
+    (λ y z. subst (λ ws. Gathered c.args.cell 0 ws (entry (drop c.in-Some.candidate.at l)) (drop c.in-Some.candidate.at l ++ c.args.cell ∷ [])) (sym c.keep.ensures)
     (next-whole c.in-Some.candidate.level c.self.inside.subframe c.with_next-cells.result c.self.inside.words (entry (drop c.in-Some.candidate.at l)) (drop c.in-Some.candidate.at l)
-    (c.self.inside.seen - c.in-Some.candidate.at) c.args.cell (let n = block_slots_384 in omega arith) g.0 (omega arith) c.with_next-cells.ensures.cells)).0
+    (c.self.inside.seen - c.in-Some.candidate.at) c.args.cell c.self.invariant.1 g.0 (omega arith) c.with_next-cells.ensures.cells y z))).0
 
 pub returns-clause-none : goal.returns-clause-none
 returns-clause-none c = λ t l f.
@@ -90,8 +90,9 @@ returns-clause-none c = λ t l f.
       recent = low_cells 8 c.with_cell-self-inside-2.result;
       candidate = Some (record { at = c.in-Some.candidate.at; before = c.in-Some.candidate.before; level = c.args.cell });
       subframe = 0;
-      words = set c.self.inside.words ((c.self.inside.seen - c.in-Some.candidate.at) / 64) c.with_next-cells.result;
+      words = c.keep.new.self;
     })
     c.in-Some.candidate _ l c.args.cell (subst (λ k. Follows k l) (sym c.self.view_is) f) c.in-Some.is g.0 g.1 refl c.with_cell-self-inside-2.ensures refl refl refl
+    (λ y z. subst (λ ws. Gathered c.args.cell 0 ws (entry (drop c.in-Some.candidate.at l)) (drop c.in-Some.candidate.at l ++ c.args.cell ∷ [])) (sym c.keep.ensures)
     (next-whole c.in-Some.candidate.level c.self.inside.subframe c.with_next-cells.result c.self.inside.words (entry (drop c.in-Some.candidate.at l)) (drop c.in-Some.candidate.at l)
-    (c.self.inside.seen - c.in-Some.candidate.at) c.args.cell (let n = block_slots_384 in omega arith) g.0 (omega arith) c.with_next-cells.ensures.cells)).1
+    (c.self.inside.seen - c.in-Some.candidate.at) c.args.cell c.self.invariant.1 g.0 (omega arith) c.with_next-cells.ensures.cells y z))).1

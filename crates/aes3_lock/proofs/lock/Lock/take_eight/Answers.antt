@@ -5,7 +5,7 @@ use Rattle.aes3_cell.specs.Words.{low_cells, word_cells}
 use Rattle.aes3_slot.specs.Fronts.{IsFrontOf}
 use Rattle.aes3_lock.specs.Reports.{decided}
 use Rattle.aes3_lock.specs.Following.{LockState, Follows}
-use Rattle.aes3_lock.proofs.Deciding.{block_slots_384, block_len_24576}
+use Rattle.aes3_lock.proofs.Deciding.{block_len_24576}
 use Rattle.aes3_lock.proofs.EightWords.{begun-few, eight-next}
 use Rattle.aes3_lock.proofs.lock.Lock.take_eight.Goals as goal
 
@@ -15,7 +15,7 @@ next c = record {
   recent = low_cells 8 c.last_octet-self-inside.result;
   candidate = c.self.inside.candidate;
   subframe = c.rest_of-behind.result;
-  words = c.keep_eight.new.words;
+  words = c.keep_eight.new.self;
 }
 
 goes-on : (c : goal.After-self-3-1) (l : List Level) → Follows c.args.self.now l
@@ -24,7 +24,7 @@ goes-on c l f =
     let follows = subst (λ k. Follows k l) (sym c.self.view_is) f in
     let t = c.in-Some.candidate in
     eight-next _ t l c.args.words.now c.eight_completed-subframes.result follows c.in-Some.is
-    (let n = block_slots_384 in omega arith) (let n = c.told-words in omega (arith, n)) c.fits-words
+    c.self.invariant.1 (let n = c.told-words in omega (arith, n)) c.fits-words
     (let b = block_len_24576 in let o = c.if-offset.false in omega (arith, b, o))
     (c.eight_completed-subframes.ensures (begun-few _ t l follows c.in-Some.is))
     (c.are_subframes.ensures.fronts c.if-not-are_subframes.false)

@@ -1,4 +1,4 @@
-use Rattle.std.proofs.Common.{◌≡◌, ◌+◌, ◌-◌, ◌/◌, ◌%◌, ◌++◌, set, take, drop, Some, false, refl, sym, ap, subst, ◌∙◌, arith}
+use Rattle.std.proofs.Common.{◌≡◌, ◌+◌, ◌-◌, ◌/◌, ◌%◌, ◌++◌, take, drop, Some, false, refl, sym, ap, subst, ◌∙◌, arith}
 use Rattle.std.proofs.lemmas.Bool.{false_from_ne_true}
 use Rattle.aes3_cell.specs.Words.{low_cells, word_cells}
 use Rattle.aes3_slot.specs.Fronts.{IsFrontOf}
@@ -6,7 +6,7 @@ use Rattle.aes3_block.specs.Blocks.{mark_at}
 use Rattle.aes3_lock.specs.declared.candidate.Candidate.{Candidate}
 use Rattle.aes3_lock.specs.Reports.{open_at}
 use Rattle.aes3_lock.specs.Following.{LockState, Follows}
-use Rattle.aes3_lock.proofs.Deciding.{block_slots_384, block_len_24576}
+use Rattle.aes3_lock.proofs.Deciding.{block_len_24576}
 use Rattle.aes3_lock.proofs.TakenWords.{word-next, word-room, word-fits}
 use Rattle.aes3_lock.proofs.lock.Lock.take_word.Goals as goal
 use Rattle.aes3_lock.proofs.lock.Lock.take_word.Goals.{then-not-begins_subframe-via-then-not-begins_subframe, then-not-begins_subframe-via-else-not-begins_subframe+then-not-begins_subframe-2}
@@ -50,9 +50,9 @@ returns-clause-follows c = λ t l f.
       recent = low_cells 8 c.last_octet-self-inside.result;
       candidate = Some (record { at = c.in-Some.candidate.at; before = c.in-Some.candidate.before; level = c.last_of-level.result });
       subframe = c.rest_of-rest.result;
-      words = set c.self.inside.words ((c.self.inside.seen - c.in-Some.candidate.at) / 64) c.completed-cells.result;
+      words = c.keep.new.self;
     })
-    (let n = block_slots_384 in omega arith)
+    c.self.invariant.1
     (record {
       room = let b = block_len_24576 in omega (arith, b);
       whole = subst (λ m. IsFrontOf c.in-Some.candidate.level m (take 64 (word_cells c.completed-cells.result))) c.mark_of.ensures
@@ -62,7 +62,7 @@ returns-clause-follows c = λ t l f.
           (c.begins_subframe-else-not-begins_subframe.ensures.yes c.if-not-begins_subframe-2.false));
     })
     refl c.last_octet-self-inside.ensures
-    (ap (λ v. Some (record { at = c.in-Some.candidate.at; before = c.in-Some.candidate.before; level = v })) c.last_of-level.ensures) refl refl).0
+    (ap (λ v. Some (record { at = c.in-Some.candidate.at; before = c.in-Some.candidate.before; level = v })) c.last_of-level.ensures) refl c.keep.ensures).0
 
 pub returns-clause-none : goal.returns-clause-none
 returns-clause-none c = λ t l f.
@@ -73,9 +73,9 @@ returns-clause-none c = λ t l f.
       recent = low_cells 8 c.last_octet-self-inside.result;
       candidate = Some (record { at = c.in-Some.candidate.at; before = c.in-Some.candidate.before; level = c.last_of-level.result });
       subframe = c.rest_of-rest.result;
-      words = set c.self.inside.words ((c.self.inside.seen - c.in-Some.candidate.at) / 64) c.completed-cells.result;
+      words = c.keep.new.self;
     })
-    (let n = block_slots_384 in omega arith)
+    c.self.invariant.1
     (record {
       room = let b = block_len_24576 in omega (arith, b);
       whole = subst (λ m. IsFrontOf c.in-Some.candidate.level m (take 64 (word_cells c.completed-cells.result))) c.mark_of.ensures
@@ -85,4 +85,4 @@ returns-clause-none c = λ t l f.
           (c.begins_subframe-else-not-begins_subframe.ensures.yes c.if-not-begins_subframe-2.false));
     })
     refl c.last_octet-self-inside.ensures
-    (ap (λ v. Some (record { at = c.in-Some.candidate.at; before = c.in-Some.candidate.before; level = v })) c.last_of-level.ensures) refl refl).1
+    (ap (λ v. Some (record { at = c.in-Some.candidate.at; before = c.in-Some.candidate.before; level = v })) c.last_of-level.ensures) refl c.keep.ensures).1

@@ -1,6 +1,6 @@
 use Rattle.std.proofs.Common.{◌+◌, ◌∙◌, ap, sym, set, get_or, length-set, add-one}
-use Rattle.aes3_lock.specs.Eights.{with_first}
-use Rattle.aes3_lock.proofs.eight.keep_eight.Goals as goal
+use Rattle.aes3_block.specs.Gathered.{with_first}
+use Rattle.aes3_block.proofs.gathered.put_eight.Goals as goal
 
 pub loop-i-preserved : goal.loop-i-preserved
 loop-i-preserved c =

@@ -1,6 +1,6 @@
 use Rattle.std.proofs.Common.{◌≡◌, length}
-use Rattle.aes3_lock.specs.Eights.{with_first}
-use Rattle.aes3_lock.proofs.eight.keep_eight.Given as goal
+use Rattle.aes3_block.specs.Gathered.{with_first}
+use Rattle.aes3_block.proofs.gathered.put_eight.Given as goal
 
 abbrev pub invariant-loop-i : goal.invariant-loop-i
 invariant-loop-i l = record {

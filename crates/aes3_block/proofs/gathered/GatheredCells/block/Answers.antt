@@ -1,0 +1,11 @@
+use Rattle.std.proofs.Common.{◌≡◌, ℕ, ◌<◌, ◌∙◌, ap, get_or, arith}
+use Rattle.aes3_block.specs.Blocks.{block_slots, mark_at}
+use Rattle.aes3_block.proofs.BlockLemmas.{block_slots_384}
+use Rattle.aes3_block.proofs.GatheredWords.{even-right}
+use Rattle.aes3_block.proofs.gathered.GatheredCells.block.Goals as goal
+
+pub block_of_even-requires : goal.block_of_even-requires
+block_of_even-requires c = λ i h.
+    let v = c.self.inside in
+    let n = block_slots_384 in
+    even-right v.before (mark_at i) (get_or v.words i 0) (c.self.invariant i (omega (arith, h, n, c.if-self-ge-SLOTS.true)))

@@ -1,0 +1,168 @@
+//! The cells of a block's subframes as they are gathered from a line.
+use crate::block::{Block, SLOTS, zero_words};
+use aes3_cell::Level;
+use aes3_slot::slot_bits;
+use std::marker::Model;
+
+/// The cells of a block's subframes, 64 each, the earliest in bit 0, as they come one behind the other.
+///
+/// A contract sees the words. It also keeps how many of the first are a block's first subframes as they stand, with right
+/// parity, so that nobody has to judge them again.
+#[derive(Drop)]
+pub struct GatheredCells {
+    words: [u64; SLOTS],
+    before: Level,
+    right: usize,
+}
+
+impl Model for GatheredCells {
+    ghost use Rattle.std.specs.Prelude.{List, ℕ};
+    ghost use Rattle.aes3_block.specs.Gathered.{AreRight};
+
+    ghost Value = { List ℕ };
+
+    ghost view = { λ c. c.words };
+
+    ghost invariant = { λ c. AreRight c.before c.right c.words };
+}
+
+ghost use Rattle.std.specs.Prelude.{◌≡◌, ℕ, true, false, ◌<◌, ◌≤◌, ◌+◌, ◌⊎◌, IfSome, get_or, length, map, replicate, set, take};
+ghost use Rattle.std.specs.List.{filter, flat_map};
+ghost use Rattle.aes3_cell.specs.Words.{word_cells};
+ghost use Rattle.aes3_slot.specs.Bits.{odd_ones};
+ghost use Rattle.aes3_slot.specs.ReadWords.{read_word, read_words};
+ghost use Rattle.aes3_slot.specs.Slots.{payload_len};
+ghost use Rattle.aes3_block.specs.Blocks.{block_cells, block_slots, mark_at};
+ghost use Rattle.aes3_block.specs.Files.{is_lawful, payload_of};
+ghost use Rattle.aes3_block.specs.Gathered.{IsRight, with_first};
+
+use crate::cells::mark_of;
+use crate::read_cells::wrong_in;
+use crate::slots::wrong_parities;
+
+/// How many of the first words are right after the level `before`, with `more` right ones put from `slot` on, where `right`
+/// of them were after the level `first`.
+fn right_behind(right: usize, first: Level, slot: usize, before: Level, more: usize) -> usize
+    requires { slot + more ≤ SLOTS }
+    ensures { (j : ℕ) → j < result
+        → ((j < slot) × (j < right) × (first ≡ before)) ⊎ ((slot ≤ j) × (j < slot + more)) }
+{
+    let known = if first == before { right.min(slot) } else { 0 };
+    if known == slot { slot + more } else { known }
+}
+
+/// Puts eight words from `slot` on.
+fn put_eight(words: &mut [u64; SLOTS], slot: usize, subframes: &[u64; 8])
+    requires { slot + 8 ≤ SLOTS }
+    ensures { words.new ≡ with_first slot words.old subframes.now 8 }
+{
+    for (i, cells) in subframes.iter().enumerate() {
+        words[slot + i] = *cells;
+    }
+}
+
+/// The lawful word whose payload a subframe's 64 cells carry, where its parity bit is right.
+fn word_of_even(cells: u64) -> u32
+    requires { odd_ones (read_word cells) ≡ false }
+    ensures lawful { is_lawful result ≡ true }
+    ensures payload { payload_of result ≡ take payload_len (read_word cells) }
+{
+    slot_bits(cells) << 4
+}
+
+/// The block whose payloads these subframes carry, where each parity bit is right.
+fn block_of_even(words: &[u64; SLOTS]) -> Block
+    requires { (i : ℕ) → i < block_slots → odd_ones (read_word (get_or words.now i 0)) ≡ false }
+    ensures { result ≡ map (take payload_len) (read_words words.now) }
+{
+    let mut lawful = zero_words();
+    for (slot, cells) in words.iter().enumerate() {
+        lawful[slot] = word_of_even(*cells);
+    }
+    Block::of_words(lawful)
+}
+
+impl GatheredCells {
+    /// Words all of whose cells are low.
+    pub fn new() -> Self
+        ensures { result ≡ replicate block_slots 0 }
+    {
+        GatheredCells::of_words([0; SLOTS])
+    }
+
+    /// These words.
+    pub fn of_words(words: [u64; SLOTS]) -> Self
+        ensures words { result ≡ words }
+        ensures len { length result ≡ block_slots }
+    {
+        GatheredCells {
+            words,
+            before: Level::Low,
+            right: 0,
+        }
+    }
+
+    /// The words.
+    pub fn words(&self) -> &[u64; SLOTS]
+        ensures { result.now ≡ self.now }
+    {
+        &self.words
+    }
+
+    /// Keeps the cells of subframe `slot`, before whose first the line has the level `before`.
+    pub fn keep(&mut self, slot: usize, before: Level, cells: u64)
+        requires { slot < SLOTS }
+        ensures { self.new ≡ set self.old slot cells }
+    {
+        let more = usize::from(wrong_in(before, mark_of(slot as u64), cells) == 0);
+        self.right = right_behind(self.right, self.before, slot, before, more);
+        self.before = before;
+        self.words[slot] = cells;
+    }
+
+    /// Keeps the cells of eight subframes from `slot` on, each of them right after the level `before`.
+    pub fn keep_eight(&mut self, slot: usize, before: Level, subframes: &[u64; 8])
+        requires within { slot + 8 ≤ SLOTS }
+        requires right { (i : ℕ) → i < 8 → IsRight before (mark_at (slot + i)) (get_or subframes.now i 0) }
+        ensures { self.new ≡ with_first slot self.old subframes.now 8 }
+    {
+        self.right = right_behind(self.right, self.before, slot, before, 8);
+        self.before = before;
+        put_eight(&mut self.words, slot, subframes);
+    }
+
+    /// The level after which the words are a block's cells as they stand, with right parity, where it knows one.
+    pub(crate) fn level_before(&self) -> Option<Level>
+        ensures { IfSome result (λ s. flat_map word_cells self.now ≡ block_cells s (map (take payload_len) (read_words self.now))) }
+    {
+        if self.right >= SLOTS {
+            Some(self.before)
+        } else {
+            None
+        }
+    }
+
+    /// The block whose payloads these subframes carry, as `Block::of_cells` gathers it. It makes no parity bits where it
+    /// knows those that are there to be right.
+    pub fn block(&self) -> Block
+        ensures { result ≡ map (take payload_len) (read_words self.now) }
+    {
+        if self.right >= SLOTS {
+            block_of_even(&self.words)
+        } else {
+            Block::of_cells(&self.words)
+        }
+    }
+
+    /// How many of the subframes have a wrong parity bit, as `wrong_parities` counts them. It counts none again that it knows
+    /// to be right.
+    pub fn wrong_parities(&self) -> u16
+        ensures { result ≡ length (filter odd_ones (read_words self.now)) }
+    {
+        if self.right >= SLOTS {
+            0
+        } else {
+            wrong_parities(&self.words)
+        }
+    }
+}
