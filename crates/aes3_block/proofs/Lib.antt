@@ -21,3 +21,4 @@ pub mod Samples
 pub mod SampleBlocks
 pub mod ReadCells
 pub mod GatheredWords
+pub mod FourWords

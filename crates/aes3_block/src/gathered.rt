@@ -1,8 +1,8 @@
 //! The cells of a block's subframes as they are gathered from a line.
 use crate::block::{Block, SLOTS, zero_words};
 use aes3_cell::Level;
-use aes3_slot::slot_bits;
 use std::marker::Model;
+use std::simd::prelude::*;
 
 /// The cells of a block's subframes, 64 each, the earliest in bit 0, as they come one behind the other.
 ///
@@ -26,7 +26,8 @@ impl Model for GatheredCells {
     ghost invariant = { λ c. AreRight c.before c.right c.words };
 }
 
-ghost use Rattle.std.specs.Prelude.{◌≡◌, ℕ, true, false, ◌<◌, ◌≤◌, ◌+◌, ◌⊎◌, IfSome, get_or, length, map, replicate, set, take};
+ghost use Rattle.std.specs.Prelude.{◌≡◌, ℕ, true, false, ◌<◌, ◌≤◌, ◌+◌, ◌*◌, ◌/◌, ◌%◌, ◌^◌, ◌⊎◌, IfSome, bit_xor, get_or, length, map, replicate, set, take};
+ghost use Rattle.std.specs.Int.{bit_at};
 ghost use Rattle.std.specs.List.{filter, flat_map};
 ghost use Rattle.aes3_cell.specs.Words.{word_cells};
 ghost use Rattle.aes3_slot.specs.Bits.{odd_ones};
@@ -61,13 +62,51 @@ fn put_eight(words: &mut [u64; SLOTS], slot: usize, subframes: &[u64; 8])
     }
 }
 
-/// The lawful word whose payload a subframe's 64 cells carry, where its parity bit is right.
-fn word_of_even(cells: u64) -> u32
-    requires { odd_ones (read_word cells) ≡ false }
-    ensures lawful { is_lawful result ≡ true }
-    ensures payload { payload_of result ≡ take payload_len (read_word cells) }
+/// Puts four words from `at` on.
+fn put_four(words: &mut [u32; SLOTS], at: usize, four: &[u32; 4])
+    requires { at + 4 ≤ SLOTS }
+    ensures { words.new ≡ with_first at words.old four.now 4 }
 {
-    slot_bits(cells) << 4
+    for (i, word) in four.iter().enumerate() {
+        words[at + i] = *word;
+    }
+}
+
+/// The bits that a subframe's 64 cells carry in slots 4 to 31, each at the place of its slot in a word of a block file, but
+/// with the octets of that word two octets apart.
+fn octets_apart(cells: u64) -> u64
+    ensures none { (i : ℕ) → i < 4 → bit_at result i ≡ 0 }
+    ensures bits { (i : ℕ) → i < 28 → bit_at result (16 * ((i + 4) / 8) + (i + 4) % 8) ≡ bit_at (bit_xor cells (cells / 2) / 2 ^ 8) (2 * i) }
+{
+    let word = (cells ^ (cells >> 1)) & 0x5555_5555_5555_5500;
+    let word = (word | (word >> 1)) & 0x3333_3333_3333_3333;
+    let word = (word | (word >> 2)) & 0x0F0F_0F0F_0F0F_0F0F;
+    (word | (word >> 4)) & 0x00FF_00FF_00FF_00FF
+}
+
+/// The octets at even places.
+const EVEN: [usize; 16] = [0, 2, 4, 6, 8, 10, 12, 14, 16, 18, 20, 22, 24, 26, 28, 30];
+
+/// Words of the octets at even places.
+fn even_octets(words: u64x4) -> [u32; 4]
+    ensures bits { (i j : ℕ) → i < 4 → j < 32 → bit_at (get_or result i 0) j ≡ bit_at (get_or words i 0) (16 * (j / 8) + j % 8) }
+    ensures fits { (i : ℕ) → i < 4 → get_or result i 0 < 2 ^ 32 }
+{
+    u32x4::from_le_bytes(words.to_le_bytes().swizzle(EVEN)).to_array()
+}
+
+/// The lawful words whose payloads the cells of four subframes carry, where each parity bit is right.
+fn words_of_even(cells: &[u64; 4]) -> [u32; 4]
+    requires { (i : ℕ) → i < 4 → odd_ones (read_word (get_or cells.now i 0)) ≡ false }
+    ensures lawful { (i : ℕ) → i < 4 → is_lawful (get_or result i 0) ≡ true }
+    ensures payload { (i : ℕ) → i < 4 → payload_of (get_or result i 0) ≡ take payload_len (read_word (get_or cells.now i 0)) }
+{
+    even_octets(u64x4::from_array([
+        octets_apart(cells[0]),
+        octets_apart(cells[1]),
+        octets_apart(cells[2]),
+        octets_apart(cells[3]),
+    ]))
 }
 
 /// The block whose payloads these subframes carry, where each parity bit is right.
@@ -76,8 +115,10 @@ fn block_of_even(words: &[u64; SLOTS]) -> Block
     ensures { result ≡ map (take payload_len) (read_words words.now) }
 {
     let mut lawful = zero_words();
-    for (slot, cells) in words.iter().enumerate() {
-        lawful[slot] = word_of_even(*cells);
+    for i in 0..SLOTS / 4 {
+        let at = 4 * i;
+        let four = [words[at], words[at + 1], words[at + 2], words[at + 3]];
+        put_four(&mut lawful, at, &words_of_even(&four));
     }
     Block::of_words(lawful)
 }

@@ -1,27 +1,45 @@
-use Rattle.std.proofs.Common.{ap, ◌∙◌, arith, length, length-set}
+use Rattle.std.proofs.Common.{ℕ, ◌≡◌, ◌+◌, ◌*◌, ◌<◌, false, ap, subst, sym, ◌∙◌, arith, get_or, length, take}
 use Rattle.std.proofs.lemmas.List.{length-replicate}
+use Rattle.aes3_slot.specs.Bits.{odd_ones}
+use Rattle.aes3_slot.specs.ReadWords.{read_word}
 use Rattle.aes3_block.specs.Blocks.{block_slots}
+use Rattle.aes3_block.specs.Files.{is_lawful, payload_of}
+use Rattle.aes3_block.specs.Gathered.{with_first}
 use Rattle.aes3_block.proofs.BlockLemmas.{zeros-lawful, block_slots_384}
-use Rattle.aes3_block.proofs.SlotWords.{lawful-more, payload-more, carried, carried-all}
+use Rattle.aes3_block.proofs.FourWords.{all-four, lawful-placed, payloads-placed}
+use Rattle.aes3_block.proofs.GatheredWords.{length-with_first}
+use Rattle.aes3_block.proofs.SlotWords.{carried, carried-all}
 use Rattle.aes3_block.proofs.gathered.block_of_even.Goals as goal
 
-pub loop-slot-init : goal.loop-slot-init
-loop-slot-init c = record {
+pub loop-i-init : goal.loop-i-init
+loop-i-init c = record {
   len = ap length c.zero_words-lawful.ensures ∙ length-replicate block_slots 0 ∙ block_slots_384;
   lawful = zeros-lawful c.zero_words-lawful.result c.zero_words-lawful.ensures;
   payloads = λ k h. absurd (omega arith);
 }
 
-pub loop-slot-preserved : goal.loop-slot-preserved
-loop-slot-preserved c = record {
-  len = length-set c.loop-slot.lawful c.loop-slot.slot c.word_of_even.result ∙ c.loop-slot.invariant.len;
-  lawful = λ k. lawful-more c.loop-slot.lawful c.loop-slot.slot c.word_of_even.result k (omega arith) c.word_of_even.ensures.lawful (c.loop-slot.invariant.lawful k);
-  payloads = payload-more carried c.loop-slot.lawful c.args.words.now c.loop-slot.slot c.word_of_even.result (omega arith) c.word_of_even.ensures.payload
-      c.loop-slot.invariant.payloads;
-}
+pub words_of_even-requires : goal.words_of_even-requires
+words_of_even-requires c =
+    let n = block_slots_384 in
+    let at = 4 * c.loop-i.i in
+    all-four _ (c.requires at (omega arith)) (c.requires (at + 1) (omega arith)) (c.requires (at + 2) (omega arith)) (c.requires (at + 3) (omega arith))
+
+pub loop-i-preserved : goal.loop-i-preserved
+loop-i-preserved c =
+    let at = 4 * c.loop-i.i in
+    let words = c.args.words.now in
+    let kept = c.loop-i.lawful in
+    let four = c.words_of_even.result in
+    let len = c.loop-i.invariant.len in
+    let e = c.words_of_even.ensures.payload in
+    let none : at ≡ at + 0 = omega arith in
+    record {
+      len = ap length c.put_four.ensures ∙ length-with_first at kept four 4 ∙ len;
+      lawful = λ k. ap (λ ws. is_lawful (get_or ws k 0)) c.put_four.ensures ∙ lawful-placed at kept four (omega (arith, len)) c.loop-i.invariant.lawful c.words_of_even.ensures.lawful k;
+      payloads = λ k h. ap (λ ws. payload_of (get_or ws k 0)) c.put_four.ensures ∙ payloads-placed at words kept four (omega (arith, len)) c.loop-i.invariant.payloads
+          (all-four (λ i. payload_of (get_or four i 0) ≡ carried (get_or words (at + i) 0))
+          (e 0 (omega arith) ∙ ap (λ j. carried (get_or words j 0)) none) (e 1 (omega arith)) (e 2 (omega arith)) (e 3 (omega arith))) k (omega (arith, h));
+    }
 
 pub returns : goal.returns
-returns c = c.of_words.ensures ∙ carried-all c.loop-slot.lawful c.args.words.now (omega arith) (λ k h. c.loop-slot.invariant.payloads k (omega arith))
-
-pub word_of_even-requires : goal.word_of_even-requires
-word_of_even-requires c = c.requires c.loop-slot.slot (let n = block_slots_384 in omega arith)
+returns c = c.of_words.ensures ∙ carried-all c.loop-i.lawful c.args.words.now (omega arith) (λ k h. c.loop-i.invariant.payloads k (omega arith))
