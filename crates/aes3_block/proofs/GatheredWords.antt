@@ -1,5 +1,5 @@
 -- Words that are known to be the cells of a block's subframes.
-use Rattle.std.proofs.Common.{◌≡◌, ℕ, zero, suc, ◌+◌, ◌-◌, ◌<◌, ◌≤◌, ◌⊎◌, inl, inr, List, [], ◌∷◌, false, length, map, take, drop, set, get_or, refl, sym, ap, subst, ◌∙◌, arith, add-one, eqb, eq-eqb, ne_eqb, length-set, get_or-set_same, get_or-set_other}
+use Rattle.std.proofs.Common.{◌≡◌, ℕ, zero, suc, ◌+◌, ◌-◌, ◌<◌, ◌≤◌, ◌⊎◌, inl, inr, List, [], ◌∷◌, false, length, map, take, drop, get_or, refl, sym, ap, subst, ◌∙◌, arith, add-one, eqb, eq-eqb, ne_eqb, length-set, get_or-set_same, get_or-set_other}
 use mir.Val.{bool_byte}
 use Rattle.std.specs.List.{filter, flat_map}
 use Rattle.std.proofs.lemmas.Bool.{cases_eq, cases_lt}

@@ -1,5 +1,5 @@
 -- Eight words of cells at once, behind those that a lock follows.
-use Rattle.std.proofs.Common.{◌≡◌, ℕ, zero, suc, ◌+◌, ◌-◌, ◌*◌, ◌/◌, ◌%◌, ◌==◌, ◌^◌, ◌<◌, ◌≤◌, ◌⊎◌, inl, inr, List, [], ◌∷◌, ◌++◌, Bool, true, false, not, Some, refl, length, take, drop, set, get_or, replicate, ap, ap₂, ◌∙◌, sym, subst, arith, length-drop, length-set, take-append-drop, take_all, append_assoc, add-one, get_or-set_same, get_or-set_other}
+use Rattle.std.proofs.Common.{◌≡◌, ℕ, zero, suc, ◌+◌, ◌-◌, ◌*◌, ◌/◌, ◌%◌, ◌==◌, ◌^◌, ◌<◌, ◌≤◌, ◌⊎◌, inl, inr, List, [], ◌∷◌, ◌++◌, Bool, true, false, not, Some, refl, length, take, drop, set, get_or, replicate, ap, ap₂, ◌∙◌, sym, subst, arith, length-drop, take-append-drop, take_all, append_assoc, add-one, get_or-set_same, get_or-set_other}
 use Rattle.std.specs.Prelude.{bit_or, if◌then◌else◌}
 use Rattle.std.specs.Int.{bit_at}
 use Rattle.std.specs.List.{flat_map}

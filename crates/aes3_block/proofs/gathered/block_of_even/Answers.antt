@@ -1,10 +1,7 @@
-use Rattle.std.proofs.Common.{ℕ, ◌≡◌, ◌+◌, ◌*◌, ◌<◌, false, ap, subst, sym, ◌∙◌, arith, get_or, length, take}
+use Rattle.std.proofs.Common.{◌≡◌, ◌+◌, ◌*◌, ap, ◌∙◌, arith, get_or, length}
 use Rattle.std.proofs.lemmas.List.{length-replicate}
-use Rattle.aes3_slot.specs.Bits.{odd_ones}
-use Rattle.aes3_slot.specs.ReadWords.{read_word}
 use Rattle.aes3_block.specs.Blocks.{block_slots}
 use Rattle.aes3_block.specs.Files.{is_lawful, payload_of}
-use Rattle.aes3_block.specs.Gathered.{with_first}
 use Rattle.aes3_block.proofs.BlockLemmas.{zeros-lawful, block_slots_384}
 use Rattle.aes3_block.proofs.FourWords.{all-four, lawful-placed, payloads-placed}
 use Rattle.aes3_block.proofs.GatheredWords.{length-with_first}

@@ -1,8 +1,8 @@
-use Rattle.std.proofs.Common.{◌≡◌, ◌/◌, ◌^◌, ◌<◌, arith}
-use Rattle.std.specs.Prelude.{bit_and, bit_or, bit_xor}
+use Rattle.std.proofs.Common.{◌/◌, ◌^◌, ◌<◌, arith}
+use Rattle.std.specs.Prelude.{bit_xor}
 use Rattle.std.proofs.lemmas.Nat.{xor_lt}
-use Rattle.aes3_cell.proofs.Moves.{Gathers, gathers-itself, gathers-above, gathers-masked}
-use Rattle.aes3_block.proofs.FourWords.{moved_apart, apart-none, apart-bits}
+use Rattle.aes3_cell.proofs.Moves.{gathers-itself, gathers-above, gathers-masked}
+use Rattle.aes3_block.proofs.FourWords.{apart-none, apart-bits}
 use Rattle.aes3_block.proofs.gathered.octets_apart.Goals as goal
 
 few : (c : goal.Start) → bit_xor c.args.cells (c.args.cells / 2) < 2 ^ 64

@@ -1,5 +1,5 @@
-use Rattle.std.proofs.Common.{◌≡◌, ℕ, ◌<◌, ◌∙◌, ap, get_or, arith}
-use Rattle.aes3_block.specs.Blocks.{block_slots, mark_at}
+use Rattle.std.proofs.Common.{get_or, arith}
+use Rattle.aes3_block.specs.Blocks.{mark_at}
 use Rattle.aes3_block.proofs.BlockLemmas.{block_slots_384}
 use Rattle.aes3_block.proofs.GatheredWords.{even-right}
 use Rattle.aes3_block.proofs.gathered.GatheredCells.block.Goals as goal

@@ -1,4 +1,4 @@
-use Rattle.std.proofs.Common.{ℕ, ◌≡◌, ◌+◌, ◌<◌, ◌∙◌, sym, ap, subst, set, get_or, get_or-set_same, get_or-set_other, arith}
+use Rattle.std.proofs.Common.{ℕ, ◌≡◌, ◌+◌, ◌<◌, sym, subst, set, get_or, get_or-set_same, get_or-set_other, arith}
 use Rattle.aes3_block.specs.Blocks.{mark_at}
 use Rattle.aes3_block.specs.Gathered.{IsRight}
 use Rattle.aes3_block.proofs.GatheredWords.{right-behind, one-more}

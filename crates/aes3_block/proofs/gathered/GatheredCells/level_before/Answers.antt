@@ -1,4 +1,4 @@
-use Rattle.std.proofs.Common.{◌≡◌, ◌∙◌, ap, sym, subst, map, take, arith}
+use Rattle.std.proofs.Common.{◌≡◌, subst, map, take, arith}
 use Rattle.std.specs.List.{flat_map}
 use Rattle.aes3_cell.specs.Words.{word_cells}
 use Rattle.aes3_slot.specs.ReadWords.{read_words}

@@ -1,4 +1,3 @@
-use Rattle.std.proofs.Common.{refl}
 use Rattle.aes3_block.specs.Blocks.{block_slots}
 use Rattle.aes3_block.proofs.gathered.GatheredCells.new.Goals as goal
 

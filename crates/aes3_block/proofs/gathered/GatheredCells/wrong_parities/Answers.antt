@@ -1,4 +1,4 @@
-use Rattle.std.proofs.Common.{◌≡◌, ◌∙◌, ap, length, arith}
+use Rattle.std.proofs.Common.{◌∙◌, ap, length, arith}
 use Rattle.std.specs.List.{filter}
 use Rattle.aes3_slot.specs.Bits.{odd_ones}
 use Rattle.aes3_slot.specs.ReadWords.{read_words}
