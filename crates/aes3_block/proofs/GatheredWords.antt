@@ -1,16 +1,18 @@
 -- Words that are known to be the cells of a block's subframes.
-use Rattle.std.proofs.Common.{◌≡◌, ℕ, zero, suc, ◌+◌, ◌-◌, ◌<◌, ◌≤◌, ◌⊎◌, inl, inr, List, [], ◌∷◌, false, length, map, take, drop, get_or, refl, sym, ap, subst, ◌∙◌, arith, add-one, eqb, eq-eqb, ne_eqb, length-set, get_or-set_same, get_or-set_other}
+use Rattle.std.proofs.Common.{Bool, true, ◌++◌, replicate, ap₂, ◌≡◌, ℕ, zero, suc, ◌+◌, ◌-◌, ◌<◌, ◌≤◌, ◌⊎◌, inl, inr, List, [], ◌∷◌, false, length, map, take, drop, set, get_or, refl, sym, ap, subst, ◌∙◌, arith, add-one, eqb, eq-eqb, ne_eqb, length-set, get_or-set_same, get_or-set_other}
 use mir.Val.{bool_byte}
 use Rattle.std.specs.List.{filter, flat_map}
 use Rattle.std.proofs.lemmas.Bool.{cases_eq, cases_lt}
-use Rattle.std.proofs.lemmas.List.{set-get_or}
+use Rattle.std.proofs.lemmas.List.{map-append, set-get_or}
 use Rattle.aes3_cell.specs.declared.level.Level.{Level}
-use Rattle.aes3_cell.specs.Cells.{line}
+use Rattle.aes3_cell.specs.declared.level.Level.TheVariants.{Low, High}
+use Rattle.aes3_cell.specs.Cells.{line, other}
+use Rattle.aes3_cell.proofs.ManyWords.{words-more}
 use Rattle.aes3_cell.specs.Words.{word_cells}
 use Rattle.aes3_slot.specs.declared.mark.Mark.{Mark}
 use Rattle.aes3_slot.specs.Bits.{odd_ones}
 use Rattle.aes3_slot.specs.Slots.{payload_len, with_parity}
-use Rattle.aes3_slot.specs.Reading.{read_bits}
+use Rattle.aes3_slot.specs.Reading.{read_bits, same}
 use Rattle.aes3_slot.specs.ReadWords.{read_word, read_words}
 use Rattle.aes3_slot.proofs.Subframes.{odd_ones-with_parity}
 use Rattle.aes3_slot.proofs.Unique.{read-slots}
@@ -100,3 +102,38 @@ one-more wrong more i e h = go (cases_eq wrong 0)
     go (inr n) =
         let none : more ≡ 0 = e ∙ ap bool_byte (ne_eqb wrong 0 n) in
         absurd (omega (arith, none, h))
+
+-- words each of whose cells is at the other level
+pub inverted-more : (words cells : List ℕ) (i v : ℕ) → i < length words → i < length cells
+    → flat_map word_cells (take i cells) ≡ map other (flat_map word_cells (take i words)) → word_cells v ≡ map other (word_cells (get_or words i 0))
+    → flat_map word_cells (take (i + 1) (set cells i v)) ≡ map other (flat_map word_cells (take (i + 1) words))
+inverted-more words cells i v h l e f =
+    let w = get_or words i 0 in
+    words-more cells i v l ∙ ap₂ ◌++◌ e f ∙ sym (map-append other (flat_map word_cells (take i words)) (word_cells w))
+    ∙ ap (map other) (sym (words-more words i w h) ∙ ap (λ ws. flat_map word_cells (take (i + 1) ws)) (set-get_or words i 0))
+
+-- a line after the other level
+run-other : (n : ℕ) (s : Level) → map other (replicate n s) ≡ replicate n (other s)
+run-other zero s = refl
+run-other (suc n) s = ap (λ t. other s ∷ t) (run-other n s)
+
+line-other : (s : Level) (runs : List ℕ) → map other (line s runs) ≡ line (other s) runs
+line-other s [] = refl
+line-other s (n ∷ runs) = map-append other (replicate n (other s)) (line (other s) runs) ∙ ap₂ ◌++◌ (run-other n (other s)) (line-other (other s) runs)
+
+pub same-level : (a b : Level) → same a b ≡ true → a ≡ b
+same-level Low Low h = refl
+same-level Low High h = cc
+same-level High Low h = cc
+same-level High High h = refl
+
+other-level : (a b : Level) → same a b ≡ false → other a ≡ b
+other-level Low Low h = cc
+other-level Low High h = refl
+other-level High Low h = refl
+other-level High High h = cc
+
+pub block-other : (s t : Level) (words : List ℕ) (b : List (List Bool)) → flat_map word_cells words ≡ block_cells s b → same s t ≡ false
+    → map other (flat_map word_cells words) ≡ block_cells t b
+unfolding block_cells
+block-other s t words b e n = ap (map other) e ∙ line-other s (block_runs b) ∙ ap (λ l. line l (block_runs b)) (other-level s t n)

@@ -2,11 +2,12 @@
 
 ghost use Rattle.std.specs.Prelude.{◌≡◌, ◌<◌, ◌+◌, ◌^◌, map, take, true};
 ghost use Rattle.std.specs.List.{flat_map};
-ghost use Rattle.aes3_cell.specs.Cells.{line};
+ghost use Rattle.aes3_cell.specs.Cells.{line, other};
 ghost use Rattle.aes3_cell.specs.Writes.{Wrote};
 ghost use Rattle.aes3_cell.specs.Words.{word_cells};
 ghost use Rattle.aes3_cell.specs.Written.{bytes_of};
 ghost use Rattle.aes3_slot.specs.ReadWords.{read_word, read_words};
+ghost use Rattle.aes3_slot.specs.Reading.{same};
 ghost use Rattle.aes3_slot.specs.Rules.{at};
 ghost use Rattle.aes3_slot.specs.Slots.{payload_len, subframe_runs};
 ghost use Rattle.aes3_block.specs.Blocks.{block_cells};
@@ -109,9 +110,43 @@ fn put_renewed<T: Sink>(
     put_words(form, &cells, sink)
 }
 
+/// Whether two levels are the same.
+fn are_same(first: Level, second: Level) -> bool
+    ensures { result ≡ same first second }
+{
+    first == second
+}
+
+/// The cells of a word, each at the other level.
+fn inverted(cells: u64) -> u64
+    ensures { word_cells result ≡ map other (word_cells cells) }
+{
+    !cells
+}
+
+/// Puts the words into `cells`, each cell at the other level.
+fn invert_all(words: &[u64; SLOTS], cells: &mut [u64; SLOTS])
+    ensures { flat_map word_cells cells.new ≡ map other (flat_map word_cells words.now) }
+{
+    for (slot, word) in words.iter().enumerate() {
+        cells[slot] = inverted(*word);
+    }
+}
+
+/// Writes words of cells, each cell at the other level.
+fn put_inverted<T: Sink>(form: Form, words: &[u64; SLOTS], sink: &mut T) -> Result<(), Fault>
+    requires room { T.failed sink.old + 1 < 2 ^ 64 }
+    ensures { Wrote T.taken T.failed sink.old sink.new
+        (bytes_of form (map other (flat_map word_cells words.now))) result }
+{
+    let mut cells = [0; SLOTS];
+    invert_all(words, &mut cells);
+    put_words(form, &cells, sink)
+}
+
 /// Writes the cells of the block whose payloads these subframes carry after the level `before`: the form's bytes but for its
 /// ending. It is `put_block` of `Block::of_cells`, gathers no bits of a subframe that is right in either polarity, and
-/// writes the cells as they came where they are known to be right.
+/// writes the cells as they came, or all of them inverted, where they are known to be right.
 ///
 /// # Errors
 /// The sink's fault; then it has taken a front of the bytes.
@@ -125,10 +160,13 @@ pub fn put_read_block<T: Sink>(
     ensures { Wrote T.taken T.failed sink.old sink.new
         (bytes_of form (block_cells before (map (take payload_len) (read_words gathered.now)))) result }
 {
-    if let Some(level) = gathered.level_before()
-        && level == before
-    {
-        return put_words(form, gathered.words(), sink);
+    let kept = gathered.words();
+    let Some(level) = gathered.level_before() else {
+        return put_renewed(form, before, kept, sink);
+    };
+    if are_same(level, before) {
+        put_words(form, kept, sink)
+    } else {
+        put_inverted(form, kept, sink)
     }
-    put_renewed(form, before, gathered.words(), sink)
 }

@@ -1,0 +1,11 @@
+use Rattle.std.proofs.Common.{◌≡◌, length, map, take}
+use Rattle.std.specs.List.{flat_map}
+use Rattle.aes3_cell.specs.Cells.{other}
+use Rattle.aes3_cell.specs.Words.{word_cells}
+use Rattle.aes3_block.proofs.read_cells.invert_all.Given as goal
+
+abbrev pub invariant-loop-slot : goal.invariant-loop-slot
+invariant-loop-slot l = record {
+  cells : flat_map word_cells (take l.slot l.cells) ≡ map other (flat_map word_cells (take l.slot l.words));
+  len : length l.cells ≡ 384;
+}
