@@ -67,7 +67,7 @@ int main(void) {
     failed |= tell("aes3_lock_init", init, 256);
     failed |= tell("aes3_lock_push, none", begin_block, 8192);
     failed |= tell("aes3_lock_take_words", take_words, 4096);
-    failed |= tell("aes3_lock_finish, whole", finish, 12288);
+    failed |= tell("aes3_lock_finish, whole", finish, 8192);
     failed |= report.kind != AES3_WHOLE;
     failed |= tell("aes3_lock_push, whole", end_block, 8192);
     failed |= report.kind != AES3_WHOLE;

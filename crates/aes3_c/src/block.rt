@@ -11,8 +11,9 @@ ghost use Rattle.aes3_c.specs.Codes.{channel_of};
 use crate::level::level_of_byte;
 use aes3_block::{Block, Channel, fill_block_cells};
 
-/// Puts the cells of the block of these words, behind a cell of the level `before`, into `cells`, a word a subframe.
-/// Answers 384, or the number of the first word that no block file may have; then no cell is put.
+/// Puts the cells of the block of these words, behind a cell of the level `before`, into `cells`, a
+/// word a subframe. Answers 384, or the number of the first word that no block file may have; then
+/// no cell is put.
 #[unsafe(no_mangle)]
 #[tactic(auto, unfolding(aes3_block::specs::Blocks::block_slots))]
 pub extern "C" fn aes3_encode_block(words: &[u32; 384], before: u8, cells: &mut [u64; 384]) -> u32
@@ -42,8 +43,8 @@ fn channel_of_number(number: u8) -> Channel
     }
 }
 
-/// Puts the 24 bytes of a channel's status, of the block of these words, into `status`. Answers 384, or the number of the
-/// first word that no block file may have; then no byte is put.
+/// Puts the 24 bytes of a channel's status, of the block of these words, into `status`. Answers
+/// 384, or the number of the first word that no block file may have; then no byte is put.
 #[unsafe(no_mangle)]
 #[tactic(auto, unfolding(aes3_block::specs::Blocks::block_slots))]
 pub extern "C" fn aes3_block_status(words: &[u32; 384], channel: u8, status: &mut [u8; 24]) -> u32

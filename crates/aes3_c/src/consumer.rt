@@ -49,7 +49,8 @@ fn fields_of(status: &Con) -> Aes3Consumer
     }
 }
 
-/// Puts the fields of a channel status for consumer use, and answers whether it is one; else it changes nothing.
+/// Puts the fields of a channel status for consumer use, and answers whether it is one; else it
+/// changes nothing.
 #[unsafe(no_mangle)]
 pub extern "C" fn aes3_status_consumer(status: &[u8; 24], fields: &mut Aes3Consumer) -> bool
     ensures consumer { result ≡ not (is_professional status.now) }

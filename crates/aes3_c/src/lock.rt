@@ -1,6 +1,7 @@
 //! The lock, kept by its caller.
 
-ghost use Rattle.std.specs.Prelude.{◌≡◌, ◌+◌, ◌<◌, ◌≤◌, ◌^◌, None, List, [], ◌++◌, length, take, option_to_list};
+ghost use Rattle.std.specs.Prelude.{◌≡◌, ◌+◌, ◌<◌, ◌≤◌, ◌^◌, None, List, [], ◌++◌, length, take};
+ghost use Rattle.std.specs.Prelude.{option_to_list};
 ghost use Rattle.std.specs.List.{flat_map};
 ghost use Rattle.aes3_cell.specs.declared.level.Level.{Level};
 ghost use Rattle.aes3_cell.specs.Words.{low_cells, word_cells};
@@ -109,8 +110,9 @@ fn most_of(seen: u64, count: u32) -> u32
     u64::from(count.min(64)).min(MOST - seen) as u32
 }
 
-/// Takes the first cells of a word, the earliest in bit 0, up to the first that decides a report and with it, and at most
-/// `count` and 64, and puts that report, if any. Answers how many it took; no lock takes more than 2^43 cells.
+/// Takes the first cells of a word, the earliest in bit 0, up to the first that decides a report
+/// and with it, and at most `count` and 64, and puts that report, if any. Answers how many it took;
+/// no lock takes more than 2^43 cells.
 #[unsafe(no_mangle)]
 pub extern "C" fn aes3_lock_push(
     lock: &mut Aes3Lock,
@@ -141,7 +143,8 @@ pub extern "C" fn aes3_lock_push(
     pushed.taken
 }
 
-/// Takes words of 64 cells, the earliest in bit 0, as far as none decides a report. Answers how many it took.
+/// Takes words of 64 cells, the earliest in bit 0, as far as none decides a report. Answers how
+/// many it took.
 #[unsafe(no_mangle)]
 pub extern "C" fn aes3_lock_take_words(lock: &mut Aes3Lock, words: &[u64]) -> usize
     ensures within { result ≤ length words.now }
@@ -165,8 +168,10 @@ pub extern "C" fn aes3_lock_finish(lock: &Aes3Lock, report: &mut Aes3Report)
     ensures { (cells : List Level) → Follows (state_of lock.now) cells
         → reports cells ≡ decided cells ++ option_to_list (told_in report.new) }
 {
-    match lock_of(lock).finish() {
-        Some(told) => put_report(&told, report),
+    // Read where it stands: a report moved out would take as much stack again.
+    let told = lock_of(lock).finish();
+    match &told {
+        Some(told) => put_report(told, report),
         None => put_none(report),
     }
 }

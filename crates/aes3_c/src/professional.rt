@@ -55,7 +55,8 @@ fn fields_of(status: &Pro) -> Aes3Professional
     }
 }
 
-/// Puts the fields of a channel status for professional use, and answers whether it is one; else it changes nothing.
+/// Puts the fields of a channel status for professional use, and answers whether it is one; else it
+/// changes nothing.
 #[unsafe(no_mangle)]
 pub extern "C" fn aes3_status_professional(status: &[u8; 24], fields: &mut Aes3Professional) -> bool
     ensures professional { result ≡ is_professional status.now }

@@ -7,8 +7,8 @@ ghost use Rattle.aes3_c.specs.States.{told_in};
 use crate::level::byte_of_level;
 use aes3_lock::{Report, Why};
 
-/// A report, or none. `kind` is 0 for none, 1 for a whole block, 2 for a marked one, 3 for a fault, 4 for the begun block at
-/// the end of the cells.
+/// A report, or none. `kind` is 0 for none, 1 for a whole block, 2 for a marked one, 3 for a fault,
+/// 4 for the begun block at the end of the cells.
 #[repr(C)]
 #[derive(Drop)]
 pub struct Aes3Report {

@@ -34,7 +34,8 @@ fn room() -> Aes3Report {
     }
 }
 
-/// The zero block but for the first C bit of channel 1, and the parity bit that makes the ones even.
+/// The zero block but for the first C bit of channel 1, and the parity bit that makes the ones
+/// even.
 fn words() -> [u32; 384] {
     let mut words = [0; 384];
     words[0] = 0xC000_0000;
