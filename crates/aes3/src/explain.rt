@@ -110,7 +110,8 @@ fn add(text: &mut String, meaning: &Meaning) -> Result<(), AllocError> {
     text.push_str("\n")
 }
 
-/// What words behind `--explain` are told: what the refusal of this number means, or with no word what each does.
+/// What words behind `--explain` are told: what the refusal of this number means, or with no word
+/// what each does.
 ///
 /// # Errors
 /// Memory was refused.

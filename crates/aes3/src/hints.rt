@@ -27,7 +27,8 @@ impl Terminals {
     }
 }
 
-/// Tells on standard error, where it is a terminal, what the program waits for and what a refusal means.
+/// Tells on standard error, where it is a terminal, what the program waits for and what a refusal
+/// means.
 #[derive(Drop)]
 pub struct Hints<'a> {
     rt: &'a HostRuntime,
@@ -45,7 +46,8 @@ impl<'a> Hints<'a> {
         }
     }
 
-    /// Says in a sentence what was refused of these words or their input, if anything was, and what to do.
+    /// Says in a sentence what was refused of these words or their input, if anything was, and what
+    /// to do.
     pub(crate) fn explain<S: Source + Drop>(&self, words: &[&str], source: &Watched<S>) {
         if let Some(error) = self.refusal {
             let told = advice_by_looks(error, looks_of(source.first()));

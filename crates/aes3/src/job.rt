@@ -3,8 +3,10 @@
 ghost use Rattle.std.specs.Prelude.{◌≡◌, ◌≢◌, ℕ, List, codes, IfOk, IfErr, map};
 ghost use Rattle.clap.specs.Values.{kind_of};
 ghost use Rattle.clap.specs.Walk.{first_of};
-ghost use Rattle.aes3.specs.Jobs.{AreSettings, AsksFor, HasStatus, IsBadOptionOf, IsBadStatus, IsChange, IsChangeFaultOf, IsFaultOf, IsJobOf, IsNumber};
-ghost use Rattle.aes3.specs.Jobs.{IsSettingsFaultOf, IsStatus, MayBeFlag, StandsIn, Tells, TellsSettings, form_by, is_set, lines_by, options_of};
+ghost use Rattle.aes3.specs.Jobs.{AreSettings, AsksFor, HasStatus, IsBadOptionOf, IsBadStatus};
+ghost use Rattle.aes3.specs.Jobs.{IsChange, IsChangeFaultOf, IsFaultOf, IsJobOf, IsNumber};
+ghost use Rattle.aes3.specs.Jobs.{IsSettingsFaultOf, IsStatus, MayBeFlag, StandsIn, Tells};
+ghost use Rattle.aes3.specs.Jobs.{TellsSettings, form_by, is_set, lines_by, options_of};
 ghost use Rattle.aes3.specs.declared.job.LineFault.TheVariants.{Refused};
 ghost use Rattle.aes3_cell.specs.declared.refusal.RunError.TheVariants.{BadStatusText, Memory};
 
@@ -183,7 +185,8 @@ fn number(options: &ArgMatches<'_>, name: &str) -> u64
     options.get_one::<u64>(name).unwrap()
 }
 
-/// The change that the options of `rewrite` and `from-pcm` ask for; `usage` says how the command is called.
+/// The change that the options of `rewrite` and `from-pcm` ask for; `usage` says how the command is
+/// called.
 fn change(alloc: Global, options: &ArgMatches<'_>, usage: &str) -> Result<Change, LineFault>
     requires { MayBeFlag (options_of options.now) (codes "mend-check") }
     ensures change { IfOk result (IsChange (options_of options.now)) }

@@ -42,7 +42,8 @@ fn tell_fault<T: Sink, E: Sink, O: Observer>(
     ensures told { FaultRan fault
         (movement_of T.taken T.failed sink.old sink.new)
         (movement_of E.taken E.failed errors.old errors.new) result }
-    ensures passed_on { T.passed sink.old ≡ T.taken sink.old → T.failed sink.new ≡ T.failed sink.old → T.passed sink.new ≡ T.taken sink.new }
+    ensures passed_on { T.passed sink.old ≡ T.taken sink.old → T.failed sink.new ≡ T.failed sink.old
+        → T.passed sink.new ≡ T.taken sink.new }
     ensures errors { E.failed errors.new ≤ E.failed errors.old + 1 }
 {
     match fault {
@@ -88,10 +89,10 @@ pub fn tell_unread<E: Sink, O: Observer>(fault: Unread, errors: &mut E, observer
     }
 }
 
-/// Runs a command line, without the program's name, and answers the exit status: 0 done, 1 where `check` found faults, 2
-/// for a refused command line, 3 for a refusal. A sink that held nothing before and did not fail has passed on all that it
-/// took. Refusals are told on `errors`, whose own faults change nothing. The
-/// observer is told how it goes on.
+/// Runs a command line, without the program's name, and answers the exit status: 0 done, 1 where
+/// `check` found faults, 2 for a refused command line, 3 for a refusal. A sink that held nothing
+/// before and did not fail has passed on all that it took. Refusals are told on `errors`, whose own
+/// faults change nothing. The observer is told how it goes on.
 pub fn run_words<S: Source, T: Sink, E: Sink, O: Observer>(
     alloc: Global,
     words: &[&str],
@@ -107,7 +108,8 @@ pub fn run_words<S: Source, T: Sink, E: Sink, O: Observer>(
         (movement_of S.given S.failed source.old source.new)
         (movement_of T.taken T.failed sink.old sink.new)
         (movement_of E.taken E.failed errors.old errors.new) result }
-    ensures passed_on { T.passed sink.old ≡ T.taken sink.old → T.failed sink.new ≡ T.failed sink.old → T.passed sink.new ≡ T.taken sink.new }
+    ensures passed_on { T.passed sink.old ≡ T.taken sink.old → T.failed sink.new ≡ T.failed sink.old
+        → T.passed sink.new ≡ T.taken sink.new }
     ensures errors { E.failed errors.new ≤ E.failed errors.old + 1 }
 {
     match job_of_words(alloc, words) {

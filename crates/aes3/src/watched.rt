@@ -8,7 +8,8 @@ use std::alloc::Global;
 /// How many of the first bytes are kept.
 const FIRST_LEN: usize = 16;
 
-/// A source that keeps what a person at a terminal has to be told of its bytes. Where nobody is there it keeps nothing.
+/// A source that keeps what a person at a terminal has to be told of its bytes. Where nobody is
+/// there it keeps nothing.
 #[derive(Drop)]
 pub struct Watched<S: Drop> {
     source: S,
@@ -30,7 +31,8 @@ pub struct Position {
     pub column: u64,
 }
 
-/// How many bytes stand behind the last line feed, where `before` stand before them and there is none.
+/// How many bytes stand behind the last line feed, where `before` stand before them and there is
+/// none.
 fn column_behind(before: u64, bytes: &[u8]) -> u64 {
     match bytes.iter().rev().position(|byte| *byte == b'\n') {
         Some(behind) => behind as u64,
@@ -77,7 +79,8 @@ impl<S: Source + Drop> Watched<S> {
         })
     }
 
-    /// Keeps the bytes that were given in place of those before them. Where memory for them is refused it keeps fewer.
+    /// Keeps the bytes that were given in place of those before them. Where memory for them is
+    /// refused it keeps fewer.
     fn keep(&mut self, bytes: &[u8])
         ensures { self.new.source ≡ self.old.source }
     {

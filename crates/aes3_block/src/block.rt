@@ -31,7 +31,8 @@ impl Model for Block {
     ghost invariant = { λ b. (i : ℕ) → i < block_slots → is_lawful (get_or b.words i 0) ≡ true };
 }
 
-ghost use Rattle.std.specs.Prelude.{◌≡◌, ◌<◌, ◌+◌, ◌*◌, ℕ, IfErr, IfOk, Some, true, false, get_or, length, map, replicate, slice_get, slice_set};
+ghost use Rattle.std.specs.Prelude.{◌≡◌, ◌<◌, ◌+◌, ◌*◌, ℕ, IfErr, IfOk, Some, true, false, get_or};
+ghost use Rattle.std.specs.Prelude.{length, map, replicate, slice_get, slice_set};
 ghost use Rattle.aes3_block.specs.Blocks.{block_slots, zero_block};
 ghost use Rattle.aes3_block.specs.Files.{is_lawful, payload_of};
 ghost use Rattle.aes3_block.specs.Subframes.{bits_of};
@@ -86,7 +87,8 @@ impl Block {
     /// Sets frame `i`, and no other.
     pub fn set_frame(&mut self, i: usize, frame: Frame)
         requires { i < FRAMES }
-        ensures { self.new ≡ slice_set (slice_set self.old (2 * i) (bits_of frame.first)) (2 * i + 1) (bits_of frame.second) }
+        ensures { self.new ≡ slice_set (slice_set self.old (2 * i) (bits_of frame.first))
+            (2 * i + 1) (bits_of frame.second) }
     {
         self.words[2 * i] = word_of_payload(frame.first.payload());
         self.words[2 * i + 1] = word_of_payload(frame.second.payload());
@@ -99,10 +101,12 @@ impl Block {
     #[tactic(auto, unfolding(crate::specs::Blocks::block_slots))]
     pub fn try_of_words(words: &[u32; SLOTS]) -> Result<Block, usize>
         ensures block { IfOk result (λ b. b ≡ map payload_of words.now) }
-        ensures lawful { IfOk result (λ _. (i : ℕ) → i < block_slots → is_lawful (get_or words.now i 0) ≡ true) }
+        ensures lawful { IfOk result (λ _. (i : ℕ) → i < block_slots
+            → is_lawful (get_or words.now i 0) ≡ true) }
         ensures within { IfErr result (λ n. n < block_slots) }
         ensures unlawful { IfErr result (λ n. is_lawful (get_or words.now n 0) ≡ false) }
-        ensures first { IfErr result (λ n. (i : ℕ) → i < n → is_lawful (get_or words.now i 0) ≡ true) }
+        ensures first { IfErr result (λ n. (i : ℕ) → i < n
+            → is_lawful (get_or words.now i 0) ≡ true) }
     {
         for (i, word) in words.iter().enumerate() {
             if !is_lawful_word(*word) {

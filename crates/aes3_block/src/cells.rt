@@ -26,7 +26,8 @@ pub fn mark_of(slot: u64) -> Mark
     }
 }
 
-/// Puts the cells of a block after the level `before` into `cells`, a word a subframe, the earliest cell in bit 0.
+/// Puts the cells of a block after the level `before` into `cells`, a word a subframe, the earliest
+/// cell in bit 0.
 pub fn fill_block_cells(before: Level, block: &Block, cells: &mut [u64; SLOTS])
     ensures { flat_map word_cells cells.new ≡ block_cells before block.now }
 {

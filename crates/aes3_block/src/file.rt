@@ -38,8 +38,8 @@ impl From<FileFault> for RunError {
 
 /// Reads a block file byte by byte.
 ///
-/// A contract sees how many bytes it has taken, the words of the block that is begun, the bytes of the word that is
-/// begun, and what it refused.
+/// A contract sees how many bytes it has taken, the words of the block that is begun, the bytes of
+/// the word that is begun, and what it refused.
 #[derive(Drop)]
 pub struct BlockFile {
     words: ArrayVec<u32, SLOTS>,
@@ -55,16 +55,25 @@ impl Model for BlockFile {
 
     ghost Value = { FileReader };
 
-    ghost view = { λ f. record { seen = f.seen; words = f.words.items; bytes = low_bytes (f.seen % 4) f.word; fault = f.fault } };
+    ghost view = { λ f. record {
+      seen = f.seen;
+      words = f.words.items;
+      bytes = low_bytes (f.seen % 4) f.word;
+      fault = f.fault;
+    } };
 
-    ghost invariant = { λ f. (length f.words.items ≡ f.seen / 4 % 384) × ((i : ℕ) → i < length f.words.items → is_lawful (get_or f.words.items i 0) ≡ true) × (f.word < 2 ^ (8 * (f.seen % 4))) };
+    ghost invariant = { λ f. (length f.words.items ≡ f.seen / 4 % 384)
+        × ((i : ℕ) → i < length f.words.items → is_lawful (get_or f.words.items i 0) ≡ true)
+        × (f.word < 2 ^ (8 * (f.seen % 4))) };
 }
 
-ghost use Rattle.std.specs.Prelude.{◌≡◌, ◌≢◌, ℕ, ◌<◌, ◌≤◌, ◌+◌, ◌*◌, ◌^◌, true, false, [], ◌∷◌, ◌++◌, Some, None, IfSome, IsSome, get_or, length, map};
+ghost use Rattle.std.specs.Prelude.{◌≡◌, ◌≢◌, ℕ, ◌<◌, ◌≤◌, ◌+◌, ◌*◌, ◌^◌, true, false, [], ◌∷◌};
+ghost use Rattle.std.specs.Prelude.{◌++◌, Some, None, IfSome, IsSome, get_or, length, map};
 ghost use Rattle.std.specs.List.{flat_map};
 ghost use Rattle.aes3_block.specs.Blocks.{block_slots};
 ghost use Rattle.aes3_block.specs.Files.{is_lawful, low_bytes, payload_of, word_bytes, words_of};
-ghost use Rattle.aes3_block.specs.Readers.{FileReader, TakesBlock, TakesQuietly, answer_with, end_answer, next_with, word_fault};
+ghost use Rattle.aes3_block.specs.Readers.{FileReader, TakesBlock, TakesQuietly, answer_with};
+ghost use Rattle.aes3_block.specs.Readers.{end_answer, next_with, word_fault};
 
 /// The fault of word `at`, its code judged before its parity.
 fn fault_of_word(word: u32, at: u64) -> Option<FileFault>
@@ -91,9 +100,12 @@ fn word_with_byte(word: u32, len: u32, byte: u8) -> u32
 
 /// The block of the words where they are so many; then none are left.
 fn take_block(words: &mut ArrayVec<u32, SLOTS>) -> Option<Block>
-    requires { (i : ℕ) → i < length words.old.items → is_lawful (get_or words.old.items i 0) ≡ true }
-    ensures whole { length words.old.items ≡ SLOTS → (result ≡ Some (map payload_of words.old.items)) × (words.new.items ≡ []) }
-    ensures begun { length words.old.items ≢ SLOTS → (result ≡ None) × (words.new.items ≡ words.old.items) }
+    requires { (i : ℕ) → i < length words.old.items
+        → is_lawful (get_or words.old.items i 0) ≡ true }
+    ensures whole { length words.old.items ≡ SLOTS
+        → (result ≡ Some (map payload_of words.old.items)) × (words.new.items ≡ []) }
+    ensures begun { length words.old.items ≢ SLOTS
+        → (result ≡ None) × (words.new.items ≡ words.old.items) }
 {
     if words.len() != SLOTS {
         return None;
@@ -119,8 +131,10 @@ fn words_of_block(bytes: &[u8; BLOCK_BYTES]) -> [u32; SLOTS]
 
 /// Whether all words are lawful. It judges each, so that the compiler takes several at once.
 fn are_lawful(words: &[u32; SLOTS]) -> bool
-    ensures each { result ≡ true → (i : ℕ) → i < block_slots → is_lawful (get_or words.now i 0) ≡ true }
-    ensures owed { ((i : ℕ) → i < block_slots → is_lawful (get_or words.now i 0) ≡ true) → result ≡ true }
+    ensures each { result ≡ true → (i : ℕ) → i < block_slots
+        → is_lawful (get_or words.now i 0) ≡ true }
+    ensures owed { ((i : ℕ) → i < block_slots → is_lawful (get_or words.now i 0) ≡ true)
+        → result ≡ true }
     ensures fits { (i : ℕ) → i < SLOTS → get_or words.now i 0 < 2 ^ 32 }
 {
     let mut lawful = true;
@@ -156,7 +170,8 @@ impl BlockFile {
     /// Takes one more byte, and answers the block that it ends.
     ///
     /// # Errors
-    /// The fault of the word that the byte ends. Then the byte isn't taken, and each later call answers the same.
+    /// The fault of the word that the byte ends. Then the byte isn't taken, and each later call
+    /// answers the same.
     pub fn feed_byte(&mut self, byte: u8) -> Result<Option<Block>, FileFault>
         requires { self.old.seen < 2 ^ 40 }
         ensures answer { result ≡ answer_with self.old byte }
@@ -182,15 +197,16 @@ impl BlockFile {
         Ok(block)
     }
 
-    /// Takes the four bytes of a word where none is begun, and it is lawful and ends no block, and says whether it did; else
-    /// it changes nothing.
+    /// Takes the four bytes of a word where none is begun, and it is lawful and ends no block, and
+    /// says whether it did; else it changes nothing.
     ///
     /// It is `feed_byte` for almost every word of a file.
     pub fn feed_word(&mut self, bytes: &[u8; 4]) -> bool
         requires { self.old.seen + 4 ≤ 2 ^ 40 }
         ensures quiet { result ≡ true → TakesQuietly self.old bytes.now self.new }
         ensures left { result ≡ false → self.new ≡ self.old }
-        ensures stops { result ≡ false → self.old.bytes ≡ [] → (next : FileReader) → ¬ TakesQuietly self.old bytes.now next }
+        ensures stops { result ≡ false → self.old.bytes ≡ [] → (next : FileReader)
+            → ¬ TakesQuietly self.old bytes.now next }
     {
         if self.fault.is_some() || self.seen % 4 != 0 {
             return false;
@@ -205,8 +221,8 @@ impl BlockFile {
         true
     }
 
-    /// Takes the bytes of a whole block where none is begun and all its words are lawful, and answers it; else it changes
-    /// nothing.
+    /// Takes the bytes of a whole block where none is begun and all its words are lawful, and
+    /// answers it; else it changes nothing.
     ///
     /// It is `feed_byte` for almost every block of a file.
     pub fn feed_block(&mut self, bytes: &[u8; BLOCK_BYTES]) -> Option<Block>
@@ -214,7 +230,8 @@ impl BlockFile {
         ensures taken { IfSome result (λ block. TakesBlock self.old bytes.now block self.new) }
         ensures left { result ≡ None → self.new ≡ self.old }
         ensures owed { self.old.fault ≡ None → self.old.bytes ≡ [] → self.old.words ≡ []
-            → ((i : ℕ) → i < block_slots → is_lawful (get_or (words_of bytes.now) i 0) ≡ true) → IsSome result }
+            → ((i : ℕ) → i < block_slots → is_lawful (get_or (words_of bytes.now) i 0) ≡ true)
+            → IsSome result }
     {
         if self.fault.is_some() || self.seen % BLOCK_BYTES as u64 != 0 {
             return None;

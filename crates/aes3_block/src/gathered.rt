@@ -4,10 +4,11 @@ use aes3_cell::Level;
 use std::marker::Model;
 use std::simd::prelude::*;
 
-/// The cells of a block's subframes, 64 each, the earliest in bit 0, as they come one behind the other.
+/// The cells of a block's subframes, 64 each, the earliest in bit 0, as they come one behind the
+/// other.
 ///
-/// A contract sees the words. It also keeps how many of the first are a block's first subframes as they stand, with right
-/// parity, so that nobody has to judge them again.
+/// A contract sees the words. It also keeps how many of the first are a block's first subframes as
+/// they stand, with right parity, so that nobody has to judge them again.
 #[derive(Drop)]
 pub struct GatheredCells {
     words: [u64; SLOTS],
@@ -26,7 +27,8 @@ impl Model for GatheredCells {
     ghost invariant = { λ c. AreRight c.before c.right c.words };
 }
 
-ghost use Rattle.std.specs.Prelude.{◌≡◌, ℕ, true, false, ◌<◌, ◌≤◌, ◌+◌, ◌*◌, ◌/◌, ◌%◌, ◌^◌, ◌⊎◌, IfSome, bit_xor, get_or, length, map, replicate, set, take};
+ghost use Rattle.std.specs.Prelude.{◌≡◌, ℕ, true, false, ◌<◌, ◌≤◌, ◌+◌, ◌*◌, ◌/◌, ◌%◌, ◌^◌, ◌⊎◌};
+ghost use Rattle.std.specs.Prelude.{IfSome, bit_xor, get_or, length, map, replicate, set, take};
 ghost use Rattle.std.specs.Int.{bit_at};
 ghost use Rattle.std.specs.List.{filter, flat_map};
 ghost use Rattle.aes3_cell.specs.Words.{word_cells};
@@ -41,8 +43,8 @@ use crate::cells::mark_of;
 use crate::read_cells::wrong_in;
 use crate::slots::wrong_parities;
 
-/// How many of the first words are right after the level `before`, with `more` right ones put from `slot` on, where `right`
-/// of them were after the level `first`.
+/// How many of the first words are right after the level `before`, with `more` right ones put from
+/// `slot` on, where `right` of them were after the level `first`.
 fn right_behind(right: usize, first: Level, slot: usize, before: Level, more: usize) -> usize
     requires { slot + more ≤ SLOTS }
     ensures { (j : ℕ) → j < result
@@ -72,11 +74,12 @@ fn put_four(words: &mut [u32; SLOTS], at: usize, four: &[u32; 4])
     }
 }
 
-/// The bits that a subframe's 64 cells carry in slots 4 to 31, each at the place of its slot in a word of a block file, but
-/// with the octets of that word two octets apart.
+/// The bits that a subframe's 64 cells carry in slots 4 to 31, each at the place of its slot in a
+/// word of a block file, but with the octets of that word two octets apart.
 fn octets_apart(cells: u64) -> u64
     ensures none { (i : ℕ) → i < 4 → bit_at result i ≡ 0 }
-    ensures bits { (i : ℕ) → i < 28 → bit_at result (16 * ((i + 4) / 8) + (i + 4) % 8) ≡ bit_at (bit_xor cells (cells / 2) / 2 ^ 8) (2 * i) }
+    ensures bits { (i : ℕ) → i < 28 → bit_at result (16 * ((i + 4) / 8) + (i + 4) % 8)
+        ≡ bit_at (bit_xor cells (cells / 2) / 2 ^ 8) (2 * i) }
 {
     let word = (cells ^ (cells >> 1)) & 0x5555_5555_5555_5500;
     let word = (word | (word >> 1)) & 0x3333_3333_3333_3333;
@@ -89,17 +92,20 @@ const EVEN: [usize; 16] = [0, 2, 4, 6, 8, 10, 12, 14, 16, 18, 20, 22, 24, 26, 28
 
 /// Words of the octets at even places.
 fn even_octets(words: u64x4) -> [u32; 4]
-    ensures bits { (i j : ℕ) → i < 4 → j < 32 → bit_at (get_or result i 0) j ≡ bit_at (get_or words i 0) (16 * (j / 8) + j % 8) }
+    ensures bits { (i j : ℕ) → i < 4 → j < 32 → bit_at (get_or result i 0) j
+        ≡ bit_at (get_or words i 0) (16 * (j / 8) + j % 8) }
     ensures fits { (i : ℕ) → i < 4 → get_or result i 0 < 2 ^ 32 }
 {
     u32x4::from_le_bytes(words.to_le_bytes().swizzle(EVEN)).to_array()
 }
 
-/// The lawful words whose payloads the cells of four subframes carry, where each parity bit is right.
+/// The lawful words whose payloads the cells of four subframes carry, where each parity bit is
+/// right.
 fn words_of_even(cells: &[u64; 4]) -> [u32; 4]
     requires { (i : ℕ) → i < 4 → odd_ones (read_word (get_or cells.now i 0)) ≡ false }
     ensures lawful { (i : ℕ) → i < 4 → is_lawful (get_or result i 0) ≡ true }
-    ensures payload { (i : ℕ) → i < 4 → payload_of (get_or result i 0) ≡ take payload_len (read_word (get_or cells.now i 0)) }
+    ensures payload { (i : ℕ) → i < 4 → payload_of (get_or result i 0)
+        ≡ take payload_len (read_word (get_or cells.now i 0)) }
 {
     even_octets(u64x4::from_array([
         octets_apart(cells[0]),
@@ -161,10 +167,12 @@ impl GatheredCells {
         self.words[slot] = cells;
     }
 
-    /// Keeps the cells of eight subframes from `slot` on, each of them right after the level `before`.
+    /// Keeps the cells of eight subframes from `slot` on, each of them right after the level
+    /// `before`.
     pub fn keep_eight(&mut self, slot: usize, before: Level, subframes: &[u64; 8])
         requires within { slot + 8 ≤ SLOTS }
-        requires right { (i : ℕ) → i < 8 → IsRight before (mark_at (slot + i)) (get_or subframes.now i 0) }
+        requires right { (i : ℕ) → i < 8 → IsRight before (mark_at (slot + i))
+            (get_or subframes.now i 0) }
         ensures { self.new ≡ with_first slot self.old subframes.now 8 }
     {
         self.right = right_behind(self.right, self.before, slot, before, 8);
@@ -172,9 +180,11 @@ impl GatheredCells {
         put_eight(&mut self.words, slot, subframes);
     }
 
-    /// The level after which the words are a block's cells as they stand, with right parity, where it knows one.
+    /// The level after which the words are a block's cells as they stand, with right parity, where
+    /// it knows one.
     pub(crate) fn level_before(&self) -> Option<Level>
-        ensures { IfSome result (λ s. flat_map word_cells self.now ≡ block_cells s (map (take payload_len) (read_words self.now))) }
+        ensures { IfSome result (λ s. flat_map word_cells self.now
+            ≡ block_cells s (map (take payload_len) (read_words self.now))) }
     {
         if self.right >= SLOTS {
             Some(self.before)
@@ -183,8 +193,8 @@ impl GatheredCells {
         }
     }
 
-    /// The block whose payloads these subframes carry, as `Block::of_cells` gathers it. It makes no parity bits where it
-    /// knows those that are there to be right.
+    /// The block whose payloads these subframes carry, as `Block::of_cells` gathers it. It makes no
+    /// parity bits where it knows those that are there to be right.
     pub fn block(&self) -> Block
         ensures { result ≡ map (take payload_len) (read_words self.now) }
     {
@@ -195,8 +205,8 @@ impl GatheredCells {
         }
     }
 
-    /// How many of the subframes have a wrong parity bit, as `wrong_parities` counts them. It counts none again that it knows
-    /// to be right.
+    /// How many of the subframes have a wrong parity bit, as `wrong_parities` counts them. It
+    /// counts none again that it knows to be right.
     pub fn wrong_parities(&self) -> u16
         ensures { result ≡ length (filter odd_ones (read_words self.now)) }
     {

@@ -1,7 +1,11 @@
-//! Laws of blocks, of their file form and of their channel status: the contract of each function is a law over all blocks.
+//! Laws of blocks, of their file form and of their channel status: the contract of each function is
+//! a law over all blocks.
 
-ghost use Rattle.aes3_block.specs.Laws.{BlocksHaveOneLength, BlocksKeepTheLevel, CellsTellTheBlock, StreamTellsTheBlocks, StreamsJoin};
-ghost use Rattle.aes3_block.specs.Laws.{FilesReadBack, FilesAreOfBlocks, ReaderAnswersBlocks, ReaderAcceptsBlockFiles, StatusBitsAreOfFrames, StatusReadsBack, StatusMayStay, OnlyStatusChanges};
+ghost use Rattle.aes3_block.specs.Laws.{BlocksHaveOneLength, BlocksKeepTheLevel, CellsTellTheBlock};
+ghost use Rattle.aes3_block.specs.Laws.{StreamTellsTheBlocks, StreamsJoin};
+ghost use Rattle.aes3_block.specs.Laws.{FilesReadBack, FilesAreOfBlocks, ReaderAnswersBlocks};
+ghost use Rattle.aes3_block.specs.Laws.{ReaderAcceptsBlockFiles, StatusBitsAreOfFrames};
+ghost use Rattle.aes3_block.specs.Laws.{StatusReadsBack, StatusMayStay, OnlyStatusChanges};
 
 /// A block has 24,576 cells, and the last of them has the level that stood before the first.
 pub fn cells_of_blocks()
@@ -20,13 +24,15 @@ pub fn streams_of_blocks()
     ensures told { StreamTellsTheBlocks }
 {}
 
-/// What is written as a block file is read back as the same blocks, and nothing else is a block file.
+/// What is written as a block file is read back as the same blocks, and nothing else is a block
+/// file.
 pub fn files_of_blocks()
     ensures back { FilesReadBack }
     ensures only { FilesAreOfBlocks }
 {}
 
-/// A reader that is fed bytes answers their whole blocks, and accepts the bytes of a block file and no others.
+/// A reader that is fed bytes answers their whole blocks, and accepts the bytes of a block file and
+/// no others.
 pub fn blocks_read()
     ensures blocks { ReaderAnswersBlocks }
     ensures accepted { ReaderAcceptsBlockFiles }
@@ -37,7 +43,8 @@ pub fn status_by_frames()
     ensures { StatusBitsAreOfFrames }
 {}
 
-/// A status that is set is the one that is read, the status that was read may be set again, and nothing else changes.
+/// A status that is set is the one that is read, the status that was read may be set again, and
+/// nothing else changes.
 pub fn status_set()
     ensures back { StatusReadsBack }
     ensures stays { StatusMayStay }

@@ -31,9 +31,11 @@ fn is_inverted(before: Level, cells: u64) -> bool {
     (cells % 2 == 1) != (before == Level::Low)
 }
 
-/// The cells of the subframe with this preamble after the level `before` whose payload these cells carry.
+/// The cells of the subframe with this preamble after the level `before` whose payload these cells
+/// carry.
 fn renewed(before: Level, mark: Mark, cells: u64) -> u64
-    ensures { word_cells result ≡ line before (subframe_runs mark (take payload_len (read_word cells))) }
+    ensures { word_cells result ≡ line before (subframe_runs mark
+        (take payload_len (read_word cells))) }
 {
     let same = turned(is_inverted(before, cells), cells);
     if wrong_in(before, mark, same) == 0 {
@@ -42,17 +44,19 @@ fn renewed(before: Level, mark: Mark, cells: u64) -> u64
     subframe_cells(before, mark, slot_bits(cells) % PAYLOAD_LIMIT)
 }
 
-/// Puts the cells of the block whose payloads these subframes carry into `cells`, after the level `before`, each anew where it
-/// has to be.
+/// Puts the cells of the block whose payloads these subframes carry into `cells`, after the level
+/// `before`, each anew where it has to be.
 fn renew_each(before: Level, words: &[u64; SLOTS], cells: &mut [u64; SLOTS])
-    ensures { flat_map word_cells cells.new ≡ block_cells before (map (take payload_len) (read_words words.now)) }
+    ensures { flat_map word_cells cells.new ≡ block_cells before
+        (map (take payload_len) (read_words words.now)) }
 {
     for (slot, word) in words.iter().enumerate() {
         cells[slot] = renewed(before, mark_of(slot as u64), *word);
     }
 }
 
-/// One where a subframe's last cell is another level than `before`, as it is where its parity is wrong, else zero.
+/// One where a subframe's last cell is another level than `before`, as it is where its parity is
+/// wrong, else zero.
 fn other_last(before: Level, cells: u64) -> u64
     ensures { result ≡ 0 → at (word_cells cells) 63 ≡ before }
 {
@@ -62,18 +66,20 @@ fn other_last(before: Level, cells: u64) -> u64
     }
 }
 
-/// What is wrong with the cells of a subframe with this preamble after the level `before`: zero, where they are those of its
-/// payload, with right parity.
+/// What is wrong with the cells of a subframe with this preamble after the level `before`: zero,
+/// where they are those of its payload, with right parity.
 pub(crate) fn wrong_in(before: Level, mark: Mark, cells: u64) -> u64
-    ensures { result ≡ 0 → word_cells cells ≡ line before (subframe_runs mark (take payload_len (read_word cells))) }
+    ensures { result ≡ 0 → word_cells cells ≡ line before
+        (subframe_runs mark (take payload_len (read_word cells))) }
 {
     wrong_cells(before, mark, cells) | other_last(before, cells)
 }
 
-/// Puts the cells of the subframes into `cells`, all of them inverted where the first are, and says whether they are then
-/// the block whose payloads they carry, after the level `before`.
+/// Puts the cells of the subframes into `cells`, all of them inverted where the first are, and says
+/// whether they are then the block whose payloads they carry, after the level `before`.
 fn turn_all(before: Level, words: &[u64; SLOTS], cells: &mut [u64; SLOTS]) -> bool
-    ensures { result ≡ true → flat_map word_cells cells.new ≡ block_cells before (map (take payload_len) (read_words words.now)) }
+    ensures { result ≡ true → flat_map word_cells cells.new
+        ≡ block_cells before (map (take payload_len) (read_words words.now)) }
 {
     let inverted = is_inverted(before, words[0]);
     let mut wrong = 0;
@@ -85,9 +91,11 @@ fn turn_all(before: Level, words: &[u64; SLOTS], cells: &mut [u64; SLOTS]) -> bo
     wrong == 0
 }
 
-/// Puts the cells of the block whose payloads these subframes carry into `cells`, after the level `before`.
+/// Puts the cells of the block whose payloads these subframes carry into `cells`, after the level
+/// `before`.
 fn fill_read_cells(before: Level, words: &[u64; SLOTS], cells: &mut [u64; SLOTS])
-    ensures { flat_map word_cells cells.new ≡ block_cells before (map (take payload_len) (read_words words.now)) }
+    ensures { flat_map word_cells cells.new ≡ block_cells before
+        (map (take payload_len) (read_words words.now)) }
 {
     if !turn_all(before, words, cells) {
         renew_each(before, words, cells);
@@ -103,7 +111,8 @@ fn put_renewed<T: Sink>(
 ) -> Result<(), Fault>
     requires room { T.failed sink.old + 1 < 2 ^ 64 }
     ensures { Wrote T.taken T.failed sink.old sink.new
-        (bytes_of form (block_cells before (map (take payload_len) (read_words words.now)))) result }
+        (bytes_of form (block_cells before (map (take payload_len) (read_words words.now))))
+        result }
 {
     let mut cells = [0; SLOTS];
     fill_read_cells(before, words, &mut cells);
@@ -144,9 +153,10 @@ fn put_inverted<T: Sink>(form: Form, words: &[u64; SLOTS], sink: &mut T) -> Resu
     put_words(form, &cells, sink)
 }
 
-/// Writes the cells of the block whose payloads these subframes carry after the level `before`: the form's bytes but for its
-/// ending. It is `put_block` of `Block::of_cells`, gathers no bits of a subframe that is right in either polarity, and
-/// writes the cells as they came, or all of them inverted, where they are known to be right.
+/// Writes the cells of the block whose payloads these subframes carry after the level `before`: the
+/// form's bytes but for its ending. It is `put_block` of `Block::of_cells`, gathers no bits of a
+/// subframe that is right in either polarity, and writes the cells as they came, or all of them
+/// inverted, where they are known to be right.
 ///
 /// # Errors
 /// The sink's fault; then it has taken a front of the bytes.
@@ -158,7 +168,8 @@ pub fn put_read_block<T: Sink>(
 ) -> Result<(), Fault>
     requires room { T.failed sink.old + 1 < 2 ^ 64 }
     ensures { Wrote T.taken T.failed sink.old sink.new
-        (bytes_of form (block_cells before (map (take payload_len) (read_words gathered.now)))) result }
+        (bytes_of form (block_cells before (map (take payload_len) (read_words gathered.now))))
+        result }
 {
     let kept = gathered.words();
     let Some(level) = gathered.level_before() else {

@@ -26,9 +26,9 @@ fn word_of_sample(sample: u32) -> u32
 }
 
 impl Block {
-    /// The block of these samples, channel 1 and then channel 2 of each frame: 384 words of 32 bits, lowest byte first, each
-    /// with the 24 audio bits of its subframe in the highest ones (AES3-1, IEC 60958-1). The lowest 8 bits don't count, and
-    /// V, U and C are zero.
+    /// The block of these samples, channel 1 and then channel 2 of each frame: 384 words of 32
+    /// bits, lowest byte first, each with the 24 audio bits of its subframe in the highest ones
+    /// (AES3-1, IEC 60958-1). The lowest 8 bits don't count, and V, U and C are zero.
     pub fn of_samples(bytes: &[u8; BLOCK_BYTES]) -> Block
         ensures { result ≡ map payload_of_sample (words_of bytes.now) }
     {

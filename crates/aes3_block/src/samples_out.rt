@@ -30,8 +30,9 @@ fn bytes_of_samples(words: &[u32; SLOTS]) -> [u8; BLOCK_BYTES]
     bytes
 }
 
-/// Writes the samples of a block, channel 1 and then channel 2 of each frame: 384 words of 32 bits, lowest byte first,
-/// each with the 24 audio bits of its subframe in the highest ones (AES3-1, IEC 60958-1); handed on as one buffer.
+/// Writes the samples of a block, channel 1 and then channel 2 of each frame: 384 words of 32 bits,
+/// lowest byte first, each with the 24 audio bits of its subframe in the highest ones (AES3-1, IEC
+/// 60958-1); handed on as one buffer.
 ///
 /// # Errors
 /// The sink's fault; then it has taken a front of the bytes.

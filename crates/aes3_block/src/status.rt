@@ -15,13 +15,15 @@ pub const STATUS_LEN: usize = 24;
 ghost use Rattle.std.specs.Prelude.{◌≡◌, ◌<◌, ◌*◌, [], ◌∷◌, Some, take, drop, slice_get};
 ghost use Rattle.aes3_slot.specs.Bits.{number};
 ghost use Rattle.aes3_block.specs.Subframes.{bits_of};
-ghost use Rattle.aes3_block.specs.Statuses.{status_bits, status_of, bits_of_bytes, with_bits, with_status};
+ghost use Rattle.aes3_block.specs.Statuses.{status_bits, status_of, bits_of_bytes, with_bits};
+ghost use Rattle.aes3_block.specs.Statuses.{with_status};
 
 use crate::block::{Block, FRAMES};
 use crate::frame::Frame;
 
 impl Block {
-    /// The channel status of a channel (AES3-2, IEC 60958-1): bit `i % 8` of byte `i / 8` is the C bit of frame `i`.
+    /// The channel status of a channel (AES3-2, IEC 60958-1): bit `i % 8` of byte `i / 8` is the C
+    /// bit of frame `i`.
     pub fn channel_status(&self, channel: Channel) -> [u8; STATUS_LEN]
         ensures { result ≡ status_of self.now channel }
     {
@@ -32,7 +34,8 @@ impl Block {
         status
     }
 
-    /// Sets the channel status of a channel, and changes nothing else but the parity bits that follow.
+    /// Sets the channel status of a channel, and changes nothing else but the parity bits that
+    /// follow.
     pub fn set_channel_status(&mut self, channel: Channel, status: &[u8; STATUS_LEN])
         ensures { self.new ≡ with_status self.old channel status.now }
     {
@@ -77,7 +80,8 @@ fn bit_of(status: &[u8; STATUS_LEN], i: usize) -> bool
 
 /// A frame with this C bit in the subframe of a channel.
 fn with_bit(frame: Frame, channel: Channel, bit: bool) -> Frame
-    ensures { bits_of result.first ∷ bits_of result.second ∷ [] ≡ with_bits channel (bits_of frame.first ∷ bits_of frame.second ∷ []) (bit ∷ []) }
+    ensures { bits_of result.first ∷ bits_of result.second ∷ []
+        ≡ with_bits channel (bits_of frame.first ∷ bits_of frame.second ∷ []) (bit ∷ []) }
 {
     let mut frame = frame;
     match channel {

@@ -1,6 +1,7 @@
 //! What a subframe carries.
 
-ghost use Rattle.std.specs.Prelude.{◌≡◌, ◌==◌, ◌+◌, ◌<◌, ◌≤◌, ◌^◌, ◌%◌, ◌/◌, ◌↔◌, [], ◌∷◌, ◌++◌, IsNone, IfSome};
+ghost use Rattle.std.specs.Prelude.{◌≡◌, ◌==◌, ◌+◌, ◌<◌, ◌≤◌, ◌^◌, ◌%◌, ◌/◌, ◌↔◌, [], ◌∷◌, ◌++◌};
+ghost use Rattle.std.specs.Prelude.{IsNone, IfSome};
 ghost use Rattle.std.specs.Int.{bit_at};
 ghost use Rattle.aes3_slot.specs.Bits.{low_bits};
 ghost use Rattle.aes3_slot.specs.Slots.{payload_bits};
@@ -8,7 +9,8 @@ ghost use Rattle.aes3_slot.specs.Slots.{payload_bits};
 /// The audio sample word and the V, U and C bits of one subframe (AES3-1, AES3-2; IEC 60958-1).
 #[derive(Clone, Copy, PartialEq, Eq, Debug)]
 pub struct Subframe {
-    /// Time slots 4 to 27: a sample of 24 bits in two's complement, the least significant bit first.
+    /// Time slots 4 to 27: a sample of 24 bits in two's complement, the least significant bit
+    /// first.
     pub audio: u32,
     /// Validity: false where the sample is suitable for conversion to analogue.
     pub v: bool,

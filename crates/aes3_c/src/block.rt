@@ -17,7 +17,8 @@ use aes3_block::{Block, Channel, fill_block_cells};
 #[unsafe(no_mangle)]
 #[tactic(auto, unfolding(aes3_block::specs::Blocks::block_slots))]
 pub extern "C" fn aes3_encode_block(words: &[u32; 384], before: u8, cells: &mut [u64; 384]) -> u32
-    ensures cells { result ≡ 384 → flat_map word_cells cells.new ≡ block_cells (level_of before) (map payload_of words.now) }
+    ensures cells { result ≡ 384 → flat_map word_cells cells.new
+        ≡ block_cells (level_of before) (map payload_of words.now) }
     ensures within { result ≤ 384 }
     ensures lawful { (i : ℕ) → i < result → is_lawful (get_or words.now i 0) ≡ true }
     ensures unlawful { result ≢ 384 → is_lawful (get_or words.now result 0) ≡ false }
@@ -48,7 +49,8 @@ fn channel_of_number(number: u8) -> Channel
 #[unsafe(no_mangle)]
 #[tactic(auto, unfolding(aes3_block::specs::Blocks::block_slots))]
 pub extern "C" fn aes3_block_status(words: &[u32; 384], channel: u8, status: &mut [u8; 24]) -> u32
-    ensures status { result ≡ 384 → status.new ≡ status_of (map payload_of words.now) (channel_of channel) }
+    ensures status { result ≡ 384 → status.new
+        ≡ status_of (map payload_of words.now) (channel_of channel) }
     ensures within { result ≤ 384 }
     ensures lawful { (i : ℕ) → i < result → is_lawful (get_or words.now i 0) ≡ true }
     ensures unlawful { result ≢ 384 → is_lawful (get_or words.now result 0) ≡ false }

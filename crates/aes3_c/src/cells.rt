@@ -12,7 +12,8 @@ use aes3_cell::{line_of_word, octets_of_word, word_of_octets, word_of_text};
 #[unsafe(no_mangle)]
 pub extern "C" fn aes3_word_of_text(text: &[u8; 64], word: &mut u64) -> bool
     ensures cells { result ≡ true → text.now ≡ map byte_of (word_cells word.new) }
-    ensures owed { (cells : ℕ) → cells < 2 ^ 64 → text.now ≡ map byte_of (word_cells cells) → result ≡ true }
+    ensures owed { (cells : ℕ) → cells < 2 ^ 64 → text.now ≡ map byte_of (word_cells cells)
+        → result ≡ true }
     ensures left { result ≡ false → word.new ≡ word.old }
 {
     let Some(cells) = word_of_text(text) else {

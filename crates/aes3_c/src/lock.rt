@@ -122,11 +122,13 @@ pub extern "C" fn aes3_lock_push(
 ) -> u32
     ensures within { result ≤ count }
     ensures word { result ≤ 64 }
-    ensures all { told_in report.new ≡ None → lock.old.seen + 64 ≤ 2 ^ 43 → count ≤ 64 → result ≡ count }
+    ensures all { told_in report.new ≡ None → lock.old.seen + 64 ≤ 2 ^ 43 → count ≤ 64
+        → result ≡ count }
     ensures follows { (cells : List Level) → Follows (state_of lock.old) cells
         → Follows (state_of lock.new) (cells ++ low_cells result word) }
     ensures report { (cells : List Level) → Follows (state_of lock.old) cells
-        → decided (cells ++ low_cells result word) ≡ decided cells ++ option_to_list (told_in report.new) }
+        → decided (cells ++ low_cells result word) ≡ decided cells
+        ++ option_to_list (told_in report.new) }
 {
     let most = most_of(lock.seen, count);
     if most == 0 {

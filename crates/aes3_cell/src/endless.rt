@@ -1,6 +1,7 @@
 //! A source that gives one byte again and again, for tests.
 
-ghost use Rattle.std.specs.Prelude.{◌≡◌, ℕ, ◌+◌, ◌-◌, ◌<◌, ◌≤◌, ◌^◌, ◌↔◌, Some, false, length, take, IfOk, IsOk, OnErr, IsTrue};
+ghost use Rattle.std.specs.Prelude.{◌≡◌, ℕ, ◌+◌, ◌-◌, ◌<◌, ◌≤◌, ◌^◌, ◌↔◌, Some, false, length};
+ghost use Rattle.std.specs.Prelude.{take, IfOk, IsOk, OnErr, IsTrue};
 
 use crate::ends::{Fault, Source};
 use crate::memory::smallest;
@@ -17,7 +18,8 @@ pub struct EndlessSource {
 }
 
 impl EndlessSource {
-    ghost use Rattle.aes3_cell.specs.Memory.{endless_byte, endless_piece, endless_left, endless_ended};
+    ghost use Rattle.aes3_cell.specs.Memory.{endless_byte, endless_piece, endless_left};
+    ghost use Rattle.aes3_cell.specs.Memory.{endless_ended};
 
     /// A source of this byte that has given none.
     pub fn new(byte: u8, piece: usize) -> Self
@@ -37,9 +39,11 @@ impl EndlessSource {
 }
 
 impl Source for EndlessSource {
-    ghost use Rattle.std.specs.Prelude.{Some, ◌≡◌, ◌+◌, ◌<◌, ◌≤◌, ◌^◌, ◌↔◌, ◌-◌, length, take, min, IfOk, IsOk, OnErr, IsTrue};
+    ghost use Rattle.std.specs.Prelude.{Some, ◌≡◌, ◌+◌, ◌<◌, ◌≤◌, ◌^◌, ◌↔◌, ◌-◌, length, take, min};
+    ghost use Rattle.std.specs.Prelude.{IfOk, IsOk, OnErr, IsTrue};
     ghost use Rattle.aes3_cell.specs.Ends.{Grew};
-    ghost use Rattle.aes3_cell.specs.Memory.{endless_byte, endless_piece, endless_given, endless_left, endless_ended, endless_failures};
+    ghost use Rattle.aes3_cell.specs.Memory.{endless_byte, endless_piece, endless_given};
+    ghost use Rattle.aes3_cell.specs.Memory.{endless_left, endless_ended, endless_failures};
 
     ghost given = { λ s. Some (endless_given s) };
 
@@ -50,12 +54,16 @@ impl Source for EndlessSource {
     fn read(&mut self, buf: &mut [u8]) -> Result<usize, Fault>
         requires room { endless_failures self.old + 1 < 2 ^ 64 }
         ensures bound { IfOk result (λ n. n ≤ length buf.new) }
-        ensures bytes { IfOk result (λ n. Grew (Some (endless_given self.old)) (Some (endless_given self.new)) (take n buf.new)) }
-        ensures end { IfOk result (λ n. 0 < length buf.new → (n ≡ 0 ↔ IsTrue (endless_ended self.new))) }
+        ensures bytes { IfOk result (λ n. Grew (Some (endless_given self.old))
+            (Some (endless_given self.new)) (take n buf.new)) }
+        ensures end { IfOk result (λ n. 0 < length buf.new
+            → (n ≡ 0 ↔ IsTrue (endless_ended self.new))) }
         ensures count { IfOk result (λ _. endless_failures self.new ≡ endless_failures self.old) }
-        ensures err { OnErr result ((endless_failures self.new ≡ endless_failures self.old + 1) × (Some (endless_given self.new) ≡ Some (endless_given self.old))) }
+        ensures err { OnErr result ((endless_failures self.new ≡ endless_failures self.old + 1)
+            × (Some (endless_given self.new) ≡ Some (endless_given self.old))) }
         ensures ok { IsOk result }
-        ensures piece { IfOk result (λ n. n ≡ min (min (length buf.new) (endless_piece self.old)) (endless_left self.old)) }
+        ensures piece { IfOk result (λ n. n ≡ min (min (length buf.new) (endless_piece self.old))
+            (endless_left self.old)) }
         ensures same_byte { endless_byte self.new ≡ endless_byte self.old }
         ensures same_piece { endless_piece self.new ≡ endless_piece self.old }
     {

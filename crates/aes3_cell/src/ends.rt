@@ -1,6 +1,7 @@
 //! Where bytes come from and go to.
 
-ghost use Rattle.std.specs.Prelude.{◌≡◌, ℕ, ◌+◌, ◌<◌, ◌≤◌, ◌^◌, ◌↔◌, List, Option, Bool, length, take, IfOk, OnErr, IsTrue};
+ghost use Rattle.std.specs.Prelude.{◌≡◌, ℕ, ◌+◌, ◌<◌, ◌≤◌, ◌^◌, ◌↔◌, List, Option, Bool, length};
+ghost use Rattle.std.specs.Prelude.{take, IfOk, OnErr, IsTrue};
 ghost use Rattle.aes3_cell.specs.Ends.{Grew};
 ghost use Rattle.aes3_cell.specs.Writes.{Wrote};
 
@@ -10,8 +11,8 @@ pub struct Fault;
 
 /// Gives bytes, in pieces of any size.
 ///
-/// The contract speaks of all bytes given so far (`given`, where the source tells them), of whether it has
-/// ended, and of how often it failed.
+/// The contract speaks of all bytes given so far (`given`, where the source tells them), of whether
+/// it has ended, and of how often it failed.
 pub trait Source {
     ghost given: { Self → Option (List ℕ) };
 
@@ -19,15 +20,16 @@ pub trait Source {
 
     ghost failed: { Self → ℕ };
 
-    /// Puts bytes into the front of `buf` and says how many: for a `buf` that is not empty at least one, or none
-    /// at the end.
+    /// Puts bytes into the front of `buf` and says how many: for a `buf` that is not empty at least
+    /// one, or none at the end.
     fn read(&mut self, buf: &mut [u8]) -> Result<usize, Fault>
         requires room { failed self.old + 1 < 2 ^ 64 }
         ensures bound { IfOk result (λ n. n ≤ length buf.new) }
         ensures bytes { IfOk result (λ n. Grew (given self.old) (given self.new) (take n buf.new)) }
         ensures end { IfOk result (λ n. 0 < length buf.new → (n ≡ 0 ↔ IsTrue (has_ended self.new))) }
         ensures count { IfOk result (λ _. failed self.new ≡ failed self.old) }
-        ensures err { OnErr result ((failed self.new ≡ failed self.old + 1) × (given self.new ≡ given self.old)) };
+        ensures err { OnErr result ((failed self.new ≡ failed self.old + 1)
+            × (given self.new ≡ given self.old)) };
 
     /// How often the source has failed.
     fn failures(&self) -> u64
@@ -36,8 +38,8 @@ pub trait Source {
 
 /// Takes bytes, in pieces of any size. It may hold some of them until it is flushed.
 ///
-/// The contract speaks of all bytes taken so far (`taken`, where the sink tells them), of those that it has passed on
-/// (`passed`, likewise), and of how often it failed.
+/// The contract speaks of all bytes taken so far (`taken`, where the sink tells them), of those
+/// that it has passed on (`passed`, likewise), and of how often it failed.
 pub trait Sink {
     ghost taken: { Self → Option (List ℕ) };
 
@@ -45,14 +47,16 @@ pub trait Sink {
 
     ghost failed: { Self → ℕ };
 
-    /// Takes bytes from the front of `buf` and says how many: of a `buf` that is not empty at least one.
+    /// Takes bytes from the front of `buf` and says how many: of a `buf` that is not empty at least
+    /// one.
     fn write(&mut self, buf: &[u8]) -> Result<usize, Fault>
         requires room { failed self.old + 1 < 2 ^ 64 }
         ensures bound { IfOk result (λ n. n ≤ length buf.now) }
         ensures some { IfOk result (λ n. 0 < length buf.now → 0 < n) }
         ensures bytes { IfOk result (λ n. Grew (taken self.old) (taken self.new) (take n buf.now)) }
         ensures count { IfOk result (λ _. failed self.new ≡ failed self.old) }
-        ensures err { OnErr result ((failed self.new ≡ failed self.old + 1) × (taken self.new ≡ taken self.old)) };
+        ensures err { OnErr result ((failed self.new ≡ failed self.old + 1)
+            × (taken self.new ≡ taken self.old)) };
 
     /// Passes on what it holds of the bytes that it took.
     fn flush(&mut self) -> Result<(), Fault>
@@ -66,8 +70,8 @@ pub trait Sink {
     fn failures(&self) -> u64
         ensures { result ≡ failed self.now };
 
-    /// Whether it would rather take many bytes at once: then words of cells are handed on 16 as one buffer, else each as
-    /// one.
+    /// Whether it would rather take many bytes at once: then words of cells are handed on 16 as one
+    /// buffer, else each as one.
     fn takes_much(&self) -> bool {
         false
     }

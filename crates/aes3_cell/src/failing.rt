@@ -6,7 +6,8 @@ use crate::ends::{Fault, Sink, Source};
 use crate::memory::{MemorySink, MemorySource};
 use std::alloc::Global;
 
-/// Gives bytes from memory until call `first_fault`, counted from 1; that call and each later one fails.
+/// Gives bytes from memory until call `first_fault`, counted from 1; that call and each later one
+/// fails.
 #[derive(Drop)]
 pub struct FailingSource<'a> {
     inner: MemorySource<'a>,
@@ -15,7 +16,8 @@ pub struct FailingSource<'a> {
 }
 
 impl<'a> FailingSource<'a> {
-    ghost use Rattle.aes3_cell.specs.Memory.{all_bytes, given_bytes, piece_of, source_ended, source_within, source_calls_left, source_failures};
+    ghost use Rattle.aes3_cell.specs.Memory.{all_bytes, given_bytes, piece_of, source_ended};
+    ghost use Rattle.aes3_cell.specs.Memory.{source_within, source_calls_left, source_failures};
 
     /// A source of these bytes, at most `piece` a call.
     pub fn new(bytes: &'a [u8], piece: usize, first_fault: u64) -> Self
@@ -37,9 +39,11 @@ impl<'a> FailingSource<'a> {
 }
 
 impl<'a> Source for FailingSource<'a> {
-    ghost use Rattle.std.specs.Prelude.{Some, ◌≡◌, ◌+◌, ◌-◌, ◌<◌, ◌≤◌, ◌^◌, ◌↔◌, length, take, IfOk, IsErr, OnErr, IsTrue};
+    ghost use Rattle.std.specs.Prelude.{Some, ◌≡◌, ◌+◌, ◌-◌, ◌<◌, ◌≤◌, ◌^◌, ◌↔◌, length, take};
+    ghost use Rattle.std.specs.Prelude.{IfOk, IsErr, OnErr, IsTrue};
     ghost use Rattle.aes3_cell.specs.Ends.{Grew};
-    ghost use Rattle.aes3_cell.specs.Memory.{given_bytes, source_ended, source_within, source_calls_left, source_failures};
+    ghost use Rattle.aes3_cell.specs.Memory.{given_bytes, source_ended, source_within};
+    ghost use Rattle.aes3_cell.specs.Memory.{source_calls_left, source_failures};
 
     ghost given = { λ s. Some (given_bytes (source_within s)) };
 
@@ -50,10 +54,14 @@ impl<'a> Source for FailingSource<'a> {
     fn read(&mut self, buf: &mut [u8]) -> Result<usize, Fault>
         requires room { source_failures self.old + 1 < 2 ^ 64 }
         ensures bound { IfOk result (λ n. n ≤ length buf.new) }
-        ensures bytes { IfOk result (λ n. Grew (Some (given_bytes (source_within self.old))) (Some (given_bytes (source_within self.new))) (take n buf.new)) }
-        ensures end { IfOk result (λ n. 0 < length buf.new → (n ≡ 0 ↔ IsTrue (source_ended (source_within self.new)))) }
+        ensures bytes { IfOk result (λ n. Grew (Some (given_bytes (source_within self.old)))
+            (Some (given_bytes (source_within self.new))) (take n buf.new)) }
+        ensures end { IfOk result (λ n. 0 < length buf.new
+            → (n ≡ 0 ↔ IsTrue (source_ended (source_within self.new)))) }
         ensures count { IfOk result (λ _. source_failures self.new ≡ source_failures self.old) }
-        ensures err { OnErr result ((source_failures self.new ≡ source_failures self.old + 1) × (Some (given_bytes (source_within self.new)) ≡ Some (given_bytes (source_within self.old)))) }
+        ensures err { OnErr result ((source_failures self.new ≡ source_failures self.old + 1)
+            × (Some (given_bytes (source_within self.new))
+            ≡ Some (given_bytes (source_within self.old)))) }
         ensures fails { IsErr result ↔ (source_calls_left self.old ≡ 0) }
         ensures calls { source_calls_left self.new ≡ source_calls_left self.old - 1 }
     {
@@ -70,7 +78,8 @@ impl<'a> Source for FailingSource<'a> {
     }
 }
 
-/// Takes whole buffers into memory until call `first_fault`, counted from 1; that call and each later one fails.
+/// Takes whole buffers into memory until call `first_fault`, counted from 1; that call and each
+/// later one fails.
 #[derive(Drop)]
 pub struct FailingSink {
     inner: MemorySink,
@@ -80,7 +89,8 @@ pub struct FailingSink {
 }
 
 impl FailingSink {
-    ghost use Rattle.aes3_cell.specs.Memory.{taken_bytes, sink_within, sink_calls_left, failing_sink_failures};
+    ghost use Rattle.aes3_cell.specs.Memory.{taken_bytes, sink_within, sink_calls_left};
+    ghost use Rattle.aes3_cell.specs.Memory.{failing_sink_failures};
 
     /// A sink that has taken nothing.
     pub fn new(alloc: Global, first_fault: u64) -> Self
@@ -105,9 +115,11 @@ impl FailingSink {
 }
 
 impl Sink for FailingSink {
-    ghost use Rattle.std.specs.Prelude.{Some, ◌≡◌, ◌+◌, ◌-◌, ◌<◌, ◌≤◌, ◌^◌, length, take, IfOk, IsErr, OnErr};
+    ghost use Rattle.std.specs.Prelude.{Some, ◌≡◌, ◌+◌, ◌-◌, ◌<◌, ◌≤◌, ◌^◌, length, take, IfOk};
+    ghost use Rattle.std.specs.Prelude.{IsErr, OnErr};
     ghost use Rattle.aes3_cell.specs.Ends.{Grew};
-    ghost use Rattle.aes3_cell.specs.Memory.{taken_bytes, sink_within, sink_calls_left, failing_sink_failures};
+    ghost use Rattle.aes3_cell.specs.Memory.{taken_bytes, sink_within, sink_calls_left};
+    ghost use Rattle.aes3_cell.specs.Memory.{failing_sink_failures};
 
     ghost taken = { λ s. Some (taken_bytes (sink_within s)) };
 
@@ -120,9 +132,14 @@ impl Sink for FailingSink {
         requires room { failing_sink_failures self.old + 1 < 2 ^ 64 }
         ensures bound { IfOk result (λ n. n ≤ length buf.now) }
         ensures some { IfOk result (λ n. 0 < length buf.now → 0 < n) }
-        ensures bytes { IfOk result (λ n. Grew (Some (taken_bytes (sink_within self.old))) (Some (taken_bytes (sink_within self.new))) (take n buf.now)) }
-        ensures count { IfOk result (λ _. failing_sink_failures self.new ≡ failing_sink_failures self.old) }
-        ensures err { OnErr result ((failing_sink_failures self.new ≡ failing_sink_failures self.old + 1) × (Some (taken_bytes (sink_within self.new)) ≡ Some (taken_bytes (sink_within self.old)))) }
+        ensures bytes { IfOk result (λ n. Grew (Some (taken_bytes (sink_within self.old)))
+            (Some (taken_bytes (sink_within self.new))) (take n buf.now)) }
+        ensures count { IfOk result (λ _. failing_sink_failures self.new
+            ≡ failing_sink_failures self.old) }
+        ensures err { OnErr result ((failing_sink_failures self.new
+            ≡ failing_sink_failures self.old + 1)
+            × (Some (taken_bytes (sink_within self.new))
+            ≡ Some (taken_bytes (sink_within self.old)))) }
         ensures all { IfOk result (λ n. n ≡ length buf.now) }
 
         // memory that is refused is a fault at an earlier call too

@@ -15,7 +15,8 @@ pub struct HoldingSink {
 }
 
 impl HoldingSink {
-    ghost use Rattle.aes3_cell.specs.Memory.{taken_bytes, sink_failures, holding_within, passed_bytes};
+    ghost use Rattle.aes3_cell.specs.Memory.{taken_bytes, sink_failures, holding_within};
+    ghost use Rattle.aes3_cell.specs.Memory.{passed_bytes};
 
     /// A sink that has taken nothing.
     pub fn new(alloc: Global) -> Self
@@ -46,7 +47,8 @@ impl HoldingSink {
 impl Sink for HoldingSink {
     ghost use Rattle.std.specs.Prelude.{Some, ◌≡◌, ◌+◌, ◌<◌, ◌≤◌, ◌^◌, length, take, IfOk, OnErr};
     ghost use Rattle.aes3_cell.specs.Ends.{Grew};
-    ghost use Rattle.aes3_cell.specs.Memory.{taken_bytes, sink_failures, holding_within, passed_bytes};
+    ghost use Rattle.aes3_cell.specs.Memory.{taken_bytes, sink_failures, holding_within};
+    ghost use Rattle.aes3_cell.specs.Memory.{passed_bytes};
 
     ghost taken = { λ s. Some (taken_bytes (holding_within s)) };
 
@@ -58,9 +60,14 @@ impl Sink for HoldingSink {
         requires room { sink_failures (holding_within self.old) + 1 < 2 ^ 64 }
         ensures bound { IfOk result (λ n. n ≤ length buf.now) }
         ensures some { IfOk result (λ n. 0 < length buf.now → 0 < n) }
-        ensures bytes { IfOk result (λ n. Grew (Some (taken_bytes (holding_within self.old))) (Some (taken_bytes (holding_within self.new))) (take n buf.now)) }
-        ensures count { IfOk result (λ _. sink_failures (holding_within self.new) ≡ sink_failures (holding_within self.old)) }
-        ensures err { OnErr result ((sink_failures (holding_within self.new) ≡ sink_failures (holding_within self.old) + 1) × (Some (taken_bytes (holding_within self.new)) ≡ Some (taken_bytes (holding_within self.old)))) }
+        ensures bytes { IfOk result (λ n. Grew (Some (taken_bytes (holding_within self.old)))
+            (Some (taken_bytes (holding_within self.new))) (take n buf.now)) }
+        ensures count { IfOk result (λ _. sink_failures (holding_within self.new)
+            ≡ sink_failures (holding_within self.old)) }
+        ensures err { OnErr result ((sink_failures (holding_within self.new)
+            ≡ sink_failures (holding_within self.old) + 1)
+            × (Some (taken_bytes (holding_within self.new))
+            ≡ Some (taken_bytes (holding_within self.old)))) }
         ensures held { passed_bytes self.new ≡ passed_bytes self.old }
     {
         self.inner.write(buf)

@@ -1,6 +1,8 @@
 //! Laws of the written forms of cells: the contract of each function is a law over all lists.
 
-ghost use Rattle.aes3_cell.specs.Laws.{TextReadsBack, PackedReadsBack, PackedIsTested, TextReaderAnswersCells, PackedReaderAnswersCells, WritersWriteCells};
+ghost use Rattle.aes3_cell.specs.Laws.{TextReadsBack, PackedReadsBack, PackedIsTested};
+ghost use Rattle.aes3_cell.specs.Laws.{TextReaderAnswersCells, PackedReaderAnswersCells};
+ghost use Rattle.aes3_cell.specs.Laws.{WritersWriteCells};
 
 /// Whole lines of cells written as text and read again are the same.
 pub fn text_reads_back()
@@ -12,12 +14,14 @@ pub fn packed_reads_back()
     ensures { PackedReadsBack }
 {}
 
-/// The octets that are read as packed cells are those that pack some cells, and these cells are read.
+/// The octets that are read as packed cells are those that pack some cells, and these cells are
+/// read.
 pub fn packed_is_tested()
     ensures { PackedIsTested }
 {}
 
-/// `CellText`, fed bytes one by one, answers their cells up to the first byte that may not stand, and refuses that one.
+/// `CellText`, fed bytes one by one, answers their cells up to the first byte that may not stand,
+/// and refuses that one.
 pub fn text_fed_by_bytes()
     ensures { TextReaderAnswersCells }
 {}

@@ -1,4 +1,5 @@
-//! Cells of an AES3 line: their levels, their written form, and the ends that bytes come from and go to.
+//! Cells of an AES3 line: their levels, their written form, and the ends that bytes come from and
+//! go to.
 #![tactic(auto)]
 
 mod counts;

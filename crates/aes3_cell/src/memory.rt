@@ -1,6 +1,7 @@
 //! Ends over memory. They tell their bytes.
 
-ghost use Rattle.std.specs.Prelude.{◌≡◌, ℕ, ◌+◌, ◌<◌, ◌≤◌, ◌^◌, ◌↔◌, [], Some, List, Bool, false, length, take, min, IfOk, OnErr, IsTrue};
+ghost use Rattle.std.specs.Prelude.{◌≡◌, ℕ, ◌+◌, ◌<◌, ◌≤◌, ◌^◌, ◌↔◌, [], Some, List, Bool, false};
+ghost use Rattle.std.specs.Prelude.{length, take, min, IfOk, OnErr, IsTrue};
 
 use crate::ends::{Fault, Sink, Source};
 use std::alloc::Global;
@@ -45,9 +46,11 @@ pub(crate) fn smallest(a: usize, b: usize, c: usize) -> usize
 }
 
 impl<'a> Source for MemorySource<'a> {
-    ghost use Rattle.std.specs.Prelude.{Some, ◌≡◌, ◌+◌, ◌<◌, ◌≤◌, ◌^◌, ◌↔◌, ◌-◌, length, take, min, IfOk, IsOk, OnErr, IsTrue};
+    ghost use Rattle.std.specs.Prelude.{Some, ◌≡◌, ◌+◌, ◌<◌, ◌≤◌, ◌^◌, ◌↔◌, ◌-◌, length, take, min};
+    ghost use Rattle.std.specs.Prelude.{IfOk, IsOk, OnErr, IsTrue};
     ghost use Rattle.aes3_cell.specs.Ends.{Grew};
-    ghost use Rattle.aes3_cell.specs.Memory.{all_bytes, given_bytes, piece_of, source_ended, memory_failures};
+    ghost use Rattle.aes3_cell.specs.Memory.{all_bytes, given_bytes, piece_of, source_ended};
+    ghost use Rattle.aes3_cell.specs.Memory.{memory_failures};
 
     ghost given = { λ s. Some (given_bytes s) };
 
@@ -58,10 +61,13 @@ impl<'a> Source for MemorySource<'a> {
     fn read(&mut self, buf: &mut [u8]) -> Result<usize, Fault>
         requires room { memory_failures self.old + 1 < 2 ^ 64 }
         ensures bound { IfOk result (λ n. n ≤ length buf.new) }
-        ensures bytes { IfOk result (λ n. Grew (Some (given_bytes self.old)) (Some (given_bytes self.new)) (take n buf.new)) }
-        ensures end { IfOk result (λ n. 0 < length buf.new → (n ≡ 0 ↔ IsTrue (source_ended self.new))) }
+        ensures bytes { IfOk result (λ n. Grew (Some (given_bytes self.old))
+            (Some (given_bytes self.new)) (take n buf.new)) }
+        ensures end { IfOk result (λ n. 0 < length buf.new
+            → (n ≡ 0 ↔ IsTrue (source_ended self.new))) }
         ensures count { IfOk result (λ _. memory_failures self.new ≡ memory_failures self.old) }
-        ensures err { OnErr result ((memory_failures self.new ≡ memory_failures self.old + 1) × (Some (given_bytes self.new) ≡ Some (given_bytes self.old))) }
+        ensures err { OnErr result ((memory_failures self.new ≡ memory_failures self.old + 1)
+            × (Some (given_bytes self.new) ≡ Some (given_bytes self.old))) }
         ensures ok { IsOk result }
         ensures piece { IfOk result (λ n. n ≤ piece_of self.old) }
         ensures same { all_bytes self.new ≡ all_bytes self.old }
@@ -125,9 +131,11 @@ impl Sink for MemorySink {
         requires room { sink_failures self.old + 1 < 2 ^ 64 }
         ensures bound { IfOk result (λ n. n ≤ length buf.now) }
         ensures some { IfOk result (λ n. 0 < length buf.now → 0 < n) }
-        ensures bytes { IfOk result (λ n. Grew (Some (taken_bytes self.old)) (Some (taken_bytes self.new)) (take n buf.now)) }
+        ensures bytes { IfOk result (λ n. Grew (Some (taken_bytes self.old))
+            (Some (taken_bytes self.new)) (take n buf.now)) }
         ensures count { IfOk result (λ _. sink_failures self.new ≡ sink_failures self.old) }
-        ensures err { OnErr result ((sink_failures self.new ≡ sink_failures self.old + 1) × (Some (taken_bytes self.new) ≡ Some (taken_bytes self.old))) }
+        ensures err { OnErr result ((sink_failures self.new ≡ sink_failures self.old + 1)
+            × (Some (taken_bytes self.new) ≡ Some (taken_bytes self.old))) }
         ensures all { IfOk result (λ n. n ≡ length buf.now) }
     {
         match self.bytes.extend_from_slice(buf) {

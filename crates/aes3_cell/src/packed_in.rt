@@ -3,8 +3,8 @@ use std::marker::Model;
 
 /// Reads packed cells octet by octet, or eight octets at once.
 ///
-/// A contract sees how many octets it has taken and the last two of them: before the end nobody can tell which octet
-/// is the last, nor how many cells of the one before it are used.
+/// A contract sees how many octets it has taken and the last two of them: before the end nobody can
+/// tell which octet is the last, nor how many cells of the one before it are used.
 #[derive(Drop)]
 pub struct PackedIn {
     seen: u64,
@@ -20,11 +20,14 @@ impl Model for PackedIn {
     ghost view = { λ p. record { seen = p.seen; before_last = p.before_last; last = p.last } };
 }
 
-ghost use Rattle.std.specs.Prelude.{◌≡◌, ◌+◌, ◌*◌, ◌<◌, ◌≤◌, ◌^◌, ◌-◌, ◌↔◌, ℕ, List, [], length, IsOk, IfErr, IsSome, IfSome, OnSome, IfNone};
+ghost use Rattle.std.specs.Prelude.{◌≡◌, ◌+◌, ◌*◌, ◌<◌, ◌≤◌, ◌^◌, ◌-◌, ◌↔◌, ℕ, List, [], length};
+ghost use Rattle.std.specs.Prelude.{IsOk, IfErr, IsSome, IfSome, OnSome, IfNone};
 ghost use Rattle.std.specs.List.{flat_map};
 ghost use Rattle.aes3_cell.specs.Packed.{IsPacked, is_padded};
 ghost use Rattle.aes3_cell.specs.PackedFeeding.{cells_fed, octets_fed};
-ghost use Rattle.aes3_cell.specs.PackedReading.{packed_answer, packed_next, packed_end, packed_reader_of, end_answer, behind_eight, eight_whole};
+ghost use Rattle.aes3_cell.specs.PackedReading.{packed_answer, packed_next, packed_end};
+ghost use Rattle.aes3_cell.specs.PackedReading.{packed_reader_of, end_answer, behind_eight};
+ghost use Rattle.aes3_cell.specs.PackedReading.{eight_whole};
 ghost use Rattle.aes3_cell.specs.Words.{word_cells};
 
 use crate::packed_words::words_of_octets;
@@ -72,7 +75,8 @@ impl PackedIn {
         self.seen
     }
 
-    /// Takes one more octet, and answers the one that came two octets before, all of whose eight cells are used.
+    /// Takes one more octet, and answers the one that came two octets before, all of whose eight
+    /// cells are used.
     pub fn feed_byte(&mut self, octet: u8) -> Option<u8>
         requires { self.old.seen < 2 ^ 40 }
         ensures answer { result ≡ packed_answer self.old }
@@ -89,8 +93,9 @@ impl PackedIn {
         whole
     }
 
-    /// Takes eight more octets, where two or more came before, and answers the cells of those that are whole now as a
-    /// word, the first in the lowest bit: the last two before and the first six of these.
+    /// Takes eight more octets, where two or more came before, and answers the cells of those that
+    /// are whole now as a word, the first in the lowest bit: the last two before and the first six
+    /// of these.
     pub fn feed_word(&mut self, octets: &[u8; 8]) -> Option<u64>
         requires { self.old.seen + 8 ≤ 2 ^ 40 }
         ensures answer { IsSome result ↔ 2 ≤ self.old.seen }
@@ -127,8 +132,8 @@ impl PackedIn {
         Some(word_of_octets(&whole))
     }
 
-    /// Takes eight more octets for each word, where two or more came before; the words are then the cells of those that
-    /// are whole now, the first of each in the lowest bit.
+    /// Takes eight more octets for each word, where two or more came before; the words are then the
+    /// cells of those that are whole now, the first of each in the lowest bit.
     ///
     /// It is `feed_word` for many words.
     pub fn feed_words(&mut self, octets: &[u8], words: &mut [u64])
@@ -159,15 +164,16 @@ impl PackedIn {
         self.last = octets[end - 1];
     }
 
-    /// Takes the end: answers the octet before the last and how many of its cells are used, 1 to 8, the first in the
-    /// highest bit; for the one octet 0, which stands for no cells, nothing.
+    /// Takes the end: answers the octet before the last and how many of its cells are used, 1 to 8,
+    /// the first in the highest bit; for the one octet 0, which stands for no cells, nothing.
     ///
     /// # Errors
     /// The place of the last octet where the octets are not packed cells, 0 where there is none.
     pub fn end(&self) -> Result<Option<(u8, u8)>, BadPadding>
         ensures answer { result ≡ packed_end self.now }
         ensures place { IfErr result (λ fault. fault.at ≡ self.now.seen - 1) }
-        ensures lawful { (octets : List ℕ) → self.now ≡ packed_reader_of octets → (IsOk result ↔ IsPacked octets) }
+        ensures lawful { (octets : List ℕ) → self.now ≡ packed_reader_of octets
+            → (IsOk result ↔ IsPacked octets) }
     {
         end_behind(self.seen, self.before_last, self.last)
     }

@@ -1,8 +1,9 @@
 //! Packed cells as they are written.
 use std::marker::Model;
 
-/// Writes packed cells: eight octets handed on when their 64th cell comes, and at the end the octets of the cells left,
-/// filled up with Low, and one last octet, the number of the cells that fill them up.
+/// Writes packed cells: eight octets handed on when their 64th cell comes, and at the end the
+/// octets of the cells left, filled up with Low, and one last octet, the number of the cells that
+/// fill them up.
 #[derive(Drop)]
 pub struct PackedOut {
     /// The cells begun, the latest in the lowest bit.
@@ -23,7 +24,8 @@ impl Model for PackedOut {
     ghost invariant = { λ p. (p.len < 64) × (p.word < 2 ^ p.len) };
 }
 
-ghost use Rattle.std.specs.Prelude.{◌≡◌, ◌+◌, ◌*◌, ◌<◌, ◌^◌, [], false, take, reverse, IfOk, IsErr, IsTrue, ◌↔◌};
+ghost use Rattle.std.specs.Prelude.{◌≡◌, ◌+◌, ◌*◌, ◌<◌, ◌^◌, [], false, take, reverse, IfOk, IsErr};
+ghost use Rattle.std.specs.Prelude.{IsTrue, ◌↔◌};
 ghost use Rattle.aes3_cell.specs.Writes.{Wrote};
 ghost use Rattle.aes3_cell.specs.Packed.{octets_needed, packed_of};
 ghost use Rattle.aes3_cell.specs.PackedPending.{octets_added};
@@ -90,7 +92,8 @@ impl PackedOut {
     pub fn put<T: Sink>(&mut self, sink: &mut T, level: Level) -> Result<(), Fault>
         requires open { self.old.failed ≡ false }
         requires room { T.failed sink.old + 1 < 2 ^ 64 }
-        ensures wrote { Wrote T.taken T.failed sink.old sink.new (octets_added self.old.cells level) result }
+        ensures wrote { Wrote T.taken T.failed sink.old sink.new (octets_added self.old.cells level)
+            result }
         ensures begun { IfOk result (λ _. self.new.cells ≡ begun_after self.old.cells level) }
         ensures failed { IsTrue self.new.failed ↔ IsErr result }
     {

@@ -66,7 +66,8 @@ impl RunError {
         }
     }
 
-    /// Where the fault stands, in bytes, words or octets from 0; for `BadLength` how many bytes are left over.
+    /// Where the fault stands, in bytes, words or octets from 0; for `BadLength` how many bytes are
+    /// left over.
     pub fn place(&self) -> Option<u64>
         ensures { result ≡ place_of self.now }
     {

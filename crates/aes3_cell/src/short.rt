@@ -39,7 +39,8 @@ impl ShortSink {
 }
 
 impl Sink for ShortSink {
-    ghost use Rattle.std.specs.Prelude.{Some, ◌≡◌, ◌+◌, ◌<◌, ◌≤◌, ◌^◌, length, take, min, IfOk, OnErr};
+    ghost use Rattle.std.specs.Prelude.{Some, ◌≡◌, ◌+◌, ◌<◌, ◌≤◌, ◌^◌, length, take, min, IfOk};
+    ghost use Rattle.std.specs.Prelude.{OnErr};
     ghost use Rattle.aes3_cell.specs.Ends.{Grew};
     ghost use Rattle.aes3_cell.specs.Memory.{taken_bytes, sink_failures, short_within, most_of};
 
@@ -54,9 +55,14 @@ impl Sink for ShortSink {
         requires room { sink_failures (short_within self.old) + 1 < 2 ^ 64 }
         ensures bound { IfOk result (λ n. n ≤ length buf.now) }
         ensures some { IfOk result (λ n. 0 < length buf.now → 0 < n) }
-        ensures bytes { IfOk result (λ n. Grew (Some (taken_bytes (short_within self.old))) (Some (taken_bytes (short_within self.new))) (take n buf.now)) }
-        ensures count { IfOk result (λ _. sink_failures (short_within self.new) ≡ sink_failures (short_within self.old)) }
-        ensures err { OnErr result ((sink_failures (short_within self.new) ≡ sink_failures (short_within self.old) + 1) × (Some (taken_bytes (short_within self.new)) ≡ Some (taken_bytes (short_within self.old)))) }
+        ensures bytes { IfOk result (λ n. Grew (Some (taken_bytes (short_within self.old)))
+            (Some (taken_bytes (short_within self.new))) (take n buf.now)) }
+        ensures count { IfOk result (λ _. sink_failures (short_within self.new)
+            ≡ sink_failures (short_within self.old)) }
+        ensures err { OnErr result ((sink_failures (short_within self.new)
+            ≡ sink_failures (short_within self.old) + 1)
+            × (Some (taken_bytes (short_within self.new))
+            ≡ Some (taken_bytes (short_within self.old)))) }
         ensures most { IfOk result (λ n. n ≡ min (length buf.now) (most_of self.old)) }
         ensures same { most_of self.new ≡ most_of self.old }
     {

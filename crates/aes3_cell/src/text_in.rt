@@ -17,7 +17,8 @@ impl Model for CellText {
     ghost view = { λ t. record { seen = t.seen } };
 }
 
-ghost use Rattle.std.specs.Prelude.{◌≡◌, ◌≢◌, ◌+◌, ◌*◌, ◌<◌, ◌≤◌, ◌^◌, ℕ, [], drop, length, map, slice_index_or, take, IfSome, OnSome, IfNone};
+ghost use Rattle.std.specs.Prelude.{◌≡◌, ◌≢◌, ◌+◌, ◌*◌, ◌<◌, ◌≤◌, ◌^◌, ℕ, [], drop, length, map};
+ghost use Rattle.std.specs.Prelude.{slice_index_or, take, IfSome, OnSome, IfNone};
 ghost use Rattle.std.specs.List.{flat_map};
 ghost use Rattle.aes3_cell.specs.Text.{byte_of, line_text, text_of, IsCellByte};
 ghost use Rattle.aes3_cell.specs.Words.{low_cells, word_cells};
@@ -65,12 +66,13 @@ impl CellText {
         Ok(cell)
     }
 
-    /// Takes 64 bytes all of which are cells, and answers them as a word, the first in the lowest bit; else it takes none
-    /// of them.
+    /// Takes 64 bytes all of which are cells, and answers them as a word, the first in the lowest
+    /// bit; else it takes none of them.
     pub fn feed_word(&mut self, bytes: &[u8; 64]) -> Option<u64>
         requires { self.old.seen + 64 ≤ 2 ^ 40 }
         ensures cells { IfSome result (λ word. bytes.now ≡ map byte_of (word_cells word)) }
-        ensures owed { (word : ℕ) → word < 2 ^ 64 → bytes.now ≡ map byte_of (word_cells word) → result ≡ Some word }
+        ensures owed { (word : ℕ) → word < 2 ^ 64 → bytes.now ≡ map byte_of (word_cells word)
+            → result ≡ Some word }
         ensures seen { OnSome result (self.new.seen ≡ self.old.seen + 64) }
         ensures none { IfNone result (self.new ≡ self.old) }
     {
@@ -79,15 +81,17 @@ impl CellText {
         Some(word)
     }
 
-    /// Takes lines of 64 cells and a line feed, as many as come first and as there are words, and answers how many: these
-    /// words are then their cells.
+    /// Takes lines of 64 cells and a line feed, as many as come first and as there are words, and
+    /// answers how many: these words are then their cells.
     pub fn feed_lines(&mut self, text: &[u8], words: &mut [u64]) -> usize
         requires { self.old.seen + length text.now ≤ 2 ^ 40 }
         ensures len { length words.new ≡ length words.old }
         ensures room { result ≤ length words.new }
         ensures within { 65 * result ≤ length text.now }
-        ensures lines { take (65 * result) text.now ≡ text_of (flat_map word_cells (take result words.new)) }
-        ensures stops { result < length words.new → 65 * result + 65 ≤ length text.now → (word : ℕ) → word < 2 ^ 64
+        ensures lines { take (65 * result) text.now
+            ≡ text_of (flat_map word_cells (take result words.new)) }
+        ensures stops { result < length words.new → 65 * result + 65 ≤ length text.now → (word : ℕ)
+            → word < 2 ^ 64
             → take 65 (drop (65 * result) text.now) ≢ line_text (word_cells word) }
         ensures seen { self.new.seen ≡ self.old.seen + 65 * result }
     {
@@ -101,7 +105,8 @@ impl CellText {
         requires { self.old.seen + length text.now ≤ 2 ^ 40 }
         ensures within { result.len ≤ length text.now }
         ensures cells { take result.len text.now ≡ map byte_of (low_cells result.len result.word) }
-        ensures stops { result.len < 64 → result.len < length text.now → ¬ IsCellByte (slice_index_or text.now result.len 0) }
+        ensures stops { result.len < 64 → result.len < length text.now
+            → ¬ IsCellByte (slice_index_or text.now result.len 0) }
         ensures seen { self.new.seen ≡ self.old.seen + result.len }
     {
         let cells = front_cells(text);

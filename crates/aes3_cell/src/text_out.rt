@@ -1,7 +1,8 @@
 //! Cell text as it is written.
 use std::marker::Model;
 
-/// Writes cells as text: 64 characters `0` and `1` and a line feed, handed on when the 64th cell comes.
+/// Writes cells as text: 64 characters `0` and `1` and a line feed, handed on when the 64th cell
+/// comes.
 #[derive(Drop)]
 pub struct TextOut {
     word: u64,
@@ -56,7 +57,8 @@ impl TextOut {
     pub fn put<T: Sink>(&mut self, sink: &mut T, level: Level) -> Result<(), Fault>
         requires open { self.old.failed ≡ false }
         requires room { T.failed sink.old + 1 < 2 ^ 64 }
-        ensures wrote { Wrote T.taken T.failed sink.old sink.new (text_added self.old.cells level) result }
+        ensures wrote { Wrote T.taken T.failed sink.old sink.new (text_added self.old.cells level)
+            result }
         ensures begun { IfOk result (λ _. self.new.cells ≡ begun_after self.old.cells level) }
         ensures failed { IsTrue self.new.failed ↔ IsErr result }
     {

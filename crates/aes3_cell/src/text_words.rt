@@ -1,6 +1,7 @@
 //! Cell text as words of cells, many lines at once.
 
-ghost use Rattle.std.specs.Prelude.{◌≡◌, ◌≢◌, ◌+◌, ◌*◌, ◌<◌, ◌≤◌, ◌^◌, ℕ, drop, length, map, slice_index_or, take, IfSome, OnSome};
+ghost use Rattle.std.specs.Prelude.{◌≡◌, ◌≢◌, ◌+◌, ◌*◌, ◌<◌, ◌≤◌, ◌^◌, ℕ, drop, length, map};
+ghost use Rattle.std.specs.Prelude.{slice_index_or, take, IfSome, OnSome};
 ghost use Rattle.std.specs.List.{flat_map};
 ghost use Rattle.aes3_cell.specs.declared.level.Level.{Level};
 ghost use Rattle.aes3_cell.specs.Text.{byte_of, line_text, text_of, IsCellByte};
@@ -25,7 +26,8 @@ pub struct SomeCells {
 fn front_line(text: &[u8]) -> Option<u64>
     ensures bound { OnSome result (65 ≤ length text.now) }
     ensures cells { IfSome result (λ word. take 65 text.now ≡ line_text (word_cells word)) }
-    ensures owed { (word : ℕ) → word < 2 ^ 64 → take 65 text.now ≡ line_text (word_cells word) → result ≡ Some word }
+    ensures owed { (word : ℕ) → word < 2 ^ 64 → take 65 text.now ≡ line_text (word_cells word)
+        → result ≡ Some word }
 {
     if text.len() < LINE_LEN || text[64] != b'\n' {
         return None;
@@ -33,14 +35,16 @@ fn front_line(text: &[u8]) -> Option<u64>
     word_of_text(text.first_chunk()?)
 }
 
-/// Makes words of the lines of 64 cells that text begins with, as many as come first and as there are words; answers how
-/// many.
+/// Makes words of the lines of 64 cells that text begins with, as many as come first and as there
+/// are words; answers how many.
 pub(crate) fn words_of_lines(text: &[u8], words: &mut [u64]) -> usize
     ensures len { length words.new ≡ length words.old }
     ensures room { result ≤ length words.new }
     ensures within { 65 * result ≤ length text.now }
-    ensures lines { take (65 * result) text.now ≡ text_of (flat_map word_cells (take result words.new)) }
-    ensures stops { result < length words.new → (word : ℕ) → word < 2 ^ 64 → take 65 (drop (65 * result) text.now) ≢ line_text (word_cells word) }
+    ensures lines { take (65 * result) text.now
+        ≡ text_of (flat_map word_cells (take result words.new)) }
+    ensures stops { result < length words.new → (word : ℕ) → word < 2 ^ 64
+        → take 65 (drop (65 * result) text.now) ≢ line_text (word_cells word) }
 {
     for i in 0..words.len() {
         match front_line(&text[LINE_LEN * i..]) {
@@ -79,7 +83,8 @@ fn few_cells(text: &[u8]) -> SomeCells
     requires { length text.now < 64 }
     ensures within { result.len ≤ length text.now }
     ensures cells { take result.len text.now ≡ map byte_of (low_cells result.len result.word) }
-    ensures stops { result.len < length text.now → ¬ IsCellByte (slice_index_or text.now result.len 0) }
+    ensures stops { result.len < length text.now
+        → ¬ IsCellByte (slice_index_or text.now result.len 0) }
 {
     let mut word = 0;
     let mut len = 0;
@@ -99,7 +104,8 @@ fn few_cells(text: &[u8]) -> SomeCells
 pub(crate) fn front_cells(text: &[u8]) -> SomeCells
     ensures within { result.len ≤ length text.now }
     ensures cells { take result.len text.now ≡ map byte_of (low_cells result.len result.word) }
-    ensures stops { result.len < 64 → result.len < length text.now → ¬ IsCellByte (slice_index_or text.now result.len 0) }
+    ensures stops { result.len < 64 → result.len < length text.now
+        → ¬ IsCellByte (slice_index_or text.now result.len 0) }
 {
     match text.first_chunk() {
         Some(bytes) => first_cells(bytes),

@@ -1,6 +1,7 @@
 //! Words of 64 cells, the earliest in the lowest bit, their line of text and their octets.
 
-ghost use Rattle.std.specs.Prelude.{◌≡◌, ◌+◌, ◌-◌, ◌<◌, ◌^◌, ◌==◌, ℕ, [], ◌∷◌, ◌++◌, map, get_or, if◌then◌else◌, IfSome};
+ghost use Rattle.std.specs.Prelude.{◌≡◌, ◌+◌, ◌-◌, ◌<◌, ◌^◌, ◌==◌, ℕ, [], ◌∷◌, ◌++◌, map, get_or};
+ghost use Rattle.std.specs.Prelude.{if◌then◌else◌, IfSome};
 ghost use Rattle.std.specs.Int.{bit_at};
 ghost use Rattle.aes3_cell.specs.Words.{level_of, low_cells, word_cells};
 ghost use Rattle.aes3_cell.specs.Text.{byte_of, line_text};
@@ -58,7 +59,8 @@ pub fn line_of_word(word: u64) -> [u8; LINE_LEN]
     line
 }
 
-/// The bits in the opposite order, by exchanging bits, pairs of bits and so on: std's `reverse_bits` goes bit by bit.
+/// The bits in the opposite order, by exchanging bits, pairs of bits and so on: std's
+/// `reverse_bits` goes bit by bit.
 fn turned(word: u64) -> u64
     ensures { (i : ℕ) → i < 64 → bit_at result i ≡ bit_at word (63 - i) }
 {
@@ -98,7 +100,8 @@ pub(crate) fn equal_to(bytes: &[u8; 64], byte: u8) -> u64
 #[inline(always)]
 pub fn word_of_text(bytes: &[u8; 64]) -> Option<u64>
     ensures cells { IfSome result (λ word. bytes.now ≡ map byte_of (word_cells word)) }
-    ensures owed { (word : ℕ) → word < 2 ^ 64 → bytes.now ≡ map byte_of (word_cells word) → result ≡ Some word }
+    ensures owed { (word : ℕ) → word < 2 ^ 64 → bytes.now ≡ map byte_of (word_cells word)
+        → result ≡ Some word }
 {
     let high = equal_to(bytes, b'1');
     let low = equal_to(bytes, b'0');

@@ -75,13 +75,17 @@ fn put_many<T: Sink>(
     }
 }
 
-/// Writes the first words, as many as fill buffers, where the sink takes much at once; answers how many.
+/// Writes the first words, as many as fill buffers, where the sink takes much at once; answers how
+/// many.
 fn put_front<T: Sink>(form: Form, words: &[u64], sink: &mut T) -> Result<usize, Fault>
     requires room { T.failed sink.old + 1 < 2 ^ 64 }
     ensures within { IfOk result (λ n. n ≤ length words.now) }
-    ensures cells { IfOk result (λ n. Grew (T.taken sink.old) (T.taken sink.new) (bytes_of form (flat_map word_cells (take n words.now)))) }
+    ensures cells { IfOk result (λ n. Grew (T.taken sink.old) (T.taken sink.new)
+        (bytes_of form (flat_map word_cells (take n words.now)))) }
     ensures count { IfOk result (λ _. T.failed sink.new ≡ T.failed sink.old) }
-    ensures err { OnErr result ((T.failed sink.new ≡ T.failed sink.old + 1) × GrewFront (T.taken sink.old) (T.taken sink.new) (bytes_of form (flat_map word_cells words.now))) }
+    ensures err { OnErr result ((T.failed sink.new ≡ T.failed sink.old + 1)
+        × GrewFront (T.taken sink.old) (T.taken sink.new)
+        (bytes_of form (flat_map word_cells words.now))) }
 {
     if !sink.takes_much() {
         return Ok(0);
@@ -127,7 +131,8 @@ pub fn put_words<T: Sink>(form: Form, words: &[u64], sink: &mut T) -> Result<(),
     }
 }
 
-/// Writes what stands behind the last word of cells: in packed form one octet, the number of unused cells, which is 0.
+/// Writes what stands behind the last word of cells: in packed form one octet, the number of unused
+/// cells, which is 0.
 ///
 /// # Errors
 /// The sink's fault; then it has taken nothing.

@@ -28,8 +28,8 @@ pub trait BlockWriter {
         ensures { Wrote T.taken T.failed sink.old sink.new
             (writes self.now number block.now) result };
 
-    /// Writes what it makes of block `number` as `put` does, where the cells of its 384 subframes are at hand. What needs no
-    /// bits gathers none.
+    /// Writes what it makes of block `number` as `put` does, where the cells of its 384 subframes
+    /// are at hand. What needs no bits gathers none.
     ///
     /// # Errors
     /// The sink's fault; then it has taken a front of the bytes.
@@ -109,8 +109,10 @@ pub fn run_blocks<S: Source, T: Sink, W: BlockWriter + Drop>(
     requires source_room { S.failed source.old + 1 < 2 ^ 64 }
     requires sink_room { T.failed sink.old + 1 < 2 ^ 64 }
     requires limit { max_bytes ≤ 2 ^ 40 }
-    ensures ran { ReportRun max_bytes input (report_bytes (W.writes writer)) (W.ends writer) (S.has_ended source.new)
-        (movement_of S.given S.failed source.old source.new) (movement_of T.taken T.failed sink.old sink.new) result }
+    ensures ran { ReportRun max_bytes input (report_bytes (W.writes writer)) (W.ends writer)
+        (S.has_ended source.new)
+        (movement_of S.given S.failed source.old source.new)
+        (movement_of T.taken T.failed sink.old sink.new) result }
     ensures passed_on { IfOk result (λ _. T.passed sink.new ≡ T.taken sink.new) }
 {
     run_reports(source, sink, max_bytes, input, Blocks { writer })

@@ -9,9 +9,11 @@ pub struct Change {
     pub status1: Option<[u8; 24]>,
     /// The 24 status bytes that channel 2 gets; `None` leaves it as it is.
     pub status2: Option<[u8; 24]>,
-    /// The fields that are then set in the status of channel 1, one after the other; `None` sets none.
+    /// The fields that are then set in the status of channel 1, one after the other; `None` sets
+    /// none.
     pub settings1: Option<[Setting; SETTINGS]>,
-    /// The fields that are then set in the status of channel 2, one after the other; `None` sets none.
+    /// The fields that are then set in the status of channel 2, one after the other; `None` sets
+    /// none.
     pub settings2: Option<[Setting; SETTINGS]>,
     /// Whether professional status then gets the check byte that it asks for.
     pub mend: bool,

@@ -1,17 +1,19 @@
 //! The one loop over an input: pieces of bytes are read and converted until the input ends.
 
-ghost use Rattle.std.specs.Prelude.{◌≡◌, ℕ, ◌+◌, ◌<◌, ◌≤◌, ◌^◌, ◌↔◌, List, [], length, take, IfOk, OnErr, IsTrue};
+ghost use Rattle.std.specs.Prelude.{◌≡◌, ℕ, ◌+◌, ◌<◌, ◌≤◌, ◌^◌, ◌↔◌, List, [], length, take, IfOk};
+ghost use Rattle.std.specs.Prelude.{OnErr, IsTrue};
 ghost use Rattle.aes3_cell.specs.Ends.{Grew};
 ghost use Rattle.aes3_engine.specs.Converting.{Reading};
 ghost use Rattle.aes3_engine.specs.Running.{EndRan, FrontRan, PieceRan, Run, movement_of};
 
 use aes3_cell::{Fault, RunError, Sink, Source};
 
-/// A form of input: takes bytes, in pieces of any size, front by front, and hands what they carry to a taker `K`, which writes.
+/// A form of input: takes bytes, in pieces of any size, front by front, and hands what they carry
+/// to a taker `K`, which writes.
 ///
-/// The contract speaks of the bytes that the input and its taker have taken (`follows`), of what bytes write and which
-/// are faults (`reads`), of what holds after the end (`finished`), and of what holds of the bytes before a fault when it was
-/// refused (`stopped`).
+/// The contract speaks of the bytes that the input and its taker have taken (`follows`), of what
+/// bytes write and which are faults (`reads`), of what holds after the end (`finished`), and of
+/// what holds of the bytes before a fault when it was refused (`stopped`).
 pub trait Input<K> {
     ghost follows: { Self → K → List ℕ → Type 0 };
 
@@ -30,15 +32,19 @@ pub trait Input<K> {
     ) -> Result<usize, RunError>
         requires some { 0 < length piece.now }
         requires room { T.failed sink.old + 1 < 2 ^ 64 }
-        requires following { (b : List ℕ) × (length b + length piece.now ≤ 2 ^ 40) × follows self.old taker.old b }
-        ensures { FrontRan (reads self.old taker.old) (reads self.new taker.new) (follows self.old taker.old) (follows self.new taker.new) (stopped self.new taker.new) piece.now
+        requires following { (b : List ℕ) × (length b + length piece.now ≤ 2 ^ 40)
+            × follows self.old taker.old b }
+        ensures { FrontRan (reads self.old taker.old) (reads self.new taker.new)
+            (follows self.old taker.old) (follows self.new taker.new) (stopped self.new taker.new)
+            piece.now
             (movement_of T.taken T.failed sink.old sink.new) result };
 
     /// Takes the end of the input.
     fn finish<T: Sink>(&mut self, taker: &mut K, sink: &mut T) -> Result<(), RunError>
         requires room { T.failed sink.old + 1 < 2 ^ 64 }
         requires following { (b : List ℕ) × (length b ≤ 2 ^ 40) × follows self.old taker.old b }
-        ensures { EndRan (reads self.old taker.old) (follows self.old taker.old) (stopped self.new taker.new) (finished self.new taker.new)
+        ensures { EndRan (reads self.old taker.old) (follows self.old taker.old)
+            (stopped self.new taker.new) (finished self.new taker.new)
             (movement_of T.taken T.failed sink.old sink.new) result };
 }
 
@@ -57,10 +63,12 @@ fn read_piece<S: Source>(source: &mut S, piece: &mut [u8], room: u64) -> Result<
     requires some { 0 < length piece.old }
     requires room { 0 < room }
     ensures bound { IfOk result (λ n. (n ≤ length piece.new) × (n ≤ room)) }
-    ensures bytes { IfOk result (λ n. Grew (S.given source.old) (S.given source.new) (take n piece.new)) }
+    ensures bytes { IfOk result (λ n. Grew (S.given source.old) (S.given source.new)
+        (take n piece.new)) }
     ensures end { IfOk result (λ n. n ≡ 0 ↔ IsTrue (S.has_ended source.new)) }
     ensures count { IfOk result (λ _. S.failed source.new ≡ S.failed source.old) }
-    ensures err { OnErr result ((S.failed source.new ≡ S.failed source.old + 1) × (S.given source.new ≡ S.given source.old)) }
+    ensures err { OnErr result ((S.failed source.new ≡ S.failed source.old + 1)
+        × (S.given source.new ≡ S.given source.old)) }
 {
     let limit = (piece.len() as u64).min(room) as usize;
     source.read(&mut piece[..limit])
@@ -84,8 +92,11 @@ fn feed_fronts<T: Sink, K, I: Input<K>>(
     piece: &[u8],
 ) -> Result<(), RunError>
     requires room { T.failed sink.old + 1 < 2 ^ 64 }
-    requires following { (b : List ℕ) × (length b + length piece.now ≤ 2 ^ 40) × I.follows input.old taker.old b }
-    ensures { PieceRan (I.reads input.old taker.old) (I.reads input.new taker.new) (I.follows input.old taker.old) (I.follows input.new taker.new) (I.stopped input.new taker.new) piece.now
+    requires following { (b : List ℕ) × (length b + length piece.now ≤ 2 ^ 40)
+        × I.follows input.old taker.old b }
+    ensures { PieceRan (I.reads input.old taker.old) (I.reads input.new taker.new)
+        (I.follows input.old taker.old) (I.follows input.new taker.new)
+        (I.stopped input.new taker.new) piece.now
         (movement_of T.taken T.failed sink.old sink.new) result }
 {
     let mut at = 0;
@@ -98,7 +109,8 @@ fn feed_fronts<T: Sink, K, I: Input<K>>(
     Ok(())
 }
 
-/// Takes all of a piece, and passes on what the sink then holds: what is decided leaves before more is read.
+/// Takes all of a piece, and passes on what the sink then holds: what is decided leaves before more
+/// is read.
 fn feed<T: Sink, K, I: Input<K>>(
     input: &mut I,
     taker: &mut K,
@@ -106,8 +118,11 @@ fn feed<T: Sink, K, I: Input<K>>(
     piece: &[u8],
 ) -> Result<(), RunError>
     requires room { T.failed sink.old + 1 < 2 ^ 64 }
-    requires following { (b : List ℕ) × (length b + length piece.now ≤ 2 ^ 40) × I.follows input.old taker.old b }
-    ensures ran { PieceRan (I.reads input.old taker.old) (I.reads input.new taker.new) (I.follows input.old taker.old) (I.follows input.new taker.new) (I.stopped input.new taker.new) piece.now
+    requires following { (b : List ℕ) × (length b + length piece.now ≤ 2 ^ 40)
+        × I.follows input.old taker.old b }
+    ensures ran { PieceRan (I.reads input.old taker.old) (I.reads input.new taker.new)
+        (I.follows input.old taker.old) (I.follows input.new taker.new)
+        (I.stopped input.new taker.new) piece.now
         (movement_of T.taken T.failed sink.old sink.new) result }
     ensures passed_on { IfOk result (λ _. T.passed sink.new ≡ T.taken sink.new) }
 {
@@ -128,7 +143,8 @@ fn finish<T: Sink, K, I: Input<K>>(
 ) -> Result<(), RunError>
     requires room { T.failed sink.old + 1 < 2 ^ 64 }
     requires following { (b : List ℕ) × (length b ≤ 2 ^ 40) × I.follows input.old taker.old b }
-    ensures ran { EndRan (I.reads input.old taker.old) (I.follows input.old taker.old) (I.stopped input.new taker.new) (I.finished input.new taker.new)
+    ensures ran { EndRan (I.reads input.old taker.old) (I.follows input.old taker.old)
+        (I.stopped input.new taker.new) (I.finished input.new taker.new)
         (movement_of T.taken T.failed sink.old sink.new) result }
     ensures passed_on { IfOk result (λ _. T.passed sink.new ≡ T.taken sink.new) }
 {
@@ -144,8 +160,8 @@ fn finish<T: Sink, K, I: Input<K>>(
 /// Converts all bytes of the source, at most `max_bytes`, and answers how many they are.
 ///
 /// # Errors
-/// `Read` and `Write` where the source or the sink failed, `TooLong` where a byte came after `max_bytes` bytes, else
-/// the first fault of the input. At most `max_bytes + 1` bytes are read.
+/// `Read` and `Write` where the source or the sink failed, `TooLong` where a byte came after
+/// `max_bytes` bytes, else the first fault of the input. At most `max_bytes + 1` bytes are read.
 pub fn convert<S: Source, T: Sink, K, I: Input<K>>(
     source: &mut S,
     sink: &mut T,
@@ -157,13 +173,15 @@ pub fn convert<S: Source, T: Sink, K, I: Input<K>>(
     requires sink_room { T.failed sink.old + 1 < 2 ^ 64 }
     requires limit { max_bytes ≤ 2 ^ 40 }
     requires start { I.follows input.old taker.old [] }
-    ensures run { Run max_bytes (I.reads input.old taker.old) (I.follows input.new taker.new) (I.stopped input.new taker.new) (I.finished input.new taker.new) (S.has_ended source.new)
+    ensures run { Run max_bytes (I.reads input.old taker.old) (I.follows input.new taker.new)
+        (I.stopped input.new taker.new) (I.finished input.new taker.new) (S.has_ended source.new)
         (movement_of S.given S.failed source.old source.new)
         (movement_of T.taken T.failed sink.old sink.new) result }
 
     // At Ok the sink has passed on all that it took, and so it had before a read that failed.
     ensures passed_on { IfOk result (λ _. T.passed sink.new ≡ T.taken sink.new) }
-    ensures passed_before { S.failed source.new ≡ S.failed source.old + 1 → T.passed sink.old ≡ T.taken sink.old → T.passed sink.new ≡ T.taken sink.new }
+    ensures passed_before { S.failed source.new ≡ S.failed source.old + 1
+        → T.passed sink.old ≡ T.taken sink.old → T.passed sink.new ≡ T.taken sink.new }
 {
     let mut piece = blank_piece();
     let mut seen: u64 = 0;

@@ -9,14 +9,15 @@ use crate::taker::Taker;
 use crate::text_input::drive_text;
 use aes3_cell::{Form, RunError, Sink, Source};
 
-/// Hands the cells of an input to the taker as they come, one by one or in words, and its end; answers how many bytes
-/// and cells the input has.
+/// Hands the cells of an input to the taker as they come, one by one or in words, and its end;
+/// answers how many bytes and cells the input has.
 ///
 /// # Errors
-/// `BadCell` where a byte of cell text is neither a cell nor a separator, `BadPadding` where packed cells end wrongly,
-/// `TooLong` where the input has more than `max_bytes` bytes, `Read` and `Write` where an end failed. Then, unless the sink
-/// failed, the taker has taken the cells before, of packed cells those of all octets but the last two, and no end. At most
-/// `max_bytes + 1` bytes are read.
+/// `BadCell` where a byte of cell text is neither a cell nor a separator, `BadPadding` where packed
+/// cells end wrongly, `TooLong` where the input has more than `max_bytes` bytes, `Read` and `Write`
+/// where an end failed. Then, unless the sink failed, the taker has taken the cells before, of
+/// packed cells those of all octets but the last two, and no end. At most `max_bytes + 1` bytes are
+/// read.
 pub fn drive<S: Source, T: Sink, K: Taker>(
     source: &mut S,
     sink: &mut T,
@@ -28,7 +29,8 @@ pub fn drive<S: Source, T: Sink, K: Taker>(
     requires sink_room { T.failed sink.old + 1 < 2 ^ 64 }
     requires limit { max_bytes ≤ 2 ^ 40 }
     requires start { K.follows taker.old [] }
-    ensures ran { Drive max_bytes input (K.writes taker.old) (K.follows taker.new) (K.finished taker.new) (S.has_ended source.new)
+    ensures ran { Drive max_bytes input (K.writes taker.old) (K.follows taker.new)
+        (K.finished taker.new) (S.has_ended source.new)
         (movement_of S.given S.failed source.old source.new)
         (movement_of T.taken T.failed sink.old sink.new) result }
     ensures passed_on { IfOk result (λ _. T.passed sink.new ≡ T.taken sink.new) }

@@ -1,6 +1,8 @@
 //! Block files to cells.
 
-ghost use Rattle.std.specs.Prelude.{◌≡◌, ◌≢◌, ℕ, ◌+◌, ◌<◌, ◌≤◌, ◌^◌, ◌⊎◌, List, [], ◌∷◌, Bool, true, false, None, Err, length, take, IfOk, IfErr, IfSome, IsOk, OnErr, IsTrue};
+ghost use Rattle.std.specs.Prelude.{◌≡◌, ◌≢◌, ℕ, ◌+◌, ◌<◌, ◌≤◌, ◌^◌, ◌⊎◌, List, [], ◌∷◌, Bool};
+ghost use Rattle.std.specs.Prelude.{true, false, None, Err, length, take, IfOk, IfErr, IfSome};
+ghost use Rattle.std.specs.Prelude.{IsOk, OnErr, IsTrue};
 ghost use Rattle.std.specs.List.{All};
 ghost use Rattle.aes3_cell.specs.Ends.{Grew, GrewFront, Told};
 ghost use Rattle.aes3_cell.specs.Writes.{Wrote};
@@ -10,15 +12,16 @@ ghost use Rattle.aes3_block.specs.Blocks.{IsBlock, block_cells, stream};
 ghost use Rattle.aes3_block.specs.Files.{file, IsBlockFile, file_blocks};
 ghost use Rattle.aes3_block.specs.Readers.{TakesBlock, TakesQuietly};
 ghost use Rattle.aes3_lock.specs.Reports.{blocks, normal};
-ghost use Rattle.aes3_engine.specs.Encoding.{Encodes, IsCauseOf, WholeFile, encode_counts, encoded, encoding};
+ghost use Rattle.aes3_engine.specs.Encoding.{Encodes, IsCauseOf, WholeFile, encode_counts, encoded};
+ghost use Rattle.aes3_engine.specs.Encoding.{encoding};
 ghost use Rattle.aes3_engine.specs.Running.{FrontRan, PieceRan, movement_of};
 
 use crate::conversion::{Input, convert};
 use aes3_block::{BLOCK_BYTES, BLOCK_CELLS, Block, BlockFile, SLOTS, fill_block_cells};
 use aes3_cell::{Counts, Fault, Form, Level, RunError, Sink, Source, put_ending, put_words};
 
-/// Writes the cells of each block in a form, and counts the blocks. The cells are made in words that it keeps, which so
-/// are cleared once.
+/// Writes the cells of each block in a form, and counts the blocks. The cells are made in words
+/// that it keeps, which so are cleared once.
 #[derive(Drop)]
 struct Encoder {
     output: Form,
@@ -38,7 +41,8 @@ fn put_cells<T: Sink>(
     sink: &mut T,
 ) -> Result<(), Fault>
     requires room { T.failed sink.old + 1 < 2 ^ 64 }
-    ensures { Wrote T.taken T.failed sink.old sink.new (bytes_of output (block_cells Level.Low block.now)) result }
+    ensures { Wrote T.taken T.failed sink.old sink.new
+        (bytes_of output (block_cells Level.Low block.now)) result }
 {
     fill_block_cells(Level::Low, block, cells);
     put_words(output, cells, sink)
@@ -52,8 +56,11 @@ fn take_byte<T: Sink>(
     byte: u8,
 ) -> Result<(), RunError>
     requires room { T.failed sink.old + 1 < 2 ^ 64 }
-    requires following { (b : List ℕ) × (length b < 2 ^ 40) × Encodes file.old encoder.old.blocks b }
-    ensures { PieceRan (encoding encoder.old.output) (encoding encoder.new.output) (Encodes file.old encoder.old.blocks) (Encodes file.new encoder.new.blocks) (λ b. encoder.new.blocks ≡ length (file_blocks b)) (byte ∷ [])
+    requires following { (b : List ℕ) × (length b < 2 ^ 40)
+        × Encodes file.old encoder.old.blocks b }
+    ensures { PieceRan (encoding encoder.old.output) (encoding encoder.new.output)
+        (Encodes file.old encoder.old.blocks) (Encodes file.new encoder.new.blocks)
+        (λ b. encoder.new.blocks ≡ length (file_blocks b)) (byte ∷ [])
         (movement_of T.taken T.failed sink.old sink.new) result }
 {
     match file.feed_byte(byte) {
@@ -69,7 +76,8 @@ fn take_byte<T: Sink>(
     }
 }
 
-/// Takes the four bytes that a piece begins with, where a reader takes them as a word; says whether it did.
+/// Takes the four bytes that a piece begins with, where a reader takes them as a word; says whether
+/// it did.
 fn feed_front(file: &mut BlockFile, piece: &[u8]) -> bool
     requires { file.old.seen + length piece.now ≤ 2 ^ 40 }
     ensures bound { result ≡ true → 4 ≤ length piece.now }
@@ -86,7 +94,8 @@ fn feed_front(file: &mut BlockFile, piece: &[u8]) -> bool
 fn feed_block(file: &mut BlockFile, piece: &[u8]) -> Option<Block>
     requires { file.old.seen + length piece.now ≤ 2 ^ 40 }
     ensures bound { IfSome result (λ _. BLOCK_BYTES ≤ length piece.now) }
-    ensures taken { IfSome result (λ block. TakesBlock file.old (take BLOCK_BYTES piece.now) block file.new) }
+    ensures taken { IfSome result (λ block. TakesBlock file.old (take BLOCK_BYTES piece.now)
+        block file.new) }
     ensures left { result ≡ None → file.new ≡ file.old }
 {
     match piece.first_chunk() {
@@ -95,7 +104,8 @@ fn feed_block(file: &mut BlockFile, piece: &[u8]) -> Option<Block>
     }
 }
 
-/// Takes a word's four bytes where they neither are a fault nor end a block, else one byte; answers how many.
+/// Takes a word's four bytes where they neither are a fault nor end a block, else one byte; answers
+/// how many.
 fn take_few<T: Sink>(
     file: &mut BlockFile,
     encoder: &mut Encoder,
@@ -104,8 +114,11 @@ fn take_few<T: Sink>(
 ) -> Result<usize, RunError>
     requires some { 0 < length piece.now }
     requires room { T.failed sink.old + 1 < 2 ^ 64 }
-    requires following { (b : List ℕ) × (length b + length piece.now ≤ 2 ^ 40) × Encodes file.old encoder.old.blocks b }
-    ensures { FrontRan (encoding encoder.old.output) (encoding encoder.new.output) (Encodes file.old encoder.old.blocks) (Encodes file.new encoder.new.blocks) (λ b. encoder.new.blocks ≡ length (file_blocks b)) piece.now
+    requires following { (b : List ℕ) × (length b + length piece.now ≤ 2 ^ 40)
+        × Encodes file.old encoder.old.blocks b }
+    ensures { FrontRan (encoding encoder.old.output) (encoding encoder.new.output)
+        (Encodes file.old encoder.old.blocks) (Encodes file.new encoder.new.blocks)
+        (λ b. encoder.new.blocks ≡ length (file_blocks b)) piece.now
         (movement_of T.taken T.failed sink.old sink.new) result }
 {
     if feed_front(file, piece) {
@@ -126,7 +139,8 @@ impl Input<Encoder> for BlockFile {
 
     ghost stopped = { λ _ encoder b. encoder.blocks ≡ length (file_blocks b) };
 
-    /// Takes the bytes of a whole block where none is begun and its words are lawful, else a word's or one.
+    /// Takes the bytes of a whole block where none is begun and its words are lawful, else a word's
+    /// or one.
     fn take_front<T: Sink>(
         &mut self,
         encoder: &mut Encoder,
@@ -156,13 +170,13 @@ impl Input<Encoder> for BlockFile {
     }
 }
 
-/// Writes the cells of a block file's blocks, one block behind the other in the normal polarity: the level before the
-/// first is `Low` (AES3-3, IEC 60958-1).
+/// Writes the cells of a block file's blocks, one block behind the other in the normal polarity:
+/// the level before the first is `Low` (AES3-3, IEC 60958-1).
 ///
 /// # Errors
-/// `BadCode`, `BadParity` and `BadLength` where the input is no block file, `TooLong` where it has more than
-/// `max_bytes` bytes, `Read` and `Write` where an end failed. Then the blocks that were whole before are written
-/// without an ending, and after `Write` a front of the output.
+/// `BadCode`, `BadParity` and `BadLength` where the input is no block file, `TooLong` where it has
+/// more than `max_bytes` bytes, `Read` and `Write` where an end failed. Then the blocks that were
+/// whole before are written without an ending, and after `Write` a front of the output.
 pub fn encode<S: Source, T: Sink>(
     source: &mut S,
     sink: &mut T,
@@ -174,36 +188,52 @@ pub fn encode<S: Source, T: Sink>(
     requires limit { max_bytes ≤ 2 ^ 40 }
 
     // Where it answers Ok, the input was a block file and the cells of its blocks are written.
-    ensures cells { IfOk result (λ _. (blocks : List (List (List Bool))) → All IsBlock blocks → Told (S.given source.old) (S.given source.new) (file blocks)
+    ensures cells { IfOk result (λ _. (blocks : List (List (List Bool))) → All IsBlock blocks
+        → Told (S.given source.old) (S.given source.new) (file blocks)
         → Grew (T.taken sink.old) (T.taken sink.new) (written output (stream Level.Low blocks))) }
-    ensures whole { IfOk result (λ _. (b : List ℕ) → Told (S.given source.old) (S.given source.new) b
-        → Grew (T.taken sink.old) (T.taken sink.new) (written output (stream Level.Low (file_blocks b)))) }
+    ensures whole { IfOk result (λ _. (b : List ℕ)
+        → Told (S.given source.old) (S.given source.new) b
+        → Grew (T.taken sink.old) (T.taken sink.new)
+        (written output (stream Level.Low (file_blocks b)))) }
     // What `decode` writes of cells gives what `normalise` writes of them.
-    ensures decoded { IfOk result (λ _. (c : List Level) → Told (S.given source.old) (S.given source.new) (file (blocks c))
+    ensures decoded { IfOk result (λ _. (c : List Level)
+        → Told (S.given source.old) (S.given source.new) (file (blocks c))
         → Grew (T.taken sink.old) (T.taken sink.new) (written output (normal c))) }
-    ensures block_file { IfOk result (λ _. (b : List ℕ) → Told (S.given source.old) (S.given source.new) b → IsBlockFile b) }
-    ensures counts { IfOk result (λ counts. (b : List ℕ) → Told (S.given source.old) (S.given source.new) b → counts ≡ encode_counts b) }
-    ensures fits { IfOk result (λ _. (b : List ℕ) → Told (S.given source.old) (S.given source.new) b → length b ≤ max_bytes) }
+    ensures block_file { IfOk result (λ _. (b : List ℕ)
+        → Told (S.given source.old) (S.given source.new) b → IsBlockFile b) }
+    ensures counts { IfOk result (λ counts. (b : List ℕ)
+        → Told (S.given source.old) (S.given source.new) b → counts ≡ encode_counts b) }
+    ensures fits { IfOk result (λ _. (b : List ℕ) → Told (S.given source.old) (S.given source.new) b
+        → length b ≤ max_bytes) }
     ensures ended { IfOk result (λ _. IsTrue (S.has_ended source.new)) }
-    ensures quiet { IfOk result (λ _. (S.failed source.new ≡ S.failed source.old) × (T.failed sink.new ≡ T.failed sink.old)) }
+    ensures quiet { IfOk result (λ _. (S.failed source.new ≡ S.failed source.old)
+        × (T.failed sink.new ≡ T.failed sink.old)) }
     ensures passed_on { IfOk result (λ _. T.passed sink.new ≡ T.taken sink.new) }
 
     // It owes Ok where the input is a block file that fits, and neither end failed.
-    ensures owed { (b : List ℕ) → Told (S.given source.old) (S.given source.new) b → IsBlockFile b → length b ≤ max_bytes
-        → S.failed source.new ≡ S.failed source.old → T.failed sink.new ≡ T.failed sink.old → IsOk result }
+    ensures owed { (b : List ℕ) → Told (S.given source.old) (S.given source.new) b → IsBlockFile b
+        → length b ≤ max_bytes
+        → S.failed source.new ≡ S.failed source.old → T.failed sink.new ≡ T.failed sink.old
+        → IsOk result }
 
     // A refusal has its cause, and what was whole before it is written.
-    ensures cause { IfErr result (λ error. (b : List ℕ) → Told (S.given source.old) (S.given source.new) b
+    ensures cause { IfErr result (λ error. (b : List ℕ)
+        → Told (S.given source.old) (S.given source.new) b
         → IsCauseOf max_bytes b (S.has_ended source.new) error) }
     ensures read { result ≡ Err RunError.Read → S.failed source.new ≡ S.failed source.old + 1 }
     ensures write { result ≡ Err RunError.Write → T.failed sink.new ≡ T.failed sink.old + 1 }
     ensures sink_quiet { result ≢ Err RunError.Write → T.failed sink.new ≡ T.failed sink.old }
-    ensures refused { OnErr result (result ≢ Err RunError.Write → (b : List ℕ) → Told (S.given source.old) (S.given source.new) b
+    ensures refused { OnErr result (result ≢ Err RunError.Write → (b : List ℕ)
+        → Told (S.given source.old) (S.given source.new) b
         → Grew (T.taken sink.old) (T.taken sink.new) (encoded output (take max_bytes b))) }
-    ensures front { result ≡ Err RunError.Write → (b : List ℕ) → Told (S.given source.old) (S.given source.new) b
+    ensures front { result ≡ Err RunError.Write → (b : List ℕ)
+        → Told (S.given source.old) (S.given source.new) b
         → GrewFront (T.taken sink.old) (T.taken sink.new) (encoded output (take max_bytes b))
-        ⊎ (WholeFile max_bytes b (S.has_ended source.new) × GrewFront (T.taken sink.old) (T.taken sink.new) (written output (stream Level.Low (file_blocks b)))) }
-    ensures few { (b : List ℕ) → Told (S.given source.old) (S.given source.new) b → length b ≤ max_bytes + 1 }
+        ⊎ (WholeFile max_bytes b (S.has_ended source.new)
+        × GrewFront (T.taken sink.old) (T.taken sink.new)
+        (written output (stream Level.Low (file_blocks b)))) }
+    ensures few { (b : List ℕ) → Told (S.given source.old) (S.given source.new) b
+        → length b ≤ max_bytes + 1 }
 {
     let mut file = BlockFile::new();
     let mut encoder = Encoder {

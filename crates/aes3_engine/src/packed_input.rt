@@ -1,6 +1,7 @@
 //! Packed cells as an input.
 
-ghost use Rattle.std.specs.Prelude.{◌≡◌, ℕ, ◌+◌, ◌*◌, ◌<◌, ◌≤◌, ◌^◌, ◌++◌, List, [], ◌∷◌, length, take, IfOk, IfSome, OnSome, IfNone};
+ghost use Rattle.std.specs.Prelude.{◌≡◌, ℕ, ◌+◌, ◌*◌, ◌<◌, ◌≤◌, ◌^◌, ◌++◌, List, [], ◌∷◌, length};
+ghost use Rattle.std.specs.Prelude.{take, IfOk, IfSome, OnSome, IfNone};
 ghost use Rattle.std.specs.List.{flat_map};
 ghost use Rattle.aes3_cell.specs.declared.form.Form.{Form};
 ghost use Rattle.aes3_cell.specs.declared.level.Level.{Level};
@@ -8,7 +9,8 @@ ghost use Rattle.aes3_cell.specs.Packed.{octet_cells, whole_cells};
 ghost use Rattle.aes3_cell.specs.PackedReading.{behind_eight, eight_whole, packed_reader_of};
 ghost use Rattle.aes3_cell.specs.Words.{low_cells, word_cells};
 ghost use Rattle.aes3_engine.specs.Driving.{Drive};
-ghost use Rattle.aes3_engine.specs.Forms.{CellsRan, EndCellsRan, PackedEnded, PackedTaken, octet_front, packed_reading};
+ghost use Rattle.aes3_engine.specs.Forms.{CellsRan, EndCellsRan, PackedEnded, PackedTaken};
+ghost use Rattle.aes3_engine.specs.Forms.{octet_front, packed_reading};
 ghost use Rattle.aes3_engine.specs.Running.{FrontRan, PieceRan, movement_of};
 
 use crate::conversion::{Input, convert};
@@ -56,7 +58,8 @@ fn hand_on<T: Sink, K: Taker>(taker: &mut K, sink: &mut T, octet: u8, used: u8) 
     requires few { used ≤ 8 }
     requires room { T.failed sink.old + 1 < 2 ^ 64 }
     requires following { (c : List Level) × (length c + 8 ≤ 2 ^ 43) × K.follows taker.old c }
-    ensures { CellsRan (K.writes taker.old) (K.writes taker.new) (K.follows taker.old) (K.follows taker.new) (octet_front used octet)
+    ensures { CellsRan (K.writes taker.old) (K.writes taker.new) (K.follows taker.old)
+        (K.follows taker.new) (octet_front used octet)
         (movement_of T.taken T.failed sink.old sink.new) result }
 {
     taker.cells(sink, word_of_octet(octet), u32::from(used))
@@ -72,7 +75,8 @@ fn hand_on_last<T: Sink, K: Taker>(
     requires few { used ≤ 8 }
     requires room { T.failed sink.old + 1 < 2 ^ 64 }
     requires following { (c : List Level) × (length c + 8 ≤ 2 ^ 43) × K.follows taker.old c }
-    ensures { EndCellsRan (K.writes taker.old) (K.follows taker.old) (K.finished taker.new) (octet_front used octet)
+    ensures { EndCellsRan (K.writes taker.old) (K.follows taker.old) (K.finished taker.new)
+        (octet_front used octet)
         (movement_of T.taken T.failed sink.old sink.new) result }
 {
     match hand_on(taker, sink, octet, used) {
@@ -89,9 +93,12 @@ fn take_octet<T: Sink, K: Taker>(
     octet: u8,
 ) -> Result<(), RunError>
     requires room { T.failed sink.old + 1 < 2 ^ 64 }
-    requires following { (b : List ℕ) × (length b < 2 ^ 40) × PackedTaken input.old.packed input.old.cells (K.follows taker.old) b }
+    requires following { (b : List ℕ) × (length b < 2 ^ 40)
+        × PackedTaken input.old.packed input.old.cells (K.follows taker.old) b }
     ensures { PieceRan (packed_reading (K.writes taker.old)) (packed_reading (K.writes taker.new))
-        (PackedTaken input.old.packed input.old.cells (K.follows taker.old)) (PackedTaken input.new.packed input.new.cells (K.follows taker.new)) (λ b. K.follows taker.new (whole_cells b)) (octet ∷ [])
+        (PackedTaken input.old.packed input.old.cells (K.follows taker.old))
+        (PackedTaken input.new.packed input.new.cells (K.follows taker.new))
+        (λ b. K.follows taker.new (whole_cells b)) (octet ∷ [])
         (movement_of T.taken T.failed sink.old sink.new) result }
 {
     match input.packed.feed_byte(octet) {
@@ -106,16 +113,19 @@ fn take_octet<T: Sink, K: Taker>(
     }
 }
 
-/// Takes eight octets of a piece for each word, as many as there are and as make words, where two or more octets came
-/// before; answers how many words these are. The words are the cells that these octets make whole.
+/// Takes eight octets of a piece for each word, as many as there are and as make words, where two
+/// or more octets came before; answers how many words these are. The words are the cells that these
+/// octets make whole.
 fn feed_words(packed: &mut PackedIn, piece: &[u8], words: &mut [u64; WORDS]) -> usize
     requires { packed.old.seen + length piece.now ≤ 2 ^ 40 }
     ensures within { 8 * result ≤ length piece.now }
     ensures few { result ≤ 64 }
     ensures len { length words.new ≡ 64 }
-    ensures next { (b : List ℕ) → packed.old ≡ packed_reader_of b → packed.new ≡ packed_reader_of (b ++ take (8 * result) piece.now) }
+    ensures next { (b : List ℕ) → packed.old ≡ packed_reader_of b
+        → packed.new ≡ packed_reader_of (b ++ take (8 * result) piece.now) }
     ensures cells { (b : List ℕ) → packed.old ≡ packed_reader_of b
-        → whole_cells (b ++ take (8 * result) piece.now) ≡ whole_cells b ++ flat_map word_cells (take result words.new) }
+        → whole_cells (b ++ take (8 * result) piece.now) ≡ whole_cells b
+        ++ flat_map word_cells (take result words.new) }
     ensures none { result ≡ 0 → packed.new ≡ packed.old }
 {
     if packed.seen() < 2 {
@@ -135,9 +145,12 @@ fn take_first<T: Sink, K: Taker>(
 ) -> Result<usize, RunError>
     requires some { 0 < length piece.now }
     requires room { T.failed sink.old + 1 < 2 ^ 64 }
-    requires following { (b : List ℕ) × (length b + length piece.now ≤ 2 ^ 40) × PackedTaken input.old.packed input.old.cells (K.follows taker.old) b }
+    requires following { (b : List ℕ) × (length b + length piece.now ≤ 2 ^ 40)
+        × PackedTaken input.old.packed input.old.cells (K.follows taker.old) b }
     ensures { FrontRan (packed_reading (K.writes taker.old)) (packed_reading (K.writes taker.new))
-        (PackedTaken input.old.packed input.old.cells (K.follows taker.old)) (PackedTaken input.new.packed input.new.cells (K.follows taker.new)) (λ b. K.follows taker.new (whole_cells b)) piece.now
+        (PackedTaken input.old.packed input.old.cells (K.follows taker.old))
+        (PackedTaken input.new.packed input.new.cells (K.follows taker.new))
+        (λ b. K.follows taker.new (whole_cells b)) piece.now
         (movement_of T.taken T.failed sink.old sink.new) result }
 {
     match take_octet(input, taker, sink, piece[0]) {
@@ -157,7 +170,8 @@ pub(crate) fn drive_packed<S: Source, T: Sink, K: Taker>(
     requires sink_room { T.failed sink.old + 1 < 2 ^ 64 }
     requires limit { max_bytes ≤ 2 ^ 40 }
     requires start { K.follows taker.old [] }
-    ensures ran { Drive max_bytes Form.Packed (K.writes taker.old) (K.follows taker.new) (K.finished taker.new) (S.has_ended source.new)
+    ensures ran { Drive max_bytes Form.Packed (K.writes taker.old) (K.follows taker.new)
+        (K.finished taker.new) (S.has_ended source.new)
         (movement_of S.given S.failed source.old source.new)
         (movement_of T.taken T.failed sink.old sink.new) result }
     ensures passed_on { IfOk result (λ _. T.passed sink.new ≡ T.taken sink.new) }

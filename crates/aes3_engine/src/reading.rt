@@ -1,6 +1,7 @@
 //! Cells to blocks, written again as cells or as a block file.
 
-ghost use Rattle.std.specs.Prelude.{◌≡◌, ◌≢◌, ℕ, ◌+◌, ◌<◌, ◌≤◌, ◌^◌, ◌↔◌, ◌⊎◌, List, [], Bool, Err, length, map, take, IfOk, IfErr, IsOk, OnErr, IsTrue};
+ghost use Rattle.std.specs.Prelude.{◌≡◌, ◌≢◌, ℕ, ◌+◌, ◌<◌, ◌≤◌, ◌^◌, ◌↔◌, ◌⊎◌, List, [], Bool, Err};
+ghost use Rattle.std.specs.Prelude.{length, map, take, IfOk, IfErr, IsOk, OnErr, IsTrue};
 ghost use Rattle.std.specs.List.{All};
 ghost use Rattle.aes3_cell.specs.Ends.{Grew, GrewFront, Told};
 ghost use Rattle.aes3_cell.specs.Written.{ending, written};
@@ -13,7 +14,8 @@ ghost use Rattle.aes3_lock.specs.FrameLaws.{AreAllLeft, AreClose};
 ghost use Rattle.aes3_lock.specs.Laws.{PlacedBlock};
 ghost use Rattle.aes3_lock.specs.Remains.{after_changes, after_loss};
 ghost use Rattle.aes3_lock.specs.Pieces.{IsPiece, given_blocks, whole_blocks};
-ghost use Rattle.aes3_engine.specs.BlockRuns.{begun_stream, cut_block, cut_blocks, decided_blocks, file_block, normal_block, written_stream};
+ghost use Rattle.aes3_engine.specs.BlockRuns.{begun_stream, cut_block, cut_blocks, decided_blocks};
+ghost use Rattle.aes3_engine.specs.BlockRuns.{file_block, normal_block, written_stream};
 ghost use Rattle.aes3_engine.specs.Driving.{WholeInput};
 ghost use Rattle.aes3_engine.specs.Inputs.{IsInput, cells_before, cells_of};
 ghost use Rattle.aes3_engine.specs.CellRuns.{CellRun, IsCause};
@@ -111,13 +113,15 @@ impl BlockWriter for CutBlocks {
     }
 }
 
-/// Reads cells from any cell on, and writes the blocks that stand whole and closed in them as one lawful line in the
-/// normal polarity: the level before its first cell is `Low` (AES3-3, IEC 60958-1).
+/// Reads cells from any cell on, and writes the blocks that stand whole and closed in them as one
+/// lawful line in the normal polarity: the level before its first cell is `Low` (AES3-3, IEC
+/// 60958-1).
 ///
 /// # Errors
-/// `BadCell` where a byte of cell text is neither a cell nor a separator, `BadPadding` where packed cells end wrongly,
-/// `TooLong` where the input has more than `max_bytes` bytes, `Read` and `Write` where an end failed. Then the blocks are
-/// written that were decided before, without an ending, and after `Write` a front of the output.
+/// `BadCell` where a byte of cell text is neither a cell nor a separator, `BadPadding` where packed
+/// cells end wrongly, `TooLong` where the input has more than `max_bytes` bytes, `Read` and `Write`
+/// where an end failed. Then the blocks are written that were decided before, without an ending,
+/// and after `Write` a front of the output.
 pub fn normalise<S: Source, T: Sink>(
     source: &mut S,
     sink: &mut T,
@@ -129,61 +133,91 @@ pub fn normalise<S: Source, T: Sink>(
     requires sink_room { T.failed sink.old + 1 < 2 ^ 64 }
     requires limit { max_bytes ≤ 2 ^ 40 }
 
-    // Where it answers Ok, exactly the blocks that stand whole and closed in the input are written, as their normal stream.
-    ensures normal { IfOk result (λ _. (b : List ℕ) → Told (S.given source.old) (S.given source.new) b
+    // Where it answers Ok, exactly the blocks that stand whole and closed in the input are written,
+    // as their normal stream.
+    ensures normal { IfOk result (λ _. (b : List ℕ)
+        → Told (S.given source.old) (S.given source.new) b
         → Grew (T.taken sink.old) (T.taken sink.new) (written output (normal (cells_of input b)))) }
-    // From any starting cell of a lawful stream these are its whole blocks that begin there or later.
-    ensures piece { IfOk result (λ _. (s : Level) (bs : List (List (List Bool))) (i j : ℕ) (b : List ℕ) → Told (S.given source.old) (S.given source.new) b
-        → IsPiece s bs i j (cells_of input b) → Grew (T.taken sink.old) (T.taken sink.new) (written_stream output (whole_blocks bs i j))) }
-    // With up to three cells of the piece changed they are those blocks, each as the changed cells in it and directly behind it
-    // leave it.
-    ensures damaged { IfOk result (λ _. (s : Level) (bs : List (List (List Bool))) (i j : ℕ) (c : List Level) (b : List ℕ) → Told (S.given source.old) (S.given source.new) b
+    // From any starting cell of a lawful stream these are its whole blocks that begin there or
+    // later.
+    ensures piece { IfOk result (λ _. (s : Level) (bs : List (List (List Bool))) (i j : ℕ)
+        (b : List ℕ) → Told (S.given source.old) (S.given source.new) b
+        → IsPiece s bs i j (cells_of input b) → Grew (T.taken sink.old) (T.taken sink.new)
+        (written_stream output (whole_blocks bs i j))) }
+    // With up to three cells of the piece changed they are those blocks, each as the changed cells
+    // in it and directly behind it leave it.
+    ensures damaged { IfOk result (λ _. (s : Level) (bs : List (List (List Bool))) (i j : ℕ)
+        (c : List Level) (b : List ℕ) → Told (S.given source.old) (S.given source.new) b
         → IsPiece s bs i j c → length (cells_of input b) ≡ length c → apart c (cells_of input b) ≤ 3
-        → Grew (T.taken sink.old) (T.taken sink.new) (written_stream output (given_blocks (after_changes i c (cells_of input b)) bs i j))) }
+        → Grew (T.taken sink.old) (T.taken sink.new)
+        (written_stream output (given_blocks (after_changes i c (cells_of input b)) bs i j))) }
     // With up to 383 they are all that these leave at the frames of the piece, in order of place.
-    ensures left { IfOk result (λ _. (s : Level) (bs : List (List (List Bool))) (i j : ℕ) (c : List Level) (b : List ℕ) → Told (S.given source.old) (S.given source.new) b
+    ensures left { IfOk result (λ _. (s : Level) (bs : List (List (List Bool))) (i j : ℕ)
+        (c : List Level) (b : List ℕ) → Told (S.given source.old) (S.given source.new) b
         → IsPiece s bs i j c → length (cells_of input b) ≡ length c → AreClose c (cells_of input b)
         → (found : List PlacedBlock) × AreAllLeft found s bs i c (cells_of input b)
-        × Grew (T.taken sink.old) (T.taken sink.new) (written_stream output (map (λ f. f.block) found))) }
+        × Grew (T.taken sink.old) (T.taken sink.new)
+        (written_stream output (map (λ f. f.block) found))) }
     // With one cell lost they are all but the block that held it.
-    ensures lost { IfOk result (λ _. (s : Level) (bs : List (List (List Bool))) (i j : ℕ) (c : List Level) (b : List ℕ) → Told (S.given source.old) (S.given source.new) b
+    ensures lost { IfOk result (λ _. (s : Level) (bs : List (List (List Bool))) (i j : ℕ)
+        (c : List Level) (b : List ℕ) → Told (S.given source.old) (S.given source.new) b
         → IsPiece s bs i j c → (k : ℕ) → k < length c → cells_of input b ≡ without k c
-        → Grew (T.taken sink.old) (T.taken sink.new) (written_stream output (given_blocks (after_loss (i + k)) bs i j))) }
-    // Two inputs carry equal block lists exactly if their outputs are equal, and the normal form of an output is that output.
-    ensures tells { (c d : List Level) → written output (normal c) ≡ written output (normal d) ↔ blocks c ≡ blocks d }
-    ensures again { IfOk result (λ _. (c : List Level) → Told (S.given source.old) (S.given source.new) (written input (normal c))
+        → Grew (T.taken sink.old) (T.taken sink.new)
+        (written_stream output (given_blocks (after_loss (i + k)) bs i j))) }
+    // Two inputs carry equal block lists exactly if their outputs are equal, and the normal form of
+    // an output is that output.
+    ensures tells { (c d : List Level) → written output (normal c) ≡ written output (normal d)
+        ↔ blocks c ≡ blocks d }
+    ensures again { IfOk result (λ _. (c : List Level)
+        → Told (S.given source.old) (S.given source.new) (written input (normal c))
         → Grew (T.taken sink.old) (T.taken sink.new) (written output (normal c))) }
-    ensures input { IfOk result (λ _. (b : List ℕ) → Told (S.given source.old) (S.given source.new) b → IsInput input b) }
-    ensures counts { IfOk result (λ counts. (b : List ℕ) → Told (S.given source.old) (S.given source.new) b → counts ≡ counts_of input b) }
-    ensures fits { IfOk result (λ _. (b : List ℕ) → Told (S.given source.old) (S.given source.new) b → length b ≤ max_bytes) }
+    ensures input { IfOk result (λ _. (b : List ℕ)
+        → Told (S.given source.old) (S.given source.new) b → IsInput input b) }
+    ensures counts { IfOk result (λ counts. (b : List ℕ)
+        → Told (S.given source.old) (S.given source.new) b → counts ≡ counts_of input b) }
+    ensures fits { IfOk result (λ _. (b : List ℕ) → Told (S.given source.old) (S.given source.new) b
+        → length b ≤ max_bytes) }
     ensures ended { IfOk result (λ _. IsTrue (S.has_ended source.new)) }
-    ensures quiet { IfOk result (λ _. (S.failed source.new ≡ S.failed source.old) × (T.failed sink.new ≡ T.failed sink.old)) }
+    ensures quiet { IfOk result (λ _. (S.failed source.new ≡ S.failed source.old)
+        × (T.failed sink.new ≡ T.failed sink.old)) }
     ensures passed_on { IfOk result (λ _. T.passed sink.new ≡ T.taken sink.new) }
 
     // It owes Ok where the input is in its form and fits, and neither end failed.
-    ensures owed { (b : List ℕ) → Told (S.given source.old) (S.given source.new) b → IsInput input b → length b ≤ max_bytes
-        → S.failed source.new ≡ S.failed source.old → T.failed sink.new ≡ T.failed sink.old → IsOk result }
+    ensures owed { (b : List ℕ) → Told (S.given source.old) (S.given source.new) b → IsInput input b
+        → length b ≤ max_bytes
+        → S.failed source.new ≡ S.failed source.old → T.failed sink.new ≡ T.failed sink.old
+        → IsOk result }
 
     // A refusal has its cause, and what was decided before it is written.
-    ensures cause { IfErr result (λ error. (b : List ℕ) → Told (S.given source.old) (S.given source.new) b
+    ensures cause { IfErr result (λ error. (b : List ℕ)
+        → Told (S.given source.old) (S.given source.new) b
         → IsCause input max_bytes b (S.has_ended source.new) error) }
     ensures read { result ≡ Err RunError.Read → S.failed source.new ≡ S.failed source.old + 1 }
     ensures write { result ≡ Err RunError.Write → T.failed sink.new ≡ T.failed sink.old + 1 }
     ensures sink_quiet { result ≢ Err RunError.Write → T.failed sink.new ≡ T.failed sink.old }
-    ensures refused { OnErr result (result ≢ Err RunError.Write → (b : List ℕ) → Told (S.given source.old) (S.given source.new) b
-        → Grew (T.taken sink.old) (T.taken sink.new) (begun_stream output (decided_blocks (cells_before input (take max_bytes b))))) }
-    ensures front { result ≡ Err RunError.Write → (b : List ℕ) → Told (S.given source.old) (S.given source.new) b
-        → GrewFront (T.taken sink.old) (T.taken sink.new) (begun_stream output (decided_blocks (cells_before input (take max_bytes b))))
-        ⊎ (WholeInput max_bytes input b (S.has_ended source.new) × GrewFront (T.taken sink.old) (T.taken sink.new) (written output (normal (cells_of input b)))) }
-    ensures few { (b : List ℕ) → Told (S.given source.old) (S.given source.new) b → length b ≤ max_bytes + 1 }
+    ensures refused { OnErr result (result ≢ Err RunError.Write → (b : List ℕ)
+        → Told (S.given source.old) (S.given source.new) b
+        → Grew (T.taken sink.old) (T.taken sink.new)
+        (begun_stream output (decided_blocks (cells_before input (take max_bytes b))))) }
+    ensures front { result ≡ Err RunError.Write → (b : List ℕ)
+        → Told (S.given source.old) (S.given source.new) b
+        → GrewFront (T.taken sink.old) (T.taken sink.new)
+        (begun_stream output (decided_blocks (cells_before input (take max_bytes b))))
+        ⊎ (WholeInput max_bytes input b (S.has_ended source.new)
+        × GrewFront (T.taken sink.old) (T.taken sink.new)
+        (written output (normal (cells_of input b)))) }
+    ensures few { (b : List ℕ) → Told (S.given source.old) (S.given source.new) b
+        → length b ≤ max_bytes + 1 }
 {
     run_blocks(source, sink, max_bytes, input, NormalBlocks { output })
 }
 
-/// Reads cells from any cell on, and writes the blocks that stand whole and closed in them as a block file.
+/// Reads cells from any cell on, and writes the blocks that stand whole and closed in them as a
+/// block file.
 ///
 /// # Errors
-/// Those of `normalise`; then the blocks are written that were decided before, and after `Write` a front of their file.
+/// Those of `normalise`; then the blocks are written that were decided before, and after `Write` a
+/// front of their file.
 pub fn decode<S: Source, T: Sink>(
     source: &mut S,
     sink: &mut T,
@@ -194,14 +228,18 @@ pub fn decode<S: Source, T: Sink>(
     requires sink_room { T.failed sink.old + 1 < 2 ^ 64 }
     requires limit { max_bytes ≤ 2 ^ 40 }
 
-    // Where it answers Ok, exactly the blocks that stand whole and closed in the input are written, as their file.
+    // Where it answers Ok, exactly the blocks that stand whole and closed in the input are written,
+    // as their file.
     ensures file { IfOk result (λ _. (b : List ℕ) → Told (S.given source.old) (S.given source.new) b
         → Grew (T.taken sink.old) (T.taken sink.new) (file (blocks (cells_of input b)))) }
     // What `encode` writes of blocks gives their file back.
-    ensures back { IfOk result (λ _. (bs : List (List (List Bool))) → All IsBlock bs → Told (S.given source.old) (S.given source.new) (written_stream input bs)
+    ensures back { IfOk result (λ _. (bs : List (List (List Bool))) → All IsBlock bs
+        → Told (S.given source.old) (S.given source.new) (written_stream input bs)
         → Grew (T.taken sink.old) (T.taken sink.new) (file bs)) }
-    // It is a run over cells: Ok is owed, a refusal has its cause, and what was decided before it is written.
-    ensures run { CellRun max_bytes input (λ c. file (blocks c)) (λ c. file (decided_blocks c)) (counts_of input)
+    // It is a run over cells: Ok is owed, a refusal has its cause, and what was decided before it
+    // is written.
+    ensures run { CellRun max_bytes input (λ c. file (blocks c)) (λ c. file (decided_blocks c))
+        (counts_of input)
         (S.has_ended source.new) (movement_of S.given S.failed source.old source.new)
         (movement_of T.taken T.failed sink.old sink.new) result }
     ensures passed_on { IfOk result (λ _. T.passed sink.new ≡ T.taken sink.new) }
@@ -209,8 +247,8 @@ pub fn decode<S: Source, T: Sink>(
     run_blocks(source, sink, max_bytes, input, FileBlocks)
 }
 
-/// Reads cells from any cell on, and of the blocks that stand whole and closed in them writes `count` from number `from`
-/// on, counted from 0, as `normalise` does.
+/// Reads cells from any cell on, and of the blocks that stand whole and closed in them writes
+/// `count` from number `from` on, counted from 0, as `normalise` does.
 ///
 /// # Errors
 /// Those of `normalise`.
@@ -229,9 +267,13 @@ pub fn cut<S: Source, T: Sink>(
 
     // Where it answers Ok, exactly the blocks asked for are written, as their normal stream.
     ensures cut { IfOk result (λ _. (b : List ℕ) → Told (S.given source.old) (S.given source.new) b
-        → Grew (T.taken sink.old) (T.taken sink.new) (written_stream output (cut_blocks from count (blocks (cells_of input b))))) }
-    // It is a run over cells: Ok is owed, a refusal has its cause, and what was decided before it is written.
-    ensures run { CellRun max_bytes input (λ c. written_stream output (cut_blocks from count (blocks c))) (λ c. begun_stream output (cut_blocks from count (decided_blocks c))) (counts_of input)
+        → Grew (T.taken sink.old) (T.taken sink.new)
+        (written_stream output (cut_blocks from count (blocks (cells_of input b))))) }
+    // It is a run over cells: Ok is owed, a refusal has its cause, and what was decided before it
+    // is written.
+    ensures run { CellRun max_bytes input (λ c. written_stream output
+        (cut_blocks from count (blocks c))) (λ c. begun_stream output
+        (cut_blocks from count (decided_blocks c))) (counts_of input)
         (S.has_ended source.new) (movement_of S.given S.failed source.old source.new)
         (movement_of T.taken T.failed sink.old sink.new) result }
     ensures passed_on { IfOk result (λ _. T.passed sink.new ≡ T.taken sink.new) }

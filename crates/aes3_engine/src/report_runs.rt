@@ -29,8 +29,8 @@ pub trait ReportWriter {
         ensures { Wrote T.taken T.failed sink.old sink.new
             (writes self.now blocks report.now) result };
 
-    /// Writes what it makes of the report of an ending that a lock has just answered, as `put` does. What needs no block
-    /// makes none.
+    /// Writes what it makes of the report of an ending that a lock has just answered, as `put`
+    /// does. What needs no block makes none.
     ///
     /// # Errors
     /// The sink's fault; then it has taken a front of the bytes.
@@ -113,9 +113,9 @@ impl<W: ReportWriter> Reporter for Counting<W> {
 /// Reads cells, and hands each report on them to the writer at the cell that decides it.
 ///
 /// # Errors
-/// `BadCell` and `BadPadding` where the input is not in its form, `TooLong` where it has more than `max_bytes` bytes,
-/// `Read` and `Write` where an end failed. Then what the reports decided before give is written, and after `Write` a
-/// front of the output.
+/// `BadCell` and `BadPadding` where the input is not in its form, `TooLong` where it has more than
+/// `max_bytes` bytes, `Read` and `Write` where an end failed. Then what the reports decided before
+/// give is written, and after `Write` a front of the output.
 pub fn run_reports<S: Source, T: Sink, W: ReportWriter + Drop>(
     source: &mut S,
     sink: &mut T,
@@ -126,8 +126,10 @@ pub fn run_reports<S: Source, T: Sink, W: ReportWriter + Drop>(
     requires source_room { S.failed source.old + 1 < 2 ^ 64 }
     requires sink_room { T.failed sink.old + 1 < 2 ^ 64 }
     requires limit { max_bytes ≤ 2 ^ 40 }
-    ensures ran { ReportRun max_bytes input (W.writes writer) (W.ends writer) (S.has_ended source.new)
-        (movement_of S.given S.failed source.old source.new) (movement_of T.taken T.failed sink.old sink.new) result }
+    ensures ran { ReportRun max_bytes input (W.writes writer) (W.ends writer)
+        (S.has_ended source.new)
+        (movement_of S.given S.failed source.old source.new)
+        (movement_of T.taken T.failed sink.old sink.new) result }
     ensures passed_on { IfOk result (λ _. T.passed sink.new ≡ T.taken sink.new) }
 {
     let mut taker = Locked::new(Counting::new(writer));

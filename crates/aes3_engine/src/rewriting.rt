@@ -9,7 +9,8 @@ ghost use Rattle.aes3_engine.specs.Inputs.{cells_of};
 ghost use Rattle.aes3_engine.specs.CellRuns.{CellRun};
 ghost use Rattle.aes3_engine.specs.ReportRuns.{counts_of};
 ghost use Rattle.aes3_engine.specs.Running.{movement_of};
-ghost use Rattle.aes3_engine.specs.Rewriting.{mended, rewritten, rewritten_block, rewritten_blocks, set_settings, set_status};
+ghost use Rattle.aes3_engine.specs.Rewriting.{mended, rewritten, rewritten_block, rewritten_blocks};
+ghost use Rattle.aes3_engine.specs.Rewriting.{set_settings, set_status};
 
 use crate::blocks::{BlockWriter, run_blocks};
 use crate::change::Change;
@@ -85,9 +86,10 @@ impl BlockWriter for RewrittenBlocks {
     }
 }
 
-/// Reads cells from any cell on, and writes the blocks that stand whole and closed in them as `normalise` does, each with
-/// its channel status changed: first the statuses of the change are set, then its fields, then, where it asks for that,
-/// professional status gets its check byte (AES3-2). Consumer status is never mended, and nothing else of a block changes.
+/// Reads cells from any cell on, and writes the blocks that stand whole and closed in them as
+/// `normalise` does, each with its channel status changed: first the statuses of the change are
+/// set, then its fields, then, where it asks for that, professional status gets its check byte
+/// (AES3-2). Consumer status is never mended, and nothing else of a block changes.
 ///
 /// # Errors
 /// Those of `normalise`.
@@ -104,10 +106,16 @@ pub fn rewrite<S: Source, T: Sink>(
     requires limit { max_bytes ≤ 2 ^ 40 }
 
     // Where it answers Ok, exactly the changed blocks are written, as their normal stream.
-    ensures rewritten { IfOk result (λ _. (b : List ℕ) → Told (S.given source.old) (S.given source.new) b
-        → Grew (T.taken sink.old) (T.taken sink.new) (written_stream output (rewritten_blocks change.now (blocks (cells_of input b))))) }
-    // It is a run over cells: Ok is owed, a refusal has its cause, and what was decided before it is written.
-    ensures run { CellRun max_bytes input (λ c. written_stream output (rewritten_blocks change.now (blocks c))) (λ c. begun_stream output (rewritten_blocks change.now (decided_blocks c))) (counts_of input)
+    ensures rewritten { IfOk result (λ _. (b : List ℕ)
+        → Told (S.given source.old) (S.given source.new) b
+        → Grew (T.taken sink.old) (T.taken sink.new)
+        (written_stream output (rewritten_blocks change.now (blocks (cells_of input b))))) }
+    // It is a run over cells: Ok is owed, a refusal has its cause, and what was decided before it
+    // is written.
+    ensures run { CellRun max_bytes input (λ c. written_stream output
+        (rewritten_blocks change.now (blocks c)))
+        (λ c. begun_stream output (rewritten_blocks change.now (decided_blocks c)))
+        (counts_of input)
         (S.has_ended source.new) (movement_of S.given S.failed source.old source.new)
         (movement_of T.taken T.failed sink.old sink.new) result }
     ensures passed_on { IfOk result (λ _. T.passed sink.new ≡ T.taken sink.new) }

@@ -36,13 +36,13 @@ impl BlockWriter for SampleBlocks {
     }
 }
 
-/// Reads cells from any cell on, and writes the samples of the blocks that stand whole and closed in them: of each
-/// frame that of channel 1 and that of channel 2, words of 32 bits, lowest byte first, with the 24 audio bits in the highest
-/// ones (AES3-1, IEC 60958-1).
+/// Reads cells from any cell on, and writes the samples of the blocks that stand whole and closed
+/// in them: of each frame that of channel 1 and that of channel 2, words of 32 bits, lowest byte
+/// first, with the 24 audio bits in the highest ones (AES3-1, IEC 60958-1).
 ///
 /// # Errors
-/// Those of `normalise`; then the samples are written of the blocks that were decided before, and after `Write` a front of
-/// them.
+/// Those of `normalise`; then the samples are written of the blocks that were decided before, and
+/// after `Write` a front of them.
 pub fn to_pcm<S: Source, T: Sink>(
     source: &mut S,
     sink: &mut T,
@@ -53,20 +53,27 @@ pub fn to_pcm<S: Source, T: Sink>(
     requires sink_room { T.failed sink.old + 1 < 2 ^ 64 }
     requires limit { max_bytes ≤ 2 ^ 40 }
 
-    // Where it answers Ok, exactly the blocks that stand whole and closed in the input are written, as their samples.
-    ensures samples { IfOk result (λ _. (b : List ℕ) → Told (S.given source.old) (S.given source.new) b
+    // Where it answers Ok, exactly the blocks that stand whole and closed in the input are written,
+    // as their samples.
+    ensures samples { IfOk result (λ _. (b : List ℕ)
+        → Told (S.given source.old) (S.given source.new) b
         → Grew (T.taken sink.old) (T.taken sink.new) (samples (blocks (cells_of input b)))) }
     // They are those of the blocks alone: of any line with the same blocks.
-    ensures alone { IfOk result (λ _. (b : List ℕ) (bs : List (List (List Bool))) → Told (S.given source.old) (S.given source.new) b
+    ensures alone { IfOk result (λ _. (b : List ℕ) (bs : List (List (List Bool)))
+        → Told (S.given source.old) (S.given source.new) b
         → blocks (cells_of input b) ≡ bs → Grew (T.taken sink.old) (T.taken sink.new) (samples bs)) }
     // What `normalise` writes of cells gives the samples of the cells.
-    ensures normal { IfOk result (λ _. (c : List Level) → Told (S.given source.old) (S.given source.new) (written input (normal c))
+    ensures normal { IfOk result (λ _. (c : List Level)
+        → Told (S.given source.old) (S.given source.new) (written input (normal c))
         → Grew (T.taken sink.old) (T.taken sink.new) (samples (blocks c))) }
     // What `encode` writes of blocks gives their samples.
-    ensures back { IfOk result (λ _. (bs : List (List (List Bool))) → All IsBlock bs → Told (S.given source.old) (S.given source.new) (written_stream input bs)
+    ensures back { IfOk result (λ _. (bs : List (List (List Bool))) → All IsBlock bs
+        → Told (S.given source.old) (S.given source.new) (written_stream input bs)
         → Grew (T.taken sink.old) (T.taken sink.new) (samples bs)) }
-    // It is a run over cells: Ok is owed, a refusal has its cause, and what was decided before it is written.
-    ensures run { CellRun max_bytes input (λ c. samples (blocks c)) (λ c. samples (decided_blocks c)) (counts_of input)
+    // It is a run over cells: Ok is owed, a refusal has its cause, and what was decided before it
+    // is written.
+    ensures run { CellRun max_bytes input (λ c. samples (blocks c))
+        (λ c. samples (decided_blocks c)) (counts_of input)
         (S.has_ended source.new) (movement_of S.given S.failed source.old source.new)
         (movement_of T.taken T.failed sink.old sink.new) result }
     ensures passed_on { IfOk result (λ _. T.passed sink.new ≡ T.taken sink.new) }

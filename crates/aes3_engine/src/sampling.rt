@@ -1,11 +1,14 @@
 //! Samples to a block file.
 
-ghost use Rattle.std.specs.Prelude.{◌≡◌, ◌≢◌, ℕ, ◌+◌, ◌-◌, ◌<◌, ◌≤◌, ◌^◌, ◌%◌, ◌⊎◌, List, Bool, true, None, Err, get_or, length, map, take, IfErr, IfOk, IfSome, IsOk, OnErr, IsTrue};
+ghost use Rattle.std.specs.Prelude.{◌≡◌, ◌≢◌, ℕ, ◌+◌, ◌-◌, ◌<◌, ◌≤◌, ◌^◌, ◌%◌, ◌⊎◌, List, Bool};
+ghost use Rattle.std.specs.Prelude.{true, None, Err, get_or, length, map, take, IfErr, IfOk};
+ghost use Rattle.std.specs.Prelude.{IfSome, IsOk, OnErr, IsTrue};
 ghost use Rattle.aes3_cell.specs.Ends.{Grew, GrewFront, Told};
 ghost use Rattle.aes3_block.specs.Files.{block_bytes, words_of};
 ghost use Rattle.aes3_block.specs.Sampled.{payload_of_sample};
 ghost use Rattle.aes3_engine.specs.Rewriting.{rewritten};
-ghost use Rattle.aes3_engine.specs.Sampling.{IsPcm, IsPcmCause, Samples, WholePcm, begun_pcm, pcm_counts, pcm_file, sampling};
+ghost use Rattle.aes3_engine.specs.Sampling.{IsPcm, IsPcmCause, Samples, WholePcm, begun_pcm};
+ghost use Rattle.aes3_engine.specs.Sampling.{pcm_counts, pcm_file, sampling};
 
 use crate::change::Change;
 use crate::conversion::{Input, convert};
@@ -24,16 +27,18 @@ struct SampleInput {
     begun: [u8; BLOCK_BYTES],
 }
 
-/// Where in a piece that begins at byte `at` of a block a sample's lowest byte first isn't zero; looked for only where it is
-/// refused.
+/// Where in a piece that begins at byte `at` of a block a sample's lowest byte first isn't zero;
+/// looked for only where it is refused.
 fn low_bits_in(exact: bool, piece: &[u8], at: usize) -> Option<usize>
     requires { at + length piece.now ≤ BLOCK_BYTES }
-    ensures none { result ≡ None → exact ≡ true → (i : ℕ) → (at + i) % 4 ≡ 0 → get_or piece.now i 0 ≡ 0 }
+    ensures none { result ≡ None → exact ≡ true → (i : ℕ) → (at + i) % 4 ≡ 0
+        → get_or piece.now i 0 ≡ 0 }
     ensures asked { IfSome result (λ _. exact ≡ true) }
     ensures within { IfSome result (λ i. i < length piece.now) }
     ensures lowest { IfSome result (λ i. (at + i) % 4 ≡ 0) }
     ensures some { IfSome result (λ i. get_or piece.now i 0 ≢ 0) }
-    ensures first { IfSome result (λ i. (j : ℕ) → j < i → (at + j) % 4 ≡ 0 → get_or piece.now j 0 ≡ 0) }
+    ensures first { IfSome result (λ i. (j : ℕ) → j < i → (at + j) % 4 ≡ 0
+        → get_or piece.now j 0 ≡ 0) }
 {
     if !exact {
         return None;
@@ -53,10 +58,12 @@ fn put_samples<T: Sink>(
     sink: &mut T,
 ) -> Result<(), Fault>
     requires room { T.failed sink.old + 1 < 2 ^ 64 }
-    ensures bytes { IfOk result (λ _. Grew (T.taken sink.old) (T.taken sink.new) (block_bytes (rewritten change.now (map payload_of_sample (words_of samples.now))))) }
+    ensures bytes { IfOk result (λ _. Grew (T.taken sink.old) (T.taken sink.new)
+        (block_bytes (rewritten change.now (map payload_of_sample (words_of samples.now))))) }
     ensures count { IfOk result (λ _. T.failed sink.new ≡ T.failed sink.old) }
     ensures err { OnErr result ((T.failed sink.new ≡ T.failed sink.old + 1)
-        × GrewFront (T.taken sink.old) (T.taken sink.new) (block_bytes (rewritten change.now (map payload_of_sample (words_of samples.now))))) }
+        × GrewFront (T.taken sink.old) (T.taken sink.new)
+        (block_bytes (rewritten change.now (map payload_of_sample (words_of samples.now))))) }
 {
     let mut block = Block::of_samples(samples);
     rewrite_block(&mut block, change);
@@ -127,14 +134,16 @@ impl SampleInput {
     }
 }
 
-/// Writes a block file of samples, each word of 32 bits with the lowest byte first, channel 1 and then channel 2 of each
-/// frame: the audio of a subframe is the highest 24 bits of its word (AES3-1, IEC 60958-1), V and U are 0. Channel status is
-/// what `change` makes of zeros, in each block. Behind the last sample the block is filled up with samples that are zero.
+/// Writes a block file of samples, each word of 32 bits with the lowest byte first, channel 1 and
+/// then channel 2 of each frame: the audio of a subframe is the highest 24 bits of its word
+/// (AES3-1, IEC 60958-1), V and U are 0. Channel status is what `change` makes of zeros, in each
+/// block. Behind the last sample the block is filled up with samples that are zero.
 ///
 /// # Errors
-/// `BadLength` where the input ends inside a frame, `BadSample` where `exact` is set and one of the lowest 8 bits of a word is
-/// too, `TooLong` where it has more than `max_bytes` bytes, `Read` and `Write` where an end failed. Then the blocks that were
-/// whole before are written, and after `Write` a front of the output.
+/// `BadLength` where the input ends inside a frame, `BadSample` where `exact` is set and one of the
+/// lowest 8 bits of a word is too, `TooLong` where it has more than `max_bytes` bytes, `Read` and
+/// `Write` where an end failed. Then the blocks that were whole before are written, and after
+/// `Write` a front of the output.
 pub fn from_pcm<S: Source, T: Sink>(
     source: &mut S,
     sink: &mut T,
@@ -146,32 +155,47 @@ pub fn from_pcm<S: Source, T: Sink>(
     requires sink_room { T.failed sink.old + 1 < 2 ^ 64 }
     requires limit { max_bytes ≤ 2 ^ 40 }
 
-    // Where it answers Ok, the block file of the samples is written, filled up with zero samples to whole blocks.
+    // Where it answers Ok, the block file of the samples is written, filled up with zero samples to
+    // whole blocks.
     ensures file { IfOk result (λ _. (b : List ℕ) → Told (S.given source.old) (S.given source.new) b
         → Grew (T.taken sink.old) (T.taken sink.new) (pcm_file change.now b)) }
-    ensures samples { IfOk result (λ _. (b : List ℕ) → Told (S.given source.old) (S.given source.new) b → IsPcm exact b) }
-    ensures counts { IfOk result (λ counts. (b : List ℕ) → Told (S.given source.old) (S.given source.new) b → counts ≡ pcm_counts b) }
-    ensures fits { IfOk result (λ _. (b : List ℕ) → Told (S.given source.old) (S.given source.new) b → length b ≤ max_bytes) }
+    ensures samples { IfOk result (λ _. (b : List ℕ)
+        → Told (S.given source.old) (S.given source.new) b → IsPcm exact b) }
+    ensures counts { IfOk result (λ counts. (b : List ℕ)
+        → Told (S.given source.old) (S.given source.new) b → counts ≡ pcm_counts b) }
+    ensures fits { IfOk result (λ _. (b : List ℕ) → Told (S.given source.old) (S.given source.new) b
+        → length b ≤ max_bytes) }
     ensures ended { IfOk result (λ _. IsTrue (S.has_ended source.new)) }
-    ensures quiet { IfOk result (λ _. (S.failed source.new ≡ S.failed source.old) × (T.failed sink.new ≡ T.failed sink.old)) }
+    ensures quiet { IfOk result (λ _. (S.failed source.new ≡ S.failed source.old)
+        × (T.failed sink.new ≡ T.failed sink.old)) }
     ensures passed_on { IfOk result (λ _. T.passed sink.new ≡ T.taken sink.new) }
 
-    // It owes Ok where the input is whole frames, of 24 bits where that is asked, and fits, and neither end failed.
-    ensures owed { (b : List ℕ) → Told (S.given source.old) (S.given source.new) b → IsPcm exact b → length b ≤ max_bytes
-        → S.failed source.new ≡ S.failed source.old → T.failed sink.new ≡ T.failed sink.old → IsOk result }
+    // It owes Ok where the input is whole frames, of 24 bits where that is asked, and fits, and
+    // neither end failed.
+    ensures owed { (b : List ℕ) → Told (S.given source.old) (S.given source.new) b → IsPcm exact b
+        → length b ≤ max_bytes
+        → S.failed source.new ≡ S.failed source.old → T.failed sink.new ≡ T.failed sink.old
+        → IsOk result }
 
     // A refusal has its cause, and what was whole before it is written.
-    ensures cause { IfErr result (λ error. (b : List ℕ) → Told (S.given source.old) (S.given source.new) b
+    ensures cause { IfErr result (λ error. (b : List ℕ)
+        → Told (S.given source.old) (S.given source.new) b
         → IsPcmCause exact max_bytes b (S.has_ended source.new) error) }
     ensures read { result ≡ Err RunError.Read → S.failed source.new ≡ S.failed source.old + 1 }
     ensures write { result ≡ Err RunError.Write → T.failed sink.new ≡ T.failed sink.old + 1 }
     ensures sink_quiet { result ≢ Err RunError.Write → T.failed sink.new ≡ T.failed sink.old }
-    ensures refused { OnErr result (result ≢ Err RunError.Write → (b : List ℕ) → Told (S.given source.old) (S.given source.new) b
-        → Grew (T.taken sink.old) (T.taken sink.new) (begun_pcm exact change.now (take max_bytes b))) }
-    ensures front { result ≡ Err RunError.Write → (b : List ℕ) → Told (S.given source.old) (S.given source.new) b
-        → GrewFront (T.taken sink.old) (T.taken sink.new) (begun_pcm exact change.now (take max_bytes b))
-        ⊎ (WholePcm max_bytes exact b (S.has_ended source.new) × GrewFront (T.taken sink.old) (T.taken sink.new) (pcm_file change.now b)) }
-    ensures few { (b : List ℕ) → Told (S.given source.old) (S.given source.new) b → length b ≤ max_bytes + 1 }
+    ensures refused { OnErr result (result ≢ Err RunError.Write → (b : List ℕ)
+        → Told (S.given source.old) (S.given source.new) b
+        → Grew (T.taken sink.old) (T.taken sink.new)
+        (begun_pcm exact change.now (take max_bytes b))) }
+    ensures front { result ≡ Err RunError.Write → (b : List ℕ)
+        → Told (S.given source.old) (S.given source.new) b
+        → GrewFront (T.taken sink.old) (T.taken sink.new)
+        (begun_pcm exact change.now (take max_bytes b))
+        ⊎ (WholePcm max_bytes exact b (S.has_ended source.new)
+        × GrewFront (T.taken sink.old) (T.taken sink.new) (pcm_file change.now b)) }
+    ensures few { (b : List ℕ) → Told (S.given source.old) (S.given source.new) b
+        → length b ≤ max_bytes + 1 }
 {
     let mut input = SampleInput {
         exact,

@@ -1,6 +1,7 @@
 //! Takers of cells.
 
-ghost use Rattle.std.specs.Prelude.{◌≡◌, ◌+◌, ◌*◌, ◌<◌, ◌≤◌, ◌^◌, ◌++◌, List, [], ◌∷◌, length, IfOk, OnErr};
+ghost use Rattle.std.specs.Prelude.{◌≡◌, ◌+◌, ◌*◌, ◌<◌, ◌≤◌, ◌^◌, ◌++◌, List, [], ◌∷◌, length};
+ghost use Rattle.std.specs.Prelude.{IfOk, OnErr};
 ghost use Rattle.std.specs.List.{flat_map};
 ghost use Rattle.aes3_cell.specs.declared.level.Level.{Level};
 ghost use Rattle.aes3_cell.specs.Ends.{Grew, GrewFront};
@@ -13,8 +14,8 @@ use aes3_cell::{Fault, Level, Sink};
 
 /// Takes the cells of an input, in runs of words or in one word with fewer cells, and their end.
 ///
-/// The contract speaks of the cells that it has taken (`follows`), of what cells write (`writes`), and of what holds after
-/// the end (`finished`). After a fault or the end it follows none.
+/// The contract speaks of the cells that it has taken (`follows`), of what cells write (`writes`),
+/// and of what holds after the end (`finished`). After a fault or the end it follows none.
 pub trait Taker {
     ghost follows: { Self → List Level → Type 0 };
 
@@ -22,7 +23,8 @@ pub trait Taker {
 
     ghost finished: { Self → List Level → Type 0 };
 
-    /// Takes at least one more cell and at most `len`, the first in the lowest bit of `word`, and answers how many it took.
+    /// Takes at least one more cell and at most `len`, the first in the lowest bit of `word`, and
+    /// answers how many it took.
     ///
     /// # Errors
     /// The sink's fault; then it has taken a front of what `len` cells write.
@@ -31,7 +33,8 @@ pub trait Taker {
         requires few { len ≤ 64 }
         requires room { T.failed sink.old + 1 < 2 ^ 64 }
         requires following { (c : List Level) × (length c + len ≤ 2 ^ 43) × follows self.old c }
-        ensures ran { FirstCellsRan (writes self.old) (writes self.new) (follows self.old) (follows self.new) len word
+        ensures ran { FirstCellsRan (writes self.old) (writes self.new) (follows self.old)
+            (follows self.new) len word
             (movement_of T.taken T.failed sink.old sink.new) result };
 
     /// Takes the end of the cells.
@@ -41,11 +44,14 @@ pub trait Taker {
     fn finish<T: Sink>(&mut self, sink: &mut T) -> Result<(), Fault>
         requires room { T.failed sink.old + 1 < 2 ^ 64 }
         requires following { (c : List Level) × (length c ≤ 2 ^ 43) × follows self.old c }
-        ensures done { IfOk result (λ _. (c : List Level) → follows self.old c → finished self.new c) }
-        ensures grew { IfOk result (λ _. (c : List Level) → follows self.old c → Grew (T.taken sink.old) (T.taken sink.new) ((writes self.old).ends c)) }
+        ensures done { IfOk result (λ _. (c : List Level) → follows self.old c
+            → finished self.new c) }
+        ensures grew { IfOk result (λ _. (c : List Level) → follows self.old c
+            → Grew (T.taken sink.old) (T.taken sink.new) ((writes self.old).ends c)) }
         ensures count { IfOk result (λ _. T.failed sink.new ≡ T.failed sink.old) }
         ensures err_count { OnErr result (T.failed sink.new ≡ T.failed sink.old + 1) }
-        ensures err_grew { OnErr result ((c : List Level) → follows self.old c → GrewFront (T.taken sink.old) (T.taken sink.new) ((writes self.old).ends c)) };
+        ensures err_grew { OnErr result ((c : List Level) → follows self.old c
+            → GrewFront (T.taken sink.old) (T.taken sink.new) ((writes self.old).ends c)) };
 
     /// Takes `len` more cells, the first in the lowest bit of `word`.
     ///
@@ -55,7 +61,8 @@ pub trait Taker {
         requires few { len ≤ 64 }
         requires room { T.failed sink.old + 1 < 2 ^ 64 }
         requires following { (c : List Level) × (length c + len ≤ 2 ^ 43) × follows self.old c }
-        ensures ran { CellsRan (writes self.old) (writes self.new) (follows self.old) (follows self.new) (low_cells len word)
+        ensures ran { CellsRan (writes self.old) (writes self.new) (follows self.old)
+            (follows self.new) (low_cells len word)
             (movement_of T.taken T.failed sink.old sink.new) result }
     {
         let mut taken = 0;
@@ -74,8 +81,10 @@ pub trait Taker {
     /// The sink's fault; then it has taken a front of what the cells write.
     fn words<T: Sink>(&mut self, sink: &mut T, words: &[u64]) -> Result<(), Fault>
         requires room { T.failed sink.old + 1 < 2 ^ 64 }
-        requires following { (c : List Level) × (length c + 64 * length words.now ≤ 2 ^ 43) × follows self.old c }
-        ensures ran { CellsRan (writes self.old) (writes self.new) (follows self.old) (follows self.new) (flat_map word_cells words.now)
+        requires following { (c : List Level) × (length c + 64 * length words.now ≤ 2 ^ 43)
+            × follows self.old c }
+        ensures ran { CellsRan (writes self.old) (writes self.new) (follows self.old)
+            (follows self.new) (flat_map word_cells words.now)
             (movement_of T.taken T.failed sink.old sink.new) result }
     {
         for word in words.iter() {
@@ -94,12 +103,15 @@ pub trait Taker {
     fn cell<T: Sink>(&mut self, sink: &mut T, level: Level) -> Result<(), Fault>
         requires room { T.failed sink.old + 1 < 2 ^ 64 }
         requires following { (c : List Level) × (length c + 1 ≤ 2 ^ 43) × follows self.old c }
-        ensures next { IfOk result (λ _. (c : List Level) → follows self.old c → follows self.new (c ++ level ∷ [])) }
+        ensures next { IfOk result (λ _. (c : List Level) → follows self.old c
+            → follows self.new (c ++ level ∷ [])) }
         ensures same { IfOk result (λ _. writes self.new ≡ writes self.old) }
-        ensures grew { IfOk result (λ _. (c : List Level) → follows self.old c → Grew (T.taken sink.old) (T.taken sink.new) ((writes self.old).adds c level)) }
+        ensures grew { IfOk result (λ _. (c : List Level) → follows self.old c
+            → Grew (T.taken sink.old) (T.taken sink.new) ((writes self.old).adds c level)) }
         ensures count { IfOk result (λ _. T.failed sink.new ≡ T.failed sink.old) }
         ensures err_count { OnErr result (T.failed sink.new ≡ T.failed sink.old + 1) }
-        ensures err_grew { OnErr result ((c : List Level) → follows self.old c → GrewFront (T.taken sink.old) (T.taken sink.new) ((writes self.old).adds c level)) }
+        ensures err_grew { OnErr result ((c : List Level) → follows self.old c
+            → GrewFront (T.taken sink.old) (T.taken sink.new) ((writes self.old).adds c level)) }
     {
         self.cells(sink, word_of_cell(level), 1)
     }
@@ -111,7 +123,8 @@ pub trait Taker {
     fn word<T: Sink>(&mut self, sink: &mut T, word: u64) -> Result<(), Fault>
         requires room { T.failed sink.old + 1 < 2 ^ 64 }
         requires following { (c : List Level) × (length c + 64 ≤ 2 ^ 43) × follows self.old c }
-        ensures ran { CellsRan (writes self.old) (writes self.new) (follows self.old) (follows self.new) (word_cells word)
+        ensures ran { CellsRan (writes self.old) (writes self.new) (follows self.old)
+            (follows self.new) (word_cells word)
             (movement_of T.taken T.failed sink.old sink.new) result }
     {
         self.cells(sink, word, u64::BITS)

@@ -30,7 +30,8 @@ impl Tally {
     /// Counts a report.
     pub fn count(&mut self, report: &Report)
         requires { (r : List Report) × (length r + 1 < 2 ^ 44) × IsTallyOf self.old r }
-        ensures { (r : List Report) → IsTallyOf self.old r → IsTallyOf self.new (r ++ report.now ∷ []) }
+        ensures { (r : List Report) → IsTallyOf self.old r
+            → IsTallyOf self.new (r ++ report.now ∷ []) }
     {
         match report {
             Report::Whole { .. } => self.blocks += 1,
@@ -43,7 +44,8 @@ impl Tally {
     /// Counts the report of an ending that a lock has just answered.
     pub fn count_ending(&mut self, lock: &Lock, ending: Ending)
         requires { (r : List Report) × (length r + 1 < 2 ^ 44) × IsTallyOf self.old r }
-        ensures { (r : List Report) → IsTallyOf self.old r → IsTallyOf self.new (r ++ report_in lock.now ending ∷ []) }
+        ensures { (r : List Report) → IsTallyOf self.old r
+            → IsTallyOf self.new (r ++ report_in lock.now ending ∷ []) }
     {
         match ending {
             Ending::Whole { .. } => self.blocks += 1,

@@ -1,6 +1,8 @@
 //! Cell text as an input.
 
-ghost use Rattle.std.specs.Prelude.{◌≡◌, ℕ, ◌+◌, ◌<◌, ◌≤◌, ◌^◌, ◌++◌, List, [], ◌∷◌, length, map, take, slice_index, Err, IfOk, IfErr, OnErr, IfSome, OnSome, IfNone, IsTrue, ◌↔◌};
+ghost use Rattle.std.specs.Prelude.{◌≡◌, ℕ, ◌+◌, ◌<◌, ◌≤◌, ◌^◌, ◌++◌, List, [], ◌∷◌, length, map};
+ghost use Rattle.std.specs.Prelude.{take, slice_index, Err, IfOk, IfErr, OnErr, IfSome, OnSome};
+ghost use Rattle.std.specs.Prelude.{IfNone, IsTrue, ◌↔◌};
 ghost use Rattle.std.specs.List.{flat_map};
 ghost use Rattle.aes3_cell.specs.CellText.{byte_cells, cells_of_text, kind_of, separator};
 ghost use Rattle.aes3_cell.specs.Text.{byte_of};
@@ -82,12 +84,13 @@ fn feed_front(text: &mut CellText, piece: &[u8]) -> Option<u64>
     }
 }
 
-/// Takes the 64 cells that a piece begins with as a word, where it begins with so many, and the separators behind them.
-/// Answers how many bytes these are, and the word.
+/// Takes the 64 cells that a piece begins with as a word, where it begins with so many, and the
+/// separators behind them. Answers how many bytes these are, and the word.
 fn feed_line(text: &mut CellText, piece: &[u8]) -> Option<(usize, u64)>
     requires { text.old.seen + length piece.now ≤ 2 ^ 40 }
     ensures within { IfSome result (λ line. (64 ≤ line.0) × (line.0 ≤ length piece.now)) }
-    ensures read { IfSome result (λ line. TextRead text.old text.new (take line.0 piece.now) (word_cells line.1)) }
+    ensures read { IfSome result (λ line. TextRead text.old text.new (take line.0 piece.now)
+        (word_cells line.1)) }
     ensures none { IfNone result (text.new ≡ text.old) }
 {
     match feed_front(text, piece) {
@@ -99,14 +102,16 @@ fn feed_line(text: &mut CellText, piece: &[u8]) -> Option<(usize, u64)>
     }
 }
 
-/// Takes the lines of 64 cells that a piece begins with, with what separators there are behind each, as many as there are
-/// and as make words; answers how many bytes and how many words these are.
+/// Takes the lines of 64 cells that a piece begins with, with what separators there are behind
+/// each, as many as there are and as make words; answers how many bytes and how many words these
+/// are.
 fn feed_any_lines(text: &mut CellText, piece: &[u8], words: &mut [u64; LINES]) -> (usize, usize)
     requires { text.old.seen + length piece.now ≤ 2 ^ 40 }
     ensures within { result.0 ≤ length piece.now }
     ensures few { result.1 ≤ 64 }
     ensures len { length words.new ≡ 64 }
-    ensures read { TextRead text.old text.new (take result.0 piece.now) (flat_map word_cells (take result.1 words.new)) }
+    ensures read { TextRead text.old text.new (take result.0 piece.now)
+        (flat_map word_cells (take result.1 words.new)) }
     ensures none { result.0 ≡ 0 → text.new ≡ text.old }
 {
     let mut at = 0;
@@ -122,14 +127,16 @@ fn feed_any_lines(text: &mut CellText, piece: &[u8], words: &mut [u64; LINES]) -
     (at, LINES)
 }
 
-/// Takes the lines of 64 cells that a piece begins with: those that end with one line feed, if there are such, else those
-/// with what separators there are behind each. Answers how many bytes and how many words these are.
+/// Takes the lines of 64 cells that a piece begins with: those that end with one line feed, if
+/// there are such, else those with what separators there are behind each. Answers how many bytes
+/// and how many words these are.
 fn feed_lines(text: &mut CellText, piece: &[u8], words: &mut [u64; LINES]) -> (usize, usize)
     requires { text.old.seen + length piece.now ≤ 2 ^ 40 }
     ensures within { result.0 ≤ length piece.now }
     ensures few { result.1 ≤ 64 }
     ensures len { length words.new ≡ 64 }
-    ensures read { TextRead text.old text.new (take result.0 piece.now) (flat_map word_cells (take result.1 words.new)) }
+    ensures read { TextRead text.old text.new (take result.0 piece.now)
+        (flat_map word_cells (take result.1 words.new)) }
     ensures none { result.0 ≡ 0 → text.new ≡ text.old }
 {
     let count = text.feed_lines(piece, words);
@@ -152,7 +159,8 @@ fn with_byte(text: &mut CellText, cells: SomeCells, byte: u8) -> Result<SomeCell
     requires few { cells.len < 64 }
     requires bound { cells.word < 2 ^ cells.len }
     ensures read { IfOk result (λ _. TextRead text.old text.new (byte ∷ []) (byte_cells byte)) }
-    ensures cells { IfOk result (λ more. low_cells more.len more.word ≡ low_cells cells.len cells.word ++ byte_cells byte) }
+    ensures cells { IfOk result (λ more. low_cells more.len more.word
+        ≡ low_cells cells.len cells.word ++ byte_cells byte) }
     ensures few { IfOk result (λ more. more.len ≤ 64) }
     ensures bound { IfOk result (λ more. more.word < 2 ^ more.len) }
     ensures fault { IfErr result (λ fault. Err fault ≡ text_answer text.old byte) }
@@ -176,8 +184,9 @@ fn is_line(text: &[u8]) -> bool {
     }
 }
 
-/// Whether a line of 64 cells begins at a place of a piece: a line feed stands before it, and a separator behind it. No
-/// promise rests on it: where cells are gathered only up to there, the lines behind are met at their beginning.
+/// Whether a line of 64 cells begins at a place of a piece: a line feed stands before it, and a
+/// separator behind it. No promise rests on it: where cells are gathered only up to there, the
+/// lines behind are met at their beginning.
 fn begins_line(piece: &[u8], at: usize) -> bool
     requires some { 0 < at }
     requires within { at ≤ length piece.now }
@@ -188,15 +197,17 @@ fn begins_line(piece: &[u8], at: usize) -> bool
         && is_line(&piece[at..])
 }
 
-/// Takes the bytes that a piece begins with, until they have 64 cells, a line of so many begins, or a byte is neither
-/// a cell nor a separator. Answers how many bytes these are, and their cells.
+/// Takes the bytes that a piece begins with, until they have 64 cells, a line of so many begins, or
+/// a byte is neither a cell nor a separator. Answers how many bytes these are, and their cells.
 fn feed_some(text: &mut CellText, piece: &[u8]) -> Result<(usize, SomeCells), BadCell>
     requires some { 0 < length piece.now }
     requires room { text.old.seen + length piece.now ≤ 2 ^ 40 }
     ensures within { IfOk result (λ taken. (0 < taken.0) × (taken.0 ≤ length piece.now)) }
     ensures few { IfOk result (λ taken. taken.1.len ≤ 64) }
-    ensures read { IfOk result (λ taken. TextRead text.old text.new (take taken.0 piece.now) (low_cells taken.1.len taken.1.word)) }
-    ensures fault { IfErr result (λ fault. Err fault ≡ text_answer text.old (slice_index piece.now 0)) }
+    ensures read { IfOk result (λ taken. TextRead text.old text.new (take taken.0 piece.now)
+        (low_cells taken.1.len taken.1.word)) }
+    ensures fault { IfErr result (λ fault. Err fault
+        ≡ text_answer text.old (slice_index piece.now 0)) }
     ensures same { OnErr result (text.new ≡ text.old) }
 {
     let mut cells = match with_byte(text, SomeCells { word: 0, len: 0 }, piece[0]) {
@@ -216,15 +227,17 @@ fn feed_some(text: &mut CellText, piece: &[u8]) -> Result<(usize, SomeCells), Ba
     Ok((at, cells))
 }
 
-/// Takes the 64 cells or fewer that a piece begins with, whatever separators stand between them, and those behind them.
-/// Answers how many bytes these are, and the cells.
+/// Takes the 64 cells or fewer that a piece begins with, whatever separators stand between them,
+/// and those behind them. Answers how many bytes these are, and the cells.
 fn feed_cells(text: &mut CellText, piece: &[u8]) -> Result<(usize, SomeCells), BadCell>
     requires some { 0 < length piece.now }
     requires room { text.old.seen + length piece.now ≤ 2 ^ 40 }
     ensures within { IfOk result (λ taken. (0 < taken.0) × (taken.0 ≤ length piece.now)) }
     ensures few { IfOk result (λ taken. taken.1.len ≤ 64) }
-    ensures read { IfOk result (λ taken. TextRead text.old text.new (take taken.0 piece.now) (low_cells taken.1.len taken.1.word)) }
-    ensures fault { IfErr result (λ fault. Err fault ≡ text_answer text.old (slice_index piece.now 0)) }
+    ensures read { IfOk result (λ taken. TextRead text.old text.new (take taken.0 piece.now)
+        (low_cells taken.1.len taken.1.word)) }
+    ensures fault { IfErr result (λ fault. Err fault
+        ≡ text_answer text.old (slice_index piece.now 0)) }
     ensures same { OnErr result (text.new ≡ text.old) }
 {
     match feed_some(text, piece) {
@@ -245,9 +258,12 @@ fn take_cells<T: Sink, K: Taker>(
 ) -> Result<usize, RunError>
     requires some { 0 < length piece.now }
     requires room { T.failed sink.old + 1 < 2 ^ 64 }
-    requires following { (b : List ℕ) × (length b + length piece.now ≤ 2 ^ 40) × TextTaken input.old.text input.old.cells (K.follows taker.old) b }
+    requires following { (b : List ℕ) × (length b + length piece.now ≤ 2 ^ 40)
+        × TextTaken input.old.text input.old.cells (K.follows taker.old) b }
     ensures { FrontRan (text_reading (K.writes taker.old)) (text_reading (K.writes taker.new))
-        (TextTaken input.old.text input.old.cells (K.follows taker.old)) (TextTaken input.new.text input.new.cells (K.follows taker.new)) (λ b. K.follows taker.new (cells_of_text b)) piece.now
+        (TextTaken input.old.text input.old.cells (K.follows taker.old))
+        (TextTaken input.new.text input.new.cells (K.follows taker.new))
+        (λ b. K.follows taker.new (cells_of_text b)) piece.now
         (movement_of T.taken T.failed sink.old sink.new) result }
 {
     match feed_cells(&mut input.text, piece) {
@@ -273,7 +289,8 @@ pub(crate) fn drive_text<S: Source, T: Sink, K: Taker>(
     requires sink_room { T.failed sink.old + 1 < 2 ^ 64 }
     requires limit { max_bytes ≤ 2 ^ 40 }
     requires start { K.follows taker.old [] }
-    ensures ran { Drive max_bytes Form.Text (K.writes taker.old) (K.follows taker.new) (K.finished taker.new) (S.has_ended source.new)
+    ensures ran { Drive max_bytes Form.Text (K.writes taker.old) (K.follows taker.new)
+        (K.finished taker.new) (S.has_ended source.new)
         (movement_of S.given S.failed source.old source.new)
         (movement_of T.taken T.failed sink.old sink.new) result }
     ensures passed_on { IfOk result (λ _. T.passed sink.new ≡ T.taken sink.new) }

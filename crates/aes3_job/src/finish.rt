@@ -16,7 +16,8 @@ fn flushed<T: Sink>(error: RunError, sink: &mut T) -> RunError
     requires room { error ≢ RunError.Write → T.failed sink.old + 1 < 2 ^ 64 }
     ensures told { Flushed error
         (movement_of T.taken T.failed sink.old sink.new) result }
-    ensures passed_on { T.failed sink.new ≡ T.failed sink.old → error ≢ RunError.Write → T.passed sink.new ≡ T.taken sink.new }
+    ensures passed_on { T.failed sink.new ≡ T.failed sink.old → error ≢ RunError.Write
+        → T.passed sink.new ≡ T.taken sink.new }
 {
     match error {
         RunError::Write => error,
@@ -44,7 +45,8 @@ pub fn finish_job<S: Source, T: Sink, E: Sink, O: Observer>(
         (movement_of S.given S.failed source.old source.new)
         (movement_of T.taken T.failed sink.old sink.new)
         (movement_of E.taken E.failed errors.old errors.new) result }
-    ensures passed_on { T.failed sink.new ≡ T.failed sink.old → T.passed sink.new ≡ T.taken sink.new }
+    ensures passed_on { T.failed sink.new ≡ T.failed sink.old
+        → T.passed sink.new ≡ T.taken sink.new }
     ensures errors { E.failed errors.new ≤ E.failed errors.old + 1 }
 {
     observer.begins(job);

@@ -40,7 +40,8 @@ pub fn run_job<S: Source, T: Sink>(
 ) -> Result<Counts, RunError>
     requires source_room { S.failed source.old + 1 < 2 ^ 64 }
     requires sink_room { T.failed sink.old + 1 < 2 ^ 64 }
-    ensures ran { RunRan job.now (S.has_ended source.new) (movement_of S.given S.failed source.old source.new)
+    ensures ran { RunRan job.now (S.has_ended source.new)
+        (movement_of S.given S.failed source.old source.new)
         (movement_of T.taken T.failed sink.old sink.new) result }
     ensures passed_on { IfOk result (λ _. T.passed sink.new ≡ T.taken sink.new) }
 {

@@ -71,7 +71,8 @@ pub fn put_refusal<T: Sink>(error: RunError, sink: &mut T) -> Result<(), Fault>
 pub fn refuse<E: Sink, O: Observer>(error: RunError, errors: &mut E, observer: &mut O) -> u8
     requires { E.failed errors.old + 1 < 2 ^ 64 }
     ensures status { result ≡ 3 }
-    ensures line { E.failed errors.new ≡ E.failed errors.old → Grew (E.taken errors.old) (E.taken errors.new) (refusal_line error) }
+    ensures line { E.failed errors.new ≡ E.failed errors.old
+        → Grew (E.taken errors.old) (E.taken errors.new) (refusal_line error) }
     ensures errors { E.failed errors.new ≤ E.failed errors.old + 1 }
 {
     let _ = put_refusal(error, errors);

@@ -1,6 +1,7 @@
 //! Eight subframes at once, each as the word of its 64 cells, the first in the lowest bit.
 
-ghost use Rattle.std.specs.Prelude.{◌≡◌, ℕ, ◌+◌, ◌-◌, ◌<◌, ◌≤◌, ◌^◌, ◌++◌, true, get_or, length, slice_index_or, take};
+ghost use Rattle.std.specs.Prelude.{◌≡◌, ℕ, ◌+◌, ◌-◌, ◌<◌, ◌≤◌, ◌^◌, ◌++◌, true, get_or, length};
+ghost use Rattle.std.specs.Prelude.{slice_index_or, take};
 ghost use Rattle.aes3_cell.specs.Words.{low_cells, word_cells};
 ghost use Rattle.aes3_slot.specs.Fronts.{IsFrontOf};
 ghost use Rattle.aes3_slot.specs.Rules.{at};
@@ -14,11 +15,12 @@ use aes3_cell::Level;
 use aes3_slot::wrong_cells_of_eight;
 use std::simd::prelude::*;
 
-/// The cells with which the eight subframes begin that eight words make whole: the `len` cells of `begun`, and the last `len`
-/// of each word but the last.
+/// The cells with which the eight subframes begin that eight words make whole: the `len` cells of
+/// `begun`, and the last `len` of each word but the last.
 fn fronts_of(begun: u64, len: u64, words: u64x8) -> [u64; 8]
     requires { len < 64 }
-    ensures cells { (i : ℕ) → i < 8 → low_cells len (get_or result i 0) ≡ begun_before len begun words i }
+    ensures cells { (i : ℕ) → i < 8 → low_cells len (get_or result i 0)
+        ≡ begun_before len begun words i }
     ensures few { begun < 2 ^ len → (i : ℕ) → i < 8 → get_or result i 0 < 2 ^ len }
 {
     let rests = words >> u64x8::splat(1) >> u64x8::splat(63 - len);
@@ -27,12 +29,13 @@ fn fronts_of(begun: u64, len: u64, words: u64x8) -> [u64; 8]
     fronts
 }
 
-/// The subframes that eight words make whole: the first begins with the `len` cells of `begun`, each other one with the
-/// last `len` of the word before.
+/// The subframes that eight words make whole: the first begins with the `len` cells of `begun`,
+/// each other one with the last `len` of the word before.
 pub(crate) fn eight_completed(begun: u64, len: u64, words: &[u64; 8]) -> [u64; 8]
     requires { len < 64 }
     ensures { begun < 2 ^ len → (i : ℕ) → i < 8
-        → word_cells (get_or result i 0) ≡ begun_before len begun words.now i ++ take (64 - len) (word_cells (get_or words.now i 0)) }
+        → word_cells (get_or result i 0) ≡ begun_before len begun words.now i
+        ++ take (64 - len) (word_cells (get_or words.now i 0)) }
 {
     let fronts = fronts_of(begun, len, u64x8::from_array(*words));
     let mut subframes = [0; 8];
@@ -45,7 +48,8 @@ pub(crate) fn eight_completed(begun: u64, len: u64, words: &[u64; 8]) -> [u64; 8
 /// Of each of eight subframes whether its last cell has another level than `level`: one, else zero.
 fn other_last(level: Level, cells: u64x8) -> u64x8
     ensures len { length result ≡ 8 }
-    ensures levels { (i : ℕ) → i < 8 → get_or result i 0 ≡ 0 → at (word_cells (slice_index_or cells i 0)) 63 ≡ level }
+    ensures levels { (i : ℕ) → i < 8 → get_or result i 0 ≡ 0
+        → at (word_cells (slice_index_or cells i 0)) 63 ≡ level }
 {
     match level {
         Level::Low => cells >> u64x8::splat(63),
@@ -53,14 +57,17 @@ fn other_last(level: Level, cells: u64x8) -> u64x8
     }
 }
 
-/// Whether these are subframes after the level `before` each of which ends with it again, as it does with right parity,
-/// with the preambles of a block's subframes from `slot` on.
+/// Whether these are subframes after the level `before` each of which ends with it again, as it
+/// does with right parity, with the preambles of a block's subframes from `slot` on.
 pub(crate) fn are_subframes(before: Level, slot: u64, cells: &[u64; 8]) -> bool
     requires some { 0 < slot }
     requires room { slot < 384 }
-    ensures fronts { result ≡ true → (i : ℕ) → i < 8 → IsFrontOf before (mark_at (slot + i)) (take 64 (word_cells (get_or cells.now i 0))) }
-    ensures levels { result ≡ true → (i : ℕ) → i < 8 → at (word_cells (get_or cells.now i 0)) 63 ≡ before }
-    ensures right { result ≡ true → (i : ℕ) → i < 8 → IsRight before (mark_at (slot + i)) (get_or cells.now i 0) }
+    ensures fronts { result ≡ true → (i : ℕ) → i < 8
+        → IsFrontOf before (mark_at (slot + i)) (take 64 (word_cells (get_or cells.now i 0))) }
+    ensures levels { result ≡ true → (i : ℕ) → i < 8
+        → at (word_cells (get_or cells.now i 0)) 63 ≡ before }
+    ensures right { result ≡ true → (i : ℕ) → i < 8
+        → IsRight before (mark_at (slot + i)) (get_or cells.now i 0) }
 {
     let cells = u64x8::from_array(*cells);
     let wrong = wrong_cells_of_eight(before, mark_of(slot), mark_of(slot + 1), cells);

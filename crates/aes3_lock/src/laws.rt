@@ -2,7 +2,15 @@
 
 pub mod spacing;
 
-ghost use Rattle.aes3_lock.specs.Laws.{CandidateWhereZStands, WholeWhereBlockStands, BlockTellsLevel, MarkedWhereSubframesStand, ViableIfEachKeeps, ViableIfFrontIsAll, FaultWhereViableEnds, FaultWhereUnclosed, FaultWithinBlock, UnfinishedWhereViable, DecidedAreFiltered, DecidedStand, ZStandsOnce, BlocksNeverOverlap, BlocksAreAllStanding, MarksAreAllStanding, MarksAreTrue, BlocksAreWhole, StreamGivesBlocks, StreamsDiffer, NormalIsFixed, NormalTellsBlocks};
+ghost use Rattle.aes3_lock.specs.Laws.{CandidateWhereZStands, WholeWhereBlockStands};
+ghost use Rattle.aes3_lock.specs.Laws.{BlockTellsLevel, MarkedWhereSubframesStand};
+ghost use Rattle.aes3_lock.specs.Laws.{ViableIfEachKeeps, ViableIfFrontIsAll, FaultWhereViableEnds};
+ghost use Rattle.aes3_lock.specs.Laws.{FaultWhereUnclosed, FaultWithinBlock, UnfinishedWhereViable};
+ghost use Rattle.aes3_lock.specs.Laws.{DecidedAreFiltered, DecidedStand, ZStandsOnce};
+ghost use Rattle.aes3_lock.specs.Laws.{BlocksNeverOverlap, BlocksAreAllStanding};
+ghost use Rattle.aes3_lock.specs.Laws.{MarksAreAllStanding, MarksAreTrue, BlocksAreWhole};
+ghost use Rattle.aes3_lock.specs.Laws.{StreamGivesBlocks, StreamsDiffer, NormalIsFixed};
+ghost use Rattle.aes3_lock.specs.Laws.{NormalTellsBlocks};
 
 mod damage;
 mod splitting;
@@ -19,47 +27,49 @@ pub fn candidate_where_z_stands()
     ensures { CandidateWhereZStands }
 {}
 
-/// A candidate is whole exactly where a block stands closed, and with that block and the level before it.
+/// A candidate is whole exactly where a block stands closed, and with that block and the level
+/// before it.
 pub fn whole_where_a_block_stands()
     ensures whole { WholeWhereBlockStands }
     ensures level { BlockTellsLevel }
 {}
 
-/// A candidate is marked exactly where the subframes of a block stand closed of which some have a wrong parity bit,
-/// and with their number.
+/// A candidate is marked exactly where the subframes of a block stand closed of which some have a
+/// wrong parity bit, and with their number.
 pub fn marked_where_subframes_stand()
     ensures { MarkedWhereSubframesStand }
 {}
 
-/// Cells begin the subframes of a block, with right parity bits or wrong ones, exactly if each of them keeps the rule
-/// of its place.
+/// Cells begin the subframes of a block, with right parity bits or wrong ones, exactly if each of
+/// them keeps the rule of its place.
 pub fn viable_if_each_cell_keeps_its_rule()
     ensures each { ViableIfEachKeeps }
     ensures front { ViableIfFrontIsAll }
 {}
 
-/// The fault of a candidate is the first cell with which its cells begin no block; it is the cell behind a block
-/// exactly where the subframes of a block stand that it does not close.
+/// The fault of a candidate is the first cell with which its cells begin no block; it is the cell
+/// behind a block exactly where the subframes of a block stand that it does not close.
 pub fn fault_where_no_block_begins()
     ensures first { FaultWhereViableEnds }
     ensures unclosed { FaultWhereUnclosed }
     ensures within { FaultWithinBlock }
 {}
 
-/// A candidate is unfinished exactly where all its cells begin a block and are too few for it, and with their number.
+/// A candidate is unfinished exactly where all its cells begin a block and are too few for it, and
+/// with their number.
 pub fn unfinished_where_cells_end()
     ensures { UnfinishedWhereViable }
 {}
 
-/// The decided reports are all but the unfinished one and that of a block which only the end closes; whatever cells
-/// follow, the reports begin with them.
+/// The decided reports are all but the unfinished one and that of a block which only the end
+/// closes; whatever cells follow, the reports begin with them.
 pub fn decided_reports_stand()
     ensures filtered { DecidedAreFiltered }
     ensures stand { DecidedStand }
 {}
 
-/// In cells that begin the subframes of a block, eight or more, preamble Z stands at their start and, in either
-/// polarity, nowhere else.
+/// In cells that begin the subframes of a block, eight or more, preamble Z stands at their start
+/// and, in either polarity, nowhere else.
 pub fn preamble_stands_once()
     ensures { ZStandsOnce }
 {}
@@ -89,13 +99,15 @@ pub fn blocks_are_whole()
     ensures { BlocksAreWhole }
 {}
 
-/// The blocks of a lawful stream are those that it was made of, so no two lists of blocks have one stream.
+/// The blocks of a lawful stream are those that it was made of, so no two lists of blocks have one
+/// stream.
 pub fn stream_gives_its_blocks()
     ensures blocks { StreamGivesBlocks }
     ensures differ { StreamsDiffer }
 {}
 
-/// A normal stream is its own normal stream, and cells have one normal stream exactly if they have the same blocks.
+/// A normal stream is its own normal stream, and cells have one normal stream exactly if they have
+/// the same blocks.
 pub fn normal_tells_the_blocks()
     ensures fixed { NormalIsFixed }
     ensures blocks { NormalTellsBlocks }

@@ -17,8 +17,8 @@ use std::marker::Model;
 
 /// Finds every block and every begun block in cells that come one by one, in fixed memory.
 ///
-/// A contract sees how many cells it has seen, the last eight, the candidate in hand, the cells of its last subframe that
-/// isn't whole, and words with the cells of its whole subframes.
+/// A contract sees how many cells it has seen, the last eight, the candidate in hand, the cells of
+/// its last subframe that isn't whole, and words with the cells of its whole subframes.
 #[derive(Drop)]
 pub struct Lock {
     seen: u64,
@@ -37,12 +37,21 @@ impl Model for Lock {
 
     ghost Value = { LockState };
 
-    ghost view = { λ k. record { seen = k.seen; recent = low_cells 8 k.recent; candidate = k.candidate; subframe = k.subframe; words = k.words } };
+    ghost view = { λ k. record {
+      seen = k.seen;
+      recent = low_cells 8 k.recent;
+      candidate = k.candidate;
+      subframe = k.subframe;
+      words = k.words;
+    } };
 
-    ghost invariant = { λ k. (ForSome k.candidate (λ t. t.at ≤ k.seen)) × (length k.words ≡ block_slots) };
+    ghost invariant = { λ k. (ForSome k.candidate (λ t. t.at ≤ k.seen))
+        × (length k.words ≡ block_slots) };
 }
 
-ghost use Rattle.std.specs.Prelude.{◌≡◌, ◌≢◌, ◌<◌, ◌≤◌, ◌+◌, ◌*◌, ◌%◌, ◌^◌, ◌&&◌, true, false, None, Some, List, [], ◌∷◌, ◌++◌, drop, get_or, length, nat_lt, option_map, option_to_list, take};
+ghost use Rattle.std.specs.Prelude.{◌≡◌, ◌≢◌, ◌<◌, ◌≤◌, ◌+◌, ◌*◌, ◌%◌, ◌^◌, ◌&&◌, true, false};
+ghost use Rattle.std.specs.Prelude.{None, Some, List, [], ◌∷◌, ◌++◌, drop, get_or, length, nat_lt};
+ghost use Rattle.std.specs.Prelude.{option_map, option_to_list, take};
 ghost use Rattle.std.specs.List.{flat_map};
 ghost use Rattle.std.specs.Option.{ForSome};
 ghost use Rattle.aes3_cell.specs.declared.level.Level.{Level};
@@ -56,7 +65,8 @@ ghost use Rattle.aes3_lock.specs.Parts.{parts_state};
 /// Whether a cell behind `previous` goes on with a candidate, at whose `offset` it stands.
 fn goes_on(candidate: Candidate, offset: u64, cell: Level, previous: Level) -> bool
     ensures inside { result ≡ true → offset < BLOCK_CELLS }
-    ensures value { result ≡ (nat_lt offset block_len && rule mark_at offset cell candidate.level previous) }
+    ensures value { result ≡ (nat_lt offset block_len
+        && rule mark_at offset cell candidate.level previous) }
 {
     offset < BLOCK_CELLS && may_stand(offset, cell, candidate.level, previous)
 }
@@ -112,7 +122,8 @@ impl Lock {
         self.seen
     }
 
-    /// Takes the next cell where it decides no report, and says whether it did; else it changes nothing.
+    /// Takes the next cell where it decides no report, and says whether it did; else it changes
+    /// nothing.
     ///
     /// It is `push` for almost every cell, without a report to hand back.
     pub fn take(&mut self, cell: Level) -> bool
@@ -156,8 +167,8 @@ impl Lock {
         true
     }
 
-    /// Takes the 64 cells of a word where no candidate is in hand and no preamble of a block ends in them, and says whether
-    /// it did; else it changes nothing.
+    /// Takes the 64 cells of a word where no candidate is in hand and no preamble of a block ends
+    /// in them, and says whether it did; else it changes nothing.
     fn pass_word(&mut self, word: u64) -> bool
         requires room { self.old.seen + 64 ≤ 2 ^ 43 }
         requires searching { self.old.candidate ≡ None }
@@ -178,10 +189,11 @@ impl Lock {
         true
     }
 
-    /// Takes the 64 cells of a word, the first in the lowest bit, and says whether it did; else it changes nothing.
+    /// Takes the 64 cells of a word, the first in the lowest bit, and says whether it did; else it
+    /// changes nothing.
     ///
-    /// It takes them where the candidate in hand goes on with all of them, and where none is in hand and no preamble of a
-    /// block ends in them. It is `take` for 64 cells at once.
+    /// It takes them where the candidate in hand goes on with all of them, and where none is in
+    /// hand and no preamble of a block ends in them. It is `take` for 64 cells at once.
     pub fn take_word(&mut self, word: u64) -> bool
         requires { self.old.seen + 64 ≤ 2 ^ 43 }
         ensures seen { result ≡ true → self.new.seen ≡ self.old.seen + 64 }
@@ -191,8 +203,10 @@ impl Lock {
             → decided (cells ++ word_cells word) ≡ decided cells }
         ensures left { result ≡ false → self.new ≡ self.old }
         ensures stops { result ≡ false → (cells : List Level) → Follows self.old cells
-            → ForSome self.old.candidate (λ t. open_at (drop t.at (cells ++ word_cells word)) ≡ false) }
-        ensures begins { result ≡ false → self.old.candidate ≡ None → BeginsIn (drop 1 self.old.recent ++ word_cells word) }
+            → ForSome self.old.candidate (λ t. open_at (drop t.at (cells ++ word_cells word))
+            ≡ false) }
+        ensures begins { result ≡ false → self.old.candidate ≡ None
+            → BeginsIn (drop 1 self.old.recent ++ word_cells word) }
     {
         let Some(candidate) = self.candidate else {
             return self.pass_word(word);
@@ -223,8 +237,9 @@ impl Lock {
         true
     }
 
-    /// Takes eight words where all that they make whole are subframes behind the first of the candidate in hand, with right
-    /// parity, and says whether it did; else it changes nothing. It is `take_word` for almost every eight words of a line.
+    /// Takes eight words where all that they make whole are subframes behind the first of the
+    /// candidate in hand, with right parity, and says whether it did; else it changes nothing. It
+    /// is `take_word` for almost every eight words of a line.
     fn take_eight(&mut self, words: &[u64; 8]) -> bool
         requires { self.old.seen + 512 ≤ 2 ^ 43 }
         ensures seen { result ≡ true → self.new.seen ≡ self.old.seen + 512 }
@@ -275,9 +290,11 @@ impl Lock {
         }
     }
 
-    /// Takes the words from the front, the first cell of each in its lowest bit, that decide no report, and answers how many.
+    /// Takes the words from the front, the first cell of each in its lowest bit, that decide no
+    /// report, and answers how many.
     ///
-    /// It is `take_word` for each of them: the next, if there is one, decides a report or begins a block.
+    /// It is `take_word` for each of them: the next, if there is one, decides a report or begins a
+    /// block.
     pub fn take_words(&mut self, words: &[u64]) -> usize
         requires { self.old.seen + 64 * length words.now ≤ 2 ^ 43 }
         ensures within { result ≤ length words.now }
@@ -287,7 +304,8 @@ impl Lock {
         ensures none { (cells : List Level) → Follows self.old cells
             → decided (cells ++ flat_map word_cells (take result words.now)) ≡ decided cells }
         ensures stops { result < length words.now → (cells : List Level) → Follows self.new cells
-            → ForSome self.new.candidate (λ t. open_at (drop t.at (cells ++ word_cells (get_or words.now result 0))) ≡ false) }
+            → ForSome self.new.candidate (λ t. open_at
+            (drop t.at (cells ++ word_cells (get_or words.now result 0))) ≡ false) }
         ensures begins { result < length words.now → self.new.candidate ≡ None
             → BeginsIn (drop 1 self.new.recent ++ word_cells (get_or words.now result 0)) }
     {
@@ -318,8 +336,8 @@ impl Lock {
         self.recent = last_behind(self.recent, word, len);
     }
 
-    /// Takes the first cells of a word, at most `len`, up to the first with which the preamble of a block ends, where no
-    /// candidate is in hand. Answers how many.
+    /// Takes the first cells of a word, at most `len`, up to the first with which the preamble of a
+    /// block ends, where no candidate is in hand. Answers how many.
     fn search(&mut self, word: u64, len: u32) -> u32
         requires room { self.old.seen + len ≤ 2 ^ 43 }
         requires len { len ≤ 64 }
@@ -328,8 +346,10 @@ impl Lock {
         ensures some { 0 < result }
         ensures within { result ≤ len }
         ensures seen { self.new.seen ≡ self.old.seen + result }
-        ensures follows { (cells : List Level) → Follows self.old cells → Follows self.new (cells ++ low_cells result word) }
-        ensures none { (cells : List Level) → Follows self.old cells → decided (cells ++ low_cells result word) ≡ decided cells }
+        ensures follows { (cells : List Level) → Follows self.old cells
+            → Follows self.new (cells ++ low_cells result word) }
+        ensures none { (cells : List Level) → Follows self.old cells
+            → decided (cells ++ low_cells result word) ≡ decided cells }
     {
         let cells = completed(u64::from(self.recent >> 1), PREAMBLE_CELLS - 1, word);
         let begun = block_preambles(cells, rest_of(word, PREAMBLE_CELLS - 1));
@@ -340,8 +360,8 @@ impl Lock {
         taken
     }
 
-    /// Takes the first cells of a word, at most `len`, that go on with the candidate in hand, up to the end of the subframe
-    /// in hand. Answers how many; where none does, it changes nothing.
+    /// Takes the first cells of a word, at most `len`, that go on with the candidate in hand, up to
+    /// the end of the subframe in hand. Answers how many; where none does, it changes nothing.
     fn go_on(&mut self, candidate: Candidate, word: u64, len: u32) -> u32
         requires room { self.old.seen + len ≤ 2 ^ 43 }
         requires len { len ≤ 64 }
@@ -349,10 +369,13 @@ impl Lock {
         requires in_hand { self.old.candidate ≡ Some candidate }
         ensures within { result ≤ len }
         ensures seen { self.new.seen ≡ self.old.seen + result }
-        ensures follows { (cells : List Level) → Follows self.old cells → Follows self.new (cells ++ low_cells result word) }
-        ensures none { (cells : List Level) → Follows self.old cells → decided (cells ++ low_cells result word) ≡ decided cells }
+        ensures follows { (cells : List Level) → Follows self.old cells
+            → Follows self.new (cells ++ low_cells result word) }
+        ensures none { (cells : List Level) → Follows self.old cells
+            → decided (cells ++ low_cells result word) ≡ decided cells }
         ensures left { result ≡ 0 → self.new ≡ self.old }
-        ensures stops { result ≡ 0 → (cells : List Level) → Follows self.old cells → Stops self.old (level_of (word % 2)) }
+        ensures stops { result ≡ 0 → (cells : List Level) → Follows self.old cells
+            → Stops self.old (level_of (word % 2)) }
     {
         let offset = self.seen - candidate.at;
         if offset >= BLOCK_CELLS {
@@ -408,10 +431,11 @@ impl Lock {
         ending
     }
 
-    /// Takes the first cells of a word, the first of all in the lowest bit, up to the first that decides a report and with
-    /// it, and at most `len`.
+    /// Takes the first cells of a word, the first of all in the lowest bit, up to the first that
+    /// decides a report and with it, and at most `len`.
     ///
-    /// It is `push` for each of these cells, but makes no report: `report` does, until more cells are taken.
+    /// It is `push` for each of these cells, but makes no report: `report` does, until more cells
+    /// are taken.
     pub fn push_front(&mut self, word: u64, len: u32) -> Pushed
         requires room { self.old.seen + len ≤ 2 ^ 43 }
         requires len { len ≤ 64 }
@@ -422,7 +446,8 @@ impl Lock {
         ensures follows { (cells : List Level) → Follows self.old cells
             → Follows self.new (cells ++ low_cells result.taken word) }
         ensures report { (cells : List Level) → Follows self.old cells
-            → decided (cells ++ low_cells result.taken word) ≡ decided cells ++ option_to_list (option_map (report_in self.new) result.ending) }
+            → decided (cells ++ low_cells result.taken word) ≡ decided cells
+            ++ option_to_list (option_map (report_in self.new) result.ending) }
     {
         let mut taken = 0;
         while taken < len {
@@ -453,8 +478,9 @@ impl Lock {
         report_with(ending, &self.words)
     }
 
-    /// The cells of the subframes of the last candidate that are whole, a word each, the earliest cell in bit 0. Where an
-    /// ending was `Whole` they are those of its block, until more cells are taken.
+    /// The cells of the subframes of the last candidate that are whole, a word each, the earliest
+    /// cell in bit 0. Where an ending was `Whole` they are those of its block, until more cells are
+    /// taken.
     pub fn words(&self) -> &[u64; SLOTS]
         ensures { result.now ≡ self.now.words }
     {
@@ -471,7 +497,8 @@ impl Lock {
     /// Adds the report of an ending, if there is one, where there is room.
     fn tell(&self, ending: Option<Ending>, out: &mut ArrayVec<Report, 16>)
         ensures { length out.old.items < 16
-            → out.new.items ≡ out.old.items ++ option_to_list (option_map (report_in self.now) ending) }
+            → out.new.items ≡ out.old.items ++ option_to_list
+            (option_map (report_in self.now) ending) }
     {
         if let Some(ending) = ending
             && !out.is_full()
@@ -480,9 +507,11 @@ impl Lock {
         }
     }
 
-    /// Takes the 64 cells of a word, the first in the lowest bit, and puts the reports that they decide.
+    /// Takes the 64 cells of a word, the first in the lowest bit, and puts the reports that they
+    /// decide.
     ///
-    /// It is `push` for each of these cells. There are fourteen at most, since candidates are at least five cells apart.
+    /// It is `push` for each of these cells. There are fourteen at most, since candidates are at
+    /// least five cells apart.
     pub fn push_word(&mut self, word: u64, out: &mut ArrayVec<Report, 16>)
         requires room { self.old.seen + 64 ≤ 2 ^ 43 }
         requires empty { out.old.items ≡ [] }

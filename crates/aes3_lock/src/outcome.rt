@@ -17,7 +17,8 @@ use aes3_slot::SUBFRAME_CELLS;
 
 /// What becomes of a block all of whose subframes are there and which is closed.
 fn block_ending(at: u64, before: Level, words: &GatheredCells) -> Ending
-    ensures { ending_report (read_words words.now) result ≡ report_of at (block_outcome before (read_words words.now)) }
+    ensures { ending_report (read_words words.now) result
+        ≡ report_of at (block_outcome before (read_words words.now)) }
 {
     let wrong = words.wrong_parities();
     if wrong == 0 {
@@ -64,7 +65,9 @@ pub(crate) fn ending_at(
     words: &GatheredCells,
 ) -> Ending
     requires { candidate.at + offset < 2 ^ 64 }
-    ensures { ending_report (read_words words.now) result ≡ report_of candidate.at (ended candidate.before offset (same cell previous) (read_words words.now)) }
+    ensures { ending_report (read_words words.now) result
+        ≡ report_of candidate.at (ended candidate.before offset (same cell previous)
+        (read_words words.now)) }
 {
     if offset >= BLOCK_CELLS && turns(previous, cell) {
         block_ending(candidate.at, candidate.before, words)

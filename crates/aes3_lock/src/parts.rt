@@ -3,8 +3,8 @@
 use crate::candidate::Candidate;
 use aes3_block::SLOTS;
 
-/// All that a lock keeps, for a caller that keeps it in a form of its own: `Lock::parts` gives it, and `Lock::of_parts` makes
-/// the same lock of it.
+/// All that a lock keeps, for a caller that keeps it in a form of its own: `Lock::parts` gives it,
+/// and `Lock::of_parts` makes the same lock of it.
 #[derive(Drop)]
 pub struct LockParts {
     /// How many cells it has seen.

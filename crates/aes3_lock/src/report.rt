@@ -14,7 +14,8 @@ pub enum Why {
     Unclosed,
 }
 
-/// What becomes of a candidate: a place, counted in cells from the first of all, at which preamble Z stands.
+/// What becomes of a candidate: a place, counted in cells from the first of all, at which preamble
+/// Z stands.
 #[derive(Drop)]
 pub enum Report {
     /// A whole block with right parity bits, and the level before its first cell.
@@ -23,13 +24,15 @@ pub enum Report {
         before: Level,
         block: Block,
     },
-    /// A whole block of which `wrong` subframes, 1 to 384, have a wrong parity bit, and the level before its first cell.
+    /// A whole block of which `wrong` subframes, 1 to 384, have a wrong parity bit, and the level
+    /// before its first cell.
     Marked {
         at: u64,
         before: Level,
         wrong: u16,
     },
-    /// `cell` is the first cell at which the cells from `at` on begin no block; it is counted from the first of all.
+    /// `cell` is the first cell at which the cells from `at` on begin no block; it is counted from
+    /// the first of all.
     Fault {
         at: u64,
         cell: u64,
@@ -42,7 +45,8 @@ pub enum Report {
     },
 }
 
-/// What a cell makes of the candidate that it ends: its report without the block, which stands in the lock.
+/// What a cell makes of the candidate that it ends: its report without the block, which stands in
+/// the lock.
 #[derive(Clone, Copy, PartialEq, Eq, Debug)]
 pub enum Ending {
     /// A whole block with right parity bits, and the level before its first cell.

@@ -22,8 +22,8 @@ fn preamble_cell(mark: Mark, k: u64, before: Level) -> Level
     }
 }
 
-/// Whether a cell may stand at `offset` of a block, behind the cell `previous` and with the level `before` before its
-/// subframe.
+/// Whether a cell may stand at `offset` of a block, behind the cell `previous` and with the level
+/// `before` before its subframe.
 pub(crate) fn may_stand(offset: u64, cell: Level, before: Level, previous: Level) -> bool
     ensures { result ≡ rule mark_at offset cell before previous }
 {

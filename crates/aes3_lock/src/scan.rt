@@ -6,7 +6,8 @@ use aes3_cell::Level;
 use aes3_slot::{Mark, match_mark, preambles};
 use std::marker::Model;
 
-/// Finds every preamble in cells that come one by one, whether or not it stands where a subframe may begin.
+/// Finds every preamble in cells that come one by one, whether or not it stands where a subframe
+/// may begin.
 ///
 /// A contract sees how many cells it has seen, and the last eight.
 #[derive(Drop)]
@@ -24,7 +25,8 @@ impl Model for Scan {
     ghost view = { λ k. record { seen = k.seen; recent = low_cells 8 k.recent } };
 }
 
-ghost use Rattle.std.specs.Prelude.{◌≡◌, ◌<◌, ◌≤◌, ◌+◌, ◌^◌, None, List, [], ◌∷◌, ◌++◌, drop, length, option_to_list};
+ghost use Rattle.std.specs.Prelude.{◌≡◌, ◌<◌, ◌≤◌, ◌+◌, ◌^◌, None, List, [], ◌∷◌, ◌++◌, drop};
+ghost use Rattle.std.specs.Prelude.{length, option_to_list};
 ghost use Rattle.aes3_cell.specs.Words.{low_cells, word_cells};
 ghost use Rattle.aes3_lock.specs.Steps.{ended_mark};
 ghost use Rattle.aes3_cell.specs.declared.level.Level.{Level};
@@ -59,7 +61,8 @@ impl Scan {
         self.seen
     }
 
-    /// Takes the next cell, and answers the preamble that ends with it: its place, its kind and the level before it.
+    /// Takes the next cell, and answers the preamble that ends with it: its place, its kind and the
+    /// level before it.
     pub fn push(&mut self, cell: Level) -> Option<(u64, Mark, Level)>
         requires { self.old.seen < 2 ^ 43 }
         ensures seen { self.new.seen ≡ self.old.seen + 1 }
@@ -73,8 +76,9 @@ impl Scan {
         mark_ending(self.seen, self.recent)
     }
 
-    /// Takes the first cells of a word, the first of all in the lowest bit, before the second that ends a preamble, and at most
-    /// `len`. Answers how many it took, and the preamble that ends in them as `push` does.
+    /// Takes the first cells of a word, the first of all in the lowest bit, before the second that
+    /// ends a preamble, and at most `len`. Answers how many it took, and the preamble that ends in
+    /// them as `push` does.
     ///
     /// It is `push` for each of these cells.
     pub fn next_in(&mut self, word: u64, len: u32) -> (u32, Option<(u64, Mark, Level)>)
@@ -87,7 +91,8 @@ impl Scan {
             → ScanFollows self.new (cells ++ low_cells result.0 word) }
         ensures mark { (cells : List Level) → ScanFollows self.old cells
             → marks (cells ++ low_cells result.0 word) ≡ marks cells ++ option_to_list result.1 }
-        ensures all { (cells : List Level) → ScanFollows self.old cells → 7 ≤ length cells → result.1 ≡ None → result.0 ≡ len }
+        ensures all { (cells : List Level) → ScanFollows self.old cells → 7 ≤ length cells
+            → result.1 ≡ None → result.0 ≡ len }
     {
         let cells = completed(u64::from(self.recent >> 1), PREAMBLE_CELLS - 1, word);
         let begun = preambles(cells, rest_of(word, PREAMBLE_CELLS - 1));
@@ -106,7 +111,8 @@ impl Scan {
         (taken, found)
     }
 
-    /// Takes the 64 cells of a word, the first of all in the lowest bit, and answers the preambles that end in them.
+    /// Takes the 64 cells of a word, the first of all in the lowest bit, and answers the preambles
+    /// that end in them.
     ///
     /// It is `push` for each of these cells.
     pub fn take_word(&mut self, word: u64) -> WordMarks

@@ -29,8 +29,8 @@ fn first_eight(cells: &[Level]) -> u8
     recent
 }
 
-/// How many cells go on as a block's after the level `level_before`, and the level of the last of them. Those of their
-/// whole subframes go into `words`.
+/// How many cells go on as a block's after the level `level_before`, and the level of the last of
+/// them. Those of their whole subframes go into `words`.
 fn go_through(level_before: Level, cells: &[Level], words: &mut [u64; SLOTS]) -> (u64, Level)
     ensures front { result.0 ≡ front level_before cells.now }
     ensures last { result.1 ≡ before level_before cells.now result.0 }

@@ -9,7 +9,8 @@ use aes3_cell::Level;
 /// The first `len` cells of a subframe with one more.
 pub(crate) fn with_next(cells: u64, len: u64, cell: Level) -> u64
     requires { len < 64 }
-    ensures cells { cells < 2 ^ len → low_cells (len + 1) result ≡ low_cells len cells ++ cell ∷ [] }
+    ensures cells { cells < 2 ^ len → low_cells (len + 1) result ≡ low_cells len cells
+        ++ cell ∷ [] }
     ensures few { cells < 2 ^ len → result < 2 ^ (len + 1) }
 {
     match cell {
@@ -21,7 +22,8 @@ pub(crate) fn with_next(cells: u64, len: u64, cell: Level) -> u64
 /// The subframe whose first `len` cells are these and whose others are the first of `word`.
 pub(crate) fn completed(cells: u64, len: u64, word: u64) -> u64
     requires { len < 64 }
-    ensures { cells < 2 ^ len → word_cells result ≡ low_cells len cells ++ take (64 - len) (word_cells word) }
+    ensures { cells < 2 ^ len → word_cells result ≡ low_cells len cells
+        ++ take (64 - len) (word_cells word) }
 {
     cells | word << len
 }

@@ -7,7 +7,8 @@ use std::marker::Model;
 
 /// The preambles that end in a word of cells, to be taken one by one.
 ///
-/// A contract sees those that are left, in order of place: the place of each, its kind and the level before it.
+/// A contract sees those that are left, in order of place: the place of each, its kind and the
+/// level before it.
 #[derive(Drop)]
 pub struct WordMarks {
     /// How many cells stand before the word.
@@ -35,10 +36,12 @@ impl Model for WordMarks {
 
     ghost view = { λ m. marks_left m.seen (with_seven m.cells m.next) m.left };
 
-    ghost invariant = { λ m. (m.seen ≤ 2 ^ 43) × MarksLeft m.seen m.left m.x m.y (with_seven m.cells m.next) };
+    ghost invariant = { λ m. (m.seen ≤ 2 ^ 43)
+        × MarksLeft m.seen m.left m.x m.y (with_seven m.cells m.next) };
 }
 
-ghost use Rattle.std.specs.Prelude.{◌≡◌, ◌==◌, ℕ, ◌+◌, ◌<◌, ◌≤◌, ◌^◌, List, [], ◌++◌, None, drop, length, nat_le, option_to_list, if◌then◌else◌};
+ghost use Rattle.std.specs.Prelude.{◌≡◌, ◌==◌, ℕ, ◌+◌, ◌<◌, ◌≤◌, ◌^◌, List, [], ◌++◌, None, drop};
+ghost use Rattle.std.specs.Prelude.{length, nat_le, option_to_list, if◌then◌else◌};
 ghost use Rattle.std.specs.Int.{bit_at};
 ghost use Rattle.aes3_cell.specs.declared.level.Level.{Level};
 ghost use Rattle.aes3_cell.specs.Cells.{other};
@@ -76,7 +79,8 @@ fn level_before(cells: u64, place: u32) -> Level
 
 /// Those of 64 places, the first seven cells behind cell `seen`, that are not before cell 0.
 fn behind_start(seen: u64, places: u64) -> u64
-    ensures { (k : ℕ) → k < 64 → bit_at result k ≡ (if nat_le 7 (seen + k) then bit_at places k else 0) }
+    ensures { (k : ℕ) → k < 64 → bit_at result k
+        ≡ (if nat_le 7 (seen + k) then bit_at places k else 0) }
 {
     if seen >= PREAMBLE_CELLS - 1 {
         return places;
@@ -105,11 +109,12 @@ fn without(places: u64, place: u32) -> u64
 }
 
 impl WordMarks {
-    /// The preambles that end in a word behind `seen` cells: `cells` are the last seven of these and the first 57 of the word,
-    /// and the lowest seven bits of `next` its others.
+    /// The preambles that end in a word behind `seen` cells: `cells` are the last seven of these
+    /// and the first 57 of the word, and the lowest seven bits of `next` its others.
     pub(crate) fn new(seen: u64, cells: u64, next: u64) -> Self
         requires { seen ≤ 2 ^ 43 }
-        ensures { (c : List Level) (word : ℕ) → seen ≡ length c → with_seven cells next ≡ drop 1 (last_eight c) ++ word_cells word
+        ensures { (c : List Level) (word : ℕ) → seen ≡ length c
+            → with_seven cells next ≡ drop 1 (last_eight c) ++ word_cells word
             → marks (c ++ word_cells word) ≡ marks c ++ result }
     {
         let places = mark_places(cells, next);

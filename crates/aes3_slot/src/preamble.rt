@@ -10,8 +10,8 @@ ghost use Rattle.aes3_slot.specs.Slots.{mark_runs};
 use crate::mark::Mark;
 use aes3_cell::Level;
 
-/// A word whose lowest bits are the eight cells of the preamble after the level `before`, the earliest in bit 0 (AES3-3;
-/// IEC 60958-1).
+/// A word whose lowest bits are the eight cells of the preamble after the level `before`, the
+/// earliest in bit 0 (AES3-3; IEC 60958-1).
 pub fn mark_cells(before: Level, mark: Mark) -> u64
     ensures { low_cells 8 result ≡ line before (mark_runs mark) }
 {
@@ -29,7 +29,8 @@ pub fn mark_cells(before: Level, mark: Mark) -> u64
 /// The preamble that eight cells are, the earliest in bit 0, and the level before it.
 pub fn match_mark(window: u8) -> Option<(Mark, Level)>
     ensures some { IfSome result (λ found. low_cells 8 window ≡ line found.1 (mark_runs found.0)) }
-    ensures owed { (mark : Mark) (before : Level) → low_cells 8 window ≡ line before (mark_runs mark) → result ≡ Some (mark, before) }
+    ensures owed { (mark : Mark) (before : Level)
+        → low_cells 8 window ≡ line before (mark_runs mark) → result ≡ Some (mark, before) }
 {
     match window {
         0x47 => Some((Mark::X, Level::Low)),

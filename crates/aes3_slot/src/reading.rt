@@ -1,6 +1,7 @@
 //! A subframe read back from its 64 cells (AES3-3; IEC 60958-1).
 
-ghost use Rattle.std.specs.Prelude.{◌≡◌, ◌==◌, ℕ, Bool, true, false, not, ◌<◌, ◌≤◌, ◌+◌, ◌*◌, ◌%◌, ◌^◌, drop, take, slice_index_or, if◌then◌else◌, IfOk, IfErr};
+ghost use Rattle.std.specs.Prelude.{◌≡◌, ◌==◌, ℕ, Bool, true, false, not, ◌<◌, ◌≤◌, ◌+◌, ◌*◌, ◌%◌};
+ghost use Rattle.std.specs.Prelude.{◌^◌, drop, take, slice_index_or, if◌then◌else◌, IfOk, IfErr};
 ghost use Rattle.std.specs.Int.{bit_at};
 ghost use Rattle.aes3_cell.specs.Cells.{line, other};
 ghost use Rattle.aes3_cell.specs.Words.{word_cells};
@@ -32,10 +33,11 @@ const PAYLOAD: u32 = 0x07FF_FFFF;
 /// The last cell of a subframe, the only one at which the parity bit shows.
 const LAST: u8 = 63;
 
-/// The cells of a subframe with this preamble after the level `before` that can't stand where they are, whatever its bits:
-/// a one for each (AES3-3, IEC 60958-1: preambles and biphase-mark coding).
+/// The cells of a subframe with this preamble after the level `before` that can't stand where they
+/// are, whatever its bits: a one for each (AES3-3, IEC 60958-1: preambles and biphase-mark coding).
 pub fn wrong_cells(before: Level, mark: Mark, cells: u64) -> u64
-    ensures { (i : ℕ) → i < 64 → bit_at result i ≡ (if stands before mark (word_cells cells) i then 0 else 1) }
+    ensures { (i : ℕ) → i < 64 → bit_at result i
+        ≡ (if stands before mark (word_cells cells) i then 0 else 1) }
 {
     let preamble = (cells ^ mark_cells(before, mark)) & PREAMBLE;
     let slots = !(cells ^ (cells << 1)) & SLOT_STARTS;
@@ -44,7 +46,8 @@ pub fn wrong_cells(before: Level, mark: Mark, cells: u64) -> u64
 
 /// `wrong_cells` of eight subframes at once, whose preambles are `even` and `odd` in turn.
 pub fn wrong_cells_of_eight(before: Level, even: Mark, odd: Mark, cells: u64x8) -> u64x8
-    ensures { InLanes result (λ i k. not (stands before (if (i % 2) == 0 then even else odd) (word_cells (slice_index_or cells i 0)) k)) }
+    ensures { InLanes result (λ i k. not (stands before (if (i % 2) == 0 then even else odd)
+        (word_cells (slice_index_or cells i 0)) k)) }
 {
     let first = mark_cells(before, even);
     let second = mark_cells(before, odd);
@@ -67,7 +70,8 @@ fn gather(word: u64) -> u32
     word as u32
 }
 
-/// The bits that slots 4 to 31 of a subframe's 64 cells carry, slot 4 in bit 0: whether the two cells of each differ.
+/// The bits that slots 4 to 31 of a subframe's 64 cells carry, slot 4 in bit 0: whether the two
+/// cells of each differ.
 pub fn slot_bits(cells: u64) -> u32
     ensures bits { slots_bits result ≡ read_bits (drop 8 (word_cells cells)) }
     ensures bound { result < 2 ^ 28 }
@@ -84,8 +88,8 @@ fn split_parity(slots: u32) -> (u32, bool)
     (slots & PAYLOAD, slots.count_ones() % 2 == 0)
 }
 
-/// Whether the first `len` of 64 cells begin a subframe with this preamble after the level `before`, whatever its parity
-/// bit.
+/// Whether the first `len` of 64 cells begin a subframe with this preamble after the level
+/// `before`, whatever its parity bit.
 pub fn begins_subframe(before: Level, mark: Mark, cells: u64, len: u32) -> bool
     requires { len ≤ 64 }
     ensures yes { result ≡ true → IsFrontOf before mark (take len (word_cells cells)) }
@@ -94,21 +98,27 @@ pub fn begins_subframe(before: Level, mark: Mark, cells: u64, len: u32) -> bool
     wrong_cells(before, mark, cells).trailing_zeros() >= len
 }
 
-/// The payload of the 64 cells of a subframe with this preamble after the level `before`, and whether its parity
-/// bit is right. The last cell has the level `before` again where it is right, else the other.
+/// The payload of the 64 cells of a subframe with this preamble after the level `before`, and
+/// whether its parity bit is right. The last cell has the level `before` again where it is right,
+/// else the other.
 ///
 /// # Errors
 /// The first cell at which the cells so far begin no such subframe, whatever its parity bit.
 pub fn take_either(before: Level, mark: Mark, cells: u64) -> Result<(u32, bool), Place>
-    ensures ok { IfOk result (λ taken. word_cells cells ≡ line before (slot_runs mark (with_some_parity taken.1 (payload_bits taken.0)))) }
+    ensures ok { IfOk result (λ taken. word_cells cells
+        ≡ line before (slot_runs mark (with_some_parity taken.1 (payload_bits taken.0)))) }
     ensures range { IfOk result (λ taken. taken.0 < 2 ^ 27) }
-    ensures level { IfOk result (λ taken. at (word_cells cells) 63 ≡ (if taken.1 then before else other before)) }
+    ensures level { IfOk result (λ taken. at (word_cells cells) 63
+        ≡ (if taken.1 then before else other before)) }
     ensures owed { (payload : ℕ) (right : Bool) → payload < 2 ^ 27
-        → word_cells cells ≡ line before (slot_runs mark (with_some_parity right (payload_bits payload)))
+        → word_cells cells ≡ line before (slot_runs mark
+        (with_some_parity right (payload_bits payload)))
         → result ≡ Ok (payload, right) }
     ensures within { IfErr result (λ place. place.offset < 64) }
-    ensures front { IfErr result (λ place. IsFrontOf before mark (take place.offset (word_cells cells))) }
-    ensures stops { IfErr result (λ place. ¬ IsFrontOf before mark (take (place.offset + 1) (word_cells cells))) }
+    ensures front { IfErr result (λ place. IsFrontOf before mark
+        (take place.offset (word_cells cells))) }
+    ensures stops { IfErr result (λ place. ¬ IsFrontOf before mark
+        (take (place.offset + 1) (word_cells cells))) }
 {
     let wrong = wrong_cells(before, mark, cells);
     if wrong != 0 {
@@ -122,15 +132,20 @@ pub fn take_either(before: Level, mark: Mark, cells: u64) -> Result<(u32, bool),
 /// The payload of the 64 cells of a subframe with this preamble after the level `before`.
 ///
 /// # Errors
-/// The first cell at which the cells so far begin no such subframe. A wrong parity bit shows at the last cell.
+/// The first cell at which the cells so far begin no such subframe. A wrong parity bit shows at the
+/// last cell.
 pub fn take_subframe(before: Level, mark: Mark, cells: u64) -> Result<u32, Place>
-    ensures ok { IfOk result (λ payload. word_cells cells ≡ line before (subframe_runs mark (payload_bits payload))) }
+    ensures ok { IfOk result (λ payload. word_cells cells
+        ≡ line before (subframe_runs mark (payload_bits payload))) }
     ensures range { IfOk result (λ payload. payload < 2 ^ 27) }
-    ensures owed { (payload : ℕ) → payload < 2 ^ 27 → word_cells cells ≡ line before (subframe_runs mark (payload_bits payload))
+    ensures owed { (payload : ℕ) → payload < 2 ^ 27
+        → word_cells cells ≡ line before (subframe_runs mark (payload_bits payload))
         → result ≡ Ok payload }
     ensures within { IfErr result (λ place. place.offset < 64) }
-    ensures front { IfErr result (λ place. IsLawfulFrontOf before mark (take place.offset (word_cells cells))) }
-    ensures stops { IfErr result (λ place. ¬ IsLawfulFrontOf before mark (take (place.offset + 1) (word_cells cells))) }
+    ensures front { IfErr result (λ place. IsLawfulFrontOf before mark
+        (take place.offset (word_cells cells))) }
+    ensures stops { IfErr result (λ place. ¬ IsLawfulFrontOf before mark
+        (take (place.offset + 1) (word_cells cells))) }
 {
     match take_either(before, mark, cells) {
         Ok((payload, true)) => Ok(payload),

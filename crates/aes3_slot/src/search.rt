@@ -1,24 +1,30 @@
 //! Preambles in 64 cells at once (AES3-3; IEC 60958-1).
 
-ghost use Rattle.std.specs.Prelude.{◌≡◌, ℕ, ◌+◌, ◌*◌, ◌<◌, ◌≤◌, ◌&&◌, not, length, get_or, drop, slice_index_or, if◌then◌else◌};
+ghost use Rattle.std.specs.Prelude.{◌≡◌, ℕ, ◌+◌, ◌*◌, ◌<◌, ◌≤◌, ◌&&◌, not, length, get_or, drop};
+ghost use Rattle.std.specs.Prelude.{slice_index_or, if◌then◌else◌};
 ghost use Rattle.std.specs.Int.{bit_at};
 ghost use Rattle.aes3_slot.specs.declared.mark.Mark.TheVariants.{X, Y, Z};
-ghost use Rattle.aes3_slot.specs.Preambles.{begins_with, begins_with_any, unlike_at, with_seven, words_with_seven, InLanes, MarksAreTold};
+ghost use Rattle.aes3_slot.specs.Preambles.{begins_with, begins_with_any, unlike_at, with_seven};
+ghost use Rattle.aes3_slot.specs.Preambles.{words_with_seven, InLanes, MarksAreTold};
 
 use std::simd::prelude::*;
 
 /// The cells that differ from the cell `distance` behind them, each a one.
 fn unlike(cells: u64, next: u64, distance: u32) -> u64
     requires { (0 < distance) × (distance < 8) }
-    ensures { (k : ℕ) → k < 64 → bit_at result k ≡ (if unlike_at (with_seven cells next) k distance then 1 else 0) }
+    ensures { (k : ℕ) → k < 64 → bit_at result k
+        ≡ (if unlike_at (with_seven cells next) k distance then 1 else 0) }
 {
     cells ^ (cells >> distance | next << (64 - distance))
 }
 
 /// The cells that a preamble may begin with, by those cells of it that no two preambles differ in.
 fn beginnings(cells: u64, next: u64) -> u64
-    ensures { (k : ℕ) → k < 64 → bit_at result k ≡ (if (not (unlike_at (with_seven cells next) k 1) && not (unlike_at (with_seven cells next) k 2))
-        && (unlike_at (with_seven cells next) k 3 && unlike_at (with_seven cells next) k 7) then 1 else 0) }
+    ensures { (k : ℕ) → k < 64 → bit_at result k
+        ≡ (if (not (unlike_at (with_seven cells next) k 1)
+        && not (unlike_at (with_seven cells next) k 2))
+        && (unlike_at (with_seven cells next) k 3 && unlike_at (with_seven cells next) k 7) then 1
+        else 0) }
 {
     !unlike(cells, next, 1)
         & !unlike(cells, next, 2)
@@ -27,10 +33,11 @@ fn beginnings(cells: u64, next: u64) -> u64
 
 /// Where the preamble of a block begins, in either polarity, each such cell a one.
 ///
-/// The first of the 64 `cells` is in the lowest bit. The lowest seven bits of `next` are the cells behind them, as many as a
-/// preamble needs that begins with the last.
+/// The first of the 64 `cells` is in the lowest bit. The lowest seven bits of `next` are the cells
+/// behind them, as many as a preamble needs that begins with the last.
 pub fn block_preambles(cells: u64, next: u64) -> u64
-    ensures { (k : ℕ) → k < 64 → bit_at result k ≡ (if begins_with Z (drop k (with_seven cells next)) then 1 else 0) }
+    ensures { (k : ℕ) → k < 64 → bit_at result k
+        ≡ (if begins_with Z (drop k (with_seven cells next)) then 1 else 0) }
 {
     beginnings(cells, next)
         & (!unlike(cells, next, 4) & (unlike(cells, next, 5) & unlike(cells, next, 6)))
@@ -49,9 +56,12 @@ pub struct MarkPlaces {
 
 /// Where each preamble begins; the cells are those of `block_preambles`.
 pub fn mark_places(cells: u64, next: u64) -> MarkPlaces
-    ensures x { (k : ℕ) → k < 64 → bit_at result.x k ≡ (if begins_with X (drop k (with_seven cells next)) then 1 else 0) }
-    ensures y { (k : ℕ) → k < 64 → bit_at result.y k ≡ (if begins_with Y (drop k (with_seven cells next)) then 1 else 0) }
-    ensures z { (k : ℕ) → k < 64 → bit_at result.z k ≡ (if begins_with Z (drop k (with_seven cells next)) then 1 else 0) }
+    ensures x { (k : ℕ) → k < 64 → bit_at result.x k
+        ≡ (if begins_with X (drop k (with_seven cells next)) then 1 else 0) }
+    ensures y { (k : ℕ) → k < 64 → bit_at result.y k
+        ≡ (if begins_with Y (drop k (with_seven cells next)) then 1 else 0) }
+    ensures z { (k : ℕ) → k < 64 → bit_at result.z k
+        ≡ (if begins_with Z (drop k (with_seven cells next)) then 1 else 0) }
 {
     let begun = beginnings(cells, next);
     let fifth = unlike(cells, next, 4);
@@ -64,9 +74,11 @@ pub fn mark_places(cells: u64, next: u64) -> MarkPlaces
     }
 }
 
-/// Where a preamble begins, in either polarity, each such cell a one; the cells are those of `block_preambles`.
+/// Where a preamble begins, in either polarity, each such cell a one; the cells are those of
+/// `block_preambles`.
 pub fn preambles(cells: u64, next: u64) -> u64
-    ensures { (k : ℕ) → k < 64 → bit_at result k ≡ (if begins_with_any (drop k (with_seven cells next)) then 1 else 0) }
+    ensures { (k : ℕ) → k < 64 → bit_at result k
+        ≡ (if begins_with_any (drop k (with_seven cells next)) then 1 else 0) }
 {
     let places = mark_places(cells, next);
     places.x | (places.y | places.z)
@@ -75,14 +87,16 @@ pub fn preambles(cells: u64, next: u64) -> u64
 /// `unlike` of eight words at once, each with the cells behind it.
 fn unlike_of_eight(cells: u64x8, next: u64x8, distance: u64) -> u64x8
     requires { (0 < distance) × (distance < 8) }
-    ensures { InLanes result (λ i k. unlike_at (with_seven (slice_index_or cells i 0) (slice_index_or next i 0)) k distance) }
+    ensures { InLanes result (λ i k. unlike_at
+        (with_seven (slice_index_or cells i 0) (slice_index_or next i 0)) k distance) }
 {
     cells ^ (cells >> u64x8::splat(distance) | next << u64x8::splat(64 - distance))
 }
 
 /// `block_preambles` of eight words at once, each with the cells behind it.
 fn block_preambles_of_eight(cells: u64x8, next: u64x8) -> u64x8
-    ensures { InLanes result (λ i k. begins_with Z (drop k (with_seven (slice_index_or cells i 0) (slice_index_or next i 0)))) }
+    ensures { InLanes result (λ i k. begins_with Z
+        (drop k (with_seven (slice_index_or cells i 0) (slice_index_or next i 0)))) }
 {
     !unlike_of_eight(cells, next, 1)
         & !unlike_of_eight(cells, next, 2)
@@ -91,7 +105,8 @@ fn block_preambles_of_eight(cells: u64x8, next: u64x8) -> u64x8
             & (unlike_of_eight(cells, next, 5) & unlike_of_eight(cells, next, 6)))
 }
 
-/// `find_marks` of the first words, eight at once, as far as all eight have a word behind them; answers how many.
+/// `find_marks` of the first words, eight at once, as far as all eight have a word behind them;
+/// answers how many.
 fn find_marks_of_eights(words: &[u64], next: u8, out: &mut [u64]) -> usize
     requires { length out.old ≡ length words.now }
     ensures len { length out.new ≡ length words.now }
@@ -108,13 +123,15 @@ fn find_marks_of_eights(words: &[u64], next: u8, out: &mut [u64]) -> usize
     i
 }
 
-/// Where the preamble of a block begins in words of 64 cells: bit `k` of `out[i]` is one exactly where it stands, in either
-/// polarity, in the eight cells from cell `64 i + k` on. The lowest seven bits of `next` are the cells behind the last word.
+/// Where the preamble of a block begins in words of 64 cells: bit `k` of `out[i]` is one exactly
+/// where it stands, in either polarity, in the eight cells from cell `64 i + k` on. The lowest
+/// seven bits of `next` are the cells behind the last word.
 pub fn find_marks(words: &[u64], next: u8, out: &mut [u64])
     requires { length out.old ≡ length words.now }
     ensures len { length out.new ≡ length words.now }
     ensures marks { (i k : ℕ) → i < length words.now → k < 64
-        → bit_at (get_or out.new i 0) k ≡ (if begins_with Z (drop (64 * i + k) (words_with_seven words.now next)) then 1 else 0) }
+        → bit_at (get_or out.new i 0) k ≡ (if begins_with Z
+        (drop (64 * i + k) (words_with_seven words.now next)) then 1 else 0) }
 {
     let told = find_marks_of_eights(words, next, out);
     for i in told..words.len() {

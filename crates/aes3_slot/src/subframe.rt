@@ -5,7 +5,8 @@ ghost use Rattle.std.specs.Int.{bit_at};
 ghost use Rattle.aes3_cell.specs.Cells.{line};
 ghost use Rattle.aes3_cell.specs.Words.{word_cells};
 ghost use Rattle.aes3_slot.specs.Bits.{low_bits, odd_ones};
-ghost use Rattle.aes3_slot.specs.Slots.{mark_runs, payload_bits, slot_runs, slots_bits, subframe_runs};
+ghost use Rattle.aes3_slot.specs.Slots.{mark_runs, payload_bits, slot_runs, slots_bits};
+ghost use Rattle.aes3_slot.specs.Slots.{subframe_runs};
 ghost use Rattle.aes3_slot.specs.Turns.{cells_of_turns, run_turns, word_turns};
 
 use crate::mark::Mark;
@@ -41,7 +42,8 @@ fn mark_turns(mark: Mark) -> u64
 
 /// The bits, each at twice its place.
 fn spread(bits: u32) -> u64
-    ensures { (i : ℕ) → i < 64 → bit_at result i ≡ (if (i % 2) == 0 then bit_at bits (i / 2) else 0) }
+    ensures { (i : ℕ) → i < 64 → bit_at result i
+        ≡ (if (i % 2) == 0 then bit_at bits (i / 2) else 0) }
 {
     let word = u64::from(bits);
     let word = (word | (word << 16)) & 0x0000_FFFF_0000_FFFF;
@@ -59,7 +61,8 @@ fn slot_turns(mark: Mark, slots: u32) -> u64
     mark_turns(mark) | SLOT_STARTS | (spread(slots) << 9)
 }
 
-/// The cells after `Low` that turn at the ones of `turns`: each is the parity of the turns up to it.
+/// The cells after `Low` that turn at the ones of `turns`: each is the parity of the turns up to
+/// it.
 fn cells_from_turns(turns: u64) -> u64
     ensures { word_cells result ≡ cells_of_turns Level.Low (word_turns turns) }
 {
@@ -71,7 +74,8 @@ fn cells_from_turns(turns: u64) -> u64
     cells ^ (cells << 32)
 }
 
-/// The 64 cells of a subframe whose slots 4 to 31 carry the bits of `slots`, the earliest cell in bit 0.
+/// The 64 cells of a subframe whose slots 4 to 31 carry the bits of `slots`, the earliest cell in
+/// bit 0.
 pub fn slots_cells(before: Level, mark: Mark, slots: u32) -> u64
     requires { slots < 2 ^ 28 }
     ensures { word_cells result ≡ line before (slot_runs mark (slots_bits slots)) }
@@ -83,7 +87,8 @@ pub fn slots_cells(before: Level, mark: Mark, slots: u32) -> u64
     }
 }
 
-/// The 64 cells of the subframe with this payload after the level `before`, the earliest cell in bit 0.
+/// The 64 cells of the subframe with this payload after the level `before`, the earliest cell in
+/// bit 0.
 pub fn subframe_cells(before: Level, mark: Mark, payload: u32) -> u64
     requires { payload < 2 ^ 27 }
     ensures { word_cells result ≡ line before (subframe_runs mark (payload_bits payload)) }

@@ -1,5 +1,5 @@
-//! Three blocks one behind the other, of zeros or of speech, of which cells are changed, lost or put in: the blocks that
-//! the lock gives are those that the laws of damage name.
+//! Three blocks one behind the other, of zeros or of speech, of which cells are changed, lost or
+//! put in: the blocks that the lock gives are those that the laws of damage name.
 ghost use Rattle.std.specs.Prelude.{◌<◌, ◌≤◌};
 
 use aes3_block::{Block, mark_of};
@@ -47,7 +47,8 @@ enum Damage {
     Inserted(usize, Level),
 }
 
-/// A block that is given: its place, and of a payload that is another one than it was the subframe and the bits.
+/// A block that is given: its place, and of a payload that is another one than it was the subframe
+/// and the bits.
 #[derive(Clone, Copy, PartialEq, Eq, Debug)]
 struct Given {
     at: u64,
@@ -175,7 +176,8 @@ fn block_at(start: usize, other: Option<(usize, u32)>) -> Option<Given> {
     })
 }
 
-/// What changed cells leave of a block: all of it, nothing, or one with the bits of two slots inverted.
+/// What changed cells leave of a block: all of it, nothing, or one with the bits of two slots
+/// inverted.
 fn left_of_changed(places: &[usize; 4], start: usize) -> Option<Given>
     requires { start ≤ 50_000 }
 {

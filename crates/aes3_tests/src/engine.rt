@@ -1,4 +1,5 @@
-//! Whole runs: samples, lines of any length, the limit of bytes, and what has left when a read fails.
+//! Whole runs: samples, lines of any length, the limit of bytes, and what has left when a read
+//! fails.
 
 ghost use Rattle.std.specs.Prelude.{◌<◌, ◌≤◌, ◌^◌};
 
@@ -81,7 +82,8 @@ fn samples_of_a_line(rt: HostRuntime) -> Result<(), Fail> {
     Ok(())
 }
 
-/// The first cells of a text, in lines of so many, with one separator behind every eight and another behind every line.
+/// The first cells of a text, in lines of so many, with one separator behind every eight and
+/// another behind every line.
 fn in_lines(
     alloc: Global,
     text: &[u8],

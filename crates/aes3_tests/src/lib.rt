@@ -1,4 +1,5 @@
-//! What no contract says of the crates below: worked vectors, ends that fail in mid-stream, a call of each function.
+//! What no contract says of the crates below: worked vectors, ends that fail in mid-stream, a call
+//! of each function.
 #![tactic(auto)]
 
 #[cfg(test)]

@@ -135,7 +135,8 @@ fn lines_of_status(rt: HostRuntime) {
     assert!(rt; line.bytes().starts_with(head));
 }
 
-/// A byte's number, its value, and what the line then has. The other bytes are zero, but for byte 0, which is 1.
+/// A byte's number, its value, and what the line then has. The other bytes are zero, but for byte
+/// 0, which is 1.
 const PROFESSIONAL: &[(usize, u8, &str)] = &[
     (0, 0x01, " payload=pcm "),
     (0, 0x03, " payload=other "),

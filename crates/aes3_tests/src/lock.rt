@@ -205,8 +205,8 @@ fn reports_of_blocks(rt: HostRuntime) {
                 Line::Whole(24_576, Level::High, true),
             ],
         ),
-        // Four cells changed make a block where none began: a third preamble becomes a first one, and the next first one
-        // a third.
+        // Four cells changed make a block where none began: a third preamble becomes a first one,
+        // and the next first one a third.
         (
             &[
                 Piece::Lines(Level::Low, 0, 2),
@@ -236,7 +236,8 @@ fn fourteen_reports_within_64_cells(rt: HostRuntime) {
     expect(&rt, rt.alloc(), &DENSE_PIECES, &lines);
 }
 
-/// Run with each allocation refused in turn, this shows that the slow form answers its error or the same reports.
+/// Run with each allocation refused in turn, this shows that the slow form answers its error or the
+/// same reports.
 #[test]
 fn refused_memory_is_told(rt: HostRuntime) {
     if let Ok(cells) = cells_of(rt.alloc(), &DENSE_PIECES)

@@ -1,4 +1,5 @@
-//! Every job over a source and a sink that fail at each call in turn, and over ends that give or take few bytes.
+//! Every job over a source and a sink that fail at each call in turn, and over ends that give or
+//! take few bytes.
 
 ghost use Rattle.std.specs.Prelude.{◌<◌, ◌≤◌};
 
@@ -160,7 +161,8 @@ struct Inputs {
     two: Vec<u8>,
     /// Its first 200 lines, and then the block.
     early: Vec<u8>,
-    /// The block in the other polarity, with a space after every 8 cells and CR LF behind each line.
+    /// The block in the other polarity, with a space after every 8 cells and CR LF behind each
+    /// line.
     other: Vec<u8>,
     /// The zero block twice as a block file, and as packed cells.
     file: Vec<u8>,
@@ -260,8 +262,9 @@ fn normal_cells(rt: HostRuntime) -> Result<(), Fail> {
     Ok(())
 }
 
-/// The zero block whose first channel has the status of which the first bit is 1 and no other but those of its check byte, 32 in
-/// hexadecimal: the last two slots, channel status and parity, of the first channel in frames 0, 185, 188 and 189.
+/// The zero block whose first channel has the status of which the first bit is 1 and no other but
+/// those of its check byte, 32 in hexadecimal: the last two slots, channel status and parity, of
+/// the first channel in frames 0, 185, 188 and 189.
 fn first_bit_text(alloc: Global) -> Result<Vec<u8>, AllocError> {
     let mut text = block_text(alloc, ZEROS)?;
     for line in [0, 370, 376, 378] {
@@ -384,7 +387,8 @@ fn status_of_cells(rt: HostRuntime) -> Result<(), Fail> {
     Ok(())
 }
 
-/// Adds the lines of the preambles of the zero block's first lines, the first of which is at a cell, after a level.
+/// Adds the lines of the preambles of the zero block's first lines, the first of which is at a
+/// cell, after a level.
 fn add_marks(
     marks: &mut Vec<u8>,
     alloc: Global,

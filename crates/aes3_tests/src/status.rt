@@ -97,7 +97,8 @@ fn consumer_codes(fields: &Con) -> [u8; 14] {
 
 #[test]
 fn consumer_fields(rt: HostRuntime) {
-    // A compact disc: copyright not asserted, 48 kHz, 24 bits of 24; and one with other numbers, 16 bits of 20.
+    // A compact disc: copyright not asserted, 48 kHz, 24 bits of 24; and one with other numbers, 16
+    // bits of 20.
     for (front, codes) in [
         (
             [0x04, 0x01, 0x21, 0x02, 0x0B, 0],

@@ -30,9 +30,12 @@ fn put_change<T: Sink>(
     sink: &mut T,
 ) -> Result<(), Fault>
     requires room { T.failed sink.old + 1 < 2 ^ 64 }
-    ensures line { IfOk result (λ _. Grew (T.taken sink.old) (T.taken sink.new) (change_line channel number before status.now)) }
+    ensures line { IfOk result (λ _. Grew (T.taken sink.old) (T.taken sink.new)
+        (change_line channel number before status.now)) }
     ensures count { IfOk result (λ _. T.failed sink.new ≡ T.failed sink.old) }
-    ensures err { OnErr result ((T.failed sink.new ≡ T.failed sink.old + 1) × GrewFront (T.taken sink.old) (T.taken sink.new) (change_line channel number before status.now)) }
+    ensures err { OnErr result ((T.failed sink.new ≡ T.failed sink.old + 1)
+        × GrewFront (T.taken sink.old) (T.taken sink.new)
+        (change_line channel number before status.now)) }
 {
     if let Some(before) = before
         && before == *status
@@ -71,14 +74,20 @@ impl ChangeLines {
         requires room { T.failed sink.old + 1 < 2 ^ 64 }
         ensures tally { self.new.tally ≡ self.old.tally }
         ensures first { IfOk result (λ _. self.new.first ≡ Some (status_of block.now channel.First)) }
-        ensures second { IfOk result (λ _. self.new.second ≡ Some (status_of block.now channel.Second)) }
+        ensures second { IfOk result (λ _. self.new.second
+            ≡ Some (status_of block.now channel.Second)) }
         ensures lines { IfOk result (λ _. Grew (T.taken sink.old) (T.taken sink.new)
-            (change_line channel.First self.old.tally.blocks self.old.first (status_of block.now channel.First)
-            ++ change_line channel.Second self.old.tally.blocks self.old.second (status_of block.now channel.Second))) }
+            (change_line channel.First self.old.tally.blocks self.old.first
+            (status_of block.now channel.First)
+            ++ change_line channel.Second self.old.tally.blocks self.old.second
+            (status_of block.now channel.Second))) }
         ensures count { IfOk result (λ _. T.failed sink.new ≡ T.failed sink.old) }
-        ensures err { OnErr result ((T.failed sink.new ≡ T.failed sink.old + 1) × GrewFront (T.taken sink.old) (T.taken sink.new)
-            (change_line channel.First self.old.tally.blocks self.old.first (status_of block.now channel.First)
-            ++ change_line channel.Second self.old.tally.blocks self.old.second (status_of block.now channel.Second))) }
+        ensures err { OnErr result ((T.failed sink.new ≡ T.failed sink.old + 1)
+            × GrewFront (T.taken sink.old) (T.taken sink.new)
+            (change_line channel.First self.old.tally.blocks self.old.first
+            (status_of block.now channel.First)
+            ++ change_line channel.Second self.old.tally.blocks self.old.second
+            (status_of block.now channel.Second))) }
     {
         let first = block.channel_status(Channel::First);
         let second = block.channel_status(Channel::Second);
@@ -102,13 +111,16 @@ impl ChangeLines {
     fn put<T: Sink>(&mut self, sink: &mut T, report: &Report) -> Result<(), Fault>
         requires room { T.failed sink.old + 1 < 2 ^ 64 }
         ensures tally { self.new.tally ≡ self.old.tally }
-        ensures last { IfOk result (λ _. (bs : List (List (List Bool))) → AreLast self.old.first self.old.second bs
+        ensures last { IfOk result (λ _. (bs : List (List (List Bool)))
+            → AreLast self.old.first self.old.second bs
             → AreLast self.new.first self.new.second (bs ++ wholes (report.now ∷ []))) }
-        ensures lines { IfOk result (λ _. (bs : List (List (List Bool))) → AreLast self.old.first self.old.second bs → self.old.tally.blocks ≡ length bs
+        ensures lines { IfOk result (λ _. (bs : List (List (List Bool)))
+            → AreLast self.old.first self.old.second bs → self.old.tally.blocks ≡ length bs
             → Grew (T.taken sink.old) (T.taken sink.new) (report_changes bs report.now)) }
         ensures count { IfOk result (λ _. T.failed sink.new ≡ T.failed sink.old) }
         ensures err_count { OnErr result (T.failed sink.new ≡ T.failed sink.old + 1) }
-        ensures err_lines { OnErr result ((bs : List (List (List Bool))) → AreLast self.old.first self.old.second bs → self.old.tally.blocks ≡ length bs
+        ensures err_lines { OnErr result ((bs : List (List (List Bool)))
+            → AreLast self.old.first self.old.second bs → self.old.tally.blocks ≡ length bs
             → GrewFront (T.taken sink.old) (T.taken sink.new) (report_changes bs report.now)) }
     {
         match report {
@@ -121,7 +133,8 @@ impl ChangeLines {
 }
 
 impl Reporter for ChangeLines {
-    ghost follows = { λ k. Changes k.first k.second k.tally.blocks k.tally.faults k.tally.unfinished };
+    ghost follows = { λ k.
+        Changes k.first k.second k.tally.blocks k.tally.faults k.tally.unfinished };
 
     ghost writes = { λ _. changing };
 
@@ -178,11 +191,13 @@ pub fn show_changes<S: Source, T: Sink>(
 
     // Where it answers Ok, exactly the lines of the blocks are written that are their first or a
     // change, in order of place.
-    ensures lines { IfOk result (λ _. (b : List ℕ) → Told (S.given source.old) (S.given source.new) b
+    ensures lines { IfOk result (λ _. (b : List ℕ)
+        → Told (S.given source.old) (S.given source.new) b
         → Grew (T.taken sink.old) (T.taken sink.new) (change_lines (blocks (cells_of input b)))) }
     // It is a run over cells: Ok is owed, a refusal has its cause, and what was decided before it
     // is written.
-    ensures run { CellRun max_bytes input (λ c. change_lines (blocks c)) (λ c. change_lines (decided_blocks c)) (counts_of input)
+    ensures run { CellRun max_bytes input (λ c. change_lines (blocks c))
+        (λ c. change_lines (decided_blocks c)) (counts_of input)
         (S.has_ended source.new) (movement_of S.given S.failed source.old source.new)
         (movement_of T.taken T.failed sink.old sink.new) result }
     ensures passed_on { IfOk result (λ _. T.passed sink.new ≡ T.taken sink.new) }

@@ -91,7 +91,8 @@ fn is_told(field: Field, under: u8, code: u8) -> bool
 
 /// Appends what a code is printed as.
 fn add_text(text: &mut String, field: Field, under: u8, code: u8) -> Result<(), AllocError>
-    ensures { IfOk result (λ _. text.new.bytes.items ≡ text.old.bytes.items ++ code_text field under code) }
+    ensures { IfOk result (λ _. text.new.bytes.items ≡ text.old.bytes.items
+        ++ code_text field under code) }
 {
     let mut line = Line::new();
     put_code(&mut line, field, under, code);
@@ -104,7 +105,8 @@ fn add_text(text: &mut String, field: Field, under: u8, code: u8) -> Result<(), 
 /// Appends what is told of a code: nothing where it has no word or is told already; of the codes of
 /// a byte the first and the last.
 fn add_code(text: &mut String, field: Field, under: u8, code: u8) -> Result<(), AllocError>
-    ensures { IfOk result (λ _. text.new.bytes.items ≡ text.old.bytes.items ++ code_choice field under code) }
+    ensures { IfOk result (λ _. text.new.bytes.items ≡ text.old.bytes.items
+        ++ code_choice field under code) }
 {
     if !has_word(field, under, code) || is_told(field, under, code) {
         return Ok(());
@@ -121,7 +123,8 @@ fn add_code(text: &mut String, field: Field, under: u8, code: u8) -> Result<(), 
 
 /// Appends what the codes of a field are printed as, where the number `under` tells what they mean.
 fn add_codes(text: &mut String, field: Field, under: u8) -> Result<(), AllocError>
-    ensures { IfOk result (λ _. text.new.bytes.items ≡ text.old.bytes.items ++ code_choices field under) }
+    ensures { IfOk result (λ _. text.new.bytes.items ≡ text.old.bytes.items
+        ++ code_choices field under) }
 {
     for code in 0..field.codes() {
         add_code(text, field, under, code as u8)?;
@@ -171,7 +174,8 @@ fn add_named_line(
     setting: &str,
 ) -> Result<(), AllocError>
     ensures { IfOk result (λ _. text.new.bytes.items
-        ≡ text.old.bytes.items ++ (head.now ++ flat_map (named_choices setting.now) fields.now ++ 10 ∷ [])) }
+        ≡ text.old.bytes.items ++ (head.now ++ flat_map (named_choices setting.now) fields.now
+        ++ 10 ∷ [])) }
 {
     text.push_str(head)?;
     add_named(text, fields, setting)?;

@@ -79,7 +79,8 @@ impl Line {
         requires name { length name.now ≤ NAME_LEN }
         requires words { IsTrue (are_within WORD_LEN words.now) }
         requires space { length self.old + FIELD_LEN ≤ LINE_LEN }
-        ensures field { self.new ≡ self.old ++ field_text name.now (word_for (rows_of words.now) code) }
+        ensures field { self.new ≡ self.old ++ field_text name.now
+            (word_for (rows_of words.now) code) }
         ensures len { length self.new ≤ length self.old + FIELD_LEN }
     {
         self.field(name);

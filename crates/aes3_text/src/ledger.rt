@@ -59,10 +59,12 @@ impl Ledger {
         ensures lines { self.new.lines ≡ self.old.lines }
         ensures tally { self.new.tally ≡ self.old.tally }
         ensures place { IfOk result (λ _. self.new.place ≡ behind_full self.old.place to) }
-        ensures lost { IfOk result (λ _. self.new.lost ≡ self.old.lost + full_count self.old.place to) }
+        ensures lost { IfOk result (λ _. self.new.lost
+            ≡ self.old.lost + full_count self.old.place to) }
         ensures few { IfOk result (λ _. self.new.lost ≤ self.old.lost + to) }
         ensures wrote { Wrote T.taken T.failed sink.old sink.new
-            (account_lines self.old.lines (full_gaps self.old.place (full_count self.old.place to))) result }
+            (account_lines self.old.lines (full_gaps self.old.place (full_count self.old.place to)))
+            result }
     {
         let count = to.saturating_sub(self.place) / BLOCK_CELLS;
         'gaps: for _told in 0..count {
@@ -82,7 +84,8 @@ impl Ledger {
         requires few { self.old.lost + 1 < 2 ^ 64 }
         ensures lines { self.new.lines ≡ self.old.lines }
         ensures tally { self.new.tally ≡ self.old.tally }
-        ensures lost { self.new.lost ≡ self.old.lost + length (filter is_lost (rest_gap counts self.old.place to)) }
+        ensures lost { self.new.lost ≡ self.old.lost + length
+            (filter is_lost (rest_gap counts self.old.place to)) }
         ensures few { self.new.lost ≤ self.old.lost + 1 }
         ensures wrote { Wrote T.taken T.failed sink.old sink.new
             (account_lines self.old.lines (rest_gap counts self.old.place to)) result }
@@ -105,7 +108,8 @@ impl Ledger {
         requires few { self.old.lost + to + 1 < 2 ^ 64 }
         ensures lines { self.new.lines ≡ self.old.lines }
         ensures tally { self.new.tally ≡ self.old.tally }
-        ensures lost { IfOk result (λ _. self.new.lost ≡ self.old.lost + length (filter is_lost (gaps counts self.old.place to))) }
+        ensures lost { IfOk result (λ _. self.new.lost
+            ≡ self.old.lost + length (filter is_lost (gaps counts self.old.place to))) }
         ensures few { IfOk result (λ _. self.new.lost ≤ self.old.lost + to + 1) }
         ensures wrote { Wrote T.taken T.failed sink.old sink.new
             (account_lines self.old.lines (gaps counts self.old.place to)) result }
@@ -126,10 +130,13 @@ impl Ledger {
         ensures lines { self.new.lines ≡ self.old.lines }
         ensures tally { self.new.tally ≡ self.old.tally }
         ensures place { IfOk result (λ _. self.new.place ≡ behind_report self.old.place report.now) }
-        ensures lost { IfOk result (λ _. self.new.lost ≡ self.old.lost + length (filter is_lost (gaps_before self.old.tally.blocks self.old.place report.now))) }
+        ensures lost { IfOk result (λ _. self.new.lost
+            ≡ self.old.lost + length (filter is_lost
+            (gaps_before self.old.tally.blocks self.old.place report.now))) }
         ensures few { IfOk result (λ _. self.new.lost ≤ self.old.lost + place_of report.now + 1) }
         ensures wrote { Wrote T.taken T.failed sink.old sink.new
-            (account_lines self.old.lines (gaps_before self.old.tally.blocks self.old.place report.now)) result }
+            (account_lines self.old.lines
+            (gaps_before self.old.tally.blocks self.old.place report.now)) result }
     {
         match report {
             Report::Whole { at, .. } => {
@@ -154,12 +161,17 @@ impl Ledger {
         requires near { place_of report.now ≤ 2 ^ 43 }
         requires tally { (r : List Report) × (length r + 1 < 2 ^ 44) × IsTallyOf self.old.tally r }
         ensures lines { self.new.lines ≡ self.old.lines }
-        ensures tally { IfOk result (λ _. (r : List Report) → IsTallyOf self.old.tally r → IsTallyOf self.new.tally (r ++ report.now ∷ [])) }
+        ensures tally { IfOk result (λ _. (r : List Report) → IsTallyOf self.old.tally r
+            → IsTallyOf self.new.tally (r ++ report.now ∷ [])) }
         ensures place { IfOk result (λ _. self.new.place ≡ behind_report self.old.place report.now) }
-        ensures lost { IfOk result (λ _. self.new.lost ≡ self.old.lost + length (filter is_lost (gaps_before self.old.tally.blocks self.old.place report.now))) }
+        ensures lost { IfOk result (λ _. self.new.lost
+            ≡ self.old.lost + length (filter is_lost
+            (gaps_before self.old.tally.blocks self.old.place report.now))) }
         ensures few { IfOk result (λ _. self.new.lost ≤ self.old.lost + place_of report.now + 1) }
         ensures wrote { Wrote T.taken T.failed sink.old sink.new
-            (account_lines self.old.lines (gaps_before self.old.tally.blocks self.old.place report.now ++ reported report.now ∷ [])) result }
+            (account_lines self.old.lines
+            (gaps_before self.old.tally.blocks self.old.place report.now
+            ++ reported report.now ∷ [])) result }
     {
         self.tell_before(sink, report)?;
         tell_report(self.lines, report, sink)?;
@@ -176,13 +188,15 @@ impl Ledger {
         requires following { (c d : List Level) × (seen ≤ 2 ^ 43) × (seen ≡ length (c ++ d))
             × IsLedgerOf self.old c }
         ensures lines { self.new.lines ≡ self.old.lines }
-        ensures next { IfOk result (λ _. WhereNone self.old seen (λ c d. IsLedgerOf self.new (c ++ d))) }
+        ensures next { IfOk result (λ _. WhereNone self.old seen
+            (λ c d. IsLedgerOf self.new (c ++ d))) }
         ensures grew { IfOk result (λ _. WhereNone self.old seen (λ c d.
             Grew (T.taken sink.old) (T.taken sink.new) (behind (accounting self.old.lines) c d))) }
         ensures count { IfOk result (λ _. T.failed sink.new ≡ T.failed sink.old) }
         ensures err_count { OnErr result (T.failed sink.new ≡ T.failed sink.old + 1) }
         ensures err_grew { OnErr result (WhereNone self.old seen (λ c d.
-            GrewFront (T.taken sink.old) (T.taken sink.new) (behind (accounting self.old.lines) c d))) }
+            GrewFront (T.taken sink.old) (T.taken sink.new)
+            (behind (accounting self.old.lines) c d))) }
     {
         self.tell_full(sink, seen.saturating_sub(BLOCK_CELLS))?;
         Ok(())
@@ -199,16 +213,19 @@ impl Ledger {
         seen: u64,
     ) -> Result<(), Fault>
         requires room { T.failed sink.old + 1 < 2 ^ 64 }
-        requires following { (c d : List Level) × (seen ≤ 2 ^ 43) × (seen ≡ length (c ++ d)) × (decided (c ++ d) ≡ decided c ++ report.now ∷ [])
+        requires following { (c d : List Level) × (seen ≤ 2 ^ 43) × (seen ≡ length (c ++ d))
+            × (decided (c ++ d) ≡ decided c ++ report.now ∷ [])
             × IsLedgerOf self.old c }
         ensures lines { self.new.lines ≡ self.old.lines }
-        ensures next { IfOk result (λ _. WhereDecided self.old seen report.now (λ c d. IsLedgerOf self.new (c ++ d))) }
+        ensures next { IfOk result (λ _. WhereDecided self.old seen report.now
+            (λ c d. IsLedgerOf self.new (c ++ d))) }
         ensures grew { IfOk result (λ _. WhereDecided self.old seen report.now (λ c d.
             Grew (T.taken sink.old) (T.taken sink.new) (behind (accounting self.old.lines) c d))) }
         ensures count { IfOk result (λ _. T.failed sink.new ≡ T.failed sink.old) }
         ensures err_count { OnErr result (T.failed sink.new ≡ T.failed sink.old + 1) }
         ensures err_grew { OnErr result (WhereDecided self.old seen report.now (λ c d.
-            GrewFront (T.taken sink.old) (T.taken sink.new) (behind (accounting self.old.lines) c d))) }
+            GrewFront (T.taken sink.old) (T.taken sink.new)
+            (behind (accounting self.old.lines) c d))) }
     {
         self.tell(sink, report)?;
         self.tell_full(sink, seen.saturating_sub(BLOCK_CELLS))?;
@@ -246,9 +263,11 @@ impl Ledger {
         seen: u64,
     ) -> Result<(), Fault>
         requires room { T.failed sink.old + 1 < 2 ^ 64 }
-        requires following { (c : List Level) × (seen ≤ 2 ^ 43) × (seen ≡ length c) × (reports c ≡ decided c ++ report.now ∷ [])
+        requires following { (c : List Level) × (seen ≤ 2 ^ 43) × (seen ≡ length c)
+            × (reports c ≡ decided c ++ report.now ∷ [])
             × IsLedgerOf self.old c }
-        ensures done { IfOk result (λ _. AtEnd self.old seen (report.now ∷ []) (IsClosedLedgerOf self.new)) }
+        ensures done { IfOk result (λ _. AtEnd self.old seen (report.now ∷ [])
+            (IsClosedLedgerOf self.new)) }
         ensures grew { IfOk result (λ _. AtEnd self.old seen (report.now ∷ []) (λ c.
             Grew (T.taken sink.old) (T.taken sink.new) ((accounting self.old.lines).ends c))) }
         ensures count { IfOk result (λ _. T.failed sink.new ≡ T.failed sink.old) }

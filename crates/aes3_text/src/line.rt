@@ -26,7 +26,8 @@ impl Model for Line {
 }
 
 impl Line {
-    ghost use Rattle.std.specs.Prelude.{◌≡◌, ◌↔◌, ◌<◌, ◌≤◌, ◌+◌, [], ◌∷◌, ◌++◌, ◌^◌, IsTrue, codes, decimal, length};
+    ghost use Rattle.std.specs.Prelude.{◌≡◌, ◌↔◌, ◌<◌, ◌≤◌, ◌+◌, [], ◌∷◌, ◌++◌, ◌^◌, IsTrue, codes};
+    ghost use Rattle.std.specs.Prelude.{decimal, length};
     ghost use Rattle.aes3_cell.specs.Writes.{Wrote};
     ghost use Rattle.aes3_text.specs.Lines.{level_digit};
 

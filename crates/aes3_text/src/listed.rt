@@ -29,7 +29,8 @@ struct Pair {
 /// What a text sets for the two uses; `None` where it is nothing for either.
 fn pair_of(text: &str) -> Option<Pair>
     ensures known { IfSome result (λ pair. ¬ IsUnknown text.now) }
-    ensures professional { IfSome result (λ pair. IsSetBy text.now professional_fields pair.professional) }
+    ensures professional { IfSome result (λ pair.
+        IsSetBy text.now professional_fields pair.professional) }
     ensures consumer { IfSome result (λ pair. IsSetBy text.now consumer_fields pair.consumer) }
     ensures none { result ≡ None → IsUnknown text.now }
 {

@@ -1,8 +1,10 @@
 //! The line of a preamble.
 
-ghost use Rattle.std.specs.Prelude.{◌≡◌, ◌<◌, ◌≤◌, ◌+◌, ◌*◌, ◌/◌, ◌%◌, ◌^◌, ◌++◌, ◌∷◌, [], codes, decimal, length, take};
+ghost use Rattle.std.specs.Prelude.{◌≡◌, ◌<◌, ◌≤◌, ◌+◌, ◌*◌, ◌/◌, ◌%◌, ◌^◌, ◌++◌, ◌∷◌, [], codes};
+ghost use Rattle.std.specs.Prelude.{decimal, length, take};
 ghost use Rattle.aes3_cell.specs.Writes.{Wrote};
-ghost use Rattle.aes3_text.specs.Lines.{level_digit, mark_beginning, mark_ending, mark_letter, mark_line};
+ghost use Rattle.aes3_text.specs.Lines.{level_digit, mark_beginning, mark_ending, mark_letter};
+ghost use Rattle.aes3_text.specs.Lines.{mark_line};
 
 use crate::line::Line;
 use aes3_cell::{Fault, Level, Sink};
@@ -134,7 +136,8 @@ fn two_digits(number: u32) -> [u8; 2]
     [b'0' + (number / 10) as u8, b'0' + (number % 10) as u8]
 }
 
-/// Puts the line of a preamble at cell `at`, whose number begins with these digits, and answers how many bytes it has.
+/// Puts the line of a preamble at cell `at`, whose number begins with these digits, and answers how
+/// many bytes it has.
 #[inline(always)]
 pub(crate) fn put_mark(
     line: &mut [u8],

@@ -1,6 +1,7 @@
 //! Preambles, line by line.
 
-ghost use Rattle.std.specs.Prelude.{◌≡◌, ℕ, ◌+◌, ◌<◌, ◌≤◌, ◌^◌, ◌++◌, List, [], length, IfOk, OnErr};
+ghost use Rattle.std.specs.Prelude.{◌≡◌, ℕ, ◌+◌, ◌<◌, ◌≤◌, ◌^◌, ◌++◌, List, [], length, IfOk};
+ghost use Rattle.std.specs.Prelude.{OnErr};
 ghost use Rattle.aes3_cell.specs.Ends.{Grew, GrewFront, Told};
 ghost use Rattle.aes3_cell.specs.Words.{word_cells};
 ghost use Rattle.aes3_cell.specs.Writes.{Wrote};
@@ -55,8 +56,8 @@ impl MarkLines {
         self.lines.push(found.0, found.1, found.2);
     }
 
-    /// Counts a preamble that the scan told, and makes its line. It hands on the lines where a further one might not fit,
-    /// or where the sink would rather take each alone.
+    /// Counts a preamble that the scan told, and makes its line. It hands on the lines where a
+    /// further one might not fit, or where the sink would rather take each alone.
     ///
     /// # Errors
     /// The sink's fault; then it has taken a front of the lines.
@@ -67,10 +68,12 @@ impl MarkLines {
         ensures scan { self.new.scan ≡ self.old.scan }
         ensures marks { self.new.marks ≡ self.old.marks + 1 }
         ensures fits { IfOk result (λ _. length self.new.lines + MARK_LEN ≤ GATHERED_LEN) }
-        ensures wrote { IfOk result (λ _. AllButHeld (T.taken sink.old) (T.taken sink.new) self.old.lines self.new.lines (mark_line found.0 found.1 found.2)) }
+        ensures wrote { IfOk result (λ _. AllButHeld (T.taken sink.old) (T.taken sink.new)
+            self.old.lines self.new.lines (mark_line found.0 found.1 found.2)) }
         ensures count { IfOk result (λ _. T.failed sink.new ≡ T.failed sink.old) }
         ensures err { OnErr result ((T.failed sink.new ≡ T.failed sink.old + 1)
-            × GrewFront (T.taken sink.old) (T.taken sink.new) (self.old.lines ++ mark_line found.0 found.1 found.2)) }
+            × GrewFront (T.taken sink.old) (T.taken sink.new)
+            (self.old.lines ++ mark_line found.0 found.1 found.2)) }
     {
         self.gather(found);
         if sink.takes_much() && !self.lines.is_full() {
@@ -114,7 +117,8 @@ impl MarkLines {
         ensures scan { IfOk result (λ _. self.new.scan ≡ self.old.scan) }
         ensures marks { IfOk result (λ _. self.new.marks ≡ self.old.marks + length found) }
         ensures fits { IfOk result (λ _. length self.new.lines + MARK_LEN ≤ GATHERED_LEN) }
-        ensures wrote { IfOk result (λ _. AllButHeld (T.taken sink.old) (T.taken sink.new) self.old.lines self.new.lines (mark_lines found)) }
+        ensures wrote { IfOk result (λ _. AllButHeld (T.taken sink.old) (T.taken sink.new)
+            self.old.lines self.new.lines (mark_lines found)) }
         ensures count { IfOk result (λ _. T.failed sink.new ≡ T.failed sink.old) }
         ensures err { OnErr result ((T.failed sink.new ≡ T.failed sink.old + 1)
             × GrewFront (T.taken sink.old) (T.taken sink.new) (self.old.lines ++ mark_lines found)) }
@@ -136,15 +140,19 @@ impl MarkLines {
     fn take_word<T: Sink>(&mut self, sink: &mut T, word: u64) -> Result<(), Fault>
         requires fits { length self.old.lines + MARK_LEN ≤ GATHERED_LEN }
         requires room { T.failed sink.old + 1 < 2 ^ 64 }
-        requires following { (c : List Level) × (length c + 64 ≤ 2 ^ 43) × Scanned self.old.scan self.old.marks c }
-        ensures next { IfOk result (λ _. (c : List Level) → Scanned self.old.scan self.old.marks c → Scanned self.new.scan self.new.marks (c ++ word_cells word)) }
+        requires following { (c : List Level) × (length c + 64 ≤ 2 ^ 43)
+            × Scanned self.old.scan self.old.marks c }
+        ensures next { IfOk result (λ _. (c : List Level) → Scanned self.old.scan self.old.marks c
+            → Scanned self.new.scan self.new.marks (c ++ word_cells word)) }
         ensures fits { IfOk result (λ _. length self.new.lines + MARK_LEN ≤ GATHERED_LEN) }
         ensures wrote { IfOk result (λ _. (c : List Level) → Scanned self.old.scan self.old.marks c
-            → AllButHeld (T.taken sink.old) (T.taken sink.new) self.old.lines self.new.lines (behind marking c (word_cells word))) }
+            → AllButHeld (T.taken sink.old) (T.taken sink.new) self.old.lines self.new.lines
+            (behind marking c (word_cells word))) }
         ensures count { IfOk result (λ _. T.failed sink.new ≡ T.failed sink.old) }
         ensures err_count { OnErr result (T.failed sink.new ≡ T.failed sink.old + 1) }
         ensures err_grew { OnErr result ((c : List Level) → Scanned self.old.scan self.old.marks c
-            → GrewFront (T.taken sink.old) (T.taken sink.new) (self.old.lines ++ behind marking c (word_cells word))) }
+            → GrewFront (T.taken sink.old) (T.taken sink.new)
+            (self.old.lines ++ behind marking c (word_cells word))) }
     {
         let found = self.scan.take_word(word);
         match self.tell_all(sink, found) {
@@ -190,11 +198,12 @@ impl Taker for MarkLines {
     }
 }
 
-/// Reads cells from any cell on, and writes a line for each place where eight cells are a preamble, in step with a block
-/// or not (AES3-3; IEC 60958-1).
+/// Reads cells from any cell on, and writes a line for each place where eight cells are a preamble,
+/// in step with a block or not (AES3-3; IEC 60958-1).
 ///
 /// # Errors
-/// Those of `check`; then the lines of the preambles are written that ended before, and after `Write` a front of them.
+/// Those of `check`; then the lines of the preambles are written that ended before, and after
+/// `Write` a front of them.
 pub fn scan<S: Source, T: Sink>(
     source: &mut S,
     sink: &mut T,
@@ -206,10 +215,13 @@ pub fn scan<S: Source, T: Sink>(
     requires limit { max_bytes ≤ 2 ^ 40 }
 
     // Where it answers Ok, exactly the lines of the preambles are written, in order of place.
-    ensures lines { IfOk result (λ _. (b : List ℕ) → Told (S.given source.old) (S.given source.new) b
+    ensures lines { IfOk result (λ _. (b : List ℕ)
+        → Told (S.given source.old) (S.given source.new) b
         → Grew (T.taken sink.old) (T.taken sink.new) (mark_lines (marks (cells_of input b)))) }
-    // It is a run over cells: Ok is owed, a refusal has its cause, and what was told before it is written.
-    ensures run { CellRun max_bytes input (λ c. mark_lines (marks c)) (λ c. mark_lines (marks c)) (scan_counts input)
+    // It is a run over cells: Ok is owed, a refusal has its cause, and what was told before it is
+    // written.
+    ensures run { CellRun max_bytes input (λ c. mark_lines (marks c)) (λ c. mark_lines (marks c))
+        (scan_counts input)
         (S.has_ended source.new) (movement_of S.given S.failed source.old source.new)
         (movement_of T.taken T.failed sink.old sink.new) result }
     ensures passed_on { IfOk result (λ _. T.passed sink.new ≡ T.taken sink.new) }

@@ -93,8 +93,10 @@ pub(crate) fn code_of(field: Field, under: u8, text: &str) -> Option<u8>
 /// mean.
 fn codes_of(field: Field, text: &str) -> [Option<u8>; 8]
     ensures len { length result ≡ 8 }
-    ensures some { (under : ℕ) → under < 8 → IfSome (get_or result under None) (IsCodeOf text.now field under) }
-    ensures none { (under code : ℕ) → under < 8 → get_or result under None ≡ None → ¬ IsCodeOf text.now field under code }
+    ensures some { (under : ℕ) → under < 8 → IfSome (get_or result under None)
+        (IsCodeOf text.now field under) }
+    ensures none { (under code : ℕ) → under < 8 → get_or result under None ≡ None
+        → ¬ IsCodeOf text.now field under code }
 {
     [
         code_of(field, 0, text),
@@ -110,7 +112,8 @@ fn codes_of(field: Field, text: &str) -> [Option<u8>; 8]
 
 /// Whether there is a code.
 fn has_code(codes: &[Option<u8>; 8]) -> bool
-    ensures some { IsTrue result → (under : ℕ) × (under < 8) × (get_or codes.now under None ≢ None) }
+    ensures some { IsTrue result → (under : ℕ) × (under < 8)
+        × (get_or codes.now under None ≢ None) }
     ensures none { IsFalse result → (under : ℕ) → under < 8 → get_or codes.now under None ≡ None }
 {
     for code in codes {

@@ -70,11 +70,13 @@ pub fn show<S: Source, T: Sink>(
     requires limit { max_bytes ≤ 2 ^ 40 }
 
     // Where it answers Ok, exactly the lines of the blocks are written, in order of place.
-    ensures lines { IfOk result (λ _. (b : List ℕ) → Told (S.given source.old) (S.given source.new) b
+    ensures lines { IfOk result (λ _. (b : List ℕ)
+        → Told (S.given source.old) (S.given source.new) b
         → Grew (T.taken sink.old) (T.taken sink.new) (status_lines (blocks (cells_of input b)))) }
     // It is a run over cells: Ok is owed, a refusal has its cause, and what was decided before it
     // is written.
-    ensures run { CellRun max_bytes input (λ c. status_lines (blocks c)) (λ c. status_lines (decided_blocks c)) (counts_of input)
+    ensures run { CellRun max_bytes input (λ c. status_lines (blocks c))
+        (λ c. status_lines (decided_blocks c)) (counts_of input)
         (S.has_ended source.new) (movement_of S.given S.failed source.old source.new)
         (movement_of T.taken T.failed sink.old sink.new) result }
     ensures passed_on { IfOk result (λ _. T.passed sink.new ≡ T.taken sink.new) }

@@ -6,8 +6,9 @@ pub fn preambles_are_apart()
     ensures { CandidatesApart }
 {}
 
-/// 64 cells decide fourteen reports at most, whatever cells come before them: each candidate but the first that is decided
-/// begins within the last seven cells before them or the first 56 of them.
+/// 64 cells decide fourteen reports at most, whatever cells come before them: each candidate but
+/// the first that is decided begins within the last seven cells before them or the first 56 of
+/// them.
 pub fn reports_are_few()
     ensures { FewDecided }
 {}
