@@ -6,13 +6,15 @@ use Rattle.clap.specs.Kinds.{HasKind}
 use Rattle.clap.specs.Matches.{subcommand_name_of}
 use Rattle.clap.specs.Simple.{HasMatchesOf, is_simple, subcommand_rows_of}
 use Rattle.clap.specs.Values.{kind_of}
-use Rattle.clap.specs.Walk.{Row, Text}
+use Rattle.clap.specs.Walk.{Row, Text, all_of}
 use Rattle.clap.specs.declared.error.Error.{Error}
 use Rattle.clap.specs.declared.error.kind.ErrorKind.{ErrorKind}
 use Rattle.clap.specs.declared.parser.matches.ArgMatches.{ArgMatches}
 use Rattle.clap.specs.declared.parser.matches.ArgMatches.TheViews.{out-ArgMatches}
 use Rattle.aes3.specs.CommandLine.{command_line}
-use Rattle.aes3.specs.Jobs.{AreBadSettings, IsBadOptionOf, IsFaultOf, IsSettingsFaultOf, Options, StandsIn, Tells, TellsSettings, faults_in}
+use Rattle.aes3_text.specs.Settings.{IsSettingsFault}
+use Rattle.aes3_text.specs.declared.listed.SettingsFault.{SettingsFault}
+use Rattle.aes3.specs.Jobs.{IsBadOptionOf, IsFaultOf, IsSettingsFaultOf, Options, StandsIn, Tells, TellsSettings, faults_in, refused_text}
 use Rattle.aes3.specs.declared.job.LineFault.{LineFault}
 use Rattle.aes3.specs.declared.job.LineFault.TheVariants as fault
 use Rattle.aes3.proofs.OptionRows.{some_inj}
@@ -41,11 +43,17 @@ error_told words e (fault.Refused error) kind tells = inl tells
 -- a bad status is told, and so are bad settings
 pub bad_option_told : (words : List Text) (name : Text) (options : Options) (told : LineFault) → StandsIn words name options
     → IsBadOptionOf name options told → IsFaultOf words told
-bad_option_told words name options (fault.Usage text) stands bad = inr (name, options, stands, bad.0, bad.1)
-bad_option_told words name options (fault.Help text) stands bad = absurd bad.1
-bad_option_told words name options (fault.Refused error) stands bad = elim bad.1 [
-  | inl memory ↦ inl memory
-  | inr status ↦ inr (status.0, (name, options, stands, bad.0, status.1))
+bad_option_told words name options (fault.Usage text) stands bad = inr (name, options, stands, bad)
+bad_option_told words name options (fault.Help text) stands bad = elim bad [ inl rewrite ↦ absurd rewrite.1 | inr from_pcm ↦ absurd from_pcm.1 ]
+bad_option_told words name options (fault.Refused error) stands bad = elim bad [
+  | inl rewrite ↦ elim rewrite.1 [
+    | inl memory ↦ inl memory
+    | inr status ↦ inr (status.0, (name, options, stands, inl rewrite.0, status.1))
+  ]
+  | inr from_pcm ↦ elim from_pcm.1 [
+    | inl memory ↦ inl memory
+    | inr status ↦ inr (status.0, (name, options, stands, inr from_pcm.0, status.1))
+  ]
 ]
 
 both_parts : {X : Type 0} (f : X → Text) (g : X → List Row) (o : Option X) (name : Text) (options : List Row) → Some name ≡ option_map f o
@@ -61,7 +69,9 @@ command_stands words m name options none matches named rows =
     (none, sym (matches line_is_simple).1 ∙ both_parts _ _ (out-ArgMatches m).subcommand name options named rows)
 
 -- what is told of settings that are none
-pub settings_told : (options : Options) (name : Text) (told : LineFault) → TellsSettings told → AreBadSettings options name → IsSettingsFaultOf options name told
-settings_told options name (fault.Usage text) tells bad = bad
-settings_told options name (fault.Help text) tells bad = tells
-settings_told options name (fault.Refused error) tells bad = tells
+pub settings_told : (options : Options) (name usage : Text) (texts : List Text) (why : SettingsFault) (told : LineFault)
+    → TellsSettings (refused_text name usage texts why) told → all_of name options ≡ Some texts → IsSettingsFault texts why
+    → IsSettingsFaultOf options name usage told
+settings_told options name usage texts why (fault.Usage text) tells given bad = (texts, why, given, bad, tells)
+settings_told options name usage texts why (fault.Help text) tells given bad = tells
+settings_told options name usage texts why (fault.Refused error) tells given bad = tells

@@ -1,5 +1,5 @@
 -- What a command line asks for, by what `clap` makes of its words.
-use Rattle.std.specs.Prelude.{ℕ, Bool, List, [], ◌∷◌, ◌≡◌, ◌≢◌, ◌⊎◌, Option, Some, None, codes, true, false}
+use Rattle.std.specs.Prelude.{ℕ, Bool, List, [], ◌∷◌, ◌++◌, ◌≡◌, ◌≢◌, ◌⊎◌, Option, Some, None, codes, get_or, true, false}
 use Rattle.std.specs.Prelude.{if◌then◌else◌, option_and_then, is_some}
 use Rattle.std.specs.Option.{option_map_or}
 use Rattle.std.specs.Str.{bytes_eq}
@@ -18,8 +18,10 @@ use Rattle.aes3_cell.specs.declared.form.Form.TheVariants as form
 use Rattle.aes3_cell.specs.declared.refusal.RunError.TheVariants.{BadStatusText, Memory}
 use Rattle.aes3_engine.specs.declared.change.Change.{Change}
 use Rattle.aes3_status.specs.declared.setting.Setting.{Setting}
+use Rattle.aes3_text.specs.Choices.{choices}
 use Rattle.aes3_text.specs.Settings.{AreSettingsOf, IsSettingsFault}
 use Rattle.aes3_text.specs.declared.listed.SettingsFault.{SettingsFault}
+use Rattle.aes3_text.specs.declared.listed.SettingsFault.TheVariants.{Unknown, TooMany}
 use Rattle.aes3_text.specs.declared.lines.Lines.{Lines}
 use Rattle.aes3_text.specs.declared.lines.Lines.TheVariants as lines
 use Rattle.aes3.specs.CommandLine.{command_line}
@@ -158,19 +160,58 @@ abbrev pub HasBadStatus : Options → Type 0
 HasBadStatus options =
     IsBadStatus options (codes "status1") ⊎ IsBadStatus options (codes "status2")
 
--- the option's texts have no settings
-abbrev pub AreBadSettings : Options → Text → Type 0
-AreBadSettings options name = (texts : List Text) × (why : SettingsFault)
-    × (all_of name options ≡ Some texts) × IsSettingsFault texts why
+-- a text is no setting
+unfoldable pub value_text : Text → Text
+value_text text = codes "error: invalid value '" ++ text ++ codes "' for "
+
+-- the option `--name` and the end of the line
+unfoldable pub option_text : Text → Text
+option_text name = codes "'--" ++ name ++ (codes " <NAME=WORD>'" ++ 10 ∷ [])
+
+-- a text of the option is no setting, and what could stand in place of it
+unfoldable pub invalid_text : Text → Text → Text
+invalid_text name text = value_text text ++ option_text name ++ choices text
+
+-- more texts of it than may stand
+unfoldable pub many_text : Text → Text
+many_text name = codes "error: more than 32 of '--" ++ name ++ (codes " <NAME=WORD>'" ++ 10 ∷ [])
+
+-- why texts of the option `--name` have no settings
+abbrev pub fault_text : Text → List Text → SettingsFault → Text
+fault_text name texts (Unknown at) = invalid_text name (get_or texts at [])
+fault_text name texts TooMany = many_text name
+
+-- what is told of that, where the command is called by `usage`
+unfoldable pub refused_text : Text → Text → List Text → SettingsFault → Text
+refused_text name usage texts why =
+    fault_text name texts why ++ (10 ∷ codes "Usage: ") ++ usage ++ (10 ∷ 10 ∷ codes "For more information, try '--help'." ++ 10 ∷ [])
+
+-- the option's texts have no settings, and this text tells why
+abbrev pub TellsBadSettings : Options → Text → Text → Text → Type 0
+TellsBadSettings options name usage text = (texts : List Text) × (why : SettingsFault)
+    × (all_of name options ≡ Some texts) × IsSettingsFault texts why × (text ≡ refused_text name usage texts why)
 
 -- the texts for one of the channels have none
-abbrev pub HasBadSettings : Options → Type 0
-HasBadSettings options =
-    AreBadSettings options (codes "set1") ⊎ AreBadSettings options (codes "set2")
+abbrev pub TellsABadSetting : Options → Text → Text → Type 0
+TellsABadSetting options usage text =
+    TellsBadSettings options (codes "set1") usage text ⊎ TellsBadSettings options (codes "set2") usage text
 
 -- the commands that take the status of a channel
 abbrev pub TakesStatus : Text → Type 0
 TakesStatus name = (name ≡ codes "rewrite") ⊎ (name ≡ codes "from-pcm")
+
+-- how they are called
+abbrev pub rewrite_usage : Text
+rewrite_usage = codes "aes3 rewrite [OPTIONS] < CELLS > CELLS"
+
+abbrev pub from_pcm_usage : Text
+from_pcm_usage = codes "aes3 from-pcm [OPTIONS] < PCM > BLOCKFILE"
+
+-- one of their options is a setting that is none, and this text tells why
+abbrev pub TellsABadOption : Text → Options → Text → Type 0
+TellsABadOption name options text =
+    ((name ≡ codes "rewrite") × TellsABadSetting options rewrite_usage text)
+    ⊎ ((name ≡ codes "from-pcm") × TellsABadSetting options from_pcm_usage text)
 
 -- the definitions do not take the words, and ask for no help and no version
 abbrev pub IsNotTaken : List Text → Type 0
@@ -190,7 +231,7 @@ IsExplanation (fault.Refused error) = error ≡ Memory
 -- why the words are no job
 abbrev pub IsFaultOf : List Text → LineFault → Type 0
 IsFaultOf words (fault.Usage text) = (IsNotTaken words ⊎ (asks_to_explain words ≡ true))
-    ⊎ ((name : Text) × (options : Options) × StandsIn words name options × TakesStatus name × HasBadSettings options)
+    ⊎ ((name : Text) × (options : Options) × StandsIn words name options × TellsABadOption name options text.bytes.items)
 IsFaultOf words (fault.Help text) =
     (IsAmong DisplayHelp (faults_in words) ⊎ IsAmong DisplayVersion (faults_in words)) ⊎ (asks_to_explain words ≡ true)
 IsFaultOf words (fault.Refused error) =
@@ -204,24 +245,26 @@ Tells kind (fault.Help text) = (kind ≡ DisplayHelp) ⊎ (kind ≡ DisplayVersi
 Tells kind (fault.Refused error) = error ≡ Memory
 
 -- what is told of settings that are none
-abbrev pub TellsSettings : LineFault → Type 0
-TellsSettings (fault.Usage text) = Unit {0}
-TellsSettings (fault.Help text) = ⊥
-TellsSettings (fault.Refused error) = error ≡ Memory
+abbrev pub TellsSettings : Text → LineFault → Type 0
+TellsSettings told (fault.Usage text) = text.bytes.items ≡ told
+TellsSettings told (fault.Help text) = ⊥
+TellsSettings told (fault.Refused error) = error ≡ Memory
 
 -- why an option's texts give no settings
-abbrev pub IsSettingsFaultOf : Options → Text → LineFault → Type 0
-IsSettingsFaultOf options name (fault.Usage text) = AreBadSettings options name
-IsSettingsFaultOf options name (fault.Help text) = ⊥
-IsSettingsFaultOf options name (fault.Refused error) = error ≡ Memory
+abbrev pub IsSettingsFaultOf : Options → Text → Text → LineFault → Type 0
+IsSettingsFaultOf options name usage (fault.Usage text) = TellsBadSettings options name usage text.bytes.items
+IsSettingsFaultOf options name usage (fault.Help text) = ⊥
+IsSettingsFaultOf options name usage (fault.Refused error) = error ≡ Memory
 
 -- why the options give no change
-abbrev pub IsChangeFaultOf : Options → LineFault → Type 0
-IsChangeFaultOf options (fault.Usage text) = HasBadSettings options
-IsChangeFaultOf options (fault.Help text) = ⊥
-IsChangeFaultOf options (fault.Refused error) =
+abbrev pub IsChangeFaultOf : Options → Text → LineFault → Type 0
+IsChangeFaultOf options usage (fault.Usage text) = TellsABadSetting options usage text.bytes.items
+IsChangeFaultOf options usage (fault.Help text) = ⊥
+IsChangeFaultOf options usage (fault.Refused error) =
     (error ≡ Memory) ⊎ ((error ≡ BadStatusText) × HasBadStatus options)
 
 -- the words are taken and have a bad status or bad settings
 abbrev pub IsBadOptionOf : Text → Options → LineFault → Type 0
-IsBadOptionOf name options told = TakesStatus name × IsChangeFaultOf options told
+IsBadOptionOf name options told =
+    ((name ≡ codes "rewrite") × IsChangeFaultOf options rewrite_usage told)
+    ⊎ ((name ≡ codes "from-pcm") × IsChangeFaultOf options from_pcm_usage told)

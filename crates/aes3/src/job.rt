@@ -7,6 +7,7 @@ ghost use Rattle.aes3.specs.Jobs.{AreSettings, AsksFor, HasStatus, IsBadOptionOf
 ghost use Rattle.aes3.specs.Jobs.{IsChange, IsChangeFaultOf, IsFaultOf, IsJobOf, IsNumber};
 ghost use Rattle.aes3.specs.Jobs.{IsSettingsFaultOf, IsStatus, MayBeFlag, StandsIn, Tells};
 ghost use Rattle.aes3.specs.Jobs.{TellsSettings, form_by, is_set, lines_by, options_of};
+ghost use Rattle.aes3.specs.Jobs.{refused_text};
 ghost use Rattle.aes3.specs.declared.job.LineFault.TheVariants.{Refused};
 ghost use Rattle.aes3_cell.specs.declared.refusal.RunError.TheVariants.{BadStatusText, Memory};
 
@@ -190,7 +191,7 @@ fn number(options: &ArgMatches<'_>, name: &str) -> u64
 fn change(alloc: Global, options: &ArgMatches<'_>, usage: &str) -> Result<Change, LineFault>
     requires { MayBeFlag (options_of options.now) (codes "mend-check") }
     ensures change { IfOk result (IsChange (options_of options.now)) }
-    ensures fault { IfErr result (IsChangeFaultOf (options_of options.now)) }
+    ensures fault { IfErr result (IsChangeFaultOf (options_of options.now) usage.now) }
 {
     Ok(Change {
         status1: status(options, "status1")?,
@@ -224,7 +225,7 @@ fn settings(
     usage: &str,
 ) -> Result<Option<[Setting; SETTINGS]>, LineFault>
     ensures settings { IfOk result (AreSettings (options_of options.now) name.now) }
-    ensures fault { IfErr result (IsSettingsFaultOf (options_of options.now) name.now) }
+    ensures fault { IfErr result (IsSettingsFaultOf (options_of options.now) name.now usage.now) }
 {
     let Some(texts) = options.get_strs(name) else {
         return Ok(None);
@@ -243,7 +244,8 @@ fn settings_fault(
     texts: &[&str],
     fault: SettingsFault,
 ) -> LineFault
-    ensures { TellsSettings result }
+    ensures { TellsSettings (refused_text name.now usage.now (map (λ text. text.now) texts.now)
+        fault) result }
 {
     match settings_refused(alloc, name, usage, texts, fault) {
         Ok(text) => LineFault::Usage { text },

@@ -18,5 +18,5 @@ returns-in-Ok-clause-settings c =
 pub returns-in-Err-clause-fault : goal.returns-in-Err-clause-fault
 returns-in-Err-clause-fault c =
     let given = texts_are c.args.options.now c.args.name.now c.get_strs.result (Some c.in-Some.texts) c.get_strs.ensures c.in-Some.is in
-    settings_told (options_of c.args.options.now) c.args.name.now c.settings_fault.result c.settings_fault.ensures
-    (map (λ (v : Bor (List ℕ)). v.now) c.in-Some.texts.now, c.in-Err.fault, given, c.in-Err.ensures.fault)
+    settings_told (options_of c.args.options.now) c.args.name.now c.args.usage.now (map (λ (v : Bor (List ℕ)). v.now) c.in-Some.texts.now) c.in-Err.fault
+    c.settings_fault.result c.settings_fault.ensures given c.in-Err.ensures.fault
