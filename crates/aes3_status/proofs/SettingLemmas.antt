@@ -12,7 +12,7 @@ use Rattle.aes3_status.specs.Bits.{low_bits, number, status_bits, field, number_
 use Rattle.aes3_status.specs.Consumer.{con_place}
 use Rattle.aes3_status.specs.Professional.{pro_place}
 use Rattle.aes3_status.specs.Statuses.{is_professional}
-use Rattle.aes3_status.specs.Settings.{with_bits, with_field, place_of, is_for, under, code_for, with_code}
+use Rattle.aes3_status.specs.Settings.{with_bits, with_field, place_of, under, code_for, with_code}
 use Rattle.aes3_status.specs.SettingLaws.{IsPlace, first_bit, OnlyItsBitsChange, CodeIsReadBack, OtherFieldsStay, MeaningStays, SettingIsReadBack}
 use Rattle.aes3_status.proofs.BitFields.{length-low_bits, field-fits}
 use Rattle.aes3_status.proofs.Weights.{length-status_bits}

@@ -1,5 +1,5 @@
 -- Fields for one use have no bit in common.
-use Rattle.std.proofs.Common.{◌≡◌, ◌≢◌, ◌∙◌, ℕ, ◌+◌, ◌<◌, ◌≤◌, ◌⊎◌, inl, inr, Bool, true, false, eqb, List, [], ◌∷◌, length, get_or, Option, Some, None, refl, ap, sym, subst, arith}
+use Rattle.std.proofs.Common.{◌≡◌, ◌≢◌, ◌∙◌, ℕ, ◌+◌, ◌<◌, ◌≤◌, ◌⊎◌, inl, inr, Bool, true, false, eqb, List, length, get_or, Option, Some, None, refl, ap, sym, subst, arith}
 use Rattle.std.proofs.lemmas.Bool.{eqb-true, leb-true}
 use Rattle.std.proofs.lemmas.List.{get_or_default}
 use Rattle.std.proofs.lemmas.List.Folds.{list_all_at}
@@ -15,8 +15,8 @@ use Rattle.aes3_status.specs.declared.field.Field.{Field}
 use Rattle.aes3_status.specs.declared.field.Field.TheVariants.{Professional, Consumer}
 use Rattle.aes3_status.specs.declared.setting.Setting.{Setting}
 use Rattle.aes3_status.specs.Bits.{number_at}
-use Rattle.aes3_status.specs.Consumer.{con_place}
-use Rattle.aes3_status.specs.Professional.{pro_place}
+use Rattle.aes3_status.specs.Consumer.{con_fields, con_place}
+use Rattle.aes3_status.specs.Professional.{pro_fields, pro_place}
 use Rattle.aes3_status.specs.Statuses.{is_professional}
 use Rattle.aes3_status.specs.Settings.{place_of, is_for, set_by, told_by, under, with_code, with_field}
 use Rattle.aes3_status.specs.SettingLaws.{first_bit, OtherCodesStay, OtherMeaningsStay}
@@ -68,9 +68,6 @@ pair-apart number place fields within back h f g other = go (eqb (number f) (num
         absurd (other (sym (back f) ∙ ap (λ i. get_or fields i f) (eqb-true (number f) (number g) e) ∙ get_or_default fields (number g) f g (within g) ∙ back g))
     go false e k = are-apart (place f) (place g) k
 
-abbrev pro-fields : List ProField
-pro-fields = pro.Payload ∷ pro.Emphasis ∷ pro.Unlocked ∷ pro.Rate ∷ pro.Mode ∷ pro.User ∷ pro.Aux ∷ pro.Word ∷ pro.B2high ∷ pro.B3 ∷ pro.B4 ∷ pro.B5 ∷ pro.Unreliable ∷ pro.B22low ∷ []
-
 abbrev pro-number : ProField → ℕ
 pro-number pro.Payload = 0
 pro-number pro.Emphasis = 1
@@ -87,7 +84,7 @@ pro-number pro.B5 = 11
 pro-number pro.Unreliable = 12
 pro-number pro.B22low = 13
 
-pro-within : (f : ProField) → pro-number f < length pro-fields
+pro-within : (f : ProField) → pro-number f < length pro_fields
 pro-within pro.Payload = omega arith
 pro-within pro.Emphasis = omega arith
 pro-within pro.Unlocked = omega arith
@@ -103,7 +100,7 @@ pro-within pro.B5 = omega arith
 pro-within pro.Unreliable = omega arith
 pro-within pro.B22low = omega arith
 
-pro-back : (f : ProField) → get_or pro-fields (pro-number f) f ≡ f
+pro-back : (f : ProField) → get_or pro_fields (pro-number f) f ≡ f
 pro-back pro.Payload = refl
 pro-back pro.Emphasis = refl
 pro-back pro.Unlocked = refl
@@ -120,10 +117,7 @@ pro-back pro.Unreliable = refl
 pro-back pro.B22low = refl
 
 pro-apart : (f g : ProField) → f ≢ g → Apart (pro_place f) (pro_place g)
-pro-apart = pair-apart pro-number pro_place pro-fields pro-within pro-back refl
-
-abbrev con-fields : List ConField
-con-fields = con.Payload ∷ con.Copyright ∷ con.Emphasis ∷ con.Mode ∷ con.Category ∷ con.Generation ∷ con.Source ∷ con.Number ∷ con.Rate ∷ con.Accuracy ∷ con.B3high ∷ con.Greatest ∷ con.Word ∷ con.Original ∷ []
+pro-apart = pair-apart pro-number pro_place pro_fields pro-within pro-back refl
 
 abbrev con-number : ConField → ℕ
 con-number con.Payload = 0
@@ -141,7 +135,7 @@ con-number con.Greatest = 11
 con-number con.Word = 12
 con-number con.Original = 13
 
-con-within : (f : ConField) → con-number f < length con-fields
+con-within : (f : ConField) → con-number f < length con_fields
 con-within con.Payload = omega arith
 con-within con.Copyright = omega arith
 con-within con.Emphasis = omega arith
@@ -157,7 +151,7 @@ con-within con.Greatest = omega arith
 con-within con.Word = omega arith
 con-within con.Original = omega arith
 
-con-back : (f : ConField) → get_or con-fields (con-number f) f ≡ f
+con-back : (f : ConField) → get_or con_fields (con-number f) f ≡ f
 con-back con.Payload = refl
 con-back con.Copyright = refl
 con-back con.Emphasis = refl
@@ -174,7 +168,7 @@ con-back con.Word = refl
 con-back con.Original = refl
 
 con-apart : (f g : ConField) → f ≢ g → Apart (con_place f) (con_place g)
-con-apart = pair-apart con-number con_place con-fields con-within con-back refl
+con-apart = pair-apart con-number con_place con_fields con-within con-back refl
 
 -- ---- what a setting leaves
 stays-apart : (f g : Field) (code : ℕ) (bytes : List ℕ) → length bytes ≡ 24 → Apart (place_of g) (place_of f)

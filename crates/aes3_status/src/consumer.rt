@@ -1,5 +1,5 @@
 //! Consumer channel status.
-use crate::bits::bits_at;
+use crate::field::ConField;
 use std::marker::Model;
 
 /// A channel status for consumer use (IEC 60958-3): byte 0 bit 0 is 0.
@@ -44,14 +44,14 @@ impl Con {
     pub fn payload(&self) -> u8
         ensures { result ≡ payload self.now }
     {
-        bits_at(&self.bytes, 0, 1, 1)
+        ConField::Payload.number(&self.bytes)
     }
 
     /// Copyright: 0 asserted, 1 not asserted (IEC 60958-3, byte 0 bit 2).
     pub fn copyright(&self) -> u8
         ensures { result ≡ copyright self.now }
     {
-        bits_at(&self.bytes, 0, 2, 1)
+        ConField::Copyright.number(&self.bytes)
     }
 
     /// Additional format information; of linear PCM the pre-emphasis (IEC 60958-3, byte 0 bits 3 to
@@ -59,84 +59,84 @@ impl Con {
     pub fn emphasis(&self) -> u8
         ensures { result ≡ emphasis self.now }
     {
-        bits_at(&self.bytes, 0, 3, 3)
+        ConField::Emphasis.number(&self.bytes)
     }
 
     /// The channel status mode (IEC 60958-3, byte 0 bits 6 and 7).
     pub fn mode(&self) -> u8
         ensures { result ≡ mode self.now }
     {
-        bits_at(&self.bytes, 0, 6, 2)
+        ConField::Mode.number(&self.bytes)
     }
 
     /// The category code without its last bit (IEC 60958-3, byte 1 bits 0 to 6).
     pub fn category(&self) -> u8
         ensures { result ≡ category self.now }
     {
-        bits_at(&self.bytes, 1, 0, 7)
+        ConField::Category.number(&self.bytes)
     }
 
     /// The generation status, last bit of the category code (IEC 60958-3, byte 1 bit 7).
     pub fn generation(&self) -> u8
         ensures { result ≡ generation self.now }
     {
-        bits_at(&self.bytes, 1, 7, 1)
+        ConField::Generation.number(&self.bytes)
     }
 
     /// The source number (IEC 60958-3, byte 2 bits 0 to 3).
     pub fn source(&self) -> u8
         ensures { result ≡ source self.now }
     {
-        bits_at(&self.bytes, 2, 0, 4)
+        ConField::Source.number(&self.bytes)
     }
 
     /// The channel number (IEC 60958-3, byte 2 bits 4 to 7).
     pub fn number(&self) -> u8
         ensures { result ≡ number self.now }
     {
-        bits_at(&self.bytes, 2, 4, 4)
+        ConField::Number.number(&self.bytes)
     }
 
     /// The sampling frequency (IEC 60958-3, byte 3 bits 0 to 3).
     pub fn rate(&self) -> u8
         ensures { result ≡ rate self.now }
     {
-        bits_at(&self.bytes, 3, 0, 4)
+        ConField::Rate.number(&self.bytes)
     }
 
     /// The clock accuracy (IEC 60958-3, byte 3 bits 4 and 5).
     pub fn accuracy(&self) -> u8
         ensures { result ≡ accuracy self.now }
     {
-        bits_at(&self.bytes, 3, 4, 2)
+        ConField::Accuracy.number(&self.bytes)
     }
 
     /// Byte 3 bits 6 and 7 (IEC 60958-3).
     pub fn b3high(&self) -> u8
         ensures { result ≡ b3high self.now }
     {
-        bits_at(&self.bytes, 3, 6, 2)
+        ConField::B3high.number(&self.bytes)
     }
 
     /// The greatest sample word length: 0 for 20 bits, 1 for 24 (IEC 60958-3, byte 4 bit 0).
     pub fn greatest(&self) -> u8
         ensures { result ≡ greatest self.now }
     {
-        bits_at(&self.bytes, 4, 0, 1)
+        ConField::Greatest.number(&self.bytes)
     }
 
     /// The sample word length, a code under that of `greatest` (IEC 60958-3, byte 4 bits 1 to 3).
     pub fn word(&self) -> u8
         ensures { result ≡ word self.now }
     {
-        bits_at(&self.bytes, 4, 1, 3)
+        ConField::Word.number(&self.bytes)
     }
 
     /// The original sampling frequency (IEC 60958-3, byte 4 bits 4 to 7).
     pub fn original(&self) -> u8
         ensures { result ≡ original self.now }
     {
-        bits_at(&self.bytes, 4, 4, 4)
+        ConField::Original.number(&self.bytes)
     }
 
     /// Bytes 5 to 23 as they are (IEC 60958-3).

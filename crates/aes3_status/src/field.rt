@@ -1,11 +1,12 @@
 //! The fields of channel status that a code can be written to: those within one byte.
 
 ghost use Rattle.std.specs.Prelude.{◌≡◌, ◌+◌, ◌^◌, ◌<◌, ◌≤◌};
+ghost use Rattle.aes3_status.specs.Bits.{number_at};
 ghost use Rattle.aes3_status.specs.Consumer.{con_place};
 ghost use Rattle.aes3_status.specs.Professional.{pro_place};
 ghost use Rattle.aes3_status.specs.Settings.{is_for, place_of, under};
 
-use crate::bits::bits_at;
+use crate::bits::is_for_professional_use;
 use crate::place::Place;
 
 /// A field of professional channel status (AES3-2), as `Pro` reads it.
@@ -68,6 +69,7 @@ impl ProField {
     pub(crate) fn place(self) -> Place
         ensures place { result ≡ pro_place self }
         ensures within { result.byte < 24 }
+        ensures some { 0 < result.count }
         ensures inside { result.first + result.count ≤ 8 }
     {
         match self {
@@ -87,6 +89,13 @@ impl ProField {
             ProField::B22low => place(22, 0, 4),
         }
     }
+
+    /// The number that stands there.
+    pub(crate) fn number(self, bytes: &[u8; 24]) -> u8
+        ensures { result ≡ number_at (pro_place self) bytes.now }
+    {
+        self.place().number(bytes)
+    }
 }
 
 impl ConField {
@@ -94,6 +103,7 @@ impl ConField {
     pub(crate) fn place(self) -> Place
         ensures place { result ≡ con_place self }
         ensures within { result.byte < 24 }
+        ensures some { 0 < result.count }
         ensures inside { result.first + result.count ≤ 8 }
     {
         match self {
@@ -112,6 +122,13 @@ impl ConField {
             ConField::Word => place(4, 1, 3),
             ConField::Original => place(4, 4, 4),
         }
+    }
+
+    /// The number that stands there.
+    pub(crate) fn number(self, bytes: &[u8; 24]) -> u8
+        ensures { result ≡ number_at (con_place self) bytes.now }
+    {
+        self.place().number(bytes)
     }
 }
 
@@ -141,7 +158,7 @@ impl Field {
     pub(crate) fn is_for(self, bytes: &[u8; 24]) -> bool
         ensures { result ≡ is_for self bytes.now }
     {
-        let professional = bits_at(bytes, 0, 0, 1) == 1;
+        let professional = is_for_professional_use(bytes);
         match self {
             Field::Professional(_) => professional,
             Field::Consumer(_) => !professional,
@@ -156,9 +173,9 @@ impl Field {
         ensures few { result < 8 }
     {
         match self {
-            Field::Professional(ProField::Word) => bits_at(bytes, 2, 0, 3),
-            Field::Consumer(ConField::Emphasis) => bits_at(bytes, 0, 1, 1),
-            Field::Consumer(ConField::Word) => bits_at(bytes, 4, 0, 1),
+            Field::Professional(ProField::Word) => ProField::Aux.number(bytes),
+            Field::Consumer(ConField::Emphasis) => ConField::Payload.number(bytes),
+            Field::Consumer(ConField::Word) => ConField::Greatest.number(bytes),
             _ => 0,
         }
     }

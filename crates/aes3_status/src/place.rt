@@ -1,8 +1,10 @@
 //! Where a field stands within a byte, and a code written there.
 
 ghost use Rattle.std.specs.Prelude.{◌≡◌, ◌+◌, ◌<◌, ◌≤◌};
-ghost use Rattle.aes3_status.specs.Bits.{byte_bits, low_bits, number};
+ghost use Rattle.aes3_status.specs.Bits.{byte_bits, low_bits, number, number_at};
 ghost use Rattle.aes3_status.specs.Settings.{with_bits, with_field};
+
+use crate::bits::bits_at;
 
 /// `count` bits of byte `byte` from bit `first` on.
 #[derive(Clone, Copy, PartialEq, Eq, Debug)]
@@ -10,6 +12,18 @@ pub(crate) struct Place {
     pub(crate) byte: usize,
     pub(crate) first: u32,
     pub(crate) count: u32,
+}
+
+impl Place {
+    /// The number that stands there.
+    pub(crate) fn number(self, bytes: &[u8; 24]) -> u8
+        requires within { self.byte < 24 }
+        requires some { 0 < self.count }
+        requires inside { self.first + self.count ≤ 8 }
+        ensures { result ≡ number_at self bytes.now }
+    {
+        bits_at(bytes, self.byte, self.first, self.count)
+    }
 }
 
 /// The byte with the lowest `count` bits of `code` in place of those from bit `first` on.

@@ -1,5 +1,6 @@
 //! Professional channel status.
-use crate::bits::{bits_at, bytes_at, u32_at};
+use crate::bits::{bytes_at, u32_at};
+use crate::field::ProField;
 use std::marker::Model;
 
 /// A channel status for professional use (AES3-2): byte 0 bit 0 is 1.
@@ -44,42 +45,42 @@ impl Pro {
     pub fn payload(&self) -> u8
         ensures { result ≡ payload self.now }
     {
-        bits_at(&self.bytes, 0, 1, 1)
+        ProField::Payload.number(&self.bytes)
     }
 
     /// Pre-emphasis of the audio signal (AES3-2, byte 0 bits 2 to 4).
     pub fn emphasis(&self) -> u8
         ensures { result ≡ emphasis self.now }
     {
-        bits_at(&self.bytes, 0, 2, 3)
+        ProField::Emphasis.number(&self.bytes)
     }
 
     /// Whether the source's sampling frequency is unlocked (AES3-2, byte 0 bit 5).
     pub fn unlocked(&self) -> u8
         ensures { result ≡ unlocked self.now }
     {
-        bits_at(&self.bytes, 0, 5, 1)
+        ProField::Unlocked.number(&self.bytes)
     }
 
     /// The sampling frequency (AES3-2, byte 0 bits 6 and 7).
     pub fn rate(&self) -> u8
         ensures { result ≡ rate self.now }
     {
-        bits_at(&self.bytes, 0, 6, 2)
+        ProField::Rate.number(&self.bytes)
     }
 
     /// The channel mode (AES3-2, byte 1 bits 0 to 3).
     pub fn mode(&self) -> u8
         ensures { result ≡ mode self.now }
     {
-        bits_at(&self.bytes, 1, 0, 4)
+        ProField::Mode.number(&self.bytes)
     }
 
     /// How the user bits are managed (AES3-2, byte 1 bits 4 to 7).
     pub fn user(&self) -> u8
         ensures { result ≡ user self.now }
     {
-        bits_at(&self.bytes, 1, 4, 4)
+        ProField::User.number(&self.bytes)
     }
 
     /// The use of the auxiliary bits, and with it the greatest sample word length (AES3-2, byte 2
@@ -87,42 +88,42 @@ impl Pro {
     pub fn aux(&self) -> u8
         ensures { result ≡ aux self.now }
     {
-        bits_at(&self.bytes, 2, 0, 3)
+        ProField::Aux.number(&self.bytes)
     }
 
     /// The source's sample word length, a code under that of `aux` (AES3-2, byte 2 bits 3 to 5).
     pub fn word(&self) -> u8
         ensures { result ≡ word self.now }
     {
-        bits_at(&self.bytes, 2, 3, 3)
+        ProField::Word.number(&self.bytes)
     }
 
     /// The alignment level (AES3-2, byte 2 bits 6 and 7).
     pub fn b2high(&self) -> u8
         ensures { result ≡ b2high self.now }
     {
-        bits_at(&self.bytes, 2, 6, 2)
+        ProField::B2high.number(&self.bytes)
     }
 
     /// Channel identification in multichannel use (AES3-2, byte 3).
     pub fn b3(&self) -> u8
         ensures { result ≡ b3 self.now }
     {
-        bits_at(&self.bytes, 3, 0, 8)
+        ProField::B3.number(&self.bytes)
     }
 
     /// Digital audio reference signal and further sampling frequencies (AES3-2, byte 4).
     pub fn b4(&self) -> u8
         ensures { result ≡ b4 self.now }
     {
-        bits_at(&self.bytes, 4, 0, 8)
+        ProField::B4.number(&self.bytes)
     }
 
     /// Reserved (AES3-2, byte 5).
     pub fn b5(&self) -> u8
         ensures { result ≡ b5 self.now }
     {
-        bits_at(&self.bytes, 5, 0, 8)
+        ProField::B5.number(&self.bytes)
     }
 
     /// The channel's origin, four characters (AES3-2, bytes 6 to 9).
@@ -160,13 +161,13 @@ impl Pro {
     pub fn unreliable(&self) -> u8
         ensures { result ≡ unreliable self.now }
     {
-        bits_at(&self.bytes, 22, 4, 4)
+        ProField::Unreliable.number(&self.bytes)
     }
 
     /// Reserved (AES3-2, byte 22 bits 0 to 3).
     pub fn b22low(&self) -> u8
         ensures { result ≡ b22low self.now }
     {
-        bits_at(&self.bytes, 22, 0, 4)
+        ProField::B22low.number(&self.bytes)
     }
 }

@@ -1,7 +1,7 @@
 //! Channel status for either use.
 ghost use Rattle.std.specs.Prelude.{◌≡◌};
 
-use crate::bits::bits_at;
+use crate::bits::is_for_professional_use;
 use crate::consumer::Con;
 use crate::professional::Pro;
 
@@ -23,7 +23,7 @@ impl Status {
         ensures status { result ≡ read_status bytes.now }
         ensures bytes { bytes_of result ≡ bytes.now }
     {
-        if bits_at(bytes, 0, 0, 1) == 1 {
+        if is_for_professional_use(bytes) {
             Status::Professional(Pro::of_bytes(bytes))
         } else {
             Status::Consumer(Con::of_bytes(bytes))

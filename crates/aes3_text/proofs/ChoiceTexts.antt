@@ -146,8 +146,8 @@ ascii-con con.Payload under code l = ascii-field (codes "payload") _ refl (ascii
 ascii-con con.Copyright under code l = ascii-field (codes "copyright") _ refl (ascii-word consumer.copyright_words code refl l)
 ascii-con con.Emphasis under code l = ascii-field (codes "emphasis") _ refl (words (under == 0))
   where
-    words : (b : Bool) → IsAscii (word_for (cond b ((0, codes "none") ∷ (1, codes "50/15") ∷ []) []) code)
-    words true = ascii-word ((0, codes "none") ∷ (1, codes "50/15") ∷ []) code refl l
+    words : (b : Bool) → IsAscii (word_for (cond b consumer.emphasis_words_of_pcm []) code)
+    words true = ascii-word consumer.emphasis_words_of_pcm code refl l
     words false = ascii-word [] code refl l
 ascii-con con.Mode under code l = ascii-field (codes "mode") _ refl (ascii-number code l)
 ascii-con con.Category under code l = ascii-field (codes "category") _ refl (ascii-word consumer.category_words code refl l)

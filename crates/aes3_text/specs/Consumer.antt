@@ -12,8 +12,11 @@ abbrev pub copyright_words : Words
 copyright_words = (0, codes "asserted") ∷ (1, codes "not-asserted") ∷ []
 
 -- byte 0 bits 3 to 5: pre-emphasis of linear PCM; of anything else no code has a name
+abbrev pub emphasis_words_of_pcm : Words
+emphasis_words_of_pcm = (0, codes "none") ∷ (1, codes "50/15") ∷ []
+
 abbrev pub emphasis_words : ℕ → Words
-emphasis_words payload = if payload == 0 then (0, codes "none") ∷ (1, codes "50/15") ∷ [] else []
+emphasis_words payload = if payload == 0 then emphasis_words_of_pcm else []
 
 -- byte 1 bits 0 to 6: the category code without its last bit
 abbrev pub category_words : Words

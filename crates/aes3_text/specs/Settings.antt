@@ -47,10 +47,10 @@ IsNoSetting text fields = (f : Field) (under code : ℕ) → Contains fields f �
 
 -- the fields in the order in which `show` prints them
 abbrev pub professional_fields : List Field
-professional_fields = map Professional (pro.Payload ∷ pro.Emphasis ∷ pro.Unlocked ∷ pro.Rate ∷ pro.Mode ∷ pro.User ∷ pro.Aux ∷ pro.Word ∷ pro.B2high ∷ pro.B3 ∷ pro.B4 ∷ pro.B5 ∷ pro.Unreliable ∷ pro.B22low ∷ [])
+professional_fields = map Professional status.pro_fields
 
 abbrev pub consumer_fields : List Field
-consumer_fields = map Consumer (con.Payload ∷ con.Copyright ∷ con.Emphasis ∷ con.Mode ∷ con.Category ∷ con.Generation ∷ con.Source ∷ con.Number ∷ con.Rate ∷ con.Accuracy ∷ con.B3high ∷ con.Greatest ∷ con.Word ∷ con.Original ∷ [])
+consumer_fields = map Consumer consumer_status.con_fields
 
 -- the setting that leaves each status as it is
 abbrev pub nothing : Setting
