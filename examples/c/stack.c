@@ -65,11 +65,11 @@ int main(void) {
     int failed = 0;
     failed |= tell("aes3_encode_block", encode_block, 2048);
     failed |= tell("aes3_lock_init", init, 256);
-    failed |= tell("aes3_lock_push, none", begin_block, 16384);
-    failed |= tell("aes3_lock_take_words", take_words, 8192);
-    failed |= tell("aes3_lock_finish, whole", finish, 16384);
+    failed |= tell("aes3_lock_push, none", begin_block, 8192);
+    failed |= tell("aes3_lock_take_words", take_words, 4096);
+    failed |= tell("aes3_lock_finish, whole", finish, 8192);
     failed |= report.kind != AES3_WHOLE;
-    failed |= tell("aes3_lock_push, whole", end_block, 16384);
+    failed |= tell("aes3_lock_push, whole", end_block, 8192);
     failed |= report.kind != AES3_WHOLE;
     failed |= tell("aes3_lock_seen", seen, 256);
     failed |= tell("aes3_block_status", block_status, 2048);

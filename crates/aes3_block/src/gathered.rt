@@ -41,7 +41,7 @@ ghost use Rattle.aes3_block.specs.Gathered.{IsRight, with_first};
 
 use crate::cells::mark_of;
 use crate::read_cells::wrong_in;
-use crate::slots::wrong_parities;
+use crate::slots::{word_of_cells, wrong_parities};
 
 /// How many of the first words are right after the level `before`, with `more` right ones put from
 /// `slot` on, where `right` of them were after the level `first`.
@@ -115,16 +115,49 @@ fn words_of_even(cells: &[u64; 4]) -> [u32; 4]
     ]))
 }
 
-/// The block whose payloads these subframes carry, where each parity bit is right.
-fn block_of_even(words: &[u64; SLOTS]) -> Block
-    requires { (i : ℕ) → i < block_slots → odd_ones (read_word (get_or words.now i 0)) ≡ false }
+/// The lawful words whose payloads the cells of any four subframes carry.
+fn words_of_any(cells: &[u64; 4]) -> [u32; 4]
+    ensures lawful { (i : ℕ) → i < 4 → is_lawful (get_or result i 0) ≡ true }
+    ensures payload { (i : ℕ) → i < 4 → payload_of (get_or result i 0)
+        ≡ take payload_len (read_word (get_or cells.now i 0)) }
+{
+    [
+        word_of_cells(cells[0]),
+        word_of_cells(cells[1]),
+        word_of_cells(cells[2]),
+        word_of_cells(cells[3]),
+    ]
+}
+
+/// The lawful words whose payloads the cells of four subframes carry. It makes no parity bits where
+/// `even` says that those that are there are right.
+fn words_of_four(cells: &[u64; 4], even: bool) -> [u32; 4]
+    requires { even ≡ true → (i : ℕ) → i < 4
+        → odd_ones (read_word (get_or cells.now i 0)) ≡ false }
+    ensures lawful { (i : ℕ) → i < 4 → is_lawful (get_or result i 0) ≡ true }
+    ensures payload { (i : ℕ) → i < 4 → payload_of (get_or result i 0)
+        ≡ take payload_len (read_word (get_or cells.now i 0)) }
+{
+    if even {
+        words_of_even(cells)
+    } else {
+        words_of_any(cells)
+    }
+}
+
+/// The block whose payloads these subframes carry. It makes no parity bits where `even` says that
+/// those that are there are right.
+#[inline(always)]
+fn block_of_fours(words: &[u64; SLOTS], even: bool) -> Block
+    requires { even ≡ true → (i : ℕ) → i < block_slots
+        → odd_ones (read_word (get_or words.now i 0)) ≡ false }
     ensures { result ≡ map (take payload_len) (read_words words.now) }
 {
     let mut lawful = zero_words();
     for i in 0..SLOTS / 4 {
         let at = 4 * i;
         let four = [words[at], words[at + 1], words[at + 2], words[at + 3]];
-        put_four(&mut lawful, at, &words_of_even(&four));
+        put_four(&mut lawful, at, &words_of_four(&four, even));
     }
     Block::of_words(lawful)
 }
@@ -134,19 +167,28 @@ impl GatheredCells {
     pub fn new() -> Self
         ensures { result ≡ replicate block_slots 0 }
     {
-        GatheredCells::of_words([0; SLOTS])
+        GatheredCells::of_words(&[0; SLOTS])
     }
 
     /// These words.
-    pub fn of_words(words: [u64; SLOTS]) -> Self
-        ensures words { result ≡ words }
+    pub fn of_words(words: &[u64; SLOTS]) -> Self
+        ensures words { result ≡ words.now }
         ensures len { length result ≡ block_slots }
     {
         GatheredCells {
-            words,
+            words: *words,
             before: Level::Low,
             right: 0,
         }
+    }
+
+    /// Keeps these words in place of all.
+    pub fn keep_all(&mut self, words: &[u64; SLOTS])
+        ensures words { self.new ≡ words.now }
+        ensures len { length self.new ≡ block_slots }
+    {
+        self.words = *words;
+        self.right = 0;
     }
 
     /// The words.
@@ -195,14 +237,11 @@ impl GatheredCells {
 
     /// The block whose payloads these subframes carry, as `Block::of_cells` gathers it. It makes no
     /// parity bits where it knows those that are there to be right.
+    #[inline(always)]
     pub fn block(&self) -> Block
         ensures { result ≡ map (take payload_len) (read_words self.now) }
     {
-        if self.right >= SLOTS {
-            block_of_even(&self.words)
-        } else {
-            Block::of_cells(&self.words)
-        }
+        block_of_fours(&self.words, self.right >= SLOTS)
     }
 
     /// How many of the subframes have a wrong parity bit, as `wrong_parities` counts them. It

@@ -12,7 +12,7 @@ use crate::word::{PAYLOAD_LIMIT, word_of_payload};
 use aes3_slot::slot_bits;
 
 /// The lawful word whose payload a subframe's 64 cells carry.
-fn word_of_cells(cells: u64) -> u32
+pub(crate) fn word_of_cells(cells: u64) -> u32
     ensures lawful { is_lawful result ≡ true }
     ensures payload { payload_of result ≡ take payload_len (read_word cells) }
 {

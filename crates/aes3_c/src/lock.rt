@@ -51,13 +51,12 @@ fn candidate_of(kept: &Aes3Lock) -> Option<Candidate>
 fn lock_of(kept: &Aes3Lock) -> Lock
     ensures { result ≡ state_of kept.now }
 {
-    let words = kept.words;
     Lock::of_parts(LockParts {
         seen: kept.seen,
         recent: kept.recent,
         candidate: candidate_of(kept),
         subframe: kept.subframe,
-        words,
+        words: &kept.words,
     })
 }
 
@@ -68,8 +67,7 @@ fn keep(lock: &Lock, kept: &mut Aes3Lock)
     kept.seen = parts.seen;
     kept.recent = parts.recent;
     kept.subframe = parts.subframe;
-    let words = parts.words;
-    kept.words = words;
+    kept.words = *parts.words;
     match parts.candidate {
         None => kept.in_hand = 0,
         Some(candidate) => {

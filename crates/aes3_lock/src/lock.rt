@@ -86,32 +86,32 @@ impl Lock {
     }
 
     /// The lock of what another lock kept.
-    pub fn of_parts(parts: LockParts) -> Lock
+    pub fn of_parts(parts: LockParts<'_>) -> Lock
         requires { ForSome parts.candidate (λ t. t.at ≤ parts.seen) }
-        ensures { result ≡ parts_state parts }
+        ensures { result ≡ parts_state parts.entry }
     {
-        let words = parts.words;
-        Lock {
+        let mut lock = Lock {
             seen: parts.seen,
             recent: parts.recent,
             candidate: parts.candidate,
             subframe: parts.subframe,
-            words: GatheredCells::of_words(words),
-        }
+            words: GatheredCells::new(),
+        };
+        lock.words.keep_all(parts.words);
+        lock
     }
 
     /// All that it keeps.
-    pub fn parts(&self) -> LockParts
+    pub fn parts(&self) -> LockParts<'_>
         ensures state { parts_state result ≡ self.now }
         ensures placed { ForSome result.candidate (λ t. t.at ≤ result.seen) }
     {
-        let words = *self.words.words();
         LockParts {
             seen: self.seen,
             recent: self.recent,
             candidate: self.candidate,
             subframe: self.subframe,
-            words,
+            words: self.words.words(),
         }
     }
 

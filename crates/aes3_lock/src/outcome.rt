@@ -29,6 +29,8 @@ fn block_ending(at: u64, before: Level, words: &GatheredCells) -> Ending
 }
 
 /// The report of an ending, with the block whose subframes have these cells.
+// Inlined, as `block` is, so that no caller has copies of a block on its stack.
+#[inline(always)]
 pub(crate) fn report_with(ending: Ending, words: &GatheredCells) -> Report
     ensures { result ≡ ending_report (read_words words.now) ending }
 {

@@ -6,7 +6,7 @@ use aes3_block::SLOTS;
 /// All that a lock keeps, for a caller that keeps it in a form of its own: `Lock::parts` gives it,
 /// and `Lock::of_parts` makes the same lock of it.
 #[derive(Drop)]
-pub struct LockParts {
+pub struct LockParts<'a> {
     /// How many cells it has seen.
     pub seen: u64,
     /// The last eight of them, the earliest in bit 0.
@@ -16,5 +16,5 @@ pub struct LockParts {
     /// The cells of its last subframe that isn't whole, the earliest in bit 0.
     pub subframe: u64,
     /// The cells of its whole subframes, each as they came, the earliest in bit 0.
-    pub words: [u64; SLOTS],
+    pub words: &'a [u64; SLOTS],
 }

@@ -75,7 +75,7 @@ fn report_at(at: u64, cells: &[Level]) -> Option<Report>
     };
     let mut words = [0; SLOTS];
     let (offset, previous) = go_through(candidate.before, cells, &mut words);
-    let gathered = GatheredCells::of_words(words);
+    let gathered = GatheredCells::of_words(&words);
     let place = offset as usize;
     Some(if place < cells.len() {
         let ending = ending_at(candidate, offset, cells[place], previous, &gathered);

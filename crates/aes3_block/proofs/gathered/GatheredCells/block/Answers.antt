@@ -1,11 +1,12 @@
 use Rattle.std.proofs.Common.{get_or, arith}
+use Rattle.std.proofs.lemmas.Bool.{leb-true}
 use Rattle.aes3_block.specs.Blocks.{mark_at}
 use Rattle.aes3_block.proofs.BlockLemmas.{block_slots_384}
 use Rattle.aes3_block.proofs.GatheredWords.{even-right}
 use Rattle.aes3_block.proofs.gathered.GatheredCells.block.Goals as goal
 
-pub block_of_even-requires : goal.block_of_even-requires
-block_of_even-requires c = λ i h.
+pub block_of_fours-requires : goal.block_of_fours-requires
+block_of_fours-requires c = λ e i h.
     let v = c.self.inside in
     let n = block_slots_384 in
-    even-right v.before (mark_at i) (get_or v.words i 0) (c.self.invariant i (omega (arith, h, n, c.if-self-ge-SLOTS.true)))
+    even-right v.before (mark_at i) (get_or v.words i 0) (c.self.invariant i (omega (arith, h, n, leb-true _ _ e)))

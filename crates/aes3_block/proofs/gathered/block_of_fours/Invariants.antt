@@ -2,7 +2,7 @@ use Rattle.std.proofs.Common.{◌≡◌, ◌*◌, ◌<◌, ℕ, true, get_or, le
 use Rattle.aes3_slot.specs.Slots.{payload_len}
 use Rattle.aes3_slot.specs.ReadWords.{read_word}
 use Rattle.aes3_block.specs.Files.{is_lawful, payload_of}
-use Rattle.aes3_block.proofs.gathered.block_of_even.Given as goal
+use Rattle.aes3_block.proofs.gathered.block_of_fours.Given as goal
 
 abbrev pub invariant-loop-i : goal.invariant-loop-i
 invariant-loop-i l = record {

@@ -6,7 +6,7 @@ use Rattle.aes3_block.proofs.BlockLemmas.{zeros-lawful, block_slots_384}
 use Rattle.aes3_block.proofs.FourWords.{all-four, lawful-placed, payloads-placed}
 use Rattle.aes3_block.proofs.GatheredWords.{length-with_first}
 use Rattle.aes3_block.proofs.SlotWords.{carried, carried-all}
-use Rattle.aes3_block.proofs.gathered.block_of_even.Goals as goal
+use Rattle.aes3_block.proofs.gathered.block_of_fours.Goals as goal
 
 pub loop-i-init : goal.loop-i-init
 loop-i-init c = record {
@@ -15,24 +15,24 @@ loop-i-init c = record {
   payloads = λ k h. absurd (omega arith);
 }
 
-pub words_of_even-requires : goal.words_of_even-requires
-words_of_even-requires c =
+pub words_of_four-requires : goal.words_of_four-requires
+words_of_four-requires c = λ e.
     let n = block_slots_384 in
     let at = 4 * c.loop-i.i in
-    all-four _ (c.requires at (omega arith)) (c.requires (at + 1) (omega arith)) (c.requires (at + 2) (omega arith)) (c.requires (at + 3) (omega arith))
+    all-four _ (c.requires e at (omega arith)) (c.requires e (at + 1) (omega arith)) (c.requires e (at + 2) (omega arith)) (c.requires e (at + 3) (omega arith))
 
 pub loop-i-preserved : goal.loop-i-preserved
 loop-i-preserved c =
     let at = 4 * c.loop-i.i in
     let words = c.args.words.now in
     let kept = c.loop-i.lawful in
-    let four = c.words_of_even.result in
+    let four = c.words_of_four.result in
     let len = c.loop-i.invariant.len in
-    let e = c.words_of_even.ensures.payload in
+    let e = c.words_of_four.ensures.payload in
     let none : at ≡ at + 0 = omega arith in
     record {
       len = ap length c.put_four.ensures ∙ length-with_first at kept four 4 ∙ len;
-      lawful = λ k. ap (λ ws. is_lawful (get_or ws k 0)) c.put_four.ensures ∙ lawful-placed at kept four (omega (arith, len)) c.loop-i.invariant.lawful c.words_of_even.ensures.lawful k;
+      lawful = λ k. ap (λ ws. is_lawful (get_or ws k 0)) c.put_four.ensures ∙ lawful-placed at kept four (omega (arith, len)) c.loop-i.invariant.lawful c.words_of_four.ensures.lawful k;
       payloads = λ k h. ap (λ ws. payload_of (get_or ws k 0)) c.put_four.ensures ∙ payloads-placed at words kept four (omega (arith, len)) c.loop-i.invariant.payloads
           (all-four (λ i. payload_of (get_or four i 0) ≡ carried (get_or words (at + i) 0))
           (e 0 (omega arith) ∙ ap (λ j. carried (get_or words j 0)) none) (e 1 (omega arith)) (e 2 (omega arith)) (e 3 (omega arith))) k (omega (arith, h));
