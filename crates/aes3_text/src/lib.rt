@@ -22,6 +22,7 @@ mod scanning;
 mod settings;
 mod showing;
 mod status;
+mod tail;
 mod words;
 
 pub use accounting::account;

@@ -1,12 +1,12 @@
 //! The line of a report.
 
-ghost use Rattle.std.specs.Prelude.{◌≡◌, ◌<◌, ◌≤◌, ◌+◌, ◌^◌, ◌++◌, [], length};
+ghost use Rattle.std.specs.Prelude.{◌≡◌, ◌<◌, ◌≤◌, ◌+◌, ◌^◌, [], length};
 ghost use Rattle.aes3_cell.specs.Writes.{Wrote};
 ghost use Rattle.aes3_lock.specs.Reports.{ending_report};
-ghost use Rattle.aes3_text.specs.Lines.{reason_word, report_text, report_line, told_line};
+ghost use Rattle.aes3_text.specs.Lines.{reason_word, report_line, told_line};
 
-use crate::line::{LINE_LEN, Line};
 use crate::lines::Lines;
+use crate::tail::Tail;
 use aes3_cell::{Fault, Sink};
 use aes3_lock::{Ending, Report, Why};
 
@@ -22,73 +22,80 @@ fn reason(why: Why) -> &'static str
     }
 }
 
-/// The line of the report of an ending without its line feed. None of it is of the block's bits.
-fn text_of_ending(ending: Ending) -> Line
-    ensures text { result ≡ report_text (ending_report [] ending) }
-    ensures len { length result < LINE_LEN }
+/// Makes the line of the report of an ending. None of it is of the block's bits.
+fn put_ending(line: &mut Tail, ending: Ending)
+    requires none { line.old ≡ [] }
+    ensures { line.new ≡ report_line (ending_report [] ending) }
 {
-    let mut line = Line::new();
+    line.text("\n");
     match ending {
         Ending::Whole { at, before } => {
-            line.text("whole at ");
-            line.number(at);
-            line.text(" before ");
             line.level(before);
+            line.text(" before ");
+            line.number(at);
+            line.text("whole at ");
         }
         Ending::Marked { at, before, wrong } => {
-            line.text("marked at ");
-            line.number(at);
-            line.text(" before ");
-            line.level(before);
-            line.text(" wrong ");
             line.number(u64::from(wrong));
+            line.text(" wrong ");
+            line.level(before);
+            line.text(" before ");
+            line.number(at);
+            line.text("marked at ");
         }
         Ending::Fault { at, cell, why } => {
-            line.text("fault at ");
-            line.number(at);
-            line.text(" cell ");
-            line.number(cell);
-            line.text(" ");
             line.text(reason(why));
+            line.text(" ");
+            line.number(cell);
+            line.text(" cell ");
+            line.number(at);
+            line.text("fault at ");
         }
     }
-    line
 }
 
-/// The line of a begun block that the end of the cells cuts, without its line feed.
-fn text_of_begun(at: u64, cells: u64) -> Line
-    ensures text { result ≡ report_text (Report.Unfinished at cells) }
-    ensures len { length result < LINE_LEN }
+/// Makes the line of a begun block that the end of the cells cuts.
+fn put_begun(line: &mut Tail, at: u64, cells: u64)
+    requires none { line.old ≡ [] }
+    ensures { line.new ≡ report_line (Report.Unfinished at cells) }
 {
-    let mut line = Line::new();
-    line.text("unfinished at ");
-    line.number(at);
-    line.text(" cells ");
+    line.text("\n");
     line.number(cells);
-    line
+    line.text(" cells ");
+    line.number(at);
+    line.text("unfinished at ");
 }
 
-/// The line of a report without its line feed.
-fn text_of(report: &Report) -> Line
-    ensures text { result ≡ report_text report.now }
-    ensures len { length result < LINE_LEN }
+/// Makes the line of a report.
+fn put_report(line: &mut Tail, report: &Report)
+    requires none { line.old ≡ [] }
+    ensures { line.new ≡ report_line report.now }
 {
     match report {
-        Report::Whole { at, before, .. } => text_of_ending(Ending::Whole {
-            at: *at,
-            before: *before,
-        }),
-        Report::Marked { at, before, wrong } => text_of_ending(Ending::Marked {
-            at: *at,
-            before: *before,
-            wrong: *wrong,
-        }),
-        Report::Fault { at, cell, why } => text_of_ending(Ending::Fault {
-            at: *at,
-            cell: *cell,
-            why: *why,
-        }),
-        Report::Unfinished { at, cells } => text_of_begun(*at, *cells),
+        Report::Whole { at, before, .. } => put_ending(
+            line,
+            Ending::Whole {
+                at: *at,
+                before: *before,
+            },
+        ),
+        Report::Marked { at, before, wrong } => put_ending(
+            line,
+            Ending::Marked {
+                at: *at,
+                before: *before,
+                wrong: *wrong,
+            },
+        ),
+        Report::Fault { at, cell, why } => put_ending(
+            line,
+            Ending::Fault {
+                at: *at,
+                cell: *cell,
+                why: *why,
+            },
+        ),
+        Report::Unfinished { at, cells } => put_begun(line, *at, *cells),
     }
 }
 
@@ -101,7 +108,9 @@ fn line_of_ending<T: Sink>(ending: Ending, sink: &mut T) -> Result<(), Fault>
     ensures { Wrote T.taken T.failed sink.old sink.new
         (report_line (ending_report [] ending)) result }
 {
-    text_of_ending(ending).end(sink)
+    let mut line = Tail::new();
+    put_ending(&mut line, ending);
+    line.hand_on(sink)
 }
 
 /// Writes the line of a report as one buffer.
@@ -112,7 +121,9 @@ pub fn line_of_report<T: Sink>(report: &Report, sink: &mut T) -> Result<(), Faul
     requires room { T.failed sink.old + 1 < 2 ^ 64 }
     ensures { Wrote T.taken T.failed sink.old sink.new (report_line report.now) result }
 {
-    text_of(report).end(sink)
+    let mut line = Tail::new();
+    put_report(&mut line, report);
+    line.hand_on(sink)
 }
 
 /// Writes the line of a report where it gets one.
