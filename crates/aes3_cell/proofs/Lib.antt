@@ -14,7 +14,9 @@ pub mod PackedSteps
 pub mod WrittenForms
 pub mod TextWords
 pub mod OctetWords
+pub mod TurnedOctets
 pub mod PackedFeeding
 pub mod ManyWords
+pub mod EightWords
 pub mod TextLines
 pub mod FedLists

@@ -1,20 +1,11 @@
 -- Words of cells in octets.
-use Rattle.std.proofs.Common.{◌≡◌, ℕ, ◌+◌, ◌-◌, ◌<◌, ◌≤◌, List, [], ◌∷◌, ◌++◌, length, take, get_or, reverse, refl, sym, ap, ap₂, ◌∙◌, arith, append_assoc, length-append, w64}
-use Rattle.std.specs.Int.{bit_at, from_be_bytes}
+use Rattle.std.proofs.Common.{◌≡◌, ℕ, ◌+◌, ◌≤◌, List, [], ◌∷◌, ◌++◌, length, take, get_or, reverse, refl, sym, ap, ap₂, ◌∙◌, arith, append_assoc, length-append}
 use Rattle.std.proofs.lemmas.List.{reverse-append, length-reverse}
-use Rattle.std.proofs.lemmas.Nat.{be_bytes_8}
-use Rattle.aes3_cell.specs.Words.{word_len, word_cells}
+use Rattle.aes3_cell.specs.Words.{word_cells}
 use Rattle.aes3_cell.specs.Packed.{cells_of_octets, whole_cells}
 use Rattle.aes3_cell.specs.PackedReading.{PackedReader, packed_reader_of, behind_eight, eight_whole}
 use Rattle.aes3_cell.proofs.PackedCells.{cells_of_octets-append}
 use Rattle.aes3_cell.proofs.PackedReads.{LastTwo, last_two, whole-of, reader-is}
-use Rattle.aes3_cell.proofs.PackedWords.{bytes-cells}
-use Rattle.aes3_cell.proofs.WrittenForms.{turned-low}
-
-pub octets-word-cells : (octets : List ℕ) (n w : ℕ) → length octets ≡ 8 → ((i : ℕ) → get_or octets i 0 < 256) → n ≡ from_be_bytes w64 octets
-    → ((i : ℕ) → i < 64 → bit_at w i ≡ bit_at n (63 - i)) → word_cells w ≡ cells_of_octets octets
-unfolding word_cells word_len
-octets-word-cells octets n w l b e t = turned-low n w t ∙ sym (bytes-cells 8 n) ∙ ap cells_of_octets (be_bytes_8 octets n l b e)
 
 -- the first six octets, one by one
 pub first-six : (octets : List ℕ) → 6 ≤ length octets

@@ -54,7 +54,7 @@ pow-bytes zero = refl
 pow-bytes (suc k) =
     pow-succ' 256 k ∙ ap (λ v. 256 * v) (pow-bytes k) ∙ sym (pow-add 2 8 (8 * k)) ∙ ap (λ n. 2 ^ n) (let e : 8 + 8 * k ≡ 8 * suc k = omega arith in e)
 
-pub bytes-cells : (k w : ℕ) → cells_of_octets (bytes_high_first k w) ≡ high_cells (8 * k) w
+bytes-cells : (k w : ℕ) → cells_of_octets (bytes_high_first k w) ≡ high_cells (8 * k) w
 bytes-cells zero w = refl
 bytes-cells (suc k) w =
     ap₂ ◌++◌ (octet-byte_at k w ∙ ap (λ d. octet_cells (w / d)) (pow-bytes k)) (bytes-cells k w)

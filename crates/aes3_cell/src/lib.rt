@@ -3,6 +3,7 @@
 #![tactic(auto)]
 
 mod counts;
+mod eights;
 mod endless;
 mod ends;
 mod failing;

@@ -1,12 +1,13 @@
 //! Words of 64 cells, the earliest in the lowest bit, their line of text and their octets.
 
-ghost use Rattle.std.specs.Prelude.{◌≡◌, ◌+◌, ◌-◌, ◌<◌, ◌^◌, ◌==◌, ℕ, [], ◌∷◌, ◌++◌, map, get_or};
+ghost use Rattle.std.specs.Prelude.{◌≡◌, ◌+◌, ◌<◌, ◌^◌, ◌==◌, ℕ, [], ◌∷◌, ◌++◌, map, get_or};
 ghost use Rattle.std.specs.Prelude.{if◌then◌else◌, IfSome};
 ghost use Rattle.std.specs.Int.{bit_at};
 ghost use Rattle.aes3_cell.specs.Words.{level_of, low_cells, word_cells};
 ghost use Rattle.aes3_cell.specs.Text.{byte_of, line_text};
 ghost use Rattle.aes3_cell.specs.Packed.{cells_of_octets, octets_of};
 
+use crate::eights::{eight_words, octets_of_eight};
 use crate::level::Level;
 use std::simd::prelude::*;
 
@@ -59,31 +60,22 @@ pub fn line_of_word(word: u64) -> [u8; LINE_LEN]
     line
 }
 
-/// The bits in the opposite order, by exchanging bits, pairs of bits and so on: std's
-/// `reverse_bits` goes bit by bit.
-fn turned(word: u64) -> u64
-    ensures { (i : ℕ) → i < 64 → bit_at result i ≡ bit_at word (63 - i) }
-{
-    let word = (word >> 1) & 0x5555_5555_5555_5555 | (word & 0x5555_5555_5555_5555) << 1;
-    let word = (word >> 2) & 0x3333_3333_3333_3333 | (word & 0x3333_3333_3333_3333) << 2;
-    let word = (word >> 4) & 0x0F0F_0F0F_0F0F_0F0F | (word & 0x0F0F_0F0F_0F0F_0F0F) << 4;
-    let word = (word >> 8) & 0x00FF_00FF_00FF_00FF | (word & 0x00FF_00FF_00FF_00FF) << 8;
-    let word = (word >> 16) & 0x0000_FFFF_0000_FFFF | (word & 0x0000_FFFF_0000_FFFF) << 16;
-    word >> 32 | word << 32
-}
-
 /// The octets of a word of cells, the first cell in the highest bit of the first octet.
 pub fn octets_of_word(word: u64) -> [u8; 8]
     ensures { result ≡ octets_of (word_cells word) }
 {
-    turned(word).to_be_bytes()
+    octets_of_eight(u64x8::splat(word))
+        .extract::<0, 8>()
+        .to_array()
 }
 
 /// The word of the cells of eight octets, the first cell in the highest bit of the first octet.
 pub fn word_of_octets(octets: &[u8; 8]) -> u64
     ensures { word_cells result ≡ cells_of_octets octets.now }
 {
-    turned(u64::from_be_bytes(*octets))
+    let mut padded = [0; 64];
+    padded[..8].copy_from_slice(octets);
+    eight_words(u8x64::from_array(padded)).to_array()[0]
 }
 
 /// The bytes that are `byte`, each a one.

@@ -8,9 +8,11 @@ ghost use Rattle.aes3_cell.specs.Words.{word_cells};
 ghost use Rattle.aes3_cell.specs.Written.{bytes_of, ending};
 ghost use Rattle.aes3_cell.specs.declared.form.Form.TheVariants.{Text, Packed};
 
+use crate::eights::octets_of_eight;
 use crate::ends::{Fault, Sink, write_all};
 use crate::form::Form;
 use crate::word::{LINE_LEN, line_of_word, octets_of_word};
+use std::simd::prelude::*;
 
 /// Writes the 64 cells of a word, as one buffer.
 ///
@@ -49,8 +51,9 @@ fn octets_of_words(words: &[u64; MANY]) -> [u8; 8 * MANY]
     ensures { result ≡ bytes_of Packed (flat_map word_cells words.now) }
 {
     let mut octets = [0; 8 * MANY];
-    for (i, word) in words.iter().enumerate() {
-        octets[8 * i..8 * i + 8].copy_from_slice(&octets_of_word(*word));
+    for i in 0..MANY / 8 {
+        let eight = octets_of_eight(u64x8::from_slice(&words[8 * i..]));
+        octets[64 * i..64 * i + 64].copy_from_slice(&eight.to_array());
     }
     octets
 }

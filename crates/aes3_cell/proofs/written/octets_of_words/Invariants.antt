@@ -8,5 +8,5 @@ use Rattle.aes3_cell.proofs.written.octets_of_words.Given as goal
 abbrev pub invariant-loop-i : goal.invariant-loop-i
 invariant-loop-i l = record {
   len : length l.octets ≡ 128;
-  bytes : take (8 * l.i) l.octets ≡ bytes_of Packed (flat_map word_cells (take l.i l.words));
+  bytes : take (64 * l.i) l.octets ≡ bytes_of Packed (flat_map word_cells (take (8 * l.i) l.words));
 }
