@@ -18,16 +18,13 @@ mod status_text;
 mod tests;
 mod watched;
 
-use aes3_cell::{Sink, StdSink, StdSource};
+use aes3_cell::{BufferedSink, Sink, StdSink, StdSource};
 use hints::{Hints, Terminals};
 use run::{Unread, run_words, tell_unread};
 use std::env;
-use std::io::{BufWriter, ErrorKind};
+use std::io::ErrorKind;
 use std::process::ExitCode;
 use watched::Watched;
-
-/// How many bytes are written to standard output at once.
-const BUFFER_LEN: usize = 131_072;
 
 fn main(rt: HostRuntime) -> ExitCode {
     let mut errors = StdSink::new(rt.stderr());
@@ -50,16 +47,13 @@ fn run_program<E: Sink>(rt: &HostRuntime, errors: &mut E) -> Result<u8, Unread>
 {
     let words = words_of_line(rt)?;
     let words: Vec<&str> = words.iter().map(|word| word.as_str()).collect(rt.alloc())?;
-    let output = BufWriter::with_capacity(rt.alloc(), BUFFER_LEN, rt.stdout().lock()).map_err(
-        |_| Unread::Memory,
-    )?;
+    let mut sink = BufferedSink::new(rt.alloc(), StdSink::new(rt.stdout().lock()))?;
     let terminals = Terminals::new(rt);
     let mut source = Watched::new(
         rt.alloc(),
         StdSource::new(rt.stdin().lock()),
         terminals.errors,
     );
-    let mut sink = StdSink::new(output);
     let mut hints = Hints::new(rt, terminals);
     let status = run_words(
         rt.alloc(),

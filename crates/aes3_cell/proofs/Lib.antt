@@ -1,5 +1,6 @@
 pub mod Growing
 pub mod Writing
+pub mod Buffering
 pub mod WordCells
 pub mod Moves
 pub mod Lines

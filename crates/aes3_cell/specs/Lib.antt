@@ -5,6 +5,7 @@ pub mod CellText
 pub mod Packed
 pub mod Ends
 pub mod Writes
+pub mod Buffering
 pub mod Refusals
 pub mod Memory
 pub mod Pending

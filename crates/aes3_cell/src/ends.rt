@@ -1,9 +1,16 @@
 //! Where bytes come from and go to.
 
 ghost use Rattle.std.specs.Prelude.{◌≡◌, ℕ, ◌+◌, ◌<◌, ◌≤◌, ◌^◌, ◌↔◌, List, Option, Bool, length};
-ghost use Rattle.std.specs.Prelude.{take, IfOk, OnErr, IsTrue};
-ghost use Rattle.aes3_cell.specs.Ends.{Grew};
+ghost use Rattle.std.specs.Prelude.{take, IfOk, OnErr, IsTrue, if◌then◌else◌, []};
+ghost use Rattle.std.specs.Option.{is_some};
+ghost use Rattle.std.specs.List.{flat_map};
+ghost use Rattle.aes3_cell.specs.Ends.{Grew, GrewFront};
+ghost use Rattle.aes3_cell.specs.Words.{word_cells};
 ghost use Rattle.aes3_cell.specs.Writes.{Wrote};
+ghost use Rattle.aes3_cell.specs.Written.{bytes_of};
+
+use crate::form::Form;
+use crate::written::MANY;
 
 /// A device's fault. No byte was moved.
 #[derive(Clone, Copy, PartialEq, Eq, Debug)]
@@ -56,7 +63,8 @@ pub trait Sink {
         ensures bytes { IfOk result (λ n. Grew (taken self.old) (taken self.new) (take n buf.now)) }
         ensures count { IfOk result (λ _. failed self.new ≡ failed self.old) }
         ensures err { OnErr result ((failed self.new ≡ failed self.old + 1)
-            × (taken self.new ≡ taken self.old)) };
+            × (taken self.new ≡ taken self.old)) }
+        ensures tells { is_some (taken self.new) ≡ is_some (taken self.old) };
 
     /// Passes on what it holds of the bytes that it took.
     fn flush(&mut self) -> Result<(), Fault>
@@ -70,10 +78,25 @@ pub trait Sink {
     fn failures(&self) -> u64
         ensures { result ≡ failed self.now };
 
-    /// Whether it would rather take many bytes at once: then words of cells are handed on 16 as one
-    /// buffer, else each as one.
+    /// Whether it would rather take many bytes at once: then lines are gathered for it.
     fn takes_much(&self) -> bool {
         false
+    }
+
+    /// Takes the cells of many words at once and answers true; a sink without a buffer takes none.
+    ///
+    /// # Errors
+    /// Its fault; then it has taken a front of their bytes.
+    fn put_many(&mut self, _form: Form, _words: &[u64; MANY]) -> Result<bool, Fault>
+        requires room { failed self.old + 1 < 2 ^ 64 }
+        ensures cells { IfOk result (λ took. Grew (taken self.old) (taken self.new)
+            (if took then bytes_of _form (flat_map word_cells _words.now) else [])) }
+        ensures count { IfOk result (λ _. failed self.new ≡ failed self.old) }
+        ensures err { OnErr result ((failed self.new ≡ failed self.old + 1)
+            × GrewFront (taken self.old) (taken self.new)
+            (bytes_of _form (flat_map word_cells _words.now))) }
+    {
+        Ok(false)
     }
 }
 

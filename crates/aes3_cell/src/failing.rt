@@ -117,6 +117,7 @@ impl FailingSink {
 impl Sink for FailingSink {
     ghost use Rattle.std.specs.Prelude.{Some, ◌≡◌, ◌+◌, ◌-◌, ◌<◌, ◌≤◌, ◌^◌, length, take, IfOk};
     ghost use Rattle.std.specs.Prelude.{IsErr, OnErr};
+    ghost use Rattle.std.specs.Option.{is_some};
     ghost use Rattle.aes3_cell.specs.Ends.{Grew};
     ghost use Rattle.aes3_cell.specs.Memory.{taken_bytes, sink_within, sink_calls_left};
     ghost use Rattle.aes3_cell.specs.Memory.{failing_sink_failures};
@@ -140,6 +141,8 @@ impl Sink for FailingSink {
             ≡ failing_sink_failures self.old + 1)
             × (Some (taken_bytes (sink_within self.new))
             ≡ Some (taken_bytes (sink_within self.old)))) }
+        ensures tells { is_some (Some (taken_bytes (sink_within self.new)))
+            ≡ is_some (Some (taken_bytes (sink_within self.old))) }
         ensures all { IfOk result (λ n. n ≡ length buf.now) }
 
         // memory that is refused is a fault at an earlier call too

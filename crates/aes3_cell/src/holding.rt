@@ -46,6 +46,7 @@ impl HoldingSink {
 
 impl Sink for HoldingSink {
     ghost use Rattle.std.specs.Prelude.{Some, ◌≡◌, ◌+◌, ◌<◌, ◌≤◌, ◌^◌, length, take, IfOk, OnErr};
+    ghost use Rattle.std.specs.Option.{is_some};
     ghost use Rattle.aes3_cell.specs.Ends.{Grew};
     ghost use Rattle.aes3_cell.specs.Memory.{taken_bytes, sink_failures, holding_within};
     ghost use Rattle.aes3_cell.specs.Memory.{passed_bytes};
@@ -68,6 +69,8 @@ impl Sink for HoldingSink {
             ≡ sink_failures (holding_within self.old) + 1)
             × (Some (taken_bytes (holding_within self.new))
             ≡ Some (taken_bytes (holding_within self.old)))) }
+        ensures tells { is_some (Some (taken_bytes (holding_within self.new)))
+            ≡ is_some (Some (taken_bytes (holding_within self.old))) }
         ensures held { passed_bytes self.new ≡ passed_bytes self.old }
     {
         self.inner.write(buf)

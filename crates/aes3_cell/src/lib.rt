@@ -2,6 +2,7 @@
 //! go to.
 #![tactic(auto)]
 
+mod buffered;
 mod counts;
 mod eights;
 mod endless;
@@ -24,6 +25,7 @@ mod text_words;
 mod word;
 mod written;
 
+pub use buffered::BufferedSink;
 pub use counts::Counts;
 pub use endless::EndlessSource;
 pub use ends::{Fault, Sink, Source, write_all};

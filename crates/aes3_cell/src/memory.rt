@@ -117,6 +117,7 @@ impl MemorySink {
 
 impl Sink for MemorySink {
     ghost use Rattle.std.specs.Prelude.{Some, ◌≡◌, ◌+◌, ◌<◌, ◌≤◌, ◌^◌, length, take, IfOk, OnErr};
+    ghost use Rattle.std.specs.Option.{is_some};
     ghost use Rattle.aes3_cell.specs.Ends.{Grew};
     ghost use Rattle.aes3_cell.specs.Memory.{taken_bytes, sink_failures};
 
@@ -136,6 +137,8 @@ impl Sink for MemorySink {
         ensures count { IfOk result (λ _. sink_failures self.new ≡ sink_failures self.old) }
         ensures err { OnErr result ((sink_failures self.new ≡ sink_failures self.old + 1)
             × (Some (taken_bytes self.new) ≡ Some (taken_bytes self.old))) }
+        ensures tells { is_some (Some (taken_bytes self.new))
+            ≡ is_some (Some (taken_bytes self.old)) }
         ensures all { IfOk result (λ n. n ≡ length buf.now) }
     {
         match self.bytes.extend_from_slice(buf) {

@@ -41,6 +41,7 @@ impl ShortSink {
 impl Sink for ShortSink {
     ghost use Rattle.std.specs.Prelude.{Some, ◌≡◌, ◌+◌, ◌<◌, ◌≤◌, ◌^◌, length, take, min, IfOk};
     ghost use Rattle.std.specs.Prelude.{OnErr};
+    ghost use Rattle.std.specs.Option.{is_some};
     ghost use Rattle.aes3_cell.specs.Ends.{Grew};
     ghost use Rattle.aes3_cell.specs.Memory.{taken_bytes, sink_failures, short_within, most_of};
 
@@ -63,6 +64,8 @@ impl Sink for ShortSink {
             ≡ sink_failures (short_within self.old) + 1)
             × (Some (taken_bytes (short_within self.new))
             ≡ Some (taken_bytes (short_within self.old)))) }
+        ensures tells { is_some (Some (taken_bytes (short_within self.new)))
+            ≡ is_some (Some (taken_bytes (short_within self.old))) }
         ensures most { IfOk result (λ n. n ≡ min (length buf.now) (most_of self.old)) }
         ensures same { most_of self.new ≡ most_of self.old }
     {

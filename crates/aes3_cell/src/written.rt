@@ -28,17 +28,16 @@ pub fn put_word<T: Sink>(form: Form, word: u64, sink: &mut T) -> Result<(), Faul
     }
 }
 
-/// How many words are handed on as one buffer.
-const MANY: usize = 16;
+/// How many words a sink takes at once.
+pub(crate) const MANY: usize = 16;
 
-/// A buffer for the lines of words.
-fn blank_lines() -> [u8; LINE_LEN * MANY] {
-    [0; LINE_LEN * MANY]
-}
+/// How many bytes their lines have.
+pub(crate) const LINES_LEN: usize = LINE_LEN * MANY;
 
 /// Puts the lines of words into `text`.
 #[inline(always)]
-fn fill_lines(words: &[u64; MANY], text: &mut [u8; LINE_LEN * MANY])
+pub(crate) fn fill_lines(words: &[u64; MANY], text: &mut [u8])
+    requires { length text.old ≡ LINES_LEN }
     ensures { text.new ≡ bytes_of Text (flat_map word_cells words.now) }
 {
     for (i, word) in words.iter().enumerate() {
@@ -47,7 +46,7 @@ fn fill_lines(words: &[u64; MANY], text: &mut [u8; LINE_LEN * MANY])
 }
 
 /// The octets of words.
-fn octets_of_words(words: &[u64; MANY]) -> [u8; 8 * MANY]
+pub(crate) fn octets_of_words(words: &[u64; MANY]) -> [u8; 8 * MANY]
     ensures { result ≡ bytes_of Packed (flat_map word_cells words.now) }
 {
     let mut octets = [0; 8 * MANY];
@@ -58,28 +57,7 @@ fn octets_of_words(words: &[u64; MANY]) -> [u8; 8 * MANY]
     octets
 }
 
-/// Writes as many words as one buffer holds; lines are made in `text`.
-fn put_many<T: Sink>(
-    form: Form,
-    words: &[u64; MANY],
-    text: &mut [u8; LINE_LEN * MANY],
-    sink: &mut T,
-) -> Result<(), Fault>
-    requires room { T.failed sink.old + 1 < 2 ^ 64 }
-    ensures { Wrote T.taken T.failed sink.old sink.new
-        (bytes_of form (flat_map word_cells words.now)) result }
-{
-    match form {
-        Form::Text => {
-            fill_lines(words, text);
-            write_all(sink, text)
-        }
-        Form::Packed => write_all(sink, &octets_of_words(words)),
-    }
-}
-
-/// Writes the first words, as many as fill buffers, where the sink takes much at once; answers how
-/// many.
+/// Writes the first words, as long as the sink takes many at once; answers how many.
 fn put_front<T: Sink>(form: Form, words: &[u64], sink: &mut T) -> Result<usize, Fault>
     requires room { T.failed sink.old + 1 < 2 ^ 64 }
     ensures within { IfOk result (λ n. n ≤ length words.now) }
@@ -90,14 +68,11 @@ fn put_front<T: Sink>(form: Form, words: &[u64], sink: &mut T) -> Result<usize, 
         × GrewFront (T.taken sink.old) (T.taken sink.new)
         (bytes_of form (flat_map word_cells words.now))) }
 {
-    if !sink.takes_much() {
-        return Ok(0);
-    }
-    let mut text = blank_lines();
     let mut at = 0;
     while let Some(many) = words[at..].first_chunk() {
-        match put_many(form, many, &mut text, sink) {
-            Ok(()) => at += MANY,
+        match sink.put_many(form, many) {
+            Ok(true) => at += MANY,
+            Ok(false) => break,
             Err(fault) => return Err(fault),
         }
     }
@@ -119,7 +94,7 @@ fn put_each<T: Sink>(form: Form, words: &[u64], sink: &mut T) -> Result<(), Faul
     Ok(())
 }
 
-/// Writes words of cells, each as one buffer, or 16 as one where the sink takes much at once.
+/// Writes words of cells, each as one buffer, or 16 at once where the sink takes them.
 ///
 /// # Errors
 /// The sink's fault; then it has taken a front of the bytes.

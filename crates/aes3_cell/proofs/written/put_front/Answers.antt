@@ -1,4 +1,4 @@
-use Rattle.std.proofs.Common.{◌+◌, ◌∙◌, ap, sym, refl, arith, length, drop, take, length-drop}
+use Rattle.std.proofs.Common.{◌+◌, ◌∙◌, ap, sym, refl, arith, length, drop, take, length-drop, append-nil}
 use Rattle.std.specs.List.{flat_map}
 use Rattle.std.proofs.lemmas.Slice.{between_to_end}
 use Rattle.aes3_cell.specs.Words.{word_cells}
@@ -7,9 +7,6 @@ use Rattle.aes3_cell.proofs.Growing.{grew-none, grew-join, grew-is, front-is, fr
 use Rattle.aes3_cell.proofs.ManyWords.{bytes-block, bytes-split}
 use Rattle.aes3_cell.proofs.WrittenForms.{bytes-nothing}
 use Rattle.aes3_cell.proofs.written.put_front.Goals as goal
-
-pub returns-then-not-takes_much-clause-cells : goal.returns-then-not-takes_much-clause-cells
-returns-then-not-takes_much-clause-cells g c = grew-is (sym (bytes-nothing c.args.form)) (grew-none refl)
 
 pub loop-many-init : goal.loop-many-init
 loop-many-init g c = record { within = omega arith; grew = grew-is (sym (bytes-nothing c.args.form)) (grew-none refl); quiet = refl }
@@ -25,9 +22,12 @@ loop-many-preserved g c =
     let many = ap (λ w. bytes_of c.args.form (flat_map word_cells w)) (c.in-Some.ensures.cases.same ∙ ap (take 16) rest) in
     record {
       within = omega (arith, enough, l);
-      grew = grew-is (bytes-block c.args.form words at 16 within) (grew-join c.loop-many.invariant.grew (grew-is many c.in-Ok.ensures.grew));
-      quiet = c.in-Ok.ensures.count ∙ c.loop-many.invariant.quiet;
+      grew = grew-is (bytes-block c.args.form words at 16 within) (grew-join c.loop-many.invariant.grew (grew-is many (rw c.in-Ok-true.field-0-test at c.in-Ok-true.ensures.cells)));
+      quiet = c.in-Ok-true.ensures.count ∙ c.loop-many.invariant.quiet;
     }
+
+pub returns-in-Ok-false-clause-cells : goal.returns-in-Ok-false-clause-cells
+returns-in-Ok-false-clause-cells g c = grew-is (append-nil _) (grew-join c.loop-many.invariant.grew (rw c.in-Ok-false.field-0-test at c.in-Ok-false.ensures.cells))
 
 pub returns-in-Err-clause-err : goal.returns-in-Err-clause-err
 returns-in-Err-clause-err g c =
