@@ -25,6 +25,20 @@ impl Model for Line {
     ghost view = { λ line. line.bytes.items };
 }
 
+ghost use Rattle.std.specs.Prelude.{◌≡◌};
+ghost use Rattle.aes3_text.specs.Lines.{level_digit};
+
+/// `0` for the lower level, `1` for the higher.
+#[inline]
+pub(crate) fn digit_of(level: Level) -> &'static str
+    ensures { result.now ≡ level_digit level }
+{
+    match level {
+        Level::Low => "0",
+        Level::High => "1",
+    }
+}
+
 impl Line {
     ghost use Rattle.std.specs.Prelude.{◌≡◌, ◌↔◌, ◌<◌, ◌≤◌, ◌+◌, [], ◌∷◌, ◌++◌, ◌^◌, IsTrue, codes};
     ghost use Rattle.std.specs.Prelude.{decimal, length};
@@ -73,10 +87,7 @@ impl Line {
         ensures digit { self.new ≡ self.old ++ level_digit level }
         ensures len { length self.new ≡ length self.old + 1 }
     {
-        self.text(match level {
-            Level::Low => "0",
-            Level::High => "1",
-        });
+        self.text(digit_of(level));
     }
 
     /// Whether the line is a space and this text.

@@ -1,5 +1,6 @@
 //! A short line, made from its end.
 
+use crate::line::digit_of;
 use aes3_cell::{Fault, Level, Sink, write_all};
 use itoa::write_digits;
 use std::marker::Model;
@@ -72,10 +73,7 @@ impl Tail {
         ensures digit { self.new ≡ level_digit level ++ self.old }
         ensures len { length self.new ≡ 1 + length self.old }
     {
-        self.text(match level {
-            Level::Low => "0",
-            Level::High => "1",
-        });
+        self.text(digit_of(level));
     }
 
     /// Hands it to the sink as one buffer.
