@@ -7,7 +7,7 @@ use Rattle.std.proofs.lemmas.Bool.{cases_lt}
 use Rattle.std.proofs.lemmas.Nat.{shr_le}
 use Rattle.aes3_cell.specs.declared.level.Level.{Level}
 use Rattle.aes3_cell.specs.Words.{level_of, low_cells, word_cells}
-use Rattle.aes3_cell.proofs.WordCells.{length-low_cells}
+use Rattle.aes3_cell.proofs.WordCells.{length-low_cells, low_cells-add}
 use Rattle.aes3_cell.proofs.Moves.{bit_at-shr}
 use Rattle.aes3_slot.specs.declared.mark.Mark.{Mark}
 use Rattle.aes3_slot.specs.Rules.{at}
@@ -25,7 +25,7 @@ use Rattle.aes3_lock.proofs.Deciding.{block_len_64}
 use Rattle.aes3_lock.proofs.Fronts.{front-is, keeps-append}
 use Rattle.aes3_lock.proofs.LastEight.{last_eight-more}
 use Rattle.aes3_lock.proofs.SubframeWords.{take-low, take-word}
-use Rattle.aes3_lock.proofs.QuietWords.{below-trailing, no-trailing}
+use Rattle.aes3_lock.proofs.QuietWords.{below-trailing, lowest-one}
 use Rattle.aes3_lock.proofs.WordSteps.{more-cells, made-whole, start, start-length, start-last, keeps-part}
 use Rattle.aes3_lock.proofs.Following.{hand, hand-open, offset, tested, goes-on}
 use Rattle.aes3_lock.proofs.TakenWords.{all-64}
@@ -55,11 +55,11 @@ module _ (t : Candidate) (x o m : ℕ) (mark : Mark) (few : m < 2 ^ 64) (is : ma
       ∙ true-from_zero _ (sym (says (o % 64 + i) (omega (arith, fits, g))) ∙ sym (bit_at-shr m (o % 64) i)
       ∙ below-trailing (m / 2 ^ (o % 64)) i (let d = shr_le m (o % 64) in omega (arith, d, few)) (omega (arith, h, g)))
 
-  pub first-wrong : trailing_zeros w64 (m / 2 ^ (o % 64)) ≡ 0 → stands t.level (mark_at (o / 64)) (word_cells x) (o % 64) ≡ false
-  first-wrong e =
-      ap (λ y. stands t.level y (word_cells x) (o % 64)) (sym is)
-      ∙ false-from_one _ (sym (says (o % 64) (omega arith)) ∙ ap (bit_at m) (let q : o % 64 ≡ o % 64 + 0 = omega arith in q) ∙ sym (bit_at-shr m (o % 64) 0)
-      ∙ no-trailing (m / 2 ^ (o % 64)) (let d = shr_le m (o % 64) in omega (arith, d, few)) e)
+  pub next-wrong : (n : ℕ) → n ≡ trailing_zeros w64 (m / 2 ^ (o % 64)) → o % 64 + n < 64 → stands t.level (mark_at (o / 64)) (word_cells x) (o % 64 + n) ≡ false
+  next-wrong n e h =
+      ap (λ y. stands t.level y (word_cells x) (o % 64 + n)) (sym is)
+      ∙ false-from_one _ (sym (says (o % 64 + n) h) ∙ sym (bit_at-shr m (o % 64) n)
+      ∙ lowest-one (m / 2 ^ (o % 64)) n (let d = shr_le m (o % 64) in omega (arith, d, few)) e (omega (arith, h)))
 
 module _ (k : LockState) (t : Candidate) (c : List Level) (w x n : ℕ) (f : Follows k c) (s : k.candidate ≡ Some t)
     (given : Joined k w x n (k.seen - t.at)) where
@@ -159,6 +159,36 @@ module _ (k : LockState) (t : Candidate) (c : List Level) (w x n : ℕ) (f : Fol
       off : k.seen - t.at ≡ length d
       off = offset k t c f s
 
+  -- and of the same cells the others of the word come next
+  part-behind : (k' : LockState) → Begun k'.subframe x n (k.seen - t.at) → Joined k' (w / 2 ^ n) x 1 (k.seen - t.at + n)
+  part-behind k' b = subst (λ o. Joined k' (w / 2 ^ n) x 1 (o + n)) (sym (offset k t c f s)) (record {
+    cells = λ _. rw m next;
+    fits = let q = r.short in omega (arith, m, q);
+    room = let q = r.short in let z = block_len_64 in let h = here.room in omega (arith, q, z, h);
+  })
+    where
+      r : Begun k'.subframe x n (length d)
+      r = subst (λ o. Begun k'.subframe x n o) (offset k t c f s) b
+
+      m : (length d + n) % 64 ≡ p + n
+      m = let q = r.short in omega (arith, q)
+
+      others : List Level
+      others = low_cells (64 - (p + n)) (w / 2 ^ n)
+
+      rest : take (64 - p) (word_cells w) ≡ low_cells n w ++ others
+      rest =
+          let q = r.short in
+          take-word (64 - p) w (omega arith) ∙ ap (λ j. low_cells j w) (let e : 64 - p ≡ n + (64 - (p + n)) = omega (arith, q) in e) ∙ low_cells-add n (64 - (p + n)) w
+
+      next : word_cells x ≡ low_cells (p + n) k'.subframe ++ take (64 - (p + n)) (word_cells (w / 2 ^ n))
+      next =
+          let q = r.short in
+          here.cells in-hand.gathered.few ∙ ap (λ b. low_cells p k.subframe ++ b) rest
+          ∙ sym (append_assoc (low_cells p k.subframe) (low_cells n w) others)
+          ∙ ap (λ a. a ++ others) (sym parts ∙ take-word (p + n) x (omega (arith, q)) ∙ sym r.cells)
+          ∙ ap (λ b. low_cells (p + n) k'.subframe ++ b) (sym (take-word (64 - (p + n)) (w / 2 ^ n) (omega arith)))
+
 -- a cell that does not stand as it may ends the candidate
 pub part-stops : (k : LockState) (t : Candidate) (c : List Level) (w x : ℕ) → Follows k c → k.candidate ≡ Some t → Joined k w x 1 (k.seen - t.at)
     → stands t.level (mark_at ((k.seen - t.at) / 64)) (word_cells x) ((k.seen - t.at) % 64) ≡ false → Stops k (level_of (w % 2))
@@ -171,3 +201,17 @@ part-stops k t c w x f s given wrong =
           ∙ inside k t c w x 1 f s given (length (drop t.at c) % 64) (omega arith)
           ∙ ap (λ o. stands t.level (mark_at (o / 64)) (word_cells x) (o % 64)) (sym o) ∙ wrong;
     }
+
+-- nor does one behind some that do
+pub part-ends : (k k' : LockState) (t : Candidate) (c : List Level) (w x n : ℕ) → Follows k c → k.candidate ≡ Some t → Joined k w x n (k.seen - t.at)
+    → Follows k' (c ++ low_cells n w) → k'.seen ≡ k.seen + n → k'.candidate ≡ Some t → Begun k'.subframe x n (k.seen - t.at)
+    → stands t.level (mark_at ((k.seen - t.at) / 64)) (word_cells x) ((k.seen - t.at) % 64 + n) ≡ false → Stops k' (level_of (w / 2 ^ n % 2))
+part-ends k k' t c w x n f s given f' e s' b wrong =
+    let i = (in-hand k t c w x n f s given).within in
+    let z = f.seen in
+    let q = b.short in
+    let o : k.seen - t.at + n ≡ k'.seen - t.at = omega (arith, i, z, e) in
+    let d : (k'.seen - t.at) / 64 ≡ (k.seen - t.at) / 64 = omega (arith, o, q) in
+    let r : (k'.seen - t.at) % 64 ≡ (k.seen - t.at) % 64 + n = omega (arith, o, q) in
+    part-stops k' t (c ++ low_cells n w) (w / 2 ^ n) x f' s' (subst (λ j. Joined k' (w / 2 ^ n) x 1 j) o (part-behind k t c w x n f s given k' b))
+    (ap₂ (λ u v. stands t.level (mark_at u) (word_cells x) v) d r ∙ wrong)

@@ -3,6 +3,7 @@ use Rattle.std.proofs.Common.{◌≡◌, ℕ, ◌+◌, ◌/◌, ◌%◌, ◌^◌
 use Rattle.std.specs.List.{flat_map}
 use Rattle.std.proofs.lemmas.Grind.{flat_map-append}
 use Rattle.std.proofs.lemmas.List.{flat_map_more, take_more}
+use Rattle.std.proofs.lemmas.Nat.{shr-shr}
 use Rattle.std.proofs.Math.Seq.{take-add}
 use Rattle.aes3_cell.specs.declared.level.Level.{Level}
 use Rattle.aes3_cell.specs.Words.{level_of, low_cells, word_cells}
@@ -14,6 +15,10 @@ use Rattle.aes3_lock.proofs.Spacing.{few-told}
 
 pub parts : (c : List Level) (a b w : ℕ) → (c ++ low_cells a w) ++ low_cells b (w / 2 ^ a) ≡ c ++ low_cells (a + b) w
 parts c a b w = append_assoc c (low_cells a w) (low_cells b (w / 2 ^ a)) ∙ ap (λ x. c ++ x) (sym (low_cells-add a b w))
+
+-- a cell behind some more cells of a word ends the candidate in hand
+pub more-stops : (k : LockState) (a b b' w : ℕ) → b' ≡ b → Stops k (level_of (w / 2 ^ a / 2 ^ b % 2)) → Stops k (level_of (w / 2 ^ (a + b') % 2))
+more-stops k a b b' w e s = subst (λ x. Stops k (level_of (w / 2 ^ (a + x) % 2))) (sym e) (subst (λ x. Stops k (level_of (x % 2))) (shr-shr w a b) s)
 
 -- some more cells of a word decide nothing
 pub more-follows : (k k' : LockState) (c : List Level) (a b b' w : ℕ) → b' ≡ b

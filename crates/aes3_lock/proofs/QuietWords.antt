@@ -94,12 +94,12 @@ below-trailing m i few g = go (cases_eq m 0)
     go (inl z) = ap (λ x. bit_at x i) z ∙ bit_at-zero i
     go (inr s) = (bit_at-trailing_zeros w64 m (omega (arith, s)) few).2 i g
 
-pub no-trailing : (m : ℕ) → m < 2 ^ 64 → trailing_zeros w64 m ≡ 0 → bit_at m 0 ≡ 1
-no-trailing m few e = go (cases_eq m 0)
+pub lowest-one : (m n : ℕ) → m < 2 ^ 64 → n ≡ trailing_zeros w64 m → n < 64 → bit_at m n ≡ 1
+lowest-one m n few e h = go (cases_eq m 0)
   where
-    go : (m ≡ 0) ⊎ (m ≡ 0 → ⊥) → bit_at m 0 ≡ 1
-    go (inl z) = absurd (let t = ap (trailing_zeros w64) z ∙ trailing_of_zero 64 in omega (arith, t, e))
-    go (inr s) = sym (ap (bit_at m) e) ∙ (bit_at-trailing_zeros w64 m (omega (arith, s)) few).1
+    go : (m ≡ 0) ⊎ (m ≡ 0 → ⊥) → bit_at m n ≡ 1
+    go (inl z) = absurd (let t = ap (trailing_zeros w64) z ∙ trailing_of_zero 64 in omega (arith, t, e, h))
+    go (inr s) = ap (bit_at m) e ∙ (bit_at-trailing_zeros w64 m (omega (arith, s)) few).1
 
 -- of the cells of a word, by the places where eight cells with a property begin in the seven before it and its own
 module _ (q : List Level → Bool) (stays : (x y : List Level) → 8 ≤ length x → q (x ++ y) ≡ q x) (c b : List Level) (m w : ℕ) (few : m < 2 ^ 64)

@@ -49,9 +49,9 @@ impl Model for Lock {
         × (length k.words ≡ block_slots) };
 }
 
-ghost use Rattle.std.specs.Prelude.{◌≡◌, ◌≢◌, ◌<◌, ◌≤◌, ◌+◌, ◌*◌, ◌%◌, ◌^◌, ◌&&◌, true, false};
-ghost use Rattle.std.specs.Prelude.{None, Some, List, [], ◌∷◌, ◌++◌, drop, get_or, length, nat_lt};
-ghost use Rattle.std.specs.Prelude.{option_map, option_to_list, take};
+ghost use Rattle.std.specs.Prelude.{◌≡◌, ◌≢◌, ◌<◌, ◌≤◌, ◌+◌, ◌*◌, ◌/◌, ◌%◌, ◌^◌, ◌&&◌, true};
+ghost use Rattle.std.specs.Prelude.{false, None, Some, List, [], ◌∷◌, ◌++◌, drop, get_or, length};
+ghost use Rattle.std.specs.Prelude.{nat_lt, option_map, option_to_list, take};
 ghost use Rattle.std.specs.List.{flat_map};
 ghost use Rattle.std.specs.Option.{ForSome};
 ghost use Rattle.aes3_cell.specs.declared.level.Level.{Level};
@@ -361,42 +361,41 @@ impl Lock {
     }
 
     /// Takes the first cells of a word, at most `len`, that go on with the candidate in hand, up to
-    /// the end of the subframe in hand. Answers how many; where none does, it changes nothing.
-    fn go_on(&mut self, candidate: Candidate, word: u64, len: u32) -> u32
+    /// the end of the subframe in hand. Answers how many, and whether the next one ends the
+    /// candidate.
+    fn go_on(&mut self, candidate: Candidate, word: u64, len: u32) -> (u32, bool)
         requires room { self.old.seen + len ≤ 2 ^ 43 }
         requires len { len ≤ 64 }
         requires some { 0 < len }
         requires in_hand { self.old.candidate ≡ Some candidate }
-        ensures within { result ≤ len }
-        ensures seen { self.new.seen ≡ self.old.seen + result }
+        ensures within { result.0 ≤ len }
+        ensures some { result.1 ≡ false → 0 < result.0 }
+        ensures next { result.1 ≡ true → result.0 < len }
+        ensures seen { self.new.seen ≡ self.old.seen + result.0 }
         ensures follows { (cells : List Level) → Follows self.old cells
-            → Follows self.new (cells ++ low_cells result word) }
+            → Follows self.new (cells ++ low_cells result.0 word) }
         ensures none { (cells : List Level) → Follows self.old cells
-            → decided (cells ++ low_cells result word) ≡ decided cells }
-        ensures left { result ≡ 0 → self.new ≡ self.old }
-        ensures stops { result ≡ 0 → (cells : List Level) → Follows self.old cells
-            → Stops self.old (level_of (word % 2)) }
+            → decided (cells ++ low_cells result.0 word) ≡ decided cells }
+        ensures in_hand { result.1 ≡ true → self.new.candidate ≢ None }
+        ensures stops { result.1 ≡ true → (cells : List Level) → Follows self.old cells
+            → Stops self.new (level_of (word / 2 ^ result.0 % 2)) }
     {
         let offset = self.seen - candidate.at;
         if offset >= BLOCK_CELLS {
-            return 0;
+            return (0, true);
         }
         let slot = offset / SUBFRAME_CELLS;
         let begun = offset % SUBFRAME_CELLS;
         let cells = completed(self.subframe, begun, word);
         let wrong = wrong_cells(candidate.level, mark_of(slot), cells) >> begun;
-        let taken = wrong
-            .trailing_zeros()
-            .min(len)
-            .min((SUBFRAME_CELLS - begun) as u32);
-        if taken == 0 {
-            return 0;
-        }
+        let right = wrong.trailing_zeros();
+        let room = len.min((SUBFRAME_CELLS - begun) as u32);
+        let taken = right.min(room);
         self.count(word, taken);
         let end = begun + u64::from(taken);
         if end < SUBFRAME_CELLS {
             self.subframe = first_of(cells, end);
-            return taken;
+            return (taken, right < room);
         }
         self.words.keep(slot as usize, candidate.level, cells);
         self.subframe = 0;
@@ -405,7 +404,7 @@ impl Lock {
             before: candidate.before,
             level: last_of(cells),
         });
-        taken
+        (taken, false)
     }
 
     /// Takes a cell that ends the candidate in hand, and answers what it makes of it.
@@ -452,18 +451,18 @@ impl Lock {
         let mut taken = 0;
         while taken < len {
             let rest = word >> taken;
-            let more = match self.candidate {
-                None => self.search(rest, len - taken),
+            let (more, ends) = match self.candidate {
+                None => (self.search(rest, len - taken), false),
                 Some(candidate) => self.go_on(candidate, rest, len - taken),
             };
-            if more == 0 {
-                let ending = self.stop(first_cell(rest));
+            taken += more;
+            if ends {
+                let ending = self.stop(first_cell(word >> taken));
                 return Pushed {
                     taken: taken + 1,
                     ending: Some(ending),
                 };
             }
-            taken += more;
         }
         Pushed {
             taken,
