@@ -83,18 +83,18 @@ pub trait Sink {
         false
     }
 
-    /// Takes the cells of many words at once and answers true; a sink without a buffer takes none.
+    /// Takes the cells of 16 words at once, and answers true. Here it takes none, and answers false.
     ///
     /// # Errors
     /// Its fault; then it has taken a front of their bytes.
-    fn put_many(&mut self, _form: Form, _words: &[u64; MANY]) -> Result<bool, Fault>
+    fn put_many(&mut self, form: Form, words: &[u64; MANY]) -> Result<bool, Fault>
         requires room { failed self.old + 1 < 2 ^ 64 }
         ensures cells { IfOk result (λ took. Grew (taken self.old) (taken self.new)
-            (if took then bytes_of _form (flat_map word_cells _words.now) else [])) }
+            (if took then bytes_of form (flat_map word_cells words.now) else [])) }
         ensures count { IfOk result (λ _. failed self.new ≡ failed self.old) }
         ensures err { OnErr result ((failed self.new ≡ failed self.old + 1)
             × GrewFront (taken self.old) (taken self.new)
-            (bytes_of _form (flat_map word_cells _words.now))) }
+            (bytes_of form (flat_map word_cells words.now))) }
     {
         Ok(false)
     }

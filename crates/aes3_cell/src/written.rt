@@ -35,7 +35,8 @@ pub(crate) const MANY: usize = 16;
 pub(crate) const LINES_LEN: usize = LINE_LEN * MANY;
 
 /// Puts the lines of words into `text`.
-#[inline(always)]
+// Called in a loop, its own loop keeps its constants in registers.
+#[inline(never)]
 pub(crate) fn fill_lines(words: &[u64; MANY], text: &mut [u8])
     requires { length text.old ≡ LINES_LEN }
     ensures { text.new ≡ bytes_of Text (flat_map word_cells words.now) }

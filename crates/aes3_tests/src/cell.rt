@@ -1,9 +1,11 @@
 //! Worked rows of both written forms of cells, the refusals, and ends that fail or move few bytes.
 
 use aes3_cell::{
-    BadCell, BadPadding, CellText, FailingSink, Fault, HoldingSink, Level, PackedIn, PackedOut,
-    RunError, ShortSink, Sink, Source, StdSink, StdSource, TextOut, write_all,
+    BadCell, BadPadding, BufferedSink, CellText, FailingSink, Fault, Form, HoldingSink, Level,
+    PackedIn, PackedOut, RunError, ShortSink, Sink, Source, StdSink, StdSource, TextOut, put_words,
+    write_all,
 };
+use std::alloc::AllocError;
 use std::io::{ErrorKind, Read};
 
 #[test]
@@ -152,6 +154,41 @@ fn sinks_over_memory(rt: HostRuntime) {
     let mut holding = HoldingSink::new(rt.alloc());
     assert!(rt; holding.write(b"ab") == Ok(2) && holding.passed().is_empty());
     assert!(rt; holding.flush() == Ok(()) && holding.passed() == holding.bytes());
+}
+
+/// Puts 130 times 16 lines through a buffer, which is more than it holds, and passes them on.
+fn put_through<T: Sink + Drop>(sink: &mut BufferedSink<T>) -> Result<(), Fault> {
+    for _ in 0..130 {
+        if sink.failures() > 0 {
+            return Err(Fault);
+        }
+        put_words(Form::Text, &[WORD; 16], sink)?;
+    }
+    if sink.failures() > 0 {
+        return Err(Fault);
+    }
+    sink.flush()
+}
+
+/// Whether bytes are lines of the word.
+fn are_lines(bytes: &[u8]) -> bool {
+    bytes.iter().enumerate().all(|(i, byte)| {
+        let column = i % 65;
+        *byte == if column < 64 { LINE[column] } else { b'\n' }
+    })
+}
+
+#[test]
+fn buffered_sinks(rt: HostRuntime) -> Result<(), AllocError> {
+    let mut short = BufferedSink::new(rt.alloc(), ShortSink::new(rt.alloc(), 7_000))?;
+    let answer = put_through(&mut short);
+    let bytes = short.sink().bytes();
+    assert!(rt; answer == Ok(()) && bytes.len() == 135_200 && are_lines(bytes));
+    let mut failing = BufferedSink::new(rt.alloc(), FailingSink::new(rt.alloc(), 2))?;
+    let answer = put_through(&mut failing);
+    let bytes = failing.sink().bytes();
+    assert!(rt; answer == Err(Fault) && bytes.len() == 131_040 && are_lines(bytes));
+    Ok(())
 }
 
 #[test]
