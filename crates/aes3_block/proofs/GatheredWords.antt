@@ -1,5 +1,5 @@
 -- Words that are known to be the cells of a block's subframes.
-use Rattle.std.proofs.Common.{Bool, true, ◌++◌, replicate, ap₂, ◌≡◌, ℕ, zero, suc, ◌+◌, ◌-◌, ◌<◌, ◌≤◌, ◌⊎◌, inl, inr, List, [], ◌∷◌, false, length, map, take, drop, set, get_or, refl, sym, ap, subst, ◌∙◌, arith, add-one, eqb, eq-eqb, ne_eqb, length-set, get_or-set_same, get_or-set_other}
+use Rattle.std.proofs.Common.{Bool, true, ◌++◌, replicate, ap₂, ◌≡◌, ℕ, zero, suc, ◌+◌, ◌-◌, ◌<◌, ◌≤◌, ◌⊎◌, inl, inr, List, [], ◌∷◌, false, length, map, take, drop, set, get_or, refl, sym, ap, subst, ◌∙◌, arith, eqb, eq-eqb, ne_eqb, length-set, get_or-set_same, get_or-set_other}
 use mir.Val.{bool_byte}
 use Rattle.std.specs.List.{filter, flat_map}
 use Rattle.std.proofs.lemmas.Bool.{cases_eq, cases_lt}
@@ -19,22 +19,13 @@ use Rattle.aes3_slot.proofs.Unique.{read-slots}
 use Rattle.aes3_block.specs.Blocks.{block_cells, block_runs, mark_at}
 use Rattle.aes3_block.specs.Gathered.{IsRight, AreRight, with_first}
 use Rattle.aes3_block.proofs.ReadCells.{read_payload, read-payload, payloads-read}
-use Rattle.aes3_block.proofs.Runs.{cells-more, cells-whole}
+use Rattle.aes3_block.proofs.Runs.{cells-each}
 
 -- words that are all right are a block's cells
 pub right-cells : (s : Level) (n : ℕ) (words : List ℕ) → length words ≤ n → AreRight s n words
     → flat_map word_cells words ≡ block_cells s (map (take payload_len) (read_words words))
 right-cells s n words l right =
-    cells-whole read_payload read-payload s words words (length words) (omega arith) (omega arith) (so_far (length words) (omega arith))
-    ∙ ap (block_cells s) (payloads-read words)
-  where
-    so_far : (i : ℕ) → i ≤ length words → flat_map word_cells (take i words) ≡ line s (block_runs (map read_payload (take i words)))
-    so_far zero h = refl
-    so_far (suc i) h =
-        ap (λ k. flat_map word_cells (take k words)) (sym (add-one i))
-        ∙ ap (λ ws. flat_map word_cells (take (i + 1) ws)) (sym (set-get_or words i 0))
-        ∙ cells-more read_payload read-payload s words words i (get_or words i 0) (omega arith) (omega arith) (so_far i (omega arith)) (right i (omega arith))
-        ∙ ap (λ k. line s (block_runs (map read_payload (take k words)))) (add-one i)
+    cells-each read_payload read-payload s words words (length words) refl refl (λ i h. right i (omega arith)) ∙ ap (block_cells s) (payloads-read words)
 
 -- none of them has an odd number of ones
 pub even-right : (s : Level) (m : Mark) (w : ℕ) → IsRight s m w → odd_ones (read_word w) ≡ false

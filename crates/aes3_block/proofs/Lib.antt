@@ -22,3 +22,4 @@ pub mod SampleBlocks
 pub mod ReadCells
 pub mod GatheredWords
 pub mod FourWords
+pub mod FourCells

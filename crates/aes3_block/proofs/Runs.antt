@@ -1,8 +1,8 @@
 -- The cells of payloads one behind the other.
-use Rattle.std.proofs.Common.{◌≡◌, ℕ, suc, ◌+◌, ◌*◌, ◌/◌, ◌<◌, ◌≤◌, List, [], ◌∷◌, ◌++◌, Bool, true, length, map, take, get_or, set, refl, sym, ap, ap₂, ◌∙◌, arith, append_assoc, append-nil, length-append}
+use Rattle.std.proofs.Common.{◌≡◌, ℕ, zero, suc, add-one, ◌+◌, ◌*◌, ◌/◌, ◌<◌, ◌≤◌, List, [], ◌∷◌, ◌++◌, Bool, true, length, map, take, get_or, set, refl, sym, ap, ap₂, ◌∙◌, arith, append_assoc, append-nil, length-append}
 use Rattle.std.specs.List.{flat_map}
 use Rattle.std.proofs.lemmas.Bool.{and_parts}
-use Rattle.std.proofs.lemmas.List.{map-append, length-map, take_all, take_more, length-take-le}
+use Rattle.std.proofs.lemmas.List.{map-append, length-map, set-get_or, take_all, take_more, length-take-le}
 use Rattle.aes3_cell.specs.declared.level.Level.{Level}
 use Rattle.aes3_cell.specs.Cells.{line, after}
 use Rattle.aes3_cell.specs.Words.{word_len, word_cells}
@@ -95,6 +95,20 @@ module _ (payload : ℕ → List Bool) (each : (w : ℕ) → IsPayload (payload 
   unfolding block_cells
   cells-whole s words cells i h l e =
       ap (flat_map word_cells) (sym (take_all i cells l)) ∙ e ∙ ap (λ x. line s (block_runs (map payload x))) (take_all i words h)
+
+  -- each word with the cells of its own payload
+  pub cells-each : (s : Level) (words cells : List ℕ) (n : ℕ) → length words ≡ n → length cells ≡ n
+      → ((i : ℕ) → i < n → word_cells (get_or cells i 0) ≡ line s (subframe_runs (mark_at i) (payload (get_or words i 0))))
+      → flat_map word_cells cells ≡ block_cells s (map payload words)
+  cells-each s words cells n l k each = cells-whole s words cells n (omega arith) (omega arith) (so_far n (omega arith))
+    where
+      so_far : (i : ℕ) → i ≤ n → flat_map word_cells (take i cells) ≡ line s (block_runs (map payload (take i words)))
+      so_far zero h = refl
+      so_far (suc i) h =
+          ap (λ j. flat_map word_cells (take j cells)) (sym (add-one i))
+          ∙ ap (λ cs. flat_map word_cells (take (i + 1) cs)) (sym (set-get_or cells i 0))
+          ∙ cells-more s words cells i (get_or cells i 0) (omega arith) (omega arith) (so_far i (omega arith)) (each i h)
+          ∙ ap (λ j. line s (block_runs (map payload (take j words)))) (add-one i)
 
 pub payload-length : (w : ℕ) → IsPayload (payload_of w)
 payload-length w = length-low_bits payload_len (w / 16)

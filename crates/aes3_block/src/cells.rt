@@ -11,7 +11,8 @@ ghost use Rattle.aes3_block.specs.Blocks.{block_cells, mark_at};
 use crate::block::{Block, SLOTS};
 use crate::word::slots_of_word;
 use aes3_cell::{Fault, Form, Level, Sink, put_words};
-use aes3_slot::{Mark, slots_cells};
+use aes3_slot::{Mark, slots_cells, slots_cells_of_four};
+use std::simd::prelude::*;
 
 /// The preamble of a block's subframe, given its number from 0 on (AES3-3; IEC 60958-1).
 pub fn mark_of(slot: u64) -> Mark
@@ -32,9 +33,12 @@ pub fn fill_block_cells(before: Level, block: &Block, cells: &mut [u64; SLOTS])
     ensures { flat_map word_cells cells.new ≡ block_cells before block.now }
 {
     let words = block.words();
-    for (slot, word) in words.iter().enumerate() {
-        cells[slot] = slots_cells(before, mark_of(slot as u64), slots_of_word(*word));
+    for i in 0..SLOTS / 4 {
+        let four = u32x4::from_slice(&words[4 * i..]);
+        let subframes = slots_cells_of_four(before, Mark::X, Mark::Y, four);
+        subframes.copy_to_slice(&mut cells[4 * i..]);
     }
+    cells[0] = slots_cells(before, Mark::Z, slots_of_word(words[0]));
 }
 
 /// Writes the cells of a block after the level `before`: the form's bytes but for its ending.

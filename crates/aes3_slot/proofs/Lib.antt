@@ -20,3 +20,5 @@ pub mod Beginnings
 pub mod WordMarks
 pub mod EightWords
 pub mod EightSubframes
+pub mod Spread
+pub mod FourSubframes

@@ -1,9 +1,10 @@
 -- Words of cells from words of turns.
-use Rattle.std.proofs.Common.{◌≡◌, ℕ, zero, suc, ◌+◌, ◌-◌, ◌*◌, ◌/◌, ◌%◌, ◌^◌, ◌<◌, ◌≤◌, ◌⊎◌, inl, inr, max, cond, ltb, List, [], ◌∷◌, ◌++◌, Bool, true, false, eqb, map, refl, sym, ap, ap₂, ◌∙◌, arith, w64}
+use Rattle.std.proofs.Common.{◌≡◌, ℕ, zero, suc, ◌+◌, ◌-◌, ◌*◌, ◌/◌, ◌%◌, ◌^◌, ◌<◌, ◌≤◌, ◌⊎◌, inl, inr, max, cond, ltb, min, List, [], ◌∷◌, ◌++◌, Bool, true, false, eqb, map, refl, sym, ap, ap₂, ◌∙◌, arith, w64}
 use Rattle.std.specs.Prelude.{bit_or, bit_xor}
 use Rattle.std.specs.Int.{bit_at, bit_not}
 use Rattle.std.proofs.lemmas.Bool.{cases_lt, agree_below_at, lt-ltb, le-ltb, eq-eqb, ne_eqb, eqb-true}
-use Rattle.std.proofs.lemmas.Nat.Bits.{bit_at_or, bit_at_xor, bit_at_above, bit_at-lt, bit_at-suc, bit_at_lowest, bit_at_not}
+use Rattle.std.proofs.lemmas.Nat.{and_mask, pow_pos}
+use Rattle.std.proofs.lemmas.Nat.Bits.{bit_at_and, bit_at_or, bit_at_xor, bit_at_above, bit_at_cat_high, bit_at_cat_low, bit_at-lt, bit_at_ones, bit_at-suc, bit_at_lowest, bit_at_not, bit_at-zero}
 use Rattle.aes3_cell.specs.declared.level.Level.{Level}
 use Rattle.aes3_cell.specs.declared.level.Level.TheVariants.{Low, High}
 use Rattle.aes3_cell.specs.Cells.{line, other}
@@ -25,12 +26,26 @@ pub parity_below-suc : (t i : ℕ) → parity_below t (suc i) ≡ (t % 2 + parit
 parity_below-suc t zero = let e = bit_at_lowest t in omega arith
 parity_below-suc t (suc i) = let e = parity_below-suc t i in let s = bit_at-suc t i in omega arith
 
--- bit i of p is the parity of the k bits of t up to it
-pub record Sums (t k p : ℕ) : Type 0 where
-  pub bit : (i : ℕ) → i < 64 → bit_at p i ≡ (parity_below t (suc i) + parity_below t (suc i - k)) % 2
+-- the bits of `x << k` in n bits
+shl-bit : (n x k i : ℕ) → i < n → bit_at (x * 2 ^ k % 2 ^ n) i ≡ bit_at (x * 2 ^ k + 0) i
+shl-bit n x k i h =
+    let l = bit_at-lt (x * 2 ^ k) i in
+    let z : x * 2 ^ k ≡ x * 2 ^ k + 0 = omega arith in
+    ap (λ m. bit_at m i) (sym (and_mask (x * 2 ^ k) n)) ∙ bit_at_and (x * 2 ^ k) (2 ^ n - 1) i
+    ∙ ap (min (bit_at (x * 2 ^ k) i)) (bit_at_ones n i h) ∙ omega (arith, l) ∙ ap (λ m. bit_at m i) z
 
-pub sums-itself : (t : ℕ) → Sums t 1 t
-sums-itself t = record {
+shl-low : (n x k i : ℕ) → i < n → i < k → bit_at (x * 2 ^ k % 2 ^ n) i ≡ 0
+shl-low n x k i h g = shl-bit n x k i h ∙ bit_at_cat_low x k 0 i g ∙ bit_at-zero i
+
+shl-high : (n x k i : ℕ) → i < n → k ≤ i → bit_at (x * 2 ^ k % 2 ^ n) i ≡ bit_at x (i - k)
+shl-high n x k i h g = shl-bit n x k i h ∙ bit_at_cat_high x k 0 i (pow_pos k) g
+
+-- bit i of p, which has n bits, is the parity of the k bits of t up to it
+pub record Sums (n t k p : ℕ) : Type 0 where
+  pub bit : (i : ℕ) → i < n → bit_at p i ≡ (parity_below t (suc i) + parity_below t (suc i - k)) % 2
+
+pub sums-itself : (n t : ℕ) → Sums n t 1 t
+sums-itself n t = record {
   bit = λ i h.
       let e : suc i - 1 ≡ i = omega arith in
       let l = bit_at-lt t i in
@@ -38,25 +53,29 @@ sums-itself t = record {
 }
 
 -- `p ^ (p << k)`
-pub sums-doubled : {t p : ℕ} (k : ℕ) → Sums t k p → Sums t (k + k) (bit_xor p (p * 2 ^ k % 2 ^ 64))
-sums-doubled {t} {p} k s = record { bit = λ i h. bit_at_xor p (p * 2 ^ k % 2 ^ 64) i ∙ go i h (cases_lt i k) }
+pub sums-doubled : {n t p : ℕ} (k : ℕ) → Sums n t k p → Sums n t (k + k) (bit_xor p (p * 2 ^ k % 2 ^ n))
+sums-doubled {n} {t} {p} k s = record { bit = λ i h. bit_at_xor p (p * 2 ^ k % 2 ^ n) i ∙ go i h (cases_lt i k) }
   where
     join : (a b c x y : ℕ) → x ≡ (a + b) % 2 → y ≡ (b + c) % 2 → (x + y) % 2 ≡ (a + c) % 2
     join a b c x y e f = omega arith
 
-    go : (i : ℕ) → i < 64 → (i < k) ⊎ (k ≤ i)
-        → (bit_at p i + bit_at (p * 2 ^ k % 2 ^ 64) i) % 2 ≡ (parity_below t (suc i) + parity_below t (suc i - (k + k))) % 2
+    go : (i : ℕ) → i < n → (i < k) ⊎ (k ≤ i)
+        → (bit_at p i + bit_at (p * 2 ^ k % 2 ^ n) i) % 2 ≡ (parity_below t (suc i) + parity_below t (suc i - (k + k))) % 2
     go i h (inl a) =
         let z : suc i - k ≡ 0 = omega arith in
         let z' : suc i - (k + k) ≡ 0 = omega arith in
         join (parity_below t (suc i)) 0 (parity_below t (suc i - (k + k))) _ _
-        (s.bit i h ∙ ap (λ j. (parity_below t (suc i) + parity_below t j) % 2) z) (shl-below p k i h a ∙ ap (λ j. (0 + parity_below t j) % 2) (sym z'))
+        (s.bit i h ∙ ap (λ j. (parity_below t (suc i) + parity_below t j) % 2) z) (shl-low n p k i h a ∙ ap (λ j. (0 + parity_below t j) % 2) (sym z'))
     go i h (inr a) =
         let x : suc (i - k) ≡ suc i - k = omega arith in
         let y : suc i - k - k ≡ suc i - (k + k) = omega arith in
         join (parity_below t (suc i)) (parity_below t (suc i - k)) (parity_below t (suc i - (k + k))) _ _ (s.bit i h)
-        (shl-above p k i h a ∙ s.bit (i - k) (omega arith) ∙ ap (λ j. (parity_below t j + parity_below t (j - k)) % 2) x
+        (shl-high n p k i h a ∙ s.bit (i - k) (omega arith) ∙ ap (λ j. (parity_below t j + parity_below t (j - k)) % 2) x
         ∙ ap (λ j. (parity_below t (suc i - k) + parity_below t j) % 2) y)
+
+-- all turns up to each bit
+pub sums-all : {n t p : ℕ} → Sums n t n p → (i : ℕ) → i < n → bit_at p i ≡ parity_below t (suc i)
+sums-all {n} {t} {p} s i h = let z : suc i - n ≡ 0 = omega arith in let b = rw z at (s.bit i h) in omega (arith, b)
 
 -- cells whose bits are the parities of the turns
 pub cells-turns : (n p t b : ℕ) → b < 2 → ((i : ℕ) → i < n → bit_at p i ≡ (b + parity_below t (suc i)) % 2) → low_cells n p ≡ cells_of_turns (level_of b) (low_bits n t)
@@ -78,8 +97,8 @@ cells-turns (suc n) p t b g h =
     turn (suc (suc b)) x g h = absurd (omega arith)
 
 -- the word of turns itself: all turns up to each cell
-pub cells-sums : {t p : ℕ} → Sums t 64 p → low_cells 64 p ≡ cells_of_turns Low (low_bits 64 t)
-cells-sums {t} {p} s = cells-turns 64 p t 0 (omega arith) (λ i h. let z : suc i - 64 ≡ 0 = omega arith in let b = rw z at (s.bit i h) in omega (arith, b))
+pub cells-sums : {t p : ℕ} → Sums 64 t 64 p → low_cells 64 p ≡ cells_of_turns Low (low_bits 64 t)
+cells-sums {t} {p} s = cells-turns 64 p t 0 (omega arith) (λ i h. let b = sums-all s i h in let l = bit_at-lt p i in omega (arith, b, l))
 
 -- the other level before
 pub cells_of_turns-other : (s : Level) (turns : List Bool) → cells_of_turns (other s) turns ≡ map other (cells_of_turns s turns)

@@ -24,7 +24,7 @@ preamble-bit i = go (cases_lt i 8)
     go (inl a) = let t = lt-ltb i 8 a in rw t (bit_at_ones 8 i a)
     go (inr a) = let t = le-ltb i 8 a in rw t (bit_at_ones_above 8 i a)
 
-same-bit : (x y : ℕ) → x < 2 → y < 2 → (x + y) % 2 ≡ cond (same (level_of x) (level_of y)) 0 1
+pub same-bit : (x y : ℕ) → x < 2 → y < 2 → (x + y) % 2 ≡ cond (same (level_of x) (level_of y)) 0 1
 same-bit zero zero h g = refl
 same-bit zero (suc zero) h g = refl
 same-bit (suc zero) zero h g = refl
@@ -32,7 +32,7 @@ same-bit (suc zero) (suc zero) h g = refl
 same-bit x (suc (suc y)) h g = absurd (omega arith)
 same-bit (suc (suc x)) y h g = absurd (omega arith)
 
-differs-bit : (x y : ℕ) → x < 2 → y < 2 → 1 - (x + y) % 2 ≡ cond (differs (level_of x) (level_of y)) 0 1
+pub differs-bit : (x y : ℕ) → x < 2 → y < 2 → 1 - (x + y) % 2 ≡ cond (differs (level_of x) (level_of y)) 0 1
 differs-bit zero zero h g = refl
 differs-bit zero (suc zero) h g = refl
 differs-bit (suc zero) zero h g = refl

@@ -1,12 +1,14 @@
 //! Subframes of an AES3 line: preambles, time slots, parity (AES3-3, IEC 60958-1).
 #![tactic(auto)]
 
+mod four;
 mod mark;
 mod preamble;
 mod reading;
 mod search;
 mod subframe;
 
+pub use four::slots_cells_of_four;
 pub use mark::Mark;
 pub use preamble::{mark_cells, match_mark};
 pub use reading::{

@@ -1,13 +1,13 @@
-use Rattle.std.proofs.Common.{◌≡◌, length, map, take}
-use Rattle.std.specs.List.{flat_map}
+use Rattle.std.proofs.Common.{◌≡◌, ℕ, ◌<◌, ◌*◌, ◌/◌, ◌%◌, ◌==◌, get_or, length}
+use Rattle.std.specs.Prelude.{if◌then◌else◌}
 use Rattle.aes3_cell.specs.Cells.{line}
 use Rattle.aes3_cell.specs.Words.{word_cells}
-use Rattle.aes3_block.specs.Blocks.{block_runs}
-use Rattle.aes3_block.specs.Files.{payload_of}
+use Rattle.aes3_slot.specs.declared.mark.Mark.TheVariants.{X, Y}
+use Rattle.aes3_slot.specs.Slots.{slot_runs, slots_bits}
 use Rattle.aes3_block.proofs.cells.fill_block_cells.Given as goal
 
-abbrev pub invariant-loop-slot : goal.invariant-loop-slot
-invariant-loop-slot l = record {
-  cells : flat_map word_cells (take l.slot l.cells) ≡ line l.before (block_runs (map payload_of (take l.slot l.words)));
+abbrev pub invariant-loop-i : goal.invariant-loop-i
+invariant-loop-i l = record {
   len : length l.cells ≡ 384;
+  cells : (k : ℕ) → k < 4 * l.i → word_cells (get_or l.cells k 0) ≡ line l.before (slot_runs (if (k % 2) == 0 then X else Y) (slots_bits (get_or l.words k 0 / 16)));
 }
