@@ -4,6 +4,7 @@ ghost use Rattle.std.specs.Prelude.{◌≡◌, ℕ, ◌+◌, ◌<◌, ◌≤◌,
 ghost use Rattle.std.specs.Prelude.{take, slice_index, Err, IfOk, IfErr, OnErr, IfSome, OnSome};
 ghost use Rattle.std.specs.Prelude.{IfNone, IsTrue, ◌↔◌};
 ghost use Rattle.std.specs.List.{flat_map};
+ghost use Rattle.aes3_cell.specs.declared.level.Level.{Level};
 ghost use Rattle.aes3_cell.specs.CellText.{byte_cells, cells_of_text, kind_of, separator};
 ghost use Rattle.aes3_cell.specs.Text.{byte_of};
 ghost use Rattle.aes3_cell.specs.TextReading.{text_answer};
@@ -15,7 +16,7 @@ ghost use Rattle.aes3_engine.specs.Running.{FrontRan, movement_of};
 use crate::conversion::{Input, convert};
 use crate::taker::Taker;
 use aes3_cell::{
-    BadCell, CellText, Form, LINE_LEN, RunError, Sink, Source, with_cell, word_of_text,
+    BadCell, CellText, Form, LINE_LEN, Level, RunError, Sink, Source, with_cell, word_of_text,
 };
 
 /// How many lines become words at once.
@@ -23,6 +24,12 @@ const LINES: usize = 64;
 
 /// How many cells a line has as it is written.
 const LINE_CELLS: usize = 64;
+
+/// Eight cells of text that all are `0`.
+const CELL_BYTES: u64 = 0x3030_3030_3030_3030;
+
+/// The bits in which cells of text differ.
+const LEVEL_BITS: u64 = 0x0101_0101_0101_0101;
 
 /// Reads cell text, and counts its cells.
 #[derive(Drop)]
@@ -153,6 +160,19 @@ struct SomeCells {
     len: u32,
 }
 
+/// The level of a byte that is a cell. It is told from the byte's lowest bit: a jump that depends
+/// on the levels of a line can't be foreseen.
+#[tactic(auto, unfolding(aes3_cell::specs::CellText::kind_of))]
+fn level_of_cell(byte: u8) -> Level
+    ensures { (level : Level) → byte_cells byte ≡ level ∷ [] → result ≡ level }
+{
+    if byte % 2 == 0 {
+        Level::Low
+    } else {
+        Level::High
+    }
+}
+
 /// Takes one more byte, and puts its cell behind the others.
 fn with_byte(text: &mut CellText, cells: SomeCells, byte: u8) -> Result<SomeCells, BadCell>
     requires room { text.old.seen < 2 ^ 40 }
@@ -167,8 +187,8 @@ fn with_byte(text: &mut CellText, cells: SomeCells, byte: u8) -> Result<SomeCell
     ensures same { OnErr result (text.new ≡ text.old) }
 {
     match text.feed_byte(byte) {
-        Ok(Some(level)) => Ok(SomeCells {
-            word: with_cell(cells.word, cells.len, level),
+        Ok(Some(_)) => Ok(SomeCells {
+            word: with_cell(cells.word, cells.len, level_of_cell(byte)),
             len: cells.len + 1,
         }),
         Ok(None) => Ok(cells),
@@ -176,10 +196,18 @@ fn with_byte(text: &mut CellText, cells: SomeCells, byte: u8) -> Result<SomeCell
     }
 }
 
+/// Whether text begins with eight cells: where it doesn't, there is no need to look at 64.
+fn begins_with_cells(text: &[u8]) -> bool {
+    match text.first_chunk() {
+        Some(bytes) => u64::from_le_bytes(*bytes) & !LEVEL_BITS == CELL_BYTES,
+        None => false,
+    }
+}
+
 /// Whether text begins with a line of 64 cells.
 fn is_line(text: &[u8]) -> bool {
     match text.first_chunk() {
-        Some(bytes) => word_of_text(bytes).is_some(),
+        Some(bytes) => begins_with_cells(text) && word_of_text(bytes).is_some(),
         None => false,
     }
 }
