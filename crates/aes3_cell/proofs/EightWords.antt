@@ -2,21 +2,20 @@
 use Rattle.std.proofs.Common.{◌≡◌, ℕ, zero, suc, ◌+◌, ◌*◌, ◌/◌, ◌%◌, ◌^◌, ◌<◌, ◌≤◌, List, [], ◌∷◌, ◌++◌, length, map, take, drop, get_or, refl, sym, ap, ap₂, ◌∙◌, arith, take-append-drop, w64, Fits}
 use Rattle.std.specs.List.{flat_map}
 use Rattle.std.specs.Int.{bit_at}
-use Rattle.std.specs.Simd.Lanes.{Each1, number_l, digits_l, chunk}
+use Rattle.std.specs.Simd.Lanes.{Each1, number_l, digits_l, chunk, put_chunk}
 use Rattle.std.proofs.lemmas.Grind.{flat_map-append}
-use Rattle.std.proofs.lemmas.List.{length-map, take_at}
+use Rattle.std.proofs.lemmas.List.{length-map, length-drop, length-take-le, take_at, take_all}
 use Rattle.std.proofs.lemmas.Nat.{div-mul-add, div-add-mod'}
 use Rattle.std.proofs.lemmas.Nat.Bits.{bit_at_cat_low}
-use Rattle.std.proofs.lemmas.Simd.{Each1-get_or, below_from_Fits}
+use Rattle.std.proofs.lemmas.Simd.{Each1-get_or, below_from_Fits, length-put_chunk, put_chunk_whole, take_more_put_chunk}
 use Rattle.std.proofs.lemmas.Slice.{take-put_mid}
 use Rattle.std.proofs.Math.Seq.{take-add}
-use borrow.Rule.Slice.PartMut.{put_mid}
+use borrow.Rule.Slice.PartMut.{put_mid, same_len_mid}
 use Rattle.aes3_cell.specs.declared.form.Form.TheVariants.{Packed}
 use Rattle.aes3_cell.specs.Words.{low_cells, word_len, word_cells}
 use Rattle.aes3_cell.specs.Packed.{cells_of_octets, first_octets, octets_needed, octets_of}
-use Rattle.aes3_cell.specs.Written.{bytes_of}
 use Rattle.aes3_cell.proofs.Lines.{word_len_64}
-use Rattle.aes3_cell.proofs.ManyWords.{length-words, length-octets, bytes-block}
+use Rattle.aes3_cell.proofs.ManyWords.{length-words, length-octets, bytes-split}
 use Rattle.aes3_cell.proofs.PackedCells.{cells_of_octets-append, length-cells_of_octets, first_octets-cells_of_octets}
 use Rattle.aes3_cell.proofs.TurnedOctets.{turned_octet, turned-fit, octet_cells-turned, low_cells-turned}
 use Rattle.aes3_cell.proofs.WordCells.{low_cells-add, low_cells-same, length-word_cells}
@@ -99,16 +98,33 @@ first-octets w words =
     ∙ take_at (octets_of (word_cells w)) (octets_of (flat_map word_cells words)) 8 (length-octets w)
 
 -- eight more words put behind those before
-pub words-put : (words ys octets : List ℕ) (i a b n : ℕ) → b ≡ a + length ys → a ≤ length words → flat_map word_cells (take a words) ≡ cells_of_octets (take (64 * i) octets)
-    → flat_map word_cells ys ≡ cells_of_octets (chunk (64 * i) 64 octets) → flat_map word_cells (take b (put_mid a n words ys)) ≡ cells_of_octets (take (64 * (i + 1)) octets)
-words-put words ys octets i a b n e l f g =
-    ap (flat_map word_cells) (take-put_mid a n words ys b e l) ∙ flat_map-append word_cells (take a words) ys ∙ ap₂ ◌++◌ f g
+pub words-put : (words ys octets : List ℕ) (i : ℕ) → length ys ≡ 8 → 8 * (i + 1) ≤ length words → flat_map word_cells (take (8 * i) words) ≡ cells_of_octets (take (64 * i) octets)
+    → flat_map word_cells ys ≡ cells_of_octets (chunk (64 * i) 64 octets) → flat_map word_cells (take (8 * (i + 1)) (put_chunk (8 * i) words ys)) ≡ cells_of_octets (take (64 * (i + 1)) octets)
+words-put words ys octets i e l f g =
+    ap (flat_map word_cells) (take_more_put_chunk (8 * i) words ys (8 * (i + 1)) (omega (arith, e)) l) ∙ flat_map-append word_cells (take (8 * i) words) ys ∙ ap₂ ◌++◌ f g
     ∙ sym (cells_of_octets-append (take (64 * i) octets) (chunk (64 * i) 64 octets))
     ∙ ap cells_of_octets (sym (take-add (64 * i) 64 octets) ∙ ap (λ j. take j octets) (let j : 64 * i + 64 ≡ 64 * (i + 1) = omega arith in j))
 
--- the octets of eight more words put behind those before
-pub octets-put : (words bytes ys : List ℕ) (i a b n : ℕ) → 8 * i ≤ length words → b ≡ a + length ys → a ≤ length bytes → take a bytes ≡ bytes_of Packed (flat_map word_cells (take (8 * i) words))
-    → ys ≡ octets_of (flat_map word_cells (chunk (8 * i) 8 words)) → take b (put_mid a n bytes ys) ≡ bytes_of Packed (flat_map word_cells (take (8 * (i + 1)) words))
-octets-put words bytes ys i a b n h e l front q =
-    take-put_mid a n bytes ys b e l ∙ ap₂ ◌++◌ front q ∙ bytes-block Packed words (8 * i) 8 h
-    ∙ ap (λ j. bytes_of Packed (flat_map word_cells (take j words))) (let j : 8 * i + 8 ≡ 8 * (i + 1) = omega arith in j)
+-- two halves of a buffer filled, and the octets of 16 words in them
+halves-put : (zs front back : List ℕ) → length zs ≡ 128 → length front ≡ 64 → length back ≡ 64
+    → put_mid 64 64 (put_chunk 0 zs front) (put_chunk 0 (take 64 (drop 64 (put_chunk 0 zs front))) back) ≡ front ++ back
+halves-put zs front back l f b =
+    let xs = put_chunk 0 zs front in
+    let n = length-put_chunk 0 zs front ∙ l in
+    let m = length-drop 64 xs in
+    let h = length-take-le 64 (drop 64 xs) (omega (arith, n, m)) in
+    let size = same_len_mid 64 64 xs back (b ∙ sym h) in
+    ap (put_mid 64 64 xs) (put_chunk_whole (take 64 (drop 64 xs)) back (h ∙ sym b))
+    ∙ sym (take_all 128 (put_mid 64 64 xs back) (omega (arith, size, n)))
+    ∙ take-put_mid 64 64 xs back 128 (omega (arith, b)) (omega (arith, n))
+    ∙ ap (λ c. c ++ back) (take_more_put_chunk 0 zs front 64 (omega (arith, f)) (omega (arith, l)))
+
+pub sixteen-put : (words zs front back : List ℕ) → length words ≡ 16 → length zs ≡ 128 → length front ≡ 64 → length back ≡ 64
+    → front ≡ octets_of (flat_map word_cells (take 8 words)) → back ≡ octets_of (flat_map word_cells (take 8 (take 8 (drop 8 words))))
+    → put_mid 64 64 (put_chunk 0 zs front) (put_chunk 0 (take 64 (drop 64 (put_chunk 0 zs front))) back) ≡ octets_of (flat_map word_cells words)
+sixteen-put words zs front back n l f b e g =
+    let m = length-drop 8 words in
+    let rest = take_all 8 (drop 8 words) (omega (arith, m, n)) in
+    halves-put zs front back l f b
+    ∙ ap₂ ◌++◌ e (g ∙ ap (λ w. octets_of (flat_map word_cells w)) (ap (take 8) rest ∙ rest))
+    ∙ bytes-split Packed words 8 (omega (arith, n))

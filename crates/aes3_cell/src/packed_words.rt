@@ -20,7 +20,7 @@ fn words_of_front(octets: &[u8], words: &mut [u64]) -> usize
     let eights = words.len() / 8;
     for i in 0..eights {
         let eight = eight_words(u8x64::from_slice(&octets[64 * i..]));
-        words[8 * i..8 * i + 8].copy_from_slice(&eight.to_array());
+        eight.copy_to_slice(&mut words[8 * i..]);
     }
     8 * eights
 }

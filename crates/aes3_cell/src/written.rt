@@ -50,11 +50,11 @@ pub(crate) fn fill_lines(words: &[u64; MANY], text: &mut [u8])
 pub(crate) fn octets_of_words(words: &[u64; MANY]) -> [u8; 8 * MANY]
     ensures { result ≡ bytes_of Packed (flat_map word_cells words.now) }
 {
+    let front = octets_of_eight(u64x8::from_slice(words));
+    let back = octets_of_eight(u64x8::from_slice(&words[8..]));
     let mut octets = [0; 8 * MANY];
-    for i in 0..MANY / 8 {
-        let eight = octets_of_eight(u64x8::from_slice(&words[8 * i..]));
-        octets[64 * i..64 * i + 64].copy_from_slice(&eight.to_array());
-    }
+    front.copy_to_slice(&mut octets);
+    back.copy_to_slice(&mut octets[64..]);
     octets
 }
 
