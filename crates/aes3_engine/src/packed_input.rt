@@ -18,7 +18,7 @@ use crate::taker::Taker;
 use aes3_cell::{Fault, PackedIn, RunError, Sink, Source};
 
 /// How many words are handed on at once.
-const WORDS: usize = 64;
+const WORDS: usize = 1024;
 
 /// Reads packed cells, and counts those handed on.
 #[derive(Drop)]
@@ -119,8 +119,8 @@ fn take_octet<T: Sink, K: Taker>(
 fn feed_words(packed: &mut PackedIn, piece: &[u8], words: &mut [u64; WORDS]) -> usize
     requires { packed.old.seen + length piece.now ≤ 2 ^ 40 }
     ensures within { 8 * result ≤ length piece.now }
-    ensures few { result ≤ 64 }
-    ensures len { length words.new ≡ 64 }
+    ensures few { result ≤ WORDS }
+    ensures len { length words.new ≡ WORDS }
     ensures next { (b : List ℕ) → packed.old ≡ packed_reader_of b
         → packed.new ≡ packed_reader_of (b ++ take (8 * result) piece.now) }
     ensures cells { (b : List ℕ) → packed.old ≡ packed_reader_of b
