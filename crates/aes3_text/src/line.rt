@@ -30,12 +30,12 @@ ghost use Rattle.aes3_text.specs.Lines.{level_digit};
 
 /// `0` for the lower level, `1` for the higher.
 #[inline]
-pub(crate) fn digit_of(level: Level) -> &'static str
+pub(crate) fn digit_of(level: Level) -> &'static [u8; 1]
     ensures { result.now ≡ level_digit level }
 {
     match level {
-        Level::Low => "0",
-        Level::High => "1",
+        Level::Low => b"0",
+        Level::High => b"1",
     }
 }
 
@@ -87,7 +87,7 @@ impl Line {
         ensures digit { self.new ≡ self.old ++ level_digit level }
         ensures len { length self.new ≡ length self.old + 1 }
     {
-        self.text(digit_of(level));
+        self.bytes(digit_of(level));
     }
 
     /// Whether the line is a space and this text.

@@ -1,24 +1,25 @@
 //! The line of a report.
 
-ghost use Rattle.std.specs.Prelude.{◌≡◌, ◌<◌, ◌≤◌, ◌+◌, ◌^◌, [], length};
+ghost use Rattle.std.specs.Prelude.{◌≡◌, ◌<◌, ◌≤◌, ◌+◌, ◌^◌, ◌++◌, [], length};
 ghost use Rattle.aes3_cell.specs.Writes.{Wrote};
 ghost use Rattle.aes3_lock.specs.Reports.{ending_report};
 ghost use Rattle.aes3_text.specs.Lines.{reason_word, report_line, told_line};
 
 use crate::lines::Lines;
-use crate::tail::Tail;
+use crate::tail::{TAIL_LEN, Tail};
 use aes3_cell::{Fault, Sink};
 use aes3_lock::{Ending, Report, Why};
 
-/// Why a cell refutes a candidate, in one word.
-fn reason(why: Why) -> &'static str
-    ensures reason { result.now ≡ reason_word why }
-    ensures len { length result.now ≤ 8 }
+/// Puts why a cell refutes a candidate, in one word.
+fn put_reason(line: &mut Tail, why: Why)
+    requires { length line.old + 8 ≤ TAIL_LEN }
+    ensures reason { line.new ≡ reason_word why ++ line.old }
+    ensures len { length line.new ≤ 8 + length line.old }
 {
     match why {
-        Why::Preamble => "preamble",
-        Why::Biphase => "biphase",
-        Why::Unclosed => "unclosed",
+        Why::Preamble => line.text(b"preamble"),
+        Why::Biphase => line.text(b"biphase"),
+        Why::Unclosed => line.text(b"unclosed"),
     }
 }
 
@@ -27,29 +28,29 @@ fn put_ending(line: &mut Tail, ending: Ending)
     requires none { line.old ≡ [] }
     ensures { line.new ≡ report_line (ending_report [] ending) }
 {
-    line.text("\n");
+    line.text(b"\n");
     match ending {
         Ending::Whole { at, before } => {
             line.level(before);
-            line.text(" before ");
+            line.text(b" before ");
             line.number(at);
-            line.text("whole at ");
+            line.text(b"whole at ");
         }
         Ending::Marked { at, before, wrong } => {
             line.number(u64::from(wrong));
-            line.text(" wrong ");
+            line.text(b" wrong ");
             line.level(before);
-            line.text(" before ");
+            line.text(b" before ");
             line.number(at);
-            line.text("marked at ");
+            line.text(b"marked at ");
         }
         Ending::Fault { at, cell, why } => {
-            line.text(reason(why));
-            line.text(" ");
+            put_reason(line, why);
+            line.text(b" ");
             line.number(cell);
-            line.text(" cell ");
+            line.text(b" cell ");
             line.number(at);
-            line.text("fault at ");
+            line.text(b"fault at ");
         }
     }
 }
@@ -59,11 +60,11 @@ fn put_begun(line: &mut Tail, at: u64, cells: u64)
     requires none { line.old ≡ [] }
     ensures { line.new ≡ report_line (Report.Unfinished at cells) }
 {
-    line.text("\n");
+    line.text(b"\n");
     line.number(cells);
-    line.text(" cells ");
+    line.text(b" cells ");
     line.number(at);
-    line.text("unfinished at ");
+    line.text(b"unfinished at ");
 }
 
 /// Makes the line of a report.

@@ -45,15 +45,16 @@ impl Tail {
 
     /// Puts the text before it.
     #[inline]
-    pub(crate) fn text(&mut self, text: &str)
-        requires { length self.old + length text.now ≤ TAIL_LEN }
+    pub(crate) fn text<const N: usize>(&mut self, text: &[u8; N])
+        requires { length self.old + N ≤ TAIL_LEN }
         ensures text { self.new ≡ text.now ++ self.old }
-        ensures len { length self.new ≡ length text.now + length self.old }
+        ensures len { length self.new ≡ N + length self.old }
     {
-        let bytes = text.as_bytes();
+        // Copied at first: the compiler need not ask then whether it lies in the line.
+        let text = *text;
         let end = self.at;
-        self.at -= bytes.len();
-        self.bytes[self.at..end].copy_from_slice(bytes);
+        self.at -= N;
+        self.bytes[self.at..end].copy_from_slice(&text);
     }
 
     /// Puts the number before it in decimal.
