@@ -1,11 +1,10 @@
 -- Eight words of cells at once, behind those that a lock follows.
-use Rattle.std.proofs.Common.{◌≡◌, ℕ, zero, suc, ◌+◌, ◌-◌, ◌*◌, ◌/◌, ◌%◌, ◌==◌, ◌^◌, ◌<◌, ◌≤◌, ◌⊎◌, inl, inr, List, [], ◌∷◌, ◌++◌, Bool, true, false, not, Some, refl, length, take, drop, set, get_or, replicate, ap, ap₂, ◌∙◌, sym, subst, arith, length-drop, take-append-drop, take_all, append_assoc, add-one, get_or-set_same, get_or-set_other}
+use Rattle.std.proofs.Common.{◌≡◌, ℕ, zero, suc, ◌+◌, ◌-◌, ◌*◌, ◌/◌, ◌%◌, ◌==◌, ◌^◌, ◌<◌, ◌≤◌, ◌⊎◌, inl, inr, List, [], ◌∷◌, ◌++◌, Bool, true, false, not, ◌&&◌, Some, refl, length, take, drop, set, get_or, replicate, ap, ap₂, ◌∙◌, sym, subst, arith, length-drop, take-append-drop, take_all, append_assoc, add-one, get_or-set_same, get_or-set_other}
 use Rattle.std.specs.Prelude.{bit_or, if◌then◌else◌}
 use Rattle.std.specs.Int.{bit_at}
 use Rattle.std.specs.List.{flat_map}
 use Rattle.std.specs.Simd.Lanes.{zip2, fold_l, pick_l}
-use Rattle.std.proofs.lemmas.Simd.{get_or-zip2}
-use Rattle.std.proofs.lemmas.Bool.{cases_eq}
+use Rattle.std.proofs.lemmas.Bool.{cases_eq, false≢true}
 use Rattle.std.proofs.lemmas.List.{take_at}
 use Rattle.std.proofs.lemmas.Nat.{le_or_l, le_or_r}
 use Rattle.std.proofs.lemmas.Nat.Bits.{bit_at-zero}
@@ -14,7 +13,10 @@ use Rattle.aes3_cell.specs.Words.{low_cells, word_cells, word_len}
 use Rattle.aes3_slot.specs.declared.mark.Mark.{Mark}
 use Rattle.aes3_slot.specs.declared.mark.Mark.TheVariants.{X, Y}
 use Rattle.aes3_slot.specs.Rules.{at}
-use Rattle.aes3_slot.specs.Fronts.{IsFrontOf, stands}
+use Rattle.aes3_slot.specs.Reading.{same}
+use Rattle.aes3_slot.specs.Preambles.{InLanes}
+use Rattle.aes3_slot.specs.Fronts.{IsFrontOf, stands, stands_even}
+use Rattle.aes3_slot.proofs.RuleTests.{same-true}
 use Rattle.aes3_slot.proofs.Fronts.{front-before}
 use Rattle.aes3_slot.proofs.Taken.{length-word}
 use Rattle.aes3_slot.proofs.Wrong.{true-from_zero}
@@ -95,16 +97,49 @@ or-zero a (x ∷ xs) e =
     each x xs z f zero = z
     each x xs z f (suc i) = f i
 
-pub lanes-zero : (v w : List ℕ) → length v ≡ 8 → length w ≡ 8 → fold_l bit_or 0 (zip2 bit_or v w) ≡ 0 → (i : ℕ) → i < 8 → (get_or v i 0 ≡ 0) × (get_or w i 0 ≡ 0)
-lanes-zero v w lv lw e i h =
-    let z = sym (get_or-zip2 bit_or v w i 0 0 0 (omega (arith, h, lv)) (omega (arith, h, lw))) ∙ (or-zero 0 (zip2 bit_or v w) e).1 i in
-    let p = le_or_l (get_or v i 0) (get_or w i 0) in
-    let q = le_or_r (get_or v i 0) (get_or w i 0) in
-    (omega (arith, z, p), omega (arith, z, q))
+not-one : (b : Bool) → ◌≡◌ {A = ℕ} 0 (if not b then 1 else 0) → b ≡ true
+not-one true e = refl
+not-one false e = absurd (omega arith)
 
-pub not-else : (b : Bool) → ◌≡◌ {A = ℕ} (if not b then 1 else 0) (if b then 0 else 1)
-not-else true = refl
-not-else false = refl
+-- no cell of number i is wrong
+pub lane-stands : (s : Level) (m : ℕ → Mark) (v lanes : List ℕ) → InLanes lanes (λ i k. not (stands_even s (m i) (word_cells (get_or v i 0)) k)) → fold_l bit_or 0 lanes ≡ 0
+    → (i k : ℕ) → i < 8 → k < 64 → stands_even s (m i) (word_cells (get_or v i 0)) k ≡ true
+lane-stands s m v lanes told e i k h g =
+    not-one (stands_even s (m i) (word_cells (get_or v i 0)) k) (sym (bit_at-zero k) ∙ ap (λ x. bit_at x k) (sym ((or-zero 0 lanes e).1 i)) ∙ told.bits i k h g)
+
+and-first : (a b : Bool) → a && b ≡ true → a ≡ true
+and-first true b e = refl
+and-first false b e = e
+
+and-second : (a b : Bool) → a && b ≡ true → b ≡ true
+and-second true b e = e
+and-second false b e = absurd (false≢true e)
+
+stands-bit : (b : Bool) → b ≡ true → ◌≡◌ {A = ℕ} 0 (if b then 0 else 1)
+stands-bit b e = ap (λ b. if b then 0 else 1) (sym e)
+
+-- the subframes all of whose cells stand, with the level s last
+module _ (s : Level) (m : Mark) (c : ℕ) (all : (k : ℕ) → k < 64 → stands_even s m (word_cells c) k ≡ true) where
+  none : (k : ℕ) → k < 64 → bit_at 0 k ≡ (if stands s m (word_cells c) k then 0 else 1)
+  none k g = bit_at-zero k ∙ stands-bit (stands s m (word_cells c) k) (and-first _ _ (all k g))
+
+  pub even-front : IsFrontOf s m (take 64 (word_cells c))
+  even-front = right-front s m c 0 refl none
+
+  pub even-last : at (word_cells c) 63 ≡ s
+  even-last = same-true (at (word_cells c) 63) s (and-second (stands s m (word_cells c) 63) (same (at (word_cells c) 63) s) (all 63 (omega arith)))
+
+  pub even-word : IsRight s m c
+  even-word = right-word s m c 0 refl none even-last
+
+-- the preamble of a subframe is that of one an even number behind it
+pub mark-even : (slot n i : ℕ) → 0 < slot → n % 2 ≡ 0 → mark_at (slot + i) ≡ mark_at (slot + n + i)
+unfolding mark_at
+mark-even zero n i h e = absurd (omega arith)
+mark-even (suc s) n i h e =
+    ap mark_at (let q : suc s + i ≡ suc (s + i) = omega arith in q)
+    ∙ ap (λ n. if n == 0 then Y else X) (let q : (s + i) % 2 ≡ (s + n + i) % 2 = omega (arith, e) in q)
+    ∙ ap mark_at (let q : suc (s + n + i) ≡ suc s + n + i = omega arith in q)
 
 front-take : (s : Level) (m : Mark) (v : List Level) (p : ℕ) → IsFrontOf s m v → IsFrontOf s m (take p v)
 front-take s m v p f = record {
@@ -267,3 +302,29 @@ module _ (k : LockState) (t : Candidate) (c : List Level) (ws xs : List ℕ) (f 
   eight-next y yc yf next k' e1 e2 e3 e4 e5 =
       subst (λ v. Follows k' (c ++ flat_map word_cells v) × (decided (c ++ flat_map word_cells v) ≡ decided c)) (take_all 8 ws (omega (arith, count)))
       (behind 7 (omega arith) y yc yf next k' e1 e2 e3 e4 e5)
+
+-- the lock behind so many words more
+abbrev pub lock_behind : ℕ → ℕ → Candidate → ℕ → List ℕ → ℕ → LockState
+lock_behind seen recent t subframe words n = record { seen = seen + 64 * n; recent = low_cells 8 recent; candidate = Some t; subframe = subframe; words = words }
+
+-- the same where their marks are told as those of earlier slots, n before
+pub eight-later : (k : LockState) (t : Candidate) (c : List Level) (ws xs : List ℕ) → Follows k c → k.candidate ≡ Some t → length k.words ≡ block_slots
+    → length ws ≡ 8 → ((i : ℕ) → get_or ws i 0 < 2 ^ 64) → (slot n len : ℕ) → 0 < slot → n % 2 ≡ 0 → (k.seen - t.at) / 64 ≡ slot + n → (k.seen - t.at) % 64 ≡ len
+    → k.seen - t.at + 512 ≤ block_len
+    → ((i : ℕ) → i < 8 → word_cells (get_or xs i 0) ≡ begun_before len k.subframe ws i ++ take (64 - len) (word_cells (get_or ws i 0)))
+    → ((i : ℕ) → i < 8 → IsFrontOf t.level (mark_at (slot + i)) (take 64 (word_cells (get_or xs i 0))))
+    → ((i : ℕ) → i < 8 → at (word_cells (get_or xs i 0)) 63 ≡ t.level)
+    → (y : ℕ) → low_cells len y ≡ drop (64 - len) (word_cells (get_or ws 7 0)) → y < 2 ^ len → IsFrontOf t.level (mark_at (slot + 8)) (take len (word_cells y))
+    → (k' : LockState) → k'.seen ≡ k.seen + 512 → k'.recent ≡ drop 56 (word_cells (get_or ws 7 0)) → k'.candidate ≡ Some t → k'.subframe ≡ y
+    → k'.words ≡ with_first (slot + n) k.words xs 8
+    → Follows k' (c ++ flat_map word_cells ws) × (decided (c ++ flat_map word_cells ws) ≡ decided c)
+eight-later k t c ws xs f s lw count fit slot n len some even place part room joined fronts levels y yc few next k' e1 e2 e3 e4 e5 =
+    let front = λ (i : ℕ) (v : List Level) (g : IsFrontOf t.level (mark_at (slot + i)) v).
+    subst (λ m. IsFrontOf t.level m v) (mark-even slot n i some even ∙ ap (λ q. mark_at (q + i)) (sym place)) g in
+    eight-next k t c ws xs f s lw count fit room
+    (subst (λ p. (i : ℕ) → i < 8 → word_cells (get_or xs i 0) ≡ begun_before p k.subframe ws i ++ take (64 - p) (word_cells (get_or ws i 0))) (sym part) joined)
+    (λ i h. front i (take 64 (word_cells (get_or xs i 0))) (fronts i h)) levels y
+    (subst (λ p. low_cells p y ≡ drop (64 - p) (word_cells (get_or ws 7 0))) (sym part) yc)
+    (subst (λ p. y < 2 ^ p) (sym part) few)
+    (front 8 _ (subst (λ p. IsFrontOf t.level (mark_at (slot + 8)) (take p (word_cells y))) (sym part) next))
+    k' e1 e2 e3 e4 (e5 ∙ ap (λ q. with_first q k.words xs 8) (sym place))

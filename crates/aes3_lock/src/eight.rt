@@ -1,7 +1,7 @@
 //! Eight subframes at once, each as the word of its 64 cells, the first in the lowest bit.
 
 ghost use Rattle.std.specs.Prelude.{◌≡◌, ℕ, ◌+◌, ◌-◌, ◌<◌, ◌≤◌, ◌^◌, ◌++◌, true, get_or, length};
-ghost use Rattle.std.specs.Prelude.{slice_index_or, take};
+ghost use Rattle.std.specs.Prelude.{take};
 ghost use Rattle.aes3_cell.specs.Words.{low_cells, word_cells};
 ghost use Rattle.aes3_slot.specs.Fronts.{IsFrontOf};
 ghost use Rattle.aes3_slot.specs.Rules.{at};
@@ -45,18 +45,6 @@ pub(crate) fn eight_completed(begun: u64, len: u64, words: &[u64; 8]) -> [u64; 8
     subframes
 }
 
-/// Of each of eight subframes whether its last cell has another level than `level`: one, else zero.
-fn other_last(level: Level, cells: u64x8) -> u64x8
-    ensures len { length result ≡ 8 }
-    ensures levels { (i : ℕ) → i < 8 → get_or result i 0 ≡ 0
-        → at (word_cells (slice_index_or cells i 0)) 63 ≡ level }
-{
-    match level {
-        Level::Low => cells >> u64x8::splat(63),
-        Level::High => !cells >> u64x8::splat(63),
-    }
-}
-
 /// Whether these are subframes after the level `before` each of which ends with it again, as it
 /// does with right parity, with the preambles of a block's subframes from `slot` on.
 pub(crate) fn are_subframes(before: Level, slot: u64, cells: &[u64; 8]) -> bool
@@ -70,6 +58,5 @@ pub(crate) fn are_subframes(before: Level, slot: u64, cells: &[u64; 8]) -> bool
         → IsRight before (mark_at (slot + i)) (get_or cells.now i 0) }
 {
     let cells = u64x8::from_array(*cells);
-    let wrong = wrong_cells_of_eight(before, mark_of(slot), mark_of(slot + 1), cells);
-    (wrong | other_last(before, cells)).reduce_or() == 0
+    wrong_cells_of_eight(before, mark_of(slot), mark_of(slot + 1), cells).reduce_or() == 0
 }

@@ -1,10 +1,11 @@
 -- Fronts of a subframe, and where its cells can't stand.
-use Rattle.std.specs.Prelude.{ℕ, List, [], ◌∷◌, ◌++◌, Bool, true, false, not, length, ◌≡◌}
+use Rattle.std.specs.Prelude.{ℕ, List, [], ◌∷◌, ◌++◌, Bool, true, false, not, length, ◌≡◌, ◌==◌, ◌&&◌, ◌||◌}
 use Rattle.aes3_cell.specs.declared.level.Level.{Level}
 use Rattle.aes3_cell.specs.Cells.{line}
 use Rattle.aes3_slot.specs.declared.mark.Mark.{Mark}
 use Rattle.aes3_slot.specs.Bits.{odd_ones}
 use Rattle.aes3_slot.specs.Slots.{slots_len, slot_runs, subframe_runs, with_parity, IsPayload}
+use Rattle.aes3_slot.specs.Reading.{same}
 use Rattle.aes3_slot.specs.Rules.{at, before, rule}
 
 -- the cells begin a subframe with this mark after level s, whatever its parity bit
@@ -29,3 +30,7 @@ with_some_parity false bits = bits ++ not (odd_ones bits) ∷ []
 -- cell i may stand where it is in a subframe with this mark after level s
 unfoldable pub stands : Level → Mark → List Level → ℕ → Bool
 stands s mark cells i = rule (λ _. mark) i (at cells i) s (before s cells i)
+
+-- and where it is the last it has the level s again, as with right parity
+abbrev pub stands_even : Level → Mark → List Level → ℕ → Bool
+stands_even s mark cells i = stands s mark cells i && (not (i == 63) || same (at cells i) s)

@@ -1,9 +1,10 @@
 //! Preambles as cells (AES3-3; IEC 60958-1).
 
 ghost use Rattle.std.specs.Prelude.{◌≡◌, IfSome};
+ghost use Rattle.std.specs.Int.{bit_at};
 ghost use Rattle.aes3_cell.specs.declared.level.Level.{Level};
 ghost use Rattle.aes3_cell.specs.Cells.{line};
-ghost use Rattle.aes3_cell.specs.Words.{low_cells};
+ghost use Rattle.aes3_cell.specs.Words.{level_of, low_cells};
 ghost use Rattle.aes3_slot.specs.declared.mark.Mark.{Mark};
 ghost use Rattle.aes3_slot.specs.Slots.{mark_runs};
 
@@ -11,9 +12,10 @@ use crate::mark::Mark;
 use aes3_cell::Level;
 
 /// A word whose lowest bits are the eight cells of the preamble after the level `before`, the
-/// earliest in bit 0 (AES3-3; IEC 60958-1).
+/// earliest in bit 0, and whose highest bit has that level again (AES3-3; IEC 60958-1).
 pub fn mark_cells(before: Level, mark: Mark) -> u64
-    ensures { low_cells 8 result ≡ line before (mark_runs mark) }
+    ensures cells { low_cells 8 result ≡ line before (mark_runs mark) }
+    ensures last { level_of (bit_at result 63) ≡ before }
 {
     let after_low = match mark {
         Mark::X => 0x47,

@@ -9,7 +9,7 @@ ghost use Rattle.aes3_slot.specs.Slots.{payload_bits, slot_runs, slots_bits, sub
 ghost use Rattle.aes3_slot.specs.Preambles.{InLanes};
 ghost use Rattle.aes3_slot.specs.Reading.{read_bits};
 ghost use Rattle.aes3_slot.specs.Rules.{at};
-ghost use Rattle.aes3_slot.specs.Fronts.{IsFrontOf, IsLawfulFrontOf, stands, with_some_parity};
+ghost use Rattle.aes3_slot.specs.Fronts.{IsFrontOf, IsLawfulFrontOf, stands, stands_even, with_some_parity};
 
 use crate::mark::Mark;
 use crate::preamble::mark_cells;
@@ -26,6 +26,10 @@ pub struct Place {
 
 /// The cells of a preamble in a word.
 const PREAMBLE: u64 = 0xFF;
+
+/// The cells of a subframe at which it can be wrong: those of its preamble, the first of each slot,
+/// and the last, at which the parity bit shows.
+const JUDGED: u64 = PREAMBLE | SLOT_STARTS | 1 << LAST;
 
 /// The bits of a payload in the bits of slots 4 to 31: all but the parity bit.
 const PAYLOAD: u32 = 0x07FF_FFFF;
@@ -44,17 +48,18 @@ pub fn wrong_cells(before: Level, mark: Mark, cells: u64) -> u64
     preamble | slots
 }
 
-/// `wrong_cells` of eight subframes at once, whose preambles are `even` and `odd` in turn.
+/// The cells at which eight subframes, whose preambles are `even` and `odd` in turn, can't be
+/// subframes with right parity after the level `before`: those of `wrong_cells`, and the last where
+/// it has the other level.
 pub fn wrong_cells_of_eight(before: Level, even: Mark, odd: Mark, cells: u64x8) -> u64x8
-    ensures { InLanes result (λ i k. not (stands before (if (i % 2) == 0 then even else odd)
-        (word_cells (slice_index_or cells i 0)) k)) }
+    ensures { InLanes result (λ i k. not (stands_even before
+        (if (i % 2) == 0 then even else odd) (word_cells (slice_index_or cells i 0)) k)) }
 {
-    let first = mark_cells(before, even);
-    let second = mark_cells(before, odd);
-    let marks = u64x8::from_array([first, second, first, second, first, second, first, second]);
-    let in_preambles = (cells ^ marks) & u64x8::splat(PREAMBLE);
-    let in_slots = !(cells ^ cells << u64x8::splat(1)) & u64x8::splat(SLOT_STARTS);
-    in_preambles | in_slots
+    let first = mark_cells(before, even) | SLOT_STARTS;
+    let second = mark_cells(before, odd) | SLOT_STARTS;
+    let right = u64x8::from_array([first, second, first, second, first, second, first, second]);
+    let earlier = cells << u64x8::splat(1) & u64x8::splat(SLOT_STARTS);
+    (earlier ^ cells ^ right) & u64x8::splat(JUDGED)
 }
 
 /// The bits at even places, each at half its place.

@@ -1,35 +1,29 @@
-use Rattle.std.proofs.Common.{◌%◌, ◌==◌, ◌∙◌, ap₂, subst, get_or, take}
-use Rattle.std.specs.Prelude.{if◌then◌else◌}
+use Rattle.std.proofs.Common.{◌≡◌, ℕ, ◌+◌, ◌%◌, ◌<◌, ◌==◌, ◌∙◌, ap₂, subst, get_or, true}
+use Rattle.std.specs.Prelude.{bit_or, if◌then◌else◌}
+use Rattle.std.specs.Simd.Lanes.{fold_l}
 use Rattle.std.proofs.lemmas.Bool.{eqb-true}
 use Rattle.aes3_cell.specs.Words.{word_cells}
-use Rattle.aes3_slot.specs.Fronts.{IsFrontOf, stands}
-use Rattle.aes3_block.specs.Gathered.{IsRight}
-use Rattle.aes3_lock.proofs.EightWords.{lanes-zero, mark-behind, not-else, right-front, right-word}
+use Rattle.aes3_slot.specs.Fronts.{stands_even}
+use Rattle.aes3_block.specs.Blocks.{mark_at}
+use Rattle.aes3_lock.proofs.EightWords.{lane-stands, mark-behind, even-front, even-last, even-word}
 use Rattle.aes3_lock.proofs.eight.are_subframes.Goals as goal
+
+told : (c : goal.After-wrong_cells_of_eight) → fold_l bit_or 0 c.wrong_cells_of_eight.result ≡ 0 → (i : ℕ) → i < 8 → (k : ℕ) → k < 64
+    → stands_even c.args.before (mark_at (c.args.slot + i)) (word_cells (get_or c.args.cells.now i 0)) k ≡ true
+told c z i h k g =
+    subst (λ m. stands_even c.args.before m (word_cells (get_or c.args.cells.now i 0)) k ≡ true)
+    (ap₂ (λ a b. if (i % 2) == 0 then a else b) c.mark_of.ensures c.mark_of-2.ensures ∙ mark-behind c.args.slot i c.requires.some)
+    (lane-stands c.args.before (λ i. if (i % 2) == 0 then c.mark_of.result else c.mark_of-2.result) c.args.cells.now c.wrong_cells_of_eight.result
+    c.wrong_cells_of_eight.ensures z i k h g)
 
 pub returns-clause-fronts : goal.returns-clause-fronts
 returns-clause-fronts c = λ z i h.
-    let x = get_or c.args.cells.now i 0 in
-    let m = if (i % 2) == 0 then c.mark_of.result else c.mark_of-2.result in
-    let wrong = c.wrong_cells_of_eight-wrong in
-    let n = lanes-zero wrong.result c.other_last.result wrong.ensures.count c.other_last.ensures.len (eqb-true _ 0 z) i h in
-    subst (λ m. IsFrontOf c.args.before m (take 64 (word_cells x)))
-    (ap₂ (λ a b. if (i % 2) == 0 then a else b) c.mark_of.ensures c.mark_of-2.ensures ∙ mark-behind c.args.slot i c.requires.some)
-    (right-front c.args.before m x (get_or wrong.result i 0) n.0 (λ k g. wrong.ensures.bits i k h g ∙ not-else (stands c.args.before m (word_cells x) k)))
+    even-front c.args.before (mark_at (c.args.slot + i)) (get_or c.args.cells.now i 0) (told c (eqb-true _ 0 z) i h)
 
 pub returns-clause-levels : goal.returns-clause-levels
 returns-clause-levels c = λ z i h.
-    let wrong = c.wrong_cells_of_eight-wrong in
-    let n = lanes-zero wrong.result c.other_last.result wrong.ensures.count c.other_last.ensures.len (eqb-true _ 0 z) i h in
-    c.other_last.ensures.levels i h n.1
+    even-last c.args.before (mark_at (c.args.slot + i)) (get_or c.args.cells.now i 0) (told c (eqb-true _ 0 z) i h)
 
 pub returns-clause-right : goal.returns-clause-right
 returns-clause-right c = λ z i h.
-    let x = get_or c.args.cells.now i 0 in
-    let m = if (i % 2) == 0 then c.mark_of.result else c.mark_of-2.result in
-    let wrong = c.wrong_cells_of_eight-wrong in
-    let n = lanes-zero wrong.result c.other_last.result wrong.ensures.count c.other_last.ensures.len (eqb-true _ 0 z) i h in
-    subst (λ m. IsRight c.args.before m x)
-    (ap₂ (λ a b. if (i % 2) == 0 then a else b) c.mark_of.ensures c.mark_of-2.ensures ∙ mark-behind c.args.slot i c.requires.some)
-    (right-word c.args.before m x (get_or wrong.result i 0) n.0 (λ k g. wrong.ensures.bits i k h g ∙ not-else (stands c.args.before m (word_cells x) k))
-    (c.other_last.ensures.levels i h n.1))
+    even-word c.args.before (mark_at (c.args.slot + i)) (get_or c.args.cells.now i 0) (told c (eqb-true _ 0 z) i h)
