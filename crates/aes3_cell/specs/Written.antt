@@ -1,8 +1,10 @@
 -- The bytes of cells in either form.
-use Rattle.std.specs.Prelude.{ℕ, List, [], ◌∷◌}
+use Rattle.std.specs.Prelude.{ℕ, List, [], ◌∷◌, ◌≡◌, ◌*◌, take}
+use Rattle.std.specs.List.{flat_map}
 use Rattle.aes3_cell.specs.declared.level.Level.{Level}
 use Rattle.aes3_cell.specs.declared.form.Form.{Form}
 use Rattle.aes3_cell.specs.declared.form.Form.TheVariants.{Text, Packed}
+use Rattle.aes3_cell.specs.Words.{word_cells}
 use Rattle.aes3_cell.specs.Text.{text_of}
 use Rattle.aes3_cell.specs.Packed.{octets_of, packed_of}
 
@@ -19,3 +21,7 @@ ending Packed = 0 ∷ []
 abbrev pub written : Form → List Level → List ℕ
 written Text c = text_of c
 written Packed c = packed_of c
+
+-- text begins with the lines of the first n words
+abbrev pub FirstLines : ℕ → List ℕ → List ℕ → Type 0
+FirstLines n words text = take (65 * n) text ≡ bytes_of Text (flat_map word_cells (take n words))

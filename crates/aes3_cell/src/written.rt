@@ -5,7 +5,7 @@ ghost use Rattle.std.specs.List.{flat_map};
 ghost use Rattle.aes3_cell.specs.Ends.{Grew, GrewFront};
 ghost use Rattle.aes3_cell.specs.Writes.{Wrote};
 ghost use Rattle.aes3_cell.specs.Words.{word_cells};
-ghost use Rattle.aes3_cell.specs.Written.{bytes_of, ending};
+ghost use Rattle.aes3_cell.specs.Written.{FirstLines, bytes_of, ending};
 ghost use Rattle.aes3_cell.specs.declared.form.Form.TheVariants.{Text, Packed};
 
 use crate::eights::octets_of_eight;
@@ -34,15 +34,29 @@ pub(crate) const MANY: usize = 16;
 /// How many bytes their lines have.
 pub(crate) const LINES_LEN: usize = LINE_LEN * MANY;
 
+/// Puts the line of a word behind those of the words before.
+#[inline(always)]
+fn fill_line(words: &[u64; MANY], text: &mut [u8], i: usize)
+    requires within { i < MANY }
+    requires room { length text.old ≡ LINES_LEN }
+    requires before { FirstLines i words.now text.old }
+    ensures { FirstLines (i + 1) words.now text.new }
+{
+    text[LINE_LEN * i..LINE_LEN * i + LINE_LEN].copy_from_slice(&line_of_word(words[i]));
+}
+
 /// Puts the lines of words into `text`.
-// Called in a loop, its own loop keeps its constants in registers.
-#[inline(never)]
+#[inline(always)]
 pub(crate) fn fill_lines(words: &[u64; MANY], text: &mut [u8])
     requires { length text.old ≡ LINES_LEN }
     ensures { text.new ≡ bytes_of Text (flat_map word_cells words.now) }
 {
-    for (i, word) in words.iter().enumerate() {
-        text[LINE_LEN * i..LINE_LEN * i + LINE_LEN].copy_from_slice(&line_of_word(*word));
+    // Four a turn: each turn loads the constants anew.
+    for i in 0..MANY / 4 {
+        fill_line(words, text, 4 * i);
+        fill_line(words, text, 4 * i + 1);
+        fill_line(words, text, 4 * i + 2);
+        fill_line(words, text, 4 * i + 3);
     }
 }
 
