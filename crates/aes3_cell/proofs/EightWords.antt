@@ -22,7 +22,7 @@ use Rattle.aes3_cell.proofs.WordCells.{low_cells-add, low_cells-same, length-wor
 use Rattle.aes3_cell.proofs.WrittenForms.{bytes-append}
 
 -- numbers of k bits as one number, and a number cut into numbers of k bits
-pub number-cells : (k : ℕ) (xs : List ℕ) → Each1 (λ x. x < 2 ^ k) xs → flat_map (low_cells k) xs ≡ low_cells (k * length xs) (number_l (2 ^ k) xs)
+number-cells : (k : ℕ) (xs : List ℕ) → Each1 (λ x. x < 2 ^ k) xs → flat_map (low_cells k) xs ≡ low_cells (k * length xs) (number_l (2 ^ k) xs)
 number-cells k [] f = ap (λ m. low_cells m 0) (let e : 0 ≡ k * 0 = omega arith in e)
 number-cells k (x ∷ xs) f =
     let n = number_l (2 ^ k) xs in
@@ -33,7 +33,7 @@ number-cells k (x ∷ xs) f =
     ∙ sym (low_cells-add k (k * length xs) (n * 2 ^ k + x))
     ∙ ap₂ low_cells m e
 
-pub digits-cells : (k n x : ℕ) → flat_map (low_cells k) (digits_l (2 ^ k) n x) ≡ low_cells (k * n) x
+digits-cells : (k n x : ℕ) → flat_map (low_cells k) (digits_l (2 ^ k) n x) ≡ low_cells (k * n) x
 digits-cells k zero x = ap (λ m. low_cells m x) (let e : 0 ≡ k * 0 = omega arith in e)
 digits-cells k (suc n) x =
     let m : k + k * n ≡ k * suc n = omega arith in

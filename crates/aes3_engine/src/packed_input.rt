@@ -17,7 +17,7 @@ use crate::conversion::{Input, convert};
 use crate::taker::Taker;
 use aes3_cell::{Fault, PackedIn, RunError, Sink, Source};
 
-/// How many words are handed on at once.
+/// How many words are handed on at once: enough that the calls for them cost next to nothing.
 const WORDS: usize = 1024;
 
 /// Reads packed cells, and counts those handed on.
