@@ -1,12 +1,16 @@
 -- The bytes of a block read at once.
-use Rattle.std.proofs.Common.{◌≡◌, ℕ, zero, suc, ◌+◌, ◌*◌, ◌/◌, ◌%◌, ◌^◌, ◌<◌, ◌≤◌, ◌⊎◌, inl, inr, List, [], ◌∷◌, ◌++◌, Bool, true, ◌&&◌, length, map, take, drop, get_or, set, None, refl, sym, ap, ap₂, ◌∙◌, subst, arith, append-nil, append_assoc, length-append, length-drop, w32}
-use Rattle.std.specs.Int.{from_le_bytes}
+use Rattle.std.proofs.Common.{◌≡◌, ℕ, zero, suc, ◌+◌, ◌*◌, ◌/◌, ◌%◌, ◌^◌, ◌<◌, ◌≤◌, ◌⊎◌, inl, inr, ◌↔◌, List, [], ◌∷◌, ◌++◌, Bool, true, ◌&&◌, eqb, eq-eqb, eqb-true, length, map, take, drop, get_or, set, None, refl, sym, ap, ap₂, ◌∙◌, subst, arith, append-nil, append_assoc, length-append, length-drop, w32}
+use Rattle.std.specs.Prelude.{bit_or, count_ones}
+use Rattle.std.specs.Int.{bit_at, from_le_bytes}
+use Rattle.std.specs.Int.Count.{ones_step}
 use Rattle.std.specs.List.{flat_map}
 use Rattle.std.proofs.lemmas.Bool.{and_parts, cases_lt}
 use Rattle.std.proofs.lemmas.Grind.{flat_map-append}
 use Rattle.std.proofs.lemmas.List.{take_more_set, get_or-drop, nil_from_length}
 use Rattle.std.proofs.Math.Seq.{take-add}
-use Rattle.aes3_block.specs.Files.{is_lawful, low_bytes, payload_of, word_bytes, words_of}
+use Rattle.std.proofs.lemmas.Nat.Bits.{bit_at_lowest, bit_at_or}
+use Rattle.aes3_block.proofs.BitLemmas.{word-parity}
+use Rattle.aes3_block.specs.Files.{has_code, has_parity, is_lawful, low_bytes, payload_of, word_bytes, words_of}
 use Rattle.aes3_block.specs.Readers.{FileReader, TakesBlock, TakesQuietly, next_with}
 use Rattle.aes3_block.proofs.FileLaws.{words-of-word}
 use Rattle.aes3_block.proofs.Reading.{stored, reader-is, lawful-fault}
@@ -96,20 +100,80 @@ word-more words bytes i w h l fit lt e q =
         first-four (drop (4 * i) bytes) (omega (arith, d, l))
         ∙ ap₂ (λ x y. x ∷ y) (at 0 (4 * i) (omega arith)) (ap₂ (λ x y. x ∷ y) (at 1 (4 * i + 1) refl) (ap₂ (λ x y. x ∷ y ∷ []) (at 2 (4 * i + 2) refl) (at 3 (4 * i + 3) refl)))
 
--- words judged one by one
-pub lawful-more : (words : List ℕ) (i : ℕ) (a r : Bool) → r ≡ is_lawful (get_or words i 0) → (a ≡ true → (k : ℕ) → k < i → is_lawful (get_or words k 0) ≡ true)
-    → (a && r) ≡ true → (k : ℕ) → k < i + 1 → is_lawful (get_or words k 0) ≡ true
-lawful-more words i a r q h e k g = go (cases_lt k i)
-  where
-    go : (k < i) ⊎ (i ≤ k) → is_lawful (get_or words k 0) ≡ true
-    go (inl lt) = h (and_parts a r e).0 k lt
-    go (inr le) =
-        let s : k ≡ i = omega (arith, g, le) in
-        ap (λ n. is_lawful (get_or words n 0)) s ∙ sym q ∙ (and_parts a r e).1
+-- the code of words or-ed together
+four-bits : (w : ℕ) → ((i : ℕ) → i < 4 → bit_at w i ≡ 0) → w % 16 ≡ 0
+four-bits w h =
+    let a : w / 2 ^ 0 % 2 ≡ 0 = h 0 (omega arith) in
+    let b : w / 2 ^ 1 % 2 ≡ 0 = h 1 (omega arith) in
+    let c : w / 2 ^ 2 % 2 ≡ 0 = h 2 (omega arith) in
+    let d : w / 2 ^ 3 % 2 ≡ 0 = h 3 (omega arith) in
+    omega (arith, a, b, c, d)
 
-pub lawful-owed : (words : List ℕ) (i : ℕ) (a r : Bool) → r ≡ is_lawful (get_or words i 0) → (((k : ℕ) → k < i → is_lawful (get_or words k 0) ≡ true) → a ≡ true)
-    → ((k : ℕ) → k < i + 1 → is_lawful (get_or words k 0) ≡ true) → (a && r) ≡ true
-lawful-owed words i a r q h f = ap₂ ◌&&◌ (h (λ k g. f k (omega (arith, g)))) (q ∙ f i (omega arith))
+no-bit : (w i : ℕ) → w % 16 ≡ 0 → i < 4 → bit_at w i ≡ 0
+no-bit w zero e h = omega arith
+no-bit w (suc zero) e h = omega arith
+no-bit w (suc (suc zero)) e h = omega arith
+no-bit w (suc (suc (suc zero))) e h = omega arith
+no-bit w (suc (suc (suc (suc i)))) e h = absurd (omega arith)
+
+code-or : (a b : ℕ) → (bit_or a b % 16 ≡ 0) ↔ ((a % 16 ≡ 0) × (b % 16 ≡ 0))
+code-or a b = (
+  λ e. (
+    four-bits a (λ i h. let o = sym (bit_at_or a b i) ∙ no-bit (bit_or a b) i e h in omega (arith, o)),
+    four-bits b (λ i h. let o = sym (bit_at_or a b i) ∙ no-bit (bit_or a b) i e h in omega (arith, o)),
+  ),
+  λ e. four-bits (bit_or a b) (λ i h. let x = no-bit a i e.0 h in let y = no-bit b i e.1 h in bit_at_or a b i ∙ omega (arith, x, y)),
+)
+
+even-or : (a b : ℕ) → (bit_or a b % 2 ≡ 0) ↔ ((a % 2 ≡ 0) × (b % 2 ≡ 0))
+even-or a b =
+    let o = bit_at_or a b 0 in
+    let x = bit_at_lowest a in
+    let y = bit_at_lowest b in
+    let z = bit_at_lowest (bit_or a b) in
+    (λ e. (omega (arith, o, x, y, z, e), omega (arith, o, x, y, z, e)), λ e. let f = e.0 in let g = e.1 in omega (arith, o, x, y, z, f, g))
+
+-- a word with no code is lawful where its ones are even in number
+ones-shifted : (w : ℕ) → w % 16 ≡ 0 → count_ones w ≡ count_ones (w / 16)
+ones-shifted w h =
+    let a = ones_step w in
+    let b = ones_step (w / 2) in
+    let c = ones_step (w / 2 / 2) in
+    let d = ones_step (w / 2 / 2 / 2) in
+    let e : w / 2 / 2 / 2 / 2 ≡ w / 16 = omega arith in
+    let d = rw e at d in
+    omega (arith, a, b, c, d)
+
+lawful-even : (w : ℕ) → w < 2 ^ 32 → w % 16 ≡ 0 → is_lawful w ≡ eqb (count_ones w % 2) 0
+lawful-even w l h = ap₂ ◌&&◌ (eq-eqb (w % 16) 0 h) (sym (word-parity w l) ∙ ap (λ n. eqb (n % 2) 0) (sym (ones-shifted w h)))
+
+-- words judged together
+pub record AreJudged (words : List ℕ) (n code odd : ℕ) : Type 0 where
+  pub each : code % 16 ≡ 0 → odd % 2 ≡ 0 → (k : ℕ) → k < n → is_lawful (get_or words k 0) ≡ true
+  pub owed : ((k : ℕ) → k < n → is_lawful (get_or words k 0) ≡ true) → (code % 16 ≡ 0) × (odd % 2 ≡ 0)
+
+pub one-judged : (words : List ℕ) (i code odd : ℕ) → get_or words i 0 < 2 ^ 32 → AreJudged words i code odd
+    → AreJudged words (i + 1) (bit_or code (get_or words i 0)) (bit_or odd (count_ones (get_or words i 0)))
+one-judged words i code odd l j = record {
+  each = λ e f k g.
+      let c = (code-or code (get_or words i 0)).0 e in
+      let o = (even-or odd (count_ones (get_or words i 0))).0 f in
+      go k c.0 c.1 o.0 o.1 (cases_lt k i) g;
+  owed = λ h.
+      let w = h i (omega arith) in
+      let c : get_or words i 0 % 16 ≡ 0 = eqb-true _ _ (and_parts (has_code (get_or words i 0)) (has_parity (get_or words i 0)) w).0 in
+      let p = j.owed (λ k g. h k (omega (arith, g))) in (
+        (code-or code (get_or words i 0)).1 (p.0, c),
+        (even-or odd (count_ones (get_or words i 0))).1 (p.1, eqb-true _ _ (sym (lawful-even (get_or words i 0) l c) ∙ w)),
+      );
+}
+  where
+    go : (k : ℕ) → code % 16 ≡ 0 → get_or words i 0 % 16 ≡ 0 → odd % 2 ≡ 0 → count_ones (get_or words i 0) % 2 ≡ 0
+        → (k < i) ⊎ (i ≤ k) → k < i + 1 → is_lawful (get_or words k 0) ≡ true
+    go k a b c d (inl lt) g = j.each a c k lt
+    go k a b c d (inr le) g =
+        let s : k ≡ i = omega (arith, g, le) in
+        ap (λ n. is_lawful (get_or words n 0)) s ∙ lawful-even (get_or words i 0) l b ∙ eq-eqb (count_ones (get_or words i 0) % 2) 0 d
 
 -- the words of their own bytes
 pub words-again : (ws : List ℕ) → ((i : ℕ) → i < length ws → get_or ws i 0 < 2 ^ 32) → words_of (flat_map word_bytes ws) ≡ ws

@@ -1,5 +1,5 @@
 //! Block files as they are read.
-use crate::block::{Block, SLOTS, is_lawful_word, zero_words};
+use crate::block::{Block, SLOTS, zero_words};
 use crate::file_out::BLOCK_BYTES;
 use crate::word::{has_right_code, has_right_parity};
 use aes3_cell::RunError;
@@ -129,7 +129,8 @@ fn words_of_block(bytes: &[u8; BLOCK_BYTES]) -> [u32; SLOTS]
     words
 }
 
-/// Whether all words are lawful. It judges each, so that the compiler takes several at once.
+/// Whether all words are lawful: none has a bit in slots 0 to 3, and none an odd number of ones.
+/// It judges them together, so that the compiler takes several at once.
 fn are_lawful(words: &[u32; SLOTS]) -> bool
     ensures each { result ≡ true → (i : ℕ) → i < block_slots
         → is_lawful (get_or words.now i 0) ≡ true }
@@ -137,11 +138,13 @@ fn are_lawful(words: &[u32; SLOTS]) -> bool
         → result ≡ true }
     ensures fits { (i : ℕ) → i < SLOTS → get_or words.now i 0 < 2 ^ 32 }
 {
-    let mut lawful = true;
+    let mut code = 0;
+    let mut odd = 0;
     for word in words.iter() {
-        lawful &= is_lawful_word(*word);
+        code |= *word;
+        odd |= word.count_ones();
     }
-    lawful
+    has_right_code(code) && odd % 2 == 0
 }
 
 impl BlockFile {
