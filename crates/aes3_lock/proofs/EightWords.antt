@@ -1,11 +1,11 @@
 -- Eight words of cells at once, behind those that a lock follows.
-use Rattle.std.proofs.Common.{◌≡◌, ℕ, zero, suc, ◌+◌, ◌-◌, ◌*◌, ◌/◌, ◌%◌, ◌==◌, ◌^◌, ◌<◌, ◌≤◌, ◌⊎◌, inl, inr, List, [], ◌∷◌, ◌++◌, Bool, true, false, not, ◌&&◌, Some, refl, length, take, drop, set, get_or, replicate, ap, ap₂, ◌∙◌, sym, subst, arith, length-drop, take-append-drop, take_all, append_assoc, add-one, get_or-set_same, get_or-set_other}
+use Rattle.std.proofs.Common.{◌≡◌, ℕ, zero, suc, ◌+◌, ◌-◌, ◌*◌, ◌/◌, ◌%◌, ◌==◌, ◌^◌, ◌<◌, ◌≤◌, ◌⊎◌, inl, inr, List, [], ◌∷◌, ◌++◌, Bool, true, false, not, ◌&&◌, Some, refl, length, take, drop, set, get_or, replicate, ap, ap₂, ◌∙◌, sym, subst, arith, length-drop, take-append-drop, take_all, append_assoc, add-one, get_or-drop, Option, get_or-set_same, get_or-set_other}
 use Rattle.std.specs.Prelude.{bit_or, if◌then◌else◌}
 use Rattle.std.specs.Int.{bit_at}
 use Rattle.std.specs.List.{flat_map}
 use Rattle.std.specs.Simd.Lanes.{zip2, fold_l, pick_l}
-use Rattle.std.proofs.lemmas.Bool.{cases_eq, false≢true}
-use Rattle.std.proofs.lemmas.List.{take_at}
+use Rattle.std.proofs.lemmas.Bool.{cases_eq, cases_lt, false≢true}
+use Rattle.std.proofs.lemmas.List.{take_at, get_or-take, get_or_past}
 use Rattle.std.proofs.lemmas.Nat.{le_or_l, le_or_r}
 use Rattle.std.proofs.lemmas.Nat.Bits.{bit_at-zero}
 use Rattle.aes3_cell.specs.declared.level.Level.{Level}
@@ -306,6 +306,28 @@ module _ (k : LockState) (t : Candidate) (c : List Level) (ws xs : List ℕ) (f 
 -- the lock behind so many words more
 abbrev pub lock_behind : ℕ → ℕ → Candidate → ℕ → List ℕ → ℕ → LockState
 lock_behind seen recent t subframe words n = record { seen = seen + 64 * n; recent = low_cells 8 recent; candidate = Some t; subframe = subframe; words = words }
+
+pub behind-none : (seen recent subframe : ℕ) (words : List ℕ) (t : Candidate) (k : Option Candidate) (c : List Level) → k ≡ Some t
+    → Follows (record { seen = seen; recent = low_cells 8 recent; candidate = k; subframe = subframe; words = words }) c
+    → Follows (lock_behind seen recent t subframe words 0) c
+behind-none seen recent subframe words t k c e f =
+    subst (λ n. Follows (record { seen = n; recent = low_cells 8 recent; candidate = Some t; subframe = subframe; words = words }) c)
+    (let q : seen ≡ seen + 64 * 0 = omega arith in q)
+    (subst (λ x. Follows (record { seen = seen; recent = low_cells 8 recent; candidate = x; subframe = subframe; words = words }) c) e f)
+
+pub behind-is : (seen recent subframe : ℕ) (words : List ℕ) (n : ℕ) (t : Candidate) (k : Option Candidate) (c : List Level) → k ≡ Some t
+    → Follows (lock_behind seen recent t subframe words n) c
+    → Follows (record { seen = seen + 64 * n; recent = low_cells 8 recent; candidate = k; subframe = subframe; words = words }) c
+behind-is seen recent subframe words n t k c e f =
+    subst (λ x. Follows (record { seen = seen + 64 * n; recent = low_cells 8 recent; candidate = x; subframe = subframe; words = words }) c) (sym e) f
+
+-- eight words of others fit as they do
+pub front-fits : (ws words : List ℕ) (at : ℕ) → length ws ≡ 8 → ws ≡ take 8 (drop at words) → ((i : ℕ) → get_or words i 0 < 2 ^ 64) → (i : ℕ) → get_or ws i 0 < 2 ^ 64
+front-fits ws words at l e f i = go (cases_lt i 8)
+  where
+    go : (i < 8) ⊎ (8 ≤ i) → get_or ws i 0 < 2 ^ 64
+    go (inl h) = subst (λ x. x < 2 ^ 64) (sym (ap (λ v. get_or v i 0) e ∙ get_or-take 8 (drop at words) i 0 h ∙ get_or-drop at words i 0)) (f (at + i))
+    go (inr h) = let p = get_or_past ws i 0 (omega (arith, l, h)) in omega (arith, p)
 
 -- the same where their marks are told as those of earlier slots, n before
 pub eight-later : (k : LockState) (t : Candidate) (c : List Level) (ws xs : List ℕ) → Follows k c → k.candidate ≡ Some t → length k.words ≡ block_slots

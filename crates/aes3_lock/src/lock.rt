@@ -237,57 +237,50 @@ impl Lock {
         true
     }
 
-    /// Takes eight words where all that they make whole are subframes behind the first of the
-    /// candidate in hand, with right parity, and says whether it did; else it changes nothing. It
-    /// is `take_word` for almost every eight words of a line.
-    fn take_eight(&mut self, words: &[u64; 8]) -> bool
-        requires { self.old.seen + 512 ≤ 2 ^ 43 }
-        ensures seen { result ≡ true → self.new.seen ≡ self.old.seen + 512 }
-        ensures follows { result ≡ true → (cells : List Level) → Follows self.old cells
-            → Follows self.new (cells ++ flat_map word_cells words.now) }
-        ensures none { result ≡ true → (cells : List Level) → Follows self.old cells
-            → decided (cells ++ flat_map word_cells words.now) ≡ decided cells }
-        ensures left { result ≡ false → self.new ≡ self.old }
+    /// Takes words from the front, eight at a time, as long as all that eight make whole are
+    /// subframes behind the first of the candidate in hand, with right parity. Answers how many. It
+    /// is `take_word` for almost all words of a line.
+    fn take_eights(&mut self, words: &[u64]) -> usize
+        requires { self.old.seen + 64 * length words.now ≤ 2 ^ 43 }
+        ensures within { result ≤ length words.now }
+        ensures seen { self.new.seen ≡ self.old.seen + 64 * result }
+        ensures follows { (cells : List Level) → Follows self.old cells
+            → Follows self.new (cells ++ flat_map word_cells (take result words.now)) }
+        ensures none { (cells : List Level) → Follows self.old cells
+            → decided (cells ++ flat_map word_cells (take result words.now)) ≡ decided cells }
     {
         let Some(candidate) = self.candidate else {
-            return false;
+            return 0;
         };
         let offset = self.seen - candidate.at;
         if offset < SUBFRAME_CELLS || offset > BLOCK_CELLS - 8 * SUBFRAME_CELLS {
-            return false;
+            return 0;
         }
         let slot = offset / SUBFRAME_CELLS;
         let len = offset % SUBFRAME_CELLS;
-        let subframes = eight_completed(self.subframe, len, words);
-        let behind = rest_of(words[7], len);
-        if !are_subframes(candidate.level, slot, &subframes)
-            || !begins_subframe(candidate.level, mark_of(slot + 8), behind, len as u32)
+        let room = ((BLOCK_CELLS - offset) / SUBFRAME_CELLS) as usize;
+        let mut behind = self.subframe;
+        let mut taken = 0;
+        while taken + 8 <= room
+            && let Some(eight) = words[taken..].first_chunk()
         {
-            return false;
+            let subframes = eight_completed(behind, len, eight);
+            let rest = rest_of(eight[7], len);
+            // Eight subframes on the marks are the same, so they are found once for all.
+            if !are_subframes(candidate.level, slot, &subframes)
+                || !begins_subframe(candidate.level, mark_of(slot + 8), rest, len as u32)
+            {
+                break;
+            }
+            self.words
+                .keep_eight(slot as usize + taken, candidate.level, &subframes);
+            self.recent = last_octet(eight[7]);
+            behind = rest;
+            taken += 8;
         }
-        self.seen += 512;
-        self.recent = last_octet(words[7]);
-        self.words
-            .keep_eight(slot as usize, candidate.level, &subframes);
+        self.seen += 64 * taken as u64;
         self.subframe = behind;
-        true
-    }
-
-    /// Takes eight words from the front, as `take_eight` does, where there are so many.
-    fn take_front_eight(&mut self, words: &[u64]) -> bool
-        requires { self.old.seen + 64 * length words.now ≤ 2 ^ 43 }
-        ensures within { result ≡ true → 8 ≤ length words.now }
-        ensures seen { result ≡ true → self.new.seen ≡ self.old.seen + 512 }
-        ensures follows { result ≡ true → (cells : List Level) → Follows self.old cells
-            → Follows self.new (cells ++ flat_map word_cells (take 8 words.now)) }
-        ensures none { result ≡ true → (cells : List Level) → Follows self.old cells
-            → decided (cells ++ flat_map word_cells (take 8 words.now)) ≡ decided cells }
-        ensures left { result ≡ false → self.new ≡ self.old }
-    {
-        match words.first_chunk() {
-            Some(eight) => self.take_eight(eight),
-            None => false,
-        }
+        taken
     }
 
     /// Takes the words from the front, the first cell of each in its lowest bit, that decide no
@@ -311,8 +304,9 @@ impl Lock {
     {
         let mut taken = 0;
         while taken < words.len() {
-            if self.take_front_eight(&words[taken..]) {
-                taken += 8;
+            let eights = self.take_eights(&words[taken..]);
+            if eights > 0 {
+                taken += eights;
             } else if self.take_word(words[taken]) {
                 taken += 1;
             } else {

@@ -13,21 +13,21 @@ loop-taken-init c = record {
   none = λ l f. ap decided (no-words l c.args.words.now);
 }
 
--- eight words more
-pub loop-taken-preserved-then-take_front_eight : goal.loop-taken-preserved-then-take_front_eight
-loop-taken-preserved-then-take_front_eight c =
-    let t = c.if-take_front_eight.true in
+-- some eights more
+pub loop-taken-preserved-then-eights-gt0 : goal.loop-taken-preserved-then-eights-gt0
+loop-taken-preserved-then-eights-gt0 c =
     let i = c.loop-taken.invariant in
     let words = c.args.words.now in
     let at = c.loop-taken.taken in
+    let eights = c.take_eights-eights.result in
     let rest = between_to_end words at (length words) (omega arith) in
     let n = ap length rest ∙ length-drop at words in
-    let w = c.take_front_eight.ensures.within t in
+    let w = c.take_eights-eights.ensures.within in
     record {
       within = omega (arith, n, w);
-      seen = let e = c.take_front_eight.ensures.seen t in let s = i.seen in omega (arith, e, s);
-      follows = λ l f. subst (Follows c.take_front_eight.new.self) (next-words l words _ at 8 i.within rest)
-          (c.take_front_eight.ensures.follows t _ (i.follows l f));
-      none = λ l f. ap decided (sym (next-words l words _ at 8 i.within rest))
-          ∙ c.take_front_eight.ensures.none t _ (i.follows l f) ∙ i.none l f;
+      seen = let e = c.take_eights-eights.ensures.seen in let s = i.seen in omega (arith, e, s);
+      follows = λ l f. subst (Follows c.take_eights-eights.new.self) (next-words l words _ at eights i.within rest)
+          (c.take_eights-eights.ensures.follows _ (i.follows l f));
+      none = λ l f. ap decided (sym (next-words l words _ at eights i.within rest))
+          ∙ c.take_eights-eights.ensures.none _ (i.follows l f) ∙ i.none l f;
     }
