@@ -23,3 +23,4 @@ pub mod SamplesBack
 pub mod PackedLemmas
 pub mod PackedRuns
 pub mod Fronts
+pub mod CellBytes

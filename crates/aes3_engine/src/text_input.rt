@@ -2,10 +2,10 @@
 
 ghost use Rattle.std.specs.Prelude.{◌≡◌, ℕ, ◌+◌, ◌<◌, ◌≤◌, ◌^◌, ◌++◌, List, [], ◌∷◌, length, map};
 ghost use Rattle.std.specs.Prelude.{take, slice_index, Err, IfOk, IfErr, OnErr, IfSome, OnSome};
-ghost use Rattle.std.specs.Prelude.{IfNone, IsTrue, ◌↔◌};
+ghost use Rattle.std.specs.Prelude.{true, IfNone, IsTrue, ◌↔◌};
 ghost use Rattle.std.specs.List.{flat_map};
-ghost use Rattle.aes3_cell.specs.declared.level.Level.{Level};
-ghost use Rattle.aes3_cell.specs.CellText.{byte_cells, cells_of_text, kind_of, separator};
+ghost use Rattle.aes3_cell.specs.CellText.{byte_cells, cells_of_text, is_good_byte, kind_of};
+ghost use Rattle.aes3_cell.specs.CellText.{separator};
 ghost use Rattle.aes3_cell.specs.Text.{byte_of};
 ghost use Rattle.aes3_cell.specs.TextReading.{text_answer};
 ghost use Rattle.aes3_cell.specs.Words.{low_cells, word_cells};
@@ -15,9 +15,7 @@ ghost use Rattle.aes3_engine.specs.Running.{FrontRan, movement_of};
 
 use crate::conversion::{Input, convert};
 use crate::taker::Taker;
-use aes3_cell::{
-    BadCell, CellText, Form, LINE_LEN, Level, RunError, Sink, Source, with_cell, word_of_text,
-};
+use aes3_cell::{BadCell, CellText, Form, LINE_LEN, RunError, Sink, Source, word_of_text};
 
 /// How many lines become words at once.
 const LINES: usize = 64;
@@ -160,16 +158,23 @@ struct SomeCells {
     len: u32,
 }
 
-/// The level of a byte that is a cell. It is told from the byte's lowest bit: a jump that depends
-/// on the levels of a line can't be foreseen.
-#[tactic(auto, unfolding(aes3_cell::specs::CellText::kind_of))]
-fn level_of_cell(byte: u8) -> Level
-    ensures { (level : Level) → byte_cells byte ≡ level ∷ [] → result ≡ level }
+/// Cells with that of one more byte behind them, if it is a cell and no separator. No jump depends
+/// on which it is, since where lines end can't be foreseen: bit 4 is set in the bytes of cells
+/// alone, bit 5 in those and a space, and bit 0 tells the level.
+fn with_cell_of(cells: SomeCells, byte: u8) -> SomeCells
+    requires few { cells.len < 64 }
+    requires bound { cells.word < 2 ^ cells.len }
+    requires good { is_good_byte byte ≡ true }
+    ensures cells { low_cells result.len result.word
+        ≡ low_cells cells.len cells.word ++ byte_cells byte }
+    ensures few { result.len ≤ 64 }
+    ensures bound { result.word < 2 ^ result.len }
 {
-    if byte % 2 == 0 {
-        Level::Low
-    } else {
-        Level::High
+    let high = byte & (byte >> 5) & 1;
+    let count = (byte >> 4) & 1;
+    SomeCells {
+        word: cells.word | u64::from(high) << cells.len,
+        len: cells.len + u32::from(count),
     }
 }
 
@@ -187,16 +192,13 @@ fn with_byte(text: &mut CellText, cells: SomeCells, byte: u8) -> Result<SomeCell
     ensures same { OnErr result (text.new ≡ text.old) }
 {
     match text.feed_byte(byte) {
-        Ok(Some(_)) => Ok(SomeCells {
-            word: with_cell(cells.word, cells.len, level_of_cell(byte)),
-            len: cells.len + 1,
-        }),
-        Ok(None) => Ok(cells),
+        Ok(_) => Ok(with_cell_of(cells, byte)),
         Err(fault) => Err(fault),
     }
 }
 
-/// Whether text begins with eight cells: where it doesn't, there is no need to look at 64.
+/// Whether text begins with eight cells: where it doesn't, there is no need to look at 64. Most
+/// text in short lines never does, so the jump that depends on it is foreseen.
 fn begins_with_cells(text: &[u8]) -> bool {
     match text.first_chunk() {
         Some(bytes) => u64::from_le_bytes(*bytes) & !LEVEL_BITS == CELL_BYTES,
@@ -207,7 +209,7 @@ fn begins_with_cells(text: &[u8]) -> bool {
 /// Whether text begins with a line of 64 cells.
 fn is_line(text: &[u8]) -> bool {
     match text.first_chunk() {
-        Some(bytes) => begins_with_cells(text) && word_of_text(bytes).is_some(),
+        Some(bytes) => word_of_text(bytes).is_some(),
         None => false,
     }
 }
@@ -219,8 +221,8 @@ fn begins_line(piece: &[u8], at: usize) -> bool
     requires some { 0 < at }
     requires within { at ≤ length piece.now }
 {
-    piece[at - 1] == b'\n'
-        && piece.len() - at > LINE_CELLS
+    piece.len() - at > LINE_CELLS
+        && (piece[at - 1] == b'\n') & begins_with_cells(&piece[at..])
         && is_separator(piece[at + LINE_CELLS])
         && is_line(&piece[at..])
 }
