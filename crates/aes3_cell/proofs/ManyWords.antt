@@ -1,7 +1,7 @@
 -- Words of cells, one more.
-use Rattle.std.proofs.Common.{◌≡◌, ℕ, ◌+◌, ◌*◌, ◌<◌, ◌≤◌, List, [], ◌∷◌, ◌++◌, length, map, take, drop, get_or, set, sym, ap, ap₂, ◌∙◌, arith, append-nil, length-append, take-append-drop}
+use Rattle.std.proofs.Common.{◌≡◌, ℕ, ◌+◌, ◌*◌, ◌<◌, ◌≤◌, List, [], ◌∷◌, ◌++◌, length, map, take, drop, get_or, set, refl, sym, ap, ap₂, ◌∙◌, arith, append-nil, length-append, take-append-drop}
 use Rattle.std.specs.List.{flat_map}
-use Rattle.std.specs.Simd.Lanes.{chunk}
+use Rattle.std.specs.Simd.Lanes.{chunk, put_chunk}
 use Rattle.std.proofs.lemmas.Grind.{flat_map-append}
 use Rattle.std.proofs.lemmas.List.{take_more, take_more_set, length-map, length-take-le}
 use Rattle.std.proofs.Math.Seq.{take-add}
@@ -94,3 +94,10 @@ length-octets w =
     let n = length-word_cells w in
     let k = word_len_64 in
     length-first_octets (octets_needed (length (word_cells w))) (word_cells w) ∙ (let e : octets_needed (length (word_cells w)) ≡ 8 = omega (arith, n, k) in e)
+
+-- one byte behind those that were put over the first of a list
+pub put-behind : (xs ys : List ℕ) (y : ℕ) → length xs ≡ length ys + 1 → set (put_chunk 0 xs ys) (length ys) y ≡ ys ++ y ∷ []
+put-behind [] ys y h = absurd (omega arith)
+put-behind (x ∷ []) [] y h = refl
+put-behind (x ∷ z ∷ xs) [] y h = absurd (omega arith)
+put-behind (x ∷ xs) (z ∷ ys) y h = ap (λ l. z ∷ l) (put-behind xs ys y (omega arith))

@@ -45,8 +45,9 @@ pub trait Source {
 
 /// Takes bytes, in pieces of any size. It may hold some of them until it is flushed.
 ///
-/// The contract speaks of all bytes taken so far (`taken`, where the sink tells them), of those
-/// that it has passed on (`passed`, likewise), and of how often it failed.
+/// The contract speaks of all bytes taken so far (`taken`, where the sink tells them, which it does
+/// always or never), of those that it has passed on (`passed`, likewise), and of how often it
+/// failed.
 pub trait Sink {
     ghost taken: { Self → Option (List ℕ) };
 

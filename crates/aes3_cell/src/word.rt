@@ -1,7 +1,7 @@
 //! Words of 64 cells, the earliest in the lowest bit, their line of text and their octets.
 
 ghost use Rattle.std.specs.Prelude.{◌≡◌, ◌+◌, ◌<◌, ◌^◌, ◌==◌, ℕ, [], ◌∷◌, ◌++◌, map, get_or};
-ghost use Rattle.std.specs.Prelude.{if◌then◌else◌, IfSome};
+ghost use Rattle.std.specs.Prelude.{if◌then◌else◌, IfSome, length};
 ghost use Rattle.std.specs.Int.{bit_at};
 ghost use Rattle.aes3_cell.specs.Words.{level_of, low_cells, word_cells};
 ghost use Rattle.aes3_cell.specs.Text.{byte_of, line_text};
@@ -50,13 +50,23 @@ fn characters(word: u64) -> [u8; 64]
         .to_array()
 }
 
+/// Puts the line of text of a word of cells into `line`.
+#[inline(always)]
+pub(crate) fn put_line(word: u64, line: &mut [u8])
+    requires { length line.old ≡ LINE_LEN }
+    ensures { line.new ≡ line_text (word_cells word) }
+{
+    u8x64::from_array(characters(word)).copy_to_slice(line);
+    line[64] = b'\n';
+}
+
 /// The line of text of a word of cells: 64 characters and a line feed.
 #[inline(always)]
 pub fn line_of_word(word: u64) -> [u8; LINE_LEN]
     ensures { result ≡ line_text (word_cells word) }
 {
-    let mut line = [b'\n'; LINE_LEN];
-    line[..64].copy_from_slice(&characters(word));
+    let mut line = [0; LINE_LEN];
+    put_line(word, &mut line);
     line
 }
 

@@ -11,7 +11,7 @@ ghost use Rattle.aes3_cell.specs.declared.form.Form.TheVariants.{Text, Packed};
 use crate::eights::octets_of_eight;
 use crate::ends::{Fault, Sink, write_all};
 use crate::form::Form;
-use crate::word::{LINE_LEN, line_of_word, octets_of_word};
+use crate::word::{LINE_LEN, line_of_word, octets_of_word, put_line};
 use std::simd::prelude::*;
 
 /// Writes the 64 cells of a word, as one buffer.
@@ -42,7 +42,7 @@ fn fill_line(words: &[u64; MANY], text: &mut [u8], i: usize)
     requires before { FirstLines i words.now text.old }
     ensures { FirstLines (i + 1) words.now text.new }
 {
-    text[LINE_LEN * i..LINE_LEN * i + LINE_LEN].copy_from_slice(&line_of_word(words[i]));
+    put_line(words[i], &mut text[LINE_LEN * i..LINE_LEN * i + LINE_LEN]);
 }
 
 /// Puts the lines of words into `text`.
