@@ -1,6 +1,6 @@
 //! The cells of four subframes at once.
 
-ghost use Rattle.std.specs.Prelude.{◌≡◌, ℕ, ◌<◌, ◌^◌, ◌+◌, ◌-◌, ◌*◌, ◌/◌, ◌%◌, ◌==◌, get_or, length};
+ghost use Rattle.std.specs.Prelude.{◌≡◌, ℕ, ◌<◌, ◌^◌, ◌+◌, ◌*◌, ◌/◌, ◌%◌, ◌==◌, get_or, length};
 ghost use Rattle.std.specs.Prelude.{if◌then◌else◌, map, bit_xor};
 ghost use Rattle.std.specs.Int.{bit_at};
 ghost use Rattle.aes3_cell.specs.Cells.{line};
