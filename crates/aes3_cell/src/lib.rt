@@ -42,5 +42,5 @@ pub use standard::{StdSink, StdSource};
 pub use text_in::CellText;
 pub use text_out::TextOut;
 pub use text_words::SomeCells;
-pub use word::{LINE_LEN, line_of_word, octets_of_word, with_cell, word_of_octets, word_of_text};
+pub use word::{LINE_LEN, line_of_word, octets_of_word, word_of_octets, word_of_text};
 pub use written::{put_ending, put_word, put_words};

@@ -18,7 +18,7 @@ pub(crate) const WORD_LEN: u32 = 64;
 pub const LINE_LEN: usize = 65;
 
 /// The word of `len` cells, the first in the lowest bit, with one more cell behind them.
-pub fn with_cell(word: u64, len: u32, level: Level) -> u64
+pub(crate) fn with_cell(word: u64, len: u32, level: Level) -> u64
     requires few { len < 64 }
     requires bound { word < 2 ^ len }
     ensures cells { low_cells (len + 1) result ≡ low_cells len word ++ level ∷ [] }

@@ -1,10 +1,7 @@
 -- Fields of channel status by their names and the words that `show` prints.
-use Rattle.std.specs.Prelude.{ℕ, List, [], ◌∷◌, ◌++◌, Some, None, true, ◌≡◌, ◌≢◌, ◌⊎◌, ◌<◌, ◌≤◌, ◌+◌, ◌*◌, ◌^◌, codes, decimal, length, map, take, drop, get_or, replicate}
+use Rattle.std.specs.Prelude.{ℕ, List, [], ◌++◌, Some, None, true, ◌≡◌, ◌≢◌, ◌⊎◌, ◌<◌, ◌≤◌, ◌+◌, ◌*◌, ◌^◌, codes, decimal, length, map, take, drop, get_or, replicate}
 use Rattle.std.specs.List.{Contains, flat_map}
 use Rattle.aes3_status.specs.declared.check.Check.{Check}
-use Rattle.aes3_status.specs.declared.field.ProField.{ProField}
-use Rattle.aes3_status.specs.declared.field.ProField.TheVariants as pro
-use Rattle.aes3_status.specs.declared.field.ConField.{ConField}
 use Rattle.aes3_status.specs.declared.field.ConField.TheVariants as con
 use Rattle.aes3_status.specs.declared.field.Field.{Field}
 use Rattle.aes3_status.specs.declared.field.Field.TheVariants.{Professional, Consumer}
@@ -16,8 +13,7 @@ use Rattle.aes3_status.specs.Settings.{is_for, place_of, told_by, under, code_fo
 use Rattle.hex.specs.Hex.{encode_lower}
 use Rattle.aes3_text.specs.declared.listed.SettingsFault.{SettingsFault}
 use Rattle.aes3_text.specs.declared.listed.SettingsFault.TheVariants.{Unknown, TooMany}
-use Rattle.aes3_text.specs.Fields.{field_text, four_bits, shown, specified}
-use Rattle.aes3_text.specs.Words.{payload_words, word_for}
+use Rattle.aes3_text.specs.Fields.{field_text, shown}
 use Rattle.aes3_text.specs.Professional as professional
 use Rattle.aes3_text.specs.Consumer as consumer
 

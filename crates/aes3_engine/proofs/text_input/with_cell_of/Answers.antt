@@ -1,4 +1,3 @@
-use Rattle.std.proofs.Common.{◌≡◌, ◌+◌, ◌*◌, ◌%◌, ◌^◌, ◌<◌, ◌≤◌, ◌++◌}
 use Rattle.aes3_engine.proofs.CellBytes.{cells-added}
 use Rattle.aes3_engine.proofs.text_input.with_cell_of.Goals as goal
 

@@ -1,4 +1,4 @@
-use Rattle.std.proofs.Common.{◌≡◌, ◌%◌, ◌==◌, ◌∙◌, Fits, ap, refl, sym, arith, w64}
+use Rattle.std.proofs.Common.{◌%◌, ◌==◌, ◌∙◌, Fits, ap, refl, sym, arith, w64}
 use Rattle.std.specs.Prelude.{if◌then◌else◌}
 use Rattle.std.proofs.lemmas.Simd.{Each1-get_or}
 use Rattle.aes3_cell.specs.Cells.{line}

@@ -1,4 +1,4 @@
-use Rattle.std.proofs.Common.{◌≡◌, ◌∙◌, ◌++◌, sym, ap, ap₂, append_assoc}
+use Rattle.std.proofs.Common.{◌∙◌, ◌++◌, ap, ap₂, append_assoc}
 use Rattle.std.specs.Prelude.{codes, decimal, not}
 use Rattle.std.specs.Str.{bytes_eq}
 use Rattle.aes3_text.specs.Choices.{name_of}

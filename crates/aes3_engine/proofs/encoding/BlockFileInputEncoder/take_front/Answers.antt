@@ -1,4 +1,4 @@
-use Rattle.std.proofs.Common.{◌≡◌, ◌≤◌, ◌+◌, ◌^◌, ℕ, List, length, take, drop, arith, sym, subst, refl, ap, take-append-drop}
+use Rattle.std.proofs.Common.{◌≤◌, ◌+◌, ◌^◌, ℕ, List, length, take, drop, arith, sym, subst, take-append-drop}
 use Rattle.aes3_block.specs.Readers.{FileReader}
 use Rattle.aes3_engine.specs.Encoding.{encoding, Encodes}
 use Rattle.aes3_engine.specs.Running.{FrontRan, movement_of}
