@@ -241,7 +241,12 @@ impl GatheredCells {
     pub fn block(&self) -> Block
         ensures { result ≡ map (take payload_len) (read_words self.now) }
     {
-        block_of_fours(&self.words, self.right >= SLOTS)
+        // Two loops: one that asked each time would read the cells through memory.
+        if self.right >= SLOTS {
+            block_of_fours(&self.words, true)
+        } else {
+            block_of_fours(&self.words, false)
+        }
     }
 
     /// How many of the subframes have a wrong parity bit, as `wrong_parities` counts them. It

@@ -1,5 +1,4 @@
 use Rattle.std.proofs.Common.{get_or, arith}
-use Rattle.std.proofs.lemmas.Bool.{leb-true}
 use Rattle.aes3_block.specs.Blocks.{mark_at}
 use Rattle.aes3_block.proofs.BlockLemmas.{block_slots_384}
 use Rattle.aes3_block.proofs.GatheredWords.{even-right}
@@ -9,4 +8,4 @@ pub block_of_fours-requires : goal.block_of_fours-requires
 block_of_fours-requires c = λ e i h.
     let v = c.self.inside in
     let n = block_slots_384 in
-    even-right v.before (mark_at i) (get_or v.words i 0) (c.self.invariant i (omega (arith, h, n, leb-true _ _ e)))
+    even-right v.before (mark_at i) (get_or v.words i 0) (c.self.invariant i (omega (arith, h, n, c.if-self-ge-SLOTS.true)))
