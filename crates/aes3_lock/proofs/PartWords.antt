@@ -1,16 +1,19 @@
 -- The first cells of a word behind those that a lock follows, inside the subframe in hand.
-use Rattle.std.proofs.Common.{◌≡◌, ℕ, ◌+◌, ◌-◌, ◌*◌, ◌/◌, ◌%◌, ◌^◌, ◌<◌, ◌≤◌, ◌⊎◌, inl, inr, List, [], ◌++◌, true, false, Some, refl, length, take, drop, set, ap, ap₂, ◌∙◌, sym, subst, arith, length-append, length-take-le, take-append-drop, append_assoc, append-nil, w64}
-use Rattle.std.specs.Prelude.{if◌then◌else◌}
+use Rattle.std.proofs.Common.{◌≡◌, ℕ, ◌+◌, ◌-◌, ◌*◌, ◌/◌, ◌%◌, ◌^◌, ◌<◌, ◌≤◌, ◌⊎◌, inl, inr, List, [], ◌∷◌, ◌++◌, true, false, Some, refl, length, take, drop, set, ap, ap₂, ◌∙◌, sym, subst, arith, length-append, length-take-le, take-append-drop, append_assoc, append-nil, drop-drop, w64}
+use Rattle.std.specs.Prelude.{bit_and, if◌then◌else◌}
 use Rattle.std.specs.Int.{bit_at, trailing_zeros}
 use Rattle.std.proofs.Math.Seq.{take-append-add}
 use Rattle.std.proofs.lemmas.Bool.{cases_lt}
-use Rattle.std.proofs.lemmas.Nat.{shr_le}
+use Rattle.std.proofs.lemmas.List.{drop-append-le}
+use Rattle.std.proofs.lemmas.Nat.{shr_le, and_le_r, one_shl, pow_pos}
 use Rattle.aes3_cell.specs.declared.level.Level.{Level}
 use Rattle.aes3_cell.specs.Words.{level_of, low_cells, word_cells}
 use Rattle.aes3_cell.proofs.WordCells.{length-low_cells, low_cells-add}
 use Rattle.aes3_cell.proofs.Moves.{bit_at-shr}
 use Rattle.aes3_slot.specs.declared.mark.Mark.{Mark}
-use Rattle.aes3_slot.specs.Rules.{at}
+use Rattle.aes3_slot.specs.ReadWords.{read_words}
+use Rattle.aes3_slot.specs.Reading.{same}
+use Rattle.aes3_slot.specs.Rules.{at, rule}
 use Rattle.aes3_slot.specs.Fronts.{stands}
 use Rattle.aes3_slot.specs.Preambles.{entry}
 use Rattle.aes3_slot.proofs.RuleTests.{stands-append}
@@ -19,15 +22,20 @@ use Rattle.aes3_slot.proofs.Taken.{length-word}
 use Rattle.aes3_block.specs.Blocks.{mark_at, block_slots, block_len}
 use Rattle.aes3_lock.specs.declared.candidate.Candidate.{Candidate}
 use Rattle.aes3_lock.specs.Candidates.{keeps}
-use Rattle.aes3_lock.specs.Reports.{decided}
+use Rattle.aes3_lock.specs.declared.report.Report.TheVariants.{Fault}
+use Rattle.aes3_lock.specs.Outcomes.{why_of}
+use Rattle.aes3_lock.specs.Reports.{decided, report_of}
+use Rattle.aes3_lock.specs.Steps.{begun, ended, eight_with}
 use Rattle.aes3_lock.specs.Following.{LockState, Gathered, Follows, OpenAt, Stops}
-use Rattle.aes3_lock.proofs.Deciding.{block_len_64}
+use Rattle.aes3_lock.proofs.Codes.{ended-early}
+use Rattle.aes3_lock.proofs.Deciding.{block_len_64, block_len_24576}
 use Rattle.aes3_lock.proofs.Fronts.{front-is, keeps-append}
-use Rattle.aes3_lock.proofs.LastEight.{last_eight-more}
-use Rattle.aes3_lock.proofs.SubframeWords.{take-low, take-word}
+use Rattle.aes3_lock.proofs.LastEight.{last_eight-more, length-last_eight}
+use Rattle.aes3_lock.proofs.PushedWords.{parts as part-cells}
+use Rattle.aes3_lock.proofs.SubframeWords.{take-low, take-word, cells-first}
 use Rattle.aes3_lock.proofs.QuietWords.{below-trailing, lowest-one}
 use Rattle.aes3_lock.proofs.WordSteps.{more-cells, made-whole, start, start-length, start-last, keeps-part}
-use Rattle.aes3_lock.proofs.Following.{hand, hand-open, offset, tested, goes-on}
+use Rattle.aes3_lock.proofs.Following.{hand, hand-open, offset, tested, goes-on, push-last}
 use Rattle.aes3_lock.proofs.TakenWords.{all-64}
 
 -- x has the first cells of the word w behind those of the subframe at offset o of the candidate, and there is room for n of these
@@ -215,3 +223,86 @@ part-ends k k' t c w x n f s given f' e s' b wrong =
     let r : (k'.seen - t.at) % 64 ≡ (k.seen - t.at) % 64 + n = omega (arith, o, q) in
     part-stops k' t (c ++ low_cells n w) (w / 2 ^ n) x f' s' (subst (λ j. Joined k' (w / 2 ^ n) x 1 j) o (part-behind k t c w x n f s given k' b))
     (ap₂ (λ u v. stands t.level (mark_at u) (word_cells x) v) d r ∙ wrong)
+
+-- and that cell ends the candidate
+module _ (k k' : LockState) (t : Candidate) (c : List Level) (w x n : ℕ) (f : Follows k c) (s : k.candidate ≡ Some t) (lw : length k.words ≡ block_slots)
+    (given : Joined k w x n (k.seen - t.at)) (short : (k.seen - t.at) % 64 + n < 64) (right : AllRight t x n (k.seen - t.at))
+    (wrong : stands t.level (mark_at ((k.seen - t.at) / 64)) (word_cells x) ((k.seen - t.at) % 64 + n) ≡ false) where
+  last : Level
+  last = level_of (w / 2 ^ n % 2)
+
+  -- what is kept between them
+  abbrev between : LockState
+  between = record {
+    seen = k.seen + n;
+    recent = drop n (k.recent ++ low_cells n w);
+    candidate = Some t;
+    subframe = bit_and x (1 * 2 ^ ((k.seen - t.at) % 64 + n) % 2 ^ 64 - 1);
+    words = k.words;
+  }
+
+  begun-so-far : Begun between.subframe x n (k.seen - t.at)
+  begun-so-far = record {
+    short = short;
+    cells = cells-first ((k.seen - t.at) % 64 + n) x short;
+    few =
+        let a = and_le_r x (1 * 2 ^ ((k.seen - t.at) % 64 + n) % 2 ^ 64 - 1) in
+        let e = one_shl ((k.seen - t.at) % 64 + n) 64 short in
+        let z = pow_pos ((k.seen - t.at) % 64 + n) in
+        omega (arith, a, e, z);
+  }
+
+  so-far : Follows between (c ++ low_cells n w) × (decided (c ++ low_cells n w) ≡ decided c)
+  so-far = part-next k t c w x n f s given right between refl refl refl refl begun-so-far
+
+  ends-there : Stops between last
+  unfolding last
+  ends-there = part-ends k between t c w x n f s given so-far.0 refl refl begun-so-far wrong
+
+  same-hand : ends-there.in_hand ≡ t
+  same-hand = some-is (sym ends-there.is)
+    where
+      some-is : {u v : Candidate} → Some u ≡ Some v → u ≡ v
+      some-is e = cc
+
+  with-last : low_cells (n + 1) w ≡ low_cells n w ++ last ∷ []
+  unfolding last
+  with-last = low_cells-add n 1 w
+
+  pub part-refuted : k'.seen ≡ k.seen + (n + 1) → k'.recent ≡ drop (n + 1) (k.recent ++ low_cells (n + 1) w) → k'.candidate ≡ begun k'.seen k'.recent
+      → low_cells 8 k'.subframe ≡ k'.recent → k'.subframe < 2 ^ 8
+      → Follows k' (c ++ low_cells (n + 1) w) × (decided (c ++ low_cells (n + 1) w) ≡ decided c ++ Fault t.at (k.seen + n) (why_of (k.seen + n - t.at)) ∷ [])
+  unfolding last
+  part-refuted e1 e2 e3 e4 e5 = (
+    subst (Follows k') cells both.0,
+    ap decided (sym cells) ∙ both.1 ∙ ap₂ (λ d r. d ++ r ∷ []) so-far.1 told,
+  )
+    where
+      cells : (c ++ low_cells n w) ++ last ∷ [] ≡ c ++ low_cells (n + 1) w
+      cells = part-cells c n 1 w
+
+      long : length (k.recent ++ low_cells n w) ≡ 8 + n
+      long = length-append k.recent (low_cells n w) ∙ ap₂ (λ a b. a + b) (ap length f.recent ∙ length-last_eight c) (length-low_cells n w)
+
+      recent : k'.recent ≡ eight_with between.recent last
+      recent =
+          e2 ∙ ap (λ v. drop (n + 1) (k.recent ++ v)) with-last ∙ ap (drop (n + 1)) (sym (append_assoc k.recent (low_cells n w) (last ∷ [])))
+          ∙ drop-append-le (n + 1) (k.recent ++ low_cells n w) (last ∷ []) (let l = long in omega (arith, l))
+          ∙ ap (λ v. v ++ last ∷ []) (sym (drop-drop 1 n (k.recent ++ low_cells n w)))
+
+      rule-broken : between.seen - t.at < block_len → rule mark_at (between.seen - t.at) last t.level (at between.recent 7) ≡ false
+      rule-broken = subst (λ (u : Candidate). between.seen - u.at < block_len → rule mark_at (between.seen - u.at) last u.level (at between.recent 7) ≡ false) same-hand ends-there.stop
+
+      both : Follows k' ((c ++ low_cells n w) ++ last ∷ []) × (decided ((c ++ low_cells n w) ++ last ∷ []) ≡ decided (c ++ low_cells n w) ++
+          report_of t.at (ended t.before (between.seen - t.at) (same last (at between.recent 7)) (read_words k.words)) ∷ [])
+      both = push-last between k' t (c ++ low_cells n w) last so-far.0 lw refl rule-broken (omega (arith, e1)) recent e3 (sym e4) e5
+
+      told : report_of t.at (ended t.before (between.seen - t.at) (same last (at between.recent 7)) (read_words k.words)) ≡ Fault t.at (k.seen + n) (why_of (k.seen + n - t.at))
+      told =
+          let i = (hand k t c f s).within in
+          let z = f.seen in
+          let r = given.room in
+          let b = block_len_24576 in
+          let q = short in
+          ap (report_of t.at) (ended-early t.before (between.seen - t.at) (same last (at between.recent 7)) (read_words k.words) (omega (arith, i, z, r, b, q)))
+          ∙ ap (λ v. Fault t.at v (why_of (k.seen + n - t.at))) (let e : t.at + (k.seen + n - t.at) ≡ k.seen + n = omega (arith, i, z) in e)

@@ -1,7 +1,7 @@
 //! The lock.
 use crate::candidate::Candidate;
 use crate::eight::{are_subframes, eight_completed};
-use crate::outcome::{ending_at, left_report, report_with};
+use crate::outcome::{ending_at, left_report, refutation, report_with};
 use crate::parts::LockParts;
 use crate::recent::{PREAMBLE_CELLS, candidate_in, last_cell, with_cell};
 use crate::report::{Ending, Pushed, Report};
@@ -49,7 +49,7 @@ impl Model for Lock {
         × (length k.words ≡ block_slots) };
 }
 
-ghost use Rattle.std.specs.Prelude.{◌≡◌, ◌≢◌, ◌<◌, ◌≤◌, ◌+◌, ◌*◌, ◌/◌, ◌%◌, ◌^◌, ◌&&◌, true};
+ghost use Rattle.std.specs.Prelude.{◌≡◌, ◌≢◌, ◌<◌, ◌≤◌, ◌+◌, ◌-◌, ◌*◌, ◌/◌, ◌%◌, ◌^◌, ◌&&◌, true};
 ghost use Rattle.std.specs.Prelude.{false, None, Some, List, [], ◌∷◌, ◌++◌, drop, get_or, length};
 ghost use Rattle.std.specs.Prelude.{nat_lt, option_map, option_to_list, take};
 ghost use Rattle.std.specs.List.{flat_map};
@@ -60,7 +60,10 @@ ghost use Rattle.aes3_slot.specs.Rules.{rule};
 ghost use Rattle.aes3_block.specs.Blocks.{block_len, mark_at};
 ghost use Rattle.aes3_lock.specs.Reports.{decided, open_at, reports};
 ghost use Rattle.aes3_lock.specs.Following.{BeginsIn, Follows, Stops, report_in};
+ghost use Rattle.aes3_lock.specs.Outcomes.{why_of};
 ghost use Rattle.aes3_lock.specs.Parts.{parts_state};
+ghost use Rattle.aes3_lock.specs.Steps.{begun};
+ghost use Rattle.aes3_lock.specs.declared.report.Ending.TheVariants.{Fault};
 
 /// Whether a cell behind `previous` goes on with a candidate, at whose `offset` it stands.
 fn goes_on(candidate: Candidate, offset: u64, cell: Level, previous: Level) -> bool
@@ -354,53 +357,6 @@ impl Lock {
         taken
     }
 
-    /// Takes the first cells of a word, at most `len`, that go on with the candidate in hand, up to
-    /// the end of the subframe in hand. Answers how many, and whether the next one ends the
-    /// candidate.
-    fn go_on(&mut self, candidate: Candidate, word: u64, len: u32) -> (u32, bool)
-        requires room { self.old.seen + len ≤ 2 ^ 43 }
-        requires len { len ≤ 64 }
-        requires some { 0 < len }
-        requires in_hand { self.old.candidate ≡ Some candidate }
-        ensures within { result.0 ≤ len }
-        ensures some { result.1 ≡ false → 0 < result.0 }
-        ensures next { result.1 ≡ true → result.0 < len }
-        ensures seen { self.new.seen ≡ self.old.seen + result.0 }
-        ensures follows { (cells : List Level) → Follows self.old cells
-            → Follows self.new (cells ++ low_cells result.0 word) }
-        ensures none { (cells : List Level) → Follows self.old cells
-            → decided (cells ++ low_cells result.0 word) ≡ decided cells }
-        ensures in_hand { result.1 ≡ true → self.new.candidate ≢ None }
-        ensures stops { result.1 ≡ true → (cells : List Level) → Follows self.old cells
-            → Stops self.new (level_of (word / 2 ^ result.0 % 2)) }
-    {
-        let offset = self.seen - candidate.at;
-        if offset >= BLOCK_CELLS {
-            return (0, true);
-        }
-        let slot = offset / SUBFRAME_CELLS;
-        let begun = offset % SUBFRAME_CELLS;
-        let cells = completed(self.subframe, begun, word);
-        let wrong = wrong_cells(candidate.level, mark_of(slot), cells) >> begun;
-        let right = wrong.trailing_zeros();
-        let room = len.min((SUBFRAME_CELLS - begun) as u32);
-        let taken = right.min(room);
-        self.count(word, taken);
-        let end = begun + u64::from(taken);
-        if end < SUBFRAME_CELLS {
-            self.subframe = first_of(cells, end);
-            return (taken, right < room);
-        }
-        self.words.keep(slot as usize, candidate.level, cells);
-        self.subframe = 0;
-        self.candidate = Some(Candidate {
-            at: candidate.at,
-            before: candidate.before,
-            level: last_of(cells),
-        });
-        (taken, false)
-    }
-
     /// Takes a cell that ends the candidate in hand, and answers what it makes of it.
     fn stop(&mut self, cell: Level) -> Ending
         requires room { self.old.seen < 2 ^ 43 }
@@ -424,11 +380,106 @@ impl Lock {
         ending
     }
 
+    /// Takes the first `right` cells of a word, which go on with the candidate in hand, and the one
+    /// behind them, which can't stand where it is.
+    fn refute(&mut self, candidate: Candidate, word: u64, right: u32) -> Pushed
+        requires room { self.old.seen + right + 1 ≤ 2 ^ 43 }
+        requires right { right < 64 }
+        requires behind { candidate.at ≤ self.old.seen }
+        ensures taken { result.taken ≡ right + 1 }
+        ensures ending { result.ending ≡ Some (Fault candidate.at (self.old.seen + right)
+            (why_of (self.old.seen + right - candidate.at))) }
+        ensures seen { self.new.seen ≡ self.old.seen + (right + 1) }
+        ensures recent { self.new.recent
+            ≡ drop (right + 1) (self.old.recent ++ low_cells (right + 1) word) }
+        ensures candidate { self.new.candidate ≡ begun self.new.seen self.new.recent }
+        ensures subframe { low_cells 8 self.new.subframe ≡ self.new.recent }
+        ensures few { self.new.subframe < 2 ^ 8 }
+        ensures words { self.new.words ≡ self.old.words }
+    {
+        let cell = self.seen + u64::from(right);
+        self.count(word, right + 1);
+        self.candidate = candidate_in(self.seen, self.recent);
+        self.subframe = u64::from(self.recent);
+        Pushed {
+            taken: right + 1,
+            ending: Some(refutation(candidate.at, cell)),
+        }
+    }
+
+    /// Takes the first cells of a word, at most `len`, up to the end of the subframe in hand, or up
+    /// to the first that ends the candidate in hand and with it.
+    fn go_on(&mut self, candidate: Candidate, word: u64, len: u32) -> Pushed
+        requires room { self.old.seen + len ≤ 2 ^ 43 }
+        requires len { len ≤ 64 }
+        requires some { 0 < len }
+        requires in_hand { self.old.candidate ≡ Some candidate }
+        ensures some { 0 < result.taken }
+        ensures within { result.taken ≤ len }
+        ensures seen { self.new.seen ≡ self.old.seen + result.taken }
+        ensures follows { (cells : List Level) → Follows self.old cells
+            → Follows self.new (cells ++ low_cells result.taken word) }
+        ensures report { (cells : List Level) → Follows self.old cells
+            → decided (cells ++ low_cells result.taken word) ≡ decided cells
+            ++ option_to_list (option_map (report_in self.new) result.ending) }
+    {
+        let offset = self.seen - candidate.at;
+        if offset >= BLOCK_CELLS {
+            let ending = self.stop(first_cell(word));
+            return Pushed::one(ending);
+        }
+        let slot = offset / SUBFRAME_CELLS;
+        let begun = offset % SUBFRAME_CELLS;
+        let cells = completed(self.subframe, begun, word);
+        let wrong = wrong_cells(candidate.level, mark_of(slot), cells) >> begun;
+        let right = wrong.trailing_zeros();
+        let taken = len.min((SUBFRAME_CELLS - begun) as u32);
+        if right < taken {
+            return self.refute(candidate, word, right);
+        }
+        self.count(word, taken);
+        let end = begun + u64::from(taken);
+        if end < SUBFRAME_CELLS {
+            self.subframe = first_of(cells, end);
+            return Pushed::quiet(taken);
+        }
+        self.words.keep(slot as usize, candidate.level, cells);
+        self.subframe = 0;
+        self.candidate = Some(Candidate {
+            at: candidate.at,
+            before: candidate.before,
+            level: last_of(cells),
+        });
+        Pushed::quiet(taken)
+    }
+
+    /// Takes the first cells of a word, at most `len`, as far as `search` or `go_on` does.
+    fn step(&mut self, word: u64, len: u32) -> Pushed
+        requires room { self.old.seen + len ≤ 2 ^ 43 }
+        requires len { len ≤ 64 }
+        requires some { 0 < len }
+        ensures some { 0 < result.taken }
+        ensures within { result.taken ≤ len }
+        ensures seen { self.new.seen ≡ self.old.seen + result.taken }
+        ensures follows { (cells : List Level) → Follows self.old cells
+            → Follows self.new (cells ++ low_cells result.taken word) }
+        ensures report { (cells : List Level) → Follows self.old cells
+            → decided (cells ++ low_cells result.taken word) ≡ decided cells
+            ++ option_to_list (option_map (report_in self.new) result.ending) }
+    {
+        match self.candidate {
+            None => Pushed::quiet(self.search(word, len)),
+            Some(candidate) => self.go_on(candidate, word, len),
+        }
+    }
+
     /// Takes the first cells of a word, the first of all in the lowest bit, up to the first that
     /// decides a report and with it, and at most `len`.
     ///
     /// It is `push` for each of these cells, but makes no report: `report` does, until more cells
     /// are taken.
+    // Inlined, as it answers every few cells where many candidates begin.
+    #[inline(always)]
     pub fn push_front(&mut self, word: u64, len: u32) -> Pushed
         requires room { self.old.seen + len ≤ 2 ^ 43 }
         requires len { len ≤ 64 }
@@ -444,24 +495,16 @@ impl Lock {
     {
         let mut taken = 0;
         while taken < len {
-            let rest = word >> taken;
-            let (more, ends) = match self.candidate {
-                None => (self.search(rest, len - taken), false),
-                Some(candidate) => self.go_on(candidate, rest, len - taken),
-            };
-            taken += more;
-            if ends {
-                let ending = self.stop(first_cell(word >> taken));
+            let pushed = self.step(word >> taken, len - taken);
+            taken += pushed.taken;
+            if pushed.ending.is_some() {
                 return Pushed {
-                    taken: taken + 1,
-                    ending: Some(ending),
+                    taken,
+                    ending: pushed.ending,
                 };
             }
         }
-        Pushed {
-            taken,
-            ending: None,
-        }
+        Pushed::quiet(taken)
     }
 
     /// The report of an ending that it answered with the last cell that it took.

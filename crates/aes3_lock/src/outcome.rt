@@ -1,8 +1,9 @@
 //! What becomes of a candidate that goes on no further.
 
-ghost use Rattle.std.specs.Prelude.{◌≡◌, ◌<◌, ◌+◌, ◌^◌};
+ghost use Rattle.std.specs.Prelude.{◌≡◌, ◌<◌, ◌≤◌, ◌+◌, ◌-◌, ◌^◌};
 ghost use Rattle.aes3_slot.specs.ReadWords.{read_words};
 ghost use Rattle.aes3_slot.specs.Reading.{same};
+ghost use Rattle.aes3_lock.specs.declared.report.Ending.TheVariants.{Fault};
 ghost use Rattle.aes3_lock.specs.Outcomes.{block_outcome, why_of};
 ghost use Rattle.aes3_lock.specs.Reports.{ending_report, report_of};
 ghost use Rattle.aes3_lock.specs.Steps.{ended, left};
@@ -58,6 +59,18 @@ fn reason(offset: u64) -> Why
     }
 }
 
+/// What becomes of the candidate at `at`, which the cell at `cell` refutes.
+pub(crate) fn refutation(at: u64, cell: u64) -> Ending
+    requires { at ≤ cell }
+    ensures { result ≡ Fault at cell (why_of (cell - at)) }
+{
+    Ending::Fault {
+        at,
+        cell,
+        why: reason(cell - at),
+    }
+}
+
 /// What a cell at its `offset` makes of a candidate that it ends.
 pub(crate) fn ending_at(
     candidate: Candidate,
@@ -74,11 +87,7 @@ pub(crate) fn ending_at(
     if offset >= BLOCK_CELLS && turns(previous, cell) {
         block_ending(candidate.at, candidate.before, words)
     } else {
-        Ending::Fault {
-            at: candidate.at,
-            cell: candidate.at + offset,
-            why: reason(offset),
-        }
+        refutation(candidate.at, candidate.at + offset)
     }
 }
 

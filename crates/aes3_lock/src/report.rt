@@ -66,6 +66,32 @@ pub struct Pushed {
     pub ending: Option<Ending>,
 }
 
+ghost use Rattle.std.specs.Prelude.{◌≡◌, None, Some};
+
+impl Pushed {
+    /// So many cells that ended none.
+    pub(crate) fn quiet(taken: u32) -> Self
+        ensures taken { result.taken ≡ taken }
+        ensures ending { result.ending ≡ None }
+    {
+        Pushed {
+            taken,
+            ending: None,
+        }
+    }
+
+    /// One cell, and what it made of the candidate that it ended.
+    pub(crate) fn one(ending: Ending) -> Self
+        ensures taken { result.taken ≡ 1 }
+        ensures ending { result.ending ≡ Some ending }
+    {
+        Pushed {
+            taken: 1,
+            ending: Some(ending),
+        }
+    }
+}
+
 impl Default for Report {
     ghost use Rattle.std.specs.Prelude.{◌≡◌};
     ghost use Rattle.aes3_lock.specs.declared.report.Report.TheVariants.{Unfinished};

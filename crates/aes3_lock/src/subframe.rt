@@ -73,7 +73,10 @@ pub(crate) fn last_behind(recent: u8, word: u64, len: u32) -> u8
     requires { len ≤ 64 }
     ensures { low_cells 8 result ≡ drop len (low_cells 8 recent ++ low_cells len word) }
 {
-    ((u128::from(word) << 8 | u128::from(recent)) >> len & 0xFF) as u8
+    if len > u64::BITS - 8 {
+        return (word >> (len - 8) & 0xFF) as u8;
+    }
+    ((word << 8 | u64::from(recent)) >> len & 0xFF) as u8
 }
 
 /// The last eight cells of a word.

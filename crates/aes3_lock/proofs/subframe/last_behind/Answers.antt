@@ -1,15 +1,13 @@
-use Rattle.std.proofs.Common.{◌≡◌, ◌*◌, ◌/◌, ◌%◌, ◌^◌, ap₂, ◌∙◌, arith}
+use Rattle.std.proofs.Common.{◌*◌, ◌/◌, ◌%◌, ◌^◌, ap, ◌∙◌, arith}
 use Rattle.std.specs.Prelude.{bit_and, bit_or}
-use Rattle.std.proofs.lemmas.Nat.{and_le_r}
 use Rattle.aes3_cell.specs.Words.{low_cells}
-use Rattle.aes3_lock.proofs.SubframeWords.{octet-behind}
+use Rattle.aes3_lock.proofs.SubframeWords.{octet-behind, octet-inside}
 use Rattle.aes3_lock.proofs.subframe.last_behind.Goals as goal
+
+pub returns-then-len : goal.returns-then-len
+returns-then-len c = octet-inside c.args.len c.args.recent c.args.word (omega arith)
 
 pub returns : goal.returns
 returns c =
-    let w = c.from.ensures in
-    let e : c.from.result * 256 % 2 ^ 128 ≡ c.args.word * 2 ^ 8 = omega (arith, w) in
-    ap₂ (λ x r. low_cells 8 (bit_and (bit_or x r / 2 ^ c.args.len) 255)) e c.from-2.ensures ∙ octet-behind c.args.len c.args.recent c.args.word (omega arith)
-
-pub overflow_cast-result-2 : goal.overflow_cast-result-2
-overflow_cast-result-2 c = let l = and_le_r (bit_or (c.from.result * 256 % 2 ^ 128) c.from-2.result / 2 ^ c.args.len) 255 in omega (arith, l)
+    ap (λ r. low_cells 8 (bit_and (bit_or (c.args.word * 2 ^ 8 % 2 ^ 64) r / 2 ^ c.args.len) 255)) c.from.ensures
+    ∙ octet-behind c.args.len c.args.recent c.args.word (omega arith) (omega arith)

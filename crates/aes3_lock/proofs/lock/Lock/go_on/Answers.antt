@@ -1,21 +1,72 @@
-use Rattle.std.proofs.Common.{◌≡◌, ◌+◌, ◌-◌, ◌/◌, ◌%◌, ◌^◌, ◌<◌, List, ◌++◌, Some, set, drop, refl, sym, ap, subst, ◌∙◌, arith}
-use Rattle.std.proofs.lemmas.Bool.{ltb-true}
+use Rattle.std.proofs.Common.{◌≡◌, ℕ, w64, ◌+◌, ◌-◌, ◌/◌, ◌%◌, ◌^◌, ◌<◌, List, [], ◌∷◌, ◌++◌, Some, set, drop, refl, sym, ap, subst, ◌∙◌, arith}
+use Rattle.std.specs.Prelude.{option_map, option_to_list}
+use Rattle.std.specs.Int.{trailing_zeros}
 use Rattle.aes3_cell.specs.declared.level.Level.{Level}
 use Rattle.aes3_cell.specs.Words.{low_cells}
+use Rattle.aes3_lock.specs.declared.report.Report.TheVariants.{Fault}
+use Rattle.aes3_lock.specs.Outcomes.{why_of}
 use Rattle.aes3_lock.specs.Reports.{decided}
-use Rattle.aes3_lock.specs.Following.{LockState, Follows}
+use Rattle.aes3_lock.specs.Following.{LockState, Follows, Stops, report_in}
 use Rattle.aes3_lock.proofs.Deciding.{block_len_24576}
 use Rattle.aes3_lock.proofs.Following.{past-stops}
-use Rattle.aes3_lock.proofs.PartWords.{Joined, Begun, all-right, next-wrong, part-next, part-whole, part-ends}
+use Rattle.aes3_lock.proofs.PartWords.{Begun, all-right, next-wrong, part-next, part-whole, part-refuted}
+use Rattle.aes3_lock.proofs.PushedWords.{none-told}
 use Rattle.aes3_lock.proofs.lock.Lock.go_on.Goals as goal
+use Rattle.aes3_lock.proofs.lock.Lock.go_on.Goals.{After-one, After-refute, After-quiet, After-quiet-2}
 
-pub returns-then-offset-ge-BLOCK_CELLS-clause-stops : goal.returns-then-offset-ge-BLOCK_CELLS-clause-stops
-returns-then-offset-ge-BLOCK_CELLS-clause-stops c = λ r l f.
+-- a cell behind a whole block
+past : (c : After-one) → Stops c.args.self.now c.first_cell.result
+past c =
     past-stops _ c.args.candidate _ c.requires.in_hand
     (let b = block_len_24576 in let o = c.if-offset-ge-BLOCK_CELLS.true in let s = ap (λ (k : LockState). k.seen) c.self.view_is in omega (arith, b, o, s))
 
--- the subframe isn't whole then
-abbrev next : goal.After-self-1 → LockState
+pub returns-then-offset-ge-BLOCK_CELLS-clause-follows : goal.returns-then-offset-ge-BLOCK_CELLS-clause-follows
+returns-then-offset-ge-BLOCK_CELLS-clause-follows c = λ l f.
+    subst (λ m. Follows c.stop-ending.new.self (l ++ low_cells m c.args.word)) (sym c.one.ensures.taken)
+    (subst (λ x. Follows c.stop-ending.new.self (l ++ x ∷ [])) c.first_cell.ensures (c.stop-ending.ensures.follows l f (past c)))
+
+pub returns-then-offset-ge-BLOCK_CELLS-clause-report : goal.returns-then-offset-ge-BLOCK_CELLS-clause-report
+returns-then-offset-ge-BLOCK_CELLS-clause-report c = λ l f.
+    ap (λ m. decided (l ++ low_cells m c.args.word)) c.one.ensures.taken
+    ∙ ap (λ x. decided (l ++ x ∷ [])) (sym c.first_cell.ensures) ∙ c.stop-ending.ensures.report l f (past c)
+    ∙ ap (λ e. decided l ++ option_to_list (option_map (report_in c.stop-ending.new.self) e)) (sym c.one.ensures.ending)
+
+-- a cell of the word refutes the candidate
+abbrev right : After-refute → ℕ
+right c = trailing_zeros w64 (c.wrong_cells.result / 2 ^ ((c.self.inside.seen - c.args.candidate.at) % 64))
+
+refuted : (c : After-refute) (l : List Level) → Follows c.args.self.now l
+    → Follows c.refute.new.self (l ++ low_cells (right c + 1) c.args.word)
+    × (decided (l ++ low_cells (right c + 1) c.args.word)
+    ≡ decided l ++ Fault c.args.candidate.at (c.self.inside.seen + right c) (why_of (c.self.inside.seen + right c - c.args.candidate.at)) ∷ [])
+refuted c l f =
+    let b = block_len_24576 in
+    let o = c.if-offset-ge-BLOCK_CELLS.false in
+    let h = c.if-right-taken.true in
+    let m = c.min-taken.ensures in
+    let n = right c in
+    part-refuted _ c.refute.new.self c.args.candidate l c.args.word c.completed-cells.result n (subst (λ k. Follows k l) (sym c.self.view_is) f)
+    (ap (λ (k : LockState). k.candidate) c.self.view_is ∙ c.requires.in_hand) c.self.invariant.1
+    (record { cells = c.completed-cells.ensures; fits = omega (arith, m, h); room = omega (arith, b, o) }) (omega (arith, m, h))
+    (all-right c.args.candidate c.completed-cells.result (c.self.inside.seen - c.args.candidate.at) c.wrong_cells.result c.mark_of.result (omega arith) c.mark_of.ensures c.wrong_cells.ensures
+    n (omega arith) (omega (arith, m, h)))
+    (next-wrong c.args.candidate c.completed-cells.result (c.self.inside.seen - c.args.candidate.at) c.wrong_cells.result c.mark_of.result (omega arith) c.mark_of.ensures c.wrong_cells.ensures
+    n refl (omega (arith, m, h)))
+    (c.refute.ensures.seen ∙ ap (λ (k : LockState). k.seen + (right c + 1)) (sym c.self.view_is))
+    (c.refute.ensures.recent ∙ ap (λ (k : LockState). drop (right c + 1) (k.recent ++ low_cells (right c + 1) c.args.word)) (sym c.self.view_is)) c.refute.ensures.candidate c.refute.ensures.subframe c.refute.ensures.few
+
+pub returns-then-right-taken-clause-follows : goal.returns-then-right-taken-clause-follows
+returns-then-right-taken-clause-follows c = λ l f.
+    subst (λ m. Follows c.refute.new.self (l ++ low_cells m c.args.word)) (sym c.refute.ensures.taken) (refuted c l f).0
+
+pub returns-then-right-taken-clause-report : goal.returns-then-right-taken-clause-report
+returns-then-right-taken-clause-report c = λ l f.
+    ap (λ m. decided (l ++ low_cells m c.args.word)) c.refute.ensures.taken ∙ (refuted c l f).1
+    ∙ ap (λ (k : LockState). decided l ++ Fault c.args.candidate.at (k.seen + right c) (why_of (k.seen + right c - c.args.candidate.at)) ∷ []) c.self.view_is
+    ∙ ap (λ e. decided l ++ option_to_list (option_map (report_in c.refute.new.self) e)) (sym c.refute.ensures.ending)
+
+-- none does, and the subframe isn't whole then
+abbrev next : After-quiet → LockState
 next c = record {
   seen = c.self-2.inside.seen;
   recent = low_cells 8 c.self-2.inside.recent;
@@ -24,31 +75,7 @@ next c = record {
   words = c.self-2.inside.words;
 }
 
--- what stood before
-abbrev was : goal.After-self-1 → LockState
-was c = record {
-  seen = c.self.inside.seen;
-  recent = low_cells 8 c.self.inside.recent;
-  candidate = c.self.inside.candidate;
-  subframe = c.self.inside.subframe;
-  words = c.self.inside.words;
-}
-
-followed : (c : goal.After-self-1) (l : List Level) → Follows c.args.self.now l → Follows (was c) l
-followed c l f = subst (λ k. Follows k l) (sym c.self.view_is) f
-
-held : (c : goal.After-self-1) → c.self.inside.candidate ≡ Some c.args.candidate
-held c = ap (λ (k : LockState). k.candidate) c.self.view_is ∙ c.requires.in_hand
-
-joined : (c : goal.After-self-1) → Joined (was c) c.args.word c.completed-cells.result c.min-taken.result (c.self.inside.seen - c.args.candidate.at)
-joined c =
-    let b = block_len_24576 in
-    let o = c.if-offset-ge-BLOCK_CELLS.false in
-    let m = c.min-room.ensures in
-    let n = c.min-taken.ensures in
-    record { cells = c.completed-cells.ensures; fits = omega (arith, m, n); room = omega (arith, b, o) }
-
-begun : (c : goal.After-self-1) → Begun c.first_of-self-inside.result c.completed-cells.result c.min-taken.result (c.self.inside.seen - c.args.candidate.at)
+begun : (c : After-quiet) → Begun c.first_of-self-inside.result c.completed-cells.result c.min-taken.result (c.self.inside.seen - c.args.candidate.at)
 begun c =
     let e = c.if-end-lt-SUBFRAME_CELLS.true in
     let t = c.from.ensures in
@@ -59,45 +86,35 @@ begun c =
       few = subst (λ j. c.first_of-self-inside.result < 2 ^ ((c.self.inside.seen - c.args.candidate.at) % 64 + j)) t c.first_of-self-inside.ensures.few;
     }
 
-next-seen : (c : goal.After-self-1) → c.self-2.inside.seen ≡ c.self.inside.seen + c.min-taken.result
-next-seen c = ap (λ (k : LockState). k.seen) c.self-2.view_is ∙ c.count.ensures.seen ∙ ap (λ (k : LockState). k.seen + c.min-taken.result) (sym c.self.view_is)
-
-next-held : (c : goal.After-self-1) → c.self-2.inside.candidate ≡ Some c.args.candidate
-next-held c = ap (λ (k : LockState). k.candidate) c.self-2.view_is ∙ c.count.ensures.candidate ∙ c.requires.in_hand
-
-goes-next : (c : goal.After-self-1) (l : List Level) → Follows c.args.self.now l
+goes-next : (c : After-quiet) (l : List Level) → Follows c.args.self.now l
     → Follows (next c) (l ++ low_cells c.min-taken.result c.args.word) × (decided (l ++ low_cells c.min-taken.result c.args.word) ≡ decided l)
 goes-next c l f =
-    let m = c.min-room.ensures in
-    let n = c.min-taken.ensures in
-    part-next (was c) c.args.candidate l c.args.word c.completed-cells.result c.min-taken.result (followed c l f) (held c) (joined c)
+    let b = block_len_24576 in
+    let o = c.if-offset-ge-BLOCK_CELLS.false in
+    let h = c.if-right-taken.false in
+    let m = c.min-taken.ensures in
+    part-next _ c.args.candidate l c.args.word c.completed-cells.result c.min-taken.result (subst (λ k. Follows k l) (sym c.self.view_is) f)
+    (ap (λ (k : LockState). k.candidate) c.self.view_is ∙ c.requires.in_hand)
+    (record { cells = c.completed-cells.ensures; fits = omega (arith, m); room = omega (arith, b, o) })
     (all-right c.args.candidate c.completed-cells.result (c.self.inside.seen - c.args.candidate.at) c.wrong_cells.result c.mark_of.result (omega arith) c.mark_of.ensures c.wrong_cells.ensures
-    c.min-taken.result (omega (arith, m, n)) (omega (arith, m, n)))
-    (next c) (next-seen c)
+    c.min-taken.result (omega (arith, h)) (omega (arith, m)))
+    (next c)
+    (ap (λ (k : LockState). k.seen) c.self-2.view_is ∙ c.count.ensures.seen ∙ ap (λ (k : LockState). k.seen + c.min-taken.result) (sym c.self.view_is))
     (ap (λ (k : LockState). k.recent) c.self-2.view_is ∙ c.count.ensures.recent
     ∙ ap (λ (k : LockState). drop c.min-taken.result (k.recent ++ low_cells c.min-taken.result c.args.word)) (sym c.self.view_is))
-    (next-held c)
+    (ap (λ (k : LockState). k.candidate) c.self-2.view_is ∙ c.count.ensures.candidate ∙ c.requires.in_hand)
     (ap (λ (k : LockState). k.words) c.self-2.view_is ∙ c.count.ensures.words ∙ ap (λ (k : LockState). k.words) (sym c.self.view_is))
     (begun c)
 
 pub returns-then-end-lt-SUBFRAME_CELLS-clause-follows : goal.returns-then-end-lt-SUBFRAME_CELLS-clause-follows
-returns-then-end-lt-SUBFRAME_CELLS-clause-follows c = λ l f. (goes-next c l f).0
+returns-then-end-lt-SUBFRAME_CELLS-clause-follows c = λ l f. subst (λ m. Follows (next c) (l ++ low_cells m c.args.word)) (sym c.quiet.ensures.taken) (goes-next c l f).0
 
-pub returns-then-end-lt-SUBFRAME_CELLS-clause-none : goal.returns-then-end-lt-SUBFRAME_CELLS-clause-none
-returns-then-end-lt-SUBFRAME_CELLS-clause-none c = λ l f. (goes-next c l f).1
-
-pub returns-then-end-lt-SUBFRAME_CELLS-clause-stops : goal.returns-then-end-lt-SUBFRAME_CELLS-clause-stops
-returns-then-end-lt-SUBFRAME_CELLS-clause-stops c = λ r l f.
-    let n = c.min-taken.ensures in
-    let h = ltb-true _ _ r in
-    let s = (begun c).short in
-    part-ends (was c) (next c) c.args.candidate l c.args.word c.completed-cells.result c.min-taken.result (followed c l f) (held c) (joined c)
-    (goes-next c l f).0 (next-seen c) (next-held c) (begun c)
-    (next-wrong c.args.candidate c.completed-cells.result (c.self.inside.seen - c.args.candidate.at) c.wrong_cells.result c.mark_of.result (omega arith) c.mark_of.ensures c.wrong_cells.ensures
-    c.min-taken.result (omega (arith, n, h)) s)
+pub returns-then-end-lt-SUBFRAME_CELLS-clause-report : goal.returns-then-end-lt-SUBFRAME_CELLS-clause-report
+returns-then-end-lt-SUBFRAME_CELLS-clause-report c = λ l f.
+    none-told (report_in (next c)) l c.args.word c.min-taken.result c.quiet.result.taken c.quiet.result.ending c.quiet.ensures.taken c.quiet.ensures.ending (goes-next c l f).1
 
 -- or it is
-abbrev whole : goal.After-self-3-1 → LockState
+abbrev whole : After-quiet-2 → LockState
 whole c = record {
   seen = c.self-2.inside.seen;
   recent = low_cells 8 c.self-2.inside.recent;
@@ -106,20 +123,20 @@ whole c = record {
   words = c.keep.new.self;
 }
 
-goes-whole : (c : goal.After-self-3-1) (l : List Level) → Follows c.args.self.now l
+goes-whole : (c : After-quiet-2) (l : List Level) → Follows c.args.self.now l
     → Follows (whole c) (l ++ low_cells c.min-taken.result c.args.word) × (decided (l ++ low_cells c.min-taken.result c.args.word) ≡ decided l)
 goes-whole c l f =
     let b = block_len_24576 in
     let o = c.if-offset-ge-BLOCK_CELLS.false in
-    let m = c.min-room.ensures in
-    let n = c.min-taken.ensures in
+    let h = c.if-right-taken.false in
+    let m = c.min-taken.ensures in
     let e = c.if-end-lt-SUBFRAME_CELLS.false in
     let t = c.from.ensures in
     part-whole _ c.args.candidate l c.args.word c.completed-cells.result c.min-taken.result (subst (λ k. Follows k l) (sym c.self.view_is) f)
     (ap (λ (k : LockState). k.candidate) c.self.view_is ∙ c.requires.in_hand)
-    (record { cells = c.completed-cells.ensures; fits = omega (arith, m, n); room = omega (arith, b, o) })
+    (record { cells = c.completed-cells.ensures; fits = omega (arith, m); room = omega (arith, b, o) })
     (all-right c.args.candidate c.completed-cells.result (c.self.inside.seen - c.args.candidate.at) c.wrong_cells.result c.mark_of.result (omega arith) c.mark_of.ensures c.wrong_cells.ensures
-    c.min-taken.result (omega (arith, m, n)) (omega (arith, m, n)))
+    c.min-taken.result (omega (arith, h)) (omega (arith, m)))
     (whole c)
     (ap (λ (k : LockState). k.seen) c.self-2.view_is ∙ c.count.ensures.seen ∙ ap (λ (k : LockState). k.seen + c.min-taken.result) (sym c.self.view_is))
     (ap (λ (k : LockState). k.recent) c.self-2.view_is ∙ c.count.ensures.recent
@@ -127,10 +144,11 @@ goes-whole c l f =
     (ap (λ v. Some (record { at = c.args.candidate.at; before = c.args.candidate.before; level = v })) c.last_of.ensures) refl
     (c.keep.ensures ∙ ap (λ v. set v ((c.self.inside.seen - c.args.candidate.at) / 64) c.completed-cells.result)
     (ap (λ (k : LockState). k.words) c.self-2.view_is ∙ c.count.ensures.words ∙ ap (λ (k : LockState). k.words) (sym c.self.view_is)))
-    c.self.invariant.1 (omega (arith, e, t, m, n))
+    c.self.invariant.1 (omega (arith, e, t, m))
 
 pub returns-clause-follows : goal.returns-clause-follows
-returns-clause-follows c = λ l f. (goes-whole c l f).0
+returns-clause-follows c = λ l f. subst (λ m. Follows (whole c) (l ++ low_cells m c.args.word)) (sym c.quiet-2.ensures.taken) (goes-whole c l f).0
 
-pub returns-clause-none : goal.returns-clause-none
-returns-clause-none c = λ l f. (goes-whole c l f).1
+pub returns-clause-report : goal.returns-clause-report
+returns-clause-report c = λ l f.
+    none-told (report_in (whole c)) l c.args.word c.min-taken.result c.quiet-2.result.taken c.quiet-2.result.ending c.quiet-2.ensures.taken c.quiet-2.ensures.ending (goes-whole c l f).1

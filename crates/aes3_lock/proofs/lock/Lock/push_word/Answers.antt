@@ -1,4 +1,4 @@
-use Rattle.std.proofs.Common.{◌≡◌, ◌++◌, refl, subst, ap, ◌∙◌, sym, arith}
+use Rattle.std.proofs.Common.{◌≡◌, ◌++◌, subst, ap, ◌∙◌, sym, arith}
 use Rattle.std.specs.Prelude.{option_map, option_to_list}
 use Rattle.aes3_cell.specs.Words.{low_cells, word_cells, word_len}
 use Rattle.aes3_cell.proofs.WordCells.{length-low_cells}
@@ -15,8 +15,7 @@ loop-taken-preserved c =
     let t = c.loop-taken-test.true in record {
       within = let w = e.within in omega (arith, w, t);
       seen = let w = e.seen in let s = i.seen in omega (arith, w, s);
-      follows = λ l f. more-follows c.loop-taken.self c.push_front-pushed.new.self l c.loop-taken.taken c.push_front-pushed.result.taken c.push_front-pushed.result.taken
-          c.args.word refl e.follows (i.follows l f);
+      follows = λ l f. more-follows c.loop-taken.self c.push_front-pushed.new.self l c.loop-taken.taken c.push_front-pushed.result.taken c.args.word e.follows (i.follows l f);
       reports = λ l f. more-told c.loop-taken.self l c.loop-taken.taken c.push_front-pushed.result.taken c.args.word c.loop-taken.out.items c.tell.new.out.items
           (option_to_list (option_map (report_in c.push_front-pushed.new.self) c.push_front-pushed.result.ending)) (let w = i.within in omega (arith, w))
           e.report (i.follows l f) (i.reports l f) c.tell.ensures;
