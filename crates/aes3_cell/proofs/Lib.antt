@@ -21,3 +21,5 @@ pub mod ManyWords
 pub mod EightWords
 pub mod TextLines
 pub mod FedLists
+pub mod KeptCells
+pub mod ScatteredText

@@ -1,6 +1,7 @@
 pub mod Cells
 pub mod Words
 pub mod Text
+pub mod Scattered
 pub mod CellText
 pub mod Packed
 pub mod Ends

@@ -17,6 +17,7 @@ mod packed_in;
 mod packed_out;
 mod packed_words;
 mod refusal;
+mod scattered;
 mod short;
 mod standard;
 mod text_in;

@@ -20,12 +20,14 @@ impl Model for CellText {
 ghost use Rattle.std.specs.Prelude.{◌≡◌, ◌≢◌, ◌+◌, ◌*◌, ◌<◌, ◌≤◌, ◌^◌, ℕ, [], drop, length, map};
 ghost use Rattle.std.specs.Prelude.{slice_index_or, take, IfSome, OnSome, IfNone};
 ghost use Rattle.std.specs.List.{flat_map};
+ghost use Rattle.aes3_cell.specs.CellText.{IsCellText, cells_of_text};
 ghost use Rattle.aes3_cell.specs.Text.{byte_of, line_text, text_of, IsCellByte};
 ghost use Rattle.aes3_cell.specs.Words.{low_cells, word_cells};
 ghost use Rattle.aes3_cell.specs.TextReading.{text_answer, text_next, text_reader_of};
 
 use crate::level::Level;
 use crate::refusal::BadCell;
+use crate::scattered::cells_among;
 use crate::text_words::{SomeCells, front_cells, words_of_lines};
 use crate::word::{LINE_LEN, word_of_text};
 
@@ -98,6 +100,23 @@ impl CellText {
         let taken = words_of_lines(text, words);
         self.seen += (LINE_LEN * taken) as u64;
         taken
+    }
+
+    /// Takes 64 bytes that are all cells and separators, and answers their cells; else it takes none
+    /// of them.
+    #[inline(always)]
+    pub fn feed_scattered(&mut self, bytes: &[u8; 64]) -> Option<SomeCells>
+        requires { self.old.seen + 64 ≤ 2 ^ 40 }
+        ensures cells { IfSome result (λ cells. cells_of_text bytes.now
+            ≡ low_cells cells.len cells.word) }
+        ensures lawful { OnSome result (IsCellText bytes.now) }
+        ensures owed { IfNone result (¬ IsCellText bytes.now) }
+        ensures seen { OnSome result (self.new.seen ≡ self.old.seen + 64) }
+        ensures none { IfNone result (self.new ≡ self.old) }
+    {
+        let cells = cells_among(bytes)?;
+        self.seen += bytes.len() as u64;
+        Some(cells)
     }
 
     /// Takes the cells that come first, at most 64.

@@ -1,0 +1,93 @@
+//! Cells among separators, 64 bytes at once.
+
+ghost use Rattle.std.specs.Prelude.{◌≡◌, ◌+◌, ◌*◌, ◌/◌, ◌%◌, ◌^◌, ◌<◌, ◌≤◌, ◌++◌, ℕ, List};
+ghost use Rattle.std.specs.Prelude.{IfNone, IfSome, OnSome, get_or, length};
+ghost use Rattle.aes3_cell.specs.declared.level.Level.{Level};
+ghost use Rattle.aes3_cell.specs.CellText.{IsCellText, cells_of_text};
+ghost use Rattle.aes3_cell.specs.Scattered.{Holds, kept_cells};
+ghost use Rattle.aes3_cell.specs.Words.{low_cells};
+
+use crate::text_words::SomeCells;
+use crate::word::equal_to;
+use std::simd::prelude::*;
+
+/// The cells among four bytes, close together, the first in the lowest bit: by which of the four are
+/// cells (the low four bits of the place) and which of them are high (the high four).
+const TOGETHER: [u8; 256] = [
+    0, 0, 0, 0, 0, 0, 0, 0, 0, 0, 0, 0, 0, 0, 0, 0, 0, 1, 0, 1, 0, 1, 0, 1, 0, 1, 0, 1, 0, 1, 0, 1,
+    0, 0, 1, 2, 0, 0, 1, 2, 0, 0, 1, 2, 0, 0, 1, 2, 0, 1, 1, 3, 0, 1, 1, 3, 0, 1, 1, 3, 0, 1, 1, 3,
+    0, 0, 0, 0, 1, 2, 2, 4, 0, 0, 0, 0, 1, 2, 2, 4, 0, 1, 0, 1, 1, 3, 2, 5, 0, 1, 0, 1, 1, 3, 2, 5,
+    0, 0, 1, 2, 1, 2, 3, 6, 0, 0, 1, 2, 1, 2, 3, 6, 0, 1, 1, 3, 1, 3, 3, 7, 0, 1, 1, 3, 1, 3, 3, 7,
+    0, 0, 0, 0, 0, 0, 0, 0, 1, 2, 2, 4, 2, 4, 4, 8, 0, 1, 0, 1, 0, 1, 0, 1, 1, 3, 2, 5, 2, 5, 4, 9,
+    0, 0, 1, 2, 0, 0, 1, 2, 1, 2, 3, 6, 2, 4, 5, 10, 0, 1, 1, 3, 0, 1, 1, 3, 1, 3, 3, 7, 2, 5, 5,
+    11, 0, 0, 0, 0, 1, 2, 2, 4, 1, 2, 2, 4, 3, 6, 6, 12, 0, 1, 0, 1, 1, 3, 2, 5, 1, 3, 2, 5, 3, 7,
+    6, 13, 0, 0, 1, 2, 1, 2, 3, 6, 1, 2, 3, 6, 3, 6, 7, 14, 0, 1, 1, 3, 1, 3, 3, 7, 1, 3, 3, 7, 3,
+    7, 7, 15,
+];
+
+/// How many cells these are.
+const COUNTS: [u8; 256] = [
+    0, 1, 1, 2, 1, 2, 2, 3, 1, 2, 2, 3, 2, 3, 3, 4, 0, 1, 1, 2, 1, 2, 2, 3, 1, 2, 2, 3, 2, 3, 3, 4,
+    0, 1, 1, 2, 1, 2, 2, 3, 1, 2, 2, 3, 2, 3, 3, 4, 0, 1, 1, 2, 1, 2, 2, 3, 1, 2, 2, 3, 2, 3, 3, 4,
+    0, 1, 1, 2, 1, 2, 2, 3, 1, 2, 2, 3, 2, 3, 3, 4, 0, 1, 1, 2, 1, 2, 2, 3, 1, 2, 2, 3, 2, 3, 3, 4,
+    0, 1, 1, 2, 1, 2, 2, 3, 1, 2, 2, 3, 2, 3, 3, 4, 0, 1, 1, 2, 1, 2, 2, 3, 1, 2, 2, 3, 2, 3, 3, 4,
+    0, 1, 1, 2, 1, 2, 2, 3, 1, 2, 2, 3, 2, 3, 3, 4, 0, 1, 1, 2, 1, 2, 2, 3, 1, 2, 2, 3, 2, 3, 3, 4,
+    0, 1, 1, 2, 1, 2, 2, 3, 1, 2, 2, 3, 2, 3, 3, 4, 0, 1, 1, 2, 1, 2, 2, 3, 1, 2, 2, 3, 2, 3, 3, 4,
+    0, 1, 1, 2, 1, 2, 2, 3, 1, 2, 2, 3, 2, 3, 3, 4, 0, 1, 1, 2, 1, 2, 2, 3, 1, 2, 2, 3, 2, 3, 3, 4,
+    0, 1, 1, 2, 1, 2, 2, 3, 1, 2, 2, 3, 2, 3, 3, 4, 0, 1, 1, 2, 1, 2, 2, 3, 1, 2, 2, 3, 2, 3, 3, 4,
+];
+
+/// The places in the tables of four bytes in each eight: of those at the low bits of each octet.
+#[inline(always)]
+fn places(kept: u64, levels: u64) -> [u8; 8]
+    ensures { (i : ℕ) → i < 8 → get_or result i 0
+        ≡ kept / 2 ^ (8 * i) % 16 + 16 * (levels / 2 ^ (8 * i) % 16) }
+{
+    let kept = u8x8::from_array(kept.to_le_bytes()) & u8x8::splat(15);
+    let levels = u8x8::from_array(levels.to_le_bytes()) << u8x8::splat(4);
+    (kept | levels).to_array()
+}
+
+/// The cells of a word behind those of the four bytes of a place.
+#[inline(always)]
+fn behind_four(place: u8, word: u64) -> u64
+    ensures { (cells : List Level) → length cells ≤ 60 → Holds cells word
+        → Holds (kept_cells 4 (place % 16) (place / 16) ++ cells) result }
+{
+    word << u32::from(COUNTS[usize::from(place)]) | u64::from(TOGETHER[usize::from(place)])
+}
+
+/// The bits of `levels` at the ones of `kept`, close together, the first in the lowest bit.
+#[inline(always)]
+fn together(kept: u64, levels: u64) -> SomeCells
+    ensures { low_cells result.len result.word ≡ kept_cells 64 kept levels }
+{
+    let low = places(kept, levels);
+    let high = places(kept >> 4, levels >> 4);
+    let mut word = 0;
+    for i in 0..8 {
+        word = behind_four(low[7 - i], behind_four(high[7 - i], word));
+    }
+    SomeCells {
+        word,
+        len: kept.count_ones(),
+    }
+}
+
+/// The cells of 64 bytes, each a cell or a separator; none where one is neither.
+#[inline(always)]
+pub(crate) fn cells_among(bytes: &[u8; 64]) -> Option<SomeCells>
+    ensures cells { IfSome result (λ cells. cells_of_text bytes.now
+        ≡ low_cells cells.len cells.word) }
+    ensures lawful { OnSome result (IsCellText bytes.now) }
+    ensures owed { IfNone result (¬ IsCellText bytes.now) }
+{
+    let high = equal_to(bytes, b'1');
+    let cells = high | equal_to(bytes, b'0');
+    let separators = equal_to(bytes, b'\n') | equal_to(bytes, b'\r') | equal_to(bytes, b' ');
+    if cells | separators == u64::MAX {
+        Some(together(cells, high))
+    } else {
+        None
+    }
+}
