@@ -1,5 +1,5 @@
 -- Cells and words handed to a taker, one behind the other.
-use Rattle.std.proofs.Common.{◌≡◌, ℕ, ◌+◌, ◌-◌, ◌/◌, ◌*◌, ◌^◌, ◌<◌, ◌≤◌, length, length-append, take, drop, get_or, set, Result, List, [], ◌∷◌, ◌++◌, Option, sym, ap, ◌∙◌, subst, arith, append-nil, append_assoc}
+use Rattle.std.proofs.Common.{◌≡◌, ℕ, ◌+◌, ◌-◌, ◌/◌, ◌*◌, ◌^◌, ◌<◌, ◌≤◌, length, length-append, take, drop, get_or, set, Result, Ok, Err, refl, List, [], ◌∷◌, ◌++◌, Option, sym, ap, ◌∙◌, subst, arith, append-nil, append_assoc}
 use Rattle.std.specs.List.{flat_map}
 use Rattle.std.proofs.lemmas.Grind.{flat_map-append}
 use Rattle.std.proofs.lemmas.List.{take_more, take_more_set, take-append-drop}
@@ -25,6 +25,10 @@ pub record Handed (w₀ w : Writing Level) (f₀ f : List Level → Type 0) (t�
 pub handed-is : {w₀ w : Writing Level} {f₀ f : List Level → Type 0} {t₀ t : Option (List ℕ)} {a b : List Level} → a ≡ b → Handed w₀ w f₀ f t₀ t a → Handed w₀ w f₀ f t₀ t b
 handed-is {w₀} {w} {f₀} {f} {t₀} {t} e h = subst (λ (z : List Level). Handed w₀ w f₀ f t₀ t z) e h
 
+handed-ran : {w₀ w : Writing Level} {f₀ f : List Level → Type 0} {t₀ t : Option (List ℕ)} {a : List Level} → w ≡ w₀ → ((c : List Level) → f₀ c → f (c ++ a))
+    → ((c : List Level) → f₀ c → Grew t₀ t (behind w₀ c a)) → Handed w₀ w f₀ f t₀ t a
+handed-ran s n g = record { same = s; follows = n; grew = g }
+
 -- what more cells write
 more-behind : {w₀ w : Writing Level} (a b d : List Level) → d ≡ a ++ b → w ≡ w₀ → (c : List Level) → behind w₀ c d ≡ behind w₀ c a ++ behind w (c ++ a) b
 more-behind {w₀} {w} a b d e s c =
@@ -44,6 +48,11 @@ pub handed-cells-front : {w₀ w : Writing Level} {f₀ f : List Level → Type 
 handed-cells-front {w₀} {a = a} {d = d} b more e m h g c q =
     front-is (sym (ap (behind w₀ c) m ∙ items-join w₀ c d more))
     (front-more (front-is (sym (more-behind a b d e h.same c)) (front-join (h.grew c q) (g (c ++ a) (h.follows c q)))) (behind w₀ (c ++ d) more))
+
+-- a front of what cells write is one of what they write with more behind them
+pub front-of-more : (w₀ : Writing Level) (f₀ : List Level → Type 0) (t₀ t : Option (List ℕ)) (a more : List Level)
+    → ((c : List Level) → f₀ c → GrewFront t₀ t (behind w₀ c a)) → (c : List Level) → f₀ c → GrewFront t₀ t (behind w₀ c (a ++ more))
+front-of-more w₀ f₀ t₀ t a more g c q = front-is (sym (items-join w₀ c a more)) (front-more (g c q) (behind w₀ (c ++ a) more))
 
 -- the first cells of a word, and the others
 pub cells-parted : (w i n : ℕ) → i ≤ n → low_cells n w ≡ low_cells i w ++ low_cells (n - i) (w / 2 ^ i)
@@ -83,3 +92,13 @@ words-further ws rest i n e =
 pub cells-ran-is : (w₀ w : Writing Level) (f₀ f : List Level → Type 0) (d e : List Level) (sink : Movement) (result : Result (Unit {0}) Fault) → d ≡ e
     → CellsRan w₀ w f₀ f d sink result → CellsRan w₀ w f₀ f e sink result
 cells-ran-is w₀ w f₀ f d e sink result q r = subst (λ (z : List Level). CellsRan w₀ w f₀ f z sink result) q r
+
+-- more cells behind those handed on
+pub cells-ran-behind : (w₀ w w' : Writing Level) (f₀ f f' : List Level → Type 0) (a b : List Level) (t₀ t t' : Option (List ℕ)) (n₀ n n' : ℕ) (result : Result (Unit {0}) Fault)
+    → CellsRan w₀ w f₀ f a (record { old = t₀; new = t; failed_old = n₀; failed_new = n }) (Ok tt)
+    → CellsRan w w' f f' b (record { old = t; new = t'; failed_old = n; failed_new = n' }) result
+    → CellsRan w₀ w' f₀ f' (a ++ b) (record { old = t₀; new = t'; failed_old = n₀; failed_new = n' }) result
+cells-ran-behind w₀ w w' f₀ f f' a b t₀ t t' n₀ n n' (Ok u) p q =
+    let h : Handed w₀ w' f₀ f' t₀ t' (a ++ b) = handed-cells b refl (handed-ran p.0 p.1 p.2) q.0 q.1 q.2 in (h.same, h.follows, h.grew, q.3 ∙ p.3)
+cells-ran-behind w₀ w w' f₀ f f' a b t₀ t t' n₀ n n' (Err x) p q =
+    (q.0 ∙ ap (λ k. k + 1) p.3, handed-cells-front b [] refl (sym (append-nil (a ++ b))) (handed-ran p.0 p.1 p.2) q.1)

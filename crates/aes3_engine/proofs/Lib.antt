@@ -24,3 +24,4 @@ pub mod PackedLemmas
 pub mod PackedRuns
 pub mod Fronts
 pub mod CellBytes
+pub mod Chunks

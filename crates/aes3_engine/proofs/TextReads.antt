@@ -1,10 +1,12 @@
 -- Bytes of cell text that a reader took, joined.
-use Rattle.std.proofs.Common.{◌≡◌, ℕ, ◌+◌, List, [], ◌∷◌, ◌++◌, true, Option, Ok, length, take, drop, map, refl, ap, ap₂, sym, ◌∙◌, subst, arith, length-append}
-use Rattle.std.proofs.lemmas.List.{length-map}
+use Rattle.std.proofs.Common.{◌≡◌, ℕ, ◌+◌, ◌≤◌, List, [], ◌∷◌, ◌++◌, true, Option, Some, None, Ok, length, take, drop, map, refl, ap, ap₂, sym, ◌∙◌, subst, arith, length-append}
+use Rattle.std.proofs.lemmas.List.{length-map, length-take-le}
 use Rattle.std.proofs.Math.Seq.{take-add}
 use Rattle.aes3_cell.specs.declared.level.Level.{Level}
 use Rattle.aes3_cell.specs.Text.{byte_of}
-use Rattle.aes3_cell.specs.Words.{word_cells}
+use Rattle.std.specs.Prelude.{IfSome, OnSome}
+use Rattle.aes3_cell.specs.declared.text_words.SomeCells.{SomeCells}
+use Rattle.aes3_cell.specs.Words.{low_cells, word_cells}
 use Rattle.aes3_cell.specs.CellText.{Kind, cell, separator, bad, kind_of, is_good, kind_cells, is_good_byte, byte_cells, good_bytes, cells_of_text, IsCellText}
 use Rattle.aes3_cell.specs.TextReading.{TextReader, text_answer, kind_next, text_next}
 use Rattle.aes3_cell.proofs.CellTexts.{answer-ok, text-join, cells-join, text-more, cells-more, cells-text}
@@ -62,3 +64,14 @@ read-word r s bytes w e n =
       cells = ap cells_of_text e ∙ c.1;
       seen = omega arith;
     }
+
+-- a chunk
+pub read-chunk : (r s : TextReader) (xs bytes : List ℕ) (o : Option SomeCells) → bytes ≡ take 64 xs → 64 ≤ length xs
+    → IfSome o (λ c. cells_of_text bytes ≡ low_cells c.len c.word) → OnSome o (IsCellText bytes) → OnSome o (s.seen ≡ r.seen + 64)
+    → IfSome o (λ c. TextRead r s (take 64 xs) (low_cells c.len c.word))
+read-chunk r s xs bytes (Some c) e l p q n = record {
+  lawful = subst IsCellText e q;
+  cells = ap cells_of_text (sym e) ∙ p;
+  seen = n ∙ ap (λ k. r.seen + k) (sym (length-take-le 64 xs l));
+}
+read-chunk r s xs bytes None e l p q n = tt

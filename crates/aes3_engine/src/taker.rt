@@ -96,6 +96,31 @@ pub trait Taker {
         Ok(())
     }
 
+    /// Takes 64 more cells for each word, and `len` of one more word behind them.
+    ///
+    /// # Errors
+    /// The sink's fault; then it has taken a front of what the cells write.
+    fn words_and_cells<T: Sink>(
+        &mut self,
+        sink: &mut T,
+        words: &[u64],
+        word: u64,
+        len: u32,
+    ) -> Result<(), Fault>
+        requires few { len ≤ 64 }
+        requires room { T.failed sink.old + 1 < 2 ^ 64 }
+        requires following { (c : List Level) × (length c + 64 * length words.now + len ≤ 2 ^ 43)
+            × follows self.old c }
+        ensures ran { CellsRan (writes self.old) (writes self.new) (follows self.old)
+            (follows self.new) (flat_map word_cells words.now ++ low_cells len word)
+            (movement_of T.taken T.failed sink.old sink.new) result }
+    {
+        match self.words(sink, words) {
+            Ok(()) => self.cells(sink, word, len),
+            Err(fault) => Err(fault),
+        }
+    }
+
     /// Takes one more cell.
     ///
     /// # Errors

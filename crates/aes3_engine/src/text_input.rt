@@ -2,7 +2,7 @@
 
 ghost use Rattle.std.specs.Prelude.{◌≡◌, ℕ, ◌+◌, ◌<◌, ◌≤◌, ◌^◌, ◌++◌, List, [], ◌∷◌, length, map};
 ghost use Rattle.std.specs.Prelude.{take, slice_index, Err, IfOk, IfErr, OnErr, IfSome, OnSome};
-ghost use Rattle.std.specs.Prelude.{true, IfNone, IsTrue, ◌↔◌};
+ghost use Rattle.std.specs.Prelude.{if◌then◌else◌, true, IfNone, IsTrue, ◌↔◌};
 ghost use Rattle.std.specs.List.{flat_map};
 ghost use Rattle.aes3_cell.specs.CellText.{byte_cells, cells_of_text, is_good_byte, kind_of};
 ghost use Rattle.aes3_cell.specs.CellText.{separator};
@@ -15,7 +15,9 @@ ghost use Rattle.aes3_engine.specs.Running.{FrontRan, movement_of};
 
 use crate::conversion::{Input, convert};
 use crate::taker::Taker;
-use aes3_cell::{BadCell, CellText, Form, LINE_LEN, RunError, Sink, Source, word_of_text};
+use aes3_cell::{
+    BadCell, CellText, Form, LINE_LEN, RunError, Sink, SomeCells, Source, word_of_text,
+};
 
 /// How many lines become words at once.
 const LINES: usize = 64;
@@ -151,52 +153,6 @@ fn feed_lines(text: &mut CellText, piece: &[u8], words: &mut [u64; LINES]) -> (u
     (LINE_LEN * count, count)
 }
 
-/// Cells, the first in the lowest bit.
-#[derive(Clone, Copy)]
-struct SomeCells {
-    word: u64,
-    len: u32,
-}
-
-/// Cells with that of one more byte behind them, if it is a cell and no separator. No jump depends
-/// on which it is, since where lines end can't be foreseen: bit 4 is set in the bytes of cells
-/// alone, bit 5 in those and a space, and bit 0 tells the level.
-fn with_cell_of(cells: SomeCells, byte: u8) -> SomeCells
-    requires few { cells.len < 64 }
-    requires bound { cells.word < 2 ^ cells.len }
-    requires good { is_good_byte byte ≡ true }
-    ensures cells { low_cells result.len result.word
-        ≡ low_cells cells.len cells.word ++ byte_cells byte }
-    ensures few { result.len ≤ 64 }
-    ensures bound { result.word < 2 ^ result.len }
-{
-    let high = byte & (byte >> 5) & 1;
-    let count = (byte >> 4) & 1;
-    SomeCells {
-        word: cells.word | u64::from(high) << cells.len,
-        len: cells.len + u32::from(count),
-    }
-}
-
-/// Takes one more byte, and puts its cell behind the others.
-fn with_byte(text: &mut CellText, cells: SomeCells, byte: u8) -> Result<SomeCells, BadCell>
-    requires room { text.old.seen < 2 ^ 40 }
-    requires few { cells.len < 64 }
-    requires bound { cells.word < 2 ^ cells.len }
-    ensures read { IfOk result (λ _. TextRead text.old text.new (byte ∷ []) (byte_cells byte)) }
-    ensures cells { IfOk result (λ more. low_cells more.len more.word
-        ≡ low_cells cells.len cells.word ++ byte_cells byte) }
-    ensures few { IfOk result (λ more. more.len ≤ 64) }
-    ensures bound { IfOk result (λ more. more.word < 2 ^ more.len) }
-    ensures fault { IfErr result (λ fault. Err fault ≡ text_answer text.old byte) }
-    ensures same { OnErr result (text.new ≡ text.old) }
-{
-    match text.feed_byte(byte) {
-        Ok(_) => Ok(with_cell_of(cells, byte)),
-        Err(fault) => Err(fault),
-    }
-}
-
 /// Whether text begins with eight cells: where it doesn't, there is no need to look at 64. Most
 /// text in short lines never does, so the jump that depends on it is foreseen.
 fn begins_with_cells(text: &[u8]) -> bool {
@@ -215,25 +171,187 @@ fn is_line(text: &[u8]) -> bool {
 }
 
 /// Whether a line of 64 cells begins at a place of a piece: a line feed stands before it, and a
-/// separator behind it. No promise rests on it: where cells are gathered only up to there, the
-/// lines behind are met at their beginning.
+/// separator behind it. No promise rests on it: where chunks end there, the lines behind are read
+/// as lines. Chunks of 64 bytes and lines of 65 meet within 65 chunks.
 fn begins_line(piece: &[u8], at: usize) -> bool
-    requires some { 0 < at }
     requires within { at ≤ length piece.now }
 {
-    piece.len() - at > LINE_CELLS
+    at > 0
+        && piece.len() - at > LINE_CELLS
         && (piece[at - 1] == b'\n') & begins_with_cells(&piece[at..])
         && is_separator(piece[at + LINE_CELLS])
         && is_line(&piece[at..])
 }
 
-/// Takes the bytes that a piece begins with, until they have 64 cells, a line of so many begins, or
-/// a byte is neither a cell nor a separator. Answers how many bytes these are, and their cells.
+/// No cells.
+fn no_cells() -> SomeCells
+    ensures { result.len ≡ 0 }
+{
+    SomeCells { word: 0, len: 0 }
+}
+
+/// Some cells with others behind them.
+#[derive(Drop)]
+struct Joined {
+    /// Whether they make a word.
+    full: bool,
+    /// The word, where they do.
+    word: u64,
+    /// Those behind the word, or all.
+    rest: SomeCells,
+}
+
+/// Cells with others behind them.
+#[inline(always)]
+fn join(front: SomeCells, back: SomeCells) -> Joined
+    requires few { front.len < 64 }
+    ensures cells { (if result.full then word_cells result.word else [])
+        ++ low_cells result.rest.len result.rest.word
+        ≡ low_cells front.len front.word ++ low_cells back.len back.word }
+    ensures few { result.rest.len < 64 }
+{
+    let word = front.word | back.word << front.len;
+    let len = front.len + back.len;
+    if len < u64::BITS {
+        let rest = SomeCells { word, len };
+        return Joined {
+            full: false,
+            word,
+            rest,
+        };
+    }
+    // No shift reaches 64.
+    let behind = back.word >> 1 >> (63 - front.len);
+    let rest = SomeCells {
+        word: behind,
+        len: len - u64::BITS,
+    };
+    Joined {
+        full: true,
+        word,
+        rest,
+    }
+}
+
+/// The front of a piece, taken.
+#[derive(Drop)]
+struct Taken {
+    /// How many bytes it has.
+    bytes: usize,
+    /// How many words its cells make.
+    count: usize,
+    /// The cells behind these words.
+    rest: SomeCells,
+}
+
+/// Takes the 64 bytes that a piece begins with, where they are all cells and separators, and
+/// answers their cells; else none.
+#[inline(always)]
+fn feed_chunk(text: &mut CellText, piece: &[u8]) -> Option<SomeCells>
+    requires { text.old.seen + length piece.now ≤ 2 ^ 40 }
+    ensures bound { OnSome result (64 ≤ length piece.now) }
+    ensures read { IfSome result (λ cells. TextRead text.old text.new (take 64 piece.now)
+        (low_cells cells.len cells.word)) }
+    ensures none { IfNone result (text.new ≡ text.old) }
+{
+    match piece.first_chunk() {
+        Some(bytes) => text.feed_scattered(bytes),
+        None => None,
+    }
+}
+
+/// Takes the chunks of 64 bytes that a piece begins with, each of cells and separators, up to a
+/// line of 64 cells or as many words as there are.
+fn feed_chunks(text: &mut CellText, piece: &[u8], words: &mut [u64; LINES]) -> Taken
+    requires { text.old.seen + length piece.now ≤ 2 ^ 40 }
+    ensures within { result.bytes ≤ length piece.now }
+    ensures few { result.count ≤ 64 }
+    ensures len { length words.new ≡ 64 }
+    ensures read { TextRead text.old text.new (take result.bytes piece.now)
+        (flat_map word_cells (take result.count words.new)
+        ++ low_cells result.rest.len result.rest.word) }
+    ensures none { result.bytes ≡ 0 → text.new ≡ text.old }
+{
+    let mut bytes = 0;
+    let mut count = 0;
+    let mut rest = no_cells();
+    while count < LINES && !begins_line(piece, bytes) {
+        match feed_chunk(text, &piece[bytes..]) {
+            Some(cells) => {
+                let more = join(rest, cells);
+                words[count] = more.word;
+                count += usize::from(more.full);
+                rest = more.rest;
+                bytes += 64;
+            }
+            None => return Taken { bytes, count, rest },
+        }
+    }
+    Taken { bytes, count, rest }
+}
+
+/// Takes the lines of 64 cells that a piece begins with, or where there are none the chunks of 64
+/// bytes.
+fn feed_words(text: &mut CellText, piece: &[u8], words: &mut [u64; LINES]) -> Taken
+    requires { text.old.seen + length piece.now ≤ 2 ^ 40 }
+    ensures within { result.bytes ≤ length piece.now }
+    ensures few { result.count ≤ 64 }
+    ensures len { length words.new ≡ 64 }
+    ensures read { TextRead text.old text.new (take result.bytes piece.now)
+        (flat_map word_cells (take result.count words.new)
+        ++ low_cells result.rest.len result.rest.word) }
+    ensures none { result.bytes ≡ 0 → text.new ≡ text.old }
+{
+    let (bytes, count) = feed_lines(text, piece, words);
+    if bytes == 0 {
+        return feed_chunks(text, piece, words);
+    }
+    Taken {
+        bytes,
+        count,
+        rest: no_cells(),
+    }
+}
+
+/// Cells with that of one more byte behind them, if it is a cell and no separator. No jump depends
+/// on which it is, since where lines end can't be foreseen: bit 4 is set in the bytes of cells
+/// alone, bit 5 in those and a space, and bit 0 tells the level.
+fn with_cell_of(cells: SomeCells, byte: u8) -> SomeCells
+    requires few { cells.len < 64 }
+    requires good { is_good_byte byte ≡ true }
+    ensures { low_cells result.len result.word
+        ≡ low_cells cells.len cells.word ++ byte_cells byte }
+{
+    let high = byte & (byte >> 5) & 1;
+    let count = (byte >> 4) & 1;
+    SomeCells {
+        word: cells.word | u64::from(high) << cells.len,
+        len: cells.len + u32::from(count),
+    }
+}
+
+/// Takes one more byte, and puts its cell behind the others.
+fn with_byte(text: &mut CellText, cells: SomeCells, byte: u8) -> Result<SomeCells, BadCell>
+    requires room { text.old.seen < 2 ^ 40 }
+    requires few { cells.len < 64 }
+    ensures read { IfOk result (λ _. TextRead text.old text.new (byte ∷ []) (byte_cells byte)) }
+    ensures cells { IfOk result (λ more. low_cells more.len more.word
+        ≡ low_cells cells.len cells.word ++ byte_cells byte) }
+    ensures fault { IfErr result (λ fault. Err fault ≡ text_answer text.old byte) }
+    ensures same { OnErr result (text.new ≡ text.old) }
+{
+    match text.feed_byte(byte) {
+        Ok(_) => Ok(with_cell_of(cells, byte)),
+        Err(fault) => Err(fault),
+    }
+}
+
+/// Takes the bytes that a piece begins with, until they have 64 cells or a byte is neither a cell nor
+/// a separator. Answers how many bytes these are, and their cells.
 fn feed_some(text: &mut CellText, piece: &[u8]) -> Result<(usize, SomeCells), BadCell>
     requires some { 0 < length piece.now }
     requires room { text.old.seen + length piece.now ≤ 2 ^ 40 }
     ensures within { IfOk result (λ taken. (0 < taken.0) × (taken.0 ≤ length piece.now)) }
-    ensures few { IfOk result (λ taken. taken.1.len ≤ 64) }
     ensures read { IfOk result (λ taken. TextRead text.old text.new (take taken.0 piece.now)
         (low_cells taken.1.len taken.1.word)) }
     ensures fault { IfErr result (λ fault. Err fault
@@ -245,7 +363,7 @@ fn feed_some(text: &mut CellText, piece: &[u8]) -> Result<(usize, SomeCells), Ba
         Err(fault) => return Err(fault),
     };
     let mut at = 1;
-    while at < piece.len() && cells.len < u64::BITS && !begins_line(piece, at) {
+    while at < piece.len() && cells.len < u64::BITS {
         match with_byte(text, cells, piece[at]) {
             Ok(more) => {
                 cells = more;
@@ -263,7 +381,6 @@ fn feed_cells(text: &mut CellText, piece: &[u8]) -> Result<(usize, SomeCells), B
     requires some { 0 < length piece.now }
     requires room { text.old.seen + length piece.now ≤ 2 ^ 40 }
     ensures within { IfOk result (λ taken. (0 < taken.0) × (taken.0 ≤ length piece.now)) }
-    ensures few { IfOk result (λ taken. taken.1.len ≤ 64) }
     ensures read { IfOk result (λ taken. TextRead text.old text.new (take taken.0 piece.now)
         (low_cells taken.1.len taken.1.word)) }
     ensures fault { IfErr result (λ fault. Err fault
@@ -347,14 +464,15 @@ impl<K: Taker> Input<K> for TextInput {
         sink: &mut T,
         piece: &[u8],
     ) -> Result<usize, RunError> {
-        let (bytes, count) = feed_lines(&mut self.text, piece, &mut self.words);
-        if bytes == 0 {
+        let taken = feed_words(&mut self.text, piece, &mut self.words);
+        if taken.bytes == 0 {
             return take_cells(self, taker, sink, piece);
         }
-        match taker.words(sink, &self.words[..count]) {
+        let rest = taken.rest;
+        match taker.words_and_cells(sink, &self.words[..taken.count], rest.word, rest.len) {
             Ok(()) => {
-                self.cells += 64 * count as u64;
-                Ok(bytes)
+                self.cells += 64 * taken.count as u64 + u64::from(rest.len);
+                Ok(taken.bytes)
             }
             Err(_) => Err(RunError::Write),
         }

@@ -1,4 +1,4 @@
-use Rattle.std.proofs.Common.{◌-◌, ◌^◌, ◌<◌, ◌≤◌, length, take}
+use Rattle.std.proofs.Common.{◌-◌, ◌<◌, ◌≤◌, length, take}
 use Rattle.aes3_cell.specs.Words.{low_cells}
 use Rattle.aes3_engine.specs.Forms.{TextRead}
 use Rattle.aes3_engine.proofs.text_input.feed_some.Given as goal
@@ -7,8 +7,6 @@ abbrev pub invariant-loop-at : goal.invariant-loop-at
 invariant-loop-at l = record {
   some : 0 < l.at;
   within : l.at ≤ length l.piece;
-  few : l.cells.len ≤ 64;
-  bound : l.cells.word < 2 ^ l.cells.len;
   read : TextRead l.fn.text l.text (take l.at l.piece) (low_cells l.cells.len l.cells.word);
 }
 

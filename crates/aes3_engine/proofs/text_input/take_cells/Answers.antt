@@ -19,7 +19,7 @@ pub cells-requires-clause-following : goal.cells-requires-clause-following
 cells-requires-clause-following g c =
     let h = c.requires.following in
     let l = h.1 in
-    let k = c.in-Ok.ensures.few in
+    let k = c.in-Ok.cells.few in
     let n = length-cells_of_text h.0 in
     (cells_of_text h.0, omega arith, h.2.taker)
 
@@ -28,7 +28,7 @@ overflow_add-input g c =
     let h = c.requires.following in
     let l = h.1 in
     let e = h.2.count in
-    let k = c.in-Ok.ensures.few in
+    let k = c.in-Ok.cells.few in
     let n = length-cells_of_text h.0 in
     omega arith
 
