@@ -181,10 +181,6 @@ module _ (a b : List Level) (v w : ℕ) (h : Holds a v) (k : Holds b w) where
   holds-behind n e s =
       subst (Holds (a ++ b)) (sym (ap (λ j. bit_or (w * 2 ^ j % 2 ^ 64) v) e ∙ ap (λ x. bit_or x v) (whole-shift s) ∙ or_shifted w (length a) v h.bound)) holds-join
 
-  pub holds-before : (n : ℕ) → n ≡ length a → length a + length b ≤ 64 → Holds (a ++ b) (bit_or v (w * 2 ^ n % 2 ^ 64))
-  holds-before n e s =
-      subst (Holds (a ++ b)) (sym (ap (λ j. bit_or v (w * 2 ^ j % 2 ^ 64)) e ∙ ap (bit_or v) (whole-shift s) ∙ or_shifted_r w (length a) v h.bound)) holds-join
-
 -- the cells of a word and their number
 pub cells-held : {c : List Level} {w : ℕ} (n : ℕ) → n ≡ length c → Holds c w → low_cells n w ≡ c
 cells-held {c} {w} n e h = ap (λ k. low_cells k w) e ∙ h.cells_of

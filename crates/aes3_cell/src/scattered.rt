@@ -57,8 +57,9 @@ fn behind_four(place: u8, word: u64) -> u64
     word << u32::from(COUNTS[usize::from(place)]) | u64::from(TOGETHER[usize::from(place)])
 }
 
-/// The bits of `levels` at the ones of `kept`, close together, the first in the lowest bit.
-#[inline(always)]
+/// The bits of `levels` at the ones of `kept`, close together, the first in the lowest bit. As a
+/// function of its own it takes the octets from registers, and builds none of them bit by bit.
+#[inline(never)]
 fn together(kept: u64, levels: u64) -> SomeCells
     ensures { low_cells result.len result.word ≡ kept_cells 64 kept levels }
 {

@@ -190,6 +190,20 @@ fn no_cells() -> SomeCells
     SomeCells { word: 0, len: 0 }
 }
 
+/// Whether text begins with the end of a line, and a line of 64 cells behind it: no more than up to
+/// there is then read byte by byte.
+fn ends_line(text: &[u8]) -> bool {
+    for (i, byte) in text.iter().enumerate() {
+        if *byte == b'\n' {
+            return begins_line(text, i + 1);
+        }
+        if i == LINE_CELLS {
+            return false;
+        }
+    }
+    false
+}
+
 /// Some cells with others behind them.
 #[derive(Drop)]
 struct Joined {
@@ -290,8 +304,8 @@ fn feed_chunks(text: &mut CellText, piece: &[u8], words: &mut [u64; LINES]) -> T
     Taken { bytes, count, rest }
 }
 
-/// Takes the lines of 64 cells that a piece begins with, or where there are none the chunks of 64
-/// bytes.
+/// Takes the lines of 64 cells that a piece begins with, or the chunks of 64 bytes where no such line
+/// is near.
 fn feed_words(text: &mut CellText, piece: &[u8], words: &mut [u64; LINES]) -> Taken
     requires { text.old.seen + length piece.now ≤ 2 ^ 40 }
     ensures within { result.bytes ≤ length piece.now }
@@ -303,7 +317,7 @@ fn feed_words(text: &mut CellText, piece: &[u8], words: &mut [u64; LINES]) -> Ta
     ensures none { result.bytes ≡ 0 → text.new ≡ text.old }
 {
     let (bytes, count) = feed_lines(text, piece, words);
-    if bytes == 0 {
+    if bytes == 0 && !ends_line(piece) {
         return feed_chunks(text, piece, words);
     }
     Taken {
@@ -346,8 +360,8 @@ fn with_byte(text: &mut CellText, cells: SomeCells, byte: u8) -> Result<SomeCell
     }
 }
 
-/// Takes the bytes that a piece begins with, until they have 64 cells or a byte is neither a cell nor
-/// a separator. Answers how many bytes these are, and their cells.
+/// Takes the bytes that a piece begins with, until they have 64 cells, a line of so many begins, or
+/// a byte is neither a cell nor a separator. Answers how many bytes these are, and their cells.
 fn feed_some(text: &mut CellText, piece: &[u8]) -> Result<(usize, SomeCells), BadCell>
     requires some { 0 < length piece.now }
     requires room { text.old.seen + length piece.now ≤ 2 ^ 40 }
@@ -363,7 +377,7 @@ fn feed_some(text: &mut CellText, piece: &[u8]) -> Result<(usize, SomeCells), Ba
         Err(fault) => return Err(fault),
     };
     let mut at = 1;
-    while at < piece.len() && cells.len < u64::BITS {
+    while at < piece.len() && cells.len < u64::BITS && !begins_line(piece, at) {
         match with_byte(text, cells, piece[at]) {
             Ok(more) => {
                 cells = more;
