@@ -335,6 +335,7 @@ impl Lock {
 
     /// Takes the first cells of a word, at most `len`, up to the first with which the preamble of a
     /// block ends, where no candidate is in hand. Answers how many.
+    #[inline(always)]
     fn search(&mut self, word: u64, len: u32) -> u32
         requires room { self.old.seen + len ≤ 2 ^ 43 }
         requires len { len ≤ 64 }
@@ -382,6 +383,7 @@ impl Lock {
 
     /// Takes the first `right` cells of a word, which go on with the candidate in hand, and the one
     /// behind them, which can't stand where it is.
+    #[inline(always)]
     fn refute(&mut self, candidate: Candidate, word: u64, right: u32) -> Pushed
         requires room { self.old.seen + right + 1 ≤ 2 ^ 43 }
         requires right { right < 64 }
@@ -409,6 +411,7 @@ impl Lock {
 
     /// Takes the first cells of a word, at most `len`, up to the end of the subframe in hand, or up
     /// to the first that ends the candidate in hand and with it.
+    #[inline(always)]
     fn go_on(&mut self, candidate: Candidate, word: u64, len: u32) -> Pushed
         requires room { self.old.seen + len ≤ 2 ^ 43 }
         requires len { len ≤ 64 }
@@ -454,6 +457,7 @@ impl Lock {
     }
 
     /// Takes the first cells of a word, at most `len`, as far as `search` or `go_on` does.
+    #[inline(always)]
     fn step(&mut self, word: u64, len: u32) -> Pushed
         requires room { self.old.seen + len ≤ 2 ^ 43 }
         requires len { len ≤ 64 }
@@ -478,7 +482,8 @@ impl Lock {
     ///
     /// It is `push` for each of these cells, but makes no report: `report` does, until more cells
     /// are taken.
-    // Inlined, as it answers every few cells where many candidates begin.
+    // Inlined, and so is what it stands on, as it answers every few cells where many candidates
+    // begin.
     #[inline(always)]
     pub fn push_front(&mut self, word: u64, len: u32) -> Pushed
         requires room { self.old.seen + len ≤ 2 ^ 43 }
