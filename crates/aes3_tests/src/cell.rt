@@ -2,8 +2,8 @@
 
 use aes3_cell::{
     BadCell, BadPadding, BufferedSink, CellText, FailingSink, Fault, Form, HoldingSink, Level,
-    PackedIn, PackedOut, RunError, ShortSink, Sink, Source, StdSink, StdSource, TextOut, put_words,
-    write_all,
+    PackedIn, PackedOut, RunError, ShortSink, Sink, SomeCells, Source, StdSink, StdSource, TextOut,
+    put_words, write_all,
 };
 use std::alloc::AllocError;
 use std::io::{ErrorKind, Read};
@@ -40,6 +40,19 @@ fn words_of_lines(rt: HostRuntime) {
         let cells = CellText::new().feed_cells(&text[from..]);
         assert!(rt; (cells.word, cells.len) == (word, len), "{from}");
     }
+}
+
+#[test]
+fn cells_among_separators(rt: HostRuntime) {
+    let mut bytes = *b"1010 1000\r\n0100  1100001010100110111000011001\r0101110100\n111011\n";
+    let cells = CellText::new().feed_scattered(&bytes);
+    let expected = SomeCells {
+        word: WORD % (1 << 56),
+        len: 56,
+    };
+    assert!(rt; cells == Some(expected));
+    bytes[63] = b'x';
+    assert!(rt; CellText::new().feed_scattered(&bytes).is_none());
 }
 
 #[test]
