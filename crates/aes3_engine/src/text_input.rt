@@ -190,12 +190,14 @@ fn no_cells() -> SomeCells
     SomeCells { word: 0, len: 0 }
 }
 
-/// Whether text begins with the end of a line, and a line of 64 cells behind it: no more than up to
-/// there is then read byte by byte.
+/// Whether text begins with the end of a line, and two lines of 64 cells behind it: no more than up
+/// to there is then read byte by byte. Where lines of 64 and others come in turn it is not so.
 fn ends_line(text: &[u8]) -> bool {
     for (i, byte) in text.iter().enumerate() {
         if *byte == b'\n' {
-            return begins_line(text, i + 1);
+            return text.len() > i + LINE_LEN
+                && begins_line(text, i + 1)
+                && begins_line(text, i + 1 + LINE_LEN);
         }
         if i == LINE_CELLS {
             return false;
