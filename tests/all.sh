@@ -1,7 +1,10 @@
 #!/bin/sh
 # tests/all.sh [PROGRAM]: all that is run with a built program, with bin/aes3's where none is given: the worked rows, the
-# machine's own streams, refused memory, the examples of help, README and tutorial, the manual page and the pictures, and the
-# examples that go by other programs and from C and the page in a browser, as far as these are installed. Status 1 where one fails.
+# machine's own streams, refused memory, the examples of help, README and tutorial, the manual page, the pictures and the figures of
+# the books, round trips with other programs, and the examples from C and of the page in a browser.
+#
+# Each part prints what fails, `left out: WHAT (WHY)` where something it needs is not installed, and `N passed, M failed`. At the
+# end all that was left out is told once more; the last line is the sum, and the status 1 where something failed.
 
 root=$(dirname "$(dirname "$(realpath "$0")")")
 cd "$root" || exit 2
@@ -11,30 +14,58 @@ else
     bin/aes3 --version || exit 2
     program=$root/crates/aes3/out/aes3
 fi
-failed=0
+folder=$(mktemp -d) || exit 2
+trap 'rm -rf "$folder"' EXIT
+trap 'exit 130' INT TERM
+passed=0 failed=0
+: >"$folder/left"
 
-try() {
+# Runs a part, and counts what it counted. One that ends without a count has failed.
+part() {
     echo "== $*"
-    "$@" || {
-        echo "FAILED: $*"
-        failed=1
-    }
+    "$@" >"$folder/said" 2>&1 </dev/null
+    status=$?
+    cat "$folder/said"
+    grep '^left out: ' "$folder/said" >>"$folder/left"
+    counts=$(grep -E '^[0-9]+ passed, [0-9]+ failed$' "$folder/said" | tail -n 1)
+    wrong=${counts#* passed, }
+    wrong=${wrong% failed}
+    if [ -z "$counts" ] || { [ "$status" != 0 ] && [ "$wrong" = 0 ]; }; then
+        echo "FAILED: $1 ended with status $status"
+        counts=${counts:-0} wrong=1
+    fi
+    passed=$((passed + ${counts%% *}))
+    failed=$((failed + wrong))
 }
 
-try tests/rows.sh "$program"
-try tests/streams.sh "$program"
-try tests/help.sh "$program"
-try tests/readme.sh "$program"
-try bin/make-manual --check "$program"
-if command -v cc >/dev/null; then
-    try tests/allocations.sh "$program"
-fi
-if command -v python3 >/dev/null; then
-    try examples/pictures/make --check "$program"
-    try examples/neighbours/run "$program"
-    try web/test "$program"
-fi
+# part_with TOOL COMMAND..: a part that needs a tool.
+part_with() {
+    tool=$1
+    shift
+    if command -v "$tool" >/dev/null; then
+        part "$@"
+    else
+        echo "left out: $1 ($tool is not installed)" | tee -a "$folder/left"
+    fi
+}
+
+part tests/rows.sh "$program"
+part tests/streams.sh "$program"
+part tests/help.sh "$program"
+part tests/readme.sh "$program"
+part_with cc tests/allocations.sh "$program"
+part_with python3 bin/make-manual --check "$program"
+part_with python3 bin/figures --check
+part_with python3 examples/pictures/make --check "$program"
+part_with python3 examples/neighbours/run "$program"
+part examples/many/run "$program" 20
+part_with python3 web/test "$program"
 if [ -e crates/aes3_c/out/libaes3_c.a ]; then
-    try examples/c/test.sh "$program"
+    part examples/c/test.sh "$program"
+else
+    echo "left out: examples/c/test.sh (no C library is built: bin/build aes3_c)" | tee -a "$folder/left"
 fi
-exit "$failed"
+
+[ ! -s "$folder/left" ] || { echo "== left out" && cat "$folder/left"; }
+echo "$passed passed, $failed failed"
+[ "$failed" = 0 ]

@@ -1,9 +1,9 @@
 #!/bin/sh
 # tests/help.sh PROGRAM runs the examples that the program's help and that of each command show, in the order of the
 # program's own help first: each has to end with status 0 and to say nothing on standard error. Those that need sox are left
-# out where it isn't installed. What `--explain` prints has to stand in the README's table of refusals, word for word.
+# out, and told, where it isn't installed. What `--explain` prints has to stand in the README's table of refusals, word for word.
 #
-# The status is 0 where each did.
+# The last line is `N passed, M failed`, and the status 0 where none failed.
 
 [ $# = 1 ] || { sed -n '2,6s/^# \{0,1\}//p' "$0" >&2; exit 2; }
 root=$(dirname "$(dirname "$(realpath "$0")")")
@@ -28,22 +28,21 @@ done
 
 # One shell for all, since an example may set a variable for the next.
 cd "$work/here" || exit 2
-count=0 failed=0 left=0
+passed=0 failed=0
 while IFS= read -r line; do
     case $line in
-    *'| sox '*) command -v sox >/dev/null || { left=$((left + 1)); continue; } ;;
+    *'| sox '*) command -v sox >/dev/null || { printf 'left out: %s\n' "of help: $line (sox is not installed)"; continue; } ;;
     esac
-    count=$((count + 1))
-    eval "$line" >/dev/null 2>"$work/said" </dev/null && [ ! -s "$work/said" ] && continue
+    eval "$line" >/dev/null 2>"$work/said" </dev/null && [ ! -s "$work/said" ] && { passed=$((passed + 1)); continue; }
     failed=$((failed + 1))
     echo "$line" >&2
     cat "$work/said" >&2
 done <"$work/all"
 aes3 --explain | sed 's/^[0-9]*: //; s/^ *//' >"$work/sentences"
 while IFS= read -r sentence; do
-    grep -qF -e "$sentence" "$root/README.md" && continue
+    grep -qF -e "$sentence" "$root/README.md" && { passed=$((passed + 1)); continue; }
     failed=$((failed + 1))
     echo "not in the README: $sentence" >&2
 done <"$work/sentences"
-echo "$count examples, $failed failed, $left left out"
-[ "$failed" = 0 ] && [ "$count" -gt 0 ]
+echo "$passed passed, $failed failed"
+[ "$failed" = 0 ] && [ "$passed" -gt 0 ]

@@ -8,7 +8,7 @@
 # the folder examples is a copy. A block that begins with ```sh needs TOOL.. is left out, with a word, where one of the
 # tools is not there.
 #
-# The status is 0 where each example printed what it should.
+# The last line is `N passed, M failed`, and the status 0 where each example printed what it should.
 
 [ $# -gt 0 ] || { sed -n '2,11s/^# \{0,1\}//p' "$0" >&2; exit 2; }
 root=$(dirname "$(dirname "$(realpath "$0")")")
@@ -43,7 +43,7 @@ lacking() {
     done
 }
 
-failed=0 ran=0 left=0
+passed=0 failed=0
 for file in "$@"; do
     rm -rf "$work/parts" "$work/here"
     mkdir -p "$work/parts" "$work/here/bin"
@@ -56,18 +56,18 @@ for file in "$@"; do
         IFS=: read -r line needs <"$part.at"
         lacks=$(lacking "$needs")
         if [ -n "$lacks" ]; then
-            echo "$file:$line: left out: no $lacks" >&2
-            left=$((left + 1))
+            printf 'left out: %s\n' "${file#"$root/"}:$line, $(head -n 1 "$command") ($lacks is not installed)"
             continue
         fi
         (cd "$work/here" && PATH=$work/here/bin:$PATH sh "$command") >"$part.got" 2>&1 </dev/null
-        ran=$((ran + 1))
-        if ! cmp -s "$part.out" "$part.got"; then
+        if cmp -s "$part.out" "$part.got"; then
+            passed=$((passed + 1))
+        else
             echo "$file:$line: $(cat "$command")" >&2
             diff "$part.out" "$part.got" >&2
             failed=$((failed + 1))
         fi
     done
 done
-echo "$ran examples, $failed failed, $left left out"
-[ "$failed" = 0 ] && [ "$ran" -gt 0 ]
+echo "$passed passed, $failed failed"
+[ "$failed" = 0 ] && [ "$passed" -gt 0 ]

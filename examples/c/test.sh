@@ -1,20 +1,28 @@
 #!/bin/sh
 # test.sh [PROGRAM [LIBRARY]]: builds the examples over libaes3_c.a by each compiler that is here, with all warnings as errors and
-# with its checks of addresses and undefined behaviour, runs them, and compares what they tell with what PROGRAM tells.
-# PROGRAM is bin/aes3 where none is given, LIBRARY what `rt lib` makes in crates/aes3_c. Status 1 where one differs.
+# with its checks of addresses and undefined behaviour, runs them, and compares what they tell with what PROGRAM tells;
+# and that the header declares what the library has. PROGRAM is bin/aes3 where none is given, LIBRARY what `bin/build aes3_c` makes.
+# The last line is `N passed, M failed`; status 1 where one differs.
 here=$(dirname "$(realpath "$0")")
 program=$(realpath "${1:-$here/../../bin/aes3}") || exit 2
 library=$(realpath "${2:-$here/../../crates/aes3_c/out/libaes3_c.a}") || exit 2
-[ -e "$library" ] || { echo "test: no $library; run rt lib in crates/aes3_c"; exit 2; }
+[ -e "$library" ] || { echo "test: no $library; run bin/build aes3_c"; exit 2; }
 speech=$here/../speech.block
 folder=$(mktemp -d) || exit 2
 trap 'rm -rf "$folder"' EXIT
 cd "$folder" || exit 2
-failed=0
+passed=0 failed=0
 
 differs() {
     echo "test: $1 differs"
-    failed=1
+    failed=$((failed + 1))
+}
+
+# judge WHAT COMMAND..: whether the command ends with status 0.
+judge() {
+    what=$1
+    shift
+    if "$@"; then passed=$((passed + 1)); else differs "$what"; fi
 }
 
 "$program" encode <"$speech" >line.txt
@@ -32,7 +40,7 @@ done
 compare() {
     for name in $inputs; do
         { "$@" <$name.txt && echo 0 || echo $?; } >got
-        cmp -s $name.want got || differs "$* on $name"
+        judge "$* on $name" cmp -s $name.want got
     done
 }
 
@@ -40,21 +48,25 @@ build() { # COMPILER FLAGS..
     compiler=$1
     shift
     command -v "$compiler" >/dev/null || {
-        echo "left out: $compiler is not installed"
+        echo "left out: the examples by $compiler (it is not installed)"
         return
     }
     checks="-fsanitize=address,undefined -fno-sanitize-recover=all"
     echo 'int main(void) { return 0; }' >one.c
     "$compiler" "$@" $checks -o one one.c 2>/dev/null && ./one || {
-        echo "left out: the checks of $compiler"
+        echo "left out: the checks of addresses and undefined behaviour by $compiler (they do not work here)"
         checks=
     }
     for example in check encode calls; do
         "$compiler" "$@" -O2 -Wall -Wextra -pedantic -Werror $checks -I"$here/../../include" \
-            -o $example "$here/$example.c" -x none "$library" || return
+            -o $example "$here/$example.c" -x none "$library" || {
+            differs "$example.c, which $compiler does not compile,"
+            return
+        }
     done
-    ./calls || differs "calls by $compiler"
-    ./encode <"$speech" | cmp -s - line.txt || differs "encode by $compiler"
+    judge "calls by $compiler" ./calls
+    ./encode <"$speech" >got
+    judge "encode by $compiler" cmp -s got line.txt
     compare ./check
     echo "built and run: $compiler $*${checks:+ $checks}"
 }
@@ -64,21 +76,26 @@ build clang -std=c99
 build g++ -x c++ -std=c++11
 build clang++ -x c++ -std=c++11
 
-make -s -C "$here" OUT="$folder" LIB="$library" || failed=1
-./stack || failed=1
+judge "the Makefile" make -s -C "$here" OUT="$folder" LIB="$library"
+judge "the stack of a call" ./stack
 
 if command -v python3 >/dev/null; then
     export AES3_LIB="$folder/libaes3.so"
     compare python3 "$here/aes3.py"
     echo "run: Python over libaes3.so"
 else
-    echo "left out: python3 is not installed"
+    echo "left out: Python over libaes3.so (python3 is not installed)"
 fi
 
 # What the library wants of others.
 nm -u "$library" | sed -n 's/^ *U //p' | sort -u | tr '\n' ' ' >wants
 echo "wants: $(cat wants)"
-[ "$(cat wants)" = "memcpy memset " ] || differs "what it wants"
+judge "what the library wants" [ "$(cat wants)" = "memcpy memset " ]
 
-[ $failed = 0 ] && echo "examples in C: all as they should be"
-exit $failed
+# The functions that the header declares, and those that the library has.
+sed -n 's/^[a-z][a-z0-9_ ]*[ *]\(aes3_[a-z_]*\)(.*/\1/p' "$here/../../include/aes3.h" | sort >declared
+nm -g --defined-only "$library" | sed -n 's/.* T \(aes3_.*\)/\1/p' | sort >there
+judge "the header" cmp declared there
+
+echo "$passed passed, $failed failed"
+[ "$failed" = 0 ]

@@ -3,28 +3,12 @@
 
 ghost use Rattle.std.specs.Prelude.{◌+◌, ◌<◌, ◌^◌, ◌≡◌, IfErr};
 
-mod definitions;
-mod explain;
-mod help;
-mod hints;
-mod job;
-#[cfg(test)]
-mod job_tests;
-mod looks;
-mod refusals;
-mod run;
-mod status_text;
-#[cfg(test)]
-mod tests;
-mod watched;
-
 use aes3_cell::{BufferedSink, Sink, StdSink, StdSource};
-use hints::{Hints, Terminals};
-use run::{Unread, run_words, tell_unread};
+use aes3_hints::{Hints, Terminals, Watched};
+use aes3_runner::{Unread, run_words, tell_unread};
 use std::env;
 use std::io::ErrorKind;
 use std::process::ExitCode;
-use watched::Watched;
 
 fn main(rt: HostRuntime) -> ExitCode {
     let mut errors = StdSink::new(rt.stderr());

@@ -11,7 +11,7 @@ use crate::level::Level;
 use crate::word::{LINE_LEN, equal_to, with_cell, word_of_text};
 
 /// At most 64 cells, the first in the lowest bit.
-#[derive(Clone, Copy, PartialEq, Eq, Debug)]
+#[derive(Clone, Copy, PartialEq, Eq)]
 pub struct SomeCells {
     /// The cells; the bits above them are zero.
     pub word: u64,

@@ -36,12 +36,12 @@ use Rattle.aes3_lock.proofs.PieceBlocks.{blocks-whole}
 use Rattle.aes3_lock.proofs.Changes.{blocks-few-changed}
 use Rattle.aes3_lock.proofs.Frames.{blocks-left}
 use Rattle.aes3_lock.proofs.Lost.{blocks-lost}
-use Rattle.aes3_engine.specs.Running.{Movement}
-use Rattle.aes3_engine.specs.Inputs.{cells_of}
+use Rattle.aes3_input.specs.Running.{Movement}
+use Rattle.aes3_input.specs.Inputs.{cells_of}
+use Rattle.aes3_input.proofs.CellRuns.{run-wrote}
 use Rattle.aes3_engine.specs.ReportRuns.{output, ReportRun}
 use Rattle.aes3_engine.specs.BlockRuns.{decided_blocks, report_bytes, numbered, normal_block, cut_block, begun_stream, written_stream, cut_blocks}
 use Rattle.aes3_engine.proofs.ReportLemmas.{blocks-output}
-use Rattle.aes3_engine.proofs.CellRuns.{run-wrote}
 
 -- the blocks of cells are blocks
 pub each27 : (bs : List (List (List Bool))) → All IsBlock bs → EachBlock27 bs

@@ -18,11 +18,11 @@ use Rattle.aes3_block.specs.Refusals.{refusal_of}
 use Rattle.aes3_block.proofs.Words.{all_lawful, lawful-words}
 use Rattle.aes3_block.proofs.WholeBlocks.{lawful-next, blocks-next, blocks-stay, added_blocks, fault-place, code-fault, parity-fault, length-fault, end-none, end-whole_file, reader-new}
 use Rattle.aes3_block.proofs.Streams.{each27-whole, stream-bytes, stream-nil, file_blocks-nil, length-stream, slot_count}
-use Rattle.aes3_engine.specs.Converting.{or_else, fault_behind, first_fault, out, whole}
-use Rattle.aes3_engine.specs.Running.{Ran, Run, Movement, Clean, CleanEnd}
+use Rattle.aes3_input.specs.Converting.{or_else, fault_behind, first_fault, out, whole}
+use Rattle.aes3_input.specs.Running.{Ran, Run, Movement, Clean, CleanEnd}
+use Rattle.aes3_input.proofs.Outputs.{out-is}
+use Rattle.aes3_input.proofs.Told.{ran-told, few-told}
 use Rattle.aes3_engine.specs.Encoding.{WholeFile, encoded, encoding, refused_by, refused_at_end, block_written, Encodes, AllLawful, BadCodeAt, BadParityAt, IsCauseOf, encode_counts}
-use Rattle.aes3_engine.proofs.Outputs.{out-is}
-use Rattle.aes3_engine.proofs.Told.{ran-told, few-told}
 use Rattle.aes3_engine.proofs.EncodingLemmas.{all-lawful}
 
 refused-none : (o : Option FileFault) → refused_by o ≡ None → o ≡ None

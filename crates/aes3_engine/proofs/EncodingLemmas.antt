@@ -15,9 +15,9 @@ use Rattle.aes3_block.specs.Refusals.{refusal_of}
 use Rattle.aes3_block.proofs.Reading.{answered, answered-err}
 use Rattle.aes3_block.proofs.Words.{all_lawful, lawful-words, all_lawful-from, length-words}
 use Rattle.aes3_block.proofs.WholeBlocks.{reader-next, lawful-next, blocks-next, added_blocks}
-use Rattle.aes3_engine.specs.Converting.{or_else, unless, fault_behind, out_behind, before_fault}
-use Rattle.aes3_engine.specs.Running.{Fed, Stopped, PieceRan, EndRan}
-use Rattle.aes3_engine.proofs.Feeding.{fed-none, fed-is, fed-join, front-joined}
+use Rattle.aes3_input.specs.Converting.{or_else, unless, fault_behind, out_behind, before_fault}
+use Rattle.aes3_input.specs.Running.{Fed, Stopped, PieceRan, EndRan}
+use Rattle.aes3_input.proofs.Feeding.{fed-none, fed-is, fed-join, front-joined}
 use Rattle.aes3_engine.specs.Encoding.{encoding, refused_by, refused_at_end, block_written, Encodes, AllLawful}
 use Rattle.aes3_block.proofs.Feeding.{reader-open}
 

@@ -9,10 +9,10 @@ use Rattle.aes3_cell.proofs.Growing.{grew-none, grew-join, grew-is, front-join, 
 use Rattle.aes3_lock.specs.declared.report.Report.{Report}
 use Rattle.aes3_lock.specs.Reports.{decided, reports}
 use Rattle.aes3_lock.specs.Following.{LockState, Follows}
-use Rattle.aes3_engine.specs.Taking.{Writing}
+use Rattle.aes3_input.specs.Taking.{Writing}
+use Rattle.aes3_input.proofs.Handing.{Handed, handed-cells, words-further}
 use Rattle.aes3_engine.specs.Reporting.{reporting}
 use Rattle.aes3_engine.proofs.Reports.{ends-one, adds-nothing}
-use Rattle.aes3_engine.proofs.Handing.{Handed, handed-cells, words-further}
 
 -- one call of a reporter that followed g, at cells that a lock followed by f
 pub ok-grew : {A E : Type 0} (r : Result A E) (f : List Level → Type 0) (g : List Report → Type 0) (t t' : Option (List ℕ)) (o : List Report → List ℕ) (q : List Level → List ℕ)

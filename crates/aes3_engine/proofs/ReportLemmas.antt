@@ -11,10 +11,10 @@ use Rattle.aes3_lock.specs.declared.report.Report.{Report}
 use Rattle.aes3_lock.specs.declared.report.Report.TheVariants.{Whole, Marked, Fault, Unfinished}
 use Rattle.aes3_lock.specs.Reports.{wholes}
 use Rattle.aes3_lock.proofs.AllStanding.{wholes-append}
-use Rattle.aes3_engine.specs.Taking.{before_end, with_end}
+use Rattle.aes3_input.specs.Taking.{before_end, with_end}
+use Rattle.aes3_input.proofs.Items.{before-is}
 use Rattle.aes3_engine.specs.ReportRuns.{is_faulty, is_unfinished, output_from, output, report_writing, Tallies}
 use Rattle.aes3_engine.specs.BlockRuns.{numbered, report_bytes}
-use Rattle.aes3_engine.proofs.Items.{before-is}
 
 -- how many reports of a kind there are
 kind-push : (p : Report → Bool) (r : List Report) (x : Report) → length (filter p (r ++ x ∷ [])) ≡ length (filter p r) + length (filter p (x ∷ []))

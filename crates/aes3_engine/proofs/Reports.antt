@@ -7,9 +7,9 @@ use Rattle.aes3_lock.specs.Outcomes.{Outcome}
 use Rattle.aes3_lock.specs.Reports.{told, decided_at, decided_from, decided, reports}
 use Rattle.aes3_lock.proofs.Deciding.{answer, decided-push}
 use Rattle.aes3_lock.proofs.Ends.{final, reports-split}
-use Rattle.aes3_engine.specs.Taking.{Writing, behind, before_end, with_end}
+use Rattle.aes3_input.specs.Taking.{Writing, behind, before_end, with_end}
+use Rattle.aes3_input.proofs.Items.{before-is, before-join}
 use Rattle.aes3_engine.specs.Reporting.{decided_by, decided_at_end, reporting}
-use Rattle.aes3_engine.proofs.Items.{before-is, before-join}
 
 pub answered : (c : List Level) (l : Level) (r : List Report) → decided (c ++ l ∷ []) ≡ decided c ++ r → decided_by c l ≡ r
 answered c l r e = ap (drop (length (decided c))) e ∙ drop_at (decided c) r (length (decided c)) refl

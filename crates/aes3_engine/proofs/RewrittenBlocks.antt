@@ -10,7 +10,7 @@ use Rattle.aes3_block.proofs.Runs.{Each27}
 use Rattle.aes3_block.proofs.Streams.{EachBlock27}
 use Rattle.aes3_lock.specs.Reports.{reports, decided, blocks}
 use Rattle.aes3_status.specs.Statuses.{is_professional}
-use Rattle.aes3_engine.specs.declared.change.Change.{Change}
+use Rattle.aes3_status.specs.declared.change.Change.{Change}
 use Rattle.aes3_engine.specs.ReportRuns.{output}
 use Rattle.aes3_engine.specs.BlockRuns.{decided_blocks, report_bytes, numbered, normal_block, begun_stream, written_stream}
 use Rattle.aes3_status.specs.declared.setting.Setting.{Setting}

@@ -13,13 +13,13 @@ use Rattle.aes3_block.specs.Files.{bytes_number, words_of, block_bytes, file}
 use Rattle.aes3_block.specs.Sampled.{payload_of_sample, sampled, filled}
 use Rattle.aes3_block.proofs.SampleBlocks.{words-join, words-zeros, sampled-join, sampled-short, sampled-one}
 use Rattle.aes3_block.proofs.Words.{length-words}
-use Rattle.aes3_engine.specs.declared.change.Change.{Change}
-use Rattle.aes3_engine.specs.Converting.{or_else, unless, fault_behind, out_behind, first_fault, out}
+use Rattle.aes3_input.specs.Converting.{or_else, unless, fault_behind, out_behind, first_fault, out}
+use Rattle.aes3_input.specs.Running.{Fed, Stopped}
+use Rattle.aes3_input.proofs.Feeding.{front-longer}
+use Rattle.aes3_input.proofs.Outputs.{out-is, behind-clean, fault-clean}
+use Rattle.aes3_status.specs.declared.change.Change.{Change}
 use Rattle.aes3_engine.specs.Rewriting.{rewritten, rewritten_blocks}
-use Rattle.aes3_engine.specs.Running.{Fed, Stopped}
 use Rattle.aes3_engine.specs.Sampling.{sample_file, exact_words, pcm_file, begun_pcm, AllExact, is_low, more_of, sampling, Samples, block_bytes_len, frame_len}
-use Rattle.aes3_engine.proofs.Feeding.{front-longer}
-use Rattle.aes3_engine.proofs.Outputs.{out-is, behind-clean, fault-clean}
 
 -- the block file of the samples in bytes, as far as they are whole blocks
 abbrev pub made : Change → List ℕ → List ℕ

@@ -12,12 +12,12 @@ use Rattle.aes3_block.specs.Files.{words_of}
 use Rattle.aes3_block.specs.Sampled.{sampled, filled}
 use Rattle.aes3_block.proofs.SampleBlocks.{length-sampled, length-filled}
 use Rattle.aes3_block.proofs.Words.{length-words}
-use Rattle.aes3_engine.specs.declared.change.Change as change
-use Rattle.aes3_engine.specs.Converting.{or_else, fault_behind, first_fault, out, whole}
-use Rattle.aes3_engine.specs.Running.{Ran, Run, Movement, Clean, CleanEnd}
+use Rattle.aes3_input.specs.Converting.{or_else, fault_behind, first_fault, out, whole}
+use Rattle.aes3_input.specs.Running.{Ran, Run, Movement, Clean, CleanEnd}
+use Rattle.aes3_input.proofs.Told.{ran-told, few-told}
+use Rattle.aes3_status.specs.declared.change.Change as change
 use Rattle.aes3_engine.specs.Sampling.{pcm_file, begun_pcm, frame_len, AllExact, IsPcm, BadSampleAt, WholePcm, IsPcmCause, pcm_counts, more_of, sampling}
 use Rattle.aes3_engine.proofs.SampleReads.{made, file-more, begun-all, out-samples, byte-clean, byte-bad, clean-all, all-clean, end-whole, end-left}
-use Rattle.aes3_engine.proofs.Told.{ran-told, few-told}
 
 -- the end
 end-cases : (exact : Bool) (k : change.Change) (b : List ℕ) → (((sampling exact k).end_fault b ≡ None) × (length b % frame_len ≡ 0))

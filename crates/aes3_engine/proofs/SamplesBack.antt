@@ -15,7 +15,7 @@ use Rattle.aes3_block.proofs.SampleBlocks.{sampled-lawful, samples-filled, sampl
 use Rattle.aes3_block.proofs.StatusLaws.{status-only}
 use Rattle.aes3_lock.specs.Reports.{blocks}
 use Rattle.aes3_lock.proofs.NormalStreams.{stream-blocks}
-use Rattle.aes3_engine.specs.declared.change.Change.{Change}
+use Rattle.aes3_status.specs.declared.change.Change.{Change}
 use Rattle.aes3_engine.specs.BlockRuns.{written_stream}
 use Rattle.aes3_engine.specs.Rewriting.{rewritten, rewritten_blocks}
 use Rattle.aes3_engine.specs.SampleLaws.{line_of_pcm, pcm_of_line}

@@ -9,7 +9,7 @@ use Rattle.aes3_block.specs.Blocks.{block_slots, block_len, block_cells, stream}
 use Rattle.aes3_block.specs.Files.{words_of, lawful_words, has_code, has_parity, file_blocks, IsBlockFile}
 use Rattle.aes3_block.specs.Readers.{FileReader, reader_of, byte_fault, block_with, end_answer}
 use Rattle.aes3_block.specs.Refusals.{refusal_of}
-use Rattle.aes3_engine.specs.Converting.{Reading}
+use Rattle.aes3_input.specs.Converting.{Reading}
 use Rattle.aes3_cell.specs.declared.form.Form.{Form}
 use Rattle.aes3_cell.specs.Written.{bytes_of, ending}
 

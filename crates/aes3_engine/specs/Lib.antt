@@ -1,15 +1,7 @@
-pub mod Converting
-pub mod Running
 pub mod Encoding
-pub mod Taking
-pub mod Forms
-pub mod Inputs
-pub mod Driving
 pub mod Reporting
-pub mod CellRuns
 pub mod ReportRuns
 pub mod BlockRuns
 pub mod Rewriting
 pub mod Sampling
 pub mod SampleLaws
-pub use Rattle.aes3_cell.specs.Ends

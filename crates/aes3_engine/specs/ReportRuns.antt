@@ -7,11 +7,11 @@ use Rattle.aes3_cell.specs.declared.counts.Counts.{Counts}
 use Rattle.aes3_lock.specs.declared.report.Report.{Report}
 use Rattle.aes3_lock.specs.declared.report.Report.TheVariants.{Whole, Marked, Fault, Unfinished}
 use Rattle.aes3_lock.specs.Reports.{reports, decided, wholes, blocks}
+use Rattle.aes3_input.specs.Taking.{Writing}
+use Rattle.aes3_input.specs.Running.{Movement}
+use Rattle.aes3_input.specs.Inputs.{cells_of}
+use Rattle.aes3_input.specs.CellRuns.{CellRun}
 use Rattle.aes3_engine.specs.declared.tally.Tally.{Tally}
-use Rattle.aes3_engine.specs.Taking.{Writing}
-use Rattle.aes3_engine.specs.Running.{Movement}
-use Rattle.aes3_engine.specs.Inputs.{cells_of}
-use Rattle.aes3_engine.specs.CellRuns.{CellRun}
 
 -- whether a report tells of a faulty block, and of one that the end cuts
 abbrev pub is_faulty : Report → Bool

@@ -3,7 +3,7 @@ use Rattle.std.specs.Prelude.{List, [], ◌∷◌, ◌++◌, length, drop}
 use Rattle.aes3_cell.specs.declared.level.Level.{Level}
 use Rattle.aes3_lock.specs.declared.report.Report.{Report}
 use Rattle.aes3_lock.specs.Reports.{decided, reports}
-use Rattle.aes3_engine.specs.Taking.{Writing, behind}
+use Rattle.aes3_input.specs.Taking.{Writing, behind}
 
 -- the reports that one more cell decides, and those that the end decides
 abbrev pub decided_by : List Level → Level → List Report

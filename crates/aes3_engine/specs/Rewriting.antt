@@ -8,7 +8,7 @@ use Rattle.aes3_status.specs.Statuses.{is_professional}
 use Rattle.aes3_status.specs.Check.{check_byte_of}
 use Rattle.aes3_status.specs.declared.setting.Setting.{Setting}
 use Rattle.aes3_status.specs.Settings.{set_in_turn}
-use Rattle.aes3_engine.specs.declared.change.Change.{Change}
+use Rattle.aes3_status.specs.declared.change.Change.{Change}
 use Rattle.aes3_engine.specs.BlockRuns.{normal_block}
 
 -- the status of a channel set, where one is given

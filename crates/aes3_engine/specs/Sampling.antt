@@ -5,8 +5,8 @@ use Rattle.aes3_cell.specs.declared.refusal.RunError.{RunError}
 use Rattle.aes3_cell.specs.declared.refusal.RunError.TheVariants.{BadLength, BadSample, Read, Write, TooLong}
 use Rattle.aes3_block.specs.Files.{bytes_number, words_of, file}
 use Rattle.aes3_block.specs.Sampled.{sampled, filled}
-use Rattle.aes3_engine.specs.declared.change.Change.{Change}
-use Rattle.aes3_engine.specs.Converting.{Reading}
+use Rattle.aes3_input.specs.Converting.{Reading}
+use Rattle.aes3_status.specs.declared.change.Change.{Change}
 use Rattle.aes3_engine.specs.Rewriting.{rewritten_blocks}
 
 -- the block file of samples, as far as they are whole blocks, each with its channel status set

@@ -4,8 +4,8 @@ ghost use Rattle.std.specs.Prelude.{◌≡◌, ℕ, ◌+◌, ◌<◌, ◌≤◌,
 ghost use Rattle.aes3_cell.specs.Writes.{Wrote};
 ghost use Rattle.aes3_slot.specs.ReadWords.{read_words};
 ghost use Rattle.aes3_slot.specs.Slots.{payload_len};
+ghost use Rattle.aes3_input.specs.Running.{movement_of};
 ghost use Rattle.aes3_engine.specs.ReportRuns.{ReportRun};
-ghost use Rattle.aes3_engine.specs.Running.{movement_of};
 ghost use Rattle.aes3_engine.specs.BlockRuns.{report_bytes};
 
 use crate::report_runs::{ReportWriter, run_reports};

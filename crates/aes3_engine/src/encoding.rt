@@ -12,13 +12,13 @@ ghost use Rattle.aes3_block.specs.Blocks.{IsBlock, block_cells, stream};
 ghost use Rattle.aes3_block.specs.Files.{file, IsBlockFile, file_blocks};
 ghost use Rattle.aes3_block.specs.Readers.{TakesBlock, TakesQuietly};
 ghost use Rattle.aes3_lock.specs.Reports.{blocks, normal};
+ghost use Rattle.aes3_input.specs.Running.{FrontRan, PieceRan, movement_of};
 ghost use Rattle.aes3_engine.specs.Encoding.{Encodes, IsCauseOf, WholeFile, encode_counts, encoded};
 ghost use Rattle.aes3_engine.specs.Encoding.{encoding};
-ghost use Rattle.aes3_engine.specs.Running.{FrontRan, PieceRan, movement_of};
 
-use crate::conversion::{Input, convert};
 use aes3_block::{BLOCK_BYTES, BLOCK_CELLS, Block, BlockFile, SLOTS, fill_block_cells};
 use aes3_cell::{Counts, Fault, Form, Level, RunError, Sink, Source, put_ending, put_words};
+use aes3_input::{Input, convert};
 
 /// Writes the cells of each block in a form, and counts the blocks. The cells are made in words
 /// that it keeps, which so are cleared once.

@@ -6,8 +6,8 @@ ghost use Rattle.aes3_lock.specs.Reports.{decided, reports};
 ghost use Rattle.aes3_engine.specs.Reporting.{reporting};
 
 use crate::reporter::Reporter;
-use crate::taker::Taker;
 use aes3_cell::{Fault, Sink};
+use aes3_input::Taker;
 use aes3_lock::Lock;
 
 /// Takes cells, and hands each report on them to a reporter when it is decided.

@@ -14,13 +14,13 @@ ghost use Rattle.aes3_lock.specs.FrameLaws.{AreAllLeft, AreClose};
 ghost use Rattle.aes3_lock.specs.Laws.{PlacedBlock};
 ghost use Rattle.aes3_lock.specs.Remains.{after_changes, after_loss};
 ghost use Rattle.aes3_lock.specs.Pieces.{IsPiece, given_blocks, whole_blocks};
+ghost use Rattle.aes3_input.specs.Driving.{WholeInput};
+ghost use Rattle.aes3_input.specs.Inputs.{IsInput, cells_before, cells_of};
+ghost use Rattle.aes3_input.specs.CellRuns.{CellRun, IsCause};
+ghost use Rattle.aes3_input.specs.Running.{movement_of};
 ghost use Rattle.aes3_engine.specs.BlockRuns.{begun_stream, cut_block, cut_blocks, decided_blocks};
 ghost use Rattle.aes3_engine.specs.BlockRuns.{file_block, normal_block, written_stream};
-ghost use Rattle.aes3_engine.specs.Driving.{WholeInput};
-ghost use Rattle.aes3_engine.specs.Inputs.{IsInput, cells_before, cells_of};
-ghost use Rattle.aes3_engine.specs.CellRuns.{CellRun, IsCause};
 ghost use Rattle.aes3_engine.specs.ReportRuns.{counts_of};
-ghost use Rattle.aes3_engine.specs.Running.{movement_of};
 
 use crate::blocks::{BlockWriter, run_blocks};
 use aes3_block::{Block, GatheredCells, put_block, put_block_file, put_read_block};

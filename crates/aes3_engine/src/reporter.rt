@@ -4,7 +4,7 @@ ghost use Rattle.std.specs.Prelude.{◌≡◌, ◌+◌, ◌<◌, ◌^◌, ◌++�
 ghost use Rattle.aes3_cell.specs.Ends.{Grew, GrewFront};
 ghost use Rattle.aes3_lock.specs.declared.report.Report.{Report};
 ghost use Rattle.aes3_lock.specs.Following.{report_in};
-ghost use Rattle.aes3_engine.specs.Taking.{Writing};
+ghost use Rattle.aes3_input.specs.Taking.{Writing};
 
 use aes3_cell::{Fault, Sink};
 use aes3_lock::{Ending, Lock, Report};

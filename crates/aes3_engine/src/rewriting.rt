@@ -4,19 +4,18 @@ ghost use Rattle.std.specs.Prelude.{◌≡◌, ℕ, ◌+◌, ◌<◌, ◌≤◌,
 ghost use Rattle.aes3_cell.specs.Ends.{Grew, Told};
 ghost use Rattle.aes3_cell.specs.Written.{ending};
 ghost use Rattle.aes3_lock.specs.Reports.{blocks};
+ghost use Rattle.aes3_input.specs.Inputs.{cells_of};
+ghost use Rattle.aes3_input.specs.CellRuns.{CellRun};
+ghost use Rattle.aes3_input.specs.Running.{movement_of};
 ghost use Rattle.aes3_engine.specs.BlockRuns.{begun_stream, decided_blocks, written_stream};
-ghost use Rattle.aes3_engine.specs.Inputs.{cells_of};
-ghost use Rattle.aes3_engine.specs.CellRuns.{CellRun};
 ghost use Rattle.aes3_engine.specs.ReportRuns.{counts_of};
-ghost use Rattle.aes3_engine.specs.Running.{movement_of};
 ghost use Rattle.aes3_engine.specs.Rewriting.{mended, rewritten, rewritten_block, rewritten_blocks};
 ghost use Rattle.aes3_engine.specs.Rewriting.{set_settings, set_status};
 
 use crate::blocks::{BlockWriter, run_blocks};
-use crate::change::Change;
 use aes3_block::{Block, Channel, put_block};
 use aes3_cell::{Counts, Fault, Form, Level, RunError, Sink, Source, put_ending};
-use aes3_status::{SETTINGS, Setting, Status, set_fields, with_check};
+use aes3_status::{Change, SETTINGS, Setting, Status, set_fields, with_check};
 
 /// Sets the status of a channel, where one is given.
 fn set_status(block: &mut Block, channel: Channel, status: &Option<[u8; 24]>)

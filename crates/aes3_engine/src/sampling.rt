@@ -10,11 +10,11 @@ ghost use Rattle.aes3_engine.specs.Rewriting.{rewritten};
 ghost use Rattle.aes3_engine.specs.Sampling.{IsPcm, IsPcmCause, Samples, WholePcm, begun_pcm};
 ghost use Rattle.aes3_engine.specs.Sampling.{pcm_counts, pcm_file, sampling};
 
-use crate::change::Change;
-use crate::conversion::{Input, convert};
 use crate::rewriting::rewrite_block;
 use aes3_block::{BLOCK_BYTES, Block, put_block_file};
 use aes3_cell::{Counts, Fault, RunError, Sink, Source};
+use aes3_input::{Input, convert};
+use aes3_status::Change;
 
 /// How many bytes a frame of two samples has.
 const FRAME_BYTES: u64 = 8;

@@ -1,11 +1,11 @@
 //! What the program is asked to do.
 
 use aes3_cell::Form;
-use aes3_engine::Change;
-use aes3_text::Lines;
+use aes3_lines::Lines;
+use aes3_status::Change;
 
 /// What the program is asked to do.
-#[derive(Clone, Copy, PartialEq, Eq, Debug)]
+#[derive(Clone, Copy, PartialEq, Eq)]
 pub enum Job {
     /// Block file to cells.
     Encode {

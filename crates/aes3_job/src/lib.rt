@@ -1,15 +1,10 @@
-//! What the program does once its command line is read: a job between a source and a sink, the line
-//! of its refusal and its exit status.
+//! What the program can be asked to do, and whoever is told beside the streams how that goes on.
 #![tactic(auto)]
 
-mod finish;
+/// The jobs.
 mod job;
-mod job_run;
+/// Whoever is told how a job goes on.
 mod observer;
-mod refusal;
 
-pub use finish::finish_job;
 pub use job::Job;
-pub use job_run::{DONE, FAULTY, run_job};
 pub use observer::{Nobody, Observer};
-pub use refusal::{REFUSED, put_refusal, refuse};

@@ -14,7 +14,7 @@ pub trait Observer {
 }
 
 /// An observer that looks away.
-#[derive(Clone, Copy, PartialEq, Eq, Debug)]
+#[derive(Clone, Copy)]
 pub struct Nobody;
 
 impl Observer for Nobody {

@@ -3,7 +3,7 @@
 use aes3_cell::Level;
 
 /// A place at which preamble Z stands, as far as the cells from it on are those of a block.
-#[derive(Clone, Copy, PartialEq, Eq, Debug)]
+#[derive(Clone, Copy)]
 pub struct Candidate {
     /// The place of its first cell.
     pub at: u64,

@@ -47,7 +47,7 @@ pub enum Report {
 
 /// What a cell makes of the candidate that it ends: its report without the block, which stands in
 /// the lock.
-#[derive(Clone, Copy, PartialEq, Eq, Debug)]
+#[derive(Clone, Copy)]
 pub enum Ending {
     /// A whole block with right parity bits, and the level before its first cell.
     Whole { at: u64, before: Level },
@@ -58,7 +58,7 @@ pub enum Ending {
 }
 
 /// What a lock took of the front of a word.
-#[derive(Clone, Copy, PartialEq, Eq, Debug)]
+#[derive(Clone, Copy)]
 pub struct Pushed {
     /// How many cells it took.
     pub taken: u32,

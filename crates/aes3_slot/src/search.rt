@@ -44,7 +44,7 @@ pub fn block_preambles(cells: u64, next: u64) -> u64
 }
 
 /// Where each preamble begins in 64 cells, in either polarity, each such cell a one.
-#[derive(Clone, Copy, PartialEq, Eq, Debug)]
+#[derive(Clone, Copy, PartialEq, Eq)]
 pub struct MarkPlaces {
     /// Those of X.
     pub x: u64,

@@ -5,7 +5,7 @@ use std::marker::Model;
 /// A channel status for consumer use (IEC 60958-3): byte 0 bit 0 is 0.
 ///
 /// A field of bits is a number, its lowest bit of weight 1.
-#[derive(Clone, Copy, PartialEq, Eq, Debug)]
+#[derive(Clone, Copy)]
 pub struct Con {
     bytes: [u8; 24],
 }

@@ -3,6 +3,7 @@
 #![tactic(auto)]
 
 mod bits;
+mod change;
 mod check;
 mod consumer;
 mod field;
@@ -12,6 +13,7 @@ mod professional;
 mod setting;
 mod status;
 
+pub use change::Change;
 pub use check::{Check, check_byte, check_state, with_check};
 pub use consumer::Con;
 pub use field::{ConField, Field, ProField};

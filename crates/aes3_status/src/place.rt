@@ -7,7 +7,7 @@ ghost use Rattle.aes3_status.specs.Settings.{with_bits, with_field};
 use crate::bits::bits_at;
 
 /// `count` bits of byte `byte` from bit `first` on.
-#[derive(Clone, Copy, PartialEq, Eq, Debug)]
+#[derive(Clone, Copy)]
 pub(crate) struct Place {
     pub(crate) byte: usize,
     pub(crate) first: u32,

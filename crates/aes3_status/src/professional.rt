@@ -6,7 +6,7 @@ use std::marker::Model;
 /// A channel status for professional use (AES3-2): byte 0 bit 0 is 1.
 ///
 /// A field of bits is a number, its lowest bit of weight 1.
-#[derive(Clone, Copy, PartialEq, Eq, Debug)]
+#[derive(Clone, Copy)]
 pub struct Pro {
     bytes: [u8; 24],
 }

@@ -10,7 +10,7 @@ use crate::place::put_code;
 pub const SETTINGS: usize = 64;
 
 /// A field and the code that it gets.
-#[derive(Clone, Copy, PartialEq, Eq, Debug)]
+#[derive(Clone, Copy, PartialEq, Eq)]
 pub struct Setting {
     /// The field, of status for one of the two uses.
     pub field: Field,

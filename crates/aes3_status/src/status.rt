@@ -6,7 +6,7 @@ use crate::consumer::Con;
 use crate::professional::Pro;
 
 /// The channel status of one channel in one block, 24 bytes (AES3-2, IEC 60958-3).
-#[derive(Clone, Copy, PartialEq, Eq, Debug)]
+#[derive(Clone, Copy)]
 pub enum Status {
     /// Professional use (AES3-2).
     Professional(Pro),

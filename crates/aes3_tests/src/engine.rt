@@ -7,7 +7,8 @@ use aes3_cell::{
     Counts, EndlessSource, FailingSource, Form, MemorySink, MemorySource, RunError, StdSink,
 };
 use aes3_engine::cut;
-use aes3_job::{Job, run_job};
+use aes3_job::Job;
+use aes3_runner::run_job;
 use std::alloc::{AllocError, Global};
 use std::io::BufWriter;
 use std::test::Fail;

@@ -4,7 +4,8 @@ ghost use Rattle.std.specs.Prelude.{◌<◌};
 
 use aes3_cell::{Form, MemorySink, MemorySource};
 use aes3_engine::Change;
-use aes3_job::{Job, Nobody, finish_job};
+use aes3_job::{Job, Nobody};
+use aes3_runner::finish_job;
 use aes3_text::Lines;
 use std::alloc::{AllocError, Global};
 use std::process::Abort;
@@ -99,7 +100,7 @@ fn expect_rows(rt: &impl Abort, alloc: Global, rows: &[Row<'_>]) {
         let mut lines = MemorySink::new(alloc);
         let answer = finish_job(job, &mut source, &mut sink, &mut lines, &mut Nobody);
         let is_right = answer == *status && sink.bytes() == *output && lines.bytes() == *errors;
-        assert!(rt; is_right, "{job:?}");
+        assert!(rt; is_right);
     }
 }
 

@@ -7,6 +7,8 @@ mod block;
 #[cfg(test)]
 mod cell;
 #[cfg(test)]
+mod command_lines;
+#[cfg(test)]
 mod damage;
 #[cfg(test)]
 mod engine;
@@ -16,6 +18,8 @@ mod job;
 mod lines;
 #[cfg(test)]
 mod lock;
+#[cfg(test)]
+mod program;
 #[cfg(test)]
 mod runs;
 #[cfg(test)]

@@ -13,15 +13,15 @@ use Rattle.aes3_lock.specs.Outcomes.{Outcome}
 use Rattle.aes3_lock.specs.Reports.{told, outcome_at, decided_at, open_at, reports, decided, wholes, blocks}
 use Rattle.aes3_lock.proofs.Deciding.{answer, decided-push, block_len_24576}
 use Rattle.aes3_lock.proofs.Ends.{final}
-use Rattle.aes3_engine.specs.Running.{Movement}
-use Rattle.aes3_engine.specs.Taking.{Writing, behind, before_end, with_end}
-use Rattle.aes3_engine.specs.Inputs.{cells_of}
-use Rattle.aes3_engine.specs.Driving.{Drive}
+use Rattle.aes3_input.specs.Running.{Movement}
+use Rattle.aes3_input.specs.Taking.{Writing, behind, before_end, with_end}
+use Rattle.aes3_input.specs.Inputs.{cells_of}
+use Rattle.aes3_input.specs.Driving.{Drive}
 use Rattle.aes3_engine.specs.ReportRuns.{is_faulty, Tallies}
 use Rattle.aes3_engine.proofs.ReportLemmas.{tallies-few}
 use Rattle.aes3_engine.proofs.Reports.{few-decided}
-use Rattle.aes3_engine.proofs.Items.{before-is, before-join as end-join}
-use Rattle.aes3_text.specs.declared.lines.Lines.{Lines}
+use Rattle.aes3_input.proofs.Items.{before-is, before-join as end-join}
+use Rattle.aes3_lines.specs.declared.lines.Lines.{Lines}
 use Rattle.aes3_lock.specs.Remains.{place_of}
 use Rattle.aes3_text.specs.Gaps.{Entry, reported, full_gaps, full_count, behind_full, rest_gap, gaps, gaps_before, behind_report, account_from, reached_from, account, begun_account, accounted, is_lost}
 use Rattle.aes3_text.specs.Lines.{entry_line}

@@ -1,5 +1,6 @@
 -- Gaps between two places, in two parts, and the account of more reports.
-use Rattle.std.proofs.Common.{◌≡◌, ℕ, zero, suc, ◌+◌, ◌-◌, ◌*◌, ◌/◌, ◌<◌, ◌≤◌, Bool, true, false, cond, ltb, List, [], ◌∷◌, ◌++◌, Option, length, refl, sym, ap, ap₂, ◌∙◌, arith, append_assoc, append-nil, length-append}
+use Rattle.std.proofs.Common.{◌≡◌, ℕ, zero, suc, ◌+◌, ◌-◌, ◌*◌, ◌/◌, ◌<◌, ◌≤◌, Bool, true, false, cond, ltb, List, [], ◌∷◌, ◌++◌, Option, length, refl, sym, ap, ap₂, ◌∙◌, arith, append_assoc, append-nil, length-append, Result, Ok, Err}
+use Rattle.std.specs.Prelude.{IfOk}
 use Rattle.std.specs.List.{filter}
 use Rattle.std.proofs.lemmas.List.Elements.{filter-append}
 use Rattle.std.proofs.lemmas.Grind.{flat_map-append}
@@ -11,7 +12,7 @@ use Rattle.aes3_lock.proofs.Deciding.{block_len_24576}
 use Rattle.aes3_lock.proofs.AllStanding.{wholes-append}
 use Rattle.aes3_cell.specs.Ends.{Grew, GrewFront}
 use Rattle.aes3_cell.proofs.Growing.{front-is, front-join, front-more}
-use Rattle.aes3_text.specs.declared.lines.Lines.{Lines}
+use Rattle.aes3_lines.specs.declared.lines.Lines.{Lines}
 use Rattle.aes3_text.specs.Lines.{entry_line, gap_line}
 use Rattle.aes3_text.specs.Runs.{account_lines}
 use Rattle.aes3_lock.specs.Remains.{place_of}
@@ -157,3 +158,8 @@ gaps-lost counts p q x l l' l'' e f g =
 
 pub full-lost : (p n l l' : ℕ) → l' ≡ l + n → l' ≡ l + length (filter is_lost (full_gaps p n))
 full-lost p n l l' e = let f = lost-full p n in omega arith
+
+pub full-lost-ok : {T E : Type 0} (r : Result T E) (p n l l' : ℕ)
+    → IfOk r (λ _. l' ≡ l + n) → IfOk r (λ _. l' ≡ l + length (filter is_lost (full_gaps p n)))
+full-lost-ok (Ok v) p n l l' e = full-lost p n l l' e
+full-lost-ok (Err d) p n l l' e = tt

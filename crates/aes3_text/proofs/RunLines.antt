@@ -8,8 +8,8 @@ use Rattle.aes3_lock.specs.Reports.{ending_report, reports, decided, wholes, blo
 use Rattle.aes3_engine.specs.ReportRuns.{output_from, output}
 use Rattle.aes3_engine.specs.BlockRuns.{report_bytes, decided_blocks}
 use Rattle.aes3_engine.proofs.ReportLemmas.{blocks-output}
-use Rattle.aes3_text.specs.declared.lines.Lines.{Lines}
-use Rattle.aes3_text.specs.declared.lines.Lines.TheVariants.{All, Faults}
+use Rattle.aes3_lines.specs.declared.lines.Lines.{Lines}
+use Rattle.aes3_lines.specs.declared.lines.Lines.TheVariants.{All, Faults}
 use Rattle.aes3_text.specs.Lines.{told_line}
 use Rattle.aes3_text.specs.Runs.{report_lines, channel_lines, status_lines}
 

@@ -12,11 +12,11 @@ use Rattle.aes3_cell.proofs.Growing.{grew-none, grew-is, front-is}
 use Rattle.aes3_lock.specs.Preambles.{first_mark, placed, marks_from, marks}
 use Rattle.aes3_lock.proofs.Scanning.{ending, marks-push}
 use Rattle.aes3_lock.specs.Following.{ScanState, ScanFollows}
-use Rattle.aes3_engine.specs.Taking.{behind, before_end, with_end}
-use Rattle.aes3_engine.specs.Inputs.{cells_of}
-use Rattle.aes3_engine.proofs.Items.{before-is, before-join}
-use Rattle.aes3_text.specs.Lines.{mark_line}
-use Rattle.aes3_text.specs.Runs.{line_of, mark_lines, marks_by, marking, scan_counts, Scanned}
+use Rattle.aes3_input.specs.Taking.{behind, before_end, with_end}
+use Rattle.aes3_input.specs.Inputs.{cells_of}
+use Rattle.aes3_input.proofs.Items.{before-is, before-join}
+use Rattle.aes3_lines.specs.MarkLines.{line_of, mark_line, mark_lines}
+use Rattle.aes3_text.specs.Runs.{marks_by, marking, scan_counts, Scanned}
 
 -- the preambles of all cells before are those of all cells
 marks-by : (c : List Level) (l : Level) (m : List (ℕ × Mark × Level)) → marks (c ++ l ∷ []) ≡ marks c ++ m → marks_by c l ≡ m

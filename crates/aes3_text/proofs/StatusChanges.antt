@@ -11,11 +11,11 @@ use Rattle.aes3_lock.specs.declared.report.Report.{Report}
 use Rattle.aes3_lock.specs.declared.report.Report.TheVariants.{Whole, Marked, Fault, Unfinished}
 use Rattle.aes3_lock.specs.Reports.{blocks, decided, reports, wholes}
 use Rattle.aes3_lock.proofs.AllStanding.{wholes-append}
-use Rattle.aes3_engine.specs.Taking.{before_end, with_end}
+use Rattle.aes3_input.specs.Taking.{before_end, with_end}
+use Rattle.aes3_input.proofs.Items.{before-is}
 use Rattle.aes3_engine.specs.Reporting.{reporting}
 use Rattle.aes3_engine.specs.BlockRuns.{decided_blocks}
 use Rattle.aes3_engine.specs.ReportRuns.{Tallies}
-use Rattle.aes3_engine.proofs.Items.{before-is}
 use Rattle.aes3_engine.proofs.Reports.{before-reports, with-reports}
 use Rattle.aes3_text.specs.Runs.{AreLast, Changes, block_changes, change_line, change_lines, changes_from, changing, report_changes, status_in}
 

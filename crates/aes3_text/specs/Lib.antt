@@ -1,13 +1,5 @@
 pub mod Gaps
 pub mod Lines
-pub mod Words
-pub mod Fields
-pub mod Professional
-pub mod Consumer
-pub mod StatusLines
 pub mod Runs
-pub mod Gathering
 pub mod Laws
 pub mod GapLaws
-pub mod Settings
-pub mod Choices

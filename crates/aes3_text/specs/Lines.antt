@@ -1,25 +1,13 @@
--- The lines of reports and preambles. Numbers are decimal.
+-- The lines of reports and of gaps. Numbers are decimal.
 use Rattle.std.specs.Prelude.{ℕ, List, [], ◌∷◌, ◌++◌, codes, decimal}
-use Rattle.aes3_cell.specs.declared.level.Level.{Level}
-use Rattle.aes3_cell.specs.declared.level.Level.TheVariants.{Low, High}
-use Rattle.aes3_slot.specs.declared.mark.Mark.{Mark}
-use Rattle.aes3_slot.specs.declared.mark.Mark.TheVariants.{X, Y, Z}
 use Rattle.aes3_lock.specs.declared.report.Report.{Report}
 use Rattle.aes3_lock.specs.declared.report.Report.TheVariants.{Whole, Marked, Fault, Unfinished}
 use Rattle.aes3_lock.specs.declared.report.Why.{Why}
 use Rattle.aes3_lock.specs.declared.report.Why.TheVariants.{Preamble, Biphase, Unclosed}
-use Rattle.aes3_text.specs.declared.lines.Lines.{Lines}
-use Rattle.aes3_text.specs.declared.lines.Lines.TheVariants.{All, Faults}
+use Rattle.aes3_lines.specs.declared.lines.Lines.{Lines}
+use Rattle.aes3_lines.specs.declared.lines.Lines.TheVariants.{All, Faults}
+use Rattle.aes3_lines.specs.MarkLines.{level_digit}
 use Rattle.aes3_text.specs.Gaps.{Entry, reported, lost, cut}
-
-abbrev pub level_digit : Level → List ℕ
-level_digit Low = codes "0"
-level_digit High = codes "1"
-
-abbrev pub mark_letter : Mark → List ℕ
-mark_letter X = codes "X"
-mark_letter Y = codes "Y"
-mark_letter Z = codes "Z"
 
 abbrev pub reason_word : Why → List ℕ
 reason_word Preamble = codes "preamble"
@@ -55,15 +43,3 @@ abbrev pub entry_line : Lines → Entry → List ℕ
 entry_line lines (reported x) = told_line lines x
 entry_line lines (lost at cells) = gap_line at cells
 entry_line lines (cut at cells) = gap_line at cells
-
--- the line of a preamble at cell `at` after the level `before`
-abbrev pub mark_line : ℕ → Mark → Level → List ℕ
-mark_line at mark before =
-    codes "mark " ++ mark_letter mark ++ codes " at " ++ decimal at ++ codes " before " ++ level_digit before ++ 10 ∷ []
-
--- what stands in it before the number and behind it
-abbrev pub mark_beginning : Mark → List ℕ
-mark_beginning mark = codes "mark " ++ mark_letter mark ++ codes " at "
-
-abbrev pub mark_ending : Level → List ℕ
-mark_ending before = codes " before " ++ level_digit before ++ 10 ∷ []

@@ -15,15 +15,16 @@ use Rattle.aes3_lock.specs.declared.report.Report.TheVariants.{Whole, Marked, Fa
 use Rattle.aes3_lock.specs.Preambles.{marks}
 use Rattle.aes3_lock.specs.Reports.{blocks, decided, reports, wholes}
 use Rattle.aes3_lock.specs.Following.{ScanState, ScanFollows}
-use Rattle.aes3_engine.specs.Taking.{Writing}
-use Rattle.aes3_engine.specs.Inputs.{cells_of}
+use Rattle.aes3_input.specs.Taking.{Writing}
+use Rattle.aes3_input.specs.Inputs.{cells_of}
 use Rattle.aes3_engine.specs.BlockRuns.{numbered}
 use Rattle.aes3_engine.specs.ReportRuns.{is_faulty, is_unfinished, Tallies}
 use Rattle.aes3_text.specs.declared.ledger.Ledger.{Ledger}
-use Rattle.aes3_text.specs.declared.lines.Lines.{Lines}
+use Rattle.aes3_lines.specs.declared.lines.Lines.{Lines}
 use Rattle.aes3_text.specs.Gaps.{Entry, account, accounted, begun_account, is_lost}
-use Rattle.aes3_text.specs.Lines.{entry_line, told_line, mark_line}
-use Rattle.aes3_text.specs.StatusLines.{status_line}
+use Rattle.aes3_text.specs.Lines.{entry_line, told_line}
+use Rattle.aes3_lines.specs.MarkLines.{mark_lines}
+use Rattle.aes3_lines.specs.StatusLines.{status_line}
 
 -- the lines of reports
 abbrev pub report_lines : Lines → List Report → List ℕ
@@ -130,13 +131,6 @@ pub record AreLast (first second : Option (List ℕ)) (bs : List (List (List Boo
 pub record Changes (first second : Option (List ℕ)) (blocks faults unfinished : ℕ) (r : List Report) : Type 0 where
   pub last : AreLast first second (wholes r)
   pub tally : Tallies blocks faults unfinished r
-
--- the lines of preambles
-unfoldable pub line_of : ℕ × Mark × Level → List ℕ
-line_of m = mark_line m.0 m.1 m.2
-
-abbrev pub mark_lines : List (ℕ × Mark × Level) → List ℕ
-mark_lines ms = flat_map line_of ms
 
 -- what a run counts that tells preambles
 unfoldable pub scan_counts : Form → List ℕ → Counts

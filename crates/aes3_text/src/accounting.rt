@@ -3,17 +3,17 @@
 ghost use Rattle.std.specs.Prelude.{◌≡◌, ℕ, ◌+◌, ◌<◌, ◌≤◌, ◌^◌, List, [], IfOk};
 ghost use Rattle.aes3_cell.specs.Ends.{Grew, Told};
 ghost use Rattle.aes3_lock.specs.Following.{Follows};
-ghost use Rattle.aes3_engine.specs.CellRuns.{CellRun};
-ghost use Rattle.aes3_engine.specs.Inputs.{cells_of};
-ghost use Rattle.aes3_engine.specs.Running.{movement_of};
+ghost use Rattle.aes3_input.specs.CellRuns.{CellRun};
+ghost use Rattle.aes3_input.specs.Inputs.{cells_of};
+ghost use Rattle.aes3_input.specs.Running.{movement_of};
 ghost use Rattle.aes3_text.specs.Gaps.{account, begun_account};
 ghost use Rattle.aes3_text.specs.Runs.{IsClosedLedgerOf, IsLedgerOf, account_counts, account_lines};
 ghost use Rattle.aes3_text.specs.Runs.{accounting};
 
 use crate::ledger::Ledger;
-use crate::lines::Lines;
 use aes3_cell::{Counts, Fault, Form, RunError, Sink, Source};
 use aes3_engine::{Taker, drive};
+use aes3_lines::Lines;
 use aes3_lock::Lock;
 
 /// Takes cells, and accounts for all of them.

@@ -3,21 +3,22 @@
 ghost use Rattle.std.specs.Prelude.{ℕ, ◌≡◌, ◌+◌, ◌<◌, ◌≤◌, ◌^◌, ◌++◌, List, [], ◌∷◌, Bool, Some};
 ghost use Rattle.std.specs.Prelude.{length, IfOk, OnErr};
 ghost use Rattle.aes3_cell.specs.Ends.{Grew, GrewFront, Told};
+ghost use Rattle.aes3_cell.specs.Writes.{Wrote};
 ghost use Rattle.aes3_block.specs.Statuses.{status_of};
 ghost use Rattle.aes3_block.specs.declared.status.Channel.TheVariants as channel;
 ghost use Rattle.aes3_lock.specs.Reports.{blocks, wholes};
+ghost use Rattle.aes3_input.specs.CellRuns.{CellRun};
+ghost use Rattle.aes3_input.specs.Inputs.{cells_of};
+ghost use Rattle.aes3_input.specs.Running.{movement_of};
 ghost use Rattle.aes3_engine.specs.BlockRuns.{decided_blocks};
-ghost use Rattle.aes3_engine.specs.CellRuns.{CellRun};
-ghost use Rattle.aes3_engine.specs.Inputs.{cells_of};
 ghost use Rattle.aes3_engine.specs.ReportRuns.{Tallies, counts_of};
-ghost use Rattle.aes3_engine.specs.Running.{movement_of};
 ghost use Rattle.aes3_text.specs.Runs.{AreLast, Changes, change_line, change_lines, changing};
 ghost use Rattle.aes3_text.specs.Runs.{report_changes};
 
-use crate::status::line_of_status;
 use aes3_block::{Block, Channel};
 use aes3_cell::{Counts, Fault, Form, RunError, Sink, Source};
 use aes3_engine::{Locked, Reporter, Tally, drive};
+use aes3_lines::line_of_status;
 use aes3_lock::{Ending, Lock, Report};
 
 /// Writes the line of a channel's status in block `number`, unless it is the one before it.
@@ -30,12 +31,8 @@ fn put_change<T: Sink>(
     sink: &mut T,
 ) -> Result<(), Fault>
     requires room { T.failed sink.old + 1 < 2 ^ 64 }
-    ensures line { IfOk result (λ _. Grew (T.taken sink.old) (T.taken sink.new)
-        (change_line channel number before status.now)) }
-    ensures count { IfOk result (λ _. T.failed sink.new ≡ T.failed sink.old) }
-    ensures err { OnErr result ((T.failed sink.new ≡ T.failed sink.old + 1)
-        × GrewFront (T.taken sink.old) (T.taken sink.new)
-        (change_line channel number before status.now)) }
+    ensures { Wrote T.taken T.failed sink.old sink.new
+        (change_line channel number before status.now) result }
 {
     if let Some(before) = before
         && before == *status
@@ -76,18 +73,11 @@ impl ChangeLines {
         ensures first { IfOk result (λ _. self.new.first ≡ Some (status_of block.now channel.First)) }
         ensures second { IfOk result (λ _. self.new.second
             ≡ Some (status_of block.now channel.Second)) }
-        ensures lines { IfOk result (λ _. Grew (T.taken sink.old) (T.taken sink.new)
+        ensures wrote { Wrote T.taken T.failed sink.old sink.new
             (change_line channel.First self.old.tally.blocks self.old.first
             (status_of block.now channel.First)
             ++ change_line channel.Second self.old.tally.blocks self.old.second
-            (status_of block.now channel.Second))) }
-        ensures count { IfOk result (λ _. T.failed sink.new ≡ T.failed sink.old) }
-        ensures err { OnErr result ((T.failed sink.new ≡ T.failed sink.old + 1)
-            × GrewFront (T.taken sink.old) (T.taken sink.new)
-            (change_line channel.First self.old.tally.blocks self.old.first
-            (status_of block.now channel.First)
-            ++ change_line channel.Second self.old.tally.blocks self.old.second
-            (status_of block.now channel.Second))) }
+            (status_of block.now channel.Second)) result }
     {
         let first = block.channel_status(Channel::First);
         let second = block.channel_status(Channel::Second);

@@ -3,17 +3,17 @@
 ghost use Rattle.std.specs.Prelude.{◌≡◌, ℕ, ◌+◌, ◌<◌, ◌≤◌, ◌^◌, List, [], IfOk};
 ghost use Rattle.aes3_cell.specs.Ends.{Grew, Told};
 ghost use Rattle.aes3_lock.specs.Reports.{decided, reports};
-ghost use Rattle.aes3_engine.specs.CellRuns.{CellRun};
-ghost use Rattle.aes3_engine.specs.Inputs.{cells_of};
+ghost use Rattle.aes3_input.specs.CellRuns.{CellRun};
+ghost use Rattle.aes3_input.specs.Inputs.{cells_of};
+ghost use Rattle.aes3_input.specs.Running.{movement_of};
 ghost use Rattle.aes3_engine.specs.ReportRuns.{counts_of};
-ghost use Rattle.aes3_engine.specs.Running.{movement_of};
 ghost use Rattle.aes3_text.specs.Lines.{told_line};
 ghost use Rattle.aes3_text.specs.Runs.{report_lines};
 
-use crate::lines::Lines;
 use crate::report::{tell_ending, tell_report};
 use aes3_cell::{Counts, Fault, Form, RunError, Sink, Source};
 use aes3_engine::{ReportWriter, run_reports};
+use aes3_lines::Lines;
 use aes3_lock::{Ending, Lock, Report};
 
 /// Writes the line of each report that gets one.

@@ -4,8 +4,8 @@ ghost use Rattle.std.specs.Prelude.{◌+◌, ◌<◌, ◌^◌};
 ghost use Rattle.aes3_cell.specs.Writes.{Wrote};
 ghost use Rattle.aes3_text.specs.Lines.{gap_line};
 
-use crate::line::Line;
 use aes3_cell::{Fault, Sink};
+use aes3_lines::Tail;
 
 /// Writes the line of a gap of `cells` cells from cell `at` on as one buffer.
 ///
@@ -15,10 +15,11 @@ pub fn line_of_gap<T: Sink>(at: u64, cells: u64, sink: &mut T) -> Result<(), Fau
     requires room { T.failed sink.old + 1 < 2 ^ 64 }
     ensures { Wrote T.taken T.failed sink.old sink.new (gap_line at cells) result }
 {
-    let mut line = Line::new();
-    line.text("gap at ");
-    line.number(at);
-    line.text(" cells ");
+    let mut line = Tail::new();
+    line.text(b"\n");
     line.number(cells);
-    line.end(sink)
+    line.text(b" cells ");
+    line.number(at);
+    line.text(b"gap at ");
+    line.hand_on(sink)
 }

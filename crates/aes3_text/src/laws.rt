@@ -5,7 +5,6 @@ ghost use Rattle.aes3_text.specs.GapLaws.{AccountIsInTime, AccountIsWhole, Chang
 ghost use Rattle.aes3_text.specs.GapLaws.{LossIsLost, NoGapLosesNothing, PieceHasNoGap};
 ghost use Rattle.aes3_text.specs.GapLaws.{RowHasNoGap};
 ghost use Rattle.aes3_text.specs.Laws.{ExchangedStatusIsFound};
-ghost use Rattle.aes3_text.specs.Settings.{LineShowsFields, OtherWordsStay};
 
 /// Two changed cells that leave a block, with the bits of two slots inverted, leave no good check
 /// of a channel status that they change.
@@ -49,16 +48,4 @@ pub fn loss_is_lost()
 pub fn whole_rows_have_no_gap()
     ensures row { RowHasNoGap }
     ensures piece { PieceHasNoGap }
-{}
-
-/// The line of a channel status is made of what is printed of each field that can be set, in order,
-/// and of the others.
-pub fn line_shows_fields()
-    ensures { LineShowsFields }
-{}
-
-/// A field that is set by name leaves what is printed of every other field, but where it tells what
-/// the other's codes mean.
-pub fn other_words_stay()
-    ensures { OtherWordsStay }
 {}

@@ -9,18 +9,18 @@ ghost use Rattle.aes3_cell.specs.Writes.{Wrote};
 ghost use Rattle.aes3_lock.specs.declared.report.Report.{Report};
 ghost use Rattle.aes3_lock.specs.Remains.{place_of};
 ghost use Rattle.aes3_lock.specs.Reports.{decided, reports};
+ghost use Rattle.aes3_input.specs.Taking.{behind};
 ghost use Rattle.aes3_engine.specs.ReportRuns.{IsTallyOf};
-ghost use Rattle.aes3_engine.specs.Taking.{behind};
 ghost use Rattle.aes3_text.specs.Gaps.{behind_full, behind_report, full_count, full_gaps, gaps};
 ghost use Rattle.aes3_text.specs.Gaps.{gaps_before, is_lost, reported, rest_gap};
 ghost use Rattle.aes3_text.specs.Runs.{AtEnd, IsClosedLedgerOf, IsLedgerOf, WhereDecided};
 ghost use Rattle.aes3_text.specs.Runs.{WhereNone, account_lines, accounting};
 
 use crate::gap::line_of_gap;
-use crate::lines::Lines;
 use crate::report::tell_report;
 use aes3_cell::{Fault, Sink};
 use aes3_engine::Tally;
+use aes3_lines::Lines;
 use aes3_lock::Report;
 
 /// How many cells a block has (AES3-3).
@@ -143,12 +143,12 @@ impl Ledger {
                 let behind_first = self.tally.blocks > 0;
                 self.tell_gaps(sink, *at, behind_first)?;
                 self.place = *at + BLOCK_CELLS;
+                Ok(())
             }
-            Report::Marked { at, .. } => self.tell_full(sink, *at)?,
-            Report::Fault { at, .. } => self.tell_full(sink, *at)?,
-            Report::Unfinished { at, .. } => self.tell_full(sink, *at)?,
+            Report::Marked { at, .. } => self.tell_full(sink, *at),
+            Report::Fault { at, .. } => self.tell_full(sink, *at),
+            Report::Unfinished { at, .. } => self.tell_full(sink, *at),
         }
-        Ok(())
     }
 
     /// Writes a report behind the gaps before it, and counts it.

@@ -5,9 +5,8 @@ ghost use Rattle.aes3_cell.specs.Writes.{Wrote};
 ghost use Rattle.aes3_lock.specs.Reports.{ending_report};
 ghost use Rattle.aes3_text.specs.Lines.{reason_word, report_line, told_line};
 
-use crate::lines::Lines;
-use crate::tail::{TAIL_LEN, Tail};
 use aes3_cell::{Fault, Sink};
+use aes3_lines::{Lines, TAIL_LEN, Tail};
 use aes3_lock::{Ending, Report, Why};
 
 /// Puts why a cell refutes a candidate, in one word.

@@ -7,18 +7,17 @@ ghost use Rattle.aes3_cell.specs.Words.{word_cells};
 ghost use Rattle.aes3_cell.specs.Writes.{Wrote};
 ghost use Rattle.aes3_cell.specs.declared.level.Level.{Level};
 ghost use Rattle.aes3_lock.specs.Preambles.{marks};
-ghost use Rattle.aes3_engine.specs.CellRuns.{CellRun};
-ghost use Rattle.aes3_engine.specs.Inputs.{cells_of};
-ghost use Rattle.aes3_engine.specs.Running.{movement_of};
-ghost use Rattle.aes3_engine.specs.Taking.{behind};
-ghost use Rattle.aes3_text.specs.Gathering.{AllButHeld};
-ghost use Rattle.aes3_text.specs.Lines.{mark_line};
-ghost use Rattle.aes3_text.specs.Runs.{Scanned, mark_lines, marking, scan_counts};
+ghost use Rattle.aes3_input.specs.CellRuns.{CellRun};
+ghost use Rattle.aes3_input.specs.Inputs.{cells_of};
+ghost use Rattle.aes3_input.specs.Running.{movement_of};
+ghost use Rattle.aes3_input.specs.Taking.{behind};
+ghost use Rattle.aes3_lines.specs.Gathering.{AllButHeld};
+ghost use Rattle.aes3_lines.specs.MarkLines.{mark_line, mark_lines};
+ghost use Rattle.aes3_text.specs.Runs.{Scanned, marking, scan_counts};
 
-use crate::gathered::{GATHERED_LEN, GatheredLines};
-use crate::mark::MARK_LEN;
 use aes3_cell::{Counts, Fault, Form, Level, RunError, Sink, Source};
 use aes3_engine::{Taker, drive};
+use aes3_lines::{GATHERED_LEN, GatheredLines, MARK_LEN};
 use aes3_lock::{Scan, WordMarks};
 use aes3_slot::Mark;
 

@@ -14,3 +14,9 @@ loop-i-preserved c = record {
   lines = lines-more c.loop-i.words c.args.text.now c.loop-i.i c.in-Some.word (omega arith) c.loop-i.invariant.lines
       (ap (take 65) (sym (between_to_end c.args.text.now (65 * c.loop-i.i) (length c.args.text.now) (omega arith))) ∙ c.in-Some.ensures.cells);
 }
+
+pub returns-in-None-clause-stops : goal.returns-in-None-clause-stops
+returns-in-None-clause-stops c = λ _ word fits same.
+    let rest = between_to_end c.args.text.now (65 * c.loop-i.i) (length c.args.text.now) (omega arith) in
+    let e = c.in-None.ensures.owed word fits (ap (take 65) rest ∙ same) in
+    cc

@@ -43,3 +43,24 @@ returns-in-Err-clause-err g c =
           (front-more (front-is (bytes-block c.args.form words at 16 within) (front-join c.loop-many.invariant.grew (front-is many c.in-Err.ensures.err.1)))
           (bytes_of c.args.form (flat_map word_cells (drop (at + 16) words)))),
     )
+
+pub returns-in_default-clause-cells : goal.returns-in_default-clause-cells
+returns-in_default-clause-cells g c = c.loop-many.invariant.grew
+
+pub returns-in_default-clause-count : goal.returns-in_default-clause-count
+returns-in_default-clause-count g c = c.loop-many.invariant.quiet
+
+pub returns-in-Ok-false-clause-count : goal.returns-in-Ok-false-clause-count
+returns-in-Ok-false-clause-count g c = c.in-Ok-false.ensures.count ∙ c.loop-many.invariant.quiet
+
+pub put_many-requires : goal.put_many-requires
+put_many-requires g c = let quiet = c.loop-many.invariant.quiet in record { room = omega (arith, quiet, c.requires) }
+
+pub loop-many-smaller : goal.loop-many-smaller
+loop-many-smaller g c =
+    let words = c.args.words.now in
+    let at = c.loop-many.at in
+    let rest = between_to_end words at (length words) (omega arith) in
+    let enough = c.in-Some.ensures.cases.enough in
+    let l = ap length rest ∙ length-drop at words in
+    omega (arith, enough, l)

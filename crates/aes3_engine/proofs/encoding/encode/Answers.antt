@@ -9,7 +9,7 @@ use Rattle.aes3_block.specs.Files.{file}
 use Rattle.aes3_block.proofs.FileLaws.{file_blocks-file}
 use Rattle.aes3_lock.specs.Reports.{blocks, normal}
 use Rattle.aes3_lock.proofs.NormalStreams.{blocks-lawful}
-use Rattle.aes3_engine.proofs.Told.{ran-told, few-told, told-wrote, told-sink_quiet, told-front, told-owed}
+use Rattle.aes3_input.proofs.Told.{ran-told, few-told, told-wrote, told-sink_quiet, told-front, told-owed}
 use Rattle.aes3_engine.proofs.EncodingLemmas.{few-blocks}
 use Rattle.aes3_engine.proofs.EncodeRuns.{starts, out-encoded, whole-encoded, told-cause, file-clean, clean-file, end-clean_file, counted, front-encoded}
 use Rattle.aes3_engine.proofs.encoding.encode.Goals as goal
@@ -71,3 +71,15 @@ returns-in-Err-clause-front g c = λ e b t.
   where
     error-is : {x y : RunError} → ◌≡◌ {A = Result Counts RunError} (Err x) (Err y) → x ≡ y
     error-is e = cc
+
+pub returns-in-Ok-clause-ended : goal.returns-in-Ok-clause-ended
+returns-in-Ok-clause-ended g c = c.in-Ok.ensures.run.ran.0.end
+
+pub returns-in-Ok-clause-quiet : goal.returns-in-Ok-clause-quiet
+returns-in-Ok-clause-quiet g c = (c.in-Ok.ensures.run.ran.4, c.in-Ok.ensures.run.ran.5)
+
+pub returns-in-Ok-clause-passed_on : goal.returns-in-Ok-clause-passed_on
+returns-in-Ok-clause-passed_on g c = c.in-Ok.ensures.passed_on
+
+pub returns-in-Ok-clause-sink_quiet : goal.returns-in-Ok-clause-sink_quiet
+returns-in-Ok-clause-sink_quiet g c = λ n. c.in-Ok.ensures.run.ran.5

@@ -1,8 +1,9 @@
-use Rattle.std.proofs.Common.{◌∷◌, [], take, drop, get_or, arith, sym, refl}
+use Rattle.std.proofs.Common.{◌∷◌, [], take, drop, get_or, arith, sym, refl, subst}
+use Rattle.std.proofs.lemmas.List.{take_more}
 use Rattle.std.proofs.Math.Seq.{drop-cons}
+use Rattle.aes3_input.proofs.Feeding.{fed-is, fed-join, ran-join}
 use Rattle.aes3_engine.specs.Encoding.{encoding, Encodes}
 use Rattle.aes3_engine.proofs.EncodingLemmas.{Blocks, bytes-quiet, encodes-seen}
-use Rattle.aes3_engine.proofs.Feeding.{ran-join}
 use Rattle.aes3_engine.proofs.encoding.take_few.Goals as goal
 
 pub feed_front-requires : goal.feed_front-requires
@@ -25,3 +26,24 @@ returns-in-Err g c =
     (get_or xs 0 0 ∷ []) (drop 1 xs) xs c.in-Err.error
     (bytes-quiet c.args.encoder.now.output c.args.file.now c.feed_front.new.file [] (g.T.Sink.taken c.args.sink.now) (c.feed_front.ensures.left c.if-feed_front.false))
     refl (sym (drop-cons xs 0 0 (omega arith))) c.in-Err.ensures
+
+pub take_byte-requires-clause-following : goal.take_byte-requires-clause-following
+take_byte-requires-clause-following g c =
+    let q = c.requires.following in
+    let l = q.1 in
+    let k = c.requires.some in
+    let e = c.feed_front.ensures.left c.if-feed_front.false in
+    (q.0, omega arith, subst (λ f. Encodes f c.args.encoder.now.blocks q.0) (sym e) q.2)
+
+pub returns-in-Ok : goal.returns-in-Ok
+returns-in-Ok g c =
+    let xs = c.args.piece.now in
+    let k = c.requires.some in
+    let f = c.feed_front.new.file in
+    let e = c.feed_front.ensures.left c.if-feed_front.false in
+    let q = bytes-quiet c.args.encoder.now.output c.args.file.now f [] (g.T.Sink.taken c.args.sink.now) e in (
+      omega arith,
+      omega arith,
+      fed-is (sym (take_more xs 0 0 k)) (fed-join q c.in-Ok.ensures.0),
+      c.in-Ok.ensures.1,
+    )

@@ -1,7 +1,7 @@
 use Rattle.aes3_lock.specs.Reports.{blocks}
+use Rattle.aes3_input.proofs.CellRuns.{run-is, run-wrote}
 use Rattle.aes3_engine.specs.BlockRuns.{begun_stream, cut_blocks, decided_blocks, written_stream}
 use Rattle.aes3_engine.proofs.BlockRuns.{cut-whole, cut-begun}
-use Rattle.aes3_engine.proofs.CellRuns.{run-is, run-wrote}
 use Rattle.aes3_engine.proofs.reading.cut.Goals as goal
 
 pub returns-clause-cut : goal.returns-clause-cut

@@ -1,8 +1,8 @@
 use Rattle.aes3_block.specs.Files.{block_bytes, file}
 use Rattle.aes3_lock.specs.Reports.{blocks}
+use Rattle.aes3_input.proofs.CellRuns.{run-is, run-wrote}
 use Rattle.aes3_engine.specs.BlockRuns.{decided_blocks}
 use Rattle.aes3_engine.proofs.BlockRuns.{alike-whole, alike-begun, run-back}
-use Rattle.aes3_engine.proofs.CellRuns.{run-is, run-wrote}
 use Rattle.aes3_engine.proofs.reading.decode.Goals as goal
 
 pub returns-clause-file : goal.returns-clause-file

@@ -1,8 +1,8 @@
 use Rattle.aes3_cell.specs.Written.{written}
 use Rattle.aes3_lock.specs.Reports.{normal}
+use Rattle.aes3_input.proofs.CellRuns.{run-wrote, run-input, run-counts, run-fits, run-owed, run-cause, run-sink_quiet, run-refused, run-front, run-few}
 use Rattle.aes3_engine.specs.BlockRuns.{begun_stream, decided_blocks}
 use Rattle.aes3_engine.proofs.BlockRuns.{normal-whole, normal-begun, run-piece, run-damaged, run-left, run-lost, tells, run-again}
-use Rattle.aes3_engine.proofs.CellRuns.{run-wrote, run-input, run-counts, run-fits, run-owed, run-cause, run-sink_quiet, run-refused, run-front, run-few}
 use Rattle.aes3_engine.proofs.reading.normalise.Goals as goal
 
 pub returns-clause-normal : goal.returns-clause-normal

@@ -1,8 +1,8 @@
 use Rattle.aes3_block.specs.Samples.{block_samples, samples}
 use Rattle.aes3_lock.specs.Reports.{blocks}
+use Rattle.aes3_input.proofs.CellRuns.{run-is, run-wrote}
 use Rattle.aes3_engine.specs.BlockRuns.{decided_blocks}
 use Rattle.aes3_engine.proofs.BlockRuns.{alike-whole, alike-begun, run-alike, run-back, run-normal}
-use Rattle.aes3_engine.proofs.CellRuns.{run-is, run-wrote}
 use Rattle.aes3_engine.proofs.samples.to_pcm.Goals as goal
 
 pub returns-clause-samples : goal.returns-clause-samples

@@ -2,9 +2,9 @@ use Rattle.std.proofs.Common.{◌≡◌, ap, Result, Err}
 use Rattle.aes3_cell.specs.declared.counts.Counts.{Counts}
 use Rattle.aes3_cell.specs.declared.refusal.RunError.{RunError}
 use Rattle.aes3_cell.proofs.Growing.{grew-is}
+use Rattle.aes3_input.proofs.Told.{ran-told, few-told, told-wrote, told-sink_quiet, told-front, told-owed}
 use Rattle.aes3_engine.proofs.SampleReads.{starts, out-samples, end-whole}
 use Rattle.aes3_engine.proofs.SampleRuns.{whole-samples, pcm-cause, pcm-clean, clean-pcm, pcm-counted, front-pcm}
-use Rattle.aes3_engine.proofs.Told.{ran-told, few-told, told-wrote, told-sink_quiet, told-front, told-owed}
 use Rattle.aes3_engine.proofs.sampling.from_pcm.Goals as goal
 
 pub convert-requires-clause-start : goal.convert-requires-clause-start

@@ -1,5 +1,5 @@
 use Rattle.std.proofs.Common.{◌+◌, ap, ◌∙◌, arith}
-use Rattle.aes3_engine.proofs.CellRuns.{drove-ok, drove-err, run-told}
+use Rattle.aes3_input.proofs.CellRuns.{drove-ok, drove-err, run-told}
 use Rattle.aes3_text.specs.Gaps.{account, begun_account}
 use Rattle.aes3_text.specs.Runs.{account_counts, account_lines}
 use Rattle.aes3_text.proofs.Accounts.{before-account, with-account, counted, drive-room}

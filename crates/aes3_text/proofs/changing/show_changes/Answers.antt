@@ -1,8 +1,8 @@
 use Rattle.std.proofs.Common.{[], sym, subst}
 use Rattle.aes3_lock.specs.Reports.{blocks}
+use Rattle.aes3_input.proofs.CellRuns.{drove-ok, drove-err, run-told}
 use Rattle.aes3_engine.specs.BlockRuns.{decided_blocks}
 use Rattle.aes3_engine.specs.ReportRuns.{counts_of}
-use Rattle.aes3_engine.proofs.CellRuns.{drove-ok, drove-err, run-told}
 use Rattle.aes3_engine.proofs.ReportRuns.{counted}
 use Rattle.aes3_text.specs.Runs.{Changes, change_lines}
 use Rattle.aes3_text.proofs.StatusChanges.{before-cells, with-cells, nothing-decided}

@@ -1,7 +1,7 @@
 use Rattle.aes3_lock.specs.Reports.{decided, reports}
 use Rattle.aes3_text.specs.Runs.{report_lines}
 use Rattle.aes3_text.proofs.RunLines.{check-whole, check-begun}
-use Rattle.aes3_engine.proofs.CellRuns.{run-is, run-wrote}
+use Rattle.aes3_input.proofs.CellRuns.{run-is, run-wrote}
 use Rattle.aes3_text.proofs.checking.check.Goals as goal
 
 pub returns-clause-lines : goal.returns-clause-lines

@@ -1,6 +1,7 @@
 use Rattle.aes3_lock.specs.Preambles.{marks}
-use Rattle.aes3_engine.proofs.CellRuns.{drove-ok, drove-err, run-told}
-use Rattle.aes3_text.specs.Runs.{mark_lines, scan_counts}
+use Rattle.aes3_input.proofs.CellRuns.{drove-ok, drove-err, run-told}
+use Rattle.aes3_lines.specs.MarkLines.{mark_lines}
+use Rattle.aes3_text.specs.Runs.{scan_counts}
 use Rattle.aes3_text.proofs.Scans.{before-lines, with-lines, counted}
 use Rattle.aes3_text.proofs.scanning.scan.Goals as goal
 

@@ -1,8 +1,8 @@
 use Rattle.aes3_lock.specs.Reports.{blocks}
+use Rattle.aes3_input.proofs.CellRuns.{run-is, run-wrote}
 use Rattle.aes3_engine.specs.BlockRuns.{decided_blocks}
 use Rattle.aes3_text.specs.Runs.{status_lines}
 use Rattle.aes3_text.proofs.RunLines.{show-whole, show-begun}
-use Rattle.aes3_engine.proofs.CellRuns.{run-is, run-wrote}
 use Rattle.aes3_text.proofs.showing.show.Goals as goal
 
 pub returns-clause-lines : goal.returns-clause-lines

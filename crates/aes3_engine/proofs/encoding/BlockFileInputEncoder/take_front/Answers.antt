@@ -1,7 +1,7 @@
 use Rattle.std.proofs.Common.{◌≤◌, ◌+◌, ◌^◌, ℕ, List, length, take, drop, arith, sym, subst, take-append-drop}
 use Rattle.aes3_block.specs.Readers.{FileReader}
+use Rattle.aes3_input.specs.Running.{FrontRan, movement_of}
 use Rattle.aes3_engine.specs.Encoding.{encoding, Encodes}
-use Rattle.aes3_engine.specs.Running.{FrontRan, movement_of}
 use Rattle.aes3_engine.proofs.EncodingLemmas.{Blocks, block-fed, block-front, encodes-seen, few-blocks}
 use Rattle.aes3_engine.proofs.encoding.BlockFileInputEncoder.take_front.Goals as goal
 

@@ -4,10 +4,10 @@ use Rattle.aes3_cell.specs.Words.{low_cells}
 use Rattle.aes3_cell.proofs.Growing.{grew-none, grew-is, front-is, front-more}
 use Rattle.aes3_lock.specs.Following.{report_in}
 use Rattle.aes3_lock.specs.Reports.{decided}
-use Rattle.aes3_engine.specs.Taking.{behind}
+use Rattle.aes3_input.specs.Taking.{behind}
+use Rattle.aes3_input.proofs.Items.{items-join}
+use Rattle.aes3_input.proofs.Handing.{cells-parted}
 use Rattle.aes3_engine.specs.Reporting.{reporting}
-use Rattle.aes3_engine.proofs.Items.{items-join}
-use Rattle.aes3_engine.proofs.Handing.{cells-parted}
 use Rattle.aes3_engine.proofs.Reports.{few-decided, adds-report, adds-nothing, same-reporting}
 use Rattle.aes3_engine.proofs.locked.LockedTaker.take_front.Goals as goal
 

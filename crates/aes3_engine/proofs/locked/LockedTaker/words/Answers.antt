@@ -2,7 +2,7 @@ use Rattle.std.proofs.Common.{◌≡◌, ◌+◌, ◌-◌, ◌*◌, ◌^◌, ◌
 use Rattle.std.specs.List.{flat_map}
 use Rattle.std.proofs.lemmas.List.{length-take-le, take_rest, take_all}
 use Rattle.aes3_cell.specs.Words.{word_len, word_cells}
-use Rattle.aes3_engine.proofs.Handing.{handed-is, handed-cells, handed-cells-front, length-words, words-more, words-parted}
+use Rattle.aes3_input.proofs.Handing.{handed-is, handed-cells, handed-cells-front, length-words, words-more, words-parted}
 use Rattle.aes3_engine.proofs.Locking.{handed-quiet}
 use Rattle.aes3_engine.proofs.locked.LockedTaker.words.Goals as goal
 

@@ -4,8 +4,8 @@ use Rattle.aes3_cell.specs.declared.level.Level.{Level}
 use Rattle.aes3_cell.specs.Words.{word_cells}
 use Rattle.aes3_lock.specs.Following.{Follows}
 use Rattle.aes3_lock.specs.Reports.{decided}
+use Rattle.aes3_input.proofs.Handing.{Handed}
 use Rattle.aes3_engine.specs.Reporting.{reporting}
-use Rattle.aes3_engine.proofs.Handing.{Handed}
 use Rattle.aes3_engine.proofs.locked.LockedTaker.words.Given as goal
 
 abbrev pub invariant-loop-at : goal.invariant-loop-at

@@ -3,7 +3,7 @@ use Rattle.std.specs.List.{flat_map}
 use Rattle.std.proofs.lemmas.List.{length-take-le, take_rest, take_all}
 use Rattle.std.proofs.lemmas.Result.{err_from_is_err_and}
 use Rattle.aes3_cell.specs.Words.{word_len, word_cells}
-use Rattle.aes3_engine.proofs.Handing.{handed-is, handed-cells, handed-cells-front, length-words, words-more, words-parted, words-further}
+use Rattle.aes3_input.proofs.Handing.{handed-is, handed-cells, handed-cells-front, length-words, words-more, words-parted, words-further}
 use Rattle.aes3_cell.specs.declared.level.Level.{Level}
 use Rattle.aes3_lock.specs.Following.{Follows}
 use Rattle.aes3_text.specs.Runs.{IsLedgerOf, accounting}

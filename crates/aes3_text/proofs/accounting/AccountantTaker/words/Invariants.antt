@@ -3,7 +3,7 @@ use Rattle.std.specs.List.{flat_map}
 use Rattle.aes3_cell.specs.declared.level.Level.{Level}
 use Rattle.aes3_cell.specs.Words.{word_cells}
 use Rattle.aes3_lock.specs.Following.{Follows}
-use Rattle.aes3_engine.proofs.Handing.{Handed}
+use Rattle.aes3_input.proofs.Handing.{Handed}
 use Rattle.aes3_text.specs.Runs.{IsLedgerOf, accounting}
 use Rattle.aes3_text.proofs.accounting.AccountantTaker.words.Given as goal
 

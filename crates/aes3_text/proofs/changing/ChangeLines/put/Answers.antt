@@ -9,10 +9,10 @@ returns-in-Whole-clause-last g c =
 pub returns-in-Whole-clause-lines : goal.returns-in-Whole-clause-lines
 returns-in-Whole-clause-lines g c =
     let k = c.args.self.now in
-    whole-grew c.put_block.result c.args.report.now k.first k.second k.tally.blocks (g.T.Sink.taken c.args.sink.now) (g.T.Sink.taken c.put_block.new.sink) c.in-Whole.is c.put_block.ensures.lines
+    whole-grew c.put_block.result c.args.report.now k.first k.second k.tally.blocks (g.T.Sink.taken c.args.sink.now) (g.T.Sink.taken c.put_block.new.sink) c.in-Whole.is c.put_block.ensures.wrote.grew
 
 pub returns-in-Whole-clause-err_lines : goal.returns-in-Whole-clause-err_lines
 returns-in-Whole-clause-err_lines g c =
     let k = c.args.self.now in
     whole-front c.put_block.result c.args.report.now k.first k.second k.tally.blocks (g.T.Sink.failed c.args.sink.now) (g.T.Sink.failed c.put_block.new.sink)
-    (g.T.Sink.taken c.args.sink.now) (g.T.Sink.taken c.put_block.new.sink) c.in-Whole.is c.put_block.ensures.err
+    (g.T.Sink.taken c.args.sink.now) (g.T.Sink.taken c.put_block.new.sink) c.in-Whole.is c.put_block.ensures.wrote.err

@@ -1,16 +1,51 @@
 use Rattle.std.proofs.Common.{◌+◌, ◌++◌, ◌∙◌, ap, ap₂}
+use Rattle.std.proofs.lemmas.Result.{err_from_is_err_and}
 use Rattle.aes3_block.specs.declared.status.Channel.TheVariants.{First, Second}
-use Rattle.aes3_cell.proofs.Growing.{front-is, front-join}
+use Rattle.aes3_cell.proofs.Growing.{grew-is, grew-join, front-is, front-join, front-more}
 use Rattle.aes3_text.specs.Runs.{change_line}
-use Rattle.aes3_text.proofs.StatusChanges.{on-err}
 use Rattle.aes3_text.proofs.changing.ChangeLines.put_block.Goals as goal
 
-pub returns-in_err-put_change-2-clause-err : goal.returns-in_err-put_change-2-clause-err
-returns-in_err-put_change-2-clause-err g c =
+pub returns-in_err-put_change-clause-wrote : goal.returns-in_err-put_change-clause-wrote
+returns-in_err-put_change-clause-wrote g c =
     let k = c.args.self.now in
-    on-err c.from_residual-in_err-put_change-2.result (
-      c.in_err-put_change-2.ensures.err.0 ∙ ap (λ n. n + 1) c.in_ok-put_change.ensures.count,
-      front-is
+    let p = err_from_is_err_and c.from_residual.result c.from_residual.ensures.1 in
+    let f = c.in_err-put_change.ensures.err in
+    rw p.1 (record {
+      grew = tt;
+      count = tt;
+      err = (
+        f.0,
+        front-is
+            (ap₂ (λ u v. change_line First k.tally.blocks k.first u ++ change_line Second k.tally.blocks k.second v)
+            c.channel_status-first.ensures c.channel_status-second.ensures)
+            (front-more f.1 (change_line Second k.tally.blocks k.second c.channel_status-second.result)),
+      );
+    })
+
+pub returns-in_err-put_change-2-clause-wrote : goal.returns-in_err-put_change-2-clause-wrote
+returns-in_err-put_change-2-clause-wrote g c =
+    let k = c.args.self.now in
+    let p = err_from_is_err_and c.from_residual-in_err-put_change-2.result c.from_residual-in_err-put_change-2.ensures.1 in
+    let f = c.in_err-put_change-2.ensures.err in
+    rw p.1 (record {
+      grew = tt;
+      count = tt;
+      err = (
+        f.0 ∙ ap (λ n. n + 1) c.in_ok-put_change.ensures.count,
+        front-is
+            (ap₂ (λ u v. change_line First k.tally.blocks k.first u ++ change_line Second k.tally.blocks k.second v)
+            c.channel_status-first.ensures c.channel_status-second.ensures)
+            (front-join c.in_ok-put_change.ensures.grew f.1),
+      );
+    })
+
+pub returns-clause-wrote : goal.returns-clause-wrote
+returns-clause-wrote g c =
+    let k = c.args.self.now in
+    record {
+      grew = grew-is
           (ap₂ (λ u v. change_line First k.tally.blocks k.first u ++ change_line Second k.tally.blocks k.second v) c.channel_status-first.ensures c.channel_status-second.ensures)
-          (front-join c.in_ok-put_change.ensures.line c.in_err-put_change-2.ensures.err.1),
-    )
+          (grew-join c.in_ok-put_change.ensures.grew c.in_ok-put_change-2.ensures.grew);
+      count = c.in_ok-put_change-2.ensures.count ∙ c.in_ok-put_change.ensures.count;
+      err = tt;
+    }

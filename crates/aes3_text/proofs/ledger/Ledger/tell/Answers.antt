@@ -1,11 +1,27 @@
 use Rattle.std.proofs.Common.{◌+◌, ◌++◌, ◌∷◌, [], sym, ap, ◌∙◌, append-nil}
 use Rattle.std.proofs.lemmas.Result.{err_from_is_err_and}
-use Rattle.aes3_cell.proofs.Growing.{grew-is, grew-join, front-is, front-join}
+use Rattle.aes3_cell.proofs.Growing.{grew-is, grew-join, front-is, front-join, front-more}
 use Rattle.aes3_text.specs.Gaps.{gaps_before, reported}
 use Rattle.aes3_text.specs.Lines.{told_line}
 use Rattle.aes3_text.specs.Runs.{account_lines}
 use Rattle.aes3_text.proofs.GapLemmas.{lines-append}
 use Rattle.aes3_text.proofs.ledger.Ledger.tell.Goals as goal
+
+pub returns-in_err-tell_before-clause-wrote : goal.returns-in_err-tell_before-clause-wrote
+returns-in_err-tell_before-clause-wrote g c =
+    let k = c.args.self.now in
+    let x = c.args.report.now in
+    let p = err_from_is_err_and c.from_residual.result c.from_residual.ensures.1 in
+    let f = c.in_err-tell_before.ensures.wrote.err in
+    rw p.1 (record {
+      grew = tt;
+      count = tt;
+      err = (
+        f.0,
+        front-is (sym (lines-append k.lines (gaps_before k.tally.blocks k.place x) (reported x ∷ [])))
+            (front-more f.1 (account_lines k.lines (reported x ∷ []))),
+      );
+    })
 
 pub returns-in_err-tell_report-clause-wrote : goal.returns-in_err-tell_report-clause-wrote
 returns-in_err-tell_report-clause-wrote g c =

@@ -1,8 +1,26 @@
-use Rattle.std.proofs.Common.{◌+◌, ap, ◌∙◌}
+use Rattle.std.proofs.Common.{◌+◌, ap, refl, ◌∙◌}
 use Rattle.std.proofs.lemmas.Result.{err_from_is_err_and}
-use Rattle.aes3_cell.proofs.Growing.{grew-is, grew-join, front-is, front-join}
+use Rattle.aes3_cell.proofs.Growing.{grew-is, grew-join, front-is, front-join, front-more}
+use Rattle.aes3_text.specs.Gaps.{behind_full, rest_gap}
+use Rattle.aes3_text.specs.Runs.{account_lines}
 use Rattle.aes3_text.proofs.GapLemmas.{gaps-lines, gaps-lost}
 use Rattle.aes3_text.proofs.ledger.Ledger.tell_gaps.Goals as goal
+
+pub returns-in_err-tell_full-clause-wrote : goal.returns-in_err-tell_full-clause-wrote
+returns-in_err-tell_full-clause-wrote g c =
+    let k = c.args.self.now in
+    let to = c.args.to in
+    let p = err_from_is_err_and c.from_residual.result c.from_residual.ensures.1 in
+    let f = c.in_err-tell_full.ensures.wrote.err in
+    rw p.1 (record {
+      grew = tt;
+      count = tt;
+      err = (
+        f.0,
+        front-is (gaps-lines k.lines c.args.counts k.place to (behind_full k.place to) refl)
+            (front-more f.1 (account_lines k.lines (rest_gap c.args.counts (behind_full k.place to) to))),
+      );
+    })
 
 pub returns-in_err-tell_rest-clause-wrote : goal.returns-in_err-tell_rest-clause-wrote
 returns-in_err-tell_rest-clause-wrote g c =

@@ -4,7 +4,7 @@ use Rattle.aes3_cell.proofs.Growing.{front-is}
 use Rattle.aes3_slot.proofs.Taken.{length-word}
 use Rattle.aes3_lock.specs.Preambles.{marks}
 use Rattle.aes3_text.specs.Runs.{Scanned}
-use Rattle.aes3_text.proofs.Gathering.{held-is}
+use Rattle.aes3_lines.proofs.Gathering.{held-is}
 use Rattle.aes3_text.proofs.Scans.{few-marks, marks-behind, scanned-marks}
 use Rattle.aes3_text.proofs.scanning.MarkLines.take_word.Goals as goal
 

@@ -1,5 +1,5 @@
 use Rattle.std.proofs.Common.{◌≡◌, ◌+◌, ◌≤◌, length}
-use Rattle.aes3_text.proofs.Gathering.{Telling}
+use Rattle.aes3_lines.proofs.Gathering.{Telling}
 use Rattle.aes3_text.proofs.scanning.MarkLines.tell_all.Given as goal
 
 abbrev pub invariant-loop-mark : goal.invariant-loop-mark

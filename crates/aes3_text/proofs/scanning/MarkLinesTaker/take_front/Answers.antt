@@ -3,9 +3,9 @@ use Rattle.std.specs.Prelude.{option_to_list}
 use Rattle.aes3_cell.specs.Words.{low_cells}
 use Rattle.aes3_cell.proofs.Growing.{front-is, front-more}
 use Rattle.aes3_lock.specs.Preambles.{marks}
-use Rattle.aes3_engine.specs.Taking.{behind}
-use Rattle.aes3_engine.proofs.Items.{items-join}
-use Rattle.aes3_engine.proofs.Handing.{cells-parted}
+use Rattle.aes3_input.specs.Taking.{behind}
+use Rattle.aes3_input.proofs.Items.{items-join}
+use Rattle.aes3_input.proofs.Handing.{cells-parted}
 use Rattle.aes3_text.specs.Runs.{Scanned, marking}
 use Rattle.aes3_text.proofs.Scans.{few-marks, scanned-mark, scanned-none, told-grew, told-front, none-grew}
 use Rattle.aes3_text.proofs.scanning.MarkLinesTaker.take_front.Goals as goal

@@ -4,12 +4,12 @@ use Rattle.std.proofs.lemmas.List.{length-take-le, take_all}
 use Rattle.aes3_cell.specs.declared.level.Level.{Level}
 use Rattle.aes3_cell.specs.Words.{word_cells}
 use Rattle.aes3_cell.proofs.Growing.{front-is, front-more}
-use Rattle.aes3_engine.specs.Taking.{behind}
-use Rattle.aes3_engine.proofs.Items.{items-join}
-use Rattle.aes3_engine.proofs.Handing.{length-words, words-more, words-parted}
-use Rattle.aes3_text.specs.Gathering.{AllButHeld}
+use Rattle.aes3_input.specs.Taking.{behind}
+use Rattle.aes3_input.proofs.Items.{items-join}
+use Rattle.aes3_input.proofs.Handing.{length-words, words-more, words-parted}
+use Rattle.aes3_lines.specs.Gathering.{AllButHeld}
 use Rattle.aes3_text.specs.Runs.{Scanned, marking}
-use Rattle.aes3_text.proofs.Gathering.{held-is, held-join, held-front, all-handed, front-handed}
+use Rattle.aes3_lines.proofs.Gathering.{held-is, held-join, held-front, all-handed, front-handed}
 use Rattle.aes3_text.proofs.scanning.MarkLinesTaker.words.Goals as goal
 
 pub take_word-requires-clause-following : goal.take_word-requires-clause-following

@@ -2,8 +2,8 @@ use Rattle.std.proofs.Common.{◌≡◌, ◌+◌, ◌≤◌, ◌++◌, List, len
 use Rattle.std.specs.List.{flat_map}
 use Rattle.aes3_cell.specs.declared.level.Level.{Level}
 use Rattle.aes3_cell.specs.Words.{word_cells}
-use Rattle.aes3_engine.specs.Taking.{behind}
-use Rattle.aes3_text.specs.Gathering.{AllButHeld}
+use Rattle.aes3_input.specs.Taking.{behind}
+use Rattle.aes3_lines.specs.Gathering.{AllButHeld}
 use Rattle.aes3_text.specs.Runs.{Scanned, marking}
 use Rattle.aes3_text.proofs.scanning.MarkLinesTaker.words.Given as goal
 

@@ -1,0 +1,5 @@
+mod LineAnswers
+mod LineWalks
+mod OptionReads
+mod OptionRows
+mod TakenLines

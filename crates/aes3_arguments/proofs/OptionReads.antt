@@ -1,0 +1,69 @@
+-- What the getters of a parse's matches read, by the options that the matches have.
+use Rattle.std.proofs.Common.{◌≡◌, ◌∙◌, ℕ, Bool, List, map, Bor, Option, Some, None, Result, Ok, Err, inl, inr, true, false, codes, refl, sym, ap, cond}
+use Rattle.std.specs.Prelude.{option_and_then}
+use Rattle.std.specs.Option.{option_map, option_map_or}
+use Rattle.std.specs.Str.{bytes_eq}
+use Rattle.std.specs.Str.Parse.{ParsesUnsigned, digits_value, without_leading_plus}
+use Rattle.clap.specs.Matches.{ReadsOne, found_of, matched_of, one_text, raw_values}
+use Rattle.clap.specs.Walk.{Text, all_of, one_of}
+use Rattle.clap.specs.ValueTests.{is_unsigned_in}
+use Rattle.clap.specs.declared.builder.value_parser.ValueParser.TheVariants as vp
+use Rattle.clap.specs.declared.parser.matches.ArgMatches.{ArgMatches}
+use Rattle.clap.proofs.ValueTestLemmas.{accepts-Accepts}
+use Rattle.clap.proofs.WalkLemmas.{one_text-rows, raw_values-rows}
+use Rattle.aes3_arguments.specs.Jobs.{IsNumber, MayBeFlag, is_set, number_in, options_of}
+
+-- `get_flag` tells whether the flag stands
+pub flag_is : (m : ArgMatches) (name : Text) (answer : Bool) → MayBeFlag (options_of m) name
+    → (one_text (found_of m) name ≡ None → answer ≡ false)
+    → (one_text (found_of m) name ≡ Some (codes "true") → answer ≡ true)
+    → (one_text (found_of m) name ≡ Some (codes "false") → answer ≡ false)
+    → answer ≡ is_set (options_of m) name
+flag_is m name answer flag none given not_given = elim flag [
+  | inl e ↦ none (one_text-rows (found_of m) name ∙ e) ∙ sym (ap test e)
+  | inr (inl e) ↦ given (one_text-rows (found_of m) name ∙ e) ∙ sym (ap test e)
+  | inr (inr e) ↦ not_given (one_text-rows (found_of m) name ∙ e) ∙ sym (ap test e)
+]
+  where
+    test : Option Text → Bool
+    test o = option_map_or (λ text. bytes_eq text (codes "true")) o false
+
+-- a number's text is read as that number
+number_parses : (E : Type 0) (G : Text → Result ℕ E → Type 0) (text : Text) (n : ℕ) (answer : Option ℕ)
+    → ((t : Text) (x : Result ℕ E) → G t x → ParsesUnsigned 64 10 t x)
+    → number_in text ≡ Some n → ReadsOne G text answer → answer ≡ Some n
+number_parses E G text n answer only is read =
+    go (is_unsigned_in 0 18446744073709551615 text) refl is answer read
+  where
+    value : ℕ
+    value = digits_value 10 (without_leading_plus text)
+
+    go : (b : Bool) → is_unsigned_in 0 18446744073709551615 text ≡ b
+        → cond b (Some (digits_value 10 (without_leading_plus text))) None ≡ Some n
+        → (o : Option ℕ) → ReadsOne G text o → o ≡ Some n
+    go true passed same (Some v) h = ap Some (only text (Ok v) h).1 ∙ same
+    go true passed same None h =
+        let numeral = accepts-Accepts false (vp.Unsigned 0 18446744073709551615) text passed in
+        absurd (only text (Err h.0) h.1 (numeral.0, numeral.1))
+    go false passed same o h = cc
+
+-- `get_one` reads the number
+pub number_is : (E : Type 0) (G : Text → Result ℕ E → Type 0) (m : ArgMatches) (name : Text) (n : ℕ) (answer : Option ℕ)
+    → ((t : Text) (x : Result ℕ E) → G t x → ParsesUnsigned 64 10 t x)
+    → IsNumber (options_of m) name n
+    → ((t : Text) → one_text (found_of m) name ≡ Some t → ReadsOne G t answer)
+    → answer ≡ Some n
+number_is E G m name n answer only is value = go (one_of name (options_of m)) refl is
+  where
+    go : (o : Option Text) → one_of name (options_of m) ≡ o → option_and_then number_in o ≡ Some n → answer ≡ Some n
+    go None at same = cc
+    go (Some text) at same =
+        number_parses E G text n answer only same (value text (one_text-rows (found_of m) name ∙ at))
+
+-- `get_strs` reads all the texts
+abbrev pub texts_in : Option (Bor (List (Bor Text))) → Option (List Text)
+texts_in = option_map (λ (s : Bor (List (Bor Text))). map (λ (v : Bor Text). v.now) s.now)
+
+pub texts_are : (m : ArgMatches) (name : Text) (answer is : Option (Bor (List (Bor Text)))) → texts_in answer ≡ option_map raw_values (matched_of (found_of m) name)
+    → answer ≡ is → all_of name (options_of m) ≡ texts_in is
+texts_are m name answer is read same = sym (raw_values-rows (found_of m) name) ∙ (sym read ∙ ap texts_in same)

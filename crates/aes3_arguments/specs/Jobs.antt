@@ -1,0 +1,270 @@
+-- What a command line asks for, by what `clap` makes of its words.
+use Rattle.std.specs.Prelude.{ℕ, Bool, List, [], ◌∷◌, ◌++◌, ◌≡◌, ◌≢◌, ◌⊎◌, Option, Some, None, codes, get_or, true, false}
+use Rattle.std.specs.Prelude.{if◌then◌else◌, option_and_then, is_some}
+use Rattle.std.specs.Option.{option_map_or}
+use Rattle.std.specs.Str.{bytes_eq}
+use Rattle.std.specs.Str.Parse.{digits_value, without_leading_plus}
+use Rattle.clap.specs.ValueTests.{is_unsigned_in}
+use Rattle.clap.specs.Faults.{fault_of}
+use Rattle.clap.specs.Kinds.{IsAmong, Kinds}
+use Rattle.clap.specs.Simple.{subcommand_of}
+use Rattle.clap.specs.Walk.{Row, Text, all_of, first_of, one_of, rows_of}
+use Rattle.clap.specs.Matches.{found_of}
+use Rattle.clap.specs.declared.parser.matches.ArgMatches.{ArgMatches}
+use Rattle.clap.specs.declared.error.kind.ErrorKind.{ErrorKind}
+use Rattle.clap.specs.declared.error.kind.ErrorKind.TheVariants.{DisplayHelp, DisplayVersion, OutOfMemory}
+use Rattle.aes3_cell.specs.declared.form.Form.{Form}
+use Rattle.aes3_cell.specs.declared.form.Form.TheVariants as form
+use Rattle.aes3_cell.specs.declared.refusal.RunError.TheVariants.{BadStatusText, Memory}
+use Rattle.aes3_status.specs.declared.change.Change.{Change}
+use Rattle.aes3_status.specs.declared.setting.Setting.{Setting}
+use Rattle.aes3_lines.specs.Choices.{choices}
+use Rattle.aes3_lines.specs.Settings.{AreSettingsOf, IsSettingsFault}
+use Rattle.aes3_lines.specs.declared.listed.SettingsFault.{SettingsFault}
+use Rattle.aes3_lines.specs.declared.listed.SettingsFault.TheVariants.{Unknown, TooMany}
+use Rattle.aes3_lines.specs.declared.lines.Lines.{Lines}
+use Rattle.aes3_lines.specs.declared.lines.Lines.TheVariants as lines
+use Rattle.aes3_commands.specs.CommandLine.{command_line}
+use Rattle.aes3_arguments.specs.StatusTexts.{status_in}
+use Rattle.aes3_job.specs.declared.job.Job.{Job}
+use Rattle.aes3_job.specs.declared.job.Job.TheVariants as job
+use Rattle.aes3_arguments.specs.declared.job.LineFault.{LineFault}
+use Rattle.aes3_arguments.specs.declared.job.LineFault.TheVariants as fault
+
+-- the options of a command, by their names: the values that the words give them, or their defaults
+abbrev pub Options : Type 0
+Options = List Row
+
+-- the command that stands in the words, with its options
+abbrev pub command_in : List Text → Option (Text × Options)
+command_in words = subcommand_of command_line words
+
+-- why the definitions do not take the words: `--help` or `--version` stands in them, or a fault;
+-- empty where they take them
+abbrev pub faults_in : List Text → Kinds
+faults_in words = fault_of command_line words
+
+-- the definitions take the words, and the command `name` stands in them with these options
+abbrev pub StandsIn : List Text → Text → Options → Type 0
+StandsIn words name options =
+    (faults_in words ≡ []) × (command_in words ≡ Some (name, options))
+
+-- the options that a parse found
+abbrev pub options_of : ArgMatches → Options
+options_of matches = rows_of (found_of matches)
+
+-- ---- values
+
+-- the option is a flag that was given, one that was not, or none
+abbrev pub MayBeFlag : Options → Text → Type 0
+MayBeFlag options name = (one_of name options ≡ None)
+    ⊎ ((one_of name options ≡ Some (codes "true")) ⊎ (one_of name options ≡ Some (codes "false")))
+
+-- the flag stands
+abbrev pub is_set : Options → Text → Bool
+is_set options name =
+    option_map_or (λ text. bytes_eq text (codes "true")) (one_of name options) false
+
+-- the form of the cells that the flag speaks of
+abbrev pub form_by : Options → Text → Form
+form_by options name = if is_set options name then form.Packed else form.Text
+
+-- which reports get a line
+abbrev pub lines_by : Options → Lines
+lines_by options = if is_set options (codes "faults") then lines.Faults else lines.All
+
+-- the number from 0 to 2^64 - 1 that the text writes, a plus before it or none
+abbrev pub number_in : Text → Option ℕ
+number_in text = if is_unsigned_in 0 18446744073709551615 text
+    then Some (digits_value 10 (without_leading_plus text)) else None
+
+-- the number at this place among the words
+abbrev pub IsNumber : Options → Text → ℕ → Type 0
+IsNumber options name n = option_and_then number_in (one_of name options) ≡ Some n
+
+-- the status bytes that an option's text has; none where the option is left out
+abbrev pub HasStatus : Option Text → Option (List ℕ) → Type 0
+HasStatus None bytes = bytes ≡ None
+HasStatus (Some text) bytes = (is_some bytes ≡ true) × (status_in text ≡ bytes)
+
+abbrev pub IsStatus : Options → Text → Option (List ℕ) → Type 0
+IsStatus options name bytes = HasStatus (first_of name options) bytes
+
+-- the settings that an option's texts name; none where the option is left out
+abbrev pub HaveSettings : Option (List Text) → Option (List Setting) → Type 0
+HaveSettings None settings = settings ≡ None
+HaveSettings (Some texts) None = ⊥
+HaveSettings (Some texts) (Some settings) = AreSettingsOf texts settings
+
+abbrev pub AreSettings : Options → Text → Option (List Setting) → Type 0
+AreSettings options name settings = HaveSettings (all_of name options) settings
+
+abbrev pub IsChange : Options → Change → Type 0
+IsChange options change = IsStatus options (codes "status1") change.status1
+    × IsStatus options (codes "status2") change.status2
+    × AreSettings options (codes "set1") change.settings1
+    × AreSettings options (codes "set2") change.settings2
+    × (change.mend ≡ is_set options (codes "mend-check"))
+
+-- ---- jobs
+
+-- the command of this name, with these options, asks for the job
+abbrev pub AsksFor : Text → Options → Job → Type 0
+AsksFor name options (job.Encode output) =
+    (name ≡ codes "encode") × (output ≡ form_by options (codes "packed-out"))
+AsksFor name options (job.Decode input) =
+    (name ≡ codes "decode") × (input ≡ form_by options (codes "packed-in"))
+AsksFor name options (job.Normal input output) =
+    (name ≡ codes "normal") × (input ≡ form_by options (codes "packed-in"))
+    × (output ≡ form_by options (codes "packed-out"))
+AsksFor name options (job.Check input told) =
+    (name ≡ codes "check") × (input ≡ form_by options (codes "packed-in"))
+    × (told ≡ lines_by options) × (is_set options (codes "gaps") ≡ false)
+AsksFor name options (job.Account input told) =
+    (name ≡ codes "check") × (input ≡ form_by options (codes "packed-in"))
+    × (told ≡ lines_by options) × (is_set options (codes "gaps") ≡ true)
+AsksFor name options (job.Show input) =
+    (name ≡ codes "show") × (input ≡ form_by options (codes "packed-in"))
+    × (is_set options (codes "changes") ≡ false)
+AsksFor name options (job.ShowChanges input) =
+    (name ≡ codes "show") × (input ≡ form_by options (codes "packed-in"))
+    × (is_set options (codes "changes") ≡ true)
+AsksFor name options (job.Scan input) =
+    (name ≡ codes "scan") × (input ≡ form_by options (codes "packed-in"))
+AsksFor name options (job.Cut input output first count) =
+    (name ≡ codes "cut") × (input ≡ form_by options (codes "packed-in"))
+    × (output ≡ form_by options (codes "packed-out"))
+    × IsNumber options (codes "FROM") first × IsNumber options (codes "COUNT") count
+AsksFor name options (job.Rewrite input output change) =
+    (name ≡ codes "rewrite") × (input ≡ form_by options (codes "packed-in"))
+    × (output ≡ form_by options (codes "packed-out")) × IsChange options change
+AsksFor name options (job.ToPcm input) =
+    (name ≡ codes "to-pcm") × (input ≡ form_by options (codes "packed-in"))
+AsksFor name options (job.FromPcm exact change) =
+    (name ≡ codes "from-pcm") × (exact ≡ is_set options (codes "exact")) × IsChange options change
+
+-- the definitions take the words, and the command that stands in them asks for the job
+abbrev pub IsJobOf : List Text → Job → Type 0
+IsJobOf words job =
+    (name : Text) × (options : Options) × StandsIn words name options × AsksFor name options job
+
+-- ---- refusals
+
+-- the option is given with a text that is no status
+abbrev pub IsBadStatus : Options → Text → Type 0
+IsBadStatus options name = (text : Text) × (first_of name options ≡ Some text)
+    × (status_in text ≡ None)
+
+-- one of the status texts among the options is none
+abbrev pub HasBadStatus : Options → Type 0
+HasBadStatus options =
+    IsBadStatus options (codes "status1") ⊎ IsBadStatus options (codes "status2")
+
+-- a text is no setting
+unfoldable pub value_text : Text → Text
+value_text text = codes "error: invalid value '" ++ text ++ codes "' for "
+
+-- the option `--name` and the end of the line
+unfoldable pub option_text : Text → Text
+option_text name = codes "'--" ++ name ++ (codes " <NAME=WORD>'" ++ 10 ∷ [])
+
+-- a text of the option is no setting, and what could stand in place of it
+unfoldable pub invalid_text : Text → Text → Text
+invalid_text name text = value_text text ++ option_text name ++ choices text
+
+-- more texts of it than may stand
+unfoldable pub many_text : Text → Text
+many_text name = codes "error: more than 32 of '--" ++ name ++ (codes " <NAME=WORD>'" ++ 10 ∷ [])
+
+-- why texts of the option `--name` have no settings
+abbrev pub fault_text : Text → List Text → SettingsFault → Text
+fault_text name texts (Unknown at) = invalid_text name (get_or texts at [])
+fault_text name texts TooMany = many_text name
+
+-- what is told of that, where the command is called by `usage`
+unfoldable pub refused_text : Text → Text → List Text → SettingsFault → Text
+refused_text name usage texts why =
+    fault_text name texts why ++ (10 ∷ codes "Usage: ") ++ usage ++ (10 ∷ 10 ∷ codes "For more information, try '--help'." ++ 10 ∷ [])
+
+-- the option's texts have no settings, and this text tells why
+abbrev pub TellsBadSettings : Options → Text → Text → Text → Type 0
+TellsBadSettings options name usage text = (texts : List Text) × (why : SettingsFault)
+    × (all_of name options ≡ Some texts) × IsSettingsFault texts why × (text ≡ refused_text name usage texts why)
+
+-- the texts for one of the channels have none
+abbrev pub TellsABadSetting : Options → Text → Text → Type 0
+TellsABadSetting options usage text =
+    TellsBadSettings options (codes "set1") usage text ⊎ TellsBadSettings options (codes "set2") usage text
+
+-- the commands that take the status of a channel
+abbrev pub TakesStatus : Text → Type 0
+TakesStatus name = (name ≡ codes "rewrite") ⊎ (name ≡ codes "from-pcm")
+
+-- how they are called
+abbrev pub rewrite_usage : Text
+rewrite_usage = codes "aes3 rewrite [OPTIONS] < CELLS > CELLS"
+
+abbrev pub from_pcm_usage : Text
+from_pcm_usage = codes "aes3 from-pcm [OPTIONS] < PCM > BLOCKFILE"
+
+-- one of their options is a setting that is none, and this text tells why
+abbrev pub TellsABadOption : Text → Options → Text → Type 0
+TellsABadOption name options text =
+    ((name ≡ codes "rewrite") × TellsABadSetting options rewrite_usage text)
+    ⊎ ((name ≡ codes "from-pcm") × TellsABadSetting options from_pcm_usage text)
+
+-- the definitions do not take the words, and ask for no help and no version
+abbrev pub IsNotTaken : List Text → Type 0
+IsNotTaken words = (kind : _) × IsAmong kind (faults_in words) × (kind ≢ DisplayHelp) × (kind ≢ DisplayVersion)
+
+-- the words ask what refusals mean
+abbrev pub asks_to_explain : List Text → Bool
+asks_to_explain [] = false
+asks_to_explain (word ∷ words) = bytes_eq word (codes "--explain")
+
+-- what is told of that
+abbrev pub IsExplanation : LineFault → Type 0
+IsExplanation (fault.Usage text) = Unit {0}
+IsExplanation (fault.Help text) = Unit {0}
+IsExplanation (fault.Refused error) = error ≡ Memory
+
+-- why the words are no job
+abbrev pub IsFaultOf : List Text → LineFault → Type 0
+IsFaultOf words (fault.Usage text) = (IsNotTaken words ⊎ (asks_to_explain words ≡ true))
+    ⊎ ((name : Text) × (options : Options) × StandsIn words name options × TellsABadOption name options text.bytes.items)
+IsFaultOf words (fault.Help text) =
+    (IsAmong DisplayHelp (faults_in words) ⊎ IsAmong DisplayVersion (faults_in words)) ⊎ (asks_to_explain words ≡ true)
+IsFaultOf words (fault.Refused error) =
+    (error ≡ Memory) ⊎ ((error ≡ BadStatusText) × ((name : Text) × (options : Options)
+    × StandsIn words name options × TakesStatus name × HasBadStatus options))
+
+-- what is told of an error of this kind
+abbrev pub Tells : ErrorKind → LineFault → Type 0
+Tells kind (fault.Usage text) = (kind ≢ OutOfMemory) × (kind ≢ DisplayHelp) × (kind ≢ DisplayVersion)
+Tells kind (fault.Help text) = (kind ≡ DisplayHelp) ⊎ (kind ≡ DisplayVersion)
+Tells kind (fault.Refused error) = error ≡ Memory
+
+-- what is told of settings that are none
+abbrev pub TellsSettings : Text → LineFault → Type 0
+TellsSettings told (fault.Usage text) = text.bytes.items ≡ told
+TellsSettings told (fault.Help text) = ⊥
+TellsSettings told (fault.Refused error) = error ≡ Memory
+
+-- why an option's texts give no settings
+abbrev pub IsSettingsFaultOf : Options → Text → Text → LineFault → Type 0
+IsSettingsFaultOf options name usage (fault.Usage text) = TellsBadSettings options name usage text.bytes.items
+IsSettingsFaultOf options name usage (fault.Help text) = ⊥
+IsSettingsFaultOf options name usage (fault.Refused error) = error ≡ Memory
+
+-- why the options give no change
+abbrev pub IsChangeFaultOf : Options → Text → LineFault → Type 0
+IsChangeFaultOf options usage (fault.Usage text) = TellsABadSetting options usage text.bytes.items
+IsChangeFaultOf options usage (fault.Help text) = ⊥
+IsChangeFaultOf options usage (fault.Refused error) =
+    (error ≡ Memory) ⊎ ((error ≡ BadStatusText) × HasBadStatus options)
+
+-- the words are taken and have a bad status or bad settings
+abbrev pub IsBadOptionOf : Text → Options → LineFault → Type 0
+IsBadOptionOf name options told =
+    ((name ≡ codes "rewrite") × IsChangeFaultOf options rewrite_usage told)
+    ⊎ ((name ≡ codes "from-pcm") × IsChangeFaultOf options from_pcm_usage told)

@@ -1,0 +1,252 @@
+//! What a command line asks for.
+
+ghost use Rattle.std.specs.Prelude.{◌≡◌, ◌≢◌, ℕ, List, codes, IfOk, IfErr, map};
+ghost use Rattle.clap.specs.Values.{kind_of};
+ghost use Rattle.clap.specs.Walk.{first_of};
+ghost use Rattle.aes3_arguments.specs.Jobs.{AreSettings, AsksFor, HasStatus, IsBadOptionOf, IsBadStatus};
+ghost use Rattle.aes3_arguments.specs.Jobs.{IsChange, IsChangeFaultOf, IsFaultOf, IsJobOf, IsNumber};
+ghost use Rattle.aes3_arguments.specs.Jobs.{IsSettingsFaultOf, IsStatus, MayBeFlag, StandsIn, Tells};
+ghost use Rattle.aes3_arguments.specs.Jobs.{TellsSettings, form_by, is_set, lines_by, options_of};
+ghost use Rattle.aes3_arguments.specs.Jobs.{refused_text};
+ghost use Rattle.aes3_arguments.specs.declared.job.LineFault.TheVariants.{Refused};
+ghost use Rattle.aes3_cell.specs.declared.refusal.RunError.TheVariants.{BadStatusText, Memory};
+
+use crate::explain::{asks_to_explain, explanation};
+use crate::refusals::settings_refused;
+use crate::status_text::status_of_text;
+use aes3_cell::{Form, RunError};
+use aes3_commands::{command_line, help};
+use aes3_job::Job;
+use aes3_lines::{Lines, SettingsFault, settings_of_texts};
+use aes3_status::{Change, SETTINGS, Setting};
+use clap::error::ErrorKind;
+use clap::{ArgMatches, Error};
+use std::alloc::{AllocError, Global};
+
+/// Why a command line gives no job.
+#[derive(Debug, Drop)]
+pub enum LineFault {
+    /// The words are no command line of the program; the text says why.
+    Usage { text: String },
+    /// The words ask for help, the version or what refusals mean, which the text is.
+    Help { text: String },
+    /// A status text that is none, or want of memory.
+    Refused(RunError),
+}
+
+/// What a command line without the program's name asks for. It reads no input.
+///
+/// # Errors
+/// `Usage` where the definitions of the command line don't take the words, no command stands in
+/// them, or a text of `--set1` or `--set2` is no setting; `Help` where `--help` or `--version`
+/// stands in them; either where `--explain` is the first of them; `BadStatusText` where they are
+/// taken, but a status text isn't 48 hexadecimal digits; `Memory` where memory was refused.
+pub fn job_of_words<'a>(alloc: Global, words: &'a [&'a str]) -> Result<Job, LineFault>
+    ensures job { IfOk result (IsJobOf (map (λ word. word.now) words.now)) }
+    ensures fault { IfErr result (IsFaultOf (map (λ word. word.now) words.now)) }
+{
+    if asks_to_explain(words) {
+        return Err(explanation(alloc, &words[1..])?);
+    }
+    let command = command_line(alloc)?;
+    let matches = match command.try_get_matches_from(words) {
+        Ok(matches) => matches,
+        Err(error) => return Err(fault_of(alloc, &error)),
+    };
+    let Some((name, options)) = matches.subcommand() else {
+        unreachable!();
+    };
+    job_of_command(alloc, name, options)
+}
+
+impl From<AllocError> for LineFault {
+    ghost from_gives = { λ _ fault. fault ≡ Refused Memory };
+
+    fn from(_error: AllocError) -> LineFault {
+        LineFault::Refused(RunError::Memory)
+    }
+}
+
+/// What `clap` tells of words that give no matches.
+fn fault_of(alloc: Global, error: &Error) -> LineFault
+    ensures { Tells (kind_of error.now) result }
+{
+    let Ok(text) = error.to_string(alloc) else {
+        return LineFault::Refused(RunError::Memory);
+    };
+    match error.kind() {
+        ErrorKind::OutOfMemory => LineFault::Refused(RunError::Memory),
+        ErrorKind::DisplayHelp | ErrorKind::DisplayVersion => LineFault::Help { text },
+        _ => LineFault::Usage { text },
+    }
+}
+
+/// The job of a command with its options.
+fn job_of_command(alloc: Global, name: &str, options: &ArgMatches<'_>) -> Result<Job, LineFault>
+    requires { (words : List (List ℕ)) × StandsIn words name.now (options_of options.now) }
+    ensures job { IfOk result (AsksFor name.now (options_of options.now)) }
+    ensures fault { IfErr result (IsBadOptionOf name.now (options_of options.now)) }
+{
+    let input = form(options, "packed-in");
+    let output = form(options, "packed-out");
+    match name {
+        "encode" => Ok(Job::Encode { output }),
+        "decode" => Ok(Job::Decode { input }),
+        "normal" => Ok(Job::Normal { input, output }),
+        "check" => Ok(check(options, input)),
+        "show" => Ok(show(options, input)),
+        "scan" => Ok(Job::Scan { input }),
+        "to-pcm" => Ok(Job::ToPcm { input }),
+        "from-pcm" => Ok(Job::FromPcm {
+            exact: exact(options),
+            change: change(alloc, options, help::FROM_PCM.usage)?,
+        }),
+        "cut" => Ok(Job::Cut {
+            input,
+            output,
+            from: number(options, "FROM"),
+            count: number(options, "COUNT"),
+        }),
+        "rewrite" => Ok(Job::Rewrite {
+            input,
+            output,
+            change: change(alloc, options, help::REWRITE.usage)?,
+        }),
+        _ => unreachable!(),
+    }
+}
+
+/// The form of cells that a flag speaks of.
+fn form(options: &ArgMatches<'_>, flag: &str) -> Form
+    requires { MayBeFlag (options_of options.now) flag.now }
+    ensures { result ≡ form_by (options_of options.now) flag.now }
+{
+    if options.get_flag(flag) {
+        Form::Packed
+    } else {
+        Form::Text
+    }
+}
+
+/// Which reports get a line.
+fn lines(options: &ArgMatches<'_>) -> Lines
+    requires { MayBeFlag (options_of options.now) (codes "faults") }
+    ensures { result ≡ lines_by (options_of options.now) }
+{
+    if options.get_flag("faults") {
+        Lines::Faults
+    } else {
+        Lines::All
+    }
+}
+
+/// The job of `check` with its options.
+fn check(options: &ArgMatches<'_>, input: Form) -> Job
+    requires faults { MayBeFlag (options_of options.now) (codes "faults") }
+    requires gaps { MayBeFlag (options_of options.now) (codes "gaps") }
+    requires form { input ≡ form_by (options_of options.now) (codes "packed-in") }
+    ensures { AsksFor (codes "check") (options_of options.now) result }
+{
+    let lines = lines(options);
+    if options.get_flag("gaps") {
+        Job::Account { input, lines }
+    } else {
+        Job::Check { input, lines }
+    }
+}
+
+/// The job of `show` with its options.
+fn show(options: &ArgMatches<'_>, input: Form) -> Job
+    requires changes { MayBeFlag (options_of options.now) (codes "changes") }
+    requires form { input ≡ form_by (options_of options.now) (codes "packed-in") }
+    ensures { AsksFor (codes "show") (options_of options.now) result }
+{
+    if options.get_flag("changes") {
+        Job::ShowChanges { input }
+    } else {
+        Job::Show { input }
+    }
+}
+
+/// Whether samples of more than 24 bits are refused.
+fn exact(options: &ArgMatches<'_>) -> bool
+    requires { MayBeFlag (options_of options.now) (codes "exact") }
+    ensures { result ≡ is_set (options_of options.now) (codes "exact") }
+{
+    options.get_flag("exact")
+}
+
+/// The number of this name.
+fn number(options: &ArgMatches<'_>, name: &str) -> u64
+    requires { (n : ℕ) × IsNumber (options_of options.now) name.now n }
+    ensures { IsNumber (options_of options.now) name.now result }
+{
+    options.get_one::<u64>(name).unwrap()
+}
+
+/// The change that the options of `rewrite` and `from-pcm` ask for; `usage` says how the command is
+/// called.
+fn change(alloc: Global, options: &ArgMatches<'_>, usage: &str) -> Result<Change, LineFault>
+    requires { MayBeFlag (options_of options.now) (codes "mend-check") }
+    ensures change { IfOk result (IsChange (options_of options.now)) }
+    ensures fault { IfErr result (IsChangeFaultOf (options_of options.now) usage.now) }
+{
+    Ok(Change {
+        status1: status(options, "status1")?,
+        status2: status(options, "status2")?,
+        settings1: settings(alloc, options, "set1", usage)?,
+        settings2: settings(alloc, options, "set2", usage)?,
+        mend: options.get_flag("mend-check"),
+    })
+}
+
+/// The channel status that an option gives.
+fn status(options: &ArgMatches<'_>, name: &str) -> Result<Option<[u8; 24]>, LineFault>
+    ensures status { IfOk result (IsStatus (options_of options.now) name.now) }
+    ensures fault { IfErr result (λ fault. (fault ≡ Refused BadStatusText)
+        × IsBadStatus (options_of options.now) name.now) }
+{
+    let Some(text) = options.get_str(name) else {
+        return Ok(None);
+    };
+    match status_of_text(text) {
+        Some(status) => Ok(Some(status)),
+        None => Err(LineFault::Refused(RunError::BadStatusText)),
+    }
+}
+
+/// The settings that the texts of an option name; `usage` says how the command is called.
+fn settings(
+    alloc: Global,
+    options: &ArgMatches<'_>,
+    name: &str,
+    usage: &str,
+) -> Result<Option<[Setting; SETTINGS]>, LineFault>
+    ensures settings { IfOk result (AreSettings (options_of options.now) name.now) }
+    ensures fault { IfErr result (IsSettingsFaultOf (options_of options.now) name.now usage.now) }
+{
+    let Some(texts) = options.get_strs(name) else {
+        return Ok(None);
+    };
+    match settings_of_texts(texts) {
+        Ok(settings) => Ok(Some(settings)),
+        Err(fault) => Err(settings_fault(alloc, name, usage, texts, fault)),
+    }
+}
+
+/// What is told of texts that have no settings.
+fn settings_fault(
+    alloc: Global,
+    name: &str,
+    usage: &str,
+    texts: &[&str],
+    fault: SettingsFault,
+) -> LineFault
+    ensures { TellsSettings (refused_text name.now usage.now (map (λ text. text.now) texts.now)
+        fault) result }
+{
+    match settings_refused(alloc, name, usage, texts, fault) {
+        Ok(text) => LineFault::Usage { text },
+        Err(_) => LineFault::Refused(RunError::Memory),
+    }
+}

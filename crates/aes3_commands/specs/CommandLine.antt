@@ -1,0 +1,143 @@
+-- The command line, as definitions of `clap`: the commands, and the options and values of each.
+use Rattle.std.specs.Prelude.{List, [], ◌∷◌, ◌≡◌, Some, true, false, codes, map}
+use Rattle.clap.specs.Walk.{Rule, Text, rule_of}
+use Rattle.clap.specs.Simple.{App, Shape, app_of, new_rule, new_shape}
+use Rattle.clap.specs.declared.builder.arg.Arg.{Arg}
+use Rattle.clap.specs.declared.builder.action.ArgAction.TheVariants.{Append, SetTrue}
+use Rattle.clap.specs.declared.builder.command.Command.{Command}
+use Rattle.clap.specs.declared.builder.command.Command.TheViews.{out-Command as fields_of}
+use Rattle.clap.specs.declared.builder.value_parser.ValueParser.TheVariants as vp
+use Rattle.aes3_commands.specs.declared.argument.Argument.{Argument}
+use Rattle.aes3_commands.specs.declared.argument.Argument.TheVariants.{PackedIn, PackedOut, Faults, Gaps, Changes, From, Count}
+use Rattle.aes3_commands.specs.declared.argument.Argument.TheVariants.{Status1, Status2, Set1, Set2, MendCheck, Exact}
+use Rattle.aes3_commands.specs.declared.definitions.Name.{Name}
+use Rattle.aes3_commands.specs.declared.definitions.Name.TheVariants.{Encode, Decode, Normal, Check, Show, Scan, Cut, Rewrite, ToPcm, FromPcm}
+
+-- `--name`, which stands or does not
+abbrev pub flag : Text → Rule
+flag name = record (new_rule name) { long = Some name; action = Some SetTrue }
+
+-- `--name TEXT`, which may be left out
+abbrev pub text_option : Text → Rule
+text_option name = record (new_rule name) { long = Some name; value_names = 1 }
+
+-- `--name TEXT`, which may be left out or stand more than once
+abbrev pub settings_option : Text → Rule
+settings_option name = record (new_rule name) { long = Some name; action = Some Append; value_names = 1 }
+
+-- a whole number from 0 to 2^64 - 1, at its place among the words
+abbrev pub number : Text → Rule
+number name =
+    record (new_rule name) { required = true; parser = Some (vp.Unsigned 0 18446744073709551615) }
+
+-- a command's input has packed cells
+abbrev pub packed_in : Rule
+packed_in = flag (codes "packed-in")
+
+-- a command's output has packed cells
+abbrev pub packed_out : Rule
+packed_out = flag (codes "packed-out")
+
+-- the options and values by their names
+abbrev pub rule : Argument → Rule
+rule PackedIn = packed_in
+rule PackedOut = packed_out
+rule Faults = flag (codes "faults")
+rule Gaps = flag (codes "gaps")
+rule Changes = flag (codes "changes")
+rule From = number (codes "FROM")
+rule Count = number (codes "COUNT")
+rule Status1 = text_option (codes "status1")
+rule Status2 = text_option (codes "status2")
+rule Set1 = settings_option (codes "set1")
+rule Set2 = settings_option (codes "set2")
+rule MendCheck = flag (codes "mend-check")
+rule Exact = flag (codes "exact")
+
+abbrev pub command : Text → List Rule → Shape
+command name options = record (new_shape name) { rules = options }
+
+abbrev pub encode : Shape
+encode = command (codes "encode") (packed_out ∷ [])
+
+-- a command that reads cells and writes none
+abbrev pub reader : Text → Shape
+reader name = command name (packed_in ∷ [])
+
+abbrev pub check : Shape
+check = command (codes "check") (packed_in ∷ flag (codes "faults") ∷ flag (codes "gaps") ∷ [])
+
+abbrev pub show : Shape
+show = command (codes "show") (packed_in ∷ flag (codes "changes") ∷ [])
+
+abbrev pub normal : Shape
+normal = command (codes "normal") (packed_in ∷ packed_out ∷ [])
+
+abbrev pub cut : Shape
+cut = command (codes "cut")
+    (packed_in ∷ packed_out ∷ number (codes "FROM") ∷ number (codes "COUNT") ∷ [])
+
+abbrev pub rewrite : Shape
+rewrite = command (codes "rewrite")
+    (packed_in ∷ packed_out ∷ text_option (codes "status1") ∷ text_option (codes "status2")
+    ∷ settings_option (codes "set1") ∷ settings_option (codes "set2")
+    ∷ flag (codes "mend-check") ∷ [])
+
+abbrev pub from_pcm : Shape
+from_pcm = command (codes "from-pcm")
+    (text_option (codes "status1") ∷ text_option (codes "status2")
+    ∷ settings_option (codes "set1") ∷ settings_option (codes "set2")
+    ∷ flag (codes "mend-check") ∷ flag (codes "exact") ∷ [])
+
+-- the commands by their names
+abbrev pub shape : Name → Shape
+shape Encode = encode
+shape Decode = reader (codes "decode")
+shape Normal = normal
+shape Check = check
+shape Show = show
+shape Scan = reader (codes "scan")
+shape Cut = cut
+shape Rewrite = rewrite
+shape ToPcm = reader (codes "to-pcm")
+shape FromPcm = from_pcm
+
+-- the program with no command yet
+abbrev pub program : App
+program = record {
+  top = record (new_shape (codes "aes3")) {
+    no_binary_name = true;
+    disable_help_subcommand = true;
+    subcommand_required = true;
+    has_version = true;
+  };
+  subs = [];
+}
+
+-- the program: one of the commands has to stand, and none of them is called `help`
+abbrev pub command_line : App
+command_line = record {
+  top = record (new_shape (codes "aes3")) {
+    is_leaf = false;
+    no_binary_name = true;
+    disable_help_subcommand = true;
+    subcommand_required = true;
+    has_version = true;
+  };
+  subs = encode ∷ reader (codes "decode") ∷ normal ∷ check
+      ∷ show ∷ reader (codes "scan") ∷ cut ∷ rewrite
+      ∷ reader (codes "to-pcm") ∷ from_pcm ∷ [];
+}
+
+-- a command by itself
+abbrev pub app_with : Shape → App
+app_with s = record { top = s; subs = [] }
+
+-- the argument is the one defined here
+abbrev pub IsOption : Rule → Arg → Type 0
+IsOption rule argument = (rule_of argument ≡ rule) × (argument.global ≡ false)
+
+-- the command is the one defined here
+abbrev pub IsDefinedAs : App → Command → Type 0
+IsDefinedAs app command =
+    (app_of command ≡ app) × ((fields_of command).has_globals ≡ false)

@@ -1,0 +1,122 @@
+//! The options and values that commands take, each with the line that help tells of it.
+
+ghost use Rattle.aes3_commands.specs.CommandLine.{IsOption, flag, number, rule, settings_option};
+ghost use Rattle.aes3_commands.specs.CommandLine.{text_option};
+
+use clap::{Arg, ArgAction, value_parser};
+use std::alloc::Global;
+
+/// An option or a value that a command takes.
+#[derive(Clone, Copy)]
+pub(crate) enum Argument {
+    /// `--packed-in`: the cells that are read are packed.
+    PackedIn,
+    /// `--packed-out`: the cells that are written are packed.
+    PackedOut,
+    /// `--faults` of `check`.
+    Faults,
+    /// `--gaps` of `check`.
+    Gaps,
+    /// `--changes` of `show`.
+    Changes,
+    /// The number of the first block of `cut`.
+    From,
+    /// How many blocks `cut` takes.
+    Count,
+    /// `--status1 HEX48`: the status of channel 1.
+    Status1,
+    /// `--status2 HEX48`: the status of channel 2.
+    Status2,
+    /// `--set1 NAME=WORD`: a field of channel 1.
+    Set1,
+    /// `--set2 NAME=WORD`: a field of channel 2.
+    Set2,
+    /// `--mend-check`: check bytes are made anew.
+    MendCheck,
+    /// `--exact` of `from-pcm`.
+    Exact,
+}
+
+impl Argument {
+    /// Its definition, with its line of help.
+    pub(crate) fn define<'a>(self, alloc: Global) -> Arg<'a>
+        ensures { IsOption (rule self) result }
+    {
+        match self {
+            Argument::PackedIn => flag(alloc, "packed-in", "Read packed cells, eight an octet"),
+            Argument::PackedOut => flag(alloc, "packed-out", "Write packed cells, eight an octet"),
+            Argument::Faults => flag(alloc, "faults", "Leave the whole blocks out"),
+            Argument::Gaps => flag(alloc, "gaps", "Tell and count cells in no whole block"),
+            Argument::Changes => flag(alloc, "changes", "Leave out what is as in the block before"),
+            Argument::From => number(alloc, "FROM", "The number of the first block, from 0 on"),
+            Argument::Count => number(alloc, "COUNT", "How many blocks"),
+            Argument::Status1 => status(
+                alloc,
+                "status1",
+                "The status of channel 1, in hexadecimal",
+            ),
+            Argument::Status2 => status(
+                alloc,
+                "status2",
+                "The status of channel 2, in hexadecimal",
+            ),
+            Argument::Set1 => settings(
+                alloc,
+                "set1",
+                "A field of channel 1 as `show` prints it; may be repeated",
+            ),
+            Argument::Set2 => settings(
+                alloc,
+                "set2",
+                "A field of channel 2 as `show` prints it; may be repeated",
+            ),
+            Argument::MendCheck => flag(
+                alloc,
+                "mend-check",
+                "Write the check byte that professional status asks for",
+            ),
+            Argument::Exact => flag(alloc, "exact", "Refuse samples of more than 24 bits"),
+        }
+    }
+}
+
+/// The flag `--name`.
+fn flag<'a>(alloc: Global, name: &'a str, help: &'a str) -> Arg<'a>
+    ensures { IsOption (flag name.now) result }
+{
+    Arg::new(alloc, name)
+        .long(name)
+        .action(ArgAction::SetTrue)
+        .help(help)
+}
+
+/// The option `--name` with a channel status.
+fn status<'a>(alloc: Global, name: &'a str, help: &'a str) -> Arg<'a>
+    ensures { IsOption (text_option name.now) result }
+{
+    Arg::new(alloc, name)
+        .long(name)
+        .value_name("HEX48")
+        .help(help)
+}
+
+/// The option `--name` with a setting, which may stand more than once.
+fn settings<'a>(alloc: Global, name: &'a str, help: &'a str) -> Arg<'a>
+    ensures { IsOption (settings_option name.now) result }
+{
+    Arg::new(alloc, name)
+        .long(name)
+        .value_name("NAME=WORD")
+        .action(ArgAction::Append)
+        .help(help)
+}
+
+/// A number that has to stand at its place among the words.
+fn number<'a>(alloc: Global, name: &'a str, help: &'a str) -> Arg<'a>
+    ensures { IsOption (number name.now) result }
+{
+    Arg::new(alloc, name)
+        .required(true)
+        .value_parser(value_parser!(u64))
+        .help(help)
+}

@@ -1,0 +1,130 @@
+//! The program's command line, as definitions for `clap`.
+
+ghost use Rattle.std.specs.Prelude.{IfOk, map};
+ghost use Rattle.aes3_commands.specs.CommandLine.{IsDefinedAs, app_with, command, command_line};
+ghost use Rattle.aes3_commands.specs.CommandLine.{program, rule, shape};
+
+use crate::argument::Argument;
+use crate::help::{self, Texts};
+use clap::Command;
+use std::alloc::{AllocError, Global};
+
+/// A command by its name.
+#[derive(Clone, Copy)]
+pub(crate) enum Name {
+    /// `encode`
+    Encode,
+    /// `decode`
+    Decode,
+    /// `normal`
+    Normal,
+    /// `check`
+    Check,
+    /// `show`
+    Show,
+    /// `scan`
+    Scan,
+    /// `cut`
+    Cut,
+    /// `rewrite`
+    Rewrite,
+    /// `to-pcm`
+    ToPcm,
+    /// `from-pcm`
+    FromPcm,
+}
+
+/// The commands, in the order in which help lists them.
+const NAMES: [Name; 10] = [
+    Name::Encode,
+    Name::Decode,
+    Name::Normal,
+    Name::Check,
+    Name::Show,
+    Name::Scan,
+    Name::Cut,
+    Name::Rewrite,
+    Name::ToPcm,
+    Name::FromPcm,
+];
+
+/// The program's command line.
+///
+/// # Errors
+/// Memory was refused.
+pub fn command_line<'a>(alloc: Global) -> Result<Command<'a>, AllocError>
+    ensures { IfOk result (IsDefinedAs command_line) }
+{
+    let mut line = program(alloc)?;
+    for name in NAMES.iter() {
+        line = line.subcommand(name.define(alloc)?)?;
+    }
+    Ok(line)
+}
+
+/// The program with no command yet.
+fn program<'a>(alloc: Global) -> Result<Command<'a>, AllocError>
+    ensures { IfOk result (IsDefinedAs program) }
+{
+    Ok(
+        Command::new(alloc, "aes3")
+            .about(help::PROGRAM.about)
+            .override_usage(help::PROGRAM.usage)
+            .after_help(help::PROGRAM.more)
+            .bin_name("aes3")?
+            .no_binary_name(true)
+            .version(help::VERSION)
+            .disable_help_subcommand(true)
+            .subcommand_required(true),
+    )
+}
+
+impl Name {
+    /// The command's definition, with its help.
+    pub(crate) fn define<'a>(self, alloc: Global) -> Result<Command<'a>, AllocError>
+        ensures { IfOk result (IsDefinedAs (app_with (shape self))) }
+    {
+        use Argument::*;
+        match self {
+            Name::Encode => command(alloc, "encode", help::ENCODE, &[PackedOut]),
+            Name::Decode => command(alloc, "decode", help::DECODE, &[PackedIn]),
+            Name::Normal => command(alloc, "normal", help::NORMAL, &[PackedIn, PackedOut]),
+            Name::Check => command(alloc, "check", help::CHECK, &[PackedIn, Faults, Gaps]),
+            Name::Show => command(alloc, "show", help::SHOW, &[PackedIn, Changes]),
+            Name::Scan => command(alloc, "scan", help::SCAN, &[PackedIn]),
+            Name::Cut => command(alloc, "cut", help::CUT, &[PackedIn, PackedOut, From, Count]),
+            Name::Rewrite => command(
+                alloc,
+                "rewrite",
+                help::REWRITE,
+                &[PackedIn, PackedOut, Status1, Status2, Set1, Set2, MendCheck],
+            ),
+            Name::ToPcm => command(alloc, "to-pcm", help::TO_PCM, &[PackedIn]),
+            Name::FromPcm => command(
+                alloc,
+                "from-pcm",
+                help::FROM_PCM,
+                &[Status1, Status2, Set1, Set2, MendCheck, Exact],
+            ),
+        }
+    }
+}
+
+/// A command that takes these arguments, with its texts.
+fn command<'a>(
+    alloc: Global,
+    name: &'a str,
+    texts: Texts<'a>,
+    arguments: &[Argument],
+) -> Result<Command<'a>, AllocError>
+    ensures { IfOk result (IsDefinedAs (app_with (command name.now (map rule arguments.now)))) }
+{
+    let mut command = Command::new(alloc, name)
+        .about(texts.about)
+        .override_usage(texts.usage)
+        .after_help(texts.more);
+    for argument in arguments.iter() {
+        command = command.arg(argument.define(alloc))?;
+    }
+    Ok(command)
+}

@@ -1,0 +1,12 @@
+//! The command line of the program `aes3`: its commands and what each takes, as definitions for
+//! `clap`, with the texts of its help.
+#![tactic(auto)]
+
+/// What a command takes behind its name.
+mod argument;
+/// The commands, and the program with all of them.
+mod definitions;
+/// The texts of `--help` and `--version`.
+pub mod help;
+
+pub use definitions::command_line;

@@ -1,6 +1,0 @@
-use Rattle.aes3_cell.specs.Words.{word_len, word_cells}
-use Rattle.aes3_engine.proofs.taker.Taker.word.Goals as goal
-
-pub returns : goal.returns
-unfolding word_cells word_len
-returns g c = record { ran = c.cells.ensures.ran }

@@ -1,0 +1,13 @@
+//! Sentences for whoever sits at a terminal: what the program waits for, what a refusal means and
+//! what to do.
+#![tactic(auto)]
+
+/// The sentences, and when they are told.
+mod hints;
+/// What the first bytes of a refused input look like.
+mod looks;
+/// What has to be known of the input.
+mod watched;
+
+pub use hints::{Hints, Terminals};
+pub use watched::Watched;

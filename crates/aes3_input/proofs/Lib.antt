@@ -1,0 +1,16 @@
+pub mod Outputs
+pub mod Feeding
+pub mod Pieces
+pub mod Flushing
+pub mod Told
+pub mod Items
+pub mod Handing
+pub mod TextReads
+pub mod TextLemmas
+pub mod TextRuns
+pub mod PackedLemmas
+pub mod PackedRuns
+pub mod Fronts
+pub mod CellBytes
+pub mod Chunks
+pub mod CellRuns

@@ -1,0 +1,170 @@
+-- A run over packed cells.
+use Rattle.std.proofs.Common.{◌≡◌, ℕ, ◌⊎◌, inl, inr, Bool, true, false, cond, List, [], ◌∷◌, ◌++◌, length, take, Option, Some, None, Ok, Err, refl, sym, ap, ap₂, ◌∙◌, subst, append_assoc}
+use Rattle.aes3_cell.specs.declared.level.Level.{Level}
+use Rattle.aes3_cell.specs.declared.form.Form.TheVariants.{Packed}
+use Rattle.aes3_cell.specs.declared.refusal.RunError.{RunError}
+use Rattle.aes3_cell.specs.declared.refusal.RunError.TheVariants.{Read, Write, TooLong, BadCell, BadLength, BadCode, BadParity, Memory, BadStatusText, BadPadding, BadSample}
+use Rattle.aes3_cell.specs.Packed.{IsPacked, is_packed, last_place, cells_of_packed, whole_cells}
+use Rattle.aes3_cell.specs.PackedReading.{PackedReader, packed_reader_of, packed_answer, packed_end, answer_cells, end_cells}
+use Rattle.aes3_cell.proofs.Growing.{grew-is, front-is}
+use Rattle.aes3_cell.proofs.PackedCells.{is_packed-packs, packs-is_packed}
+use Rattle.aes3_cell.proofs.PackedReads.{whole_cells-more, cells-end}
+use Rattle.aes3_input.specs.Converting.{fault_behind, first_fault, out, whole}
+use Rattle.aes3_input.specs.Running.{Movement, Ran, Left, Run, CleanEnd}
+use Rattle.aes3_input.specs.Taking.{Writing, behind, before_end, with_end}
+use Rattle.aes3_input.specs.Forms.{packed_reading, PackedTaken, PackedEnded}
+use Rattle.aes3_input.specs.Driving.{Drove, LeftCells, Drive}
+use Rattle.aes3_input.proofs.Outputs.{out-is, before-all}
+use Rattle.aes3_input.proofs.Items.{before-join}
+
+-- no octet is a fault before the end
+pub clean-behind : (w : Writing Level) (p d : List ℕ) → fault_behind (packed_reading w) p d ≡ None
+unfolding packed_reading
+clean-behind w p [] = refl
+clean-behind w p (x ∷ d) = clean-behind w (p ++ x ∷ []) d
+
+pub clean : (w : Writing Level) (b : List ℕ) → first_fault (packed_reading w) b ≡ None
+unfolding first_fault
+clean w b = clean-behind w [] b
+
+some-none : {x : RunError} → Some x ≡ None → ⊥
+some-none q = cc
+
+-- where the octets end rightly, and where they don't
+end-clean : (w : Writing Level) (b : List ℕ) → (packed_reading w).end_fault b ≡ None → is_packed b ≡ true
+unfolding packed_reading
+end-clean w b e = go (is_packed b) refl e
+  where
+    go : (t : Bool) → is_packed b ≡ t → cond {A = Option RunError} t None (Some (BadPadding (last_place b))) ≡ None → is_packed b ≡ true
+    go true q h = q
+    go false q h = absurd (some-none h)
+
+end-bad : (w : Writing Level) (b : List ℕ) (e : RunError) → (packed_reading w).end_fault b ≡ Some e → (is_packed b ≡ false) × (e ≡ BadPadding (last_place b))
+unfolding packed_reading
+end-bad w b e h = go (is_packed b) refl h
+  where
+    go : (t : Bool) → is_packed b ≡ t → cond {A = Option RunError} t None (Some (BadPadding (last_place b))) ≡ Some e → (is_packed b ≡ false) × (e ≡ BadPadding (last_place b))
+    go true q h = absurd (some-none (sym h))
+    go false q h = (q, sym (same h))
+      where
+        same : {x y : RunError} → Some x ≡ Some y → x ≡ y
+        same q = cc
+
+lawful : (w : Writing Level) (b : List ℕ) → (packed_reading w).end_fault b ≡ None → IsPacked b
+lawful w b e = (cells_of_packed b, packs-is_packed b (end-clean w b e))
+
+unlawful : (b : List ℕ) → is_packed b ≡ false → IsPacked b → ⊥
+unlawful b e h = true-false (sym (is_packed-packs b h.0 h.1) ∙ e)
+  where
+    true-false : ◌≡◌ {A = Bool} true false → ⊥
+    true-false q = cc
+
+-- what the octets write is what their cells write
+no-cells : whole_cells [] ≡ []
+unfolding whole_cells
+no-cells = refl
+
+nothing-out : (w : Writing Level) → before_end w (whole_cells []) ≡ []
+unfolding before_end
+nothing-out w = ap (before_end w) no-cells
+
+adds-octet : (w : Writing Level) (b : List ℕ) (x : ℕ) → (packed_reading w).adds b x ≡ behind w (whole_cells b) (answer_cells (packed_answer (packed_reader_of b)))
+unfolding packed_reading
+adds-octet w b x = refl
+
+never : (w : Writing Level) (b : List ℕ) (x : ℕ) (e : RunError) → (packed_reading w).fault b x ≡ Some e → ⊥
+unfolding packed_reading
+never w b x e h = some-none (sym h)
+
+pub out-packed : (w : Writing Level) (b : List ℕ) → out (packed_reading w) b ≡ before_end w (whole_cells b)
+out-packed w b =
+    out-is (packed_reading w) (λ b. before_end w (whole_cells b)) (nothing-out w)
+    (λ b x h n. ap (before_end w) (whole_cells-more b x) ∙ before-join w (whole_cells b) (answer_cells (packed_answer (packed_reader_of b)))
+    ∙ ap (λ z. before_end w (whole_cells b) ++ z) (sym (adds-octet w b x)))
+    (λ b x d e h n. absurd (never w b x e n)) b
+
+ends-packed : (w : Writing Level) (b : List ℕ) → (packed_reading w).ends b ≡ behind w (whole_cells b) (end_cells (packed_end (packed_reader_of b))) ++ w.ends (cells_of_packed b)
+unfolding packed_reading
+ends-packed w b = refl
+
+whole-packed : (w : Writing Level) (b : List ℕ) → (packed_reading w).end_fault b ≡ None → whole (packed_reading w) b ≡ with_end w (cells_of_packed b)
+unfolding whole with_end
+whole-packed w b e =
+    let last = end_cells (packed_end (packed_reader_of b)) in
+    ap₂ (λ u v. u ++ v) (out-packed w b) (ends-packed w b)
+    ∙ sym (append_assoc (before_end w (whole_cells b)) (behind w (whole_cells b) last) (w.ends (cells_of_packed b)))
+    ∙ ap (λ u. u ++ w.ends (cells_of_packed b)) (sym (before-join w (whole_cells b) last) ∙ ap (before_end w) (sym (cells-end b (end-clean w b e))))
+
+-- nothing was taken
+pub packed-starts : {packed : PackedReader} {cells : ℕ} (z : List Level → Type 0) → packed ≡ packed_reader_of [] → cells ≡ 0 → z [] → PackedTaken packed cells z []
+packed-starts z e n h = record { reader = e; count = n ∙ sym (ap length no-cells); taker = subst z (sym no-cells) h }
+
+-- the run
+packed-ran-ok : (max : ℕ) (w : Writing Level) (cells : ℕ) (z : List Level → Type 0) (b : List ℕ) (ended : Bool) (source sink : Movement) (n : ℕ)
+    → Ran max (packed_reading w) (PackedEnded cells z) b ended source sink (Ok n) → Drove max Packed w z b ended source sink (Ok (n, cells))
+packed-ran-ok max w cells z b ended source sink n r = (
+  record { input = lawful w b r.1; short = r.0.clean.short; end = r.0.end },
+  r.2.taker,
+  r.3,
+  r.2.count,
+  r.4,
+  r.5,
+  grew-is (whole-packed w b r.1) r.6,
+)
+
+bad-of : (max : ℕ) (w : Writing Level) (b : List ℕ) (ended : Bool) (e : RunError)
+    → (first_fault (packed_reading w) (take max b) ≡ Some e) ⊎ (CleanEnd max (packed_reading w) b ended × ((packed_reading w).end_fault b ≡ Some e))
+    → CleanEnd max (packed_reading w) b ended × (is_packed b ≡ false) × (e ≡ BadPadding (last_place b))
+bad-of max w b ended e h = elim h [
+  | inl g ↦ absurd (some-none (sym g ∙ clean w (take max b)))
+  | inr g ↦ let q = end-bad w b e g.1 in (g.0, q.0, q.1)
+]
+
+packed-ran-err : (max : ℕ) (w : Writing Level) (cells : ℕ) (z : List Level → Type 0) (b : List ℕ) (ended : Bool) (source sink : Movement) (e : RunError)
+    → Ran max (packed_reading w) (PackedEnded cells z) b ended source sink (Err e) → Drove max Packed w z b ended source sink (Err e)
+packed-ran-err max w cells z b ended source sink Read r = (tt, r.0.short, r.1, r.2, grew-is (out-packed w b) r.3)
+packed-ran-err max w cells z b ended source sink Write r = (
+  r.0,
+  r.1,
+  elim r.2 [
+    | inl g ↦ inl (front-is (out-packed w (take max b)) g)
+    | inr g ↦ inr (record { input = lawful w b g.1; short = g.0.clean.short; end = g.0.end }, front-is (whole-packed w b g.1) g.2)
+  ],
+)
+packed-ran-err max w cells z b ended source sink TooLong r = (tt, r.1, r.2, r.3, grew-is (out-packed w (take max b)) r.4)
+packed-ran-err max w cells z b ended source sink (BadPadding at) r =
+    let q = bad-of max w b ended (BadPadding at) r.3 in
+    ((unlawful b q.1, sym (place-is q.2)), q.0.clean.short, q.0.end, r.0, r.1, grew-is (out-packed w (take max b)) r.2)
+  where
+    place-is : {m n : ℕ} → ◌≡◌ {A = RunError} (BadPadding m) (BadPadding n) → m ≡ n
+    place-is q = cc
+packed-ran-err max w cells z b ended source sink (BadCell n) r = absurd (let q = (bad-of max w b ended (BadCell n) r.3).2 in cc)
+packed-ran-err max w cells z b ended source sink (BadLength n) r = absurd (let q = (bad-of max w b ended (BadLength n) r.3).2 in cc)
+packed-ran-err max w cells z b ended source sink (BadCode n) r = absurd (let q = (bad-of max w b ended (BadCode n) r.3).2 in cc)
+packed-ran-err max w cells z b ended source sink (BadParity n) r = absurd (let q = (bad-of max w b ended (BadParity n) r.3).2 in cc)
+packed-ran-err max w cells z b ended source sink Memory r = absurd (let q = (bad-of max w b ended Memory r.3).2 in cc)
+packed-ran-err max w cells z b ended source sink BadStatusText r = absurd (let q = (bad-of max w b ended BadStatusText r.3).2 in cc)
+packed-ran-err max w cells z b ended source sink (BadSample n) r = absurd (let q = (bad-of max w b ended (BadSample n) r.3).2 in cc)
+
+packed-left : (max : ℕ) (w : Writing Level) (packed : PackedReader) (cells : ℕ) (f : List Level → Type 0) (b : List ℕ) (e : RunError)
+    → Left max (packed_reading w) (PackedTaken packed cells f) (λ b. f (whole_cells b)) b (Err e) → LeftCells max Packed f b (Err e)
+packed-left max w packed cells f b Write h = tt
+packed-left max w packed cells f b Read h = h.taker
+packed-left max w packed cells f b TooLong h = h.taker
+packed-left max w packed cells f b e h = subst (λ (v : List ℕ). f (whole_cells v)) (before-all (packed_reading w) [] (take max b) (clean-behind w [] (take max b))) h
+
+pub packed-ok : {max : ℕ} {w : Writing Level} {packed : PackedReader} {cells : ℕ} {f z : List Level → Type 0} {ended : Bool} {source sink : Movement} {n : ℕ}
+    → Run max (packed_reading w) (PackedTaken packed cells f) (λ b. f (whole_cells b)) (PackedEnded cells z) ended source sink (Ok n) → Drive max Packed w f z ended source sink (Ok (n, cells))
+packed-ok {max} {w} {packed} {cells} {f} {z} {ended} {source} {sink} {n} r =
+    record { bytes = r.bytes; given = r.given; few = r.few; ran = packed-ran-ok max w cells z r.bytes ended source sink n r.ran; left = tt }
+
+pub packed-err : {max : ℕ} {w : Writing Level} {packed : PackedReader} {cells : ℕ} {f z : List Level → Type 0} {ended : Bool} {source sink : Movement} {e : RunError}
+    → Run max (packed_reading w) (PackedTaken packed cells f) (λ b. f (whole_cells b)) (PackedEnded cells z) ended source sink (Err e) → Drive max Packed w f z ended source sink (Err e)
+packed-err {max} {w} {packed} {cells} {f} {z} {ended} {source} {sink} {e} r =
+    record {
+      bytes = r.bytes;
+      given = r.given;
+      few = r.few;
+      ran = packed-ran-err max w cells z r.bytes ended source sink e r.ran;
+      left = packed-left max w packed cells f r.bytes e r.left;
+    }

@@ -1,0 +1,225 @@
+-- A run over cell text.
+use Rattle.std.proofs.Common.{◌≡◌, ℕ, ◌+◌, ◌<◌, ◌⊎◌, inl, inr, Bool, true, false, cond, List, [], ◌∷◌, ◌++◌, length, take, Option, Some, None, Ok, Err, refl, sym, ap, ◌∙◌, subst, arith, append_assoc, append-nil, length-append}
+use Rattle.aes3_cell.specs.declared.level.Level.{Level}
+use Rattle.aes3_cell.specs.declared.form.Form.TheVariants.{Text}
+use Rattle.aes3_cell.specs.declared.refusal.RunError.{RunError}
+use Rattle.aes3_cell.specs.declared.refusal.RunError.TheVariants.{Read, Write, TooLong, BadCell, BadLength, BadCode, BadParity, Memory, BadStatusText, BadPadding, BadSample}
+use Rattle.aes3_cell.specs.CellText.{is_good_byte, byte_cells, good_bytes, good, cells_of_text, IsCellText}
+use Rattle.aes3_cell.specs.TextReading.{TextReader, text_reader_of}
+use Rattle.aes3_cell.proofs.Growing.{grew-is, front-is}
+use Rattle.aes3_cell.proofs.CellTexts.{good-join, good-bad, text-more, cells-more, cells-bad}
+use Rattle.aes3_input.specs.Converting.{or_else, unless, fault_behind, before_fault, first_fault, out, whole}
+use Rattle.aes3_input.specs.Running.{Movement, Ran, Left, Run, CleanEnd}
+use Rattle.aes3_input.specs.Taking.{Writing, behind, before_end, with_end}
+use Rattle.aes3_input.specs.Forms.{text_reading, TextTaken}
+use Rattle.aes3_input.specs.Driving.{Drove, LeftCells, Drive}
+use Rattle.aes3_input.proofs.Outputs.{out-is}
+use Rattle.aes3_input.proofs.Items.{before-join}
+
+text-none : IsCellText []
+unfolding good_bytes
+text-none = record { is = refl }
+
+text-one : (x : ℕ) → is_good_byte x ≡ true → IsCellText (x ∷ [])
+text-one x e = text-more [] x text-none e
+
+byte-fault : (w : Writing Level) (b : List ℕ) (x : ℕ) (t : Bool) → is_good_byte x ≡ t → (text_reading w).fault b x ≡ cond t None (Some (BadCell (length b)))
+unfolding text_reading
+byte-fault w b x t e = ap (λ p. cond {A = Option RunError} p None (Some (BadCell (length b)))) e
+
+-- no fault is no bad byte, and the first fault is the first bad byte
+clean-behind : (w : Writing Level) (p d : List ℕ) → fault_behind (text_reading w) p d ≡ None → IsCellText d
+clean-behind w p [] h = text-none
+clean-behind w p (x ∷ d) h = go (is_good_byte x) refl (clean-behind w (p ++ x ∷ []) d)
+  where
+    go : (t : Bool) → is_good_byte x ≡ t → (fault_behind (text_reading w) (p ++ x ∷ []) d ≡ None → IsCellText d) → IsCellText (x ∷ d)
+    go true e next =
+        let n = next (ap (λ o. or_else o (fault_behind (text_reading w) (p ++ x ∷ []) d)) (sym (byte-fault w p x true e)) ∙ h) in
+        record { is = let g = good-join (x ∷ []) d (text-one x e) in let i = n.is in omega arith }
+    go false e next = absurd (some-none (ap (λ o. or_else o (fault_behind (text_reading w) (p ++ x ∷ []) d)) (sym (byte-fault w p x false e)) ∙ h))
+      where
+        some-none : {x : RunError} → Some x ≡ None → ⊥
+        some-none q = cc
+
+bad-behind : (w : Writing Level) (p d : List ℕ) (f : RunError) → fault_behind (text_reading w) p d ≡ Some f → (f ≡ BadCell (length p + good d)) × (good d < length d)
+bad-behind w p [] f h = absurd cc
+bad-behind w p (x ∷ d) f h = go (is_good_byte x) refl (bad-behind w (p ++ x ∷ []) d f)
+  where
+    go : (t : Bool) → is_good_byte x ≡ t
+        → (fault_behind (text_reading w) (p ++ x ∷ []) d ≡ Some f → (f ≡ BadCell (length (p ++ x ∷ []) + good d)) × (good d < length d))
+        → (f ≡ BadCell (length p + good (x ∷ d))) × (good (x ∷ d) < length (x ∷ d))
+    go true e next =
+        let n = next (ap (λ o. or_else o (fault_behind (text_reading w) (p ++ x ∷ []) d)) (sym (byte-fault w p x true e)) ∙ h) in
+        let g : good (x ∷ d) ≡ 1 + good d = good-join (x ∷ []) d (text-one x e) in
+        let l = length-append p (x ∷ []) in
+        let s : length (p ++ x ∷ []) + good d ≡ length p + good (x ∷ d) = omega arith in
+        let k = n.1 in
+        (n.0 ∙ ap BadCell s, omega arith)
+    go false e next =
+        let g : good (x ∷ d) ≡ 0 = good-bad [] x d text-none e in
+        let s : length p ≡ length p + good (x ∷ d) = omega arith in
+        (some-is (sym h ∙ ap (λ o. or_else o (fault_behind (text_reading w) (p ++ x ∷ []) d)) (byte-fault w p x false e)) ∙ ap BadCell s, omega arith)
+      where
+        some-is : {x y : RunError} → Some x ≡ Some y → x ≡ y
+        some-is q = cc
+
+pub text-clean : (w : Writing Level) (p d : List ℕ) → IsCellText d → fault_behind (text_reading w) p d ≡ None
+text-clean w p d g = go (fault_behind (text_reading w) p d) refl
+  where
+    go : (o : Option RunError) → fault_behind (text_reading w) p d ≡ o → o ≡ None
+    go None e = refl
+    go (Some f) e = absurd (let b = (bad-behind w p d f e).1 in let i = g.is in omega arith)
+
+clean-text : (w : Writing Level) (b : List ℕ) → first_fault (text_reading w) b ≡ None → IsCellText b
+unfolding first_fault
+clean-text w b h = clean-behind w [] b h
+
+bad-text : (w : Writing Level) (b : List ℕ) (f : RunError) → first_fault (text_reading w) b ≡ Some f → (f ≡ BadCell (good b)) × (good b < length b)
+unfolding first_fault
+bad-text w b f h = let q = bad-behind w [] b f h in (q.0 ∙ ap BadCell none-before, q.1)
+  where
+    none-before : 0 + good b ≡ good b
+    none-before = omega arith
+
+no-cells : cells_of_text [] ≡ []
+unfolding cells_of_text good_bytes
+no-cells = refl
+
+-- what the text writes is what its cells write
+nothing-out : (w : Writing Level) → before_end w (cells_of_text []) ≡ []
+unfolding before_end
+nothing-out w = ap (before_end w) no-cells
+
+adds-text : (w : Writing Level) (b : List ℕ) (x : ℕ) → (text_reading w).adds b x ≡ behind w (cells_of_text b) (byte_cells x)
+unfolding text_reading
+adds-text w b x = refl
+
+pub out-text : (w : Writing Level) (b : List ℕ) → out (text_reading w) b ≡ before_end w (cells_of_text b)
+out-text w b =
+    out-is (text_reading w) (λ b. before_end w (cells_of_text b)) (nothing-out w)
+    (λ b x h n. more b x (is_good_byte x) refl (clean-text w b h) n)
+    (λ b x d e h n. stays b x d e (is_good_byte x) refl (clean-text w b h) n) b
+  where
+    more : (b : List ℕ) (x : ℕ) (t : Bool) → is_good_byte x ≡ t → IsCellText b → (text_reading w).fault b x ≡ None
+        → before_end w (cells_of_text (b ++ x ∷ [])) ≡ before_end w (cells_of_text b) ++ (text_reading w).adds b x
+    more b x true e g n = ap (before_end w) (cells-more b x g) ∙ before-join w (cells_of_text b) (byte_cells x) ∙ ap (λ z. before_end w (cells_of_text b) ++ z) (sym (adds-text w b x))
+    more b x false e g n = absurd (some-none (sym (byte-fault w b x false e) ∙ n))
+      where
+        some-none : {x : RunError} → Some x ≡ None → ⊥
+        some-none q = cc
+
+    stays : (b : List ℕ) (x : ℕ) (d : List ℕ) (f : RunError) (t : Bool) → is_good_byte x ≡ t → IsCellText b → (text_reading w).fault b x ≡ Some f
+        → before_end w (cells_of_text (b ++ x ∷ d)) ≡ before_end w (cells_of_text b)
+    stays b x d f true e g n = absurd (none-some (sym (byte-fault w b x true e) ∙ n))
+      where
+        none-some : {x : RunError} → None ≡ Some x → ⊥
+        none-some q = cc
+    stays b x d f false e g n = ap (before_end w) (cells-bad b x d g e)
+
+whole-text : (w : Writing Level) (b : List ℕ) → whole (text_reading w) b ≡ with_end w (cells_of_text b)
+unfolding whole with_end text_reading
+whole-text w b = ap (λ o. o ++ w.ends (cells_of_text b)) (out-text w b)
+
+-- the cells before the first bad byte are those of all bytes
+cells-left : (w : Writing Level) (b : List ℕ) → cells_of_text (before_fault (text_reading w) [] b) ≡ cells_of_text b
+cells-left w b = go [] b text-none
+  where
+    go : (p d : List ℕ) → IsCellText p → cells_of_text (p ++ before_fault (text_reading w) p d) ≡ cells_of_text (p ++ d)
+    go p [] g = refl
+    go p (x ∷ d) g = step (is_good_byte x) refl (λ k. go (p ++ x ∷ []) d k)
+      where
+        step : (t : Bool) → is_good_byte x ≡ t
+            → (IsCellText (p ++ x ∷ []) → cells_of_text ((p ++ x ∷ []) ++ before_fault (text_reading w) (p ++ x ∷ []) d) ≡ cells_of_text ((p ++ x ∷ []) ++ d))
+            → cells_of_text (p ++ before_fault (text_reading w) p (x ∷ d)) ≡ cells_of_text (p ++ x ∷ d)
+        step true e next =
+            ap (λ o. cells_of_text (p ++ unless o (x ∷ before_fault (text_reading w) (p ++ x ∷ []) d))) (byte-fault w p x true e)
+            ∙ ap cells_of_text (sym (append_assoc p (x ∷ []) (before_fault (text_reading w) (p ++ x ∷ []) d))) ∙ next (text-more p x g e)
+            ∙ ap cells_of_text (append_assoc p (x ∷ []) d)
+        step false e next =
+            ap (λ o. cells_of_text (p ++ unless o (x ∷ before_fault (text_reading w) (p ++ x ∷ []) d))) (byte-fault w p x false e)
+            ∙ ap cells_of_text (append-nil p) ∙ sym (cells-bad p x d g e)
+
+text_reader-new : {r : TextReader} → r.seen ≡ 0 → r ≡ text_reader_of []
+unfolding text_reader_of
+text_reader-new {r} e = ap (λ n. record { seen = n }) e
+
+-- nothing was taken
+pub starts : {text : TextReader} {cells : ℕ} (z : List Level → Type 0) → text.seen ≡ 0 → cells ≡ 0 → z [] → TextTaken text cells z []
+starts {text} {cells} z e n h =
+    record { reader = text_reader-new e; lawful = text-none; count = n ∙ sym (ap length no-cells); taker = subst z (sym no-cells) h }
+
+-- the run
+text-ran-ok : (max : ℕ) (w : Writing Level) (text : TextReader) (cells : ℕ) (z : List Level → Type 0) (b : List ℕ) (ended : Bool) (source sink : Movement) (n : ℕ)
+    → Ran max (text_reading w) (TextTaken text cells z) b ended source sink (Ok n) → Drove max Text w z b ended source sink (Ok (n, cells))
+text-ran-ok max w text cells z b ended source sink n r = (
+  record { input = clean-text w b r.0.clean.clean; short = r.0.clean.short; end = r.0.end },
+  r.2.taker,
+  r.3,
+  r.2.count,
+  r.4,
+  r.5,
+  grew-is (whole-text w b) r.6,
+)
+
+bad-of : (max : ℕ) (w : Writing Level) (b : List ℕ) (ended : Bool) (e : RunError)
+    → (first_fault (text_reading w) (take max b) ≡ Some e) ⊎ (CleanEnd max (text_reading w) b ended × ((text_reading w).end_fault b ≡ Some e))
+    → (e ≡ BadCell (good (take max b))) × (good (take max b) < length (take max b))
+unfolding text_reading
+bad-of max w b ended e h = elim h [
+  | inl g ↦ bad-text w (take max b) e g
+  | inr g ↦ absurd (none-some g.1)
+]
+  where
+    none-some : {x : RunError} → None ≡ Some x → ⊥
+    none-some q = cc
+
+text-ran-err : (max : ℕ) (w : Writing Level) (text : TextReader) (cells : ℕ) (z : List Level → Type 0) (b : List ℕ) (ended : Bool) (source sink : Movement) (e : RunError)
+    → Ran max (text_reading w) (TextTaken text cells z) b ended source sink (Err e) → Drove max Text w z b ended source sink (Err e)
+text-ran-err max w text cells z b ended source sink Read r = (clean-text w b r.0.clean, r.0.short, r.1, r.2, grew-is (out-text w b) r.3)
+text-ran-err max w text cells z b ended source sink Write r = (
+  r.0,
+  r.1,
+  elim r.2 [
+    | inl g ↦ inl (front-is (out-text w (take max b)) g)
+    | inr g ↦ inr (record { input = clean-text w b g.0.clean.clean; short = g.0.clean.short; end = g.0.end }, front-is (whole-text w b) g.2)
+  ],
+)
+text-ran-err max w text cells z b ended source sink TooLong r = (clean-text w (take max b) r.0.clean, r.1, r.2, r.3, grew-is (out-text w (take max b)) r.4)
+text-ran-err max w text cells z b ended source sink (BadCell at) r =
+    let q = bad-of max w b ended (BadCell at) r.3 in
+    let k = q.1 in
+    let s : at ≡ good (take max b) = place-is q.0 in
+    ((sym s, omega arith), r.0, r.1, grew-is (out-text w (take max b)) r.2)
+  where
+    place-is : {m n : ℕ} → ◌≡◌ {A = RunError} (BadCell m) (BadCell n) → m ≡ n
+    place-is q = cc
+text-ran-err max w text cells z b ended source sink (BadLength n) r = absurd (let q = (bad-of max w b ended (BadLength n) r.3).0 in cc)
+text-ran-err max w text cells z b ended source sink (BadCode n) r = absurd (let q = (bad-of max w b ended (BadCode n) r.3).0 in cc)
+text-ran-err max w text cells z b ended source sink (BadParity n) r = absurd (let q = (bad-of max w b ended (BadParity n) r.3).0 in cc)
+text-ran-err max w text cells z b ended source sink Memory r = absurd (let q = (bad-of max w b ended Memory r.3).0 in cc)
+text-ran-err max w text cells z b ended source sink BadStatusText r = absurd (let q = (bad-of max w b ended BadStatusText r.3).0 in cc)
+text-ran-err max w text cells z b ended source sink (BadPadding n) r = absurd (let q = (bad-of max w b ended (BadPadding n) r.3).0 in cc)
+text-ran-err max w text cells z b ended source sink (BadSample n) r = absurd (let q = (bad-of max w b ended (BadSample n) r.3).0 in cc)
+
+text-left : (max : ℕ) (w : Writing Level) (text : TextReader) (cells : ℕ) (f : List Level → Type 0) (b : List ℕ) (e : RunError)
+    → Left max (text_reading w) (TextTaken text cells f) (λ b. f (cells_of_text b)) b (Err e) → LeftCells max Text f b (Err e)
+text-left max w text cells f b Write h = tt
+text-left max w text cells f b Read h = h.taker
+text-left max w text cells f b TooLong h = h.taker
+text-left max w text cells f b e h = subst f (cells-left w (take max b)) h
+
+pub text-ok : {max : ℕ} {w : Writing Level} {text : TextReader} {cells : ℕ} {f z : List Level → Type 0} {ended : Bool} {source sink : Movement} {n : ℕ}
+    → Run max (text_reading w) (TextTaken text cells f) (λ b. f (cells_of_text b)) (TextTaken text cells z) ended source sink (Ok n) → Drive max Text w f z ended source sink (Ok (n, cells))
+text-ok {max} {w} {text} {cells} {f} {z} {ended} {source} {sink} {n} r =
+    record { bytes = r.bytes; given = r.given; few = r.few; ran = text-ran-ok max w text cells z r.bytes ended source sink n r.ran; left = tt }
+
+pub text-err : {max : ℕ} {w : Writing Level} {text : TextReader} {cells : ℕ} {f z : List Level → Type 0} {ended : Bool} {source sink : Movement} {e : RunError}
+    → Run max (text_reading w) (TextTaken text cells f) (λ b. f (cells_of_text b)) (TextTaken text cells z) ended source sink (Err e) → Drive max Text w f z ended source sink (Err e)
+text-err {max} {w} {text} {cells} {f} {z} {ended} {source} {sink} {e} r =
+    record {
+      bytes = r.bytes;
+      given = r.given;
+      few = r.few;
+      ran = text-ran-err max w text cells z r.bytes ended source sink e r.ran;
+      left = text-left max w text cells f r.bytes e r.left;
+    }

@@ -1,0 +1,6 @@
+use Rattle.aes3_cell.specs.Words.{word_len, word_cells}
+use Rattle.aes3_input.proofs.taker.Taker.word.Goals as goal
+
+pub returns : goal.returns
+unfolding word_cells word_len
+returns g c = record { ran = c.cells.ensures.ran }

@@ -1,0 +1,43 @@
+use Rattle.std.proofs.Common.{◌+◌, ◌*◌, ◌^◌, ◌≤◌, ◌++◌, length, arith, length-append}
+use Rattle.std.specs.List.{flat_map}
+use Rattle.aes3_cell.specs.Words.{low_cells, word_cells}
+use Rattle.aes3_input.proofs.Handing.{cells-ran-behind, front-of-more, length-words}
+use Rattle.aes3_input.proofs.taker.Taker.words_and_cells.Goals as goal
+
+pub words-requires-clause-following : goal.words-requires-clause-following
+words-requires-clause-following g c =
+    let q = c.requires.following in
+    let l : length q.0 + 64 * length c.args.words.now + c.args.len ≤ 2 ^ 43 = q.1 in
+    (q.0, omega arith, q.2)
+
+pub cells-requires-clause-following : goal.cells-requires-clause-following
+cells-requires-clause-following g c =
+    let q = c.requires.following in
+    let ws = c.args.words.now in
+    let l : length q.0 + 64 * length ws + c.args.len ≤ 2 ^ 43 = q.1 in
+    let n = length-append q.0 (flat_map word_cells ws) in
+    let k = length-words ws in
+    (q.0 ++ flat_map word_cells ws, omega arith, c.in-Ok.ensures.ran.1 q.0 q.2)
+
+pub returns-in-Ok : goal.returns-in-Ok
+returns-in-Ok g c =
+    let wr = g.Self.Taker.writes in
+    let fo = g.Self.Taker.follows in
+    let ta = g.T.Sink.taken in
+    let fa = g.T.Sink.failed in
+    record {
+      ran = cells-ran-behind (wr c.args.self.now) (wr c.words.new.self) (wr c.cells.new.self) (fo c.args.self.now) (fo c.words.new.self) (fo c.cells.new.self)
+          (flat_map word_cells c.args.words.now) (low_cells c.args.len c.args.word) (ta c.args.sink.now) (ta c.words.new.sink) (ta c.cells.new.sink)
+          (fa c.args.sink.now) (fa c.words.new.sink) (fa c.cells.new.sink) c.cells.result c.in-Ok.ensures.ran c.cells.ensures.ran;
+    }
+
+pub returns-in-Err : goal.returns-in-Err
+returns-in-Err g c =
+    let r = c.in-Err.ensures.ran in
+    record {
+      ran = (
+        r.0,
+        front-of-more (g.Self.Taker.writes c.args.self.now) (g.Self.Taker.follows c.args.self.now) (g.T.Sink.taken c.args.sink.now) (g.T.Sink.taken c.words.new.sink)
+            (flat_map word_cells c.args.words.now) (low_cells c.args.len c.args.word) r.1,
+      );
+    }

@@ -1,0 +1,75 @@
+-- What the two forms of cells make of an input's bytes.
+use Rattle.std.specs.Prelude.{ℕ, List, ◌++◌, Some, None, Result, Ok, Err, ◌≡◌, ◌+◌, ◌<◌, ◌≤◌, length, take, if◌then◌else◌}
+use Rattle.aes3_cell.specs.declared.level.Level.{Level}
+use Rattle.aes3_cell.specs.declared.refusal.RunError.TheVariants.{BadCell, BadPadding}
+use Rattle.aes3_cell.specs.declared.ends.Fault.{Fault}
+use Rattle.aes3_cell.specs.Ends.{Grew, GrewFront}
+use Rattle.aes3_cell.specs.Words.{low_cells}
+use Rattle.aes3_cell.specs.Packed.{octet_cells, is_packed, last_place, cells_of_packed, whole_cells}
+use Rattle.aes3_cell.specs.PackedReading.{PackedReader, packed_reader_of, packed_answer, packed_end, answer_cells, end_cells}
+use Rattle.aes3_cell.specs.CellText.{is_good_byte, byte_cells, cells_of_text, IsCellText}
+use Rattle.aes3_cell.specs.TextReading.{TextReader, text_reader_of}
+use Rattle.aes3_input.specs.Converting.{Reading}
+use Rattle.aes3_input.specs.Running.{Movement, Quiet, Failed}
+use Rattle.aes3_input.specs.Taking.{Writing, behind}
+
+-- cell text: a bad byte is a fault, the cell of any other is handed on
+unfoldable pub text_reading : Writing Level → Reading
+text_reading w = record {
+  fault = λ b x. if is_good_byte x then None else Some (BadCell (length b));
+  adds = λ b x. behind w (cells_of_text b) (byte_cells x);
+  end_fault = λ b. None;
+  ends = λ b. w.ends (cells_of_text b);
+}
+
+-- a reader that has taken the bytes b, none of which it refused; cells of them were counted, and a taker that took them follows f
+pub record TextTaken (text : TextReader) (cells : ℕ) (f : List Level → Type 0) (b : List ℕ) : Type 0 where
+  pub reader : text ≡ text_reader_of b
+  pub lawful : IsCellText b
+  pub count : cells ≡ length (cells_of_text b)
+  pub taker : f (cells_of_text b)
+
+-- a reader of text took the bytes d, which are the cells c and separators
+pub record TextRead (old new : TextReader) (d : List ℕ) (c : List Level) : Type 0 where
+  pub lawful : IsCellText d
+  pub cells : cells_of_text d ≡ c
+  pub seen : new.seen ≡ old.seen + length d
+
+-- the first n cells of an octet
+unfoldable pub octet_front : ℕ → ℕ → List Level
+octet_front n octet = take n (octet_cells octet)
+
+-- packed cells: an octet is handed on when two more have come, and what of the last two is used at the end
+unfoldable pub packed_reading : Writing Level → Reading
+packed_reading w = record {
+  fault = λ b x. None;
+  adds = λ b x. behind w (whole_cells b) (answer_cells (packed_answer (packed_reader_of b)));
+  end_fault = λ b. if is_packed b then None else Some (BadPadding (last_place b));
+  ends = λ b. behind w (whole_cells b) (end_cells (packed_end (packed_reader_of b))) ++ w.ends (cells_of_packed b);
+}
+
+-- a reader that has taken the octets b; those cells of them that stand whatever follows were counted and taken; and the same behind the end
+pub record PackedTaken (packed : PackedReader) (cells : ℕ) (f : List Level → Type 0) (b : List ℕ) : Type 0 where
+  pub reader : packed ≡ packed_reader_of b
+  pub count : cells ≡ length (whole_cells b)
+  pub taker : f (whole_cells b)
+
+pub record PackedEnded (cells : ℕ) (z : List Level → Type 0) (b : List ℕ) : Type 0 where
+  pub count : cells ≡ length (cells_of_packed b)
+  pub taker : z (cells_of_packed b)
+
+-- a taker that followed f₀ and wrote as w₀ was handed the cells d; and the same with the end behind them
+abbrev pub CellsRan : Writing Level → Writing Level → (List Level → Type 0) → (List Level → Type 0) → List Level → Movement → Result (Unit {0}) Fault → Type 0
+CellsRan w₀ w f₀ f d sink (Ok u) =
+    (w ≡ w₀) × ((c : List Level) → f₀ c → f (c ++ d)) × ((c : List Level) → f₀ c → Grew sink.old sink.new (behind w₀ c d)) × Quiet sink
+CellsRan w₀ w f₀ f d sink (Err x) = Failed sink × ((c : List Level) → f₀ c → GrewFront sink.old sink.new (behind w₀ c d))
+
+-- of the first cells of a word, as many as told and one at least; where the sink failed, a front of what they write was taken
+abbrev pub FirstCellsRan : Writing Level → Writing Level → (List Level → Type 0) → (List Level → Type 0) → ℕ → ℕ → Movement → Result ℕ Fault → Type 0
+FirstCellsRan w₀ w f₀ f len word sink (Ok n) = (0 < n) × (n ≤ len) × CellsRan w₀ w f₀ f (low_cells n word) sink (Ok tt)
+FirstCellsRan w₀ w f₀ f len word sink (Err x) = CellsRan w₀ w f₀ f (low_cells len word) sink (Err x)
+
+abbrev pub EndCellsRan : Writing Level → (List Level → Type 0) → (List Level → Type 0) → List Level → Movement → Result (Unit {0}) Fault → Type 0
+EndCellsRan w₀ f₀ z d sink (Ok u) =
+    ((c : List Level) → f₀ c → z (c ++ d) × Grew sink.old sink.new (behind w₀ c d ++ w₀.ends (c ++ d))) × Quiet sink
+EndCellsRan w₀ f₀ z d sink (Err x) = Failed sink × ((c : List Level) → f₀ c → GrewFront sink.old sink.new (behind w₀ c d ++ w₀.ends (c ++ d)))

@@ -1,0 +1,100 @@
+-- What a run answers, and what it has written then.
+use Rattle.std.specs.Prelude.{ℕ, List, [], ◌++◌, Option, Some, None, Result, Ok, Err, ◌≡◌, ◌<◌, ◌≤◌, ◌+◌, ◌⊎◌, Bool, IsTrue, length, take}
+use Rattle.aes3_cell.specs.declared.refusal.RunError.{RunError}
+use Rattle.aes3_cell.specs.declared.refusal.RunError.TheVariants.{Read, Write, TooLong}
+use Rattle.aes3_cell.specs.Ends.{Grew, GrewFront}
+use Rattle.aes3_input.specs.Converting.{Reading, fault_behind, out_behind, before_fault, first_fault, out, whole}
+
+-- an end's bytes and its count of failures, before a call and after it
+pub record Movement : Type 0 where
+  pub old : Option (List ℕ)
+  pub new : Option (List ℕ)
+  pub failed_old : ℕ
+  pub failed_new : ℕ
+
+-- of an end of which `bytes` tells its bytes and `failed` its count of failures
+abbrev pub movement_of : {A : Type 0} → (A → Option (List ℕ)) → (A → ℕ) → A → A → Movement
+movement_of bytes failed before after =
+    record { old = bytes before; new = bytes after; failed_old = failed before; failed_new = failed after }
+
+-- no failure, one failure
+abbrev pub Quiet : Movement → Type 0
+Quiet e = e.failed_new ≡ e.failed_old
+
+abbrev pub Failed : Movement → Type 0
+Failed e = e.failed_new ≡ e.failed_old + 1
+
+-- a conversion that followed f₀ was fed the bytes a, which are no fault
+pub record Fed (r₀ r : Reading) (f₀ f : List ℕ → Type 0) (t₀ t : Option (List ℕ)) (a : List ℕ) : Type 0 where
+  pub same : r ≡ r₀
+  pub clean : (b : List ℕ) → f₀ b → fault_behind r₀ b a ≡ None
+  pub follows : (b : List ℕ) → f₀ b → f (b ++ a)
+  pub grew : (b : List ℕ) → f₀ b → Grew t₀ t (out_behind r₀ b a)
+
+-- it was stopped at the first fault of the bytes a; of the bytes before that s holds then
+pub record Stopped (r₀ : Reading) (f₀ s : List ℕ → Type 0) (t₀ t : Option (List ℕ)) (a : List ℕ) (e : RunError) : Type 0 where
+  pub fault : (b : List ℕ) → f₀ b → fault_behind r₀ b a ≡ Some e
+  pub left : (b : List ℕ) → f₀ b → s (b ++ before_fault r₀ b a)
+  pub grew : (b : List ℕ) → f₀ b → Grew t₀ t (out_behind r₀ b a)
+
+-- what feeding a piece answers; only the loop tells Read and TooLong
+abbrev pub PieceRan : Reading → Reading → (List ℕ → Type 0) → (List ℕ → Type 0) → (List ℕ → Type 0) → List ℕ → Movement → Result (Unit {0}) RunError → Type 0
+PieceRan r₀ r f₀ f s piece sink (Ok u) = Fed r₀ r f₀ f sink.old sink.new piece × Quiet sink
+PieceRan r₀ r f₀ f s piece sink (Err Write) = Failed sink × ((b : List ℕ) → f₀ b → GrewFront sink.old sink.new (out_behind r₀ b piece))
+PieceRan r₀ r f₀ f s piece sink (Err Read) = ⊥
+PieceRan r₀ r f₀ f s piece sink (Err TooLong) = ⊥
+PieceRan r₀ r f₀ f s piece sink (Err e) = Stopped r₀ f₀ s sink.old sink.new piece e × Quiet sink
+
+-- what taking a front of a piece answers: how many of its bytes these were
+abbrev pub FrontRan : Reading → Reading → (List ℕ → Type 0) → (List ℕ → Type 0) → (List ℕ → Type 0) → List ℕ → Movement → Result ℕ RunError → Type 0
+FrontRan r₀ r f₀ f s piece sink (Ok n) = (0 < n) × (n ≤ length piece) × Fed r₀ r f₀ f sink.old sink.new (take n piece) × Quiet sink
+FrontRan r₀ r f₀ f s piece sink (Err e) = PieceRan r₀ r f₀ f s piece sink (Err e)
+
+-- what the end answers; where it is no fault, z holds of the bytes, else s
+abbrev pub EndRan : Reading → (List ℕ → Type 0) → (List ℕ → Type 0) → (List ℕ → Type 0) → Movement → Result (Unit {0}) RunError → Type 0
+EndRan r f s z sink (Ok u) = ((b : List ℕ) → f b → (r.end_fault b ≡ None) × z b × Grew sink.old sink.new (r.ends b)) × Quiet sink
+EndRan r f s z sink (Err Write) = ((b : List ℕ) → f b → (r.end_fault b ≡ None) × GrewFront sink.old sink.new (r.ends b)) × Failed sink
+EndRan r f s z sink (Err Read) = ⊥
+EndRan r f s z sink (Err TooLong) = ⊥
+EndRan r f s z sink (Err e) = ((b : List ℕ) → f b → (r.end_fault b ≡ Some e) × s b × Grew sink.old sink.new []) × Quiet sink
+
+-- the bytes b are an input of at most max bytes, none of which is a fault
+pub record Clean (max : ℕ) (r : Reading) (b : List ℕ) : Type 0 where
+  pub short : length b ≤ max
+  pub clean : first_fault r b ≡ None
+
+-- the source has ended behind the bytes b, which are clean
+pub record CleanEnd (max : ℕ) (r : Reading) (b : List ℕ) (ended : Bool) : Type 0 where
+  pub clean : Clean max r b
+  pub end : IsTrue ended
+
+-- what a run answers to the bytes b, and what it has written
+abbrev pub Ran : ℕ → Reading → (List ℕ → Type 0) → List ℕ → Bool → Movement → Movement → Result ℕ RunError → Type 0
+Ran max r z b ended source sink (Ok n) =
+    CleanEnd max r b ended × (r.end_fault b ≡ None) × z b × (n ≡ length b) × Quiet source × Quiet sink × Grew sink.old sink.new (whole r b)
+Ran max r z b ended source sink (Err Read) =
+    Clean max r b × Failed source × Quiet sink × Grew sink.old sink.new (out r b)
+Ran max r z b ended source sink (Err Write) =
+    Quiet source × Failed sink × (GrewFront sink.old sink.new (out r (take max b))
+    ⊎ (CleanEnd max r b ended × (r.end_fault b ≡ None) × GrewFront sink.old sink.new (whole r b)))
+Ran max r z b ended source sink (Err TooLong) =
+    Clean max r (take max b) × (length b ≡ max + 1) × Quiet source × Quiet sink × Grew sink.old sink.new (out r (take max b))
+Ran max r z b ended source sink (Err e) =
+    Quiet source × Quiet sink × Grew sink.old sink.new (out r (take max b))
+    × ((first_fault r (take max b) ≡ Some e) ⊎ (CleanEnd max r b ended × (r.end_fault b ≡ Some e)))
+
+-- what holds where a run over the bytes b was refused, and not by the sink: f of those up to max, or s of those before a fault
+abbrev pub Left : ℕ → Reading → (List ℕ → Type 0) → (List ℕ → Type 0) → List ℕ → Result ℕ RunError → Type 0
+Left max r f s b (Ok n) = Unit {0}
+Left max r f s b (Err Write) = Unit {0}
+Left max r f s b (Err Read) = f (take max b)
+Left max r f s b (Err TooLong) = f (take max b)
+Left max r f s b (Err e) = s (before_fault r [] (take max b))
+
+-- a run: with the bytes that the source gave in it, at most one more than max
+pub record Run (max : ℕ) (r : Reading) (f s z : List ℕ → Type 0) (ended : Bool) (source sink : Movement) (result : Result ℕ RunError) : Type 0 where
+  pub bytes : List ℕ
+  pub given : Grew source.old source.new bytes
+  pub few : length bytes ≤ max + 1
+  pub ran : Ran max r z bytes ended source sink result
+  pub left : Left max r f s bytes result

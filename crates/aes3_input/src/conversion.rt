@@ -1,0 +1,210 @@
+//! The one loop over an input: pieces of bytes are read and converted until the input ends.
+
+ghost use Rattle.std.specs.Prelude.{◌≡◌, ℕ, ◌+◌, ◌<◌, ◌≤◌, ◌^◌, ◌↔◌, List, [], length, take, IfOk};
+ghost use Rattle.std.specs.Prelude.{OnErr, IsTrue};
+ghost use Rattle.aes3_cell.specs.Ends.{Grew};
+ghost use Rattle.aes3_input.specs.Converting.{Reading};
+ghost use Rattle.aes3_input.specs.Running.{EndRan, FrontRan, PieceRan, Run, movement_of};
+
+use aes3_cell::{Fault, RunError, Sink, Source};
+
+/// A form of input: takes bytes, in pieces of any size, front by front, and hands what they carry
+/// to a taker `K`, which writes.
+///
+/// The contract speaks of the bytes that the input and its taker have taken (`follows`), of what
+/// bytes write and which are faults (`reads`), of what holds after the end (`finished`), and of
+/// what holds of the bytes before a fault when it was refused (`stopped`).
+pub trait Input<K> {
+    ghost follows: { Self → K → List ℕ → Type 0 };
+
+    ghost reads: { Self → K → Reading };
+
+    ghost finished: { Self → K → List ℕ → Type 0 };
+
+    ghost stopped: { Self → K → List ℕ → Type 0 };
+
+    /// Takes a front of a piece, at least one byte, and answers how many bytes it is.
+    fn take_front<T: Sink>(
+        &mut self,
+        taker: &mut K,
+        sink: &mut T,
+        piece: &[u8],
+    ) -> Result<usize, RunError>
+        requires some { 0 < length piece.now }
+        requires room { T.failed sink.old + 1 < 2 ^ 64 }
+        requires following { (b : List ℕ) × (length b + length piece.now ≤ 2 ^ 40)
+            × follows self.old taker.old b }
+        ensures { FrontRan (reads self.old taker.old) (reads self.new taker.new)
+            (follows self.old taker.old) (follows self.new taker.new) (stopped self.new taker.new)
+            piece.now
+            (movement_of T.taken T.failed sink.old sink.new) result };
+
+    /// Takes the end of the input.
+    fn finish<T: Sink>(&mut self, taker: &mut K, sink: &mut T) -> Result<(), RunError>
+        requires room { T.failed sink.old + 1 < 2 ^ 64 }
+        requires following { (b : List ℕ) × (length b ≤ 2 ^ 40) × follows self.old taker.old b }
+        ensures { EndRan (reads self.old taker.old) (follows self.old taker.old)
+            (stopped self.new taker.new) (finished self.new taker.new)
+            (movement_of T.taken T.failed sink.old sink.new) result };
+}
+
+/// How many bytes a read asks for.
+const PIECE_LEN: usize = 131_072;
+
+fn blank_piece() -> [u8; PIECE_LEN]
+    ensures { length result ≡ PIECE_LEN }
+{
+    [0; PIECE_LEN]
+}
+
+/// Reads at most `room` bytes.
+fn read_piece<S: Source>(source: &mut S, piece: &mut [u8], room: u64) -> Result<usize, Fault>
+    requires failures { S.failed source.old + 1 < 2 ^ 64 }
+    requires some { 0 < length piece.old }
+    requires room { 0 < room }
+    ensures bound { IfOk result (λ n. (n ≤ length piece.new) × (n ≤ room)) }
+    ensures bytes { IfOk result (λ n. Grew (S.given source.old) (S.given source.new)
+        (take n piece.new)) }
+    ensures end { IfOk result (λ n. n ≡ 0 ↔ IsTrue (S.has_ended source.new)) }
+    ensures count { IfOk result (λ _. S.failed source.new ≡ S.failed source.old) }
+    ensures err { OnErr result ((S.failed source.new ≡ S.failed source.old + 1)
+        × (S.given source.new ≡ S.given source.old)) }
+{
+    let limit = (piece.len() as u64).min(room) as usize;
+    source.read(&mut piece[..limit])
+}
+
+/// How many of `n` bytes may be taken, where the last of `room` bytes is one too many.
+fn allowed_of(n: usize, room: u64) -> usize
+    requires some { 0 < n }
+    requires within { n ≤ room }
+    ensures last { n ≡ room → result + 1 ≡ n }
+    ensures all { n < room → result ≡ n }
+{
+    if n as u64 == room { n - 1 } else { n }
+}
+
+/// Takes all of a piece, one front of what is left after the other.
+fn feed_fronts<T: Sink, K, I: Input<K>>(
+    input: &mut I,
+    taker: &mut K,
+    sink: &mut T,
+    piece: &[u8],
+) -> Result<(), RunError>
+    requires room { T.failed sink.old + 1 < 2 ^ 64 }
+    requires following { (b : List ℕ) × (length b + length piece.now ≤ 2 ^ 40)
+        × I.follows input.old taker.old b }
+    ensures { PieceRan (I.reads input.old taker.old) (I.reads input.new taker.new)
+        (I.follows input.old taker.old) (I.follows input.new taker.new)
+        (I.stopped input.new taker.new) piece.now
+        (movement_of T.taken T.failed sink.old sink.new) result }
+{
+    let mut at = 0;
+    while at < piece.len() {
+        match input.take_front(taker, sink, &piece[at..]) {
+            Ok(taken) => at += taken,
+            Err(error) => return Err(error),
+        }
+    }
+    Ok(())
+}
+
+/// Takes all of a piece, and passes on what the sink then holds: what is decided leaves before more
+/// is read.
+fn feed<T: Sink, K, I: Input<K>>(
+    input: &mut I,
+    taker: &mut K,
+    sink: &mut T,
+    piece: &[u8],
+) -> Result<(), RunError>
+    requires room { T.failed sink.old + 1 < 2 ^ 64 }
+    requires following { (b : List ℕ) × (length b + length piece.now ≤ 2 ^ 40)
+        × I.follows input.old taker.old b }
+    ensures ran { PieceRan (I.reads input.old taker.old) (I.reads input.new taker.new)
+        (I.follows input.old taker.old) (I.follows input.new taker.new)
+        (I.stopped input.new taker.new) piece.now
+        (movement_of T.taken T.failed sink.old sink.new) result }
+    ensures passed_on { IfOk result (λ _. T.passed sink.new ≡ T.taken sink.new) }
+{
+    match feed_fronts(input, taker, sink, piece) {
+        Ok(()) => match sink.flush() {
+            Ok(()) => Ok(()),
+            Err(_) => Err(RunError::Write),
+        },
+        Err(error) => Err(error),
+    }
+}
+
+/// Takes the end, and passes on what the sink then holds.
+fn finish<T: Sink, K, I: Input<K>>(
+    input: &mut I,
+    taker: &mut K,
+    sink: &mut T,
+) -> Result<(), RunError>
+    requires room { T.failed sink.old + 1 < 2 ^ 64 }
+    requires following { (b : List ℕ) × (length b ≤ 2 ^ 40) × I.follows input.old taker.old b }
+    ensures ran { EndRan (I.reads input.old taker.old) (I.follows input.old taker.old)
+        (I.stopped input.new taker.new) (I.finished input.new taker.new)
+        (movement_of T.taken T.failed sink.old sink.new) result }
+    ensures passed_on { IfOk result (λ _. T.passed sink.new ≡ T.taken sink.new) }
+{
+    match input.finish(taker, sink) {
+        Ok(()) => match sink.flush() {
+            Ok(()) => Ok(()),
+            Err(_) => Err(RunError::Write),
+        },
+        Err(error) => Err(error),
+    }
+}
+
+/// Converts all bytes of the source, at most `max_bytes`, and answers how many they are.
+///
+/// # Errors
+/// `Read` and `Write` where the source or the sink failed, `TooLong` where a byte came after
+/// `max_bytes` bytes, else the first fault of the input. At most `max_bytes + 1` bytes are read.
+pub fn convert<S: Source, T: Sink, K, I: Input<K>>(
+    source: &mut S,
+    sink: &mut T,
+    max_bytes: u64,
+    input: &mut I,
+    taker: &mut K,
+) -> Result<u64, RunError>
+    requires source_room { S.failed source.old + 1 < 2 ^ 64 }
+    requires sink_room { T.failed sink.old + 1 < 2 ^ 64 }
+    requires limit { max_bytes ≤ 2 ^ 40 }
+    requires start { I.follows input.old taker.old [] }
+    ensures run { Run max_bytes (I.reads input.old taker.old) (I.follows input.new taker.new)
+        (I.stopped input.new taker.new) (I.finished input.new taker.new) (S.has_ended source.new)
+        (movement_of S.given S.failed source.old source.new)
+        (movement_of T.taken T.failed sink.old sink.new) result }
+
+    // At Ok the sink has passed on all that it took, and so it had before a read that failed.
+    ensures passed_on { IfOk result (λ _. T.passed sink.new ≡ T.taken sink.new) }
+    ensures passed_before { S.failed source.new ≡ S.failed source.old + 1
+        → T.passed sink.old ≡ T.taken sink.old → T.passed sink.new ≡ T.taken sink.new }
+{
+    let mut piece = blank_piece();
+    let mut seen: u64 = 0;
+    'pieces: loop {
+        let room = max_bytes + 1 - seen;
+        let n = match read_piece(source, &mut piece, room) {
+            Ok(n) => n,
+            Err(_) => return Err(RunError::Read),
+        };
+        if n == 0 {
+            return match finish(input, taker, sink) {
+                Ok(()) => Ok(seen),
+                Err(error) => Err(error),
+            };
+        }
+        let allowed = allowed_of(n, room);
+        match feed(input, taker, sink, &piece[..allowed]) {
+            Ok(()) => {}
+            Err(error) => return Err(error),
+        }
+        seen += n as u64;
+        if seen > max_bytes {
+            return Err(RunError::TooLong);
+        }
+    }
+}

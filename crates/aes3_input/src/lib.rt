@@ -1,0 +1,22 @@
+//! Inputs of a run: the one loop that reads them, cell text and packed cells, and whoever takes
+//! their cells.
+#![tactic(auto)]
+
+/// The trait of an input, and the one loop over it.
+mod conversion;
+/// The run over an input of cells, in either form.
+mod driver;
+/// Packed cells as an input.
+mod packed_input;
+/// Who takes the cells of an input.
+mod taker;
+/// Cell text as an input.
+mod text_input;
+/// The lines of 64 cells that text begins with.
+mod text_lines;
+/// The words of cells that text begins with, whatever its lines.
+mod text_words;
+
+pub use conversion::{Input, convert};
+pub use driver::drive;
+pub use taker::Taker;

@@ -1,0 +1,229 @@
+//! Packed cells as an input.
+
+ghost use Rattle.std.specs.Prelude.{◌≡◌, ℕ, ◌+◌, ◌*◌, ◌<◌, ◌≤◌, ◌^◌, ◌++◌, List, [], ◌∷◌, length};
+ghost use Rattle.std.specs.Prelude.{take, IfOk, IfSome, OnSome, IfNone};
+ghost use Rattle.std.specs.List.{flat_map};
+ghost use Rattle.aes3_cell.specs.declared.form.Form.{Form};
+ghost use Rattle.aes3_cell.specs.declared.level.Level.{Level};
+ghost use Rattle.aes3_cell.specs.Packed.{octet_cells, whole_cells};
+ghost use Rattle.aes3_cell.specs.PackedReading.{behind_eight, eight_whole, packed_reader_of};
+ghost use Rattle.aes3_cell.specs.Words.{low_cells, word_cells};
+ghost use Rattle.aes3_input.specs.Driving.{Drive};
+ghost use Rattle.aes3_input.specs.Forms.{CellsRan, EndCellsRan, PackedEnded, PackedTaken};
+ghost use Rattle.aes3_input.specs.Forms.{octet_front, packed_reading};
+ghost use Rattle.aes3_input.specs.Running.{FrontRan, PieceRan, movement_of};
+
+use crate::conversion::{Input, convert};
+use crate::taker::Taker;
+use aes3_cell::{Fault, PackedIn, RunError, Sink, Source};
+
+/// How many words are handed on at once: enough that the calls for them cost next to nothing.
+const WORDS: usize = 1024;
+
+/// Reads packed cells, and counts those handed on.
+#[derive(Drop)]
+pub(crate) struct PackedInput {
+    packed: PackedIn,
+    cells: u64,
+    /// The words of the latest octets.
+    words: [u64; WORDS],
+}
+
+impl PackedInput {
+    /// An input of which nothing was taken.
+    fn new() -> Self
+        ensures packed { result.packed ≡ packed_reader_of [] }
+        ensures cells { result.cells ≡ 0 }
+    {
+        PackedInput {
+            packed: PackedIn::new(),
+            cells: 0,
+            words: [0; WORDS],
+        }
+    }
+}
+
+/// The cells of an octet as a word, the first in the lowest bit.
+fn word_of_octet(octet: u8) -> u64
+    ensures { low_cells 8 result ≡ octet_cells octet }
+{
+    let word = u64::from(octet);
+    let word = (word >> 1) & 0x55 | (word & 0x55) << 1;
+    let word = (word >> 2) & 0x33 | (word & 0x33) << 2;
+    (word >> 4) & 0x0F | (word & 0x0F) << 4
+}
+
+/// Hands the first `used` cells of an octet to the taker.
+fn hand_on<T: Sink, K: Taker>(taker: &mut K, sink: &mut T, octet: u8, used: u8) -> Result<(), Fault>
+    requires few { used ≤ 8 }
+    requires room { T.failed sink.old + 1 < 2 ^ 64 }
+    requires following { (c : List Level) × (length c + 8 ≤ 2 ^ 43) × K.follows taker.old c }
+    ensures { CellsRan (K.writes taker.old) (K.writes taker.new) (K.follows taker.old)
+        (K.follows taker.new) (octet_front used octet)
+        (movement_of T.taken T.failed sink.old sink.new) result }
+{
+    taker.cells(sink, word_of_octet(octet), u32::from(used))
+}
+
+/// Hands the first `used` cells of an octet to the taker, and then the end.
+fn hand_on_last<T: Sink, K: Taker>(
+    taker: &mut K,
+    sink: &mut T,
+    octet: u8,
+    used: u8,
+) -> Result<(), Fault>
+    requires few { used ≤ 8 }
+    requires room { T.failed sink.old + 1 < 2 ^ 64 }
+    requires following { (c : List Level) × (length c + 8 ≤ 2 ^ 43) × K.follows taker.old c }
+    ensures { EndCellsRan (K.writes taker.old) (K.follows taker.old) (K.finished taker.new)
+        (octet_front used octet)
+        (movement_of T.taken T.failed sink.old sink.new) result }
+{
+    match hand_on(taker, sink, octet, used) {
+        Ok(()) => taker.finish(sink),
+        Err(fault) => Err(fault),
+    }
+}
+
+/// Takes one octet, and hands on the cells of the one that came two octets before.
+fn take_octet<T: Sink, K: Taker>(
+    input: &mut PackedInput,
+    taker: &mut K,
+    sink: &mut T,
+    octet: u8,
+) -> Result<(), RunError>
+    requires room { T.failed sink.old + 1 < 2 ^ 64 }
+    requires following { (b : List ℕ) × (length b < 2 ^ 40)
+        × PackedTaken input.old.packed input.old.cells (K.follows taker.old) b }
+    ensures { PieceRan (packed_reading (K.writes taker.old)) (packed_reading (K.writes taker.new))
+        (PackedTaken input.old.packed input.old.cells (K.follows taker.old))
+        (PackedTaken input.new.packed input.new.cells (K.follows taker.new))
+        (λ b. K.follows taker.new (whole_cells b)) (octet ∷ [])
+        (movement_of T.taken T.failed sink.old sink.new) result }
+{
+    match input.packed.feed_byte(octet) {
+        Some(whole) => match hand_on(taker, sink, whole, 8) {
+            Ok(()) => {
+                input.cells += 8;
+                Ok(())
+            }
+            Err(_) => Err(RunError::Write),
+        },
+        None => Ok(()),
+    }
+}
+
+/// Takes eight octets of a piece for each word, as many as there are and as make words, where two
+/// or more octets came before; answers how many words these are. The words are the cells that these
+/// octets make whole.
+fn feed_words(packed: &mut PackedIn, piece: &[u8], words: &mut [u64; WORDS]) -> usize
+    requires { packed.old.seen + length piece.now ≤ 2 ^ 40 }
+    ensures within { 8 * result ≤ length piece.now }
+    ensures few { result ≤ WORDS }
+    ensures len { length words.new ≡ WORDS }
+    ensures next { (b : List ℕ) → packed.old ≡ packed_reader_of b
+        → packed.new ≡ packed_reader_of (b ++ take (8 * result) piece.now) }
+    ensures cells { (b : List ℕ) → packed.old ≡ packed_reader_of b
+        → whole_cells (b ++ take (8 * result) piece.now) ≡ whole_cells b
+        ++ flat_map word_cells (take result words.new) }
+    ensures none { result ≡ 0 → packed.new ≡ packed.old }
+{
+    if packed.seen() < 2 {
+        return 0;
+    }
+    let count = (piece.len() / 8).min(WORDS);
+    packed.feed_words(&piece[..8 * count], &mut words[..count]);
+    count
+}
+
+/// Takes the octet that a piece begins with, and answers that it is one.
+fn take_first<T: Sink, K: Taker>(
+    input: &mut PackedInput,
+    taker: &mut K,
+    sink: &mut T,
+    piece: &[u8],
+) -> Result<usize, RunError>
+    requires some { 0 < length piece.now }
+    requires room { T.failed sink.old + 1 < 2 ^ 64 }
+    requires following { (b : List ℕ) × (length b + length piece.now ≤ 2 ^ 40)
+        × PackedTaken input.old.packed input.old.cells (K.follows taker.old) b }
+    ensures { FrontRan (packed_reading (K.writes taker.old)) (packed_reading (K.writes taker.new))
+        (PackedTaken input.old.packed input.old.cells (K.follows taker.old))
+        (PackedTaken input.new.packed input.new.cells (K.follows taker.new))
+        (λ b. K.follows taker.new (whole_cells b)) piece.now
+        (movement_of T.taken T.failed sink.old sink.new) result }
+{
+    match take_octet(input, taker, sink, piece[0]) {
+        Ok(()) => Ok(1),
+        Err(error) => Err(error),
+    }
+}
+
+/// `drive` over packed cells.
+pub(crate) fn drive_packed<S: Source, T: Sink, K: Taker>(
+    source: &mut S,
+    sink: &mut T,
+    max_bytes: u64,
+    taker: &mut K,
+) -> Result<(u64, u64), RunError>
+    requires source_room { S.failed source.old + 1 < 2 ^ 64 }
+    requires sink_room { T.failed sink.old + 1 < 2 ^ 64 }
+    requires limit { max_bytes ≤ 2 ^ 40 }
+    requires start { K.follows taker.old [] }
+    ensures ran { Drive max_bytes Form.Packed (K.writes taker.old) (K.follows taker.new)
+        (K.finished taker.new) (S.has_ended source.new)
+        (movement_of S.given S.failed source.old source.new)
+        (movement_of T.taken T.failed sink.old sink.new) result }
+    ensures passed_on { IfOk result (λ _. T.passed sink.new ≡ T.taken sink.new) }
+{
+    let mut input = PackedInput::new();
+    match convert(source, sink, max_bytes, &mut input, taker) {
+        Ok(bytes) => Ok((bytes, input.cells)),
+        Err(error) => Err(error),
+    }
+}
+
+impl<K: Taker> Input<K> for PackedInput {
+    ghost follows = { λ input taker. PackedTaken input.packed input.cells (K.follows taker) };
+
+    ghost reads = { λ _ taker. packed_reading (K.writes taker) };
+
+    ghost finished = { λ input taker. PackedEnded input.cells (K.finished taker) };
+
+    ghost stopped = { λ _ taker b. K.follows taker (whole_cells b) };
+
+    fn take_front<T: Sink>(
+        &mut self,
+        taker: &mut K,
+        sink: &mut T,
+        piece: &[u8],
+    ) -> Result<usize, RunError> {
+        let count = feed_words(&mut self.packed, piece, &mut self.words);
+        if count == 0 {
+            return take_first(self, taker, sink, piece);
+        }
+        match taker.words(sink, &self.words[..count]) {
+            Ok(()) => {
+                self.cells += 64 * count as u64;
+                Ok(8 * count)
+            }
+            Err(_) => Err(RunError::Write),
+        }
+    }
+
+    fn finish<T: Sink>(&mut self, taker: &mut K, sink: &mut T) -> Result<(), RunError> {
+        match self.packed.end() {
+            Ok(last) => {
+                let (octet, used) = last.unwrap_or((0, 0));
+                match hand_on_last(taker, sink, octet, used) {
+                    Ok(()) => {
+                        self.cells += u64::from(used);
+                        Ok(())
+                    }
+                    Err(_) => Err(RunError::Write),
+                }
+            }
+            Err(fault) => Err(RunError::BadPadding { at: fault.at }),
+        }
+    }
+}

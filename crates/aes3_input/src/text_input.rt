@@ -1,0 +1,126 @@
+//! Cell text as an input.
+
+ghost use Rattle.std.specs.Prelude.{◌≡◌, ℕ, ◌+◌, ◌<◌, ◌≤◌, ◌^◌, List, [], length, IfOk};
+ghost use Rattle.aes3_cell.specs.CellText.{cells_of_text};
+ghost use Rattle.aes3_input.specs.Driving.{Drive};
+ghost use Rattle.aes3_input.specs.Forms.{TextTaken, text_reading};
+ghost use Rattle.aes3_input.specs.Running.{FrontRan, movement_of};
+
+use crate::conversion::{Input, convert};
+use crate::taker::Taker;
+use crate::text_lines::LINES;
+use crate::text_words::{feed_cells, feed_words};
+use aes3_cell::{CellText, Form, RunError, Sink, Source};
+
+/// Reads cell text, and counts its cells.
+#[derive(Drop)]
+pub(crate) struct TextInput {
+    text: CellText,
+    cells: u64,
+    /// The words of the latest lines.
+    words: [u64; LINES],
+}
+
+impl TextInput {
+    /// An input of which nothing was taken.
+    fn new() -> Self
+        ensures text { result.text.seen ≡ 0 }
+        ensures cells { result.cells ≡ 0 }
+    {
+        TextInput {
+            text: CellText::new(),
+            cells: 0,
+            words: [0; LINES],
+        }
+    }
+}
+
+/// Takes what a piece begins with as one word of cells, and answers how many bytes that is.
+fn take_cells<T: Sink, K: Taker>(
+    input: &mut TextInput,
+    taker: &mut K,
+    sink: &mut T,
+    piece: &[u8],
+) -> Result<usize, RunError>
+    requires some { 0 < length piece.now }
+    requires room { T.failed sink.old + 1 < 2 ^ 64 }
+    requires following { (b : List ℕ) × (length b + length piece.now ≤ 2 ^ 40)
+        × TextTaken input.old.text input.old.cells (K.follows taker.old) b }
+    ensures { FrontRan (text_reading (K.writes taker.old)) (text_reading (K.writes taker.new))
+        (TextTaken input.old.text input.old.cells (K.follows taker.old))
+        (TextTaken input.new.text input.new.cells (K.follows taker.new))
+        (λ b. K.follows taker.new (cells_of_text b)) piece.now
+        (movement_of T.taken T.failed sink.old sink.new) result }
+{
+    match feed_cells(&mut input.text, piece) {
+        Ok((taken, cells)) => match taker.cells(sink, cells.word, cells.len) {
+            Ok(()) => {
+                input.cells += u64::from(cells.len);
+                Ok(taken)
+            }
+            Err(_) => Err(RunError::Write),
+        },
+        Err(fault) => Err(RunError::BadCell { at: fault.at }),
+    }
+}
+
+/// `drive` over cell text.
+pub(crate) fn drive_text<S: Source, T: Sink, K: Taker>(
+    source: &mut S,
+    sink: &mut T,
+    max_bytes: u64,
+    taker: &mut K,
+) -> Result<(u64, u64), RunError>
+    requires source_room { S.failed source.old + 1 < 2 ^ 64 }
+    requires sink_room { T.failed sink.old + 1 < 2 ^ 64 }
+    requires limit { max_bytes ≤ 2 ^ 40 }
+    requires start { K.follows taker.old [] }
+    ensures ran { Drive max_bytes Form.Text (K.writes taker.old) (K.follows taker.new)
+        (K.finished taker.new) (S.has_ended source.new)
+        (movement_of S.given S.failed source.old source.new)
+        (movement_of T.taken T.failed sink.old sink.new) result }
+    ensures passed_on { IfOk result (λ _. T.passed sink.new ≡ T.taken sink.new) }
+{
+    let mut input = TextInput::new();
+    match convert(source, sink, max_bytes, &mut input, taker) {
+        Ok(bytes) => Ok((bytes, input.cells)),
+        Err(error) => Err(error),
+    }
+}
+
+impl<K: Taker> Input<K> for TextInput {
+    ghost follows = { λ input taker. TextTaken input.text input.cells (K.follows taker) };
+
+    ghost reads = { λ _ taker. text_reading (K.writes taker) };
+
+    ghost finished = { λ input taker. TextTaken input.text input.cells (K.finished taker) };
+
+    ghost stopped = { λ _ taker b. K.follows taker (cells_of_text b) };
+
+    fn take_front<T: Sink>(
+        &mut self,
+        taker: &mut K,
+        sink: &mut T,
+        piece: &[u8],
+    ) -> Result<usize, RunError> {
+        let taken = feed_words(&mut self.text, piece, &mut self.words);
+        if taken.bytes == 0 {
+            return take_cells(self, taker, sink, piece);
+        }
+        let rest = taken.rest;
+        match taker.words_and_cells(sink, &self.words[..taken.count], rest.word, rest.len) {
+            Ok(()) => {
+                self.cells += 64 * taken.count as u64 + u64::from(rest.len);
+                Ok(taken.bytes)
+            }
+            Err(_) => Err(RunError::Write),
+        }
+    }
+
+    fn finish<T: Sink>(&mut self, taker: &mut K, sink: &mut T) -> Result<(), RunError> {
+        match taker.finish(sink) {
+            Ok(()) => Ok(()),
+            Err(_) => Err(RunError::Write),
+        }
+    }
+}

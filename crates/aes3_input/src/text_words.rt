@@ -1,0 +1,226 @@
+//! Cell text as words of cells.
+
+ghost use Rattle.std.specs.Prelude.{◌≡◌, ◌+◌, ◌<◌, ◌≤◌, ◌^◌, ◌++◌, [], ◌∷◌, length};
+ghost use Rattle.std.specs.Prelude.{take, slice_index, Err, IfOk, IfErr, OnErr, IfSome, OnSome};
+ghost use Rattle.std.specs.Prelude.{if◌then◌else◌, true, IfNone};
+ghost use Rattle.std.specs.List.{flat_map};
+ghost use Rattle.aes3_cell.specs.CellText.{byte_cells, is_good_byte};
+ghost use Rattle.aes3_cell.specs.TextReading.{text_answer};
+ghost use Rattle.aes3_cell.specs.Words.{low_cells, word_cells};
+ghost use Rattle.aes3_input.specs.Forms.{TextRead};
+
+use crate::text_lines::{LINES, begins_line, ends_line, feed_lines, skip_separators};
+use aes3_cell::{BadCell, CellText, SomeCells};
+
+/// No cells.
+fn no_cells() -> SomeCells
+    ensures { result.len ≡ 0 }
+{
+    SomeCells { word: 0, len: 0 }
+}
+
+/// Some cells with others behind them.
+#[derive(Drop)]
+struct Joined {
+    /// Whether they make a word.
+    full: bool,
+    /// The word, where they do.
+    word: u64,
+    /// Those behind the word, or all.
+    rest: SomeCells,
+}
+
+/// Cells with others behind them.
+#[inline(always)]
+fn join(front: SomeCells, back: SomeCells) -> Joined
+    requires few { front.len < 64 }
+    ensures cells { (if result.full then word_cells result.word else [])
+        ++ low_cells result.rest.len result.rest.word
+        ≡ low_cells front.len front.word ++ low_cells back.len back.word }
+    ensures few { result.rest.len < 64 }
+{
+    let word = front.word | back.word << front.len;
+    let len = front.len + back.len;
+    if len < u64::BITS {
+        let rest = SomeCells { word, len };
+        return Joined {
+            full: false,
+            word,
+            rest,
+        };
+    }
+    // No shift reaches 64.
+    let behind = back.word >> 1 >> (63 - front.len);
+    let rest = SomeCells {
+        word: behind,
+        len: len - u64::BITS,
+    };
+    Joined {
+        full: true,
+        word,
+        rest,
+    }
+}
+
+/// The front of a piece, taken.
+#[derive(Drop)]
+pub(crate) struct Taken {
+    /// How many bytes it has.
+    pub(crate) bytes: usize,
+    /// How many words its cells make.
+    pub(crate) count: usize,
+    /// The cells behind these words.
+    pub(crate) rest: SomeCells,
+}
+
+/// Takes the 64 bytes that a piece begins with, where they are all cells and separators, and
+/// answers their cells; else none.
+#[inline(always)]
+fn feed_chunk(text: &mut CellText, piece: &[u8]) -> Option<SomeCells>
+    requires { text.old.seen + length piece.now ≤ 2 ^ 40 }
+    ensures bound { OnSome result (64 ≤ length piece.now) }
+    ensures read { IfSome result (λ cells. TextRead text.old text.new (take 64 piece.now)
+        (low_cells cells.len cells.word)) }
+    ensures none { IfNone result (text.new ≡ text.old) }
+{
+    match piece.first_chunk() {
+        Some(bytes) => text.feed_scattered(bytes),
+        None => None,
+    }
+}
+
+/// Takes the chunks of 64 bytes that a piece begins with, each of cells and separators, up to a
+/// line of 64 cells or as many words as there are.
+fn feed_chunks(text: &mut CellText, piece: &[u8], words: &mut [u64; LINES]) -> Taken
+    requires { text.old.seen + length piece.now ≤ 2 ^ 40 }
+    ensures within { result.bytes ≤ length piece.now }
+    ensures few { result.count ≤ 64 }
+    ensures len { length words.new ≡ 64 }
+    ensures read { TextRead text.old text.new (take result.bytes piece.now)
+        (flat_map word_cells (take result.count words.new)
+        ++ low_cells result.rest.len result.rest.word) }
+    ensures none { result.bytes ≡ 0 → text.new ≡ text.old }
+{
+    let mut bytes = 0;
+    let mut count = 0;
+    let mut rest = no_cells();
+    while count < LINES && !begins_line(piece, bytes) {
+        match feed_chunk(text, &piece[bytes..]) {
+            Some(cells) => {
+                let more = join(rest, cells);
+                words[count] = more.word;
+                count += usize::from(more.full);
+                rest = more.rest;
+                bytes += 64;
+            }
+            None => return Taken { bytes, count, rest },
+        }
+    }
+    Taken { bytes, count, rest }
+}
+
+/// Takes the lines of 64 cells that a piece begins with, or the chunks of 64 bytes where no such line
+/// is near.
+pub(crate) fn feed_words(text: &mut CellText, piece: &[u8], words: &mut [u64; LINES]) -> Taken
+    requires { text.old.seen + length piece.now ≤ 2 ^ 40 }
+    ensures within { result.bytes ≤ length piece.now }
+    ensures few { result.count ≤ 64 }
+    ensures len { length words.new ≡ 64 }
+    ensures read { TextRead text.old text.new (take result.bytes piece.now)
+        (flat_map word_cells (take result.count words.new)
+        ++ low_cells result.rest.len result.rest.word) }
+    ensures none { result.bytes ≡ 0 → text.new ≡ text.old }
+{
+    let (bytes, count) = feed_lines(text, piece, words);
+    if bytes == 0 && !ends_line(piece) {
+        return feed_chunks(text, piece, words);
+    }
+    Taken {
+        bytes,
+        count,
+        rest: no_cells(),
+    }
+}
+
+/// Cells with that of one more byte behind them, if it is a cell and no separator. No jump depends
+/// on which it is, since where lines end can't be foreseen: bit 4 is set in the bytes of cells
+/// alone, bit 5 in those and a space, and bit 0 tells the level.
+fn with_cell_of(cells: SomeCells, byte: u8) -> SomeCells
+    requires few { cells.len < 64 }
+    requires good { is_good_byte byte ≡ true }
+    ensures { low_cells result.len result.word
+        ≡ low_cells cells.len cells.word ++ byte_cells byte }
+{
+    let high = byte & (byte >> 5) & 1;
+    let count = (byte >> 4) & 1;
+    SomeCells {
+        word: cells.word | u64::from(high) << cells.len,
+        len: cells.len + u32::from(count),
+    }
+}
+
+/// Takes one more byte, and puts its cell behind the others.
+fn with_byte(text: &mut CellText, cells: SomeCells, byte: u8) -> Result<SomeCells, BadCell>
+    requires room { text.old.seen < 2 ^ 40 }
+    requires few { cells.len < 64 }
+    ensures read { IfOk result (λ _. TextRead text.old text.new (byte ∷ []) (byte_cells byte)) }
+    ensures cells { IfOk result (λ more. low_cells more.len more.word
+        ≡ low_cells cells.len cells.word ++ byte_cells byte) }
+    ensures fault { IfErr result (λ fault. Err fault ≡ text_answer text.old byte) }
+    ensures same { OnErr result (text.new ≡ text.old) }
+{
+    match text.feed_byte(byte) {
+        Ok(_) => Ok(with_cell_of(cells, byte)),
+        Err(fault) => Err(fault),
+    }
+}
+
+/// Takes the bytes that a piece begins with, until they have 64 cells, a line of so many begins, or
+/// a byte is neither a cell nor a separator. Answers how many bytes these are, and their cells.
+fn feed_some(text: &mut CellText, piece: &[u8]) -> Result<(usize, SomeCells), BadCell>
+    requires some { 0 < length piece.now }
+    requires room { text.old.seen + length piece.now ≤ 2 ^ 40 }
+    ensures within { IfOk result (λ taken. (0 < taken.0) × (taken.0 ≤ length piece.now)) }
+    ensures read { IfOk result (λ taken. TextRead text.old text.new (take taken.0 piece.now)
+        (low_cells taken.1.len taken.1.word)) }
+    ensures fault { IfErr result (λ fault. Err fault
+        ≡ text_answer text.old (slice_index piece.now 0)) }
+    ensures same { OnErr result (text.new ≡ text.old) }
+{
+    let mut cells = match with_byte(text, SomeCells { word: 0, len: 0 }, piece[0]) {
+        Ok(cells) => cells,
+        Err(fault) => return Err(fault),
+    };
+    let mut at = 1;
+    while at < piece.len() && cells.len < u64::BITS && !begins_line(piece, at) {
+        match with_byte(text, cells, piece[at]) {
+            Ok(more) => {
+                cells = more;
+                at += 1;
+            }
+            Err(_) => return Ok((at, cells)),
+        }
+    }
+    Ok((at, cells))
+}
+
+/// Takes the 64 cells or fewer that a piece begins with, whatever separators stand between them,
+/// and those behind them. Answers how many bytes these are, and the cells.
+pub(crate) fn feed_cells(text: &mut CellText, piece: &[u8]) -> Result<(usize, SomeCells), BadCell>
+    requires some { 0 < length piece.now }
+    requires room { text.old.seen + length piece.now ≤ 2 ^ 40 }
+    ensures within { IfOk result (λ taken. (0 < taken.0) × (taken.0 ≤ length piece.now)) }
+    ensures read { IfOk result (λ taken. TextRead text.old text.new (take taken.0 piece.now)
+        (low_cells taken.1.len taken.1.word)) }
+    ensures fault { IfErr result (λ fault. Err fault
+        ≡ text_answer text.old (slice_index piece.now 0)) }
+    ensures same { OnErr result (text.new ≡ text.old) }
+{
+    match feed_some(text, piece) {
+        Ok((taken, cells)) => {
+            let separators = skip_separators(text, &piece[taken..]);
+            Ok((taken + separators, cells))
+        }
+        Err(fault) => Err(fault),
+    }
+}

@@ -1,2 +1,0 @@
-pub mod JobRuns
-pub mod Lines

@@ -1,0 +1,9 @@
+pub mod MarkLines
+pub mod Words
+pub mod Fields
+pub mod Professional
+pub mod Consumer
+pub mod StatusLines
+pub mod Gathering
+pub mod Settings
+pub mod Choices

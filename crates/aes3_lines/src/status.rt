@@ -1,0 +1,70 @@
+//! The line of a channel status.
+
+ghost use Rattle.std.specs.Prelude.{◌≡◌, ◌<◌, ◌≤◌, ◌+◌, ◌++◌, ◌^◌, length};
+ghost use Rattle.aes3_cell.specs.Writes.{Wrote};
+ghost use Rattle.aes3_lines.specs.StatusLines.{channel_digit, head_text, status_line, status_text};
+
+use crate::consumer::put_consumer;
+use crate::line::{LINE_LEN, Line};
+use crate::professional::put_professional;
+use aes3_block::Channel;
+use aes3_cell::{Fault, Sink};
+use aes3_status::{Status, check_state};
+
+/// How many bytes the beginning of a line has at most.
+const HEAD_LEN: usize = 40;
+
+/// The number of a channel.
+fn channel_digit(channel: Channel) -> &'static str
+    ensures digit { result.now ≡ channel_digit channel }
+    ensures len { length result.now ≡ 1 }
+{
+    match channel {
+        Channel::First => "1",
+        Channel::Second => "2",
+    }
+}
+
+/// The beginning of a line: which block and which channel.
+fn head_of(block: u64, channel: Channel) -> Line
+    ensures text { result ≡ head_text block channel }
+    ensures len { length result ≤ HEAD_LEN }
+{
+    let mut line = Line::new();
+    line.text("block=");
+    line.number(block);
+    line.text(" channel=");
+    line.text(channel_digit(channel));
+    line
+}
+
+/// Appends a channel status.
+fn put_status(line: &mut Line, status: &[u8; 24])
+    requires { length line.old ≤ HEAD_LEN }
+    ensures text { line.new ≡ line.old ++ status_text status.now }
+    ensures len { length line.new < LINE_LEN }
+{
+    match Status::read(status) {
+        Status::Professional(fields) => put_professional(line, &fields, check_state(status)),
+        Status::Consumer(fields) => put_consumer(line, &fields),
+    }
+}
+
+/// Writes the line of a channel status, that of `channel` in block number `block`, as one buffer.
+///
+/// # Errors
+/// The sink's fault; then it has taken a front of the line.
+pub fn line_of_status<T: Sink>(
+    block: u64,
+    channel: Channel,
+    status: &[u8; 24],
+    sink: &mut T,
+) -> Result<(), Fault>
+    requires room { T.failed sink.old + 1 < 2 ^ 64 }
+    ensures { Wrote T.taken T.failed sink.old sink.new
+        (status_line block channel status.now) result }
+{
+    let mut line = head_of(block, channel);
+    put_status(&mut line, status);
+    line.end(sink)
+}

@@ -1,0 +1,3 @@
+pub mod JobRuns
+pub mod Lines
+pub mod WordRuns

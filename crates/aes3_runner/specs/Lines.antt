@@ -1,0 +1,17 @@
+-- The lines that tell a refusal, and words that can not be read.
+use Rattle.std.specs.Prelude.{ℕ, List, [], ◌∷◌, ◌++◌, Option, Some, None, codes, decimal}
+use Rattle.aes3_cell.specs.declared.refusal.RunError.{RunError}
+use Rattle.aes3_cell.specs.Refusals.{number_of, place_of}
+
+-- ` at <place>`, where the refusal has a place
+abbrev pub place_text : Option ℕ → List ℕ
+place_text None = []
+place_text (Some place) = codes " at " ++ decimal place
+
+-- `aes3: refused <number>`, the place and a line feed
+abbrev pub refusal_line : RunError → List ℕ
+refusal_line error = codes "aes3: refused " ++ decimal (number_of error) ++ place_text (place_of error) ++ 10 ∷ []
+
+-- what is told of words that are not UTF-8
+abbrev pub not_utf8_line : List ℕ
+not_utf8_line = codes "aes3: the words are not UTF-8" ++ 10 ∷ []

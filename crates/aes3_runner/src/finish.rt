@@ -1,0 +1,56 @@
+//! A job, its last flush and its exit status.
+
+ghost use Rattle.std.specs.Prelude.{◌≡◌, ◌≢◌, ◌<◌, ◌≤◌, ◌+◌, ◌^◌};
+ghost use Rattle.aes3_runner.specs.JobRuns.{Flushed, JobRan};
+ghost use Rattle.aes3_input.specs.Running.{movement_of};
+
+use crate::job_run::{exit_status, run_job};
+use crate::refusal::refuse;
+use aes3_cell::{RunError, Sink, Source};
+use aes3_job::{Job, Observer};
+
+/// The refusal of a run once the sink has passed on what it holds: `Write` where that failed, else
+/// the first one.
+fn flushed<T: Sink>(error: RunError, sink: &mut T) -> RunError
+    requires room { error ≢ RunError.Write → T.failed sink.old + 1 < 2 ^ 64 }
+    ensures told { Flushed error
+        (movement_of T.taken T.failed sink.old sink.new) result }
+    ensures passed_on { T.failed sink.new ≡ T.failed sink.old → error ≢ RunError.Write
+        → T.passed sink.new ≡ T.taken sink.new }
+{
+    match error {
+        RunError::Write => error,
+        _ => match sink.flush() {
+            Ok(()) => error,
+            Err(_) => RunError::Write,
+        },
+    }
+}
+
+/// Runs a job, and answers the exit status: 0 done, 1 where `check` found faults, 3 for a refusal.
+/// Unless the sink failed, it has passed on all that it took, also behind a refusal. A refusal is
+/// told on `errors`, whose own faults change nothing. The observer is told too.
+pub fn finish_job<S: Source, T: Sink, E: Sink, O: Observer>(
+    job: &Job,
+    source: &mut S,
+    sink: &mut T,
+    errors: &mut E,
+    observer: &mut O,
+) -> u8
+    requires source_room { S.failed source.old + 1 < 2 ^ 64 }
+    requires sink_room { T.failed sink.old + 1 < 2 ^ 64 }
+    requires errors_room { E.failed errors.old + 1 < 2 ^ 64 }
+    ensures ran { JobRan job.now (S.has_ended source.new)
+        (movement_of S.given S.failed source.old source.new)
+        (movement_of T.taken T.failed sink.old sink.new)
+        (movement_of E.taken E.failed errors.old errors.new) result }
+    ensures passed_on { T.failed sink.new ≡ T.failed sink.old
+        → T.passed sink.new ≡ T.taken sink.new }
+    ensures errors { E.failed errors.new ≤ E.failed errors.old + 1 }
+{
+    observer.begins(job);
+    match run_job(job, source, sink) {
+        Ok(counts) => exit_status(job, &counts),
+        Err(error) => refuse(flushed(error, sink), errors, observer),
+    }
+}

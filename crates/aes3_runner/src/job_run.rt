@@ -1,0 +1,71 @@
+//! A job between a source and a sink.
+
+ghost use Rattle.std.specs.Prelude.{◌≡◌, ◌<◌, ◌+◌, ◌^◌, IfOk};
+ghost use Rattle.aes3_input.specs.Running.{movement_of};
+ghost use Rattle.aes3_runner.specs.JobRuns.{RunRan, status_by};
+
+use aes3_cell::{Counts, RunError, Sink, Source};
+use aes3_engine::{cut, decode, encode, from_pcm, normalise, rewrite, to_pcm};
+use aes3_job::Job;
+use aes3_text::{account, check, scan, show, show_changes};
+
+/// How many bytes an input may have.
+const MAX_BYTES: u64 = 1 << 40;
+
+/// The exit status of a run that was not refused.
+pub const DONE: u8 = 0;
+
+/// The exit status of `check` where it found faults.
+pub const FAULTY: u8 = 1;
+
+/// The exit status of a job that ended well.
+pub(crate) fn exit_status(job: &Job, counts: &Counts) -> u8
+    ensures { result ≡ status_by job.now counts.now }
+{
+    match job {
+        Job::Check { .. } if counts.faults > 0 => FAULTY,
+        Job::Account { .. } if counts.faults > 0 => FAULTY,
+        _ => DONE,
+    }
+}
+
+/// Runs a job.
+///
+/// # Errors
+/// Those of the call that does the job.
+pub fn run_job<S: Source, T: Sink>(
+    job: &Job,
+    source: &mut S,
+    sink: &mut T,
+) -> Result<Counts, RunError>
+    requires source_room { S.failed source.old + 1 < 2 ^ 64 }
+    requires sink_room { T.failed sink.old + 1 < 2 ^ 64 }
+    ensures ran { RunRan job.now (S.has_ended source.new)
+        (movement_of S.given S.failed source.old source.new)
+        (movement_of T.taken T.failed sink.old sink.new) result }
+    ensures passed_on { IfOk result (λ _. T.passed sink.new ≡ T.taken sink.new) }
+{
+    match *job {
+        Job::Encode { output } => encode(source, sink, MAX_BYTES, output),
+        Job::Decode { input } => decode(source, sink, MAX_BYTES, input),
+        Job::Normal { input, output } => normalise(source, sink, MAX_BYTES, input, output),
+        Job::Check { input, lines } => check(source, sink, MAX_BYTES, input, lines),
+        Job::Account { input, lines } => account(source, sink, MAX_BYTES, input, lines),
+        Job::Show { input } => show(source, sink, MAX_BYTES, input),
+        Job::ShowChanges { input } => show_changes(source, sink, MAX_BYTES, input),
+        Job::Scan { input } => scan(source, sink, MAX_BYTES, input),
+        Job::Cut {
+            input,
+            output,
+            from,
+            count,
+        } => cut(source, sink, MAX_BYTES, input, output, from, count),
+        Job::Rewrite {
+            input,
+            output,
+            change,
+        } => rewrite(source, sink, MAX_BYTES, input, output, &change),
+        Job::ToPcm { input } => to_pcm(source, sink, MAX_BYTES, input),
+        Job::FromPcm { exact, change } => from_pcm(source, sink, MAX_BYTES, exact, &change),
+    }
+}

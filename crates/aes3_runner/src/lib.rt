@@ -1,0 +1,17 @@
+//! What the program does: a command line's job between a source and a sink, the line of its refusal
+//! and its exit status.
+#![tactic(auto)]
+
+/// The flush behind a job, and its exit status.
+mod finish;
+/// A job done by the run that it asks for.
+mod job_run;
+/// The line of a refusal.
+mod refusal;
+/// A whole command line.
+mod run;
+
+pub use finish::finish_job;
+pub use job_run::{DONE, FAULTY, run_job};
+pub use refusal::{REFUSED, put_refusal, refuse};
+pub use run::{USAGE, Unread, run_words, tell_unread};

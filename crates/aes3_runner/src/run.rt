@@ -1,0 +1,122 @@
+//! Everything but the machine's own streams.
+
+ghost use Rattle.std.specs.Prelude.{◌≡◌, ◌<◌, ◌≤◌, ◌+◌, ◌^◌, IfOk, OnErr, map};
+ghost use Rattle.aes3_cell.specs.Ends.{Grew};
+ghost use Rattle.aes3_runner.specs.WordRuns.{FaultRan, UnreadTold, WordsRan};
+ghost use Rattle.aes3_input.specs.Running.{movement_of};
+
+use crate::finish::finish_job;
+use crate::job_run::DONE;
+use crate::refusal::refuse;
+use aes3_arguments::{LineFault, job_of_words};
+use aes3_cell::{Fault, RunError, Sink, Source, write_all};
+use aes3_job::Observer;
+use std::alloc::{AllocError, Global};
+
+/// The exit status of a refused command line.
+pub const USAGE: u8 = 2;
+
+/// Writes all of a text and flushes it.
+///
+/// # Errors
+/// The sink's fault; then it may have taken a front of the text.
+fn put_text<T: Sink>(text: &str, sink: &mut T) -> Result<(), Fault>
+    requires room { T.failed sink.old + 1 < 2 ^ 64 }
+    ensures text { IfOk result (λ _. Grew (T.taken sink.old) (T.taken sink.new) text.now) }
+    ensures passed_on { IfOk result (λ _. T.passed sink.new ≡ T.taken sink.new) }
+    ensures count { IfOk result (λ _. T.failed sink.new ≡ T.failed sink.old) }
+    ensures err { OnErr result (T.failed sink.new ≡ T.failed sink.old + 1) }
+{
+    match write_all(sink, text.as_bytes()) {
+        Ok(()) => sink.flush(),
+        Err(fault) => Err(fault),
+    }
+}
+
+/// Tells why words are no job, and answers the exit status.
+fn tell_fault<T: Sink, E: Sink, O: Observer>(
+    fault: LineFault,
+    sink: &mut T,
+    errors: &mut E,
+    observer: &mut O,
+) -> u8
+    requires sink_room { T.failed sink.old + 1 < 2 ^ 64 }
+    requires errors_room { E.failed errors.old + 1 < 2 ^ 64 }
+    ensures told { FaultRan fault
+        (movement_of T.taken T.failed sink.old sink.new)
+        (movement_of E.taken E.failed errors.old errors.new) result }
+    ensures passed_on { T.passed sink.old ≡ T.taken sink.old → T.failed sink.new ≡ T.failed sink.old
+        → T.passed sink.new ≡ T.taken sink.new }
+    ensures errors { E.failed errors.new ≤ E.failed errors.old + 1 }
+{
+    match fault {
+        LineFault::Usage { text } => {
+            let _ = write_all(errors, text.as_bytes());
+            USAGE
+        }
+        LineFault::Help { text } => match put_text(text.as_str(), sink) {
+            Ok(()) => DONE,
+            Err(_) => refuse(RunError::Write, errors, observer),
+        },
+        LineFault::Refused(error) => refuse(error, errors, observer),
+    }
+}
+
+/// Why the words of a command line could not be read.
+#[derive(Clone, Copy, PartialEq, Eq, Debug)]
+pub enum Unread {
+    /// They are not UTF-8.
+    NotUtf8,
+    /// Memory was refused.
+    Memory,
+}
+
+impl From<AllocError> for Unread {
+    fn from(_error: AllocError) -> Unread {
+        Unread::Memory
+    }
+}
+
+/// Tells why the words could not be read, and answers the exit status.
+pub fn tell_unread<E: Sink, O: Observer>(fault: Unread, errors: &mut E, observer: &mut O) -> u8
+    requires { E.failed errors.old + 1 < 2 ^ 64 }
+    ensures { UnreadTold fault
+        (movement_of E.taken E.failed errors.old errors.new) result }
+{
+    match fault {
+        Unread::NotUtf8 => {
+            let _ = write_all(errors, b"aes3: the words are not UTF-8\n");
+            USAGE
+        }
+        Unread::Memory => refuse(RunError::Memory, errors, observer),
+    }
+}
+
+/// Runs a command line, without the program's name, and answers the exit status: 0 done, 1 where
+/// `check` found faults, 2 for a refused command line, 3 for a refusal. A sink that held nothing
+/// before and did not fail has passed on all that it took. Refusals are told on `errors`, whose own
+/// faults change nothing. The observer is told how it goes on.
+pub fn run_words<S: Source, T: Sink, E: Sink, O: Observer>(
+    alloc: Global,
+    words: &[&str],
+    source: &mut S,
+    sink: &mut T,
+    errors: &mut E,
+    observer: &mut O,
+) -> u8
+    requires source_room { S.failed source.old + 1 < 2 ^ 64 }
+    requires sink_room { T.failed sink.old + 1 < 2 ^ 64 }
+    requires errors_room { E.failed errors.old + 1 < 2 ^ 64 }
+    ensures ran { WordsRan (map (λ word. word.now) words.now) (S.has_ended source.new)
+        (movement_of S.given S.failed source.old source.new)
+        (movement_of T.taken T.failed sink.old sink.new)
+        (movement_of E.taken E.failed errors.old errors.new) result }
+    ensures passed_on { T.passed sink.old ≡ T.taken sink.old → T.failed sink.new ≡ T.failed sink.old
+        → T.passed sink.new ≡ T.taken sink.new }
+    ensures errors { E.failed errors.new ≤ E.failed errors.old + 1 }
+{
+    match job_of_words(alloc, words) {
+        Ok(job) => finish_job(&job, source, sink, errors, observer),
+        Err(fault) => tell_fault(fault, sink, errors, observer),
+    }
+}

@@ -1,0 +1,20 @@
+//! What the channel status of a stream is changed to.
+
+use crate::setting::{SETTINGS, Setting};
+
+/// New channel status for each block of a stream (AES3-2, IEC 60958-3).
+#[derive(Clone, Copy, PartialEq, Eq)]
+pub struct Change {
+    /// The 24 status bytes that channel 1 gets; `None` leaves it as it is.
+    pub status1: Option<[u8; 24]>,
+    /// The 24 status bytes that channel 2 gets; `None` leaves it as it is.
+    pub status2: Option<[u8; 24]>,
+    /// The fields that are then set in the status of channel 1, one after the other; `None` sets
+    /// none.
+    pub settings1: Option<[Setting; SETTINGS]>,
+    /// The fields that are then set in the status of channel 2, one after the other; `None` sets
+    /// none.
+    pub settings2: Option<[Setting; SETTINGS]>,
+    /// Whether professional status then gets the check byte that it asks for.
+    pub mend: bool,
+}
