@@ -1,28 +1,27 @@
 -- A whole run over a block file.
-use Rattle.std.proofs.Common.{◌≡◌, ℕ, ◌+◌, ◌*◌, ◌/◌, ◌%◌, ◌<◌, ◌≤◌, ◌⊎◌, inl, inr, List, [], ◌∷◌, ◌++◌, Bool, true, Option, Some, None, Err, length, take, get_or, refl, sym, ap, ◌∙◌, subst, arith, append_assoc, append-nil}
+use Rattle.std.proofs.Common.{◌≡◌, ◌≢◌, ℕ, ◌+◌, ◌*◌, ◌/◌, ◌%◌, ◌<◌, ◌≤◌, ◌⊎◌, inl, inr, List, [], ◌∷◌, ◌++◌, Bool, true, Option, Some, None, Err, length, take, get_or, refl, sym, ap, ◌∙◌, subst, arith, append_assoc, append-nil}
+use Rattle.std.proofs.lemmas.List.{take_all}
 use Rattle.aes3_cell.specs.declared.level.Level.TheVariants.{Low}
 use Rattle.aes3_cell.specs.declared.refusal.RunError.{RunError}
 use Rattle.aes3_cell.specs.declared.refusal.RunError.TheVariants.{BadCell, BadLength, BadCode, BadParity, Read, Write, TooLong, Memory, BadStatusText, BadPadding, BadSample}
 use Rattle.aes3_cell.specs.declared.counts.Counts.{Counts}
-use Rattle.aes3_cell.specs.Ends.{Told, GrewFront}
-use Rattle.aes3_cell.proofs.Growing.{front-is}
 use Rattle.aes3_cell.specs.declared.form.Form.{Form}
 use Rattle.aes3_cell.specs.Written.{bytes_of, ending, written}
 use Rattle.aes3_cell.proofs.WrittenForms.{bytes-nothing, written-whole}
 use Rattle.aes3_block.specs.declared.file.FileFault.{FileFault}
 use Rattle.aes3_block.specs.declared.file.FileFault.TheVariants as fault
 use Rattle.aes3_block.specs.Blocks.{block_slots, block_len, stream}
-use Rattle.aes3_block.specs.Files.{words_of, has_code, has_parity, file_blocks, file, IsBlockFile}
+use Rattle.aes3_block.specs.Files.{words_of, lawful_words, has_code, has_parity, file_blocks, file, IsBlockFile}
 use Rattle.aes3_block.specs.Readers.{FileReader, reader_of, byte_fault, block_with}
 use Rattle.aes3_block.specs.Refusals.{refusal_of}
 use Rattle.aes3_block.proofs.Words.{all_lawful, lawful-words}
 use Rattle.aes3_block.proofs.WholeBlocks.{lawful-next, blocks-next, blocks-stay, added_blocks, fault-place, code-fault, parity-fault, length-fault, end-none, end-whole_file, reader-new}
 use Rattle.aes3_block.proofs.Streams.{each27-whole, stream-bytes, stream-nil, file_blocks-nil, length-stream, slot_count}
 use Rattle.aes3_input.specs.Converting.{or_else, fault_behind, first_fault, out, whole}
-use Rattle.aes3_input.specs.Running.{Ran, Run, Movement, Clean, CleanEnd}
+use Rattle.aes3_input.specs.Running.{CleanEnd, IsFault, converted}
 use Rattle.aes3_input.proofs.Outputs.{out-is}
-use Rattle.aes3_input.proofs.Told.{ran-told, few-told}
-use Rattle.aes3_engine.specs.Encoding.{WholeFile, encoded, encoding, refused_by, refused_at_end, block_written, Encodes, AllLawful, BadCodeAt, BadParityAt, IsCauseOf, encode_counts}
+use Rattle.aes3_input.proofs.InputRuns.{Gives}
+use Rattle.aes3_engine.specs.Encoding.{encoded, encoded_file, encoding, refused_by, refused_at_end, block_written, Encodes, AllLawful, BadCodeAt, BadParityAt, IsCauseOf, encode_counts}
 use Rattle.aes3_engine.proofs.EncodingLemmas.{all-lawful}
 
 refused-none : (o : Option FileFault) → refused_by o ≡ None → o ≡ None
@@ -45,12 +44,12 @@ lawful-of-clean form p (x ∷ d) l e = go (byte_fault (reader_of p) x) refl e (�
     go None q e next = ap (λ b. all_lawful (words_of b)) (sym (append_assoc p (x ∷ []) d)) ∙ next (lawful-next p x l q) e
     go (Some f) q e next = absurd cc
 
-pub clean-lawful : (form : Form) (b : List ℕ) → first_fault (encoding form) b ≡ None → AllLawful b
+clean-lawful : (form : Form) (b : List ℕ) → first_fault (encoding form) b ≡ None → AllLawful b
 unfolding first_fault
 clean-lawful form b e = record { is = lawful-words b (lawful-of-clean form [] b refl e) }
 
 -- what the conversion writes
-pub out-encoded : (form : Form) (b : List ℕ) → out (encoding form) b ≡ encoded form b
+out-encoded : (form : Form) (b : List ℕ) → out (encoding form) b ≡ encoded form b
 unfolding encoding encoded
 out-encoded form = out-is (encoding form) (encoded form) nothing more stays
   where
@@ -72,7 +71,7 @@ out-encoded form = out-is (encoding form) (encoded form) nothing more stays
         let r = refused-some (byte_fault (reader_of b) x) e q in
         ap (λ v. bytes_of form (stream Low v)) (blocks-stay b x d r.0 (all-lawful (clean-lawful form b c)) r.1)
 
-pub whole-encoded : (form : Form) (b : List ℕ) → whole (encoding form) b ≡ written form (stream Low (file_blocks b))
+whole-encoded : (form : Form) (b : List ℕ) → whole (encoding form) b ≡ written form (stream Low (file_blocks b))
 unfolding whole encoding encoded stream
 whole-encoded form b =
     ap (λ o. o ++ ending form) (out-encoded form b)
@@ -203,54 +202,46 @@ length-cause form b left q = elim (end-cases form b) [
     same : (k : ℕ) → Some (BadLength left) ≡ Some (BadLength k) → left ≡ k
     same k q = cc
 
-ran-cause : (form : Form) (max : ℕ) (z : List ℕ → Type 0) (b : List ℕ) (ended : Bool) (source sink : Movement) (e : RunError)
-    → length b ≤ max + 1 → Ran max (encoding form) z b ended source sink (Err e) → IsCauseOf max b ended e
-ran-cause form max z b ended source sink Read few h = (clean-lawful form b h.0.clean, h.0.short)
-ran-cause form max z b ended source sink Write few h = few
-ran-cause form max z b ended source sink TooLong few h = (clean-lawful form (take max b) h.0.clean, h.1)
-ran-cause form max z b ended source sink (BadCode at) few h = elim h.3 [
+fault-cause : (form : Form) (max : ℕ) (b : List ℕ) (ended : Bool) (e : RunError) → IsFault (encoding form) max b ended e → IsCauseOf max b ended e
+fault-cause form max b ended Read h = (clean-lawful form b h.clean, h.short)
+fault-cause form max b ended Write h = h
+fault-cause form max b ended TooLong h = (clean-lawful form (take max b) h.0.clean, h.1)
+fault-cause form max b ended (BadCode at) h = elim h [
   | inl q ↦ code-cause form (take max b) at q
   | inr q ↦ absurd (no-end-cause form b (BadCode at) (λ k e. cc) q.1)
 ]
-ran-cause form max z b ended source sink (BadParity at) few h = elim h.3 [
+fault-cause form max b ended (BadParity at) h = elim h [
   | inl q ↦ parity-cause form (take max b) at q
   | inr q ↦ absurd (no-end-cause form b (BadParity at) (λ k e. cc) q.1)
 ]
-ran-cause form max z b ended source sink (BadLength left) few h = elim h.3 [
+fault-cause form max b ended (BadLength left) h = elim h [
   | inl q ↦ absurd (no-fault-cause form (take max b) (BadLength left) (λ k e. cc) (λ k e. cc) q)
   | inr q ↦ let c = length-cause form b left q.1 in
       (record { lawful = clean-lawful form b q.0.clean.clean; count = c.0; some = c.1 }, q.0.clean.short, q.0.end)
 ]
-ran-cause form max z b ended source sink (BadCell at) few h = elim h.3 [
+fault-cause form max b ended (BadCell at) h = elim h [
   | inl q ↦ no-fault-cause form (take max b) (BadCell at) (λ k e. cc) (λ k e. cc) q
   | inr q ↦ no-end-cause form b (BadCell at) (λ k e. cc) q.1
 ]
-ran-cause form max z b ended source sink Memory few h = elim h.3 [
+fault-cause form max b ended Memory h = elim h [
   | inl q ↦ no-fault-cause form (take max b) Memory (λ k e. cc) (λ k e. cc) q
   | inr q ↦ no-end-cause form b Memory (λ k e. cc) q.1
 ]
-ran-cause form max z b ended source sink BadStatusText few h = elim h.3 [
+fault-cause form max b ended BadStatusText h = elim h [
   | inl q ↦ no-fault-cause form (take max b) BadStatusText (λ k e. cc) (λ k e. cc) q
   | inr q ↦ no-end-cause form b BadStatusText (λ k e. cc) q.1
 ]
-ran-cause form max z b ended source sink (BadPadding at) few h = elim h.3 [
+fault-cause form max b ended (BadPadding at) h = elim h [
   | inl q ↦ no-fault-cause form (take max b) (BadPadding at) (λ k e. cc) (λ k e. cc) q
   | inr q ↦ no-end-cause form b (BadPadding at) (λ k e. cc) q.1
 ]
-ran-cause form max z b ended source sink (BadSample at) few h = elim h.3 [
+fault-cause form max b ended (BadSample at) h = elim h [
   | inl q ↦ no-fault-cause form (take max b) (BadSample at) (λ k e. cc) (λ k e. cc) q
   | inr q ↦ no-end-cause form b (BadSample at) (λ k e. cc) q.1
 ]
 
-pub told-cause : (form : Form) {max : ℕ} {f s z : List ℕ → Type 0} {ended : Bool} {source sink : Movement} {e : RunError} → Run max (encoding form) f s z ended source sink (Err e)
-    → (b : List ℕ) → Told source.old source.new b → IsCauseOf max b ended e
-told-cause form {max} {f} {s} {z} {ended} {source} {sink} {e} run b t = ran-cause form max z b ended source sink e (few-told run b t) (ran-told run b t)
-
--- an input of whole blocks is one that has no fault
-pub file-clean : (form : Form) (max : ℕ) (b : List ℕ) → IsBlockFile b → length b ≤ max → Clean max (encoding form) b
-file-clean form max b h l = record { short = l; clean = lawful-clean form b (record { is = h.lawful }) }
-
-pub clean-file : (form : Form) (b : List ℕ) → first_fault (encoding form) b ≡ None → (encoding form).end_fault b ≡ None → IsBlockFile b
+-- bytes without a fault are a block file
+clean-file : (form : Form) (b : List ℕ) → first_fault (encoding form) b ≡ None → (encoding form).end_fault b ≡ None → IsBlockFile b
 clean-file form b c e = record { whole = whole; lawful = (clean-lawful form b c).is }
   where
     some-none : {x : RunError} → Some x ≡ None → ⊥
@@ -268,11 +259,33 @@ counted b n blocks e f = rw (e, f) refl
 pub starts : (file : FileReader) → file.seen ≡ 0 → file.words ≡ [] → file.bytes ≡ [] → file.fault ≡ None → Encodes file 0 []
 starts file a b c d = record { reader = reader-new file a b c d; lawful = record { is = lawful-words [] refl }; count = sym (ap length file_blocks-nil) }
 
--- a run stopped by the sink
-pub front-encoded : (form : Form) (max : ℕ) (b : List ℕ) (ended : Bool) (t t' : Option (List ℕ))
-    → GrewFront t t' (out (encoding form) (take max b)) ⊎ (CleanEnd max (encoding form) b ended × ((encoding form).end_fault b ≡ None) × GrewFront t t' (whole (encoding form) b))
-    → GrewFront t t' (encoded form (take max b)) ⊎ (WholeFile max b ended × GrewFront t t' (written form (stream Low (file_blocks b))))
-front-encoded form max b ended t t' h = elim h [
-  | inl g ↦ inl (front-is (out-encoded form (take max b)) g)
-  | inr g ↦ inr (record { lawful = clean-file form b g.0.clean.clean g.1; short = g.0.clean.short; end = g.0.end }, front-is (whole-encoded form b) g.2)
-]
+-- a block file that fits has no cause
+no-word : (max : ℕ) (b : List ℕ) (at : ℕ) → IsBlockFile b → length b ≤ max → length (lawful_words (take max b)) ≡ at → at < length (words_of (take max b)) → ⊥
+no-word max b at i l before within =
+    let e = take_all max b l in
+    let p = ap (λ v. length (lawful_words v)) e in
+    let q = ap (λ v. length (words_of v)) e in
+    let n = ap length i.lawful in
+    omega arith
+
+pub no-file-cause : (max : ℕ) (b : List ℕ) (ended : Bool) → IsBlockFile b → length b ≤ max → (e : RunError) → e ≢ Read → e ≢ Write → IsCauseOf max b ended e → ⊥
+no-file-cause max b ended i l Read r w h = r refl
+no-file-cause max b ended i l Write r w h = w refl
+no-file-cause max b ended i l TooLong r w h = let n = h.1 in omega arith
+no-file-cause max b ended i l (BadCode at) r w h = no-word max b at i l h.before h.within
+no-file-cause max b ended i l (BadParity at) r w h = no-word max b at i l h.before h.within
+no-file-cause max b ended i l (BadLength n) r w h = let z = i.whole in let c = h.0.count in let s = h.0.some in omega arith
+no-file-cause max b ended i l (BadCell n) r w h = h
+no-file-cause max b ended i l Memory r w h = h
+no-file-cause max b ended i l BadStatusText r w h = h
+no-file-cause max b ended i l (BadPadding n) r w h = h
+no-file-cause max b ended i l (BadSample n) r w h = h
+
+-- the run
+pub encoding-gives : (form : Form) (z : List ℕ → Type 0) → Gives (converted (encoding form) z) (encoded_file form)
+encoding-gives form z = record {
+  input = λ b h. clean-file form b h.clean h.end_clean;
+  whole = λ b h. whole-encoded form b;
+  begun = out-encoded form;
+  cause = fault-cause form;
+}

@@ -40,15 +40,15 @@ pub run-ok : {max : ℕ} {form : Form} (f : ℕ → Report → List ℕ) (e : Li
     → ReportRun max form f e ended source sink (Ok (record { bytes = bytes; cells = cells; blocks = blocks; faults = faults; unfinished = unfinished; marks = 0 }))
 run-ok {form} f e {blocks = k} {faults = u} {unfinished = v} {bytes = n} {cells = m} r =
     drove-ok (λ c. output f (reports c) ++ e) (λ c. output f (decided c)) (counts_of form) (record { bytes = n; cells = m; blocks = k; faults = u; unfinished = v; marks = 0 })
-    (with-cells f e) (λ b p q t. counted form b n m k u v p q t) r
+    (with-cells f e) (before-cells f e) (λ b p q t. counted form b n m k u v p q t) r
 
 pub run-err : {max : ℕ} {form : Form} (f : ℕ → Report → List ℕ) (e : List ℕ) {g z : List Level → Type 0} {ended : Bool} {source sink : Movement} {x : RunError}
     → Drive max form (reporting (report_writing f e)) g z ended source sink (Err x) → ReportRun max form f e ended source sink (Err x)
 run-err {form} f e r = drove-err (λ c. output f (reports c) ++ e) (λ c. output f (decided c)) (counts_of form) (with-cells f e) (before-cells f e) r
 
-pub run-same : {max : ℕ} {form : Form} (f h : ℕ → Report → List ℕ) (e k : List ℕ) {ended : Bool} {source sink : Movement} {r : Result Counts RunError}
+pub run-same : {max : ℕ} (form : Form) (f h : ℕ → Report → List ℕ) (e k : List ℕ) {ended : Bool} {source sink : Movement} {r : Result Counts RunError}
     → f ≡ h → e ≡ k → ReportRun max form f e ended source sink r → ReportRun max form h k ended source sink r
-run-same {max} {form} f h e k {ended} {source} {sink} {r} p q run =
+run-same {max} form f h e k {ended} {source} {sink} {r} p q run =
     subst (λ (v : List ℕ). ReportRun max form h v ended source sink r) q (subst (λ (v : ℕ → Report → List ℕ). ReportRun max form v e ended source sink r) p run)
 
 pub tally-is : {n f u n' f' u' : ℕ} → n' ≡ n → f' ≡ f → u' ≡ u → Tallies n f u [] → Tallies n' f' u' (decided [])

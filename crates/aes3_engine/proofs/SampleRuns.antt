@@ -2,21 +2,20 @@
 use Rattle.std.proofs.Common.{◌≡◌, ◌≢◌, ℕ, zero, suc, ◌+◌, ◌-◌, ◌%◌, ◌<◌, ◌≤◌, ◌⊎◌, inl, inr, List, [], ◌∷◌, ◌++◌, Bool, true, Option, Some, None, Err, length, take, replicate, get_or, refl, sym, ap, ap₂, ◌∙◌, subst, arith, length-append}
 use Rattle.std.specs.Int.{div_ceil}
 use Rattle.std.proofs.lemmas.Bool.{cases_eq}
+use Rattle.std.proofs.lemmas.List.{take_all}
 use Rattle.aes3_cell.specs.declared.refusal.RunError.{RunError}
 use Rattle.aes3_cell.specs.declared.refusal.RunError.TheVariants.{BadCell, BadLength, BadCode, BadParity, Read, Write, TooLong, Memory, BadStatusText, BadPadding, BadSample}
 use Rattle.aes3_cell.specs.declared.counts.Counts.{Counts}
-use Rattle.aes3_cell.specs.Ends.{Told, GrewFront}
-use Rattle.aes3_cell.proofs.Growing.{front-is}
 use Rattle.aes3_block.specs.Blocks.{block_slots}
 use Rattle.aes3_block.specs.Files.{words_of}
 use Rattle.aes3_block.specs.Sampled.{sampled, filled}
 use Rattle.aes3_block.proofs.SampleBlocks.{length-sampled, length-filled}
 use Rattle.aes3_block.proofs.Words.{length-words}
 use Rattle.aes3_input.specs.Converting.{or_else, fault_behind, first_fault, out, whole}
-use Rattle.aes3_input.specs.Running.{Ran, Run, Movement, Clean, CleanEnd}
-use Rattle.aes3_input.proofs.Told.{ran-told, few-told}
+use Rattle.aes3_input.specs.Running.{CleanEnd, IsFault, converted}
+use Rattle.aes3_input.proofs.InputRuns.{Gives}
 use Rattle.aes3_status.specs.declared.change.Change as change
-use Rattle.aes3_engine.specs.Sampling.{pcm_file, begun_pcm, frame_len, AllExact, IsPcm, BadSampleAt, WholePcm, IsPcmCause, pcm_counts, more_of, sampling}
+use Rattle.aes3_engine.specs.Sampling.{pcm_file, begun_pcm, frame_len, AllExact, IsPcm, BadSampleAt, IsPcmCause, pcm_counts, more_of, sampled_file, sampling}
 use Rattle.aes3_engine.proofs.SampleReads.{made, file-more, begun-all, out-samples, byte-clean, byte-bad, clean-all, all-clean, end-whole, end-left}
 
 -- the end
@@ -32,7 +31,7 @@ ends-is : (exact : Bool) (k : change.Change) (b : List ℕ) → (sampling exact 
 unfolding sampling
 ends-is exact k b = refl
 
-pub whole-samples : (exact : Bool) (k : change.Change) (b : List ℕ) → AllExact exact b → whole (sampling exact k) b ≡ pcm_file k b
+whole-samples : (exact : Bool) (k : change.Change) (b : List ℕ) → AllExact exact b → whole (sampling exact k) b ≡ pcm_file k b
 unfolding whole
 whole-samples exact k b h =
     ap₂ ◌++◌ (out-samples exact k b ∙ begun-all exact k b h) (ends-is exact k b)
@@ -140,36 +139,28 @@ not-length exact k b left h = let r = cause-of exact k b (BadLength left) h in o
     other : {n : ℕ} → ◌≡◌ {A = RunError} (BadLength left) (BadSample n) → ⊥
     other q = cc
 
-ran-cause : (exact : Bool) (k : change.Change) (max : ℕ) (z : List ℕ → Type 0) (b : List ℕ) (ended : Bool) (source sink : Movement) (e : RunError)
-    → length b ≤ max + 1 → Ran max (sampling exact k) z b ended source sink (Err e) → IsPcmCause exact max b ended e
-ran-cause exact k max z b ended source sink Read few h = (clean-all exact k b h.0.clean, h.0.short)
-ran-cause exact k max z b ended source sink Write few h = few
-ran-cause exact k max z b ended source sink TooLong few h = (clean-all exact k (take max b) h.0.clean, h.1)
-ran-cause exact k max z b ended source sink (BadSample at) few h = elim h.3 [
+fault-cause : (exact : Bool) (k : change.Change) (max : ℕ) (b : List ℕ) (ended : Bool) (e : RunError) → IsFault (sampling exact k) max b ended e → IsPcmCause exact max b ended e
+fault-cause exact k max b ended Read h = (clean-all exact k b h.clean, h.short)
+fault-cause exact k max b ended Write h = h
+fault-cause exact k max b ended TooLong h = (clean-all exact k (take max b) h.0.clean, h.1)
+fault-cause exact k max b ended (BadSample at) h = elim h [
   | inl q ↦ sample-cause exact k (take max b) at q
   | inr q ↦ absurd (no-sample-end exact k b at q.1)
 ]
-ran-cause exact k max z b ended source sink (BadLength left) few h = elim h.3 [
+fault-cause exact k max b ended (BadLength left) h = elim h [
   | inl q ↦ absurd (not-length exact k (take max b) left q)
   | inr q ↦ let c = length-cause exact k b left q.1 in
       (record { bits = clean-all exact k b q.0.clean.clean; count = c.0; some = c.1 }, q.0.clean.short, q.0.end)
 ]
-ran-cause exact k max z b ended source sink (BadCell at) few h = no-cause exact k max b ended (BadCell at) (λ n e. cc) (λ n e. cc) h.3
-ran-cause exact k max z b ended source sink (BadCode at) few h = no-cause exact k max b ended (BadCode at) (λ n e. cc) (λ n e. cc) h.3
-ran-cause exact k max z b ended source sink (BadParity at) few h = no-cause exact k max b ended (BadParity at) (λ n e. cc) (λ n e. cc) h.3
-ran-cause exact k max z b ended source sink Memory few h = no-cause exact k max b ended Memory (λ n e. cc) (λ n e. cc) h.3
-ran-cause exact k max z b ended source sink BadStatusText few h = no-cause exact k max b ended BadStatusText (λ n e. cc) (λ n e. cc) h.3
-ran-cause exact k max z b ended source sink (BadPadding at) few h = no-cause exact k max b ended (BadPadding at) (λ n e. cc) (λ n e. cc) h.3
-
-pub pcm-cause : (exact : Bool) (k : change.Change) {max : ℕ} {f s z : List ℕ → Type 0} {ended : Bool} {source sink : Movement} {e : RunError}
-    → Run max (sampling exact k) f s z ended source sink (Err e) → (b : List ℕ) → Told source.old source.new b → IsPcmCause exact max b ended e
-pcm-cause exact k {max} {f} {s} {z} {ended} {source} {sink} {e} run b t = ran-cause exact k max z b ended source sink e (few-told run b t) (ran-told run b t)
+fault-cause exact k max b ended (BadCell at) h = no-cause exact k max b ended (BadCell at) (λ n e. cc) (λ n e. cc) h
+fault-cause exact k max b ended (BadCode at) h = no-cause exact k max b ended (BadCode at) (λ n e. cc) (λ n e. cc) h
+fault-cause exact k max b ended (BadParity at) h = no-cause exact k max b ended (BadParity at) (λ n e. cc) (λ n e. cc) h
+fault-cause exact k max b ended Memory h = no-cause exact k max b ended Memory (λ n e. cc) (λ n e. cc) h
+fault-cause exact k max b ended BadStatusText h = no-cause exact k max b ended BadStatusText (λ n e. cc) (λ n e. cc) h
+fault-cause exact k max b ended (BadPadding at) h = no-cause exact k max b ended (BadPadding at) (λ n e. cc) (λ n e. cc) h
 
 -- samples that have no fault
-pub pcm-clean : (exact : Bool) (k : change.Change) (max : ℕ) (b : List ℕ) → IsPcm exact b → length b ≤ max → Clean max (sampling exact k) b
-pcm-clean exact k max b h l = record { short = l; clean = all-clean exact k b h.bits }
-
-pub clean-pcm : (exact : Bool) (k : change.Change) (b : List ℕ) → first_fault (sampling exact k) b ≡ None → (sampling exact k).end_fault b ≡ None → IsPcm exact b
+clean-pcm : (exact : Bool) (k : change.Change) (b : List ℕ) → first_fault (sampling exact k) b ≡ None → (sampling exact k).end_fault b ≡ None → IsPcm exact b
 clean-pcm exact k b c e = record { whole = whole; bits = clean-all exact k b c }
   where
     some-none : {x : RunError} → Some x ≡ None → ⊥
@@ -177,6 +168,23 @@ clean-pcm exact k b c e = record { whole = whole; bits = clean-all exact k b c }
 
     whole : length b % frame_len ≡ 0
     whole = elim (end-cases exact k b) [ inl q ↦ q.1 | inr q ↦ absurd (some-none (sym q.0 ∙ e)) ]
+
+-- samples that fit have no cause
+pub no-pcm-cause : (exact : Bool) (max : ℕ) (b : List ℕ) (ended : Bool) → IsPcm exact b → length b ≤ max
+    → (e : RunError) → e ≢ Read → e ≢ Write → IsPcmCause exact max b ended e → ⊥
+no-pcm-cause exact max b ended i l Read r w h = r refl
+no-pcm-cause exact max b ended i l Write r w h = w refl
+no-pcm-cause exact max b ended i l TooLong r w h = let n = h.1 in omega arith
+no-pcm-cause exact max b ended i l (BadSample at) r w h =
+    let e = take_all max b l in
+    h.some (ap (λ v. get_or v at 0) e ∙ i.bits h.asked at h.lowest)
+no-pcm-cause exact max b ended i l (BadLength n) r w h = let z = i.whole in let c = h.0.count in let s = h.0.some in omega arith
+no-pcm-cause exact max b ended i l (BadCell n) r w h = h
+no-pcm-cause exact max b ended i l (BadCode n) r w h = h
+no-pcm-cause exact max b ended i l (BadParity n) r w h = h
+no-pcm-cause exact max b ended i l Memory r w h = h
+no-pcm-cause exact max b ended i l BadStatusText r w h = h
+no-pcm-cause exact max b ended i l (BadPadding n) r w h = h
 
 -- the counts of a run
 count-blocks : (b : List ℕ) → length b % frame_len ≡ 0 → div_ceil (length b) 1536 ≡ length (sampled (filled (words_of b)))
@@ -194,12 +202,11 @@ pub pcm-counted : (b : List ℕ) (n blocks : ℕ) → n ≡ length b → length 
 unfolding pcm_counts
 pcm-counted b n blocks e h d = rw (e, d ∙ ap (λ k. div_ceil k 1536) e ∙ count-blocks b h) refl
 
--- a run stopped by the sink
-pub front-pcm : (exact : Bool) (k : change.Change) (max : ℕ) (b : List ℕ) (ended : Bool) (t t' : Option (List ℕ))
-    → GrewFront t t' (out (sampling exact k) (take max b)) ⊎ (CleanEnd max (sampling exact k) b ended × ((sampling exact k).end_fault b ≡ None) × GrewFront t t' (whole (sampling exact k) b))
-    → GrewFront t t' (begun_pcm exact k (take max b)) ⊎ (WholePcm max exact b ended × GrewFront t t' (pcm_file k b))
-front-pcm exact k max b ended t t' h = elim h [
-  | inl g ↦ inl (front-is (out-samples exact k (take max b)) g)
-  | inr g ↦ let p = clean-pcm exact k b g.0.clean.clean g.1 in
-      inr (record { samples = p; short = g.0.clean.short; end = g.0.end }, front-is (whole-samples exact k b p.bits) g.2)
-]
+-- the run
+pub sampling-gives : (exact : Bool) (k : change.Change) (z : List ℕ → Type 0) → Gives (converted (sampling exact k) z) (sampled_file exact k)
+sampling-gives exact k z = record {
+  input = λ b h. clean-pcm exact k b h.clean h.end_clean;
+  whole = λ b h. whole-samples exact k b (clean-pcm exact k b h.clean h.end_clean).bits;
+  begun = out-samples exact k;
+  cause = fault-cause exact k;
+}

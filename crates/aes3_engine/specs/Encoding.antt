@@ -10,8 +10,9 @@ use Rattle.aes3_block.specs.Files.{words_of, lawful_words, has_code, has_parity,
 use Rattle.aes3_block.specs.Readers.{FileReader, reader_of, byte_fault, block_with, end_answer}
 use Rattle.aes3_block.specs.Refusals.{refusal_of}
 use Rattle.aes3_input.specs.Converting.{Reading}
+use Rattle.aes3_input.specs.Running.{Promise}
 use Rattle.aes3_cell.specs.declared.form.Form.{Form}
-use Rattle.aes3_cell.specs.Written.{bytes_of, ending}
+use Rattle.aes3_cell.specs.Written.{bytes_of, ending, written}
 
 -- the cells of the blocks that stand whole in a block file before its first fault, in the normal polarity, in the output's form: without an ending
 unfoldable pub encoded : Form → List ℕ → List ℕ
@@ -60,12 +61,6 @@ pub record EndsInBlock (b : List ℕ) (left : ℕ) : Type 0 where
   pub count : left ≡ length b % (4 * block_slots)
   pub some : 0 < left
 
--- the source has ended behind a block file of at most max bytes
-pub record WholeFile (max : ℕ) (b : List ℕ) (ended : Bool) : Type 0 where
-  pub lawful : IsBlockFile b
-  pub short : length b ≤ max
-  pub end : IsTrue ended
-
 -- why a run that read the bytes b was refused
 abbrev pub IsCauseOf : ℕ → List ℕ → Bool → RunError → Type 0
 IsCauseOf max b ended (BadCode at) = BadCodeAt (take max b) at
@@ -89,6 +84,16 @@ encode_counts b = record {
   faults = 0;
   unfinished = 0;
   marks = 0;
+}
+
+-- what `encode` promises
+abbrev pub encoded_file : Form → Promise Counts
+encoded_file form = record {
+  input = IsBlockFile;
+  whole = λ b. written form (stream Low (file_blocks b));
+  begun = encoded form;
+  answer = λ b n. n ≡ encode_counts b;
+  cause = IsCauseOf;
 }
 
 -- a conversion that has taken the bytes b, none of which it refused

@@ -10,7 +10,7 @@ use Rattle.aes3_lock.specs.Reports.{reports, decided, wholes, blocks}
 use Rattle.aes3_input.specs.Taking.{Writing}
 use Rattle.aes3_input.specs.Running.{Movement}
 use Rattle.aes3_input.specs.Inputs.{cells_of}
-use Rattle.aes3_input.specs.CellRuns.{CellRun}
+use Rattle.aes3_input.specs.Driving.{CellRun}
 use Rattle.aes3_engine.specs.declared.tally.Tally.{Tally}
 
 -- whether a report tells of a faulty block, and of one that the end cuts

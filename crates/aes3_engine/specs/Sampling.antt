@@ -6,6 +6,7 @@ use Rattle.aes3_cell.specs.declared.refusal.RunError.TheVariants.{BadLength, Bad
 use Rattle.aes3_block.specs.Files.{bytes_number, words_of, file}
 use Rattle.aes3_block.specs.Sampled.{sampled, filled}
 use Rattle.aes3_input.specs.Converting.{Reading}
+use Rattle.aes3_input.specs.Running.{Promise}
 use Rattle.aes3_status.specs.declared.change.Change.{Change}
 use Rattle.aes3_engine.specs.Rewriting.{rewritten_blocks}
 
@@ -54,12 +55,6 @@ pub record EndsInFrame (exact : Bool) (b : List ℕ) (left : ℕ) : Type 0 where
   pub count : left ≡ length b % frame_len
   pub some : 0 < left
 
--- the source has ended behind samples of at most max bytes
-pub record WholePcm (max : ℕ) (exact : Bool) (b : List ℕ) (ended : Bool) : Type 0 where
-  pub samples : IsPcm exact b
-  pub short : length b ≤ max
-  pub end : IsTrue ended
-
 -- why a run that read the bytes b was refused
 abbrev pub IsPcmCause : Bool → ℕ → List ℕ → Bool → RunError → Type 0
 IsPcmCause exact max b ended (BadSample at) = BadSampleAt exact (take max b) at
@@ -78,6 +73,16 @@ pcm_counts b = record {
   faults = 0;
   unfinished = 0;
   marks = 0;
+}
+
+-- what `from_pcm` promises
+abbrev pub sampled_file : Bool → Change → Promise Counts
+sampled_file exact change = record {
+  input = IsPcm exact;
+  whole = pcm_file change;
+  begun = begun_pcm exact change;
+  answer = λ b n. n ≡ pcm_counts b;
+  cause = IsPcmCause exact;
 }
 
 -- byte by byte: what is written of the bytes with one more, or with the end, and not of the bytes alone

@@ -12,9 +12,8 @@ ghost use Rattle.aes3_block.specs.Blocks.{IsBlock, block_cells, stream};
 ghost use Rattle.aes3_block.specs.Files.{file, IsBlockFile, file_blocks};
 ghost use Rattle.aes3_block.specs.Readers.{TakesBlock, TakesQuietly};
 ghost use Rattle.aes3_lock.specs.Reports.{blocks, normal};
-ghost use Rattle.aes3_input.specs.Running.{FrontRan, PieceRan, movement_of};
-ghost use Rattle.aes3_engine.specs.Encoding.{Encodes, IsCauseOf, WholeFile, encode_counts, encoded};
-ghost use Rattle.aes3_engine.specs.Encoding.{encoding};
+ghost use Rattle.aes3_input.specs.Running.{FrontRan, InputRun, PieceRan, movement_of};
+ghost use Rattle.aes3_engine.specs.Encoding.{Encodes, encoded_file, encoding};
 
 use aes3_block::{BLOCK_BYTES, BLOCK_CELLS, Block, BlockFile, SLOTS, fill_block_cells};
 use aes3_cell::{Counts, Fault, Form, Level, RunError, Sink, Source, put_ending, put_words};
@@ -199,15 +198,6 @@ pub fn encode<S: Source, T: Sink>(
     ensures decoded { IfOk result (λ _. (c : List Level)
         → Told (S.given source.old) (S.given source.new) (file (blocks c))
         → Grew (T.taken sink.old) (T.taken sink.new) (written output (normal c))) }
-    ensures block_file { IfOk result (λ _. (b : List ℕ)
-        → Told (S.given source.old) (S.given source.new) b → IsBlockFile b) }
-    ensures counts { IfOk result (λ counts. (b : List ℕ)
-        → Told (S.given source.old) (S.given source.new) b → counts ≡ encode_counts b) }
-    ensures fits { IfOk result (λ _. (b : List ℕ) → Told (S.given source.old) (S.given source.new) b
-        → length b ≤ max_bytes) }
-    ensures ended { IfOk result (λ _. IsTrue (S.has_ended source.new)) }
-    ensures quiet { IfOk result (λ _. (S.failed source.new ≡ S.failed source.old)
-        × (T.failed sink.new ≡ T.failed sink.old)) }
     ensures passed_on { IfOk result (λ _. T.passed sink.new ≡ T.taken sink.new) }
 
     // It owes Ok where the input is a block file that fits, and neither end failed.
@@ -216,24 +206,10 @@ pub fn encode<S: Source, T: Sink>(
         → S.failed source.new ≡ S.failed source.old → T.failed sink.new ≡ T.failed sink.old
         → IsOk result }
 
-    // A refusal has its cause, and what was whole before it is written.
-    ensures cause { IfErr result (λ error. (b : List ℕ)
-        → Told (S.given source.old) (S.given source.new) b
-        → IsCauseOf max_bytes b (S.has_ended source.new) error) }
-    ensures read { result ≡ Err RunError.Read → S.failed source.new ≡ S.failed source.old + 1 }
-    ensures write { result ≡ Err RunError.Write → T.failed sink.new ≡ T.failed sink.old + 1 }
-    ensures sink_quiet { result ≢ Err RunError.Write → T.failed sink.new ≡ T.failed sink.old }
-    ensures refused { OnErr result (result ≢ Err RunError.Write → (b : List ℕ)
-        → Told (S.given source.old) (S.given source.new) b
-        → Grew (T.taken sink.old) (T.taken sink.new) (encoded output (take max_bytes b))) }
-    ensures front { result ≡ Err RunError.Write → (b : List ℕ)
-        → Told (S.given source.old) (S.given source.new) b
-        → GrewFront (T.taken sink.old) (T.taken sink.new) (encoded output (take max_bytes b))
-        ⊎ (WholeFile max_bytes b (S.has_ended source.new)
-        × GrewFront (T.taken sink.old) (T.taken sink.new)
-        (written output (stream Level.Low (file_blocks b)))) }
-    ensures few { (b : List ℕ) → Told (S.given source.old) (S.given source.new) b
-        → length b ≤ max_bytes + 1 }
+    // What it answers to every input, and has written then.
+    ensures run { InputRun (encoded_file output) max_bytes (S.has_ended source.new)
+        (movement_of S.given S.failed source.old source.new)
+        (movement_of T.taken T.failed sink.old sink.new) result }
 {
     let mut file = BlockFile::new();
     let mut encoder = Encoder {

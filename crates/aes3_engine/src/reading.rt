@@ -14,10 +14,9 @@ ghost use Rattle.aes3_lock.specs.FrameLaws.{AreAllLeft, AreClose};
 ghost use Rattle.aes3_lock.specs.Laws.{PlacedBlock};
 ghost use Rattle.aes3_lock.specs.Remains.{after_changes, after_loss};
 ghost use Rattle.aes3_lock.specs.Pieces.{IsPiece, given_blocks, whole_blocks};
-ghost use Rattle.aes3_input.specs.Driving.{WholeInput};
+ghost use Rattle.aes3_input.specs.Driving.{CellRun, IsCause};
 ghost use Rattle.aes3_input.specs.Inputs.{IsInput, cells_before, cells_of};
-ghost use Rattle.aes3_input.specs.CellRuns.{CellRun, IsCause};
-ghost use Rattle.aes3_input.specs.Running.{movement_of};
+ghost use Rattle.aes3_input.specs.Running.{Complete, movement_of};
 ghost use Rattle.aes3_engine.specs.BlockRuns.{begun_stream, cut_block, cut_blocks, decided_blocks};
 ghost use Rattle.aes3_engine.specs.BlockRuns.{file_block, normal_block, written_stream};
 ghost use Rattle.aes3_engine.specs.ReportRuns.{counts_of};
@@ -203,11 +202,17 @@ pub fn normalise<S: Source, T: Sink>(
         → Told (S.given source.old) (S.given source.new) b
         → GrewFront (T.taken sink.old) (T.taken sink.new)
         (begun_stream output (decided_blocks (cells_before input (take max_bytes b))))
-        ⊎ (WholeInput max_bytes input b (S.has_ended source.new)
+        ⊎ (Complete (IsInput input) max_bytes b (S.has_ended source.new)
         × GrewFront (T.taken sink.old) (T.taken sink.new)
         (written output (normal (cells_of input b)))) }
     ensures few { (b : List ℕ) → Told (S.given source.old) (S.given source.new) b
         → length b ≤ max_bytes + 1 }
+
+    // All that in one, of a source that tells no bytes too: no end failed but the one it was refused for.
+    ensures run { CellRun max_bytes input (λ c. written output (normal c))
+        (λ c. begun_stream output (decided_blocks c)) (counts_of input) (S.has_ended source.new)
+        (movement_of S.given S.failed source.old source.new)
+        (movement_of T.taken T.failed sink.old sink.new) result }
 {
     run_blocks(source, sink, max_bytes, input, NormalBlocks { output })
 }

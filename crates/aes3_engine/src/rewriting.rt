@@ -5,7 +5,7 @@ ghost use Rattle.aes3_cell.specs.Ends.{Grew, Told};
 ghost use Rattle.aes3_cell.specs.Written.{ending};
 ghost use Rattle.aes3_lock.specs.Reports.{blocks};
 ghost use Rattle.aes3_input.specs.Inputs.{cells_of};
-ghost use Rattle.aes3_input.specs.CellRuns.{CellRun};
+ghost use Rattle.aes3_input.specs.Driving.{CellRun};
 ghost use Rattle.aes3_input.specs.Running.{movement_of};
 ghost use Rattle.aes3_engine.specs.BlockRuns.{begun_stream, decided_blocks, written_stream};
 ghost use Rattle.aes3_engine.specs.ReportRuns.{counts_of};

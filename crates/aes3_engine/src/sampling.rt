@@ -6,9 +6,9 @@ ghost use Rattle.std.specs.Prelude.{IfSome, IsOk, OnErr, IsTrue};
 ghost use Rattle.aes3_cell.specs.Ends.{Grew, GrewFront, Told};
 ghost use Rattle.aes3_block.specs.Files.{block_bytes, words_of};
 ghost use Rattle.aes3_block.specs.Sampled.{payload_of_sample};
+ghost use Rattle.aes3_input.specs.Running.{FrontRan, InputRun, movement_of};
 ghost use Rattle.aes3_engine.specs.Rewriting.{rewritten};
-ghost use Rattle.aes3_engine.specs.Sampling.{IsPcm, IsPcmCause, Samples, WholePcm, begun_pcm};
-ghost use Rattle.aes3_engine.specs.Sampling.{pcm_counts, pcm_file, sampling};
+ghost use Rattle.aes3_engine.specs.Sampling.{IsPcm, Samples, pcm_file, sampled_file, sampling};
 
 use crate::rewriting::rewrite_block;
 use aes3_block::{BLOCK_BYTES, Block, put_block_file};
@@ -159,15 +159,6 @@ pub fn from_pcm<S: Source, T: Sink>(
     // whole blocks.
     ensures file { IfOk result (λ _. (b : List ℕ) → Told (S.given source.old) (S.given source.new) b
         → Grew (T.taken sink.old) (T.taken sink.new) (pcm_file change.now b)) }
-    ensures samples { IfOk result (λ _. (b : List ℕ)
-        → Told (S.given source.old) (S.given source.new) b → IsPcm exact b) }
-    ensures counts { IfOk result (λ counts. (b : List ℕ)
-        → Told (S.given source.old) (S.given source.new) b → counts ≡ pcm_counts b) }
-    ensures fits { IfOk result (λ _. (b : List ℕ) → Told (S.given source.old) (S.given source.new) b
-        → length b ≤ max_bytes) }
-    ensures ended { IfOk result (λ _. IsTrue (S.has_ended source.new)) }
-    ensures quiet { IfOk result (λ _. (S.failed source.new ≡ S.failed source.old)
-        × (T.failed sink.new ≡ T.failed sink.old)) }
     ensures passed_on { IfOk result (λ _. T.passed sink.new ≡ T.taken sink.new) }
 
     // It owes Ok where the input is whole frames, of 24 bits where that is asked, and fits, and
@@ -177,25 +168,10 @@ pub fn from_pcm<S: Source, T: Sink>(
         → S.failed source.new ≡ S.failed source.old → T.failed sink.new ≡ T.failed sink.old
         → IsOk result }
 
-    // A refusal has its cause, and what was whole before it is written.
-    ensures cause { IfErr result (λ error. (b : List ℕ)
-        → Told (S.given source.old) (S.given source.new) b
-        → IsPcmCause exact max_bytes b (S.has_ended source.new) error) }
-    ensures read { result ≡ Err RunError.Read → S.failed source.new ≡ S.failed source.old + 1 }
-    ensures write { result ≡ Err RunError.Write → T.failed sink.new ≡ T.failed sink.old + 1 }
-    ensures sink_quiet { result ≢ Err RunError.Write → T.failed sink.new ≡ T.failed sink.old }
-    ensures refused { OnErr result (result ≢ Err RunError.Write → (b : List ℕ)
-        → Told (S.given source.old) (S.given source.new) b
-        → Grew (T.taken sink.old) (T.taken sink.new)
-        (begun_pcm exact change.now (take max_bytes b))) }
-    ensures front { result ≡ Err RunError.Write → (b : List ℕ)
-        → Told (S.given source.old) (S.given source.new) b
-        → GrewFront (T.taken sink.old) (T.taken sink.new)
-        (begun_pcm exact change.now (take max_bytes b))
-        ⊎ (WholePcm max_bytes exact b (S.has_ended source.new)
-        × GrewFront (T.taken sink.old) (T.taken sink.new) (pcm_file change.now b)) }
-    ensures few { (b : List ℕ) → Told (S.given source.old) (S.given source.new) b
-        → length b ≤ max_bytes + 1 }
+    // What it answers to every input, and has written then.
+    ensures run { InputRun (sampled_file exact change.now) max_bytes (S.has_ended source.new)
+        (movement_of S.given S.failed source.old source.new)
+        (movement_of T.taken T.failed sink.old sink.new) result }
 {
     let mut input = SampleInput {
         exact,

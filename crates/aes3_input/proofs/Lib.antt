@@ -2,7 +2,7 @@ pub mod Outputs
 pub mod Feeding
 pub mod Pieces
 pub mod Flushing
-pub mod Told
+pub mod InputRuns
 pub mod Items
 pub mod Handing
 pub mod TextReads

@@ -6,16 +6,16 @@ use Rattle.aes3_cell.specs.declared.refusal.RunError.{RunError}
 use Rattle.aes3_cell.specs.declared.refusal.RunError.TheVariants.{Read, Write, TooLong, BadCell, BadLength, BadCode, BadParity, Memory, BadStatusText, BadPadding, BadSample}
 use Rattle.aes3_cell.specs.Packed.{IsPacked, is_packed, last_place, cells_of_packed, whole_cells}
 use Rattle.aes3_cell.specs.PackedReading.{PackedReader, packed_reader_of, packed_answer, packed_end, answer_cells, end_cells}
-use Rattle.aes3_cell.proofs.Growing.{grew-is, front-is}
 use Rattle.aes3_cell.proofs.PackedCells.{is_packed-packs, packs-is_packed}
 use Rattle.aes3_cell.proofs.PackedReads.{whole_cells-more, cells-end}
 use Rattle.aes3_input.specs.Converting.{fault_behind, first_fault, out, whole}
-use Rattle.aes3_input.specs.Running.{Movement, Ran, Left, Run, CleanEnd}
+use Rattle.aes3_input.specs.Running.{Movement, IsFault, Left, Run, CleanEnd, converted}
 use Rattle.aes3_input.specs.Taking.{Writing, behind, before_end, with_end}
 use Rattle.aes3_input.specs.Forms.{packed_reading, PackedTaken, PackedEnded}
-use Rattle.aes3_input.specs.Driving.{Drove, LeftCells, Drive}
+use Rattle.aes3_input.specs.Driving.{IsCause, LeftCells, Drive, driven}
 use Rattle.aes3_input.proofs.Outputs.{out-is, before-all}
 use Rattle.aes3_input.proofs.Items.{before-join}
+use Rattle.aes3_input.proofs.InputRuns.{Gives, run-ok, run-err}
 
 -- no octet is a fault before the end
 pub clean-behind : (w : Writing Level) (p d : List ℕ) → fault_behind (packed_reading w) p d ≡ None
@@ -99,19 +99,7 @@ whole-packed w b e =
 pub packed-starts : {packed : PackedReader} {cells : ℕ} (z : List Level → Type 0) → packed ≡ packed_reader_of [] → cells ≡ 0 → z [] → PackedTaken packed cells z []
 packed-starts z e n h = record { reader = e; count = n ∙ sym (ap length no-cells); taker = subst z (sym no-cells) h }
 
--- the run
-packed-ran-ok : (max : ℕ) (w : Writing Level) (cells : ℕ) (z : List Level → Type 0) (b : List ℕ) (ended : Bool) (source sink : Movement) (n : ℕ)
-    → Ran max (packed_reading w) (PackedEnded cells z) b ended source sink (Ok n) → Drove max Packed w z b ended source sink (Ok (n, cells))
-packed-ran-ok max w cells z b ended source sink n r = (
-  record { input = lawful w b r.1; short = r.0.clean.short; end = r.0.end },
-  r.2.taker,
-  r.3,
-  r.2.count,
-  r.4,
-  r.5,
-  grew-is (whole-packed w b r.1) r.6,
-)
-
+-- why a run was refused
 bad-of : (max : ℕ) (w : Writing Level) (b : List ℕ) (ended : Bool) (e : RunError)
     → (first_fault (packed_reading w) (take max b) ≡ Some e) ⊎ (CleanEnd max (packed_reading w) b ended × ((packed_reading w).end_fault b ≡ Some e))
     → CleanEnd max (packed_reading w) b ended × (is_packed b ≡ false) × (e ≡ BadPadding (last_place b))
@@ -120,31 +108,28 @@ bad-of max w b ended e h = elim h [
   | inr g ↦ let q = end-bad w b e g.1 in (g.0, q.0, q.1)
 ]
 
-packed-ran-err : (max : ℕ) (w : Writing Level) (cells : ℕ) (z : List Level → Type 0) (b : List ℕ) (ended : Bool) (source sink : Movement) (e : RunError)
-    → Ran max (packed_reading w) (PackedEnded cells z) b ended source sink (Err e) → Drove max Packed w z b ended source sink (Err e)
-packed-ran-err max w cells z b ended source sink Read r = (tt, r.0.short, r.1, r.2, grew-is (out-packed w b) r.3)
-packed-ran-err max w cells z b ended source sink Write r = (
-  r.0,
-  r.1,
-  elim r.2 [
-    | inl g ↦ inl (front-is (out-packed w (take max b)) g)
-    | inr g ↦ inr (record { input = lawful w b g.1; short = g.0.clean.short; end = g.0.end }, front-is (whole-packed w b g.1) g.2)
-  ],
-)
-packed-ran-err max w cells z b ended source sink TooLong r = (tt, r.1, r.2, r.3, grew-is (out-packed w (take max b)) r.4)
-packed-ran-err max w cells z b ended source sink (BadPadding at) r =
-    let q = bad-of max w b ended (BadPadding at) r.3 in
-    ((unlawful b q.1, sym (place-is q.2)), q.0.clean.short, q.0.end, r.0, r.1, grew-is (out-packed w (take max b)) r.2)
+packed-cause : (w : Writing Level) (max : ℕ) (b : List ℕ) (ended : Bool) (e : RunError) → IsFault (packed_reading w) max b ended e → IsCause Packed max b ended e
+packed-cause w max b ended Read r = (tt, r.short)
+packed-cause w max b ended Write r = r
+packed-cause w max b ended TooLong r = (tt, r.1)
+packed-cause w max b ended (BadPadding at) r =
+    let q = bad-of max w b ended (BadPadding at) r in
+    ((unlawful b q.1, sym (place-is q.2)), q.0.clean.short, q.0.end)
   where
     place-is : {m n : ℕ} → ◌≡◌ {A = RunError} (BadPadding m) (BadPadding n) → m ≡ n
     place-is q = cc
-packed-ran-err max w cells z b ended source sink (BadCell n) r = absurd (let q = (bad-of max w b ended (BadCell n) r.3).2 in cc)
-packed-ran-err max w cells z b ended source sink (BadLength n) r = absurd (let q = (bad-of max w b ended (BadLength n) r.3).2 in cc)
-packed-ran-err max w cells z b ended source sink (BadCode n) r = absurd (let q = (bad-of max w b ended (BadCode n) r.3).2 in cc)
-packed-ran-err max w cells z b ended source sink (BadParity n) r = absurd (let q = (bad-of max w b ended (BadParity n) r.3).2 in cc)
-packed-ran-err max w cells z b ended source sink Memory r = absurd (let q = (bad-of max w b ended Memory r.3).2 in cc)
-packed-ran-err max w cells z b ended source sink BadStatusText r = absurd (let q = (bad-of max w b ended BadStatusText r.3).2 in cc)
-packed-ran-err max w cells z b ended source sink (BadSample n) r = absurd (let q = (bad-of max w b ended (BadSample n) r.3).2 in cc)
+packed-cause w max b ended (BadCell n) r = absurd (let q = (bad-of max w b ended (BadCell n) r).2 in cc)
+packed-cause w max b ended (BadLength n) r = absurd (let q = (bad-of max w b ended (BadLength n) r).2 in cc)
+packed-cause w max b ended (BadCode n) r = absurd (let q = (bad-of max w b ended (BadCode n) r).2 in cc)
+packed-cause w max b ended (BadParity n) r = absurd (let q = (bad-of max w b ended (BadParity n) r).2 in cc)
+packed-cause w max b ended Memory r = absurd (let q = (bad-of max w b ended Memory r).2 in cc)
+packed-cause w max b ended BadStatusText r = absurd (let q = (bad-of max w b ended BadStatusText r).2 in cc)
+packed-cause w max b ended (BadSample n) r = absurd (let q = (bad-of max w b ended (BadSample n) r).2 in cc)
+
+-- the run
+packed-gives : (w : Writing Level) (y : List ℕ → Type 0) (z : List Level → Type 0) → Gives (converted (packed_reading w) y) (driven Packed w z)
+packed-gives w y z =
+    record { input = λ b h. lawful w b h.end_clean; whole = λ b h. whole-packed w b h.end_clean; begun = out-packed w; cause = packed-cause w }
 
 packed-left : (max : ℕ) (w : Writing Level) (packed : PackedReader) (cells : ℕ) (f : List Level → Type 0) (b : List ℕ) (e : RunError)
     → Left max (packed_reading w) (PackedTaken packed cells f) (λ b. f (whole_cells b)) b (Err e) → LeftCells max Packed f b (Err e)
@@ -155,16 +140,10 @@ packed-left max w packed cells f b e h = subst (λ (v : List ℕ). f (whole_cell
 
 pub packed-ok : {max : ℕ} {w : Writing Level} {packed : PackedReader} {cells : ℕ} {f z : List Level → Type 0} {ended : Bool} {source sink : Movement} {n : ℕ}
     → Run max (packed_reading w) (PackedTaken packed cells f) (λ b. f (whole_cells b)) (PackedEnded cells z) ended source sink (Ok n) → Drive max Packed w f z ended source sink (Ok (n, cells))
-packed-ok {max} {w} {packed} {cells} {f} {z} {ended} {source} {sink} {n} r =
-    record { bytes = r.bytes; given = r.given; few = r.few; ran = packed-ran-ok max w cells z r.bytes ended source sink n r.ran; left = tt }
+packed-ok {w = w} {cells = cells} {z = z} r =
+    record { run = run-ok (packed-gives w (PackedEnded cells z) z) (λ b i h. (h.0.taker, h.1, h.0.count)) r.run; left = tt }
 
 pub packed-err : {max : ℕ} {w : Writing Level} {packed : PackedReader} {cells : ℕ} {f z : List Level → Type 0} {ended : Bool} {source sink : Movement} {e : RunError}
     → Run max (packed_reading w) (PackedTaken packed cells f) (λ b. f (whole_cells b)) (PackedEnded cells z) ended source sink (Err e) → Drive max Packed w f z ended source sink (Err e)
-packed-err {max} {w} {packed} {cells} {f} {z} {ended} {source} {sink} {e} r =
-    record {
-      bytes = r.bytes;
-      given = r.given;
-      few = r.few;
-      ran = packed-ran-err max w cells z r.bytes ended source sink e r.ran;
-      left = packed-left max w packed cells f r.bytes e r.left;
-    }
+packed-err {max} {w} {packed} {cells} {f} {z} {e = e} r =
+    record { run = run-err (packed-gives w (PackedEnded cells z) z) r.run; left = packed-left max w packed cells f r.run.bytes e r.left }

@@ -8,7 +8,7 @@ use Rattle.aes3_cell.specs.declared.refusal.RunError.TheVariants.{Read, Write, T
 use Rattle.aes3_cell.specs.Ends.{Grew}
 use Rattle.aes3_cell.proofs.Growing.{grew-join, grew-is, front-join, front-is}
 use Rattle.aes3_input.specs.Converting.{Reading, before_fault, first_fault, out, whole}
-use Rattle.aes3_input.specs.Running.{Fed, PieceRan, EndRan, Ran, Left, Run, Movement, Quiet, Clean, CleanEnd}
+use Rattle.aes3_input.specs.Running.{Fed, PieceRan, EndRan, InputRan, Left, Run, Movement, Quiet, Clean, CleanEnd, converted}
 use Rattle.aes3_input.proofs.Outputs.{before-all}
 use Rattle.aes3_input.proofs.Feeding.{fed-is, fed-join, ran-join}
 
@@ -60,14 +60,22 @@ faultless d h = d.clean [] h
 pub ran-read : (max : ℕ) {r₀ r : Reading} {f₀ f : List ℕ → Type 0} (s z : List ℕ → Type 0) {g₀ g : Option (List ℕ)} (g' : Option (List ℕ)) {t₀ t : Option (List ℕ)} {seen : ℕ} (ended : Bool) (n₀ n n' k₀ k : ℕ)
     → Upto r₀ r f₀ f g₀ g t₀ t seen → f₀ [] → seen ≤ max → n ≡ n₀ → k ≡ k₀ → n' ≡ n + 1 → g' ≡ g
     → Run max r₀ f s z ended (changed g₀ g' n₀ n') (changed t₀ t k₀ k) (Err Read)
-ran-read max {f = f} s z {g₀ = g₀} g' ended n₀ n n' k₀ k u h le es ek e eg =
+ran-read max {r₀ = r₀} {f = f} s z {g₀ = g₀} g' ended n₀ n n' k₀ k u h le es ek e eg =
     let l = u.count in
+    let all : take max u.bytes ≡ u.bytes = take_all max u.bytes (omega arith) in
     record {
-      bytes = u.bytes;
-      given = subst (λ (v : Option (List ℕ)). Grew g₀ v u.bytes) (sym eg) u.given;
-      few = omega arith;
-      ran = (record { short = omega arith; clean = faultless u.fed h }, e ∙ ap (λ v. v + 1) es, ek, written u.fed h);
-      left = subst f (sym (take_all max u.bytes (omega arith))) (u.fed.follows [] h);
+      run = record {
+        bytes = u.bytes;
+        given = subst (λ (v : Option (List ℕ)). Grew g₀ v u.bytes) (sym eg) u.given;
+        few = omega arith;
+        ran = (
+          record { short = omega arith; clean = faultless u.fed h },
+          e ∙ ap (λ v. v + 1) es,
+          ek,
+          grew-is (ap (out r₀) (sym all)) (written u.fed h),
+        );
+      };
+      left = subst f (sym all) (u.fed.follows [] h);
     }
 
 -- the source has ended
@@ -81,36 +89,47 @@ ran-end max {r₀ = r₀} f' s z t' ended n₀ n k₀ k k' u h le es ek eg en e 
     let b = u.bytes in
     let q = e.0 b (u.fed.follows [] h) in
     record {
-      bytes = b;
-      given = grew-is (append-nil b) (grew-join u.given eg);
-      few = omega arith;
-      ran = (
-        record { clean = record { short = omega arith; clean = faultless u.fed h }; end = en },
-        ap (λ v. v.end_fault b) (sym u.fed.same) ∙ q.0,
-        q.1,
-        u.count,
-        es,
-        e.1 ∙ ek,
-        grew-join (written u.fed h) (grew-is (ap (λ v. v.ends b) u.fed.same) q.2),
-      );
+      run = record {
+        bytes = b;
+        given = grew-is (append-nil b) (grew-join u.given eg);
+        few = omega arith;
+        ran = (
+          record {
+            input = record { clean = faultless u.fed h; end_clean = ap (λ v. v.end_fault b) (sym u.fed.same) ∙ q.0 };
+            short = omega arith;
+            end = en;
+          },
+          (q.1, u.count),
+          es,
+          e.1 ∙ ek,
+          grew-join (written u.fed h) (grew-is (ap (λ v. v.ends b) u.fed.same) q.2),
+        );
+      };
       left = tt;
     }
 
 ended-as : (max : ℕ) (r₀ r : Reading) (f s z : List ℕ → Type 0) (b : List ℕ) (ended : Bool) (source : Movement) (t₀ t t' : Option (List ℕ)) (k₀ k k' : ℕ) (e : RunError)
     → CleanEnd max r₀ b ended → r ≡ r₀ → f b → Quiet source → k ≡ k₀ → Grew t₀ t (out r₀ b)
-    → EndRan r f s z (changed t t' k k') (Err e) → Ran max r₀ z b ended source (changed t₀ t' k₀ k') (Err e)
+    → EndRan r f s z (changed t t' k k') (Err e) → InputRan (converted r₀ z) max b ended source (changed t₀ t' k₀ k') (Err e)
 unfolding whole
 ended-as max r₀ r f s z b ended source t₀ t t' k₀ k k' Write c same h q ek g w =
     let v = w.0 b h in
-    (q, w.1 ∙ ap (λ n. n + 1) ek, inr (c, ap (λ v. v.end_fault b) (sym same) ∙ v.0, front-join g (front-is (ap (λ v. v.ends b) same) v.1)))
+    let n : r₀.end_fault b ≡ None = ap (λ v. v.end_fault b) (sym same) ∙ v.0 in (
+      q,
+      w.1 ∙ ap (λ n. n + 1) ek,
+      inr (
+        record { input = record { clean = c.clean.clean; end_clean = n }; short = c.clean.short; end = c.end },
+        front-join g (front-is (ap (λ v. v.ends b) same) v.1),
+      ),
+    )
 ended-as max r₀ r f s z b ended source t₀ t t' k₀ k k' Read c same h q ek g w = absurd w
 ended-as max r₀ r f s z b ended source t₀ t t' k₀ k k' TooLong c same h q ek g w = absurd w
 ended-as max r₀ r f s z b ended source t₀ t t' k₀ k k' e c same h q ek g w =
     let v = w.0 b h in (
+      inr (c, ap (λ v. v.end_fault b) (sym same) ∙ v.0),
       q,
       w.1 ∙ ek,
       grew-is (append-nil (out r₀ b) ∙ ap (out r₀) (sym (take_all max b c.clean.short))) (grew-join g v.2),
-      inr (c, ap (λ v. v.end_fault b) (sym same) ∙ v.0),
     )
 
 ended-left : (max : ℕ) (r₀ r : Reading) (f f' s z : List ℕ → Type 0) (b : List ℕ) (sink : Movement) (e : RunError)
@@ -130,22 +149,24 @@ ran-end_err max {r₀} {r} {f₀} {f} f' s z {g₀} {g} {g'} {t₀} {t} t' {seen
     let l = u.count in
     let b = u.bytes in
     record {
-      bytes = b;
-      given = grew-is (append-nil b) (grew-join u.given eg);
-      few = omega arith;
-      ran = ended-as max r₀ r f s z b ended (changed g₀ g' n₀ n) t₀ t t' k₀ k k' e
-          (record { clean = record { short = omega arith; clean = faultless u.fed h }; end = en }) u.fed.same (u.fed.follows [] h) es ek (written u.fed h) w;
+      run = record {
+        bytes = b;
+        given = grew-is (append-nil b) (grew-join u.given eg);
+        few = omega arith;
+        ran = ended-as max r₀ r f s z b ended (changed g₀ g' n₀ n) t₀ t t' k₀ k k' e
+            (record { clean = record { short = omega arith; clean = faultless u.fed h }; end = en }) u.fed.same (u.fed.follows [] h) es ek (written u.fed h) w;
+      };
       left = ended-left max r₀ r f f' s z b (changed t t' k k') e (record { short = omega arith; clean = faultless u.fed h }) (u.fed.follows [] h) w;
     }
 
 -- a piece stops the run
 piece-as : (max : ℕ) (r₀ r' : Reading) (f₀ f' s z : List ℕ → Type 0) (b : List ℕ) (ended : Bool) (source sink : Movement) (e : RunError)
-    → PieceRan r₀ r' f₀ f' s (take max b) sink (Err e) → f₀ [] → Quiet source → Ran max r₀ z b ended source sink (Err e)
+    → PieceRan r₀ r' f₀ f' s (take max b) sink (Err e) → f₀ [] → Quiet source → InputRan (converted r₀ z) max b ended source sink (Err e)
 unfolding out first_fault
 piece-as max r₀ r' f₀ f' s z b ended source sink Write w h q = (q, w.0, inl (w.1 [] h))
 piece-as max r₀ r' f₀ f' s z b ended source sink Read w h q = absurd w
 piece-as max r₀ r' f₀ f' s z b ended source sink TooLong w h q = absurd w
-piece-as max r₀ r' f₀ f' s z b ended source sink e w h q = (q, w.1, w.0.grew [] h, inl (w.0.fault [] h))
+piece-as max r₀ r' f₀ f' s z b ended source sink e w h q = (inl (w.0.fault [] h), q, w.1, w.0.grew [] h)
 
 piece-left : (max : ℕ) (r₀ r' : Reading) (f₀ f' s : List ℕ → Type 0) (b : List ℕ) (sink : Movement) (e : RunError)
     → PieceRan r₀ r' f₀ f' s (take max b) sink (Err e) → f₀ [] → Left max r₀ f' s b (Err e)
@@ -170,10 +191,12 @@ ran-piece max {r₀} {r} r' {f₀} {f} f' s z {g₀} {g} {g'} {t₀} {t} t' {see
     ran-join r' f' s t' k' (take j buf) [] (take max (a ++ take m buf)) e u.fed ek
     (ap (λ v. a ++ v) (append-nil (take j buf)) ∙ sym x) w in
     record {
-      bytes = a ++ take m buf;
-      given = grew-join u.given eg;
-      few = omega arith;
-      ran = piece-as max r₀ r' f₀ f' s z (a ++ take m buf) ended (changed g₀ g' n₀ n) (changed t₀ t' k₀ k') e p h es;
+      run = record {
+        bytes = a ++ take m buf;
+        given = grew-join u.given eg;
+        few = omega arith;
+        ran = piece-as max r₀ r' f₀ f' s z (a ++ take m buf) ended (changed g₀ g' n₀ n) (changed t₀ t' k₀ k') e p h es;
+      };
       left = piece-left max r₀ r' f₀ f' s (a ++ take m buf) (changed t₀ t' k₀ k') e p h;
     }
 
@@ -193,9 +216,11 @@ ran-long max s z ended n₀ n k₀ k k' m j room buf u h le es ek e eg er mr mb 
     let v : length (take max (a ++ take m buf)) ≡ max = length-take-le max (a ++ take m buf) (omega arith) in
     let y = fed-is (sym x) (fed-join u.fed d) in
     record {
-      bytes = a ++ take m buf;
-      given = grew-join u.given eg;
-      few = omega arith;
-      ran = (record { short = omega arith; clean = faultless y h }, omega arith, es, e ∙ ek, written y h);
+      run = record {
+        bytes = a ++ take m buf;
+        given = grew-join u.given eg;
+        few = omega arith;
+        ran = ((record { short = omega arith; clean = faultless y h }, omega arith), es, e ∙ ek, written y h);
+      };
       left = y.follows [] h;
     }

@@ -6,15 +6,15 @@ use Rattle.aes3_cell.specs.declared.refusal.RunError.{RunError}
 use Rattle.aes3_cell.specs.declared.refusal.RunError.TheVariants.{Read, Write, TooLong, BadCell, BadLength, BadCode, BadParity, Memory, BadStatusText, BadPadding, BadSample}
 use Rattle.aes3_cell.specs.CellText.{is_good_byte, byte_cells, good_bytes, good, cells_of_text, IsCellText}
 use Rattle.aes3_cell.specs.TextReading.{TextReader, text_reader_of}
-use Rattle.aes3_cell.proofs.Growing.{grew-is, front-is}
 use Rattle.aes3_cell.proofs.CellTexts.{good-join, good-bad, text-more, cells-more, cells-bad}
 use Rattle.aes3_input.specs.Converting.{or_else, unless, fault_behind, before_fault, first_fault, out, whole}
-use Rattle.aes3_input.specs.Running.{Movement, Ran, Left, Run, CleanEnd}
+use Rattle.aes3_input.specs.Running.{Movement, IsFault, Left, Run, CleanEnd, converted}
 use Rattle.aes3_input.specs.Taking.{Writing, behind, before_end, with_end}
 use Rattle.aes3_input.specs.Forms.{text_reading, TextTaken}
-use Rattle.aes3_input.specs.Driving.{Drove, LeftCells, Drive}
+use Rattle.aes3_input.specs.Driving.{IsCause, LeftCells, Drive, driven}
 use Rattle.aes3_input.proofs.Outputs.{out-is}
 use Rattle.aes3_input.proofs.Items.{before-join}
+use Rattle.aes3_input.proofs.InputRuns.{Gives, run-ok, run-err}
 
 text-none : IsCellText []
 unfolding good_bytes
@@ -148,19 +148,7 @@ pub starts : {text : TextReader} {cells : ℕ} (z : List Level → Type 0) → t
 starts {text} {cells} z e n h =
     record { reader = text_reader-new e; lawful = text-none; count = n ∙ sym (ap length no-cells); taker = subst z (sym no-cells) h }
 
--- the run
-text-ran-ok : (max : ℕ) (w : Writing Level) (text : TextReader) (cells : ℕ) (z : List Level → Type 0) (b : List ℕ) (ended : Bool) (source sink : Movement) (n : ℕ)
-    → Ran max (text_reading w) (TextTaken text cells z) b ended source sink (Ok n) → Drove max Text w z b ended source sink (Ok (n, cells))
-text-ran-ok max w text cells z b ended source sink n r = (
-  record { input = clean-text w b r.0.clean.clean; short = r.0.clean.short; end = r.0.end },
-  r.2.taker,
-  r.3,
-  r.2.count,
-  r.4,
-  r.5,
-  grew-is (whole-text w b) r.6,
-)
-
+-- why a run was refused
 bad-of : (max : ℕ) (w : Writing Level) (b : List ℕ) (ended : Bool) (e : RunError)
     → (first_fault (text_reading w) (take max b) ≡ Some e) ⊎ (CleanEnd max (text_reading w) b ended × ((text_reading w).end_fault b ≡ Some e))
     → (e ≡ BadCell (good (take max b))) × (good (take max b) < length (take max b))
@@ -173,33 +161,29 @@ bad-of max w b ended e h = elim h [
     none-some : {x : RunError} → None ≡ Some x → ⊥
     none-some q = cc
 
-text-ran-err : (max : ℕ) (w : Writing Level) (text : TextReader) (cells : ℕ) (z : List Level → Type 0) (b : List ℕ) (ended : Bool) (source sink : Movement) (e : RunError)
-    → Ran max (text_reading w) (TextTaken text cells z) b ended source sink (Err e) → Drove max Text w z b ended source sink (Err e)
-text-ran-err max w text cells z b ended source sink Read r = (clean-text w b r.0.clean, r.0.short, r.1, r.2, grew-is (out-text w b) r.3)
-text-ran-err max w text cells z b ended source sink Write r = (
-  r.0,
-  r.1,
-  elim r.2 [
-    | inl g ↦ inl (front-is (out-text w (take max b)) g)
-    | inr g ↦ inr (record { input = clean-text w b g.0.clean.clean; short = g.0.clean.short; end = g.0.end }, front-is (whole-text w b) g.2)
-  ],
-)
-text-ran-err max w text cells z b ended source sink TooLong r = (clean-text w (take max b) r.0.clean, r.1, r.2, r.3, grew-is (out-text w (take max b)) r.4)
-text-ran-err max w text cells z b ended source sink (BadCell at) r =
-    let q = bad-of max w b ended (BadCell at) r.3 in
+text-cause : (w : Writing Level) (max : ℕ) (b : List ℕ) (ended : Bool) (e : RunError) → IsFault (text_reading w) max b ended e → IsCause Text max b ended e
+text-cause w max b ended Read r = (clean-text w b r.clean, r.short)
+text-cause w max b ended Write r = r
+text-cause w max b ended TooLong r = (clean-text w (take max b) r.0.clean, r.1)
+text-cause w max b ended (BadCell at) r =
+    let q = bad-of max w b ended (BadCell at) r in
     let k = q.1 in
     let s : at ≡ good (take max b) = place-is q.0 in
-    ((sym s, omega arith), r.0, r.1, grew-is (out-text w (take max b)) r.2)
+    (sym s, omega arith)
   where
     place-is : {m n : ℕ} → ◌≡◌ {A = RunError} (BadCell m) (BadCell n) → m ≡ n
     place-is q = cc
-text-ran-err max w text cells z b ended source sink (BadLength n) r = absurd (let q = (bad-of max w b ended (BadLength n) r.3).0 in cc)
-text-ran-err max w text cells z b ended source sink (BadCode n) r = absurd (let q = (bad-of max w b ended (BadCode n) r.3).0 in cc)
-text-ran-err max w text cells z b ended source sink (BadParity n) r = absurd (let q = (bad-of max w b ended (BadParity n) r.3).0 in cc)
-text-ran-err max w text cells z b ended source sink Memory r = absurd (let q = (bad-of max w b ended Memory r.3).0 in cc)
-text-ran-err max w text cells z b ended source sink BadStatusText r = absurd (let q = (bad-of max w b ended BadStatusText r.3).0 in cc)
-text-ran-err max w text cells z b ended source sink (BadPadding n) r = absurd (let q = (bad-of max w b ended (BadPadding n) r.3).0 in cc)
-text-ran-err max w text cells z b ended source sink (BadSample n) r = absurd (let q = (bad-of max w b ended (BadSample n) r.3).0 in cc)
+text-cause w max b ended (BadLength n) r = absurd (let q = (bad-of max w b ended (BadLength n) r).0 in cc)
+text-cause w max b ended (BadCode n) r = absurd (let q = (bad-of max w b ended (BadCode n) r).0 in cc)
+text-cause w max b ended (BadParity n) r = absurd (let q = (bad-of max w b ended (BadParity n) r).0 in cc)
+text-cause w max b ended Memory r = absurd (let q = (bad-of max w b ended Memory r).0 in cc)
+text-cause w max b ended BadStatusText r = absurd (let q = (bad-of max w b ended BadStatusText r).0 in cc)
+text-cause w max b ended (BadPadding n) r = absurd (let q = (bad-of max w b ended (BadPadding n) r).0 in cc)
+text-cause w max b ended (BadSample n) r = absurd (let q = (bad-of max w b ended (BadSample n) r).0 in cc)
+
+-- the run
+text-gives : (w : Writing Level) (y : List ℕ → Type 0) (z : List Level → Type 0) → Gives (converted (text_reading w) y) (driven Text w z)
+text-gives w y z = record { input = λ b h. clean-text w b h.clean; whole = λ b h. whole-text w b; begun = out-text w; cause = text-cause w }
 
 text-left : (max : ℕ) (w : Writing Level) (text : TextReader) (cells : ℕ) (f : List Level → Type 0) (b : List ℕ) (e : RunError)
     → Left max (text_reading w) (TextTaken text cells f) (λ b. f (cells_of_text b)) b (Err e) → LeftCells max Text f b (Err e)
@@ -210,16 +194,10 @@ text-left max w text cells f b e h = subst f (cells-left w (take max b)) h
 
 pub text-ok : {max : ℕ} {w : Writing Level} {text : TextReader} {cells : ℕ} {f z : List Level → Type 0} {ended : Bool} {source sink : Movement} {n : ℕ}
     → Run max (text_reading w) (TextTaken text cells f) (λ b. f (cells_of_text b)) (TextTaken text cells z) ended source sink (Ok n) → Drive max Text w f z ended source sink (Ok (n, cells))
-text-ok {max} {w} {text} {cells} {f} {z} {ended} {source} {sink} {n} r =
-    record { bytes = r.bytes; given = r.given; few = r.few; ran = text-ran-ok max w text cells z r.bytes ended source sink n r.ran; left = tt }
+text-ok {w = w} {text} {cells} {z = z} r =
+    record { run = run-ok (text-gives w (TextTaken text cells z) z) (λ b i h. (h.0.taker, h.1, h.0.count)) r.run; left = tt }
 
 pub text-err : {max : ℕ} {w : Writing Level} {text : TextReader} {cells : ℕ} {f z : List Level → Type 0} {ended : Bool} {source sink : Movement} {e : RunError}
     → Run max (text_reading w) (TextTaken text cells f) (λ b. f (cells_of_text b)) (TextTaken text cells z) ended source sink (Err e) → Drive max Text w f z ended source sink (Err e)
-text-err {max} {w} {text} {cells} {f} {z} {ended} {source} {sink} {e} r =
-    record {
-      bytes = r.bytes;
-      given = r.given;
-      few = r.few;
-      ran = text-ran-err max w text cells z r.bytes ended source sink e r.ran;
-      left = text-left max w text cells f r.bytes e r.left;
-    }
+text-err {max} {w} {text} {cells} {f} {z} {e = e} r =
+    record { run = run-err (text-gives w (TextTaken text cells z) z) r.run; left = text-left max w text cells f r.run.bytes e r.left }

@@ -4,4 +4,3 @@ pub mod Taking
 pub mod Forms
 pub mod Inputs
 pub mod Driving
-pub mod CellRuns

@@ -58,6 +58,47 @@ EndRan r f s z sink (Err Read) = ⊥
 EndRan r f s z sink (Err TooLong) = ⊥
 EndRan r f s z sink (Err e) = ((b : List ℕ) → f b → (r.end_fault b ≡ Some e) × s b × Grew sink.old sink.new []) × Quiet sink
 
+-- What a run promises: which bytes are an input of it, what it writes of one and of bytes behind which more may come, what it answers to one, and
+-- why it refuses the bytes of a run of at most max bytes, where the truth value says whether the source has ended behind them.
+pub record Promise (A : Type 0) : Type 1 where
+  pub input : List ℕ → Type 0
+  pub whole : List ℕ → List ℕ
+  pub begun : List ℕ → List ℕ
+  pub answer : List ℕ → A → Type 0
+  pub cause : ℕ → List ℕ → Bool → RunError → Type 0
+
+-- the source has ended behind an input of at most max bytes
+pub record Complete (is_input : List ℕ → Type 0) (max : ℕ) (b : List ℕ) (ended : Bool) : Type 0 where
+  pub input : is_input b
+  pub short : length b ≤ max
+  pub end : IsTrue ended
+
+-- What a run answers to the bytes b:
+-- Ok: they are an input of at most `max` bytes, and the source has ended; the answer; neither end failed; what the input writes is written
+-- Write: the sink failed, once, and the source did not; a front is written of what the bytes up to the limit write behind which more may come,
+--   or, where the input is whole, of what it writes
+-- Read: its cause; the source failed, once, and the sink did not; what the bytes up to the limit write is written
+-- any other refusal: its cause; neither end failed; what the bytes up to the limit write is written
+-- So Ok is owed where the input is in its form and fits and neither end failed: each refusal has a failure or a cause that says otherwise.
+abbrev pub InputRan : {A : Type 0} → Promise A → ℕ → List ℕ → Bool → Movement → Movement → Result A RunError → Type 0
+InputRan p max b ended source sink (Ok n) =
+    Complete p.input max b ended × p.answer b n × Quiet source × Quiet sink × Grew sink.old sink.new (p.whole b)
+InputRan p max b ended source sink (Err Write) =
+    Quiet source × Failed sink × (GrewFront sink.old sink.new (p.begun (take max b))
+    ⊎ (Complete p.input max b ended × GrewFront sink.old sink.new (p.whole b)))
+InputRan p max b ended source sink (Err Read) =
+    p.cause max b ended Read × Failed source × Quiet sink × Grew sink.old sink.new (p.begun (take max b))
+InputRan p max b ended source sink (Err e) =
+    p.cause max b ended e × Quiet source × Quiet sink × Grew sink.old sink.new (p.begun (take max b))
+
+-- A run over an input of at most max bytes: the bytes that the source gave in it, which are those that it tells where it tells them, at most one
+-- more than max; and what it answered to them, where `ended` says whether the source has ended.
+pub record InputRun {A : Type 0} (p : Promise A) (max : ℕ) (ended : Bool) (source sink : Movement) (result : Result A RunError) : Type 0 where
+  pub bytes : List ℕ
+  pub given : Grew source.old source.new bytes
+  pub few : length bytes ≤ max + 1
+  pub ran : InputRan p max bytes ended source sink result
+
 -- the bytes b are an input of at most max bytes, none of which is a fault
 pub record Clean (max : ℕ) (r : Reading) (b : List ℕ) : Type 0 where
   pub short : length b ≤ max
@@ -68,20 +109,27 @@ pub record CleanEnd (max : ℕ) (r : Reading) (b : List ℕ) (ended : Bool) : Ty
   pub clean : Clean max r b
   pub end : IsTrue ended
 
--- what a run answers to the bytes b, and what it has written
-abbrev pub Ran : ℕ → Reading → (List ℕ → Type 0) → List ℕ → Bool → Movement → Movement → Result ℕ RunError → Type 0
-Ran max r z b ended source sink (Ok n) =
-    CleanEnd max r b ended × (r.end_fault b ≡ None) × z b × (n ≡ length b) × Quiet source × Quiet sink × Grew sink.old sink.new (whole r b)
-Ran max r z b ended source sink (Err Read) =
-    Clean max r b × Failed source × Quiet sink × Grew sink.old sink.new (out r b)
-Ran max r z b ended source sink (Err Write) =
-    Quiet source × Failed sink × (GrewFront sink.old sink.new (out r (take max b))
-    ⊎ (CleanEnd max r b ended × (r.end_fault b ≡ None) × GrewFront sink.old sink.new (whole r b)))
-Ran max r z b ended source sink (Err TooLong) =
-    Clean max r (take max b) × (length b ≡ max + 1) × Quiet source × Quiet sink × Grew sink.old sink.new (out r (take max b))
-Ran max r z b ended source sink (Err e) =
-    Quiet source × Quiet sink × Grew sink.old sink.new (out r (take max b))
-    × ((first_fault r (take max b) ≡ Some e) ⊎ (CleanEnd max r b ended × (r.end_fault b ≡ Some e)))
+-- bytes without a fault, and without one at their end
+pub record IsFaultless (r : Reading) (b : List ℕ) : Type 0 where
+  pub clean : first_fault r b ≡ None
+  pub end_clean : r.end_fault b ≡ None
+
+-- why a conversion refuses
+abbrev pub IsFault : Reading → ℕ → List ℕ → Bool → RunError → Type 0
+IsFault r max b ended Read = Clean max r b
+IsFault r max b ended Write = length b ≤ max + 1
+IsFault r max b ended TooLong = Clean max r (take max b) × (length b ≡ max + 1)
+IsFault r max b ended e = (first_fault r (take max b) ≡ Some e) ⊎ (CleanEnd max r b ended × (r.end_fault b ≡ Some e))
+
+-- what a conversion promises, behind which z holds of the bytes: it answers how many there are
+abbrev pub converted : Reading → (List ℕ → Type 0) → Promise ℕ
+converted r z = record {
+  input = IsFaultless r;
+  whole = whole r;
+  begun = out r;
+  answer = λ b n. z b × (n ≡ length b);
+  cause = IsFault r;
+}
 
 -- what holds where a run over the bytes b was refused, and not by the sink: f of those up to max, or s of those before a fault
 abbrev pub Left : ℕ → Reading → (List ℕ → Type 0) → (List ℕ → Type 0) → List ℕ → Result ℕ RunError → Type 0
@@ -91,10 +139,7 @@ Left max r f s b (Err Read) = f (take max b)
 Left max r f s b (Err TooLong) = f (take max b)
 Left max r f s b (Err e) = s (before_fault r [] (take max b))
 
--- a run: with the bytes that the source gave in it, at most one more than max
+-- a conversion's run
 pub record Run (max : ℕ) (r : Reading) (f s z : List ℕ → Type 0) (ended : Bool) (source sink : Movement) (result : Result ℕ RunError) : Type 0 where
-  pub bytes : List ℕ
-  pub given : Grew source.old source.new bytes
-  pub few : length bytes ≤ max + 1
-  pub ran : Ran max r z bytes ended source sink result
-  pub left : Left max r f s bytes result
+  pub run : InputRun (converted r z) max ended source sink result
+  pub left : Left max r f s run.bytes result

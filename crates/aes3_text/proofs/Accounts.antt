@@ -429,7 +429,7 @@ sum-room c h =
 
 pub drive-room : {max : ℕ} {form : Form} {w : Writing Level} {g : List Level → Type 0} (l b f u : ℕ) {ended : Bool} {source sink : Movement} {bytes cells : ℕ}
     → Drive max form w g (λ c. Accounted l b f u c) ended source sink (Ok (bytes, cells)) → f + l < 2 ^ 64
-drive-room {form = form} l b f u r = sum-room (cells_of form r.bytes) r.ran.1
+drive-room {form = form} l b f u r = sum-room (cells_of form r.run.bytes) r.run.ran.1.0
 
 pub counted : (form : Form) (b : List ℕ) (bytes cells l k f u : ℕ) → bytes ≡ length b → cells ≡ length (cells_of form b) → Accounted l k f u (cells_of form b)
     → ◌≡◌ {A = Counts} (record { bytes = bytes; cells = cells; blocks = k; faults = f + l; unfinished = u; marks = 0 }) (account_counts form b)

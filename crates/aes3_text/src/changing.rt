@@ -7,7 +7,7 @@ ghost use Rattle.aes3_cell.specs.Writes.{Wrote};
 ghost use Rattle.aes3_block.specs.Statuses.{status_of};
 ghost use Rattle.aes3_block.specs.declared.status.Channel.TheVariants as channel;
 ghost use Rattle.aes3_lock.specs.Reports.{blocks, wholes};
-ghost use Rattle.aes3_input.specs.CellRuns.{CellRun};
+ghost use Rattle.aes3_input.specs.Driving.{CellRun};
 ghost use Rattle.aes3_input.specs.Inputs.{cells_of};
 ghost use Rattle.aes3_input.specs.Running.{movement_of};
 ghost use Rattle.aes3_engine.specs.BlockRuns.{decided_blocks};

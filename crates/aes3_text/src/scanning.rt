@@ -7,7 +7,7 @@ ghost use Rattle.aes3_cell.specs.Words.{word_cells};
 ghost use Rattle.aes3_cell.specs.Writes.{Wrote};
 ghost use Rattle.aes3_cell.specs.declared.level.Level.{Level};
 ghost use Rattle.aes3_lock.specs.Preambles.{marks};
-ghost use Rattle.aes3_input.specs.CellRuns.{CellRun};
+ghost use Rattle.aes3_input.specs.Driving.{CellRun};
 ghost use Rattle.aes3_input.specs.Inputs.{cells_of};
 ghost use Rattle.aes3_input.specs.Running.{movement_of};
 ghost use Rattle.aes3_input.specs.Taking.{behind};

@@ -11,7 +11,7 @@ drive-requires-clause-start g c = (
 pub returns-in-Ok-clause-ran : goal.returns-in-Ok-clause-ran
 returns-in-Ok-clause-ran g c =
     let k = c.new-taker.result.reporter.writer in
-    run-same (g.W.ReportWriter.writes k) (g.W.ReportWriter.writes c.args.writer) (g.W.ReportWriter.ends k) (g.W.ReportWriter.ends c.args.writer)
+    run-same c.args.input (g.W.ReportWriter.writes k) (g.W.ReportWriter.writes c.args.writer) (g.W.ReportWriter.ends k) (g.W.ReportWriter.ends c.args.writer)
     (ap (λ v. g.W.ReportWriter.writes v.writer) c.new-taker.ensures.reporter ∙ ap (λ v. g.W.ReportWriter.writes v) c.new.ensures.writer)
     (ap (λ v. g.W.ReportWriter.ends v.writer) c.new-taker.ensures.reporter ∙ ap (λ v. g.W.ReportWriter.ends v) c.new.ensures.writer)
     (run-ok (g.W.ReportWriter.writes k) (g.W.ReportWriter.ends k) c.in-Ok.ensures.ran)
@@ -19,7 +19,7 @@ returns-in-Ok-clause-ran g c =
 pub returns-clause-ran : goal.returns-clause-ran
 returns-clause-ran g c =
     let k = c.new-taker.result.reporter.writer in
-    run-same (g.W.ReportWriter.writes k) (g.W.ReportWriter.writes c.args.writer) (g.W.ReportWriter.ends k) (g.W.ReportWriter.ends c.args.writer)
+    run-same c.args.input (g.W.ReportWriter.writes k) (g.W.ReportWriter.writes c.args.writer) (g.W.ReportWriter.ends k) (g.W.ReportWriter.ends c.args.writer)
     (ap (λ v. g.W.ReportWriter.writes v.writer) c.new-taker.ensures.reporter ∙ ap (λ v. g.W.ReportWriter.writes v) c.new.ensures.writer)
     (ap (λ v. g.W.ReportWriter.ends v.writer) c.new-taker.ensures.reporter ∙ ap (λ v. g.W.ReportWriter.ends v) c.new.ensures.writer)
     (run-err (g.W.ReportWriter.writes k) (g.W.ReportWriter.ends k) c.in-Err.ensures.ran)

@@ -1,13 +1,13 @@
-use Rattle.std.proofs.Common.{inl, inr, refl}
+use Rattle.std.proofs.Common.{refl}
 use Rattle.aes3_cell.proofs.Growing.{grew-none}
 use Rattle.aes3_runner.proofs.Flushes.{done, passed-on, refused-flushed}
 use Rattle.aes3_runner.proofs.finish.finish_job.Goals as goal
 
 pub returns-in-Ok-clause-ran : goal.returns-in-Ok-clause-ran
-returns-in-Ok-clause-ran g c = inl (done c.in-Ok.ensures.ran c.exit_status.ensures (grew-none refl))
+returns-in-Ok-clause-ran g c = done c.args.job.now c.in-Ok.ensures.ran c.exit_status.ensures (grew-none refl)
 
 pub returns-in-Err-clause-ran : goal.returns-in-Err-clause-ran
-returns-in-Err-clause-ran g c = inr (refused-flushed c.in-Err.ensures.ran c.flushed.ensures.told c.refuse.ensures.status c.refuse.ensures.line)
+returns-in-Err-clause-ran g c = refused-flushed c.args.job.now c.in-Err.ensures.ran c.flushed.ensures.told c.refuse.ensures.status c.refuse.ensures.line
 
 pub returns-in-Err-clause-passed_on : goal.returns-in-Err-clause-passed_on
-returns-in-Err-clause-passed_on g c = passed-on c.in-Err.ensures.ran c.flushed.ensures.told c.flushed.ensures.passed_on
+returns-in-Err-clause-passed_on g c = passed-on c.args.job.now c.in-Err.ensures.ran c.flushed.ensures.told c.flushed.ensures.passed_on

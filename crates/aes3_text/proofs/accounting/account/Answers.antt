@@ -1,5 +1,6 @@
 use Rattle.std.proofs.Common.{◌+◌, ap, ◌∙◌, arith}
-use Rattle.aes3_input.proofs.CellRuns.{drove-ok, drove-err, run-told}
+use Rattle.aes3_input.proofs.InputRuns.{run-told}
+use Rattle.aes3_input.proofs.CellRuns.{drove-ok, drove-err}
 use Rattle.aes3_text.specs.Gaps.{account, begun_account}
 use Rattle.aes3_text.specs.Runs.{account_counts, account_lines}
 use Rattle.aes3_text.proofs.Accounts.{before-account, with-account, counted, drive-room}
@@ -18,6 +19,7 @@ returns-in-Ok-clause-run g c =
     drove-ok (λ d. account_lines c.args.lines (account d)) (λ d. account_lines c.args.lines (begun_account d)) (account_counts c.args.input)
     (record { bytes = c.in-Ok.bytes; cells = c.in-Ok.cells; blocks = t.tally.blocks; faults = t.tally.faults + t.lost; unfinished = t.tally.unfinished; marks = 0 })
     (λ d. with-account l d ∙ ap (λ v. account_lines v (account d)) c.new-taker.ensures.lines)
+    (λ d. before-account l d ∙ ap (λ v. account_lines v (begun_account d)) c.new-taker.ensures.lines)
     (λ b e f h. counted c.args.input b c.in-Ok.bytes c.in-Ok.cells t.lost t.tally.blocks t.tally.faults t.tally.unfinished e f h) c.in-Ok.ensures.ran
 
 pub returns-in-Ok-clause-lines : goal.returns-in-Ok-clause-lines

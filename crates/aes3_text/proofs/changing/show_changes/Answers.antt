@@ -1,6 +1,7 @@
 use Rattle.std.proofs.Common.{[], sym, subst}
 use Rattle.aes3_lock.specs.Reports.{blocks}
-use Rattle.aes3_input.proofs.CellRuns.{drove-ok, drove-err, run-told}
+use Rattle.aes3_input.proofs.InputRuns.{run-told}
+use Rattle.aes3_input.proofs.CellRuns.{drove-ok, drove-err}
 use Rattle.aes3_engine.specs.BlockRuns.{decided_blocks}
 use Rattle.aes3_engine.specs.ReportRuns.{counts_of}
 use Rattle.aes3_engine.proofs.ReportRuns.{counted}
@@ -18,7 +19,7 @@ returns-in-Ok-clause-run g c =
     let t = c.drive.new.taker.reporter.tally in
     drove-ok (λ d. change_lines (blocks d)) (λ d. change_lines (decided_blocks d)) (counts_of c.args.input)
     (record { bytes = c.in-Ok.bytes; cells = c.in-Ok.cells; blocks = t.blocks; faults = t.faults; unfinished = t.unfinished; marks = 0 })
-    with-cells (λ b e f h. counted c.args.input b c.in-Ok.bytes c.in-Ok.cells t.blocks t.faults t.unfinished e f h) c.in-Ok.ensures.ran
+    with-cells before-cells (λ b e f h. counted c.args.input b c.in-Ok.bytes c.in-Ok.cells t.blocks t.faults t.unfinished e f h) c.in-Ok.ensures.ran
 
 pub returns-in-Ok-clause-lines : goal.returns-in-Ok-clause-lines
 returns-in-Ok-clause-lines g c = λ b h. (run-told (returns-in-Ok-clause-run g c) b h).4
