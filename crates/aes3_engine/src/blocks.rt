@@ -9,9 +9,9 @@ ghost use Rattle.aes3_engine.specs.ReportRuns.{ReportRun};
 ghost use Rattle.aes3_engine.specs.BlockRuns.{report_bytes};
 
 use crate::report_runs::{ReportWriter, run_reports};
-use aes3_block::{Block, GatheredCells};
+use aes3_block::GatheredCells;
 use aes3_cell::{Counts, Fault, Form, RunError, Sink, Source};
-use aes3_lock::{Ending, Lock, Report};
+use aes3_lock::{Ending, Lock};
 
 /// Writes something of a block that stands whole and closed.
 pub trait BlockWriter {
@@ -19,33 +19,15 @@ pub trait BlockWriter {
 
     ghost ends: { Self → List ℕ };
 
-    /// Writes what it makes of block `number`, counted from 0.
+    /// Writes what it makes of block `number`, counted from 0, of which the cells of the 384
+    /// subframes are at hand. What needs no bits gathers none.
     ///
     /// # Errors
     /// The sink's fault; then it has taken a front of the bytes.
-    fn put<T: Sink>(&self, sink: &mut T, number: u64, block: &Block) -> Result<(), Fault>
+    fn put<T: Sink>(&self, sink: &mut T, number: u64, cells: &GatheredCells) -> Result<(), Fault>
         requires room { T.failed sink.old + 1 < 2 ^ 64 }
         ensures { Wrote T.taken T.failed sink.old sink.new
-            (writes self.now number block.now) result };
-
-    /// Writes what it makes of block `number` as `put` does, where the cells of its 384 subframes
-    /// are at hand. What needs no bits gathers none.
-    ///
-    /// # Errors
-    /// The sink's fault; then it has taken a front of the bytes.
-    fn put_read<T: Sink>(
-        &self,
-        sink: &mut T,
-        number: u64,
-        cells: &GatheredCells,
-    ) -> Result<(), Fault>
-        requires room { T.failed sink.old + 1 < 2 ^ 64 }
-        ensures { Wrote T.taken T.failed sink.old sink.new
-            (writes self.now number (map (take payload_len) (read_words cells.now))) result }
-    {
-        let block = cells.block();
-        self.put(sink, number, &block)
-    }
+            (writes self.now number (map (take payload_len) (read_words cells.now))) result };
 
     /// Writes what stands behind the last block.
     ///
@@ -67,15 +49,6 @@ impl<W: BlockWriter> ReportWriter for Blocks<W> {
 
     ghost ends = { λ k. W.ends k.writer };
 
-    fn put<T: Sink>(&self, sink: &mut T, blocks: u64, report: &Report) -> Result<(), Fault> {
-        match report {
-            Report::Whole { block, .. } => self.writer.put(sink, blocks, block),
-            Report::Marked { .. } => Ok(()),
-            Report::Fault { .. } => Ok(()),
-            Report::Unfinished { .. } => Ok(()),
-        }
-    }
-
     fn tell<T: Sink>(
         &self,
         sink: &mut T,
@@ -84,9 +57,10 @@ impl<W: BlockWriter> ReportWriter for Blocks<W> {
         ending: Ending,
     ) -> Result<(), Fault> {
         match ending {
-            Ending::Whole { .. } => self.writer.put_read(sink, blocks, lock.gathered()),
+            Ending::Whole { .. } => self.writer.put(sink, blocks, lock.gathered()),
             Ending::Marked { .. } => Ok(()),
             Ending::Fault { .. } => Ok(()),
+            Ending::Unfinished { .. } => Ok(()),
         }
     }
 

@@ -64,9 +64,8 @@ impl<R: Reporter> Taker for Locked<R> {
     }
 
     fn finish<T: Sink>(&mut self, sink: &mut T) -> Result<(), Fault> {
-        let lock = std::mem::replace(&mut self.lock, Lock::new());
-        match lock.finish() {
-            Some(report) => match self.reporter.report(sink, &report) {
+        match self.lock.end() {
+            Some(ending) => match self.reporter.tell(sink, &self.lock, ending) {
                 Ok(()) => self.reporter.finish(sink),
                 Err(fault) => Err(fault),
             },

@@ -22,7 +22,7 @@ ghost use Rattle.aes3_engine.specs.BlockRuns.{file_block, normal_block, written_
 ghost use Rattle.aes3_engine.specs.ReportRuns.{counts_of};
 
 use crate::blocks::{BlockWriter, run_blocks};
-use aes3_block::{Block, GatheredCells, put_block, put_block_file, put_read_block};
+use aes3_block::{GatheredCells, put_block_file, put_read_block};
 use aes3_cell::{Counts, Fault, Form, Level, RunError, Sink, Source, put_ending};
 
 /// Writes blocks as cells in the normal polarity.
@@ -36,16 +36,7 @@ impl BlockWriter for NormalBlocks {
 
     ghost ends = { λ k. ending k.output };
 
-    fn put<T: Sink>(&self, sink: &mut T, _number: u64, block: &Block) -> Result<(), Fault> {
-        put_block(self.output, Level::Low, block, sink)
-    }
-
-    fn put_read<T: Sink>(
-        &self,
-        sink: &mut T,
-        _number: u64,
-        cells: &GatheredCells,
-    ) -> Result<(), Fault> {
+    fn put<T: Sink>(&self, sink: &mut T, _number: u64, cells: &GatheredCells) -> Result<(), Fault> {
         put_read_block(self.output, Level::Low, cells, sink)
     }
 
@@ -63,8 +54,8 @@ impl BlockWriter for FileBlocks {
 
     ghost ends = { λ _. [] };
 
-    fn put<T: Sink>(&self, sink: &mut T, _number: u64, block: &Block) -> Result<(), Fault> {
-        put_block_file(block, sink)
+    fn put<T: Sink>(&self, sink: &mut T, _number: u64, cells: &GatheredCells) -> Result<(), Fault> {
+        put_block_file(&cells.block(), sink)
     }
 
     fn put_end<T: Sink>(&self, _sink: &mut T) -> Result<(), Fault> {
@@ -85,23 +76,9 @@ impl BlockWriter for CutBlocks {
 
     ghost ends = { λ k. ending k.stream.output };
 
-    fn put<T: Sink>(&self, sink: &mut T, number: u64, block: &Block) -> Result<(), Fault> {
+    fn put<T: Sink>(&self, sink: &mut T, number: u64, cells: &GatheredCells) -> Result<(), Fault> {
         if number >= self.from && number - self.from < self.count {
-            self.stream.put(sink, number, block)
-        } else {
-            Ok(())
-        }
-    }
-
-    fn put_read<T: Sink>(
-        &self,
-        sink: &mut T,
-        number: u64,
-        cells: &GatheredCells,
-    ) -> Result<(), Fault> {
-        let from = self.from;
-        if number >= from && number - from < self.count {
-            self.stream.put_read(sink, number, cells)
+            self.stream.put(sink, number, cells)
         } else {
             Ok(())
         }

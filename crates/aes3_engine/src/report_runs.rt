@@ -12,7 +12,7 @@ use crate::reporter::Reporter;
 use crate::tally::Tally;
 use aes3_cell::{Counts, Fault, Form, RunError, Sink, Source};
 use aes3_input::drive;
-use aes3_lock::{Ending, Lock, Report};
+use aes3_lock::{Ending, Lock};
 
 /// Writes something of a report.
 pub trait ReportWriter {
@@ -20,17 +20,8 @@ pub trait ReportWriter {
 
     ghost ends: { Self → List ℕ };
 
-    /// Writes what it makes of a report behind `blocks` whole blocks.
-    ///
-    /// # Errors
-    /// The sink's fault; then it has taken a front of the bytes.
-    fn put<T: Sink>(&self, sink: &mut T, blocks: u64, report: &Report) -> Result<(), Fault>
-        requires room { T.failed sink.old + 1 < 2 ^ 64 }
-        ensures { Wrote T.taken T.failed sink.old sink.new
-            (writes self.now blocks report.now) result };
-
-    /// Writes what it makes of the report of an ending that a lock has just answered, as `put`
-    /// does. What needs no block makes none.
+    /// Writes what it makes of a report behind `blocks` whole blocks, that of an ending that a lock
+    /// has just answered. What needs no block makes none.
     ///
     /// # Errors
     /// The sink's fault; then it has taken a front of the bytes.
@@ -43,11 +34,7 @@ pub trait ReportWriter {
     ) -> Result<(), Fault>
         requires room { T.failed sink.old + 1 < 2 ^ 64 }
         ensures { Wrote T.taken T.failed sink.old sink.new
-            (writes self.now blocks (report_in lock.now ending)) result }
-    {
-        let told = lock.report(ending);
-        self.put(sink, blocks, &told)
-    }
+            (writes self.now blocks (report_in lock.now ending)) result };
 
     /// Writes what stands behind the last report.
     ///
@@ -85,20 +72,10 @@ impl<W: ReportWriter> Reporter for Counting<W> {
 
     ghost finished = { λ k. IsTallyOf k.tally };
 
-    fn report<T: Sink>(&mut self, sink: &mut T, report: &Report) -> Result<(), Fault> {
-        match self.writer.put(sink, self.tally.blocks, report) {
-            Ok(()) => {
-                self.tally.count(report);
-                Ok(())
-            }
-            Err(fault) => Err(fault),
-        }
-    }
-
     fn tell<T: Sink>(&mut self, sink: &mut T, lock: &Lock, ending: Ending) -> Result<(), Fault> {
         match self.writer.tell(sink, self.tally.blocks, lock, ending) {
             Ok(()) => {
-                self.tally.count_ending(lock, ending);
+                self.tally.count(lock, ending);
                 Ok(())
             }
             Err(fault) => Err(fault),

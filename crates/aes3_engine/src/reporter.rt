@@ -7,7 +7,7 @@ ghost use Rattle.aes3_lock.specs.Following.{report_in};
 ghost use Rattle.aes3_input.specs.Taking.{Writing};
 
 use aes3_cell::{Fault, Sink};
-use aes3_lock::{Ending, Lock, Report};
+use aes3_lock::{Ending, Lock};
 
 /// Takes the reports on cells one by one, and writes what it makes of them.
 ///
@@ -21,25 +21,8 @@ pub trait Reporter {
 
     ghost finished: { Self → List Report → Type 0 };
 
-    /// Takes one more report.
-    ///
-    /// # Errors
-    /// The sink's fault; then it has taken a front of what the report writes.
-    fn report<T: Sink>(&mut self, sink: &mut T, report: &Report) -> Result<(), Fault>
-        requires room { T.failed sink.old + 1 < 2 ^ 64 }
-        requires following { (r : List Report) × (length r + 1 < 2 ^ 44) × follows self.old r }
-        ensures next { IfOk result (λ _. (r : List Report) → follows self.old r
-            → follows self.new (r ++ report.now ∷ [])) }
-        ensures same { IfOk result (λ _. writes self.new ≡ writes self.old) }
-        ensures grew { IfOk result (λ _. (r : List Report) → follows self.old r
-            → Grew (T.taken sink.old) (T.taken sink.new) ((writes self.old).adds r report.now)) }
-        ensures count { IfOk result (λ _. T.failed sink.new ≡ T.failed sink.old) }
-        ensures err_count { OnErr result (T.failed sink.new ≡ T.failed sink.old + 1) }
-        ensures err_grew { OnErr result ((r : List Report) → follows self.old r
-            → GrewFront (T.taken sink.old) (T.taken sink.new) ((writes self.old).adds r report.now)) };
-
-    /// Takes the report of an ending that a lock has just answered, as `report` does. What needs no
-    /// block makes none.
+    /// Takes one more report, that of an ending that a lock has just answered. What needs no block
+    /// makes none.
     ///
     /// # Errors
     /// The sink's fault; then it has taken a front of what the report writes.
@@ -56,11 +39,7 @@ pub trait Reporter {
         ensures err_count { OnErr result (T.failed sink.new ≡ T.failed sink.old + 1) }
         ensures err_grew { OnErr result ((r : List Report) → follows self.old r
             → GrewFront (T.taken sink.old) (T.taken sink.new)
-            ((writes self.old).adds r (report_in lock.now ending))) }
-    {
-        let told = lock.report(ending);
-        self.report(sink, &told)
-    }
+            ((writes self.old).adds r (report_in lock.now ending))) };
 
     /// Takes the end of the reports.
     ///

@@ -13,7 +13,7 @@ ghost use Rattle.aes3_engine.specs.Rewriting.{mended, rewritten, rewritten_block
 ghost use Rattle.aes3_engine.specs.Rewriting.{set_settings, set_status};
 
 use crate::blocks::{BlockWriter, run_blocks};
-use aes3_block::{Block, Channel, put_block};
+use aes3_block::{Block, Channel, GatheredCells, put_block};
 use aes3_cell::{Counts, Fault, Form, Level, RunError, Sink, Source, put_ending};
 use aes3_status::{Change, SETTINGS, Setting, Status, set_fields, with_check};
 
@@ -74,8 +74,8 @@ impl BlockWriter for RewrittenBlocks {
 
     ghost ends = { λ k. ending k.output };
 
-    fn put<T: Sink>(&self, sink: &mut T, _number: u64, block: &Block) -> Result<(), Fault> {
-        let mut block = block.copy();
+    fn put<T: Sink>(&self, sink: &mut T, _number: u64, cells: &GatheredCells) -> Result<(), Fault> {
+        let mut block = cells.block();
         rewrite_block(&mut block, &self.change);
         put_block(self.output, Level::Low, &block, sink)
     }

@@ -15,7 +15,7 @@ ghost use Rattle.aes3_engine.specs.BlockRuns.{decided_blocks, sample_block, writ
 ghost use Rattle.aes3_engine.specs.ReportRuns.{counts_of};
 
 use crate::blocks::{BlockWriter, run_blocks};
-use aes3_block::{Block, put_block_samples};
+use aes3_block::{GatheredCells, put_block_samples};
 use aes3_cell::{Counts, Fault, Form, RunError, Sink, Source};
 
 /// Writes blocks as their samples.
@@ -27,8 +27,8 @@ impl BlockWriter for SampleBlocks {
 
     ghost ends = { λ _. [] };
 
-    fn put<T: Sink>(&self, sink: &mut T, _number: u64, block: &Block) -> Result<(), Fault> {
-        put_block_samples(block, sink)
+    fn put<T: Sink>(&self, sink: &mut T, _number: u64, cells: &GatheredCells) -> Result<(), Fault> {
+        put_block_samples(&cells.block(), sink)
     }
 
     fn put_end<T: Sink>(&self, _sink: &mut T) -> Result<(), Fault> {

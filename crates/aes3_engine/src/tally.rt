@@ -5,7 +5,7 @@ ghost use Rattle.aes3_lock.specs.declared.report.Report.{Report};
 ghost use Rattle.aes3_lock.specs.Following.{report_in};
 ghost use Rattle.aes3_engine.specs.ReportRuns.{IsTallyOf};
 
-use aes3_lock::{Ending, Lock, Report};
+use aes3_lock::{Ending, Lock};
 
 /// How many reports there were of whole blocks, of faulty ones, and of those that the end cuts.
 #[derive(Clone, Copy, PartialEq, Eq, Debug)]
@@ -27,22 +27,8 @@ impl Tally {
         }
     }
 
-    /// Counts a report.
-    pub fn count(&mut self, report: &Report)
-        requires { (r : List Report) × (length r + 1 < 2 ^ 44) × IsTallyOf self.old r }
-        ensures { (r : List Report) → IsTallyOf self.old r
-            → IsTallyOf self.new (r ++ report.now ∷ []) }
-    {
-        match report {
-            Report::Whole { .. } => self.blocks += 1,
-            Report::Marked { .. } => self.faults += 1,
-            Report::Fault { .. } => self.faults += 1,
-            Report::Unfinished { .. } => self.unfinished += 1,
-        }
-    }
-
     /// Counts the report of an ending that a lock has just answered.
-    pub fn count_ending(&mut self, lock: &Lock, ending: Ending)
+    pub fn count(&mut self, lock: &Lock, ending: Ending)
         requires { (r : List Report) × (length r + 1 < 2 ^ 44) × IsTallyOf self.old r }
         ensures { (r : List Report) → IsTallyOf self.old r
             → IsTallyOf self.new (r ++ report_in lock.now ending ∷ []) }
@@ -51,6 +37,7 @@ impl Tally {
             Ending::Whole { .. } => self.blocks += 1,
             Ending::Marked { .. } => self.faults += 1,
             Ending::Fault { .. } => self.faults += 1,
+            Ending::Unfinished { .. } => self.unfinished += 1,
         }
     }
 }

@@ -4,7 +4,7 @@ use Rattle.aes3_cell.specs.declared.level.Level.{Level}
 use Rattle.aes3_cell.specs.declared.level.Level.TheVariants.{Low}
 use Rattle.aes3_block.specs.Blocks.{block_len, stream}
 use Rattle.aes3_lock.specs.declared.report.Ending.{Ending}
-use Rattle.aes3_lock.specs.declared.report.Ending.TheVariants.{Whole as EndsWhole, Marked as EndsMarked, Fault as EndsFault}
+use Rattle.aes3_lock.specs.declared.report.Ending.TheVariants.{Whole as EndsWhole, Marked as EndsMarked, Fault as EndsFault, Unfinished as EndsUnfinished}
 use Rattle.aes3_lock.specs.declared.report.Report.{Report}
 use Rattle.aes3_lock.specs.declared.report.Report.TheVariants.{Whole, Marked, Fault, Unfinished}
 use Rattle.aes3_slot.specs.Preambles.{entry}
@@ -23,6 +23,7 @@ abbrev pub ending_report : List (List Bool) → Ending → Report
 ending_report slots (EndsWhole at s) = Whole at s (payloads_of slots)
 ending_report slots (EndsMarked at s wrong) = Marked at s wrong
 ending_report slots (EndsFault at cell why) = Fault at cell why
+ending_report slots (EndsUnfinished at cells) = Unfinished at cells
 
 abbrev pub told : ℕ → Option Outcome → List Report
 told at o = option_to_list (option_map (report_of at) o)

@@ -1,7 +1,7 @@
 //! The lock.
 use crate::candidate::Candidate;
 use crate::eight::{are_subframes, eight_completed};
-use crate::outcome::{ending_at, left_report, refutation, report_with};
+use crate::outcome::{ending_at, left_ending, refutation, report_with};
 use crate::parts::LockParts;
 use crate::recent::{PREAMBLE_CELLS, candidate_in, last_cell, with_cell};
 use crate::report::{Ending, Pushed, Report};
@@ -587,14 +587,26 @@ impl Lock {
         Some(self.report(ending))
     }
 
+    /// What the end of the cells makes of the candidate in hand, if there is one.
+    pub fn end(&self) -> Option<Ending>
+        ensures { (cells : List Level) → Follows self.now cells
+            → reports cells ≡ decided cells
+            ++ option_to_list (option_map (report_in self.now) result) }
+    {
+        let Some(candidate) = self.candidate else {
+            return None;
+        };
+        Some(left_ending(candidate, self.seen - candidate.at, &self.words))
+    }
+
     /// Takes the end of the cells, and answers the report that it decides.
     pub fn finish(self) -> Option<Report>
         ensures { (cells : List Level) → Follows self cells
             → reports cells ≡ decided cells ++ option_to_list result }
     {
-        let Some(candidate) = self.candidate else {
-            return None;
-        };
-        Some(left_report(candidate, self.seen - candidate.at, &self.words))
+        match self.end() {
+            Some(ending) => Some(self.report(ending)),
+            None => None,
+        }
     }
 }

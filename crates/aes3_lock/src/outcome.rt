@@ -43,6 +43,7 @@ pub(crate) fn report_with(ending: Ending, words: &GatheredCells) -> Report
         },
         Ending::Marked { at, before, wrong } => Report::Marked { at, before, wrong },
         Ending::Fault { at, cell, why } => Report::Fault { at, cell, why },
+        Ending::Unfinished { at, cells } => Report::Unfinished { at, cells },
     }
 }
 
@@ -91,14 +92,15 @@ pub(crate) fn ending_at(
     }
 }
 
-/// The report of a candidate of which no more than `cells` cells come.
-pub(crate) fn left_report(candidate: Candidate, cells: u64, words: &GatheredCells) -> Report
-    ensures { result ≡ report_of candidate.at (left candidate.before cells (read_words words.now)) }
+/// What the end makes of a candidate of which no more than `cells` cells come.
+pub(crate) fn left_ending(candidate: Candidate, cells: u64, words: &GatheredCells) -> Ending
+    ensures { ending_report (read_words words.now) result
+        ≡ report_of candidate.at (left candidate.before cells (read_words words.now)) }
 {
     if cells >= BLOCK_CELLS {
-        report_with(block_ending(candidate.at, candidate.before, words), words)
+        block_ending(candidate.at, candidate.before, words)
     } else {
-        Report::Unfinished {
+        Ending::Unfinished {
             at: candidate.at,
             cells,
         }

@@ -45,8 +45,8 @@ pub enum Report {
     },
 }
 
-/// What a cell makes of the candidate that it ends: its report without the block, which stands in
-/// the lock.
+/// What a cell, or the end of the cells, makes of the candidate that it ends: its report without the
+/// block, which stands in the lock.
 #[derive(Clone, Copy)]
 pub enum Ending {
     /// A whole block with right parity bits, and the level before its first cell.
@@ -55,6 +55,8 @@ pub enum Ending {
     Marked { at: u64, before: Level, wrong: u16 },
     /// `cell` is the first cell at which the cells from `at` on begin no block.
     Fault { at: u64, cell: u64, why: Why },
+    /// The cells end; those from `at` on, 8 to 24,575 `cells`, begin a block.
+    Unfinished { at: u64, cells: u64 },
 }
 
 /// What a lock took of the front of a word.

@@ -7,7 +7,7 @@ ghost use Rattle.aes3_lock.specs.Reports.{outcome_at, reports, told};
 ghost use Rattle.aes3_lock.specs.Following.{Filled};
 
 use crate::candidate::Candidate;
-use crate::outcome::{ending_at, left_report, report_with};
+use crate::outcome::{ending_at, left_ending, report_with};
 use crate::recent::{PREAMBLE_CELLS, candidate_in, with_cell};
 use crate::report::Report;
 use crate::rule::may_stand;
@@ -77,12 +77,12 @@ fn report_at(at: u64, cells: &[Level]) -> Option<Report>
     let (offset, previous) = go_through(candidate.before, cells, &mut words);
     let gathered = GatheredCells::of_words(&words);
     let place = offset as usize;
-    Some(if place < cells.len() {
-        let ending = ending_at(candidate, offset, cells[place], previous, &gathered);
-        report_with(ending, &gathered)
+    let ending = if place < cells.len() {
+        ending_at(candidate, offset, cells[place], previous, &gathered)
     } else {
-        left_report(candidate, offset, &gathered)
-    })
+        left_ending(candidate, offset, &gathered)
+    };
+    Some(report_with(ending, &gathered))
 }
 
 /// All reports of these cells, in order of place: every place is tried by itself.

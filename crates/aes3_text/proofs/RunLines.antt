@@ -2,7 +2,7 @@
 use Rattle.std.proofs.Common.{◌≡◌, ℕ, Bool, ◌+◌, List, [], ◌∷◌, ◌++◌, length, refl, ap, ◌∙◌, append-nil}
 use Rattle.aes3_cell.specs.declared.level.Level.{Level}
 use Rattle.aes3_lock.specs.declared.report.Ending.{Ending}
-use Rattle.aes3_lock.specs.declared.report.Ending.TheVariants.{Whole, Marked, Fault}
+use Rattle.aes3_lock.specs.declared.report.Ending.TheVariants.{Whole, Marked, Fault, Unfinished}
 use Rattle.aes3_lock.specs.declared.report.Report.{Report}
 use Rattle.aes3_lock.specs.Reports.{ending_report, reports, decided, wholes, blocks}
 use Rattle.aes3_engine.specs.ReportRuns.{output_from, output}
@@ -28,9 +28,11 @@ pub ending-told : (l : Lines) (e : Ending) (slots : List (List Bool)) → told_l
 ending-told All (Whole at s) slots = refl
 ending-told All (Marked at s wrong) slots = refl
 ending-told All (Fault at cell why) slots = refl
+ending-told All (Unfinished at cells) slots = refl
 ending-told Faults (Whole at s) slots = refl
 ending-told Faults (Marked at s wrong) slots = refl
 ending-told Faults (Fault at cell why) slots = refl
+ending-told Faults (Unfinished at cells) slots = refl
 
 pub show-whole : (c : List Level) → output (report_bytes channel_lines) (reports c) ++ [] ≡ status_lines (blocks c)
 unfolding blocks

@@ -7,6 +7,11 @@ use Rattle.aes3_cell.specs.Ends.{Grew, GrewFront}
 use Rattle.aes3_cell.proofs.Growing.{grew-is, front-is}
 use Rattle.aes3_block.specs.declared.status.Channel.TheVariants.{First, Second}
 use Rattle.aes3_block.specs.Statuses.{status_of}
+use Rattle.aes3_slot.specs.ReadWords.{read_words}
+use Rattle.aes3_lock.specs.declared.report.Ending.{Ending}
+use Rattle.aes3_lock.specs.declared.report.Ending.TheVariants.{Whole as EndsWhole}
+use Rattle.aes3_lock.specs.Following.{LockState, report_in}
+use Rattle.aes3_lock.specs.Outcomes.{payloads_of}
 use Rattle.aes3_lock.specs.declared.report.Report.{Report}
 use Rattle.aes3_lock.specs.declared.report.Report.TheVariants.{Whole, Marked, Fault, Unfinished}
 use Rattle.aes3_lock.specs.Reports.{blocks, decided, reports, wholes}
@@ -66,6 +71,11 @@ with-cells c = with-reports changing c ∙ with-changes (reports c)
 pub nothing-decided : (P : List Report → Type 0) → P [] → P (decided [])
 unfolding decided
 nothing-decided P h = h
+
+-- the report of a lock's whole block
+pub told-whole : (k : LockState) {e : Ending} {at : ℕ} {l : Level} {words : List ℕ} {b : List (List Bool)} → e ≡ EndsWhole at l → words ≡ k.words → b ≡ payloads_of (read_words words)
+    → report_in k e ≡ Whole at l b
+told-whole k {at = at} {l = l} p q r = ap (report_in k) p ∙ ap (λ w. Whole at l (payloads_of (read_words w))) (sym q) ∙ ap (Whole at l) (sym r)
 
 -- the statuses that are kept
 pub whole-last : (result : Result (Unit {0}) device.Fault) (x : Report) {at : ℕ} {l : Level} {b : List (List Bool)} (f s f' s' : Option (List ℕ)) → x ≡ Whole at l b

@@ -48,10 +48,7 @@ impl Taker for Accountant {
         let pushed = self.lock.push_front(word, len);
         let seen = self.lock.seen();
         match pushed.ending {
-            Some(ending) => {
-                let told = self.lock.report(ending);
-                self.ledger.take(sink, &told, seen)?;
-            }
+            Some(ending) => self.ledger.take(sink, &self.lock, ending, seen)?,
             None => self.ledger.pass(sink, seen)?,
         }
         Ok(pushed.taken)
@@ -72,10 +69,9 @@ impl Taker for Accountant {
     }
 
     fn finish<T: Sink>(&mut self, sink: &mut T) -> Result<(), Fault> {
-        let lock = std::mem::replace(&mut self.lock, Lock::new());
-        let seen = lock.seen();
-        match lock.finish() {
-            Some(report) => self.ledger.close_with(sink, &report, seen)?,
+        let seen = self.lock.seen();
+        match self.lock.end() {
+            Some(ending) => self.ledger.close_with(sink, &self.lock, ending, seen)?,
             None => self.ledger.close(sink, seen)?,
         }
         Ok(())

@@ -6,6 +6,7 @@ ghost use Rattle.aes3_cell.specs.Ends.{Grew, GrewFront, Told};
 ghost use Rattle.aes3_cell.specs.Writes.{Wrote};
 ghost use Rattle.aes3_block.specs.Statuses.{status_of};
 ghost use Rattle.aes3_block.specs.declared.status.Channel.TheVariants as channel;
+ghost use Rattle.aes3_lock.specs.Following.{report_in};
 ghost use Rattle.aes3_lock.specs.Reports.{blocks, wholes};
 ghost use Rattle.aes3_input.specs.Driving.{CellRun};
 ghost use Rattle.aes3_input.specs.Inputs.{cells_of};
@@ -19,7 +20,7 @@ use aes3_block::{Block, Channel};
 use aes3_cell::{Counts, Fault, Form, RunError, Sink, Source};
 use aes3_engine::{Locked, Reporter, Tally, drive};
 use aes3_lines::line_of_status;
-use aes3_lock::{Ending, Lock, Report};
+use aes3_lock::{Ending, Lock};
 
 /// Writes the line of a channel's status in block `number`, unless it is the one before it.
 #[tactic(auto, unfolding(crate::specs::Runs::change_line))]
@@ -98,26 +99,26 @@ impl ChangeLines {
     ///
     /// # Errors
     /// The sink's fault; then it has taken a front of the lines.
-    fn put<T: Sink>(&mut self, sink: &mut T, report: &Report) -> Result<(), Fault>
+    fn put<T: Sink>(&mut self, sink: &mut T, lock: &Lock, ending: Ending) -> Result<(), Fault>
         requires room { T.failed sink.old + 1 < 2 ^ 64 }
         ensures tally { self.new.tally ≡ self.old.tally }
         ensures last { IfOk result (λ _. (bs : List (List (List Bool)))
             → AreLast self.old.first self.old.second bs
-            → AreLast self.new.first self.new.second (bs ++ wholes (report.now ∷ []))) }
+            → AreLast self.new.first self.new.second (bs ++ wholes (report_in lock.now ending ∷ []))) }
         ensures lines { IfOk result (λ _. (bs : List (List (List Bool)))
             → AreLast self.old.first self.old.second bs → self.old.tally.blocks ≡ length bs
-            → Grew (T.taken sink.old) (T.taken sink.new) (report_changes bs report.now)) }
+            → Grew (T.taken sink.old) (T.taken sink.new) (report_changes bs (report_in lock.now ending))) }
         ensures count { IfOk result (λ _. T.failed sink.new ≡ T.failed sink.old) }
         ensures err_count { OnErr result (T.failed sink.new ≡ T.failed sink.old + 1) }
         ensures err_lines { OnErr result ((bs : List (List (List Bool)))
             → AreLast self.old.first self.old.second bs → self.old.tally.blocks ≡ length bs
-            → GrewFront (T.taken sink.old) (T.taken sink.new) (report_changes bs report.now)) }
+            → GrewFront (T.taken sink.old) (T.taken sink.new) (report_changes bs (report_in lock.now ending))) }
     {
-        match report {
-            Report::Whole { block, .. } => self.put_block(sink, block),
-            Report::Marked { .. } => Ok(()),
-            Report::Fault { .. } => Ok(()),
-            Report::Unfinished { .. } => Ok(()),
+        match ending {
+            Ending::Whole { .. } => self.put_block(sink, &lock.gathered().block()),
+            Ending::Marked { .. } => Ok(()),
+            Ending::Fault { .. } => Ok(()),
+            Ending::Unfinished { .. } => Ok(()),
         }
     }
 }
@@ -130,30 +131,13 @@ impl Reporter for ChangeLines {
 
     ghost finished = { λ k. Tallies k.tally.blocks k.tally.faults k.tally.unfinished };
 
-    fn report<T: Sink>(&mut self, sink: &mut T, report: &Report) -> Result<(), Fault> {
-        match self.put(sink, report) {
+    fn tell<T: Sink>(&mut self, sink: &mut T, lock: &Lock, ending: Ending) -> Result<(), Fault> {
+        match self.put(sink, lock, ending) {
             Ok(()) => {
-                self.tally.count(report);
+                self.tally.count(lock, ending);
                 Ok(())
             }
             Err(fault) => Err(fault),
-        }
-    }
-
-    fn tell<T: Sink>(&mut self, sink: &mut T, lock: &Lock, ending: Ending) -> Result<(), Fault> {
-        match ending {
-            Ending::Whole { .. } => {
-                let told = lock.report(ending);
-                self.report(sink, &told)
-            }
-            Ending::Marked { .. } => {
-                self.tally.count_ending(lock, ending);
-                Ok(())
-            }
-            Ending::Fault { .. } => {
-                self.tally.count_ending(lock, ending);
-                Ok(())
-            }
         }
     }
 

@@ -10,11 +10,11 @@ ghost use Rattle.aes3_engine.specs.ReportRuns.{counts_of};
 ghost use Rattle.aes3_text.specs.Lines.{told_line};
 ghost use Rattle.aes3_text.specs.Runs.{report_lines};
 
-use crate::report::{tell_ending, tell_report};
+use crate::report::tell_ending;
 use aes3_cell::{Counts, Fault, Form, RunError, Sink, Source};
 use aes3_engine::{ReportWriter, run_reports};
 use aes3_lines::Lines;
-use aes3_lock::{Ending, Lock, Report};
+use aes3_lock::{Ending, Lock};
 
 /// Writes the line of each report that gets one.
 #[derive(Drop)]
@@ -26,10 +26,6 @@ impl ReportWriter for ReportLines {
     ghost writes = { λ k _. told_line k.lines };
 
     ghost ends = { λ _. [] };
-
-    fn put<T: Sink>(&self, sink: &mut T, _blocks: u64, report: &Report) -> Result<(), Fault> {
-        tell_report(self.lines, report, sink)
-    }
 
     fn tell<T: Sink>(
         &self,

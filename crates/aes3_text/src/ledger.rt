@@ -7,6 +7,7 @@ ghost use Rattle.aes3_cell.specs.declared.level.Level.{Level};
 ghost use Rattle.aes3_cell.specs.Ends.{Grew, GrewFront};
 ghost use Rattle.aes3_cell.specs.Writes.{Wrote};
 ghost use Rattle.aes3_lock.specs.declared.report.Report.{Report};
+ghost use Rattle.aes3_lock.specs.Following.{report_in};
 ghost use Rattle.aes3_lock.specs.Remains.{place_of};
 ghost use Rattle.aes3_lock.specs.Reports.{decided, reports};
 ghost use Rattle.aes3_input.specs.Taking.{behind};
@@ -17,11 +18,11 @@ ghost use Rattle.aes3_text.specs.Runs.{AtEnd, IsClosedLedgerOf, IsLedgerOf, Wher
 ghost use Rattle.aes3_text.specs.Runs.{WhereNone, account_lines, accounting};
 
 use crate::gap::line_of_gap;
-use crate::report::tell_report;
+use crate::report::tell_ending;
 use aes3_cell::{Fault, Sink};
 use aes3_engine::Tally;
 use aes3_lines::Lines;
-use aes3_lock::Report;
+use aes3_lock::{Ending, Lock};
 
 /// How many cells a block has (AES3-3).
 const BLOCK_CELLS: u64 = 24_576;
@@ -123,31 +124,36 @@ impl Ledger {
     ///
     /// # Errors
     /// The sink's fault; then it has taken a front of their lines.
-    fn tell_before<T: Sink>(&mut self, sink: &mut T, report: &Report) -> Result<(), Fault>
+    fn tell_before<T: Sink>(
+        &mut self,
+        sink: &mut T,
+        lock: &Lock,
+        ending: Ending,
+    ) -> Result<(), Fault>
         requires room { T.failed sink.old + 1 < 2 ^ 64 }
-        requires few { self.old.lost + place_of report.now + 1 < 2 ^ 64 }
-        requires near { place_of report.now ≤ 2 ^ 43 }
+        requires few { self.old.lost + place_of (report_in lock.now ending) + 1 < 2 ^ 64 }
+        requires near { place_of (report_in lock.now ending) ≤ 2 ^ 43 }
         ensures lines { self.new.lines ≡ self.old.lines }
         ensures tally { self.new.tally ≡ self.old.tally }
-        ensures place { IfOk result (λ _. self.new.place ≡ behind_report self.old.place report.now) }
+        ensures place { IfOk result (λ _. self.new.place ≡ behind_report self.old.place (report_in lock.now ending)) }
         ensures lost { IfOk result (λ _. self.new.lost
             ≡ self.old.lost + length (filter is_lost
-            (gaps_before self.old.tally.blocks self.old.place report.now))) }
-        ensures few { IfOk result (λ _. self.new.lost ≤ self.old.lost + place_of report.now + 1) }
+            (gaps_before self.old.tally.blocks self.old.place (report_in lock.now ending)))) }
+        ensures few { IfOk result (λ _. self.new.lost ≤ self.old.lost + place_of (report_in lock.now ending) + 1) }
         ensures wrote { Wrote T.taken T.failed sink.old sink.new
             (account_lines self.old.lines
-            (gaps_before self.old.tally.blocks self.old.place report.now)) result }
+            (gaps_before self.old.tally.blocks self.old.place (report_in lock.now ending))) result }
     {
-        match report {
-            Report::Whole { at, .. } => {
+        match ending {
+            Ending::Whole { at, .. } => {
                 let behind_first = self.tally.blocks > 0;
-                self.tell_gaps(sink, *at, behind_first)?;
-                self.place = *at + BLOCK_CELLS;
+                self.tell_gaps(sink, at, behind_first)?;
+                self.place = at + BLOCK_CELLS;
                 Ok(())
             }
-            Report::Marked { at, .. } => self.tell_full(sink, *at),
-            Report::Fault { at, .. } => self.tell_full(sink, *at),
-            Report::Unfinished { at, .. } => self.tell_full(sink, *at),
+            Ending::Marked { at, .. } => self.tell_full(sink, at),
+            Ending::Fault { at, .. } => self.tell_full(sink, at),
+            Ending::Unfinished { at, .. } => self.tell_full(sink, at),
         }
     }
 
@@ -155,27 +161,27 @@ impl Ledger {
     ///
     /// # Errors
     /// The sink's fault; then it has taken a front of their lines.
-    fn tell<T: Sink>(&mut self, sink: &mut T, report: &Report) -> Result<(), Fault>
+    fn tell<T: Sink>(&mut self, sink: &mut T, lock: &Lock, ending: Ending) -> Result<(), Fault>
         requires room { T.failed sink.old + 1 < 2 ^ 64 }
-        requires few { self.old.lost + place_of report.now + 1 < 2 ^ 64 }
-        requires near { place_of report.now ≤ 2 ^ 43 }
+        requires few { self.old.lost + place_of (report_in lock.now ending) + 1 < 2 ^ 64 }
+        requires near { place_of (report_in lock.now ending) ≤ 2 ^ 43 }
         requires tally { (r : List Report) × (length r + 1 < 2 ^ 44) × IsTallyOf self.old.tally r }
         ensures lines { self.new.lines ≡ self.old.lines }
         ensures tally { IfOk result (λ _. (r : List Report) → IsTallyOf self.old.tally r
-            → IsTallyOf self.new.tally (r ++ report.now ∷ [])) }
-        ensures place { IfOk result (λ _. self.new.place ≡ behind_report self.old.place report.now) }
+            → IsTallyOf self.new.tally (r ++ (report_in lock.now ending) ∷ [])) }
+        ensures place { IfOk result (λ _. self.new.place ≡ behind_report self.old.place (report_in lock.now ending)) }
         ensures lost { IfOk result (λ _. self.new.lost
             ≡ self.old.lost + length (filter is_lost
-            (gaps_before self.old.tally.blocks self.old.place report.now))) }
-        ensures few { IfOk result (λ _. self.new.lost ≤ self.old.lost + place_of report.now + 1) }
+            (gaps_before self.old.tally.blocks self.old.place (report_in lock.now ending)))) }
+        ensures few { IfOk result (λ _. self.new.lost ≤ self.old.lost + place_of (report_in lock.now ending) + 1) }
         ensures wrote { Wrote T.taken T.failed sink.old sink.new
             (account_lines self.old.lines
-            (gaps_before self.old.tally.blocks self.old.place report.now
-            ++ reported report.now ∷ [])) result }
+            (gaps_before self.old.tally.blocks self.old.place (report_in lock.now ending)
+            ++ reported (report_in lock.now ending) ∷ [])) result }
     {
-        self.tell_before(sink, report)?;
-        tell_report(self.lines, report, sink)?;
-        self.tally.count(report);
+        self.tell_before(sink, lock, ending)?;
+        tell_ending(self.lines, ending, sink)?;
+        self.tally.count(lock, ending);
         Ok(())
     }
 
@@ -209,25 +215,26 @@ impl Ledger {
     pub(crate) fn take<T: Sink>(
         &mut self,
         sink: &mut T,
-        report: &Report,
+        lock: &Lock,
+        ending: Ending,
         seen: u64,
     ) -> Result<(), Fault>
         requires room { T.failed sink.old + 1 < 2 ^ 64 }
         requires following { (c d : List Level) × (seen ≤ 2 ^ 43) × (seen ≡ length (c ++ d))
-            × (decided (c ++ d) ≡ decided c ++ report.now ∷ [])
+            × (decided (c ++ d) ≡ decided c ++ (report_in lock.now ending) ∷ [])
             × IsLedgerOf self.old c }
         ensures lines { self.new.lines ≡ self.old.lines }
-        ensures next { IfOk result (λ _. WhereDecided self.old seen report.now
+        ensures next { IfOk result (λ _. WhereDecided self.old seen (report_in lock.now ending)
             (λ c d. IsLedgerOf self.new (c ++ d))) }
-        ensures grew { IfOk result (λ _. WhereDecided self.old seen report.now (λ c d.
+        ensures grew { IfOk result (λ _. WhereDecided self.old seen (report_in lock.now ending) (λ c d.
             Grew (T.taken sink.old) (T.taken sink.new) (behind (accounting self.old.lines) c d))) }
         ensures count { IfOk result (λ _. T.failed sink.new ≡ T.failed sink.old) }
         ensures err_count { OnErr result (T.failed sink.new ≡ T.failed sink.old + 1) }
-        ensures err_grew { OnErr result (WhereDecided self.old seen report.now (λ c d.
+        ensures err_grew { OnErr result (WhereDecided self.old seen (report_in lock.now ending) (λ c d.
             GrewFront (T.taken sink.old) (T.taken sink.new)
             (behind (accounting self.old.lines) c d))) }
     {
-        self.tell(sink, report)?;
+        self.tell(sink, lock, ending)?;
         self.tell_full(sink, seen.saturating_sub(BLOCK_CELLS))?;
         Ok(())
     }
@@ -259,23 +266,24 @@ impl Ledger {
     pub(crate) fn close_with<T: Sink>(
         &mut self,
         sink: &mut T,
-        report: &Report,
+        lock: &Lock,
+        ending: Ending,
         seen: u64,
     ) -> Result<(), Fault>
         requires room { T.failed sink.old + 1 < 2 ^ 64 }
         requires following { (c : List Level) × (seen ≤ 2 ^ 43) × (seen ≡ length c)
-            × (reports c ≡ decided c ++ report.now ∷ [])
+            × (reports c ≡ decided c ++ (report_in lock.now ending) ∷ [])
             × IsLedgerOf self.old c }
-        ensures done { IfOk result (λ _. AtEnd self.old seen (report.now ∷ [])
+        ensures done { IfOk result (λ _. AtEnd self.old seen ((report_in lock.now ending) ∷ [])
             (IsClosedLedgerOf self.new)) }
-        ensures grew { IfOk result (λ _. AtEnd self.old seen (report.now ∷ []) (λ c.
+        ensures grew { IfOk result (λ _. AtEnd self.old seen ((report_in lock.now ending) ∷ []) (λ c.
             Grew (T.taken sink.old) (T.taken sink.new) ((accounting self.old.lines).ends c))) }
         ensures count { IfOk result (λ _. T.failed sink.new ≡ T.failed sink.old) }
         ensures err_count { OnErr result (T.failed sink.new ≡ T.failed sink.old + 1) }
-        ensures err_grew { OnErr result (AtEnd self.old seen (report.now ∷ []) (λ c.
+        ensures err_grew { OnErr result (AtEnd self.old seen ((report_in lock.now ending) ∷ []) (λ c.
             GrewFront (T.taken sink.old) (T.taken sink.new) ((accounting self.old.lines).ends c))) }
     {
-        self.tell(sink, report)?;
+        self.tell(sink, lock, ending)?;
         self.tell_gaps(sink, seen, false)?;
         Ok(())
     }

@@ -51,19 +51,13 @@ fn put_ending(line: &mut Tail, ending: Ending)
             line.number(at);
             line.text(b"fault at ");
         }
+        Ending::Unfinished { at, cells } => {
+            line.number(cells);
+            line.text(b" cells ");
+            line.number(at);
+            line.text(b"unfinished at ");
+        }
     }
-}
-
-/// Makes the line of a begun block that the end of the cells cuts.
-fn put_begun(line: &mut Tail, at: u64, cells: u64)
-    requires none { line.old ≡ [] }
-    ensures { line.new ≡ report_line (Report.Unfinished at cells) }
-{
-    line.text(b"\n");
-    line.number(cells);
-    line.text(b" cells ");
-    line.number(at);
-    line.text(b"unfinished at ");
 }
 
 /// Makes the line of a report.
@@ -95,7 +89,13 @@ fn put_report(line: &mut Tail, report: &Report)
                 why: *why,
             },
         ),
-        Report::Unfinished { at, cells } => put_begun(line, *at, *cells),
+        Report::Unfinished { at, cells } => put_ending(
+            line,
+            Ending::Unfinished {
+                at: *at,
+                cells: *cells,
+            },
+        ),
     }
 }
 
@@ -126,25 +126,6 @@ pub fn line_of_report<T: Sink>(report: &Report, sink: &mut T) -> Result<(), Faul
     line.hand_on(sink)
 }
 
-/// Writes the line of a report where it gets one.
-///
-/// # Errors
-/// The sink's fault; then it has taken a front of the line.
-pub(crate) fn tell_report<T: Sink>(lines: Lines, report: &Report, sink: &mut T) -> Result<(), Fault>
-    requires room { T.failed sink.old + 1 < 2 ^ 64 }
-    ensures { Wrote T.taken T.failed sink.old sink.new (told_line lines report.now) result }
-{
-    match lines {
-        Lines::All => line_of_report(report, sink),
-        Lines::Faults => match report {
-            Report::Whole { .. } => Ok(()),
-            Report::Marked { .. } => line_of_report(report, sink),
-            Report::Fault { .. } => line_of_report(report, sink),
-            Report::Unfinished { .. } => line_of_report(report, sink),
-        },
-    }
-}
-
 /// Writes the line of the report of an ending where it gets one.
 ///
 /// # Errors
@@ -160,6 +141,7 @@ pub(crate) fn tell_ending<T: Sink>(lines: Lines, ending: Ending, sink: &mut T) -
             Ending::Whole { .. } => Ok(()),
             Ending::Marked { .. } => line_of_ending(ending, sink),
             Ending::Fault { .. } => line_of_ending(ending, sink),
+            Ending::Unfinished { .. } => line_of_ending(ending, sink),
         },
     }
 }

@@ -11,7 +11,7 @@ ghost use Rattle.aes3_engine.specs.BlockRuns.{decided_blocks};
 ghost use Rattle.aes3_engine.specs.ReportRuns.{counts_of};
 ghost use Rattle.aes3_text.specs.Runs.{channel_line, channel_lines, status_lines};
 
-use aes3_block::{Block, Channel};
+use aes3_block::{Block, Channel, GatheredCells};
 use aes3_cell::{Counts, Fault, Form, RunError, Sink, Source};
 use aes3_engine::{BlockWriter, run_blocks};
 use aes3_lines::line_of_status;
@@ -32,6 +32,17 @@ fn put_channel<T: Sink>(
     line_of_status(number, channel, &status, sink)
 }
 
+/// Writes the lines of a block's two channels.
+fn put_channels<T: Sink>(number: u64, block: &Block, sink: &mut T) -> Result<(), Fault>
+    requires room { T.failed sink.old + 1 < 2 ^ 64 }
+    ensures { Wrote T.taken T.failed sink.old sink.new (channel_lines number block.now) result }
+{
+    match put_channel(Channel::First, number, block, sink) {
+        Ok(()) => put_channel(Channel::Second, number, block, sink),
+        Err(fault) => Err(fault),
+    }
+}
+
 /// Writes the channel status of each block.
 #[derive(Drop)]
 struct ChannelLines;
@@ -41,11 +52,8 @@ impl BlockWriter for ChannelLines {
 
     ghost ends = { λ _. [] };
 
-    fn put<T: Sink>(&self, sink: &mut T, number: u64, block: &Block) -> Result<(), Fault> {
-        match put_channel(Channel::First, number, block, sink) {
-            Ok(()) => put_channel(Channel::Second, number, block, sink),
-            Err(fault) => Err(fault),
-        }
+    fn put<T: Sink>(&self, sink: &mut T, number: u64, cells: &GatheredCells) -> Result<(), Fault> {
+        put_channels(number, &cells.block(), sink)
     }
 
     fn put_end<T: Sink>(&self, _sink: &mut T) -> Result<(), Fault> {

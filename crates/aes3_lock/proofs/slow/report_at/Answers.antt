@@ -1,5 +1,6 @@
 use Rattle.std.proofs.Common.{[], ◌∷◌, take, sym, ap, subst, ◌∙◌, arith}
-use Rattle.aes3_lock.specs.Reports.{told, report_of}
+use Rattle.aes3_slot.specs.ReadWords.{read_words}
+use Rattle.aes3_lock.specs.Reports.{ending_report, told, report_of}
 use Rattle.aes3_lock.specs.Steps.{begun}
 use Rattle.aes3_lock.specs.Following.{Filled}
 use Rattle.aes3_lock.proofs.Walking.{outcome_at-short, outcome_at-none, outcome_at-some, place-ended, place-left}
@@ -22,10 +23,10 @@ returns c =
           (place-ended c.args.cells.now c.in-Some.begun.before c.of_words-gathered.result c.go_through-offset.result.0 c.go_through-offset.result.1 e.1
           c.go_through-offset.ensures.front c.go_through-offset.ensures.last (subst (λ ws. Filled ws (take c.go_through-offset.result.0 c.args.cells.now)) (sym c.of_words-gathered.ensures.words) c.go_through-offset.ensures.words)
           c.of_words-gathered.ensures.len (omega arith))
-          ∙ sym (w.report_with.ensures ∙ w.ending_at-ending.ensures) ∙ sym w.result-is
+          ∙ sym (ap (ending_report (read_words c.of_words-gathered.result)) w.ending-is ∙ w.ending_at-ending.ensures)
       | else-place-cells w ↦ ap (report_of c.args.at)
           (place-left c.args.cells.now c.in-Some.begun.before c.of_words-gathered.result c.go_through-offset.result.0 c.go_through-offset.result.1 e.1
           c.go_through-offset.ensures.front c.go_through-offset.ensures.last (subst (λ ws. Filled ws (take c.go_through-offset.result.0 c.args.cells.now)) (sym c.of_words-gathered.ensures.words) c.go_through-offset.ensures.words)
           c.of_words-gathered.ensures.len (omega arith))
-          ∙ sym w.left_report.ensures ∙ sym w.result-is
-    ]))
+          ∙ sym (ap (ending_report (read_words c.of_words-gathered.result)) w.ending-is ∙ w.left_ending-ending.ensures)
+    ] ∙ sym c.report_with.ensures))

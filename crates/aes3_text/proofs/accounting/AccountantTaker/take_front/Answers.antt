@@ -1,4 +1,4 @@
-use Rattle.std.proofs.Common.{◌-◌, ◌/◌, ◌^◌, ◌++◌, ◌∷◌, [], sym, ap, ◌∙◌}
+use Rattle.std.proofs.Common.{◌-◌, ◌/◌, ◌^◌, ◌++◌, sym, ap, ◌∙◌}
 use Rattle.std.specs.Prelude.{option_to_list, option_map}
 use Rattle.std.proofs.lemmas.Result.{err_from_is_err_and}
 use Rattle.aes3_cell.specs.Words.{low_cells}
@@ -19,7 +19,7 @@ returns-in_err-take-in-Some g c =
     let d = low_cells n c.args.word in
     let rest = low_cells (c.args.len - n) (c.args.word / 2 ^ n) in
     let w = accounting c.args.self.now.ledger.lines in
-    let told = ap (λ o. option_to_list (option_map (report_in k) o)) c.in-Some.is ∙ ap (λ r. r ∷ []) (sym c.report-told.ensures) in
+    let told = ap (λ o. option_to_list (option_map (report_in k) o)) c.in-Some.is in
     let q = err_from_is_err_and c.from_residual.result c.from_residual.ensures.1 in
     record {
       ran = rw q.1 (

@@ -1,26 +1,18 @@
-use Rattle.std.proofs.Common.{ap, sym, refl, ◌∙◌, ◌∷◌, []}
-use Rattle.aes3_slot.specs.ReadWords.{read_words}
+use Rattle.std.proofs.Common.{sym, subst}
 use Rattle.aes3_lock.specs.Following.{report_in}
-use Rattle.aes3_lock.specs.Reports.{ending_report, wholes}
-use Rattle.aes3_cell.proofs.Growing.{grew-is, grew-none}
-use Rattle.aes3_text.specs.Runs.{report_changes}
-use Rattle.aes3_text.proofs.StatusChanges.{adds-is, next-changes, other-last}
+use Rattle.aes3_lock.specs.Reports.{wholes}
+use Rattle.aes3_engine.specs.ReportRuns.{Tallies}
+use Rattle.aes3_cell.proofs.Growing.{grew-is, front-is}
+use Rattle.aes3_text.proofs.StatusChanges.{adds-is, next-changes}
 use Rattle.aes3_text.proofs.changing.ChangeLinesReporter.tell.Goals as goal
 
-pub returns-in-Marked-clause-next : goal.returns-in-Marked-clause-next
-returns-in-Marked-clause-next g c = λ r h.
-    let x = report_in c.args.lock.now c.args.ending in
-    next-changes r x (other-last x (wholes r) (ap (λ e. wholes (ending_report (read_words c.args.lock.now.words) e ∷ [])) c.in-Marked.is) h.last) (c.count_ending.ensures r h.tally)
+pub returns-in-Ok-clause-next : goal.returns-in-Ok-clause-next
+returns-in-Ok-clause-next g c = λ r h.
+    next-changes r (report_in c.args.lock.now c.args.ending) (c.in-Ok.ensures.last (wholes r) h.last)
+    (c.count.ensures r (subst (λ t. Tallies t.blocks t.faults t.unfinished r) (sym c.put.ensures.tally) h.tally))
 
-pub returns-in-Marked-clause-grew : goal.returns-in-Marked-clause-grew
-returns-in-Marked-clause-grew g c = λ r h.
-    grew-is (sym (ap (λ e. report_changes (wholes r) (ending_report (read_words c.args.lock.now.words) e)) c.in-Marked.is) ∙ adds-is r (report_in c.args.lock.now c.args.ending)) (grew-none refl)
+pub returns-in-Ok-clause-grew : goal.returns-in-Ok-clause-grew
+returns-in-Ok-clause-grew g c = λ r h. grew-is (adds-is r (report_in c.args.lock.now c.args.ending)) (c.in-Ok.ensures.lines (wholes r) h.last h.tally.blocks_is)
 
-pub returns-in-Fault-clause-next : goal.returns-in-Fault-clause-next
-returns-in-Fault-clause-next g c = λ r h.
-    let x = report_in c.args.lock.now c.args.ending in
-    next-changes r x (other-last x (wholes r) (ap (λ e. wholes (ending_report (read_words c.args.lock.now.words) e ∷ [])) c.in-Fault.is) h.last) (c.count_ending-in-Fault.ensures r h.tally)
-
-pub returns-in-Fault-clause-grew : goal.returns-in-Fault-clause-grew
-returns-in-Fault-clause-grew g c = λ r h.
-    grew-is (sym (ap (λ e. report_changes (wholes r) (ending_report (read_words c.args.lock.now.words) e)) c.in-Fault.is) ∙ adds-is r (report_in c.args.lock.now c.args.ending)) (grew-none refl)
+pub returns-in-Err-clause-err_grew : goal.returns-in-Err-clause-err_grew
+returns-in-Err-clause-err_grew g c = λ r h. front-is (adds-is r (report_in c.args.lock.now c.args.ending)) (c.in-Err.ensures.err_lines (wholes r) h.last h.tally.blocks_is)
