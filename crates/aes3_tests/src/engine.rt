@@ -7,8 +7,6 @@ use aes3_cell::{
     Counts, EndlessSource, FailingSource, Form, MemorySink, MemorySource, RunError, StdSink,
 };
 use aes3_engine::cut;
-use aes3_job::Job;
-use aes3_runner::run_job;
 use std::alloc::{AllocError, Global};
 use std::io::BufWriter;
 use std::test::Fail;
@@ -60,27 +58,6 @@ fn packed_of(alloc: Global, lines: usize, end: &[u8]) -> Result<Vec<u8>, AllocEr
     }
     octets.extend_from_slice(end)?;
     Ok(octets)
-}
-
-#[test]
-fn samples_of_a_line(rt: HostRuntime) -> Result<(), Fail> {
-    let mut file = Vec::new(rt.alloc());
-    let mut samples = Vec::new(rt.alloc());
-    for _ in 0..384 {
-        // Audio 1 in slot 4, and its parity bit.
-        file.extend_from_slice(&[0x10, 0, 0, 0x80])?;
-        samples.extend_from_slice(&[0, 1, 0, 0])?;
-    }
-    for form in [Form::Text, Form::Packed] {
-        let mut line = MemorySink::new(rt.alloc());
-        let mut source = MemorySource::new(&file, 4_096);
-        assert!(rt; run_job(&Job::Encode { output: form }, &mut source, &mut line).is_ok());
-        let mut pcm = MemorySink::new(rt.alloc());
-        let mut source = MemorySource::new(line.bytes(), 4_096);
-        assert!(rt; run_job(&Job::ToPcm { input: form }, &mut source, &mut pcm).is_ok());
-        assert!(rt; pcm.bytes() == samples.as_slice());
-    }
-    Ok(())
 }
 
 /// The first cells of a text, in lines of so many, with one separator behind every eight and

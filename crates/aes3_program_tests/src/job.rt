@@ -5,7 +5,7 @@ ghost use Rattle.std.specs.Prelude.{◌<◌};
 use aes3_cell::{Form, MemorySink, MemorySource};
 use aes3_engine::Change;
 use aes3_job::{Job, Nobody};
-use aes3_runner::finish_job;
+use aes3_runner::{finish_job, run_job};
 use aes3_text::Lines;
 use std::alloc::{AllocError, Global};
 use std::process::Abort;
@@ -152,5 +152,26 @@ fn cells(rt: HostRuntime) -> Result<(), Fail> {
         (MENDED, &text, &text, b"", 0),
     ];
     expect_rows(&rt, rt.alloc(), &rows);
+    Ok(())
+}
+
+#[test]
+fn samples_of_a_line(rt: HostRuntime) -> Result<(), Fail> {
+    let mut file = Vec::new(rt.alloc());
+    let mut samples = Vec::new(rt.alloc());
+    for _ in 0..384 {
+        // Audio 1 in slot 4, and its parity bit.
+        file.extend_from_slice(&[0x10, 0, 0, 0x80])?;
+        samples.extend_from_slice(&[0, 1, 0, 0])?;
+    }
+    for form in [Form::Text, Form::Packed] {
+        let mut line = MemorySink::new(rt.alloc());
+        let mut source = MemorySource::new(&file, 4_096);
+        assert!(rt; run_job(&Job::Encode { output: form }, &mut source, &mut line).is_ok());
+        let mut pcm = MemorySink::new(rt.alloc());
+        let mut source = MemorySource::new(line.bytes(), 4_096);
+        assert!(rt; run_job(&Job::ToPcm { input: form }, &mut source, &mut pcm).is_ok());
+        assert!(rt; pcm.bytes() == samples.as_slice());
+    }
     Ok(())
 }

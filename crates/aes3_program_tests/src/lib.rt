@@ -1,0 +1,12 @@
+//! What no contract says of jobs and command lines: worked ones, and every job over ends that fail
+//! and move few bytes.
+#![tactic(auto)]
+
+#[cfg(test)]
+mod command_lines;
+#[cfg(test)]
+mod job;
+#[cfg(test)]
+mod program;
+#[cfg(test)]
+mod runs;
