@@ -17,22 +17,10 @@ followed-join : (a : Option (List ℕ)) (x y : List ℕ) → followed_by (follow
 followed-join (Some z) x y = ap Some (append_assoc z x y)
 followed-join None x y = refl
 
-pub followed-none : (a : Option (List ℕ)) → followed_by a [] ≡ a
-followed-none (Some z) = ap Some (append-nil z)
-followed-none None = refl
-
 -- the first n of the bytes that it holds have gone
 pub handed-on : (a b : Option (List ℕ)) (n : ℕ) (x : List ℕ) → is_some b ≡ is_some a → Grew a b (take n x) → followed_by b (drop n x) ≡ followed_by a x
 handed-on a b n x e g =
     ap (λ v. followed_by v (drop n x)) (told-followed a b (take n x) e g) ∙ followed-join a (take n x) (drop n x) ∙ ap (followed_by a) (take-append-drop n x)
-
--- more bytes behind those that it holds
-pub held-grew : {c : Option (List ℕ)} (a : Option (List ℕ)) (x y : List ℕ) → followed_by a x ≡ c → Grew c (followed_by a (x ++ y)) y
-held-grew a x y e = record { by = λ before h. sym (followed-join a x y) ∙ ap (λ v. followed_by v y) (e ∙ h) }
-
-pub held-tells : (a : Option (List ℕ)) (x y : List ℕ) → is_some (followed_by a x) ≡ is_some (followed_by a y)
-held-tells (Some z) x y = refl
-held-tells None x y = refl
 
 -- bytes put behind those that it holds
 pub held-put : (start end n k len : ℕ) (xs s ys rest : List ℕ) → s ≡ xs → start ≤ end → end ≤ length xs → n ≡ end + length ys → n ≤ len

@@ -126,21 +126,6 @@ cause-of : (form : Form) (b : List ℕ) (e : RunError) → first_fault (encoding
 unfolding first_fault
 cause-of form b e q = cause-behind form [] b e refl q
 
-pub lawful-clean : (form : Form) (b : List ℕ) → AllLawful b → first_fault (encoding form) b ≡ None
-lawful-clean form b h = go (first_fault (encoding form) b) refl
-  where
-    go : (o : Option RunError) → first_fault (encoding form) b ≡ o → first_fault (encoding form) b ≡ None
-    go None q = q
-    go (Some e) q = absurd (let n = ap length h.is in elim (cause-of form b e q) [
-      | inl c ↦ (let k = c.2.before in let m = c.2.within in omega arith)
-      | inr c ↦ (let k = c.2.before in let m = c.2.within in omega arith)
-    ])
-
--- the end
-pub end-clean_file : (form : Form) (b : List ℕ) → length b % (4 * block_slots) ≡ 0 → (encoding form).end_fault b ≡ None
-unfolding encoding
-end-clean_file form b h = ap refused_at_end (end-whole_file b h)
-
 end-cases : (form : Form) (b : List ℕ) → (((encoding form).end_fault b ≡ None) × (length b % (4 * block_slots) ≡ 0))
     ⊎ (((encoding form).end_fault b ≡ Some (BadLength (length b % (4 * block_slots)))) × (0 < length b % (4 * block_slots)))
 unfolding encoding

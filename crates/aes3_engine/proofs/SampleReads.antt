@@ -214,10 +214,6 @@ pub clean-all : (exact : Bool) (change : Change) (b : List ℕ) → first_fault 
 unfolding first_fault
 clean-all exact change b h = all-exact exact b (clean-exact exact change [] b h)
 
-pub all-clean : (exact : Bool) (change : Change) (b : List ℕ) → AllExact exact b → first_fault (sampling exact change) b ≡ None
-unfolding first_fault
-all-clean exact change b h = exact-clean exact change [] b (all-behind exact b h)
-
 -- more bytes
 pub all-more : (exact : Bool) (b d : List ℕ) → AllExact exact b → ExactBehind exact (length b) d → AllExact exact (b ++ d)
 all-more exact b d h t e i r = elim (cases_lt i (length b)) [

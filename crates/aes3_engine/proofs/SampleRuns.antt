@@ -16,7 +16,7 @@ use Rattle.aes3_input.specs.Running.{CleanEnd, IsFault, converted}
 use Rattle.aes3_input.proofs.InputRuns.{Gives}
 use Rattle.aes3_status.specs.declared.change.Change as change
 use Rattle.aes3_engine.specs.Sampling.{pcm_file, begun_pcm, frame_len, AllExact, IsPcm, BadSampleAt, IsPcmCause, pcm_counts, more_of, sampled_file, sampling}
-use Rattle.aes3_engine.proofs.SampleReads.{made, file-more, begun-all, out-samples, byte-clean, byte-bad, clean-all, all-clean, end-whole, end-left}
+use Rattle.aes3_engine.proofs.SampleReads.{made, file-more, begun-all, out-samples, byte-clean, byte-bad, clean-all, end-whole, end-left}
 
 -- the end
 end-cases : (exact : Bool) (k : change.Change) (b : List ℕ) → (((sampling exact k).end_fault b ≡ None) × (length b % frame_len ≡ 0))

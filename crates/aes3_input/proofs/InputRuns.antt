@@ -107,11 +107,6 @@ pub run-front : {A : Type 0} {p : Promise A} {max : ℕ} {ended : Bool} {source 
     → GrewFront sink.old sink.new (p.begun (take max b)) ⊎ (Complete p.input max b ended × GrewFront sink.old sink.new (p.whole b))
 run-front {p = p} {max} {ended} {source} {sink} r run w b t = (subst (λ v. InputRan p max b ended source sink v) w (run-told run b t)).2
 
--- which end failed
-pub run-read : {A : Type 0} {p : Promise A} {max : ℕ} {ended : Bool} {source sink : Movement} {r : Result A RunError}
-    → InputRun p max ended source sink r → r ≡ Err Read → Failed source
-run-read {p = p} {max} {ended} {source} {sink} run q = (subst (λ v. InputRan p max run.bytes ended source sink v) q run.ran).1
-
 pub run-write : {A : Type 0} {p : Promise A} {max : ℕ} {ended : Bool} {source sink : Movement} {r : Result A RunError}
     → InputRun p max ended source sink r → r ≡ Err Write → Failed sink
 run-write {p = p} {max} {ended} {source} {sink} run q = (subst (λ v. InputRan p max run.bytes ended source sink v) q run.ran).1

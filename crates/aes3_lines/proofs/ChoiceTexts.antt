@@ -42,12 +42,6 @@ pub told-more : (f : ℕ → List ℕ) (old now : List ℕ) (n : ℕ) → now �
 told-more f old now n h =
     ap (λ t. t ++ f n) h ∙ flat_map_more f old (below n) n ∙ ap (λ r. old ++ flat_map f r) (sym (below-more n))
 
-pub told-field : (f : Field → List ℕ) (old now : List ℕ) (fields : List Field) (i : ℕ) (d : Field) → i < length fields → now ≡ old ++ flat_map f (take i fields)
-    → now ++ f (get_or fields i d) ≡ old ++ flat_map f (take (i + 1) fields)
-told-field f old now fields i d l h =
-    ap (λ t. t ++ f (get_or fields i d)) h ∙ flat_map_more f old (take i fields) (get_or fields i d)
-    ∙ ap (λ r. old ++ flat_map f r) (sym (take_more fields i d l))
-
 -- ---- a test of numbers
 or-false : (a b : Bool) → a ≡ false → b ≡ false → (a || (b || false)) ≡ false
 or-false true b h g = cc

@@ -11,12 +11,6 @@ use Rattle.aes3_lines.specs.MarkLines.{line_of, mark_line, mark_lines}
 pub held-none : {t : Option (List ℕ)} {h : List ℕ} → AllButHeld t t h h []
 held-none {h = h} = record { part = []; is = sym (append-nil h); grew = grew-none refl }
 
-pub held-more : {t t' : Option (List ℕ)} {h h' b : List ℕ} → t' ≡ t → h' ≡ h ++ b → AllButHeld t t' h h' b
-held-more e f = record { part = []; is = f; grew = grew-none e }
-
-pub held-handed : {t t' : Option (List ℕ)} {h h' b : List ℕ} → Grew t t' (h ++ b) → h' ≡ [] → AllButHeld t t' h h' b
-held-handed {h = h} {b = b} g e = record { part = h ++ b; is = ap (λ z. (h ++ b) ++ z) e ∙ append-nil (h ++ b); grew = g }
-
 pub held-is : {t t' : Option (List ℕ)} {h h' b d : List ℕ} → b ≡ d → AllButHeld t t' h h' b → AllButHeld t t' h h' d
 held-is {h = h} e x = record { part = x.part; is = x.is ∙ ap (λ z. h ++ z) e; grew = x.grew }
 

@@ -67,7 +67,3 @@ pub length-beginning : (m : Mark) → length (mark_beginning m) ≡ 10
 length-beginning X = refl
 length-beginning Y = refl
 length-beginning Z = refl
-
-pub length-ending : (before : Level) → length (mark_ending before) ≡ 10
-length-ending Low = refl
-length-ending High = refl

@@ -48,13 +48,6 @@ begun-short n recent h = begun-none n recent (λ g. absurd (omega arith))
 pub begun-other : (n : ℕ) (recent : List Level) → take 8 recent ≡ recent → ((s : Level) → recent ≡ line s (mark_runs Z) → ⊥) → begun n recent ≡ None
 begun-other n recent e f = begun-none n recent (λ g. false_from_ne_true (begins_block recent) (λ b. f (entry recent) (sym e ∙ (begins-stands Z recent b).is)))
 
--- a block's number of cells as the code has it
-pub block_lt : (o : ℕ) (b : Bool) → o < 24576 → ltb o block_len && b ≡ b
-block_lt o b h = let n = block_len_24576 in let t : ltb o block_len ≡ true = lt-ltb o block_len (omega arith) in rw t refl
-
-pub block_ge : (o : ℕ) (b : Bool) → 24576 ≤ o → ltb o block_len && b ≡ false
-block_ge o b h = let n = block_len_24576 in let t : ltb o block_len ≡ false = le-ltb o block_len (omega arith) in rw t refl
-
 pub ended-block : (s : Level) (o : ℕ) (b : Bool) (slots : List (List Bool)) → 24576 ≤ o → b ≡ false → ended s o b slots ≡ block_outcome s slots
 ended-block s o b slots h e =
     let n = block_len_24576 in

@@ -173,37 +173,6 @@ goes-on k k' t u c d f s h kept seen recent e same-at same-before g =
     in-hand : OpenAt k.subframe k.words t c
     in-hand = hand k t c f s
 
--- the cell goes on with the candidate in hand
-pub push-next : (k k' : LockState) (t u : Candidate) (c : List Level) (l : Level) → Follows k c → k.candidate ≡ Some t
-    → k.seen - t.at < block_len → rule mark_at (k.seen - t.at) l t.level (at k.recent 7) ≡ true
-    → k'.seen ≡ k.seen + 1 → k'.recent ≡ eight_with k.recent l → k'.candidate ≡ Some u → u.at ≡ t.at → u.before ≡ t.before
-    → (Gathered t.level k.subframe k.words (entry (drop t.at c)) (drop t.at c) → k.seen - t.at ≡ length (drop t.at c)
-    → Gathered u.level k'.subframe k'.words (entry (drop t.at c)) (drop t.at c ++ l ∷ []))
-    → Follows k' (c ++ l ∷ []) × (decided (c ++ l ∷ []) ≡ decided c ++ [])
-push-next k k' t u c l f s o r e1 e2 e3 e4 e5 g =
-    let both = goes-on k k' t u c (l ∷ []) f s (omega (arith, a, o, m)) kept (seen-with k k' c l f e1 e2) (recent-with k k' c l f e1 e2) e3 e4 e5
-    (g (hand k t c f s).gathered a) in
-    (both.0, both.1 ∙ sym (append-nil (decided c)))
-  where
-    a : k.seen - t.at ≡ length (drop t.at c)
-    a = offset k t c f s
-
-    m : length (drop t.at c ++ l ∷ []) ≡ length (drop t.at c) + 1
-    m = length-append (drop t.at c) (l ∷ [])
-
-    open-so-far : IsOpen (drop t.at c)
-    open-so-far = hand-open k t c f s
-
-    kept : (i : ℕ) → i < length (drop t.at c ++ l ∷ []) → keeps (entry (drop t.at c)) (drop t.at c ++ l ∷ []) i ≡ true
-    kept i h = go (cases_eq i (length (drop t.at c)))
-      where
-        go : (i ≡ length (drop t.at c)) ⊎ (i ≡ length (drop t.at c) → ⊥) → keeps (entry (drop t.at c)) (drop t.at c ++ l ∷ []) i ≡ true
-        go (inl e) = ap (keeps (entry (drop t.at c)) (drop t.at c ++ l ∷ [])) e ∙ sym (tested k t c l f s) ∙ r
-        go (inr e) =
-            let q = open-so-far.all in
-            keeps-append (entry (drop t.at c)) (drop t.at c) (l ∷ []) i (omega (arith, h, m, e))
-            ∙ (front-is (entry (drop t.at c)) (drop t.at c)).kept i (omega (arith, h, m, e, q))
-
 -- the cell ends the candidate in hand
 pub push-last : (k k' : LockState) (t : Candidate) (c : List Level) (l : Level) → Follows k c → length k.words ≡ block_slots → k.candidate ≡ Some t
     → (k.seen - t.at < block_len → rule mark_at (k.seen - t.at) l t.level (at k.recent 7) ≡ false)

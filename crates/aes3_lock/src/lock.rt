@@ -5,7 +5,6 @@ use crate::outcome::{ending_at, left_ending, refutation, report_with};
 use crate::parts::LockParts;
 use crate::recent::{PREAMBLE_CELLS, candidate_in, last_cell, with_cell};
 use crate::report::{Ending, Pushed, Report};
-use crate::rule::may_stand;
 use crate::subframe::{
     completed, first_cell, first_of, last_behind, last_octet, last_of, rest_of, with_next,
 };
@@ -65,15 +64,6 @@ ghost use Rattle.aes3_lock.specs.Parts.{parts_state};
 ghost use Rattle.aes3_lock.specs.Steps.{begun};
 ghost use Rattle.aes3_lock.specs.declared.report.Ending.TheVariants.{Fault};
 
-/// Whether a cell behind `previous` goes on with a candidate, at whose `offset` it stands.
-fn goes_on(candidate: Candidate, offset: u64, cell: Level, previous: Level) -> bool
-    ensures inside { result ≡ true → offset < BLOCK_CELLS }
-    ensures value { result ≡ (nat_lt offset block_len
-        && rule mark_at offset cell candidate.level previous) }
-{
-    offset < BLOCK_CELLS && may_stand(offset, cell, candidate.level, previous)
-}
-
 impl Lock {
     /// A lock that has seen no cell.
     pub fn new() -> Self
@@ -123,51 +113,6 @@ impl Lock {
         ensures { result ≡ self.now.seen }
     {
         self.seen
-    }
-
-    /// Takes the next cell where it decides no report, and says whether it did; else it changes
-    /// nothing.
-    ///
-    /// It is `push` for almost every cell, without a report to hand back.
-    pub fn take(&mut self, cell: Level) -> bool
-        requires { self.old.seen < 2 ^ 43 }
-        ensures seen { result ≡ true → self.new.seen ≡ self.old.seen + 1 }
-        ensures follows { result ≡ true → (cells : List Level) → Follows self.old cells
-            → Follows self.new (cells ++ cell ∷ []) }
-        ensures none { result ≡ true → (cells : List Level) → Follows self.old cells
-            → decided (cells ++ cell ∷ []) ≡ decided cells ++ [] }
-        ensures left { result ≡ false → self.new ≡ self.old }
-        ensures stops { result ≡ false → Stops self.old cell }
-    {
-        let seen = self.seen;
-        let Some(candidate) = self.candidate else {
-            self.recent = with_cell(self.recent, cell);
-            self.seen = seen + 1;
-            self.candidate = candidate_in(self.seen, self.recent);
-            self.subframe = u64::from(self.recent);
-            return true;
-        };
-        let offset = seen - candidate.at;
-        if !goes_on(candidate, offset, cell, last_cell(self.recent)) {
-            return false;
-        }
-        self.recent = with_cell(self.recent, cell);
-        self.seen = seen + 1;
-        let len = offset % SUBFRAME_CELLS;
-        let cells = with_next(self.subframe, len, cell);
-        if len < SUBFRAME_CELLS - 1 {
-            self.subframe = cells;
-            return true;
-        }
-        self.words
-            .keep((offset / SUBFRAME_CELLS) as usize, candidate.level, cells);
-        self.subframe = 0;
-        self.candidate = Some(Candidate {
-            at: candidate.at,
-            before: candidate.before,
-            level: cell,
-        });
-        true
     }
 
     /// Takes the 64 cells of a word where no candidate is in hand and no preamble of a block ends
@@ -580,11 +525,11 @@ impl Lock {
         ensures report { (cells : List Level) → Follows self.old cells
             → decided (cells ++ cell ∷ []) ≡ decided cells ++ option_to_list result }
     {
-        if self.take(cell) {
-            return None;
+        let pushed = self.push_front(with_next(0, 0, cell), 1);
+        match pushed.ending {
+            Some(ending) => Some(self.report(ending)),
+            None => None,
         }
-        let ending = self.stop(cell);
-        Some(self.report(ending))
     }
 
     /// What the end of the cells makes of the candidate in hand, if there is one.

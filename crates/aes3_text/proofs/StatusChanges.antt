@@ -110,11 +110,6 @@ pub whole-front : (result : Result (Unit {0}) device.Fault) (x : Report) {at : �
 whole-front (Ok u) x f s n i j t t' e g = tt
 whole-front (Err d) x f s n i j t t' e g = λ bs h k. front-is (whole-is x bs e h k) g.1
 
--- what holds holds of an answer
-pub on-err : {X : Type 0} (result : Result (Unit {0}) device.Fault) → X → OnErr result X
-on-err (Ok u) h = tt
-on-err (Err d) h = h
-
 -- what a report writes
 pub adds-is : (r : List Report) (x : Report) → report_changes (wholes r) x ≡ changing.adds r x
 unfolding changing
