@@ -29,6 +29,11 @@ pub struct Aes3Report {
     pub why: u8,
 }
 
+// As the header has it.
+const _: () = prove!(size_of::<Aes3Report>() == 1560);
+
+const _: () = prove!(align_of::<Aes3Report>() == 8);
+
 fn byte_of_why(why: Why) -> u8
     ensures why { why_of_code result ≡ why }
     ensures code { result ≡ why_code why }
