@@ -83,15 +83,17 @@ uint64_t aes3_lock_seen(const aes3_lock *lock);
 
 /*
  * Takes words of cells as long as no cell of a word decides a report. Answers how many it took;
- * that may be none. The next word, if there is one, goes to aes3_lock_push.
+ * that may be none. The next word, if there is one, goes to aes3_lock_push: a cell of it decides a
+ * report, or the preamble of a block ends in it where none was begun, or a lock would have seen more
+ * than 2^43 cells with it.
  */
 size_t aes3_lock_take_words(aes3_lock *lock, const uint64_t *words, size_t count);
 
 /*
  * Takes the first `count` cells of a word, 64 at most, or as far as the first that decides a
  * report, and that one too. Puts the report, or AES3_NONE, into *report. Answers how many cells it
- * took: fewer than `count` only behind a report, or where a lock has seen 2^43 cells, which is 16
- * days of a line at 48 kHz; then it takes none, and has to be made anew.
+ * took: without a report all of them, or as many as are left to 2^43 cells, which is 16 days of a
+ * line at 48 kHz; a lock that has seen so many takes none, and has to be made anew.
  */
 uint32_t aes3_lock_push(aes3_lock *lock, uint64_t word, uint32_t count, aes3_report *report);
 

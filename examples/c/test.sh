@@ -1,7 +1,7 @@
 #!/bin/sh
 # test.sh [PROGRAM [LIBRARY]]: builds the examples over libaes3_c.a by each compiler that is here, with all warnings as errors and
 # with its checks of addresses and undefined behaviour, runs them, and compares what they tell with what PROGRAM tells;
-# and that the header declares what the library has. PROGRAM is bin/aes3 where none is given, LIBRARY what `bin/build aes3_c` makes.
+# that the header declares what the library has, and that each field stands where the header has it. PROGRAM is bin/aes3 where none is given, LIBRARY what `bin/build aes3_c` makes.
 # The last line is `N passed, M failed`; status 1 where one differs.
 here=$(dirname "$(realpath "$0")")
 program=$(realpath "${1:-$here/../../bin/aes3}") || exit 2
@@ -57,7 +57,7 @@ build() { # COMPILER FLAGS..
         echo "left out: the checks of addresses and undefined behaviour by $compiler (they do not work here)"
         checks=
     }
-    for example in check encode calls; do
+    for example in check encode calls layout; do
         "$compiler" "$@" -O2 -Wall -Wextra -pedantic -Werror $checks -I"$here/../../include" \
             -o $example "$here/$example.c" -x none "$library" || {
             differs "$example.c, which $compiler does not compile,"
@@ -65,6 +65,7 @@ build() { # COMPILER FLAGS..
         }
     done
     judge "calls by $compiler" ./calls
+    judge "the layout by $compiler" ./layout
     ./encode <"$speech" >got
     judge "encode by $compiler" cmp -s got line.txt
     compare ./check

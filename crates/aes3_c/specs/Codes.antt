@@ -17,6 +17,12 @@ check_code Bad = 2
 abbrev pub why_of_code : ℕ → Why
 why_of_code n = if n == 0 then Preamble else if n == 1 then Biphase else Unclosed
 
+-- the number of a reason
+abbrev pub why_code : Why → ℕ
+why_code Preamble = 0
+why_code Biphase = 1
+why_code Unclosed = 2
+
 -- the channel of a number
 abbrev pub channel_of : ℕ → Channel
 channel_of n = if n == 1 then First else Second

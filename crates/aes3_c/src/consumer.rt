@@ -27,6 +27,11 @@ pub struct Aes3Consumer {
     pub rest: [u8; 19],
 }
 
+// As the header has it.
+const _: () = prove!(size_of::<Aes3Consumer>() == 33);
+
+const _: () = prove!(align_of::<Aes3Consumer>() == 1);
+
 fn fields_of(status: &Con) -> Aes3Consumer
     ensures { result ≡ consumer_fields status.now }
 {

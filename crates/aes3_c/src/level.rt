@@ -1,7 +1,7 @@
 //! Levels as bytes.
 
 ghost use Rattle.std.specs.Prelude.{◌≡◌};
-ghost use Rattle.aes3_cell.specs.Words.{level_of};
+ghost use Rattle.aes3_cell.specs.Words.{bit_of, level_of};
 
 use aes3_cell::Level;
 
@@ -14,7 +14,8 @@ pub(crate) fn level_of_byte(byte: u8) -> Level
 
 /// The byte of a level.
 pub(crate) fn byte_of_level(level: Level) -> u8
-    ensures { level_of result ≡ level }
+    ensures level { level_of result ≡ level }
+    ensures bit { result ≡ bit_of level }
 {
     match level {
         Level::Low => 0,

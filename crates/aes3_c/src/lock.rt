@@ -1,13 +1,13 @@
 //! The lock, kept by its caller.
 
 ghost use Rattle.std.specs.Prelude.{◌≡◌, ◌+◌, ◌<◌, ◌≤◌, ◌^◌, None, List, [], ◌++◌, length, take};
-ghost use Rattle.std.specs.Prelude.{option_to_list};
+ghost use Rattle.std.specs.Prelude.{◌*◌, ◌-◌, ◌/◌, get_or, min, option_to_list};
 ghost use Rattle.std.specs.List.{flat_map};
 ghost use Rattle.aes3_cell.specs.declared.level.Level.{Level};
 ghost use Rattle.aes3_cell.specs.Words.{low_cells, word_cells};
 ghost use Rattle.aes3_lock.specs.Reports.{decided, reports};
 ghost use Rattle.aes3_lock.specs.Following.{Follows};
-ghost use Rattle.aes3_c.specs.States.{candidate_in, state_of, told_in};
+ghost use Rattle.aes3_c.specs.States.{StopsAt, Tells, candidate_in, state_of, told_in};
 
 use crate::level::{byte_of_level, level_of_byte};
 use crate::report::{Aes3Report, put_none, put_report};
@@ -100,7 +100,7 @@ fn most_of(seen: u64, count: u32) -> u32
     ensures count { result ≤ count }
     ensures word { result ≤ 64 }
     ensures room { 0 < result → seen + result ≤ 2 ^ 43 }
-    ensures all { seen + 64 ≤ 2 ^ 43 → count ≤ 64 → result ≡ count }
+    ensures all { result ≡ min (min count 64) (2 ^ 43 - seen) }
 {
     if seen >= MOST {
         return 0;
@@ -120,13 +120,15 @@ pub extern "C" fn aes3_lock_push(
 ) -> u32
     ensures within { result ≤ count }
     ensures word { result ≤ 64 }
-    ensures all { told_in report.new ≡ None → lock.old.seen + 64 ≤ 2 ^ 43 → count ≤ 64
-        → result ≡ count }
+    ensures all { told_in report.new ≡ None
+        → result ≡ min (min count 64) (2 ^ 43 - lock.old.seen) }
+    ensures seen { lock.new.seen ≡ lock.old.seen + result }
     ensures follows { (cells : List Level) → Follows (state_of lock.old) cells
         → Follows (state_of lock.new) (cells ++ low_cells result word) }
     ensures report { (cells : List Level) → Follows (state_of lock.old) cells
         → decided (cells ++ low_cells result word) ≡ decided cells
         ++ option_to_list (told_in report.new) }
+    ensures codes { Tells (told_in report.new) report.new }
 {
     let most = most_of(lock.seen, count);
     if most == 0 {
@@ -143,21 +145,33 @@ pub extern "C" fn aes3_lock_push(
     pushed.taken
 }
 
-/// Takes words of 64 cells, the earliest in bit 0, as far as none decides a report. Answers how
-/// many it took.
+/// How many words of 64 cells a lock that has seen so many takes at most.
+fn most_words(seen: u64, len: usize) -> usize
+    ensures { result ≡ min len ((2 ^ 43 - seen) / 64) }
+{
+    (len as u64).min(MOST.saturating_sub(seen) / 64) as usize
+}
+
+/// Takes words of 64 cells, the earliest in bit 0, as far as none decides a report and no block
+/// begins in one while the lock holds none. Answers how many it took; no lock takes more than 2^43
+/// cells.
 #[unsafe(no_mangle)]
 pub extern "C" fn aes3_lock_take_words(lock: &mut Aes3Lock, words: &[u64]) -> usize
     ensures within { result ≤ length words.now }
+    ensures seen { lock.new.seen ≡ lock.old.seen + 64 * result }
     ensures follows { (cells : List Level) → Follows (state_of lock.old) cells
         → Follows (state_of lock.new) (cells ++ flat_map word_cells (take result words.now)) }
     ensures none { (cells : List Level) → Follows (state_of lock.old) cells
         → decided (cells ++ flat_map word_cells (take result words.now)) ≡ decided cells }
+    ensures stops { result < length words.now → lock.new.seen + 64 ≤ 2 ^ 43
+        → StopsAt (state_of lock.new) (get_or words.now result 0) }
 {
-    let mut state = lock_of(lock);
-    let mut taken = 0;
-    while taken < words.len() && state.seen() <= MOST - 64 && state.take_word(words[taken]) {
-        taken += 1;
+    let len = most_words(lock.seen, words.len());
+    if len == 0 {
+        return 0;
     }
+    let mut state = lock_of(lock);
+    let taken = state.take_words(&words[..len]);
     keep(&state, lock);
     taken
 }
@@ -165,8 +179,9 @@ pub extern "C" fn aes3_lock_take_words(lock: &mut Aes3Lock, words: &[u64]) -> us
 /// Takes the end of the cells, and puts the report that it decides, if any.
 #[unsafe(no_mangle)]
 pub extern "C" fn aes3_lock_finish(lock: &Aes3Lock, report: &mut Aes3Report)
-    ensures { (cells : List Level) → Follows (state_of lock.now) cells
+    ensures report { (cells : List Level) → Follows (state_of lock.now) cells
         → reports cells ≡ decided cells ++ option_to_list (told_in report.new) }
+    ensures codes { Tells (told_in report.new) report.new }
 {
     // Read where it stands: a report moved out would take as much stack again.
     let told = lock_of(lock).finish();

@@ -30,6 +30,11 @@ pub struct Aes3Professional {
     pub b22low: u8,
 }
 
+// As the header has it.
+const _: () = prove!(size_of::<Aes3Professional>() == 32);
+
+const _: () = prove!(align_of::<Aes3Professional>() == 4);
+
 fn fields_of(status: &Pro) -> Aes3Professional
     ensures { result ≡ professional_fields status.now }
 {

@@ -1,0 +1,161 @@
+/*
+ * Where the library puts each field, against where aes3.h has it. Each field gets a value of its own, so that two that
+ * were exchanged, or one of another width, would show. Status 1 where one is elsewhere.
+ */
+#include "aes3.h"
+#include <stdio.h>
+#include <string.h>
+
+static int failed;
+
+static void want(int line, int holds) {
+    if (!holds) {
+        fprintf(stderr, "layout.c:%d is not so\n", line);
+        failed = 1;
+    }
+}
+#define WANT(holds) want(__LINE__, (holds))
+
+/* A field of channel status: its place in the header's type, how many bytes it has, its first bit and how many. */
+struct field {
+    const char *name;
+    size_t at, size;
+    int first, bits;
+};
+#define FIELD(type, name, first, bits) \
+    { #type "." #name, offsetof(type, name), sizeof(((type *)0)->name), first, bits }
+#define PRO(name, first, bits) FIELD(aes3_professional, name, first, bits)
+#define CON(name, first, bits) FIELD(aes3_consumer, name, first, bits)
+
+static const struct field professional[] = {
+    PRO(payload, 1, 1), PRO(emphasis, 2, 3), PRO(unlocked, 5, 1), PRO(rate, 6, 2), PRO(mode, 8, 4), PRO(user, 12, 4),
+    PRO(aux, 16, 3), PRO(word, 19, 3), PRO(b2high, 22, 2), PRO(b3, 24, 8), PRO(b4, 32, 8), PRO(b5, 40, 8),
+    PRO(origin, 48, 32), PRO(destination, 80, 32), PRO(local, 112, 32), PRO(time, 144, 32), PRO(b22low, 176, 4),
+    PRO(unreliable, 180, 4),
+};
+
+static const struct field consumer[] = {
+    CON(payload, 1, 1), CON(copyright, 2, 1), CON(emphasis, 3, 3), CON(mode, 6, 2), CON(category, 8, 7),
+    CON(generation, 15, 1), CON(source, 16, 4), CON(number, 20, 4), CON(rate, 24, 4), CON(accuracy, 28, 2),
+    CON(b3high, 30, 2), CON(greatest, 32, 1), CON(word, 33, 3), CON(original, 36, 4), CON(rest, 40, 152),
+};
+
+/* One bit of a status stands in its field, and no other field has a bit. */
+static void bit_of_status(const struct field *fields, size_t count, const unsigned char *got, int bit) {
+    for (size_t i = 0; i < count; i++)
+        for (size_t j = 0; j < fields[i].size; j++) {
+            int k = bit - fields[i].first;
+            int here = k >= 0 && k < fields[i].bits && (size_t)k / 8 == j;
+            if (got[fields[i].at + j] != (here ? 1 << k % 8 : 0)) {
+                fprintf(stderr, "layout.c: bit %d of a status: byte %d of %s\n", bit, (int)j, fields[i].name);
+                failed = 1;
+            }
+        }
+}
+
+static void statuses(void) {
+    unsigned char got[2][64];
+    for (int bit = 1; bit < 8 * AES3_STATUS_BYTES; bit++) {
+        uint8_t status[AES3_STATUS_BYTES] = {0};
+        union {
+            aes3_professional professional;
+            aes3_consumer consumer;
+            unsigned char bytes[64];
+        } room;
+        status[bit / 8] = (uint8_t)(1 << bit % 8);
+        memset(&room, 0xAA, sizeof room);
+        WANT(aes3_status_consumer(status, &room.consumer));
+        memcpy(got[0], &room, sizeof got[0]);
+        bit_of_status(consumer, sizeof consumer / sizeof *consumer, got[0], bit);
+        WANT(got[0][sizeof(aes3_consumer)] == 0xAA);
+        status[0] |= 1;
+        memset(&room, 0xAA, sizeof room);
+        WANT(aes3_status_professional(status, &room.professional));
+        memcpy(got[1], &room, sizeof got[1]);
+        bit_of_status(professional, sizeof professional / sizeof *professional, got[1], bit);
+        WANT(got[1][sizeof(aes3_professional)] == 0xAA);
+    }
+}
+
+static uint32_t words[AES3_BLOCK_WORDS];
+static uint64_t cells[AES3_BLOCK_WORDS];
+static union {
+    aes3_report report;
+    unsigned char bytes[sizeof(aes3_report) + 8];
+} told;
+static unsigned char wanted[sizeof told];
+
+#define PUT(name, value) \
+    (memcpy(wanted + offsetof(aes3_report, name), (value), sizeof told.report.name))
+
+/* Lets the lock take some cells of a word, which decide nothing. */
+static void quiet(aes3_lock *lock, uint64_t word, uint32_t count) {
+    WANT(aes3_lock_push(lock, word, count, &told.report) == count && told.report.kind == AES3_NONE);
+}
+
+/* A lock behind five high cells and the words of the block up to one. */
+static void begun(aes3_lock *lock, int count) {
+    aes3_lock_init(lock);
+    quiet(lock, 31, 5);
+    for (int i = 0; i < count; i++)
+        quiet(lock, cells[i], 64);
+    memset(&told, 0xAA, sizeof told);
+    memset(wanted, 0xAA, sizeof wanted);
+}
+
+static void reports(void) {
+    static aes3_lock lock;
+    const uint64_t at = 5, refuted = 5 + 64 * 300 + 10, taken = 5 + 64 * 300 - 5;
+    const uint8_t kinds[] = {AES3_NONE, AES3_WHOLE, AES3_MARKED, AES3_FAULT, AES3_UNFINISHED};
+    const uint8_t before = 1, why = AES3_BIPHASE;
+    const uint16_t wrong = 1;
+    for (int i = 0; i < AES3_BLOCK_WORDS; i++)
+        words[i] = (uint32_t)i * 48 << 5 | (uint32_t)i * 48 << 16;
+    for (int i = 0; i < AES3_BLOCK_WORDS; i++) {
+        uint32_t ones = 0;
+        for (int j = 4; j < 31; j++)
+            ones += words[i] >> j & 1;
+        words[i] = (words[i] & 0x7FFFFFFF) | (ones & 1) << 31;
+    }
+    WANT(aes3_encode_block(words, before, cells) == AES3_BLOCK_WORDS);
+
+    begun(&lock, AES3_BLOCK_WORDS);
+    aes3_lock_finish(&lock, &told.report);
+    PUT(at, &at), PUT(words, words), PUT(kind, &kinds[1]), PUT(before, &before);
+    WANT(memcmp(&told, wanted, sizeof told) == 0);
+
+    begun(&lock, AES3_BLOCK_WORDS - 1);
+    quiet(&lock, cells[AES3_BLOCK_WORDS - 1] ^ (uint64_t)1 << 63, 64);
+    memset(&told, 0xAA, sizeof told);
+    aes3_lock_finish(&lock, &told.report);
+    PUT(at, &at), PUT(wrong, &wrong), PUT(kind, &kinds[2]), PUT(before, &before);
+    WANT(memcmp(&told, wanted, sizeof told) == 0);
+
+    /* The cell with which a time slot begins is that before it. */
+    begun(&lock, 300);
+    WANT(aes3_lock_push(&lock, cells[300] ^ 1 << 10, 64, &told.report) == 11);
+    PUT(at, &at), PUT(cell, &refuted), PUT(kind, &kinds[3]), PUT(why, &why);
+    WANT(memcmp(&told, wanted, sizeof told) == 0);
+
+    begun(&lock, 300);
+    aes3_lock_finish(&lock, &told.report);
+    PUT(at, &at), PUT(cell, &taken), PUT(kind, &kinds[4]);
+    WANT(memcmp(&told, wanted, sizeof told) == 0);
+
+    aes3_lock_init(&lock);
+    memset(&told, 0xAA, sizeof told);
+    memset(wanted, 0xAA, sizeof wanted);
+    aes3_lock_finish(&lock, &told.report);
+    PUT(kind, &kinds[0]);
+    WANT(memcmp(&told, wanted, sizeof told) == 0);
+}
+
+int main(void) {
+    WANT(sizeof(aes3_lock) == 3104 && sizeof(aes3_report) == 1560);
+    WANT(sizeof(aes3_professional) == 32 && sizeof(aes3_consumer) == 33);
+    statuses();
+    reports();
+    if (!failed)
+        puts("each field stands where the header has it");
+    return failed;
+}
