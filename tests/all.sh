@@ -1,6 +1,6 @@
 #!/bin/sh
 # tests/all.sh [PROGRAM]: all that is run with a built program, with bin/aes3's where none is given: the worked rows, the
-# machine's own streams, refused memory, the examples of help, README and tutorial, the manual page, the pictures and the figures of
+# machine's own streams, refused memory, the examples of help, README and tutorial, the manual page, the shells' completions, the pictures and the figures of
 # the books, round trips with other programs, and the examples from C and of the page in a browser.
 #
 # Each part prints what fails, `left out: WHAT (WHY)` where something it needs is not installed, and `N passed, M failed`. At the
@@ -55,6 +55,7 @@ part tests/help.sh "$program"
 part tests/readme.sh "$program"
 part_with cc tests/allocations.sh "$program"
 part_with python3 bin/make-manual --check "$program"
+part_with python3 tests/completions.py "$program"
 part_with python3 bin/figures --check
 part_with python3 examples/pictures/make --check "$program"
 part_with python3 examples/neighbours/run "$program"
