@@ -63,8 +63,9 @@ part examples/many/run "$program" 20
 part_with python3 web/test "$program"
 if [ -e crates/aes3_c/out/libaes3_c.a ]; then
     part examples/c/test.sh "$program"
+    part_with cc tests/install.sh
 else
-    echo "left out: examples/c/test.sh (no C library is built: bin/build aes3_c)" | tee -a "$folder/left"
+    echo "left out: examples/c/test.sh, tests/install.sh (no C library is built: bin/build aes3_c)" | tee -a "$folder/left"
 fi
 
 [ ! -s "$folder/left" ] || { echo "== left out" && cat "$folder/left"; }
