@@ -80,6 +80,10 @@ if [ -e "$to/lib/libaes3.so.1" ]; then
         judge "the soname" grep -q 'soname: \[libaes3.so.1\]' "$work/dynamic"
     fi
     cc -I"$to/include" -o "$work/version" "$work/version.c"
+    sed -n '/^```c$/,/^```$/p' "$root/README.md" | sed '/^```/d' >"$work/readme.c"
+    judge "the example of the README" cc -std=c99 -Wall -Wextra -pedantic -Werror -I"$to/include" -fsyntax-only "$work/readme.c"
+    sed -n '/^```c$/,/^```$/p' "$root/docs/C.md" | sed '/^```/d' >"$work/c.c"
+    judge "the example of docs/C.md" cc -std=c99 -Wall -Wextra -pedantic -Werror -I"$to/include" -fsyntax-only "$work/c.c"
     judge "the version of the header" test "$("$work/version")" = "$version $version"
     sed 's/state\[388\]/state[389]/' "$to/include/aes3.h" >"$work/aes3.h"
     echo '#include "aes3.h"' >"$work/size.c"
