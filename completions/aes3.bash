@@ -1,26 +1,72 @@
-# Completion of aes3 in bash. Made by bin/make-manual from the help of the program.
+# Completion of aes3 in bash. Made by bin/make-manual from what the program says of itself.
+
+# Those of the words that begin with what is typed. Where bash parts words at `=`, it wants what is behind it.
+_aes3_words() {
+    local each front=
+    [[ $COMP_WORDBREAKS == *=* ]] && front=${typed%"${typed##*=}"}
+    for each; do
+        [[ $each == "$typed"* ]] && COMPREPLY+=("${each#"$front"}")
+    done
+}
+
+_aes3_setting() {
+    case $typed in
+        payload=*) _aes3_words payload={pcm,other} ;;
+        emphasis=*) _aes3_words emphasis={not-indicated,none,50/15,j17} ;;
+        unlocked=*) _aes3_words unlocked={no,yes} ;;
+        rate=*) _aes3_words rate={not-indicated,44100,48000,32000,22050,24000,88200,96000,176400,192000} ;;
+        mode=*) _aes3_words mode={not-indicated,stereophonic,single,two-channel,primary-secondary,0,1,2,3} ;;
+        user=*) _aes3_words user={not-indicated,block192,user} ;;
+        aux=*) _aes3_words aux={undefined,coordination,audio,user} ;;
+        word=*) _aes3_words word={not-indicated,16,18,19,20,17,22,23,24,21} ;;
+        b2high=*) _aes3_words b2high={0,1,2,3} ;;
+        b3=*) _aes3_words b3={0..255} ;;
+        b4=*) _aes3_words b4={0..255} ;;
+        b5=*) _aes3_words b5={0..255} ;;
+        unreliable=*) _aes3_words unreliable={0000,1000,0100,1100,0010,1010,0110,1110,0001,1001,0101,1101,0011,1011,0111,1111} ;;
+        b22low=*) _aes3_words b22low={0,1,2,3,4,5,6,7,8,9,10,11,12,13,14,15} ;;
+        copyright=*) _aes3_words copyright={asserted,not-asserted} ;;
+        category=*) _aes3_words category={general,cd,dat} ;;
+        generation=*) _aes3_words generation={0,1} ;;
+        source=*) _aes3_words source={not-specified,1,2,3,4,5,6,7,8,9,10,11,12,13,14,15} ;;
+        number=*) _aes3_words number={not-specified,1,2,3,4,5,6,7,8,9,10,11,12,13,14,15} ;;
+        accuracy=*) _aes3_words accuracy={level2,level1,level3} ;;
+        b3high=*) _aes3_words b3high={0,1,2,3} ;;
+        greatest=*) _aes3_words greatest={20,24} ;;
+        original=*) _aes3_words original={0,1,2,3,4,5,6,7,8,9,10,11,12,13,14,15} ;;
+        *) compopt -o nospace; _aes3_words payload= emphasis= unlocked= rate= mode= user= aux= word= b2high= b3= b4= b5= unreliable= b22low= copyright= category= generation= source= number= accuracy= b3high= greatest= original= ;;
+    esac
+}
+
 _aes3() {
-    local word=${COMP_WORDS[COMP_CWORD]} before=${COMP_WORDS[COMP_CWORD - 1]}
+    local line=${COMP_LINE:0:COMP_POINT}
+    local typed=${line##*[[:space:]]} words
+    read -ra words <<<"${line%"$typed"}"
     COMPREPLY=()
-    case $before in
-        *'<' | *'>') compopt -o filenames 2>/dev/null; COMPREPLY=($(compgen -f -- "$word")); return ;;
-        --set1 | --set2 | --status1 | --status2) return ;;
+    case ${COMP_WORDS[COMP_CWORD - 1]} in
+        # Bash's own completion of file names keeps those with spaces one word.
+        *'<' | *'>') compopt -o default; return ;;
+    esac
+    case ${words[-1]} in
+        --set1 | --set2) _aes3_setting; return ;;
+        --status1 | --status2) return ;;
+        --explain) _aes3_words 1 2 3 4 5 6 7 8 9 10 11; return ;;
     esac
     if [ "$COMP_CWORD" = 1 ]; then
-        COMPREPLY=($(compgen -W "encode decode normal check show scan cut rewrite to-pcm from-pcm --help --version --explain" -- "$word"))
+        _aes3_words encode decode normal check show scan cut rewrite to-pcm from-pcm --help --version --explain
         return
     fi
     case ${COMP_WORDS[1]} in
-        encode) COMPREPLY=($(compgen -W "--packed-out --help" -- "$word")) ;;
-        decode) COMPREPLY=($(compgen -W "--packed-in --help" -- "$word")) ;;
-        normal) COMPREPLY=($(compgen -W "--packed-in --packed-out --help" -- "$word")) ;;
-        check) COMPREPLY=($(compgen -W "--packed-in --faults --gaps --help" -- "$word")) ;;
-        show) COMPREPLY=($(compgen -W "--packed-in --changes --help" -- "$word")) ;;
-        scan) COMPREPLY=($(compgen -W "--packed-in --help" -- "$word")) ;;
-        cut) COMPREPLY=($(compgen -W "--packed-in --packed-out --help" -- "$word")) ;;
-        rewrite) COMPREPLY=($(compgen -W "--packed-in --packed-out --status1 --status2 --set1 --set2 --mend-check --help" -- "$word")) ;;
-        to-pcm) COMPREPLY=($(compgen -W "--packed-in --help" -- "$word")) ;;
-        from-pcm) COMPREPLY=($(compgen -W "--status1 --status2 --set1 --set2 --mend-check --exact --help" -- "$word")) ;;
+        encode) _aes3_words --packed-out --help ;;
+        decode) _aes3_words --packed-in --help ;;
+        normal) _aes3_words --packed-in --packed-out --help ;;
+        check) _aes3_words --packed-in --faults --gaps --help ;;
+        show) _aes3_words --packed-in --changes --help ;;
+        scan) _aes3_words --packed-in --help ;;
+        cut) _aes3_words --packed-in --packed-out --help ;;
+        rewrite) _aes3_words --packed-in --packed-out --status1 --status2 --set1 --set2 --mend-check --help ;;
+        to-pcm) _aes3_words --packed-in --help ;;
+        from-pcm) _aes3_words --status1 --status2 --set1 --set2 --mend-check --exact --help ;;
     esac
 }
 complete -F _aes3 aes3

@@ -1,8 +1,60 @@
-# Completion of aes3 in fish. Made by bin/make-manual from the help of the program.
+# Completion of aes3 in fish. Made by bin/make-manual from what the program says of itself.
+function __aes3_setting
+    switch (commandline -ct)
+        case 'payload=*'
+            printf 'payload=%s\n' pcm other
+        case 'emphasis=*'
+            printf 'emphasis=%s\n' not-indicated none 50/15 j17
+        case 'unlocked=*'
+            printf 'unlocked=%s\n' no yes
+        case 'rate=*'
+            printf 'rate=%s\n' not-indicated 44100 48000 32000 22050 24000 88200 96000 176400 192000
+        case 'mode=*'
+            printf 'mode=%s\n' not-indicated stereophonic single two-channel primary-secondary 0 1 2 3
+        case 'user=*'
+            printf 'user=%s\n' not-indicated block192 user
+        case 'aux=*'
+            printf 'aux=%s\n' undefined coordination audio user
+        case 'word=*'
+            printf 'word=%s\n' not-indicated 16 18 19 20 17 22 23 24 21
+        case 'b2high=*'
+            printf 'b2high=%s\n' 0 1 2 3
+        case 'b3=*'
+            printf 'b3=%s\n' (seq 0 255)
+        case 'b4=*'
+            printf 'b4=%s\n' (seq 0 255)
+        case 'b5=*'
+            printf 'b5=%s\n' (seq 0 255)
+        case 'unreliable=*'
+            printf 'unreliable=%s\n' 0000 1000 0100 1100 0010 1010 0110 1110 0001 1001 0101 1101 0011 1011 0111 1111
+        case 'b22low=*'
+            printf 'b22low=%s\n' 0 1 2 3 4 5 6 7 8 9 10 11 12 13 14 15
+        case 'copyright=*'
+            printf 'copyright=%s\n' asserted not-asserted
+        case 'category=*'
+            printf 'category=%s\n' general cd dat
+        case 'generation=*'
+            printf 'generation=%s\n' 0 1
+        case 'source=*'
+            printf 'source=%s\n' not-specified 1 2 3 4 5 6 7 8 9 10 11 12 13 14 15
+        case 'number=*'
+            printf 'number=%s\n' not-specified 1 2 3 4 5 6 7 8 9 10 11 12 13 14 15
+        case 'accuracy=*'
+            printf 'accuracy=%s\n' level2 level1 level3
+        case 'b3high=*'
+            printf 'b3high=%s\n' 0 1 2 3
+        case 'greatest=*'
+            printf 'greatest=%s\n' 20 24
+        case 'original=*'
+            printf 'original=%s\n' 0 1 2 3 4 5 6 7 8 9 10 11 12 13 14 15
+        case '*'
+            printf '%s=\n' payload emphasis unlocked rate mode user aux word b2high b3 b4 b5 unreliable b22low copyright category generation source number accuracy b3high greatest original
+    end
+end
 complete -c aes3 -f
 complete -c aes3 -n __fish_use_subcommand -s h -l help -d 'Print help'
 complete -c aes3 -n __fish_use_subcommand -s V -l version -d 'Print version'
-complete -c aes3 -n __fish_use_subcommand -l explain -d 'Print what the refusals mean, or the one of this NUMBER, and what to do'
+complete -c aes3 -n __fish_use_subcommand -l explain -x -a '1 2 3 4 5 6 7 8 9 10 11' -d 'Print what the refusals mean, or the one of this NUMBER, and what to do'
 complete -c aes3 -n __fish_use_subcommand -a encode -d 'Write the cells of a block file'
 complete -c aes3 -n __fish_use_subcommand -a decode -d 'Write the whole blocks as a block file'
 complete -c aes3 -n __fish_use_subcommand -a normal -d 'Write the whole blocks again, in the normal polarity'
@@ -36,16 +88,16 @@ complete -c aes3 -n '__fish_seen_subcommand_from rewrite' -l packed-in -d 'Read 
 complete -c aes3 -n '__fish_seen_subcommand_from rewrite' -l packed-out -d 'Write packed cells, eight an octet'
 complete -c aes3 -n '__fish_seen_subcommand_from rewrite' -l status1 -x -d 'The status of channel 1, in hexadecimal'
 complete -c aes3 -n '__fish_seen_subcommand_from rewrite' -l status2 -x -d 'The status of channel 2, in hexadecimal'
-complete -c aes3 -n '__fish_seen_subcommand_from rewrite' -l set1 -x -d 'A field of channel 1 as `show` prints it; may be repeated'
-complete -c aes3 -n '__fish_seen_subcommand_from rewrite' -l set2 -x -d 'A field of channel 2 as `show` prints it; may be repeated'
+complete -c aes3 -n '__fish_seen_subcommand_from rewrite' -l set1 -x -a '(__aes3_setting)' -d 'A field of channel 1 as `show` prints it; may be repeated'
+complete -c aes3 -n '__fish_seen_subcommand_from rewrite' -l set2 -x -a '(__aes3_setting)' -d 'A field of channel 2 as `show` prints it; may be repeated'
 complete -c aes3 -n '__fish_seen_subcommand_from rewrite' -l mend-check -d 'Write the check byte that professional status asks for'
 complete -c aes3 -n '__fish_seen_subcommand_from rewrite' -l help -s h -d 'Print help'
 complete -c aes3 -n '__fish_seen_subcommand_from to-pcm' -l packed-in -d 'Read packed cells, eight an octet'
 complete -c aes3 -n '__fish_seen_subcommand_from to-pcm' -l help -s h -d 'Print help'
 complete -c aes3 -n '__fish_seen_subcommand_from from-pcm' -l status1 -x -d 'The status of channel 1, in hexadecimal'
 complete -c aes3 -n '__fish_seen_subcommand_from from-pcm' -l status2 -x -d 'The status of channel 2, in hexadecimal'
-complete -c aes3 -n '__fish_seen_subcommand_from from-pcm' -l set1 -x -d 'A field of channel 1 as `show` prints it; may be repeated'
-complete -c aes3 -n '__fish_seen_subcommand_from from-pcm' -l set2 -x -d 'A field of channel 2 as `show` prints it; may be repeated'
+complete -c aes3 -n '__fish_seen_subcommand_from from-pcm' -l set1 -x -a '(__aes3_setting)' -d 'A field of channel 1 as `show` prints it; may be repeated'
+complete -c aes3 -n '__fish_seen_subcommand_from from-pcm' -l set2 -x -a '(__aes3_setting)' -d 'A field of channel 2 as `show` prints it; may be repeated'
 complete -c aes3 -n '__fish_seen_subcommand_from from-pcm' -l mend-check -d 'Write the check byte that professional status asks for'
 complete -c aes3 -n '__fish_seen_subcommand_from from-pcm' -l exact -d 'Refuse samples of more than 24 bits'
 complete -c aes3 -n '__fish_seen_subcommand_from from-pcm' -l help -s h -d 'Print help'

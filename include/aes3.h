@@ -1,5 +1,6 @@
 /*
- * aes3.h - the AES3 / IEC 60958 line codec for C, over libaes3_c.a (`rt lib` in crates/aes3_c).
+ * aes3.h - the AES3 / IEC 60958 line codec for C, over libaes3.a or libaes3.so.1, which bin/install
+ * puts in their places; the first is libaes3_c.a of `bin/build aes3_c`.
  *
  * No function allocates, prints, waits, aborts or keeps anything between calls, and each returns
  * for all arguments that meet what is said here. The library wants memcpy and memset, and nothing
@@ -28,6 +29,21 @@
 #include <stddef.h>
 #include <stdint.h>
 
+/* The version of the library, which is that of the program aes3. */
+#define AES3_VERSION_MAJOR 0
+#define AES3_VERSION_MINOR 1
+#define AES3_VERSION_PATCH 0
+#define AES3_VERSION "0.1.0"
+
+/* The sizes that the library was built for; C11 and C++11 can say so. */
+#if defined(__cplusplus) && __cplusplus >= 201103L
+#define AES3_SIZE(type, size) static_assert(sizeof(type) == (size), #type)
+#elif defined(__STDC_VERSION__) && __STDC_VERSION__ >= 201112L
+#define AES3_SIZE(type, size) _Static_assert(sizeof(type) == (size), #type)
+#else
+#define AES3_SIZE(type, size) struct aes3_no_size
+#endif
+
 #ifdef __cplusplus
 extern "C" {
 #endif
@@ -47,6 +63,7 @@ enum {
 typedef struct aes3_lock {
     uint64_t state[388];
 } aes3_lock;
+AES3_SIZE(aes3_lock, 3104);
 
 /* What is told of a place where the preamble of a block stands. */
 enum aes3_kind {
@@ -74,6 +91,7 @@ typedef struct aes3_report {
     uint8_t before;      /* the level before the block's first cell */
     uint8_t why;         /* an aes3_why */
 } aes3_report;
+AES3_SIZE(aes3_report, 1560);
 
 /* Makes a lock that has seen no cell. */
 void aes3_lock_init(aes3_lock *lock);
@@ -163,6 +181,7 @@ typedef struct aes3_professional {
     uint8_t unreliable;     /* byte 22 bits 4 to 7: bytes 0 to 5, 6 to 13, 14 to 17, 18 to 21 are unreliable */
     uint8_t b22low;         /* byte 22 bits 0 to 3 */
 } aes3_professional;
+AES3_SIZE(aes3_professional, 32);
 
 /* The fields of a status for consumer use (IEC 60958-3), likewise. */
 typedef struct aes3_consumer {
@@ -182,6 +201,7 @@ typedef struct aes3_consumer {
     uint8_t original;   /* byte 4 bits 4 to 7: original sampling frequency */
     uint8_t rest[19];   /* bytes 5 to 23 */
 } aes3_consumer;
+AES3_SIZE(aes3_consumer, 33);
 
 /*
  * Where a status is for professional use, puts its fields and answers true; else changes nothing.
@@ -202,6 +222,8 @@ enum aes3_check {
 
 /* How a professional status stands to its check byte, an aes3_check. */
 uint8_t aes3_status_check_state(const uint8_t status[24]);
+
+#undef AES3_SIZE
 
 #ifdef __cplusplus
 }

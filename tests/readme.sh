@@ -8,7 +8,7 @@
 # the folder examples is a copy. A block that begins with ```sh needs TOOL.. is left out, with a word, where one of the
 # tools is not there.
 #
-# The last line is `N passed, M failed`, and the status 0 where each example printed what it should.
+# They may leave files in out/ alone. The last line is `N passed, M failed`, and the status 0 where each example printed what it should.
 
 [ $# -gt 0 ] || { sed -n '2,11s/^# \{0,1\}//p' "$0" >&2; exit 2; }
 root=$(dirname "$(dirname "$(realpath "$0")")")
@@ -67,6 +67,14 @@ for file in "$@"; do
             diff "$part.out" "$part.got" >&2
             failed=$((failed + 1))
         fi
+    done
+    # What stands there can be typed in a clone: it leaves files in out/ alone, which .gitignore names.
+    for left in "$work/here"/* "$work/here/examples"/*; do
+        name=${left#"$work/here/"}
+        case $name in bin | examples | out) continue ;; esac
+        [ ! -e "$root/$name" ] || continue
+        echo "$file: its examples leave $name" >&2
+        failed=$((failed + 1))
     done
 done
 echo "$passed passed, $failed failed"

@@ -80,14 +80,6 @@ build clang++ -x c++ -std=c++11
 judge "the Makefile" make -s -C "$here" OUT="$folder" LIB="$library"
 judge "the stack of a call" ./stack
 
-if command -v python3 >/dev/null; then
-    export AES3_LIB="$folder/libaes3.so"
-    compare python3 "$here/aes3.py"
-    echo "run: Python over libaes3.so"
-else
-    echo "left out: Python over libaes3.so (python3 is not installed)"
-fi
-
 # What the library wants of others.
 nm -u "$library" | sed -n 's/^ *U //p' | sort -u | tr '\n' ' ' >wants
 echo "wants: $(cat wants)"

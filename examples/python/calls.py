@@ -1,0 +1,56 @@
+#!/usr/bin/env python3
+"""Each call of the module, on a block file, with answers that are known: calls.py BLOCKFILE PACKED VERSION, where PACKED are the
+cells of the block file. Says whether arrays of numpy went in and out; status 1 where an answer is another."""
+
+import struct
+import sys
+
+import aes3
+
+file, packed = (open(name, "rb").read() for name in sys.argv[1:3])
+words = struct.unpack(f"<{len(file) // 4}I", file)
+blocks = [words[at : at + 384] for at in range(0, len(words), 384)]
+assert aes3.VERSION == sys.argv[3]
+
+# Cells of blocks, and blocks of cells, in one piece and word by word.
+cells, rest = aes3.words_of_packed(packed)
+assert rest == (0, 0) and len(cells) == len(words)
+made = [word for block in blocks for word in aes3.encode_block(block)]
+assert made == list(cells)
+lock = aes3.Lock()
+reports = lock.take(cells) + lock.finish()
+assert [tuple(report.words) for report in reports] == blocks and lock.seen() == 64 * len(cells)
+lock = aes3.Lock()
+one_by_one = [report for word in made[:1000] for report in lock.push(word, 64)]
+assert [str(report) for report in one_by_one] == [str(report) for report in reports[:2]]
+text = "".join(format(int(word), "064b")[::-1] for word in made[:100]) + "\n101"
+assert [list(it) for it in aes3.words_of_text(text)] == [made[:100], [5, 3]]
+
+# Status.
+assert aes3.block_status(blocks[0], 1) == bytes([4, 0, 0, 2, 0x0B] + 19 * [0])
+status = bytes.fromhex("85022c0000004a4154480000000000000000000000000000")
+assert aes3.check_byte(status) == int(sys.argv[4], 16)
+
+
+def is_refused(call, *words):
+    try:
+        call(*words)
+    except ValueError:
+        return True
+    return False
+
+
+assert is_refused(aes3.encode_block, [1] + 383 * [0]) and is_refused(aes3.encode_block, 383 * [0])
+assert is_refused(aes3.block_status, blocks[0], 3) and is_refused(aes3.check_byte, b"")
+assert is_refused(aes3.words_of_text, "012") and is_refused(aes3.words_of_packed, b"\0\x08") and is_refused(aes3.words_of_packed, b"\1\1")
+assert is_refused(lock.push, 0, 65)
+
+if aes3.numpy:
+    assert str(cells.dtype) == str(aes3.encode_block(blocks[0]).dtype) == "uint64"
+    assert str(reports[0].words.dtype) == "uint32"
+    # An array with gaps, and one of another type, are taken as their numbers.
+    wide = aes3.numpy.zeros(2 * len(cells), aes3.numpy.uint64)
+    wide[::2] = cells
+    for array in wide[::2], cells.astype(">u8"), [int(it) for it in cells]:
+        assert len(aes3.Lock().take(array)) == len(blocks) - 1
+print("with numpy" if aes3.numpy else "without numpy")

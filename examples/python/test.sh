@@ -1,0 +1,93 @@
+#!/bin/sh
+# test.sh [PROGRAM [LIBRARY]]: installs the module of python/ by pip in a scratch folder, and runs the examples over it and the shared
+# library: each call, and check.py on whole and damaged lines, whose lines have to be those of PROGRAM. Done with numpy and without.
+# PROGRAM is bin/aes3 where none is given, LIBRARY what `bin/build aes3_c` makes.
+# The last line is `N passed, M failed`; status 1 where one differs.
+here=$(dirname "$(realpath "$0")")
+root=$(realpath "$here/../..")
+program=$(realpath "${1:-$root/bin/aes3}") || exit 2
+library=$(realpath "${2:-$root/crates/aes3_c/out/libaes3_c.a}") || exit 2
+folder=$(mktemp -d) || exit 2
+trap 'rm -rf "$folder"' EXIT
+cd "$folder" || exit 2
+passed=0 failed=0
+
+# judge WHAT COMMAND..
+judge() {
+    what=$1
+    shift
+    if "$@" >said 2>&1; then
+        passed=$((passed + 1))
+    else
+        failed=$((failed + 1))
+        echo "test: $what differs" >&2
+        cat said >&2
+    fi
+}
+
+export AES3_LIB="$folder/libaes3.so.1" PYTHONDONTWRITEBYTECODE=1
+"$root/bin/link-shared" "$AES3_LIB" "$library" || exit 2
+
+if python3 -m pip --version >/dev/null 2>&1; then
+    find "$root/python" | sort >before
+    judge "pip install" python3 -m pip install -q --no-index --target site "$root/python"
+    judge "what pip installed" cmp site/aes3/__init__.py "$root/python/aes3/__init__.py"
+    find "$root/python" | sort >after
+    judge "the files of python/, where pip should leave none," cmp before after
+    export PYTHONPATH="$folder/site"
+else
+    echo "left out: pip install ./python (pip is not installed)"
+    export PYTHONPATH="$root/python"
+fi
+
+speech=$root/examples/speech.block
+version=$("$program" --version | cut -d' ' -f2)
+"$program" encode --packed-out <"$speech" >speech.packed
+"$program" encode <"$speech" >line.txt
+sed '48200s/^1/0/' line.txt | tail -c +12538 >damaged.txt
+# In the other polarity, cut by the end; and with the last parity bit of all wrong.
+head -c 3200000 line.txt | tr 01 10 >turned.txt
+head -n 1152 line.txt | sed '$ { s/0$/x/; s/1$/0/; s/x$/1/; }' >marked.txt
+status=85022c0000004a4154480000000000000000000000000000
+check_byte=$("$program" cut 0 1 <line.txt | "$program" rewrite --status1 $status --mend-check | "$program" decode | python3 -c '
+import struct, sys
+words = struct.unpack("<384I", sys.stdin.buffer.read())
+print(format(sum((words[2 * (184 + i)] >> 30 & 1) << i for i in range(8)), "02x"))')
+
+tells() { # PYTHON FILE OPTION..
+    tried=$1 file=$2
+    shift 2
+    { "$tried" "$here/check.py" "$@" <"$file" && echo 0 || echo $?; } >got
+    { "$program" check "$@" <"$file" && echo 0 || echo $?; } >want
+    cmp got want
+}
+
+sed -n '/^```python$/,/^```$/p' "$root/docs/C.md" | sed '/^```/d' >shown.py
+ln -s speech.packed line.packed
+shown() { # PYTHON
+    "$1" shown.py >got && "$program" check <line.txt | cmp - got
+}
+
+examples() { # PYTHON
+    judge "calls.py by $1" "$1" "$here/calls.py" "$speech" speech.packed "$version" "$check_byte"
+    echo "run: $1, $(cat said)"
+    judge "check.py by $1 on packed cells" tells "$1" speech.packed --packed-in
+    judge "the example of docs/C.md by $1" shown "$1"
+    for name in line damaged turned marked; do judge "check.py by $1 on $name" tells "$1" $name.txt; done
+}
+
+# Without numpy, also where it is installed.
+printf '#!/bin/sh\nexec python3 -c "import runpy, sys; sys.modules[\\"numpy\\"] = None; del sys.argv[0]; runpy.run_path(sys.argv[0], run_name=\\"__main__\\")" "$@"\n' >plain
+chmod +x plain
+examples "$folder/plain"
+with=
+for python in python3 /usr/bin/python3; do
+    [ -n "$with" ] || ! "$python" -c 'import numpy' 2>/dev/null || with=$python
+done
+if [ -n "$with" ]; then
+    examples "$with"
+else
+    echo "left out: the examples with arrays of numpy (it is not installed)"
+fi
+echo "$passed passed, $failed failed"
+[ "$failed" = 0 ]

@@ -1,0 +1,240 @@
+"""Finds and makes the blocks of AES3 / IEC 60958 lines, by ctypes over the shared library libaes3.so.1.
+
+The library is that of the environment variable AES3_LIB, or the one that the system or this Python's prefix has (`bin/install`
+of the sources puts it there). Words come as any sequence of whole numbers, or without a copy as an array of numpy; where numpy
+is there, arrays are given back, of uint64 for cells and uint32 for a block's words, and else lists.
+
+    import aes3
+
+    lock = aes3.Lock()
+    words, rest = aes3.words_of_packed(open("line.packed", "rb").read())
+    for report in lock.take(words) + lock.push(*rest) + lock.finish():
+        print(report)
+"""
+
+import ctypes as c
+import os
+import sys
+
+try:
+    import numpy
+except ImportError:
+    numpy = None
+
+VERSION = "0.1.0"  # of the program aes3 and of aes3.h
+
+NONE, WHOLE, MARKED, FAULT, UNFINISHED = range(5)
+WHYS = "preamble", "biphase", "unclosed"
+
+_Words = c.c_uint32 * 384
+_Cells = c.c_uint64 * 384
+_Status = c.c_uint8 * 24
+
+
+def _library():
+    name = "libaes3.so.1"
+    places = [os.environ["AES3_LIB"]] if os.environ.get("AES3_LIB") else [name, os.path.join(sys.prefix, "lib", name)]
+    for place in places:
+        try:
+            return c.CDLL(place)
+        except OSError as error:
+            last = error
+    raise ImportError(f"no {name} ({last}): bin/install of the sources brings it, and AES3_LIB can say where it is")
+
+
+_lib = _library()
+
+
+class _Lock(c.Structure):
+    _fields_ = [("state", c.c_uint64 * 388)]
+
+
+class _Report(c.Structure):
+    _fields_ = [("at", c.c_uint64), ("cell", c.c_uint64), ("words", _Words), ("wrong", c.c_uint16),
+                ("kind", c.c_uint8), ("before", c.c_uint8), ("why", c.c_uint8)]
+
+
+def _declare(name, result, *arguments):
+    function = getattr(_lib, name)
+    function.restype, function.argtypes = result, arguments
+    return function
+
+
+_init = _declare("aes3_lock_init", None, c.POINTER(_Lock))
+_seen = _declare("aes3_lock_seen", c.c_uint64, c.POINTER(_Lock))
+_take_words = _declare("aes3_lock_take_words", c.c_size_t, c.POINTER(_Lock), c.c_void_p, c.c_size_t)
+_push = _declare("aes3_lock_push", c.c_uint32, c.POINTER(_Lock), c.c_uint64, c.c_uint32, c.POINTER(_Report))
+_finish = _declare("aes3_lock_finish", None, c.POINTER(_Lock), c.POINTER(_Report))
+_encode_block = _declare("aes3_encode_block", c.c_uint32, c.POINTER(_Words), c.c_uint8, c.POINTER(_Cells))
+_block_status = _declare("aes3_block_status", c.c_uint32, c.POINTER(_Words), c.c_uint8, c.POINTER(_Status))
+_check_byte = _declare("aes3_status_check_byte", c.c_uint8, c.POINTER(_Status))
+
+
+# ---- arrays
+
+
+def _out(array):
+    """A ctypes array as what the caller is given, with memory of its own."""
+    return numpy.array(array) if numpy else list(array)
+
+
+def _cells_in(words):
+    """Words of cells in one piece of memory, as a ctypes array over it."""
+    if numpy:
+        array = numpy.ascontiguousarray(words, dtype=numpy.uint64)
+        if array.ndim != 1:
+            raise ValueError("words of cells are one row")
+        found = (c.c_uint64 * len(array)).from_address(array.ctypes.data) if len(array) else (c.c_uint64 * 0)()
+        found.owner = array
+        return found
+    return (c.c_uint64 * len(words))(*words)
+
+
+def _block_in(words):
+    if len(words) != 384:
+        raise ValueError("a block has 384 words")
+    return _Words(*map(int, words))
+
+
+def _status_in(status):
+    if len(status) != 24:
+        raise ValueError("a channel status has 24 bytes")
+    return _Status(*status)
+
+
+# ---- cells in other forms
+
+
+def _words(cells, count):
+    """Of `count` cells, a text of `0` and `1`: the words of 64, and the word and number of those left."""
+    whole = count // 64 * 64
+    # The first character of a number is its highest bit, and the first cell of a word its lowest.
+    words = (c.c_uint64 * (whole // 64))(*(int(cells[i : i + 64][::-1], 2) for i in range(0, whole, 64)))
+    return _out(words), (int(cells[whole:count][::-1] or "0", 2), count - whole)
+
+
+def words_of_text(text):
+    """The words of 64 cells of a text of `0` and `1`, and the word and number of the cells left, as push takes them."""
+    text = text.encode() if isinstance(text, str) else bytes(text)
+    text = text.translate(None, delete=b"\n\r ")
+    if text.strip(b"01"):
+        raise ValueError("a character that is no cell")
+    if not numpy:
+        return _words(text.decode(), len(text))
+    return _packed(numpy.frombuffer(text, numpy.uint8) & 1)
+
+
+def words_of_packed(octets):
+    """The same of packed cells, eight an octet, of which the last octet counts the unused ones."""
+    octets = bytes(octets)
+    if not octets or octets[-1] > 7 or (octets[-1] and len(octets) == 1):
+        raise ValueError("packed cells end with the number of unused cells, 0 to 7")
+    if octets[-1] and octets[-2] % (1 << octets[-1]):
+        raise ValueError("unused cells are 0")
+    count = 8 * (len(octets) - 1) - octets[-1]
+    if not numpy:
+        cells = bin(int.from_bytes(b"\1" + octets[:-1], "big"))[3:]
+        return _words(cells, count)
+    return _packed(numpy.unpackbits(numpy.frombuffer(octets, numpy.uint8))[:count])
+
+
+def _packed(cells):
+    """The same of an array of cells, one an element."""
+    whole = len(cells) // 64 * 64
+    words = numpy.packbits(cells[:whole], bitorder="little").view("<u8").astype(numpy.uint64)
+    return words, (sum(int(it) << i for i, it in enumerate(cells[whole:])), len(cells) - whole)
+
+
+# ---- blocks and status
+
+
+def _lawful(answer):
+    if answer != 384:
+        raise ValueError(f"word {answer} is not lawful")
+
+
+def encode_block(words, before=0):
+    """The 384 words of cells of a block of 384 words; ValueError where a word is not lawful."""
+    cells = _Cells()
+    _lawful(_encode_block(c.byref(_block_in(words)), before, c.byref(cells)))
+    return _out(cells)
+
+
+def block_status(words, channel):
+    """The channel status of channel 1 or 2 of a block; ValueError where a word is not lawful."""
+    if channel not in (1, 2):
+        raise ValueError("the channels are 1 and 2")
+    status = _Status()
+    _lawful(_block_status(c.byref(_block_in(words)), channel, c.byref(status)))
+    return bytes(status)
+
+
+def check_byte(status):
+    """The check byte of a professional channel status of 24 bytes."""
+    return _check_byte(c.byref(_status_in(status)))
+
+
+# ---- the lock
+
+
+class Report:
+    """What is told of a place where the preamble of a block stands; the fields are those of aes3.h."""
+
+    def __init__(self, told):
+        self.kind, self.at, self.cell, self.before = told.kind, told.at, told.cell, told.before
+        self.wrong, self.why = told.wrong, told.why
+        self.words = _out(told.words) if told.kind == WHOLE else None
+
+    def __str__(self):
+        """Its line, as `aes3 check` writes it."""
+        if self.kind == WHOLE:
+            return f"whole at {self.at} before {self.before}"
+        if self.kind == MARKED:
+            return f"marked at {self.at} before {self.before} wrong {self.wrong}"
+        if self.kind == FAULT:
+            return f"fault at {self.at} cell {self.cell} {WHYS[self.why]}"
+        return f"unfinished at {self.at} cells {self.cell}"
+
+
+class Lock:
+    """Finds the blocks in words of 64 cells, the earliest cell in bit 0."""
+
+    def __init__(self):
+        self._lock = _Lock()
+        _init(c.byref(self._lock))
+
+    def seen(self):
+        """How many cells it has seen."""
+        return _seen(c.byref(self._lock))
+
+    def take(self, words):
+        """The list of the reports that these words of cells decide."""
+        words = _cells_in(words)
+        reports, at = [], 0
+        while at < len(words):
+            at += _take_words(c.byref(self._lock), c.byref(words, 8 * at), len(words) - at)
+            if at < len(words):
+                reports += self.push(words[at], 64)
+                at += 1
+        return reports
+
+    def push(self, word, count):
+        """The list of the reports that the first `count` cells of a word decide."""
+        if not 0 <= count <= 64:
+            raise ValueError("a word has 64 cells")
+        word, reports = int(word), []
+        while count:
+            told = _Report()
+            taken = _push(c.byref(self._lock), word, count, c.byref(told))
+            if not taken:
+                raise OverflowError("a lock takes 2^43 cells")
+            word, count = word >> taken, count - taken
+            if told.kind != NONE:
+                reports.append(Report(told))
+        return reports
+
+    def finish(self):
+        """The list of the one report that the end of the cells decides, or of none."""
+        told = _Report()
+        _finish(c.byref(self._lock), c.byref(told))
+        return [] if told.kind == NONE else [Report(told)]
