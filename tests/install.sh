@@ -82,7 +82,8 @@ if [ -e "$to/lib/libaes3.so.1" ]; then
     cc -I"$to/include" -o "$work/version" "$work/version.c"
     sed -n '/^```c$/,/^```$/p' "$root/README.md" | sed '/^```/d' >"$work/readme.c"
     judge "the example of the README" cc -std=c99 -Wall -Wextra -pedantic -Werror -I"$to/include" -fsyntax-only "$work/readme.c"
-    sed -n '/^```c$/,/^```$/p' "$root/docs/C.md" | sed '/^```/d' >"$work/c.c"
+    # The first is a whole program; a later one is a part of one.
+    awk '/^```c$/ { inside = 1; next } /^```$/ && inside { exit } inside' "$root/docs/C.md" >"$work/c.c"
     judge "the example of docs/C.md" cc -std=c99 -Wall -Wextra -pedantic -Werror -I"$to/include" -fsyntax-only "$work/c.c"
     judge "the version of the header" test "$("$work/version")" = "$version $version"
     sed 's/state\[388\]/state[389]/' "$to/include/aes3.h" >"$work/aes3.h"
