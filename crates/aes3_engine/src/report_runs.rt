@@ -72,6 +72,7 @@ impl<W: ReportWriter> Reporter for Counting<W> {
 
     ghost finished = { λ k. IsTallyOf k.tally };
 
+    #[inline(always)]
     fn tell<T: Sink>(&mut self, sink: &mut T, lock: &Lock, ending: Ending) -> Result<(), Fault> {
         match self.writer.tell(sink, self.tally.blocks, lock, ending) {
             Ok(()) => {

@@ -27,6 +27,7 @@ impl ReportWriter for ReportLines {
 
     ghost ends = { λ _. [] };
 
+    #[inline(always)]
     fn tell<T: Sink>(
         &self,
         sink: &mut T,

@@ -23,6 +23,9 @@ fn put_reason(line: &mut Tail, why: Why)
 }
 
 /// Makes the line of the report of an ending. None of it is of the block's bits.
+// Not inlined, so that what calls it is, up to the lock, as it answers every few cells where many
+// candidates end.
+#[inline(never)]
 fn put_ending(line: &mut Tail, ending: Ending)
     requires none { line.old ≡ [] }
     ensures { line.new ≡ report_line (ending_report [] ending) }
@@ -130,6 +133,7 @@ pub fn line_of_report<T: Sink>(report: &Report, sink: &mut T) -> Result<(), Faul
 ///
 /// # Errors
 /// The sink's fault; then it has taken a front of the line.
+#[inline(always)]
 pub(crate) fn tell_ending<T: Sink>(lines: Lines, ending: Ending, sink: &mut T) -> Result<(), Fault>
     requires room { T.failed sink.old + 1 < 2 ^ 64 }
     ensures { Wrote T.taken T.failed sink.old sink.new
