@@ -183,10 +183,10 @@ pub extern "C" fn aes3_lock_finish(lock: &Aes3Lock, report: &mut Aes3Report)
         → reports cells ≡ decided cells ++ option_to_list (told_in report.new) }
     ensures codes { Tells (told_in report.new) report.new }
 {
-    // Read where it stands: a report moved out would take as much stack again.
-    let told = lock_of(lock).finish();
-    match &told {
-        Some(told) => put_report(told, report),
+    // Not by `Lock::finish`: a lock moved into it would take as much stack again.
+    let state = lock_of(lock);
+    match state.end() {
+        Some(last) => put_report(&state.report(last), report),
         None => put_none(report),
     }
 }

@@ -458,6 +458,8 @@ impl Lock {
     }
 
     /// The report of an ending that it answered with the last cell that it took.
+    // Inlined, and so is `finish`, so that no caller has copies of a block on its stack.
+    #[inline(always)]
     pub fn report(&self, ending: Ending) -> Report
         ensures { result ≡ report_in self.now ending }
     {
@@ -545,6 +547,7 @@ impl Lock {
     }
 
     /// Takes the end of the cells, and answers the report that it decides.
+    #[inline(always)]
     pub fn finish(self) -> Option<Report>
         ensures { (cells : List Level) → Follows self cells
             → reports cells ≡ decided cells ++ option_to_list result }
