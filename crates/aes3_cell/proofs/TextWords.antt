@@ -1,12 +1,11 @@
 -- Words of cells in text.
-use Rattle.std.proofs.Common.{◌≡◌, ℕ, zero, suc, ◌-◌, ◌/◌, ◌%◌, ◌^◌, ◌<◌, ◌≤◌, ◌⊎◌, inl, inr, max, List, length, map, get_or, ext_get_or, eq-eqb, ne_eqb, lit<, w64, min, take, refl, sym, ap, ◌∙◌, arith}
+use Rattle.std.proofs.Common.{◌≡◌, ℕ, zero, suc, ◌-◌, ◌/◌, ◌%◌, ◌^◌, ◌<◌, ◌⊎◌, inl, inr, max, List, length, map, get_or, ext_get_or, eq-eqb, ne_eqb, lit<, refl, sym, ap, ◌∙◌, arith}
 use Rattle.std.specs.Prelude.{bit_or, ◌==◌, if◌then◌else◌}
-use Rattle.std.specs.Int.{bit_at, bit_not, trailing_zeros}
-use Rattle.std.specs.Int.Count.{trailing_of_zero}
+use Rattle.std.specs.Int.{bit_at}
 use Rattle.std.proofs.lemmas.Bool.{cases_eq}
-use Rattle.std.proofs.lemmas.List.{length-map, length-take-le, get_or-map, get_or-take}
-use Rattle.std.proofs.lemmas.Nat.{and_mask, or_lt}
-use Rattle.std.proofs.lemmas.Nat.Bits.{bit_at_and, bit_at_not, bit_at_or, bit_at_ones, bit_at-lt, bit_at-trailing_zeros, bit_at-zero, same_from_bits_below}
+use Rattle.std.proofs.lemmas.List.{length-map, get_or-map}
+use Rattle.std.proofs.lemmas.Nat.{or_lt}
+use Rattle.std.proofs.lemmas.Nat.Bits.{bit_at_or, bit_at_ones, bit_at-lt, same_from_bits_below}
 use Rattle.std.proofs.Math.Nat.{pow-succ'}
 use Rattle.aes3_cell.specs.declared.level.Level.{Level}
 use Rattle.aes3_cell.specs.declared.level.Level.TheVariants.{Low, High}
@@ -63,59 +62,6 @@ module _ (bytes : List ℕ) (h l : ℕ) (len : length bytes ≡ 64)
   all-set a b cells =
       same_from_bits_below 64 (bit_or h l) (2 ^ 64 - 1) (or_lt 64 h l a b) (lit< tt)
       (λ i g. cell-set i g (cells i g) ∙ sym (bit_at_ones 64 i g))
-
-  -- the cells before the first byte that is none
-  pub front-cells : (n w : ℕ) → n ≤ 64 → ((i : ℕ) → i < n → bit_at (bit_or h l) i ≡ 1) → ((i : ℕ) → i < n → bit_at w i ≡ bit_at h i)
-      → take n bytes ≡ map byte_of (low_cells n w)
-  front-cells n w m set same =
-      let a = length-take-le n bytes (omega (arith, len, m)) in
-      let b = length-low_cells n w in
-      let c = length-map (low_cells n w) byte_of in
-      ext_get_or 0 (take n bytes) (map byte_of (low_cells n w)) (a ∙ sym (c ∙ b))
-      (λ i g. each i (omega (arith, g, a)))
-    where
-      each : (i : ℕ) → i < n → get_or (take n bytes) i 0 ≡ get_or (map byte_of (low_cells n w)) i 0
-      each i g =
-          get_or-take n bytes i 0 g ∙ byte-here i (omega (arith, g, m)) (set i g) ∙ ap (λ x. byte_of (level_of x)) (sym (same i g))
-          ∙ ap byte_of (sym (low_cells-at n w i g)) ∙ sym (get_or-map byte_of (low_cells n w) i Low 0 (let b = length-low_cells n w in omega (arith, g, b)))
-
--- the lowest bit that is not set
-pub record LowestUnset (x n : ℕ) : Type 0 where
-  pub few : n ≤ 64
-  pub set : (i : ℕ) → i < n → bit_at x i ≡ 1
-  pub unset : n < 64 → bit_at x n ≡ 0
-
-pub lowest-unset : (x : ℕ) → x < 2 ^ 64 → LowestUnset x (trailing_zeros w64 (bit_not w64 x))
-lowest-unset x h = go (cases_eq (bit_not w64 x) 0)
-  where
-    flip : (i : ℕ) → i < 64 → bit_at (bit_not w64 x) i ≡ 1 - bit_at x i
-    flip i g = bit_at_not w64 x i h g
-
-    zero-one : (i : ℕ) → i < 64 → bit_at (bit_not w64 x) i ≡ 0 → bit_at x i ≡ 1
-    zero-one i g e = let f = flip i g in let l = bit_at-lt x i in omega (arith, e, f, l)
-
-    go : (bit_not w64 x ≡ 0) ⊎ (bit_not w64 x ≡ 0 → ⊥) → LowestUnset x (trailing_zeros w64 (bit_not w64 x))
-    go (inl z) =
-        let n : trailing_zeros w64 (bit_not w64 x) ≡ 64 = ap (trailing_zeros w64) z ∙ trailing_of_zero 64 in record {
-          few = omega (arith, n);
-          set = λ i g. zero-one i (omega (arith, n, g)) (ap (λ v. bit_at v i) z ∙ bit_at-zero i);
-          unset = λ g. absurd (omega (arith, n, g));
-        }
-    go (inr s) =
-        let z = bit_at-trailing_zeros w64 (bit_not w64 x) (omega (arith, s)) (not-lt x) in record {
-          few = let l = z.0 in omega (arith, l);
-          set = λ i g. zero-one i (let l = z.0 in omega (arith, l, g)) (z.2 i g);
-          unset = λ g. let f = flip (trailing_zeros w64 (bit_not w64 x)) g in let e = z.1 in let l = bit_at-lt x (trailing_zeros w64 (bit_not w64 x)) in omega (arith, e, f, l);
-        }
-      where
-        not-lt : (x : ℕ) → bit_not w64 x < 2 ^ 64
-        not-lt x = omega arith
-
--- the bits below n
-pub bit_at-low : (x n i : ℕ) → i < n → bit_at (x % 2 ^ n) i ≡ bit_at x i
-bit_at-low x n i h =
-    let l = bit_at-lt x i in
-    ap (λ v. bit_at v i) (sym (and_mask x n)) ∙ bit_at_and x (2 ^ n - 1) i ∙ ap (min (bit_at x i)) (bit_at_ones n i h) ∙ omega (arith, l)
 
 -- text of cells has no other byte
 pub cell-bytes : (bytes : List ℕ) (w i : ℕ) → bytes ≡ map byte_of (word_cells w) → i < 64 → IsCellByte (get_or bytes i 0)

@@ -1,5 +1,9 @@
 -- What sources and sinks tell of their bytes.
-use Rattle.std.specs.Prelude.{ℕ, List, ◌++◌, Option, Some, ◌≡◌}
+use Rattle.std.specs.Prelude.{ℕ, List, ◌++◌, Option, Some, None, ◌≡◌}
+
+-- what an end tells of its bytes that doesn't tell them
+abbrev pub untold : Option (List ℕ)
+untold = None
 
 -- where an end tells its bytes, they grew by bytes
 pub record Grew (old new : Option (List ℕ)) (bytes : List ℕ) : Type 0 where

@@ -1,8 +1,8 @@
 -- Packed cells read octet by octet.
-use Rattle.std.specs.Prelude.{ℕ, zero, suc, List, [], ◌∷◌, length, take, get_or, reverse, Option, Some, None, Result, Ok, Err, ◌+◌, ◌-◌, ◌==◌, nat_lt, if◌then◌else◌}
+use Rattle.std.specs.Prelude.{ℕ, zero, suc, List, [], length, take, get_or, reverse, Option, Some, None, Result, Ok, Err, ◌+◌, ◌-◌, ◌==◌, nat_lt, if◌then◌else◌}
 use Rattle.aes3_cell.specs.declared.refusal.BadPadding.{BadPadding}
 use Rattle.aes3_cell.specs.declared.level.Level.{Level}
-use Rattle.aes3_cell.specs.Packed.{octet_cells, cells_of_octets, is_padded}
+use Rattle.aes3_cell.specs.Packed.{octet_cells, is_padded}
 
 -- how many octets a reader has taken, the last of them and the one before it; 0 where there is none
 pub record PackedReader : Type 0 where
@@ -25,13 +25,6 @@ packed_answer reader = if nat_lt reader.seen 2 then None else Some reader.before
 -- the reader behind one more octet
 abbrev pub packed_next : PackedReader → ℕ → PackedReader
 packed_next reader octet = record { seen = reader.seen + 1; before_last = reader.last; last = octet }
-
--- the reader behind eight more octets, and the cells that these make whole, where two or more came before: those of the last two and of the first six
-abbrev pub behind_eight : PackedReader → List ℕ → PackedReader
-behind_eight reader octets = record { seen = reader.seen + 8; before_last = get_or octets 6 0; last = get_or octets 7 0 }
-
-abbrev pub eight_whole : PackedReader → List ℕ → List Level
-eight_whole reader octets = cells_of_octets (reader.before_last ∷ reader.last ∷ take 6 octets)
 
 -- what a reader answers to the end behind this many octets, the last two of them given:
 -- the one before the last and how many of its cells are used, nothing for the one octet 0, else the place of the last

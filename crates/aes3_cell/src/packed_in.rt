@@ -26,8 +26,7 @@ ghost use Rattle.std.specs.List.{flat_map};
 ghost use Rattle.aes3_cell.specs.Packed.{IsPacked, is_padded};
 ghost use Rattle.aes3_cell.specs.PackedFeeding.{cells_fed, octets_fed};
 ghost use Rattle.aes3_cell.specs.PackedReading.{packed_answer, packed_next, packed_end};
-ghost use Rattle.aes3_cell.specs.PackedReading.{packed_reader_of, end_answer, behind_eight};
-ghost use Rattle.aes3_cell.specs.PackedReading.{eight_whole};
+ghost use Rattle.aes3_cell.specs.PackedReading.{packed_reader_of, end_answer};
 ghost use Rattle.aes3_cell.specs.Words.{word_cells};
 
 use crate::packed_words::words_of_octets;
@@ -93,49 +92,9 @@ impl PackedIn {
         whole
     }
 
-    /// Takes eight more octets, where two or more came before, and answers the cells of those that
-    /// are whole now as a word, the first in the lowest bit: the last two before and the first six
-    /// of these.
-    pub fn feed_word(&mut self, octets: &[u8; 8]) -> Option<u64>
-        requires { self.old.seen + 8 ≤ 2 ^ 40 }
-        ensures answer { IsSome result ↔ 2 ≤ self.old.seen }
-        ensures cells { IfSome result (λ word. word_cells word ≡ eight_whole self.old octets.now) }
-        ensures next { OnSome result (self.new ≡ behind_eight self.old octets.now) }
-        ensures none { IfNone result (self.new ≡ self.old) }
-    {
-        if self.seen < 2 {
-            return None;
-        }
-        let [
-            first,
-            second,
-            third,
-            fourth,
-            fifth,
-            sixth,
-            before_last,
-            last,
-        ] = *octets;
-        let whole = [
-            self.before_last,
-            self.last,
-            first,
-            second,
-            third,
-            fourth,
-            fifth,
-            sixth,
-        ];
-        self.seen += 8;
-        self.before_last = before_last;
-        self.last = last;
-        Some(word_of_octets(&whole))
-    }
-
     /// Takes eight more octets for each word, where two or more came before; the words are then the
-    /// cells of those that are whole now, the first of each in the lowest bit.
-    ///
-    /// It is `feed_word` for many words.
+    /// cells of those that are whole now, the first of each in the lowest bit: the last two before
+    /// and all but the last two of these.
     pub fn feed_words(&mut self, octets: &[u8], words: &mut [u64])
         requires begun { 2 ≤ self.old.seen }
         requires room { self.old.seen + length octets.now ≤ 2 ^ 40 }

@@ -28,7 +28,7 @@ ghost use Rattle.aes3_cell.specs.TextReading.{text_answer, text_next, text_reade
 use crate::level::Level;
 use crate::refusal::BadCell;
 use crate::scattered::cells_among;
-use crate::text_words::{SomeCells, front_cells, words_of_lines};
+use crate::text_words::{SomeCells, words_of_lines};
 use crate::word::{LINE_LEN, word_of_text};
 
 impl CellText {
@@ -117,19 +117,5 @@ impl CellText {
         let cells = cells_among(bytes)?;
         self.seen += bytes.len() as u64;
         Some(cells)
-    }
-
-    /// Takes the cells that come first, at most 64.
-    pub fn feed_cells(&mut self, text: &[u8]) -> SomeCells
-        requires { self.old.seen + length text.now ≤ 2 ^ 40 }
-        ensures within { result.len ≤ length text.now }
-        ensures cells { take result.len text.now ≡ map byte_of (low_cells result.len result.word) }
-        ensures stops { result.len < 64 → result.len < length text.now
-            → ¬ IsCellByte (slice_index_or text.now result.len 0) }
-        ensures seen { self.new.seen ≡ self.old.seen + result.len }
-    {
-        let cells = front_cells(text);
-        self.seen += u64::from(cells.len);
-        cells
     }
 }

@@ -1,5 +1,5 @@
 -- Runs over cells.
-use Rattle.std.proofs.Common.{◌≡◌, ◌≢◌, ℕ, ◌+◌, ◌≤◌, Bool, List, length, take, Result, Ok, Err, refl, ap, arith}
+use Rattle.std.proofs.Common.{◌≡◌, ◌≢◌, ℕ, ◌≤◌, Bool, List, length, take, Result, Ok, Err, refl, ap, arith}
 use Rattle.std.proofs.lemmas.List.{take_all}
 use Rattle.aes3_cell.specs.declared.level.Level.{Level}
 use Rattle.aes3_cell.specs.declared.form.Form.{Form}
@@ -11,7 +11,7 @@ use Rattle.aes3_cell.specs.CellText.{good}
 use Rattle.aes3_input.specs.Running.{Movement}
 use Rattle.aes3_input.specs.Taking.{Writing, before_end, with_end}
 use Rattle.aes3_input.specs.Inputs.{IsInput, cells_of, BadByteAt, BadEndAt}
-use Rattle.aes3_input.specs.Driving.{IsCause, Drive, CellRun, driven, over_cells}
+use Rattle.aes3_input.specs.Driving.{IsCause, Drive, CellRun, over_cells}
 use Rattle.aes3_input.proofs.InputRuns.{Gives, run-ok, run-err, run-is}
 
 -- the same said of what cells write in other words

@@ -1,16 +1,14 @@
 -- Words of cells taken from the front of a piece.
-use Rattle.std.proofs.Common.{◌≡◌, ℕ, ◌+◌, ◌≤◌, List, [], ◌++◌, Option, None, length, sym, ap, ap₂, ◌∙◌, subst, append_assoc, length-append}
+use Rattle.std.proofs.Common.{◌≡◌, ℕ, ◌+◌, List, [], ◌++◌, Option, None, length, sym, ap, ap₂, ◌∙◌, subst, length-append}
 use Rattle.std.proofs.lemmas.List.{append_cancel_left}
 use Rattle.aes3_cell.specs.declared.level.Level.{Level}
 use Rattle.aes3_cell.specs.Ends.{Grew, GrewFront}
-use Rattle.aes3_cell.specs.Words.{word_cells}
 use Rattle.aes3_cell.specs.CellText.{cells_of_text, IsCellText}
 use Rattle.aes3_cell.specs.TextReading.{TextReader, text_reader_of}
 use Rattle.aes3_cell.specs.Packed.{whole_cells}
-use Rattle.aes3_cell.specs.PackedReading.{PackedReader, packed_reader_of, behind_eight, eight_whole}
+use Rattle.aes3_cell.specs.PackedReading.{PackedReader, packed_reader_of}
 use Rattle.aes3_cell.proofs.Growing.{grew-is, front-is}
 use Rattle.aes3_cell.proofs.CellTexts.{cells-join, text-join}
-use Rattle.aes3_cell.proofs.OctetWords.{eight-fed}
 use Rattle.aes3_input.specs.Converting.{Reading, fault_behind, out_behind, first_fault, out}
 use Rattle.aes3_input.specs.Running.{Fed}
 use Rattle.aes3_input.specs.Taking.{Writing, behind, before_end}
@@ -102,14 +100,3 @@ pub octets-part : (w₀ : Writing Level) (f₀ : List Level → Type 0) (reader 
 octets-part w₀ f₀ reader cells octets rest xs m t t' e p g b h =
     front-longer (packed_reading w₀) b octets rest xs e
     (front-is (sym (octets-write w₀ b octets m (p b h.reader)).1) (g (whole_cells b) h.taker))
-
--- eight octets behind those before them
-pub eight-more : (s new : PackedReader) (b a octets : List ℕ) (c : List Level) (w : ℕ) → s ≡ packed_reader_of (b ++ a) → whole_cells (b ++ a) ≡ whole_cells b ++ c
-    → length octets ≡ 8 → 2 ≤ s.seen → word_cells w ≡ eight_whole s octets → new ≡ behind_eight s octets
-    → (new ≡ packed_reader_of (b ++ (a ++ octets))) × (whole_cells (b ++ (a ++ octets)) ≡ whole_cells b ++ (c ++ word_cells w))
-eight-more s new b a octets c w e f l k p n =
-    let q = eight-fed {new = new} (b ++ a) octets w e l k p n in
-    let j : (b ++ a) ++ octets ≡ b ++ (a ++ octets) = append_assoc b a octets in (
-      q.0 ∙ ap packed_reader_of j,
-      ap whole_cells (sym j) ∙ q.1 ∙ ap (λ v. v ++ word_cells w) f ∙ append_assoc (whole_cells b) c (word_cells w),
-    )

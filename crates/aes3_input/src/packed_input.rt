@@ -6,7 +6,7 @@ ghost use Rattle.std.specs.List.{flat_map};
 ghost use Rattle.aes3_cell.specs.declared.form.Form.{Form};
 ghost use Rattle.aes3_cell.specs.declared.level.Level.{Level};
 ghost use Rattle.aes3_cell.specs.Packed.{octet_cells, whole_cells};
-ghost use Rattle.aes3_cell.specs.PackedReading.{behind_eight, eight_whole, packed_reader_of};
+ghost use Rattle.aes3_cell.specs.PackedReading.{packed_reader_of};
 ghost use Rattle.aes3_cell.specs.Words.{low_cells, word_cells};
 ghost use Rattle.aes3_input.specs.Driving.{Drive};
 ghost use Rattle.aes3_input.specs.Forms.{CellsRan, EndCellsRan, PackedEnded, PackedTaken};
