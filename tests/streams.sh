@@ -149,5 +149,18 @@ else
     wrong "no limit at which memory was refused"
 fi
 
+# What the README says that a run needs is enough, for each command.
+"$program" encode < "$zero" > "$folder/cells"
+for command in check 'check --gaps' normal decode show scan to-pcm 'cut 0 1' 'rewrite --mend-check'; do
+    # shellcheck disable=SC2086 # a command is several words
+    "$program" $command < "$folder/cells" > "$folder/expected" 2>&1
+    # shellcheck disable=SC2086
+    if (ulimit -s 512 && ulimit -v 4096 && exec "$program" $command) < "$folder/cells" 2>&1 | cmp -s - "$folder/expected"; then
+        well "$command in little memory"
+    else
+        wrong "$command in 4 MB of address space, with 512 KB of stack"
+    fi
+done
+
 echo "$passed passed, $failed failed"
 [ "$failed" = 0 ]
