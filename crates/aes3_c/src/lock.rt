@@ -1,6 +1,6 @@
 //! The lock, kept by its caller.
 
-ghost use Rattle.std.specs.Prelude.{◌≡◌, ◌+◌, ◌<◌, ◌≤◌, ◌^◌, None, List, [], ◌++◌, length, take};
+ghost use Rattle.std.specs.Prelude.{◌≡◌, ◌≢◌, ◌+◌, ◌<◌, ◌≤◌, ◌^◌, None, List, [], ◌++◌, length, take};
 ghost use Rattle.std.specs.Prelude.{◌*◌, ◌-◌, ◌/◌, get_or, min, option_to_list};
 ghost use Rattle.std.specs.List.{flat_map};
 ghost use Rattle.aes3_cell.specs.declared.level.Level.{Level};
@@ -128,6 +128,9 @@ pub extern "C" fn aes3_lock_push(
     ensures report { (cells : List Level) → Follows (state_of lock.old) cells
         → decided (cells ++ low_cells result word) ≡ decided cells
         ++ option_to_list (told_in report.new) }
+    ensures last { told_in report.new ≢ None → (cells : List Level)
+        → Follows (state_of lock.old) cells
+        → decided (cells ++ low_cells (result - 1) word) ≡ decided cells }
     ensures codes { Tells (told_in report.new) report.new }
 {
     let most = most_of(lock.seen, count);

@@ -272,10 +272,12 @@ module _ (k k' : LockState) (t : Candidate) (c : List Level) (w x n : ℕ) (f : 
   pub part-refuted : k'.seen ≡ k.seen + (n + 1) → k'.recent ≡ drop (n + 1) (k.recent ++ low_cells (n + 1) w) → k'.candidate ≡ begun k'.seen k'.recent
       → low_cells 8 k'.subframe ≡ k'.recent → k'.subframe < 2 ^ 8
       → Follows k' (c ++ low_cells (n + 1) w) × (decided (c ++ low_cells (n + 1) w) ≡ decided c ++ Fault t.at (k.seen + n) (why_of (k.seen + n - t.at)) ∷ [])
+      × (decided (c ++ low_cells n w) ≡ decided c)
   unfolding last
   part-refuted e1 e2 e3 e4 e5 = (
     subst (Follows k') cells both.0,
     ap decided (sym cells) ∙ both.1 ∙ ap₂ (λ d r. d ++ r ∷ []) so-far.1 told,
+    so-far.1,
   )
     where
       cells : (c ++ low_cells n w) ++ last ∷ [] ≡ c ++ low_cells (n + 1) w

@@ -33,6 +33,11 @@ pub more-reports : (k : LockState) (c : List Level) (a b w : ℕ) (more : List R
     → decided (c ++ low_cells (a + b) w) ≡ decided c ++ more
 more-reports k c a b w more report f g = ap decided (sym (parts c a b w)) ∙ report (c ++ low_cells a w) f ∙ ap (λ x. x ++ more) g
 
+pub more-none : (k : LockState) (c : List Level) (a b w : ℕ)
+    → ((d : List Level) → Follows k d → decided (d ++ low_cells b (w / 2 ^ a)) ≡ decided d) → Follows k (c ++ low_cells a w) → decided (c ++ low_cells a w) ≡ decided c
+    → decided (c ++ low_cells (a + b) w) ≡ decided c
+more-none k c a b w none f g = ap decided (sym (parts c a b w)) ∙ none (c ++ low_cells a w) f ∙ g
+
 -- the reports of some more cells of a word behind those told before, of which there are few
 pub more-told : (k : LockState) (c : List Level) (a b w : ℕ) (out new more : List Report) → a ≤ 64
     → ((d : List Level) → Follows k d → decided (d ++ low_cells b (w / 2 ^ a)) ≡ decided d ++ more) → Follows k (c ++ low_cells a w)

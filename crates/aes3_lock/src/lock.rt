@@ -370,6 +370,8 @@ impl Lock {
         ensures report { (cells : List Level) → Follows self.old cells
             → decided (cells ++ low_cells result.taken word) ≡ decided cells
             ++ option_to_list (option_map (report_in self.new) result.ending) }
+        ensures last { result.ending ≢ None → (cells : List Level) → Follows self.old cells
+            → decided (cells ++ low_cells (result.taken - 1) word) ≡ decided cells }
     {
         let offset = self.seen - candidate.at;
         if offset >= BLOCK_CELLS {
@@ -415,6 +417,8 @@ impl Lock {
         ensures report { (cells : List Level) → Follows self.old cells
             → decided (cells ++ low_cells result.taken word) ≡ decided cells
             ++ option_to_list (option_map (report_in self.new) result.ending) }
+        ensures last { result.ending ≢ None → (cells : List Level) → Follows self.old cells
+            → decided (cells ++ low_cells (result.taken - 1) word) ≡ decided cells }
     {
         match self.candidate {
             None => Pushed::quiet(self.search(word, len)),
@@ -442,6 +446,8 @@ impl Lock {
         ensures report { (cells : List Level) → Follows self.old cells
             → decided (cells ++ low_cells result.taken word) ≡ decided cells
             ++ option_to_list (option_map (report_in self.new) result.ending) }
+        ensures last { result.ending ≢ None → (cells : List Level) → Follows self.old cells
+            → decided (cells ++ low_cells (result.taken - 1) word) ≡ decided cells }
     {
         let mut taken = 0;
         while taken < len {

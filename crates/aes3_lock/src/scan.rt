@@ -117,6 +117,7 @@ impl Scan {
     /// It is `push` for each of these cells.
     pub fn take_word(&mut self, word: u64) -> WordMarks
         requires { self.old.seen + 64 ≤ 2 ^ 43 }
+        ensures seen { self.new.seen ≡ self.old.seen + 64 }
         ensures follows { (cells : List Level) → ScanFollows self.old cells
             → ScanFollows self.new (cells ++ word_cells word) }
         ensures marks { (cells : List Level) → ScanFollows self.old cells

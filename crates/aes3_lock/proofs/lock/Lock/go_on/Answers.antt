@@ -1,4 +1,4 @@
-use Rattle.std.proofs.Common.{◌≡◌, ℕ, w64, ◌+◌, ◌-◌, ◌/◌, ◌%◌, ◌^◌, ◌<◌, List, [], ◌∷◌, ◌++◌, Some, set, drop, refl, sym, ap, subst, ◌∙◌, arith}
+use Rattle.std.proofs.Common.{◌≡◌, ℕ, w64, ◌+◌, ◌-◌, ◌/◌, ◌%◌, ◌^◌, ◌<◌, List, [], ◌∷◌, ◌++◌, Some, set, drop, append-nil, refl, sym, ap, subst, ◌∙◌, arith}
 use Rattle.std.specs.Prelude.{option_map, option_to_list}
 use Rattle.std.specs.Int.{trailing_zeros}
 use Rattle.aes3_cell.specs.declared.level.Level.{Level}
@@ -31,6 +31,10 @@ returns-then-offset-ge-BLOCK_CELLS-clause-report c = λ l f.
     ∙ ap (λ x. decided (l ++ x ∷ [])) (sym c.first_cell.ensures) ∙ c.stop-ending.ensures.report l f (past c)
     ∙ ap (λ e. decided l ++ option_to_list (option_map (report_in c.stop-ending.new.self) e)) (sym c.one.ensures.ending)
 
+pub returns-then-offset-ge-BLOCK_CELLS-clause-last : goal.returns-then-offset-ge-BLOCK_CELLS-clause-last
+returns-then-offset-ge-BLOCK_CELLS-clause-last c = λ _ l f.
+    ap (λ m. decided (l ++ low_cells (m - 1) c.args.word)) c.one.ensures.taken ∙ ap decided (append-nil l)
+
 -- a cell of the word refutes the candidate
 abbrev right : After-refute → ℕ
 right c = trailing_zeros w64 (c.wrong_cells.result / 2 ^ ((c.self.inside.seen - c.args.candidate.at) % 64))
@@ -39,6 +43,7 @@ refuted : (c : After-refute) (l : List Level) → Follows c.args.self.now l
     → Follows c.refute.new.self (l ++ low_cells (right c + 1) c.args.word)
     × (decided (l ++ low_cells (right c + 1) c.args.word)
     ≡ decided l ++ Fault c.args.candidate.at (c.self.inside.seen + right c) (why_of (c.self.inside.seen + right c - c.args.candidate.at)) ∷ [])
+    × (decided (l ++ low_cells (right c) c.args.word) ≡ decided l)
 refuted c l f =
     let b = block_len_24576 in
     let o = c.if-offset-ge-BLOCK_CELLS.false in
@@ -64,6 +69,11 @@ returns-then-right-taken-clause-report c = λ l f.
     ap (λ m. decided (l ++ low_cells m c.args.word)) c.refute.ensures.taken ∙ (refuted c l f).1
     ∙ ap (λ (k : LockState). decided l ++ Fault c.args.candidate.at (k.seen + right c) (why_of (k.seen + right c - c.args.candidate.at)) ∷ []) c.self.view_is
     ∙ ap (λ e. decided l ++ option_to_list (option_map (report_in c.refute.new.self) e)) (sym c.refute.ensures.ending)
+
+pub returns-then-right-taken-clause-last : goal.returns-then-right-taken-clause-last
+returns-then-right-taken-clause-last c = λ _ l f.
+    let t = c.refute.ensures.taken in
+    ap (λ m. decided (l ++ low_cells m c.args.word)) (let e : c.refute.result.taken - 1 ≡ right c = omega (arith, t) in e) ∙ (refuted c l f).2
 
 -- none does, and the subframe isn't whole then
 abbrev next : After-quiet → LockState

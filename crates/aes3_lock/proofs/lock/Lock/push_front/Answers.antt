@@ -1,11 +1,12 @@
-use Rattle.std.proofs.Common.{◌≡◌, ◌++◌, [], false, Option, Some, None, refl, sym, ap, ◌∙◌, arith, append-nil}
+use Rattle.std.proofs.Common.{◌≡◌, ◌+◌, ◌-◌, ◌++◌, [], false, Option, Some, None, refl, sym, ap, ◌∙◌, arith, append-nil}
 use Rattle.std.specs.Prelude.{option_map, option_to_list}
 use Rattle.std.specs.Option.{is_some}
+use Rattle.aes3_cell.specs.Words.{low_cells}
 use Rattle.aes3_lock.specs.declared.report.Ending.{Ending}
 use Rattle.aes3_lock.specs.declared.report.Report.{Report}
 use Rattle.aes3_lock.specs.Reports.{decided}
 use Rattle.aes3_lock.specs.Following.{report_in}
-use Rattle.aes3_lock.proofs.PushedWords.{more-follows, more-reports}
+use Rattle.aes3_lock.proofs.PushedWords.{more-follows, more-none, more-reports}
 use Rattle.aes3_lock.proofs.lock.Lock.push_front.Goals as goal
 
 no-ending : (report : Ending → Report) (o : Option Ending) → is_some o ≡ false → option_to_list (option_map report o) ≡ []
@@ -36,3 +37,11 @@ returns-then-is_some-clause-follows c = λ l f.
 pub returns-then-is_some-clause-report : goal.returns-then-is_some-clause-report
 returns-then-is_some-clause-report c = λ l f.
     more-reports c.loop-taken.self l c.loop-taken.taken c.step-pushed.result.taken c.args.word _ c.step-pushed.ensures.report (c.loop-taken.invariant.follows l f) (c.loop-taken.invariant.none l f)
+
+pub returns-then-is_some-clause-last : goal.returns-then-is_some-clause-last
+returns-then-is_some-clause-last c = λ ended l f.
+    let n = c.loop-taken.taken in
+    let m = c.step-pushed.result.taken in
+    let s = c.step-pushed.ensures.some in
+    ap (λ i. decided (l ++ low_cells i c.args.word)) (let e : n + m - 1 ≡ n + (m - 1) = omega (arith, s) in e)
+    ∙ more-none c.loop-taken.self l n (m - 1) c.args.word (c.step-pushed.ensures.last ended) (c.loop-taken.invariant.follows l f) (c.loop-taken.invariant.none l f)
