@@ -5,6 +5,7 @@ pub mod StatusFlips
 pub mod GapLemmas
 pub mod ReportPlaces
 pub mod Accounts
+pub mod AccountFronts
 pub mod Covering
 pub mod Rowed
 pub mod LostGaps

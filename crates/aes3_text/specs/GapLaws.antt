@@ -1,5 +1,5 @@
 -- Laws of the account of an input's cells.
-use Rattle.std.specs.Prelude.{ℕ, List, [], ◌∷◌, Bool, length, ◌≡◌, ◌<◌, ◌≤◌, ◌+◌, ◌*◌}
+use Rattle.std.specs.Prelude.{ℕ, List, [], ◌∷◌, ◌++◌, Bool, length, ◌≡◌, ◌<◌, ◌≤◌, ◌+◌, ◌*◌}
 use Rattle.std.specs.List.{All, filter}
 use Rattle.aes3_cell.specs.declared.level.Level.{Level}
 use Rattle.aes3_block.specs.Blocks.{block_len, stream, IsBlock}
@@ -34,6 +34,19 @@ AccountIsWhole = (c : List Level) → Covers 0 (account c) (length c) × (report
 -- what stands whatever cells follow accounts for all cells but the last two blocks'
 abbrev pub AccountIsInTime : Type 0
 AccountIsInTime = (c : List Level) → Covers 0 (begun_account c) (accounted c) × (length c < accounted c + 2 * block_len)
+
+-- and that begins the account of these cells and any that follow
+abbrev pub AccountStands : Type 0
+AccountStands = (c d : List Level) → (more : List Entry) × (account (c ++ d) ≡ begun_account c ++ more)
+
+-- a gap has a cell at least, and no more than a block
+abbrev pub HasGapOfABlock : Entry → Type 0
+HasGapOfABlock (reported x) = Unit {0}
+HasGapOfABlock (lost at n) = (0 < n) × (n ≤ block_len)
+HasGapOfABlock (cut at n) = (0 < n) × (n ≤ block_len)
+
+abbrev pub GapsAreShort : Type 0
+GapsAreShort = (c : List Level) → All HasGapOfABlock (account c)
 
 -- the whole blocks among reports stand in a row: the first at place p, each directly behind the one before it
 abbrev pub InRow : ℕ → List Report → Type 0

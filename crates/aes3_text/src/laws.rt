@@ -1,9 +1,9 @@
 //! Laws that join what is given of changed cells and what the check of a channel status tells, and
 //! laws of the account of an input's cells.
 
-ghost use Rattle.aes3_text.specs.GapLaws.{AccountIsInTime, AccountIsWhole, ChangeIsLost};
-ghost use Rattle.aes3_text.specs.GapLaws.{LossIsLost, NoGapLosesNothing, PieceHasNoGap};
-ghost use Rattle.aes3_text.specs.GapLaws.{RowHasNoGap};
+ghost use Rattle.aes3_text.specs.GapLaws.{AccountIsInTime, AccountIsWhole, AccountStands};
+ghost use Rattle.aes3_text.specs.GapLaws.{ChangeIsLost, GapsAreShort, LossIsLost};
+ghost use Rattle.aes3_text.specs.GapLaws.{NoGapLosesNothing, PieceHasNoGap, RowHasNoGap};
 ghost use Rattle.aes3_text.specs.Laws.{ExchangedStatusIsFound};
 
 /// Two changed cells that leave a block, with the bits of two slots inverted, leave no good check
@@ -19,9 +19,15 @@ pub fn account_is_whole()
 {}
 
 /// What stands of an account whatever cells follow accounts for all cells but the last 49,151 at
-/// most.
+/// most, and it begins the account of these cells and any that follow.
 pub fn account_is_in_time()
-    ensures { AccountIsInTime }
+    ensures time { AccountIsInTime }
+    ensures stands { AccountStands }
+{}
+
+/// Each gap of an account has a cell at least, and 24,576 at most.
+pub fn gaps_are_short()
+    ensures { GapsAreShort }
 {}
 
 /// Where no gap of the account counts, the whole blocks stand in a row, each directly behind the
