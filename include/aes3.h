@@ -29,11 +29,12 @@
 #include <stddef.h>
 #include <stdint.h>
 
-/* The version of the library, which is that of the program aes3. */
+/* The version of this header and of the program aes3; aes3_version() tells that of the library. */
 #define AES3_VERSION_MAJOR 0
 #define AES3_VERSION_MINOR 1
 #define AES3_VERSION_PATCH 0
 #define AES3_VERSION "0.1.0"
+#define AES3_VERSION_NUMBER (65536 * AES3_VERSION_MAJOR + 256 * AES3_VERSION_MINOR + AES3_VERSION_PATCH)
 
 /* The sizes that the library was built for; C11 and C++11 can say so. */
 #if defined(__cplusplus) && __cplusplus >= 201103L
@@ -47,6 +48,9 @@
 #ifdef __cplusplus
 extern "C" {
 #endif
+
+/* The version of the library that runs, as AES3_VERSION_NUMBER is that of this header. */
+uint32_t aes3_version(void);
 
 enum {
     AES3_BLOCK_WORDS = 384,   /* words of a block, and words of its cells */

@@ -75,6 +75,7 @@ inline std::uint32_t status_of(const words &block, int channel, status &to) {
 }
 inline bool fields(const status &of, aes3_professional &to) { return aes3_status_professional(of, &to); }
 inline bool fields(const status &of, aes3_consumer &to) { return aes3_status_consumer(of, &to); }
+inline std::uint32_t version() { return aes3_version(); }
 inline std::uint8_t check_byte(const status &of) { return aes3_status_check_byte(of); }
 inline aes3_check check(const status &of) { return static_cast<aes3_check>(aes3_status_check_state(of)); }
 

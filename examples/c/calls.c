@@ -98,6 +98,7 @@ static void locks(void) {
 }
 
 int main(void) {
+    WANT(aes3_version() == AES3_VERSION_NUMBER);
     statuses();
     words[5] ^= 0x80000000;
     memset(cells, 0x55, sizeof cells);

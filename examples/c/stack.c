@@ -35,6 +35,7 @@ static void octets_of_word(void) { aes3_octets_of_word(word, line); }
 static void read_professional(void) { aes3_status_professional(status, &professional); }
 static void read_consumer(void) { aes3_status_consumer(status, &consumer); }
 static void check_byte(void) { status[23] = aes3_status_check_byte(status); }
+static void version(void) { status[22] = (uint8_t)aes3_version(); }
 static void check_state(void) { status[22] = aes3_status_check_state(status); }
 
 static size_t used(void (*call)(void)) {
@@ -81,5 +82,6 @@ int main(void) {
     failed |= tell("aes3_status_consumer", read_consumer, 256);
     failed |= tell("aes3_status_check_byte", check_byte, 256);
     failed |= tell("aes3_status_check_state", check_state, 256);
+    failed |= tell("aes3_version", version, 256);
     return failed;
 }

@@ -10,7 +10,7 @@ import aes3
 file, packed = (open(name, "rb").read() for name in sys.argv[1:3])
 words = struct.unpack(f"<{len(file) // 4}I", file)
 blocks = [words[at : at + 384] for at in range(0, len(words), 384)]
-assert aes3.VERSION == sys.argv[3]
+assert aes3.VERSION == aes3.library_version() == sys.argv[3]
 
 # Cells of blocks, and blocks of cells, in one piece and word by word.
 cells, rest = aes3.words_of_packed(packed)

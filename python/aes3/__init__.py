@@ -60,6 +60,7 @@ def _declare(name, result, *arguments):
     return function
 
 
+_version = _declare("aes3_version", c.c_uint32)
 _init = _declare("aes3_lock_init", None, c.POINTER(_Lock))
 _seen = _declare("aes3_lock_seen", c.c_uint64, c.POINTER(_Lock))
 _take_words = _declare("aes3_lock_take_words", c.c_size_t, c.POINTER(_Lock), c.c_void_p, c.c_size_t)
@@ -151,6 +152,12 @@ def _packed(cells):
 def _lawful(answer):
     if answer != 384:
         raise ValueError(f"word {answer} is not lawful")
+
+
+def library_version():
+    """The version of the library that runs, as VERSION is that of this module: a text."""
+    number = _version()
+    return f"{number >> 16}.{number >> 8 & 255}.{number & 255}"
 
 
 def encode_block(words, before=0):

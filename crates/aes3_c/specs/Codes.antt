@@ -1,11 +1,15 @@
 -- Numbers that stand for the variants of an enum.
-use Rattle.std.specs.Prelude.{ℕ, ◌==◌, if◌then◌else◌}
+use Rattle.std.specs.Prelude.{ℕ, ◌+◌, ◌*◌, ◌==◌, if◌then◌else◌}
 use Rattle.aes3_block.specs.declared.status.Channel.{Channel}
 use Rattle.aes3_block.specs.declared.status.Channel.TheVariants.{First, Second}
 use Rattle.aes3_status.specs.declared.check.Check.{Check}
 use Rattle.aes3_status.specs.declared.check.Check.TheVariants.{Good, Absent, Bad}
 use Rattle.aes3_lock.specs.declared.report.Why.{Why}
 use Rattle.aes3_lock.specs.declared.report.Why.TheVariants.{Preamble, Biphase, Unclosed}
+
+-- a version by its three numbers
+abbrev pub version_number : ℕ → ℕ → ℕ → ℕ
+version_number major minor patch = 65536 * major + 256 * minor + patch
 
 -- how a status stands to its check byte
 abbrev pub check_code : Check → ℕ

@@ -13,3 +13,4 @@ mod report;
 mod status;
 #[cfg(test)]
 mod tests;
+mod version;
