@@ -63,7 +63,7 @@ pub record LosesNothing (c : List Level) : Type 0 where
   pub row : InRow first (reports c)
   pub ends : length c < first + block_len * (length (blocks c) + 1)
 
--- where no gap counts nothing but a cut block at either end is lost
+-- where no gap counts
 abbrev pub NoGapLosesNothing : Type 0
 NoGapLosesNothing = (c : List Level) → length (filter is_lost (account c)) ≡ 0 → LosesNothing c
 

@@ -3,3 +3,4 @@ pub mod Lines
 pub mod Runs
 pub mod Laws
 pub mod GapLaws
+pub mod ChangeLaws

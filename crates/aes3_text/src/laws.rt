@@ -1,6 +1,7 @@
-//! Laws that join what is given of changed cells and what the check of a channel status tells, and
-//! laws of the account of an input's cells.
+//! Laws that join what is given of changed cells and what the check of a channel status tells, laws
+//! of the account of an input's cells, and of the lines that tell changes of status.
 
+ghost use Rattle.aes3_text.specs.ChangeLaws.{ChangesAreNew, LinesAreOfEach};
 ghost use Rattle.aes3_text.specs.GapLaws.{AccountIsInTime, AccountIsWhole, AccountStands};
 ghost use Rattle.aes3_text.specs.GapLaws.{ChangeIsLost, GapsAreShort, LossIsLost};
 ghost use Rattle.aes3_text.specs.GapLaws.{NoGapLosesNothing, PieceHasNoGap, RowHasNoGap};
@@ -54,4 +55,11 @@ pub fn loss_is_lost()
 pub fn whole_rows_have_no_gap()
     ensures row { RowHasNoGap }
     ensures piece { PieceHasNoGap }
+{}
+
+/// The lines that `show_changes` writes of blocks are those of `show` without each whose status is
+/// that of the same channel in the block before.
+pub fn changes_are_new()
+    ensures each { LinesAreOfEach }
+    ensures new { ChangesAreNew }
 {}
