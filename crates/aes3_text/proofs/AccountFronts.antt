@@ -1,5 +1,5 @@
 -- What stands of an account, and how long its gaps are.
-use Rattle.std.proofs.Common.{◌≡◌, ℕ, zero, suc, ◌+◌, ◌-◌, ◌*◌, ◌<◌, ◌≤◌, Bool, true, false, cond, ltb, List, [], ◌∷◌, ◌++◌, length, refl, sym, ap, ◌∙◌, arith, append-nil, append_assoc}
+use Rattle.std.proofs.Common.{◌≡◌, ℕ, zero, suc, ◌+◌, ◌-◌, ◌<◌, ◌≤◌, Bool, true, false, cond, ltb, List, [], ◌∷◌, ◌++◌, length, refl, sym, ap, ◌∙◌, arith, append-nil, append_assoc}
 use Rattle.std.specs.List.{All}
 use Rattle.std.proofs.lemmas.Bool.{ltb-true}
 use Rattle.std.proofs.lemmas.List.Elements.{All-append, All-cons, All-nil}
@@ -17,8 +17,7 @@ begun-stands : (c d : List Level) → (more : List Entry) × (begun_account (c +
 begun-stands c [] = ([], ap begun_account (append-nil c) ∙ sym (append-nil (begun_account c)))
 begun-stands c (l ∷ d) =
     let a = begun-more c l in
-    let b = begun-stands (c ++ l ∷ []) d in
-    (
+    let b = begun-stands (c ++ l ∷ []) d in (
       a.0 ++ b.0,
       ap begun_account (sym (append_assoc c (l ∷ []) d)) ∙ b.1 ∙ ap (λ z. z ++ b.0) a.1 ∙ append_assoc (begun_account c) a.0 b.0,
     )

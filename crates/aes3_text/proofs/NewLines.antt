@@ -1,5 +1,5 @@
 -- The lines that tell changes, block by block.
-use Rattle.std.proofs.Common.{◌≡◌, ℕ, zero, suc, ◌+◌, Bool, true, false, cond, not, List, [], ◌∷◌, ◌++◌, Option, Some, None, length, drop, get_or, refl, sym, ap, ap₂, ◌∙◌, arith}
+use Rattle.std.proofs.Common.{◌≡◌, ℕ, zero, suc, ◌+◌, Bool, true, false, cond, not, List, [], ◌∷◌, ◌++◌, Option, Some, None, length, drop, get_or, refl, ap, ap₂, ◌∙◌, arith}
 use Rattle.std.specs.List.{flat_map, range_with_len}
 use Rattle.std.specs.Str.{bytes_eq}
 use Rattle.std.proofs.lemmas.List.{drop-drop, get_or-drop}
@@ -9,7 +9,7 @@ use Rattle.aes3_block.specs.Statuses.{status_of}
 use Rattle.aes3_engine.specs.BlockRuns.{numbered}
 use Rattle.aes3_lines.specs.StatusLines.{status_line}
 use Rattle.aes3_text.specs.Runs.{block_changes, change_line, change_lines, changes_from, channel_line, channel_lines, status_in, status_lines}
-use Rattle.aes3_text.specs.ChangeLaws.{is_new, line_at, new_line_at}
+use Rattle.aes3_text.specs.ChangeLaws.{line_at, new_line_at}
 
 -- what stands at place n of a list, where the rest from there on is known
 here : (all bs : List (List (List Bool))) (b : List (List Bool)) (n : ℕ) → b ∷ bs ≡ drop n all → b ≡ get_or all n []
