@@ -1,0 +1,52 @@
+-- A capture of a line: how long the samples lay between one edge and the next, against the cells that the line has there. Each length is in parts of a sample, 65536 to one.
+use Rattle.std.specs.Prelude.{ℕ, List, [], ◌∷◌, ◌≡◌, ◌<◌, ◌≤◌, ◌+◌, ◌-◌, ◌*◌, ◌/◌}
+use Rattle.aes3_capture.specs.declared.bounds.Bounds.{Bounds}
+
+-- how far three cells of unknown length can carry an edge
+abbrev pub wander : Bounds → ℕ
+wander bounds = 3 * (bounds.high - bounds.low)
+
+-- how far the follower's place for an edge is from the mean of the displacements, by wander and by rounding
+abbrev pub margin : Bounds → ℕ
+margin bounds = 32 * wander bounds + 32
+
+-- the mean of the displacements of edges of one direction, where the latest weighs a sixteenth
+abbrev pub mean_with : ℕ → ℕ → ℕ
+mean_with mean displaced = mean - mean / 16 + displaced / 16
+
+-- two places lie less than this apart
+pub record IsCloser (a b less : ℕ) : Type 0 where
+  pub below : a < b + less
+  pub above : b < a + less
+
+-- These samples lie between an edge displaced by `before` and the next, displaced by `displaced`, with one to three cells between their places, each as long as the bounds allow. Displacements count from a place before each edge, so that they are natural numbers.
+pub record IsPlaced (bounds : Bounds) (before cells run displaced : ℕ) : Type 0 where
+  pub some : 1 ≤ cells
+  pub few : cells ≤ 3
+  pub step : ℕ
+  pub longest : step ≤ cells * bounds.high
+  pub shortest : cells * bounds.low ≤ step
+  pub between : run + before ≡ step + displaced
+
+-- The next edge is less than half a cell, less the margin, from the mean of those of its direction, and less than a cell, less the wander, from the edge before.
+pub record IsRun (bounds : Bounds) (mean before cells run displaced : ℕ) : Type 0 where
+  pub placed : IsPlaced bounds before cells run displaced
+  pub mean_near : IsCloser displaced mean (bounds.low / 2 - margin bounds)
+  pub before_near : IsCloser displaced before (bounds.low - wander bounds)
+
+-- These runs of samples are a capture of these runs of cells, from an edge displaced by `before` on. `same` and `other` are the means of the displacements of edges of its direction and of the other.
+abbrev pub Captures : Bounds → ℕ → ℕ → ℕ → List ℕ → List ℕ → Type 0
+Captures bounds same other before [] [] = Unit {0}
+Captures bounds same other before [] (run ∷ runs) = ⊥
+Captures bounds same other before (n ∷ cells) [] = ⊥
+Captures bounds same other before (n ∷ cells) (run ∷ runs) =
+    (displaced : ℕ) × IsRun bounds other before n (65536 * run) displaced
+    × Captures bounds (mean_with other displaced) same displaced cells runs
+
+-- These runs of samples are a capture of these runs of cells, from an edge displaced by `before` on, in which no edge is displaced by more than `spread`, whatever form its displacements have.
+abbrev pub Spreads : Bounds → ℕ → ℕ → List ℕ → List ℕ → Type 0
+Spreads bounds spread before [] [] = before ≤ spread
+Spreads bounds spread before [] (run ∷ runs) = ⊥
+Spreads bounds spread before (n ∷ cells) [] = ⊥
+Spreads bounds spread before (n ∷ cells) (run ∷ runs) =
+    (displaced : ℕ) × (before ≤ spread) × IsPlaced bounds before n (65536 * run) displaced × Spreads bounds spread displaced cells runs

@@ -1,0 +1,118 @@
+//! A follower of edges.
+
+ghost use Rattle.std.specs.Prelude.{◌≡◌, ◌+◌, ◌-◌, ◌*◌, ◌/◌, ◌%◌, ◌^◌, ◌<◌, ◌≤◌};
+
+use crate::bounds::{Bounds, PARTS};
+
+/// Follows the edges of a line: how long a cell is, and where its grid lies. Rising and falling
+/// edges have a grid of their own, as a line may be later in one direction; both have one period.
+#[derive(Clone, Copy, Debug)]
+pub struct Follower {
+    bounds: Bounds,
+    /// How long a cell is.
+    period: u64,
+    /// What passed since the latest edge, less the cells that were told.
+    elapsed: u64,
+    /// How far behind its place on the grid of its direction the latest edge lies, and one and a
+    /// half of the shortest cell.
+    same: u64,
+    /// The same on the grid of the other direction.
+    other: u64,
+    ghost longest: { period ≤ bounds.high },
+    ghost shortest: { bounds.low ≤ period },
+    ghost told: { elapsed < period },
+    ghost same_bound: { same ≤ 3 * bounds.low },
+    ghost other_bound: { other ≤ 3 * bounds.low },
+}
+
+/// How much of an edge's distance its grid goes on with: a sixteenth.
+const GRID_SHIFT: u32 = 4;
+
+/// How much of an edge's distance the period changes by.
+const PERIOD_SHIFT: u32 = 11;
+
+impl Follower {
+    ghost use Rattle.std.specs.Prelude.{ℕ};
+    ghost use Rattle.aes3_capture.specs.Following.{Follows, Passes, Ends, Counts};
+
+    /// A follower at the first edge of a line.
+    pub fn new(bounds: Bounds, period: u64) -> Self
+        requires longest { period ≤ bounds.high }
+        requires shortest { bounds.low ≤ period }
+        ensures bounds { result.bounds ≡ bounds }
+        ensures line { (displaced : ℕ) → Follows result displaced displaced displaced 0 0 }
+    {
+        let middle = bounds.low + bounds.low / 2;
+        Follower {
+            bounds,
+            period,
+            elapsed: 0,
+            same: middle,
+            other: middle,
+        }
+    }
+
+    /// How many cells pass for certain with these samples, behind which no edge has come yet.
+    pub fn pass(&mut self, samples: u32) -> u64
+        ensures bounds { self.new.bounds ≡ self.old.bounds }
+        ensures time { result ≡ (self.old.elapsed + 65536 * samples) / self.old.period }
+        ensures elapsed { self.new.elapsed
+            ≡ (self.old.elapsed + 65536 * samples) % self.old.period }
+        ensures period { self.new.period ≡ self.old.period }
+        ensures line { Passes self.old samples result self.new }
+    {
+        let elapsed = self.elapsed + u64::from(samples) * PARTS;
+        self.elapsed = elapsed % self.period;
+        elapsed / self.period
+    }
+
+    /// Whether one more cell ends at an edge that comes now.
+    pub fn edge(&mut self) -> bool
+        ensures bounds { self.new.bounds ≡ self.old.bounds }
+        ensures elapsed { self.new.elapsed ≡ 0 }
+        ensures line { Ends self.old result self.new }
+    {
+        let more = self.elapsed + self.other >= self.period + self.bounds.low;
+        let told = if more { self.period } else { 0 };
+        let place = self.elapsed + self.other - told;
+        let other = (self.elapsed + self.same).saturating_sub(told);
+        self.period = period_nearer(self.bounds, self.period, place);
+        self.same = place_nearer(self.bounds, place);
+        self.other = other.min(3 * self.bounds.low);
+        self.elapsed = 0;
+        more
+    }
+
+    /// How many cells end at an edge that comes behind these samples: the time that passed over the
+    /// period, less its fraction or one more.
+    pub fn run(&mut self, samples: u32) -> u64
+        ensures bounds { self.new.bounds ≡ self.old.bounds }
+        ensures least { (self.old.elapsed + 65536 * samples) / self.old.period ≤ result }
+        ensures most { result ≤ (self.old.elapsed + 65536 * samples) / self.old.period + 1 }
+        ensures line { Counts self.old samples result self.new }
+    {
+        let told = self.pass(samples);
+        told + u64::from(self.edge())
+    }
+}
+
+/// The place of an edge on its grid, once the grid has gone a part of the way to it.
+fn place_nearer(bounds: Bounds, place: u64) -> u64
+    requires { place ≤ 3 * bounds.low }
+    ensures nearer { result ≡ place - place / 16 + (bounds.low + bounds.low / 2) / 16 }
+    ensures bound { result ≤ 3 * bounds.low }
+{
+    place - (place >> GRID_SHIFT) + ((bounds.low + bounds.low / 2) >> GRID_SHIFT)
+}
+
+/// The period, once it has gone a small part of the way to an edge's place.
+fn period_nearer(bounds: Bounds, period: u64, place: u64) -> u64
+    requires place { place ≤ 3 * bounds.low }
+    requires longest { period ≤ bounds.high }
+    requires shortest { bounds.low ≤ period }
+    ensures longest { result ≤ bounds.high }
+    ensures shortest { bounds.low ≤ result }
+{
+    let middle = (bounds.low + bounds.low / 2) >> PERIOD_SHIFT;
+    (period + (place >> PERIOD_SHIFT) - middle).clamp(bounds.low, bounds.high)
+}

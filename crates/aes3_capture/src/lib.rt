@@ -1,0 +1,11 @@
+//! From samples of a line to its cells: a follower of edges that bears jitter, within bounds that
+//! are proved.
+#![tactic(auto)]
+
+mod bounds;
+mod count;
+mod follower;
+
+pub use bounds::{Bounds, PARTS};
+pub use count::count_cells;
+pub use follower::Follower;
