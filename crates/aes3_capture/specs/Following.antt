@@ -1,7 +1,12 @@
 -- What a follower of edges knows of a line.
 use Rattle.std.specs.Prelude.{ℕ, Bool, ◌≡◌, ◌≤◌, ◌+◌, ◌-◌, ◌*◌, ◌/◌, if◌then◌else◌}
+use Rattle.aes3_capture.specs.declared.bounds.Bounds.{Bounds}
 use Rattle.aes3_capture.specs.declared.follower.Follower.{Follower}
 use Rattle.aes3_capture.specs.Captures.{IsRun, margin, mean_with, wander}
+
+-- what the place of an edge on its grid counts from: one and a half of the shortest cell
+abbrev pub middle_of : Bounds → ℕ
+middle_of bounds = bounds.low + bounds.low / 2
 
 -- two places lie at most this apart
 pub record IsWithin (a b most : ℕ) : Type 0 where
@@ -11,8 +16,8 @@ pub record IsWithin (a b most : ℕ) : Type 0 where
 -- The latest edge of the line was displaced by `displaced`; `run` has passed since, of which `given` cells are told. `same` and `other` are the means of the displacements of edges of its direction and of the other.
 pub record Follows (follower : Follower) (same other displaced run given : ℕ) : Type 0 where
   pub passed : given * follower.period + follower.elapsed ≡ run
-  pub same_place : IsWithin (follower.same + same) (follower.bounds.low + follower.bounds.low / 2 + displaced) (30 * wander follower.bounds + 32)
-  pub other_place : IsWithin (follower.other + other) (follower.bounds.low + follower.bounds.low / 2 + displaced) (31 * wander follower.bounds + 32)
+  pub same_place : IsWithin (follower.same + same) (middle_of follower.bounds + displaced) (30 * wander follower.bounds + 32)
+  pub other_place : IsWithin (follower.other + other) (middle_of follower.bounds + displaced) (31 * wander follower.bounds + 32)
   pub mean_near : IsWithin displaced same (follower.bounds.low / 2 - margin follower.bounds)
 
 -- whatever line it follows, samples that pass are told as cells, and the line is still followed

@@ -33,7 +33,7 @@ const PERIOD_SHIFT: u32 = 11;
 
 impl Follower {
     ghost use Rattle.std.specs.Prelude.{ℕ};
-    ghost use Rattle.aes3_capture.specs.Following.{Follows, Passes, Ends, Counts};
+    ghost use Rattle.aes3_capture.specs.Following.{Follows, Passes, Ends, Counts, middle_of};
 
     /// A follower at the first edge of a line.
     pub fn new(bounds: Bounds, period: u64) -> Self
@@ -50,6 +50,22 @@ impl Follower {
             same: middle,
             other: middle,
         }
+    }
+
+    /// How long a cell is, in parts of a sample.
+    pub fn period(&self) -> u64
+        ensures { result ≡ self.now.period }
+    {
+        self.period
+    }
+
+    /// How far the latest edge lies from its place on the grid of its direction, in parts of a
+    /// sample.
+    pub fn distance(&self) -> u64
+        ensures { result ≡ (self.now.same - middle_of self.now.bounds)
+            + (middle_of self.now.bounds - self.now.same) }
+    {
+        self.same.abs_diff(self.bounds.low + self.bounds.low / 2)
     }
 
     /// How many cells pass for certain with these samples, behind which no edge has come yet.
