@@ -29,11 +29,12 @@ pub struct Follower {
 const GRID_SHIFT: u32 = 4;
 
 /// How much of an edge's distance the period changes by.
-const PERIOD_SHIFT: u32 = 11;
+const PERIOD_SHIFT: u32 = 13;
 
 impl Follower {
-    ghost use Rattle.std.specs.Prelude.{ℕ};
-    ghost use Rattle.aes3_capture.specs.Following.{Follows, Passes, Ends, Counts, middle_of};
+    ghost use Rattle.std.specs.Prelude.{ℕ, ◌↔◌, IsTrue};
+    ghost use Rattle.aes3_capture.specs.Captures.{margin};
+    ghost use Rattle.aes3_capture.specs.Following.{Follows, Passes, Ends, Counts, IsWithin, middle_of};
 
     /// A follower at the first edge of a line.
     pub fn new(bounds: Bounds, period: u64) -> Self
@@ -50,6 +51,43 @@ impl Follower {
             same: middle,
             other: middle,
         }
+    }
+
+    /// A follower at an edge of a line whose place is known on the grid of its direction and on the
+    /// other, each behind one and a half of the shortest cell.
+    pub fn at(bounds: Bounds, period: u64, same: u64, other: u64) -> Self
+        requires longest { period ≤ bounds.high }
+        requires shortest { bounds.low ≤ period }
+        requires same_bound { same ≤ 3 * bounds.low }
+        requires other_bound { other ≤ 3 * bounds.low }
+        ensures bounds { result.bounds ≡ bounds }
+        ensures line { (displaced first second : ℕ) → same + first ≡ middle_of bounds + displaced
+            → other + second ≡ middle_of bounds + displaced
+            → IsWithin displaced first (bounds.low / 2 - margin bounds)
+            → Follows result first second displaced 0 0 }
+    {
+        Follower {
+            bounds,
+            period,
+            elapsed: 0,
+            same,
+            other,
+        }
+    }
+
+    /// How long a cell may be.
+    pub fn bounds(&self) -> Bounds
+        ensures { result ≡ self.now.bounds }
+    {
+        self.bounds
+    }
+
+    /// Whether the grids of both directions lie more than half a cell apart.
+    pub fn has_slipped(&self) -> bool
+        ensures { IsTrue result ↔ (self.now.bounds.low / 2
+            < (self.now.same - self.now.other) + (self.now.other - self.now.same)) }
+    {
+        self.same.abs_diff(self.other) > self.bounds.low / 2
     }
 
     /// How long a cell is, in parts of a sample.
