@@ -44,13 +44,7 @@ impl Follower {
         ensures line { (displaced : ℕ) → Follows result displaced displaced displaced 0 0 }
     {
         let middle = bounds.low + bounds.low / 2;
-        Follower {
-            bounds,
-            period,
-            elapsed: 0,
-            same: middle,
-            other: middle,
-        }
+        Follower::at(bounds, period, middle, middle)
     }
 
     /// A follower at an edge of a line whose place is known on the grid of its direction and on the
