@@ -101,6 +101,7 @@ impl Follower {
     }
 
     /// How many cells pass for certain with these samples, behind which no edge has come yet.
+    #[inline(always)]
     pub fn pass(&mut self, samples: u32) -> u64
         ensures bounds { self.new.bounds ≡ self.old.bounds }
         ensures time { result ≡ (self.old.elapsed + 65536 * samples) / self.old.period }
@@ -115,6 +116,7 @@ impl Follower {
     }
 
     /// Whether one more cell ends at an edge that comes now.
+    #[inline(always)]
     pub fn edge(&mut self) -> bool
         ensures bounds { self.new.bounds ≡ self.old.bounds }
         ensures elapsed { self.new.elapsed ≡ 0 }
@@ -133,6 +135,7 @@ impl Follower {
 
     /// How many cells end at an edge that comes behind these samples: the time that passed over the
     /// period, less its fraction or one more.
+    #[inline(always)]
     pub fn run(&mut self, samples: u32) -> u64
         ensures bounds { self.new.bounds ≡ self.old.bounds }
         ensures least { (self.old.elapsed + 65536 * samples) / self.old.period ≤ result }
@@ -145,6 +148,7 @@ impl Follower {
 }
 
 /// The place of an edge on its grid, once the grid has gone a part of the way to it.
+#[inline(always)]
 fn place_nearer(bounds: Bounds, place: u64) -> u64
     requires { place ≤ 3 * bounds.low }
     ensures nearer { result ≡ place - place / 16 + (bounds.low + bounds.low / 2) / 16 }
@@ -154,6 +158,7 @@ fn place_nearer(bounds: Bounds, place: u64) -> u64
 }
 
 /// The period, once it has gone a small part of the way to an edge's place.
+#[inline(always)]
 fn period_nearer(bounds: Bounds, period: u64, place: u64) -> u64
     requires place { place ≤ 3 * bounds.low }
     requires longest { period ≤ bounds.high }

@@ -1,0 +1,91 @@
+//! The program `aes3-cells`: from the samples of a line, as a logic analyser takes them, to its
+//! cells.
+#![tactic(auto)]
+
+mod figures;
+mod line;
+
+ghost use Rattle.std.specs.Prelude.{◌+◌, ◌<◌, ◌^◌, ◌≡◌, IfErr};
+
+use aes3_cell::{BufferedSink, Sink, StdSink, StdSource, write_all};
+use aes3_recovery::{Recovery, Refusal, recover};
+use figures::figures_line;
+use line::{Job, LineFault, job_of_words};
+use std::alloc::AllocError;
+use std::env;
+use std::process::ExitCode;
+
+/// The exit statuses, besides 0.
+const NO_LINE: u8 = 1;
+
+const USAGE: u8 = 2;
+
+const FAILED: u8 = 3;
+
+fn main(rt: HostRuntime) -> ExitCode {
+    let mut errors = StdSink::new(rt.stderr());
+    let status = match run_program(&rt, &mut errors) {
+        Ok(status) => status,
+        Err(_) => {
+            let _ = write_all(&mut errors, b"aes3-cells: memory was refused\n");
+            FAILED
+        }
+    };
+    ExitCode::from(status)
+}
+
+/// Runs the command line between the standard streams.
+fn run_program<E: Sink>(rt: &HostRuntime, errors: &mut E) -> Result<u8, AllocError>
+    requires { E.failed errors.old + 1 < 2 ^ 64 }
+    ensures { IfErr result (λ _. E.failed errors.new ≡ E.failed errors.old) }
+{
+    let Ok(words) = env::args(rt) else {
+        return Ok(tell(errors, "aes3-cells: the words are not UTF-8\n", USAGE));
+    };
+    let words: Vec<String> = words.skip(1).collect(rt.alloc())?;
+    let words: Vec<&str> = words.iter().map(|word| word.as_str()).collect(rt.alloc())?;
+    match job_of_words(rt.alloc(), &words) {
+        Ok(job) => run_job(rt, errors, job),
+        Err(LineFault::Usage(text)) => Ok(tell(errors, text.as_str(), USAGE)),
+        Err(LineFault::Help(text)) => {
+            print!(rt; "{text}").unwrap_or(());
+            Ok(0)
+        }
+        Err(LineFault::Memory) => Err(AllocError),
+    }
+}
+
+/// Tells a text, and answers the exit status.
+fn tell<E: Sink>(errors: &mut E, text: &str, status: u8) -> u8
+    requires { E.failed errors.old + 1 < 2 ^ 64 }
+    ensures { result ≡ status }
+{
+    let _ = write_all(errors, text.as_bytes());
+    status
+}
+
+/// Recovers the cells, and tells what was found of the line.
+fn run_job<E: Sink>(rt: &HostRuntime, errors: &mut E, job: Job) -> Result<u8, AllocError>
+    requires { E.failed errors.old + 1 < 2 ^ 64 }
+    ensures { IfErr result (λ _. E.failed errors.new ≡ E.failed errors.old) }
+{
+    let mut sink = BufferedSink::new(rt.alloc(), StdSink::new(rt.stdout().lock()))?;
+    let mut source = StdSource::new(rt.stdin().lock());
+    let mut recovery = Recovery::new(job.form, job.period);
+    let end = recover(&mut source, &mut sink, job.unit, &mut recovery);
+    let figures = recovery.figures();
+    match end {
+        Ok(()) if figures.measured == 0 => Ok(tell(
+            errors,
+            "aes3-cells: no line was found in this bit: try another --bit, --unit 2 for sixteen \
+             channels, or --rate with --at\n",
+            NO_LINE,
+        )),
+        Ok(()) => {
+            let text = figures_line(rt.alloc(), figures, job.rate)?;
+            Ok(tell(errors, text.as_str(), 0))
+        }
+        Err(Refusal::Read) => Ok(tell(errors, "aes3-cells: the input failed\n", FAILED)),
+        Err(Refusal::Write) => Ok(tell(errors, "aes3-cells: the output failed\n", FAILED)),
+    }
+}

@@ -1,0 +1,62 @@
+//! The levels of a line among samples of many.
+
+ghost use Rattle.std.specs.Prelude.{◌≤◌};
+
+use std::simd::prelude::*;
+
+/// How the samples lie: octets of eight lines, or pairs of octets of sixteen, the lower lines first;
+/// and which line of them it is.
+#[derive(Clone, Copy, PartialEq, Eq, Debug)]
+pub enum Unit {
+    /// Samples of one octet, and the line in this bit.
+    Octets(u8),
+    /// Samples of two octets, and the line in this bit.
+    Pairs(u8),
+}
+
+impl Unit {
+    /// How many octets a sample has.
+    pub fn len(self) -> usize
+        ensures some { 1 ≤ result }
+        ensures few { result ≤ 2 }
+    {
+        match self {
+            Unit::Octets(_) => 1,
+            Unit::Pairs(_) => 2,
+        }
+    }
+}
+
+/// Which of 64 octets have any of these bits, the first in the lowest bit.
+#[inline(always)]
+fn with_bits(octets: &[u8; 64], bits: u8) -> u64 {
+    (u8x64::from_array(*octets) & u8x64::splat(bits))
+        .simd_ne(u8x64::splat(0))
+        .to_bitmask()
+}
+
+/// The bits at even places, close together.
+#[inline(always)]
+fn even_bits(word: u64) -> u64 {
+    let word = word & 0x5555_5555_5555_5555;
+    let word = (word | word >> 1) & 0x3333_3333_3333_3333;
+    let word = (word | word >> 2) & 0x0f0f_0f0f_0f0f_0f0f;
+    let word = (word | word >> 4) & 0x00ff_00ff_00ff_00ff;
+    let word = (word | word >> 8) & 0x0000_ffff_0000_ffff;
+    (word | word >> 16) & 0x0000_0000_ffff_ffff
+}
+
+/// The levels of the samples that 64 octets begin with, the first in the lowest bit, and how many
+/// samples these are.
+#[inline(always)]
+pub(crate) fn levels_of(unit: Unit, octets: &[u8; 64]) -> (u64, u32)
+    ensures { result.1 ≤ 64 }
+{
+    match unit {
+        Unit::Octets(bit) => (with_bits(octets, 1 << (bit % 8)), 64),
+        Unit::Pairs(bit) => {
+            let found = with_bits(octets, 1 << (bit % 8));
+            (even_bits(if bit < 8 { found } else { found >> 1 }), 32)
+        }
+    }
+}

@@ -1,0 +1,15 @@
+//! Cells recovered from samples of a line: the samples' levels, the period measured, and the run
+//! from samples to cells.
+#![tactic(auto)]
+
+mod levels;
+mod measure;
+mod queue;
+mod recovery;
+mod run;
+
+pub use levels::Unit;
+pub use measure::{RUNS, follower_of_runs};
+pub use queue::CellQueue;
+pub use recovery::{Figures, Recovery};
+pub use run::{Refusal, recover};
