@@ -1,7 +1,7 @@
 #!/bin/sh
 # tests/all.sh [PROGRAM]: all that is run with a built program, with bin/aes3's where none is given: the worked rows, the
 # machine's own streams, refused memory, the examples of help, README and tutorial, the manual page, the shells' completions, the pictures and the figures of
-# the books, round trips with other programs, and the examples from C, C++ and Python and of the page in a browser.
+# the books, captures with jitter, round trips with other programs, and the examples from C, C++ and Python and of the page in a browser.
 #
 # Each part prints what fails, `left out: WHAT (WHY)` where something it needs is not installed, and `N passed, M failed`. At the
 # end all that was left out is told once more; the last line is the sum, and the status 1 where something failed.
@@ -57,6 +57,7 @@ part_with cc tests/allocations.sh "$program"
 part_with python3 bin/make-manual --check "$program"
 part tests/manual.sh
 part_with python3 tests/completions.py "$program"
+part tests/captures.sh "$root/crates/aes3_cells/out/aes3_cells" "$program"
 part_with python3 bin/figures --check
 part_with python3 examples/pictures/make --check "$program"
 part_with python3 examples/neighbours/run "$program"

@@ -4,15 +4,16 @@
 #
 # An example is a line that begins with '$ ' in a block that begins with ```sh; what is expected, standard error with
 # it, are the lines below it up to the next. A command may go on in lines that end in a backslash. Each FILE's examples
-# run in a folder of their own, one after the other, by sh: PROGRAM is there as bin/aes3 and on the PATH as aes3, and
-# the folder examples is a copy. A block that begins with ```sh needs TOOL.. is left out, with a word, where one of the
+# run in a folder of their own, one after the other, by sh: PROGRAM is there as bin/aes3 and on the PATH as aes3, aes3-cells
+# likewise where bin/build aes3_cells left it or CELLS names it, and the folder examples is a copy. A block that begins with ```sh needs TOOL.. is left out, with a word, where one of the
 # tools is not there.
 #
 # They may leave files in out/ alone. The last line is `N passed, M failed`, and the status 0 where each example printed what it should.
 
-[ $# -gt 0 ] || { sed -n '2,11s/^# \{0,1\}//p' "$0" >&2; exit 2; }
+[ $# -gt 0 ] || { sed -n '2,12s/^# \{0,1\}//p' "$0" >&2; exit 2; }
 root=$(dirname "$(dirname "$(realpath "$0")")")
 program=$(realpath "$1") || exit 2
+cells=$(realpath -m "${CELLS:-$root/crates/aes3_cells/out/aes3_cells}")
 shift
 [ $# -gt 0 ] || set -- "$root/README.md" "$root/docs/TUTORIAL.md"
 work=$(mktemp -d) || exit 2
@@ -39,7 +40,7 @@ parted() {
 
 lacking() {
     for tool in $1; do
-        command -v "$tool" >/dev/null 2>&1 || echo "$tool"
+        [ -e "$work/here/bin/$tool" ] || command -v "$tool" >/dev/null 2>&1 || echo "$tool"
     done
 }
 
@@ -48,6 +49,7 @@ for file in "$@"; do
     rm -rf "$work/parts" "$work/here"
     mkdir -p "$work/parts" "$work/here/bin"
     ln -s "$program" "$work/here/bin/aes3"
+    [ ! -x "$cells" ] || ln -s "$cells" "$work/here/bin/aes3-cells"
     cp -R "$root/examples" "$work/here/examples"
     parted "$file"
     for command in "$work"/parts/*.cmd; do

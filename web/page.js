@@ -851,7 +851,7 @@ function adviceOf({ head, form, file }) {
         return "This looks like a block file: aes3 encode < FILE > LINE makes the cells of it.";
     }
     return "No block stands in these cells. Packed cells have the first in the highest bit. "
-        + "Samples of a logic analyser are no cells yet: examples/neighbours/logic.py makes cells of them.";
+        + "Samples of a logic analyser are no cells yet: aes3-cells makes cells of them.";
 }
 
 /* ---- Levels as a picture, as examples/pictures/draw.py draws them ---- */

@@ -1,0 +1,166 @@
+#!/bin/sh
+# tests/captures.sh [PROGRAM [AES3]]: aes3-cells on captures made by an encoder of another hand (captures/line.py), and by ALSA and
+# sigrok where they are installed: how many whole blocks come back, each as it was sent; lines late, in another bit, in sixteen
+# channels; what is refused; that cells leave before it waits; runs that are no line (captures/hostile.py). PROGRAM is the one
+# that bin/build aes3_cells leaves, AES3 that of bin/build.
+#
+# The last line is `N passed, M failed`, and the status 0 where none failed.
+
+root=$(dirname "$(dirname "$(realpath "$0")")")
+program=$(realpath -m "${1:-$root/crates/aes3_cells/out/aes3_cells}")
+aes3=$(realpath -m "${2:-$root/crates/aes3/out/aes3}")
+here=$root/tests/captures
+passed=0 failed=0
+leave_out() {
+    echo "left out: $1 ($2)"
+    [ -n "${3-}" ] || return 0
+    echo "$passed passed, $failed failed"
+    exit 0
+}
+[ -x "$program" ] || leave_out "tests/captures.sh" "there is no aes3-cells: bin/build aes3_cells" all
+for python in python3 /usr/bin/python3 none; do
+    "$python" -c 'import numpy' 2>/dev/null && break
+done
+[ "$python" != none ] || leave_out "tests/captures.sh" "numpy is not installed" all
+
+work=$(mktemp -d) || exit 2
+trap 'rm -rf "$work"' EXIT
+trap 'exit 130' INT TERM
+cd "$work" || exit 2
+
+judge() {
+    what=$1
+    shift
+    if "$@" >said 2>&1; then
+        passed=$((passed + 1))
+    else
+        failed=$((failed + 1))
+        echo "captures: $what" >&2
+        cat said >&2
+    fi
+}
+
+# sent_back LEAST: of the blocks of `sent`, LEAST and more are those of `capture`, in their order and with no other.
+sent_back() {
+    "$program" $options <capture 2>told | "$aes3" decode >got && "$python" -c 'import sys
+blocks = [[data[i : i + 1536] for i in range(0, len(data), 1536)] for data in (open(name, "rb").read() for name in ("sent", "got"))]
+sent = iter(blocks[0])
+strange = sum(block not in sent for block in blocks[1])
+print(len(blocks[1]), "of", len(blocks[0]), "blocks,", strange, "others;", open("told").read())
+sys.exit(strange > 0 or len(blocks[1]) < int(sys.argv[1]))' "$1"
+}
+
+# row LEAST SAMPLES_A_CELL NAME=VALUE..: as many whole blocks of such a line. `options` are the words of aes3-cells.
+options=
+row() {
+    least=$1 cell=$2
+    shift 2
+    "$python" "$here/line.py" "$cell" capture sent=sent "$@"
+    judge "row $least $* ($options)" sent_back "$least"
+}
+
+# refused WORDS.. : standard input is refused with 3, in one sentence that names each of `remedies`.
+refused() {
+    "$program" "$@" >out 2>said_why
+    [ $? = 3 ] && for remedy in $remedies; do grep -q -e "$remedy" said_why || return 1; done
+}
+wrong_words() { "$program" "$@" </dev/null >out 2>said_why; [ $? = 2 ] && [ ! -s out ] && [ -s said_why ]; }
+
+# A second of 48 kHz at 24 MHz: up to a sample either way; 0.3 rms; falling edges late. Then 192 kHz and 96 kHz at 100 MHz.
+row 247 3.90625 blocks=248 drift=200 uniform=1
+row 246 3.90625 blocks=248 drift=200 rms=0.3
+row 247 3.90625 blocks=248 drift=200 rms=0.1 late=0.6
+row 996 4.069010416 blocks=998 drift=200 rms=0.3
+row 997 4.069010416 blocks=998 drift=200 uniform=1
+row 99 8.138020833 blocks=100 drift=200 rms=0.6 late=2
+
+# As the rate is given; faster and slower than it by 300 parts in a million; and many samples a cell.
+options="--rate 24000000 --at 48000"
+row 20 3.90625 rms=0.3
+row 20 3.9074 rms=0.2
+row 20 3.9051 rms=0.2
+options=
+row 20 3 rms=0.1
+row 5 40.3 blocks=5 rms=4 late=8
+row 2 410.7 blocks=2 rms=30 late=-60
+row 20 3.90625 silence=1 rms=0.3 late=0.9
+
+# The jitter that AES3 asks a receiver to bear: 10 unit intervals from peak to peak at 200 Hz, down to 0.25 from 8 kHz on.
+for sine in 200:5 1000:1 2000:0.5 4000:0.25 8000:0.125 100000:0.125; do
+    row 20 4 sine=$sine
+done
+
+# A line that begins late, lies in another bit, and among sixteen channels.
+row 20 3.90625 rms=0.3 lead=480000
+options="--bit 5"
+row 20 3.90625 rms=0.3 bit=5 noise=1
+options="--unit 2 --bit 12"
+row 20 3.90625 rms=0.3 unit=2 bit=12 noise=1
+options="--unit 2 --bit 3 --rate 24000000 --at 48000"
+row 20 3.90625 rms=0.3 unit=2 bit=3 noise=1 lead=100000
+options=
+
+# Two lines of other rates with a dead one between them, whose cells pass as time does.
+"$python" "$here/line.py" 3.90625 one blocks=10 rms=0.3 sent=sent
+"$python" "$here/line.py" 5.3 two blocks=10 rms=0.3 sent=more seed=2
+cat more >>sent
+{ cat one; head -c 390625 /dev/zero; cat two; } >capture
+judge "two lines of other rates" sent_back 20
+"$program" <capture 2>told >cells
+spent=$(($(wc -c <one) * 100000 / 390625 + 100000 + $(wc -c <two) * 10 / 53))
+cells=$(tr -d '\n' <cells | wc -c)
+judge "$cells cells in the time of $spent" [ $((cells - spent)) -ge -40 -a $((cells - spent)) -le 40 ]
+
+# Packed cells are those of the text; pieces of any size are one capture; what is decided leaves before it waits.
+"$program" <one 2>told >text
+"$program" --packed-out <one 2>told >packed
+judge "packed cells" sh -c "'$aes3' check <text >a; '$aes3' check --packed-in <packed >b; test -s a && cmp a b"
+judge "pieces of any size" sh -c "{ dd bs=7 count=1000; dd bs=4099; } <one 2>/dev/null | '$program' 2>told | cmp - text"
+judge "cells before it waits" sh -c "{ head -c 400000 one; sleep 20; } | '$program' 2>told | timeout 10 head -c 100000 >live; head -c 100000 text | cmp - live"
+
+# Lines by other programs: ALSA's subframes, sampled, and a session of sigrok.
+if command -v aplay >/dev/null && command -v sox >/dev/null; then
+    sox -n -r 48000 -b 16 -c 2 tone.wav synth 0.2 sine 997
+    printf '%s\n' 'pcm.dump { type iec958' "slave { pcm { type file slave.pcm { type null } file \"$work/words\" format raw }" \
+        'format IEC958_SUBFRAME_LE } status [ 0x04 0x00 0x00 0x02 0x0b ] }' >asound.conf
+    ALSA_CONFIG_PATH=/usr/share/alsa/alsa.conf:$work/asound.conf aplay -q -D dump tone.wav
+    row 49 3.90625 words=words rms=0.3
+else
+    leave_out "ALSA's subframes, sampled" "aplay or sox is not installed"
+fi
+if command -v sigrok-cli >/dev/null; then
+    "$python" "$here/line.py" 3.90625 samples rms=0.3 sent=sent
+    sigrok-cli -I binary:numchannels=1:samplerate=24000000 -i samples -O srzip -o capture.sr
+    sigrok-cli -i capture.sr -O binary >capture
+    judge "a session of sigrok" sent_back 20
+else
+    leave_out "a session of sigrok" "sigrok-cli is not installed"
+fi
+
+# What is no line, and no command line.
+head -c 3000000 /dev/zero >dead
+head -c 3000000 /dev/urandom >noise
+for remedies in "--bit --unit --rate"; do
+    judge "a dead line" refused <dead
+    judge "noise" refused <noise
+    judge "nothing" refused </dev/null
+done
+for words in "--bit 8" "--unit 3" "--unit 2 --bit 16" "--at 48000" "--rate 0 --at 48000" "--rate 48000 --at 48000" "--rate x" "--none" "file"; do
+    # shellcheck disable=SC2086
+    judge "the words $words" wrong_words $words
+done
+# Each option of its help stands in the manual page and in the completions.
+"$program" --help >help
+judge "its help" grep -q -e --packed-out help
+for option in $(grep -o -e '--[a-z][a-z-]*' help | sort -u); do
+    name=${option#--}
+    judge "the manual page lacks $option" grep -q -F -e "\-\-$(echo "$name" | sed 's/-/\-/g')" "$root/man/aes3-cells.1"
+    for shell in aes3-cells.bash _aes3-cells aes3-cells.fish; do
+        judge "$shell lacks $option" grep -q -e "-l $name\|--$name" "$root/completions/$shell"
+    done
+done
+judge "its version" test "$("$program" --version)" = "aes3-cells $("$aes3" --version | cut -d' ' -f2)"
+
+judge "runs that are no line" "$python" "$here/hostile.py" "$program"
+echo "$passed passed, $failed failed"
+[ "$failed" = 0 ]
