@@ -42,6 +42,7 @@ judge() {
 
 # sent_back LEAST: of the blocks of `sent`, LEAST and more are those of `capture`, in their order and with no other.
 sent_back() {
+    # shellcheck disable=SC2086 # they are words
     "$program" $options <capture 2>told | "$aes3" decode >got && "$python" -c 'import sys
 blocks = [[data[i : i + 1536] for i in range(0, len(data), 1536)] for data in (open(name, "rb").read() for name in ("sent", "got"))]
 sent = iter(blocks[0])
@@ -59,10 +60,10 @@ row() {
     judge "row $least $* ($options)" sent_back "$least"
 }
 
-# refused WORDS.. : standard input is refused with 3, in one sentence that names each of `remedies`.
+# Standard input has no line, and one sentence says so, and what to try.
 refused() {
-    "$program" "$@" >out 2>said_why
-    [ $? = 3 ] && for remedy in $remedies; do grep -q -e "$remedy" said_why || return 1; done
+    "$program" >out 2>said_why
+    [ $? = 1 ] && grep -q -e '--bit.*--unit.*--rate' said_why
 }
 wrong_words() { "$program" "$@" </dev/null >out 2>said_why; [ $? = 2 ] && [ ! -s out ] && [ -s said_why ]; }
 
@@ -140,11 +141,9 @@ fi
 # What is no line, and no command line.
 head -c 3000000 /dev/zero >dead
 head -c 3000000 /dev/urandom >noise
-for remedies in "--bit --unit --rate"; do
-    judge "a dead line" refused <dead
-    judge "noise" refused <noise
-    judge "nothing" refused </dev/null
-done
+judge "a dead line" refused <dead
+judge "noise" refused <noise
+judge "nothing" refused </dev/null
 for words in "--bit 8" "--unit 3" "--unit 2 --bit 16" "--at 48000" "--rate 0 --at 48000" "--rate 48000 --at 48000" "--rate x" "--none" "file"; do
     # shellcheck disable=SC2086
     judge "the words $words" wrong_words $words
@@ -152,9 +151,11 @@ done
 # Each option of its help stands in the manual page and in the completions.
 "$program" --help >help
 judge "its help" grep -q -e --packed-out help
+tr -d '\134' <"$root/man/aes3-cells.1" >page
+# shellcheck disable=SC2013 # they are words
 for option in $(grep -o -e '--[a-z][a-z-]*' help | sort -u); do
     name=${option#--}
-    judge "the manual page lacks $option" grep -q -F -e "\-\-$(echo "$name" | sed 's/-/\-/g')" "$root/man/aes3-cells.1"
+    judge "the manual page lacks $option" grep -q -F -e "$option" page
     for shell in aes3-cells.bash _aes3-cells aes3-cells.fish; do
         judge "$shell lacks $option" grep -q -e "-l $name\|--$name" "$root/completions/$shell"
     done

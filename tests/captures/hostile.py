@@ -2,7 +2,7 @@
 """hostile.py PROGRAM [PIECES]: runs of samples that are no line, 10 million where none are given. It wants numpy.
 
 First runs of any length, from one sample to a dead line, with pieces of a line between them, and bytes of chance: PROGRAM has to
-end by itself, with 0 or with its refusal, and to write no more cells than samples. Then runs of two cells and more at a given
+end by itself, with 0, or with 1 where it finds no line, and to write no more cells than samples. Then runs of two cells and more at a given
 rate: each has to come back as so many cells as passed in its time, or one more or fewer. The last line is `N passed, M failed`.
 """
 import subprocess
@@ -50,7 +50,7 @@ def main(program, count):
     for words in ([], ["--rate", "24576000", "--at", "48000"]):
         pieces = any_pieces(count, chance)
         status, cells = run(program, words, (sizes.append(len(it)) or it for it in pieces))
-        judge(f"status {status} of {words}", status in (0, 3))
+        judge(f"status {status} of {words}", status in (0, 1))
         judge(f"{len(cells)} cells of {sum(sizes)} samples", len(cells) <= sum(sizes))
         sizes.clear()
 
