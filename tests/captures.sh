@@ -112,6 +112,10 @@ spent=$(($(wc -c <one) * 100000 / 390625 + 100000 + $(wc -c <two) * 10 / 53))
 cells=$(tr -d '\n' <cells | wc -c)
 judge "$cells cells in the time of $spent" [ $((cells - spent)) -ge -40 -a $((cells - spent)) -le 40 ]
 
+# The same with noise between them, which is noticed too: one block goes by until the second line is measured.
+{ cat one; head -c 200000 /dev/urandom; cat two; } >capture
+judge "noise between two lines" sent_back 19
+
 # Packed cells are those of the text; pieces of any size are one capture; what is decided leaves before it waits.
 "$program" <one 2>told >text
 "$program" --packed-out <one 2>told >packed
