@@ -148,6 +148,8 @@ head -c 3000000 /dev/urandom >noise
 judge "a dead line" refused <dead
 judge "noise" refused <noise
 judge "nothing" refused </dev/null
+told=$(head -c 3906250 /dev/zero | "$program" --rate 24000000 --at 48000 2>told | tr -d '\n' | wc -c)
+judge "$told cells of a dead line in the time of 1000000" [ "$told" -ge 999999 -a "$told" -le 1000001 ]
 for words in "--bit 8" "--unit 3" "--unit 2 --bit 16" "--at 48000" "--rate 0 --at 48000" "--rate 48000 --at 48000" "--rate x" "--none" "file"; do
     # shellcheck disable=SC2086
     judge "the words $words" wrong_words $words
