@@ -121,7 +121,7 @@ if lacks dpkg-deb; then
 else
     judge "bin/package" "$root/bin/package" --as-built "$work"
     dpkg-deb --fsys-tarfile "$work"/aes3_*.deb | tar -t >"$work/held"
-    sed -n "s|^$to/||p" "$work/files" | sed 's|site-functions|vendor-completions|; s|\.1$|.1.gz|' >"$work/wanted"
+    sed -n "s|^$to/||p" "$work/files" | sed 's|site-functions|vendor-completions|; s|^share/man/.*|&.gz|' >"$work/wanted"
     while IFS= read -r file; do
         judge "$file in the package" grep -qxF "./usr/$file" "$work/held"
     done <"$work/wanted"
