@@ -1,0 +1,77 @@
+/* What a file is that holds no cells, or cells in another order, and what to do with it. */
+
+import { TURNED } from "./cells.js";
+import { wholeIn } from "./reading.js";
+import { counted } from "./words.js";
+
+const LOGIC = "examples/neighbours/logic.py to-cells";
+const CHANNEL = `${LOGIC} measured BIT < SAMPLES > LINE    # BIT: the number of the line's channel, counted from 0`;
+const latin = bytes => String.fromCharCode(...bytes.subarray(0, 1024));
+
+/* Files that tell by their first bytes what they are, and the commands that make cells of them. */
+const BEGINNINGS = [
+    [/^(RIFF|RF64|FORM|fLaC|OggS|ID3)/, "This is a sound file: it holds samples, and no cells. To make a line of it:",
+        ["sox FILE -t s32 - | aes3 from-pcm | aes3 encode > LINE"]],
+    [/^PK\x03\x04[^]*(version|metadata|logic-)/, "This is a sigrok session (.sr): it holds samples of a logic analyser, and no cells "
+        + "yet. To make cells of them:", ["sigrok-cli -i FILE -O binary -o SAMPLES", CHANNEL]],
+    [/^\s*\$(date|version|timescale|comment|scope)\b/, "This is a VCD file: it holds the changes of a logic analyser's channels, and no "
+        + "cells yet. To make cells of them:", ["sigrok-cli -I vcd -i FILE -O binary -o SAMPLES", CHANNEL]],
+    [/^(PK\x03\x04|\x1f\x8b|\xfd7zXZ|BZh|\x28\xb5\x2f\xfd)/, "This is a compressed file or an archive. Unpack it first.", []],
+];
+
+/* Whether bytes are samples of a logic analyser, of one or two bytes: few values, and runs of one that last longer than a sample. */
+function areSamples(bytes) {
+    return [1, 2].some(size => {
+        let changes = 0;
+        for (let i = size; i < bytes.length; i++) {
+            changes += bytes[i] !== bytes[i - size];
+        }
+        return bytes.length >= 64 && new Set(bytes).size <= 4 && changes > 0 && 3 * changes < 2 * bytes.length;
+    });
+}
+
+/* Whether words of a block file stand there: bits 0 to 3 of each are 0, and some sample is not. */
+const areWords = bytes => bytes.length >= 1536 && bytes.every((byte, i) => i % 4 > 0 || (byte & 15) === 0);
+
+/* What to say of packed cells in which blocks stand once the bits of each octet are turned; null where none do. */
+async function turnedAdvice(codec, { form, file }) {
+    const octets = new Uint8Array(await file.slice(0, 1 << 20).arrayBuffer());
+    const isHigh = form === "packed";
+    const whole = wholeIn(codec, isHigh ? octets : octets.map(octet => TURNED[octet]));
+    if (whole === 0) {
+        return null;
+    }
+    const stand = counted(whole, "whole block stands", "whole blocks stand");
+    const says = `These are packed cells with the first of eight in the ${isHigh ? "lowest" : "highest"} bit: read so, ${stand} in the first `
+        + `${counted(octets.length, "byte", "bytes")}.`;
+    return isHigh ? {
+        says: `${says} aes3 wants it in the highest: turn the bits of each byte where the file is made, or by`,
+        commands: [`perl -0777 -pe '$_ = pack "B*", unpack "b*", $_' FILE > TURNED; printf '\\0' >> TURNED`],
+        form: "packed-low",
+    } : { says, commands: [], form: "packed" };
+}
+
+/* What to say of a file in which no whole block stands; the commands that mend it; whether it is none of cells (`isOther`), or in
+   which form it is to be read. */
+export async function adviceOf(codec, cells) {
+    const { head, form, file } = cells;
+    const known = form === "text" ? undefined : BEGINNINGS.find(([beginning]) => beginning.test(latin(head)));
+    if (file.size === 0) {
+        return { says: "The file is empty.", commands: [] };
+    }
+    if (known) {
+        return { says: known[1], commands: known[2], isOther: true };
+    }
+    if (form === "packed" && areSamples(head)) {
+        const says = "These look like samples of a logic analyser, and no cells yet. To make cells of them:";
+        return { says, commands: [CHANNEL.replace("SAMPLES", "FILE")], isOther: true };
+    }
+    if (form === "packed" && file.size % 1536 === 0 && areWords(head)) {
+        return { says: "This looks like a block file. To make a line of it:", commands: ["aes3 encode < FILE > LINE"], isOther: true };
+    }
+    return form !== "text" && await turnedAdvice(codec, cells) || {
+        says: "No block stands in these cells. Packed cells have the first of eight in the highest bit. Samples of a logic analyser "
+            + "are no cells yet, but this makes cells of them:",
+        commands: [CHANNEL],
+    };
+}

@@ -1,0 +1,376 @@
+/* The page: what it is given, what it shows, and what its buttons and keys do. */
+
+import { adviceOf } from "./advice.js";
+import { changesText, frameRows, peakRows, peakTexts, statusTable } from "./blocks.js";
+import { CellFile } from "./cells.js";
+import { Codec, SUBFRAME_CELLS } from "./codec.js";
+import { at, cellOf } from "./elements.js";
+import { exampleFile } from "./example.js";
+import { cellsIn, drawLevels } from "./levels.js";
+import { nextBlock, nextFault } from "./moves.js";
+import { durationOf, rateOf } from "./rate.js";
+import { readAll, readBlocks, wordsAt } from "./reading.js";
+import { lineOf } from "./reports.js";
+import { firstRows, rowElement } from "./rows.js";
+import { accountOf, blockBytes, offer, sampleBytes, wavHeader } from "./save.js";
+import { drawStrip, markPlace, placeByKey } from "./strip.js";
+import { sentencesOf, subframesIn } from "./subframes.js";
+import { cellCount, counted, plain } from "./words.js";
+
+const MOST_FAULTS = 20; // that are told at once
+const MOST_LINES = 20000; // of the lines of `aes3 check`
+const FORMS = { text: "text", packed: "packed", "packed-low": "packed, the lowest bit first" };
+
+class Page {
+    constructor(codec) {
+        this.codec = codec;
+        this.found = null;
+        this.turn = 0; // a file that is dropped while another is read ends that one
+        this.reading = Promise.resolve(); // ends with what is read of a file
+        this.first = this.count = 0; // the first cell of the levels, and how many are shown
+        this.most = MOST_FAULTS;
+        this.listenToFiles();
+        this.listenToMoves();
+        this.listenToKeys();
+        this.listenToWindow();
+    }
+
+    listenToFiles() {
+        const { body } = document;
+        body.addEventListener("dragover", event => {
+            event.preventDefault();
+            at("drop").className = "over";
+        });
+        body.addEventListener("dragleave", () => at("drop").className = "");
+        body.addEventListener("drop", event => {
+            event.preventDefault();
+            at("drop").className = "";
+            event.dataTransfer.files.length > 0 && this.open(event.dataTransfer.files[0]);
+        });
+        at("file").addEventListener("change", () => at("file").files.length > 0 && this.open(at("file").files[0]));
+        // So that the same file is read again where it was written anew.
+        at("file").addEventListener("click", () => at("file").value = "");
+        at("form").addEventListener("change", () => this.file && this.open(this.file));
+        at("rate").addEventListener("change", () => this.found && (this.showTimes(), this.levels(this.first)));
+        at("example").addEventListener("click", () => this.open(exampleFile(this.codec)));
+        at("save-wav").addEventListener("click", () => this.saveWav());
+        at("save-blocks").addEventListener("click", () => this.saveBlocks());
+        at("save-account").addEventListener("click", () => this.saveAccount());
+    }
+
+    listenToMoves() {
+        const half = () => Math.floor(this.shown() / 2);
+        const or = (place, before) => place < 0 ? this.first : Math.max(place - before, 0);
+        const moves = {
+            "page-before": () => this.first - this.shown() + 8,
+            "page-behind": () => this.first + this.shown() - 8,
+            "block-before": () => or(nextBlock(this.found.reports, -1, this.first + 8), 8),
+            "block-behind": () => or(nextBlock(this.found.reports, 1, this.first + 8), 8),
+            "fault-before": () => or(nextFault(this.found.reports, -1, this.first + half()), half()),
+            "fault-behind": () => or(nextFault(this.found.reports, 1, this.first + half()), half()),
+        };
+        for (const [id, place] of Object.entries(moves)) {
+            at(id).addEventListener("click", () => this.levels(place()));
+        }
+        at("cell").addEventListener("change", () => this.levels(Number(at("cell").value)));
+        at("block").addEventListener("change", () => this.showBlock(Number(at("block").value)));
+        at("show-block").addEventListener("click", () => {
+            this.levels(this.found.reports.wholePlace(Number(at("block").value)) - 8);
+        });
+        at("more").addEventListener("click", () => {
+            this.most += MOST_FAULTS;
+            this.rows();
+        });
+        at("strip").addEventListener("click", event => {
+            const { left, width } = at("strip").getBoundingClientRect();
+            this.levels((event.clientX - left) / width * this.found.cells.total - this.shown() / 2);
+        });
+        at("wave").addEventListener("wheel", event => {
+            event.preventDefault();
+            this.levels(this.first + Math.sign(event.deltaY + event.deltaX) * 8);
+        }, { passive: false });
+    }
+
+    listenToKeys() {
+        const take = (event, place) => {
+            if (place !== undefined && !event.ctrlKey && !event.altKey && !event.metaKey) {
+                event.preventDefault();
+                this.levels(place);
+            }
+        };
+        at("strip").addEventListener("keydown", event => take(event, placeByKey(event.key, this.first, this.found.cells.total)));
+        at("wave").addEventListener("keydown", event => {
+            const places = {
+                ArrowLeft: this.first - 8, ArrowRight: this.first + 8, PageUp: this.first - this.shown(),
+                PageDown: this.first + this.shown(), Home: 0, End: this.found.cells.total,
+            };
+            take(event, places[event.key]);
+        });
+    }
+
+    listenToWindow() {
+        const drawAgain = () => {
+            if (this.found) {
+                drawStrip(at("strip"), this.found);
+                this.levels(this.first + (this.count - this.shown()) / 2);
+            }
+        };
+        window.addEventListener("resize", drawAgain);
+        matchMedia("(prefers-color-scheme: dark)").addEventListener("change", drawAgain);
+    }
+
+    /* Runs what reads a whole file when nothing else does. It ends early where another file is opened meanwhile. */
+    async alone(name, read) {
+        const { turn, reading } = this;
+        const goesOn = () => {
+            if (turn !== this.turn) {
+                throw new Error("another file was opened");
+            }
+        };
+        const progress = async (bytes, size) => {
+            at("progress").value = size > 0 ? bytes / size : 1;
+            await new Promise(done => setTimeout(done, 0));
+            goesOn();
+        };
+        const mine = reading.then(() => {
+            goesOn();
+            at("state").textContent = `${name} ..`;
+            at("progress").hidden = false;
+            return read(progress);
+        });
+        const ended = this.reading = mine.catch(() => {});
+        try {
+            return await mine;
+        } finally {
+            if (ended === this.reading) {
+                at("progress").hidden = true;
+            }
+        }
+    }
+
+    async open(file) {
+        const turn = ++this.turn;
+        [this.file, this.found] = [file, null];
+        at("trouble").textContent = "";
+        at("advice").hidden = at("found").hidden = true;
+        document.body.dataset.state = "reading";
+        try {
+            const found = await this.alone(`${file.name} is read`, async progress => {
+                const cells = await CellFile.open(file, at("form").value);
+                return readAll(this.codec, cells, bytes => progress(bytes, file.size));
+            });
+            await this.show(found);
+        } catch (error) {
+            if (turn === this.turn) {
+                at("trouble").textContent = `${file.name} can't be read: ${error.message}`;
+                at("state").textContent = "";
+                document.body.dataset.state = "failed";
+            }
+        }
+    }
+
+    async show(found) {
+        const { turn } = this;
+        const { cells, reports, tally } = found;
+        const advice = tally.blocks === 0 ? await adviceOf(this.codec, cells) : null;
+        if (turn !== this.turn) {
+            return;
+        }
+        this.found = found;
+        at("state").textContent = this.stateText();
+        this.advise(advice);
+        at("trouble").textContent = advice?.isOther || advice?.form ? "" : cells.fault ?? cells.ending ?? "";
+        at("found").hidden = advice?.isOther ?? false;
+        this.most = MOST_FAULTS;
+        this.lines();
+        drawStrip(at("strip"), found);
+        at("cell").max = Math.max(cells.total - 1, 0);
+        at("block").max = Math.max(tally.blocks - 1, 0);
+        at("save-wav").disabled = at("save-blocks").disabled = tally.blocks === 0;
+        const fault = reports.firstFault();
+        await this.showBlock(fault < 0 ? 0 : reports.wholeBefore(fault));
+        this.showTimes();
+        await this.levels(fault >= 0 ? fault - Math.floor(this.shown() / 2) : Math.max(reports.wholePlace(0) - 8, 0));
+        document.body.dataset.state = "shown";
+    }
+
+    stateText() {
+        const { cells } = this.found;
+        return `${this.file.name}: ${cellCount(cells.total)}, as ${FORMS[cells.form]}`;
+    }
+
+    /* What to do with a file that is none, with a button where the page can do it. */
+    advise(advice) {
+        at("advice").hidden = !advice;
+        at("advice").replaceChildren(cellOf("p", advice?.says ?? ""));
+        advice?.commands.length > 0 && at("advice").append(cellOf("pre", advice.commands.join("\n")));
+        const button = (text, press) => {
+            const made = cellOf("button", text);
+            made.addEventListener("click", press);
+            at("advice").append(made);
+        };
+        advice?.form && button("Read it so", () => {
+            at("form").value = advice.form;
+            this.open(this.file);
+        });
+        advice?.isOther && button("Show it as cells all the same", () => {
+            at("found").hidden = false;
+            drawStrip(at("strip"), this.found);
+            this.levels(this.first + (this.count - this.shown()) / 2);
+        });
+    }
+
+    /* All that speaks of times. */
+    showTimes() {
+        const { tally } = this.found;
+        const [, whole, marked, fault, unfinished] = tally.counts;
+        const rate = this.rate();
+        const parts = [`${counted(whole, "whole block", "whole blocks")} (${durationOf(whole * 384 * SUBFRAME_CELLS, rate)})`];
+        fault && parts.push(counted(fault, "fault", "faults"));
+        marked && parts.push(`${counted(marked, "block", "blocks")} with wrong parity`);
+        unfinished && parts.push(`${plain(unfinished)} unfinished at the end`);
+        parts.push(`${cellCount(tally.gapCells)} in no whole block`);
+        at("summary").textContent = `${parts.join(", ")}.`;
+        at("rate-used").textContent = `Times are counted from the first cell, at ${plain(rate.hertz)} Hz, ${rate.by}.`;
+        this.rows();
+    }
+
+    rate() {
+        return rateOf(this.codec, this.found.tally, at("rate").value);
+    }
+
+    rows() {
+        const { rows, left } = firstRows(this.found, this.most);
+        const rate = this.rate();
+        const show = cell => this.levels(cell - Math.floor(this.shown() / 2));
+        at("rows").tBodies[0].replaceChildren(...rows.map(row => rowElement(row, rate, show)));
+        at("more").hidden = left.rows === 0;
+        at("left").textContent = left.rows > 0
+            ? `.. and ${counted(left.rows, "more row", "more rows")}, with ${counted(left.faults, "fault", "faults")}. ` : "";
+    }
+
+    lines() {
+        const { reports } = this.found;
+        const lines = Array.from({ length: Math.min(reports.count, MOST_LINES) }, (_, i) => lineOf(reports.get(i)));
+        const rest = reports.count - lines.length;
+        at("lines").textContent = lines.join("\n") + (rest > 0 ? `\n.. and ${plain(rest)} more` : "");
+    }
+
+    /* How many cells the levels show. */
+    shown() {
+        return cellsIn(at("wave"));
+    }
+
+    async levels(first) {
+        const { found } = this;
+        const { cells, reports } = found;
+        const count = Math.min(this.shown(), cells.total);
+        first = Math.max(0, Math.min(Math.round(first), cells.total - count));
+        [this.first, this.count] = [first, count];
+        at("cell").value = first;
+        markPlace(at("strip"), at("here"), found, first);
+        const from = Math.max(first - 2 * SUBFRAME_CELLS, 0);
+        const read = await cells.cells(from, first + count + SUBFRAME_CELLS + 8);
+        if (found === this.found && first === this.first) {
+            const seen = { first, count, from, read };
+            const subframes = subframesIn(seen, reports);
+            const rate = this.rate();
+            drawLevels(at("wave"), seen, subframes, reports);
+            at("stretch").textContent = count === 0 ? "There are no cells." : `Cells ${plain(first)} to ${plain(first + count - 1)}, `
+                + `${durationOf(first, rate)} to ${durationOf(first + count, rate)}.`;
+            at("seen").replaceChildren(...sentencesOf(seen, subframes, reports).map(text => cellOf("li", text)));
+        }
+    }
+
+    /* Channel status and first samples of a whole block, counted from 0. */
+    async showBlock(number) {
+        const { found } = this;
+        const { tally, reports, cells } = found;
+        const last = tally.blocks - 1;
+        at("of-blocks").textContent = last < 0 ? "there is none" : `of 0 to ${plain(last)}`;
+        at("show-block").disabled = at("block").disabled = last < 0;
+        number = Math.max(0, Math.min(Math.round(number), last));
+        const words = last < 0 ? null : await wordsAt(this.codec, cells, reports.wholePlace(number));
+        if (found !== this.found) {
+            return;
+        }
+        const rows = (id, made) => at(id).tBodies[0].replaceChildren(...made);
+        at("block").value = number;
+        at("changes").textContent = words ? this.changes() : "";
+        at("statuses").replaceChildren(...(words ? [1, 2] : []).map(channel =>
+            statusTable(this.codec, this.codec.statusOf(words, channel), channel)));
+        rows("peaks", words ? peakRows(this.peaks()) : []);
+        rows("frames", words ? frameRows(words) : []);
+    }
+
+    changes() {
+        return this.found.tally.changes.map((list, i) => changesText(list, i + 1)).join(" ");
+    }
+
+    peaks() {
+        return [0, 1].flatMap(channel => peakTexts(this.found.tally, channel));
+    }
+
+    /* Reads the file again and saves what `bytesOf` makes of each of its whole blocks, behind what stands before them. */
+    async save(ending, type, before, bytesOf) {
+        const { file, found } = this;
+        const parts = [...before];
+        at("save-wav").disabled = at("save-blocks").disabled = true;
+        try {
+            await this.alone(`${file.name} is read once more`, async progress => {
+                const cells = await CellFile.open(file, found.cells.form);
+                await readBlocks(this.codec, cells, words => parts.push(bytesOf(words)), bytes => progress(bytes, file.size));
+            });
+            offer(file.name + ending, parts, type);
+        } catch (error) {
+            if (found === this.found) {
+                at("trouble").textContent = `${file.name} can't be saved: ${error.message}`;
+            }
+        }
+        if (found === this.found) {
+            at("save-wav").disabled = at("save-blocks").disabled = false;
+            at("state").textContent = this.stateText();
+        }
+    }
+
+    async saveWav() {
+        const header = wavHeader(this.found.tally.blocks, this.rate().hertz);
+        if (header) {
+            await this.save(".wav", "audio/wav", [header], sampleBytes);
+        } else {
+            at("trouble").textContent = "A WAV file has 4 GB at most, and these samples are more: save the block file.";
+        }
+    }
+
+    async saveBlocks() {
+        await this.save(".block", "application/octet-stream", [], blockBytes);
+    }
+
+    saveAccount() {
+        const { cells } = this.found;
+        const says = {
+            rate: this.rate(), summary: at("summary").textContent, changes: this.changes(), peaks: this.peaks(),
+            notes: [cells.fault ?? cells.ending ?? "", ...[...at("advice").querySelectorAll("p, pre")].map(it => it.textContent)].filter(text => text),
+        };
+        offer(`${this.file.name}.account.txt`, [...accountOf(this.codec, this.found, says)], "text/plain");
+    }
+}
+
+let page = null;
+
+async function start() {
+    const octets = Uint8Array.from(atob(MODULE), it => it.charCodeAt(0));
+    if (!WebAssembly.validate(octets)) {
+        at("trouble").textContent = "This browser runs no WebAssembly with 64-bit memory. "
+            + "Chromium, Chrome and Edge do from 133 on, Firefox from 134 on.";
+        document.body.dataset.state = "failed";
+        return;
+    }
+    page = new Page(await Codec.make(octets));
+    document.body.dataset.state = "ready";
+    if (location.hash === "#example") {
+        await page.open(exampleFile(page.codec));
+    }
+}
+
+start();
