@@ -1,0 +1,60 @@
+use crate::{Error, Status, STATUS_BYTES};
+use aes3_sys as sys;
+
+/// Words of a block.
+pub const BLOCK_WORDS: usize = sys::AES3_BLOCK_WORDS;
+/// Cells of a block.
+pub const BLOCK_CELLS: usize = sys::AES3_BLOCK_CELLS;
+
+/// One of the two channels of a line.
+#[derive(Clone, Copy, Debug, PartialEq, Eq)]
+pub enum Channel {
+    /// Channel 1, whose subframe begins a frame.
+    One = 1,
+    /// Channel 2.
+    Two = 2,
+}
+
+/// A block: 384 words as in a block file, a word a subframe, channel 1 first. Bits 4 to 27 of a word are the sample, 28 to 30 V, U and
+/// C, and 31 makes the ones in bits 4 to 31 even in number.
+#[derive(Clone, Copy, Debug, PartialEq, Eq)]
+pub struct Block {
+    /// The words, lawful or not.
+    pub words: [u32; BLOCK_WORDS],
+}
+
+impl Block {
+    /// A block whose samples and bits are all 0.
+    pub fn silence() -> Block {
+        Block { words: [0; BLOCK_WORDS] }
+    }
+
+    /// The sample of a channel in a frame, 0 to 191, in the highest 24 bits of an `i32`.
+    pub fn sample(&self, frame: usize, channel: Channel) -> i32 {
+        (self.words[2 * frame + channel as usize - 1] << 4) as i32 & !0xff
+    }
+
+    /// The block's cells behind a cell of the level `before`. It ends at that level, so that blocks follow one another with the same.
+    pub fn encode(&self, before: bool) -> Result<[u64; BLOCK_WORDS], Error> {
+        let mut cells = [0; BLOCK_WORDS];
+        // SAFETY: both point to 384 words that don't overlap.
+        let lawful = unsafe { sys::aes3_encode_block(self.words.as_ptr(), before.into(), cells.as_mut_ptr()) };
+        lawful_or(lawful, cells)
+    }
+
+    /// The channel status of a channel.
+    pub fn status(&self, channel: Channel) -> Result<Status, Error> {
+        let mut bytes = [0; STATUS_BYTES];
+        // SAFETY: the words are 384, the bytes 24, and they don't overlap.
+        let lawful = unsafe { sys::aes3_block_status(self.words.as_ptr(), channel as u8, bytes.as_mut_ptr()) };
+        lawful_or(lawful, Status { bytes })
+    }
+}
+
+/// What a call made, where it found 384 lawful words.
+fn lawful_or<T>(lawful: u32, made: T) -> Result<T, Error> {
+    match lawful as usize {
+        BLOCK_WORDS => Ok(made),
+        word => Err(Error::Unlawful { word }),
+    }
+}

@@ -1,0 +1,30 @@
+//! The AES3 / IEC 60958 line codec, over libaes3: a lock that finds the blocks in a line's cells, blocks and their cells, channel status.
+//!
+//! A cell is half of a time slot. A word of cells is a `u64`, the earliest of its 64 cells in bit 0, 1 for high.
+//!
+//! ```
+//! use aes3::{Block, Lock, Report};
+//!
+//! let cells = Block::silence().encode(false)?;
+//! let mut lock = Lock::new();
+//! let mut reports = Vec::new();
+//! lock.take(&cells, |report| reports.push(report))?;
+//! reports.extend(lock.finish());
+//! assert!(matches!(reports[..], [Report::Whole { at: 0, before: false, .. }]));
+//! # Ok::<(), aes3::Error>(())
+//! ```
+#![no_std]
+#![warn(missing_docs)]
+
+mod block;
+mod error;
+mod lock;
+mod status;
+mod words;
+
+pub use aes3_sys::{aes3_consumer as Consumer, aes3_professional as Professional};
+pub use block::{Block, Channel, BLOCK_CELLS, BLOCK_WORDS};
+pub use error::Error;
+pub use lock::{Lock, Report, Why};
+pub use status::{Check, Status, STATUS_BYTES};
+pub use words::{line_of_word, octets_of_word, word_of_octets, word_of_text};
