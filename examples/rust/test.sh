@@ -77,6 +77,7 @@ export AES3_STATIC
 examples static
 judge "it wants no shared library" test "$(wants)" = 0
 judge "no warning" env RUSTFLAGS="-D warnings" cargo check -q --all-targets
+judge "without std" env RUSTFLAGS="-D warnings" cargo check -q --lib --no-default-features
 if cargo clippy --version >/dev/null 2>&1; then
     judge "clippy" cargo clippy -q --all-targets -- -D warnings
 fi

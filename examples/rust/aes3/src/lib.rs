@@ -13,7 +13,7 @@
 //! assert!(matches!(reports[..], [Report::Whole { at: 0, before: false, .. }]));
 //! # Ok::<(), aes3::Error>(())
 //! ```
-#![no_std]
+#![cfg_attr(not(feature = "std"), no_std)]
 #![warn(missing_docs)]
 
 mod block;

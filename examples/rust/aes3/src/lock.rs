@@ -123,11 +123,13 @@ impl Lock {
         loop {
             // SAFETY: the lock was made by aes3_lock_init, and the words are as many as is said.
             let taken = unsafe { sys::aes3_lock_take_words(&mut self.state, left.as_ptr(), left.len()) };
-            let Some((word, rest)) = left[taken..].split_first() else {
-                return Ok(());
-            };
-            self.push(*word, 64, &mut tell)?;
-            left = rest;
+            match left[taken..].split_first() {
+                None => return Ok(()),
+                Some((word, rest)) => {
+                    self.push(*word, 64, &mut tell)?;
+                    left = rest;
+                }
+            }
         }
     }
 
