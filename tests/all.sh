@@ -1,7 +1,8 @@
 #!/bin/sh
 # tests/all.sh [PROGRAM]: all that is run with a built program, with bin/aes3's where none is given: the worked rows, the
 # machine's own streams, refused memory, the examples of help, README and tutorial, the manual page, the shells' completions, the pictures and the figures of
-# the books, round trips with other programs, and the examples from C (also for 64-bit ARM), C++, Python and Rust, and of the page in a browser.
+# the books, round trips with other programs, and the examples from C (also for 64-bit ARM), C++, Python and Rust, and of the page in a browser, and the Debian packages in a
+# root of their own.
 #
 # Each part prints what fails, `left out: WHAT (WHY)` where something it needs is not installed, and `N passed, M failed`. At the
 # end all that was left out is told once more; the last line is the sum, and the status 1 where something failed.
@@ -71,8 +72,9 @@ if [ -e crates/aes3_c/out/libaes3_c.a ]; then
     part_with cargo examples/rust/test.sh "$program"
     part examples/c/arm.sh "$program"
     part_with cc tests/install.sh
+    part tests/packages.sh
 else
-    echo "left out: examples/c/test.sh, examples/c/arm.sh and those of cpp, python and rust, tests/install.sh (no C library is built: bin/build aes3_c)" | tee -a "$folder/left"
+    echo "left out: examples/c/test.sh, examples/c/arm.sh and those of cpp, python and rust, tests/install.sh, tests/packages.sh (no C library is built: bin/build aes3_c)" | tee -a "$folder/left"
 fi
 
 [ ! -s "$folder/left" ] || { echo "== left out" && cat "$folder/left"; }

@@ -2,7 +2,7 @@
 # tests/install.sh installs what is built in a scratch folder (bin/install --as-built), and there: the program and the header
 # tell one version; the shared library has its soname and shows the calls of the header and no other name; a program in C
 # is built over it by pkg-config and by CMake, and tells of a damaged line what the installed program tells; a struct of another
-# size than the library's is refused by C11 and C++11; a prefix below DESTDIR is told without it; and the Debian package holds the same.
+# size than the library's is refused by C11 and C++11; a prefix below DESTDIR is told without it, and libraries in another folder are found.
 #
 # The last line is `N passed, M failed`, and the status 0 where none failed.
 
@@ -41,6 +41,8 @@ version=$("$to/bin/aes3" --version | cut -d' ' -f2)
 
 judge "a prefix below DESTDIR" env DESTDIR="$work/tree" "$root/bin/install" --as-built /opt/aes3
 judge "the prefix in aes3.pc" grep -qx 'prefix=/opt/aes3' "$work/tree/opt/aes3/lib/pkgconfig/aes3.pc"
+judge "LIBDIR" env LIBDIR=lib/some/where "$root/bin/install" --as-built "$work/other"
+judge "the folder in aes3.pc" grep -qx 'libdir=${prefix}/lib/some/where' "$work/other/lib/some/where/pkgconfig/aes3.pc"
 
 cat >"$work/version.c" <<'C'
 #include <aes3.h>
@@ -112,19 +114,12 @@ if [ -e "$to/lib/libaes3.so.1" ]; then
         judge "CMake builds over it" cmake --build "$work/cmake"
         judge "a program by CMake" tells "$work/cmake/check"
         judge "a program by CMake, static" tells env -u LD_LIBRARY_PATH "$work/cmake/check_static"
+        judge "CMake finds it in LIBDIR" cmake -S "$work" -B "$work/where" -Daes3_DIR="$work/other/lib/some/where/cmake/aes3"
+        judge "CMake builds over it in LIBDIR" cmake --build "$work/where"
+        judge "a program by CMake over it in LIBDIR" tells "$work/where/check_static"
         sed -i 's/find_package(aes3 .* REQ/find_package(aes3 99 REQ/' "$work/CMakeLists.txt"
         judge_not "a version that there is not" cmake -S "$work" -B "$work/other" -DCMAKE_PREFIX_PATH="$to"
     fi
-fi
-if lacks dpkg-deb; then
-    echo "left out: the Debian package (dpkg-deb is not installed)"
-else
-    judge "bin/package" "$root/bin/package" --as-built "$work"
-    dpkg-deb --fsys-tarfile "$work"/aes3_*.deb | tar -t >"$work/held"
-    sed -n "s|^$to/||p" "$work/files" | sed 's|site-functions|vendor-completions|; s|^share/man/.*|&.gz|' >"$work/wanted"
-    while IFS= read -r file; do
-        judge "$file in the package" grep -qxF "./usr/$file" "$work/held"
-    done <"$work/wanted"
 fi
 echo "$passed passed, $failed failed"
 [ "$failed" = 0 ]

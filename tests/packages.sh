@@ -1,0 +1,140 @@
+#!/bin/sh
+# tests/packages.sh makes the Debian packages of what is built (bin/package --as-built), has lintian look at them, and installs them in
+# a root made anew (mmdebstrap), with what they depend on and compilers, and nothing of this clone: there the program and its manual page,
+# the commands of README and tutorial over the examples that the package brought, the examples in C, C++, Python and Rust over the
+# packages, by pkg-config and CMake, the page for a browser and the links between the pages in HTML. Removed, they leave nothing.
+#
+# With AES3_ROOT in the environment the root is that folder's, which has to be one that a run of this made with AES3_ROOT=FOLDER. It
+# wants a Debian, root's rights and a mirror of packages, and some minutes. The last line is `N passed, M failed`.
+
+root=$(dirname "$(dirname "$(realpath "$0")")")
+release=${AES3_RELEASE:-bookworm}
+work=$(mktemp -d) || exit 2
+place=${AES3_ROOT:-$work/root}
+trap 'umount "$place/proc" 2>/dev/null; rm -rf "$work"' EXIT
+trap 'exit 130' INT TERM
+passed=0 failed=0
+
+# judge WHAT COMMAND..
+judge() {
+    what=$1
+    shift
+    if "$@" >"$work/said" 2>&1; then
+        passed=$((passed + 1))
+    else
+        failed=$((failed + 1))
+        echo "packages: $what" >&2
+        tail -n 20 "$work/said" >&2
+    fi
+}
+lacks() { ! command -v "$1" >/dev/null; }
+end() {
+    echo "$passed passed, $failed failed"
+    [ "$failed" = 0 ]
+    exit
+}
+
+for tool in dpkg-deb cc python3 pandoc; do
+    if lacks $tool; then
+        echo "left out: the Debian packages ($tool is not installed)"
+        end
+    fi
+done
+mkdir "$work/debs"
+judge "bin/package" "$root/bin/package" --as-built "$work/debs"
+for package in aes3 libaes3-1 libaes3-dev python3-aes3; do
+    judge "the package $package" test -e "$work"/debs/${package}_*.deb
+done
+if lacks lintian; then
+    echo "left out: lintian (it is not installed)"
+else
+    judge "lintian" lintian --fail-on error,warning "$work"/debs/*.deb
+fi
+
+if lacks mmdebstrap || [ "$(id -u)" != 0 ]; then
+    echo "left out: the packages in a root of their own (mmdebstrap is not installed, or this is not root)"
+    end
+fi
+if [ ! -e "$place/bin/sh" ]; then
+    mkdir -p "$place"
+    if ! timeout 900 mmdebstrap --quiet --variant=minbase \
+        --include=python3,python3-numpy,gcc,g++,libc6-dev,pkg-config,cmake,make,cargo,man-db,sox "$release" "$place" >"$work/said" 2>&1; then
+        echo "left out: the packages in a root of their own (mmdebstrap makes none: $(tail -n 1 "$work/said"))"
+        end
+    fi
+fi
+
+# inside COMMAND..: in the root, in a folder of a user's, with nothing of this environment.
+inside() { chroot "$place" /usr/bin/env -i PATH=/usr/bin:/bin:/usr/sbin:/sbin HOME=/walk LC_ALL=C.UTF-8 sh -c "cd /walk && $1"; }
+rm -rf "$place/walk"
+mkdir -p "$place/walk/debs" "$place/walk/docs" "$place/walk/tests" "$place/walk/src"
+cp "$work"/debs/*.deb "$place/walk/debs"
+judge "dpkg -i" inside "dpkg -i debs/*.deb"
+judge "the program" inside "aes3 --version"
+judge "the manual page" inside "man -w aes3"
+judge "the linker knows the library" inside "ldconfig -p | grep -q libaes3.so.1"
+judge "the page for a browser" cmp "$place/usr/share/doc/aes3/aes3.html" "$root/web/aes3.html"
+
+# What the pages name is in the package: each file below examples/ that a command of them has.
+grep -ohE 'examples/[a-z0-9_/.-]+\.(py|block|svg)' "$root/README.md" "$root/docs/TUTORIAL.md" "$root/examples/README.md" | sort -u >"$work/named"
+while IFS= read -r file; do
+    judge "$file" test -e "$place/usr/share/doc/aes3/$file"
+done <"$work/named"
+# And each page to which one of them links.
+links() {
+    cd "$place/usr/share/doc/aes3" || return 1
+    find . -name '*.html' ! -name aes3.html | while IFS= read -r page; do
+        grep -oE '(href|src)="[^"#:]+' "$page" | sed 's/.*"//' | while IFS= read -r target; do
+            [ -e "$(dirname "$page")/$target" ] || echo "$page: $target"
+        done
+    done >"$work/dead"
+    cat "$work/dead"
+    [ ! -s "$work/dead" ]
+}
+judge "the links between the pages" links
+
+# The commands of README and tutorial, over the package's examples.
+cp "$root/README.md" "$place/walk"
+cp "$root/docs/TUTORIAL.md" "$place/walk/docs"
+cp "$root/tests/readme.sh" "$place/walk/tests"
+cp -r "$place/usr/share/doc/aes3/examples" "$place/walk/examples"
+judge "the commands of README and tutorial" inside "sh tests/readme.sh /usr/bin/aes3"
+grep -E '^left out: |passed' "$work/said" | sed 's/^left out: /left out, in a root of its own: /'
+
+cp "$root"/examples/c/*.c "$root"/examples/cpp/*.cpp "$root"/examples/python/*.py "$place/walk/src"
+cp -r "$root/examples/rust" "$place/walk/rust"
+cat >"$place/walk/src/CMakeLists.txt" <<'CMAKE'
+cmake_minimum_required(VERSION 3.13)
+project(own C)
+find_package(aes3 REQUIRED)
+add_executable(shared check.c)
+target_link_libraries(shared aes3::aes3)
+add_executable(static check.c)
+target_link_libraries(static aes3::static)
+CMAKE
+inside "aes3 encode <examples/speech.block | sed '48200s/^1/0/' | tail -c +12538 >line.txt; aes3 check <line.txt >want
+    aes3 encode --packed-out <examples/speech.block >line.packed; aes3 check --packed-in <line.packed >want.packed"
+tells() { inside "{ $1 <line.txt || [ \$? = 1 ]; } >got && cmp got want"; }
+tells_packed() { inside "$1 <line.packed >got && cmp got want.packed"; }
+judge "a program in C" inside 'cc -o check src/check.c $(pkg-config --cflags --libs aes3)'
+judge "a program in C, run" tells ./check
+judge "a program in C++" inside 'c++ -std=c++11 -o checkpp src/check.cpp $(pkg-config --cflags --libs aes3)'
+judge "a program in C++, run" tells_packed ./checkpp
+judge "CMake" inside "cmake -S src -B made && cmake --build made"
+judge "a program by CMake" tells made/shared
+judge "a program by CMake, static" tells made/static
+judge "the module for Python, compiled" inside "ls /usr/lib/python3/dist-packages/aes3/__pycache__/*.pyc"
+judge "a program in Python" tells "python3 src/check.py"
+# rustc looks itself up in /proc.
+if mount -t proc proc "$place/proc" 2>/dev/null; then
+    judge "a program in Rust" inside "cd rust && cargo build --offline -q --example check && cp target/debug/examples/check ../checkrs"
+    judge "a program in Rust, run" tells ./checkrs
+    judge "the tests in Rust" inside "cd rust && cargo test --offline -q"
+    umount "$place/proc"
+else
+    echo "left out: Rust over the packages (no /proc can be mounted in their root)"
+fi
+
+judge "the packages removed" inside "dpkg -P python3-aes3 libaes3-dev libaes3-1 aes3"
+judge "what is left of them" test -z "$(find "$place/usr" "$place/etc" -name '*aes3*' | head -n 1)"
+end
