@@ -5,7 +5,7 @@ _aes3_words() {
     local each front=
     [[ $COMP_WORDBREAKS == *=* ]] && front=${typed%"${typed##*=}"}
     for each; do
-        [[ $each == "$typed"* ]] && COMPREPLY+=("${each#"$front"}")
+        [[ $each == "$typed"* ]] && COMPREPLY+=("$lead${each#"$front"}")
     done
 }
 
@@ -40,8 +40,14 @@ _aes3_setting() {
 
 _aes3() {
     local line=${COMP_LINE:0:COMP_POINT}
-    local typed=${line##*[[:space:]]} words
+    local typed=${line##*[[:space:]]} lead= words option=
     read -ra words <<<"${line%"$typed"}"
+    # A value behind its option and `=`.
+    if [[ $typed == --*=* ]]; then
+        option=${typed%%=*} typed=${typed#*=}
+        [[ $COMP_WORDBREAKS == *=* ]] || lead=$option=
+        words+=("$option")
+    fi
     COMPREPLY=()
     case ${COMP_WORDS[COMP_CWORD - 1]} in
         # Bash's own completion of file names keeps those with spaces one word.
@@ -52,6 +58,7 @@ _aes3() {
         --status1 | --status2) return ;;
         --explain) _aes3_words 1 2 3 4 5 6 7 8 9 10 11; return ;;
     esac
+    [ -z "$option" ] || return
     if [ "$COMP_CWORD" = 1 ]; then
         _aes3_words encode decode normal check show scan cut rewrite to-pcm from-pcm --help --version --explain
         return

@@ -1,6 +1,6 @@
 # Completion of aes3 in fish. Made by bin/make-manual from what the program says of itself.
 function __aes3_setting
-    switch (commandline -ct)
+    switch (string replace -r -- '^--[^=]*=' '' (commandline -ct))
         case 'payload=*'
             printf 'payload=%s\n' pcm other
         case 'emphasis=*'

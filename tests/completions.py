@@ -68,6 +68,9 @@ def cases(program):
     found += [("aes3 rewrite --set1 rate=44", "aes3 rewrite --set1 rate=44100 ")]
     found += [("aes3 from-pcm --set1 rate=48000 --set2 cop", "aes3 from-pcm --set1 rate=48000 --set2 copyright=")]
     found += [(f"aes3 rewrite --set2 {it}", f"aes3 rewrite --set2 {it}=") for it in settled(list(fields))]
+    # Behind the option and `=`.
+    found += [("aes3 rewrite --set1=cop", "aes3 rewrite --set1=copyright="), ("aes3 rewrite --set2=rate=44", "aes3 rewrite --set2=rate=44100 ")]
+    found += [("aes3 --explain=9", "aes3 --explain=9 "), ("aes3 check --packed-in=", "aes3 check --packed-in=")]
     for name, words in fields.items():
         found += [(f"aes3 rewrite --set1 {name}={it}", f"aes3 rewrite --set1 {name}={it} ") for it in settled(list(words))]
     # A shell may escape the comma too.
