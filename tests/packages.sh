@@ -8,7 +8,8 @@
 # wants a Debian, root's rights and a mirror of packages, and some minutes. The last line is `N passed, M failed`.
 
 root=$(dirname "$(dirname "$(realpath "$0")")")
-release=${AES3_RELEASE:-bookworm}
+# shellcheck disable=SC1091
+release=$(. /etc/os-release && echo "${VERSION_CODENAME:-stable}")
 work=$(mktemp -d) || exit 2
 place=${AES3_ROOT:-$work/root}
 trap 'umount "$place/proc" 2>/dev/null; rm -rf "$work"' EXIT

@@ -34,6 +34,9 @@ cp "$library" "$to/lib/libaes3.a"
 "$root/bin/link-shared" "$to/lib/libaes3.so.1" "$library" || exit 2
 ln -s libaes3.so.1 "$to/lib/libaes3.so"
 version=$("$program" --version | cut -d' ' -f2)
+for crate in aes3 aes3-sys; do
+    judge "the version of $crate" grep -qx "version = \"$version\"" "$here/$crate/Cargo.toml"
+done
 printf 'libdir=%s/lib\nName: aes3\nDescription: codec\nVersion: %s\nLibs: -L${libdir} -laes3\n' "$to" "$version" >"$to/lib/pkgconfig/aes3.pc"
 export PKG_CONFIG_PATH="$to/lib/pkgconfig" CARGO_TARGET_DIR="$folder/target" CARGO_NET_OFFLINE=true
 # A copy, so that cargo leaves no file here.

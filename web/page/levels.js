@@ -1,7 +1,5 @@
 /* Levels as a picture, as examples/pictures/draw.py draws them. */
 
-import { lineOf } from "./reports.js";
-
 const CELL = 14, LEFT = 20, HIGH = 62, LOW = 112;
 const PARTS = [[0, 4, "preamble"], [4, 28, "sample"], [28, 29, "V"], [29, 30, "U"], [30, 31, "C"], [31, 32, "P"]];
 
@@ -62,16 +60,13 @@ class Picture {
     }
 
     faults(reports) {
-        let row = 0;
-        for (let i = 0; i < reports.count; i++) {
-            const report = reports.get(i);
-            if (report.kind === "fault" && report.cell >= this.seen.first && report.cell < this.end) {
-                this.rect(this.x(report.cell), HIGH - 22, CELL, LOW - HIGH + 62, "wrong");
-                const middle = Math.min(Math.max(this.x(report.cell), 140), Math.max(this.x(this.end) - 140, 140));
-                this.text(middle, LOW + 58 + 15 * row++, lineOf(report), 12, "fault");
-            }
-        }
-        return LOW + 70 + 15 * Math.max(row - 1, 0);
+        const faults = reports.faultsIn(this.seen.first, this.end);
+        faults.forEach(([cell, line], row) => {
+            this.rect(this.x(cell), HIGH - 22, CELL, LOW - HIGH + 62, "wrong");
+            const middle = Math.min(Math.max(this.x(cell), 140), Math.max(this.x(this.end) - 140, 140));
+            this.text(middle, LOW + 58 + 15 * row, line, 12, "fault");
+        });
+        return LOW + 70 + 15 * Math.max(faults.length - 1, 0);
     }
 
     levels() {

@@ -64,6 +64,17 @@ export class Reports {
         return -1;
     }
 
+    /* The lines of the faults that show from one cell up to another, each with its cell. */
+    faultsIn(from, to) {
+        const found = [];
+        for (let i = 0; i < this.count; i++) {
+            if (this.cells[i] >= from && this.cells[i] < to && this.kind(i) === 3) {
+                found.push([this.cells[i], lineOf(this.get(i))]);
+            }
+        }
+        return found;
+    }
+
     /* The number of the last whole block that begins before a cell, or 0. */
     wholeBefore(cell) {
         let number = -1;

@@ -1,7 +1,6 @@
 /* The subframes that stand in a stretch of cells. */
 
 import { SUBFRAME_CELLS } from "./codec.js";
-import { lineOf } from "./reports.js";
 import { sampleText } from "./tally.js";
 import { bitsOf, plain } from "./words.js";
 
@@ -66,9 +65,5 @@ export function sentencesOf(seen, subframes, reports) {
         const bits = word === null ? "" : `, sample ${sampleText(word)}, V U C P ${bitsOf(word, [28, 29, 30, 31]).join(" ")}`;
         return `Cell ${plain(place)}: ${name}, preamble ${mark}${bits}.`;
     });
-    for (let i = 0; i < reports.count; i++) {
-        const { kind, cell } = reports.get(i);
-        kind === "fault" && cell >= seen.first && cell < end && says.push(`Fault: ${lineOf(reports.get(i))}.`);
-    }
-    return says;
+    return [...says, ...reports.faultsIn(seen.first, end).map(([, line]) => `Fault: ${line}.`)];
 }
