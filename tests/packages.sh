@@ -73,6 +73,7 @@ cp "$work"/debs/*.deb "$place/walk/debs"
 judge "dpkg -i" inside "dpkg -i debs/*.deb"
 judge "the program" inside "aes3 --version"
 judge "the manual page" inside "man -w aes3"
+judge "the completion for bash" inside "bash -c '. /usr/share/bash-completion/completions/aes3 && complete -p aes3'"
 judge "the linker knows the library" inside "ldconfig -p | grep -q libaes3.so.1"
 judge "the page for a browser" cmp "$place/usr/share/doc/aes3/aes3.html" "$root/web/aes3.html"
 

@@ -42,8 +42,8 @@ async function turnedAdvice(codec, { form, file }) {
         return null;
     }
     const stand = counted(whole, "whole block stands", "whole blocks stand");
-    const says = `These are packed cells with the first of eight in the ${isHigh ? "lowest" : "highest"} bit: read so, ${stand} in the first `
-        + `${counted(octets.length, "byte", "bytes")}.`;
+    const says = `These are packed cells with the first of eight in the ${isHigh ? "lowest" : "highest"} bit: `
+        + `read so, ${stand} in the first ${counted(octets.length, "byte", "bytes")}.`;
     return isHigh ? {
         says: `${says} aes3 wants it in the highest: turn the bits of each byte where the file is made, or by`,
         commands: [`perl -0777 -pe '$_ = pack "B*", unpack "b*", $_' FILE > TURNED; printf '\\0' >> TURNED`],

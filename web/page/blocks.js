@@ -62,4 +62,5 @@ export function peakTexts(tally, channel) {
     ];
 }
 
-export const peakRows = texts => texts.map(([whose, what, much]) => rowOf(cellOf("td", whose), cellOf("td", what), cellOf("td", much, "cells")));
+export const peakRows = texts => texts.map(([whose, what, much]) =>
+    rowOf(cellOf("td", whose), cellOf("td", what), cellOf("td", much, "cells")));

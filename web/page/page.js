@@ -1,20 +1,20 @@
-/* The page: what it is given, what it shows, and what its buttons and keys do. */
+/* The page: opens a file, and shows what is found in it. */
 
 import { adviceOf } from "./advice.js";
 import { changesText, frameRows, peakRows, peakTexts, statusTable } from "./blocks.js";
 import { CellFile } from "./cells.js";
 import { Codec, SUBFRAME_CELLS } from "./codec.js";
+import { listen } from "./controls.js";
 import { at, cellOf } from "./elements.js";
 import { exampleFile } from "./example.js";
 import { cellsIn, drawLevels } from "./levels.js";
-import { nextBlock, nextFault } from "./moves.js";
 import { durationOf, rateOf } from "./rate.js";
-import { readAll, readBlocks, wordsAt } from "./reading.js";
+import { readAll, wordsAt } from "./reading.js";
 import { lineOf } from "./reports.js";
 import { firstRows, rowElement } from "./rows.js";
-import { accountOf, blockBytes, offer, sampleBytes, wavHeader } from "./save.js";
-import { drawStrip, markPlace, placeByKey } from "./strip.js";
+import { drawStrip, markPlace } from "./strip.js";
 import { sentencesOf, subframesIn } from "./subframes.js";
+import { Turns } from "./turns.js";
 import { cellCount, counted, plain } from "./words.js";
 
 const MOST_FAULTS = 20; // that are told at once
@@ -25,143 +25,26 @@ class Page {
     constructor(codec) {
         this.codec = codec;
         this.found = null;
-        this.turn = 0; // a file that is dropped while another is read ends that one
-        this.reading = Promise.resolve(); // ends with what is read of a file
+        this.turns = new Turns();
         this.first = this.count = 0; // the first cell of the levels, and how many are shown
         this.most = MOST_FAULTS;
-        this.listenToFiles();
-        this.listenToMoves();
-        this.listenToKeys();
-        this.listenToWindow();
-    }
-
-    listenToFiles() {
-        const { body } = document;
-        body.addEventListener("dragover", event => {
-            event.preventDefault();
-            at("drop").className = "over";
-        });
-        body.addEventListener("dragleave", () => at("drop").className = "");
-        body.addEventListener("drop", event => {
-            event.preventDefault();
-            at("drop").className = "";
-            event.dataTransfer.files.length > 0 && this.open(event.dataTransfer.files[0]);
-        });
-        at("file").addEventListener("change", () => at("file").files.length > 0 && this.open(at("file").files[0]));
-        // So that the same file is read again where it was written anew.
-        at("file").addEventListener("click", () => at("file").value = "");
-        at("form").addEventListener("change", () => this.file && this.open(this.file));
-        at("rate").addEventListener("change", () => this.found && (this.showTimes(), this.levels(this.first)));
-        at("example").addEventListener("click", () => this.open(exampleFile(this.codec)));
-        at("save-wav").addEventListener("click", () => this.saveWav());
-        at("save-blocks").addEventListener("click", () => this.saveBlocks());
-        at("save-account").addEventListener("click", () => this.saveAccount());
-    }
-
-    listenToMoves() {
-        const half = () => Math.floor(this.shown() / 2);
-        const or = (place, before) => place < 0 ? this.first : Math.max(place - before, 0);
-        const moves = {
-            "page-before": () => this.first - this.shown() + 8,
-            "page-behind": () => this.first + this.shown() - 8,
-            "block-before": () => or(nextBlock(this.found.reports, -1, this.first + 8), 8),
-            "block-behind": () => or(nextBlock(this.found.reports, 1, this.first + 8), 8),
-            "fault-before": () => or(nextFault(this.found.reports, -1, this.first + half()), half()),
-            "fault-behind": () => or(nextFault(this.found.reports, 1, this.first + half()), half()),
-        };
-        for (const [id, place] of Object.entries(moves)) {
-            at(id).addEventListener("click", () => this.levels(place()));
-        }
-        at("cell").addEventListener("change", () => this.levels(Number(at("cell").value)));
-        at("block").addEventListener("change", () => this.showBlock(Number(at("block").value)));
-        at("show-block").addEventListener("click", () => {
-            this.levels(this.found.reports.wholePlace(Number(at("block").value)) - 8);
-        });
-        at("more").addEventListener("click", () => {
-            this.most += MOST_FAULTS;
-            this.rows();
-        });
-        at("strip").addEventListener("click", event => {
-            const { left, width } = at("strip").getBoundingClientRect();
-            this.levels((event.clientX - left) / width * this.found.cells.total - this.shown() / 2);
-        });
-        at("wave").addEventListener("wheel", event => {
-            event.preventDefault();
-            this.levels(this.first + Math.sign(event.deltaY + event.deltaX) * 8);
-        }, { passive: false });
-    }
-
-    listenToKeys() {
-        const take = (event, place) => {
-            if (place !== undefined && !event.ctrlKey && !event.altKey && !event.metaKey) {
-                event.preventDefault();
-                this.levels(place);
-            }
-        };
-        at("strip").addEventListener("keydown", event => take(event, placeByKey(event.key, this.first, this.found.cells.total)));
-        at("wave").addEventListener("keydown", event => {
-            const places = {
-                ArrowLeft: this.first - 8, ArrowRight: this.first + 8, PageUp: this.first - this.shown(),
-                PageDown: this.first + this.shown(), Home: 0, End: this.found.cells.total,
-            };
-            take(event, places[event.key]);
-        });
-    }
-
-    listenToWindow() {
-        const drawAgain = () => {
-            if (this.found) {
-                drawStrip(at("strip"), this.found);
-                this.levels(this.first + (this.count - this.shown()) / 2);
-            }
-        };
-        window.addEventListener("resize", drawAgain);
-        matchMedia("(prefers-color-scheme: dark)").addEventListener("change", drawAgain);
-    }
-
-    /* Runs what reads a whole file when nothing else does. It ends early where another file is opened meanwhile. */
-    async alone(name, read) {
-        const { turn, reading } = this;
-        const goesOn = () => {
-            if (turn !== this.turn) {
-                throw new Error("another file was opened");
-            }
-        };
-        const progress = async (bytes, size) => {
-            at("progress").value = size > 0 ? bytes / size : 1;
-            await new Promise(done => setTimeout(done, 0));
-            goesOn();
-        };
-        const mine = reading.then(() => {
-            goesOn();
-            at("state").textContent = `${name} ..`;
-            at("progress").hidden = false;
-            return read(progress);
-        });
-        const ended = this.reading = mine.catch(() => {});
-        try {
-            return await mine;
-        } finally {
-            if (ended === this.reading) {
-                at("progress").hidden = true;
-            }
-        }
+        listen(this);
     }
 
     async open(file) {
-        const turn = ++this.turn;
+        const turn = this.turns.next();
         [this.file, this.found] = [file, null];
         at("trouble").textContent = "";
         at("advice").hidden = at("found").hidden = true;
         document.body.dataset.state = "reading";
         try {
-            const found = await this.alone(`${file.name} is read`, async progress => {
+            const found = await this.turns.alone(`${file.name} is read`, async progress => {
                 const cells = await CellFile.open(file, at("form").value);
                 return readAll(this.codec, cells, bytes => progress(bytes, file.size));
             });
-            await this.show(found);
+            await this.show(found, turn);
         } catch (error) {
-            if (turn === this.turn) {
+            if (!this.turns.isOver(turn)) {
                 at("trouble").textContent = `${file.name} can't be read: ${error.message}`;
                 at("state").textContent = "";
                 document.body.dataset.state = "failed";
@@ -169,11 +52,10 @@ class Page {
         }
     }
 
-    async show(found) {
-        const { turn } = this;
+    async show(found, turn) {
         const { cells, reports, tally } = found;
         const advice = tally.blocks === 0 ? await adviceOf(this.codec, cells) : null;
-        if (turn !== this.turn) {
+        if (this.turns.isOver(turn)) {
             return;
         }
         this.found = found;
@@ -311,49 +193,6 @@ class Page {
         return [0, 1].flatMap(channel => peakTexts(this.found.tally, channel));
     }
 
-    /* Reads the file again and saves what `bytesOf` makes of each of its whole blocks, behind what stands before them. */
-    async save(ending, type, before, bytesOf) {
-        const { file, found } = this;
-        const parts = [...before];
-        at("save-wav").disabled = at("save-blocks").disabled = true;
-        try {
-            await this.alone(`${file.name} is read once more`, async progress => {
-                const cells = await CellFile.open(file, found.cells.form);
-                await readBlocks(this.codec, cells, words => parts.push(bytesOf(words)), bytes => progress(bytes, file.size));
-            });
-            offer(file.name + ending, parts, type);
-        } catch (error) {
-            if (found === this.found) {
-                at("trouble").textContent = `${file.name} can't be saved: ${error.message}`;
-            }
-        }
-        if (found === this.found) {
-            at("save-wav").disabled = at("save-blocks").disabled = false;
-            at("state").textContent = this.stateText();
-        }
-    }
-
-    async saveWav() {
-        const header = wavHeader(this.found.tally.blocks, this.rate().hertz);
-        if (header) {
-            await this.save(".wav", "audio/wav", [header], sampleBytes);
-        } else {
-            at("trouble").textContent = "A WAV file has 4 GB at most, and these samples are more: save the block file.";
-        }
-    }
-
-    async saveBlocks() {
-        await this.save(".block", "application/octet-stream", [], blockBytes);
-    }
-
-    saveAccount() {
-        const { cells } = this.found;
-        const says = {
-            rate: this.rate(), summary: at("summary").textContent, changes: this.changes(), peaks: this.peaks(),
-            notes: [cells.fault ?? cells.ending ?? "", ...[...at("advice").querySelectorAll("p, pre")].map(it => it.textContent)].filter(text => text),
-        };
-        offer(`${this.file.name}.account.txt`, [...accountOf(this.codec, this.found, says)], "text/plain");
-    }
 }
 
 let page = null;
