@@ -142,6 +142,7 @@ def compare_rates(compare, browser, program, folder):
     cases = [("consumer, 96000", ["--set1", "rate=96000"], 96000, "by its channel status"),
              ("consumer, none", ["--set1", "rate=not-indicated"], 48000, "taken, since its channel status says none"),
              ("professional, 44100", ["--status1", "41" + "00" * 23], 44100, "by its channel status"),
+             ("consumer, payload", ["--set1", "payload=other"], 48000, "by its channel status"),
              ("professional, none", ["--status1", "01" + "00" * 23], 48000, "taken, since its channel status says none")]
     for name, options, hertz, by in cases:
         with open(f"{folder}/{name}", "wb") as file:
@@ -149,6 +150,7 @@ def compare_rates(compare, browser, program, folder):
         browser.give(f"{folder}/{name}")
         shown = browser.ask(SHOWN)
         compare.same(f"{name}: rate", shown["rate"], f"Times are counted from the first cell, at {hertz:,} Hz, {by}.")
+        compare.same(f"{name}: PCM", browser.ask("at('no-pcm').hidden"), "payload" not in name)
         compare.same(f"{name}: time", f"({1920 / hertz:.6f} s)" in shown["summary"], True)
     browser.ask("at('rate').value = '192000'; at('rate').dispatchEvent(new Event('change'))")
     shown = browser.ask(SHOWN)

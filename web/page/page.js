@@ -12,6 +12,7 @@ import { durationOf, rateOf } from "./rate.js";
 import { readAll, wordsAt } from "./reading.js";
 import { lineOf } from "./reports.js";
 import { firstRows, rowElement } from "./rows.js";
+import { isOtherThanPcm } from "./status.js";
 import { drawStrip, markPlace } from "./strip.js";
 import { sentencesOf, subframesIn } from "./subframes.js";
 import { Turns } from "./turns.js";
@@ -68,6 +69,7 @@ class Page {
         drawStrip(at("strip"), found);
         at("cell").max = Math.max(cells.total - 1, 0);
         at("block").max = Math.max(tally.blocks - 1, 0);
+        at("no-pcm").hidden = tally.blocks === 0 || !isOtherThanPcm(this.codec, tally.first);
         at("save-wav").disabled = at("save-blocks").disabled = tally.blocks === 0;
         const fault = reports.firstFault();
         await this.showBlock(fault < 0 ? 0 : reports.wholeBefore(fault));

@@ -68,6 +68,9 @@ export function statusOf(codec, status) {
 /* A field's value, by its name. */
 export const valueOf = ({ fields }, wanted) => fields.find(([name]) => name === wanted)[1];
 
+/* Whether a status says that the sample words are something else than linear PCM. */
+export const isOtherThanPcm = (codec, status) => valueOf(statusOf(codec, status), "payload") !== "pcm";
+
 /* A channel's line, as `aes3 show` writes it. */
 export function statusLine({ kind, fields }, block, channel) {
     return [`block=${block} channel=${channel} ${kind}`, ...fields.map(([name, value]) => `${name}=${value}`)].join(" ");
