@@ -87,6 +87,8 @@ class Browser:
         except (OSError, EOFError, RuntimeError, subprocess.TimeoutExpired):
             self.process.kill()
             self.process.wait()
+        # The shell that begins the next one takes descriptors below 10 alone.
+        os.close(self.to), os.close(self.come)
 
 
 def browser_of(folder):

@@ -130,6 +130,9 @@ def compare_narrow(compare, browser):
         compare.same(f"{width} wide", browser.ask("document.documentElement.scrollWidth <= innerWidth"), True)
         compare.same(f"{width} wide: broken words", browser.ask(BROKEN), [])
         compare.same(f"{width} wide: texts of the levels over each other", browser.ask(CROSSED), [])
+        browser.ask("page.levels(49540)")
+        browser.ask("new Promise(done => setTimeout(done, 50))")
+        compare.same(f"{width} wide: three cells of a subframe", browser.ask(CROSSED), [])
         compare.same(f"{width} wide: the fault is in view", browser.ask("page.first <= 49543 && 49543 < page.first + page.count"), True)
     browser.send("Emulation.clearDeviceMetricsOverride")
     browser.ask("new Promise(done => setTimeout(done, 100))")
@@ -176,20 +179,26 @@ def compare_more(compare, browser, program, folder):
 
 
 def compare_turns(compare, browser, program, folder):
-    """A file that is opened while another is read is read as if alone."""
+    """A file that is opened while another is read is read as if alone, also where a piece of that one comes late."""
     with open(f"{ROOT}/examples/speech.block", "rb") as file:
-        line = program("encode", file.read())
-    told = program("check", line[:999_999]).decode().rstrip("\n")
+        line = program("encode", file.read())[:3_000_000]
+    with open(f"{folder}/in turn", "wb") as file:
+        file.write(line)
+    told = program("check", line).decode().rstrip("\n")
+    browser.give(f"{folder}/in turn")
     browser.ask("document.body.dataset.state = 'given'")
-    browser.ask(f"""(async () => {{
-        const line = new TextEncoder().encode({line[:999_999].decode()!r});
-        const long = new File(Array(40).fill(line), "long");
-        page.open(long);
-        await new Promise(done => setTimeout(done, 5));
-        page.open(long);
-        page.open(new File([line], "short"));
-    }})()""")
+    # Files from a slow disk: of the first a piece comes when the second has read some of its own.
+    browser.ask("""(async () => {
+        const kept = page.file;
+        const sleep = time => new Promise(done => setTimeout(done, time));
+        const slow = (name, time) => ({ name, size: kept.size, slice: (from, to) => ({
+            arrayBuffer: async () => (await sleep(time), kept.slice(from, to).arrayBuffer()),
+        }) });
+        page.open(slow("first", 300));
+        await sleep(350);
+        page.open(slow("second", 100));
+    })()""")
     browser.wait("shown", "failed")
-    browser.ask("new Promise(done => setTimeout(done, 300))")
     shown = browser.ask(SHOWN)
-    compare.same("a file opened while another is read", (shown["state"].split(":")[0], shown["lines"]), ("short", told))
+    compare.same("a file opened while another is read", shown["state"].split(":")[0], "second")
+    compare.same("its reports", shown["lines"], told)
