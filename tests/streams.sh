@@ -90,7 +90,11 @@ expect "a folder as input" 3 "aes3: refused 5"
 
 aes3 encode "$(printf '\377')" < "$zero" > "$folder/output" 2> "$folder/errors"
 status=$?
-expect "words that are not UTF-8" 2 "aes3: the words are not UTF-8"
+expect "words that are not UTF-8" 2 "error: the words are not UTF-8
+
+Usage: aes3 COMMAND [OPTIONS] < INPUT > OUTPUT
+
+For more information, try '--help'."
 if [ -s "$folder/output" ]; then wrong "and they write nothing"; else well "and they write nothing"; fi
 
 # at_terminal NAME LINES COMMAND..: what the command tells where standard error is a terminal.

@@ -12,10 +12,14 @@ use std::process::ExitCode;
 
 fn main(rt: HostRuntime) -> ExitCode {
     let mut errors = StdSink::new(rt.stderr());
-    let status = match run_program(&rt, &mut errors) {
+    let mut hints = Hints::new(
+        rt.alloc(),
+        StdSink::new(rt.stderr()),
+        Terminals::new(&rt),
+    );
+    let status = match run_program(&rt, &mut errors, &mut hints) {
         Ok(status) => status,
         Err(fault) => {
-            let mut hints = Hints::new(&rt, Terminals::new(&rt));
             let status = tell_unread(fault, &mut errors, &mut hints);
             hints.explain_unread();
             status
@@ -25,27 +29,25 @@ fn main(rt: HostRuntime) -> ExitCode {
 }
 
 /// Runs the command line between buffered standard streams.
-fn run_program<E: Sink>(rt: &HostRuntime, errors: &mut E) -> Result<u8, Unread>
+fn run_program<E: Sink, H: Sink + Drop>(
+    rt: &HostRuntime,
+    errors: &mut E,
+    hints: &mut Hints<H>,
+) -> Result<u8, Unread>
     requires { E.failed errors.old + 1 < 2 ^ 64 }
     ensures { IfErr result (λ _. E.failed errors.new ≡ E.failed errors.old) }
 {
     let words = words_of_line(rt)?;
     let words: Vec<&str> = words.iter().map(|word| word.as_str()).collect(rt.alloc())?;
     let mut sink = BufferedSink::new(rt.alloc(), StdSink::new(rt.stdout().lock()))?;
-    let terminals = Terminals::new(rt);
-    let mut source = Watched::new(
-        rt.alloc(),
-        StdSource::new(rt.stdin().lock()),
-        terminals.errors,
-    );
-    let mut hints = Hints::new(rt, terminals);
+    let mut source = hints.watch(StdSource::new(rt.stdin().lock()));
     let status = run_words(
         rt.alloc(),
         &words,
         &mut source,
         &mut sink,
         errors,
-        &mut hints,
+        hints,
     );
     hints.explain(&words, &source);
     Ok(status)

@@ -1,3 +1,4 @@
+mod Explains
 mod LineAnswers
 mod LineWalks
 mod OptionReads

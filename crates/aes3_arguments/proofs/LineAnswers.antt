@@ -14,7 +14,7 @@ use Rattle.clap.specs.declared.parser.matches.ArgMatches.TheViews.{out-ArgMatche
 use Rattle.aes3_commands.specs.CommandLine.{command_line}
 use Rattle.aes3_lines.specs.Settings.{IsSettingsFault}
 use Rattle.aes3_lines.specs.declared.listed.SettingsFault.{SettingsFault}
-use Rattle.aes3_arguments.specs.Jobs.{IsBadOptionOf, IsFaultOf, IsSettingsFaultOf, Options, StandsIn, Tells, TellsSettings, faults_in, refused_text}
+use Rattle.aes3_arguments.specs.Jobs.{IsBadOptionOf, IsLineFaultOf, IsSettingsFaultOf, Options, StandsIn, Tells, TellsSettings, faults_in, refused_text}
 use Rattle.aes3_arguments.specs.declared.job.LineFault.{LineFault}
 use Rattle.aes3_arguments.specs.declared.job.LineFault.TheVariants as fault
 use Rattle.aes3_arguments.proofs.OptionRows.{some_inj}
@@ -26,23 +26,23 @@ pub line_is_simple : is_simple command_line ≡ true
 line_is_simple = refl
 
 -- what is told of an error of the parse
-pub error_told : (words : List Text) (e : Error) (told : LineFault) → HasKind (faults_in words) e → Tells (kind_of e) told → IsFaultOf words told
+pub error_told : (words : List Text) (e : Error) (told : LineFault) → HasKind (faults_in words) e → Tells (kind_of e) told → IsLineFaultOf words told
 error_told words e (fault.Usage text) kind tells = elim kind [
   | inl memory ↦ absurd (tells.0 memory)
-  | inr among ↦ inl (inl (kind_of e, among, tells.1, tells.2))
+  | inr among ↦ inl (kind_of e, among, tells.1, tells.2)
 ]
 error_told words e (fault.Help text) kind tells = elim kind [
   | inl memory ↦ elim tells [ inl help ↦ cc | inr version ↦ cc ]
   | inr among ↦ elim tells [
-    | inl help ↦ inl (inl (subst (λ (k : ErrorKind). Rattle.clap.specs.Kinds.IsAmong k (faults_in words)) help among))
-    | inr version ↦ inl (inr (subst (λ (k : ErrorKind). Rattle.clap.specs.Kinds.IsAmong k (faults_in words)) version among))
+    | inl help ↦ inl (subst (λ (k : ErrorKind). Rattle.clap.specs.Kinds.IsAmong k (faults_in words)) help among)
+    | inr version ↦ inr (subst (λ (k : ErrorKind). Rattle.clap.specs.Kinds.IsAmong k (faults_in words)) version among)
   ]
 ]
 error_told words e (fault.Refused error) kind tells = inl tells
 
 -- a bad status is told, and so are bad settings
 pub bad_option_told : (words : List Text) (name : Text) (options : Options) (told : LineFault) → StandsIn words name options
-    → IsBadOptionOf name options told → IsFaultOf words told
+    → IsBadOptionOf name options told → IsLineFaultOf words told
 bad_option_told words name options (fault.Usage text) stands bad = inr (name, options, stands, bad)
 bad_option_told words name options (fault.Help text) stands bad = elim bad [ inl rewrite ↦ absurd rewrite.1 | inr from_pcm ↦ absurd from_pcm.1 ]
 bad_option_told words name options (fault.Refused error) stands bad = elim bad [

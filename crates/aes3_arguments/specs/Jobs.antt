@@ -25,6 +25,7 @@ use Rattle.aes3_lines.specs.declared.listed.SettingsFault.TheVariants.{Unknown, 
 use Rattle.aes3_lines.specs.declared.lines.Lines.{Lines}
 use Rattle.aes3_lines.specs.declared.lines.Lines.TheVariants as lines
 use Rattle.aes3_commands.specs.CommandLine.{command_line}
+use Rattle.aes3_arguments.specs.Explained.{AsksToExplain, IsExplanation}
 use Rattle.aes3_arguments.specs.StatusTexts.{status_in}
 use Rattle.aes3_job.specs.declared.job.Job.{Job}
 use Rattle.aes3_job.specs.declared.job.Job.TheVariants as job
@@ -144,9 +145,16 @@ AsksFor name options (job.FromPcm exact change) =
     (name ≡ codes "from-pcm") × (exact ≡ is_set options (codes "exact")) × IsChange options change
 
 -- the definitions take the words, and the command that stands in them asks for the job
+abbrev pub IsLineOf : List Text → Job → Type 0
+IsLineOf words job = (name : Text) × (options : Options) × StandsIn words name options × AsksFor name options job
+
+-- the words ask to explain nothing
+abbrev pub AskNothing : List Text → Type 0
+AskNothing words = (texts : List Text) → ¬ AsksToExplain words texts
+
+-- the words ask for the job
 abbrev pub IsJobOf : List Text → Job → Type 0
-IsJobOf words job =
-    (name : Text) × (options : Options) × StandsIn words name options × AsksFor name options job
+IsJobOf words job = AskNothing words × IsLineOf words job
 
 -- ---- refusals
 
@@ -159,6 +167,15 @@ IsBadStatus options name = (text : Text) × (first_of name options ≡ Some text
 abbrev pub HasBadStatus : Options → Type 0
 HasBadStatus options =
     IsBadStatus options (codes "status1") ⊎ IsBadStatus options (codes "status2")
+
+-- what the options set of both channels can be set
+abbrev pub HaveAllSettings : Options → Type 0
+HaveAllSettings options = ((settings : Option (List Setting)) × AreSettings options (codes "set1") settings)
+    × ((settings : Option (List Setting)) × AreSettings options (codes "set2") settings)
+
+-- a status text is none, and nothing else is wrong
+abbrev pub IsStatusRefused : Options → Type 0
+IsStatusRefused options = HasBadStatus options × HaveAllSettings options
 
 -- a text is no setting
 unfoldable pub value_text : Text → Text
@@ -217,26 +234,23 @@ TellsABadOption name options text =
 abbrev pub IsNotTaken : List Text → Type 0
 IsNotTaken words = (kind : _) × IsAmong kind (faults_in words) × (kind ≢ DisplayHelp) × (kind ≢ DisplayVersion)
 
--- the words ask what refusals mean
-abbrev pub asks_to_explain : List Text → Bool
-asks_to_explain [] = false
-asks_to_explain (word ∷ words) = bytes_eq word (codes "--explain")
+-- the words ask what refusals mean, and that is told
+abbrev pub IsExplained : List Text → LineFault → Type 0
+IsExplained words told = (texts : List Text) × AsksToExplain words texts × IsExplanation texts told
 
--- what is told of that
-abbrev pub IsExplanation : LineFault → Type 0
-IsExplanation (fault.Usage text) = Unit {0}
-IsExplanation (fault.Help text) = Unit {0}
-IsExplanation (fault.Refused error) = error ≡ Memory
-
--- why the words are no job
-abbrev pub IsFaultOf : List Text → LineFault → Type 0
-IsFaultOf words (fault.Usage text) = (IsNotTaken words ⊎ (asks_to_explain words ≡ true))
+-- why the words are no job, where they ask to explain nothing
+abbrev pub IsLineFaultOf : List Text → LineFault → Type 0
+IsLineFaultOf words (fault.Usage text) = IsNotTaken words
     ⊎ ((name : Text) × (options : Options) × StandsIn words name options × TellsABadOption name options text.bytes.items)
-IsFaultOf words (fault.Help text) =
-    (IsAmong DisplayHelp (faults_in words) ⊎ IsAmong DisplayVersion (faults_in words)) ⊎ (asks_to_explain words ≡ true)
-IsFaultOf words (fault.Refused error) =
+IsLineFaultOf words (fault.Help text) = IsAmong DisplayHelp (faults_in words) ⊎ IsAmong DisplayVersion (faults_in words)
+IsLineFaultOf words (fault.Refused error) =
     (error ≡ Memory) ⊎ ((error ≡ BadStatusText) × ((name : Text) × (options : Options)
-    × StandsIn words name options × TakesStatus name × HasBadStatus options))
+    × StandsIn words name options × TakesStatus name × IsStatusRefused options))
+
+-- why the words are no job: that is explained which they ask to explain, or else they have a fault
+abbrev pub IsFaultOf : List Text → LineFault → Type 0
+IsFaultOf words told = IsExplained words told
+    ⊎ (AskNothing words × IsLineFaultOf words told)
 
 -- what is told of an error of this kind
 abbrev pub Tells : ErrorKind → LineFault → Type 0
@@ -261,7 +275,7 @@ abbrev pub IsChangeFaultOf : Options → Text → LineFault → Type 0
 IsChangeFaultOf options usage (fault.Usage text) = TellsABadSetting options usage text.bytes.items
 IsChangeFaultOf options usage (fault.Help text) = ⊥
 IsChangeFaultOf options usage (fault.Refused error) =
-    (error ≡ Memory) ⊎ ((error ≡ BadStatusText) × HasBadStatus options)
+    (error ≡ Memory) ⊎ ((error ≡ BadStatusText) × IsStatusRefused options)
 
 -- the words are taken and have a bad status or bad settings
 abbrev pub IsBadOptionOf : Text → Options → LineFault → Type 0

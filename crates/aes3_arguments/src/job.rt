@@ -4,14 +4,15 @@ ghost use Rattle.std.specs.Prelude.{◌≡◌, ◌≢◌, ℕ, List, codes, IfOk
 ghost use Rattle.clap.specs.Values.{kind_of};
 ghost use Rattle.clap.specs.Walk.{first_of};
 ghost use Rattle.aes3_arguments.specs.Jobs.{AreSettings, AsksFor, HasStatus, IsBadOptionOf, IsBadStatus};
-ghost use Rattle.aes3_arguments.specs.Jobs.{IsChange, IsChangeFaultOf, IsFaultOf, IsJobOf, IsNumber};
+ghost use Rattle.aes3_arguments.specs.Jobs.{IsChange, IsChangeFaultOf, IsFaultOf, IsJobOf, IsLineFaultOf, IsLineOf, IsNumber};
 ghost use Rattle.aes3_arguments.specs.Jobs.{IsSettingsFaultOf, IsStatus, MayBeFlag, StandsIn, Tells};
 ghost use Rattle.aes3_arguments.specs.Jobs.{TellsSettings, form_by, is_set, lines_by, options_of};
 ghost use Rattle.aes3_arguments.specs.Jobs.{refused_text};
+ghost use Rattle.aes3_arguments.specs.Explained.{IsExplanation};
 ghost use Rattle.aes3_arguments.specs.declared.job.LineFault.TheVariants.{Refused};
 ghost use Rattle.aes3_cell.specs.declared.refusal.RunError.TheVariants.{BadStatusText, Memory};
 
-use crate::explain::{asks_to_explain, explanation};
+use crate::explain::{asks_to_explain, explained_number, explanation};
 use crate::refusals::settings_refused;
 use crate::status_text::status_of_text;
 use aes3_cell::{Form, RunError};
@@ -46,8 +47,29 @@ pub fn job_of_words<'a>(alloc: Global, words: &'a [&'a str]) -> Result<Job, Line
     ensures fault { IfErr result (IsFaultOf (map (λ word. word.now) words.now)) }
 {
     if asks_to_explain(words) {
-        return Err(explanation(alloc, &words[1..])?);
+        return Err(explained(alloc, &words[1..]));
     }
+    match explained_number(words) {
+        Some(number) => Err(explained(alloc, &[number])),
+        None => job_of_line(alloc, words),
+    }
+}
+
+/// What words behind `--explain` are told.
+fn explained(alloc: Global, words: &[&str]) -> LineFault
+    ensures { IsExplanation (map (λ word. word.now) words.now) result }
+{
+    match explanation(alloc, words) {
+        Ok(told) => told,
+        Err(_) => LineFault::Refused(RunError::Memory),
+    }
+}
+
+/// What a command line that asks to explain nothing asks for.
+fn job_of_line<'a>(alloc: Global, words: &'a [&'a str]) -> Result<Job, LineFault>
+    ensures job { IfOk result (IsLineOf (map (λ word. word.now) words.now)) }
+    ensures fault { IfErr result (IsLineFaultOf (map (λ word. word.now) words.now)) }
+{
     let command = command_line(alloc)?;
     let matches = match command.try_get_matches_from(words) {
         Ok(matches) => matches,
@@ -185,17 +207,19 @@ fn number(options: &ArgMatches<'_>, name: &str) -> u64
 }
 
 /// The change that the options of `rewrite` and `from-pcm` ask for; `usage` says how the command is
-/// called.
+/// called. A text that is no setting is told before a status that is none.
 fn change(alloc: Global, options: &ArgMatches<'_>, usage: &str) -> Result<Change, LineFault>
     requires { MayBeFlag (options_of options.now) (codes "mend-check") }
     ensures change { IfOk result (IsChange (options_of options.now)) }
     ensures fault { IfErr result (IsChangeFaultOf (options_of options.now) usage.now) }
 {
+    let settings1 = settings(alloc, options, "set1", usage)?;
+    let settings2 = settings(alloc, options, "set2", usage)?;
     Ok(Change {
         status1: status(options, "status1")?,
         status2: status(options, "status2")?,
-        settings1: settings(alloc, options, "set1", usage)?,
-        settings2: settings(alloc, options, "set2", usage)?,
+        settings1,
+        settings2,
         mend: options.get_flag("mend-check"),
     })
 }

@@ -1,10 +1,14 @@
 //! Sentences for whoever sits at a terminal.
 
-use crate::looks::{advice_by_looks, looks_of};
+ghost use Rattle.std.specs.Prelude.{◌≡◌, IsFalse, IsTrue, not};
+ghost use Rattle.aes3_cell.specs.Ends.{Grew};
+
+use crate::looks::{Looks, advice_by_looks, are_turned, looks_of};
 use crate::watched::{Position, Watched};
 use aes3_arguments::{advice, status_of_text};
-use aes3_cell::{Form, RunError, Source};
+use aes3_cell::{Form, RunError, Sink, Source, write_all};
 use aes3_job::{Job, Observer};
+use std::alloc::Global;
 use std::io::IsTerminal;
 
 /// Which of the standard streams are terminals.
@@ -27,53 +31,113 @@ impl Terminals {
 }
 
 /// Tells on standard error, where it is a terminal, what the program waits for and what a refusal
-/// means.
+/// means. Once that has failed it tells nothing more.
 #[derive(Drop)]
-pub struct Hints<'a> {
-    rt: &'a HostRuntime,
+pub struct Hints<T: Drop> {
+    alloc: Global,
+    sink: T,
     terminals: Terminals,
+    job: Option<Job>,
     refusal: Option<RunError>,
 }
 
-impl<'a> Hints<'a> {
-    /// Hints for these streams.
-    pub fn new(rt: &'a HostRuntime, terminals: Terminals) -> Self {
+impl<T: Sink + Drop> Hints<T> {
+    /// Hints for these streams, told to `sink`, which is standard error.
+    pub fn new(alloc: Global, sink: T, terminals: Terminals) -> Self
+        ensures sink { result.sink ≡ sink }
+        ensures terminals { result.terminals ≡ terminals }
+    {
         Hints {
-            rt,
+            alloc,
+            sink,
             terminals,
+            job: None,
             refusal: None,
         }
     }
 
+    /// Watches this source for them, where there is a person to tell.
+    pub fn watch<S: Source + Drop>(&self, source: S) -> Watched<S>
+        ensures { result.source ≡ source }
+    {
+        Watched::new(self.alloc, source, self.terminals.errors)
+    }
+
     /// Says in a sentence what was refused of these words or their input, if anything was, and what
-    /// to do.
-    pub fn explain<S: Source + Drop>(&self, words: &[&str], source: &Watched<S>) {
-        if let Some(error) = self.refusal {
-            let told = advice_by_looks(error, looks_of(source.first()));
-            self.say(error, place_of(error, words, source), told);
-        }
+    /// to do; or that the input looks like another kind than it was taken for.
+    pub fn explain<S: Source + Drop>(&mut self, words: &[&str], source: &Watched<S>)
+        ensures silent { IsFalse self.old.terminals.errors
+            → T.taken self.new.sink ≡ T.taken self.old.sink }
+    {
+        let sentence = match self.refusal {
+            Some(error) => {
+                let told = advice_by_looks(error, looks_of(source.first()));
+                sentence(self.alloc, error, place_of(error, words, source), told)
+            }
+            None => warning_line(self.alloc, self.job, source.first()),
+        };
+        self.tell(&sentence.unwrap_or(String::new(self.alloc)));
     }
 
     /// Says what was refused where the words could not be read.
-    pub fn explain_unread(&self) {
+    pub fn explain_unread(&mut self)
+        ensures silent { IsFalse self.old.terminals.errors
+            → T.taken self.new.sink ≡ T.taken self.old.sink }
+    {
         if let Some(error) = self.refusal {
-            self.say(error, None, None);
+            let sentence = sentence(self.alloc, error, None, None);
+            self.tell(&sentence.unwrap_or(String::new(self.alloc)));
         }
     }
 
-    /// Says a sentence: what was refused, where, and what to do.
-    fn say(&self, error: RunError, place: Option<Place>, told: Option<&'static str>) {
-        if !self.terminals.errors {
-            return;
+    /// Tells a text, where standard error is a terminal.
+    fn tell(&mut self, text: &str)
+        ensures silent { IsFalse self.old.terminals.errors
+            → T.taken self.new.sink ≡ T.taken self.old.sink }
+        ensures told { T.failed self.new.sink ≡ 0 → IsTrue self.old.terminals.errors
+            → Grew (T.taken self.old.sink) (T.taken self.new.sink) text.now }
+        ensures terminals { self.new.terminals ≡ self.old.terminals }
+    {
+        if self.terminals.errors && self.sink.failures() == 0 {
+            let _ = write_all(&mut self.sink, text.as_bytes());
         }
-        let told = told.unwrap_or_else(|| advice(error.number()));
-        let _ = match place {
-            Some(Place::Byte(Position { line, column })) => {
-                eprintln!(self.rt; "aes3: {error} (line {line}, column {column}): {told}")
-            }
-            Some(Place::Option(name)) => eprintln!(self.rt; "aes3: {error} ({name}): {told}"),
-            None => eprintln!(self.rt; "aes3: {error}: {told}"),
-        };
+    }
+}
+
+/// What was refused, where, and what to do. Where memory for it is refused there is none.
+fn sentence(
+    alloc: Global,
+    error: RunError,
+    place: Option<Place>,
+    told: Option<&'static str>,
+) -> Option<String> {
+    let told = told.unwrap_or_else(|| advice(error.number()));
+    let line = match place {
+        Some(Place::Byte(Position { line, column })) => {
+            format!(in alloc; "aes3: {error} (line {line}, column {column}): {told}\n")
+        }
+        Some(Place::Option(name)) => format!(in alloc; "aes3: {error} ({name}): {told}\n"),
+        None => format!(in alloc; "aes3: {error}: {told}\n"),
+    };
+    line.ok()
+}
+
+/// What is told of an input that a job took, if its first bytes look like another kind.
+fn warning_line(alloc: Global, job: Option<Job>, first: &[u8]) -> Option<String> {
+    let told = warning(job?, first)?;
+    format!(in alloc; "aes3: {told}\n").ok()
+}
+
+/// What to do where the first bytes of an input look like another kind than this job takes.
+fn warning(job: Job, first: &[u8]) -> Option<&'static str> {
+    match (job, looks_of(first)) {
+        (Job::FromPcm { .. }, Looks::Wave) => Some(
+            "this is a WAV file, whose head was taken as samples: `sox FILE -t s32 - | aes3 from-pcm` leaves it out",
+        ),
+        (job, Looks::Octets) if reads_packed(&job) && are_turned(first) => Some(
+            "the cells look packed with the first in the lowest bit: `perl -0777 -ne 'print pack(\"B*\", unpack(\"b*\", $_))' FILE` turns them",
+        ),
+        _ => None,
     }
 }
 
@@ -128,20 +192,35 @@ fn writes_packed(job: &Job) -> bool {
     }
 }
 
-impl Observer for Hints<'_> {
+/// Whether the job reads packed cells.
+fn reads_packed(job: &Job) -> bool {
+    match job {
+        Job::Encode { .. } | Job::FromPcm { .. } => false,
+        Job::Decode { input }
+        | Job::Normal { input, .. }
+        | Job::Check { input, .. }
+        | Job::Account { input, .. }
+        | Job::Show { input }
+        | Job::ShowChanges { input }
+        | Job::Scan { input }
+        | Job::Cut { input, .. }
+        | Job::Rewrite { input, .. }
+        | Job::ToPcm { input } => *input == Form::Packed,
+    }
+}
+
+impl<T: Sink + Drop> Observer for Hints<T> {
+    ghost told = { λ h. T.taken h.sink };
+
+    ghost is_silent = { λ h. not h.terminals.errors };
+
     fn begins(&mut self, job: &Job) {
-        if !self.terminals.errors {
-            return;
-        }
+        self.job = Some(*job);
         if self.terminals.input {
-            let _ = eprintln!(self.rt;
-                "aes3: reads from the terminal up to Ctrl-D; a file by < FILE"
-            );
+            self.tell("aes3: reads from the terminal up to Ctrl-D; a file by < FILE\n");
         }
         if self.terminals.output && writes_packed(job) {
-            let _ = eprintln!(self.rt;
-                "aes3: writes packed cells to the terminal; to a file by > FILE"
-            );
+            self.tell("aes3: writes packed cells to the terminal; to a file by > FILE\n");
         }
     }
 

@@ -1,12 +1,13 @@
 //! What the input was, for whoever is told of a refusal.
 
-ghost use Rattle.std.specs.Prelude.{◌≡◌};
+ghost use Rattle.std.specs.Prelude.{◌≡◌, ◌+◌, ◌-◌, ◌≤◌, IfSome, fold, length, take};
+ghost use Rattle.aes3_hints.specs.Places.{behind, one_more};
 
 use aes3_cell::{Fault, Source};
 use std::alloc::Global;
 
 /// How many of the first bytes are kept.
-const FIRST_LEN: usize = 16;
+const FIRST_LEN: usize = 64;
 
 /// A source that keeps what a person at a terminal has to be told of its bytes. Where nobody is
 /// there it keeps nothing.
@@ -17,11 +18,9 @@ pub struct Watched<S: Drop> {
     first: Vec<u8>,
     /// The last bytes that the source gave.
     piece: Vec<u8>,
-    /// How many bytes it gave before these.
+    /// How many bytes it gave before these, and where the first of these stands.
     before: u64,
-    /// How many of those end a line, and how many stand behind the last of these.
-    lines: u64,
-    column: u64,
+    start: Position,
 }
 
 /// Where a byte of cell text stands. Both count from 1.
@@ -31,18 +30,37 @@ pub(crate) struct Position {
     pub column: u64,
 }
 
-/// How many bytes stand behind the last line feed, where `before` stand before them and there is
-/// none.
-fn column_behind(before: u64, bytes: &[u8]) -> u64 {
-    match bytes.iter().rev().position(|byte| *byte == b'\n') {
-        Some(behind) => behind as u64,
-        None => before.saturating_add(bytes.len() as u64),
-    }
-}
+impl Position {
+    /// The first byte of all.
+    const FIRST: Position = Position { line: 1, column: 1 };
 
-/// How many line feeds there are.
-fn line_feeds(bytes: &[u8]) -> u64 {
-    bytes.iter().filter(|byte| **byte == b'\n').count() as u64
+    /// Where the byte behind this one stands.
+    fn behind(self, byte: u8) -> Position
+        ensures { result ≡ behind self byte }
+    {
+        if byte == b'\n' {
+            Position {
+                line: self.line.saturating_add(1),
+                column: 1,
+            }
+        } else {
+            Position {
+                line: self.line,
+                column: self.column.saturating_add(1),
+            }
+        }
+    }
+
+    /// Where the byte behind these stands, of which this is the first.
+    fn behind_all(self, bytes: &[u8]) -> Position
+        ensures { result ≡ fold behind self bytes.now }
+    {
+        let mut position = self;
+        for byte in bytes {
+            position = position.behind(*byte);
+        }
+        position
+    }
 }
 
 impl<S: Source + Drop> Watched<S> {
@@ -56,8 +74,7 @@ impl<S: Source + Drop> Watched<S> {
             first: Vec::new(alloc),
             piece: Vec::new(alloc),
             before: 0,
-            lines: 0,
-            column: 0,
+            start: Position::FIRST,
         }
     }
 
@@ -67,26 +84,24 @@ impl<S: Source + Drop> Watched<S> {
     }
 
     /// Where the byte of this number stands in the text, if it was among the last that were given.
-    pub(crate) fn position(&self, at: u64) -> Option<Position> {
+    pub(crate) fn position(&self, at: u64) -> Option<Position>
+        ensures here { IfSome result (λ _. self.now.before ≤ at) }
+        ensures position { IfSome result (λ position. position
+            ≡ fold behind self.now.start (take (at - self.now.before) self.now.piece.items)) }
+    {
         let place = usize::try_from(at.checked_sub(self.before)?).ok()?;
         let front = self.piece.get(..place)?;
-        Some(Position {
-            line: self
-                .lines
-                .saturating_add(line_feeds(front))
-                .saturating_add(1),
-            column: column_behind(self.column, front).saturating_add(1),
-        })
+        Some(self.start.behind_all(front))
     }
 
     /// Keeps the bytes that were given in place of those before them. Where memory for them is
-    /// refused it keeps fewer.
+    /// refused it keeps none.
     fn keep(&mut self, bytes: &[u8])
-        ensures { self.new.source ≡ self.old.source }
+        ensures source { self.new.source ≡ self.old.source }
+        ensures start { self.new.start ≡ fold behind self.old.start self.old.piece.items }
     {
         self.before = self.before.saturating_add(self.piece.len() as u64);
-        self.lines = self.lines.saturating_add(line_feeds(&self.piece));
-        self.column = column_behind(self.column, &self.piece);
+        self.start = self.start.behind_all(&self.piece);
         self.piece.clear();
         let _ = self.piece.extend_from_slice(bytes);
         let more = bytes.len().min(FIRST_LEN.saturating_sub(self.first.len()));

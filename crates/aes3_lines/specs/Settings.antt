@@ -68,9 +68,10 @@ pub record AreSettingsOf (texts : List (List ℕ)) (settings : List Setting) : T
   pub consumer : (k : ℕ) → k < length texts → IsSetBy (get_or texts k []) consumer_fields (get_or settings (2 * k + 1) nothing)
   pub rest : (k : ℕ) → 2 * length texts ≤ k → get_or settings k nothing ≡ nothing
 
--- why texts have no settings
+-- why texts have no settings: the first that is unknown, or that there are more than may stand
 abbrev pub IsSettingsFault : List (List ℕ) → SettingsFault → Type 0
 IsSettingsFault texts (Unknown at) = (at < length texts) × IsUnknown (get_or texts at [])
+    × ((k : ℕ) → k < at → ¬ IsUnknown (get_or texts k []))
 IsSettingsFault texts TooMany = 32 < length texts
 
 -- where the setting has a code for a status, `show` then prints the text of it

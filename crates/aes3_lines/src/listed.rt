@@ -13,7 +13,7 @@ const TEXTS: usize = SETTINGS / 2;
 /// Why texts have no settings.
 #[derive(Clone, Copy)]
 pub enum SettingsFault {
-    /// `show` prints no field so as text number `at`, from 0.
+    /// `show` prints no field so as text number `at`, from 0, the first such text.
     Unknown { at: usize },
     /// There are more than 32 texts.
     TooMany,

@@ -63,7 +63,11 @@ fn a_bad_status_text_reads_nothing(rt: HostRuntime) {
 #[test]
 fn words_that_cannot_be_read(rt: HostRuntime) {
     let rows: [(Unread, u8, &[u8]); 2] = [
-        (Unread::NotUtf8, 2, b"aes3: the words are not UTF-8\n"),
+        (
+            Unread::NotUtf8,
+            2,
+            b"error: the words are not UTF-8\n\nUsage: aes3 COMMAND [OPTIONS] < INPUT > OUTPUT\n\nFor more information, try '--help'.\n",
+        ),
         (Unread::Memory, 3, b"aes3: refused 8\n"),
     ];
     for (fault, status, line) in rows {

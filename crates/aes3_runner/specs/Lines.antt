@@ -13,5 +13,6 @@ abbrev pub refusal_line : RunError → List ℕ
 refusal_line error = codes "aes3: refused " ++ decimal (number_of error) ++ place_text (place_of error) ++ 10 ∷ []
 
 -- what is told of words that are not UTF-8
-abbrev pub not_utf8_line : List ℕ
-not_utf8_line = codes "aes3: the words are not UTF-8" ++ 10 ∷ []
+abbrev pub not_utf8_text : List ℕ
+not_utf8_text = codes "error: the words are not UTF-8" ++ (10 ∷ 10 ∷ codes "Usage: aes3 COMMAND [OPTIONS] < INPUT > OUTPUT")
+    ++ (10 ∷ 10 ∷ codes "For more information, try '--help'.") ++ 10 ∷ []

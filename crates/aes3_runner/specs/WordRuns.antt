@@ -11,7 +11,7 @@ use Rattle.aes3_arguments.specs.declared.job.LineFault.TheVariants.{Usage, Help,
 use Rattle.aes3_arguments.specs.Jobs.{IsJobOf, IsFaultOf}
 use Rattle.aes3_runner.specs.JobRuns.{JobRan}
 use Rattle.aes3_runner.specs.Lines.{refusal_line}
-use Rattle.aes3_runner.specs.Lines.{not_utf8_line}
+use Rattle.aes3_runner.specs.Lines.{not_utf8_text}
 
 -- a line that is no job: why not is told among the errors, and help in the output
 abbrev pub FaultRan : LineFault → Movement → Movement → ℕ → Type 0
@@ -38,5 +38,5 @@ WordsRan words ended source sink errors status = JobOfWords words ended source s
 
 -- words that could not be read: what is told of that
 abbrev pub UnreadTold : Unread → Movement → ℕ → Type 0
-UnreadTold unread.NotUtf8 errors status = (status ≡ 2) × (Quiet errors → Grew errors.old errors.new not_utf8_line)
+UnreadTold unread.NotUtf8 errors status = (status ≡ 2) × (Quiet errors → Grew errors.old errors.new not_utf8_text)
 UnreadTold unread.Memory errors status = (status ≡ 3) × (Quiet errors → Grew errors.old errors.new (refusal_line Memory))

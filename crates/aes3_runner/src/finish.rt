@@ -1,6 +1,6 @@
 //! A job, its last flush and its exit status.
 
-ghost use Rattle.std.specs.Prelude.{◌≡◌, ◌≢◌, ◌<◌, ◌≤◌, ◌+◌, ◌^◌};
+ghost use Rattle.std.specs.Prelude.{◌≡◌, ◌≢◌, ◌<◌, ◌≤◌, ◌+◌, ◌^◌, IsTrue};
 ghost use Rattle.aes3_runner.specs.JobRuns.{Flushed, JobRan};
 ghost use Rattle.aes3_input.specs.Running.{movement_of};
 
@@ -29,7 +29,8 @@ fn flushed<T: Sink>(error: RunError, sink: &mut T) -> RunError
 
 /// Runs a job, and answers the exit status: 0 done, 1 where `check` found faults, 3 for a refusal.
 /// Unless the sink failed, it has passed on all that it took, also behind a refusal. A refusal is
-/// told on `errors`, whose own faults change nothing. The observer is told too.
+/// told on `errors`, which are flushed then and whose own faults change nothing. The observer is told
+/// too; one that is silent writes nothing.
 pub fn finish_job<S: Source, T: Sink, E: Sink, O: Observer>(
     job: &Job,
     source: &mut S,
@@ -47,6 +48,10 @@ pub fn finish_job<S: Source, T: Sink, E: Sink, O: Observer>(
     ensures passed_on { T.failed sink.new ≡ T.failed sink.old
         → T.passed sink.new ≡ T.taken sink.new }
     ensures errors { E.failed errors.new ≤ E.failed errors.old + 1 }
+    ensures left { E.passed errors.old ≡ E.taken errors.old
+        → E.failed errors.new ≡ E.failed errors.old → E.passed errors.new ≡ E.taken errors.new }
+    ensures silent { IsTrue (O.is_silent observer.old) → O.told observer.new ≡ O.told observer.old }
+    ensures same { O.is_silent observer.new ≡ O.is_silent observer.old }
 {
     observer.begins(job);
     match run_job(job, source, sink) {

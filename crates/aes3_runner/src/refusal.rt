@@ -66,16 +66,22 @@ pub fn put_refusal<T: Sink>(error: RunError, sink: &mut T) -> Result<(), Fault>
     write_all(sink, line.as_slice())
 }
 
-/// Tells a refusal on `errors`, whose own faults change nothing, and then the observer, and answers
-/// its exit status.
+/// Tells a refusal on `errors`, which are flushed and whose own faults change nothing, and then the
+/// observer, and answers its exit status.
 pub fn refuse<E: Sink, O: Observer>(error: RunError, errors: &mut E, observer: &mut O) -> u8
     requires { E.failed errors.old + 1 < 2 ^ 64 }
     ensures status { result ≡ 3 }
     ensures line { E.failed errors.new ≡ E.failed errors.old
         → Grew (E.taken errors.old) (E.taken errors.new) (refusal_line error) }
     ensures errors { E.failed errors.new ≤ E.failed errors.old + 1 }
+    ensures left { E.failed errors.new ≡ E.failed errors.old
+        → E.passed errors.new ≡ E.taken errors.new }
+    ensures silent { O.told observer.new ≡ O.told observer.old }
+    ensures same { O.is_silent observer.new ≡ O.is_silent observer.old }
 {
-    let _ = put_refusal(error, errors);
+    if put_refusal(error, errors).is_ok() {
+        let _ = errors.flush();
+    }
     observer.refused(error);
     REFUSED
 }

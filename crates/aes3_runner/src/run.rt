@@ -1,6 +1,6 @@
 //! Everything but the machine's own streams.
 
-ghost use Rattle.std.specs.Prelude.{◌≡◌, ◌<◌, ◌≤◌, ◌+◌, ◌^◌, IfOk, OnErr, map};
+ghost use Rattle.std.specs.Prelude.{◌≡◌, ◌<◌, ◌≤◌, ◌+◌, ◌^◌, IfOk, OnErr, IsTrue, map};
 ghost use Rattle.aes3_cell.specs.Ends.{Grew};
 ghost use Rattle.aes3_runner.specs.WordRuns.{FaultRan, UnreadTold, WordsRan};
 ghost use Rattle.aes3_input.specs.Running.{movement_of};
@@ -15,6 +15,14 @@ use std::alloc::{AllocError, Global};
 
 /// The exit status of a refused command line.
 pub const USAGE: u8 = 2;
+
+/// What is told of words that are not UTF-8, as `clap` tells of words that it doesn't take.
+const NOT_UTF8: &str = "error: the words are not UTF-8
+
+Usage: aes3 COMMAND [OPTIONS] < INPUT > OUTPUT
+
+For more information, try '--help'.
+";
 
 /// Writes all of a text and flushes it.
 ///
@@ -48,10 +56,14 @@ fn tell_fault<T: Sink, E: Sink, O: Observer>(
     ensures passed_on { T.passed sink.old ≡ T.taken sink.old → T.failed sink.new ≡ T.failed sink.old
         → T.passed sink.new ≡ T.taken sink.new }
     ensures errors { E.failed errors.new ≤ E.failed errors.old + 1 }
+    ensures left { E.passed errors.old ≡ E.taken errors.old
+        → E.failed errors.new ≡ E.failed errors.old → E.passed errors.new ≡ E.taken errors.new }
+    ensures silent { O.told observer.new ≡ O.told observer.old }
+    ensures same { O.is_silent observer.new ≡ O.is_silent observer.old }
 {
     match fault {
         LineFault::Usage { text } => {
-            let _ = write_all(errors, text.as_bytes());
+            let _ = put_text(text.as_str(), errors);
             USAGE
         }
         LineFault::Help { text } => match put_text(text.as_str(), sink) {
@@ -80,12 +92,14 @@ impl From<AllocError> for Unread {
 /// Tells why the words could not be read, and answers the exit status.
 pub fn tell_unread<E: Sink, O: Observer>(fault: Unread, errors: &mut E, observer: &mut O) -> u8
     requires { E.failed errors.old + 1 < 2 ^ 64 }
-    ensures { UnreadTold fault
+    ensures told { UnreadTold fault
         (movement_of E.taken E.failed errors.old errors.new) result }
+    ensures silent { O.told observer.new ≡ O.told observer.old }
+    ensures same { O.is_silent observer.new ≡ O.is_silent observer.old }
 {
     match fault {
         Unread::NotUtf8 => {
-            let _ = write_all(errors, b"aes3: the words are not UTF-8\n");
+            let _ = put_text(NOT_UTF8, errors);
             USAGE
         }
         Unread::Memory => refuse(RunError::Memory, errors, observer),
@@ -94,8 +108,9 @@ pub fn tell_unread<E: Sink, O: Observer>(fault: Unread, errors: &mut E, observer
 
 /// Runs a command line, without the program's name, and answers the exit status: 0 done, 1 where
 /// `check` found faults, 2 for a refused command line, 3 for a refusal. A sink that held nothing
-/// before and did not fail has passed on all that it took. Refusals are told on `errors`, whose own
-/// faults change nothing. The observer is told how it goes on.
+/// before and did not fail has passed on all that it took, and so have the errors. Refusals are told
+/// on `errors`, whose own faults change nothing. The observer is told how it goes on; one that is
+/// silent writes nothing.
 pub fn run_words<S: Source, T: Sink, E: Sink, O: Observer>(
     alloc: Global,
     words: &[&str],
@@ -114,6 +129,10 @@ pub fn run_words<S: Source, T: Sink, E: Sink, O: Observer>(
     ensures passed_on { T.passed sink.old ≡ T.taken sink.old → T.failed sink.new ≡ T.failed sink.old
         → T.passed sink.new ≡ T.taken sink.new }
     ensures errors { E.failed errors.new ≤ E.failed errors.old + 1 }
+    ensures left { E.passed errors.old ≡ E.taken errors.old
+        → E.failed errors.new ≡ E.failed errors.old → E.passed errors.new ≡ E.taken errors.new }
+    ensures silent { IsTrue (O.is_silent observer.old) → O.told observer.new ≡ O.told observer.old }
+    ensures same { O.is_silent observer.new ≡ O.is_silent observer.old }
 {
     match job_of_words(alloc, words) {
         Ok(job) => finish_job(&job, source, sink, errors, observer),

@@ -1,44 +1,26 @@
-use Rattle.std.proofs.Common.{◌≡◌, ◌∙◌, [], ap, subst, map}
+use Rattle.std.proofs.Common.{[], ◌∷◌, Bor, List, ℕ, drop, map, inr, refl}
 use Rattle.std.proofs.lemmas.Result.{IfErr-weaker, IfOk-weaker}
-use Rattle.clap.specs.Faults.{fault_of, is_simple_and_free}
-use Rattle.clap.specs.Kinds.{HasKind}
-use Rattle.clap.specs.Simple.{App, HasMatchesOf}
-use Rattle.aes3_arguments.specs.Jobs.{StandsIn, options_of}
-use Rattle.aes3_arguments.proofs.LineAnswers.{bad_option_told, command_stands, error_told, line_is_free}
+use Rattle.aes3_arguments.proofs.Explains.{behind_word, told_of, unasked}
 use Rattle.aes3_arguments.proofs.job.job_of_words.Goals as goal
 
-pub returns-in-Err-clause-fault : goal.returns-in-Err-clause-fault
-returns-in-Err-clause-fault c =
-    let words = map (λ word. word.now) c.args.words.now in
-    let is = c.in_ok-command.ensures.0 in
-    let kind = c.in-Err.ensures.kinds (ap is_simple_and_free is ∙ line_is_free) in
-    error_told words c.in-Err.error c.fault_of.result (subst (λ (a : App). HasKind (fault_of a words) c.in-Err.error) is kind) c.fault_of.ensures
+pub returns-then-asks_to_explain-clause-fault : goal.returns-then-asks_to_explain-clause-fault
+returns-then-asks_to_explain-clause-fault c =
+    let words = map (λ (word : Bor (List ℕ)). word.now) c.args.words.now in
+    told_of words _ c.explained.result (behind_word c.args.words.now c.if-asks_to_explain.ensures) c.explained.ensures
 
-stands : (c : goal.In-Some) → StandsIn (map (λ word. word.now) c.args.words.now) c.in-Some.name.now (options_of c.in-Some.options.now)
-stands c =
-    let words = map (λ word. word.now) c.args.words.now in
-    let is = c.in_ok-command.ensures.0 in
-    let none = subst (λ (a : App). fault_of a words ≡ []) is (c.in-Ok.ensures.kinds (ap is_simple_and_free is ∙ line_is_free)) in
-    let matches = subst (λ (a : App). HasMatchesOf a words c.in-Ok.matches) is c.in-Ok.ensures.matches in
-    command_stands words c.in-Ok.matches c.in-Some.name.now (options_of c.in-Some.options.now) none matches c.in-Some.ensures.name c.in-Some.ensures.rows
+pub returns-in-Some-clause-fault : goal.returns-in-Some-clause-fault
+returns-in-Some-clause-fault c =
+    let words = map (λ (word : Bor (List ℕ)). word.now) c.args.words.now in
+    told_of words (c.in-Some.number.now ∷ []) c.explained-in-Some.result (inr (c.in-Some.number.now, c.in-Some.ensures.some, refl)) c.explained-in-Some.ensures
 
-pub job_of_command-requires : goal.job_of_command-requires
-job_of_command-requires c = (map (λ word. word.now) c.args.words.now, stands c)
+pub returns-in-None-clause-job : goal.returns-in-None-clause-job
+returns-in-None-clause-job c =
+    let words = map (λ (word : Bor (List ℕ)). word.now) c.args.words.now in
+    let nothing = unasked words c.if-asks_to_explain.ensures (c.in-None.ensures.none refl) in
+    IfOk-weaker c.job_of_line.result _ _ (λ job line. (nothing, line)) c.job_of_line.ensures.job
 
-pub returns-clause-job : goal.returns-clause-job
-returns-clause-job c =
-    let words = map (λ word. word.now) c.args.words.now in
-    let is = c.in_ok-command.ensures.0 in
-    let none = subst (λ (a : App). fault_of a words ≡ []) is (c.in-Ok.ensures.kinds (ap is_simple_and_free is ∙ line_is_free)) in
-    let matches = subst (λ (a : App). HasMatchesOf a words c.in-Ok.matches) is c.in-Ok.ensures.matches in
-    let here = command_stands words c.in-Ok.matches c.in-Some.name.now (options_of c.in-Some.options.now) none matches c.in-Some.ensures.name c.in-Some.ensures.rows in
-    IfOk-weaker c.job_of_command.result _ _ (λ job asks. (c.in-Some.name.now, options_of c.in-Some.options.now, here, asks)) c.job_of_command.ensures.job
-
-pub returns-clause-fault : goal.returns-clause-fault
-returns-clause-fault c =
-    let words = map (λ word. word.now) c.args.words.now in
-    let is = c.in_ok-command.ensures.0 in
-    let none = subst (λ (a : App). fault_of a words ≡ []) is (c.in-Ok.ensures.kinds (ap is_simple_and_free is ∙ line_is_free)) in
-    let matches = subst (λ (a : App). HasMatchesOf a words c.in-Ok.matches) is c.in-Ok.ensures.matches in
-    let here = command_stands words c.in-Ok.matches c.in-Some.name.now (options_of c.in-Some.options.now) none matches c.in-Some.ensures.name c.in-Some.ensures.rows in
-    IfErr-weaker c.job_of_command.result _ _ (λ told bad. bad_option_told words c.in-Some.name.now (options_of c.in-Some.options.now) told here bad) c.job_of_command.ensures.fault
+pub returns-in-None-clause-fault : goal.returns-in-None-clause-fault
+returns-in-None-clause-fault c =
+    let words = map (λ (word : Bor (List ℕ)). word.now) c.args.words.now in
+    let nothing = unasked words c.if-asks_to_explain.ensures (c.in-None.ensures.none refl) in
+    IfErr-weaker c.job_of_line.result _ _ (λ told fault. inr (nothing, fault)) c.job_of_line.ensures.fault

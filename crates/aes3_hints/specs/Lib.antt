@@ -1,0 +1,2 @@
+pub mod LooksOf
+pub mod Places
