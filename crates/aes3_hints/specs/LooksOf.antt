@@ -1,5 +1,5 @@
 -- What the first bytes of an input look like.
-use Rattle.std.specs.Prelude.{ℕ, Bool, List, [], ◌∷◌, ◌==◌, ◌||◌, ◌&&◌, if◌then◌else◌, nat_le, codes, length}
+use Rattle.std.specs.Prelude.{ℕ, Bool, List, [], ◌∷◌, ◌++◌, ◌==◌, ◌||◌, ◌&&◌, if◌then◌else◌, nat_le, codes, length}
 use Rattle.std.specs.List.{list_all, starts_with}
 use Rattle.aes3_hints.specs.declared.looks.Alphabet.{Alphabet}
 use Rattle.aes3_hints.specs.declared.looks.Alphabet.TheVariants.{Cells, Ascii, Bits}
