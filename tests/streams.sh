@@ -125,6 +125,26 @@ aes3: the packed cells end wrongly at octet 0: the input is empty" \
     at_terminal "the option of a refused status" "aes3: refused 9
 aes3: a status is not 48 hexadecimal digits (--status2): \`--status1\` and \`--status2\` take 24 bytes, two digits each" \
         "$program rewrite --status2=12 < '$folder/refused'"
+    for _ in 1 2 3 4 5 6 7 8 9 10 11 12 13 14 15 16; do printf '\1\0\0\1'; done > "$folder/samples"
+    at_terminal "samples of a logic analyser" "aes3: refused 1 at 0
+aes3: byte 0 is neither cell nor separator (line 1, column 1): these look like samples of a logic analyser: \`aes3-cells < FILE\` makes cells of them" \
+        "$program check < '$folder/samples'"
+    printf 'PK\3\4' > "$folder/session"
+    at_terminal "a session of sigrok" "aes3: refused 1 at 0
+aes3: byte 0 is neither cell nor separator (line 1, column 1): a session of sigrok begins so: \`sigrok-cli -i FILE -O binary | aes3-cells\` makes cells of it" \
+        "$program check < '$folder/session'"
+    printf 'RIFF1234' > "$folder/wave"
+    at_terminal "a WAV file taken as samples" \
+        "aes3: this is a WAV file, whose head was taken as samples: \`sox FILE -t s32 - | aes3 from-pcm\` leaves it out" \
+        "$program from-pcm < '$folder/wave' > '$folder/output'"
+    if command -v perl > /dev/null; then
+        perl -0777 -ne 'print pack("B*", unpack("b*", $_))' "$folder/packed" > "$folder/turned"
+        at_terminal "packed cells with the first in the lowest bit" \
+            "aes3: the cells look packed with the first in the lowest bit: \`perl -0777 -ne 'print pack(\"B*\", unpack(\"b*\", \$_))' FILE\` turns them" \
+            "$program show --packed-in < '$folder/turned'"
+    else
+        echo "left out: packed cells with the first in the lowest bit (perl is not installed)"
+    fi
 else
     echo "left out: sentences and hints at a terminal (script is not installed)"
 fi
