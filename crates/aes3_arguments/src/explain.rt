@@ -39,8 +39,10 @@ pub fn advice(number: u8) -> &'static str
         7 => "go on with a new run",
         8 => "it needs 2 MB",
         9 => "`--status1` and `--status2` take 24 bytes, two digits each",
-        10 => "the last octet counts the unused cells before it, 0 to 7, and these are 0: `printf '\\0' >> FILE` adds it where there are none",
-        11 => "leave `--exact` out to drop them, or make samples of 24 bits first (`sox IN -b 24 OUT`)",
+        10 =>
+            "the last octet counts the unused cells before it, 0 to 7, and these are 0: `printf '\\0' >> FILE` adds it where there are none",
+        11 =>
+            "leave `--exact` out to drop them, or make samples of 24 bits first (`sox IN -b 24 OUT`)",
         _ => "",
     }
 }
@@ -49,7 +51,8 @@ pub fn advice(number: u8) -> &'static str
 fn wrong(number: u8) -> &'static str {
     match number {
         1 => "a byte of cell text is neither `0`, `1` nor a separator; PLACE is its number",
-        2 => "the block file ends inside a block, or samples inside a frame; PLACE is how many bytes are left over",
+        2 =>
+            "the block file ends inside a block, or samples inside a frame; PLACE is how many bytes are left over",
         3 => "bits 0 to 3 of word PLACE are not zero",
         4 => "bit 31 of word PLACE is not the right parity",
         5 => "the input can't be read",
@@ -58,7 +61,8 @@ fn wrong(number: u8) -> &'static str {
         8 => "memory was refused",
         9 => "a status on the command line is not 48 hexadecimal digits",
         10 => "packed cells end wrongly, at octet PLACE",
-        11 => "with `--exact`, the sample word that begins at byte PLACE has bits below the highest 24",
+        11 =>
+            "with `--exact`, the sample word that begins at byte PLACE has bits below the highest 24",
         _ => "",
     }
 }

@@ -154,7 +154,9 @@ pub(crate) fn advice_by_looks(error: RunError, looks: Looks) -> Option<&'static 
             "a session of sigrok begins so: `sigrok-cli -i FILE -O binary | aes3-cells` makes cells of it",
         ),
         (_, Looks::Samples) if !is_of_samples => {
-            Some("these look like samples of a logic analyser: `aes3-cells < FILE` makes cells of them")
+            Some(
+                "these look like samples of a logic analyser: `aes3-cells < FILE` makes cells of them",
+            )
         }
         (_, Looks::Compressed) => Some("this file is compressed: take it apart first"),
         (_, Looks::BlockFile) if is_of_text => {

@@ -28,8 +28,7 @@ pub returns-in_default-clause-fault : goal.returns-in_default-clause-fault
 returns-in_default-clause-fault c =
     let texts : List (List ℕ) = map (λ text. text.now) c.args.texts.now in
     let len : length texts ≡ length c.args.texts.now = length-map c.args.texts.now (λ (text : Bor (List ℕ)). text.now) in
-    let at = sym (get_or-map (λ (text : Bor (List ℕ)). text.now) c.args.texts.now c.loop-at.at (record { ref_ptr = (0, 0); now = [] })) in
-    (
+    let at = sym (get_or-map (λ (text : Bor (List ℕ)). text.now) c.args.texts.now c.loop-at.at (record { ref_ptr = (0, 0); now = [] })) in (
       omega (arith, len),
       subst IsUnknown at (c.pair_of.ensures.none c.in_default.is),
       λ k e. (c.loop-at.invariant.own k e).known,
