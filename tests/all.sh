@@ -1,7 +1,7 @@
 #!/bin/sh
 # tests/all.sh [PROGRAM]: all that is run with a built program, with bin/aes3's where none is given: the worked rows, the
 # machine's own streams, refused memory, the examples of help, README and tutorial, the manual page, the shells' completions, the pictures and the figures of
-# the books, round trips with other programs, and the examples from C (also for 64-bit ARM), C++, Python and Rust, and of the page in a browser, and the Debian packages in a
+# the books, captures with jitter, round trips with other programs, and the examples from C (also for 64-bit ARM), C++, Python and Rust, and of the page in a browser, and the Debian packages in a
 # root of their own.
 #
 # Each part prints what fails, `left out: WHAT (WHY)` where something it needs is not installed, and `N passed, M failed`. At the

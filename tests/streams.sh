@@ -138,7 +138,9 @@ aes3: byte 0 is neither cell nor separator (line 1, column 1): a session of sigr
         "aes3: this is a WAV file, whose head was taken as samples: \`sox FILE -t s32 - | aes3 from-pcm\` leaves it out" \
         "$program from-pcm < '$folder/wave' > '$folder/output'"
     if command -v perl > /dev/null; then
-        perl -0777 -ne 'print pack("B*", unpack("b*", $_))' "$folder/packed" > "$folder/turned"
+        # It shows where runs of more than three cells stand in the first octets, as they do in these.
+        "$program" encode --packed-out < "$root/examples/speech.block" > "$folder/speech"
+        perl -0777 -ne 'print pack("B*", unpack("b*", $_))' "$folder/speech" > "$folder/turned"
         at_terminal "packed cells with the first in the lowest bit" \
             "aes3: the cells look packed with the first in the lowest bit: \`perl -0777 -ne 'print pack(\"B*\", unpack(\"b*\", \$_))' FILE\` turns them" \
             "$program show --packed-in < '$folder/turned'"

@@ -23,7 +23,7 @@ def files(program):
     with open(f"{ROOT}/examples/speech.block", "rb") as file:
         speech = file.read(1536 * 20)
     line = program("encode", speech)
-    to_samples = ["python3", f"{ROOT}/examples/neighbours/logic.py", "to-samples"]
+    to_samples = ["python3", f"{ROOT}/examples/neighbours/samples.py"]
     samples = lambda number: subprocess.run([*to_samples, number], input=line, stdout=subprocess.PIPE, check=True).stdout
     yield "sound.wav", b"RIFF" + bytes(100), "This is a sound file"
     yield "sound.flac", b"fLaC" + bytes(range(256)), "This is a sound file"

@@ -4,8 +4,8 @@ import { TURNED } from "./cells.js";
 import { wholeIn } from "./reading.js";
 import { counted } from "./words.js";
 
-const LOGIC = "examples/neighbours/logic.py to-cells";
-const CHANNEL = `${LOGIC} measured BIT < SAMPLES > LINE    # BIT: the number of the line's channel, counted from 0`;
+const RECOVER = "aes3-cells";
+const CHANNEL = `${RECOVER} --bit BIT < SAMPLES > LINE    # BIT: the number of the line's channel, counted from 0`;
 const latin = bytes => String.fromCharCode(...bytes.subarray(0, 1024));
 
 /* Files that tell by their first bytes what they are, and the commands that make cells of them. */

@@ -12,11 +12,7 @@ use std::process::ExitCode;
 
 fn main(rt: HostRuntime) -> ExitCode {
     let mut errors = StdSink::new(rt.stderr());
-    let mut hints = Hints::new(
-        rt.alloc(),
-        StdSink::new(rt.stderr()),
-        Terminals::new(&rt),
-    );
+    let mut hints = Hints::new(rt.alloc(), StdSink::new(rt.stderr()), Terminals::new(&rt));
     let status = match run_program(&rt, &mut errors, &mut hints) {
         Ok(status) => status,
         Err(fault) => {
@@ -41,14 +37,7 @@ fn run_program<E: Sink, H: Sink + Drop>(
     let words: Vec<&str> = words.iter().map(|word| word.as_str()).collect(rt.alloc())?;
     let mut sink = BufferedSink::new(rt.alloc(), StdSink::new(rt.stdout().lock()))?;
     let mut source = hints.watch(StdSource::new(rt.stdin().lock()));
-    let status = run_words(
-        rt.alloc(),
-        &words,
-        &mut source,
-        &mut sink,
-        errors,
-        hints,
-    );
+    let status = run_words(rt.alloc(), &words, &mut source, &mut sink, errors, hints);
     hints.explain(&words, &source);
     Ok(status)
 }
