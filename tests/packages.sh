@@ -100,7 +100,7 @@ cp "$root/README.md" "$place/walk"
 cp "$root/docs/TUTORIAL.md" "$place/walk/docs"
 cp "$root/tests/readme.sh" "$place/walk/tests"
 cp -r "$place/usr/share/doc/aes3/examples" "$place/walk/examples"
-judge "the commands of README and tutorial" inside "sh tests/readme.sh /usr/bin/aes3"
+judge "the commands of README and tutorial" inside "CELLS=/usr/bin/aes3-cells sh tests/readme.sh /usr/bin/aes3"
 grep -E '^left out: |passed' "$work/said" | sed 's/^left out: /left out, in a root of its own: /'
 
 cp "$root"/examples/c/*.c "$root"/examples/cpp/*.cpp "$root"/examples/python/*.py "$place/walk/src"
