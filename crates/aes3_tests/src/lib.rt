@@ -11,6 +11,8 @@ mod damage;
 #[cfg(test)]
 mod engine;
 #[cfg(test)]
+mod limits;
+#[cfg(test)]
 mod lines;
 #[cfg(test)]
 mod lock;

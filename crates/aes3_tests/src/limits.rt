@@ -1,0 +1,155 @@
+//! The limits of the laws of damage: cells for which a law would be false if it said more.
+ghost use Rattle.std.specs.Prelude.{◌<◌};
+
+use aes3_block::{Block, mark_of};
+use aes3_cell::Level;
+use aes3_lock::{Lock, Report};
+use aes3_slot::slots_cells;
+use std::alloc::{AllocError, Global};
+
+/// A block that is given: its place, and whether all its bits are zero.
+#[derive(Clone, Copy, PartialEq, Eq, Debug)]
+struct Given {
+    at: u64,
+    is_zero: bool,
+}
+
+/// The first two blocks that are given.
+type Blocks = [Option<Given>; 2];
+
+/// Many more cells than a test has.
+const MANY: u64 = 1 << 40;
+
+fn is_zero(block: &Block) -> bool {
+    for i in 0..192 {
+        let frame = block.frame(i);
+        if frame.first.payload() != 0 || frame.second.payload() != 0 {
+            return false;
+        }
+    }
+    true
+}
+
+/// Keeps what a report gives where there is room.
+fn keep(blocks: &mut Blocks, report: Option<Report>) {
+    if let Some(Report::Whole { at, block, .. }) = report {
+        let given = Some(Given {
+            at,
+            is_zero: is_zero(&block),
+        });
+        if blocks[0].is_none() {
+            blocks[0] = given;
+        } else if blocks[1].is_none() {
+            blocks[1] = given;
+        }
+    }
+}
+
+/// The first two blocks that the lock gives of cells, of which some are lost.
+fn blocks_of(cells: &[Level], lost: &[usize]) -> Blocks {
+    let mut blocks = [None; 2];
+    let mut lock = Lock::new();
+    for (place, cell) in cells.iter().enumerate() {
+        if lock.seen() < MANY && !lost.contains(&place) {
+            let report = lock.push(*cell);
+            keep(&mut blocks, report);
+        }
+    }
+    keep(&mut blocks, lock.finish());
+    blocks
+}
+
+/// A zero block at a place, or another one.
+fn block_at(at: u64, is_zero: bool) -> Option<Given> {
+    Some(Given { at, is_zero })
+}
+
+/// The cells of two zero blocks, one behind the other.
+fn two_blocks(alloc: Global) -> Result<Vec<Level>, AllocError> {
+    let mut cells = Vec::new(alloc);
+    for subframe in 0..768 {
+        let word = slots_cells(Level::Low, mark_of(subframe % 384), 0);
+        for k in 0..64_u32 {
+            cells.push(if (word >> k) & 1 == 1 {
+                Level::High
+            } else {
+                Level::Low
+            })?;
+        }
+    }
+    Ok(cells)
+}
+
+/// Gives a cell the other level.
+fn change(cells: &mut [Level], place: usize) {
+    if let Some(cell) = cells.get_mut(place) {
+        *cell = cell.flip();
+    }
+}
+
+fn change_each(cells: &mut [Level], places: &[usize]) {
+    for place in places.iter() {
+        change(cells, *place);
+    }
+}
+
+/// Where no block of a stream begins, its cells differ from those of every block in 4 cells or more:
+/// here in 4, so it is not 5, and three changed cells make no block there, but four can. They are
+/// cells of two preambles: those of the first alone make none, and no change makes none.
+#[test]
+fn four_changed_cells_make_a_block_elsewhere(rt: HostRuntime) {
+    let mut cells = two_blocks(rt.alloc()).expect(&rt, "memory");
+    let unchanged = blocks_of(&cells, &[]);
+    change_each(&mut cells, &[132, 134]);
+    let first_changed = blocks_of(&cells, &[]);
+    change_each(&mut cells, &[24_580, 24_582]);
+    let both_changed = blocks_of(&cells, &[]);
+    let second = block_at(24_576, true);
+    assert!(rt; unchanged == [block_at(0, true), second]);
+    assert!(rt; first_changed == [second, None]);
+    assert!(rt; both_changed == [block_at(128, true), None]);
+}
+
+/// Two blocks after one level differ in 2 cells or more: here in 2, so it is not 3. And two changed
+/// cells need not take the block in which both are: between two slots they leave another.
+#[test]
+fn two_changed_cells_make_another_block(rt: HostRuntime) {
+    let mut cells = two_blocks(rt.alloc()).expect(&rt, "memory");
+    change_each(&mut cells, &[9, 10]);
+    assert!(rt; blocks_of(&cells, &[]) == [block_at(0, false), block_at(24_576, true)]);
+}
+
+/// Where at most 383 cells change, no block is given but where a frame began. It is not so however
+/// many change: 768 can make one that begins with the second subframe of a frame.
+#[test]
+fn many_changed_cells_make_a_block_at_no_frame(rt: HostRuntime) {
+    let mut cells = two_blocks(rt.alloc()).expect(&rt, "memory");
+    for subframe in 1..385_usize {
+        let start = 64 * subframe;
+        change(&mut cells, start + 5);
+        // The preamble of a block has its other cell before that one, the others behind it.
+        let at_block = subframe == 1 || subframe == 384;
+        change(&mut cells, if at_block { start + 4 } else { start + 6 });
+    }
+    assert!(rt; blocks_of(&cells, &[]) == [block_at(64, true), None]);
+}
+
+/// Where at most three cells are lost, no block is changed. Four can change one: two of its last
+/// subframe, in whose place two of the next preamble come, and two of that preamble.
+#[test]
+fn four_lost_cells_change_a_block(rt: HostRuntime) {
+    let cells = two_blocks(rt.alloc()).expect(&rt, "memory");
+    let blocks = blocks_of(&cells, &[24_521, 24_522, 24_576, 24_577]);
+    assert!(rt; blocks == [block_at(0, false), None]);
+}
+
+/// A block that is given where cells are lost stood that many cells later at most: here as many, so
+/// it is not fewer.
+#[test]
+fn a_block_stands_as_many_cells_later_as_are_lost(rt: HostRuntime) {
+    let cells = two_blocks(rt.alloc()).expect(&rt, "memory");
+    let one_lost = blocks_of(&cells, &[100]);
+    let three_lost = blocks_of(&cells, &[100, 200, 300]);
+    assert!(rt; one_lost == [block_at(24_575, true), None]);
+    assert!(rt; three_lost == [block_at(24_573, true), None]);
+}
