@@ -1,5 +1,6 @@
 -- Preambles at the start of cells, as a test and as a fact.
-use Rattle.std.proofs.Common.{◌≡◌, ℕ, ◌+◌, ◌<◌, ◌≤◌, List, [], ◌∷◌, ◌++◌, true, false, refl, length, take, drop, ap, ap₂, ◌∙◌, sym, arith, drop-drop, length-take, lit<}
+use Rattle.std.proofs.Common.{◌≡◌, ℕ, ◌+◌, ◌<◌, ◌≤◌, List, [], ◌∷◌, ◌++◌, true, false, refl, length, take, drop, ap}
+use Rattle.std.proofs.Common.{ap₂, ◌∙◌, sym, arith, drop-drop, length-take, lit<}
 use Rattle.std.proofs.lemmas.Bool.{and_parts, false_from_ne_true}
 use Rattle.std.proofs.lemmas.List.{take-append-le}
 use Rattle.aes3_cell.specs.declared.level.Level.{Level}
@@ -50,11 +51,13 @@ entry-append (x ∷ c) d h = refl
 
 pub begins-append : (m : Mark) (c d : List Level) → 8 ≤ length c → begins_with m (c ++ d) ≡ begins_with m c
 unfolding begins_with
-begins-append m c d h = ap₂ (λ x y. same_cells x (line y (mark_runs m))) (take-append-le 8 c d h) (entry-append c d (omega arith))
+begins-append m c d h = ap₂ (λ x y. same_cells x (line y (mark_runs m))) (take-append-le 8 c d h)
+    (entry-append c d (omega arith))
 
 pub any-append : (c d : List Level) → 8 ≤ length c → begins_with_any (c ++ d) ≡ begins_with_any c
 unfolding begins_with_any
-any-append c d h = let x = begins-append X c d h in let y = begins-append Y c d h in let z = begins-append Z c d h in rw (x, y, z) refl
+any-append c d h = let x = begins-append X c d h in let y = begins-append Y c d h in let z = begins-append Z c d h in
+    rw (x, y, z) refl
 
 -- the level before it
 pub stands-entry : (m : Mark) (t : Level) (c : List Level) → StandsMark m t c 0 → entry c ≡ t
@@ -75,8 +78,10 @@ pub stands-once : (m n : Mark) (t u : Level) (c : List Level) → StandsMark m t
 stands-once m n t u c a b = shapes-apart m n t u (λ k h. sym (stands-at m t c 0 k h a) ∙ stands-at n u c 0 k h b)
 
 -- the same at a place
-pub stands-drop : (m : Mark) (t : Level) (c : List Level) (p q : ℕ) → StandsMark m t (drop p c) q → StandsMark m t c (p + q)
+pub stands-drop : (m : Mark) (t : Level) (c : List Level) (p q : ℕ) → StandsMark m t (drop p c) q
+    → StandsMark m t c (p + q)
 stands-drop m t c p q z = record { is = ap (take 8) (sym (drop-drop q p c)) ∙ z.is }
 
-pub drop-stands : (m : Mark) (t : Level) (c : List Level) (p q : ℕ) → StandsMark m t c (p + q) → StandsMark m t (drop p c) q
+pub drop-stands : (m : Mark) (t : Level) (c : List Level) (p q : ℕ) → StandsMark m t c (p + q)
+    → StandsMark m t (drop p c) q
 drop-stands m t c p q z = record { is = ap (take 8) (drop-drop q p c) ∙ z.is }

@@ -1,12 +1,15 @@
 -- The bits of a number as a list.
-use Rattle.std.proofs.Common.{lit<, ◌≡◌, ℕ, zero, suc, ◌+◌, ◌-◌, ◌*◌, ◌/◌, ◌%◌, ◌^◌, ◌<◌, ◌≤◌, ◌⊎◌, inl, inr, min, List, [], ◌∷◌, ◌++◌, Bool, true, false, not, cond, length, get_or, eqb, refl, sym, ap, ap₂, ◌∙◌, arith}
+use Rattle.std.proofs.Common.{lit<, ◌≡◌, ℕ, zero, suc, ◌+◌, ◌-◌, ◌*◌, ◌/◌, ◌%◌, ◌^◌, ◌<◌, ◌≤◌, ◌⊎◌, inl, inr, min, List}
+use Rattle.std.proofs.Common.{[], ◌∷◌, ◌++◌, Bool, true, false, not, cond, length, get_or, eqb, refl, sym, ap, ap₂, ◌∙◌}
+use Rattle.std.proofs.Common.{arith}
 use mir.Val.{bool_byte}
 use Rattle.std.specs.Prelude.{bit_or, count_ones}
 use Rattle.std.specs.Int.{bit_at}
 use Rattle.std.specs.Int.Count.{ones_step}
 use Rattle.std.proofs.lemmas.Bool.{cases_lt}
 use Rattle.std.proofs.lemmas.Nat.{and_mask, mod_below, pow_pos, ones_le_self, shr-shr, or_comm, or_shifted, shl_whole}
-use Rattle.std.proofs.lemmas.Nat.Bits.{same_from_bits, bit_at_and, bit_at_ones, bit_at_above, bit_at-lt, bit_at_lowest, bit_at-suc, bit_at_cat_low, bit_at_cat_high}
+use Rattle.std.proofs.lemmas.Nat.Bits.{same_from_bits, bit_at_and, bit_at_ones, bit_at_above, bit_at-lt, bit_at_lowest}
+use Rattle.std.proofs.lemmas.Nat.Bits.{bit_at-suc, bit_at_cat_low, bit_at_cat_high}
 use Rattle.std.proofs.Math.Nat.{pow-succ'}
 use Rattle.aes3_slot.specs.Bits.{low_bits, number, odd_ones}
 use Rattle.aes3_slot.specs.Slots.{with_parity}
@@ -19,7 +22,8 @@ length-low_bits (suc n) w = ap suc (length-low_bits n (w / 2))
 pub low_bits-suc : (n w : ℕ) → low_bits (suc n) w ≡ low_bits n w ++ eqb (bit_at w n) 1 ∷ []
 low_bits-suc zero w = ap (λ b. eqb b 1 ∷ []) (sym (bit_at_lowest w))
 low_bits-suc (suc n) w =
-    ap (λ c. eqb (w % 2) 1 ∷ c) (low_bits-suc n (w / 2) ∙ ap (λ b. low_bits n (w / 2) ++ eqb b 1 ∷ []) (sym (bit_at-suc w n)))
+    ap (λ c. eqb (w % 2) 1 ∷ c) (low_bits-suc n (w / 2)
+    ∙ ap (λ b. low_bits n (w / 2) ++ eqb b 1 ∷ []) (sym (bit_at-suc w n)))
 
 -- the lowest bits alone count
 pub low_bits-same : (n a b : ℕ) → ((i : ℕ) → i < n → bit_at a i ≡ bit_at b i) → low_bits n a ≡ low_bits n b
@@ -38,7 +42,8 @@ low_bits-add (suc m) n w =
     let a : suc m + n ≡ suc (m + n) = omega arith in
     let b : 1 + m ≡ suc m = omega arith in
     ap (λ k. low_bits k w) a
-    ∙ ap (λ c. eqb (w % 2) 1 ∷ c) (low_bits-add m n (w / 2) ∙ ap (λ v. low_bits m (w / 2) ++ low_bits n v) (shr-shr w 1 m ∙ ap (λ k. w / 2 ^ k) b))
+    ∙ ap (λ c. eqb (w % 2) 1 ∷ c) (low_bits-add m n (w / 2)
+    ∙ ap (λ v. low_bits m (w / 2) ++ low_bits n v) (shr-shr w 1 m ∙ ap (λ k. w / 2 ^ k) b))
 
 -- the parity of a number of n bits
 pub odd_ones-low_bits : (n w : ℕ) → w < 2 ^ n → eqb (count_ones w % 2) 1 ≡ odd_ones (low_bits n w)
@@ -47,9 +52,11 @@ odd_ones-low_bits zero w h =
     ap (λ k. eqb (k % 2) 1) e
 odd_ones-low_bits (suc n) w h =
     let p = pow-succ' 2 n in
-    ap (λ k. eqb (k % 2) 1) (ones_step w) ∙ go (w % 2) (omega arith) (count_ones (w / 2)) (low_bits n (w / 2)) (odd_ones-low_bits n (w / 2) (omega arith))
+    ap (λ k. eqb (k % 2) 1) (ones_step w)
+    ∙ go (w % 2) (omega arith) (count_ones (w / 2)) (low_bits n (w / 2)) (odd_ones-low_bits n (w / 2) (omega arith))
   where
-    go : (b : ℕ) → b < 2 → (k : ℕ) (bits : List Bool) → eqb (k % 2) 1 ≡ odd_ones bits → eqb ((b + k) % 2) 1 ≡ odd_ones (eqb b 1 ∷ bits)
+    go : (b : ℕ) → b < 2 → (k : ℕ) (bits : List Bool) → eqb (k % 2) 1 ≡ odd_ones bits
+        → eqb ((b + k) % 2) 1 ≡ odd_ones (eqb b 1 ∷ bits)
     go zero g k bits i = ap (λ z. eqb (z % 2) 1) (let e : 0 + k ≡ k = omega arith in e) ∙ i
     go (suc zero) g k bits i = step (k % 2) refl (omega arith) ∙ ap not i
       where
@@ -60,20 +67,23 @@ odd_ones-low_bits (suc n) w h =
     go (suc (suc b)) g k bits i = absurd (omega arith)
 
 -- a payload with a bit put above it
-pub low_bits-above : (n w p : ℕ) → w < 2 ^ n → p < 2 → low_bits (suc n) (bit_or w (p * 2 ^ n)) ≡ low_bits n w ++ eqb p 1 ∷ []
+pub low_bits-above : (n w p : ℕ) → w < 2 ^ n → p < 2
+    → low_bits (suc n) (bit_or w (p * 2 ^ n)) ≡ low_bits n w ++ eqb p 1 ∷ []
 low_bits-above n w p h g =
     let e : bit_or w (p * 2 ^ n) ≡ p * 2 ^ n + w = or_comm w (p * 2 ^ n) ∙ or_shifted p n w h in
     let z : p / 2 ^ 0 % 2 ≡ p = omega arith in
     low_bits-suc n (bit_or w (p * 2 ^ n))
     ∙ ap₂ (λ c b. c ++ eqb b 1 ∷ [])
     (ap (low_bits n) e ∙ low_bits-same n (p * 2 ^ n + w) w (λ i lt. bit_at_cat_low p n w i lt))
-    (ap (λ v. bit_at v n) e ∙ bit_at_cat_high p n w n h (omega arith) ∙ ap (λ k. bit_at p k) (let q : n - n ≡ 0 = omega arith in q) ∙ z)
+    (ap (λ v. bit_at v n) e ∙ bit_at_cat_high p n w n h (omega arith)
+    ∙ ap (λ k. bit_at p k) (let q : n - n ≡ 0 = omega arith in q) ∙ z)
 
 -- a payload with its parity bit put above it
 pub low_bits-with_parity : (n m w p : ℕ) (b : Bool) → n < m → w < 2 ^ n → p ≡ bool_byte b → b ≡ odd_ones (low_bits n w)
     → low_bits (suc n) (bit_or w (p * 2 ^ n % 2 ^ m)) ≡ with_parity (low_bits n w)
 low_bits-with_parity n m w p b l h e f =
-    ap (λ x. low_bits (suc n) (bit_or w x)) (shl_whole p 1 n m (few b e) (omega arith)) ∙ low_bits-above n w p h (few b e)
+    ap (λ x. low_bits (suc n) (bit_or w x)) (shl_whole p 1 n m (few b e) (omega arith))
+    ∙ low_bits-above n w p h (few b e)
     ∙ ap (λ x. low_bits n w ++ x ∷ []) (one b e ∙ f)
   where
     few : (b : Bool) → p ≡ bool_byte b → p < 2
@@ -97,7 +107,8 @@ number-low_bits (suc n) w h =
     let p = pow-succ' 2 n in
     go (w % 2) refl (omega arith) (number-low_bits n (w / 2) (omega arith))
   where
-    go : (b : ℕ) → w % 2 ≡ b → b < 2 → number (low_bits n (w / 2)) ≡ w / 2 → cond (eqb (w % 2) 1) 1 0 + 2 * number (low_bits n (w / 2)) ≡ w
+    go : (b : ℕ) → w % 2 ≡ b → b < 2 → number (low_bits n (w / 2)) ≡ w / 2
+        → cond (eqb (w % 2) 1) 1 0 + 2 * number (low_bits n (w / 2)) ≡ w
     go zero e l i = rw e (omega (arith, i))
     go (suc zero) e l i = rw e (omega (arith, i))
     go (suc (suc b)) e l i = absurd (omega arith)
@@ -141,6 +152,8 @@ lt-from-bits n m w l h =
     bit : (i : ℕ) → (i < n) ⊎ (n ≤ i) → (i < m) ⊎ (m ≤ i) → bit_at w i ≡ bit_at (w % 2 ^ n) i
     bit i (inl a) b =
         let x = bit_at-lt w i in
-        sym (ap (λ v. bit_at v i) (sym (and_mask w n)) ∙ bit_at_and w (2 ^ n - 1) i ∙ ap (min (bit_at w i)) (bit_at_ones n i a) ∙ omega arith)
+        sym (ap (λ v. bit_at v i) (sym (and_mask w n)) ∙ bit_at_and w (2 ^ n - 1) i
+        ∙ ap (min (bit_at w i)) (bit_at_ones n i a) ∙ omega arith)
     bit i (inr a) (inl b) = h i a b ∙ sym (bit_at_above (w % 2 ^ n) n i (mod_below w (2 ^ n) (pow_pos n)) a)
-    bit i (inr a) (inr b) = bit_at_above w m i l b ∙ sym (bit_at_above (w % 2 ^ n) n i (mod_below w (2 ^ n) (pow_pos n)) a)
+    bit i (inr a) (inr b) = bit_at_above w m i l b
+        ∙ sym (bit_at_above (w % 2 ^ n) n i (mod_below w (2 ^ n) (pow_pos n)) a)

@@ -1,5 +1,7 @@
 -- The cells of subframes are those that keep the local rule at each index.
-use Rattle.std.proofs.Common.{◌≡◌, ℕ, zero, suc, ◌+◌, ◌-◌, ◌*◌, ◌/◌, ◌%◌, ◌<◌, ◌≤◌, ◌⊎◌, inl, inr, List, [], ◌∷◌, ◌++◌, Bool, refl, length, take, drop, ap, ap₂, ◌∙◌, sym, subst, arith, length-append, take-append-drop, length-drop, length-take-le, take-add, ext_get_or}
+use Rattle.std.proofs.Common.{◌≡◌, ℕ, zero, suc, ◌+◌, ◌-◌, ◌*◌, ◌/◌, ◌%◌, ◌<◌, ◌≤◌, ◌⊎◌, inl, inr, List, [], ◌∷◌, ◌++◌}
+use Rattle.std.proofs.Common.{Bool, refl, length, take, drop, ap, ap₂, ◌∙◌, sym, subst, arith, length-append}
+use Rattle.std.proofs.Common.{take-append-drop, length-drop, length-take-le, take-add, ext_get_or}
 use Rattle.std.proofs.lemmas.List.{get_or_append_left, get_or-append-add}
 use Rattle.std.proofs.lemmas.Bool.{cases_lt}
 use Rattle.aes3_cell.specs.declared.level.Level.{Level}
@@ -10,7 +12,8 @@ use Rattle.aes3_slot.specs.Slots.{bits_runs, mark_runs, runs_of, slot_runs}
 use Rattle.aes3_slot.specs.Rules.{at, before, Kept, AllKept, Each28}
 use Rattle.aes3_cell.proofs.Runs.{line-append}
 use Rattle.aes3_slot.proofs.Subframes.{line-slots}
-use Rattle.aes3_slot.proofs.Index.{subframe, subframe-length, subframe-preamble, subframe-slot, subframe-last, read-bits, length-mark, last-mark, before-append_right, before-append_left}
+use Rattle.aes3_slot.proofs.Index.{subframe, subframe-length, subframe-preamble, subframe-slot, subframe-last}
+use Rattle.aes3_slot.proofs.Index.{read-bits, length-mark, last-mark, before-append_right, before-append_left}
 
 -- the rule after a whole subframe is the rule of what follows it
 pub kept-shift : (marks : ℕ → Mark) (s u : Level) (a b : List Level) (n : ℕ) → length a ≡ 64 → before s a 64 ≡ u
@@ -48,7 +51,8 @@ kept-first marks s bits b i l h =
 
 -- one more subframe at the front
 kept-join : (marks : ℕ → Mark) (s : Level) (bits : List Bool) (b : List Level) → length bits ≡ 28
-    → AllKept (λ j. marks (suc j)) (after s (slot_runs (marks 0) bits)) b → AllKept marks s (subframe s (marks 0) bits ++ b)
+    → AllKept (λ j. marks (suc j)) (after s (slot_runs (marks 0) bits)) b
+    → AllKept marks s (subframe s (marks 0) bits ++ b)
 kept-join marks s bits b e k i h = go (cases_lt i 64)
   where
     go : (i < 64) ⊎ (64 ≤ i) → Kept marks s (subframe s (marks 0) bits ++ b) i
@@ -57,10 +61,12 @@ kept-join marks s bits b e k i h = go (cases_lt i 64)
         let l = subframe-length s (marks 0) bits e in
         let z = length-append (subframe s (marks 0) bits) b in
         let m : 64 + (i - 64) ≡ i = omega arith in
-        rw m at (kept-shift marks s (after s (slot_runs (marks 0) bits)) (subframe s (marks 0) bits) b (i - 64) l (subframe-last s (marks 0) bits e)
+        rw m at (kept-shift marks s (after s (slot_runs (marks 0) bits)) (subframe s (marks 0) bits) b (i - 64) l
+        (subframe-last s (marks 0) bits e)
         (k (i - 64) (omega (arith, z, l, h, g))))
 
-pub kept-runs : (marks : ℕ → Mark) (s : Level) (ps : List (List Bool)) → Each28 ps → AllKept marks s (line s (runs_of marks ps))
+pub kept-runs : (marks : ℕ → Mark) (s : Level) (ps : List (List Bool)) → Each28 ps
+    → AllKept marks s (line s (runs_of marks ps))
 kept-runs marks s [] e = λ i h. absurd (omega arith)
 kept-runs marks s (bits ∷ more) e =
     let u = after s (slot_runs (marks 0) bits) in
@@ -70,14 +76,16 @@ kept-runs marks s (bits ∷ more) e =
     (kept-runs (λ j. marks (suc j)) u more e.1))
 
 -- cells behind count for nothing
-pub kept-append : (marks : ℕ → Mark) (s : Level) (a b : List Level) (i : ℕ) → i < length a → Kept marks s a i → Kept marks s (a ++ b) i
+pub kept-append : (marks : ℕ → Mark) (s : Level) (a b : List Level) (i : ℕ) → i < length a → Kept marks s a i
+    → Kept marks s (a ++ b) i
 kept-append marks s a b i h r =
     let f : at (a ++ b) i ≡ at a i = get_or_append_left a b Low i h in
     let g1 = before-append_left s a b i (omega arith) in
     let g2 = before-append_left s a b (64 * (i / 64)) (omega arith) in
     record { preamble = λ p. rw (f, g2) (r.preamble p); slot = λ p q. rw (f, g1) (r.slot p q) }
 
-pub kept-left : (marks : ℕ → Mark) (s : Level) (a b : List Level) (i : ℕ) → i < length a → Kept marks s (a ++ b) i → Kept marks s a i
+pub kept-left : (marks : ℕ → Mark) (s : Level) (a b : List Level) (i : ℕ) → i < length a → Kept marks s (a ++ b) i
+    → Kept marks s a i
 kept-left marks s a b i h r =
     let f : at (a ++ b) i ≡ at a i = get_or_append_left a b Low i h in
     let g1 = before-append_left s a b i (omega arith) in
@@ -108,7 +116,8 @@ kept-rest marks s u a b l e k n h =
     }
 
 -- 64 cells that keep the rule are a subframe
-pub read-one : (marks : ℕ → Mark) (s : Level) (a b : List Level) → length a ≡ 8 → length b ≡ 56 → AllKept marks s (a ++ b)
+pub read-one : (marks : ℕ → Mark) (s : Level) (a b : List Level) → length a ≡ 8 → length b ≡ 56
+    → AllKept marks s (a ++ b)
     → (bits : List Bool) × (length bits ≡ 28) × (a ++ b ≡ subframe s (marks 0) bits)
 read-one marks s a b la lb k = (r.0, r.1, ap₂ (λ x y. x ++ y) preamble r.2 ∙ sym (line-slots s (marks 0) r.0))
   where
@@ -125,7 +134,8 @@ read-one marks s a b la lb k = (r.0, r.1, ap₂ (λ x y. x ++ y) preamble r.2 �
         sym f ∙ (rw (q, w) at ((k i (omega (arith, z, la, h))).preamble (omega (arith, la, h)))))
 
     start : before s a (length a) ≡ s
-    start = ap (λ x. before s x (length a)) preamble ∙ ap (before s (line s (mark_runs (marks 0)))) la ∙ last-mark s (marks 0)
+    start = ap (λ x. before s x (length a)) preamble ∙ ap (before s (line s (mark_runs (marks 0)))) la
+        ∙ last-mark s (marks 0)
 
     r : (bits : List Bool) × (length bits ≡ 28) × (b ≡ line s (bits_runs bits))
     r = read-bits 28 s b lb (λ j h.
@@ -139,22 +149,27 @@ read-one marks s a b la lb k = (r.0, r.1, ap₂ (λ x y. x ++ y) preamble r.2 �
 abbrev Read : (ℕ → Mark) → ℕ → Level → List Level → Type 0
 Read marks n s c = (ps : List (List Bool)) × (length ps ≡ n) × Each28 ps × (c ≡ line s (runs_of marks ps))
 
-read-more : (marks : ℕ → Mark) (n : ℕ) (s : Level) (a b d : List Level) → length a ≡ 8 → length b ≡ 56 → AllKept marks s ((a ++ b) ++ d)
-    → ((u : Level) → AllKept (λ j. marks (suc j)) u d → Read (λ j. marks (suc j)) n u d) → Read marks (suc n) s ((a ++ b) ++ d)
+read-more : (marks : ℕ → Mark) (n : ℕ) (s : Level) (a b d : List Level) → length a ≡ 8 → length b ≡ 56
+    → AllKept marks s ((a ++ b) ++ d)
+    → ((u : Level) → AllKept (λ j. marks (suc j)) u d → Read (λ j. marks (suc j)) n u d)
+    → Read marks (suc n) s ((a ++ b) ++ d)
 read-more marks n s a b d la lb k rest = go r.0 r.1 r.2
   where
     r : (bits : List Bool) × (length bits ≡ 28) × (a ++ b ≡ subframe s (marks 0) bits)
     r = read-one marks s a b la lb (kept-front marks s (a ++ b) d k)
 
-    go : (bits : List Bool) → length bits ≡ 28 → a ++ b ≡ subframe s (marks 0) bits → Read marks (suc n) s ((a ++ b) ++ d)
+    go : (bits : List Bool) → length bits ≡ 28 → a ++ b ≡ subframe s (marks 0) bits
+        → Read marks (suc n) s ((a ++ b) ++ d)
     go bits l e =
         let u = after s (slot_runs (marks 0) bits) in
         let k' : AllKept marks s (subframe s (marks 0) bits ++ d) = subst (λ x. AllKept marks s (x ++ d)) e k in
-        let more = rest u (kept-rest marks s u (subframe s (marks 0) bits) d (subframe-length s (marks 0) bits l) (subframe-last s (marks 0) bits l) k') in (
+        let more = rest u (kept-rest marks s u (subframe s (marks 0) bits) d (subframe-length s (marks 0) bits l)
+        (subframe-last s (marks 0) bits l) k') in (
           bits ∷ more.0,
           ap suc more.1,
           (l, more.2),
-          ap₂ (λ x y. x ++ y) e more.3 ∙ sym (line-append s (slot_runs (marks 0) bits) (runs_of (λ j. marks (suc j)) more.0)),
+          ap₂ (λ x y. x ++ y) e more.3
+              ∙ sym (line-append s (slot_runs (marks 0) bits) (runs_of (λ j. marks (suc j)) more.0)),
         )
 
 pub read-runs : (marks : ℕ → Mark) (n : ℕ) (s : Level) (c : List Level) → length c ≡ 64 * n → AllKept marks s c
@@ -166,7 +181,8 @@ read-runs marks (suc n) s c l k =
     let la : length (take 8 c) ≡ 8 = length-take-le 8 c (omega arith) in
     let lb : length (take 56 (drop 8 c)) ≡ 56 = length-take-le 56 (drop 8 c) (omega (arith, l8, l)) in
     let ld : length (drop 64 c) ≡ 64 * n = length-drop 64 c ∙ omega (arith, l) in
-    let whole : c ≡ (take 8 c ++ take 56 (drop 8 c)) ++ drop 64 c = sym {b = c} (take-append-drop 64 c) ∙ ap (λ x. x ++ drop 64 c) (take-add 8 56 c) in
+    let whole : c ≡ (take 8 c ++ take 56 (drop 8 c)) ++ drop 64 c = sym {b = c} (take-append-drop 64 c)
+    ∙ ap (λ x. x ++ drop 64 c) (take-add 8 56 c) in
     subst (Read marks (suc n) s) (sym whole)
     (read-more marks n s (take 8 c) (take 56 (drop 8 c)) (drop 64 c) la lb (subst (AllKept marks s) whole k)
     (λ u. read-runs (λ j. marks (suc j)) n u (drop 64 c) ld))

@@ -1,5 +1,7 @@
 -- Away from its own place a block differs from a line in many cells.
-use Rattle.std.proofs.Common.{◌≡◌, ◌≢◌, ℕ, zero, suc, ◌+◌, ◌*◌, ◌/◌, ◌%◌, ◌<◌, ◌≤◌, ◌⊎◌, inl, inr, List, refl, length, take, drop, ap, ◌∙◌, sym, arith, length-drop, length-take-le, ext_get_or, get_or-take, get_or-drop, lit<}
+use Rattle.std.proofs.Common.{◌≡◌, ◌≢◌, ℕ, zero, suc, ◌+◌, ◌*◌, ◌/◌, ◌%◌, ◌<◌, ◌≤◌, ◌⊎◌, inl, inr, List, refl, length}
+use Rattle.std.proofs.Common.{take, drop, ap, ◌∙◌, sym, arith, length-drop, length-take-le, ext_get_or, get_or-take}
+use Rattle.std.proofs.Common.{get_or-drop, lit<}
 use Rattle.std.proofs.lemmas.Bool.{cases_eq}
 use Rattle.aes3_cell.specs.declared.level.Level.{Level}
 use Rattle.aes3_cell.specs.declared.level.Level.TheVariants.{Low, High}
@@ -12,7 +14,7 @@ use Rattle.aes3_slot.proofs.Index.{length-mark}
 use Rattle.aes3_slot.proofs.Aligned.{aligned}
 
 -- two cells are equal or not
-equal-or : (a b : Level) → (a ≡ b) ⊎ (a ≡ b → ⊥)
+pub equal-or : (a b : Level) → (a ≡ b) ⊎ (a ≡ b → ⊥)
 equal-or Low Low = inl refl
 equal-or Low High = inr (λ e. cc)
 equal-or High Low = inr (λ e. cc)
@@ -33,17 +35,20 @@ differ-some (suc n) f g = go (differ-some n f g) (equal-or (f n) (g n))
         all k h (inl q) = ap f q ∙ e ∙ ap g (sym q)
         all k h (inr q) = a k (omega arith)
 
-pub stands-from : (m : Mark) (t : Level) (d : List Level) (p : ℕ) → p + 8 ≤ length d → ((k : ℕ) → k < 8 → at d (p + k) ≡ shape m k t) → StandsMark m t d p
+pub stands-from : (m : Mark) (t : Level) (d : List Level) (p : ℕ) → p + 8 ≤ length d
+    → ((k : ℕ) → k < 8 → at d (p + k) ≡ shape m k t) → StandsMark m t d p
 stands-from m t d p r e =
     let l = length-drop p d in
     let n : length (take 8 (drop p d)) ≡ 8 = length-take-le 8 (drop p d) (omega (arith, l, r)) in
     let w = length-mark t m in
     record {
       is = ext_get_or Low (take 8 (drop p d)) (line t (mark_runs m)) (n ∙ sym w)
-          (λ i h. get_or-take 8 (drop p d) i Low (omega (arith, n, h)) ∙ get_or-drop p d i Low ∙ e i (omega (arith, n, h)));
+          (λ i h. get_or-take 8 (drop p d) i Low (omega (arith, n, h)) ∙ get_or-drop p d i Low
+          ∙ e i (omega (arith, n, h)));
     }
 
-module _ (marks own : ℕ → Mark) (s t : Level) (d e : List Level) (kd : AllKept marks s d) (ke : AllKept own t e) (p : ℕ) (off : p % 64 ≡ 0 → ⊥) where
+module _ (marks own : ℕ → Mark) (s t : Level) (d e : List Level) (kd : AllKept marks s d) (ke : AllKept own t e) (p : ℕ)
+    (off : p % 64 ≡ 0 → ⊥) where
   -- a preamble of the block has no place there
   pub preamble-apart : (j : ℕ) → p + 64 * j + 8 ≤ length d → 64 * j + 8 ≤ length e
       → (k : ℕ) × (k < 8) × (at d (p + 64 * j + k) ≡ at e (64 * j + k) → ⊥)
@@ -55,7 +60,8 @@ module _ (marks own : ℕ → Mark) (s t : Level) (d e : List Level) (kd : AllKe
           let b : (64 * j + k) % 64 ≡ k = omega arith in
           rw (b, a) at ((ke (64 * j + k) (omega (arith, re, h))).preamble (omega arith))
 
-      go : ((k : ℕ) × (k < 8) × (at d (p + 64 * j + k) ≡ at e (64 * j + k) → ⊥)) ⊎ ((k : ℕ) → k < 8 → at d (p + 64 * j + k) ≡ at e (64 * j + k))
+      go : ((k : ℕ) × (k < 8) × (at d (p + 64 * j + k) ≡ at e (64 * j + k) → ⊥))
+          ⊎ ((k : ℕ) → k < 8 → at d (p + 64 * j + k) ≡ at e (64 * j + k))
           → (k : ℕ) × (k < 8) × (at d (p + 64 * j + k) ≡ at e (64 * j + k) → ⊥)
       go (inl r) = r
       go (inr a) =
@@ -65,7 +71,8 @@ module _ (marks own : ℕ → Mark) (s t : Level) (d e : List Level) (kd : AllKe
 
   -- so at least three cells differ
   pub three-apart : p + 136 ≤ length d → 136 ≤ length e
-      → (i j k : ℕ) × (i < j) × (j < k) × (k < 136) × (at d (p + i) ≢ at e i) × (at d (p + j) ≢ at e j) × (at d (p + k) ≢ at e k)
+      → (i j k : ℕ) × (i < j) × (j < k) × (k < 136) × (at d (p + i) ≢ at e i) × (at d (p + j) ≢ at e j)
+      × (at d (p + k) ≢ at e k)
   three-apart rd re =
       let a = preamble-apart 0 (omega arith) (omega arith) in
       let b = preamble-apart 1 (omega arith) (omega arith) in
@@ -73,12 +80,23 @@ module _ (marks own : ℕ → Mark) (s t : Level) (d e : List Level) (kd : AllKe
       let ah = a.1 in
       let bh = b.1 in
       let ch = c.1 in
-      let move = λ (j k : ℕ) (n : at d (p + 64 * j + k) ≡ at e (64 * j + k) → ⊥) (q : at d (p + (64 * j + k)) ≡ at e (64 * j + k)).
-      n (ap (at d) (let y : p + 64 * j + k ≡ p + (64 * j + k) = omega arith in y) ∙ q) in
-      (64 * 0 + a.0, 64 * 1 + b.0, 64 * 2 + c.0, omega arith, omega arith, omega arith, move 0 a.0 a.2, move 1 b.0 b.2, move 2 c.0 c.2)
+      let move = λ (j k : ℕ) (n : at d (p + 64 * j + k) ≡ at e (64 * j + k)
+      → ⊥) (q : at d (p + (64 * j + k)) ≡ at e (64 * j + k)).
+      n (ap (at d) (let y : p + 64 * j + k ≡ p + (64 * j + k) = omega arith in y) ∙ q) in (
+        64 * 0 + a.0,
+        64 * 1 + b.0,
+        64 * 2 + c.0,
+        omega arith,
+        omega arith,
+        omega arith,
+        move 0 a.0 a.2,
+        move 1 b.0 b.2,
+        move 2 c.0 c.2,
+      )
 
 -- the cells of two different preambles differ in two places at least, whatever the levels
-pub two-apart : (m n : Mark) (t u : Level) → (m ≡ n → ⊥) → (i j : ℕ) × (i < j) × (j < 8) × (shape m i t ≢ shape n i u) × (shape m j t ≢ shape n j u)
+pub two-apart : (m n : Mark) (t u : Level) → (m ≡ n → ⊥) → (i j : ℕ) × (i < j) × (j < 8) × (shape m i t ≢ shape n i u)
+    × (shape m j t ≢ shape n j u)
 two-apart X X t u h = absurd (h refl)
 two-apart Y Y t u h = absurd (h refl)
 two-apart Z Z t u h = absurd (h refl)
@@ -108,7 +126,8 @@ two-apart Z Y Low High h = (0, 1, lit< tt, lit< tt, λ e. cc, λ e. cc)
 two-apart Z Y High Low h = (0, 1, lit< tt, lit< tt, λ e. cc, λ e. cc)
 
 -- cell k of the preamble of subframe j
-pub own-cell : (own : ℕ → Mark) (s : Level) (c : List Level) → AllKept own s c → (j k : ℕ) → 64 * j + 8 ≤ length c → k < 8
+pub own-cell : (own : ℕ → Mark) (s : Level) (c : List Level) → AllKept own s c → (j k : ℕ)
+    → 64 * j + 8 ≤ length c → k < 8
     → at c (64 * j + k) ≡ shape (own j) k (before s c (64 * j))
 own-cell own s c a j k r h =
     let x : (64 * j + k) / 64 ≡ j = omega arith in

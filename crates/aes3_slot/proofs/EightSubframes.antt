@@ -1,5 +1,6 @@
 -- The cells of eight subframes that can't stand where they are, lane by lane.
-use Rattle.std.proofs.Common.{◌≡◌, ℕ, zero, suc, ◌*◌, ◌%◌, ◌^◌, ◌<◌, List, [], ◌∷◌, Bool, true, false, not, length, get_or, replicate, refl, sym, ap, ap₂, ◌∙◌, subst, arith}
+use Rattle.std.proofs.Common.{◌≡◌, ℕ, zero, suc, ◌*◌, ◌%◌, ◌^◌, ◌<◌, List, [], ◌∷◌, Bool, true, false, not, length}
+use Rattle.std.proofs.Common.{get_or, replicate, refl, sym, ap, ap₂, ◌∙◌, subst, arith}
 use Rattle.std.specs.Prelude.{bit_and, bit_or, bit_xor, if◌then◌else◌}
 use Rattle.std.specs.Int.{bit_at}
 use Rattle.std.specs.Simd.Lanes.{zip2}
@@ -38,7 +39,8 @@ pub record Expected (s : Level) (m : Mark) (word : ℕ) : Type 0 where
   pub cells : low_cells 8 preamble ≡ line s (mark_runs m)
   pub last : level_of (bit_at preamble 63) ≡ s
 
-module _ (s : Level) (m : ℕ → Mark) (v ps : List ℕ) (lv : length v ≡ 8) (lp : length ps ≡ 8) (fit : (i : ℕ) → i < 8 → get_or v i 0 < 2 ^ 64)
+module _ (s : Level) (m : ℕ → Mark) (v ps : List ℕ) (lv : length v ≡ 8) (lp : length ps ≡ 8) (fit : (i : ℕ) → i < 8
+    → get_or v i 0 < 2 ^ 64)
     (marks : (i : ℕ) → i < 8 → Expected s (m i) (get_or ps i 0)) where
   abbrev moved : List ℕ
   moved = zip2 (λ x s. x * 2 ^ s % 2 ^ 64) v (replicate 8 1)
@@ -65,7 +67,8 @@ module _ (s : Level) (m : ℕ → Mark) (v ps : List ℕ) (lv : length v ≡ 8) 
   l-other = length-zip2 bit_xor turns ps (l-turns ∙ sym lp) ∙ l-turns
 
   lane : (i : ℕ) → i < 8 → get_or (zip2 bit_and other_than (replicate 8 15372286728091293183)) i 0
-      ≡ bit_and (bit_xor (bit_xor (bit_and (get_or v i 0 * 2 ^ 1 % 2 ^ 64) 6148914691236517120) (get_or v i 0)) (get_or ps i 0)) 15372286728091293183
+      ≡ bit_and (bit_xor (bit_xor (bit_and (get_or v i 0 * 2 ^ 1 % 2 ^ 64) 6148914691236517120) (get_or v i 0))
+      (get_or ps i 0)) 15372286728091293183
   lane i h =
       get_or-zip2 bit_and other_than (replicate 8 15372286728091293183) i 0 0 0 (omega (arith, h, l-other)) h
       ∙ ap₂ bit_and
@@ -80,17 +83,23 @@ module _ (s : Level) (m : ℕ → Mark) (v ps : List ℕ) (lv : length v ≡ 8) 
       (get_or-replicate 8 i 6148914691236517120 0 h))))
       (get_or-replicate 8 i 15372286728091293183 0 h)
 
-  pub wrong-lanes : InLanes (zip2 bit_and other_than (replicate 8 15372286728091293183)) (λ i k. not (stands_even s (m i) (word_cells (get_or v i 0)) k))
+  pub wrong-lanes : InLanes (zip2 bit_and other_than (replicate 8 15372286728091293183))
+      (λ i k. not (stands_even s (m i) (word_cells (get_or v i 0)) k))
   unfolding word_cells word_len
   wrong-lanes = record {
     count = length-zip2 bit_and other_than (replicate 8 15372286728091293183) l-other ∙ l-other;
     fit = λ i h. subst (λ n. n < 2 ^ 64) (sym (lane i h))
-        (let a = and_le_r (bit_xor (bit_xor (bit_and (get_or v i 0 * 2 ^ 1 % 2 ^ 64) 6148914691236517120) (get_or v i 0)) (get_or ps i 0)) 15372286728091293183 in
+        (let a = and_le_r
+        (bit_xor (bit_xor (bit_and (get_or v i 0 * 2 ^ 1 % 2 ^ 64) 6148914691236517120) (get_or v i 0))
+        (get_or ps i 0)) 15372286728091293183 in
         omega (arith, a));
     bits = λ i k h g.
         let e = marks i h in
         ap (λ n. bit_at n k)
-        (lane i h ∙ ap (λ x. bit_and (bit_xor (bit_xor (bit_and (get_or v i 0 * 2 ^ 1 % 2 ^ 64) 6148914691236517120) (get_or v i 0)) x) 15372286728091293183) e.is)
+        (lane i h ∙ ap
+        (λ x. bit_and
+        (bit_xor (bit_xor (bit_and (get_or v i 0 * 2 ^ 1 % 2 ^ 64) 6148914691236517120)
+        (get_or v i 0)) x) 15372286728091293183) e.is)
         ∙ wrong-even-bit s (m i) (get_or v i 0) e.preamble k (fit i h) e.cells e.last g
         ∙ says-not (stands_even s (m i) (word_cells (get_or v i 0)) k);
   }

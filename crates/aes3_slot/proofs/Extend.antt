@@ -1,5 +1,6 @@
 -- Cells that keep the rule go on to whole subframes.
-use Rattle.std.proofs.Common.{◌≡◌, ℕ, zero, suc, ◌-◌, ◌*◌, ◌/◌, ◌%◌, ◌<◌, ◌≤◌, ◌⊎◌, inl, inr, List, [], ◌∷◌, ◌++◌, Bool, refl, length, ap, sym, subst, arith, length-append, append_assoc, append-nil}
+use Rattle.std.proofs.Common.{◌≡◌, ℕ, zero, suc, ◌-◌, ◌*◌, ◌/◌, ◌%◌, ◌<◌, ◌≤◌, ◌⊎◌, inl, inr, List, [], ◌∷◌, ◌++◌, Bool}
+use Rattle.std.proofs.Common.{refl, length, ap, sym, subst, arith, length-append, append_assoc, append-nil}
 use Rattle.std.proofs.lemmas.Bool.{cases_lt}
 use Rattle.std.proofs.lemmas.List.{get_or_push}
 use Rattle.aes3_cell.specs.declared.level.Level.{Level}
@@ -22,7 +23,8 @@ kept-new marks s c x h g =
     let b = before-append_left s c (x ∷ []) (64 * (length c / 64)) (omega arith) in
     record { preamble = λ p. rw (f, b) (h p); slot = λ p q. rw (f, a) (g p q) }
 
-pub kept-push : (marks : ℕ → Mark) (s : Level) (c : List Level) (x : Level) → AllKept marks s c → Kept marks s (c ++ x ∷ []) (length c)
+pub kept-push : (marks : ℕ → Mark) (s : Level) (c : List Level) (x : Level) → AllKept marks s c
+    → Kept marks s (c ++ x ∷ []) (length c)
     → AllKept marks s (c ++ x ∷ [])
 kept-push marks s c x k e i h = go (cases_lt i (length c))
   where
@@ -34,7 +36,8 @@ kept-push marks s c x k e i h = go (cases_lt i (length c))
         subst (λ j. Kept marks s (c ++ x ∷ []) j) q e
 
 -- some cell may always come next
-extend-one : (marks : ℕ → Mark) (s : Level) (c : List Level) → AllKept marks s c → (x : Level) × AllKept marks s (c ++ x ∷ [])
+extend-one : (marks : ℕ → Mark) (s : Level) (c : List Level) → AllKept marks s c → (x : Level)
+    × AllKept marks s (c ++ x ∷ [])
 extend-one marks s c k = go (cases_lt (length c % 64) 8)
   where
     go : (length c % 64 < 8) ⊎ (8 ≤ length c % 64) → (x : Level) × AllKept marks s (c ++ x ∷ [])
@@ -45,7 +48,8 @@ extend-one marks s c k = go (cases_lt (length c % 64) 8)
         let x = other (before s c (length c)) in
         (x, kept-push marks s c x k (kept-new marks s c x (λ p. absurd (omega arith)) (λ p q. refl)))
 
-pub extend : (n : ℕ) (marks : ℕ → Mark) (s : Level) (c : List Level) → AllKept marks s c → (d : List Level) × (length d ≡ n) × AllKept marks s (c ++ d)
+pub extend : (n : ℕ) (marks : ℕ → Mark) (s : Level) (c : List Level) → AllKept marks s c → (d : List Level)
+    × (length d ≡ n) × AllKept marks s (c ++ d)
 extend zero marks s c k = ([], refl, subst (AllKept marks s) (sym (append-nil c)) k)
 extend (suc n) marks s c k =
     let x = extend-one marks s c k in
@@ -54,7 +58,8 @@ extend (suc n) marks s c k =
 
 -- the cells begin n subframes
 pub extend-runs : (n : ℕ) (marks : ℕ → Mark) (s : Level) (c : List Level) → length c ≤ 64 * n → AllKept marks s c
-    → (slots : List (List Bool)) × (length slots ≡ n) × Each28 slots × ((rest : List Level) × (line s (runs_of marks slots) ≡ c ++ rest))
+    → (slots : List (List Bool)) × (length slots ≡ n) × Each28 slots
+    × ((rest : List Level) × (line s (runs_of marks slots) ≡ c ++ rest))
 extend-runs n marks s c l k =
     let e = extend (64 * n - length c) marks s c k in
     let m = length-append c e.0 in

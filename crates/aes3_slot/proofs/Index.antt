@@ -1,5 +1,6 @@
 -- What stands at each index of a line, and back.
-use Rattle.std.proofs.Common.{◌≡◌, ℕ, zero, suc, ◌+◌, ◌*◌, ◌<◌, ◌≤◌, List, [], ◌∷◌, ◌++◌, Bool, true, false, refl, length, ap, ◌∙◌, sym, arith, length-append}
+use Rattle.std.proofs.Common.{◌≡◌, ℕ, zero, suc, ◌+◌, ◌*◌, ◌<◌, ◌≤◌, List, [], ◌∷◌, ◌++◌, Bool, true, false, refl}
+use Rattle.std.proofs.Common.{length, ap, ◌∙◌, sym, arith, length-append}
 use Rattle.std.proofs.lemmas.List.{get_or_append_left, get_or-append-add}
 use Rattle.aes3_cell.specs.declared.level.Level.{Level}
 use Rattle.aes3_cell.specs.declared.level.Level.TheVariants.{Low, High}
@@ -12,7 +13,8 @@ use Rattle.aes3_cell.proofs.Runs.{after-append, length-line}
 use Rattle.aes3_slot.proofs.Subframes.{line-slots, total-bits, after-mark}
 
 -- the last cell, or the level before where there is none, is the level after
-pub last-bits : (t : Level) (bits : List Bool) → before t (line t (bits_runs bits)) (2 * length bits) ≡ after t (bits_runs bits)
+pub last-bits : (t : Level) (bits : List Bool)
+    → before t (line t (bits_runs bits)) (2 * length bits) ≡ after t (bits_runs bits)
 last-bits t [] = refl
 last-bits t (false ∷ bits) =
     let e : 2 * suc (length bits) ≡ suc (suc (2 * length bits)) = omega arith in
@@ -76,7 +78,8 @@ length-mark s Y = refl
 length-mark s Z = refl
 
 -- the cell before index i of joined lists
-pub before-append_right : (s u : Level) (a b : List Level) (n : ℕ) → before s a (length a) ≡ u → before s (a ++ b) (length a + n) ≡ before u b n
+pub before-append_right : (s u : Level) (a b : List Level) (n : ℕ) → before s a (length a) ≡ u
+    → before s (a ++ b) (length a + n) ≡ before u b n
 before-append_right s u [] b n e =
     let f : 0 + n ≡ n = omega arith in
     rw (f, e) refl
@@ -103,10 +106,12 @@ subframe-length s m bits h =
     omega (arith, a, b, c, d, e, h)
 
 -- its preamble by index
-pub subframe-preamble : (s : Level) (m : Mark) (bits : List Bool) (k : ℕ) → k < 8 → at (subframe s m bits) k ≡ shape m k s
+pub subframe-preamble : (s : Level) (m : Mark) (bits : List Bool) (k : ℕ) → k < 8
+    → at (subframe s m bits) k ≡ shape m k s
 subframe-preamble s m bits k h =
     let l = length-mark s m in
-    ap (λ x. at x k) (line-slots s m bits) ∙ get_or_append_left (line s (mark_runs m)) (line s (bits_runs bits)) Low k (omega (arith, l))
+    ap (λ x. at x k) (line-slots s m bits) ∙ get_or_append_left (line s (mark_runs m)) (line s (bits_runs bits)) Low k
+    (omega (arith, l))
 
 pub subframe-slot : (s : Level) (m : Mark) (bits : List Bool) (k : ℕ) → k < length bits
     → at (subframe s m bits) (8 + 2 * k) ≡ other (before s (subframe s m bits) (8 + 2 * k))
@@ -119,10 +124,12 @@ subframe-slot s m bits k h =
     let f : before s (p ++ q) (8 + 2 * k) ≡ before s q (2 * k) =
     ap (λ n. before s (p ++ q) (n + 2 * k)) (sym l)
     ∙ before-append_right s s p q (2 * k) (ap (before s p) l ∙ last-mark s m) in
-    ap (λ x. at x (8 + 2 * k)) (line-slots s m bits) ∙ e ∙ slot-bits s bits k h ∙ ap other (sym f ∙ ap (λ x. before s x (8 + 2 * k)) (sym (line-slots s m bits)))
+    ap (λ x. at x (8 + 2 * k)) (line-slots s m bits) ∙ e ∙ slot-bits s bits k h
+    ∙ ap other (sym f ∙ ap (λ x. before s x (8 + 2 * k)) (sym (line-slots s m bits)))
 
 -- its last cell is the level after it
-pub subframe-last : (s : Level) (m : Mark) (bits : List Bool) → length bits ≡ 28 → before s (subframe s m bits) 64 ≡ after s (slot_runs m bits)
+pub subframe-last : (s : Level) (m : Mark) (bits : List Bool) → length bits ≡ 28
+    → before s (subframe s m bits) 64 ≡ after s (slot_runs m bits)
 subframe-last s m bits h =
     let l = length-mark s m in
     let p = line s (mark_runs m) in

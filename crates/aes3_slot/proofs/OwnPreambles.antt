@@ -1,5 +1,6 @@
 -- In cells that keep the local rule the preamble of a block stands at their start and nowhere else.
-use Rattle.std.proofs.Common.{◌≡◌, ℕ, zero, suc, ◌+◌, ◌*◌, ◌/◌, ◌%◌, ◌<◌, ◌≤◌, ◌⊎◌, inl, inr, List, refl, length, drop, ap, ◌∙◌, sym, arith, length-drop, get_or-drop, get_or-take, length-take, lit<}
+use Rattle.std.proofs.Common.{◌≡◌, ℕ, zero, suc, ◌+◌, ◌*◌, ◌/◌, ◌%◌, ◌<◌, ◌≤◌, ◌⊎◌, inl, inr, List, refl, length, drop}
+use Rattle.std.proofs.Common.{ap, ◌∙◌, sym, arith, length-drop, get_or-drop, get_or-take, length-take, lit<}
 use Rattle.std.proofs.lemmas.Bool.{cases_lt}
 use Rattle.aes3_cell.specs.declared.level.Level.{Level}
 use Rattle.aes3_cell.specs.declared.level.Level.TheVariants.{Low}
@@ -18,7 +19,8 @@ stands-room m t c p z =
     let g = length-drop p c in
     omega (arith, e, f, g, l)
 
-pub stands-at : (m : Mark) (t : Level) (c : List Level) (p k : ℕ) → k < 8 → StandsMark m t c p → at c (p + k) ≡ shape m k t
+pub stands-at : (m : Mark) (t : Level) (c : List Level) (p k : ℕ) → k < 8 → StandsMark m t c p
+    → at c (p + k) ≡ shape m k t
 stands-at m t c p k h z =
     sym (get_or-drop p c k Low) ∙ sym (get_or-take 8 (drop p c) k Low h) ∙ ap (λ x. at x k) z.is
 
@@ -37,7 +39,7 @@ three marks s c k j h a b e f = go (cases_lt (j % 2) 1)
     go (inr o) = change marks s c k j (omega arith) (omega arith) (omega arith) e
 
 -- a subframe begins with a change
-shape-first : (m : Mark) (u : Level) → shape m 0 u ≡ other u
+pub shape-first : (m : Mark) (u : Level) → shape m 0 u ≡ other u
 shape-first X u = refl
 shape-first Y u = refl
 shape-first Z u = refl
@@ -50,7 +52,8 @@ begins marks s c k j h a e =
     other_ne (at c j) (sym (rw (a, q, shape-first) at r) ∙ e)
 
 -- three cells of a preamble that are equal
-pub run-of : (marks : ℕ → Mark) (s : Level) (c : List Level) → AllKept marks s c → (m : Mark) (t : Level) (p : ℕ) → StandsMark m t c p
+pub run-of : (marks : ℕ → Mark) (s : Level) (c : List Level) → AllKept marks s c → (m : Mark) (t : Level) (p : ℕ)
+    → StandsMark m t c p
     → (n : ℕ) → n < 6 → shape m (n + 1) t ≡ shape m n t → shape m (n + 2) t ≡ shape m (n + 1) t
     → 6 ≤ (p + n) % 64 → (p + n) % 64 ≤ 61 → ⊥
 run-of marks s c k m t p z n h e f a b =
@@ -65,7 +68,8 @@ run-of marks s c k m t p z n h e f a b =
     (ap (at c) (sym q2) ∙ c2 ∙ f ∙ sym c1 ∙ ap (at c) q1)
 
 -- two equal cells of a preamble, of which the second begins a subframe
-pub two-of : (marks : ℕ → Mark) (s : Level) (c : List Level) → AllKept marks s c → (m : Mark) (t : Level) (p : ℕ) → StandsMark m t c p
+pub two-of : (marks : ℕ → Mark) (s : Level) (c : List Level) → AllKept marks s c → (m : Mark) (t : Level) (p : ℕ)
+    → StandsMark m t c p
     → (n : ℕ) → n < 7 → shape m (n + 1) t ≡ shape m n t → (p + n) % 64 ≡ 63 → ⊥
 two-of marks s c k m t p z n h e a =
     let room = stands-room m t c p z in
@@ -76,7 +80,8 @@ two-of marks s c k m t p z n h e a =
     (ap (at c) (sym q1) ∙ c1 ∙ e ∙ sym c0)
 
 -- at the start of a subframe the eight cells are its own preamble, after the level before it
-pub own : (marks : ℕ → Mark) (s : Level) (c : List Level) → AllKept marks s c → (m : Mark) (t : Level) (p : ℕ) → StandsMark m t c p
+pub own : (marks : ℕ → Mark) (s : Level) (c : List Level) → AllKept marks s c → (m : Mark) (t : Level) (p : ℕ)
+    → StandsMark m t c p
     → p % 64 ≡ 0 → (k : ℕ) → k < 8 → shape (marks (p / 64)) k (before s c p) ≡ shape m k t
 own marks s c k m t p z a n h =
     let room = stands-room m t c p z in
@@ -111,7 +116,8 @@ shapes-apart Z Y t u e = absurd (apart-at Z Y 4 (lit< tt) (λ v. refl) t u e)
 
 pub only-Z : (marks : ℕ → Mark) (s : Level) (c : List Level) → ((j : ℕ) → marks (suc j) ≡ Z → ⊥) → AllKept marks s c
     → (p : ℕ) (t : Level) → StandsMark Z t c p → p ≡ 0
-only-Z marks s c m k p t z = go (cases_lt (p % 64) 1) (cases_lt (p % 64) 6) (cases_lt (p % 64) 62) (cases_lt (p % 64) 63)
+only-Z marks s c m k p t z = go (cases_lt (p % 64) 1) (cases_lt (p % 64) 6) (cases_lt (p % 64) 62)
+    (cases_lt (p % 64) 63)
   where
     second : (j : ℕ) → p / 64 ≡ suc j → p % 64 ≡ 0 → ⊥
     second j e a = m j (ap marks (sym e) ∙ shapes-apart (marks (p / 64)) Z (before s c p) t (own marks s c k Z t p z a))
@@ -120,7 +126,8 @@ only-Z marks s c m k p t z = go (cases_lt (p % 64) 1) (cases_lt (p % 64) 6) (cas
     none zero e a = omega arith
     none (suc j) e a = absurd (second j e a)
 
-    go : (p % 64 < 1) ⊎ (1 ≤ p % 64) → (p % 64 < 6) ⊎ (6 ≤ p % 64) → (p % 64 < 62) ⊎ (62 ≤ p % 64) → (p % 64 < 63) ⊎ (63 ≤ p % 64) → p ≡ 0
+    go : (p % 64 < 1) ⊎ (1 ≤ p % 64) → (p % 64 < 6) ⊎ (6 ≤ p % 64) → (p % 64 < 62) ⊎ (62 ≤ p % 64) → (p % 64 < 63)
+        ⊎ (63 ≤ p % 64) → p ≡ 0
     go (inl a) b d e = none (p / 64) refl (omega arith)
     go (inr a) (inl b) d e = absurd (run-of marks s c k Z t p z 5 (lit< tt) refl refl (omega arith) (omega arith))
     go (inr a) (inr b) (inl d) e = absurd (run-of marks s c k Z t p z 0 (lit< tt) refl refl (omega arith) (omega arith))

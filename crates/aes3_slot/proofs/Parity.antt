@@ -1,5 +1,6 @@
 -- The parity bit, and the level after a subframe.
-use Rattle.std.proofs.Common.{◌≡◌, ℕ, zero, suc, ◌-◌, ◌%◌, ◌^◌, ◌<◌, min, List, [], ◌∷◌, ◌++◌, Bool, true, false, not, eqb, refl, length, length-append, ap, ap₂, ◌∙◌, sym, arith}
+use Rattle.std.proofs.Common.{◌≡◌, ℕ, zero, suc, ◌-◌, ◌%◌, ◌^◌, ◌<◌, min, List, [], ◌∷◌, ◌++◌, Bool, true, false, not}
+use Rattle.std.proofs.Common.{eqb, refl, length, length-append, ap, ap₂, ◌∙◌, sym, arith}
 use Rattle.std.specs.Prelude.{bit_and, count_ones, if◌then◌else◌}
 use Rattle.std.specs.Int.{bit_at}
 use Rattle.std.proofs.lemmas.List.{same_from_push}
@@ -18,7 +19,8 @@ use Rattle.aes3_slot.proofs.Subframes.{after-slots, odd_ones-push, odd_ones-with
 use Rattle.aes3_slot.proofs.Index.{subframe-last}
 
 -- the last of a list
-pub split-last : (n : ℕ) (bits : List Bool) → length bits ≡ suc n → (p : List Bool) × (b : Bool) × (length p ≡ n) × (bits ≡ p ++ b ∷ [])
+pub split-last : (n : ℕ) (bits : List Bool) → length bits ≡ suc n → (p : List Bool) × (b : Bool) × (length p ≡ n)
+    × (bits ≡ p ++ b ∷ [])
 split-last n [] l = absurd (omega arith)
 split-last zero (b ∷ []) l = ([], b, refl, refl)
 split-last zero (b ∷ a ∷ more) l = absurd (omega arith)
@@ -43,7 +45,8 @@ split-parity n bits l e =
     (r.0, r.2, r.3 ∙ ap (λ b. r.0 ++ b ∷ []) (last-is r.0 r.1 (sym (ap odd_ones r.3) ∙ e)))
 
 -- a subframe that ends at the level before it has even parity
-pub even-from-level : (s : Level) (m : Mark) (bits : List Bool) → length bits ≡ slots_len → after s (slot_runs m bits) ≡ s → odd_ones bits ≡ false
+pub even-from-level : (s : Level) (m : Mark) (bits : List Bool) → length bits ≡ slots_len
+    → after s (slot_runs m bits) ≡ s → odd_ones bits ≡ false
 even-from-level s m bits l e = go (odd_ones bits) (sym (after-slots s m bits l) ∙ e)
   where
     go : (b : Bool) → turned b s ≡ s → b ≡ false
@@ -51,7 +54,8 @@ even-from-level s m bits l e = go (odd_ones bits) (sym (after-slots s m bits l) 
     go true h = absurd (other_ne s h)
 
 -- the last cell of a subframe
-pub last-slots : (s : Level) (m : Mark) (bits : List Bool) → length bits ≡ slots_len → before s (line s (slot_runs m bits)) 64 ≡ turned (odd_ones bits) s
+pub last-slots : (s : Level) (m : Mark) (bits : List Bool) → length bits ≡ slots_len
+    → before s (line s (slot_runs m bits)) 64 ≡ turned (odd_ones bits) s
 unfolding slots_len
 last-slots s m bits l = subframe-last s m bits l ∙ after-slots s m bits l
 
@@ -64,7 +68,8 @@ odd_ones-some false bits = odd_ones-push bits (not (odd_ones bits)) ∙ go (odd_
     go false = refl
     go true = refl
 
-pub some-of-push : (bits : List Bool) (b : Bool) → with_some_parity (not (odd_ones (bits ++ b ∷ []))) bits ≡ bits ++ b ∷ []
+pub some-of-push : (bits : List Bool) (b : Bool)
+    → with_some_parity (not (odd_ones (bits ++ b ∷ []))) bits ≡ bits ++ b ∷ []
 some-of-push bits b = ap (λ o. with_some_parity (not o) bits) (odd_ones-push bits b) ∙ go b (odd_ones bits) refl
   where
     go : (b x : Bool) → odd_ones bits ≡ x → with_some_parity (not (xor b x)) bits ≡ bits ++ b ∷ []
@@ -74,7 +79,10 @@ some-of-push bits b = ap (λ o. with_some_parity (not o) bits) (odd_ones-push bi
     go true true e = ap (λ y. bits ++ y ∷ []) e
 
 pub some-unique : (q r : Bool) (a b : List Bool) → with_some_parity q a ≡ with_some_parity r b → (q ≡ r) × (a ≡ b)
-some-unique q r a b e = (turn q r (sym (odd_ones-some q a) ∙ ap odd_ones e ∙ odd_ones-some r b), (same_from_push a b _ _ (sym (push q a) ∙ e ∙ push r b)).0)
+some-unique q r a b e = (
+  turn q r (sym (odd_ones-some q a) ∙ ap odd_ones e ∙ odd_ones-some r b),
+  (same_from_push a b _ _ (sym (push q a) ∙ e ∙ push r b)).0,
+)
   where
     turn : (q r : Bool) → not q ≡ not r → q ≡ r
     turn false false e = refl
@@ -82,7 +90,9 @@ some-unique q r a b e = (turn q r (sym (odd_ones-some q a) ∙ ap odd_ones e ∙
     turn true false e = sym e
     turn true true e = refl
 
-    push : (q : Bool) (bits : List Bool) → with_some_parity q bits ≡ bits ++ (elim q as (λ _. Bool) [ true ↦ odd_ones bits | false ↦ not (odd_ones bits) ]) ∷ []
+    push : (q : Bool) (bits : List Bool)
+        → with_some_parity q bits ≡ bits
+        ++ (elim q as (λ _. Bool) [ true ↦ odd_ones bits | false ↦ not (odd_ones bits) ]) ∷ []
     push true bits = refl
     push false bits = refl
 
@@ -95,14 +105,16 @@ length-some false bits h = let e = length-append bits (not (odd_ones bits) ∷ [
 pub some-level : (s : Level) (m : Mark) (bits : List Bool) (right : Bool) → IsPayload bits
     → at (line s (slot_runs m (with_some_parity right bits))) 63 ≡ (if right then s else other s)
 some-level s m bits right h =
-    last-slots s m (with_some_parity right bits) (length-some right bits h) ∙ ap (λ b. turned b s) (odd_ones-some right bits) ∙ go right
+    last-slots s m (with_some_parity right bits) (length-some right bits h)
+    ∙ ap (λ b. turned b s) (odd_ones-some right bits) ∙ go right
   where
     go : (right : Bool) → turned (not right) s ≡ (if right then s else other s)
     go true = refl
     go false = refl
 
 -- a number of 28 bits taken apart
-pub split-word : (n w : ℕ) → w < 2 ^ suc n → low_bits (suc n) w ≡ with_some_parity (eqb (count_ones w % 2) 0) (low_bits n (bit_and w (2 ^ n - 1)))
+pub split-word : (n w : ℕ) → w < 2 ^ suc n
+    → low_bits (suc n) w ≡ with_some_parity (eqb (count_ones w % 2) 0) (low_bits n (bit_and w (2 ^ n - 1)))
 split-word n w h =
     let e = low_bits-suc n w in
     let o : eqb (count_ones w % 2) 0 ≡ not (odd_ones (low_bits n w ++ eqb (bit_at w n) 1 ∷ [])) =

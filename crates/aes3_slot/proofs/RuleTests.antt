@@ -1,5 +1,6 @@
 -- The rule as a test of each cell.
-use Rattle.std.proofs.Common.{◌≡◌, ℕ, ◌*◌, ◌/◌, ◌%◌, ◌<◌, ◌≤◌, ◌⊎◌, inl, inr, List, ◌++◌, true, refl, length, ap, ◌∙◌, arith, lt-ltb, le-ltb, eq-eqb, ne_eqb}
+use Rattle.std.proofs.Common.{◌≡◌, ℕ, ◌*◌, ◌/◌, ◌%◌, ◌<◌, ◌≤◌, ◌⊎◌, inl, inr, List, ◌++◌, true, refl, length, ap, ◌∙◌}
+use Rattle.std.proofs.Common.{arith, lt-ltb, le-ltb, eq-eqb, ne_eqb}
 use Rattle.std.proofs.lemmas.Bool.{cases_lt, cases_eq}
 use Rattle.std.proofs.lemmas.List.{get_or_append_left}
 use Rattle.aes3_cell.specs.declared.level.Level.{Level}
@@ -53,7 +54,8 @@ rule-from-kept marks s c i k = go (cases_lt (i % 64) 8) (cases_eq (i % 2) 0)
         → rule marks i (at c i) (before s c (64 * (i / 64))) (before s c i) ≡ true
     go (inl h) p =
         let t = lt-ltb (i % 64) 8 h in
-        rw t (ap (λ x. same x (shape (marks (i / 64)) (i % 64) (before s c (64 * (i / 64))))) (k.preamble h) ∙ same-refl _)
+        rw t (ap (λ x. same x (shape (marks (i / 64)) (i % 64) (before s c (64 * (i / 64))))) (k.preamble h)
+        ∙ same-refl _)
     go (inr h) (inl p) =
         let t = le-ltb (i % 64) 8 h in
         let v = eq-eqb (i % 2) 0 p in
@@ -64,20 +66,23 @@ rule-from-kept marks s c i k = go (cases_lt (i % 64) 8) (cases_eq (i % 2) 0)
         rw (t, v) refl
 
 -- the same within one subframe
-pub kept-from-stands : (s : Level) (m : Mark) (c : List Level) (i : ℕ) → i < 64 → stands s m c i ≡ true → Kept (λ _. m) s c i
+pub kept-from-stands : (s : Level) (m : Mark) (c : List Level) (i : ℕ) → i < 64 → stands s m c i ≡ true
+    → Kept (λ _. m) s c i
 unfolding stands
 kept-from-stands s m c i h e =
     let z : 64 * (i / 64) ≡ 0 = omega arith in
     kept-from-rule (λ _. m) s c i (rw z e)
 
-pub stands-from-kept : (s : Level) (m : Mark) (c : List Level) (i : ℕ) → i < 64 → Kept (λ _. m) s c i → stands s m c i ≡ true
+pub stands-from-kept : (s : Level) (m : Mark) (c : List Level) (i : ℕ) → i < 64 → Kept (λ _. m) s c i
+    → stands s m c i ≡ true
 unfolding stands
 stands-from-kept s m c i h k =
     let z : 64 * (i / 64) ≡ 0 = omega arith in
     rw z at (rule-from-kept (λ _. m) s c i k)
 
 -- cells behind count for nothing
-pub stands-append : (s : Level) (m : Mark) (c d : List Level) (i : ℕ) → i < length c → stands s m (c ++ d) i ≡ stands s m c i
+pub stands-append : (s : Level) (m : Mark) (c d : List Level) (i : ℕ) → i < length c
+    → stands s m (c ++ d) i ≡ stands s m c i
 unfolding stands
 stands-append s m c d i h =
     let f : at (c ++ d) i ≡ at c i = get_or_append_left c d Low i h in

@@ -1,5 +1,6 @@
 -- Two blocks at one place, after one level, differ in two neighbouring cells at least.
-use Rattle.std.proofs.Common.{◌≡◌, ◌≢◌, ℕ, suc, ◌*◌, ◌%◌, ◌<◌, List, [], ◌∷◌, Bool, true, false, refl, length, ap, sym, arith}
+use Rattle.std.proofs.Common.{◌≡◌, ◌≢◌, ℕ, suc, ◌*◌, ◌%◌, ◌<◌, List, [], ◌∷◌, Bool, true, false, refl, length, ap, sym}
+use Rattle.std.proofs.Common.{arith}
 use Rattle.aes3_cell.specs.declared.level.Level.{Level}
 use Rattle.aes3_cell.specs.Cells.{line, other, after}
 use Rattle.aes3_slot.specs.Slots.{bits_runs}
@@ -7,7 +8,8 @@ use Rattle.aes3_slot.specs.Rules.{at}
 use Rattle.aes3_cell.proofs.Runs.{other_ne}
 
 -- the first cells after opposite levels
-first-apart : (t : Level) (a b : List Bool) → length a ≡ length b → (after (other t) (bits_runs a) ≡ after t (bits_runs b))
+first-apart : (t : Level) (a b : List Bool) → length a ≡ length b
+    → (after (other t) (bits_runs a) ≡ after t (bits_runs b))
     → (0 < length a) × (at (line (other t) (bits_runs a)) 0 ≢ at (line t (bits_runs b)) 0)
 first-apart t [] [] l e = absurd (other_ne t e)
 first-apart t [] (y ∷ b) l e = absurd (omega arith)
@@ -24,7 +26,8 @@ pub record Pair (t : Level) (a b : List Bool) : Type 0 where
   pub one : at (line t (bits_runs a)) place ≢ at (line t (bits_runs b)) place
   pub two : at (line t (bits_runs a)) (suc place) ≢ at (line t (bits_runs b)) (suc place)
 
-pub pair-apart : (t : Level) (a b : List Bool) → length a ≡ length b → after t (bits_runs a) ≡ after t (bits_runs b) → (a ≡ b → ⊥) → Pair t a b
+pub pair-apart : (t : Level) (a b : List Bool) → length a ≡ length b → after t (bits_runs a) ≡ after t (bits_runs b)
+    → (a ≡ b → ⊥) → Pair t a b
 pair-apart t [] [] l e n = absurd (n refl)
 pair-apart t [] (y ∷ b) l e n = absurd (omega arith)
 pair-apart t (x ∷ a) [] l e n = absurd (omega arith)
@@ -41,7 +44,13 @@ pair-apart t (true ∷ a) (true ∷ b) l e n =
 pair-apart t (false ∷ a) (true ∷ b) l e n =
     let r = first-apart (other t) b a (omega arith) (sym e) in
     let w = r.0 in
-    record { place = 1; odd = refl; within = omega arith; one = λ q. other_ne (other t) (sym q); two = λ q. r.1 (sym q) }
+    record {
+      place = 1;
+      odd = refl;
+      within = omega arith;
+      one = λ q. other_ne (other t) (sym q);
+      two = λ q. r.1 (sym q);
+    }
 pair-apart t (true ∷ a) (false ∷ b) l e n =
     let r = first-apart (other t) a b (omega arith) e in
     let w = r.0 in

@@ -1,5 +1,6 @@
 -- The length of a subframe, and the level after it.
-use Rattle.std.proofs.Common.{◌≡◌, ℕ, zero, suc, ◌+◌, ◌*◌, List, [], ◌∷◌, ◌++◌, Bool, true, false, not, refl, length, ap, ◌∙◌, sym, arith, length-append}
+use Rattle.std.proofs.Common.{◌≡◌, ℕ, zero, suc, ◌+◌, ◌*◌, List, [], ◌∷◌, ◌++◌, Bool, true, false, not, refl, length}
+use Rattle.std.proofs.Common.{ap, ◌∙◌, sym, arith, length-append}
 use Rattle.aes3_cell.specs.declared.level.Level.{Level}
 use Rattle.aes3_cell.specs.declared.level.Level.TheVariants.{Low, High}
 use Rattle.aes3_cell.specs.Cells.{line, other, after}
@@ -7,7 +8,8 @@ use Rattle.aes3_cell.proofs.Runs.{other-other, line-append, after-append, total,
 use Rattle.aes3_slot.specs.declared.mark.Mark.{Mark}
 use Rattle.aes3_slot.specs.declared.mark.Mark.TheVariants.{X, Y, Z}
 use Rattle.aes3_slot.specs.Bits.{odd_ones}
-use Rattle.aes3_slot.specs.Slots.{mark_runs, bits_runs, with_parity, payload_len, slots_len, slot_runs, subframe_runs, IsPayload}
+use Rattle.aes3_slot.specs.Slots.{mark_runs, bits_runs, with_parity, payload_len, slots_len, slot_runs, subframe_runs}
+use Rattle.aes3_slot.specs.Slots.{IsPayload}
 use Rattle.aes3_slot.specs.Turns.{turned}
 
 pub turned-not : (b : Bool) (s : Level) → turned (not b) s ≡ turned b (other s)
@@ -34,8 +36,10 @@ after-mark High X = refl
 after-mark High Y = refl
 after-mark High Z = refl
 
-pub line-slots : (s : Level) (m : Mark) (bits : List Bool) → line s (slot_runs m bits) ≡ line s (mark_runs m) ++ line s (bits_runs bits)
-line-slots s m bits = line-append s (mark_runs m) (bits_runs bits) ∙ ap (λ t. line s (mark_runs m) ++ line t (bits_runs bits)) (after-mark s m)
+pub line-slots : (s : Level) (m : Mark) (bits : List Bool)
+    → line s (slot_runs m bits) ≡ line s (mark_runs m) ++ line s (bits_runs bits)
+line-slots s m bits = line-append s (mark_runs m) (bits_runs bits)
+    ∙ ap (λ t. line s (mark_runs m) ++ line t (bits_runs bits)) (after-mark s m)
 
 -- zeros and ones together are all bits
 abbrev pub is_odd : ℕ → Bool
@@ -64,10 +68,12 @@ odd_zeros-is (true ∷ bits) = odd_zeros-is bits ∙ last (odd_ones bits) (is_od
     last true b = refl
 
 -- 28 bits turn the level where the number of their ones is odd
-pub after-slots : (s : Level) (m : Mark) (bits : List Bool) → length bits ≡ slots_len → after s (slot_runs m bits) ≡ turned (odd_ones bits) s
+pub after-slots : (s : Level) (m : Mark) (bits : List Bool) → length bits ≡ slots_len
+    → after s (slot_runs m bits) ≡ turned (odd_ones bits) s
 unfolding slots_len
 after-slots s m bits h =
-    after-append s (mark_runs m) (bits_runs bits) ∙ ap (λ t. after t (bits_runs bits)) (after-mark s m) ∙ after-bits s bits
+    after-append s (mark_runs m) (bits_runs bits) ∙ ap (λ t. after t (bits_runs bits)) (after-mark s m)
+    ∙ after-bits s bits
     ∙ ap (λ b. turned b s) (odd_zeros-is bits ∙ ap (λ n. xor (odd_ones bits) (is_odd n)) h ∙ even (odd_ones bits))
   where
     even : (b : Bool) → xor b false ≡ b
@@ -118,7 +124,8 @@ length-slots s m bits =
     let d = total-bits bits in
     omega (arith, a, b, c, d)
 
-pub length-subframe : (s : Level) (m : Mark) (bits : List Bool) → IsPayload bits → length (line s (subframe_runs m bits)) ≡ 64
+pub length-subframe : (s : Level) (m : Mark) (bits : List Bool) → IsPayload bits
+    → length (line s (subframe_runs m bits)) ≡ 64
 unfolding slots_len
 length-subframe s m bits h =
     let a = length-slots s m (with_parity bits) in

@@ -1,5 +1,7 @@
 -- Where preambles begin in a word of cells, by its bits.
-use Rattle.std.proofs.Common.{◌≡◌, ℕ, zero, suc, ◌+◌, ◌-◌, ◌*◌, ◌/◌, ◌%◌, ◌^◌, ◌<◌, ◌≤◌, ◌⊎◌, inl, inr, min, max, List, [], ◌∷◌, Bool, true, false, ◌&&◌, ◌||◌, not, length, drop, refl, ap, ap₂, ◌∙◌, sym, arith, w64, length-append, length-drop, get_or-drop}
+use Rattle.std.proofs.Common.{◌≡◌, ℕ, zero, suc, ◌+◌, ◌-◌, ◌*◌, ◌/◌, ◌%◌, ◌^◌, ◌<◌, ◌≤◌, ◌⊎◌, inl, inr, min, max, List}
+use Rattle.std.proofs.Common.{[], ◌∷◌, Bool, true, false, ◌&&◌, ◌||◌, not, length, drop, refl, ap, ap₂, ◌∙◌, sym, arith}
+use Rattle.std.proofs.Common.{w64, length-append, length-drop, get_or-drop}
 use Rattle.std.specs.Prelude.{bit_and, bit_or, bit_xor, if◌then◌else◌}
 use Rattle.std.specs.Int.{bit_at, bit_not}
 use Rattle.std.proofs.lemmas.Bool.{cases_lt}
@@ -51,7 +53,8 @@ says-not {x} {k} {p} h g e = record { is = bit_at_not w64 x k h g ∙ ap (λ b. 
 pub seven-below : (w n k : ℕ) → k < 64 → at (with_seven w n) k ≡ level_of (bit_at w k)
 unfolding with_seven word_cells word_len
 seven-below w n k h =
-    get_or_append_left (low_cells 64 w) (low_cells 7 n) Low k (let l = length-low_cells 64 w in omega (arith, l, h)) ∙ low_cells-at 64 w k h
+    get_or_append_left (low_cells 64 w) (low_cells 7 n) Low k (let l = length-low_cells 64 w in omega (arith, l, h))
+    ∙ low_cells-at 64 w k h
 
 seven-above : (w n i : ℕ) → i < 7 → at (with_seven w n) (64 + i) ≡ level_of (bit_at n i)
 unfolding with_seven word_cells word_len
@@ -71,11 +74,13 @@ length-seven w n =
 moved : ℕ → ℕ → ℕ → ℕ
 moved w n d = bit_or (w / 2 ^ d) (n * 2 ^ (64 - d) % 2 ^ 64)
 
-moved-bit : (w n d k : ℕ) → w < 2 ^ 64 → 0 < d → d < 8 → k < 64 → level_of (bit_at (moved w n d) k) ≡ at (with_seven w n) (k + d)
+moved-bit : (w n d k : ℕ) → w < 2 ^ 64 → 0 < d → d < 8 → k < 64
+    → level_of (bit_at (moved w n d) k) ≡ at (with_seven w n) (k + d)
 unfolding moved
 moved-bit w n d k b z s h = ap level_of (bit_at_or (w / 2 ^ d) (n * 2 ^ (64 - d) % 2 ^ 64) k) ∙ go (cases_lt (k + d) 64)
   where
-    go : (k + d < 64) ⊎ (64 ≤ k + d) → level_of (max (bit_at (w / 2 ^ d) k) (bit_at (n * 2 ^ (64 - d) % 2 ^ 64) k)) ≡ at (with_seven w n) (k + d)
+    go : (k + d < 64) ⊎ (64 ≤ k + d)
+        → level_of (max (bit_at (w / 2 ^ d) k) (bit_at (n * 2 ^ (64 - d) % 2 ^ 64) k)) ≡ at (with_seven w n) (k + d)
     go (inl g) =
         let x = bit_at-shr w d k in
         let y = shl-below n (64 - d) k h (omega (arith, g)) in
@@ -101,10 +106,12 @@ differs-flag (suc (suc x)) y h g = absurd (omega arith)
 
 -- `w ^ (w >> d | next << (64 - d))`
 pub unlike-bit : (w n d k : ℕ) → w < 2 ^ 64 → 0 < d → d < 8 → k < 64
-    → bit_at (bit_xor w (bit_or (w / 2 ^ d) (n * 2 ^ (64 - d) % 2 ^ 64))) k ≡ (if unlike_at (with_seven w n) k d then 1 else 0)
+    → bit_at (bit_xor w (bit_or (w / 2 ^ d) (n * 2 ^ (64 - d) % 2 ^ 64))) k
+    ≡ (if unlike_at (with_seven w n) k d then 1 else 0)
 unfolding moved
 unlike-bit w n d k b z s h =
-    bit_at_xor w (moved w n d) k ∙ differs-flag (bit_at w k) (bit_at (moved w n d) k) (bit_at-lt w k) (bit_at-lt (moved w n d) k)
+    bit_at_xor w (moved w n d) k
+    ∙ differs-flag (bit_at w k) (bit_at (moved w n d) k) (bit_at-lt w k) (bit_at-lt (moved w n d) k)
     ∙ ap (λ b. if b then 1 else 0) (ap₂ differs (sym (seven-below w n k h)) (moved-bit w n d k b z s h))
 
 -- a preamble by which of its cells differ from the first
@@ -151,20 +158,25 @@ both : {p q r s : Bool} → p ≡ q → r ≡ s → (p && r) ≡ (q && s)
 both e f = ap₂ (λ x y. x && y) e f
 
 eight-tell : (m : Mark) (a b c d e f g h : Level) (rest : List Level)
-    → begins_with m (a ∷ b ∷ c ∷ d ∷ e ∷ f ∷ g ∷ h ∷ rest) ≡ tells m (differs a b) (differs a c) (differs a d) (differs a e) (differs a f) (differs a g) (differs a h)
+    → begins_with m (a ∷ b ∷ c ∷ d ∷ e ∷ f ∷ g ∷ h ∷ rest) ≡ tells m (differs a b) (differs a c) (differs a d)
+    (differs a e) (differs a f) (differs a g) (differs a h)
 unfolding begins_with tells
 eight-tell X a b c d e f g h rest =
     ap (same_cells (a ∷ b ∷ c ∷ d ∷ e ∷ f ∷ g ∷ h ∷ [])) (cells-X a) ∙ same-self a _
-    ∙ both (like a b) (both (like a c) (both (unlike a d) (both (unlike a e) (both (unlike a f) (both (like a g) (last a h))))))
+    ∙ both (like a b)
+    (both (like a c) (both (unlike a d) (both (unlike a e) (both (unlike a f) (both (like a g) (last a h))))))
 eight-tell Y a b c d e f g h rest =
     ap (same_cells (a ∷ b ∷ c ∷ d ∷ e ∷ f ∷ g ∷ h ∷ [])) (cells-Y a) ∙ same-self a _
-    ∙ both (like a b) (both (like a c) (both (unlike a d) (both (unlike a e) (both (like a f) (both (unlike a g) (last a h))))))
+    ∙ both (like a b)
+    (both (like a c) (both (unlike a d) (both (unlike a e) (both (like a f) (both (unlike a g) (last a h))))))
 eight-tell Z a b c d e f g h rest =
     ap (same_cells (a ∷ b ∷ c ∷ d ∷ e ∷ f ∷ g ∷ h ∷ [])) (cells-Z a) ∙ same-self a _
-    ∙ both (like a b) (both (like a c) (both (unlike a d) (both (like a e) (both (unlike a f) (both (unlike a g) (last a h))))))
+    ∙ both (like a b)
+    (both (like a c) (both (unlike a d) (both (like a e) (both (unlike a f) (both (unlike a g) (last a h))))))
 
 window-tells : (m : Mark) (d : List Level) → 8 ≤ length d → begins_with m d
-    ≡ tells m (unlike_at d 0 1) (unlike_at d 0 2) (unlike_at d 0 3) (unlike_at d 0 4) (unlike_at d 0 5) (unlike_at d 0 6) (unlike_at d 0 7)
+    ≡ tells m (unlike_at d 0 1) (unlike_at d 0 2) (unlike_at d 0 3) (unlike_at d 0 4) (unlike_at d 0 5)
+    (unlike_at d 0 6) (unlike_at d 0 7)
 window-tells m (a ∷ b ∷ c ∷ d ∷ e ∷ f ∷ g ∷ h ∷ rest) l = eight-tell m a b c d e f g h rest
 window-tells m [] l = absurd (omega arith)
 window-tells m (a ∷ []) l = absurd (omega arith)
@@ -177,7 +189,8 @@ window-tells m (a ∷ b ∷ c ∷ d ∷ e ∷ f ∷ g ∷ []) l = absurd (omega 
 
 -- the same at a place of a word and seven cells behind it
 unlike-drop : (c : List Level) (k d : ℕ) → unlike_at (drop k c) 0 d ≡ unlike_at c k d
-unlike-drop c k d = ap₂ differs (get_or-drop k c 0 Low ∙ ap (at c) (let e : k + 0 ≡ k = omega arith in e)) (ap (at (drop k c)) (let e : 0 + d ≡ d = omega arith in e) ∙ get_or-drop k c d Low)
+unlike-drop c k d = ap₂ differs (get_or-drop k c 0 Low ∙ ap (at c) (let e : k + 0 ≡ k = omega arith in e))
+    (ap (at (drop k c)) (let e : 0 + d ≡ d = omega arith in e) ∙ get_or-drop k c d Low)
 
 and-true : (b : Bool) → (b && true) ≡ b
 and-true true = refl
@@ -208,9 +221,19 @@ module _ (w n k : ℕ) (h : k < 64) where
       let l = length-drop k c in
       let s = length-seven w n in
       window-tells m (drop k c) (omega (arith, l, s, h))
-      ∙ rw (unlike-drop c k 1, unlike-drop c k 2, unlike-drop c k 3, unlike-drop c k 4, unlike-drop c k 5, unlike-drop c k 6, unlike-drop c k 7) refl
+      ∙ rw (
+        unlike-drop c k 1,
+        unlike-drop c k 2,
+        unlike-drop c k 3,
+        unlike-drop c k 4,
+        unlike-drop c k 5,
+        unlike-drop c k 6,
+        unlike-drop c k 7,
+      ) refl
 
-  pub mark-begins : (m : Mark) → (((not (u 1) && not (u 2)) && (u 3 && u 7)) && apart m (u 4) (u 5) (u 6)) ≡ begins_with m (drop k (with_seven w n))
+  pub mark-begins : (m : Mark)
+      → (((not (u 1) && not (u 2)) && (u 3 && u 7)) && apart m (u 4) (u 5) (u 6)) ≡ begins_with m
+      (drop k (with_seven w n))
   unfolding tells
   mark-begins m = go m (u 1) (u 2) (u 3) (u 4) (u 5) (u 6) (u 7) ∙ sym (place-tells m)
     where

@@ -1,10 +1,13 @@
 -- The cells of a word that can't stand where they are, by its bits.
-use Rattle.std.proofs.Common.{◌≡◌, ℕ, zero, suc, ◌+◌, ◌-◌, ◌*◌, ◌%◌, ◌^◌, ◌<◌, ◌≤◌, ◌⊎◌, inl, inr, min, max, Bool, true, false, not, ◌&&◌, ◌||◌, cond, eqb, ltb, refl, subst, ap, ap₂, ◌∙◌, sym, arith, lt-ltb, le-ltb, eq-eqb, ne_eqb, lit<, w64}
+use Rattle.std.proofs.Common.{◌≡◌, ℕ, zero, suc, ◌+◌, ◌-◌, ◌*◌, ◌%◌, ◌^◌, ◌<◌, ◌≤◌, ◌⊎◌, inl, inr, min, max, Bool, true}
+use Rattle.std.proofs.Common.{false, not, ◌&&◌, ◌||◌, cond, eqb, ltb, refl, subst, ap, ap₂, ◌∙◌, sym, arith, lt-ltb}
+use Rattle.std.proofs.Common.{le-ltb, eq-eqb, ne_eqb, lit<, w64}
 use Rattle.std.specs.Prelude.{bit_and, bit_or, bit_xor}
 use Rattle.std.specs.Int.{bit_at, bit_not}
 use Rattle.std.proofs.lemmas.Bool.{cases_lt, cases_eq, agree_below_at, eqb-true}
 use Rattle.std.proofs.lemmas.Nat.{xor_lt, mod_below}
-use Rattle.std.proofs.lemmas.Nat.Bits.{bit_at_and, bit_at_or, bit_at_xor, bit_at_not, bit_at-lt, bit_at_ones, bit_at_ones_above}
+use Rattle.std.proofs.lemmas.Nat.Bits.{bit_at_and, bit_at_or, bit_at_xor, bit_at_not, bit_at-lt, bit_at_ones}
+use Rattle.std.proofs.lemmas.Nat.Bits.{bit_at_ones_above}
 use Rattle.aes3_cell.specs.declared.level.Level.{Level}
 use Rattle.aes3_cell.specs.Cells.{line}
 use Rattle.aes3_cell.specs.Words.{level_of, low_cells}
@@ -45,18 +48,21 @@ small true = omega arith
 small false = omega arith
 
 wrong-parts : (w p i : ℕ) → w < 2 ^ 64 → i < 64
-    → bit_at (bit_or (bit_and (bit_xor w p) 255) (bit_and (bit_not w64 (bit_xor w (w * 2 ^ 1 % 2 ^ 64))) 6148914691236517120)) i
+    → bit_at (bit_or (bit_and (bit_xor w p) 255)
+    (bit_and (bit_not w64 (bit_xor w (w * 2 ^ 1 % 2 ^ 64))) 6148914691236517120)) i
     ≡ max (min ((bit_at w i + bit_at p i) % 2) (cond (ltb i 8) 1 0))
     (min (1 - (bit_at w i + bit_at (w * 2 ^ 1 % 2 ^ 64) i) % 2) (cond (ltb i 8) 0 (cond (eqb (i % 2) 0) 1 0)))
 wrong-parts w p i h g =
     bit_at_or _ _ i ∙ ap₂ max
     (bit_at_and _ 255 i ∙ ap₂ min (bit_at_xor w p i) (preamble-bit i))
     (bit_at_and _ 6148914691236517120 i
-    ∙ ap₂ min (bit_at_not w64 _ i (xor_lt 64 w (w * 2 ^ 1 % 2 ^ 64) h (mod_below (w * 2 ^ 1) (2 ^ 64) (lit< tt))) g ∙ ap (λ x. 1 - x) (bit_at_xor w _ i)) (slot_starts-bit i g))
+    ∙ ap₂ min (bit_at_not w64 _ i (xor_lt 64 w (w * 2 ^ 1 % 2 ^ 64) h (mod_below (w * 2 ^ 1) (2 ^ 64) (lit< tt))) g
+    ∙ ap (λ x. 1 - x) (bit_at_xor w _ i)) (slot_starts-bit i g))
 
 -- `((w ^ p) & 0xFF) | (!(w ^ (w << 1)) & 0x5555_5555_5555_5500)`, with p the preamble
 pub wrong-bit : (s : Level) (m : Mark) (w p i : ℕ) → w < 2 ^ 64 → low_cells 8 p ≡ line s (mark_runs m) → i < 64
-    → bit_at (bit_or (bit_and (bit_xor w p) 255) (bit_and (bit_not w64 (bit_xor w (w * 2 ^ 1 % 2 ^ 64))) 6148914691236517120)) i
+    → bit_at (bit_or (bit_and (bit_xor w p) 255)
+    (bit_and (bit_not w64 (bit_xor w (w * 2 ^ 1 % 2 ^ 64))) 6148914691236517120)) i
     ≡ cond (stands s m (low_cells 64 w) i) 0 1
 unfolding stands
 wrong-bit s m w p i h e g =
@@ -80,7 +86,8 @@ wrong-bit s m w p i h e g =
       where
         step : (i : ℕ) → i < 64 → 8 ≤ i → before s (low_cells 64 w) i ≡ level_of (bit_at w (i - 1))
         step zero g l = absurd (omega arith)
-        step (suc i) g l = low_cells-at 64 w i (omega arith) ∙ ap (λ j. level_of (bit_at w j)) (let q : i ≡ suc i - 1 = omega arith in q)
+        step (suc i) g l = low_cells-at 64 w i (omega arith)
+            ∙ ap (λ j. level_of (bit_at w j)) (let q : i ≡ suc i - 1 = omega arith in q)
 
     go : (i < 8) ⊎ (8 ≤ i) → (i % 2 ≡ 0) ⊎ (i % 2 ≡ 0 → ⊥)
         → max (min ((bit_at w i + bit_at p i) % 2) (cond (ltb i 8) 1 0))
@@ -109,12 +116,17 @@ pub true-from_zero : (b : Bool) → cond {A = ℕ} b 0 1 ≡ 0 → b ≡ true
 true-from_zero true e = refl
 true-from_zero false e = absurd (omega arith)
 
-judged-bit : (i : ℕ) → i < 64 → bit_at 15372286728091293183 i ≡ cond (ltb i 8) 1 (cond (eqb i 63) 1 (cond (eqb (i % 2) 0) 1 0))
+judged-bit : (i : ℕ) → i < 64
+    → bit_at 15372286728091293183 i ≡ cond (ltb i 8) 1 (cond (eqb i 63) 1 (cond (eqb (i % 2) 0) 1 0))
 judged-bit i h =
-    eqb-true _ _ (agree_below_at (λ i. eqb (bit_at 15372286728091293183 i) (cond (ltb i 8) 1 (cond (eqb i 63) 1 (cond (eqb (i % 2) 0) 1 0)))) (λ _. true) 64 i refl h)
+    eqb-true _ _ (agree_below_at
+    (λ i. eqb (bit_at 15372286728091293183 i) (cond (ltb i 8) 1 (cond (eqb i 63) 1 (cond (eqb (i % 2) 0) 1 0))))
+    (λ _. true) 64 i refl h)
 
 even-parts : (w p i : ℕ) → i < 64
-    → bit_at (bit_and (bit_xor (bit_xor (bit_and (w * 2 ^ 1 % 2 ^ 64) 6148914691236517120) w) (bit_or p 6148914691236517120)) 15372286728091293183) i
+    → bit_at (bit_and
+    (bit_xor (bit_xor (bit_and (w * 2 ^ 1 % 2 ^ 64) 6148914691236517120) w)
+    (bit_or p 6148914691236517120)) 15372286728091293183) i
     ≡ min (((min (bit_at (w * 2 ^ 1 % 2 ^ 64) i) (cond (ltb i 8) 0 (cond (eqb (i % 2) 0) 1 0)) + bit_at w i) % 2
     + max (bit_at p i) (cond (ltb i 8) 0 (cond (eqb (i % 2) 0) 1 0))) % 2)
     (cond (ltb i 8) 1 (cond (eqb i 63) 1 (cond (eqb (i % 2) 0) 1 0)))
@@ -122,21 +134,26 @@ even-parts w p i g =
     bit_at_and _ 15372286728091293183 i
     ∙ ap₂ min
     (bit_at_xor _ _ i ∙ ap₂ (λ x y. (x + y) % 2)
-    (bit_at_xor _ w i ∙ ap (λ x. (x + bit_at w i) % 2) (bit_at_and _ 6148914691236517120 i ∙ ap (min (bit_at (w * 2 ^ 1 % 2 ^ 64) i)) (slot_starts-bit i g)))
+    (bit_at_xor _ w i
+    ∙ ap (λ x. (x + bit_at w i) % 2) (bit_at_and _ 6148914691236517120 i
+    ∙ ap (min (bit_at (w * 2 ^ 1 % 2 ^ 64) i)) (slot_starts-bit i g)))
     (bit_at_or p 6148914691236517120 i ∙ ap (max (bit_at p i)) (slot_starts-bit i g)))
     (judged-bit i g)
 
 -- but for the last cell the same bits
 same-parts : (x w p i : ℕ) → x < 2 → w < 2 → p < 2 → (i ≡ 63 → ⊥)
-    → min (((min x (cond (ltb i 8) 0 (cond (eqb (i % 2) 0) 1 0)) + w) % 2 + max p (cond (ltb i 8) 0 (cond (eqb (i % 2) 0) 1 0))) % 2)
+    → min (((min x (cond (ltb i 8) 0 (cond (eqb (i % 2) 0) 1 0)) + w) % 2 + max p
+    (cond (ltb i 8) 0 (cond (eqb (i % 2) 0) 1 0))) % 2)
     (cond (ltb i 8) 1 (cond (eqb i 63) 1 (cond (eqb (i % 2) 0) 1 0)))
     ≡ max (min ((w + p) % 2) (cond (ltb i 8) 1 0)) (min (1 - (w + x) % 2) (cond (ltb i 8) 0 (cond (eqb (i % 2) 0) 1 0)))
 same-parts x w p i a b c n = go (cases_lt i 8) (cases_eq (i % 2) 0)
   where
     go : (i < 8) ⊎ (8 ≤ i) → (i % 2 ≡ 0) ⊎ (i % 2 ≡ 0 → ⊥)
-        → min (((min x (cond (ltb i 8) 0 (cond (eqb (i % 2) 0) 1 0)) + w) % 2 + max p (cond (ltb i 8) 0 (cond (eqb (i % 2) 0) 1 0))) % 2)
+        → min (((min x (cond (ltb i 8) 0 (cond (eqb (i % 2) 0) 1 0)) + w) % 2 + max p
+        (cond (ltb i 8) 0 (cond (eqb (i % 2) 0) 1 0))) % 2)
         (cond (ltb i 8) 1 (cond (eqb i 63) 1 (cond (eqb (i % 2) 0) 1 0)))
-        ≡ max (min ((w + p) % 2) (cond (ltb i 8) 1 0)) (min (1 - (w + x) % 2) (cond (ltb i 8) 0 (cond (eqb (i % 2) 0) 1 0)))
+        ≡ max (min ((w + p) % 2) (cond (ltb i 8) 1 0))
+        (min (1 - (w + x) % 2) (cond (ltb i 8) 0 (cond (eqb (i % 2) 0) 1 0)))
     go (inl l) v = let t = lt-ltb i 8 l in rw t (omega arith)
     go (inr l) (inl v) =
         let t = le-ltb i 8 l in
@@ -153,9 +170,13 @@ or-true : (b r : Bool) → ◌≡◌ {A = ℕ} (cond b 0 1) (cond (b && (true ||
 or-true true r = refl
 or-true false r = refl
 
--- `(((w << 1) & 0x5555_5555_5555_5500) ^ w ^ (p | 0x5555_5555_5555_5500)) & 0xD555_5555_5555_55FF`, with p the preamble and s its last
-pub wrong-even-bit : (s : Level) (m : Mark) (w p i : ℕ) → w < 2 ^ 64 → low_cells 8 p ≡ line s (mark_runs m) → level_of (bit_at p 63) ≡ s → i < 64
-    → bit_at (bit_and (bit_xor (bit_xor (bit_and (w * 2 ^ 1 % 2 ^ 64) 6148914691236517120) w) (bit_or p 6148914691236517120)) 15372286728091293183) i
+-- `(((w << 1) & 0x5555_5555_5555_5500) ^ w ^ (p | 0x5555_5555_5555_5500)) & 0xD555_5555_5555_55FF`, with p the preamble
+-- and s its last
+pub wrong-even-bit : (s : Level) (m : Mark) (w p i : ℕ) → w < 2 ^ 64 → low_cells 8 p ≡ line s (mark_runs m)
+    → level_of (bit_at p 63) ≡ s → i < 64
+    → bit_at (bit_and
+    (bit_xor (bit_xor (bit_and (w * 2 ^ 1 % 2 ^ 64) 6148914691236517120) w)
+    (bit_or p 6148914691236517120)) 15372286728091293183) i
     ≡ cond (stands_even s m (low_cells 64 w) i) 0 1
 wrong-even-bit s m w p i h e last g = even-parts w p i g ∙ go (cases_eq i 63)
   where
@@ -171,7 +192,8 @@ wrong-even-bit s m w p i h e last g = even-parts w p i g ∙ go (cases_eq i 63)
     stood : stands s m (low_cells 64 w) 63 ≡ true
     stood =
         let x = bit_at-lt w 63 in
-        true-from_zero _ (sym (wrong-bit s m w p 63 h e (omega arith)) ∙ wrong-parts w p 63 h (omega arith) ∙ omega arith)
+        true-from_zero _ (sym (wrong-bit s m w p 63 h e (omega arith)) ∙ wrong-parts w p 63 h (omega arith)
+        ∙ omega arith)
 
     at_last : parts 63 ≡ cond (stands_even s m (low_cells 64 w) 63) 0 1
     at_last =
@@ -188,7 +210,8 @@ wrong-even-bit s m w p i h e last g = even-parts w p i g ∙ go (cases_eq i 63)
         same-parts _ _ _ i (bit_at-lt (w * 2 ^ 1 % 2 ^ 64) i) (bit_at-lt w i) (bit_at-lt p i) n
         ∙ sym (wrong-parts w p i h g) ∙ wrong-bit s m w p i h e g
         ∙ or-true (stands s m (low_cells 64 w) i) (same (at (low_cells 64 w) i) s)
-        ∙ ap (λ b. cond (stands s m (low_cells 64 w) i && (not b || same (at (low_cells 64 w) i) s)) 0 1) (sym (ne_eqb i 63 n))
+        ∙ ap (λ b. cond (stands s m (low_cells 64 w) i && (not b || same (at (low_cells 64 w) i) s)) 0 1)
+        (sym (ne_eqb i 63 n))
 
 pub false-from_one : (b : Bool) → cond {A = ℕ} b 0 1 ≡ 1 → b ≡ false
 false-from_one true e = absurd (omega arith)

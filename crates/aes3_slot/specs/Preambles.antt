@@ -1,5 +1,6 @@
 -- Preambles where cells begin, and in a word of cells.
-use Rattle.std.specs.Prelude.{ℕ, List, [], ◌∷◌, ◌++◌, Bool, true, false, ◌&&◌, ◌||◌, ◌≡◌, ◌+◌, ◌*◌, ◌^◌, ◌<◌, length, take, drop, get_or, if◌then◌else◌}
+use Rattle.std.specs.Prelude.{ℕ, List, [], ◌∷◌, ◌++◌, Bool, true, false, ◌&&◌, ◌||◌, ◌≡◌, ◌+◌, ◌*◌, ◌^◌, ◌<◌, length}
+use Rattle.std.specs.Prelude.{take, drop, get_or, if◌then◌else◌}
 use Rattle.std.specs.Int.{bit_at}
 use Rattle.std.specs.List.{flat_map}
 use Rattle.aes3_cell.specs.declared.level.Level.{Level}
@@ -49,4 +50,5 @@ pub record InLanes (lanes : List ℕ) (test : ℕ → ℕ → Bool) : Type 0 whe
 -- where the preambles of blocks begin in the first words is told
 abbrev pub MarksAreTold : List ℕ → ℕ → List ℕ → ℕ → Type 0
 MarksAreTold words next out n =
-    (i k : ℕ) → i < n → k < 64 → bit_at (get_or out i 0) k ≡ (if begins_with Z (drop (64 * i + k) (words_with_seven words next)) then 1 else 0)
+    (i k : ℕ) → i < n → k < 64
+    → bit_at (get_or out i 0) k ≡ (if begins_with Z (drop (64 * i + k) (words_with_seven words next)) then 1 else 0)

@@ -1,11 +1,17 @@
 //! Subframes of an AES3 line: preambles, time slots, parity (AES3-3, IEC 60958-1).
 #![tactic(auto)]
 
+/// The cells of the time slots of four subframes at once.
 mod four;
+/// The three preambles X, Y and Z.
 mod mark;
+/// The eight cells of a preamble, and the preamble that eight cells are.
 mod preamble;
+/// Subframes read: which of 64 cells are wrong, and the bits that the others carry.
 mod reading;
+/// Where preambles stand in words of cells.
 mod search;
+/// The cells of a subframe, and its parity.
 mod subframe;
 
 pub use four::slots_cells_of_four;

@@ -12,6 +12,10 @@ returns-clause-cells c =
     let first = c.slots_cells-first.ensures in
     let second = c.slots_cells-second.ensures in
     cells-of-four s (λ i. if (i % 2) == 0 then c.args.even else c.args.odd)
-    (c.slots_cells-first.result ∷ c.slots_cells-second.result ∷ c.slots_cells-first.result ∷ c.slots_cells-second.result ∷ []) c.spread_words-turned.result c.odd_so_far.result c.args.words refl c.spread_words-turned.ensures.len
-    (two-in-turn (λ i z. word_cells z ≡ line s (slot_runs (if (i % 2) == 0 then c.args.even else c.args.odd) (slots_bits 0))) c.slots_cells-first.result c.slots_cells-second.result first second first second)
+    (c.slots_cells-first.result ∷ c.slots_cells-second.result ∷ c.slots_cells-first.result ∷ c.slots_cells-second.result
+    ∷ []) c.spread_words-turned.result c.odd_so_far.result c.args.words refl c.spread_words-turned.ensures.len
+    (two-in-turn
+    (λ i z. word_cells z ≡ line s
+    (slot_runs (if (i % 2) == 0 then c.args.even else c.args.odd)
+    (slots_bits 0))) c.slots_cells-first.result c.slots_cells-second.result first second first second)
     c.spread_words-turned.ensures.bits c.odd_so_far.ensures.first c.odd_so_far.ensures.next c.requires

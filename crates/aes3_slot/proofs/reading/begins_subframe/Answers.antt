@@ -15,21 +15,29 @@ none-set w e = ap (trailing_zeros w64) e ∙ trailing_of_zero 64
 
 pub returns-clause-yes : goal.returns-clause-yes
 returns-clause-yes c = λ r.
-    front-before c.args.before c.args.mark (word_cells c.args.cells) c.args.len (length-word c.args.cells) c.requires (λ i h.
+    front-before c.args.before c.args.mark (word_cells c.args.cells) c.args.len
+    (length-word c.args.cells) c.requires (λ i h.
     true-from_zero (stands c.args.before c.args.mark (word_cells c.args.cells) i)
-    (sym (c.wrong_cells.ensures i (let l = c.requires in omega (arith, l, h))) ∙ go (cases_eq c.wrong_cells.result 0) (leb-true _ _ r) i h))
+    (sym (c.wrong_cells.ensures i (let l = c.requires in omega (arith, l, h)))
+    ∙ go (cases_eq c.wrong_cells.result 0) (leb-true _ _ r) i h))
   where
-    go : (c.wrong_cells.result ≡ 0) ⊎ (c.wrong_cells.result ≡ 0 → ⊥) → c.args.len ≤ trailing_zeros w64 c.wrong_cells.result → (i : ℕ) → i < c.args.len → bit_at c.wrong_cells.result i ≡ 0
+    go : (c.wrong_cells.result ≡ 0) ⊎ (c.wrong_cells.result ≡ 0 → ⊥)
+        → c.args.len ≤ trailing_zeros w64 c.wrong_cells.result → (i : ℕ) → i < c.args.len
+        → bit_at c.wrong_cells.result i ≡ 0
     go (inl z) r i h = ap (λ w. bit_at w i) z ∙ bit_at-zero i
-    go (inr s) r i h = (bit_at-trailing_zeros w64 c.wrong_cells.result (omega (arith, s)) (omega arith)).2 i (omega (arith, r, h))
+    go (inr s) r i h = (bit_at-trailing_zeros w64 c.wrong_cells.result (omega (arith, s)) (omega arith)).2 i
+        (omega (arith, r, h))
 
 pub returns-clause-no : goal.returns-clause-no
 returns-clause-no c = λ r. go (cases_eq c.wrong_cells.result 0) (leb-false _ _ r)
   where
-    go : (c.wrong_cells.result ≡ 0) ⊎ (c.wrong_cells.result ≡ 0 → ⊥) → trailing_zeros w64 c.wrong_cells.result < c.args.len
+    go : (c.wrong_cells.result ≡ 0) ⊎ (c.wrong_cells.result ≡ 0 → ⊥)
+        → trailing_zeros w64 c.wrong_cells.result < c.args.len
         → IsFrontOf c.args.before c.args.mark (take c.args.len (word_cells c.args.cells)) → ⊥
     go (inl z) r = absurd (let t = none-set c.wrong_cells.result z in let l = c.requires in omega (arith, t, l, r))
     go (inr s) r =
         let z = bit_at-trailing_zeros w64 c.wrong_cells.result (omega (arith, s)) (omega arith) in
-        front-fails c.args.before c.args.mark (word_cells c.args.cells) c.args.len _ (length-word c.args.cells) c.requires r
-        (false-from_one (stands c.args.before c.args.mark (word_cells c.args.cells) _) (sym (c.wrong_cells.ensures _ z.0) ∙ z.1))
+        front-fails c.args.before c.args.mark
+        (word_cells c.args.cells) c.args.len _ (length-word c.args.cells) c.requires r
+        (false-from_one (stands c.args.before c.args.mark (word_cells c.args.cells) _)
+        (sym (c.wrong_cells.ensures _ z.0) ∙ z.1))

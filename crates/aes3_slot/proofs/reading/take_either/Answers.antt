@@ -17,7 +17,8 @@ use Rattle.aes3_slot.proofs.reading.take_either.Goals as goal
 pub returns-then-wrong-ne0-clause-owed : goal.returns-then-wrong-ne0-clause-owed
 returns-then-wrong-ne0-clause-owed c = λ payload right h e.
     let z = bit_at-trailing_zeros w64 c.wrong_cells-wrong.result (omega arith) (omega arith) in
-    let wrong = false-from_one (stands c.args.before c.args.mark (word_cells c.args.cells) _) (sym (c.wrong_cells-wrong.ensures _ z.0) ∙ z.1) in
+    let wrong = false-from_one (stands c.args.before c.args.mark (word_cells c.args.cells) _)
+    (sym (c.wrong_cells-wrong.ensures _ z.0) ∙ z.1) in
     absurd (true≢false (sym (some-stands c.args.before c.args.mark c.args.cells payload right e _ z.0) ∙ wrong))
 
 pub returns-then-wrong-ne0-clause-front : goal.returns-then-wrong-ne0-clause-front
@@ -25,29 +26,36 @@ returns-then-wrong-ne0-clause-front c =
     let z = bit_at-trailing_zeros w64 c.wrong_cells-wrong.result (omega arith) (omega arith) in
     let within = z.0 in
     front-before c.args.before c.args.mark (word_cells c.args.cells) _ (length-word c.args.cells) (omega arith)
-    (λ i h. true-from_zero (stands c.args.before c.args.mark (word_cells c.args.cells) i) (sym (c.wrong_cells-wrong.ensures i (omega arith)) ∙ z.2 i h))
+    (λ i h. true-from_zero (stands c.args.before c.args.mark (word_cells c.args.cells) i)
+    (sym (c.wrong_cells-wrong.ensures i (omega arith)) ∙ z.2 i h))
 
 pub returns-then-wrong-ne0-clause-stops : goal.returns-then-wrong-ne0-clause-stops
 returns-then-wrong-ne0-clause-stops c =
     let z = bit_at-trailing_zeros w64 c.wrong_cells-wrong.result (omega arith) (omega arith) in
     front-ends c.args.before c.args.mark (word_cells c.args.cells) _ (length-word c.args.cells) z.0
-    (false-from_one (stands c.args.before c.args.mark (word_cells c.args.cells) _) (sym (c.wrong_cells-wrong.ensures _ z.0) ∙ z.1))
+    (false-from_one (stands c.args.before c.args.mark (word_cells c.args.cells) _)
+    (sym (c.wrong_cells-wrong.ensures _ z.0) ∙ z.1))
 
 pub returns-clause-ok : goal.returns-clause-ok
 returns-clause-ok c =
     word-read c.args.before c.args.mark c.args.cells
     (λ i h. true-from_zero (stands c.args.before c.args.mark (word_cells c.args.cells) i)
-    (sym (c.wrong_cells-wrong.ensures i h) ∙ ap (λ w. bit_at w i) (let e : c.wrong_cells-wrong.result ≡ 0 = omega arith in e) ∙ bit_at-zero i))
-    ∙ ap (λ bits. line c.args.before (slot_runs c.args.mark bits)) (sym c.slot_bits.ensures.bits ∙ c.split_parity.ensures.bits)
+    (sym (c.wrong_cells-wrong.ensures i h)
+    ∙ ap (λ w. bit_at w i) (let e : c.wrong_cells-wrong.result ≡ 0 = omega arith in e) ∙ bit_at-zero i))
+    ∙ ap (λ bits. line c.args.before (slot_runs c.args.mark bits)) (sym c.slot_bits.ensures.bits
+    ∙ c.split_parity.ensures.bits)
 
 pub returns-clause-owed : goal.returns-clause-owed
 returns-clause-owed c = λ payload right h e.
     let own = returns-clause-ok c in
-    let same = some-owed c.args.before c.args.mark (word_cells c.args.cells) c.split_parity.result.0 payload c.split_parity.result.1 right c.split_parity.ensures.range h own e in
+    let same = some-owed c.args.before c.args.mark
+    (word_cells c.args.cells) c.split_parity.result.0 payload c.split_parity.result.1 right
+    c.split_parity.ensures.range h own e in
     ap₂ (λ p r. Ok (p, r)) same.0 same.1
 
 pub returns-clause-level : goal.returns-clause-level
 returns-clause-level c =
     let p = c.split_parity.result.0 in
     let right = c.split_parity.result.1 in
-    ap (λ d. at d 63) (returns-clause-ok c) ∙ some-level c.args.before c.args.mark (payload_bits p) right (length-low_bits payload_len p)
+    ap (λ d. at d 63) (returns-clause-ok c)
+    ∙ some-level c.args.before c.args.mark (payload_bits p) right (length-low_bits payload_len p)

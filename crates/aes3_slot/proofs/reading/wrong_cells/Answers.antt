@@ -5,4 +5,5 @@ use Rattle.aes3_slot.proofs.reading.wrong_cells.Goals as goal
 
 pub returns : goal.returns
 unfolding word_cells word_len
-returns c = λ i h. wrong-bit c.args.before c.args.mark c.args.cells c.mark_cells.result i (omega arith) c.mark_cells.ensures.cells h
+returns c = λ i h. wrong-bit c.args.before c.args.mark c.args.cells c.mark_cells.result i
+    (omega arith) c.mark_cells.ensures.cells h

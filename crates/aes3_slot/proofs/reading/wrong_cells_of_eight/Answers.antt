@@ -10,17 +10,20 @@ pub returns : goal.returns
 returns c =
     let s = c.args.before in
     wrong-lanes s (λ i. if (i % 2) == 0 then c.args.even else c.args.odd) c.args.cells _ c.fits-cells.0 refl
-    (λ i h. (Each1-get_or (Fits w64) c.args.cells i 0 (let n = c.fits-cells.0 in omega (arith, h, n)) c.fits-cells.1).fits)
+    (λ i h. (Each1-get_or (Fits w64) c.args.cells i 0 (let n = c.fits-cells.0 in
+    omega (arith, h, n)) c.fits-cells.1).fits)
     (in-turn (λ i p. Expected s (if (i % 2) == 0 then c.args.even else c.args.odd) p) _ _
     (λ i e. record {
       preamble = c.mark_cells-first.result;
       is = refl;
-      cells = c.mark_cells-first.ensures.cells ∙ ap (λ n. line s (mark_runs (if n == 0 then c.args.even else c.args.odd))) (sym e);
+      cells = c.mark_cells-first.ensures.cells
+          ∙ ap (λ n. line s (mark_runs (if n == 0 then c.args.even else c.args.odd))) (sym e);
       last = c.mark_cells-first.ensures.last;
     })
     (λ i e. record {
       preamble = c.mark_cells-second.result;
       is = refl;
-      cells = c.mark_cells-second.ensures.cells ∙ ap (λ n. line s (mark_runs (if n == 0 then c.args.even else c.args.odd))) (sym e);
+      cells = c.mark_cells-second.ensures.cells
+          ∙ ap (λ n. line s (mark_runs (if n == 0 then c.args.even else c.args.odd))) (sym e);
       last = c.mark_cells-second.ensures.last;
     }))

@@ -7,6 +7,7 @@ pub loop-i-preserved : goal.loop-i-preserved
 loop-i-preserved c = record {
   within = omega arith;
   len = length-put_chunk c.loop-i.i c.loop-i.out c.block_preambles_of_eight.result ∙ c.loop-i.invariant.len;
-  told = eight-more c.args.words.now c.loop-i.out c.block_preambles_of_eight.result c.args.next c.loop-i.i c.loop-i.invariant.len (omega arith) c.loop-i.invariant.told
+  told = eight-more c.args.words.now c.loop-i.out c.block_preambles_of_eight.result c.args.next c.loop-i.i
+      c.loop-i.invariant.len (omega arith) c.loop-i.invariant.told
       c.block_preambles_of_eight.ensures;
 }

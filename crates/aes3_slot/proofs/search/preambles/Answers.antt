@@ -6,4 +6,5 @@ pub returns : goal.returns
 unfolding begins_with_any
 returns c = λ k h.
     (says-or (record { is = c.mark_places-places.ensures.x k h })
-    (says-or (record { is = c.mark_places-places.ensures.y k h }) (record { is = c.mark_places-places.ensures.z k h }))).is
+    (says-or (record { is = c.mark_places-places.ensures.y k h })
+    (record { is = c.mark_places-places.ensures.z k h }))).is

@@ -4,4 +4,7 @@ use Rattle.aes3_slot.proofs.subframe.cells_from_turns.Goals as goal
 
 pub returns : goal.returns
 unfolding word_cells word_len
-returns c = cells-sums (sums-doubled 32 (sums-doubled 16 (sums-doubled 8 (sums-doubled 4 (sums-doubled 2 (sums-doubled 1 (sums-itself 64 c.args.turns)))))))
+returns c = cells-sums
+    (sums-doubled 32
+    (sums-doubled 16
+    (sums-doubled 8 (sums-doubled 4 (sums-doubled 2 (sums-doubled 1 (sums-itself 64 c.args.turns)))))))

@@ -5,4 +5,5 @@ use Rattle.aes3_slot.proofs.subframe.slot_turns.Goals as goal
 
 pub returns : goal.returns
 unfolding word_len slots_len
-returns c = turns-word c.mark_turns.result c.spread.result c.args.slots c.args.mark c.mark_turns.ensures.turns c.mark_turns.ensures.bound c.spread.ensures
+returns c = turns-word c.mark_turns.result c.spread.result c.args.slots c.args.mark c.mark_turns.ensures.turns
+    c.mark_turns.ensures.bound c.spread.ensures

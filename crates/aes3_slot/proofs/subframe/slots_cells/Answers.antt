@@ -10,7 +10,8 @@ use Rattle.aes3_slot.proofs.subframe.slots_cells.Goals as goal
 pub returns-in-Low : goal.returns-in-Low
 returns-in-Low c =
     c.cells_from_turns-cells.ensures ∙ ap (cells_of_turns Low) c.slot_turns.ensures
-    ∙ sym (line-turns Low c.args.mark (slots_bits c.args.slots)) ∙ ap (λ s. line s (slot_runs c.args.mark (slots_bits c.args.slots))) (sym c.in-Low.is)
+    ∙ sym (line-turns Low c.args.mark (slots_bits c.args.slots))
+    ∙ ap (λ s. line s (slot_runs c.args.mark (slots_bits c.args.slots))) (sym c.in-Low.is)
 
 pub returns-in-High : goal.returns-in-High
 unfolding word_cells word_len
@@ -18,4 +19,5 @@ returns-in-High c =
     low_cells-not 64 c.cells_from_turns-cells.result (omega arith) (omega arith)
     ∙ ap (map other) (c.cells_from_turns-cells.ensures ∙ ap (cells_of_turns Low) c.slot_turns.ensures)
     ∙ sym (cells_of_turns-other Low (run_turns (slot_runs c.args.mark (slots_bits c.args.slots))))
-    ∙ sym (line-turns High c.args.mark (slots_bits c.args.slots)) ∙ ap (λ s. line s (slot_runs c.args.mark (slots_bits c.args.slots))) (sym c.in-High.is)
+    ∙ sym (line-turns High c.args.mark (slots_bits c.args.slots))
+    ∙ ap (λ s. line s (slot_runs c.args.mark (slots_bits c.args.slots))) (sym c.in-High.is)

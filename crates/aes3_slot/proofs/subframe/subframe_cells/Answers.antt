@@ -9,4 +9,5 @@ unfolding slots_len payload_len
 returns c =
     c.slots_cells.ensures
     ∙ ap (λ bits. line c.args.before (slot_runs c.args.mark bits))
-    (low_bits-with_parity 27 32 c.args.payload c.from-parity.result c.payload_parity.result (omega arith) c.requires c.from-parity.ensures c.payload_parity.ensures)
+    (low_bits-with_parity 27 32 c.args.payload c.from-parity.result c.payload_parity.result
+    (omega arith) c.requires c.from-parity.ensures c.payload_parity.ensures)
