@@ -1,9 +1,12 @@
 -- The number of a field's bits, from the bytes that hold them.
-use Rattle.std.proofs.Common.{◌≡◌, ℕ, zero, suc, ◌+◌, ◌-◌, ◌*◌, ◌/◌, ◌%◌, ◌^◌, ◌<◌, ◌≤◌, ◌⊎◌, inl, inr, Bool, true, false, cond, List, [], ◌∷◌, ◌++◌, length, take, drop, get_or, refl, ap, ap₂, ◌∙◌, sym, arith, eqb, eq-eqb, ne_eqb, mul_assoc}
+use Rattle.std.proofs.Common.{◌≡◌, ℕ, zero, suc, ◌+◌, ◌-◌, ◌*◌, ◌/◌, ◌%◌, ◌^◌, ◌<◌, ◌≤◌, ◌⊎◌, inl, inr, Bool, true}
+use Rattle.std.proofs.Common.{false, cond, List, [], ◌∷◌, ◌++◌, length, take, drop, get_or, refl, ap, ap₂, ◌∙◌, sym}
+use Rattle.std.proofs.Common.{arith, eqb, eq-eqb, ne_eqb, mul_assoc}
 use Rattle.std.specs.Prelude.{bit_and}
 use Rattle.std.proofs.lemmas.Bool.{cases_eq}
 use Rattle.std.proofs.Math.Nat.{pow-suc}
-use Rattle.std.proofs.lemmas.List.{take_all, drop-append-le, take-append-le, drop_at, drop-drop, length-drop, length-take, take_more}
+use Rattle.std.proofs.lemmas.List.{take_all, drop-append-le, take-append-le, drop_at, drop-drop, length-drop}
+use Rattle.std.proofs.lemmas.List.{length-take, take_more}
 use Rattle.std.proofs.lemmas.Nat.{shr-shr, mod-pow-add, and_mask}
 use Rattle.std.proofs.lemmas.Nat.Bits.{ones_shr}
 use Rattle.aes3_status.specs.Bits.{low_bits, number, byte_bits, status_bits, field, bytes_field}
@@ -32,26 +35,31 @@ number-take (suc count) (suc k) n h =
     rw (first, rest) (omega (arith, step))
 
 -- bits from the middle of a number
-pub number-middle : (from count k n : ℕ) → from + count ≤ k → number (take count (drop from (low_bits k n))) ≡ n / 2 ^ from % 2 ^ count
+pub number-middle : (from count k n : ℕ) → from + count ≤ k
+    → number (take count (drop from (low_bits k n))) ≡ n / 2 ^ from % 2 ^ count
 number-middle zero count k n h = number-take count k n (omega arith) ∙ ap (λ m. m % 2 ^ count) (omega arith)
 number-middle (suc from) count zero n h = absurd (omega arith)
 number-middle (suc from) count (suc k) n h =
-    number-middle from count k (n / 2) (omega arith) ∙ ap (λ m. m % 2 ^ count) (shr-shr n 1 from ∙ ap (λ j. n / 2 ^ j) (omega arith))
+    number-middle from count k (n / 2) (omega arith)
+    ∙ ap (λ m. m % 2 ^ count) (shr-shr n 1 from ∙ ap (λ j. n / 2 ^ j) (omega arith))
 
 pub length-byte_bits : (n : ℕ) → length (byte_bits n) ≡ 8
 unfolding byte_bits
 length-byte_bits n = length-low_bits 8 n
 
 -- the bits behind the first byte
-drop-first : (x : ℕ) (bytes : List ℕ) (byte bit : ℕ) → drop (8 * suc byte + bit) (status_bits (x ∷ bytes)) ≡ drop (8 * byte + bit) (status_bits bytes)
+drop-first : (x : ℕ) (bytes : List ℕ) (byte bit : ℕ)
+    → drop (8 * suc byte + bit) (status_bits (x ∷ bytes)) ≡ drop (8 * byte + bit) (status_bits bytes)
 drop-first x bytes byte bit =
-    ap (λ n. drop n (byte_bits x ++ status_bits bytes)) (let e : 8 * suc byte + bit ≡ 8 + (8 * byte + bit) = omega arith in e)
+    ap (λ n. drop n (byte_bits x ++ status_bits bytes)) (let e : 8 * suc byte + bit ≡ 8 + (8 * byte + bit) =
+    omega arith in e)
     ∙ sym (drop-drop (8 * byte + bit) 8 (byte_bits x ++ status_bits bytes))
     ∙ ap (drop (8 * byte + bit)) (drop_at (byte_bits x) (status_bits bytes) 8 (length-byte_bits x))
 
 -- the bits of a status from within a byte on
 pub drop-bytes : (bytes : List ℕ) (byte bit : ℕ) → byte < length bytes → bit ≤ 8
-    → drop (8 * byte + bit) (status_bits bytes) ≡ drop bit (byte_bits (get_or bytes byte 0)) ++ status_bits (drop (suc byte) bytes)
+    → drop (8 * byte + bit) (status_bits bytes) ≡ drop bit (byte_bits (get_or bytes byte 0)) ++ status_bits
+    (drop (suc byte) bytes)
 drop-bytes [] byte bit h g = absurd (omega arith)
 drop-bytes (x ∷ bytes) zero bit h g =
     ap (λ n. drop n (byte_bits x ++ status_bits bytes)) (omega arith)
@@ -71,12 +79,14 @@ field-in_byte bytes byte bit count h g =
 -- the lowest bits of a byte, by a mask
 pub byte-mask : (n count : ℕ) → count ≤ 8 → bit_and n (255 / 2 ^ (8 - count)) ≡ n % 2 ^ count
 byte-mask n count h =
-    ap (bit_and n) (ones_shr 8 (8 - count) (omega arith) ∙ ap (λ k. 2 ^ k - 1) (let e : 8 - (8 - count) ≡ count = omega arith in e))
+    ap (bit_and n) (ones_shr 8 (8 - count) (omega arith)
+    ∙ ap (λ k. 2 ^ k - 1) (let e : 8 - (8 - count) ≡ count = omega arith in e))
     ∙ and_mask n count
 
 -- four bytes in a row
 pub take-four : (bytes : List ℕ) (byte : ℕ) → byte + 4 ≤ length bytes
-    → get_or bytes byte 0 ∷ get_or bytes (byte + 1) 0 ∷ get_or bytes (byte + 2) 0 ∷ get_or bytes (byte + 3) 0 ∷ [] ≡ bytes_field byte 4 bytes
+    → get_or bytes byte 0 ∷ get_or bytes (byte + 1) 0 ∷ get_or bytes (byte + 2) 0 ∷ get_or bytes
+    (byte + 3) 0 ∷ [] ≡ bytes_field byte 4 bytes
 unfolding bytes_field
 take-four [] byte h = absurd (omega arith)
 take-four (a ∷ []) zero h = absurd (omega arith)
@@ -92,14 +102,17 @@ take-four (x ∷ bytes) (suc byte) h =
 bit-at : (k n j : ℕ) → j < k → get_or (low_bits k n) j false ≡ eqb (n / 2 ^ j % 2) 1
 bit-at zero n j h = absurd (omega arith)
 bit-at (suc k) n zero h = ap (λ m. eqb (m % 2) 1) (omega arith)
-bit-at (suc k) n (suc j) h = bit-at k (n / 2) j (omega arith) ∙ ap (λ m. eqb (m % 2) 1) (shr-shr n 1 j ∙ ap (λ i. n / 2 ^ i) (omega arith))
+bit-at (suc k) n (suc j) h = bit-at k (n / 2) j (omega arith)
+    ∙ ap (λ m. eqb (m % 2) 1) (shr-shr n 1 j ∙ ap (λ i. n / 2 ^ i) (omega arith))
 
 -- one more of a byte's bits, by a shift and a mask
-pub take-bits : (byte k : ℕ) → k < 8 → take (k + 1) (byte_bits byte) ≡ take k (byte_bits byte) ++ eqb (bit_and (byte / 2 ^ k) 1) 1 ∷ []
+pub take-bits : (byte k : ℕ) → k < 8
+    → take (k + 1) (byte_bits byte) ≡ take k (byte_bits byte) ++ eqb (bit_and (byte / 2 ^ k) 1) 1 ∷ []
 unfolding byte_bits
 take-bits byte k h =
     take_more (low_bits 8 byte) k false (omega (arith, length-low_bits 8 byte))
-    ∙ ap (λ bit. take k (low_bits 8 byte) ++ bit ∷ []) (bit-at 8 byte k h ∙ ap (λ n. eqb n 1) (sym (and_mask (byte / 2 ^ k) 1)))
+    ∙ ap (λ bit. take k (low_bits 8 byte) ++ bit ∷ []) (bit-at 8 byte k h
+    ∙ ap (λ n. eqb n 1) (sym (and_mask (byte / 2 ^ k) 1)))
 
 pub number-append : (a b : List Bool) → number (a ++ b) ≡ number a + 2 ^ length a * number b
 number-append [] b = omega arith
@@ -108,14 +121,17 @@ number-append (bit ∷ a) b = rw (number-append a b, pow-suc) (omega (arith, mul
 pub take-past : (n : ℕ) (a b : List Bool) → take (length a + n) (a ++ b) ≡ a ++ take n b
 take-past n [] b = ap (λ k. take k b) (omega arith)
 take-past n (bit ∷ a) b =
-    ap (λ k. take k (bit ∷ a ++ b)) (let e : suc (length a) + n ≡ suc (length a + n) = omega arith in e) ∙ ap (λ bits. bit ∷ bits) (take-past n a b)
+    ap (λ k. take k (bit ∷ a ++ b)) (let e : suc (length a) + n ≡ suc (length a + n) = omega arith in e)
+    ∙ ap (λ bits. bit ∷ bits) (take-past n a b)
 
 number-byte : (x : ℕ) → x < 256 → number (byte_bits x) ≡ x
 unfolding byte_bits
-number-byte x h = ap number (sym (take_all 8 (low_bits 8 x) (omega (arith, length-low_bits 8 x)))) ∙ number-take 8 8 x (omega arith) ∙ omega arith
+number-byte x h = ap number (sym (take_all 8 (low_bits 8 x) (omega (arith, length-low_bits 8 x))))
+    ∙ number-take 8 8 x (omega arith) ∙ omega arith
 
 -- a byte is the lowest eight bits of a number that begins with it
-number-first : (x n : ℕ) (bits : List Bool) → x < 256 → number (take (8 + n) (byte_bits x ++ bits)) ≡ x + 256 * number (take n bits)
+number-first : (x n : ℕ) (bits : List Bool) → x < 256
+    → number (take (8 + n) (byte_bits x ++ bits)) ≡ x + 256 * number (take n bits)
 number-first x n bits h =
     ap (λ k. number (take (k + n) (byte_bits x ++ bits))) (sym (length-byte_bits x))
     ∙ ap number (take-past n (byte_bits x) bits)
@@ -123,7 +139,8 @@ number-first x n bits h =
     ∙ ap₂ (λ a k. a + 2 ^ k * number (take n bits)) (number-byte x h) (length-byte_bits x)
 
 pub four-bytes : (bytes : List ℕ) (byte : ℕ) → byte + 4 ≤ length bytes → ((i : ℕ) → get_or bytes i 0 < 256)
-    → field byte 0 32 bytes ≡ get_or bytes byte 0 + get_or bytes (byte + 1) 0 * 256 + get_or bytes (byte + 2) 0 * 65536 + get_or bytes (byte + 3) 0 * 16777216
+    → field byte 0 32 bytes ≡ get_or bytes byte 0 + get_or bytes (byte + 1) 0 * 256 + get_or bytes
+    (byte + 2) 0 * 65536 + get_or bytes (byte + 3) 0 * 16777216
 unfolding field
 four-bytes [] byte h f = absurd (omega arith)
 four-bytes (a ∷ []) zero h f = absurd (omega arith)
@@ -139,17 +156,21 @@ four-bytes (x ∷ bytes) (suc byte) h f =
     let second : suc byte + 1 ≡ suc (byte + 1) = omega arith in
     let third : suc byte + 2 ≡ suc (byte + 2) = omega arith in
     let fourth : suc byte + 3 ≡ suc (byte + 3) = omega arith in
-    rw (second, third, fourth) (ap (λ bits. number (take 32 bits)) (drop-first x bytes byte 0) ∙ four-bytes bytes byte (omega arith) (λ i. f (suc i)))
+    rw (second, third, fourth) (ap (λ bits. number (take 32 bits)) (drop-first x bytes byte 0)
+    ∙ four-bytes bytes byte (omega arith) (λ i. f (suc i)))
 
 number-below : (bits : List Bool) (count : ℕ) → length bits ≤ count → number bits < 2 ^ count
 number-below [] zero h = omega arith
 number-below [] (suc count) h = let g = number-below [] count (omega arith) in omega (arith, pow-suc 2 count)
 number-below (bit ∷ bits) zero h = absurd (omega arith)
-number-below (true ∷ bits) (suc count) h = let g = number-below bits count (omega arith) in omega (arith, pow-suc 2 count)
-number-below (false ∷ bits) (suc count) h = let g = number-below bits count (omega arith) in omega (arith, pow-suc 2 count)
+number-below (true ∷ bits) (suc count) h = let g = number-below bits count (omega arith) in
+    omega (arith, pow-suc 2 count)
+number-below (false ∷ bits) (suc count) h = let g = number-below bits count (omega arith) in
+    omega (arith, pow-suc 2 count)
 
 -- a field of so many bits
 pub field-fits : (byte bit count : ℕ) (bytes : List ℕ) → field byte bit count bytes < 2 ^ count
 unfolding field
 field-fits byte bit count bytes =
-    number-below (take count (drop (8 * byte + bit) (status_bits bytes))) count (omega (arith, length-take count (drop (8 * byte + bit) (status_bits bytes))))
+    number-below (take count (drop (8 * byte + bit) (status_bits bytes))) count
+    (omega (arith, length-take count (drop (8 * byte + bit) (status_bits bytes))))

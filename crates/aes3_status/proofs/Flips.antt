@@ -7,7 +7,8 @@ use Rattle.aes3_status.specs.Bits.{status_bits}
 use Rattle.aes3_status.specs.declared.check.Check.TheVariants.{Good}
 use Rattle.aes3_status.specs.Laws.{flipped, OneFlipped, TwoFlipped, OneFlipIsFound, TwoFlipsAreFound}
 use Rattle.aes3_status.proofs.Polynomials.{same_from_xor}
-use Rattle.aes3_status.proofs.Weights.{remainder-flipped, length-flipped, weight-not_zero, weights-apart, length-status_bits}
+use Rattle.aes3_status.proofs.Weights.{remainder-flipped, length-flipped, weight-not_zero, weights-apart}
+use Rattle.aes3_status.proofs.Weights.{length-status_bits}
 use Rattle.aes3_status.proofs.CheckBytes.{good-holds}
 
 pub status-length : (bytes : List ℕ) → length bytes ≡ 24 → length (status_bits bytes) ≡ 192
@@ -24,20 +25,27 @@ unfolding last_bit
 two-flips before after n h f g =
     weights-apart f.first f.second f.apart (omega arith)
     (same_from_xor (weight f.first) (weight f.second)
-    (ap (bit_xor (weight f.first)) (sym (remainder-flipped f.second before f.within ∙ ap (bit_xor (weight f.second)) h ∙ xor_zero_r (weight f.second)))
+    (ap (bit_xor (weight f.first))
+    (sym (remainder-flipped f.second before f.within ∙ ap (bit_xor (weight f.second)) h
+    ∙ xor_zero_r (weight f.second)))
     ∙ sym (remainder-flipped f.first (flipped f.second before) (omega (arith, length-flipped f.second before)))
     ∙ ap remainder (sym f.is) ∙ g))
 
 -- ---- the same of a status
-pub one-flip-state : (before after : List ℕ) → length after ≡ 24 → check_state_of before ≡ Good → OneFlipped (status_bits before) (status_bits after)
+pub one-flip-state : (before after : List ℕ) → length after ≡ 24 → check_state_of before ≡ Good
+    → OneFlipped (status_bits before) (status_bits after)
     → check_state_of after ≡ Good → ⊥
 one-flip-state before after e g f h =
     one-flip (status_bits before) (status_bits after)
-    (sym (length-flipped f.place (status_bits before)) ∙ ap length (sym f.is) ∙ status-length after e) (good-holds before g) f (good-holds after h)
+    (sym (length-flipped f.place (status_bits before)) ∙ ap length (sym f.is) ∙ status-length after e)
+    (good-holds before g) f (good-holds after h)
 
-pub two-flips-state : (before after : List ℕ) → length after ≡ 24 → check_state_of before ≡ Good → TwoFlipped (status_bits before) (status_bits after)
+pub two-flips-state : (before after : List ℕ) → length after ≡ 24 → check_state_of before ≡ Good
+    → TwoFlipped (status_bits before) (status_bits after)
     → check_state_of after ≡ Good → ⊥
 two-flips-state before after e g f h =
     two-flips (status_bits before) (status_bits after)
-    (sym (length-flipped f.second (status_bits before)) ∙ sym (length-flipped f.first (flipped f.second (status_bits before))) ∙ ap length (sym f.is) ∙ status-length after e)
+    (sym (length-flipped f.second (status_bits before))
+    ∙ sym (length-flipped f.first (flipped f.second (status_bits before))) ∙ ap length (sym f.is)
+    ∙ status-length after e)
     (good-holds before g) f (good-holds after h)

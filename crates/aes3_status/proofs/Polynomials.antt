@@ -1,5 +1,6 @@
 -- Polynomials of degree below 8 modulo the generator: the powers of x.
-use Rattle.std.proofs.Common.{◌≡◌, ℕ, zero, suc, ◌+◌, ◌*◌, ◌/◌, ◌%◌, ◌^◌, ◌<◌, Bool, true, cond, not, ◌&&◌, eqb, ltb, refl, ap, ap₂, ◌∙◌, sym, arith, lit<, eqb-true}
+use Rattle.std.proofs.Common.{◌≡◌, ℕ, zero, suc, ◌+◌, ◌*◌, ◌/◌, ◌%◌, ◌^◌, ◌<◌, Bool, true, cond, not, ◌&&◌, eqb, ltb}
+use Rattle.std.proofs.Common.{refl, ap, ap₂, ◌∙◌, sym, arith, lit<, eqb-true}
 use Rattle.std.specs.Prelude.{bit_xor}
 use Rattle.std.specs.Int.Bits.{xor_assoc, xor_self, xor_zero_l, xor_zero_r}
 use Rattle.std.proofs.lemmas.Bool.{agree_below_at, and_parts, eqb-false, ltb-true, not-true}
@@ -35,7 +36,9 @@ times_x-lt p h = ltb-true _ _ (agree_below_at (λ p. ltb (times_x p) 256) (λ _.
 -- x times a sum; the coefficient of x^7 decides whether the generator comes in
 times_x-by_top : (p : ℕ) → p < 2 ^ 8 → times_x p ≡ bit_xor (2 * p) (p / 128 * generator)
 unfolding times_x
-times_x-by_top p h = eqb-true _ _ (agree_below_at (λ p. eqb (times_x p) (bit_xor (2 * p) (p / 128 * generator))) (λ _. true) 256 p refl h)
+times_x-by_top p h =
+    eqb-true _ _ (agree_below_at (λ p. eqb (times_x p) (bit_xor (2 * p) (p / 128 * generator)))
+    (λ _. true) 256 p refl h)
 
 double-xor : (p q : ℕ) → 2 * bit_xor p q ≡ bit_xor (2 * p) (2 * q)
 double-xor p q =
@@ -56,7 +59,8 @@ top-xor (suc (suc a)) b h g = absurd (omega arith)
 pub times_x-xor : (p q : ℕ) → p < 2 ^ 8 → q < 2 ^ 8 → times_x (bit_xor p q) ≡ bit_xor (times_x p) (times_x q)
 times_x-xor p q h g =
     times_x-by_top (bit_xor p q) (xor_lt 8 p q h g)
-    ∙ ap₂ bit_xor (double-xor p q) (ap (λ n. n * generator) (xor_shr p q 7) ∙ top-xor (p / 128) (q / 128) (omega arith) (omega arith))
+    ∙ ap₂ bit_xor (double-xor p q) (ap (λ n. n * generator) (xor_shr p q 7)
+    ∙ top-xor (p / 128) (q / 128) (omega arith) (omega arith))
     ∙ xor_swap (2 * p) (2 * q) (p / 128 * generator) (q / 128 * generator)
     ∙ sym (ap₂ bit_xor (times_x-by_top p h) (times_x-by_top q g))
 
@@ -74,7 +78,8 @@ power-lt (suc n) = times_x-lt (power_of_x n) (power-lt n)
 -- no power of x is 0
 pub power-not_zero : (n : ℕ) → power_of_x n ≡ 0 → ⊥
 power-not_zero zero e = absurd (omega arith)
-power-not_zero (suc n) e = power-not_zero n (times_x_once (power_of_x n) 0 (power-lt n) (lit< tt) (e ∙ sym times_x-zero))
+power-not_zero (suc n) e =
+    power-not_zero n (times_x_once (power_of_x n) 0 (power-lt n) (lit< tt) (e ∙ sym times_x-zero))
 
 -- the next powers after p are not 1
 abbrev never_one : ℕ → ℕ → Bool
@@ -87,8 +92,12 @@ times_by (suc n) p = times_by n (times_x p)
 
 never_one_at : (count p n : ℕ) → never_one count p ≡ true → n < count → times_by (suc n) p ≡ 1 → ⊥
 never_one_at zero p n e h = λ q. absurd (omega arith)
-never_one_at (suc count) p zero e h = λ q. eqb-false (times_x p) 1 (not-true (eqb (times_x p) 1) (and_parts (not (eqb (times_x p) 1)) (never_one count (times_x p)) e).0) q
-never_one_at (suc count) p (suc n) e h = never_one_at count (times_x p) n (and_parts (not (eqb (times_x p) 1)) (never_one count (times_x p)) e).1 (omega arith)
+never_one_at (suc count) p zero e h =
+    λ q. eqb-false (times_x p) 1
+    (not-true (eqb (times_x p) 1) (and_parts (not (eqb (times_x p) 1)) (never_one count (times_x p)) e).0) q
+never_one_at (suc count) p (suc n) e h =
+    never_one_at count (times_x p) n (and_parts (not (eqb (times_x p) 1)) (never_one count (times_x p)) e).1
+    (omega arith)
 
 times_by-last : (n p : ℕ) → times_by (suc n) p ≡ times_x (times_by n p)
 times_by-last zero p = refl
@@ -108,11 +117,15 @@ pub powers-apart : (n m : ℕ) → n < m → m < 192 → power_of_x n ≡ power_
 powers-apart zero zero h g e = absurd (omega arith)
 powers-apart zero (suc m) h g e = power-not_one m (omega arith) (sym e)
 powers-apart (suc n) zero h g e = absurd (omega arith)
-powers-apart (suc n) (suc m) h g e = powers-apart n m (omega arith) (omega arith) (times_x_once (power_of_x n) (power_of_x m) (power-lt n) (power-lt m) e)
+powers-apart (suc n) (suc m) h g e =
+    powers-apart n m (omega arith) (omega arith)
+    (times_x_once (power_of_x n) (power_of_x m) (power-lt n) (power-lt m) e)
 
-pub times_by-xor : (n p q : ℕ) → p < 2 ^ 8 → q < 2 ^ 8 → times_by n (bit_xor p q) ≡ bit_xor (times_by n p) (times_by n q)
+pub times_by-xor : (n p q : ℕ) → p < 2 ^ 8 → q < 2 ^ 8
+    → times_by n (bit_xor p q) ≡ bit_xor (times_by n p) (times_by n q)
 times_by-xor zero p q h g = refl
-times_by-xor (suc n) p q h g = ap (times_by n) (times_x-xor p q h g) ∙ times_by-xor n (times_x p) (times_x q) (times_x-lt p h) (times_x-lt q g)
+times_by-xor (suc n) p q h g = ap (times_by n) (times_x-xor p q h g)
+    ∙ times_by-xor n (times_x p) (times_x q) (times_x-lt p h) (times_x-lt q g)
 
 pub times_by-zero : (n : ℕ) → times_by n 0 ≡ 0
 times_by-zero zero = refl

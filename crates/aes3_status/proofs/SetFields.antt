@@ -1,8 +1,11 @@
 -- Bits of a byte, and with it of a status, replaced.
-use Rattle.std.proofs.Common.{◌≡◌, ℕ, zero, suc, ◌+◌, ◌-◌, ◌*◌, ◌/◌, ◌%◌, ◌^◌, ◌<◌, ◌≤◌, Bool, true, false, List, [], ◌∷◌, ◌++◌, length, take, drop, get_or, set, refl, ap, ap₂, ◌∙◌, sym, arith, append_assoc, length-append, length-drop}
+use Rattle.std.proofs.Common.{◌≡◌, ℕ, zero, suc, ◌+◌, ◌-◌, ◌*◌, ◌/◌, ◌%◌, ◌^◌, ◌<◌, ◌≤◌, Bool, true, false, List, []}
+use Rattle.std.proofs.Common.{◌∷◌, ◌++◌, length, take, drop, get_or, set, refl, ap, ap₂, ◌∙◌, sym, arith, append_assoc}
+use Rattle.std.proofs.Common.{length-append, length-drop}
 use Rattle.std.proofs.Math.Nat.{pow-suc, mod-eq_of_lt, mul_assoc, mul_comm, mul-add, pow-le-pow_right}
 use Rattle.std.proofs.Math.Seq.{take-append-add, drop-append-add}
-use Rattle.std.proofs.lemmas.List.{take_all, take-append-le, drop-append-le, drop-drop, drop-take, length-take-le, take-append-drop}
+use Rattle.std.proofs.lemmas.List.{take_all, take-append-le, drop-append-le, drop-drop, drop-take, length-take-le}
+use Rattle.std.proofs.lemmas.List.{take-append-drop}
 use Rattle.std.proofs.lemmas.Nat.{shr-shr, pow-add}
 use Rattle.aes3_status.specs.Bits.{low_bits, number, byte_bits, status_bits}
 use Rattle.aes3_status.specs.Settings.{with_bits}
@@ -10,7 +13,8 @@ use Rattle.aes3_status.proofs.BitFields.{length-low_bits, length-byte_bits, numb
 
 -- ---- numbers and their bits
 pub number-low : (k n : ℕ) → number (low_bits k n) ≡ n % 2 ^ k
-number-low k n = ap number (sym (take_all k (low_bits k n) (omega (arith, length-low_bits k n)))) ∙ number-take k k n (omega arith)
+number-low k n = ap number (sym (take_all k (low_bits k n) (omega (arith, length-low_bits k n))))
+    ∙ number-take k k n (omega arith)
 
 pub low-number : (bits : List Bool) → low_bits (length bits) (number bits) ≡ bits
 low-number [] = refl
@@ -36,22 +40,31 @@ number-drop (suc from) (suc k) n h g =
     ∙ shr-shr n 1 from ∙ ap (λ j. n / 2 ^ j) (let e : 1 + from ≡ suc from = omega arith in e)
 
 -- ---- a byte
-length-with_bits : (at : ℕ) (new bits : List Bool) → at + length new ≤ length bits → length (with_bits at new bits) ≡ length bits
+length-with_bits : (at : ℕ) (new bits : List Bool) → at + length new ≤ length bits
+    → length (with_bits at new bits) ≡ length bits
 length-with_bits at new bits h =
     length-append (take at bits) (new ++ drop (at + length new) bits)
-    ∙ omega (arith, length-take-le at bits (omega arith), length-append new (drop (at + length new) bits), length-drop (at + length new) bits)
+    ∙ omega (
+      arith,
+      length-take-le at bits (omega arith),
+      length-append new (drop (at + length new) bits),
+      length-drop
+          (at + length new) bits,
+    )
 
 regrouped : (p q a d : ℕ) → p * (a + q * d) ≡ a * p + d * (p * q)
 regrouped p q a d = mul-add p a (q * d) ∙ ap₂ ◌+◌ (mul_comm p a) (sym (mul_assoc p q d) ∙ mul_comm (p * q) d)
 
 -- a byte with bits replaced, as a number
 replaced-number : (n first count code : ℕ) → n < 256 → first + count ≤ 8
-    → number (with_bits first (low_bits count code) (byte_bits n)) ≡ n % 2 ^ first + (code % 2 ^ count * 2 ^ first + n / 2 ^ (first + count) * 2 ^ (first + count))
+    → number (with_bits first (low_bits count code) (byte_bits n))
+    ≡ n % 2 ^ first + (code % 2 ^ count * 2 ^ first + n / 2 ^ (first + count) * 2 ^ (first + count))
 unfolding byte_bits
 replaced-number n first count code h g =
     let l = length-low_bits count code in
     let low = length-take-le first (low_bits 8 n) (omega (arith, length-low_bits 8 n)) in
-    number-append (take first (low_bits 8 n)) (low_bits count code ++ drop (first + length (low_bits count code)) (low_bits 8 n))
+    number-append (take first (low_bits 8 n))
+    (low_bits count code ++ drop (first + length (low_bits count code)) (low_bits 8 n))
     ∙ ap₂ (λ a b. a + b) (number-take first 8 n (omega arith))
     (ap₂ (λ k m. 2 ^ k * m) low
     (number-append (low_bits count code) (drop (first + length (low_bits count code)) (low_bits 8 n))
@@ -61,11 +74,14 @@ replaced-number n first count code h g =
     ∙ regrouped (2 ^ first) (2 ^ count) (code % 2 ^ count) (n / 2 ^ (first + count))
     ∙ ap (λ r. code % 2 ^ count * 2 ^ first + n / 2 ^ (first + count) * r) (sym (pow-add 2 first count)))
 
-length-replaced : (n first count code : ℕ) → first + count ≤ 8 → length (with_bits first (low_bits count code) (byte_bits n)) ≡ 8
+length-replaced : (n first count code : ℕ) → first + count ≤ 8
+    → length (with_bits first (low_bits count code) (byte_bits n)) ≡ 8
 length-replaced n first count code g =
-    length-with_bits first (low_bits count code) (byte_bits n) (omega (arith, length-low_bits count code, length-byte_bits n)) ∙ length-byte_bits n
+    length-with_bits first (low_bits count code) (byte_bits n)
+    (omega (arith, length-low_bits count code, length-byte_bits n)) ∙ length-byte_bits n
 
-replaced-fits : (n first count code : ℕ) → first + count ≤ 8 → number (with_bits first (low_bits count code) (byte_bits n)) < 256
+replaced-fits : (n first count code : ℕ) → first + count ≤ 8
+    → number (with_bits first (low_bits count code) (byte_bits n)) < 256
 replaced-fits n first count code g =
     let w = with_bits first (low_bits count code) (byte_bits n) in
     let e : 2 ^ length w ≡ 256 = ap (λ k. 2 ^ k) (length-replaced n first count code g) in
@@ -82,18 +98,22 @@ small k h =
 
 -- the same as the program adds it up
 pub replaced-sum : (n first count code : ℕ) → n < 256 → first + count ≤ 8
-    → n % (1 * 2 ^ first % 4294967296) + code % (1 * 2 ^ count % 4294967296) * 2 ^ first % 4294967296 + n / 2 ^ (first + count) * 2 ^ (first + count) % 4294967296
+    → n % (1 * 2 ^ first % 4294967296) + code % (1 * 2 ^ count % 4294967296) * 2 ^ first % 4294967296 + n / 2 ^
+    (first + count) * 2 ^ (first + count) % 4294967296
     ≡ number (with_bits first (low_bits count code) (byte_bits n))
 replaced-sum n first count code h g =
     let e = replaced-number n first count code h g in
     let f = replaced-fits n first count code g in
     let x : code % 2 ^ count * 2 ^ first % 4294967296 ≡ code % 2 ^ count * 2 ^ first = mod-eq_of_lt (omega arith) in
-    let y : n / 2 ^ (first + count) * 2 ^ (first + count) % 4294967296 ≡ n / 2 ^ (first + count) * 2 ^ (first + count) = mod-eq_of_lt (omega arith) in
+    let y : n / 2 ^ (first + count) * 2 ^ (first + count) % 4294967296 ≡ n / 2 ^ (first + count) * 2 ^ (first + count) =
+    mod-eq_of_lt (omega arith) in
     rw (small first (omega arith), small count (omega arith), x, y) (omega arith)
 
 pub replaced-byte : (n first count code : ℕ) → n < 256 → first + count ≤ 8
-    → n % (1 * 2 ^ first % 4294967296) + code % (1 * 2 ^ count % 4294967296) * 2 ^ first % 4294967296 + n / 2 ^ (first + count) * 2 ^ (first + count) % 4294967296 < 256
-replaced-byte n first count code h g = omega (arith, replaced-sum n first count code h g, replaced-fits n first count code g)
+    → n % (1 * 2 ^ first % 4294967296) + code % (1 * 2 ^ count % 4294967296) * 2 ^ first % 4294967296 + n / 2 ^
+    (first + count) * 2 ^ (first + count) % 4294967296 < 256
+replaced-byte n first count code h g =
+    omega (arith, replaced-sum n first count code h g, replaced-fits n first count code g)
 
 -- ---- a status
 byte-bits-of : (bits : List Bool) → length bits ≡ 8 → byte_bits (number bits) ≡ bits
@@ -101,12 +121,14 @@ unfolding byte_bits
 byte-bits-of bits e = ap (λ k. low_bits k (number bits)) (sym e) ∙ low-number bits
 
 pub status-set : (bytes : List ℕ) (byte first : ℕ) (new : List Bool) → byte < length bytes → first + length new ≤ 8
-    → status_bits (set bytes byte (number (with_bits first new (byte_bits (get_or bytes byte 0))))) ≡ with_bits (8 * byte + first) new (status_bits bytes)
+    → status_bits (set bytes byte (number (with_bits first new (byte_bits (get_or bytes byte 0))))) ≡ with_bits
+    (8 * byte + first) new (status_bits bytes)
 status-set [] byte first new h g = absurd (omega arith)
 status-set (x ∷ bytes) zero first new h g =
     let l = length-byte_bits x in
     let e : 8 * zero + first ≡ first = omega arith in
-    ap (λ b. b ++ status_bits bytes) (byte-bits-of (with_bits first new (byte_bits x)) (length-with_bits first new (byte_bits x) (omega arith) ∙ l))
+    ap (λ b. b ++ status_bits bytes)
+    (byte-bits-of (with_bits first new (byte_bits x)) (length-with_bits first new (byte_bits x) (omega arith) ∙ l))
     ∙ append_assoc (take first (byte_bits x)) (new ++ drop (first + length new) (byte_bits x)) (status_bits bytes)
     ∙ ap₂ (λ a b. a ++ b) (sym (take-append-le first (byte_bits x) (status_bits bytes) (omega arith)))
     (append_assoc new (drop (first + length new) (byte_bits x)) (status_bits bytes)
@@ -120,16 +142,19 @@ status-set (x ∷ bytes) (suc byte) first new h g =
     ap (λ b. byte_bits x ++ b) (status-set bytes byte first new (omega arith) g)
     ∙ sym (append_assoc (byte_bits x) (take at (status_bits bytes)) (new ++ drop (at + length new) (status_bits bytes)))
     ∙ ap₂ (λ a b. a ++ (new ++ b)) (sym (take-append-add (byte_bits x) (status_bits bytes) at))
-    (sym (drop-append-add (byte_bits x) (status_bits bytes) (at + length new)) ∙ ap (λ k. drop k (byte_bits x ++ status_bits bytes)) (sym d))
+    (sym (drop-append-add (byte_bits x) (status_bits bytes) (at + length new))
+    ∙ ap (λ k. drop k (byte_bits x ++ status_bits bytes)) (sym d))
     ∙ ap (λ k. with_bits k new (byte_bits x ++ status_bits bytes)) (sym e)
 
 -- ---- bits from another place
-pub new-back : (at : ℕ) (new bits : List Bool) → at + length new ≤ length bits → take (length new) (drop at (with_bits at new bits)) ≡ new
+pub new-back : (at : ℕ) (new bits : List Bool) → at + length new ≤ length bits
+    → take (length new) (drop at (with_bits at new bits)) ≡ new
 new-back at new bits h =
     let l = length-take-le at bits (omega arith) in
     let e : at ≡ length (take at bits) + 0 = omega arith in
     let k : length new ≡ length new + 0 = omega arith in
-    ap (take (length new)) (ap (λ n. drop n (with_bits at new bits)) e ∙ drop-append-add (take at bits) (new ++ drop (at + length new) bits) 0)
+    ap (take (length new)) (ap (λ n. drop n (with_bits at new bits)) e
+    ∙ drop-append-add (take at bits) (new ++ drop (at + length new) bits) 0)
     ∙ ap (λ n. take n (new ++ drop (at + length new) bits)) k
     ∙ take-append-add new (drop (at + length new) bits) 0
     ∙ simp append-nil-take
@@ -142,8 +167,11 @@ pub before-stays : (at from count : ℕ) (new bits : List Bool) → at + length 
     → take count (drop from (with_bits at new bits)) ≡ take count (drop from bits)
 before-stays at from count new bits h g =
     sym (drop-take from count (with_bits at new bits))
-    ∙ ap (drop from) (take-append-le (from + count) (take at bits) (new ++ drop (at + length new) bits) (omega (arith, length-take-le at bits (omega arith)))
-    ∙ sym (take-append-le (from + count) (take at bits) (drop at bits) (omega (arith, length-take-le at bits (omega arith))))
+    ∙ ap (drop from)
+    (take-append-le (from + count) (take at bits) (new ++ drop (at + length new) bits)
+    (omega (arith, length-take-le at bits (omega arith)))
+    ∙ sym (take-append-le (from + count) (take at bits) (drop at bits)
+    (omega (arith, length-take-le at bits (omega arith))))
     ∙ ap (take (from + count)) (take-append-drop at bits))
     ∙ drop-take from count bits
 

@@ -1,5 +1,6 @@
 -- The laws of a code in a field.
-use Rattle.std.proofs.Common.{◌≡◌, ℕ, ◌+◌, ◌*◌, ◌<◌, ◌≤◌, inl, inr, eqb, List, Option, Some, None, length, take, drop, refl, ap, ◌∙◌, sym, arith}
+use Rattle.std.proofs.Common.{◌≡◌, ℕ, ◌+◌, ◌*◌, ◌<◌, ◌≤◌, inl, inr, eqb, List, Option, Some, None, length, take, drop}
+use Rattle.std.proofs.Common.{refl, ap, ◌∙◌, sym, arith}
 use Rattle.std.proofs.lemmas.List.{length-set}
 use Rattle.aes3_status.specs.declared.place.Place.{Place}
 use Rattle.aes3_status.specs.declared.field.ProField.{ProField}
@@ -13,7 +14,8 @@ use Rattle.aes3_status.specs.Consumer.{con_place}
 use Rattle.aes3_status.specs.Professional.{pro_place}
 use Rattle.aes3_status.specs.Statuses.{is_professional}
 use Rattle.aes3_status.specs.Settings.{with_bits, with_field, place_of, under, code_for, with_code}
-use Rattle.aes3_status.specs.SettingLaws.{IsPlace, first_bit, OnlyItsBitsChange, CodeIsReadBack, OtherFieldsStay, MeaningStays, SettingIsReadBack}
+use Rattle.aes3_status.specs.SettingLaws.{IsPlace, first_bit, OnlyItsBitsChange, CodeIsReadBack, OtherFieldsStay}
+use Rattle.aes3_status.specs.SettingLaws.{MeaningStays, SettingIsReadBack}
 use Rattle.aes3_status.proofs.BitFields.{length-low_bits, field-fits}
 use Rattle.aes3_status.proofs.Weights.{length-status_bits}
 use Rattle.aes3_status.proofs.SetFields.{number-low, status-set, new-back, before-stays, behind-stays}
@@ -23,7 +25,8 @@ unfolding with_field
 only-its-bits place code bytes h e =
     let w = h.within in
     let i = h.inside in
-    status-set bytes place.byte place.first (low_bits place.count code) (omega arith) (omega (arith, length-low_bits place.count code))
+    status-set bytes place.byte place.first (low_bits place.count code) (omega arith)
+    (omega (arith, length-low_bits place.count code))
 
 fits-in : (place : Place) (code : ℕ) (bytes : List ℕ) → IsPlace place → length bytes ≡ 24
     → first_bit place + length (low_bits place.count code) ≤ length (status_bits bytes)
@@ -36,18 +39,24 @@ pub code-back : CodeIsReadBack
 unfolding field
 code-back place code bytes h e =
     ap (λ b. number (take place.count (drop (first_bit place) b))) (only-its-bits place code bytes h e)
-    ∙ ap (λ k. number (take k (drop (first_bit place) (with_bits (first_bit place) (low_bits place.count code) (status_bits bytes))))) (sym (length-low_bits place.count code))
-    ∙ ap number (new-back (first_bit place) (low_bits place.count code) (status_bits bytes) (fits-in place code bytes h e))
+    ∙ ap (λ k. number
+    (take k (drop (first_bit place) (with_bits (first_bit place) (low_bits place.count code) (status_bits bytes)))))
+    (sym (length-low_bits place.count code))
+    ∙ ap number (new-back (first_bit place) (low_bits place.count code) (status_bits bytes)
+    (fits-in place code bytes h e))
     ∙ number-low place.count code
 
 pub others-stay : OtherFieldsStay
 unfolding field
 others-stay place code bytes byte bit count h e (inl g) =
     ap (λ b. number (take count (drop (8 * byte + bit) b))) (only-its-bits place code bytes h e)
-    ∙ ap number (before-stays (first_bit place) (8 * byte + bit) count (low_bits place.count code) (status_bits bytes) (fits-in place code bytes h e) g)
+    ∙ ap number (before-stays (first_bit place) (8 * byte + bit) count (low_bits place.count code) (status_bits bytes)
+    (fits-in place code bytes h e) g)
 others-stay place code bytes byte bit count h e (inr g) =
     ap (λ b. number (take count (drop (8 * byte + bit) b))) (only-its-bits place code bytes h e)
-    ∙ ap (λ b. number (take count b)) (behind-stays (first_bit place) (8 * byte + bit) (low_bits place.count code) (status_bits bytes) (fits-in place code bytes h e)
+    ∙ ap (λ b. number (take count b))
+    (behind-stays (first_bit place) (8 * byte + bit) (low_bits place.count code) (status_bits bytes)
+    (fits-in place code bytes h e)
     (omega (arith, length-low_bits place.count code)))
 
 -- each field lies within one byte, behind the bit that tells the use
@@ -97,13 +106,15 @@ field-lies (Consumer f) = con-lies f
 pub field-is : (f : Field) → IsPlace (place_of f)
 field-is f = (field-lies f).is
 
-use-stays : (f : Field) (code : ℕ) (bytes : List ℕ) → length bytes ≡ 24 → is_professional (with_field (place_of f) code bytes) ≡ is_professional bytes
+use-stays : (f : Field) (code : ℕ) (bytes : List ℕ) → length bytes ≡ 24
+    → is_professional (with_field (place_of f) code bytes) ≡ is_professional bytes
 use-stays f code bytes e =
     let l = field-lies f in
     let b = l.behind in
     ap (λ n. eqb n 1) (others-stay (place_of f) code bytes 0 0 1 l.is e (inl (omega arith)))
 
-under-stays : (f : Field) (code : ℕ) (bytes : List ℕ) → length bytes ≡ 24 → under f (with_field (place_of f) code bytes) ≡ under f bytes
+under-stays : (f : Field) (code : ℕ) (bytes : List ℕ) → length bytes ≡ 24
+    → under f (with_field (place_of f) code bytes) ≡ under f bytes
 under-stays (Professional pro.Payload) code bytes e = refl
 under-stays (Professional pro.Emphasis) code bytes e = refl
 under-stays (Professional pro.Unlocked) code bytes e = refl
@@ -111,7 +122,8 @@ under-stays (Professional pro.Rate) code bytes e = refl
 under-stays (Professional pro.Mode) code bytes e = refl
 under-stays (Professional pro.User) code bytes e = refl
 under-stays (Professional pro.Aux) code bytes e = refl
-under-stays (Professional pro.Word) code bytes e = others-stay (pro_place pro.Word) code bytes 2 0 3 (pro-lies pro.Word).is e (inl (omega arith))
+under-stays (Professional pro.Word) code bytes e =
+    others-stay (pro_place pro.Word) code bytes 2 0 3 (pro-lies pro.Word).is e (inl (omega arith))
 under-stays (Professional pro.B2high) code bytes e = refl
 under-stays (Professional pro.B3) code bytes e = refl
 under-stays (Professional pro.B4) code bytes e = refl
@@ -120,7 +132,8 @@ under-stays (Professional pro.Unreliable) code bytes e = refl
 under-stays (Professional pro.B22low) code bytes e = refl
 under-stays (Consumer con.Payload) code bytes e = refl
 under-stays (Consumer con.Copyright) code bytes e = refl
-under-stays (Consumer con.Emphasis) code bytes e = others-stay (con_place con.Emphasis) code bytes 0 1 1 (con-lies con.Emphasis).is e (inl (omega arith))
+under-stays (Consumer con.Emphasis) code bytes e = others-stay (con_place con.Emphasis) code bytes 0 1 1
+    (con-lies con.Emphasis).is e (inl (omega arith))
 under-stays (Consumer con.Mode) code bytes e = refl
 under-stays (Consumer con.Category) code bytes e = refl
 under-stays (Consumer con.Generation) code bytes e = refl
@@ -130,7 +143,8 @@ under-stays (Consumer con.Rate) code bytes e = refl
 under-stays (Consumer con.Accuracy) code bytes e = refl
 under-stays (Consumer con.B3high) code bytes e = refl
 under-stays (Consumer con.Greatest) code bytes e = refl
-under-stays (Consumer con.Word) code bytes e = others-stay (con_place con.Word) code bytes 4 0 1 (con-lies con.Word).is e (inl (omega arith))
+under-stays (Consumer con.Word) code bytes e =
+    others-stay (con_place con.Word) code bytes 4 0 1 (con-lies con.Word).is e (inl (omega arith))
 under-stays (Consumer con.Original) code bytes e = refl
 
 length-with_field : (place : Place) (code : ℕ) (bytes : List ℕ) → length (with_field place code bytes) ≡ length bytes
@@ -138,10 +152,12 @@ unfolding with_field
 length-with_field place code bytes = length-set bytes place.byte _
 
 code-stays : (f : Field) (o : Option ℕ) (bytes : List ℕ) → length bytes ≡ 24
-    → (length (with_code (place_of f) o bytes) ≡ 24) × (is_professional (with_code (place_of f) o bytes) ≡ is_professional bytes)
+    → (length (with_code (place_of f) o bytes) ≡ 24)
+    × (is_professional (with_code (place_of f) o bytes) ≡ is_professional bytes)
     × (under f (with_code (place_of f) o bytes) ≡ under f bytes)
 code-stays f None bytes e = (e, refl, refl)
-code-stays f (Some code) bytes e = (length-with_field (place_of f) code bytes ∙ e, use-stays f code bytes e, under-stays f code bytes e)
+code-stays f (Some code) bytes e =
+    (length-with_field (place_of f) code bytes ∙ e, use-stays f code bytes e, under-stays f code bytes e)
 
 pub meaning-stays : MeaningStays
 meaning-stays setting bytes e = code-stays setting.field (code_for setting bytes) bytes e

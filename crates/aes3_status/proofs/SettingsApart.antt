@@ -1,5 +1,6 @@
 -- Fields for one use have no bit in common.
-use Rattle.std.proofs.Common.{◌≡◌, ◌≢◌, ◌∙◌, ℕ, ◌+◌, ◌<◌, ◌≤◌, ◌⊎◌, inl, inr, Bool, true, false, eqb, List, length, get_or, Option, Some, None, refl, ap, sym, subst, arith}
+use Rattle.std.proofs.Common.{◌≡◌, ◌≢◌, ◌∙◌, ℕ, ◌+◌, ◌<◌, ◌≤◌, ◌⊎◌, inl, inr, Bool, true, false, eqb, List, length}
+use Rattle.std.proofs.Common.{get_or, Option, Some, None, refl, ap, sym, subst, arith}
 use Rattle.std.proofs.lemmas.Bool.{eqb-true, leb-true}
 use Rattle.std.proofs.lemmas.List.{get_or_default}
 use Rattle.std.proofs.lemmas.List.Folds.{list_all_at}
@@ -32,7 +33,8 @@ Apart p q = (first_bit p + p.count ≤ first_bit q) ⊎ (first_bit q + q.count �
 are-apart : (p q : Place) → apart p q ≡ true → Apart p q
 are-apart p q h = go (nat_le (first_bit p + p.count) (first_bit q)) refl h
   where
-    go : (b : Bool) → nat_le (first_bit p + p.count) (first_bit q) ≡ b → (b || nat_le (first_bit q + q.count) (first_bit p)) ≡ true → Apart p q
+    go : (b : Bool) → nat_le (first_bit p + p.count) (first_bit q) ≡ b
+        → (b || nat_le (first_bit q + q.count) (first_bit p)) ≡ true → Apart p q
     go true e g = inl (leb-true _ _ e)
     go false e g = inr (leb-true _ _ g)
 
@@ -43,7 +45,8 @@ same-or-apart number place f g = eqb (number f) (number g) || apart (place f) (p
 abbrev pairs-apart : {F : Type 0} → (F → ℕ) → (F → Place) → List F → Bool
 pairs-apart number place fields = list_all (λ f. list_all (same-or-apart number place f) fields) fields
 
-passes : {F : Type 0} (p : F → Bool) (xs : List F) (i : ℕ) (d : F) → i < length xs → list_all p xs ≡ true → p (get_or xs i d) ≡ true
+passes : {F : Type 0} (p : F → Bool) (xs : List F) (i : ℕ) (d : F) → i < length xs → list_all p xs ≡ true
+    → p (get_or xs i d) ≡ true
 passes p xs i d l h = go (p (get_or xs i d)) refl
   where
     go : (b : Bool) → p (get_or xs i d) ≡ b → p (get_or xs i d) ≡ true
@@ -51,7 +54,8 @@ passes p xs i d l h = go (p (get_or xs i d)) refl
     go false e = let g = sym h ∙ list_all_at p xs i d l e in cc
 
 pair-apart : {F : Type 0} (number : F → ℕ) (place : F → Place) (fields : List F)
-    → ((f : F) → number f < length fields) → ((f : F) → get_or fields (number f) f ≡ f) → pairs-apart number place fields ≡ true
+    → ((f : F) → number f < length fields) → ((f : F) → get_or fields (number f) f ≡ f)
+    → pairs-apart number place fields ≡ true
     → (f g : F) → f ≢ g → Apart (place f) (place g)
 pair-apart number place fields within back h f g other = go (eqb (number f) (number g)) refl second
   where
@@ -61,11 +65,14 @@ pair-apart number place fields within back h f g other = go (eqb (number f) (num
         (passes (λ x. list_all (same-or-apart number place x) fields) fields (number f) f (within f) h)
 
     second : same-or-apart number place f g ≡ true
-    second = subst (λ x. same-or-apart number place f x ≡ true) (back g) (passes (same-or-apart number place f) fields (number g) g (within g) first)
+    second = subst (λ x. same-or-apart number place f x ≡ true) (back g)
+        (passes (same-or-apart number place f) fields (number g) g (within g) first)
 
-    go : (b : Bool) → eqb (number f) (number g) ≡ b → (b || apart (place f) (place g)) ≡ true → Apart (place f) (place g)
+    go : (b : Bool) → eqb (number f) (number g) ≡ b → (b || apart (place f) (place g)) ≡ true
+        → Apart (place f) (place g)
     go true e k =
-        absurd (other (sym (back f) ∙ ap (λ i. get_or fields i f) (eqb-true (number f) (number g) e) ∙ get_or_default fields (number g) f g (within g) ∙ back g))
+        absurd (other (sym (back f) ∙ ap (λ i. get_or fields i f) (eqb-true (number f) (number g) e)
+        ∙ get_or_default fields (number g) f g (within g) ∙ back g))
     go false e k = are-apart (place f) (place g) k
 
 abbrev pro-number : ProField → ℕ
@@ -178,7 +185,8 @@ stays-apart f g code bytes e (inl h) =
 stays-apart f g code bytes e (inr h) =
     others-stay (place_of f) code bytes (place_of g).byte (place_of g).first (place_of g).count (field-is f) e (inr h)
 
-same-use : (f g : Field) (code : ℕ) (bytes : List ℕ) → length bytes ≡ 24 → is_for f bytes ≡ true → is_for g bytes ≡ true → g ≢ f
+same-use : (f g : Field) (code : ℕ) (bytes : List ℕ) → length bytes ≡ 24 → is_for f bytes ≡ true
+    → is_for g bytes ≡ true → g ≢ f
     → number_at (place_of g) (with_field (place_of f) code bytes) ≡ number_at (place_of g) bytes
 same-use (Professional f) (Professional g) code bytes e h k other =
     stays-apart (Professional f) (Professional g) code bytes e (pro-apart g f (λ s. other (ap Professional s)))
@@ -195,7 +203,8 @@ same-use (Consumer f) (Professional g) code bytes e h k other = absurd (two-uses
     two-uses true h k = cc
     two-uses false h k = cc
 
-code-stays-beside : (f g : Field) (b : Bool) (o : Option ℕ) (bytes : List ℕ) → length bytes ≡ 24 → is_for f bytes ≡ b → is_for g bytes ≡ true → g ≢ f
+code-stays-beside : (f g : Field) (b : Bool) (o : Option ℕ) (bytes : List ℕ) → length bytes ≡ 24 → is_for f bytes ≡ b
+    → is_for g bytes ≡ true → g ≢ f
     → number_at (place_of g) (with_code (place_of f) (cond b o None) bytes) ≡ number_at (place_of g) bytes
 code-stays-beside f g false o bytes e h k other = refl
 code-stays-beside f g true None bytes e h k other = refl
@@ -203,7 +212,8 @@ code-stays-beside f g true (Some code) bytes e h k other = same-use f g code byt
 
 pub other-codes-stay : OtherCodesStay
 other-codes-stay setting f bytes e k other =
-    code-stays-beside setting.field f (is_for setting.field bytes) (get_or setting.codes (under setting.field bytes) None) bytes e refl k other
+    code-stays-beside setting.field f (is_for setting.field bytes)
+    (get_or setting.codes (under setting.field bytes) None) bytes e refl k other
 
 -- ---- the field that tells what the codes of another mean is for the same use
 told-use : (f : Field) (bytes : List ℕ) → IfSome (told_by f) (λ g. is_for g bytes ≡ is_for f bytes)
@@ -236,9 +246,11 @@ told-use (Consumer con.Greatest) bytes = tt
 told-use (Consumer con.Word) bytes = refl
 told-use (Consumer con.Original) bytes = tt
 
-told-stays : (o : Option Field) (setting : Setting) (f : Field) (bytes : List ℕ) → length bytes ≡ 24 → is_for f bytes ≡ true
+told-stays : (o : Option Field) (setting : Setting) (f : Field) (bytes : List ℕ) → length bytes ≡ 24
+    → is_for f bytes ≡ true
     → IfSome o (λ g. is_for g bytes ≡ is_for f bytes) → o ≢ Some setting.field
-    → option_map_or (λ g. number_at (place_of g) (set_by setting bytes)) o 0 ≡ option_map_or (λ g. number_at (place_of g) bytes) o 0
+    → option_map_or (λ g. number_at (place_of g) (set_by setting bytes)) o 0 ≡ option_map_or
+    (λ g. number_at (place_of g) bytes) o 0
 told-stays None setting f bytes e k u other = refl
 told-stays (Some g) setting f bytes e k u other = other-codes-stay setting g bytes e (u ∙ k) (λ s. other (ap Some s))
 

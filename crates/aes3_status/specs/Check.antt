@@ -1,6 +1,7 @@
 -- The check byte (CRCC) of professional channel status (AES3-2).
 -- A polynomial is a number whose bit k is the coefficient of x^k.
-use Rattle.std.specs.Prelude.{ℕ, zero, suc, List, [], ◌∷◌, Bool, true, ◌≡◌, ◌+◌, ◌-◌, ◌*◌, ◌^◌, ◌==◌, nat_lt, bit_xor, replicate, reverse, slice_index, if◌then◌else◌}
+use Rattle.std.specs.Prelude.{ℕ, zero, suc, List, [], ◌∷◌, Bool, true, ◌≡◌, ◌+◌, ◌-◌, ◌*◌, ◌^◌, ◌==◌, nat_lt, bit_xor}
+use Rattle.std.specs.Prelude.{replicate, reverse, slice_index, if◌then◌else◌}
 use Rattle.aes3_status.specs.declared.check.Check.{Check}
 use Rattle.aes3_status.specs.declared.check.Check.TheVariants.{Good, Absent, Bad}
 use Rattle.aes3_status.specs.Bits.{low_bits, number, status_bits}

@@ -7,7 +7,9 @@ use Rattle.aes3_status.specs.Bits.{bytes_field, number_at, place}
 
 -- the fields within a byte
 abbrev pub con_fields : List ConField
-con_fields = con.Payload ∷ con.Copyright ∷ con.Emphasis ∷ con.Mode ∷ con.Category ∷ con.Generation ∷ con.Source ∷ con.Number ∷ con.Rate ∷ con.Accuracy ∷ con.B3high ∷ con.Greatest ∷ con.Word ∷ con.Original ∷ []
+con_fields =
+    con.Payload ∷ con.Copyright ∷ con.Emphasis ∷ con.Mode ∷ con.Category ∷ con.Generation ∷ con.Source ∷ con.Number
+    ∷ con.Rate ∷ con.Accuracy ∷ con.B3high ∷ con.Greatest ∷ con.Word ∷ con.Original ∷ []
 
 -- where the fields within a byte stand: each by its byte, its first bit there and its number of bits
 abbrev pub con_place : ConField → Place

@@ -7,7 +7,9 @@ use Rattle.aes3_status.specs.Bits.{field, bytes_field, number_at, place}
 
 -- the fields within a byte
 abbrev pub pro_fields : List ProField
-pro_fields = pro.Payload ∷ pro.Emphasis ∷ pro.Unlocked ∷ pro.Rate ∷ pro.Mode ∷ pro.User ∷ pro.Aux ∷ pro.Word ∷ pro.B2high ∷ pro.B3 ∷ pro.B4 ∷ pro.B5 ∷ pro.Unreliable ∷ pro.B22low ∷ []
+pro_fields =
+    pro.Payload ∷ pro.Emphasis ∷ pro.Unlocked ∷ pro.Rate ∷ pro.Mode ∷ pro.User ∷ pro.Aux ∷ pro.Word ∷ pro.B2high
+    ∷ pro.B3 ∷ pro.B4 ∷ pro.B5 ∷ pro.Unreliable ∷ pro.B22low ∷ []
 
 -- where the fields within a byte stand: each by its byte, its first bit there and its number of bits
 abbrev pub pro_place : ProField → Place

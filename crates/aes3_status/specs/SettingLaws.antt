@@ -19,7 +19,8 @@ first_bit place = 8 * place.byte + place.first
 -- its bits become those of the code, and all others stay
 abbrev pub OnlyItsBitsChange : Type 0
 OnlyItsBitsChange = (place : Place) (code : ℕ) (bytes : List ℕ) → IsPlace place → length bytes ≡ 24
-    → status_bits (with_field place code bytes) ≡ with_bits (first_bit place) (low_bits place.count code) (status_bits bytes)
+    → status_bits (with_field place code bytes) ≡ with_bits (first_bit place) (low_bits place.count code)
+    (status_bits bytes)
 
 -- the code is read back, as far as the field has bits for it
 abbrev pub CodeIsReadBack : Type 0
@@ -40,15 +41,18 @@ MeaningStays = (setting : Setting) (bytes : List ℕ) → length bytes ≡ 24
 
 -- where it has a code for the status, the field has it then
 abbrev pub SettingIsReadBack : Type 0
-SettingIsReadBack = (setting : Setting) (bytes : List ℕ) (code : ℕ) → length bytes ≡ 24 → code_for setting bytes ≡ Some code
+SettingIsReadBack = (setting : Setting) (bytes : List ℕ) (code : ℕ) → length bytes ≡ 24
+    → code_for setting bytes ≡ Some code
     → number_at (place_of setting.field) (set_by setting bytes) ≡ code % 2 ^ (place_of setting.field).count
 
 -- a setting leaves the code of each other field, where the status is for that field's use
 abbrev pub OtherCodesStay : Type 0
-OtherCodesStay = (setting : Setting) (f : Field) (bytes : List ℕ) → length bytes ≡ 24 → is_for f bytes ≡ true → f ≢ setting.field
+OtherCodesStay = (setting : Setting) (f : Field) (bytes : List ℕ) → length bytes ≡ 24 → is_for f bytes ≡ true
+    → f ≢ setting.field
     → number_at (place_of f) (set_by setting bytes) ≡ number_at (place_of f) bytes
 
 -- and what tells the meaning of its codes, unless this is the field that is set
 abbrev pub OtherMeaningsStay : Type 0
-OtherMeaningsStay = (setting : Setting) (f : Field) (bytes : List ℕ) → length bytes ≡ 24 → is_for f bytes ≡ true → told_by f ≢ Some setting.field
+OtherMeaningsStay = (setting : Setting) (f : Field) (bytes : List ℕ) → length bytes ≡ 24 → is_for f bytes ≡ true
+    → told_by f ≢ Some setting.field
     → under f (set_by setting bytes) ≡ under f bytes

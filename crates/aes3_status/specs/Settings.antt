@@ -1,5 +1,6 @@
 -- Fields of channel status that get another code.
-use Rattle.std.specs.Prelude.{ℕ, List, ◌++◌, Bool, not, Option, Some, None, ◌+◌, length, take, drop, get_or, slice_set, fold, if◌then◌else◌}
+use Rattle.std.specs.Prelude.{ℕ, List, ◌++◌, Bool, not, Option, Some, None, ◌+◌, length, take, drop, get_or, slice_set}
+use Rattle.std.specs.Prelude.{fold, if◌then◌else◌}
 use Rattle.std.specs.Option.{option_map_or}
 use Rattle.aes3_status.specs.declared.place.Place.{Place}
 use Rattle.aes3_status.specs.declared.field.ProField.{ProField}
@@ -21,7 +22,8 @@ with_bits at new bits = take at bits ++ (new ++ drop (at + length new) bits)
 -- a status with the lowest bits of a number in a field within one byte
 unfoldable pub with_field : Place → ℕ → List ℕ → List ℕ
 with_field place code bytes =
-    slice_set bytes place.byte (number (with_bits place.first (low_bits place.count code) (byte_bits (get_or bytes place.byte 0))))
+    slice_set bytes place.byte
+    (number (with_bits place.first (low_bits place.count code) (byte_bits (get_or bytes place.byte 0))))
 
 -- where a field stands
 abbrev pub place_of : Field → Place
@@ -53,7 +55,8 @@ under f bytes = option_map_or (λ g. number_at (place_of g) bytes) (told_by f) 0
 
 -- the code that a setting has for a status; none where the status is for the other use
 abbrev pub code_for : Setting → List ℕ → Option ℕ
-code_for setting bytes = if is_for setting.field bytes then get_or setting.codes (under setting.field bytes) None else None
+code_for setting bytes = if is_for setting.field bytes then get_or setting.codes
+    (under setting.field bytes) None else None
 
 abbrev pub with_code : Place → Option ℕ → List ℕ → List ℕ
 with_code place None bytes = bytes

@@ -2,15 +2,25 @@
 //! and their check byte (AES3-2, IEC 60958-3).
 #![tactic(auto)]
 
+/// Where a field stands in the 24 bytes.
 mod bits;
+/// What the channel status of a stream is changed to.
 mod change;
+/// The check byte (CRCC) of professional channel status.
 mod check;
+/// The fields for consumer use.
 mod consumer;
+/// The fields that a code can be written to.
 mod field;
+/// Laws of the check byte and of fields that are set.
 pub mod laws;
+/// Where a field stands within a byte, and a code written there.
 mod place;
+/// The fields for professional use.
 mod professional;
+/// Codes for fields, and status in which they are set.
 mod setting;
+/// Channel status for either use.
 mod status;
 
 pub use change::Change;

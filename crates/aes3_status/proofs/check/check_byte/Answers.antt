@@ -16,7 +16,8 @@ loop-byte-preserved c = record {
   fits = omega arith;
   shifted =
       c.shift_byte-register.ensures
-      ∙ ap (λ p. after_bits p (byte_bits (get_or (take 23 c.args.bytes.now) c.loop-byte.byte-index 0))) c.loop-byte.invariant.shifted
+      ∙ ap (λ p. after_bits p
+      (byte_bits (get_or (take 23 c.args.bytes.now) c.loop-byte.byte-index 0))) c.loop-byte.invariant.shifted
       ∙ sym (after_bits-bytes 255 (take 23 c.args.bytes.now) c.loop-byte.byte-index (omega arith));
 }
 
@@ -24,11 +25,14 @@ loop-byte-preserved c = record {
 front : (c : goal.After-loop-byte) → length (take 23 c.args.bytes.now) ≡ 23
 front c = length-take-le 23 c.args.bytes.now (omega arith)
 
-at_end : (c : goal.After-loop-byte) → polynomial c.loop-byte.register ≡ remainder (status_bits (take 23 c.args.bytes.now))
+at_end : (c : goal.After-loop-byte)
+    → polynomial c.loop-byte.register ≡ remainder (status_bits (take 23 c.args.bytes.now))
 at_end c =
     c.loop-byte.invariant.shifted
-    ∙ ap (λ b. after_bits 255 (status_bits b)) (take_all c.loop-byte.byte-index (take 23 c.args.bytes.now) (omega arith))
-    ∙ after_bits-remainder (status_bits (take 23 c.args.bytes.now)) (omega (arith, length-status_bits (take 23 c.args.bytes.now), front c))
+    ∙ ap (λ b. after_bits 255 (status_bits b))
+    (take_all c.loop-byte.byte-index (take 23 c.args.bytes.now) (omega arith))
+    ∙ after_bits-remainder (status_bits (take 23 c.args.bytes.now))
+    (omega (arith, length-status_bits (take 23 c.args.bytes.now), front c))
 
 pub returns-clause-value : goal.returns-clause-value
 returns-clause-value c = check_byte-is (take 23 c.args.bytes.now) c.loop-byte.register (omega arith) (at_end c)

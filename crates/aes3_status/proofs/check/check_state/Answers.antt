@@ -5,7 +5,8 @@ use Rattle.aes3_status.proofs.check.check_state.Goals as goal
 
 pub returns-then-sent-check_byte-clause-state : goal.returns-then-sent-check_byte-clause-state
 returns-then-sent-check_byte-clause-state c =
-    sym (state-good c.args.bytes.now c.check_byte.result c.told-bytes c.check_byte.ensures.holds c.if-sent-check_byte.true)
+    sym (state-good c.args.bytes.now c.check_byte.result c.told-bytes c.check_byte.ensures.holds
+    c.if-sent-check_byte.true)
 
 pub returns-then-sent-check_byte-clause-one_flip : goal.returns-then-sent-check_byte-clause-one_flip
 returns-then-sent-check_byte-clause-one_flip c = λ before was flipped same.
@@ -19,8 +20,10 @@ returns-then-sent-check_byte-clause-two_flips c = λ before was flipped same.
 
 pub returns-then-sent-eq0-clause-state : goal.returns-then-sent-eq0-clause-state
 returns-then-sent-eq0-clause-state c =
-    sym (state-absent c.args.bytes.now c.check_byte.result c.told-bytes c.check_byte.ensures.only (c.fits-bytes 23) c.if-sent-check_byte.false c.if-sent-eq0.true)
+    sym (state-absent c.args.bytes.now c.check_byte.result c.told-bytes c.check_byte.ensures.only
+    (c.fits-bytes 23) c.if-sent-check_byte.false c.if-sent-eq0.true)
 
 pub returns-else-sent-eq0-clause-state : goal.returns-else-sent-eq0-clause-state
 returns-else-sent-eq0-clause-state c =
-    sym (state-bad c.args.bytes.now c.check_byte.result c.told-bytes c.check_byte.ensures.only (c.fits-bytes 23) c.if-sent-check_byte.false c.if-sent-eq0.false)
+    sym (state-bad c.args.bytes.now c.check_byte.result c.told-bytes c.check_byte.ensures.only
+    (c.fits-bytes 23) c.if-sent-check_byte.false c.if-sent-eq0.false)

@@ -16,4 +16,5 @@ loop-place-preserved c =
 pub returns : goal.returns
 returns c =
     c.loop-place.invariant
-    ∙ ap (after_bits (polynomial c.args.register)) (take_all c.loop-place.place (byte_bits c.args.byte) (omega (arith, length-byte_bits c.args.byte)))
+    ∙ ap (after_bits (polynomial c.args.register))
+    (take_all c.loop-place.place (byte_bits c.args.byte) (omega (arith, length-byte_bits c.args.byte)))

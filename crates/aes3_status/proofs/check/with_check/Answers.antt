@@ -6,4 +6,5 @@ use Rattle.aes3_status.proofs.check.with_check.Goals as goal
 
 pub returns-clause-holds : goal.returns-clause-holds
 returns-clause-holds c =
-    ap (λ b. remainder (status_bits b)) (set-last c.args.bytes c.check_byte.result (omega arith)) ∙ c.check_byte.ensures.holds
+    ap (λ b. remainder (status_bits b)) (set-last c.args.bytes c.check_byte.result (omega arith))
+    ∙ c.check_byte.ensures.holds

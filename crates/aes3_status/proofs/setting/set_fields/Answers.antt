@@ -11,4 +11,6 @@ pub loop-setting-preserved : goal.loop-setting-preserved
 unfolding set_in_turn
 loop-setting-preserved c =
     c.set_field.ensures ∙ ap (set_by _) c.loop-setting.invariant
-    ∙ sym (fold_more (λ status setting. set_by setting status) c.args.bytes.now c.args.settings.now c.loop-setting.setting-index _ (omega arith))
+    ∙ sym (fold_more
+    (λ status setting. set_by setting status) c.args.bytes.now c.args.settings.now c.loop-setting.setting-index
+    _ (omega arith))
