@@ -1,5 +1,6 @@
 -- Blocks kept as words.
-use Rattle.std.proofs.Common.{◌≡◌, ◌≢◌, ℕ, zero, suc, ◌*◌, ◌/◌, ◌%◌, List, ◌∷◌, Bool, true, cond, map, set, get_or, replicate, refl, ap, ap₂, ◌∙◌, arith, eq-eqb, ne_eqb}
+use Rattle.std.proofs.Common.{◌≡◌, ◌≢◌, ℕ, zero, suc, ◌*◌, ◌/◌, ◌%◌, List, ◌∷◌, Bool, true, cond, map, set, get_or}
+use Rattle.std.proofs.Common.{replicate, refl, ap, ap₂, ◌∙◌, arith, eq-eqb, ne_eqb}
 use Rattle.std.proofs.lemmas.List.{map-set}
 use Rattle.aes3_slot.specs.declared.mark.Mark.{Mark}
 use Rattle.aes3_slot.specs.declared.mark.Mark.TheVariants.{X, Y, Z}
@@ -36,7 +37,8 @@ zeros-lawful words e i = ap is_lawful (ap (λ w. get_or w i 0) e ∙ get_or-zero
 pub payloads-set : (words : List ℕ) (i j v w : ℕ) (x y : List Bool) → payload_of v ≡ x → payload_of w ≡ y
     → map payload_of (set (set words i v) j w) ≡ set (set (map payload_of words) i x) j y
 payloads-set words i j v w x y e f =
-    map-set payload_of (set words i v) j w ∙ ap₂ (λ ws p. set ws j p) (map-set payload_of words i v ∙ ap (set (map payload_of words) i) e) f
+    map-set payload_of (set words i v) j w
+    ∙ ap₂ (λ ws p. set ws j p) (map-set payload_of words i v ∙ ap (set (map payload_of words) i) e) f
 
 -- the preambles of a block
 pub mark_at-zero : (i : ℕ) → i ≡ 0 → mark_at i ≡ Z

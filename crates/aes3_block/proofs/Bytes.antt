@@ -1,5 +1,6 @@
 -- The bytes of numbers, lowest first.
-use Rattle.std.proofs.Common.{◌≡◌, ℕ, zero, suc, ◌+◌, ◌*◌, ◌/◌, ◌%◌, ◌^◌, ◌<◌, ◌≤◌, [], ◌∷◌, ◌++◌, length, refl, ap, ap₂, ◌∙◌, arith, add-one, pow-add}
+use Rattle.std.proofs.Common.{◌≡◌, ℕ, zero, suc, ◌+◌, ◌*◌, ◌/◌, ◌%◌, ◌^◌, ◌<◌, ◌≤◌, [], ◌∷◌, ◌++◌, length, refl, ap}
+use Rattle.std.proofs.Common.{ap₂, ◌∙◌, arith, add-one, pow-add}
 use Rattle.std.specs.Prelude.{bit_or}
 use Rattle.std.specs.Int.Bits.{or_shifted_r}
 use Rattle.std.proofs.lemmas.Nat.{shl_whole}
@@ -14,7 +15,8 @@ byte-up : (n : ℕ) → 2 ^ (8 * suc n) ≡ 256 * 2 ^ (8 * n)
 byte-up n = ap (λ k. 2 ^ k) (let e : 8 * suc n ≡ 8 + 8 * n = omega arith in e) ∙ pow-add 2 8 (8 * n)
 
 -- a byte put above n bytes
-pub low_bytes-above : (n w x : ℕ) → w < 2 ^ (8 * n) → x < 256 → low_bytes (suc n) (w + x * 2 ^ (8 * n)) ≡ low_bytes n w ++ x ∷ []
+pub low_bytes-above : (n w x : ℕ) → w < 2 ^ (8 * n) → x < 256
+    → low_bytes (suc n) (w + x * 2 ^ (8 * n)) ≡ low_bytes n w ++ x ∷ []
 low_bytes-above zero w x h g =
     ap (λ b. b ∷ []) (let e : w < 1 = h in let f : (w + x * 1) % 256 ≡ x = omega arith in f)
 low_bytes-above (suc n) w x h g =
@@ -32,14 +34,16 @@ bytes-with_byte n w x l h g =
     ap (bit_or w) (shl_whole x 8 (8 * n) 32 g (omega arith)) ∙ or_shifted_r x (8 * n) w h ∙ omega arith in
     ap₂ low_bytes (add-one n) e ∙ low_bytes-above n w x h g
 
-pub with_byte-lt : (n w x : ℕ) → n < 4 → w < 2 ^ (8 * n) → x < 256 → bit_or w (x * 2 ^ (8 * n) % 2 ^ 32) < 2 ^ (8 * (n + 1))
+pub with_byte-lt : (n w x : ℕ) → n < 4 → w < 2 ^ (8 * n) → x < 256
+    → bit_or w (x * 2 ^ (8 * n) % 2 ^ 32) < 2 ^ (8 * (n + 1))
 with_byte-lt n w x l h g =
     let e : bit_or w (x * 2 ^ (8 * n) % 2 ^ 32) ≡ x * 2 ^ (8 * n) + w =
     ap (bit_or w) (shl_whole x 8 (8 * n) 32 g (omega arith)) ∙ or_shifted_r x (8 * n) w h in
     let p : 2 ^ (8 * (n + 1)) ≡ 256 * 2 ^ (8 * n) = ap (λ k. 2 ^ (8 * k)) (add-one n) ∙ byte-up n in
     below (2 ^ (8 * n)) e p h
   where
-    below : (k : ℕ) → bit_or w (x * k % 2 ^ 32) ≡ x * k + w → 2 ^ (8 * (n + 1)) ≡ 256 * k → w < k → bit_or w (x * k % 2 ^ 32) < 2 ^ (8 * (n + 1))
+    below : (k : ℕ) → bit_or w (x * k % 2 ^ 32) ≡ x * k + w → 2 ^ (8 * (n + 1)) ≡ 256 * k → w < k
+        → bit_or w (x * k % 2 ^ 32) < 2 ^ (8 * (n + 1))
     below k e p h =
         let m = mul-le-mul_left k (let y : x ≤ 255 = omega arith in y) in
         let c = mul_comm k x in

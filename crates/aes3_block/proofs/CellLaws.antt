@@ -1,5 +1,6 @@
 -- The cells of blocks: how many, how they end, and what they tell.
-use Rattle.std.proofs.Common.{◌≡◌, ℕ, suc, ◌+◌, ◌-◌, ◌*◌, ◌<◌, List, [], ◌∷◌, ◌++◌, Bool, true, Some, length, map, take, drop, get_or, refl, sym, ap, ap₂, ◌∙◌, arith, append-nil, length-append}
+use Rattle.std.proofs.Common.{◌≡◌, ℕ, suc, ◌+◌, ◌-◌, ◌*◌, ◌<◌, List, [], ◌∷◌, ◌++◌, Bool, true, Some, length, map, take}
+use Rattle.std.proofs.Common.{drop, get_or, refl, sym, ap, ap₂, ◌∙◌, arith, append-nil, length-append}
 use Rattle.std.specs.Prelude.{slice_get}
 use Rattle.std.specs.List.{flat_map, All}
 use Rattle.std.proofs.lemmas.Grind.{flat_map-append}
@@ -42,23 +43,29 @@ slots-28 : (p : List Bool) → length p ≡ slots_len → length p ≡ 28
 unfolding slots_len
 slots-28 p h = h
 
-last-runs : (s : Level) (marks : ℕ → Mark) (ps : List (List Bool)) → Each27 ps → before s (line s (runs_of marks (map with_parity ps))) (64 * length ps) ≡ s
+last-runs : (s : Level) (marks : ℕ → Mark) (ps : List (List Bool)) → Each27 ps
+    → before s (line s (runs_of marks (map with_parity ps))) (64 * length ps) ≡ s
 last-runs s marks [] h = refl
 last-runs s marks (p ∷ ps) h =
     let one = line s (subframe_runs (marks 0) p) in
     let runs = runs_of (λ j. marks (suc j)) (map with_parity ps) in
     let n = length-subframe s (marks 0) p h.0 in
     let k : 64 * length (p ∷ ps) ≡ length one + 64 * length ps = omega arith in
-    ap₂ (before s) (line-append s (subframe_runs (marks 0) p) runs ∙ ap (λ t. line s (subframe_runs (marks 0) p) ++ line t runs) (after-subframe s (marks 0) p h.0)) k
+    ap₂ (before s) (line-append s (subframe_runs (marks 0) p) runs
+    ∙ ap (λ t. line s (subframe_runs (marks 0) p) ++ line t runs) (after-subframe s (marks 0) p h.0)) k
     ∙ before-append_right s s one (line s runs) (64 * length ps)
-    (ap (before s (line s (subframe_runs (marks 0) p))) n ∙ subframe-last s (marks 0) (with_parity p) (slots-28 (with_parity p) (length-with_parity p h.0)) ∙ after-subframe s (marks 0) p h.0)
+    (ap (before s (line s (subframe_runs (marks 0) p))) n
+    ∙ subframe-last s (marks 0) (with_parity p) (slots-28 (with_parity p) (length-with_parity p h.0))
+    ∙ after-subframe s (marks 0) p h.0)
     ∙ last-runs s (λ j. marks (suc j)) ps h.1
 
 last-whole : (s : Level) (b : List (List Bool)) → IsBlock b → before s (block_cells s b) block_len ≡ s
 unfolding block_cells block_len
-last-whole s b h = ap (λ n. before s (line s (block_runs b)) (64 * n)) (sym h.count) ∙ last-runs s mark_at b (each-payload b h.payloads)
+last-whole s b h = ap (λ n. before s (line s (block_runs b)) (64 * n)) (sym h.count)
+    ∙ last-runs s mark_at b (each-payload b h.payloads)
 
-pub last-block_cells : (s : Level) (b : List (List Bool)) → IsBlock b → slice_get (block_cells s b) (block_len - 1) ≡ Some s
+pub last-block_cells : (s : Level) (b : List (List Bool)) → IsBlock b
+    → slice_get (block_cells s b) (block_len - 1) ≡ Some s
 last-block_cells s b h = go (block_len - 1) (let e = block_len_24576 in omega arith)
   where
     go : (n : ℕ) → block_len ≡ suc n → slice_get (block_cells s b) n ≡ Some s
@@ -88,12 +95,16 @@ same-blocks : (s : Level) (b d : List (List Bool)) → IsBlock b → IsBlock d �
 unfolding block_cells
 same-blocks s b d h g e =
     payloads-same b d (unique mark_at s (map with_parity b) (map with_parity d) [] []
-    (length-map b with_parity ∙ h.count ∙ sym g.count ∙ sym (length-map d with_parity)) (each28 b (each-payload b h.payloads)) (each28 d (each-payload d g.payloads))
+    (length-map b with_parity ∙ h.count ∙ sym g.count ∙ sym (length-map d with_parity))
+    (each28 b (each-payload b h.payloads)) (each28 d (each-payload d g.payloads))
     (append-nil (line s (block_runs b)) ∙ e ∙ sym (append-nil (line s (block_runs d)))))
 
-pub block_cells-unique : (s t : Level) (b d : List (List Bool)) → IsBlock b → IsBlock d → block_cells s b ≡ block_cells t d → (s ≡ t) × (b ≡ d)
+pub block_cells-unique : (s t : Level) (b d : List (List Bool)) → IsBlock b → IsBlock d
+    → block_cells s b ≡ block_cells t d → (s ≡ t) × (b ≡ d)
 block_cells-unique s t b d h g e =
-    let l : s ≡ t = sym (other-other s) ∙ ap other (sym (first-cell s b (some b h.count)) ∙ ap (λ c. get_or c 0 Low) e ∙ first-cell t d (some d g.count)) ∙ other-other t in
+    let l : s ≡ t = sym (other-other s)
+    ∙ ap other (sym (first-cell s b (some b h.count)) ∙ ap (λ c. get_or c 0 Low) e ∙ first-cell t d (some d g.count))
+    ∙ other-other t in
     (l, same-blocks s b d h g (e ∙ ap (λ u. block_cells u d) (sym l)))
   where
     some : (b : List (List Bool)) → length b ≡ block_slots → 0 < length b
@@ -107,19 +118,24 @@ each27-blocks : (bs : List (List (List Bool))) → EachBlock bs → EachBlock27 
 each27-blocks [] h = tt
 each27-blocks (b ∷ bs) h = (each-payload b h.0.payloads, each27-blocks bs h.1)
 
-pub stream-append : (s : Level) (bs ds : List (List (List Bool))) → All IsBlock bs → stream s (bs ++ ds) ≡ stream s bs ++ stream s ds
+pub stream-append : (s : Level) (bs ds : List (List (List Bool))) → All IsBlock bs
+    → stream s (bs ++ ds) ≡ stream s bs ++ stream s ds
 unfolding stream
 stream-append s bs ds h =
     ap (line s) (flat_map-append block_runs bs ds) ∙ line-append s (flat_map block_runs bs) (flat_map block_runs ds)
-    ∙ ap (λ t. line s (flat_map block_runs bs) ++ line t (flat_map block_runs ds)) (after-stream s bs (each27-blocks bs (each-block bs h)))
+    ∙ ap (λ t. line s (flat_map block_runs bs) ++ line t (flat_map block_runs ds))
+    (after-stream s bs (each27-blocks bs (each-block bs h)))
 
-pub stream-cons : (s : Level) (b : List (List Bool)) (bs : List (List (List Bool))) → IsBlock b → stream s (b ∷ bs) ≡ block_cells s b ++ stream s bs
+pub stream-cons : (s : Level) (b : List (List Bool)) (bs : List (List (List Bool))) → IsBlock b
+    → stream s (b ∷ bs) ≡ block_cells s b ++ stream s bs
 unfolding stream block_cells
 stream-cons s b bs h =
     line-append s (block_runs b) (flat_map block_runs bs)
-    ∙ ap (λ t. line s (block_runs b) ++ line t (flat_map block_runs bs)) (after-runs s mark_at b (each-payload b h.payloads))
+    ∙ ap (λ t. line s (block_runs b) ++ line t (flat_map block_runs bs))
+    (after-runs s mark_at b (each-payload b h.payloads))
 
-some-cells : (s : Level) (b : List (List Bool)) (bs : List (List (List Bool))) → IsBlock b → stream s [] ≡ stream s (b ∷ bs) → ⊥
+some-cells : (s : Level) (b : List (List Bool)) (bs : List (List (List Bool))) → IsBlock b
+    → stream s [] ≡ stream s (b ∷ bs) → ⊥
 some-cells s b bs h e =
     let n : 0 ≡ length (block_cells s b ++ stream s bs) = ap length (sym (stream-nil s) ∙ e ∙ stream-cons s b bs h) in
     let a = length-append (block_cells s b) (stream s bs) in
@@ -127,17 +143,22 @@ some-cells s b bs h e =
     let k = block_len_24576 in
     omega arith
 
-same-streams : (s : Level) (bs ds : List (List (List Bool))) → EachBlock bs → EachBlock ds → stream s bs ≡ stream s ds → bs ≡ ds
+same-streams : (s : Level) (bs ds : List (List (List Bool))) → EachBlock bs → EachBlock ds
+    → stream s bs ≡ stream s ds → bs ≡ ds
 same-streams s [] [] h g e = refl
 same-streams s [] (d ∷ ds) h g e = absurd (some-cells s d ds g.0 e)
 same-streams s (b ∷ bs) [] h g e = absurd (some-cells s b bs h.0 (sym e))
 same-streams s (b ∷ bs) (d ∷ ds) h g e =
-    let q : block_cells s b ++ stream s bs ≡ block_cells s d ++ stream s ds = sym (stream-cons s b bs h.0) ∙ e ∙ stream-cons s d ds g.0 in
+    let q : block_cells s b ++ stream s bs ≡ block_cells s d ++ stream s ds = sym (stream-cons s b bs h.0) ∙ e
+    ∙ stream-cons s d ds g.0 in
     let l = length-block_cells s b h.0 in
     let m = length-block_cells s d g.0 in
     ap₂ (λ x xs. x ∷ xs)
-    (same-blocks s b d h.0 g.0 (sym (take_at (block_cells s b) (stream s bs) block_len l) ∙ ap (take block_len) q ∙ take_at (block_cells s d) (stream s ds) block_len m))
-    (same-streams s bs ds h.1 g.1 (sym (drop_at (block_cells s b) (stream s bs) block_len l) ∙ ap (drop block_len) q ∙ drop_at (block_cells s d) (stream s ds) block_len m))
+    (same-blocks s b d h.0 g.0 (sym (take_at (block_cells s b) (stream s bs) block_len l) ∙ ap (take block_len) q
+    ∙ take_at (block_cells s d) (stream s ds) block_len m))
+    (same-streams s bs ds h.1 g.1 (sym (drop_at (block_cells s b) (stream s bs) block_len l) ∙ ap (drop block_len) q
+    ∙ drop_at (block_cells s d) (stream s ds) block_len m))
 
-pub stream-unique : (s : Level) (bs ds : List (List (List Bool))) → All IsBlock bs → All IsBlock ds → stream s bs ≡ stream s ds → bs ≡ ds
+pub stream-unique : (s : Level) (bs ds : List (List (List Bool))) → All IsBlock bs → All IsBlock ds
+    → stream s bs ≡ stream s ds → bs ≡ ds
 stream-unique s bs ds h g e = same-streams s bs ds (each-block bs h) (each-block ds g) e

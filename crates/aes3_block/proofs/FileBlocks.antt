@@ -1,11 +1,13 @@
 -- A block file is the file of the blocks that are read from it.
-use Rattle.std.proofs.Common.{◌≡◌, ℕ, zero, suc, ◌+◌, ◌*◌, ◌/◌, ◌%◌, ◌^◌, ◌<◌, ◌≤◌, List, [], ◌∷◌, ◌++◌, true, length, map, take, drop, get_or, refl, sym, ap, ap₂, ◌∙◌, arith}
+use Rattle.std.proofs.Common.{◌≡◌, ℕ, zero, suc, ◌+◌, ◌*◌, ◌/◌, ◌%◌, ◌^◌, ◌<◌, ◌≤◌, List, [], ◌∷◌, ◌++◌, true, length}
+use Rattle.std.proofs.Common.{map, take, drop, get_or, refl, sym, ap, ap₂, ◌∙◌, arith}
 use Rattle.std.specs.List.{flat_map, All}
 use Rattle.std.proofs.lemmas.Grind.{flat_map-append}
 use Rattle.std.proofs.lemmas.Bool.{and_parts}
 use Rattle.std.proofs.lemmas.List.{length-map, length-take-le, length-drop, take-append-drop, get_or-take, get_or-drop}
 use Rattle.aes3_block.specs.Blocks.{IsBlock, block_slots}
-use Rattle.aes3_block.specs.Files.{bytes_number, word_bytes, words_of, file, is_lawful, payload_of, blocks_in, lawful_words, file_blocks, IsBlockFile}
+use Rattle.aes3_block.specs.Files.{bytes_number, word_bytes, words_of, file, is_lawful, payload_of, blocks_in}
+use Rattle.aes3_block.specs.Files.{lawful_words, file_blocks, IsBlockFile}
 use Rattle.aes3_block.proofs.BlockLemmas.{block_slots_384}
 use Rattle.aes3_block.proofs.Each.{all-nil, all-cons, all-payloads, EachByte, each-byte}
 use Rattle.aes3_block.proofs.Files.{bytes-of-payloads}
@@ -14,7 +16,8 @@ use Rattle.aes3_block.proofs.Words.{length-words, all_lawful, all_lawful-from}
 use Rattle.aes3_block.proofs.WholeBlocks.{count-within}
 
 -- the words of bytes, and their bytes
-word-back : (a b c d : ℕ) → a < 256 → b < 256 → c < 256 → d < 256 → word_bytes (bytes_number (a ∷ b ∷ c ∷ d ∷ [])) ≡ a ∷ b ∷ c ∷ d ∷ []
+word-back : (a b c d : ℕ) → a < 256 → b < 256 → c < 256 → d < 256
+    → word_bytes (bytes_number (a ∷ b ∷ c ∷ d ∷ [])) ≡ a ∷ b ∷ c ∷ d ∷ []
 word-back a b c d k l m n =
     let w = bytes_number (a ∷ b ∷ c ∷ d ∷ []) in
     let e : bytes_number (a ∷ b ∷ c ∷ d ∷ []) % 256 ≡ a = omega arith in
@@ -31,7 +34,8 @@ bytes-back (a ∷ b ∷ c ∷ []) l h = absurd (omega arith)
 bytes-back (a ∷ b ∷ c ∷ d ∷ rest) l h =
     ap₂ ◌++◌ (word-back a b c d h.0 h.1.0 h.1.1.0 h.1.1.1.0) (bytes-back rest (omega arith) h.1.1.1.1)
 
-word-fits : (bytes : List ℕ) (i : ℕ) → EachByte bytes → i < length (words_of bytes) → get_or (words_of bytes) i 0 < 2 ^ 32
+word-fits : (bytes : List ℕ) (i : ℕ) → EachByte bytes → i < length (words_of bytes)
+    → get_or (words_of bytes) i 0 < 2 ^ 32
 word-fits [] i h l = absurd (omega arith)
 word-fits (a ∷ []) i h l = absurd (omega arith)
 word-fits (a ∷ b ∷ []) i h l = absurd (omega arith)
@@ -81,9 +85,11 @@ blocks-blocks (suc n) ws l =
 
 pub file_blocks-blocks : (bytes : List ℕ) → All IsBlock (file_blocks bytes)
 unfolding file_blocks
-file_blocks-blocks bytes = blocks-blocks (length (lawful_words bytes) / block_slots) (lawful_words bytes) (count-within (length (lawful_words bytes)))
+file_blocks-blocks bytes = blocks-blocks (length (lawful_words bytes) / block_slots) (lawful_words bytes)
+    (count-within (length (lawful_words bytes)))
 
-pub file-file_blocks : (bytes : List ℕ) → All (λ x. x < 256) bytes → IsBlockFile bytes → file (file_blocks bytes) ≡ bytes
+pub file-file_blocks : (bytes : List ℕ) → All (λ x. x < 256) bytes → IsBlockFile bytes
+    → file (file_blocks bytes) ≡ bytes
 unfolding file_blocks
 file-file_blocks bytes e h =
     let b = each-byte bytes e in
@@ -91,10 +97,12 @@ file-file_blocks bytes e h =
     let w = h.whole in
     let z = length-words bytes in
     let q = all_lawful-from bytes h.lawful in
-    let n : length (words_of bytes) ≡ block_slots * (length (words_of bytes) / block_slots) = even (length bytes) (length (words_of bytes)) w z in
+    let n : length (words_of bytes) ≡ block_slots * (length (words_of bytes) / block_slots) =
+    even (length bytes) (length (words_of bytes)) w z in
     let f : length bytes % 4 ≡ 0 = four (length bytes) w in
     ap (λ ws. file (blocks_in (length ws / block_slots) ws)) h.lawful
-    ∙ blocks-back (length (words_of bytes) / block_slots) (words_of bytes) n (λ i lt. word-fits bytes i b lt) (λ i lt. lawful-at (words_of bytes) i q lt)
+    ∙ blocks-back (length (words_of bytes) / block_slots) (words_of bytes) n (λ i lt. word-fits bytes i b lt)
+    (λ i lt. lawful-at (words_of bytes) i q lt)
     ∙ bytes-back bytes f b
   where
     even : (m n : ℕ) → m % (4 * block_slots) ≡ 0 → n ≡ m / 4 → n ≡ block_slots * (n / block_slots)

@@ -1,5 +1,6 @@
 -- Block files and the words that they are made of.
-use Rattle.std.proofs.Common.{◌≡◌, ℕ, suc, ◌+◌, ◌*◌, ◌/◌, ◌%◌, ◌^◌, ◌<◌, ◌≤◌, List, [], ◌∷◌, ◌++◌, Bool, true, eqb-true, length, map, take, get_or, refl, sym, ap, ap₂, ◌∙◌, arith, append-nil, w32}
+use Rattle.std.proofs.Common.{◌≡◌, ℕ, suc, ◌+◌, ◌*◌, ◌/◌, ◌%◌, ◌^◌, ◌<◌, ◌≤◌, List, [], ◌∷◌, ◌++◌, Bool, true, eqb-true}
+use Rattle.std.proofs.Common.{length, map, take, get_or, refl, sym, ap, ap₂, ◌∙◌, arith, append-nil, w32}
 use Rattle.std.specs.List.{flat_map}
 use Rattle.std.specs.Int.{to_le_bytes}
 use borrow.Rule.Slice.PartMut.{put_mid}
@@ -29,22 +30,26 @@ word_of-lawful w l h =
     let n : number (slots_bits (w / 16)) ≡ w / 16 = number-low_bits 28 (w / 16) (omega arith) in
     ap (λ bits. 16 * number bits) (sym (lawful-slots w p.1)) ∙ ap (λ k. 16 * k) n ∙ omega arith
 
-words-of-payloads : (words : List ℕ) → ((i : ℕ) → i < length words → get_or words i 0 < 2 ^ 32)
+-- the words of the payloads of lawful words
+pub words-of-payloads : (words : List ℕ) → ((i : ℕ) → i < length words → get_or words i 0 < 2 ^ 32)
     → ((i : ℕ) → i < length words → is_lawful (get_or words i 0) ≡ true) → map word_of (map payload_of words) ≡ words
 words-of-payloads [] l h = refl
 words-of-payloads (w ∷ words) l h =
     ap₂ (λ x xs. x ∷ xs) (word_of-lawful w (l 0 (omega arith)) (h 0 (omega arith)))
     (words-of-payloads words (λ i g. l (suc i) (omega arith)) (λ i g. h (suc i) (omega arith)))
 
-pub bytes-of-payloads : (words : List ℕ) (b : List (List Bool)) → map payload_of words ≡ b → ((i : ℕ) → i < length words → get_or words i 0 < 2 ^ 32)
+pub bytes-of-payloads : (words : List ℕ) (b : List (List Bool)) → map payload_of words ≡ b
+    → ((i : ℕ) → i < length words → get_or words i 0 < 2 ^ 32)
     → ((i : ℕ) → i < length words → is_lawful (get_or words i 0) ≡ true) → flat_map word_bytes words ≡ block_bytes b
 unfolding block_bytes
 bytes-of-payloads words b e l h =
     sym (ap (flat_map word_bytes) (ap (map word_of) (sym e) ∙ words-of-payloads words l h))
 
 -- the bytes so far, with those of one more word
-pub bytes-word : (words bytes ys : List ℕ) (i k : ℕ) → i < length words → get_or words i 0 < 2 ^ 32 → 4 * i ≤ length bytes → take (4 * i) bytes ≡ flat_map word_bytes (take i words)
-    → ys ≡ to_le_bytes w32 (get_or words i 0) → take (4 * (i + 1)) (put_mid (4 * i) k bytes ys) ≡ flat_map word_bytes (take (i + 1) words)
+pub bytes-word : (words bytes ys : List ℕ) (i k : ℕ) → i < length words → get_or words i 0 < 2 ^ 32
+    → 4 * i ≤ length bytes → take (4 * i) bytes ≡ flat_map word_bytes (take i words)
+    → ys ≡ to_le_bytes w32 (get_or words i 0)
+    → take (4 * (i + 1)) (put_mid (4 * i) k bytes ys) ≡ flat_map word_bytes (take (i + 1) words)
 bytes-word words bytes ys i k h fits lb e q =
     let w = get_or words i 0 in
     let y : ys ≡ word_bytes w = q ∙ le_bytes-is w fits in

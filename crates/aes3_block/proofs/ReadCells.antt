@@ -1,5 +1,6 @@
 -- The cells of subframes that were read, and of those with the same payload.
-use Rattle.std.proofs.Common.{◌≡◌, ℕ, zero, suc, ◌*◌, ◌<◌, ◌^◌, ◌/◌, ◌%◌, List, [], ◌∷◌, Bool, true, false, length, map, take, drop, refl, sym, ap, ap₂, ◌∙◌, arith, w64, length-drop, length-take-le}
+use Rattle.std.proofs.Common.{◌≡◌, ℕ, zero, suc, ◌*◌, ◌<◌, ◌^◌, ◌/◌, ◌%◌, List, [], ◌∷◌, Bool, true, false, length, map}
+use Rattle.std.proofs.Common.{take, drop, refl, sym, ap, ap₂, ◌∙◌, arith, w64, length-drop, length-take-le}
 use Rattle.std.specs.Int.{bit_at, bit_not}
 use Rattle.std.specs.Prelude.{if◌then◌else◌}
 use Rattle.std.proofs.lemmas.List.{drop-map, take_at}
@@ -70,9 +71,11 @@ right-subframe s m w h o =
     word-read s m w h ∙ ap (λ bits. line s (slot_runs m bits)) (even-parts (read_word w) (read-length w) o)
 
 -- as the word of the cells that don't says
-pub none-wrong : (s : Level) (m : Mark) (w wrong : ℕ) → wrong ≡ 0 → ((i : ℕ) → i < 64 → bit_at wrong i ≡ (if stands s m (word_cells w) i then 0 else 1))
+pub none-wrong : (s : Level) (m : Mark) (w wrong : ℕ) → wrong ≡ 0
+    → ((i : ℕ) → i < 64 → bit_at wrong i ≡ (if stands s m (word_cells w) i then 0 else 1))
     → (i : ℕ) → i < 64 → stands s m (word_cells w) i ≡ true
-none-wrong s m w wrong z says i h = true-from_zero (stands s m (word_cells w) i) (sym (says i h) ∙ ap (λ x. bit_at x i) z ∙ bit_at-zero i)
+none-wrong s m w wrong z says i h = true-from_zero (stands s m (word_cells w) i) (sym (says i h)
+    ∙ ap (λ x. bit_at x i) z ∙ bit_at-zero i)
 
 -- the payload of a word
 abbrev pub read_payload : ℕ → List Bool
@@ -94,7 +97,8 @@ pub even-by-last : (s : Level) (m : Mark) (w : ℕ) → ((i : ℕ) → i < 64 �
     → at (word_cells w) 63 ≡ s → odd_ones (read_word w) ≡ false
 unfolding slots_len
 even-by-last s m w h e =
-    go (odd_ones (read_word w)) (sym (last-slots s m (read_word w) (read-length w)) ∙ sym (ap (λ c. before s c 64) (word-read s m w h)) ∙ e)
+    go (odd_ones (read_word w)) (sym (last-slots s m (read_word w) (read-length w))
+    ∙ sym (ap (λ c. before s c 64) (word-read s m w h)) ∙ e)
   where
     go : (b : Bool) → turned b s ≡ s → b ≡ false
     go false q = refl

@@ -1,12 +1,15 @@
 -- A block file read byte by byte.
-use Rattle.std.proofs.Common.{◌≡◌, ℕ, suc, ◌+◌, ◌*◌, ◌/◌, ◌%◌, ◌^◌, ◌<◌, ◌≤◌, ◌≢◌, ◌-◌, ◌⊎◌, inl, inr, List, [], ◌∷◌, ◌++◌, Bool, true, false, cond, eqb, ◌&&◌, length, length-append, get_or, map, Option, Some, None, Result, Ok, Err, refl, sym, ap, ◌∙◌, arith, eq-eqb, ne_eqb, add-one}
+use Rattle.std.proofs.Common.{◌≡◌, ℕ, suc, ◌+◌, ◌*◌, ◌/◌, ◌%◌, ◌^◌, ◌<◌, ◌≤◌, ◌≢◌, ◌-◌, ◌⊎◌, inl, inr, List, [], ◌∷◌}
+use Rattle.std.proofs.Common.{◌++◌, Bool, true, false, cond, eqb, ◌&&◌, length, length-append, get_or, map, Option}
+use Rattle.std.proofs.Common.{Some, None, Result, Ok, Err, refl, sym, ap, ◌∙◌, arith, eq-eqb, ne_eqb, add-one}
 use Rattle.std.proofs.lemmas.Bool.{cases_lt}
 use Rattle.std.proofs.lemmas.List.{get_or_append_left, get_or-append_right}
 use Rattle.aes3_block.specs.declared.file.FileFault.{FileFault}
 use Rattle.aes3_block.specs.declared.file.FileFault.TheVariants.{BadLength, BadCode, BadParity}
 use Rattle.aes3_block.specs.Blocks.{block_slots}
 use Rattle.aes3_block.specs.Files.{bytes_number, has_code, has_parity, is_lawful, low_bytes, payload_of}
-use Rattle.aes3_block.specs.Readers.{FileReader, word_fault, ends_word, word_with, byte_fault, ends_block, block_with, reader_with, fault_with, answer_with, next_with, end_answer}
+use Rattle.aes3_block.specs.Readers.{FileReader, word_fault, ends_word, word_with, byte_fault, ends_block, block_with}
+use Rattle.aes3_block.specs.Readers.{reader_with, fault_with, answer_with, next_with, end_answer}
 use Rattle.aes3_block.proofs.Bytes.{length-low_bytes, bytes_number-low_bytes}
 use Rattle.aes3_block.proofs.BlockLemmas.{block_slots_384}
 
@@ -14,15 +17,20 @@ use Rattle.aes3_block.proofs.BlockLemmas.{block_slots_384}
 abbrev pub stored : ℕ → List ℕ → ℕ → Option FileFault → FileReader
 stored seen ws w f = record { seen = seen; words = ws; bytes = low_bytes (seen % 4) w; fault = f }
 
-in-word : (seen : ℕ) (ws : List ℕ) (w : ℕ) (f : Option FileFault) → seen % 4 < 3 → ends_word (stored seen ws w f) ≡ false
-in-word seen ws w f h = ne_eqb (length (low_bytes (seen % 4) w)) 3 (λ e. let l = length-low_bytes (seen % 4) w in omega arith)
+in-word : (seen : ℕ) (ws : List ℕ) (w : ℕ) (f : Option FileFault) → seen % 4 < 3
+    → ends_word (stored seen ws w f) ≡ false
+in-word seen ws w f h =
+    ne_eqb (length (low_bytes (seen % 4) w)) 3 (λ e. let l = length-low_bytes (seen % 4) w in omega arith)
 
 at-word : (seen : ℕ) (ws : List ℕ) (w : ℕ) (f : Option FileFault) → 3 ≤ seen % 4 → ends_word (stored seen ws w f) ≡ true
-at-word seen ws w f h = eq-eqb (length (low_bytes (seen % 4) w)) 3 (let l = length-low_bytes (seen % 4) w in omega arith)
+at-word seen ws w f h = eq-eqb (length (low_bytes (seen % 4) w)) 3 (let l = length-low_bytes (seen % 4) w in
+    omega arith)
 
 -- what one byte does, by whether it ends a word and a block
-same-block : (r : FileReader) (x : ℕ) (word block : Bool) → ends_word r ≡ word → ends_block r ≡ block → byte_fault r x ≡ None → r.fault ≡ None
-    → (answer_with r x ≡ Ok (cond {A = Option (List (List Bool))} block (Some (map payload_of (r.words ++ word_with r x ∷ []))) None))
+same-block : (r : FileReader) (x : ℕ) (word block : Bool) → ends_word r ≡ word → ends_block r ≡ block
+    → byte_fault r x ≡ None → r.fault ≡ None
+    → (answer_with r x ≡ Ok
+    (cond {A = Option (List (List Bool))} block (Some (map payload_of (r.words ++ word_with r x ∷ []))) None))
     × (next_with r x ≡ record {
       seen = suc r.seen;
       words = cond {A = List ℕ} block [] (cond {A = List ℕ} word (r.words ++ word_with r x ∷ []) r.words);
@@ -40,12 +48,15 @@ refused r x f en ef =
     (rw some refl, rw some refl)
 
 pub reader-is : {a b : ℕ} {ws vs bs cs : List ℕ} {f : Option FileFault} → a ≡ b → ws ≡ vs → bs ≡ cs
-    → ◌≡◌ {A = FileReader} (record { seen = a; words = ws; bytes = bs; fault = f }) (record { seen = b; words = vs; bytes = cs; fault = f })
+    → ◌≡◌ {A = FileReader} (record { seen = a; words = ws; bytes = bs; fault = f })
+    (record { seen = b; words = vs; bytes = cs; fault = f })
 reader-is e g h = rw (e, g, h) refl
 
 -- a byte inside a word
-pub byte-short : (seen : ℕ) (ws : List ℕ) (w v x : ℕ) → seen % 4 < 3 → low_bytes (seen % 4 + 1) v ≡ low_bytes (seen % 4) w ++ x ∷ []
-    → (answer_with (stored seen ws w None) x ≡ Ok None) × (next_with (stored seen ws w None) x ≡ stored (seen + 1) ws v None)
+pub byte-short : (seen : ℕ) (ws : List ℕ) (w v x : ℕ) → seen % 4 < 3
+    → low_bytes (seen % 4 + 1) v ≡ low_bytes (seen % 4) w ++ x ∷ []
+    → (answer_with (stored seen ws w None) x ≡ Ok None)
+    × (next_with (stored seen ws w None) x ≡ stored (seen + 1) ws v None)
 byte-short seen ws w v x h b =
     let r = stored seen ws w None in
     let e : ends_word r ≡ false = in-word seen ws w None h in
@@ -54,13 +65,15 @@ byte-short seen ws w v x h b =
     (q.0, q.1 ∙ reader-is (sym (add-one seen)) refl (sym b ∙ ap (λ k. low_bytes k v) j))
 
 -- the word that a byte ends
-word-whole : (seen : ℕ) (ws : List ℕ) (w v x : ℕ) → 3 ≤ seen % 4 → low_bytes (seen % 4 + 1) v ≡ low_bytes (seen % 4) w ++ x ∷ [] → v < 2 ^ 32
+word-whole : (seen : ℕ) (ws : List ℕ) (w v x : ℕ) → 3 ≤ seen % 4
+    → low_bytes (seen % 4 + 1) v ≡ low_bytes (seen % 4) w ++ x ∷ [] → v < 2 ^ 32
     → word_with (stored seen ws w None) x ≡ v
 word-whole seen ws w v x h b l =
     let k : seen % 4 + 1 ≡ 4 = omega arith in
     ap bytes_number (sym b ∙ ap (λ n. low_bytes n v) k) ∙ bytes_number-low_bytes v l
 
-fault-whole : (seen : ℕ) (ws : List ℕ) (w v x : ℕ) → 3 ≤ seen % 4 → low_bytes (seen % 4 + 1) v ≡ low_bytes (seen % 4) w ++ x ∷ [] → v < 2 ^ 32
+fault-whole : (seen : ℕ) (ws : List ℕ) (w v x : ℕ) → 3 ≤ seen % 4
+    → low_bytes (seen % 4 + 1) v ≡ low_bytes (seen % 4) w ++ x ∷ [] → v < 2 ^ 32
     → byte_fault (stored seen ws w None) x ≡ word_fault (seen / 4) v
 fault-whole seen ws w v x h b l =
     let e = at-word seen ws w None h in
@@ -68,34 +81,42 @@ fault-whole seen ws w v x h b l =
     ∙ ap (word_fault (seen / 4)) (word-whole seen ws w v x h b l)
 
 -- a byte that ends a word which is refused
-pub byte-refused : (seen : ℕ) (ws : List ℕ) (w v x : ℕ) (f : FileFault) → 3 ≤ seen % 4 → low_bytes (seen % 4 + 1) v ≡ low_bytes (seen % 4) w ++ x ∷ [] → v < 2 ^ 32
+pub byte-refused : (seen : ℕ) (ws : List ℕ) (w v x : ℕ) (f : FileFault) → 3 ≤ seen % 4
+    → low_bytes (seen % 4 + 1) v ≡ low_bytes (seen % 4) w ++ x ∷ [] → v < 2 ^ 32
     → word_fault (seen / 4) v ≡ Some f
-    → (answer_with (stored seen ws w None) x ≡ Err f) × (next_with (stored seen ws w None) x ≡ stored seen ws w (Some f))
+    → (answer_with (stored seen ws w None) x ≡ Err f)
+    × (next_with (stored seen ws w None) x ≡ stored seen ws w (Some f))
 byte-refused seen ws w v x f h b l e = refused (stored seen ws w None) x f refl (fault-whole seen ws w v x h b l ∙ e)
 
 -- a byte that ends a word inside a block
-pub byte-word : (seen : ℕ) (ws : List ℕ) (w v x : ℕ) → length ws ≡ seen / 4 % 384 → 3 ≤ seen % 4 → low_bytes (seen % 4 + 1) v ≡ low_bytes (seen % 4) w ++ x ∷ [] → v < 2 ^ 32
+pub byte-word : (seen : ℕ) (ws : List ℕ) (w v x : ℕ) → length ws ≡ seen / 4 % 384 → 3 ≤ seen % 4
+    → low_bytes (seen % 4 + 1) v ≡ low_bytes (seen % 4) w ++ x ∷ [] → v < 2 ^ 32
     → word_fault (seen / 4) v ≡ None → seen / 4 % 384 + 1 < 384
-    → (answer_with (stored seen ws w None) x ≡ Ok None) × (next_with (stored seen ws w None) x ≡ stored (seen + 1) (ws ++ v ∷ []) 0 None)
+    → (answer_with (stored seen ws w None) x ≡ Ok None)
+    × (next_with (stored seen ws w None) x ≡ stored (seen + 1) (ws ++ v ∷ []) 0 None)
 byte-word seen ws w v x lw h b l e s =
     let r = stored seen ws w None in
     let ew : ends_word r ≡ true = at-word seen ws w None h in
-    let nb : eqb (suc (length ws)) block_slots ≡ false = ne_eqb (suc (length ws)) block_slots (λ y. let k = block_slots_384 in omega arith) in
+    let nb : eqb (suc (length ws)) block_slots ≡ false =
+    ne_eqb (suc (length ws)) block_slots (λ y. let k = block_slots_384 in omega arith) in
     let q = same-block r x true false ew (rw (ew, nb) refl) (fault-whole seen ws w v x h b l ∙ e) refl in
     let j : (seen + 1) % 4 ≡ 0 = omega arith in (
       q.0,
-      q.1 ∙ reader-is (sym (add-one seen)) (ap (λ y. ws ++ y ∷ []) (word-whole seen ws w v x h b l)) (sym (ap (λ k. low_bytes k 0) j)),
+      q.1 ∙ reader-is (sym (add-one seen)) (ap (λ y. ws ++ y ∷ []) (word-whole seen ws w v x h b l))
+          (sym (ap (λ k. low_bytes k 0) j)),
     )
 
 -- a byte that ends a block
-pub byte-block : (seen : ℕ) (ws : List ℕ) (w v x : ℕ) → length ws ≡ seen / 4 % 384 → 3 ≤ seen % 4 → low_bytes (seen % 4 + 1) v ≡ low_bytes (seen % 4) w ++ x ∷ [] → v < 2 ^ 32
+pub byte-block : (seen : ℕ) (ws : List ℕ) (w v x : ℕ) → length ws ≡ seen / 4 % 384 → 3 ≤ seen % 4
+    → low_bytes (seen % 4 + 1) v ≡ low_bytes (seen % 4) w ++ x ∷ [] → v < 2 ^ 32
     → word_fault (seen / 4) v ≡ None → 384 ≤ seen / 4 % 384 + 1
     → (answer_with (stored seen ws w None) x ≡ Ok (Some (map payload_of (ws ++ v ∷ []))))
     × (next_with (stored seen ws w None) x ≡ stored (seen + 1) [] 0 None)
 byte-block seen ws w v x lw h b l e s =
     let r = stored seen ws w None in
     let ew : ends_word r ≡ true = at-word seen ws w None h in
-    let nb : eqb (suc (length ws)) block_slots ≡ true = eq-eqb (suc (length ws)) block_slots (let k = block_slots_384 in omega arith) in
+    let nb : eqb (suc (length ws)) block_slots ≡ true = eq-eqb (suc (length ws)) block_slots (let k = block_slots_384 in
+    omega arith) in
     let q = same-block r x true true ew (rw (ew, nb) refl) (fault-whole seen ws w v x h b l ∙ e) refl in
     let j : (seen + 1) % 4 ≡ 0 = omega arith in (
       q.0 ∙ ap (λ y. Ok (Some (map payload_of (ws ++ y ∷ [])))) (word-whole seen ws w v x h b l),
@@ -108,16 +129,19 @@ pub record Taken (all left : List ℕ) (block : Option (List (List Bool))) : Typ
   pub begun : length all ≢ 384 → (block ≡ None) × (left ≡ all)
 
 -- a byte that ends a word
-pub byte-ends : (seen : ℕ) (ws left : List ℕ) (w v x : ℕ) (block : Option (List (List Bool))) → Taken (ws ++ v ∷ []) left block → length ws ≡ seen / 4 % 384 → 3 ≤ seen % 4
+pub byte-ends : (seen : ℕ) (ws left : List ℕ) (w v x : ℕ) (block : Option (List (List Bool)))
+    → Taken (ws ++ v ∷ []) left block → length ws ≡ seen / 4 % 384 → 3 ≤ seen % 4
     → low_bytes (seen % 4 + 1) v ≡ low_bytes (seen % 4) w ++ x ∷ [] → v < 2 ^ 32 → word_fault (seen / 4) v ≡ None
-    → (answer_with (stored seen ws w None) x ≡ Ok block) × (next_with (stored seen ws w None) x ≡ stored (seen + 1) left 0 None)
+    → (answer_with (stored seen ws w None) x ≡ Ok block)
+    × (next_with (stored seen ws w None) x ≡ stored (seen + 1) left 0 None)
 byte-ends seen ws left w v x block t lw h b l e = go (cases_lt (seen / 4 % 384 + 1) 384)
   where
     n : length (ws ++ v ∷ []) ≡ length ws + 1
     n = length-append ws (v ∷ [])
 
     go : (seen / 4 % 384 + 1 < 384) ⊎ (384 ≤ seen / 4 % 384 + 1)
-        → (answer_with (stored seen ws w None) x ≡ Ok block) × (next_with (stored seen ws w None) x ≡ stored (seen + 1) left 0 None)
+        → (answer_with (stored seen ws w None) x ≡ Ok block)
+        × (next_with (stored seen ws w None) x ≡ stored (seen + 1) left 0 None)
     go (inl s) =
         let q = byte-word seen ws w v x lw h b l e s in
         let u = t.begun (λ y. omega (arith, y, n, lw, s)) in
@@ -128,7 +152,8 @@ byte-ends seen ws left w v x block t lw h b l e = go (cases_lt (seen / 4 % 384 +
         (q.0 ∙ ap Ok (sym u.0), q.1 ∙ ap (λ k. stored (seen + 1) k 0 None) (sym u.1))
 
 -- words that are lawful, with one more
-pub push-lawful : (ws : List ℕ) (v : ℕ) → is_lawful v ≡ true → ((i : ℕ) → i < length ws → is_lawful (get_or ws i 0) ≡ true)
+pub push-lawful : (ws : List ℕ) (v : ℕ) → is_lawful v ≡ true
+    → ((i : ℕ) → i < length ws → is_lawful (get_or ws i 0) ≡ true)
     → (i : ℕ) → i < length (ws ++ v ∷ []) → is_lawful (get_or (ws ++ v ∷ []) i 0) ≡ true
 push-lawful ws v e old i lt = go (cases_lt i (length ws))
   where
@@ -143,7 +168,9 @@ push-lawful ws v e old i lt = go (cases_lt i (length ws))
 pub fault-lawful : (at w : ℕ) → word_fault at w ≡ None → is_lawful w ≡ true
 fault-lawful at w = go (has_code w) (has_parity w)
   where
-    go : (code parity : Bool) → cond {A = Option FileFault} code (cond {A = Option FileFault} parity None (Some (BadParity at))) (Some (BadCode at)) ≡ None
+    go : (code parity : Bool)
+        → cond {A = Option FileFault} code (cond {A = Option FileFault} parity None (Some (BadParity at)))
+        (Some (BadCode at)) ≡ None
         → (code && parity) ≡ true
     go true true e = refl
     go true false e = cc
@@ -152,7 +179,9 @@ fault-lawful at w = go (has_code w) (has_parity w)
 pub lawful-fault : (at w : ℕ) → is_lawful w ≡ true → word_fault at w ≡ None
 lawful-fault at w = go (has_code w) (has_parity w)
   where
-    go : (code parity : Bool) → (code && parity) ≡ true → cond {A = Option FileFault} code (cond {A = Option FileFault} parity None (Some (BadParity at))) (Some (BadCode at)) ≡ None
+    go : (code parity : Bool) → (code && parity) ≡ true
+        → cond {A = Option FileFault} code (cond {A = Option FileFault} parity None (Some (BadParity at)))
+        (Some (BadCode at)) ≡ None
     go true true e = refl
     go true false e = cc
     go false parity e = cc
@@ -160,7 +189,9 @@ lawful-fault at w = go (has_code w) (has_parity w)
 pub fault-unlawful : (at w : ℕ) (f : FileFault) → word_fault at w ≡ Some f → is_lawful w ≡ false
 fault-unlawful at w f = go (has_code w) (has_parity w)
   where
-    go : (code parity : Bool) → cond {A = Option FileFault} code (cond {A = Option FileFault} parity None (Some (BadParity at))) (Some (BadCode at)) ≡ Some f
+    go : (code parity : Bool)
+        → cond {A = Option FileFault} code (cond {A = Option FileFault} parity None (Some (BadParity at)))
+        (Some (BadCode at)) ≡ Some f
         → (code && parity) ≡ false
     go true true e = cc
     go true false e = refl
@@ -171,13 +202,15 @@ block_bytes_1536 : 4 * block_slots ≡ 1536
 unfolding block_slots
 block_bytes_1536 = refl
 
-pub end-left : (seen : ℕ) (ws : List ℕ) (w : ℕ) (f : Option FileFault) → f ≡ None → 0 < seen % 1536 → end_answer (stored seen ws w f) ≡ Err (BadLength (seen % 1536))
+pub end-left : (seen : ℕ) (ws : List ℕ) (w : ℕ) (f : Option FileFault) → f ≡ None → 0 < seen % 1536
+    → end_answer (stored seen ws w f) ≡ Err (BadLength (seen % 1536))
 end-left seen ws w f e h =
     let k : seen % (4 * block_slots) ≡ seen % 1536 = ap (λ n. seen % n) block_bytes_1536 in
     let t : eqb (seen % (4 * block_slots)) 0 ≡ false = ne_eqb (seen % (4 * block_slots)) 0 (λ y. omega arith) in
     rw e (rw t (ap (λ n. Err (BadLength n)) k))
 
-pub end-whole : (seen : ℕ) (ws : List ℕ) (w : ℕ) (f : Option FileFault) → f ≡ None → seen % 1536 ≡ 0 → end_answer (stored seen ws w f) ≡ Ok tt
+pub end-whole : (seen : ℕ) (ws : List ℕ) (w : ℕ) (f : Option FileFault) → f ≡ None → seen % 1536 ≡ 0
+    → end_answer (stored seen ws w f) ≡ Ok tt
 end-whole seen ws w f e z =
     let k : seen % (4 * block_slots) ≡ seen % 1536 = ap (λ n. seen % n) block_bytes_1536 in
     let t : eqb (seen % (4 * block_slots)) 0 ≡ true = eq-eqb (seen % (4 * block_slots)) 0 (omega arith) in
@@ -198,24 +231,28 @@ ends-open r e = go r.fault refl
         refused-not e = cc
 
 -- what an answer tells of a reader that has refused nothing
-pub answered : (r : FileReader) (x : ℕ) (block : Option (List (List Bool))) → r.fault ≡ None → Ok block ≡ answer_with r x
+pub answered : (r : FileReader) (x : ℕ) (block : Option (List (List Bool))) → r.fault ≡ None
+    → Ok block ≡ answer_with r x
     → (byte_fault r x ≡ None) × (block_with r x ≡ block) × (next_with r x ≡ reader_with r x)
 answered r x block e a = go (byte_fault r x) refl
   where
-    go : (o : Option FileFault) → byte_fault r x ≡ o → (byte_fault r x ≡ None) × (block_with r x ≡ block) × (next_with r x ≡ reader_with r x)
+    go : (o : Option FileFault) → byte_fault r x ≡ o → (byte_fault r x ≡ None) × (block_with r x ≡ block)
+        × (next_with r x ≡ reader_with r x)
     go None q =
         let none : fault_with r x ≡ None = rw e q in
         let i : answer_with r x ≡ Ok (block_with r x) = rw none refl in
         (q, ok-is (sym i ∙ sym a), rw none refl)
       where
-        ok-is : {a b : Option (List (List Bool))} → ◌≡◌ {A = Result (Option (List (List Bool))) FileFault} (Ok a) (Ok b) → a ≡ b
+        ok-is : {a b : Option (List (List Bool))}
+            → ◌≡◌ {A = Result (Option (List (List Bool))) FileFault} (Ok a) (Ok b) → a ≡ b
         ok-is e = cc
     go (Some f) q = absurd (let i = (refused r x f e q).0 in wrong (a ∙ i))
       where
         wrong : ◌≡◌ {A = Result (Option (List (List Bool))) FileFault} (Ok block) (Err f) → ⊥
         wrong e = cc
 
-pub answered-err : (r : FileReader) (x : ℕ) (f : FileFault) → r.fault ≡ None → Err f ≡ answer_with r x → byte_fault r x ≡ Some f
+pub answered-err : (r : FileReader) (x : ℕ) (f : FileFault) → r.fault ≡ None → Err f ≡ answer_with r x
+    → byte_fault r x ≡ Some f
 answered-err r x f e a = go (byte_fault r x) refl
   where
     go : (o : Option FileFault) → byte_fault r x ≡ o → byte_fault r x ≡ Some f

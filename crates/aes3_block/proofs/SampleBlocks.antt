@@ -1,8 +1,11 @@
 -- Blocks made of samples, their bytes and their samples.
-use Rattle.std.proofs.Common.{◌≡◌, ℕ, zero, suc, ◌+◌, ◌-◌, ◌*◌, ◌/◌, ◌%◌, ◌^◌, ◌<◌, ◌≤◌, List, [], ◌∷◌, ◌++◌, Bool, false, length, map, take, drop, replicate, get_or, refl, sym, ap, ap₂, ◌∙◌, arith, length-append, length-drop}
+use Rattle.std.proofs.Common.{◌≡◌, ℕ, zero, suc, ◌+◌, ◌-◌, ◌*◌, ◌/◌, ◌%◌, ◌^◌, ◌<◌, ◌≤◌, List, [], ◌∷◌, ◌++◌, Bool}
+use Rattle.std.proofs.Common.{false, length, map, take, drop, replicate, get_or, refl, sym, ap, ap₂, ◌∙◌, arith}
+use Rattle.std.proofs.Common.{length-append, length-drop}
 use Rattle.std.specs.List.{flat_map, All}
 use Rattle.std.proofs.lemmas.Grind.{flat_map-append}
-use Rattle.std.proofs.lemmas.List.{length-map, length-replicate, length-take-le, take_at, take-append-le, drop-append-le, take-append-drop, take-set-le, nil_from_length, take_all}
+use Rattle.std.proofs.lemmas.List.{length-map, length-replicate, length-take-le, take_at, take-append-le}
+use Rattle.std.proofs.lemmas.List.{drop-append-le, take-append-drop, take-set-le, nil_from_length, take_all}
 use Rattle.aes3_slot.specs.Bits.{low_bits, number}
 use Rattle.aes3_slot.specs.Slots.{payload_len, payload_bits}
 use Rattle.aes3_slot.proofs.Bits.{low_bits-add, length-low_bits, number-low_bits}
@@ -44,7 +47,8 @@ sample-back w h =
 
 -- word number i of bytes
 pub word-at : (bytes : List ℕ) (i : ℕ) → 4 * i + 4 ≤ length bytes
-    → get_or (words_of bytes) i 0 ≡ bytes_number (get_or bytes (4 * i) 0 ∷ get_or bytes (4 * i + 1) 0 ∷ get_or bytes (4 * i + 2) 0 ∷ get_or bytes (4 * i + 3) 0 ∷ [])
+    → get_or (words_of bytes) i 0 ≡ bytes_number
+    (get_or bytes (4 * i) 0 ∷ get_or bytes (4 * i + 1) 0 ∷ get_or bytes (4 * i + 2) 0 ∷ get_or bytes (4 * i + 3) 0 ∷ [])
 word-at [] i h = absurd (omega arith)
 word-at (a ∷ []) i h = absurd (omega arith)
 word-at (a ∷ b ∷ []) i h = absurd (omega arith)
@@ -52,10 +56,14 @@ word-at (a ∷ b ∷ c ∷ []) i h = absurd (omega arith)
 word-at (a ∷ b ∷ c ∷ d ∷ rest) zero h = refl
 word-at (a ∷ b ∷ c ∷ d ∷ rest) (suc i) h =
     word-at rest i (omega arith)
-    ∙ ap₂ (λ j k. bytes_number (get_or xs j 0 ∷ get_or xs k 0 ∷ get_or rest (4 * i + 2) 0 ∷ get_or rest (4 * i + 3) 0 ∷ []))
-    (let e : suc (suc (suc (suc (4 * i)))) ≡ 4 * suc i = omega arith in e) (let e : suc (suc (suc (suc (4 * i + 1)))) ≡ 4 * suc i + 1 = omega arith in e)
-    ∙ ap₂ (λ j k. bytes_number (get_or xs (4 * suc i) 0 ∷ get_or xs (4 * suc i + 1) 0 ∷ get_or xs j 0 ∷ get_or xs k 0 ∷ []))
-    (let e : suc (suc (suc (suc (4 * i + 2)))) ≡ 4 * suc i + 2 = omega arith in e) (let e : suc (suc (suc (suc (4 * i + 3)))) ≡ 4 * suc i + 3 = omega arith in e)
+    ∙ ap₂ (λ j k. bytes_number
+    (get_or xs j 0 ∷ get_or xs k 0 ∷ get_or rest (4 * i + 2) 0 ∷ get_or rest (4 * i + 3) 0 ∷ []))
+    (let e : suc (suc (suc (suc (4 * i)))) ≡ 4 * suc i = omega arith in
+    e) (let e : suc (suc (suc (suc (4 * i + 1)))) ≡ 4 * suc i + 1 = omega arith in e)
+    ∙ ap₂ (λ j k. bytes_number
+    (get_or xs (4 * suc i) 0 ∷ get_or xs (4 * suc i + 1) 0 ∷ get_or xs j 0 ∷ get_or xs k 0 ∷ []))
+    (let e : suc (suc (suc (suc (4 * i + 2)))) ≡ 4 * suc i + 2 = omega arith in
+    e) (let e : suc (suc (suc (suc (4 * i + 3)))) ≡ 4 * suc i + 3 = omega arith in e)
   where
     xs : List ℕ
     xs = a ∷ b ∷ c ∷ d ∷ rest
@@ -71,17 +79,21 @@ words-join (a ∷ b ∷ c ∷ d ∷ p) q h = ap (λ ws. bytes_number (a ∷ b �
 pub words-zeros : (n : ℕ) → words_of (replicate (4 * n) 0) ≡ replicate n 0
 words-zeros zero = refl
 words-zeros (suc n) =
-    ap (λ k. words_of (replicate k 0)) (let e : 4 * suc n ≡ suc (suc (suc (suc (4 * n)))) = omega arith in e) ∙ ap (λ ws. 0 ∷ ws) (words-zeros n)
+    ap (λ k. words_of (replicate k 0)) (let e : 4 * suc n ≡ suc (suc (suc (suc (4 * n)))) = omega arith in e)
+    ∙ ap (λ ws. 0 ∷ ws) (words-zeros n)
 
 -- the blocks of samples one behind the other
-blocks-join : (m n : ℕ) (p q : List ℕ) → length p ≡ block_slots * m → sample_blocks (m + n) (p ++ q) ≡ sample_blocks m p ++ sample_blocks n q
-blocks-join zero n p q h = ap₂ (λ k v. sample_blocks k (v ++ q)) (let e : 0 + n ≡ n = omega arith in e) (nil_from_length p (omega arith))
+blocks-join : (m n : ℕ) (p q : List ℕ) → length p ≡ block_slots * m
+    → sample_blocks (m + n) (p ++ q) ≡ sample_blocks m p ++ sample_blocks n q
+blocks-join zero n p q h = ap₂ (λ k v. sample_blocks k (v ++ q)) (let e : 0 + n ≡ n = omega arith in
+    e) (nil_from_length p (omega arith))
 blocks-join (suc m) n p q h =
     let le : block_slots ≤ length p = omega arith in
     let l = length-drop block_slots p in
     ap (λ k. sample_blocks k (p ++ q)) (let e : suc m + n ≡ suc (m + n) = omega arith in e)
     ∙ ap₂ (λ x y. map payload_of_sample x ∷ y) (take-append-le block_slots p q le)
-    (ap (sample_blocks (m + n)) (drop-append-le block_slots p q le) ∙ blocks-join m n (drop block_slots p) q (omega arith))
+    (ap (sample_blocks (m + n)) (drop-append-le block_slots p q le)
+    ∙ blocks-join m n (drop block_slots p) q (omega arith))
 
 count-join : (m n k : ℕ) → k ≡ m + n → m % block_slots ≡ 0 → k / block_slots ≡ m / block_slots + n / block_slots
 unfolding block_slots
@@ -118,7 +130,8 @@ length-sampled ws = length-blocks (length ws / 384) ws
 pub length-filled : (ws : List ℕ) → length (filled ws) ≡ length ws + (384 - length ws % 384) % 384
 unfolding block_slots
 length-filled ws =
-    length-append ws (replicate ((384 - length ws % 384) % 384) 0) ∙ ap (λ k. length ws + k) (length-replicate ((384 - length ws % 384) % 384) 0)
+    length-append ws (replicate ((384 - length ws % 384) % 384) 0)
+    ∙ ap (λ k. length ws + k) (length-replicate ((384 - length ws % 384) % 384) 0)
 
 -- they are blocks
 each-sample : (ws : List ℕ) → Each27 (map payload_of_sample ws)
@@ -135,7 +148,8 @@ blocks-lawful : (n : ℕ) (ws : List ℕ) → block_slots * n ≤ length ws → 
 blocks-lawful zero ws h = all-nil IsBlock
 blocks-lawful (suc n) ws h =
     let l = length-drop block_slots ws in
-    all-cons IsBlock (map payload_of_sample (take block_slots ws)) (sample_blocks n (drop block_slots ws)) (sample-block ws (omega arith))
+    all-cons IsBlock (map payload_of_sample (take block_slots ws)) (sample_blocks n (drop block_slots ws))
+    (sample-block ws (omega arith))
     (blocks-lawful n (drop block_slots ws) (omega arith))
 
 pub sampled-lawful : (ws : List ℕ) → All IsBlock (sampled ws)
@@ -161,7 +175,8 @@ each-drop zero ws h = h
 each-drop (suc n) [] h = tt
 each-drop (suc n) (w ∷ ws) h = each-drop n ws h.1
 
-samples-blocks : (n : ℕ) (ws : List ℕ) → length ws ≡ block_slots * n → EachSample ws → samples (sample_blocks n ws) ≡ flat_map word_bytes ws
+samples-blocks : (n : ℕ) (ws : List ℕ) → length ws ≡ block_slots * n → EachSample ws
+    → samples (sample_blocks n ws) ≡ flat_map word_bytes ws
 unfolding block_samples
 samples-blocks zero ws l h = ap (flat_map word_bytes) (sym (nil_from_length ws (omega arith)))
 samples-blocks (suc n) ws l h =
@@ -194,7 +209,8 @@ filled-whole n k e = omega arith
 pub samples-filled : (ws : List ℕ) → All IsSample ws → samples (sampled (filled ws)) ≡ flat_map word_bytes (filled ws)
 unfolding sampled
 samples-filled ws h =
-    samples-blocks (length (filled ws) / block_slots) (filled ws) (count-whole (length (filled ws)) (filled-whole (length ws) (length (filled ws)) (length-filled ws)))
+    samples-blocks (length (filled ws) / block_slots) (filled ws)
+    (count-whole (length (filled ws)) (filled-whole (length ws) (length (filled ws)) (length-filled ws)))
     (each-filled ((block_slots - length ws % block_slots) % block_slots) ws (each-of ws h))
 
 -- another status leaves the samples
@@ -202,13 +218,15 @@ place-behind : audio_len ≤ status_place
 unfolding status_place
 place-behind = omega arith
 
-samples-bits : (channel : Channel) (b : List (List Bool)) (bits : List Bool) → map sample_of (with_bits channel b bits) ≡ map sample_of b
+samples-bits : (channel : Channel) (b : List (List Bool)) (bits : List Bool)
+    → map sample_of (with_bits channel b bits) ≡ map sample_of b
 samples-bits channel [] bits = refl
 samples-bits First (p ∷ b) [] = refl
 samples-bits First (p ∷ b) (c ∷ bits) =
     ap₂ (λ x xs. 256 * number x ∷ xs) (take-set-le audio_len p status_place c place-behind) (samples-bits Second b bits)
 samples-bits Second (p ∷ b) bits = ap (λ xs. sample_of p ∷ xs) (samples-bits First b bits)
 
-pub samples-status : (channel : Channel) (status : List ℕ) (b : List (List Bool)) → map sample_of (with_status b channel status) ≡ map sample_of b
+pub samples-status : (channel : Channel) (status : List ℕ) (b : List (List Bool))
+    → map sample_of (with_status b channel status) ≡ map sample_of b
 unfolding with_status
 samples-status channel status b = samples-bits channel b (bits_of_bytes status)

@@ -1,5 +1,6 @@
 -- Blocks of the bits that words of cells carry.
-use Rattle.std.proofs.Common.{◌≡◌, ℕ, zero, suc, ◌+◌, ◌*◌, ◌/◌, ◌%◌, ◌^◌, ◌<◌, ◌≤◌, ◌⊎◌, inl, inr, List, [], ◌∷◌, Bool, true, false, not, eqb, length, map, set, get_or, take, refl, sym, ap, ◌∙◌, arith}
+use Rattle.std.proofs.Common.{◌≡◌, ℕ, zero, suc, ◌+◌, ◌*◌, ◌/◌, ◌%◌, ◌^◌, ◌<◌, ◌≤◌, ◌⊎◌, inl, inr, List, [], ◌∷◌, Bool}
+use Rattle.std.proofs.Common.{true, false, not, eqb, length, map, set, get_or, take, refl, sym, ap, ◌∙◌, arith}
 use Rattle.std.specs.Prelude.{count_ones}
 use Rattle.std.specs.List.{filter}
 use Rattle.std.proofs.lemmas.Bool.{cases_eq}
@@ -25,7 +26,8 @@ pub payload-low : (w : ℕ) (bits : List Bool) → slots_bits w ≡ bits → pay
 unfolding payload_len slots_len
 payload-low w bits e = low_bits-mod 27 w ∙ sym (take-low 27 28 w (omega arith)) ∙ ap (take 27) e
 
-pub payload-even : (s : ℕ) (bits : List Bool) → s < 2 ^ 28 → slots_bits s ≡ bits → payload_of (s * 16 % 2 ^ 32) ≡ take payload_len bits
+pub payload-even : (s : ℕ) (bits : List Bool) → s < 2 ^ 28 → slots_bits s ≡ bits
+    → payload_of (s * 16 % 2 ^ 32) ≡ take payload_len bits
 unfolding payload_len
 payload-even s bits h e = moved-payload s h ∙ sym (low_bits-mod 27 s) ∙ payload-low s bits e
 
@@ -35,7 +37,8 @@ odd-read zero w = refl
 odd-read (suc k) w =
     let n : 2 * suc k ≡ suc (suc (2 * k)) = omega arith in
     ap (λ m. odd_ones (low_bits m w)) n
-    ∙ two (w % 2) (w / 2 % 2) (omega arith) (omega arith) (low_bits (2 * k) (w / 2 / 2)) (read_bits (low_cells (2 * k) (w / 2 / 2))) (odd-read k (w / 2 / 2))
+    ∙ two (w % 2) (w / 2 % 2) (omega arith) (omega arith) (low_bits (2 * k) (w / 2 / 2))
+    (read_bits (low_cells (2 * k) (w / 2 / 2))) (odd-read k (w / 2 / 2))
     ∙ sym (ap (λ m. odd_ones (read_bits (low_cells m w))) n)
   where
     twice : (b : Bool) → not (not b) ≡ b
@@ -66,7 +69,8 @@ lawful-more xs i x k h e f = go (cases_eq k i)
     go (inl q) = ap (λ k. is_lawful (get_or (set xs i x) k 0)) q ∙ ap is_lawful (get_or-set_same xs i x 0 h) ∙ e
     go (inr q) = ap is_lawful (get_or-set_other xs i k x 0 q) ∙ f
 
-pub payload-more : (payload : ℕ → List Bool) (xs ys : List ℕ) (i x : ℕ) → i < length xs → payload_of x ≡ payload (get_or ys i 0)
+pub payload-more : (payload : ℕ → List Bool) (xs ys : List ℕ) (i x : ℕ) → i < length xs
+    → payload_of x ≡ payload (get_or ys i 0)
     → ((k : ℕ) → k < i → payload_of (get_or xs k 0) ≡ payload (get_or ys k 0))
     → (k : ℕ) → k < i + 1 → payload_of (get_or (set xs i x) k 0) ≡ payload (get_or ys k 0)
 payload-more payload xs ys i x h e f k g = go (cases_eq k i)
@@ -78,17 +82,20 @@ payload-more payload xs ys i x h e f k g = go (cases_eq k i)
 
 -- all of them
 pub payloads-all : (payload : ℕ → List Bool) (xs ys : List ℕ) → length xs ≡ length ys
-    → ((k : ℕ) → k < length xs → payload_of (get_or xs k 0) ≡ payload (get_or ys k 0)) → map payload_of xs ≡ map payload ys
+    → ((k : ℕ) → k < length xs → payload_of (get_or xs k 0) ≡ payload (get_or ys k 0))
+    → map payload_of xs ≡ map payload ys
 payloads-all payload xs ys l f =
     ext_get_or [] (map payload_of xs) (map payload ys) (length-map xs payload_of ∙ l ∙ sym (length-map ys payload))
     (λ k h. let n = length-map xs payload_of in
-    get_or-map payload_of xs k 0 [] (omega arith) ∙ f k (omega arith) ∙ sym (get_or-map payload ys k 0 [] (omega arith)))
+    get_or-map payload_of xs k 0 [] (omega arith) ∙ f k (omega arith)
+    ∙ sym (get_or-map payload ys k 0 [] (omega arith)))
 
 -- the payload that a word of cells carries
 abbrev pub carried : ℕ → List Bool
 carried w = take payload_len (read_word w)
 
-pub carried-all : (xs ys : List ℕ) → length xs ≡ length ys → ((k : ℕ) → k < length xs → payload_of (get_or xs k 0) ≡ carried (get_or ys k 0))
+pub carried-all : (xs ys : List ℕ) → length xs ≡ length ys
+    → ((k : ℕ) → k < length xs → payload_of (get_or xs k 0) ≡ carried (get_or ys k 0))
     → map payload_of xs ≡ map (take payload_len) (read_words ys)
 carried-all xs ys l f = payloads-all carried xs ys l f ∙ sym (map-map (take payload_len) read_word ys)
 

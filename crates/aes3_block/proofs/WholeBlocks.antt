@@ -1,16 +1,22 @@
 -- The blocks of bytes that grow byte by byte, and a reader that follows them.
-use Rattle.std.proofs.Common.{◌≡◌, ℕ, suc, ◌+◌, ◌-◌, ◌*◌, ◌/◌, ◌%◌, ◌<◌, ◌≤◌, ◌⊎◌, inl, inr, List, [], ◌∷◌, ◌++◌, Bool, true, false, cond, eqb, Option, Some, None, Ok, Err, length, get_or, map, take, drop, refl, sym, ap, ap₂, ◌∙◌, arith, append-nil, length-append, length-drop, eq-eqb, ne_eqb}
+use Rattle.std.proofs.Common.{◌≡◌, ℕ, suc, ◌+◌, ◌-◌, ◌*◌, ◌/◌, ◌%◌, ◌<◌, ◌≤◌, ◌⊎◌, inl, inr, List, [], ◌∷◌, ◌++◌, Bool}
+use Rattle.std.proofs.Common.{true, false, cond, eqb, Option, Some, None, Ok, Err, length, get_or, map, take, drop}
+use Rattle.std.proofs.Common.{refl, sym, ap, ap₂, ◌∙◌, arith, append-nil, length-append, length-drop, eq-eqb, ne_eqb}
 use Rattle.std.proofs.lemmas.Bool.{cases_lt, cases_eq}
 use Rattle.std.proofs.lemmas.List.{take_all, drop-append-le, drop_all, get_or-append_right}
 use Rattle.aes3_block.specs.declared.file.FileFault.{FileFault}
 use Rattle.aes3_block.specs.declared.file.FileFault.TheVariants.{BadLength, BadCode, BadParity}
 use Rattle.aes3_block.specs.Blocks.{block_slots}
-use Rattle.aes3_block.specs.Files.{bytes_number, words_of, has_code, has_parity, lawful_words, payload_of, blocks_in, file_blocks}
-use Rattle.aes3_block.specs.Readers.{FileReader, reader_of, word_fault, ends_word, byte_fault, block_with, reader_with, end_answer}
+use Rattle.aes3_block.specs.Files.{bytes_number, words_of, has_code, has_parity, lawful_words, payload_of, blocks_in}
+use Rattle.aes3_block.specs.Files.{file_blocks}
+use Rattle.aes3_block.specs.Readers.{FileReader, reader_of, word_fault, ends_word, byte_fault, block_with, reader_with}
+use Rattle.aes3_block.specs.Readers.{end_answer}
 use Rattle.aes3_block.proofs.BlockLemmas.{block_slots_384}
 use Rattle.aes3_block.proofs.Reading.{fault-lawful, fault-unlawful, reader-is}
-use Rattle.aes3_block.proofs.Words.{length-words, words-short, words-whole, all_lawful, all_lawful-push, lawful-words, lawful-stays}
+use Rattle.aes3_block.proofs.Words.{length-words, words-short, words-whole, all_lawful, all_lawful-push, lawful-words}
+use Rattle.aes3_block.proofs.Words.{lawful-stays}
 use Rattle.aes3_block.proofs.Streams.{blocks-front, blocks-more}
+use Rattle.std.proofs.lemmas.Option.{none-some}
 
 -- the word that byte x ends behind b
 abbrev pub last_word : List ℕ → ℕ → ℕ
@@ -47,18 +53,22 @@ begun_words b = drop (block_slots * (length (words_of b) / block_slots)) (words_
 
 tests-short : (b : List ℕ) → length b % 4 < 3 → ends_word (reader_of b) ≡ false
 unfolding reader_of
-tests-short b h = ne_eqb (length (drop (4 * (length b / 4)) b)) 3 (λ e. let l = length-drop (4 * (length b / 4)) b in omega arith)
+tests-short b h =
+    ne_eqb (length (drop (4 * (length b / 4)) b)) 3 (λ e. let l = length-drop (4 * (length b / 4)) b in omega arith)
 
 tests-whole : (b : List ℕ) → length b % 4 ≡ 3 → ends_word (reader_of b) ≡ true
 unfolding reader_of
-tests-whole b h = eq-eqb (length (drop (4 * (length b / 4)) b)) 3 (let l = length-drop (4 * (length b / 4)) b in omega arith)
+tests-whole b h = eq-eqb (length (drop (4 * (length b / 4)) b)) 3 (let l = length-drop (4 * (length b / 4)) b in
+    omega arith)
 
 begun-count : (b : List ℕ) → length (begun_words b) ≡ length (words_of b) % block_slots
-begun-count b = let l = length-drop (block_slots * (length (words_of b) / block_slots)) (words_of b) in let r = count-rest (length (words_of b)) in omega arith
+begun-count b = let l = length-drop (block_slots * (length (words_of b) / block_slots)) (words_of b) in
+    let r = count-rest (length (words_of b)) in omega arith
 
 -- a byte inside a word
 pub short : (b : List ℕ) (x : ℕ) → length b % 4 < 3
-    → (byte_fault (reader_of b) x ≡ None) × (block_with (reader_of b) x ≡ None) × (reader_with (reader_of b) x ≡ reader_of (b ++ x ∷ [])) × (words_of (b ++ x ∷ []) ≡ words_of b)
+    → (byte_fault (reader_of b) x ≡ None) × (block_with (reader_of b) x ≡ None)
+    × (reader_with (reader_of b) x ≡ reader_of (b ++ x ∷ [])) × (words_of (b ++ x ∷ []) ≡ words_of b)
 unfolding reader_of
 short b x h =
     let e = tests-short b h in
@@ -74,7 +84,8 @@ short b x h =
     )
 
 -- a byte that ends a word
-pub whole-fault : (b : List ℕ) (x : ℕ) → length b % 4 ≡ 3 → byte_fault (reader_of b) x ≡ word_fault (length b / 4) (last_word b x)
+pub whole-fault : (b : List ℕ) (x : ℕ) → length b % 4 ≡ 3
+    → byte_fault (reader_of b) x ≡ word_fault (length b / 4) (last_word b x)
 unfolding reader_of
 whole-fault b x h = let e = tests-whole b h in rw e refl
 
@@ -83,7 +94,8 @@ words-grow : (b : List ℕ) (x : ℕ) → length b % 4 ≡ 3 → words_of (b ++ 
 words-grow b x h = words-whole b x [] h
 
 no-bytes : (b : List ℕ) (x : ℕ) → length b % 4 ≡ 3 → [] ≡ drop (4 * (length (b ++ x ∷ []) / 4)) (b ++ x ∷ [])
-no-bytes b x h = let l = length-append b (x ∷ []) in sym (drop_all (4 * (length (b ++ x ∷ []) / 4)) (b ++ x ∷ []) (omega arith))
+no-bytes b x h = let l = length-append b (x ∷ []) in
+    sym (drop_all (4 * (length (b ++ x ∷ []) / 4)) (b ++ x ∷ []) (omega arith))
 
 -- a byte that ends a word inside a block
 pub inside : (b : List ℕ) (x : ℕ) → length b % 4 ≡ 3 → length (words_of b) % block_slots + 1 < block_slots
@@ -93,36 +105,45 @@ inside b x h s =
     let e = tests-whole b h in
     let n = begun-count b in
     let z = block_slots_384 in
-    let f : eqb (suc (length (begun_words b))) block_slots ≡ false = ne_eqb (suc (length (begun_words b))) block_slots (λ y. omega arith) in
+    let f : eqb (suc (length (begun_words b))) block_slots ≡ false = ne_eqb (suc (length (begun_words b))) block_slots
+    (λ y. omega arith) in
     let l = length-append b (x ∷ []) in
     let w = words-grow b x h in
     let m = length-append (words_of b) (last_word b x ∷ []) in
-    let q : length (words_of b ++ last_word b x ∷ []) / block_slots ≡ length (words_of b) / block_slots = ap (λ k. k / block_slots) m ∙ count-inside (length (words_of b)) s in
-    let t : begun_words b ++ last_word b x ∷ [] ≡ drop (block_slots * (length (words_of (b ++ x ∷ [])) / block_slots)) (words_of (b ++ x ∷ [])) =
-    sym (ap (λ ws. drop (block_slots * (length ws / block_slots)) ws) w ∙ ap (λ k. drop (block_slots * k) (words_of b ++ last_word b x ∷ [])) q
-    ∙ drop-append-le (block_slots * (length (words_of b) / block_slots)) (words_of b) (last_word b x ∷ []) (count-within (length (words_of b)))) in
+    let q : length (words_of b ++ last_word b x ∷ []) / block_slots ≡ length (words_of b) / block_slots =
+    ap (λ k. k / block_slots) m ∙ count-inside (length (words_of b)) s in
+    let t : begun_words b ++ last_word b x ∷ [] ≡ drop (block_slots * (length (words_of (b ++ x ∷ [])) / block_slots))
+    (words_of (b ++ x ∷ [])) =
+    sym (ap (λ ws. drop (block_slots * (length ws / block_slots)) ws) w
+    ∙ ap (λ k. drop (block_slots * k) (words_of b ++ last_word b x ∷ [])) q
+    ∙ drop-append-le (block_slots * (length (words_of b) / block_slots)) (words_of b) (last_word b x ∷ [])
+    (count-within (length (words_of b)))) in
     (rw e (rw f refl), rw e (rw f (reader-is (sym (l ∙ omega arith)) t (no-bytes b x h))))
 
 -- a byte that ends a block
 pub ending : (b : List ℕ) (x : ℕ) → length b % 4 ≡ 3 → length (words_of b) % block_slots + 1 ≡ block_slots
-    → (block_with (reader_of b) x ≡ Some (map payload_of (begun_words b ++ last_word b x ∷ []))) × (reader_with (reader_of b) x ≡ reader_of (b ++ x ∷ []))
+    → (block_with (reader_of b) x ≡ Some (map payload_of (begun_words b ++ last_word b x ∷ [])))
+    × (reader_with (reader_of b) x ≡ reader_of (b ++ x ∷ []))
 unfolding reader_of
 ending b x h s =
     let e = tests-whole b h in
     let n = begun-count b in
     let z = block_slots_384 in
-    let f : eqb (suc (length (begun_words b))) block_slots ≡ true = eq-eqb (suc (length (begun_words b))) block_slots (omega arith) in
+    let f : eqb (suc (length (begun_words b))) block_slots ≡ true =
+    eq-eqb (suc (length (begun_words b))) block_slots (omega arith) in
     let l = length-append b (x ∷ []) in
     let w = words-grow b x h in
     let m = length-append (words_of b) (last_word b x ∷ []) in
     let t : [] ≡ drop (block_slots * (length (words_of (b ++ x ∷ [])) / block_slots)) (words_of (b ++ x ∷ [])) =
     sym (ap (λ ws. drop (block_slots * (length ws / block_slots)) ws) w
-    ∙ drop_all (block_slots * (length (words_of b ++ last_word b x ∷ []) / block_slots)) (words_of b ++ last_word b x ∷ [])
+    ∙ drop_all (block_slots * (length (words_of b ++ last_word b x ∷ []) / block_slots))
+    (words_of b ++ last_word b x ∷ [])
     (let c = ap (λ k. block_slots * (k / block_slots)) m ∙ count-whole (length (words_of b)) s in omega arith)) in
     (rw e (rw f refl), rw e (rw f (reader-is (sym (l ∙ omega arith)) t (no-bytes b x h))))
 
 -- a reader that has taken the bytes b takes one more that is no fault
-pub reader-next : (b : List ℕ) (x : ℕ) → byte_fault (reader_of b) x ≡ None → reader_with (reader_of b) x ≡ reader_of (b ++ x ∷ [])
+pub reader-next : (b : List ℕ) (x : ℕ) → byte_fault (reader_of b) x ≡ None
+    → reader_with (reader_of b) x ≡ reader_of (b ++ x ∷ [])
 reader-next b x e = elim (cases_lt (length b % 4) 3) [
   | inl h ↦ (short b x h).2
   | inr h ↦ elim (cases_lt (length (words_of b) % block_slots + 1) block_slots) [
@@ -132,16 +153,19 @@ reader-next b x e = elim (cases_lt (length b % 4) 3) [
 ]
 
 -- the words stay lawful
-pub lawful-next : (b : List ℕ) (x : ℕ) → all_lawful (words_of b) ≡ true → byte_fault (reader_of b) x ≡ None → all_lawful (words_of (b ++ x ∷ [])) ≡ true
+pub lawful-next : (b : List ℕ) (x : ℕ) → all_lawful (words_of b) ≡ true → byte_fault (reader_of b) x ≡ None
+    → all_lawful (words_of (b ++ x ∷ [])) ≡ true
 lawful-next b x l e = elim (cases_lt (length b % 4) 3) [
   | inl h ↦ ap all_lawful (short b x h).3 ∙ l
   | inr h ↦ let t : length b % 4 ≡ 3 = omega arith in
       ap all_lawful (words-grow b x t)
-      ∙ all_lawful-push (words_of b) (last_word b x) l (fault-lawful (length b / 4) (last_word b x) (sym (whole-fault b x t) ∙ e))
+      ∙ all_lawful-push (words_of b) (last_word b x) l
+      (fault-lawful (length b / 4) (last_word b x) (sym (whole-fault b x t) ∙ e))
 ]
 
 -- the blocks of lawful words
-blocks-lawful : (b : List ℕ) → all_lawful (words_of b) ≡ true → file_blocks b ≡ blocks_in (length (words_of b) / block_slots) (words_of b)
+blocks-lawful : (b : List ℕ) → all_lawful (words_of b) ≡ true
+    → file_blocks b ≡ blocks_in (length (words_of b) / block_slots) (words_of b)
 unfolding file_blocks
 blocks-lawful b l = ap (λ ws. blocks_in (length ws / block_slots) ws) (lawful-words b l)
 
@@ -152,57 +176,69 @@ added_blocks (Some b) = b ∷ []
 
 pub blocks-next : (b : List ℕ) (x : ℕ) → all_lawful (words_of b) ≡ true → byte_fault (reader_of b) x ≡ None
     → file_blocks (b ++ x ∷ []) ≡ file_blocks b ++ added_blocks (block_with (reader_of b) x)
-blocks-next b x l e = blocks-lawful (b ++ x ∷ []) (lawful-next b x l e) ∙ go (cases_lt (length b % 4) 3) ∙ ap (λ z. z ++ added_blocks (block_with (reader_of b) x)) (sym (blocks-lawful b l))
+blocks-next b x l e = blocks-lawful (b ++ x ∷ []) (lawful-next b x l e) ∙ go (cases_lt (length b % 4) 3)
+    ∙ ap (λ z. z ++ added_blocks (block_with (reader_of b) x)) (sym (blocks-lawful b l))
   where
     ws : List ℕ
     ws = words_of b
 
     go : (length b % 4 < 3) ⊎ (3 ≤ length b % 4)
-        → blocks_in (length (words_of (b ++ x ∷ [])) / block_slots) (words_of (b ++ x ∷ [])) ≡ blocks_in (length (words_of b) / block_slots) (words_of b) ++ added_blocks (block_with (reader_of b) x)
+        → blocks_in (length (words_of (b ++ x ∷ [])) / block_slots) (words_of (b ++ x ∷ [])) ≡ blocks_in
+        (length (words_of b) / block_slots) (words_of b) ++ added_blocks (block_with (reader_of b) x)
     go (inl h) = let s = short b x h in
-        ap (λ v. blocks_in (length v / block_slots) v) s.3 ∙ sym (append-nil (blocks_in (length (words_of b) / block_slots) (words_of b)))
+        ap (λ v. blocks_in (length v / block_slots) v) s.3
+        ∙ sym (append-nil (blocks_in (length (words_of b) / block_slots) (words_of b)))
         ∙ ap (λ o. blocks_in (length (words_of b) / block_slots) (words_of b) ++ added_blocks o) (sym s.1)
     go (inr h) = whole (omega arith) (cases_lt (length ws % block_slots + 1) block_slots)
       where
-        whole : length b % 4 ≡ 3 → (length (words_of b) % block_slots + 1 < block_slots) ⊎ (block_slots ≤ length (words_of b) % block_slots + 1)
-            → blocks_in (length (words_of (b ++ x ∷ [])) / block_slots) (words_of (b ++ x ∷ [])) ≡ blocks_in (length (words_of b) / block_slots) (words_of b) ++ added_blocks (block_with (reader_of b) x)
+        whole : length b % 4 ≡ 3 → (length (words_of b) % block_slots + 1 < block_slots)
+            ⊎ (block_slots ≤ length (words_of b) % block_slots + 1)
+            → blocks_in (length (words_of (b ++ x ∷ [])) / block_slots) (words_of (b ++ x ∷ [])) ≡ blocks_in
+            (length (words_of b) / block_slots) (words_of b) ++ added_blocks (block_with (reader_of b) x)
         whole t (inl s) =
             let w = words-grow b x t in
             let m = length-append (words_of b) (last_word b x ∷ []) in
             ap (λ v. blocks_in (length v / block_slots) v) w
-            ∙ ap (λ k. blocks_in k (words_of b ++ last_word b x ∷ [])) (ap (λ k. k / block_slots) m ∙ count-inside (length (words_of b)) s)
-            ∙ blocks-front (length (words_of b) / block_slots) (words_of b) (last_word b x ∷ []) (count-within (length (words_of b)))
+            ∙ ap (λ k. blocks_in k (words_of b ++ last_word b x ∷ [])) (ap (λ k. k / block_slots) m
+            ∙ count-inside (length (words_of b)) s)
+            ∙ blocks-front (length (words_of b) / block_slots) (words_of b) (last_word b x ∷ [])
+            (count-within (length (words_of b)))
             ∙ sym (append-nil (blocks_in (length (words_of b) / block_slots) (words_of b)))
-            ∙ ap (λ o. blocks_in (length (words_of b) / block_slots) (words_of b) ++ added_blocks o) (sym (inside b x t s).0)
+            ∙ ap (λ o. blocks_in (length (words_of b) / block_slots) (words_of b) ++ added_blocks o)
+            (sym (inside b x t s).0)
         whole t (inr s) =
             let w = words-grow b x t in
             let m = length-append (words_of b) (last_word b x ∷ []) in
             let k = length (words_of b) / block_slots in
             let z : length (words_of b) % block_slots + 1 ≡ block_slots = last-place (length (words_of b)) s in
             let all = words_of b ++ last_word b x ∷ [] in
-            let d : drop (block_slots * k) all ≡ begun_words b ++ last_word b x ∷ [] = drop-append-le (block_slots * k) (words_of b) (last_word b x ∷ []) (count-within (length (words_of b))) in
-            let n : length (begun_words b ++ last_word b x ∷ []) ≡ block_slots = length-append (begun_words b) (last_word b x ∷ []) ∙ ap (λ i. i + 1) (begun-count b) ∙ z in
+            let d : drop (block_slots * k) all ≡ begun_words b ++ last_word b x ∷ [] =
+            drop-append-le (block_slots * k) (words_of b) (last_word b x ∷ [])
+            (count-within (length (words_of b))) in
+            let n : length (begun_words b ++ last_word b x ∷ []) ≡ block_slots =
+            length-append (begun_words b) (last_word b x ∷ []) ∙ ap (λ i. i + 1) (begun-count b) ∙ z in
             ap (λ v. blocks_in (length v / block_slots) v) w
             ∙ ap (λ i. blocks_in i all) (ap (λ i. i / block_slots) m ∙ count-ending (length (words_of b)) z)
             ∙ blocks-more k all
-            ∙ ap₂ (λ p q. p ++ map payload_of q ∷ []) (blocks-front k (words_of b) (last_word b x ∷ []) (count-within (length (words_of b))))
+            ∙ ap₂ (λ p q. p ++ map payload_of q ∷ [])
+            (blocks-front k (words_of b) (last_word b x ∷ []) (count-within (length (words_of b))))
             (ap (take block_slots) d ∙ take_all block_slots (begun_words b ++ last_word b x ∷ []) (omega arith))
             ∙ ap (λ o. blocks_in k (words_of b) ++ added_blocks o) (sym (ending b x t z).0)
 
 -- behind a byte that is a fault nothing counts
-pub blocks-stay : (b : List ℕ) (x : ℕ) (more : List ℕ) (f : FileFault) → all_lawful (words_of b) ≡ true → byte_fault (reader_of b) x ≡ Some f
+pub blocks-stay : (b : List ℕ) (x : ℕ) (more : List ℕ) (f : FileFault) → all_lawful (words_of b) ≡ true
+    → byte_fault (reader_of b) x ≡ Some f
     → file_blocks (b ++ x ∷ more) ≡ file_blocks b
 unfolding file_blocks
 blocks-stay b x more f l e = ap (λ ws. blocks_in (length ws / block_slots) ws) (elim (cases_lt (length b % 4) 3) [
   | inl h ↦ absurd (let s = short b x h in none-some f (sym s.0 ∙ e))
-  | inr h ↦ let t : length b % 4 ≡ 3 = omega arith in lawful-stays b x more t l (fault-unlawful (length b / 4) (last_word b x) f (sym (whole-fault b x t) ∙ e))
+  | inr h ↦ let t : length b % 4 ≡ 3 = omega arith in
+      lawful-stays b x more t l (fault-unlawful (length b / 4) (last_word b x) f (sym (whole-fault b x t) ∙ e))
 ])
-  where
-    none-some : (f : FileFault) → None ≡ Some f → ⊥
-    none-some f e = cc
 
 -- where a byte is a fault stands the first word that is not lawful
-pub fault-place : (b : List ℕ) (x : ℕ) (more : List ℕ) (f : FileFault) → all_lawful (words_of b) ≡ true → byte_fault (reader_of b) x ≡ Some f
+pub fault-place : (b : List ℕ) (x : ℕ) (more : List ℕ) (f : FileFault) → all_lawful (words_of b) ≡ true
+    → byte_fault (reader_of b) x ≡ Some f
     → (length (lawful_words (b ++ x ∷ more)) ≡ length b / 4) × (length b / 4 < length (words_of (b ++ x ∷ more)))
     × (word_fault (length b / 4) (get_or (words_of (b ++ x ∷ more)) (length b / 4) 0) ≡ Some f)
 fault-place b x more f l e = elim (cases_lt (length b % 4) 3) [
@@ -210,10 +246,8 @@ fault-place b x more f l e = elim (cases_lt (length b % 4) 3) [
   | inr h ↦ let t : length b % 4 ≡ 3 = omega arith in here t
 ]
   where
-    none-some : (f : FileFault) → None ≡ Some f → ⊥
-    none-some f e = cc
-
-    here : length b % 4 ≡ 3 → (length (lawful_words (b ++ x ∷ more)) ≡ length b / 4) × (length b / 4 < length (words_of (b ++ x ∷ more)))
+    here : length b % 4 ≡ 3 → (length (lawful_words (b ++ x ∷ more)) ≡ length b / 4)
+        × (length b / 4 < length (words_of (b ++ x ∷ more)))
         × (word_fault (length b / 4) (get_or (words_of (b ++ x ∷ more)) (length b / 4) 0) ≡ Some f)
     here t =
         let n = length-words b in
@@ -222,8 +256,10 @@ fault-place b x more f l e = elim (cases_lt (length b % 4) 3) [
         let m = length-append (words_of b) (last_word b x ∷ words_of more) in
         let a : get_or (words_of b ++ last_word b x ∷ words_of more) (length b / 4) 0 ≡ last_word b x =
         get_or-append_right (words_of b) (last_word b x ∷ words_of more) (length b / 4) (length b / 4) 0 n (omega arith)
-        ∙ ap (λ k. get_or (last_word b x ∷ words_of more) k 0) (let z : length b / 4 - length b / 4 ≡ 0 = omega arith in z) in (
-          ap length (lawful-stays b x more t l (fault-unlawful (length b / 4) (last_word b x) f q) ∙ lawful-words b l) ∙ n,
+        ∙ ap (λ k. get_or (last_word b x ∷ words_of more) k 0) (let z : length b / 4 - length b / 4 ≡ 0 =
+        omega arith in z) in (
+          ap length (lawful-stays b x more t l (fault-unlawful (length b / 4) (last_word b x) f q)
+              ∙ lawful-words b l) ∙ n,
           (let c = ap length w in omega arith),
           ap (λ ws. word_fault (length b / 4) (get_or ws (length b / 4) 0)) w ∙ ap (word_fault (length b / 4)) a ∙ q,
         )
@@ -232,16 +268,21 @@ fault-place b x more f l e = elim (cases_lt (length b % 4) 3) [
 pub code-fault : (at w place : ℕ) → word_fault at w ≡ Some (BadCode place) → (place ≡ at) × (has_code w ≡ false)
 code-fault at w place = go (has_code w) (has_parity w)
   where
-    go : (code parity : Bool) → cond {A = Option FileFault} code (cond {A = Option FileFault} parity None (Some (BadParity at))) (Some (BadCode at)) ≡ Some (BadCode place)
+    go : (code parity : Bool)
+        → cond {A = Option FileFault} code (cond {A = Option FileFault} parity None (Some (BadParity at)))
+        (Some (BadCode at)) ≡ Some (BadCode place)
         → (place ≡ at) × (code ≡ false)
     go true true e = absurd cc
     go true false e = absurd cc
     go false parity e = (cc, refl)
 
-pub parity-fault : (at w place : ℕ) → word_fault at w ≡ Some (BadParity place) → (place ≡ at) × (has_code w ≡ true) × (has_parity w ≡ false)
+pub parity-fault : (at w place : ℕ) → word_fault at w ≡ Some (BadParity place) → (place ≡ at) × (has_code w ≡ true)
+    × (has_parity w ≡ false)
 parity-fault at w place = go (has_code w) (has_parity w)
   where
-    go : (code parity : Bool) → cond {A = Option FileFault} code (cond {A = Option FileFault} parity None (Some (BadParity at))) (Some (BadCode at)) ≡ Some (BadParity place)
+    go : (code parity : Bool)
+        → cond {A = Option FileFault} code (cond {A = Option FileFault} parity None (Some (BadParity at)))
+        (Some (BadCode at)) ≡ Some (BadParity place)
         → (place ≡ at) × (code ≡ true) × (parity ≡ false)
     go true true e = absurd cc
     go true false e = (cc, refl, refl)
@@ -250,18 +291,23 @@ parity-fault at w place = go (has_code w) (has_parity w)
 pub length-fault : (at w left : ℕ) → word_fault at w ≡ Some (BadLength left) → ⊥
 length-fault at w left = go (has_code w) (has_parity w)
   where
-    go : (code parity : Bool) → cond {A = Option FileFault} code (cond {A = Option FileFault} parity None (Some (BadParity at))) (Some (BadCode at)) ≡ Some (BadLength left) → ⊥
+    go : (code parity : Bool)
+        → cond {A = Option FileFault} code (cond {A = Option FileFault} parity None (Some (BadParity at)))
+        (Some (BadCode at)) ≡ Some (BadLength left) → ⊥
     go true true e = cc
     go true false e = cc
     go false parity e = cc
 
 -- the end of lawful words
-pub end-none : (b : List ℕ) → ((length b % (4 * block_slots) ≡ 0) × (end_answer (reader_of b) ≡ Ok tt)) ⊎ ((0 < length b % (4 * block_slots)) × (end_answer (reader_of b) ≡ Err (BadLength (length b % (4 * block_slots)))))
+pub end-none : (b : List ℕ) → ((length b % (4 * block_slots) ≡ 0) × (end_answer (reader_of b) ≡ Ok tt))
+    ⊎ ((0 < length b % (4 * block_slots)) × (end_answer (reader_of b) ≡ Err (BadLength (length b % (4 * block_slots)))))
 unfolding reader_of
 end-none b = go (cases_eq (length b % (4 * block_slots)) 0)
   where
-    go : (length b % (4 * block_slots) ≡ 0) ⊎ (length b % (4 * block_slots) ≡ 0 → ⊥) → ((length b % (4 * block_slots) ≡ 0) × (end_answer (reader_of b) ≡ Ok tt))
-        ⊎ ((0 < length b % (4 * block_slots)) × (end_answer (reader_of b) ≡ Err (BadLength (length b % (4 * block_slots)))))
+    go : (length b % (4 * block_slots) ≡ 0) ⊎ (length b % (4 * block_slots) ≡ 0 → ⊥)
+        → ((length b % (4 * block_slots) ≡ 0) × (end_answer (reader_of b) ≡ Ok tt))
+        ⊎ ((0 < length b % (4 * block_slots))
+        × (end_answer (reader_of b) ≡ Err (BadLength (length b % (4 * block_slots)))))
     go (inl q) = let t = eq-eqb (length b % (4 * block_slots)) 0 q in inl (q, rw t refl)
     go (inr q) = let t = ne_eqb (length b % (4 * block_slots)) 0 q in inr (omega arith, rw t refl)
 
@@ -275,5 +321,6 @@ unfolding reader_of block_slots
 reader-new r a b c d = by-fields r.seen r.words r.bytes r.fault a b c d
   where
     by-fields : (n : ℕ) (ws bs : List ℕ) (f : Option FileFault) → n ≡ 0 → ws ≡ [] → bs ≡ [] → f ≡ None
-        → ◌≡◌ {A = FileReader} (record { seen = n; words = ws; bytes = bs; fault = f }) (record { seen = 0; words = []; bytes = []; fault = None })
+        → ◌≡◌ {A = FileReader} (record { seen = n; words = ws; bytes = bs; fault = f })
+        (record { seen = 0; words = []; bytes = []; fault = None })
     by-fields n ws bs f a b c d = rw (a, b, c, d) refl

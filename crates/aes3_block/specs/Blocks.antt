@@ -1,5 +1,6 @@
 -- Blocks of 192 frames, as their 384 payloads in order of transmission.
-use Rattle.std.specs.Prelude.{ℕ, zero, suc, List, Bool, false, length, ◌≡◌, ◌*◌, ◌%◌, ◌==◌, map, replicate, if◌then◌else◌}
+use Rattle.std.specs.Prelude.{ℕ, zero, suc, List, Bool, false, length, ◌≡◌, ◌*◌, ◌%◌, ◌==◌, map, replicate}
+use Rattle.std.specs.Prelude.{if◌then◌else◌}
 use Rattle.std.specs.List.{flat_map, All}
 use Rattle.aes3_cell.specs.declared.level.Level.{Level}
 use Rattle.aes3_cell.specs.Cells.{line}

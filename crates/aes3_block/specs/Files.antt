@@ -1,5 +1,6 @@
 -- Block files: words of four bytes, lowest byte first; bit n of a word is time slot n.
-use Rattle.std.specs.Prelude.{ℕ, zero, suc, List, [], ◌∷◌, Bool, not, length, ◌≡◌, ◌+◌, ◌*◌, ◌/◌, ◌%◌, ◌==◌, ◌&&◌, map, take, drop, take_while}
+use Rattle.std.specs.Prelude.{ℕ, zero, suc, List, [], ◌∷◌, Bool, not, length, ◌≡◌, ◌+◌, ◌*◌, ◌/◌, ◌%◌, ◌==◌, ◌&&◌, map}
+use Rattle.std.specs.Prelude.{take, drop, take_while}
 use Rattle.std.specs.List.{flat_map}
 use Rattle.aes3_slot.specs.Bits.{number, odd_ones}
 use Rattle.aes3_slot.specs.Slots.{payload_bits, slots_bits, with_parity}

@@ -1,5 +1,6 @@
 -- The laws of blocks, of their file form and of their channel status.
-use Rattle.std.specs.Prelude.{ℕ, List, [], ◌++◌, Bool, Some, Ok, length, map, take, slice_get, slice_index, slice_index_or, All, ◌≡◌, ◌<◌, ◌+◌, ◌-◌, ◌*◌, ◌/◌, ◌%◌, ◌==◌}
+use Rattle.std.specs.Prelude.{ℕ, List, [], ◌++◌, Bool, Some, Ok, length, map, take, slice_get, slice_index}
+use Rattle.std.specs.Prelude.{slice_index_or, All, ◌≡◌, ◌<◌, ◌+◌, ◌-◌, ◌*◌, ◌/◌, ◌%◌, ◌==◌}
 use Rattle.std.specs.Int.{bit_at}
 use Rattle.aes3_cell.specs.declared.level.Level.{Level}
 use Rattle.aes3_block.specs.declared.status.Channel.{Channel}
@@ -23,7 +24,8 @@ BlocksKeepTheLevel =
 -- the cells of blocks tell the level before them and the block
 abbrev pub CellsTellTheBlock : Type 0
 CellsTellTheBlock =
-    (s t : Level) (b d : List (List Bool)) → IsBlock b → IsBlock d → block_cells s b ≡ block_cells t d → (s ≡ t) × (b ≡ d)
+    (s t : Level) (b d : List (List Bool)) → IsBlock b → IsBlock d → block_cells s b ≡ block_cells t d
+    → (s ≡ t) × (b ≡ d)
 
 -- the cells of blocks one behind the other are those of each block after the same level
 abbrev pub StreamsJoin : Type 0
@@ -33,7 +35,8 @@ StreamsJoin =
 -- they tell the blocks
 abbrev pub StreamTellsTheBlocks : Type 0
 StreamTellsTheBlocks =
-    (s : Level) (bs ds : List (List (List Bool))) → All IsBlock bs → All IsBlock ds → stream s bs ≡ stream s ds → bs ≡ ds
+    (s : Level) (bs ds : List (List (List Bool))) → All IsBlock bs → All IsBlock ds
+    → stream s bs ≡ stream s ds → bs ≡ ds
 
 -- the file of blocks is a block file that is read back as these blocks
 abbrev pub FilesReadBack : Type 0
@@ -46,7 +49,8 @@ IsByte byte = byte < 256
 -- each block file is the file of the blocks that are read from it
 abbrev pub FilesAreOfBlocks : Type 0
 FilesAreOfBlocks =
-    (bytes : List ℕ) → All IsByte bytes → IsBlockFile bytes → All IsBlock (file_blocks bytes) × (file (file_blocks bytes) ≡ bytes)
+    (bytes : List ℕ) → All IsByte bytes → IsBlockFile bytes → All IsBlock (file_blocks bytes)
+    × (file (file_blocks bytes) ≡ bytes)
 
 -- a new reader answers the whole blocks of the bytes that it is fed
 abbrev pub ReaderAnswersBlocks : Type 0
@@ -57,7 +61,8 @@ abbrev pub IsAccepted : List ℕ → Type 0
 IsAccepted bytes = end_answer (reader_fed (reader_of []) bytes) ≡ Ok tt
 
 abbrev pub ReaderAcceptsBlockFiles : Type 0
-ReaderAcceptsBlockFiles = (bytes : List ℕ) → (IsBlockFile bytes → IsAccepted bytes) × (IsAccepted bytes → IsBlockFile bytes)
+ReaderAcceptsBlockFiles = (bytes : List ℕ) → (IsBlockFile bytes → IsAccepted bytes)
+    × (IsAccepted bytes → IsBlockFile bytes)
 
 -- the payload of a channel in frame i
 abbrev pub payload_in : List (List Bool) → Channel → ℕ → List Bool
@@ -73,14 +78,16 @@ StatusBitsAreOfFrames =
 -- the status that was set is read
 abbrev pub StatusReadsBack : Type 0
 StatusReadsBack =
-    (b : List (List Bool)) (channel : Channel) (bytes : List ℕ) → IsBlock b → length bytes ≡ status_len → All IsByte bytes
+    (b : List (List Bool)) (channel : Channel) (bytes : List ℕ) → IsBlock b → length bytes ≡ status_len
+    → All IsByte bytes
     → status_of (with_status b channel bytes) channel ≡ bytes
 
 -- a block with the status that it has is that block
 abbrev pub StatusMayStay : Type 0
 StatusMayStay = (b : List (List Bool)) (channel : Channel) → IsBlock b → with_status b channel (status_of b channel) ≡ b
 
--- a block with another status is a block with the same audio, V and U in each subframe, and the other channel is as it was
+-- a block with another status is a block with the same audio, V and U in each subframe, and the other channel is as it
+-- was
 abbrev pub other_channel : Channel → Channel
 other_channel First = Second
 other_channel Second = First
@@ -93,4 +100,5 @@ pub record SameButStatus (b d : List (List Bool)) (channel : Channel) : Type 0 w
 
 abbrev pub OnlyStatusChanges : Type 0
 OnlyStatusChanges =
-    (b : List (List Bool)) (channel : Channel) (bytes : List ℕ) → IsBlock b → SameButStatus b (with_status b channel bytes) channel
+    (b : List (List Bool)) (channel : Channel) (bytes : List ℕ) → IsBlock b
+    → SameButStatus b (with_status b channel bytes) channel

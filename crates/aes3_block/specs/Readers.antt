@@ -1,5 +1,6 @@
 -- A block file read byte by byte.
-use Rattle.std.specs.Prelude.{ℕ, suc, List, [], ◌∷◌, ◌++◌, Bool, false, Option, Some, None, Result, Ok, Err, length, drop, ◌≡◌, ◌*◌, ◌/◌, ◌%◌, ◌==◌, map, if◌then◌else◌}
+use Rattle.std.specs.Prelude.{ℕ, suc, List, [], ◌∷◌, ◌++◌, Bool, false, Option, Some, None, Result, Ok, Err, length}
+use Rattle.std.specs.Prelude.{drop, ◌≡◌, ◌*◌, ◌/◌, ◌%◌, ◌==◌, map, if◌then◌else◌}
 use Rattle.aes3_block.specs.declared.file.FileFault.{FileFault}
 use Rattle.aes3_block.specs.declared.file.FileFault.TheVariants.{BadLength, BadCode, BadParity}
 use Rattle.aes3_block.specs.Blocks.{block_slots}
@@ -53,7 +54,8 @@ bytes_with r x = if ends_word r then [] else r.bytes ++ x ∷ []
 abbrev pub reader_with : FileReader → ℕ → FileReader
 reader_with r x = record { seen = suc r.seen; words = words_with r x; bytes = bytes_with r x; fault = None }
 
--- what a reader answers to one more byte: the fault that it refused before or that the byte is, or the block that it ends
+-- what a reader answers to one more byte: the fault that it refused before or that the byte is, or the block that it
+-- ends
 abbrev pub fault_with : FileReader → ℕ → Option FileFault
 fault_with r x = first r.fault (byte_fault r x)
   where
@@ -80,7 +82,8 @@ abbrev pub TakesQuietly : FileReader → List ℕ → FileReader → Type 0
 TakesQuietly r [] s = s ≡ r
 TakesQuietly r (x ∷ b) s = (answer_with r x ≡ Ok None) × TakesQuietly (next_with r x) b s
 
--- bytes that a reader takes one by one, the last of which ends a block and each other is taken quietly, and the reader behind them
+-- bytes that a reader takes one by one, the last of which ends a block and each other is taken quietly, and the reader
+-- behind them
 pub record TakesBlock (r : FileReader) (b : List ℕ) (block : List (List Bool)) (s : FileReader) : Type 0 where
   pub quiet : List ℕ
   pub last : ℕ

@@ -1,5 +1,7 @@
--- Blocks made of samples: words of 32 bits of which the 24 highest are the sample, channel 1 and then channel 2 of each frame.
-use Rattle.std.specs.Prelude.{ℕ, ◌≡◌, ◌<◌, ◌^◌, zero, suc, List, [], ◌∷◌, ◌++◌, Bool, false, length, ◌-◌, ◌/◌, ◌%◌, map, take, drop, replicate}
+-- Blocks made of samples: words of 32 bits of which the 24 highest are the sample, channel 1 and then channel 2 of each
+-- frame.
+use Rattle.std.specs.Prelude.{ℕ, ◌≡◌, ◌<◌, ◌^◌, zero, suc, List, [], ◌∷◌, ◌++◌, Bool, false, length, ◌-◌, ◌/◌, ◌%◌, map}
+use Rattle.std.specs.Prelude.{take, drop, replicate}
 use Rattle.aes3_slot.specs.Bits.{low_bits}
 use Rattle.aes3_block.specs.Blocks.{block_slots}
 use Rattle.aes3_block.specs.Subframes.{audio_len}

@@ -6,7 +6,8 @@ use Rattle.aes3_block.specs.declared.status.Channel.{Channel}
 use Rattle.aes3_block.specs.declared.status.Channel.TheVariants.{First, Second}
 use Rattle.aes3_block.specs.Subframes.{audio_len}
 
--- the payloads of a channel: payloads are of the first and the second channel in turn, so behind one the two change places
+-- the payloads of a channel: payloads are of the first and the second channel in turn, so behind one the two change
+-- places
 abbrev pub of_channel : Channel → List (List Bool) → List (List Bool)
 of_channel channel [] = []
 of_channel First (p ∷ ps) = p ∷ of_channel Second ps

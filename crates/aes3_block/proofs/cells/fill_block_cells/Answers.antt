@@ -23,7 +23,8 @@ loop-i-preserved c =
     let four = c.slots_cells_of_four-subframes.ensures.len in
     record {
       len = length-put at c.loop-i.cells new len four (omega arith);
-      cells = λ k h. four-more at c.loop-i.cells new len four (omega arith) c.args.before c.words-words.result.now (omega arith) c.loop-i.invariant.cells
+      cells = λ k h. four-more at c.loop-i.cells new len four (omega arith) c.args.before c.words-words.result.now
+          (omega arith) c.loop-i.invariant.cells
           c.slots_cells_of_four-subframes.ensures.cells k (omega (arith, h));
     }
 
@@ -32,7 +33,9 @@ returns c =
     let words = c.words-words.result.now in
     let cells = c.loop-i.cells in
     let n = block_slots_384 in
-    cells-each payload_of payload-length c.args.before words _ 384 (c.words-words.ensures.count ∙ n) (length-set cells 0 c.slots_cells.result ∙ c.loop-i.invariant.len)
-    (with-block-mark c.args.before words cells c.slots_of_word.result c.slots_cells.result c.loop-i.invariant.len (λ k h. c.words-words.ensures.lawful k (omega (arith, h, n)))
+    cells-each payload_of payload-length c.args.before words _ 384 (c.words-words.ensures.count ∙ n)
+    (length-set cells 0 c.slots_cells.result ∙ c.loop-i.invariant.len)
+    (with-block-mark c.args.before words cells c.slots_of_word.result c.slots_cells.result c.loop-i.invariant.len
+    (λ k h. c.words-words.ensures.lawful k (omega (arith, h, n)))
     (λ k h. c.loop-i.invariant.cells k (omega (arith, h))) c.slots_of_word.ensures.value c.slots_cells.ensures)
     ∙ ap (block_cells c.args.before) c.words-words.ensures.payloads

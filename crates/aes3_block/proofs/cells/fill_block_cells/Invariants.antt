@@ -9,5 +9,7 @@ use Rattle.aes3_block.proofs.cells.fill_block_cells.Given as goal
 abbrev pub invariant-loop-i : goal.invariant-loop-i
 invariant-loop-i l = record {
   len : length l.cells ≡ 384;
-  cells : (k : ℕ) → k < 4 * l.i → word_cells (get_or l.cells k 0) ≡ line l.before (slot_runs (if (k % 2) == 0 then X else Y) (slots_bits (get_or l.words k 0 / 16)));
+  cells : (k : ℕ) → k < 4 * l.i
+      → word_cells (get_or l.cells k 0) ≡ line l.before
+      (slot_runs (if (k % 2) == 0 then X else Y) (slots_bits (get_or l.words k 0 / 16)));
 }

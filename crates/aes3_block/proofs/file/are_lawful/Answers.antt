@@ -5,14 +5,16 @@ use Rattle.aes3_block.proofs.file.are_lawful.Goals as goal
 
 pub loop-word-preserved : goal.loop-word-preserved
 loop-word-preserved c = record {
-  judged = one-judged c.args.words.now c.loop-word.word-index c.loop-word.code c.loop-word.odd (c.fits-words c.loop-word.word-index) c.loop-word.invariant.judged;
+  judged = one-judged c.args.words.now c.loop-word.word-index c.loop-word.code c.loop-word.odd
+      (c.fits-words c.loop-word.word-index) c.loop-word.invariant.judged;
 }
 
 pub returns-then-has_right_code-clause-each : goal.returns-then-has_right_code-clause-each
 returns-then-has_right_code-clause-each c = λ e i h.
     let n = block_slots_384 in
     let t = c.told-words in
-    c.loop-word.invariant.judged.each (eqb-true _ _ (sym c.has_right_code.ensures ∙ c.if-has_right_code.true)) (eqb-true _ _ e) i (omega (arith, h, n, t))
+    c.loop-word.invariant.judged.each (eqb-true _ _ (sym c.has_right_code.ensures ∙ c.if-has_right_code.true))
+    (eqb-true _ _ e) i (omega (arith, h, n, t))
 
 pub returns-then-has_right_code-clause-owed : goal.returns-then-has_right_code-clause-owed
 returns-then-has_right_code-clause-owed c = λ h.

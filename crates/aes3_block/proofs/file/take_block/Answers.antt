@@ -7,5 +7,6 @@ use Rattle.aes3_block.proofs.file.take_block.Goals as goal
 pub of_words-requires : goal.of_words-requires
 of_words-requires c = λ i h.
     let n = block_slots_384 in
-    subst (λ (all : List ℕ). is_lawful (get_or all i 0) ≡ true) (sym (c.in-Ok.ensures.ok ∙ ap (λ (v : ArrayVec ℕ). v.items) c.take.ensures.value))
+    subst (λ (all : List ℕ). is_lawful (get_or all i 0) ≡ true)
+    (sym (c.in-Ok.ensures.ok ∙ ap (λ (v : ArrayVec ℕ). v.items) c.take.ensures.value))
     (c.requires i (omega (arith, h, n)))

@@ -8,6 +8,7 @@ loop-i-preserved c =
     let len = c.loop-i.invariant.len in
     let told = c.told-bytes in
     record {
-      bytes = word-more c.loop-i.words c.args.bytes.now i c.from_le_bytes.result (omega arith) (omega (arith, told)) c.fits-bytes (omega arith) c.loop-i.invariant.bytes c.from_le_bytes.ensures;
+      bytes = word-more c.loop-i.words c.args.bytes.now i c.from_le_bytes.result (omega arith)
+          (omega (arith, told)) c.fits-bytes (omega arith) c.loop-i.invariant.bytes c.from_le_bytes.ensures;
       len = length-set c.loop-i.words i c.from_le_bytes.result ∙ len;
     }

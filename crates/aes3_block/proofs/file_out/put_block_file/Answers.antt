@@ -8,5 +8,7 @@ pub returns : goal.returns
 returns g c =
     let n = block_slots_384 in
     let k = c.words.ensures.count in
-    wrote-is (c.bytes_of_words.ensures.bytes ∙ bytes-of-payloads c.words.result.now c.args.block.now c.words.ensures.payloads
-    (λ i h. c.bytes_of_words.ensures.fits i (omega arith)) (λ i h. c.words.ensures.lawful i (omega arith))) c.write_all.ensures
+    wrote-is (c.bytes_of_words.ensures.bytes
+    ∙ bytes-of-payloads c.words.result.now c.args.block.now c.words.ensures.payloads
+    (λ i h. c.bytes_of_words.ensures.fits i (omega arith))
+    (λ i h. c.words.ensures.lawful i (omega arith))) c.write_all.ensures

@@ -19,7 +19,8 @@ pub words_of_four-requires : goal.words_of_four-requires
 words_of_four-requires c = λ e.
     let n = block_slots_384 in
     let at = 4 * c.loop-i.i in
-    all-four _ (c.requires e at (omega arith)) (c.requires e (at + 1) (omega arith)) (c.requires e (at + 2) (omega arith)) (c.requires e (at + 3) (omega arith))
+    all-four _ (c.requires e at (omega arith)) (c.requires e (at + 1) (omega arith))
+    (c.requires e (at + 2) (omega arith)) (c.requires e (at + 3) (omega arith))
 
 pub loop-i-preserved : goal.loop-i-preserved
 loop-i-preserved c =
@@ -32,11 +33,15 @@ loop-i-preserved c =
     let none : at ≡ at + 0 = omega arith in
     record {
       len = ap length c.put_four.ensures ∙ length-with_first at kept four 4 ∙ len;
-      lawful = λ k. ap (λ ws. is_lawful (get_or ws k 0)) c.put_four.ensures ∙ lawful-placed at kept four (omega (arith, len)) c.loop-i.invariant.lawful c.words_of_four.ensures.lawful k;
-      payloads = λ k h. ap (λ ws. payload_of (get_or ws k 0)) c.put_four.ensures ∙ payloads-placed at words kept four (omega (arith, len)) c.loop-i.invariant.payloads
+      lawful = λ k. ap (λ ws. is_lawful (get_or ws k 0)) c.put_four.ensures
+          ∙ lawful-placed at kept four (omega (arith, len)) c.loop-i.invariant.lawful c.words_of_four.ensures.lawful k;
+      payloads = λ k h. ap (λ ws. payload_of (get_or ws k 0)) c.put_four.ensures
+          ∙ payloads-placed at words kept four (omega (arith, len)) c.loop-i.invariant.payloads
           (all-four (λ i. payload_of (get_or four i 0) ≡ carried (get_or words (at + i) 0))
-          (e 0 (omega arith) ∙ ap (λ j. carried (get_or words j 0)) none) (e 1 (omega arith)) (e 2 (omega arith)) (e 3 (omega arith))) k (omega (arith, h));
+          (e 0 (omega arith) ∙ ap (λ j. carried (get_or words j 0)) none) (e 1 (omega arith)) (e 2 (omega arith))
+          (e 3 (omega arith))) k (omega (arith, h));
     }
 
 pub returns : goal.returns
-returns c = c.of_words.ensures ∙ carried-all c.loop-i.lawful c.args.words.now (omega arith) (λ k h. c.loop-i.invariant.payloads k (omega arith))
+returns c = c.of_words.ensures
+    ∙ carried-all c.loop-i.lawful c.args.words.now (omega arith) (λ k h. c.loop-i.invariant.payloads k (omega arith))

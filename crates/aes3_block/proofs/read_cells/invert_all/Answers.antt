@@ -12,11 +12,13 @@ loop-slot-preserved c =
     let len = c.loop-slot.invariant.len in
     record {
       len = length-set c.loop-slot.cells i c.inverted.result ∙ len;
-      cells = inverted-more c.args.words.now c.loop-slot.cells i c.inverted.result (omega arith) (omega (arith, len)) c.loop-slot.invariant.cells c.inverted.ensures;
+      cells = inverted-more c.args.words.now c.loop-slot.cells i c.inverted.result (omega arith)
+          (omega (arith, len)) c.loop-slot.invariant.cells c.inverted.ensures;
     }
 
 pub returns : goal.returns
 returns c =
     let len = c.loop-slot.invariant.len in
-    ap (flat_map word_cells) (sym (take_all c.loop-slot.slot c.loop-slot.cells (omega (arith, len)))) ∙ c.loop-slot.invariant.cells
+    ap (flat_map word_cells) (sym (take_all c.loop-slot.slot c.loop-slot.cells (omega (arith, len))))
+    ∙ c.loop-slot.invariant.cells
     ∙ ap (λ ws. map other (flat_map word_cells ws)) (take_all c.loop-slot.slot c.args.words.now (omega arith))

@@ -15,13 +15,16 @@ loop-slot-preserved c =
     let len = c.loop-slot.invariant.len in
     record {
       len = length-set c.loop-slot.cells i c.renewed.result ∙ len;
-      cells = cells-more read_payload read-payload c.args.before words c.loop-slot.cells i c.renewed.result (omega arith) (omega arith) c.loop-slot.invariant.cells
-          (c.renewed.ensures ∙ ap (λ m. line c.args.before (subframe_runs m (read_payload (get_or words i 0)))) c.mark_of.ensures);
+      cells = cells-more read_payload read-payload c.args.before words c.loop-slot.cells i c.renewed.result
+          (omega arith) (omega arith) c.loop-slot.invariant.cells
+          (c.renewed.ensures
+          ∙ ap (λ m. line c.args.before (subframe_runs m (read_payload (get_or words i 0)))) c.mark_of.ensures);
     }
 
 pub returns : goal.returns
 returns c =
     let n = block_slots_384 in
     let len = c.loop-slot.invariant.len in
-    cells-whole read_payload read-payload c.args.before c.args.words.now c.loop-slot.cells c.loop-slot.slot (omega arith) (omega arith) c.loop-slot.invariant.cells
+    cells-whole read_payload read-payload c.args.before c.args.words.now c.loop-slot.cells c.loop-slot.slot
+    (omega arith) (omega arith) c.loop-slot.invariant.cells
     ∙ ap (block_cells c.args.before) (payloads-read c.args.words.now)

@@ -8,6 +8,7 @@ use Rattle.aes3_block.proofs.read_cells.renew_each.Given as goal
 
 abbrev pub invariant-loop-slot : goal.invariant-loop-slot
 invariant-loop-slot l = record {
-  cells : flat_map word_cells (take l.slot l.cells) ≡ line l.before (block_runs (map read_payload (take l.slot l.words)));
+  cells : flat_map word_cells (take l.slot l.cells) ≡ line l.before
+      (block_runs (map read_payload (take l.slot l.words)));
   len : length l.cells ≡ 384;
 }

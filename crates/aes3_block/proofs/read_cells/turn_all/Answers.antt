@@ -19,9 +19,11 @@ loop-slot-preserved c =
       cells = λ z.
           let p = le_or_l c.loop-slot.wrong c.wrong_in-wrong.result in
           let q = le_or_r c.loop-slot.wrong c.wrong_in-wrong.result in
-          cells-more read_payload read-payload c.args.before words c.loop-slot.cells i c.turned-same.result (omega arith) (omega arith)
+          cells-more read_payload read-payload c.args.before words c.loop-slot.cells i c.turned-same.result
+          (omega arith) (omega arith)
           (c.loop-slot.invariant.cells (omega (arith, z, p)))
-          (c.wrong_in-wrong.ensures (omega (arith, z, q)) ∙ ap (λ m. line c.args.before (subframe_runs m (read_payload c.turned-same.result))) c.mark_of.ensures
+          (c.wrong_in-wrong.ensures (omega (arith, z, q))
+          ∙ ap (λ m. line c.args.before (subframe_runs m (read_payload c.turned-same.result))) c.mark_of.ensures
           ∙ ap (λ bits. line c.args.before (subframe_runs (mark_at i) (take payload_len bits))) c.turned-same.ensures);
     }
 
@@ -29,5 +31,6 @@ pub returns : goal.returns
 returns c = λ r.
     let n = block_slots_384 in
     let len = c.loop-slot.invariant.len in
-    cells-whole read_payload read-payload c.args.before c.args.words.now c.loop-slot.cells c.loop-slot.slot (omega arith) (omega arith) (c.loop-slot.invariant.cells (search rules))
+    cells-whole read_payload read-payload c.args.before c.args.words.now c.loop-slot.cells c.loop-slot.slot
+    (omega arith) (omega arith) (c.loop-slot.invariant.cells (search rules))
     ∙ ap (block_cells c.args.before) (payloads-read c.args.words.now)

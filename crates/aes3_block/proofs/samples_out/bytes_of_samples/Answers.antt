@@ -14,7 +14,9 @@ loop-i-preserved c =
     let e = c.sample_of_word.ensures ∙ sym (samples-at c.args.words.now c.loop-i.i (omega arith)) in
     let fits : get_or samples c.loop-i.i 0 < 2 ^ 32 = omega arith in
     record {
-      bytes = bytes-word samples c.loop-i.bytes c.copy_from_slice.new.self c.loop-i.i (4 * c.loop-i.i + 4 - 4 * c.loop-i.i)
-          (omega arith) fits (omega arith) c.loop-i.invariant.bytes (c.copy_from_slice.ensures.after ∙ c.to_le_bytes.ensures ∙ ap (to_le_bytes w32) e);
+      bytes = bytes-word samples c.loop-i.bytes c.copy_from_slice.new.self c.loop-i.i
+          (4 * c.loop-i.i + 4 - 4 * c.loop-i.i)
+          (omega arith) fits (omega arith) c.loop-i.invariant.bytes (c.copy_from_slice.ensures.after
+          ∙ c.to_le_bytes.ensures ∙ ap (to_le_bytes w32) e);
       len = search (rules, overwrites);
     }

@@ -7,4 +7,6 @@ use Rattle.aes3_block.proofs.samples_out.put_block_samples.Goals as goal
 
 pub returns : goal.returns
 unfolding block_samples
-returns g c = wrote-is (c.bytes_of_samples.ensures ∙ ap (λ b. flat_map word_bytes (map sample_of b)) c.words.ensures.payloads) c.write_all.ensures
+returns g c =
+    wrote-is (c.bytes_of_samples.ensures
+    ∙ ap (λ b. flat_map word_bytes (map sample_of b)) c.words.ensures.payloads) c.write_all.ensures

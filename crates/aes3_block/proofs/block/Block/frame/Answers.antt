@@ -4,7 +4,8 @@ use Rattle.std.proofs.lemmas.Option.{slice_get-map, slice_get-get_or}
 use Rattle.aes3_block.specs.Files.{payload_of}
 use Rattle.aes3_block.proofs.block.Block.frame.Goals as goal
 
-payload-at : (words : List ℕ) (b : List (List Bool)) (i : ℕ) (p : List Bool) → map payload_of words ≡ b → i < length words
+payload-at : (words : List ℕ) (b : List (List Bool)) (i : ℕ) (p : List Bool) → map payload_of words ≡ b
+    → i < length words
     → payload_of (get_or words i 0) ≡ p → slice_get b i ≡ Some p
 payload-at words b i p e h q =
     ap (λ x. slice_get x i) (sym e) ∙ slice_get-map payload_of words i

@@ -15,10 +15,14 @@ loop-slot-init c = record {
 pub loop-slot-preserved : goal.loop-slot-preserved
 loop-slot-preserved c = record {
   len = length-set c.loop-slot.lawful c.loop-slot.slot c.word_of_cells.result ∙ c.loop-slot.invariant.len;
-  lawful = λ k. lawful-more c.loop-slot.lawful c.loop-slot.slot c.word_of_cells.result k (omega arith) c.word_of_cells.ensures.lawful (c.loop-slot.invariant.lawful k);
-  payloads = payload-more carried c.loop-slot.lawful c.args.words.now c.loop-slot.slot c.word_of_cells.result (omega arith) c.word_of_cells.ensures.payload
+  lawful = λ k. lawful-more c.loop-slot.lawful c.loop-slot.slot c.word_of_cells.result k
+      (omega arith) c.word_of_cells.ensures.lawful (c.loop-slot.invariant.lawful k);
+  payloads = payload-more carried c.loop-slot.lawful c.args.words.now c.loop-slot.slot c.word_of_cells.result
+      (omega arith) c.word_of_cells.ensures.payload
       c.loop-slot.invariant.payloads;
 }
 
 pub returns : goal.returns
-returns c = c.of_words.ensures ∙ carried-all c.loop-slot.lawful c.args.words.now (omega arith) (λ k h. c.loop-slot.invariant.payloads k (omega arith))
+returns c = c.of_words.ensures
+    ∙ carried-all c.loop-slot.lawful c.args.words.now (omega arith)
+    (λ k h. c.loop-slot.invariant.payloads k (omega arith))

@@ -8,5 +8,6 @@ abbrev pub invariant-loop-slot : goal.invariant-loop-slot
 invariant-loop-slot l = record {
   len : length l.lawful ≡ 384;
   lawful : (k : ℕ) → is_lawful (get_or l.lawful k 0) ≡ true;
-  payloads : (k : ℕ) → k < l.slot → payload_of (get_or l.lawful k 0) ≡ take payload_len (read_word (get_or l.words k 0));
+  payloads : (k : ℕ) → k < l.slot
+      → payload_of (get_or l.lawful k 0) ≡ take payload_len (read_word (get_or l.words k 0));
 }

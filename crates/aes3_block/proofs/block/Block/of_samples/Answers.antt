@@ -18,8 +18,10 @@ loop-slot-init c = record {
 pub loop-slot-preserved : goal.loop-slot-preserved
 loop-slot-preserved c = record {
   len = length-set c.loop-slot.words c.loop-slot.slot c.word_of_sample.result ∙ c.loop-slot.invariant.len;
-  lawful = λ k. lawful-more c.loop-slot.words c.loop-slot.slot c.word_of_sample.result k (omega arith) c.word_of_sample.ensures.lawful (c.loop-slot.invariant.lawful k);
-  payloads = payload-more payload_of_sample c.loop-slot.words (words_of c.args.bytes.now) c.loop-slot.slot c.word_of_sample.result (omega arith)
+  lawful = λ k. lawful-more c.loop-slot.words c.loop-slot.slot c.word_of_sample.result k
+      (omega arith) c.word_of_sample.ensures.lawful (c.loop-slot.invariant.lawful k);
+  payloads = payload-more payload_of_sample c.loop-slot.words
+      (words_of c.args.bytes.now) c.loop-slot.slot c.word_of_sample.result (omega arith)
       (c.word_of_sample.ensures.payload ∙ ap payload_of_sample c.sample_at.ensures) c.loop-slot.invariant.payloads;
 }
 
@@ -29,4 +31,5 @@ of_words-requires c = λ i h. c.loop-slot.invariant.lawful i
 pub returns : goal.returns
 returns c =
     let l = length-words c.args.bytes.now in
-    c.of_words.ensures ∙ payloads-all payload_of_sample c.loop-slot.words (words_of c.args.bytes.now) (omega arith) (λ k h. c.loop-slot.invariant.payloads k (omega arith))
+    c.of_words.ensures ∙ payloads-all payload_of_sample c.loop-slot.words (words_of c.args.bytes.now) (omega arith)
+    (λ k h. c.loop-slot.invariant.payloads k (omega arith))

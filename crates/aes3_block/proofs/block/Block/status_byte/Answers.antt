@@ -7,6 +7,7 @@ pub loop-j-preserved : goal.loop-j-preserved
 loop-j-preserved c =
     let bits = status_bits c.args.self.now c.args.channel in
     record {
-      byte = byte-push (drop (8 * c.args.k) bits) c.loop-j.j c.loop-j.byte c.from.result c.status_bit.result (omega arith)
+      byte = byte-push (drop (8 * c.args.k) bits) c.loop-j.j c.loop-j.byte c.from.result c.status_bit.result
+          (omega arith)
           (slice_get-drop (8 * c.args.k) bits c.loop-j.j ∙ c.status_bit.ensures) c.loop-j.invariant.byte c.from.ensures;
     }

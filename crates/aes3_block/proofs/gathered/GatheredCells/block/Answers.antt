@@ -8,4 +8,5 @@ pub block_of_fours-requires : goal.block_of_fours-requires
 block_of_fours-requires c = λ e i h.
     let v = c.self.inside in
     let n = block_slots_384 in
-    even-right v.before (mark_at i) (get_or v.words i 0) (c.self.invariant i (omega (arith, h, n, c.if-self-ge-SLOTS.true)))
+    even-right v.before (mark_at i) (get_or v.words i 0)
+    (c.self.invariant i (omega (arith, h, n, c.if-self-ge-SLOTS.true)))

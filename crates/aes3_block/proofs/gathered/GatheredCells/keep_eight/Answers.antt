@@ -15,5 +15,6 @@ invariant_of-self c =
     c.right_behind-self-inside.ensures
     (λ j h. ap (λ ws. get_or ws j 0) c.put_eight.ensures ∙ with_first-below slot v.words c.args.subframes.now 8 j h)
     (λ i h. subst (IsRight c.args.before (mark_at (slot + i)))
-    (sym (ap (λ ws. get_or ws (slot + i) 0) c.put_eight.ensures ∙ with_first-at slot v.words c.args.subframes.now 8 i (omega (arith, l, w)) h))
+    (sym (ap (λ ws. get_or ws (slot + i) 0) c.put_eight.ensures
+    ∙ with_first-at slot v.words c.args.subframes.now 8 i (omega (arith, l, w)) h))
     (c.requires.right i h))

@@ -6,5 +6,6 @@ use Rattle.aes3_block.proofs.subframe.Subframe.payload.Goals as goal
 pub returns-clause-bits : goal.returns-clause-bits
 unfolding payload_len audio_len
 returns-clause-bits c =
-    low_bits-joined 24 c.with_bit-bits.result c.with_bit-bits-2.result c.with_bit.result c.args.self.now.audio c.args.self.now.v c.args.self.now.u c.args.self.now.c
+    low_bits-joined 24 c.with_bit-bits.result c.with_bit-bits-2.result c.with_bit.result c.args.self.now.audio
+    c.args.self.now.v c.args.self.now.u c.args.self.now.c
     c.with_bit-bits.ensures.bits c.with_bit-bits-2.ensures.bits c.with_bit.ensures.bits
