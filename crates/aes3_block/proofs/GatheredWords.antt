@@ -1,5 +1,5 @@
 -- Words that are known to be the cells of a block's subframes.
-use Rattle.std.proofs.Common.{Bool, true, ◌++◌, replicate, ap₂, ◌≡◌, ℕ, zero, suc, ◌+◌, ◌-◌, ◌<◌, ◌≤◌, ◌⊎◌, inl, inr}
+use Rattle.std.proofs.Common.{Bool, ◌++◌, replicate, ap₂, ◌≡◌, ℕ, zero, suc, ◌+◌, ◌-◌, ◌<◌, ◌≤◌, ◌⊎◌, inl, inr}
 use Rattle.std.proofs.Common.{List, [], ◌∷◌, false, length, map, take, drop, set, get_or, refl, sym, ap, subst, ◌∙◌}
 use Rattle.std.proofs.Common.{arith, eqb, eq-eqb, ne_eqb, length-set, get_or-set_same, get_or-set_other}
 use mir.Val.{bool_byte}
