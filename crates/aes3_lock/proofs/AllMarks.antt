@@ -1,5 +1,6 @@
 -- The preambles of cells are all that stand in them, in order of place.
-use Rattle.std.proofs.Common.{◌≡◌, ℕ, zero, suc, ◌+◌, ◌<◌, List, [], ◌∷◌, ◌++◌, Bool, true, false, cond, Option, Some, None, refl, ap, ◌∙◌, sym, subst, arith}
+use Rattle.std.proofs.Common.{◌≡◌, ℕ, zero, suc, ◌+◌, ◌<◌, List, [], ◌∷◌, ◌++◌, Bool, true, false, cond, Option, Some}
+use Rattle.std.proofs.Common.{None, refl, ap, ◌∙◌, sym, subst, arith}
 use Rattle.std.specs.List.{All, AllPairs, Contains}
 use Rattle.std.specs.Prelude.{slice_index_or}
 use Rattle.std.specs.Option.{option_to_list, option_map}
@@ -24,11 +25,13 @@ some-first_mark m c e = go (begins_with X c) (begins_with Y c) (begins_with Z c)
     same : (n : Mark × Level) → ◌≡◌ {A = Option (Mark × Level)} (Some n) (Some m) → n ≡ m
     same n e = cc
 
-    is : (n : Mark) → begins_with n c ≡ true → ◌≡◌ {A = Option (Mark × Level)} (Some (n, entry c)) (Some m) → StandsMark m.0 m.1 c 0
+    is : (n : Mark) → begins_with n c ≡ true → ◌≡◌ {A = Option (Mark × Level)} (Some (n, entry c)) (Some m)
+        → StandsMark m.0 m.1 c 0
     is n b q = subst (λ k. StandsMark k.0 k.1 c 0) (same (n, entry c) q) (begins-stands n c b)
 
     go : (x y z : Bool) → begins_with X c ≡ x → begins_with Y c ≡ y → begins_with Z c ≡ z
-        → cond x (Some (X, entry c)) (cond y (Some (Y, entry c)) (cond z (Some (Z, entry c)) None)) ≡ Some m → StandsMark m.0 m.1 c 0
+        → cond x (Some (X, entry c)) (cond y (Some (Y, entry c)) (cond z (Some (Z, entry c)) None)) ≡ Some m
+        → StandsMark m.0 m.1 c 0
     go true y z a b d q = is X a q
     go false true z a b d q = is Y b q
     go false false true a b d q = is Z d q
@@ -43,19 +46,23 @@ pub record StandsFrom (p : ℕ) (c : List Level) (m : ℕ × Mark × Level) : Ty
 marks-each : (p : ℕ) (c : List Level) → All (StandsFrom p c) (marks_from p c)
 marks-each p [] = All-nil (StandsFrom p [])
 marks-each p (x ∷ c) =
-    All-append (StandsFrom p (x ∷ c)) (option_to_list (option_map (placed p) (first_mark (x ∷ c)))) (marks_from (suc p) c)
+    All-append (StandsFrom p (x ∷ c)) (option_to_list (option_map (placed p) (first_mark (x ∷ c))))
+    (marks_from (suc p) c)
     (here (first_mark (x ∷ c)) refl)
     (λ k d l.
     let r = marks-each (suc p) c k d l in
     let e = r.place in
     record { offset = suc r.offset; place = omega arith; stands = record { is = r.stands.is } })
   where
-    here : (o : Option (Mark × Level)) → first_mark (x ∷ c) ≡ o → All (StandsFrom p (x ∷ c)) (option_to_list (option_map (placed p) o))
+    here : (o : Option (Mark × Level)) → first_mark (x ∷ c) ≡ o
+        → All (StandsFrom p (x ∷ c)) (option_to_list (option_map (placed p) o))
     here None e = All-nil (StandsFrom p (x ∷ c))
     here (Some m) e =
-        all-one (StandsFrom p (x ∷ c)) (placed p m) (record { offset = 0; place = omega arith; stands = some-first_mark m (x ∷ c) e })
+        all-one (StandsFrom p (x ∷ c)) (placed p m)
+        (record { offset = 0; place = omega arith; stands = some-first_mark m (x ∷ c) e })
 
-marks-all : (p : ℕ) (c : List Level) (m : Mark) (t : Level) (n k : ℕ) → n ≡ p + k → StandsMark m t c k → Contains (marks_from p c) (n, m, t)
+marks-all : (p : ℕ) (c : List Level) (m : Mark) (t : Level) (n k : ℕ) → n ≡ p + k → StandsMark m t c k
+    → Contains (marks_from p c) (n, m, t)
 marks-all p [] m t n k e z =
     let r = stands-room m t [] k z in
     absurd (omega arith)

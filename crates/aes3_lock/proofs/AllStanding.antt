@@ -1,5 +1,6 @@
 -- The blocks of cells are all that stand closed in them, in order of place.
-use Rattle.std.proofs.Common.{◌≡◌, ℕ, zero, suc, ◌+◌, ◌<◌, ◌≤◌, ◌⊎◌, inl, inr, List, [], ◌∷◌, ◌++◌, Bool, true, false, Option, Some, None, map, refl, length, drop, ap, ap₂, ◌∙◌, sym, subst, arith, length-drop}
+use Rattle.std.proofs.Common.{◌≡◌, ℕ, zero, suc, ◌+◌, ◌<◌, ◌≤◌, ◌⊎◌, inl, inr, List, [], ◌∷◌, ◌++◌, Bool, true, false}
+use Rattle.std.proofs.Common.{Option, Some, None, map, refl, length, drop, ap, ap₂, ◌∙◌, sym, subst, arith, length-drop}
 use Rattle.std.specs.List.{All, AllPairs, Contains}
 use Rattle.std.specs.Prelude.{slice_index_or}
 use Rattle.std.proofs.lemmas.Bool.{cases_Bool}
@@ -16,14 +17,18 @@ use Rattle.aes3_lock.specs.Outcomes.{Outcome, whole, marked, fault, unfinished}
 use Rattle.aes3_lock.specs.Reports.{told, outcome_at, reports_from, reports, wholes, blocks}
 use Rattle.aes3_lock.specs.Standing.{StandsClosed}
 use Rattle.aes3_lock.specs.Laws.{PlacedBlock, AreAllBlocks}
-use Rattle.aes3_lock.proofs.Deciding.{block_len_24576}
-use Rattle.aes3_lock.proofs.StandingBlocks.{block-stands, standing-begins, standing-room, standing-whole, whole-standing}
+use Rattle.aes3_lock.proofs.StandingBlocks.{block-stands, standing-begins, standing-room, standing-whole}
+use Rattle.aes3_lock.proofs.StandingBlocks.{whole-standing}
 use Rattle.aes3_lock.proofs.Ends.{outcome_at-none, outcome_at-some}
+use Rattle.aes3_block.proofs.CellLaws.{block_len_24576}
 
-pub standing-at : (b : List (List Bool)) (s : Level) (c : List Level) → StandsClosed b s c → outcome_at c ≡ Some (whole s b)
-standing-at b s c h = outcome_at-some c (standing-begins (map with_parity b) s c (block-stands b s c h)) ∙ ap Some (standing-whole b s c h)
+pub standing-at : (b : List (List Bool)) (s : Level) (c : List Level) → StandsClosed b s c
+    → outcome_at c ≡ Some (whole s b)
+standing-at b s c h = outcome_at-some c (standing-begins (map with_parity b) s c (block-stands b s c h))
+    ∙ ap Some (standing-whole b s c h)
 
-pub at-standing : (b : List (List Bool)) (s : Level) (c : List Level) → outcome_at c ≡ Some (whole s b) → StandsClosed b s c
+pub at-standing : (b : List (List Bool)) (s : Level) (c : List Level) → outcome_at c ≡ Some (whole s b)
+    → StandsClosed b s c
 at-standing b s c e = go (cases_Bool (begins_block c))
   where
     same : (x y : Outcome) → Some x ≡ Some y → x ≡ y
@@ -82,7 +87,8 @@ all-one P x h (suc k) d l = absurd (omega arith)
 found-each : (p : ℕ) (c : List Level) → All (StandsAt p c) (found_from p c)
 found-each p [] = All-nil (StandsAt p [])
 found-each p (x ∷ c) =
-    All-append (StandsAt p (x ∷ c)) (found_of p (outcome_at (x ∷ c))) (found_from (suc p) c) (here (outcome_at (x ∷ c)) refl)
+    All-append (StandsAt p (x ∷ c)) (found_of p (outcome_at (x ∷ c))) (found_from (suc p) c)
+    (here (outcome_at (x ∷ c)) refl)
     (λ k d l.
     let r = found-each (suc p) c k d l in
     let e = r.place in
@@ -98,7 +104,8 @@ found-each p (x ∷ c) =
     here (Some (unfinished n)) e = All-nil (StandsAt p (x ∷ c))
 
 -- each that stands closed is there
-found-all : (p : ℕ) (c : List Level) (f : PlacedBlock) (k : ℕ) → f.place ≡ p + k → StandsClosed f.block f.level (drop k c) → Contains (found_from p c) f
+found-all : (p : ℕ) (c : List Level) (f : PlacedBlock) (k : ℕ) → f.place ≡ p + k
+    → StandsClosed f.block f.level (drop k c) → Contains (found_from p c) f
 found-all p [] f k e h =
     let r = closed-room f.block f.level (drop k []) h in
     let l = length-drop {A = Level} k [] in
@@ -111,7 +118,8 @@ found-all p (x ∷ c) f zero e h =
     (sym (ap (found_of p) o ∙ ap (λ k. record { place = k; level = f.level; block = f.block } ∷ []) (sym q)))
     (0, omega arith, refl)
 found-all p (x ∷ c) f (suc k) e h =
-    Contains-append_right (found_of p (outcome_at (x ∷ c))) (found_from (suc p) c) f (found-all (suc p) c f k (omega arith) h)
+    Contains-append_right (found_of p (outcome_at (x ∷ c))) (found_from (suc p) c) f
+    (found-all (suc p) c f k (omega arith) h)
 
 found-order : (p : ℕ) (c : List Level) → AllPairs (λ f g. f.place < g.place) (found_from p c)
 found-order p [] = λ i j d l h. absurd (omega arith)
@@ -134,7 +142,8 @@ place-stands c f r =
     let q : r.offset ≡ f.place = omega arith in
     subst (λ n. StandsClosed f.block f.level (drop n c)) q r.stands
 
-pub blocks-all_standing : (c : List Level) → (found : List PlacedBlock) × AreAllBlocks found c × (blocks c ≡ map (λ f. f.block) found)
+pub blocks-all_standing : (c : List Level) → (found : List PlacedBlock) × AreAllBlocks found c
+    × (blocks c ≡ map (λ f. f.block) found)
 unfolding blocks reports
 blocks-all_standing c = (
   found_from 0 c,

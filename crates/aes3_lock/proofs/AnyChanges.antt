@@ -1,5 +1,8 @@
 -- Any changed cells of a block: what stands in its place after its level is told by them.
-use Rattle.std.proofs.Common.{◌≡◌, ℕ, zero, suc, ◌+◌, ◌-◌, ◌*◌, ◌/◌, ◌%◌, ◌<◌, ◌≤◌, ◌↔◌, ◌⊎◌, inl, inr, List, [], ◌∷◌, ◌++◌, Bool, true, false, ◌&&◌, ◌==◌, cond, refl, length, take, drop, ap, ap₂, ◌∙◌, sym, subst, arith, length-take, length-drop, take-take, get_or-take, get_or-drop, ext_get_or, eq-eqb}
+use Rattle.std.proofs.Common.{◌≡◌, ℕ, zero, suc, ◌+◌, ◌-◌, ◌*◌, ◌/◌, ◌%◌, ◌<◌, ◌≤◌, ◌↔◌, ◌⊎◌, inl, inr, List, [], ◌∷◌}
+use Rattle.std.proofs.Common.{◌++◌, Bool, true, false, ◌&&◌, ◌==◌, cond, refl, length, take, drop, ap, ap₂, ◌∙◌, sym}
+use Rattle.std.proofs.Common.{subst, arith, length-take, length-drop, take-take, get_or-take, get_or-drop, ext_get_or}
+use Rattle.std.proofs.Common.{eq-eqb}
 use Rattle.std.proofs.lemmas.Bool.{cases_eq, cases_lt, cases_Bool, and_parts, eqb-true}
 use Rattle.std.proofs.lemmas.List.{take-append-drop}
 use Rattle.aes3_cell.specs.declared.level.Level.{Level}
@@ -8,23 +11,23 @@ use Rattle.aes3_cell.specs.Cells.{other}
 use Rattle.aes3_slot.specs.Reading.{differs}
 use Rattle.aes3_slot.specs.Rules.{at, before, shape}
 use Rattle.aes3_block.specs.Blocks.{mark_at, block_len, block_cells, IsBlock}
-use Rattle.aes3_block.proofs.CellLaws.{length-block_cells, block_cells-unique}
+use Rattle.aes3_block.proofs.CellLaws.{length-block_cells, block_cells-unique, block_len_24576}
 use Rattle.aes3_lock.specs.Damage.{changed, between_slots, exchanged, places_apart}
 use Rattle.aes3_lock.specs.Remains.{left_of}
 use Rattle.aes3_lock.specs.Standing.{StandsClosed}
 use Rattle.aes3_lock.proofs.Apart.{length-changed, at-changed, at-others, other-of, differs-true, differs-false}
 use Rattle.aes3_lock.proofs.DamageLaws.{stands-local}
-use Rattle.aes3_lock.proofs.Deciding.{block_len_24576}
-use Rattle.aes3_lock.proofs.Distances.{block-kept, block-level, block_slots_384, other-same}
-use Rattle.aes3_lock.proofs.OwnPlace.{equal-levels}
+use Rattle.aes3_lock.proofs.Distances.{block-kept, block-level, other-same}
 use Rattle.aes3_lock.proofs.Exchanged.{Between, between-true, true-between, exchanged-block, exchanged-cells}
+use Rattle.aes3_block.proofs.BlockLemmas.{block_slots_384}
+use Rattle.aes3_slot.proofs.Distance.{equal-or}
 
 -- the first of the places, and those behind it where its cell is changed back
 unlike : (u v : Level) → differs u v ≡ true → u ≡ v → ⊥
 unlike u v t q = let r : true ≡ false = sym t ∙ differs-false u v q in cc
 
 like : (u v : Level) → differs u v ≡ false → u ≡ v
-like u v t = go (equal-levels u v)
+like u v t = go (equal-or u v)
   where
     go : (u ≡ v) ⊎ (u ≡ v → ⊥) → u ≡ v
     go (inl i) = i
@@ -32,7 +35,8 @@ like u v t = go (equal-levels u v)
 
 abbrev First : ℕ → ℕ → List Level → List Level → Type 0
 First n x c d =
-    (z : ℕ) × (x ≡ n + z) × (z < length c) × (z < length d) × (at c z ≡ at d z → ⊥) × ((y : ℕ) → y < z → at c y ≡ at d y)
+    (z : ℕ) × (x ≡ n + z) × (z < length c) × (z < length d) × (at c z ≡ at d z → ⊥)
+    × ((y : ℕ) → y < z → at c y ≡ at d y)
 
 later-first : (n x : ℕ) (u v : Level) (c d : List Level) → u ≡ v → First (suc n) x c d → First n x (u ∷ c) (v ∷ d)
 later-first n x u v c d q (z, f, l, m, o, h) = (suc z, omega arith, omega arith, omega arith, o, before-it)
@@ -48,15 +52,18 @@ places-head n x (u ∷ c) (v ∷ d) xs e = go (differs u v) refl e (λ q. places
   where
     go : (b : Bool) → differs u v ≡ b → cond b (n ∷ places_apart (suc n) c d) (places_apart (suc n) c d) ≡ x ∷ xs
         → (places_apart (suc n) c d ≡ x ∷ xs → First (suc n) x c d) → First n x (u ∷ c) (v ∷ d)
-    go true t q next = let i : n ≡ x = cc in (0, omega arith, omega arith, omega arith, unlike u v t, λ y k. absurd (omega arith))
+    go true t q next = let i : n ≡ x = cc in
+        (0, omega arith, omega arith, omega arith, unlike u v t, λ y k. absurd (omega arith))
     go false t q next = later-first n x u v c d (like u v t) (next q)
 
-places-mended : (n z : ℕ) (c d : List Level) (xs : List ℕ) → places_apart n c d ≡ (n + z) ∷ xs → places_apart n (changed z c) d ≡ xs
+places-mended : (n z : ℕ) (c d : List Level) (xs : List ℕ) → places_apart n c d ≡ (n + z) ∷ xs
+    → places_apart n (changed z c) d ≡ xs
 places-mended n z [] d xs e = cc
 places-mended n z (u ∷ c) [] xs e = cc
 places-mended n z (u ∷ c) (v ∷ d) xs e = go z (differs u v) refl e (λ z q. places-mended (suc n) z c d xs q)
   where
-    go : (z : ℕ) (b : Bool) → differs u v ≡ b → cond b (n ∷ places_apart (suc n) c d) (places_apart (suc n) c d) ≡ (n + z) ∷ xs
+    go : (z : ℕ) (b : Bool) → differs u v ≡ b
+        → cond b (n ∷ places_apart (suc n) c d) (places_apart (suc n) c d) ≡ (n + z) ∷ xs
         → ((z : ℕ) → places_apart (suc n) c d ≡ (suc n + z) ∷ xs → places_apart (suc n) (changed z c) d ≡ xs)
         → places_apart n (changed z (u ∷ c)) (v ∷ d) ≡ xs
     go zero true t q next =
@@ -84,11 +91,13 @@ places-same : (n : ℕ) (c : List Level) → places_apart n c c ≡ []
 places-same n [] = refl
 places-same n (u ∷ c) = let t = differs-false u u refl in rw t (places-same (suc n) c)
 
-places-append : (n : ℕ) (c d r : List Level) → length c ≡ length d → places_apart n (c ++ r) (d ++ r) ≡ places_apart n c d
+places-append : (n : ℕ) (c d r : List Level) → length c ≡ length d
+    → places_apart n (c ++ r) (d ++ r) ≡ places_apart n c d
 places-append n [] [] r l = places-same n r
 places-append n [] (v ∷ d) r l = absurd (omega arith)
 places-append n (u ∷ c) [] r l = absurd (omega arith)
-places-append n (u ∷ c) (v ∷ d) r l = ap (λ xs. cond (differs u v) (n ∷ xs) xs) (places-append (suc n) c d r (omega arith))
+places-append n (u ∷ c) (v ∷ d) r l =
+    ap (λ xs. cond (differs u v) (n ∷ xs) xs) (places-append (suc n) c d r (omega arith))
 
 take-changed : (n x : ℕ) (c : List Level) → take n (changed x c) ≡ changed x (take n c)
 take-changed zero x c = refl
@@ -105,17 +114,21 @@ module _ (s : Level) (b d : List (List Bool)) (h : IsBlock b) (g : IsBlock d) wh
       let u = length-block_cells s b h in
       let v = length-block_cells s d g in
       (block-kept s b h x (omega arith)).preamble o
-      ∙ ap (shape (mark_at (x / 64)) (x % 64)) (block-level s b h (x / 64) (omega arith) ∙ sym (block-level s d g (x / 64) (omega arith)))
+      ∙ ap (shape (mark_at (x / 64)) (x % 64)) (block-level s b h (x / 64) (omega arith)
+          ∙ sym (block-level s d g (x / 64) (omega arith)))
       ∙ sym ((block-kept s d g x (omega arith)).preamble o)
 
-  even-alike : (x : ℕ) → suc x < block_len → 8 ≤ suc x % 64 → suc x % 2 ≡ 0 → at (block_cells s b) x ≡ at (block_cells s d) x
+  even-alike : (x : ℕ) → suc x < block_len → 8 ≤ suc x % 64 → suc x % 2 ≡ 0
+      → at (block_cells s b) x ≡ at (block_cells s d) x
       → at (block_cells s b) (suc x) ≡ at (block_cells s d) (suc x)
   even-alike x l o p e =
       let u = length-block_cells s b h in
       let v = length-block_cells s d g in
-      (block-kept s b h (suc x) (omega arith)).slot o p ∙ ap other e ∙ sym ((block-kept s d g (suc x) (omega arith)).slot o p)
+      (block-kept s b h (suc x) (omega arith)).slot o p ∙ ap other e
+      ∙ sym ((block-kept s d g (suc x) (omega arith)).slot o p)
 
-  even-unlike : (x : ℕ) → suc x < block_len → 8 ≤ suc x % 64 → suc x % 2 ≡ 0 → at (block_cells s b) (suc x) ≡ at (block_cells s d) (suc x)
+  even-unlike : (x : ℕ) → suc x < block_len → 8 ≤ suc x % 64 → suc x % 2 ≡ 0
+      → at (block_cells s b) (suc x) ≡ at (block_cells s d) (suc x)
       → at (block_cells s b) x ≡ at (block_cells s d) x
   even-unlike x l o p e =
       let u = length-block_cells s b h in
@@ -128,7 +141,8 @@ module _ (s : Level) (b d : List (List Bool)) (h : IsBlock b) (g : IsBlock d) wh
       let m = block_len_24576 in
       let i = block_slots_384 in
       let e : 64 * (suc x / 64) ≡ suc x = omega arith in
-      ap (before s (block_cells s b)) (sym e) ∙ block-level s b h (suc x / 64) (omega arith) ∙ sym (block-level s d g (suc x / 64) (omega arith))
+      ap (before s (block_cells s b)) (sym e) ∙ block-level s b h (suc x / 64) (omega arith)
+      ∙ sym (block-level s d g (suc x / 64) (omega arith))
       ∙ ap (before s (block_cells s d)) e
 
   first-unlike : (x : ℕ) → x < block_len → (at (block_cells s b) x ≡ at (block_cells s d) x → ⊥)
@@ -141,7 +155,9 @@ module _ (s : Level) (b d : List (List Bool)) (h : IsBlock b) (g : IsBlock d) wh
       go (inl a) p r = absurd (n (mark-alike x l a))
       go (inr a) (inl p) r =
           let i : suc (x - 1) ≡ x = omega arith in
-          absurd (n (ap (at (block_cells s b)) (sym i) ∙ even-alike (x - 1) (omega arith) (omega arith) (omega arith) (k (x - 1) (omega arith)) ∙ ap (at (block_cells s d)) i))
+          absurd (n (ap (at (block_cells s b)) (sym i)
+              ∙ even-alike (x - 1) (omega arith) (omega arith) (omega arith) (k (x - 1) (omega arith))
+              ∙ ap (at (block_cells s d)) i))
       go (inr a) (inr p) (inl r) = absurd (n (last-alike x l r))
       go (inr a) (inr p) (inr r) =
           let m = block_len_24576 in (
@@ -156,7 +172,8 @@ first-place : (x : ℕ) (c d : List Level) (xs : List ℕ) → places_apart 0 c 
 first-place x c d xs e =
     let r = places-head 0 x c d xs e in
     let i : r.0 ≡ x = (let j = r.1 in omega arith) in
-    subst (λ z. (z < length c) × (z < length d) × (at c z ≡ at d z → ⊥) × ((y : ℕ) → y < z → at c y ≡ at d y)) i (r.2, r.3, r.4, r.5)
+    subst (λ z. (z < length c) × (z < length d) × (at c z ≡ at d z → ⊥) × ((y : ℕ) → y < z → at c y ≡ at d y)) i
+    (r.2, r.3, r.4, r.5)
 
 mended : (x : ℕ) (c d : List Level) (xs : List ℕ) → places_apart 0 c d ≡ x ∷ xs → places_apart 0 (changed x c) d ≡ xs
 mended x c d xs e = let i : x ≡ 0 + x = omega arith in places-mended 0 x c d xs (e ∙ ap (λ m. m ∷ xs) i)
@@ -176,7 +193,8 @@ module _ (s : Level) (b d : List (List Bool)) (h : IsBlock b) (g : IsBlock d) (x
       let u = second-place [] e in
       let l : length (changed x (block_cells s b)) ≡ length (block_cells s d) =
       length-changed x (block_cells s b) ∙ length-block_cells s b h ∙ sym (length-block_cells s d g) in
-      let q = places-nothing 0 (changed x (block_cells s b)) (block_cells s d) l (mended x (block_cells s b) (block_cells s d) [] e) in
+      let q = places-nothing 0 (changed x (block_cells s b)) (block_cells s d) l
+      (mended x (block_cells s b) (block_cells s d) [] e) in
       u.2 (sym (at-others x (block_cells s b) (suc x) (λ z. omega arith)) ∙ ap (λ c. at c (suc x)) q)
 
   pair-of : (y : ℕ) (ys : List ℕ) → places_apart 0 (block_cells s b) (block_cells s d) ≡ x ∷ y ∷ ys
@@ -186,14 +204,16 @@ module _ (s : Level) (b d : List (List Bool)) (h : IsBlock b) (g : IsBlock d) (x
       u : Between x × (suc x < block_len) × (at (block_cells s b) (suc x) ≡ at (block_cells s d) (suc x) → ⊥)
       u = second-place (y ∷ ys) e
 
-      r : (x < length (block_cells s b)) × (x < length (block_cells s d)) × (at (block_cells s b) x ≡ at (block_cells s d) x → ⊥)
+      r : (x < length (block_cells s b)) × (x < length (block_cells s d))
+          × (at (block_cells s b) x ≡ at (block_cells s d) x → ⊥)
           × ((z : ℕ) → z < x → at (block_cells s b) z ≡ at (block_cells s d) z)
       r = first-place x (block_cells s b) (block_cells s d) (y ∷ ys) e
 
       more : places_apart 0 (changed x (block_cells s b)) (block_cells s d) ≡ y ∷ ys
       more = mended x (block_cells s b) (block_cells s d) (y ∷ ys) e
 
-      v : (y < length (changed x (block_cells s b))) × (y < length (block_cells s d)) × (at (changed x (block_cells s b)) y ≡ at (block_cells s d) y → ⊥)
+      v : (y < length (changed x (block_cells s b))) × (y < length (block_cells s d))
+          × (at (changed x (block_cells s b)) y ≡ at (block_cells s d) y → ⊥)
           × ((z : ℕ) → z < y → at (changed x (block_cells s b)) z ≡ at (block_cells s d) z)
       v = first-place y (changed x (block_cells s b)) (block_cells s d) ys more
 
@@ -216,10 +236,12 @@ module _ (s : Level) (b d : List (List Bool)) (h : IsBlock b) (g : IsBlock d) (x
           (exchanged-cells s x b h (omega arith) u.0 ∙ ap (λ m. changed m (changed x (block_cells s b))) (sym i))
           ∙ mended y (changed x (block_cells s b)) (block_cells s d) ys more
 
-places-tell : (xs : List ℕ) (s : Level) (b d : List (List Bool)) → IsBlock b → IsBlock d → places_apart 0 (block_cells s b) (block_cells s d) ≡ xs
+places-tell : (xs : List ℕ) (s : Level) (b d : List (List Bool)) → IsBlock b → IsBlock d
+    → places_apart 0 (block_cells s b) (block_cells s d) ≡ xs
     → left_of xs b ≡ d ∷ []
 places-tell [] s b d h g e =
-    let q = places-nothing 0 (block_cells s b) (block_cells s d) (length-block_cells s b h ∙ sym (length-block_cells s d g)) e in
+    let q = places-nothing 0 (block_cells s b) (block_cells s d) (length-block_cells s b h
+        ∙ sym (length-block_cells s d g)) e in
     ap (λ b. b ∷ []) (block_cells-unique s s b d h g q).1
 places-tell (x ∷ []) s b d h g e = absurd (not-one s b d h g x e)
 places-tell (x ∷ y ∷ ys) s b d h g e =
@@ -237,23 +259,29 @@ last-of b s c z =
     sym (get_or-take block_len c (block_len - 1) Low (omega arith)) ∙ ap (λ c. at c (block_len - 1)) z.cells
     ∙ ap (before s (block_cells s b)) (sym e) ∙ block-level s b z.block 384 (omega arith)
 
-behind-of : (b : List (List Bool)) (s : Level) (c : List Level) → StandsClosed b s c → block_len < length c → at c block_len ≡ other s
+behind-of : (b : List (List Bool)) (s : Level) (c : List Level) → StandsClosed b s c → block_len < length c
+    → at c block_len ≡ other s
 behind-of b s c z l =
     sym (other-of (at c (block_len - 1)) (at c block_len) (λ q. z.closed.turns l (sym q))) ∙ ap other (last-of b s c z)
 
-module _ (b d : List (List Bool)) (s : Level) (c e : List Level) (z : StandsClosed b s c) (w : StandsClosed d s e) (same : length e ≡ length c) where
-  joined : (a : List (List Bool)) (f : List Level) → StandsClosed a s f → take (suc block_len) f ≡ block_cells s a ++ drop block_len (take (suc block_len) f)
+module _ (b d : List (List Bool)) (s : Level) (c e : List Level) (z : StandsClosed b s c) (w : StandsClosed d s e)
+    (same : length e ≡ length c) where
+  joined : (a : List (List Bool)) (f : List Level) → StandsClosed a s f
+      → take (suc block_len) f ≡ block_cells s a ++ drop block_len (take (suc block_len) f)
   joined a f k =
       sym (take-append-drop block_len (take (suc block_len) f))
-      ∙ ap (λ x. x ++ drop block_len (take (suc block_len) f)) (take-take block_len (suc block_len) f (omega arith) ∙ k.cells)
+      ∙ ap (λ x. x ++ drop block_len (take (suc block_len) f))
+      (take-take block_len (suc block_len) f (omega arith) ∙ k.cells)
 
-  behind-cell : (a : List (List Bool)) (f : List Level) → StandsClosed a s f → (y : ℕ) → y < length (drop block_len (take (suc block_len) f))
+  behind-cell : (a : List (List Bool)) (f : List Level) → StandsClosed a s f → (y : ℕ)
+      → y < length (drop block_len (take (suc block_len) f))
       → at (drop block_len (take (suc block_len) f)) y ≡ other s
   behind-cell a f k y l =
       let m = length-drop block_len (take (suc block_len) f) in
       let n = length-take (suc block_len) f in
       let i : block_len + y ≡ block_len = omega arith in
-      get_or-drop block_len (take (suc block_len) f) y Low ∙ get_or-take (suc block_len) f (block_len + y) Low (omega arith)
+      get_or-drop block_len (take (suc block_len) f) y Low
+      ∙ get_or-take (suc block_len) f (block_len + y) Low (omega arith)
       ∙ ap (at f) i ∙ behind-of a s f k (omega arith)
 
   behind-same : drop block_len (take (suc block_len) e) ≡ drop block_len (take (suc block_len) c)
@@ -275,7 +303,8 @@ module _ (b d : List (List Bool)) (s : Level) (c e : List Level) (z : StandsClos
       ∙ places-tell (places_apart 0 (block_cells s b) (block_cells s d)) s b d z.block w.block refl
 
 -- and each pair between slots exchanges
-pair-stands : (b : List (List Bool)) (s : Level) (c : List Level) (x : ℕ) → StandsClosed b s c → x < block_len → Between x
+pair-stands : (b : List (List Bool)) (s : Level) (c : List Level) (x : ℕ) → StandsClosed b s c
+    → x < block_len → Between x
     → StandsClosed (exchanged x b) s (changed (suc x) (changed x c))
 pair-stands b s c x z l w =
     let m = block_len_24576 in
@@ -286,7 +315,8 @@ pair-stands b s c x z l w =
     record {
       block = exchanged-block x b z.block;
       cells =
-          take-changed block_len (suc x) (changed x c) ∙ ap (changed (suc x)) (take-changed block_len x c ∙ ap (changed x) z.cells)
+          take-changed block_len (suc x) (changed x c)
+          ∙ ap (changed (suc x)) (take-changed block_len x c ∙ ap (changed x) z.cells)
           ∙ sym (exchanged-cells s x b z.block l w);
       closed = record {
         turns = λ o q. z.closed.turns (omega arith) (sym (other-two block_len (λ u. omega arith) (λ u. omega arith)) ∙ q
@@ -297,7 +327,8 @@ pair-stands b s c x z l w =
     other-two : (y : ℕ) → (y ≡ suc x → ⊥) → (y ≡ x → ⊥) → at (changed (suc x) (changed x c)) y ≡ at c y
     other-two y u v = at-others (suc x) (changed x c) y u ∙ at-others x c y v
 
-pub stands-after : (xs : List ℕ) (b d : List (List Bool)) (s : Level) (c e : List Level) → StandsClosed b s c → length e ≡ length c
+pub stands-after : (xs : List ℕ) (b d : List (List Bool)) (s : Level) (c e : List Level) → StandsClosed b s c
+    → length e ≡ length c
     → places_apart 0 (take (suc block_len) c) (take (suc block_len) e) ≡ xs → left_of xs b ≡ d ∷ [] → StandsClosed d s e
 stands-after [] b d s c e z l p q =
     let n = length-take (suc block_len) c in
@@ -308,10 +339,12 @@ stands-after [] b d s c e z l p q =
     subst (λ b. StandsClosed b s e) j (stands-local b s c e i z)
 stands-after (x ∷ []) b d s c e z l p q = let r : [] ≡ d ∷ [] = q in cc
 stands-after (x ∷ y ∷ ys) b d s c e z l p q =
-    go (cases_Bool (y == suc x && between_slots x)) (λ z l p q. stands-after ys (exchanged x b) d s (changed (suc x) (changed x c)) e z l p q)
+    go (cases_Bool (y == suc x && between_slots x))
+    (λ z l p q. stands-after ys (exchanged x b) d s (changed (suc x) (changed x c)) e z l p q)
   where
     go : ((y == suc x && between_slots x) ≡ true) ⊎ ((y == suc x && between_slots x) ≡ false)
-        → (StandsClosed (exchanged x b) s (changed (suc x) (changed x c)) → length e ≡ length (changed (suc x) (changed x c))
+        → (StandsClosed (exchanged x b) s (changed (suc x) (changed x c))
+            → length e ≡ length (changed (suc x) (changed x c))
         → places_apart 0 (take (suc block_len) (changed (suc x) (changed x c))) (take (suc block_len) e) ≡ ys
         → left_of ys (exchanged x b) ≡ d ∷ [] → StandsClosed d s e)
         → StandsClosed d s e
@@ -331,10 +364,12 @@ stands-after (x ∷ y ∷ ys) b d s c e z l p q =
         (ap (λ c. places_apart 0 c (take (suc block_len) e))
         (take-changed (suc block_len) (suc x) (changed x c) ∙ ap (changed (suc x)) (take-changed (suc block_len) x c)
         ∙ ap (λ m. changed m (changed x (take (suc block_len) c))) (sym i))
-        ∙ mended y (changed x (take (suc block_len) c)) (take (suc block_len) e) ys (mended x (take (suc block_len) c) (take (suc block_len) e) (y ∷ ys) p))
+        ∙ mended y (changed x (take (suc block_len) c)) (take (suc block_len) e) ys
+        (mended x (take (suc block_len) c) (take (suc block_len) e) (y ∷ ys) p))
         v
 
 pub changes-tell : (b d : List (List Bool)) (s : Level) (c e : List Level) → StandsClosed b s c → length e ≡ length c
     → StandsClosed d s e ↔ (left_of (places_apart 0 (take (suc block_len) c) (take (suc block_len) e)) b ≡ d ∷ [])
 changes-tell b d s c e z l =
-    (λ w. told b d s c e z w l, λ q. stands-after (places_apart 0 (take (suc block_len) c) (take (suc block_len) e)) b d s c e z l refl q)
+    (λ w. told b d s c e z w l,
+        λ q. stands-after (places_apart 0 (take (suc block_len) c) (take (suc block_len) e)) b d s c e z l refl q)

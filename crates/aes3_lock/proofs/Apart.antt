@@ -1,5 +1,6 @@
 -- At how many places cells differ.
-use Rattle.std.proofs.Common.{◌≡◌, ℕ, zero, suc, ◌+◌, ◌-◌, ◌*◌, ◌<◌, ◌≤◌, ◌⊎◌, inl, inr, List, [], ◌∷◌, Bool, true, false, cond, refl, length, take, drop, ap, ap₂, ◌∙◌, sym, arith, drop-drop}
+use Rattle.std.proofs.Common.{◌≡◌, ℕ, zero, suc, ◌+◌, ◌-◌, ◌*◌, ◌<◌, ◌≤◌, ◌⊎◌, inl, inr, List, [], ◌∷◌, Bool, true}
+use Rattle.std.proofs.Common.{false, cond, refl, length, take, drop, ap, ap₂, ◌∙◌, sym, arith, drop-drop}
 use Rattle.std.proofs.lemmas.Bool.{cases_lt}
 use Rattle.aes3_cell.specs.declared.level.Level.{Level}
 use Rattle.aes3_cell.specs.declared.level.Level.TheVariants.{Low, High}
@@ -56,7 +57,8 @@ rising-from n f h (suc x) l =
 -- n places, counted in the rest of the lists
 abbrev Counts : ℕ → List Level → List Level → Type 0
 Counts n c d =
-    (g : ℕ → ℕ) → ((x : ℕ) → suc x < n → g x < g (suc x)) → ((x : ℕ) → x < n → g x < length c) → ((x : ℕ) → x < n → at c (g x) ≡ at d (g x) → ⊥)
+    (g : ℕ → ℕ) → ((x : ℕ) → suc x < n → g x < g (suc x)) → ((x : ℕ) → x < n → g x < length c)
+    → ((x : ℕ) → x < n → at c (g x) ≡ at d (g x) → ⊥)
     → n ≤ apart c d
 
 count-step : (n : ℕ) (f : ℕ → ℕ) (x y : Level) (c d : List Level) → ((z : ℕ) → suc z < suc n → f z < f (suc z))
@@ -68,7 +70,8 @@ count-step n f x y c d r w h one all (inl z) =
     let more = one (λ v. f (suc v) - 1)
     (λ v o. let a = r (suc v) (omega arith) in let b = above v (omega arith) in omega arith)
     (λ v o. let a = w (suc v) (omega arith) in let b = above v o in omega arith)
-    (λ v o q. let b = above v o in let e : f (suc v) ≡ suc (f (suc v) - 1) = omega arith in h (suc v) (omega arith) (ap (at (x ∷ c)) e ∙ q ∙ ap (at (y ∷ d)) (sym e))) in
+    (λ v o q. let b = above v o in let e : f (suc v) ≡ suc (f (suc v) - 1) = omega arith in
+        h (suc v) (omega arith) (ap (at (x ∷ c)) e ∙ q ∙ ap (at (y ∷ d)) (sym e))) in
     rw t (omega arith)
   where
     above : (v : ℕ) → v < n → 1 ≤ f (suc v)
@@ -77,7 +80,8 @@ count-step n f x y c d r w h one all (inr z) =
     let more = all (λ v. f v - 1)
     (λ v o. let a = r v o in let b = above v (omega arith) in omega arith)
     (λ v o. let a = w v o in let b = above v o in omega arith)
-    (λ v o q. let b = above v o in let e : f v ≡ suc (f v - 1) = omega arith in h v o (ap (at (x ∷ c)) e ∙ q ∙ ap (at (y ∷ d)) (sym e))) in
+    (λ v o q. let b = above v o in let e : f v ≡ suc (f v - 1) = omega arith in
+        h v o (ap (at (x ∷ c)) e ∙ q ∙ ap (at (y ∷ d)) (sym e))) in
     let m = apart-more x y c d in
     omega arith
   where
@@ -92,7 +96,8 @@ count-apart (suc n) f [] [] l r w h = absurd (let a = w 0 (omega arith) in omega
 count-apart (suc n) f [] (y ∷ d) l r w h = absurd (omega arith)
 count-apart (suc n) f (x ∷ c) [] l r w h = absurd (omega arith)
 count-apart (suc n) f (x ∷ c) (y ∷ d) l r w h =
-    count-step n f x y c d r w h (λ g. count-apart n g c d (omega arith)) (λ g. count-apart (suc n) g c d (omega arith)) (cases_lt (f 0) 1)
+    count-step n f x y c d r w h (λ g. count-apart n g c d (omega arith)) (λ g. count-apart (suc n) g c d (omega arith))
+    (cases_lt (f 0) 1)
 
 apart-nil : (c : List Level) → apart c [] ≡ 0
 apart-nil [] = refl
@@ -106,19 +111,22 @@ apart-split (suc n) (x ∷ c) [] = let a = apart-nil (drop n c) in omega arith
 apart-split (suc n) (x ∷ c) (y ∷ d) = go (differs x y) (apart-split n c d)
   where
     go : (b : Bool) → apart c d ≡ apart (take n c) (take n d) + apart (drop n c) (drop n d)
-        → cond b (suc (apart c d)) (apart c d) ≡ cond b (suc (apart (take n c) (take n d))) (apart (take n c) (take n d)) + apart (drop n c) (drop n d)
+        → cond b (suc (apart c d)) (apart c d) ≡ cond b (suc (apart (take n c) (take n d)))
+        (apart (take n c) (take n d)) + apart (drop n c) (drop n d)
     go true a = omega arith
     go false a = a
 
 -- n parts of 64 cells, at m places each
-pub count-parts : (m n : ℕ) (c d : List Level) → ((j : ℕ) → j < n → m ≤ apart (take 64 (drop (64 * j) c)) (take 64 (drop (64 * j) d)))
+pub count-parts : (m n : ℕ) (c d : List Level)
+    → ((j : ℕ) → j < n → m ≤ apart (take 64 (drop (64 * j) c)) (take 64 (drop (64 * j) d)))
     → m * n ≤ apart c d
 count-parts m zero c d h = omega arith
 count-parts m (suc n) c d h =
     let a = h 0 (omega arith) in
     let b = count-parts m n (drop 64 c) (drop 64 d) (λ j l.
     let e : 64 + 64 * j ≡ 64 * suc j = omega arith in
-    let f : (x : List Level) → drop (64 * j) (drop 64 x) ≡ drop (64 * suc j) x = λ x. drop-drop (64 * j) 64 x ∙ ap (λ k. drop k x) e in
+    let f : (x : List Level) → drop (64 * j) (drop 64 x) ≡ drop (64 * suc j) x =
+        λ x. drop-drop (64 * j) 64 x ∙ ap (λ k. drop k x) e in
     rw (f c, f d) (h (suc j) (omega arith))) in
     let g = apart-split 64 c d in
     let k : m * suc n ≡ m + m * n = omega arith in
@@ -132,7 +140,8 @@ apart-take (suc n) (x ∷ c) [] = omega arith
 apart-take (suc n) (x ∷ c) (y ∷ d) = go (differs x y) (apart-take n c d)
   where
     go : (b : Bool) → apart (take n c) (take n d) ≤ apart c d
-        → cond b (suc (apart (take n c) (take n d))) (apart (take n c) (take n d)) ≤ cond b (suc (apart c d)) (apart c d)
+        → cond b (suc (apart (take n c) (take n d))) (apart (take n c) (take n d)) ≤ cond b
+        (suc (apart c d)) (apart c d)
     go true a = omega arith
     go false a = omega arith
 
@@ -162,14 +171,17 @@ pub apart-third : (c d e : List Level) → length c ≡ length d → apart c e �
 apart-third [] d e l = omega arith
 apart-third (x ∷ c) [] e l = absurd (omega arith)
 apart-third (x ∷ c) (y ∷ d) [] l = omega arith
-apart-third (x ∷ c) (y ∷ d) (z ∷ e) l = go (apart-third c d e (omega arith)) (differs x z) refl (differs x y) refl (differs y z) refl
+apart-third (x ∷ c) (y ∷ d) (z ∷ e) l = go (apart-third c d e (omega arith)) (differs x z) refl (differs x y) refl
+    (differs y z) refl
   where
     less : (b : Bool) (n : ℕ) → n ≤ cond b (suc n) n
     less true n = omega arith
     less false n = omega arith
 
-    go : apart c e ≤ apart c d + apart d e → (a : Bool) → differs x z ≡ a → (b : Bool) → differs x y ≡ b → (f : Bool) → differs y z ≡ f
-        → cond a (suc (apart c e)) (apart c e) ≤ cond b (suc (apart c d)) (apart c d) + cond f (suc (apart d e)) (apart d e)
+    go : apart c e ≤ apart c d + apart d e → (a : Bool) → differs x z ≡ a → (b : Bool) → differs x y ≡ b → (f : Bool)
+        → differs y z ≡ f
+        → cond a (suc (apart c e)) (apart c e) ≤ cond b (suc (apart c d)) (apart c d) + cond f
+        (suc (apart d e)) (apart d e)
     go h false p b q f r = let m = less b (apart c d) in let n = less f (apart d e) in omega arith
     go h true p true q f r = let n = less f (apart d e) in omega arith
     go h true p false q true r = omega arith
@@ -188,7 +200,8 @@ apart-none (x ∷ c) (y ∷ d) l h = go (differs x y) refl h (apart-none c d (om
     same High Low q = absurd (let r : true ≡ false = q in cc)
     same High High q = refl
 
-    go : (b : Bool) → differs x y ≡ b → cond b (suc (apart c d)) (apart c d) ≡ 0 → (apart c d ≡ 0 → c ≡ d) → x ∷ c ≡ y ∷ d
+    go : (b : Bool) → differs x y ≡ b → cond b (suc (apart c d)) (apart c d) ≡ 0 → (apart c d ≡ 0 → c ≡ d)
+        → x ∷ c ≡ y ∷ d
     go true p z more = absurd (omega arith)
     go false p z more = ap₂ (λ x c. x ∷ c) (same x y p) (more z)
 
@@ -211,7 +224,8 @@ at-others (suc k) (y ∷ c) zero h = refl
 at-others (suc k) (y ∷ c) (suc x) h = at-others k c x (λ e. h (ap suc e))
 
 -- where two lists differ at a place, they differ at one place less behind a change there
-pub apart-mended : (k : ℕ) (c d : List Level) → k < length c → length c ≡ length d → (at c k ≡ at d k → ⊥) → suc (apart (changed k c) d) ≡ apart c d
+pub apart-mended : (k : ℕ) (c d : List Level) → k < length c → length c ≡ length d → (at c k ≡ at d k → ⊥)
+    → suc (apart (changed k c) d) ≡ apart c d
 apart-mended k [] d h l n = absurd (omega arith)
 apart-mended k (x ∷ c) [] h l n = absurd (omega arith)
 apart-mended zero (x ∷ c) (y ∷ d) h l n =

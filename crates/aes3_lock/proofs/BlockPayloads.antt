@@ -1,5 +1,6 @@
 -- The payloads of a block and the bits of its subframes.
-use Rattle.std.proofs.Common.{◌≡◌, suc, List, [], ◌∷◌, Bool, true, false, map, refl, length, take, ap, ap₂, ◌∙◌, sym, arith, length-take, ◌⊎◌, inl, inr}
+use Rattle.std.proofs.Common.{◌≡◌, suc, List, [], ◌∷◌, Bool, true, false, map, refl, length, take, ap, ap₂, ◌∙◌, sym}
+use Rattle.std.proofs.Common.{arith, length-take, ◌⊎◌, inl, inr}
 use Rattle.std.proofs.lemmas.Bool.{cases_Bool}
 use Rattle.std.proofs.lemmas.List.{length-map, take_at}
 use Rattle.aes3_slot.specs.Bits.{odd_ones}
@@ -28,25 +29,31 @@ right-with_parity (p ∷ b) =
 pub each27-payloads_of : (slots : List (List Bool)) → Each28 slots → Each27 (payloads_of slots)
 unfolding payload_len
 each27-payloads_of [] e = tt
-each27-payloads_of (bits ∷ more) e = (let l = length-take 27 bits in let n = e.0 in omega arith, each27-payloads_of more e.1)
+each27-payloads_of (bits ∷ more) e = (let l = length-take 27 bits in let n = e.0 in
+    omega arith, each27-payloads_of more e.1)
 
-with_parity-payloads : (bits : List Bool) → length bits ≡ 28 → odd_ones bits ≡ false → with_parity (take payload_len bits) ≡ bits
+with_parity-payloads : (bits : List Bool) → length bits ≡ 28 → odd_ones bits ≡ false
+    → with_parity (take payload_len bits) ≡ bits
 unfolding payload_len
 with_parity-payloads bits l o =
     let p = split-parity 27 bits l o in
     ap (λ x. with_parity (take 27 x)) p.2 ∙ ap with_parity (take_at p.0 (odd_ones p.0 ∷ []) 27 p.1) ∙ sym p.2
 
-pub slots-right : (slots : List (List Bool)) → Each28 slots → wrong_parities slots ≡ 0 → map with_parity (payloads_of slots) ≡ slots
+pub slots-right : (slots : List (List Bool)) → Each28 slots → wrong_parities slots ≡ 0
+    → map with_parity (payloads_of slots) ≡ slots
 slots-right [] e w = refl
 slots-right (bits ∷ more) e w = go (cases_Bool (odd_ones bits)) (slots-right more e.1)
   where
-    go : (odd_ones bits ≡ true) ⊎ (odd_ones bits ≡ false) → (wrong_parities more ≡ 0 → map with_parity (payloads_of more) ≡ more)
+    go : (odd_ones bits ≡ true) ⊎ (odd_ones bits ≡ false)
+        → (wrong_parities more ≡ 0 → map with_parity (payloads_of more) ≡ more)
         → map with_parity (payloads_of (bits ∷ more)) ≡ bits ∷ more
     go (inl o) rest = absurd (let z : suc (wrong_parities more) ≡ 0 = rw o at w in omega arith)
     go (inr o) rest =
         let z : wrong_parities more ≡ 0 = rw o at w in
         ap₂ (λ x y. x ∷ y) (with_parity-payloads bits e.0 o) (rest z)
 
-pub block-payloads : (slots : List (List Bool)) → length slots ≡ block_slots → Each28 slots → IsBlock (payloads_of slots)
+pub block-payloads : (slots : List (List Bool)) → length slots ≡ block_slots → Each28 slots
+    → IsBlock (payloads_of slots)
 block-payloads slots n e =
-    record { count = length-map slots (take payload_len) ∙ n; payloads = all-payloads (payloads_of slots) (each27-payloads_of slots e) }
+    record { count = length-map slots (take payload_len) ∙ n;
+        payloads = all-payloads (payloads_of slots) (each27-payloads_of slots e) }

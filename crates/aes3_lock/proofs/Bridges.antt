@@ -1,15 +1,16 @@
 -- No block is made of cells of a stream from one place on and, behind some of them, those from the next place on.
-use Rattle.std.proofs.Common.{◌≡◌, ℕ, suc, ◌+◌, ◌*◌, ◌/◌, ◌%◌, ◌<◌, ◌≤◌, ◌⊎◌, inl, inr, List, Bool, length, ap, ◌∙◌, sym, arith, lit<}
+use Rattle.std.proofs.Common.{◌≡◌, ℕ, suc, ◌+◌, ◌*◌, ◌/◌, ◌%◌, ◌<◌, ◌≤◌, ◌⊎◌, inl, inr, List, Bool, length, ap, ◌∙◌}
+use Rattle.std.proofs.Common.{sym, arith, lit<}
 use Rattle.std.proofs.lemmas.Bool.{cases_lt}
 use Rattle.aes3_cell.specs.declared.level.Level.{Level}
 use Rattle.aes3_cell.specs.Cells.{other}
 use Rattle.aes3_cell.proofs.Runs.{other_ne}
 use Rattle.aes3_slot.specs.Rules.{at, shape}
 use Rattle.aes3_slot.proofs.Distance.{own-cell, stands-from}
-use Rattle.aes3_slot.proofs.OwnPreambles.{begins}
+use Rattle.aes3_slot.proofs.OwnPreambles.{begins, shape-first}
 use Rattle.aes3_block.specs.Blocks.{mark_at, block_slots, block_cells, stream, IsBlock}
 use Rattle.aes3_block.proofs.FileLaws.{EachBlock}
-use Rattle.aes3_lock.proofs.Distances.{block-level, block-mark, mark-first, mark-second}
+use Rattle.aes3_lock.proofs.Distances.{block-level, block-mark, mark-second}
 use Rattle.aes3_lock.proofs.LawfulPieces.{stream_marks, stream-kept, stream-length, stream-level, stream-aligned}
 
 module _ (s : Level) (bs : List (List (List Bool))) (h : EachBlock bs) where
@@ -18,18 +19,23 @@ module _ (s : Level) (bs : List (List (List Bool))) (h : EachBlock bs) where
   begun p a l =
       let n = stream-length s bs h in
       let e : 64 * (p / 64) + 0 ≡ p = omega arith in
-      ap (at (stream s bs)) (sym e) ∙ own-cell stream_marks s (stream s bs) (stream-kept s bs h) (p / 64) 0 (omega arith) (lit< tt)
-      ∙ ap (shape (stream_marks (p / 64)) 0) (stream-level s bs h (p / 64) (omega arith)) ∙ mark-first (stream_marks (p / 64)) s
+      ap (at (stream s bs)) (sym e)
+      ∙ own-cell stream_marks s (stream s bs) (stream-kept s bs h) (p / 64) 0 (omega arith) (lit< tt)
+      ∙ ap (shape (stream_marks (p / 64)) 0) (stream-level s bs h (p / 64) (omega arith))
+      ∙ shape-first (stream_marks (p / 64)) s
 
   pub begun-second : (p : ℕ) → p % 64 ≡ 0 → p < length (stream s bs) → at (stream s bs) (suc p) ≡ other s
   begun-second p a l =
       let n = stream-length s bs h in
       let e : 64 * (p / 64) + 1 ≡ suc p = omega arith in
-      ap (at (stream s bs)) (sym e) ∙ own-cell stream_marks s (stream s bs) (stream-kept s bs h) (p / 64) 1 (omega arith) (lit< tt)
-      ∙ ap (shape (stream_marks (p / 64)) 1) (stream-level s bs h (p / 64) (omega arith)) ∙ mark-second (stream_marks (p / 64)) s
+      ap (at (stream s bs)) (sym e)
+      ∙ own-cell stream_marks s (stream s bs) (stream-kept s bs h) (p / 64) 1 (omega arith) (lit< tt)
+      ∙ ap (shape (stream_marks (p / 64)) 1) (stream-level s bs h (p / 64) (omega arith))
+      ∙ mark-second (stream_marks (p / 64)) s
 
   -- a block whose first m cells are those of the stream from place p on, and the others those from the next place on
-  module _ (d : List (List Bool)) (t : Level) (g : IsBlock d) (p m : ℕ) (some : 0 < m) (few : m < 24576) (room : p + 24576 < length (stream s bs))
+  module _ (d : List (List Bool)) (t : Level) (g : IsBlock d) (p m : ℕ) (some : 0 < m) (few : m < 24576)
+      (room : p + 24576 < length (stream s bs))
       (early : (x : ℕ) → x < m → at (block_cells t d) x ≡ at (stream s bs) (p + x))
       (late : (x : ℕ) → m ≤ x → x < 24576 → at (block_cells t d) x ≡ at (stream s bs) (suc p + x)) where
     own-mark : (j k : ℕ) → j < 384 → k < 8 → at (block_cells t d) (64 * j + k) ≡ shape (mark_at j) k t
@@ -39,15 +45,19 @@ module _ (s : Level) (bs : List (List (List Bool))) (h : EachBlock bs) where
     before-it : (j : ℕ) → j < 384 → 64 * j + 8 ≤ m → ((p + 64 * j) % 64 ≡ 0) × (t ≡ s)
     before-it j l o =
         let r = room in
-        let a = stream-aligned s bs h (mark_at j) t (p + 64 * j) (stands-from (mark_at j) t (stream s bs) (p + 64 * j) (omega arith)
-        (λ k b. let e : p + 64 * j + k ≡ p + (64 * j + k) = omega arith in ap (at (stream s bs)) e ∙ sym (early (64 * j + k) (omega arith)) ∙ own-mark j k l b)) in
+        let a = stream-aligned s bs h (mark_at j) t (p + 64 * j)
+        (stands-from (mark_at j) t (stream s bs) (p + 64 * j) (omega arith)
+        (λ k b. let e : p + 64 * j + k ≡ p + (64 * j + k) = omega arith in
+            ap (at (stream s bs)) e ∙ sym (early (64 * j + k) (omega arith)) ∙ own-mark j k l b)) in
         (a.0, a.2)
 
     behind-it : (j : ℕ) → j < 384 → m ≤ 64 * j → (suc p + 64 * j) % 64 ≡ 0
     behind-it j l o =
         let r = room in
-        (stream-aligned s bs h (mark_at j) t (suc p + 64 * j) (stands-from (mark_at j) t (stream s bs) (suc p + 64 * j) (omega arith)
-        (λ k b. let e : suc p + 64 * j + k ≡ suc p + (64 * j + k) = omega arith in ap (at (stream s bs)) e ∙ sym (late (64 * j + k) (omega arith) (omega arith)) ∙ own-mark j k l b))).0
+        (stream-aligned s bs h (mark_at j) t (suc p + 64 * j)
+            (stands-from (mark_at j) t (stream s bs) (suc p + 64 * j) (omega arith)
+        (λ k b. let e : suc p + 64 * j + k ≡ suc p + (64 * j + k) = omega arith in
+            ap (at (stream s bs)) e ∙ sym (late (64 * j + k) (omega arith) (omega arith)) ∙ own-mark j k l b))).0
 
     -- it lies behind the first preamble and before the last subframe
     in-middle : 8 ≤ m → m ≤ 24512 → ⊥
@@ -68,7 +78,8 @@ module _ (s : Level) (bs : List (List (List Bool))) (h : EachBlock bs) where
         turn = begins stream_marks s (stream s bs) (stream-kept s bs h) p (let r = room in omega arith) next
 
         first : at (stream s bs) p ≡ other t
-        first = let e : p + 0 ≡ p = omega arith in ap (at (stream s bs)) (sym e) ∙ sym (early 0 some) ∙ own-mark 0 0 (lit< tt) (lit< tt) ∙ mark-first (mark_at 0) t
+        first = let e : p + 0 ≡ p = omega arith in ap (at (stream s bs)) (sym e) ∙ sym (early 0 some)
+            ∙ own-mark 0 0 (lit< tt) (lit< tt) ∙ shape-first (mark_at 0) t
 
         second : at (block_cells t d) 1 ≡ other t
         second = own-mark 0 1 (lit< tt) (lit< tt) ∙ mark-second (mark_at 0) t
@@ -78,7 +89,8 @@ module _ (s : Level) (bs : List (List (List Bool))) (h : EachBlock bs) where
             let e : suc p + 1 ≡ suc (suc p) = omega arith in
             let n = room in
             let v = some in
-            turn (begun (suc p) next (omega arith) ∙ sym (begun-second (suc p) next (omega arith)) ∙ ap (at (stream s bs)) (sym e)
+            turn (begun (suc p) next (omega arith) ∙ sym (begun-second (suc p) next (omega arith))
+                ∙ ap (at (stream s bs)) (sym e)
             ∙ sym (late 1 (omega arith) (lit< tt)) ∙ second ∙ sym first)
         go (inr o) =
             let e : p + 1 ≡ suc p = omega arith in
@@ -94,7 +106,8 @@ module _ (s : Level) (bs : List (List (List Bool))) (h : EachBlock bs) where
         let v = few in
         let e : suc p + 24575 ≡ p + 24576 = omega arith in
         let last : at (block_cells t d) 24575 ≡ t = block-level t d g 384 (omega arith) in
-        other_ne s (sym (begun (p + 24576) (omega arith) (omega arith)) ∙ ap (at (stream s bs)) (sym e) ∙ sym (late 24575 (omega arith) (lit< tt)) ∙ last ∙ x.1)
+        other_ne s (sym (begun (p + 24576) (omega arith) (omega arith)) ∙ ap (at (stream s bs)) (sym e)
+            ∙ sym (late 24575 (omega arith) (lit< tt)) ∙ last ∙ x.1)
 
     pub no-bridge : ⊥
     no-bridge = go (cases_lt m 8) (cases_lt 24512 m)

@@ -1,5 +1,6 @@
 -- The places at which cells differ from two lists that themselves differ at some places, and those that leave a block.
-use Rattle.std.proofs.Common.{◌≡◌, ℕ, zero, suc, ◌+◌, ◌<◌, ◌⊎◌, inl, inr, List, [], ◌∷◌, Bool, true, false, not, ◌&&◌, ◌||◌, ◌==◌, cond, refl, length, ap, ◌∙◌, sym, arith, eq-eqb, ne_eqb}
+use Rattle.std.proofs.Common.{◌≡◌, ℕ, zero, suc, ◌+◌, ◌<◌, ◌⊎◌, inl, inr, List, [], ◌∷◌, Bool, true, false, not, ◌&&◌}
+use Rattle.std.proofs.Common.{◌||◌, ◌==◌, cond, refl, length, ap, ◌∙◌, sym, arith, eq-eqb, ne_eqb}
 use Rattle.std.proofs.lemmas.Bool.{cases_eq, cases_Bool, and_parts, eqb-true}
 use Rattle.std.specs.List.{Contains, filter, list_any}
 use Rattle.aes3_cell.specs.declared.level.Level.{Level}
@@ -57,7 +58,8 @@ places-but some n (u ∷ c) (v ∷ d) (w ∷ e) l m o k =
     here : n + 0 ≡ n
     here = omega arith
 
-    go : (some n ≡ true) ⊎ (some n ≡ false) → places_apart (suc n) d e ≡ filter (λ x. not (some x)) (places_apart (suc n) c e)
+    go : (some n ≡ true) ⊎ (some n ≡ false)
+        → places_apart (suc n) d e ≡ filter (λ x. not (some x)) (places_apart (suc n) c e)
         → cond (differs v w) (n ∷ places_apart (suc n) d e) (places_apart (suc n) d e)
         ≡ filter (λ x. not (some x)) (cond (differs u w) (n ∷ places_apart (suc n) c e) (places_apart (suc n) c e))
     go (inl t) rest =
@@ -77,12 +79,15 @@ places-but some n (u ∷ c) (v ∷ d) (w ∷ e) l m o k =
         next (inr f) = let g = alike ∙ f in rw (f, g) rest
 
 -- each of the places that leave a block is one of a pair
-pub in-pairs : (ys : List ℕ) (b d : List (List Bool)) → left_of ys b ≡ d ∷ [] → (z : ℕ) → Has z ys → Between z ⊎ ((w : ℕ) × (z ≡ suc w) × Between w)
+pub in-pairs : (ys : List ℕ) (b d : List (List Bool)) → left_of ys b ≡ d ∷ [] → (z : ℕ) → Has z ys → Between z
+    ⊎ ((w : ℕ) × (z ≡ suc w) × Between w)
 in-pairs [] b d e z m = absurd m
 in-pairs (x ∷ []) b d e z m = let r : [] ≡ d ∷ [] = e in cc
-in-pairs (x ∷ y ∷ ys) b d e z m = go (cases_Bool (y == suc x && between_slots x)) m (λ q k. in-pairs ys (exchanged x b) d q z k)
+in-pairs (x ∷ y ∷ ys) b d e z m =
+    go (cases_Bool (y == suc x && between_slots x)) m (λ q k. in-pairs ys (exchanged x b) d q z k)
   where
-    go : ((y == suc x && between_slots x) ≡ true) ⊎ ((y == suc x && between_slots x) ≡ false) → (z ≡ x) ⊎ ((z ≡ y) ⊎ Has z ys)
+    go : ((y == suc x && between_slots x) ≡ true) ⊎ ((y == suc x && between_slots x) ≡ false) → (z ≡ x)
+        ⊎ ((z ≡ y) ⊎ Has z ys)
         → (left_of ys (exchanged x b) ≡ d ∷ [] → Has z ys → Between z ⊎ ((w : ℕ) × (z ≡ suc w) × Between w))
         → Between z ⊎ ((w : ℕ) × (z ≡ suc w) × Between w)
     go (inr t) k next = let r : [] ≡ d ∷ [] = sym (ap (λ u. cond u (left_of ys (exchanged x b)) []) t) ∙ e in cc

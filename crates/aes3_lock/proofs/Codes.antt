@@ -1,5 +1,6 @@
 -- What the small steps of a lock answer.
-use Rattle.std.proofs.Common.{◌≡◌, ℕ, ◌-◌, ◌<◌, ◌≤◌, List, Bool, true, false, not, eqb, ltb, ◌&&◌, Option, Some, None, refl, take, ap, ◌∙◌, sym, arith, eq-eqb, lt-ltb, le-ltb, ltb-true, true≢false}
+use Rattle.std.proofs.Common.{◌≡◌, ℕ, ◌-◌, ◌<◌, ◌≤◌, List, Bool, true, false, not, eqb, ltb, ◌&&◌, Option, Some, None}
+use Rattle.std.proofs.Common.{refl, take, ap, ◌∙◌, sym, arith, eq-eqb, lt-ltb, le-ltb, ltb-true, true≢false}
 use Rattle.std.proofs.lemmas.Bool.{and_parts, false_from_ne_true}
 use Rattle.aes3_cell.specs.declared.level.Level.{Level}
 use Rattle.aes3_cell.specs.declared.level.Level.TheVariants.{Low, High}
@@ -17,8 +18,8 @@ use Rattle.aes3_lock.specs.Outcomes.{fault, unfinished, payloads_of, wrong_parit
 use Rattle.aes3_lock.specs.Reports.{report_of}
 use Rattle.aes3_lock.specs.Steps.{begins_a_block, begun, ended, left}
 use Rattle.aes3_slot.proofs.Beginnings.{begins-stands}
-use Rattle.aes3_lock.proofs.Deciding.{block_len_24576}
 use Rattle.aes3_lock.proofs.Following.{begun-some, begun-none}
+use Rattle.aes3_block.proofs.CellLaws.{block_len_24576}
 
 pub block-whole : (at : ℕ) (s : Level) (slots : List (List Bool)) (wrong : ℕ) → wrong ≡ wrong_parities slots → wrong ≡ 0
     → Whole at s (payloads_of slots) ≡ report_of at (block_outcome s slots)
@@ -45,10 +46,14 @@ begun-Z n recent s h e =
 pub begun-short : (n : ℕ) (recent : List Level) → n < 8 → begun n recent ≡ None
 begun-short n recent h = begun-none n recent (λ g. absurd (omega arith))
 
-pub begun-other : (n : ℕ) (recent : List Level) → take 8 recent ≡ recent → ((s : Level) → recent ≡ line s (mark_runs Z) → ⊥) → begun n recent ≡ None
-begun-other n recent e f = begun-none n recent (λ g. false_from_ne_true (begins_block recent) (λ b. f (entry recent) (sym e ∙ (begins-stands Z recent b).is)))
+pub begun-other : (n : ℕ) (recent : List Level) → take 8 recent ≡ recent
+    → ((s : Level) → recent ≡ line s (mark_runs Z) → ⊥) → begun n recent ≡ None
+begun-other n recent e f =
+    begun-none n recent
+    (λ g. false_from_ne_true (begins_block recent) (λ b. f (entry recent) (sym e ∙ (begins-stands Z recent b).is)))
 
-pub ended-block : (s : Level) (o : ℕ) (b : Bool) (slots : List (List Bool)) → 24576 ≤ o → b ≡ false → ended s o b slots ≡ block_outcome s slots
+pub ended-block : (s : Level) (o : ℕ) (b : Bool) (slots : List (List Bool)) → 24576 ≤ o → b ≡ false
+    → ended s o b slots ≡ block_outcome s slots
 ended-block s o b slots h e =
     let n = block_len_24576 in
     let t : ltb o block_len ≡ false = le-ltb o block_len (omega arith) in
@@ -60,7 +65,8 @@ ended-early s o b slots h =
     let t : ltb o block_len ≡ true = lt-ltb o block_len (omega arith) in
     rw t refl
 
-pub ended-unclosed : (s : Level) (o : ℕ) (b : Bool) (slots : List (List Bool)) → 24576 ≤ o → b ≡ true → ended s o b slots ≡ fault o
+pub ended-unclosed : (s : Level) (o : ℕ) (b : Bool) (slots : List (List Bool)) → 24576 ≤ o → b ≡ true
+    → ended s o b slots ≡ fault o
 ended-unclosed s o b slots h e =
     let n = block_len_24576 in
     let t : ltb o block_len ≡ false = le-ltb o block_len (omega arith) in
@@ -94,12 +100,11 @@ is_Z : Option (Mark × Level) → Bool
 is_Z None = false
 is_Z (Some m) = begins_a_block m.0
 
-pub other-mark : (m : Mark) (s t : Level) (r : Option (Mark × Level)) → r ≡ Some (m, s) → begins_a_block m ≡ false → r ≡ Some (Z, t) → ⊥
+pub other-mark : (m : Mark) (s t : Level) (r : Option (Mark × Level)) → r ≡ Some (m, s) → begins_a_block m ≡ false
+    → r ≡ Some (Z, t) → ⊥
 unfolding is_Z
 other-mark m s t r e b f = true≢false (sym (ap is_Z (sym e ∙ f)) ∙ b)
 
-pub none-some : {A : Type 0} {x : A} → ◌≡◌ {A = Option A} None (Some x) → ⊥
-none-some e = cc
 
 -- a cell that goes on with a candidate
 pub goes : (o : ℕ) (x b p q : Level) (r : Bool) → r ≡ ltb o block_len && rule mark_at o x b p → p ≡ q → r ≡ true

@@ -1,5 +1,8 @@
 -- What one more cell decides.
-use Rattle.std.proofs.Common.{◌≡◌, ℕ, zero, suc, ◌+◌, ◌*◌, ◌/◌, ◌%◌, ◌<◌, ◌≤◌, ◌⊎◌, inl, inr, List, [], ◌∷◌, ◌++◌, Bool, true, false, cond, ltb, eqb, ◌&&◌, Some, None, refl, length, take, drop, ap, ap₂, ◌∙◌, sym, arith, length-append, lt-ltb, le-ltb, ltb-true, eqb-true, true≢false, lit<, append_assoc, append-nil}
+use Rattle.std.proofs.Common.{◌≡◌, ℕ, zero, suc, ◌+◌, ◌*◌, ◌/◌, ◌%◌, ◌<◌, ◌≤◌, ◌⊎◌, inl, inr, List, [], ◌∷◌, ◌++◌, Bool}
+use Rattle.std.proofs.Common.{true, false, cond, ltb, eqb, ◌&&◌, Some, None, refl, length, take, drop, ap, ap₂, ◌∙◌}
+use Rattle.std.proofs.Common.{sym, arith, length-append, lt-ltb, le-ltb, ltb-true, eqb-true, true≢false, lit<}
+use Rattle.std.proofs.Common.{append_assoc, append-nil}
 use Rattle.std.proofs.lemmas.Bool.{cases_lt, and_parts, eqb-false}
 use Rattle.std.proofs.lemmas.List.{get_or_append_left, take-append-le, drop-append-le, length-drop}
 use Rattle.aes3_cell.specs.declared.level.Level.{Level}
@@ -22,10 +25,6 @@ use Rattle.aes3_slot.proofs.Beginnings.{begins-stands, begins-room, entry-append
 pub block_len_64 : block_len ≡ 64 * block_slots
 unfolding block_len
 block_len_64 = refl
-
-pub block_slots_384 : block_slots ≡ 384
-unfolding block_slots
-block_slots_384 = refl
 
 pub block_len_24576 : block_len ≡ 24576
 unfolding block_len block_slots
@@ -54,7 +53,8 @@ pub outcome_is : (c : List Level) → outcome c ≡ outcome_by (entry c) (front 
 unfolding outcome
 outcome_is c = refl
 
-outcome_by-same : (s : Level) (f n m : ℕ) (b : Bool) (ps qs : List (List Bool)) → f < n → f < m → (block_len ≤ f → ps ≡ qs)
+outcome_by-same : (s : Level) (f n m : ℕ) (b : Bool) (ps qs : List (List Bool)) → f < n → f < m
+    → (block_len ≤ f → ps ≡ qs)
     → outcome_by s f n b ps ≡ outcome_by s f m b qs
 outcome_by-same s f n m b ps qs h g e = go (cases_lt f block_len)
   where
@@ -74,16 +74,21 @@ outcome-stays c d o h =
     let f = front (entry c) c in
     let e0 = entry-append c d o in
     let l = length-append c d in
-    let ef : front (entry (c ++ d)) (c ++ d) ≡ front (entry c) c = ap (λ s. front s (c ++ d)) e0 ∙ front-stays (entry c) c d h in
-    let b : same (at (c ++ d) (front (entry (c ++ d)) (c ++ d))) (before (entry (c ++ d)) (c ++ d) (front (entry (c ++ d)) (c ++ d)))
+    let ef : front (entry (c ++ d)) (c ++ d) ≡ front (entry c) c = ap (λ s. front s (c ++ d)) e0
+    ∙ front-stays (entry c) c d h in
+    let b : same (at (c ++ d) (front (entry (c ++ d)) (c ++ d)))
+    (before (entry (c ++ d)) (c ++ d) (front (entry (c ++ d)) (c ++ d)))
     ≡ same (at c (front (entry c) c)) (before (entry c) c (front (entry c) c)) =
     ap₂ (λ s n. same (at (c ++ d) n) (before s (c ++ d) n)) e0 ef
-    ∙ ap₂ same (get_or_append_left c d Low (front (entry c) c) h) (before-append_left (entry c) c d (front (entry c) c) (omega arith)) in
+    ∙ ap₂ same (get_or_append_left c d Low (front (entry c) c) h)
+    (before-append_left (entry c) c d (front (entry c) c) (omega arith)) in
     outcome_is (c ++ d)
     ∙ ap (λ s. outcome_by s (front (entry (c ++ d)) (c ++ d)) (length (c ++ d))
-    (same (at (c ++ d) (front (entry (c ++ d)) (c ++ d))) (before (entry (c ++ d)) (c ++ d) (front (entry (c ++ d)) (c ++ d)))) (read_slots block_slots (c ++ d))) e0
+    (same (at (c ++ d) (front (entry (c ++ d)) (c ++ d)))
+        (before (entry (c ++ d)) (c ++ d) (front (entry (c ++ d)) (c ++ d)))) (read_slots block_slots (c ++ d))) e0
     ∙ ap₂ (λ n b. outcome_by (entry c) n (length (c ++ d)) b (read_slots block_slots (c ++ d))) ef b
-    ∙ outcome_by-same (entry c) f (length (c ++ d)) (length c) (same (at c f) (before (entry c) c f)) (read_slots block_slots (c ++ d)) (read_slots block_slots c)
+    ∙ outcome_by-same (entry c) f (length (c ++ d)) (length c) (same (at c f) (before (entry c) c f))
+    (read_slots block_slots (c ++ d)) (read_slots block_slots c)
     (omega (arith, l, h)) h (λ g. read_slots-append block_slots c d (omega (arith, block_len_64, g, h)))
     ∙ sym (outcome_is c)
 
@@ -93,7 +98,8 @@ decided-tests : (c : List Level) (r : Outcome) → decided_at c ≡ Some r
 unfolding decided_at
 decided-tests c r e = go (begins_block c) (ltb (front (entry c) c) (length c)) refl refl e
   where
-    go : (x y : Bool) → begins_block c ≡ x → ltb (front (entry c) c) (length c) ≡ y → cond (x && y) (Some (outcome c)) None ≡ Some r
+    go : (x y : Bool) → begins_block c ≡ x → ltb (front (entry c) c) (length c) ≡ y
+        → cond (x && y) (Some (outcome c)) None ≡ Some r
         → (begins_block c ≡ true) × (front (entry c) c < length c) × (outcome c ≡ r)
     go true true a b e = (a, ltb-true _ _ b, some-same (outcome c) r e)
       where
@@ -102,7 +108,8 @@ decided-tests c r e = go (begins_block c) (ltb (front (entry c) c) (length c)) r
     go true false a b e = cc
     go false y a b e = cc
 
-pub decided-from : (c : List Level) → begins_block c ≡ true → front (entry c) c < length c → decided_at c ≡ Some (outcome c)
+pub decided-from : (c : List Level) → begins_block c ≡ true → front (entry c) c < length c
+    → decided_at c ≡ Some (outcome c)
 unfolding decided_at
 decided-from c a b = let t = lt-ltb _ _ b in rw (a, t) refl
 
@@ -125,7 +132,8 @@ pub none-from-front : (c : List Level) → length c ≤ front (entry c) c → de
 unfolding decided_at
 none-from-front c h = go (begins_block c) (le-ltb _ _ h)
   where
-    go : (b : Bool) → ltb (front (entry c) c) (length c) ≡ false → cond (b && ltb (front (entry c) c) (length c)) (Some (outcome c)) None ≡ None
+    go : (b : Bool) → ltb (front (entry c) c) (length c) ≡ false
+        → cond (b && ltb (front (entry c) c) (length c)) (Some (outcome c)) None ≡ None
     go true e = rw e refl
     go false e = refl
 
@@ -135,7 +143,8 @@ keeps-first c i h z =
     let q : i / 64 ≡ 0 = omega arith in
     let r : i % 64 ≡ i = omega arith in
     let t : ltb i 8 ≡ true = lt-ltb i 8 h in
-    let e : at c i ≡ shape Z i (entry c) = ap (at c) (let g : i ≡ 0 + i = omega arith in g) ∙ stands-at Z (entry c) c 0 i h z in
+    let e : at c i ≡ shape Z i (entry c) = ap (at c) (let g : i ≡ 0 + i = omega arith in g)
+    ∙ stands-at Z (entry c) c 0 i h z in
     rw (q, r, t, e) (same-refl _)
 
 pub block-room : 8 < block_len
@@ -151,7 +160,8 @@ front-eight c e = go (cases_lt (front (entry c) c) 8)
         let room = begins-room Z c e in
         let big = block-room in
         let f = front-is (entry c) c in
-        absurd (true≢false (sym (keeps-first c (front (entry c) c) h (begins-stands Z c e)) ∙ f.stops (omega (arith, room, big, h))))
+        absurd (true≢false (sym (keeps-first c (front (entry c) c) h (begins-stands Z c e))
+            ∙ f.stops (omega (arith, room, big, h))))
 
 -- eight cells decide nothing
 pub short : (c : List Level) → length c ≤ 8 → decided_at c ≡ None
@@ -235,16 +245,20 @@ closed-same c l e = go (cases_lt (length c) 8) (begins_block c) refl
         let d = decided-from c q (let n = eqb-false _ _ ne in omega (arith, n, w)) in
         decided-stays c (l ∷ []) (outcome c) d ∙ sym d
 
-pub decided-push : (p : ℕ) (c : List Level) (l : Level) → decided_from p (c ++ l ∷ []) ≡ decided_from p c ++ answer p c l
+pub decided-push : (p : ℕ) (c : List Level) (l : Level)
+    → decided_from p (c ++ l ∷ []) ≡ decided_from p c ++ answer p c l
 decided-push p [] l = rw (short (l ∷ []) (omega arith)) refl
 decided-push p (x ∷ c) l = go (open_at (x ∷ c)) refl (decided-push (suc p) c l)
   where
-    go : (b : Bool) → open_at (x ∷ c) ≡ b → decided_from (suc p) (c ++ l ∷ []) ≡ decided_from (suc p) c ++ answer (suc p) c l
-        → decided_from p (x ∷ c ++ l ∷ []) ≡ decided_from p (x ∷ c) ++ cond b (told p (decided_at (x ∷ c ++ l ∷ []))) (answer (suc p) c l)
+    go : (b : Bool) → open_at (x ∷ c) ≡ b
+        → decided_from (suc p) (c ++ l ∷ []) ≡ decided_from (suc p) c ++ answer (suc p) c l
+        → decided_from p (x ∷ c ++ l ∷ []) ≡ decided_from p (x ∷ c) ++ cond b (told p (decided_at (x ∷ c ++ l ∷ [])))
+        (answer (suc p) c l)
     go true e ih =
         let o = open-alone x c e in
         let q1 : decided_from (suc p) (c ++ l ∷ []) ≡ [] = quiet (suc p) c (l ∷ []) o.0 (omega arith) in
-        let q2 : decided_from (suc p) c ≡ [] = ap (decided_from (suc p)) (sym (append-nil c)) ∙ quiet (suc p) c [] o.0 (omega arith) in
+        let q2 : decided_from (suc p) c ≡ [] = ap (decided_from (suc p)) (sym (append-nil c))
+        ∙ quiet (suc p) c [] o.0 (omega arith) in
         rw (q1, q2, o.1) (append-nil _)
     go false e ih =
         let s : decided_at (x ∷ c ++ l ∷ []) ≡ decided_at (x ∷ c) = closed-same (x ∷ c) l e in

@@ -1,5 +1,7 @@
 -- The ways in which a candidate can end.
-use Rattle.std.proofs.Common.{◌≡◌, ℕ, suc, ◌-◌, ◌<◌, ◌≤◌, ◌⊎◌, inl, inr, List, ◌++◌, Bool, true, false, cond, ltb, refl, length, take, drop, ap, ◌∙◌, sym, subst, arith, take-append-drop, length-take, length-take-le, lt-ltb, le-ltb, true≢false}
+use Rattle.std.proofs.Common.{◌≡◌, ℕ, suc, ◌-◌, ◌<◌, ◌≤◌, ◌⊎◌, inl, inr, List, ◌++◌, Bool, true, false, cond, ltb, refl}
+use Rattle.std.proofs.Common.{length, take, drop, ap, ◌∙◌, sym, subst, arith, take-append-drop, length-take}
+use Rattle.std.proofs.Common.{length-take-le, lt-ltb, le-ltb, true≢false}
 use Rattle.std.proofs.lemmas.Bool.{cases_lt, cases_Bool}
 use Rattle.aes3_cell.specs.declared.level.Level.{Level}
 use Rattle.aes3_cell.specs.Cells.{line}
@@ -15,8 +17,9 @@ use Rattle.aes3_lock.specs.Candidates.{front}
 use Rattle.aes3_lock.specs.Outcomes.{Outcome, fault, unfinished, outcome, block_outcome}
 use Rattle.aes3_lock.specs.Standing.{IsClosed, SubframesStand}
 use Rattle.aes3_lock.proofs.Fronts.{IsFront, front-is, kept-from-keeps}
-use Rattle.aes3_lock.proofs.Deciding.{block_len_64, block_len_24576}
+use Rattle.aes3_lock.proofs.Deciding.{block_len_64}
 use Rattle.aes3_lock.proofs.Viability.{keeps-take}
+use Rattle.aes3_block.proofs.CellLaws.{block_len_24576}
 
 -- the last cell of a block
 pub last-cell : (s : Level) (c : List Level) → before s c block_len ≡ at c (block_len - 1)
@@ -26,17 +29,22 @@ last-cell s c =
 
 -- a cell refutes it; the cells end; no change closes it; a block is closed
 pub data Ending (c : List Level) : Type 0 where
-  refuted : front (entry c) c < length c → front (entry c) c < block_len → outcome c ≡ fault (front (entry c) c) → Ending c
+  refuted : front (entry c) c < length c → front (entry c) c < block_len
+      → outcome c ≡ fault (front (entry c) c) → Ending c
   ended : front (entry c) c ≡ length c → length c < block_len → outcome c ≡ unfinished (length c) → Ending c
-  unclosed : front (entry c) c ≡ block_len → block_len < length c → at c block_len ≡ at c (block_len - 1) → outcome c ≡ fault block_len → Ending c
-  closed : front (entry c) c ≡ block_len → IsClosed c → outcome c ≡ block_outcome (entry c) (read_slots block_slots c) → Ending c
+  unclosed : front (entry c) c ≡ block_len → block_len < length c → at c block_len ≡ at c (block_len - 1)
+      → outcome c ≡ fault block_len → Ending c
+  closed : front (entry c) c ≡ block_len → IsClosed c
+      → outcome c ≡ block_outcome (entry c) (read_slots block_slots c) → Ending c
 
 outcome_by : ℕ → ℕ → Bool → Outcome → Outcome
 outcome_by f n b block =
-    cond (ltb f n) (cond (ltb f block_len) (fault f) (cond b (fault f) block)) (cond (ltb f block_len) (unfinished f) block)
+    cond (ltb f n) (cond (ltb f block_len) (fault f) (cond b (fault f) block))
+    (cond (ltb f block_len) (unfinished f) block)
 
 outcome-by : (c : List Level)
-    → outcome c ≡ outcome_by (front (entry c) c) (length c) (same (at c (front (entry c) c)) (before (entry c) c (front (entry c) c)))
+    → outcome c ≡ outcome_by (front (entry c) c) (length c)
+    (same (at c (front (entry c) c)) (before (entry c) c (front (entry c) c)))
     (block_outcome (entry c) (read_slots block_slots c))
 unfolding outcome outcome_by
 outcome-by c = refl
@@ -76,7 +84,8 @@ ending c = go (cases_lt f block_len) (cases_lt f (length c)) (cases_Bool b)
     r : IsFront (entry c) c (front (entry c) c)
     r = front-is (entry c) c
 
-    go : (front (entry c) c < block_len) ⊎ (block_len ≤ front (entry c) c) → (front (entry c) c < length c) ⊎ (length c ≤ front (entry c) c)
+    go : (front (entry c) c < block_len) ⊎ (block_len ≤ front (entry c) c) → (front (entry c) c < length c)
+        ⊎ (length c ≤ front (entry c) c)
         → (b ≡ true) ⊎ (b ≡ false) → Ending c
     go (inl g) (inl h) x = refuted h g (outcome-by c ∙ by-refuted f (length c) b o h g)
     go (inl g) (inr h) x =
@@ -86,8 +95,10 @@ ending c = go (cases_lt f block_len) (cases_lt f (length c)) (cases_Bool b)
     go (inr g) (inl h) (inl x) =
         let w = r.within in
         let e : front (entry c) c ≡ block_len = omega arith in
-        let z : at c block_len ≡ before (entry c) c block_len = same-true _ _ (subst (λ n. same (at c n) (before (entry c) c n) ≡ true) e x) in
-        unclosed e (omega arith) (z ∙ last-cell (entry c) c) (outcome-by c ∙ ap (λ b. outcome_by f (length c) b o) x ∙ by-unclosed f (length c) o h g ∙ ap fault e)
+        let z : at c block_len ≡ before (entry c) c block_len =
+            same-true _ _ (subst (λ n. same (at c n) (before (entry c) c n) ≡ true) e x) in
+        unclosed e (omega arith) (z ∙ last-cell (entry c) c) (outcome-by c ∙ ap (λ b. outcome_by f (length c) b o) x
+            ∙ by-unclosed f (length c) o h g ∙ ap fault e)
     go (inr g) (inl h) (inr x) =
         let w = r.within in
         let e : front (entry c) c ≡ block_len = omega arith in
@@ -116,16 +127,20 @@ read-stands s c h = stand r.0 r.1 r.2 r.3
         kept-from-keeps s (take block_len c) i
         (keeps-take s c block_len i (omega (arith, n, g)) (omega (arith, n, g)) ∙ f.kept i (omega (arith, n, g)))
 
-    r : (slots : List (List Bool)) × (length slots ≡ block_slots) × Each28 slots × (take block_len c ≡ line s (runs_of mark_at slots))
+    r : (slots : List (List Bool)) × (length slots ≡ block_slots) × Each28 slots
+        × (take block_len c ≡ line s (runs_of mark_at slots))
     r =
         let w = (front-is s c).within in
-        read-runs mark_at block_slots s (take block_len c) (length-take-le block_len c (omega arith) ∙ block_len_64) kept
+        read-runs mark_at block_slots s (take block_len c) (length-take-le block_len c (omega arith)
+            ∙ block_len_64) kept
 
-    stand : (slots : List (List Bool)) → length slots ≡ block_slots → Each28 slots → take block_len c ≡ line s (runs_of mark_at slots)
+    stand : (slots : List (List Bool)) → length slots ≡ block_slots → Each28 slots
+        → take block_len c ≡ line s (runs_of mark_at slots)
         → SubframesStand (read_slots block_slots c) s c
     stand slots n e cells =
         let q : read_slots block_slots c ≡ slots =
         ap (read_slots block_slots) (sym (take-append-drop block_len c) ∙ ap (λ x. x ++ drop block_len c) cells)
         ∙ ap (λ n. read_slots n (line s (runs_of mark_at slots) ++ drop block_len c)) (sym n)
         ∙ read_slots-line mark_at s slots (drop block_len c) e in
-        record { count = ap length q ∙ n; each = subst Each28 (sym q) e; cells = cells ∙ ap (λ x. line s (runs_of mark_at x)) (sym q) }
+        record { count = ap length q ∙ n; each = subst Each28 (sym q) e;
+            cells = cells ∙ ap (λ x. line s (runs_of mark_at x)) (sym q) }

@@ -1,5 +1,6 @@
 -- What the end of the cells decides.
-use Rattle.std.proofs.Common.{◌≡◌, ℕ, zero, suc, ◌+◌, List, [], ◌∷◌, ◌++◌, Bool, true, false, cond, eqb, Some, None, refl, length, drop, ap, ◌∙◌, sym, arith, append_assoc, append-nil, length-drop}
+use Rattle.std.proofs.Common.{◌≡◌, ℕ, zero, suc, ◌+◌, List, [], ◌∷◌, ◌++◌, Bool, true, false, cond, eqb, Some, None}
+use Rattle.std.proofs.Common.{refl, length, drop, ap, ◌∙◌, sym, arith, append_assoc, append-nil, length-drop}
 use Rattle.std.proofs.lemmas.Bool.{eqb-false}
 use Rattle.aes3_cell.specs.declared.level.Level.{Level}
 use Rattle.aes3_lock.specs.declared.report.Report.{Report}
@@ -51,7 +52,8 @@ reports-split p (x ∷ c) = go (open_at (x ∷ c)) refl (reports-split (suc p) c
     go true e ih =
         let o = open-alone x c e in
         let q1 = quiet-reports (suc p) c o.0 in
-        let q2 : decided_from (suc p) c ≡ [] = ap (decided_from (suc p)) (sym (append-nil c)) ∙ quiet (suc p) c [] o.0 (omega arith) in
+        let q2 : decided_from (suc p) c ≡ [] = ap (decided_from (suc p)) (sym (append-nil c))
+        ∙ quiet (suc p) c [] o.0 (omega arith) in
         rw (q1, q2, o.1) (append-nil _)
     go false e ih =
         let s = same-report (x ∷ c) e in
@@ -64,7 +66,8 @@ final-none p (x ∷ c) h =
     let r = final-none (suc p) c (λ q. h (suc q)) in
     rw (e, r) refl
 
-pub final-open : (p : ℕ) (c : List Level) (q : ℕ) → open_at (drop q c) ≡ true → final p c ≡ report_of (p + q) (outcome (drop q c)) ∷ []
+pub final-open : (p : ℕ) (c : List Level) (q : ℕ) → open_at (drop q c) ≡ true
+    → final p c ≡ report_of (p + q) (outcome (drop q c)) ∷ []
 final-open p [] q h =
     let r = (open-room (drop q []) (is-open (drop q []) h)).0 in
     let n = length-drop {A = Level} q [] in

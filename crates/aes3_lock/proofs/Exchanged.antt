@@ -1,5 +1,7 @@
 -- The block whose cells are those of another but for the two between two slots.
-use Rattle.std.proofs.Common.{◌≡◌, ℕ, zero, suc, ◌+◌, ◌-◌, ◌*◌, ◌/◌, ◌%◌, ◌<◌, ◌≤◌, ◌⊎◌, inl, inr, List, [], ◌∷◌, ◌++◌, Bool, true, false, ◌&&◌, ◌==◌, leb, le-leb, eq-eqb, not, map, refl, length, ap, ap₂, ◌∙◌, sym, arith, length-append}
+use Rattle.std.proofs.Common.{◌≡◌, ℕ, zero, suc, ◌+◌, ◌-◌, ◌*◌, ◌/◌, ◌%◌, ◌<◌, ◌≤◌, ◌⊎◌, inl, inr, List, [], ◌∷◌, ◌++◌}
+use Rattle.std.proofs.Common.{Bool, true, false, ◌&&◌, ◌==◌, leb, le-leb, eq-eqb, not, map, refl, length, ap, ap₂, ◌∙◌}
+use Rattle.std.proofs.Common.{sym, arith, length-append}
 use Rattle.std.proofs.lemmas.Bool.{cases_lt, and_parts, leb-true, eqb-true}
 use Rattle.aes3_cell.specs.declared.level.Level.{Level}
 use Rattle.aes3_cell.specs.declared.level.Level.TheVariants.{Low, High}
@@ -7,13 +9,15 @@ use Rattle.aes3_cell.specs.Cells.{line, other}
 use Rattle.aes3_cell.proofs.Runs.{line-append}
 use Rattle.aes3_slot.specs.declared.mark.Mark.{Mark}
 use Rattle.aes3_slot.specs.Bits.{odd_ones}
-use Rattle.aes3_slot.specs.Slots.{bits_runs, mark_runs, slot_runs, subframe_runs, runs_of, with_parity, payload_len, IsPayload}
+use Rattle.aes3_slot.specs.Slots.{bits_runs, mark_runs, slot_runs, subframe_runs, runs_of, with_parity, payload_len}
+use Rattle.aes3_slot.specs.Slots.{IsPayload}
 use Rattle.aes3_slot.proofs.Index.{length-mark}
 use Rattle.aes3_slot.proofs.Subframes.{not-not, line-slots, after-subframe, length-subframe}
 use Rattle.aes3_block.specs.Blocks.{mark_at, block_len, block_cells, IsBlock}
 use Rattle.aes3_block.proofs.Runs.{Each27}
 use Rattle.aes3_block.proofs.Each.{each-payload, all-payloads}
 use Rattle.aes3_lock.specs.Damage.{changed, pair_inverted, inverted_in, between_slots, exchanged}
+use Rattle.aes3_lock.proofs.Apart.{length-changed}
 
 -- joined lists
 changed-left : (k : ℕ) (a b : List Level) → k < length a → changed k (a ++ b) ≡ changed k a ++ b
@@ -23,12 +27,8 @@ changed-left (suc k) (x ∷ a) b h = ap (λ c. x ∷ c) (changed-left k a b (ome
 
 changed-right : (k : ℕ) (a b : List Level) → changed (length a + k) (a ++ b) ≡ a ++ changed k b
 changed-right k [] b = let e : 0 + k ≡ k = omega arith in rw e refl
-changed-right k (x ∷ a) b = let e : suc (length a) + k ≡ suc (length a + k) = omega arith in rw e (ap (λ c. x ∷ c) (changed-right k a b))
-
-changed-length : (k : ℕ) (c : List Level) → length (changed k c) ≡ length c
-changed-length k [] = refl
-changed-length zero (x ∷ c) = refl
-changed-length (suc k) (x ∷ c) = ap suc (changed-length k c)
+changed-right k (x ∷ a) b = let e : suc (length a) + k ≡ suc (length a + k) = omega arith in
+    rw e (ap (λ c. x ∷ c) (changed-right k a b))
 
 -- both cells
 abbrev pub both : ℕ → List Level → List Level
@@ -36,13 +36,14 @@ both k c = changed (suc k) (changed k c)
 
 both-left : (k : ℕ) (a b : List Level) → suc k < length a → both k (a ++ b) ≡ both k a ++ b
 both-left k a b h =
-    let l = changed-length k a in
+    let l = length-changed k a in
     ap (changed (suc k)) (changed-left k a b (omega arith)) ∙ changed-left (suc k) (changed k a) b (omega arith)
 
 both-right : (k : ℕ) (a b : List Level) → both (length a + k) (a ++ b) ≡ a ++ both k b
 both-right k a b =
     let e : suc (length a + k) ≡ length a + suc k = omega arith in
-    ap (changed (suc (length a + k))) (changed-right k a b) ∙ ap (λ n. changed n (a ++ changed k b)) e ∙ changed-right (suc k) a (changed k b)
+    ap (changed (suc (length a + k))) (changed-right k a b) ∙ ap (λ n. changed n (a ++ changed k b)) e
+    ∙ changed-right (suc k) a (changed k b)
 
 -- the bits of two slots next to each other are inverted where the cells between them change
 pub line-inverted : (n : ℕ) (t : Level) (bits : List Bool) → suc n < length bits
@@ -89,18 +90,21 @@ joined-inner zero (x ∷ []) r h = absurd (omega arith)
 joined-inner zero (x ∷ y ∷ p) r h = refl
 joined-inner (suc n) (x ∷ p) r h = ap (λ c. x ∷ c) (joined-inner n p r (omega arith))
 
-joined-last : (n : ℕ) (p : List Bool) (z : Bool) → suc n ≡ length p → pair_inverted n (p ++ z ∷ []) ≡ pair_inverted n p ++ not z ∷ []
+joined-last : (n : ℕ) (p : List Bool) (z : Bool) → suc n ≡ length p
+    → pair_inverted n (p ++ z ∷ []) ≡ pair_inverted n p ++ not z ∷ []
 joined-last n [] z h = absurd (omega arith)
 joined-last zero (x ∷ []) z h = refl
 joined-last zero (x ∷ y ∷ p) z h = absurd (omega arith)
 joined-last (suc n) (x ∷ p) z h = ap (λ c. x ∷ c) (joined-last n p z (omega arith))
 
-pub parity-inverted : (n : ℕ) (p : List Bool) → n < length p → with_parity (pair_inverted n p) ≡ pair_inverted n (with_parity p)
+pub parity-inverted : (n : ℕ) (p : List Bool) → n < length p
+    → with_parity (pair_inverted n p) ≡ pair_inverted n (with_parity p)
 parity-inverted n p h = go (cases_lt (suc n) (length p))
   where
     go : (suc n < length p) ⊎ (length p ≤ suc n) → with_parity (pair_inverted n p) ≡ pair_inverted n (with_parity p)
     go (inl l) = ap (λ z. pair_inverted n p ++ z ∷ []) (odd-inner n p l) ∙ sym (joined-inner n p (odd_ones p ∷ []) l)
-    go (inr l) = let e : suc n ≡ length p = omega arith in ap (λ z. pair_inverted n p ++ z ∷ []) (odd-last n p e) ∙ sym (joined-last n p (odd_ones p) e)
+    go (inr l) = let e : suc n ≡ length p = omega arith in ap (λ z. pair_inverted n p ++ z ∷ []) (odd-last n p e)
+        ∙ sym (joined-last n p (odd_ones p) e)
 
 pub length-inverted : (n : ℕ) (p : List Bool) → length (pair_inverted n p) ≡ length p
 length-inverted n [] = refl
@@ -126,10 +130,12 @@ subframe-inverted n s m p h l =
 
 -- subframes one behind the other
 pub runs-cons : (marks : ℕ → Mark) (s : Level) (p : List Bool) (ps : List (List Bool)) → IsPayload p
-    → line s (runs_of marks (map with_parity (p ∷ ps))) ≡ line s (subframe_runs (marks 0) p) ++ line s (runs_of (λ j. marks (suc j)) (map with_parity ps))
+    → line s (runs_of marks (map with_parity (p ∷ ps))) ≡ line s (subframe_runs (marks 0) p) ++ line s
+    (runs_of (λ j. marks (suc j)) (map with_parity ps))
 runs-cons marks s p ps h =
     let runs = runs_of (λ j. marks (suc j)) (map with_parity ps) in
-    line-append s (subframe_runs (marks 0) p) runs ∙ ap (λ t. line s (subframe_runs (marks 0) p) ++ line t runs) (after-subframe s (marks 0) p h)
+    line-append s (subframe_runs (marks 0) p) runs
+    ∙ ap (λ t. line s (subframe_runs (marks 0) p) ++ line t runs) (after-subframe s (marks 0) p h)
 
 payload-27 : (p : List Bool) → IsPayload p → length p ≡ 27
 unfolding payload_len
@@ -139,7 +145,8 @@ inverted-payload : (n : ℕ) (p : List Bool) → IsPayload p → IsPayload (pair
 inverted-payload n p h = length-inverted n p ∙ h
 
 runs-inverted : (marks : ℕ → Mark) (s : Level) (ps : List (List Bool)) (j n : ℕ) → Each27 ps → j < length ps → n < 27
-    → line s (runs_of marks (map with_parity (inverted_in j n ps))) ≡ both (64 * j + (2 * n + 9)) (line s (runs_of marks (map with_parity ps)))
+    → line s (runs_of marks (map with_parity (inverted_in j n ps))) ≡ both (64 * j + (2 * n + 9))
+    (line s (runs_of marks (map with_parity ps)))
 runs-inverted marks s [] j n h l o = absurd (omega arith)
 runs-inverted marks s (p ∷ ps) zero n h l o =
     let a = payload-27 p h.0 in
@@ -153,9 +160,11 @@ runs-inverted marks s (p ∷ ps) zero n h l o =
 runs-inverted marks s (p ∷ ps) (suc j) n h l o =
     let b = length-subframe s (marks 0) p h.0 in
     let rest = line s (runs_of (λ j. marks (suc j)) (map with_parity ps)) in
-    let e : length (line s (subframe_runs (marks 0) p)) + (64 * j + (2 * n + 9)) ≡ 64 * suc j + (2 * n + 9) = omega arith in
+    let e : length (line s (subframe_runs (marks 0) p)) + (64 * j + (2 * n + 9)) ≡ 64 * suc j + (2 * n + 9) =
+        omega arith in
     runs-cons marks s p (inverted_in j n ps) h.0
-    ∙ ap (λ c. line s (subframe_runs (marks 0) p) ++ c) (runs-inverted (λ j. marks (suc j)) s ps j n h.1 (omega arith) o)
+    ∙ ap (λ c. line s (subframe_runs (marks 0) p) ++ c)
+    (runs-inverted (λ j. marks (suc j)) s ps j n h.1 (omega arith) o)
     ∙ sym (both-right (64 * j + (2 * n + 9)) (line s (subframe_runs (marks 0) p)) rest)
     ∙ ap₂ both e (sym (runs-cons marks s p ps h.0))
 

@@ -1,5 +1,6 @@
 -- The reports that stand whatever follows are all but those that only the end gives.
-use Rattle.std.proofs.Common.{◌≡◌, ℕ, suc, ◌+◌, ◌<◌, ◌≤◌, ◌⊎◌, inl, inr, List, [], ◌∷◌, ◌++◌, Bool, true, false, not, cond, eqb, Some, refl, length, ap, ap₂, ◌∙◌, sym, arith, eq-eqb, ne_eqb}
+use Rattle.std.proofs.Common.{◌≡◌, ℕ, suc, ◌+◌, ◌<◌, ◌≤◌, ◌⊎◌, inl, inr, List, [], ◌∷◌, ◌++◌, Bool, true, false, not}
+use Rattle.std.proofs.Common.{cond, eqb, Some, refl, length, ap, ap₂, ◌∙◌, sym, arith, eq-eqb, ne_eqb}
 use Rattle.std.specs.List.{filter}
 use Rattle.std.proofs.lemmas.Bool.{cases_lt, cases_Bool}
 use Rattle.std.proofs.lemmas.List.Elements.{filter-append}
@@ -9,22 +10,26 @@ use Rattle.aes3_block.specs.Blocks.{block_slots, block_len}
 use Rattle.aes3_slot.specs.Preambles.{entry}
 use Rattle.aes3_lock.specs.Candidates.{begins_block, front}
 use Rattle.aes3_lock.specs.Outcomes.{Outcome, whole, marked, outcome, block_outcome, wrong_parities, payloads_of}
-use Rattle.aes3_lock.specs.Reports.{told, report_of, outcome_at, reports_from, reports, decided_at, decided_from, decided, is_decided}
+use Rattle.aes3_lock.specs.Reports.{told, report_of, outcome_at, reports_from, reports, decided_at, decided_from}
+use Rattle.aes3_lock.specs.Reports.{decided, is_decided}
 use Rattle.aes3_lock.proofs.Fronts.{front-is}
 use Rattle.aes3_lock.proofs.Deciding.{decided-from, none-from-front, none-from-begins}
 use Rattle.aes3_lock.proofs.Endings.{Ending, refuted, ended, unclosed, closed, ending}
 use Rattle.aes3_lock.proofs.Ends.{outcome_at-none, outcome_at-some}
 
 -- the report of a block is decided where cells lie behind it
-block-passes : (p n : ℕ) (s : Level) (slots : List (List Bool)) (b : Bool) → eqb (p + block_len) n ≡ b → is_decided n (report_of p (block_outcome s slots)) ≡ not b
+block-passes : (p n : ℕ) (s : Level) (slots : List (List Bool)) (b : Bool) → eqb (p + block_len) n ≡ b
+    → is_decided n (report_of p (block_outcome s slots)) ≡ not b
 block-passes p n s slots b e = go (eqb (wrong_parities slots) 0)
   where
-    go : (w : Bool) → is_decided n (report_of p (cond w (whole s (payloads_of slots)) (marked s (wrong_parities slots)))) ≡ not b
+    go : (w : Bool)
+        → is_decided n (report_of p (cond w (whole s (payloads_of slots)) (marked s (wrong_parities slots)))) ≡ not b
     go true = ap not e
     go false = ap not e
 
 module _ (p n : ℕ) (c : List Level) (l : n ≡ p + length c) where
-  kept-passes : (o : Outcome) → is_decided n (report_of p o) ≡ true → told p (Some o) ≡ filter (is_decided n) (told p (Some o))
+  kept-passes : (o : Outcome) → is_decided n (report_of p o) ≡ true
+      → told p (Some o) ≡ filter (is_decided n) (told p (Some o))
   kept-passes o e = rw e refl
 
   dropped-fails : (o : Outcome) → is_decided n (report_of p o) ≡ false → [] ≡ filter (is_decided n) (told p (Some o))
@@ -39,7 +44,8 @@ module _ (p n : ℕ) (c : List Level) (l : n ≡ p + length c) where
       go (unclosed x y z e) = ap (λ o. is_decided n (report_of p o)) e
       go (closed x z e) =
           ap (λ o. is_decided n (report_of p o)) e
-          ∙ block-passes p n (entry c) (read_slots block_slots c) false (ne_eqb (p + block_len) n (λ q. omega (arith, l, x, h)))
+          ∙ block-passes p n (entry c) (read_slots block_slots c) false
+          (ne_eqb (p + block_len) n (λ q. omega (arith, l, x, h)))
 
   fails : begins_block c ≡ true → length c ≤ front (entry c) c → is_decided n (report_of p (outcome c)) ≡ false
   fails b h = go (ending c)
@@ -53,13 +59,15 @@ module _ (p n : ℕ) (c : List Level) (l : n ≡ p + length c) where
       go (unclosed x y z e) = absurd (omega arith)
       go (closed x z e) =
           ap (λ o. is_decided n (report_of p o)) e
-          ∙ block-passes p n (entry c) (read_slots block_slots c) true (eq-eqb (p + block_len) n (let v = w in omega (arith, l, x, h, v)))
+          ∙ block-passes p n (entry c) (read_slots block_slots c) true
+          (eq-eqb (p + block_len) n (let v = w in omega (arith, l, x, h, v)))
 
   -- at one place
   told-filtered : told p (decided_at c) ≡ filter (is_decided n) (told p (outcome_at c))
   told-filtered = go (cases_Bool (begins_block c)) (cases_lt (front (entry c) c) (length c))
     where
-      go : (begins_block c ≡ true) ⊎ (begins_block c ≡ false) → (front (entry c) c < length c) ⊎ (length c ≤ front (entry c) c)
+      go : (begins_block c ≡ true) ⊎ (begins_block c ≡ false) → (front (entry c) c < length c)
+          ⊎ (length c ≤ front (entry c) c)
           → told p (decided_at c) ≡ filter (is_decided n) (told p (outcome_at c))
       go (inr b) x = let d = none-from-begins c b in let o = outcome_at-none c b in rw (d, o) refl
       go (inl b) (inl h) =
@@ -71,7 +79,8 @@ module _ (p n : ℕ) (c : List Level) (l : n ≡ p + length c) where
           let o = outcome_at-some c b in
           rw (d, o) (dropped-fails (outcome c) (fails b h))
 
-filtered-from : (p n : ℕ) (c : List Level) → n ≡ p + length c → decided_from p c ≡ filter (is_decided n) (reports_from p c)
+filtered-from : (p n : ℕ) (c : List Level) → n ≡ p + length c
+    → decided_from p c ≡ filter (is_decided n) (reports_from p c)
 filtered-from p n [] l = refl
 filtered-from p n (x ∷ c) l =
     ap₂ (λ a b. a ++ b) (told-filtered p n (x ∷ c) l) (filtered-from (suc p) n c (omega arith))

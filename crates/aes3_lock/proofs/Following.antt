@@ -1,5 +1,8 @@
 -- A lock goes on following the cells, and answers what each decides.
-use Rattle.std.proofs.Common.{◌≡◌, ℕ, ◌+◌, ◌-◌, ◌*◌, ◌/◌, ◌%◌, ◌^◌, ◌<◌, ◌≤◌, ◌⊎◌, inl, inr, List, [], ◌∷◌, ◌++◌, Bool, true, false, cond, leb, ltb, ◌&&◌, Option, Some, None, MatchOption, refl, length, drop, ap, ap₂, ◌∙◌, sym, subst, arith, length-append, length-drop, append-nil, le-leb, lt-ltb, le-ltb, true≢false}
+use Rattle.std.proofs.Common.{◌≡◌, ℕ, ◌+◌, ◌-◌, ◌*◌, ◌/◌, ◌%◌, ◌^◌, ◌<◌, ◌≤◌, ◌⊎◌, inl, inr, List, [], ◌∷◌, ◌++◌, Bool}
+use Rattle.std.proofs.Common.{true, false, cond, leb, ltb, ◌&&◌, Option, Some, None, MatchOption, refl, length, drop}
+use Rattle.std.proofs.Common.{ap, ap₂, ◌∙◌, sym, subst, arith, length-append, length-drop, append-nil, le-leb, lt-ltb}
+use Rattle.std.proofs.Common.{le-ltb, true≢false}
 use Rattle.std.proofs.lemmas.List.{drop-append-le}
 use Rattle.std.proofs.lemmas.Bool.{cases_eq, cases_lt, lt-leb, false_from_ne_true, cases_Bool}
 use Rattle.aes3_cell.specs.declared.level.Level.{Level}
@@ -19,7 +22,8 @@ use Rattle.aes3_slot.proofs.Beginnings.{entry-append}
 use Rattle.aes3_lock.proofs.Deciding.{decided-push, block_len_64, outcome_by, outcome_is, read_slots-append}
 use Rattle.aes3_lock.proofs.Fronts.{keeps-append, front-is}
 use Rattle.aes3_lock.proofs.Ends.{reports-split, final-none, final-open}
-use Rattle.aes3_lock.proofs.Opens.{IsOpen, is-open, open-room, answer-none, answer-open, keeps-new, open-ends, open-decides, open-eight, none-after, open-only, open-cells}
+use Rattle.aes3_lock.proofs.Opens.{IsOpen, is-open, open-room, answer-none, answer-open, keeps-new, open-ends}
+use Rattle.aes3_lock.proofs.Opens.{open-decides, open-eight, none-after, open-only, open-cells}
 use Rattle.aes3_lock.proofs.LastEight.{last_eight-with, last_eight-is, last-before}
 use Rattle.aes3_lock.proofs.Gathering.{words-whole}
 
@@ -39,7 +43,8 @@ begun-none n recent h = go (cases_lt n 8)
     go (inr g) = let t = le-leb 8 n g in let b = h g in rw (t, b) refl
 
 -- none is open where none longer is and the last eight cells begin none
-pub closed : (c : List Level) → ((q : ℕ) → 8 < length (drop q c) → open_at (drop q c) ≡ false) → (8 ≤ length c → begins_block (last_eight c) ≡ false) → NoneOpen c
+pub closed : (c : List Level) → ((q : ℕ) → 8 < length (drop q c) → open_at (drop q c) ≡ false)
+    → (8 ≤ length c → begins_block (last_eight c) ≡ false) → NoneOpen c
 closed c none b q = false_from_ne_true (open_at (drop q c)) (λ t. here t (cases_lt 8 (length (drop q c))))
   where
     here : open_at (drop q c) ≡ true → (8 < length (drop q c)) ⊎ (length (drop q c) ≤ 8) → ⊥
@@ -60,7 +65,8 @@ restarted c subframe words kept few none = go (cases_lt (length c) 8) (cases_Boo
   where
     go : (length c < 8) ⊎ (8 ≤ length c) → (begins_block (last_eight c) ≡ true) ⊎ (begins_block (last_eight c) ≡ false)
         → MatchOption (begun (length c) (last_eight c)) (NoneOpen c) (λ t. OpenAt subframe words t c)
-    go (inl g) b = rw (begun-none (length c) (last_eight c) (λ h. absurd (omega (arith, g, h)))) (closed c none (λ h. absurd (omega (arith, g, h))))
+    go (inl g) b = rw (begun-none (length c) (last_eight c) (λ h. absurd (omega (arith, g, h))))
+        (closed c none (λ h. absurd (omega (arith, g, h))))
     go (inr g) (inr b) = rw (begun-none (length c) (last_eight c) (λ h. b)) (closed c none (λ h. b))
     go (inr g) (inl b) =
         let s : last_eight c ≡ drop (length c - 8) c = last_eight-is c g in
@@ -73,14 +79,16 @@ restarted c subframe words kept few none = go (cases_lt (length c) 8) (cases_Boo
           first = ap entry s;
           gathered = record {
             level = ap entry s ∙ sym (ap (before (entry (drop (length c - 8) c)) (drop (length c - 8) c)) z);
-            cells = ap (λ n. low_cells (n % 64) subframe) m ∙ kept ∙ s ∙ sym (ap (λ n. drop n (drop (length c - 8) c)) z);
+            cells = ap (λ n. low_cells (n % 64) subframe) m ∙ kept ∙ s
+                ∙ sym (ap (λ n. drop n (drop (length c - 8) c)) z);
             few = subst (λ n. subframe < 2 ^ (n % 64)) (sym m) few;
             whole = λ j h k. absurd (omega (arith, k, m));
           };
         })
 
 -- what is left of the cells with one more
-pub drop-push : (c : List Level) (l : Level) (q : ℕ) → 8 < length (drop q (c ++ l ∷ [])) → (drop q (c ++ l ∷ []) ≡ drop q c ++ l ∷ []) × (8 ≤ length (drop q c))
+pub drop-push : (c : List Level) (l : Level) (q : ℕ) → 8 < length (drop q (c ++ l ∷ []))
+    → (drop q (c ++ l ∷ []) ≡ drop q c ++ l ∷ []) × (8 ≤ length (drop q c))
 drop-push c l q h =
     let a = length-append c (l ∷ []) in
     let b = length-drop q (c ++ l ∷ []) in
@@ -88,24 +96,28 @@ drop-push c l q h =
     (drop-append-le q c (l ∷ []) (omega (arith, a, b, h)), omega (arith, a, b, d, h))
 
 -- a lock with one more cell
-module _ (k k' : LockState) (c : List Level) (l : Level) (f : Follows k c) (n : k'.seen ≡ k.seen + 1) (r : k'.recent ≡ eight_with k.recent l) where
+module _ (k k' : LockState) (c : List Level) (l : Level) (f : Follows k c) (n : k'.seen ≡ k.seen + 1)
+    (r : k'.recent ≡ eight_with k.recent l) where
   seen-with : k'.seen ≡ length (c ++ l ∷ [])
   seen-with = let a = length-append c (l ∷ []) in let b = f.seen in omega (arith, a, b, n)
 
   recent-with : k'.recent ≡ last_eight (c ++ l ∷ [])
   recent-with = r ∙ ap (λ x. eight_with x l) f.recent ∙ sym (last_eight-with c l)
 
-  anew : k'.recent ≡ low_cells 8 k'.subframe → k'.subframe < 2 ^ 8 → ((q : ℕ) → 8 < length (drop q (c ++ l ∷ [])) → open_at (drop q (c ++ l ∷ [])) ≡ false)
+  anew : k'.recent ≡ low_cells 8 k'.subframe → k'.subframe < 2 ^ 8
+      → ((q : ℕ) → 8 < length (drop q (c ++ l ∷ [])) → open_at (drop q (c ++ l ∷ [])) ≡ false)
       → k'.candidate ≡ begun k'.seen k'.recent → Follows k' (c ++ l ∷ [])
   anew e few none b = record {
     seen = seen-with;
     recent = recent-with;
-    candidate = rw (b, seen-with, recent-with) (restarted (c ++ l ∷ []) k'.subframe k'.words (sym e ∙ recent-with) few none);
+    candidate = rw (b, seen-with, recent-with)
+        (restarted (c ++ l ∷ []) k'.subframe k'.words (sym e ∙ recent-with) few none);
   }
 
 -- no candidate was in hand
 pub push-none : (k k' : LockState) (c : List Level) (l : Level) → Follows k c → k.candidate ≡ None
-    → k'.seen ≡ k.seen + 1 → k'.recent ≡ eight_with k.recent l → k'.candidate ≡ begun k'.seen k'.recent → k'.recent ≡ low_cells 8 k'.subframe → k'.subframe < 2 ^ 8
+    → k'.seen ≡ k.seen + 1 → k'.recent ≡ eight_with k.recent l → k'.candidate ≡ begun k'.seen k'.recent
+    → k'.recent ≡ low_cells 8 k'.subframe → k'.subframe < 2 ^ 8
     → Follows k' (c ++ l ∷ []) × (decided (c ++ l ∷ []) ≡ decided c ++ [])
 unfolding decided
 push-none k k' c l f s e1 e2 e3 e4 e5 = (
@@ -131,10 +143,13 @@ module _ (k : LockState) (t : Candidate) (c : List Level) (f : Follows k c) (s :
 
 module _ (k : LockState) (t : Candidate) (c : List Level) (l : Level) (f : Follows k c) (s : k.candidate ≡ Some t) where
   -- the code's test is the rule's
-  pub tested : rule mark_at (k.seen - t.at) l t.level (at k.recent 7) ≡ keeps (entry (drop t.at c)) (drop t.at c ++ l ∷ []) (length (drop t.at c))
+  pub tested : rule mark_at (k.seen - t.at) l t.level (at k.recent 7) ≡ keeps (entry (drop t.at c))
+      (drop t.at c ++ l ∷ []) (length (drop t.at c))
   tested =
       ap₂ (λ o b. rule mark_at o l b (at k.recent 7)) (offset k t c f s) (hand k t c f s).gathered.level
-      ∙ ap (rule mark_at (length (drop t.at c)) l (before (entry (drop t.at c)) (drop t.at c) (64 * (length (drop t.at c) / 64)))) (previous k t c f s (entry (drop t.at c)))
+      ∙ ap (rule mark_at (length (drop t.at c)) l
+          (before (entry (drop t.at c)) (drop t.at c) (64 * (length (drop t.at c) / 64))))
+          (previous k t c f s (entry (drop t.at c)))
       ∙ sym (keeps-new (entry (drop t.at c)) (drop t.at c) l)
 
   rest : drop t.at (c ++ l ∷ []) ≡ drop t.at c ++ l ∷ []
@@ -144,17 +159,21 @@ module _ (k : LockState) (t : Candidate) (c : List Level) (l : Level) (f : Follo
   answers = decided-push 0 c l ∙ ap (λ x. decided_from 0 c ++ x) (answer-open 0 c l t.at (hand k t c f s).opened)
 
 -- the cells go on with the candidate in hand
-pub goes-on : (k k' : LockState) (t u : Candidate) (c d : List Level) → Follows k c → k.candidate ≡ Some t → length (drop t.at c ++ d) ≤ block_len
+pub goes-on : (k k' : LockState) (t u : Candidate) (c d : List Level) → Follows k c → k.candidate ≡ Some t
+    → length (drop t.at c ++ d) ≤ block_len
     → ((i : ℕ) → i < length (drop t.at c ++ d) → keeps (entry (drop t.at c)) (drop t.at c ++ d) i ≡ true)
-    → k'.seen ≡ length (c ++ d) → k'.recent ≡ last_eight (c ++ d) → k'.candidate ≡ Some u → u.at ≡ t.at → u.before ≡ t.before
+    → k'.seen ≡ length (c ++ d) → k'.recent ≡ last_eight (c ++ d) → k'.candidate ≡ Some u → u.at ≡ t.at
+    → u.before ≡ t.before
     → Gathered u.level k'.subframe k'.words (entry (drop t.at c)) (drop t.at c ++ d)
     → Follows k' (c ++ d) × (decided (c ++ d) ≡ decided c)
 unfolding decided
 goes-on k k' t u c d f s h kept seen recent e same-at same-before g =
     let w = in-hand.within in
     let n = length-append c d in
-    let rest : drop u.at (c ++ d) ≡ drop t.at c ++ d = ap (λ n. drop n (c ++ d)) same-at ∙ drop-append-le t.at c d (omega (arith, w)) in
-    let first : entry (drop t.at c ++ d) ≡ entry (drop t.at c) = entry-append (drop t.at c) d (let l = length-drop t.at c in omega (arith, w, l)) in
+    let rest : drop u.at (c ++ d) ≡ drop t.at c ++ d = ap (λ n. drop n (c ++ d)) same-at
+    ∙ drop-append-le t.at c d (omega (arith, w)) in
+    let first : entry (drop t.at c ++ d) ≡ entry (drop t.at c) =
+        entry-append (drop t.at c) d (let l = length-drop t.at c in omega (arith, w, l)) in
     let o = open-cells c d t.at in-hand.opened h kept in (
       record {
         seen = seen;
@@ -174,7 +193,8 @@ goes-on k k' t u c d f s h kept seen recent e same-at same-before g =
     in-hand = hand k t c f s
 
 -- the cell ends the candidate in hand
-pub push-last : (k k' : LockState) (t : Candidate) (c : List Level) (l : Level) → Follows k c → length k.words ≡ block_slots → k.candidate ≡ Some t
+pub push-last : (k k' : LockState) (t : Candidate) (c : List Level) (l : Level) → Follows k c
+    → length k.words ≡ block_slots → k.candidate ≡ Some t
     → (k.seen - t.at < block_len → rule mark_at (k.seen - t.at) l t.level (at k.recent 7) ≡ false)
     → k'.seen ≡ k.seen + 1 → k'.recent ≡ eight_with k.recent l → k'.candidate ≡ begun k'.seen k'.recent
     → k'.recent ≡ low_cells 8 k'.subframe → k'.subframe < 2 ^ 8
@@ -184,7 +204,8 @@ unfolding decided
 push-last k k' t c l f lw s r e1 e2 e3 e4 e5 = (
   anew k k' c l f e1 e2 e4 e5 (λ q g. let d = drop-push c l q g in ap open_at d.0 ∙ none q d.1 (cases_eq q t.at)) e3,
   answers k t c l f s ∙ ap (λ x. decided_from 0 c ++ told (0 + t.at) x) ends
-      ∙ ap (λ p. decided_from 0 c ++ report_of p (ended t.before (k.seen - t.at) (same l (at k.recent 7)) (read_words k.words)) ∷ [])
+      ∙ ap (λ p. decided_from 0 c ++ report_of p
+          (ended t.before (k.seen - t.at) (same l (at k.recent 7)) (read_words k.words)) ∷ [])
       (let y : 0 + t.at ≡ t.at = omega arith in y),
 )
   where
@@ -194,25 +215,31 @@ push-last k k' t c l f lw s r e1 e2 e3 e4 e5 = (
     off : k.seen - t.at ≡ length (drop t.at c)
     off = offset k t c f s
 
-    wrong : length (drop t.at c) < block_len → keeps (entry (drop t.at c)) (drop t.at c ++ l ∷ []) (length (drop t.at c)) ≡ false
+    wrong : length (drop t.at c) < block_len
+        → keeps (entry (drop t.at c)) (drop t.at c ++ l ∷ []) (length (drop t.at c)) ≡ false
     wrong g = sym (tested k t c l f s) ∙ r (omega (arith, off, g))
 
     none : (q : ℕ) → 8 ≤ length (drop q c) → (q ≡ t.at) ⊎ (q ≡ t.at → ⊥) → open_at (drop q c ++ l ∷ []) ≡ false
     none q g (inl e) = ap (λ q. open_at (drop q c ++ l ∷ [])) e ∙ open-ends (drop t.at c) l (hand-open k t c f s) wrong
-    none q g (inr e) = none-after c l q (false_from_ne_true (open_at (drop q c)) (λ z. e (open-only c q t.at z in-hand.opened))) g
+    none q g (inr e) =
+        none-after c l q (false_from_ne_true (open_at (drop q c)) (λ z. e (open-only c q t.at z in-hand.opened))) g
 
-    same-slots : (o : ℕ) (b : Bool) (ps qs : List (List Bool)) → (block_len ≤ o → ps ≡ qs) → ended t.before o b ps ≡ ended t.before o b qs
+    same-slots : (o : ℕ) (b : Bool) (ps qs : List (List Bool)) → (block_len ≤ o → ps ≡ qs)
+        → ended t.before o b ps ≡ ended t.before o b qs
     same-slots o b ps qs z = go (cases_lt o block_len)
       where
         go : (o < block_len) ⊎ (block_len ≤ o) → ended t.before o b ps ≡ ended t.before o b qs
         go (inl g) = let t1 = lt-ltb o block_len g in rw t1 refl
         go (inr g) = ap (ended t.before o b) (z g)
 
-    ends : decided_at (drop t.at c ++ l ∷ []) ≡ Some (ended t.before (k.seen - t.at) (same l (at k.recent 7)) (read_words k.words))
+    ends : decided_at (drop t.at c ++ l ∷ []) ≡ Some
+        (ended t.before (k.seen - t.at) (same l (at k.recent 7)) (read_words k.words))
     ends = open-decides (drop t.at c) l (hand-open k t c f s) wrong
-        ∙ ap Some (ap₂ (λ s b. ended s (length (drop t.at c)) (same l b) (read_slots block_slots (drop t.at c ++ l ∷ [])))
+        ∙ ap Some (ap₂
+            (λ s b. ended s (length (drop t.at c)) (same l b) (read_slots block_slots (drop t.at c ++ l ∷ [])))
         (sym in-hand.first) (sym (previous k t c f s (entry (drop t.at c))))
-        ∙ same-slots (length (drop t.at c)) (same l (at k.recent 7)) (read_slots block_slots (drop t.at c ++ l ∷ [])) (read_words k.words)
+        ∙ same-slots (length (drop t.at c)) (same l (at k.recent 7)) (read_slots block_slots (drop t.at c ++ l ∷ []))
+        (read_words k.words)
         (λ g. let b = block_len_64 in
         read_slots-append block_slots (drop t.at c) (l ∷ []) (omega (arith, b, g))
         ∙ sym (words-whole k.words (drop t.at c) lw g in-hand.gathered.whole))
@@ -237,10 +264,13 @@ finish-none k c f s = reports-split 0 c ∙ ap (λ x. decided_from 0 c ++ x) (fi
     none = rw s at f.candidate
 
 -- the end, where one is
-pub finish-open : (k : LockState) (t : Candidate) (c : List Level) → Follows k c → length k.words ≡ block_slots → k.candidate ≡ Some t
+pub finish-open : (k : LockState) (t : Candidate) (c : List Level) → Follows k c → length k.words ≡ block_slots
+    → k.candidate ≡ Some t
     → reports c ≡ decided c ++ report_of t.at (left t.before (k.seen - t.at) (read_words k.words)) ∷ []
 unfolding reports decided
-finish-open k t c f lw s = reports-split 0 c ∙ ap (λ x. decided_from 0 c ++ x) (final-open 0 c t.at in-hand.opened ∙ ap₂ (λ p o. report_of p o ∷ []) (omega arith) says)
+finish-open k t c f lw s = reports-split 0 c
+    ∙ ap (λ x. decided_from 0 c ++ x) (final-open 0 c t.at in-hand.opened
+        ∙ ap₂ (λ p o. report_of p o ∷ []) (omega arith) says)
   where
     in-hand : OpenAt k.subframe k.words t c
     in-hand = rw s at f.candidate
@@ -264,10 +294,12 @@ finish-open k t c f lw s = reports-split 0 c ∙ ap (λ x. decided_from 0 c ++ x
 
     says : outcome (drop t.at c) ≡ left t.before (k.seen - t.at) (read_words k.words)
     says = outcome_is (drop t.at c)
-        ∙ at-end (entry (drop t.at c)) (front (entry (drop t.at c)) (drop t.at c)) (length (drop t.at c)) _ (read_slots block_slots (drop t.at c)) (read_words k.words) o.all
+        ∙ at-end (entry (drop t.at c)) (front (entry (drop t.at c)) (drop t.at c))
+        (length (drop t.at c)) _ (read_slots block_slots (drop t.at c)) (read_words k.words) o.all
         (λ g. sym (words-whole k.words (drop t.at c) lw g in-hand.gathered.whole))
         ∙ ap₂ (λ s n. left s n (read_words k.words)) (sym in-hand.first) (sym off)
 
 -- a cell behind a whole block ends its candidate
-pub past-stops : (k : LockState) (t : Candidate) (l : Level) → k.candidate ≡ Some t → block_len ≤ k.seen - t.at → Stops k l
+pub past-stops : (k : LockState) (t : Candidate) (l : Level) → k.candidate ≡ Some t
+    → block_len ≤ k.seen - t.at → Stops k l
 past-stops k t l s h = record { in_hand = t; is = s; stop = λ g. absurd (omega (arith, g, h)) }

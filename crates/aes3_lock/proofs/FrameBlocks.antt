@@ -1,6 +1,9 @@
--- The block that the subframes of a stream from a frame on would be: its cells are those of the stream but for two in each of two
+-- The block that the subframes of a stream from a frame on would be: its cells are those of the stream but for two in
+-- each of two
 -- preambles.
-use Rattle.std.proofs.Common.{◌≡◌, ℕ, zero, suc, ◌+◌, ◌-◌, ◌*◌, ◌/◌, ◌%◌, ◌<◌, ◌≤◌, ◌⊎◌, inl, inr, List, [], ◌∷◌, ◌++◌, Bool, map, refl, length, take, drop, get_or, ap, ap₂, ◌∙◌, sym, subst, arith, length-take-le, length-drop, get_or-take, get_or-drop, eq-eqb, ne_eqb}
+use Rattle.std.proofs.Common.{◌≡◌, ℕ, zero, suc, ◌+◌, ◌-◌, ◌*◌, ◌/◌, ◌%◌, ◌<◌, ◌≤◌, ◌⊎◌, inl, inr, List, [], ◌∷◌, ◌++◌}
+use Rattle.std.proofs.Common.{Bool, map, refl, length, take, drop, get_or, ap, ap₂, ◌∙◌, sym, subst, arith}
+use Rattle.std.proofs.Common.{length-take-le, length-drop, get_or-take, get_or-drop, eq-eqb, ne_eqb}
 use Rattle.std.proofs.lemmas.Bool.{cases_eq, cases_lt}
 use Rattle.std.proofs.lemmas.List.{get_or_append_left, get_or-append-add}
 use Rattle.std.proofs.lemmas.List.Elements.{All-take, All-drop}
@@ -20,16 +23,19 @@ use Rattle.aes3_block.proofs.Runs.{Each27}
 use Rattle.aes3_block.proofs.Each.{each-payload, all-payloads}
 use Rattle.aes3_block.proofs.FileLaws.{EachBlock}
 use Rattle.aes3_lock.specs.FrameLaws.{block_from, preamble_cells}
-use Rattle.aes3_lock.proofs.Deciding.{block_len_24576}
-use Rattle.aes3_lock.proofs.Distances.{block_slots_384, block-mark, odd-mark}
+use Rattle.aes3_lock.proofs.Distances.{block-mark}
 use Rattle.aes3_lock.proofs.Exchanged.{runs-cons}
-use Rattle.aes3_lock.proofs.LawfulPieces.{payloads_in, each27-in, length-in, stream_marks, stream-line, stream-kept, stream-length, stream-level}
+use Rattle.aes3_lock.proofs.LawfulPieces.{payloads_in, each27-in, length-in, stream_marks, stream-line, stream-kept}
+use Rattle.aes3_lock.proofs.LawfulPieces.{stream-length, stream-level}
 use Rattle.aes3_lock.proofs.PlacesApart.{Has}
 use Rattle.aes3_lock.proofs.StandingBlocks.{first-mark}
+use Rattle.aes3_block.proofs.BlockLemmas.{mark_at-odd, block_slots_384}
+use Rattle.aes3_block.proofs.CellLaws.{block_len_24576}
 
 -- behind its preamble a subframe's cells are told by its payload
 payload-cell : (marks : ℕ → Mark) (s : Level) (ps : List (List Bool)) → Each27 ps → (j r : ℕ) → j < length ps → r < 56
-    → at (line s (runs_of marks (map with_parity ps))) (64 * j + (8 + r)) ≡ at (line s (bits_runs (with_parity (get_or ps j [])))) r
+    → at (line s (runs_of marks (map with_parity ps))) (64 * j + (8 + r)) ≡ at
+    (line s (bits_runs (with_parity (get_or ps j [])))) r
 payload-cell marks s [] h j r l o = absurd (omega arith)
 payload-cell marks s (p ∷ ps) h zero r l o =
     let m = length-mark s (marks 0) in
@@ -37,7 +43,8 @@ payload-cell marks s (p ∷ ps) h zero r l o =
     let e : 64 * 0 + (8 + r) ≡ length (line s (mark_runs (marks 0))) + r = omega arith in
     let f : length (line s (mark_runs (marks 0))) + r < length (line s (subframe_runs (marks 0) p)) = omega arith in
     ap₂ at (runs-cons marks s p ps h.0) e
-    ∙ get_or_append_left (line s (subframe_runs (marks 0) p)) (line s (runs_of (λ j. marks (suc j)) (map with_parity ps))) Low
+    ∙ get_or_append_left (line s (subframe_runs (marks 0) p))
+    (line s (runs_of (λ j. marks (suc j)) (map with_parity ps))) Low
     (length (line s (mark_runs (marks 0))) + r) f
     ∙ ap (λ c. at c (length (line s (mark_runs (marks 0))) + r)) (line-slots s (marks 0) (with_parity p))
     ∙ get_or-append-add (line s (mark_runs (marks 0))) (line s (bits_runs (with_parity p))) r Low
@@ -45,7 +52,8 @@ payload-cell marks s (p ∷ ps) h (suc j) r l o =
     let n = length-subframe s (marks 0) p h.0 in
     let e : 64 * suc j + (8 + r) ≡ length (line s (subframe_runs (marks 0) p)) + (64 * j + (8 + r)) = omega arith in
     ap₂ at (runs-cons marks s p ps h.0) e
-    ∙ get_or-append-add (line s (subframe_runs (marks 0) p)) (line s (runs_of (λ j. marks (suc j)) (map with_parity ps))) (64 * j + (8 + r)) Low
+    ∙ get_or-append-add (line s (subframe_runs (marks 0) p))
+    (line s (runs_of (λ j. marks (suc j)) (map with_parity ps))) (64 * j + (8 + r)) Low
     ∙ payload-cell (λ j. marks (suc j)) s ps h.1 j r (omega arith) o
 
 -- the preambles by number
@@ -59,7 +67,7 @@ later-alike j k l o h = go (cases_eq (j % 2) 0)
   where
     go : (j % 2 ≡ 0) ⊎ (j % 2 ≡ 0 → ⊥) → mark_at j ≡ mark_at k
     go (inl e) = even-mark j l e ∙ sym (even-mark k o (omega arith))
-    go (inr n) = odd-mark j (omega arith) ∙ sym (odd-mark k (omega arith))
+    go (inr n) = mark_at-odd j (omega arith) ∙ sym (mark_at-odd k (omega arith))
 
 -- X and Z differ in cells 4 and 6
 first-alike : (s : Level) (r : ℕ) → r < 8 → (r ≡ 4 → ⊥) → (r ≡ 6 → ⊥) → shape X r s ≡ shape Z r s
@@ -95,7 +103,8 @@ first-unlike s r (inr e) q = six s (ap (λ r. shape X r s) (sym e) ∙ q ∙ ap 
 pub cells-none : (p : ℕ) → p % 24576 ≡ 0 → preamble_cells p ≡ []
 cells-none p e = let q = eq-eqb (p % block_len) 0 (ap (λ n. p % n) block_len_24576 ∙ e) in rw q refl
 
-pub cells-four : (p : ℕ) → 0 < p % 24576 → preamble_cells p ≡ 4 ∷ 6 ∷ (24576 - p % 24576 + 4) ∷ (24576 - p % 24576 + 6) ∷ []
+pub cells-four : (p : ℕ) → 0 < p % 24576
+    → preamble_cells p ≡ 4 ∷ 6 ∷ (24576 - p % 24576 + 4) ∷ (24576 - p % 24576 + 6) ∷ []
 cells-four p o =
     let m = ap (λ n. p % n) block_len_24576 in
     let f : block_len - p % block_len ≡ 24576 - p % 24576 = ap₂ (λ m n. m - n) block_len_24576 m in
@@ -115,11 +124,13 @@ has-preamble p x f h = go (cases_eq (p % 24576) 0)
     go (inl e) = absurd (subst (Has x) (cells-none p e) h)
     go (inr n) = by (subst (Has x) (cells-four p (omega arith)) h)
       where
-        by : (x ≡ 4) ⊎ ((x ≡ 6) ⊎ ((x ≡ 24576 - p % 24576 + 4) ⊎ ((x ≡ 24576 - p % 24576 + 6) ⊎ ⊥))) → IsPreambleCell p x
+        by : (x ≡ 4) ⊎ ((x ≡ 6) ⊎ ((x ≡ 24576 - p % 24576 + 4) ⊎ ((x ≡ 24576 - p % 24576 + 6) ⊎ ⊥)))
+            → IsPreambleCell p x
         by (inl e) = record { other = omega arith; subframe = inl (omega arith); cell = inl (omega arith) }
         by (inr (inl e)) = record { other = omega arith; subframe = inl (omega arith); cell = inr (omega arith) }
         by (inr (inr (inl e))) = record { other = omega arith; subframe = inr (omega arith); cell = inl (omega arith) }
-        by (inr (inr (inr (inl e)))) = record { other = omega arith; subframe = inr (omega arith); cell = inr (omega arith) }
+        by (inr (inr (inr (inl e)))) = record { other = omega arith; subframe = inr (omega arith);
+            cell = inr (omega arith) }
         by (inr (inr (inr (inr e)))) = absurd e
 
 pub preamble-has : (p x : ℕ) → IsPreambleCell p x → Has x (preamble_cells p)
@@ -136,7 +147,8 @@ payloads-flat : (bs : List (List (List Bool))) → flat_map (λ b. b) bs ≡ pay
 payloads-flat [] = refl
 payloads-flat (b ∷ bs) = ap (λ ps. b ++ ps) (payloads-flat bs)
 
-module _ (s : Level) (bs : List (List (List Bool))) (h : EachBlock bs) (p : ℕ) (frame : p % 128 ≡ 0) (room : p + block_len ≤ length (stream s bs)) where
+module _ (s : Level) (bs : List (List (List Bool))) (h : EachBlock bs) (p : ℕ) (frame : p % 128 ≡ 0)
+    (room : p + block_len ≤ length (stream s bs)) where
   enough : p / 64 + 384 ≤ length (payloads_in bs)
   enough =
       let l = length-in bs h in
@@ -162,7 +174,8 @@ module _ (s : Level) (bs : List (List (List Bool))) (h : EachBlock bs) (p : ℕ)
       })
 
   -- behind the preambles it has the cells of the stream
-  slot-alike : (j r : ℕ) → j < 384 → r < 56 → at (stream s bs) (p + (64 * j + (8 + r))) ≡ at (block_cells s (block_from p bs)) (64 * j + (8 + r))
+  slot-alike : (j r : ℕ) → j < 384 → r < 56
+      → at (stream s bs) (p + (64 * j + (8 + r))) ≡ at (block_cells s (block_from p bs)) (64 * j + (8 + r))
   unfolding block_cells
   slot-alike j r l o =
       let e = enough in
@@ -180,14 +193,16 @@ module _ (s : Level) (bs : List (List (List Bool))) (h : EachBlock bs) (p : ℕ)
       ∙ sym (payload-cell mark_at s (block_from p bs) (each-payload (block_from p bs) g.payloads) j r (omega arith) o)
 
   -- and in them those of other preambles
-  stream-mark : (j r : ℕ) → j < 384 → r < 8 → at (stream s bs) (p + (64 * j + r)) ≡ shape (stream_marks (p / 64 + j)) r s
+  stream-mark : (j r : ℕ) → j < 384 → r < 8
+      → at (stream s bs) (p + (64 * j + r)) ≡ shape (stream_marks (p / 64 + j)) r s
   stream-mark j r l o =
       let e = enough in
       let n = stream-length s bs h in
       let m = length-in bs h in
       let f = frame in
       let i : p + (64 * j + r) ≡ 64 * (p / 64 + j) + r = omega arith in
-      ap (at (stream s bs)) i ∙ own-cell stream_marks s (stream s bs) (stream-kept s bs h) (p / 64 + j) r (omega arith) o
+      ap (at (stream s bs)) i ∙ own-cell stream_marks s (stream s bs) (stream-kept s bs h) (p / 64 + j) r
+      (omega arith) o
       ∙ ap (shape (stream_marks (p / 64 + j)) r) (stream-level s bs h (p / 64 + j) (omega arith))
 
   own-mark : (j r : ℕ) → j < 384 → r < 8 → at (block_cells s (block_from p bs)) (64 * j + r) ≡ shape (mark_at j) r s
@@ -197,7 +212,8 @@ module _ (s : Level) (bs : List (List (List Bool))) (h : EachBlock bs) (p : ℕ)
   unfolding block_slots
   stream-number j m e = ap mark_at e
 
-  marks-alike : (j : ℕ) → j < 384 → ((p % 24576 ≡ 0 → ⊥) → (j ≡ 0 → ⊥) × (p % 24576 + 64 * j ≡ 24576 → ⊥)) → stream_marks (p / 64 + j) ≡ mark_at j
+  marks-alike : (j : ℕ) → j < 384 → ((p % 24576 ≡ 0 → ⊥) → (j ≡ 0 → ⊥) × (p % 24576 + 64 * j ≡ 24576 → ⊥))
+      → stream_marks (p / 64 + j) ≡ mark_at j
   marks-alike j l n = go (cases_eq (p % 24576) 0)
     where
       go : (p % 24576 ≡ 0) ⊎ (p % 24576 ≡ 0 → ⊥) → stream_marks (p / 64 + j) ≡ mark_at j
@@ -217,8 +233,10 @@ module _ (s : Level) (bs : List (List (List Bool))) (h : EachBlock bs) (p : ℕ)
           positive zero h = absurd (h refl)
           positive (suc n) h = omega arith
 
-  pub own-alike : (x : ℕ) → x < block_len → (Has x (preamble_cells p) → ⊥) → at (stream s bs) (p + x) ≡ at (block_cells s (block_from p bs)) x
-  own-alike x l n = ap (λ y. at (stream s bs) (p + y)) (sym parts) ∙ go (cases_lt (x % 64) 8) ∙ ap (at (block_cells s (block_from p bs))) parts
+  pub own-alike : (x : ℕ) → x < block_len → (Has x (preamble_cells p) → ⊥)
+      → at (stream s bs) (p + x) ≡ at (block_cells s (block_from p bs)) x
+  own-alike x l n = ap (λ y. at (stream s bs) (p + y)) (sym parts) ∙ go (cases_lt (x % 64) 8)
+      ∙ ap (at (block_cells s (block_from p bs))) parts
     where
       parts : 64 * (x / 64) + x % 64 ≡ x
       parts = omega arith
@@ -227,7 +245,8 @@ module _ (s : Level) (bs : List (List (List Bool))) (h : EachBlock bs) (p : ℕ)
       within = let m = block_len_24576 in omega arith
 
       go : (x % 64 < 8) ⊎ (8 ≤ x % 64)
-          → at (stream s bs) (p + (64 * (x / 64) + x % 64)) ≡ at (block_cells s (block_from p bs)) (64 * (x / 64) + x % 64)
+          → at (stream s bs) (p + (64 * (x / 64) + x % 64)) ≡ at (block_cells s (block_from p bs))
+          (64 * (x / 64) + x % 64)
       go (inr o) =
           let e : x % 64 ≡ 8 + (x % 64 - 8) = omega arith in
           ap (λ r. at (stream s bs) (p + (64 * (x / 64) + r))) e ∙ slot-alike (x / 64) (x % 64 - 8) within (omega arith)
@@ -251,7 +270,8 @@ module _ (s : Level) (bs : List (List (List Bool))) (h : EachBlock bs) (p : ℕ)
           by (inr a) (inl b) c =
               let f = frame in
               let d : 0 < p % 24576 = omega arith in
-              let e = stream-number (x / 64) ((p / 64 + x / 64) % 384) refl ∙ even-mark ((p / 64 + x / 64) % 384) (omega arith) (omega arith) in
+              let e = stream-number (x / 64) ((p / 64 + x / 64) % 384) refl
+              ∙ even-mark ((p / 64 + x / 64) % 384) (omega arith) (omega arith) in
               ap (λ m. shape m (x % 64) s) e ∙ first-alike s (x % 64) o (not-four d (inl b)) (not-six d (inl b))
               ∙ ap (λ m. shape m (x % 64) s) (sym (ap mark_at b ∙ first-mark))
           by (inr a) (inr b) (inl c) =
@@ -261,8 +281,11 @@ module _ (s : Level) (bs : List (List (List Bool))) (h : EachBlock bs) (p : ℕ)
               ap (λ m. shape m (x % 64) s) e ∙ sym (first-alike s (x % 64) o (not-four d (inr c)) (not-six d (inr c)))
               ∙ ap (λ m. shape m (x % 64) s) (sym (even-mark (x / 64) (omega arith) (omega arith)))
 
-  pub own-unlike : (x : ℕ) → Has x (preamble_cells p) → (x < block_len) × (at (stream s bs) (p + x) ≡ at (block_cells s (block_from p bs)) x → ⊥)
-  own-unlike x m = (within, λ q. go r.subframe r.cell (ap (λ y. at (stream s bs) (p + y)) parts ∙ q ∙ ap (at (block_cells s (block_from p bs))) (sym parts)))
+  pub own-unlike : (x : ℕ) → Has x (preamble_cells p) → (x < block_len)
+      × (at (stream s bs) (p + x) ≡ at (block_cells s (block_from p bs)) x → ⊥)
+  own-unlike x m =
+      (within, λ q. go r.subframe r.cell (ap (λ y. at (stream s bs) (p + y)) parts ∙ q
+          ∙ ap (at (block_cells s (block_from p bs))) (sym parts)))
     where
       r : IsPreambleCell p x
       r = has-preamble p x frame m
@@ -282,14 +305,17 @@ module _ (s : Level) (bs : List (List (List Bool))) (h : EachBlock bs) (p : ℕ)
       small (inr e) = omega arith
 
       go : (x / 64 ≡ 0) ⊎ (p % 24576 + 64 * (x / 64) ≡ 24576) → (c : (x % 64 ≡ 4) ⊎ (x % 64 ≡ 6))
-          → at (stream s bs) (p + (64 * (x / 64) + x % 64)) ≡ at (block_cells s (block_from p bs)) (64 * (x / 64) + x % 64) → ⊥
+          → at (stream s bs) (p + (64 * (x / 64) + x % 64)) ≡ at (block_cells s (block_from p bs))
+          (64 * (x / 64) + x % 64) → ⊥
       go (inl b) c q =
           let f = frame in
           let o = r.other in
-          let e = stream-number (x / 64) ((p / 64 + x / 64) % 384) refl ∙ even-mark ((p / 64 + x / 64) % 384) (omega arith) (omega arith) in
+          let e = stream-number (x / 64) ((p / 64 + x / 64) % 384) refl
+          ∙ even-mark ((p / 64 + x / 64) % 384) (omega arith) (omega arith) in
           first-unlike s (x % 64) c
           (ap (λ m. shape m (x % 64) s) (sym e) ∙ sym (stream-mark (x / 64) (x % 64) (below (inl b)) (small c)) ∙ q
-          ∙ own-mark (x / 64) (x % 64) (below (inl b)) (small c) ∙ ap (λ m. shape m (x % 64) s) (ap mark_at b ∙ first-mark))
+          ∙ own-mark (x / 64) (x % 64) (below (inl b)) (small c)
+          ∙ ap (λ m. shape m (x % 64) s) (ap mark_at b ∙ first-mark))
       go (inr b) c q =
           let f = frame in
           let o = r.other in

@@ -1,6 +1,9 @@
--- What any changed cells of a piece of a lawful stream leave at a frame: the law of changed cells of a block, of the block that its
+-- What any changed cells of a piece of a lawful stream leave at a frame: the law of changed cells of a block, of the
+-- block that its
 -- subframes would be.
-use Rattle.std.proofs.Common.{map, ◌≡◌, ℕ, suc, ◌+◌, ◌-◌, ◌*◌, ◌%◌, ◌<◌, ◌≤◌, ◌↔◌, ◌⊎◌, inl, inr, List, [], ◌∷◌, ◌++◌, Bool, true, false, ◌==◌, length, take, drop, get_or, ap, ◌∙◌, sym, subst, arith, length-take, length-drop, length-append, take_at, get_or-take, get_or-drop}
+use Rattle.std.proofs.Common.{map, ◌≡◌, ℕ, suc, ◌+◌, ◌-◌, ◌*◌, ◌%◌, ◌<◌, ◌≤◌, ◌↔◌, ◌⊎◌, inl, inr, List, [], ◌∷◌, ◌++◌}
+use Rattle.std.proofs.Common.{Bool, true, false, ◌==◌, length, take, drop, get_or, ap, ◌∙◌, sym, subst, arith}
+use Rattle.std.proofs.Common.{length-take, length-drop, length-append, take_at, get_or-take, get_or-drop}
 use Rattle.std.proofs.lemmas.Bool.{cases_lt}
 use Rattle.std.proofs.lemmas.List.{get_or_append_left, get_or-append-add}
 use Rattle.std.proofs.lemmas.List.Elements.{All-contains, Contains-get_or}
@@ -11,10 +14,11 @@ use Rattle.aes3_cell.proofs.Runs.{other_ne}
 use Rattle.aes3_slot.specs.Rules.{at, before}
 use Rattle.aes3_block.specs.Blocks.{block_len, block_cells, stream}
 use Rattle.aes3_block.proofs.FileLaws.{each-block}
-use Rattle.aes3_block.proofs.CellLaws.{length-block_cells}
+use Rattle.aes3_block.proofs.CellLaws.{length-block_cells, block_len_24576}
 use Rattle.aes3_lock.specs.Damage.{apart, places_apart}
 use Rattle.aes3_lock.specs.Remains.{left_of}
-use Rattle.aes3_lock.specs.FrameLaws.{block_from, preamble_cells, all_but, changes_from, IsLeftFrom, IsLeftAt, AreAllLeft}
+use Rattle.aes3_lock.specs.FrameLaws.{block_from, preamble_cells, all_but, changes_from, IsLeftFrom, IsLeftAt}
+use Rattle.aes3_lock.specs.FrameLaws.{AreAllLeft}
 use Rattle.aes3_lock.specs.Laws.{PlacedBlock}
 use Rattle.aes3_lock.specs.Pieces.{IsPiece}
 use Rattle.aes3_lock.specs.Reports.{blocks}
@@ -25,14 +29,15 @@ use Rattle.aes3_lock.proofs.Bridges.{begun}
 use Rattle.aes3_lock.proofs.ChangedPlaces.{contains-has, has-contains, any-has, has-any, places-but, in-pairs}
 use Rattle.aes3_lock.proofs.Damaged.{piece-cell}
 use Rattle.aes3_lock.proofs.DamageLaws.{length-of, few-frames}
-use Rattle.aes3_lock.proofs.Deciding.{block_len_24576}
-use Rattle.aes3_lock.proofs.Distances.{block-level, block_slots_384}
+use Rattle.aes3_lock.proofs.Distances.{block-level}
 use Rattle.aes3_lock.proofs.Exchanged.{Between}
 use Rattle.aes3_lock.proofs.FrameBlocks.{IsPreambleCell, has-preamble, from-block, own-alike, own-unlike}
-use Rattle.aes3_lock.proofs.OwnPlace.{equal-levels}
 use Rattle.aes3_lock.proofs.PlacesApart.{Has, places-has, has-places}
+use Rattle.aes3_block.proofs.BlockLemmas.{block_slots_384}
+use Rattle.aes3_slot.proofs.Distance.{equal-or}
 
-module _ (s : Level) (bs : List (List (List Bool))) (i j : ℕ) (c e : List Level) (p : IsPiece s bs i j c) (same : length e ≡ length c)
+module _ (s : Level) (bs : List (List (List Bool))) (i j : ℕ) (c e : List Level) (p : IsPiece s bs i j c)
+    (same : length e ≡ length c)
     (q : ℕ) (frame : (i + q) % 128 ≡ 0) (room : q + block_len ≤ length c) where
   abbrev here : List (List Bool)
   here = block_from (i + q) bs
@@ -54,7 +59,8 @@ module _ (s : Level) (bs : List (List (List Bool))) (i j : ℕ) (c e : List Leve
   piece-length = length-of s bs i j c p
 
   reach : i + q + block_len ≤ length (stream s bs)
-  reach = let n = piece-length in let w = p.within in let r = room in let o = p.order in let m = block_len_24576 in omega arith
+  reach = let n = piece-length in let w = p.within in let r = room in let o = p.order in
+      let m = block_len_24576 in omega arith
 
   streamed : (x : ℕ) → q + x < length c → at c (q + x) ≡ at (stream s bs) (i + q + x)
   streamed x l =
@@ -75,7 +81,8 @@ module _ (s : Level) (bs : List (List (List Bool))) (i j : ℕ) (c e : List Leve
       omega arith
 
   framed-own : (x : ℕ) → x < block_len → at framed x ≡ at (block_cells s here) x
-  framed-own x l = let n = here-length in get_or_append_left (block_cells s here) (drop block_len (drop q c)) Low x (omega arith)
+  framed-own x l = let n = here-length in
+      get_or_append_left (block_cells s here) (drop block_len (drop q c)) Low x (omega arith)
 
   framed-next : at framed block_len ≡ at c (q + block_len)
   framed-next =
@@ -110,9 +117,11 @@ module _ (s : Level) (bs : List (List (List Bool))) (i j : ℕ) (c e : List Leve
       }
 
   now-length : length (drop q e) ≡ length framed
-  now-length = let a = framed-length in let b = length-drop q c in let d = length-drop q e in let m = same in omega arith
+  now-length = let a = framed-length in let b = length-drop q c in let d = length-drop q e in
+      let m = same in omega arith
 
-  lengths : (length was ≡ length as-block) × (length was ≡ length now) × (length was ≤ suc block_len) × (q + length was ≤ length c)
+  lengths : (length was ≡ length as-block) × (length was ≡ length now) × (length was ≤ suc block_len)
+      × (q + length was ≤ length c)
   lengths =
       let a = length-take (suc block_len) (drop q c) in
       let b = length-take (suc block_len) (drop q e) in
@@ -148,12 +157,14 @@ module _ (s : Level) (bs : List (List (List Bool))) (i j : ℕ) (c e : List Leve
     where
       go : (x < block_len) ⊎ (block_len ≤ x) → at was x ≡ at as-block x
       go (inl o) =
-          was-at x l ∙ own-alike s bs (each-block bs p.blocks) (i + q) frame reach x o n ∙ sym (framed-own x o) ∙ sym (as-at x l)
+          was-at x l ∙ own-alike s bs (each-block bs p.blocks) (i + q) frame reach x o n ∙ sym (framed-own x o)
+          ∙ sym (as-at x l)
       go (inr o) =
           let a = lengths.2 in
           let b = lengths.3 in
           let f : x ≡ block_len = omega arith in
-          was-at x l ∙ sym (streamed x (omega arith)) ∙ ap (λ x. at c (q + x)) f ∙ sym framed-next ∙ ap (at framed) (sym f) ∙ sym (as-at x l)
+          was-at x l ∙ sym (streamed x (omega arith)) ∙ ap (λ x. at c (q + x)) f ∙ sym framed-next
+          ∙ ap (at framed) (sym f) ∙ sym (as-at x l)
 
   abbrev own : ℕ → Bool
   own x = list_any (λ y. y == x) (preamble_cells (i + q))
@@ -166,19 +177,23 @@ module _ (s : Level) (bs : List (List (List Bool))) (i j : ℕ) (c e : List Leve
       let f : 0 + x ≡ x = omega arith in
       let m = any-has (preamble_cells (i + q)) x (ap own (sym f) ∙ t) in
       ((unlike x m).1, changed x m))
-      (λ x l t. alike x l (λ m. let f : 0 + x ≡ x = omega arith in let r : true ≡ false = sym (has-any (preamble_cells (i + q)) x m) ∙ ap own (sym f) ∙ t in cc))
+      (λ x l t. alike x l
+          (λ m. let f : 0 + x ≡ x = omega arith in let r : true ≡ false = sym (has-any (preamble_cells (i + q)) x m)
+              ∙ ap own (sym f) ∙ t in cc))
     where
       changed : (x : ℕ) → Has x (preamble_cells (i + q)) → at was x ≡ at now x → ⊥
       changed x m =
-          let k = All-contains (Contains (changes_from q c e)) (preamble_cells (i + q)) x a (has-contains (preamble_cells (i + q)) x m) in
+          let k = All-contains (Contains (changes_from q c e)) (preamble_cells (i + q)) x a
+          (has-contains (preamble_cells (i + q)) x m) in
           let r = has-places 0 x was now (contains-has (changes_from q c e) x k) in
           let f : r.0 ≡ x = (let g = r.1 in omega arith) in
           subst (λ z. at was z ≡ at now z → ⊥) f r.3
 
   module _ (d : List (List Bool)) where
     -- a block that stands has its own preambles
-    own-changed : left_of (places_apart 0 as-block now) here ≡ d ∷ [] → (x : ℕ) → Has x (preamble_cells (i + q)) → Has x (changes_from q c e)
-    own-changed t x m = go (equal-levels (at was x) (at now x))
+    own-changed : left_of (places_apart 0 as-block now) here ≡ d ∷ [] → (x : ℕ) → Has x (preamble_cells (i + q))
+        → Has x (changes_from q c e)
+    own-changed t x m = go (equal-or (at was x) (at now x))
       where
         f : 0 + x ≡ x
         f = omega arith
@@ -201,7 +216,9 @@ module _ (s : Level) (bs : List (List (List Bool))) (i j : ℕ) (c e : List Leve
             let u = (unlike x m).0 in
             let v = lengths.0 in
             let y = places-has 0 x as-block now (omega arith) (sym lengths.0 ∙ lengths.1) (apart-there a) in
-            absurd (single (in-pairs (places_apart 0 as-block now) here d t x (subst (λ z. Has z (places_apart 0 as-block now)) f y)) r.cell)
+            absurd (single
+                (in-pairs (places_apart 0 as-block now) here d t x
+                    (subst (λ z. Has z (places_apart 0 as-block now)) f y)) r.cell)
 
     pub frame-told : StandsClosed d s (drop q e) ↔ IsLeftFrom (i + q) bs (changes_from q c e) d
     frame-told = (to, from)
@@ -213,16 +230,19 @@ module _ (s : Level) (bs : List (List (List Bool))) (i j : ℕ) (c e : List Leve
         all-changed w k y l =
             has-contains (changes_from q c e) (get_or (preamble_cells (i + q)) k y)
             (own-changed (tell.0 w) (get_or (preamble_cells (i + q)) k y)
-            (contains-has (preamble_cells (i + q)) (get_or (preamble_cells (i + q)) k y) (Contains-get_or (preamble_cells (i + q)) k y l)))
+            (contains-has (preamble_cells (i + q)) (get_or (preamble_cells (i + q)) k y)
+                (Contains-get_or (preamble_cells (i + q)) k y l)))
 
         to : StandsClosed d s (drop q e) → IsLeftFrom (i + q) bs (changes_from q c e) d
-        to w = record { preambles = all-changed w; pairs = ap (λ ys. left_of ys here) (sym (others (all-changed w))) ∙ tell.0 w }
+        to w = record { preambles = all-changed w; pairs = ap (λ ys. left_of ys here) (sym (others (all-changed w)))
+            ∙ tell.0 w }
 
         from : IsLeftFrom (i + q) bs (changes_from q c e) d → StandsClosed d s (drop q e)
         from r = tell.1 (ap (λ ys. left_of ys here) (others r.preambles) ∙ r.pairs)
 
 -- where few cells change, all blocks
-pub blocks-told : (s : Level) (bs : List (List (List Bool))) (i j : ℕ) (c e : List Level) → IsPiece s bs i j c → length e ≡ length c → apart c e ≤ 383
+pub blocks-told : (s : Level) (bs : List (List (List Bool))) (i j : ℕ) (c e : List Level) → IsPiece s bs i j c
+    → length e ≡ length c → apart c e ≤ 383
     → (q : ℕ) (d : List (List Bool)) (t : Level) → StandsClosed d t (drop q e) ↔ IsLeftAt q s bs i c e d t
 blocks-told s bs i j c e p l a q d t = (to, from)
   where
@@ -241,9 +261,11 @@ blocks-told s bs i j c e p l a q d t = (to, from)
         }
 
     from : IsLeftAt q s bs i c e d t → StandsClosed d t (drop q e)
-    from r = subst (λ t. StandsClosed d t (drop q e)) (sym r.level) ((frame-told s bs i j c e p l q r.frame r.room d).1 r.left)
+    from r = subst (λ t. StandsClosed d t (drop q e)) (sym r.level)
+        ((frame-told s bs i j c e p l q r.frame r.room d).1 r.left)
 
-pub blocks-left : (s : Level) (bs : List (List (List Bool))) (i j : ℕ) (c e : List Level) → IsPiece s bs i j c → length e ≡ length c → apart c e ≤ 383
+pub blocks-left : (s : Level) (bs : List (List (List Bool))) (i j : ℕ) (c e : List Level) → IsPiece s bs i j c
+    → length e ≡ length c → apart c e ≤ 383
     → (found : List PlacedBlock) × AreAllLeft found s bs i c e × (blocks e ≡ map (λ f. f.block) found)
 blocks-left s bs i j c e p l a =
     let r = blocks-all_standing e in (

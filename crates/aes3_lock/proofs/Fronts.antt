@@ -1,5 +1,6 @@
 -- How far the rule holds.
-use Rattle.std.proofs.Common.{◌≡◌, ℕ, ◌+◌, ◌*◌, ◌/◌, ◌<◌, ◌≤◌, ◌⊎◌, inl, inr, min, List, ◌++◌, true, false, refl, length, ap, ◌∙◌, sym, arith, length-append, true≢false}
+use Rattle.std.proofs.Common.{◌≡◌, ℕ, ◌+◌, ◌*◌, ◌/◌, ◌<◌, ◌≤◌, ◌⊎◌, inl, inr, min, List, ◌++◌, true, false, refl}
+use Rattle.std.proofs.Common.{length, ap, ◌∙◌, sym, arith, length-append, true≢false}
 use Rattle.std.proofs.lemmas.Bool.{cases_order}
 use Rattle.std.proofs.lemmas.List.{get_or_append_left}
 use Rattle.std.proofs.lemmas.List.Sums.{prefix_len_passes, prefix_len_stops, prefix_len-le-length}
@@ -18,7 +19,8 @@ unfolding keeps
 keeps-append s c d i h =
     let f : at (c ++ d) i ≡ at c i = get_or_append_left c d Low i h in
     let g1 : before s (c ++ d) i ≡ before s c i = before-append_left s c d i (omega arith) in
-    let g2 : before s (c ++ d) (64 * (i / 64)) ≡ before s c (64 * (i / 64)) = before-append_left s c d (64 * (i / 64)) (omega arith) in
+    let g2 : before s (c ++ d) (64 * (i / 64)) ≡ before s c (64 * (i / 64)) =
+        before-append_left s c d (64 * (i / 64)) (omega arith) in
     rw (f, g1, g2) refl
 
 -- the test and the rule
@@ -44,7 +46,8 @@ front-is s c =
     let z : (i : ℕ) → 0 + i ≡ i = λ i. omega arith in
     record {
       within = omega (arith, l, w);
-      kept = λ i h. ap (keeps s c) (sym (get_or-range_with_len 0 (min block_len (length c)) i 0 (omega (arith, l, w, h)) ∙ z i))
+      kept = λ i h. ap (keeps s c)
+          (sym (get_or-range_with_len 0 (min block_len (length c)) i 0 (omega (arith, l, w, h)) ∙ z i))
           ∙ prefix_len_passes (keeps s c) (range_with_len 0 (min block_len (length c))) i 0 h;
       stops = λ h. ap (keeps s c) (sym (get_or-range_with_len 0 (min block_len (length c)) _ 0 h ∙ z _))
           ∙ prefix_len_stops (keeps s c) (range_with_len 0 (min block_len (length c))) 0 (omega (arith, l, h));

@@ -1,5 +1,6 @@
 -- The bits of the subframes whose cells were gathered.
-use Rattle.std.proofs.Common.{◌≡◌, ℕ, zero, suc, ◌+◌, ◌*◌, ◌<◌, ◌≤◌, List, [], ◌∷◌, refl, length, take, drop, get_or, ap, ap₂, ◌∙◌, sym, arith, length-drop, drop-drop}
+use Rattle.std.proofs.Common.{◌≡◌, ℕ, zero, suc, ◌+◌, ◌*◌, ◌<◌, ◌≤◌, List, [], ◌∷◌, refl, length, take, drop, get_or}
+use Rattle.std.proofs.Common.{ap, ap₂, ◌∙◌, sym, arith, length-drop, drop-drop}
 use Rattle.std.proofs.lemmas.List.{drop-take}
 use Rattle.aes3_cell.specs.declared.level.Level.{Level}
 use Rattle.aes3_cell.specs.Words.{word_cells}
@@ -20,7 +21,8 @@ words-from (suc n) (w ∷ words) d l h f =
     (ap (λ c. read_bits (drop 8 c)) (f 0 (omega arith)) ∙ ap read_bits (drop-take 8 56 d))
     (words-from n words (drop 64 d) (omega arith) (omega (arith, l64, h))
     (λ j g. f (suc j) (omega arith)
-    ∙ ap (take 64) (ap (λ i. drop i d) (let y : 64 * suc j ≡ 64 + 64 * j = omega arith in y) ∙ sym (drop-drop (64 * j) 64 d))))
+    ∙ ap (take 64) (ap (λ i. drop i d) (let y : 64 * suc j ≡ 64 + 64 * j = omega arith in y)
+        ∙ sym (drop-drop (64 * j) 64 d))))
 
 pub words-whole : (words : List ℕ) (d : List Level) → length words ≡ block_slots → block_len ≤ length d → Filled words d
     → read_words words ≡ read_slots block_slots d

@@ -1,5 +1,8 @@
 -- The blocks of a lawful stream into which a cell is put.
-use Rattle.std.proofs.Common.{◌≡◌, ℕ, suc, ◌+◌, ◌-◌, ◌%◌, ◌<◌, ◌≤◌, ◌⊎◌, inl, inr, List, [], ◌∷◌, ◌++◌, Bool, ◌&&◌, ◌||◌, ◌==◌, cond, leb, ltb, refl, length, take, drop, ap, ap₂, ◌∙◌, sym, subst, arith, length-take-le, length-take, length-drop, get_or-take, get_or-drop, ext_get_or, le-leb, le-ltb, lt-ltb, eq-eqb, ne_eqb}
+use Rattle.std.proofs.Common.{◌≡◌, ℕ, suc, ◌+◌, ◌-◌, ◌%◌, ◌<◌, ◌≤◌, ◌⊎◌, inl, inr, List, [], ◌∷◌, ◌++◌, Bool, ◌&&◌}
+use Rattle.std.proofs.Common.{◌||◌, ◌==◌, cond, leb, ltb, refl, length, take, drop, ap, ap₂, ◌∙◌, sym, subst, arith}
+use Rattle.std.proofs.Common.{length-take-le, length-take, length-drop, get_or-take, get_or-drop, ext_get_or, le-leb}
+use Rattle.std.proofs.Common.{le-ltb, lt-ltb, eq-eqb, ne_eqb}
 use Rattle.std.specs.List.{All}
 use Rattle.std.proofs.lemmas.Bool.{cases_eq, cases_lt, lt-leb}
 use Rattle.aes3_cell.specs.declared.level.Level.{Level}
@@ -10,7 +13,7 @@ use Rattle.aes3_slot.specs.Reading.{differs}
 use Rattle.aes3_slot.specs.Rules.{at}
 use Rattle.aes3_block.specs.Blocks.{block_len, block_cells, stream, IsBlock}
 use Rattle.aes3_block.proofs.FileLaws.{EachBlock, each-block}
-use Rattle.aes3_block.proofs.CellLaws.{length-block_cells}
+use Rattle.aes3_block.proofs.CellLaws.{length-block_cells, block_len_24576}
 use Rattle.aes3_lock.specs.Damage.{inserted}
 use Rattle.aes3_lock.specs.Remains.{after_insertion}
 use Rattle.aes3_lock.specs.Pieces.{given_within, given_blocks}
@@ -20,17 +23,20 @@ use Rattle.aes3_lock.proofs.AllStanding.{closed-room}
 use Rattle.aes3_lock.proofs.Apart.{differs-true, differs-false, other-of}
 use Rattle.aes3_lock.proofs.Damaged.{own-stays}
 use Rattle.aes3_lock.proofs.DamageLaws.{stands-local}
-use Rattle.aes3_lock.proofs.Deciding.{block_len_24576}
-use Rattle.aes3_lock.proofs.Distances.{block-level, block_slots_384}
+use Rattle.aes3_lock.proofs.Distances.{block-level}
 use Rattle.aes3_lock.proofs.Given.{gather-given, gather-same}
 use Rattle.aes3_lock.proofs.LawfulPieces.{stream-length}
 use Rattle.aes3_lock.proofs.Lost.{far}
-use Rattle.aes3_lock.proofs.OwnPlace.{equal-levels}
 use Rattle.aes3_lock.proofs.PlaceBlocks.{block_here, blocks-collect, here-none, here-some, here-any}
 use Rattle.aes3_lock.proofs.Places.{gather, collect-gather, gather-add}
-use Rattle.aes3_lock.proofs.InsertedCells.{length-inserted, inserted-before, inserted-there, inserted-behind, drop-inserted, run-cell, last-cell, in-middle, in-last, begun, in-run, of-run, as-stream}
+use Rattle.aes3_lock.proofs.InsertedCells.{length-inserted, inserted-before, inserted-there, inserted-behind}
+use Rattle.aes3_lock.proofs.InsertedCells.{drop-inserted, run-cell, last-cell, in-middle, in-last, begun, in-run}
+use Rattle.aes3_lock.proofs.InsertedCells.{of-run, as-stream}
+use Rattle.aes3_block.proofs.BlockLemmas.{block_slots_384}
+use Rattle.aes3_slot.proofs.Distance.{equal-or}
 
-module _ (s : Level) (bs : List (List (List Bool))) (h : EachBlock bs) (k : ℕ) (x : Level) (within : k ≤ length (stream s bs)) where
+module _ (s : Level) (bs : List (List (List Bool))) (h : EachBlock bs) (k : ℕ) (x : Level)
+    (within : k ≤ length (stream s bs)) where
   abbrev grown : List Level
   grown = inserted k x (stream s bs)
 
@@ -92,7 +98,8 @@ module _ (s : Level) (bs : List (List (List Bool))) (h : EachBlock bs) (k : ℕ)
           let e : block_len ≡ suc 24575 = omega arith in
           let i : block_len - 1 ≡ 24575 = omega arith in
           z.closed.turns (omega arith)
-          (ap (at (drop q grown)) e ∙ late-cell q 24575 (omega arith) ∙ last-cell s bs h (q + 24575) (omega arith) (omega arith)
+          (ap (at (drop q grown)) e ∙ late-cell q 24575 (omega arith)
+              ∙ last-cell s bs h (q + 24575) (omega arith) (omega arith)
           ∙ sym (ap (at (drop q grown)) i ∙ sym (cell 24575 (omega arith)) ∙ last ∙ w.1))
 
       in-front : (a : k - q < 8) → (q % 24576 ≡ 1)
@@ -110,9 +117,11 @@ module _ (s : Level) (bs : List (List (List Bool))) (h : EachBlock bs) (k : ℕ)
               let u = enough in
               let b = begins in
               let n = length-block_cells t d z.block in
-              let o = length-take-le block_len (drop (q - 1) (stream s bs)) (let y = length-drop (q - 1) (stream s bs) in omega arith) in
+              let o = length-take-le block_len (drop (q - 1) (stream s bs))
+              (let y = length-drop (q - 1) (stream s bs) in omega arith) in
               ext_get_or Low (take block_len (drop (q - 1) (stream s bs))) (block_cells t d) (o ∙ sym n)
-              (λ y l. get_or-take block_len (drop (q - 1) (stream s bs)) y Low (omega arith) ∙ get_or-drop (q - 1) (stream s bs) y Low
+              (λ y l. get_or-take block_len (drop (q - 1) (stream s bs)) y Low (omega arith)
+                  ∙ get_or-drop (q - 1) (stream s bs) y Low
               ∙ sym (as-stream s bs h d t z.block q (k - q) x few enough early there late a y (omega arith)))
 
           by : ((q - 1) % 24576 ≡ 0) ⊎ ((q - 1) % 24576 ≡ 0 → ⊥) → q % 24576 ≡ 1
@@ -162,16 +171,22 @@ module _ (s : Level) (bs : List (List (List Bool))) (h : EachBlock bs) (k : ℕ)
       let n = length (stream s bs) - u in
       let own = λ (q : ℕ). block_here 0 (drop q grown) in
       let a : length (stream s bs) ≡ suc k - block_len + (length (stream s bs) - (suc k - block_len)) = omega arith in
-      let b : length grown ≡ suc k - block_len + suc (length (stream s bs) - (suc k - block_len)) = (let e = grown-length in omega arith) in
+      let b : length grown ≡ suc k - block_len + suc (length (stream s bs) - (suc k - block_len)) =
+          (let e = grown-length in omega arith) in
       blocks-collect 0 grown
       ∙ collect-gather block_here (λ q. block_here 0 (drop q grown)) 0 0 grown
-      (λ q l. let z : 0 + q ≡ q = omega arith in here-any (0 + q) 0 (drop q grown) ∙ ap (λ m. block_here 0 (drop m grown)) (sym z))
+      (λ q l. let z : 0 + q ≡ q = omega arith in here-any (0 + q) 0 (drop q grown)
+          ∙ ap (λ m. block_here 0 (drop m grown)) (sym z))
       ∙ ap (gather (λ q. block_here 0 (drop q grown)) 0) b
-      ∙ gather-add (λ q. block_here 0 (drop q grown)) 0 (suc k - block_len) (suc (length (stream s bs) - (suc k - block_len)))
+      ∙ gather-add (λ q. block_here 0 (drop q grown)) 0 (suc k - block_len)
+      (suc (length (stream s bs) - (suc k - block_len)))
       ∙ ap₂ (λ u v. u ++ v)
-      (gather-same (λ q. block_here 0 (drop q grown)) from 0 0 (suc k - block_len) (λ q l. sym (from-early (0 + q) (omega arith))))
-      (ap (λ z. z ++ gather (λ q. block_here 0 (drop q grown)) (suc (0 + (suc k - block_len))) (length (stream s bs) - (suc k - block_len))) none
-      ∙ gather-same (λ q. block_here 0 (drop q grown)) from (suc (0 + (suc k - block_len))) (0 + (suc k - block_len)) (length (stream s bs) - (suc k - block_len))
+      (gather-same (λ q. block_here 0 (drop q grown)) from 0 0 (suc k - block_len)
+          (λ q l. sym (from-early (0 + q) (omega arith))))
+      (ap (λ z. z ++ gather (λ q. block_here 0 (drop q grown)) (suc (0 + (suc k - block_len)))
+          (length (stream s bs) - (suc k - block_len))) none
+      ∙ gather-same (λ q. block_here 0 (drop q grown)) from (suc (0 + (suc k - block_len))) (0 + (suc k - block_len))
+      (length (stream s bs) - (suc k - block_len))
       (λ q l.
       let y : suc (0 + (suc k - block_len)) + q ≡ suc (0 + (suc k - block_len) + q) = omega arith in
       ap (λ m. block_here 0 (drop m grown)) y ∙ sym (from-late (0 + (suc k - block_len) + q) (omega arith))))
@@ -190,10 +205,13 @@ module _ (s : Level) (bs : List (List (List Bool))) (h : EachBlock bs) (k : ℕ)
   off p o l r = go (cases_lt k (p + block_len)) (cases_lt p k)
     where
       go : (k < p + block_len) ⊎ (p + block_len ≤ k) → (p < k) ⊎ (k ≤ p) → from p ≡ []
-      go (inr a) b = from-early p a ∙ here-none 0 (drop p grown) (λ d t z. far s bs h p l r d t z.block (sym (window-before p block_len a) ∙ z.cells))
+      go (inr a) b = from-early p a
+          ∙ here-none 0 (drop p grown)
+          (λ d t z. far s bs h p l r d t z.block (sym (window-before p block_len a) ∙ z.cells))
       go (inl a) (inr b) =
           from-late p a ∙ here-none 0 (drop (suc p) grown) (λ d t z.
-          far s bs h p l r d t z.block (ap (take block_len) (sym (drop-inserted k x (stream s bs) p b within)) ∙ z.cells))
+          far s bs h p l r d t z.block
+          (ap (take block_len) (sym (drop-inserted k x (stream s bs) p b within)) ∙ z.cells))
       go (inl a) (inl b) =
           from-late p a ∙ here-none 0 (drop (suc p) grown) (λ d t z.
           let c = across (suc p) (omega arith) (omega arith) d t z in
@@ -210,7 +228,8 @@ module _ (s : Level) (bs : List (List (List Bool))) (h : EachBlock bs) (k : ℕ)
       omega arith)
 
   -- at the start of a block
-  module _ (p : ℕ) (b : List (List Bool)) (more : List (List (List Bool))) (low : 0 ≤ p) (high : p + block_len ≤ length (stream s bs)) (g : EachBlock (b ∷ more))
+  module _ (p : ℕ) (b : List (List Bool)) (more : List (List (List Bool))) (low : 0 ≤ p)
+      (high : p + block_len ≤ length (stream s bs)) (g : EachBlock (b ∷ more))
       (rest : drop p (stream s bs) ≡ stream s (b ∷ more)) where
     start : p % 64 ≡ 0
     start =
@@ -230,15 +249,20 @@ module _ (s : Level) (bs : List (List (List Bool))) (h : EachBlock bs) (k : ℕ)
         (λ y l o. ap (λ n. at (drop n (stream s bs)) y) z ∙ ap (λ c. at c y) rest))
 
     final : at (stream s bs) (p + (block_len - 1)) ≡ s
-    final = let m = block_len_24576 in let a = start in last-cell s bs h (p + (block_len - 1)) (omega arith) (omega arith)
+    final = let m = block_len_24576 in let a = start in
+        last-cell s bs h (p + (block_len - 1)) (omega arith) (omega arith)
 
     behind : p + block_len < k → from p ≡ b ∷ []
-    behind l = from-early p (omega arith) ∙ here-some 0 b s (drop p grown) (stands-local b s (drop p (stream s bs)) (drop p grown) (sym (window-before p (suc block_len) (omega arith))) stands)
+    behind l = from-early p (omega arith)
+        ∙ here-some 0 b s (drop p grown)
+        (stands-local b s (drop p (stream s bs)) (drop p grown)
+            (sym (window-before p (suc block_len) (omega arith))) stands)
 
     ahead : k ≤ p → from p ≡ b ∷ []
     ahead l =
         let m = block_len_24576 in
-        from-late p (omega arith) ∙ ap (block_here 0) (drop-inserted k x (stream s bs) p l within) ∙ here-some 0 b s (drop p (stream s bs)) stands
+        from-late p (omega arith) ∙ ap (block_here 0) (drop-inserted k x (stream s bs) p l within)
+        ∙ here-some 0 b s (drop p (stream s bs)) stands
 
     -- it closes the block, or doesn't
     module _ (there : p + block_len ≡ k) where
@@ -262,7 +286,9 @@ module _ (s : Level) (bs : List (List (List Bool))) (h : EachBlock bs) (k : ℕ)
     -- it stands within the cells of the block
     module _ (over : p < k) (inner : k < p + block_len) where
       grows : k ≤ p + 3 → x ≡ other s → from p ≡ b ∷ []
-      grows l e = from-late p inner ∙ here-some 0 b s (drop (suc p) grown) (stands-local b s (drop p (stream s bs)) (drop (suc p) grown) same stands)
+      grows l e = from-late p inner
+          ∙ here-some 0 b s (drop (suc p) grown)
+          (stands-local b s (drop p (stream s bs)) (drop (suc p) grown) same stands)
         where
           one : (y : ℕ) → at (drop p (stream s bs)) y ≡ at (drop (suc p) grown) y
           one y = get_or-drop p (stream s bs) y Low ∙ go (cases_lt (suc p + y) k) (cases_eq (suc p + y) k)
@@ -270,15 +296,18 @@ module _ (s : Level) (bs : List (List (List Bool))) (h : EachBlock bs) (k : ℕ)
               run : (z : ℕ) → z < 3 → at (stream s bs) (p + z) ≡ other s
               run z o = let m = block_len_24576 in let a = high in run-cell s bs h p z start (omega arith) o
 
-              go : (suc p + y < k) ⊎ (k ≤ suc p + y) → (suc p + y ≡ k) ⊎ (suc p + y ≡ k → ⊥) → at (stream s bs) (p + y) ≡ at (drop (suc p) grown) y
+              go : (suc p + y < k) ⊎ (k ≤ suc p + y) → (suc p + y ≡ k) ⊎ (suc p + y ≡ k → ⊥)
+                  → at (stream s bs) (p + y) ≡ at (drop (suc p) grown) y
               go (inl a) c =
                   let i : p + suc y ≡ suc p + y = omega arith in
-                  run y (omega arith) ∙ sym (run (suc y) (omega arith)) ∙ ap (at (stream s bs)) i ∙ sym (early-cell (suc p) y a)
+                  run y (omega arith) ∙ sym (run (suc y) (omega arith)) ∙ ap (at (stream s bs)) i
+                  ∙ sym (early-cell (suc p) y a)
               go (inr a) (inl c) = run y (omega arith) ∙ sym e ∙ sym (there-cell (suc p) y c)
               go (inr a) (inr c) =
                   let i : suc (y - 1) ≡ y = omega arith in
                   let j : suc p + (y - 1) ≡ p + y = omega arith in
-                  sym (ap (at (drop (suc p) grown)) (sym i) ∙ late-cell (suc p) (y - 1) (omega arith) ∙ ap (at (stream s bs)) j)
+                  sym (ap (at (drop (suc p) grown)) (sym i) ∙ late-cell (suc p) (y - 1) (omega arith)
+                      ∙ ap (at (stream s bs)) j)
 
           same : take (suc block_len) (drop p (stream s bs)) ≡ take (suc block_len) (drop (suc p) grown)
           same =
@@ -288,8 +317,10 @@ module _ (s : Level) (bs : List (List (List Bool))) (h : EachBlock bs) (k : ℕ)
               let i = length-drop p (stream s bs) in
               let j = length-drop (suc p) grown in
               let w = high in
-              ext_get_or Low (take (suc block_len) (drop p (stream s bs))) (take (suc block_len) (drop (suc p) grown)) (omega arith)
-              (λ y o. get_or-take (suc block_len) (drop p (stream s bs)) y Low (omega arith) ∙ one y ∙ sym (get_or-take (suc block_len) (drop (suc p) grown) y Low (omega arith)))
+              ext_get_or Low (take (suc block_len) (drop p (stream s bs))) (take (suc block_len) (drop (suc p) grown))
+              (omega arith)
+              (λ y o. get_or-take (suc block_len) (drop p (stream s bs)) y Low (omega arith) ∙ one y
+                  ∙ sym (get_or-take (suc block_len) (drop (suc p) grown) y Low (omega arith)))
 
       breaks : (k ≤ p + 3 → x ≡ other s → ⊥) → from p ≡ []
       breaks n = from-late p inner ∙ here-none 0 (drop (suc p) grown) (λ d t z.
@@ -298,13 +329,17 @@ module _ (s : Level) (bs : List (List (List Bool))) (h : EachBlock bs) (k : ℕ)
           n (omega arith) c.1)
 
     own : from p ≡ after_insertion s k x p b
-    own = go (cases_lt p k) (cases_lt (p + block_len) k) (cases_eq (p + block_len) k) (cases_lt (p + 3) k) (equal-levels s x)
+    own = go (cases_lt p k) (cases_lt (p + block_len) k) (cases_eq (p + block_len) k) (cases_lt (p + 3) k)
+        (equal-or s x)
       where
-        go : (p < k) ⊎ (k ≤ p) → (p + block_len < k) ⊎ (k ≤ p + block_len) → (p + block_len ≡ k) ⊎ (p + block_len ≡ k → ⊥)
+        go : (p < k) ⊎ (k ≤ p) → (p + block_len < k) ⊎ (k ≤ p + block_len) → (p + block_len ≡ k)
+            ⊎ (p + block_len ≡ k → ⊥)
             → (p + 3 < k) ⊎ (k ≤ p + 3) → (s ≡ x) ⊎ (s ≡ x → ⊥)
-            → from p ≡ cond (leb k p || (ltb (p + block_len) k || (differs s x && (leb k (p + 3) || (k == p + block_len))))) (b ∷ []) []
+            → from p ≡ cond
+            (leb k p || (ltb (p + block_len) k || (differs s x && (leb k (p + 3) || (k == p + block_len))))) (b ∷ []) []
         go (inr a) y z w v = let i = le-leb k p a in ahead a ∙ (rw i refl)
-        go (inl a) (inl y) z w v = let i = lt-leb k p a in let j = lt-ltb (p + block_len) k y in behind y ∙ (rw (i, j) refl)
+        go (inl a) (inl y) z w v = let i = lt-leb k p a in let j = lt-ltb (p + block_len) k y in
+            behind y ∙ (rw (i, j) refl)
         go (inl a) (inr y) (inl z) w (inl v) =
             let i = lt-leb k p a in
             let j = le-ltb (p + block_len) k y in
@@ -337,14 +372,17 @@ module _ (s : Level) (bs : List (List (List Bool))) (h : EachBlock bs) (k : ℕ)
             let f = le-leb k (p + 3) w in
             grows a (omega arith) w (sym (other-of s x v)) ∙ (rw (i, j, e, f) refl)
 
-  pub insertion-blocks : wholes (reports_from 0 grown) ≡ given_within (after_insertion s k x) 0 0 (length (stream s bs)) bs
+  pub insertion-blocks : wholes (reports_from 0 grown) ≡ given_within (after_insertion s k x) 0 0
+      (length (stream s bs)) bs
   insertion-blocks =
       let e : length (stream s bs) ≡ length (stream s bs) - 0 = omega arith in
       grown-places ∙ ap (gather from 0) e
-      ∙ gather-given s bs h 0 (length (stream s bs)) (omega arith) (omega arith) from (after_insertion s k x) (λ p l r o. off p l r o) (λ p l r o. short p l r o)
+      ∙ gather-given s bs h 0 (length (stream s bs)) (omega arith) (omega arith) from (after_insertion s k x)
+      (λ p l r o. off p l r o) (λ p l r o. short p l r o)
       (λ p b more l r g e. own p b more l r g e)
 
-pub blocks-inserted : (s : Level) (bs : List (List (List Bool))) → All IsBlock bs → (k : ℕ) (x : Level) → k ≤ length (stream s bs)
+pub blocks-inserted : (s : Level) (bs : List (List (List Bool))) → All IsBlock bs → (k : ℕ) (x : Level)
+    → k ≤ length (stream s bs)
     → blocks (inserted k x (stream s bs)) ≡ given_blocks (after_insertion s k x) bs 0 (length (stream s bs))
 unfolding blocks reports given_blocks
 blocks-inserted s bs h k x l = insertion-blocks s bs (each-block bs h) k x l

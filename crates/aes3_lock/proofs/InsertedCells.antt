@@ -1,5 +1,6 @@
 -- Cells with one put in, and a block whose cells are those of a stream but for the one.
-use Rattle.std.proofs.Common.{◌≡◌, ℕ, zero, suc, ◌+◌, ◌-◌, ◌*◌, ◌/◌, ◌%◌, ◌<◌, ◌≤◌, ◌⊎◌, inl, inr, List, [], ◌∷◌, Bool, refl, length, drop, ap, ◌∙◌, sym, arith, lit<}
+use Rattle.std.proofs.Common.{◌≡◌, ℕ, zero, suc, ◌+◌, ◌-◌, ◌*◌, ◌/◌, ◌%◌, ◌<◌, ◌≤◌, ◌⊎◌, inl, inr, List, [], ◌∷◌, Bool}
+use Rattle.std.proofs.Common.{refl, length, drop, ap, ◌∙◌, sym, arith, lit<}
 use Rattle.std.proofs.lemmas.Bool.{cases_lt}
 use Rattle.aes3_cell.specs.declared.level.Level.{Level}
 use Rattle.aes3_cell.specs.declared.level.Level.TheVariants.{Low, High}
@@ -12,8 +13,9 @@ use Rattle.aes3_slot.proofs.Distance.{own-cell, stands-from}
 use Rattle.aes3_block.specs.Blocks.{mark_at, block_cells, stream, IsBlock}
 use Rattle.aes3_block.proofs.FileLaws.{EachBlock}
 use Rattle.aes3_lock.specs.Damage.{inserted}
-use Rattle.aes3_lock.proofs.Distances.{block-mark, mark-first, mark-second}
+use Rattle.aes3_lock.proofs.Distances.{block-mark, mark-second}
 use Rattle.aes3_lock.proofs.LawfulPieces.{stream_marks, stream-kept, stream-length, stream-level, stream-aligned}
+use Rattle.aes3_slot.proofs.OwnPreambles.{shape-first}
 
 -- the cells with the one put in
 pub length-inserted : (k : ℕ) (x : Level) (c : List Level) → k ≤ length c → length (inserted k x c) ≡ suc (length c)
@@ -21,7 +23,8 @@ length-inserted zero x c h = refl
 length-inserted (suc k) x [] h = absurd (omega arith)
 length-inserted (suc k) x (y ∷ c) h = ap suc (length-inserted k x c (omega arith))
 
-pub inserted-before : (k : ℕ) (x : Level) (c : List Level) (z : ℕ) → z < k → k ≤ length c → at (inserted k x c) z ≡ at c z
+pub inserted-before : (k : ℕ) (x : Level) (c : List Level) (z : ℕ) → z < k → k ≤ length c
+    → at (inserted k x c) z ≡ at c z
 inserted-before zero x c z l h = absurd (omega arith)
 inserted-before (suc k) x [] z l h = absurd (omega arith)
 inserted-before (suc k) x (y ∷ c) zero l h = refl
@@ -32,13 +35,15 @@ inserted-there zero x c h = refl
 inserted-there (suc k) x [] h = absurd (omega arith)
 inserted-there (suc k) x (y ∷ c) h = inserted-there k x c (omega arith)
 
-pub inserted-behind : (k : ℕ) (x : Level) (c : List Level) (z : ℕ) → k ≤ z → k ≤ length c → at (inserted k x c) (suc z) ≡ at c z
+pub inserted-behind : (k : ℕ) (x : Level) (c : List Level) (z : ℕ) → k ≤ z → k ≤ length c
+    → at (inserted k x c) (suc z) ≡ at c z
 inserted-behind zero x c z l h = refl
 inserted-behind (suc k) x [] z l h = absurd (omega arith)
 inserted-behind (suc k) x (y ∷ c) zero l h = absurd (omega arith)
 inserted-behind (suc k) x (y ∷ c) (suc z) l h = inserted-behind k x c z (omega arith) (omega arith)
 
-pub drop-inserted : (k : ℕ) (x : Level) (c : List Level) (q : ℕ) → k ≤ q → k ≤ length c → drop (suc q) (inserted k x c) ≡ drop q c
+pub drop-inserted : (k : ℕ) (x : Level) (c : List Level) (q : ℕ) → k ≤ q → k ≤ length c
+    → drop (suc q) (inserted k x c) ≡ drop q c
 drop-inserted zero x c q l h = refl
 drop-inserted (suc k) x [] q l h = absurd (omega arith)
 drop-inserted (suc k) x (y ∷ c) zero l h = absurd (omega arith)
@@ -58,8 +63,9 @@ mark-fourth Y High = refl
 mark-fourth Z Low = refl
 mark-fourth Z High = refl
 
-first-run : (m : Mark) (k : ℕ) (u : Level) → k < 3 → shape m k u ≡ other u
-first-run m zero u l = mark-first m u
+-- the first run of a preamble is of three cells
+pub first-run : (m : Mark) (k : ℕ) (u : Level) → k < 3 → shape m k u ≡ other u
+first-run m zero u l = shape-first m u
 first-run m (suc zero) u l = mark-second m u
 first-run m (suc (suc zero)) u l = mark-third m u
 first-run m (suc (suc (suc k))) u l = absurd (omega arith)
@@ -70,15 +76,19 @@ module _ (s : Level) (bs : List (List (List Bool))) (h : EachBlock bs) where
   run-cell p k a l o =
       let n = stream-length s bs h in
       let e : 64 * (p / 64) + k ≡ p + k = omega arith in
-      ap (at (stream s bs)) (sym e) ∙ own-cell stream_marks s (stream s bs) (stream-kept s bs h) (p / 64) k (omega arith) (omega arith)
-      ∙ ap (shape (stream_marks (p / 64)) k) (stream-level s bs h (p / 64) (omega arith)) ∙ first-run (stream_marks (p / 64)) k s o
+      ap (at (stream s bs)) (sym e)
+      ∙ own-cell stream_marks s (stream s bs) (stream-kept s bs h) (p / 64) k (omega arith) (omega arith)
+      ∙ ap (shape (stream_marks (p / 64)) k) (stream-level s bs h (p / 64) (omega arith))
+      ∙ first-run (stream_marks (p / 64)) k s o
 
   fourth-cell : (p : ℕ) → p % 64 ≡ 0 → p < length (stream s bs) → at (stream s bs) (p + 3) ≡ s
   fourth-cell p a l =
       let n = stream-length s bs h in
       let e : 64 * (p / 64) + 3 ≡ p + 3 = omega arith in
-      ap (at (stream s bs)) (sym e) ∙ own-cell stream_marks s (stream s bs) (stream-kept s bs h) (p / 64) 3 (omega arith) (lit< tt)
-      ∙ ap (shape (stream_marks (p / 64)) 3) (stream-level s bs h (p / 64) (omega arith)) ∙ mark-fourth (stream_marks (p / 64)) s
+      ap (at (stream s bs)) (sym e)
+      ∙ own-cell stream_marks s (stream s bs) (stream-kept s bs h) (p / 64) 3 (omega arith) (lit< tt)
+      ∙ ap (shape (stream_marks (p / 64)) 3) (stream-level s bs h (p / 64) (omega arith))
+      ∙ mark-fourth (stream_marks (p / 64)) s
 
   -- and the last
   pub last-cell : (p : ℕ) → suc p % 64 ≡ 0 → p < length (stream s bs) → at (stream s bs) p ≡ s
@@ -87,8 +97,10 @@ module _ (s : Level) (bs : List (List (List Bool))) (h : EachBlock bs) where
       let e : 64 * (suc p / 64) ≡ suc p = omega arith in
       ap (before s (stream s bs)) (sym e) ∙ stream-level s bs h (suc p / 64) (omega arith)
 
-  -- a block whose first m cells are those of the stream from place q on, the next one is x, and the others those behind the first
-  module _ (d : List (List Bool)) (t : Level) (g : IsBlock d) (q m : ℕ) (x : Level) (few : m < 24576) (room : q + 24575 ≤ length (stream s bs))
+  -- a block whose first m cells are those of the stream from place q on, the next one is x, and the others those behind
+  -- the first
+  module _ (d : List (List Bool)) (t : Level) (g : IsBlock d) (q m : ℕ) (x : Level) (few : m < 24576)
+      (room : q + 24575 ≤ length (stream s bs))
       (early : (y : ℕ) → y < m → at (block_cells t d) y ≡ at (stream s bs) (q + y))
       (there : at (block_cells t d) m ≡ x)
       (late : (y : ℕ) → m ≤ y → suc y < 24576 → at (block_cells t d) (suc y) ≡ at (stream s bs) (q + y)) where
@@ -96,18 +108,22 @@ module _ (s : Level) (bs : List (List (List Bool))) (h : EachBlock bs) where
     before-it j l o =
         let r = room in
         let f = few in
-        let a = stream-aligned s bs h (mark_at j) t (q + 64 * j) (stands-from (mark_at j) t (stream s bs) (q + 64 * j) (omega arith)
-        (λ k b. let e : q + 64 * j + k ≡ q + (64 * j + k) = omega arith in ap (at (stream s bs)) e ∙ sym (early (64 * j + k) (omega arith)) ∙ block-mark t d g j k l b)) in
+        let a = stream-aligned s bs h (mark_at j) t (q + 64 * j)
+        (stands-from (mark_at j) t (stream s bs) (q + 64 * j) (omega arith)
+        (λ k b. let e : q + 64 * j + k ≡ q + (64 * j + k) = omega arith in
+            ap (at (stream s bs)) e ∙ sym (early (64 * j + k) (omega arith)) ∙ block-mark t d g j k l b)) in
         (a.0, a.2)
 
     behind-it : (i : ℕ) → i < 383 → m ≤ 64 * i + 63 → ((q + (64 * i + 63)) % 64 ≡ 0) × (t ≡ s)
     behind-it i l o =
         let r = room in
-        let a = stream-aligned s bs h (mark_at (suc i)) t (q + (64 * i + 63)) (stands-from (mark_at (suc i)) t (stream s bs) (q + (64 * i + 63)) (omega arith)
+        let a = stream-aligned s bs h (mark_at (suc i)) t (q + (64 * i + 63))
+        (stands-from (mark_at (suc i)) t (stream s bs) (q + (64 * i + 63)) (omega arith)
         (λ k b.
         let e : q + (64 * i + 63) + k ≡ q + (64 * i + 63 + k) = omega arith in
         let f : suc (64 * i + 63 + k) ≡ 64 * suc i + k = omega arith in
-        ap (at (stream s bs)) e ∙ sym (late (64 * i + 63 + k) (omega arith) (omega arith)) ∙ ap (at (block_cells t d)) f ∙ block-mark t d g (suc i) k (omega arith) b)) in
+        ap (at (stream s bs)) e ∙ sym (late (64 * i + 63 + k) (omega arith) (omega arith)) ∙ ap (at (block_cells t d)) f
+        ∙ block-mark t d g (suc i) k (omega arith) b)) in
         (a.0, a.2)
 
     pub in-middle : 8 ≤ m → m < 24512 → ⊥
@@ -135,7 +151,8 @@ module _ (s : Level) (bs : List (List (List Bool))) (h : EachBlock bs) where
       cell : (y : ℕ) → y < 3 → at (block_cells t d) y ≡ other s
       cell y l =
           let e : 64 * 0 + y ≡ y = omega arith in
-          ap (at (block_cells t d)) (sym e) ∙ block-mark t d g 0 y (lit< tt) (omega arith) ∙ first-run (mark_at 0) y t l ∙ ap other level
+          ap (at (block_cells t d)) (sym e) ∙ block-mark t d g 0 y (lit< tt) (omega arith) ∙ first-run (mark_at 0) y t l
+          ∙ ap other level
 
       pub in-run : m ≤ 2
       in-run = go (cases_lt m 3)

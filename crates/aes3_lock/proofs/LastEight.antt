@@ -1,5 +1,7 @@
 -- The last eight cells.
-use Rattle.std.proofs.Common.{◌≡◌, ℕ, zero, suc, ◌+◌, ◌-◌, ◌*◌, ◌/◌, ◌%◌, ◌<◌, ◌≤◌, List, [], ◌∷◌, ◌++◌, refl, length, drop, replicate, ap, ap₂, ◌∙◌, sym, arith, length-append, length-drop, drop-drop, drop_at, get_or-drop, append_assoc}
+use Rattle.std.proofs.Common.{◌≡◌, ℕ, zero, suc, ◌+◌, ◌-◌, ◌*◌, ◌/◌, ◌%◌, ◌<◌, ◌≤◌, List, [], ◌∷◌, ◌++◌, refl, length}
+use Rattle.std.proofs.Common.{drop, replicate, ap, ap₂, ◌∙◌, sym, arith, length-append, length-drop, drop-drop, drop_at}
+use Rattle.std.proofs.Common.{get_or-drop, append_assoc}
 use Rattle.std.proofs.lemmas.List.{drop-append-le}
 use Rattle.aes3_cell.specs.declared.level.Level.{Level}
 use Rattle.aes3_cell.specs.declared.level.Level.TheVariants.{Low, High}
@@ -47,13 +49,15 @@ last_eight-more c d =
     ∙ ap (drop (length d)) (drop-append-le (length c) (pad ++ c) d (omega (arith, m)))
 
 pub last_eight-with : (c : List Level) (l : Level) → last_eight (c ++ l ∷ []) ≡ eight_with (last_eight c) l
-last_eight-with c l = let n = length-last_eight c in last_eight-more c (l ∷ []) ∙ drop-append-le 1 (last_eight c) (l ∷ []) (omega (arith, n))
+last_eight-with c l = let n = length-last_eight c in last_eight-more c (l ∷ [])
+    ∙ drop-append-le 1 (last_eight c) (l ∷ []) (omega (arith, n))
 
 pub last_eight-is : (c : List Level) → 8 ≤ length c → last_eight c ≡ drop (length c - 8) c
 unfolding last_eight
 last_eight-is c h =
     let n : length c ≡ 8 + (length c - 8) = omega arith in
-    ap (λ n. drop n (pad ++ c)) n ∙ sym (drop-drop (length c - 8) 8 (pad ++ c)) ∙ ap (drop (length c - 8)) (drop_at pad c 8 refl)
+    ap (λ n. drop n (pad ++ c)) n ∙ sym (drop-drop (length c - 8) 8 (pad ++ c))
+    ∙ ap (drop (length c - 8)) (drop_at pad c 8 refl)
 
 pub last_eight-nil : last_eight [] ≡ low_cells 8 0
 unfolding last_eight
@@ -64,14 +68,16 @@ unfolding last_eight
 last-cell c h =
     let b = get_or-drop (length c) (pad ++ c) 7 Low in
     let n : length c + 7 ≡ 8 + (length c - 1) = omega arith in
-    b ∙ ap (at (pad ++ c)) n ∙ sym (get_or-drop 8 (pad ++ c) (length c - 1) Low) ∙ ap (λ x. at x (length c - 1)) (drop_at pad c 8 refl)
+    b ∙ ap (at (pad ++ c)) n ∙ sym (get_or-drop 8 (pad ++ c) (length c - 1) Low)
+    ∙ ap (λ x. at x (length c - 1)) (drop_at pad c 8 refl)
 
 pub before-at : (s : Level) (d : List Level) (n : ℕ) → 1 ≤ n → before s d n ≡ at d (n - 1)
 before-at s d zero h = absurd (omega arith)
 before-at s d (suc n) h = ap (at d) (let e : n ≡ suc n - 1 = omega arith in e)
 
 -- the last cell of what is left from p on
-pub last-before : (s : Level) (c : List Level) (p : ℕ) → p < length c → at (last_eight c) 7 ≡ before s (drop p c) (length (drop p c))
+pub last-before : (s : Level) (c : List Level) (p : ℕ) → p < length c
+    → at (last_eight c) 7 ≡ before s (drop p c) (length (drop p c))
 last-before s c p h =
     let l = length-drop p c in
     let n : length c - 1 ≡ p + (length (drop p c) - 1) = omega (arith, l, h) in
@@ -83,4 +89,5 @@ pub last_eight-word : (c d : List Level) → length d ≡ 64 → last_eight (c +
 last_eight-word c d h =
     let n = length-append c d in
     let e : length (c ++ d) - 8 ≡ length c + 56 = omega (arith, n, h) in
-    last_eight-is (c ++ d) (omega (arith, n, h)) ∙ ap (λ k. drop k (c ++ d)) e ∙ sym (drop-drop 56 (length c) (c ++ d)) ∙ ap (drop 56) (drop_at c d (length c) refl)
+    last_eight-is (c ++ d) (omega (arith, n, h)) ∙ ap (λ k. drop k (c ++ d)) e ∙ sym (drop-drop 56 (length c) (c ++ d))
+    ∙ ap (drop 56) (drop_at c d (length c) refl)

@@ -1,5 +1,6 @@
 -- The cells of a lawful stream, and where preambles stand in it.
-use Rattle.std.proofs.Common.{◌≡◌, ℕ, zero, suc, ◌+◌, ◌*◌, ◌/◌, ◌%◌, ◌<◌, ◌≤◌, List, [], ◌∷◌, ◌++◌, Bool, map, refl, length, ap, ap₂, ◌∙◌, sym, subst, arith, append_assoc, length-append}
+use Rattle.std.proofs.Common.{◌≡◌, ℕ, zero, suc, ◌+◌, ◌*◌, ◌/◌, ◌%◌, ◌<◌, ◌≤◌, List, [], ◌∷◌, ◌++◌, Bool, map, refl}
+use Rattle.std.proofs.Common.{length, ap, ap₂, ◌∙◌, sym, subst, arith, append_assoc, length-append}
 use Rattle.std.specs.List.{flat_map}
 use Rattle.std.proofs.lemmas.List.{length-map, map-append}
 use Rattle.aes3_cell.specs.declared.level.Level.{Level}
@@ -54,12 +55,15 @@ slot-behind : (n j : ℕ) → n ≡ block_slots → (n + j) % block_slots ≡ j 
 unfolding block_slots
 slot-behind n j e = omega arith
 
-runs-same : (m n : ℕ → Mark) (ps : List (List Bool)) → ((j : ℕ) → j < length ps → m j ≡ n j) → runs_of m ps ≡ runs_of n ps
+runs-same : (m n : ℕ → Mark) (ps : List (List Bool)) → ((j : ℕ) → j < length ps → m j ≡ n j)
+    → runs_of m ps ≡ runs_of n ps
 runs-same m n [] h = refl
 runs-same m n (p ∷ ps) h =
-    ap₂ (λ k r. slot_runs k p ++ r) (h 0 (omega arith)) (runs-same (λ j. m (suc j)) (λ j. n (suc j)) ps (λ j l. h (suc j) (omega arith)))
+    ap₂ (λ k r. slot_runs k p ++ r) (h 0 (omega arith))
+    (runs-same (λ j. m (suc j)) (λ j. n (suc j)) ps (λ j l. h (suc j) (omega arith)))
 
-runs-append : (m l n : ℕ → Mark) (a b : List (List Bool)) → ((j : ℕ) → j < length a → m j ≡ l j) → ((j : ℕ) → m (length a + j) ≡ n j)
+runs-append : (m l n : ℕ → Mark) (a b : List (List Bool)) → ((j : ℕ) → j < length a → m j ≡ l j)
+    → ((j : ℕ) → m (length a + j) ≡ n j)
     → runs_of m (a ++ b) ≡ runs_of l a ++ runs_of n b
 runs-append m l n [] b h g = runs-same m n b (λ j o. let e : j ≡ 0 + j = omega arith in ap m e ∙ g j)
 runs-append m l n (p ∷ a) b h g =
@@ -68,7 +72,8 @@ runs-append m l n (p ∷ a) b h g =
     (λ j. let e : suc (length a + j) ≡ suc (length a) + j = omega arith in ap m e ∙ g j))
     ∙ sym (append_assoc (slot_runs (l 0) p) (runs_of (λ j. l (suc j)) a) (runs_of n b))
 
-pub stream-runs : (bs : List (List (List Bool))) → EachBlock bs → flat_map block_runs bs ≡ runs_of stream_marks (map with_parity (payloads_in bs))
+pub stream-runs : (bs : List (List (List Bool))) → EachBlock bs
+    → flat_map block_runs bs ≡ runs_of stream_marks (map with_parity (payloads_in bs))
 stream-runs [] h = refl
 stream-runs (b ∷ bs) h =
     let n : length (map with_parity b) ≡ block_slots = length-map b with_parity ∙ h.0.count in
@@ -78,7 +83,8 @@ stream-runs (b ∷ bs) h =
     (λ j. ap mark_at (slot-behind (length (map with_parity b)) j n)))
     ∙ ap (runs_of stream_marks) (sym (map-append with_parity b (payloads_in bs)))
 
-pub stream-line : (s : Level) (bs : List (List (List Bool))) → EachBlock bs → stream s bs ≡ line s (runs_of stream_marks (map with_parity (payloads_in bs)))
+pub stream-line : (s : Level) (bs : List (List (List Bool))) → EachBlock bs
+    → stream s bs ≡ line s (runs_of stream_marks (map with_parity (payloads_in bs)))
 unfolding stream
 stream-line s bs h = ap (line s) (stream-runs bs h)
 
@@ -92,9 +98,11 @@ runs-level marks s (p ∷ ps) h (suc k) l =
     let a = subframe s (marks 0) (with_parity p) in
     let rest = runs_of (λ j. marks (suc j)) (map with_parity ps) in
     let o : after s (subframe_runs (marks 0) p) ≡ s = after-subframe s (marks 0) p h.0 in
-    let n : length (subframe s (marks 0) (with_parity p)) ≡ 64 = subframe-length s (marks 0) (with_parity p) (length-with_parity p h.0) in
+    let n : length (subframe s (marks 0) (with_parity p)) ≡ 64 =
+        subframe-length s (marks 0) (with_parity p) (length-with_parity p h.0) in
     let e : 64 * suc k ≡ length (subframe s (marks 0) (with_parity p)) + 64 * k = omega arith in
-    let f : before s a (length a) ≡ s = ap (before s a) n ∙ subframe-last s (marks 0) (with_parity p) (length-with_parity p h.0) ∙ o in
+    let f : before s a (length a) ≡ s = ap (before s a) n
+    ∙ subframe-last s (marks 0) (with_parity p) (length-with_parity p h.0) ∙ o in
     ap₂ (before s) (line-append s (subframe_runs (marks 0) p) rest ∙ ap (λ t. a ++ line t rest) o) e
     ∙ before-append_right s s a (line s rest) (64 * k) f
     ∙ runs-level (λ j. marks (suc j)) s ps h.1 k (omega arith)
@@ -114,7 +122,8 @@ module _ (s : Level) (bs : List (List (List Bool))) (h : EachBlock bs) where
   pub stream-level : (k : ℕ) → k ≤ block_slots * length bs → before s (stream s bs) (64 * k) ≡ s
   stream-level k l =
       let n = length-in bs h in
-      ap (λ c. before s c (64 * k)) (stream-line s bs h) ∙ runs-level stream_marks s (payloads_in bs) (each27-in bs h) k (omega arith)
+      ap (λ c. before s c (64 * k)) (stream-line s bs h)
+      ∙ runs-level stream_marks s (payloads_in bs) (each27-in bs h) k (omega arith)
 
   -- a preamble stands where a subframe begins
   pub stream-stands : (k : ℕ) → k < block_slots * length bs → StandsMark (stream_marks k) s (stream s bs) (64 * k)
@@ -128,7 +137,8 @@ module _ (s : Level) (bs : List (List (List Bool))) (h : EachBlock bs) where
       rw (b, a, e) at ((stream-kept (64 * k + i) (omega arith)).preamble (omega arith)))
 
   -- and nowhere else
-  pub stream-aligned : (m : Mark) (t : Level) (p : ℕ) → StandsMark m t (stream s bs) p → (p % 64 ≡ 0) × (stream_marks (p / 64) ≡ m) × (t ≡ s)
+  pub stream-aligned : (m : Mark) (t : Level) (p : ℕ) → StandsMark m t (stream s bs) p → (p % 64 ≡ 0)
+      × (stream_marks (p / 64) ≡ m) × (t ≡ s)
   stream-aligned m t p z =
       let a = aligned stream_marks s (stream s bs) stream-kept m t p z in
       let o = aligned-own stream_marks s (stream s bs) stream-kept m t p z in

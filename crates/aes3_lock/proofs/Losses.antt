@@ -1,5 +1,7 @@
 -- A piece of a lawful stream of which up to three cells are lost: what stands in it stood in the piece.
-use Rattle.std.proofs.Common.{◌≡◌, ℕ, zero, suc, ◌+◌, ◌-◌, ◌*◌, ◌/◌, ◌%◌, ◌<◌, ◌≤◌, ◌⊎◌, inl, inr, List, [], ◌∷◌, Bool, map, refl, length, take, drop, get_or, ap, ◌∙◌, sym, subst, arith, length-take-le, length-drop, get_or-take, get_or-drop, ext_get_or, lit<}
+use Rattle.std.proofs.Common.{◌≡◌, ℕ, zero, suc, ◌+◌, ◌-◌, ◌*◌, ◌/◌, ◌%◌, ◌<◌, ◌≤◌, ◌⊎◌, inl, inr, List, [], ◌∷◌, Bool}
+use Rattle.std.proofs.Common.{map, refl, length, take, drop, get_or, ap, ◌∙◌, sym, subst, arith, length-take-le}
+use Rattle.std.proofs.Common.{length-drop, get_or-take, get_or-drop, ext_get_or, lit<}
 use Rattle.std.proofs.lemmas.Bool.{cases_lt}
 use Rattle.std.proofs.lemmas.List.Elements.{All-map}
 use Rattle.std.specs.List.{All, Contains}
@@ -7,13 +9,12 @@ use Rattle.aes3_cell.specs.declared.level.Level.{Level}
 use Rattle.aes3_cell.specs.declared.level.Level.TheVariants.{Low, High}
 use Rattle.aes3_cell.specs.Cells.{other}
 use Rattle.aes3_cell.proofs.Runs.{other_ne}
-use Rattle.aes3_slot.specs.declared.mark.Mark.{Mark}
-use Rattle.aes3_slot.specs.declared.mark.Mark.TheVariants.{X, Y, Z}
+use Rattle.aes3_slot.specs.declared.mark.Mark.TheVariants.{Z}
 use Rattle.aes3_slot.specs.Rules.{at, shape}
 use Rattle.aes3_slot.proofs.Distance.{own-cell, stands-from}
 use Rattle.aes3_block.specs.Blocks.{mark_at, block_len, block_cells, stream}
 use Rattle.aes3_block.proofs.FileLaws.{each-block}
-use Rattle.aes3_block.proofs.CellLaws.{length-block_cells}
+use Rattle.aes3_block.proofs.CellLaws.{length-block_cells, block_len_24576}
 use Rattle.aes3_lock.specs.Damage.{without}
 use Rattle.aes3_lock.specs.LossLaws.{without_each, StoodLater}
 use Rattle.aes3_lock.specs.Laws.{PlacedBlock}
@@ -23,11 +24,12 @@ use Rattle.aes3_lock.specs.Standing.{StandsClosed}
 use Rattle.aes3_lock.proofs.AllStanding.{closed-room, blocks-all_standing}
 use Rattle.aes3_lock.proofs.Damaged.{piece-cell}
 use Rattle.aes3_lock.proofs.DamageLaws.{length-of}
-use Rattle.aes3_lock.proofs.Deciding.{block_len_24576}
-use Rattle.aes3_lock.proofs.Distances.{block-level, block-mark, block_slots_384}
+use Rattle.aes3_lock.proofs.Distances.{block-level, block-mark}
 use Rattle.aes3_lock.proofs.LawfulPieces.{stream_marks, stream-kept, stream-length, stream-level, stream-aligned}
 use Rattle.aes3_lock.proofs.Lost.{without-before, without-behind}
 use Rattle.aes3_lock.proofs.StandingBlocks.{first-mark}
+use Rattle.aes3_block.proofs.BlockLemmas.{block_slots_384}
+use Rattle.aes3_lock.proofs.InsertedCells.{first-run}
 
 -- the cells that are left are those of the list, each at most n places later, and none back
 pub record IsShift (n : ℕ) (c e : List Level) (f : ℕ → ℕ) : Type 0 where
@@ -94,8 +96,10 @@ one-shift k c = record { rises = rises; few = few; within = within; cell = cell 
     cell x l = go (cases_lt x k)
       where
         go : (x < k) ⊎ (k ≤ x) → at (without k c) x ≡ at c (x + passed k x)
-        go (inl a) = let e = passed-before k x a in let f : x ≡ x + passed k x = omega arith in without-before k c x a ∙ ap (at c) f
-        go (inr a) = let e = passed-behind k x a in let f : suc x ≡ x + passed k x = omega arith in without-behind k c x a ∙ ap (at c) f
+        go (inl a) = let e = passed-before k x a in let f : x ≡ x + passed k x = omega arith in
+            without-before k c x a ∙ ap (at c) f
+        go (inr a) = let e = passed-behind k x a in let f : suc x ≡ x + passed k x = omega arith in
+            without-behind k c x a ∙ ap (at c) f
 
 -- one loss behind the other
 pub each-shift : (ks : List ℕ) (c : List Level) → (f : ℕ → ℕ) × IsShift (length ks) c (without_each ks c) f
@@ -130,25 +134,15 @@ each-shift (k ∷ ks) c = joined (each-shift ks (without k c))
       },
     )
 
--- the first run of a preamble is of three cells, and cell 3 of Z is none of them
-run-cell : (m : Mark) (k : ℕ) (u : Level) → k < 3 → shape m k u ≡ other u
-run-cell X zero u l = refl
-run-cell Y zero u l = refl
-run-cell Z zero u l = refl
-run-cell X (suc zero) u l = refl
-run-cell Y (suc zero) u l = refl
-run-cell Z (suc zero) u l = refl
-run-cell X (suc (suc zero)) u l = refl
-run-cell Y (suc (suc zero)) u l = refl
-run-cell Z (suc (suc zero)) u l = refl
-run-cell m (suc (suc (suc k))) u l = absurd (omega arith)
-
+-- cell 3 of Z is none of its first run
 behind-run : (u : Level) → shape Z 3 u ≡ u
 behind-run Low = refl
 behind-run High = refl
 
-module _ (s : Level) (bs : List (List (List Bool))) (i j : ℕ) (c : List Level) (piece : IsPiece s bs i j c) (n : ℕ) (three : n ≤ 3)
-    (e : List Level) (f : ℕ → ℕ) (h : IsShift n c e f) (q : ℕ) (d : List (List Bool)) (t : Level) (z : StandsClosed d t (drop q e)) where
+module _ (s : Level) (bs : List (List (List Bool))) (i j : ℕ) (c : List Level) (piece : IsPiece s bs i j c) (n : ℕ)
+    (three : n ≤ 3)
+    (e : List Level) (f : ℕ → ℕ) (h : IsShift n c e f) (q : ℕ) (d : List (List Bool)) (t : Level)
+    (z : StandsClosed d t (drop q e)) where
   reach : i + length c ≤ length (stream s bs)
   reach = let l = length-of s bs i j c piece in let w = piece.within in let o = piece.order in omega arith
 
@@ -163,8 +157,10 @@ module _ (s : Level) (bs : List (List (List Bool))) (i j : ℕ) (c : List Level)
       let b = each-block bs piece.blocks in
       let m = stream-length s bs b in
       let g : p + k ≡ 64 * (p / 64) + k = omega arith in
-      ap (at (stream s bs)) g ∙ own-cell stream_marks s (stream s bs) (stream-kept s bs b) (p / 64) k (omega arith) (omega arith)
-      ∙ ap (shape (stream_marks (p / 64)) k) (stream-level s bs b (p / 64) (omega arith)) ∙ run-cell (stream_marks (p / 64)) k s l
+      ap (at (stream s bs)) g ∙ own-cell stream_marks s (stream s bs) (stream-kept s bs b) (p / 64) k (omega arith)
+      (omega arith)
+      ∙ ap (shape (stream_marks (p / 64)) k) (stream-level s bs b (p / 64) (omega arith))
+      ∙ first-run (stream_marks (p / 64)) k s l
 
   inside : (x : ℕ) → x < 24576 → q + x < length e
   inside x l =
@@ -194,12 +190,15 @@ module _ (s : Level) (bs : List (List (List Bool))) (i j : ℕ) (c : List Level)
       let i = h.rises (q + 192) (q + 199) (omega arith) in
       let k = h.few (q + 199) in
       let l = three in
-      go (cases_lt (f (q + 0)) (f (q + 7))) (cases_lt (f (q + 64)) (f (q + 71))) (cases_lt (f (q + 128)) (f (q + 135))) (cases_lt (f (q + 192)) (f (q + 199)))
+      go (cases_lt (f (q + 0)) (f (q + 7))) (cases_lt (f (q + 64)) (f (q + 71))) (cases_lt (f (q + 128)) (f (q + 135)))
+      (cases_lt (f (q + 192)) (f (q + 199)))
       a b c d e g i k l
     where
       go : (f (q + 0) < f (q + 7)) ⊎ (f (q + 7) ≤ f (q + 0)) → (f (q + 64) < f (q + 71)) ⊎ (f (q + 71) ≤ f (q + 64))
-          → (f (q + 128) < f (q + 135)) ⊎ (f (q + 135) ≤ f (q + 128)) → (f (q + 192) < f (q + 199)) ⊎ (f (q + 199) ≤ f (q + 192))
-          → f (q + 0) ≤ f (q + 7) → f (q + 7) ≤ f (q + 64) → f (q + 64) ≤ f (q + 71) → f (q + 71) ≤ f (q + 128) → f (q + 128) ≤ f (q + 135)
+          → (f (q + 128) < f (q + 135)) ⊎ (f (q + 135) ≤ f (q + 128)) → (f (q + 192) < f (q + 199))
+          ⊎ (f (q + 199) ≤ f (q + 192))
+          → f (q + 0) ≤ f (q + 7) → f (q + 7) ≤ f (q + 64) → f (q + 64) ≤ f (q + 71) → f (q + 71) ≤ f (q + 128)
+          → f (q + 128) ≤ f (q + 135)
           → f (q + 135) ≤ f (q + 192) → f (q + 192) ≤ f (q + 199) → f (q + 199) ≤ n → n ≤ 3
           → (m : ℕ) × (m < 4) × (f (q + 64 * m) ≡ f (q + (64 * m + 7)))
       go (inr u) v w x a b c d e g i k l = (0, lit< tt, omega arith)
@@ -222,7 +221,8 @@ module _ (s : Level) (bs : List (List (List Bool))) (i j : ℕ) (c : List Level)
         let x = h.rises (q + 64 * m) (q + (64 * m + k)) (omega arith) in
         let y = h.rises (q + (64 * m + k)) (q + (64 * m + 7)) (omega arith) in
         let g : i + (q + 64 * m + f (q + 64 * m)) + k ≡ i + (q + (64 * m + k) + f (q + (64 * m + k))) = omega arith in
-        ap (at (stream s bs)) g ∙ sym (cell (64 * m + k) (omega arith)) ∙ block-mark t d z.block m k (omega arith) o)) in
+        ap (at (stream s bs)) g ∙ sym (cell (64 * m + k) (omega arith))
+        ∙ block-mark t d z.block m k (omega arith) o)) in
         (a.0, a.2)
 
     place : (i + (q + f (q + 64 * m))) % 64 ≡ 0
@@ -240,10 +240,12 @@ module _ (s : Level) (bs : List (List (List Bool))) (i j : ℕ) (c : List Level)
             let r = reach in
             let k = h.few (q + 24575) in
             let y = three in
-            let g : i + (q + f (q + 64 * m)) + 24576 + (f (q + 24575) - f (q + 64 * m) - 1) ≡ i + (q + 24575 + f (q + 24575)) = omega arith in
+            let g : i + (q + f (q + 64 * m)) + 24576 + (f (q + 24575) - f (q + 64 * m) - 1)
+            ≡ i + (q + 24575 + f (q + 24575)) = omega arith in
             absurd
             (other_ne s
-            (sym (begun-run (i + (q + f (q + 64 * m)) + 24576) (f (q + 24575) - f (q + 64 * m) - 1) (omega arith) (omega arith) (omega arith))
+            (sym (begun-run (i + (q + f (q + 64 * m)) + 24576) (f (q + 24575) - f (q + 64 * m) - 1) (omega arith)
+                (omega arith) (omega arith))
             ∙ ap (at (stream s bs)) g ∙ sym (cell 24575 (lit< tt)) ∙ last-cell ∙ aligned.1))
 
     -- nor before it, but among the first three cells, since cell 3 of Z differs from these
@@ -258,11 +260,13 @@ module _ (s : Level) (bs : List (List (List Bool))) (i j : ℕ) (c : List Level)
             let r = reach in
             let k = h.few (q + 64 * m) in
             let y = three in
-            let g : i + (q + f (q + 64 * m)) + (3 + f (q + 3) - f (q + 64 * m)) ≡ i + (q + 3 + f (q + 3)) = omega arith in
+            let g : i + (q + f (q + 64 * m)) + (3 + f (q + 3) - f (q + 64 * m)) ≡ i + (q + 3 + f (q + 3)) =
+                omega arith in
             let b = to-end in
             absurd
             (other_ne s
-            (sym (begun-run (i + (q + f (q + 64 * m))) (3 + f (q + 3) - f (q + 64 * m)) place (omega arith) (omega arith))
+            (sym (begun-run (i + (q + f (q + 64 * m))) (3 + f (q + 3) - f (q + 64 * m)) place (omega arith)
+                (omega arith))
             ∙ ap (at (stream s bs)) g ∙ sym (cell 3 (lit< tt)) ∙ block-mark t d z.block 0 3 (lit< tt) (lit< tt)
             ∙ ap (λ m. shape m 3 t) first-mark ∙ behind-run t ∙ aligned.1))
 
@@ -275,7 +279,8 @@ module _ (s : Level) (bs : List (List (List Bool))) (i j : ℕ) (c : List Level)
             let r = reach in
             let b = to-end in
             let g : x ≡ 64 * 0 + x = omega arith in
-            ap (at (block_cells t d)) g ∙ block-mark t d z.block 0 x (lit< tt) (omega arith) ∙ run-cell (mark_at 0) x t k ∙ ap other aligned.1
+            ap (at (block_cells t d)) g ∙ block-mark t d z.block 0 x (lit< tt) (omega arith)
+            ∙ first-run (mark_at 0) x t k ∙ ap other aligned.1
             ∙ sym (begun-run (i + (q + f (q + 64 * m))) x place k (omega arith))
         go (inr k) =
             let a = h.rises (q + 3) (q + x) (omega arith) in
@@ -290,14 +295,17 @@ module _ (s : Level) (bs : List (List (List Bool))) (i j : ℕ) (c : List Level)
         let b = block_len_24576 in
         let w = h.within (q + 24575) (inside 24575 (lit< tt)) in
         let v = to-end in
-        let u = length-take-le block_len (drop (q + f (q + 64 * m)) c) (let o = length-drop (q + f (q + 64 * m)) c in omega arith) in
+        let u = length-take-le block_len (drop (q + f (q + 64 * m)) c) (let o = length-drop (q + f (q + 64 * m)) c in
+            omega arith) in
         let o = length-block_cells t d z.block in
         record {
           block = z.block;
           cells = ext_get_or Low (take block_len (drop (q + f (q + 64 * m)) c)) (block_cells t d) (u ∙ sym o) (λ x k.
               let g : i + (q + f (q + 64 * m) + x) ≡ i + (q + f (q + 64 * m)) + x = omega arith in
-              get_or-take block_len (drop (q + f (q + 64 * m)) c) x Low (omega arith) ∙ get_or-drop (q + f (q + 64 * m)) c x Low
-              ∙ streamed (q + f (q + 64 * m) + x) (omega arith) ∙ ap (at (stream s bs)) g ∙ sym (moved x (omega arith)));
+              get_or-take block_len (drop (q + f (q + 64 * m)) c) x Low (omega arith)
+              ∙ get_or-drop (q + f (q + 64 * m)) c x Low
+              ∙ streamed (q + f (q + 64 * m) + x) (omega arith) ∙ ap (at (stream s bs)) g
+              ∙ sym (moved x (omega arith)));
           closed = record {
             turns = λ k y.
                 let b = block_len_24576 in
@@ -308,8 +316,10 @@ module _ (s : Level) (bs : List (List (List Bool))) (i j : ℕ) (c : List Level)
                 let g : i + (q + f (q + 64 * m) + block_len) ≡ i + (q + f (q + 64 * m)) + 24576 + 0 = omega arith in
                 let v : i + (q + f (q + 64 * m) + 24575) ≡ i + (q + f (q + 64 * m)) + 24575 = omega arith in
                 other_ne s
-                (sym (begun-run (i + (q + f (q + 64 * m)) + 24576) 0 (omega arith) (lit< tt) (omega arith)) ∙ ap (at (stream s bs)) (sym g)
-                ∙ sym (streamed (q + f (q + 64 * m) + block_len) (omega arith)) ∙ sym (get_or-drop (q + f (q + 64 * m)) c block_len Low) ∙ y
+                (sym (begun-run (i + (q + f (q + 64 * m)) + 24576) 0 (omega arith) (lit< tt) (omega arith))
+                    ∙ ap (at (stream s bs)) (sym g)
+                ∙ sym (streamed (q + f (q + 64 * m) + block_len) (omega arith))
+                ∙ sym (get_or-drop (q + f (q + 64 * m)) c block_len Low) ∙ y
                 ∙ ap (at (drop (q + f (q + 64 * m)) c)) last ∙ get_or-drop (q + f (q + 64 * m)) c 24575 Low
                 ∙ streamed (q + f (q + 64 * m) + 24575) (omega arith) ∙ ap (at (stream s bs)) v
                 ∙ sym (moved 24575 (lit< tt)) ∙ last-cell ∙ aligned.1);
@@ -324,25 +334,31 @@ module _ (s : Level) (bs : List (List (List Bool))) (i j : ℕ) (c : List Level)
         stood = stood still.0 still.1 still.2;
       }
 
-pub losses-stood : (s : Level) (bs : List (List (List Bool))) (i j : ℕ) (c : List Level) → IsPiece s bs i j c → (ks : List ℕ) → length ks ≤ 3
-    → (q : ℕ) (d : List (List Bool)) (t : Level) → StandsClosed d t (drop q (without_each ks c)) → StoodLater (length ks) q d t c
+pub losses-stood : (s : Level) (bs : List (List (List Bool))) (i j : ℕ) (c : List Level) → IsPiece s bs i j c
+    → (ks : List ℕ) → length ks ≤ 3
+    → (q : ℕ) (d : List (List Bool)) (t : Level) → StandsClosed d t (drop q (without_each ks c))
+    → StoodLater (length ks) q d t c
 losses-stood s bs i j c p ks l q d t z =
     stood-later s bs i j c p (length ks) l (without_each ks c) (each-shift ks c).0 (each-shift ks c).1 q d t z
 
 -- what stands closed is given
-block-contained : (found : List PlacedBlock) (f : PlacedBlock) → Contains found f → Contains (map (λ f. f.block) found) f.block
+block-contained : (found : List PlacedBlock) (f : PlacedBlock) → Contains found f
+    → Contains (map (λ f. f.block) found) f.block
 block-contained [] f (k, l, e) = absurd (omega arith)
 block-contained (g ∷ found) f (zero, l, e) = (0, omega arith, ap (λ f. f.block) e)
 block-contained (g ∷ found) f (suc k, l, e) =
     let r = block-contained found f (k, omega arith, e) in let o = r.1 in (suc r.0, omega arith, r.2)
 
-standing-given : (c : List Level) (q : ℕ) (d : List (List Bool)) (t : Level) → StandsClosed d t (drop q c) → Contains (blocks c) d
+standing-given : (c : List Level) (q : ℕ) (d : List (List Bool)) (t : Level) → StandsClosed d t (drop q c)
+    → Contains (blocks c) d
 standing-given c q d t z =
     let r = blocks-all_standing c in
     subst (λ b. Contains b d) (sym r.2)
-    (block-contained r.0 (record { place = q; level = t; block = d }) (r.1.all (record { place = q; level = t; block = d }) z))
+    (block-contained r.0 (record { place = q; level = t; block = d })
+        (r.1.all (record { place = q; level = t; block = d }) z))
 
-pub losses-given : (s : Level) (bs : List (List (List Bool))) (i j : ℕ) (c : List Level) → IsPiece s bs i j c → (ks : List ℕ) → length ks ≤ 3
+pub losses-given : (s : Level) (bs : List (List (List Bool))) (i j : ℕ) (c : List Level) → IsPiece s bs i j c
+    → (ks : List ℕ) → length ks ≤ 3
     → All (Contains (blocks c)) (blocks (without_each ks c))
 losses-given s bs i j c p ks l =
     let r = blocks-all_standing (without_each ks c) in

@@ -1,5 +1,8 @@
 -- The blocks of a piece of a lawful stream of which one cell is lost.
-use Rattle.std.proofs.Common.{◌≡◌, ℕ, zero, suc, ◌+◌, ◌-◌, ◌%◌, ◌<◌, ◌≤◌, ◌⊎◌, inl, inr, List, [], ◌∷◌, ◌++◌, Bool, ◌&&◌, ◌==◌, cond, leb, ltb, refl, length, take, drop, ap, ap₂, ◌∙◌, sym, arith, length-take-le, length-drop, get_or-take, get_or-drop, ext_get_or, le-leb, le-ltb, eq-eqb, ne_eqb, lt-ltb}
+use Rattle.std.proofs.Common.{◌≡◌, ℕ, zero, suc, ◌+◌, ◌-◌, ◌%◌, ◌<◌, ◌≤◌, ◌⊎◌, inl, inr, List, [], ◌∷◌, ◌++◌, Bool}
+use Rattle.std.proofs.Common.{◌&&◌, ◌==◌, cond, leb, ltb, refl, length, take, drop, ap, ap₂, ◌∙◌, sym, arith}
+use Rattle.std.proofs.Common.{length-take-le, length-drop, get_or-take, get_or-drop, ext_get_or, le-leb, le-ltb, eq-eqb}
+use Rattle.std.proofs.Common.{ne_eqb, lt-ltb}
 use Rattle.std.proofs.lemmas.Bool.{cases_eq, cases_lt, lt-leb}
 use Rattle.aes3_cell.specs.declared.level.Level.{Level}
 use Rattle.aes3_cell.specs.declared.level.Level.TheVariants.{Low}
@@ -15,7 +18,6 @@ use Rattle.aes3_lock.proofs.AllStanding.{closed-room}
 use Rattle.aes3_lock.proofs.Apart.{apart-self}
 use Rattle.aes3_lock.proofs.Bridges.{begun, begun-second, no-bridge}
 use Rattle.aes3_lock.proofs.Damaged.{piece-cell, no-other, own-stays}
-use Rattle.aes3_lock.proofs.Deciding.{block_len_24576}
 use Rattle.aes3_lock.proofs.Distances.{off-subframes, off-blocks}
 use Rattle.aes3_lock.proofs.Damaged.{line-cell}
 use Rattle.aes3_lock.proofs.Given.{gather-given, gather-same}
@@ -23,6 +25,7 @@ use Rattle.aes3_lock.proofs.LawfulPieces.{stream-length}
 use Rattle.aes3_lock.proofs.PlaceBlocks.{block_here, blocks-collect, here-none, here-some, here-any}
 use Rattle.aes3_lock.proofs.PieceBounds.{length-piece}
 use Rattle.aes3_lock.proofs.Places.{gather, collect-gather, gather-add}
+use Rattle.aes3_block.proofs.CellLaws.{block_len_24576}
 
 -- the cells that are left
 pub length-without : (k : ℕ) (c : List Level) → k < length c → suc (length (without k c)) ≡ length c
@@ -53,25 +56,31 @@ drop-without (suc k) (y ∷ c) (suc q) h = drop-without k c q (omega arith)
 apart-nothing : (c d : List Level) (n : ℕ) → c ≡ d → suc n ≤ apart c d → ⊥
 apart-nothing c d n e h = let a = ap (λ x. apart c x) (sym e) in let b = apart-self c in omega arith
 
-pub far : (s : Level) (bs : List (List (List Bool))) → EachBlock bs → (p : ℕ) → p + block_len ≤ length (stream s bs) → 0 < p % 24576
+pub far : (s : Level) (bs : List (List (List Bool))) → EachBlock bs → (p : ℕ) → p + block_len ≤ length (stream s bs)
+    → 0 < p % 24576
     → (d : List (List Bool)) (t : Level) → IsBlock d → take block_len (drop p (stream s bs)) ≡ block_cells t d → ⊥
 far s bs h p r o d t g e = go (cases_eq (p % 64) 0)
   where
     go : (p % 64 ≡ 0) ⊎ (p % 64 ≡ 0 → ⊥) → ⊥
-    go (inl m) = apart-nothing (take block_len (drop p (stream s bs))) (block_cells t d) 3 e (off-blocks s bs h t d g p r m o)
-    go (inr m) = apart-nothing (take block_len (drop p (stream s bs))) (block_cells t d) 383 e (off-subframes s bs h t d g p r m)
+    go (inl m) = apart-nothing (take block_len (drop p (stream s bs))) (block_cells t d) 3 e
+        (off-blocks s bs h t d g p r m o)
+    go (inr m) = apart-nothing (take block_len (drop p (stream s bs))) (block_cells t d) 383 e
+        (off-subframes s bs h t d g p r m)
 
 -- tests of a held cell
-held-true : {A : Type 0} (p k : ℕ) (x y : A) → p ≤ k → k < p + block_len → cond (leb p k && ltb k (p + block_len)) x y ≡ x
+held-true : {A : Type 0} (p k : ℕ) (x y : A) → p ≤ k → k < p + block_len
+    → cond (leb p k && ltb k (p + block_len)) x y ≡ x
 held-true p k x y a b = let u = le-leb p k a in let v = lt-ltb k (p + block_len) b in rw (u, v) refl
 
 held-before : {A : Type 0} (p k : ℕ) (x y : A) → k < p → cond (leb p k && ltb k (p + block_len)) x y ≡ y
 held-before p k x y a = let u = lt-leb p k a in rw u refl
 
-held-behind : {A : Type 0} (p k : ℕ) (x y : A) → p ≤ k → p + block_len ≤ k → cond (leb p k && ltb k (p + block_len)) x y ≡ y
+held-behind : {A : Type 0} (p k : ℕ) (x y : A) → p ≤ k → p + block_len ≤ k
+    → cond (leb p k && ltb k (p + block_len)) x y ≡ y
 held-behind p k x y a b = let u = le-leb p k a in let v = le-ltb k (p + block_len) b in rw (u, v) refl
 
-module _ (s : Level) (bs : List (List (List Bool))) (h : EachBlock bs) (i j : ℕ) (order : i ≤ j) (within : j ≤ length (stream s bs))
+module _ (s : Level) (bs : List (List (List Bool))) (h : EachBlock bs) (i j : ℕ) (order : i ≤ j)
+    (within : j ≤ length (stream s bs))
     (k : ℕ) (inside : k < j - i) where
   abbrev piece : List Level
   piece = take (j - i) (drop i (stream s bs))
@@ -90,18 +99,22 @@ module _ (s : Level) (bs : List (List (List Bool))) (h : EachBlock bs) (i j : �
   early-cell p x l o =
       let n = inside in
       let q : i + (p - i + x) ≡ p + x = omega arith in
-      get_or-drop (p - i) left x Low ∙ without-before k piece (p - i + x) (omega arith) ∙ piece-cell i j (p - i + x) (stream s bs) (omega arith)
+      get_or-drop (p - i) left x Low ∙ without-before k piece (p - i + x) (omega arith)
+      ∙ piece-cell i j (p - i + x) (stream s bs) (omega arith)
       ∙ ap (at (stream s bs)) q
 
-  late-cell : (p x : ℕ) → i ≤ p → i + k ≤ p + x → suc p + x < j → at (drop (p - i) left) x ≡ at (stream s bs) (suc p + x)
+  late-cell : (p x : ℕ) → i ≤ p → i + k ≤ p + x → suc p + x < j
+      → at (drop (p - i) left) x ≡ at (stream s bs) (suc p + x)
   late-cell p x l o r =
       let n = inside in
       let q : i + suc (p - i + x) ≡ suc p + x = omega arith in
-      get_or-drop (p - i) left x Low ∙ without-behind k piece (p - i + x) (omega arith) ∙ piece-cell i j (suc (p - i + x)) (stream s bs) (omega arith)
+      get_or-drop (p - i) left x Low ∙ without-behind k piece (p - i + x) (omega arith)
+      ∙ piece-cell i j (suc (p - i + x)) (stream s bs) (omega arith)
       ∙ ap (at (stream s bs)) q
 
   -- no block stands across the lost cell
-  across : (p : ℕ) → i ≤ p → p < i + k → i + k < p + block_len → (d : List (List Bool)) (t : Level) → StandsClosed d t (drop (p - i) left) → ⊥
+  across : (p : ℕ) → i ≤ p → p < i + k → i + k < p + block_len → (d : List (List Bool)) (t : Level)
+      → StandsClosed d t (drop (p - i) left) → ⊥
   across p l o r d t z =
       let m = block_len_24576 in
       let n = left-length in
@@ -117,20 +130,24 @@ module _ (s : Level) (bs : List (List (List Bool))) (h : EachBlock bs) (i j : �
       cell x o = ap (λ c. at c x) (sym z.cells) ∙ get_or-take block_len (drop (p - i) left) x Low o
 
   -- what stands before it stands in the stream
-  window-before : (p : ℕ) → i ≤ p → p + block_len ≤ i + k → take block_len (drop (p - i) left) ≡ take block_len (drop p (stream s bs))
+  window-before : (p : ℕ) → i ≤ p → p + block_len ≤ i + k
+      → take block_len (drop (p - i) left) ≡ take block_len (drop p (stream s bs))
   window-before p l r =
       let n = left-length in
       let v = inside in
       let w = within in
-      let a = length-take-le block_len (drop (p - i) left) (let y = length-drop (p - i) left in let n = left-length in let v = inside in omega arith) in
-      let b = length-take-le block_len (drop p (stream s bs)) (let y = length-drop p (stream s bs) in let w = within in let v = inside in omega arith) in
+      let a = length-take-le block_len (drop (p - i) left) (let y = length-drop (p - i) left in let n = left-length in
+          let v = inside in omega arith) in
+      let b = length-take-le block_len (drop p (stream s bs)) (let y = length-drop p (stream s bs) in let w = within in
+          let v = inside in omega arith) in
       ext_get_or Low (take block_len (drop (p - i) left)) (take block_len (drop p (stream s bs))) (a ∙ sym b)
       (λ x o. get_or-take block_len (drop (p - i) left) x Low (omega arith) ∙ early-cell p x l (omega arith)
       ∙ sym (get_or-take block_len (drop p (stream s bs)) x Low (omega arith) ∙ get_or-drop p (stream s bs) x Low))
 
   -- what is given at a place of the stream: that of the lost cell gives nothing
   from : ℕ → List (List (List Bool))
-  from p = cond (ltb p (i + k)) (block_here 0 (drop (p - i) left)) (cond (p == i + k) [] (block_here 0 (drop (p - i - 1) left)))
+  from p = cond (ltb p (i + k)) (block_here 0 (drop (p - i) left))
+      (cond (p == i + k) [] (block_here 0 (drop (p - i - 1) left)))
 
   from-early : (p : ℕ) → p < i + k → from p ≡ block_here 0 (drop (p - i) left)
   unfolding from
@@ -142,7 +159,8 @@ module _ (s : Level) (bs : List (List (List Bool))) (h : EachBlock bs) (i j : �
 
   from-late : (p : ℕ) → i + k < p → from p ≡ block_here 0 (drop (p - i - 1) left)
   unfolding from
-  from-late p l = let a = le-ltb p (i + k) (omega arith) in let b = ne_eqb p (i + k) (λ e. omega arith) in rw (a, b) refl
+  from-late p l = let a = le-ltb p (i + k) (omega arith) in let b = ne_eqb p (i + k) (λ e. omega arith) in
+      rw (a, b) refl
 
   left-places : wholes (reports_from 0 left) ≡ gather from i (j - i)
   left-places =
@@ -153,14 +171,17 @@ module _ (s : Level) (bs : List (List (List Bool))) (h : EachBlock bs) (i j : �
       let b : length left ≡ k + (j - i - 1 - k) = omega arith in
       blocks-collect 0 left
       ∙ collect-gather block_here (λ q. block_here 0 (drop q left)) 0 0 left
-      (λ q l. let z : 0 + q ≡ q = omega arith in here-any (0 + q) 0 (drop q left) ∙ ap (λ m. block_here 0 (drop m left)) (sym z))
+      (λ q l. let z : 0 + q ≡ q = omega arith in here-any (0 + q) 0 (drop q left)
+          ∙ ap (λ m. block_here 0 (drop m left)) (sym z))
       ∙ ap (gather (λ q. block_here 0 (drop q left)) 0) b
       ∙ gather-add (λ q. block_here 0 (drop q left)) 0 k (j - i - 1 - k)
       ∙ ap₂ (λ u v. u ++ v)
       (gather-same (λ q. block_here 0 (drop q left)) from 0 i k
-      (λ q l. let z : 0 + q ≡ i + q - i = omega arith in ap (λ m. block_here 0 (drop m left)) z ∙ sym (from-early (i + q) (omega arith))))
+      (λ q l. let z : 0 + q ≡ i + q - i = omega arith in ap (λ m. block_here 0 (drop m left)) z
+          ∙ sym (from-early (i + q) (omega arith))))
       (gather-same (λ q. block_here 0 (drop q left)) from (0 + k) (suc (i + k)) (j - i - 1 - k)
-      (λ q l. let z : 0 + k + q ≡ suc (i + k) + q - i - 1 = omega arith in ap (λ m. block_here 0 (drop m left)) z ∙ sym (from-late (suc (i + k) + q) (omega arith)))
+      (λ q l. let z : 0 + k + q ≡ suc (i + k) + q - i - 1 = omega arith in ap (λ m. block_here 0 (drop m left)) z
+          ∙ sym (from-late (suc (i + k) + q) (omega arith)))
       ∙ ap (λ x. x ++ gather from (suc (i + k)) (j - i - 1 - k)) (sym (from-lost (i + k) refl)))
       ∙ sym (ap (gather from i) a ∙ gather-add from i k (suc (j - i - 1 - k)))
 
@@ -168,16 +189,19 @@ module _ (s : Level) (bs : List (List (List Bool))) (h : EachBlock bs) (i j : �
   off : (p : ℕ) → i ≤ p → p + block_len ≤ j → 0 < p % 24576 → from p ≡ []
   off p l r o = go (cases_lt p (i + k)) (cases_lt (i + k) p) (cases_lt (i + k) (p + block_len))
     where
-      go : (p < i + k) ⊎ (i + k ≤ p) → (i + k < p) ⊎ (p ≤ i + k) → (i + k < p + block_len) ⊎ (p + block_len ≤ i + k) → from p ≡ []
+      go : (p < i + k) ⊎ (i + k ≤ p) → (i + k < p) ⊎ (p ≤ i + k) → (i + k < p + block_len) ⊎ (p + block_len ≤ i + k)
+          → from p ≡ []
       go (inl a) b (inl c) = from-early p a ∙ here-none 0 (drop (p - i) left) (across p l a c)
       go (inl a) b (inr c) =
           from-early p a ∙ here-none 0 (drop (p - i) left)
           (λ d t z. let w = within in far s bs h p (omega arith) o d t z.block (sym (window-before p l c) ∙ z.cells))
       go (inr a) (inl b) c =
           let q : suc (p - i - 1) ≡ p - i = omega arith in
-          let e : drop (p - i - 1) left ≡ drop (p - i) piece = drop-without k piece (p - i - 1) (omega arith) ∙ ap (λ m. drop m piece) q in
+          let e : drop (p - i - 1) left ≡ drop (p - i) piece = drop-without k piece (p - i - 1) (omega arith)
+          ∙ ap (λ m. drop m piece) q in
           from-late p b ∙ ap (block_here 0) e
-          ∙ here-none 0 (drop (p - i) piece) (no-other s bs h i j order within piece piece-length p (let v = apart-self piece in omega arith) l r o)
+          ∙ here-none 0 (drop (p - i) piece)
+          (no-other s bs h i j order within piece piece-length p (let v = apart-self piece in omega arith) l r o)
       go (inr a) (inr b) c = from-lost p (omega arith)
 
   short : (p : ℕ) → i ≤ p → p < j → j < p + block_len → from p ≡ []
@@ -186,14 +210,17 @@ module _ (s : Level) (bs : List (List (List Bool))) (h : EachBlock bs) (i j : �
       go : (p < i + k) ⊎ (i + k ≤ p) → (i + k < p) ⊎ (p ≤ i + k) → from p ≡ []
       go (inl a) b =
           from-early p a ∙ here-none 0 (drop (p - i) left)
-          (λ d t z. let n = left-length in let x = closed-room d t (drop (p - i) left) z in let y = length-drop (p - i) left in omega arith)
+          (λ d t z. let n = left-length in let x = closed-room d t (drop (p - i) left) z in
+              let y = length-drop (p - i) left in omega arith)
       go (inr a) (inl b) =
           from-late p b ∙ here-none 0 (drop (p - i - 1) left)
-          (λ d t z. let n = left-length in let x = closed-room d t (drop (p - i - 1) left) z in let y = length-drop (p - i - 1) left in omega arith)
+          (λ d t z. let n = left-length in let x = closed-room d t (drop (p - i - 1) left) z in
+              let y = length-drop (p - i - 1) left in omega arith)
       go (inr a) (inr b) = from-lost p (omega arith)
 
   -- at the start of a block that lies whole in the piece
-  own : (p : ℕ) (b : List (List Bool)) (more : List (List (List Bool))) → i ≤ p → p + block_len ≤ j → EachBlock (b ∷ more)
+  own : (p : ℕ) (b : List (List Bool)) (more : List (List (List Bool))) → i ≤ p → p + block_len ≤ j
+      → EachBlock (b ∷ more)
       → drop p (stream s bs) ≡ stream s (b ∷ more) → from p ≡ after_loss (i + k) p b
   own p b more l r g e = go (cases_lt p (i + k)) (cases_lt (i + k) p) (cases_lt (i + k) (p + block_len))
     where
@@ -208,13 +235,15 @@ module _ (s : Level) (bs : List (List (List Bool))) (h : EachBlock bs) (i j : �
           own-stays s bs h i (j - 1) (omega arith) (omega arith) left left-length p b more l (omega arith) g e one
         where
           -- the cell behind it is lost, and the next one is its equal
-          closing : p + block_len ≡ i + k → p + block_len < j - 1 → at (drop (p - i) left) block_len ≡ at (stream s (b ∷ more)) block_len
+          closing : p + block_len ≡ i + k → p + block_len < j - 1
+              → at (drop (p - i) left) block_len ≡ at (stream s (b ∷ more)) block_len
           closing q o =
               let w = within in
               let m = block_len_24576 in
               let y : suc p + block_len ≡ suc (p + block_len) = omega arith in
               late-cell p block_len l (omega arith) (omega arith) ∙ ap (at (stream s bs)) y
-              ∙ begun-second s bs h (p + block_len) aligned (omega arith) ∙ sym (begun s bs h (p + block_len) aligned (omega arith)) ∙ cell block_len
+              ∙ begun-second s bs h (p + block_len) aligned (omega arith)
+              ∙ sym (begun s bs h (p + block_len) aligned (omega arith)) ∙ cell block_len
             where
               aligned : (p + block_len) % 64 ≡ 0
               aligned =
@@ -233,16 +262,20 @@ module _ (s : Level) (bs : List (List (List Bool))) (h : EachBlock bs) (i j : �
               by (inl n) = early-cell p x l n ∙ cell x
               by (inr n) =
                   let q : x ≡ block_len = omega arith in
-                  ap (at (drop (p - i) left)) q ∙ closing (omega arith) (omega arith) ∙ ap (at (stream s (b ∷ more))) (sym q)
+                  ap (at (drop (p - i) left)) q ∙ closing (omega arith) (omega arith)
+                  ∙ ap (at (stream s (b ∷ more))) (sym q)
 
       go : (p < i + k) ⊎ (i + k ≤ p) → (i + k < p) ⊎ (p ≤ i + k) → (i + k < p + block_len) ⊎ (p + block_len ≤ i + k)
           → from p ≡ cond (leb p (i + k) && ltb (i + k) (p + block_len)) [] (b ∷ [])
       go (inl a) x (inl c) =
-          from-early p a ∙ here-none 0 (drop (p - i) left) (across p l a c) ∙ sym (held-true p (i + k) [] (b ∷ []) (omega arith) c)
-      go (inl a) x (inr c) = from-early p a ∙ here-some 0 b s (drop (p - i) left) (stays c) ∙ sym (held-behind p (i + k) [] (b ∷ []) (omega arith) c)
+          from-early p a ∙ here-none 0 (drop (p - i) left) (across p l a c)
+          ∙ sym (held-true p (i + k) [] (b ∷ []) (omega arith) c)
+      go (inl a) x (inr c) = from-early p a ∙ here-some 0 b s (drop (p - i) left) (stays c)
+          ∙ sym (held-behind p (i + k) [] (b ∷ []) (omega arith) c)
       go (inr a) (inl x) c =
           let q : suc (p - i - 1) ≡ p - i = omega arith in
-          let y : drop (p - i - 1) left ≡ drop (p - i) piece = drop-without k piece (p - i - 1) (omega arith) ∙ ap (λ m. drop m piece) q in
+          let y : drop (p - i - 1) left ≡ drop (p - i) piece = drop-without k piece (p - i - 1) (omega arith)
+          ∙ ap (λ m. drop m piece) q in
           from-late p x ∙ ap (block_here 0) y
           ∙ here-some 0 b s (drop (p - i) piece) (own-stays s bs h i j order within piece piece-length p b more l r g e
           (λ x o u. get_or-drop (p - i) piece x Low ∙ line-cell s bs (b ∷ more) i j p x l u e))
@@ -255,9 +288,11 @@ module _ (s : Level) (bs : List (List (List Bool))) (h : EachBlock bs) (i j : �
   pub loss-blocks : wholes (reports_from 0 left) ≡ given_within (after_loss (i + k)) 0 i j bs
   loss-blocks = left-places ∙ gather-given s bs h i j order within from (after_loss (i + k)) off short own
 
-pub blocks-lost : (s : Level) (bs : List (List (List Bool))) (i j : ℕ) (c : List Level) → IsPiece s bs i j c → (k : ℕ) → k < length c
+pub blocks-lost : (s : Level) (bs : List (List (List Bool))) (i j : ℕ) (c : List Level) → IsPiece s bs i j c → (k : ℕ)
+    → k < length c
     → blocks (without k c) ≡ given_blocks (after_loss (i + k)) bs i j
 unfolding blocks reports given_blocks
 blocks-lost s bs i j c p k l =
     let n = ap length p.is ∙ length-piece i j (stream s bs) p.order p.within in
-    ap (λ d. wholes (reports_from 0 (without k d))) p.is ∙ loss-blocks s bs (each-block bs p.blocks) i j p.order p.within k (omega arith)
+    ap (λ d. wholes (reports_from 0 (without k d))) p.is
+    ∙ loss-blocks s bs (each-block bs p.blocks) i j p.order p.within k (omega arith)

@@ -1,5 +1,6 @@
 -- The blocks of a lawful stream are those that it was made of.
-use Rattle.std.proofs.Common.{◌≡◌, ℕ, suc, ◌+◌, ◌-◌, ◌*◌, ◌≤◌, List, [], ◌∷◌, ◌++◌, Bool, refl, length, ap, ap₂, ◌∙◌, sym, subst, arith}
+use Rattle.std.proofs.Common.{◌≡◌, ℕ, suc, ◌+◌, ◌-◌, ◌*◌, ◌≤◌, List, [], ◌∷◌, ◌++◌, Bool, refl, length, ap, ap₂, ◌∙◌}
+use Rattle.std.proofs.Common.{sym, subst, arith}
 use Rattle.std.specs.List.{All}
 use Rattle.std.proofs.lemmas.List.{take_all}
 use Rattle.std.proofs.lemmas.List.Elements.{All-map}
@@ -16,11 +17,13 @@ use Rattle.aes3_lock.proofs.PieceBlocks.{blocks-whole}
 use Rattle.aes3_lock.proofs.PlaceBlocks.{whole-len}
 
 -- all blocks lie in all cells
-all-within : (bs : List (List (List Bool))) (p j : ℕ) → p + length bs * block_len ≤ j → given_within (λ p b. b ∷ []) p 0 j bs ≡ bs
+all-within : (bs : List (List (List Bool))) (p j : ℕ) → p + length bs * block_len ≤ j
+    → given_within (λ p b. b ∷ []) p 0 j bs ≡ bs
 all-within [] p j h = refl
 all-within (b ∷ bs) p j h =
     let e : suc (length bs) * block_len ≡ block_len + length bs * block_len = omega arith in
-    ap₂ (λ u v. u ++ v) (both-true 0 p (p + block_len) j (b ∷ []) [] (omega arith) (omega arith)) (all-within bs (p + block_len) j (omega arith))
+    ap₂ (λ u v. u ++ v) (both-true 0 p (p + block_len) j (b ∷ []) [] (omega arith) (omega arith))
+    (all-within bs (p + block_len) j (omega arith))
 
 all-whole : (bs : List (List (List Bool))) (j : ℕ) → length bs * block_len ≤ j → whole_blocks bs 0 j ≡ bs
 unfolding whole_blocks

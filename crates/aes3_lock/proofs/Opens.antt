@@ -1,5 +1,8 @@
 -- The one candidate in hand, and what a cell makes of it.
-use Rattle.std.proofs.Common.{◌≡◌, ℕ, zero, suc, ◌+◌, ◌*◌, ◌/◌, ◌<◌, ◌≤◌, ◌⊎◌, inl, inr, List, [], ◌∷◌, ◌++◌, Bool, true, false, cond, eqb, Some, None, refl, length, drop, ap, ap₂, ◌∙◌, sym, arith, length-append, length-drop, lt-ltb, eq-eqb, eqb-true, true≢false, append_assoc, append-nil, subst}
+use Rattle.std.proofs.Common.{◌≡◌, ℕ, zero, suc, ◌+◌, ◌*◌, ◌/◌, ◌<◌, ◌≤◌, ◌⊎◌, inl, inr, List, [], ◌∷◌, ◌++◌, Bool}
+use Rattle.std.proofs.Common.{true, false, cond, eqb, Some, None, refl, length, drop, ap, ap₂, ◌∙◌, sym, arith}
+use Rattle.std.proofs.Common.{length-append, length-drop, lt-ltb, eq-eqb, eqb-true, true≢false, append_assoc}
+use Rattle.std.proofs.Common.{append-nil, subst}
 use Rattle.std.proofs.lemmas.Bool.{cases_eq, and_parts, and_from, false_from_ne_true}
 use Rattle.std.proofs.lemmas.List.{drop-append-le}
 use Rattle.std.proofs.Math.Seq.{get_or-append_seam}
@@ -16,7 +19,8 @@ use Rattle.aes3_lock.specs.Reports.{told, decided_at, open_at, decided_from}
 use Rattle.aes3_lock.proofs.Fronts.{front-is, front-unique, keeps-append}
 use Rattle.aes3_slot.specs.declared.mark.Mark.TheVariants.{Z}
 use Rattle.aes3_slot.proofs.Beginnings.{begins-stands, begins-room, begins-append, entry-append}
-use Rattle.aes3_lock.proofs.Deciding.{answer, decided-push, open-alone, none-from-front, decided-from, front-eight, outcome_is, outcome_by}
+use Rattle.aes3_lock.proofs.Deciding.{answer, decided-push, open-alone, none-from-front, decided-from, front-eight}
+use Rattle.aes3_lock.proofs.Deciding.{outcome_is, outcome_by}
 
 pub record IsOpen (d : List Level) : Type 0 where
   pub begins : begins_block d ≡ true
@@ -64,30 +68,35 @@ answer-open p (x ∷ c) l zero h =
 answer-open p (x ∷ c) l (suc q) h = go (open_at (x ∷ c)) refl (answer-open (suc p) c l q h)
   where
     go : (b : Bool) → open_at (x ∷ c) ≡ b → answer (suc p) c l ≡ told (suc p + q) (decided_at (drop q c ++ l ∷ []))
-        → cond b (told p (decided_at (x ∷ c ++ l ∷ []))) (answer (suc p) c l) ≡ told (p + suc q) (decided_at (drop q c ++ l ∷ []))
+        → cond b (told p (decided_at (x ∷ c ++ l ∷ []))) (answer (suc p) c l) ≡ told (p + suc q)
+        (decided_at (drop q c ++ l ∷ []))
     go true e ih = absurd (open-once c q x e h)
     go false e ih = ih ∙ ap (λ n. told n (decided_at (drop q c ++ l ∷ []))) (omega arith)
 
 -- the new cell against the rule
 pub keeps-new : (s : Level) (d : List Level) (l : Level)
-    → keeps s (d ++ l ∷ []) (length d) ≡ rule mark_at (length d) l (before s d (64 * (length d / 64))) (before s d (length d))
+    → keeps s (d ++ l ∷ []) (length d) ≡ rule mark_at (length d) l (before s d (64 * (length d / 64)))
+    (before s d (length d))
 unfolding keeps
 keeps-new s d l =
     let f : at (d ++ l ∷ []) (length d) ≡ l = get_or-append_seam d l [] Low in
-    let g1 : before s (d ++ l ∷ []) (length d) ≡ before s d (length d) = before-append_left s d (l ∷ []) (length d) (omega arith) in
+    let g1 : before s (d ++ l ∷ []) (length d) ≡ before s d (length d) =
+        before-append_left s d (l ∷ []) (length d) (omega arith) in
     let g2 : before s (d ++ l ∷ []) (64 * (length d / 64)) ≡ before s d (64 * (length d / 64)) =
     before-append_left s d (l ∷ []) (64 * (length d / 64)) (omega arith) in
     ap₂ (λ x p. rule mark_at (length d) x (before s (d ++ l ∷ []) (64 * (length d / 64))) p) f g1
     ∙ ap (λ b. rule mark_at (length d) l b (before s d (length d))) g2
 
 -- how far the rule holds with one more cell
-pub front-next : (d : List Level) (l : Level) → IsOpen d → length d < block_len → keeps (entry d) (d ++ l ∷ []) (length d) ≡ true
+pub front-next : (d : List Level) (l : Level) → IsOpen d → length d < block_len
+    → keeps (entry d) (d ++ l ∷ []) (length d) ≡ true
     → front (entry d) (d ++ l ∷ []) ≡ suc (length d)
 front-next d l o h k =
     let w = front-is (entry d) d in
     let a = o.all in
     let n = length-append d (l ∷ []) in
-    front-unique (entry d) (d ++ l ∷ []) (front (entry d) (d ++ l ∷ [])) (suc (length d)) (front-is (entry d) (d ++ l ∷ []))
+    front-unique (entry d) (d ++ l ∷ []) (front (entry d) (d ++ l ∷ [])) (suc (length d))
+    (front-is (entry d) (d ++ l ∷ []))
     (record {
       within = omega (arith, n, h);
       kept = λ i g. kept i g (cases_eq i (length d));
@@ -100,7 +109,8 @@ front-next d l o h k =
         let a = o.all in
         keeps-append (entry d) d (l ∷ []) i (omega arith) ∙ (front-is (entry d) d).kept i (omega arith)
 
-pub front-last : (d : List Level) (l : Level) → IsOpen d → (length d < block_len → keeps (entry d) (d ++ l ∷ []) (length d) ≡ false)
+pub front-last : (d : List Level) (l : Level) → IsOpen d
+    → (length d < block_len → keeps (entry d) (d ++ l ∷ []) (length d) ≡ false)
     → front (entry d) (d ++ l ∷ []) ≡ length d
 front-last d l o k =
     let a = o.all in
@@ -125,7 +135,8 @@ module _ (d : List Level) (l : Level) (o : IsOpen d) where
       → (open_at (d ++ l ∷ []) ≡ true) × (decided_at (d ++ l ∷ []) ≡ None)
   open-next h k =
       let n = length-append d (l ∷ []) in
-      let f : front (entry (d ++ l ∷ [])) (d ++ l ∷ []) ≡ suc (length d) = ap (λ s. front s (d ++ l ∷ [])) same-entry ∙ front-next d l o h k in (
+      let f : front (entry (d ++ l ∷ [])) (d ++ l ∷ []) ≡ suc (length d) = ap (λ s. front s (d ++ l ∷ [])) same-entry
+      ∙ front-next d l o h k in (
         open-from (d ++ l ∷ []) (record { begins = still-begins; all = omega (arith, f, n) }),
         none-from-front (d ++ l ∷ []) (omega (arith, f, n)),
       )
@@ -135,7 +146,8 @@ module _ (d : List Level) (l : Level) (o : IsOpen d) where
   front-at-last k = ap (λ s. front s (d ++ l ∷ [])) same-entry ∙ front-last d l o k
 
   -- no cell goes on after such a cell
-  pub open-ends : (length d < block_len → keeps (entry d) (d ++ l ∷ []) (length d) ≡ false) → open_at (d ++ l ∷ []) ≡ false
+  pub open-ends : (length d < block_len → keeps (entry d) (d ++ l ∷ []) (length d) ≡ false)
+      → open_at (d ++ l ∷ []) ≡ false
   open-ends k = false_from_ne_true (open_at (d ++ l ∷ [])) (λ e.
       let a = (is-open (d ++ l ∷ []) e).all in
       let f = front-at-last k in
@@ -143,21 +155,28 @@ module _ (d : List Level) (l : Level) (o : IsOpen d) where
       omega (arith, a, f, n))
 
   pub open-decides : (k : length d < block_len → keeps (entry d) (d ++ l ∷ []) (length d) ≡ false)
-      → decided_at (d ++ l ∷ []) ≡ Some (ended (entry d) (length d) (same l (before (entry d) d (length d))) (read_slots block_slots (d ++ l ∷ [])))
+      → decided_at (d ++ l ∷ []) ≡ Some
+      (ended (entry d) (length d) (same l (before (entry d) d (length d))) (read_slots block_slots (d ++ l ∷ [])))
   open-decides k =
       let f = front-at-last k in
       let n = length-append d (l ∷ []) in
       let m : length (d ++ l ∷ []) ≡ suc (length d) = omega (arith, n) in
-      let b : same (at (d ++ l ∷ []) (length d)) (before (entry (d ++ l ∷ [])) (d ++ l ∷ []) (length d)) ≡ same l (before (entry d) d (length d)) =
+      let b : same (at (d ++ l ∷ []) (length d)) (before (entry (d ++ l ∷ [])) (d ++ l ∷ []) (length d)) ≡ same l
+      (before (entry d) d (length d)) =
       ap₂ same (get_or-append_seam d l [] Low)
-      (ap (λ s. before s (d ++ l ∷ []) (length d)) same-entry ∙ before-append_left (entry d) d (l ∷ []) (length d) (omega arith)) in
+      (ap (λ s. before s (d ++ l ∷ []) (length d)) same-entry
+          ∙ before-append_left (entry d) d (l ∷ []) (length d) (omega arith)) in
       decided-from (d ++ l ∷ []) still-begins (omega (arith, f, n))
       ∙ ap Some (outcome_is (d ++ l ∷ [])
-      ∙ ap₂ (λ s f. outcome_by s f (length (d ++ l ∷ [])) (same (at (d ++ l ∷ []) f) (before (entry (d ++ l ∷ [])) (d ++ l ∷ []) f)) (read_slots block_slots (d ++ l ∷ [])))
+      ∙ ap₂ (λ s f. outcome_by s f (length (d ++ l ∷ []))
+          (same (at (d ++ l ∷ []) f) (before (entry (d ++ l ∷ [])) (d ++ l ∷ []) f))
+          (read_slots block_slots (d ++ l ∷ [])))
       same-entry f
       ∙ ap₂ (λ n b. outcome_by (entry d) (length d) n b (read_slots block_slots (d ++ l ∷ []))) m b
-      ∙ ap (λ t. cond t (ended (entry d) (length d) (same l (before (entry d) d (length d))) (read_slots block_slots (d ++ l ∷ [])))
-      (left (entry d) (length d) (read_slots block_slots (d ++ l ∷ [])))) (lt-ltb (length d) (suc (length d)) (omega arith)))
+      ∙ ap (λ t. cond t
+          (ended (entry d) (length d) (same l (before (entry d) d (length d))) (read_slots block_slots (d ++ l ∷ [])))
+      (left (entry d) (length d) (read_slots block_slots (d ++ l ∷ []))))
+      (lt-ltb (length d) (suc (length d)) (omega arith)))
 
 -- what is in hand with the last cell was in hand before it
 pub open-back : (d : List Level) (l : Level) → 8 ≤ length d → open_at (d ++ l ∷ []) ≡ true → open_at d ≡ true
@@ -173,7 +192,8 @@ open-back d l h e =
       all = front-unique (entry d) d (front (entry d) d) (length d) (front-is (entry d) d)
           (record {
             within = omega (arith, v, a, n);
-            kept = λ i g. sym (keeps-append (entry d) d (l ∷ []) i g) ∙ ap (λ s. keeps s (d ++ l ∷ []) i) (sym s) ∙ w.kept i (omega (arith, a, n, g));
+            kept = λ i g. sym (keeps-append (entry d) d (l ∷ []) i g) ∙ ap (λ s. keeps s (d ++ l ∷ []) i) (sym s)
+                ∙ w.kept i (omega (arith, a, n, g));
             stops = λ g. absurd (omega (arith, g));
           });
     })
@@ -186,8 +206,10 @@ open-eight d h e =
     open-from d (record { begins = e; all = omega (arith, f, w, h) })
 
 -- where a list ends with what was in hand no more
-pub none-after : (c : List Level) (l : Level) (q : ℕ) → open_at (drop q c) ≡ false → 8 ≤ length (drop q c) → open_at (drop q c ++ l ∷ []) ≡ false
-none-after c l q e h = false_from_ne_true (open_at (drop q c ++ l ∷ [])) (λ t. true≢false (sym (open-back (drop q c) l h t) ∙ e))
+pub none-after : (c : List Level) (l : Level) (q : ℕ) → open_at (drop q c) ≡ false → 8 ≤ length (drop q c)
+    → open_at (drop q c ++ l ∷ []) ≡ false
+none-after c l q e h =
+    false_from_ne_true (open_at (drop q c ++ l ∷ [])) (λ t. true≢false (sym (open-back (drop q c) l h t) ∙ e))
 
 -- one at most is in hand
 pub open-only : (c : List Level) (p q : ℕ) → open_at (drop p c) ≡ true → open_at (drop q c) ≡ true → p ≡ q
@@ -218,8 +240,10 @@ open-cells c (x ∷ d) q o h k =
     let t : drop q (c ++ x ∷ []) ≡ drop q c ++ x ∷ [] = drop-append-le q c (x ∷ []) (omega (arith, l, r)) in
     let b : drop q (c ++ x ∷ []) ++ d ≡ drop q c ++ x ∷ d = ap (λ v. v ++ d) t ∙ a in
     let more = open-cells (c ++ x ∷ []) d q (ap open_at t ∙ z.0) (subst (λ v. length v ≤ block_len) (sym b) h)
-    (λ i g. ap₂ (λ s v. keeps s v i) (ap entry t ∙ same-entry (drop q c) x w) b ∙ k i (subst (λ v. i < length v) b g)) in (
+    (λ i g. ap₂ (λ s v. keeps s v i) (ap entry t ∙ same-entry (drop q c) x w) b
+        ∙ k i (subst (λ v. i < length v) b g)) in (
       ap open_at (sym b) ∙ more.0,
-      ap (decided_from 0) (sym (append_assoc c (x ∷ []) d)) ∙ more.1 ∙ decided-push 0 c x ∙ ap (λ v. decided_from 0 c ++ v) (answer-open 0 c x q o)
+      ap (decided_from 0) (sym (append_assoc c (x ∷ []) d)) ∙ more.1 ∙ decided-push 0 c x
+      ∙ ap (λ v. decided_from 0 c ++ v) (answer-open 0 c x q o)
           ∙ ap (λ v. decided_from 0 c ++ told (0 + q) v) z.1 ∙ append-nil (decided_from 0 c),
     )

@@ -1,5 +1,7 @@
 -- The first cells of a word behind those that a lock follows, inside the subframe in hand.
-use Rattle.std.proofs.Common.{◌≡◌, ℕ, ◌+◌, ◌-◌, ◌*◌, ◌/◌, ◌%◌, ◌^◌, ◌<◌, ◌≤◌, ◌⊎◌, inl, inr, List, [], ◌∷◌, ◌++◌, true, false, Some, refl, length, take, drop, set, ap, ap₂, ◌∙◌, sym, subst, arith, length-append, length-take-le, take-append-drop, append_assoc, append-nil, drop-drop, w64}
+use Rattle.std.proofs.Common.{◌≡◌, ℕ, ◌+◌, ◌-◌, ◌*◌, ◌/◌, ◌%◌, ◌^◌, ◌<◌, ◌≤◌, ◌⊎◌, inl, inr, List, [], ◌∷◌, ◌++◌, true}
+use Rattle.std.proofs.Common.{false, Some, refl, length, take, drop, set, ap, ap₂, ◌∙◌, sym, subst, arith}
+use Rattle.std.proofs.Common.{length-append, length-take-le, take-append-drop, append_assoc, append-nil, drop-drop, w64}
 use Rattle.std.specs.Prelude.{bit_and, if◌then◌else◌}
 use Rattle.std.specs.Int.{bit_at, trailing_zeros}
 use Rattle.std.proofs.Math.Seq.{take-append-add}
@@ -28,7 +30,7 @@ use Rattle.aes3_lock.specs.Reports.{decided, report_of}
 use Rattle.aes3_lock.specs.Steps.{begun, ended, eight_with}
 use Rattle.aes3_lock.specs.Following.{LockState, Gathered, Follows, OpenAt, Stops}
 use Rattle.aes3_lock.proofs.Codes.{ended-early}
-use Rattle.aes3_lock.proofs.Deciding.{block_len_64, block_len_24576}
+use Rattle.aes3_lock.proofs.Deciding.{block_len_64}
 use Rattle.aes3_lock.proofs.Fronts.{front-is, keeps-append}
 use Rattle.aes3_lock.proofs.LastEight.{last_eight-more, length-last_eight}
 use Rattle.aes3_lock.proofs.PushedWords.{parts as part-cells}
@@ -37,10 +39,14 @@ use Rattle.aes3_lock.proofs.QuietWords.{below-trailing, lowest-one}
 use Rattle.aes3_lock.proofs.WordSteps.{more-cells, made-whole, start, start-length, start-last, keeps-part}
 use Rattle.aes3_lock.proofs.Following.{hand, hand-open, offset, tested, goes-on, push-last}
 use Rattle.aes3_lock.proofs.TakenWords.{all-64}
+use Rattle.std.proofs.lemmas.Option.{same_Some}
+use Rattle.aes3_block.proofs.CellLaws.{block_len_24576}
 
--- x has the first cells of the word w behind those of the subframe at offset o of the candidate, and there is room for n of these
+-- x has the first cells of the word w behind those of the subframe at offset o of the candidate, and there is room for
+-- n of these
 pub record Joined (k : LockState) (w x n o : ℕ) : Type 0 where
-  pub cells : k.subframe < 2 ^ (o % 64) → word_cells x ≡ low_cells (o % 64) k.subframe ++ take (64 - o % 64) (word_cells w)
+  pub cells : k.subframe < 2 ^ (o % 64)
+      → word_cells x ≡ low_cells (o % 64) k.subframe ++ take (64 - o % 64) (word_cells w)
   pub fits : o % 64 + n ≤ 64
   pub room : o < block_len
 
@@ -63,7 +69,8 @@ module _ (t : Candidate) (x o m : ℕ) (mark : Mark) (few : m < 2 ^ 64) (is : ma
       ∙ true-from_zero _ (sym (says (o % 64 + i) (omega (arith, fits, g))) ∙ sym (bit_at-shr m (o % 64) i)
       ∙ below-trailing (m / 2 ^ (o % 64)) i (let d = shr_le m (o % 64) in omega (arith, d, few)) (omega (arith, h, g)))
 
-  pub next-wrong : (n : ℕ) → n ≡ trailing_zeros w64 (m / 2 ^ (o % 64)) → o % 64 + n < 64 → stands t.level (mark_at (o / 64)) (word_cells x) (o % 64 + n) ≡ false
+  pub next-wrong : (n : ℕ) → n ≡ trailing_zeros w64 (m / 2 ^ (o % 64)) → o % 64 + n < 64
+      → stands t.level (mark_at (o / 64)) (word_cells x) (o % 64 + n) ≡ false
   next-wrong n e h =
       ap (λ y. stands t.level y (word_cells x) (o % 64 + n)) (sym is)
       ∙ false-from_one _ (sym (says (o % 64 + n) h) ∙ sym (bit_at-shr m (o % 64) n)
@@ -93,27 +100,35 @@ module _ (k : LockState) (t : Candidate) (c : List Level) (w x n : ℕ) (f : Fol
   parts =
       let j = here.fits in
       ap (take (p + n)) (here.cells in-hand.gathered.few)
-      ∙ ap (λ m. take (m + n) (low_cells p k.subframe ++ take (64 - p) (word_cells w))) (sym (length-low_cells p k.subframe))
+      ∙ ap (λ m. take (m + n) (low_cells p k.subframe ++ take (64 - p) (word_cells w)))
+      (sym (length-low_cells p k.subframe))
       ∙ take-append-add (low_cells p k.subframe) (take (64 - p) (word_cells w)) n
-      ∙ ap (λ b. low_cells p k.subframe ++ b) (ap (take n) (take-word (64 - p) w (omega arith)) ∙ take-low n (64 - p) w (omega (arith, j)))
+      ∙ ap (λ b. low_cells p k.subframe ++ b) (ap (take n) (take-word (64 - p) w (omega arith))
+          ∙ take-low n (64 - p) w (omega (arith, j)))
 
   part : take (p + n) (word_cells x) ≡ tail ++ low_cells n w
   part = parts ∙ ap (λ a. a ++ low_cells n w) in-hand.gathered.cells
 
-  inside : (i : ℕ) → i < p + n → keeps (entry d) (d ++ low_cells n w) (64 * (length d / 64) + i) ≡ stands t.level (mark_at (length d / 64)) (word_cells x) i
+  inside : (i : ℕ) → i < p + n
+      → keeps (entry d) (d ++ low_cells n w) (64 * (length d / 64) + i) ≡ stands t.level (mark_at (length d / 64))
+      (word_cells x) i
   inside i h =
       let j = here.fits in
       let m = length-word x in
       let l = length-take-le (p + n) (word_cells x) (omega (arith, j, m)) in
       ap (λ v. keeps (entry d) v (64 * (length d / 64) + i))
-      (ap (λ v. v ++ low_cells n w) (sym (take-append-drop (64 * (length d / 64)) d)) ∙ append_assoc (start (entry d) d) tail (low_cells n w))
-      ∙ keeps-part (entry d) t.level (start (entry d) d) (tail ++ low_cells n w) (length d / 64) i (start-length (entry d) d)
+      (ap (λ v. v ++ low_cells n w) (sym (take-append-drop (64 * (length d / 64)) d))
+          ∙ append_assoc (start (entry d) d) tail (low_cells n w))
+      ∙ keeps-part (entry d) t.level (start (entry d) d) (tail ++ low_cells n w) (length d / 64) i
+      (start-length (entry d) d)
       (sym (in-hand.gathered.level ∙ start-last (entry d) d)) (omega (arith, h, j))
       ∙ ap (λ v. stands t.level (mark_at (length d / 64)) v i) (sym part)
-      ∙ sym (stands-append t.level (mark_at (length d / 64)) (take (p + n) (word_cells x)) (drop (p + n) (word_cells x)) i (omega (arith, l, h)))
+      ∙ sym (stands-append t.level (mark_at (length d / 64)) (take (p + n) (word_cells x))
+          (drop (p + n) (word_cells x)) i (omega (arith, l, h)))
       ∙ ap (λ v. stands t.level (mark_at (length d / 64)) v i) (take-append-drop (p + n) (word_cells x))
 
-  kept : AllRight t x n (length d) → (i : ℕ) → i < length (d ++ low_cells n w) → keeps (entry d) (d ++ low_cells n w) i ≡ true
+  kept : AllRight t x n (length d) → (i : ℕ) → i < length (d ++ low_cells n w)
+      → keeps (entry d) (d ++ low_cells n w) i ≡ true
   kept right i h = go (cases_lt i (length d))
     where
       go : (i < length d) ⊎ (length d ≤ i) → keeps (entry d) (d ++ low_cells n w) i ≡ true
@@ -124,10 +139,13 @@ module _ (k : LockState) (t : Candidate) (c : List Level) (w x n : ℕ) (f : Fol
           let a = length-append d (low_cells n w) in
           let l = len in
           let e : i ≡ 64 * (length d / 64) + (p + (i - length d)) = omega (arith, g) in
-          ap (keeps (entry d) (d ++ low_cells n w)) e ∙ inside (p + (i - length d)) (omega (arith, a, l, h, g)) ∙ right (i - length d) (omega (arith, a, l, h, g))
+          ap (keeps (entry d) (d ++ low_cells n w)) e ∙ inside (p + (i - length d)) (omega (arith, a, l, h, g))
+          ∙ right (i - length d) (omega (arith, a, l, h, g))
 
-  on : AllRight t x n (k.seen - t.at) → (k' : LockState) (u : Candidate) → k'.seen ≡ k.seen + n → k'.recent ≡ drop n (k.recent ++ low_cells n w) → k'.candidate ≡ Some u → u.at ≡ t.at → u.before ≡ t.before
-      → Gathered u.level k'.subframe k'.words (entry d) (d ++ low_cells n w) → Follows k' (c ++ low_cells n w) × (decided (c ++ low_cells n w) ≡ decided c)
+  on : AllRight t x n (k.seen - t.at) → (k' : LockState) (u : Candidate) → k'.seen ≡ k.seen + n
+      → k'.recent ≡ drop n (k.recent ++ low_cells n w) → k'.candidate ≡ Some u → u.at ≡ t.at → u.before ≡ t.before
+      → Gathered u.level k'.subframe k'.words (entry d) (d ++ low_cells n w) → Follows k' (c ++ low_cells n w)
+      × (decided (c ++ low_cells n w) ≡ decided c)
   on right k' u e1 e2 e3 e4 e5 g =
       let a = length-append d (low_cells n w) in
       let b = length-append c (low_cells n w) in
@@ -136,32 +154,43 @@ module _ (k : LockState) (t : Candidate) (c : List Level) (w x n : ℕ) (f : Fol
       let r = here.room in
       let z = block_len_64 in
       let q = f.seen in
-      goes-on k k' t u c (low_cells n w) f s (omega (arith, a, l, j, r, z)) (kept (subst (AllRight t x n) (offset k t c f s) right)) (omega (arith, b, l, q, e1))
-      (e2 ∙ ap₂ (λ m r. drop m (r ++ low_cells n w)) (sym len) f.recent ∙ sym (last_eight-more c (low_cells n w))) e3 e4 e5 g
+      goes-on k k' t u c (low_cells n w) f s (omega (arith, a, l, j, r, z))
+      (kept (subst (AllRight t x n) (offset k t c f s) right)) (omega (arith, b, l, q, e1))
+      (e2 ∙ ap₂ (λ m r. drop m (r ++ low_cells n w)) (sym len) f.recent
+          ∙ sym (last_eight-more c (low_cells n w))) e3 e4 e5 g
 
   -- the subframe isn't whole then
-  pub part-next : AllRight t x n (k.seen - t.at) → (k' : LockState) → k'.seen ≡ k.seen + n → k'.recent ≡ drop n (k.recent ++ low_cells n w) → k'.candidate ≡ Some t → k'.words ≡ k.words
-      → Begun k'.subframe x n (k.seen - t.at) → Follows k' (c ++ low_cells n w) × (decided (c ++ low_cells n w) ≡ decided c)
+  pub part-next : AllRight t x n (k.seen - t.at) → (k' : LockState) → k'.seen ≡ k.seen + n
+      → k'.recent ≡ drop n (k.recent ++ low_cells n w) → k'.candidate ≡ Some t → k'.words ≡ k.words
+      → Begun k'.subframe x n (k.seen - t.at) → Follows k' (c ++ low_cells n w)
+      × (decided (c ++ low_cells n w) ≡ decided c)
   part-next right k' e1 e2 e3 e4 b =
-      on right k' t e1 e2 e3 refl refl (subst (λ v. Gathered t.level k'.subframe v (entry d) (d ++ low_cells n w)) (sym e4)
-      (more-cells t.level k.subframe k'.subframe k.words (entry d) d (low_cells n w) in-hand.gathered (let l = len in let q = r.short in omega (arith, l, q))
-      (λ g. ap (λ m. low_cells (p + m) k'.subframe) len ∙ r.cells ∙ sym (take-word (p + n) x (let q = r.short in omega (arith, q))) ∙ parts)
+      on right k' t e1 e2 e3 refl refl
+      (subst (λ v. Gathered t.level k'.subframe v (entry d) (d ++ low_cells n w)) (sym e4)
+      (more-cells t.level k.subframe k'.subframe k.words (entry d) d (low_cells n w) in-hand.gathered (let l = len in
+          let q = r.short in omega (arith, l, q))
+      (λ g. ap (λ m. low_cells (p + m) k'.subframe) len ∙ r.cells
+          ∙ sym (take-word (p + n) x (let q = r.short in omega (arith, q))) ∙ parts)
       (λ g. subst (λ m. k'.subframe < 2 ^ (p + m)) (sym len) r.few)))
     where
       r : Begun k'.subframe x n (length d)
       r = subst (λ o. Begun k'.subframe x n o) (offset k t c f s) b
 
   -- or it is
-  pub part-whole : AllRight t x n (k.seen - t.at) → (k' : LockState) → k'.seen ≡ k.seen + n → k'.recent ≡ drop n (k.recent ++ low_cells n w)
+  pub part-whole : AllRight t x n (k.seen - t.at) → (k' : LockState) → k'.seen ≡ k.seen + n
+      → k'.recent ≡ drop n (k.recent ++ low_cells n w)
       → k'.candidate ≡ Some (record { at = t.at; before = t.before; level = at (word_cells x) 63 }) → k'.subframe ≡ 0
       → k'.words ≡ set k.words ((k.seen - t.at) / 64) x → length k.words ≡ block_slots → (k.seen - t.at) % 64 + n ≡ 64
       → Follows k' (c ++ low_cells n w) × (decided (c ++ low_cells n w) ≡ decided c)
   part-whole right k' e1 e2 e3 e4 e5 lw h =
       on right k' (record { at = t.at; before = t.before; level = at (word_cells x) 63 }) e1 e2 e3 refl refl
       (subst (λ y. Gathered (at (word_cells x) 63) y k'.words (entry d) (d ++ low_cells n w)) (sym e4)
-      (subst (λ y. Gathered (at (word_cells x) 63) 0 y (entry d) (d ++ low_cells n w)) (sym (e5 ∙ ap (λ o. set k.words (o / 64) x) off))
-      (subst (λ y. Gathered (at (word_cells x) 63) 0 (set k.words (length d / 64) x) (entry d) (d ++ y)) (append-nil (low_cells n w))
-      (made-whole (entry d) d (low_cells n w) [] (word_cells x) (sym (all-64 x) ∙ ap (λ m. take m (word_cells x)) (let e : 64 ≡ p + n = omega (arith, h, off) in e) ∙ part) (length-word x)
+      (subst (λ y. Gathered (at (word_cells x) 63) 0 y (entry d) (d ++ low_cells n w))
+          (sym (e5 ∙ ap (λ o. set k.words (o / 64) x) off))
+      (subst (λ y. Gathered (at (word_cells x) 63) 0 (set k.words (length d / 64) x) (entry d) (d ++ y))
+          (append-nil (low_cells n w))
+      (made-whole (entry d) d (low_cells n w) [] (word_cells x) (sym (all-64 x)
+          ∙ ap (λ m. take m (word_cells x)) (let e : 64 ≡ p + n = omega (arith, h, off) in e) ∙ part) (length-word x)
       t.level k.subframe 0 x k.words in-hand.gathered lw here.room (omega arith) refl (omega arith) refl))))
     where
       off : k.seen - t.at ≡ length d
@@ -187,7 +216,9 @@ module _ (k : LockState) (t : Candidate) (c : List Level) (w x n : ℕ) (f : Fol
       rest : take (64 - p) (word_cells w) ≡ low_cells n w ++ others
       rest =
           let q = r.short in
-          take-word (64 - p) w (omega arith) ∙ ap (λ j. low_cells j w) (let e : 64 - p ≡ n + (64 - (p + n)) = omega (arith, q) in e) ∙ low_cells-add n (64 - (p + n)) w
+          take-word (64 - p) w (omega arith)
+          ∙ ap (λ j. low_cells j w) (let e : 64 - p ≡ n + (64 - (p + n)) = omega (arith, q) in e)
+          ∙ low_cells-add n (64 - (p + n)) w
 
       next : word_cells x ≡ low_cells (p + n) k'.subframe ++ take (64 - (p + n)) (word_cells (w / 2 ^ n))
       next =
@@ -198,8 +229,10 @@ module _ (k : LockState) (t : Candidate) (c : List Level) (w x n : ℕ) (f : Fol
           ∙ ap (λ b. low_cells (p + n) k'.subframe ++ b) (sym (take-word (64 - (p + n)) (w / 2 ^ n) (omega arith)))
 
 -- a cell that does not stand as it may ends the candidate
-pub part-stops : (k : LockState) (t : Candidate) (c : List Level) (w x : ℕ) → Follows k c → k.candidate ≡ Some t → Joined k w x 1 (k.seen - t.at)
-    → stands t.level (mark_at ((k.seen - t.at) / 64)) (word_cells x) ((k.seen - t.at) % 64) ≡ false → Stops k (level_of (w % 2))
+pub part-stops : (k : LockState) (t : Candidate) (c : List Level) (w x : ℕ) → Follows k c → k.candidate ≡ Some t
+    → Joined k w x 1 (k.seen - t.at)
+    → stands t.level (mark_at ((k.seen - t.at) / 64)) (word_cells x) ((k.seen - t.at) % 64) ≡ false
+    → Stops k (level_of (w % 2))
 part-stops k t c w x f s given wrong =
     let o = offset k t c f s in record {
       in_hand = t;
@@ -211,9 +244,12 @@ part-stops k t c w x f s given wrong =
     }
 
 -- nor does one behind some that do
-pub part-ends : (k k' : LockState) (t : Candidate) (c : List Level) (w x n : ℕ) → Follows k c → k.candidate ≡ Some t → Joined k w x n (k.seen - t.at)
-    → Follows k' (c ++ low_cells n w) → k'.seen ≡ k.seen + n → k'.candidate ≡ Some t → Begun k'.subframe x n (k.seen - t.at)
-    → stands t.level (mark_at ((k.seen - t.at) / 64)) (word_cells x) ((k.seen - t.at) % 64 + n) ≡ false → Stops k' (level_of (w / 2 ^ n % 2))
+pub part-ends : (k k' : LockState) (t : Candidate) (c : List Level) (w x n : ℕ) → Follows k c → k.candidate ≡ Some t
+    → Joined k w x n (k.seen - t.at)
+    → Follows k' (c ++ low_cells n w) → k'.seen ≡ k.seen + n → k'.candidate ≡ Some t
+    → Begun k'.subframe x n (k.seen - t.at)
+    → stands t.level (mark_at ((k.seen - t.at) / 64)) (word_cells x) ((k.seen - t.at) % 64 + n) ≡ false
+    → Stops k' (level_of (w / 2 ^ n % 2))
 part-ends k k' t c w x n f s given f' e s' b wrong =
     let i = (in-hand k t c w x n f s given).within in
     let z = f.seen in
@@ -221,12 +257,15 @@ part-ends k k' t c w x n f s given f' e s' b wrong =
     let o : k.seen - t.at + n ≡ k'.seen - t.at = omega (arith, i, z, e) in
     let d : (k'.seen - t.at) / 64 ≡ (k.seen - t.at) / 64 = omega (arith, o, q) in
     let r : (k'.seen - t.at) % 64 ≡ (k.seen - t.at) % 64 + n = omega (arith, o, q) in
-    part-stops k' t (c ++ low_cells n w) (w / 2 ^ n) x f' s' (subst (λ j. Joined k' (w / 2 ^ n) x 1 j) o (part-behind k t c w x n f s given k' b))
+    part-stops k' t (c ++ low_cells n w) (w / 2 ^ n) x f' s'
+    (subst (λ j. Joined k' (w / 2 ^ n) x 1 j) o (part-behind k t c w x n f s given k' b))
     (ap₂ (λ u v. stands t.level (mark_at u) (word_cells x) v) d r ∙ wrong)
 
 -- and that cell ends the candidate
-module _ (k k' : LockState) (t : Candidate) (c : List Level) (w x n : ℕ) (f : Follows k c) (s : k.candidate ≡ Some t) (lw : length k.words ≡ block_slots)
-    (given : Joined k w x n (k.seen - t.at)) (short : (k.seen - t.at) % 64 + n < 64) (right : AllRight t x n (k.seen - t.at))
+module _ (k k' : LockState) (t : Candidate) (c : List Level) (w x n : ℕ) (f : Follows k c) (s : k.candidate ≡ Some t)
+    (lw : length k.words ≡ block_slots)
+    (given : Joined k w x n (k.seen - t.at)) (short : (k.seen - t.at) % 64 + n < 64)
+    (right : AllRight t x n (k.seen - t.at))
     (wrong : stands t.level (mark_at ((k.seen - t.at) / 64)) (word_cells x) ((k.seen - t.at) % 64 + n) ≡ false) where
   last : Level
   last = level_of (w / 2 ^ n % 2)
@@ -260,18 +299,17 @@ module _ (k k' : LockState) (t : Candidate) (c : List Level) (w x n : ℕ) (f : 
   ends-there = part-ends k between t c w x n f s given so-far.0 refl refl begun-so-far wrong
 
   same-hand : ends-there.in_hand ≡ t
-  same-hand = some-is (sym ends-there.is)
-    where
-      some-is : {u v : Candidate} → Some u ≡ Some v → u ≡ v
-      some-is e = cc
+  same-hand = same_Some _ _ (sym ends-there.is)
 
   with-last : low_cells (n + 1) w ≡ low_cells n w ++ last ∷ []
   unfolding last
   with-last = low_cells-add n 1 w
 
-  pub part-refuted : k'.seen ≡ k.seen + (n + 1) → k'.recent ≡ drop (n + 1) (k.recent ++ low_cells (n + 1) w) → k'.candidate ≡ begun k'.seen k'.recent
+  pub part-refuted : k'.seen ≡ k.seen + (n + 1) → k'.recent ≡ drop (n + 1) (k.recent ++ low_cells (n + 1) w)
+      → k'.candidate ≡ begun k'.seen k'.recent
       → low_cells 8 k'.subframe ≡ k'.recent → k'.subframe < 2 ^ 8
-      → Follows k' (c ++ low_cells (n + 1) w) × (decided (c ++ low_cells (n + 1) w) ≡ decided c ++ Fault t.at (k.seen + n) (why_of (k.seen + n - t.at)) ∷ [])
+      → Follows k' (c ++ low_cells (n + 1) w)
+      × (decided (c ++ low_cells (n + 1) w) ≡ decided c ++ Fault t.at (k.seen + n) (why_of (k.seen + n - t.at)) ∷ [])
       × (decided (c ++ low_cells n w) ≡ decided c)
   unfolding last
   part-refuted e1 e2 e3 e4 e5 = (
@@ -284,27 +322,40 @@ module _ (k k' : LockState) (t : Candidate) (c : List Level) (w x n : ℕ) (f : 
       cells = part-cells c n 1 w
 
       long : length (k.recent ++ low_cells n w) ≡ 8 + n
-      long = length-append k.recent (low_cells n w) ∙ ap₂ (λ a b. a + b) (ap length f.recent ∙ length-last_eight c) (length-low_cells n w)
+      long = length-append k.recent (low_cells n w)
+          ∙ ap₂ (λ a b. a + b) (ap length f.recent ∙ length-last_eight c) (length-low_cells n w)
 
       recent : k'.recent ≡ eight_with between.recent last
       recent =
-          e2 ∙ ap (λ v. drop (n + 1) (k.recent ++ v)) with-last ∙ ap (drop (n + 1)) (sym (append_assoc k.recent (low_cells n w) (last ∷ [])))
+          e2 ∙ ap (λ v. drop (n + 1) (k.recent ++ v)) with-last
+          ∙ ap (drop (n + 1)) (sym (append_assoc k.recent (low_cells n w) (last ∷ [])))
           ∙ drop-append-le (n + 1) (k.recent ++ low_cells n w) (last ∷ []) (let l = long in omega (arith, l))
           ∙ ap (λ v. v ++ last ∷ []) (sym (drop-drop 1 n (k.recent ++ low_cells n w)))
 
-      rule-broken : between.seen - t.at < block_len → rule mark_at (between.seen - t.at) last t.level (at between.recent 7) ≡ false
-      rule-broken = subst (λ (u : Candidate). between.seen - u.at < block_len → rule mark_at (between.seen - u.at) last u.level (at between.recent 7) ≡ false) same-hand ends-there.stop
+      rule-broken : between.seen - t.at < block_len
+          → rule mark_at (between.seen - t.at) last t.level (at between.recent 7) ≡ false
+      rule-broken =
+          subst (λ (u : Candidate). between.seen - u.at < block_len
+              → rule mark_at (between.seen - u.at) last u.level (at between.recent 7) ≡ false) same-hand ends-there.stop
 
-      both : Follows k' ((c ++ low_cells n w) ++ last ∷ []) × (decided ((c ++ low_cells n w) ++ last ∷ []) ≡ decided (c ++ low_cells n w) ++
-          report_of t.at (ended t.before (between.seen - t.at) (same last (at between.recent 7)) (read_words k.words)) ∷ [])
-      both = push-last between k' t (c ++ low_cells n w) last so-far.0 lw refl rule-broken (omega (arith, e1)) recent e3 (sym e4) e5
+      both : Follows k' ((c ++ low_cells n w) ++ last ∷ [])
+          × (decided ((c ++ low_cells n w) ++ last ∷ []) ≡ decided (c ++ low_cells n w) ++
+          report_of t.at
+          (ended t.before (between.seen - t.at) (same last (at between.recent 7)) (read_words k.words)) ∷ [])
+      both = push-last between k' t (c ++ low_cells n w) last so-far.0 lw refl rule-broken
+          (omega (arith, e1)) recent e3 (sym e4) e5
 
-      told : report_of t.at (ended t.before (between.seen - t.at) (same last (at between.recent 7)) (read_words k.words)) ≡ Fault t.at (k.seen + n) (why_of (k.seen + n - t.at))
+      told : report_of t.at
+          (ended t.before (between.seen - t.at) (same last (at between.recent 7)) (read_words k.words)) ≡ Fault t.at
+          (k.seen + n) (why_of (k.seen + n - t.at))
       told =
           let i = (hand k t c f s).within in
           let z = f.seen in
           let r = given.room in
           let b = block_len_24576 in
           let q = short in
-          ap (report_of t.at) (ended-early t.before (between.seen - t.at) (same last (at between.recent 7)) (read_words k.words) (omega (arith, i, z, r, b, q)))
-          ∙ ap (λ v. Fault t.at v (why_of (k.seen + n - t.at))) (let e : t.at + (k.seen + n - t.at) ≡ k.seen + n = omega (arith, i, z) in e)
+          ap (report_of t.at)
+          (ended-early t.before (between.seen - t.at) (same last (at between.recent 7)) (read_words k.words)
+              (omega (arith, i, z, r, b, q)))
+          ∙ ap (λ v. Fault t.at v (why_of (k.seen + n - t.at))) (let e : t.at + (k.seen + n - t.at) ≡ k.seen + n =
+              omega (arith, i, z) in e)

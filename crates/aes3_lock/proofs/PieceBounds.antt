@@ -1,14 +1,17 @@
 -- Cells from place i up to, but without, place j of a list, and the test of whether something lies in them.
-use Rattle.std.proofs.Common.{◌≡◌, ℕ, ◌+◌, ◌-◌, ◌<◌, ◌≤◌, List, Bool, true, false, ◌&&◌, cond, leb, refl, length, take, drop, ap, ◌∙◌, arith, length-take, length-drop, drop-drop}
+use Rattle.std.proofs.Common.{◌≡◌, ℕ, ◌+◌, ◌-◌, ◌<◌, ◌≤◌, List, Bool, true, false, ◌&&◌, cond, leb, refl, length, take}
+use Rattle.std.proofs.Common.{drop, ap, ◌∙◌, arith, length-take, length-drop, drop-drop}
 use Rattle.std.proofs.lemmas.Bool.{le-leb, lt-leb}
 use Rattle.std.proofs.lemmas.List.{drop-take}
 use Rattle.aes3_cell.specs.declared.level.Level.{Level}
 
 -- the rest of a piece
-pub piece-rest : (i j q : ℕ) (d : List Level) → i + q ≤ j → drop q (take (j - i) (drop i d)) ≡ take (j - (i + q)) (drop (i + q) d)
+pub piece-rest : (i j q : ℕ) (d : List Level) → i + q ≤ j
+    → drop q (take (j - i) (drop i d)) ≡ take (j - (i + q)) (drop (i + q) d)
 piece-rest i j q d h =
     let e : j - i ≡ q + (j - (i + q)) = omega arith in
-    ap (λ n. drop q (take n (drop i d))) e ∙ drop-take q (j - (i + q)) (drop i d) ∙ ap (take (j - (i + q))) (drop-drop q i d)
+    ap (λ n. drop q (take n (drop i d))) e ∙ drop-take q (j - (i + q)) (drop i d)
+    ∙ ap (take (j - (i + q))) (drop-drop q i d)
 
 pub length-piece : (i j : ℕ) (d : List Level) → i ≤ j → j ≤ length d → length (take (j - i) (drop i d)) ≡ j - i
 length-piece i j d h g =

@@ -15,12 +15,15 @@ block_here p c = wholes (told p (outcome_at c))
 pub blocks-collect : (p : ℕ) (c : List Level) → wholes (reports_from p c) ≡ collect block_here p c
 blocks-collect p [] = refl
 blocks-collect p (x ∷ c) =
-    wholes-append (told p (outcome_at (x ∷ c))) (reports_from (suc p) c) ∙ ap (λ z. block_here p (x ∷ c) ++ z) (blocks-collect (suc p) c)
+    wholes-append (told p (outcome_at (x ∷ c))) (reports_from (suc p) c)
+    ∙ ap (λ z. block_here p (x ∷ c) ++ z) (blocks-collect (suc p) c)
 
-pub here-some : (p : ℕ) (b : List (List Bool)) (s : Level) (c : List Level) → StandsClosed b s c → block_here p c ≡ b ∷ []
+pub here-some : (p : ℕ) (b : List (List Bool)) (s : Level) (c : List Level) → StandsClosed b s c
+    → block_here p c ≡ b ∷ []
 here-some p b s c h = ap (λ o. wholes (told p o)) (standing-at b s c h)
 
-pub here-none : (p : ℕ) (c : List Level) → ((b : List (List Bool)) (s : Level) → StandsClosed b s c → ⊥) → block_here p c ≡ []
+pub here-none : (p : ℕ) (c : List Level) → ((b : List (List Bool)) (s : Level) → StandsClosed b s c → ⊥)
+    → block_here p c ≡ []
 here-none p c n = go (outcome_at c) refl
   where
     go : (o : Option Outcome) → outcome_at c ≡ o → wholes (told p o) ≡ []

@@ -1,5 +1,6 @@
 -- What is gathered from place to place, and from some places alone.
-use Rattle.std.proofs.Common.{◌≡◌, ℕ, zero, suc, ◌+◌, ◌-◌, ◌*◌, ◌<◌, ◌≤◌, List, [], ◌∷◌, ◌++◌, refl, length, drop, ap, ap₂, ◌∙◌, sym, arith, append_assoc, append-nil}
+use Rattle.std.proofs.Common.{◌≡◌, ℕ, zero, suc, ◌+◌, ◌-◌, ◌*◌, ◌<◌, ◌≤◌, List, [], ◌∷◌, ◌++◌, refl, length, drop, ap}
+use Rattle.std.proofs.Common.{ap₂, ◌∙◌, sym, arith, append_assoc, append-nil}
 
 -- from the rest of a list at each place, the first of them at place p
 abbrev pub collect : {A X : Type 0} → (ℕ → List X → List A) → ℕ → List X → List A
@@ -46,7 +47,8 @@ gather-add f p (suc m) n =
     ∙ sym (append_assoc (f p) (gather f (suc p) m) (gather f (p + suc m) n))
 
 -- places before and behind that give nothing
-pub gather-within : {A : Type 0} (f : ℕ → List A) (i j n : ℕ) → i ≤ j → j ≤ n → ((q : ℕ) → q < i → f q ≡ []) → ((q : ℕ) → j ≤ q → f q ≡ [])
+pub gather-within : {A : Type 0} (f : ℕ → List A) (i j n : ℕ) → i ≤ j → j ≤ n → ((q : ℕ) → q < i → f q ≡ [])
+    → ((q : ℕ) → j ≤ q → f q ≡ [])
     → gather f 0 n ≡ gather f i (j - i)
 gather-within f i j n h g low high =
     let a : n ≡ i + ((j - i) + (n - j)) = omega arith in
@@ -54,7 +56,8 @@ gather-within f i j n h g low high =
     ap (gather f 0) a ∙ gather-add f 0 i ((j - i) + (n - j))
     ∙ ap₂ (λ u v. u ++ v) (gather-none f 0 i (λ q l. let e : 0 + q ≡ q = omega arith in ap f e ∙ low q l))
     (ap (λ k. gather f k ((j - i) + (n - j))) b ∙ gather-add f i (j - i) (n - j)
-    ∙ ap (λ z. gather f i (j - i) ++ z) (gather-none f (i + (j - i)) (n - j) (λ q l. high (i + (j - i) + q) (omega arith)))
+    ∙ ap (λ z. gather f i (j - i) ++ z)
+    (gather-none f (i + (j - i)) (n - j) (λ q l. high (i + (j - i) + q) (omega arith)))
     ∙ append-nil (gather f i (j - i)))
 
 -- between places w apart nothing is given
@@ -62,7 +65,8 @@ abbrev pub Sparse : {A : Type 0} → (ℕ → List A) → ℕ → ℕ → ℕ �
 Sparse f w p zero = Unit {0}
 Sparse f w p (suc n) = ((r : ℕ) → 0 < r → r < w → f (p + r) ≡ []) × Sparse f w (p + w) n
 
-pub gather-spaced : {A : Type 0} (f : ℕ → List A) (w p n : ℕ) → 0 < w → Sparse f w p n → gather f p (n * w) ≡ spaced f w p n
+pub gather-spaced : {A : Type 0} (f : ℕ → List A) (w p n : ℕ) → 0 < w → Sparse f w p n
+    → gather f p (n * w) ≡ spaced f w p n
 gather-spaced f w p zero h s = let e : 0 * w ≡ 0 = omega arith in ap (gather f p) e
 gather-spaced f w p (suc n) h s =
     let a : suc n * w ≡ w + n * w = omega arith in
@@ -72,5 +76,6 @@ gather-spaced f w p (suc n) h s =
     ∙ ap (λ z. f p ++ z)
     (gather-add f (suc p) (w - 1) (n * w)
     ∙ ap₂ (λ u v. u ++ v)
-    (gather-none f (suc p) (w - 1) (λ q l. let e : suc p + q ≡ p + suc q = omega arith in ap f e ∙ s.0 (suc q) (omega arith) (omega arith)))
+    (gather-none f (suc p) (w - 1)
+        (λ q l. let e : suc p + q ≡ p + suc q = omega arith in ap f e ∙ s.0 (suc q) (omega arith) (omega arith)))
     (ap (λ k. gather f k (n * w)) d ∙ gather-spaced f w (p + w) n h s.1))

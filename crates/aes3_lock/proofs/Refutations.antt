@@ -1,12 +1,14 @@
 -- The cell that refutes a candidate is the first at which its cells begin no block.
-use Rattle.std.proofs.Common.{◌≡◌, ℕ, ◌+◌, ◌<◌, ◌≤◌, ◌⊎◌, inl, inr, List, Bool, true, false, cond, eqb, length, take, ap, ◌∙◌, sym, arith}
+use Rattle.std.proofs.Common.{◌≡◌, ℕ, ◌+◌, ◌<◌, ◌≤◌, ◌⊎◌, inl, inr, List, Bool, true, false, cond, eqb, length, take}
+use Rattle.std.proofs.Common.{ap, ◌∙◌, sym, arith}
 use Rattle.std.proofs.lemmas.Bool.{cases_lt}
 use Rattle.aes3_cell.specs.declared.level.Level.{Level}
 use Rattle.aes3_slot.specs.Reading.{read_slots}
 use Rattle.aes3_block.specs.Blocks.{block_slots, block_len}
 use Rattle.aes3_slot.specs.Preambles.{entry}
 use Rattle.aes3_lock.specs.Candidates.{front}
-use Rattle.aes3_lock.specs.Outcomes.{whole, marked, fault, unfinished, outcome, block_outcome, wrong_parities, payloads_of}
+use Rattle.aes3_lock.specs.Outcomes.{whole, marked, fault, unfinished, outcome, block_outcome, wrong_parities}
+use Rattle.aes3_lock.specs.Outcomes.{payloads_of}
 use Rattle.aes3_lock.specs.Standing.{IsClosed, IsViable, SubframesStand}
 use Rattle.aes3_lock.proofs.Fronts.{front-is}
 use Rattle.aes3_lock.proofs.Viability.{take-viable, viable-take, viable-front, front-viable}
@@ -50,14 +52,17 @@ fault-within f c o =
     let w = (front-is (entry c) c).within in
     omega arith
 
-pub fault-viable : (c : List Level) (f : ℕ) → outcome c ≡ fault f → IsViable (entry c) (take f c) × (IsViable (entry c) (take (f + 1) c) → ⊥)
+pub fault-viable : (c : List Level) (f : ℕ) → outcome c ≡ fault f → IsViable (entry c) (take f c)
+    × (IsViable (entry c) (take (f + 1) c) → ⊥)
 fault-viable c f o =
     let r = fault-front c f o in
     let x = r.0 in
     let y = r.1 in
-    (take-viable (entry c) c f (omega arith), λ v. let w = viable-take (entry c) c (f + 1) (omega arith) v in omega arith)
+    (take-viable (entry c) c f (omega arith), λ v. let w = viable-take (entry c) c (f + 1) (omega arith) v in
+        omega arith)
 
-pub viable-fault : (c : List Level) (f : ℕ) → f < block_len → f < length c → IsViable (entry c) (take f c) → (IsViable (entry c) (take (f + 1) c) → ⊥)
+pub viable-fault : (c : List Level) (f : ℕ) → f < block_len → f < length c → IsViable (entry c) (take f c)
+    → (IsViable (entry c) (take (f + 1) c) → ⊥)
     → outcome c ≡ fault f
 viable-fault c f h g v n = go (ending c)
   where
@@ -92,7 +97,8 @@ fault-unclosed c o = go (ending c)
     go (closed a d e) = absurd (block-not-fault (entry c) (read_slots block_slots c) block_len (sym e ∙ o))
 
 -- cells that end
-pub unfinished-viable : (c : List Level) (n : ℕ) → outcome c ≡ unfinished n → IsViable (entry c) c × (n ≡ length c) × (n < block_len)
+pub unfinished-viable : (c : List Level) (n : ℕ) → outcome c ≡ unfinished n → IsViable (entry c) c × (n ≡ length c)
+    × (n < block_len)
 unfinished-viable c n o = go (ending c)
   where
     go : Ending c → IsViable (entry c) c × (n ≡ length c) × (n < block_len)
@@ -104,7 +110,8 @@ unfinished-viable c n o = go (ending c)
     go (unclosed a b d e) = let q : fault block_len ≡ unfinished n = sym e ∙ o in cc
     go (closed a d e) = absurd (block-not-unfinished (entry c) (read_slots block_slots c) n (sym e ∙ o))
 
-pub viable-unfinished : (c : List Level) → length c < block_len → IsViable (entry c) c → outcome c ≡ unfinished (length c)
+pub viable-unfinished : (c : List Level) → length c < block_len → IsViable (entry c) c
+    → outcome c ≡ unfinished (length c)
 viable-unfinished c h v = go (ending c)
   where
     f : front (entry c) c ≡ length c
@@ -116,5 +123,6 @@ viable-unfinished c h v = go (ending c)
     go (unclosed a b d e) = absurd (let x = f in omega arith)
     go (closed a d e) = absurd (let x = f in omega arith)
 
-pub unclosed-fault : (c : List Level) (slots : List (List Bool)) → SubframesStand slots (entry c) c → (IsClosed c → ⊥) → outcome c ≡ fault block_len
+pub unclosed-fault : (c : List Level) (slots : List (List Bool)) → SubframesStand slots (entry c) c → (IsClosed c → ⊥)
+    → outcome c ≡ fault block_len
 unclosed-fault c slots h z = standing-unclosed slots (entry c) c h z

@@ -46,8 +46,10 @@ reports-odd : reports odd ≡ Fault 0 64 Preamble ∷ []
 unfolding reports outcome_at outcome begins_with keeps front mark_at block_len block_slots odd
 reports-odd = refl
 
--- the first two slots of the zero block with the cells between them changed, and the last two: the second of these is parity
-exchanged-first : take 16 (block_cells Low (exchanged 9 zero_block)) ≡ line Low (3 ∷ 1 ∷ 1 ∷ 3 ∷ 1 ∷ 1 ∷ 1 ∷ 1 ∷ 2 ∷ 2 ∷ [])
+-- the first two slots of the zero block with the cells between them changed, and the last two: the second of these is
+-- parity
+exchanged-first : take 16 (block_cells Low (exchanged 9 zero_block)) ≡ line Low
+    (3 ∷ 1 ∷ 1 ∷ 3 ∷ 1 ∷ 1 ∷ 1 ∷ 1 ∷ 2 ∷ 2 ∷ [])
 unfolding block_cells zero_block mark_at block_slots payload_len
 exchanged-first = refl
 
@@ -56,11 +58,13 @@ unfolding zero_block block_slots payload_len
 exchanged-last = refl
 
 -- cells between slots: not those within one, nor those of which one is of a preamble
-between-rows : (between_slots 7 ≡ false) × (between_slots 9 ≡ true) × (between_slots 10 ≡ false) × (between_slots 61 ≡ true) × (between_slots 63 ≡ false)
+between-rows : (between_slots 7 ≡ false) × (between_slots 9 ≡ true) × (between_slots 10 ≡ false)
+    × (between_slots 61 ≡ true) × (between_slots 63 ≡ false)
 between-rows = (refl, refl, refl, refl, refl)
 
 -- what changed cells leave of the zero block
-left-rows : (left_of [] zero_block ≡ zero_block ∷ []) × (left_of (9 ∷ []) zero_block ≡ []) × (left_of (10 ∷ 11 ∷ []) zero_block ≡ [])
+left-rows : (left_of [] zero_block ≡ zero_block ∷ []) × (left_of (9 ∷ []) zero_block ≡ [])
+    × (left_of (10 ∷ 11 ∷ []) zero_block ≡ [])
     × (left_of (9 ∷ 10 ∷ []) zero_block ≡ exchanged 9 zero_block ∷ []) × (left_of (9 ∷ 10 ∷ 24576 ∷ []) zero_block ≡ [])
 left-rows = (refl, refl, refl, refl, refl)
 

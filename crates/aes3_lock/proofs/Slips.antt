@@ -1,20 +1,21 @@
 -- No block is made of cells of two places of a lawful stream that aren't whole subframes apart.
-use Rattle.std.proofs.Common.{◌≡◌, ℕ, ◌+◌, ◌-◌, ◌*◌, ◌%◌, ◌<◌, ◌≤◌, List, Bool, length, take, drop, ap, ◌∙◌, sym, arith, length-drop, length-take, get_or-take, get_or-drop, lit<}
+use Rattle.std.proofs.Common.{◌≡◌, ℕ, ◌+◌, ◌-◌, ◌*◌, ◌%◌, ◌<◌, ◌≤◌, List, Bool, length, take, drop, ap, ◌∙◌, sym, arith}
+use Rattle.std.proofs.Common.{length-drop, length-take, get_or-take, get_or-drop, lit<}
 use Rattle.aes3_cell.specs.declared.level.Level.{Level}
 use Rattle.aes3_cell.specs.declared.level.Level.TheVariants.{Low}
 use Rattle.aes3_slot.specs.Rules.{at, shape}
 use Rattle.aes3_slot.proofs.Distance.{own-cell, stands-from}
 use Rattle.aes3_block.specs.Blocks.{mark_at, block_slots, block_len, block_cells, stream, IsBlock}
 use Rattle.aes3_block.proofs.FileLaws.{each-block}
-use Rattle.aes3_block.proofs.CellLaws.{length-block_cells}
+use Rattle.aes3_block.proofs.CellLaws.{length-block_cells, block_len_24576}
 use Rattle.aes3_lock.specs.Pieces.{IsPiece}
 use Rattle.aes3_lock.proofs.Damaged.{piece-cell}
-use Rattle.aes3_lock.proofs.Deciding.{block_len_24576}
 use Rattle.aes3_lock.proofs.Distances.{block-kept, block-level}
 use Rattle.aes3_lock.proofs.LawfulPieces.{stream-aligned}
 use Rattle.aes3_lock.proofs.PieceBounds.{length-piece}
 
-module _ (s : Level) (bs : List (List (List Bool))) (i j : ℕ) (c : List Level) (piece : IsPiece s bs i j c) (d : List (List Bool)) (t : Level)
+module _ (s : Level) (bs : List (List (List Bool))) (i j : ℕ) (c : List Level) (piece : IsPiece s bs i j c)
+    (d : List (List Bool)) (t : Level)
     (g : IsBlock d) where
   -- the cell of a piece is that of its stream
   streamed : (x : ℕ) → x < length c → at c x ≡ at (stream s bs) (i + x)
@@ -23,7 +24,8 @@ module _ (s : Level) (bs : List (List (List Bool))) (i j : ℕ) (c : List Level)
       ap (λ c. at c x) piece.is ∙ piece-cell i j x (stream s bs) (omega arith)
 
   -- where a preamble of the block stands in the piece a subframe begins
-  preamble-at : (k q : ℕ) → k < 384 → q + 8 ≤ length c → ((x : ℕ) → x < 8 → at (block_cells t d) (64 * k + x) ≡ at c (q + x)) → (i + q) % 64 ≡ 0
+  preamble-at : (k q : ℕ) → k < 384 → q + 8 ≤ length c
+      → ((x : ℕ) → x < 8 → at (block_cells t d) (64 * k + x) ≡ at c (q + x)) → (i + q) % 64 ≡ 0
   unfolding block_slots
   preamble-at k q l r same =
       let n = length-block_cells t d g in
@@ -35,7 +37,8 @@ module _ (s : Level) (bs : List (List (List Bool))) (i j : ℕ) (c : List Level)
       (λ x o.
       let e : i + q + x ≡ i + (q + x) = omega arith in
       ap (at (stream s bs)) e ∙ sym (streamed (q + x) (omega arith)) ∙ sym (same x o)
-      ∙ own-cell mark_at t (block_cells t d) (block-kept t d g) k x (omega arith) o ∙ ap (shape (mark_at k) x) (block-level t d g k (omega arith))))).0
+      ∙ own-cell mark_at t (block_cells t d) (block-kept t d g) k x (omega arith) o
+      ∙ ap (shape (mark_at k) x) (block-level t d g k (omega arith))))).0
 
   pub not-bridged : (m p q : ℕ) → 8 ≤ m → m + 64 ≤ block_len → take m (block_cells t d) ≡ take m (drop p c)
       → drop m (block_cells t d) ≡ take (block_len - m) (drop q c) → (p + m) % 64 ≡ q % 64
@@ -57,6 +60,8 @@ module _ (s : Level) (bs : List (List (List Bool))) (i j : ℕ) (c : List Level)
       let y = preamble-at 383 (q + (24512 - m)) (lit< tt) (omega arith) (λ x o.
       let e : 64 * 383 + x ≡ m + (24512 - m + x) = omega arith in
       let f : q + (24512 - m + x) ≡ q + (24512 - m) + x = omega arith in
-      ap (at (block_cells t d)) e ∙ sym (get_or-drop m (block_cells t d) (24512 - m + x) Low) ∙ ap (λ c. at c (24512 - m + x)) back
-      ∙ get_or-take (block_len - m) (drop q c) (24512 - m + x) Low (omega arith) ∙ get_or-drop q c (24512 - m + x) Low ∙ ap (at c) f) in
+      ap (at (block_cells t d)) e ∙ sym (get_or-drop m (block_cells t d) (24512 - m + x) Low)
+      ∙ ap (λ c. at c (24512 - m + x)) back
+      ∙ get_or-take (block_len - m) (drop q c) (24512 - m + x) Low (omega arith) ∙ get_or-drop q c (24512 - m + x) Low
+      ∙ ap (at c) f) in
       omega arith

@@ -1,5 +1,6 @@
 -- Reports of cells that are cut in two.
-use Rattle.std.proofs.Common.{◌≡◌, ℕ, zero, suc, ◌+◌, ◌<◌, ◌≤◌, ◌⊎◌, inl, inr, List, [], ◌∷◌, ◌++◌, Option, Some, None, refl, length, take, drop, map, ap, ap₂, ◌∙◌, sym, arith, lt-ltb, le-ltb, append_assoc}
+use Rattle.std.proofs.Common.{◌≡◌, ℕ, zero, suc, ◌+◌, ◌<◌, ◌≤◌, ◌⊎◌, inl, inr, List, [], ◌∷◌, ◌++◌, Option, Some, None}
+use Rattle.std.proofs.Common.{refl, length, take, drop, map, ap, ap₂, ◌∙◌, sym, arith, lt-ltb, le-ltb, append_assoc}
 use Rattle.std.specs.List.{filter}
 use Rattle.std.proofs.lemmas.Bool.{cases_lt}
 use Rattle.std.proofs.lemmas.List.{map-append, take_all, take-append-drop, length-take-le}
@@ -87,7 +88,8 @@ fronts (suc n) (suc k) p m (x ∷ c) h e =
     let front = reports_from (suc p) (take k c) in
     let rest = reports_from m (drop n c) in
     let t : filter f there ≡ here =
-    ap (λ o. filter f (told p o)) (outcome_at-take (suc k) (x ∷ c) (omega (arith, h))) ∙ told-before m p (outcome_at (x ∷ c)) (omega (arith, e)) in
+    ap (λ o. filter f (told p o)) (outcome_at-take (suc k) (x ∷ c) (omega (arith, h)))
+    ∙ told-before m p (outcome_at (x ∷ c)) (omega (arith, e)) in
     ap (λ v. here ++ v) (fronts n k (suc p) m c (omega (arith, h)) (omega (arith, e)))
     ∙ sym (append_assoc here (filter f front) rest)
     ∙ ap (λ v. v ++ rest) (ap (λ v. v ++ filter f front) (sym t) ∙ sym (filter-append f there front))
@@ -97,4 +99,5 @@ pub reports-join : (n more : ℕ) (c : List Level) → block_len ≤ more
 unfolding reports
 reports-join n more c h =
     fronts n (n + more) 0 n c (omega (arith, h)) (omega arith)
-    ∙ ap (λ v. filter (begins_before n) (reports_from 0 (take (n + more) c)) ++ v) (moved n 0 n (drop n c) (omega arith))
+    ∙ ap (λ v. filter (begins_before n) (reports_from 0 (take (n + more) c)) ++ v)
+    (moved n 0 n (drop n c) (omega arith))

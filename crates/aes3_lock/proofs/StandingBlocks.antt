@@ -1,5 +1,7 @@
 -- A candidate is whole or marked exactly where subframes of a block stand closed.
-use Rattle.std.proofs.Common.{◌≡◌, ℕ, suc, ◌<◌, ◌≤◌, ◌⊎◌, inl, inr, List, [], ◌∷◌, ◌++◌, Bool, true, refl, length, take, drop, map, ap, ap₂, ◌∙◌, sym, subst, arith, append_assoc, take-append-drop, length-take, take-take, take_at, eq-eqb, ne_eqb}
+use Rattle.std.proofs.Common.{◌≡◌, ℕ, suc, ◌<◌, ◌≤◌, ◌⊎◌, inl, inr, List, [], ◌∷◌, ◌++◌, Bool, true, refl, length, take}
+use Rattle.std.proofs.Common.{drop, map, ap, ap₂, ◌∙◌, sym, subst, arith, append_assoc, take-append-drop, length-take}
+use Rattle.std.proofs.Common.{take-take, take_at, eq-eqb, ne_eqb}
 use Rattle.std.proofs.lemmas.List.{length-map}
 use Rattle.std.proofs.lemmas.Bool.{cases_eq}
 use Rattle.aes3_cell.specs.declared.level.Level.{Level}
@@ -17,28 +19,31 @@ use Rattle.aes3_slot.proofs.Unique.{read_slots-line}
 use Rattle.aes3_block.specs.Blocks.{mark_at, block_slots, block_len, block_cells}
 use Rattle.aes3_slot.specs.Preambles.{entry}
 use Rattle.aes3_lock.specs.Candidates.{begins_block, front}
-use Rattle.aes3_lock.specs.Outcomes.{whole, marked, fault, unfinished, outcome, block_outcome, wrong_parities, payloads_of}
+use Rattle.aes3_lock.specs.Outcomes.{whole, marked, fault, unfinished, outcome, block_outcome, wrong_parities}
+use Rattle.aes3_lock.specs.Outcomes.{payloads_of}
 use Rattle.aes3_lock.specs.Standing.{IsClosed, StandsClosed, SubframesStand}
 use Rattle.aes3_lock.proofs.Fronts.{keeps-from-kept}
-use Rattle.aes3_lock.proofs.Deciding.{block_len_64, block_len_24576}
+use Rattle.aes3_lock.proofs.Deciding.{block_len_64}
 use Rattle.aes3_lock.proofs.Viability.{length-runs_of, front-from, keeps-take}
 use Rattle.aes3_lock.proofs.Endings.{Ending, refuted, ended, unclosed, closed, ending, read-stands}
 use Rattle.aes3_slot.proofs.Beginnings.{stands-begins, stands-entry}
 use Rattle.aes3_lock.proofs.BlockPayloads.{payloads-with_parity, right-with_parity, slots-right, block-payloads}
 use Rattle.aes3_block.proofs.Each.{each-payload}
-use Rattle.aes3_block.proofs.CellLaws.{each28}
+use Rattle.aes3_block.proofs.CellLaws.{each28, block_len_24576}
 
 pub first-mark : mark_at 0 ≡ Z
 unfolding mark_at
 first-mark = refl
 
 -- subframes begin with a preamble
-pub runs-stand : (marks : ℕ → Mark) (s : Level) (slots : List (List Bool)) → 0 < length slots → take 8 (line s (runs_of marks slots)) ≡ line s (mark_runs (marks 0))
+pub runs-stand : (marks : ℕ → Mark) (s : Level) (slots : List (List Bool)) → 0 < length slots
+    → take 8 (line s (runs_of marks slots)) ≡ line s (mark_runs (marks 0))
 runs-stand marks s [] h = absurd (omega arith)
 runs-stand marks s (bits ∷ more) h =
     let u = after s (slot_runs (marks 0) bits) in
     let rest = line u (runs_of (λ j. marks (suc j)) more) in
-    ap (take 8) (line-append s (slot_runs (marks 0) bits) (runs_of (λ j. marks (suc j)) more) ∙ ap (λ x. x ++ rest) (line-slots s (marks 0) bits)
+    ap (take 8) (line-append s (slot_runs (marks 0) bits) (runs_of (λ j. marks (suc j)) more)
+        ∙ ap (λ x. x ++ rest) (line-slots s (marks 0) bits)
     ∙ append_assoc (line s (mark_runs (marks 0))) (line s (bits_runs bits)) rest)
     ∙ take_at (line s (mark_runs (marks 0))) (line s (bits_runs bits) ++ rest) 8 (length-mark s (marks 0))
 
@@ -63,7 +68,8 @@ module _ (slots : List (List Bool)) (s : Level) (c : List Level) (h : SubframesS
       let n = block_len_24576 in
       let m = h.count in
       record {
-        is = sym (take-take 8 block_len c (omega (arith, n))) ∙ ap (take 8) h.cells ∙ runs-stand mark_at s slots (omega (arith, k, n, m))
+        is = sym (take-take 8 block_len c (omega (arith, n))) ∙ ap (take 8) h.cells
+            ∙ runs-stand mark_at s slots (omega (arith, k, n, m))
             ∙ ap (λ m. line s (mark_runs m)) first-mark;
       }
 
@@ -80,7 +86,8 @@ module _ (slots : List (List Bool)) (s : Level) (c : List Level) (h : SubframesS
       ap (λ u. front u c) standing-entry ∙ front-from s c block_len (record {
         within = omega arith;
         kept = λ i g.
-            sym (keeps-take s c block_len i g (omega arith)) ∙ keeps-from-kept s (take block_len c) i (standing-kept i (omega arith));
+            sym (keeps-take s c block_len i g (omega arith))
+            ∙ keeps-from-kept s (take block_len c) i (standing-kept i (omega arith));
         stops = λ g. absurd (omega arith);
       })
 
@@ -121,14 +128,17 @@ module _ (slots : List (List Bool)) (s : Level) (c : List Level) (h : SubframesS
       go (closed a d e) = absurd (z d)
 
 -- what the bits of the subframes say
-block_outcome-right : (s : Level) (slots : List (List Bool)) → wrong_parities slots ≡ 0 → block_outcome s slots ≡ whole s (payloads_of slots)
+block_outcome-right : (s : Level) (slots : List (List Bool)) → wrong_parities slots ≡ 0
+    → block_outcome s slots ≡ whole s (payloads_of slots)
 block_outcome-right s slots e = let t = eq-eqb (wrong_parities slots) 0 e in rw t refl
 
-block_outcome-wrong : (s : Level) (slots : List (List Bool)) → 0 < wrong_parities slots → block_outcome s slots ≡ marked s (wrong_parities slots)
+block_outcome-wrong : (s : Level) (slots : List (List Bool)) → 0 < wrong_parities slots
+    → block_outcome s slots ≡ marked s (wrong_parities slots)
 block_outcome-wrong s slots h = let t = ne_eqb (wrong_parities slots) 0 (λ e. omega arith) in rw t refl
 
 -- the cells of a block are those of its payloads with their parity bits
-pub block-stands : (b : List (List Bool)) (s : Level) (c : List Level) → StandsClosed b s c → SubframesStand (map with_parity b) s c
+pub block-stands : (b : List (List Bool)) (s : Level) (c : List Level) → StandsClosed b s c
+    → SubframesStand (map with_parity b) s c
 unfolding block_cells
 block-stands b s c h =
     record {
@@ -137,7 +147,8 @@ block-stands b s c h =
       cells = h.cells;
     }
 
-pub stands-block : (slots : List (List Bool)) (s : Level) (c : List Level) → SubframesStand slots s c → wrong_parities slots ≡ 0 → IsClosed c
+pub stands-block : (slots : List (List Bool)) (s : Level) (c : List Level) → SubframesStand slots s c
+    → wrong_parities slots ≡ 0 → IsClosed c
     → StandsClosed (payloads_of slots) s c
 unfolding block_cells
 stands-block slots s c h w z =
@@ -160,15 +171,18 @@ whole-standing b s c w = go (ending c)
     slots : List (List Bool)
     slots = read_slots block_slots c
 
-    at-entry : IsClosed c → SubframesStand slots (entry c) c → (wrong_parities slots ≡ 0) ⊎ (wrong_parities slots ≡ 0 → ⊥)
+    at-entry : IsClosed c → SubframesStand slots (entry c) c → (wrong_parities slots ≡ 0)
+        ⊎ (wrong_parities slots ≡ 0 → ⊥)
         → block_outcome (entry c) slots ≡ whole s b → StandsClosed b s c
     at-entry z h (inl o) e =
         let q : whole (entry c) (payloads_of slots) ≡ whole s b = sym (block_outcome-right (entry c) slots o) ∙ e in
         let x : entry c ≡ s = cc in
         let y : payloads_of slots ≡ b = cc in
-        subst (λ d. StandsClosed d s c) y (subst (λ t. StandsClosed (payloads_of slots) t c) x (stands-block slots (entry c) c h o z))
+        subst (λ d. StandsClosed d s c) y
+        (subst (λ t. StandsClosed (payloads_of slots) t c) x (stands-block slots (entry c) c h o z))
     at-entry z h (inr o) e =
-        let q : marked (entry c) (wrong_parities slots) ≡ whole s b = sym (block_outcome-wrong (entry c) slots (omega arith)) ∙ e in
+        let q : marked (entry c) (wrong_parities slots) ≡ whole s b =
+            sym (block_outcome-wrong (entry c) slots (omega arith)) ∙ e in
         cc
 
     go : Ending c → StandsClosed b s c
@@ -178,7 +192,8 @@ whole-standing b s c w = go (ending c)
     go (closed x z e) = at-entry z (read-stands (entry c) c x) (cases_eq (wrong_parities slots) 0) (sym e ∙ w)
 
 -- marked
-pub standing-marked : (slots : List (List Bool)) (s : Level) (c : List Level) → SubframesStand slots s c → IsClosed c → 0 < wrong_parities slots
+pub standing-marked : (slots : List (List Bool)) (s : Level) (c : List Level) → SubframesStand slots s c → IsClosed c
+    → 0 < wrong_parities slots
     → outcome c ≡ marked s (wrong_parities slots)
 standing-marked slots s c h z w = standing-outcome slots s c h z ∙ block_outcome-wrong s slots w
 
@@ -189,19 +204,22 @@ marked-standing s n c w = go (ending c)
     slots : List (List Bool)
     slots = read_slots block_slots c
 
-    at-entry : IsClosed c → SubframesStand slots (entry c) c → (wrong_parities slots ≡ 0) ⊎ (wrong_parities slots ≡ 0 → ⊥)
+    at-entry : IsClosed c → SubframesStand slots (entry c) c → (wrong_parities slots ≡ 0)
+        ⊎ (wrong_parities slots ≡ 0 → ⊥)
         → block_outcome (entry c) slots ≡ marked s n
         → IsClosed c × (0 < n) × ((slots : List (List Bool)) × SubframesStand slots s c × (wrong_parities slots ≡ n))
     at-entry z h (inl o) e =
         let q : whole (entry c) (payloads_of slots) ≡ marked s n = sym (block_outcome-right (entry c) slots o) ∙ e in
         cc
     at-entry z h (inr o) e =
-        let q : marked (entry c) (wrong_parities slots) ≡ marked s n = sym (block_outcome-wrong (entry c) slots (omega arith)) ∙ e in
+        let q : marked (entry c) (wrong_parities slots) ≡ marked s n =
+            sym (block_outcome-wrong (entry c) slots (omega arith)) ∙ e in
         let x : entry c ≡ s = cc in
         let y : wrong_parities slots ≡ n = cc in
         (z, omega arith, (slots, subst (λ t. SubframesStand slots t c) x h, y))
 
-    go : Ending c → IsClosed c × (0 < n) × ((slots : List (List Bool)) × SubframesStand slots s c × (wrong_parities slots ≡ n))
+    go : Ending c → IsClosed c × (0 < n)
+        × ((slots : List (List Bool)) × SubframesStand slots s c × (wrong_parities slots ≡ n))
     go (refuted x y e) = let q : fault (front (entry c) c) ≡ marked s n = sym e ∙ w in cc
     go (ended x y e) = let q : unfinished (length c) ≡ marked s n = sym e ∙ w in cc
     go (unclosed x y z e) = let q : fault block_len ≡ marked s n = sym e ∙ w in cc

@@ -1,5 +1,7 @@
 -- A word of cells behind those that a lock follows.
-use Rattle.std.proofs.Common.{◌≡◌, ℕ, suc, ◌+◌, ◌-◌, ◌*◌, ◌/◌, ◌%◌, ◌^◌, ◌<◌, ◌≤◌, List, [], ◌∷◌, ◌++◌, true, Some, refl, length, take, drop, set, ap, ap₂, ◌∙◌, sym, subst, arith, length-append, length-drop, take-append-drop, take_all, add-one}
+use Rattle.std.proofs.Common.{◌≡◌, ℕ, suc, ◌+◌, ◌-◌, ◌*◌, ◌/◌, ◌%◌, ◌^◌, ◌<◌, ◌≤◌, List, [], ◌∷◌, ◌++◌, true, Some}
+use Rattle.std.proofs.Common.{refl, length, take, drop, set, ap, ap₂, ◌∙◌, sym, subst, arith, length-append}
+use Rattle.std.proofs.Common.{length-drop, take-append-drop, take_all, add-one}
 use Rattle.std.proofs.lemmas.List.{drop-append-le}
 use Rattle.std.proofs.Math.Seq.{get_or-append_seam}
 use Rattle.aes3_cell.specs.declared.level.Level.{Level}
@@ -25,7 +27,8 @@ use Rattle.aes3_lock.proofs.Following.{hand, hand-open, offset, goes-on}
 
 -- x has the first cells of the word w behind those of the subframe at offset o of the candidate, and y the others
 pub record Parted (k : LockState) (w x y o : ℕ) : Type 0 where
-  pub whole : k.subframe < 2 ^ (o % 64) → word_cells x ≡ low_cells (o % 64) k.subframe ++ take (64 - o % 64) (word_cells w)
+  pub whole : k.subframe < 2 ^ (o % 64)
+      → word_cells x ≡ low_cells (o % 64) k.subframe ++ take (64 - o % 64) (word_cells w)
   pub rest : low_cells (o % 64) y ≡ drop (64 - o % 64) (word_cells w)
   pub few : y < 2 ^ (o % 64)
 
@@ -103,11 +106,13 @@ module _ (k : LockState) (t : Candidate) (c : List Level) (w x y : ℕ) (f : Fol
       room = here.room
 
       k1 : AllKept (λ _. mark_at (length d / 64)) t.level (word_cells x)
-      k1 = subst (AllKept (λ _. mark_at (length d / 64)) t.level) (all-64 x) (kept-from-front t.level (mark_at (length d / 64)) (take 64 (word_cells x)) here.whole)
+      k1 = subst (AllKept (λ _. mark_at (length d / 64)) t.level) (all-64 x)
+          (kept-from-front t.level (mark_at (length d / 64)) (take 64 (word_cells x)) here.whole)
 
       k2 : AllKept (λ _. mark_at (suc (length d / 64))) (at (word_cells x) 63) rest
       k2 = subst (λ j. AllKept (λ _. mark_at j) (at (word_cells x) 63) rest) (add-one (length d / 64))
-          (subst (AllKept (λ _. mark_at (length d / 64 + 1)) (at (word_cells x) 63)) (take-word p y (omega arith) ∙ rest-cells)
+          (subst (AllKept (λ _. mark_at (length d / 64 + 1)) (at (word_cells x) 63)) (take-word p y (omega arith)
+              ∙ rest-cells)
           (kept-from-front (at (word_cells x) 63) (mark_at (length d / 64 + 1)) (take p (word_cells y)) here.next))
 
       small : length rest < 64
@@ -115,16 +120,21 @@ module _ (k : LockState) (t : Candidate) (c : List Level) (w x y : ℕ) (f : Fol
 
       kept : (i : ℕ) → i < length (d ++ word_cells w) → keeps (entry d) (d ++ word_cells w) i ≡ true
       kept = subst (λ u. (i : ℕ) → i < length (d ++ u) → keeps (entry d) (d ++ u) i ≡ true) both
-          (all-keep (entry d) t.level d first rest (word_cells x) is-whole (length-word x) in-hand.gathered.level so-far k1 k2 small)
+          (all-keep (entry d) t.level d first rest (word_cells x) is-whole
+              (length-word x) in-hand.gathered.level so-far k1 k2 small)
 
       gathered : Gathered (at (word_cells x) 63) y (set k.words ((k.seen - t.at) / 64) x) (entry d) (d ++ word_cells w)
-      gathered = subst (λ o. Gathered (at (word_cells x) 63) y (set k.words (o / 64) x) (entry d) (d ++ word_cells w)) (sym off)
+      gathered = subst
+          (λ o. Gathered (at (word_cells x) 63) y (set k.words (o / 64) x) (entry d) (d ++ word_cells w)) (sym off)
           (subst (λ u. Gathered (at (word_cells x) 63) y (set k.words (length d / 64) x) (entry d) (d ++ u)) both
-          (made-whole (entry d) d first rest (word_cells x) is-whole (length-word x) t.level k.subframe y x k.words in-hand.gathered lw (omega (arith, room)) small
-          (ap (λ m. low_cells m y) rest-length ∙ rest-cells) (subst (λ m. y < 2 ^ m) (sym rest-length) parted.few) refl))
+          (made-whole (entry d) d first rest (word_cells x) is-whole
+              (length-word x) t.level k.subframe y x k.words in-hand.gathered lw (omega (arith, room)) small
+          (ap (λ m. low_cells m y) rest-length ∙ rest-cells)
+          (subst (λ m. y < 2 ^ m) (sym rest-length) parted.few) refl))
 
 -- a candidate in hand behind the word has room there
-pub word-room : (k : LockState) (t : Candidate) (c : List Level) (w : ℕ) → Follows k c → k.candidate ≡ Some t → open_at (drop t.at (c ++ word_cells w)) ≡ true
+pub word-room : (k : LockState) (t : Candidate) (c : List Level) (w : ℕ) → Follows k c → k.candidate ≡ Some t
+    → open_at (drop t.at (c ++ word_cells w)) ≡ true
     → k.seen - t.at + 64 ≤ block_len
 word-room k t c w f s o =
     let h = (hand k t c f s).within in
@@ -146,11 +156,16 @@ module _ (k : LockState) (t : Candidate) (c : List Level) (w x y : ℕ) (f : Fol
     room = subst (λ o. o + 64 ≤ block_len) (offset k t c f s) (word-room k t c w f s o);
     whole = subst (IsFrontOf t.level (mark_at (length e / 64))) (sym (all-64 x))
         (front-from-kept t.level (mark_at (length e / 64)) (word_cells x) (let l = length-word x in omega (arith, l))
-        (begins-whole (entry e) t.level e (first k t c w x y f s given) (rest k t c w x y f s given) (word_cells x) (is-whole k t c w x y f s given) (length-word x) in-hand.gathered.level kept));
-    next = subst (λ j. IsFrontOf (at (word_cells x) 63) (mark_at j) (take (length e % 64) (word_cells y))) (sym (add-one (length e / 64)))
-        (subst (IsFrontOf (at (word_cells x) 63) (mark_at (suc (length e / 64)))) (sym (take-word (length e % 64) y (omega arith) ∙ rest-cells k t c w x y f s given))
-        (front-from-kept (at (word_cells x) 63) (mark_at (suc (length e / 64))) (rest k t c w x y f s given) (omega (arith, r))
-        (begins-next (entry e) t.level e (first k t c w x y f s given) (rest k t c w x y f s given) (word_cells x) (is-whole k t c w x y f s given) (length-word x) in-hand.gathered.level
+        (begins-whole (entry e) t.level e (first k t c w x y f s given) (rest k t c w x y f s given) (word_cells x)
+            (is-whole k t c w x y f s given) (length-word x) in-hand.gathered.level kept));
+    next = subst (λ j. IsFrontOf (at (word_cells x) 63) (mark_at j) (take (length e % 64) (word_cells y)))
+        (sym (add-one (length e / 64)))
+        (subst (IsFrontOf (at (word_cells x) 63) (mark_at (suc (length e / 64))))
+            (sym (take-word (length e % 64) y (omega arith) ∙ rest-cells k t c w x y f s given))
+        (front-from-kept (at (word_cells x) 63) (mark_at (suc (length e / 64))) (rest k t c w x y f s given)
+            (omega (arith, r))
+        (begins-next (entry e) t.level e (first k t c w x y f s given) (rest k t c w x y f s given) (word_cells x)
+            (is-whole k t c w x y f s given) (length-word x) in-hand.gathered.level
         (omega (arith, r)) kept)));
   })
     where
@@ -167,21 +182,27 @@ module _ (k : LockState) (t : Candidate) (c : List Level) (w x y : ℕ) (f : Fol
       opened = is-open (drop t.at (c ++ word_cells w)) o
 
       same : entry (drop t.at (c ++ word_cells w)) ≡ entry e
-      same = ap entry tail ∙ entry-append e (word_cells w) (let h = in-hand.within in let l = length-drop t.at c in omega (arith, h, l))
+      same = ap entry tail ∙ entry-append e (word_cells w) (let h = in-hand.within in let l = length-drop t.at c in
+          omega (arith, h, l))
 
       kept-word : (i : ℕ) → i < length (e ++ word_cells w) → keeps (entry e) (e ++ word_cells w) i ≡ true
       kept-word i h =
           let a = opened.all in
           let n = ap length tail in
-          ap₂ (λ u v. keeps u v i) (sym same) (sym tail) ∙ (front-is (entry (drop t.at (c ++ word_cells w))) (drop t.at (c ++ word_cells w))).kept i (omega (arith, a, n, h))
+          ap₂ (λ u v. keeps u v i) (sym same) (sym tail)
+          ∙ (front-is (entry (drop t.at (c ++ word_cells w))) (drop t.at (c ++ word_cells w))).kept i
+          (omega (arith, a, n, h))
 
       kept : (i : ℕ) → i < length (e ++ (first k t c w x y f s given ++ rest k t c w x y f s given))
           → keeps (entry e) (e ++ (first k t c w x y f s given ++ rest k t c w x y f s given)) i ≡ true
-      kept = subst (λ u. (i : ℕ) → i < length (e ++ u) → keeps (entry e) (e ++ u) i ≡ true) (sym (both k t c w x y f s given)) kept-word
+      kept = subst (λ u. (i : ℕ) → i < length (e ++ u) → keeps (entry e) (e ++ u) i ≡ true)
+          (sym (both k t c w x y f s given)) kept-word
 
 -- one more cell of a subframe
-pub next-inside : (u : Level) (sub new : ℕ) (words : List ℕ) (s : Level) (d : List Level) (o : ℕ) (l : Level) → o % 64 < 63
-    → (sub < 2 ^ (o % 64) → low_cells (o % 64 + 1) new ≡ low_cells (o % 64) sub ++ l ∷ []) → (sub < 2 ^ (o % 64) → new < 2 ^ (o % 64 + 1))
+pub next-inside : (u : Level) (sub new : ℕ) (words : List ℕ) (s : Level) (d : List Level) (o : ℕ) (l : Level)
+    → o % 64 < 63
+    → (sub < 2 ^ (o % 64) → low_cells (o % 64 + 1) new ≡ low_cells (o % 64) sub ++ l ∷ [])
+    → (sub < 2 ^ (o % 64) → new < 2 ^ (o % 64 + 1))
     → Gathered u sub words s d → o ≡ length d → Gathered u new words s (d ++ l ∷ [])
 next-inside u sub new words s d o l h cells few g e =
     more-cells u sub new words s d (l ∷ []) g (omega (arith, e, h))
@@ -189,14 +210,16 @@ next-inside u sub new words s d o l h cells few g e =
     (subst (λ n. sub < 2 ^ (n % 64) → new < 2 ^ (n % 64 + 1)) e few)
 
 -- its last cell
-pub next-whole : (u : Level) (sub new : ℕ) (words : List ℕ) (s : Level) (d : List Level) (o : ℕ) (l : Level) → length words ≡ block_slots → o < block_len → o % 64 ≡ 63
+pub next-whole : (u : Level) (sub new : ℕ) (words : List ℕ) (s : Level) (d : List Level) (o : ℕ) (l : Level)
+    → length words ≡ block_slots → o < block_len → o % 64 ≡ 63
     → (sub < 2 ^ (o % 64) → low_cells (o % 64 + 1) new ≡ low_cells (o % 64) sub ++ l ∷ [])
     → Gathered u sub words s d → o ≡ length d → Gathered l 0 (set words (o / 64) new) s (d ++ l ∷ [])
 unfolding word_cells word_len
 next-whole u sub new words s d o l lw room h cells g e =
     subst (λ n. Gathered l 0 (set words (n / 64) new) s (d ++ l ∷ [])) (sym e)
     (subst (λ a. Gathered a 0 (set words (length d / 64) new) s (d ++ l ∷ [])) last-is
-    (made-whole s d (l ∷ []) [] (word_cells new) is (length-word new) u sub 0 new words g lw (omega (arith, e, room)) (omega arith) refl (omega arith) refl))
+    (made-whole s d (l ∷ []) [] (word_cells new) is (length-word new) u sub 0 new words g lw (omega (arith, e, room))
+        (omega arith) refl (omega arith) refl))
   where
     here : length d % 64 ≡ 63
     here = omega (arith, e, h)

@@ -1,5 +1,7 @@
 -- The preambles of a piece of a lawful stream are its true ones and no other.
-use Rattle.std.proofs.Common.{◌≡◌, ℕ, zero, suc, ◌+◌, ◌-◌, ◌*◌, ◌%◌, ◌<◌, ◌≤◌, ◌⊎◌, inl, inr, List, [], ◌∷◌, ◌++◌, Bool, true, false, ◌&&◌, cond, leb, Some, None, refl, length, take, drop, ap, ap₂, ◌∙◌, sym, subst, arith, length-take, take-take, get_or-take, lit<}
+use Rattle.std.proofs.Common.{◌≡◌, ℕ, zero, suc, ◌+◌, ◌-◌, ◌*◌, ◌%◌, ◌<◌, ◌≤◌, ◌⊎◌, inl, inr, List, [], ◌∷◌, ◌++◌, Bool}
+use Rattle.std.proofs.Common.{true, false, ◌&&◌, cond, leb, Some, None, refl, length, take, drop, ap, ap₂, ◌∙◌, sym}
+use Rattle.std.proofs.Common.{subst, arith, length-take, take-take, get_or-take, lit<}
 use Rattle.std.specs.Option.{option_to_list, option_map}
 use Rattle.std.proofs.lemmas.Bool.{cases_lt, false_from_ne_true}
 use Rattle.aes3_cell.specs.declared.level.Level.{Level}
@@ -15,14 +17,16 @@ use Rattle.aes3_block.proofs.FileLaws.{EachBlock, each-block}
 use Rattle.aes3_slot.specs.Preambles.{entry, begins_with, same_cells}
 use Rattle.aes3_lock.specs.Preambles.{first_mark, placed, marks_from, marks}
 use Rattle.aes3_lock.specs.Pieces.{IsPiece, marks_within, true_marks}
-use Rattle.aes3_slot.proofs.Beginnings.{begins-stands, stands-begins, stands-entry, stands-once, stands-drop, drop-stands}
+use Rattle.aes3_slot.proofs.Beginnings.{begins-stands, stands-begins, stands-entry, stands-once, stands-drop}
+use Rattle.aes3_slot.proofs.Beginnings.{drop-stands}
 use Rattle.aes3_lock.proofs.Places.{collect, gather, spaced, collect-gather, gather-within, Sparse, gather-spaced}
 use Rattle.aes3_lock.proofs.PieceBounds.{piece-rest, length-piece, both-true, second-false, first-false}
 use Rattle.aes3_lock.proofs.LawfulPieces.{stream_marks, stream-length, stream-stands, stream-aligned}
 
 -- the preamble at the start
 not-begins : (m n : Mark) (t : Level) (c : List Level) → StandsMark m t c 0 → (m ≡ n → ⊥) → begins_with n c ≡ false
-not-begins m n t c z ne = false_from_ne_true (begins_with n c) (λ e. ne (stands-once m n t (entry c) c z (begins-stands n c e)))
+not-begins m n t c z ne =
+    false_from_ne_true (begins_with n c) (λ e. ne (stands-once m n t (entry c) c z (begins-stands n c e)))
 
 pub first_mark-some : (m : Mark) (t : Level) (c : List Level) → StandsMark m t c 0 → first_mark c ≡ Some (m, t)
 unfolding first_mark
@@ -42,7 +46,8 @@ first_mark-some Z t c z =
 pub first_mark-none : (c : List Level) → ((m : Mark) (t : Level) → StandsMark m t c 0 → ⊥) → first_mark c ≡ None
 unfolding first_mark
 first_mark-none c n =
-    let none : (m : Mark) → begins_with m c ≡ false = λ m. false_from_ne_true (begins_with m c) (λ e. n m (entry c) (begins-stands m c e)) in
+    let none : (m : Mark)
+    → begins_with m c ≡ false = λ m. false_from_ne_true (begins_with m c) (λ e. n m (entry c) (begins-stands m c e)) in
     let x = none X in
     let y = none Y in
     let z = none Z in
@@ -61,7 +66,9 @@ first_mark-take n c h =
     let y = begins-take Y n c h in
     let z = begins-take Z n c h in
     let e : entry (take n c) ≡ entry c = ap other (get_or-take n c 0 Low (omega arith)) in
-    rw (x, y, z) (ap (λ s. cond (begins_with X c) (Some (X, s)) (cond (begins_with Y c) (Some (Y, s)) (cond (begins_with Z c) (Some (Z, s)) None))) e)
+    rw (x, y, z)
+    (ap (λ s. cond (begins_with X c) (Some (X, s))
+        (cond (begins_with Y c) (Some (Y, s)) (cond (begins_with Z c) (Some (Z, s)) None))) e)
 
 -- place by place
 abbrev mark_here : ℕ → List Level → List (ℕ × Mark × Level)
@@ -71,7 +78,8 @@ marks-collect : (p : ℕ) (c : List Level) → marks_from p c ≡ collect mark_h
 marks-collect p [] = refl
 marks-collect p (x ∷ c) = ap (λ z. mark_here p (x ∷ c) ++ z) (marks-collect (suc p) c)
 
-module _ (s : Level) (bs : List (List (List Bool))) (h : EachBlock bs) (i j : ℕ) (order : i ≤ j) (within : j ≤ length (stream s bs)) where
+module _ (s : Level) (bs : List (List (List Bool))) (h : EachBlock bs) (i j : ℕ) (order : i ≤ j)
+    (within : j ≤ length (stream s bs)) where
   -- what stands at a place of the stream, where the piece has all of it
   given : ℕ → List (ℕ × Mark × Level)
   given q = cond (leb i q && leb (q + 8) j) (mark_here (q - i) (drop q (stream s bs))) []
@@ -89,14 +97,17 @@ module _ (s : Level) (bs : List (List (List Bool))) (h : EachBlock bs) (i j : �
       go (inr o) =
           let e : 0 + q ≡ i + q - i = omega arith in
           ap₂ mark_here e rest
-          ∙ ap (λ m. option_to_list (option_map (placed (i + q - i)) m)) (first_mark-take (j - (i + q)) (drop (i + q) (stream s bs)) (omega arith))
-          ∙ sym (both-true i (i + q) (i + q + 8) j (mark_here (i + q - i) (drop (i + q) (stream s bs))) [] (omega arith) o)
+          ∙ ap (λ m. option_to_list (option_map (placed (i + q - i)) m))
+          (first_mark-take (j - (i + q)) (drop (i + q) (stream s bs)) (omega arith))
+          ∙ sym (both-true i (i + q) (i + q + 8) j (mark_here (i + q - i) (drop (i + q) (stream s bs))) []
+              (omega arith) o)
       go (inl o) =
           let n = length-take (j - (i + q)) (drop (i + q) (stream s bs)) in
           ap (mark_here (0 + q)) rest
           ∙ ap (λ m. option_to_list (option_map (placed (0 + q)) m))
           (first_mark-none (take (j - (i + q)) (drop (i + q) (stream s bs)))
-          (λ m t z. let r = stands-room m t (take (j - (i + q)) (drop (i + q) (stream s bs))) 0 z in omega (arith, n, r)))
+          (λ m t z. let r = stands-room m t (take (j - (i + q)) (drop (i + q) (stream s bs))) 0 z in
+              omega (arith, n, r)))
           ∙ sym (second-false i (i + q) (i + q + 8) j (mark_here (i + q - i) (drop (i + q) (stream s bs))) [] o)
 
   given-before : (q : ℕ) → q < i → given q ≡ []
@@ -113,7 +124,8 @@ module _ (s : Level) (bs : List (List (List Bool))) (h : EachBlock bs) (i j : �
   given-between q n =
       let e = first_mark-none (drop q (stream s bs)) (λ m t z.
       let a : q + 0 ≡ q = omega arith in
-      n (stream-aligned s bs h m t q (subst (StandsMark m t (stream s bs)) a (stands-drop m t (stream s bs) q 0 z))).0) in
+      n (stream-aligned s bs h m t q
+          (subst (StandsMark m t (stream s bs)) a (stands-drop m t (stream s bs) q 0 z))).0) in
       rw e (none (leb i q && leb (q + 8) j))
     where
       none : (b : Bool) → ◌≡◌ {A = List (ℕ × Mark × Level)} (cond b [] []) []
@@ -126,11 +138,13 @@ module _ (s : Level) (bs : List (List (List Bool))) (h : EachBlock bs) (i j : �
 
   -- at the start of a subframe its preamble
   given-own : (k : ℕ) → k < block_slots * length bs
-      → given (64 * k) ≡ cond (leb i (64 * k) && leb (64 * k + 8) j) ((64 * k - i, mark_at (k % block_slots), s) ∷ []) []
+      → given (64 * k) ≡ cond (leb i (64 * k) && leb (64 * k + 8) j)
+      ((64 * k - i, mark_at (k % block_slots), s) ∷ []) []
   unfolding given
   given-own k l =
       let a : 64 * k ≡ 64 * k + 0 = omega arith in
-      let z = drop-stands (stream_marks k) s (stream s bs) (64 * k) 0 (subst (StandsMark (stream_marks k) s (stream s bs)) a (stream-stands s bs h k l)) in
+      let z = drop-stands (stream_marks k) s (stream s bs) (64 * k) 0
+      (subst (StandsMark (stream_marks k) s (stream s bs)) a (stream-stands s bs h k l)) in
       let e = first_mark-some (stream_marks k) s (drop (64 * k) (stream s bs)) z in
       ap (λ m. cond (leb i (64 * k) && leb (64 * k + 8) j) (option_to_list (option_map (placed (64 * k - i)) m)) []) e
 
@@ -138,7 +152,8 @@ module _ (s : Level) (bs : List (List (List Bool))) (h : EachBlock bs) (i j : �
   spaced-marks zero k l = refl
   spaced-marks (suc n) k l =
       let a : 64 * k + 64 ≡ 64 * suc k = omega arith in
-      ap₂ (λ u v. u ++ v) (given-own k (omega arith)) (ap (λ p. spaced given 64 p n) a ∙ spaced-marks n (suc k) (omega arith))
+      ap₂ (λ u v. u ++ v) (given-own k (omega arith)) (ap (λ p. spaced given 64 p n) a
+          ∙ spaced-marks n (suc k) (omega arith))
 
   piece-marks : marks_from 0 (take (j - i) (drop i (stream s bs))) ≡ marks_within (block_slots * length bs) 0 s i j
   piece-marks =
@@ -154,6 +169,7 @@ module _ (s : Level) (bs : List (List (List Bool))) (h : EachBlock bs) (i j : �
       ∙ gather-spaced given 64 0 (block_slots * length bs) (lit< tt) (given-sparse 0 (block_slots * length bs) refl)
       ∙ spaced-marks (block_slots * length bs) 0 (omega arith)
 
-pub marks-true : (s : Level) (bs : List (List (List Bool))) (i j : ℕ) (c : List Level) → IsPiece s bs i j c → marks c ≡ true_marks s bs i j
+pub marks-true : (s : Level) (bs : List (List (List Bool))) (i j : ℕ) (c : List Level) → IsPiece s bs i j c
+    → marks c ≡ true_marks s bs i j
 unfolding marks true_marks
 marks-true s bs i j c p = ap (marks_from 0) p.is ∙ piece-marks s bs (each-block bs p.blocks) i j p.order p.within

@@ -1,5 +1,7 @@
 -- Cells go on as a block's exactly where each of them keeps its rule.
-use Rattle.std.proofs.Common.{◌≡◌, ℕ, suc, ◌*◌, ◌<◌, ◌≤◌, ◌⊎◌, inl, inr, List, [], ◌∷◌, Bool, true, refl, length, take, drop, ap, ◌∙◌, sym, subst, arith, length-append, length-take, length-take-le, take-append-drop, true≢false}
+use Rattle.std.proofs.Common.{◌≡◌, ℕ, suc, ◌*◌, ◌<◌, ◌≤◌, ◌⊎◌, inl, inr, List, [], ◌∷◌, Bool, true, refl, length, take}
+use Rattle.std.proofs.Common.{drop, ap, ◌∙◌, sym, subst, arith, length-append, length-take, length-take-le}
+use Rattle.std.proofs.Common.{take-append-drop, true≢false}
 use Rattle.std.proofs.lemmas.Bool.{cases_lt}
 use Rattle.aes3_cell.specs.declared.level.Level.{Level}
 use Rattle.aes3_cell.specs.Cells.{line}
@@ -23,7 +25,8 @@ keeps-take s c n i h g =
     sym (keeps-append s (take n c) (drop n c) i (omega (arith, l))) ∙ ap (λ x. keeps s x i) (take-append-drop n c)
 
 -- the length of subframes' cells
-pub length-runs_of : (marks : ℕ → Mark) (s : Level) (slots : List (List Bool)) → Each28 slots → length (line s (runs_of marks slots)) ≡ 64 * length slots
+pub length-runs_of : (marks : ℕ → Mark) (s : Level) (slots : List (List Bool)) → Each28 slots
+    → length (line s (runs_of marks slots)) ≡ 64 * length slots
 length-runs_of marks s [] e = refl
 length-runs_of marks s (bits ∷ more) e =
     let u = after s (slot_runs (marks 0) bits) in
@@ -72,7 +75,8 @@ take-viable s c n h =
     let f = front-is s c in
     let w = f.within in
     let l = length-take n c in
-    keeps-viable s (take n c) (omega (arith, l)) (λ i g. keeps-take s c n i (omega (arith, l, g)) (omega (arith, l, g)) ∙ f.kept i (omega (arith, l, g)))
+    keeps-viable s (take n c) (omega (arith, l))
+    (λ i g. keeps-take s c n i (omega (arith, l, g)) (omega (arith, l, g)) ∙ f.kept i (omega (arith, l, g)))
 
 pub viable-take : (s : Level) (c : List Level) (n : ℕ) → n ≤ length c → IsViable s (take n c) → n ≤ front s c
 viable-take s c n h v = go (cases_lt (front s c) n)
@@ -87,7 +91,8 @@ viable-take s c n h v = go (cases_lt (front s c) n)
     go (inr g) = g
     go (inl g) =
         let k = viable-length s (take n c) v in
-        absurd (true≢false (sym (viable-keeps s (take n c) v (front s c) (omega (arith, l))) ∙ keeps-take s c n (front s c) g (omega arith)
+        absurd (true≢false (sym (viable-keeps s (take n c) v (front s c) (omega (arith, l)))
+            ∙ keeps-take s c n (front s c) g (omega arith)
         ∙ f.stops (omega (arith, l, k, h, g))))
 
 -- all cells

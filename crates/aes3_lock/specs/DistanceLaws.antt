@@ -9,28 +9,36 @@ use Rattle.aes3_lock.specs.Damage.{changed, apart, high_count, between_slots, ex
 use Rattle.aes3_lock.specs.Pieces.{IsPiece}
 use Rattle.aes3_lock.specs.Standing.{StandsClosed}
 
--- from a place of a piece where no block of its stream begins, the cells differ from those of every block at 4 places or more; where
+-- from a place of a piece where no block of its stream begins, the cells differ from those of every block at 4 places
+-- or more; where
 -- no frame begins, and from those of every block after the other level, at 384 or more
 abbrev pub FarWhereNoBlockBegins : Type 0
 FarWhereNoBlockBegins =
-    (s : Level) (bs : List (List (List Bool))) (i j : ℕ) (c : List Level) → IsPiece s bs i j c → (q : ℕ) → q + block_len ≤ length c
-    → (i + q) % block_len ≢ 0 → (t : Level) (d : List (List Bool)) → IsBlock d → 4 ≤ apart (take block_len (drop q c)) (block_cells t d)
+    (s : Level) (bs : List (List (List Bool))) (i j : ℕ) (c : List Level) → IsPiece s bs i j c → (q : ℕ)
+    → q + block_len ≤ length c
+    → (i + q) % block_len ≢ 0 → (t : Level) (d : List (List Bool)) → IsBlock d
+    → 4 ≤ apart (take block_len (drop q c)) (block_cells t d)
 
 abbrev pub FarWhereNoFrameBegins : Type 0
 FarWhereNoFrameBegins =
-    (s : Level) (bs : List (List (List Bool))) (i j : ℕ) (c : List Level) → IsPiece s bs i j c → (q : ℕ) → q + block_len ≤ length c
-    → (i + q) % 128 ≢ 0 → (t : Level) (d : List (List Bool)) → IsBlock d → 384 ≤ apart (take block_len (drop q c)) (block_cells t d)
+    (s : Level) (bs : List (List (List Bool))) (i j : ℕ) (c : List Level) → IsPiece s bs i j c → (q : ℕ)
+    → q + block_len ≤ length c
+    → (i + q) % 128 ≢ 0 → (t : Level) (d : List (List Bool)) → IsBlock d
+    → 384 ≤ apart (take block_len (drop q c)) (block_cells t d)
 
 abbrev pub FarFromTheOtherLevel : Type 0
 FarFromTheOtherLevel =
-    (s : Level) (bs : List (List (List Bool))) (i j : ℕ) (c : List Level) → IsPiece s bs i j c → (q : ℕ) → q + block_len ≤ length c
+    (s : Level) (bs : List (List (List Bool))) (i j : ℕ) (c : List Level) → IsPiece s bs i j c → (q : ℕ)
+    → q + block_len ≤ length c
     → (t : Level) (d : List (List Bool)) → IsBlock d → t ≢ s → 384 ≤ apart (take block_len (drop q c)) (block_cells t d)
 
--- a block's cells differ from those of every block after the other level at 3,840 places or more, and after its own level from
+-- a block's cells differ from those of every block after the other level at 3,840 places or more, and after its own
+-- level from
 -- those of every other block at 2 or more
 abbrev pub FarAfterOtherLevel : Type 0
 FarAfterOtherLevel =
-    (s : Level) (b d : List (List Bool)) → IsBlock b → IsBlock d → 3840 ≤ apart (block_cells s b) (block_cells (other s) d)
+    (s : Level) (b d : List (List Bool)) → IsBlock b → IsBlock d
+    → 3840 ≤ apart (block_cells s b) (block_cells (other s) d)
 
 abbrev pub BlocksAreApart : Type 0
 BlocksAreApart =
@@ -45,7 +53,8 @@ pub record IsExchanged (b d : List (List Bool)) : Type 0 where
 
 abbrev pub NearestAreExchanged : Type 0
 NearestAreExchanged =
-    (s : Level) (b d : List (List Bool)) → IsBlock b → IsBlock d → apart (block_cells s b) (block_cells s d) ≡ 2 → IsExchanged b d
+    (s : Level) (b d : List (List Bool)) → IsBlock b → IsBlock d → apart (block_cells s b) (block_cells s d) ≡ 2
+    → IsExchanged b d
 
 abbrev pub ExchangedHasTheseCells : Type 0
 ExchangedHasTheseCells =
@@ -55,12 +64,15 @@ ExchangedHasTheseCells =
 -- whether a block stands closed is told by its cells and the next one: whatever happens elsewhere, it stands
 abbrev pub BlocksStandByTheirCells : Type 0
 BlocksStandByTheirCells =
-    (b : List (List Bool)) (s : Level) (c d : List Level) → take (suc block_len) c ≡ take (suc block_len) d → StandsClosed b s c → StandsClosed b s d
+    (b : List (List Bool)) (s : Level) (c d : List Level) → take (suc block_len) c ≡ take (suc block_len) d
+    → StandsClosed b s c → StandsClosed b s d
 
--- half of the cells of a subframe are high; so where blocks stand in cells and, at the same place, in changed cells, an even number of
+-- half of the cells of a subframe are high; so where blocks stand in cells and, at the same place, in changed cells, an
+-- even number of
 -- theirs changed: an odd number always takes the block
 abbrev pub SubframesAreBalanced : Type 0
-SubframesAreBalanced = (s : Level) (m : Mark) (p : List Bool) → IsPayload p → high_count (line s (subframe_runs m p)) ≡ 32
+SubframesAreBalanced = (s : Level) (m : Mark) (p : List Bool) → IsPayload p
+    → high_count (line s (subframe_runs m p)) ≡ 32
 
 abbrev pub OddChangesTakeTheBlock : Type 0
 OddChangesTakeTheBlock =

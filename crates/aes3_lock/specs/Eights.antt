@@ -3,7 +3,8 @@ use Rattle.std.specs.Prelude.{ℕ, zero, suc, List, ◌-◌, get_or, drop}
 use Rattle.aes3_cell.specs.declared.level.Level.{Level}
 use Rattle.aes3_cell.specs.Words.{low_cells, word_cells}
 
--- the first cells of a subframe that are known before word i of words: those begun before the first, or the last of the word before
+-- the first cells of a subframe that are known before word i of words: those begun before the first, or the last of the
+-- word before
 abbrev pub begun_before : ℕ → ℕ → List ℕ → ℕ → List Level
 begun_before len begun words zero = low_cells len begun
 begun_before len begun words (suc i) = drop (64 - len) (word_cells (get_or words i 0))

@@ -1,5 +1,6 @@
 -- Which lists of cells a lock and a scan follow.
-use Rattle.std.specs.Prelude.{ℕ, List, true, false, length, ◌≡◌, ◌<◌, ◌≤◌, ◌+◌, ◌-◌, ◌*◌, ◌/◌, ◌%◌, ◌^◌, Some, drop, take, get_or, MatchOption, Option}
+use Rattle.std.specs.Prelude.{ℕ, List, true, false, length, ◌≡◌, ◌<◌, ◌≤◌, ◌+◌, ◌-◌, ◌*◌, ◌/◌, ◌%◌, ◌^◌, Some, drop}
+use Rattle.std.specs.Prelude.{take, get_or, MatchOption, Option}
 use Rattle.aes3_cell.specs.declared.level.Level.{Level}
 use Rattle.aes3_cell.specs.Words.{low_cells, word_cells}
 use Rattle.aes3_slot.specs.Rules.{at, before, rule}
@@ -13,7 +14,8 @@ use Rattle.aes3_lock.specs.declared.report.Report.{Report}
 use Rattle.aes3_lock.specs.Reports.{open_at, ending_report}
 use Rattle.aes3_lock.specs.Steps.{last_eight}
 
--- how many cells a lock has seen, the last eight, the candidate in hand, the cells of its last subframe that isn't whole, the
+-- how many cells a lock has seen, the last eight, the candidate in hand, the cells of its last subframe that isn't
+-- whole, the
 -- first in the lowest bit, and words with the cells of its whole subframes
 pub record LockState : Type 0 where
   pub seen : ℕ
@@ -29,9 +31,11 @@ pub record ScanState : Type 0 where
 
 -- the words have the cells of each whole subframe
 abbrev pub Filled : List ℕ → List Level → Type 0
-Filled words d = (j : ℕ) → j < block_slots → 64 * j + 64 ≤ length d → word_cells (get_or words j 0) ≡ take 64 (drop (64 * j) d)
+Filled words d = (j : ℕ) → j < block_slots → 64 * j + 64 ≤ length d
+    → word_cells (get_or words j 0) ≡ take 64 (drop (64 * j) d)
 
--- what is kept of a candidate's cells d after level s: the level before the subframe that isn't whole, its cells, and those of
+-- what is kept of a candidate's cells d after level s: the level before the subframe that isn't whole, its cells, and
+-- those of
 -- each subframe before it
 pub record Gathered (u : Level) (subframe : ℕ) (words : List ℕ) (s : Level) (d : List Level) : Type 0 where
   pub level : u ≡ before s d (64 * (length d / 64))
@@ -69,7 +73,8 @@ report_in k e = ending_report (read_words k.words) e
 pub record Stops (k : LockState) (l : Level) : Type 0 where
   pub in_hand : Candidate
   pub is : k.candidate ≡ Some in_hand
-  pub stop : k.seen - in_hand.at < block_len → rule mark_at (k.seen - in_hand.at) l in_hand.level (at k.recent 7) ≡ false
+  pub stop : k.seen - in_hand.at < block_len
+      → rule mark_at (k.seen - in_hand.at) l in_hand.level (at k.recent 7) ≡ false
 
 -- a scan that has
 pub record ScanFollows (k : ScanState) (c : List Level) : Type 0 where

@@ -22,7 +22,8 @@ CandidateWhereZStands = (c : List Level) → (begins_block c ≡ true) ↔ ((s :
 -- a candidate is whole exactly where a block stands closed: that block, after that level
 abbrev pub WholeWhereBlockStands : Type 0
 WholeWhereBlockStands =
-    (b : List (List Bool)) (s : Level) (c : List Level) → ((begins_block c ≡ true) × (outcome c ≡ whole s b)) ↔ StandsClosed b s c
+    (b : List (List Bool)) (s : Level) (c : List Level)
+    → ((begins_block c ≡ true) × (outcome c ≡ whole s b)) ↔ StandsClosed b s c
 
 -- and the level before a block is the other one than that of its first cell
 abbrev pub BlockTellsLevel : Type 0
@@ -90,12 +91,14 @@ DecidedStand = (c more : List Level) → (rest : List Report) × (reports (c ++ 
 -- in a viable list of eight cells or more Z stands at its start, after the level before it, and nowhere else
 abbrev pub ZStandsOnce : Type 0
 ZStandsOnce =
-    (s : Level) (c : List Level) → IsViable s c → 8 ≤ length c → (p : ℕ) (t : Level) → StandsMark Z t c p ↔ ((p ≡ 0) × (t ≡ s))
+    (s : Level) (c : List Level) → IsViable s c → 8 ≤ length c → (p : ℕ) (t : Level)
+    → StandsMark Z t c p ↔ ((p ≡ 0) × (t ≡ s))
 
 -- of two blocks that stand closed in one list the second begins behind the first
 abbrev pub BlocksNeverOverlap : Type 0
 BlocksNeverOverlap =
-    (b d : List (List Bool)) (s t : Level) (c : List Level) (p q : ℕ) → p < q → StandsClosed b s (drop p c) → StandsClosed d t (drop q c)
+    (b d : List (List Bool)) (s t : Level) (c : List Level) (p q : ℕ) → p < q → StandsClosed b s (drop p c)
+    → StandsClosed d t (drop q c)
     → p + block_len ≤ q
 
 -- a block with the place at which it stands and the level before it
@@ -112,7 +115,8 @@ pub record AreAllBlocks (found : List PlacedBlock) (c : List Level) : Type 0 whe
 
 -- the blocks of cells are all blocks that stand closed in them, each once, in order of place
 abbrev pub BlocksAreAllStanding : Type 0
-BlocksAreAllStanding = (c : List Level) → (found : List PlacedBlock) × AreAllBlocks found c × (blocks c ≡ map (λ f. f.block) found)
+BlocksAreAllStanding = (c : List Level) → (found : List PlacedBlock) × AreAllBlocks found c
+    × (blocks c ≡ map (λ f. f.block) found)
 
 -- these are the preambles that stand in cells: each of them does, each is there, in order of place
 pub record AreAllMarks (found : List (ℕ × Mark × Level)) (c : List Level) : Type 0 where
@@ -126,11 +130,13 @@ MarksAreAllStanding = (c : List Level) → AreAllMarks (marks c) c
 
 -- in every piece of a lawful stream the preambles are its true ones and no other
 abbrev pub MarksAreTrue : Type 0
-MarksAreTrue = (s : Level) (bs : List (List (List Bool))) (i j : ℕ) (c : List Level) → IsPiece s bs i j c → marks c ≡ true_marks s bs i j
+MarksAreTrue = (s : Level) (bs : List (List (List Bool))) (i j : ℕ) (c : List Level) → IsPiece s bs i j c
+    → marks c ≡ true_marks s bs i j
 
 -- in every piece of a lawful stream the blocks are those that lie whole in it, in order
 abbrev pub BlocksAreWhole : Type 0
-BlocksAreWhole = (s : Level) (bs : List (List (List Bool))) (i j : ℕ) (c : List Level) → IsPiece s bs i j c → blocks c ≡ whole_blocks bs i j
+BlocksAreWhole = (s : Level) (bs : List (List (List Bool))) (i j : ℕ) (c : List Level) → IsPiece s bs i j c
+    → blocks c ≡ whole_blocks bs i j
 
 -- the blocks of a lawful stream are those that it was made of
 abbrev pub StreamGivesBlocks : Type 0
@@ -138,9 +144,11 @@ StreamGivesBlocks = (s : Level) (bs : List (List (List Bool))) → All IsBlock b
 
 -- so no two lists of blocks have one stream
 abbrev pub StreamsDiffer : Type 0
-StreamsDiffer = (s : Level) (bs ds : List (List (List Bool))) → All IsBlock bs → All IsBlock ds → stream s bs ≡ stream s ds → bs ≡ ds
+StreamsDiffer = (s : Level) (bs ds : List (List (List Bool))) → All IsBlock bs → All IsBlock ds
+    → stream s bs ≡ stream s ds → bs ≡ ds
 
--- a lawful line is its own normal form, and two lists of cells have one normal form exactly if they have the same blocks
+-- a lawful line is its own normal form, and two lists of cells have one normal form exactly if they have the same
+-- blocks
 abbrev pub NormalIsFixed : Type 0
 NormalIsFixed = (c : List Level) → normal (normal c) ≡ normal c
 

@@ -22,14 +22,18 @@ pub record StoodLater (n q : ℕ) (d : List (List Bool)) (t : Level) (c : List L
   pub few : later ≤ n
   pub stood : StandsClosed d t (drop (q + later) c)
 
--- where at most three cells of a piece are lost, each block that stands closed stood closed in the piece, no more cells later than
+-- where at most three cells of a piece are lost, each block that stands closed stood closed in the piece, no more cells
+-- later than
 -- were lost; so no block is given that the piece doesn't have
 abbrev pub LossesChangeNoBlock : Type 0
 LossesChangeNoBlock =
-    (s : Level) (bs : List (List (List Bool))) (i j : ℕ) (c : List Level) → IsPiece s bs i j c → (ks : List ℕ) → AreFew ks
-    → (q : ℕ) (d : List (List Bool)) (t : Level) → StandsClosed d t (drop q (without_each ks c)) → StoodLater (length ks) q d t c
+    (s : Level) (bs : List (List (List Bool))) (i j : ℕ) (c : List Level) → IsPiece s bs i j c
+    → (ks : List ℕ) → AreFew ks
+    → (q : ℕ) (d : List (List Bool)) (t : Level) → StandsClosed d t (drop q (without_each ks c))
+    → StoodLater (length ks) q d t c
 
 abbrev pub LossesGiveNoOther : Type 0
 LossesGiveNoOther =
-    (s : Level) (bs : List (List (List Bool))) (i j : ℕ) (c : List Level) → IsPiece s bs i j c → (ks : List ℕ) → AreFew ks
+    (s : Level) (bs : List (List (List Bool))) (i j : ℕ) (c : List Level) → IsPiece s bs i j c
+    → (ks : List ℕ) → AreFew ks
     → All (Contains (blocks c)) (blocks (without_each ks c))

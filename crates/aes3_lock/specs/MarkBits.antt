@@ -1,5 +1,6 @@
 -- The preambles that end in a word of cells, and those of them that are not told yet.
-use Rattle.std.specs.Prelude.{ℕ, zero, suc, List, [], ◌++◌, true, ◌≡◌, ◌==◌, ◌+◌, ◌-◌, ◌<◌, ◌≤◌, drop, option_to_list, option_map, if◌then◌else◌}
+use Rattle.std.specs.Prelude.{ℕ, zero, suc, List, [], ◌++◌, true, ◌≡◌, ◌==◌, ◌+◌, ◌-◌, ◌<◌, ◌≤◌, drop, option_to_list}
+use Rattle.std.specs.Prelude.{option_map, if◌then◌else◌}
 use Rattle.std.specs.Int.{bit_at}
 use Rattle.aes3_cell.specs.declared.level.Level.{Level}
 use Rattle.aes3_slot.specs.declared.mark.Mark.{Mark}
@@ -9,7 +10,8 @@ use Rattle.aes3_lock.specs.Preambles.{first_mark, placed}
 
 -- of the cells c, the first seven before cell p: the preamble that begins with cell i, if its bit in m is one
 abbrev pub mark_of_bit : ℕ → List Level → ℕ → ℕ → List (ℕ × Mark × Level)
-mark_of_bit p c m i = if bit_at m i == 1 then option_to_list (option_map (placed (p + i - 7)) (first_mark (drop i c))) else []
+mark_of_bit p c m i =
+    if bit_at m i == 1 then option_to_list (option_map (placed (p + i - 7)) (first_mark (drop i c))) else []
 
 -- those that begin with the n cells from cell i on
 abbrev pub marks_of_bits : ℕ → List Level → ℕ → ℕ → ℕ → List (ℕ × Mark × Level)

@@ -16,7 +16,8 @@ pub record StandsClosed (b : List (List Bool)) (s : Level) (c : List Level) : Ty
   pub cells : take block_len c ≡ block_cells s b
   pub closed : IsClosed c
 
--- the subframes of a block stand at the start after level s with these bits, whether their parity bits are right or wrong
+-- the subframes of a block stand at the start after level s with these bits, whether their parity bits are right or
+-- wrong
 pub record SubframesStand (slots : List (List Bool)) (s : Level) (c : List Level) : Type 0 where
   pub count : length slots ≡ block_slots
   pub each : Each28 slots

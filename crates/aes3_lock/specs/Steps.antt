@@ -1,5 +1,6 @@
 -- What one more cell makes of what a lock keeps.
-use Rattle.std.specs.Prelude.{ℕ, List, [], ◌∷◌, ◌++◌, Bool, true, false, ◌-◌, ◌&&◌, Option, Some, None, nat_lt, nat_le, option_map, length, drop, replicate, if◌then◌else◌}
+use Rattle.std.specs.Prelude.{ℕ, List, [], ◌∷◌, ◌++◌, Bool, true, false, ◌-◌, ◌&&◌, Option, Some, None, nat_lt, nat_le}
+use Rattle.std.specs.Prelude.{option_map, length, drop, replicate, if◌then◌else◌}
 use Rattle.aes3_cell.specs.declared.level.Level.{Level}
 use Rattle.aes3_cell.specs.declared.level.Level.TheVariants.{Low}
 use Rattle.aes3_slot.specs.declared.mark.Mark.{Mark}
@@ -28,16 +29,19 @@ begins_a_block Z = true
 -- the candidate whose preamble the last eight of n cells are
 unfoldable pub begun : ℕ → List Level → Option Candidate
 begun n recent =
-    if nat_le 8 n && begins_block recent then Some (record { at = n - 8; before = entry recent; level = entry recent }) else None
+    if nat_le 8 n && begins_block recent then Some
+    (record { at = n - 8; before = entry recent; level = entry recent }) else None
 
 -- the preamble that the last eight of n cells are, with its place
 unfoldable pub ended_mark : ℕ → List Level → Option (ℕ × Mark × Level)
 ended_mark n recent = if nat_le 8 n then option_map (placed (n - 8)) (first_mark recent) else None
 
--- the outcome of a candidate after level s which the cell at an offset ends, whether or not that cell equals the one before
+-- the outcome of a candidate after level s which the cell at an offset ends, whether or not that cell equals the one
+-- before
 -- it, and where the cells end
 abbrev pub ended : Level → ℕ → Bool → List (List Bool) → Outcome
-ended s offset equal slots = if nat_lt offset block_len then fault offset else (if equal then fault offset else block_outcome s slots)
+ended s offset equal slots =
+    if nat_lt offset block_len then fault offset else (if equal then fault offset else block_outcome s slots)
 
 abbrev pub left : Level → ℕ → List (List Bool) → Outcome
 left s cells slots = if nat_lt cells block_len then unfinished cells else block_outcome s slots

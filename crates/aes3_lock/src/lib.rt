@@ -1,18 +1,31 @@
 //! The lock: every report of any cells, in one pass and fixed memory (AES3-3, IEC 60958-1).
 #![tactic(auto)]
 
+/// A place at which a block may begin.
 mod candidate;
+/// Eight subframes judged at once.
 mod eight;
+/// Laws over the definitions alone, whatever the cells.
 pub mod laws;
+/// The lock: it takes words of cells, fronts of words and single cells.
 mod lock;
+/// What becomes of a candidate that goes on no further.
 mod outcome;
+/// All that a lock keeps, for those who keep it themselves.
 mod parts;
+/// The last eight cells in an octet.
 mod recent;
+/// Reports, and the endings of which they are made.
 mod report;
+/// Which cells may stand in a block.
 mod rule;
+/// The scan: all preambles, and nothing else.
 mod scan;
+/// All reports of a list of cells, each place tried by itself.
 mod slow;
+/// The cells of a subframe that is not whole yet.
 mod subframe;
+/// The preambles that end in a word of cells.
 mod word_marks;
 
 pub use candidate::Candidate;

@@ -9,6 +9,8 @@ loop-i-preserved c =
     let len = c.loop-i.invariant.len in
     record {
       len = length-set c.loop-i.subframes i c.completed.result ∙ len;
-      told = λ h. one-completed c.args.len c.args.begun c.completed.result front c.args.words.now c.loop-i.subframes i (omega arith)
-          (c.fronts_of-fronts.ensures.cells i (omega arith)) (c.completed.ensures (c.fronts_of-fronts.ensures.few h i (omega arith))) (c.loop-i.invariant.told h);
+      told = λ h. one-completed c.args.len c.args.begun c.completed.result front c.args.words.now c.loop-i.subframes i
+          (omega arith)
+          (c.fronts_of-fronts.ensures.cells i (omega arith))
+          (c.completed.ensures (c.fronts_of-fronts.ensures.few h i (omega arith))) (c.loop-i.invariant.told h);
     }

@@ -6,8 +6,11 @@ use Rattle.aes3_lock.proofs.outcome.left_ending.Goals as goal
 
 pub returns-then-cells-ge-BLOCK_CELLS : goal.returns-then-cells-ge-BLOCK_CELLS
 returns-then-cells-ge-BLOCK_CELLS c =
-    c.block_ending.ensures ∙ ap (report_of c.args.candidate.at) (sym (left-block c.args.candidate.before c.args.cells (read_words c.args.words.now) (omega arith)))
+    c.block_ending.ensures
+    ∙ ap (report_of c.args.candidate.at)
+    (sym (left-block c.args.candidate.before c.args.cells (read_words c.args.words.now) (omega arith)))
 
 pub returns-else-cells-ge-BLOCK_CELLS : goal.returns-else-cells-ge-BLOCK_CELLS
 returns-else-cells-ge-BLOCK_CELLS c =
-    ap (report_of c.args.candidate.at) (sym (left-early c.args.candidate.before c.args.cells (read_words c.args.words.now) (omega arith)))
+    ap (report_of c.args.candidate.at)
+    (sym (left-early c.args.candidate.before c.args.cells (read_words c.args.words.now) (omega arith)))

@@ -6,4 +6,5 @@ use Rattle.aes3_lock.proofs.LastEight.{byte-with}
 use Rattle.aes3_lock.proofs.recent.with_cell.Goals as goal
 
 pub returns-in-High : goal.returns-in-High
-returns-in-High c = byte-with c.args.recent High (omega arith) ∙ ap (eight_with (low_cells 8 c.args.recent)) (sym c.in-High.is)
+returns-in-High c = byte-with c.args.recent High (omega arith)
+    ∙ ap (eight_with (low_cells 8 c.args.recent)) (sym c.in-High.is)

@@ -9,8 +9,11 @@ even-if-not-odd x h = omega (arith, h)
 
 pub returns-then-mark_cells-k-eq1 : goal.returns-then-mark_cells-k-eq1
 returns-then-mark_cells-k-eq1 c =
-    ap level_of (sym c.if-mark_cells-k-eq1.true) ∙ sym (low_cells-at 8 c.mark_cells.result c.args.k c.requires) ∙ ap (λ l. get_or l c.args.k Low) c.mark_cells.ensures.cells
+    ap level_of (sym c.if-mark_cells-k-eq1.true) ∙ sym (low_cells-at 8 c.mark_cells.result c.args.k c.requires)
+    ∙ ap (λ l. get_or l c.args.k Low) c.mark_cells.ensures.cells
 
 pub returns-else-mark_cells-k-eq1 : goal.returns-else-mark_cells-k-eq1
 returns-else-mark_cells-k-eq1 c =
-    ap level_of (sym (even-if-not-odd (c.mark_cells.result / 2 ^ c.args.k) c.if-mark_cells-k-eq1.false)) ∙ sym (low_cells-at 8 c.mark_cells.result c.args.k c.requires) ∙ ap (λ l. get_or l c.args.k Low) c.mark_cells.ensures.cells
+    ap level_of (sym (even-if-not-odd (c.mark_cells.result / 2 ^ c.args.k) c.if-mark_cells-k-eq1.false))
+    ∙ sym (low_cells-at 8 c.mark_cells.result c.args.k c.requires)
+    ∙ ap (λ l. get_or l c.args.k Low) c.mark_cells.ensures.cells

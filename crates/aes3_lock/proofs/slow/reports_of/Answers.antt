@@ -10,10 +10,14 @@ loop-at-init c = record { found = reports-none c.args.cells.now c.new-found.resu
 
 pub loop-at-preserved : goal.loop-at-preserved
 loop-at-preserved c =
-    let more = reports-more c.args.cells.now c.loop-at.found.items (option_to_list c.report_at.result) c.loop-at.at (omega arith) c.report_at.ensures c.loop-at.invariant.found in
+    let more = reports-more c.args.cells.now c.loop-at.found.items (option_to_list c.report_at.result) c.loop-at.at
+    (omega arith) c.report_at.ensures c.loop-at.invariant.found in
     record {
-      found = ap (λ x. x ++ reports_from (c.loop-at.at + 1) (drop (c.loop-at.at + 1) c.args.cells.now)) (elim c.match-report_at.branch [
-        | in-Some+in_ok-push w ↦ ap (λ v. v.items) w.found-is ∙ w.in_ok-push.ensures.items ∙ sym (ap (λ r. c.loop-at.found.items ++ option_to_list r) w.in-Some.is)
-        | in_default w ↦ ap (λ v. v.items) w.found-is ∙ sym (append-nil c.loop-at.found.items) ∙ sym (ap (λ r. c.loop-at.found.items ++ option_to_list r) w.in_default.is)
+      found = ap (λ x. x ++ reports_from (c.loop-at.at + 1) (drop (c.loop-at.at + 1) c.args.cells.now))
+          (elim c.match-report_at.branch [
+        | in-Some+in_ok-push w ↦ ap (λ v. v.items) w.found-is ∙ w.in_ok-push.ensures.items
+            ∙ sym (ap (λ r. c.loop-at.found.items ++ option_to_list r) w.in-Some.is)
+        | in_default w ↦ ap (λ v. v.items) w.found-is ∙ sym (append-nil c.loop-at.found.items)
+            ∙ sym (ap (λ r. c.loop-at.found.items ++ option_to_list r) w.in_default.is)
       ]) ∙ more;
     }

@@ -9,5 +9,7 @@ returns-in_default c = λ l f. finish-none _ l (subst (λ k. Follows k l) (sym c
 
 pub returns : goal.returns
 returns c = λ l f.
-    finish-open _ c.in-Some.candidate l (subst (λ k. Follows k l) (sym c.self.view_is) f) c.self.invariant.1 c.in-Some.is
-    ∙ ap (λ r. decided l ++ r ∷ []) (sym c.left_ending.ensures ∙ ap (λ k. report_in k c.left_ending.result) c.self.view_is)
+    finish-open _ c.in-Some.candidate l
+    (subst (λ k. Follows k l) (sym c.self.view_is) f) c.self.invariant.1 c.in-Some.is
+    ∙ ap (λ r. decided l ++ r ∷ []) (sym c.left_ending.ensures
+        ∙ ap (λ k. report_in k c.left_ending.result) c.self.view_is)

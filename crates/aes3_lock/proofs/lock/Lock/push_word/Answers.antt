@@ -15,9 +15,12 @@ loop-taken-preserved c =
     let t = c.loop-taken-test.true in record {
       within = let w = e.within in omega (arith, w, t);
       seen = let w = e.seen in let s = i.seen in omega (arith, w, s);
-      follows = λ l f. more-follows c.loop-taken.self c.push_front-pushed.new.self l c.loop-taken.taken c.push_front-pushed.result.taken c.args.word e.follows (i.follows l f);
-      reports = λ l f. more-told c.loop-taken.self l c.loop-taken.taken c.push_front-pushed.result.taken c.args.word c.loop-taken.out.items c.tell.new.out.items
-          (option_to_list (option_map (report_in c.push_front-pushed.new.self) c.push_front-pushed.result.ending)) (let w = i.within in omega (arith, w))
+      follows = λ l f. more-follows c.loop-taken.self c.push_front-pushed.new.self l c.loop-taken.taken
+          c.push_front-pushed.result.taken c.args.word e.follows (i.follows l f);
+      reports = λ l f. more-told c.loop-taken.self l c.loop-taken.taken c.push_front-pushed.result.taken c.args.word
+          c.loop-taken.out.items c.tell.new.out.items
+          (option_to_list (option_map (report_in c.push_front-pushed.new.self) c.push_front-pushed.result.ending))
+          (let w = i.within in omega (arith, w))
           e.report (i.follows l f) (i.reports l f) c.tell.ensures;
     }
 

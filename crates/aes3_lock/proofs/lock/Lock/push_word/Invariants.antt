@@ -10,7 +10,8 @@ invariant-loop-taken l = record {
   within : l.taken ≤ 64;
   seen : l.self.seen ≡ l.fn.self.seen + l.taken;
   follows : (cells : List Level) → Follows l.fn.self cells → Follows l.self (cells ++ low_cells l.taken l.word);
-  reports : (cells : List Level) → Follows l.fn.self cells → decided (cells ++ low_cells l.taken l.word) ≡ decided cells ++ l.out.items;
+  reports : (cells : List Level) → Follows l.fn.self cells
+      → decided (cells ++ low_cells l.taken l.word) ≡ decided cells ++ l.out.items;
 }
 
 abbrev pub decreases-loop-taken : goal.decreases-loop-taken

@@ -16,16 +16,21 @@ after c = record {
 }
 
 both : (c : goal.After-self-2-1) (l : List Level) → Follows c.args.self.now l
-    → Follows (after c) (l ++ low_cells c.min-taken.result c.args.word) × (decided (l ++ low_cells c.min-taken.result c.args.word) ≡ decided l)
+    → Follows (after c) (l ++ low_cells c.min-taken.result c.args.word)
+    × (decided (l ++ low_cells c.min-taken.result c.args.word) ≡ decided l)
 both c l f =
     let m = c.min-taken.ensures in
     let r = c.requires in
-    searched c.args.self.now (after c) l _ c.block_preambles-begun.result c.args.word c.min-taken.result f c.requires.searching (omega arith)
-    (seven-before c.self.inside.recent c.from.result c.args.word c.completed-cells.result c.rest_of.result c.from.ensures c.completed-cells.ensures c.rest_of.ensures.cells (omega arith)
+    searched c.args.self.now
+    (after c) l _ c.block_preambles-begun.result c.args.word c.min-taken.result f c.requires.searching (omega arith)
+    (seven-before c.self.inside.recent c.from.result c.args.word c.completed-cells.result c.rest_of.result
+        c.from.ensures c.completed-cells.ensures c.rest_of.ensures.cells (omega arith)
     ∙ ap (λ (k : LockState). drop 1 k.recent ++ word_cells c.args.word) c.self.view_is)
     c.block_preambles-begun.ensures (omega (arith, m, r)) (omega (arith, m)) (omega (arith, m, r))
-    (ap (λ (k : LockState). k.seen) c.self-2.view_is ∙ c.count.ensures.seen) (ap (λ (k : LockState). k.recent) c.self-2.view_is ∙ c.count.ensures.recent)
-    c.candidate_in-self-inside.ensures.value (ap (low_cells 8) (sym c.from-self-inside.ensures)) (let e = c.from-self-inside.ensures in omega (arith, e))
+    (ap (λ (k : LockState). k.seen) c.self-2.view_is ∙ c.count.ensures.seen)
+    (ap (λ (k : LockState). k.recent) c.self-2.view_is ∙ c.count.ensures.recent)
+    c.candidate_in-self-inside.ensures.value (ap (low_cells 8) (sym c.from-self-inside.ensures))
+    (let e = c.from-self-inside.ensures in omega (arith, e))
 
 pub returns-clause-follows : goal.returns-clause-follows
 returns-clause-follows c = λ l f. (both c l f).0

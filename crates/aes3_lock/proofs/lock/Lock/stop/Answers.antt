@@ -1,4 +1,4 @@
-use Rattle.std.proofs.Common.{refl, ◌≡◌, ◌+◌, ◌-◌, [], ◌∷◌, ◌++◌, Some, sym, ap, subst, ◌∙◌, arith}
+use Rattle.std.proofs.Common.{refl, ◌≡◌, ◌+◌, ◌-◌, [], ◌∷◌, ◌++◌, sym, ap, subst, ◌∙◌, arith}
 use Rattle.aes3_cell.specs.Words.{low_cells}
 use Rattle.aes3_slot.specs.ReadWords.{read_words}
 use Rattle.aes3_slot.specs.Rules.{at}
@@ -9,9 +9,7 @@ use Rattle.aes3_lock.specs.Steps.{ended}
 use Rattle.aes3_lock.specs.Following.{Follows, Stops}
 use Rattle.aes3_lock.proofs.Following.{push-last}
 use Rattle.aes3_lock.proofs.lock.Lock.stop.Goals as goal
-
-some-is : {x y : Candidate} → Some x ≡ Some y → x ≡ y
-some-is e = cc
+use Rattle.std.proofs.lemmas.Option.{same_Some}
 
 pub returns-clause-follows : goal.returns-clause-follows
 returns-clause-follows c = λ l f p.
@@ -24,12 +22,13 @@ returns-clause-follows c = λ l f p.
       words = c.self.inside.words;
     })
     s.in_hand l c.args.cell (subst (λ k. Follows k l) (sym c.self.view_is) f) c.self.invariant.1 s.is s.stop
-    refl c.with_cell-self-inside.ensures c.candidate_in-self-inside.ensures.value (ap (low_cells 8) (sym c.from-self-inside.ensures)) (let e = c.from-self-inside.ensures in omega (arith, e))).0
+    refl c.with_cell-self-inside.ensures c.candidate_in-self-inside.ensures.value
+    (ap (low_cells 8) (sym c.from-self-inside.ensures)) (let e = c.from-self-inside.ensures in omega (arith, e))).0
 
 pub returns-clause-report : goal.returns-clause-report
 returns-clause-report c = λ l f p.
     let s = subst (λ k. Stops k c.args.cell) (sym c.self.view_is) p in
-    let e : s.in_hand ≡ c.in-Some.candidate = some-is (sym s.is ∙ c.in-Some.is) in
+    let e : s.in_hand ≡ c.in-Some.candidate = same_Some _ _ (sym s.is ∙ c.in-Some.is) in
     (push-last _ (record {
       seen = c.self.inside.seen + 1;
       recent = low_cells 8 c.with_cell-self-inside.result;
@@ -38,8 +37,13 @@ returns-clause-report c = λ l f p.
       words = c.self.inside.words;
     })
     s.in_hand l c.args.cell (subst (λ k. Follows k l) (sym c.self.view_is) f) c.self.invariant.1 s.is s.stop
-    refl c.with_cell-self-inside.ensures c.candidate_in-self-inside.ensures.value (ap (low_cells 8) (sym c.from-self-inside.ensures)) (let e = c.from-self-inside.ensures in omega (arith, e))).1
-    ∙ ap (λ (t : Candidate). decided l ++ report_of t.at (ended t.before (c.self.inside.seen - t.at) (same c.args.cell (at (low_cells 8 c.self.inside.recent) 7)) (read_words c.self.inside.words)) ∷ []) e
+    refl c.with_cell-self-inside.ensures c.candidate_in-self-inside.ensures.value
+    (ap (low_cells 8) (sym c.from-self-inside.ensures)) (let e = c.from-self-inside.ensures in omega (arith, e))).1
+    ∙ ap (λ (t : Candidate). decided l ++ report_of t.at
+        (ended t.before (c.self.inside.seen - t.at) (same c.args.cell (at (low_cells 8 c.self.inside.recent) 7))
+            (read_words c.self.inside.words)) ∷ []) e
     ∙ ap (λ r. decided l ++ r ∷ []) (sym (c.ending_at-ending.ensures
-    ∙ ap (λ p. report_of c.in-Some.candidate.at (ended c.in-Some.candidate.before (c.self.inside.seen - c.in-Some.candidate.at) (same c.args.cell p) (read_words c.self.inside.words)))
+    ∙ ap (λ p. report_of c.in-Some.candidate.at
+        (ended c.in-Some.candidate.before (c.self.inside.seen - c.in-Some.candidate.at) (same c.args.cell p)
+            (read_words c.self.inside.words)))
     c.last_cell-previous.ensures))

@@ -16,8 +16,10 @@ invariant-loop-taken l = record {
   candidate : l.self-inside.candidate ≡ Some l.candidate;
   count : length l.self-inside.words ≡ block_slots;
   follows : (cells : List Level) → Follows l.fn.self cells
-      → Follows (lock_behind l.self-inside.seen l.self-inside.recent l.candidate l.behind l.self-inside.words l.taken) (cells ++ flat_map word_cells (take l.taken l.words));
-  none : (cells : List Level) → Follows l.fn.self cells → decided (cells ++ flat_map word_cells (take l.taken l.words)) ≡ decided cells;
+      → Follows (lock_behind l.self-inside.seen l.self-inside.recent l.candidate l.behind l.self-inside.words l.taken)
+      (cells ++ flat_map word_cells (take l.taken l.words));
+  none : (cells : List Level) → Follows l.fn.self cells
+      → decided (cells ++ flat_map word_cells (take l.taken l.words)) ≡ decided cells;
 }
 
 abbrev pub decreases-loop-taken : goal.decreases-loop-taken

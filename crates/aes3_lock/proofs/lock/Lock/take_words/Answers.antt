@@ -52,7 +52,8 @@ loop-taken-preserved c =
     (λ l f. subst (Follows c.take_eights-eights.new.self) (none-taken _ _ _ zero) (eights.follows _ (i.follows l f))) in
     record {
       within = omega arith;
-      seen = let e = c.take_word.ensures.seen is_taken in let s = i.seen in let n = eights.seen in omega (arith, e, s, n);
+      seen = let e = c.take_word.ensures.seen is_taken in let s = i.seen in let n = eights.seen in
+          omega (arith, e, s, n);
       follows = λ l f. subst (Follows c.take_word.new.self) (next-word l words at c.loop-taken-test.true)
           (c.take_word.ensures.follows is_taken _ (now l f));
       none = λ l f. ap decided (sym (next-word l words at c.loop-taken-test.true))

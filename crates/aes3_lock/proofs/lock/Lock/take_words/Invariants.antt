@@ -10,8 +10,10 @@ abbrev pub invariant-loop-taken : goal.invariant-loop-taken
 invariant-loop-taken l = record {
   within : l.taken ≤ length l.words;
   seen : l.self.seen ≡ l.fn.self.seen + 64 * l.taken;
-  follows : (cells : List Level) → Follows l.fn.self cells → Follows l.self (cells ++ flat_map word_cells (take l.taken l.words));
-  none : (cells : List Level) → Follows l.fn.self cells → decided (cells ++ flat_map word_cells (take l.taken l.words)) ≡ decided cells;
+  follows : (cells : List Level) → Follows l.fn.self cells
+      → Follows l.self (cells ++ flat_map word_cells (take l.taken l.words));
+  none : (cells : List Level) → Follows l.fn.self cells
+      → decided (cells ++ flat_map word_cells (take l.taken l.words)) ≡ decided cells;
 }
 
 abbrev pub decreases-loop-taken : goal.decreases-loop-taken
