@@ -1,5 +1,6 @@
 -- The line of a preamble, made in an array.
-use Rattle.std.proofs.Common.{◌≡◌, ℕ, ◌+◌, ◌*◌, ◌/◌, ◌%◌, ◌^◌, ◌<◌, ◌≤◌, List, [], ◌∷◌, ◌++◌, length, take, drop, refl, sym, ap, ap₂, ◌∙◌, arith, append_assoc, length-append, length-take}
+use Rattle.std.proofs.Common.{◌≡◌, ℕ, ◌+◌, ◌*◌, ◌/◌, ◌%◌, ◌^◌, ◌<◌, ◌≤◌, List, [], ◌∷◌, ◌++◌, length, take, drop, refl}
+use Rattle.std.proofs.Common.{sym, ap, ap₂, ◌∙◌, arith, append_assoc, length-append, length-take}
 use Rattle.std.specs.Prelude.{codes, decimal}
 use Rattle.std.proofs.lemmas.List.{drop_at, take-append-drop, take-append-le}
 use Rattle.std.proofs.lemmas.Slice.{take-put_mid_below}
@@ -16,7 +17,8 @@ use borrow.Rule.Slice.PartMut.{put_mid, post_of}
 front-put : (x y : List ℕ) (a k : ℕ) → a ≤ length x → take a (put_mid a k x y) ≡ take a x
 front-put x y a k h = take-put_mid_below a k x y a (omega arith) h
 
-pub part-put : (x y : List ℕ) (a k n : ℕ) → a ≤ length x → n ≤ length y → take (a + n) (put_mid a k x y) ≡ take a x ++ take n y
+pub part-put : (x y : List ℕ) (a k n : ℕ) → a ≤ length x → n ≤ length y
+    → take (a + n) (put_mid a k x y) ≡ take a x ++ take n y
 part-put x y a k n h g =
     let l = length-take a x in
     take-add a n (put_mid a k x y)
@@ -42,7 +44,8 @@ made x y z u v b t p q e len few lb lt first second third fourth fifth =
         let l = ap length both in
         let a = length-append b t in
         ap (take (10 + len)) (sym (take-append-drop 26 y))
-        ∙ take-append-le (10 + len) (take 26 y) (drop 26 y) (omega (arith, l, a, lb, lt, few)) ∙ ap (take (10 + len)) both
+        ∙ take-append-le (10 + len) (take 26 y) (drop 26 y) (omega (arith, l, a, lb, lt, few))
+        ∙ ap (take (10 + len)) both
         ∙ ap (λ n. take (n + len) (b ++ t)) (sym lb) ∙ take-append-add b t len
 
 -- a number's text by its upper digits and its last four
@@ -55,13 +58,16 @@ upper-last upper last some few fits =
     ∙ ap₂ (λ x y. decimal x ++ (pair (y / 100) ++ pair (y % 100))) u l)
 
 pub line-is : (m : Mark) (before : Level) (upper last : ℕ) → 0 < upper → last < 10000 → 10000 * upper + last < 2 ^ 64
-    → (mark_beginning m ++ decimal upper) ++ ((pair (last / 100) ++ pair (last % 100)) ++ mark_ending before) ≡ mark_line (10000 * upper + last) m before
+    → (mark_beginning m ++ decimal upper) ++ ((pair (last / 100) ++ pair (last % 100)) ++ mark_ending before)
+    ≡ mark_line (10000 * upper + last) m before
 line-is m before upper last some few fits =
     let p = pair (last / 100) ++ pair (last % 100) in
     let front = mark_beginning m ++ decimal (10000 * upper + last) in
     sym (append_assoc (mark_beginning m ++ decimal upper) p (mark_ending before))
-    ∙ ap (λ x. x ++ mark_ending before) (append_assoc (mark_beginning m) (decimal upper) p ∙ ap (λ x. mark_beginning m ++ x) (upper-last upper last some few fits))
-    ∙ sym (ap (λ x. x ++ 10 ∷ []) (append_assoc front (codes " before ") (level_digit before)) ∙ append_assoc front (codes " before " ++ level_digit before) (10 ∷ []))
+    ∙ ap (λ x. x ++ mark_ending before) (append_assoc (mark_beginning m) (decimal upper) p
+        ∙ ap (λ x. mark_beginning m ++ x) (upper-last upper last some few fits))
+    ∙ sym (ap (λ x. x ++ 10 ∷ []) (append_assoc front (codes " before ") (level_digit before))
+        ∙ append_assoc front (codes " before " ++ level_digit before) (10 ∷ []))
 
 pub length-beginning : (m : Mark) → length (mark_beginning m) ≡ 10
 length-beginning X = refl

@@ -1,5 +1,6 @@
 -- The settings of several texts, as they are found one after the other.
-use Rattle.std.proofs.Common.{◌≡◌, ◌≢◌, ◌∙◌, ℕ, ◌+◌, ◌*◌, ◌<◌, ◌≤◌, inl, inr, List, [], length, get_or, replicate, refl, sym, subst, arith}
+use Rattle.std.proofs.Common.{◌≡◌, ◌≢◌, ◌∙◌, ℕ, ◌+◌, ◌*◌, ◌<◌, ◌≤◌, inl, inr, List, [], length, get_or, replicate, refl}
+use Rattle.std.proofs.Common.{sym, subst, arith}
 use Rattle.std.proofs.Math.ListN.{set}
 use Rattle.std.proofs.lemmas.Bool.{cases_lt}
 use Rattle.std.proofs.lemmas.List.{get_or-set_same, get_or-set_other, get_or-replicate, length-set, get_or_past}
@@ -27,8 +28,10 @@ no-text k = elim (cases_lt k 64) [
 pub none-set : (texts : List (List ℕ)) → SetUpTo texts 0 (replicate 64 nothing)
 none-set texts = record { len = refl; own = λ k e. absurd (omega (arith, e)); rest = λ k e. no-text k }
 
-pub one-more : (texts : List (List ℕ)) (n : ℕ) (settings : List Setting) (professional consumer : Setting) → n < length texts → length texts ≤ 32 → SetUpTo texts n settings
-    → ¬ IsUnknown (get_or texts n []) → IsSetBy (get_or texts n []) professional_fields professional → IsSetBy (get_or texts n []) consumer_fields consumer
+pub one-more : (texts : List (List ℕ)) (n : ℕ) (settings : List Setting) (professional consumer : Setting)
+    → n < length texts → length texts ≤ 32 → SetUpTo texts n settings
+    → ¬ IsUnknown (get_or texts n []) → IsSetBy (get_or texts n []) professional_fields professional
+    → IsSetBy (get_or texts n []) consumer_fields consumer
     → SetUpTo texts (n + 1) (set (set settings (2 * n) professional) (2 * n + 1) consumer)
 one-more texts n settings professional consumer within few before known for_professional for_consumer = record {
   len = length-set first (2 * n + 1) consumer ∙ (length-set settings (2 * n) professional ∙ before.len);
@@ -43,14 +46,16 @@ one-more texts n settings professional consumer within few before known for_prof
     both = set first (2 * n + 1) consumer
 
     kept : (k : ℕ) → k ≢ 2 * n → k ≢ 2 * n + 1 → get_or both k nothing ≡ get_or settings k nothing
-    kept k not_first not_second = get_or-set_other first (2 * n + 1) k consumer nothing not_second ∙ get_or-set_other settings (2 * n) k professional nothing not_first
+    kept k not_first not_second = get_or-set_other first (2 * n + 1) k consumer nothing not_second
+        ∙ get_or-set_other settings (2 * n) k professional nothing not_first
 
     at_first : get_or both (2 * n) nothing ≡ professional
     at_first = get_or-set_other first (2 * n + 1) (2 * n) consumer nothing (λ e. omega (arith, e))
         ∙ get_or-set_same settings (2 * n) professional nothing (omega (arith, before.len, within, few))
 
     at_second : get_or both (2 * n + 1) nothing ≡ consumer
-    at_second = get_or-set_same first (2 * n + 1) consumer nothing (omega (arith, length-set settings (2 * n) professional, before.len, within, few))
+    at_second = get_or-set_same first (2 * n + 1) consumer nothing
+        (omega (arith, length-set settings (2 * n) professional, before.len, within, few))
 
     here : Own texts both n
     here = record {
@@ -64,8 +69,10 @@ one-more texts n settings professional consumer within few before known for_prof
         let o = before.own k e in
         record {
           known = o.known;
-          professional = subst (IsSetBy (get_or texts k []) professional_fields) (sym (kept (2 * k) (λ h. omega (arith, h, e)) (λ h. omega (arith, h, e)))) o.professional;
-          consumer = subst (IsSetBy (get_or texts k []) consumer_fields) (sym (kept (2 * k + 1) (λ h. omega (arith, h, e)) (λ h. omega (arith, h, e)))) o.consumer;
+          professional = subst (IsSetBy (get_or texts k []) professional_fields)
+              (sym (kept (2 * k) (λ h. omega (arith, h, e)) (λ h. omega (arith, h, e)))) o.professional;
+          consumer = subst (IsSetBy (get_or texts k []) consumer_fields)
+              (sym (kept (2 * k + 1) (λ h. omega (arith, h, e)) (λ h. omega (arith, h, e)))) o.consumer;
         }
 
     own : (k : ℕ) → k < n + 1 → Own texts both k
@@ -74,7 +81,8 @@ one-more texts n settings professional consumer within few before known for_prof
       | inr h ↦ let same : n ≡ k = omega (arith, h, e) in subst (Own texts both) same here
     ]
 
-pub all-set : (texts : List (List ℕ)) (n : ℕ) (settings : List Setting) → length texts ≡ n → length texts ≤ 32 → SetUpTo texts n settings → AreSettingsOf texts settings
+pub all-set : (texts : List (List ℕ)) (n : ℕ) (settings : List Setting) → length texts ≡ n → length texts ≤ 32
+    → SetUpTo texts n settings → AreSettingsOf texts settings
 all-set texts n settings all few set_up = record {
   few = few;
   known = λ k e. (set_up.own k (omega (arith, all, e))).known;

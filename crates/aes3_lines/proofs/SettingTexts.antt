@@ -1,5 +1,6 @@
 -- Settings by the texts of their codes.
-use Rattle.std.proofs.Common.{◌≡◌, ℕ, ◌+◌, ◌<◌, ◌≤◌, ◌⊎◌, inl, inr, Bool, true, false, cond, List, length, take, get_or, Option, Some, None, refl, ap, ap₂, ◌∙◌, sym, subst, arith}
+use Rattle.std.proofs.Common.{◌≡◌, ℕ, ◌+◌, ◌<◌, ◌≤◌, ◌⊎◌, inl, inr, Bool, true, false, cond, List, length, take, get_or}
+use Rattle.std.proofs.Common.{Option, Some, None, refl, ap, ap₂, ◌∙◌, sym, subst, arith}
 use Rattle.std.specs.Prelude.{IfSome}
 use Rattle.std.proofs.Math.Nat.{mod-eq_of_lt}
 use Rattle.std.proofs.lemmas.Bool.{cases_lt}
@@ -11,8 +12,10 @@ use Rattle.aes3_status.proofs.SettingLemmas.{meaning-stays, setting-back, under-
 use Rattle.aes3_lines.specs.Settings.{code_text, IsCodeOf, IsSettingOf, IsNoSetting, IsShownThen}
 
 -- one more field of which no code is printed so
-pub more-none : (text : List ℕ) (fields : List Field) (i : ℕ) (d : Field) → i < length fields → IsNoSetting text (take i fields)
-    → ((under code : ℕ) → under < 8 → ¬ IsCodeOf text (get_or fields i d) under code) → IsNoSetting text (take (i + 1) fields)
+pub more-none : (text : List ℕ) (fields : List Field) (i : ℕ) (d : Field) → i < length fields
+    → IsNoSetting text (take i fields)
+    → ((under code : ℕ) → under < 8 → ¬ IsCodeOf text (get_or fields i d) under code)
+    → IsNoSetting text (take (i + 1) fields)
 more-none text fields i d h before here f u k among l = go (split among.0 (omega (arith, among.1, long)))
   where
     long : length (take (i + 1) fields) ≡ i + 1
@@ -42,7 +45,8 @@ given : (b : Bool) (o : Option ℕ) (code : ℕ) → cond b o None ≡ Some code
 given true o code e = e
 given false o code e = cc
 
-shown-then : (text : List ℕ) (fields : List Field) (setting : Setting) → IsSettingOf text fields setting → IsShownThen text setting
+shown-then : (text : List ℕ) (fields : List Field) (setting : Setting) → IsSettingOf text fields setting
+    → IsShownThen text setting
 shown-then text fields setting is bytes code e h =
     let f = setting.field in
     let have = given (is_for f bytes) (get_or setting.codes (under f bytes) None) code h in
@@ -50,12 +54,14 @@ shown-then text fields setting is bytes code e h =
     ap₂ (code_text f) (meaning-stays setting bytes e).2 (setting-back setting bytes code e h ∙ mod-eq_of_lt printed.0)
     ∙ printed.1
 
-pub all-shown : (text : List ℕ) (fields : List Field) (o : Option Setting) → IfSome o (IsSettingOf text fields) → IfSome o (IsShownThen text)
+pub all-shown : (text : List ℕ) (fields : List Field) (o : Option Setting) → IfSome o (IsSettingOf text fields)
+    → IfSome o (IsShownThen text)
 all-shown text fields None h = h
 all-shown text fields (Some setting) h = shown-then text fields setting h
 
 -- a text of a setting is known
-pub is-known : (text : List ℕ) (fields : List Field) (setting : Setting) → IsSettingOf text fields setting → ¬ IsNoSetting text fields
+pub is-known : (text : List ℕ) (fields : List Field) (setting : Setting) → IsSettingOf text fields setting
+    → ¬ IsNoSetting text fields
 is-known text fields setting is none = go (get_or setting.codes is.some.0 None) refl
   where
     go : (o : Option ℕ) → get_or setting.codes is.some.0 None ≡ o → ⊥

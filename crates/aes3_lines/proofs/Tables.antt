@@ -1,5 +1,6 @@
 -- Words looked up row by row.
-use Rattle.std.proofs.Common.{◌≡◌, ℕ, ◌+◌, ◌<◌, ◌≤◌, List, Bool, true, false, Some, None, length, get_or, drop, eq-eqb, ne_eqb, refl, add-one, drop-cons}
+use Rattle.std.proofs.Common.{◌≡◌, ℕ, ◌+◌, ◌<◌, ◌≤◌, List, Bool, true, false, Some, None, length, get_or, drop, eq-eqb}
+use Rattle.std.proofs.Common.{ne_eqb, refl, add-one, drop-cons}
 use Rattle.std.specs.Borrow.{Bor}
 use Rattle.std.specs.List.{list_all}
 use Rattle.std.proofs.lemmas.List.{drop_all}
@@ -31,4 +32,5 @@ true-unless_false false never = absurd (never refl)
 pub test-get_or : {X : Type 0} (p : X → Bool) (xs : List X) (i : ℕ) (d : X) → i < length xs → list_all p xs ≡ true
     → p (get_or xs i d) ≡ true
 test-get_or p xs i d h all =
-    true-unless_false (p (get_or xs i d)) (λ fails. let none : list_all p xs ≡ false = list_all_at p xs i d h fails in cc)
+    true-unless_false (p (get_or xs i d))
+    (λ fails. let none : list_all p xs ≡ false = list_all_at p xs i d h fails in cc)

@@ -1,5 +1,6 @@
 -- What is told in place of a text `NAME=WORD` that sets nothing: what could stand there.
-use Rattle.std.specs.Prelude.{ℕ, List, [], ◌∷◌, ◌++◌, Bool, not, ◌&&◌, ◌||◌, ◌==◌, ◌^◌, nat_lt, if◌then◌else◌, codes, decimal}
+use Rattle.std.specs.Prelude.{ℕ, List, [], ◌∷◌, ◌++◌, Bool, not, ◌&&◌, ◌||◌, ◌==◌, ◌^◌, nat_lt, if◌then◌else◌, codes}
+use Rattle.std.specs.Prelude.{decimal}
 use Rattle.std.specs.List.{before_first, flat_map, list_any, range_with_len}
 use Rattle.std.specs.Str.{bytes_eq}
 use Rattle.aes3_status.specs.declared.field.Field.{Field}
@@ -47,7 +48,8 @@ among count code text =
 -- what is told of a code: nothing where it has no word, nor where the same is told already
 abbrev pub code_choice : Field → ℕ → ℕ → List ℕ
 code_choice f under code =
-    if has_word f under code && not (is_told f under code) then among (code_count f) code (code_text f under code) else []
+    if has_word f under code && not (is_told f under code) then among (code_count f) code
+    (code_text f under code) else []
 
 -- what a field can be set to, where the number `under` tells what its codes mean
 abbrev pub code_choices : Field → ℕ → List ℕ
@@ -71,7 +73,8 @@ is_known text = has_name professional_fields text || has_name consumer_fields te
 abbrev pub names_of : List Field → List ℕ
 names_of fields = flat_map (λ f. codes " " ++ name_of f) fields
 
--- the line of the fields for one use: what those of the name can be set to, or if there is none for either use the names of all
+-- the line of the fields for one use: what those of the name can be set to, or if there is none for either use the
+-- names of all
 unfoldable pub use_choices : List ℕ → List Field → List ℕ → List ℕ
 use_choices head fields text =
     if is_known text

@@ -3,7 +3,8 @@ use Rattle.std.specs.Prelude.{ℕ, List, [], ◌∷◌, ◌++◌, ◌==◌, if�
 use Rattle.hex.specs.Hex.{encode_lower}
 use Rattle.aes3_status.specs.declared.field.ConField.{ConField}
 use Rattle.aes3_status.specs.declared.field.ConField.TheVariants as con
-use Rattle.aes3_status.specs.Consumer.{payload, copyright, emphasis, mode, category, generation, source, number, rate, accuracy, b3high, greatest, word, original, rest}
+use Rattle.aes3_status.specs.Consumer.{payload, copyright, emphasis, mode, category, generation, source, number, rate}
+use Rattle.aes3_status.specs.Consumer.{accuracy, b3high, greatest, word, original, rest}
 use Rattle.aes3_lines.specs.Words.{Words, word_for, payload_words, words_up_to_24, words_up_to_20}
 use Rattle.aes3_lines.specs.Fields.{field_text, specified}
 

@@ -4,7 +4,8 @@ use Rattle.aes3_status.specs.declared.check.Check.{Check}
 use Rattle.aes3_status.specs.declared.check.Check.TheVariants.{Good, Absent, Bad}
 use Rattle.aes3_status.specs.declared.field.ProField.{ProField}
 use Rattle.aes3_status.specs.declared.field.ProField.TheVariants as pro
-use Rattle.aes3_status.specs.Professional.{payload, emphasis, unlocked, rate, mode, user, aux, word, b2high, b3, b4, b5, origin, destination, local, time, unreliable, b22low}
+use Rattle.aes3_status.specs.Professional.{payload, emphasis, unlocked, rate, mode, user, aux, word, b2high, b3, b4, b5}
+use Rattle.aes3_status.specs.Professional.{origin, destination, local, time, unreliable, b22low}
 use Rattle.aes3_lines.specs.Words.{Words, word_for, payload_words, words_up_to_24, words_up_to_20, words_up_to_any}
 use Rattle.aes3_lines.specs.Fields.{field_text, shown, four_bits}
 

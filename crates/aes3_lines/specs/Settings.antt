@@ -1,5 +1,6 @@
 -- Fields of channel status by their names and the words that `show` prints.
-use Rattle.std.specs.Prelude.{ℕ, List, [], ◌++◌, Some, None, true, ◌≡◌, ◌≢◌, ◌⊎◌, ◌<◌, ◌≤◌, ◌+◌, ◌*◌, ◌^◌, codes, decimal, length, map, take, drop, get_or, replicate}
+use Rattle.std.specs.Prelude.{ℕ, List, [], ◌++◌, Some, None, true, ◌≡◌, ◌≢◌, ◌⊎◌, ◌<◌, ◌≤◌, ◌+◌, ◌*◌, ◌^◌, codes}
+use Rattle.std.specs.Prelude.{decimal, length, map, take, drop, get_or, replicate}
 use Rattle.std.specs.List.{Contains, flat_map}
 use Rattle.aes3_status.specs.declared.check.Check.{Check}
 use Rattle.aes3_status.specs.declared.field.ConField.TheVariants as con
@@ -33,9 +34,11 @@ IsCodeOf text f under code = (code < 2 ^ (place_of f).count) × (code_text f und
 -- the codes of a setting are printed as the text; some code is, and where one is, the setting has one
 pub record IsSettingOf (text : List ℕ) (fields : List Field) (setting : Setting) : Type 0 where
   pub field : Contains fields setting.field
-  pub is : (under code : ℕ) → under < 8 → get_or setting.codes under None ≡ Some code → IsCodeOf text setting.field under code
+  pub is : (under code : ℕ) → under < 8 → get_or setting.codes under None ≡ Some code
+      → IsCodeOf text setting.field under code
   pub some : (under : ℕ) × (under < 8) × (get_or setting.codes under None ≢ None)
-  pub all : (under code : ℕ) → under < 8 → IsCodeOf text setting.field under code → get_or setting.codes under None ≢ None
+  pub all : (under code : ℕ) → under < 8 → IsCodeOf text setting.field under code
+      → get_or setting.codes under None ≢ None
 
 -- no code of these fields is printed as the text
 abbrev pub IsNoSetting : List ℕ → List Field → Type 0
@@ -60,12 +63,15 @@ IsSetBy text fields setting = IsSettingOf text fields setting ⊎ ((setting ≡ 
 abbrev pub IsUnknown : List ℕ → Type 0
 IsUnknown text = IsNoSetting text professional_fields × IsNoSetting text consumer_fields
 
--- what texts set, in their order: of text `k` that of professional status at `2 k`, that of consumer status behind it; each sets something
+-- what texts set, in their order: of text `k` that of professional status at `2 k`, that of consumer status behind it;
+-- each sets something
 pub record AreSettingsOf (texts : List (List ℕ)) (settings : List Setting) : Type 0 where
   pub few : length texts ≤ 32
   pub known : (k : ℕ) → k < length texts → ¬ IsUnknown (get_or texts k [])
-  pub professional : (k : ℕ) → k < length texts → IsSetBy (get_or texts k []) professional_fields (get_or settings (2 * k) nothing)
-  pub consumer : (k : ℕ) → k < length texts → IsSetBy (get_or texts k []) consumer_fields (get_or settings (2 * k + 1) nothing)
+  pub professional : (k : ℕ) → k < length texts
+      → IsSetBy (get_or texts k []) professional_fields (get_or settings (2 * k) nothing)
+  pub consumer : (k : ℕ) → k < length texts
+      → IsSetBy (get_or texts k []) consumer_fields (get_or settings (2 * k + 1) nothing)
   pub rest : (k : ℕ) → 2 * length texts ≤ k → get_or settings k nothing ≡ nothing
 
 -- why texts have no settings: the first that is unknown, or that there are more than may stand
@@ -79,8 +85,10 @@ abbrev pub IsShownThen : List ℕ → Setting → Type 0
 IsShownThen text setting = (bytes : List ℕ) (code : ℕ) → length bytes ≡ 24 → code_for setting bytes ≡ Some code
     → shown_of setting.field (set_by setting bytes) ≡ codes " " ++ text
 
--- a setting leaves what `show` prints of each other field for the use of the status, unless the codes of that field have
--- another meaning under the number that is set: of the sample word length under the use of the auxiliary bits or the greatest
+-- a setting leaves what `show` prints of each other field for the use of the status, unless the codes of that field
+-- have
+-- another meaning under the number that is set: of the sample word length under the use of the auxiliary bits or the
+-- greatest
 -- length, of the emphasis in consumer status under what the sample words carry
 abbrev pub OtherWordsStay : Type 0
 OtherWordsStay = (setting : Setting) (f : Field) (bytes : List ℕ) → length bytes ≡ 24 → is_for f bytes ≡ true
@@ -92,9 +100,12 @@ shown_fields fields bytes = flat_map (λ f. shown_of f bytes) fields
 
 abbrev pub LineShowsFields : Type 0
 LineShowsFields = (bytes : List ℕ) (check : Check)
-    → (consumer.consumer_text bytes ≡ codes " consumer" ++ shown_fields consumer_fields bytes ++ field_text (codes "rest") (encode_lower (consumer_status.rest bytes)))
+    → (consumer.consumer_text bytes ≡ codes " consumer" ++ shown_fields consumer_fields bytes ++ field_text
+        (codes "rest") (encode_lower (consumer_status.rest bytes)))
     × (professional.professional_text bytes check
     ≡ codes " professional" ++ shown_fields (take 12 professional_fields) bytes
-    ++ field_text (codes "origin") (map shown (status.origin bytes)) ++ field_text (codes "destination") (map shown (status.destination bytes))
-    ++ field_text (codes "local") (decimal (status.local bytes)) ++ field_text (codes "time") (decimal (status.time bytes))
+    ++ field_text (codes "origin") (map shown (status.origin bytes)) ++ field_text (codes "destination")
+    (map shown (status.destination bytes))
+    ++ field_text (codes "local") (decimal (status.local bytes)) ++ field_text (codes "time")
+    (decimal (status.time bytes))
     ++ shown_fields (drop 12 professional_fields) bytes ++ field_text (codes "check") (professional.check_word check))

@@ -1,5 +1,6 @@
 -- What the codes of a status field are printed as.
-use Rattle.std.specs.Prelude.{ℕ, List, [], ◌∷◌, ◌++◌, Bool, nat_le, length, ◌==◌, if◌then◌else◌, map, codes, decimal, Option, Some, None, unwrap_or}
+use Rattle.std.specs.Prelude.{ℕ, List, [], ◌∷◌, ◌++◌, Bool, nat_le, length, ◌==◌, if◌then◌else◌, map, codes, decimal}
+use Rattle.std.specs.Prelude.{Option, Some, None, unwrap_or}
 use Rattle.std.specs.Borrow.{Bor}
 use Rattle.std.specs.List.{list_all}
 
@@ -31,12 +32,14 @@ payload_words = (0, codes "pcm") ∷ (1, codes "other") ∷ []
 -- sample word lengths where the greatest is 24 bits
 abbrev pub words_up_to_24 : Words
 words_up_to_24 =
-    (0, codes "not-indicated") ∷ (4, codes "23") ∷ (2, codes "22") ∷ (6, codes "21") ∷ (1, codes "20") ∷ (5, codes "24") ∷ []
+    (0, codes "not-indicated") ∷ (4, codes "23") ∷ (2, codes "22") ∷ (6, codes "21") ∷ (1, codes "20") ∷
+    (5, codes "24") ∷ []
 
 -- sample word lengths where the greatest is 20 bits
 abbrev pub words_up_to_20 : Words
 words_up_to_20 =
-    (0, codes "not-indicated") ∷ (4, codes "19") ∷ (2, codes "18") ∷ (6, codes "17") ∷ (1, codes "16") ∷ (5, codes "20") ∷ []
+    (0, codes "not-indicated") ∷ (4, codes "19") ∷ (2, codes "18") ∷ (6, codes "17") ∷ (1, codes "16") ∷
+    (5, codes "20") ∷ []
 
 -- sample word lengths where the greatest isn't told
 abbrev pub words_up_to_any : Words

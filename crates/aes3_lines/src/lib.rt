@@ -2,19 +2,33 @@
 //! IEC 60958-1, IEC 60958-3).
 #![tactic(auto)]
 
+/// What the fields of channel status can be set to, as text.
 mod choices;
+/// The fields of a status line for consumer use.
 mod consumer;
+/// A field of a status line: its name and its text.
 mod fields;
+/// Lines of preambles that are handed on together.
 mod gathered;
+/// Laws of the lines of channel status and of the fields that they show.
 pub mod laws;
+/// A line in the making, from its beginning.
 mod line;
+/// Which reports get a line.
 mod lines;
+/// The settings of several texts.
 mod listed;
+/// The line of a preamble.
 mod mark;
+/// The fields of a status line for professional use.
 mod professional;
+/// Fields by their names, and codes by the words that `show` prints.
 mod settings;
+/// The line of a channel status.
 mod status;
+/// A short line, made from its end.
 mod tail;
+/// The words that the codes of a field are printed as.
 mod words;
 
 pub use choices::add_choices;

@@ -4,4 +4,5 @@ use Rattle.aes3_lines.specs.Choices.{below, code_choice}
 use Rattle.aes3_lines.proofs.choices.add_codes.Given as goal
 
 abbrev pub invariant-loop-code : goal.invariant-loop-code
-invariant-loop-code l = l.text.bytes.items ≡ l.fn.text.bytes.items ++ flat_map (code_choice l.field l.under) (below l.code)
+invariant-loop-code l = l.text.bytes.items ≡ l.fn.text.bytes.items ++ flat_map (code_choice l.field l.under)
+    (below l.code)

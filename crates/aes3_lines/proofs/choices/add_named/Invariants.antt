@@ -4,4 +4,5 @@ use Rattle.aes3_lines.specs.Choices.{named_choices}
 use Rattle.aes3_lines.proofs.choices.add_named.Given as goal
 
 abbrev pub invariant-loop-field : goal.invariant-loop-field
-invariant-loop-field l = l.text.bytes.items ≡ l.fn.text.bytes.items ++ flat_map (named_choices l.setting) (take l.field-index l.fields)
+invariant-loop-field l = l.text.bytes.items ≡ l.fn.text.bytes.items ++ flat_map (named_choices l.setting)
+    (take l.field-index l.fields)

@@ -12,4 +12,5 @@ returns-clause-fields c =
       c.put_professional_code-2.ensures.code,
       c.put_professional_code.ensures.code,
     )
-    (rw (c.mode.ensures, c.user.ensures, c.aux.ensures, c.word.ensures, c.aux-2.ensures, c.b2high.ensures) (simp append_assoc))
+    (rw (c.mode.ensures, c.user.ensures, c.aux.ensures, c.word.ensures, c.aux-2.ensures, c.b2high.ensures)
+        (simp append_assoc))

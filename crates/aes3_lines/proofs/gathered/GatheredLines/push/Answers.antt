@@ -10,4 +10,5 @@ returns c =
     let i = c.self.invariant in
     let n = p.ensures.len in
     let m = p.ensures.same in
-    part-put s.text p.new.line s.len (s.len + 40 - s.len) p.result (omega (arith, l, i)) (omega (arith, n, m)) ∙ ap₂ (λ x y. x ++ y) c.self.view_is p.ensures.line
+    part-put s.text p.new.line s.len (s.len + 40 - s.len) p.result (omega (arith, l, i)) (omega (arith, n, m))
+    ∙ ap₂ (λ x y. x ++ y) c.self.view_is p.ensures.line

@@ -12,4 +12,5 @@ returns c =
     let a = c.copy_from_slice.ensures.after in
     let e = ap length a in
     take-put_mid s.len (s.len + length b - s.len) s.text y (s.len + length b) (omega (arith, e)) (omega (arith, l, i))
-    ∙ ap₂ (λ x y. x ++ y) c.self.view_is (a ∙ c.as_bytes-bytes.ensures ∙ c.text.ensures.text ∙ ap (λ x. x ++ 10 ∷ []) c.text_of_mark-line.ensures.text)
+    ∙ ap₂ (λ x y. x ++ y) c.self.view_is (a ∙ c.as_bytes-bytes.ensures ∙ c.text.ensures.text
+        ∙ ap (λ x. x ++ 10 ∷ []) c.text_of_mark-line.ensures.text)
