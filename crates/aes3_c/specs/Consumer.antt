@@ -1,6 +1,7 @@
 -- The fields of consumer channel status (IEC 60958-3) as C is told them.
 use Rattle.std.specs.Prelude.{ℕ, List}
-use Rattle.aes3_status.specs.Consumer.{payload, copyright, emphasis, mode, category, generation, source, number, rate, accuracy, b3high, greatest, word, original, rest}
+use Rattle.aes3_status.specs.Consumer.{payload, copyright, emphasis, mode, category, generation, source, number, rate}
+use Rattle.aes3_status.specs.Consumer.{accuracy, b3high, greatest, word, original, rest}
 use Rattle.aes3_c.specs.declared.consumer.Aes3Consumer.{Aes3Consumer}
 
 abbrev pub consumer_fields : List ℕ → Aes3Consumer

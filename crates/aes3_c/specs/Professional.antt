@@ -1,6 +1,7 @@
 -- The fields of professional channel status (AES3-2) as C is told them.
 use Rattle.std.specs.Prelude.{ℕ, List}
-use Rattle.aes3_status.specs.Professional.{payload, emphasis, unlocked, rate, mode, user, aux, word, b2high, b3, b4, b5, origin, destination, local, time, unreliable, b22low}
+use Rattle.aes3_status.specs.Professional.{payload, emphasis, unlocked, rate, mode, user, aux, word, b2high, b3, b4, b5}
+use Rattle.aes3_status.specs.Professional.{origin, destination, local, time, unreliable, b22low}
 use Rattle.aes3_c.specs.declared.professional.Aes3Professional.{Aes3Professional}
 
 abbrev pub professional_fields : List ℕ → Aes3Professional

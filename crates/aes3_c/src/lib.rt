@@ -3,14 +3,23 @@
 //! calls; `include/aes3.h` is the header.
 #![tactic(auto)]
 
+/// Blocks: their words, bytes and cells.
 mod block;
+/// Words of 64 cells, and their written forms.
 mod cells;
+/// The fields of consumer channel status.
 mod consumer;
+/// Levels as bytes.
 mod level;
+/// The lock, kept by its caller.
 mod lock;
+/// The fields of professional channel status.
 mod professional;
+/// Reports as plain numbers.
 mod report;
+/// Channel status: its use and its check byte.
 mod status;
 #[cfg(test)]
 mod tests;
+/// The version of the library.
 mod version;

@@ -1,7 +1,7 @@
-use Rattle.std.proofs.Common.{arith, ◌∙◌, ap, map}
+use Rattle.std.proofs.Common.{arith, ◌∙◌, ap, map, sym}
 use Rattle.aes3_block.specs.Files.{word_of}
 use Rattle.aes3_block.proofs.BlockLemmas.{block_slots_384}
-use Rattle.aes3_c.proofs.Words.{words-of-payloads}
+use Rattle.aes3_block.proofs.Files.{words-of-payloads}
 use Rattle.aes3_c.proofs.report.words_of_block.Goals as goal
 
 pub returns-clause-words : goal.returns-clause-words
@@ -9,5 +9,6 @@ returns-clause-words c =
     let n = block_slots_384 in
     let k = c.words.ensures.count in
     c.same_words.ensures.same
-    ∙ words-of-payloads c.words.result.now (λ i h. c.same_words.ensures.fits i (omega arith)) (λ i h. c.words.ensures.lawful i (omega arith))
+    ∙ sym (words-of-payloads c.words.result.now (λ i h. c.same_words.ensures.fits i (omega arith))
+        (λ i h. c.words.ensures.lawful i (omega arith)))
     ∙ ap (map word_of) c.words.ensures.payloads
