@@ -1,9 +1,12 @@
 -- A whole run over a block file.
-use Rattle.std.proofs.Common.{◌≡◌, ◌≢◌, ℕ, ◌+◌, ◌*◌, ◌/◌, ◌%◌, ◌<◌, ◌≤◌, ◌⊎◌, inl, inr, List, [], ◌∷◌, ◌++◌, Bool, true, Option, Some, None, Err, length, take, get_or, refl, sym, ap, ◌∙◌, subst, arith, append_assoc, append-nil}
+use Rattle.std.proofs.Common.{◌≡◌, ◌≢◌, ℕ, ◌+◌, ◌*◌, ◌/◌, ◌%◌, ◌<◌, ◌≤◌, ◌⊎◌, inl, inr, List, [], ◌∷◌, ◌++◌, Bool, true}
+use Rattle.std.proofs.Common.{Option, Some, None, Err, length, take, get_or, refl, sym, ap, ◌∙◌, subst, arith}
+use Rattle.std.proofs.Common.{append_assoc, append-nil}
 use Rattle.std.proofs.lemmas.List.{take_all}
 use Rattle.aes3_cell.specs.declared.level.Level.TheVariants.{Low}
 use Rattle.aes3_cell.specs.declared.refusal.RunError.{RunError}
-use Rattle.aes3_cell.specs.declared.refusal.RunError.TheVariants.{BadCell, BadLength, BadCode, BadParity, Read, Write, TooLong, Memory, BadStatusText, BadPadding, BadSample}
+use Rattle.aes3_cell.specs.declared.refusal.RunError.TheVariants.{BadCell, BadLength, BadCode, BadParity, Read, Write}
+use Rattle.aes3_cell.specs.declared.refusal.RunError.TheVariants.{TooLong, Memory, BadStatusText, BadPadding, BadSample}
 use Rattle.aes3_cell.specs.declared.counts.Counts.{Counts}
 use Rattle.aes3_cell.specs.declared.form.Form.{Form}
 use Rattle.aes3_cell.specs.Written.{bytes_of, ending, written}
@@ -15,33 +18,43 @@ use Rattle.aes3_block.specs.Files.{words_of, lawful_words, has_code, has_parity,
 use Rattle.aes3_block.specs.Readers.{FileReader, reader_of, byte_fault, block_with}
 use Rattle.aes3_block.specs.Refusals.{refusal_of}
 use Rattle.aes3_block.proofs.Words.{all_lawful, lawful-words}
-use Rattle.aes3_block.proofs.WholeBlocks.{lawful-next, blocks-next, blocks-stay, added_blocks, fault-place, code-fault, parity-fault, length-fault, end-none, end-whole_file, reader-new}
-use Rattle.aes3_block.proofs.Streams.{each27-whole, stream-bytes, stream-nil, file_blocks-nil, length-stream, slot_count}
+use Rattle.aes3_block.proofs.WholeBlocks.{lawful-next, blocks-next, blocks-stay, added_blocks, fault-place, code-fault}
+use Rattle.aes3_block.proofs.WholeBlocks.{parity-fault, length-fault, end-none, end-whole_file, reader-new}
+use Rattle.aes3_block.proofs.Streams.{each27-whole, stream-bytes, stream-nil, file_blocks-nil, length-stream}
+use Rattle.aes3_block.proofs.Streams.{slot_count}
 use Rattle.aes3_input.specs.Converting.{or_else, fault_behind, first_fault, out, whole}
 use Rattle.aes3_input.specs.Running.{CleanEnd, IsFault, converted}
 use Rattle.aes3_input.proofs.Outputs.{out-is}
 use Rattle.aes3_input.proofs.InputRuns.{Gives}
-use Rattle.aes3_engine.specs.Encoding.{encoded, encoded_file, encoding, refused_by, refused_at_end, block_written, Encodes, AllLawful, BadCodeAt, BadParityAt, IsCauseOf, encode_counts}
+use Rattle.aes3_engine.specs.Encoding.{encoded, encoded_file, encoding, refused_by, refused_at_end, block_written}
+use Rattle.aes3_engine.specs.Encoding.{Encodes, AllLawful, BadCodeAt, BadParityAt, IsCauseOf, encode_counts}
 use Rattle.aes3_engine.proofs.EncodingLemmas.{all-lawful}
+use Rattle.std.proofs.lemmas.Option.{none-some, same_Some}
 
 refused-none : (o : Option FileFault) → refused_by o ≡ None → o ≡ None
 refused-none None e = refl
 refused-none (Some f) e = cc
 
-refused-some : (o : Option FileFault) (e : RunError) → refused_by o ≡ Some e → (f : FileFault) × (o ≡ Some f) × (e ≡ refusal_of f)
+refused-some : (o : Option FileFault) (e : RunError) → refused_by o ≡ Some e → (f : FileFault) × (o ≡ Some f)
+    × (e ≡ refusal_of f)
 refused-some None e q = absurd cc
 refused-some (Some f) e q = (f, refl, cc)
 
 -- bytes without a fault are lawful words
-lawful-of-clean : (form : Form) (p d : List ℕ) → all_lawful (words_of p) ≡ true → fault_behind (encoding form) p d ≡ None → all_lawful (words_of (p ++ d)) ≡ true
+lawful-of-clean : (form : Form) (p d : List ℕ) → all_lawful (words_of p) ≡ true
+    → fault_behind (encoding form) p d ≡ None → all_lawful (words_of (p ++ d)) ≡ true
 unfolding encoding
 lawful-of-clean form p [] l e = ap (λ b. all_lawful (words_of b)) (append-nil p) ∙ l
-lawful-of-clean form p (x ∷ d) l e = go (byte_fault (reader_of p) x) refl e (λ k q. lawful-of-clean form (p ++ x ∷ []) d k q)
+lawful-of-clean form p (x ∷ d) l e =
+    go (byte_fault (reader_of p) x) refl e (λ k q. lawful-of-clean form (p ++ x ∷ []) d k q)
   where
-    go : (o : Option FileFault) → byte_fault (reader_of p) x ≡ o → or_else (refused_by o) (fault_behind (encoding form) (p ++ x ∷ []) d) ≡ None
-        → (all_lawful (words_of (p ++ x ∷ [])) ≡ true → fault_behind (encoding form) (p ++ x ∷ []) d ≡ None → all_lawful (words_of ((p ++ x ∷ []) ++ d)) ≡ true)
+    go : (o : Option FileFault) → byte_fault (reader_of p) x ≡ o
+        → or_else (refused_by o) (fault_behind (encoding form) (p ++ x ∷ []) d) ≡ None
+        → (all_lawful (words_of (p ++ x ∷ [])) ≡ true → fault_behind (encoding form) (p ++ x ∷ []) d ≡ None
+            → all_lawful (words_of ((p ++ x ∷ []) ++ d)) ≡ true)
         → all_lawful (words_of (p ++ x ∷ d)) ≡ true
-    go None q e next = ap (λ b. all_lawful (words_of b)) (sym (append_assoc p (x ∷ []) d)) ∙ next (lawful-next p x l q) e
+    go None q e next = ap (λ b. all_lawful (words_of b)) (sym (append_assoc p (x ∷ []) d))
+        ∙ next (lawful-next p x l q) e
     go (Some f) q e next = absurd cc
 
 clean-lawful : (form : Form) (b : List ℕ) → first_fault (encoding form) b ≡ None → AllLawful b
@@ -54,19 +67,25 @@ unfolding encoding encoded
 out-encoded form = out-is (encoding form) (encoded form) nothing more stays
   where
     nothing : encoded form [] ≡ []
-    nothing = ap (λ v. bytes_of form (stream Low v)) file_blocks-nil ∙ ap (bytes_of form) (stream-nil Low) ∙ bytes-nothing form
+    nothing = ap (λ v. bytes_of form (stream Low v)) file_blocks-nil ∙ ap (bytes_of form) (stream-nil Low)
+        ∙ bytes-nothing form
 
-    more : (b : List ℕ) (x : ℕ) → first_fault (encoding form) b ≡ None → (encoding form).fault b x ≡ None → encoded form (b ++ x ∷ []) ≡ encoded form b ++ (encoding form).adds b x
+    more : (b : List ℕ) (x : ℕ) → first_fault (encoding form) b ≡ None → (encoding form).fault b x ≡ None
+        → encoded form (b ++ x ∷ []) ≡ encoded form b ++ (encoding form).adds b x
     more b x c e =
         let l = all-lawful (clean-lawful form b c) in
         let n = blocks-next b x l (refused-none (byte_fault (reader_of b) x) e) in
         ap (λ v. bytes_of form (stream Low v)) n ∙ added (block_with (reader_of b) x)
       where
-        added : (o : Option (List (List Bool))) → bytes_of form (stream Low (file_blocks b ++ added_blocks o)) ≡ bytes_of form (stream Low (file_blocks b)) ++ block_written form o
-        added None = ap (λ v. bytes_of form (stream Low v)) (append-nil (file_blocks b)) ∙ sym (append-nil (bytes_of form (stream Low (file_blocks b))))
+        added : (o : Option (List (List Bool)))
+            → bytes_of form (stream Low (file_blocks b ++ added_blocks o)) ≡ bytes_of form
+            (stream Low (file_blocks b)) ++ block_written form o
+        added None = ap (λ v. bytes_of form (stream Low v)) (append-nil (file_blocks b))
+            ∙ sym (append-nil (bytes_of form (stream Low (file_blocks b))))
         added (Some block) = stream-bytes form Low (file_blocks b) block (each27-whole b)
 
-    stays : (b : List ℕ) (x : ℕ) (d : List ℕ) (e : RunError) → first_fault (encoding form) b ≡ None → (encoding form).fault b x ≡ Some e → encoded form (b ++ x ∷ d) ≡ encoded form b
+    stays : (b : List ℕ) (x : ℕ) (d : List ℕ) (e : RunError) → first_fault (encoding form) b ≡ None
+        → (encoding form).fault b x ≡ Some e → encoded form (b ++ x ∷ d) ≡ encoded form b
     stays b x d e c q =
         let r = refused-some (byte_fault (reader_of b) x) e q in
         ap (λ v. bytes_of form (stream Low v)) (blocks-stay b x d r.0 (all-lawful (clean-lawful form b c)) r.1)
@@ -75,14 +94,17 @@ whole-encoded : (form : Form) (b : List ℕ) → whole (encoding form) b ≡ wri
 unfolding whole encoding encoded stream
 whole-encoded form b =
     ap (λ o. o ++ ending form) (out-encoded form b)
-    ∙ written-whole form (slot_count (file_blocks b)) (stream Low (file_blocks b)) (length-stream Low (file_blocks b) (each27-whole b))
+    ∙ written-whole form (slot_count (file_blocks b)) (stream Low (file_blocks b))
+    (length-stream Low (file_blocks b) (each27-whole b))
 
 -- the first fault of an input is its first word that is not lawful
-cause-behind : (form : Form) (p d : List ℕ) (e : RunError) → all_lawful (words_of p) ≡ true → fault_behind (encoding form) p d ≡ Some e
+cause-behind : (form : Form) (p d : List ℕ) (e : RunError) → all_lawful (words_of p) ≡ true
+    → fault_behind (encoding form) p d ≡ Some e
     → ((at : ℕ) × (e ≡ BadCode at) × BadCodeAt (p ++ d) at) ⊎ ((at : ℕ) × (e ≡ BadParity at) × BadParityAt (p ++ d) at)
 unfolding encoding
 cause-behind form p [] e l q = absurd cc
-cause-behind form p (x ∷ d) e l q = go (byte_fault (reader_of p) x) refl q (λ k h. cause-behind form (p ++ x ∷ []) d e k h)
+cause-behind form p (x ∷ d) e l q =
+    go (byte_fault (reader_of p) x) refl q (λ k h. cause-behind form (p ++ x ∷ []) d e k h)
   where
     Cause : List ℕ → Type 0
     Cause b = ((at : ℕ) × (e ≡ BadCode at) × BadCodeAt b at) ⊎ ((at : ℕ) × (e ≡ BadParity at) × BadParityAt b at)
@@ -114,10 +136,13 @@ cause-behind form p (x ∷ d) e l q = go (byte_fault (reader_of p) x) refl q (λ
           },
         )
     told (fault.BadLength left) r z =
-        absurd (length-fault (length p / 4) (get_or (words_of (p ++ x ∷ d)) (length p / 4) 0) left (fault-place p x d (fault.BadLength left) l r).2)
+        absurd (length-fault (length p / 4) (get_or (words_of (p ++ x ∷ d)) (length p / 4) 0) left
+            (fault-place p x d (fault.BadLength left) l r).2)
 
-    go : (o : Option FileFault) → byte_fault (reader_of p) x ≡ o → or_else (refused_by o) (fault_behind (encoding form) (p ++ x ∷ []) d) ≡ Some e
-        → (all_lawful (words_of (p ++ x ∷ [])) ≡ true → fault_behind (encoding form) (p ++ x ∷ []) d ≡ Some e → Cause ((p ++ x ∷ []) ++ d)) → Cause (p ++ x ∷ d)
+    go : (o : Option FileFault) → byte_fault (reader_of p) x ≡ o
+        → or_else (refused_by o) (fault_behind (encoding form) (p ++ x ∷ []) d) ≡ Some e
+        → (all_lawful (words_of (p ++ x ∷ [])) ≡ true → fault_behind (encoding form) (p ++ x ∷ []) d ≡ Some e
+            → Cause ((p ++ x ∷ []) ++ d)) → Cause (p ++ x ∷ d)
     go None r q next = subst Cause (append_assoc p (x ∷ []) d) (next (lawful-next p x l r) q)
     go (Some f) r q next = told f r cc
 
@@ -127,7 +152,8 @@ unfolding first_fault
 cause-of form b e q = cause-behind form [] b e refl q
 
 end-cases : (form : Form) (b : List ℕ) → (((encoding form).end_fault b ≡ None) × (length b % (4 * block_slots) ≡ 0))
-    ⊎ (((encoding form).end_fault b ≡ Some (BadLength (length b % (4 * block_slots)))) × (0 < length b % (4 * block_slots)))
+    ⊎ (((encoding form).end_fault b ≡ Some (BadLength (length b % (4 * block_slots))))
+        × (0 < length b % (4 * block_slots)))
 unfolding encoding
 end-cases form b = elim (end-none b) [
   | inl q ↦ inl (ap refused_at_end q.1, q.0)
@@ -147,7 +173,8 @@ code-cause form b at q = elim (cause-of form b (BadCode at) q) [
     other : (k : ℕ) → BadCode at ≡ BadParity k → ⊥
     other k e = cc
 
-parity-cause : (form : Form) (b : List ℕ) (at : ℕ) → first_fault (encoding form) b ≡ Some (BadParity at) → BadParityAt b at
+parity-cause : (form : Form) (b : List ℕ) (at : ℕ) → first_fault (encoding form) b ≡ Some (BadParity at)
+    → BadParityAt b at
 parity-cause form b at q = elim (cause-of form b (BadParity at) q) [
   | inl c ↦ absurd (other c.0 c.1)
   | inr c ↦ subst (BadParityAt b) (same c.0 c.1) c.2
@@ -160,34 +187,30 @@ parity-cause form b at q = elim (cause-of form b (BadParity at) q) [
     other k e = cc
 
 -- a refusal that is neither of a word nor of the end has no cause
-no-fault-cause : (form : Form) (b : List ℕ) (e : RunError) → ((k : ℕ) → e ≡ BadCode k → ⊥) → ((k : ℕ) → e ≡ BadParity k → ⊥) → first_fault (encoding form) b ≡ Some e → ⊥
+no-fault-cause : (form : Form) (b : List ℕ) (e : RunError) → ((k : ℕ) → e ≡ BadCode k → ⊥)
+    → ((k : ℕ) → e ≡ BadParity k → ⊥) → first_fault (encoding form) b ≡ Some e → ⊥
 no-fault-cause form b e c p q = elim (cause-of form b e q) [ inl r ↦ c r.0 r.1 | inr r ↦ p r.0 r.1 ]
 
-no-end-cause : (form : Form) (b : List ℕ) (e : RunError) → ((k : ℕ) → e ≡ BadLength k → ⊥) → (encoding form).end_fault b ≡ Some e → ⊥
+no-end-cause : (form : Form) (b : List ℕ) (e : RunError) → ((k : ℕ) → e ≡ BadLength k → ⊥)
+    → (encoding form).end_fault b ≡ Some e → ⊥
 no-end-cause form b e n q = elim (end-cases form b) [
-  | inl r ↦ none-some (sym r.0 ∙ q)
-  | inr r ↦ n (length b % (4 * block_slots)) (some-is (sym q ∙ r.0))
+  | inl r ↦ none-some _ (sym r.0 ∙ q)
+  | inr r ↦ n (length b % (4 * block_slots)) (same_Some _ _ (sym q ∙ r.0))
 ]
-  where
-    none-some : None ≡ Some e → ⊥
-    none-some q = cc
 
-    some-is : {x y : RunError} → Some x ≡ Some y → x ≡ y
-    some-is q = cc
-
-length-cause : (form : Form) (b : List ℕ) (left : ℕ) → (encoding form).end_fault b ≡ Some (BadLength left) → (left ≡ length b % (4 * block_slots)) × (0 < left)
+length-cause : (form : Form) (b : List ℕ) (left : ℕ) → (encoding form).end_fault b ≡ Some (BadLength left)
+    → (left ≡ length b % (4 * block_slots)) × (0 < left)
 length-cause form b left q = elim (end-cases form b) [
-  | inl r ↦ absurd (none-some (sym r.0 ∙ q))
-  | inr r ↦ let e : left ≡ length b % (4 * block_slots) = same (length b % (4 * block_slots)) (sym q ∙ r.0) in (e, (let h = r.1 in omega arith))
+  | inl r ↦ absurd (none-some _ (sym r.0 ∙ q))
+  | inr r ↦ let e : left ≡ length b % (4 * block_slots) = same (length b % (4 * block_slots)) (sym q ∙ r.0) in
+      (e, (let h = r.1 in omega arith))
 ]
   where
-    none-some : None ≡ Some (BadLength left) → ⊥
-    none-some q = cc
-
     same : (k : ℕ) → Some (BadLength left) ≡ Some (BadLength k) → left ≡ k
     same k q = cc
 
-fault-cause : (form : Form) (max : ℕ) (b : List ℕ) (ended : Bool) (e : RunError) → IsFault (encoding form) max b ended e → IsCauseOf max b ended e
+fault-cause : (form : Form) (max : ℕ) (b : List ℕ) (ended : Bool) (e : RunError) → IsFault (encoding form) max b ended e
+    → IsCauseOf max b ended e
 fault-cause form max b ended Read h = (clean-lawful form b h.clean, h.short)
 fault-cause form max b ended Write h = h
 fault-cause form max b ended TooLong h = (clean-lawful form (take max b) h.0.clean, h.1)
@@ -226,7 +249,8 @@ fault-cause form max b ended (BadSample at) h = elim h [
 ]
 
 -- bytes without a fault are a block file
-clean-file : (form : Form) (b : List ℕ) → first_fault (encoding form) b ≡ None → (encoding form).end_fault b ≡ None → IsBlockFile b
+clean-file : (form : Form) (b : List ℕ) → first_fault (encoding form) b ≡ None → (encoding form).end_fault b ≡ None
+    → IsBlockFile b
 clean-file form b c e = record { whole = whole; lawful = (clean-lawful form b c).is }
   where
     some-none : {x : RunError} → Some x ≡ None → ⊥
@@ -237,15 +261,19 @@ clean-file form b c e = record { whole = whole; lawful = (clean-lawful form b c)
 
 -- the counts of a run
 pub counted : (b : List ℕ) (n blocks : ℕ) → n ≡ length b → blocks ≡ length (file_blocks b)
-    → ◌≡◌ {A = Counts} (record { bytes = n; cells = 24576 * blocks; blocks = blocks; faults = 0; unfinished = 0; marks = 0 }) (encode_counts b)
+    → ◌≡◌ {A = Counts} (record { bytes = n; cells = 24576 * blocks; blocks = blocks; faults = 0; unfinished = 0;
+        marks = 0 }) (encode_counts b)
 unfolding encode_counts block_len block_slots
 counted b n blocks e f = rw (e, f) refl
 
-pub starts : (file : FileReader) → file.seen ≡ 0 → file.words ≡ [] → file.bytes ≡ [] → file.fault ≡ None → Encodes file 0 []
-starts file a b c d = record { reader = reader-new file a b c d; lawful = record { is = lawful-words [] refl }; count = sym (ap length file_blocks-nil) }
+pub starts : (file : FileReader) → file.seen ≡ 0 → file.words ≡ [] → file.bytes ≡ [] → file.fault ≡ None
+    → Encodes file 0 []
+starts file a b c d = record { reader = reader-new file a b c d; lawful = record { is = lawful-words [] refl };
+    count = sym (ap length file_blocks-nil) }
 
 -- a block file that fits has no cause
-no-word : (max : ℕ) (b : List ℕ) (at : ℕ) → IsBlockFile b → length b ≤ max → length (lawful_words (take max b)) ≡ at → at < length (words_of (take max b)) → ⊥
+no-word : (max : ℕ) (b : List ℕ) (at : ℕ) → IsBlockFile b → length b ≤ max → length (lawful_words (take max b)) ≡ at
+    → at < length (words_of (take max b)) → ⊥
 no-word max b at i l before within =
     let e = take_all max b l in
     let p = ap (λ v. length (lawful_words v)) e in
@@ -253,13 +281,15 @@ no-word max b at i l before within =
     let n = ap length i.lawful in
     omega arith
 
-pub no-file-cause : (max : ℕ) (b : List ℕ) (ended : Bool) → IsBlockFile b → length b ≤ max → (e : RunError) → e ≢ Read → e ≢ Write → IsCauseOf max b ended e → ⊥
+pub no-file-cause : (max : ℕ) (b : List ℕ) (ended : Bool) → IsBlockFile b → length b ≤ max → (e : RunError) → e ≢ Read
+    → e ≢ Write → IsCauseOf max b ended e → ⊥
 no-file-cause max b ended i l Read r w h = r refl
 no-file-cause max b ended i l Write r w h = w refl
 no-file-cause max b ended i l TooLong r w h = let n = h.1 in omega arith
 no-file-cause max b ended i l (BadCode at) r w h = no-word max b at i l h.before h.within
 no-file-cause max b ended i l (BadParity at) r w h = no-word max b at i l h.before h.within
-no-file-cause max b ended i l (BadLength n) r w h = let z = i.whole in let c = h.0.count in let s = h.0.some in omega arith
+no-file-cause max b ended i l (BadLength n) r w h = let z = i.whole in let c = h.0.count in
+    let s = h.0.some in omega arith
 no-file-cause max b ended i l (BadCell n) r w h = h
 no-file-cause max b ended i l Memory r w h = h
 no-file-cause max b ended i l BadStatusText r w h = h

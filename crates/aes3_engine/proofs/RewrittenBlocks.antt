@@ -1,5 +1,6 @@
 -- Blocks with other channel status.
-use Rattle.std.proofs.Common.{◌≡◌, ℕ, suc, List, [], ◌∷◌, ◌++◌, Bool, true, false, cond, Option, Some, None, refl, ap, ◌∙◌}
+use Rattle.std.proofs.Common.{◌≡◌, ℕ, suc, List, [], ◌∷◌, ◌++◌, Bool, true, false, cond, Option, Some, None, refl, ap}
+use Rattle.std.proofs.Common.{◌∙◌}
 use Rattle.aes3_cell.specs.declared.level.Level.{Level}
 use Rattle.aes3_cell.specs.declared.form.Form.{Form}
 use Rattle.aes3_cell.specs.Written.{ending}
@@ -12,33 +13,41 @@ use Rattle.aes3_lock.specs.Reports.{reports, decided, blocks}
 use Rattle.aes3_status.specs.Statuses.{is_professional}
 use Rattle.aes3_status.specs.declared.change.Change.{Change}
 use Rattle.aes3_engine.specs.ReportRuns.{output}
-use Rattle.aes3_engine.specs.BlockRuns.{decided_blocks, report_bytes, numbered, normal_block, begun_stream, written_stream}
+use Rattle.aes3_engine.specs.BlockRuns.{decided_blocks, report_bytes, numbered, normal_block, begun_stream}
+use Rattle.aes3_engine.specs.BlockRuns.{written_stream}
 use Rattle.aes3_status.specs.declared.setting.Setting.{Setting}
 use Rattle.aes3_status.specs.Settings.{set_in_turn}
-use Rattle.aes3_engine.specs.Rewriting.{set_status, set_settings, checked, mended, changed, rewritten, rewritten_block, rewritten_blocks}
+use Rattle.aes3_engine.specs.Rewriting.{set_status, set_settings, checked, mended, changed, rewritten, rewritten_block}
+use Rattle.aes3_engine.specs.Rewriting.{rewritten_blocks}
 use Rattle.aes3_engine.proofs.BlockRuns.{whole-stream, begun-stream, normal-numbered}
 use Rattle.aes3_block.proofs.StatusLaws.{payloads-stay}
 
 -- the payloads keep their lengths
-each-status : (channel : Channel) (b : List (List Bool)) (status : List ℕ) → Each27 b → Each27 (with_status b channel status)
+each-status : (channel : Channel) (b : List (List Bool)) (status : List ℕ) → Each27 b
+    → Each27 (with_status b channel status)
 unfolding with_status
 each-status channel b status h = payloads-stay channel b (bits_of_bytes status) h
 
 -- what each new status keeps of a block, a change keeps
-module _ (P : List (List Bool) → Type 0) (keeps : (channel : Channel) (b : List (List Bool)) (status : List ℕ) → P b → P (with_status b channel status)) where
-  set-keeps : (channel : Channel) (status : Option (List ℕ)) (b : List (List Bool)) → P b → P (set_status channel status b)
+module _ (P : List (List Bool) → Type 0) (keeps : (channel : Channel) (b : List (List Bool)) (status : List ℕ) → P b
+    → P (with_status b channel status)) where
+  set-keeps : (channel : Channel) (status : Option (List ℕ)) (b : List (List Bool)) → P b
+      → P (set_status channel status b)
   set-keeps channel None b h = h
   set-keeps channel (Some status) b h = keeps channel b status h
 
-  settings-keep : (channel : Channel) (settings : Option (List Setting)) (b : List (List Bool)) → P b → P (set_settings channel settings b)
+  settings-keep : (channel : Channel) (settings : Option (List Setting)) (b : List (List Bool)) → P b
+      → P (set_settings channel settings b)
   settings-keep channel None b h = h
   settings-keep channel (Some settings) b h = keeps channel b (set_in_turn settings (status_of b channel)) h
 
   changed-keeps : (change : Change) (b : List (List Bool)) → P b → P (changed change b)
   changed-keeps change b h =
       let s = set_status Second change.status2 (set_status First change.status1 b) in
-      let k = set-keeps Second change.status2 (set_status First change.status1 b) (set-keeps First change.status1 b h) in
-      settings-keep Second change.settings2 (set_settings First change.settings1 s) (settings-keep First change.settings1 s k)
+      let k = set-keeps Second change.status2 (set_status First change.status1 b)
+      (set-keeps First change.status1 b h) in
+      settings-keep Second change.settings2 (set_settings First change.settings1 s)
+      (settings-keep First change.settings1 s k)
 
   if-keeps : (t : Bool) (a b : List (List Bool)) → P a → P b → P (cond t a b)
   if-keeps true a b h k = h
@@ -46,30 +55,41 @@ module _ (P : List (List Bool) → Type 0) (keeps : (channel : Channel) (b : Lis
 
   mended-keeps : (channel : Channel) (b : List (List Bool)) → P b → P (mended channel b)
   mended-keeps channel b h =
-      if-keeps (is_professional (status_of b channel)) (with_status b channel (checked (status_of b channel))) b (keeps channel b (checked (status_of b channel)) h) h
+      if-keeps (is_professional (status_of b channel)) (with_status b channel (checked (status_of b channel))) b
+      (keeps channel b (checked (status_of b channel)) h) h
 
   pub rewritten-keeps : (change : Change) (b : List (List Bool)) → P b → P (rewritten change b)
   rewritten-keeps change b h =
       let s = changed change b in
       let k = changed-keeps change b h in
-      if-keeps change.mend (mended Second (mended First s)) s (mended-keeps Second (mended First s) (mended-keeps First s k)) k
+      if-keeps change.mend (mended Second (mended First s)) s
+      (mended-keeps Second (mended First s) (mended-keeps First s k)) k
 
-each-blocks : (change : Change) (bs : List (List (List Bool))) → EachBlock27 bs → EachBlock27 (rewritten_blocks change bs)
+each-blocks : (change : Change) (bs : List (List (List Bool))) → EachBlock27 bs
+    → EachBlock27 (rewritten_blocks change bs)
 each-blocks change [] h = tt
 each-blocks change (b ∷ bs) h = (rewritten-keeps Each27 each-status change b h.0, each-blocks change bs h.1)
 
 -- what the changed blocks write
-changed-numbered : (form : Form) (change : Change) (n : ℕ) (bs : List (List (List Bool))) → numbered (rewritten_block form change) n bs ≡ numbered (normal_block form) n (rewritten_blocks change bs)
+changed-numbered : (form : Form) (change : Change) (n : ℕ) (bs : List (List (List Bool)))
+    → numbered (rewritten_block form change) n bs ≡ numbered (normal_block form) n (rewritten_blocks change bs)
 changed-numbered form change n [] = refl
-changed-numbered form change n (b ∷ bs) = ap (λ z. normal_block form n (rewritten change b) ++ z) (changed-numbered form change (suc n) bs)
+changed-numbered form change n (b ∷ bs) = ap (λ z. normal_block form n (rewritten change b) ++ z)
+    (changed-numbered form change (suc n) bs)
 
-changed-bytes : (form : Form) (change : Change) (bs : List (List (List Bool))) → EachBlock27 bs → numbered (rewritten_block form change) 0 bs ≡ begun_stream form (rewritten_blocks change bs)
-changed-bytes form change bs h = changed-numbered form change 0 bs ∙ normal-numbered form 0 (rewritten_blocks change bs) (each-blocks change bs h)
+changed-bytes : (form : Form) (change : Change) (bs : List (List (List Bool))) → EachBlock27 bs
+    → numbered (rewritten_block form change) 0 bs ≡ begun_stream form (rewritten_blocks change bs)
+changed-bytes form change bs h = changed-numbered form change 0 bs
+    ∙ normal-numbered form 0 (rewritten_blocks change bs) (each-blocks change bs h)
 
 pub rewritten-whole : (form : Form) (change : Change) (c : List Level)
-    → output (report_bytes (rewritten_block form change)) (reports c) ++ ending form ≡ written_stream form (rewritten_blocks change (blocks c))
-rewritten-whole form change c = whole-stream form (rewritten_block form change) (rewritten_blocks change) (changed-bytes form change) (each-blocks change) c
+    → output (report_bytes (rewritten_block form change)) (reports c) ++ ending form ≡ written_stream form
+    (rewritten_blocks change (blocks c))
+rewritten-whole form change c = whole-stream form (rewritten_block form change) (rewritten_blocks change)
+    (changed-bytes form change) (each-blocks change) c
 
 pub rewritten-begun : (form : Form) (change : Change) (c : List Level)
-    → output (report_bytes (rewritten_block form change)) (decided c) ≡ begun_stream form (rewritten_blocks change (decided_blocks c))
-rewritten-begun form change c = begun-stream form (rewritten_block form change) (rewritten_blocks change) (changed-bytes form change) c
+    → output (report_bytes (rewritten_block form change)) (decided c) ≡ begun_stream form
+    (rewritten_blocks change (decided_blocks c))
+rewritten-begun form change c = begun-stream form (rewritten_block form change) (rewritten_blocks change)
+    (changed-bytes form change) c

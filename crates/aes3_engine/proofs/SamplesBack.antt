@@ -24,17 +24,21 @@ use Rattle.aes3_engine.proofs.BlockRuns.{each27, read-back}
 use Rattle.aes3_engine.proofs.RewrittenBlocks.{rewritten-keeps}
 
 -- blocks with other channel status are blocks, and have the same samples
-status-block : (channel : Channel) (b : List (List Bool)) (status : List ℕ) → IsBlock b → IsBlock (with_status b channel status)
+status-block : (channel : Channel) (b : List (List Bool)) (status : List ℕ) → IsBlock b
+    → IsBlock (with_status b channel status)
 status-block channel b status h = (status-only b channel status h).block
 
-rewritten-lawful : (change : Change) (bs : List (List (List Bool))) → All IsBlock bs → All IsBlock (rewritten_blocks change bs)
+rewritten-lawful : (change : Change) (bs : List (List (List Bool))) → All IsBlock bs
+    → All IsBlock (rewritten_blocks change bs)
 rewritten-lawful change [] h = all-nil IsBlock
 rewritten-lawful change (b ∷ bs) h =
-    all-cons IsBlock (rewritten change b) (rewritten_blocks change bs) (rewritten-keeps IsBlock status-block change b (h 0 [] (omega arith)))
+    all-cons IsBlock (rewritten change b) (rewritten_blocks change bs)
+    (rewritten-keeps IsBlock status-block change b (h 0 [] (omega arith)))
     (rewritten-lawful change bs (λ k d lt. h (suc k) d (omega arith)))
 
 block-same : (change : Change) (b : List (List Bool)) → map sample_of (rewritten change b) ≡ map sample_of b
-block-same change b = rewritten-keeps (λ d. map sample_of d ≡ map sample_of b) (λ channel d status e. samples-status channel status d ∙ e) change b refl
+block-same change b = rewritten-keeps (λ d. map sample_of d ≡ map sample_of b)
+    (λ channel d status e. samples-status channel status d ∙ e) change b refl
 
 samples-same : (change : Change) (bs : List (List (List Bool))) → samples (rewritten_blocks change bs) ≡ samples bs
 unfolding block_samples
@@ -42,13 +46,17 @@ samples-same change [] = refl
 samples-same change (b ∷ bs) = ap₂ ◌++◌ (ap (flat_map word_bytes) (block-same change b)) (samples-same change bs)
 
 -- a line of blocks gives their samples
-line-samples : (form : Form) (bs : List (List (List Bool))) → All IsBlock bs → pcm_of_line form (written_stream form bs) ≡ samples bs
-line-samples form bs h = ap (λ c. samples (blocks c)) (read-back form bs (each27 bs h)) ∙ ap samples (stream-blocks Low bs h)
+line-samples : (form : Form) (bs : List (List (List Bool))) → All IsBlock bs
+    → pcm_of_line form (written_stream form bs) ≡ samples bs
+line-samples form bs h = ap (λ c. samples (blocks c)) (read-back form bs (each27 bs h))
+    ∙ ap samples (stream-blocks Low bs h)
 
-pub samples-back : (form : Form) (change : Change) (ws : List ℕ) → All IsSample ws → pcm_of_line form (line_of_pcm form change (flat_map word_bytes ws)) ≡ flat_map word_bytes (filled ws)
+pub samples-back : (form : Form) (change : Change) (ws : List ℕ) → All IsSample ws
+    → pcm_of_line form (line_of_pcm form change (flat_map word_bytes ws)) ≡ flat_map word_bytes (filled ws)
 unfolding sample_file
 samples-back form change ws h =
     let bs = rewritten_blocks change (sampled (filled ws)) in
     let k = rewritten-lawful change (sampled (filled ws)) (sampled-lawful (filled ws)) in
-    ap (λ v. pcm_of_line form (written_stream form v)) (ap (λ v. file_blocks (sample_file change (filled v))) (words-back ws h) ∙ file_blocks-file bs k)
+    ap (λ v. pcm_of_line form (written_stream form v))
+    (ap (λ v. file_blocks (sample_file change (filled v))) (words-back ws h) ∙ file_blocks-file bs k)
     ∙ line-samples form bs k ∙ samples-same change (sampled (filled ws)) ∙ samples-filled ws h

@@ -15,7 +15,8 @@ use Rattle.aes3_lock.specs.Reports.{decided, wholes}
 abbrev pub decided_blocks : List Level → List (List (List Bool))
 decided_blocks c = wholes (decided c)
 
--- a block by its number, of blocks from 0, gives bytes; those of a report, and of blocks of which the first has number n
+-- a block by its number, of blocks from 0, gives bytes; those of a report, and of blocks of which the first has number
+-- n
 abbrev pub report_bytes : (ℕ → List (List Bool) → List ℕ) → ℕ → Report → List ℕ
 report_bytes f n (Whole at s b) = f n b
 report_bytes f n (Marked at s wrong) = []

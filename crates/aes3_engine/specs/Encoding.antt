@@ -1,8 +1,10 @@
 -- What `encode` makes of a block file.
-use Rattle.std.specs.Prelude.{ℕ, List, [], Bool, true, false, Option, Some, None, Result, Ok, Err, ◌≡◌, ◌<◌, ◌≤◌, ◌+◌, ◌*◌, ◌%◌, IsTrue, length, take, get_or}
+use Rattle.std.specs.Prelude.{ℕ, List, [], Bool, true, false, Option, Some, None, Result, Ok, Err, ◌≡◌, ◌<◌, ◌≤◌, ◌+◌}
+use Rattle.std.specs.Prelude.{◌*◌, ◌%◌, IsTrue, length, take, get_or}
 use Rattle.aes3_cell.specs.declared.level.Level.TheVariants.{Low}
 use Rattle.aes3_cell.specs.declared.refusal.RunError.{RunError}
-use Rattle.aes3_cell.specs.declared.refusal.RunError.TheVariants.{BadCell, BadLength, BadCode, BadParity, Read, Write, TooLong, Memory, BadStatusText, BadPadding, BadSample}
+use Rattle.aes3_cell.specs.declared.refusal.RunError.TheVariants.{BadCell, BadLength, BadCode, BadParity, Read, Write}
+use Rattle.aes3_cell.specs.declared.refusal.RunError.TheVariants.{TooLong, Memory, BadStatusText, BadPadding, BadSample}
 use Rattle.aes3_cell.specs.declared.counts.Counts.{Counts}
 use Rattle.aes3_block.specs.declared.file.FileFault.{FileFault}
 use Rattle.aes3_block.specs.Blocks.{block_slots, block_len, block_cells, stream}
@@ -14,7 +16,8 @@ use Rattle.aes3_input.specs.Running.{Promise}
 use Rattle.aes3_cell.specs.declared.form.Form.{Form}
 use Rattle.aes3_cell.specs.Written.{bytes_of, ending, written}
 
--- the cells of the blocks that stand whole in a block file before its first fault, in the normal polarity, in the output's form: without an ending
+-- the cells of the blocks that stand whole in a block file before its first fault, in the normal polarity, in the
+-- output's form: without an ending
 unfoldable pub encoded : Form → List ℕ → List ℕ
 encoded form b = bytes_of form (stream Low (file_blocks b))
 

@@ -59,5 +59,6 @@ abbrev pub IsTallyOf : Tally → List Report → Type 0
 IsTallyOf t r = Tallies t.blocks t.faults t.unfinished r
 
 -- a run over cells that gives each report its bytes, and at the end e
-abbrev pub ReportRun : ℕ → Form → (ℕ → Report → List ℕ) → List ℕ → Bool → Movement → Movement → Result Counts RunError → Type 0
+abbrev pub ReportRun : ℕ → Form → (ℕ → Report → List ℕ) → List ℕ → Bool → Movement → Movement
+    → Result Counts RunError → Type 0
 ReportRun max form f e = CellRun max form (λ c. output f (reports c) ++ e) (λ c. output f (decided c)) (counts_of form)

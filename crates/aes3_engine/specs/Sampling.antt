@@ -1,5 +1,6 @@
 -- What `from_pcm` makes of samples: words of four bytes, lowest byte first, channel 1 and then channel 2 of each frame.
-use Rattle.std.specs.Prelude.{ℕ, List, [], ◌∷◌, ◌++◌, Bool, true, not, ◌&&◌, Some, None, ◌≡◌, ◌≢◌, ◌<◌, ◌≤◌, ◌+◌, ◌%◌, ◌==◌, IsTrue, length, take, drop, get_or, if◌then◌else◌}
+use Rattle.std.specs.Prelude.{ℕ, List, [], ◌∷◌, ◌++◌, Bool, true, not, ◌&&◌, Some, None, ◌≡◌, ◌≢◌, ◌<◌, ◌≤◌, ◌+◌, ◌%◌}
+use Rattle.std.specs.Prelude.{◌==◌, IsTrue, length, take, drop, get_or, if◌then◌else◌}
 use Rattle.aes3_cell.specs.declared.counts.Counts.{Counts}
 use Rattle.aes3_cell.specs.declared.refusal.RunError.{RunError}
 use Rattle.aes3_cell.specs.declared.refusal.RunError.TheVariants.{BadLength, BadSample, Read, Write, TooLong}

@@ -13,7 +13,9 @@ use Rattle.aes3_engine.proofs.EncodeRuns.{starts, counted, encoding-gives, no-fi
 use Rattle.aes3_engine.proofs.encoding.encode.Goals as goal
 
 pub convert-requires-clause-start : goal.convert-requires-clause-start
-convert-requires-clause-start g c = starts c.new-file.result c.new-file.ensures.seen c.new-file.ensures.words c.new-file.ensures.bytes c.new-file.ensures.open
+convert-requires-clause-start g c =
+    starts c.new-file.result c.new-file.ensures.seen c.new-file.ensures.words c.new-file.ensures.bytes
+        c.new-file.ensures.open
 
 pub overflow_mul-result : goal.overflow_mul-result
 overflow_mul-result g c =
@@ -25,14 +27,16 @@ overflow_mul-result g c =
 
 pub returns-in-Ok-clause-run : goal.returns-in-Ok-clause-run
 returns-in-Ok-clause-run g c =
-    run-ok (encoding-gives c.args.output _) (λ b i h. counted b c.in-Ok.bytes c.convert.new.taker.blocks h.1 h.0.count) c.in-Ok.ensures.run.run
+    run-ok (encoding-gives c.args.output _)
+    (λ b i h. counted b c.in-Ok.bytes c.convert.new.taker.blocks h.1 h.0.count) c.in-Ok.ensures.run.run
 
 pub returns-in-Ok-clause-whole : goal.returns-in-Ok-clause-whole
 returns-in-Ok-clause-whole g c = λ b t. (run-told (returns-in-Ok-clause-run g c) b t).4
 
 pub returns-in-Ok-clause-cells : goal.returns-in-Ok-clause-cells
 returns-in-Ok-clause-cells g c = λ blocks h t.
-    grew-is (ap (λ v. written c.args.output (stream Low v)) (file_blocks-file blocks h)) (returns-in-Ok-clause-whole g c (file blocks) t)
+    grew-is (ap (λ v. written c.args.output (stream Low v)) (file_blocks-file blocks h))
+    (returns-in-Ok-clause-whole g c (file blocks) t)
 
 pub returns-in-Ok-clause-decoded : goal.returns-in-Ok-clause-decoded
 unfolding normal
@@ -43,7 +47,8 @@ returns-in-Err-clause-run g c = run-err (encoding-gives c.args.output _) c.in-Er
 
 pub returns-in-Err-clause-owed : goal.returns-in-Err-clause-owed
 returns-in-Err-clause-owed g c = λ b t i l q k.
-    run-owed (returns-in-Err-clause-run g c) b t (no-file-cause c.args.max_bytes b (g.S.Source.has_ended c.convert.new.source) i l) q k
+    run-owed (returns-in-Err-clause-run g c) b t
+    (no-file-cause c.args.max_bytes b (g.S.Source.has_ended c.convert.new.source) i l) q k
 
 pub returns-in-Ok-clause-passed_on : goal.returns-in-Ok-clause-passed_on
 returns-in-Ok-clause-passed_on g c = c.in-Ok.ensures.passed_on

@@ -16,12 +16,16 @@ overflow_add-encoder g c =
 
 pub returns-in-Ok-None : goal.returns-in-Ok-None
 returns-in-Ok-None g c =
-    (byte-none c.args.encoder.now.output c.feed_byte.new.self c.args.byte (g.T.Sink.taken c.args.sink.now) (sym (c.in-Ok-None.is ∙ ap (λ o. Ok o) c.in-Ok-None.field-0-is) ∙ c.feed_byte.ensures.answer) c.feed_byte.ensures.next, refl)
+    (byte-none c.args.encoder.now.output c.feed_byte.new.self c.args.byte (g.T.Sink.taken c.args.sink.now)
+        (sym (c.in-Ok-None.is ∙ ap (λ o. Ok o) c.in-Ok-None.field-0-is)
+            ∙ c.feed_byte.ensures.answer) c.feed_byte.ensures.next, refl)
 
 pub returns-in-Ok : goal.returns-in-Ok
 returns-in-Ok g c = (
-  byte-block c.args.encoder.now.output c.feed_byte.new.self c.args.byte c.in-Ok-Some.block (g.T.Sink.taken c.args.sink.now) (g.T.Sink.taken c.put_cells.new.sink)
-      (sym (c.in-Ok-Some.is ∙ ap (λ o. Ok o) c.in-Ok-Some.field-0-is) ∙ c.feed_byte.ensures.answer) c.feed_byte.ensures.next
+  byte-block c.args.encoder.now.output c.feed_byte.new.self c.args.byte c.in-Ok-Some.block
+  (g.T.Sink.taken c.args.sink.now) (g.T.Sink.taken c.put_cells.new.sink)
+      (sym (c.in-Ok-Some.is ∙ ap (λ o. Ok o) c.in-Ok-Some.field-0-is)
+          ∙ c.feed_byte.ensures.answer) c.feed_byte.ensures.next
       (rw (← c.in-Ok-Some.block-is) c.in-Ok.ensures.grew),
   c.in-Ok.ensures.count,
 )
@@ -29,11 +33,15 @@ returns-in-Ok g c = (
 pub returns-in-Err-put_cells : goal.returns-in-Err-put_cells
 returns-in-Err-put_cells g c = (
   c.in-Err-put_cells.ensures.err.0,
-  byte-front c.args.encoder.now.output c.args.byte c.in-Ok-Some.block (g.T.Sink.taken c.args.sink.now) (g.T.Sink.taken c.put_cells.new.sink)
-      (sym (c.in-Ok-Some.is ∙ ap (λ o. Ok o) c.in-Ok-Some.field-0-is) ∙ c.feed_byte.ensures.answer) c.in-Err-put_cells.ensures.err.1,
+  byte-front c.args.encoder.now.output c.args.byte c.in-Ok-Some.block (g.T.Sink.taken c.args.sink.now)
+  (g.T.Sink.taken c.put_cells.new.sink)
+      (sym (c.in-Ok-Some.is ∙ ap (λ o. Ok o) c.in-Ok-Some.field-0-is)
+          ∙ c.feed_byte.ensures.answer) c.in-Err-put_cells.ensures.err.1,
 )
 
 pub returns-in-Err : goal.returns-in-Err
 returns-in-Err g c =
-    byte-refused c.args.encoder.now.output c.args.file.now c.args.encoder.now.blocks (Encodes c.feed_byte.new.self c.args.encoder.now.blocks) c.args.byte c.in-Err.fault c.from.result (g.T.Sink.taken c.args.sink.now) (g.T.Sink.failed c.args.sink.now)
+    byte-refused c.args.encoder.now.output c.args.file.now c.args.encoder.now.blocks
+    (Encodes c.feed_byte.new.self c.args.encoder.now.blocks) c.args.byte c.in-Err.fault c.from.result
+    (g.T.Sink.taken c.args.sink.now) (g.T.Sink.failed c.args.sink.now)
     c.from.ensures (sym c.in-Err.is ∙ c.feed_byte.ensures.answer)

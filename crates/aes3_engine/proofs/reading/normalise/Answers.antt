@@ -1,9 +1,11 @@
 use Rattle.aes3_cell.specs.Written.{written}
 use Rattle.aes3_lock.specs.Reports.{normal}
-use Rattle.aes3_input.proofs.InputRuns.{run-wrote, run-input, run-answer, run-fits, run-owed, run-cause, run-sink_quiet, run-refused, run-front, run-few}
+use Rattle.aes3_input.proofs.InputRuns.{run-wrote, run-input, run-answer, run-fits, run-owed, run-cause, run-sink_quiet}
+use Rattle.aes3_input.proofs.InputRuns.{run-refused, run-front, run-few}
 use Rattle.aes3_input.proofs.CellRuns.{cells-run, no-cell-cause}
 use Rattle.aes3_engine.specs.BlockRuns.{begun_stream, decided_blocks}
-use Rattle.aes3_engine.proofs.BlockRuns.{normal-whole, normal-begun, run-piece, run-damaged, run-left, run-lost, tells, run-again}
+use Rattle.aes3_engine.proofs.BlockRuns.{normal-whole, normal-begun, run-piece, run-damaged, run-left, run-lost, tells}
+use Rattle.aes3_engine.proofs.BlockRuns.{run-again}
 use Rattle.aes3_engine.proofs.reading.normalise.Goals as goal
 
 pub returns-clause-run : goal.returns-clause-run
@@ -42,7 +44,9 @@ pub returns-clause-fits : goal.returns-clause-fits
 returns-clause-fits g c = run-fits c.run_blocks.result (returns-clause-run g c)
 
 pub returns-clause-owed : goal.returns-clause-owed
-returns-clause-owed g c = λ b t i l q k. run-owed (returns-clause-run g c) b t (no-cell-cause c.args.input c.args.max_bytes b (g.S.Source.has_ended c.run_blocks.new.source) i l) q k
+returns-clause-owed g c =
+    λ b t i l q k. run-owed (returns-clause-run g c) b t
+        (no-cell-cause c.args.input c.args.max_bytes b (g.S.Source.has_ended c.run_blocks.new.source) i l) q k
 
 pub returns-clause-cause : goal.returns-clause-cause
 returns-clause-cause g c = run-cause c.run_blocks.result (λ b l. l) (returns-clause-run g c)

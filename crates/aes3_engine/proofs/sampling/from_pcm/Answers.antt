@@ -20,4 +20,5 @@ returns-in-Err-clause-run g c = run-err (sampling-gives c.args.exact c.args.chan
 
 pub returns-in-Err-clause-owed : goal.returns-in-Err-clause-owed
 returns-in-Err-clause-owed g c = λ b t i l q k.
-    run-owed (returns-in-Err-clause-run g c) b t (no-pcm-cause c.args.exact c.args.max_bytes b (g.S.Source.has_ended c.convert.new.source) i l) q k
+    run-owed (returns-in-Err-clause-run g c) b t
+    (no-pcm-cause c.args.exact c.args.max_bytes b (g.S.Source.has_ended c.convert.new.source) i l) q k

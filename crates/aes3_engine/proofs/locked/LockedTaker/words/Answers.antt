@@ -1,8 +1,10 @@
-use Rattle.std.proofs.Common.{◌≡◌, ◌+◌, ◌-◌, ◌*◌, ◌^◌, ◌≤◌, ◌++◌, length, take, drop, get_or, arith, ap, ◌∙◌, length-append, length-drop}
+use Rattle.std.proofs.Common.{◌≡◌, ◌+◌, ◌-◌, ◌*◌, ◌^◌, ◌≤◌, ◌++◌, length, take, drop, get_or, arith, ap, ◌∙◌}
+use Rattle.std.proofs.Common.{length-append, length-drop}
 use Rattle.std.specs.List.{flat_map}
 use Rattle.std.proofs.lemmas.List.{length-take-le, take_rest, take_all}
 use Rattle.aes3_cell.specs.Words.{word_len, word_cells}
-use Rattle.aes3_input.proofs.Handing.{handed-is, handed-cells, handed-cells-front, length-words, words-more, words-parted}
+use Rattle.aes3_input.proofs.Handing.{handed-is, handed-cells, handed-cells-front, length-words, words-more}
+use Rattle.aes3_input.proofs.Handing.{words-parted}
 use Rattle.aes3_engine.proofs.Locking.{handed-quiet}
 use Rattle.aes3_engine.proofs.locked.LockedTaker.words.Goals as goal
 
@@ -28,8 +30,10 @@ returns-then-at-words g c =
     let v = c.loop-at.invariant in
     let n = c.take_words-at.result in
     let h =
-    handed-quiet (g.R.Reporter.writes c.loop-at.self.reporter) c.loop-at.self.lock c.take_words-at.new.self (g.R.Reporter.follows c.loop-at.self.reporter)
-    ws (take (length ws - at) (drop at ws)) at n (take_rest ws at) v.handed c.take_words-at.ensures.follows c.take_words-at.ensures.none in
+    handed-quiet (g.R.Reporter.writes c.loop-at.self.reporter) c.loop-at.self.lock c.take_words-at.new.self
+    (g.R.Reporter.follows c.loop-at.self.reporter)
+    ws (take (length ws - at) (drop at ws)) at n
+    (take_rest ws at) v.handed c.take_words-at.ensures.follows c.take_words-at.ensures.none in
     let e = handed-is (ap (flat_map word_cells) (take_all (at + n) ws (omega arith))) h in
     record { ran = (e.same, e.follows, e.grew, v.quiet) }
 
@@ -42,8 +46,10 @@ cells-requires-clause-following g c =
     let n = c.take_words-at.result in
     let l : length q.0 + 64 * length ws ≤ 2 ^ 43 = q.1 in
     let h =
-    handed-quiet (g.R.Reporter.writes c.loop-at.self.reporter) c.loop-at.self.lock c.take_words-at.new.self (g.R.Reporter.follows c.loop-at.self.reporter)
-    ws (take (length ws - at) (drop at ws)) at n (take_rest ws at) v.handed c.take_words-at.ensures.follows c.take_words-at.ensures.none in
+    handed-quiet (g.R.Reporter.writes c.loop-at.self.reporter) c.loop-at.self.lock c.take_words-at.new.self
+    (g.R.Reporter.follows c.loop-at.self.reporter)
+    ws (take (length ws - at) (drop at ws)) at n
+    (take_rest ws at) v.handed c.take_words-at.ensures.follows c.take_words-at.ensures.none in
     let b = flat_map word_cells (take (at + n) ws) in
     let a = length-append q.0 b in
     let k = length-words (take (at + n) ws) in
@@ -59,8 +65,10 @@ loop-at-preserved g c =
     let n = c.take_words-at.result in
     let r = c.in-Ok.ensures.ran in
     let h =
-    handed-quiet (g.R.Reporter.writes c.loop-at.self.reporter) c.loop-at.self.lock c.take_words-at.new.self (g.R.Reporter.follows c.loop-at.self.reporter)
-    ws (take (length ws - at) (drop at ws)) at n (take_rest ws at) v.handed c.take_words-at.ensures.follows c.take_words-at.ensures.none in
+    handed-quiet (g.R.Reporter.writes c.loop-at.self.reporter) c.loop-at.self.lock c.take_words-at.new.self
+    (g.R.Reporter.follows c.loop-at.self.reporter)
+    ws (take (length ws - at) (drop at ws)) at n
+    (take_rest ws at) v.handed c.take_words-at.ensures.follows c.take_words-at.ensures.none in
     record {
       within = omega arith;
       handed = handed-cells (word_cells (get_or ws (at + n) 0)) (words-more ws (at + n) (omega arith)) h r.0 r.1 r.2;
@@ -76,11 +84,14 @@ returns-in-Err g c =
     let n = c.take_words-at.result in
     let r = c.in-Err.ensures.ran in
     let h =
-    handed-quiet (g.R.Reporter.writes c.loop-at.self.reporter) c.loop-at.self.lock c.take_words-at.new.self (g.R.Reporter.follows c.loop-at.self.reporter)
-    ws (take (length ws - at) (drop at ws)) at n (take_rest ws at) v.handed c.take_words-at.ensures.follows c.take_words-at.ensures.none in
+    handed-quiet (g.R.Reporter.writes c.loop-at.self.reporter) c.loop-at.self.lock c.take_words-at.new.self
+    (g.R.Reporter.follows c.loop-at.self.reporter)
+    ws (take (length ws - at) (drop at ws)) at n
+    (take_rest ws at) v.handed c.take_words-at.ensures.follows c.take_words-at.ensures.none in
     record {
       ran = (
         r.0 ∙ ap (λ k. k + 1) v.quiet,
-        handed-cells-front (word_cells (get_or ws (at + n) 0)) (flat_map word_cells (drop (at + n + 1) ws)) (words-more ws (at + n) (omega arith)) (words-parted ws (at + n + 1)) h r.1,
+        handed-cells-front (word_cells (get_or ws (at + n) 0)) (flat_map word_cells (drop (at + n + 1) ws))
+        (words-more ws (at + n) (omega arith)) (words-parted ws (at + n + 1)) h r.1,
       );
     }

@@ -14,7 +14,8 @@ pub overflow_add-self-in-Fault : goal.overflow_add-self-in-Fault
 overflow_add-self-in-Fault c = let h = c.requires in let l = h.1 in let f = (tallies-few h.2).few_faults in omega arith
 
 pub overflow_add-self-in-Unfinished : goal.overflow_add-self-in-Unfinished
-overflow_add-self-in-Unfinished c = let h = c.requires in let l = h.1 in let f = (tallies-few h.2).few_unfinished in omega arith
+overflow_add-self-in-Unfinished c = let h = c.requires in let l = h.1 in
+    let f = (tallies-few h.2).few_unfinished in omega arith
 
 pub returns-in-Whole : goal.returns-in-Whole
 returns-in-Whole c = λ r h. push-whole _ (ap (ending_report (read_words c.args.lock.now.words)) c.in-Whole.is) h
@@ -26,4 +27,5 @@ pub returns-in-Fault : goal.returns-in-Fault
 returns-in-Fault c = λ r h. push-fault _ (ap (ending_report (read_words c.args.lock.now.words)) c.in-Fault.is) h
 
 pub returns-in-Unfinished : goal.returns-in-Unfinished
-returns-in-Unfinished c = λ r h. push-unfinished _ (ap (ending_report (read_words c.args.lock.now.words)) c.in-Unfinished.is) h
+returns-in-Unfinished c =
+    λ r h. push-unfinished _ (ap (ending_report (read_words c.args.lock.now.words)) c.in-Unfinished.is) h
