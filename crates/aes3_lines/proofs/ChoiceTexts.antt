@@ -58,7 +58,7 @@ none-more p n h g =
 pub one-found : (p : ℕ → Bool) (k n : ℕ) → k < n → p k ≡ true → list_any p (below n) ≡ true
 one-found p k n l h =
     list_any_at p (below n) k 0 (omega (arith, length-range_with_len 0 n)) (let z : 0 + k ≡ k = omega arith in
-        ap p (get_or-range_with_len 0 n k 0 l ∙ z) ∙ h)
+    ap p (get_or-range_with_len 0 n k 0 l ∙ z) ∙ h)
 
 -- ---- ASCII
 abbrev ascii : List ℕ → Bool
@@ -111,7 +111,7 @@ ascii-bits n =
     IsAscii-cons (48 + bit_at n 0) ((48 + bit_at n 1) ∷ (48 + bit_at n 2) ∷ (48 + bit_at n 3) ∷ []) (digit 0)
     (IsAscii-cons (48 + bit_at n 1) ((48 + bit_at n 2) ∷ (48 + bit_at n 3) ∷ []) (digit 1)
     (IsAscii-cons (48 + bit_at n 2) ((48 + bit_at n 3) ∷ []) (digit 2)
-        (IsAscii-cons (48 + bit_at n 3) [] (digit 3) IsAscii-nil)))
+    (IsAscii-cons (48 + bit_at n 3) [] (digit 3) IsAscii-nil)))
   where
     digit : (i : ℕ) → 48 + bit_at n i < 128
     digit i = omega (arith, bit_at-lt n i)
@@ -121,7 +121,7 @@ unfolding field_text
 ascii-field name value h g =
     IsAscii-append (codes " " ++ name ++ codes "=") value
     (IsAscii-append (codes " " ++ name) (codes "=")
-        (IsAscii-append (codes " ") name (tested (codes " ") refl) (tested name h)) (tested (codes "=") refl)) g
+    (IsAscii-append (codes " ") name (tested (codes " ") refl) (tested name h)) (tested (codes "=") refl)) g
 
 ascii-pro : (f : ProField) (under code : ℕ) → code < 256 → IsAscii (professional.pro_text f under code)
 ascii-pro pro.Payload under code l = ascii-field (codes "payload") _ refl (ascii-word payload_words code refl l)

@@ -95,5 +95,5 @@ telling-fails {h = h} m rest x e g =
     front-is
     (append_assoc h (a ++ l) (mark_lines rest)
     ∙ ap (λ z. h ++ z) (append_assoc a l (mark_lines rest) ∙ sym (flat_map-append line_of x.told (m ∷ rest))
-        ∙ ap mark_lines (ap (λ z. x.told ++ z) (sym e) ∙ x.is)))
+    ∙ ap mark_lines (ap (λ z. x.told ++ z) (sym e) ∙ x.is)))
     (front-more (held-front l x.held g) (mark_lines rest))

@@ -65,9 +65,9 @@ line-is m before upper last some few fits =
     let front = mark_beginning m ++ decimal (10000 * upper + last) in
     sym (append_assoc (mark_beginning m ++ decimal upper) p (mark_ending before))
     ∙ ap (λ x. x ++ mark_ending before) (append_assoc (mark_beginning m) (decimal upper) p
-        ∙ ap (λ x. mark_beginning m ++ x) (upper-last upper last some few fits))
+    ∙ ap (λ x. mark_beginning m ++ x) (upper-last upper last some few fits))
     ∙ sym (ap (λ x. x ++ 10 ∷ []) (append_assoc front (codes " before ") (level_digit before))
-        ∙ append_assoc front (codes " before " ++ level_digit before) (10 ∷ []))
+    ∙ append_assoc front (codes " before " ++ level_digit before) (10 ∷ []))
 
 pub length-beginning : (m : Mark) → length (mark_beginning m) ≡ 10
 length-beginning X = refl

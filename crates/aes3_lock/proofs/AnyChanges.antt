@@ -115,7 +115,7 @@ module _ (s : Level) (b d : List (List Bool)) (h : IsBlock b) (g : IsBlock d) wh
       let v = length-block_cells s d g in
       (block-kept s b h x (omega arith)).preamble o
       ∙ ap (shape (mark_at (x / 64)) (x % 64)) (block-level s b h (x / 64) (omega arith)
-          ∙ sym (block-level s d g (x / 64) (omega arith)))
+      ∙ sym (block-level s d g (x / 64) (omega arith)))
       ∙ sym ((block-kept s d g x (omega arith)).preamble o)
 
   even-alike : (x : ℕ) → suc x < block_len → 8 ≤ suc x % 64 → suc x % 2 ≡ 0
@@ -156,8 +156,8 @@ module _ (s : Level) (b d : List (List Bool)) (h : IsBlock b) (g : IsBlock d) wh
       go (inr a) (inl p) r =
           let i : suc (x - 1) ≡ x = omega arith in
           absurd (n (ap (at (block_cells s b)) (sym i)
-              ∙ even-alike (x - 1) (omega arith) (omega arith) (omega arith) (k (x - 1) (omega arith))
-              ∙ ap (at (block_cells s d)) i))
+          ∙ even-alike (x - 1) (omega arith) (omega arith) (omega arith) (k (x - 1) (omega arith))
+          ∙ ap (at (block_cells s d)) i))
       go (inr a) (inr p) (inl r) = absurd (n (last-alike x l r))
       go (inr a) (inr p) (inr r) =
           let m = block_len_24576 in (
@@ -241,7 +241,7 @@ places-tell : (xs : List ℕ) (s : Level) (b d : List (List Bool)) → IsBlock b
     → left_of xs b ≡ d ∷ []
 places-tell [] s b d h g e =
     let q = places-nothing 0 (block_cells s b) (block_cells s d) (length-block_cells s b h
-        ∙ sym (length-block_cells s d g)) e in
+    ∙ sym (length-block_cells s d g)) e in
     ap (λ b. b ∷ []) (block_cells-unique s s b d h g q).1
 places-tell (x ∷ []) s b d h g e = absurd (not-one s b d h g x e)
 places-tell (x ∷ y ∷ ys) s b d h g e =
@@ -344,7 +344,7 @@ stands-after (x ∷ y ∷ ys) b d s c e z l p q =
   where
     go : ((y == suc x && between_slots x) ≡ true) ⊎ ((y == suc x && between_slots x) ≡ false)
         → (StandsClosed (exchanged x b) s (changed (suc x) (changed x c))
-            → length e ≡ length (changed (suc x) (changed x c))
+        → length e ≡ length (changed (suc x) (changed x c))
         → places_apart 0 (take (suc block_len) (changed (suc x) (changed x c))) (take (suc block_len) e) ≡ ys
         → left_of ys (exchanged x b) ≡ d ∷ [] → StandsClosed d s e)
         → StandsClosed d s e
@@ -370,6 +370,7 @@ stands-after (x ∷ y ∷ ys) b d s c e z l p q =
 
 pub changes-tell : (b d : List (List Bool)) (s : Level) (c e : List Level) → StandsClosed b s c → length e ≡ length c
     → StandsClosed d s e ↔ (left_of (places_apart 0 (take (suc block_len) c) (take (suc block_len) e)) b ≡ d ∷ [])
-changes-tell b d s c e z l =
-    (λ w. told b d s c e z w l,
-        λ q. stands-after (places_apart 0 (take (suc block_len) c) (take (suc block_len) e)) b d s c e z l refl q)
+changes-tell b d s c e z l = (
+  λ w. told b d s c e z w l,
+  λ q. stands-after (places_apart 0 (take (suc block_len) c) (take (suc block_len) e)) b d s c e z l refl q,
+)

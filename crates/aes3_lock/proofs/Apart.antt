@@ -71,7 +71,7 @@ count-step n f x y c d r w h one all (inl z) =
     (λ v o. let a = r (suc v) (omega arith) in let b = above v (omega arith) in omega arith)
     (λ v o. let a = w (suc v) (omega arith) in let b = above v o in omega arith)
     (λ v o q. let b = above v o in let e : f (suc v) ≡ suc (f (suc v) - 1) = omega arith in
-        h (suc v) (omega arith) (ap (at (x ∷ c)) e ∙ q ∙ ap (at (y ∷ d)) (sym e))) in
+    h (suc v) (omega arith) (ap (at (x ∷ c)) e ∙ q ∙ ap (at (y ∷ d)) (sym e))) in
     rw t (omega arith)
   where
     above : (v : ℕ) → v < n → 1 ≤ f (suc v)
@@ -81,7 +81,7 @@ count-step n f x y c d r w h one all (inr z) =
     (λ v o. let a = r v o in let b = above v (omega arith) in omega arith)
     (λ v o. let a = w v o in let b = above v o in omega arith)
     (λ v o q. let b = above v o in let e : f v ≡ suc (f v - 1) = omega arith in
-        h v o (ap (at (x ∷ c)) e ∙ q ∙ ap (at (y ∷ d)) (sym e))) in
+    h v o (ap (at (x ∷ c)) e ∙ q ∙ ap (at (y ∷ d)) (sym e))) in
     let m = apart-more x y c d in
     omega arith
   where
@@ -126,7 +126,7 @@ count-parts m (suc n) c d h =
     let b = count-parts m n (drop 64 c) (drop 64 d) (λ j l.
     let e : 64 + 64 * j ≡ 64 * suc j = omega arith in
     let f : (x : List Level) → drop (64 * j) (drop 64 x) ≡ drop (64 * suc j) x =
-        λ x. drop-drop (64 * j) 64 x ∙ ap (λ k. drop k x) e in
+    λ x. drop-drop (64 * j) 64 x ∙ ap (λ k. drop k x) e in
     rw (f c, f d) (h (suc j) (omega arith))) in
     let g = apart-split 64 c d in
     let k : m * suc n ≡ m + m * n = omega arith in

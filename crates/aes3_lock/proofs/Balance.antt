@@ -86,7 +86,7 @@ pub even-apart : (s t : Level) (b d : List (List Bool)) → IsBlock b → IsBloc
     → apart (block_cells s b) (block_cells t d) % 2 ≡ 0
 even-apart s t b d h g =
     let a = apart-high (block_cells s b) (block_cells t d) (length-block_cells s b h
-        ∙ sym (length-block_cells t d g)) in
+    ∙ sym (length-block_cells t d g)) in
     let u = high-block s b h in
     let v = high-block t d g in
     let n = h.count in

@@ -29,8 +29,11 @@ right-with_parity (p ∷ b) =
 pub each27-payloads_of : (slots : List (List Bool)) → Each28 slots → Each27 (payloads_of slots)
 unfolding payload_len
 each27-payloads_of [] e = tt
-each27-payloads_of (bits ∷ more) e = (let l = length-take 27 bits in let n = e.0 in
-    omega arith, each27-payloads_of more e.1)
+each27-payloads_of (bits ∷ more) e = (
+  let l = length-take 27 bits in let n = e.0 in
+      omega arith,
+  each27-payloads_of more e.1,
+)
 
 with_parity-payloads : (bits : List Bool) → length bits ≡ 28 → odd_ones bits ≡ false
     → with_parity (take payload_len bits) ≡ bits
@@ -55,5 +58,7 @@ slots-right (bits ∷ more) e w = go (cases_Bool (odd_ones bits)) (slots-right m
 pub block-payloads : (slots : List (List Bool)) → length slots ≡ block_slots → Each28 slots
     → IsBlock (payloads_of slots)
 block-payloads slots n e =
-    record { count = length-map slots (take payload_len) ∙ n;
-        payloads = all-payloads (payloads_of slots) (each27-payloads_of slots e) }
+    record {
+      count = length-map slots (take payload_len) ∙ n;
+      payloads = all-payloads (payloads_of slots) (each27-payloads_of slots e);
+    }

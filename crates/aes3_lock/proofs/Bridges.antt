@@ -48,16 +48,16 @@ module _ (s : Level) (bs : List (List (List Bool))) (h : EachBlock bs) where
         let a = stream-aligned s bs h (mark_at j) t (p + 64 * j)
         (stands-from (mark_at j) t (stream s bs) (p + 64 * j) (omega arith)
         (λ k b. let e : p + 64 * j + k ≡ p + (64 * j + k) = omega arith in
-            ap (at (stream s bs)) e ∙ sym (early (64 * j + k) (omega arith)) ∙ own-mark j k l b)) in
+        ap (at (stream s bs)) e ∙ sym (early (64 * j + k) (omega arith)) ∙ own-mark j k l b)) in
         (a.0, a.2)
 
     behind-it : (j : ℕ) → j < 384 → m ≤ 64 * j → (suc p + 64 * j) % 64 ≡ 0
     behind-it j l o =
         let r = room in
         (stream-aligned s bs h (mark_at j) t (suc p + 64 * j)
-            (stands-from (mark_at j) t (stream s bs) (suc p + 64 * j) (omega arith)
+        (stands-from (mark_at j) t (stream s bs) (suc p + 64 * j) (omega arith)
         (λ k b. let e : suc p + 64 * j + k ≡ suc p + (64 * j + k) = omega arith in
-            ap (at (stream s bs)) e ∙ sym (late (64 * j + k) (omega arith) (omega arith)) ∙ own-mark j k l b))).0
+        ap (at (stream s bs)) e ∙ sym (late (64 * j + k) (omega arith) (omega arith)) ∙ own-mark j k l b))).0
 
     -- it lies behind the first preamble and before the last subframe
     in-middle : 8 ≤ m → m ≤ 24512 → ⊥
@@ -90,7 +90,7 @@ module _ (s : Level) (bs : List (List (List Bool))) (h : EachBlock bs) where
             let n = room in
             let v = some in
             turn (begun (suc p) next (omega arith) ∙ sym (begun-second (suc p) next (omega arith))
-                ∙ ap (at (stream s bs)) (sym e)
+            ∙ ap (at (stream s bs)) (sym e)
             ∙ sym (late 1 (omega arith) (lit< tt)) ∙ second ∙ sym first)
         go (inr o) =
             let e : p + 1 ≡ suc p = omega arith in
@@ -107,7 +107,7 @@ module _ (s : Level) (bs : List (List (List Bool))) (h : EachBlock bs) where
         let e : suc p + 24575 ≡ p + 24576 = omega arith in
         let last : at (block_cells t d) 24575 ≡ t = block-level t d g 384 (omega arith) in
         other_ne s (sym (begun (p + 24576) (omega arith) (omega arith)) ∙ ap (at (stream s bs)) (sym e)
-            ∙ sym (late 24575 (omega arith) (lit< tt)) ∙ last ∙ x.1)
+        ∙ sym (late 24575 (omega arith) (lit< tt)) ∙ last ∙ x.1)
 
     pub no-bridge : ⊥
     no-bridge = go (cases_lt m 8) (cases_lt 24512 m)

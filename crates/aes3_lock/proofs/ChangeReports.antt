@@ -52,7 +52,7 @@ reports-each p (x ∷ c) r h =
   where
     go : (o : Option Outcome) → outcome_at (x ∷ c) ≡ o
         → (Contains (reports_from (suc p) c) r → (k : ℕ) × (o : Outcome) × (outcome_at (drop k c) ≡ Some o)
-            × (r ≡ report_of (suc p + k) o))
+        × (r ≡ report_of (suc p + k) o))
         → Contains (told p o) r ⊎ Contains (reports_from (suc p) c) r
         → (k : ℕ) × (o : Outcome) × (outcome_at (drop k (x ∷ c)) ≡ Some o) × (r ≡ report_of (p + k) o)
     go None e more (inl a) = absurd (let l = a.1 in omega arith)
@@ -73,7 +73,7 @@ reports-all p (x ∷ c) (suc k) o e =
     let z : suc p + k ≡ p + suc k = omega arith in
     subst (λ n. Contains (reports_from p (x ∷ c)) (report_of n o)) z
     (Contains-append_right (told p (outcome_at (x ∷ c))) (reports_from (suc p) c) (report_of (suc p + k) o)
-        (reports-all (suc p) c k o e))
+    (reports-all (suc p) c k o e))
 
 pub place-report : (p : ℕ) (o : Outcome) → place_of (report_of p o) ≡ p
 place-report p (whole s b) = refl
@@ -112,7 +112,7 @@ block-at s (suc n) (b ∷ bs) h l =
       r.2,
       ap (λ k. drop k (stream s (b ∷ bs))) e ∙ sym (drop-drop (n * block_len) block_len (stream s (b ∷ bs)))
           ∙ ap (drop (n * block_len)) (ap (drop block_len) (stream-cons s b bs h.0)
-              ∙ drop_at (block_cells s b) (stream s bs) block_len (length-block_cells s b h.0)) ∙ r.3,
+          ∙ drop_at (block_cells s b) (stream s bs) block_len (length-block_cells s b h.0)) ∙ r.3,
     )
 
 -- the rule speaks of no cell behind
@@ -122,8 +122,10 @@ kept-same marks s c d x h k =
     let a = h x (omega arith) in
     let b = behind x (omega arith) in
     let e = behind (64 * (x / 64)) (omega arith) in
-    record { preamble = λ p. sym a ∙ k.preamble p ∙ ap (shape (marks (x / 64)) (x % 64)) e;
-        slot = λ p q. sym a ∙ k.slot p q ∙ ap other b }
+    record {
+      preamble = λ p. sym a ∙ k.preamble p ∙ ap (shape (marks (x / 64)) (x % 64)) e;
+      slot = λ p q. sym a ∙ k.slot p q ∙ ap other b;
+    }
   where
     behind : (y : ℕ) → y ≤ x → before s c y ≡ before s d y
     behind zero l = refl
@@ -203,7 +205,7 @@ module _ (s : Level) (bs : List (List (List Bool))) (h : EachBlock bs) (i j : �
       ∙ line-cell s bs (own.0 ∷ own.1) i j (i + q) x (omega arith) (omega arith) own.3
       ∙ ap (λ c. at c x) (stream-cons s own.0 own.1 is-block)
       ∙ get_or_append_left (block_cells s own.0) (stream s own.1) Low x (let n = length-block_cells s own.0 is-block in
-          omega arith)
+      omega arith)
 
   turned : at damaged (k - q) ≡ other (at (block_cells s own.0) (k - q))
   turned =
@@ -259,7 +261,7 @@ module _ (s : Level) (bs : List (List (List Bool))) (h : EachBlock bs) (i j : �
         let o = behind in
         stands-from Z s damaged 0 (omega arith)
         (λ x l. let z : 0 + x ≡ x = omega arith in ap (at damaged) z ∙ cell x (omega arith) (λ n. omega arith)
-            ∙ mark-cell x l)
+        ∙ mark-cell x l)
 
     keeps-so-far : (x : ℕ) → x < k - q → keeps s damaged x ≡ true
     keeps-so-far x l =
@@ -268,7 +270,7 @@ module _ (s : Level) (bs : List (List (List Bool))) (h : EachBlock bs) (i j : �
         let o = low in
         keeps-from-kept s damaged x
         (kept-same mark_at s (block_cells s own.0) damaged x (λ y u. sym (cell y (omega arith) (λ v. omega arith)))
-            (block-kept s own.0 is-block x (omega arith)))
+        (block-kept s own.0 is-block x (omega arith)))
 
     told-at : (o : Outcome) → outcome damaged ≡ o → covers k (report_of q o) ≡ true
     told-at (whole t f) e = absurd (none f t (whole-standing f t damaged e))
@@ -277,7 +279,7 @@ module _ (s : Level) (bs : List (List (List Bool))) (h : EachBlock bs) (i j : �
         let w = high in
         let o = low in
         let a = fault-behind s damaged (k - q) f (stands-entry Z s damaged stands) (omega arith) (let n = enough in
-            omega arith) keeps-so-far e in
+        omega arith) keeps-so-far e in
         le-leb k (q + f) (omega arith)
     told-at (unfinished n) e = absurd (enough-finished damaged n enough e)
 
@@ -308,7 +310,7 @@ module _ (s : Level) (bs : List (List (List Bool))) (h : EachBlock bs) (i j : �
             let w = early in
             other_ne (shape Z (k - q) s)
             (ap other (sym (mark-cell (k - q) (omega arith))) ∙ sym turned ∙ seen (k - q) (omega arith)
-                ∙ ap (shape Z (k - q)) e)
+            ∙ ap (shape Z (k - q)) e)
 
         go : (k - q ≡ 0) ⊎ (k - q ≡ 0 → ⊥) → ⊥
         go (inl e) = clash (level 1 (lit< tt) (λ n. omega arith))

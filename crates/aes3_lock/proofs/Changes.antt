@@ -90,7 +90,7 @@ module _ (s : Level) (bs : List (List (List Bool))) (h : EachBlock bs) (i j : �
         go (inl q) = sym (now-at z l) ∙ sym q ∙ was-at z l o
         go (inr q) =
             absurd (n (let r = places-has 0 z was now (seen z l o) lengths q in
-                let y : 0 + z ≡ z = omega arith in rw y at r))
+            let y : 0 + z ≡ z = omega arith in rw y at r))
 
     turned : (z : ℕ) → Has z places → (z ≤ block_len) × (p + z < j)
         × (at (drop (p - i) e) z ≡ other (at (stream s (b ∷ more)) z))
@@ -115,7 +115,7 @@ module _ (s : Level) (bs : List (List (List Bool))) (h : EachBlock bs) (i j : �
         (exchanged-block r.cell b g.0)
         cells
         (kept (block_len - 1) (omega arith) (omega arith)
-            (others (block_len - 1) (λ q. omega arith) (λ q. omega arith)))
+        (others (block_len - 1) (λ q. omega arith) (λ q. omega arith)))
         (λ k. kept block_len (omega arith) k (others block_len (λ q. omega arith) (λ q. omega arith)))
       where
         first : Has r.cell places
@@ -155,7 +155,7 @@ module _ (s : Level) (bs : List (List (List Bool))) (h : EachBlock bs) (i j : �
             kept y (omega arith) (omega arith) (others y a c)
             ∙ sym (own-cell-at s bs h i j order within e same p b more low high g rest y l)
             ∙ sym (at-others (suc r.cell) (changed r.cell (block_cells s b)) y c
-                ∙ at-others r.cell (block_cells s b) y a)
+            ∙ at-others r.cell (block_cells s b) y a)
 
         cells : take block_len (drop (p - i) e) ≡ block_cells s (exchanged r.cell b)
         cells =
@@ -168,7 +168,7 @@ module _ (s : Level) (bs : List (List (List Bool))) (h : EachBlock bs) (i j : �
             let x = turned r.cell first in
             let y : r.cell < block_len = (let m = block_len_24576 in let a = x.0 in omega arith) in
             let z = length-take-le block_len (drop (p - i) e) (let y = length-drop (p - i) e in let m = same in
-                omega arith) in
+            omega arith) in
             ext_get_or Low (take block_len (drop (p - i) e)) (changed (suc r.cell) (changed r.cell (block_cells s b)))
             (z ∙ sym n ∙ sym f ∙ sym k)
             (λ y o. get_or-take block_len (drop (p - i) e) y Low (omega arith)
@@ -267,7 +267,7 @@ module _ (s : Level) (bs : List (List (List Bool))) (h : EachBlock bs) (i j : �
                 (seen (suc r.place) (omega arith) (omega arith))
                 (λ q. r.one (first r.place (omega arith) q)) (λ q. r.two (first (suc r.place) (omega arith) q))
                 (λ y o a c. let v = unseen y o in was-at y v.0 v.1 ∙ sym (one y v.0 v.1 a c (cases_lt y block_len))
-                    ∙ sym (now-at y v.0))
+                ∙ sym (now-at y v.0))
                 ∙ ap₂ (λ m n. m ∷ n ∷ []) k f
               where
                 first : (y : ℕ) → y < block_len → at was y ≡ at now y → at (block_cells s b) y ≡ at (block_cells s f) y
@@ -303,7 +303,7 @@ module _ (s : Level) (bs : List (List (List Bool))) (h : EachBlock bs) (i j : �
         go (inl q) c =
             here-some 0 b s (drop (p - i) e)
             (own-stays s bs h i j order within e same p b more low high g rest
-                (λ x l o. kept x l o (λ m. subst (Has x) q m)))
+            (λ x l o. kept x l o (λ m. subst (Has x) q m)))
             ∙ ap (λ xs. left_of xs b) (sym q)
         go (inr n) (inl r) = here-some 0 (exchanged r.cell b) s (drop (p - i) e) (exchange r)
             ∙ sym (pair-left places b r)

@@ -105,7 +105,6 @@ pub other-mark : (m : Mark) (s t : Level) (r : Option (Mark × Level)) → r ≡
 unfolding is_Z
 other-mark m s t r e b f = true≢false (sym (ap is_Z (sym e ∙ f)) ∙ b)
 
-
 -- a cell that goes on with a candidate
 pub goes : (o : ℕ) (x b p q : Level) (r : Bool) → r ≡ ltb o block_len && rule mark_at o x b p → p ≡ q → r ≡ true
     → (o < block_len) × (rule mark_at o x b q ≡ true)

@@ -103,8 +103,12 @@ nearest s b d h g e = go (equal-blocks b d)
         let r = blocks-pair s b d h g n in
         let w = r.within in
         let l = length-block_cells s b h in
-        record { cell = r.place; within = omega arith; between = between-true r.place r.between;
-            is = pair-exchanged s b d h g (omega arith) r }
+        record {
+          cell = r.place;
+          within = omega arith;
+          between = between-true r.place r.between;
+          is = pair-exchanged s b d h g (omega arith) r;
+        }
 
 pub exchanged-is : (s : Level) (b : List (List Bool)) (x : ℕ) → IsBlock b → suc x < block_len → between_slots x ≡ true
     → IsBlock (exchanged x b) × (block_cells s (exchanged x b) ≡ changed (suc x) (changed x (block_cells s b)))
@@ -186,7 +190,7 @@ module _ (s : Level) (bs : List (List (List Bool))) (i j : ℕ) (c : List Level)
   change-reported o =
       let d = drop q (changed k (take (j - i) (drop i (stream s bs)))) in
       let e : drop q (changed k c) ≡ drop q (changed k (take (j - i) (drop i (stream s bs)))) =
-          ap (λ x. drop q (changed k x)) p.is in
+      ap (λ x. drop q (changed k x)) p.is in
       let f : outcome_at (drop q (changed k c)) ≡ Some (outcome (drop q (changed k c))) =
       subst (λ x. outcome_at x ≡ Some (outcome x)) (sym e)
       (change-outcome s bs (each-block bs p.blocks) i j p.order p.within k inside q place whole l.behind l.before o) in

@@ -75,7 +75,7 @@ module _ (s : Level) (bs : List (List (List Bool))) (h : EachBlock bs) (i j : �
       let b = apart-drop (p - i) (take (j - i) (drop i (stream s bs))) e in
       let c = apart-take block_len (drop (p - i) (take (j - i) (drop i (stream s bs)))) (drop (p - i) e) in
       let w = ap₂ apart (piece-window i j (p - i) block_len (stream s bs) (omega arith)
-          ∙ ap (λ k. take block_len (drop k (stream s bs))) q) z.cells in
+      ∙ ap (λ k. take block_len (drop k (stream s bs))) q) z.cells in
       omega arith
 
   -- none stands where none began
@@ -144,11 +144,11 @@ module _ (s : Level) (bs : List (List (List Bool))) (h : EachBlock bs) (i j : �
         let m = block_len_24576 in
         let n = length-block_cells s b g.0 in
         let l = length-take-le block_len (drop (p - i) e) (let l = length-drop (p - i) e in let m = same in
-            omega arith) in
+        omega arith) in
         own-stands b g.0
         (ext_get_or Low (take block_len (drop (p - i) e)) (block_cells s b) (l ∙ sym n)
         (λ x o. get_or-take block_len (drop (p - i) e) x Low (omega arith) ∙ u x (omega arith) (omega arith)
-            ∙ sym (own-cell-at x (omega arith))))
+        ∙ sym (own-cell-at x (omega arith))))
         (u (block_len - 1) (omega arith) (omega arith)) (λ o. u block_len (omega arith) o)
 
     -- it isn't given where one of these was

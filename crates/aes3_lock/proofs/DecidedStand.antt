@@ -21,5 +21,5 @@ decided-stand c more =
     let r = decided-more c more in (
       r.0 ++ final 0 (c ++ more),
       reports-split 0 (c ++ more) ∙ ap (λ x. x ++ final 0 (c ++ more)) r.1
-      ∙ append_assoc (decided_from 0 c) r.0 (final 0 (c ++ more)),
+          ∙ append_assoc (decided_from 0 c) r.0 (final 0 (c ++ more)),
     )

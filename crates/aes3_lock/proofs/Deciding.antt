@@ -85,7 +85,7 @@ outcome-stays c d o h =
     outcome_is (c ++ d)
     ∙ ap (λ s. outcome_by s (front (entry (c ++ d)) (c ++ d)) (length (c ++ d))
     (same (at (c ++ d) (front (entry (c ++ d)) (c ++ d)))
-        (before (entry (c ++ d)) (c ++ d) (front (entry (c ++ d)) (c ++ d)))) (read_slots block_slots (c ++ d))) e0
+    (before (entry (c ++ d)) (c ++ d) (front (entry (c ++ d)) (c ++ d)))) (read_slots block_slots (c ++ d))) e0
     ∙ ap₂ (λ n b. outcome_by (entry c) n (length (c ++ d)) b (read_slots block_slots (c ++ d))) ef b
     ∙ outcome_by-same (entry c) f (length (c ++ d)) (length c) (same (at c f) (before (entry c) c f))
     (read_slots block_slots (c ++ d)) (read_slots block_slots c)
@@ -161,7 +161,7 @@ front-eight c e = go (cases_lt (front (entry c) c) 8)
         let big = block-room in
         let f = front-is (entry c) c in
         absurd (true≢false (sym (keeps-first c (front (entry c) c) h (begins-stands Z c e))
-            ∙ f.stops (omega (arith, room, big, h))))
+        ∙ f.stops (omega (arith, room, big, h))))
 
 -- eight cells decide nothing
 pub short : (c : List Level) → length c ≤ 8 → decided_at c ≡ None

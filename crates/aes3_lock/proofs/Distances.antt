@@ -106,7 +106,7 @@ module _ (s : Level) (bs : List (List (List Bool))) (h : EachBlock bs) (t : Leve
           (λ z o q.
           let e : p + 64 * j + a.0 ≡ p + (64 * j + a.0) = omega arith in
           a.2 (ap (at (stream s bs)) e ∙ sym (window-cell (64 * j + a.0) (omega arith))
-              ∙ sym (part-cell j a.0 (take block_len (drop p (stream s bs))) (omega arith))
+          ∙ sym (part-cell j a.0 (take block_len (drop p (stream s bs))) (omega arith))
           ∙ q ∙ part-cell j a.0 (block_cells t d) (omega arith)))
 
   -- two preambles that are not the same differ at two places
@@ -124,11 +124,11 @@ module _ (s : Level) (bs : List (List (List Bool))) (h : EachBlock bs) (t : Leve
       let a3 = a.3 in
       let move = λ (k : ℕ) (o : k < 8)
       (ne : shape (stream_marks (q + j)) k (before s (stream s bs) (64 * (q + j))) ≡ shape (mark_at j) k
-          (before t (block_cells t d) (64 * j)) → ⊥)
+      (before t (block_cells t d) (64 * j)) → ⊥)
       (z : at (take block_len (drop p (stream s bs))) (64 * j + k) ≡ at (block_cells t d) (64 * j + k)).
       let f : 64 * (q + j) + k ≡ p + (64 * j + k) = omega arith in
       ne (sym (own-cell stream_marks s (stream s bs) (stream-kept s bs h) (q + j) k (omega arith) o)
-          ∙ ap (at (stream s bs)) f
+      ∙ ap (at (stream s bs)) f
       ∙ sym (window-cell (64 * j + k) (omega arith)) ∙ z
       ∙ own-cell mark_at t (block_cells t d) (block-kept t d g) j k (omega arith) o) in
       (a.0, a.1, a2, a3, move a.0 (omega arith) a.4, move a.1 a3 a.5)
@@ -159,10 +159,10 @@ module _ (s : Level) (bs : List (List (List Bool))) (h : EachBlock bs) (t : Leve
           × (at (take block_len (drop p (stream s bs))) (64 * 0 + x) ≡ at (block_cells t d) (64 * 0 + x) → ⊥)
           × (at (take block_len (drop p (stream s bs))) (64 * 0 + y) ≡ at (block_cells t d) (64 * 0 + y) → ⊥))
           → ((x y : ℕ) × (x < y) × (y < 8)
-              × (at (take block_len (drop p (stream s bs))) (64 * (384 - p / 64 % 384) + x) ≡ at (block_cells t d)
-                  (64 * (384 - p / 64 % 384) + x) → ⊥)
+          × (at (take block_len (drop p (stream s bs))) (64 * (384 - p / 64 % 384) + x) ≡ at (block_cells t d)
+          (64 * (384 - p / 64 % 384) + x) → ⊥)
           × (at (take block_len (drop p (stream s bs))) (64 * (384 - p / 64 % 384) + y) ≡ at (block_cells t d)
-              (64 * (384 - p / 64 % 384) + y) → ⊥))
+          (64 * (384 - p / 64 % 384) + y) → ⊥))
           → 4 ≤ apart (take block_len (drop p (stream s bs))) (block_cells t d)
       two u v =
           let x = window-length in
@@ -281,7 +281,7 @@ module _ (s : Level) (bs : List (List (List Bool))) (h : EachBlock bs) (t : Leve
           (λ z o. absurd (omega arith)) (λ z o. omega arith)
           (λ z o q.
           w.4 (sym (part-cell j w.0 (take block_len (drop p (stream s bs))) (omega arith)) ∙ q
-              ∙ part-cell j w.0 (block_cells t d) (omega arith)))
+          ∙ part-cell j w.0 (block_cells t d) (omega arith)))
         where
           by-two : p % 64 ≡ 0 → (p / 64) % 2 ≡ 1
           by-two a = step (cases_eq ((p / 64) % 2) 0)

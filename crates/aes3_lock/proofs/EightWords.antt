@@ -41,8 +41,8 @@ pub one-completed : (len begun x front : ℕ) (words subframes : List ℕ) (i : 
     → low_cells len front ≡ begun_before len begun words i
     → word_cells x ≡ low_cells len front ++ take (64 - len) (word_cells (get_or words i 0))
     → ((j : ℕ) → j < i
-        → word_cells (get_or subframes j 0) ≡ begun_before len begun words j ++ take (64 - len)
-        (word_cells (get_or words j 0)))
+    → word_cells (get_or subframes j 0) ≡ begun_before len begun words j ++ take (64 - len)
+    (word_cells (get_or words j 0)))
     → (j : ℕ) → j < i + 1
     → word_cells (get_or (set subframes i x) j 0) ≡ begun_before len begun words j ++ take (64 - len)
     (word_cells (get_or words j 0))
@@ -81,7 +81,7 @@ mark-behind (suc s) i h = go (cases_eq (i % 2) 0)
     go (inr e) =
         ap (λ n. if n == 0 then mark_at (suc s) else mark_at (suc s + 1)) (let q : i % 2 ≡ 1 = omega (arith, e) in q)
         ∙ next ∙ ap (λ n. if n == 0 then Y else X) (let q : (s + 1) % 2 ≡ (s + i) % 2 = omega (arith, e) in
-            q) ∙ sym here
+        q) ∙ sym here
 
 pub right-front : (s : Level) (m : Mark) (c w : ℕ) → w ≡ 0
     → ((i : ℕ) → i < 64 → bit_at w i ≡ (if stands s m (word_cells c) i then 0 else 1))
@@ -122,7 +122,7 @@ pub lane-stands : (s : Level) (m : ℕ → Mark) (v lanes : List ℕ)
     → (i k : ℕ) → i < 8 → k < 64 → stands_even s (m i) (word_cells (get_or v i 0)) k ≡ true
 lane-stands s m v lanes told e i k h g =
     not-one (stands_even s (m i) (word_cells (get_or v i 0)) k) (sym (bit_at-zero k)
-        ∙ ap (λ x. bit_at x k) (sym ((or-zero 0 lanes e).1 i)) ∙ told.bits i k h g)
+    ∙ ap (λ x. bit_at x k) (sym ((or-zero 0 lanes e).1 i)) ∙ told.bits i k h g)
 
 and-first : (a b : Bool) → a && b ≡ true → a ≡ true
 and-first true b e = refl
@@ -224,10 +224,10 @@ module _ (k : LockState) (t : Candidate) (c : List Level) (ws xs : List ℕ) (f 
     (lw : length k.words ≡ block_slots)
     (count : length ws ≡ 8) (fit : (i : ℕ) → get_or ws i 0 < 2 ^ 64) (room : k.seen - t.at + 512 ≤ block_len)
     (joined : (i : ℕ) → i < 8
-        → word_cells (get_or xs i 0) ≡ begun_before ((k.seen - t.at) % 64) k.subframe ws i ++ take
-        (64 - (k.seen - t.at) % 64) (word_cells (get_or ws i 0)))
+    → word_cells (get_or xs i 0) ≡ begun_before ((k.seen - t.at) % 64) k.subframe ws i ++ take
+    (64 - (k.seen - t.at) % 64) (word_cells (get_or ws i 0)))
     (fronts : (i : ℕ) → i < 8
-        → IsFrontOf t.level (mark_at ((k.seen - t.at) / 64 + i)) (take 64 (word_cells (get_or xs i 0))))
+    → IsFrontOf t.level (mark_at ((k.seen - t.at) / 64 + i)) (take 64 (word_cells (get_or xs i 0))))
     (levels : (i : ℕ) → i < 8 → at (word_cells (get_or xs i 0)) 63 ≡ t.level) where
   abbrev o : ℕ
   o = k.seen - t.at
@@ -257,7 +257,7 @@ module _ (k : LockState) (t : Candidate) (c : List Level) (ws xs : List ℕ) (f 
       (omega (arith, a, l))
       ∙ sym (rest-is n) ∙ sym (take-word p (rest n) (omega arith)))
       (front-take t.level (mark_at (o / 64 + suc n)) (word_cells x) p
-          (subst (IsFrontOf t.level (mark_at (o / 64 + suc n))) (all-64 x) (fronts (suc n) h)))
+      (subst (IsFrontOf t.level (mark_at (o / 64 + suc n))) (all-64 x) (fronts (suc n) h)))
 
   -- a lock behind the first n words takes one more
   step : (n : ℕ) → n < 8 → (kn : LockState) → Follows kn (so_far n) → decided (so_far n) ≡ decided c
@@ -311,7 +311,7 @@ module _ (k : LockState) (t : Candidate) (c : List Level) (ws xs : List ℕ) (f 
             (λ u. IsFrontOf u (mark_at ((kn.seen - t.at) / 64 + 1)) (take ((kn.seen - t.at) % 64) (word_cells y)))
             (sym (levels n h))
             (subst (λ q. IsFrontOf t.level (mark_at q) (take ((kn.seen - t.at) % 64) (word_cells y)))
-                (let q : o / 64 + suc n ≡ (kn.seen - t.at) / 64 + 1 = omega (arith, place) in q)
+            (let q : o / 64 + suc n ≡ (kn.seen - t.at) / 64 + 1 = omega (arith, place) in q)
             (subst (λ q. IsFrontOf t.level (mark_at (o / 64 + suc n)) (take q (word_cells y))) part next));
       }
 
@@ -359,28 +359,53 @@ module _ (k : LockState) (t : Candidate) (c : List Level) (ws xs : List ℕ) (f 
 
 -- the lock behind so many words more
 abbrev pub lock_behind : ℕ → ℕ → Candidate → ℕ → List ℕ → ℕ → LockState
-lock_behind seen recent t subframe words n = record { seen = seen + 64 * n; recent = low_cells 8 recent;
-    candidate = Some t; subframe = subframe; words = words }
+lock_behind seen recent t subframe words n = record {
+  seen = seen + 64 * n;
+  recent = low_cells 8 recent;
+  candidate = Some t;
+  subframe = subframe;
+  words = words;
+}
 
 pub behind-none : (seen recent subframe : ℕ) (words : List ℕ) (t : Candidate) (k : Option Candidate) (c : List Level)
     → k ≡ Some t
     → Follows (record { seen = seen; recent = low_cells 8 recent; candidate = k; subframe = subframe; words = words }) c
     → Follows (lock_behind seen recent t subframe words 0) c
 behind-none seen recent subframe words t k c e f =
-    subst (λ n. Follows (record { seen = n; recent = low_cells 8 recent; candidate = Some t; subframe = subframe;
-        words = words }) c)
+    subst (λ n. Follows (record {
+      seen = n;
+      recent = low_cells 8 recent;
+      candidate = Some t;
+      subframe = subframe;
+      words = words;
+    }) c)
     (let q : seen ≡ seen + 64 * 0 = omega arith in q)
-    (subst (λ x. Follows (record { seen = seen; recent = low_cells 8 recent; candidate = x; subframe = subframe;
-        words = words }) c) e f)
+    (subst (λ x. Follows (record {
+      seen = seen;
+      recent = low_cells 8 recent;
+      candidate = x;
+      subframe = subframe;
+      words = words;
+    }) c) e f)
 
 pub behind-is : (seen recent subframe : ℕ) (words : List ℕ) (n : ℕ) (t : Candidate) (k : Option Candidate)
     (c : List Level) → k ≡ Some t
     → Follows (lock_behind seen recent t subframe words n) c
-    → Follows (record { seen = seen + 64 * n; recent = low_cells 8 recent; candidate = k; subframe = subframe;
-        words = words }) c
+    → Follows (record {
+      seen = seen + 64 * n;
+      recent = low_cells 8 recent;
+      candidate = k;
+      subframe = subframe;
+      words = words;
+    }) c
 behind-is seen recent subframe words n t k c e f =
-    subst (λ x. Follows (record { seen = seen + 64 * n; recent = low_cells 8 recent; candidate = x; subframe = subframe;
-        words = words }) c) (sym e) f
+    subst (λ x. Follows (record {
+      seen = seen + 64 * n;
+      recent = low_cells 8 recent;
+      candidate = x;
+      subframe = subframe;
+      words = words;
+    }) c) (sym e) f
 
 -- eight words of others fit as they do
 pub front-fits : (ws words : List ℕ) (at : ℕ) → length ws ≡ 8 → ws ≡ take 8 (drop at words)
@@ -400,7 +425,7 @@ pub eight-later : (k : LockState) (t : Candidate) (c : List Level) (ws xs : List
     → (k.seen - t.at) / 64 ≡ slot + n → (k.seen - t.at) % 64 ≡ len
     → k.seen - t.at + 512 ≤ block_len
     → ((i : ℕ) → i < 8
-        → word_cells (get_or xs i 0) ≡ begun_before len k.subframe ws i ++ take (64 - len) (word_cells (get_or ws i 0)))
+    → word_cells (get_or xs i 0) ≡ begun_before len k.subframe ws i ++ take (64 - len) (word_cells (get_or ws i 0)))
     → ((i : ℕ) → i < 8 → IsFrontOf t.level (mark_at (slot + i)) (take 64 (word_cells (get_or xs i 0))))
     → ((i : ℕ) → i < 8 → at (word_cells (get_or xs i 0)) 63 ≡ t.level)
     → (y : ℕ) → low_cells len y ≡ drop (64 - len) (word_cells (get_or ws 7 0)) → y < 2 ^ len
@@ -415,8 +440,8 @@ eight-later k t c ws xs f s lw count fit slot n len some even place part room jo
     subst (λ m. IsFrontOf t.level m v) (mark-even slot n i some even ∙ ap (λ q. mark_at (q + i)) (sym place)) g in
     eight-next k t c ws xs f s lw count fit room
     (subst (λ p. (i : ℕ) → i < 8
-        → word_cells (get_or xs i 0) ≡ begun_before p k.subframe ws i ++ take (64 - p) (word_cells (get_or ws i 0)))
-        (sym part) joined)
+    → word_cells (get_or xs i 0) ≡ begun_before p k.subframe ws i ++ take (64 - p) (word_cells (get_or ws i 0)))
+    (sym part) joined)
     (λ i h. front i (take 64 (word_cells (get_or xs i 0))) (fronts i h)) levels y
     (subst (λ p. low_cells p y ≡ drop (64 - p) (word_cells (get_or ws 7 0))) (sym part) yc)
     (subst (λ p. y < 2 ^ p) (sym part) few)

@@ -96,9 +96,9 @@ ending c = go (cases_lt f block_len) (cases_lt f (length c)) (cases_Bool b)
         let w = r.within in
         let e : front (entry c) c ≡ block_len = omega arith in
         let z : at c block_len ≡ before (entry c) c block_len =
-            same-true _ _ (subst (λ n. same (at c n) (before (entry c) c n) ≡ true) e x) in
+        same-true _ _ (subst (λ n. same (at c n) (before (entry c) c n) ≡ true) e x) in
         unclosed e (omega arith) (z ∙ last-cell (entry c) c) (outcome-by c ∙ ap (λ b. outcome_by f (length c) b o) x
-            ∙ by-unclosed f (length c) o h g ∙ ap fault e)
+        ∙ by-unclosed f (length c) o h g ∙ ap fault e)
     go (inr g) (inl h) (inr x) =
         let w = r.within in
         let e : front (entry c) c ≡ block_len = omega arith in
@@ -132,7 +132,7 @@ read-stands s c h = stand r.0 r.1 r.2 r.3
     r =
         let w = (front-is s c).within in
         read-runs mark_at block_slots s (take block_len c) (length-take-le block_len c (omega arith)
-            ∙ block_len_64) kept
+        ∙ block_len_64) kept
 
     stand : (slots : List (List Bool)) → length slots ≡ block_slots → Each28 slots
         → take block_len c ≡ line s (runs_of mark_at slots)
@@ -142,5 +142,8 @@ read-stands s c h = stand r.0 r.1 r.2 r.3
         ap (read_slots block_slots) (sym (take-append-drop block_len c) ∙ ap (λ x. x ++ drop block_len c) cells)
         ∙ ap (λ n. read_slots n (line s (runs_of mark_at slots) ++ drop block_len c)) (sym n)
         ∙ read_slots-line mark_at s slots (drop block_len c) e in
-        record { count = ap length q ∙ n; each = subst Each28 (sym q) e;
-            cells = cells ∙ ap (λ x. line s (runs_of mark_at x)) (sym q) }
+        record {
+          count = ap length q ∙ n;
+          each = subst Each28 (sym q) e;
+          cells = cells ∙ ap (λ x. line s (runs_of mark_at x)) (sym q);
+        }

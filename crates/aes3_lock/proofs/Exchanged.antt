@@ -161,7 +161,7 @@ runs-inverted marks s (p ∷ ps) (suc j) n h l o =
     let b = length-subframe s (marks 0) p h.0 in
     let rest = line s (runs_of (λ j. marks (suc j)) (map with_parity ps)) in
     let e : length (line s (subframe_runs (marks 0) p)) + (64 * j + (2 * n + 9)) ≡ 64 * suc j + (2 * n + 9) =
-        omega arith in
+    omega arith in
     runs-cons marks s p (inverted_in j n ps) h.0
     ∙ ap (λ c. line s (subframe_runs (marks 0) p) ++ c)
     (runs-inverted (λ j. marks (suc j)) s ps j n h.1 (omega arith) o)

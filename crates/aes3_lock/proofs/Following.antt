@@ -148,8 +148,8 @@ module _ (k : LockState) (t : Candidate) (c : List Level) (l : Level) (f : Follo
   tested =
       ap₂ (λ o b. rule mark_at o l b (at k.recent 7)) (offset k t c f s) (hand k t c f s).gathered.level
       ∙ ap (rule mark_at (length (drop t.at c)) l
-          (before (entry (drop t.at c)) (drop t.at c) (64 * (length (drop t.at c) / 64))))
-          (previous k t c f s (entry (drop t.at c)))
+      (before (entry (drop t.at c)) (drop t.at c) (64 * (length (drop t.at c) / 64))))
+      (previous k t c f s (entry (drop t.at c)))
       ∙ sym (keeps-new (entry (drop t.at c)) (drop t.at c) l)
 
   rest : drop t.at (c ++ l ∷ []) ≡ drop t.at c ++ l ∷ []
@@ -173,7 +173,7 @@ goes-on k k' t u c d f s h kept seen recent e same-at same-before g =
     let rest : drop u.at (c ++ d) ≡ drop t.at c ++ d = ap (λ n. drop n (c ++ d)) same-at
     ∙ drop-append-le t.at c d (omega (arith, w)) in
     let first : entry (drop t.at c ++ d) ≡ entry (drop t.at c) =
-        entry-append (drop t.at c) d (let l = length-drop t.at c in omega (arith, w, l)) in
+    entry-append (drop t.at c) d (let l = length-drop t.at c in omega (arith, w, l)) in
     let o = open-cells c d t.at in-hand.opened h kept in (
       record {
         seen = seen;
@@ -205,7 +205,7 @@ push-last k k' t c l f lw s r e1 e2 e3 e4 e5 = (
   anew k k' c l f e1 e2 e4 e5 (λ q g. let d = drop-push c l q g in ap open_at d.0 ∙ none q d.1 (cases_eq q t.at)) e3,
   answers k t c l f s ∙ ap (λ x. decided_from 0 c ++ told (0 + t.at) x) ends
       ∙ ap (λ p. decided_from 0 c ++ report_of p
-          (ended t.before (k.seen - t.at) (same l (at k.recent 7)) (read_words k.words)) ∷ [])
+      (ended t.before (k.seen - t.at) (same l (at k.recent 7)) (read_words k.words)) ∷ [])
       (let y : 0 + t.at ≡ t.at = omega arith in y),
 )
   where
@@ -236,7 +236,7 @@ push-last k k' t c l f lw s r e1 e2 e3 e4 e5 = (
         (ended t.before (k.seen - t.at) (same l (at k.recent 7)) (read_words k.words))
     ends = open-decides (drop t.at c) l (hand-open k t c f s) wrong
         ∙ ap Some (ap₂
-            (λ s b. ended s (length (drop t.at c)) (same l b) (read_slots block_slots (drop t.at c ++ l ∷ [])))
+        (λ s b. ended s (length (drop t.at c)) (same l b) (read_slots block_slots (drop t.at c ++ l ∷ [])))
         (sym in-hand.first) (sym (previous k t c f s (entry (drop t.at c))))
         ∙ same-slots (length (drop t.at c)) (same l (at k.recent 7)) (read_slots block_slots (drop t.at c ++ l ∷ []))
         (read_words k.words)
@@ -270,7 +270,7 @@ pub finish-open : (k : LockState) (t : Candidate) (c : List Level) → Follows k
 unfolding reports decided
 finish-open k t c f lw s = reports-split 0 c
     ∙ ap (λ x. decided_from 0 c ++ x) (final-open 0 c t.at in-hand.opened
-        ∙ ap₂ (λ p o. report_of p o ∷ []) (omega arith) says)
+    ∙ ap₂ (λ p o. report_of p o ∷ []) (omega arith) says)
   where
     in-hand : OpenAt k.subframe k.words t c
     in-hand = rw s at f.candidate

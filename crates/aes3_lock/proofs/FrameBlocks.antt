@@ -129,8 +129,11 @@ has-preamble p x f h = go (cases_eq (p % 24576) 0)
         by (inl e) = record { other = omega arith; subframe = inl (omega arith); cell = inl (omega arith) }
         by (inr (inl e)) = record { other = omega arith; subframe = inl (omega arith); cell = inr (omega arith) }
         by (inr (inr (inl e))) = record { other = omega arith; subframe = inr (omega arith); cell = inl (omega arith) }
-        by (inr (inr (inr (inl e)))) = record { other = omega arith; subframe = inr (omega arith);
-            cell = inr (omega arith) }
+        by (inr (inr (inr (inl e)))) = record {
+          other = omega arith;
+          subframe = inr (omega arith);
+          cell = inr (omega arith);
+        }
         by (inr (inr (inr (inr e)))) = absurd e
 
 pub preamble-has : (p x : ℕ) → IsPreambleCell p x → Has x (preamble_cells p)
@@ -283,9 +286,11 @@ module _ (s : Level) (bs : List (List (List Bool))) (h : EachBlock bs) (p : ℕ)
 
   pub own-unlike : (x : ℕ) → Has x (preamble_cells p) → (x < block_len)
       × (at (stream s bs) (p + x) ≡ at (block_cells s (block_from p bs)) x → ⊥)
-  own-unlike x m =
-      (within, λ q. go r.subframe r.cell (ap (λ y. at (stream s bs) (p + y)) parts ∙ q
-          ∙ ap (at (block_cells s (block_from p bs))) (sym parts)))
+  own-unlike x m = (
+    within,
+    λ q. go r.subframe r.cell (ap (λ y. at (stream s bs) (p + y)) parts ∙ q
+        ∙ ap (at (block_cells s (block_from p bs))) (sym parts)),
+  )
     where
       r : IsPreambleCell p x
       r = has-preamble p x frame m

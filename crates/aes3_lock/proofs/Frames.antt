@@ -178,8 +178,8 @@ module _ (s : Level) (bs : List (List (List Bool))) (i j : ℕ) (c e : List Leve
       let m = any-has (preamble_cells (i + q)) x (ap own (sym f) ∙ t) in
       ((unlike x m).1, changed x m))
       (λ x l t. alike x l
-          (λ m. let f : 0 + x ≡ x = omega arith in let r : true ≡ false = sym (has-any (preamble_cells (i + q)) x m)
-              ∙ ap own (sym f) ∙ t in cc))
+      (λ m. let f : 0 + x ≡ x = omega arith in let r : true ≡ false = sym (has-any (preamble_cells (i + q)) x m)
+      ∙ ap own (sym f) ∙ t in cc))
     where
       changed : (x : ℕ) → Has x (preamble_cells (i + q)) → at was x ≡ at now x → ⊥
       changed x m =
@@ -217,8 +217,8 @@ module _ (s : Level) (bs : List (List (List Bool))) (i j : ℕ) (c e : List Leve
             let v = lengths.0 in
             let y = places-has 0 x as-block now (omega arith) (sym lengths.0 ∙ lengths.1) (apart-there a) in
             absurd (single
-                (in-pairs (places_apart 0 as-block now) here d t x
-                    (subst (λ z. Has z (places_apart 0 as-block now)) f y)) r.cell)
+            (in-pairs (places_apart 0 as-block now) here d t x
+            (subst (λ z. Has z (places_apart 0 as-block now)) f y)) r.cell)
 
     pub frame-told : StandsClosed d s (drop q e) ↔ IsLeftFrom (i + q) bs (changes_from q c e) d
     frame-told = (to, from)
@@ -231,11 +231,14 @@ module _ (s : Level) (bs : List (List (List Bool))) (i j : ℕ) (c e : List Leve
             has-contains (changes_from q c e) (get_or (preamble_cells (i + q)) k y)
             (own-changed (tell.0 w) (get_or (preamble_cells (i + q)) k y)
             (contains-has (preamble_cells (i + q)) (get_or (preamble_cells (i + q)) k y)
-                (Contains-get_or (preamble_cells (i + q)) k y l)))
+            (Contains-get_or (preamble_cells (i + q)) k y l)))
 
         to : StandsClosed d s (drop q e) → IsLeftFrom (i + q) bs (changes_from q c e) d
-        to w = record { preambles = all-changed w; pairs = ap (λ ys. left_of ys here) (sym (others (all-changed w)))
-            ∙ tell.0 w }
+        to w = record {
+          preambles = all-changed w;
+          pairs = ap (λ ys. left_of ys here) (sym (others (all-changed w)))
+              ∙ tell.0 w;
+        }
 
         from : IsLeftFrom (i + q) bs (changes_from q c e) d → StandsClosed d s (drop q e)
         from r = tell.1 (ap (λ ys. left_of ys here) (others r.preambles) ∙ r.pairs)

@@ -20,7 +20,7 @@ keeps-append s c d i h =
     let f : at (c ++ d) i ≡ at c i = get_or_append_left c d Low i h in
     let g1 : before s (c ++ d) i ≡ before s c i = before-append_left s c d i (omega arith) in
     let g2 : before s (c ++ d) (64 * (i / 64)) ≡ before s c (64 * (i / 64)) =
-        before-append_left s c d (64 * (i / 64)) (omega arith) in
+    before-append_left s c d (64 * (i / 64)) (omega arith) in
     rw (f, g1, g2) refl
 
 -- the test and the rule

@@ -22,7 +22,7 @@ words-from (suc n) (w ∷ words) d l h f =
     (words-from n words (drop 64 d) (omega arith) (omega (arith, l64, h))
     (λ j g. f (suc j) (omega arith)
     ∙ ap (take 64) (ap (λ i. drop i d) (let y : 64 * suc j ≡ 64 + 64 * j = omega arith in y)
-        ∙ sym (drop-drop (64 * j) 64 d))))
+    ∙ sym (drop-drop (64 * j) 64 d))))
 
 pub words-whole : (words : List ℕ) (d : List Level) → length words ≡ block_slots → block_len ≤ length d → Filled words d
     → read_words words ≡ read_slots block_slots d

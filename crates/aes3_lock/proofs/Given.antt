@@ -31,7 +31,7 @@ module _ (s : Level) (bs : List (List (List Bool))) (h : EachBlock bs) (i j : �
     (off : (p : ℕ) → i ≤ p → p + block_len ≤ j → 0 < p % 24576 → f p ≡ [])
     (short : (p : ℕ) → i ≤ p → p < j → j < p + block_len → f p ≡ [])
     (own : (p : ℕ) (b : List (List Bool)) (more : List (List (List Bool))) → i ≤ p → p + block_len ≤ j
-        → EachBlock (b ∷ more)
+    → EachBlock (b ∷ more)
     → drop p (stream s bs) ≡ stream s (b ∷ more) → f p ≡ given p b) where
   -- at places where a block lies whole in the piece
   here : ℕ → List (List (List Bool))

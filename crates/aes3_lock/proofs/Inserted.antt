@@ -99,7 +99,7 @@ module _ (s : Level) (bs : List (List (List Bool))) (h : EachBlock bs) (k : ℕ)
           let i : block_len - 1 ≡ 24575 = omega arith in
           z.closed.turns (omega arith)
           (ap (at (drop q grown)) e ∙ late-cell q 24575 (omega arith)
-              ∙ last-cell s bs h (q + 24575) (omega arith) (omega arith)
+          ∙ last-cell s bs h (q + 24575) (omega arith) (omega arith)
           ∙ sym (ap (at (drop q grown)) i ∙ sym (cell 24575 (omega arith)) ∙ last ∙ w.1))
 
       in-front : (a : k - q < 8) → (q % 24576 ≡ 1)
@@ -121,7 +121,7 @@ module _ (s : Level) (bs : List (List (List Bool))) (h : EachBlock bs) (k : ℕ)
               (let y = length-drop (q - 1) (stream s bs) in omega arith) in
               ext_get_or Low (take block_len (drop (q - 1) (stream s bs))) (block_cells t d) (o ∙ sym n)
               (λ y l. get_or-take block_len (drop (q - 1) (stream s bs)) y Low (omega arith)
-                  ∙ get_or-drop (q - 1) (stream s bs) y Low
+              ∙ get_or-drop (q - 1) (stream s bs) y Low
               ∙ sym (as-stream s bs h d t z.block q (k - q) x few enough early there late a y (omega arith)))
 
           by : ((q - 1) % 24576 ≡ 0) ⊎ ((q - 1) % 24576 ≡ 0 → ⊥) → q % 24576 ≡ 1
@@ -172,19 +172,19 @@ module _ (s : Level) (bs : List (List (List Bool))) (h : EachBlock bs) (k : ℕ)
       let own = λ (q : ℕ). block_here 0 (drop q grown) in
       let a : length (stream s bs) ≡ suc k - block_len + (length (stream s bs) - (suc k - block_len)) = omega arith in
       let b : length grown ≡ suc k - block_len + suc (length (stream s bs) - (suc k - block_len)) =
-          (let e = grown-length in omega arith) in
+      (let e = grown-length in omega arith) in
       blocks-collect 0 grown
       ∙ collect-gather block_here (λ q. block_here 0 (drop q grown)) 0 0 grown
       (λ q l. let z : 0 + q ≡ q = omega arith in here-any (0 + q) 0 (drop q grown)
-          ∙ ap (λ m. block_here 0 (drop m grown)) (sym z))
+      ∙ ap (λ m. block_here 0 (drop m grown)) (sym z))
       ∙ ap (gather (λ q. block_here 0 (drop q grown)) 0) b
       ∙ gather-add (λ q. block_here 0 (drop q grown)) 0 (suc k - block_len)
       (suc (length (stream s bs) - (suc k - block_len)))
       ∙ ap₂ (λ u v. u ++ v)
       (gather-same (λ q. block_here 0 (drop q grown)) from 0 0 (suc k - block_len)
-          (λ q l. sym (from-early (0 + q) (omega arith))))
+      (λ q l. sym (from-early (0 + q) (omega arith))))
       (ap (λ z. z ++ gather (λ q. block_here 0 (drop q grown)) (suc (0 + (suc k - block_len)))
-          (length (stream s bs) - (suc k - block_len))) none
+      (length (stream s bs) - (suc k - block_len))) none
       ∙ gather-same (λ q. block_here 0 (drop q grown)) from (suc (0 + (suc k - block_len))) (0 + (suc k - block_len))
       (length (stream s bs) - (suc k - block_len))
       (λ q l.
@@ -256,7 +256,7 @@ module _ (s : Level) (bs : List (List (List Bool))) (h : EachBlock bs) (k : ℕ)
     behind l = from-early p (omega arith)
         ∙ here-some 0 b s (drop p grown)
         (stands-local b s (drop p (stream s bs)) (drop p grown)
-            (sym (window-before p (suc block_len) (omega arith))) stands)
+        (sym (window-before p (suc block_len) (omega arith))) stands)
 
     ahead : k ≤ p → from p ≡ b ∷ []
     ahead l =
@@ -307,7 +307,7 @@ module _ (s : Level) (bs : List (List (List Bool))) (h : EachBlock bs) (k : ℕ)
                   let i : suc (y - 1) ≡ y = omega arith in
                   let j : suc p + (y - 1) ≡ p + y = omega arith in
                   sym (ap (at (drop (suc p) grown)) (sym i) ∙ late-cell (suc p) (y - 1) (omega arith)
-                      ∙ ap (at (stream s bs)) j)
+                  ∙ ap (at (stream s bs)) j)
 
           same : take (suc block_len) (drop p (stream s bs)) ≡ take (suc block_len) (drop (suc p) grown)
           same =
@@ -320,7 +320,7 @@ module _ (s : Level) (bs : List (List (List Bool))) (h : EachBlock bs) (k : ℕ)
               ext_get_or Low (take (suc block_len) (drop p (stream s bs))) (take (suc block_len) (drop (suc p) grown))
               (omega arith)
               (λ y o. get_or-take (suc block_len) (drop p (stream s bs)) y Low (omega arith) ∙ one y
-                  ∙ sym (get_or-take (suc block_len) (drop (suc p) grown) y Low (omega arith)))
+              ∙ sym (get_or-take (suc block_len) (drop (suc p) grown) y Low (omega arith)))
 
       breaks : (k ≤ p + 3 → x ≡ other s → ⊥) → from p ≡ []
       breaks n = from-late p inner ∙ here-none 0 (drop (suc p) grown) (λ d t z.

@@ -111,7 +111,7 @@ module _ (s : Level) (bs : List (List (List Bool))) (h : EachBlock bs) where
         let a = stream-aligned s bs h (mark_at j) t (q + 64 * j)
         (stands-from (mark_at j) t (stream s bs) (q + 64 * j) (omega arith)
         (λ k b. let e : q + 64 * j + k ≡ q + (64 * j + k) = omega arith in
-            ap (at (stream s bs)) e ∙ sym (early (64 * j + k) (omega arith)) ∙ block-mark t d g j k l b)) in
+        ap (at (stream s bs)) e ∙ sym (early (64 * j + k) (omega arith)) ∙ block-mark t d g j k l b)) in
         (a.0, a.2)
 
     behind-it : (i : ℕ) → i < 383 → m ≤ 64 * i + 63 → ((q + (64 * i + 63)) % 64 ≡ 0) × (t ≡ s)

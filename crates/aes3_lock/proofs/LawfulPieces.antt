@@ -99,7 +99,7 @@ runs-level marks s (p ∷ ps) h (suc k) l =
     let rest = runs_of (λ j. marks (suc j)) (map with_parity ps) in
     let o : after s (subframe_runs (marks 0) p) ≡ s = after-subframe s (marks 0) p h.0 in
     let n : length (subframe s (marks 0) (with_parity p)) ≡ 64 =
-        subframe-length s (marks 0) (with_parity p) (length-with_parity p h.0) in
+    subframe-length s (marks 0) (with_parity p) (length-with_parity p h.0) in
     let e : 64 * suc k ≡ length (subframe s (marks 0) (with_parity p)) + 64 * k = omega arith in
     let f : before s a (length a) ≡ s = ap (before s a) n
     ∙ subframe-last s (marks 0) (with_parity p) (length-with_parity p h.0) ∙ o in

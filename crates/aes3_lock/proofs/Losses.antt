@@ -245,7 +245,7 @@ module _ (s : Level) (bs : List (List (List Bool))) (i j : ℕ) (c : List Level)
             absurd
             (other_ne s
             (sym (begun-run (i + (q + f (q + 64 * m)) + 24576) (f (q + 24575) - f (q + 64 * m) - 1) (omega arith)
-                (omega arith) (omega arith))
+            (omega arith) (omega arith))
             ∙ ap (at (stream s bs)) g ∙ sym (cell 24575 (lit< tt)) ∙ last-cell ∙ aligned.1))
 
     -- nor before it, but among the first three cells, since cell 3 of Z differs from these
@@ -261,12 +261,12 @@ module _ (s : Level) (bs : List (List (List Bool))) (i j : ℕ) (c : List Level)
             let k = h.few (q + 64 * m) in
             let y = three in
             let g : i + (q + f (q + 64 * m)) + (3 + f (q + 3) - f (q + 64 * m)) ≡ i + (q + 3 + f (q + 3)) =
-                omega arith in
+            omega arith in
             let b = to-end in
             absurd
             (other_ne s
             (sym (begun-run (i + (q + f (q + 64 * m))) (3 + f (q + 3) - f (q + 64 * m)) place (omega arith)
-                (omega arith))
+            (omega arith))
             ∙ ap (at (stream s bs)) g ∙ sym (cell 3 (lit< tt)) ∙ block-mark t d z.block 0 3 (lit< tt) (lit< tt)
             ∙ ap (λ m. shape m 3 t) first-mark ∙ behind-run t ∙ aligned.1))
 
@@ -296,7 +296,7 @@ module _ (s : Level) (bs : List (List (List Bool))) (i j : ℕ) (c : List Level)
         let w = h.within (q + 24575) (inside 24575 (lit< tt)) in
         let v = to-end in
         let u = length-take-le block_len (drop (q + f (q + 64 * m)) c) (let o = length-drop (q + f (q + 64 * m)) c in
-            omega arith) in
+        omega arith) in
         let o = length-block_cells t d z.block in
         record {
           block = z.block;
@@ -317,7 +317,7 @@ module _ (s : Level) (bs : List (List (List Bool))) (i j : ℕ) (c : List Level)
                 let v : i + (q + f (q + 64 * m) + 24575) ≡ i + (q + f (q + 64 * m)) + 24575 = omega arith in
                 other_ne s
                 (sym (begun-run (i + (q + f (q + 64 * m)) + 24576) 0 (omega arith) (lit< tt) (omega arith))
-                    ∙ ap (at (stream s bs)) (sym g)
+                ∙ ap (at (stream s bs)) (sym g)
                 ∙ sym (streamed (q + f (q + 64 * m) + block_len) (omega arith))
                 ∙ sym (get_or-drop (q + f (q + 64 * m)) c block_len Low) ∙ y
                 ∙ ap (at (drop (q + f (q + 64 * m)) c)) last ∙ get_or-drop (q + f (q + 64 * m)) c 24575 Low
@@ -355,7 +355,7 @@ standing-given c q d t z =
     let r = blocks-all_standing c in
     subst (λ b. Contains b d) (sym r.2)
     (block-contained r.0 (record { place = q; level = t; block = d })
-        (r.1.all (record { place = q; level = t; block = d }) z))
+    (r.1.all (record { place = q; level = t; block = d }) z))
 
 pub losses-given : (s : Level) (bs : List (List (List Bool))) (i j : ℕ) (c : List Level) → IsPiece s bs i j c
     → (ks : List ℕ) → length ks ≤ 3

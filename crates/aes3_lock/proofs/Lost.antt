@@ -137,9 +137,9 @@ module _ (s : Level) (bs : List (List (List Bool))) (h : EachBlock bs) (i j : �
       let v = inside in
       let w = within in
       let a = length-take-le block_len (drop (p - i) left) (let y = length-drop (p - i) left in let n = left-length in
-          let v = inside in omega arith) in
+      let v = inside in omega arith) in
       let b = length-take-le block_len (drop p (stream s bs)) (let y = length-drop p (stream s bs) in let w = within in
-          let v = inside in omega arith) in
+      let v = inside in omega arith) in
       ext_get_or Low (take block_len (drop (p - i) left)) (take block_len (drop p (stream s bs))) (a ∙ sym b)
       (λ x o. get_or-take block_len (drop (p - i) left) x Low (omega arith) ∙ early-cell p x l (omega arith)
       ∙ sym (get_or-take block_len (drop p (stream s bs)) x Low (omega arith) ∙ get_or-drop p (stream s bs) x Low))
@@ -172,16 +172,16 @@ module _ (s : Level) (bs : List (List (List Bool))) (h : EachBlock bs) (i j : �
       blocks-collect 0 left
       ∙ collect-gather block_here (λ q. block_here 0 (drop q left)) 0 0 left
       (λ q l. let z : 0 + q ≡ q = omega arith in here-any (0 + q) 0 (drop q left)
-          ∙ ap (λ m. block_here 0 (drop m left)) (sym z))
+      ∙ ap (λ m. block_here 0 (drop m left)) (sym z))
       ∙ ap (gather (λ q. block_here 0 (drop q left)) 0) b
       ∙ gather-add (λ q. block_here 0 (drop q left)) 0 k (j - i - 1 - k)
       ∙ ap₂ (λ u v. u ++ v)
       (gather-same (λ q. block_here 0 (drop q left)) from 0 i k
       (λ q l. let z : 0 + q ≡ i + q - i = omega arith in ap (λ m. block_here 0 (drop m left)) z
-          ∙ sym (from-early (i + q) (omega arith))))
+      ∙ sym (from-early (i + q) (omega arith))))
       (gather-same (λ q. block_here 0 (drop q left)) from (0 + k) (suc (i + k)) (j - i - 1 - k)
       (λ q l. let z : 0 + k + q ≡ suc (i + k) + q - i - 1 = omega arith in ap (λ m. block_here 0 (drop m left)) z
-          ∙ sym (from-late (suc (i + k) + q) (omega arith)))
+      ∙ sym (from-late (suc (i + k) + q) (omega arith)))
       ∙ ap (λ x. x ++ gather from (suc (i + k)) (j - i - 1 - k)) (sym (from-lost (i + k) refl)))
       ∙ sym (ap (gather from i) a ∙ gather-add from i k (suc (j - i - 1 - k)))
 
@@ -211,11 +211,11 @@ module _ (s : Level) (bs : List (List (List Bool))) (h : EachBlock bs) (i j : �
       go (inl a) b =
           from-early p a ∙ here-none 0 (drop (p - i) left)
           (λ d t z. let n = left-length in let x = closed-room d t (drop (p - i) left) z in
-              let y = length-drop (p - i) left in omega arith)
+          let y = length-drop (p - i) left in omega arith)
       go (inr a) (inl b) =
           from-late p b ∙ here-none 0 (drop (p - i - 1) left)
           (λ d t z. let n = left-length in let x = closed-room d t (drop (p - i - 1) left) z in
-              let y = length-drop (p - i - 1) left in omega arith)
+          let y = length-drop (p - i - 1) left in omega arith)
       go (inr a) (inr b) = from-lost p (omega arith)
 
   -- at the start of a block that lies whole in the piece

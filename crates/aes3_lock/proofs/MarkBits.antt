@@ -146,7 +146,7 @@ first-is cells next m x y p k h e l =
 -- the places where preambles begin in the seven cells before a word and its own
 module _ (c b : List Level) (m w : ℕ) (is : b ≡ drop 1 (last_eight c) ++ word_cells w)
     (found : (i : ℕ) → i < 64
-        → bit_at m i ≡ (if nat_le 7 (length c + i) then (if begins_with_any (drop i b) then 1 else 0) else 0)) where
+    → bit_at m i ≡ (if nat_le 7 (length c + i) then (if begins_with_any (drop i b) then 1 else 0) else 0)) where
   abbrev so_far : ℕ → List Level
   so_far i = c ++ low_cells i w
 
@@ -154,7 +154,7 @@ module _ (c b : List Level) (m w : ℕ) (is : b ≡ drop 1 (last_eight c) ++ wor
   same-first i h =
       let l = length-word w in
       sym (ap (λ x. first_mark (drop i x)) is
-          ∙ window first_mark first_mark-append c (word_cells w) i (omega (arith, l, h))
+      ∙ window first_mark first_mark-append c (word_cells w) i (omega (arith, l, h))
       ∙ ap (λ x. first_mark (last_eight (c ++ x))) (take-word (suc i) w (omega arith)))
 
   long : (i : ℕ) → length (so_far (suc i)) ≡ length c + suc i
@@ -187,7 +187,7 @@ module _ (c b : List Level) (m w : ℕ) (is : b ≡ drop 1 (last_eight c) ++ wor
           ap option_to_list (ended-short (length (so_far (suc i))) (last_eight (so_far (suc i))) (omega (arith, n, g)))
           ∙ sym (ap (λ k. if k == 1 then first else [])
           (found i h ∙ ap (λ x. if x then (if begins_with_any (drop i b) then 1 else 0) else 0)
-              (lt-leb 7 (length c + i) g)))
+          (lt-leb 7 (length c + i) g)))
       go (inr g) =
           ap option_to_list (ended-long (length (so_far (suc i))) (last_eight (so_far (suc i))) (omega (arith, n, g)))
           ∙ ap₂ (λ k o. option_to_list (option_map (placed k) o))

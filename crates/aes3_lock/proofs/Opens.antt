@@ -81,7 +81,7 @@ unfolding keeps
 keeps-new s d l =
     let f : at (d ++ l ∷ []) (length d) ≡ l = get_or-append_seam d l [] Low in
     let g1 : before s (d ++ l ∷ []) (length d) ≡ before s d (length d) =
-        before-append_left s d (l ∷ []) (length d) (omega arith) in
+    before-append_left s d (l ∷ []) (length d) (omega arith) in
     let g2 : before s (d ++ l ∷ []) (64 * (length d / 64)) ≡ before s d (64 * (length d / 64)) =
     before-append_left s d (l ∷ []) (64 * (length d / 64)) (omega arith) in
     ap₂ (λ x p. rule mark_at (length d) x (before s (d ++ l ∷ []) (64 * (length d / 64))) p) f g1
@@ -165,16 +165,16 @@ module _ (d : List Level) (l : Level) (o : IsOpen d) where
       (before (entry d) d (length d)) =
       ap₂ same (get_or-append_seam d l [] Low)
       (ap (λ s. before s (d ++ l ∷ []) (length d)) same-entry
-          ∙ before-append_left (entry d) d (l ∷ []) (length d) (omega arith)) in
+      ∙ before-append_left (entry d) d (l ∷ []) (length d) (omega arith)) in
       decided-from (d ++ l ∷ []) still-begins (omega (arith, f, n))
       ∙ ap Some (outcome_is (d ++ l ∷ [])
       ∙ ap₂ (λ s f. outcome_by s f (length (d ++ l ∷ []))
-          (same (at (d ++ l ∷ []) f) (before (entry (d ++ l ∷ [])) (d ++ l ∷ []) f))
-          (read_slots block_slots (d ++ l ∷ [])))
+      (same (at (d ++ l ∷ []) f) (before (entry (d ++ l ∷ [])) (d ++ l ∷ []) f))
+      (read_slots block_slots (d ++ l ∷ [])))
       same-entry f
       ∙ ap₂ (λ n b. outcome_by (entry d) (length d) n b (read_slots block_slots (d ++ l ∷ []))) m b
       ∙ ap (λ t. cond t
-          (ended (entry d) (length d) (same l (before (entry d) d (length d))) (read_slots block_slots (d ++ l ∷ [])))
+      (ended (entry d) (length d) (same l (before (entry d) d (length d))) (read_slots block_slots (d ++ l ∷ [])))
       (left (entry d) (length d) (read_slots block_slots (d ++ l ∷ []))))
       (lt-ltb (length d) (suc (length d)) (omega arith)))
 
@@ -241,9 +241,9 @@ open-cells c (x ∷ d) q o h k =
     let b : drop q (c ++ x ∷ []) ++ d ≡ drop q c ++ x ∷ d = ap (λ v. v ++ d) t ∙ a in
     let more = open-cells (c ++ x ∷ []) d q (ap open_at t ∙ z.0) (subst (λ v. length v ≤ block_len) (sym b) h)
     (λ i g. ap₂ (λ s v. keeps s v i) (ap entry t ∙ same-entry (drop q c) x w) b
-        ∙ k i (subst (λ v. i < length v) b g)) in (
+    ∙ k i (subst (λ v. i < length v) b g)) in (
       ap open_at (sym b) ∙ more.0,
       ap (decided_from 0) (sym (append_assoc c (x ∷ []) d)) ∙ more.1 ∙ decided-push 0 c x
-      ∙ ap (λ v. decided_from 0 c ++ v) (answer-open 0 c x q o)
+          ∙ ap (λ v. decided_from 0 c ++ v) (answer-open 0 c x q o)
           ∙ ap (λ v. decided_from 0 c ++ told (0 + q) v) z.1 ∙ append-nil (decided_from 0 c),
     )

@@ -67,7 +67,7 @@ behind-mark t d g j l =
     (block-kept t d g (64 * j + 8) (omega arith)).slot (omega arith) (omega arith)
     ∙ ap (λ k. other (before t (block_cells t d) k)) e
     ∙ ap other (own-cell mark_at t (block_cells t d) (block-kept t d g) j 7 (omega arith) (lit< tt)
-        ∙ ap (shape (mark_at j) 7) (block-level t d g j (omega arith))
+    ∙ ap (shape (mark_at j) 7) (block-level t d g j (omega arith))
     ∙ mark-end (mark_at j) t)
 
 last-cell : (t : Level) (d : List (List Bool)) → IsBlock d → (j : ℕ) → j < 384 → at (block_cells t d) (64 * j + 63) ≡ t
@@ -98,7 +98,7 @@ other-level s b d h g = count-parts 10 384 (block_cells s b) (block_cells (other
         (λ k o q.
         let w = within k (cases_lt k 9) in
         differ k o (cases_lt k 8) (cases_lt k 9) (sym (part-cell j (ten k) (block_cells s b) w) ∙ q
-            ∙ part-cell j (ten k) (block_cells (other s) d) w))
+        ∙ part-cell j (ten k) (block_cells (other s) d) w))
       where
         small : (k : ℕ) → k < 9 → ten k ≡ k
         small k o = let t = lt-ltb k 9 o in rw t refl
@@ -131,16 +131,16 @@ other-level s b d h g = count-parts 10 384 (block_cells s b) (block_cells (other
             ∙ ap (shape (mark_at j) k) (block-level (other s) d g j (omega arith)) in
             other_ne (shape (mark_at j) k s)
             (sym (shape-other (mark_at j) k s a) ∙ sym v ∙ ap (at (block_cells (other s) d)) (sym e) ∙ sym q
-                ∙ ap (at (block_cells s b)) e ∙ u)
+            ∙ ap (at (block_cells s b)) e ∙ u)
         differ k o (inr a) (inl c) q =
             let t = small k c in
             let e : 64 * j + ten k ≡ 64 * j + 8 = omega arith in
             other_ne (other s)
             (sym (behind-mark (other s) d g j l) ∙ ap (at (block_cells (other s) d)) (sym e) ∙ sym q
-                ∙ ap (at (block_cells s b)) e ∙ behind-mark s b h j l)
+            ∙ ap (at (block_cells s b)) e ∙ behind-mark s b h j l)
         differ k o (inr a) (inr c) q =
             let t = big k c in
             let e : 64 * j + ten k ≡ 64 * j + 63 = omega arith in
             other_ne s
             (sym (last-cell (other s) d g j l) ∙ ap (at (block_cells (other s) d)) (sym e) ∙ sym q
-                ∙ ap (at (block_cells s b)) e ∙ last-cell s b h j l)
+            ∙ ap (at (block_cells s b)) e ∙ last-cell s b h j l)

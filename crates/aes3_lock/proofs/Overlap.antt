@@ -120,9 +120,9 @@ pub no-overlap : (b d : List (List Bool)) (s t : Level) (c : List Level) (p q : 
 no-overlap b d s t c p q l x y =
     let e : q ≡ p + (q - p) = omega arith in
     let z : StandsMark Z t (drop q c) 0 =
-        standing-mark (map with_parity d) t (drop q c) (block-stands d t (drop q c) y) in
+    standing-mark (map with_parity d) t (drop q c) (block-stands d t (drop q c) y) in
     let f : q + 0 ≡ p + (q - p) = omega arith in
     let w : StandsMark Z t (drop p c) (q - p) =
-        drop-stands Z t c p (q - p) (subst (StandsMark Z t c) f (stands-drop Z t c q 0 z)) in
+    drop-stands Z t c p (q - p) (subst (StandsMark Z t c) f (stands-drop Z t c q 0 z)) in
     let g = no-Z-within b s (drop p c) x (q - p) t w (omega arith) in
     omega arith

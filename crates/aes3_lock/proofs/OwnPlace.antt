@@ -71,7 +71,7 @@ subframe-pair s m p q h g n =
     let a = with_parity-28 p h in
     let b = with_parity-28 q g in
     let r = pair-apart s (with_parity p) (with_parity q) (a ∙ sym b) (after-payload s m p h
-        ∙ sym (after-payload s m q g))
+    ∙ sym (after-payload s m q g))
     (λ e. n (some-unique true true p q e).1) in
     let o = r.odd in
     let w = r.within in
@@ -110,8 +110,8 @@ runs-pair marks s (p ∷ b) (q ∷ d) h g l n =
 
     go : (p ≡ q) ⊎ (p ≡ q → ⊥)
         → ((b ≡ d → ⊥)
-            → PairApart (line s (runs_of (λ j. marks (suc j)) (map with_parity b)))
-            (line s (runs_of (λ j. marks (suc j)) (map with_parity d))))
+        → PairApart (line s (runs_of (λ j. marks (suc j)) (map with_parity b)))
+        (line s (runs_of (λ j. marks (suc j)) (map with_parity d))))
         → PairApart (line s (runs_of marks (map with_parity (p ∷ b))))
         (line s (runs_of marks (map with_parity (q ∷ d))))
     go (inl e) more =
@@ -152,11 +152,11 @@ runs-pair marks s (p ∷ b) (q ∷ d) h g l n =
         let one : (k : ℕ) → k < 64
         → at (line s (runs_of marks (map with_parity (p ∷ b)))) k ≡ at (line s (subframe_runs (marks 0) p)) k =
         λ k l. ap (λ c. at c k) (runs-cons marks s p b h.0)
-            ∙ get_or_append_left (line s (subframe_runs (marks 0) p)) u Low k (omega arith) in
+        ∙ get_or_append_left (line s (subframe_runs (marks 0) p)) u Low k (omega arith) in
         let two : (k : ℕ) → k < 64
         → at (line s (runs_of marks (map with_parity (q ∷ d)))) k ≡ at (line s (subframe_runs (marks 0) q)) k =
         λ k l. ap (λ c. at c k) (runs-cons marks s q d g.0)
-            ∙ get_or_append_left (line s (subframe_runs (marks 0) q)) v Low k (omega arith) in
+        ∙ get_or_append_left (line s (subframe_runs (marks 0) q)) v Low k (omega arith) in
         record {
           place = r.place;
           between = r.between;

@@ -104,7 +104,7 @@ module _ (k : LockState) (t : Candidate) (c : List Level) (w x n : ℕ) (f : Fol
       (sym (length-low_cells p k.subframe))
       ∙ take-append-add (low_cells p k.subframe) (take (64 - p) (word_cells w)) n
       ∙ ap (λ b. low_cells p k.subframe ++ b) (ap (take n) (take-word (64 - p) w (omega arith))
-          ∙ take-low n (64 - p) w (omega (arith, j)))
+      ∙ take-low n (64 - p) w (omega (arith, j)))
 
   part : take (p + n) (word_cells x) ≡ tail ++ low_cells n w
   part = parts ∙ ap (λ a. a ++ low_cells n w) in-hand.gathered.cells
@@ -118,13 +118,13 @@ module _ (k : LockState) (t : Candidate) (c : List Level) (w x n : ℕ) (f : Fol
       let l = length-take-le (p + n) (word_cells x) (omega (arith, j, m)) in
       ap (λ v. keeps (entry d) v (64 * (length d / 64) + i))
       (ap (λ v. v ++ low_cells n w) (sym (take-append-drop (64 * (length d / 64)) d))
-          ∙ append_assoc (start (entry d) d) tail (low_cells n w))
+      ∙ append_assoc (start (entry d) d) tail (low_cells n w))
       ∙ keeps-part (entry d) t.level (start (entry d) d) (tail ++ low_cells n w) (length d / 64) i
       (start-length (entry d) d)
       (sym (in-hand.gathered.level ∙ start-last (entry d) d)) (omega (arith, h, j))
       ∙ ap (λ v. stands t.level (mark_at (length d / 64)) v i) (sym part)
       ∙ sym (stands-append t.level (mark_at (length d / 64)) (take (p + n) (word_cells x))
-          (drop (p + n) (word_cells x)) i (omega (arith, l, h)))
+      (drop (p + n) (word_cells x)) i (omega (arith, l, h)))
       ∙ ap (λ v. stands t.level (mark_at (length d / 64)) v i) (take-append-drop (p + n) (word_cells x))
 
   kept : AllRight t x n (length d) → (i : ℕ) → i < length (d ++ low_cells n w)
@@ -157,7 +157,7 @@ module _ (k : LockState) (t : Candidate) (c : List Level) (w x n : ℕ) (f : Fol
       goes-on k k' t u c (low_cells n w) f s (omega (arith, a, l, j, r, z))
       (kept (subst (AllRight t x n) (offset k t c f s) right)) (omega (arith, b, l, q, e1))
       (e2 ∙ ap₂ (λ m r. drop m (r ++ low_cells n w)) (sym len) f.recent
-          ∙ sym (last_eight-more c (low_cells n w))) e3 e4 e5 g
+      ∙ sym (last_eight-more c (low_cells n w))) e3 e4 e5 g
 
   -- the subframe isn't whole then
   pub part-next : AllRight t x n (k.seen - t.at) → (k' : LockState) → k'.seen ≡ k.seen + n
@@ -168,9 +168,9 @@ module _ (k : LockState) (t : Candidate) (c : List Level) (w x n : ℕ) (f : Fol
       on right k' t e1 e2 e3 refl refl
       (subst (λ v. Gathered t.level k'.subframe v (entry d) (d ++ low_cells n w)) (sym e4)
       (more-cells t.level k.subframe k'.subframe k.words (entry d) d (low_cells n w) in-hand.gathered (let l = len in
-          let q = r.short in omega (arith, l, q))
+      let q = r.short in omega (arith, l, q))
       (λ g. ap (λ m. low_cells (p + m) k'.subframe) len ∙ r.cells
-          ∙ sym (take-word (p + n) x (let q = r.short in omega (arith, q))) ∙ parts)
+      ∙ sym (take-word (p + n) x (let q = r.short in omega (arith, q))) ∙ parts)
       (λ g. subst (λ m. k'.subframe < 2 ^ (p + m)) (sym len) r.few)))
     where
       r : Begun k'.subframe x n (length d)
@@ -186,11 +186,11 @@ module _ (k : LockState) (t : Candidate) (c : List Level) (w x n : ℕ) (f : Fol
       on right k' (record { at = t.at; before = t.before; level = at (word_cells x) 63 }) e1 e2 e3 refl refl
       (subst (λ y. Gathered (at (word_cells x) 63) y k'.words (entry d) (d ++ low_cells n w)) (sym e4)
       (subst (λ y. Gathered (at (word_cells x) 63) 0 y (entry d) (d ++ low_cells n w))
-          (sym (e5 ∙ ap (λ o. set k.words (o / 64) x) off))
+      (sym (e5 ∙ ap (λ o. set k.words (o / 64) x) off))
       (subst (λ y. Gathered (at (word_cells x) 63) 0 (set k.words (length d / 64) x) (entry d) (d ++ y))
-          (append-nil (low_cells n w))
+      (append-nil (low_cells n w))
       (made-whole (entry d) d (low_cells n w) [] (word_cells x) (sym (all-64 x)
-          ∙ ap (λ m. take m (word_cells x)) (let e : 64 ≡ p + n = omega (arith, h, off) in e) ∙ part) (length-word x)
+      ∙ ap (λ m. take m (word_cells x)) (let e : 64 ≡ p + n = omega (arith, h, off) in e) ∙ part) (length-word x)
       t.level k.subframe 0 x k.words in-hand.gathered lw here.room (omega arith) refl (omega arith) refl))))
     where
       off : k.seen - t.at ≡ length d
@@ -336,7 +336,7 @@ module _ (k k' : LockState) (t : Candidate) (c : List Level) (w x n : ℕ) (f : 
           → rule mark_at (between.seen - t.at) last t.level (at between.recent 7) ≡ false
       rule-broken =
           subst (λ (u : Candidate). between.seen - u.at < block_len
-              → rule mark_at (between.seen - u.at) last u.level (at between.recent 7) ≡ false) same-hand ends-there.stop
+          → rule mark_at (between.seen - u.at) last u.level (at between.recent 7) ≡ false) same-hand ends-there.stop
 
       both : Follows k' ((c ++ low_cells n w) ++ last ∷ [])
           × (decided ((c ++ low_cells n w) ++ last ∷ []) ≡ decided (c ++ low_cells n w) ++
@@ -356,6 +356,6 @@ module _ (k k' : LockState) (t : Candidate) (c : List Level) (w x n : ℕ) (f : 
           let q = short in
           ap (report_of t.at)
           (ended-early t.before (between.seen - t.at) (same last (at between.recent 7)) (read_words k.words)
-              (omega (arith, i, z, r, b, q)))
+          (omega (arith, i, z, r, b, q)))
           ∙ ap (λ v. Fault t.at v (why_of (k.seen + n - t.at))) (let e : t.at + (k.seen + n - t.at) ≡ k.seen + n =
-              omega (arith, i, z) in e)
+          omega (arith, i, z) in e)

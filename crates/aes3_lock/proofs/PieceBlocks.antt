@@ -20,11 +20,11 @@ piece-blocks s bs h i j order within =
     blocks-places s bs h i j order within c n
     ∙ gather-given s bs h i j order within (λ p. block_here 0 (drop (p - i) c)) (λ p b. b ∷ [])
     (λ p l r o. here-none 0 (drop (p - i) c)
-        (no-other s bs h i j order within c n p (let a = apart-self c in omega arith) l r o))
+    (no-other s bs h i j order within c n p (let a = apart-self c in omega arith) l r o))
     (short-none s bs h i j order within c n)
     (λ p b more l r g e. here-some 0 b s (drop (p - i) c)
     (own-stays s bs h i j order within c n p b more l r g e
-        (λ x m o. get_or-drop (p - i) c x Low ∙ line-cell s bs (b ∷ more) i j p x l o e)))
+    (λ x m o. get_or-drop (p - i) c x Low ∙ line-cell s bs (b ∷ more) i j p x l o e)))
 
 pub blocks-whole : (s : Level) (bs : List (List (List Bool))) (i j : ℕ) (c : List Level) → IsPiece s bs i j c
     → blocks c ≡ whole_blocks bs i j

@@ -77,5 +77,5 @@ gather-spaced f w p (suc n) h s =
     (gather-add f (suc p) (w - 1) (n * w)
     ∙ ap₂ (λ u v. u ++ v)
     (gather-none f (suc p) (w - 1)
-        (λ q l. let e : suc p + q ≡ p + suc q = omega arith in ap f e ∙ s.0 (suc q) (omega arith) (omega arith)))
+    (λ q l. let e : suc p + q ≡ p + suc q = omega arith in ap f e ∙ s.0 (suc q) (omega arith) (omega arith)))
     (ap (λ k. gather f k (n * w)) d ∙ gather-spaced f w (p + w) n h s.1))

@@ -70,7 +70,7 @@ places-one n (suc x) (y ∷ c) (w ∷ d) l h u o =
     let p = differs-false y w (o 0 (omega arith) (λ f. omega arith)) in
     let e : suc n + x ≡ n + suc x = omega arith in
     rw p (places-one (suc n) x c d (omega arith) (omega arith) u
-        (λ z k f. o (suc z) (omega arith) (λ m. f (omega arith))) ∙ ap (λ m. m ∷ []) e)
+    (λ z k f. o (suc z) (omega arith) (λ m. f (omega arith))) ∙ ap (λ m. m ∷ []) e)
 
 pub places-two : (n x y : ℕ) (c d : List Level) → length c ≡ length d → x < y → y < length c → (at c x ≡ at d x → ⊥)
     → (at c y ≡ at d y → ⊥)
@@ -116,8 +116,11 @@ none-left (x ∷ y ∷ []) b n o l = go (cases_Bool (y == suc x && between_slots
         → cond (y == suc x && between_slots x) (exchanged x b ∷ []) [] ≡ []
     go (inl t) =
         let a = and_parts (y == suc x) (between_slots x) t in
-        absurd (o (record { cell = x; is = ap (λ z. x ∷ z ∷ []) (eqb-true y (suc x) a.0);
-            between = true-between x a.1 }))
+        absurd (o (record {
+          cell = x;
+          is = ap (λ z. x ∷ z ∷ []) (eqb-true y (suc x) a.0);
+          between = true-between x a.1;
+        }))
     go (inr t) = rw t refl
 none-left (x ∷ y ∷ z ∷ []) b n o l = either (y == suc x && between_slots x)
   where

@@ -75,4 +75,4 @@ pub next-words : (c : List Level) (words rest : List ℕ) (i n : ℕ) → i ≤ 
 next-words c words rest i n h e =
     append_assoc c (flat_map word_cells (take i words)) (flat_map word_cells (take n rest))
     ∙ ap (λ x. c ++ x) (sym (flat_map-append word_cells (take i words) (take n rest))
-        ∙ ap (flat_map word_cells) (ap (λ r. take i words ++ take n r) e ∙ sym (take-add i n words)))
+    ∙ ap (flat_map word_cells) (ap (λ r. take i words ++ take n r) e ∙ sym (take-add i n words)))

@@ -67,7 +67,7 @@ marks-quiet c [] h = ap marks (append-nil c)
 marks-quiet c (l ∷ d) h =
     let rest = marks-quiet (c ++ l ∷ []) d
     (λ i g. ap (λ x. begins_with_any (last_eight x)) (append_assoc c (l ∷ []) (take (suc i) d))
-        ∙ h (suc i) (omega arith)) in
+    ∙ h (suc i) (omega arith)) in
     ap marks (sym (append_assoc c (l ∷ []) d)) ∙ rest ∙ marks-last c l
     ∙ ap (λ o. marks c ++ option_to_list o)
     (ended-none (length (c ++ l ∷ [])) (last_eight (c ++ l ∷ [])) (h 0 (omega arith))) ∙ append-nil (marks c)
@@ -80,14 +80,14 @@ module _ (c b : List Level) (m w : ℕ) (few : m < 2 ^ 64) (is : b ≡ drop 1 (l
       let l = length-low_cells n w in
       marks-quiet c (low_cells n w)
       (λ i k. ap (λ x. begins_with_any (last_eight (c ++ x))) (take-low (suc i) n w (omega (arith, l, k)))
-          ∙ quiet-at begins_with_any any-append c b m w few is found i (omega (arith, l, k, g))
-          (omega (arith, l, k, h)))
+      ∙ quiet-at begins_with_any any-append c b m w few is found i (omega (arith, l, k, g))
+      (omega (arith, l, k, h)))
 
   -- the first that ends one
   pub one-ends : trailing_zeros w64 m < 64 → marks (c ++ low_cells (trailing_zeros w64 m + 1) w)
       ≡ marks c ++ option_to_list
       (ended_mark (length (c ++ low_cells (trailing_zeros w64 m + 1) w))
-          (last_eight (c ++ low_cells (trailing_zeros w64 m + 1) w)))
+      (last_eight (c ++ low_cells (trailing_zeros w64 m + 1) w)))
   one-ends h =
       let n = trailing_zeros w64 m in
       let e = with-last c n w in
@@ -104,7 +104,7 @@ module _ (c b : List Level) (m w : ℕ) (few : m < 2 ^ 64) (is : b ≡ drop 1 (l
       ∙ marks-quiet (c ++ low_cells t w) rest (λ i k. ap (λ x. begins_with_any (last_eight x)) (first i k)
       ∙ says-no (begins_with_any (last_eight (c ++ low_cells (suc (trailing_zeros w64 m + suc i)) w)))
       (sym (ends-at begins_with_any any-append c b m w few is found (trailing_zeros w64 m + suc i)
-          (omega (arith, long, k, h))) ∙ sym (bits i)
+      (omega (arith, long, k, h))) ∙ sym (bits i)
       ∙ below-trailing (m / 2 ^ trailing_zeros w64 m / 2 ^ 1) i small (omega (arith, long, k, g))))
     where
       t : ℕ
@@ -128,7 +128,7 @@ module _ (c b : List Level) (m w : ℕ) (few : m < 2 ^ 64) (is : b ≡ drop 1 (l
       first i k =
           append_assoc c (low_cells t w) (take (suc i) rest)
           ∙ ap (λ x. c ++ x) (ap (λ x. x ++ take (suc i) rest) front ∙ sym (take-add t (suc i) (low_cells n w))
-              ∙ take-low (t + suc i) n w (omega (arith, long, k))
+          ∙ take-low (t + suc i) n w (omega (arith, long, k))
           ∙ ap (λ j. low_cells j w) (let e : t + suc i ≡ suc (trailing_zeros w64 m + suc i) = omega arith in e))
 
       bits : (i : ℕ) → bit_at (m / 2 ^ trailing_zeros w64 m / 2 ^ 1) i ≡ bit_at m (trailing_zeros w64 m + suc i)

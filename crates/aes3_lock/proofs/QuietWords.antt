@@ -54,7 +54,7 @@ window q stays c d i g =
         ap (drop i) (sym (drop-append-le 1 (last_eight c) d (omega (arith, r)))) ∙ drop-drop i 1 (last_eight c ++ d)
         ∙ ap₂ drop (let q : 1 + i ≡ suc i = omega arith in q)
         (ap (λ x. last_eight c ++ x) (sym (take-append-drop (suc i) d))
-            ∙ sym (append_assoc (last_eight c) (take (suc i) d) (drop (suc i) d)))
+        ∙ sym (append_assoc (last_eight c) (take (suc i) d) (drop (suc i) d)))
         ∙ drop-append-le (suc i) (last_eight c ++ take (suc i) d) (drop (suc i) d) (omega (arith, a, r, here))
 
 quiet-cell : (c : List Level) (l : Level) → NoneOpen c → begins_block (last_eight (c ++ l ∷ [])) ≡ false
@@ -74,7 +74,7 @@ quiet-cells c (l ∷ d) none h =
     let one = quiet-cell c l none (h 0 (omega arith)) in
     let rest = quiet-cells (c ++ l ∷ []) d one.0
     (λ i g. ap (λ x. begins_block (last_eight x)) (append_assoc c (l ∷ []) (take (suc i) d))
-        ∙ h (suc i) (omega arith)) in
+    ∙ h (suc i) (omega arith)) in
     (subst NoneOpen e rest.0, ap decided (sym e) ∙ rest.1 ∙ one.1)
 
 -- the seven cells before a word and its own
@@ -115,13 +115,13 @@ lowest-one m n few e h = go (cases_eq m 0)
 module _ (q : List Level → Bool) (stays : (x y : List Level) → 8 ≤ length x → q (x ++ y) ≡ q x) (c b : List Level)
     (m w : ℕ) (few : m < 2 ^ 64)
     (is : b ≡ drop 1 (last_eight c) ++ word_cells w) (found : (i : ℕ) → i < 64
-        → bit_at m i ≡ (if q (drop i b) then 1 else 0)) where
+    → bit_at m i ≡ (if q (drop i b) then 1 else 0)) where
   pub ends-at : (i : ℕ) → i < 64 → bit_at m i ≡ (if q (last_eight (c ++ low_cells (suc i) w)) then 1 else 0)
   ends-at i h =
       let l = length-word w in
       found i h ∙ ap (λ x. if q (drop i x) then 1 else 0) is
       ∙ ap (λ p. if p then 1 else 0) (window q stays c (word_cells w) i (omega (arith, l, h))
-          ∙ ap (λ x. q (last_eight (c ++ x))) (take-word (suc i) w (omega arith)))
+      ∙ ap (λ x. q (last_eight (c ++ x))) (take-word (suc i) w (omega arith)))
 
   pub quiet-at : (i : ℕ) → i < trailing_zeros w64 m → i < 64 → q (last_eight (c ++ low_cells (suc i) w)) ≡ false
   quiet-at i g h = says-no (q (last_eight (c ++ low_cells (suc i) w))) (sym (ends-at i h) ∙ below-trailing m i few g)
@@ -162,7 +162,7 @@ module _ (k k' : LockState) (c : List Level) (w : ℕ) (f : Follows k c) (s : k.
       let l = length-word w in
       quiet-cells c (word_cells w) (rw s at f.candidate)
       (λ i h. sym (window begins_block (begins-append Z) c (word_cells w) i h)
-          ∙ ap (λ r. begins_block (drop i (drop 1 r ++ word_cells w))) (sym f.recent) ∙ quiet i (omega (arith, l, h)))
+      ∙ ap (λ r. begins_block (drop i (drop 1 r ++ word_cells w))) (sym f.recent) ∙ quiet i (omega (arith, l, h)))
 
   pub quiet-follows : Follows k' (c ++ word_cells w)
   quiet-follows = record {
@@ -178,7 +178,7 @@ module _ (k k' : LockState) (c : List Level) (w : ℕ) (f : Follows k c) (s : k.
 -- a lock with the first cells of a word up to the first that ends such a preamble
 module _ (k k' : LockState) (c b : List Level) (m w n : ℕ) (f : Follows k c) (s : k.candidate ≡ None) (few : m < 2 ^ 64)
     (is : b ≡ drop 1 k.recent ++ word_cells w) (found : (i : ℕ) → i < 64
-        → bit_at m i ≡ (if begins_block (drop i b) then 1 else 0))
+    → bit_at m i ≡ (if begins_block (drop i b) then 1 else 0))
     (some : 0 < n) (within : n ≤ trailing_zeros w64 m + 1) (room : n ≤ 64)
     (seen : k'.seen ≡ k.seen + n) (recent : k'.recent ≡ drop n (k.recent ++ low_cells n w))
     (anew : k'.candidate ≡ begun k'.seen k'.recent)
@@ -192,8 +192,13 @@ module _ (k k' : LockState) (c b : List Level) (m w n : ℕ) (f : Follows k c) (
       (omega (arith, l, h)) (omega (arith, l, h)))
 
   midst : LockState
-  midst = record { seen = length (c ++ low_cells (n - 1) w); recent = last_eight (c ++ low_cells (n - 1) w);
-      candidate = None; subframe = 0; words = k.words }
+  midst = record {
+    seen = length (c ++ low_cells (n - 1) w);
+    recent = last_eight (c ++ low_cells (n - 1) w);
+    candidate = None;
+    subframe = 0;
+    words = k.words;
+  }
 
   all-of : (c ++ low_cells (n - 1) w) ++ level_of (bit_at w (n - 1)) ∷ [] ≡ c ++ low_cells n w
   all-of = with-last c (n - 1) w ∙ ap (λ j. c ++ low_cells j w) (let e : n - 1 + 1 ≡ n = omega arith in e)
@@ -205,7 +210,7 @@ module _ (k k' : LockState) (c b : List Level) (m w n : ℕ) (f : Follows k c) (
 
   pushed : Follows k' ((c ++ low_cells (n - 1) w) ++ level_of (bit_at w (n - 1)) ∷ [])
       × (decided ((c ++ low_cells (n - 1) w) ++ level_of (bit_at w (n - 1)) ∷ []) ≡ decided
-          (c ++ low_cells (n - 1) w) ++ [])
+      (c ++ low_cells (n - 1) w) ++ [])
   unfolding midst
   pushed =
       let l = length-low_cells (n - 1) w in
@@ -215,7 +220,7 @@ module _ (k k' : LockState) (c b : List Level) (m w n : ℕ) (f : Follows k c) (
       (record { seen = refl; recent = refl; candidate = quiet-before.0 }) refl
       (omega (arith, l, a, g, seen))
       (recent-is ∙ ap last_eight (sym all-of)
-          ∙ last_eight-with (c ++ low_cells (n - 1) w) (level_of (bit_at w (n - 1)))) anew kept small
+      ∙ last_eight-with (c ++ low_cells (n - 1) w) (level_of (bit_at w (n - 1)))) anew kept small
 
   pub searched : Follows k' (c ++ low_cells n w) × (decided (c ++ low_cells n w) ≡ decided c)
   searched = (

@@ -57,9 +57,11 @@ pub fault-viable : (c : List Level) (f : ℕ) → outcome c ≡ fault f → IsVi
 fault-viable c f o =
     let r = fault-front c f o in
     let x = r.0 in
-    let y = r.1 in
-    (take-viable (entry c) c f (omega arith), λ v. let w = viable-take (entry c) c (f + 1) (omega arith) v in
-        omega arith)
+    let y = r.1 in (
+      take-viable (entry c) c f (omega arith),
+      λ v. let w = viable-take (entry c) c (f + 1) (omega arith) v in
+          omega arith,
+    )
 
 pub viable-fault : (c : List Level) (f : ℕ) → f < block_len → f < length c → IsViable (entry c) (take f c)
     → (IsViable (entry c) (take (f + 1) c) → ⊥)

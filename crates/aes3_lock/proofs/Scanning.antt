@@ -73,7 +73,7 @@ marks-push p (x ∷ c) l = go (cases_order (length c) 6) (marks-push (suc p) c l
         let z : suc (length (c ++ l ∷ [])) - 8 ≡ 0 = omega (arith, n, g) in
         let e = first_mark-short (x ∷ c ++ l ∷ []) (omega (arith, n, g)) in
         a ∙ sym (ap₂ (λ u v. u ++ v) b
-            (ap (λ k. option_to_list (option_map (placed (p + k)) (first_mark (drop k (x ∷ c ++ l ∷ []))))) z
+        (ap (λ k. option_to_list (option_map (placed (p + k)) (first_mark (drop k (x ∷ c ++ l ∷ []))))) z
         ∙ ap (λ o. option_to_list (option_map (placed (p + 0)) o)) e))
     go (inr (inr g)) ih =
         let e = first_mark-append (x ∷ c) (l ∷ []) (omega (arith, g)) in
@@ -81,11 +81,11 @@ marks-push p (x ∷ c) l = go (cases_order (length c) 6) (marks-push (suc p) c l
         let q : p + suc (length (c ++ l ∷ []) - 8) ≡ suc p + (length (c ++ l ∷ []) - 8) = omega arith in
         ap₂ (λ o r. option_to_list (option_map (placed p) o) ++ r) e ih
         ∙ sym (append_assoc (option_to_list (option_map (placed p) (first_mark (x ∷ c)))) (marks_from (suc p) c)
-            (ending (suc p) (c ++ l ∷ [])))
+        (ending (suc p) (c ++ l ∷ [])))
         ∙ ap (λ r. marks_from p (x ∷ c) ++ r)
         (sym (ap (λ k. option_to_list (option_map (placed (p + k)) (first_mark (drop k (x ∷ c ++ l ∷ []))))) z
         ∙ ap (λ k. option_to_list
-            (option_map (placed k) (first_mark (drop (length (c ++ l ∷ []) - 8) (c ++ l ∷ []))))) q))
+        (option_map (placed k) (first_mark (drop (length (c ++ l ∷ []) - 8) (c ++ l ∷ []))))) q))
 
 -- eight cells that are a preamble, or none
 pub first_mark-line : (m : Mark) (s : Level) (d : List Level) → d ≡ line s (mark_runs m) → first_mark d ≡ Some (m, s)
@@ -131,7 +131,7 @@ marks-last c l = go (cases_lt (length (c ++ l ∷ [])) 8)
         let a = length-append c (l ∷ []) in
         marks-short 0 (c ++ l ∷ []) h
         ∙ sym (ap₂ (λ x o. x ++ option_to_list o) (marks-short 0 c (omega (arith, a, h)))
-            (ended-short (length (c ++ l ∷ [])) (last_eight (c ++ l ∷ [])) h))
+        (ended-short (length (c ++ l ∷ [])) (last_eight (c ++ l ∷ [])) h))
     go (inr h) =
         let q : 0 + (length (c ++ l ∷ []) - 8) ≡ length (c ++ l ∷ []) - 8 = omega arith in
         marks-push 0 c l ∙ ap₂ (λ p d. marks_from 0 c ++ option_to_list (option_map (placed p) (first_mark d))) q
@@ -154,7 +154,7 @@ module _ (k k' : ScanState) (c : List Level) (l : Level) (f : ScanFollows k c) (
   pub scan-next : ScanFollows k' (c ++ l ∷ [])
   scan-next = scan-follows k k' c (l ∷ []) f n
       (r ∙ let e = length-last_eight c in
-          sym (drop-append-le 1 k.recent (l ∷ []) (omega (arith, e, ap length f.recent))))
+      sym (drop-append-le 1 k.recent (l ∷ []) (omega (arith, e, ap length f.recent))))
 
   pub scan-mark : marks (c ++ l ∷ []) ≡ marks c ++ option_to_list (ended_mark k'.seen k'.recent)
   scan-mark = marks-last c l ∙ ap₂ (λ n d. marks c ++ option_to_list (ended_mark n d)) (sym scan-next.seen)

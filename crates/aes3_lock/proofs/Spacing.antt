@@ -137,7 +137,7 @@ module _ (c : List Level) (x : Level) (w n p : ℕ) (h : w ≤ length c) (s : Sp
   still e q z g =
       let a : p ≡ q = open-only c p q o (open-before c (x ∷ e) q g z) in
       decided-closed (drop p c ++ x ∷ []) e r d (sym (ap open_at (rest e))
-          ∙ ap (λ i. open_at (drop i (c ++ x ∷ e))) a ∙ z)
+      ∙ ap (λ i. open_at (drop i (c ++ x ∷ e))) a ∙ z)
 
   later : (e : List Level) (q : ℕ) → open_at (drop q (c ++ x ∷ e)) ≡ true → length c < q + 8
   later e q z = go (cases_lt (length (drop q c)) 8)
@@ -202,7 +202,7 @@ few-more (x ∷ d) c w n h l b s = go (few-more d) (one-or-none c)
         let i = more-of (c ++ x ∷ []) w (suc n) (omega (arith, k, h)) (omega (arith, k, l))
         (let t = fourteen c x w n p h s o r e (omega (arith, l)) in omega (arith, t)) (spaced c x w n p h s o r e) in
         let g = ap length (decided-push 0 c x
-            ∙ ap (λ y. decided_from 0 c ++ y) (answer-open 0 c x p o ∙ ap (told (0 + p)) e)) in
+        ∙ ap (λ y. decided_from 0 c ++ y) (answer-open 0 c x p o ∙ ap (told (0 + p)) e)) in
         let j = length-append (decided_from 0 c) (told (0 + p) (Some r)) in
         omega (arith, i, f, g, j)
 

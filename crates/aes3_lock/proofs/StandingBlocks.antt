@@ -43,7 +43,7 @@ runs-stand marks s (bits ∷ more) h =
     let u = after s (slot_runs (marks 0) bits) in
     let rest = line u (runs_of (λ j. marks (suc j)) more) in
     ap (take 8) (line-append s (slot_runs (marks 0) bits) (runs_of (λ j. marks (suc j)) more)
-        ∙ ap (λ x. x ++ rest) (line-slots s (marks 0) bits)
+    ∙ ap (λ x. x ++ rest) (line-slots s (marks 0) bits)
     ∙ append_assoc (line s (mark_runs (marks 0))) (line s (bits_runs bits)) rest)
     ∙ take_at (line s (mark_runs (marks 0))) (line s (bits_runs bits) ++ rest) 8 (length-mark s (marks 0))
 
@@ -182,7 +182,7 @@ whole-standing b s c w = go (ending c)
         (subst (λ t. StandsClosed (payloads_of slots) t c) x (stands-block slots (entry c) c h o z))
     at-entry z h (inr o) e =
         let q : marked (entry c) (wrong_parities slots) ≡ whole s b =
-            sym (block_outcome-wrong (entry c) slots (omega arith)) ∙ e in
+        sym (block_outcome-wrong (entry c) slots (omega arith)) ∙ e in
         cc
 
     go : Ending c → StandsClosed b s c
@@ -213,7 +213,7 @@ marked-standing s n c w = go (ending c)
         cc
     at-entry z h (inr o) e =
         let q : marked (entry c) (wrong_parities slots) ≡ marked s n =
-            sym (block_outcome-wrong (entry c) slots (omega arith)) ∙ e in
+        sym (block_outcome-wrong (entry c) slots (omega arith)) ∙ e in
         let x : entry c ≡ s = cc in
         let y : wrong_parities slots ≡ n = cc in
         (z, omega arith, (slots, subst (λ t. SubframesStand slots t c) x h, y))

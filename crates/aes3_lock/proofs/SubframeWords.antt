@@ -63,7 +63,7 @@ pub cells-first : (n w : ℕ) → n < 64 → low_cells n (bit_and w (1 * 2 ^ n %
 cells-first n w h =
     low_cells-same n (bit_and w (1 * 2 ^ n % 2 ^ 64 - 1)) w
     (λ i g. let b = bit_at-lt w i in ap (λ m. bit_at (bit_and w (m - 1)) i) (one_shl n 64 h)
-        ∙ bit_at_and w (2 ^ n - 1) i ∙ ap (min (bit_at w i)) (bit_at_ones n i g) ∙ omega (arith, b))
+    ∙ bit_at_and w (2 ^ n - 1) i ∙ ap (min (bit_at w i)) (bit_at_ones n i g) ∙ omega (arith, b))
 
 -- the lowest eight bits alone
 low-octet : (x : ℕ) → low_cells 8 (bit_and x 255) ≡ low_cells 8 x

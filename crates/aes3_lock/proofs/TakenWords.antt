@@ -112,7 +112,7 @@ module _ (k : LockState) (t : Candidate) (c : List Level) (w x y : ℕ) (f : Fol
       k2 : AllKept (λ _. mark_at (suc (length d / 64))) (at (word_cells x) 63) rest
       k2 = subst (λ j. AllKept (λ _. mark_at j) (at (word_cells x) 63) rest) (add-one (length d / 64))
           (subst (AllKept (λ _. mark_at (length d / 64 + 1)) (at (word_cells x) 63)) (take-word p y (omega arith)
-              ∙ rest-cells)
+          ∙ rest-cells)
           (kept-from-front (at (word_cells x) 63) (mark_at (length d / 64 + 1)) (take p (word_cells y)) here.next))
 
       small : length rest < 64
@@ -121,14 +121,14 @@ module _ (k : LockState) (t : Candidate) (c : List Level) (w x y : ℕ) (f : Fol
       kept : (i : ℕ) → i < length (d ++ word_cells w) → keeps (entry d) (d ++ word_cells w) i ≡ true
       kept = subst (λ u. (i : ℕ) → i < length (d ++ u) → keeps (entry d) (d ++ u) i ≡ true) both
           (all-keep (entry d) t.level d first rest (word_cells x) is-whole
-              (length-word x) in-hand.gathered.level so-far k1 k2 small)
+          (length-word x) in-hand.gathered.level so-far k1 k2 small)
 
       gathered : Gathered (at (word_cells x) 63) y (set k.words ((k.seen - t.at) / 64) x) (entry d) (d ++ word_cells w)
       gathered = subst
           (λ o. Gathered (at (word_cells x) 63) y (set k.words (o / 64) x) (entry d) (d ++ word_cells w)) (sym off)
           (subst (λ u. Gathered (at (word_cells x) 63) y (set k.words (length d / 64) x) (entry d) (d ++ u)) both
           (made-whole (entry d) d first rest (word_cells x) is-whole
-              (length-word x) t.level k.subframe y x k.words in-hand.gathered lw (omega (arith, room)) small
+          (length-word x) t.level k.subframe y x k.words in-hand.gathered lw (omega (arith, room)) small
           (ap (λ m. low_cells m y) rest-length ∙ rest-cells)
           (subst (λ m. y < 2 ^ m) (sym rest-length) parted.few) refl))
 
@@ -157,15 +157,15 @@ module _ (k : LockState) (t : Candidate) (c : List Level) (w x y : ℕ) (f : Fol
     whole = subst (IsFrontOf t.level (mark_at (length e / 64))) (sym (all-64 x))
         (front-from-kept t.level (mark_at (length e / 64)) (word_cells x) (let l = length-word x in omega (arith, l))
         (begins-whole (entry e) t.level e (first k t c w x y f s given) (rest k t c w x y f s given) (word_cells x)
-            (is-whole k t c w x y f s given) (length-word x) in-hand.gathered.level kept));
+        (is-whole k t c w x y f s given) (length-word x) in-hand.gathered.level kept));
     next = subst (λ j. IsFrontOf (at (word_cells x) 63) (mark_at j) (take (length e % 64) (word_cells y)))
         (sym (add-one (length e / 64)))
         (subst (IsFrontOf (at (word_cells x) 63) (mark_at (suc (length e / 64))))
-            (sym (take-word (length e % 64) y (omega arith) ∙ rest-cells k t c w x y f s given))
+        (sym (take-word (length e % 64) y (omega arith) ∙ rest-cells k t c w x y f s given))
         (front-from-kept (at (word_cells x) 63) (mark_at (suc (length e / 64))) (rest k t c w x y f s given)
-            (omega (arith, r))
+        (omega (arith, r))
         (begins-next (entry e) t.level e (first k t c w x y f s given) (rest k t c w x y f s given) (word_cells x)
-            (is-whole k t c w x y f s given) (length-word x) in-hand.gathered.level
+        (is-whole k t c w x y f s given) (length-word x) in-hand.gathered.level
         (omega (arith, r)) kept)));
   })
     where
@@ -219,7 +219,7 @@ next-whole u sub new words s d o l lw room h cells g e =
     subst (λ n. Gathered l 0 (set words (n / 64) new) s (d ++ l ∷ [])) (sym e)
     (subst (λ a. Gathered a 0 (set words (length d / 64) new) s (d ++ l ∷ [])) last-is
     (made-whole s d (l ∷ []) [] (word_cells new) is (length-word new) u sub 0 new words g lw (omega (arith, e, room))
-        (omega arith) refl (omega arith) refl))
+    (omega arith) refl (omega arith) refl))
   where
     here : length d % 64 ≡ 63
     here = omega (arith, e, h)

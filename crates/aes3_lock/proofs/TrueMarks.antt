@@ -68,7 +68,7 @@ first_mark-take n c h =
     let e : entry (take n c) ≡ entry c = ap other (get_or-take n c 0 Low (omega arith)) in
     rw (x, y, z)
     (ap (λ s. cond (begins_with X c) (Some (X, s))
-        (cond (begins_with Y c) (Some (Y, s)) (cond (begins_with Z c) (Some (Z, s)) None))) e)
+    (cond (begins_with Y c) (Some (Y, s)) (cond (begins_with Z c) (Some (Z, s)) None))) e)
 
 -- place by place
 abbrev mark_here : ℕ → List Level → List (ℕ × Mark × Level)
@@ -100,14 +100,14 @@ module _ (s : Level) (bs : List (List (List Bool))) (h : EachBlock bs) (i j : �
           ∙ ap (λ m. option_to_list (option_map (placed (i + q - i)) m))
           (first_mark-take (j - (i + q)) (drop (i + q) (stream s bs)) (omega arith))
           ∙ sym (both-true i (i + q) (i + q + 8) j (mark_here (i + q - i) (drop (i + q) (stream s bs))) []
-              (omega arith) o)
+          (omega arith) o)
       go (inl o) =
           let n = length-take (j - (i + q)) (drop (i + q) (stream s bs)) in
           ap (mark_here (0 + q)) rest
           ∙ ap (λ m. option_to_list (option_map (placed (0 + q)) m))
           (first_mark-none (take (j - (i + q)) (drop (i + q) (stream s bs)))
           (λ m t z. let r = stands-room m t (take (j - (i + q)) (drop (i + q) (stream s bs))) 0 z in
-              omega (arith, n, r)))
+          omega (arith, n, r)))
           ∙ sym (second-false i (i + q) (i + q + 8) j (mark_here (i + q - i) (drop (i + q) (stream s bs))) [] o)
 
   given-before : (q : ℕ) → q < i → given q ≡ []
@@ -125,7 +125,7 @@ module _ (s : Level) (bs : List (List (List Bool))) (h : EachBlock bs) (i j : �
       let e = first_mark-none (drop q (stream s bs)) (λ m t z.
       let a : q + 0 ≡ q = omega arith in
       n (stream-aligned s bs h m t q
-          (subst (StandsMark m t (stream s bs)) a (stands-drop m t (stream s bs) q 0 z))).0) in
+      (subst (StandsMark m t (stream s bs)) a (stands-drop m t (stream s bs) q 0 z))).0) in
       rw e (none (leb i q && leb (q + 8) j))
     where
       none : (b : Bool) → ◌≡◌ {A = List (ℕ × Mark × Level)} (cond b [] []) []
@@ -153,7 +153,7 @@ module _ (s : Level) (bs : List (List (List Bool))) (h : EachBlock bs) (i j : �
   spaced-marks (suc n) k l =
       let a : 64 * k + 64 ≡ 64 * suc k = omega arith in
       ap₂ (λ u v. u ++ v) (given-own k (omega arith)) (ap (λ p. spaced given 64 p n) a
-          ∙ spaced-marks n (suc k) (omega arith))
+      ∙ spaced-marks n (suc k) (omega arith))
 
   piece-marks : marks_from 0 (take (j - i) (drop i (stream s bs))) ≡ marks_within (block_slots * length bs) 0 s i j
   piece-marks =

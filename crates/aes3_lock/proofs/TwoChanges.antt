@@ -90,7 +90,7 @@ module _ (c d : List Level) (same : length c ≡ length d) (q k : ℕ) (within :
       let f : q + (k - q) ≡ k = omega arith in
       other_ne (at c k)
       (sym turned ∙ ap (at d) (sym f) ∙ sym (window-cell q (k - q) d (omega arith)) ∙ sym e
-          ∙ window-cell q (k - q) c (omega arith) ∙ ap (at c) f)
+      ∙ window-cell q (k - q) c (omega arith) ∙ ap (at c) f)
 
 alike : (c d : List Level) (q z : ℕ) → z < length (window q c) → at c (q + z) ≡ at d (q + z)
     → at (window q c) z ≡ at (window q d) z
@@ -116,7 +116,7 @@ module _ (c : List Level) (k : ℕ) (inside : k < length c) where
           let t = reaches-true (i + k) p a.0 a.1 in
           ap (λ xs. left_of xs b)
           (places-one 0 (k - (p - i)) (window (p - i) c) (window (p - i) (changed k c))
-              (window-same (p - i) c (changed k c) n)
+          (window-same (p - i) c (changed k c) n)
           (room-window (p - i) k c (omega arith) (omega arith) inside)
           (differ c (changed k c) n (p - i) k inside (at-changed k c inside) (omega arith) (omega arith))
           (λ z o m. alike c (changed k c) (p - i) z o (sym (at-others k c (p - i + z) (λ q. m (omega arith))))))
@@ -126,7 +126,7 @@ module _ (c : List Level) (k : ℕ) (inside : k < length c) where
           ap (λ xs. left_of xs b)
           (places-none 0 (window (p - i) c) (window (p - i) (changed k c)) (window-same (p - i) c (changed k c) n)
           (λ z o. let r = window-room (p - i) z c o in let u = r.0 in
-              alike c (changed k c) (p - i) z o (sym (at-others k c (p - i + z) (λ q. far z u a q)))))
+          alike c (changed k c) (p - i) z o (sym (at-others k c (p - i + z) (λ q. far z u a q)))))
           ∙ (rw t refl)
         where
           far : (z : ℕ) → z ≤ block_len → Away (i + k) p → p - i + z ≡ k → ⊥
@@ -234,7 +234,7 @@ module _ (c : List Level) (k l : ℕ) (before : k < l) (inside : l < length c) w
           let z : k - (p - i) ≡ i + k - p = omega arith in
           ap (λ xs. left_of xs b)
           (places-two 0 (k - (p - i)) (l - (p - i)) (window (p - i) c) (window (p - i) damaged)
-              (window-same (p - i) c damaged same) (omega arith)
+          (window-same (p - i) c damaged same) (omega arith)
           (room-window (p - i) l c (omega arith) (omega arith) inside)
           (differ c damaged same (p - i) k (omega arith) first-at (omega arith) (omega arith))
           (differ c damaged same (p - i) l inside second-at (omega arith) (omega arith))
@@ -271,7 +271,7 @@ module _ (c : List Level) (k l : ℕ) (before : k < l) (inside : l < length c) w
           (room-window (p - i) k c (omega arith) (omega arith) (omega arith))
           (differ c damaged same (p - i) k (omega arith) first-at (omega arith) (omega arith))
           (λ z o m. let r = window-room (p - i) z c o in let v = r.0 in
-              alike c damaged (p - i) z o (others (p - i + z) (λ q. m (omega arith)) (λ q. far l z v e q))))
+          alike c damaged (p - i) z o (others (p - i + z) (λ q. m (omega arith)) (λ q. far l z v e q))))
           ∙ (rw (u, t) refl)
       go (inr a) (inl e) =
           let e0 = e.0 in
@@ -284,7 +284,7 @@ module _ (c : List Level) (k l : ℕ) (before : k < l) (inside : l < length c) w
           (room-window (p - i) l c (omega arith) (omega arith) inside)
           (differ c damaged same (p - i) l inside second-at (omega arith) (omega arith))
           (λ z o m. let r = window-room (p - i) z c o in let v = r.0 in
-              alike c damaged (p - i) z o (others (p - i + z) (λ q. far k z v a q) (λ q. m (omega arith)))))
+          alike c damaged (p - i) z o (others (p - i + z) (λ q. far k z v a q) (λ q. m (omega arith)))))
           ∙ (rw (u, f, t) refl)
       go (inr a) (inr e) =
           let t = reaches-false (i + l) p e in
@@ -293,7 +293,7 @@ module _ (c : List Level) (k l : ℕ) (before : k < l) (inside : l < length c) w
           ap (λ xs. left_of xs b)
           (places-none 0 (window (p - i) c) (window (p - i) damaged) (window-same (p - i) c damaged same)
           (λ z o. let r = window-room (p - i) z c o in let v = r.0 in
-              alike c damaged (p - i) z o (others (p - i + z) (λ q. far k z v a q) (λ q. far l z v e q))))
+          alike c damaged (p - i) z o (others (p - i + z) (λ q. far k z v a q) (λ q. far l z v e q))))
           ∙ (rw (u, f, t) refl)
 
 pub blocks-two-changed : (s : Level) (bs : List (List (List Bool))) (i j : ℕ) (c : List Level) → IsPiece s bs i j c

@@ -92,7 +92,7 @@ viable-take s c n h v = go (cases_lt (front s c) n)
     go (inl g) =
         let k = viable-length s (take n c) v in
         absurd (true≢false (sym (viable-keeps s (take n c) v (front s c) (omega (arith, l)))
-            ∙ keeps-take s c n (front s c) g (omega arith)
+        ∙ keeps-take s c n (front s c) g (omega arith)
         ∙ f.stops (omega (arith, l, k, h, g))))
 
 -- all cells

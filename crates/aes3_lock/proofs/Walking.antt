@@ -146,7 +146,7 @@ module _ (c : List Level) (words : List ℕ) (lw : length words ≡ block_slots)
   read-all h =
       let w = (front-is (entry c) c).within in
       let n : length (take (front (entry c) c) c) ≡ front (entry c) c =
-          length-take-le (front (entry c) c) c (omega (arith, w)) in
+      length-take-le (front (entry c) c) c (omega (arith, w)) in
       let b = block_len_64 in
       ap (read_slots block_slots) (sym (take-append-drop (front (entry c) c) c))
       ∙ read_slots-append block_slots (take (front (entry c) c) c) (drop (front (entry c) c) c) (omega (arith, n, b, h))
@@ -215,7 +215,7 @@ pub outcome_at-short : (c : List Level) → length c < 8 → outcome_at c ≡ No
 unfolding outcome_at
 outcome_at-short c h =
     let b : begins_block c ≡ false =
-        false_from_ne_true (begins_block c) (λ e. let r = begins-room Z c e in omega (arith, r, h)) in
+    false_from_ne_true (begins_block c) (λ e. let r = begins-room Z c e in omega (arith, r, h)) in
     rw b refl
 
 pub outcome_at-none : (c : List Level) → 8 ≤ length c → begun 8 (take 8 c) ≡ None → outcome_at c ≡ None
@@ -252,7 +252,7 @@ reports-more c done new p h e f =
     ∙ ap (λ n. get_or c p Low ∷ drop n c) (let z : suc p ≡ p + 1 = omega arith in z) in
     let q : suc p ≡ p + 1 = omega arith in
     let all : take (length c - p) (drop p c) ≡ drop p c = take_all (length c - p) (drop p c) (let n = length-drop p c in
-        omega (arith, n)) in
+    omega (arith, n)) in
     append_assoc done new (reports_from (p + 1) (drop (p + 1) c))
     ∙ ap (λ x. done ++ x)
     (ap₂ (λ x n. x ++ reports_from n (drop (p + 1) c)) (e ∙ ap (λ x. told p (outcome_at x)) (all ∙ d)) (sym q)

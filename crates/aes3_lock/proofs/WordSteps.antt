@@ -32,7 +32,7 @@ more-cells u sub new words s d e g h cells few =
     record {
       level = g.level
           ∙ sym (ap (λ k. before s (d ++ e) (64 * k)) whole-is
-              ∙ before-append_left s d e (64 * (length d / 64)) (omega arith));
+          ∙ before-append_left s d e (64 * (length d / 64)) (omega arith));
       cells = ap (λ k. low_cells k new) len-is ∙ cells g.few ∙ ap (λ c. c ++ e) g.cells
           ∙ sym (ap (λ k. drop (64 * k) (d ++ e)) whole-is ∙ drop-append-le (64 * (length d / 64)) d e (omega arith));
       few = subst (λ k. new < 2 ^ k) (sym len-is) (few g.few);
@@ -97,7 +97,7 @@ module _ (s : Level) (d e f w : List Level) (is : w ≡ drop (64 * (length d / 6
             ∙ before-append_left s ((start s d) ++ w) f (length ((start s d) ++ w)) (omega arith) ∙ last-is);
         cells = ap (λ k. low_cells k new) len-is ∙ cells
             ∙ sym (ap₂ (λ k c. drop (64 * k) c) whole-is joined
-                ∙ drop_at ((start s d) ++ w) f (64 * suc (length d / 64)) m);
+            ∙ drop_at ((start s d) ++ w) f (64 * suc (length d / 64)) m);
         few = subst (λ k. new < 2 ^ k) (sym len-is) bound;
         whole = λ j l r. slot j (cases_eq j (length d / 64)) (omega (arith, n, r, few));
       }
@@ -135,8 +135,8 @@ keeps-part s u a b j i l e h =
     get_or-append_right a b (64 * j) (64 * j + i) Low l (omega arith)
     ∙ ap (at b) (let q : 64 * j + i - 64 * j ≡ i = omega arith in q) in
     let first : before s (a ++ b) (64 * j) ≡ u =
-        ap (before s (a ++ b)) (let q : 64 * j ≡ length a + 0 = omega (arith, l) in q)
-        ∙ before-append_right s u a b 0 e in
+    ap (before s (a ++ b)) (let q : 64 * j ≡ length a + 0 = omega (arith, l) in q)
+    ∙ before-append_right s u a b 0 e in
     let last : before s (a ++ b) (64 * j + i) ≡ before u b i =
     ap (before s (a ++ b)) (let q : 64 * j + i ≡ length a + i = omega (arith, l) in q)
     ∙ before-append_right s u a b i e in

@@ -7,4 +7,4 @@ pub loop-code-preserved : goal.loop-code-preserved
 loop-code-preserved c =
     c.in_ok-add_code.ensures
     ∙ told-more (code_choice c.args.field c.args.under) c.args.text.now.bytes.items c.loop-code.text.bytes.items
-        c.loop-code.code c.loop-code.invariant
+    c.loop-code.code c.loop-code.invariant

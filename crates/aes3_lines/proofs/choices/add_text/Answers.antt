@@ -10,4 +10,4 @@ unreachable-requires c =
     ∙ ap (λ l. l ++ code_text c.args.field c.args.under c.args.code) c.new-line.ensures in
     c.in-Err.ensures.cases.0
     (subst IsUtf8 (sym (c.as_bytes.ensures ∙ line))
-        (code-is-text c.args.field c.args.under c.args.code (omega (arith, c.ranges.code.fits))))
+    (code-is-text c.args.field c.args.under c.args.code (omega (arith, c.ranges.code.fits))))

@@ -17,6 +17,6 @@ returns c =
     let number =
     c.as_bytes-2.ensures
     ∙ (c.number.ensures.digits
-        ∙ ap₂ (λ l n. l ++ decimal n) (c.text.ensures.text ∙ ap (λ l. l ++ codes "code") named) c.from.ensures)
+    ∙ ap₂ (λ l n. l ++ decimal n) (c.text.ensures.text ∙ ap (λ l. l ++ codes "code") named) c.from.ensures)
     ∙ append_assoc head (codes "code") (decimal c.args.code) in
     c.ne.ensures ∙ ap₂ (λ a b. not (bytes_eq a b)) word number

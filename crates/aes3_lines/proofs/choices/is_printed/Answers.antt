@@ -12,9 +12,9 @@ returns-then-eq c =
     let text = c.as_bytes.ensures
     ∙ (c.put_code.ensures.code ∙ ap (λ l. l ++ code_text c.args.field c.args.under c.loop-code.code) c.clear.ensures) in
     let is : p c.loop-code.code ≡ c.eq.result =
-        sym (c.eq.ensures ∙ ap₂ bytes_eq text c.as_bytes-in-loop-code.ensures) in
+    sym (c.eq.ensures ∙ ap₂ bytes_eq text c.as_bytes-in-loop-code.ensures) in
     sym (one-found p c.loop-code.code (code_count c.args.field) (omega (arith, c.codes-code-end.ensures.count))
-        (is ∙ c.if-eq.true))
+    (is ∙ c.if-eq.true))
 
 pub loop-code-preserved : goal.loop-code-preserved
 loop-code-preserved c =
@@ -22,7 +22,7 @@ loop-code-preserved c =
     let text = c.as_bytes.ensures
     ∙ (c.put_code.ensures.code ∙ ap (λ l. l ++ code_text c.args.field c.args.under c.loop-code.code) c.clear.ensures) in
     let is : p c.loop-code.code ≡ c.eq.result =
-        sym (c.eq.ensures ∙ ap₂ bytes_eq text c.as_bytes-in-loop-code.ensures) in
+    sym (c.eq.ensures ∙ ap₂ bytes_eq text c.as_bytes-in-loop-code.ensures) in
     none-more p c.loop-code.code c.loop-code.invariant (is ∙ c.if-eq.false)
 
 pub returns : goal.returns

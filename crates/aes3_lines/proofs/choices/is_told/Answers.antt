@@ -11,7 +11,7 @@ returns-then-is_printed c =
     ∙ ap (λ l. l ++ code_text c.args.field c.args.under c.args.code) c.new-line.ensures in
     sym (subst (λ l. list_any (is_printed l c.args.field) (below c.args.under) ≡ true) line
     (one-found (is_printed c.put_code.new.line c.args.field) c.loop-lower.lower c.args.under (omega arith)
-        (sym c.is_printed.ensures ∙ c.if-is_printed.true)))
+    (sym c.is_printed.ensures ∙ c.if-is_printed.true)))
 
 pub loop-lower-preserved : goal.loop-lower-preserved
 loop-lower-preserved c =

@@ -9,6 +9,6 @@ pub returns-in-Rate-clause-code : goal.returns-in-Rate-clause-code
 returns-in-Rate-clause-code c =
     c.word_field-in-Rate.ensures.field
     ∙ ap (λ name. c.args.line.now ++ field_text name
-        (word_for rate_words c.args.code)) c.consumer_name-name.ensures.name
+    (word_for rate_words c.args.code)) c.consumer_name-name.ensures.name
     ∙ ap (λ (f : ConField). c.args.line.now ++ field_text (con_name c.args.field) (con_word f c.args.under c.args.code))
     (sym c.in-Rate.is)

@@ -9,4 +9,4 @@ returns-in-Some-clause-known c =
 pub returns-in_ok-consumer_setting-in-None-clause-known : goal.returns-in_ok-consumer_setting-in-None-clause-known
 returns-in_ok-consumer_setting-in-None-clause-known c =
     λ unknown. is-known c.args.text.now consumer_fields c.in_ok-consumer_setting-in-None.field-0
-        c.in_ok-consumer_setting-in-None.ensures.some unknown.1
+    c.in_ok-consumer_setting-in-None.ensures.some unknown.1

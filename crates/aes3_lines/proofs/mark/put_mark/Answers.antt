@@ -17,8 +17,8 @@ returns-clause-line c =
     let f = u.few in
     made _ _ _ _ _ _ _ _ _ _ u.len (omega (arith, f)) (omega (arith, m, ap length b)) (search rules)
     c.put_at.ensures.bytes c.put_at-2.ensures.bytes c.put_at-3.ensures.bytes c.put_at-4.ensures.bytes
-        c.put_at-5.ensures.bytes
+    c.put_at-5.ensures.bytes
     ∙ ap₂ (λ x y. x ++ y) (ap₂ (λ x y. x ++ y) b u.digits) (ap₂ (λ x y. x ++ y) p (ap₂ (λ x y. x ++ y) q e))
     ∙ line-is c.args.mark c.args.before u.number last u.some (omega (arith, n, i)) (omega (arith, n, i))
     ∙ ap (λ k. mark_line k c.args.mark c.args.before) (let o : 10000 * u.number + last ≡ c.args.at =
-        omega (arith, n, i) in o)
+    omega (arith, n, i) in o)

@@ -13,4 +13,4 @@ returns-clause-fields c =
       c.put_professional_code.ensures.code,
     )
     (rw (c.mode.ensures, c.user.ensures, c.aux.ensures, c.word.ensures, c.aux-2.ensures, c.b2high.ensures)
-        (simp append_assoc))
+    (simp append_assoc))

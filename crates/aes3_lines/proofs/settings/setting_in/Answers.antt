@@ -11,5 +11,5 @@ loop-field-preserved c =
 pub returns-clause-none : goal.returns-clause-none
 returns-clause-none c =
     let all : take c.loop-field.field-index c.args.fields.now ≡ c.args.fields.now =
-        take_all c.loop-field.field-index c.args.fields.now (omega arith) in
+    take_all c.loop-field.field-index c.args.fields.now (omega arith) in
     λ _. rw all at c.loop-field.invariant

@@ -15,7 +15,7 @@ returns-then-named-code-clause-word c =
 pub returns-then-named-code-clause-len : goal.returns-then-named-code-clause-len
 returns-then-named-code-clause-len c =
     leb-true _ _ (test-get_or
-        (λ row. nat_le (length row.1.now) 20) c.args.words.now c.loop-named.named-index _ (omega arith) c.requires)
+    (λ row. nat_le (length row.1.now) 20) c.args.words.now c.loop-named.named-index _ (omega arith) c.requires)
 
 pub returns-clause-word : goal.returns-clause-word
 returns-clause-word c =

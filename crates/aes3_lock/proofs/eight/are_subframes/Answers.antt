@@ -14,10 +14,10 @@ told : (c : goal.After-wrong_cells_of_eight) → fold_l bit_or 0 c.wrong_cells_o
 told c z i h k g =
     subst (λ m. stands_even c.args.before m (word_cells (get_or c.args.cells.now i 0)) k ≡ true)
     (ap₂ (λ a b. if (i % 2) == 0 then a else b) c.mark_of.ensures c.mark_of-2.ensures
-        ∙ mark-behind c.args.slot i c.requires.some)
+    ∙ mark-behind c.args.slot i c.requires.some)
     (lane-stands c.args.before
-        (λ i. if (i % 2) == 0 then c.mark_of.result else c.mark_of-2.result) c.args.cells.now
-            c.wrong_cells_of_eight.result
+    (λ i. if (i % 2) == 0 then c.mark_of.result else c.mark_of-2.result) c.args.cells.now
+    c.wrong_cells_of_eight.result
     c.wrong_cells_of_eight.ensures z i k h g)
 
 pub returns-clause-fronts : goal.returns-clause-fronts

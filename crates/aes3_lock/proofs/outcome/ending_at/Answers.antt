@@ -16,7 +16,7 @@ returns-then-turns c =
     c.block_ending.ensures
     ∙ ap (report_of c.args.candidate.at)
     (sym (ended-block c.args.candidate.before c.args.offset (same c.args.cell c.args.previous)
-        (read_words c.args.words.now) (omega arith) e))
+    (read_words c.args.words.now) (omega arith) e))
 
 pub returns-else-offset-ge-BLOCK_CELLS : goal.returns-else-offset-ge-BLOCK_CELLS
 returns-else-offset-ge-BLOCK_CELLS c =
@@ -26,9 +26,9 @@ returns-else-offset-ge-BLOCK_CELLS c =
     ∙ ap (report_of c.args.candidate.at) (elim c.else-offset-ge-BLOCK_CELLS.branch [
       | else-offset-ge-BLOCK_CELLS-via-then-offset-ge-BLOCK_CELLS+else-turns w ↦
           sym (ended-unclosed c.args.candidate.before c.args.offset (same c.args.cell c.args.previous)
-              (read_words c.args.words.now) (omega arith)
+          (read_words c.args.words.now) (omega arith)
           (same-differs c.args.cell c.args.previous ∙ ap not (sym w.turns.ensures ∙ w.if-turns.false)))
       | else-offset-ge-BLOCK_CELLS-via-else-offset-ge-BLOCK_CELLS w ↦
           sym (ended-early c.args.candidate.before c.args.offset (same c.args.cell c.args.previous)
-              (read_words c.args.words.now) (omega arith))
+          (read_words c.args.words.now) (omega arith))
     ])

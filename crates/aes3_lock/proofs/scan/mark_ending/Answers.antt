@@ -20,4 +20,4 @@ returns-in-None c =
     sym (ended-long c.args.seen (low_cells 8 c.args.recent) (omega arith)
     ∙ ap (option_map (placed (c.args.seen - 8)))
     (first_mark-none (low_cells 8 c.args.recent) refl
-        (λ m s e. none-some _ (sym c.in-None.is ∙ c.match_mark.ensures.owed m s e))))
+    (λ m s e. none-some _ (sym c.in-None.is ∙ c.match_mark.ensures.owed m s e))))

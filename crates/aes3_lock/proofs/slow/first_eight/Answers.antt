@@ -12,7 +12,7 @@ loop-cell-preserved c = record {
   octet = octet-more (take 8 c.args.cells.now) (low_cells 8 c.loop-cell.recent)
       (low_cells 8 c.with_cell-recent.result) c.loop-cell.cell-index
       (let n = length-take-le 8 c.args.cells.now (omega arith) in
-          omega arith) c.loop-cell.invariant.octet c.with_cell-recent.ensures;
+      omega arith) c.loop-cell.invariant.octet c.with_cell-recent.ensures;
 }
 
 pub returns : goal.returns

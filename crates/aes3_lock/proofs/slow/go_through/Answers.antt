@@ -20,7 +20,7 @@ returns-then-offset-eq-BLOCK_CELLS-clause-front c =
       | then-offset-eq-BLOCK_CELLS-via-else-offset-eq-BLOCK_CELLS+then-not-may_stand w ↦
           walk-stops _ _ _ _ _ _ c.loop-cell.offset c.loop-cell.invariant.walked (omega arith)
           (ap (λ k. rule mark_at c.loop-cell.offset (at c.args.cells.now k) c.loop-cell.level c.loop-cell.previous) i
-              ∙ sym w.may_stand.ensures ∙ w.if-not-may_stand.true)
+          ∙ sym w.may_stand.ensures ∙ w.if-not-may_stand.true)
     ]
 
 pub loop-cell-preserved : goal.loop-cell-preserved
@@ -38,25 +38,25 @@ loop-cell-preserved c =
     → low_cells (c.loop-cell.offset % 64 + 1) c.with_next-subframe.result ≡ low_cells
     (c.loop-cell.offset % 64) c.loop-cell.subframe ++ at c.args.cells.now c.loop-cell.offset ∷ [] =
     λ f. c.with_next-subframe.ensures.cells f
-        ∙ ap (λ k. low_cells (c.loop-cell.offset % 64) c.loop-cell.subframe ++ at c.args.cells.now k ∷ []) (sym i) in
+    ∙ ap (λ k. low_cells (c.loop-cell.offset % 64) c.loop-cell.subframe ++ at c.args.cells.now k ∷ []) (sym i) in
     let here : at c.args.cells.now c.loop-cell.offset ≡ at c.args.cells.now c.loop-cell.cell-index =
-        ap (at c.args.cells.now) i in
+    ap (at c.args.cells.now) i in
     record {
       count = ap (λ k. k + 1) i;
       walked = elim c.if-len.branch [
         | then-len w ↦
             walk-same _ _
-                _ (walk-whole c.args.level_before c.args.cells.now c.loop-cell.subframe c.with_next-subframe.result
-                    c.loop-cell.words c.loop-cell.level c.loop-cell.previous c.loop-cell.offset
+            _ (walk-whole c.args.level_before c.args.cells.now c.loop-cell.subframe c.with_next-subframe.result
+            c.loop-cell.words c.loop-cell.level c.loop-cell.previous c.loop-cell.offset
             c.loop-cell.invariant.walked (omega arith) (omega arith) right cells (omega arith) (let e = w.if-len.true in
-                omega arith))
+            omega arith))
             w.subframe-is w.words-is (w.level-is ∙ sym here) (sym here)
         | else-len w ↦
             walk-same _ _
-                _ (walk-inside c.args.level_before c.args.cells.now c.loop-cell.subframe c.with_next-subframe.result
-                    c.loop-cell.words c.loop-cell.level c.loop-cell.previous c.loop-cell.offset
+            _ (walk-inside c.args.level_before c.args.cells.now c.loop-cell.subframe c.with_next-subframe.result
+            c.loop-cell.words c.loop-cell.level c.loop-cell.previous c.loop-cell.offset
             c.loop-cell.invariant.walked (omega arith) (omega arith) right cells (let e = w.if-len.false in
-                omega arith) c.with_next-subframe.ensures.few)
+            omega arith) c.with_next-subframe.ensures.few)
             w.subframe-is w.words-is w.level-is (sym here)
       ];
     }

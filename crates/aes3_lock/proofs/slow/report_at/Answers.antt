@@ -21,18 +21,18 @@ returns c =
     sym (ap (told c.args.at) e.0 ∙ ap (λ r. r ∷ []) (elim c.if-place-cells.branch [
       | then-place-cells w ↦ ap (report_of c.args.at)
           (place-ended c.args.cells.now c.in-Some.begun.before c.of_words-gathered.result c.go_through-offset.result.0
-              c.go_through-offset.result.1 e.1
+          c.go_through-offset.result.1 e.1
           c.go_through-offset.ensures.front c.go_through-offset.ensures.last
           (subst (λ ws. Filled ws (take c.go_through-offset.result.0 c.args.cells.now))
-              (sym c.of_words-gathered.ensures.words) c.go_through-offset.ensures.words)
+          (sym c.of_words-gathered.ensures.words) c.go_through-offset.ensures.words)
           c.of_words-gathered.ensures.len (omega arith))
           ∙ sym (ap (ending_report (read_words c.of_words-gathered.result)) w.ending-is ∙ w.ending_at-ending.ensures)
       | else-place-cells w ↦ ap (report_of c.args.at)
           (place-left c.args.cells.now c.in-Some.begun.before c.of_words-gathered.result c.go_through-offset.result.0
-              c.go_through-offset.result.1 e.1
+          c.go_through-offset.result.1 e.1
           c.go_through-offset.ensures.front c.go_through-offset.ensures.last
           (subst (λ ws. Filled ws (take c.go_through-offset.result.0 c.args.cells.now))
-              (sym c.of_words-gathered.ensures.words) c.go_through-offset.ensures.words)
+          (sym c.of_words-gathered.ensures.words) c.go_through-offset.ensures.words)
           c.of_words-gathered.ensures.len (omega arith))
           ∙ sym (ap (ending_report (read_words c.of_words-gathered.result)) w.ending-is ∙ w.left_ending-ending.ensures)
     ] ∙ sym c.report_with.ensures))

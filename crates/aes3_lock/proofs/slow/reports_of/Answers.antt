@@ -15,9 +15,9 @@ loop-at-preserved c =
     record {
       found = ap (λ x. x ++ reports_from (c.loop-at.at + 1) (drop (c.loop-at.at + 1) c.args.cells.now))
           (elim c.match-report_at.branch [
-        | in-Some+in_ok-push w ↦ ap (λ v. v.items) w.found-is ∙ w.in_ok-push.ensures.items
-            ∙ sym (ap (λ r. c.loop-at.found.items ++ option_to_list r) w.in-Some.is)
-        | in_default w ↦ ap (λ v. v.items) w.found-is ∙ sym (append-nil c.loop-at.found.items)
-            ∙ sym (ap (λ r. c.loop-at.found.items ++ option_to_list r) w.in_default.is)
-      ]) ∙ more;
+            | in-Some+in_ok-push w ↦ ap (λ v. v.items) w.found-is ∙ w.in_ok-push.ensures.items
+                ∙ sym (ap (λ r. c.loop-at.found.items ++ option_to_list r) w.in-Some.is)
+            | in_default w ↦ ap (λ v. v.items) w.found-is ∙ sym (append-nil c.loop-at.found.items)
+                ∙ sym (ap (λ r. c.loop-at.found.items ++ option_to_list r) w.in_default.is)
+          ]) ∙ more;
     }

@@ -6,7 +6,7 @@ use Rattle.aes3_lock.proofs.subframe.with_next.Goals as goal
 pub returns-in-Low-clause-cells : goal.returns-in-Low-clause-cells
 returns-in-Low-clause-cells c =
     λ h. low_cells-low c.args.len c.args.cells h
-        ∙ ap (λ l. low_cells c.args.len c.args.cells ++ l ∷ []) (sym c.in-Low.is)
+    ∙ ap (λ l. low_cells c.args.len c.args.cells ++ l ∷ []) (sym c.in-Low.is)
 
 pub returns-in-High-clause-cells : goal.returns-in-High-clause-cells
 returns-in-High-clause-cells c = λ h.

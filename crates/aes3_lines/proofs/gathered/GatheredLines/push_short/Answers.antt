@@ -13,4 +13,4 @@ returns c =
     let e = ap length a in
     take-put_mid s.len (s.len + length b - s.len) s.text y (s.len + length b) (omega (arith, e)) (omega (arith, l, i))
     ∙ ap₂ (λ x y. x ++ y) c.self.view_is (a ∙ c.as_bytes-bytes.ensures ∙ c.text.ensures.text
-        ∙ ap (λ x. x ++ 10 ∷ []) c.text_of_mark-line.ensures.text)
+    ∙ ap (λ x. x ++ 10 ∷ []) c.text_of_mark-line.ensures.text)

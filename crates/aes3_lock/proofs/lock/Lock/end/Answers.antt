@@ -12,4 +12,4 @@ returns c = λ l f.
     finish-open _ c.in-Some.candidate l
     (subst (λ k. Follows k l) (sym c.self.view_is) f) c.self.invariant.1 c.in-Some.is
     ∙ ap (λ r. decided l ++ r ∷ []) (sym c.left_ending.ensures
-        ∙ ap (λ k. report_in k c.left_ending.result) c.self.view_is)
+    ∙ ap (λ k. report_in k c.left_ending.result) c.self.view_is)

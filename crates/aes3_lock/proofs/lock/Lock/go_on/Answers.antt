@@ -20,13 +20,13 @@ past : (c : After-one) → Stops c.args.self.now c.first_cell.result
 past c =
     past-stops _ c.args.candidate _ c.requires.in_hand
     (let b = block_len_24576 in let o = c.if-offset-ge-BLOCK_CELLS.true in
-        let s = ap (λ (k : LockState). k.seen) c.self.view_is in omega (arith, b, o, s))
+    let s = ap (λ (k : LockState). k.seen) c.self.view_is in omega (arith, b, o, s))
 
 pub returns-then-offset-ge-BLOCK_CELLS-clause-follows : goal.returns-then-offset-ge-BLOCK_CELLS-clause-follows
 returns-then-offset-ge-BLOCK_CELLS-clause-follows c = λ l f.
     subst (λ m. Follows c.stop-ending.new.self (l ++ low_cells m c.args.word)) (sym c.one.ensures.taken)
     (subst (λ x. Follows c.stop-ending.new.self (l ++ x ∷ [])) c.first_cell.ensures
-        (c.stop-ending.ensures.follows l f (past c)))
+    (c.stop-ending.ensures.follows l f (past c)))
 
 pub returns-then-offset-ge-BLOCK_CELLS-clause-report : goal.returns-then-offset-ge-BLOCK_CELLS-clause-report
 returns-then-offset-ge-BLOCK_CELLS-clause-report c = λ l f.
@@ -60,17 +60,17 @@ refuted c l f =
     (record { cells = c.completed-cells.ensures; fits = omega (arith, m, h); room = omega (arith, b, o) })
     (omega (arith, m, h))
     (all-right c.args.candidate c.completed-cells.result
-        (c.self.inside.seen - c.args.candidate.at) c.wrong_cells.result c.mark_of.result
-        (omega arith) c.mark_of.ensures c.wrong_cells.ensures
+    (c.self.inside.seen - c.args.candidate.at) c.wrong_cells.result c.mark_of.result
+    (omega arith) c.mark_of.ensures c.wrong_cells.ensures
     n (omega arith) (omega (arith, m, h)))
     (next-wrong c.args.candidate c.completed-cells.result
-        (c.self.inside.seen - c.args.candidate.at) c.wrong_cells.result c.mark_of.result
-        (omega arith) c.mark_of.ensures c.wrong_cells.ensures
+    (c.self.inside.seen - c.args.candidate.at) c.wrong_cells.result c.mark_of.result
+    (omega arith) c.mark_of.ensures c.wrong_cells.ensures
     n refl (omega (arith, m, h)))
     (c.refute.ensures.seen ∙ ap (λ (k : LockState). k.seen + (right c + 1)) (sym c.self.view_is))
     (c.refute.ensures.recent
-        ∙ ap (λ (k : LockState). drop (right c + 1) (k.recent ++ low_cells (right c + 1) c.args.word))
-        (sym c.self.view_is)) c.refute.ensures.candidate c.refute.ensures.subframe c.refute.ensures.few
+    ∙ ap (λ (k : LockState). drop (right c + 1) (k.recent ++ low_cells (right c + 1) c.args.word))
+    (sym c.self.view_is)) c.refute.ensures.candidate c.refute.ensures.subframe c.refute.ensures.few
 
 pub returns-then-right-taken-clause-follows : goal.returns-then-right-taken-clause-follows
 returns-then-right-taken-clause-follows c = λ l f.
@@ -80,14 +80,14 @@ pub returns-then-right-taken-clause-report : goal.returns-then-right-taken-claus
 returns-then-right-taken-clause-report c = λ l f.
     ap (λ m. decided (l ++ low_cells m c.args.word)) c.refute.ensures.taken ∙ (refuted c l f).1
     ∙ ap (λ (k : LockState). decided l ++ Fault c.args.candidate.at (k.seen + right c)
-        (why_of (k.seen + right c - c.args.candidate.at)) ∷ []) c.self.view_is
+    (why_of (k.seen + right c - c.args.candidate.at)) ∷ []) c.self.view_is
     ∙ ap (λ e. decided l ++ option_to_list (option_map (report_in c.refute.new.self) e)) (sym c.refute.ensures.ending)
 
 pub returns-then-right-taken-clause-last : goal.returns-then-right-taken-clause-last
 returns-then-right-taken-clause-last c = λ _ l f.
     let t = c.refute.ensures.taken in
     ap (λ m. decided (l ++ low_cells m c.args.word)) (let e : c.refute.result.taken - 1 ≡ right c = omega (arith, t) in
-        e) ∙ (refuted c l f).2
+    e) ∙ (refuted c l f).2
 
 -- none does, and the subframe isn't whole then
 abbrev next : After-quiet → LockState
@@ -109,7 +109,7 @@ begun c =
       short = omega (arith, e, t);
       cells = subst
           (λ j. low_cells ((c.self.inside.seen - c.args.candidate.at) % 64 + j) c.first_of-self-inside.result
-              ≡ low_cells ((c.self.inside.seen - c.args.candidate.at) % 64 + j) c.completed-cells.result)
+          ≡ low_cells ((c.self.inside.seen - c.args.candidate.at) % 64 + j) c.completed-cells.result)
           t c.first_of-self-inside.ensures.cells;
       few = subst (λ j. c.first_of-self-inside.result < 2 ^
           ((c.self.inside.seen - c.args.candidate.at) % 64 + j)) t c.first_of-self-inside.ensures.few;
@@ -128,18 +128,18 @@ goes-next c l f =
     (ap (λ (k : LockState). k.candidate) c.self.view_is ∙ c.requires.in_hand)
     (record { cells = c.completed-cells.ensures; fits = omega (arith, m); room = omega (arith, b, o) })
     (all-right c.args.candidate c.completed-cells.result
-        (c.self.inside.seen - c.args.candidate.at) c.wrong_cells.result c.mark_of.result
-        (omega arith) c.mark_of.ensures c.wrong_cells.ensures
+    (c.self.inside.seen - c.args.candidate.at) c.wrong_cells.result c.mark_of.result
+    (omega arith) c.mark_of.ensures c.wrong_cells.ensures
     c.min-taken.result (omega (arith, h)) (omega (arith, m)))
     (next c)
     (ap (λ (k : LockState). k.seen) c.self-2.view_is ∙ c.count.ensures.seen
-        ∙ ap (λ (k : LockState). k.seen + c.min-taken.result) (sym c.self.view_is))
+    ∙ ap (λ (k : LockState). k.seen + c.min-taken.result) (sym c.self.view_is))
     (ap (λ (k : LockState). k.recent) c.self-2.view_is ∙ c.count.ensures.recent
     ∙ ap (λ (k : LockState). drop c.min-taken.result (k.recent ++ low_cells c.min-taken.result c.args.word))
     (sym c.self.view_is))
     (ap (λ (k : LockState). k.candidate) c.self-2.view_is ∙ c.count.ensures.candidate ∙ c.requires.in_hand)
     (ap (λ (k : LockState). k.words) c.self-2.view_is ∙ c.count.ensures.words
-        ∙ ap (λ (k : LockState). k.words) (sym c.self.view_is))
+    ∙ ap (λ (k : LockState). k.words) (sym c.self.view_is))
     (begun c)
 
 pub returns-then-end-lt-SUBFRAME_CELLS-clause-follows : goal.returns-then-end-lt-SUBFRAME_CELLS-clause-follows
@@ -149,8 +149,8 @@ returns-then-end-lt-SUBFRAME_CELLS-clause-follows c =
 pub returns-then-end-lt-SUBFRAME_CELLS-clause-report : goal.returns-then-end-lt-SUBFRAME_CELLS-clause-report
 returns-then-end-lt-SUBFRAME_CELLS-clause-report c = λ l f.
     none-told (report_in
-        (next c)) l c.args.word c.min-taken.result c.quiet.result.taken c.quiet.result.ending c.quiet.ensures.taken
-            c.quiet.ensures.ending (goes-next c l f).1
+    (next c)) l c.args.word c.min-taken.result c.quiet.result.taken c.quiet.result.ending c.quiet.ensures.taken
+    c.quiet.ensures.ending (goes-next c l f).1
 
 -- or it is
 abbrev whole : After-quiet-2 → LockState
@@ -177,29 +177,32 @@ goes-whole c l f =
     (ap (λ (k : LockState). k.candidate) c.self.view_is ∙ c.requires.in_hand)
     (record { cells = c.completed-cells.ensures; fits = omega (arith, m); room = omega (arith, b, o) })
     (all-right c.args.candidate c.completed-cells.result
-        (c.self.inside.seen - c.args.candidate.at) c.wrong_cells.result c.mark_of.result
-        (omega arith) c.mark_of.ensures c.wrong_cells.ensures
+    (c.self.inside.seen - c.args.candidate.at) c.wrong_cells.result c.mark_of.result
+    (omega arith) c.mark_of.ensures c.wrong_cells.ensures
     c.min-taken.result (omega (arith, h)) (omega (arith, m)))
     (whole c)
     (ap (λ (k : LockState). k.seen) c.self-2.view_is ∙ c.count.ensures.seen
-        ∙ ap (λ (k : LockState). k.seen + c.min-taken.result) (sym c.self.view_is))
+    ∙ ap (λ (k : LockState). k.seen + c.min-taken.result) (sym c.self.view_is))
     (ap (λ (k : LockState). k.recent) c.self-2.view_is ∙ c.count.ensures.recent
     ∙ ap (λ (k : LockState). drop c.min-taken.result (k.recent ++ low_cells c.min-taken.result c.args.word))
     (sym c.self.view_is))
-    (ap (λ v. Some (record { at = c.args.candidate.at; before = c.args.candidate.before;
-        level = v })) c.last_of.ensures) refl
+    (ap (λ v. Some (record {
+      at = c.args.candidate.at;
+      before = c.args.candidate.before;
+      level = v;
+    })) c.last_of.ensures) refl
     (c.keep.ensures ∙ ap (λ v. set v ((c.self.inside.seen - c.args.candidate.at) / 64) c.completed-cells.result)
     (ap (λ (k : LockState). k.words) c.self-2.view_is ∙ c.count.ensures.words
-        ∙ ap (λ (k : LockState). k.words) (sym c.self.view_is)))
+    ∙ ap (λ (k : LockState). k.words) (sym c.self.view_is)))
     c.self.invariant.1 (omega (arith, e, t, m))
 
 pub returns-clause-follows : goal.returns-clause-follows
 returns-clause-follows c =
     λ l f. subst (λ m. Follows (whole c) (l ++ low_cells m c.args.word)) (sym c.quiet-2.ensures.taken)
-        (goes-whole c l f).0
+    (goes-whole c l f).0
 
 pub returns-clause-report : goal.returns-clause-report
 returns-clause-report c = λ l f.
     none-told (report_in
-        (whole c)) l c.args.word c.min-taken.result c.quiet-2.result.taken c.quiet-2.result.ending
-            c.quiet-2.ensures.taken c.quiet-2.ensures.ending (goes-whole c l f).1
+    (whole c)) l c.args.word c.min-taken.result c.quiet-2.result.taken c.quiet-2.result.ending
+    c.quiet-2.ensures.taken c.quiet-2.ensures.ending (goes-whole c l f).1

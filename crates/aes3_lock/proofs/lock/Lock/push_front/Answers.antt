@@ -23,7 +23,7 @@ loop-taken-preserved c =
     let n = c.loop-taken.taken in
     let m = c.step-pushed.result.taken in
     let q = no-ending (report_in c.step-pushed.new.self) c.step-pushed.result.ending (sym c.is_some.ensures
-        ∙ c.if-is_some.false) in
+    ∙ c.if-is_some.false) in
     record {
       within = (let h = e.within in let t = i.within in omega (arith, h, t));
       seen = (let h = e.seen in let s = i.seen in omega (arith, h, s));
@@ -36,12 +36,12 @@ loop-taken-preserved c =
 pub returns-then-is_some-clause-follows : goal.returns-then-is_some-clause-follows
 returns-then-is_some-clause-follows c = λ l f.
     more-follows c.loop-taken.self c.step-pushed.new.self l c.loop-taken.taken c.step-pushed.result.taken c.args.word
-        c.step-pushed.ensures.follows (c.loop-taken.invariant.follows l f)
+    c.step-pushed.ensures.follows (c.loop-taken.invariant.follows l f)
 
 pub returns-then-is_some-clause-report : goal.returns-then-is_some-clause-report
 returns-then-is_some-clause-report c = λ l f.
     more-reports c.loop-taken.self l c.loop-taken.taken c.step-pushed.result.taken c.args.word _
-        c.step-pushed.ensures.report (c.loop-taken.invariant.follows l f) (c.loop-taken.invariant.none l f)
+    c.step-pushed.ensures.report (c.loop-taken.invariant.follows l f) (c.loop-taken.invariant.none l f)
 
 pub returns-then-is_some-clause-last : goal.returns-then-is_some-clause-last
 returns-then-is_some-clause-last c = λ ended l f.

@@ -40,10 +40,10 @@ returns-clause-report c = λ l f p.
     refl c.with_cell-self-inside.ensures c.candidate_in-self-inside.ensures.value
     (ap (low_cells 8) (sym c.from-self-inside.ensures)) (let e = c.from-self-inside.ensures in omega (arith, e))).1
     ∙ ap (λ (t : Candidate). decided l ++ report_of t.at
-        (ended t.before (c.self.inside.seen - t.at) (same c.args.cell (at (low_cells 8 c.self.inside.recent) 7))
-            (read_words c.self.inside.words)) ∷ []) e
+    (ended t.before (c.self.inside.seen - t.at) (same c.args.cell (at (low_cells 8 c.self.inside.recent) 7))
+    (read_words c.self.inside.words)) ∷ []) e
     ∙ ap (λ r. decided l ++ r ∷ []) (sym (c.ending_at-ending.ensures
     ∙ ap (λ p. report_of c.in-Some.candidate.at
-        (ended c.in-Some.candidate.before (c.self.inside.seen - c.in-Some.candidate.at) (same c.args.cell p)
-            (read_words c.self.inside.words)))
+    (ended c.in-Some.candidate.before (c.self.inside.seen - c.in-Some.candidate.at) (same c.args.cell p)
+    (read_words c.self.inside.words)))
     c.last_cell-previous.ensures))

@@ -28,7 +28,7 @@ loop-taken-init c =
       follows = λ l f. behind-none c.self.inside.seen c.self.inside.recent c.self.inside.subframe c.self.inside.words
           c.in-Some.candidate c.self.inside.candidate _ c.in-Some.is
           (subst (λ k. Follows k (l ++ flat_map word_cells (take 0 c.args.words.now))) (sym c.self.view_is)
-              (subst (Follows c.args.self.now) (sym (no-words l c.args.words.now)) f));
+          (subst (Follows c.args.self.now) (sym (no-words l c.args.words.now)) f));
       none = λ l f. ap decided (no-words l c.args.words.now);
     }
 
@@ -47,7 +47,7 @@ fits c i = (c.type_inv.words i).fits
 
 goes-on : (c : goal.After-self-1) (l : List Level) → Follows c.args.self.now l
     → Follows (lock_behind c.loop-taken.self-inside.seen c.last_octet-self-inside.result c.in-Some.candidate
-        c.rest_of-rest.result c.keep_eight.new.self (c.loop-taken.taken + 8))
+    c.rest_of-rest.result c.keep_eight.new.self (c.loop-taken.taken + 8))
     (l ++ flat_map word_cells (take (c.loop-taken.taken + 8) c.args.words.now))
     × (decided (l ++ flat_map word_cells (take (c.loop-taken.taken + 8) c.args.words.now)) ≡ decided l)
 goes-on c l f =
@@ -70,7 +70,7 @@ goes-on c l f =
     let r = c.loop-taken-test.true in
     let b = block_len_24576 in
     let now = lock_behind c.loop-taken.self-inside.seen c.loop-taken.self-inside.recent t c.loop-taken.behind
-        c.loop-taken.self-inside.words at in
+    c.loop-taken.self-inside.words at in
     let so_far = l ++ flat_map word_cells (take at words) in
     let follows = i.follows l f in
     let len = (c.self.inside.seen - t.at) % 64 in
@@ -79,7 +79,7 @@ goes-on c l f =
     let some : 0 < slot = omega (arith, o) in
     let few = subst (λ p. c.loop-taken.behind < 2 ^ p) part (begun-few now t so_far follows refl) in
     let next = lock_behind c.loop-taken.self-inside.seen c.last_octet-self-inside.result t c.rest_of-rest.result
-        c.keep_eight.new.self (at + 8) in
+    c.keep_eight.new.self (at + 8) in
     let a = eight-later now t so_far eight c.eight_completed-subframes.result follows refl i.count count
     (front-fits eight words at count front (fits c)) slot at len some
     (omega (arith, e)) (omega (arith, seen, s, o)) part (omega (arith, seen, s, o, r, b))
@@ -88,7 +88,7 @@ goes-on c l f =
     (c.are_subframes.ensures.levels c.if-not-are_subframes.false)
     c.rest_of-rest.result c.rest_of-rest.ensures.cells c.rest_of-rest.ensures.few
     (subst (λ m. IsFrontOf t.level m (take len (word_cells c.rest_of-rest.result))) c.mark_of.ensures
-        (c.begins_subframe.ensures.yes c.if-not-begins_subframe.false))
+    (c.begins_subframe.ensures.yes c.if-not-begins_subframe.false))
     next (omega arith) c.last_octet-self-inside.ensures refl refl c.keep_eight.ensures in
     let more : so_far ++ flat_map word_cells eight ≡ l ++ flat_map word_cells (take (at + 8) words) =
     ap (λ v. so_far ++ flat_map word_cells v) front ∙ next-words l words (drop at words) at 8 i.within refl in
@@ -110,7 +110,7 @@ loop-taken-preserved c =
       count = ap length c.keep_eight.ensures
           ∙ length-with_first
           ((c.self.inside.seen - c.in-Some.candidate.at) / 64 + c.loop-taken.taken) c.loop-taken.self-inside.words
-              c.eight_completed-subframes.result 8 ∙ i.count;
+          c.eight_completed-subframes.result 8 ∙ i.count;
       follows = λ l f. (goes-on c l f).0;
       none = λ l f. (goes-on c l f).1;
     }
@@ -119,4 +119,4 @@ pub returns-clause-follows : goal.returns-clause-follows
 returns-clause-follows c = λ l f.
     let k = c.loop-taken.self-inside in
     behind-is k.seen k.recent c.loop-taken.behind k.words c.loop-taken.taken c.in-Some.candidate k.candidate _
-        c.loop-taken.invariant.candidate (c.loop-taken.invariant.follows l f)
+    c.loop-taken.invariant.candidate (c.loop-taken.invariant.follows l f)

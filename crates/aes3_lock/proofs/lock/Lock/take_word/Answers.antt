@@ -16,7 +16,7 @@ use Rattle.aes3_block.proofs.CellLaws.{block_len_24576}
 pub returns-then-offset-clause-stops : goal.returns-then-offset-clause-stops
 returns-then-offset-clause-stops c = λ r l f t s.
     let e : t ≡ c.in-Some.candidate = same_Some _ _ (sym (ap (λ (k : LockState). k.candidate) c.self.view_is ∙ s)
-        ∙ c.in-Some.is) in
+    ∙ c.in-Some.is) in
     subst (λ (t : Candidate). open_at (drop t.at (l ++ word_cells c.args.word)) ≡ false) (sym e)
     (false_from_ne_true (open_at (drop c.in-Some.candidate.at (l ++ word_cells c.args.word))) (λ o.
     let w = word-room _ c.in-Some.candidate l c.args.word
@@ -27,39 +27,48 @@ returns-then-offset-clause-stops c = λ r l f t s.
 pub returns-then-not-begins_subframe-clause-stops : goal.returns-then-not-begins_subframe-clause-stops
 returns-then-not-begins_subframe-clause-stops c = λ r l f t s.
     let e : t ≡ c.in-Some.candidate = same_Some _ _ (sym (ap (λ (k : LockState). k.candidate) c.self.view_is ∙ s)
-        ∙ c.in-Some.is) in
+    ∙ c.in-Some.is) in
     subst (λ (t : Candidate). open_at (drop t.at (l ++ word_cells c.args.word)) ≡ false) (sym e)
     (false_from_ne_true (open_at (drop c.in-Some.candidate.at (l ++ word_cells c.args.word))) (λ o.
     let z = word-fits _ c.in-Some.candidate l c.args.word c.completed-cells.result c.rest_of-rest.result
     (subst (λ k. Follows k l) (sym c.self.view_is) f) c.in-Some.is
-    (record { whole = c.completed-cells.ensures; rest = c.rest_of-rest.ensures.cells;
-        few = c.rest_of-rest.ensures.few }) o in
+    (record {
+      whole = c.completed-cells.ensures;
+      rest = c.rest_of-rest.ensures.cells;
+      few = c.rest_of-rest.ensures.few;
+    }) o in
     elim c.then-not-begins_subframe.branch [
       | then-not-begins_subframe-via-then-not-begins_subframe w ↦
           c.begins_subframe.ensures.no w.if-not-begins_subframe.true
           (subst (λ m. IsFrontOf c.in-Some.candidate.level m (take 64 (word_cells c.completed-cells.result)))
-              (sym c.mark_of.ensures) z.whole)
+          (sym c.mark_of.ensures) z.whole)
       | then-not-begins_subframe-via-else-not-begins_subframe+then-not-begins_subframe-2 w ↦
           w.begins_subframe-else-not-begins_subframe.ensures.no w.if-not-begins_subframe-2.true
           (subst (λ m. IsFrontOf c.last_of-level.result m
-              (take ((c.self.inside.seen - c.in-Some.candidate.at) % 64) (word_cells c.rest_of-rest.result)))
-              (sym w.mark_of-else-not-begins_subframe.ensures)
+          (take ((c.self.inside.seen - c.in-Some.candidate.at) % 64) (word_cells c.rest_of-rest.result)))
+          (sym w.mark_of-else-not-begins_subframe.ensures)
           (subst (λ v. IsFrontOf v (mark_at ((c.self.inside.seen - c.in-Some.candidate.at) / 64 + 1))
-              (take ((c.self.inside.seen - c.in-Some.candidate.at) % 64) (word_cells c.rest_of-rest.result)))
+          (take ((c.self.inside.seen - c.in-Some.candidate.at) % 64) (word_cells c.rest_of-rest.result)))
           (sym c.last_of-level.ensures) z.next))
     ]))
 
 pub returns-clause-follows : goal.returns-clause-follows
 returns-clause-follows c = λ t l f.
     (word-next _ c.in-Some.candidate l c.args.word c.completed-cells.result c.rest_of-rest.result
-        (subst (λ k. Follows k l) (sym c.self.view_is) f) c.in-Some.is
-    (record { whole = c.completed-cells.ensures; rest = c.rest_of-rest.ensures.cells;
-        few = c.rest_of-rest.ensures.few })
+    (subst (λ k. Follows k l) (sym c.self.view_is) f) c.in-Some.is
+    (record {
+      whole = c.completed-cells.ensures;
+      rest = c.rest_of-rest.ensures.cells;
+      few = c.rest_of-rest.ensures.few;
+    })
     (record {
       seen = c.self.inside.seen + 64;
       recent = low_cells 8 c.last_octet-self-inside.result;
-      candidate = Some (record { at = c.in-Some.candidate.at; before = c.in-Some.candidate.before;
-          level = c.last_of-level.result });
+      candidate = Some (record {
+        at = c.in-Some.candidate.at;
+        before = c.in-Some.candidate.before;
+        level = c.last_of-level.result;
+      });
       subframe = c.rest_of-rest.result;
       words = c.keep.new.self;
     })
@@ -71,28 +80,37 @@ returns-clause-follows c = λ t l f.
           (c.begins_subframe.ensures.yes c.if-not-begins_subframe.false);
       next = subst
           (λ v. IsFrontOf v (mark_at ((c.self.inside.seen - c.in-Some.candidate.at) / 64 + 1))
-              (take ((c.self.inside.seen - c.in-Some.candidate.at) % 64)
-                  (word_cells c.rest_of-rest.result))) c.last_of-level.ensures
+          (take ((c.self.inside.seen - c.in-Some.candidate.at) % 64)
+          (word_cells c.rest_of-rest.result))) c.last_of-level.ensures
           (subst (λ m. IsFrontOf c.last_of-level.result m
-              (take ((c.self.inside.seen - c.in-Some.candidate.at) % 64)
-                  (word_cells c.rest_of-rest.result))) c.mark_of-else-not-begins_subframe.ensures
+          (take ((c.self.inside.seen - c.in-Some.candidate.at) % 64)
+          (word_cells c.rest_of-rest.result))) c.mark_of-else-not-begins_subframe.ensures
           (c.begins_subframe-else-not-begins_subframe.ensures.yes c.if-not-begins_subframe-2.false));
     })
     refl c.last_octet-self-inside.ensures
-    (ap (λ v. Some (record { at = c.in-Some.candidate.at; before = c.in-Some.candidate.before;
-        level = v })) c.last_of-level.ensures) refl c.keep.ensures).0
+    (ap (λ v. Some (record {
+      at = c.in-Some.candidate.at;
+      before = c.in-Some.candidate.before;
+      level = v;
+    })) c.last_of-level.ensures) refl c.keep.ensures).0
 
 pub returns-clause-none : goal.returns-clause-none
 returns-clause-none c = λ t l f.
     (word-next _ c.in-Some.candidate l c.args.word c.completed-cells.result c.rest_of-rest.result
-        (subst (λ k. Follows k l) (sym c.self.view_is) f) c.in-Some.is
-    (record { whole = c.completed-cells.ensures; rest = c.rest_of-rest.ensures.cells;
-        few = c.rest_of-rest.ensures.few })
+    (subst (λ k. Follows k l) (sym c.self.view_is) f) c.in-Some.is
+    (record {
+      whole = c.completed-cells.ensures;
+      rest = c.rest_of-rest.ensures.cells;
+      few = c.rest_of-rest.ensures.few;
+    })
     (record {
       seen = c.self.inside.seen + 64;
       recent = low_cells 8 c.last_octet-self-inside.result;
-      candidate = Some (record { at = c.in-Some.candidate.at; before = c.in-Some.candidate.before;
-          level = c.last_of-level.result });
+      candidate = Some (record {
+        at = c.in-Some.candidate.at;
+        before = c.in-Some.candidate.before;
+        level = c.last_of-level.result;
+      });
       subframe = c.rest_of-rest.result;
       words = c.keep.new.self;
     })
@@ -104,13 +122,16 @@ returns-clause-none c = λ t l f.
           (c.begins_subframe.ensures.yes c.if-not-begins_subframe.false);
       next = subst
           (λ v. IsFrontOf v (mark_at ((c.self.inside.seen - c.in-Some.candidate.at) / 64 + 1))
-              (take ((c.self.inside.seen - c.in-Some.candidate.at) % 64)
-                  (word_cells c.rest_of-rest.result))) c.last_of-level.ensures
+          (take ((c.self.inside.seen - c.in-Some.candidate.at) % 64)
+          (word_cells c.rest_of-rest.result))) c.last_of-level.ensures
           (subst (λ m. IsFrontOf c.last_of-level.result m
-              (take ((c.self.inside.seen - c.in-Some.candidate.at) % 64)
-                  (word_cells c.rest_of-rest.result))) c.mark_of-else-not-begins_subframe.ensures
+          (take ((c.self.inside.seen - c.in-Some.candidate.at) % 64)
+          (word_cells c.rest_of-rest.result))) c.mark_of-else-not-begins_subframe.ensures
           (c.begins_subframe-else-not-begins_subframe.ensures.yes c.if-not-begins_subframe-2.false));
     })
     refl c.last_octet-self-inside.ensures
-    (ap (λ v. Some (record { at = c.in-Some.candidate.at; before = c.in-Some.candidate.before;
-        level = v })) c.last_of-level.ensures) refl c.keep.ensures).1
+    (ap (λ v. Some (record {
+      at = c.in-Some.candidate.at;
+      before = c.in-Some.candidate.before;
+      level = v;
+    })) c.last_of-level.ensures) refl c.keep.ensures).1

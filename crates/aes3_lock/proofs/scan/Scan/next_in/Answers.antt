@@ -26,7 +26,7 @@ pub returns-then-quiet-len-clause-mark : goal.returns-then-quiet-len-clause-mark
 returns-then-quiet-len-clause-mark c = λ l f.
     none-end l (with_seven c.completed-cells.result c.rest_of.result) c.preambles-begun.result c.args.word (omega arith)
     (seven-before c.self.inside.recent c.from.result c.args.word c.completed-cells.result c.rest_of.result
-        c.from.ensures c.completed-cells.ensures c.rest_of.ensures.cells (omega arith)
+    c.from.ensures c.completed-cells.ensures c.rest_of.ensures.cells (omega arith)
     ∙ ap (λ (k : ScanState). drop 1 k.recent ++ word_cells c.args.word) c.self.view_is
     ∙ ap (λ r. drop 1 r ++ word_cells c.args.word) f.recent)
     c.preambles-begun.ensures c.args.len c.if-quiet-len.true c.requires.len
@@ -45,14 +45,14 @@ followed c l f =
     scan-follows c.args.self.now _ l (low_cells (first c) c.args.word) f
     (ap₂ ◌+◌ v (c.from-2.ensures ∙ e))
     (c.last_behind.ensures
-        ∙ ap (λ (k : ScanState). drop (first c) (k.recent ++ low_cells (first c) c.args.word)) c.self.view_is
+    ∙ ap (λ (k : ScanState). drop (first c) (k.recent ++ low_cells (first c) c.args.word)) c.self.view_is
     ∙ ap (λ m. drop m (c.args.self.now.recent ++ low_cells (first c) c.args.word)) e)
 
 told : (c : goal.After-pass-2) (l : List Level) → ScanFollows c.args.self.now l
     → with_seven c.completed-cells.result c.rest_of.result ≡ drop 1 (last_eight l) ++ word_cells c.args.word
 told c l f =
     seven-before c.self.inside.recent c.from.result c.args.word c.completed-cells.result c.rest_of.result c.from.ensures
-        c.completed-cells.ensures c.rest_of.ensures.cells (omega arith)
+    c.completed-cells.ensures c.rest_of.ensures.cells (omega arith)
     ∙ ap (λ (k : ScanState). drop 1 k.recent ++ word_cells c.args.word) c.self.view_is
     ∙ ap (λ r. drop 1 r ++ word_cells c.args.word) f.recent
 
@@ -86,8 +86,8 @@ returns-clause-all c = λ l f n e.
     let r = c.requires.len in
     let k = trailing_zeros w64 c.preambles-begun.result + 1 in
     absurd (is-told l (with_seven c.completed-cells.result c.rest_of.result) c.preambles-begun.result c.args.word
-        (omega arith) (told c l f)
+    (omega arith) (told c l f)
     c.preambles-begun.ensures (length (l ++ low_cells k c.args.word)) (omega (arith, q, r))
     (let a = length-append l (low_cells k c.args.word) in let b = length-low_cells k c.args.word in
-        omega (arith, a, b, n))
+    omega (arith, a, b, n))
     (ap₂ ended_mark (sym g.seen) (sym g.recent) ∙ sym c.mark_ending-found.ensures ∙ e))

@@ -13,7 +13,9 @@ returns-clause-follows c = λ l f.
 
 pub returns-clause-mark : goal.returns-clause-mark
 returns-clause-mark c = λ l f.
-    scan-mark _ (record { seen = c.self.inside.seen + 1;
-        recent = low_cells 8 c.with_cell-self-inside.result }) l c.args.cell
+    scan-mark _ (record {
+      seen = c.self.inside.seen + 1;
+      recent = low_cells 8 c.with_cell-self-inside.result;
+    }) l c.args.cell
     (subst (λ k. ScanFollows k l) (sym c.self.view_is) f) refl c.with_cell-self-inside.ensures
     ∙ ap (λ r. marks l ++ option_to_list r) (sym c.mark_ending.ensures)

@@ -9,19 +9,21 @@ use Rattle.aes3_lock.proofs.word_marks.WordMarks.new.Goals as goal
 
 bits : (c : goal.After-behind_start-left) (i : ℕ) → i < 64
     → bit_at c.behind_start-left.result i ≡ (if nat_le 7 (c.args.seen + i) then
-        (if begins_with_any (drop i (with_seven c.args.cells c.args.next)) then 1 else 0) else 0)
+    (if begins_with_any (drop i (with_seven c.args.cells c.args.next)) then 1 else 0) else 0)
 bits c i h =
     let p = c.mark_places-places in
     c.behind_start-left.ensures i h
     ∙ ap (λ v. if nat_le 7 (c.args.seen + i) then v else 0)
     (any-bit (with_seven c.args.cells c.args.next) p.result.x p.result.y p.result.z i (p.ensures.x i h)
-        (p.ensures.y i h) (p.ensures.z i h))
+    (p.ensures.y i h) (p.ensures.z i h))
 
 pub invariant_of-result : goal.invariant_of-result
 invariant_of-result c =
-    let p = c.mark_places-places in
-    (c.requires, are-left c.args.seen c.behind_start-left.result p.result.x p.result.y
-        (with_seven c.args.cells c.args.next) (bits c) p.ensures.x p.ensures.y)
+    let p = c.mark_places-places in (
+      c.requires,
+      are-left c.args.seen c.behind_start-left.result p.result.x p.result.y
+          (with_seven c.args.cells c.args.next) (bits c) p.ensures.x p.ensures.y,
+    )
 
 pub returns : goal.returns
 returns c = λ l w e is.

@@ -11,8 +11,8 @@ use Rattle.aes3_lock.proofs.word_marks.WordMarks.take_next.Goals as goal
 pub returns-then-self-eq0-clause-end : goal.returns-then-self-eq0-clause-end
 returns-then-self-eq0-clause-end c =
     λ e. sym c.self.view_is
-        ∙ none-left c.self.inside.seen (with_seven c.self.inside.cells c.self.inside.next) c.self.inside.left
-        (omega arith)
+    ∙ none-left c.self.inside.seen (with_seven c.self.inside.cells c.self.inside.next) c.self.inside.left
+    (omega arith)
 
 -- a preamble before others
 abbrev led : ℕ → Mark → Level → List (ℕ × Mark × Level) → List (ℕ × Mark × Level)
@@ -26,7 +26,7 @@ returns-clause-next c =
     let w = c.without-self-inside in
     sym c.self.view_is
     ∙ first-left s.seen b s.left w.result t.result t.ensures.first t.ensures.is w.ensures.gone w.ensures.others
-        t.ensures.within
+    t.ensures.within
     ∙ ap (λ o. option_to_list (option_map (placed (s.seen + t.result - 7)) o) ++ marks_left s.seen b w.result)
     (first-is s.cells s.next s.left s.x s.y s.seen t.result t.ensures.within t.ensures.is c.self.invariant.1)
     ∙ ap₂ (λ m v. led (s.seen + t.result - 7) m v (marks_left s.seen b w.result)) (sym c.mark_at.ensures)
