@@ -19,8 +19,13 @@ candidate_in k = if k.in_hand == 0 then None else if nat_lt k.seen k.at then Non
     Some (record { at = k.at; before = level_of k.before; level = level_of k.level })
 
 abbrev pub state_of : Aes3Lock → LockState
-state_of k = record { seen = k.seen; recent = low_cells 8 k.recent; candidate = candidate_in k; subframe = k.subframe;
-    words = k.words }
+state_of k = record {
+  seen = k.seen;
+  recent = low_cells 8 k.recent;
+  candidate = candidate_in k;
+  subframe = k.subframe;
+  words = k.words;
+}
 
 -- a lock in this state goes on no further with the word: it decides a report, or a block begins in it while the lock
 -- holds none

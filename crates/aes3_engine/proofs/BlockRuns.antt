@@ -64,7 +64,7 @@ decided27 c =
     let d = decided-stand c [] in
     front27 (decided_blocks c) (wholes d.0)
     (subst EachBlock27 (ap (λ v. wholes (reports v)) (sym (append-nil c)) ∙ ap wholes d.1
-        ∙ wholes-append (decided c) d.0) (blocks27 c))
+    ∙ wholes-append (decided c) d.0) (blocks27 c))
 
 -- blocks in the normal polarity
 normal-behind : (form : Form) (n : ℕ) (p bs : List (List (List Bool))) → EachBlock27 (p ++ bs)
@@ -80,7 +80,7 @@ pub normal-numbered : (form : Form) (n : ℕ) (bs : List (List (List Bool))) →
     → numbered (normal_block form) n bs ≡ begun_stream form bs
 normal-numbered form n bs h =
     sym (normal-behind form n [] bs h
-        ∙ ap (λ z. z ++ numbered (normal_block form) n bs) (ap (bytes_of form) (stream-nil Low) ∙ bytes-nothing form))
+    ∙ ap (λ z. z ++ numbered (normal_block form) n bs) (ap (bytes_of form) (stream-nil Low) ∙ bytes-nothing form))
 
 -- with an ending they are written whole
 pub stream-ended : (form : Form) (bs : List (List (List Bool))) → EachBlock27 bs
@@ -121,7 +121,7 @@ cut-numbered : (form : Form) (from count n : ℕ) (bs : List (List (List Bool)))
     (take (count - (n - from)) (drop (from - n) bs))
 cut-numbered form from count n [] =
     sym (ap (λ z. numbered (normal_block form) 0 (take (count - (n - from)) z)) (drop-nil (from - n))
-        ∙ ap (numbered (normal_block form) 0) (take-nil (count - (n - from))))
+    ∙ ap (numbered (normal_block form) 0) (take-nil (count - (n - from))))
 cut-numbered form from count n (b ∷ bs) = go (nat_le from n) refl (nat_lt (n - from) count) refl
     (cut-numbered form from count (suc n) bs)
   where
@@ -150,7 +150,7 @@ cut-numbered form from count n (b ∷ bs) = go (nat_le from n) refl (nat_lt (n -
         let j : suc (count - (suc n - from)) ≡ count - (n - from) = omega arith in
         ap (λ v. normal_block form n b ++ v)
         (next ∙ ap (λ k. numbered (normal_block form) 0 (take (count - (suc n - from)) (drop k bs))) z
-            ∙ any 0 1 (take (count - (suc n - from)) bs))
+        ∙ any 0 1 (take (count - (suc n - from)) bs))
         ∙ ap₂ (λ k v. numbered (normal_block form) 0 (take k (drop v (b ∷ bs)))) j e
     go true es false et next =
         let m = ltb-false (n - from) count et in
@@ -226,15 +226,16 @@ read-normal form c = read-back form (blocks c) (blocks27 c)
 
 pub tells : (form : Form) (c d : List Level)
     → (written form (normal c) ≡ written form (normal d)) ↔ (blocks c ≡ blocks d)
-tells form c d =
-    (λ e. normal-tells c d (sym (read-normal form c) ∙ ap (cells_of form) e ∙ read-normal form d),
-        λ e. ap (written form) (normal-same c d e))
+tells form c d = (
+  λ e. normal-tells c d (sym (read-normal form c) ∙ ap (cells_of form) e ∙ read-normal form d),
+  λ e. ap (written form) (normal-same c d e),
+)
 
 -- the clauses of a normal stream
 run-stream : {max : ℕ} (input : Form) {ended : Bool} {source sink : Movement} (form : Form) (r : Result Counts RunError)
     → ReportRun max input (report_bytes (normal_block form)) (ending form) ended source sink r
     → IfOk r (λ (n : Counts). (b : List ℕ) (ds : List (List (List Bool))) → Told source.old source.new b
-        → blocks (cells_of input b) ≡ ds → Grew sink.old sink.new (written_stream form ds))
+    → blocks (cells_of input b) ≡ ds → Grew sink.old sink.new (written_stream form ds))
 unfolding normal
 run-stream input form (Ok n) run =
     λ b ds t e. grew-is (normal-whole form (cells_of input b) ∙ ap (written_stream form) e) (run-wrote (Ok n) run b t)
@@ -244,11 +245,11 @@ pub run-piece : {max : ℕ} (input : Form) {ended : Bool} {source sink : Movemen
     (r : Result Counts RunError)
     → ReportRun max input (report_bytes (normal_block form)) (ending form) ended source sink r
     → IfOk r (λ (n : Counts). (s : Level) (bs : List (List (List Bool))) (i j : ℕ) (b : List ℕ)
-        → Told source.old source.new b → IsPiece s bs i j (cells_of input b)
-        → Grew sink.old sink.new (written_stream form (whole_blocks bs i j)))
+    → Told source.old source.new b → IsPiece s bs i j (cells_of input b)
+    → Grew sink.old sink.new (written_stream form (whole_blocks bs i j)))
 run-piece input form (Ok n) run =
     λ s bs i j b t p. run-stream input form (Ok n) run b (whole_blocks bs i j) t
-        (blocks-whole s bs i j (cells_of input b) p)
+    (blocks-whole s bs i j (cells_of input b) p)
 run-piece input form (Err e) run = tt
 
 -- and of a piece of which cells are changed or lost
@@ -256,7 +257,7 @@ pub run-damaged : {max : ℕ} (input : Form) {ended : Bool} {source sink : Movem
     (r : Result Counts RunError)
     → ReportRun max input (report_bytes (normal_block form)) (ending form) ended source sink r
     → IfOk r (λ (n : Counts). (s : Level) (bs : List (List (List Bool))) (i j : ℕ) (c : List Level) (b : List ℕ)
-        → Told source.old source.new b → IsPiece s bs i j c
+    → Told source.old source.new b → IsPiece s bs i j c
     → length (cells_of input b) ≡ length c → apart c (cells_of input b) ≤ 3
     → Grew sink.old sink.new (written_stream form (given_blocks (after_changes i c (cells_of input b)) bs i j)))
 run-damaged input form (Ok n) run = λ s bs i j c b t p l a.
@@ -268,7 +269,7 @@ pub run-left : {max : ℕ} (input : Form) {ended : Bool} {source sink : Movement
     (r : Result Counts RunError)
     → ReportRun max input (report_bytes (normal_block form)) (ending form) ended source sink r
     → IfOk r (λ (n : Counts). (s : Level) (bs : List (List (List Bool))) (i j : ℕ) (c : List Level) (b : List ℕ)
-        → Told source.old source.new b → IsPiece s bs i j c
+    → Told source.old source.new b → IsPiece s bs i j c
     → length (cells_of input b) ≡ length c → AreClose c (cells_of input b)
     → (found : List PlacedBlock) × AreAllLeft found s bs i c (cells_of input b)
     × Grew sink.old sink.new (written_stream form (map (λ f. f.block) found)))
@@ -281,30 +282,30 @@ pub run-lost : {max : ℕ} (input : Form) {ended : Bool} {source sink : Movement
     (r : Result Counts RunError)
     → ReportRun max input (report_bytes (normal_block form)) (ending form) ended source sink r
     → IfOk r (λ (n : Counts). (s : Level) (bs : List (List (List Bool))) (i j : ℕ) (c : List Level) (b : List ℕ)
-        → Told source.old source.new b → IsPiece s bs i j c
+    → Told source.old source.new b → IsPiece s bs i j c
     → (k : ℕ) → k < length c → cells_of input b ≡ without k c
     → Grew sink.old sink.new (written_stream form (given_blocks (after_loss (i + k)) bs i j)))
 run-lost input form (Ok n) run = λ s bs i j c b t p k l e.
     run-stream input form (Ok n) run b (given_blocks (after_loss (i + k)) bs i j) t (ap blocks e
-        ∙ blocks-lost s bs i j c p k l)
+    ∙ blocks-lost s bs i j c p k l)
 run-lost input form (Err e) run = tt
 
 pub run-again : {max : ℕ} (input : Form) {ended : Bool} {source sink : Movement} (form : Form)
     (r : Result Counts RunError)
     → ReportRun max input (report_bytes (normal_block form)) (ending form) ended source sink r
     → IfOk r (λ (n : Counts). (c : List Level) → Told source.old source.new (written input (normal c))
-        → Grew sink.old sink.new (written form (normal c)))
+    → Grew sink.old sink.new (written form (normal c)))
 run-again input form (Ok n) run = λ c t.
     grew-is (normal-whole form (cells_of input (written input (normal c)))
-        ∙ ap (λ v. written form (normal v)) (read-normal input c)
-        ∙ ap (written form) (normal-fixed c)) (run-wrote (Ok n) run (written input (normal c)) t)
+    ∙ ap (λ v. written form (normal v)) (read-normal input c)
+    ∙ ap (written form) (normal-fixed c)) (run-wrote (Ok n) run (written input (normal c)) t)
 run-again input form (Err e) run = tt
 
 -- and of such blocks: of two lines with the same blocks, of a line that was written of blocks, and of a normal stream
 pub run-alike : {max : ℕ} (input : Form) {ended : Bool} {source sink : Movement} (f : List (List Bool)
     → List ℕ) (r : Result Counts RunError) → ReportRun max input (report_bytes (λ n b. f b)) [] ended source sink r
     → IfOk r (λ (n : Counts). (b : List ℕ) (ds : List (List (List Bool))) → Told source.old source.new b
-        → blocks (cells_of input b) ≡ ds → Grew sink.old sink.new (flat_map f ds))
+    → blocks (cells_of input b) ≡ ds → Grew sink.old sink.new (flat_map f ds))
 run-alike input f (Ok n) run =
     λ b ds t e. grew-is (alike-whole f (cells_of input b) ∙ ap (flat_map f) e) (run-wrote (Ok n) run b t)
 run-alike input f (Err e) run = tt
@@ -312,16 +313,16 @@ run-alike input f (Err e) run = tt
 pub run-back : {max : ℕ} (input : Form) {ended : Bool} {source sink : Movement} (f : List (List Bool)
     → List ℕ) (r : Result Counts RunError) → ReportRun max input (report_bytes (λ n b. f b)) [] ended source sink r
     → IfOk r (λ (n : Counts). (bs : List (List (List Bool))) → All IsBlock bs
-        → Told source.old source.new (written_stream input bs) → Grew sink.old sink.new (flat_map f bs))
+    → Told source.old source.new (written_stream input bs) → Grew sink.old sink.new (flat_map f bs))
 run-back input f (Ok n) run = λ bs a t.
     run-alike input f (Ok n) run (written_stream input bs) bs t (ap blocks (read-back input bs (each27 bs a))
-        ∙ stream-blocks Low bs a)
+    ∙ stream-blocks Low bs a)
 run-back input f (Err e) run = tt
 
 pub run-normal : {max : ℕ} (input : Form) {ended : Bool} {source sink : Movement} (f : List (List Bool)
     → List ℕ) (r : Result Counts RunError) → ReportRun max input (report_bytes (λ n b. f b)) [] ended source sink r
     → IfOk r (λ (n : Counts). (c : List Level) → Told source.old source.new (written input (normal c))
-        → Grew sink.old sink.new (flat_map f (blocks c)))
+    → Grew sink.old sink.new (flat_map f (blocks c)))
 unfolding normal
 run-normal input f (Ok n) run = λ c t. run-back input f (Ok n) run (blocks c) (blocks-lawful c) t
 run-normal input f (Err e) run = tt

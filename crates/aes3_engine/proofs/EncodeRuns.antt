@@ -51,7 +51,7 @@ lawful-of-clean form p (x ∷ d) l e =
     go : (o : Option FileFault) → byte_fault (reader_of p) x ≡ o
         → or_else (refused_by o) (fault_behind (encoding form) (p ++ x ∷ []) d) ≡ None
         → (all_lawful (words_of (p ++ x ∷ [])) ≡ true → fault_behind (encoding form) (p ++ x ∷ []) d ≡ None
-            → all_lawful (words_of ((p ++ x ∷ []) ++ d)) ≡ true)
+        → all_lawful (words_of ((p ++ x ∷ []) ++ d)) ≡ true)
         → all_lawful (words_of (p ++ x ∷ d)) ≡ true
     go None q e next = ap (λ b. all_lawful (words_of b)) (sym (append_assoc p (x ∷ []) d))
         ∙ next (lawful-next p x l q) e
@@ -137,12 +137,12 @@ cause-behind form p (x ∷ d) e l q =
         )
     told (fault.BadLength left) r z =
         absurd (length-fault (length p / 4) (get_or (words_of (p ++ x ∷ d)) (length p / 4) 0) left
-            (fault-place p x d (fault.BadLength left) l r).2)
+        (fault-place p x d (fault.BadLength left) l r).2)
 
     go : (o : Option FileFault) → byte_fault (reader_of p) x ≡ o
         → or_else (refused_by o) (fault_behind (encoding form) (p ++ x ∷ []) d) ≡ Some e
         → (all_lawful (words_of (p ++ x ∷ [])) ≡ true → fault_behind (encoding form) (p ++ x ∷ []) d ≡ Some e
-            → Cause ((p ++ x ∷ []) ++ d)) → Cause (p ++ x ∷ d)
+        → Cause ((p ++ x ∷ []) ++ d)) → Cause (p ++ x ∷ d)
     go None r q next = subst Cause (append_assoc p (x ∷ []) d) (next (lawful-next p x l r) q)
     go (Some f) r q next = told f r cc
 
@@ -153,7 +153,7 @@ cause-of form b e q = cause-behind form [] b e refl q
 
 end-cases : (form : Form) (b : List ℕ) → (((encoding form).end_fault b ≡ None) × (length b % (4 * block_slots) ≡ 0))
     ⊎ (((encoding form).end_fault b ≡ Some (BadLength (length b % (4 * block_slots))))
-        × (0 < length b % (4 * block_slots)))
+    × (0 < length b % (4 * block_slots)))
 unfolding encoding
 end-cases form b = elim (end-none b) [
   | inl q ↦ inl (ap refused_at_end q.1, q.0)
@@ -261,15 +261,24 @@ clean-file form b c e = record { whole = whole; lawful = (clean-lawful form b c)
 
 -- the counts of a run
 pub counted : (b : List ℕ) (n blocks : ℕ) → n ≡ length b → blocks ≡ length (file_blocks b)
-    → ◌≡◌ {A = Counts} (record { bytes = n; cells = 24576 * blocks; blocks = blocks; faults = 0; unfinished = 0;
-        marks = 0 }) (encode_counts b)
+    → ◌≡◌ {A = Counts} (record {
+      bytes = n;
+      cells = 24576 * blocks;
+      blocks = blocks;
+      faults = 0;
+      unfinished = 0;
+      marks = 0;
+    }) (encode_counts b)
 unfolding encode_counts block_len block_slots
 counted b n blocks e f = rw (e, f) refl
 
 pub starts : (file : FileReader) → file.seen ≡ 0 → file.words ≡ [] → file.bytes ≡ [] → file.fault ≡ None
     → Encodes file 0 []
-starts file a b c d = record { reader = reader-new file a b c d; lawful = record { is = lawful-words [] refl };
-    count = sym (ap length file_blocks-nil) }
+starts file a b c d = record {
+  reader = reader-new file a b c d;
+  lawful = record { is = lawful-words [] refl };
+  count = sym (ap length file_blocks-nil);
+}
 
 -- a block file that fits has no cause
 no-word : (max : ℕ) (b : List ℕ) (at : ℕ) → IsBlockFile b → length b ≤ max → length (lawful_words (take max b)) ≡ at

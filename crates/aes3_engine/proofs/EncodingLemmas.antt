@@ -33,7 +33,7 @@ unfolding encoding
 one-clean form b x block e f = (
   ap (λ o. or_else (refused_by o) None) e,
   ap (λ o. unless (refused_by o) (block_written form (block_with (reader_of b) x) ++ [])) e
-  ∙ append-nil (block_written form (block_with (reader_of b) x)) ∙ ap (block_written form) f,
+      ∙ append-nil (block_written form (block_with (reader_of b) x)) ∙ ap (block_written form) f,
 )
 
 one-fault : (form : Form) (b : List ℕ) (x : ℕ) (f : FileFault) → byte_fault (reader_of b) x ≡ Some f
@@ -123,7 +123,7 @@ pub block-fed : (form : Form) {blocks : ℕ} (file new : FileReader) (bytes : Li
     → Fed (encoding form) (encoding form) (Encodes file blocks) (Encodes new (blocks + 1)) t t' bytes
 block-fed form file new bytes block t t' h g =
     fed-is h.is (fed-join (bytes-quiet form file h.behind h.quiet t h.taken)
-        (byte-block form new h.last block t t' (sym h.ends) h.next g))
+    (byte-block form new h.last block t t' (sym h.ends) h.next g))
 
 pub block-front : (form : Form) {blocks : ℕ} (file new : FileReader) (bytes rest xs : List ℕ) (block : List (List Bool))
     (t t' : Option (List ℕ))
@@ -131,9 +131,9 @@ pub block-front : (form : Form) {blocks : ℕ} (file new : FileReader) (bytes re
     → (b : List ℕ) → Encodes file blocks b → GrewFront t t' (out_behind (encoding form) b xs)
 block-front form {blocks} file new bytes rest xs block t t' h e g b k =
     front-is (ap (out_behind (encoding form) b) (sym (append_assoc h.quiet (h.last ∷ []) rest)
-        ∙ ap (λ z. z ++ rest) h.is ∙ e))
+    ∙ ap (λ z. z ++ rest) h.is ∙ e))
     (front-joined (h.last ∷ []) rest (bytes-quiet form {blocks = blocks} file h.behind h.quiet t h.taken)
-        (byte-front form {file = h.behind} {blocks = blocks} h.last block t t' (sym h.ends) g) b k)
+    (byte-front form {file = h.behind} {blocks = blocks} h.last block t t' (sym h.ends) g) b k)
 
 -- a byte that is refused
 -- how many whole blocks were written
@@ -159,8 +159,8 @@ pub byte-refused : (form : Form) (file : FileReader) (blocks : ℕ) (after : Lis
     (record { old = t; new = t; failed_old = k; failed_new = k }) (Err e)
 byte-refused form file blocks after x f e t k q a =
     subst (λ (v : RunError). PieceRan (encoding form) (encoding form) (Encodes file blocks) after (Blocks blocks)
-        (x ∷ []) (record { old = t; new = t; failed_old = k; failed_new = k }) (Err v)) (sym q)
-        (go f (stopped-byte form x f t a))
+    (x ∷ []) (record { old = t; new = t; failed_old = k; failed_new = k }) (Err v)) (sym q)
+    (go f (stopped-byte form x f t a))
   where
     go : (f : FileFault) → Stopped (encoding form) (Encodes file blocks) (Blocks blocks) t t (x ∷ []) (refusal_of f)
         → PieceRan (encoding form) (encoding form) (Encodes file blocks) after (Blocks blocks) (x ∷ [])
@@ -195,7 +195,7 @@ pub end-refused : (form : Form) (file : FileReader) (blocks : ℕ) (after : List
     (record { old = t; new = t; failed_old = k; failed_new = k }) (Err e)
 end-refused form file blocks after f e t k q a =
     subst (λ (v : RunError). EndRan (encoding form) (Encodes file blocks) (Blocks blocks) after
-        (record { old = t; new = t; failed_old = k; failed_new = k }) (Err v)) (sym q) (go f a)
+    (record { old = t; new = t; failed_old = k; failed_new = k }) (Err v)) (sym q) (go f a)
   where
     go : (f : FileFault) → Err f ≡ end_answer file
         → EndRan (encoding form) (Encodes file blocks) (Blocks blocks) after

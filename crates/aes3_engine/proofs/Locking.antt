@@ -33,7 +33,7 @@ pub err-grew : {A E : Type 0} (r : Result A E) (f : List Level → Type 0) (g : 
     → OnErr r ((c : List Level) → f c × g (decided c) → GrewFront t t' (q c))
 err-grew r f g t t' o q e h =
     on_err_weaker {P = (d : List Report) → g d → GrewFront t t' (o d)} {Q = (c : List Level) → f c × g (decided c)
-        → GrewFront t t' (q c)} r
+    → GrewFront t t' (q c)} r
     (λ k c l. front-is (sym (e c l.0)) (k (decided c) l.1)) h
 
 -- the end behind a last report x
@@ -59,7 +59,7 @@ ok-last {A} r {w} {w'} {f} {g} {g'} {t} {t'} t₂ {x} p h =
     IfOk-weaker r (λ (u : A). (d : List Report) → g' d → Grew t' t₂ (w'.ends d))
     (λ (u : A). (c : List Level) → f c × g (decided c) → Grew t t₂ ((reporting w).ends c))
     (λ u k c l. grew-is (ends-is p c l.0)
-        (grew-join (p.grew (decided c) l.1) (k (decided c ++ x ∷ []) (p.next (decided c) l.1)))) h
+    (grew-join (p.grew (decided c) l.1) (k (decided c ++ x ∷ []) (p.next (decided c) l.1)))) h
 
 pub err-last : {A E : Type 0} (r : Result A E) {w w' : Writing Report} {f : List Level → Type 0} {g g' : List Report
     → Type 0} {t t' : Option (List ℕ)} (t₂ : Option (List ℕ)) {x : Report}
@@ -68,9 +68,9 @@ pub err-last : {A E : Type 0} (r : Result A E) {w w' : Writing Report} {f : List
     → OnErr r ((c : List Level) → f c × g (decided c) → GrewFront t t₂ ((reporting w).ends c))
 err-last r {w} {w'} {f} {g} {g'} {t} {t'} t₂ {x} p h =
     on_err_weaker {P = (d : List Report) → g' d → GrewFront t' t₂ (w'.ends d)} {Q = (c : List Level) → f c
-        × g (decided c) → GrewFront t t₂ ((reporting w).ends c)} r
+    × g (decided c) → GrewFront t t₂ ((reporting w).ends c)} r
     (λ k c l. front-is (ends-is p c l.0)
-        (front-join (p.grew (decided c) l.1) (k (decided c ++ x ∷ []) (p.next (decided c) l.1)))) h
+    (front-join (p.grew (decided c) l.1) (k (decided c ++ x ∷ []) (p.next (decided c) l.1)))) h
 
 -- words that decide no report, behind those that were handed on
 pub handed-quiet : {w₀ : Writing Level} {f₀ : List Level → Type 0} {t₀ t : Option (List ℕ)} (w : Writing Report)

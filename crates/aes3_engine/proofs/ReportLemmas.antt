@@ -99,7 +99,7 @@ output-push : (f : ℕ → Report → List ℕ) (n : ℕ) (r : List Report) (x :
 output-push f n [] x = append-nil (f n x) ∙ ap (λ k. f k x) none
 output-push f n (y ∷ r) x =
     ap (λ z. f n y ++ z) (output-push f (n + length (wholes (y ∷ []))) r x
-        ∙ ap (λ k. output_from f (n + length (wholes (y ∷ []))) r ++ f k x) next)
+    ∙ ap (λ k. output_from f (n + length (wholes (y ∷ []))) r ++ f k x) next)
     ∙ sym (append_assoc (f n y) (output_from f (n + length (wholes (y ∷ []))) r) (f (n + length (wholes (y ∷ r))) x))
   where
     next : n + length (wholes (y ∷ [])) + length (wholes r) ≡ n + length (wholes (y ∷ r))

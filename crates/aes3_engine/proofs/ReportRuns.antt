@@ -29,16 +29,34 @@ with-cells f e c = with-reports (report_writing f e) c ∙ with-output f e (repo
 -- the counts
 pub counted : (form : Form) (b : List ℕ) (bytes cells blocks faults unfinished : ℕ) → bytes ≡ length b
     → cells ≡ length (cells_of form b) → Tallies blocks faults unfinished (reports (cells_of form b))
-    → record { bytes = bytes; cells = cells; blocks = blocks; faults = faults; unfinished = unfinished;
-        marks = 0 } ≡ counts_of form b
+    → record {
+      bytes = bytes;
+      cells = cells;
+      blocks = blocks;
+      faults = faults;
+      unfinished = unfinished;
+      marks = 0;
+    } ≡ counts_of form b
 unfolding counts_of blocks
 counted form b n c k f u e d t =
     let r = reports (cells_of form b) in
     ap₂ (λ (x y : ℕ). record { bytes = x; cells = y; blocks = k; faults = f; unfinished = u; marks = 0 }) e d
-    ∙ ap₂ (λ (x y : ℕ). record { bytes = length b; cells = length (cells_of form b); blocks = x; faults = y;
-        unfinished = u; marks = 0 }) t.blocks_is t.faults_is
-    ∙ ap (λ (x : ℕ). record { bytes = length b; cells = length (cells_of form b); blocks = length (wholes r);
-        faults = length (filter is_faulty r); unfinished = x; marks = 0 }) t.unfinished_is
+    ∙ ap₂ (λ (x y : ℕ). record {
+      bytes = length b;
+      cells = length (cells_of form b);
+      blocks = x;
+      faults = y;
+      unfinished = u;
+      marks = 0;
+    }) t.blocks_is t.faults_is
+    ∙ ap (λ (x : ℕ). record {
+      bytes = length b;
+      cells = length (cells_of form b);
+      blocks = length (wholes r);
+      faults = length (filter is_faulty r);
+      unfinished = x;
+      marks = 0;
+    }) t.unfinished_is
 
 -- the run
 pub run-ok : {max : ℕ} {form : Form} (f : ℕ → Report → List ℕ) (e : List ℕ) {g : List Level
@@ -68,5 +86,8 @@ run-same {max} form f h e k {ended} {source} {sink} {r} p q run =
 
 pub tally-is : {n f u n' f' u' : ℕ} → n' ≡ n → f' ≡ f → u' ≡ u → Tallies n f u [] → Tallies n' f' u' (decided [])
 unfolding decided
-tally-is a b c t = record { blocks_is = a ∙ t.blocks_is; faults_is = b ∙ t.faults_is;
-    unfinished_is = c ∙ t.unfinished_is }
+tally-is a b c t = record {
+  blocks_is = a ∙ t.blocks_is;
+  faults_is = b ∙ t.faults_is;
+  unfinished_is = c ∙ t.unfinished_is;
+}

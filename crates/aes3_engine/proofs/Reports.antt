@@ -45,7 +45,7 @@ with-reports w c =
     ap (λ o. o ++ (behind w (decided c) (decided_at_end c) ++ w.ends (reports c))) (before-reports w c)
     ∙ sym (append_assoc (before_end w (decided c)) (behind w (decided c) (decided_at_end c)) (w.ends (reports c)))
     ∙ ap (λ o. o ++ w.ends (reports c)) (sym (before-join w (decided c) (decided_at_end c))
-        ∙ ap (before_end w) (sym (reports-more c)))
+    ∙ ap (before_end w) (sym (reports-more c)))
 
 -- a cell begins one report at most
 told-few : (p : ℕ) (o : Option Outcome) → length (told p o) ≤ 1

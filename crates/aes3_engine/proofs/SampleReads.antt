@@ -107,7 +107,7 @@ file-more change ws vs =
     ∙ made-join change p (h ++ vs) w
     ∙ ap (λ z. z ++ sample_file change (h ++ vs))
     (sym (append-nil (sample_file change p)) ∙ ap (λ z. sample_file change p ++ z) (sym (file-short change h s))
-        ∙ sym (made-join change p h w) ∙ ap (sample_file change) e) in
+    ∙ sym (made-join change p h w) ∙ ap (sample_file change) e) in
     m ∙ ap (λ z. sample_file change ws ++ z)
     (sym (ap (more_of (sample_file change ws)) m ∙ more-join (sample_file change ws) (sample_file change (h ++ vs))))
 
@@ -357,7 +357,7 @@ pad-words b h =
     let n = (384 - length (words_of b) % 384) % 384 in
     let e : (1536 - length b % 1536) % 1536 ≡ 4 * n = omega arith in
     sym (ap (λ k. words_of (b ++ replicate k 0)) e ∙ words-join b (replicate (4 * n) 0) (omega arith)
-        ∙ ap (λ v. words_of b ++ v) (words-zeros n))
+    ∙ ap (λ v. words_of b ++ v) (words-zeros n))
 
 -- ---- a front of a piece
 
@@ -384,7 +384,7 @@ module _ (exact : Bool) (change : Change) (seen : ℕ) (begun : List ℕ) (size 
       let e : b ≡ p ++ held = h.bytes in
       append_cancel_left (made change b) (made change (held ++ d)) (out_behind (sampling exact change) b d)
       (sym (ap (λ v. made change (v ++ d)) e ∙ made-more change p held d h.whole (let l = held-length in omega arith)
-          ∙ ap (λ v. made change v ++ made change (held ++ d)) (sym e))
+      ∙ ap (λ v. made change v ++ made change (held ++ d)) (sym e))
       ∙ behind-made exact change b d h.bits (place-behind exact (length b) at d (ap (λ n. n % 1536) h.count) t))
 
   clean : (b d : List ℕ) → Samples exact seen begun b → ExactBehind exact at d
@@ -450,12 +450,12 @@ module _ (exact : Bool) (change : Change) (seen : ℕ) (begun : List ℕ) (size 
     left = λ b h. any _;
     grew = λ b h. grew-is
         (sym (ap (out_behind (sampling exact change) b) (sym parts)
-            ∙ behind-clean (sampling exact change) b d (x ∷ rest) (clean b d h before)
+        ∙ behind-clean (sampling exact change) b d (x ∷ rest) (clean b d h before)
         ∙ ap (λ v. v ++ out_behind (sampling exact change) (b ++ d) (x ∷ rest)) (sym (writes b d h before)
-            ∙ made-short change (held ++ d) short)
+        ∙ made-short change (held ++ d) short)
         ∙ ap (λ o. unless o
-            ((sampling exact change).adds (b ++ d) x ++ out_behind (sampling exact change) ((b ++ d) ++ x ∷ []) rest))
-            (here b h)))
+        ((sampling exact change).adds (b ++ d) x ++ out_behind (sampling exact change) ((b ++ d) ++ x ∷ []) rest))
+        (here b h)))
         (grew-none refl);
   }
     where

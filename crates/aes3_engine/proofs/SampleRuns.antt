@@ -79,14 +79,23 @@ cause-behind exact k b (x ∷ d) e h =
     go : (o : Option RunError) → (sampling exact k).fault b x ≡ o
         → or_else o (fault_behind (sampling exact k) (b ++ x ∷ []) d) ≡ Some e
         → (fault_behind (sampling exact k) (b ++ x ∷ []) d ≡ Some e → (at : ℕ)
-            × (e ≡ BadSample (length (b ++ x ∷ []) + at)) × BadBehind exact (length (b ++ x ∷ [])) d at)
+        × (e ≡ BadSample (length (b ++ x ∷ []) + at)) × BadBehind exact (length (b ++ x ∷ [])) d at)
         → (at : ℕ) × (e ≡ BadSample (length b + at)) × BadBehind exact (length b) (x ∷ d) at
     go None q h next = let r = next h in more r.0 r.1 r.2 (byte-clean exact k b x q)
     go (Some f) q h next =
         let r = byte-bad exact k b x e (q ∙ h) in
-        let z : length b ≡ length b + 0 = omega arith in
-        (0, r.0 ∙ ap (λ n. BadSample n) z, (r.1, omega arith, ap (λ n. n % 4) (sym z)
-            ∙ r.2, r.3, λ i w m. absurd (omega arith)))
+        let z : length b ≡ length b + 0 = omega arith in (
+          0,
+          r.0 ∙ ap (λ n. BadSample n) z,
+          (
+            r.1,
+            omega arith,
+            ap (λ n. n % 4) (sym z)
+                ∙ r.2,
+            r.3,
+            λ i w m. absurd (omega arith),
+          ),
+        )
 
 cause-of : (exact : Bool) (k : change.Change) (b : List ℕ) (e : RunError) → first_fault (sampling exact k) b ≡ Some e
     → (at : ℕ) × (e ≡ BadSample at) × BadSampleAt exact b at

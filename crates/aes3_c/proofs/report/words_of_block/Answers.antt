@@ -10,5 +10,5 @@ returns-clause-words c =
     let k = c.words.ensures.count in
     c.same_words.ensures.same
     ∙ sym (words-of-payloads c.words.result.now (λ i h. c.same_words.ensures.fits i (omega arith))
-        (λ i h. c.words.ensures.lawful i (omega arith)))
+    (λ i h. c.words.ensures.lawful i (omega arith)))
     ∙ ap (map word_of) c.words.ensures.payloads

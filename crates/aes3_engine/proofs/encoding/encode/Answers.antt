@@ -15,7 +15,7 @@ use Rattle.aes3_engine.proofs.encoding.encode.Goals as goal
 pub convert-requires-clause-start : goal.convert-requires-clause-start
 convert-requires-clause-start g c =
     starts c.new-file.result c.new-file.ensures.seen c.new-file.ensures.words c.new-file.ensures.bytes
-        c.new-file.ensures.open
+    c.new-file.ensures.open
 
 pub overflow_mul-result : goal.overflow_mul-result
 overflow_mul-result g c =

@@ -13,5 +13,5 @@ returns-in-Some-clause-bound c = known c.feed_block.result c.in-Some.ensures.cas
 pub returns-in-Some-clause-taken : goal.returns-in-Some-clause-taken
 returns-in-Some-clause-taken c =
     subst (λ (z : List ℕ). IfSome c.feed_block.result
-        (λ block. TakesBlock c.args.file.now z block c.feed_block.new.self))
+    (λ block. TakesBlock c.args.file.now z block c.feed_block.new.self))
     c.in-Some.ensures.cases.same c.feed_block.ensures.taken

@@ -15,17 +15,19 @@ overflow_add-encoder g c =
     omega arith
 
 pub returns-in-Ok-None : goal.returns-in-Ok-None
-returns-in-Ok-None g c =
-    (byte-none c.args.encoder.now.output c.feed_byte.new.self c.args.byte (g.T.Sink.taken c.args.sink.now)
-        (sym (c.in-Ok-None.is ∙ ap (λ o. Ok o) c.in-Ok-None.field-0-is)
-            ∙ c.feed_byte.ensures.answer) c.feed_byte.ensures.next, refl)
+returns-in-Ok-None g c = (
+  byte-none c.args.encoder.now.output c.feed_byte.new.self c.args.byte (g.T.Sink.taken c.args.sink.now)
+      (sym (c.in-Ok-None.is ∙ ap (λ o. Ok o) c.in-Ok-None.field-0-is)
+      ∙ c.feed_byte.ensures.answer) c.feed_byte.ensures.next,
+  refl,
+)
 
 pub returns-in-Ok : goal.returns-in-Ok
 returns-in-Ok g c = (
   byte-block c.args.encoder.now.output c.feed_byte.new.self c.args.byte c.in-Ok-Some.block
-  (g.T.Sink.taken c.args.sink.now) (g.T.Sink.taken c.put_cells.new.sink)
+      (g.T.Sink.taken c.args.sink.now) (g.T.Sink.taken c.put_cells.new.sink)
       (sym (c.in-Ok-Some.is ∙ ap (λ o. Ok o) c.in-Ok-Some.field-0-is)
-          ∙ c.feed_byte.ensures.answer) c.feed_byte.ensures.next
+      ∙ c.feed_byte.ensures.answer) c.feed_byte.ensures.next
       (rw (← c.in-Ok-Some.block-is) c.in-Ok.ensures.grew),
   c.in-Ok.ensures.count,
 )
@@ -34,9 +36,9 @@ pub returns-in-Err-put_cells : goal.returns-in-Err-put_cells
 returns-in-Err-put_cells g c = (
   c.in-Err-put_cells.ensures.err.0,
   byte-front c.args.encoder.now.output c.args.byte c.in-Ok-Some.block (g.T.Sink.taken c.args.sink.now)
-  (g.T.Sink.taken c.put_cells.new.sink)
+      (g.T.Sink.taken c.put_cells.new.sink)
       (sym (c.in-Ok-Some.is ∙ ap (λ o. Ok o) c.in-Ok-Some.field-0-is)
-          ∙ c.feed_byte.ensures.answer) c.in-Err-put_cells.ensures.err.1,
+      ∙ c.feed_byte.ensures.answer) c.in-Err-put_cells.ensures.err.1,
 )
 
 pub returns-in-Err : goal.returns-in-Err

@@ -14,7 +14,7 @@ returns-then-feed_front g c = (
   omega arith,
   c.feed_front.ensures.bound c.if-feed_front.true,
   bytes-quiet c.args.encoder.now.output c.args.file.now c.feed_front.new.file (take 4 c.args.piece.now)
-  (g.T.Sink.taken c.args.sink.now) (c.feed_front.ensures.quiet c.if-feed_front.true),
+      (g.T.Sink.taken c.args.sink.now) (c.feed_front.ensures.quiet c.if-feed_front.true),
   refl,
 )
 
@@ -27,7 +27,7 @@ returns-in-Err g c =
     (g.T.Sink.taken c.take_byte.new.sink) (g.T.Sink.failed c.take_byte.new.sink)
     (get_or xs 0 0 ∷ []) (drop 1 xs) xs c.in-Err.error
     (bytes-quiet c.args.encoder.now.output c.args.file.now c.feed_front.new.file [] (g.T.Sink.taken c.args.sink.now)
-        (c.feed_front.ensures.left c.if-feed_front.false))
+    (c.feed_front.ensures.left c.if-feed_front.false))
     refl (sym (drop-cons xs 0 0 (omega arith))) c.in-Err.ensures
 
 pub take_byte-requires-clause-following : goal.take_byte-requires-clause-following

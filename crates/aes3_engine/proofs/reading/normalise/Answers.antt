@@ -46,7 +46,7 @@ returns-clause-fits g c = run-fits c.run_blocks.result (returns-clause-run g c)
 pub returns-clause-owed : goal.returns-clause-owed
 returns-clause-owed g c =
     λ b t i l q k. run-owed (returns-clause-run g c) b t
-        (no-cell-cause c.args.input c.args.max_bytes b (g.S.Source.has_ended c.run_blocks.new.source) i l) q k
+    (no-cell-cause c.args.input c.args.max_bytes b (g.S.Source.has_ended c.run_blocks.new.source) i l) q k
 
 pub returns-clause-cause : goal.returns-clause-cause
 returns-clause-cause g c = run-cause c.run_blocks.result (λ b l. l) (returns-clause-run g c)

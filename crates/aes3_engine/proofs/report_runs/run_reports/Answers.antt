@@ -6,8 +6,8 @@ pub drive-requires-clause-start : goal.drive-requires-clause-start
 drive-requires-clause-start g c = (
   c.new-taker.ensures.lock,
   tally-is (ap (λ k. k.tally.blocks) c.new-taker.ensures.reporter)
-  (ap (λ k. k.tally.faults) c.new-taker.ensures.reporter)
-  (ap (λ k. k.tally.unfinished) c.new-taker.ensures.reporter) c.new.ensures.tally,
+      (ap (λ k. k.tally.faults) c.new-taker.ensures.reporter)
+      (ap (λ k. k.tally.unfinished) c.new-taker.ensures.reporter) c.new.ensures.tally,
 )
 
 pub returns-in-Ok-clause-ran : goal.returns-in-Ok-clause-ran
@@ -16,9 +16,9 @@ returns-in-Ok-clause-ran g c =
     run-same c.args.input (g.W.ReportWriter.writes k) (g.W.ReportWriter.writes c.args.writer) (g.W.ReportWriter.ends k)
     (g.W.ReportWriter.ends c.args.writer)
     (ap (λ v. g.W.ReportWriter.writes v.writer) c.new-taker.ensures.reporter
-        ∙ ap (λ v. g.W.ReportWriter.writes v) c.new.ensures.writer)
+    ∙ ap (λ v. g.W.ReportWriter.writes v) c.new.ensures.writer)
     (ap (λ v. g.W.ReportWriter.ends v.writer) c.new-taker.ensures.reporter
-        ∙ ap (λ v. g.W.ReportWriter.ends v) c.new.ensures.writer)
+    ∙ ap (λ v. g.W.ReportWriter.ends v) c.new.ensures.writer)
     (run-ok (g.W.ReportWriter.writes k) (g.W.ReportWriter.ends k) c.in-Ok.ensures.ran)
 
 pub returns-clause-ran : goal.returns-clause-ran
@@ -27,7 +27,7 @@ returns-clause-ran g c =
     run-same c.args.input (g.W.ReportWriter.writes k) (g.W.ReportWriter.writes c.args.writer) (g.W.ReportWriter.ends k)
     (g.W.ReportWriter.ends c.args.writer)
     (ap (λ v. g.W.ReportWriter.writes v.writer) c.new-taker.ensures.reporter
-        ∙ ap (λ v. g.W.ReportWriter.writes v) c.new.ensures.writer)
+    ∙ ap (λ v. g.W.ReportWriter.writes v) c.new.ensures.writer)
     (ap (λ v. g.W.ReportWriter.ends v.writer) c.new-taker.ensures.reporter
-        ∙ ap (λ v. g.W.ReportWriter.ends v) c.new.ensures.writer)
+    ∙ ap (λ v. g.W.ReportWriter.ends v) c.new.ensures.writer)
     (run-err (g.W.ReportWriter.writes k) (g.W.ReportWriter.ends k) c.in-Err.ensures.ran)

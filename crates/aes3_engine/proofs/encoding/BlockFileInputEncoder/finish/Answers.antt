@@ -6,7 +6,7 @@ use Rattle.aes3_engine.proofs.encoding.BlockFileInputEncoder.finish.Goals as goa
 pub returns-in-Ok-put_ending : goal.returns-in-Ok-put_ending
 returns-in-Ok-put_ending g c = (
   end-clean c.args.encoder.now.output (g.T.Sink.taken c.args.sink.now) (g.T.Sink.taken c.put_ending.new.sink)
-  (sym c.in-Ok.is ∙ c.end.ensures) c.in-Ok-put_ending.ensures.grew,
+      (sym c.in-Ok.is ∙ c.end.ensures) c.in-Ok-put_ending.ensures.grew,
   c.in-Ok-put_ending.ensures.count,
 )
 
@@ -20,6 +20,6 @@ returns-in-Err g c =
 pub returns-in-Err-put_ending : goal.returns-in-Err-put_ending
 returns-in-Err-put_ending g c = (
   end-front c.args.encoder.now.output (g.T.Sink.taken c.args.sink.now) (g.T.Sink.taken c.put_ending.new.sink)
-  (sym c.in-Ok.is ∙ c.end.ensures) c.in-Err-put_ending.ensures.err.1,
+      (sym c.in-Ok.is ∙ c.end.ensures) c.in-Err-put_ending.ensures.err.1,
   c.in-Err-put_ending.ensures.err.0,
 )

@@ -21,7 +21,7 @@ returns-in-Ok g c = (
   omega arith,
   c.in-Some.ensures.bound,
   block-fed c.args.encoder.now.output c.args.self.now c.feed_block.new.file (take 1536 c.args.piece.now) c.in-Some.block
-  (g.T.Sink.taken c.args.sink.now) (g.T.Sink.taken c.put_cells.new.sink)
+      (g.T.Sink.taken c.args.sink.now) (g.T.Sink.taken c.put_cells.new.sink)
       c.in-Some.ensures.taken c.in-Ok.ensures.grew,
   c.in-Ok.ensures.count,
 )
@@ -30,7 +30,7 @@ pub returns-in-Err : goal.returns-in-Err
 returns-in-Err g c = (
   c.in-Err.ensures.err.0,
   block-front c.args.encoder.now.output c.args.self.now c.feed_block.new.file (take 1536 c.args.piece.now)
-  (drop 1536 c.args.piece.now) c.args.piece.now c.in-Some.block
+      (drop 1536 c.args.piece.now) c.args.piece.now c.in-Some.block
       (g.T.Sink.taken c.args.sink.now) (g.T.Sink.taken c.put_cells.new.sink) c.in-Some.ensures.taken
       (take-append-drop 1536 c.args.piece.now) c.in-Err.ensures.err.1,
 )
@@ -38,13 +38,13 @@ returns-in-Err g c = (
 pub take_few-requires-clause-following : goal.take_few-requires-clause-following
 take_few-requires-clause-following g c =
     subst (λ (f : FileReader). (b : List ℕ) × (length b + length c.args.piece.now ≤ 2 ^ 40)
-        × Encodes f c.args.encoder.now.blocks b)
+    × Encodes f c.args.encoder.now.blocks b)
     (sym (c.feed_block.ensures.left c.in-None.is)) c.requires.following
 
 pub returns-in-None : goal.returns-in-None
 returns-in-None g c =
     let n = c.take_few.new in
     subst (λ (f : FileReader). FrontRan (encoding c.args.encoder.now.output) (encoding n.encoder.output)
-        (Encodes f c.args.encoder.now.blocks) (Encodes n.file n.encoder.blocks) (Blocks n.encoder.blocks)
+    (Encodes f c.args.encoder.now.blocks) (Encodes n.file n.encoder.blocks) (Blocks n.encoder.blocks)
     c.args.piece.now (movement_of g.T.Sink.taken g.T.Sink.failed c.args.sink.now n.sink) c.take_few.result)
     (c.feed_block.ensures.left c.in-None.is) c.take_few.ensures

@@ -19,9 +19,12 @@ finish-requires-clause-following g c =
     let h = c.requires.following in
     let l = h.1 in
     let f = few-decided h.0 in
-    let n = length-append (decided h.0) (report_in c.args.self.now.lock c.in-Some.ending ∷ []) in
-    (decided h.0 ++ report_in c.args.self.now.lock c.in-Some.ending ∷ [], omega arith, c.in-Ok.ensures.next
-        (decided h.0) h.2.1)
+    let n = length-append (decided h.0) (report_in c.args.self.now.lock c.in-Some.ending ∷ []) in (
+      decided h.0 ++ report_in c.args.self.now.lock c.in-Some.ending ∷ [],
+      omega arith,
+      c.in-Ok.ensures.next
+          (decided h.0) h.2.1,
+    )
 
 pub finish-requires-in-None-clause-following : goal.finish-requires-in-None-clause-following
 finish-requires-in-None-clause-following g c =
@@ -33,16 +36,22 @@ finish-requires-in-None-clause-following g c =
 pub returns-in-Ok-clause-grew : goal.returns-in-Ok-clause-grew
 returns-in-Ok-clause-grew g c =
     ok-last c.finish.result (g.T.Sink.taken c.finish.new.sink)
-    (record { same = c.in-Ok.ensures.same;
-        last = λ d h. c.in-Some.ensures d h; next = c.in-Ok.ensures.next;
-            grew = c.in-Ok.ensures.grew }) c.finish.ensures.grew
+    (record {
+      same = c.in-Ok.ensures.same;
+      last = λ d h. c.in-Some.ensures d h;
+      next = c.in-Ok.ensures.next;
+      grew = c.in-Ok.ensures.grew;
+    }) c.finish.ensures.grew
 
 pub returns-in-Ok-clause-err_grew : goal.returns-in-Ok-clause-err_grew
 returns-in-Ok-clause-err_grew g c =
     err-last c.finish.result (g.T.Sink.taken c.finish.new.sink)
-    (record { same = c.in-Ok.ensures.same;
-        last = λ d h. c.in-Some.ensures d h; next = c.in-Ok.ensures.next;
-            grew = c.in-Ok.ensures.grew }) c.finish.ensures.err_grew
+    (record {
+      same = c.in-Ok.ensures.same;
+      last = λ d h. c.in-Some.ensures d h;
+      next = c.in-Ok.ensures.next;
+      grew = c.in-Ok.ensures.grew;
+    }) c.finish.ensures.err_grew
 
 pub returns-in-Err-clause-err_grew : goal.returns-in-Err-clause-err_grew
 returns-in-Err-clause-err_grew g c = λ d h.

@@ -34,7 +34,7 @@ returns-in-Ok g c =
           (λ b h. (
             p.follows b h.0,
             subst (g.R.Reporter.follows c.tell.new.self) (sym (p.report b h.0 ∙ ap (λ o. decided b ++ o) told))
-            (c.in-Ok.ensures.next (decided b) h.1),
+                (c.in-Ok.ensures.next (decided b) h.1),
           )),
           (λ b h. grew-is
               (sym (adds-report w b d (report_in k c.in-Some.ending) (p.report b h.0 ∙ ap (λ o. decided b ++ o) told)))
@@ -58,10 +58,10 @@ returns-in-Err g c =
         c.in-Err.ensures.err_count,
         (λ b h.
             front-is (sym (ap (λ z. behind (reporting w) b z) (cells-parted c.args.word n c.args.len p.within)
-                ∙ items-join (reporting w) b d rest))
+            ∙ items-join (reporting w) b d rest))
             (front-more (front-is
-                (sym (adds-report w b d (report_in k c.in-Some.ending) (p.report b h.0
-                    ∙ ap (λ o. decided b ++ o) told))) (c.in-Err.ensures.err_grew (decided b) h.1)) _)),
+            (sym (adds-report w b d (report_in k c.in-Some.ending) (p.report b h.0
+            ∙ ap (λ o. decided b ++ o) told))) (c.in-Err.ensures.err_grew (decided b) h.1)) _)),
       );
     }
 
@@ -81,7 +81,7 @@ returns-in-None g c =
           (λ b h. (
             p.follows b h.0,
             subst (g.R.Reporter.follows c.args.self.now.reporter)
-            (sym (p.report b h.0 ∙ ap (λ o. decided b ++ o) told ∙ append-nil (decided b))) h.1,
+                (sym (p.report b h.0 ∙ ap (λ o. decided b ++ o) told ∙ append-nil (decided b))) h.1,
           )),
           (λ b h. grew-is
               (sym (adds-nothing w b d (p.report b h.0 ∙ ap (λ o. decided b ++ o) told ∙ append-nil (decided b))))

@@ -92,6 +92,6 @@ returns-in-Err g c =
       ran = (
         r.0 ∙ ap (λ k. k + 1) v.quiet,
         handed-cells-front (word_cells (get_or ws (at + n) 0)) (flat_map word_cells (drop (at + n + 1) ws))
-        (words-more ws (at + n) (omega arith)) (words-parted ws (at + n + 1)) h r.1,
+            (words-more ws (at + n) (omega arith)) (words-parted ws (at + n + 1)) h r.1,
       );
     }

@@ -17,12 +17,12 @@ returns-in-Some g c =
     let w = c.in-Some.ensures.within in
     let v : c.in-Some.i < c.min-len.result = omega arith in (
       front-stopped s.exact c.args.change.now s.seen s.begun (omega arith) _ c.in-Some.i xs
-      (g.T.Sink.taken c.args.sink.now) (λ b. tt)
+          (g.T.Sink.taken c.args.sink.now) (λ b. tt)
           c.in-Some.ensures.asked (omega arith) (omega arith) (ap (λ k. (k + c.in-Some.i) % 4) (sym p)
-              ∙ c.in-Some.ensures.lowest)
+          ∙ c.in-Some.ensures.lowest)
           (λ e. c.in-Some.ensures.some (get_or-take c.min-len.result xs c.in-Some.i 0 v ∙ e))
           (λ j l r. sym (get_or-take c.min-len.result xs j 0 (omega arith))
-              ∙ c.in-Some.ensures.first j l (ap (λ k. (k + j) % 4) p ∙ r)),
+          ∙ c.in-Some.ensures.first j l (ap (λ k. (k + j) % 4) p ∙ r)),
       refl,
     )
 
@@ -37,20 +37,20 @@ returns-then-at-len-lt-BLOCK_BYTES g c =
     let d = c.copy_from_slice.ensures.after in
     let y : length c.copy_from_slice.new.self ≡ n = ap length d ∙ l in
     let h : length (take (s.seen % 1536) s.begun) ≡ s.seen % 1536 =
-        length-take-le (s.seen % 1536) s.begun (omega arith) in
+    length-take-le (s.seen % 1536) s.begun (omega arith) in
     let j = length-append (take (s.seen % 1536) s.begun) (take n xs) in (
       omega arith,
       omega arith,
       front-fed s.exact c.args.change.now s.seen s.begun (omega arith) (take n xs)
-      (put_mid c.place-at.result k s.begun c.copy_from_slice.new.self) n
+          (put_mid c.place-at.result k s.begun c.copy_from_slice.new.self) n
           (g.T.Sink.taken c.args.sink.now) (g.T.Sink.taken c.args.sink.now) l
           (λ e i r. c.in-None.ensures.none refl e i (ap (λ v. (v + i) % 4) p ∙ r))
           (omega arith)
           (take-put_mid c.place-at.result k s.begun c.copy_from_slice.new.self (s.seen % 1536 + n) (omega arith)
-              (omega arith)
+          (omega arith)
           ∙ ap₂ (λ a ys. take a s.begun ++ ys) p d)
           (grew-is (sym (made-short c.args.change.now (take (s.seen % 1536) s.begun ++ take n xs) (omega arith)))
-              (grew-none refl)),
+          (grew-none refl)),
       refl,
     )
 
@@ -65,19 +65,19 @@ returns-in-Ok g c =
     let d = c.copy_from_slice.ensures.after in
     let y : length c.copy_from_slice.new.self ≡ n = ap length d ∙ l in
     let h : length (take (s.seen % 1536) s.begun) ≡ s.seen % 1536 =
-        length-take-le (s.seen % 1536) s.begun (omega arith) in
+    length-take-le (s.seen % 1536) s.begun (omega arith) in
     let j = length-append (take (s.seen % 1536) s.begun) (take n xs) in
     let whole = put-whole c.place-at.result k s.begun c.copy_from_slice.new.self (omega arith) (omega arith)
     ∙ ap₂ (λ a ys. take a s.begun ++ ys) p d in (
       omega arith,
       omega arith,
       front-fed s.exact c.args.change.now s.seen s.begun (omega arith) (take n xs)
-      (put_mid c.place-at.result k s.begun c.copy_from_slice.new.self) n
+          (put_mid c.place-at.result k s.begun c.copy_from_slice.new.self) n
           (g.T.Sink.taken c.args.sink.now) (g.T.Sink.taken c.put_samples.new.sink) l
           (λ e i r. c.in-None.ensures.none refl e i (ap (λ v. (v + i) % 4) p ∙ r))
           (omega arith)
           (take-put_mid c.place-at.result k s.begun c.copy_from_slice.new.self (s.seen % 1536 + n) (omega arith)
-              (omega arith)
+          (omega arith)
           ∙ ap₂ (λ a ys. take a s.begun ++ ys) p d)
           (grew-is (block-made c.args.change.now _ _ whole (omega arith)) c.in-Ok.ensures.bytes),
       c.in-Ok.ensures.count,
@@ -94,13 +94,13 @@ returns-in-Err g c =
     let d = c.copy_from_slice.ensures.after in
     let y : length c.copy_from_slice.new.self ≡ n = ap length d ∙ l in
     let h : length (take (s.seen % 1536) s.begun) ≡ s.seen % 1536 =
-        length-take-le (s.seen % 1536) s.begun (omega arith) in
+    length-take-le (s.seen % 1536) s.begun (omega arith) in
     let j = length-append (take (s.seen % 1536) s.begun) (take n xs) in
     let whole = put-whole c.place-at.result k s.begun c.copy_from_slice.new.self (omega arith) (omega arith)
     ∙ ap₂ (λ a ys. take a s.begun ++ ys) p d in (
       c.in-Err.ensures.err.0,
       front-part s.exact c.args.change.now s.seen s.begun (omega arith) (take n xs) (drop n xs) xs
-      (g.T.Sink.taken c.args.sink.now) (g.T.Sink.taken c.put_samples.new.sink)
+          (g.T.Sink.taken c.args.sink.now) (g.T.Sink.taken c.put_samples.new.sink)
           (λ e i r. c.in-None.ensures.none refl e i (ap (λ v. (v + i) % 4) p ∙ r))
           (take-append-drop n xs)
           (front-is (block-made c.args.change.now _ _ whole (omega arith)) c.in-Err.ensures.err.1),
