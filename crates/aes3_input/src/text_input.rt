@@ -9,7 +9,7 @@ ghost use Rattle.aes3_input.specs.Running.{FrontRan, movement_of};
 use crate::conversion::{Input, convert};
 use crate::taker::Taker;
 use crate::text_lines::LINES;
-use crate::text_words::{feed_cells, feed_words};
+use crate::text_words::fill;
 use aes3_cell::{CellText, Form, RunError, Sink, Source};
 
 /// Reads cell text, and counts its cells.
@@ -32,35 +32,6 @@ impl TextInput {
             cells: 0,
             words: [0; LINES],
         }
-    }
-}
-
-/// Takes what a piece begins with as one word of cells, and answers how many bytes that is.
-fn take_cells<T: Sink, K: Taker>(
-    input: &mut TextInput,
-    taker: &mut K,
-    sink: &mut T,
-    piece: &[u8],
-) -> Result<usize, RunError>
-    requires some { 0 < length piece.now }
-    requires room { T.failed sink.old + 1 < 2 ^ 64 }
-    requires following { (b : List ℕ) × (length b + length piece.now ≤ 2 ^ 40)
-        × TextTaken input.old.text input.old.cells (K.follows taker.old) b }
-    ensures { FrontRan (text_reading (K.writes taker.old)) (text_reading (K.writes taker.new))
-        (TextTaken input.old.text input.old.cells (K.follows taker.old))
-        (TextTaken input.new.text input.new.cells (K.follows taker.new))
-        (λ b. K.follows taker.new (cells_of_text b)) piece.now
-        (movement_of T.taken T.failed sink.old sink.new) result }
-{
-    match feed_cells(&mut input.text, piece) {
-        Ok((taken, cells)) => match taker.cells(sink, cells.word, cells.len) {
-            Ok(()) => {
-                input.cells += u64::from(cells.len);
-                Ok(taken)
-            }
-            Err(_) => Err(RunError::Write),
-        },
-        Err(fault) => Err(RunError::BadCell { at: fault.at }),
     }
 }
 
@@ -103,17 +74,18 @@ impl<K: Taker> Input<K> for TextInput {
         sink: &mut T,
         piece: &[u8],
     ) -> Result<usize, RunError> {
-        let taken = feed_words(&mut self.text, piece, &mut self.words);
-        if taken.bytes == 0 {
-            return take_cells(self, taker, sink, piece);
-        }
-        let rest = taken.rest;
-        match taker.words_and_cells(sink, &self.words[..taken.count], rest.word, rest.len) {
-            Ok(()) => {
-                self.cells += 64 * taken.count as u64 + u64::from(rest.len);
-                Ok(taken.bytes)
+        match fill(&mut self.text, piece, &mut self.words) {
+            Ok(taken) => {
+                let words = &self.words[..taken.count];
+                match taker.words_and_cells(sink, words, taken.rest.word, taken.rest.len) {
+                    Ok(()) => {
+                        self.cells += 64 * taken.count as u64 + u64::from(taken.rest.len);
+                        Ok(taken.bytes)
+                    }
+                    Err(_) => Err(RunError::Write),
+                }
             }
-            Err(_) => Err(RunError::Write),
+            Err(fault) => Err(RunError::BadCell { at: fault.at }),
         }
     }
 

@@ -121,7 +121,7 @@ fn feed_chunks(text: &mut CellText, piece: &[u8], words: &mut [u64; LINES]) -> T
 
 /// Takes the lines of 64 cells that a piece begins with, or the chunks of 64 bytes where no such line
 /// is near.
-pub(crate) fn feed_words(text: &mut CellText, piece: &[u8], words: &mut [u64; LINES]) -> Taken
+fn feed_words(text: &mut CellText, piece: &[u8], words: &mut [u64; LINES]) -> Taken
     requires { text.old.seen + length piece.now ≤ 2 ^ 40 }
     ensures within { result.bytes ≤ length piece.now }
     ensures few { result.count ≤ 64 }
@@ -206,7 +206,7 @@ fn feed_some(text: &mut CellText, piece: &[u8]) -> Result<(usize, SomeCells), Ba
 
 /// Takes the 64 cells or fewer that a piece begins with, whatever separators stand between them,
 /// and those behind them. Answers how many bytes these are, and the cells.
-pub(crate) fn feed_cells(text: &mut CellText, piece: &[u8]) -> Result<(usize, SomeCells), BadCell>
+fn feed_cells(text: &mut CellText, piece: &[u8]) -> Result<(usize, SomeCells), BadCell>
     requires some { 0 < length piece.now }
     requires room { text.old.seen + length piece.now ≤ 2 ^ 40 }
     ensures within { IfOk result (λ taken. (0 < taken.0) × (taken.0 ≤ length piece.now)) }
@@ -221,6 +221,42 @@ pub(crate) fn feed_cells(text: &mut CellText, piece: &[u8]) -> Result<(usize, So
             let separators = skip_separators(text, &piece[taken..]);
             Ok((taken + separators, cells))
         }
+        Err(fault) => Err(fault),
+    }
+}
+
+/// Takes a front of a piece, and answers how many bytes it has, how many words its cells make, and
+/// the cells behind these.
+///
+/// # Errors
+/// The place of the first byte, where it is neither a cell nor a separator. Nothing is taken then.
+pub(crate) fn fill(
+    text: &mut CellText,
+    piece: &[u8],
+    words: &mut [u64; LINES],
+) -> Result<Taken, BadCell>
+    requires some { 0 < length piece.now }
+    requires room { text.old.seen + length piece.now ≤ 2 ^ 40 }
+    ensures within { IfOk result (λ taken. (0 < taken.bytes) × (taken.bytes ≤ length piece.now)) }
+    ensures few { IfOk result (λ taken. taken.count ≤ 64) }
+    ensures len { length words.new ≡ 64 }
+    ensures read { IfOk result (λ taken. TextRead text.old text.new (take taken.bytes piece.now)
+        (flat_map word_cells (take taken.count words.new)
+        ++ low_cells taken.rest.len taken.rest.word)) }
+    ensures fault { IfErr result (λ fault. Err fault
+        ≡ text_answer text.old (slice_index piece.now 0)) }
+    ensures same { OnErr result (text.new ≡ text.old) }
+{
+    let taken = feed_words(text, piece, words);
+    if taken.bytes > 0 {
+        return Ok(taken);
+    }
+    match feed_cells(text, piece) {
+        Ok((bytes, rest)) => Ok(Taken {
+            bytes,
+            count: 0,
+            rest,
+        }),
         Err(fault) => Err(fault),
     }
 }
