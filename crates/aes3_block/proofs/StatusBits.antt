@@ -1,4 +1,4 @@
--- The C bits of a block, read and written frame by frame.
+-- The V, U and C bits of a block, read and written frame by frame.
 use mir.Val.{bool_byte}
 use Rattle.std.proofs.Common.{◌≡◌, ℕ, zero, suc, ◌+◌, ◌-◌, ◌*◌, ◌/◌, ◌%◌, ◌^◌, ◌<◌, ◌≤◌, ◌⊎◌, inl, inr, List, [], ◌∷◌}
 use Rattle.std.proofs.Common.{◌++◌, Bool, true, false, cond, eqb, length, take, drop, get_or, set, Some, None, refl}
@@ -18,44 +18,49 @@ use Rattle.aes3_block.specs.declared.subframe.Subframe.{Subframe}
 use Rattle.aes3_block.specs.declared.status.Channel.{Channel}
 use Rattle.aes3_block.specs.declared.status.Channel.TheVariants.{First, Second}
 use Rattle.aes3_block.specs.Subframes.{audio_len, bits_of}
-use Rattle.aes3_block.specs.Statuses.{of_channel, status_place, status_bit, status_bits, status_len, status_of}
-use Rattle.aes3_block.specs.Statuses.{bytes_in, bits_of_bytes, with_bits, with_status}
+use Rattle.aes3_block.specs.Statuses.{of_channel, validity_place, user_place, status_place, bits_at, status_len, bytes_in, bits_of_bytes, with_bits_at}
 use Rattle.aes3_block.proofs.BitLemmas.{bit-set}
 
 pub status_len_24 : status_len ≡ 24
 unfolding status_len
 status_len_24 = refl
 
--- the C bit of a subframe, read and written
-pub status_bit-of : (s : Subframe) → status_bit (bits_of s) ≡ s.c
-unfolding status_place
-status_bit-of s =
+-- a bit of a subframe behind its audio, read and written
+pub behind-get : (s : Subframe) (k : ℕ) → get_or (bits_of s) (audio_len + k) false ≡ get_or (s.v ∷ s.u ∷ s.c ∷ []) k false
+behind-get s k =
     let low = low_bits audio_len s.audio in
-    ap (λ n. get_or (low_bits audio_len s.audio ++ s.v ∷ s.u ∷ s.c ∷ []) (n + 2) false)
-    (sym (length-low_bits audio_len s.audio))
-    ∙ get_or-append-add low (s.v ∷ s.u ∷ s.c ∷ []) 2 false
+    ap (λ n. get_or (low_bits audio_len s.audio ++ s.v ∷ s.u ∷ s.c ∷ []) (n + k) false) (sym (length-low_bits audio_len s.audio))
+    ∙ get_or-append-add low (s.v ∷ s.u ∷ s.c ∷ []) k false
 
-set-status_bit : (s : Subframe) (bit : Bool)
-    → set (bits_of s) status_place bit ≡ low_bits audio_len s.audio ++ s.v ∷ s.u ∷ bit ∷ []
-unfolding status_place
-set-status_bit s bit =
+behind-set : (s : Subframe) (k : ℕ) (bit : Bool) → set (bits_of s) (audio_len + k) bit ≡ low_bits audio_len s.audio ++ set (s.v ∷ s.u ∷ s.c ∷ []) k bit
+behind-set s k bit =
     let low = low_bits audio_len s.audio in
-    set-append_right low (s.v ∷ s.u ∷ s.c ∷ []) audio_len (audio_len + 2) bit (length-low_bits audio_len s.audio)
-    (omega arith)
-    ∙ ap (λ n. low_bits audio_len s.audio ++ set (s.v ∷ s.u ∷ s.c ∷ []) n bit) (let e : audio_len + 2 - audio_len ≡ 2 =
-    omega arith in e)
+    set-append_right low (s.v ∷ s.u ∷ s.c ∷ []) audio_len (audio_len + k) bit (length-low_bits audio_len s.audio) (omega arith)
+    ∙ ap (λ n. low_bits audio_len s.audio ++ set (s.v ∷ s.u ∷ s.c ∷ []) n bit) (let e : audio_len + k - audio_len ≡ k = omega arith in e)
 
-pub frame-first : (channel : Channel) (s t : Subframe) (bit : Bool) → channel ≡ First
-    → (low_bits audio_len s.audio ++ s.v ∷ s.u ∷ bit ∷ []) ∷ bits_of t ∷ [] ≡ with_bits channel
-    (bits_of s ∷ bits_of t ∷ []) (bit ∷ [])
-frame-first channel s t bit e = ap (λ p. p ∷ bits_of t ∷ []) (sym (set-status_bit s bit))
-    ∙ ap (λ ch. with_bits ch (bits_of s ∷ bits_of t ∷ []) (bit ∷ [])) (sym e)
+pub validity-get : (s : Subframe) → get_or (bits_of s) validity_place false ≡ s.v
+unfolding validity_place
+validity-get s = ap (λ n. get_or (bits_of s) n false) (let e : audio_len ≡ audio_len + 0 = omega arith in e) ∙ behind-get s 0
 
-pub frame-second : (channel : Channel) (s t : Subframe) (bit : Bool) → channel ≡ Second
-    → bits_of s ∷ (low_bits audio_len t.audio ++ t.v ∷ t.u ∷ bit ∷ []) ∷ [] ≡ with_bits channel
-    (bits_of s ∷ bits_of t ∷ []) (bit ∷ [])
-frame-second channel s t bit e = ap (λ p. bits_of s ∷ p ∷ []) (sym (set-status_bit t bit))
-    ∙ ap (λ ch. with_bits ch (bits_of s ∷ bits_of t ∷ []) (bit ∷ [])) (sym e)
+pub user-get : (s : Subframe) → get_or (bits_of s) user_place false ≡ s.u
+unfolding user_place
+user-get s = behind-get s 1
+
+pub status-get : (s : Subframe) → get_or (bits_of s) status_place false ≡ s.c
+unfolding status_place
+status-get s = behind-get s 2
+
+pub validity-set : (s : Subframe) (bit : Bool) → low_bits audio_len s.audio ++ bit ∷ s.u ∷ s.c ∷ [] ≡ set (bits_of s) validity_place bit
+unfolding validity_place
+validity-set s bit = sym (behind-set s 0 bit) ∙ ap (λ n. set (bits_of s) n bit) (let e : audio_len + 0 ≡ audio_len = omega arith in e)
+
+pub user-set : (s : Subframe) (bit : Bool) → low_bits audio_len s.audio ++ s.v ∷ bit ∷ s.c ∷ [] ≡ set (bits_of s) user_place bit
+unfolding user_place
+user-set s bit = sym (behind-set s 1 bit)
+
+pub status-set : (s : Subframe) (bit : Bool) → low_bits audio_len s.audio ++ s.v ∷ s.u ∷ bit ∷ [] ≡ set (bits_of s) status_place bit
+unfolding status_place
+status-set s bit = sym (behind-set s 2 bit)
 
 -- the payloads of a channel by frames
 twice-suc : (i : ℕ) → 2 * suc i ≡ suc (suc (2 * i))
@@ -76,10 +81,10 @@ pub second-get : (b : List (List Bool)) (i : ℕ) (p : List Bool) → slice_get 
 second-get [] i p e = cc
 second-get (q ∷ b) i p e = first-get b i p (let f : 2 * i + 1 ≡ suc (2 * i) = omega arith in rw f at e)
 
-pub bits-get : (b : List (List Bool)) (channel : Channel) (i : ℕ) (s : Subframe)
-    → slice_get (of_channel channel b) i ≡ Some (bits_of s) → slice_get (status_bits b channel) i ≡ Some s.c
-bits-get b channel i s e = slice_get-map status_bit (of_channel channel b) i ∙ ap (option_map status_bit) e
-    ∙ ap Some (status_bit-of s)
+pub bits-get : (place : ℕ) (b : List (List Bool)) (channel : Channel) (i : ℕ) (p : List Bool) (bit : Bool) → slice_get (of_channel channel b) i ≡ Some p
+    → get_or p place false ≡ bit → slice_get (bits_at place b channel) i ≡ Some bit
+bits-get place b channel i p bit e g =
+    slice_get-map (λ q. get_or q place false) (of_channel channel b) i ∙ ap (option_map (λ q. get_or q place false)) e ∙ ap Some g
 
 pub slice_get-drop : {A : Type 0} (n : ℕ) (xs : List A) (j : ℕ) → slice_get (drop n xs) j ≡ slice_get xs (n + j)
 slice_get-drop zero xs j = ap (slice_get xs) (let e : j ≡ 0 + j = omega arith in e)
@@ -131,11 +136,8 @@ bytes-push k v status bits h e q =
     take_more_set status k v h ∙ ap₂ (λ x y. x ++ y ∷ []) e q ∙ sym (bytes-more k bits)
     ∙ ap (λ n. bytes_in n bits) (sym (add-one k))
 
-pub bytes-all : (k : ℕ) (status : List ℕ) (b : List (List Bool)) (channel : Channel) → k ≡ 24 → length status ≡ 24
-    → take k status ≡ bytes_in k (status_bits b channel) → status ≡ status_of b channel
-unfolding status_of
-bytes-all k status b channel e l h = sym (take_all k status (omega arith)) ∙ h
-    ∙ ap (λ n. bytes_in n (status_bits b channel)) (e ∙ sym status_len_24)
+pub bytes-all : (k : ℕ) (bytes : List ℕ) (bits : List Bool) → k ≡ 24 → length bytes ≡ 24 → take k bytes ≡ bytes_in k bits → bytes ≡ bytes_in status_len bits
+bytes-all k bytes bits e l h = sym (take_all k bytes (omega arith)) ∙ h ∙ ap (λ n. bytes_in n bits) (e ∙ sym status_len_24)
 
 -- the bits of bytes by place
 pub length-bits_of_bytes : (bytes : List ℕ) → length (bits_of_bytes bytes) ≡ 8 * length bytes
@@ -172,49 +174,41 @@ bit-of-bytes bytes i h =
     ∙ ap Some (bits-at bytes i h ∙ sym (bit-set (get_or bytes (i / 8) 0) (i % 8)))
 
 -- no bits change nothing, and one more changes one frame
-pub with_bits-none : (channel : Channel) (b : List (List Bool)) → with_bits channel b [] ≡ b
-with_bits-none channel [] = refl
-with_bits-none First (p ∷ b) = refl
-with_bits-none Second (p ∷ b) = ap (λ ps. p ∷ ps) (with_bits-none First b)
+pub with_bits-none : (place : ℕ) (channel : Channel) (b : List (List Bool)) → with_bits_at place channel b [] ≡ b
+with_bits-none place channel [] = refl
+with_bits-none place First (p ∷ b) = refl
+with_bits-none place Second (p ∷ b) = ap (λ ps. p ∷ ps) (with_bits-none place First b)
 
-with_bits-push : (channel : Channel) (b : List (List Bool)) (bits : List Bool) (bit : Bool) (x y u v : List Bool)
-    → slice_get (with_bits channel b bits) (2 * length bits) ≡ Some x
-    → slice_get (with_bits channel b bits) (suc (2 * length bits)) ≡ Some y
-    → u ∷ v ∷ [] ≡ with_bits channel (x ∷ y ∷ []) (bit ∷ [])
-    → set (set (with_bits channel b bits) (2 * length bits) u) (suc (2 * length bits)) v ≡ with_bits channel b
-    (bits ++ bit ∷ [])
-with_bits-push channel [] bits bit x y u v e f g = cc
-with_bits-push First (p ∷ []) [] bit x y u v e f g = cc
-with_bits-push Second (p ∷ []) [] bit x y u v e f g = cc
-with_bits-push First (p ∷ q ∷ b) [] bit x y u v e f g = let n = with_bits-none First b in cc
-with_bits-push Second (p ∷ q ∷ b) [] bit x y u v e f g = let n = with_bits-none Second b in cc
-with_bits-push First (p ∷ []) (c ∷ bits) bit x y u v e f g = let t = twice-suc (length bits) in let h = rw t at e in cc
-with_bits-push Second (p ∷ []) (c ∷ bits) bit x y u v e f g = let t = twice-suc (length bits) in let h = rw t at e in cc
-with_bits-push First (p ∷ q ∷ b) (c ∷ bits) bit x y u v e f g =
+with_bits-push : (place : ℕ) (channel : Channel) (b : List (List Bool)) (bits : List Bool) (bit : Bool) (x y u v : List Bool)
+    → slice_get (with_bits_at place channel b bits) (2 * length bits) ≡ Some x → slice_get (with_bits_at place channel b bits) (suc (2 * length bits)) ≡ Some y
+    → u ∷ v ∷ [] ≡ with_bits_at place channel (x ∷ y ∷ []) (bit ∷ [])
+    → set (set (with_bits_at place channel b bits) (2 * length bits) u) (suc (2 * length bits)) v ≡ with_bits_at place channel b (bits ++ bit ∷ [])
+with_bits-push place channel [] bits bit x y u v e f g = cc
+with_bits-push place First (p ∷ []) [] bit x y u v e f g = cc
+with_bits-push place Second (p ∷ []) [] bit x y u v e f g = cc
+with_bits-push place First (p ∷ q ∷ b) [] bit x y u v e f g = let n = with_bits-none place First b in cc
+with_bits-push place Second (p ∷ q ∷ b) [] bit x y u v e f g = let n = with_bits-none place Second b in cc
+with_bits-push place First (p ∷ []) (c ∷ bits) bit x y u v e f g = let t = twice-suc (length bits) in let h = rw t at e in cc
+with_bits-push place Second (p ∷ []) (c ∷ bits) bit x y u v e f g = let t = twice-suc (length bits) in let h = rw t at e in cc
+with_bits-push place First (p ∷ q ∷ b) (c ∷ bits) bit x y u v e f g =
     let t = twice-suc (length bits) in
-    rw t (ap (λ ps. set p status_place c ∷ q ∷ ps) (with_bits-push First b bits bit x y u v (rw t at e) (rw t at f) g))
-with_bits-push Second (p ∷ q ∷ b) (c ∷ bits) bit x y u v e f g =
+    rw t (ap (λ ps. set p place c ∷ q ∷ ps) (with_bits-push place First b bits bit x y u v (rw t at e) (rw t at f) g))
+with_bits-push place Second (p ∷ q ∷ b) (c ∷ bits) bit x y u v e f g =
     let t = twice-suc (length bits) in
-    rw t (ap (λ ps. p ∷ set q status_place c ∷ ps) (with_bits-push Second b bits bit x y u v (rw t at e) (rw t at f) g))
+    rw t (ap (λ ps. p ∷ set q place c ∷ ps) (with_bits-push place Second b bits bit x y u v (rw t at e) (rw t at f) g))
 
-pub frames-push : (channel : Channel) (b now next : List (List Bool)) (bits : List Bool) (i : ℕ) (bit : Bool)
-    (x y u v : List Bool)
-    → now ≡ with_bits channel b (take i bits) → slice_get bits i ≡ Some bit → slice_get now (2 * i) ≡ Some x
-    → slice_get now (2 * i + 1) ≡ Some y
-    → u ∷ v ∷ [] ≡ with_bits channel (x ∷ y ∷ []) (bit ∷ []) → next ≡ set (set now (2 * i) u) (2 * i + 1) v
-    → next ≡ with_bits channel b (take (i + 1) bits)
-frames-push channel b now next bits i bit x y u v e g f s r q =
+pub frames-push : (place : ℕ) (channel : Channel) (b now next : List (List Bool)) (bits : List Bool) (i : ℕ) (bit : Bool) (x y u v : List Bool)
+    → now ≡ with_bits_at place channel b (take i bits) → slice_get bits i ≡ Some bit → slice_get now (2 * i) ≡ Some x → slice_get now (2 * i + 1) ≡ Some y
+    → u ∷ v ∷ [] ≡ with_bits_at place channel (x ∷ y ∷ []) (bit ∷ []) → next ≡ set (set now (2 * i) u) (2 * i + 1) v → next ≡ with_bits_at place channel b (take (i + 1) bits)
+frames-push place channel b now next bits i bit x y u v e g f s r q =
     let n : length (take i bits) ≡ i = let w = slice_get_within bits i bit g in length-take-le i bits (omega arith) in
     let k : 2 * i ≡ 2 * length (take i bits) = omega arith in
     let m : 2 * i + 1 ≡ suc (2 * length (take i bits)) = omega arith in
-    q ∙ ap₂ (λ j o. set (set now j u) o v) k m
-    ∙ ap (λ z. set (set z (2 * length (take i bits)) u) (suc (2 * length (take i bits))) v) e
-    ∙ with_bits-push channel b (take i bits) bit x y u v (ap₂ slice_get (sym e) (sym k) ∙ f)
-    (ap₂ slice_get (sym e) (sym m) ∙ s) r
-    ∙ ap (with_bits channel b) (sym (take-get bits i bit g))
+    q ∙ ap₂ (λ j o. set (set now j u) o v) k m ∙ ap (λ z. set (set z (2 * length (take i bits)) u) (suc (2 * length (take i bits))) v) e
+    ∙ with_bits-push place channel b (take i bits) bit x y u v (ap₂ slice_get (sym e) (sym k) ∙ f) (ap₂ slice_get (sym e) (sym m) ∙ s) r
+    ∙ ap (with_bits_at place channel b) (sym (take-get bits i bit g))
 
-pub frames-all : (channel : Channel) (b now : List (List Bool)) (bytes : List ℕ) (i : ℕ) → i ≡ 192 → length bytes ≡ 24
-    → now ≡ with_bits channel b (take i (bits_of_bytes bytes)) → now ≡ with_status b channel bytes
-unfolding with_status
-frames-all channel b now bytes i e l h =
-    h ∙ ap (with_bits channel b) (take_all i (bits_of_bytes bytes) (let n = length-bits_of_bytes bytes in omega arith))
+pub frames-all : (place : ℕ) (channel : Channel) (b now : List (List Bool)) (bytes : List ℕ) (i : ℕ) → i ≡ 192 → length bytes ≡ 24
+    → now ≡ with_bits_at place channel b (take i (bits_of_bytes bytes)) → now ≡ with_bits_at place channel b (bits_of_bytes bytes)
+frames-all place channel b now bytes i e l h =
+    h ∙ ap (with_bits_at place channel b) (take_all i (bits_of_bytes bytes) (let n = length-bits_of_bytes bytes in omega arith))

@@ -3,7 +3,7 @@
 
 /// A block: the words of its 384 subframes.
 mod block;
-/// The cells of a block, made four subframes at a time.
+mod carried;
 mod cells;
 /// Block files as they are read, byte by byte or a block at a time.
 mod file;
