@@ -160,18 +160,13 @@ pub narrowed-bits : (ws : List ℕ) → Each1 (λ x. x < 2 ^ 64) ws → (i j : �
     → bit_at (get_or (narrowed ws) i 0) j ≡ bit_at (get_or ws i 0) (16 * (j / 8) + j % 8)
 narrowed-bits ws fit i j h g = ap (λ v. bit_at v j) (narrowed-is ws fit i h) ∙ evens-bits (get_or ws i 0) j g
 
--- a word of those bits is lawful, with the payload of the cells
-pub lawful-lane : (cells apart r : ℕ) → cells < 2 ^ 64 → r < 2 ^ 32 → odd_ones (read_word cells) ≡ false
+-- a word of those bits has the payload of the cells, and is lawful where their parity is right
+pub lawful-lane : (cells apart r : ℕ) → cells < 2 ^ 64 → r < 2 ^ 32
     → ((j : ℕ) → j < 32 → bit_at r j ≡ bit_at apart (16 * (j / 8) + j % 8)) → ((i : ℕ) → i < 4 → bit_at apart i ≡ 0)
-    → ((i : ℕ) → i < 28
-    → bit_at apart (16 * ((i + 4) / 8) + (i + 4) % 8) ≡ bit_at (bit_xor cells (cells / 2) / 2 ^ 8) (2 * i))
-    → (is_lawful r ≡ true) × (payload_of r ≡ take payload_len (read_word cells))
+    → ((i : ℕ) → i < 28 → bit_at apart (16 * ((i + 4) / 8) + (i + 4) % 8) ≡ bit_at (bit_xor cells (cells / 2) / 2 ^ 8) (2 * i))
+    → (odd_ones (read_word cells) ≡ false → is_lawful r ≡ true) × (payload_of r ≡ take payload_len (read_word cells))
 unfolding slots_len word_cells word_len
-lawful-lane cells apart r fit small even moved none bits = (
-  ap is_lawful is ∙ even-lawful s few (ap odd_ones read ∙ even),
-  ap payload_of is
-      ∙ payload-even s (read_word cells) few read,
-)
+lawful-lane cells apart r fit small moved none bits = (λ even. ap is_lawful is ∙ even-lawful s few (ap odd_ones read ∙ even), ap payload_of is ∙ payload-even s (read_word cells) few read)
   where
     s : ℕ
     s = r / 16

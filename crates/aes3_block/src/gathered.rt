@@ -41,7 +41,8 @@ ghost use Rattle.aes3_block.specs.Gathered.{IsRight, with_first};
 
 use crate::cells::mark_of;
 use crate::read_cells::wrong_in;
-use crate::slots::{word_of_cells, wrong_parities};
+use crate::slots::wrong_parities;
+use crate::word::{payload_of_word, word_of_payload};
 
 /// How many of the first words are right after the level `before`, with `more` right ones put from
 /// `slot` on, where `right` of them were after the level `first`.
@@ -99,11 +100,11 @@ fn even_octets(words: u64x4) -> [u32; 4]
     u32x4::from_le_bytes(words.to_le_bytes().swizzle(EVEN)).to_array()
 }
 
-/// The lawful words whose payloads the cells of four subframes carry, where each parity bit is
-/// right.
-fn words_of_even(cells: &[u64; 4]) -> [u32; 4]
-    requires { (i : ℕ) → i < 4 → odd_ones (read_word (get_or cells.now i 0)) ≡ false }
-    ensures lawful { (i : ℕ) → i < 4 → is_lawful (get_or result i 0) ≡ true }
+/// The words of the payloads that the cells of four subframes carry, with the parity bits that
+/// they carry too: lawful where those are right.
+fn words_as_read(cells: &[u64; 4]) -> [u32; 4]
+    ensures lawful { (i : ℕ) → i < 4 → odd_ones (read_word (get_or cells.now i 0)) ≡ false
+        → is_lawful (get_or result i 0) ≡ true }
     ensures payload { (i : ℕ) → i < 4 → payload_of (get_or result i 0)
         ≡ take payload_len (read_word (get_or cells.now i 0)) }
 {
@@ -115,17 +116,25 @@ fn words_of_even(cells: &[u64; 4]) -> [u32; 4]
     ]))
 }
 
-/// The lawful words whose payloads the cells of any four subframes carry.
-fn words_of_any(cells: &[u64; 4]) -> [u32; 4]
+/// The lawful word with the payload of a word.
+fn with_right_parity(word: u32) -> u32
+    ensures lawful { is_lawful result ≡ true }
+    ensures payload { payload_of result ≡ payload_of word }
+{
+    word_of_payload(payload_of_word(word))
+}
+
+/// The lawful words with the payloads of four words.
+fn with_right_parities(words: &[u32; 4]) -> [u32; 4]
     ensures lawful { (i : ℕ) → i < 4 → is_lawful (get_or result i 0) ≡ true }
     ensures payload { (i : ℕ) → i < 4 → payload_of (get_or result i 0)
-        ≡ take payload_len (read_word (get_or cells.now i 0)) }
+        ≡ payload_of (get_or words.now i 0) }
 {
     [
-        word_of_cells(cells[0]),
-        word_of_cells(cells[1]),
-        word_of_cells(cells[2]),
-        word_of_cells(cells[3]),
+        with_right_parity(words[0]),
+        with_right_parity(words[1]),
+        with_right_parity(words[2]),
+        with_right_parity(words[3]),
     ]
 }
 
@@ -138,10 +147,11 @@ fn words_of_four(cells: &[u64; 4], even: bool) -> [u32; 4]
     ensures payload { (i : ℕ) → i < 4 → payload_of (get_or result i 0)
         ≡ take payload_len (read_word (get_or cells.now i 0)) }
 {
+    let words = words_as_read(cells);
     if even {
-        words_of_even(cells)
+        words
     } else {
-        words_of_any(cells)
+        with_right_parities(&words)
     }
 }
 
