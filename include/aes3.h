@@ -139,6 +139,22 @@ uint32_t aes3_encode_block(const uint32_t words[384], uint8_t before, uint64_t c
  */
 uint32_t aes3_block_status(const uint32_t words[384], uint8_t channel, uint8_t status[24]);
 
+/*
+ * The same for the V bits (validity: 0 where a sample may be made analogue) and the U bits (user
+ * data) of a channel.
+ */
+uint32_t aes3_block_validity(const uint32_t words[384], uint8_t channel, uint8_t bits[24]);
+uint32_t aes3_block_user(const uint32_t words[384], uint8_t channel, uint8_t bits[24]);
+
+/*
+ * Sets the channel status, the V bits or the U bits of a block's channel, 1 or 2, and with them the
+ * parity bits, so that each word is lawful; all else stays. Answers 384; or, where a word is not
+ * lawful, the number of the first that is not, and leaves words[] as they were.
+ */
+uint32_t aes3_block_set_status(uint32_t words[384], uint8_t channel, const uint8_t status[24]);
+uint32_t aes3_block_set_validity(uint32_t words[384], uint8_t channel, const uint8_t bits[24]);
+uint32_t aes3_block_set_user(uint32_t words[384], uint8_t channel, const uint8_t bits[24]);
+
 /* ---- Words of cells, written ---- */
 
 /*

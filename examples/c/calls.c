@@ -16,15 +16,6 @@ static void want(int line, int holds) {
 static uint32_t words[AES3_BLOCK_WORDS];
 static uint64_t cells[AES3_BLOCK_WORDS];
 
-/* Puts a bit of a word, and the parity bit that follows. */
-static void set_bit(uint32_t *word, int slot, int bit) {
-    uint32_t ones = 0;
-    *word = (*word & ~((uint32_t)1 << slot)) | (uint32_t)bit << slot;
-    for (int i = 4; i < 31; i++)
-        ones += *word >> i & 1;
-    *word = (*word & 0x7FFFFFFF) | (ones & 1) << 31;
-}
-
 /* 48 kHz, two channels, from JATH (AES3-2). */
 static const uint8_t sent[AES3_STATUS_BYTES] = {0x85, 0x02, 0x2C, 0, 0, 0, 'J', 'A', 'T', 'H'};
 
@@ -48,10 +39,33 @@ static void statuses(void) {
     WANT(!aes3_status_professional(status, &professional));
     WANT(aes3_status_consumer(status, &consumer));
     WANT(consumer.copyright == 1 && consumer.rate == 2 && consumer.rest[1] == 'J');
-    for (int frame = 0; frame < 192; frame++)
-        set_bit(&words[2 * frame + 1], 30, sent[frame / 8] >> frame % 8 & 1);
+    WANT(aes3_block_set_status(words, 2, sent) == AES3_BLOCK_WORDS);
     WANT(aes3_block_status(words, 2, status) == AES3_BLOCK_WORDS && memcmp(status, sent, sizeof status) == 0);
     WANT(aes3_block_status(words, 1, status) == AES3_BLOCK_WORDS && status[0] == 0 && status[6] == 0);
+}
+
+/* V and U bits: bit 9 of 24 octets is that of frame 9, which is word 18 or, of channel 2, word 19. */
+static void carried(void) {
+    uint8_t user[AES3_STATUS_BYTES] = {0, 2, 0, 0xFF}, bits[AES3_STATUS_BYTES];
+    static uint32_t block[AES3_BLOCK_WORDS];
+    memcpy(block, words, sizeof block);
+    WANT(aes3_block_set_user(block, 2, user) == AES3_BLOCK_WORDS);
+    WANT(block[19] == (words[19] ^ 0x20000000 ^ 0x80000000) && block[18] == words[18] && block[17] == words[17]);
+    WANT(aes3_block_user(block, 2, bits) == AES3_BLOCK_WORDS && memcmp(bits, user, sizeof bits) == 0);
+    WANT(aes3_block_user(block, 1, bits) == AES3_BLOCK_WORDS && bits[1] == 0 && bits[3] == 0);
+    WANT(aes3_block_set_validity(block, 1, user) == AES3_BLOCK_WORDS);
+    WANT(block[18] == (words[18] ^ 0x10000000 ^ 0x80000000));
+    WANT(aes3_block_validity(block, 1, bits) == AES3_BLOCK_WORDS && memcmp(bits, user, sizeof bits) == 0);
+    WANT(aes3_block_validity(block, 2, bits) == AES3_BLOCK_WORDS && bits[1] == 0);
+    WANT(aes3_block_status(block, 2, bits) == AES3_BLOCK_WORDS && memcmp(bits, sent, sizeof bits) == 0);
+    memset(user, 0, sizeof user);
+    WANT(aes3_block_set_user(block, 2, user) == AES3_BLOCK_WORDS);
+    WANT(aes3_block_set_validity(block, 1, user) == AES3_BLOCK_WORDS && memcmp(block, words, sizeof block) == 0);
+    block[7] ^= 1;
+    WANT(aes3_block_set_user(block, 1, sent) == 7 && aes3_block_set_validity(block, 1, sent) == 7);
+    WANT(aes3_block_set_status(block, 1, sent) == 7 && aes3_block_user(block, 1, bits) == 7);
+    block[7] ^= 1;
+    WANT(memcmp(block, words, sizeof block) == 0);
 }
 
 static void written(void) {
@@ -100,6 +114,7 @@ static void locks(void) {
 int main(void) {
     WANT(aes3_version() == AES3_VERSION_NUMBER);
     statuses();
+    carried();
     words[5] ^= 0x80000000;
     memset(cells, 0x55, sizeof cells);
     WANT(aes3_encode_block(words, 0, cells) == 5 && cells[0] == 0x5555555555555555);

@@ -28,6 +28,11 @@ static void end_block(void) { aes3_lock_push(&lock, cells[0], 64, &report); }
 static void finish(void) { aes3_lock_finish(&lock, &report); }
 static void encode_block(void) { aes3_encode_block(words, 0, cells); }
 static void block_status(void) { aes3_block_status(words, 1, status); }
+static void block_validity(void) { aes3_block_validity(words, 1, status); }
+static void block_user(void) { aes3_block_user(words, 1, status); }
+static void set_status(void) { aes3_block_set_status(words, 1, status); }
+static void set_validity(void) { aes3_block_set_validity(words, 1, status); }
+static void set_user(void) { aes3_block_set_user(words, 1, status); }
 static void word_of_text(void) { aes3_word_of_text(line, &word); }
 static void word_of_octets(void) { word = aes3_word_of_octets(status); }
 static void line_of_word(void) { aes3_line_of_word(word, line); }
@@ -74,6 +79,11 @@ int main(void) {
     failed |= report.kind != AES3_WHOLE;
     failed |= tell("aes3_lock_seen", seen, 256);
     failed |= tell("aes3_block_status", block_status, 2048);
+    failed |= tell("aes3_block_validity", block_validity, 2048);
+    failed |= tell("aes3_block_user", block_user, 2048);
+    failed |= tell("aes3_block_set_status", set_status, 4096);
+    failed |= tell("aes3_block_set_validity", set_validity, 4096);
+    failed |= tell("aes3_block_set_user", set_user, 4096);
     failed |= tell("aes3_line_of_word", line_of_word, 256);
     failed |= tell("aes3_word_of_text", word_of_text, 256);
     failed |= tell("aes3_octets_of_word", octets_of_word, 256);

@@ -34,7 +34,7 @@ pub extern "C" fn aes3_encode_block(words: &[u32; 384], before: u8, cells: &mut 
 }
 
 /// The channel of a number: 1 for the first, else the second.
-fn channel_of_number(number: u8) -> Channel
+pub(crate) fn channel_of_number(number: u8) -> Channel
     ensures { result ≡ channel_of number }
 {
     if number == 1 {

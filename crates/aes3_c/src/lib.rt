@@ -3,7 +3,7 @@
 //! calls; `include/aes3.h` is the header.
 #![tactic(auto)]
 
-/// Blocks: their words, bytes and cells.
+mod bits;
 mod block;
 /// Words of 64 cells, and their written forms.
 mod cells;
