@@ -20,7 +20,8 @@
  *
  * Stack in bytes that a call used (examples/c/stack.c, x86-64): aes3_lock_push 6,392,
  * aes3_lock_finish 6,312, aes3_lock_take_words 3,272, aes3_block_status 1,592, aes3_encode_block
- * 1,576, each other 70 at most.
+ * 1,576, aes3_block_validity and aes3_block_user 1,592, aes3_block_set_status and its kin 1,576, each
+ * other 70 at most.
  */
 #ifndef AES3_H
 #define AES3_H

@@ -68,10 +68,25 @@ class lock {
     aes3_lock state;
 };
 
-// Both answer 384, or the number of the first word that is not lawful.
+// Each answers 384, or the number of the first word that is not lawful.
 inline std::uint32_t encode(const words &block, bool before, cells &to) { return aes3_encode_block(block, before, to); }
 inline std::uint32_t status_of(const words &block, int channel, status &to) {
     return aes3_block_status(block, static_cast<std::uint8_t>(channel), to);
+}
+inline std::uint32_t validity_of(const words &block, int channel, status &to) {
+    return aes3_block_validity(block, static_cast<std::uint8_t>(channel), to);
+}
+inline std::uint32_t user_of(const words &block, int channel, status &to) {
+    return aes3_block_user(block, static_cast<std::uint8_t>(channel), to);
+}
+inline std::uint32_t set_status(words &block, int channel, const status &to) {
+    return aes3_block_set_status(block, static_cast<std::uint8_t>(channel), to);
+}
+inline std::uint32_t set_validity(words &block, int channel, const status &to) {
+    return aes3_block_set_validity(block, static_cast<std::uint8_t>(channel), to);
+}
+inline std::uint32_t set_user(words &block, int channel, const status &to) {
+    return aes3_block_set_user(block, static_cast<std::uint8_t>(channel), to);
 }
 inline bool fields(const status &of, aes3_professional &to) { return aes3_status_professional(of, &to); }
 inline bool fields(const status &of, aes3_consumer &to) { return aes3_status_consumer(of, &to); }

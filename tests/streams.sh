@@ -188,5 +188,34 @@ for command in check 'check --gaps' normal decode show scan to-pcm 'cut 0 1' 're
     fi
 done
 
+# A stream that is set not to wait is not waited for.
+if command -v python3 > /dev/null; then
+    python3 - "$program" "$zero" > "$folder/output" << 'END'
+import os, subprocess, sys
+
+program, zero = sys.argv[1:]
+(empty, writer), (reader, full) = os.pipe(), os.pipe()
+os.set_blocking(empty, False)
+os.set_blocking(full, False)
+try:
+    while os.write(full, bytes(4096)):
+        pass
+except BlockingIOError:
+    pass
+for ran in (
+    subprocess.run([program, "check"], stdin=empty, capture_output=True),
+    subprocess.run([program, "encode"], stdin=open(zero, "rb"), stdout=full, stderr=subprocess.PIPE),
+):
+    print(ran.returncode, ran.stderr.decode().strip())
+END
+    if [ "$(cat "$folder/output")" = "$(printf '3 aes3: refused 5\n3 aes3: refused 6')" ]; then
+        well "streams that are set not to wait"
+    else
+        wrong "streams that are set not to wait: $(cat "$folder/output")"
+    fi
+else
+    echo "left out: streams that are set not to wait (python3 is not installed)"
+fi
+
 echo "$passed passed, $failed failed"
 [ "$failed" = 0 ]

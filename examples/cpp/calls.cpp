@@ -12,14 +12,13 @@ static void judge(const char *what, bool answer) {
 }
 
 int main() {
-    // The C bits of bytes 0 and 23 of a professional status, each word with its parity bit.
+    // The C bits of a professional status in a block of zeros: each word gets its parity bit.
     aes3::words block = {};
     aes3::status status = {};
     status[0] = 0x85, status[1] = 0x02, status[2] = 0x2c;
     status[23] = aes3::check_byte(status);
-    for (int i = 0; i < 192; i++)
-        if (status[i / 8] >> i % 8 & 1)
-            block[2 * i] = 3u << 30;
+    judge("set_status", aes3::set_status(block, 1, status) == AES3_BLOCK_WORDS);
+    judge("its words", block[0] == 3u << 30 && block[1] == 0 && block[2] == 0 && block[4] == 3u << 30);
 
     aes3::cells cells;
     judge("encode", aes3::encode(block, false, cells) == AES3_BLOCK_WORDS);
@@ -29,6 +28,13 @@ int main() {
     for (int i = 0; i < AES3_STATUS_BYTES; i++)
         is_same &= found[i] == status[i];
     judge("the status found", is_same);
+    aes3::words carried = {};
+    judge("set_user", aes3::set_user(carried, 2, status) == AES3_BLOCK_WORDS && carried[1] == 5u << 29);
+    judge("user_of", aes3::user_of(carried, 2, found) == AES3_BLOCK_WORDS && found[0] == 0x85 && found[1] == 0x02);
+    judge("set_validity", aes3::set_validity(carried, 1, status) == AES3_BLOCK_WORDS && carried[0] == 9u << 28);
+    judge("validity_of", aes3::validity_of(carried, 2, found) == AES3_BLOCK_WORDS && found[0] == 0);
+    judge("no status", aes3::status_of(carried, 1, found) == AES3_BLOCK_WORDS && found[0] == 0);
+    judge("status_of again", aes3::status_of(block, 1, found) == AES3_BLOCK_WORDS);
     aes3_professional professional;
     aes3_consumer consumer;
     judge("professional", aes3::fields(found, professional) && professional.rate == 2);

@@ -31,6 +31,14 @@ assert aes3.block_status(blocks[0], 1) == bytes([4, 0, 0, 2, 0x0B] + 19 * [0])
 status = bytes.fromhex("85022c0000004a4154480000000000000000000000000000")
 assert aes3.check_byte(status) == int(sys.argv[4], 16)
 
+# V, U and C bits set in a copy of a block, and nothing else.
+changed = aes3.with_user(blocks[0], 2, status)
+assert [i for i in range(384) if changed[i] != blocks[0][i]] == [2 * i + 1 for i in range(192) if status[i // 8] >> i % 8 & 1]
+assert aes3.block_user(changed, 2) == status and aes3.block_user(changed, 1) == aes3.block_user(blocks[0], 1) == bytes(24)
+changed = aes3.with_validity(aes3.with_status(changed, 1, status), 1, status)
+assert aes3.block_validity(changed, 1) == aes3.block_status(changed, 1) == status
+assert aes3.block_validity(changed, 2) == bytes(24) and aes3.block_status(changed, 2) == aes3.block_status(blocks[0], 2)
+
 
 def is_refused(call, *words):
     try:
@@ -42,6 +50,7 @@ def is_refused(call, *words):
 
 assert is_refused(aes3.encode_block, [1] + 383 * [0]) and is_refused(aes3.encode_block, 383 * [0])
 assert is_refused(aes3.block_status, blocks[0], 3) and is_refused(aes3.check_byte, b"")
+assert is_refused(aes3.with_user, [1] + 383 * [0], 1, status) and is_refused(aes3.with_status, blocks[0], 1, b"")
 assert is_refused(aes3.words_of_text, "012") and is_refused(aes3.words_of_packed, b"\0\x08") and is_refused(aes3.words_of_packed, b"\1\1")
 assert is_refused(lock.push, 0, 65)
 

@@ -67,7 +67,11 @@ _take_words = _declare("aes3_lock_take_words", c.c_size_t, c.POINTER(_Lock), c.c
 _push = _declare("aes3_lock_push", c.c_uint32, c.POINTER(_Lock), c.c_uint64, c.c_uint32, c.POINTER(_Report))
 _finish = _declare("aes3_lock_finish", None, c.POINTER(_Lock), c.POINTER(_Report))
 _encode_block = _declare("aes3_encode_block", c.c_uint32, c.POINTER(_Words), c.c_uint8, c.POINTER(_Cells))
-_block_status = _declare("aes3_block_status", c.c_uint32, c.POINTER(_Words), c.c_uint8, c.POINTER(_Status))
+_bits = {
+    (name, sets): _declare(f"aes3_block_{'set_' * sets}{name}", c.c_uint32, c.POINTER(_Words), c.c_uint8, c.POINTER(_Status))
+    for name in ("status", "validity", "user")
+    for sets in (False, True)
+}
 _check_byte = _declare("aes3_status_check_byte", c.c_uint8, c.POINTER(_Status))
 
 
@@ -169,11 +173,50 @@ def encode_block(words, before=0):
 
 def block_status(words, channel):
     """The channel status of channel 1 or 2 of a block; ValueError where a word is not lawful."""
-    if channel not in (1, 2):
+    return _bits_of("status", words, channel)
+
+
+def block_validity(words, channel):
+    """The V bits of a channel as 24 bytes, that of frame 0 the lowest of the first; likewise."""
+    return _bits_of("validity", words, channel)
+
+
+def block_user(words, channel):
+    """The U bits of a channel; likewise."""
+    return _bits_of("user", words, channel)
+
+
+def with_status(words, channel, status):
+    """The words of the block with another channel status in channel 1 or 2, and the parity bits that follow."""
+    return _with_bits("status", words, channel, status)
+
+
+def with_validity(words, channel, bits):
+    """The words of the block with other V bits, 24 bytes, in a channel; likewise."""
+    return _with_bits("validity", words, channel, bits)
+
+
+def with_user(words, channel, bits):
+    """The words of the block with other U bits, 24 bytes, in a channel; likewise."""
+    return _with_bits("user", words, channel, bits)
+
+
+def _channel(number):
+    if number not in (1, 2):
         raise ValueError("the channels are 1 and 2")
-    status = _Status()
-    _lawful(_block_status(c.byref(_block_in(words)), channel, c.byref(status)))
-    return bytes(status)
+    return number
+
+
+def _bits_of(name, words, channel):
+    bits = _Status()
+    _lawful(_bits[name, False](c.byref(_block_in(words)), _channel(channel), c.byref(bits)))
+    return bytes(bits)
+
+
+def _with_bits(name, words, channel, bits):
+    block = _block_in(words)
+    _lawful(_bits[name, True](c.byref(block), _channel(channel), c.byref(_status_in(bits))))
+    return _out(block)
 
 
 def check_byte(status):

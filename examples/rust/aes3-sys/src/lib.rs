@@ -104,6 +104,11 @@ extern "C" {
     pub fn aes3_lock_finish(lock: *const aes3_lock, report: *mut aes3_report);
     pub fn aes3_encode_block(words: *const u32, before: u8, cells: *mut u64) -> u32;
     pub fn aes3_block_status(words: *const u32, channel: u8, status: *mut u8) -> u32;
+    pub fn aes3_block_validity(words: *const u32, channel: u8, bits: *mut u8) -> u32;
+    pub fn aes3_block_user(words: *const u32, channel: u8, bits: *mut u8) -> u32;
+    pub fn aes3_block_set_status(words: *mut u32, channel: u8, status: *const u8) -> u32;
+    pub fn aes3_block_set_validity(words: *mut u32, channel: u8, bits: *const u8) -> u32;
+    pub fn aes3_block_set_user(words: *mut u32, channel: u8, bits: *const u8) -> u32;
     pub fn aes3_word_of_text(text: *const u8, word: *mut u64) -> bool;
     pub fn aes3_word_of_octets(octets: *const u8) -> u64;
     pub fn aes3_line_of_word(word: u64, line: *mut u8);

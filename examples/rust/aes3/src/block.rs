@@ -49,6 +49,44 @@ impl Block {
         let lawful = unsafe { sys::aes3_block_status(self.words.as_ptr(), channel as u8, bytes.as_mut_ptr()) };
         lawful_or(lawful, Status { bytes })
     }
+
+    /// The V bits of a channel: bit `i % 8` of byte `i / 8` is that of frame `i`.
+    pub fn validity(&self, channel: Channel) -> Result<[u8; STATUS_BYTES], Error> {
+        let mut bits = [0; STATUS_BYTES];
+        // SAFETY: the words are 384, the bytes 24, and they don't overlap.
+        let lawful = unsafe { sys::aes3_block_validity(self.words.as_ptr(), channel as u8, bits.as_mut_ptr()) };
+        lawful_or(lawful, bits)
+    }
+
+    /// The U bits of a channel, likewise.
+    pub fn user(&self, channel: Channel) -> Result<[u8; STATUS_BYTES], Error> {
+        let mut bits = [0; STATUS_BYTES];
+        // SAFETY: the words are 384, the bytes 24, and they don't overlap.
+        let lawful = unsafe { sys::aes3_block_user(self.words.as_ptr(), channel as u8, bits.as_mut_ptr()) };
+        lawful_or(lawful, bits)
+    }
+
+    /// Sets the channel status of a channel, and the parity bits that follow.
+    pub fn set_status(&mut self, channel: Channel, status: &Status) -> Result<(), Error> {
+        // SAFETY: the words are 384, the bytes 24, and they don't overlap.
+        let lawful =
+            unsafe { sys::aes3_block_set_status(self.words.as_mut_ptr(), channel as u8, status.bytes.as_ptr()) };
+        lawful_or(lawful, ())
+    }
+
+    /// Sets the V bits of a channel, and the parity bits that follow.
+    pub fn set_validity(&mut self, channel: Channel, bits: &[u8; STATUS_BYTES]) -> Result<(), Error> {
+        // SAFETY: the words are 384, the bytes 24, and they don't overlap.
+        let lawful = unsafe { sys::aes3_block_set_validity(self.words.as_mut_ptr(), channel as u8, bits.as_ptr()) };
+        lawful_or(lawful, ())
+    }
+
+    /// Sets the U bits of a channel, and the parity bits that follow.
+    pub fn set_user(&mut self, channel: Channel, bits: &[u8; STATUS_BYTES]) -> Result<(), Error> {
+        // SAFETY: the words are 384, the bytes 24, and they don't overlap.
+        let lawful = unsafe { sys::aes3_block_set_user(self.words.as_mut_ptr(), channel as u8, bits.as_ptr()) };
+        lawful_or(lawful, ())
+    }
 }
 
 /// What a call made, where it found 384 lawful words.

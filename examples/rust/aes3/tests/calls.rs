@@ -106,6 +106,26 @@ fn status_and_samples() {
 }
 
 #[test]
+fn bits_beside_the_audio() {
+    let (block, status) = block();
+    let mut other = block;
+    other.set_user(Channel::Two, &status.bytes).unwrap();
+    other.set_validity(Channel::One, &[1; 24]).unwrap();
+    assert_eq!(other.user(Channel::Two), Ok(status.bytes));
+    assert_eq!(other.validity(Channel::One), Ok([1; 24]));
+    assert_eq!((other.user(Channel::One), other.validity(Channel::Two)), (Ok([0; 24]), Ok([0; 24])));
+    assert_eq!(other.status(Channel::One), Ok(status));
+    assert_eq!(other.words[0], block.words[0] ^ 1 << 28 ^ 1 << 31);
+    other.set_user(Channel::Two, &[0; 24]).unwrap();
+    other.set_validity(Channel::One, &[0; 24]).unwrap();
+    assert_eq!(other, block);
+    other.set_status(Channel::Two, &status).unwrap();
+    assert_eq!(other.status(Channel::Two), Ok(status));
+    other.words[9] ^= 1;
+    assert_eq!(other.set_user(Channel::One, &[0; 24]), Err(Error::Unlawful { word: 9 }));
+}
+
+#[test]
 fn words_as_text_and_octets() {
     let word = 0x0123_4567_89ab_cdef;
     let line = aes3::line_of_word(word);
