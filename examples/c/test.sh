@@ -30,6 +30,9 @@ sed '48200s/^1/0/' line.txt | tail -c +12538 >damaged.txt
 # In the other polarity, cut by the end; and with the last parity bit of all wrong.
 head -c 3200000 line.txt | tr 01 10 >turned.txt
 head -n 1152 line.txt | sed '$ { s/0$/x/; s/1$/0/; s/x$/1/; }' >marked.txt
+# User bits, 24 octets a block, and none.
+head -c $(($(wc -c <"$speech") / 64)) line.txt >user.bits
+: >none.bits
 inputs="line damaged turned marked"
 for name in $inputs; do
     "$program" check <$name.txt >$name.want
@@ -57,7 +60,7 @@ build() { # COMPILER FLAGS..
         echo "left out: the checks of addresses and undefined behaviour by $compiler (they do not work here)"
         checks=
     }
-    for example in check encode calls layout; do
+    for example in check encode calls layout user; do
         "$compiler" "$@" -O2 -Wall -Wextra -pedantic -Werror $checks -I"$here/../../include" \
             -o $example "$here/$example.c" -x none "$library" || {
             differs "$example.c, which $compiler does not compile,"
@@ -68,6 +71,10 @@ build() { # COMPILER FLAGS..
     judge "the layout by $compiler" ./layout
     ./encode <"$speech" >got
     judge "encode by $compiler" cmp -s got line.txt
+    ./user user.bits <"$speech" | "$program" encode | "$program" decode >user.block
+    ./user <user.block >got
+    judge "user by $compiler" cmp -s got user.bits
+    judge "only user bits by $compiler" eval './user none.bits <user.block | cmp -s - "$speech"'
     compare ./check
     echo "built and run: $compiler $*${checks:+ $checks}"
 }
