@@ -189,7 +189,7 @@ fn with_bit(frame: Frame, bit: Carried, channel: Channel, value: bool) -> Frame
 }
 
 /// Bit `i` of bytes.
-fn bit_of(bytes: &[u8; STATUS_LEN], i: usize) -> bool
+pub(crate) fn bit_of(bytes: &[u8; STATUS_LEN], i: usize) -> bool
     requires { i < FRAMES }
     ensures { slice_get (bits_of_bytes bytes.now) i ≡ Some result }
 {
