@@ -75,7 +75,7 @@ def cases(program):
         found += [(f"aes3 rewrite --set1 {name}={it}", f"aes3 rewrite --set1 {name}={it} ") for it in settled(list(words))]
     # A shell may escape the comma too.
     escaped, whole = FILE.replace(" ", "\\ "), re.sub(r"([ ,])", r"\\\1", FILE)
-    for before in ("aes3 check < ", "aes3 check <", "aes3 encode < /dev/null > ", "aes3 rewrite --set1 rate=44100 < "):
+    for before in ("aes3 check < ", "aes3 check <", "aes3 encode < /dev/null > ", "aes3 rewrite --set1 rate=44100 < ", "aes3 check ", "aes3 show --changes "):
         found += [(f"{before}a\\ l", (f"{before}{escaped} ", f"{before}{whole} "))]
     return found
 

@@ -122,6 +122,10 @@ aes3: byte 0 is neither cell nor separator (line 1, column 1): these look like p
     at_terminal "no input as packed cells" "aes3: refused 10 at 0
 aes3: the packed cells end wrongly at octet 0: the input is empty" \
         "$program check --packed-in < /dev/null"
+    at_terminal "the name of a file that can't be read" "aes3: refused 5
+aes3: the input can't be read (no-such-file): is there such a file, may you read it, and is it no folder?" \
+        "$program check no-such-file"
+    at_terminal "nothing of a terminal where a file is read" "" "$program check /dev/null"
     at_terminal "the option of a refused status" "aes3: refused 9
 aes3: a status is not 48 hexadecimal digits (--status2): \`--status1\` and \`--status2\` take 24 bytes, two digits each" \
         "$program rewrite --status2=12 < '$folder/refused'"

@@ -1,11 +1,17 @@
-//! The program `aes3`: an AES3 / IEC 60958 line codec between standard input and standard output.
+//! The program `aes3`: an AES3 / IEC 60958 line codec from standard input or a file to
+//! standard output.
 #![tactic(auto)]
+
+/// What the program reads.
+mod input;
 
 ghost use Rattle.std.specs.Prelude.{◌+◌, ◌<◌, ◌^◌, ◌≡◌, IfErr};
 
+use aes3_arguments::file_of_words;
 use aes3_cell::{BufferedSink, Sink, StdSink, StdSource};
 use aes3_hints::{Hints, Terminals, Watched};
 use aes3_runner::{Unread, run_words, tell_unread};
+use input::Input;
 use std::env;
 use std::io::ErrorKind;
 use std::process::ExitCode;
@@ -24,7 +30,7 @@ fn main(rt: HostRuntime) -> ExitCode {
     ExitCode::from(status)
 }
 
-/// Runs the command line between buffered standard streams.
+/// Runs the command line between what it reads and standard output, both buffered.
 fn run_program<E: Sink, H: Sink + Drop>(
     rt: &HostRuntime,
     errors: &mut E,
@@ -36,9 +42,13 @@ fn run_program<E: Sink, H: Sink + Drop>(
     let words = words_of_line(rt)?;
     let words: Vec<&str> = words.iter().map(|word| word.as_str()).collect(rt.alloc())?;
     let mut sink = BufferedSink::new(rt.alloc(), StdSink::new(rt.stdout().lock()))?;
-    let mut source = hints.watch(StdSource::new(rt.stdin().lock()));
+    let file = file_of_words(rt.alloc(), &words)?;
+    if file.is_some() {
+        hints.reads_file();
+    }
+    let mut source = hints.watch(StdSource::new(Input::new(rt, file)));
     let status = run_words(rt.alloc(), &words, &mut source, &mut sink, errors, hints);
-    hints.explain(&words, &source);
+    hints.explain(&words, file, &source);
     Ok(status)
 }
 

@@ -1,4 +1,5 @@
 mod Explains
+mod Files
 mod LineAnswers
 mod LineWalks
 mod OptionReads

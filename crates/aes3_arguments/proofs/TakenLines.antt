@@ -173,7 +173,7 @@ encode_known = record {
 
 reader_known : (name : Text) → bytes_eq name (codes "cut") ≡ false → IsKnown (leaf (reader name))
 reader_known name differs = record {
-  sound = (flag_sound _ _ (codes "true") refl refl refl refl, (help_sound _ _ refl refl, tt));
+  sound = (flag_sound _ _ (codes "true") refl refl refl refl, (value_sound _ _ refl refl refl, (help_sound _ _ refl refl, tt)));
   packed_in = refl;
   packed_out = tt;
   mend_check = tt;
@@ -188,7 +188,7 @@ check_known : IsKnown (leaf check)
 check_known = record {
   sound = (
     flag_sound _ _ (codes "true") refl refl refl refl,
-    (flag_sound _ _ (codes "true") refl refl refl refl, (flag_sound _ _ (codes "true") refl refl refl refl, (help_sound _ _ refl refl, tt))),
+    (flag_sound _ _ (codes "true") refl refl refl refl, (flag_sound _ _ (codes "true") refl refl refl refl, (value_sound _ _ refl refl refl, (help_sound _ _ refl refl, tt)))),
   );
   packed_in = refl;
   packed_out = tt;
@@ -202,7 +202,7 @@ check_known = record {
 
 show_known : IsKnown (leaf show)
 show_known = record {
-  sound = (flag_sound _ _ (codes "true") refl refl refl refl, (flag_sound _ _ (codes "true") refl refl refl refl, (help_sound _ _ refl refl, tt)));
+  sound = (flag_sound _ _ (codes "true") refl refl refl refl, (flag_sound _ _ (codes "true") refl refl refl refl, (value_sound _ _ refl refl refl, (help_sound _ _ refl refl, tt))));
   packed_in = refl;
   packed_out = tt;
   mend_check = tt;
@@ -215,7 +215,7 @@ show_known = record {
 
 normal_known : IsKnown (leaf normal)
 normal_known = record {
-  sound = (flag_sound _ _ (codes "true") refl refl refl refl, (flag_sound _ _ (codes "true") refl refl refl refl, (help_sound _ _ refl refl, tt)));
+  sound = (flag_sound _ _ (codes "true") refl refl refl refl, (flag_sound _ _ (codes "true") refl refl refl refl, (value_sound _ _ refl refl refl, (help_sound _ _ refl refl, tt))));
   packed_in = refl;
   packed_out = refl;
   mend_check = tt;
@@ -260,7 +260,7 @@ rewrite_known = record {
             values_sound _ _ refl refl refl,
             (
               values_sound _ _ refl refl refl,
-              (flag_sound _ _ (codes "true") refl refl refl refl, (help_sound _ _ refl refl, tt)),
+              (flag_sound _ _ (codes "true") refl refl refl refl, (value_sound _ _ refl refl refl, (help_sound _ _ refl refl, tt))),
             ),
           ),
         ),
@@ -287,7 +287,7 @@ from_pcm_known = record {
         values_sound _ _ refl refl refl,
         (
           values_sound _ _ refl refl refl,
-          (flag_sound _ _ (codes "true") refl refl refl refl, (flag_sound _ _ (codes "true") refl refl refl refl, (help_sound _ _ refl refl, tt))),
+          (flag_sound _ _ (codes "true") refl refl refl refl, (flag_sound _ _ (codes "true") refl refl refl refl, (value_sound _ _ refl refl refl, (help_sound _ _ refl refl, tt)))),
         ),
       ),
     ),

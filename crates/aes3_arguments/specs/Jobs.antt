@@ -156,6 +156,21 @@ AskNothing words = (texts : List Text) → ¬ AsksToExplain words texts
 abbrev pub IsJobOf : List Text → Job → Type 0
 IsJobOf words job = AskNothing words × IsLineOf words job
 
+-- ---- the input
+
+-- the name of a file; a minus sign alone is none
+abbrev pub named_file : Text → Option Text
+named_file text = if bytes_eq text (codes "-") then None else Some text
+
+-- the file that the options name
+abbrev pub file_by : Options → Option Text
+file_by options = option_and_then named_file (first_of (codes "FILE") options)
+
+-- the command that stands in the words reads this file, in place of standard input
+abbrev pub ReadsFile : List Text → Text → Type 0
+ReadsFile words file = (name : Text) × (options : Options) × StandsIn words name options
+    × (file_by options ≡ Some file)
+
 -- ---- refusals
 
 -- the option is given with a text that is no status
@@ -219,10 +234,10 @@ TakesStatus name = (name ≡ codes "rewrite") ⊎ (name ≡ codes "from-pcm")
 
 -- how they are called
 abbrev pub rewrite_usage : Text
-rewrite_usage = codes "aes3 rewrite [OPTIONS] < CELLS > CELLS"
+rewrite_usage = codes "aes3 rewrite [OPTIONS] [FILE] > CELLS"
 
 abbrev pub from_pcm_usage : Text
-from_pcm_usage = codes "aes3 from-pcm [OPTIONS] < PCM > BLOCKFILE"
+from_pcm_usage = codes "aes3 from-pcm [OPTIONS] [FILE] > BLOCKFILE"
 
 -- one of their options is a setting that is none, and this text tells why
 abbrev pub TellsABadOption : Text → Options → Text → Type 0

@@ -9,7 +9,7 @@ use Rattle.clap.specs.declared.builder.command.Command.TheViews.{out-Command as 
 use Rattle.clap.specs.declared.builder.value_parser.ValueParser.TheVariants as vp
 use Rattle.aes3_commands.specs.declared.argument.Argument.{Argument}
 use Rattle.aes3_commands.specs.declared.argument.Argument.TheVariants.{PackedIn, PackedOut, Faults, Gaps, Changes, From, Count}
-use Rattle.aes3_commands.specs.declared.argument.Argument.TheVariants.{Status1, Status2, Set1, Set2, MendCheck, Exact}
+use Rattle.aes3_commands.specs.declared.argument.Argument.TheVariants.{Status1, Status2, Set1, Set2, MendCheck, Exact, File}
 use Rattle.aes3_commands.specs.declared.definitions.Name.{Name}
 use Rattle.aes3_commands.specs.declared.definitions.Name.TheVariants.{Encode, Decode, Normal, Check, Show, Scan, Cut, Rewrite, ToPcm, FromPcm}
 
@@ -29,6 +29,14 @@ settings_option name = record (new_rule name) { long = Some name; action = Some 
 abbrev pub number : Text → Rule
 number name =
     record (new_rule name) { required = true; parser = Some (vp.Unsigned 0 18446744073709551615) }
+
+-- a file name at its place among the words, which may be left out
+abbrev pub file_name : Text → Rule
+file_name name = new_rule name
+
+-- the file that is read in place of standard input
+abbrev pub file : Rule
+file = file_name (codes "FILE")
 
 -- a command's input has packed cells
 abbrev pub packed_in : Rule
@@ -53,6 +61,7 @@ rule Set1 = settings_option (codes "set1")
 rule Set2 = settings_option (codes "set2")
 rule MendCheck = flag (codes "mend-check")
 rule Exact = flag (codes "exact")
+rule File = file
 
 abbrev pub command : Text → List Rule → Shape
 command name options = record (new_shape name) { rules = options }
@@ -62,16 +71,16 @@ encode = command (codes "encode") (packed_out ∷ [])
 
 -- a command that reads cells and writes none
 abbrev pub reader : Text → Shape
-reader name = command name (packed_in ∷ [])
+reader name = command name (packed_in ∷ file ∷ [])
 
 abbrev pub check : Shape
-check = command (codes "check") (packed_in ∷ flag (codes "faults") ∷ flag (codes "gaps") ∷ [])
+check = command (codes "check") (packed_in ∷ flag (codes "faults") ∷ flag (codes "gaps") ∷ file ∷ [])
 
 abbrev pub show : Shape
-show = command (codes "show") (packed_in ∷ flag (codes "changes") ∷ [])
+show = command (codes "show") (packed_in ∷ flag (codes "changes") ∷ file ∷ [])
 
 abbrev pub normal : Shape
-normal = command (codes "normal") (packed_in ∷ packed_out ∷ [])
+normal = command (codes "normal") (packed_in ∷ packed_out ∷ file ∷ [])
 
 abbrev pub cut : Shape
 cut = command (codes "cut")
@@ -81,13 +90,13 @@ abbrev pub rewrite : Shape
 rewrite = command (codes "rewrite")
     (packed_in ∷ packed_out ∷ text_option (codes "status1") ∷ text_option (codes "status2")
     ∷ settings_option (codes "set1") ∷ settings_option (codes "set2")
-    ∷ flag (codes "mend-check") ∷ [])
+    ∷ flag (codes "mend-check") ∷ file ∷ [])
 
 abbrev pub from_pcm : Shape
 from_pcm = command (codes "from-pcm")
     (text_option (codes "status1") ∷ text_option (codes "status2")
     ∷ settings_option (codes "set1") ∷ settings_option (codes "set2")
-    ∷ flag (codes "mend-check") ∷ flag (codes "exact") ∷ [])
+    ∷ flag (codes "mend-check") ∷ flag (codes "exact") ∷ file ∷ [])
 
 -- the commands by their names
 abbrev pub shape : Name → Shape

@@ -1,7 +1,7 @@
 //! The options and values that commands take, each with the line that help tells of it.
 
 ghost use Rattle.aes3_commands.specs.CommandLine.{IsOption, flag, number, rule, settings_option};
-ghost use Rattle.aes3_commands.specs.CommandLine.{text_option};
+ghost use Rattle.aes3_commands.specs.CommandLine.{file_name, text_option};
 
 use clap::{Arg, ArgAction, value_parser};
 use std::alloc::Global;
@@ -35,6 +35,8 @@ pub(crate) enum Argument {
     MendCheck,
     /// `--exact` of `from-pcm`.
     Exact,
+    /// The name of the file that is read in place of standard input.
+    File,
 }
 
 impl Argument {
@@ -76,6 +78,11 @@ impl Argument {
                 "Write the check byte that professional status asks for",
             ),
             Argument::Exact => flag(alloc, "exact", "Refuse samples of more than 24 bits"),
+            Argument::File => file_name(
+                alloc,
+                "FILE",
+                "What to read, standard input where it is `-` or left out",
+            ),
         }
     }
 }
@@ -119,4 +126,11 @@ fn number<'a>(alloc: Global, name: &'a str, help: &'a str) -> Arg<'a>
         .required(true)
         .value_parser(value_parser!(u64))
         .help(help)
+}
+
+/// A file name that may stand at its place among the words.
+fn file_name<'a>(alloc: Global, name: &'a str, help: &'a str) -> Arg<'a>
+    ensures { IsOption (file_name name.now) result }
+{
+    Arg::new(alloc, name).help(help)
 }

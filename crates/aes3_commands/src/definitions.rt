@@ -87,24 +87,26 @@ impl Name {
         use Argument::*;
         match self {
             Name::Encode => command(alloc, "encode", help::ENCODE, &[PackedOut]),
-            Name::Decode => command(alloc, "decode", help::DECODE, &[PackedIn]),
-            Name::Normal => command(alloc, "normal", help::NORMAL, &[PackedIn, PackedOut]),
-            Name::Check => command(alloc, "check", help::CHECK, &[PackedIn, Faults, Gaps]),
-            Name::Show => command(alloc, "show", help::SHOW, &[PackedIn, Changes]),
-            Name::Scan => command(alloc, "scan", help::SCAN, &[PackedIn]),
+            Name::Decode => command(alloc, "decode", help::DECODE, &[PackedIn, File]),
+            Name::Normal => command(alloc, "normal", help::NORMAL, &[PackedIn, PackedOut, File]),
+            Name::Check => command(alloc, "check", help::CHECK, &[PackedIn, Faults, Gaps, File]),
+            Name::Show => command(alloc, "show", help::SHOW, &[PackedIn, Changes, File]),
+            Name::Scan => command(alloc, "scan", help::SCAN, &[PackedIn, File]),
             Name::Cut => command(alloc, "cut", help::CUT, &[PackedIn, PackedOut, From, Count]),
             Name::Rewrite => command(
                 alloc,
                 "rewrite",
                 help::REWRITE,
-                &[PackedIn, PackedOut, Status1, Status2, Set1, Set2, MendCheck],
+                &[
+                    PackedIn, PackedOut, Status1, Status2, Set1, Set2, MendCheck, File,
+                ],
             ),
-            Name::ToPcm => command(alloc, "to-pcm", help::TO_PCM, &[PackedIn]),
+            Name::ToPcm => command(alloc, "to-pcm", help::TO_PCM, &[PackedIn, File]),
             Name::FromPcm => command(
                 alloc,
                 "from-pcm",
                 help::FROM_PCM,
-                &[Status1, Status2, Set1, Set2, MendCheck, Exact],
+                &[Status1, Status2, Set1, Set2, MendCheck, Exact, File],
             ),
         }
     }

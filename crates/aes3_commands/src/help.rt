@@ -17,11 +17,12 @@ pub struct Texts<'a> {
 pub const PROGRAM: Texts<'static> = Texts {
     about: "An AES3 / IEC 60958 line codec, from standard input to standard output",
     usage: "aes3 COMMAND [OPTIONS] < INPUT > OUTPUT
-       aes3 check < FILE
+       aes3 check FILE
        aes3 COMMAND --help
        aes3 --explain [NUMBER]",
-    more: "Input comes from standard input, as in `aes3 check < FILE`: no command takes the
-name of a file. `aes3 COMMAND --help` says what a command reads and writes.
+    more: "Input comes from standard input, or from the FILE that is named behind the words of a
+command (`aes3 check FILE`; `encode` and `cut` take none); output goes to standard
+output. `aes3 COMMAND --help` says what a command reads and writes.
 
 Forms of input and output:
   cells         half time slots of the line, one level each. They may begin anywhere
@@ -77,7 +78,7 @@ Examples:
 
 pub const DECODE: Texts<'static> = Texts {
     about: "Write the whole blocks as a block file",
-    usage: "aes3 decode [--packed-in] < CELLS > BLOCKFILE",
+    usage: "aes3 decode [--packed-in] [FILE] > BLOCKFILE",
     more: "Reads cells, begun anywhere and in either polarity.
 Writes the whole blocks that stand in them as a block file, 1,536 bytes each. What is
 cut or damaged is left out, and nothing is told of it: `aes3 check` tells it.
@@ -92,7 +93,7 @@ Examples:
 
 pub const TO_PCM: Texts<'static> = Texts {
     about: "Write the samples of the whole blocks",
-    usage: "aes3 to-pcm [--packed-in] < CELLS > PCM",
+    usage: "aes3 to-pcm [--packed-in] [FILE] > PCM",
     more: "Reads cells, begun anywhere and in either polarity.
 Writes the samples of the whole blocks that stand in them: of each frame channel 1 and
 then channel 2, 4 bytes each, lowest first, the 24 bits of the sample in the highest
@@ -110,7 +111,7 @@ Examples:
 
 pub const FROM_PCM: Texts<'static> = Texts {
     about: "Write a block file of samples",
-    usage: "aes3 from-pcm [OPTIONS] < PCM > BLOCKFILE",
+    usage: "aes3 from-pcm [OPTIONS] [FILE] > BLOCKFILE",
     more: "Reads samples as `aes3 to-pcm` writes them: of each frame channel 1 and then channel 2,
 4 bytes each, lowest first (S32LE: `ffmpeg -f s32le`, `sox -t raw -e signed -b 32 -L`,
 ALSA's S32_LE), without the header of a WAV file, which would be taken as samples (`sox
@@ -134,7 +135,7 @@ Examples:
 
 pub const NORMAL: Texts<'static> = Texts {
     about: "Write the whole blocks again, in the normal polarity",
-    usage: "aes3 normal [--packed-in] [--packed-out] < CELLS > CELLS",
+    usage: "aes3 normal [--packed-in] [--packed-out] [FILE] > CELLS",
     more: "Reads cells, begun anywhere and in either polarity.
 Writes the cells of the whole blocks that stand in them, one behind the other, as one
 line in the normal polarity: as text 64 cells, a subframe, a line. What is cut or
@@ -150,7 +151,7 @@ Examples:
 
 pub const CHECK: Texts<'static> = Texts {
     about: "Print each whole block and each fault",
-    usage: "aes3 check [--packed-in] [--faults] [--gaps] < FILE",
+    usage: "aes3 check [--packed-in] [--faults] [--gaps] [FILE]",
     more: "Reads cells, begun anywhere and in either polarity.
 Writes a line for each place where a block's first preamble stands. P and C number the
 cells of the input from 0; L is the level before P, 0 or 1.
@@ -179,7 +180,7 @@ Examples:
 
 pub const SHOW: Texts<'static> = Texts {
     about: "Print the channel status of each whole block",
-    usage: "aes3 show [--packed-in] [--changes] < FILE",
+    usage: "aes3 show [--packed-in] [--changes] [FILE]",
     more: "Reads cells, begun anywhere and in either polarity.
 Writes two lines for each whole block, channel 1 and then channel 2: `block=N channel=C`,
 N from 0, then `consumer` or `professional`, then each field as `name=value`. A code that
@@ -199,7 +200,7 @@ Examples:
 
 pub const SCAN: Texts<'static> = Texts {
     about: "Print each preamble",
-    usage: "aes3 scan [--packed-in] < FILE",
+    usage: "aes3 scan [--packed-in] [FILE]",
     more: "Reads cells, begun anywhere and in either polarity.
 Writes a line for each place where the eight cells of a preamble stand, in step with a
 block or not:
@@ -232,7 +233,7 @@ Examples:
 
 pub const REWRITE: Texts<'static> = Texts {
     about: "Write the whole blocks with new channel status",
-    usage: "aes3 rewrite [OPTIONS] < CELLS > CELLS",
+    usage: "aes3 rewrite [OPTIONS] [FILE] > CELLS",
     more: "Reads cells as `aes3 normal` does.
 Writes what it would, with the channel status of each block set as the options ask.
 HEX48 is the 24 bytes of a channel's status as 48 hexadecimal digits, byte 0 first. Then

@@ -56,6 +56,15 @@ impl<T: Sink + Drop> Hints<T> {
         }
     }
 
+    /// Takes it that a file is read in place of standard input.
+    pub fn reads_file(&mut self)
+        ensures sink { self.new.sink ≡ self.old.sink }
+        ensures input { IsFalse self.new.terminals.input }
+        ensures errors { self.new.terminals.errors ≡ self.old.terminals.errors }
+    {
+        self.terminals.input = false;
+    }
+
     /// Watches this source for them, where there is a person to tell.
     pub fn watch<S: Source + Drop>(&self, source: S) -> Watched<S>
         ensures { result.source ≡ source }
@@ -64,17 +73,24 @@ impl<T: Sink + Drop> Hints<T> {
     }
 
     /// Says in a sentence what was refused of these words or their input, if anything was, and what
-    /// to do; or that the input looks like another kind than it was taken for.
-    pub fn explain<S: Source + Drop>(&mut self, words: &[&str], source: &Watched<S>)
+    /// to do; or that the input looks like another kind than it was taken for. Where it is a file,
+    /// this is its name.
+    pub fn explain<S: Source + Drop>(
+        &mut self,
+        words: &[&str],
+        file: Option<&str>,
+        source: &Watched<S>,
+    )
         ensures silent { IsFalse self.old.terminals.errors
             → T.taken self.new.sink ≡ T.taken self.old.sink }
     {
-        let sentence = match self.refusal {
-            Some(error) => {
+        let sentence = match (self.refusal, file) {
+            (Some(RunError::Read), Some(name)) => unread_sentence(self.alloc, name),
+            (Some(error), _) => {
                 let told = advice_by_looks(error, looks_of(source.first()));
                 sentence(self.alloc, error, place_of(error, words, source), told)
             }
-            None => warning_line(self.alloc, self.job, source.first()),
+            (None, _) => warning_line(self.alloc, self.job, source.first()),
         };
         self.tell(&sentence.unwrap_or(String::new(self.alloc)));
     }
@@ -120,6 +136,14 @@ fn sentence(
         None => format!(in alloc; "aes3: {error}: {told}\n"),
     };
     line.ok()
+}
+
+/// That the file of this name can't be read, and what to do. Where memory for it is refused there is
+/// none.
+fn unread_sentence(alloc: Global, name: &str) -> Option<String> {
+    let error = RunError::Read;
+    let told = "is there such a file, may you read it, and is it no folder?";
+    format!(in alloc; "aes3: {error} ({name}): {told}\n").ok()
 }
 
 /// What is told of an input that a job took, if its first bytes look like another kind.
