@@ -4,7 +4,7 @@ use Rattle.std.proofs.lemmas.List.{take_all, take_more_set}
 use Rattle.std.proofs.Math.Seq.{drop-length}
 use Rattle.aes3_capture.specs.declared.bounds.Bounds.{Bounds}
 use Rattle.aes3_capture.specs.declared.follower.Follower.{Follower}
-use Rattle.aes3_capture.specs.Captures.{Captures, Spreads, IsRun, mean_with, margin}
+use Rattle.aes3_capture.specs.Captures.{Captures, Spreads, SpreadsLate, IsBetween, IsRun, mean_with, margin, wander}
 use Rattle.aes3_capture.specs.Following.{Follows, Counts}
 
 -- a follower has counted these cells of a capture, and these runs are left
@@ -73,6 +73,40 @@ captures-spread bounds spread same other displaced (n ∷ counts) (run ∷ runs)
         before_near = record { below = omega (arith, next, narrow); above = omega (arith, first, narrow) };
       },
       captures-spread bounds spread (mean_with other spreads.0) same spreads.0 counts runs narrow (mean-below other spreads.0 spread o next) s spreads.3,
+    )
+
+-- a mean of displacements between two bounds lies between them, but for what rounding takes
+late-mean : (mean displaced late spread : ℕ) → IsBetween late mean spread → IsBetween late displaced spread → IsBetween late (mean_with mean displaced) spread
+late-mean mean displaced late spread m d =
+    let a = m.least in
+    let b = m.most in
+    let x = d.least in
+    let y = d.most in
+    record { least = omega (arith, a, b, x, y); most = omega (arith, a, b, x, y) }
+
+-- where each direction has edges within a spread, each is near the mean and the edge before
+pub captures-late : (bounds : Bounds) (spread late later same other displaced : ℕ) (counts runs : List ℕ) → spread < bounds.low / 2 - margin bounds
+    → late + spread < later + (bounds.low - wander bounds) → later + spread < late + (bounds.low - wander bounds)
+    → IsBetween late same spread → IsBetween later other spread → SpreadsLate bounds spread late later displaced counts runs → Captures bounds same other displaced counts runs
+captures-late bounds spread late later same other displaced [] [] narrow above below s o spreads = tt
+captures-late bounds spread late later same other displaced [] (run ∷ runs) narrow above below s o spreads = absurd spreads
+captures-late bounds spread late later same other displaced (n ∷ counts) [] narrow above below s o spreads = absurd spreads
+captures-late bounds spread late later same other displaced (n ∷ counts) (run ∷ runs) narrow above below s o spreads =
+    let before : IsBetween late displaced spread = spreads.1 in
+    let next : IsBetween later spreads.0 spread = spreads.2 in
+    let b0 = before.least in
+    let b1 = before.most in
+    let n0 = next.least in
+    let n1 = next.most in
+    let o0 = o.least in
+    let o1 = o.most in (
+      spreads.0,
+      record {
+        placed = spreads.3;
+        mean_near = record { below = omega (arith, n1, o0, narrow); above = omega (arith, n0, o1, narrow) };
+        before_near = record { below = omega (arith, n1, b0, below); above = omega (arith, n0, b1, above) };
+      },
+      captures-late bounds spread later late (mean_with other spreads.0) same spreads.0 counts runs narrow below above (late-mean other spreads.0 later spread o next) s spreads.4,
     )
 
 -- one turn of the loop, and its end

@@ -19,6 +19,11 @@ pub record IsCloser (a b less : ℕ) : Type 0 where
   pub below : a < b + less
   pub above : b < a + less
 
+-- a place lies at most so far behind the first
+pub record IsBetween (first place spread : ℕ) : Type 0 where
+  pub least : first ≤ place
+  pub most : place ≤ first + spread
+
 -- These samples lie between an edge displaced by `before` and the next, displaced by `displaced`, with one to three cells between their places, each as long as the bounds allow. Displacements count from a place before each edge, so that they are natural numbers.
 pub record IsPlaced (bounds : Bounds) (before cells run displaced : ℕ) : Type 0 where
   pub some : 1 ≤ cells
@@ -50,3 +55,12 @@ Spreads bounds spread before [] (run ∷ runs) = ⊥
 Spreads bounds spread before (n ∷ cells) [] = ⊥
 Spreads bounds spread before (n ∷ cells) (run ∷ runs) =
     (displaced : ℕ) × (before ≤ spread) × IsPlaced bounds before n (65536 * run) displaced × Spreads bounds spread displaced cells runs
+
+-- These runs of samples are a capture of these runs of cells, from an edge displaced by `before` on. The displacements of edges of its direction are `late` at least and pass it by `spread` at most, those of the other direction likewise pass `later`. Where the falling edges are late as a whole, one of the two is by how much they are, and the other 0.
+abbrev pub SpreadsLate : Bounds → ℕ → ℕ → ℕ → ℕ → List ℕ → List ℕ → Type 0
+SpreadsLate bounds spread late later before [] [] = Unit {0}
+SpreadsLate bounds spread late later before [] (run ∷ runs) = ⊥
+SpreadsLate bounds spread late later before (n ∷ cells) [] = ⊥
+SpreadsLate bounds spread late later before (n ∷ cells) (run ∷ runs) =
+    (displaced : ℕ) × IsBetween late before spread × IsBetween later displaced spread × IsPlaced bounds before n (65536 * run) displaced
+    × SpreadsLate bounds spread later late displaced cells runs

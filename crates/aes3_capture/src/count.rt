@@ -1,7 +1,8 @@
 //! The cells of a whole capture.
 
-ghost use Rattle.std.specs.Prelude.{◌≡◌, ◌-◌, ◌/◌, ◌<◌, ◌≤◌, ℕ, List, length};
-ghost use Rattle.aes3_capture.specs.Captures.{Captures, Spreads, margin};
+ghost use Rattle.std.specs.Prelude.{◌≡◌, ◌+◌, ◌-◌, ◌/◌, ◌<◌, ◌≤◌, ℕ, List, length};
+ghost use Rattle.aes3_capture.specs.Captures.{Captures, IsBetween, Spreads, SpreadsLate, margin, wander};
+ghost use Rattle.aes3_capture.specs.Following.{Follows};
 
 use crate::bounds::Bounds;
 use crate::follower::Follower;
@@ -20,7 +21,30 @@ pub fn count_cells(bounds: Bounds, period: u64, runs: &[u32], cells: &mut [u64])
     ensures spread { (counts : List ℕ) (spread displaced : ℕ) → spread < bounds.low / 2 - margin bounds
         → Spreads bounds spread displaced counts runs.now → cells.new ≡ counts }
 {
-    let mut follower = Follower::new(bounds, period);
+    count_cells_behind(Follower::new(bounds, period), runs, cells)
+}
+
+/// Counts the cells between the edges of a capture, from an edge on whose place a follower knows on
+/// the grids of both directions, as `Follower::at` begins.
+///
+/// They are the line's also where all edges of one direction come late by any constant, in which
+/// the two directions lie apart by less than a cell, less a margin: this takes nothing from the
+/// jitter that each direction may have.
+pub fn count_cells_behind(follower: Follower, runs: &[u32], cells: &mut [u64])
+    requires room { length runs.now ≡ length cells.old }
+    ensures mean { (counts : List ℕ) (same other displaced : ℕ)
+        → Follows follower same other displaced 0 0
+        → Captures follower.bounds same other displaced counts runs.now → cells.new ≡ counts }
+    ensures late { (counts : List ℕ) (spread late later same other displaced : ℕ)
+        → spread < follower.bounds.low / 2 - margin follower.bounds
+        → late + spread < later + (follower.bounds.low - wander follower.bounds)
+        → later + spread < late + (follower.bounds.low - wander follower.bounds)
+        → Follows follower same other displaced 0 0
+        → IsBetween late same spread → IsBetween later other spread
+        → SpreadsLate follower.bounds spread late later displaced counts runs.now
+        → cells.new ≡ counts }
+{
+    let mut follower = follower;
     for i in 0..runs.len() {
         cells[i] = follower.run(runs[i]);
     }

@@ -7,5 +7,5 @@ mod count;
 mod follower;
 
 pub use bounds::{Bounds, PARTS};
-pub use count::count_cells;
+pub use count::{count_cells, count_cells_behind};
 pub use follower::Follower;

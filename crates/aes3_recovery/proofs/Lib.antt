@@ -1,0 +1,3 @@
+pub mod WordBits
+pub mod EndBytes
+pub mod Queueing

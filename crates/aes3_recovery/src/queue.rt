@@ -1,9 +1,15 @@
 //! Cells on their way to a sink.
 
-ghost use Rattle.std.specs.Prelude.{◌+◌, ◌<◌, ◌≤◌, ◌^◌, ◌≡◌};
+ghost use Rattle.std.specs.Prelude.{◌+◌, ◌<◌, ◌≤◌, ◌^◌, ◌≡◌, ◌++◌, [], List, take, replicate};
 ghost use Rattle.std.specs.Prelude.{IfOk, OnErr};
+ghost use Rattle.aes3_cell.specs.declared.level.Level.{Level};
+ghost use Rattle.aes3_cell.specs.Packed.{octets_needed, packed_of};
+ghost use Rattle.aes3_cell.specs.Text.{line_text};
+ghost use Rattle.aes3_cell.specs.Words.{low_cells, word_cells};
+ghost use Rattle.aes3_cell.specs.Writes.{Wrote};
+ghost use Rattle.aes3_recovery.specs.Endings.{ending_of, level_if};
 
-use aes3_cell::{Fault, Form, Sink, put_ending, put_words, write_all};
+use aes3_cell::{Fault, Form, Sink, line_of_word, octets_of_word, put_words, write_all};
 
 /// How many words of cells are written at once.
 const WORDS: usize = 16;
@@ -21,11 +27,17 @@ pub struct CellQueue {
     len: u32,
     ghost words_left: { count < 16 },
     ghost cells_left: { len < 64 },
+    ghost no_more: { word < 2 ^ len },
 }
 
 impl CellQueue {
+    ghost use Rattle.aes3_recovery.specs.Queues.{Finishes, Puts, waiting};
+
     /// A queue with no cell.
-    pub fn new(form: Form) -> Self {
+    pub fn new(form: Form) -> Self
+        ensures none { waiting result ≡ [] }
+        ensures form { result.form ≡ form }
+    {
         CellQueue {
             form,
             words: [0; WORDS],
@@ -44,6 +56,8 @@ impl CellQueue {
         requires room { T.failed sink.old + 1 < 2 ^ 64 }
         ensures count { IfOk result (λ _. T.failed sink.new ≡ T.failed sink.old) }
         ensures err_count { OnErr result (T.failed sink.new ≡ T.failed sink.old + 1) }
+        ensures cells { Puts T.taken self.old self.new sink.old sink.new result
+            (replicate cells (level_if high)) }
     {
         let mut left = cells;
         while left > FEW {
@@ -62,27 +76,40 @@ impl CellQueue {
         requires room { T.failed sink.old + 1 < 2 ^ 64 }
         ensures count { IfOk result (λ _. T.failed sink.new ≡ T.failed sink.old) }
         ensures err_count { OnErr result (T.failed sink.new ≡ T.failed sink.old + 1) }
+        ensures cells { Puts T.taken self.old self.new sink.old sink.new result
+            (replicate cells (level_if high)) }
     {
-        let ones = if high { (1u64 << cells) - 1 } else { 0 };
-        self.word |= ones << self.len;
+        let bits = bits_of_cells(high, cells);
+        let word = self.word | bits << self.len;
         let len = self.len + cells;
         if len < 64 {
+            self.word = word;
             self.len = len;
             return Ok(());
         }
         // What of them did not fit.
-        let rest = ones >> (64 - self.len);
-        self.end_word(sink, rest, len - 64)
+        let rest = bits >> (64 - self.len);
+        self.end_word(sink, word, rest, len - 64)
     }
 
     /// Takes the word that is whole, and the cells that the next one begins with.
-    fn end_word<T: Sink>(&mut self, sink: &mut T, rest: u64, len: u32) -> Result<(), Fault>
+    fn end_word<T: Sink>(
+        &mut self,
+        sink: &mut T,
+        word: u64,
+        rest: u64,
+        len: u32,
+    ) -> Result<(), Fault>
         requires few { len < 64 }
+        requires no_more { rest < 2 ^ len }
         requires room { T.failed sink.old + 1 < 2 ^ 64 }
         ensures count { IfOk result (λ _. T.failed sink.new ≡ T.failed sink.old) }
         ensures err_count { OnErr result (T.failed sink.new ≡ T.failed sink.old + 1) }
+        ensures cells { (added : List Level)
+            → low_cells self.old.len self.old.word ++ added ≡ word_cells word ++ low_cells len rest
+            → Puts T.taken self.old self.new sink.old sink.new result added }
     {
-        self.words[self.count] = self.word;
+        self.words[self.count] = word;
         self.word = rest;
         self.len = len;
         if self.count + 1 < WORDS {
@@ -102,6 +129,8 @@ impl CellQueue {
         requires room { T.failed sink.old + 1 < 2 ^ 64 }
         ensures count { IfOk result (λ _. T.failed sink.new ≡ T.failed sink.old) }
         ensures err_count { OnErr result (T.failed sink.new ≡ T.failed sink.old + 1) }
+        ensures cells { Puts T.taken self.old self.new sink.old sink.new result [] }
+        ensures few { waiting self.new ≡ low_cells self.new.len self.new.word }
     {
         let count = self.count;
         self.count = 0;
@@ -116,6 +145,7 @@ impl CellQueue {
         requires room { T.failed sink.old + 1 < 2 ^ 64 }
         ensures count { IfOk result (λ _. T.failed sink.new ≡ T.failed sink.old) }
         ensures err_count { OnErr result (T.failed sink.new ≡ T.failed sink.old + 1) }
+        ensures cells { Finishes T.taken self.old sink.old sink.new result }
     {
         match self.pass_on(sink) {
             Ok(()) => self.put_rest(sink),
@@ -124,47 +154,54 @@ impl CellQueue {
     }
 
     /// Writes the cells of the word that is not whole, and the ending.
-    fn put_rest<T: Sink>(&mut self, sink: &mut T) -> Result<(), Fault>
+    fn put_rest<T: Sink>(&self, sink: &mut T) -> Result<(), Fault>
         requires room { T.failed sink.old + 1 < 2 ^ 64 }
-        ensures count { IfOk result (λ _. T.failed sink.new ≡ T.failed sink.old) }
-        ensures err_count { OnErr result (T.failed sink.new ≡ T.failed sink.old + 1) }
+        ensures { Wrote T.taken T.failed sink.old sink.new
+            (ending_of self.now.form (low_cells self.now.len self.now.word)) result }
     {
-        if self.len == 0 {
-            return put_ending(self.form, sink);
+        match self.form {
+            Form::Text if self.len == 0 => Ok(()),
+            Form::Text => write_all(
+                sink,
+                &last_line_of(self.word, self.len)[..self.len as usize + 1],
+            ),
+            Form::Packed => {
+                let octets = self.len.div_ceil(8) as usize;
+                write_all(sink, &last_octets(self.word, self.len)[..octets + 1])
+            }
         }
-        let mut bytes = [b'\n'; 65];
-        let len = match self.form {
-            Form::Text => self.put_characters(&mut bytes),
-            Form::Packed => self.put_octets(&mut bytes),
-        };
-        write_all(sink, &bytes[..len])
     }
+}
 
-    /// Puts the last cells as a line, and answers how long it is.
-    fn put_characters(&self, bytes: &mut [u8; 65]) -> usize
-        ensures { result ≤ 65 }
-    {
-        let len = self.len as usize;
-        for i in 0..len {
-            bytes[i] = if self.word >> (i as u32) & 1 == 1 {
-                b'1'
-            } else {
-                b'0'
-            };
-        }
-        len + 1
-    }
+/// The word whose lowest bits are so many cells of one level.
+#[inline(always)]
+fn bits_of_cells(high: bool, cells: u32) -> u64
+    requires { cells ≤ 32 }
+    ensures cells { low_cells cells result ≡ replicate cells (level_if high) }
+    ensures no_more { result < 2 ^ cells }
+{
+    if high { (1u64 << cells) - 1 } else { 0 }
+}
 
-    /// Puts the last cells as octets, the first cell in the highest bit, and how many of the last
-    /// octet are unused; answers how many octets these are.
-    fn put_octets(&self, bytes: &mut [u8; 65]) -> usize
-        ensures { result ≤ 65 }
-    {
-        let octets = self.len.div_ceil(8) as usize;
-        for (octet, cells) in bytes.iter_mut().zip(self.word.to_le_bytes().iter()) {
-            *octet = cells.reverse_bits();
-        }
-        bytes[octets] = (8 * octets as u32 - self.len) as u8;
-        octets + 1
-    }
+/// The line of text of the cells left, in front.
+fn last_line_of(word: u64, len: u32) -> [u8; 65]
+    requires few { len < 64 }
+    ensures { take (len + 1) result ≡ line_text (low_cells len word) }
+{
+    let mut line = line_of_word(word);
+    line[len as usize] = b'\n';
+    line
+}
+
+/// The octets of the cells left, and how many of the last octet are unused, in front.
+fn last_octets(word: u64, len: u32) -> [u8; 9]
+    requires few { len < 64 }
+    requires no_more { word < 2 ^ len }
+    ensures { take (octets_needed len + 1) result ≡ packed_of (low_cells len word) }
+{
+    let needed = len.div_ceil(8);
+    let mut octets = [0; 9];
+    octets[..8].copy_from_slice(&octets_of_word(word));
+    octets[needed as usize] = (8 * needed - len) as u8;
+    octets
 }
