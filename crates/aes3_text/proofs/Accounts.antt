@@ -140,7 +140,7 @@ one-told : (p : ℕ) (o : Option Outcome) → (told p o ≡ []) ⊎ ((x : Report
 one-told p None = inl refl
 one-told p (Some o) = inr (_, refl)
 
-one-answer : (p : ℕ) (c : List Level) (l : Level) → (answer p c l ≡ []) ⊎ ((x : Report) × (answer p c l ≡ x ∷ []))
+pub one-answer : (p : ℕ) (c : List Level) (l : Level) → (answer p c l ≡ []) ⊎ ((x : Report) × (answer p c l ≡ x ∷ []))
 one-answer p [] l = inl refl
 one-answer p (x ∷ c) l = go (open_at (x ∷ c)) (one-answer (suc p) c l)
   where
@@ -149,7 +149,7 @@ one-answer p (x ∷ c) l = go (open_at (x ∷ c)) (one-answer (suc p) c l)
     go true r = one-told p (decided_at (x ∷ c ++ l ∷ []))
     go false r = r
 
-one-final : (p : ℕ) (c : List Level) → (final p c ≡ []) ⊎ ((x : Report) × (final p c ≡ x ∷ []))
+pub one-final : (p : ℕ) (c : List Level) → (final p c ≡ []) ⊎ ((x : Report) × (final p c ≡ x ∷ []))
 one-final p [] = inl refl
 one-final p (x ∷ c) = go (open_at (x ∷ c)) (one-final (suc p) c)
   where
@@ -158,7 +158,7 @@ one-final p (x ∷ c) = go (open_at (x ∷ c)) (one-final (suc p) c)
     go true r = one-told p (outcome_at (x ∷ c))
     go false r = r
 
-decided-more : (c : List Level) (l : Level) → decided (c ++ l ∷ []) ≡ decided c ++ answer 0 c l
+pub decided-more : (c : List Level) (l : Level) → decided (c ++ l ∷ []) ≡ decided c ++ answer 0 c l
 unfolding decided
 decided-more c l = decided-push 0 c l
 
@@ -390,7 +390,7 @@ near-new c d x n q e = let u = upto-last (length (c ++ d)) (decided c) x (subst 
 pub near-last : (c : List Level) (x : Report) (n : ℕ) → reports c ≡ decided c ++ x ∷ [] → n ≡ length c → place_of x ≤ n
 near-last c x n q e = let u = upto-last (length c) (decided c) x (subst (UpTo (length c)) q (near-reports c)) in omega arith
 
-few-reports : (c : List Level) → length (reports c) ≤ length c + 1
+pub few-reports : (c : List Level) → length (reports c) ≤ length c + 1
 few-reports c =
     let e = ap length (split-reports c) in
     let a = length-append (decided c) (final 0 c) in

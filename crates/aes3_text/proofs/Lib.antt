@@ -6,6 +6,7 @@ pub mod GapLemmas
 pub mod ReportPlaces
 pub mod Accounts
 pub mod AccountFronts
+pub mod WatchedCells
 pub mod NewLines
 pub mod Covering
 pub mod Rowed

@@ -1,6 +1,7 @@
 pub mod Gaps
 pub mod Lines
 pub mod Runs
+pub mod Watching
 pub mod Laws
 pub mod GapLaws
 pub mod ChangeLaws

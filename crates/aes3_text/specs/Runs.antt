@@ -70,16 +70,16 @@ IsLedgerOf k c = Accounts k.place k.lost k.tally.blocks k.tally.faults k.tally.u
 abbrev pub IsClosedLedgerOf : Ledger → List Level → Type 0
 IsClosedLedgerOf k c = Accounted k.lost k.tally.blocks k.tally.faults k.tally.unfinished c
 
--- what holds of the cells c of a ledger and d behind them, `seen` cells in all: where d decides no report, and where it decides this one
-abbrev pub WhereNone : Ledger → ℕ → (List Level → List Level → Type 0) → Type 0
-WhereNone k seen P = (c d : List Level) → IsLedgerOf k c → decided (c ++ d) ≡ decided c → seen ≡ length (c ++ d) → P c d
+-- what holds of the cells c, of which f holds, and d behind them, `seen` cells in all: where d decides no report, and where it decides this one
+abbrev pub WhereNone : (List Level → Type 0) → ℕ → (List Level → List Level → Type 0) → Type 0
+WhereNone f seen P = (c d : List Level) → f c → decided (c ++ d) ≡ decided c → seen ≡ length (c ++ d) → P c d
 
-abbrev pub WhereDecided : Ledger → ℕ → Report → (List Level → List Level → Type 0) → Type 0
-WhereDecided k seen x P = (c d : List Level) → IsLedgerOf k c → decided (c ++ d) ≡ decided c ++ x ∷ [] → seen ≡ length (c ++ d) → P c d
+abbrev pub WhereDecided : (List Level → Type 0) → ℕ → Report → (List Level → List Level → Type 0) → Type 0
+WhereDecided f seen x P = (c d : List Level) → f c → decided (c ++ d) ≡ decided c ++ x ∷ [] → seen ≡ length (c ++ d) → P c d
 
--- and of the `seen` cells c of a ledger whose end decides the reports r
-abbrev pub AtEnd : Ledger → ℕ → List Report → (List Level → Type 0) → Type 0
-AtEnd k seen r P = (c : List Level) → IsLedgerOf k c → reports c ≡ decided c ++ r → seen ≡ length c → P c
+-- and of the `seen` cells c, of which f holds, where their end decides the reports r
+abbrev pub AtEnd : (List Level → Type 0) → ℕ → List Report → (List Level → Type 0) → Type 0
+AtEnd f seen r P = (c : List Level) → f c → reports c ≡ decided c ++ r → seen ≡ length c → P c
 
 -- the line of a channel of a block, the lines of both, and of blocks numbered from 0
 unfoldable pub channel_line : Channel → ℕ → List (List Bool) → List ℕ

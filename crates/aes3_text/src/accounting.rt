@@ -2,81 +2,17 @@
 
 ghost use Rattle.std.specs.Prelude.{◌≡◌, ℕ, ◌+◌, ◌<◌, ◌≤◌, ◌^◌, List, [], IfOk};
 ghost use Rattle.aes3_cell.specs.Ends.{Grew, Told};
-ghost use Rattle.aes3_lock.specs.Following.{Follows};
 ghost use Rattle.aes3_input.specs.Driving.{CellRun};
 ghost use Rattle.aes3_input.specs.Inputs.{cells_of};
 ghost use Rattle.aes3_input.specs.Running.{movement_of};
 ghost use Rattle.aes3_text.specs.Gaps.{account, begun_account};
-ghost use Rattle.aes3_text.specs.Runs.{IsClosedLedgerOf, IsLedgerOf, account_counts, account_lines};
-ghost use Rattle.aes3_text.specs.Runs.{accounting};
+ghost use Rattle.aes3_text.specs.Runs.{account_counts, account_lines};
 
+use crate::counted::Counted;
 use crate::ledger::Ledger;
 use aes3_cell::{Counts, Fault, Form, RunError, Sink, Source};
-use aes3_engine::{Taker, drive};
+use aes3_engine::drive;
 use aes3_lines::Lines;
-use aes3_lock::Lock;
-
-/// Takes cells, and accounts for all of them.
-#[derive(Drop)]
-struct Accountant {
-    lock: Lock,
-    ledger: Ledger,
-}
-
-impl Accountant {
-    /// A taker that has taken no cell.
-    fn new(lines: Lines) -> Self
-        ensures lock { Follows result.lock [] }
-        ensures lines { result.ledger.lines ≡ lines }
-        ensures none { IsLedgerOf result.ledger [] }
-    {
-        Accountant {
-            lock: Lock::new(),
-            ledger: Ledger::new(lines),
-        }
-    }
-}
-
-impl Taker for Accountant {
-    ghost follows = { λ k c. Follows k.lock c × IsLedgerOf k.ledger c };
-
-    ghost writes = { λ k. accounting k.ledger.lines };
-
-    ghost finished = { λ k. IsClosedLedgerOf k.ledger };
-
-    fn take_front<T: Sink>(&mut self, sink: &mut T, word: u64, len: u32) -> Result<u32, Fault> {
-        let pushed = self.lock.push_front(word, len);
-        let seen = self.lock.seen();
-        match pushed.ending {
-            Some(ending) => self.ledger.take(sink, &self.lock, ending, seen)?,
-            None => self.ledger.pass(sink, seen)?,
-        }
-        Ok(pushed.taken)
-    }
-
-    fn words<T: Sink>(&mut self, sink: &mut T, words: &[u64]) -> Result<(), Fault> {
-        let mut at = 0;
-        'handing: loop {
-            at += self.lock.take_words(&words[at..]);
-            let seen = self.lock.seen();
-            self.ledger.pass(sink, seen)?;
-            if at == words.len() {
-                return Ok(());
-            }
-            self.cells(sink, words[at], u64::BITS)?;
-            at += 1;
-        }
-    }
-
-    fn finish<T: Sink>(&mut self, sink: &mut T) -> Result<(), Fault> {
-        let seen = self.lock.seen();
-        match self.lock.end() {
-            Some(ending) => self.ledger.close_with(sink, &self.lock, ending, seen)?,
-            None => self.ledger.close(sink, seen)?,
-        }
-        Ok(())
-    }
-}
 
 /// Reads cells from any cell on, and accounts for all of them: writes a line for each report on
 /// them, or each but those of whole blocks, and between these a line for each gap, cells that lie
@@ -114,10 +50,10 @@ pub fn account<S: Source, T: Sink>(
         (movement_of T.taken T.failed sink.old sink.new) result }
     ensures passed_on { IfOk result (λ _. T.passed sink.new ≡ T.taken sink.new) }
 {
-    let mut taker = Accountant::new(lines);
+    let mut taker = Counted::new(Ledger::new(lines));
     match drive(source, sink, max_bytes, input, &mut taker) {
         Ok((bytes, cells)) => {
-            let told = &taker.ledger;
+            let told = &taker.reporter;
             Ok(Counts {
                 bytes,
                 cells,

@@ -1,22 +1,18 @@
 //! What is accounted for of all cells: the reports, and the gaps before them.
 
 ghost use Rattle.std.specs.Prelude.{◌≡◌, ◌+◌, ◌-◌, ◌<◌, ◌≤◌, ◌^◌, List, [], ◌∷◌, ◌++◌, length};
-ghost use Rattle.std.specs.Prelude.{IfOk, OnErr};
+ghost use Rattle.std.specs.Prelude.{IfOk};
 ghost use Rattle.std.specs.List.{filter};
-ghost use Rattle.aes3_cell.specs.declared.level.Level.{Level};
-ghost use Rattle.aes3_cell.specs.Ends.{Grew, GrewFront};
 ghost use Rattle.aes3_cell.specs.Writes.{Wrote};
 ghost use Rattle.aes3_lock.specs.declared.report.Report.{Report};
 ghost use Rattle.aes3_lock.specs.Following.{report_in};
 ghost use Rattle.aes3_lock.specs.Remains.{place_of};
-ghost use Rattle.aes3_lock.specs.Reports.{decided, reports};
-ghost use Rattle.aes3_input.specs.Taking.{behind};
 ghost use Rattle.aes3_engine.specs.ReportRuns.{IsTallyOf};
 ghost use Rattle.aes3_text.specs.Gaps.{behind_full, behind_report, full_count, full_gaps, gaps};
 ghost use Rattle.aes3_text.specs.Gaps.{gaps_before, is_lost, reported, rest_gap};
-ghost use Rattle.aes3_text.specs.Runs.{AtEnd, IsClosedLedgerOf, IsLedgerOf, WhereDecided};
-ghost use Rattle.aes3_text.specs.Runs.{WhereNone, account_lines, accounting};
+ghost use Rattle.aes3_text.specs.Runs.{IsClosedLedgerOf, IsLedgerOf, account_lines, accounting};
 
+use crate::cell_reporter::CellReporter;
 use crate::gap::line_of_gap;
 use crate::report::tell_ending;
 use aes3_cell::{Fault, Sink};
@@ -184,105 +180,44 @@ impl Ledger {
         self.tally.count(lock, ending);
         Ok(())
     }
+}
 
-    /// Goes on to `seen` cells, which decide no report.
-    ///
-    /// # Errors
-    /// The sink's fault; then it has taken a front of what these cells write.
-    pub(crate) fn pass<T: Sink>(&mut self, sink: &mut T, seen: u64) -> Result<(), Fault>
-        requires room { T.failed sink.old + 1 < 2 ^ 64 }
-        requires following { (c d : List Level) × (seen ≤ 2 ^ 43) × (seen ≡ length (c ++ d))
-            × IsLedgerOf self.old c }
-        ensures lines { self.new.lines ≡ self.old.lines }
-        ensures next { IfOk result (λ _. WhereNone self.old seen
-            (λ c d. IsLedgerOf self.new (c ++ d))) }
-        ensures grew { IfOk result (λ _. WhereNone self.old seen (λ c d.
-            Grew (T.taken sink.old) (T.taken sink.new) (behind (accounting self.old.lines) c d))) }
-        ensures count { IfOk result (λ _. T.failed sink.new ≡ T.failed sink.old) }
-        ensures err_count { OnErr result (T.failed sink.new ≡ T.failed sink.old + 1) }
-        ensures err_grew { OnErr result (WhereNone self.old seen (λ c d.
-            GrewFront (T.taken sink.old) (T.taken sink.new)
-            (behind (accounting self.old.lines) c d))) }
-    {
+impl CellReporter for Ledger {
+    ghost follows = { IsLedgerOf };
+
+    ghost writes = { λ k. accounting k.lines };
+
+    ghost finished = { IsClosedLedgerOf };
+
+    fn pass<T: Sink>(&mut self, sink: &mut T, seen: u64) -> Result<(), Fault> {
         self.tell_full(sink, seen.saturating_sub(BLOCK_CELLS))?;
         Ok(())
     }
 
-    /// Goes on to `seen` cells, which decide a report.
-    ///
-    /// # Errors
-    /// The sink's fault; then it has taken a front of what these cells write.
-    pub(crate) fn take<T: Sink>(
+    fn take<T: Sink>(
         &mut self,
         sink: &mut T,
         lock: &Lock,
         ending: Ending,
         seen: u64,
-    ) -> Result<(), Fault>
-        requires room { T.failed sink.old + 1 < 2 ^ 64 }
-        requires following { (c d : List Level) × (seen ≤ 2 ^ 43) × (seen ≡ length (c ++ d))
-            × (decided (c ++ d) ≡ decided c ++ (report_in lock.now ending) ∷ [])
-            × IsLedgerOf self.old c }
-        ensures lines { self.new.lines ≡ self.old.lines }
-        ensures next { IfOk result (λ _. WhereDecided self.old seen (report_in lock.now ending)
-            (λ c d. IsLedgerOf self.new (c ++ d))) }
-        ensures grew { IfOk result (λ _. WhereDecided self.old seen (report_in lock.now ending) (λ c d.
-            Grew (T.taken sink.old) (T.taken sink.new) (behind (accounting self.old.lines) c d))) }
-        ensures count { IfOk result (λ _. T.failed sink.new ≡ T.failed sink.old) }
-        ensures err_count { OnErr result (T.failed sink.new ≡ T.failed sink.old + 1) }
-        ensures err_grew { OnErr result (WhereDecided self.old seen (report_in lock.now ending) (λ c d.
-            GrewFront (T.taken sink.old) (T.taken sink.new)
-            (behind (accounting self.old.lines) c d))) }
-    {
+    ) -> Result<(), Fault> {
         self.tell(sink, lock, ending)?;
         self.tell_full(sink, seen.saturating_sub(BLOCK_CELLS))?;
         Ok(())
     }
 
-    /// Takes the end of `seen` cells, which decides no report.
-    ///
-    /// # Errors
-    /// The sink's fault; then it has taken a front of what the end writes.
-    pub(crate) fn close<T: Sink>(&mut self, sink: &mut T, seen: u64) -> Result<(), Fault>
-        requires room { T.failed sink.old + 1 < 2 ^ 64 }
-        requires following { (c : List Level) × (seen ≤ 2 ^ 43) × (seen ≡ length c)
-            × IsLedgerOf self.old c }
-        ensures done { IfOk result (λ _. AtEnd self.old seen [] (IsClosedLedgerOf self.new)) }
-        ensures grew { IfOk result (λ _. AtEnd self.old seen [] (λ c.
-            Grew (T.taken sink.old) (T.taken sink.new) ((accounting self.old.lines).ends c))) }
-        ensures count { IfOk result (λ _. T.failed sink.new ≡ T.failed sink.old) }
-        ensures err_count { OnErr result (T.failed sink.new ≡ T.failed sink.old + 1) }
-        ensures err_grew { OnErr result (AtEnd self.old seen [] (λ c.
-            GrewFront (T.taken sink.old) (T.taken sink.new) ((accounting self.old.lines).ends c))) }
-    {
+    fn close<T: Sink>(&mut self, sink: &mut T, seen: u64) -> Result<(), Fault> {
         self.tell_gaps(sink, seen, false)?;
         Ok(())
     }
 
-    /// Takes the end of `seen` cells, which decides a report.
-    ///
-    /// # Errors
-    /// The sink's fault; then it has taken a front of what the end writes.
-    pub(crate) fn close_with<T: Sink>(
+    fn close_with<T: Sink>(
         &mut self,
         sink: &mut T,
         lock: &Lock,
         ending: Ending,
         seen: u64,
-    ) -> Result<(), Fault>
-        requires room { T.failed sink.old + 1 < 2 ^ 64 }
-        requires following { (c : List Level) × (seen ≤ 2 ^ 43) × (seen ≡ length c)
-            × (reports c ≡ decided c ++ (report_in lock.now ending) ∷ [])
-            × IsLedgerOf self.old c }
-        ensures done { IfOk result (λ _. AtEnd self.old seen ((report_in lock.now ending) ∷ [])
-            (IsClosedLedgerOf self.new)) }
-        ensures grew { IfOk result (λ _. AtEnd self.old seen ((report_in lock.now ending) ∷ []) (λ c.
-            Grew (T.taken sink.old) (T.taken sink.new) ((accounting self.old.lines).ends c))) }
-        ensures count { IfOk result (λ _. T.failed sink.new ≡ T.failed sink.old) }
-        ensures err_count { OnErr result (T.failed sink.new ≡ T.failed sink.old + 1) }
-        ensures err_grew { OnErr result (AtEnd self.old seen ((report_in lock.now ending) ∷ []) (λ c.
-            GrewFront (T.taken sink.old) (T.taken sink.new) ((accounting self.old.lines).ends c))) }
-    {
+    ) -> Result<(), Fault> {
         self.tell(sink, lock, ending)?;
         self.tell_gaps(sink, seen, false)?;
         Ok(())

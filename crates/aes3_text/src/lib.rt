@@ -3,14 +3,18 @@
 #![tactic(auto)]
 
 mod accounting;
+mod cell_reporter;
 mod changing;
 mod checking;
+mod counted;
 mod gap;
 pub mod laws;
 mod ledger;
 mod report;
 mod scanning;
 mod showing;
+mod watched;
+mod watching;
 
 pub use accounting::account;
 pub use aes3_lines::{
@@ -23,3 +27,4 @@ pub use gap::line_of_gap;
 pub use report::line_of_report;
 pub use scanning::scan;
 pub use showing::show;
+pub use watching::{line_of_end, line_of_lock, line_of_loss, line_of_return, line_of_slip, watch};

@@ -8,7 +8,7 @@ use Rattle.aes3_engine.proofs.Reports.{few-decided}
 use Rattle.aes3_text.specs.Gaps.{accounted, behind_report, full_count, full_gaps}
 use Rattle.aes3_text.specs.Runs.{account_lines}
 use Rattle.aes3_text.proofs.Accounts.{less, lost-room, near-new, reached-is, report-lines, take-lines, take-accounts}
-use Rattle.aes3_text.proofs.ledger.Ledger.take.Goals as goal
+use Rattle.aes3_text.proofs.ledger.LedgerCellReporter.take.Goals as goal
 
 pub tell-requires-clause-few : goal.tell-requires-clause-few
 tell-requires-clause-few g c =

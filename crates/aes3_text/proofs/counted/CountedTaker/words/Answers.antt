@@ -6,8 +6,7 @@ use Rattle.aes3_cell.specs.Words.{word_len, word_cells}
 use Rattle.aes3_input.proofs.Handing.{handed-is, handed-cells, handed-cells-front, length-words, words-more, words-parted, words-further}
 use Rattle.aes3_cell.specs.declared.level.Level.{Level}
 use Rattle.aes3_lock.specs.Following.{Follows}
-use Rattle.aes3_text.specs.Runs.{IsLedgerOf, accounting}
-use Rattle.aes3_text.proofs.accounting.AccountantTaker.words.Goals as goal
+use Rattle.aes3_text.proofs.counted.CountedTaker.words.Goals as goal
 
 pub take_words-at-requires : goal.take_words-at-requires
 take_words-at-requires g c =
@@ -76,7 +75,7 @@ returns-then-at-words g c =
     let rest = take (length ws - at) (drop at ws) in
     let b = flat_map word_cells (take n rest) in
     let h =
-    handed-cells {f' = λ (d : List Level). Follows c.take_words-at.new.self d × IsLedgerOf c.pass.new.self d} b (words-further ws rest at n (take_rest ws at)) v.handed (ap accounting c.pass.ensures.lines)
+    handed-cells {f' = λ (d : List Level). Follows c.take_words-at.new.self d × g.R.CellReporter.follows c.pass.new.self d} b (words-further ws rest at n (take_rest ws at)) v.handed c.in_ok-pass.ensures.same
     (λ d q. (c.take_words-at.ensures.follows d q.0, c.in_ok-pass.ensures.next d b q.1 (c.take_words-at.ensures.none d q.0) (c.seen-seen.ensures ∙ (c.take_words-at.ensures.follows d q.0).seen)))
     (λ d q. c.in_ok-pass.ensures.grew d b q.1 (c.take_words-at.ensures.none d q.0) (c.seen-seen.ensures ∙ (c.take_words-at.ensures.follows d q.0).seen)) in
     let e = handed-is (ap (flat_map word_cells) (take_all (at + n) ws (omega arith))) h in
@@ -93,7 +92,7 @@ cells-requires-clause-following g c =
     let rest = take (length ws - at) (drop at ws) in
     let b = flat_map word_cells (take n rest) in
     let h =
-    handed-cells {f' = λ (d : List Level). Follows c.take_words-at.new.self d × IsLedgerOf c.pass.new.self d} b (words-further ws rest at n (take_rest ws at)) v.handed (ap accounting c.pass.ensures.lines)
+    handed-cells {f' = λ (d : List Level). Follows c.take_words-at.new.self d × g.R.CellReporter.follows c.pass.new.self d} b (words-further ws rest at n (take_rest ws at)) v.handed c.in_ok-pass.ensures.same
     (λ d q. (c.take_words-at.ensures.follows d q.0, c.in_ok-pass.ensures.next d b q.1 (c.take_words-at.ensures.none d q.0) (c.seen-seen.ensures ∙ (c.take_words-at.ensures.follows d q.0).seen)))
     (λ d q. c.in_ok-pass.ensures.grew d b q.1 (c.take_words-at.ensures.none d q.0) (c.seen-seen.ensures ∙ (c.take_words-at.ensures.follows d q.0).seen)) in
     let all = flat_map word_cells (take (at + n) ws) in
@@ -112,7 +111,7 @@ returns-in_err-cells g c =
     let rest = take (length ws - at) (drop at ws) in
     let b = flat_map word_cells (take n rest) in
     let h =
-    handed-cells {f' = λ (d : List Level). Follows c.take_words-at.new.self d × IsLedgerOf c.pass.new.self d} b (words-further ws rest at n (take_rest ws at)) v.handed (ap accounting c.pass.ensures.lines)
+    handed-cells {f' = λ (d : List Level). Follows c.take_words-at.new.self d × g.R.CellReporter.follows c.pass.new.self d} b (words-further ws rest at n (take_rest ws at)) v.handed c.in_ok-pass.ensures.same
     (λ d q. (c.take_words-at.ensures.follows d q.0, c.in_ok-pass.ensures.next d b q.1 (c.take_words-at.ensures.none d q.0) (c.seen-seen.ensures ∙ (c.take_words-at.ensures.follows d q.0).seen)))
     (λ d q. c.in_ok-pass.ensures.grew d b q.1 (c.take_words-at.ensures.none d q.0) (c.seen-seen.ensures ∙ (c.take_words-at.ensures.follows d q.0).seen)) in
     let r = c.in_err-cells.ensures.ran in
@@ -137,7 +136,7 @@ handing-preserved g c =
     let rest = take (length ws - at) (drop at ws) in
     let b = flat_map word_cells (take n rest) in
     let h =
-    handed-cells {f' = λ (d : List Level). Follows c.take_words-at.new.self d × IsLedgerOf c.pass.new.self d} b (words-further ws rest at n (take_rest ws at)) v.handed (ap accounting c.pass.ensures.lines)
+    handed-cells {f' = λ (d : List Level). Follows c.take_words-at.new.self d × g.R.CellReporter.follows c.pass.new.self d} b (words-further ws rest at n (take_rest ws at)) v.handed c.in_ok-pass.ensures.same
     (λ d q. (c.take_words-at.ensures.follows d q.0, c.in_ok-pass.ensures.next d b q.1 (c.take_words-at.ensures.none d q.0) (c.seen-seen.ensures ∙ (c.take_words-at.ensures.follows d q.0).seen)))
     (λ d q. c.in_ok-pass.ensures.grew d b q.1 (c.take_words-at.ensures.none d q.0) (c.seen-seen.ensures ∙ (c.take_words-at.ensures.follows d q.0).seen)) in
     let r = c.in_ok-cells.ensures.ran in

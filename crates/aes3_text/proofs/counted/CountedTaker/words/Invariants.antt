@@ -4,15 +4,14 @@ use Rattle.aes3_cell.specs.declared.level.Level.{Level}
 use Rattle.aes3_cell.specs.Words.{word_cells}
 use Rattle.aes3_lock.specs.Following.{Follows}
 use Rattle.aes3_input.proofs.Handing.{Handed}
-use Rattle.aes3_text.specs.Runs.{IsLedgerOf, accounting}
-use Rattle.aes3_text.proofs.accounting.AccountantTaker.words.Given as goal
+use Rattle.aes3_text.proofs.counted.CountedTaker.words.Given as goal
 
 abbrev pub invariant-handing : goal.invariant-handing
 invariant-handing g l = record {
   within : l.at ≤ length l.words;
-  handed : Handed (accounting l.fn.self.ledger.lines) (accounting l.self.ledger.lines)
-      (λ (c : List Level). Follows l.fn.self.lock c × IsLedgerOf l.fn.self.ledger c)
-      (λ (c : List Level). Follows l.self.lock c × IsLedgerOf l.self.ledger c)
+  handed : Handed (g.R.CellReporter.writes l.fn.self.reporter) (g.R.CellReporter.writes l.self.reporter)
+      (λ (c : List Level). Follows l.fn.self.lock c × g.R.CellReporter.follows l.fn.self.reporter c)
+      (λ (c : List Level). Follows l.self.lock c × g.R.CellReporter.follows l.self.reporter c)
       (g.T.Sink.taken l.fn.sink) (g.T.Sink.taken l.sink) (flat_map word_cells (take l.at l.words));
   quiet : g.T.Sink.failed l.sink ≡ g.T.Sink.failed l.fn.sink;
 }

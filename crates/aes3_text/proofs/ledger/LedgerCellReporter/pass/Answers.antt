@@ -2,7 +2,7 @@ use Rattle.std.proofs.Common.{arith}
 use Rattle.std.proofs.lemmas.Result.{err_from_is_err_and}
 use Rattle.aes3_cell.proofs.Growing.{grew-is, front-is}
 use Rattle.aes3_text.proofs.Accounts.{less, lost-room, pass-lines, pass-accounts}
-use Rattle.aes3_text.proofs.ledger.Ledger.pass.Goals as goal
+use Rattle.aes3_text.proofs.ledger.LedgerCellReporter.pass.Goals as goal
 
 pub tell_full-requires-clause-few : goal.tell_full-requires-clause-few
 tell_full-requires-clause-few g c =

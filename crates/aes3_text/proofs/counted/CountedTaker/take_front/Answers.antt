@@ -8,8 +8,7 @@ use Rattle.aes3_lock.specs.Reports.{decided}
 use Rattle.aes3_input.specs.Taking.{behind}
 use Rattle.aes3_input.proofs.Items.{items-join}
 use Rattle.aes3_input.proofs.Handing.{cells-parted}
-use Rattle.aes3_text.specs.Runs.{accounting}
-use Rattle.aes3_text.proofs.accounting.AccountantTaker.take_front.Goals as goal
+use Rattle.aes3_text.proofs.counted.CountedTaker.take_front.Goals as goal
 
 pub returns-in_err-take-in-Some : goal.returns-in_err-take-in-Some
 returns-in_err-take-in-Some g c =
@@ -18,7 +17,7 @@ returns-in_err-take-in-Some g c =
     let n = c.push_front-pushed.result.taken in
     let d = low_cells n c.args.word in
     let rest = low_cells (c.args.len - n) (c.args.word / 2 ^ n) in
-    let w = accounting c.args.self.now.ledger.lines in
+    let w = g.R.CellReporter.writes c.args.self.now.reporter in
     let told = ap (λ o. option_to_list (option_map (report_in k) o)) c.in-Some.is in
     let q = err_from_is_err_and c.from_residual.result c.from_residual.ensures.1 in
     record {

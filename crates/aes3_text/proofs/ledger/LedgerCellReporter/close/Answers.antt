@@ -2,7 +2,7 @@ use Rattle.std.proofs.Common.{◌∙◌, [], sym, ap, length, append-nil, arith}
 use Rattle.std.proofs.lemmas.Result.{err_from_is_err_and}
 use Rattle.aes3_cell.proofs.Growing.{grew-is, front-is}
 use Rattle.aes3_text.proofs.Accounts.{lost-room, close-lines, close-accounts}
-use Rattle.aes3_text.proofs.ledger.Ledger.close.Goals as goal
+use Rattle.aes3_text.proofs.ledger.LedgerCellReporter.close.Goals as goal
 
 pub tell_gaps-requires-clause-few : goal.tell_gaps-requires-clause-few
 tell_gaps-requires-clause-few g c =

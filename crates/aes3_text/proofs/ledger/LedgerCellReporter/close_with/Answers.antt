@@ -8,7 +8,7 @@ use Rattle.aes3_engine.proofs.Reports.{few-decided}
 use Rattle.aes3_text.specs.Gaps.{accounted, behind_report, gaps}
 use Rattle.aes3_text.specs.Runs.{account_lines}
 use Rattle.aes3_text.proofs.Accounts.{lost-room, near-last, reached-is, report-lines, close_with-lines, close_with-accounts}
-use Rattle.aes3_text.proofs.ledger.Ledger.close_with.Goals as goal
+use Rattle.aes3_text.proofs.ledger.LedgerCellReporter.close_with.Goals as goal
 
 pub tell-requires-clause-few : goal.tell-requires-clause-few
 tell-requires-clause-few g c =
