@@ -7,6 +7,7 @@ pub mod ReportPlaces
 pub mod Accounts
 pub mod AccountFronts
 pub mod WatchedCells
+pub mod WatchedGaps
 pub mod NewLines
 pub mod Covering
 pub mod Rowed

@@ -50,14 +50,14 @@ or-false true y e = (e, cc)
 later : (w : Watched) (a b : ℕ) → a ≤ b → is_told w a ≡ false → is_told w b ≡ false
 later w a b h e = let o = or-false w.lost (ltb (a - w.place) block_len) e in ap₂ (λ (x y : Bool). x || y) o.0 (far w.place a b h o.1)
 
-either : (b : Bool) → (b ≡ true) ⊎ (b ≡ false)
+pub either : (b : Bool) → (b ≡ true) ⊎ (b ≡ false)
 either true = inl refl
 either false = inr refl
 
-abbrev as_lost : Watched → Watched
+abbrev pub as_lost : Watched → Watched
 as_lost w = record { found = w.found; place = w.place; lost = true; losses = w.losses + 1 }
 
-up-told : (w : Watched) (a : ℕ) (b : Bool) → is_told w a ≡ b → up_to w a ≡ cond b w (as_lost w)
+pub up-told : (w : Watched) (a : ℕ) (b : Bool) → is_told w a ≡ b → up_to w a ≡ cond b w (as_lost w)
 up-told w a b e = ap (λ x. cond x w (as_lost w)) e
 
 loss-told : (w : Watched) (a : ℕ) (b : Bool) → is_told w a ≡ b → loss_line w a ≡ cond b [] (lost_line w.place)

@@ -6,6 +6,7 @@ ghost use Rattle.aes3_text.specs.GapLaws.{AccountIsInTime, AccountIsWhole, Accou
 ghost use Rattle.aes3_text.specs.GapLaws.{ChangeIsLost, GapsAreShort, LossIsLost};
 ghost use Rattle.aes3_text.specs.GapLaws.{NoGapLosesNothing, PieceHasNoGap, RowHasNoGap};
 ghost use Rattle.aes3_text.specs.Laws.{ExchangedStatusIsFound};
+ghost use Rattle.aes3_text.specs.WatchLaws.{LossesAreGaps};
 
 /// Two changed cells that leave a block, with the bits of two slots inverted, leave no good check
 /// of a channel status that they change.
@@ -62,4 +63,10 @@ pub fn whole_rows_have_no_gap()
 pub fn changes_are_new()
     ensures each { LinesAreOfEach }
     ensures new { ChangesAreNew }
+{}
+
+/// `watch` tells cells as lost, or a block as slipped, just where a gap of the account counts: so it
+/// ends with the status of `check --gaps`.
+pub fn losses_are_gaps()
+    ensures { LossesAreGaps }
 {}
