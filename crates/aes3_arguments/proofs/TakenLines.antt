@@ -312,8 +312,11 @@ all_known = (
       (
         check_known,
         (
-          show_known,
-          (reader_known (codes "scan") refl, (cut_known, (rewrite_known, (reader_known (codes "to-pcm") refl, (from_pcm_known, tt))))),
+          reader_known (codes "watch") refl,
+          (
+            show_known,
+            (reader_known (codes "scan") refl, (cut_known, (rewrite_known, (reader_known (codes "to-pcm") refl, (from_pcm_known, tt))))),
+          ),
         ),
       ),
     ),

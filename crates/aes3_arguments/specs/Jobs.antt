@@ -124,6 +124,8 @@ AsksFor name options (job.Check input told) =
 AsksFor name options (job.Account input told) =
     (name ≡ codes "check") × (input ≡ form_by options (codes "packed-in"))
     × (told ≡ lines_by options) × (is_set options (codes "gaps") ≡ true)
+AsksFor name options (job.Watch input) =
+    (name ≡ codes "watch") × (input ≡ form_by options (codes "packed-in"))
 AsksFor name options (job.Show input) =
     (name ≡ codes "show") × (input ≡ form_by options (codes "packed-in"))
     × (is_set options (codes "changes") ≡ false)

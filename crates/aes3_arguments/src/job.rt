@@ -116,6 +116,7 @@ fn job_of_command(alloc: Global, name: &str, options: &ArgMatches<'_>) -> Result
         "decode" => Ok(Job::Decode { input }),
         "normal" => Ok(Job::Normal { input, output }),
         "check" => Ok(check(options, input)),
+        "watch" => Ok(Job::Watch { input }),
         "show" => Ok(show(options, input)),
         "scan" => Ok(Job::Scan { input }),
         "to-pcm" => Ok(Job::ToPcm { input }),

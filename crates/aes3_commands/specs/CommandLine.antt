@@ -11,7 +11,7 @@ use Rattle.aes3_commands.specs.declared.argument.Argument.{Argument}
 use Rattle.aes3_commands.specs.declared.argument.Argument.TheVariants.{PackedIn, PackedOut, Faults, Gaps, Changes, From, Count}
 use Rattle.aes3_commands.specs.declared.argument.Argument.TheVariants.{Status1, Status2, Set1, Set2, MendCheck, Exact, File}
 use Rattle.aes3_commands.specs.declared.definitions.Name.{Name}
-use Rattle.aes3_commands.specs.declared.definitions.Name.TheVariants.{Encode, Decode, Normal, Check, Show, Scan, Cut, Rewrite, ToPcm, FromPcm}
+use Rattle.aes3_commands.specs.declared.definitions.Name.TheVariants.{Encode, Decode, Normal, Check, Watch, Show, Scan, Cut, Rewrite, ToPcm, FromPcm}
 
 -- `--name`, which stands or does not
 abbrev pub flag : Text → Rule
@@ -104,6 +104,7 @@ shape Encode = encode
 shape Decode = reader (codes "decode")
 shape Normal = normal
 shape Check = check
+shape Watch = reader (codes "watch")
 shape Show = show
 shape Scan = reader (codes "scan")
 shape Cut = cut
@@ -134,7 +135,7 @@ command_line = record {
     has_version = true;
   };
   subs = encode ∷ reader (codes "decode") ∷ normal ∷ check
-      ∷ show ∷ reader (codes "scan") ∷ cut ∷ rewrite
+      ∷ reader (codes "watch") ∷ show ∷ reader (codes "scan") ∷ cut ∷ rewrite
       ∷ reader (codes "to-pcm") ∷ from_pcm ∷ [];
 }
 

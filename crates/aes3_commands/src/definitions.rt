@@ -20,6 +20,8 @@ pub(crate) enum Name {
     Normal,
     /// `check`
     Check,
+    /// `watch`
+    Watch,
     /// `show`
     Show,
     /// `scan`
@@ -35,11 +37,12 @@ pub(crate) enum Name {
 }
 
 /// The commands, in the order in which help lists them.
-const NAMES: [Name; 10] = [
+const NAMES: [Name; 11] = [
     Name::Encode,
     Name::Decode,
     Name::Normal,
     Name::Check,
+    Name::Watch,
     Name::Show,
     Name::Scan,
     Name::Cut,
@@ -87,11 +90,12 @@ impl Name {
         use Argument::*;
         match self {
             Name::Encode => command(alloc, "encode", help::ENCODE, &[PackedOut]),
-            Name::Decode => command(alloc, "decode", help::DECODE, &[PackedIn, File]),
-            Name::Normal => command(alloc, "normal", help::NORMAL, &[PackedIn, PackedOut, File]),
-            Name::Check => command(alloc, "check", help::CHECK, &[PackedIn, Faults, Gaps, File]),
-            Name::Show => command(alloc, "show", help::SHOW, &[PackedIn, Changes, File]),
-            Name::Scan => command(alloc, "scan", help::SCAN, &[PackedIn, File]),
+            Name::Decode => command(alloc, "decode", help::DECODE, &[PackedIn]),
+            Name::Normal => command(alloc, "normal", help::NORMAL, &[PackedIn, PackedOut]),
+            Name::Check => command(alloc, "check", help::CHECK, &[PackedIn, Faults, Gaps]),
+            Name::Watch => command(alloc, "watch", help::WATCH, &[PackedIn]),
+            Name::Show => command(alloc, "show", help::SHOW, &[PackedIn, Changes]),
+            Name::Scan => command(alloc, "scan", help::SCAN, &[PackedIn]),
             Name::Cut => command(alloc, "cut", help::CUT, &[PackedIn, PackedOut, From, Count]),
             Name::Rewrite => command(
                 alloc,

@@ -39,7 +39,7 @@ Forms of input and output:
 
 Exit status:
   0  done, or help or the version was asked for
-  1  `check` is done and found faults
+  1  `check` or `watch` is done and found faults
   2  the words are no command line; why is told on standard error
   3  refused; standard error has one line, `aes3: refused NUMBER at PLACE`, or no place
 
@@ -196,6 +196,30 @@ Examples:
     aes3 cut 0 1 < line.txt | aes3 show
     aes3 show < line.txt | grep -c rate=48000
     aes3 show --changes < line.txt",
+};
+
+pub const WATCH: Texts<'static> = Texts {
+    about: "Print where a line locks, is lost, comes back and slips",
+    usage: "aes3 watch [--packed-in] < FILE",
+    more: "Reads cells, begun anywhere and in either polarity, as long as they come.
+Writes a line only where something changes. P numbers the cells from 0:
+  locked at P before L   the first whole block begins at cell P; L is the level before it
+  lost at P              a block's length of cells or more from P on is in no whole block
+  back at P lost N       the first whole block behind them begins at P, N cells behind
+  slipped at P cells N   a whole block begins at P, N cells, fewer than a block has, behind
+                         the one before it: cells were lost or doubled
+  end at P locked        the cells end at P, fewer than a block has behind a whole block
+  end at P lost          they end otherwise
+`lost` comes once a line of `check` behind that block's length is due, or two blocks' cells
+have come from P on. `check --gaps` tells the same cells block by block.
+
+Exit status: 0 no fault; 1 `check` has `marked` or `fault` lines, or there is `lost` or
+`slipped`; 3 refused: 1 a byte is no cell, 10 packed cells end wrongly; or as for every
+command.
+
+Examples:
+    aes3 watch < line.txt
+    aes3 encode < speech.block | sed '48200s/^1/0/' | aes3 watch | grep lost",
 };
 
 pub const SCAN: Texts<'static> = Texts {

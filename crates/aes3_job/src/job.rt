@@ -30,6 +30,10 @@ pub enum Job {
         input: Form,
         lines: Lines,
     },
+    /// A line where what is known of a line changes: locked, lost, back, slipped and its end.
+    Watch {
+        input: Form,
+    },
     /// Two lines of channel status for each block.
     Show {
         input: Form,

@@ -20,8 +20,9 @@ use Rattle.aes3_engine.specs.Sampling.{sampled_file}
 use Rattle.aes3_lines.specs.MarkLines.{mark_lines}
 use Rattle.aes3_text.specs.Gaps.{account, begun_account}
 use Rattle.aes3_text.specs.Runs.{account_counts, account_lines, change_lines, report_lines, scan_counts, status_lines}
+use Rattle.aes3_text.specs.Watching.{begun_watch, watch_counts, watch_lines}
 use Rattle.aes3_job.specs.declared.job.Job.{Job}
-use Rattle.aes3_job.specs.declared.job.Job.TheVariants.{Encode, Decode, Normal, Check, Account, Show, ShowChanges, Scan, Cut, Rewrite, ToPcm, FromPcm}
+use Rattle.aes3_job.specs.declared.job.Job.TheVariants.{Encode, Decode, Normal, Check, Account, Watch, Show, ShowChanges, Scan, Cut, Rewrite, ToPcm, FromPcm}
 use Rattle.aes3_runner.specs.Lines.{refusal_line}
 
 -- how many bytes an input may have
@@ -35,6 +36,7 @@ promise_of (Decode i) = counted_cells i (λ c. file (blocks c)) (λ c. file (dec
 promise_of (Normal i o) = counted_cells i (λ c. written o (normal c)) (λ c. begun_stream o (decided_blocks c)) (counts_of i)
 promise_of (Check i lines) = counted_cells i (λ c. report_lines lines (reports c)) (λ c. report_lines lines (decided c)) (counts_of i)
 promise_of (Account i lines) = counted_cells i (λ c. account_lines lines (account c)) (λ c. account_lines lines (begun_account c)) (account_counts i)
+promise_of (Watch i) = counted_cells i watch_lines begun_watch (watch_counts i)
 promise_of (Show i) = counted_cells i (λ c. status_lines (blocks c)) (λ c. status_lines (decided_blocks c)) (counts_of i)
 promise_of (ShowChanges i) = counted_cells i (λ c. change_lines (blocks c)) (λ c. change_lines (decided_blocks c)) (counts_of i)
 promise_of (Scan i) = counted_cells i (λ c. mark_lines (marks c)) (λ c. mark_lines (marks c)) (scan_counts i)
@@ -49,13 +51,14 @@ promise_of (FromPcm exact change) = sampled_file exact change
 abbrev pub RunRan : Job → Bool → Movement → Movement → Result Counts RunError → Type 0
 RunRan job = InputRun (promise_of job) most
 
--- its exit status: 1 where `check` finds faults, with gaps or without, else 0
+-- its exit status: 1 where `check` finds faults, with gaps or without, or `watch` does, else 0
 abbrev pub status_by : Job → Counts → ℕ
 status_by (Encode o) n = 0
 status_by (Decode i) n = 0
 status_by (Normal i o) n = 0
 status_by (Check i lines) n = if n.faults == 0 then 0 else 1
 status_by (Account i lines) n = if n.faults == 0 then 0 else 1
+status_by (Watch i) n = if n.faults == 0 then 0 else 1
 status_by (Show i) n = 0
 status_by (ShowChanges i) n = 0
 status_by (Scan i) n = 0

@@ -7,7 +7,7 @@ ghost use Rattle.aes3_runner.specs.JobRuns.{RunRan, status_by};
 use aes3_cell::{Counts, RunError, Sink, Source};
 use aes3_engine::{cut, decode, encode, from_pcm, normalise, rewrite, to_pcm};
 use aes3_job::Job;
-use aes3_text::{account, check, scan, show, show_changes};
+use aes3_text::{account, check, scan, show, show_changes, watch};
 
 /// How many bytes an input may have.
 const MAX_BYTES: u64 = 1 << 40;
@@ -15,7 +15,7 @@ const MAX_BYTES: u64 = 1 << 40;
 /// The exit status of a run that was not refused.
 pub const DONE: u8 = 0;
 
-/// The exit status of `check` where it found faults.
+/// The exit status of `check` and `watch` where they found faults.
 pub const FAULTY: u8 = 1;
 
 /// The exit status of a job that ended well.
@@ -25,6 +25,7 @@ pub(crate) fn exit_status(job: &Job, counts: &Counts) -> u8
     match job {
         Job::Check { .. } if counts.faults > 0 => FAULTY,
         Job::Account { .. } if counts.faults > 0 => FAULTY,
+        Job::Watch { .. } if counts.faults > 0 => FAULTY,
         _ => DONE,
     }
 }
@@ -51,6 +52,7 @@ pub fn run_job<S: Source, T: Sink>(
         Job::Normal { input, output } => normalise(source, sink, MAX_BYTES, input, output),
         Job::Check { input, lines } => check(source, sink, MAX_BYTES, input, lines),
         Job::Account { input, lines } => account(source, sink, MAX_BYTES, input, lines),
+        Job::Watch { input } => watch(source, sink, MAX_BYTES, input),
         Job::Show { input } => show(source, sink, MAX_BYTES, input),
         Job::ShowChanges { input } => show_changes(source, sink, MAX_BYTES, input),
         Job::Scan { input } => scan(source, sink, MAX_BYTES, input),

@@ -16,6 +16,9 @@ returns-in-Check-clause-ran g c = run-of c.in-Check.is c.check.ensures.run
 pub returns-in-Account-clause-ran : goal.returns-in-Account-clause-ran
 returns-in-Account-clause-ran g c = run-of c.in-Account.is c.account.ensures.run
 
+pub returns-in-Watch-clause-ran : goal.returns-in-Watch-clause-ran
+returns-in-Watch-clause-ran g c = run-of c.in-Watch.is c.watch.ensures.run
+
 pub returns-in-Show-clause-ran : goal.returns-in-Show-clause-ran
 returns-in-Show-clause-ran g c = run-of c.in-Show.is c.show.ensures.run
 
