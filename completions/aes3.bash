@@ -60,7 +60,7 @@ _aes3() {
     esac
     [ -z "$option" ] || return
     if [ "$COMP_CWORD" = 1 ]; then
-        _aes3_words encode decode normal check show scan cut rewrite to-pcm from-pcm --help --version --explain
+        _aes3_words encode decode normal check watch show scan cut rewrite to-pcm from-pcm --help --version --explain
         return
     fi
     case ${COMP_WORDS[1]} in
@@ -71,6 +71,7 @@ _aes3() {
         decode) _aes3_words --packed-in --help ;;
         normal) _aes3_words --packed-in --packed-out --help ;;
         check) _aes3_words --packed-in --faults --gaps --help ;;
+        watch) _aes3_words --packed-in --help ;;
         show) _aes3_words --packed-in --changes --help ;;
         scan) _aes3_words --packed-in --help ;;
         cut) _aes3_words --packed-in --packed-out --help ;;

@@ -59,6 +59,7 @@ complete -c aes3 -n __fish_use_subcommand -a encode -d 'Write the cells of a blo
 complete -c aes3 -n __fish_use_subcommand -a decode -d 'Write the whole blocks as a block file'
 complete -c aes3 -n __fish_use_subcommand -a normal -d 'Write the whole blocks again, in the normal polarity'
 complete -c aes3 -n __fish_use_subcommand -a check -d 'Print each whole block and each fault'
+complete -c aes3 -n __fish_use_subcommand -a watch -d 'Print where a line locks, is lost, comes back and slips'
 complete -c aes3 -n __fish_use_subcommand -a show -d 'Print the channel status of each whole block'
 complete -c aes3 -n __fish_use_subcommand -a scan -d 'Print each preamble'
 complete -c aes3 -n __fish_use_subcommand -a cut -d 'Write COUNT of the whole blocks, from number FROM on'
@@ -79,7 +80,8 @@ complete -c aes3 -n '__fish_seen_subcommand_from check' -l packed-in -d 'Read pa
 complete -c aes3 -n '__fish_seen_subcommand_from check' -l faults -d 'Leave the whole blocks out'
 complete -c aes3 -n '__fish_seen_subcommand_from check' -l gaps -d 'Tell and count cells in no whole block'
 complete -c aes3 -n '__fish_seen_subcommand_from check' -l help -s h -d 'Print help'
-complete -c aes3 -n '__fish_seen_subcommand_from show' -F
+complete -c aes3 -n '__fish_seen_subcommand_from watch' -l packed-in -d 'Read packed cells, eight an octet'
+complete -c aes3 -n '__fish_seen_subcommand_from watch' -l help -s h -d 'Print help'
 complete -c aes3 -n '__fish_seen_subcommand_from show' -l packed-in -d 'Read packed cells, eight an octet'
 complete -c aes3 -n '__fish_seen_subcommand_from show' -l changes -d 'Leave out what is as in the block before'
 complete -c aes3 -n '__fish_seen_subcommand_from show' -l help -s h -d 'Print help'

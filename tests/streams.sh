@@ -181,7 +181,7 @@ fi
 
 # What the README says that a run needs is enough, for each command.
 "$program" encode < "$zero" > "$folder/cells"
-for command in check 'check --gaps' normal decode show scan to-pcm 'cut 0 1' 'rewrite --mend-check'; do
+for command in check 'check --gaps' watch normal decode show scan to-pcm 'cut 0 1' 'rewrite --mend-check'; do
     # shellcheck disable=SC2086 # a command is several words
     "$program" $command < "$folder/cells" > "$folder/expected" 2>&1
     # shellcheck disable=SC2086
