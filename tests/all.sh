@@ -63,6 +63,7 @@ part_with python3 bin/figures --check
 part_with python3 examples/pictures/make --check "$program"
 part_with python3 examples/neighbours/run "$program"
 part examples/many/run "$program" 20
+part_with python3 examples/watch/run "$program"
 part_with python3 web/test "$program"
 part_with python3 examples/own/run
 if [ -e crates/aes3_c/out/libaes3_c.a ]; then
