@@ -123,6 +123,32 @@ judge "packed cells" sh -c "'$aes3' check <text >a; '$aes3' check --packed-in <p
 judge "pieces of any size" sh -c "{ dd bs=7 count=1000; dd bs=4099; } <one 2>/dev/null | '$program' 2>told | cmp - text"
 judge "cells before it waits" sh -c "{ head -c 400000 one; sleep 20; } | '$program' 2>told | timeout 10 head -c 100000 >live; head -c 100000 text | cmp - live"
 
+# With --tell a line comes each second too, of which `one` has two and a half, and when the line dies; the cells stay as they are.
+told_in_time() {
+    # shellcheck disable=SC2086 # they are words
+    "$program" $options <capture 2>end >cells
+    # shellcheck disable=SC2086
+    "$program" $options --tell <capture 2>told | cmp - cells && tail -n 1 told | cmp - end || return 1
+    cat told
+    [ "$(grep -c -x "$figures, $1" told)" = "$2" ] && [ "$(wc -l <told)" = "$3" ]
+}
+figures='aes3-cells: [1-9][0-9]* cells, [35]\.[0-9]* samples a cell, [1-9][0-9]* Hz, edges 0\.[0-9]* of a cell rms, 0\.[0-9]* at most'
+options="--rate $(($(wc -c <one) * 2 / 5))"
+cp one capture
+judge "a line each second" told_in_time '0 dead stretches, measured 1 times' 3 3
+{ cat one; head -c 390625 /dev/zero; cat two; } >capture
+judge "a dead stretch is told" told_in_time '1 dead stretches, the latest from sample [0-9]*, measured [12] times' 6 8
+place=$(sed -n 's/.*the latest from sample \([0-9]*\),.*/\1/p' told | uniq)
+judge "the place of a dead stretch, $place, is $(wc -c <one)" [ "$(($(wc -c <one) - place))" -ge 0 -a "$(($(wc -c <one) - place))" -le 64 ]
+{ head -c 1000000 /dev/zero; cat one; } >capture
+judge "no line yet" told_in_time '0 dead stretches, measured 1 times' 4 6
+judge "no line yet is said" [ "$(grep -c -x 'aes3-cells: 0 cells, no line yet' told)" = 2 ]
+"$python" -c 'import sys
+sys.stdout.buffer.write(b"".join(bytes((0, sample)) for sample in sys.stdin.buffer.read()))' <one >wide
+judge "no octet is lost where it tells" sh -c "{ dd bs=7 count=1001; dd bs=4099; } <wide 2>/dev/null | '$program' --unit 2 --bit 8 --rate 5001 --tell 2>told | cmp - text && [ \$(wc -l <told) -gt 100 ]"
+judge "the cells where it can't tell" sh -c "'$program' --rate 5001 --tell <one 2>&- | cmp - text"
+options=
+
 # Lines by other programs: ALSA's subframes, sampled, and a session of sigrok.
 if command -v aplay >/dev/null && command -v sox >/dev/null; then
     sox -n -r 48000 -b 16 -c 2 tone.wav synth 0.2 sine 997
@@ -150,7 +176,7 @@ judge "noise" refused <noise
 judge "nothing" refused </dev/null
 told=$(head -c 3906250 /dev/zero | "$program" --rate 24000000 --at 48000 2>told | tr -d '\n' | wc -c)
 judge "$told cells of a dead line in the time of 1000000" [ "$told" -ge 999999 -a "$told" -le 1000001 ]
-for words in "--bit 8" "--unit 3" "--unit 2 --bit 16" "--at 48000" "--rate 0 --at 48000" "--rate 48000 --at 48000" "--rate x" "--none" "file"; do
+for words in "--tell" "--tell --rate 0" "--bit 8" "--unit 3" "--unit 2 --bit 16" "--at 48000" "--rate 0 --at 48000" "--rate 48000 --at 48000" "--rate x" "--none" "file"; do
     # shellcheck disable=SC2086
     judge "the words $words" wrong_words $words
 done

@@ -15,12 +15,15 @@ fn thousandths(alloc: Global, number: u64) -> Result<String, AllocError> {
 }
 
 /// What was found of a line, for people: the samples a cell, the line's sampling frequency where the
-/// samples' rate is known, and how far edges were from their places.
+/// samples' rate is known, and how far edges were from their places, and where it was dead last.
 pub fn figures_line(
     alloc: Global,
     figures: Figures,
     rate: Option<u64>,
 ) -> Result<String, AllocError> {
+    if figures.measured == 0 {
+        return format!(in alloc; "aes3-cells: {} cells, no line yet\n", figures.cells);
+    }
     let period = figures.period.max(256);
     let length = thousandths(alloc, period.saturating_mul(1000) / 65_536)?;
     let unit = period / 256;
@@ -31,8 +34,13 @@ pub fn figures_line(
         Some(rate) => format!(in alloc; ", {} Hz", rate.saturating_mul(512) / period)?,
         None => String::new(alloc),
     };
+    let latest = if figures.dead == 0 {
+        String::new(alloc)
+    } else {
+        format!(in alloc; ", the latest from sample {}", figures.dead_at)?
+    };
     format!(in alloc;
-        "aes3-cells: {} cells, {length} samples a cell{frequency}, edges {rms} of a cell rms, {most} at most, {} dead stretches, measured {} times\n",
+        "aes3-cells: {} cells, {length} samples a cell{frequency}, edges {rms} of a cell rms, {most} at most, {} dead stretches{latest}, measured {} times\n",
         figures.cells, figures.dead, figures.measured
     )
 }

@@ -15,6 +15,8 @@ pub struct Job {
     pub rate: Option<u64>,
     /// How long a cell is, in parts of a sample.
     pub period: Option<u64>,
+    /// How many samples come between two lines of what was found, where it is told on the way.
+    pub tell_each: Option<u64>,
 }
 
 /// Why words are no job: the text is told.
@@ -40,7 +42,10 @@ const MORE: &str =
     "Reads the samples of a logic analyser or of a pin, one octet each or two, lowest first,
 and writes the cells of the line in one of their bits, as `aes3` reads them. How long
 a cell is is measured, and anew after each stretch without a line, unless --rate and
---at say it. At the end a line on standard error tells what was found.
+--at say it. At the end a line on standard error tells what was found: the samples a
+cell, the line's sampling frequency with --rate, how far edges lie from their places in
+parts of a cell, and how often the line was dead, with the sample at which it was so
+last. With --tell it comes every --rate samples too, and when the line dies.
 
 Exit status:
   0  done
@@ -81,6 +86,12 @@ fn command_line<'a>(alloc: Global) -> Result<Command<'a>, AllocError> {
                 .long("packed-out")
                 .action(ArgAction::SetTrue)
                 .help("Write packed cells, eight an octet"),
+        )?
+        .arg(
+            Arg::new(alloc, "tell")
+                .long("tell")
+                .action(ArgAction::SetTrue)
+                .help("Tell once a second what was found; wants --rate"),
         )?;
     Ok(line)
 }
@@ -129,6 +140,9 @@ fn job_of_matches(alloc: Global, matches: &ArgMatches<'_>) -> Result<Job, LineFa
     if at.is_some() && rate.is_none() {
         return usage(alloc, "--at wants --rate");
     }
+    if matches.get_flag("tell") && rate.unwrap_or(0) == 0 {
+        return usage(alloc, "--tell wants --rate");
+    }
     let period = period_of(rate, at);
     if period.is_none() && at.is_some() {
         return usage(
@@ -146,6 +160,7 @@ fn job_of_matches(alloc: Global, matches: &ArgMatches<'_>) -> Result<Job, LineFa
         unit,
         rate,
         period,
+        tell_each: rate.filter(|_| matches.get_flag("tell")),
     })
 }
 

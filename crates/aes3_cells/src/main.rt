@@ -5,13 +5,13 @@
 mod figures;
 mod line;
 
-ghost use Rattle.std.specs.Prelude.{◌+◌, ◌<◌, ◌^◌, ◌≡◌, IfErr};
+ghost use Rattle.std.specs.Prelude.{◌+◌, ◌<◌, ◌≤◌, ◌^◌, ◌≡◌, IfErr};
 
-use aes3_cell::{BufferedSink, Sink, StdSink, StdSource, write_all};
-use aes3_recovery::{Recovery, Refusal, recover};
+use aes3_cell::{BufferedSink, Sink, Source, StdSink, StdSource, write_all};
+use aes3_recovery::{Progress, Recovery, Refusal, recover};
 use figures::figures_line;
 use line::{Job, LineFault, job_of_words};
-use std::alloc::AllocError;
+use std::alloc::{AllocError, Global};
 use std::env;
 use std::process::ExitCode;
 
@@ -36,8 +36,8 @@ fn main(rt: HostRuntime) -> ExitCode {
 
 /// Runs the command line between the standard streams.
 fn run_program<E: Sink>(rt: &HostRuntime, errors: &mut E) -> Result<u8, AllocError>
-    requires { E.failed errors.old + 1 < 2 ^ 64 }
-    ensures { IfErr result (λ _. E.failed errors.new ≡ E.failed errors.old) }
+    requires { E.failed errors.old + 2 < 2 ^ 64 }
+    ensures { IfErr result (λ _. E.failed errors.new ≤ E.failed errors.old + 1) }
 {
     let Ok(words) = env::args(rt) else {
         return Ok(tell(errors, "aes3-cells: the words are not UTF-8\n", USAGE));
@@ -64,24 +64,72 @@ fn tell<E: Sink>(errors: &mut E, text: &str, status: u8) -> u8
     status
 }
 
+/// Recovers the cells, and tells what was found of the line on the way where that is asked for: no
+/// more once it can't.
+fn recover_telling<E: Sink, S: Source, T: Sink>(
+    alloc: Global,
+    errors: &mut E,
+    source: &mut S,
+    sink: &mut T,
+    job: Job,
+    recovery: &mut Recovery,
+) -> Result<Progress, Refusal>
+    requires errors_room { E.failed errors.old + 1 < 2 ^ 64 }
+    requires source_room { S.failed source.old + 1 < 2 ^ 64 }
+    requires sink_room { T.failed sink.old + 1 < 2 ^ 64 }
+    ensures { E.failed errors.new ≤ E.failed errors.old + 1 }
+{
+    let mut until = job.tell_each;
+    'tells: for _ in 0..u64::MAX {
+        match recover(source, sink, job.unit, recovery, until) {
+            Ok(Progress::Paused) => {}
+            end => return end,
+        }
+        let figures = recovery.figures();
+        let Ok(text) = figures_line(alloc, figures, job.rate) else {
+            return recover(source, sink, job.unit, recovery, None);
+        };
+        match write_all(errors, text.as_bytes()) {
+            Ok(()) => until = next_telling(until, job.tell_each, figures.samples),
+            Err(_) => return recover(source, sink, job.unit, recovery, None),
+        }
+    }
+    recover(source, sink, job.unit, recovery, None)
+}
+
+/// At how many samples it tells again, where it was to at `until` and so many have come.
+fn next_telling(until: Option<u64>, each: Option<u64>, samples: u64) -> Option<u64> {
+    match until {
+        Some(until) if samples >= until => Some(until.saturating_add(each.unwrap_or(u64::MAX))),
+        _ => until,
+    }
+}
+
 /// Recovers the cells, and tells what was found of the line.
 fn run_job<E: Sink>(rt: &HostRuntime, errors: &mut E, job: Job) -> Result<u8, AllocError>
-    requires { E.failed errors.old + 1 < 2 ^ 64 }
-    ensures { IfErr result (λ _. E.failed errors.new ≡ E.failed errors.old) }
+    requires { E.failed errors.old + 2 < 2 ^ 64 }
+    ensures { IfErr result (λ _. E.failed errors.new ≤ E.failed errors.old + 1) }
 {
     let mut sink = BufferedSink::new(rt.alloc(), StdSink::new(rt.stdout().lock()))?;
     let mut source = StdSource::new(rt.stdin().lock());
     let mut recovery = Recovery::new(job.form, job.period);
-    let end = recover(&mut source, &mut sink, job.unit, &mut recovery);
+    let end = recover_telling(
+        rt.alloc(),
+        errors,
+        &mut source,
+        &mut sink,
+        job,
+        &mut recovery,
+    );
     let figures = recovery.figures();
     match end {
-        Ok(()) if figures.measured == 0 => Ok(tell(
+        Ok(_) if figures.measured == 0 => Ok(tell(
             errors,
             "aes3-cells: no line was found in this bit: try another --bit, --unit 2 for sixteen \
              channels, or --rate with --at\n",
             NO_LINE,
         )),
-        Ok(()) => {
+        Ok(_) => {
             let text = figures_line(rt.alloc(), figures, job.rate)?;
             Ok(tell(errors, text.as_str(), 0))
         }

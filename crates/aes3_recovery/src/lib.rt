@@ -12,4 +12,4 @@ pub use levels::Unit;
 pub use measure::{RUNS, follower_of_runs};
 pub use queue::CellQueue;
 pub use recovery::{Figures, Recovery};
-pub use run::{Refusal, recover};
+pub use run::{Progress, Refusal, recover};

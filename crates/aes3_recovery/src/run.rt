@@ -16,6 +16,15 @@ pub enum Refusal {
     Write,
 }
 
+/// How far a run came.
+#[derive(Clone, Copy, PartialEq, Eq, Debug)]
+pub enum Progress {
+    /// The samples have ended.
+    Ended,
+    /// More may come.
+    Paused,
+}
+
 /// How many octets a read asks for.
 const PIECE_LEN: usize = 131_072;
 
@@ -49,28 +58,55 @@ fn feed<T: Sink>(
     recovery.take(sink, levels, (samples as u32).min(len))
 }
 
-/// Reads samples to their end, and writes the cells of the line among them.
+/// How many octets a piece has at most where so many samples are still to come.
+fn piece_len(unit: Unit, left: u64) -> usize
+    ensures some { 1 ≤ result }
+    ensures most { result ≤ 131072 }
+{
+    let samples = left.clamp(1, 131_072) as usize;
+    (samples * unit.len()).min(PIECE_LEN)
+}
+
+/// Whether a run is to pause: at so many samples, or where another stretch was dead.
+fn is_due(figures: Figures, dead: u64, until: Option<u64>) -> bool {
+    match until {
+        Some(until) => figures.samples >= until || figures.dead != dead,
+        None => false,
+    }
+}
+
+/// Reads samples to their end, and writes the cells of the line among them. With `until` it pauses
+/// where so many samples have come in all, and behind the piece in which the line dies, and goes
+/// on when it is called again.
 ///
 /// # Errors
+/// Which end failed.
 pub fn recover<S: Source, T: Sink>(
     source: &mut S,
     sink: &mut T,
     unit: Unit,
     recovery: &mut Recovery,
-) -> Result<(), Refusal>
+    until: Option<u64>,
+) -> Result<Progress, Refusal>
     requires source_room { S.failed source.old + 1 < 2 ^ 64 }
     requires sink_room { T.failed sink.old + 1 < 2 ^ 64 }
+    ensures source_count { IfOk result (λ _. S.failed source.new ≡ S.failed source.old) }
+    ensures sink_count { IfOk result (λ _. T.failed sink.new ≡ T.failed sink.old) }
 {
+    let dead = recovery.figures().dead;
     let mut piece = [0; PIECE_LEN];
     let mut kept = 0;
     'pieces: for _ in 0..u64::MAX {
-        let n = match source.read(&mut piece[kept..]) {
+        let left = until
+            .unwrap_or(u64::MAX)
+            .saturating_sub(recovery.figures().samples);
+        let n = match source.read(&mut piece[kept..piece_len(unit, left)]) {
             Ok(n) => n,
             Err(_) => return Err(Refusal::Read),
         };
         if n == 0 {
             return match recovery.finish(sink) {
-                Ok(()) => Ok(()),
+                Ok(()) => Ok(Progress::Ended),
                 Err(_) => Err(Refusal::Write),
             };
         }
@@ -87,7 +123,9 @@ pub fn recover<S: Source, T: Sink>(
         }
         if kept == 1 {
             piece[0] = piece[len];
+        } else if is_due(recovery.figures(), dead, until) {
+            return Ok(Progress::Paused);
         }
     }
-    Ok(())
+    Ok(Progress::Ended)
 }
