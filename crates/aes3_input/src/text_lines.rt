@@ -145,6 +145,7 @@ fn is_line(text: &[u8]) -> bool {
 /// Whether a line of 64 cells begins at a place of a piece: a line feed stands before it, and a
 /// separator behind it. No promise rests on it: where chunks end there, the lines behind are read
 /// as lines. Chunks of 64 bytes and lines of 65 meet within 65 chunks.
+#[inline(always)]
 pub(crate) fn begins_line(piece: &[u8], at: usize) -> bool
     requires within { at ≤ length piece.now }
 {
