@@ -64,7 +64,7 @@ _aes3() {
         return
     fi
     case ${COMP_WORDS[1]} in
-        decode | normal | check | show | scan | rewrite | to-pcm | from-pcm) [[ $typed == -* ]] || { compopt -o default; return; } ;;
+        decode | normal | check | watch | show | scan | rewrite | to-pcm | from-pcm) [[ $typed == -* ]] || { compopt -o default; return; } ;;
     esac
     case ${COMP_WORDS[1]} in
         encode) _aes3_words --packed-out --help ;;

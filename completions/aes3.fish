@@ -80,8 +80,10 @@ complete -c aes3 -n '__fish_seen_subcommand_from check' -l packed-in -d 'Read pa
 complete -c aes3 -n '__fish_seen_subcommand_from check' -l faults -d 'Leave the whole blocks out'
 complete -c aes3 -n '__fish_seen_subcommand_from check' -l gaps -d 'Tell and count cells in no whole block'
 complete -c aes3 -n '__fish_seen_subcommand_from check' -l help -s h -d 'Print help'
+complete -c aes3 -n '__fish_seen_subcommand_from watch' -F
 complete -c aes3 -n '__fish_seen_subcommand_from watch' -l packed-in -d 'Read packed cells, eight an octet'
 complete -c aes3 -n '__fish_seen_subcommand_from watch' -l help -s h -d 'Print help'
+complete -c aes3 -n '__fish_seen_subcommand_from show' -F
 complete -c aes3 -n '__fish_seen_subcommand_from show' -l packed-in -d 'Read packed cells, eight an octet'
 complete -c aes3 -n '__fish_seen_subcommand_from show' -l changes -d 'Leave out what is as in the block before'
 complete -c aes3 -n '__fish_seen_subcommand_from show' -l help -s h -d 'Print help'

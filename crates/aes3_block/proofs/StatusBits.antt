@@ -1,16 +1,13 @@
 -- The V, U and C bits of a block, read and written frame by frame.
 use mir.Val.{bool_byte}
-use Rattle.std.proofs.Common.{◌≡◌, ℕ, zero, suc, ◌+◌, ◌-◌, ◌*◌, ◌/◌, ◌%◌, ◌^◌, ◌<◌, ◌≤◌, ◌⊎◌, inl, inr, List, [], ◌∷◌}
-use Rattle.std.proofs.Common.{◌++◌, Bool, true, false, cond, eqb, length, take, drop, get_or, set, Some, None, refl}
-use Rattle.std.proofs.Common.{sym, ap, ap₂, ◌∙◌, arith, add-one, length-append}
+use Rattle.std.proofs.Common.{◌≡◌, ℕ, zero, suc, ◌+◌, ◌-◌, ◌*◌, ◌/◌, ◌%◌, ◌^◌, ◌<◌, ◌≤◌, ◌⊎◌, inl, inr, List, [], ◌∷◌, ◌++◌, Bool, true, false, cond, eqb, length, take, drop, get_or, set, Some, None, refl, sym, ap, ap₂, ◌∙◌, arith, add-one, length-append}
 use Rattle.std.specs.Prelude.{slice_get, bit_or, bit_and}
 use Rattle.std.specs.Int.{bit_at}
 use Rattle.std.specs.Int.Bits.{or_shifted_r}
 use Rattle.std.specs.Option.{option_map}
 use Rattle.std.proofs.lemmas.Nat.{shl_whole}
 use Rattle.std.proofs.lemmas.Bool.{cases_lt}
-use Rattle.std.proofs.lemmas.List.{take_more, take_more_set, take_all, length-take-le, get_or-append-add}
-use Rattle.std.proofs.lemmas.List.{get_or_append_left, set-append_right, drop-drop}
+use Rattle.std.proofs.lemmas.List.{take_more, take_more_set, take_all, length-take-le, get_or-append-add, get_or_append_left, set-append_right, drop-drop}
 use Rattle.std.proofs.lemmas.Option.{slice_get-map, slice_get-get_or, slice_get_within, get_or_from_slice_get}
 use Rattle.aes3_slot.specs.Bits.{low_bits, number}
 use Rattle.aes3_slot.proofs.Bits.{length-low_bits, low_bits-at, number-lt, number-push}
@@ -66,8 +63,7 @@ status-set s bit = sym (behind-set s 2 bit)
 twice-suc : (i : ℕ) → 2 * suc i ≡ suc (suc (2 * i))
 twice-suc i = omega arith
 
-pub first-get : (b : List (List Bool)) (i : ℕ) (p : List Bool) → slice_get b (2 * i) ≡ Some p
-    → slice_get (of_channel First b) i ≡ Some p
+pub first-get : (b : List (List Bool)) (i : ℕ) (p : List Bool) → slice_get b (2 * i) ≡ Some p → slice_get (of_channel First b) i ≡ Some p
 first-get [] i p e = cc
 first-get (q ∷ b) zero p e = e
 first-get (q ∷ []) (suc i) p e = let f = twice-suc i in absurd (none (rw f at e))
@@ -76,8 +72,7 @@ first-get (q ∷ []) (suc i) p e = let f = twice-suc i in absurd (none (rw f at 
     none e = cc
 first-get (q ∷ r ∷ b) (suc i) p e = first-get b i p (let f = twice-suc i in rw f at e)
 
-pub second-get : (b : List (List Bool)) (i : ℕ) (p : List Bool) → slice_get b (2 * i + 1) ≡ Some p
-    → slice_get (of_channel Second b) i ≡ Some p
+pub second-get : (b : List (List Bool)) (i : ℕ) (p : List Bool) → slice_get b (2 * i + 1) ≡ Some p → slice_get (of_channel Second b) i ≡ Some p
 second-get [] i p e = cc
 second-get (q ∷ b) i p e = first-get b i p (let f : 2 * i + 1 ≡ suc (2 * i) = omega arith in rw f at e)
 
@@ -89,16 +84,13 @@ bits-get place b channel i p bit e g =
 pub slice_get-drop : {A : Type 0} (n : ℕ) (xs : List A) (j : ℕ) → slice_get (drop n xs) j ≡ slice_get xs (n + j)
 slice_get-drop zero xs j = ap (slice_get xs) (let e : j ≡ 0 + j = omega arith in e)
 slice_get-drop (suc n) [] j = refl
-slice_get-drop (suc n) (x ∷ xs) j = slice_get-drop n xs j
-    ∙ ap (slice_get (x ∷ xs)) (let e : suc (n + j) ≡ suc n + j = omega arith in e)
+slice_get-drop (suc n) (x ∷ xs) j = slice_get-drop n xs j ∙ ap (slice_get (x ∷ xs)) (let e : suc (n + j) ≡ suc n + j = omega arith in e)
 
 -- one more bit of a byte
 take-get : (xs : List Bool) (j : ℕ) (b : Bool) → slice_get xs j ≡ Some b → take (j + 1) xs ≡ take j xs ++ b ∷ []
-take-get xs j b e = take_more xs j false (slice_get_within xs j b e)
-    ∙ ap (λ x. take j xs ++ x ∷ []) (get_or_from_slice_get xs j b false e)
+take-get xs j b e = take_more xs j false (slice_get_within xs j b e) ∙ ap (λ x. take j xs ++ x ∷ []) (get_or_from_slice_get xs j b false e)
 
-pub byte-push : (xs : List Bool) (j byte p : ℕ) (b : Bool) → j < 8 → slice_get xs j ≡ Some b → byte ≡ number (take j xs)
-    → p ≡ bool_byte b
+pub byte-push : (xs : List Bool) (j byte p : ℕ) (b : Bool) → j < 8 → slice_get xs j ≡ Some b → byte ≡ number (take j xs) → p ≡ bool_byte b
     → bit_or byte (p * 2 ^ j % 2 ^ 8) ≡ number (take (j + 1) xs)
 byte-push xs j byte p b h g e q =
     let n : length (take j xs) ≡ j = let w = slice_get_within xs j b g in length-take-le j xs (omega arith) in
@@ -120,21 +112,17 @@ byte-push xs j byte p b h g e q =
     joined false x = omega arith
 
 -- one more byte
-pub bytes-more : (n : ℕ) (bits : List Bool)
-    → bytes_in (suc n) bits ≡ bytes_in n bits ++ number (take 8 (drop (8 * n) bits)) ∷ []
+pub bytes-more : (n : ℕ) (bits : List Bool) → bytes_in (suc n) bits ≡ bytes_in n bits ++ number (take 8 (drop (8 * n) bits)) ∷ []
 bytes-more zero bits = refl
 bytes-more (suc n) bits =
     ap (λ z. number (take 8 bits) ∷ z)
     (bytes-more n (drop 8 bits)
-    ∙ ap (λ x. bytes_in n (drop 8 bits) ++ number (take 8 x) ∷ []) (drop-drop (8 * n) 8 bits
-    ∙ ap (λ k. drop k bits) (let e : 8 + 8 * n ≡ 8 * suc n = omega arith in e)))
+    ∙ ap (λ x. bytes_in n (drop 8 bits) ++ number (take 8 x) ∷ []) (drop-drop (8 * n) 8 bits ∙ ap (λ k. drop k bits) (let e : 8 + 8 * n ≡ 8 * suc n = omega arith in e)))
 
-pub bytes-push : (k v : ℕ) (status : List ℕ) (bits : List Bool) → k < length status → take k status ≡ bytes_in k bits
-    → v ≡ number (take 8 (drop (8 * k) bits))
+pub bytes-push : (k v : ℕ) (status : List ℕ) (bits : List Bool) → k < length status → take k status ≡ bytes_in k bits → v ≡ number (take 8 (drop (8 * k) bits))
     → take (k + 1) (set status k v) ≡ bytes_in (k + 1) bits
 bytes-push k v status bits h e q =
-    take_more_set status k v h ∙ ap₂ (λ x y. x ++ y ∷ []) e q ∙ sym (bytes-more k bits)
-    ∙ ap (λ n. bytes_in n bits) (sym (add-one k))
+    take_more_set status k v h ∙ ap₂ (λ x y. x ++ y ∷ []) e q ∙ sym (bytes-more k bits) ∙ ap (λ n. bytes_in n bits) (sym (add-one k))
 
 pub bytes-all : (k : ℕ) (bytes : List ℕ) (bits : List Bool) → k ≡ 24 → length bytes ≡ 24 → take k bytes ≡ bytes_in k bits → bytes ≡ bytes_in status_len bits
 bytes-all k bytes bits e l h = sym (take_all k bytes (omega arith)) ∙ h ∙ ap (λ n. bytes_in n bits) (e ∙ sym status_len_24)
@@ -142,17 +130,13 @@ bytes-all k bytes bits e l h = sym (take_all k bytes (omega arith)) ∙ h ∙ ap
 -- the bits of bytes by place
 pub length-bits_of_bytes : (bytes : List ℕ) → length (bits_of_bytes bytes) ≡ 8 * length bytes
 length-bits_of_bytes [] = refl
-length-bits_of_bytes (x ∷ bytes) = let l = length-append (low_bits 8 x) (bits_of_bytes bytes) in
-    let i = length-bits_of_bytes bytes in omega arith
+length-bits_of_bytes (x ∷ bytes) = let l = length-append (low_bits 8 x) (bits_of_bytes bytes) in let i = length-bits_of_bytes bytes in omega arith
 
-pub bits-at : (bytes : List ℕ) (i : ℕ) → i < 8 * length bytes
-    → get_or (bits_of_bytes bytes) i false ≡ eqb (bit_at (get_or bytes (i / 8) 0) (i % 8)) 1
+pub bits-at : (bytes : List ℕ) (i : ℕ) → i < 8 * length bytes → get_or (bits_of_bytes bytes) i false ≡ eqb (bit_at (get_or bytes (i / 8) 0) (i % 8)) 1
 bits-at [] i h = absurd (omega arith)
 bits-at (x ∷ bytes) i h = go (cases_lt i 8) (λ l. bits-at bytes (i - 8) (omega arith))
   where
-    go : (i < 8) ⊎ (8 ≤ i)
-        → (8 ≤ i → get_or (bits_of_bytes bytes) (i - 8) false ≡ eqb
-        (bit_at (get_or bytes ((i - 8) / 8) 0) ((i - 8) % 8)) 1)
+    go : (i < 8) ⊎ (8 ≤ i) → (8 ≤ i → get_or (bits_of_bytes bytes) (i - 8) false ≡ eqb (bit_at (get_or bytes ((i - 8) / 8) 0) ((i - 8) % 8)) 1)
         → get_or (low_bits 8 x ++ bits_of_bytes bytes) i false ≡ eqb (bit_at (get_or (x ∷ bytes) (i / 8) 0) (i % 8)) 1
     go (inl l) rest =
         let d : 0 ≡ i / 8 = omega arith in
@@ -163,12 +147,10 @@ bits-at (x ∷ bytes) i h = go (cases_lt i 8) (λ l. bits-at bytes (i - 8) (omeg
         let s : i ≡ 8 + (i - 8) = omega arith in
         let d : suc ((i - 8) / 8) ≡ i / 8 = omega arith in
         let m : (i - 8) % 8 ≡ i % 8 = omega arith in
-        ap (λ n. get_or (low_bits 8 x ++ bits_of_bytes bytes) n false) s
-        ∙ get_or-append-add (low_bits 8 x) (bits_of_bytes bytes) (i - 8) false
+        ap (λ n. get_or (low_bits 8 x ++ bits_of_bytes bytes) n false) s ∙ get_or-append-add (low_bits 8 x) (bits_of_bytes bytes) (i - 8) false
         ∙ rest l ∙ ap₂ (λ n k. eqb (bit_at (get_or (x ∷ bytes) n 0) k) 1) d m
 
-pub bit-of-bytes : (bytes : List ℕ) (i : ℕ) → i < 8 * length bytes
-    → slice_get (bits_of_bytes bytes) i ≡ Some (eqb (bit_and (get_or bytes (i / 8) 0 / 2 ^ (i % 8)) 1) 1)
+pub bit-of-bytes : (bytes : List ℕ) (i : ℕ) → i < 8 * length bytes → slice_get (bits_of_bytes bytes) i ≡ Some (eqb (bit_and (get_or bytes (i / 8) 0 / 2 ^ (i % 8)) 1) 1)
 bit-of-bytes bytes i h =
     slice_get-get_or (bits_of_bytes bytes) i false (let l = length-bits_of_bytes bytes in omega arith)
     ∙ ap Some (bits-at bytes i h ∙ sym (bit-set (get_or bytes (i / 8) 0) (i % 8)))

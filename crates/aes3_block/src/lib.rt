@@ -3,7 +3,9 @@
 
 /// A block: the words of its 384 subframes.
 mod block;
+/// The validity, user and channel status bits of a channel, read and set as 24 bytes.
 mod carried;
+/// The cells of a block, made four subframes at a time.
 mod cells;
 /// Block files as they are read, byte by byte or a block at a time.
 mod file;

@@ -3,7 +3,9 @@
 //! calls; `include/aes3.h` is the header.
 #![tactic(auto)]
 
+/// The validity, user and channel status bits of a block's channel.
 mod bits;
+/// Blocks: their words, bytes and cells.
 mod block;
 /// Words of 64 cells, and their written forms.
 mod cells;

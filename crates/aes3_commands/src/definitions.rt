@@ -90,12 +90,12 @@ impl Name {
         use Argument::*;
         match self {
             Name::Encode => command(alloc, "encode", help::ENCODE, &[PackedOut]),
-            Name::Decode => command(alloc, "decode", help::DECODE, &[PackedIn]),
-            Name::Normal => command(alloc, "normal", help::NORMAL, &[PackedIn, PackedOut]),
-            Name::Check => command(alloc, "check", help::CHECK, &[PackedIn, Faults, Gaps]),
-            Name::Watch => command(alloc, "watch", help::WATCH, &[PackedIn]),
-            Name::Show => command(alloc, "show", help::SHOW, &[PackedIn, Changes]),
-            Name::Scan => command(alloc, "scan", help::SCAN, &[PackedIn]),
+            Name::Decode => command(alloc, "decode", help::DECODE, &[PackedIn, File]),
+            Name::Normal => command(alloc, "normal", help::NORMAL, &[PackedIn, PackedOut, File]),
+            Name::Check => command(alloc, "check", help::CHECK, &[PackedIn, Faults, Gaps, File]),
+            Name::Watch => command(alloc, "watch", help::WATCH, &[PackedIn, File]),
+            Name::Show => command(alloc, "show", help::SHOW, &[PackedIn, Changes, File]),
+            Name::Scan => command(alloc, "scan", help::SCAN, &[PackedIn, File]),
             Name::Cut => command(alloc, "cut", help::CUT, &[PackedIn, PackedOut, From, Count]),
             Name::Rewrite => command(
                 alloc,

@@ -200,7 +200,7 @@ Examples:
 
 pub const WATCH: Texts<'static> = Texts {
     about: "Print where a line locks, is lost, comes back and slips",
-    usage: "aes3 watch [--packed-in] < FILE",
+    usage: "aes3 watch [--packed-in] [FILE]",
     more: "Reads cells, begun anywhere and in either polarity, as long as they come.
 Writes a line only where something changes. P numbers the cells from 0:
   locked at P before L   the first whole block begins at cell P; L is the level before it
