@@ -1,3 +1,4 @@
+mod LaneBits
 pub mod WordBits
 pub mod EndBytes
 pub mod Queueing

@@ -1,6 +1,8 @@
 //! The levels of a line among samples of many.
 
-ghost use Rattle.std.specs.Prelude.{◌≤◌};
+ghost use Rattle.std.specs.Prelude.{ℕ, ◌*◌, ◌<◌, ◌≤◌, ◌≡◌, get_or};
+ghost use Rattle.std.specs.Int.{bit_at};
+ghost use Rattle.aes3_recovery.specs.Levels.{AreLevels};
 
 use std::simd::prelude::*;
 
@@ -27,17 +29,22 @@ impl Unit {
     }
 }
 
-/// Which of 64 octets have any of these bits, the first in the lowest bit.
+/// This bit of each of 64 octets, that of the first in the lowest bit.
 #[inline(always)]
-fn with_bits(octets: &[u8; 64], bits: u8) -> u64 {
-    (u8x64::from_array(*octets) & u8x64::splat(bits))
+fn bits_of(octets: &[u8; 64], bit: u8) -> u64
+    requires within { bit < 8 }
+    ensures { (i : ℕ) → i < 64 → bit_at result i ≡ bit_at (get_or octets.now i 0) bit }
+{
+    (u8x64::from_array(*octets) & u8x64::splat(1 << bit))
         .simd_ne(u8x64::splat(0))
         .to_bitmask()
 }
 
 /// The bits at even places, close together.
 #[inline(always)]
-fn even_bits(word: u64) -> u64 {
+fn even_bits(word: u64) -> u64
+    ensures { (i : ℕ) → i < 32 → bit_at result i ≡ bit_at word (2 * i) }
+{
     let word = word & 0x5555_5555_5555_5555;
     let word = (word | word >> 1) & 0x3333_3333_3333_3333;
     let word = (word | word >> 2) & 0x0f0f_0f0f_0f0f_0f0f;
@@ -46,16 +53,17 @@ fn even_bits(word: u64) -> u64 {
     (word | word >> 16) & 0x0000_0000_ffff_ffff
 }
 
-/// The levels of the samples that 64 octets begin with, the first in the lowest bit, and how many
-/// samples these are.
+/// The levels of the samples that 64 octets are, the first in the lowest bit, and how many samples
+/// these are.
 #[inline(always)]
-pub(crate) fn levels_of(unit: Unit, octets: &[u8; 64]) -> (u64, u32)
-    ensures { result.1 ≤ 64 }
+pub fn levels_of(unit: Unit, octets: &[u8; 64]) -> (u64, u32)
+    ensures few { result.1 ≤ 64 }
+    ensures levels { AreLevels unit octets.now result.0 result.1 }
 {
     match unit {
-        Unit::Octets(bit) => (with_bits(octets, 1 << (bit % 8)), 64),
+        Unit::Octets(bit) => (bits_of(octets, bit % 8), 64),
         Unit::Pairs(bit) => {
-            let found = with_bits(octets, 1 << (bit % 8));
+            let found = bits_of(octets, bit % 8);
             (even_bits(if bit < 8 { found } else { found >> 1 }), 32)
         }
     }

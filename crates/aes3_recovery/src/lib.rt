@@ -8,7 +8,7 @@ mod queue;
 mod recovery;
 mod run;
 
-pub use levels::Unit;
+pub use levels::{Unit, levels_of};
 pub use measure::{RUNS, follower_of_runs};
 pub use queue::CellQueue;
 pub use recovery::{Figures, Recovery};

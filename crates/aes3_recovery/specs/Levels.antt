@@ -1,0 +1,30 @@
+-- The levels of one line among samples of many.
+use Rattle.std.specs.Prelude.{ℕ, List, ◌+◌, ◌*◌, ◌/◌, ◌<◌, ◌≡◌, get_or, length}
+use Rattle.std.specs.Int.{bit_at}
+use Rattle.aes3_recovery.specs.declared.levels.Unit.{Unit}
+use Rattle.aes3_recovery.specs.declared.levels.Unit.TheVariants.{Octets, Pairs}
+
+-- how many samples so many octets are
+abbrev pub samples_in : Unit → ℕ → ℕ
+samples_in (Octets bit) n = n
+samples_in (Pairs bit) n = n / 2
+
+-- sample i: an octet, or two with the lower first
+abbrev pub sample_of : Unit → List ℕ → ℕ → ℕ
+sample_of (Octets bit) octets i = get_or octets i 0
+sample_of (Pairs bit) octets i = get_or octets (2 * i) 0 + 256 * get_or octets (2 * i + 1) 0
+
+-- the bit of a sample that is the line, and how many bits a sample has
+abbrev pub bit_of_line : Unit → ℕ
+bit_of_line (Octets bit) = bit
+bit_of_line (Pairs bit) = bit
+
+abbrev pub bits_of_sample : Unit → ℕ
+bits_of_sample (Octets bit) = 8
+bits_of_sample (Pairs bit) = 16
+
+-- bit i of a word is the level of the line in sample i, and there is one for each sample
+pub record AreLevels (unit : Unit) (octets : List ℕ) (word len : ℕ) : Type 0 where
+  pub count : len ≡ samples_in unit (length octets)
+  pub each : bit_of_line unit < bits_of_sample unit → (i : ℕ) → i < len
+      → bit_at word i ≡ bit_at (sample_of unit octets i) (bit_of_line unit)
