@@ -68,32 +68,32 @@ complete -c aes3 -n __fish_use_subcommand -a to-pcm -d 'Write the samples of the
 complete -c aes3 -n __fish_use_subcommand -a from-pcm -d 'Write a block file of samples'
 complete -c aes3 -n '__fish_seen_subcommand_from encode' -l packed-out -d 'Write packed cells, eight an octet'
 complete -c aes3 -n '__fish_seen_subcommand_from encode' -l help -s h -d 'Print help'
-complete -c aes3 -n '__fish_seen_subcommand_from decode' -F
+complete -c aes3 -n "__fish_seen_subcommand_from decode; and not string match -q -- '-*' (commandline -ct)" -F
 complete -c aes3 -n '__fish_seen_subcommand_from decode' -l packed-in -d 'Read packed cells, eight an octet'
 complete -c aes3 -n '__fish_seen_subcommand_from decode' -l help -s h -d 'Print help'
-complete -c aes3 -n '__fish_seen_subcommand_from normal' -F
+complete -c aes3 -n "__fish_seen_subcommand_from normal; and not string match -q -- '-*' (commandline -ct)" -F
 complete -c aes3 -n '__fish_seen_subcommand_from normal' -l packed-in -d 'Read packed cells, eight an octet'
 complete -c aes3 -n '__fish_seen_subcommand_from normal' -l packed-out -d 'Write packed cells, eight an octet'
 complete -c aes3 -n '__fish_seen_subcommand_from normal' -l help -s h -d 'Print help'
-complete -c aes3 -n '__fish_seen_subcommand_from check' -F
+complete -c aes3 -n "__fish_seen_subcommand_from check; and not string match -q -- '-*' (commandline -ct)" -F
 complete -c aes3 -n '__fish_seen_subcommand_from check' -l packed-in -d 'Read packed cells, eight an octet'
 complete -c aes3 -n '__fish_seen_subcommand_from check' -l faults -d 'Leave the whole blocks out'
 complete -c aes3 -n '__fish_seen_subcommand_from check' -l gaps -d 'Tell and count cells in no whole block'
 complete -c aes3 -n '__fish_seen_subcommand_from check' -l help -s h -d 'Print help'
-complete -c aes3 -n '__fish_seen_subcommand_from watch' -F
+complete -c aes3 -n "__fish_seen_subcommand_from watch; and not string match -q -- '-*' (commandline -ct)" -F
 complete -c aes3 -n '__fish_seen_subcommand_from watch' -l packed-in -d 'Read packed cells, eight an octet'
 complete -c aes3 -n '__fish_seen_subcommand_from watch' -l help -s h -d 'Print help'
-complete -c aes3 -n '__fish_seen_subcommand_from show' -F
+complete -c aes3 -n "__fish_seen_subcommand_from show; and not string match -q -- '-*' (commandline -ct)" -F
 complete -c aes3 -n '__fish_seen_subcommand_from show' -l packed-in -d 'Read packed cells, eight an octet'
 complete -c aes3 -n '__fish_seen_subcommand_from show' -l changes -d 'Leave out what is as in the block before'
 complete -c aes3 -n '__fish_seen_subcommand_from show' -l help -s h -d 'Print help'
-complete -c aes3 -n '__fish_seen_subcommand_from scan' -F
+complete -c aes3 -n "__fish_seen_subcommand_from scan; and not string match -q -- '-*' (commandline -ct)" -F
 complete -c aes3 -n '__fish_seen_subcommand_from scan' -l packed-in -d 'Read packed cells, eight an octet'
 complete -c aes3 -n '__fish_seen_subcommand_from scan' -l help -s h -d 'Print help'
 complete -c aes3 -n '__fish_seen_subcommand_from cut' -l packed-in -d 'Read packed cells, eight an octet'
 complete -c aes3 -n '__fish_seen_subcommand_from cut' -l packed-out -d 'Write packed cells, eight an octet'
 complete -c aes3 -n '__fish_seen_subcommand_from cut' -l help -s h -d 'Print help'
-complete -c aes3 -n '__fish_seen_subcommand_from rewrite' -F
+complete -c aes3 -n "__fish_seen_subcommand_from rewrite; and not string match -q -- '-*' (commandline -ct)" -F
 complete -c aes3 -n '__fish_seen_subcommand_from rewrite' -l packed-in -d 'Read packed cells, eight an octet'
 complete -c aes3 -n '__fish_seen_subcommand_from rewrite' -l packed-out -d 'Write packed cells, eight an octet'
 complete -c aes3 -n '__fish_seen_subcommand_from rewrite' -l status1 -x -d 'The status of channel 1, in hexadecimal'
@@ -102,10 +102,10 @@ complete -c aes3 -n '__fish_seen_subcommand_from rewrite' -l set1 -x -a '(__aes3
 complete -c aes3 -n '__fish_seen_subcommand_from rewrite' -l set2 -x -a '(__aes3_setting)' -d 'A field of channel 2 as `show` prints it; may be repeated'
 complete -c aes3 -n '__fish_seen_subcommand_from rewrite' -l mend-check -d 'Write the check byte that professional status asks for'
 complete -c aes3 -n '__fish_seen_subcommand_from rewrite' -l help -s h -d 'Print help'
-complete -c aes3 -n '__fish_seen_subcommand_from to-pcm' -F
+complete -c aes3 -n "__fish_seen_subcommand_from to-pcm; and not string match -q -- '-*' (commandline -ct)" -F
 complete -c aes3 -n '__fish_seen_subcommand_from to-pcm' -l packed-in -d 'Read packed cells, eight an octet'
 complete -c aes3 -n '__fish_seen_subcommand_from to-pcm' -l help -s h -d 'Print help'
-complete -c aes3 -n '__fish_seen_subcommand_from from-pcm' -F
+complete -c aes3 -n "__fish_seen_subcommand_from from-pcm; and not string match -q -- '-*' (commandline -ct)" -F
 complete -c aes3 -n '__fish_seen_subcommand_from from-pcm' -l status1 -x -d 'The status of channel 1, in hexadecimal'
 complete -c aes3 -n '__fish_seen_subcommand_from from-pcm' -l status2 -x -d 'The status of channel 2, in hexadecimal'
 complete -c aes3 -n '__fish_seen_subcommand_from from-pcm' -l set1 -x -a '(__aes3_setting)' -d 'A field of channel 1 as `show` prints it; may be repeated'
