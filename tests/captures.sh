@@ -170,7 +170,7 @@ fi
 
 # What is no line, and no command line.
 head -c 3000000 /dev/zero >dead
-head -c 3000000 /dev/urandom >noise
+"$python" -c 'import random, sys; sys.stdout.buffer.write(random.Random(1).randbytes(3000000))' >noise
 judge "a dead line" refused <dead
 judge "noise" refused <noise
 judge "nothing" refused </dev/null
