@@ -1,0 +1,274 @@
+//! Fronts of words of cells, up to the first cell that decides a report.
+ghost use Rattle.std.specs.Prelude.{◌≡◌, ◌≢◌, ◌<◌, ◌≤◌, ◌+◌, ◌-◌, ◌^◌, None, Some};
+ghost use Rattle.std.specs.Prelude.{List, [], ◌∷◌, ◌++◌, drop, length, option_map, option_to_list};
+ghost use Rattle.aes3_cell.specs.declared.level.Level.{Level};
+ghost use Rattle.aes3_cell.specs.Words.{low_cells, word_cells};
+ghost use Rattle.aes3_lock.specs.Reports.{decided};
+ghost use Rattle.aes3_lock.specs.Following.{Follows, Stops, report_in};
+ghost use Rattle.aes3_lock.specs.Outcomes.{why_of};
+ghost use Rattle.aes3_lock.specs.Steps.{begun};
+ghost use Rattle.aes3_lock.specs.declared.report.Ending.TheVariants.{Fault};
+
+use crate::candidate::Candidate;
+use crate::lock::Lock;
+use crate::outcome::{ending_at, refutation};
+use crate::recent::{PREAMBLE_CELLS, candidate_in, last_cell, with_cell};
+use crate::report::{Ending, Pushed, Report};
+use crate::subframe::{completed, first_cell, first_of, last_behind, last_of, rest_of, with_next};
+use aes3_block::{BLOCK_CELLS, mark_of};
+use aes3_cell::Level;
+use aes3_slot::{SUBFRAME_CELLS, block_preambles, wrong_cells};
+use arrayvec::ArrayVec;
+
+impl Lock {
+    /// Takes the first `len` cells of a word into the last eight.
+    fn count(&mut self, word: u64, len: u32)
+        requires room { self.old.seen + len ≤ 2 ^ 43 }
+        requires len { len ≤ 64 }
+        ensures seen { self.new.seen ≡ self.old.seen + len }
+        ensures recent { self.new.recent ≡ drop len (self.old.recent ++ low_cells len word) }
+        ensures candidate { self.new.candidate ≡ self.old.candidate }
+        ensures subframe { self.new.subframe ≡ self.old.subframe }
+        ensures words { self.new.words ≡ self.old.words }
+    {
+        self.seen += u64::from(len);
+        self.recent = last_behind(self.recent, word, len);
+    }
+
+    /// Takes the first cells of a word, at most `len`, up to the first with which the preamble of a
+    /// block ends, where no candidate is in hand. Answers how many.
+    #[inline(always)]
+    fn search(&mut self, word: u64, len: u32) -> u32
+        requires room { self.old.seen + len ≤ 2 ^ 43 }
+        requires len { len ≤ 64 }
+        requires some { 0 < len }
+        requires searching { self.old.candidate ≡ None }
+        ensures some { 0 < result }
+        ensures within { result ≤ len }
+        ensures seen { self.new.seen ≡ self.old.seen + result }
+        ensures follows { (cells : List Level) → Follows self.old cells
+            → Follows self.new (cells ++ low_cells result word) }
+        ensures none { (cells : List Level) → Follows self.old cells
+            → decided (cells ++ low_cells result word) ≡ decided cells }
+    {
+        let cells = completed(u64::from(self.recent >> 1), PREAMBLE_CELLS - 1, word);
+        let begun = block_preambles(cells, rest_of(word, PREAMBLE_CELLS - 1));
+        let taken = (begun.trailing_zeros() + 1).min(len);
+        self.count(word, taken);
+        self.candidate = candidate_in(self.seen, self.recent);
+        self.subframe = u64::from(self.recent);
+        taken
+    }
+
+    /// Takes a cell that ends the candidate in hand, and answers what it makes of it.
+    fn stop(&mut self, cell: Level) -> Ending
+        requires room { self.old.seen < 2 ^ 43 }
+        requires in_hand { self.old.candidate ≢ None }
+        ensures seen { self.new.seen ≡ self.old.seen + 1 }
+        ensures follows { (cells : List Level) → Follows self.old cells → Stops self.old cell
+            → Follows self.new (cells ++ cell ∷ []) }
+        ensures report { (cells : List Level) → Follows self.old cells → Stops self.old cell
+            → decided (cells ++ cell ∷ []) ≡ decided cells ++ report_in self.new result ∷ [] }
+    {
+        let Some(candidate) = self.candidate else {
+            unreachable!();
+        };
+        let previous = last_cell(self.recent);
+        let offset = self.seen - candidate.at;
+        let ending = ending_at(candidate, offset, cell, previous, &self.words);
+        self.recent = with_cell(self.recent, cell);
+        self.seen += 1;
+        self.candidate = candidate_in(self.seen, self.recent);
+        self.subframe = u64::from(self.recent);
+        ending
+    }
+
+    /// Takes the first `right` cells of a word, which go on with the candidate in hand, and the one
+    /// behind them, which can't stand where it is.
+    #[inline(always)]
+    fn refute(&mut self, candidate: Candidate, word: u64, right: u32) -> Pushed
+        requires room { self.old.seen + right + 1 ≤ 2 ^ 43 }
+        requires right { right < 64 }
+        requires behind { candidate.at ≤ self.old.seen }
+        ensures taken { result.taken ≡ right + 1 }
+        ensures ending { result.ending ≡ Some (Fault candidate.at (self.old.seen + right)
+            (why_of (self.old.seen + right - candidate.at))) }
+        ensures seen { self.new.seen ≡ self.old.seen + (right + 1) }
+        ensures recent { self.new.recent
+            ≡ drop (right + 1) (self.old.recent ++ low_cells (right + 1) word) }
+        ensures candidate { self.new.candidate ≡ begun self.new.seen self.new.recent }
+        ensures subframe { low_cells 8 self.new.subframe ≡ self.new.recent }
+        ensures few { self.new.subframe < 2 ^ 8 }
+        ensures words { self.new.words ≡ self.old.words }
+    {
+        let cell = self.seen + u64::from(right);
+        self.count(word, right + 1);
+        self.candidate = candidate_in(self.seen, self.recent);
+        self.subframe = u64::from(self.recent);
+        Pushed {
+            taken: right + 1,
+            ending: Some(refutation(candidate.at, cell)),
+        }
+    }
+
+    /// Takes the first cells of a word, at most `len`, up to the end of the subframe in hand, or up
+    /// to the first that ends the candidate in hand and with it.
+    #[inline(always)]
+    fn go_on(&mut self, candidate: Candidate, word: u64, len: u32) -> Pushed
+        requires room { self.old.seen + len ≤ 2 ^ 43 }
+        requires len { len ≤ 64 }
+        requires some { 0 < len }
+        requires in_hand { self.old.candidate ≡ Some candidate }
+        ensures some { 0 < result.taken }
+        ensures within { result.taken ≤ len }
+        ensures seen { self.new.seen ≡ self.old.seen + result.taken }
+        ensures follows { (cells : List Level) → Follows self.old cells
+            → Follows self.new (cells ++ low_cells result.taken word) }
+        ensures report { (cells : List Level) → Follows self.old cells
+            → decided (cells ++ low_cells result.taken word) ≡ decided cells
+            ++ option_to_list (option_map (report_in self.new) result.ending) }
+        ensures last { result.ending ≢ None → (cells : List Level) → Follows self.old cells
+            → decided (cells ++ low_cells (result.taken - 1) word) ≡ decided cells }
+    {
+        let offset = self.seen - candidate.at;
+        if offset >= BLOCK_CELLS {
+            let ending = self.stop(first_cell(word));
+            return Pushed::one(ending);
+        }
+        let slot = offset / SUBFRAME_CELLS;
+        let begun = offset % SUBFRAME_CELLS;
+        let cells = completed(self.subframe, begun, word);
+        let wrong = wrong_cells(candidate.level, mark_of(slot), cells) >> begun;
+        let right = wrong.trailing_zeros();
+        let taken = len.min((SUBFRAME_CELLS - begun) as u32);
+        if right < taken {
+            return self.refute(candidate, word, right);
+        }
+        self.count(word, taken);
+        let end = begun + u64::from(taken);
+        if end < SUBFRAME_CELLS {
+            self.subframe = first_of(cells, end);
+            return Pushed::quiet(taken);
+        }
+        self.words.keep(slot as usize, candidate.level, cells);
+        self.subframe = 0;
+        self.candidate = Some(Candidate {
+            at: candidate.at,
+            before: candidate.before,
+            level: last_of(cells),
+        });
+        Pushed::quiet(taken)
+    }
+
+    /// Takes the first cells of a word, at most `len`, as far as `search` or `go_on` does.
+    #[inline(always)]
+    fn step(&mut self, word: u64, len: u32) -> Pushed
+        requires room { self.old.seen + len ≤ 2 ^ 43 }
+        requires len { len ≤ 64 }
+        requires some { 0 < len }
+        ensures some { 0 < result.taken }
+        ensures within { result.taken ≤ len }
+        ensures seen { self.new.seen ≡ self.old.seen + result.taken }
+        ensures follows { (cells : List Level) → Follows self.old cells
+            → Follows self.new (cells ++ low_cells result.taken word) }
+        ensures report { (cells : List Level) → Follows self.old cells
+            → decided (cells ++ low_cells result.taken word) ≡ decided cells
+            ++ option_to_list (option_map (report_in self.new) result.ending) }
+        ensures last { result.ending ≢ None → (cells : List Level) → Follows self.old cells
+            → decided (cells ++ low_cells (result.taken - 1) word) ≡ decided cells }
+    {
+        match self.candidate {
+            None => Pushed::quiet(self.search(word, len)),
+            Some(candidate) => self.go_on(candidate, word, len),
+        }
+    }
+
+    /// Takes the first cells of a word, the first of all in the lowest bit, up to the first that
+    /// decides a report and with it, and at most `len`.
+    ///
+    /// It is `push` for each of these cells, but makes no report: `report` does, until more cells
+    /// are taken.
+    // Inlined, and so is what it stands on, as it answers every few cells where many candidates
+    // begin.
+    #[inline(always)]
+    pub fn push_front(&mut self, word: u64, len: u32) -> Pushed
+        requires room { self.old.seen + len ≤ 2 ^ 43 }
+        requires len { len ≤ 64 }
+        ensures within { result.taken ≤ len }
+        ensures all { result.ending ≡ None → result.taken ≡ len }
+        ensures some { 0 < len → 0 < result.taken }
+        ensures seen { self.new.seen ≡ self.old.seen + result.taken }
+        ensures follows { (cells : List Level) → Follows self.old cells
+            → Follows self.new (cells ++ low_cells result.taken word) }
+        ensures report { (cells : List Level) → Follows self.old cells
+            → decided (cells ++ low_cells result.taken word) ≡ decided cells
+            ++ option_to_list (option_map (report_in self.new) result.ending) }
+        ensures last { result.ending ≢ None → (cells : List Level) → Follows self.old cells
+            → decided (cells ++ low_cells (result.taken - 1) word) ≡ decided cells }
+    {
+        let mut taken = 0;
+        while taken < len {
+            let pushed = self.step(word >> taken, len - taken);
+            taken += pushed.taken;
+            if pushed.ending.is_some() {
+                return Pushed {
+                    taken,
+                    ending: pushed.ending,
+                };
+            }
+        }
+        Pushed::quiet(taken)
+    }
+
+    /// Adds the report of an ending, if there is one, where there is room.
+    fn tell(&self, ending: Option<Ending>, out: &mut ArrayVec<Report, 16>)
+        ensures { length out.old.items < 16
+            → out.new.items ≡ out.old.items ++ option_to_list
+            (option_map (report_in self.now) ending) }
+    {
+        if let Some(ending) = ending
+            && !out.is_full()
+        {
+            out.push(self.report(ending));
+        }
+    }
+
+    /// Takes the 64 cells of a word, the first in the lowest bit, and puts the reports that they
+    /// decide.
+    ///
+    /// It is `push` for each of these cells. There are fourteen at most, since candidates are at
+    /// least five cells apart.
+    pub fn push_word(&mut self, word: u64, out: &mut ArrayVec<Report, 16>)
+        requires room { self.old.seen + 64 ≤ 2 ^ 43 }
+        requires empty { out.old.items ≡ [] }
+        ensures seen { self.new.seen ≡ self.old.seen + 64 }
+        ensures follows { (cells : List Level) → Follows self.old cells
+            → Follows self.new (cells ++ word_cells word) }
+        ensures reports { (cells : List Level) → Follows self.old cells
+            → decided (cells ++ word_cells word) ≡ decided cells ++ out.new.items }
+        ensures few { (cells : List Level) → Follows self.old cells → length out.new.items ≤ 14 }
+    {
+        let mut taken = 0;
+        while taken < 64 {
+            let pushed = self.push_front(word >> taken, 64 - taken);
+            self.tell(pushed.ending, out);
+            taken += pushed.taken;
+        }
+    }
+
+    /// Takes the next cell, and answers the report that it decides.
+    pub fn push(&mut self, cell: Level) -> Option<Report>
+        requires { self.old.seen < 2 ^ 43 }
+        ensures seen { self.new.seen ≡ self.old.seen + 1 }
+        ensures follows { (cells : List Level) → Follows self.old cells
+            → Follows self.new (cells ++ cell ∷ []) }
+        ensures report { (cells : List Level) → Follows self.old cells
+            → decided (cells ++ cell ∷ []) ≡ decided cells ++ option_to_list result }
+    {
+        let pushed = self.push_front(with_next(0, 0, cell), 1);
+        match pushed.ending {
+            Some(ending) => Some(self.report(ending)),
+            None => None,
+        }
+    }
+}
