@@ -9,10 +9,11 @@ use Rattle.std.proofs.Math.Nat.{pow-succ', div-add-mod, mul_comm}
 use Rattle.std.proofs.lemmas.Nat.{shl_whole}
 use Rattle.std.proofs.lemmas.Nat.Bits.{bit_at_cat_low, shr_and_one}
 use Rattle.std.proofs.lemmas.List.{take_at}
-use Rattle.aes3_slot.specs.Bits.{low_bits, odd_ones}
+use Rattle.aes3_bits.specs.Bits.{low_bits, odd_ones}
 use Rattle.aes3_slot.specs.Slots.{payload_len, slots_len, payload_bits, slots_bits, with_parity}
-use Rattle.aes3_slot.proofs.Bits.{low_bits-suc, low_bits-same, low_bits-above, low_bits-with_parity, length-low_bits}
-use Rattle.aes3_slot.proofs.Bits.{odd_ones-low_bits}
+use Rattle.aes3_bits.proofs.Bits.{low_bits-suc, low_bits-same, low_bits-above, length-low_bits}
+use Rattle.aes3_bits.proofs.Bits.{low_bits-with_parity}
+use Rattle.aes3_bits.proofs.Bits.{odd_ones-low_bits}
 use Rattle.aes3_slot.proofs.Subframes.{odd_ones-with_parity}
 use Rattle.aes3_block.specs.Files.{has_parity, is_lawful, payload_of}
 use Rattle.aes3_slot.proofs.Parity.{last-is}

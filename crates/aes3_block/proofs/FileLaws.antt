@@ -3,9 +3,9 @@ use Rattle.std.proofs.Common.{◌≡◌, ℕ, suc, ◌*◌, ◌/◌, ◌%◌, �
 use Rattle.std.proofs.Common.{length, map, refl, sym, ap, ap₂, ◌∙◌, subst, arith, append_assoc, length-append, eq-eqb}
 use Rattle.std.specs.List.{flat_map, All}
 use Rattle.std.proofs.lemmas.List.{length-map, take_at, drop_at}
-use Rattle.aes3_slot.specs.Bits.{low_bits, number, odd_ones}
+use Rattle.aes3_bits.specs.Bits.{low_bits, number, odd_ones}
 use Rattle.aes3_slot.specs.Slots.{IsPayload, payload_bits, slots_len, slots_bits, with_parity}
-use Rattle.aes3_slot.proofs.Bits.{number-lt, low_bits-number}
+use Rattle.aes3_bits.proofs.Bits.{number-lt, low_bits-number}
 use Rattle.aes3_slot.proofs.Subframes.{odd_ones-with_parity, length-with_parity}
 use Rattle.aes3_block.specs.Blocks.{block_slots, IsBlock}
 use Rattle.aes3_block.specs.Files.{word_of, word_bytes, words_of, block_bytes, file, has_code, is_lawful, payload_of}

@@ -8,9 +8,9 @@ use Rattle.std.proofs.lemmas.Bool.{and_parts}
 use Rattle.std.proofs.lemmas.Grind.{flat_map-append}
 use Rattle.std.proofs.lemmas.List.{take_more}
 use Rattle.std.proofs.lemmas.Slice.{take-put_mid}
-use Rattle.aes3_slot.specs.Bits.{number}
+use Rattle.aes3_bits.specs.Bits.{number}
 use Rattle.aes3_slot.specs.Slots.{slots_len, slots_bits}
-use Rattle.aes3_slot.proofs.Bits.{number-low_bits}
+use Rattle.aes3_bits.proofs.Bits.{number-low_bits}
 use Rattle.aes3_block.specs.Files.{word_of, word_bytes, block_bytes, has_code, has_parity, is_lawful, payload_of}
 use Rattle.aes3_block.proofs.BitLemmas.{lawful-slots}
 

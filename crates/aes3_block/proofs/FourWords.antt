@@ -10,10 +10,11 @@ use Rattle.std.proofs.lemmas.Nat.Bits.{bit_at_cat_low, bit_at_cat_high, bit_at_a
 use Rattle.std.proofs.lemmas.Simd.{pick_l_left, get_or_wider, get_or_narrower}
 use Rattle.aes3_cell.specs.Words.{word_cells, word_len}
 use Rattle.aes3_cell.proofs.Moves.{Gathers, masked, with_above, in_place, any_of, any_of-one, same_places, same_places-is, bit_at-shr}
-use Rattle.aes3_slot.specs.Bits.{odd_ones}
+use Rattle.aes3_bits.specs.Bits.{odd_ones}
 use Rattle.aes3_slot.specs.Slots.{payload_len, slots_len, slots_bits}
 use Rattle.aes3_slot.specs.ReadWords.{read_word}
 use Rattle.aes3_slot.proofs.ReadWords.{slots-read}
+use Rattle.aes3_slot.proofs.Spread.{octet-bit}
 use Rattle.aes3_block.specs.Files.{is_lawful, payload_of}
 use Rattle.aes3_block.specs.Gathered.{with_first}
 use Rattle.aes3_block.proofs.BitLemmas.{even-lawful}
@@ -48,13 +49,6 @@ apart-bits {d} {x} g i h =
     ∙ ap (bit_at d) (let e : 2 * (i + 4) ≡ 8 + 2 * i = omega arith in e) ∙ sym (bit_at-shr d 8 (2 * i))
 
 -- the bits of numbers of octets
-octet-bit : (w m i : ℕ) → i < 8 → bit_at (w / 2 ^ m % 256) i ≡ bit_at w (m + i)
-octet-bit w m i h =
-    sym (bit_at_cat_low (w / 2 ^ m / 256) 8 (w / 2 ^ m % 256) i h) ∙ ap (λ v. bit_at v i) (whole (w / 2 ^ m)) ∙ bit_at-shr w m i
-  where
-    whole : (y : ℕ) → y / 256 * 2 ^ 8 + y % 256 ≡ y
-    whole y = omega arith
-
 low-octet : (x rest i : ℕ) → i < 8 → bit_at (x + 256 * rest) i ≡ bit_at x i
 low-octet x rest i h = ap (λ v. bit_at v i) (let e : x + 256 * rest ≡ rest * 2 ^ 8 + x = omega arith in e) ∙ bit_at_cat_low rest 8 x i h
 

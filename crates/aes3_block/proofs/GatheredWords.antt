@@ -12,7 +12,7 @@ use Rattle.aes3_cell.specs.Cells.{line, other}
 use Rattle.aes3_cell.proofs.ManyWords.{words-more}
 use Rattle.aes3_cell.specs.Words.{word_cells}
 use Rattle.aes3_slot.specs.declared.mark.Mark.{Mark}
-use Rattle.aes3_slot.specs.Bits.{odd_ones}
+use Rattle.aes3_bits.specs.Bits.{odd_ones}
 use Rattle.aes3_slot.specs.Slots.{payload_len, with_parity}
 use Rattle.aes3_slot.specs.Reading.{read_bits, same}
 use Rattle.aes3_slot.specs.ReadWords.{read_word, read_words}

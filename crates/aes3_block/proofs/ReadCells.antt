@@ -11,7 +11,7 @@ use Rattle.aes3_cell.specs.declared.level.Level.TheVariants.{Low, High}
 use Rattle.aes3_cell.specs.Cells.{line, other}
 use Rattle.aes3_cell.specs.Words.{level_of, low_cells, word_cells, word_len}
 use Rattle.aes3_slot.specs.declared.mark.Mark.{Mark}
-use Rattle.aes3_slot.specs.Bits.{odd_ones}
+use Rattle.aes3_bits.specs.Bits.{odd_ones}
 use Rattle.aes3_slot.specs.Slots.{payload_len, slots_len, slot_runs, subframe_runs, with_parity, IsPayload}
 use Rattle.aes3_slot.specs.Reading.{differs, read_bits}
 use Rattle.aes3_slot.specs.ReadWords.{read_word, read_words}

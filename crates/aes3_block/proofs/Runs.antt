@@ -13,7 +13,7 @@ use Rattle.aes3_cell.proofs.ManyWords.{words-more}
 use Rattle.aes3_cell.proofs.Runs.{line-append, after-append}
 use Rattle.aes3_slot.specs.declared.mark.Mark.{Mark}
 use Rattle.aes3_slot.specs.Slots.{IsPayload, payload_len, slots_bits, slot_runs, subframe_runs, with_parity, runs_of}
-use Rattle.aes3_slot.proofs.Bits.{length-low_bits}
+use Rattle.aes3_bits.proofs.Bits.{length-low_bits}
 use Rattle.aes3_slot.proofs.Subframes.{after-subframe, length-subframe}
 use Rattle.aes3_block.specs.Blocks.{mark_at, block_runs, block_cells}
 use Rattle.aes3_block.specs.Files.{has_code, has_parity, is_lawful, payload_of}

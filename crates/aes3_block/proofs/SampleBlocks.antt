@@ -6,9 +6,9 @@ use Rattle.std.specs.List.{flat_map, All}
 use Rattle.std.proofs.lemmas.Grind.{flat_map-append}
 use Rattle.std.proofs.lemmas.List.{length-map, length-replicate, length-take-le, take_at, take-append-le}
 use Rattle.std.proofs.lemmas.List.{drop-append-le, take-append-drop, take-set-le, nil_from_length, take_all}
-use Rattle.aes3_slot.specs.Bits.{low_bits, number}
+use Rattle.aes3_bits.specs.Bits.{low_bits, number}
 use Rattle.aes3_slot.specs.Slots.{payload_len, payload_bits}
-use Rattle.aes3_slot.proofs.Bits.{low_bits-add, length-low_bits, number-low_bits}
+use Rattle.aes3_bits.proofs.Bits.{low_bits-add, length-low_bits, number-low_bits}
 use Rattle.aes3_block.specs.declared.status.Channel.{Channel}
 use Rattle.aes3_block.specs.declared.status.Channel.TheVariants.{First, Second}
 use Rattle.aes3_block.specs.Blocks.{block_slots, IsBlock}

@@ -1,9 +1,9 @@
 -- Samples and the words that carry them.
 use Rattle.std.proofs.Common.{◌≡◌, ℕ, ◌*◌, ◌/◌, ◌%◌, ◌^◌, ◌<◌, List, length, map, take, get_or, sym, ap, ◌∙◌, arith}
 use Rattle.std.proofs.lemmas.List.{take_at, get_or-map, length-map}
-use Rattle.aes3_slot.specs.Bits.{low_bits, number}
+use Rattle.aes3_bits.specs.Bits.{low_bits, number}
 use Rattle.aes3_slot.specs.Slots.{payload_len, payload_bits}
-use Rattle.aes3_slot.proofs.Bits.{low_bits-add, length-low_bits, number-low_bits}
+use Rattle.aes3_bits.proofs.Bits.{low_bits-add, length-low_bits, number-low_bits}
 use Rattle.aes3_block.specs.Files.{payload_of}
 use Rattle.aes3_block.specs.Samples.{sample_of}
 use Rattle.aes3_block.specs.Subframes.{audio_len}

@@ -8,11 +8,11 @@ use Rattle.std.proofs.lemmas.List.{length-map, ext_get_or, get_or-map, get_or-se
 use Rattle.std.proofs.lemmas.Simd.{map-map}
 use Rattle.aes3_cell.specs.Words.{level_of, low_cells, word_cells, word_len}
 use Rattle.aes3_cell.proofs.WordCells.{drop-low_cells}
-use Rattle.aes3_slot.specs.Bits.{low_bits, odd_ones}
+use Rattle.aes3_bits.specs.Bits.{low_bits, odd_ones}
 use Rattle.aes3_slot.specs.Slots.{payload_len, payload_bits, slots_len, slots_bits}
 use Rattle.aes3_slot.specs.Reading.{differs, read_bits}
 use Rattle.aes3_slot.specs.ReadWords.{read_word, read_words}
-use Rattle.aes3_slot.proofs.Bits.{odd_ones-low_bits}
+use Rattle.aes3_bits.proofs.Bits.{odd_ones-low_bits}
 use Rattle.aes3_block.specs.Files.{is_lawful, payload_of}
 use Rattle.aes3_block.proofs.BitLemmas.{low_bits-mod, moved-payload}
 

@@ -9,8 +9,8 @@ use Rattle.std.proofs.lemmas.Nat.{shl_whole}
 use Rattle.std.proofs.lemmas.Bool.{cases_lt}
 use Rattle.std.proofs.lemmas.List.{take_more, take_more_set, take_all, length-take-le, get_or-append-add, get_or_append_left, set-append_right, drop-drop}
 use Rattle.std.proofs.lemmas.Option.{slice_get-map, slice_get-get_or, slice_get_within, get_or_from_slice_get}
-use Rattle.aes3_slot.specs.Bits.{low_bits, number}
-use Rattle.aes3_slot.proofs.Bits.{length-low_bits, low_bits-at, number-lt, number-push}
+use Rattle.aes3_bits.specs.Bits.{low_bits, number}
+use Rattle.aes3_bits.proofs.Bits.{length-low_bits, low_bits-at, number-lt, number-push}
 use Rattle.aes3_block.specs.declared.subframe.Subframe.{Subframe}
 use Rattle.aes3_block.specs.declared.status.Channel.{Channel}
 use Rattle.aes3_block.specs.declared.status.Channel.TheVariants.{First, Second}

@@ -6,9 +6,9 @@ use Rattle.std.specs.List.{All}
 use Rattle.std.proofs.lemmas.List.{length-map, length-set, length-take-le, length-drop, take-append-drop, take_at}
 use Rattle.std.proofs.lemmas.List.{drop_at, take-set, set-get_or, get_or-set_same}
 use Rattle.std.proofs.lemmas.Option.{slice_get-get_or, get_or_from_slice_get}
-use Rattle.aes3_slot.specs.Bits.{low_bits, number}
+use Rattle.aes3_bits.specs.Bits.{low_bits, number}
 use Rattle.aes3_slot.specs.Slots.{IsPayload, payload_len}
-use Rattle.aes3_slot.proofs.Bits.{length-low_bits, number-low_bits, low_bits-number}
+use Rattle.aes3_bits.proofs.Bits.{length-low_bits, number-low_bits, low_bits-number}
 use Rattle.aes3_block.specs.declared.status.Channel.{Channel}
 use Rattle.aes3_block.specs.declared.status.Channel.TheVariants.{First, Second}
 use Rattle.aes3_block.specs.Blocks.{IsBlock}

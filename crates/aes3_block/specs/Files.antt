@@ -2,7 +2,7 @@
 use Rattle.std.specs.Prelude.{ℕ, zero, suc, List, [], ◌∷◌, Bool, not, length, ◌≡◌, ◌+◌, ◌*◌, ◌/◌, ◌%◌, ◌==◌, ◌&&◌, map}
 use Rattle.std.specs.Prelude.{take, drop, take_while}
 use Rattle.std.specs.List.{flat_map}
-use Rattle.aes3_slot.specs.Bits.{number, odd_ones}
+use Rattle.aes3_bits.specs.Bits.{number, odd_ones}
 use Rattle.aes3_slot.specs.Slots.{payload_bits, slots_bits, with_parity}
 use Rattle.aes3_block.specs.Blocks.{block_slots}
 

@@ -13,5 +13,5 @@ pub use Rattle.aes3_cell.specs.Cells
 pub use Rattle.aes3_cell.specs.Words
 pub use Rattle.aes3_cell.specs.Text
 pub use Rattle.aes3_cell.specs.Ends
-pub use Rattle.aes3_slot.specs.Bits
+pub use Rattle.aes3_bits.specs.Bits
 pub use Rattle.aes3_slot.specs.Slots

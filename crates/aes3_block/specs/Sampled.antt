@@ -2,7 +2,7 @@
 -- frame.
 use Rattle.std.specs.Prelude.{ℕ, ◌≡◌, ◌<◌, ◌^◌, zero, suc, List, [], ◌∷◌, ◌++◌, Bool, false, length, ◌-◌, ◌/◌, ◌%◌, map}
 use Rattle.std.specs.Prelude.{take, drop, replicate}
-use Rattle.aes3_slot.specs.Bits.{low_bits}
+use Rattle.aes3_bits.specs.Bits.{low_bits}
 use Rattle.aes3_block.specs.Blocks.{block_slots}
 use Rattle.aes3_block.specs.Subframes.{audio_len}
 

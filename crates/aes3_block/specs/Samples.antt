@@ -1,7 +1,7 @@
 -- Samples as sound programs have them: words of 32 bits, lowest byte first, with the 24 audio bits in the highest ones.
 use Rattle.std.specs.Prelude.{ℕ, List, Bool, ◌*◌, map, take}
 use Rattle.std.specs.List.{flat_map}
-use Rattle.aes3_slot.specs.Bits.{number}
+use Rattle.aes3_bits.specs.Bits.{number}
 use Rattle.aes3_block.specs.Files.{word_bytes}
 use Rattle.aes3_block.specs.Subframes.{audio_len}
 

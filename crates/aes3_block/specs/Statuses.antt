@@ -1,7 +1,7 @@
 -- Channel status: the C bits of one channel's 192 payloads are 24 bytes. V and U bits are read and set likewise.
 use Rattle.std.specs.Prelude.{ℕ, zero, suc, List, [], ◌∷◌, Bool, false, ◌+◌, map, take, drop, slice_index_or, slice_set}
 use Rattle.std.specs.List.{flat_map}
-use Rattle.aes3_slot.specs.Bits.{low_bits, number}
+use Rattle.aes3_bits.specs.Bits.{low_bits, number}
 use Rattle.aes3_block.specs.declared.carried.Carried.{Carried}
 use Rattle.aes3_block.specs.declared.carried.Carried.TheVariants.{Validity, User, Status}
 use Rattle.aes3_block.specs.declared.status.Channel.{Channel}

@@ -1,6 +1,6 @@
 -- What a subframe carries besides its preamble and parity.
 use Rattle.std.specs.Prelude.{ℕ, ℤ, pos, ◌-ℤ◌, List, [], ◌∷◌, ◌++◌, Bool, ◌^◌, ◌-◌, nat_lt, if◌then◌else◌}
-use Rattle.aes3_slot.specs.Bits.{low_bits}
+use Rattle.aes3_bits.specs.Bits.{low_bits}
 use Rattle.aes3_block.specs.declared.subframe.Subframe.{Subframe}
 
 -- how many bits an audio sample word has

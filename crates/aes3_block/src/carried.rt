@@ -10,7 +10,7 @@ pub enum Carried {
 
 ghost use Rattle.std.specs.Prelude.{◌≡◌, ◌<◌, ◌*◌, [], ◌∷◌, Some, false, take, drop, slice_get};
 ghost use Rattle.std.specs.Prelude.{slice_index_or, slice_set};
-ghost use Rattle.aes3_slot.specs.Bits.{number};
+ghost use Rattle.aes3_bits.specs.Bits.{number};
 ghost use Rattle.aes3_block.specs.Subframes.{bits_of};
 ghost use Rattle.aes3_block.specs.Statuses.{bits_at, bits_of_bytes, bytes_in, place_of, status_len};
 ghost use Rattle.aes3_block.specs.Statuses.{validity_of, user_of, with_bits_at, with_validity};

@@ -32,7 +32,7 @@ ghost use Rattle.std.specs.Prelude.{IfSome, bit_xor, get_or, length, map, replic
 ghost use Rattle.std.specs.Int.{bit_at};
 ghost use Rattle.std.specs.List.{filter, flat_map};
 ghost use Rattle.aes3_cell.specs.Words.{word_cells};
-ghost use Rattle.aes3_slot.specs.Bits.{odd_ones};
+ghost use Rattle.aes3_bits.specs.Bits.{odd_ones};
 ghost use Rattle.aes3_slot.specs.ReadWords.{read_word, read_words};
 ghost use Rattle.aes3_slot.specs.Slots.{payload_len};
 ghost use Rattle.aes3_block.specs.Blocks.{block_cells, block_slots, mark_at};

@@ -2,7 +2,7 @@
 
 ghost use Rattle.std.specs.Prelude.{◌≡◌, length, map, take, true};
 ghost use Rattle.std.specs.List.{filter};
-ghost use Rattle.aes3_slot.specs.Bits.{odd_ones};
+ghost use Rattle.aes3_bits.specs.Bits.{odd_ones};
 ghost use Rattle.aes3_slot.specs.Slots.{payload_len};
 ghost use Rattle.aes3_slot.specs.ReadWords.{read_word, read_words};
 ghost use Rattle.aes3_block.specs.Files.{is_lawful, payload_of};

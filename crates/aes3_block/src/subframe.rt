@@ -3,7 +3,7 @@
 ghost use Rattle.std.specs.Prelude.{◌≡◌, ◌==◌, ◌+◌, ◌<◌, ◌≤◌, ◌^◌, ◌%◌, ◌/◌, ◌↔◌, [], ◌∷◌, ◌++◌};
 ghost use Rattle.std.specs.Prelude.{IsNone, IfSome};
 ghost use Rattle.std.specs.Int.{bit_at};
-ghost use Rattle.aes3_slot.specs.Bits.{low_bits};
+ghost use Rattle.aes3_bits.specs.Bits.{low_bits};
 ghost use Rattle.aes3_slot.specs.Slots.{payload_bits};
 
 /// The audio sample word and the V, U and C bits of one subframe (AES3-1, AES3-2; IEC 60958-1).

@@ -3,7 +3,7 @@ use Rattle.std.proofs.Common.{◌≡◌, suc, List, [], ◌∷◌, Bool, true, f
 use Rattle.std.proofs.Common.{arith, length-take, ◌⊎◌, inl, inr}
 use Rattle.std.proofs.lemmas.Bool.{cases_Bool}
 use Rattle.std.proofs.lemmas.List.{length-map, take_at}
-use Rattle.aes3_slot.specs.Bits.{odd_ones}
+use Rattle.aes3_bits.specs.Bits.{odd_ones}
 use Rattle.aes3_slot.specs.Slots.{payload_len, with_parity}
 use Rattle.aes3_slot.specs.Rules.{Each28}
 use Rattle.aes3_slot.proofs.Parity.{split-parity}

@@ -8,7 +8,7 @@ use Rattle.aes3_cell.specs.declared.level.Level.TheVariants.{Low, High}
 use Rattle.aes3_cell.specs.Cells.{line, other}
 use Rattle.aes3_cell.proofs.Runs.{line-append}
 use Rattle.aes3_slot.specs.declared.mark.Mark.{Mark}
-use Rattle.aes3_slot.specs.Bits.{odd_ones}
+use Rattle.aes3_bits.specs.Bits.{odd_ones}
 use Rattle.aes3_slot.specs.Slots.{bits_runs, mark_runs, slot_runs, subframe_runs, runs_of, with_parity, payload_len}
 use Rattle.aes3_slot.specs.Slots.{IsPayload}
 use Rattle.aes3_slot.proofs.Index.{length-mark}

@@ -2,7 +2,7 @@
 use Rattle.std.specs.Prelude.{ℕ, List, Bool, length, ◌%◌, ◌==◌, map, take, nat_lt, if◌then◌else◌}
 use Rattle.std.specs.List.{filter}
 use Rattle.aes3_cell.specs.declared.level.Level.{Level}
-use Rattle.aes3_slot.specs.Bits.{odd_ones}
+use Rattle.aes3_bits.specs.Bits.{odd_ones}
 use Rattle.aes3_slot.specs.Slots.{payload_len}
 use Rattle.aes3_slot.specs.Rules.{at, before}
 use Rattle.aes3_slot.specs.Reading.{same, read_slots}

@@ -17,7 +17,7 @@ use Rattle.aes3_cell.proofs.WordCells.{drop-low_cells, low_cells-at}
 use Rattle.aes3_cell.proofs.Moves.{bit_at-shr, shl-above, shl-below}
 use Rattle.aes3_slot.specs.declared.mark.Mark.{Mark}
 use Rattle.aes3_slot.specs.declared.mark.Mark.TheVariants.{X, Y, Z}
-use Rattle.aes3_slot.specs.Bits.{low_bits}
+use Rattle.aes3_bits.specs.Bits.{low_bits}
 use Rattle.aes3_slot.specs.Fronts.{stands}
 use Rattle.aes3_slot.specs.Reading.{differs, read_bits, same}
 use Rattle.aes3_slot.specs.Rules.{at, before, rule}

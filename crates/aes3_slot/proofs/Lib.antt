@@ -1,4 +1,3 @@
-pub mod Bits
 pub mod Turns
 pub mod Subframes
 pub mod Index

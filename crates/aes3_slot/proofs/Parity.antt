@@ -9,12 +9,12 @@ use Rattle.aes3_cell.specs.declared.level.Level.{Level}
 use Rattle.aes3_cell.specs.Cells.{after, line, other}
 use Rattle.aes3_cell.proofs.Runs.{other_ne}
 use Rattle.aes3_slot.specs.declared.mark.Mark.{Mark}
-use Rattle.aes3_slot.specs.Bits.{low_bits, odd_ones}
+use Rattle.aes3_bits.specs.Bits.{low_bits, odd_ones}
 use Rattle.aes3_slot.specs.Slots.{slot_runs, slots_len, payload_len, with_parity, IsPayload}
 use Rattle.aes3_slot.specs.Turns.{turned}
 use Rattle.aes3_slot.specs.Rules.{at, before}
 use Rattle.aes3_slot.specs.Fronts.{with_some_parity}
-use Rattle.aes3_slot.proofs.Bits.{low_bits-suc, low_bits-same, odd_ones-low_bits}
+use Rattle.aes3_bits.proofs.Bits.{low_bits-suc, low_bits-same, odd_ones-low_bits}
 use Rattle.aes3_slot.proofs.Subframes.{after-slots, odd_ones-push, odd_ones-with_parity, xor}
 use Rattle.aes3_slot.proofs.Index.{subframe-last}
 

@@ -7,9 +7,9 @@ use Rattle.std.proofs.lemmas.Nat.{shr_le, xor_lt}
 use Rattle.std.proofs.lemmas.Nat.Bits.{bit_at_xor, bit_at-suc, bit_at_lowest, bit_at_above}
 use Rattle.aes3_cell.specs.Words.{level_of, low_cells}
 use Rattle.aes3_cell.proofs.WordCells.{drop-low_cells}
-use Rattle.aes3_slot.specs.Bits.{low_bits}
+use Rattle.aes3_bits.specs.Bits.{low_bits}
 use Rattle.aes3_slot.specs.Reading.{differs, read_bits}
-use Rattle.aes3_slot.proofs.Bits.{lt-from-bits}
+use Rattle.aes3_bits.proofs.Bits.{lt-from-bits}
 use Rattle.aes3_cell.proofs.Moves.{bit_at-shr}
 
 -- a slot carries a one where its cells differ

@@ -7,7 +7,7 @@ use Rattle.aes3_cell.specs.Cells.{line, other, after}
 use Rattle.aes3_cell.proofs.Runs.{other-other, line-append, after-append, total, total-append, length-line}
 use Rattle.aes3_slot.specs.declared.mark.Mark.{Mark}
 use Rattle.aes3_slot.specs.declared.mark.Mark.TheVariants.{X, Y, Z}
-use Rattle.aes3_slot.specs.Bits.{odd_ones}
+use Rattle.aes3_bits.specs.Bits.{odd_ones}
 use Rattle.aes3_slot.specs.Slots.{mark_runs, bits_runs, with_parity, payload_len, slots_len, slot_runs, subframe_runs}
 use Rattle.aes3_slot.specs.Slots.{IsPayload}
 use Rattle.aes3_slot.specs.Turns.{turned}

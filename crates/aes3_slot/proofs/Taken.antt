@@ -8,11 +8,11 @@ use Rattle.aes3_cell.specs.Cells.{line}
 use Rattle.aes3_cell.specs.Words.{word_cells, word_len}
 use Rattle.aes3_cell.proofs.WordCells.{length-word_cells}
 use Rattle.aes3_slot.specs.declared.mark.Mark.{Mark}
-use Rattle.aes3_slot.specs.Bits.{number}
+use Rattle.aes3_bits.specs.Bits.{number}
 use Rattle.aes3_slot.specs.Slots.{payload_bits, payload_len, slot_runs, subframe_runs}
 use Rattle.aes3_slot.specs.Reading.{read_bits}
 use Rattle.aes3_slot.specs.Fronts.{IsLawfulFrontOf, stands, with_some_parity}
-use Rattle.aes3_slot.proofs.Bits.{length-low_bits, number-low_bits}
+use Rattle.aes3_bits.proofs.Bits.{length-low_bits, number-low_bits}
 use Rattle.aes3_slot.proofs.Subframes.{length-subframe}
 use Rattle.aes3_slot.proofs.Parity.{some-unique, length-some}
 use Rattle.aes3_slot.proofs.Unique.{subframe-unique}

@@ -14,10 +14,10 @@ use Rattle.aes3_cell.specs.Cells.{line, other}
 use Rattle.aes3_cell.specs.Words.{level_of, low_cells}
 use Rattle.aes3_slot.specs.declared.mark.Mark.{Mark}
 use Rattle.aes3_slot.specs.declared.mark.Mark.TheVariants.{X, Y, Z}
-use Rattle.aes3_slot.specs.Bits.{low_bits}
+use Rattle.aes3_bits.specs.Bits.{low_bits}
 use Rattle.aes3_slot.specs.Slots.{mark_runs, bits_runs, slot_runs}
 use Rattle.aes3_slot.specs.Turns.{turned, cells_of_turns, run_turns}
-use Rattle.aes3_slot.proofs.Bits.{low_bits-same, low_bits-add}
+use Rattle.aes3_bits.proofs.Bits.{low_bits-same, low_bits-add}
 use Rattle.aes3_cell.proofs.Moves.{bit_at-shr, shl-below, shl-above}
 
 -- the parity of the bits of t below i

@@ -3,7 +3,7 @@ use Rattle.std.specs.Prelude.{ℕ, List, [], ◌∷◌, ◌++◌, Bool, true, fa
 use Rattle.aes3_cell.specs.declared.level.Level.{Level}
 use Rattle.aes3_cell.specs.Cells.{line}
 use Rattle.aes3_slot.specs.declared.mark.Mark.{Mark}
-use Rattle.aes3_slot.specs.Bits.{odd_ones}
+use Rattle.aes3_bits.specs.Bits.{odd_ones}
 use Rattle.aes3_slot.specs.Slots.{slots_len, slot_runs, subframe_runs, with_parity, IsPayload}
 use Rattle.aes3_slot.specs.Reading.{same}
 use Rattle.aes3_slot.specs.Rules.{at, before, rule}

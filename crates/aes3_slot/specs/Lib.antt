@@ -1,4 +1,3 @@
-pub mod Bits
 pub mod Slots
 pub mod Turns
 pub mod Rules
@@ -8,3 +7,4 @@ pub mod Preambles
 pub mod Fronts
 pub use Rattle.aes3_cell.specs.Cells
 pub use Rattle.aes3_cell.specs.Words
+pub use Rattle.aes3_bits.specs.Bits

@@ -3,7 +3,7 @@ use Rattle.std.specs.Prelude.{ℕ, suc, List, [], ◌∷◌, ◌++◌, Bool, tru
 use Rattle.std.specs.List.{flat_map}
 use Rattle.aes3_slot.specs.declared.mark.Mark.{Mark}
 use Rattle.aes3_slot.specs.declared.mark.Mark.TheVariants.{X, Y, Z}
-use Rattle.aes3_slot.specs.Bits.{low_bits, odd_ones}
+use Rattle.aes3_bits.specs.Bits.{low_bits, odd_ones}
 
 -- the lengths of a preamble's runs
 abbrev pub mark_runs : Mark → List ℕ

@@ -4,7 +4,7 @@ ghost use Rattle.std.specs.Prelude.{◌≡◌, ℕ, ◌<◌, ◌^◌, ◌*◌, �
 ghost use Rattle.std.specs.Int.{bit_at};
 ghost use Rattle.aes3_cell.specs.Cells.{line};
 ghost use Rattle.aes3_cell.specs.Words.{word_cells};
-ghost use Rattle.aes3_slot.specs.Bits.{low_bits, odd_ones};
+ghost use Rattle.aes3_bits.specs.Bits.{low_bits, odd_ones};
 ghost use Rattle.aes3_slot.specs.Slots.{mark_runs, payload_bits, slot_runs, slots_bits};
 ghost use Rattle.aes3_slot.specs.Slots.{subframe_runs};
 ghost use Rattle.aes3_slot.specs.Turns.{cells_of_turns, run_turns, word_turns};

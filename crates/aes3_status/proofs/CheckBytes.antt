@@ -6,7 +6,8 @@ use Rattle.std.specs.Int.Bits.{xor_assoc, xor_self}
 use Rattle.std.proofs.lemmas.List.{append-nil, take_more, take_all, set_split, drop_all}
 use Rattle.std.proofs.lemmas.Bool.{cases_eq}
 use Rattle.std.proofs.lemmas.Nat.{xor_comm}
-use Rattle.aes3_status.specs.Bits.{low_bits, number, byte_bits, status_bits}
+use Rattle.aes3_bits.specs.Bits.{low_bits, number}
+use Rattle.aes3_status.specs.Bits.{byte_bits, status_bits}
 use Rattle.aes3_status.specs.Check.{weights, preset, remainder, check_byte_of, check_state_of, CheckHolds}
 use Rattle.aes3_status.specs.declared.check.Check.TheVariants.{Good, Absent, Bad}
 use Rattle.aes3_status.specs.Register.{polynomial}

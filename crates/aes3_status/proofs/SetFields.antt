@@ -2,42 +2,17 @@
 use Rattle.std.proofs.Common.{◌≡◌, ℕ, zero, suc, ◌+◌, ◌-◌, ◌*◌, ◌/◌, ◌%◌, ◌^◌, ◌<◌, ◌≤◌, Bool, true, false, List, []}
 use Rattle.std.proofs.Common.{◌∷◌, ◌++◌, length, take, drop, get_or, set, refl, ap, ap₂, ◌∙◌, sym, arith, append_assoc}
 use Rattle.std.proofs.Common.{length-append, length-drop}
-use Rattle.std.proofs.Math.Nat.{pow-suc, mod-eq_of_lt, mul_assoc, mul_comm, mul-add, pow-le-pow_right}
+use Rattle.std.proofs.Math.Nat.{mod-eq_of_lt, mul_assoc, mul_comm, mul-add, pow-le-pow_right}
 use Rattle.std.proofs.Math.Seq.{take-append-add, drop-append-add}
-use Rattle.std.proofs.lemmas.List.{take_all, take-append-le, drop-append-le, drop-drop, drop-take, length-take-le}
+use Rattle.std.proofs.lemmas.List.{take-append-le, drop-append-le, drop-drop, drop-take, length-take-le}
 use Rattle.std.proofs.lemmas.List.{take-append-drop}
-use Rattle.std.proofs.lemmas.Nat.{shr-shr, pow-add}
-use Rattle.aes3_status.specs.Bits.{low_bits, number, byte_bits, status_bits}
+use Rattle.std.proofs.lemmas.Nat.{pow-add}
+use Rattle.aes3_bits.specs.Bits.{low_bits, number}
+use Rattle.aes3_status.specs.Bits.{byte_bits, status_bits}
 use Rattle.aes3_status.specs.Settings.{with_bits}
-use Rattle.aes3_status.proofs.BitFields.{length-low_bits, length-byte_bits, number-take, number-append}
-
--- ---- numbers and their bits
-pub number-low : (k n : ℕ) → number (low_bits k n) ≡ n % 2 ^ k
-number-low k n = ap number (sym (take_all k (low_bits k n) (omega (arith, length-low_bits k n))))
-    ∙ number-take k k n (omega arith)
-
-pub low-number : (bits : List Bool) → low_bits (length bits) (number bits) ≡ bits
-low-number [] = refl
-low-number (true ∷ bits) =
-    let half : (1 + 2 * number bits) / 2 ≡ number bits = omega arith in
-    let odd : (1 + 2 * number bits) % 2 ≡ 1 = omega arith in
-    rw (odd, half) (ap (λ b. true ∷ b) (low-number bits))
-low-number (false ∷ bits) =
-    let half : (0 + 2 * number bits) / 2 ≡ number bits = omega arith in
-    let even : (0 + 2 * number bits) % 2 ≡ 0 = omega arith in
-    rw (even, half) (ap (λ b. false ∷ b) (low-number bits))
-
-number-fits : (bits : List Bool) → number bits < 2 ^ length bits
-number-fits [] = omega arith
-number-fits (true ∷ bits) = let h = number-fits bits in omega (arith, pow-suc 2 (length bits))
-number-fits (false ∷ bits) = let h = number-fits bits in omega (arith, pow-suc 2 (length bits))
-
-number-drop : (from k n : ℕ) → n < 2 ^ k → from ≤ k → number (drop from (low_bits k n)) ≡ n / 2 ^ from
-number-drop zero k n h g = number-low k n ∙ mod-eq_of_lt h ∙ omega arith
-number-drop (suc from) zero n h g = absurd (omega arith)
-number-drop (suc from) (suc k) n h g =
-    number-drop from k (n / 2) (omega (arith, pow-suc 2 k)) (omega arith)
-    ∙ shr-shr n 1 from ∙ ap (λ j. n / 2 ^ j) (let e : 1 + from ≡ suc from = omega arith in e)
+use Rattle.aes3_bits.proofs.Bits.{length-low_bits, low_bits-number, number-append, number-drop, number-low, number-lt}
+use Rattle.aes3_bits.proofs.Bits.{number-take}
+use Rattle.aes3_status.proofs.BitFields.{length-byte_bits}
 
 -- ---- a byte
 length-with_bits : (at : ℕ) (new bits : List Bool) → at + length new ≤ length bits
@@ -85,7 +60,7 @@ replaced-fits : (n first count code : ℕ) → first + count ≤ 8
 replaced-fits n first count code g =
     let w = with_bits first (low_bits count code) (byte_bits n) in
     let e : 2 ^ length w ≡ 256 = ap (λ k. 2 ^ k) (length-replaced n first count code g) in
-    omega (arith, number-fits w)
+    omega (arith, number-lt w)
 
 pub few-codes : (k : ℕ) → k ≤ 8 → 2 ^ k ≤ 256
 few-codes k h = pow-le-pow_right {n = 2} (omega arith) {i = k} {j = 8} h
@@ -118,7 +93,7 @@ replaced-byte n first count code h g =
 -- ---- a status
 byte-bits-of : (bits : List Bool) → length bits ≡ 8 → byte_bits (number bits) ≡ bits
 unfolding byte_bits
-byte-bits-of bits e = ap (λ k. low_bits k (number bits)) (sym e) ∙ low-number bits
+byte-bits-of bits e = ap (λ k. low_bits k (number bits)) (sym e) ∙ low_bits-number bits
 
 pub status-set : (bytes : List ℕ) (byte first : ℕ) (new : List Bool) → byte < length bytes → first + length new ≤ 8
     → status_bits (set bytes byte (number (with_bits first new (byte_bits (get_or bytes byte 0))))) ≡ with_bits

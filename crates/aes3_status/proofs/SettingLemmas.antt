@@ -9,16 +9,19 @@ use Rattle.aes3_status.specs.declared.field.ConField.{ConField}
 use Rattle.aes3_status.specs.declared.field.ConField.TheVariants as con
 use Rattle.aes3_status.specs.declared.field.Field.{Field}
 use Rattle.aes3_status.specs.declared.field.Field.TheVariants.{Professional, Consumer}
-use Rattle.aes3_status.specs.Bits.{low_bits, number, status_bits, field, number_at}
+use Rattle.aes3_bits.specs.Bits.{low_bits, number}
+use Rattle.aes3_status.specs.Bits.{status_bits, field, number_at}
 use Rattle.aes3_status.specs.Consumer.{con_place}
 use Rattle.aes3_status.specs.Professional.{pro_place}
 use Rattle.aes3_status.specs.Statuses.{is_professional}
 use Rattle.aes3_status.specs.Settings.{with_bits, with_field, place_of, under, code_for, with_code}
 use Rattle.aes3_status.specs.SettingLaws.{IsPlace, first_bit, OnlyItsBitsChange, CodeIsReadBack, OtherFieldsStay}
 use Rattle.aes3_status.specs.SettingLaws.{MeaningStays, SettingIsReadBack}
-use Rattle.aes3_status.proofs.BitFields.{length-low_bits, field-fits}
+use Rattle.aes3_bits.proofs.Bits.{length-low_bits}
+use Rattle.aes3_status.proofs.BitFields.{field-fits}
 use Rattle.aes3_status.proofs.Weights.{length-status_bits}
-use Rattle.aes3_status.proofs.SetFields.{number-low, status-set, new-back, before-stays, behind-stays}
+use Rattle.aes3_bits.proofs.Bits.{number-low}
+use Rattle.aes3_status.proofs.SetFields.{status-set, new-back, before-stays, behind-stays}
 
 pub only-its-bits : OnlyItsBitsChange
 unfolding with_field

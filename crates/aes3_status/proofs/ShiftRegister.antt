@@ -7,7 +7,8 @@ use mathlib.Core.Bool.{beq}
 use Rattle.std.proofs.lemmas.Bool.{agree_below_at, cond-true, cond-false}
 use Rattle.std.proofs.lemmas.List.{take_more, append-nil}
 use Rattle.std.proofs.lemmas.Nat.{xor_comm, xor_lt}
-use Rattle.aes3_status.specs.Bits.{low_bits, number, byte_bits, status_bits}
+use Rattle.aes3_bits.specs.Bits.{low_bits, number}
+use Rattle.aes3_status.specs.Bits.{byte_bits, status_bits}
 use Rattle.aes3_status.specs.Check.{last_bit, weight, weights, preset, remainder, times_x}
 use Rattle.aes3_status.specs.Register.{polynomial, after_bit, after_bits}
 use Rattle.aes3_status.proofs.Polynomials.{times_by, times_x-xor, times_x-lt, times_by-xor, times_by-zero}

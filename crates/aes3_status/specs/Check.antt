@@ -4,7 +4,8 @@ use Rattle.std.specs.Prelude.{ℕ, zero, suc, List, [], ◌∷◌, Bool, true, �
 use Rattle.std.specs.Prelude.{replicate, reverse, slice_index, if◌then◌else◌}
 use Rattle.aes3_status.specs.declared.check.Check.{Check}
 use Rattle.aes3_status.specs.declared.check.Check.TheVariants.{Good, Absent, Bad}
-use Rattle.aes3_status.specs.Bits.{low_bits, number, status_bits}
+use Rattle.aes3_bits.specs.Bits.{low_bits, number}
+use Rattle.aes3_status.specs.Bits.{status_bits}
 
 -- x^8 + x^4 + x^3 + x^2 + 1
 abbrev pub generator : ℕ

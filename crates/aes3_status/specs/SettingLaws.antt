@@ -3,7 +3,8 @@ use Rattle.std.specs.Prelude.{ℕ, List, Some, true, ◌≡◌, ◌≢◌, ◌�
 use Rattle.aes3_status.specs.declared.place.Place.{Place}
 use Rattle.aes3_status.specs.declared.field.Field.{Field}
 use Rattle.aes3_status.specs.declared.setting.Setting.{Setting}
-use Rattle.aes3_status.specs.Bits.{low_bits, status_bits, field, number_at}
+use Rattle.aes3_bits.specs.Bits.{low_bits}
+use Rattle.aes3_status.specs.Bits.{status_bits, field, number_at}
 use Rattle.aes3_status.specs.Statuses.{is_professional}
 use Rattle.aes3_status.specs.Settings.{with_bits, with_field, place_of, is_for, told_by, under, code_for, set_by}
 

@@ -1,7 +1,8 @@
 //! Where a field stands within a byte, and a code written there.
 
 ghost use Rattle.std.specs.Prelude.{◌≡◌, ◌+◌, ◌<◌, ◌≤◌};
-ghost use Rattle.aes3_status.specs.Bits.{byte_bits, low_bits, number, number_at};
+ghost use Rattle.aes3_bits.specs.Bits.{low_bits, number};
+ghost use Rattle.aes3_status.specs.Bits.{byte_bits, number_at};
 ghost use Rattle.aes3_status.specs.Settings.{with_bits, with_field};
 
 use crate::bits::bits_at;

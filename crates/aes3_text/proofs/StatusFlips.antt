@@ -6,7 +6,6 @@ use Rattle.aes3_block.specs.Blocks.{block_len, IsBlock}
 use Rattle.aes3_block.specs.Statuses.{of_channel, status_bit, status_bits, status_of, status_len, bytes_in, bits_of_bytes}
 use Rattle.aes3_block.proofs.StatusLaws.{bits-of-status, length-status_of}
 use Rattle.aes3_block.proofs.StatusBits.{status_len_24}
-use Rattle.aes3_slot.specs.Bits as slot
 use Rattle.aes3_status.specs.declared.check.Check.TheVariants.{Good}
 use Rattle.aes3_status.specs.Bits as status
 use Rattle.aes3_status.specs.Check.{check_state_of}
@@ -51,14 +50,10 @@ one-bit First (suc j) n (p ∷ ps) = go (one-bit Second j n ps)
 one-bit Second (suc j) n (p ∷ ps) = one-bit First j n ps
 
 -- the bits of a status are the C bits of its channel
-low-same : (k n : ℕ) → slot.low_bits k n ≡ status.low_bits k n
-low-same zero n = refl
-low-same (suc k) n = ap (λ x. ((n % 2) == 1) ∷ x) (low-same k (n / 2))
-
 bits-same : (bytes : List ℕ) → bits_of_bytes bytes ≡ status.status_bits bytes
 unfolding status.byte_bits
 bits-same [] = refl
-bits-same (byte ∷ bytes) = ap₂ (λ u v. u ++ v) (low-same 8 byte) (bits-same bytes)
+bits-same (byte ∷ bytes) = ap (λ v. status.byte_bits byte ++ v) (bits-same bytes)
 
 bits-of : (b : List (List Bool)) (channel : Channel) → IsBlock b → status.status_bits (status_of b channel) ≡ status_bits b channel
 bits-of b channel h = sym (bits-same (status_of b channel)) ∙ bits-of-status b channel h

@@ -1,5 +1,5 @@
 use Rattle.aes3_slot.specs.Slots.{payload_len}
-use Rattle.aes3_slot.proofs.Bits.{odd_ones-low_bits}
+use Rattle.aes3_bits.proofs.Bits.{odd_ones-low_bits}
 use Rattle.aes3_slot.proofs.subframe.payload_parity.Goals as goal
 
 pub returns : goal.returns

@@ -1,5 +1,6 @@
 use Rattle.std.proofs.Common.{◌∙◌, ap₂, arith}
-use Rattle.aes3_status.specs.Bits.{byte_bits, low_bits, number}
+use Rattle.aes3_bits.specs.Bits.{low_bits, number}
+use Rattle.aes3_status.specs.Bits.{byte_bits}
 use Rattle.aes3_status.specs.Settings.{with_bits}
 use Rattle.aes3_status.proofs.SetFields.{replaced-sum, replaced-byte}
 use Rattle.aes3_status.proofs.place.replaced.Goals as goal

@@ -1,5 +1,5 @@
 use Rattle.std.proofs.Common.{◌≡◌, ◌*◌, take, drop}
-use Rattle.aes3_slot.specs.Bits.{number}
+use Rattle.aes3_bits.specs.Bits.{number}
 use Rattle.aes3_block.specs.Statuses.{place_of, bits_at}
 use Rattle.aes3_block.proofs.block.Block.byte.Given as goal
 

@@ -1,6 +1,6 @@
 use Rattle.std.proofs.Common.{◌∙◌, ap, length, arith}
 use Rattle.std.specs.List.{filter}
-use Rattle.aes3_slot.specs.Bits.{odd_ones}
+use Rattle.aes3_bits.specs.Bits.{odd_ones}
 use Rattle.aes3_slot.specs.ReadWords.{read_words}
 use Rattle.aes3_block.proofs.GatheredWords.{right-even}
 use Rattle.aes3_block.proofs.gathered.GatheredCells.wrong_parities.Goals as goal

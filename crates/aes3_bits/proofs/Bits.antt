@@ -1,18 +1,19 @@
 -- The bits of a number as a list.
 use Rattle.std.proofs.Common.{lit<, ◌≡◌, ℕ, zero, suc, ◌+◌, ◌-◌, ◌*◌, ◌/◌, ◌%◌, ◌^◌, ◌<◌, ◌≤◌, ◌⊎◌, inl, inr, min, List}
-use Rattle.std.proofs.Common.{[], ◌∷◌, ◌++◌, Bool, true, false, not, cond, length, get_or, eqb, refl, sym, ap, ap₂, ◌∙◌}
-use Rattle.std.proofs.Common.{arith}
+use Rattle.std.proofs.Common.{[], ◌∷◌, ◌++◌, Bool, true, false, not, cond, length, take, drop, get_or, eqb, eq-eqb, ne_eqb}
+use Rattle.std.proofs.Common.{refl, sym, ap, ap₂, ◌∙◌, arith, mul_assoc}
 use mir.Val.{bool_byte}
 use Rattle.std.specs.Prelude.{bit_or, count_ones}
 use Rattle.std.specs.Int.{bit_at}
 use Rattle.std.specs.Int.Count.{ones_step}
-use Rattle.std.proofs.lemmas.Bool.{cases_lt}
-use Rattle.std.proofs.lemmas.Nat.{and_mask, mod_below, pow_pos, ones_le_self, shr-shr, or_comm, or_shifted, shl_whole}
+use Rattle.std.proofs.lemmas.Bool.{cases_lt, cases_eq}
+use Rattle.std.proofs.lemmas.List.{take_all}
+use Rattle.std.proofs.lemmas.Nat.{and_mask, mod_below, mod-pow-add, pow_pos, ones_le_self, shr-shr, or_comm, or_shifted}
+use Rattle.std.proofs.lemmas.Nat.{shl_whole}
 use Rattle.std.proofs.lemmas.Nat.Bits.{same_from_bits, bit_at_and, bit_at_ones, bit_at_above, bit_at-lt, bit_at_lowest}
 use Rattle.std.proofs.lemmas.Nat.Bits.{bit_at-suc, bit_at_cat_low, bit_at_cat_high}
-use Rattle.std.proofs.Math.Nat.{pow-succ'}
-use Rattle.aes3_slot.specs.Bits.{low_bits, number, odd_ones}
-use Rattle.aes3_slot.specs.Slots.{with_parity}
+use Rattle.std.proofs.Math.Nat.{mod-eq_of_lt, pow-suc, pow-succ'}
+use Rattle.aes3_bits.specs.Bits.{low_bits, number, odd_ones}
 
 pub length-low_bits : (n w : ℕ) → length (low_bits n w) ≡ n
 length-low_bits zero w = refl
@@ -80,7 +81,7 @@ low_bits-above n w p h g =
 
 -- a payload with its parity bit put above it
 pub low_bits-with_parity : (n m w p : ℕ) (b : Bool) → n < m → w < 2 ^ n → p ≡ bool_byte b → b ≡ odd_ones (low_bits n w)
-    → low_bits (suc n) (bit_or w (p * 2 ^ n % 2 ^ m)) ≡ with_parity (low_bits n w)
+    → low_bits (suc n) (bit_or w (p * 2 ^ n % 2 ^ m)) ≡ low_bits n w ++ odd_ones (low_bits n w) ∷ []
 low_bits-with_parity n m w p b l h e f =
     ap (λ x. low_bits (suc n) (bit_or w x)) (shl_whole p 1 n m (few b e) (omega arith))
     ∙ low_bits-above n w p h (few b e)
@@ -100,18 +101,49 @@ low_bits-at zero w i h = absurd (omega arith)
 low_bits-at (suc n) w zero h = ap (λ b. eqb b 1) (sym (bit_at_lowest w))
 low_bits-at (suc n) w (suc i) h = low_bits-at n (w / 2) i (omega arith) ∙ ap (λ b. eqb b 1) (sym (bit_at-suc w i))
 
--- bits and their number
-pub number-low_bits : (n w : ℕ) → w < 2 ^ n → number (low_bits n w) ≡ w
-number-low_bits zero w h = omega arith
-number-low_bits (suc n) w h =
-    let p = pow-succ' 2 n in
-    go (w % 2) refl (omega arith) (number-low_bits n (w / 2) (omega arith))
+-- ---- the number of bits
+bit-value : (n : ℕ) → cond (eqb (n % 2) 1) 1 0 ≡ n % 2
+bit-value n = go (cases_eq (n % 2) 1)
   where
-    go : (b : ℕ) → w % 2 ≡ b → b < 2 → number (low_bits n (w / 2)) ≡ w / 2
-        → cond (eqb (w % 2) 1) 1 0 + 2 * number (low_bits n (w / 2)) ≡ w
-    go zero e l i = rw e (omega (arith, i))
-    go (suc zero) e l i = rw e (omega (arith, i))
-    go (suc (suc b)) e l i = absurd (omega arith)
+    go : (n % 2 ≡ 1) ⊎ (n % 2 ≡ 1 → ⊥) → cond (eqb (n % 2) 1) 1 0 ≡ n % 2
+    go (inl e) = let t = eq-eqb (n % 2) 1 e in rw t (sym e)
+    go (inr e) = let t = ne_eqb (n % 2) 1 e in rw t (omega arith)
+
+-- of the first of the lowest bits
+pub number-take : (count k n : ℕ) → count ≤ k → number (take count (low_bits k n)) ≡ n % 2 ^ count
+number-take zero k n h = omega arith
+number-take (suc count) zero n h = absurd (omega arith)
+number-take (suc count) (suc k) n h =
+    let step : n % 2 ^ suc count ≡ n / 2 % 2 ^ count * 2 + n % 2 =
+    ap (λ k. n % 2 ^ k) (let e : suc count ≡ count + 1 = omega arith in e) ∙ mod-pow-add n count 1 in
+    let rest = number-take count k (n / 2) (omega arith) in
+    let first = bit-value n in
+    rw (first, rest) (omega (arith, step))
+
+-- of all of them
+pub number-low : (k n : ℕ) → number (low_bits k n) ≡ n % 2 ^ k
+number-low k n = ap number (sym (take_all k (low_bits k n) (omega (arith, length-low_bits k n))))
+    ∙ number-take k k n (omega arith)
+
+pub number-low_bits : (k n : ℕ) → n < 2 ^ k → number (low_bits k n) ≡ n
+number-low_bits k n h = number-low k n ∙ mod-eq_of_lt h
+
+-- of bits in the middle
+pub number-middle : (from count k n : ℕ) → from + count ≤ k
+    → number (take count (drop from (low_bits k n))) ≡ n / 2 ^ from % 2 ^ count
+number-middle zero count k n h = number-take count k n (omega arith) ∙ ap (λ m. m % 2 ^ count) (omega arith)
+number-middle (suc from) count zero n h = absurd (omega arith)
+number-middle (suc from) count (suc k) n h =
+    number-middle from count k (n / 2) (omega arith)
+    ∙ ap (λ m. m % 2 ^ count) (shr-shr n 1 from ∙ ap (λ j. n / 2 ^ j) (omega arith))
+
+-- of all but the first
+pub number-drop : (from k n : ℕ) → n < 2 ^ k → from ≤ k → number (drop from (low_bits k n)) ≡ n / 2 ^ from
+number-drop zero k n h g = number-low_bits k n h ∙ omega arith
+number-drop (suc from) zero n h g = absurd (omega arith)
+number-drop (suc from) (suc k) n h g =
+    number-drop from k (n / 2) (omega (arith, pow-succ' 2 k)) (omega arith)
+    ∙ shr-shr n 1 from ∙ ap (λ j. n / 2 ^ j) (let e : 1 + from ≡ suc from = omega arith in e)
 
 pub number-lt : (bits : List Bool) → number bits < 2 ^ length bits
 number-lt [] = lit< tt
@@ -131,16 +163,17 @@ low_bits-number (true ∷ bits) =
     let i = low_bits-number bits in
     rw (e, f, i) refl
 
+pub number-append : (a b : List Bool) → number (a ++ b) ≡ number a + 2 ^ length a * number b
+number-append [] b = omega arith
+number-append (bit ∷ a) b = rw (number-append a b, pow-suc) (omega (arith, mul_assoc 2 (2 ^ length a) (number b)))
+
 -- one more bit
 pub number-push : (bits : List Bool) (b : Bool) → number (bits ++ b ∷ []) ≡ number bits + cond b (2 ^ length bits) 0
-number-push [] false = refl
-number-push [] true = refl
-number-push (x ∷ bits) b = step b (cond x 1 0) (number-push bits b)
+number-push bits b = number-append bits (b ∷ []) ∙ go b
   where
-    step : (b : Bool) (y : ℕ) → number (bits ++ b ∷ []) ≡ number bits + cond b (2 ^ length bits) 0
-        → y + 2 * number (bits ++ b ∷ []) ≡ (y + 2 * number bits) + cond b (2 ^ suc (length bits)) 0
-    step false y e = omega (arith, e)
-    step true y e = let f = pow-succ' 2 (length bits) in omega (arith, e, f)
+    go : (b : Bool) → number bits + 2 ^ length bits * number (b ∷ []) ≡ number bits + cond b (2 ^ length bits) 0
+    go false = omega arith
+    go true = omega arith
 
 -- a number whose bits from n on are zeros
 pub lt-from-bits : (n m w : ℕ) → w < 2 ^ m → ((i : ℕ) → n ≤ i → i < m → bit_at w i ≡ 0) → w < 2 ^ n
