@@ -67,6 +67,12 @@ odd_ones-low_bits (suc n) w h =
         step (suc (suc b)) e l = absurd (omega arith)
     go (suc (suc b)) g k bits i = absurd (omega arith)
 
+-- a bit is 0 where it is not 1
+pub zero-bit : (b : ℕ) → b < 2 → eqb b 0 ≡ not (eqb b 1)
+zero-bit zero h = refl
+zero-bit (suc zero) h = refl
+zero-bit (suc (suc b)) h = absurd (omega arith)
+
 -- a payload with a bit put above it
 pub low_bits-above : (n w p : ℕ) → w < 2 ^ n → p < 2
     → low_bits (suc n) (bit_or w (p * 2 ^ n)) ≡ low_bits n w ++ eqb p 1 ∷ []

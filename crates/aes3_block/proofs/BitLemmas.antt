@@ -11,9 +11,8 @@ use Rattle.std.proofs.lemmas.Nat.Bits.{bit_at_cat_low, shr_and_one}
 use Rattle.std.proofs.lemmas.List.{take_at}
 use Rattle.aes3_bits.specs.Bits.{low_bits, odd_ones}
 use Rattle.aes3_slot.specs.Slots.{payload_len, slots_len, payload_bits, slots_bits, with_parity}
-use Rattle.aes3_bits.proofs.Bits.{low_bits-suc, low_bits-same, low_bits-above, length-low_bits}
-use Rattle.aes3_bits.proofs.Bits.{low_bits-with_parity}
-use Rattle.aes3_bits.proofs.Bits.{odd_ones-low_bits}
+use Rattle.aes3_bits.proofs.Bits.{length-low_bits, low_bits-above, low_bits-same, low_bits-suc, low_bits-with_parity}
+use Rattle.aes3_bits.proofs.Bits.{odd_ones-low_bits, zero-bit}
 use Rattle.aes3_slot.proofs.Subframes.{odd_ones-with_parity}
 use Rattle.aes3_block.specs.Files.{has_parity, is_lawful, payload_of}
 use Rattle.aes3_slot.proofs.Parity.{last-is}
@@ -113,15 +112,7 @@ lawful-slots w h =
 -- the parity of a word
 pub word-parity : (w : ℕ) → w < 2 ^ 32 → eqb (count_ones (w / 16) % 2) 0 ≡ has_parity w
 unfolding slots_len
-word-parity w h = even (count_ones (w / 16)) ∙ ap not (odd_ones-low_bits 28 (w / 16) (omega arith))
-  where
-    even : (n : ℕ) → eqb (n % 2) 0 ≡ not (eqb (n % 2) 1)
-    even n = go (n % 2) (omega arith)
-      where
-        go : (k : ℕ) → k < 2 → eqb k 0 ≡ not (eqb k 1)
-        go zero h = refl
-        go (suc zero) h = refl
-        go (suc (suc k)) h = absurd (omega arith)
+word-parity w h = zero-bit (count_ones (w / 16) % 2) (omega arith) ∙ ap not (odd_ones-low_bits 28 (w / 16) (omega arith))
 
 -- a test of one bit
 pub bit-set : (w i : ℕ) → eqb (bit_and (w / 2 ^ i) 1) 1 ≡ eqb (bit_at w i) 1

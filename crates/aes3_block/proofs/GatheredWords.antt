@@ -20,15 +20,16 @@ use Rattle.aes3_slot.proofs.Subframes.{odd_ones-with_parity}
 use Rattle.aes3_slot.proofs.Unique.{read-slots}
 use Rattle.aes3_block.specs.Blocks.{block_cells, block_runs, mark_at}
 use Rattle.aes3_block.specs.Gathered.{IsRight, AreRight, with_first}
-use Rattle.aes3_block.proofs.ReadCells.{read_payload, read-payload, payloads-read}
+use Rattle.aes3_block.proofs.ReadCells.{carried-payload, payloads-carried}
 use Rattle.aes3_block.proofs.Runs.{cells-each}
+use Rattle.aes3_block.proofs.SlotWords.{carried}
 
 -- words that are all right are a block's cells
 pub right-cells : (s : Level) (n : ℕ) (words : List ℕ) → length words ≤ n → AreRight s n words
     → flat_map word_cells words ≡ block_cells s (map (take payload_len) (read_words words))
 right-cells s n words l right =
-    cells-each read_payload read-payload s words words (length words) refl refl (λ i h. right i (omega arith))
-    ∙ ap (block_cells s) (payloads-read words)
+    cells-each carried carried-payload s words words (length words) refl refl (λ i h. right i (omega arith))
+    ∙ ap (block_cells s) (payloads-carried words)
 
 -- none of them has an odd number of ones
 pub even-right : (s : Level) (m : Mark) (w : ℕ) → IsRight s m w → odd_ones (read_word w) ≡ false

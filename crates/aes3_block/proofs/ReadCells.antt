@@ -23,6 +23,7 @@ use Rattle.aes3_cell.proofs.Runs.{other_ne}
 use Rattle.aes3_cell.proofs.WordCells.{low_cells-at}
 use Rattle.aes3_slot.proofs.Taken.{length-word, word-read}
 use Rattle.aes3_slot.proofs.Turns.{low_cells-not}
+use Rattle.aes3_block.proofs.SlotWords.{carried}
 use Rattle.aes3_slot.proofs.Wrong.{true-from_zero}
 
 differs-other : (a b : Level) → differs (other a) (other b) ≡ differs a b
@@ -78,15 +79,12 @@ none-wrong s m w wrong z says i h = true-from_zero (stands s m (word_cells w) i)
     ∙ ap (λ x. bit_at x i) z ∙ bit_at-zero i)
 
 -- the payload of a word
-abbrev pub read_payload : ℕ → List Bool
-read_payload w = take payload_len (read_word w)
-
-pub read-payload : (w : ℕ) → IsPayload (read_payload w)
+pub carried-payload : (w : ℕ) → IsPayload (carried w)
 unfolding payload_len
-read-payload w = length-take-le 27 (read_word w) (let l = read-length w in omega (arith, l))
+carried-payload w = length-take-le 27 (read_word w) (let l = read-length w in omega (arith, l))
 
-pub payloads-read : (words : List ℕ) → map read_payload words ≡ map (take payload_len) (read_words words)
-payloads-read words = sym (map-map (take payload_len) read_word words)
+pub payloads-carried : (words : List ℕ) → map carried words ≡ map (take payload_len) (read_words words)
+payloads-carried words = sym (map-map (take payload_len) read_word words)
 
 -- the last cell of a word
 pub last-of : (word b : ℕ) → word / 2 ^ 63 % 2 ≡ b → at (low_cells 64 word) 63 ≡ level_of b

@@ -13,6 +13,7 @@ use Rattle.aes3_slot.specs.Slots.{payload_len, payload_bits, slots_len, slots_bi
 use Rattle.aes3_slot.specs.Reading.{differs, read_bits}
 use Rattle.aes3_slot.specs.ReadWords.{read_word, read_words}
 use Rattle.aes3_bits.proofs.Bits.{odd_ones-low_bits}
+use Rattle.aes3_slot.proofs.Subframes.{not-not}
 use Rattle.aes3_block.specs.Files.{is_lawful, payload_of}
 use Rattle.aes3_block.proofs.BitLemmas.{low_bits-mod, moved-payload}
 
@@ -41,16 +42,12 @@ odd-read (suc k) w =
     (read_bits (low_cells (2 * k) (w / 2 / 2))) (odd-read k (w / 2 / 2))
     ∙ sym (ap (λ m. odd_ones (read_bits (low_cells m w))) n)
   where
-    twice : (b : Bool) → not (not b) ≡ b
-    twice true = refl
-    twice false = refl
-
     two : (x y : ℕ) → x < 2 → y < 2 → (a b : List Bool) → odd_ones a ≡ odd_ones b
         → odd_ones (eqb x 1 ∷ eqb y 1 ∷ a) ≡ odd_ones (differs (level_of x) (level_of y) ∷ b)
     two zero zero h g a b e = e
     two zero (suc zero) h g a b e = ap not e
     two (suc zero) zero h g a b e = ap not e
-    two (suc zero) (suc zero) h g a b e = twice (odd_ones a) ∙ e
+    two (suc zero) (suc zero) h g a b e = not-not (odd_ones a) ∙ e
     two x (suc (suc y)) h g a b e = absurd (omega arith)
     two (suc (suc x)) y h g a b e = absurd (omega arith)
 

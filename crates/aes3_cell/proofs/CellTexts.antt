@@ -14,11 +14,11 @@ use Rattle.aes3_cell.specs.TextReading.{TextReader, text_reader_of, kind_answer,
 use Rattle.aes3_cell.proofs.Lines.{word_len_64}
 
 -- one byte before the others
-good_bytes-good : (x : ℕ) (b : List ℕ) → is_good_byte x ≡ true → good_bytes (x ∷ b) ≡ x ∷ good_bytes b
+pub good_bytes-good : (x : ℕ) (b : List ℕ) → is_good_byte x ≡ true → good_bytes (x ∷ b) ≡ x ∷ good_bytes b
 unfolding good_bytes
 good_bytes-good x b h = take_while-cons is_good_byte x b ∙ ap (λ p. cond p (x ∷ take_while is_good_byte b) []) h
 
-good_bytes-bad : (x : ℕ) (b : List ℕ) → is_good_byte x ≡ false → good_bytes (x ∷ b) ≡ []
+pub good_bytes-bad : (x : ℕ) (b : List ℕ) → is_good_byte x ≡ false → good_bytes (x ∷ b) ≡ []
 unfolding good_bytes
 good_bytes-bad x b h = take_while-cons is_good_byte x b ∙ ap (λ p. cond p (x ∷ take_while is_good_byte b) []) h
 

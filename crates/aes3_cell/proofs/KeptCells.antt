@@ -6,7 +6,7 @@ use Rattle.std.specs.Simd.Lanes.{zip2}
 use Rattle.std.specs.Int.Bits.{or_shifted_r}
 use Rattle.std.specs.Int.Count.{ones, ones_step, ones-le}
 use Rattle.std.proofs.lemmas.Bool.{agree_below_at, eqb-true, and_parts}
-use Rattle.std.proofs.lemmas.Nat.{and_mask, or_shifted, or_lt, shl_below, shr-shr, mod-pow-add}
+use Rattle.std.proofs.lemmas.Nat.{and_mask, or_shifted, or_lt, shl_below, shr-shr}
 use Rattle.std.proofs.lemmas.Nat.Bits.{bit_at_cat_low, bit_at_cat_high}
 use Rattle.std.proofs.Math.Nat.{pow-succ'}
 use Rattle.std.proofs.Math.Pow.{pow_mono}
@@ -15,7 +15,7 @@ use Rattle.aes3_cell.specs.declared.scattered.TheConstants.{TOGETHER, COUNTS}
 use Rattle.aes3_cell.specs.Words.{bit_of, low_cells}
 use Rattle.aes3_cell.specs.Scattered.{cell_if, kept_cells, Holds}
 use Rattle.aes3_cell.proofs.WordCells.{low_cells-add, low_cells-same}
-use Rattle.aes3_cell.proofs.Octets.{bit_of-lt, level_of-bit_of, lowest-cell}
+use Rattle.aes3_cell.proofs.Octets.{bit_of-lt, level_of-bit_of, lowest-cell, mod-suc}
 use Rattle.aes3_cell.proofs.Moves.{bit_at-shr}
 
 -- how many cells are kept
@@ -59,9 +59,6 @@ kept-add (suc m) n k l =
     ∙ ap (λ c. cell_if (k % 2) (l % 2) ++ c) (kept-add m n (k / 2) (l / 2)
     ∙ ap₂ (λ u v. kept_cells m (k / 2) (l / 2) ++ kept_cells n u v) (shr-shr k 1 m ∙ ap (λ v. k / 2 ^ v) b) (shr-shr l 1 m ∙ ap (λ v. l / 2 ^ v) b))
     ∙ sym (append_assoc (cell_if (k % 2) (l % 2)) (kept_cells m (k / 2) (l / 2)) (kept_cells n (k / 2 ^ suc m) (l / 2 ^ suc m)))
-
-mod-suc : (w n : ℕ) → w % 2 ^ suc n ≡ (w / 2 % 2 ^ n) * 2 + w % 2
-mod-suc w n = ap (λ k. w % 2 ^ k) (let e : suc n ≡ n + 1 = omega arith in e) ∙ mod-pow-add w n 1
 
 kept-low : (n k l : ℕ) → kept_cells n (k % 2 ^ n) (l % 2 ^ n) ≡ kept_cells n k l
 unfolding kept_cells

@@ -40,10 +40,11 @@ reverse-replicate zero x = refl
 reverse-replicate (suc n) x =
     reverse-cons x (replicate n x) ∙ ap (λ c. c ++ x ∷ []) (reverse-replicate n x) ∙ replicate_more n x ∙ ap (λ k. replicate k x) (add-one n)
 
--- the lowest n bits are zero exactly where these cells are Low
-mod-suc : (w n : ℕ) → w % 2 ^ suc n ≡ (w / 2 % 2 ^ n) * 2 + w % 2
+-- one more of the lowest bits
+pub mod-suc : (w n : ℕ) → w % 2 ^ suc n ≡ (w / 2 % 2 ^ n) * 2 + w % 2
 mod-suc w n = ap (λ k. w % 2 ^ k) (sym (add-one n)) ∙ mod-pow-add w n 1
 
+-- the lowest n bits are zero exactly where these cells are Low
 pub low_cells-Low : (n w : ℕ) → w % 2 ^ n ≡ 0 → low_cells n w ≡ replicate n Low
 low_cells-Low zero w h = refl
 low_cells-Low (suc n) w h =

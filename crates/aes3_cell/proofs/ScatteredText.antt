@@ -4,26 +4,18 @@ use Rattle.std.specs.Prelude.{bit_or, ◌||◌, if◌then◌else◌}
 use Rattle.std.specs.Int.{bit_at}
 use Rattle.std.specs.List.{flat_map, take_while}
 use Rattle.std.proofs.lemmas.Bool.{eqb-true}
-use Rattle.std.proofs.lemmas.List.Sums.{take_while-cons}
 use Rattle.std.proofs.lemmas.Nat.{or_lt}
 use Rattle.std.proofs.lemmas.Nat.Bits.{bit_at_lowest, bit_at-suc, bit_at_or, bit_at_ones, same_from_bits_below}
 use Rattle.aes3_cell.specs.declared.level.Level.TheVariants.{Low, High}
 use Rattle.aes3_cell.specs.CellText.{Kind, cell, separator, bad, kind_of, is_good, kind_cells, is_good_byte, byte_cells, good_bytes, good, cells_of_text, IsCellText}
 use Rattle.aes3_cell.specs.Scattered.{cell_if, kept_cells}
+use Rattle.aes3_cell.proofs.CellTexts.{good_bytes-good, good_bytes-bad}
 
 -- text all of whose bytes are good, and the bytes of good text
-good-first : (x : ℕ) (b : List ℕ) → is_good_byte x ≡ true → good_bytes (x ∷ b) ≡ x ∷ good_bytes b
-unfolding good_bytes
-good-first x b h = take_while-cons is_good_byte x b ∙ ap (λ p. cond p (x ∷ take_while is_good_byte b) []) h
-
-bad-first : (x : ℕ) (b : List ℕ) → is_good_byte x ≡ false → good_bytes (x ∷ b) ≡ []
-unfolding good_bytes
-bad-first x b h = take_while-cons is_good_byte x b ∙ ap (λ p. cond p (x ∷ take_while is_good_byte b) []) h
-
 all-good : (b : List ℕ) → ((i : ℕ) → i < length b → is_good_byte (get_or b i 0) ≡ true) → good_bytes b ≡ b
 unfolding good_bytes
 all-good [] h = refl
-all-good (x ∷ b) h = good-first x b (h 0 (omega arith)) ∙ ap (λ c. x ∷ c) (all-good b (λ i g. h (suc i) (omega arith)))
+all-good (x ∷ b) h = good_bytes-good x b (h 0 (omega arith)) ∙ ap (λ c. x ∷ c) (all-good b (λ i g. h (suc i) (omega arith)))
 
 pub good-at : (b : List ℕ) → good b ≡ length b → (i : ℕ) → i < length b → is_good_byte (get_or b i 0) ≡ true
 good-at [] e i h = absurd (omega arith)
@@ -32,8 +24,8 @@ good-at (x ∷ b) e i h = go (is_good_byte x) refl (good-at b) i h
     go : (p : Bool) → is_good_byte x ≡ p → (good b ≡ length b → (i : ℕ) → i < length b → is_good_byte (get_or b i 0) ≡ true)
         → (i : ℕ) → i < length (x ∷ b) → is_good_byte (get_or (x ∷ b) i 0) ≡ true
     go true g next zero h = g
-    go true g next (suc i) h = next (let l = ap length (good-first x b g) in omega arith) i (omega arith)
-    go false g next i h = absurd (let l = ap length (bad-first x b g) in omega arith)
+    go true g next (suc i) h = next (let l = ap length (good_bytes-good x b g) in omega arith) i (omega arith)
+    go false g next i h = absurd (let l = ap length (good_bytes-bad x b g) in omega arith)
 
 -- the cells of bytes, each by its bits
 kept-bytes : (b : List ℕ) (k l : ℕ) → ((i : ℕ) → i < length b → cell_if (bit_at k i) (bit_at l i) ≡ byte_cells (get_or b i 0)) → kept_cells (length b) k l ≡ flat_map byte_cells b

@@ -253,11 +253,8 @@ clean-file : (form : Form) (b : List ℕ) → first_fault (encoding form) b ≡ 
     → IsBlockFile b
 clean-file form b c e = record { whole = whole; lawful = (clean-lawful form b c).is }
   where
-    some-none : {x : RunError} → Some x ≡ None → ⊥
-    some-none q = cc
-
     whole : length b % (4 * block_slots) ≡ 0
-    whole = elim (end-cases form b) [ inl q ↦ q.1 | inr q ↦ absurd (some-none (sym q.0 ∙ e)) ]
+    whole = elim (end-cases form b) [ inl q ↦ q.1 | inr q ↦ absurd (none-some _ (sym e ∙ q.0)) ]
 
 -- the counts of a run
 pub counted : (b : List ℕ) (n blocks : ℕ) → n ≡ length b → blocks ≡ length (file_blocks b)

@@ -159,10 +159,7 @@ fault-of t n = cond {A = Option RunError} t (Some (BadSample n)) None
 
 fault-none : (t : Bool) (n : ℕ) → fault-of t n ≡ None → t ≡ false
 fault-none false n h = refl
-fault-none true n h = absurd (some-none h)
-  where
-    some-none : {x : RunError} → Some x ≡ None → ⊥
-    some-none q = cc
+fault-none true n h = absurd (none-some _ (sym h))
 
 fault-some : (t : Bool) (n : ℕ) (e : RunError) → fault-of t n ≡ Some e → (t ≡ true) × (e ≡ BadSample n)
 fault-some false n e h = absurd (none-some _ h)

@@ -190,11 +190,8 @@ clean-pcm : (exact : Bool) (k : change.Change) (b : List ℕ) → first_fault (s
     → (sampling exact k).end_fault b ≡ None → IsPcm exact b
 clean-pcm exact k b c e = record { whole = whole; bits = clean-all exact k b c }
   where
-    some-none : {x : RunError} → Some x ≡ None → ⊥
-    some-none q = cc
-
     whole : length b % frame_len ≡ 0
-    whole = elim (end-cases exact k b) [ inl q ↦ q.1 | inr q ↦ absurd (some-none (sym q.0 ∙ e)) ]
+    whole = elim (end-cases exact k b) [ inl q ↦ q.1 | inr q ↦ absurd (none-some _ (sym e ∙ q.0)) ]
 
 -- samples that fit have no cause
 pub no-pcm-cause : (exact : Bool) (max : ℕ) (b : List ℕ) (ended : Bool) → IsPcm exact b → length b ≤ max

@@ -12,7 +12,8 @@ use Rattle.aes3_cell.specs.declared.level.Level.{Level}
 use Rattle.aes3_cell.specs.Words.{low_cells, word_len, word_cells}
 use Rattle.aes3_cell.proofs.WordCells.{low_cells-add, low_cells-same}
 use Rattle.aes3_cell.proofs.Moves.{bit_at-shr, shl-below, shl-above}
-use Rattle.aes3_input.proofs.Handing.{cells-parted, words-set}
+use Rattle.aes3_cell.proofs.ManyWords.{words-more}
+use Rattle.aes3_input.proofs.Handing.{cells-parted}
 
 -- n cells and others behind them, in 64 bits
 module _ (n v w : ℕ) (bound : v < 2 ^ n) (few : n < 64) where
@@ -65,7 +66,7 @@ pub words-joined : (ws : List ℕ) (i n w : ℕ) (full : Bool) (rest more left :
 words-joined ws i n w true rest more left h k e =
     append_assoc (flat_map word_cells (take i ws)) rest more ∙ ap (λ c. flat_map word_cells (take i ws) ++ c) (sym e)
     ∙ sym (append_assoc (flat_map word_cells (take i ws)) (word_cells w) left)
-    ∙ ap (λ c. c ++ left) (sym (words-set ws i w h) ∙ ap (λ j. flat_map word_cells (take (i + j) (set ws i w))) (sym k))
+    ∙ ap (λ c. c ++ left) (sym (words-more ws i w h) ∙ ap (λ j. flat_map word_cells (take (i + j) (set ws i w))) (sym k))
 words-joined ws i n w false rest more left h k e =
     let z : i ≡ i + n = omega (arith, k) in
     append_assoc (flat_map word_cells (take i ws)) rest more ∙ ap (λ c. flat_map word_cells (take i ws) ++ c) (sym e)

@@ -1,8 +1,8 @@
 -- Cells and words handed to a taker, one behind the other.
-use Rattle.std.proofs.Common.{◌≡◌, ℕ, ◌+◌, ◌-◌, ◌/◌, ◌*◌, ◌^◌, ◌<◌, ◌≤◌, length, length-append, take, drop, get_or, set, Result, Ok, Err, refl, List, [], ◌∷◌, ◌++◌, Option, sym, ap, ◌∙◌, subst, arith, append-nil, append_assoc}
+use Rattle.std.proofs.Common.{◌≡◌, ℕ, ◌+◌, ◌-◌, ◌/◌, ◌*◌, ◌^◌, ◌<◌, ◌≤◌, length, length-append, take, drop, get_or, Result, Ok, Err, refl, List, [], ◌∷◌, ◌++◌, Option, sym, ap, ◌∙◌, subst, arith, append-nil, append_assoc}
 use Rattle.std.specs.List.{flat_map}
 use Rattle.std.proofs.lemmas.Grind.{flat_map-append}
-use Rattle.std.proofs.lemmas.List.{take_more, take_more_set, take-append-drop}
+use Rattle.std.proofs.lemmas.List.{take_more, take-append-drop}
 use Rattle.std.proofs.Math.Seq.{take-add}
 use Rattle.aes3_cell.specs.declared.level.Level.{Level}
 use Rattle.aes3_cell.specs.Ends.{Grew, GrewFront}
@@ -75,10 +75,6 @@ pub words-more : (ws : List ℕ) (i : ℕ) → i < length ws → flat_map word_c
 words-more ws i h =
     ap (flat_map word_cells) (take_more ws i 0 h) ∙ flat_map-append word_cells (take i ws) (get_or ws i 0 ∷ [])
     ∙ ap (λ v. flat_map word_cells (take i ws) ++ v) (one-word (get_or ws i 0))
-
-pub words-set : (ws : List ℕ) (i w : ℕ) → i < length ws → flat_map word_cells (take (i + 1) (set ws i w)) ≡ flat_map word_cells (take i ws) ++ word_cells w
-words-set ws i w h =
-    ap (flat_map word_cells) (take_more_set ws i w h) ∙ flat_map-append word_cells (take i ws) (w ∷ []) ∙ ap (λ v. flat_map word_cells (take i ws) ++ v) (one-word w)
 
 pub words-parted : (ws : List ℕ) (i : ℕ) → flat_map word_cells ws ≡ flat_map word_cells (take i ws) ++ flat_map word_cells (drop i ws)
 words-parted ws i = ap (flat_map word_cells) (sym (take-append-drop i ws)) ∙ flat_map-append word_cells (take i ws) (drop i ws)

@@ -1,5 +1,6 @@
 -- A run over packed cells.
 use Rattle.std.proofs.Common.{◌≡◌, ℕ, ◌⊎◌, inl, inr, Bool, true, false, cond, List, [], ◌∷◌, ◌++◌, length, take, Option, Some, None, Ok, Err, refl, sym, ap, ap₂, ◌∙◌, subst, append_assoc}
+use Rattle.std.proofs.lemmas.Option.{none-some, same_Some}
 use Rattle.aes3_cell.specs.declared.level.Level.{Level}
 use Rattle.aes3_cell.specs.declared.form.Form.TheVariants.{Packed}
 use Rattle.aes3_cell.specs.declared.refusal.RunError.{RunError}
@@ -27,9 +28,6 @@ pub clean : (w : Writing Level) (b : List ℕ) → first_fault (packed_reading w
 unfolding first_fault
 clean w b = clean-behind w [] b
 
-some-none : {x : RunError} → Some x ≡ None → ⊥
-some-none q = cc
-
 -- where the octets end rightly, and where they don't
 end-clean : (w : Writing Level) (b : List ℕ) → (packed_reading w).end_fault b ≡ None → is_packed b ≡ true
 unfolding packed_reading
@@ -37,18 +35,15 @@ end-clean w b e = go (is_packed b) refl e
   where
     go : (t : Bool) → is_packed b ≡ t → cond {A = Option RunError} t None (Some (BadPadding (last_place b))) ≡ None → is_packed b ≡ true
     go true q h = q
-    go false q h = absurd (some-none h)
+    go false q h = absurd (none-some _ (sym h))
 
 end-bad : (w : Writing Level) (b : List ℕ) (e : RunError) → (packed_reading w).end_fault b ≡ Some e → (is_packed b ≡ false) × (e ≡ BadPadding (last_place b))
 unfolding packed_reading
 end-bad w b e h = go (is_packed b) refl h
   where
     go : (t : Bool) → is_packed b ≡ t → cond {A = Option RunError} t None (Some (BadPadding (last_place b))) ≡ Some e → (is_packed b ≡ false) × (e ≡ BadPadding (last_place b))
-    go true q h = absurd (some-none (sym h))
-    go false q h = (q, sym (same h))
-      where
-        same : {x y : RunError} → Some x ≡ Some y → x ≡ y
-        same q = cc
+    go true q h = absurd (none-some _ h)
+    go false q h = (q, sym (same_Some _ _ h))
 
 lawful : (w : Writing Level) (b : List ℕ) → (packed_reading w).end_fault b ≡ None → IsPacked b
 lawful w b e = (cells_of_packed b, packs-is_packed b (end-clean w b e))
@@ -74,7 +69,7 @@ adds-octet w b x = refl
 
 never : (w : Writing Level) (b : List ℕ) (x : ℕ) (e : RunError) → (packed_reading w).fault b x ≡ Some e → ⊥
 unfolding packed_reading
-never w b x e h = some-none (sym h)
+never w b x e h = none-some _ h
 
 pub out-packed : (w : Writing Level) (b : List ℕ) → out (packed_reading w) b ≡ before_end w (whole_cells b)
 out-packed w b =
@@ -104,7 +99,7 @@ bad-of : (max : ℕ) (w : Writing Level) (b : List ℕ) (ended : Bool) (e : RunE
     → (first_fault (packed_reading w) (take max b) ≡ Some e) ⊎ (CleanEnd max (packed_reading w) b ended × ((packed_reading w).end_fault b ≡ Some e))
     → CleanEnd max (packed_reading w) b ended × (is_packed b ≡ false) × (e ≡ BadPadding (last_place b))
 bad-of max w b ended e h = elim h [
-  | inl g ↦ absurd (some-none (sym g ∙ clean w (take max b)))
+  | inl g ↦ absurd (none-some _ (sym (clean w (take max b)) ∙ g))
   | inr g ↦ let q = end-bad w b e g.1 in (g.0, q.0, q.1)
 ]
 

@@ -1,5 +1,6 @@
 -- A run over cell text.
 use Rattle.std.proofs.Common.{◌≡◌, ℕ, ◌+◌, ◌<◌, ◌⊎◌, inl, inr, Bool, true, false, cond, List, [], ◌∷◌, ◌++◌, length, take, Option, Some, None, Ok, Err, refl, sym, ap, ◌∙◌, subst, arith, append_assoc, append-nil, length-append}
+use Rattle.std.proofs.lemmas.Option.{none-some, same_Some}
 use Rattle.aes3_cell.specs.declared.level.Level.{Level}
 use Rattle.aes3_cell.specs.declared.form.Form.TheVariants.{Text}
 use Rattle.aes3_cell.specs.declared.refusal.RunError.{RunError}
@@ -36,10 +37,7 @@ clean-behind w p (x ∷ d) h = go (is_good_byte x) refl (clean-behind w (p ++ x 
     go true e next =
         let n = next (ap (λ o. or_else o (fault_behind (text_reading w) (p ++ x ∷ []) d)) (sym (byte-fault w p x true e)) ∙ h) in
         record { is = let g = good-join (x ∷ []) d (text-one x e) in let i = n.is in omega arith }
-    go false e next = absurd (some-none (ap (λ o. or_else o (fault_behind (text_reading w) (p ++ x ∷ []) d)) (sym (byte-fault w p x false e)) ∙ h))
-      where
-        some-none : {x : RunError} → Some x ≡ None → ⊥
-        some-none q = cc
+    go false e next = absurd (none-some _ (sym h ∙ ap (λ o. or_else o (fault_behind (text_reading w) (p ++ x ∷ []) d)) (byte-fault w p x false e)))
 
 bad-behind : (w : Writing Level) (p d : List ℕ) (f : RunError) → fault_behind (text_reading w) p d ≡ Some f → (f ≡ BadCell (length p + good d)) × (good d < length d)
 bad-behind w p [] f h = absurd cc
@@ -58,10 +56,7 @@ bad-behind w p (x ∷ d) f h = go (is_good_byte x) refl (bad-behind w (p ++ x �
     go false e next =
         let g : good (x ∷ d) ≡ 0 = good-bad [] x d text-none e in
         let s : length p ≡ length p + good (x ∷ d) = omega arith in
-        (some-is (sym h ∙ ap (λ o. or_else o (fault_behind (text_reading w) (p ++ x ∷ []) d)) (byte-fault w p x false e)) ∙ ap BadCell s, omega arith)
-      where
-        some-is : {x y : RunError} → Some x ≡ Some y → x ≡ y
-        some-is q = cc
+        (same_Some _ _ (sym h ∙ ap (λ o. or_else o (fault_behind (text_reading w) (p ++ x ∷ []) d)) (byte-fault w p x false e)) ∙ ap BadCell s, omega arith)
 
 pub text-clean : (w : Writing Level) (p d : List ℕ) → IsCellText d → fault_behind (text_reading w) p d ≡ None
 text-clean w p d g = go (fault_behind (text_reading w) p d) refl
@@ -103,17 +98,11 @@ out-text w b =
     more : (b : List ℕ) (x : ℕ) (t : Bool) → is_good_byte x ≡ t → IsCellText b → (text_reading w).fault b x ≡ None
         → before_end w (cells_of_text (b ++ x ∷ [])) ≡ before_end w (cells_of_text b) ++ (text_reading w).adds b x
     more b x true e g n = ap (before_end w) (cells-more b x g) ∙ before-join w (cells_of_text b) (byte_cells x) ∙ ap (λ z. before_end w (cells_of_text b) ++ z) (sym (adds-text w b x))
-    more b x false e g n = absurd (some-none (sym (byte-fault w b x false e) ∙ n))
-      where
-        some-none : {x : RunError} → Some x ≡ None → ⊥
-        some-none q = cc
+    more b x false e g n = absurd (none-some _ (sym n ∙ byte-fault w b x false e))
 
     stays : (b : List ℕ) (x : ℕ) (d : List ℕ) (f : RunError) (t : Bool) → is_good_byte x ≡ t → IsCellText b → (text_reading w).fault b x ≡ Some f
         → before_end w (cells_of_text (b ++ x ∷ d)) ≡ before_end w (cells_of_text b)
-    stays b x d f true e g n = absurd (none-some (sym (byte-fault w b x true e) ∙ n))
-      where
-        none-some : {x : RunError} → None ≡ Some x → ⊥
-        none-some q = cc
+    stays b x d f true e g n = absurd (none-some _ (sym (byte-fault w b x true e) ∙ n))
     stays b x d f false e g n = ap (before_end w) (cells-bad b x d g e)
 
 whole-text : (w : Writing Level) (b : List ℕ) → whole (text_reading w) b ≡ with_end w (cells_of_text b)
@@ -155,11 +144,8 @@ bad-of : (max : ℕ) (w : Writing Level) (b : List ℕ) (ended : Bool) (e : RunE
 unfolding text_reading
 bad-of max w b ended e h = elim h [
   | inl g ↦ bad-text w (take max b) e g
-  | inr g ↦ absurd (none-some g.1)
+  | inr g ↦ absurd (none-some _ g.1)
 ]
-  where
-    none-some : {x : RunError} → None ≡ Some x → ⊥
-    none-some q = cc
 
 text-cause : (w : Writing Level) (max : ℕ) (b : List ℕ) (ended : Bool) (e : RunError) → IsFault (text_reading w) max b ended e → IsCause Text max b ended e
 text-cause w max b ended Read r = (clean-text w b r.clean, r.short)

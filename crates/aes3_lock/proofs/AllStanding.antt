@@ -7,6 +7,7 @@ use Rattle.std.proofs.lemmas.Bool.{cases_Bool}
 use Rattle.std.proofs.lemmas.List.{map-append}
 use Rattle.std.proofs.lemmas.List.Elements.{All-nil, All-append, Contains-append_right}
 use Rattle.std.proofs.lemmas.List.Kept.{AllPairs-cons}
+use Rattle.std.proofs.lemmas.Option.{same_Some}
 use Rattle.aes3_cell.specs.declared.level.Level.{Level}
 use Rattle.aes3_slot.specs.Slots.{with_parity}
 use Rattle.aes3_block.specs.Blocks.{block_len}
@@ -31,11 +32,8 @@ pub at-standing : (b : List (List Bool)) (s : Level) (c : List Level) → outcom
     → StandsClosed b s c
 at-standing b s c e = go (cases_Bool (begins_block c))
   where
-    same : (x y : Outcome) → Some x ≡ Some y → x ≡ y
-    same x y q = cc
-
     go : (begins_block c ≡ true) ⊎ (begins_block c ≡ false) → StandsClosed b s c
-    go (inl t) = whole-standing b s c (same _ _ (sym (outcome_at-some c t) ∙ e))
+    go (inl t) = whole-standing b s c (same_Some _ _ (sym (outcome_at-some c t) ∙ e))
     go (inr t) = let q : None ≡ Some (whole s b) = sym (outcome_at-none c t) ∙ e in cc
 
 pub closed-room : (b : List (List Bool)) (s : Level) (c : List Level) → StandsClosed b s c → block_len ≤ length c

@@ -15,24 +15,13 @@ use Rattle.aes3_block.proofs.CellLaws.{length-block_cells, block_cells-unique, b
 use Rattle.aes3_lock.specs.Damage.{changed, between_slots, exchanged, places_apart}
 use Rattle.aes3_lock.specs.Remains.{left_of}
 use Rattle.aes3_lock.specs.Standing.{StandsClosed}
-use Rattle.aes3_lock.proofs.Apart.{length-changed, at-changed, at-others, other-of, differs-true, differs-false}
+use Rattle.aes3_lock.proofs.Apart.{length-changed, at-changed, at-others, other-of, differs-false, like, unlike}
 use Rattle.aes3_lock.proofs.DamageLaws.{stands-local}
 use Rattle.aes3_lock.proofs.Distances.{block-kept, block-level, other-same}
 use Rattle.aes3_lock.proofs.Exchanged.{Between, between-true, true-between, exchanged-block, exchanged-cells}
 use Rattle.aes3_block.proofs.BlockLemmas.{block_slots_384}
-use Rattle.aes3_slot.proofs.Distance.{equal-or}
 
 -- the first of the places, and those behind it where its cell is changed back
-unlike : (u v : Level) → differs u v ≡ true → u ≡ v → ⊥
-unlike u v t q = let r : true ≡ false = sym t ∙ differs-false u v q in cc
-
-like : (u v : Level) → differs u v ≡ false → u ≡ v
-like u v t = go (equal-or u v)
-  where
-    go : (u ≡ v) ⊎ (u ≡ v → ⊥) → u ≡ v
-    go (inl i) = i
-    go (inr i) = let r : true ≡ false = sym (differs-true u v i) ∙ t in cc
-
 abbrev First : ℕ → ℕ → List Level → List Level → Type 0
 First n x c d =
     (z : ℕ) × (x ≡ n + z) × (z < length c) × (z < length d) × (at c z ≡ at d z → ⊥)

@@ -21,6 +21,15 @@ differs-false Low High h = cc
 differs-false High Low h = cc
 differs-false High High h = refl
 
+pub unlike : (x y : Level) → differs x y ≡ true → x ≡ y → ⊥
+unlike x y t e = let q : true ≡ false = sym t ∙ differs-false x y e in cc
+
+pub like : (x y : Level) → differs x y ≡ false → x ≡ y
+like Low Low q = refl
+like Low High q = absurd (let r : true ≡ false = q in cc)
+like High Low q = absurd (let r : true ≡ false = q in cc)
+like High High q = refl
+
 -- what isn't a level is the other one
 pub other-of : (x y : Level) → (x ≡ y → ⊥) → other x ≡ y
 other-of Low Low h = absurd (h refl)
@@ -194,16 +203,10 @@ apart-none [] (y ∷ d) l h = absurd (omega arith)
 apart-none (x ∷ c) [] l h = absurd (omega arith)
 apart-none (x ∷ c) (y ∷ d) l h = go (differs x y) refl h (apart-none c d (omega arith))
   where
-    same : (x y : Level) → differs x y ≡ false → x ≡ y
-    same Low Low q = refl
-    same Low High q = absurd (let r : true ≡ false = q in cc)
-    same High Low q = absurd (let r : true ≡ false = q in cc)
-    same High High q = refl
-
     go : (b : Bool) → differs x y ≡ b → cond b (suc (apart c d)) (apart c d) ≡ 0 → (apart c d ≡ 0 → c ≡ d)
         → x ∷ c ≡ y ∷ d
     go true p z more = absurd (omega arith)
-    go false p z more = ap₂ (λ x c. x ∷ c) (same x y p) (more z)
+    go false p z more = ap₂ (λ x c. x ∷ c) (like x y p) (more z)
 
 -- the cells of a list of which one is changed
 pub length-changed : (k : ℕ) (c : List Level) → length (changed k c) ≡ length c

@@ -16,6 +16,7 @@ use Rattle.aes3_block.specs.Blocks.{block_len, block_cells, stream, IsBlock}
 use Rattle.aes3_block.proofs.FileLaws.{EachBlock}
 use Rattle.aes3_block.proofs.CellLaws.{length-block_cells, stream-cons, block_len_24576}
 use Rattle.aes3_lock.specs.Damage.{apart}
+use Rattle.aes3_lock.specs.Pieces.{IsPiece}
 use Rattle.aes3_lock.specs.Reports.{reports_from, wholes}
 use Rattle.aes3_lock.specs.Standing.{StandsClosed}
 use Rattle.aes3_lock.proofs.AllStanding.{closed-room}
@@ -24,7 +25,7 @@ use Rattle.aes3_lock.proofs.Distances.{off-subframes, off-blocks}
 use Rattle.aes3_lock.proofs.LawfulPieces.{stream_marks, stream-kept}
 use Rattle.aes3_lock.proofs.OwnPlace.{PairApart, own-place}
 use Rattle.aes3_lock.proofs.PlaceBlocks.{block_here, blocks-collect, here-none, here-any}
-use Rattle.aes3_lock.proofs.PieceBounds.{piece-rest}
+use Rattle.aes3_lock.proofs.PieceBounds.{length-piece, piece-rest}
 use Rattle.aes3_lock.proofs.Places.{gather, collect-gather}
 
 -- some cells of a piece are those of the stream
@@ -35,6 +36,13 @@ piece-window i j q n c l =
 
 pub piece-cell : (i j x : ℕ) (c : List Level) → x < j - i → at (take (j - i) (drop i c)) x ≡ at c (i + x)
 piece-cell i j x c l = get_or-take (j - i) (drop i c) x Low l ∙ get_or-drop i c x Low
+
+-- the cell of a piece is that of its stream
+pub streamed : {s : Level} {bs : List (List (List Bool))} {i j : ℕ} {c : List Level} → IsPiece s bs i j c → (x : ℕ)
+    → x < length c → at c x ≡ at (stream s bs) (i + x)
+streamed {s} {bs} {i} {j} {c} piece x l =
+    let n = ap length piece.is ∙ length-piece i j (stream s bs) piece.order piece.within in
+    ap (λ c. at c x) piece.is ∙ piece-cell i j x (stream s bs) (omega arith)
 
 -- cell x of the blocks from place p on, as the piece has it
 pub line-cell : (s : Level) (bs more : List (List (List Bool))) (i j p x : ℕ) → i ≤ p → p + x < j

@@ -5,6 +5,7 @@ use Rattle.std.proofs.Common.{sym, arith, length-append, lt-ltb, le-ltb, ltb-tru
 use Rattle.std.proofs.Common.{append_assoc, append-nil}
 use Rattle.std.proofs.lemmas.Bool.{cases_lt, and_parts, eqb-false}
 use Rattle.std.proofs.lemmas.List.{get_or_append_left, take-append-le, drop-append-le, length-drop}
+use Rattle.std.proofs.lemmas.Option.{same_Some}
 use Rattle.aes3_cell.specs.declared.level.Level.{Level}
 use Rattle.aes3_cell.specs.declared.level.Level.TheVariants.{Low}
 use Rattle.aes3_slot.specs.declared.mark.Mark.TheVariants.{X, Y, Z}
@@ -14,6 +15,7 @@ use Rattle.aes3_slot.proofs.Index.{before-append_left}
 use Rattle.aes3_slot.proofs.RuleTests.{same-refl}
 use Rattle.aes3_slot.proofs.OwnPreambles.{only-Z, stands-at}
 use Rattle.aes3_block.specs.Blocks.{mark_at, block_slots, block_len}
+pub use Rattle.aes3_block.proofs.CellLaws.{block_len_24576}
 use Rattle.aes3_lock.specs.declared.report.Report.{Report}
 use Rattle.aes3_slot.specs.Preambles.{entry}
 use Rattle.aes3_lock.specs.Candidates.{keeps, front, begins_block}
@@ -25,10 +27,6 @@ use Rattle.aes3_slot.proofs.Beginnings.{begins-stands, begins-room, entry-append
 pub block_len_64 : block_len ≡ 64 * block_slots
 unfolding block_len
 block_len_64 = refl
-
-pub block_len_24576 : block_len ≡ 24576
-unfolding block_len block_slots
-block_len_24576 = refl
 
 pub read_slots-append : (n : ℕ) (c d : List Level) → 64 * n ≤ length c → read_slots n (c ++ d) ≡ read_slots n c
 read_slots-append zero c d h = refl
@@ -101,10 +99,7 @@ decided-tests c r e = go (begins_block c) (ltb (front (entry c) c) (length c)) r
     go : (x y : Bool) → begins_block c ≡ x → ltb (front (entry c) c) (length c) ≡ y
         → cond (x && y) (Some (outcome c)) None ≡ Some r
         → (begins_block c ≡ true) × (front (entry c) c < length c) × (outcome c ≡ r)
-    go true true a b e = (a, ltb-true _ _ b, some-same (outcome c) r e)
-      where
-        some-same : (x y : Outcome) → Some x ≡ Some y → x ≡ y
-        some-same x y e = cc
+    go true true a b e = (a, ltb-true _ _ b, same_Some (outcome c) r e)
     go true false a b e = cc
     go false y a b e = cc
 

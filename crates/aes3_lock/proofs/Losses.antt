@@ -22,7 +22,7 @@ use Rattle.aes3_lock.specs.Pieces.{IsPiece}
 use Rattle.aes3_lock.specs.Reports.{blocks}
 use Rattle.aes3_lock.specs.Standing.{StandsClosed}
 use Rattle.aes3_lock.proofs.AllStanding.{closed-room, blocks-all_standing}
-use Rattle.aes3_lock.proofs.Damaged.{piece-cell}
+use Rattle.aes3_lock.proofs.Damaged.{streamed}
 use Rattle.aes3_lock.proofs.DamageLaws.{length-of}
 use Rattle.aes3_lock.proofs.Distances.{block-level, block-mark}
 use Rattle.aes3_lock.proofs.LawfulPieces.{stream_marks, stream-kept, stream-length, stream-level, stream-aligned}
@@ -146,11 +146,6 @@ module _ (s : Level) (bs : List (List (List Bool))) (i j : ℕ) (c : List Level)
   reach : i + length c ≤ length (stream s bs)
   reach = let l = length-of s bs i j c piece in let w = piece.within in let o = piece.order in omega arith
 
-  streamed : (x : ℕ) → x < length c → at c x ≡ at (stream s bs) (i + x)
-  streamed x l =
-      let o = length-of s bs i j c piece in
-      ap (λ c. at c x) piece.is ∙ piece-cell i j x (stream s bs) (omega arith)
-
   -- the first three cells of a subframe of the stream
   begun-run : (p k : ℕ) → p % 64 ≡ 0 → k < 3 → p < length (stream s bs) → at (stream s bs) (p + k) ≡ other s
   begun-run p k a l o =
@@ -173,7 +168,7 @@ module _ (s : Level) (bs : List (List (List Bool))) (i j : ℕ) (c : List Level)
   cell x l =
       let m = block_len_24576 in
       ap (λ c. at c x) (sym z.cells) ∙ get_or-take block_len (drop q e) x Low (omega arith) ∙ get_or-drop q e x Low
-      ∙ h.cell (q + x) (inside x l) ∙ streamed (q + x + f (q + x)) (h.within (q + x) (inside x l))
+      ∙ h.cell (q + x) (inside x l) ∙ streamed piece (q + x + f (q + x)) (h.within (q + x) (inside x l))
 
   last-cell : at (block_cells t d) 24575 ≡ t
   last-cell = let k = block_slots_384 in block-level t d z.block 384 (omega arith)
@@ -304,7 +299,7 @@ module _ (s : Level) (bs : List (List (List Bool))) (i j : ℕ) (c : List Level)
               let g : i + (q + f (q + 64 * m) + x) ≡ i + (q + f (q + 64 * m)) + x = omega arith in
               get_or-take block_len (drop (q + f (q + 64 * m)) c) x Low (omega arith)
               ∙ get_or-drop (q + f (q + 64 * m)) c x Low
-              ∙ streamed (q + f (q + 64 * m) + x) (omega arith) ∙ ap (at (stream s bs)) g
+              ∙ streamed piece (q + f (q + 64 * m) + x) (omega arith) ∙ ap (at (stream s bs)) g
               ∙ sym (moved x (omega arith)));
           closed = record {
             turns = λ k y.
@@ -318,10 +313,10 @@ module _ (s : Level) (bs : List (List (List Bool))) (i j : ℕ) (c : List Level)
                 other_ne s
                 (sym (begun-run (i + (q + f (q + 64 * m)) + 24576) 0 (omega arith) (lit< tt) (omega arith))
                 ∙ ap (at (stream s bs)) (sym g)
-                ∙ sym (streamed (q + f (q + 64 * m) + block_len) (omega arith))
+                ∙ sym (streamed piece (q + f (q + 64 * m) + block_len) (omega arith))
                 ∙ sym (get_or-drop (q + f (q + 64 * m)) c block_len Low) ∙ y
                 ∙ ap (at (drop (q + f (q + 64 * m)) c)) last ∙ get_or-drop (q + f (q + 64 * m)) c 24575 Low
-                ∙ streamed (q + f (q + 64 * m) + 24575) (omega arith) ∙ ap (at (stream s bs)) v
+                ∙ streamed piece (q + f (q + 64 * m) + 24575) (omega arith) ∙ ap (at (stream s bs)) v
                 ∙ sym (moved 24575 (lit< tt)) ∙ last-cell ∙ aligned.1);
           };
         }

@@ -7,7 +7,7 @@ use Rattle.aes3_slot.specs.Reading.{differs}
 use Rattle.aes3_slot.specs.Rules.{at}
 use Rattle.aes3_lock.specs.Damage.{apart, between_slots, exchanged, places_apart}
 use Rattle.aes3_lock.specs.Remains.{left_of}
-use Rattle.aes3_lock.proofs.Apart.{differs-true, differs-false}
+use Rattle.aes3_lock.proofs.Apart.{differs-true, differs-false, unlike}
 use Rattle.aes3_lock.proofs.Exchanged.{Between, between-true, true-between}
 
 -- a member of a list of places
@@ -34,9 +34,6 @@ has-places n m [] d h = absurd h
 has-places n m (x ∷ c) [] h = absurd h
 has-places n m (x ∷ c) (y ∷ d) h = go (differs x y) refl h (λ k. has-places (suc n) m c d k)
   where
-    unlike : (x y : Level) → differs x y ≡ true → x ≡ y → ⊥
-    unlike x y t e = let q : true ≡ false = sym t ∙ differs-false x y e in cc
-
     later : ((z : ℕ) × (m ≡ suc n + z) × (z < length c) × (at c z ≢ at d z)) → (z : ℕ) × (m ≡ n + z)
         × (z < suc (length c)) × (at (x ∷ c) z ≢ at (y ∷ d) z)
     later (z, e, l, o) = (suc z, omega arith, omega arith, o)

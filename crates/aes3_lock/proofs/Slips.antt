@@ -9,7 +9,7 @@ use Rattle.aes3_block.specs.Blocks.{mark_at, block_slots, block_len, block_cells
 use Rattle.aes3_block.proofs.FileLaws.{each-block}
 use Rattle.aes3_block.proofs.CellLaws.{length-block_cells, block_len_24576}
 use Rattle.aes3_lock.specs.Pieces.{IsPiece}
-use Rattle.aes3_lock.proofs.Damaged.{piece-cell}
+use Rattle.aes3_lock.proofs.Damaged.{streamed}
 use Rattle.aes3_lock.proofs.Distances.{block-kept, block-level}
 use Rattle.aes3_lock.proofs.LawfulPieces.{stream-aligned}
 use Rattle.aes3_lock.proofs.PieceBounds.{length-piece}
@@ -17,12 +17,6 @@ use Rattle.aes3_lock.proofs.PieceBounds.{length-piece}
 module _ (s : Level) (bs : List (List (List Bool))) (i j : ℕ) (c : List Level) (piece : IsPiece s bs i j c)
     (d : List (List Bool)) (t : Level)
     (g : IsBlock d) where
-  -- the cell of a piece is that of its stream
-  streamed : (x : ℕ) → x < length c → at c x ≡ at (stream s bs) (i + x)
-  streamed x l =
-      let n = ap length piece.is ∙ length-piece i j (stream s bs) piece.order piece.within in
-      ap (λ c. at c x) piece.is ∙ piece-cell i j x (stream s bs) (omega arith)
-
   -- where a preamble of the block stands in the piece a subframe begins
   preamble-at : (k q : ℕ) → k < 384 → q + 8 ≤ length c
       → ((x : ℕ) → x < 8 → at (block_cells t d) (64 * k + x) ≡ at c (q + x)) → (i + q) % 64 ≡ 0
@@ -36,7 +30,7 @@ module _ (s : Level) (bs : List (List (List Bool))) (i j : ℕ) (c : List Level)
       (stands-from (mark_at k) t (stream s bs) (i + q) (omega arith)
       (λ x o.
       let e : i + q + x ≡ i + (q + x) = omega arith in
-      ap (at (stream s bs)) e ∙ sym (streamed (q + x) (omega arith)) ∙ sym (same x o)
+      ap (at (stream s bs)) e ∙ sym (streamed piece (q + x) (omega arith)) ∙ sym (same x o)
       ∙ own-cell mark_at t (block_cells t d) (block-kept t d g) k x (omega arith) o
       ∙ ap (shape (mark_at k) x) (block-level t d g k (omega arith))))).0
 

@@ -24,7 +24,7 @@ use Rattle.aes3_slot.specs.Rules.{at, before, rule}
 use Rattle.aes3_slot.specs.Slots.{payload_len, slot_runs, slots_bits, slots_len}
 use Rattle.aes3_slot.proofs.ReadWords.{read_bits-word}
 use Rattle.aes3_slot.proofs.Taken.{some-stands, word-read}
-use Rattle.aes3_slot.proofs.Wrong.{differs-bit, same-bit, true-from_zero}
+use Rattle.aes3_slot.proofs.Wrong.{before-low_cells, differs-bit, same-bit, true-from_zero}
 use Rattle.aes3_slot.proofs.Turns.{Sums, sums-itself, sums-doubled, sums-all}
 
 -- `v ^ (v << d)`, for any two operators
@@ -122,14 +122,6 @@ stands-like s m z c i g pre start known = go (cases_lt i 8) (cases_eq (i % 2) 0)
     here : (w : ℕ) → at (low_cells 64 w) i ≡ level_of (bit_at w i)
     here w = low_cells-at 64 w i g
 
-    before-is : (w : ℕ) → 8 ≤ i → before s (low_cells 64 w) i ≡ level_of (bit_at w (i - 1))
-    before-is w l = step i g l
-      where
-        step : (i : ℕ) → i < 64 → 8 ≤ i → before s (low_cells 64 w) i ≡ level_of (bit_at w (i - 1))
-        step zero g l = absurd (omega arith)
-        step (suc i) g l = low_cells-at 64 w i (omega arith)
-            ∙ ap (λ j. level_of (bit_at w j)) (let q : i ≡ suc i - 1 = omega arith in q)
-
     differ : (w v : ℕ) → (bit_at w i + bit_at w (i - 1)) % 2 ≡ (bit_at v i + bit_at v (i - 1)) % 2
         → differs (level_of (bit_at v i)) (level_of (bit_at v (i - 1))) ≡ true
         → differs (level_of (bit_at w i)) (level_of (bit_at w (i - 1))) ≡ true
@@ -153,8 +145,8 @@ stands-like s m z c i g pre start known = go (cases_lt i 8) (cases_eq (i % 2) 0)
         let u = eq-eqb (i % 2) 0 v in
         let hz = here z in
         let hc = here c in
-        let bz = before-is z l in
-        let bc = before-is c l in
+        let bz = before-low_cells s z i g l in
+        let bc = before-low_cells s c i g l in
         let k = rw (six, t, u, hz, bz) at known in
         rw (six, t, u, hc, bc) (differ c z (start l v) k)
     go (inr l) (inr v) =
@@ -178,14 +170,11 @@ module _ (s : Level) (m : Mark) (z x p w : ℕ) (zeros : word_cells z ≡ line s
   odd-bit k h e = let t = ne_eqb (k % 2) 0 (omega arith) in let b = rw t at (spread k h) in b
 
   none : (j : ℕ) → j < 4 → bit_at w j ≡ 0
-  none j h = all-below j h
-    where
-      all-below : (j : ℕ) → j < 4 → bit_at w j ≡ 0
-      all-below zero h = omega arith
-      all-below (suc zero) h = omega arith
-      all-below (suc (suc zero)) h = omega arith
-      all-below (suc (suc (suc zero))) h = omega arith
-      all-below (suc (suc (suc (suc j)))) h = absurd (omega arith)
+  none zero h = omega arith
+  none (suc zero) h = omega arith
+  none (suc (suc zero)) h = omega arith
+  none (suc (suc (suc zero))) h = omega arith
+  none (suc (suc (suc (suc j)))) h = absurd (omega arith)
 
   level : (j : ℕ) → j < 4 → bit_at p j ≡ 0
   level zero h = first ∙ none 0 h

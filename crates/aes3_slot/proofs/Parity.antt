@@ -14,7 +14,7 @@ use Rattle.aes3_slot.specs.Slots.{slot_runs, slots_len, payload_len, with_parity
 use Rattle.aes3_slot.specs.Turns.{turned}
 use Rattle.aes3_slot.specs.Rules.{at, before}
 use Rattle.aes3_slot.specs.Fronts.{with_some_parity}
-use Rattle.aes3_bits.proofs.Bits.{low_bits-suc, low_bits-same, odd_ones-low_bits}
+use Rattle.aes3_bits.proofs.Bits.{low_bits-same, low_bits-suc, odd_ones-low_bits, zero-bit}
 use Rattle.aes3_slot.proofs.Subframes.{after-slots, odd_ones-push, odd_ones-with_parity, xor}
 use Rattle.aes3_slot.proofs.Index.{subframe-last}
 
@@ -118,13 +118,8 @@ pub split-word : (n w : ℕ) → w < 2 ^ suc n
 split-word n w h =
     let e = low_bits-suc n w in
     let o : eqb (count_ones w % 2) 0 ≡ not (odd_ones (low_bits n w ++ eqb (bit_at w n) 1 ∷ [])) =
-    flip (count_ones w % 2) (omega arith) ∙ ap not (odd_ones-low_bits (suc n) w h ∙ ap odd_ones e) in
+    zero-bit (count_ones w % 2) (omega arith) ∙ ap not (odd_ones-low_bits (suc n) w h ∙ ap odd_ones e) in
     let m : low_bits n w ≡ low_bits n (bit_and w (2 ^ n - 1)) = low_bits-same n w (bit_and w (2 ^ n - 1)) (λ i g.
     let x = bit_at-lt w i in
     sym (bit_at_and w (2 ^ n - 1) i ∙ ap (min (bit_at w i)) (bit_at_ones n i g) ∙ omega arith)) in
     e ∙ sym (some-of-push (low_bits n w) (eqb (bit_at w n) 1)) ∙ ap₂ with_some_parity (sym o) m
-  where
-    flip : (k : ℕ) → k < 2 → eqb k 0 ≡ not (eqb k 1)
-    flip zero g = refl
-    flip (suc zero) g = refl
-    flip (suc (suc k)) g = absurd (omega arith)

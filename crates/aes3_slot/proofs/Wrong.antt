@@ -59,6 +59,13 @@ wrong-parts w p i h g =
     ∙ ap₂ min (bit_at_not w64 _ i (xor_lt 64 w (w * 2 ^ 1 % 2 ^ 64) h (mod_below (w * 2 ^ 1) (2 ^ 64) (lit< tt))) g
     ∙ ap (λ x. 1 - x) (bit_at_xor w _ i)) (slot_starts-bit i g))
 
+-- the cell before one behind the preamble
+pub before-low_cells : (s : Level) (w i : ℕ) → i < 64 → 8 ≤ i
+    → before s (low_cells 64 w) i ≡ level_of (bit_at w (i - 1))
+before-low_cells s w zero g l = absurd (omega arith)
+before-low_cells s w (suc i) g l = low_cells-at 64 w i (omega arith)
+    ∙ ap (λ j. level_of (bit_at w j)) (let q : i ≡ suc i - 1 = omega arith in q)
+
 -- `((w ^ p) & 0xFF) | (!(w ^ (w << 1)) & 0x5555_5555_5555_5500)`, with p the preamble
 pub wrong-bit : (s : Level) (m : Mark) (w p i : ℕ) → w < 2 ^ 64 → low_cells 8 p ≡ line s (mark_runs m) → i < 64
     → bit_at (bit_or (bit_and (bit_xor w p) 255)
@@ -82,12 +89,7 @@ wrong-bit s m w p i h e g =
     six = omega arith
 
     before-is : 8 ≤ i → before s (low_cells 64 w) i ≡ level_of (bit_at w (i - 1))
-    before-is l = step i g l
-      where
-        step : (i : ℕ) → i < 64 → 8 ≤ i → before s (low_cells 64 w) i ≡ level_of (bit_at w (i - 1))
-        step zero g l = absurd (omega arith)
-        step (suc i) g l = low_cells-at 64 w i (omega arith)
-            ∙ ap (λ j. level_of (bit_at w j)) (let q : i ≡ suc i - 1 = omega arith in q)
+    before-is l = before-low_cells s w i g l
 
     go : (i < 8) ⊎ (8 ≤ i) → (i % 2 ≡ 0) ⊎ (i % 2 ≡ 0 → ⊥)
         → max (min ((bit_at w i + bit_at p i) % 2) (cond (ltb i 8) 1 0))

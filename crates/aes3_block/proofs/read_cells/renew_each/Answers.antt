@@ -3,8 +3,9 @@ use Rattle.aes3_cell.specs.Cells.{line}
 use Rattle.aes3_slot.specs.Slots.{subframe_runs}
 use Rattle.aes3_block.specs.Blocks.{block_cells}
 use Rattle.aes3_block.proofs.BlockLemmas.{block_slots_384}
-use Rattle.aes3_block.proofs.ReadCells.{read_payload, read-payload, payloads-read}
+use Rattle.aes3_block.proofs.ReadCells.{carried-payload, payloads-carried}
 use Rattle.aes3_block.proofs.Runs.{cells-more, cells-whole}
+use Rattle.aes3_block.proofs.SlotWords.{carried}
 use Rattle.aes3_block.proofs.read_cells.renew_each.Goals as goal
 
 pub loop-slot-preserved : goal.loop-slot-preserved
@@ -15,16 +16,16 @@ loop-slot-preserved c =
     let len = c.loop-slot.invariant.len in
     record {
       len = length-set c.loop-slot.cells i c.renewed.result ∙ len;
-      cells = cells-more read_payload read-payload c.args.before words c.loop-slot.cells i c.renewed.result
+      cells = cells-more carried carried-payload c.args.before words c.loop-slot.cells i c.renewed.result
           (omega arith) (omega arith) c.loop-slot.invariant.cells
           (c.renewed.ensures
-          ∙ ap (λ m. line c.args.before (subframe_runs m (read_payload (get_or words i 0)))) c.mark_of.ensures);
+          ∙ ap (λ m. line c.args.before (subframe_runs m (carried (get_or words i 0)))) c.mark_of.ensures);
     }
 
 pub returns : goal.returns
 returns c =
     let n = block_slots_384 in
     let len = c.loop-slot.invariant.len in
-    cells-whole read_payload read-payload c.args.before c.args.words.now c.loop-slot.cells c.loop-slot.slot
+    cells-whole carried carried-payload c.args.before c.args.words.now c.loop-slot.cells c.loop-slot.slot
     (omega arith) (omega arith) c.loop-slot.invariant.cells
-    ∙ ap (block_cells c.args.before) (payloads-read c.args.words.now)
+    ∙ ap (block_cells c.args.before) (payloads-carried c.args.words.now)

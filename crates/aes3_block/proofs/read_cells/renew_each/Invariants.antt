@@ -3,12 +3,12 @@ use Rattle.std.specs.List.{flat_map}
 use Rattle.aes3_cell.specs.Cells.{line}
 use Rattle.aes3_cell.specs.Words.{word_cells}
 use Rattle.aes3_block.specs.Blocks.{block_runs}
-use Rattle.aes3_block.proofs.ReadCells.{read_payload}
+use Rattle.aes3_block.proofs.SlotWords.{carried}
 use Rattle.aes3_block.proofs.read_cells.renew_each.Given as goal
 
 abbrev pub invariant-loop-slot : goal.invariant-loop-slot
 invariant-loop-slot l = record {
   cells : flat_map word_cells (take l.slot l.cells) ≡ line l.before
-      (block_runs (map read_payload (take l.slot l.words)));
+      (block_runs (map carried (take l.slot l.words)));
   len : length l.cells ≡ 384;
 }

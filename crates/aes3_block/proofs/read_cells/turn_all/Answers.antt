@@ -4,8 +4,9 @@ use Rattle.aes3_cell.specs.Cells.{line}
 use Rattle.aes3_slot.specs.Slots.{payload_len, subframe_runs}
 use Rattle.aes3_block.specs.Blocks.{block_cells, mark_at}
 use Rattle.aes3_block.proofs.BlockLemmas.{block_slots_384}
-use Rattle.aes3_block.proofs.ReadCells.{read_payload, read-payload, payloads-read}
+use Rattle.aes3_block.proofs.ReadCells.{carried-payload, payloads-carried}
 use Rattle.aes3_block.proofs.Runs.{cells-more, cells-whole}
+use Rattle.aes3_block.proofs.SlotWords.{carried}
 use Rattle.aes3_block.proofs.read_cells.turn_all.Goals as goal
 
 pub loop-slot-preserved : goal.loop-slot-preserved
@@ -19,11 +20,11 @@ loop-slot-preserved c =
       cells = λ z.
           let p = le_or_l c.loop-slot.wrong c.wrong_in-wrong.result in
           let q = le_or_r c.loop-slot.wrong c.wrong_in-wrong.result in
-          cells-more read_payload read-payload c.args.before words c.loop-slot.cells i c.turned-same.result
+          cells-more carried carried-payload c.args.before words c.loop-slot.cells i c.turned-same.result
           (omega arith) (omega arith)
           (c.loop-slot.invariant.cells (omega (arith, z, p)))
           (c.wrong_in-wrong.ensures (omega (arith, z, q))
-          ∙ ap (λ m. line c.args.before (subframe_runs m (read_payload c.turned-same.result))) c.mark_of.ensures
+          ∙ ap (λ m. line c.args.before (subframe_runs m (carried c.turned-same.result))) c.mark_of.ensures
           ∙ ap (λ bits. line c.args.before (subframe_runs (mark_at i) (take payload_len bits))) c.turned-same.ensures);
     }
 
@@ -31,6 +32,6 @@ pub returns : goal.returns
 returns c = λ r.
     let n = block_slots_384 in
     let len = c.loop-slot.invariant.len in
-    cells-whole read_payload read-payload c.args.before c.args.words.now c.loop-slot.cells c.loop-slot.slot
+    cells-whole carried carried-payload c.args.before c.args.words.now c.loop-slot.cells c.loop-slot.slot
     (omega arith) (omega arith) (c.loop-slot.invariant.cells (search rules))
-    ∙ ap (block_cells c.args.before) (payloads-read c.args.words.now)
+    ∙ ap (block_cells c.args.before) (payloads-carried c.args.words.now)
