@@ -21,10 +21,10 @@ use Rattle.aes3_slot.specs.Turns.{turned}
 use Rattle.aes3_slot.proofs.Parity.{last-slots, split-parity}
 use Rattle.aes3_cell.proofs.Runs.{other_ne}
 use Rattle.aes3_cell.proofs.WordCells.{low_cells-at}
-use Rattle.aes3_slot.proofs.Taken.{length-word, word-read}
+use Rattle.aes3_slot.proofs.ReadSubframes.{length-word, word-read}
 use Rattle.aes3_slot.proofs.Turns.{low_cells-not}
 use Rattle.aes3_block.proofs.SlotWords.{carried}
-use Rattle.aes3_slot.proofs.Wrong.{true-from_zero}
+use Rattle.aes3_slot.proofs.WrongCells.{true-from_zero}
 
 differs-other : (a b : Level) → differs (other a) (other b) ≡ differs a b
 differs-other Low Low = refl

@@ -22,7 +22,7 @@ use Rattle.aes3_lock.proofs.OtherLevel.{other-level}
 use Rattle.aes3_lock.proofs.Balance.{even-apart}
 use Rattle.aes3_lock.proofs.Exchanged.{exchanged-block, exchanged-cells}
 use Rattle.aes3_lock.proofs.Damaged.{line-cell}
-use Rattle.aes3_lock.proofs.Given.{gather-given}
+use Rattle.aes3_lock.proofs.PiecePlaces.{gather-given}
 use Rattle.aes3_lock.proofs.OwnPlace.{PairApart, pair-cells, blocks-pair, equal-blocks}
 use Rattle.aes3_lock.proofs.PlaceBlocks.{block_here, here-none, here-some}
 use Rattle.aes3_lock.proofs.PieceBounds.{length-piece}

@@ -21,8 +21,8 @@ use Rattle.aes3_slot.specs.Preambles.{InLanes}
 use Rattle.aes3_slot.specs.Fronts.{IsFrontOf, stands, stands_even}
 use Rattle.aes3_slot.proofs.RuleTests.{same-true}
 use Rattle.aes3_slot.proofs.Fronts.{front-before}
-use Rattle.aes3_slot.proofs.Taken.{length-word}
-use Rattle.aes3_slot.proofs.Wrong.{true-from_zero}
+use Rattle.aes3_slot.proofs.ReadSubframes.{length-word}
+use Rattle.aes3_slot.proofs.WrongCells.{true-from_zero}
 use Rattle.aes3_block.specs.Blocks.{mark_at, block_slots, block_len}
 use Rattle.aes3_block.specs.Gathered.{IsRight, with_first}
 use Rattle.aes3_block.proofs.GatheredWords.{length-with_first}

@@ -24,7 +24,7 @@ use Rattle.aes3_lock.proofs.Apart.{differs-true, differs-false, other-of}
 use Rattle.aes3_lock.proofs.Damaged.{own-stays}
 use Rattle.aes3_lock.proofs.DamageLaws.{stands-local}
 use Rattle.aes3_lock.proofs.Distances.{block-level}
-use Rattle.aes3_lock.proofs.Given.{gather-given, gather-same}
+use Rattle.aes3_lock.proofs.PiecePlaces.{gather-given, gather-same}
 use Rattle.aes3_lock.proofs.LawfulPieces.{stream-length}
 use Rattle.aes3_lock.proofs.Lost.{far}
 use Rattle.aes3_lock.proofs.PlaceBlocks.{block_here, blocks-collect, here-none, here-some, here-any}

@@ -18,13 +18,13 @@ pub mod EightWords
 pub mod Scanning
 pub mod QuietScans
 pub mod MarkBits
-pub mod Walking
+pub mod OnePlace
 pub mod Viability
 pub mod Endings
 pub mod BlockPayloads
 pub mod StandingBlocks
 pub mod Refutations
-pub mod Filtered
+pub mod DecidedReports
 pub mod DecidedStand
 pub mod Overlap
 pub mod AllStanding
@@ -41,7 +41,7 @@ pub mod Distances
 pub mod OtherLevel
 pub mod Exchanged
 pub mod OwnPlace
-pub mod Given
+pub mod PiecePlaces
 pub mod Damaged
 pub mod Bridges
 pub mod Lost
@@ -51,7 +51,7 @@ pub mod Balance
 pub mod PlacesApart
 pub mod Changes
 pub mod TwoChanges
-pub mod Slips
+pub mod TwoPlaces
 pub mod InsertedCells
 pub mod Inserted
 pub mod Splits

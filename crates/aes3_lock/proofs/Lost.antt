@@ -20,7 +20,7 @@ use Rattle.aes3_lock.proofs.Bridges.{begun, begun-second, no-bridge}
 use Rattle.aes3_lock.proofs.Damaged.{piece-cell, no-other, own-stays}
 use Rattle.aes3_lock.proofs.Distances.{off-subframes, off-blocks}
 use Rattle.aes3_lock.proofs.Damaged.{line-cell}
-use Rattle.aes3_lock.proofs.Given.{gather-given, gather-same}
+use Rattle.aes3_lock.proofs.PiecePlaces.{gather-given, gather-same}
 use Rattle.aes3_lock.proofs.LawfulPieces.{stream-length}
 use Rattle.aes3_lock.proofs.PlaceBlocks.{block_here, blocks-collect, here-none, here-some, here-any}
 use Rattle.aes3_lock.proofs.PieceBounds.{length-piece}

@@ -16,7 +16,7 @@ use Rattle.aes3_slot.specs.Rules.{at}
 use Rattle.aes3_slot.specs.declared.mark.Mark.TheVariants.{X, Y, Z}
 use Rattle.aes3_slot.proofs.Windows.{says-or, seven-below}
 use Rattle.aes3_slot.specs.declared.mark.Mark.{Mark}
-use Rattle.aes3_slot.proofs.Taken.{length-word}
+use Rattle.aes3_slot.proofs.ReadSubframes.{length-word}
 use Rattle.aes3_lock.specs.Preambles.{first_mark, placed, marks}
 use Rattle.aes3_lock.specs.Steps.{last_eight, ended_mark}
 use Rattle.aes3_lock.specs.MarkBits.{mark_of_bit, marks_of_bits, marks_left, MarksLeft}

@@ -19,8 +19,8 @@ use Rattle.aes3_slot.specs.Rules.{at, rule}
 use Rattle.aes3_slot.specs.Fronts.{stands}
 use Rattle.aes3_slot.specs.Preambles.{entry}
 use Rattle.aes3_slot.proofs.RuleTests.{stands-append}
-use Rattle.aes3_slot.proofs.Wrong.{true-from_zero, false-from_one}
-use Rattle.aes3_slot.proofs.Taken.{length-word}
+use Rattle.aes3_slot.proofs.WrongCells.{true-from_zero, false-from_one}
+use Rattle.aes3_slot.proofs.ReadSubframes.{length-word}
 use Rattle.aes3_block.specs.Blocks.{mark_at, block_slots, block_len}
 use Rattle.aes3_lock.specs.declared.candidate.Candidate.{Candidate}
 use Rattle.aes3_lock.specs.Candidates.{keeps}

@@ -8,7 +8,7 @@ use Rattle.aes3_lock.specs.Pieces.{IsPiece, given_within, whole_blocks}
 use Rattle.aes3_lock.specs.Reports.{reports_from, reports, wholes, blocks}
 use Rattle.aes3_lock.proofs.Apart.{apart-self}
 use Rattle.aes3_lock.proofs.Damaged.{line-cell, blocks-places, short-none, no-other, own-stays}
-use Rattle.aes3_lock.proofs.Given.{gather-given}
+use Rattle.aes3_lock.proofs.PiecePlaces.{gather-given}
 use Rattle.aes3_lock.proofs.PieceBounds.{length-piece}
 use Rattle.aes3_lock.proofs.PlaceBlocks.{block_here, here-none, here-some}
 

@@ -14,7 +14,7 @@ use Rattle.aes3_cell.specs.Words.{level_of, low_cells, word_cells}
 use Rattle.aes3_cell.proofs.WordCells.{length-low_cells, drop-low_cells, low_cells-suc}
 use Rattle.aes3_slot.specs.declared.mark.Mark.TheVariants.{Z}
 use Rattle.aes3_slot.specs.Preambles.{with_seven}
-use Rattle.aes3_slot.proofs.Taken.{length-word}
+use Rattle.aes3_slot.proofs.ReadSubframes.{length-word}
 use Rattle.aes3_lock.specs.Candidates.{begins_block}
 use Rattle.aes3_lock.specs.Reports.{open_at, decided_from, decided}
 use Rattle.aes3_lock.specs.Steps.{last_eight, begun}

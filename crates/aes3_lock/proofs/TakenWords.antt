@@ -11,7 +11,7 @@ use Rattle.aes3_slot.specs.Rules.{at, AllKept}
 use Rattle.aes3_slot.specs.Fronts.{IsFrontOf}
 use Rattle.aes3_slot.proofs.Fronts.{kept-from-front, front-from-kept}
 use Rattle.aes3_lock.proofs.SubframeWords.{take-word}
-use Rattle.aes3_slot.proofs.Taken.{length-word}
+use Rattle.aes3_slot.proofs.ReadSubframes.{length-word}
 use Rattle.aes3_block.specs.Blocks.{mark_at, block_slots, block_len}
 use Rattle.aes3_lock.specs.declared.candidate.Candidate.{Candidate}
 use Rattle.aes3_slot.specs.Preambles.{entry}

@@ -10,7 +10,7 @@ use Rattle.aes3_slot.specs.Slots.{runs_of, slot_runs}
 use Rattle.aes3_slot.specs.Rules.{AllKept, Each28}
 use Rattle.aes3_slot.proofs.Index.{subframe-length}
 use Rattle.aes3_slot.proofs.Bridge.{kept-runs, kept-front}
-use Rattle.aes3_slot.proofs.Extend.{extend-runs}
+use Rattle.aes3_slot.proofs.WholeSubframes.{extend-runs}
 use Rattle.aes3_block.specs.Blocks.{mark_at, block_slots, block_len}
 use Rattle.aes3_lock.specs.Candidates.{keeps, front}
 use Rattle.aes3_lock.specs.Standing.{IsViable}

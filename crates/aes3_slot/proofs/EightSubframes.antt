@@ -13,7 +13,7 @@ use Rattle.aes3_slot.specs.declared.mark.Mark.{Mark}
 use Rattle.aes3_slot.specs.Slots.{mark_runs}
 use Rattle.aes3_slot.specs.Fronts.{stands_even}
 use Rattle.aes3_slot.specs.Preambles.{InLanes}
-use Rattle.aes3_slot.proofs.Wrong.{wrong-even-bit}
+use Rattle.aes3_slot.proofs.WrongCells.{wrong-even-bit}
 
 says-not : (b : Bool) → ◌≡◌ {A = ℕ} (if b then 0 else 1) (if not b then 1 else 0)
 says-not true = refl

@@ -23,8 +23,8 @@ use Rattle.aes3_slot.specs.Reading.{differs, read_bits, same}
 use Rattle.aes3_slot.specs.Rules.{at, before, rule}
 use Rattle.aes3_slot.specs.Slots.{payload_len, slot_runs, slots_bits, slots_len}
 use Rattle.aes3_slot.proofs.ReadWords.{read_bits-word}
-use Rattle.aes3_slot.proofs.Taken.{some-stands, word-read}
-use Rattle.aes3_slot.proofs.Wrong.{before-low_cells, differs-bit, same-bit, true-from_zero}
+use Rattle.aes3_slot.proofs.ReadSubframes.{some-stands, word-read}
+use Rattle.aes3_slot.proofs.WrongCells.{before-low_cells, differs-bit, same-bit, true-from_zero}
 use Rattle.aes3_slot.proofs.Turns.{Sums, sums-itself, sums-doubled, sums-all}
 
 -- `v ^ (v << d)`, for any two operators

@@ -17,7 +17,7 @@ use Rattle.aes3_slot.proofs.Unique.{read-slots}
 use Rattle.aes3_slot.proofs.Subframes.{length-with_parity}
 use Rattle.aes3_slot.proofs.Index.{subframe-last}
 use Rattle.aes3_slot.proofs.Bridge.{kept-runs, kept-front, read-runs}
-use Rattle.aes3_slot.proofs.Extend.{extend, extend-runs, kept-new, kept-push}
+use Rattle.aes3_slot.proofs.WholeSubframes.{extend, extend-runs, kept-new, kept-push}
 use Rattle.aes3_slot.proofs.Parity.{even-from-level, split-parity}
 
 -- the runs of one subframe

@@ -9,11 +9,11 @@ pub mod SamePlace
 pub mod Distance
 pub mod Parity
 pub mod RuleTests
-pub mod Extend
+pub mod WholeSubframes
 pub mod Fronts
-pub mod Wrong
+pub mod WrongCells
 pub mod ReadWords
-pub mod Taken
+pub mod ReadSubframes
 pub mod Windows
 pub mod Beginnings
 pub mod WordMarks

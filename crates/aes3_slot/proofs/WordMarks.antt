@@ -11,7 +11,7 @@ use Rattle.aes3_cell.specs.Words.{low_cells, word_cells, word_len}
 use Rattle.aes3_cell.proofs.WordCells.{low_cells-add}
 use Rattle.aes3_slot.specs.declared.mark.Mark.TheVariants.{Z}
 use Rattle.aes3_slot.specs.Preambles.{begins_with, with_seven, words_with_seven}
-use Rattle.aes3_slot.proofs.Taken.{length-word}
+use Rattle.aes3_slot.proofs.ReadSubframes.{length-word}
 use Rattle.aes3_slot.proofs.Windows.{length-seven}
 use Rattle.aes3_slot.proofs.Beginnings.{begins-append}
 

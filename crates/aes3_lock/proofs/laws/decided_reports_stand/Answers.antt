@@ -1,4 +1,4 @@
-use Rattle.aes3_lock.proofs.Filtered.{filtered}
+use Rattle.aes3_lock.proofs.DecidedReports.{filtered}
 use Rattle.aes3_lock.proofs.DecidedStand.{decided-stand}
 use Rattle.aes3_lock.proofs.laws.decided_reports_stand.Goals as goal
 

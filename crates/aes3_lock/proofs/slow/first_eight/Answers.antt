@@ -1,7 +1,7 @@
 use Rattle.std.proofs.Common.{take, sym, arith, length-take-le}
 use Rattle.aes3_cell.specs.Words.{low_cells}
 use Rattle.aes3_lock.proofs.LastEight.{last_eight-nil}
-use Rattle.aes3_lock.proofs.Walking.{octet-more, octet-all}
+use Rattle.aes3_lock.proofs.OnePlace.{octet-more, octet-all}
 use Rattle.aes3_lock.proofs.slow.first_eight.Goals as goal
 
 pub loop-cell-init : goal.loop-cell-init

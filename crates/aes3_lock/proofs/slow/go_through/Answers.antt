@@ -2,7 +2,7 @@ use Rattle.std.proofs.Common.{◌≡◌, ◌+◌, ◌%◌, ◌^◌, ◌<◌, [],
 use Rattle.aes3_cell.specs.Words.{low_cells}
 use Rattle.aes3_slot.specs.Rules.{at, rule}
 use Rattle.aes3_block.specs.Blocks.{mark_at}
-use Rattle.aes3_lock.proofs.Walking.{walk-inside, walk-whole, walk-same, walk-full, walk-stops, walk-all}
+use Rattle.aes3_lock.proofs.OnePlace.{walk-inside, walk-whole, walk-same, walk-full, walk-stops, walk-all}
 use Rattle.aes3_lock.proofs.slow.go_through.Goals as goal
 use Rattle.aes3_lock.proofs.slow.go_through.Goals.{then-offset-eq-BLOCK_CELLS-via-then-offset-eq-BLOCK_CELLS}
 use Rattle.aes3_lock.proofs.slow.go_through.Goals.{then-offset-eq-BLOCK_CELLS-via-else-offset-eq-BLOCK_CELLS+then-not-may_stand}

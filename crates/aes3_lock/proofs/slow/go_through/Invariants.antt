@@ -1,5 +1,5 @@
 use Rattle.std.proofs.Common.{◌≡◌}
-use Rattle.aes3_lock.proofs.Walking.{Walked}
+use Rattle.aes3_lock.proofs.OnePlace.{Walked}
 use Rattle.aes3_lock.proofs.slow.go_through.Given as goal
 
 abbrev pub invariant-loop-cell : goal.invariant-loop-cell

@@ -3,7 +3,7 @@ use Rattle.aes3_slot.specs.ReadWords.{read_words}
 use Rattle.aes3_lock.specs.Reports.{ending_report, told, report_of}
 use Rattle.aes3_lock.specs.Steps.{begun}
 use Rattle.aes3_lock.specs.Following.{Filled}
-use Rattle.aes3_lock.proofs.Walking.{outcome_at-short, outcome_at-none, outcome_at-some, place-ended, place-left}
+use Rattle.aes3_lock.proofs.OnePlace.{outcome_at-short, outcome_at-none, outcome_at-some, place-ended, place-left}
 use Rattle.aes3_lock.proofs.slow.report_at.Goals as goal
 use Rattle.aes3_lock.proofs.slow.report_at.Goals.{then-place-cells, else-place-cells}
 

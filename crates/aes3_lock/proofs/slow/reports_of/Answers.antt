@@ -1,7 +1,7 @@
 use Rattle.std.proofs.Common.{◌+◌, ◌++◌, drop, sym, ap, ◌∙◌, arith, append-nil}
 use Rattle.std.specs.Prelude.{option_to_list}
 use Rattle.aes3_lock.specs.Reports.{reports_from}
-use Rattle.aes3_lock.proofs.Walking.{reports-none, reports-more}
+use Rattle.aes3_lock.proofs.OnePlace.{reports-none, reports-more}
 use Rattle.aes3_lock.proofs.slow.reports_of.Goals as goal
 use Rattle.aes3_lock.proofs.slow.reports_of.Goals.{in-Some+in_ok-push, in_default}
 

@@ -6,8 +6,8 @@ use Rattle.std.specs.Int.Count.{trailing_of_zero}
 use Rattle.aes3_cell.specs.Words.{word_cells}
 use Rattle.aes3_slot.specs.Fronts.{IsFrontOf, stands}
 use Rattle.aes3_slot.proofs.Fronts.{front-before, front-fails}
-use Rattle.aes3_slot.proofs.Taken.{length-word}
-use Rattle.aes3_slot.proofs.Wrong.{true-from_zero, false-from_one}
+use Rattle.aes3_slot.proofs.ReadSubframes.{length-word}
+use Rattle.aes3_slot.proofs.WrongCells.{true-from_zero, false-from_one}
 use Rattle.aes3_slot.proofs.reading.begins_subframe.Goals as goal
 
 none-set : (w : ℕ) → w ≡ 0 → trailing_zeros w64 w ≡ 64

@@ -7,11 +7,11 @@ use Rattle.aes3_cell.specs.Words.{word_cells}
 use Rattle.aes3_slot.specs.Rules.{at}
 use Rattle.aes3_slot.specs.Slots.{payload_bits, payload_len, slot_runs}
 use Rattle.aes3_slot.specs.Fronts.{stands}
-use Rattle.aes3_slot.proofs.Wrong.{true-from_zero, false-from_one}
+use Rattle.aes3_slot.proofs.WrongCells.{true-from_zero, false-from_one}
 use Rattle.aes3_bits.proofs.Bits.{length-low_bits}
 use Rattle.aes3_slot.proofs.Parity.{some-level}
 use Rattle.aes3_slot.proofs.Fronts.{front-before, front-ends}
-use Rattle.aes3_slot.proofs.Taken.{length-word, word-read, some-stands, some-owed}
+use Rattle.aes3_slot.proofs.ReadSubframes.{length-word, word-read, some-stands, some-owed}
 use Rattle.aes3_slot.proofs.reading.take_either.Goals as goal
 
 pub returns-then-wrong-ne0-clause-owed : goal.returns-then-wrong-ne0-clause-owed

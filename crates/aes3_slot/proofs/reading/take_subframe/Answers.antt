@@ -5,7 +5,7 @@ use Rattle.aes3_cell.specs.Words.{word_cells}
 use Rattle.aes3_slot.specs.Slots.{slot_runs, payload_bits}
 use Rattle.aes3_slot.specs.Fronts.{with_some_parity}
 use Rattle.aes3_slot.proofs.Fronts.{front-from-lawful, lawful-from-front}
-use Rattle.aes3_slot.proofs.Taken.{some-owed, wrong-parity-front, wrong-parity-ends}
+use Rattle.aes3_slot.proofs.ReadSubframes.{some-owed, wrong-parity-front, wrong-parity-ends}
 use Rattle.aes3_slot.proofs.reading.take_subframe.Goals as goal
 
 -- ---- a right parity bit

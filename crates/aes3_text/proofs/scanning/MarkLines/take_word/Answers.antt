@@ -1,7 +1,7 @@
 use Rattle.std.proofs.Common.{◌++◌, length, ap, sym, subst, arith, length-append}
 use Rattle.aes3_cell.specs.Words.{word_cells}
 use Rattle.aes3_cell.proofs.Growing.{front-is}
-use Rattle.aes3_slot.proofs.Taken.{length-word}
+use Rattle.aes3_slot.proofs.ReadSubframes.{length-word}
 use Rattle.aes3_lock.specs.Preambles.{marks}
 use Rattle.aes3_text.specs.Runs.{Scanned}
 use Rattle.aes3_lines.proofs.Gathering.{held-is}
