@@ -11,7 +11,7 @@ use Rattle.aes3_cell.specs.Cells.{other}
 use Rattle.aes3_cell.proofs.Runs.{other_ne}
 use Rattle.aes3_slot.specs.declared.mark.Mark.TheVariants.{Z}
 use Rattle.aes3_slot.specs.Rules.{at, shape}
-use Rattle.aes3_slot.proofs.Distance.{own-cell, stands-from}
+use Rattle.aes3_slot.proofs.Distance.{stands-from}
 use Rattle.aes3_block.specs.Blocks.{mark_at, block_len, block_cells, stream}
 use Rattle.aes3_block.proofs.FileLaws.{each-block}
 use Rattle.aes3_block.proofs.CellLaws.{length-block_cells, block_len_24576}
@@ -25,11 +25,11 @@ use Rattle.aes3_lock.proofs.AllStanding.{closed-room, blocks-all_standing}
 use Rattle.aes3_lock.proofs.Damaged.{streamed}
 use Rattle.aes3_lock.proofs.DamageLaws.{length-of}
 use Rattle.aes3_lock.proofs.Distances.{block-level, block-mark}
-use Rattle.aes3_lock.proofs.LawfulPieces.{stream_marks, stream-kept, stream-length, stream-level, stream-aligned}
+use Rattle.aes3_lock.proofs.LawfulPieces.{stream-aligned}
 use Rattle.aes3_lock.proofs.Lost.{without-before, without-behind}
 use Rattle.aes3_lock.proofs.StandingBlocks.{first-mark}
 use Rattle.aes3_block.proofs.BlockLemmas.{block_slots_384}
-use Rattle.aes3_lock.proofs.InsertedCells.{first-run}
+use Rattle.aes3_lock.proofs.InsertedCells.{first-run, run-cell}
 
 -- the cells that are left are those of the list, each at most n places later, and none back
 pub record IsShift (n : ℕ) (c e : List Level) (f : ℕ → ℕ) : Type 0 where
@@ -148,14 +148,7 @@ module _ (s : Level) (bs : List (List (List Bool))) (i j : ℕ) (c : List Level)
 
   -- the first three cells of a subframe of the stream
   begun-run : (p k : ℕ) → p % 64 ≡ 0 → k < 3 → p < length (stream s bs) → at (stream s bs) (p + k) ≡ other s
-  begun-run p k a l o =
-      let b = each-block bs piece.blocks in
-      let m = stream-length s bs b in
-      let g : p + k ≡ 64 * (p / 64) + k = omega arith in
-      ap (at (stream s bs)) g ∙ own-cell stream_marks s (stream s bs) (stream-kept s bs b) (p / 64) k (omega arith)
-      (omega arith)
-      ∙ ap (shape (stream_marks (p / 64)) k) (stream-level s bs b (p / 64) (omega arith))
-      ∙ first-run (stream_marks (p / 64)) k s l
+  begun-run p k a l o = run-cell s bs (each-block bs piece.blocks) p k a o l
 
   inside : (x : ℕ) → x < 24576 → q + x < length e
   inside x l =
