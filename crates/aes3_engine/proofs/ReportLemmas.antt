@@ -1,87 +1,21 @@
--- Reports counted, and what they write.
-use Rattle.std.proofs.Common.{◌≡◌, ℕ, suc, ◌+◌, ◌≤◌, List, [], ◌∷◌, ◌++◌, Bool, true, false, cond, length, refl, sym}
-use Rattle.std.proofs.Common.{ap, ◌∙◌, subst, arith, append-nil, append_assoc, length-append, add-one, Option, Result}
+-- What reports write.
+use Rattle.std.proofs.Common.{◌≡◌, ℕ, ◌+◌, List, [], ◌∷◌, ◌++◌, Bool, length, refl, sym}
+use Rattle.std.proofs.Common.{ap, ◌∙◌, arith, append-nil, append_assoc, length-append, add-one, Option, Result}
 use Rattle.std.proofs.Common.{Ok, Err, IfOk, OnErr}
-use Rattle.std.specs.List.{filter}
-use Rattle.std.proofs.lemmas.List.Elements.{filter-append}
-use Rattle.aes3_cell.specs.declared.level.Level.{Level}
 use Rattle.aes3_cell.specs.declared.ends.Fault as device
 use Rattle.aes3_cell.specs.Ends.{Grew, GrewFront}
 use Rattle.aes3_cell.proofs.Growing.{grew-is, front-is}
-use Rattle.aes3_lock.specs.declared.report.Why.{Why}
 use Rattle.aes3_lock.specs.declared.report.Report.{Report}
 use Rattle.aes3_lock.specs.declared.report.Report.TheVariants.{Whole, Marked, Fault, Unfinished}
 use Rattle.aes3_lock.specs.Reports.{wholes}
 use Rattle.aes3_lock.proofs.AllStanding.{wholes-append}
 use Rattle.aes3_input.specs.Taking.{before_end, with_end}
 use Rattle.aes3_input.proofs.Items.{before-is}
-use Rattle.aes3_engine.specs.ReportRuns.{is_faulty, is_unfinished, output_from, output, report_writing, Tallies}
+use Rattle.aes3_engine.specs.ReportRuns.{output_from, output, report_writing}
 use Rattle.aes3_engine.specs.BlockRuns.{numbered, report_bytes}
-
--- how many reports of a kind there are
-kind-push : (p : Report → Bool) (r : List Report) (x : Report)
-    → length (filter p (r ++ x ∷ [])) ≡ length (filter p r) + length (filter p (x ∷ []))
-kind-push p r x = ap length (filter-append p r (x ∷ [])) ∙ length-append (filter p r) (filter p (x ∷ []))
-
-kind-few : (p : Report → Bool) (r : List Report) → length (filter p r) ≤ length r
-kind-few p [] = omega arith
-kind-few p (y ∷ r) = go (p y) (kind-few p r)
-  where
-    go : (b : Bool) → length (filter p r) ≤ length r → length (cond b (y ∷ filter p r) (filter p r)) ≤ suc (length r)
-    go true e = omega arith
-    go false e = omega arith
-
-wholes-few : (r : List Report) → length (wholes r) ≤ length r
-wholes-few [] = omega arith
-wholes-few (Whole at s b ∷ r) = let n = wholes-few r in omega arith
-wholes-few (Marked at s wrong ∷ r) = let n = wholes-few r in omega arith
-wholes-few (Fault at cell why ∷ r) = let n = wholes-few r in omega arith
-wholes-few (Unfinished at cells ∷ r) = let n = wholes-few r in omega arith
-
-pub record Few (blocks faults unfinished n : ℕ) : Type 0 where
-  pub few_blocks : blocks ≤ n
-  pub few_faults : faults ≤ n
-  pub few_unfinished : unfinished ≤ n
-
-pub tallies-few : {n f u : ℕ} {r : List Report} → Tallies n f u r → Few n f u (length r)
-tallies-few {r = r} t = record {
-  few_blocks = (let e = t.blocks_is in let k = wholes-few r in omega arith);
-  few_faults = (let e = t.faults_is in let k = kind-few is_faulty r in omega arith);
-  few_unfinished = (let e = t.unfinished_is in let k = kind-few is_unfinished r in omega arith);
-}
-
-push : {n f u : ℕ} (n' f' u' : ℕ) {r : List Report} (x : Report) → Tallies n f u r
-    → n' ≡ n + length (wholes (x ∷ [])) → f' ≡ f + length (filter is_faulty (x ∷ []))
-    → u' ≡ u + length (filter is_unfinished (x ∷ [])) → Tallies n' f' u' (r ++ x ∷ [])
-push n' f' u' {r} x t a b c = record {
-  blocks_is = (let e = t.blocks_is in let k = ap length (wholes-append r (x ∷ [])) in
-      let l = length-append (wholes r) (wholes (x ∷ [])) in omega arith);
-  faults_is = (let e = t.faults_is in let k = kind-push is_faulty r x in omega arith);
-  unfinished_is = (let e = t.unfinished_is in let k = kind-push is_unfinished r x in omega arith);
-}
 
 none : {n : ℕ} → n ≡ n + 0
 none = omega arith
-
-pub push-whole : {n f u : ℕ} {r : List Report} (x : Report) {at : ℕ} {s : Level} {b : List (List Bool)}
-    → x ≡ Whole at s b → Tallies n f u r → Tallies (n + 1) f u (r ++ x ∷ [])
-push-whole {n} {f} {u} {r} x {at} {s} {b} e t = subst (λ (v : Report). Tallies (n + 1) f u (r ++ v ∷ [])) (sym e)
-    (push (n + 1) f u (Whole at s b) t refl none none)
-
-pub push-marked : {n f u : ℕ} {r : List Report} (x : Report) {at : ℕ} {s : Level} {w : ℕ} → x ≡ Marked at s w
-    → Tallies n f u r → Tallies n (f + 1) u (r ++ x ∷ [])
-push-marked {n} {f} {u} {r} x {at} {s} {w} e t = subst (λ (v : Report). Tallies n (f + 1) u (r ++ v ∷ [])) (sym e)
-    (push n (f + 1) u (Marked at s w) t none refl none)
-
-pub push-fault : {n f u : ℕ} {r : List Report} (x : Report) {at cell : ℕ} {why : Why} → x ≡ Fault at cell why
-    → Tallies n f u r → Tallies n (f + 1) u (r ++ x ∷ [])
-push-fault {n} {f} {u} {r} x {at} {cell} {why} e t = subst (λ (v : Report). Tallies n (f + 1) u (r ++ v ∷ [])) (sym e)
-    (push n (f + 1) u (Fault at cell why) t none refl none)
-
-pub push-unfinished : {n f u : ℕ} {r : List Report} (x : Report) {at cells : ℕ} → x ≡ Unfinished at cells
-    → Tallies n f u r → Tallies n f (u + 1) (r ++ x ∷ [])
-push-unfinished {n} {f} {u} {r} x {at} {cells} e t = subst (λ (v : Report). Tallies n f (u + 1) (r ++ v ∷ [])) (sym e)
-    (push n f (u + 1) (Unfinished at cells) t none none refl)
 
 -- what one report writes, and the end
 pub adds-is : (f : ℕ → Report → List ℕ) (e : List ℕ) (n : ℕ) (r : List Report) (x : Report) → n ≡ length (wholes r)

@@ -7,13 +7,14 @@ use Rattle.aes3_cell.specs.declared.refusal.RunError.{RunError}
 use Rattle.aes3_cell.specs.declared.counts.Counts.{Counts}
 use Rattle.aes3_lock.specs.declared.report.Report.{Report}
 use Rattle.aes3_lock.specs.Reports.{reports, decided, wholes, blocks}
+use Rattle.aes3_lock.specs.Tallies.{is_faulty, Tallies}
 use Rattle.aes3_input.specs.Running.{Movement}
 use Rattle.aes3_input.specs.Taking.{before_end, with_end}
 use Rattle.aes3_input.specs.Inputs.{cells_of}
 use Rattle.aes3_input.specs.Driving.{Drive}
 use Rattle.aes3_input.proofs.CellRuns.{drove-ok, drove-err}
 use Rattle.aes3_engine.specs.Reporting.{reporting}
-use Rattle.aes3_engine.specs.ReportRuns.{is_faulty, counts_of, output, report_writing, Tallies, ReportRun}
+use Rattle.aes3_engine.specs.ReportRuns.{counts_of, output, report_writing, ReportRun}
 use Rattle.aes3_engine.proofs.Reports.{before-reports, with-reports}
 use Rattle.aes3_engine.proofs.ReportLemmas.{before-output, with-output}
 

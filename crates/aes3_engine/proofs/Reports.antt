@@ -1,11 +1,10 @@
 -- What cells write through their reports.
-use Rattle.std.proofs.Common.{◌≡◌, ℕ, ◌≤◌, List, [], ◌∷◌, ◌++◌, length, drop, sym, ap, ap₂, ◌∙◌, append_assoc}
-use Rattle.std.proofs.Common.{append-nil, refl, arith, length-append, Option, Some, None, suc}
+use Rattle.std.proofs.Common.{◌≡◌, List, [], ◌∷◌, ◌++◌, length, drop, sym, ap, ap₂, ◌∙◌, append_assoc}
+use Rattle.std.proofs.Common.{append-nil, refl}
 use Rattle.std.proofs.lemmas.List.{append_cancel_left, drop_at}
 use Rattle.aes3_cell.specs.declared.level.Level.{Level}
 use Rattle.aes3_lock.specs.declared.report.Report.{Report}
-use Rattle.aes3_lock.specs.Outcomes.{Outcome}
-use Rattle.aes3_lock.specs.Reports.{told, decided_at, decided_from, decided, reports}
+use Rattle.aes3_lock.specs.Reports.{decided_from, decided, reports}
 use Rattle.aes3_lock.proofs.Deciding.{answer, decided-push}
 use Rattle.aes3_lock.proofs.Ends.{final, reports-split}
 use Rattle.aes3_input.specs.Taking.{Writing, behind, before_end, with_end}
@@ -46,21 +45,6 @@ with-reports w c =
     ∙ sym (append_assoc (before_end w (decided c)) (behind w (decided c) (decided_at_end c)) (w.ends (reports c)))
     ∙ ap (λ o. o ++ w.ends (reports c)) (sym (before-join w (decided c) (decided_at_end c))
     ∙ ap (before_end w) (sym (reports-more c)))
-
--- a cell begins one report at most
-told-few : (p : ℕ) (o : Option Outcome) → length (told p o) ≤ 1
-told-few p None = omega arith
-told-few p (Some o) = omega arith
-
-decided-few : (p : ℕ) (c : List Level) → length (decided_from p c) ≤ length c
-decided-few p [] = omega arith
-decided-few p (x ∷ c) =
-    let t = told-few p (decided_at (x ∷ c)) in let n = decided-few (suc p) c in
-    let a = length-append (told p (decided_at (x ∷ c))) (decided_from (suc p) c) in omega arith
-
-pub few-decided : (c : List Level) → length (decided c) ≤ length c
-unfolding decided
-few-decided c = decided-few 0 c
 
 -- what cells write that decide these reports
 pub adds-decided : (w : Writing Report) (c d : List Level) (m : List Report) → decided (c ++ d) ≡ decided c ++ m

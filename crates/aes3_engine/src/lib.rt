@@ -21,10 +21,9 @@ mod rewriting;
 mod samples;
 /// From samples to a block file.
 mod sampling;
-/// How many reports of each kind there were.
-mod tally;
 
 pub use aes3_input::{Input, Taker, convert, drive};
+pub use aes3_lock::Tally;
 pub use aes3_status::Change;
 pub use blocks::{BlockWriter, run_blocks};
 pub use encoding::encode;
@@ -35,4 +34,3 @@ pub use reporter::Reporter;
 pub use rewriting::rewrite;
 pub use samples::to_pcm;
 pub use sampling::from_pcm;
-pub use tally::Tally;

@@ -4,15 +4,15 @@ ghost use Rattle.std.specs.Prelude.{◌≡◌, ℕ, ◌+◌, ◌<◌, ◌≤◌,
 ghost use Rattle.aes3_cell.specs.Writes.{Wrote};
 ghost use Rattle.aes3_lock.specs.declared.report.Report.{Report};
 ghost use Rattle.aes3_lock.specs.Following.{report_in};
+ghost use Rattle.aes3_lock.specs.Tallies.{IsTallyOf};
 ghost use Rattle.aes3_input.specs.Running.{movement_of};
-ghost use Rattle.aes3_engine.specs.ReportRuns.{IsTallyOf, ReportRun, report_writing};
+ghost use Rattle.aes3_engine.specs.ReportRuns.{ReportRun, report_writing};
 
 use crate::locked::Locked;
 use crate::reporter::Reporter;
-use crate::tally::Tally;
 use aes3_cell::{Counts, Fault, Form, RunError, Sink, Source};
 use aes3_input::drive;
-use aes3_lock::{Ending, Lock};
+use aes3_lock::{Ending, Lock, Tally};
 
 /// Writes something of a report.
 pub trait ReportWriter {

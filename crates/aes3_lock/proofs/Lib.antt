@@ -28,6 +28,7 @@ pub mod DecidedReports
 pub mod DecidedStand
 pub mod Overlap
 pub mod AllStanding
+pub mod Tallies
 pub mod Places
 pub mod PieceBounds
 pub mod LawfulPieces

@@ -1,6 +1,7 @@
 pub mod Candidates
 pub mod Outcomes
 pub mod Reports
+pub mod Tallies
 pub mod Preambles
 pub mod Steps
 pub mod Following

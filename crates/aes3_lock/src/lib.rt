@@ -25,6 +25,8 @@ mod scan;
 mod slow;
 /// The cells of a subframe that is not whole yet.
 mod subframe;
+/// How many reports of each kind there were.
+mod tally;
 /// The preambles that end in a word of cells.
 mod word_marks;
 
@@ -34,4 +36,5 @@ pub use parts::LockParts;
 pub use report::{Ending, Pushed, Report, Why};
 pub use scan::Scan;
 pub use slow::reports_of;
+pub use tally::Tally;
 pub use word_marks::WordMarks;

@@ -18,9 +18,13 @@ use Rattle.aes3_engine.specs.BlockRuns.{begun_stream, written_stream, cut_blocks
 use Rattle.aes3_engine.specs.Rewriting.{rewritten_blocks}
 use Rattle.aes3_engine.specs.Sampling.{sampled_file}
 use Rattle.aes3_lines.specs.MarkLines.{mark_lines}
-use Rattle.aes3_text.specs.Gaps.{account, begun_account}
-use Rattle.aes3_text.specs.Runs.{account_counts, account_lines, change_lines, report_lines, scan_counts, status_lines}
-use Rattle.aes3_text.specs.Watching.{begun_watch, watch_counts, watch_lines}
+use Rattle.aes3_account.specs.Gaps.{account, begun_account}
+use Rattle.aes3_account.specs.Accounting.{account_counts}
+use Rattle.aes3_account.specs.GapLines.{account_lines}
+use Rattle.aes3_text.specs.Runs.{change_lines, status_lines}
+use Rattle.aes3_reports.specs.Lines.{report_lines}
+use Rattle.aes3_reports.specs.Scanning.{scan_counts}
+use Rattle.aes3_account.specs.Watching.{begun_watch, watch_counts, watch_lines}
 use Rattle.aes3_job.specs.declared.job.Job.{Job}
 use Rattle.aes3_job.specs.declared.job.Job.TheVariants.{Encode, Decode, Normal, Check, Account, Watch, Show, ShowChanges, Scan, Cut, Rewrite, ToPcm, FromPcm}
 use Rattle.aes3_runner.specs.Lines.{refusal_line}

@@ -4,10 +4,11 @@ ghost use Rattle.std.specs.Prelude.{◌≡◌, ◌<◌, ◌+◌, ◌^◌, IfOk};
 ghost use Rattle.aes3_input.specs.Running.{movement_of};
 ghost use Rattle.aes3_runner.specs.JobRuns.{RunRan, status_by};
 
+use aes3_account::{account, watch};
 use aes3_cell::{Counts, RunError, Sink, Source};
 use aes3_engine::{cut, decode, encode, from_pcm, normalise, rewrite, to_pcm};
 use aes3_job::Job;
-use aes3_text::{account, check, scan, show, show_changes, watch};
+use aes3_text::{check, scan, show, show_changes};
 
 /// How many bytes an input may have.
 const MAX_BYTES: u64 = 1 << 40;

@@ -2,14 +2,14 @@
 
 ghost use Rattle.std.specs.Prelude.{◌<◌};
 
+use aes3_account::line_of_gap;
 use aes3_block::{Block, Channel};
 use aes3_cell::{Level, MemorySink};
 use aes3_lock::{Report, Why};
 use aes3_slot::Mark;
 use aes3_status::{SETTINGS, Setting, set_fields};
 use aes3_text::{
-    consumer_setting, line_of_gap, line_of_mark, line_of_report, line_of_status,
-    professional_setting,
+    consumer_setting, line_of_mark, line_of_report, line_of_status, professional_setting,
 };
 use std::alloc::Global;
 use std::test::Fail;

@@ -1,16 +1,4 @@
 pub mod RunLines
 pub mod StatusChanges
-pub mod Scans
 pub mod StatusFlips
-pub mod GapLemmas
-pub mod ReportPlaces
-pub mod Accounts
-pub mod AccountFronts
-pub mod WatchedCells
-pub mod WatchedGaps
 pub mod NewLines
-pub mod Covering
-pub mod Rowed
-pub mod LostGaps
-pub mod PieceGaps
-pub mod LostCells

@@ -1,17 +1,14 @@
 -- The lines of reports and of blocks, one behind the other.
-use Rattle.std.proofs.Common.{◌≡◌, ℕ, Bool, ◌+◌, List, [], ◌∷◌, ◌++◌, length, refl, ap, ◌∙◌, append-nil}
+use Rattle.std.proofs.Common.{◌≡◌, ℕ, ◌+◌, List, [], ◌∷◌, ◌++◌, length, refl, ap, ◌∙◌, append-nil}
 use Rattle.aes3_cell.specs.declared.level.Level.{Level}
-use Rattle.aes3_lock.specs.declared.report.Ending.{Ending}
-use Rattle.aes3_lock.specs.declared.report.Ending.TheVariants.{Whole, Marked, Fault, Unfinished}
 use Rattle.aes3_lock.specs.declared.report.Report.{Report}
-use Rattle.aes3_lock.specs.Reports.{ending_report, reports, decided, wholes, blocks}
+use Rattle.aes3_lock.specs.Reports.{reports, decided, wholes, blocks}
 use Rattle.aes3_engine.specs.ReportRuns.{output_from, output}
 use Rattle.aes3_engine.specs.BlockRuns.{report_bytes, decided_blocks}
 use Rattle.aes3_engine.proofs.ReportLemmas.{blocks-output}
 use Rattle.aes3_lines.specs.declared.lines.Lines.{Lines}
-use Rattle.aes3_lines.specs.declared.lines.Lines.TheVariants.{All, Faults}
-use Rattle.aes3_text.specs.Lines.{told_line}
-use Rattle.aes3_text.specs.Runs.{report_lines, channel_lines, status_lines}
+use Rattle.aes3_reports.specs.Lines.{told_line, report_lines}
+use Rattle.aes3_text.specs.Runs.{channel_lines, status_lines}
 
 lines-from : (l : Lines) (n : ℕ) (r : List Report) → output_from (λ m. told_line l) n r ≡ report_lines l r
 lines-from l n [] = refl
@@ -22,17 +19,6 @@ check-whole l c = append-nil (output (λ m. told_line l) (reports c)) ∙ lines-
 
 pub check-begun : (l : Lines) (c : List Level) → output (λ m. told_line l) (decided c) ≡ report_lines l (decided c)
 check-begun l c = lines-from l 0 (decided c)
-
--- the line of an ending has none of its block's bits
-pub ending-told : (l : Lines) (e : Ending) (slots : List (List Bool)) → told_line l (ending_report [] e) ≡ told_line l (ending_report slots e)
-ending-told All (Whole at s) slots = refl
-ending-told All (Marked at s wrong) slots = refl
-ending-told All (Fault at cell why) slots = refl
-ending-told All (Unfinished at cells) slots = refl
-ending-told Faults (Whole at s) slots = refl
-ending-told Faults (Marked at s wrong) slots = refl
-ending-told Faults (Fault at cell why) slots = refl
-ending-told Faults (Unfinished at cells) slots = refl
 
 pub show-whole : (c : List Level) → output (report_bytes channel_lines) (reports c) ++ [] ≡ status_lines (blocks c)
 unfolding blocks

@@ -20,7 +20,7 @@ use Rattle.aes3_input.specs.Taking.{before_end, with_end}
 use Rattle.aes3_input.proofs.Items.{before-is}
 use Rattle.aes3_engine.specs.Reporting.{reporting}
 use Rattle.aes3_engine.specs.BlockRuns.{decided_blocks}
-use Rattle.aes3_engine.specs.ReportRuns.{Tallies}
+use Rattle.aes3_lock.specs.Tallies.{Tallies}
 use Rattle.aes3_engine.proofs.Reports.{before-reports, with-reports}
 use Rattle.aes3_text.specs.Runs.{AreLast, Changes, block_changes, change_line, change_lines, changes_from, changing, report_changes, status_in}
 

@@ -1,30 +1,22 @@
-//! Lines of reports and of gaps, and the runs that write lines of text (AES3-2, AES3-3, IEC 60958-1,
-//! IEC 60958-3).
+//! Runs that write lines of text, of each report or each block on cells (AES3-2, AES3-3, IEC 60958-1,
+//! IEC 60958-3). The lines themselves, and `scan`, stand in crates below and can be named from here
+//! too.
 #![tactic(auto)]
 
-mod accounting;
-mod cell_reporter;
+/// The channel status of each block that changes it, line by line.
 mod changing;
+/// The reports on cells, line by line.
 mod checking;
-mod counted;
-mod gap;
+/// Laws over the definitions alone, whatever the cells.
 pub mod laws;
-mod ledger;
-mod report;
-mod scanning;
+/// The channel status of each block, line by line.
 mod showing;
-mod watched;
-mod watching;
 
-pub use accounting::account;
 pub use aes3_lines::{
     Lines, SettingsFault, add_choices, consumer_setting, line_of_mark, line_of_status,
     professional_setting, settings_of_texts,
 };
+pub use aes3_reports::{line_of_report, scan};
 pub use changing::show_changes;
 pub use checking::check;
-pub use gap::line_of_gap;
-pub use report::line_of_report;
-pub use scanning::scan;
 pub use showing::show;
-pub use watching::{line_of_end, line_of_lock, line_of_loss, line_of_return, line_of_slip, watch};

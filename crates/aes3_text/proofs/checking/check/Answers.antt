@@ -1,5 +1,5 @@
 use Rattle.aes3_lock.specs.Reports.{decided, reports}
-use Rattle.aes3_text.specs.Runs.{report_lines}
+use Rattle.aes3_reports.specs.Lines.{report_lines}
 use Rattle.aes3_text.proofs.RunLines.{check-whole, check-begun}
 use Rattle.aes3_input.proofs.InputRuns.{run-wrote}
 use Rattle.aes3_input.proofs.CellRuns.{cells-run}

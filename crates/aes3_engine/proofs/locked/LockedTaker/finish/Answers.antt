@@ -3,7 +3,8 @@ use Rattle.aes3_lock.specs.Following.{Follows, report_in}
 use Rattle.aes3_lock.specs.Reports.{decided}
 use Rattle.aes3_cell.proofs.Growing.{front-more, front-is}
 use Rattle.aes3_engine.specs.Reporting.{reporting}
-use Rattle.aes3_engine.proofs.Reports.{few-decided, ends-one, ends-none}
+use Rattle.aes3_lock.proofs.Tallies.{few-decided}
+use Rattle.aes3_engine.proofs.Reports.{ends-one, ends-none}
 use Rattle.aes3_engine.proofs.Locking.{ok-grew, err-grew, ok-last, err-last}
 use Rattle.aes3_engine.proofs.locked.LockedTaker.finish.Goals as goal
 

@@ -8,7 +8,8 @@ use Rattle.aes3_input.specs.Taking.{behind}
 use Rattle.aes3_input.proofs.Items.{items-join}
 use Rattle.aes3_input.proofs.Handing.{cells-parted}
 use Rattle.aes3_engine.specs.Reporting.{reporting}
-use Rattle.aes3_engine.proofs.Reports.{few-decided, adds-report, adds-nothing, same-reporting}
+use Rattle.aes3_lock.proofs.Tallies.{few-decided}
+use Rattle.aes3_engine.proofs.Reports.{adds-report, adds-nothing, same-reporting}
 use Rattle.aes3_engine.proofs.locked.LockedTaker.take_front.Goals as goal
 
 pub tell-requires-clause-following : goal.tell-requires-clause-following

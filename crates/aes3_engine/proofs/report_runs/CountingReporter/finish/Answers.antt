@@ -1,4 +1,4 @@
-use Rattle.aes3_engine.specs.ReportRuns.{IsTallyOf}
+use Rattle.aes3_lock.specs.Tallies.{IsTallyOf}
 use Rattle.aes3_engine.proofs.ReportLemmas.{end-grew, end-front}
 use Rattle.aes3_engine.proofs.report_runs.CountingReporter.finish.Goals as goal
 

@@ -1,7 +1,7 @@
 use Rattle.std.proofs.Common.{sym, subst}
 use Rattle.aes3_lock.specs.Following.{report_in}
 use Rattle.aes3_lock.specs.Reports.{wholes}
-use Rattle.aes3_engine.specs.ReportRuns.{Tallies}
+use Rattle.aes3_lock.specs.Tallies.{Tallies}
 use Rattle.aes3_cell.proofs.Growing.{grew-is, front-is}
 use Rattle.aes3_text.proofs.StatusChanges.{adds-is, next-changes}
 use Rattle.aes3_text.proofs.changing.ChangeLinesReporter.tell.Goals as goal

@@ -1,6 +1,6 @@
 use Rattle.aes3_slot.specs.ReadWords.{read_words}
 use Rattle.aes3_cell.proofs.Writing.{wrote-is}
-use Rattle.aes3_text.proofs.RunLines.{ending-told}
+use Rattle.aes3_reports.proofs.EndingLines.{ending-told}
 use Rattle.aes3_text.proofs.checking.ReportLinesReportWriter.tell.Goals as goal
 
 pub returns : goal.returns

@@ -1,0 +1,11 @@
+pub mod GapLemmas
+pub mod ReportPlaces
+pub mod Accounts
+pub mod AccountFronts
+pub mod WatchedCells
+pub mod WatchedGaps
+pub mod Covering
+pub mod Rowed
+pub mod LostGaps
+pub mod PieceGaps
+pub mod LostCells

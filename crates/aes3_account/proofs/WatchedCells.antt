@@ -1,0 +1,396 @@
+-- A line watched, as its cells come.
+use Rattle.std.proofs.Common.{◌≡◌, ℕ, ◌+◌, ◌-◌, ◌*◌, ◌^◌, ◌<◌, ◌≤◌, ◌⊎◌, inl, inr, Bool, true, false, cond, ltb, List, [], ◌∷◌, ◌++◌, Ok, length, drop, refl, sym, ap, ap₂, ◌∙◌, subst, arith, append-nil, append_assoc, length-append}
+use Rattle.std.specs.Prelude.{◌||◌, nat_lt}
+use Rattle.std.specs.List.{filter}
+use Rattle.std.proofs.lemmas.Bool.{ltb-false, le-ltb}
+use Rattle.std.proofs.lemmas.List.{append_cancel_left, drop_at}
+use Rattle.aes3_cell.specs.declared.level.Level.{Level}
+use Rattle.aes3_cell.specs.declared.form.Form.{Form}
+use Rattle.aes3_cell.specs.declared.counts.Counts.{Counts}
+use Rattle.aes3_block.specs.Blocks.{block_len, block_slots}
+use Rattle.aes3_lock.specs.declared.report.Report.{Report}
+use Rattle.aes3_lock.specs.declared.report.Report.TheVariants.{Whole, Marked, Fault, Unfinished}
+use Rattle.aes3_lock.specs.Reports.{reports, decided, wholes, blocks}
+use Rattle.aes3_lock.specs.Remains.{place_of}
+use Rattle.aes3_lock.proofs.Deciding.{answer, block_len_24576}
+use Rattle.aes3_lock.proofs.Ends.{final}
+use Rattle.aes3_input.specs.Running.{Movement}
+use Rattle.aes3_input.specs.Taking.{Writing, behind, before_end, with_end}
+use Rattle.aes3_input.specs.Inputs.{cells_of}
+use Rattle.aes3_input.specs.Driving.{Drive}
+use Rattle.aes3_input.proofs.Items.{before-is, before-join}
+use Rattle.aes3_lock.specs.Tallies.{is_faulty, Tallies}
+use Rattle.aes3_lock.proofs.Tallies.{tallies-few, few-decided}
+use Rattle.aes3_account.specs.declared.watched.Watched.{Watched}
+use Rattle.aes3_account.specs.Watching.{unwatched, is_told, loss_line, lost_line, up_to, whole_line, slips, behind_whole, told_lines, next, lines_from, behind_reports, begun_watch, watched, is_locked, ended, end_line, watch_lines, watch_counts, watching, Watches, Ended}
+use Rattle.aes3_account.proofs.ReportPlaces.{split-reports, late-decided, late-reports}
+use Rattle.aes3_account.proofs.Accounts.{one-answer, one-final, decided-more, few-reports}
+
+-- what the code computes
+pub told-is : (w : Watched) (q s : ℕ) → s ≡ q - w.place → w.lost ≡ false → nat_lt s 24576 ≡ is_told w q
+told-is w q s e f =
+    ap (λ n. nat_lt n 24576) e ∙ sym (ap₂ (λ (b : Bool) (n : ℕ). b || nat_lt (q - w.place) n) f block_len_24576)
+
+abbrev made : ℕ → ℕ → Watched
+made p l = record { found = true; place = p; lost = false; losses = l }
+
+pub whole-is : (w : Watched) (at l : ℕ) (b : Bool) → slips w at ≡ b → l ≡ cond b (w.losses + 1) w.losses → made (at + 24576) l ≡ behind_whole w at
+whole-is w at l b e f =
+    ap (made (at + 24576)) f ∙ sym (ap₂ (λ (n : ℕ) (v : Bool). made (at + n) (cond v (w.losses + 1) w.losses)) block_len_24576 e)
+
+-- up to a place, and on to a place behind it
+far : (p a b : ℕ) → a ≤ b → ltb (a - p) block_len ≡ false → ltb (b - p) block_len ≡ false
+far p a b h e = let l = ltb-false (a - p) block_len e in le-ltb (b - p) block_len (omega arith)
+
+or-false : (x y : Bool) → (x || y) ≡ false → (x ≡ false) × (y ≡ false)
+or-false false y e = (refl, e)
+or-false true y e = (e, cc)
+
+later : (w : Watched) (a b : ℕ) → a ≤ b → is_told w a ≡ false → is_told w b ≡ false
+later w a b h e = let o = or-false w.lost (ltb (a - w.place) block_len) e in ap₂ (λ (x y : Bool). x || y) o.0 (far w.place a b h o.1)
+
+pub either : (b : Bool) → (b ≡ true) ⊎ (b ≡ false)
+either true = inl refl
+either false = inr refl
+
+abbrev pub as_lost : Watched → Watched
+as_lost w = record { found = w.found; place = w.place; lost = true; losses = w.losses + 1 }
+
+pub up-told : (w : Watched) (a : ℕ) (b : Bool) → is_told w a ≡ b → up_to w a ≡ cond b w (as_lost w)
+up-told w a b e = ap (λ x. cond x w (as_lost w)) e
+
+loss-told : (w : Watched) (a : ℕ) (b : Bool) → is_told w a ≡ b → loss_line w a ≡ cond b [] (lost_line w.place)
+loss-told w a b e = ap (λ (x : Bool). cond {A = List ℕ} x [] (lost_line w.place)) e
+
+loss-join : (w : Watched) (a b : ℕ) → a ≤ b → loss_line w b ≡ loss_line w a ++ loss_line (up_to w a) b
+loss-join w a b h = go (either (is_told w a))
+  where
+    go : (is_told w a ≡ true) ⊎ (is_told w a ≡ false) → loss_line w b ≡ loss_line w a ++ loss_line (up_to w a) b
+    go (inl e) = sym (ap₂ (λ x v. x ++ loss_line v b) (loss-told w a true e) (up-told w a true e))
+    go (inr e) =
+        loss-told w b false (later w a b h e) ∙ sym (append-nil (lost_line w.place))
+        ∙ sym (ap₂ (λ x v. x ++ loss_line v b) (loss-told w a false e) (up-told w a false e))
+
+up-join : (w : Watched) (a b : ℕ) → a ≤ b → up_to w b ≡ up_to (up_to w a) b
+up-join w a b h = go (either (is_told w a))
+  where
+    go : (is_told w a ≡ true) ⊎ (is_told w a ≡ false) → up_to w b ≡ up_to (up_to w a) b
+    go (inl e) = sym (ap (λ v. up_to v b) (up-told w a true e))
+    go (inr e) = up-told w b false (later w a b h e) ∙ sym (ap (λ v. up_to v b) (up-told w a false e))
+
+report-join : (w : Watched) (a : ℕ) (x : Report) → a ≤ place_of x → told_lines w x ≡ loss_line w a ++ told_lines (up_to w a) x
+report-join w a (Whole at s b) h =
+    ap₂ (λ l v. l ++ whole_line v at s) (loss-join w a at h) (up-join w a at h)
+    ∙ append_assoc (loss_line w a) (loss_line (up_to w a) at) (whole_line (up_to (up_to w a) at) at s)
+report-join w a (Marked at s wrong) h = loss-join w a at h
+report-join w a (Fault at cell why) h = loss-join w a at h
+report-join w a (Unfinished at cells) h = loss-join w a at h
+
+next-join : (w : Watched) (a : ℕ) (x : Report) → a ≤ place_of x → next w x ≡ next (up_to w a) x
+next-join w a (Whole at s b) h = ap (λ v. behind_whole v at) (up-join w a at h)
+next-join w a (Marked at s wrong) h = up-join w a at h
+next-join w a (Fault at cell why) h = up-join w a at h
+next-join w a (Unfinished at cells) h = up-join w a at h
+
+-- one more report
+lines-push : (w : Watched) (r : List Report) (x : Report) → lines_from w (r ++ x ∷ []) ≡ lines_from w r ++ told_lines (behind_reports w r) x
+lines-push w [] x = append-nil (told_lines w x)
+lines-push w (y ∷ r) x =
+    ap (λ z. told_lines w y ++ z) (lines-push (next w y) r x)
+    ∙ sym (append_assoc (told_lines w y) (lines_from (next w y) r) (told_lines (behind_reports (next w y) r) x))
+
+behind-push : (w : Watched) (r : List Report) (x : Report) → behind_reports w (r ++ x ∷ []) ≡ next (behind_reports w r) x
+behind-push w [] x = refl
+behind-push w (y ∷ r) x = behind-push (next w y) r x
+
+-- the cells before the last block's
+shorter : (c d : List Level) → length c - block_len ≤ length (c ++ d) - block_len
+shorter c d = let l = length-append c d in omega arith
+
+-- more cells that decide no report
+pub watched-passed : (c d : List Level) → decided (c ++ d) ≡ decided c → watched (c ++ d) ≡ up_to (watched c) (length (c ++ d) - block_len)
+unfolding watched
+watched-passed c d e =
+    ap (λ r. up_to (behind_reports unwatched r) (length (c ++ d) - block_len)) e
+    ∙ up-join (behind_reports unwatched (decided c)) (length c - block_len) (length (c ++ d) - block_len) (shorter c d)
+
+pub begun-passed : (c d : List Level) → decided (c ++ d) ≡ decided c → begun_watch (c ++ d) ≡ begun_watch c ++ loss_line (watched c) (length (c ++ d) - block_len)
+unfolding begun_watch watched
+begun-passed c d e =
+    let w = behind_reports unwatched (decided c) in
+    let s = length c - block_len in
+    let t = length (c ++ d) - block_len in
+    ap (λ r. lines_from unwatched r ++ loss_line (behind_reports unwatched r) t) e
+    ∙ ap (λ z. lines_from unwatched (decided c) ++ z) (loss-join w s t (shorter c d))
+    ∙ sym (append_assoc (lines_from unwatched (decided c)) (loss_line w s) (loss_line (up_to w s) t))
+
+-- a report, and what stands behind it
+next-watched : (c : List Level) (x : Report) → length c ≤ place_of x + block_len → behind_reports unwatched (decided c ++ x ∷ []) ≡ next (watched c) x
+unfolding watched
+next-watched c x h =
+    behind-push unwatched (decided c) x ∙ next-join (behind_reports unwatched (decided c)) (length c - block_len) x (omega arith)
+
+four-joined : {A : Type 0} (a f g t : List A) → (a ++ (f ++ g)) ++ t ≡ (a ++ f) ++ (g ++ t)
+four-joined a f g t = simp append_assoc
+
+lines-watched : (c : List Level) (x : Report) (tail : List ℕ) → length c ≤ place_of x + block_len
+    → lines_from unwatched (decided c ++ x ∷ []) ++ tail ≡ begun_watch c ++ (told_lines (watched c) x ++ tail)
+unfolding begun_watch watched
+lines-watched c x tail h =
+    let w = behind_reports unwatched (decided c) in
+    let s = length c - block_len in
+    ap (λ z. z ++ tail) (lines-push unwatched (decided c) x ∙ ap (λ z. lines_from unwatched (decided c) ++ z) (report-join w s x (omega arith)))
+    ∙ four-joined (lines_from unwatched (decided c)) (loss_line w s) (told_lines (up_to w s) x) tail
+
+watched-is : (c : List Level) (r : List Report) (w : Watched) → decided c ≡ r → behind_reports unwatched r ≡ w → watched c ≡ up_to w (length c - block_len)
+unfolding watched
+watched-is c r w e f =
+    ap (λ v. up_to (behind_reports unwatched v) (length c - block_len)) e ∙ ap (λ v. up_to v (length c - block_len)) f
+
+begun-is : (c : List Level) (r : List Report) (w : Watched) → decided c ≡ r → behind_reports unwatched r ≡ w
+    → begun_watch c ≡ lines_from unwatched r ++ loss_line w (length c - block_len)
+unfolding begun_watch
+begun-is c r w e f =
+    ap (λ v. lines_from unwatched v ++ loss_line (behind_reports unwatched v) (length c - block_len)) e
+    ∙ ap (λ v. lines_from unwatched r ++ loss_line v (length c - block_len)) f
+
+pub watched-taken : (c d : List Level) (x : Report) → decided (c ++ d) ≡ decided c ++ x ∷ []
+    → watched (c ++ d) ≡ up_to (next (watched c) x) (length (c ++ d) - block_len)
+watched-taken c d x e = watched-is (c ++ d) (decided c ++ x ∷ []) (next (watched c) x) e (next-watched c x (late-decided c d x e))
+
+pub begun-taken : (c d : List Level) (x : Report) → decided (c ++ d) ≡ decided c ++ x ∷ []
+    → begun_watch (c ++ d) ≡ begun_watch c ++ (told_lines (watched c) x ++ loss_line (next (watched c) x) (length (c ++ d) - block_len))
+begun-taken c d x e =
+    let h = late-decided c d x e in
+    begun-is (c ++ d) (decided c ++ x ∷ []) (next (watched c) x) e (next-watched c x h)
+    ∙ lines-watched c x (loss_line (next (watched c) x) (length (c ++ d) - block_len)) h
+
+-- the end, where it decides no report, and where it decides one
+abbrev pub last_lines : Watched → ℕ → List ℕ
+last_lines w n = loss_line w n ++ end_line n (is_locked (up_to w n))
+
+all-is : (c : List Level) (r : List Report) (w : Watched) → reports c ≡ r → behind_reports unwatched r ≡ w
+    → watch_lines c ≡ lines_from unwatched r ++ last_lines w (length c)
+unfolding watch_lines ended
+all-is c r w e f =
+    ap (λ v. lines_from unwatched v ++ last_lines (behind_reports unwatched v) (length c)) e
+    ∙ ap (λ v. lines_from unwatched r ++ last_lines v (length c)) f
+
+ended-is : (c : List Level) (r : List Report) (w : Watched) → reports c ≡ r → behind_reports unwatched r ≡ w → ended c ≡ up_to w (length c)
+unfolding ended
+ended-is c r w e f = ap (λ v. up_to (behind_reports unwatched v) (length c)) e ∙ ap (λ v. up_to v (length c)) f
+
+before-last : (c : List Level) → length c - block_len ≤ length c
+before-last c = omega arith
+
+pub ended-closed : (c : List Level) → reports c ≡ decided c ++ [] → ended c ≡ up_to (watched c) (length c)
+unfolding watched
+ended-closed c e =
+    ended-is c (decided c) (behind_reports unwatched (decided c)) (e ∙ append-nil (decided c)) refl
+    ∙ up-join (behind_reports unwatched (decided c)) (length c - block_len) (length c) (before-last c)
+
+last-join : (w : Watched) (a b : ℕ) → a ≤ b → last_lines w b ≡ loss_line w a ++ last_lines (up_to w a) b
+last-join w a b h =
+    ap₂ (λ l v. l ++ end_line b (is_locked v)) (loss-join w a b h) (up-join w a b h)
+    ∙ append_assoc (loss_line w a) (loss_line (up_to w a) b) (end_line b (is_locked (up_to (up_to w a) b)))
+
+pub all-closed : (c : List Level) → reports c ≡ decided c ++ [] → watch_lines c ≡ begun_watch c ++ last_lines (watched c) (length c)
+unfolding watched begun_watch
+all-closed c e =
+    let w = behind_reports unwatched (decided c) in
+    let s = length c - block_len in
+    all-is c (decided c) w (e ∙ append-nil (decided c)) refl
+    ∙ ap (λ z. lines_from unwatched (decided c) ++ z) (last-join w s (length c) (before-last c))
+    ∙ sym (append_assoc (lines_from unwatched (decided c)) (loss_line w s) (last_lines (up_to w s) (length c)))
+
+pub ended-closed_with : (c : List Level) (x : Report) → reports c ≡ decided c ++ x ∷ [] → ended c ≡ up_to (next (watched c) x) (length c)
+ended-closed_with c x e = ended-is c (decided c ++ x ∷ []) (next (watched c) x) e (next-watched c x (late-reports c x e))
+
+pub all-closed_with : (c : List Level) (x : Report) → reports c ≡ decided c ++ x ∷ []
+    → watch_lines c ≡ begun_watch c ++ (told_lines (watched c) x ++ last_lines (next (watched c) x) (length c))
+all-closed_with c x e =
+    let h = late-reports c x e in
+    all-is c (decided c ++ x ∷ []) (next (watched c) x) e (next-watched c x h)
+    ∙ lines-watched c x (last_lines (next (watched c) x) (length c)) h
+
+-- so it grows
+begun-more : (c : List Level) (l : Level) → (m : List ℕ) × (begun_watch (c ++ l ∷ []) ≡ begun_watch c ++ m)
+begun-more c l = go (one-answer 0 c l)
+  where
+    go : (answer 0 c l ≡ []) ⊎ ((x : Report) × (answer 0 c l ≡ x ∷ [])) → (m : List ℕ) × (begun_watch (c ++ l ∷ []) ≡ begun_watch c ++ m)
+    go (inl e) = (_, begun-passed c (l ∷ []) (decided-more c l ∙ ap (λ r. decided c ++ r) e ∙ append-nil (decided c)))
+    go (inr x) = (_, begun-taken c (l ∷ []) x.0 (decided-more c l ∙ ap (λ r. decided c ++ r) x.1))
+
+all-more : (c : List Level) → (m : List ℕ) × (watch_lines c ≡ begun_watch c ++ m)
+all-more c = go (one-final 0 c)
+  where
+    go : (final 0 c ≡ []) ⊎ ((x : Report) × (final 0 c ≡ x ∷ [])) → (m : List ℕ) × (watch_lines c ≡ begun_watch c ++ m)
+    go (inl e) = (_, all-closed c (split-reports c ∙ ap (λ r. decided c ++ r) e))
+    go (inr x) = (_, all-closed_with c x.0 (split-reports c ∙ ap (λ r. decided c ++ r) x.1))
+
+-- what the taker writes
+grown : (a b m : List ℕ) → b ≡ a ++ m → b ≡ a ++ drop (length a) b
+grown a b m e = e ∙ ap (λ z. a ++ z) (sym (ap (drop (length a)) e ∙ drop_at a m (length a) refl))
+
+adds-is : (c : List Level) (l : Level) → drop (length (begun_watch c)) (begun_watch (c ++ l ∷ [])) ≡ watching.adds c l
+unfolding watching
+adds-is c l = refl
+
+ends-is : (c : List Level) → watching.ends c ≡ drop (length (begun_watch c)) (watch_lines c)
+unfolding watching
+ends-is c = refl
+
+begins : begun_watch [] ≡ []
+unfolding begun_watch decided block_len block_slots
+begins = refl
+
+pub before-watch : (c : List Level) → before_end watching c ≡ begun_watch c
+before-watch c =
+    before-is watching begun_watch begins
+    (λ c l. let m = begun-more c l in grown (begun_watch c) (begun_watch (c ++ l ∷ [])) m.0 m.1 ∙ ap (λ z. begun_watch c ++ z) (adds-is c l)) c
+
+pub with-watch : (c : List Level) → with_end watching c ≡ watch_lines c
+unfolding with_end
+with-watch c =
+    let m = all-more c in
+    ap₂ (λ x y. x ++ y) (before-watch c) (ends-is c) ∙ sym (grown (begun_watch c) (watch_lines c) m.0 m.1)
+
+pub behind-watch : (c d : List Level) (m : List ℕ) → begun_watch (c ++ d) ≡ begun_watch c ++ m → m ≡ behind watching c d
+behind-watch c d m e =
+    append_cancel_left (begun_watch c) m (behind watching c d)
+    (sym e ∙ sym (before-watch (c ++ d)) ∙ before-join watching c d ∙ ap (λ z. z ++ behind watching c d) (before-watch c))
+
+pub ends-watch : (c : List Level) (m : List ℕ) → watch_lines c ≡ begun_watch c ++ m → m ≡ watching.ends c
+ends-watch c m e = sym (ends-is c ∙ ap (drop (length (begun_watch c))) e ∙ drop_at (begun_watch c) m (length (begun_watch c)) refl)
+
+-- the cells of a run that decide no report
+pub pass-lines : (w : Watched) (s : ℕ) (c d : List Level) → w ≡ watched c → s ≡ length (c ++ d) - block_len → decided (c ++ d) ≡ decided c
+    → loss_line w s ≡ behind watching c d
+pass-lines w s c d e f q = ap₂ loss_line e f ∙ behind-watch c d (loss_line (watched c) (length (c ++ d) - block_len)) (begun-passed c d q)
+
+pub pass-watches : {w : Watched} {b f u : ℕ} (w' : Watched) (s : ℕ) (c d : List Level) → Watches w b f u c → decided (c ++ d) ≡ decided c
+    → s ≡ length (c ++ d) - block_len → w' ≡ up_to w s → Watches w' b f u (c ++ d)
+pass-watches {w} {b} {f} {u} w' s c d h q e g = record {
+  state_is = g ∙ ap₂ up_to h.state_is e ∙ sym (watched-passed c d q);
+  tally = subst (Tallies b f u) (sym q) h.tally;
+}
+
+-- a report, and cells behind it
+pub take-lines : (w w' : Watched) (s : ℕ) (c d : List Level) (x : Report) → w ≡ watched c → w' ≡ next w x → s ≡ length (c ++ d) - block_len
+    → decided (c ++ d) ≡ decided c ++ x ∷ [] → told_lines w x ++ loss_line w' s ≡ behind watching c d
+take-lines w w' s c d x e g f q =
+    ap₂ (λ v y. told_lines w x ++ loss_line v y) g f
+    ∙ ap (λ v. told_lines v x ++ loss_line (next v x) (length (c ++ d) - block_len)) e
+    ∙ behind-watch c d (told_lines (watched c) x ++ loss_line (next (watched c) x) (length (c ++ d) - block_len)) (begun-taken c d x q)
+
+pub take-watches : {w : Watched} {b f u b' f' u' : ℕ} (w' w'' : Watched) (s : ℕ) (c d : List Level) (x : Report) → Watches w b f u c
+    → decided (c ++ d) ≡ decided c ++ x ∷ [] → s ≡ length (c ++ d) - block_len → w' ≡ next w x → Tallies b' f' u' (decided c ++ x ∷ [])
+    → w'' ≡ up_to w' s → Watches w'' b' f' u' (c ++ d)
+take-watches {w} {b} {f} {u} {b'} {f'} {u'} w' w'' s c d x h q e g t k = record {
+  state_is = k ∙ ap₂ up_to (g ∙ ap (λ v. next v x) h.state_is) e ∙ sym (watched-taken c d x q);
+  tally = subst (Tallies b' f' u') (sym q) t;
+}
+
+-- the end
+pub close-lines : (w : Watched) (n : ℕ) (c : List Level) → w ≡ watched c → n ≡ length c → reports c ≡ decided c ++ [] → last_lines w n ≡ watching.ends c
+close-lines w n c e f q = ap₂ last_lines e f ∙ ends-watch c (last_lines (watched c) (length c)) (all-closed c q)
+
+pub close-ended : {w : Watched} {b f u : ℕ} (w' : Watched) (n : ℕ) (c : List Level) → Watches w b f u c → reports c ≡ decided c ++ [] → n ≡ length c
+    → n ≤ 2 ^ 43 → w' ≡ up_to w n → Ended w'.losses b f u c
+close-ended {w} {b} {f} {u} w' n c h q e s k = record {
+  short = omega arith;
+  losses_is = ap (λ v. v.losses) (k ∙ ap₂ up_to h.state_is e ∙ sym (ended-closed c q));
+  tally = subst (Tallies b f u) (sym (q ∙ append-nil (decided c))) h.tally;
+}
+
+pub close_with-lines : (w w' : Watched) (n : ℕ) (c : List Level) (x : Report) → w ≡ watched c → w' ≡ next w x → n ≡ length c
+    → reports c ≡ decided c ++ x ∷ [] → told_lines w x ++ last_lines w' n ≡ watching.ends c
+close_with-lines w w' n c x e g f q =
+    ap₂ (λ v y. told_lines w x ++ last_lines v y) g f ∙ ap (λ v. told_lines v x ++ last_lines (next v x) (length c)) e
+    ∙ ends-watch c (told_lines (watched c) x ++ last_lines (next (watched c) x) (length c)) (all-closed_with c x q)
+
+pub close_with-ended : {w : Watched} {b f u b' f' u' : ℕ} (w' w'' : Watched) (n : ℕ) (c : List Level) (x : Report) → Watches w b f u c
+    → reports c ≡ decided c ++ x ∷ [] → n ≡ length c → n ≤ 2 ^ 43 → w' ≡ next w x → Tallies b' f' u' (decided c ++ x ∷ []) → w'' ≡ up_to w' n
+    → Ended w''.losses b' f' u' c
+close_with-ended {w} {b} {f} {u} {b'} {f'} {u'} w' w'' n c x h q e s g t k = record {
+  short = omega arith;
+  losses_is = ap (λ v. v.losses) (k ∙ ap₂ up_to (g ∙ ap (λ v. next v x) h.state_is) e ∙ sym (ended-closed_with c x q));
+  tally = subst (Tallies b' f' u') (sym q) t;
+}
+
+pub begins-watched : {w : Watched} {b f u : ℕ} → w ≡ unwatched → Tallies b f u [] → Watches w b f u []
+unfolding watched decided block_len block_slots
+begins-watched e t = record { state_is = e; tally = t }
+
+-- cells are not told as lost more often than there are cells
+few-up : (w : Watched) (q : ℕ) → (up_to w q).losses ≤ w.losses + 1
+few-up w q = go (is_told w q)
+  where
+    go : (b : Bool) → (cond b w (as_lost w)).losses ≤ w.losses + 1
+    go true = omega arith
+    go false = omega arith
+
+few-whole : (w : Watched) (at : ℕ) → (behind_whole w at).losses ≤ w.losses + 1
+few-whole w at = go (slips w at)
+  where
+    go : (b : Bool) → cond b (w.losses + 1) w.losses ≤ w.losses + 1
+    go true = omega arith
+    go false = omega arith
+
+few-next : (w : Watched) (x : Report) → (next w x).losses ≤ w.losses + 2
+few-next w (Whole at s b) = let u = few-up w at in let v = few-whole (up_to w at) at in omega arith
+few-next w (Marked at s wrong) = let u = few-up w at in omega arith
+few-next w (Fault at cell why) = let u = few-up w at in omega arith
+few-next w (Unfinished at cells) = let u = few-up w at in omega arith
+
+few-behind : (w : Watched) (r : List Report) → (behind_reports w r).losses ≤ w.losses + 2 * length r
+few-behind w [] = omega arith
+few-behind w (x ∷ r) = let a = few-next w x in let b = few-behind (next w x) r in omega arith
+
+few-watched : (c : List Level) → (watched c).losses ≤ 2 * length c + 1
+unfolding watched
+few-watched c =
+    let w = behind_reports unwatched (decided c) in
+    let a = few-behind unwatched (decided c) in
+    let u = few-up w (length c - block_len) in
+    let f = few-decided c in
+    omega arith
+
+few-ended : (c : List Level) → (ended c).losses ≤ 2 * length c + 3
+unfolding ended
+few-ended c =
+    let w = behind_reports unwatched (reports c) in
+    let a = few-behind unwatched (reports c) in
+    let u = few-up w (length c) in
+    let f = few-reports c in
+    omega arith
+
+pub loss-room : {w : Watched} {b f u : ℕ} (c d : List Level) (n : ℕ) → Watches w b f u c → n ≡ length (c ++ d) → n ≤ 2 ^ 43 → w.losses ≤ 2 ^ 44 + 1
+loss-room {w} c d n h e s =
+    let a : w.losses ≡ (watched c).losses = ap (λ v. v.losses) h.state_is in
+    let f = few-watched c in
+    let k = length-append c d in
+    omega arith
+
+sum-room : {l b f u : ℕ} (c : List Level) → Ended l b f u c → f + l < 2 ^ 64
+sum-room c h =
+    let s = h.short in
+    let l = h.losses_is in
+    let a = few-ended c in
+    let f = (tallies-few h.tally).few_faults in
+    let r = few-reports c in
+    omega arith
+
+pub watch-room : {max : ℕ} {form : Form} {w : Writing Level} {g : List Level → Type 0} (l b f u : ℕ) {ended : Bool} {source sink : Movement} {bytes cells : ℕ}
+    → Drive max form w g (λ c. Ended l b f u c) ended source sink (Ok (bytes, cells)) → f + l < 2 ^ 64
+watch-room {form = form} l b f u r = sum-room (cells_of form r.run.bytes) r.run.ran.1.0
+
+pub watch-counted : (form : Form) (b : List ℕ) (bytes cells l k f u : ℕ) → bytes ≡ length b → cells ≡ length (cells_of form b) → Ended l k f u (cells_of form b)
+    → ◌≡◌ {A = Counts} (record { bytes = bytes; cells = cells; blocks = k; faults = f + l; unfinished = u; marks = 0 }) (watch_counts form b)
+unfolding watch_counts blocks
+watch-counted form b n c l k f u e d t =
+    let r = reports (cells_of form b) in
+    let s : f + l ≡ length (filter is_faulty r) + (ended (cells_of form b)).losses = ap₂ (λ x y. x + y) t.tally.faults_is t.losses_is in
+    ap₂ (λ (x y : ℕ). record { bytes = x; cells = y; blocks = k; faults = f + l; unfinished = u; marks = 0 }) e d
+    ∙ ap₂ (λ (x y : ℕ). record { bytes = length b; cells = length (cells_of form b); blocks = x; faults = y; unfinished = u; marks = 0 }) t.tally.blocks_is s
+    ∙ ap (λ (x : ℕ). record { bytes = length b; cells = length (cells_of form b); blocks = length (wholes r); faults = length (filter is_faulty r) + (ended (cells_of form b)).losses; unfinished = x; marks = 0 }) t.tally.unfinished_is

@@ -1,0 +1,34 @@
+use Rattle.std.proofs.Common.{◌+◌, ap, ◌∙◌, arith}
+use Rattle.aes3_input.proofs.InputRuns.{run-told}
+use Rattle.aes3_input.proofs.CellRuns.{drove-ok, drove-err}
+use Rattle.aes3_account.specs.Gaps.{account, begun_account}
+use Rattle.aes3_account.specs.Accounting.{account_counts}
+use Rattle.aes3_account.specs.GapLines.{account_lines}
+use Rattle.aes3_account.proofs.Accounts.{before-account, with-account, counted, drive-room}
+use Rattle.aes3_account.proofs.accounting.account.Goals as goal
+
+pub overflow_add-result : goal.overflow_add-result
+overflow_add-result g c =
+    let t = c.drive.new.taker.reporter in
+    let r = drive-room t.lost t.tally.blocks t.tally.faults t.tally.unfinished c.in-Ok.ensures.ran in
+    omega arith
+
+pub returns-in-Ok-clause-run : goal.returns-in-Ok-clause-run
+returns-in-Ok-clause-run g c =
+    let t = c.drive.new.taker.reporter in
+    let l = c.new-taker.result.reporter.lines in
+    drove-ok (λ d. account_lines c.args.lines (account d)) (λ d. account_lines c.args.lines (begun_account d)) (account_counts c.args.input)
+    (record { bytes = c.in-Ok.bytes; cells = c.in-Ok.cells; blocks = t.tally.blocks; faults = t.tally.faults + t.lost; unfinished = t.tally.unfinished; marks = 0 })
+    (λ d. with-account l d ∙ ap (λ v. account_lines v (account d)) (ap (λ k. k.lines) c.new-taker.ensures.reporter ∙ c.new.ensures.lines))
+    (λ d. before-account l d ∙ ap (λ v. account_lines v (begun_account d)) (ap (λ k. k.lines) c.new-taker.ensures.reporter ∙ c.new.ensures.lines))
+    (λ b e f h. counted c.args.input b c.in-Ok.bytes c.in-Ok.cells t.lost t.tally.blocks t.tally.faults t.tally.unfinished e f h) c.in-Ok.ensures.ran
+
+pub returns-in-Ok-clause-lines : goal.returns-in-Ok-clause-lines
+returns-in-Ok-clause-lines g c = λ b t. (run-told (returns-in-Ok-clause-run g c) b t).4
+
+pub returns-in-Err-clause-run : goal.returns-in-Err-clause-run
+returns-in-Err-clause-run g c =
+    let l = c.new-taker.result.reporter.lines in
+    drove-err (λ d. account_lines c.args.lines (account d)) (λ d. account_lines c.args.lines (begun_account d)) (account_counts c.args.input)
+    (λ d. with-account l d ∙ ap (λ v. account_lines v (account d)) (ap (λ k. k.lines) c.new-taker.ensures.reporter ∙ c.new.ensures.lines))
+    (λ d. before-account l d ∙ ap (λ v. account_lines v (begun_account d)) (ap (λ k. k.lines) c.new-taker.ensures.reporter ∙ c.new.ensures.lines)) c.in-Err.ensures.ran

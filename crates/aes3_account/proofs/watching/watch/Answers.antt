@@ -1,0 +1,27 @@
+use Rattle.std.proofs.Common.{◌+◌, arith}
+use Rattle.aes3_input.proofs.InputRuns.{run-told}
+use Rattle.aes3_input.proofs.CellRuns.{drove-ok, drove-err}
+use Rattle.aes3_account.specs.Watching.{begun_watch, watch_counts, watch_lines}
+use Rattle.aes3_account.proofs.WatchedCells.{before-watch, with-watch, watch-counted, watch-room}
+use Rattle.aes3_account.proofs.watching.watch.Goals as goal
+
+pub overflow_add-result : goal.overflow_add-result
+overflow_add-result g c =
+    let t = c.drive.new.taker.reporter in
+    let r = watch-room t.state.losses t.tally.blocks t.tally.faults t.tally.unfinished c.in-Ok.ensures.ran in
+    omega arith
+
+pub returns-in-Ok-clause-run : goal.returns-in-Ok-clause-run
+returns-in-Ok-clause-run g c =
+    let t = c.drive.new.taker.reporter in
+    let l = t.state.losses in
+    drove-ok watch_lines begun_watch (watch_counts c.args.input)
+    (record { bytes = c.in-Ok.bytes; cells = c.in-Ok.cells; blocks = t.tally.blocks; faults = t.tally.faults + l; unfinished = t.tally.unfinished; marks = 0 })
+    with-watch before-watch
+    (λ b e f h. watch-counted c.args.input b c.in-Ok.bytes c.in-Ok.cells l t.tally.blocks t.tally.faults t.tally.unfinished e f h) c.in-Ok.ensures.ran
+
+pub returns-in-Ok-clause-lines : goal.returns-in-Ok-clause-lines
+returns-in-Ok-clause-lines g c = λ b t. (run-told (returns-in-Ok-clause-run g c) b t).4
+
+pub returns-in-Err-clause-run : goal.returns-in-Err-clause-run
+returns-in-Err-clause-run g c = drove-err watch_lines begun_watch (watch_counts c.args.input) with-watch before-watch c.in-Err.ensures.ran

@@ -1,0 +1,7 @@
+pub mod Gaps
+pub mod GapLines
+pub mod CellReports
+pub mod Accounting
+pub mod GapLaws
+pub mod Watching
+pub mod WatchLaws

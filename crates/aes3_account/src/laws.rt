@@ -1,0 +1,56 @@
+//! Laws of the account of an input's cells, and of the lines of a line watched.
+
+ghost use Rattle.aes3_account.specs.GapLaws.{AccountIsInTime, AccountIsWhole, AccountStands};
+ghost use Rattle.aes3_account.specs.GapLaws.{ChangeIsLost, GapsAreShort, LossIsLost};
+ghost use Rattle.aes3_account.specs.GapLaws.{NoGapLosesNothing, PieceHasNoGap, RowHasNoGap};
+ghost use Rattle.aes3_account.specs.WatchLaws.{LossesAreGaps};
+
+/// The whole blocks and the gaps of the account of any cells are these cells, each exactly once, in
+/// order, and its reports are all reports on them.
+pub fn account_is_whole()
+    ensures { AccountIsWhole }
+{}
+
+/// What stands of an account whatever cells follow accounts for all cells but the last 49,151 at
+/// most, and it begins the account of these cells and any that follow.
+pub fn account_is_in_time()
+    ensures time { AccountIsInTime }
+    ensures stands { AccountStands }
+{}
+
+/// Each gap of an account has a cell at least, and 24,576 at most.
+pub fn gaps_are_short()
+    ensures { GapsAreShort }
+{}
+
+/// Where no gap of the account counts, the whole blocks stand in a row, each directly behind the
+/// one before it, and before the first and behind the last are fewer cells than a block has.
+pub fn no_gap_loses_nothing()
+    ensures { NoGapLosesNothing }
+{}
+
+/// Where one cell of a stream of whole blocks changes, a gap of the account counts: so
+/// `check --gaps` ends with status 1.
+pub fn change_is_lost()
+    ensures { ChangeIsLost }
+{}
+
+/// Where one cell of a stream of whole blocks is lost that stands between the first of them and the
+/// last, a gap counts too.
+pub fn loss_is_lost()
+    ensures { LossIsLost }
+{}
+
+/// Where the whole blocks of cells, one at least, stand in a row, and before the first and behind
+/// the last are fewer cells than a block has, no gap of the account counts; so none does in a piece
+/// of a lawful stream that has a whole block.
+pub fn whole_rows_have_no_gap()
+    ensures row { RowHasNoGap }
+    ensures piece { PieceHasNoGap }
+{}
+
+/// `watch` tells cells as lost, or a block as slipped, just where a gap of the account counts: so it
+/// ends with the status of `check --gaps`.
+pub fn losses_are_gaps()
+    ensures { LossesAreGaps }
+{}

@@ -1,0 +1,24 @@
+//! The account of all cells of an input, and a line watched: where no whole block is, line by line
+//! (AES3-3, IEC 60958-1).
+#![tactic(auto)]
+
+/// The account of all cells, line by line.
+mod accounting;
+/// Who is told of the reports on cells, and of how far the cells have come.
+mod cell_reporter;
+/// Cells that are counted as they go through a lock.
+mod counted;
+/// The line of a gap.
+mod gap;
+/// Laws over the definitions alone, whatever the cells.
+pub mod laws;
+/// What is accounted for of all cells.
+mod ledger;
+/// What is known of a line that is watched.
+mod watched;
+/// A line watched: what changes, in a few lines.
+mod watching;
+
+pub use accounting::account;
+pub use gap::line_of_gap;
+pub use watching::{line_of_end, line_of_lock, line_of_loss, line_of_return, line_of_slip, watch};

@@ -1,0 +1,2 @@
+pub mod EndingLines
+pub mod Scans

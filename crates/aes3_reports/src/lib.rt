@@ -1,0 +1,10 @@
+//! What stands in cells, line by line: reports and preambles (AES3-3, IEC 60958-1).
+#![tactic(auto)]
+
+/// The line of a report.
+mod report;
+/// The preambles in cells, line by line.
+mod scanning;
+
+pub use report::{line_of_report, tell_ending};
+pub use scanning::scan;

@@ -1,0 +1,240 @@
+//! Preambles, line by line.
+
+ghost use Rattle.std.specs.Prelude.{◌≡◌, ℕ, ◌+◌, ◌<◌, ◌≤◌, ◌^◌, ◌++◌, List, [], length, IfOk};
+ghost use Rattle.std.specs.Prelude.{OnErr};
+ghost use Rattle.aes3_cell.specs.Ends.{Grew, GrewFront, Told};
+ghost use Rattle.aes3_cell.specs.Words.{word_cells};
+ghost use Rattle.aes3_cell.specs.Writes.{Wrote};
+ghost use Rattle.aes3_cell.specs.declared.level.Level.{Level};
+ghost use Rattle.aes3_lock.specs.Preambles.{marks};
+ghost use Rattle.aes3_input.specs.Driving.{CellRun};
+ghost use Rattle.aes3_input.specs.Inputs.{cells_of};
+ghost use Rattle.aes3_input.specs.Running.{movement_of};
+ghost use Rattle.aes3_input.specs.Taking.{behind};
+ghost use Rattle.aes3_lines.specs.Gathering.{AllButHeld};
+ghost use Rattle.aes3_lines.specs.MarkLines.{mark_line, mark_lines};
+ghost use Rattle.aes3_reports.specs.Scanning.{Scanned, marking, scan_counts};
+
+use aes3_cell::{Counts, Fault, Form, Level, RunError, Sink, Source};
+use aes3_input::{Taker, drive};
+use aes3_lines::{GATHERED_LEN, GatheredLines, MARK_LEN};
+use aes3_lock::{Scan, WordMarks};
+use aes3_slot::Mark;
+
+/// Writes the line of each preamble, and counts them. Between its calls it holds no line.
+#[derive(Drop)]
+struct MarkLines {
+    scan: Scan,
+    marks: u64,
+    lines: GatheredLines,
+}
+
+impl MarkLines {
+    /// A taker that has taken no cell.
+    fn new() -> Self
+        ensures scanned { Scanned result.scan result.marks [] }
+        ensures lines { result.lines ≡ [] }
+    {
+        MarkLines {
+            scan: Scan::new(),
+            marks: 0,
+            lines: GatheredLines::new(),
+        }
+    }
+
+    /// Counts a preamble that the scan told, and makes its line.
+    #[inline(always)]
+    fn gather(&mut self, found: (u64, Mark, Level))
+        requires fits { length self.old.lines + MARK_LEN ≤ GATHERED_LEN }
+        requires few { self.old.marks + 1 < 2 ^ 64 }
+        ensures scan { self.new.scan ≡ self.old.scan }
+        ensures marks { self.new.marks ≡ self.old.marks + 1 }
+        ensures lines { self.new.lines ≡ self.old.lines ++ mark_line found.0 found.1 found.2 }
+    {
+        self.marks += 1;
+        self.lines.push(found.0, found.1, found.2);
+    }
+
+    /// Counts a preamble that the scan told, and makes its line. It hands on the lines where a
+    /// further one might not fit, or where the sink would rather take each alone.
+    ///
+    /// # Errors
+    /// The sink's fault; then it has taken a front of the lines.
+    fn tell<T: Sink>(&mut self, sink: &mut T, found: (u64, Mark, Level)) -> Result<(), Fault>
+        requires fits { length self.old.lines + MARK_LEN ≤ GATHERED_LEN }
+        requires room { T.failed sink.old + 1 < 2 ^ 64 }
+        requires few { self.old.marks + 1 < 2 ^ 64 }
+        ensures scan { self.new.scan ≡ self.old.scan }
+        ensures marks { self.new.marks ≡ self.old.marks + 1 }
+        ensures fits { IfOk result (λ _. length self.new.lines + MARK_LEN ≤ GATHERED_LEN) }
+        ensures wrote { IfOk result (λ _. AllButHeld (T.taken sink.old) (T.taken sink.new)
+            self.old.lines self.new.lines (mark_line found.0 found.1 found.2)) }
+        ensures count { IfOk result (λ _. T.failed sink.new ≡ T.failed sink.old) }
+        ensures err { OnErr result ((T.failed sink.new ≡ T.failed sink.old + 1)
+            × GrewFront (T.taken sink.old) (T.taken sink.new)
+            (self.old.lines ++ mark_line found.0 found.1 found.2)) }
+    {
+        self.gather(found);
+        if sink.takes_much() && !self.lines.is_full() {
+            return Ok(());
+        }
+        match self.lines.hand_on(sink) {
+            Ok(()) => Ok(()),
+            Err(fault) => Err(fault),
+        }
+    }
+
+    /// Writes the line of a preamble that the scan told at once, and counts it.
+    ///
+    /// # Errors
+    /// The sink's fault; then it has taken a front of the line.
+    fn tell_alone<T: Sink>(&mut self, sink: &mut T, found: (u64, Mark, Level)) -> Result<(), Fault>
+        requires none { self.old.lines ≡ [] }
+        requires room { T.failed sink.old + 1 < 2 ^ 64 }
+        requires few { self.old.marks + 1 < 2 ^ 64 }
+        ensures scan { self.new.scan ≡ self.old.scan }
+        ensures marks { self.new.marks ≡ self.old.marks + 1 }
+        ensures none { IfOk result (λ _. self.new.lines ≡ []) }
+        ensures wrote { Wrote T.taken T.failed sink.old sink.new
+            (mark_line found.0 found.1 found.2) result }
+    {
+        self.gather(found);
+        match self.lines.hand_on(sink) {
+            Ok(()) => Ok(()),
+            Err(fault) => Err(fault),
+        }
+    }
+
+    /// Tells the preambles of a word.
+    ///
+    /// # Errors
+    /// The sink's fault; then it has taken a front of the lines.
+    fn tell_all<T: Sink>(&mut self, sink: &mut T, found: WordMarks) -> Result<(), Fault>
+        requires fits { length self.old.lines + MARK_LEN ≤ GATHERED_LEN }
+        requires room { T.failed sink.old + 1 < 2 ^ 64 }
+        requires few { self.old.marks + length found < 2 ^ 64 }
+        ensures scan { IfOk result (λ _. self.new.scan ≡ self.old.scan) }
+        ensures marks { IfOk result (λ _. self.new.marks ≡ self.old.marks + length found) }
+        ensures fits { IfOk result (λ _. length self.new.lines + MARK_LEN ≤ GATHERED_LEN) }
+        ensures wrote { IfOk result (λ _. AllButHeld (T.taken sink.old) (T.taken sink.new)
+            self.old.lines self.new.lines (mark_lines found)) }
+        ensures count { IfOk result (λ _. T.failed sink.new ≡ T.failed sink.old) }
+        ensures err { OnErr result ((T.failed sink.new ≡ T.failed sink.old + 1)
+            × GrewFront (T.taken sink.old) (T.taken sink.new) (self.old.lines ++ mark_lines found)) }
+    {
+        let mut left = found;
+        while let Some(mark) = left.take_next() {
+            match self.tell(sink, mark) {
+                Ok(()) => {}
+                Err(fault) => return Err(fault),
+            }
+        }
+        Ok(())
+    }
+
+    /// Takes the cells of a word.
+    ///
+    /// # Errors
+    /// The sink's fault; then it has taken a front of the lines.
+    fn take_word<T: Sink>(&mut self, sink: &mut T, word: u64) -> Result<(), Fault>
+        requires fits { length self.old.lines + MARK_LEN ≤ GATHERED_LEN }
+        requires room { T.failed sink.old + 1 < 2 ^ 64 }
+        requires following { (c : List Level) × (length c + 64 ≤ 2 ^ 43)
+            × Scanned self.old.scan self.old.marks c }
+        ensures next { IfOk result (λ _. (c : List Level) → Scanned self.old.scan self.old.marks c
+            → Scanned self.new.scan self.new.marks (c ++ word_cells word)) }
+        ensures fits { IfOk result (λ _. length self.new.lines + MARK_LEN ≤ GATHERED_LEN) }
+        ensures wrote { IfOk result (λ _. (c : List Level) → Scanned self.old.scan self.old.marks c
+            → AllButHeld (T.taken sink.old) (T.taken sink.new) self.old.lines self.new.lines
+            (behind marking c (word_cells word))) }
+        ensures count { IfOk result (λ _. T.failed sink.new ≡ T.failed sink.old) }
+        ensures err_count { OnErr result (T.failed sink.new ≡ T.failed sink.old + 1) }
+        ensures err_grew { OnErr result ((c : List Level) → Scanned self.old.scan self.old.marks c
+            → GrewFront (T.taken sink.old) (T.taken sink.new)
+            (self.old.lines ++ behind marking c (word_cells word))) }
+    {
+        let found = self.scan.take_word(word);
+        match self.tell_all(sink, found) {
+            Ok(()) => Ok(()),
+            Err(fault) => Err(fault),
+        }
+    }
+}
+
+impl Taker for MarkLines {
+    ghost follows = { λ k c. (k.lines ≡ []) × Scanned k.scan k.marks c };
+
+    ghost writes = { λ _. marking };
+
+    ghost finished = { λ k. Scanned k.scan k.marks };
+
+    fn take_front<T: Sink>(&mut self, sink: &mut T, word: u64, len: u32) -> Result<u32, Fault> {
+        let (taken, found) = self.scan.next_in(word, len);
+        match found {
+            Some(found) => match self.tell_alone(sink, found) {
+                Ok(()) => Ok(taken),
+                Err(fault) => Err(fault),
+            },
+            None => Ok(taken),
+        }
+    }
+
+    fn words<T: Sink>(&mut self, sink: &mut T, words: &[u64]) -> Result<(), Fault> {
+        for word in words.iter() {
+            match self.take_word(sink, *word) {
+                Ok(()) => {}
+                Err(fault) => return Err(fault),
+            }
+        }
+        match self.lines.hand_on(sink) {
+            Ok(()) => Ok(()),
+            Err(fault) => Err(fault),
+        }
+    }
+
+    fn finish<T: Sink>(&mut self, _sink: &mut T) -> Result<(), Fault> {
+        Ok(())
+    }
+}
+
+/// Reads cells from any cell on, and writes a line for each place where eight cells are a preamble,
+/// in step with a block or not (AES3-3; IEC 60958-1).
+///
+/// # Errors
+/// Those of `check`; then the lines of the preambles are written that ended before, and after
+/// `Write` a front of them.
+pub fn scan<S: Source, T: Sink>(
+    source: &mut S,
+    sink: &mut T,
+    max_bytes: u64,
+    input: Form,
+) -> Result<Counts, RunError>
+    requires source_room { S.failed source.old + 1 < 2 ^ 64 }
+    requires sink_room { T.failed sink.old + 1 < 2 ^ 64 }
+    requires limit { max_bytes ≤ 2 ^ 40 }
+
+    // Where it answers Ok, exactly the lines of the preambles are written, in order of place.
+    ensures lines { IfOk result (λ _. (b : List ℕ)
+        → Told (S.given source.old) (S.given source.new) b
+        → Grew (T.taken sink.old) (T.taken sink.new) (mark_lines (marks (cells_of input b)))) }
+    // It is a run over cells: Ok is owed, a refusal has its cause, and what was told before it is
+    // written.
+    ensures run { CellRun max_bytes input (λ c. mark_lines (marks c)) (λ c. mark_lines (marks c))
+        (scan_counts input)
+        (S.has_ended source.new) (movement_of S.given S.failed source.old source.new)
+        (movement_of T.taken T.failed sink.old sink.new) result }
+    ensures passed_on { IfOk result (λ _. T.passed sink.new ≡ T.taken sink.new) }
+{
+    let mut taker = MarkLines::new();
+    match drive(source, sink, max_bytes, input, &mut taker) {
+        Ok((bytes, cells)) => Ok(Counts {
+            bytes,
+            cells,
+            blocks: 0,
+            faults: 0,
+            unfinished: 0,
+            marks: taker.marks,
+        }),
+        Err(error) => Err(error),
+    }
+}

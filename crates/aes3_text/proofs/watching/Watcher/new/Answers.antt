@@ -1,5 +1,0 @@
-use Rattle.aes3_text.proofs.WatchedCells.{begins-watched}
-use Rattle.aes3_text.proofs.watching.Watcher.new.Goals as goal
-
-pub returns : goal.returns
-returns c = begins-watched c.new.ensures c.new-2.ensures
