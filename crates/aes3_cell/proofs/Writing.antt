@@ -1,5 +1,5 @@
 -- Calls that write bytes.
-use Rattle.std.proofs.Common.{◌≡◌, ℕ, ◌+◌, List, ◌++◌, Option, Result, Ok, Err, ap, ◌∙◌, subst}
+use Rattle.std.proofs.Common.{◌≡◌, ℕ, ◌+◌, List, ◌++◌, Option, Result, Ok, Err, IfOk, ap, ◌∙◌, subst}
 use Rattle.aes3_cell.specs.Ends.{Grew}
 use Rattle.aes3_cell.specs.Writes.{Wrote}
 use Rattle.aes3_cell.proofs.Growing.{grew-join, front-join}
@@ -12,3 +12,8 @@ pub wrote-behind : {A R E : Type 0} {taken : A → Option (List ℕ)} {failed : 
     → failed b ≡ failed a → Grew (taken a) (taken b) x → Wrote taken failed b d y r → Wrote taken failed a d (x ++ y) r
 wrote-behind (Ok v) q g w = record { grew = grew-join g w.grew; count = w.count ∙ q; err = tt }
 wrote-behind (Err e) q g w = record { grew = tt; count = tt; err = (w.err.0 ∙ ap (λ n. n + 1) q, front-join g w.err.1) }
+
+-- what holds whatever is answered
+pub ok-always : {R E P : Type 0} (r : Result R E) → P → IfOk r (λ _. P)
+ok-always (Ok v) p = p
+ok-always (Err e) p = tt

@@ -1,7 +1,7 @@
 //! What a run has counted.
 
 /// The counts of a run that was not refused.
-#[derive(Clone, Copy, PartialEq, Eq, Debug, Default)]
+#[derive(Clone, Copy, PartialEq, Eq, Default)]
 pub struct Counts {
     /// Bytes read.
     pub bytes: u64,

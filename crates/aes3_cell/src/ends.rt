@@ -13,7 +13,7 @@ use crate::form::Form;
 use crate::written::MANY;
 
 /// A device's fault. No byte was moved.
-#[derive(Clone, Copy, PartialEq, Eq, Debug)]
+#[derive(Clone, Copy, PartialEq, Eq)]
 pub struct Fault;
 
 /// Gives bytes, in pieces of any size.

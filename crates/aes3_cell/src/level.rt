@@ -5,7 +5,7 @@ ghost use Rattle.aes3_cell.specs.Cells.{other};
 
 /// The level of the line during one cell, half of a time slot (AES3-3, IEC 60958-1: biphase-mark
 /// coding).
-#[derive(Clone, Copy, PartialEq, Eq, Debug, Default)]
+#[derive(Clone, Copy, PartialEq, Eq, Default)]
 pub enum Level {
     /// The lower level, written `0`.
     #[default]

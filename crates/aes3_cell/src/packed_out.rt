@@ -105,13 +105,9 @@ impl PackedOut {
         }
         self.word = 0;
         self.len = 0;
-        match write_all(sink, &word.to_be_bytes()) {
-            Ok(()) => Ok(()),
-            Err(fault) => {
-                self.failed = true;
-                Err(fault)
-            }
-        }
+        let wrote = write_all(sink, &word.to_be_bytes());
+        self.failed = wrote.is_err();
+        wrote
     }
 
     /// Takes the end: hands on the octets of the cells left and the last octet, as one buffer.

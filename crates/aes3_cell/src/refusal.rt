@@ -3,24 +3,25 @@
 ghost use Rattle.std.specs.Prelude.{◌≡◌};
 ghost use Rattle.aes3_cell.specs.Refusals.{number_of, place_of};
 
+use std::fmt::{self, Debug, Display, Formatter, Write};
 use thiserror::Error;
 
 /// A byte of cell text that is neither cell nor separator.
-#[derive(Clone, Copy, PartialEq, Eq, Debug)]
+#[derive(Clone, Copy, PartialEq, Eq)]
 pub struct BadCell {
     /// Its place, counted in bytes from 0 over the whole input.
     pub at: u64,
 }
 
 /// Packed cells that end wrongly.
-#[derive(Clone, Copy, PartialEq, Eq, Debug)]
+#[derive(Clone, Copy, PartialEq, Eq)]
 pub struct BadPadding {
     /// The place of the last octet, counted from 0; 0 where there is none.
     pub at: u64,
 }
 
 /// The eleven refusals of a run or a command line.
-#[derive(Clone, Copy, PartialEq, Eq, Debug, Error)]
+#[derive(Clone, Copy, PartialEq, Eq, Error)]
 pub enum RunError {
     #[error("byte {at} is neither cell nor separator")]
     BadCell { at: u64 },
@@ -44,6 +45,13 @@ pub enum RunError {
     BadPadding { at: u64 },
     #[error("the sample word that begins at byte {at} has bits below the highest 24")]
     BadSample { at: u64 },
+}
+
+/// Its sentence.
+impl Debug for RunError {
+    fn fmt<W: Write>(&self, f: &mut Formatter<W>) -> fmt::Result {
+        Display::fmt(self, f)
+    }
 }
 
 impl RunError {

@@ -70,12 +70,8 @@ impl TextOut {
         }
         self.word = 0;
         self.len = 0;
-        match write_all(sink, &line_of_word(word)) {
-            Ok(()) => Ok(()),
-            Err(fault) => {
-                self.failed = true;
-                Err(fault)
-            }
-        }
+        let wrote = write_all(sink, &line_of_word(word));
+        self.failed = wrote.is_err();
+        wrote
     }
 }

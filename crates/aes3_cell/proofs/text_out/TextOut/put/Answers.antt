@@ -1,6 +1,6 @@
 use Rattle.std.proofs.Common.{◌<◌, arith, refl, sym, ap, ◌∙◌}
 use Rattle.aes3_cell.proofs.Growing.{grew-none, grew-is}
-use Rattle.aes3_cell.proofs.Writing.{wrote-is}
+use Rattle.aes3_cell.proofs.Writing.{wrote-is, ok-always}
 use Rattle.aes3_cell.proofs.Lines.{put-short, put-begun, put-full, put-done}
 use Rattle.aes3_cell.proofs.text_out.TextOut.put.Goals as goal
 
@@ -12,17 +12,17 @@ pub returns-then-self-lt-WORD_LEN-clause-begun : goal.returns-then-self-lt-WORD_
 returns-then-self-lt-WORD_LEN-clause-begun g c =
     c.with_cell-word.ensures.cells ∙ sym (put-begun _ _ _ c.args.level (ap (λ v. v.cells) c.self.view_is) c.if-self-lt-WORD_LEN.true)
 
-pub returns-in-Ok-clause-wrote : goal.returns-in-Ok-clause-wrote
-returns-in-Ok-clause-wrote g c =
+pub returns-clause-wrote : goal.returns-clause-wrote
+returns-clause-wrote g c =
     let i : c.self.inside.len < 64 = c.self.invariant.0 in
-    wrote-is (c.line_of_word.ensures ∙ put-full _ _ c.self.inside.word _ c.args.level (ap (λ v. v.cells) c.self.view_is) (omega arith) c.with_cell-word.ensures.cells) c.in-Ok.ensures
+    wrote-is
+    (c.line_of_word.ensures
+    ∙ put-full _ _ c.self.inside.word _ c.args.level (ap (λ v. v.cells) c.self.view_is) (omega arith)
+    c.with_cell-word.ensures.cells)
+    c.write_all-wrote.ensures
 
-pub returns-in-Ok-clause-begun : goal.returns-in-Ok-clause-begun
-returns-in-Ok-clause-begun g c =
+pub returns-clause-begun : goal.returns-clause-begun
+returns-clause-begun g c =
     let i : c.self.inside.len < 64 = c.self.invariant.0 in
-    sym (put-done _ c.self.inside.len c.self.inside.word c.args.level (ap (λ v. v.cells) c.self.view_is) (omega arith))
-
-pub returns-in-Err-clause-wrote : goal.returns-in-Err-clause-wrote
-returns-in-Err-clause-wrote g c =
-    let i : c.self.inside.len < 64 = c.self.invariant.0 in
-    wrote-is (c.line_of_word.ensures ∙ put-full _ _ c.self.inside.word _ c.args.level (ap (λ v. v.cells) c.self.view_is) (omega arith) c.with_cell-word.ensures.cells) c.in-Err.ensures
+    let cells = ap (λ v. v.cells) c.self.view_is in
+    ok-always _ (sym (put-done _ c.self.inside.len c.self.inside.word c.args.level cells (omega arith)))
