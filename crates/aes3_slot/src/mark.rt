@@ -2,7 +2,7 @@
 
 /// The preamble at the beginning of a subframe, time slots 0 to 3, which isn't biphase-mark coded
 /// (AES3-3; IEC 60958-1 calls X, Y and Z M, W and B).
-#[derive(Clone, Copy, PartialEq, Eq, Debug)]
+#[derive(Clone, Copy, PartialEq, Eq)]
 pub enum Mark {
     /// The first subframe of a frame that doesn't begin a block.
     X,

@@ -18,7 +18,7 @@ use aes3_cell::Level;
 use std::simd::prelude::*;
 
 /// Where 64 cells are no subframe.
-#[derive(Clone, Copy, PartialEq, Eq, Debug)]
+#[derive(Clone, Copy, PartialEq, Eq)]
 pub struct Place {
     /// The first cell that can't stand where it is, 0 to 63.
     pub offset: u8,
