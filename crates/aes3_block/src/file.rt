@@ -4,20 +4,18 @@ use crate::file_out::BLOCK_BYTES;
 use crate::word::{has_right_code, has_right_parity};
 use aes3_cell::RunError;
 use arrayvec::ArrayVec;
+use std::fmt::{self, Debug, Display, Formatter, Write};
 use std::marker::Model;
 use thiserror::Error;
 
 /// What a block file can't have. Words are counted from 0 over the whole file.
-#[derive(Clone, Copy, PartialEq, Eq, Debug, Error)]
+#[derive(Clone, Copy, PartialEq, Eq, Error)]
 pub enum FileFault {
     /// The file ends inside a block; `left` bytes, 1 to 1,535, follow the last whole block.
-    #[error("the block file ends {left} bytes into a block")]
     BadLength { left: u64 },
     /// Bits 0 to 3 of word `at` are not zero.
-    #[error("bits 0 to 3 of word {at} are not zero")]
     BadCode { at: u64 },
     /// Bit 31 of word `at` is not the right parity.
-    #[error("the parity bit of word {at} is wrong")]
     BadParity { at: u64 },
 }
 
@@ -33,6 +31,18 @@ impl From<FileFault> for RunError {
             FileFault::BadCode { at } => RunError::BadCode { at },
             FileFault::BadParity { at } => RunError::BadParity { at },
         }
+    }
+}
+
+impl Display for FileFault {
+    fn fmt<W: Write>(&self, f: &mut Formatter<W>) -> fmt::Result {
+        Display::fmt(&RunError::from(*self), f)
+    }
+}
+
+impl Debug for FileFault {
+    fn fmt<W: Write>(&self, f: &mut Formatter<W>) -> fmt::Result {
+        Display::fmt(self, f)
     }
 }
 

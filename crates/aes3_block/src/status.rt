@@ -1,7 +1,7 @@
 //! The channel status of a block.
 
 /// One of the two channels of a line.
-#[derive(Clone, Copy, PartialEq, Eq, Debug)]
+#[derive(Clone, Copy, PartialEq, Eq)]
 pub enum Channel {
     /// Channel 1, the first subframe of each frame.
     First,

@@ -7,7 +7,7 @@ ghost use Rattle.aes3_bits.specs.Bits.{low_bits};
 ghost use Rattle.aes3_slot.specs.Slots.{payload_bits};
 
 /// The audio sample word and the V, U and C bits of one subframe (AES3-1, AES3-2; IEC 60958-1).
-#[derive(Clone, Copy, PartialEq, Eq, Debug)]
+#[derive(Clone, Copy, PartialEq, Eq)]
 pub struct Subframe {
     /// Time slots 4 to 27: a sample of 24 bits in two's complement, the least significant bit
     /// first.
