@@ -19,4 +19,4 @@ mod text_words;
 
 pub use conversion::{Input, convert};
 pub use driver::drive;
-pub use taker::Taker;
+pub use taker::{Taker, cell, word};

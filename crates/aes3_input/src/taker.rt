@@ -95,65 +95,65 @@ pub trait Taker {
         }
         Ok(())
     }
+}
 
-    /// Takes 64 more cells for each word, and `len` of one more word behind them.
-    ///
-    /// # Errors
-    /// The sink's fault; then it has taken a front of what the cells write.
-    fn words_and_cells<T: Sink>(
-        &mut self,
-        sink: &mut T,
-        words: &[u64],
-        word: u64,
-        len: u32,
-    ) -> Result<(), Fault>
-        requires few { len ≤ 64 }
-        requires room { T.failed sink.old + 1 < 2 ^ 64 }
-        requires following { (c : List Level) × (length c + 64 * length words.now + len ≤ 2 ^ 43)
-            × follows self.old c }
-        ensures ran { CellsRan (writes self.old) (writes self.new) (follows self.old)
-            (follows self.new) (flat_map word_cells words.now ++ low_cells len word)
-            (movement_of T.taken T.failed sink.old sink.new) result }
-    {
-        match self.words(sink, words) {
-            Ok(()) => self.cells(sink, word, len),
-            Err(fault) => Err(fault),
-        }
+/// Takes 64 more cells for each word, and `len` of one more word behind them.
+///
+/// # Errors
+/// The sink's fault; then it has taken a front of what the cells write.
+pub(crate) fn words_and_cells<K: Taker, T: Sink>(
+    taker: &mut K,
+    sink: &mut T,
+    words: &[u64],
+    word: u64,
+    len: u32,
+) -> Result<(), Fault>
+    requires few { len ≤ 64 }
+    requires room { T.failed sink.old + 1 < 2 ^ 64 }
+    requires following { (c : List Level) × (length c + 64 * length words.now + len ≤ 2 ^ 43)
+        × K.follows taker.old c }
+    ensures ran { CellsRan (K.writes taker.old) (K.writes taker.new) (K.follows taker.old)
+        (K.follows taker.new) (flat_map word_cells words.now ++ low_cells len word)
+        (movement_of T.taken T.failed sink.old sink.new) result }
+{
+    match taker.words(sink, words) {
+        Ok(()) => taker.cells(sink, word, len),
+        Err(fault) => Err(fault),
     }
+}
 
-    /// Takes one more cell.
-    ///
-    /// # Errors
-    /// The sink's fault; then it has taken a front of what the cell writes.
-    fn cell<T: Sink>(&mut self, sink: &mut T, level: Level) -> Result<(), Fault>
-        requires room { T.failed sink.old + 1 < 2 ^ 64 }
-        requires following { (c : List Level) × (length c + 1 ≤ 2 ^ 43) × follows self.old c }
-        ensures next { IfOk result (λ _. (c : List Level) → follows self.old c
-            → follows self.new (c ++ level ∷ [])) }
-        ensures same { IfOk result (λ _. writes self.new ≡ writes self.old) }
-        ensures grew { IfOk result (λ _. (c : List Level) → follows self.old c
-            → Grew (T.taken sink.old) (T.taken sink.new) ((writes self.old).adds c level)) }
-        ensures count { IfOk result (λ _. T.failed sink.new ≡ T.failed sink.old) }
-        ensures err_count { OnErr result (T.failed sink.new ≡ T.failed sink.old + 1) }
-        ensures err_grew { OnErr result ((c : List Level) → follows self.old c
-            → GrewFront (T.taken sink.old) (T.taken sink.new) ((writes self.old).adds c level)) }
-    {
-        self.cells(sink, word_of_cell(level), 1)
-    }
+/// Takes one more cell.
+///
+/// # Errors
+/// The sink's fault; then it has taken a front of what the cell writes.
+pub fn cell<K: Taker, T: Sink>(taker: &mut K, sink: &mut T, level: Level) -> Result<(), Fault>
+    requires room { T.failed sink.old + 1 < 2 ^ 64 }
+    requires following { (c : List Level) × (length c + 1 ≤ 2 ^ 43) × K.follows taker.old c }
+    ensures next { IfOk result (λ _. (c : List Level) → K.follows taker.old c
+        → K.follows taker.new (c ++ level ∷ [])) }
+    ensures same { IfOk result (λ _. K.writes taker.new ≡ K.writes taker.old) }
+    ensures grew { IfOk result (λ _. (c : List Level) → K.follows taker.old c
+        → Grew (T.taken sink.old) (T.taken sink.new) ((K.writes taker.old).adds c level)) }
+    ensures count { IfOk result (λ _. T.failed sink.new ≡ T.failed sink.old) }
+    ensures err_count { OnErr result (T.failed sink.new ≡ T.failed sink.old + 1) }
+    ensures err_grew { OnErr result ((c : List Level) → K.follows taker.old c
+        → GrewFront (T.taken sink.old) (T.taken sink.new) ((K.writes taker.old).adds c level)) }
+{
+    taker.cells(sink, word_of_cell(level), 1)
+}
 
-    /// Takes 64 more cells, the first in the lowest bit of `word`.
-    ///
-    /// # Errors
-    /// The sink's fault; then it has taken a front of what the cells write.
-    fn word<T: Sink>(&mut self, sink: &mut T, word: u64) -> Result<(), Fault>
-        requires room { T.failed sink.old + 1 < 2 ^ 64 }
-        requires following { (c : List Level) × (length c + 64 ≤ 2 ^ 43) × follows self.old c }
-        ensures ran { CellsRan (writes self.old) (writes self.new) (follows self.old)
-            (follows self.new) (word_cells word)
-            (movement_of T.taken T.failed sink.old sink.new) result }
-    {
-        self.cells(sink, word, u64::BITS)
-    }
+/// Takes 64 more cells, the first in the lowest bit of `word`.
+///
+/// # Errors
+/// The sink's fault; then it has taken a front of what the cells write.
+pub fn word<K: Taker, T: Sink>(taker: &mut K, sink: &mut T, word: u64) -> Result<(), Fault>
+    requires room { T.failed sink.old + 1 < 2 ^ 64 }
+    requires following { (c : List Level) × (length c + 64 ≤ 2 ^ 43) × K.follows taker.old c }
+    ensures ran { CellsRan (K.writes taker.old) (K.writes taker.new) (K.follows taker.old)
+        (K.follows taker.new) (word_cells word)
+        (movement_of T.taken T.failed sink.old sink.new) result }
+{
+    taker.cells(sink, word, u64::BITS)
 }
 
 /// The word of one cell.

@@ -7,7 +7,7 @@ ghost use Rattle.aes3_input.specs.Forms.{TextTaken, text_reading};
 ghost use Rattle.aes3_input.specs.Running.{FrontRan, movement_of};
 
 use crate::conversion::{Input, convert};
-use crate::taker::Taker;
+use crate::taker::{Taker, words_and_cells};
 use crate::text_lines::LINES;
 use crate::text_words::fill;
 use aes3_cell::{CellText, Form, RunError, Sink, Source};
@@ -77,7 +77,7 @@ impl<K: Taker> Input<K> for TextInput {
         match fill(&mut self.text, piece, &mut self.words) {
             Ok(taken) => {
                 let words = &self.words[..taken.count];
-                match taker.words_and_cells(sink, words, taken.rest.word, taken.rest.len) {
+                match words_and_cells(taker, sink, words, taken.rest.word, taken.rest.len) {
                     Ok(()) => {
                         self.cells += 64 * taken.count as u64 + u64::from(taken.rest.len);
                         Ok(taken.bytes)

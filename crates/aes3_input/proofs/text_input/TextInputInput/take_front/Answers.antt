@@ -51,7 +51,7 @@ returns-in-Ok-words_and_cells g c =
     length-append (flat_map word_cells ws) d ∙ ap₂ ◌+◌ (length-words ws ∙ ap (λ k. 64 * k) m) (length-low_cells t.rest.len t.rest.word ∙ sym c.from.ensures) in (
       q.within.0,
       q.within.1,
-      text-front (g.K.Taker.writes c.args.taker.now) (g.K.Taker.writes c.words_and_cells.new.self) (g.K.Taker.follows c.args.taker.now) (g.K.Taker.follows c.words_and_cells.new.self)
+      text-front (g.K.Taker.writes c.args.taker.now) (g.K.Taker.writes c.words_and_cells.new.taker) (g.K.Taker.follows c.args.taker.now) (g.K.Taker.follows c.words_and_cells.new.taker)
           c.args.self.now.text c.fill.new.text c.args.self.now.cells (64 * t.count + c.from.result) (take t.bytes c.args.piece.now) (flat_map word_cells ws ++ d)
           (g.T.Sink.taken c.args.sink.now) (g.T.Sink.taken c.words_and_cells.new.sink) q.read n r.0 r.1 r.2,
       r.3,

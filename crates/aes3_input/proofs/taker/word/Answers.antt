@@ -1,5 +1,5 @@
 use Rattle.aes3_cell.specs.Words.{word_len, word_cells}
-use Rattle.aes3_input.proofs.taker.Taker.word.Goals as goal
+use Rattle.aes3_input.proofs.taker.word.Goals as goal
 
 pub returns : goal.returns
 unfolding word_cells word_len

@@ -2,7 +2,7 @@ use Rattle.std.proofs.Common.{◌+◌, ◌*◌, ◌^◌, ◌≤◌, ◌++◌, le
 use Rattle.std.specs.List.{flat_map}
 use Rattle.aes3_cell.specs.Words.{low_cells, word_cells}
 use Rattle.aes3_input.proofs.Handing.{cells-ran-behind, front-of-more, length-words}
-use Rattle.aes3_input.proofs.taker.Taker.words_and_cells.Goals as goal
+use Rattle.aes3_input.proofs.taker.words_and_cells.Goals as goal
 
 pub words-requires-clause-following : goal.words-requires-clause-following
 words-requires-clause-following g c =
@@ -21,12 +21,12 @@ cells-requires-clause-following g c =
 
 pub returns-in-Ok : goal.returns-in-Ok
 returns-in-Ok g c =
-    let wr = g.Self.Taker.writes in
-    let fo = g.Self.Taker.follows in
+    let wr = g.K.Taker.writes in
+    let fo = g.K.Taker.follows in
     let ta = g.T.Sink.taken in
     let fa = g.T.Sink.failed in
     record {
-      ran = cells-ran-behind (wr c.args.self.now) (wr c.words.new.self) (wr c.cells.new.self) (fo c.args.self.now) (fo c.words.new.self) (fo c.cells.new.self)
+      ran = cells-ran-behind (wr c.args.taker.now) (wr c.words.new.self) (wr c.cells.new.self) (fo c.args.taker.now) (fo c.words.new.self) (fo c.cells.new.self)
           (flat_map word_cells c.args.words.now) (low_cells c.args.len c.args.word) (ta c.args.sink.now) (ta c.words.new.sink) (ta c.cells.new.sink)
           (fa c.args.sink.now) (fa c.words.new.sink) (fa c.cells.new.sink) c.cells.result c.in-Ok.ensures.ran c.cells.ensures.ran;
     }
@@ -37,7 +37,7 @@ returns-in-Err g c =
     record {
       ran = (
         r.0,
-        front-of-more (g.Self.Taker.writes c.args.self.now) (g.Self.Taker.follows c.args.self.now) (g.T.Sink.taken c.args.sink.now) (g.T.Sink.taken c.words.new.sink)
+        front-of-more (g.K.Taker.writes c.args.taker.now) (g.K.Taker.follows c.args.taker.now) (g.T.Sink.taken c.args.sink.now) (g.T.Sink.taken c.words.new.sink)
             (flat_map word_cells c.args.words.now) (low_cells c.args.len c.args.word) r.1,
       );
     }
