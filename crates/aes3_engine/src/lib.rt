@@ -22,8 +22,7 @@ mod samples;
 /// From samples to a block file.
 mod sampling;
 
-pub use aes3_input::{Input, Taker, convert, drive};
-pub use aes3_lock::Tally;
+pub use aes3_input::{Input, Taker, cell, convert, drive, word};
 pub use aes3_status::Change;
 pub use blocks::{BlockWriter, run_blocks};
 pub use encoding::encode;
