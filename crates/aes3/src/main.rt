@@ -7,10 +7,10 @@ mod input;
 
 ghost use Rattle.std.specs.Prelude.{◌+◌, ◌<◌, ◌^◌, ◌≡◌, IfErr};
 
-use aes3_arguments::file_of_words;
+use aes3_arguments::{CommandLine, LineFault, line_of_words};
 use aes3_cell::{BufferedSink, Sink, StdSink, StdSource};
 use aes3_hints::{Hints, Terminals, Watched};
-use aes3_runner::{Unread, run_words, tell_unread};
+use aes3_runner::{Unread, run_line, tell_unread};
 use input::Input;
 use std::env;
 use std::io::ErrorKind;
@@ -42,14 +42,23 @@ fn run_program<E: Sink, H: Sink + Drop>(
     let words = words_of_line(rt)?;
     let words: Vec<&str> = words.iter().map(|word| word.as_str()).collect(rt.alloc())?;
     let mut sink = BufferedSink::new(rt.alloc(), StdSink::new(rt.stdout().lock()))?;
-    let file = file_of_words(rt.alloc(), &words)?;
+    let line = line_of_words(rt.alloc(), &words);
+    let file = file_of_line(&line);
     if file.is_some() {
         hints.reads_file();
     }
     let mut source = hints.watch(StdSource::new(Input::new(rt, file)));
-    let status = run_words(rt.alloc(), &words, &mut source, &mut sink, errors, hints);
+    let status = run_line(line, &mut source, &mut sink, errors, hints);
     hints.explain(&words, file, &source);
     Ok(status)
+}
+
+/// The file that the line reads in place of standard input.
+fn file_of_line<'a>(line: &Result<CommandLine<'a>, LineFault>) -> Option<&'a str> {
+    match line {
+        Ok(line) => line.file,
+        Err(_) => None,
+    }
 }
 
 /// The words of the command line behind the program's name.

@@ -1,22 +1,11 @@
 -- Which file a command line reads.
-use Rattle.std.proofs.Common.{◌≡◌, ◌≢◌, ◌∙◌, List, Bool, Bor, codes, Option, Some, None, inl, inr, sym, ap, subst, cond, true≢false, is_some}
+use Rattle.std.proofs.Common.{◌≡◌, ◌∙◌, List, Bool, Bor, codes, Option, Some, None, sym, ap, cond, true≢false, is_some}
 use Rattle.std.specs.Prelude.{IfSome, option_and_then}
 use Rattle.std.specs.Option.{option_map}
 use Rattle.std.specs.Str.{bytes_eq}
-use Rattle.clap.specs.Kinds.{HasKind, IsAmong, Kinds}
-use Rattle.clap.specs.Values.{kind_of}
 use Rattle.clap.specs.Walk.{Text, first_of}
-use Rattle.clap.specs.declared.error.Error.{Error}
-use Rattle.clap.specs.declared.error.kind.ErrorKind.TheVariants.{OutOfMemory}
-use Rattle.aes3_arguments.specs.Jobs.{Options, ReadsFile, StandsIn, faults_in, file_by, named_file}
+use Rattle.aes3_arguments.specs.Jobs.{Options, ReadsFile, StandsIn, file_by, named_file}
 use Rattle.aes3_arguments.proofs.OptionRows.{some_inj}
-
--- words with a fault read none
-pub faulty_words : (words : List Text) (e : Error) → HasKind (faults_in words) e → kind_of e ≢ OutOfMemory → (file : Text) → ¬ ReadsFile words file
-faulty_words words e kind other file reads = elim kind [
-  | inl memory ↦ other memory
-  | inr among ↦ subst (λ (kinds : Kinds). IsAmong (kind_of e) kinds) reads.2.0 among
-]
 
 -- the options' file is the one that the words read
 pub some_read : (words : List Text) (name : Text) (options : Options) (file : Option (Bor Text)) → StandsIn words name options

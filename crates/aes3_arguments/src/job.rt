@@ -1,27 +1,23 @@
-//! What a command line asks for.
+//! The job that a command with its options asks for.
 
 ghost use Rattle.std.specs.Prelude.{◌≡◌, ◌≢◌, ℕ, List, codes, IfOk, IfErr, map};
-ghost use Rattle.clap.specs.Values.{kind_of};
 ghost use Rattle.clap.specs.Walk.{first_of};
 ghost use Rattle.aes3_arguments.specs.Jobs.{AreSettings, AsksFor, HasStatus, IsBadOptionOf, IsBadStatus};
-ghost use Rattle.aes3_arguments.specs.Jobs.{IsChange, IsChangeFaultOf, IsFaultOf, IsJobOf, IsLineFaultOf, IsLineOf, IsNumber};
-ghost use Rattle.aes3_arguments.specs.Jobs.{IsSettingsFaultOf, IsStatus, MayBeFlag, StandsIn, Tells};
+ghost use Rattle.aes3_arguments.specs.Jobs.{IsChange, IsChangeFaultOf, IsNumber};
+ghost use Rattle.aes3_arguments.specs.Jobs.{IsSettingsFaultOf, IsStatus, MayBeFlag, StandsIn};
 ghost use Rattle.aes3_arguments.specs.Jobs.{TellsSettings, form_by, is_set, lines_by, options_of};
 ghost use Rattle.aes3_arguments.specs.Jobs.{refused_text};
-ghost use Rattle.aes3_arguments.specs.Explained.{IsExplanation};
 ghost use Rattle.aes3_arguments.specs.declared.job.LineFault.TheVariants.{Refused};
 ghost use Rattle.aes3_cell.specs.declared.refusal.RunError.TheVariants.{BadStatusText, Memory};
 
-use crate::explain::{asks_to_explain, explained_number, explanation};
 use crate::refusals::settings_refused;
 use crate::status_text::status_of_text;
 use aes3_cell::{Form, RunError};
-use aes3_commands::{command_line, help};
+use aes3_commands::help;
 use aes3_job::Job;
 use aes3_lines::{Lines, SettingsFault, settings_of_texts};
 use aes3_status::{Change, SETTINGS, Setting};
-use clap::error::ErrorKind;
-use clap::{ArgMatches, Error};
+use clap::ArgMatches;
 use std::alloc::{AllocError, Global};
 
 /// Why a command line gives no job.
@@ -35,52 +31,6 @@ pub enum LineFault {
     Refused(RunError),
 }
 
-/// What a command line without the program's name asks for. It reads no input.
-///
-/// # Errors
-/// `Usage` where the definitions of the command line don't take the words, no command stands in
-/// them, or a text of `--set1` or `--set2` is no setting; `Help` where `--help` or `--version`
-/// stands in them; either where `--explain` is the first of them; `BadStatusText` where they are
-/// taken, but a status text isn't 48 hexadecimal digits; `Memory` where memory was refused.
-pub fn job_of_words<'a>(alloc: Global, words: &'a [&'a str]) -> Result<Job, LineFault>
-    ensures job { IfOk result (IsJobOf (map (λ word. word.now) words.now)) }
-    ensures fault { IfErr result (IsFaultOf (map (λ word. word.now) words.now)) }
-{
-    if asks_to_explain(words) {
-        return Err(explained(alloc, &words[1..]));
-    }
-    match explained_number(words) {
-        Some(number) => Err(explained(alloc, &[number])),
-        None => job_of_line(alloc, words),
-    }
-}
-
-/// What words behind `--explain` are told.
-fn explained(alloc: Global, words: &[&str]) -> LineFault
-    ensures { IsExplanation (map (λ word. word.now) words.now) result }
-{
-    match explanation(alloc, words) {
-        Ok(told) => told,
-        Err(_) => LineFault::Refused(RunError::Memory),
-    }
-}
-
-/// What a command line that asks to explain nothing asks for.
-fn job_of_line<'a>(alloc: Global, words: &'a [&'a str]) -> Result<Job, LineFault>
-    ensures job { IfOk result (IsLineOf (map (λ word. word.now) words.now)) }
-    ensures fault { IfErr result (IsLineFaultOf (map (λ word. word.now) words.now)) }
-{
-    let command = command_line(alloc)?;
-    let matches = match command.try_get_matches_from(words) {
-        Ok(matches) => matches,
-        Err(error) => return Err(fault_of(alloc, &error)),
-    };
-    let Some((name, options)) = matches.subcommand() else {
-        unreachable!();
-    };
-    job_of_command(alloc, name, options)
-}
-
 impl From<AllocError> for LineFault {
     ghost from_gives = { λ _ fault. fault ≡ Refused Memory };
 
@@ -89,22 +39,12 @@ impl From<AllocError> for LineFault {
     }
 }
 
-/// What `clap` tells of words that give no matches.
-fn fault_of(alloc: Global, error: &Error) -> LineFault
-    ensures { Tells (kind_of error.now) result }
-{
-    let Ok(text) = error.to_string(alloc) else {
-        return LineFault::Refused(RunError::Memory);
-    };
-    match error.kind() {
-        ErrorKind::OutOfMemory => LineFault::Refused(RunError::Memory),
-        ErrorKind::DisplayHelp | ErrorKind::DisplayVersion => LineFault::Help { text },
-        _ => LineFault::Usage { text },
-    }
-}
-
 /// The job of a command with its options.
-fn job_of_command(alloc: Global, name: &str, options: &ArgMatches<'_>) -> Result<Job, LineFault>
+pub(crate) fn job_of_command(
+    alloc: Global,
+    name: &str,
+    options: &ArgMatches<'_>,
+) -> Result<Job, LineFault>
     requires { (words : List (List ℕ)) × StandsIn words name.now (options_of options.now) }
     ensures job { IfOk result (AsksFor name.now (options_of options.now)) }
     ensures fault { IfErr result (IsBadOptionOf name.now (options_of options.now)) }

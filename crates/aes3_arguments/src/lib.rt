@@ -1,18 +1,21 @@
-//! What the words of a command line ask for: a job, or why they ask for none.
+//! What the words of a command line ask for: a job and the file that it reads, or why they ask for
+//! none.
 #![tactic(auto)]
 
 /// What refusals mean, the texts of `--explain`.
 mod explain;
-/// The file that the words name.
+/// The file that a command's options name.
 mod file;
-/// The job that the words ask for.
+/// The job that a command with its options asks for.
 mod job;
+/// What the words ask for.
+mod line;
 /// What is told of settings that are none.
 mod refusals;
 /// Channel status in hexadecimal.
 mod status_text;
 
 pub use explain::{advice, asks_to_explain, explanation};
-pub use file::file_of_words;
-pub use job::{LineFault, job_of_words};
+pub use job::LineFault;
+pub use line::{CommandLine, job_of_words, line_of_words};
 pub use status_text::status_of_text;

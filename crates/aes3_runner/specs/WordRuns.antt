@@ -1,10 +1,11 @@
 -- What the program does for a command line.
-use Rattle.std.specs.Prelude.{ℕ, List, [], Bool, ◌≡◌, ◌⊎◌}
+use Rattle.std.specs.Prelude.{ℕ, List, [], Bool, Result, Ok, Err, ◌≡◌, ◌⊎◌}
 use Rattle.aes3_cell.specs.Ends.{Grew}
 use Rattle.aes3_cell.specs.declared.refusal.RunError.TheVariants.{Memory, Write}
 use Rattle.aes3_input.specs.Running.{Movement, Quiet, Failed}
 use Rattle.aes3_job.specs.declared.job.Job.{Job}
 use Rattle.aes3_arguments.specs.declared.job.LineFault.{LineFault}
+use Rattle.aes3_arguments.specs.declared.line.CommandLine.{CommandLine}
 use Rattle.aes3_runner.specs.declared.run.Unread.{Unread}
 use Rattle.aes3_runner.specs.declared.run.Unread.TheVariants as unread
 use Rattle.aes3_arguments.specs.declared.job.LineFault.TheVariants.{Usage, Help, Refused}
@@ -19,6 +20,12 @@ FaultRan (Usage text) sink errors status = (status ≡ 2) × Grew sink.old sink.
 FaultRan (Help text) sink errors status =
     ((status ≡ 0) × Quiet sink × Grew sink.old sink.new text.bytes.items) ⊎ ((status ≡ 3) × Failed sink × (Quiet errors → Grew errors.old errors.new (refusal_line Write)))
 FaultRan (Refused error) sink errors status = (status ≡ 3) × Grew sink.old sink.new [] × (Quiet errors → Grew errors.old errors.new (refusal_line error))
+
+-- a line that asks for a job, which is run; or for none, which is told and nothing is read
+abbrev pub LineRan : Result CommandLine LineFault → Bool → Movement → Movement → Movement → ℕ → Type 0
+LineRan (Ok line) ended source sink errors status = JobRan line.job ended source sink errors status
+LineRan (Err fault) ended source sink errors status =
+    Grew source.old source.new [] × Quiet source × FaultRan fault sink errors status
 
 -- the words ask for a job, which is run; or they ask for none, which is told and nothing is read
 pub record JobOfWords (words : List (List ℕ)) (ended : Bool) (source sink errors : Movement) (status : ℕ) : Type 0 where

@@ -14,4 +14,4 @@ mod run;
 pub use finish::finish_job;
 pub use job_run::{DONE, FAULTY, run_job};
 pub use refusal::{REFUSED, put_refusal, refuse};
-pub use run::{USAGE, Unread, run_words, tell_unread};
+pub use run::{USAGE, Unread, run_line, run_words, tell_unread};

@@ -2,13 +2,13 @@
 
 ghost use Rattle.std.specs.Prelude.{◌≡◌, ◌<◌, ◌≤◌, ◌+◌, ◌^◌, IfOk, OnErr, IsTrue, map};
 ghost use Rattle.aes3_cell.specs.Ends.{Grew};
-ghost use Rattle.aes3_runner.specs.WordRuns.{FaultRan, UnreadTold, WordsRan};
+ghost use Rattle.aes3_runner.specs.WordRuns.{FaultRan, LineRan, UnreadTold, WordsRan};
 ghost use Rattle.aes3_input.specs.Running.{movement_of};
 
 use crate::finish::finish_job;
 use crate::job_run::DONE;
 use crate::refusal::refuse;
-use aes3_arguments::{LineFault, job_of_words};
+use aes3_arguments::{CommandLine, LineFault, line_of_words};
 use aes3_cell::{Fault, RunError, Sink, Source, write_all};
 use aes3_job::Observer;
 use std::alloc::{AllocError, Global};
@@ -106,11 +106,40 @@ pub fn tell_unread<E: Sink, O: Observer>(fault: Unread, errors: &mut E, observer
     }
 }
 
-/// Runs a command line, without the program's name, and answers the exit status: 0 done, 1 where
-/// `check` found faults, 2 for a refused command line, 3 for a refusal. A sink that held nothing
-/// before and did not fail has passed on all that it took, and so have the errors. Refusals are told
-/// on `errors`, whose own faults change nothing. The observer is told how it goes on; one that is
-/// silent writes nothing.
+/// Runs what a command line asks for, or tells why it asks for nothing, and answers the exit status:
+/// 0 done, 1 where `check` or `watch` found faults, 2 for a refused command line, 3 for a refusal. The
+/// source is what the line reads. A sink that held nothing before and did not fail has passed on all
+/// that it took, and so have the errors. Refusals are told on `errors`, whose own faults change
+/// nothing. The observer is told how it goes on; one that is silent writes nothing.
+pub fn run_line<S: Source, T: Sink, E: Sink, O: Observer>(
+    line: Result<CommandLine<'_>, LineFault>,
+    source: &mut S,
+    sink: &mut T,
+    errors: &mut E,
+    observer: &mut O,
+) -> u8
+    requires source_room { S.failed source.old + 1 < 2 ^ 64 }
+    requires sink_room { T.failed sink.old + 1 < 2 ^ 64 }
+    requires errors_room { E.failed errors.old + 1 < 2 ^ 64 }
+    ensures ran { LineRan line.entry (S.has_ended source.new)
+        (movement_of S.given S.failed source.old source.new)
+        (movement_of T.taken T.failed sink.old sink.new)
+        (movement_of E.taken E.failed errors.old errors.new) result }
+    ensures passed_on { T.passed sink.old ≡ T.taken sink.old → T.failed sink.new ≡ T.failed sink.old
+        → T.passed sink.new ≡ T.taken sink.new }
+    ensures errors { E.failed errors.new ≤ E.failed errors.old + 1 }
+    ensures left { E.passed errors.old ≡ E.taken errors.old
+        → E.failed errors.new ≡ E.failed errors.old → E.passed errors.new ≡ E.taken errors.new }
+    ensures silent { IsTrue (O.is_silent observer.old) → O.told observer.new ≡ O.told observer.old }
+    ensures same { O.is_silent observer.new ≡ O.is_silent observer.old }
+{
+    match line {
+        Ok(line) => finish_job(&line.job, source, sink, errors, observer),
+        Err(fault) => tell_fault(fault, sink, errors, observer),
+    }
+}
+
+/// Runs a command line, without the program's name, whose input is the source, as [`run_line`] does.
 pub fn run_words<S: Source, T: Sink, E: Sink, O: Observer>(
     alloc: Global,
     words: &[&str],
@@ -134,8 +163,6 @@ pub fn run_words<S: Source, T: Sink, E: Sink, O: Observer>(
     ensures silent { IsTrue (O.is_silent observer.old) → O.told observer.new ≡ O.told observer.old }
     ensures same { O.is_silent observer.new ≡ O.is_silent observer.old }
 {
-    match job_of_words(alloc, words) {
-        Ok(job) => finish_job(&job, source, sink, errors, observer),
-        Err(fault) => tell_fault(fault, sink, errors, observer),
-    }
+    let line = line_of_words(alloc, words);
+    run_line(line, source, sink, errors, observer)
 }

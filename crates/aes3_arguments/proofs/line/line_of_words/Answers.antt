@@ -1,7 +1,7 @@
-use Rattle.std.proofs.Common.{[], ◌∷◌, Bor, List, ℕ, drop, map, inr, refl}
+use Rattle.std.proofs.Common.{[], ◌∷◌, Bor, List, ℕ, map, inr, refl}
 use Rattle.std.proofs.lemmas.Result.{IfErr-weaker, IfOk-weaker}
 use Rattle.aes3_arguments.proofs.Explains.{behind_word, told_of, unasked}
-use Rattle.aes3_arguments.proofs.job.job_of_words.Goals as goal
+use Rattle.aes3_arguments.proofs.line.line_of_words.Goals as goal
 
 pub returns-then-asks_to_explain-clause-fault : goal.returns-then-asks_to_explain-clause-fault
 returns-then-asks_to_explain-clause-fault c =
@@ -17,10 +17,10 @@ pub returns-in-None-clause-job : goal.returns-in-None-clause-job
 returns-in-None-clause-job c =
     let words = map (λ (word : Bor (List ℕ)). word.now) c.args.words.now in
     let nothing = unasked words c.if-asks_to_explain.ensures (c.in-None.ensures.none refl) in
-    IfOk-weaker c.job_of_line.result _ _ (λ job line. (nothing, line)) c.job_of_line.ensures.job
+    IfOk-weaker c.plain_line.result _ _ (λ line asks. (nothing, asks)) c.plain_line.ensures.job
 
 pub returns-in-None-clause-fault : goal.returns-in-None-clause-fault
 returns-in-None-clause-fault c =
     let words = map (λ (word : Bor (List ℕ)). word.now) c.args.words.now in
     let nothing = unasked words c.if-asks_to_explain.ensures (c.in-None.ensures.none refl) in
-    IfErr-weaker c.job_of_line.result _ _ (λ told fault. inr (nothing, fault)) c.job_of_line.ensures.fault
+    IfErr-weaker c.plain_line.result _ _ (λ told fault. inr (nothing, fault)) c.plain_line.ensures.fault

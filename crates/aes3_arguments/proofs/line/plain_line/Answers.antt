@@ -4,8 +4,9 @@ use Rattle.clap.specs.Faults.{fault_of, is_simple_and_free}
 use Rattle.clap.specs.Kinds.{HasKind}
 use Rattle.clap.specs.Simple.{App, HasMatchesOf}
 use Rattle.aes3_arguments.specs.Jobs.{StandsIn, options_of}
+use Rattle.aes3_arguments.proofs.Files.{none_read, some_read}
 use Rattle.aes3_arguments.proofs.LineAnswers.{bad_option_told, command_stands, error_told, line_is_free}
-use Rattle.aes3_arguments.proofs.job.job_of_line.Goals as goal
+use Rattle.aes3_arguments.proofs.line.plain_line.Goals as goal
 
 pub returns-in-Err-clause-fault : goal.returns-in-Err-clause-fault
 returns-in-Err-clause-fault c =
@@ -22,23 +23,38 @@ stands c =
     let matches = subst (λ (a : App). HasMatchesOf a words c.in-Ok.matches) is c.in-Ok.ensures.matches in
     command_stands words c.in-Ok.matches c.in-Some.name.now (options_of c.in-Some.options.now) none matches c.in-Some.ensures.name c.in-Some.ensures.rows
 
-pub job_of_command-requires : goal.job_of_command-requires
-job_of_command-requires c = (map (λ word. word.now) c.args.words.now, stands c)
+pub line_of_command-requires : goal.line_of_command-requires
+line_of_command-requires c = (map (λ word. word.now) c.args.words.now, stands c)
 
-pub returns-clause-job : goal.returns-clause-job
-returns-clause-job c =
+stood : (c : goal.Joined-matches) → StandsIn (map (λ word. word.now) c.args.words.now) c.in-Some.name.now (options_of c.in-Some.options.now)
+stood c =
     let words = map (λ word. word.now) c.args.words.now in
     let is = c.in_ok-command.ensures.0 in
     let none = subst (λ (a : App). fault_of a words ≡ []) is (c.in-Ok.ensures.kinds (ap is_simple_and_free is ∙ line_is_free)) in
     let matches = subst (λ (a : App). HasMatchesOf a words c.in-Ok.matches) is c.in-Ok.ensures.matches in
-    let here = command_stands words c.in-Ok.matches c.in-Some.name.now (options_of c.in-Some.options.now) none matches c.in-Some.ensures.name c.in-Some.ensures.rows in
-    IfOk-weaker c.job_of_command.result _ _ (λ job asks. (c.in-Some.name.now, options_of c.in-Some.options.now, here, asks)) c.job_of_command.ensures.job
+    command_stands words c.in-Ok.matches c.in-Some.name.now (options_of c.in-Some.options.now) none matches c.in-Some.ensures.name c.in-Some.ensures.rows
+
+pub returns-clause-job : goal.returns-clause-job
+returns-clause-job c =
+    IfOk-weaker c.line_of_command.result _ _ (λ line asks. (c.in-Some.name.now, options_of c.in-Some.options.now, stood c, asks)) c.line_of_command.ensures.job
+
+pub returns-clause-file : goal.returns-clause-file
+returns-clause-file c =
+    let words = map (λ word. word.now) c.args.words.now in
+    IfOk-weaker c.line_of_command.result _ _
+    (λ line is. some_read words c.in-Some.name.now (options_of c.in-Some.options.now) line.file (stood c) is)
+    c.line_of_command.ensures.file
+
+pub returns-clause-standard : goal.returns-clause-standard
+returns-clause-standard c =
+    let words = map (λ word. word.now) c.args.words.now in
+    IfOk-weaker c.line_of_command.result _ _
+    (λ line is. none_read words c.in-Some.name.now (options_of c.in-Some.options.now) line.file (stood c) is)
+    c.line_of_command.ensures.file
 
 pub returns-clause-fault : goal.returns-clause-fault
 returns-clause-fault c =
     let words = map (λ word. word.now) c.args.words.now in
-    let is = c.in_ok-command.ensures.0 in
-    let none = subst (λ (a : App). fault_of a words ≡ []) is (c.in-Ok.ensures.kinds (ap is_simple_and_free is ∙ line_is_free)) in
-    let matches = subst (λ (a : App). HasMatchesOf a words c.in-Ok.matches) is c.in-Ok.ensures.matches in
-    let here = command_stands words c.in-Ok.matches c.in-Some.name.now (options_of c.in-Some.options.now) none matches c.in-Some.ensures.name c.in-Some.ensures.rows in
-    IfErr-weaker c.job_of_command.result _ _ (λ told bad. bad_option_told words c.in-Some.name.now (options_of c.in-Some.options.now) told here bad) c.job_of_command.ensures.fault
+    IfErr-weaker c.line_of_command.result _ _
+    (λ told bad. bad_option_told words c.in-Some.name.now (options_of c.in-Some.options.now) told (stood c) bad)
+    c.line_of_command.ensures.fault

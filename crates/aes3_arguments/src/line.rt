@@ -1,0 +1,129 @@
+//! What a command line asks for.
+
+ghost use Rattle.std.specs.Prelude.{◌≡◌, List, ℕ, None, IfOk, IfErr, IfSome, map};
+ghost use Rattle.std.specs.Option.{option_map};
+ghost use Rattle.clap.specs.Values.{kind_of};
+ghost use Rattle.aes3_arguments.specs.Jobs.{AsksFor, IsBadOptionOf, IsFaultOf, IsJobOf, IsLineFaultOf, IsLineOf};
+ghost use Rattle.aes3_arguments.specs.Jobs.{ReadsFile, StandsIn, Tells, file_by, options_of};
+ghost use Rattle.aes3_arguments.specs.Explained.{IsExplanation};
+
+use crate::explain::{asks_to_explain, explained_number, explanation};
+use crate::file::file;
+use crate::job::{LineFault, job_of_command};
+use aes3_cell::RunError;
+use aes3_commands::command_line;
+use aes3_job::Job;
+use clap::error::ErrorKind;
+use clap::{ArgMatches, Error};
+use std::alloc::Global;
+
+/// What a command line asks for.
+#[derive(Clone, Copy)]
+pub struct CommandLine<'a> {
+    /// What is to be done.
+    pub job: Job,
+    /// The name of the file that is read in place of standard input; none where the words name none,
+    /// or name it `-`.
+    pub file: Option<&'a str>,
+}
+
+/// What a command line without the program's name asks for. It reads no input.
+///
+/// # Errors
+/// `Usage` where the definitions of the command line don't take the words, no command stands in
+/// them, or a text of `--set1` or `--set2` is no setting; `Help` where `--help` or `--version`
+/// stands in them; either where `--explain` is the first of them; `BadStatusText` where they are
+/// taken, but a status text isn't 48 hexadecimal digits; `Memory` where memory was refused.
+pub fn line_of_words<'a>(alloc: Global, words: &'a [&'a str]) -> Result<CommandLine<'a>, LineFault>
+    ensures job { IfOk result (λ line. IsJobOf (map (λ word. word.now) words.now) line.job) }
+    ensures file { IfOk result (λ line. IfSome line.file
+        (λ name. ReadsFile (map (λ word. word.now) words.now) name.now)) }
+    ensures standard { IfOk result (λ line. line.file ≡ None → (name : List ℕ)
+        → ¬ ReadsFile (map (λ word. word.now) words.now) name) }
+    ensures fault { IfErr result (IsFaultOf (map (λ word. word.now) words.now)) }
+{
+    if asks_to_explain(words) {
+        return Err(explained(alloc, &words[1..]));
+    }
+    match explained_number(words) {
+        Some(number) => Err(explained(alloc, &[number])),
+        None => plain_line(alloc, words),
+    }
+}
+
+/// The job that a command line without the program's name asks for.
+///
+/// # Errors
+/// Those of [`line_of_words`].
+pub fn job_of_words<'a>(alloc: Global, words: &'a [&'a str]) -> Result<Job, LineFault>
+    ensures job { IfOk result (IsJobOf (map (λ word. word.now) words.now)) }
+    ensures fault { IfErr result (IsFaultOf (map (λ word. word.now) words.now)) }
+{
+    match line_of_words(alloc, words) {
+        Ok(line) => Ok(line.job),
+        Err(fault) => Err(fault),
+    }
+}
+
+/// What words behind `--explain` are told.
+fn explained(alloc: Global, words: &[&str]) -> LineFault
+    ensures { IsExplanation (map (λ word. word.now) words.now) result }
+{
+    match explanation(alloc, words) {
+        Ok(told) => told,
+        Err(_) => LineFault::Refused(RunError::Memory),
+    }
+}
+
+/// What a command line that asks to explain nothing asks for.
+fn plain_line<'a>(alloc: Global, words: &'a [&'a str]) -> Result<CommandLine<'a>, LineFault>
+    ensures job { IfOk result (λ line. IsLineOf (map (λ word. word.now) words.now) line.job) }
+    ensures file { IfOk result (λ line. IfSome line.file
+        (λ name. ReadsFile (map (λ word. word.now) words.now) name.now)) }
+    ensures standard { IfOk result (λ line. line.file ≡ None → (name : List ℕ)
+        → ¬ ReadsFile (map (λ word. word.now) words.now) name) }
+    ensures fault { IfErr result (IsLineFaultOf (map (λ word. word.now) words.now)) }
+{
+    let command = command_line(alloc)?;
+    let matches = match command.try_get_matches_from(words) {
+        Ok(matches) => matches,
+        Err(error) => return Err(fault_of(alloc, &error)),
+    };
+    let Some((name, options)) = matches.subcommand() else {
+        unreachable!();
+    };
+    line_of_command(alloc, name, options)
+}
+
+/// What `clap` tells of words that give no matches.
+fn fault_of(alloc: Global, error: &Error) -> LineFault
+    ensures { Tells (kind_of error.now) result }
+{
+    let Ok(text) = error.to_string(alloc) else {
+        return LineFault::Refused(RunError::Memory);
+    };
+    match error.kind() {
+        ErrorKind::OutOfMemory => LineFault::Refused(RunError::Memory),
+        ErrorKind::DisplayHelp | ErrorKind::DisplayVersion => LineFault::Help { text },
+        _ => LineFault::Usage { text },
+    }
+}
+
+/// What a command with its options asks for.
+fn line_of_command<'a>(
+    alloc: Global,
+    name: &str,
+    options: &ArgMatches<'a>,
+) -> Result<CommandLine<'a>, LineFault>
+    requires { (words : List (List ℕ)) × StandsIn words name.now (options_of options.now) }
+    ensures job { IfOk result (λ line. AsksFor name.now (options_of options.now) line.job) }
+    ensures file { IfOk result (λ line. option_map (λ name. name.now) line.file
+        ≡ file_by (options_of options.now)) }
+    ensures fault { IfErr result (IsBadOptionOf name.now (options_of options.now)) }
+{
+    let job = job_of_command(alloc, name, options)?;
+    Ok(CommandLine {
+        job,
+        file: file(options),
+    })
+}
