@@ -1,0 +1,27 @@
+-- Octets of cells as hardware gives them: without the octet that counts, or with the first cell in the lowest bit.
+use Rattle.std.specs.Prelude.{ℕ, List, [], ◌∷◌, ◌++◌, ◌≡◌, ◌<◌, replicate}
+use Rattle.std.specs.List.{flat_map}
+use Rattle.aes3_cell.specs.declared.level.Level.{Level}
+use Rattle.aes3_cell.specs.declared.level.Level.TheVariants.{Low}
+use Rattle.aes3_cell.specs.Packed.{octet_of}
+use Rattle.aes3_cell.specs.Words.{low_cells}
+
+-- raw octets have no octet behind them that counts; packed, they have one, and it says that none of their cells is unused
+abbrev pub packed_of_raw : List ℕ → List ℕ
+packed_of_raw octets = octets ++ 0 ∷ []
+
+-- the eight cells of an octet, the first in the lowest bit
+abbrev pub turned_cells : ℕ → List Level
+turned_cells octet = low_cells 8 octet
+
+-- the octet that has these cells with the first in the highest bit
+abbrev pub turned : ℕ → ℕ
+turned octet = octet_of (turned_cells octet)
+
+-- octets pack these cells with the first of each octet in the lowest bit; the last octet is a number, as ever
+pub record PacksTurned (octets : List ℕ) (cells : List Level) : Type 0 where
+  pub front : List ℕ
+  pub unused : ℕ
+  pub last : octets ≡ front ++ unused ∷ []
+  pub few : unused < 8
+  pub filled : flat_map turned_cells front ≡ cells ++ replicate unused Low
