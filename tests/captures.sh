@@ -173,6 +173,11 @@ head -c 3000000 /dev/zero >dead
 "$python" -c 'import random, sys; sys.stdout.buffer.write(random.Random(1).randbytes(3000000))' >noise
 judge "a dead line" refused <dead
 judge "noise" refused <noise
+# Where a grid among those that are tried is sharp by chance.
+for seed in 2 13; do
+    "$python" -c 'import random, sys; sys.stdout.buffer.write(random.Random(int(sys.argv[1])).randbytes(3000000))' "$seed" >noise
+    judge "noise $seed" refused <noise
+done
 judge "nothing" refused </dev/null
 told=$(head -c 3906250 /dev/zero | "$program" --rate 24000000 --at 48000 2>told | tr -d '\n' | wc -c)
 judge "$told cells of a dead line in the time of 1000000" [ "$told" -ge 999999 -a "$told" -le 1000001 ]

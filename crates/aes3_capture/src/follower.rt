@@ -1,6 +1,6 @@
 //! A follower of edges.
 
-ghost use Rattle.std.specs.Prelude.{◌≡◌, ◌+◌, ◌-◌, ◌*◌, ◌/◌, ◌%◌, ◌^◌, ◌<◌, ◌≤◌};
+ghost use Rattle.std.specs.Prelude.{◌≡◌, ◌+◌, ◌-◌, ◌*◌, ◌/◌, ◌%◌, ◌^◌, ◌<◌, ◌≤◌, min, max};
 
 use crate::bounds::{Bounds, PARTS};
 
@@ -34,6 +34,7 @@ const PERIOD_SHIFT: u32 = 13;
 impl Follower {
     ghost use Rattle.std.specs.Prelude.{ℕ, ◌↔◌, IsTrue};
     ghost use Rattle.aes3_capture.specs.Captures.{margin};
+    ghost use Rattle.aes3_capture.specs.Following.{Begins, Passed, Turned, Counted};
     ghost use Rattle.aes3_capture.specs.Following.{Follows, Passes, Ends, Counts, IsWithin, middle_of};
 
     /// A follower at the first edge of a line.
@@ -41,6 +42,7 @@ impl Follower {
         requires longest { period ≤ bounds.high }
         requires shortest { bounds.low ≤ period }
         ensures bounds { result.bounds ≡ bounds }
+        ensures begins { Begins result bounds period (middle_of bounds) (middle_of bounds) }
         ensures line { (displaced : ℕ) → Follows result displaced displaced displaced 0 0 }
     {
         let middle = bounds.low + bounds.low / 2;
@@ -55,6 +57,7 @@ impl Follower {
         requires same_bound { same ≤ 3 * bounds.low }
         requires other_bound { other ≤ 3 * bounds.low }
         ensures bounds { result.bounds ≡ bounds }
+        ensures begins { Begins result bounds period same other }
         ensures line { (displaced first second : ℕ) → same + first ≡ middle_of bounds + displaced
             → other + second ≡ middle_of bounds + displaced
             → IsWithin displaced first (bounds.low / 2 - margin bounds)
@@ -108,6 +111,7 @@ impl Follower {
         ensures elapsed { self.new.elapsed
             ≡ (self.old.elapsed + 65536 * samples) % self.old.period }
         ensures period { self.new.period ≡ self.old.period }
+        ensures passed { Passed self.old samples result self.new }
         ensures line { Passes self.old samples result self.new }
     {
         let elapsed = self.elapsed + u64::from(samples) * PARTS;
@@ -120,6 +124,7 @@ impl Follower {
     pub fn edge(&mut self) -> bool
         ensures bounds { self.new.bounds ≡ self.old.bounds }
         ensures elapsed { self.new.elapsed ≡ 0 }
+        ensures turned { Turned self.old result self.new }
         ensures line { Ends self.old result self.new }
     {
         let more = self.elapsed + self.other >= self.period + self.bounds.low;
@@ -140,6 +145,7 @@ impl Follower {
         ensures bounds { self.new.bounds ≡ self.old.bounds }
         ensures least { (self.old.elapsed + 65536 * samples) / self.old.period ≤ result }
         ensures most { result ≤ (self.old.elapsed + 65536 * samples) / self.old.period + 1 }
+        ensures counted { Counted self.old samples result self.new }
         ensures line { Counts self.old samples result self.new }
     {
         let told = self.pass(samples);
@@ -163,6 +169,8 @@ fn period_nearer(bounds: Bounds, period: u64, place: u64) -> u64
     requires place { place ≤ 3 * bounds.low }
     requires longest { period ≤ bounds.high }
     requires shortest { bounds.low ≤ period }
+    ensures nearer { result ≡ min (max (period + place / 8192
+        - (bounds.low + bounds.low / 2) / 8192) bounds.low) bounds.high }
     ensures longest { result ≤ bounds.high }
     ensures shortest { bounds.low ≤ result }
 {

@@ -1,4 +1,5 @@
 mod LaneBits
+pub mod Steady
 pub mod WordBits
 pub mod EndBytes
 pub mod Queueing

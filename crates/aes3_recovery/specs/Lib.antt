@@ -1,3 +1,4 @@
 pub mod Endings
 pub mod Levels
+pub mod Measuring
 pub mod Queues

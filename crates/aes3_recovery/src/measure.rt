@@ -1,6 +1,8 @@
 //! How long a cell is and where the grid of a line lies, measured from the samples between edges.
 
-ghost use Rattle.std.specs.Prelude.{◌^◌, ◌<◌, ◌≤◌, IfSome};
+ghost use Rattle.std.specs.Prelude.{◌^◌, ◌<◌, ◌≤◌};
+ghost use Rattle.std.specs.Prelude.{IsTrue, IfSome};
+ghost use Rattle.aes3_recovery.specs.Measuring.{IsAround, IsMeasured, IsPlaced, IsSteady};
 
 use aes3_capture::{Bounds, Follower, PARTS};
 
@@ -154,6 +156,7 @@ fn estimate(runs: &[u32]) -> Option<u32> {
 
 /// The bounds of cells of about this period: it may change by a 1024th.
 pub(crate) fn bounds_around(period: u64) -> Option<Bounds>
+    ensures around { IfSome result (λ bounds. IsAround bounds period) }
     ensures longest { IfSome result (λ bounds. period ≤ bounds.high) }
     ensures shortest { IfSome result (λ bounds. bounds.low ≤ period) }
 {
@@ -180,7 +183,9 @@ fn behind(place: u64, mean: u32, period: u64) -> u64
 
 /// A follower of the line with these runs, from the edge before them on; none where these are not
 /// those of a line. `known` is its period, where that is given, in parts of a sample.
-pub fn follower_of_runs(runs: &[u32], known: Option<u64>) -> Option<Follower> {
+pub fn follower_of_runs(runs: &[u32], known: Option<u64>) -> Option<Follower>
+    ensures { IfSome result (λ follower. IsMeasured known runs.now follower) }
+{
     let near = match known {
         Some(period) => ((1u64 << 48) / period.max(2 * PARTS)) as u32,
         None => match estimate(runs) {
@@ -194,11 +199,32 @@ pub fn follower_of_runs(runs: &[u32], known: Option<u64>) -> Option<Follower> {
     if sharpness(runs, found) / QUARTER < runs.len() as u64 / 8 * 3 {
         return None;
     }
-    placed(runs, found, known)
+    match placed(runs, found, known) {
+        Some(follower) if is_steady(follower, runs) => Some(follower),
+        _ => None,
+    }
+}
+
+/// Whether a follower counts one to three cells of most of these runs, as a line has: chance gives
+/// three in ten that have none or more.
+fn is_steady(follower: Follower, runs: &[u32]) -> bool
+    ensures { IsTrue result → IsSteady follower runs.now }
+{
+    let mut follower = follower;
+    let mut steady = 0;
+    for i in 0..runs.len() {
+        let cells = follower.run(runs[i]);
+        if 1 <= cells && cells <= 3 {
+            steady += 1;
+        }
+    }
+    steady >= runs.len() - runs.len() / 8
 }
 
 /// A follower of the line with these runs, whose edges lie on grids of this frequency.
-fn placed(runs: &[u32], found: u32, known: Option<u64>) -> Option<Follower> {
+fn placed(runs: &[u32], found: u32, known: Option<u64>) -> Option<Follower>
+    ensures { IfSome result (λ follower. IsPlaced known follower) }
+{
     let measured = (1u64 << 48) / u64::from(found.max(1));
     let bounds = match bounds_around(known.unwrap_or(measured)) {
         Some(bounds) => bounds,

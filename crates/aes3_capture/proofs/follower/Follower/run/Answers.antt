@@ -8,6 +8,16 @@ byte-one : (b : Bool) → bool_byte b ≡ (if b then 1 else 0)
 byte-one true = refl
 byte-one false = refl
 
+pub returns-clause-counted : goal.returns-clause-counted
+returns-clause-counted c = record {
+  told = c.pass-told.result;
+  more = c.edge.result;
+  at = c.pass-told.new.self;
+  passed = c.pass-told.ensures.passed;
+  turned = c.edge.ensures.turned;
+  sum = ap (λ n. c.pass-told.result + n) (c.from.ensures ∙ byte-one c.edge.result);
+}
+
 pub returns-clause-line : goal.returns-clause-line
 returns-clause-line c =
     run-counts c.args.self.now c.pass-told.new.self c.edge.new.self c.args.samples c.pass-told.result (c.pass-told.result + c.from.result) c.edge.result
