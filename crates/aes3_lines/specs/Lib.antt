@@ -7,3 +7,4 @@ pub mod StatusLines
 pub mod Gathering
 pub mod Settings
 pub mod Choices
+pub mod Events

@@ -15,7 +15,7 @@ use aes3_status::{Status, check_state};
 const HEAD_LEN: usize = 40;
 
 /// The number of a channel.
-fn channel_digit(channel: Channel) -> &'static str
+pub(crate) fn channel_digit(channel: Channel) -> &'static str
     ensures digit { result.now ≡ channel_digit channel }
     ensures len { length result.now ≡ 1 }
 {
