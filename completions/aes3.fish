@@ -59,7 +59,7 @@ complete -c aes3 -n __fish_use_subcommand -a encode -d 'Write the cells of a blo
 complete -c aes3 -n __fish_use_subcommand -a decode -d 'Write the whole blocks as a block file'
 complete -c aes3 -n __fish_use_subcommand -a normal -d 'Write the whole blocks again, in the normal polarity'
 complete -c aes3 -n __fish_use_subcommand -a check -d 'Print each whole block and each fault'
-complete -c aes3 -n __fish_use_subcommand -a watch -d 'Print where a line locks, is lost, comes back and slips'
+complete -c aes3 -n __fish_use_subcommand -a watch -d 'Print where a line locks, is lost, comes back, slips or changes'
 complete -c aes3 -n __fish_use_subcommand -a show -d 'Print the channel status of each whole block'
 complete -c aes3 -n __fish_use_subcommand -a scan -d 'Print each preamble'
 complete -c aes3 -n __fish_use_subcommand -a cut -d 'Write COUNT of the whole blocks, from number FROM on'

@@ -2,8 +2,10 @@ pub mod GapLemmas
 pub mod ReportPlaces
 pub mod Accounts
 pub mod AccountFronts
+pub mod SignalWords
 pub mod WatchedCells
 pub mod WatchedGaps
+pub mod EventWrites
 pub mod Covering
 pub mod Rowed
 pub mod LostGaps

@@ -1,9 +1,10 @@
 -- A line watched, as its cells come.
-use Rattle.std.proofs.Common.{◌≡◌, ℕ, ◌+◌, ◌-◌, ◌*◌, ◌^◌, ◌<◌, ◌≤◌, ◌⊎◌, inl, inr, Bool, true, false, cond, ltb, List, [], ◌∷◌, ◌++◌, Ok, length, drop, refl, sym, ap, ap₂, ◌∙◌, subst, arith, append-nil, append_assoc, length-append}
+use Rattle.std.proofs.Common.{◌≡◌, ℕ, ◌+◌, ◌-◌, ◌*◌, ◌^◌, ◌<◌, ◌≤◌, ◌⊎◌, inl, inr, Bool, true, false, cond, ltb, List, [], ◌∷◌, ◌++◌, Option, Some, None, Ok, length, drop, refl, sym, ap, ap₂, ◌∙◌, subst, arith, append-nil, append_assoc, length-append}
 use Rattle.std.specs.Prelude.{◌||◌, nat_lt}
-use Rattle.std.specs.List.{filter}
+use Rattle.std.specs.List.{filter, flat_map}
 use Rattle.std.proofs.lemmas.Bool.{ltb-false, le-ltb}
 use Rattle.std.proofs.lemmas.List.{append_cancel_left, drop_at}
+use Rattle.std.proofs.lemmas.Grind.{flat_map-append}
 use Rattle.aes3_cell.specs.declared.level.Level.{Level}
 use Rattle.aes3_cell.specs.declared.form.Form.{Form}
 use Rattle.aes3_cell.specs.declared.counts.Counts.{Counts}
@@ -19,10 +20,17 @@ use Rattle.aes3_input.specs.Taking.{Writing, behind, before_end, with_end}
 use Rattle.aes3_input.specs.Inputs.{cells_of}
 use Rattle.aes3_input.specs.Driving.{Drive}
 use Rattle.aes3_input.proofs.Items.{before-is, before-join}
+use Rattle.aes3_lock.specs.declared.tally.Tally.{Tally}
 use Rattle.aes3_lock.specs.Tallies.{is_faulty, Tallies}
 use Rattle.aes3_lock.proofs.Tallies.{tallies-few, few-decided}
+use Rattle.aes3_lines.specs.declared.event.Event.{Event}
+use Rattle.aes3_lines.specs.declared.event.Event.TheVariants.{Lost, End}
+use Rattle.aes3_lines.specs.declared.event.Style.{Style}
+use Rattle.aes3_lines.specs.Events.{event_line}
+use Rattle.aes3_account.specs.Signals.{change_events, signals_of}
+use Rattle.aes3_account.specs.declared.signals.Signals.{Signals}
 use Rattle.aes3_account.specs.declared.watched.Watched.{Watched}
-use Rattle.aes3_account.specs.Watching.{unwatched, is_told, loss_line, lost_line, up_to, whole_line, slips, behind_whole, told_lines, next, lines_from, behind_reports, begun_watch, watched, is_locked, ended, end_line, watch_lines, watch_counts, watching, Watches, Ended}
+use Rattle.aes3_account.specs.Watching.{unwatched, is_told, loss_events, up_to, whole_events, slips, behind_whole, told_events, next, events_from, behind_reports, begun_events, watched, is_locked, ended, watch_events, event_lines, begun_watch, watch_lines, watch_counts, watching, IsKept, Watches, Ended}
 use Rattle.aes3_account.proofs.ReportPlaces.{split-reports, late-decided, late-reports}
 use Rattle.aes3_account.proofs.Accounts.{one-answer, one-final, decided-more, few-reports}
 
@@ -31,12 +39,13 @@ pub told-is : (w : Watched) (q s : ℕ) → s ≡ q - w.place → w.lost ≡ fal
 told-is w q s e f =
     ap (λ n. nat_lt n 24576) e ∙ sym (ap₂ (λ (b : Bool) (n : ℕ). b || nat_lt (q - w.place) n) f block_len_24576)
 
-abbrev made : ℕ → ℕ → Watched
-made p l = record { found = true; place = p; lost = false; losses = l }
+abbrev made : Signals → ℕ → ℕ → Watched
+made now p l = record { found = true; place = p; lost = false; losses = l; latest = Some now }
 
-pub whole-is : (w : Watched) (at l : ℕ) (b : Bool) → slips w at ≡ b → l ≡ cond b (w.losses + 1) w.losses → made (at + 24576) l ≡ behind_whole w at
-whole-is w at l b e f =
-    ap (made (at + 24576)) f ∙ sym (ap₂ (λ (n : ℕ) (v : Bool). made (at + n) (cond v (w.losses + 1) w.losses)) block_len_24576 e)
+pub whole-is : (w : Watched) (at l : ℕ) (now : Signals) (b : Bool) → slips w at ≡ b → l ≡ cond b (w.losses + 1) w.losses
+    → made now (at + 24576) l ≡ behind_whole w at now
+whole-is w at l now b e f =
+    ap (made now (at + 24576)) f ∙ sym (ap₂ (λ (n : ℕ) (v : Bool). made now (at + n) (cond v (w.losses + 1) w.losses)) block_len_24576 e)
 
 -- up to a place, and on to a place behind it
 far : (p a b : ℕ) → a ≤ b → ltb (a - p) block_len ≡ false → ltb (b - p) block_len ≡ false
@@ -54,22 +63,29 @@ either true = inl refl
 either false = inr refl
 
 abbrev pub as_lost : Watched → Watched
-as_lost w = record { found = w.found; place = w.place; lost = true; losses = w.losses + 1 }
+as_lost w = record { found = w.found; place = w.place; lost = true; losses = w.losses + 1; latest = w.latest }
 
 pub up-told : (w : Watched) (a : ℕ) (b : Bool) → is_told w a ≡ b → up_to w a ≡ cond b w (as_lost w)
 up-told w a b e = ap (λ x. cond x w (as_lost w)) e
 
-loss-told : (w : Watched) (a : ℕ) (b : Bool) → is_told w a ≡ b → loss_line w a ≡ cond b [] (lost_line w.place)
-loss-told w a b e = ap (λ (x : Bool). cond {A = List ℕ} x [] (lost_line w.place)) e
+loss-told : (w : Watched) (a : ℕ) (b : Bool) → is_told w a ≡ b → loss_events w a ≡ cond b [] (Lost w.place ∷ [])
+loss-told w a b e = ap (λ (x : Bool). cond {A = List Event} x [] (Lost w.place ∷ [])) e
 
-loss-join : (w : Watched) (a b : ℕ) → a ≤ b → loss_line w b ≡ loss_line w a ++ loss_line (up_to w a) b
+pub up-latest : (w : Watched) (a : ℕ) → (up_to w a).latest ≡ w.latest
+up-latest w a = go (is_told w a)
+  where
+    go : (b : Bool) → (cond b w (as_lost w)).latest ≡ w.latest
+    go true = refl
+    go false = refl
+
+loss-join : (w : Watched) (a b : ℕ) → a ≤ b → loss_events w b ≡ loss_events w a ++ loss_events (up_to w a) b
 loss-join w a b h = go (either (is_told w a))
   where
-    go : (is_told w a ≡ true) ⊎ (is_told w a ≡ false) → loss_line w b ≡ loss_line w a ++ loss_line (up_to w a) b
-    go (inl e) = sym (ap₂ (λ x v. x ++ loss_line v b) (loss-told w a true e) (up-told w a true e))
+    go : (is_told w a ≡ true) ⊎ (is_told w a ≡ false) → loss_events w b ≡ loss_events w a ++ loss_events (up_to w a) b
+    go (inl e) = sym (ap₂ (λ x v. x ++ loss_events v b) (loss-told w a true e) (up-told w a true e))
     go (inr e) =
-        loss-told w b false (later w a b h e) ∙ sym (append-nil (lost_line w.place))
-        ∙ sym (ap₂ (λ x v. x ++ loss_line v b) (loss-told w a false e) (up-told w a false e))
+        loss-told w b false (later w a b h e) ∙ sym (append-nil (Lost w.place ∷ []))
+        ∙ sym (ap₂ (λ x v. x ++ loss_events v b) (loss-told w a false e) (up-told w a false e))
 
 up-join : (w : Watched) (a b : ℕ) → a ≤ b → up_to w b ≡ up_to (up_to w a) b
 up-join w a b h = go (either (is_told w a))
@@ -78,26 +94,29 @@ up-join w a b h = go (either (is_told w a))
     go (inl e) = sym (ap (λ v. up_to v b) (up-told w a true e))
     go (inr e) = up-told w b false (later w a b h e) ∙ sym (ap (λ v. up_to v b) (up-told w a false e))
 
-report-join : (w : Watched) (a : ℕ) (x : Report) → a ≤ place_of x → told_lines w x ≡ loss_line w a ++ told_lines (up_to w a) x
+report-join : (w : Watched) (a : ℕ) (x : Report) → a ≤ place_of x → told_events w x ≡ loss_events w a ++ told_events (up_to w a) x
 report-join w a (Whole at s b) h =
-    ap₂ (λ l v. l ++ whole_line v at s) (loss-join w a at h) (up-join w a at h)
-    ∙ append_assoc (loss_line w a) (loss_line (up_to w a) at) (whole_line (up_to (up_to w a) at) at s)
+    ap₂ (λ l v. l ++ (whole_events v at s ++ change_events at w.latest (signals_of b))) (loss-join w a at h) (up-join w a at h)
+    ∙ append_assoc (loss_events w a) (loss_events (up_to w a) at)
+    (whole_events (up_to (up_to w a) at) at s ++ change_events at w.latest (signals_of b))
+    ∙ ap (λ o. loss_events w a ++ (loss_events (up_to w a) at ++ (whole_events (up_to (up_to w a) at) at s ++ change_events at o (signals_of b))))
+    (sym (up-latest w a))
 report-join w a (Marked at s wrong) h = loss-join w a at h
 report-join w a (Fault at cell why) h = loss-join w a at h
 report-join w a (Unfinished at cells) h = loss-join w a at h
 
 next-join : (w : Watched) (a : ℕ) (x : Report) → a ≤ place_of x → next w x ≡ next (up_to w a) x
-next-join w a (Whole at s b) h = ap (λ v. behind_whole v at) (up-join w a at h)
+next-join w a (Whole at s b) h = ap (λ v. behind_whole v at (signals_of b)) (up-join w a at h)
 next-join w a (Marked at s wrong) h = up-join w a at h
 next-join w a (Fault at cell why) h = up-join w a at h
 next-join w a (Unfinished at cells) h = up-join w a at h
 
 -- one more report
-lines-push : (w : Watched) (r : List Report) (x : Report) → lines_from w (r ++ x ∷ []) ≡ lines_from w r ++ told_lines (behind_reports w r) x
-lines-push w [] x = append-nil (told_lines w x)
-lines-push w (y ∷ r) x =
-    ap (λ z. told_lines w y ++ z) (lines-push (next w y) r x)
-    ∙ sym (append_assoc (told_lines w y) (lines_from (next w y) r) (told_lines (behind_reports (next w y) r) x))
+events-push : (w : Watched) (r : List Report) (x : Report) → events_from w (r ++ x ∷ []) ≡ events_from w r ++ told_events (behind_reports w r) x
+events-push w [] x = append-nil (told_events w x)
+events-push w (y ∷ r) x =
+    ap (λ z. told_events w y ++ z) (events-push (next w y) r x)
+    ∙ sym (append_assoc (told_events w y) (events_from (next w y) r) (told_events (behind_reports (next w y) r) x))
 
 behind-push : (w : Watched) (r : List Report) (x : Report) → behind_reports w (r ++ x ∷ []) ≡ next (behind_reports w r) x
 behind-push w [] x = refl
@@ -114,15 +133,15 @@ watched-passed c d e =
     ap (λ r. up_to (behind_reports unwatched r) (length (c ++ d) - block_len)) e
     ∙ up-join (behind_reports unwatched (decided c)) (length c - block_len) (length (c ++ d) - block_len) (shorter c d)
 
-pub begun-passed : (c d : List Level) → decided (c ++ d) ≡ decided c → begun_watch (c ++ d) ≡ begun_watch c ++ loss_line (watched c) (length (c ++ d) - block_len)
-unfolding begun_watch watched
+pub begun-passed : (c d : List Level) → decided (c ++ d) ≡ decided c → begun_events (c ++ d) ≡ begun_events c ++ loss_events (watched c) (length (c ++ d) - block_len)
+unfolding begun_events watched
 begun-passed c d e =
     let w = behind_reports unwatched (decided c) in
     let s = length c - block_len in
     let t = length (c ++ d) - block_len in
-    ap (λ r. lines_from unwatched r ++ loss_line (behind_reports unwatched r) t) e
-    ∙ ap (λ z. lines_from unwatched (decided c) ++ z) (loss-join w s t (shorter c d))
-    ∙ sym (append_assoc (lines_from unwatched (decided c)) (loss_line w s) (loss_line (up_to w s) t))
+    ap (λ r. events_from unwatched r ++ loss_events (behind_reports unwatched r) t) e
+    ∙ ap (λ z. events_from unwatched (decided c) ++ z) (loss-join w s t (shorter c d))
+    ∙ sym (append_assoc (events_from unwatched (decided c)) (loss_events w s) (loss_events (up_to w s) t))
 
 -- a report, and what stands behind it
 next-watched : (c : List Level) (x : Report) → length c ≤ place_of x + block_len → behind_reports unwatched (decided c ++ x ∷ []) ≡ next (watched c) x
@@ -133,14 +152,14 @@ next-watched c x h =
 four-joined : {A : Type 0} (a f g t : List A) → (a ++ (f ++ g)) ++ t ≡ (a ++ f) ++ (g ++ t)
 four-joined a f g t = simp append_assoc
 
-lines-watched : (c : List Level) (x : Report) (tail : List ℕ) → length c ≤ place_of x + block_len
-    → lines_from unwatched (decided c ++ x ∷ []) ++ tail ≡ begun_watch c ++ (told_lines (watched c) x ++ tail)
-unfolding begun_watch watched
-lines-watched c x tail h =
+events-watched : (c : List Level) (x : Report) (tail : List Event) → length c ≤ place_of x + block_len
+    → events_from unwatched (decided c ++ x ∷ []) ++ tail ≡ begun_events c ++ (told_events (watched c) x ++ tail)
+unfolding begun_events watched
+events-watched c x tail h =
     let w = behind_reports unwatched (decided c) in
     let s = length c - block_len in
-    ap (λ z. z ++ tail) (lines-push unwatched (decided c) x ∙ ap (λ z. lines_from unwatched (decided c) ++ z) (report-join w s x (omega arith)))
-    ∙ four-joined (lines_from unwatched (decided c)) (loss_line w s) (told_lines (up_to w s) x) tail
+    ap (λ z. z ++ tail) (events-push unwatched (decided c) x ∙ ap (λ z. events_from unwatched (decided c) ++ z) (report-join w s x (omega arith)))
+    ∙ four-joined (events_from unwatched (decided c)) (loss_events w s) (told_events (up_to w s) x) tail
 
 watched-is : (c : List Level) (r : List Report) (w : Watched) → decided c ≡ r → behind_reports unwatched r ≡ w → watched c ≡ up_to w (length c - block_len)
 unfolding watched
@@ -148,33 +167,33 @@ watched-is c r w e f =
     ap (λ v. up_to (behind_reports unwatched v) (length c - block_len)) e ∙ ap (λ v. up_to v (length c - block_len)) f
 
 begun-is : (c : List Level) (r : List Report) (w : Watched) → decided c ≡ r → behind_reports unwatched r ≡ w
-    → begun_watch c ≡ lines_from unwatched r ++ loss_line w (length c - block_len)
-unfolding begun_watch
+    → begun_events c ≡ events_from unwatched r ++ loss_events w (length c - block_len)
+unfolding begun_events
 begun-is c r w e f =
-    ap (λ v. lines_from unwatched v ++ loss_line (behind_reports unwatched v) (length c - block_len)) e
-    ∙ ap (λ v. lines_from unwatched r ++ loss_line v (length c - block_len)) f
+    ap (λ v. events_from unwatched v ++ loss_events (behind_reports unwatched v) (length c - block_len)) e
+    ∙ ap (λ v. events_from unwatched r ++ loss_events v (length c - block_len)) f
 
 pub watched-taken : (c d : List Level) (x : Report) → decided (c ++ d) ≡ decided c ++ x ∷ []
     → watched (c ++ d) ≡ up_to (next (watched c) x) (length (c ++ d) - block_len)
 watched-taken c d x e = watched-is (c ++ d) (decided c ++ x ∷ []) (next (watched c) x) e (next-watched c x (late-decided c d x e))
 
 pub begun-taken : (c d : List Level) (x : Report) → decided (c ++ d) ≡ decided c ++ x ∷ []
-    → begun_watch (c ++ d) ≡ begun_watch c ++ (told_lines (watched c) x ++ loss_line (next (watched c) x) (length (c ++ d) - block_len))
+    → begun_events (c ++ d) ≡ begun_events c ++ (told_events (watched c) x ++ loss_events (next (watched c) x) (length (c ++ d) - block_len))
 begun-taken c d x e =
     let h = late-decided c d x e in
     begun-is (c ++ d) (decided c ++ x ∷ []) (next (watched c) x) e (next-watched c x h)
-    ∙ lines-watched c x (loss_line (next (watched c) x) (length (c ++ d) - block_len)) h
+    ∙ events-watched c x (loss_events (next (watched c) x) (length (c ++ d) - block_len)) h
 
 -- the end, where it decides no report, and where it decides one
-abbrev pub last_lines : Watched → ℕ → List ℕ
-last_lines w n = loss_line w n ++ end_line n (is_locked (up_to w n))
+abbrev pub last_events : Watched → ℕ → List Event
+last_events w n = loss_events w n ++ End n (is_locked (up_to w n)) ∷ []
 
 all-is : (c : List Level) (r : List Report) (w : Watched) → reports c ≡ r → behind_reports unwatched r ≡ w
-    → watch_lines c ≡ lines_from unwatched r ++ last_lines w (length c)
-unfolding watch_lines ended
+    → watch_events c ≡ events_from unwatched r ++ last_events w (length c)
+unfolding watch_events ended
 all-is c r w e f =
-    ap (λ v. lines_from unwatched v ++ last_lines (behind_reports unwatched v) (length c)) e
-    ∙ ap (λ v. lines_from unwatched r ++ last_lines v (length c)) f
+    ap (λ v. events_from unwatched v ++ last_events (behind_reports unwatched v) (length c)) e
+    ∙ ap (λ v. events_from unwatched r ++ last_events v (length c)) f
 
 ended-is : (c : List Level) (r : List Report) (w : Watched) → reports c ≡ r → behind_reports unwatched r ≡ w → ended c ≡ up_to w (length c)
 unfolding ended
@@ -189,138 +208,170 @@ ended-closed c e =
     ended-is c (decided c) (behind_reports unwatched (decided c)) (e ∙ append-nil (decided c)) refl
     ∙ up-join (behind_reports unwatched (decided c)) (length c - block_len) (length c) (before-last c)
 
-last-join : (w : Watched) (a b : ℕ) → a ≤ b → last_lines w b ≡ loss_line w a ++ last_lines (up_to w a) b
+last-join : (w : Watched) (a b : ℕ) → a ≤ b → last_events w b ≡ loss_events w a ++ last_events (up_to w a) b
 last-join w a b h =
-    ap₂ (λ l v. l ++ end_line b (is_locked v)) (loss-join w a b h) (up-join w a b h)
-    ∙ append_assoc (loss_line w a) (loss_line (up_to w a) b) (end_line b (is_locked (up_to (up_to w a) b)))
+    ap₂ (λ l v. l ++ End b (is_locked v) ∷ []) (loss-join w a b h) (up-join w a b h)
+    ∙ append_assoc (loss_events w a) (loss_events (up_to w a) b) (End b (is_locked (up_to (up_to w a) b)) ∷ [])
 
-pub all-closed : (c : List Level) → reports c ≡ decided c ++ [] → watch_lines c ≡ begun_watch c ++ last_lines (watched c) (length c)
-unfolding watched begun_watch
+pub all-closed : (c : List Level) → reports c ≡ decided c ++ [] → watch_events c ≡ begun_events c ++ last_events (watched c) (length c)
+unfolding watched begun_events
 all-closed c e =
     let w = behind_reports unwatched (decided c) in
     let s = length c - block_len in
     all-is c (decided c) w (e ∙ append-nil (decided c)) refl
-    ∙ ap (λ z. lines_from unwatched (decided c) ++ z) (last-join w s (length c) (before-last c))
-    ∙ sym (append_assoc (lines_from unwatched (decided c)) (loss_line w s) (last_lines (up_to w s) (length c)))
+    ∙ ap (λ z. events_from unwatched (decided c) ++ z) (last-join w s (length c) (before-last c))
+    ∙ sym (append_assoc (events_from unwatched (decided c)) (loss_events w s) (last_events (up_to w s) (length c)))
 
 pub ended-closed_with : (c : List Level) (x : Report) → reports c ≡ decided c ++ x ∷ [] → ended c ≡ up_to (next (watched c) x) (length c)
 ended-closed_with c x e = ended-is c (decided c ++ x ∷ []) (next (watched c) x) e (next-watched c x (late-reports c x e))
 
 pub all-closed_with : (c : List Level) (x : Report) → reports c ≡ decided c ++ x ∷ []
-    → watch_lines c ≡ begun_watch c ++ (told_lines (watched c) x ++ last_lines (next (watched c) x) (length c))
+    → watch_events c ≡ begun_events c ++ (told_events (watched c) x ++ last_events (next (watched c) x) (length c))
 all-closed_with c x e =
     let h = late-reports c x e in
     all-is c (decided c ++ x ∷ []) (next (watched c) x) e (next-watched c x h)
-    ∙ lines-watched c x (last_lines (next (watched c) x) (length c)) h
+    ∙ events-watched c x (last_events (next (watched c) x) (length c)) h
 
 -- so it grows
-begun-more : (c : List Level) (l : Level) → (m : List ℕ) × (begun_watch (c ++ l ∷ []) ≡ begun_watch c ++ m)
+begun-more : (c : List Level) (l : Level) → (m : List Event) × (begun_events (c ++ l ∷ []) ≡ begun_events c ++ m)
 begun-more c l = go (one-answer 0 c l)
   where
-    go : (answer 0 c l ≡ []) ⊎ ((x : Report) × (answer 0 c l ≡ x ∷ [])) → (m : List ℕ) × (begun_watch (c ++ l ∷ []) ≡ begun_watch c ++ m)
+    go : (answer 0 c l ≡ []) ⊎ ((x : Report) × (answer 0 c l ≡ x ∷ [])) → (m : List Event) × (begun_events (c ++ l ∷ []) ≡ begun_events c ++ m)
     go (inl e) = (_, begun-passed c (l ∷ []) (decided-more c l ∙ ap (λ r. decided c ++ r) e ∙ append-nil (decided c)))
     go (inr x) = (_, begun-taken c (l ∷ []) x.0 (decided-more c l ∙ ap (λ r. decided c ++ r) x.1))
 
-all-more : (c : List Level) → (m : List ℕ) × (watch_lines c ≡ begun_watch c ++ m)
+all-more : (c : List Level) → (m : List Event) × (watch_events c ≡ begun_events c ++ m)
 all-more c = go (one-final 0 c)
   where
-    go : (final 0 c ≡ []) ⊎ ((x : Report) × (final 0 c ≡ x ∷ [])) → (m : List ℕ) × (watch_lines c ≡ begun_watch c ++ m)
+    go : (final 0 c ≡ []) ⊎ ((x : Report) × (final 0 c ≡ x ∷ [])) → (m : List Event) × (watch_events c ≡ begun_events c ++ m)
     go (inl e) = (_, all-closed c (split-reports c ∙ ap (λ r. decided c ++ r) e))
     go (inr x) = (_, all-closed_with c x.0 (split-reports c ∙ ap (λ r. decided c ++ r) x.1))
 
 -- what the taker writes
-grown : (a b m : List ℕ) → b ≡ a ++ m → b ≡ a ++ drop (length a) b
+grown : {A : Type 0} (a b m : List A) → b ≡ a ++ m → b ≡ a ++ drop (length a) b
 grown a b m e = e ∙ ap (λ z. a ++ z) (sym (ap (drop (length a)) e ∙ drop_at a m (length a) refl))
 
-adds-is : (c : List Level) (l : Level) → drop (length (begun_watch c)) (begun_watch (c ++ l ∷ [])) ≡ watching.adds c l
-unfolding watching
-adds-is c l = refl
+grown-lines : (style : Style) (a b m : List Event) → b ≡ a ++ m → event_lines style b ≡ event_lines style a ++ event_lines style (drop (length a) b)
+grown-lines style a b m e = ap (event_lines style) (grown a b m e) ∙ flat_map-append (event_line style) a (drop (length a) b)
 
-ends-is : (c : List Level) → watching.ends c ≡ drop (length (begun_watch c)) (watch_lines c)
+adds-is : (style : Style) (c : List Level) (l : Level)
+    → event_lines style (drop (length (begun_events c)) (begun_events (c ++ l ∷ []))) ≡ (watching style).adds c l
 unfolding watching
-ends-is c = refl
+adds-is style c l = refl
 
-begins : begun_watch [] ≡ []
-unfolding begun_watch decided block_len block_slots
+ends-is : (style : Style) (c : List Level) → (watching style).ends c ≡ event_lines style (drop (length (begun_events c)) (watch_events c))
+unfolding watching
+ends-is style c = refl
+
+begins : begun_events [] ≡ []
+unfolding begun_events decided block_len block_slots
 begins = refl
 
-pub before-watch : (c : List Level) → before_end watching c ≡ begun_watch c
-before-watch c =
-    before-is watching begun_watch begins
-    (λ c l. let m = begun-more c l in grown (begun_watch c) (begun_watch (c ++ l ∷ [])) m.0 m.1 ∙ ap (λ z. begun_watch c ++ z) (adds-is c l)) c
+pub before-watch : (style : Style) (c : List Level) → before_end (watching style) c ≡ begun_watch style c
+before-watch style c =
+    before-is (watching style) (begun_watch style) (ap (event_lines style) begins)
+    (λ c l. let m = begun-more c l in
+    grown-lines style (begun_events c) (begun_events (c ++ l ∷ [])) m.0 m.1 ∙ ap (λ z. begun_watch style c ++ z) (adds-is style c l)) c
 
-pub with-watch : (c : List Level) → with_end watching c ≡ watch_lines c
+pub with-watch : (style : Style) (c : List Level) → with_end (watching style) c ≡ watch_lines style c
 unfolding with_end
-with-watch c =
+with-watch style c =
     let m = all-more c in
-    ap₂ (λ x y. x ++ y) (before-watch c) (ends-is c) ∙ sym (grown (begun_watch c) (watch_lines c) m.0 m.1)
+    ap₂ (λ x y. x ++ y) (before-watch style c) (ends-is style c) ∙ sym (grown-lines style (begun_events c) (watch_events c) m.0 m.1)
 
-pub behind-watch : (c d : List Level) (m : List ℕ) → begun_watch (c ++ d) ≡ begun_watch c ++ m → m ≡ behind watching c d
-behind-watch c d m e =
-    append_cancel_left (begun_watch c) m (behind watching c d)
-    (sym e ∙ sym (before-watch (c ++ d)) ∙ before-join watching c d ∙ ap (λ z. z ++ behind watching c d) (before-watch c))
+pub behind-watch : (style : Style) (c d : List Level) (m : List Event) → begun_events (c ++ d) ≡ begun_events c ++ m
+    → event_lines style m ≡ behind (watching style) c d
+behind-watch style c d m e =
+    append_cancel_left (begun_watch style c) (event_lines style m) (behind (watching style) c d)
+    (sym (flat_map-append (event_line style) (begun_events c) m) ∙ sym (ap (event_lines style) e)
+    ∙ sym (before-watch style (c ++ d)) ∙ before-join (watching style) c d ∙ ap (λ z. z ++ behind (watching style) c d) (before-watch style c))
 
-pub ends-watch : (c : List Level) (m : List ℕ) → watch_lines c ≡ begun_watch c ++ m → m ≡ watching.ends c
-ends-watch c m e = sym (ends-is c ∙ ap (drop (length (begun_watch c))) e ∙ drop_at (begun_watch c) m (length (begun_watch c)) refl)
+pub ends-watch : (style : Style) (c : List Level) (m : List Event) → watch_events c ≡ begun_events c ++ m
+    → event_lines style m ≡ (watching style).ends c
+ends-watch style c m e =
+    sym (ends-is style c ∙ ap (event_lines style) (ap (drop (length (begun_events c))) e ∙ drop_at (begun_events c) m (length (begun_events c)) refl))
+
+-- what is kept of a block's samples
+pub kept-up : (w : Watched) (a : ℕ) (words : List ℕ) → IsKept w.latest words → IsKept (up_to w a).latest words
+kept-up w a words h = subst (λ o. IsKept o words) (sym (up-latest w a)) h
 
 -- the cells of a run that decide no report
-pub pass-lines : (w : Watched) (s : ℕ) (c d : List Level) → w ≡ watched c → s ≡ length (c ++ d) - block_len → decided (c ++ d) ≡ decided c
-    → loss_line w s ≡ behind watching c d
-pass-lines w s c d e f q = ap₂ loss_line e f ∙ behind-watch c d (loss_line (watched c) (length (c ++ d) - block_len)) (begun-passed c d q)
+pub pass-lines : (style : Style) (w : Watched) (s : ℕ) (c d : List Level) → w ≡ watched c → s ≡ length (c ++ d) - block_len → decided (c ++ d) ≡ decided c
+    → event_lines style (loss_events w s) ≡ behind (watching style) c d
+pass-lines style w s c d e f q =
+    ap (event_lines style) (ap₂ loss_events e f)
+    ∙ behind-watch style c d (loss_events (watched c) (length (c ++ d) - block_len)) (begun-passed c d q)
 
-pub pass-watches : {w : Watched} {b f u : ℕ} (w' : Watched) (s : ℕ) (c d : List Level) → Watches w b f u c → decided (c ++ d) ≡ decided c
-    → s ≡ length (c ++ d) - block_len → w' ≡ up_to w s → Watches w' b f u (c ++ d)
-pass-watches {w} {b} {f} {u} w' s c d h q e g = record {
+pub pass-watches : {w : Watched} {words : List ℕ} {b f u : ℕ} (w' : Watched) (s : ℕ) (c d : List Level) → Watches w words b f u c
+    → decided (c ++ d) ≡ decided c → s ≡ length (c ++ d) - block_len → w' ≡ up_to w s → Watches w' words b f u (c ++ d)
+pass-watches {w} {words} {b} {f} {u} w' s c d h q e g = record {
   state_is = g ∙ ap₂ up_to h.state_is e ∙ sym (watched-passed c d q);
+  kept = subst (λ v. IsKept v.latest words) (sym g) (kept-up w s words h.kept);
   tally = subst (Tallies b f u) (sym q) h.tally;
 }
 
 -- a report, and cells behind it
-pub take-lines : (w w' : Watched) (s : ℕ) (c d : List Level) (x : Report) → w ≡ watched c → w' ≡ next w x → s ≡ length (c ++ d) - block_len
-    → decided (c ++ d) ≡ decided c ++ x ∷ [] → told_lines w x ++ loss_line w' s ≡ behind watching c d
-take-lines w w' s c d x e g f q =
-    ap₂ (λ v y. told_lines w x ++ loss_line v y) g f
-    ∙ ap (λ v. told_lines v x ++ loss_line (next v x) (length (c ++ d) - block_len)) e
-    ∙ behind-watch c d (told_lines (watched c) x ++ loss_line (next (watched c) x) (length (c ++ d) - block_len)) (begun-taken c d x q)
+pub take-lines : (style : Style) (w w' : Watched) (s : ℕ) (c d : List Level) (x : Report) → w ≡ watched c → w' ≡ next w x → s ≡ length (c ++ d) - block_len
+    → decided (c ++ d) ≡ decided c ++ x ∷ [] → event_lines style (told_events w x ++ loss_events w' s) ≡ behind (watching style) c d
+take-lines style w w' s c d x e g f q =
+    ap (event_lines style) (ap₂ (λ v y. told_events w x ++ loss_events v y) g f
+    ∙ ap (λ v. told_events v x ++ loss_events (next v x) (length (c ++ d) - block_len)) e)
+    ∙ behind-watch style c d (told_events (watched c) x ++ loss_events (next (watched c) x) (length (c ++ d) - block_len)) (begun-taken c d x q)
 
-pub take-watches : {w : Watched} {b f u b' f' u' : ℕ} (w' w'' : Watched) (s : ℕ) (c d : List Level) (x : Report) → Watches w b f u c
-    → decided (c ++ d) ≡ decided c ++ x ∷ [] → s ≡ length (c ++ d) - block_len → w' ≡ next w x → Tallies b' f' u' (decided c ++ x ∷ [])
-    → w'' ≡ up_to w' s → Watches w'' b' f' u' (c ++ d)
-take-watches {w} {b} {f} {u} {b'} {f'} {u'} w' w'' s c d x h q e g t k = record {
+pub take-watches : {w : Watched} {words : List ℕ} {b f u : ℕ} {words' : List ℕ} {b' f' u' : ℕ} (w' w'' : Watched) (s : ℕ) (c d : List Level) (x : Report)
+    → Watches w words b f u c
+    → decided (c ++ d) ≡ decided c ++ x ∷ [] → s ≡ length (c ++ d) - block_len → w' ≡ next w x → IsKept w'.latest words'
+    → Tallies b' f' u' (decided c ++ x ∷ []) → w'' ≡ up_to w' s → Watches w'' words' b' f' u' (c ++ d)
+take-watches {w} {words} {b} {f} {u} {words'} {b'} {f'} {u'} w' w'' s c d x h q e g m t k = record {
   state_is = k ∙ ap₂ up_to (g ∙ ap (λ v. next v x) h.state_is) e ∙ sym (watched-taken c d x q);
+  kept = subst (λ v. IsKept v.latest words') (sym k) (kept-up w' s words' m);
   tally = subst (Tallies b' f' u') (sym q) t;
 }
 
 -- the end
-pub close-lines : (w : Watched) (n : ℕ) (c : List Level) → w ≡ watched c → n ≡ length c → reports c ≡ decided c ++ [] → last_lines w n ≡ watching.ends c
-close-lines w n c e f q = ap₂ last_lines e f ∙ ends-watch c (last_lines (watched c) (length c)) (all-closed c q)
+pub close-lines : (style : Style) (w : Watched) (n : ℕ) (c : List Level) → w ≡ watched c → n ≡ length c → reports c ≡ decided c ++ []
+    → event_lines style (last_events w n) ≡ (watching style).ends c
+close-lines style w n c e f q = ap (event_lines style) (ap₂ last_events e f) ∙ ends-watch style c (last_events (watched c) (length c)) (all-closed c q)
 
-pub close-ended : {w : Watched} {b f u : ℕ} (w' : Watched) (n : ℕ) (c : List Level) → Watches w b f u c → reports c ≡ decided c ++ [] → n ≡ length c
-    → n ≤ 2 ^ 43 → w' ≡ up_to w n → Ended w'.losses b f u c
-close-ended {w} {b} {f} {u} w' n c h q e s k = record {
+pub close-ended : {w : Watched} {words : List ℕ} {b f u : ℕ} (w' : Watched) (n : ℕ) (c : List Level) → Watches w words b f u c → reports c ≡ decided c ++ []
+    → n ≡ length c → n ≤ 2 ^ 43 → w' ≡ up_to w n → Ended w'.losses b f u c
+close-ended {w} {words} {b} {f} {u} w' n c h q e s k = record {
   short = omega arith;
   losses_is = ap (λ v. v.losses) (k ∙ ap₂ up_to h.state_is e ∙ sym (ended-closed c q));
   tally = subst (Tallies b f u) (sym (q ∙ append-nil (decided c))) h.tally;
 }
 
-pub close_with-lines : (w w' : Watched) (n : ℕ) (c : List Level) (x : Report) → w ≡ watched c → w' ≡ next w x → n ≡ length c
-    → reports c ≡ decided c ++ x ∷ [] → told_lines w x ++ last_lines w' n ≡ watching.ends c
-close_with-lines w w' n c x e g f q =
-    ap₂ (λ v y. told_lines w x ++ last_lines v y) g f ∙ ap (λ v. told_lines v x ++ last_lines (next v x) (length c)) e
-    ∙ ends-watch c (told_lines (watched c) x ++ last_lines (next (watched c) x) (length c)) (all-closed_with c x q)
+pub close_with-lines : (style : Style) (w w' : Watched) (n : ℕ) (c : List Level) (x : Report) → w ≡ watched c → w' ≡ next w x → n ≡ length c
+    → reports c ≡ decided c ++ x ∷ [] → event_lines style (told_events w x ++ last_events w' n) ≡ (watching style).ends c
+close_with-lines style w w' n c x e g f q =
+    ap (event_lines style) (ap₂ (λ v y. told_events w x ++ last_events v y) g f ∙ ap (λ v. told_events v x ++ last_events (next v x) (length c)) e)
+    ∙ ends-watch style c (told_events (watched c) x ++ last_events (next (watched c) x) (length c)) (all-closed_with c x q)
 
-pub close_with-ended : {w : Watched} {b f u b' f' u' : ℕ} (w' w'' : Watched) (n : ℕ) (c : List Level) (x : Report) → Watches w b f u c
+pub close_with-ended : {w : Watched} {words : List ℕ} {b f u b' f' u' : ℕ} (w' w'' : Watched) (n : ℕ) (c : List Level) (x : Report) → Watches w words b f u c
     → reports c ≡ decided c ++ x ∷ [] → n ≡ length c → n ≤ 2 ^ 43 → w' ≡ next w x → Tallies b' f' u' (decided c ++ x ∷ []) → w'' ≡ up_to w' n
     → Ended w''.losses b' f' u' c
-close_with-ended {w} {b} {f} {u} {b'} {f'} {u'} w' w'' n c x h q e s g t k = record {
+close_with-ended {w} {words} {b} {f} {u} {b'} {f'} {u'} w' w'' n c x h q e s g t k = record {
   short = omega arith;
   losses_is = ap (λ v. v.losses) (k ∙ ap₂ up_to (g ∙ ap (λ v. next v x) h.state_is) e ∙ sym (ended-closed_with c x q));
   tally = subst (Tallies b' f' u') (sym q) t;
 }
 
-pub begins-watched : {w : Watched} {b f u : ℕ} → w ≡ unwatched → Tallies b f u [] → Watches w b f u []
+pub begins-watched : {w : Watched} {words : List ℕ} {b f u : ℕ} → w ≡ unwatched → Tallies b f u [] → Watches w words b f u []
 unfolding watched decided block_len block_slots
-begins-watched e t = record { state_is = e; tally = t }
+begins-watched {words = words} e t = record { state_is = e; kept = subst (λ v. IsKept v.latest words) (sym e) tt; tally = t }
+
+-- the same of what is kept behind calls that leave some of it as it was
+pub same-watches : (w : Watched) (words words' : List ℕ) (t t' : Tally) (c : List Level) → words' ≡ words → t' ≡ t
+    → Watches w words t.blocks t.faults t.unfinished c → Watches w words' t'.blocks t'.faults t'.unfinished c
+same-watches w words words' t t' c e f h =
+    subst (λ v. Watches w v t'.blocks t'.faults t'.unfinished c) (sym e)
+    (subst (λ (v : Tally). Watches w words v.blocks v.faults v.unfinished c) (sym f) h)
+
+pub same-ended : (l : ℕ) (t t' : Tally) (c : List Level) → t' ≡ t → Ended l t.blocks t.faults t.unfinished c → Ended l t'.blocks t'.faults t'.unfinished c
+same-ended l t t' c f h = subst (λ (v : Tally). Ended l v.blocks v.faults v.unfinished c) (sym f) h
+
+pub same-tally : (t t' : Tally) (r : List Report) → t' ≡ t → Tallies t.blocks t.faults t.unfinished r → Tallies t'.blocks t'.faults t'.unfinished r
+same-tally t t' r f h = subst (λ (v : Tally). Tallies v.blocks v.faults v.unfinished r) (sym f) h
 
 -- cells are not told as lost more often than there are cells
 few-up : (w : Watched) (q : ℕ) → (up_to w q).losses ≤ w.losses + 1
@@ -330,15 +381,15 @@ few-up w q = go (is_told w q)
     go true = omega arith
     go false = omega arith
 
-few-whole : (w : Watched) (at : ℕ) → (behind_whole w at).losses ≤ w.losses + 1
-few-whole w at = go (slips w at)
+few-whole : (w : Watched) (at : ℕ) (now : Signals) → (behind_whole w at now).losses ≤ w.losses + 1
+few-whole w at now = go (slips w at)
   where
     go : (b : Bool) → cond b (w.losses + 1) w.losses ≤ w.losses + 1
     go true = omega arith
     go false = omega arith
 
 few-next : (w : Watched) (x : Report) → (next w x).losses ≤ w.losses + 2
-few-next w (Whole at s b) = let u = few-up w at in let v = few-whole (up_to w at) at in omega arith
+few-next w (Whole at s b) = let u = few-up w at in let v = few-whole (up_to w at) at (signals_of b) in omega arith
 few-next w (Marked at s wrong) = let u = few-up w at in omega arith
 few-next w (Fault at cell why) = let u = few-up w at in omega arith
 few-next w (Unfinished at cells) = let u = few-up w at in omega arith
@@ -365,7 +416,7 @@ few-ended c =
     let f = few-reports c in
     omega arith
 
-pub loss-room : {w : Watched} {b f u : ℕ} (c d : List Level) (n : ℕ) → Watches w b f u c → n ≡ length (c ++ d) → n ≤ 2 ^ 43 → w.losses ≤ 2 ^ 44 + 1
+pub loss-room : {w : Watched} {words : List ℕ} {b f u : ℕ} (c d : List Level) (n : ℕ) → Watches w words b f u c → n ≡ length (c ++ d) → n ≤ 2 ^ 43 → w.losses ≤ 2 ^ 44 + 1
 loss-room {w} c d n h e s =
     let a : w.losses ≡ (watched c).losses = ap (λ v. v.losses) h.state_is in
     let f = few-watched c in

@@ -10,6 +10,8 @@ use Rattle.aes3_lock.specs.declared.report.Report.TheVariants.{Whole, Marked, Fa
 use Rattle.aes3_lock.specs.Reports.{reports}
 use Rattle.aes3_lock.proofs.Deciding.{block_len_24576}
 use Rattle.aes3_account.specs.Gaps.{Entry, reported, full_gaps, full_count, behind_full, kind, rest_gap, gaps, account_from, reached_from, account, is_lost}
+use Rattle.aes3_account.specs.Signals.{signals_of}
+use Rattle.aes3_account.specs.declared.signals.Signals.{Signals}
 use Rattle.aes3_account.specs.declared.watched.Watched.{Watched}
 use Rattle.aes3_account.specs.Watching.{unwatched, is_told, up_to, slips, behind_whole, next, behind_reports, ended}
 use Rattle.aes3_account.proofs.GapLemmas.{lost-append, lost-full}
@@ -52,15 +54,15 @@ up-more w q = go (is_told w q)
     go true = omega arith
     go false = omega arith
 
-whole-more : (w : Watched) (at : ℕ) → w.losses ≤ (behind_whole w at).losses
-whole-more w at = go (slips w at)
+whole-more : (w : Watched) (at : ℕ) (now : Signals) → w.losses ≤ (behind_whole w at now).losses
+whole-more w at now = go (slips w at)
   where
     go : (b : Bool) → w.losses ≤ cond b (w.losses + 1) w.losses
     go true = omega arith
     go false = omega arith
 
 next-more : (w : Watched) (x : Report) → w.losses ≤ (next w x).losses
-next-more w (Whole at s b) = let u = up-more w at in let v = whole-more (up_to w at) at in omega arith
+next-more w (Whole at s b) = let u = up-more w at in let v = whole-more (up_to w at) at (signals_of b) in omega arith
 next-more w (Marked at s wrong) = up-more w at
 next-more w (Fault at cell why) = up-more w at
 next-more w (Unfinished at cells) = up-more w at
@@ -170,39 +172,39 @@ near-count {w} {n} {p} at h e =
     ap (λ y. count (rest_gap (ltb 0 n) y at)) (near-behind p at b) ∙ rest-count (ltb 0 n) p at ∙ ap (λ (x : Bool). cond {A = ℕ} x 1 0) (sym (slips-is at h)) in
     omega arith
 
-whole-step : (w : Watched) (n p q at : ℕ) (r : List Report) → Even w n p → ((v : Watched) (m k : ℕ) → Even v m k → Goes r q v m k)
-    → Same (count (gaps (ltb 0 n) p at) + count (all_of (n + 1) (at + block_len) r q)) (up_to (behind_reports (behind_whole (up_to w at) at) r) q).losses w.losses
-whole-step w n p q at r h rec = go (either (ltb (at - p) block_len))
+whole-step : (w : Watched) (n p q at : ℕ) (now : Signals) (r : List Report) → Even w n p → ((v : Watched) (m k : ℕ) → Even v m k → Goes r q v m k)
+    → Same (count (gaps (ltb 0 n) p at) + count (all_of (n + 1) (at + block_len) r q)) (up_to (behind_reports (behind_whole (up_to w at) at now) r) q).losses w.losses
+whole-step w n p q at now r h rec = go (either (ltb (at - p) block_len))
   where
-    even : Even (behind_whole (up_to w at) at) (n + 1) (at + block_len)
+    even : Even (behind_whole (up_to w at) at now) (n + 1) (at + block_len)
     even = record { held = refl; place = refl; found = sym (lt-ltb 0 (n + 1) (omega arith)) }
 
     near : ltb (at - p) block_len ≡ true → (slips w at ≡ true) ⊎ (slips w at ≡ false)
-        → Same (count (gaps (ltb 0 n) p at) + count (all_of (n + 1) (at + block_len) r q)) (up_to (behind_reports (behind_whole (up_to w at) at) r) q).losses w.losses
+        → Same (count (gaps (ltb 0 n) p at) + count (all_of (n + 1) (at + block_len) r q)) (up_to (behind_reports (behind_whole (up_to w at) at now) r) q).losses w.losses
     near e (inl s) =
-        let l : (behind_whole (up_to w at) at).losses ≡ w.losses + 1 = ap (λ v. (behind_whole v at).losses) (up-near at h e) ∙ ap (λ (b : Bool). cond b (w.losses + 1) w.losses) s in
+        let l : (behind_whole (up_to w at) at now).losses ≡ w.losses + 1 = ap (λ v. (behind_whole v at now).losses) (up-near at h e) ∙ ap (λ (b : Bool). cond b (w.losses + 1) w.losses) s in
         let c : count (gaps (ltb 0 n) p at) ≡ 1 = near-count at h e ∙ ap (λ (b : Bool). cond {A = ℕ} b 1 0) s in
-        some-more _ (omega arith) (lost-on (behind_whole (up_to w at) at) r q w.losses (omega arith))
+        some-more _ (omega arith) (lost-on (behind_whole (up_to w at) at now) r q w.losses (omega arith))
     near e (inr s) =
         same-on (near-count at h e ∙ ap (λ (b : Bool). cond {A = ℕ} b 1 0) s)
-        (ap (λ v. (behind_whole v at).losses) (up-near at h e) ∙ ap (λ (b : Bool). cond b (w.losses + 1) w.losses) s)
-        (rec (behind_whole (up_to w at) at) (n + 1) (at + block_len) even)
+        (ap (λ v. (behind_whole v at now).losses) (up-near at h e) ∙ ap (λ (b : Bool). cond b (w.losses + 1) w.losses) s)
+        (rec (behind_whole (up_to w at) at now) (n + 1) (at + block_len) even)
 
     go : (ltb (at - p) block_len ≡ true) ⊎ (ltb (at - p) block_len ≡ false)
-        → Same (count (gaps (ltb 0 n) p at) + count (all_of (n + 1) (at + block_len) r q)) (up_to (behind_reports (behind_whole (up_to w at) at) r) q).losses w.losses
+        → Same (count (gaps (ltb 0 n) p at) + count (all_of (n + 1) (at + block_len) r q)) (up_to (behind_reports (behind_whole (up_to w at) at now) r) q).losses w.losses
     go (inl e) = near e (either (slips w at))
     go (inr e) =
         let u = up-far at h e in
-        let m = whole-more (up_to w at) at in
+        let m = whole-more (up_to w at) at now in
         let c = gaps-count (ltb 0 n) p at in
         let f = far-some p at e in
-        some-more _ (omega arith) (lost-on (behind_whole (up_to w at) at) r q w.losses (omega arith))
+        some-more _ (omega arith) (lost-on (behind_whole (up_to w at) at now) r q w.losses (omega arith))
 
 goes : (r : List Report) (w : Watched) (n p q : ℕ) → Even w n p → Goes r q w n p
 goes [] w n p q h = at-end w n p q h
 goes (Whole at s b ∷ r) w n p q h =
     same-is (front-count (gaps (ltb 0 n) p at) (account_from (n + 1) (at + block_len) r) (Whole at s b) (gaps false (reached_from (at + block_len) r) q))
-    (whole-step w n p q at r h (λ v m k e. goes r v m k q e))
+    (whole-step w n p q at (signals_of b) r h (λ v m k e. goes r v m k q e))
 goes (Marked at s wrong ∷ r) w n p q h =
     same-is (front-count (full_gaps p (full_count p at)) (account_from (n + 0) (behind_full p at) r) (Marked at s wrong) (gaps false (reached_from (behind_full p at) r) q)
     ∙ ap (λ m. m + count (all_of (n + 0) (behind_full p at) r q)) (lost-full p (full_count p at)))

@@ -3,5 +3,6 @@ pub mod GapLines
 pub mod CellReports
 pub mod Accounting
 pub mod GapLaws
+pub mod Signals
 pub mod Watching
 pub mod WatchLaws

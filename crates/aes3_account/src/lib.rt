@@ -14,6 +14,8 @@ mod gap;
 pub mod laws;
 /// What is accounted for of all cells.
 mod ledger;
+/// What the whole blocks of a line say of their samples, and where that changes.
+mod signals;
 /// What is known of a line that is watched.
 mod watched;
 /// A line watched: what changes, in a few lines.
@@ -21,4 +23,4 @@ mod watching;
 
 pub use accounting::account;
 pub use gap::line_of_gap;
-pub use watching::{line_of_end, line_of_lock, line_of_loss, line_of_return, line_of_slip, watch};
+pub use watching::watch;

@@ -1,5 +1,7 @@
 //! What is known of a line that is watched.
 
+use crate::signals::Signals;
+
 /// What is known of a line of which some cells have come.
 #[derive(Clone, Copy)]
 pub(crate) struct Watched {
@@ -11,4 +13,6 @@ pub(crate) struct Watched {
     pub(crate) lost: bool,
     /// How often cells were told as lost, and whole blocks as slipped.
     pub(crate) losses: u64,
+    /// What the last whole block says of its samples, if there is one.
+    pub(crate) latest: Option<Signals>,
 }

@@ -1,117 +1,49 @@
 //! A line watched: what changes, in a few lines.
 
-ghost use Rattle.std.specs.Prelude.{◌≡◌, ℕ, ◌+◌, ◌<◌, ◌≤◌, ◌^◌, ◌++◌, List, [], ◌∷◌, length, IfOk, IfErr};
+ghost use Rattle.std.specs.Prelude.{◌≡◌, ℕ, ◌+◌, ◌<◌, ◌≤◌, ◌^◌, ◌++◌, ◌∷◌, [], List, Some, IfOk, length};
+ghost use Rattle.arrayvec.specs.ArrayVec.{array_vec_len};
 ghost use Rattle.aes3_cell.specs.Ends.{Grew, Told};
 ghost use Rattle.aes3_cell.specs.Writes.{Wrote};
-ghost use Rattle.aes3_lock.specs.declared.report.Report.{Report};
+ghost use Rattle.aes3_slot.specs.ReadWords.{read_words};
 ghost use Rattle.aes3_lock.specs.Following.{report_in};
+ghost use Rattle.aes3_lock.specs.Outcomes.{payloads_of};
 ghost use Rattle.aes3_lock.specs.Remains.{place_of};
 ghost use Rattle.aes3_input.specs.Driving.{CellRun};
 ghost use Rattle.aes3_input.specs.Inputs.{cells_of};
 ghost use Rattle.aes3_input.specs.Running.{movement_of};
-ghost use Rattle.aes3_lock.specs.Tallies.{IsTallyOf};
-ghost use Rattle.aes3_account.specs.Watching.{Ended, Watches, back_line, begun_watch, behind_whole};
-ghost use Rattle.aes3_account.specs.Watching.{end_line, is_locked, is_told, locked_line, loss_line, lost_line, next};
-ghost use Rattle.aes3_account.specs.Watching.{slipped_line, slips, told_lines, unwatched, up_to, watch_counts, watch_lines};
-ghost use Rattle.aes3_account.specs.Watching.{watching, whole_line};
+ghost use Rattle.aes3_lines.specs.declared.event.Event.TheVariants.{End};
+ghost use Rattle.aes3_account.specs.Signals.{change_events, signals_of};
+ghost use Rattle.aes3_account.specs.Watching.{Ended, IsKept, Watches, begun_watch, behind_whole};
+ghost use Rattle.aes3_account.specs.Watching.{event_lines, is_locked, is_told, loss_events, next};
+ghost use Rattle.aes3_account.specs.Watching.{slips, told_events, unwatched, up_to, watch_counts};
+ghost use Rattle.aes3_account.specs.Watching.{watch_lines, watching, whole_events};
 
 use crate::cell_reporter::CellReporter;
 use crate::counted::Counted;
+use crate::signals::{EVENTS, Signals, add_changes, carry_the_same};
 use crate::watched::Watched;
+use aes3_block::SLOTS;
 use aes3_cell::{Counts, Fault, Form, Level, RunError, Sink, Source};
 use aes3_input::drive;
-use aes3_lines::Tail;
+use aes3_lines::{Event, Style, line_of_event};
 use aes3_lock::{Ending, Lock, Tally};
+use arrayvec::ArrayVec;
 
 /// How many cells a block has (AES3-3).
 const BLOCK_CELLS: u64 = 24_576;
 
-/// Writes the line of the first whole block, which begins at cell `at` behind this level.
+/// Writes the lines of events.
 ///
 /// # Errors
-/// The sink's fault; then it has taken a front of the line.
-pub fn line_of_lock<T: Sink>(at: u64, before: Level, sink: &mut T) -> Result<(), Fault>
+/// The sink's fault; then it has taken a front of the lines.
+fn put_events<T: Sink>(style: &Style, events: &[Event], sink: &mut T) -> Result<(), Fault>
     requires room { T.failed sink.old + 1 < 2 ^ 64 }
-    ensures { Wrote T.taken T.failed sink.old sink.new (locked_line at before) result }
+    ensures { Wrote T.taken T.failed sink.old sink.new (event_lines style.now events.now) result }
 {
-    let mut line = Tail::new();
-    line.text(b"\n");
-    line.level(before);
-    line.text(b" before ");
-    line.number(at);
-    line.text(b"locked at ");
-    line.hand_on(sink)
-}
-
-/// Writes the line of cells from cell `at` on, a block's length at least, that lie in no whole
-/// block.
-///
-/// # Errors
-/// The sink's fault; then it has taken a front of the line.
-pub fn line_of_loss<T: Sink>(at: u64, sink: &mut T) -> Result<(), Fault>
-    requires room { T.failed sink.old + 1 < 2 ^ 64 }
-    ensures { Wrote T.taken T.failed sink.old sink.new (lost_line at) result }
-{
-    let mut line = Tail::new();
-    line.text(b"\n");
-    line.number(at);
-    line.text(b"lost at ");
-    line.hand_on(sink)
-}
-
-/// Writes the line of the first whole block, at cell `at`, behind `cells` lost cells.
-///
-/// # Errors
-/// The sink's fault; then it has taken a front of the line.
-pub fn line_of_return<T: Sink>(at: u64, cells: u64, sink: &mut T) -> Result<(), Fault>
-    requires room { T.failed sink.old + 1 < 2 ^ 64 }
-    ensures { Wrote T.taken T.failed sink.old sink.new (back_line at cells) result }
-{
-    let mut line = Tail::new();
-    line.text(b"\n");
-    line.number(cells);
-    line.text(b" lost ");
-    line.number(at);
-    line.text(b"back at ");
-    line.hand_on(sink)
-}
-
-/// Writes the line of a whole block at cell `at`, `cells` cells, fewer than a block has, behind the
-/// one before it.
-///
-/// # Errors
-/// The sink's fault; then it has taken a front of the line.
-pub fn line_of_slip<T: Sink>(at: u64, cells: u64, sink: &mut T) -> Result<(), Fault>
-    requires room { T.failed sink.old + 1 < 2 ^ 64 }
-    ensures { Wrote T.taken T.failed sink.old sink.new (slipped_line at cells) result }
-{
-    let mut line = Tail::new();
-    line.text(b"\n");
-    line.number(cells);
-    line.text(b" cells ");
-    line.number(at);
-    line.text(b"slipped at ");
-    line.hand_on(sink)
-}
-
-/// Writes the line of the end of `at` cells.
-///
-/// # Errors
-/// The sink's fault; then it has taken a front of the line.
-pub fn line_of_end<T: Sink>(at: u64, locked: bool, sink: &mut T) -> Result<(), Fault>
-    requires room { T.failed sink.old + 1 < 2 ^ 64 }
-    ensures { Wrote T.taken T.failed sink.old sink.new (end_line at locked) result }
-{
-    let mut line = Tail::new();
-    line.text(b"\n");
-    if locked {
-        line.text(b" locked");
-    } else {
-        line.text(b" lost");
+    for event in events {
+        line_of_event(style, event, sink)?;
     }
-    line.number(at);
-    line.text(b"end at ");
-    line.hand_on(sink)
+    Ok(())
 }
 
 impl Watched {
@@ -124,6 +56,7 @@ impl Watched {
             place: 0,
             lost: false,
             losses: 0,
+            latest: None,
         }
     }
 
@@ -164,14 +97,15 @@ impl Watched {
             place: self.place,
             lost: true,
             losses: self.losses + 1,
+            latest: self.latest,
         }
     }
 
-    /// Goes on behind a whole block at cell `at`.
-    fn behind_whole(self, at: u64) -> Self
+    /// Goes on behind a whole block at cell `at`, which says this of its samples.
+    fn behind_whole(self, at: u64, now: Signals) -> Self
         requires few { self.losses + 1 < 2 ^ 64 }
         requires near { at ≤ 2 ^ 43 }
-        ensures { result ≡ behind_whole self at }
+        ensures { result ≡ behind_whole self at now }
     {
         let slips = self.slips(at);
         Watched {
@@ -179,177 +113,189 @@ impl Watched {
             place: at + BLOCK_CELLS,
             lost: false,
             losses: if slips { self.losses + 1 } else { self.losses },
+            latest: Some(now),
         }
     }
 
-    /// Writes the line of cells up to cell `to` where they are to be told as lost.
-    ///
-    /// # Errors
-    /// The sink's fault; then it has taken a front of the line.
-    fn tell_loss<T: Sink>(&self, sink: &mut T, to: u64) -> Result<(), Fault>
-        requires room { T.failed sink.old + 1 < 2 ^ 64 }
-        ensures { Wrote T.taken T.failed sink.old sink.new (loss_line self.now to) result }
+    /// Adds the event of cells up to cell `to` where they are to be told as lost.
+    fn add_loss(&self, events: &mut ArrayVec<Event, EVENTS>, to: u64)
+        requires { array_vec_len events.old + 1 ≤ EVENTS }
+        ensures events { events.new.items ≡ events.old.items ++ loss_events self.now to }
+        ensures len { array_vec_len events.new ≤ array_vec_len events.old + 1 }
     {
-        if self.is_told(to) {
-            return Ok(());
+        if !self.is_told(to) {
+            events.push(Event::Lost { at: self.place });
         }
-        line_of_loss(self.place, sink)
     }
 
-    /// Writes the line of a whole block, where it gets one.
-    ///
-    /// # Errors
-    /// The sink's fault; then it has taken a front of the line.
-    fn tell_whole<T: Sink>(&self, sink: &mut T, at: u64, before: Level) -> Result<(), Fault>
-        requires room { T.failed sink.old + 1 < 2 ^ 64 }
-        ensures { Wrote T.taken T.failed sink.old sink.new (whole_line self.now at before) result }
+    /// Adds the event of a whole block's place, where it gets one.
+    fn add_whole(&self, events: &mut ArrayVec<Event, EVENTS>, at: u64, before: Level)
+        requires { array_vec_len events.old + 1 ≤ EVENTS }
+        ensures events { events.new.items ≡ events.old.items ++ whole_events self.now at before }
+        ensures len { array_vec_len events.new ≤ array_vec_len events.old + 1 }
     {
         if !self.found {
-            line_of_lock(at, before, sink)
+            events.push(Event::Locked { at, before });
         } else if self.lost {
-            line_of_return(at, at.saturating_sub(self.place), sink)
+            let lost = at.saturating_sub(self.place);
+            events.push(Event::Back { at, lost });
         } else if self.place < at {
-            line_of_slip(at, at - self.place, sink)
-        } else {
-            Ok(())
+            let cells = at - self.place;
+            events.push(Event::Slipped { at, cells });
         }
     }
+}
+
+/// The words of no block.
+fn no_words() -> [u64; SLOTS] {
+    [0; SLOTS]
 }
 
 /// What is kept of a line that is watched.
 #[derive(Drop)]
 struct Watcher {
+    style: Style,
     state: Watched,
+    /// The cells of a whole block that says the same of its samples as the last one.
+    words: [u64; SLOTS],
     tally: Tally,
 }
 
 impl Watcher {
     /// No cell has come.
-    fn new() -> Self
-        ensures { Watches result.state result.tally.blocks result.tally.faults result.tally.unfinished [] }
+    fn new(style: Style) -> Self
+        ensures state { Watches result.state result.words result.tally.blocks result.tally.faults
+            result.tally.unfinished [] }
+        ensures style { result.style ≡ style }
     {
         Watcher {
+            style,
             state: Watched::new(),
+            words: no_words(),
             tally: Tally::new(),
         }
     }
 
-    /// Goes on to cell `to`, before which no whole block begins.
-    ///
-    /// # Errors
-    /// The sink's fault; then it has taken a front of the line that this writes.
-    fn tell_loss<T: Sink>(&mut self, sink: &mut T, to: u64) -> Result<(), Fault>
-        requires room { T.failed sink.old + 1 < 2 ^ 64 }
-        requires few { self.old.state.losses + 1 < 2 ^ 64 }
+    /// What a lock's whole block says of its samples.
+    fn signals(&mut self, lock: &Lock) -> Signals
+        requires { IsKept self.old.state.latest self.old.words }
+        ensures signals { result ≡ signals_of (payloads_of (read_words lock.now.words)) }
+        ensures kept { result ≡ signals_of (payloads_of (read_words self.new.words)) }
+        ensures style { self.new.style ≡ self.old.style }
+        ensures state { self.new.state ≡ self.old.state }
         ensures tally { self.new.tally ≡ self.old.tally }
-        ensures state { IfOk result (λ _. self.new.state ≡ up_to self.old.state to) }
-        ensures few { IfOk result (λ _. self.new.state.losses ≤ self.old.state.losses + 1) }
-        ensures wrote { Wrote T.taken T.failed sink.old sink.new (loss_line self.old.state to) result }
     {
-        self.state.tell_loss(sink, to)?;
-        self.state = self.state.up_to(to);
-        Ok(())
-    }
-
-    /// Goes on to a whole block at cell `at`, and behind it.
-    ///
-    /// # Errors
-    /// The sink's fault; then it has taken a front of the lines that this writes.
-    fn tell_whole<T: Sink>(&mut self, sink: &mut T, at: u64, before: Level) -> Result<(), Fault>
-        requires room { T.failed sink.old + 1 < 2 ^ 64 }
-        requires few { self.old.state.losses + 2 < 2 ^ 64 }
-        requires near { at ≤ 2 ^ 43 }
-        ensures tally { self.new.tally ≡ self.old.tally }
-        ensures state { IfOk result (λ _. self.new.state ≡ behind_whole (up_to self.old.state at) at) }
-        ensures few { IfOk result (λ _. self.new.state.losses ≤ self.old.state.losses + 2) }
-        ensures wrote { Wrote T.taken T.failed sink.old sink.new
-            (loss_line self.old.state at ++ whole_line (up_to self.old.state at) at before) result }
-    {
-        self.tell_loss(sink, at)?;
-        self.state.tell_whole(sink, at, before)?;
-        self.state = self.state.behind_whole(at);
-        Ok(())
-    }
-
-    /// Goes on to a report.
-    ///
-    /// # Errors
-    /// The sink's fault; then it has taken a front of the report's lines.
-    fn tell_report<T: Sink>(
-        &mut self,
-        sink: &mut T,
-        lock: &Lock,
-        ending: Ending,
-    ) -> Result<(), Fault>
-        requires room { T.failed sink.old + 1 < 2 ^ 64 }
-        requires few { self.old.state.losses + 2 < 2 ^ 64 }
-        requires near { place_of (report_in lock.now ending) ≤ 2 ^ 43 }
-        ensures tally { self.new.tally ≡ self.old.tally }
-        ensures state { IfOk result (λ _. self.new.state
-            ≡ next self.old.state (report_in lock.now ending)) }
-        ensures few { IfOk result (λ _. self.new.state.losses ≤ self.old.state.losses + 2) }
-        ensures wrote { Wrote T.taken T.failed sink.old sink.new
-            (told_lines self.old.state (report_in lock.now ending)) result }
-    {
-        match ending {
-            Ending::Whole { at, before } => self.tell_whole(sink, at, before),
-            Ending::Marked { at, .. } => self.tell_loss(sink, at),
-            Ending::Fault { at, .. } => self.tell_loss(sink, at),
-            Ending::Unfinished { at, .. } => self.tell_loss(sink, at),
+        let words = lock.words();
+        match self.state.latest {
+            Some(latest) if carry_the_same(words, &self.words) => latest,
+            _ => {
+                self.words = *words;
+                Signals::of(&lock.gathered().block())
+            }
         }
     }
 
-    /// Goes on to a report, and counts it.
-    ///
-    /// # Errors
-    /// The sink's fault; then it has taken a front of the report's lines.
-    fn tell<T: Sink>(&mut self, sink: &mut T, lock: &Lock, ending: Ending) -> Result<(), Fault>
-        requires room { T.failed sink.old + 1 < 2 ^ 64 }
+    /// Goes on to cell `to`, before which no whole block begins.
+    fn go_on(&mut self, events: &mut ArrayVec<Event, EVENTS>, to: u64)
+        requires few { self.old.state.losses + 1 < 2 ^ 64 }
+        requires room { array_vec_len events.old + 1 ≤ EVENTS }
+        ensures style { self.new.style ≡ self.old.style }
+        ensures words { self.new.words ≡ self.old.words }
+        ensures tally { self.new.tally ≡ self.old.tally }
+        ensures state { self.new.state ≡ up_to self.old.state to }
+        ensures few { self.new.state.losses ≤ self.old.state.losses + 1 }
+        ensures latest { self.new.state.latest ≡ self.old.state.latest }
+        ensures events { events.new.items ≡ events.old.items ++ loss_events self.old.state to }
+        ensures len { array_vec_len events.new ≤ array_vec_len events.old + 1 }
+    {
+        self.state.add_loss(events, to);
+        self.state = self.state.up_to(to);
+    }
+
+    /// Goes on to a lock's whole block at cell `at`, and behind it.
+    fn take_whole(
+        &mut self,
+        events: &mut ArrayVec<Event, EVENTS>,
+        lock: &Lock,
+        at: u64,
+        before: Level,
+    )
+        requires few { self.old.state.losses + 2 < 2 ^ 64 }
+        requires near { at ≤ 2 ^ 43 }
+        requires kept { IsKept self.old.state.latest self.old.words }
+        requires room { array_vec_len events.old + 6 ≤ EVENTS }
+        ensures style { self.new.style ≡ self.old.style }
+        ensures tally { self.new.tally ≡ self.old.tally }
+        ensures kept { IsKept self.new.state.latest self.new.words }
+        ensures state { self.new.state ≡ behind_whole (up_to self.old.state at) at
+            (signals_of (payloads_of (read_words lock.now.words))) }
+        ensures few { self.new.state.losses ≤ self.old.state.losses + 2 }
+        ensures events { events.new.items ≡ events.old.items ++ (loss_events self.old.state at
+            ++ (whole_events (up_to self.old.state at) at before
+            ++ change_events at self.old.state.latest
+            (signals_of (payloads_of (read_words lock.now.words))))) }
+        ensures len { array_vec_len events.new ≤ array_vec_len events.old + 6 }
+    {
+        self.go_on(events, at);
+        self.state.add_whole(events, at, before);
+        let now = self.signals(lock);
+        add_changes(events, at, &self.state.latest, &now);
+        self.state = self.state.behind_whole(at, now);
+    }
+
+    /// Goes on to a report.
+    fn take_report(&mut self, events: &mut ArrayVec<Event, EVENTS>, lock: &Lock, ending: Ending)
         requires few { self.old.state.losses + 2 < 2 ^ 64 }
         requires near { place_of (report_in lock.now ending) ≤ 2 ^ 43 }
-        requires tally { (r : List Report) × (length r + 1 < 2 ^ 44) × IsTallyOf self.old.tally r }
-        ensures tally { IfOk result (λ _. (r : List Report) → IsTallyOf self.old.tally r
-            → IsTallyOf self.new.tally (r ++ (report_in lock.now ending) ∷ [])) }
-        ensures state { IfOk result (λ _. self.new.state
-            ≡ next self.old.state (report_in lock.now ending)) }
-        ensures few { IfOk result (λ _. self.new.state.losses ≤ self.old.state.losses + 2) }
-        ensures wrote { Wrote T.taken T.failed sink.old sink.new
-            (told_lines self.old.state (report_in lock.now ending)) result }
+        requires kept { IsKept self.old.state.latest self.old.words }
+        requires room { array_vec_len events.old + 6 ≤ EVENTS }
+        ensures style { self.new.style ≡ self.old.style }
+        ensures tally { self.new.tally ≡ self.old.tally }
+        ensures kept { IsKept self.new.state.latest self.new.words }
+        ensures state { self.new.state ≡ next self.old.state (report_in lock.now ending) }
+        ensures few { self.new.state.losses ≤ self.old.state.losses + 2 }
+        ensures events { events.new.items ≡ events.old.items
+            ++ told_events self.old.state (report_in lock.now ending) }
+        ensures len { array_vec_len events.new ≤ array_vec_len events.old + 6 }
     {
-        self.tell_report(sink, lock, ending)?;
-        self.tally.count(lock, ending);
-        Ok(())
+        match ending {
+            Ending::Whole { at, before } => self.take_whole(events, lock, at, before),
+            Ending::Marked { at, .. } => self.go_on(events, at),
+            Ending::Fault { at, .. } => self.go_on(events, at),
+            Ending::Unfinished { at, .. } => self.go_on(events, at),
+        }
     }
 
     /// Goes on to the end of `seen` cells.
-    ///
-    /// # Errors
-    /// The sink's fault; then it has taken a front of the lines that this writes.
-    fn end<T: Sink>(&mut self, sink: &mut T, seen: u64) -> Result<(), Fault>
-        requires room { T.failed sink.old + 1 < 2 ^ 64 }
+    fn end(&mut self, events: &mut ArrayVec<Event, EVENTS>, seen: u64)
         requires few { self.old.state.losses + 1 < 2 ^ 64 }
+        requires room { array_vec_len events.old + 2 ≤ EVENTS }
+        ensures style { self.new.style ≡ self.old.style }
         ensures tally { self.new.tally ≡ self.old.tally }
-        ensures state { IfOk result (λ _. self.new.state ≡ up_to self.old.state seen) }
-        ensures wrote { Wrote T.taken T.failed sink.old sink.new
-            (loss_line self.old.state seen ++ end_line seen (is_locked (up_to self.old.state seen)))
-            result }
+        ensures state { self.new.state ≡ up_to self.old.state seen }
+        ensures events { events.new.items ≡ events.old.items ++ (loss_events self.old.state seen
+            ++ End seen (is_locked (up_to self.old.state seen)) ∷ []) }
     {
-        self.tell_loss(sink, seen)?;
-        line_of_end(seen, self.state.is_locked(), sink)?;
-        Ok(())
+        self.go_on(events, seen);
+        events.push(Event::End {
+            at: seen,
+            locked: self.state.is_locked(),
+        });
     }
 }
 
 impl CellReporter for Watcher {
-    ghost follows = { λ k. Watches k.state k.tally.blocks k.tally.faults k.tally.unfinished };
+    ghost follows = { λ k.
+        Watches k.state k.words k.tally.blocks k.tally.faults k.tally.unfinished };
 
-    ghost writes = { λ _. watching };
+    ghost writes = { λ k. watching k.style };
 
     ghost finished = { λ k. Ended k.state.losses k.tally.blocks k.tally.faults k.tally.unfinished };
 
     fn pass<T: Sink>(&mut self, sink: &mut T, seen: u64) -> Result<(), Fault> {
-        self.tell_loss(sink, seen.saturating_sub(BLOCK_CELLS))?;
-        Ok(())
+        let mut events = ArrayVec::new();
+        self.go_on(&mut events, seen.saturating_sub(BLOCK_CELLS));
+        put_events(&self.style, &events, sink)
     }
 
     fn take<T: Sink>(
@@ -359,14 +305,17 @@ impl CellReporter for Watcher {
         ending: Ending,
         seen: u64,
     ) -> Result<(), Fault> {
-        self.tell(sink, lock, ending)?;
-        self.tell_loss(sink, seen.saturating_sub(BLOCK_CELLS))?;
-        Ok(())
+        let mut events = ArrayVec::new();
+        self.take_report(&mut events, lock, ending);
+        self.tally.count(lock, ending);
+        self.go_on(&mut events, seen.saturating_sub(BLOCK_CELLS));
+        put_events(&self.style, &events, sink)
     }
 
     fn close<T: Sink>(&mut self, sink: &mut T, seen: u64) -> Result<(), Fault> {
-        self.end(sink, seen)?;
-        Ok(())
+        let mut events = ArrayVec::new();
+        self.end(&mut events, seen);
+        put_events(&self.style, &events, sink)
     }
 
     fn close_with<T: Sink>(
@@ -376,16 +325,20 @@ impl CellReporter for Watcher {
         ending: Ending,
         seen: u64,
     ) -> Result<(), Fault> {
-        self.tell(sink, lock, ending)?;
-        self.end(sink, seen)?;
-        Ok(())
+        let mut events = ArrayVec::new();
+        self.take_report(&mut events, lock, ending);
+        self.tally.count(lock, ending);
+        self.end(&mut events, seen);
+        put_events(&self.style, &events, sink)
     }
 }
 
 /// Reads cells from any cell on, and writes a line where what is known of them as an AES3 line
 /// changes: `locked` at the first whole block; `lost` where a block's length of cells or more lies
 /// in no whole block; `back` at the first whole block behind them; `slipped` at a whole block that
-/// stands fewer cells than that behind the one before it; and `end`.
+/// stands fewer cells than that behind the one before it; `status` and `validity` at a whole block
+/// of which a channel's status (AES3-2, IEC 60958-3) is not that of the one before it, or its
+/// validity bits are not all 0, all 1 or mixed as there; and `end`.
 ///
 /// A loss is written when a report behind it is decided, or two blocks' cells have come from its
 /// first cell on. The counts have losses and slips among the faults: there is one where a gap of
@@ -399,6 +352,7 @@ pub fn watch<S: Source, T: Sink>(
     sink: &mut T,
     max_bytes: u64,
     input: Form,
+    style: Style,
 ) -> Result<Counts, RunError>
     requires source_room { S.failed source.old + 1 < 2 ^ 64 }
     requires sink_room { T.failed sink.old + 1 < 2 ^ 64 }
@@ -407,15 +361,15 @@ pub fn watch<S: Source, T: Sink>(
     // Where it answers Ok, exactly the lines of the cells are written.
     ensures lines { IfOk result (λ _. (b : List ℕ)
         → Told (S.given source.old) (S.given source.new) b
-        → Grew (T.taken sink.old) (T.taken sink.new) (watch_lines (cells_of input b))) }
+        → Grew (T.taken sink.old) (T.taken sink.new) (watch_lines style (cells_of input b))) }
     // It is a run over cells: Ok is owed, a refusal has its cause, and what stood before it is
     // written.
-    ensures run { CellRun max_bytes input watch_lines begun_watch (watch_counts input)
+    ensures run { CellRun max_bytes input (watch_lines style) (begun_watch style) (watch_counts input)
         (S.has_ended source.new) (movement_of S.given S.failed source.old source.new)
         (movement_of T.taken T.failed sink.old sink.new) result }
     ensures passed_on { IfOk result (λ _. T.passed sink.new ≡ T.taken sink.new) }
 {
-    let mut taker = Counted::new(Watcher::new());
+    let mut taker = Counted::new(Watcher::new(style));
     match drive(source, sink, max_bytes, input, &mut taker) {
         Ok((bytes, cells)) => {
             let told = &taker.reporter;

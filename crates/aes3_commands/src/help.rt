@@ -199,7 +199,7 @@ Examples:
 };
 
 pub const WATCH: Texts<'static> = Texts {
-    about: "Print where a line locks, is lost, comes back and slips",
+    about: "Print where a line locks, is lost, comes back, slips or changes",
     usage: "aes3 watch [--packed-in] [FILE]",
     more: "Reads cells, begun anywhere and in either polarity, as long as they come.
 Writes a line only where something changes. P numbers the cells from 0:
@@ -208,6 +208,10 @@ Writes a line only where something changes. P numbers the cells from 0:
   back at P lost N       the first whole block behind them begins at P, N cells behind
   slipped at P cells N   a whole block begins at P, N cells, fewer than a block has, behind
                          the one before it: cells were lost or doubled
+  status at P channel C HEX48  the block at P has another status of channel C than the
+                         whole block before it
+  validity at P channel C V    its validity bits are otherwise than there: V is `clear`
+                         where all are 0, `set` where all are 1, or `mixed`
   end at P locked        the cells end at P, fewer than a block has behind a whole block
   end at P lost          they end otherwise
 `lost` comes once a line of `check` behind that block's length is due, or two blocks' cells

@@ -1,5 +1,5 @@
 -- What is told of a line that is watched: events, each a line of words or a JSON object. Numbers are decimal.
-use Rattle.std.specs.Prelude.{ℕ, List, [], ◌∷◌, ◌++◌, ◌+◌, ◌*◌, ◌/◌, ◌%◌, Bool, true, false, Option, Some, None, codes, decimal}
+use Rattle.std.specs.Prelude.{ℕ, List, [], ◌∷◌, ◌++◌, ◌+◌, ◌*◌, ◌/◌, ◌%◌, Bool, true, false, Option, Some, None, max, codes, decimal}
 use Rattle.hex.specs.Hex.{encode_lower}
 use Rattle.aes3_lines.specs.declared.event.Event.{Event}
 use Rattle.aes3_lines.specs.declared.event.Event.TheVariants.{Locked, Lost, Back, Slipped, Status, Validity, End}
@@ -32,18 +32,20 @@ unfoldable pub word_field : Notation → List ℕ → List ℕ → List ℕ
 word_field Words name word = codes " " ++ word
 word_field Json name word = codes ",\"" ++ name ++ codes "\":\"" ++ word ++ codes "\""
 
--- the milliseconds that are whole at a cell's beginning, of a line of so many frames a second: a frame has 128 cells
-abbrev pub milliseconds : ℕ → ℕ → ℕ
-milliseconds rate at = 1000 * at / (128 * rate)
+-- how many cells a second has on a line of so many frames a second, one at least: a frame has 128
+abbrev pub second_cells : ℕ → ℕ
+second_cells rate = 128 * max rate 1
 
--- milliseconds as seconds with three places
-unfoldable pub seconds : ℕ → List ℕ
-seconds n = decimal (n / 1000) ++ 46 ∷ (48 + n / 100 % 10) ∷ (48 + n / 10 % 10) ∷ (48 + n % 10) ∷ []
+-- the time at which a cell begins, in seconds with three places, where a second has so many cells
+unfoldable pub seconds : ℕ → ℕ → List ℕ
+seconds cells at =
+    let thousandths = 1000 * (at % cells) / cells in
+    decimal (at / cells) ++ 46 ∷ (48 + thousandths / 100 % 10) ∷ (48 + thousandths / 10 % 10) ∷ (48 + thousandths % 10) ∷ []
 
 -- where an event is: its cell and, where the rate is known, the time
 unfoldable pub time_field : Notation → Option ℕ → ℕ → List ℕ
 time_field notation None at = []
-time_field notation (Some rate) at = number_field notation (codes "time") (seconds (milliseconds rate at))
+time_field notation (Some rate) at = number_field notation (codes "time") (seconds (second_cells rate) at)
 
 unfoldable pub place_fields : Style → ℕ → List ℕ
 place_fields style at = number_field style.notation (codes "at") (decimal at) ++ time_field style.notation style.rate at

@@ -5,7 +5,7 @@ ghost use Rattle.aes3_cell.specs.Writes.{Wrote};
 ghost use Rattle.hex.specs.Hex.{encode_lower};
 ghost use Rattle.aes3_lines.specs.Events.{closing, event_fields, event_line, event_place};
 ghost use Rattle.aes3_lines.specs.Events.{event_word, field_name, lock_word, marking_word};
-ghost use Rattle.aes3_lines.specs.Events.{milliseconds, number_field, opening, place_fields};
+ghost use Rattle.aes3_lines.specs.Events.{number_field, opening, place_fields, second_cells};
 ghost use Rattle.aes3_lines.specs.Events.{seconds, time_field, word_field};
 ghost use Rattle.aes3_lines.specs.MarkLines.{level_digit};
 ghost use Rattle.aes3_lines.specs.StatusLines.{channel_digit};
@@ -93,7 +93,7 @@ pub enum Notation {
 #[derive(Clone, Copy, PartialEq, Eq)]
 pub struct Style {
     pub notation: Notation,
-    /// How many frames a second has, where times are written. Behind 0 each is `0.000`.
+    /// How many frames a second has, one at least, where times are written.
     pub rate: Option<u32>,
 }
 
@@ -191,50 +191,50 @@ fn digit(number: u64) -> u8
     b'0' + (number % 10) as u8
 }
 
-/// Appends milliseconds as seconds.
-#[tactic(auto, unfolding(crate::specs::Events::seconds))]
-fn put_seconds(line: &mut Line, milliseconds: u64)
-    requires space { length line.old + DIGITS + 4 ≤ LINE_LEN }
-    ensures text { line.new ≡ line.old ++ seconds milliseconds }
-    ensures len { length line.new ≤ length line.old + DIGITS + 4 }
+/// How many cells a second has on a line of so many frames a second.
+fn second_cells(rate: u32) -> u64
+    ensures cells { result ≡ second_cells rate }
+    ensures some { 0 < result }
+    ensures few { result < 2 ^ 40 }
 {
-    line.number(milliseconds / 1000);
-    line.bytes(&[
-        b'.',
-        digit(milliseconds / 100),
-        digit(milliseconds / 10),
-        digit(milliseconds),
-    ]);
+    FRAME_CELLS * u64::from(rate.max(1))
 }
 
-/// The milliseconds that are whole where cell `at` begins, on a line of `rate` frames a second.
-fn milliseconds(rate: u32, at: u64) -> u64
-    requires { at ≤ 2 ^ 53 }
-    ensures { result ≡ milliseconds rate at }
+/// Appends the time at which cell `at` begins, in seconds, where a second has so many cells.
+#[tactic(auto, unfolding(crate::specs::Events::seconds))]
+fn put_seconds(line: &mut Line, cells: u64, at: u64)
+    requires some { 0 < cells }
+    requires few { cells < 2 ^ 40 }
+    requires space { length line.old + DIGITS + 4 ≤ LINE_LEN }
+    ensures text { line.new ≡ line.old ++ seconds cells at }
+    ensures len { length line.new ≤ length line.old + DIGITS + 4 }
 {
-    (1000 * at)
-        .checked_div(FRAME_CELLS * u64::from(rate))
-        .unwrap_or(0)
+    line.number(at / cells);
+    let thousandths = 1000 * (at % cells) / cells;
+    line.bytes(&[
+        b'.',
+        digit(thousandths / 100),
+        digit(thousandths / 10),
+        digit(thousandths),
+    ]);
 }
 
 /// Appends the time of cell `at`, where the rate is known.
 #[tactic(auto, unfolding(crate::specs::Events::time_field))]
 fn put_time(line: &mut Line, style: &Style, at: u64)
-    requires near { at ≤ 2 ^ 53 }
     requires space { length line.old + FIELD_LEN ≤ LINE_LEN }
     ensures text { line.new ≡ line.old ++ time_field style.now.notation style.now.rate at }
     ensures len { length line.new ≤ length line.old + FIELD_LEN }
 {
     if let Some(rate) = style.rate {
         put_name(line, style.notation, "time");
-        put_seconds(line, milliseconds(rate, at));
+        put_seconds(line, second_cells(rate), at);
     }
 }
 
 /// Appends where an event is.
 #[tactic(auto, unfolding(crate::specs::Events::place_fields))]
 fn put_place(line: &mut Line, style: &Style, at: u64)
-    requires near { at ≤ 2 ^ 53 }
     requires space { length line.old + 2 * FIELD_LEN ≤ LINE_LEN }
     ensures text { line.new ≡ line.old ++ place_fields style.now at }
     ensures len { length line.new ≤ length line.old + 2 * FIELD_LEN }
@@ -384,7 +384,6 @@ fn put_closing(line: &mut Line, notation: Notation)
 /// The sink's fault; then it has taken a front of the line.
 #[tactic(auto, unfolding(crate::specs::Events::event_line))]
 pub fn line_of_event<T: Sink>(style: &Style, event: &Event, sink: &mut T) -> Result<(), Fault>
-    requires near { event_place event.now ≤ 2 ^ 53 }
     requires room { T.failed sink.old + 1 < 2 ^ 64 }
     ensures { Wrote T.taken T.failed sink.old sink.new (event_line style.now event.now) result }
 {

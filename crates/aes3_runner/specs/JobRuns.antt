@@ -1,5 +1,5 @@
 -- What the program does for a job.
-use Rattle.std.specs.Prelude.{ℕ, List, [], Bool, Result, Ok, Err, ◌≡◌, ◌≢◌, ◌+◌, ◌^◌, ◌==◌, ◌⊎◌, if◌then◌else◌}
+use Rattle.std.specs.Prelude.{ℕ, List, [], Bool, Result, Ok, Err, ◌≡◌, ◌≢◌, ◌+◌, ◌^◌, ◌==◌, ◌⊎◌, if◌then◌else◌, None}
 use Rattle.aes3_cell.specs.declared.level.Level.TheVariants.{Low}
 use Rattle.aes3_cell.specs.declared.counts.Counts.{Counts}
 use Rattle.aes3_cell.specs.declared.refusal.RunError.{RunError}
@@ -17,6 +17,8 @@ use Rattle.aes3_engine.specs.ReportRuns.{counts_of}
 use Rattle.aes3_engine.specs.BlockRuns.{begun_stream, written_stream, cut_blocks, decided_blocks}
 use Rattle.aes3_engine.specs.Rewriting.{rewritten_blocks}
 use Rattle.aes3_engine.specs.Sampling.{sampled_file}
+use Rattle.aes3_lines.specs.declared.event.Style.{Style}
+use Rattle.aes3_lines.specs.declared.event.Notation.TheVariants.{Words}
 use Rattle.aes3_lines.specs.MarkLines.{mark_lines}
 use Rattle.aes3_account.specs.Gaps.{account, begun_account}
 use Rattle.aes3_account.specs.Accounting.{account_counts}
@@ -33,6 +35,10 @@ use Rattle.aes3_runner.specs.Lines.{refusal_line}
 abbrev pub most : ℕ
 most = 2 ^ 40
 
+-- how `watch` writes what changes
+abbrev pub as_words : Style
+as_words = record { notation = Words; rate = None }
+
 -- what a job promises: its input, what it writes of one, what of bytes behind which more may come, what it counts, and why it is refused
 abbrev pub promise_of : Job → Promise Counts
 promise_of (Encode o) = encoded_file o
@@ -40,7 +46,7 @@ promise_of (Decode i) = counted_cells i (λ c. file (blocks c)) (λ c. file (dec
 promise_of (Normal i o) = counted_cells i (λ c. written o (normal c)) (λ c. begun_stream o (decided_blocks c)) (counts_of i)
 promise_of (Check i lines) = counted_cells i (λ c. report_lines lines (reports c)) (λ c. report_lines lines (decided c)) (counts_of i)
 promise_of (Account i lines) = counted_cells i (λ c. account_lines lines (account c)) (λ c. account_lines lines (begun_account c)) (account_counts i)
-promise_of (Watch i) = counted_cells i watch_lines begun_watch (watch_counts i)
+promise_of (Watch i) = counted_cells i (watch_lines as_words) (begun_watch as_words) (watch_counts i)
 promise_of (Show i) = counted_cells i (λ c. status_lines (blocks c)) (λ c. status_lines (decided_blocks c)) (counts_of i)
 promise_of (ShowChanges i) = counted_cells i (λ c. change_lines (blocks c)) (λ c. change_lines (decided_blocks c)) (counts_of i)
 promise_of (Scan i) = counted_cells i (λ c. mark_lines (marks c)) (λ c. mark_lines (marks c)) (scan_counts i)

@@ -1,4 +1,4 @@
-use Rattle.std.proofs.Common.{◌+◌, arith}
+use Rattle.std.proofs.Common.{◌+◌, ◌∙◌, ap, arith}
 use Rattle.aes3_input.proofs.InputRuns.{run-told}
 use Rattle.aes3_input.proofs.CellRuns.{drove-ok, drove-err}
 use Rattle.aes3_account.specs.Watching.{begun_watch, watch_counts, watch_lines}
@@ -15,13 +15,21 @@ pub returns-in-Ok-clause-run : goal.returns-in-Ok-clause-run
 returns-in-Ok-clause-run g c =
     let t = c.drive.new.taker.reporter in
     let l = t.state.losses in
-    drove-ok watch_lines begun_watch (watch_counts c.args.input)
+    drove-ok (watch_lines c.args.style) (begun_watch c.args.style) (watch_counts c.args.input)
     (record { bytes = c.in-Ok.bytes; cells = c.in-Ok.cells; blocks = t.tally.blocks; faults = t.tally.faults + l; unfinished = t.tally.unfinished; marks = 0 })
-    with-watch before-watch
+    (λ d. with-watch c.new-taker.result.reporter.style d
+    ∙ ap (λ v. watch_lines v d) (ap (λ k. k.style) c.new-taker.ensures.reporter ∙ c.new.ensures.style))
+    (λ d. before-watch c.new-taker.result.reporter.style d
+    ∙ ap (λ v. begun_watch v d) (ap (λ k. k.style) c.new-taker.ensures.reporter ∙ c.new.ensures.style))
     (λ b e f h. watch-counted c.args.input b c.in-Ok.bytes c.in-Ok.cells l t.tally.blocks t.tally.faults t.tally.unfinished e f h) c.in-Ok.ensures.ran
 
 pub returns-in-Ok-clause-lines : goal.returns-in-Ok-clause-lines
 returns-in-Ok-clause-lines g c = λ b t. (run-told (returns-in-Ok-clause-run g c) b t).4
 
 pub returns-in-Err-clause-run : goal.returns-in-Err-clause-run
-returns-in-Err-clause-run g c = drove-err watch_lines begun_watch (watch_counts c.args.input) with-watch before-watch c.in-Err.ensures.ran
+returns-in-Err-clause-run g c = drove-err (watch_lines c.args.style) (begun_watch c.args.style) (watch_counts c.args.input)
+    (λ d. with-watch c.new-taker.result.reporter.style d
+    ∙ ap (λ v. watch_lines v d) (ap (λ k. k.style) c.new-taker.ensures.reporter ∙ c.new.ensures.style))
+    (λ d. before-watch c.new-taker.result.reporter.style d
+    ∙ ap (λ v. begun_watch v d) (ap (λ k. k.style) c.new-taker.ensures.reporter ∙ c.new.ensures.style))
+    c.in-Err.ensures.ran

@@ -1,74 +1,71 @@
-use Rattle.std.proofs.Common.{[], length, refl, sym, ap, ◌∙◌, append-nil, arith}
-use Rattle.std.proofs.lemmas.Result.{err_from_is_err_and}
-use Rattle.aes3_cell.proofs.Growing.{grew-is, grew-join, front-is, front-join, front-more}
+use Rattle.std.proofs.Common.{◌-◌, ◌++◌, ◌∷◌, [], length, length-append, append-nil, refl, sym, ap, ap₂, ◌∙◌, arith}
+use Rattle.aes3_cell.proofs.Growing.{grew-is, front-is}
 use Rattle.aes3_lock.specs.Following.{report_in}
 use Rattle.aes3_lock.specs.Reports.{decided}
 use Rattle.aes3_lock.proofs.Tallies.{few-decided}
-use Rattle.aes3_account.specs.Watching.{next}
-use Rattle.aes3_account.proofs.Accounts.{near-last}
-use Rattle.aes3_account.proofs.WatchedCells.{loss-room, last_lines, close_with-lines, close_with-ended}
+use Rattle.aes3_account.specs.Watching.{event_lines}
+use Rattle.aes3_account.proofs.Accounts.{less, near-new, near-last}
+use Rattle.aes3_account.proofs.EventWrites.{if-ok, if-err, if-any, put-one, put-two}
+use Rattle.aes3_account.proofs.WatchedCells.{loss-room, close_with-lines, close_with-ended, same-ended, same-tally}
 use Rattle.aes3_account.proofs.watching.WatcherCellReporter.close_with.Goals as goal
 
-pub tell-requires-clause-few : goal.tell-requires-clause-few
-tell-requires-clause-few g c =
+pub take_report-requires-clause-few : goal.take_report-requires-clause-few
+take_report-requires-clause-few g c =
     let h = c.requires.following in
     let l = loss-room h.0 [] c.args.seen h.4 (h.2 ∙ ap length (sym (append-nil h.0))) h.1 in
     omega arith
 
-pub tell-requires-clause-near : goal.tell-requires-clause-near
-tell-requires-clause-near g c =
+pub take_report-requires-clause-near : goal.take_report-requires-clause-near
+take_report-requires-clause-near g c =
     let h = c.requires.following in
     let n = near-last h.0 (report_in c.args.lock.now c.args.ending) c.args.seen h.3 h.2 in
     let s = h.1 in
     omega arith
 
-pub tell-requires-clause-tally : goal.tell-requires-clause-tally
-tell-requires-clause-tally g c =
+pub count-requires : goal.count-requires
+count-requires g c =
     let h = c.requires.following in
     let f = few-decided h.0 in
     let e = h.2 in
     let s = h.1 in
-    (decided h.0, omega arith, h.4.tally)
-
-pub returns-in_err-tell-clause-err_grew : goal.returns-in_err-tell-clause-err_grew
-returns-in_err-tell-clause-err_grew g c =
-    let k = c.args.self.now in
-    let x = report_in c.args.lock.now c.args.ending in
-    let p = err_from_is_err_and c.from_residual.result c.from_residual.ensures.1 in
-    rw p.1 (λ d h q n.
-    front-is (close_with-lines k.state (next k.state x) (length d) d x h.state_is refl refl q)
-    (front-more c.in_err-tell.ensures.wrote.err.1 (last_lines (next k.state x) (length d))))
+    (decided h.0, omega arith, same-tally c.args.self.now.tally c.take_report.new.self.tally (decided h.0) c.take_report.ensures.tally h.4.tally)
 
 pub end-requires-clause-few : goal.end-requires-clause-few
 end-requires-clause-few g c =
     let h = c.requires.following in
     let l = loss-room h.0 [] c.args.seen h.4 (h.2 ∙ ap length (sym (append-nil h.0))) h.1 in
-    let f = c.in_ok-tell.ensures.few in
+    let f = c.take_report.ensures.few in
     omega arith
-
-pub returns-in_err-end-clause-err_grew : goal.returns-in_err-end-clause-err_grew
-returns-in_err-end-clause-err_grew g c =
-    let k = c.args.self.now in
-    let m = c.tell.new.self in
-    let x = report_in c.args.lock.now c.args.ending in
-    let p = err_from_is_err_and c.from_residual-in_err-end.result c.from_residual-in_err-end.ensures.1 in
-    rw p.1 (λ d h q n.
-    front-is (close_with-lines k.state m.state c.args.seen d x h.state_is c.in_ok-tell.ensures.state n q)
-    (front-join c.in_ok-tell.ensures.wrote.grew c.in_err-end.ensures.wrote.err.1))
 
 pub returns-clause-done : goal.returns-clause-done
 returns-clause-done g c =
-    let m = c.tell.new.self in
+    let k = c.args.self.now in
+    let m = c.take_report.new.self in
+    let r = c.end.new.self in
     let x = report_in c.args.lock.now c.args.ending in
-    λ d h q n. rw c.end.ensures.tally
-    (close_with-ended m.state c.end.new.self.state c.args.seen d x h q n c.requires.following.1 c.in_ok-tell.ensures.state
-    (c.in_ok-tell.ensures.tally (decided d) h.tally) c.in_ok-end.ensures.state)
+    if-any c.put_events.result (λ d h q n.
+    same-ended r.state.losses c.count.new.self r.tally d c.end.ensures.tally
+    (close_with-ended m.state r.state c.args.seen d x h q n c.requires.following.1 c.take_report.ensures.state
+    (c.count.ensures (decided d) (same-tally k.tally m.tally (decided d) c.take_report.ensures.tally h.tally)) c.end.ensures.state))
 
 pub returns-clause-grew : goal.returns-clause-grew
 returns-clause-grew g c =
     let k = c.args.self.now in
-    let m = c.tell.new.self in
+    let m = c.take_report.new.self in
     let x = report_in c.args.lock.now c.args.ending in
-    λ d h q n.
-    grew-is (close_with-lines k.state m.state c.args.seen d x h.state_is c.in_ok-tell.ensures.state n q)
-    (grew-join c.in_ok-tell.ensures.wrote.grew c.in_ok-end.ensures.wrote.grew)
+    let told = put-two _ _ c.deref.ensures.0 c.end.ensures.events c.take_report.ensures.events c.new-events.ensures in
+    if-ok c.put_events.result (λ w d h q n.
+    grew-is (ap₂ event_lines (c.end.ensures.style ∙ c.take_report.ensures.style) told
+    ∙ close_with-lines k.style k.state m.state c.args.seen d x h.state_is c.take_report.ensures.state n q) w)
+    c.put_events.ensures.grew
+
+pub returns-clause-err_grew : goal.returns-clause-err_grew
+returns-clause-err_grew g c =
+    let k = c.args.self.now in
+    let m = c.take_report.new.self in
+    let x = report_in c.args.lock.now c.args.ending in
+    let told = put-two _ _ c.deref.ensures.0 c.end.ensures.events c.take_report.ensures.events c.new-events.ensures in
+    if-err c.put_events.result (λ w d h q n.
+    front-is (ap₂ event_lines (c.end.ensures.style ∙ c.take_report.ensures.style) told
+    ∙ close_with-lines k.style k.state m.state c.args.seen d x h.state_is c.take_report.ensures.state n q) w.1)
+    c.put_events.ensures.err

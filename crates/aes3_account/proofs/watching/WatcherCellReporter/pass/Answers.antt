@@ -1,31 +1,43 @@
-use Rattle.std.proofs.Common.{arith}
-use Rattle.std.proofs.lemmas.Result.{err_from_is_err_and}
+use Rattle.std.proofs.Common.{◌-◌, ◌++◌, ◌∷◌, [], length, length-append, append-nil, refl, sym, ap, ap₂, ◌∙◌, arith}
 use Rattle.aes3_cell.proofs.Growing.{grew-is, front-is}
-use Rattle.aes3_account.proofs.Accounts.{less}
-use Rattle.aes3_account.proofs.WatchedCells.{loss-room, pass-lines, pass-watches}
+use Rattle.aes3_lock.specs.Following.{report_in}
+use Rattle.aes3_lock.specs.Reports.{decided}
+use Rattle.aes3_lock.proofs.Tallies.{few-decided}
+use Rattle.aes3_account.specs.Watching.{event_lines}
+use Rattle.aes3_account.proofs.Accounts.{less, near-new, near-last}
+use Rattle.aes3_account.proofs.EventWrites.{if-ok, if-err, if-any, put-one, put-two}
+use Rattle.aes3_account.proofs.WatchedCells.{loss-room, pass-lines, pass-watches, same-watches}
 use Rattle.aes3_account.proofs.watching.WatcherCellReporter.pass.Goals as goal
 
-pub tell_loss-requires-clause-few : goal.tell_loss-requires-clause-few
-tell_loss-requires-clause-few g c =
+pub go_on-requires-clause-few : goal.go_on-requires-clause-few
+go_on-requires-clause-few g c =
     let h = c.requires.following in
     let l = loss-room h.0 h.1 c.args.seen h.4 h.3 h.2 in
     omega arith
 
-pub returns-in_err-tell_loss-clause-err_grew : goal.returns-in_err-tell_loss-clause-err_grew
-returns-in_err-tell_loss-clause-err_grew g c =
-    let k = c.args.self.now in
-    let s = c.saturating_sub.result in
-    let p = err_from_is_err_and c.from_residual.result c.from_residual.ensures.1 in
-    rw p.1 (λ d e h q n. front-is (pass-lines k.state s d e h.state_is (less s c.args.seen _ (omega arith) n) q) c.in_err-tell_loss.ensures.wrote.err.1)
-
 pub returns-clause-next : goal.returns-clause-next
 returns-clause-next g c =
+    let k = c.args.self.now in
+    let m = c.go_on.new.self in
     let s = c.saturating_sub.result in
-    let m = c.tell_loss.new.self in
-    λ d e h q n. rw c.tell_loss.ensures.tally (pass-watches m.state s d e h q (less s c.args.seen _ (omega arith) n) c.in_ok-tell_loss.ensures.state)
+    if-any c.put_events.result (λ d e h q n.
+    same-watches m.state k.words m.words k.tally m.tally (d ++ e) c.go_on.ensures.words c.go_on.ensures.tally
+    (pass-watches m.state s d e h q (less s c.args.seen _ (omega arith) n) c.go_on.ensures.state))
 
 pub returns-clause-grew : goal.returns-clause-grew
 returns-clause-grew g c =
     let k = c.args.self.now in
     let s = c.saturating_sub.result in
-    λ d e h q n. grew-is (pass-lines k.state s d e h.state_is (less s c.args.seen _ (omega arith) n) q) c.in_ok-tell_loss.ensures.wrote.grew
+    let told = put-one _ c.deref.ensures.0 c.go_on.ensures.events c.new-events.ensures in
+    if-ok c.put_events.result (λ w d e h q n.
+    grew-is (ap₂ event_lines c.go_on.ensures.style told ∙ pass-lines k.style k.state s d e h.state_is (less s c.args.seen _ (omega arith) n) q) w)
+    c.put_events.ensures.grew
+
+pub returns-clause-err_grew : goal.returns-clause-err_grew
+returns-clause-err_grew g c =
+    let k = c.args.self.now in
+    let s = c.saturating_sub.result in
+    let told = put-one _ c.deref.ensures.0 c.go_on.ensures.events c.new-events.ensures in
+    if-err c.put_events.result (λ w d e h q n.
+    front-is (ap₂ event_lines c.go_on.ensures.style told ∙ pass-lines k.style k.state s d e h.state_is (less s c.args.seen _ (omega arith) n) q) w.1)
+    c.put_events.ensures.err

@@ -1,0 +1,191 @@
+//! What the whole blocks of a line say of their samples, and where that changes.
+
+ghost use Rattle.std.specs.Prelude.{◌≡◌, ◌≤◌, ◌+◌, ◌/◌, ◌^◌, ◌++◌, true, count_ones};
+ghost use Rattle.arrayvec.specs.ArrayVec.{array_vec_len};
+ghost use Rattle.aes3_slot.specs.ReadWords.{read_words};
+ghost use Rattle.aes3_lock.specs.Outcomes.{payloads_of};
+ghost use Rattle.aes3_account.specs.Signals.{change_events, channel_signals, marking_of, ones_in};
+ghost use Rattle.aes3_account.specs.Signals.{same_marking, signals_of, status_events};
+ghost use Rattle.aes3_account.specs.Signals.{validity_events};
+
+use aes3_block::{Block, Channel, SLOTS};
+use aes3_lines::{Event, Marking};
+use arrayvec::ArrayVec;
+
+/// How many validity bits a channel has in a block.
+const FRAMES: u64 = 192;
+
+/// How many events are gathered at most.
+pub(crate) const EVENTS: usize = 8;
+
+/// In the upper half of a subframe's cells, the first cell of the two that carry its validity bit,
+/// and of those that carry its bit of channel status.
+const FIRST_CELLS: u32 = 1 << 24 | 1 << 28;
+
+/// What a whole block says of a channel's samples.
+#[derive(Clone, Copy)]
+pub(crate) struct ChannelSignals {
+    pub(crate) status: [u8; 24],
+    /// How many validity bits are 1.
+    pub(crate) invalid: u64,
+}
+
+/// What a whole block says of both channels' samples.
+#[derive(Clone, Copy)]
+pub(crate) struct Signals {
+    pub(crate) first: ChannelSignals,
+    pub(crate) second: ChannelSignals,
+}
+
+/// How many bits of a byte are 1.
+#[tactic(auto, using(std::proofs::lemmas::Nat::ones_le_self))]
+fn ones(byte: u8) -> u64
+    ensures ones { result ≡ count_ones byte }
+    ensures few { result ≤ 255 }
+{
+    u64::from(byte.count_ones())
+}
+
+/// How many bits of bytes are 1.
+fn ones_in(bytes: &[u8; 24]) -> u64
+    ensures { result ≡ ones_in bytes.now }
+{
+    let mut found = 0;
+    for byte in bytes {
+        found += ones(*byte);
+    }
+    found
+}
+
+/// What a block says of a channel's samples.
+fn channel_signals(block: &Block, channel: Channel) -> ChannelSignals
+    ensures { result ≡ channel_signals block.now channel }
+{
+    ChannelSignals {
+        status: block.channel_status(channel),
+        invalid: ones_in(&block.validity(channel)),
+    }
+}
+
+impl Signals {
+    /// What a block says of its samples.
+    #[tactic(auto, unfolding(crate::specs::Signals::signals_of))]
+    pub(crate) fn of(block: &Block) -> Self
+        ensures { result ≡ signals_of block.now }
+    {
+        Signals {
+            first: channel_signals(block, Channel::First),
+            second: channel_signals(block, Channel::Second),
+        }
+    }
+}
+
+/// The last 32 cells of a word.
+#[inline(always)]
+fn upper_half(word: u64) -> u32
+    ensures { result ≡ word / 2 ^ 32 }
+{
+    (word >> 32) as u32
+}
+
+/// Whether the cells of two blocks' subframes carry the same validity bits and channel status: two
+/// cells that carry a 1 differ.
+pub(crate) fn carry_the_same(words: &[u64; SLOTS], others: &[u64; SLOTS]) -> bool
+    ensures { result ≡ true → signals_of (payloads_of (read_words words.now))
+        ≡ signals_of (payloads_of (read_words others.now)) }
+{
+    let mut unlike = 0;
+    for i in 0..SLOTS {
+        let turned = upper_half(words[i] ^ others[i]);
+        unlike |= turned ^ (turned >> 1);
+    }
+    unlike & FIRST_CELLS == 0
+}
+
+/// What 192 validity bits are of which so many are 1.
+fn marking_of(invalid: u64) -> Marking
+    ensures { result ≡ marking_of invalid }
+{
+    match invalid {
+        0 => Marking::Clear,
+        FRAMES => Marking::Set,
+        _ => Marking::Mixed,
+    }
+}
+
+/// Whether they are the same.
+fn is_same(one: Marking, other: Marking) -> bool
+    ensures { result ≡ same_marking one other }
+{
+    match (one, other) {
+        (Marking::Clear, Marking::Clear) => true,
+        (Marking::Set, Marking::Set) => true,
+        (Marking::Mixed, Marking::Mixed) => true,
+        _ => false,
+    }
+}
+
+/// Adds the event of a channel's status where it is another than before.
+fn add_status(
+    events: &mut ArrayVec<Event, EVENTS>,
+    at: u64,
+    channel: Channel,
+    before: &ChannelSignals,
+    now: &ChannelSignals,
+)
+    requires { array_vec_len events.old + 1 ≤ EVENTS }
+    ensures events { events.new.items
+        ≡ events.old.items ++ status_events at channel before.now now.now }
+    ensures len { array_vec_len events.new ≤ array_vec_len events.old + 1 }
+{
+    if before.status != now.status {
+        events.push(Event::Status {
+            at,
+            channel,
+            status: now.status,
+        });
+    }
+}
+
+/// Adds the event of a channel's validity bits where they are another than before.
+fn add_validity(
+    events: &mut ArrayVec<Event, EVENTS>,
+    at: u64,
+    channel: Channel,
+    before: &ChannelSignals,
+    now: &ChannelSignals,
+)
+    requires { array_vec_len events.old + 1 ≤ EVENTS }
+    ensures events { events.new.items
+        ≡ events.old.items ++ validity_events at channel before.now now.now }
+    ensures len { array_vec_len events.new ≤ array_vec_len events.old + 1 }
+{
+    let marking = marking_of(now.invalid);
+    if !is_same(marking_of(before.invalid), marking) {
+        events.push(Event::Validity {
+            at,
+            channel,
+            marking,
+        });
+    }
+}
+
+/// Adds the events of a whole block at cell `at` behind the one before it, if there is one.
+#[tactic(auto, unfolding(crate::specs::Signals::change_events))]
+pub(crate) fn add_changes(
+    events: &mut ArrayVec<Event, EVENTS>,
+    at: u64,
+    before: &Option<Signals>,
+    now: &Signals,
+)
+    requires { array_vec_len events.old + 4 ≤ EVENTS }
+    ensures events { events.new.items ≡ events.old.items ++ change_events at before.now now.now }
+    ensures len { array_vec_len events.new ≤ array_vec_len events.old + 4 }
+{
+    if let Some(before) = before {
+        add_status(events, at, Channel::First, &before.first, &now.first);
+        add_status(events, at, Channel::Second, &before.second, &now.second);
+        add_validity(events, at, Channel::First, &before.first, &now.first);
+        add_validity(events, at, Channel::Second, &before.second, &now.second);
+    }
+}
