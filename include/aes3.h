@@ -7,9 +7,9 @@
  * else. Different locks may be used by different threads at once, one lock by one thread at a time.
  *
  * What the caller owes, and nothing checks: no pointer is null; each points to as many objects as
- * its type says (words of aes3_lock_take_words to `count`), aligned as C wants it; what a function
- * writes overlaps no other argument of that call; a lock was made by aes3_lock_init, and only the
- * functions here write it.
+ * its type says (words and octets of the calls that take many to `count`), aligned as C wants it;
+ * what a function writes overlaps no other argument of that call; a lock was made by aes3_lock_init,
+ * and only the functions here write it.
  *
  * A cell is half of a time slot, low or high. A level is 0 for low; 1, and every other number, for
  * high. A word of cells is a uint64_t, the earliest of its 64 cells in bit 0, 1 for high.
@@ -119,6 +119,27 @@ size_t aes3_lock_take_words(aes3_lock *lock, const uint64_t *words, size_t count
  * line at 48 kHz; a lock that has seen so many takes none, and has to be made anew.
  */
 uint32_t aes3_lock_push(aes3_lock *lock, uint64_t word, uint32_t count, aes3_report *report);
+
+/*
+ * The same of many cells in octets, eight an octet, the first in its highest bit: takes the cells of
+ * octets[0] to octets[count - 1] from the one of number `first` on, or as far as the first that
+ * decides a report, and that one too. Puts the report, or AES3_NONE, into *report, but leaves its
+ * words as they were: aes3_lock_block puts those of a whole block. Answers how many cells it took:
+ * without a report all, or as many as are left to 2^43. The next call goes on where this one ended:
+ *
+ *     size_t at = 0;
+ *     do {
+ *         at += aes3_lock_take_octets(&lock, octets, count, at, &report);
+ *         ...
+ *     } while (report.kind != AES3_NONE);
+ */
+size_t aes3_lock_take_octets(aes3_lock *lock, const uint8_t *octets, size_t count, size_t first, aes3_report *report);
+
+/*
+ * Puts the words of the block of the lock's last report, where that is whole, until the lock takes
+ * more cells. Where it is marked, puts what the subframes carry, with right parity bits.
+ */
+void aes3_lock_block(const aes3_lock *lock, uint32_t words[384]);
 
 /* Puts what the end of the cells decides, or AES3_NONE, into *report. The lock stays as it was. */
 void aes3_lock_finish(const aes3_lock *lock, aes3_report *report);

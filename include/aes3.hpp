@@ -41,6 +41,21 @@ class lock {
         }
     }
 
+    // The same of the cells of octets, eight an octet, the first in its highest bit; what is told has no words: block() puts them.
+    template <class Tell> bool take_octets(span<const std::uint8_t> from, Tell &&tell) {
+        report told;
+        std::size_t at = 0;
+        for (;;) {
+            at += aes3_lock_take_octets(&state, from.data, from.size, at, &told);
+            if (told.kind == AES3_NONE)
+                return at / 8 == from.size;
+            tell(static_cast<const report &>(told));
+        }
+    }
+
+    // The block of the report that was told last, until the lock takes more cells.
+    void block(words &to) const { aes3_lock_block(&state, to); }
+
     // The same of the first `count` cells of a word, 64 at most.
     template <class Tell> bool push(std::uint64_t word, std::uint32_t count, Tell &&tell) {
         report told;

@@ -111,6 +111,56 @@ static void locks(void) {
     WANT(report.kind == AES3_MARKED && report.wrong == 1);
 }
 
+/* Three blocks in octets, the second with a wrong cell, taken in pieces of any length. */
+static void octets(void) {
+    enum { BLOCK = 8 * AES3_BLOCK_WORDS, ALL = 3 * BLOCK };
+    static aes3_lock lock;
+    static aes3_report report;
+    static uint8_t line[ALL];
+    static uint32_t block[AES3_BLOCK_WORDS];
+    size_t at, told;
+    for (int i = 0; i < 3 * AES3_BLOCK_WORDS; i++)
+        aes3_octets_of_word(cells[i % AES3_BLOCK_WORDS], line + 8 * i);
+    line[BLOCK + 100] ^= 0x20; /* cell 802 of the block, the first of a time slot */
+    for (size_t piece = 1; piece <= ALL; piece = 5 * piece + 2) {
+        aes3_lock_init(&lock);
+        told = 0;
+        for (size_t from = 0; from < ALL; from += piece) {
+            size_t count = piece < ALL - from ? piece : ALL - from;
+            at = 0;
+            do {
+                memset(&report, 0xFF, sizeof report);
+                at += aes3_lock_take_octets(&lock, line + from, count, at, &report);
+                WANT(report.words[0] == 0xFFFFFFFF && report.words[383] == 0xFFFFFFFF);
+                if (report.kind == AES3_NONE)
+                    continue;
+                if (told++ == 0) {
+                    WANT(report.kind == AES3_WHOLE && report.at == 0 && report.before == 0);
+                    WANT(8 * from + at == AES3_BLOCK_CELLS + 1);
+                    aes3_lock_block(&lock, block);
+                    WANT(memcmp(block, words, sizeof words) == 0);
+                } else {
+                    WANT(report.kind == AES3_FAULT && report.at == AES3_BLOCK_CELLS);
+                    WANT(report.cell == AES3_BLOCK_CELLS + 802 && report.why == AES3_BIPHASE);
+                    WANT(8 * from + at == AES3_BLOCK_CELLS + 803);
+                }
+            } while (report.kind != AES3_NONE);
+            WANT(at == 8 * count);
+        }
+        WANT(told == 2 && aes3_lock_seen(&lock) == 8 * ALL);
+        aes3_lock_finish(&lock, &report);
+        WANT(report.kind == AES3_WHOLE && report.at == 2 * AES3_BLOCK_CELLS);
+        memset(block, 0, sizeof block);
+        aes3_lock_block(&lock, block);
+        WANT(memcmp(block, report.words, sizeof block) == 0 && memcmp(block, words, sizeof block) == 0);
+    }
+    /* From a cell on, to its octet's end; from none. */
+    aes3_lock_init(&lock);
+    WANT(aes3_lock_take_octets(&lock, line, 2, 13, &report) == 3 && report.kind == AES3_NONE);
+    WANT(aes3_lock_take_octets(&lock, line, 2, 16, &report) == 0 && report.kind == AES3_NONE);
+    WANT(aes3_lock_seen(&lock) == 3);
+}
+
 int main(void) {
     WANT(aes3_version() == AES3_VERSION_NUMBER);
     statuses();
@@ -122,6 +172,7 @@ int main(void) {
     WANT(aes3_encode_block(words, 0, cells) == AES3_BLOCK_WORDS);
     written();
     locks();
+    octets();
     if (!failed)
         puts("each call answers as it should");
     return failed;

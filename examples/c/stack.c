@@ -17,7 +17,7 @@ static aes3_professional professional;
 static aes3_consumer consumer;
 static uint32_t words[AES3_BLOCK_WORDS];
 static uint64_t cells[AES3_BLOCK_WORDS], word;
-static uint8_t status[AES3_STATUS_BYTES], line[65];
+static uint8_t status[AES3_STATUS_BYTES], line[65], line_octets[8 * AES3_BLOCK_WORDS + 1];
 
 static void nothing(void) {}
 static void init(void) { aes3_lock_init(&lock); }
@@ -25,6 +25,8 @@ static void seen(void) { word = aes3_lock_seen(&lock); }
 static void begin_block(void) { aes3_lock_push(&lock, cells[0], 64, &report); }
 static void take_words(void) { aes3_lock_take_words(&lock, cells + 1, AES3_BLOCK_WORDS - 1); }
 static void end_block(void) { aes3_lock_push(&lock, cells[0], 64, &report); }
+static void take_octets(void) { aes3_lock_take_octets(&lock, line_octets, sizeof line_octets, 0, &report); }
+static void lock_block(void) { aes3_lock_block(&lock, words); }
 static void finish(void) { aes3_lock_finish(&lock, &report); }
 static void encode_block(void) { aes3_encode_block(words, 0, cells); }
 static void block_status(void) { aes3_block_status(words, 1, status); }
@@ -78,6 +80,13 @@ int main(void) {
     failed |= tell("aes3_lock_push, whole", end_block, 8192);
     failed |= report.kind != AES3_WHOLE;
     failed |= tell("aes3_lock_seen", seen, 256);
+    for (int i = 0; i < AES3_BLOCK_WORDS; i++)
+        aes3_octets_of_word(cells[i], line_octets + 8 * i);
+    line_octets[8 * AES3_BLOCK_WORDS] = line_octets[0];
+    aes3_lock_init(&lock);
+    failed |= tell("aes3_lock_take_octets", take_octets, 4096);
+    failed |= report.kind != AES3_WHOLE;
+    failed |= tell("aes3_lock_block", lock_block, 8192);
     failed |= tell("aes3_block_status", block_status, 2048);
     failed |= tell("aes3_block_validity", block_validity, 2048);
     failed |= tell("aes3_block_user", block_user, 2048);

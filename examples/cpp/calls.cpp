@@ -62,6 +62,21 @@ int main() {
     judge("seen", copy.seen() == AES3_BLOCK_CELLS);
     judge("a report of each", count == 3);
 
+    // The same of octets, and of the first cell behind them, which decides the block.
+    std::uint8_t octets[8 * AES3_BLOCK_WORDS + 1];
+    for (int i = 0; i < AES3_BLOCK_WORDS; i++)
+        aes3_octets_of_word(cells[i], octets + 8 * i);
+    octets[8 * AES3_BLOCK_WORDS] = octets[0];
+    aes3::lock fourth;
+    aes3::words made = {};
+    const bool took = fourth.take_octets(octets, [&](const aes3::report &it) {
+        count += it.kind == AES3_WHOLE && it.at == 0;
+        fourth.block(made);
+    });
+    for (int i = 0; i < AES3_BLOCK_WORDS; i++)
+        is_same &= made[i] == block[i];
+    judge("take_octets", took && is_same && count == 4 && fourth.seen() == AES3_BLOCK_CELLS + 8);
+
     block[7] = 1u << 28;
     judge("an unlawful word", aes3::encode(block, false, cells) == 7 && aes3::status_of(block, 2, found) == 7);
     return !is_right;

@@ -20,6 +20,10 @@ assert made == list(cells)
 lock = aes3.Lock()
 reports = lock.take(cells) + lock.finish()
 assert [tuple(report.words) for report in reports] == blocks and lock.seen() == 64 * len(cells)
+by_octets = aes3.Lock()
+told = by_octets.take_octets(packed[:1000]) + by_octets.take_octets(bytearray(packed[1000:-1]))
+assert [str(report) for report in told + by_octets.finish()] == [str(report) for report in reports]
+assert [tuple(report.words) for report in told] == blocks[:-1] and by_octets.seen() == lock.seen()
 lock = aes3.Lock()
 one_by_one = [report for word in made[:1000] for report in lock.push(word, 64)]
 assert [str(report) for report in one_by_one] == [str(report) for report in reports[:2]]
@@ -62,4 +66,5 @@ if aes3.numpy:
     wide[::2] = cells
     for array in wide[::2], cells.astype(">u8"), [int(it) for it in cells]:
         assert len(aes3.Lock().take(array)) == len(blocks) - 1
+    assert len(aes3.Lock().take_octets(aes3.numpy.frombuffer(packed, aes3.numpy.uint8))) == len(blocks)
 print("with numpy" if aes3.numpy else "without numpy")

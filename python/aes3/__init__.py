@@ -10,6 +10,8 @@ is there, arrays are given back, of uint64 for cells and uint32 for a block's wo
     words, rest = aes3.words_of_packed(open("line.packed", "rb").read())
     for report in lock.take(words) + lock.push(*rest) + lock.finish():
         print(report)
+
+Octets of a line that never ends need no words: `lock.take_octets(octets)` takes all cells of all of them.
 """
 
 import ctypes as c
@@ -65,6 +67,10 @@ _init = _declare("aes3_lock_init", None, c.POINTER(_Lock))
 _seen = _declare("aes3_lock_seen", c.c_uint64, c.POINTER(_Lock))
 _take_words = _declare("aes3_lock_take_words", c.c_size_t, c.POINTER(_Lock), c.c_void_p, c.c_size_t)
 _push = _declare("aes3_lock_push", c.c_uint32, c.POINTER(_Lock), c.c_uint64, c.c_uint32, c.POINTER(_Report))
+_take_octets = _declare(
+    "aes3_lock_take_octets", c.c_size_t, c.POINTER(_Lock), c.c_void_p, c.c_size_t, c.c_size_t, c.POINTER(_Report)
+)
+_block = _declare("aes3_lock_block", None, c.POINTER(_Lock), c.POINTER(_Words))
 _finish = _declare("aes3_lock_finish", None, c.POINTER(_Lock), c.POINTER(_Report))
 _encode_block = _declare("aes3_encode_block", c.c_uint32, c.POINTER(_Words), c.c_uint8, c.POINTER(_Cells))
 _bits = {
@@ -93,6 +99,15 @@ def _cells_in(words):
         found.owner = array
         return found
     return (c.c_uint64 * len(words))(*words)
+
+
+def _octets_in(octets):
+    """Octets in one piece of memory: that memory, where it is, and how many they are."""
+    if numpy and isinstance(octets, numpy.ndarray):
+        array = numpy.ascontiguousarray(octets, dtype=numpy.uint8)
+        return array, array.ctypes.data, array.size
+    octets = bytes(octets)
+    return octets, octets, len(octets)
 
 
 def _block_in(words):
@@ -266,6 +281,22 @@ class Lock:
             if at < len(words):
                 reports += self.push(words[at], 64)
                 at += 1
+        return reports
+
+    def take_octets(self, octets):
+        """The list of the reports that the cells of octets decide, eight an octet, the first in its highest bit."""
+        owner, memory, count = _octets_in(octets)
+        reports, at, told = [], 0, _Report()
+        while True:
+            at += _take_octets(c.byref(self._lock), memory, count, at, c.byref(told))
+            if told.kind == NONE:
+                break
+            if told.kind == WHOLE:
+                _block(c.byref(self._lock), c.byref(told.words))
+            reports.append(Report(told))
+        del owner
+        if at < 8 * count:
+            raise OverflowError("a lock takes 2^43 cells")
         return reports
 
     def push(self, word, count):

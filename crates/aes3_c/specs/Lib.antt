@@ -2,3 +2,4 @@ pub mod Codes
 pub mod States
 pub mod Professional
 pub mod Consumer
+pub mod Octets

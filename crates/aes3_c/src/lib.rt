@@ -15,6 +15,8 @@ mod consumer;
 mod level;
 /// The lock, kept by its caller.
 mod lock;
+/// Cells in octets, many at once.
+mod octets;
 /// The fields of professional channel status.
 mod professional;
 /// Reports as plain numbers.

@@ -1,16 +1,19 @@
 //! The lock, kept by its caller.
 
 ghost use Rattle.std.specs.Prelude.{◌≡◌, ◌≢◌, ◌+◌, ◌<◌, ◌≤◌, ◌^◌, None, List, [], ◌++◌, length, take};
-ghost use Rattle.std.specs.Prelude.{◌*◌, ◌-◌, ◌/◌, get_or, min, option_to_list};
+ghost use Rattle.std.specs.Prelude.{◌*◌, ◌-◌, ◌/◌, get_or, map, min, option_to_list};
 ghost use Rattle.std.specs.List.{flat_map};
 ghost use Rattle.aes3_cell.specs.declared.level.Level.{Level};
 ghost use Rattle.aes3_cell.specs.Words.{low_cells, word_cells};
 ghost use Rattle.aes3_lock.specs.Reports.{decided, reports};
 ghost use Rattle.aes3_lock.specs.Following.{Follows};
-ghost use Rattle.aes3_c.specs.States.{StopsAt, Tells, candidate_in, state_of, told_in};
+ghost use Rattle.aes3_block.specs.Files.{payload_of, word_of};
+ghost use Rattle.aes3_c.specs.States.{Coded, HasBlock, StopsAt, block_in, candidate_in, state_of};
+ghost use Rattle.aes3_c.specs.States.{told_in};
 
 use crate::level::{byte_of_level, level_of_byte};
-use crate::report::{Aes3Report, put_none, put_report};
+use crate::report::{Aes3Report, put_block, put_ending, put_report};
+use aes3_block::GatheredCells;
 use aes3_lock::{Candidate, Lock, LockParts};
 
 /// A lock as plain numbers. Its fields are nobody's but the functions' here.
@@ -33,7 +36,7 @@ const _: () = prove!(size_of::<Aes3Lock>() == 3104);
 const _: () = prove!(align_of::<Aes3Lock>() <= 8);
 
 /// How many cells a lock takes.
-const MOST: u64 = 1 << 43;
+pub(crate) const MOST: u64 = 1 << 43;
 
 fn candidate_of(kept: &Aes3Lock) -> Option<Candidate>
     ensures { result ≡ candidate_in kept.now }
@@ -48,7 +51,7 @@ fn candidate_of(kept: &Aes3Lock) -> Option<Candidate>
     })
 }
 
-fn lock_of(kept: &Aes3Lock) -> Lock
+pub(crate) fn lock_of(kept: &Aes3Lock) -> Lock
     ensures { result ≡ state_of kept.now }
 {
     Lock::of_parts(LockParts {
@@ -60,7 +63,7 @@ fn lock_of(kept: &Aes3Lock) -> Lock
     })
 }
 
-fn keep(lock: &Lock, kept: &mut Aes3Lock)
+pub(crate) fn keep(lock: &Lock, kept: &mut Aes3Lock)
     ensures { state_of kept.new ≡ lock.now }
 {
     let parts = lock.parts();
@@ -131,19 +134,17 @@ pub extern "C" fn aes3_lock_push(
     ensures last { told_in report.new ≢ None → (cells : List Level)
         → Follows (state_of lock.old) cells
         → decided (cells ++ low_cells (result - 1) word) ≡ decided cells }
-    ensures codes { Tells (told_in report.new) report.new }
+    ensures codes { Coded (told_in report.new) report.new }
+    ensures block { HasBlock (told_in report.new) report.new }
 {
     let most = most_of(lock.seen, count);
     if most == 0 {
-        put_none(report);
+        put_ending(None, report);
         return 0;
     }
     let mut state = lock_of(lock);
     let pushed = state.push_front(word, most);
-    match pushed.ending {
-        Some(ending) => put_report(&state.report(ending), report),
-        None => put_none(report),
-    }
+    put_report(&state, pushed.ending, report);
     keep(&state, lock);
     pushed.taken
 }
@@ -184,12 +185,20 @@ pub extern "C" fn aes3_lock_take_words(lock: &mut Aes3Lock, words: &[u64]) -> us
 pub extern "C" fn aes3_lock_finish(lock: &Aes3Lock, report: &mut Aes3Report)
     ensures report { (cells : List Level) → Follows (state_of lock.now) cells
         → reports cells ≡ decided cells ++ option_to_list (told_in report.new) }
-    ensures codes { Tells (told_in report.new) report.new }
+    ensures codes { Coded (told_in report.new) report.new }
+    ensures block { HasBlock (told_in report.new) report.new }
 {
     // Not by `Lock::finish`: a lock moved into it would take as much stack again.
     let state = lock_of(lock);
-    match state.end() {
-        Some(last) => put_report(&state.report(last), report),
-        None => put_none(report),
-    }
+    put_report(&state, state.end(), report);
+}
+
+/// Puts the words of the block of which the lock told last that it is whole or marked, as a block
+/// file has them, until it takes more cells; of a marked block with parity bits that are right.
+#[unsafe(no_mangle)]
+pub extern "C" fn aes3_lock_block(lock: &Aes3Lock, words: &mut [u32; 384])
+    ensures words { words.new ≡ map word_of (block_in (state_of lock.now)) }
+    ensures payloads { map payload_of words.new ≡ block_in (state_of lock.now) }
+{
+    put_block(&GatheredCells::of_words(&lock.words), words);
 }

@@ -1,13 +1,17 @@
 //! Reports.
 
-ghost use Rattle.std.specs.Prelude.{◌≡◌, ◌<◌, ◌^◌, ℕ, Some, None, get_or, map};
+ghost use Rattle.std.specs.Prelude.{◌≡◌, ◌<◌, ◌^◌, ℕ, Bool, List, get_or, map, option_map};
+ghost use Rattle.aes3_slot.specs.ReadWords.{read_words};
 ghost use Rattle.aes3_block.specs.Files.{payload_of, word_of};
+ghost use Rattle.aes3_lock.specs.Following.{report_in};
+ghost use Rattle.aes3_lock.specs.Outcomes.{payloads_of};
+ghost use Rattle.aes3_lock.specs.Reports.{ending_report};
 ghost use Rattle.aes3_c.specs.Codes.{why_code, why_of_code};
-ghost use Rattle.aes3_c.specs.States.{Tells, told_in};
+ghost use Rattle.aes3_c.specs.States.{Coded, HasBlock, told_in, told_of};
 
 use crate::level::byte_of_level;
-use aes3_block::Block;
-use aes3_lock::{Report, Why};
+use aes3_block::{Block, GatheredCells};
+use aes3_lock::{Ending, Lock, Why};
 
 /// A report, or none. `kind` is 0 for none, 1 for a whole block, 2 for a marked one, 3 for a fault,
 /// 4 for the begun block at the end of the cells.
@@ -63,42 +67,57 @@ fn words_of_block(block: &Block) -> [u32; 384]
     same_words(block.words())
 }
 
-/// Puts a report.
-pub(crate) fn put_report(report: &Report, out: &mut Aes3Report)
-    ensures told { told_in out.new ≡ Some report.now }
-    ensures codes { Tells (Some report.now) out.new }
+/// Puts the words of the block whose subframes have these cells.
+pub(crate) fn put_block(cells: &GatheredCells, words: &mut [u32; 384])
+    ensures words { words.new ≡ map word_of (payloads_of (read_words cells.now)) }
+    ensures payloads { map payload_of words.new ≡ payloads_of (read_words cells.now) }
 {
-    match report {
-        Report::Whole { at, before, block } => {
+    *words = words_of_block(&cells.block());
+}
+
+/// Puts what became of a block that was begun, if anything did, and leaves the words.
+pub(crate) fn put_ending(ending: Option<Ending>, out: &mut Aes3Report)
+    ensures told { (slots : List (List Bool)) → told_of (payloads_of slots) out.new
+        ≡ option_map (ending_report slots) ending }
+    ensures codes { (slots : List (List Bool))
+        → Coded (option_map (ending_report slots) ending) out.new }
+    ensures words { out.new.words ≡ out.old.words }
+{
+    match ending {
+        None => out.kind = 0,
+        Some(Ending::Whole { at, before }) => {
             out.kind = 1;
-            out.at = *at;
-            out.before = byte_of_level(*before);
-            out.words = words_of_block(block);
+            out.at = at;
+            out.before = byte_of_level(before);
         }
-        Report::Marked { at, before, wrong } => {
+        Some(Ending::Marked { at, before, wrong }) => {
             out.kind = 2;
-            out.at = *at;
-            out.before = byte_of_level(*before);
-            out.wrong = *wrong;
+            out.at = at;
+            out.before = byte_of_level(before);
+            out.wrong = wrong;
         }
-        Report::Fault { at, cell, why } => {
+        Some(Ending::Fault { at, cell, why }) => {
             out.kind = 3;
-            out.at = *at;
-            out.cell = *cell;
-            out.why = byte_of_why(*why);
+            out.at = at;
+            out.cell = cell;
+            out.why = byte_of_why(why);
         }
-        Report::Unfinished { at, cells } => {
+        Some(Ending::Unfinished { at, cells }) => {
             out.kind = 4;
-            out.at = *at;
-            out.cell = *cells;
+            out.at = at;
+            out.cell = cells;
         }
     }
 }
 
-/// Puts that there is none.
-pub(crate) fn put_none(out: &mut Aes3Report)
-    ensures told { told_in out.new ≡ None }
-    ensures codes { Tells None out.new }
+/// Puts what became of a block that was begun, if anything did, and its words where it is whole.
+pub(crate) fn put_report(lock: &Lock, ending: Option<Ending>, out: &mut Aes3Report)
+    ensures told { told_in out.new ≡ option_map (report_in lock.now) ending }
+    ensures codes { Coded (option_map (report_in lock.now) ending) out.new }
+    ensures block { HasBlock (option_map (report_in lock.now) ending) out.new }
 {
-    out.kind = 0;
+    put_ending(ending, out);
+    if out.kind == 1 {
+        put_block(lock.gathered(), &mut out.words);
+    }
 }

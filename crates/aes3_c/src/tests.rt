@@ -2,9 +2,10 @@
 
 use crate::block::{aes3_block_status, aes3_encode_block};
 use crate::lock::{
-    Aes3Lock, aes3_lock_finish, aes3_lock_init, aes3_lock_push, aes3_lock_seen,
+    Aes3Lock, aes3_lock_block, aes3_lock_finish, aes3_lock_init, aes3_lock_push, aes3_lock_seen,
     aes3_lock_take_words,
 };
+use crate::octets::aes3_lock_take_octets;
 use crate::report::Aes3Report;
 use std::test::Fail;
 
@@ -60,6 +61,12 @@ fn a_block_comes_back(rt: HostRuntime) -> Result<(), Fail> {
     assert!(rt; aes3_lock_push(&mut lock, cells[0], 64, &mut report) == 1);
     assert!(rt; (report.kind, report.at, report.before) == (1, 0, 0));
     assert!(rt; report.words == words());
+    let mut block = [0; 384];
+    aes3_lock_block(&lock, &mut block);
+    assert!(rt; block == words());
+    // The other cells of its first octet decide nothing.
+    assert!(rt; aes3_lock_take_octets(&mut lock, &[0xE8], 1, &mut report) == 7);
+    assert!(rt; report.kind == 0);
     Ok(())
 }
 

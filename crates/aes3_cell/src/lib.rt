@@ -37,6 +37,7 @@ pub use level::Level;
 pub use memory::{MemorySink, MemorySource};
 pub use packed_in::PackedIn;
 pub use packed_out::PackedOut;
+pub use packed_words::words_of_octets;
 pub use refusal::{BadCell, BadPadding, RunError};
 pub use short::ShortSink;
 pub use standard::{StdSink, StdSource};

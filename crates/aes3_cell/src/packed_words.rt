@@ -26,7 +26,7 @@ fn words_of_front(octets: &[u8], words: &mut [u64]) -> usize
 }
 
 /// The words of octets, eight octets a word.
-pub(crate) fn words_of_octets(octets: &[u8], words: &mut [u64])
+pub fn words_of_octets(octets: &[u8], words: &mut [u64])
     requires { length octets.now ≡ 8 * length words.old }
     ensures len { length words.new ≡ length words.old }
     ensures cells { flat_map word_cells words.new ≡ cells_of_octets octets.now }

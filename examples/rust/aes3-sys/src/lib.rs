@@ -101,6 +101,14 @@ extern "C" {
     pub fn aes3_lock_seen(lock: *const aes3_lock) -> u64;
     pub fn aes3_lock_take_words(lock: *mut aes3_lock, words: *const u64, count: usize) -> usize;
     pub fn aes3_lock_push(lock: *mut aes3_lock, word: u64, count: u32, report: *mut aes3_report) -> u32;
+    pub fn aes3_lock_take_octets(
+        lock: *mut aes3_lock,
+        octets: *const u8,
+        count: usize,
+        first: usize,
+        report: *mut aes3_report,
+    ) -> usize;
+    pub fn aes3_lock_block(lock: *const aes3_lock, words: *mut u32);
     pub fn aes3_lock_finish(lock: *const aes3_lock, report: *mut aes3_report);
     pub fn aes3_encode_block(words: *const u32, before: u8, cells: *mut u64) -> u32;
     pub fn aes3_block_status(words: *const u32, channel: u8, status: *mut u8) -> u32;

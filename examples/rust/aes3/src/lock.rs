@@ -152,6 +152,27 @@ impl Lock {
         Ok(())
     }
 
+    /// Takes the cells of octets, eight an octet, the first in its highest bit, and gives `tell` each report that they decide.
+    pub fn take_octets(&mut self, octets: &[u8], mut tell: impl FnMut(Report)) -> Result<(), Error> {
+        let mut report = nothing();
+        let mut taken = 0;
+        loop {
+            // SAFETY: the lock was made by aes3_lock_init, the octets are as many as is said, and the report is another place.
+            taken += unsafe {
+                sys::aes3_lock_take_octets(&mut self.state, octets.as_ptr(), octets.len(), taken, &mut report)
+            };
+            if report.kind == sys::AES3_WHOLE {
+                // SAFETY: the lock was made by aes3_lock_init, and the words are 384 at another place.
+                unsafe { sys::aes3_lock_block(&self.state, report.words.as_mut_ptr()) };
+            }
+            match Report::of(&report) {
+                Some(report) => tell(report),
+                None if taken / 8 == octets.len() => return Ok(()),
+                None => return Err(Error::Full),
+            }
+        }
+    }
+
     /// What the end of the cells decides. The lock stays as it was.
     pub fn finish(&self) -> Option<Report> {
         let mut report = nothing();

@@ -59,6 +59,29 @@ fn a_turned_cell_is_a_fault_and_the_block_behind_it_is_whole() {
 }
 
 #[test]
+fn octets_tell_what_their_words_tell() {
+    let (block, _) = block();
+    let mut cells = Vec::new();
+    for _ in 0..3 {
+        cells.extend(block.encode(true).unwrap());
+    }
+    cells[BLOCK_WORDS + 10] ^= 1 << 20;
+    let octets: Vec<u8> = cells.iter().flat_map(|word| aes3::octets_of_word(*word)).collect();
+    let (mut told, mut wanted) = (Vec::new(), Vec::new());
+    let mut lock = Lock::new();
+    lock.take(&cells, |report| wanted.push(report)).unwrap();
+    for size in [1, 13, 3000, octets.len()] {
+        told.clear();
+        let mut other = Lock::new();
+        for octets in octets.chunks(size) {
+            other.take_octets(octets, |report| told.push(report)).unwrap();
+        }
+        assert_eq!((other.seen(), other.finish()), (lock.seen(), lock.finish()));
+        assert_eq!(told, wanted);
+    }
+}
+
+#[test]
 fn the_end_of_the_cells_cuts_a_block() {
     let cells = block().0.encode(false).unwrap();
     let mut lock = Lock::new();

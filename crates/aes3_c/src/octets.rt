@@ -1,0 +1,192 @@
+//! Cells in octets, many at once.
+
+ghost use Rattle.std.specs.Prelude.{◌≡◌, ◌≢◌, ◌+◌, ◌-◌, ◌*◌, ◌%◌, ◌<◌, ◌≤◌, ◌^◌, ◌++◌, ℕ, None};
+ghost use Rattle.std.specs.Prelude.{List, length, min, option_map, option_to_list, take};
+ghost use Rattle.aes3_cell.specs.declared.level.Level.{Level};
+ghost use Rattle.aes3_cell.specs.Packed.{cells_of_octets};
+ghost use Rattle.aes3_cell.specs.Words.{low_cells};
+ghost use Rattle.aes3_lock.specs.Reports.{decided};
+ghost use Rattle.aes3_lock.specs.Following.{Follows, report_in};
+ghost use Rattle.aes3_c.specs.Octets.{cells_from};
+ghost use Rattle.aes3_c.specs.States.{Coded, block_in, state_of, told_of};
+
+use crate::lock::{Aes3Lock, MOST, keep, lock_of};
+use crate::report::{Aes3Report, put_ending};
+use aes3_cell::{word_of_octets, words_of_octets};
+use aes3_lock::{Ending, Lock};
+
+/// How many words are made of octets at once: so few that they take little of the stack, and so
+/// many that the calls for them cost little.
+const WORDS: usize = 64;
+
+/// What a lock took of cells.
+#[derive(Clone, Copy)]
+struct Taken {
+    /// How many.
+    cells: usize,
+    /// What the last of them made of the block that was begun, if it ended one.
+    ending: Option<Ending>,
+}
+
+/// How many cells of octets, from cell `first` on, a lock that has seen so many takes at most.
+fn most_cells(seen: u64, octets: usize, first: usize) -> usize
+    ensures { result ≡ min (8 * octets - first) (2 ^ 43 - seen) }
+{
+    let begun = first / 8;
+    if begun >= octets {
+        return 0;
+    }
+    let few = (octets - begun).min(MOST as usize);
+    (8 * few - first % 8).min(MOST.saturating_sub(seen) as usize)
+}
+
+/// The cells of up to eight octets, from cell `at` of all on, as the front of a word.
+fn word_from(octets: &[u8], at: usize) -> u64
+    requires { at < 8 * length octets.now }
+    ensures { (n : ℕ) → at % 8 + n ≤ 64 → at + n ≤ 8 * length octets.now
+        → low_cells n result ≡ cells_from octets.now at n }
+{
+    let begun = at / 8;
+    let count = (octets.len() - begun).min(8);
+    let mut eight = [0; 8];
+    eight[..count].copy_from_slice(&octets[begun..begun + count]);
+    word_of_octets(&eight) >> (at % 8)
+}
+
+/// Takes the cells of octets by whole words, or as far as the first that decides a report, and that
+/// one too.
+fn take_words_of(state: &mut Lock, octets: &[u8]) -> Taken
+    requires some { 0 < length octets.now }
+    requires whole { length octets.now % 8 ≡ 0 }
+    requires few { length octets.now ≤ 8 * WORDS }
+    requires room { state.old.seen + 8 * length octets.now ≤ 2 ^ 43 }
+    ensures some { 0 < result.cells }
+    ensures within { result.cells ≤ 8 * length octets.now }
+    ensures seen { state.new.seen ≡ state.old.seen + result.cells }
+    ensures follows { (cells : List Level) → Follows state.old cells
+        → Follows state.new (cells ++ take result.cells (cells_of_octets octets.now)) }
+    ensures report { (cells : List Level) → Follows state.old cells
+        → decided (cells ++ take result.cells (cells_of_octets octets.now)) ≡ decided cells
+        ++ option_to_list (option_map (report_in state.new) result.ending) }
+    ensures last { result.ending ≢ None → (cells : List Level) → Follows state.old cells
+        → decided (cells ++ take (result.cells - 1) (cells_of_octets octets.now))
+        ≡ decided cells }
+{
+    let mut memory = [0; WORDS];
+    let words = &mut memory[..octets.len() / 8];
+    words_of_octets(octets, words);
+    let taken = state.take_words(words);
+    if taken == words.len() {
+        return Taken {
+            cells: 64 * taken,
+            ending: None,
+        };
+    }
+    let pushed = state.push_front(words[taken], u64::BITS);
+    Taken {
+        cells: 64 * taken + pushed.taken as usize,
+        ending: pushed.ending,
+    }
+}
+
+/// Takes some of `len` cells of octets from cell `at` on, up to the first that decides a report and
+/// with it.
+fn take_some(state: &mut Lock, octets: &[u8], at: usize, len: usize) -> Taken
+    requires some { 0 < len }
+    requires within { at + len ≤ 8 * length octets.now }
+    requires room { state.old.seen + len ≤ 2 ^ 43 }
+    ensures some { 0 < result.cells }
+    ensures within { result.cells ≤ len }
+    ensures seen { state.new.seen ≡ state.old.seen + result.cells }
+    ensures follows { (cells : List Level) → Follows state.old cells
+        → Follows state.new (cells ++ cells_from octets.now at result.cells) }
+    ensures report { (cells : List Level) → Follows state.old cells
+        → decided (cells ++ cells_from octets.now at result.cells) ≡ decided cells
+        ++ option_to_list (option_map (report_in state.new) result.ending) }
+    ensures last { result.ending ≢ None → (cells : List Level) → Follows state.old cells
+        → decided (cells ++ cells_from octets.now at (result.cells - 1)) ≡ decided cells }
+{
+    if at % 8 == 0 && len >= 64 {
+        let begun = at / 8;
+        let count = (len / 64).min(WORDS);
+        return take_words_of(state, &octets[begun..begun + 8 * count]);
+    }
+    let most = len.min(64 - at % 8);
+    let pushed = state.push_front(word_from(octets, at), most as u32);
+    Taken {
+        cells: pushed.taken as usize,
+        ending: pushed.ending,
+    }
+}
+
+/// Takes `len` cells of octets from cell `first` on, or as far as the first that decides a report,
+/// and that one too.
+fn take_cells(state: &mut Lock, octets: &[u8], first: usize, len: usize) -> Taken
+    requires within { first + len ≤ 8 * length octets.now }
+    requires fits { first + len < 2 ^ 64 }
+    requires room { state.old.seen + len ≤ 2 ^ 43 }
+    ensures within { result.cells ≤ len }
+    ensures all { result.ending ≡ None → result.cells ≡ len }
+    ensures seen { state.new.seen ≡ state.old.seen + result.cells }
+    ensures follows { (cells : List Level) → Follows state.old cells
+        → Follows state.new (cells ++ cells_from octets.now first result.cells) }
+    ensures report { (cells : List Level) → Follows state.old cells
+        → decided (cells ++ cells_from octets.now first result.cells) ≡ decided cells
+        ++ option_to_list (option_map (report_in state.new) result.ending) }
+    ensures last { result.ending ≢ None → (cells : List Level) → Follows state.old cells
+        → decided (cells ++ cells_from octets.now first (result.cells - 1)) ≡ decided cells }
+{
+    let mut taken = 0;
+    while taken < len {
+        let more = take_some(state, octets, first + taken, len - taken);
+        taken += more.cells;
+        if more.ending.is_some() {
+            return Taken {
+                cells: taken,
+                ending: more.ending,
+            };
+        }
+    }
+    Taken {
+        cells: taken,
+        ending: None,
+    }
+}
+
+/// Takes the cells of octets, eight an octet, the first in its highest bit, from cell `first` of
+/// all on, up to the first that decides a report and with it, and puts that report, if any, but no
+/// words: `aes3_lock_block` puts these. Answers how many cells it took; no lock takes more than
+/// 2^43.
+#[unsafe(no_mangle)]
+pub extern "C" fn aes3_lock_take_octets(
+    lock: &mut Aes3Lock,
+    octets: &[u8],
+    first: usize,
+    report: &mut Aes3Report,
+) -> usize
+    ensures within { result ≤ 8 * length octets.now - first }
+    ensures all { report.new.kind ≡ 0
+        → result ≡ min (8 * length octets.now - first) (2 ^ 43 - lock.old.seen) }
+    ensures seen { lock.new.seen ≡ lock.old.seen + result }
+    ensures follows { (cells : List Level) → Follows (state_of lock.old) cells
+        → Follows (state_of lock.new) (cells ++ cells_from octets.now first result) }
+    ensures report { (cells : List Level) → Follows (state_of lock.old) cells
+        → decided (cells ++ cells_from octets.now first result) ≡ decided cells
+        ++ option_to_list (told_of (block_in (state_of lock.new)) report.new) }
+    ensures last { report.new.kind ≢ 0 → (cells : List Level)
+        → Follows (state_of lock.old) cells
+        → decided (cells ++ cells_from octets.now first (result - 1)) ≡ decided cells }
+    ensures codes { Coded (told_of (block_in (state_of lock.new)) report.new) report.new }
+    ensures words { report.new.words ≡ report.old.words }
+{
+    let len = most_cells(lock.seen, octets.len(), first);
+    if len == 0 {
+        put_ending(None, report);
+        return 0;
+    }
+    let mut state = lock_of(lock);
+    let taken = take_cells(&mut state, &octets[first / 8..], first % 8, len);
+    put_ending(taken.ending, report);
+    keep(&state, lock);
+    taken.cells
+}
