@@ -151,6 +151,20 @@ aes3: byte 0 is neither cell nor separator (line 1, column 1): a session of sigr
     else
         echo "left out: packed cells with the first in the lowest bit (perl is not installed)"
     fi
+    # The output is not read for two seconds, and the second read of the file comes behind them.
+    speech=$root/examples/speech.block
+    waiting='{ sleep 2; cat > /dev/null; }'
+    erase=$(printf '\033[K')
+    at_terminal "how far a file has been read, and then nothing of it" "aes3: 68 %, 0 MB/s, 170 blocks$erase$erase" \
+        "$program encode < '$speech' | $waiting"
+    at_terminal "nothing of it where the input is no file" "" "cat '$speech' | $program encode | $waiting"
+    { cat "$speech" && printf x; } > "$folder/longer"
+    at_terminal "it makes room for a refusal" "aes3: 68 %, 0 MB/s, 170 blocks$erase${erase}aes3: refused 2 at 1
+aes3: the input ends 1 bytes into a block or a frame: cut the file to a multiple of 1,536 bytes, samples to one of 8, or fill them up" \
+        "$program encode < '$folder/longer' | $waiting"
+    "$program" encode < "$speech" 2> "$folder/errors" | { sleep 2; cat > /dev/null; }
+    status=0
+    expect "nothing of it where standard error is no terminal" 0 ""
 else
     echo "left out: sentences and hints at a terminal (script is not installed)"
 fi

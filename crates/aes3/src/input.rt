@@ -1,6 +1,6 @@
 //! What the program reads.
 
-use std::fs::File;
+use std::fs::{self, File};
 use std::io::{self, ErrorKind, Read, StdinLock};
 
 /// What the program reads.
@@ -23,6 +23,20 @@ impl Input {
                 Ok(file) => Input::File(file),
                 Err(_) => Input::Unopened,
             },
+        }
+    }
+
+    /// How many bytes it has, where it is a file that keeps them, standard input too.
+    pub(crate) fn len(&self, rt: &HostRuntime) -> Option<u64> {
+        let kept = match self {
+            Input::Standard(_) => fs::metadata(rt, "/dev/stdin").ok()?,
+            Input::File(file) => file.metadata().ok()?,
+            Input::Unopened => return None,
+        };
+        if kept.is_file() {
+            Some(kept.len())
+        } else {
+            None
         }
     }
 }

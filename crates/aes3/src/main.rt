@@ -9,17 +9,21 @@ ghost use Rattle.std.specs.Prelude.{◌+◌, ◌<◌, ◌^◌, ◌≡◌, IfErr}
 
 use aes3_arguments::{CommandLine, LineFault, line_of_words};
 use aes3_cell::{BufferedSink, Sink, StdSink, StdSource};
-use aes3_hints::{Hints, Terminals, Watched};
+use aes3_hints::{Clearing, Hints, Terminals};
 use aes3_runner::{Unread, run_line, tell_unread};
 use input::Input;
+use std::cell::Cell;
 use std::env;
 use std::io::ErrorKind;
 use std::process::ExitCode;
 
 fn main(rt: HostRuntime) -> ExitCode {
-    let mut errors = StdSink::new(rt.stderr());
-    let mut hints = Hints::new(rt.alloc(), StdSink::new(rt.stderr()), Terminals::new(&rt));
-    let status = match run_program(&rt, &mut errors, &mut hints) {
+    let terminals = Terminals::new(&rt);
+    let shown = Cell::new(false);
+    let told = StdSink::new(rt.stderr());
+    let mut errors = Clearing::new(StdSink::new(rt.stderr()), told, &shown, terminals.errors);
+    let mut hints = Hints::new(rt.alloc(), StdSink::new(rt.stderr()), terminals);
+    let status = match run_program(&rt, terminals, &shown, &mut errors, &mut hints) {
         Ok(status) => status,
         Err(fault) => {
             let status = tell_unread(fault, &mut errors, &mut hints);
@@ -30,9 +34,12 @@ fn main(rt: HostRuntime) -> ExitCode {
     ExitCode::from(status)
 }
 
-/// Runs the command line between what it reads and standard output, both buffered.
+/// Runs the command line between what it reads and standard output, both buffered. Whether a line of
+/// progress stands on standard error is in `shown`.
 fn run_program<E: Sink, H: Sink + Drop>(
     rt: &HostRuntime,
+    terminals: Terminals,
+    shown: &Cell<bool>,
     errors: &mut E,
     hints: &mut Hints<H>,
 ) -> Result<u8, Unread>
@@ -41,15 +48,26 @@ fn run_program<E: Sink, H: Sink + Drop>(
 {
     let words = words_of_line(rt)?;
     let words: Vec<&str> = words.iter().map(|word| word.as_str()).collect(rt.alloc())?;
-    let mut sink = BufferedSink::new(rt.alloc(), StdSink::new(rt.stdout().lock()))?;
+    let told = StdSink::new(rt.stderr());
+    let output = StdSink::new(rt.stdout().lock());
+    let output = Clearing::new(output, told, shown, terminals.output);
+    let mut sink = BufferedSink::new(rt.alloc(), output)?;
     let line = line_of_words(rt.alloc(), &words);
     let file = file_of_line(&line);
     if file.is_some() {
         hints.reads_file();
     }
-    let mut source = hints.watch(StdSource::new(Input::new(rt, file)));
+    let input = Input::new(rt, file);
+    let len = if terminals.errors {
+        input.len(rt)
+    } else {
+        None
+    };
+    let watched = hints.watch(StdSource::new(input));
+    let mut source = hints.follow(rt, watched, StdSink::new(rt.stderr()), shown, len, &line);
     let status = run_line(line, &mut source, &mut sink, errors, hints);
-    hints.explain(&words, file, &source);
+    source.end();
+    hints.explain(&words, file, source.source());
     Ok(status)
 }
 

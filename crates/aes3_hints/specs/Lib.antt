@@ -1,2 +1,3 @@
 pub mod LooksOf
 pub mod Places
+pub mod Progresses

@@ -1,15 +1,18 @@
 //! Sentences for whoever sits at a terminal.
 
-ghost use Rattle.std.specs.Prelude.{◌≡◌, IsFalse, IsTrue, not};
+ghost use Rattle.std.specs.Prelude.{◌≡◌, IsFalse, IsTrue, None, not};
 ghost use Rattle.aes3_cell.specs.Ends.{Grew};
 
 use crate::looks::{Looks, advice_by_looks, are_turned, looks_of};
+use crate::progress::{Progress, course_of};
 use crate::watched::{Position, Watched};
-use aes3_arguments::{advice, status_of_text};
+use aes3_arguments::{CommandLine, LineFault, advice, status_of_text};
 use aes3_cell::{Form, RunError, Sink, Source, write_all};
 use aes3_job::{Job, Observer};
 use std::alloc::Global;
+use std::cell::Cell;
 use std::io::IsTerminal;
+use std::time::Clock;
 
 /// Which of the standard streams are terminals.
 #[derive(Clone, Copy)]
@@ -70,6 +73,30 @@ impl<T: Sink + Drop> Hints<T> {
         ensures { result.source ≡ source }
     {
         Watched::new(self.alloc, source, self.terminals.errors)
+    }
+
+    /// Tells to `sink`, which is standard error, how far this source has been read, where there is a
+    /// person to tell and it is a file; `len` is how many bytes that has, and `line` what reads it.
+    /// Whether a line of progress stands there is in `shown`.
+    pub fn follow<'a, C: Clock + Drop, S: Source + Drop, E: Sink + Drop>(
+        &self,
+        clock: C,
+        source: S,
+        sink: E,
+        shown: &'a Cell<bool>,
+        len: Option<u64>,
+        line: &Result<CommandLine<'_>, LineFault>,
+    ) -> Progress<'a, C, S, E>
+        ensures source { result.source ≡ source }
+        ensures sink { result.sink ≡ sink }
+        ensures no_terminal { IsFalse self.now.terminals.errors → result.course ≡ None }
+        ensures no_file { len ≡ None → result.course ≡ None }
+    {
+        let course = match (self.terminals.errors, len, line) {
+            (true, Some(len), Ok(line)) => course_of(&clock, len, &line.job),
+            _ => None,
+        };
+        Progress::new(self.alloc, clock, source, sink, shown, course)
     }
 
     /// Says in a sentence what was refused of these words or their input, if anything was, and what
@@ -217,7 +244,7 @@ fn writes_packed(job: &Job) -> bool {
 }
 
 /// Whether the job reads packed cells.
-fn reads_packed(job: &Job) -> bool {
+pub(crate) fn reads_packed(job: &Job) -> bool {
     match job {
         Job::Encode { .. } | Job::FromPcm { .. } => false,
         Job::Decode { input }
