@@ -18,10 +18,10 @@
  * time slot n: bits 0 to 3 are zero, 4 to 27 the audio sample, 28 V, 29 U, 30 C, and 31 P, which
  * makes the ones in bits 4 to 31 even in number. A word that is so is lawful.
  *
- * Stack in bytes that a call used (examples/c/stack.c, x86-64): aes3_lock_push 6,392,
- * aes3_lock_finish 6,312, aes3_lock_take_words 3,272, aes3_block_status 1,592, aes3_encode_block
- * 1,576, aes3_block_validity and aes3_block_user 1,592, aes3_block_set_status and its kin 1,576, each
- * other 70 at most.
+ * Stack in bytes that a call used (examples/c/stack.c, x86-64): aes3_lock_push 4,960,
+ * aes3_lock_finish 4,792, aes3_lock_take_octets 3,992, aes3_lock_take_words 3,304,
+ * aes3_block_status, aes3_block_validity and aes3_block_user 1,592, aes3_encode_block,
+ * aes3_block_set_status and its kin 1,576, aes3_lock_block 1,560, each other 70 at most.
  */
 #ifndef AES3_H
 #define AES3_H

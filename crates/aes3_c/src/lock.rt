@@ -1,20 +1,19 @@
 //! The lock, kept by its caller.
 
 ghost use Rattle.std.specs.Prelude.{◌≡◌, ◌≢◌, ◌+◌, ◌<◌, ◌≤◌, ◌^◌, None, List, [], ◌++◌, length, take};
-ghost use Rattle.std.specs.Prelude.{◌*◌, ◌-◌, ◌/◌, get_or, map, min, option_to_list};
+ghost use Rattle.std.specs.Prelude.{◌*◌, ◌-◌, ◌/◌, get_or, map, min, option_map, option_to_list};
 ghost use Rattle.std.specs.List.{flat_map};
 ghost use Rattle.aes3_cell.specs.declared.level.Level.{Level};
 ghost use Rattle.aes3_cell.specs.Words.{low_cells, word_cells};
 ghost use Rattle.aes3_lock.specs.Reports.{decided, reports};
-ghost use Rattle.aes3_lock.specs.Following.{Follows};
+ghost use Rattle.aes3_lock.specs.Following.{Follows, report_in};
 ghost use Rattle.aes3_block.specs.Files.{payload_of, word_of};
 ghost use Rattle.aes3_c.specs.States.{Coded, HasBlock, StopsAt, block_in, candidate_in, state_of};
 ghost use Rattle.aes3_c.specs.States.{told_in};
 
 use crate::level::{byte_of_level, level_of_byte};
 use crate::report::{Aes3Report, put_block, put_ending, put_report};
-use aes3_block::GatheredCells;
-use aes3_lock::{Candidate, Lock, LockParts};
+use aes3_lock::{Candidate, Ending, Lock, LockParts, Pushed};
 
 /// A lock as plain numbers. Its fields are nobody's but the functions' here.
 #[repr(C)]
@@ -111,6 +110,30 @@ fn most_of(seen: u64, count: u32) -> u32
     u64::from(count.min(64)).min(MOST - seen) as u32
 }
 
+/// `Lock::push_front` of a lock that is kept.
+// A call of its own, so that the lock is off the stack where a block is put. So is `end_of`.
+#[inline(never)]
+fn push_front(lock: &mut Aes3Lock, word: u64, len: u32) -> Pushed
+    requires room { lock.old.seen + len ≤ 2 ^ 43 }
+    requires len { len ≤ 64 }
+    ensures within { result.taken ≤ len }
+    ensures all { result.ending ≡ None → result.taken ≡ len }
+    ensures seen { lock.new.seen ≡ lock.old.seen + result.taken }
+    ensures follows { (cells : List Level) → Follows (state_of lock.old) cells
+        → Follows (state_of lock.new) (cells ++ low_cells result.taken word) }
+    ensures report { (cells : List Level) → Follows (state_of lock.old) cells
+        → decided (cells ++ low_cells result.taken word) ≡ decided cells
+        ++ option_to_list (option_map (report_in (state_of lock.new)) result.ending) }
+    ensures last { result.ending ≢ None → (cells : List Level)
+        → Follows (state_of lock.old) cells
+        → decided (cells ++ low_cells (result.taken - 1) word) ≡ decided cells }
+{
+    let mut state = lock_of(lock);
+    let pushed = state.push_front(word, len);
+    keep(&state, lock);
+    pushed
+}
+
 /// Takes the first cells of a word, the earliest in bit 0, up to the first that decides a report
 /// and with it, and at most `count` and 64, and puts that report, if any. Answers how many it took;
 /// no lock takes more than 2^43 cells.
@@ -142,10 +165,8 @@ pub extern "C" fn aes3_lock_push(
         put_ending(None, report);
         return 0;
     }
-    let mut state = lock_of(lock);
-    let pushed = state.push_front(word, most);
-    put_report(&state, pushed.ending, report);
-    keep(&state, lock);
+    let pushed = push_front(lock, word, most);
+    put_report(&lock.words, pushed.ending, report);
     pushed.taken
 }
 
@@ -180,6 +201,16 @@ pub extern "C" fn aes3_lock_take_words(lock: &mut Aes3Lock, words: &[u64]) -> us
     taken
 }
 
+/// `Lock::end` of a lock that is kept.
+#[inline(never)]
+fn end_of(lock: &Aes3Lock) -> Option<Ending>
+    ensures { (cells : List Level) → Follows (state_of lock.now) cells
+        → reports cells ≡ decided cells
+        ++ option_to_list (option_map (report_in (state_of lock.now)) result) }
+{
+    lock_of(lock).end()
+}
+
 /// Takes the end of the cells, and puts the report that it decides, if any.
 #[unsafe(no_mangle)]
 pub extern "C" fn aes3_lock_finish(lock: &Aes3Lock, report: &mut Aes3Report)
@@ -188,9 +219,7 @@ pub extern "C" fn aes3_lock_finish(lock: &Aes3Lock, report: &mut Aes3Report)
     ensures codes { Coded (told_in report.new) report.new }
     ensures block { HasBlock (told_in report.new) report.new }
 {
-    // Not by `Lock::finish`: a lock moved into it would take as much stack again.
-    let state = lock_of(lock);
-    put_report(&state, state.end(), report);
+    put_report(&lock.words, end_of(lock), report);
 }
 
 /// Puts the words of the block of which the lock told last that it is whole or marked, as a block
@@ -200,5 +229,5 @@ pub extern "C" fn aes3_lock_block(lock: &Aes3Lock, words: &mut [u32; 384])
     ensures words { words.new ≡ map word_of (block_in (state_of lock.now)) }
     ensures payloads { map payload_of words.new ≡ block_in (state_of lock.now) }
 {
-    put_block(&GatheredCells::of_words(&lock.words), words);
+    put_block(&lock.words, words);
 }

@@ -3,15 +3,14 @@
 ghost use Rattle.std.specs.Prelude.{◌≡◌, ◌<◌, ◌^◌, ℕ, Bool, List, get_or, map, option_map};
 ghost use Rattle.aes3_slot.specs.ReadWords.{read_words};
 ghost use Rattle.aes3_block.specs.Files.{payload_of, word_of};
-ghost use Rattle.aes3_lock.specs.Following.{report_in};
 ghost use Rattle.aes3_lock.specs.Outcomes.{payloads_of};
 ghost use Rattle.aes3_lock.specs.Reports.{ending_report};
 ghost use Rattle.aes3_c.specs.Codes.{why_code, why_of_code};
 ghost use Rattle.aes3_c.specs.States.{Coded, HasBlock, told_in, told_of};
 
 use crate::level::byte_of_level;
-use aes3_block::{Block, GatheredCells};
-use aes3_lock::{Ending, Lock, Why};
+use aes3_block::Block;
+use aes3_lock::{Ending, Why};
 
 /// A report, or none. `kind` is 0 for none, 1 for a whole block, 2 for a marked one, 3 for a fault,
 /// 4 for the begun block at the end of the cells.
@@ -49,30 +48,31 @@ fn byte_of_why(why: Why) -> u8
     }
 }
 
-/// The same words once more.
-fn same_words(words: &[u32; 384]) -> [u32; 384]
-    ensures same { result ≡ words.now }
+/// Puts the same words once more.
+// In the place itself: an array that is answered would be one more on the stack.
+fn put_words(words: &[u32; 384], out: &mut [u32; 384])
+    ensures same { out.new ≡ words.now }
     ensures fits { (i : ℕ) → i < 384 → get_or words.now i 0 < 2 ^ 32 }
 {
     // A word that is counted tells a proof that each is of 32 bits.
     prove!(words[0].count_ones() <= 32);
-    *words
+    *out = *words;
 }
 
-/// The words of a block, as a block file has them.
-fn words_of_block(block: &Block) -> [u32; 384]
-    ensures words { result ≡ map word_of block.now }
-    ensures payloads { map payload_of result ≡ block.now }
+/// Puts the words of a block, as a block file has them.
+fn put_words_of(block: &Block, out: &mut [u32; 384])
+    ensures words { out.new ≡ map word_of block.now }
+    ensures payloads { map payload_of out.new ≡ block.now }
 {
-    same_words(block.words())
+    put_words(block.words(), out);
 }
 
 /// Puts the words of the block whose subframes have these cells.
-pub(crate) fn put_block(cells: &GatheredCells, words: &mut [u32; 384])
+pub(crate) fn put_block(cells: &[u64; 384], words: &mut [u32; 384])
     ensures words { words.new ≡ map word_of (payloads_of (read_words cells.now)) }
     ensures payloads { map payload_of words.new ≡ payloads_of (read_words cells.now) }
 {
-    *words = words_of_block(&cells.block());
+    put_words_of(&Block::of_cells(cells), words);
 }
 
 /// Puts what became of a block that was begun, if anything did, and leaves the words.
@@ -110,14 +110,15 @@ pub(crate) fn put_ending(ending: Option<Ending>, out: &mut Aes3Report)
     }
 }
 
-/// Puts what became of a block that was begun, if anything did, and its words where it is whole.
-pub(crate) fn put_report(lock: &Lock, ending: Option<Ending>, out: &mut Aes3Report)
-    ensures told { told_in out.new ≡ option_map (report_in lock.now) ending }
-    ensures codes { Coded (option_map (report_in lock.now) ending) out.new }
-    ensures block { HasBlock (option_map (report_in lock.now) ending) out.new }
+/// Puts what became of a block that was begun, if anything did, and where it is whole the words of
+/// the one whose subframes have these cells.
+pub(crate) fn put_report(cells: &[u64; 384], ending: Option<Ending>, out: &mut Aes3Report)
+    ensures told { told_in out.new ≡ option_map (ending_report (read_words cells.now)) ending }
+    ensures codes { Coded (option_map (ending_report (read_words cells.now)) ending) out.new }
+    ensures block { HasBlock (option_map (ending_report (read_words cells.now)) ending) out.new }
 {
     put_ending(ending, out);
     if out.kind == 1 {
-        put_block(lock.gathered(), &mut out.words);
+        put_block(cells, &mut out.words);
     }
 }

@@ -8,13 +8,13 @@ use Rattle.aes3_c.proofs.report.put_report.Goals as goal
 pub returns-then-out-eq1-clause-codes : goal.returns-then-out-eq1-clause-codes
 returns-then-out-eq1-clause-codes c =
     coded-words _ c.put_ending.new.out c.put_block.new.words
-    (c.put_ending.ensures.codes (read_words c.args.lock.now.words))
+    (c.put_ending.ensures.codes (read_words c.args.cells.now))
 
 pub returns-else-out-eq1-clause-told : goal.returns-else-out-eq1-clause-told
 returns-else-out-eq1-clause-told c =
     let out = c.put_ending.new.out in
-    let slots = read_words c.args.lock.now.words in
+    let slots = read_words c.args.cells.now in
     told-without out (payloads_of slots) (map payload_of out.words) _ c.if-out-eq1.false (c.put_ending.ensures.told slots)
 
 pub returns-else-out-eq1-clause-codes : goal.returns-else-out-eq1-clause-codes
-returns-else-out-eq1-clause-codes c = c.put_ending.ensures.codes (read_words c.args.lock.now.words)
+returns-else-out-eq1-clause-codes c = c.put_ending.ensures.codes (read_words c.args.cells.now)

@@ -2,13 +2,13 @@ use Rattle.std.proofs.Common.{arith, ◌∙◌, ap, map, sym}
 use Rattle.aes3_block.specs.Files.{word_of}
 use Rattle.aes3_block.proofs.BlockLemmas.{block_slots_384}
 use Rattle.aes3_block.proofs.Files.{words-of-payloads}
-use Rattle.aes3_c.proofs.report.words_of_block.Goals as goal
+use Rattle.aes3_c.proofs.report.put_words_of.Goals as goal
 
 pub returns-clause-words : goal.returns-clause-words
 returns-clause-words c =
     let n = block_slots_384 in
     let k = c.words.ensures.count in
-    c.same_words.ensures.same
-    ∙ sym (words-of-payloads c.words.result.now (λ i h. c.same_words.ensures.fits i (omega arith))
+    c.put_words.ensures.same
+    ∙ sym (words-of-payloads c.words.result.now (λ i h. c.put_words.ensures.fits i (omega arith))
     (λ i h. c.words.ensures.lawful i (omega arith)))
     ∙ ap (map word_of) c.words.ensures.payloads
