@@ -23,6 +23,7 @@ mod samples;
 mod sampling;
 
 pub use aes3_input::{Input, Taker, cell, convert, drive, word};
+pub use aes3_lock::Tally;
 pub use aes3_status::Change;
 pub use blocks::{BlockWriter, run_blocks};
 pub use encoding::encode;
