@@ -55,7 +55,7 @@ _aes3() {
     esac
     case ${words[-1]} in
         --set1 | --set2) _aes3_setting; return ;;
-        --status1 | --status2) return ;;
+        --rate | --status1 | --status2) return ;;
         --explain) _aes3_words 1 2 3 4 5 6 7 8 9 10 11; return ;;
     esac
     [ -z "$option" ] || return
@@ -71,7 +71,7 @@ _aes3() {
         decode) _aes3_words --packed-in --help ;;
         normal) _aes3_words --packed-in --packed-out --help ;;
         check) _aes3_words --packed-in --faults --gaps --help ;;
-        watch) _aes3_words --packed-in --help ;;
+        watch) _aes3_words --packed-in --json --rate --help ;;
         show) _aes3_words --packed-in --changes --help ;;
         scan) _aes3_words --packed-in --help ;;
         cut) _aes3_words --packed-in --packed-out --help ;;

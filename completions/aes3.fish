@@ -82,6 +82,8 @@ complete -c aes3 -n '__fish_seen_subcommand_from check' -l gaps -d 'Tell and cou
 complete -c aes3 -n '__fish_seen_subcommand_from check' -l help -s h -d 'Print help'
 complete -c aes3 -n "__fish_seen_subcommand_from watch; and not string match -q -- '-*' (commandline -ct)" -F
 complete -c aes3 -n '__fish_seen_subcommand_from watch' -l packed-in -d 'Read packed cells, eight an octet'
+complete -c aes3 -n '__fish_seen_subcommand_from watch' -l json -d 'Write JSON objects in place of words'
+complete -c aes3 -n '__fish_seen_subcommand_from watch' -l rate -x -d 'Tell times, where a second has HZ frames'
 complete -c aes3 -n '__fish_seen_subcommand_from watch' -l help -s h -d 'Print help'
 complete -c aes3 -n "__fish_seen_subcommand_from show; and not string match -q -- '-*' (commandline -ct)" -F
 complete -c aes3 -n '__fish_seen_subcommand_from show' -l packed-in -d 'Read packed cells, eight an octet'

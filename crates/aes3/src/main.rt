@@ -64,11 +64,11 @@ fn run_program<E: Sink, H: Sink + Drop>(
         None
     };
     let watched = hints.watch(StdSource::new(input));
-    let mut source = hints.follow(rt, watched, StdSink::new(rt.stderr()), shown, len, &line);
-    let status = run_line(line, &mut source, &mut sink, errors, hints);
-    source.end();
-    hints.explain(&words, file, source.source());
-    Ok(status)
+    let source = hints.follow(rt, watched, StdSink::new(rt.stderr()), shown, len, &line);
+    let mut ran = run_line(line, source, &mut sink, errors, hints);
+    ran.source.end();
+    hints.explain(&words, file, ran.source.source());
+    Ok(ran.status)
 }
 
 /// The file that the line reads in place of standard input.

@@ -1,15 +1,56 @@
 -- What stands of an account, and how long its gaps are.
-use Rattle.std.proofs.Common.{◌≡◌, ℕ, zero, suc, ◌+◌, ◌-◌, ◌<◌, ◌≤◌, Bool, true, false, cond, ltb, List, [], ◌∷◌, ◌++◌, length, refl, sym, ap, ◌∙◌, arith, append-nil, append_assoc}
+use Rattle.std.proofs.Common.{
+  ◌≡◌,
+  ℕ,
+  zero,
+  suc,
+  ◌+◌,
+  ◌-◌,
+  ◌<◌,
+  ◌≤◌,
+  Bool,
+  true,
+  false,
+  cond,
+  ltb,
+  List,
+  [],
+  ◌∷◌,
+  ◌++◌,
+  length,
+  refl,
+  sym,
+  ap,
+  ◌∙◌,
+  arith,
+  append-nil,
+  append_assoc,
+}
 use Rattle.std.specs.List.{All}
 use Rattle.std.proofs.lemmas.Bool.{ltb-true}
 use Rattle.std.proofs.lemmas.List.Elements.{All-append, All-cons, All-nil}
-use Rattle.aes3_cell.specs.declared.level.Level.{Level}
-use Rattle.aes3_block.specs.Blocks.{block_len}
+use Rattle.aes3_level.specs.declared.level.Level.{Level}
+use Rattle.aes3_frame.specs.Blocks.{block_len}
 use Rattle.aes3_lock.specs.declared.report.Report.{Report}
 use Rattle.aes3_lock.specs.declared.report.Report.TheVariants.{Whole, Marked, Fault, Unfinished}
 use Rattle.aes3_lock.specs.Reports.{reports, wholes}
 use Rattle.aes3_lock.proofs.Deciding.{block_len_24576}
-use Rattle.aes3_account.specs.Gaps.{Entry, reported, full_gaps, full_count, behind_full, kind, rest_gap, gaps, gaps_before, behind_report, account_from, reached_from, account, begun_account}
+use Rattle.aes3_account.specs.Gaps.{
+  Entry,
+  reported,
+  full_gaps,
+  full_count,
+  behind_full,
+  kind,
+  rest_gap,
+  gaps,
+  gaps_before,
+  behind_report,
+  account_from,
+  reached_from,
+  account,
+  begun_account,
+}
 use Rattle.aes3_account.specs.GapLaws.{HasGapOfABlock}
 use Rattle.aes3_account.proofs.Accounts.{account-more, begun-more}
 
@@ -19,7 +60,8 @@ begun-stands c (l ∷ d) =
     let a = begun-more c l in
     let b = begun-stands (c ++ l ∷ []) d in (
       a.0 ++ b.0,
-      ap begun_account (sym (append_assoc c (l ∷ []) d)) ∙ b.1 ∙ ap (λ z. z ++ b.0) a.1 ∙ append_assoc (begun_account c) a.0 b.0,
+      ap begun_account (sym (append_assoc c (l ∷ []) d)) ∙ b.1 ∙ ap (λ z. z ++ b.0) a.1
+          ∙ append_assoc (begun_account c) a.0 b.0,
     )
 
 pub account-stands : (c d : List Level) → (more : List Entry) × (account (c ++ d) ≡ begun_account c ++ more)
@@ -35,7 +77,8 @@ Short e = All HasGapOfABlock e
 short-fulls : (p n : ℕ) → Short (full_gaps p n)
 short-fulls p zero = All-nil HasGapOfABlock
 short-fulls p (suc n) =
-    All-cons HasGapOfABlock _ (full_gaps (p + block_len) n) (rw block_len_24576 (omega arith), rw block_len_24576 (omega arith))
+    All-cons HasGapOfABlock _ (full_gaps (p + block_len) n)
+    (rw block_len_24576 (omega arith), rw block_len_24576 (omega arith))
     (short-fulls (p + block_len) n)
 
 short-rest : (counts : Bool) (p q : ℕ) → q ≤ p + block_len → Short (rest_gap counts p q)
@@ -55,7 +98,8 @@ near p q = rw block_len_24576 (omega arith)
 
 short-gaps : (counts : Bool) (p q : ℕ) → Short (gaps counts p q)
 short-gaps counts p q =
-    All-append HasGapOfABlock (full_gaps p (full_count p q)) (rest_gap counts (behind_full p q) q) (short-fulls p (full_count p q))
+    All-append HasGapOfABlock (full_gaps p (full_count p q)) (rest_gap counts (behind_full p q) q)
+    (short-fulls p (full_count p q))
     (short-rest counts (behind_full p q) q (near p q))
 
 short-before : (n p : ℕ) (x : Report) → Short (gaps_before n p x)

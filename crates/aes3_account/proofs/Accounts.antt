@@ -1,12 +1,50 @@
 -- The account of cells, as they come.
-use Rattle.std.proofs.Common.{◌≡◌, ℕ, suc, ◌+◌, ◌-◌, ◌*◌, ◌^◌, ◌<◌, ◌≤◌, ◌⊎◌, inl, inr, Bool, true, false, cond, ltb, List, [], ◌∷◌, ◌++◌, Option, Some, None, Ok, length, drop, refl, sym, ap, ap₂, ◌∙◌, subst, arith, append-nil, append_assoc, length-append}
+use Rattle.std.proofs.Common.{
+  ◌≡◌,
+  ℕ,
+  suc,
+  ◌+◌,
+  ◌-◌,
+  ◌*◌,
+  ◌^◌,
+  ◌<◌,
+  ◌≤◌,
+  ◌⊎◌,
+  inl,
+  inr,
+  Bool,
+  true,
+  false,
+  cond,
+  ltb,
+  List,
+  [],
+  ◌∷◌,
+  ◌++◌,
+  Option,
+  Some,
+  None,
+  Ok,
+  length,
+  drop,
+  refl,
+  sym,
+  ap,
+  ap₂,
+  ◌∙◌,
+  subst,
+  arith,
+  append-nil,
+  append_assoc,
+  length-append,
+}
 use Rattle.std.specs.List.{filter}
 use Rattle.std.proofs.lemmas.Grind.{flat_map-append}
 use Rattle.std.proofs.lemmas.List.{append_cancel_left, drop_at}
-use Rattle.aes3_cell.specs.declared.level.Level.{Level}
+use Rattle.aes3_level.specs.declared.level.Level.{Level}
 use Rattle.aes3_cell.specs.declared.form.Form.{Form}
 use Rattle.aes3_cell.specs.declared.counts.Counts.{Counts}
-use Rattle.aes3_block.specs.Blocks.{block_len, block_slots}
+use Rattle.aes3_frame.specs.Blocks.{block_len, block_slots}
 use Rattle.aes3_lock.specs.declared.report.Report.{Report}
 use Rattle.aes3_lock.specs.declared.report.Report.TheVariants.{Whole, Marked, Fault, Unfinished}
 use Rattle.aes3_lock.specs.Outcomes.{Outcome}
@@ -22,11 +60,55 @@ use Rattle.aes3_lock.proofs.Tallies.{tallies-few, few-decided}
 use Rattle.aes3_input.proofs.Items.{before-is, before-join as end-join}
 use Rattle.aes3_lines.specs.declared.lines.Lines.{Lines}
 use Rattle.aes3_lock.specs.Remains.{place_of}
-use Rattle.aes3_account.specs.Gaps.{Entry, reported, full_gaps, full_count, behind_full, rest_gap, gaps, gaps_before, behind_report, account_from, reached_from, account, begun_account, accounted, is_lost}
+use Rattle.aes3_account.specs.Gaps.{
+  Entry,
+  reported,
+  full_gaps,
+  full_count,
+  behind_full,
+  rest_gap,
+  gaps,
+  gaps_before,
+  behind_report,
+  account_from,
+  reached_from,
+  account,
+  begun_account,
+  accounted,
+  is_lost,
+}
 use Rattle.aes3_account.specs.GapLines.{entry_line, account_lines}
 use Rattle.aes3_account.specs.Accounting.{Accounts, Accounted, account_counts, accounting}
-use Rattle.aes3_account.proofs.GapLemmas.{behind-join, full-join, gaps-join, before-join, report-join, account-push, reached-push, lost-append, lost-full, lost-rest, behind-near, behind-far, behind-most, count-few}
-use Rattle.aes3_account.proofs.ReportPlaces.{UpTo, Spaced, next_place, upto-last, spaced-weaker, spaced-decided, spaced-reports, near-decided, near-reports, split-reports, late-decided, late-reports}
+use Rattle.aes3_account.proofs.GapLemmas.{
+  behind-join,
+  full-join,
+  gaps-join,
+  before-join,
+  report-join,
+  account-push,
+  reached-push,
+  lost-append,
+  lost-full,
+  lost-rest,
+  behind-near,
+  behind-far,
+  behind-most,
+  count-few,
+}
+use Rattle.aes3_account.proofs.ReportPlaces.{
+  UpTo,
+  Spaced,
+  next_place,
+  upto-last,
+  spaced-weaker,
+  spaced-decided,
+  spaced-reports,
+  near-decided,
+  near-reports,
+  split-reports,
+  late-decided,
+  late-reports,
+}
 
 pub starts : {b f u : ℕ} → Tallies b f u [] → Accounts 0 0 b f u []
 unfolding accounted begun_account behind_full full_count decided block_len block_slots
@@ -40,16 +122,21 @@ shorter c d = let l = length-append c d in omega arith
 pub passed : List Level → List Level → List Entry
 passed c d = full_gaps (accounted c) (full_count (accounted c) (length (c ++ d) - block_len))
 
-pub begun-passed : (c d : List Level) → decided (c ++ d) ≡ decided c → begun_account (c ++ d) ≡ begun_account c ++ passed c d
+pub begun-passed : (c d : List Level) → decided (c ++ d) ≡ decided c
+    → begun_account (c ++ d) ≡ begun_account c ++ passed c d
 unfolding begun_account accounted passed
 begun-passed c d e =
     let p = reached_from 0 (decided c) in
-    ap (λ r. account_from 0 0 r ++ full_gaps (reached_from 0 r) (full_count (reached_from 0 r) (length (c ++ d) - block_len))) e
-    ∙ ap (λ z. account_from 0 0 (decided c) ++ z) (full-join p (length c - block_len) (length (c ++ d) - block_len) (shorter c d))
+    ap (λ r. account_from 0 0 r
+    ++ full_gaps (reached_from 0 r) (full_count (reached_from 0 r) (length (c ++ d) - block_len))) e
+    ∙ ap (λ z. account_from 0 0 (decided c) ++ z)
+    (full-join p (length c - block_len) (length (c ++ d) - block_len) (shorter c d))
     ∙ sym (append_assoc (account_from 0 0 (decided c)) (full_gaps p (full_count p (length c - block_len)))
-    (full_gaps (behind_full p (length c - block_len)) (full_count (behind_full p (length c - block_len)) (length (c ++ d) - block_len))))
+    (full_gaps (behind_full p (length c - block_len))
+    (full_count (behind_full p (length c - block_len)) (length (c ++ d) - block_len))))
 
-pub accounted-passed : (c d : List Level) → decided (c ++ d) ≡ decided c → accounted (c ++ d) ≡ behind_full (accounted c) (length (c ++ d) - block_len)
+pub accounted-passed : (c d : List Level) → decided (c ++ d) ≡ decided c
+    → accounted (c ++ d) ≡ behind_full (accounted c) (length (c ++ d) - block_len)
 unfolding accounted
 accounted-passed c d e =
     ap (λ r. behind_full (reached_from 0 r) (length (c ++ d) - block_len)) e
@@ -72,23 +159,29 @@ pushed-report c x tail h =
     let n = length (wholes r) in
     ap (λ z. z ++ tail) (account-push 0 0 r x ∙ ap (λ z. account_from 0 0 r ++ (z ++ reported x ∷ []))
     (ap (λ m. gaps_before m p x) (let e : 0 + n ≡ n = omega arith in e) ∙ before-join n p a x (omega arith)))
-    ∙ four-joined (account_from 0 0 r) (full_gaps p (full_count p a)) (gaps_before n (behind_full p a) x) (reported x ∷ []) tail
+    ∙ four-joined (account_from 0 0 r) (full_gaps p (full_count p a)) (gaps_before n (behind_full p a) x)
+    (reported x ∷ []) tail
 
-pub reached-report : (c : List Level) (x : Report) → length c ≤ place_of x + block_len → reached_from 0 (decided c ++ x ∷ []) ≡ behind_report (accounted c) x
+pub reached-report : (c : List Level) (x : Report) → length c ≤ place_of x + block_len
+    → reached_from 0 (decided c ++ x ∷ []) ≡ behind_report (accounted c) x
 unfolding accounted
-reached-report c x h = reached-push 0 (decided c) x ∙ report-join (reached_from 0 (decided c)) (length c - block_len) x (omega arith)
+reached-report c x h = reached-push 0 (decided c) x
+    ∙ report-join (reached_from 0 (decided c)) (length c - block_len) x (omega arith)
 
 begun-is : (c : List Level) (r : List Report) (p : ℕ) → decided c ≡ r → reached_from 0 r ≡ p
     → begun_account c ≡ account_from 0 0 r ++ full_gaps p (full_count p (length c - block_len))
 unfolding begun_account
 begun-is c r p e f =
-    ap (λ v. account_from 0 0 v ++ full_gaps (reached_from 0 v) (full_count (reached_from 0 v) (length c - block_len))) e
+    ap (λ v. account_from 0 0 v ++ full_gaps (reached_from 0 v) (full_count (reached_from 0 v) (length c - block_len)))
+    e
     ∙ ap (λ v. account_from 0 0 r ++ full_gaps v (full_count v (length c - block_len))) f
 
-account-is : (c : List Level) (r : List Report) (p : ℕ) → reports c ≡ r → reached_from 0 r ≡ p → account c ≡ account_from 0 0 r ++ gaps false p (length c)
+account-is : (c : List Level) (r : List Report) (p : ℕ) → reports c ≡ r → reached_from 0 r ≡ p
+    → account c ≡ account_from 0 0 r ++ gaps false p (length c)
 unfolding account
 account-is c r p e f =
-    ap (λ v. account_from 0 0 v ++ gaps false (reached_from 0 v) (length c)) e ∙ ap (λ v. account_from 0 0 r ++ gaps false v (length c)) f
+    ap (λ v. account_from 0 0 v ++ gaps false (reached_from 0 v) (length c)) e
+    ∙ ap (λ v. account_from 0 0 r ++ gaps false v (length c)) f
 
 -- more cells that decide a report
 pub taken : List Level → List Level → Report → List Entry
@@ -96,21 +189,29 @@ taken c d x =
     let p = behind_report (accounted c) x in
     with_report c x ++ full_gaps p (full_count p (length (c ++ d) - block_len))
 
-pub begun-taken : (c d : List Level) (x : Report) → decided (c ++ d) ≡ decided c ++ x ∷ [] → begun_account (c ++ d) ≡ begun_account c ++ taken c d x
+pub begun-taken : (c d : List Level) (x : Report) → decided (c ++ d) ≡ decided c ++ x ∷ []
+    → begun_account (c ++ d) ≡ begun_account c ++ taken c d x
 unfolding taken
 begun-taken c d x e = go (late-decided c d x e)
   where
-    go : length c ≤ place_of x + block_len → begun_account (c ++ d) ≡ begun_account c ++ (with_report c x ++ full_gaps (behind_report (accounted c) x) (full_count (behind_report (accounted c) x) (length (c ++ d) - block_len)))
+    go : length c ≤ place_of x + block_len
+        → begun_account (c ++ d) ≡ begun_account c
+        ++ (with_report c x ++ full_gaps (behind_report (accounted c) x)
+        (full_count (behind_report (accounted c) x) (length (c ++ d) - block_len)))
     go h =
         begun-is (c ++ d) (decided c ++ x ∷ []) (behind_report (accounted c) x) e (reached-report c x h)
-        ∙ pushed-report c x (full_gaps (behind_report (accounted c) x) (full_count (behind_report (accounted c) x) (length (c ++ d) - block_len))) h
+        ∙ pushed-report c x (full_gaps (behind_report (accounted c) x)
+        (full_count (behind_report (accounted c) x) (length (c ++ d) - block_len))) h
 
-accounted-is : (c : List Level) (r : List Report) → decided c ≡ r → accounted c ≡ behind_full (reached_from 0 r) (length c - block_len)
+accounted-is : (c : List Level) (r : List Report) → decided c ≡ r
+    → accounted c ≡ behind_full (reached_from 0 r) (length c - block_len)
 unfolding accounted
 accounted-is c r e = ap (λ v. behind_full (reached_from 0 v) (length c - block_len)) e
 
-pub accounted-taken : (c d : List Level) (x : Report) → decided (c ++ d) ≡ decided c ++ x ∷ [] → accounted (c ++ d) ≡ behind_full (behind_report (accounted c) x) (length (c ++ d) - block_len)
-accounted-taken c d x e = accounted-is (c ++ d) (decided c ++ x ∷ []) e ∙ ap (λ p. behind_full p (length (c ++ d) - block_len)) (reached-report c x (late-decided c d x e))
+pub accounted-taken : (c d : List Level) (x : Report) → decided (c ++ d) ≡ decided c ++ x ∷ []
+    → accounted (c ++ d) ≡ behind_full (behind_report (accounted c) x) (length (c ++ d) - block_len)
+accounted-taken c d x e = accounted-is (c ++ d) (decided c ++ x ∷ []) e
+    ∙ ap (λ p. behind_full p (length (c ++ d) - block_len)) (reached-report c x (late-decided c d x e))
 
 -- the end, where it decides no report, and where it decides one
 pub closed : List Level → List Entry
@@ -122,12 +223,14 @@ account-closed c e =
     let p = reached_from 0 (decided c) in
     account-is c (decided c) p (e ∙ append-nil (decided c)) refl
     ∙ ap (λ z. account_from 0 0 (decided c) ++ z) (gaps-join false p (length c - block_len) (length c) (omega arith))
-    ∙ sym (append_assoc (account_from 0 0 (decided c)) (full_gaps p (full_count p (length c - block_len))) (gaps false (behind_full p (length c - block_len)) (length c)))
+    ∙ sym (append_assoc (account_from 0 0 (decided c)) (full_gaps p (full_count p (length c - block_len)))
+    (gaps false (behind_full p (length c - block_len)) (length c)))
 
 pub closed_with : List Level → Report → List Entry
 closed_with c x = with_report c x ++ gaps false (behind_report (accounted c) x) (length c)
 
-pub account-closed_with : (c : List Level) (x : Report) → reports c ≡ decided c ++ x ∷ [] → account c ≡ begun_account c ++ closed_with c x
+pub account-closed_with : (c : List Level) (x : Report) → reports c ≡ decided c ++ x ∷ []
+    → account c ≡ begun_account c ++ closed_with c x
 unfolding closed_with
 account-closed_with c x e =
     let h = late-reports c x e in
@@ -144,7 +247,8 @@ one-answer p [] l = inl refl
 one-answer p (x ∷ c) l = go (open_at (x ∷ c)) (one-answer (suc p) c l)
   where
     go : (b : Bool) → (answer (suc p) c l ≡ []) ⊎ ((x : Report) × (answer (suc p) c l ≡ x ∷ []))
-        → (cond b (told p (decided_at (x ∷ c ++ l ∷ []))) (answer (suc p) c l) ≡ []) ⊎ ((y : Report) × (cond b (told p (decided_at (x ∷ c ++ l ∷ []))) (answer (suc p) c l) ≡ y ∷ []))
+        → (cond b (told p (decided_at (x ∷ c ++ l ∷ []))) (answer (suc p) c l) ≡ [])
+        ⊎ ((y : Report) × (cond b (told p (decided_at (x ∷ c ++ l ∷ []))) (answer (suc p) c l) ≡ y ∷ []))
     go true r = one-told p (decided_at (x ∷ c ++ l ∷ []))
     go false r = r
 
@@ -153,7 +257,8 @@ one-final p [] = inl refl
 one-final p (x ∷ c) = go (open_at (x ∷ c)) (one-final (suc p) c)
   where
     go : (b : Bool) → (final (suc p) c ≡ []) ⊎ ((x : Report) × (final (suc p) c ≡ x ∷ []))
-        → (cond b (told p (outcome_at (x ∷ c))) (final (suc p) c) ≡ []) ⊎ ((y : Report) × (cond b (told p (outcome_at (x ∷ c))) (final (suc p) c) ≡ y ∷ []))
+        → (cond b (told p (outcome_at (x ∷ c))) (final (suc p) c) ≡ [])
+        ⊎ ((y : Report) × (cond b (told p (outcome_at (x ∷ c))) (final (suc p) c) ≡ y ∷ []))
     go true r = one-told p (outcome_at (x ∷ c))
     go false r = r
 
@@ -164,67 +269,87 @@ decided-more c l = decided-push 0 c l
 pub begun-more : (c : List Level) (l : Level) → (m : List Entry) × (begun_account (c ++ l ∷ []) ≡ begun_account c ++ m)
 begun-more c l = go (one-answer 0 c l)
   where
-    go : (answer 0 c l ≡ []) ⊎ ((x : Report) × (answer 0 c l ≡ x ∷ [])) → (m : List Entry) × (begun_account (c ++ l ∷ []) ≡ begun_account c ++ m)
-    go (inl e) = (passed c (l ∷ []), begun-passed c (l ∷ []) (decided-more c l ∙ ap (λ r. decided c ++ r) e ∙ append-nil (decided c)))
+    go : (answer 0 c l ≡ []) ⊎ ((x : Report) × (answer 0 c l ≡ x ∷ []))
+        → (m : List Entry) × (begun_account (c ++ l ∷ []) ≡ begun_account c ++ m)
+    go (inl e) = (
+      passed c (l ∷ []),
+      begun-passed c (l ∷ []) (decided-more c l ∙ ap (λ r. decided c ++ r) e ∙ append-nil (decided c)),
+    )
     go (inr x) = (taken c (l ∷ []) x.0, begun-taken c (l ∷ []) x.0 (decided-more c l ∙ ap (λ r. decided c ++ r) x.1))
 
 pub account-more : (c : List Level) → (m : List Entry) × (account c ≡ begun_account c ++ m)
 account-more c = go (one-final 0 c)
   where
-    go : (final 0 c ≡ []) ⊎ ((x : Report) × (final 0 c ≡ x ∷ [])) → (m : List Entry) × (account c ≡ begun_account c ++ m)
+    go : (final 0 c ≡ []) ⊎ ((x : Report) × (final 0 c ≡ x ∷ []))
+        → (m : List Entry) × (account c ≡ begun_account c ++ m)
     go (inl e) = (closed c, account-closed c (split-reports c ∙ ap (λ r. decided c ++ r) e))
     go (inr x) = (closed_with c x.0, account-closed_with c x.0 (split-reports c ∙ ap (λ r. decided c ++ r) x.1))
 
 -- what the taker of an account writes
-adds-is : (lines : Lines) (c : List Level) (l : Level) → account_lines lines (drop (length (begun_account c)) (begun_account (c ++ l ∷ []))) ≡ (accounting lines).adds c l
+adds-is : (lines : Lines) (c : List Level) (l : Level)
+    → account_lines lines (drop (length (begun_account c)) (begun_account (c ++ l ∷ []))) ≡ (accounting lines).adds c l
 unfolding accounting
 adds-is lines c l = refl
 
-ends-is : (lines : Lines) (c : List Level) → (accounting lines).ends c ≡ account_lines lines (drop (length (begun_account c)) (account c))
+ends-is : (lines : Lines) (c : List Level)
+    → (accounting lines).ends c ≡ account_lines lines (drop (length (begun_account c)) (account c))
 unfolding accounting
 ends-is lines c = refl
 
-lines-more : (lines : Lines) (a b m : List Entry) → b ≡ a ++ m → account_lines lines b ≡ account_lines lines a ++ account_lines lines (drop (length a) b)
+lines-more : (lines : Lines) (a b m : List Entry) → b ≡ a ++ m
+    → account_lines lines b ≡ account_lines lines a ++ account_lines lines (drop (length a) b)
 lines-more lines a b m e =
     ap (account_lines lines) e ∙ flat_map-append (entry_line lines) a m
-    ∙ ap (λ z. account_lines lines a ++ account_lines lines z) (sym (ap (drop (length a)) e ∙ drop_at a m (length a) refl))
+    ∙ ap (λ z. account_lines lines a ++ account_lines lines z)
+    (sym (ap (drop (length a)) e ∙ drop_at a m (length a) refl))
 
 begins : (lines : Lines) → account_lines lines (begun_account []) ≡ []
 unfolding accounted begun_account behind_full full_count decided block_len block_slots
 begins lines = refl
 
-pub before-account : (lines : Lines) (c : List Level) → before_end (accounting lines) c ≡ account_lines lines (begun_account c)
+pub before-account : (lines : Lines) (c : List Level)
+    → before_end (accounting lines) c ≡ account_lines lines (begun_account c)
 before-account lines c =
     before-is (accounting lines) (λ c. account_lines lines (begun_account c)) (begins lines)
-    (λ c l. let m = begun-more c l in lines-more lines (begun_account c) (begun_account (c ++ l ∷ [])) m.0 m.1 ∙ ap (λ z. account_lines lines (begun_account c) ++ z) (adds-is lines c l)) c
+    (λ c l. let m = begun-more c l in lines-more lines (begun_account c) (begun_account (c ++ l ∷ [])) m.0 m.1
+    ∙ ap (λ z. account_lines lines (begun_account c) ++ z) (adds-is lines c l)) c
 
 pub with-account : (lines : Lines) (c : List Level) → with_end (accounting lines) c ≡ account_lines lines (account c)
 unfolding with_end
 with-account lines c =
     let m = account-more c in
-    ap₂ (λ x y. x ++ y) (before-account lines c) (ends-is lines c) ∙ sym (lines-more lines (begun_account c) (account c) m.0 m.1)
+    ap₂ (λ x y. x ++ y) (before-account lines c) (ends-is lines c)
+    ∙ sym (lines-more lines (begun_account c) (account c) m.0 m.1)
 
-pub behind-account : (lines : Lines) (c d : List Level) (m : List Entry) → begun_account (c ++ d) ≡ begun_account c ++ m → behind (accounting lines) c d ≡ account_lines lines m
+pub behind-account : (lines : Lines) (c d : List Level) (m : List Entry) → begun_account (c ++ d) ≡ begun_account c ++ m
+    → behind (accounting lines) c d ≡ account_lines lines m
 behind-account lines c d m e =
     append_cancel_left (account_lines lines (begun_account c)) (behind (accounting lines) c d) (account_lines lines m)
-    (ap (λ z. z ++ behind (accounting lines) c d) (sym (before-account lines c)) ∙ sym (end-join (accounting lines) c d) ∙ before-account lines (c ++ d)
+    (ap (λ z. z ++ behind (accounting lines) c d) (sym (before-account lines c)) ∙ sym (end-join (accounting lines) c d)
+    ∙ before-account lines (c ++ d)
     ∙ ap (account_lines lines) e ∙ flat_map-append (entry_line lines) (begun_account c) m)
 
-pub ends-account : (lines : Lines) (c : List Level) (m : List Entry) → account c ≡ begun_account c ++ m → (accounting lines).ends c ≡ account_lines lines m
-ends-account lines c m e = ends-is lines c ∙ ap (account_lines lines) (ap (drop (length (begun_account c))) e ∙ drop_at (begun_account c) m (length (begun_account c)) refl)
+pub ends-account : (lines : Lines) (c : List Level) (m : List Entry) → account c ≡ begun_account c ++ m
+    → (accounting lines).ends c ≡ account_lines lines m
+ends-account lines c m e = ends-is lines c
+    ∙ ap (account_lines lines)
+    (ap (drop (length (begun_account c))) e ∙ drop_at (begun_account c) m (length (begun_account c)) refl)
 
 -- the cells before the last block's
 pub less : (s n m : ℕ) → s ≡ n - 24576 → n ≡ m → s ≡ m - block_len
 less s n m e f = rw block_len_24576 (omega arith)
 
 -- the lines of more cells that decide no report
-pub pass-lines : (lines : Lines) (p s : ℕ) (c d : List Level) → p ≡ accounted c → s ≡ length (c ++ d) - block_len → decided (c ++ d) ≡ decided c
+pub pass-lines : (lines : Lines) (p s : ℕ) (c d : List Level) → p ≡ accounted c → s ≡ length (c ++ d) - block_len
+    → decided (c ++ d) ≡ decided c
     → account_lines lines (full_gaps p (full_count p s)) ≡ behind (accounting lines) c d
 unfolding passed
 pass-lines lines p s c d e f q =
-    ap₂ (λ x y. account_lines lines (full_gaps x (full_count x y))) e f ∙ sym (behind-account lines c d (passed c d) (begun-passed c d q))
+    ap₂ (λ x y. account_lines lines (full_gaps x (full_count x y))) e f
+    ∙ sym (behind-account lines c d (passed c d) (begun-passed c d q))
 
-pub pass-accounts : {p l b f u : ℕ} (p' l' s : ℕ) (c d : List Level) → Accounts p l b f u c → decided (c ++ d) ≡ decided c → s ≡ length (c ++ d) - block_len
+pub pass-accounts : {p l b f u : ℕ} (p' l' s : ℕ) (c d : List Level) → Accounts p l b f u c
+    → decided (c ++ d) ≡ decided c → s ≡ length (c ++ d) - block_len
     → p' ≡ behind_full p s → l' ≡ l + full_count p s → Accounts p' l' b f u (c ++ d)
 unfolding passed
 pass-accounts {p} {l} {b} {f} {u} p' l' s c d h q e g k =
@@ -239,21 +364,27 @@ pass-accounts {p} {l} {b} {f} {u} p' l' s c d h q e g k =
     }
 
 -- of a report, and of cells behind it
-pub report-lines : (lines : Lines) (n p : ℕ) (c : List Level) (x : Report) → n ≡ length (wholes (decided c)) → p ≡ accounted c
+pub report-lines : (lines : Lines) (n p : ℕ) (c : List Level) (x : Report) → n ≡ length (wholes (decided c))
+    → p ≡ accounted c
     → account_lines lines (gaps_before n p x ++ reported x ∷ []) ≡ account_lines lines (with_report c x)
 unfolding with_report
 report-lines lines n p c x e f = ap₂ (λ m q. account_lines lines (gaps_before m q x ++ reported x ∷ [])) e f
 
-pub take-lines : (lines : Lines) (p' s : ℕ) (c d : List Level) (x : Report) → p' ≡ behind_report (accounted c) x → s ≡ length (c ++ d) - block_len
+pub take-lines : (lines : Lines) (p' s : ℕ) (c d : List Level) (x : Report) → p' ≡ behind_report (accounted c) x
+    → s ≡ length (c ++ d) - block_len
     → decided (c ++ d) ≡ decided c ++ x ∷ []
-    → account_lines lines (with_report c x) ++ account_lines lines (full_gaps p' (full_count p' s)) ≡ behind (accounting lines) c d
+    → account_lines lines (with_report c x) ++ account_lines lines (full_gaps p' (full_count p' s))
+    ≡ behind (accounting lines) c d
 unfolding taken
 take-lines lines p' s c d x e f q =
     sym (flat_map-append (entry_line lines) (with_report c x) (full_gaps p' (full_count p' s)))
-    ∙ ap₂ (λ y z. account_lines lines (with_report c x ++ full_gaps y (full_count y z))) e f ∙ sym (behind-account lines c d (taken c d x) (begun-taken c d x q))
+    ∙ ap₂ (λ y z. account_lines lines (with_report c x ++ full_gaps y (full_count y z))) e f
+    ∙ sym (behind-account lines c d (taken c d x) (begun-taken c d x q))
 
-pub take-accounts : {p l b f u b' f' u' : ℕ} (p' l' p'' l'' s : ℕ) (c d : List Level) (x : Report) → Accounts p l b f u c → decided (c ++ d) ≡ decided c ++ x ∷ [] → s ≡ length (c ++ d) - block_len
-    → p' ≡ behind_report p x → l' ≡ l + length (filter is_lost (gaps_before b p x)) → Tallies b' f' u' (decided c ++ x ∷ [])
+pub take-accounts : {p l b f u b' f' u' : ℕ} (p' l' p'' l'' s : ℕ) (c d : List Level) (x : Report)
+    → Accounts p l b f u c → decided (c ++ d) ≡ decided c ++ x ∷ [] → s ≡ length (c ++ d) - block_len
+    → p' ≡ behind_report p x → l' ≡ l + length (filter is_lost (gaps_before b p x))
+    → Tallies b' f' u' (decided c ++ x ∷ [])
     → p'' ≡ behind_full p' s → l'' ≡ l' + full_count p' s → Accounts p'' l'' b' f' u' (c ++ d)
 unfolding taken with_report
 take-accounts {p} {l} {b} {f} {u} {b'} {f'} {u'} p' l' p'' l'' s c d x h q e g k t g' k' =
@@ -263,11 +394,13 @@ take-accounts {p} {l} {b} {f} {u} {b'} {f'} {u'} p' l' p'' l'' s c d x h q e g k
     let j : p' ≡ m = g ∙ ap (λ v. behind_report v x) h.place_is in
     let a = ap (λ z. length (filter is_lost z)) (begun-taken c d x q) in
     let i = lost-append (begun_account c) (taken c d x) in
-    let n = lost-append (gaps_before w r x ++ reported x ∷ []) (full_gaps m (full_count m (length (c ++ d) - block_len))) in
+    let n = lost-append (gaps_before w r x ++ reported x ∷ [])
+    (full_gaps m (full_count m (length (c ++ d) - block_len))) in
     let o = lost-append (gaps_before w r x) (reported x ∷ []) in
     let v = lost-full m (full_count m (length (c ++ d) - block_len)) in
     let y : full_count p' s ≡ full_count m (length (c ++ d) - block_len) = ap₂ full_count j e in
-    let z : length (filter is_lost (gaps_before b p x)) ≡ length (filter is_lost (gaps_before w r x)) = ap₂ (λ α β. length (filter is_lost (gaps_before α β x))) h.tally.blocks_is h.place_is in
+    let z : length (filter is_lost (gaps_before b p x)) ≡ length (filter is_lost (gaps_before w r x))
+    = ap₂ (λ α β. length (filter is_lost (gaps_before α β x))) h.tally.blocks_is h.place_is in
     let z' = h.lost_is in record {
       place_is = g' ∙ ap₂ behind_full j e ∙ sym (accounted-taken c d x q);
       lost_is = omega arith;
@@ -275,33 +408,41 @@ take-accounts {p} {l} {b} {f} {u} {b'} {f'} {u'} p' l' p'' l'' s c d x h q e g k
     }
 
 -- of the end
-pub close-lines : (lines : Lines) (p n : ℕ) (c : List Level) → p ≡ accounted c → n ≡ length c → reports c ≡ decided c ++ []
+pub close-lines : (lines : Lines) (p n : ℕ) (c : List Level) → p ≡ accounted c → n ≡ length c
+    → reports c ≡ decided c ++ []
     → account_lines lines (gaps false p n) ≡ (accounting lines).ends c
 unfolding closed
-close-lines lines p n c e f q = ap₂ (λ x y. account_lines lines (gaps false x y)) e f ∙ sym (ends-account lines c (closed c) (account-closed c q))
+close-lines lines p n c e f q
+    = ap₂ (λ x y. account_lines lines (gaps false x y)) e f ∙ sym (ends-account lines c (closed c) (account-closed c q))
 
-pub close-accounts : {p l b f u : ℕ} (l' n : ℕ) (c : List Level) → Accounts p l b f u c → reports c ≡ decided c ++ [] → n ≡ length c → n ≤ 2 ^ 43
+pub close-accounts : {p l b f u : ℕ} (l' n : ℕ) (c : List Level) → Accounts p l b f u c → reports c ≡ decided c ++ []
+    → n ≡ length c → n ≤ 2 ^ 43
     → l' ≡ l + length (filter is_lost (gaps false p n)) → Accounted l' b f u c
 unfolding closed
 close-accounts {p} {l} {b} {f} {u} l' n c h q e s k =
     let a = ap (λ z. length (filter is_lost z)) (account-closed c q) in
     let w = lost-append (begun_account c) (closed c) in
-    let y : length (filter is_lost (gaps false p n)) ≡ length (filter is_lost (gaps false (accounted c) (length c))) = ap₂ (λ α β. length (filter is_lost (gaps false α β))) h.place_is e in
+    let y : length (filter is_lost (gaps false p n)) ≡ length (filter is_lost (gaps false (accounted c) (length c)))
+    = ap₂ (λ α β. length (filter is_lost (gaps false α β))) h.place_is e in
     let z = h.lost_is in record {
       short = omega arith;
       lost_is = omega arith;
       tally = subst (Tallies b f u) (sym (q ∙ append-nil (decided c))) h.tally;
     }
 
-pub close_with-lines : (lines : Lines) (p' n : ℕ) (c : List Level) (x : Report) → p' ≡ behind_report (accounted c) x → n ≡ length c → reports c ≡ decided c ++ x ∷ []
+pub close_with-lines : (lines : Lines) (p' n : ℕ) (c : List Level) (x : Report) → p' ≡ behind_report (accounted c) x
+    → n ≡ length c → reports c ≡ decided c ++ x ∷ []
     → account_lines lines (with_report c x) ++ account_lines lines (gaps false p' n) ≡ (accounting lines).ends c
 unfolding closed_with
 close_with-lines lines p' n c x e f q =
     sym (flat_map-append (entry_line lines) (with_report c x) (gaps false p' n))
-    ∙ ap₂ (λ y z. account_lines lines (with_report c x ++ gaps false y z)) e f ∙ sym (ends-account lines c (closed_with c x) (account-closed_with c x q))
+    ∙ ap₂ (λ y z. account_lines lines (with_report c x ++ gaps false y z)) e f
+    ∙ sym (ends-account lines c (closed_with c x) (account-closed_with c x q))
 
-pub close_with-accounts : {p l b f u b' f' u' : ℕ} (p' l' l'' n : ℕ) (c : List Level) (x : Report) → Accounts p l b f u c → reports c ≡ decided c ++ x ∷ [] → n ≡ length c → n ≤ 2 ^ 43
-    → p' ≡ behind_report p x → l' ≡ l + length (filter is_lost (gaps_before b p x)) → Tallies b' f' u' (decided c ++ x ∷ [])
+pub close_with-accounts : {p l b f u b' f' u' : ℕ} (p' l' l'' n : ℕ) (c : List Level) (x : Report)
+    → Accounts p l b f u c → reports c ≡ decided c ++ x ∷ [] → n ≡ length c → n ≤ 2 ^ 43
+    → p' ≡ behind_report p x → l' ≡ l + length (filter is_lost (gaps_before b p x))
+    → Tallies b' f' u' (decided c ++ x ∷ [])
     → l'' ≡ l' + length (filter is_lost (gaps false p' n)) → Accounted l'' b' f' u' c
 unfolding closed_with with_report
 close_with-accounts {p} {l} {b} {f} {u} {b'} {f'} {u'} p' l' l'' n c x h q e s g k t k' =
@@ -313,19 +454,23 @@ close_with-accounts {p} {l} {b} {f} {u} {b'} {f'} {u'} p' l' l'' n c x h q e s g
     let i = lost-append (begun_account c) (closed_with c x) in
     let o' = lost-append (gaps_before w r x ++ reported x ∷ []) (gaps false m (length c)) in
     let o = lost-append (gaps_before w r x) (reported x ∷ []) in
-    let y : length (filter is_lost (gaps false p' n)) ≡ length (filter is_lost (gaps false m (length c))) = ap₂ (λ α β. length (filter is_lost (gaps false α β))) j e in
-    let z : length (filter is_lost (gaps_before b p x)) ≡ length (filter is_lost (gaps_before w r x)) = ap₂ (λ α β. length (filter is_lost (gaps_before α β x))) h.tally.blocks_is h.place_is in
+    let y : length (filter is_lost (gaps false p' n)) ≡ length (filter is_lost (gaps false m (length c)))
+    = ap₂ (λ α β. length (filter is_lost (gaps false α β))) j e in
+    let z : length (filter is_lost (gaps_before b p x)) ≡ length (filter is_lost (gaps_before w r x))
+    = ap₂ (λ α β. length (filter is_lost (gaps_before α β x))) h.tally.blocks_is h.place_is in
     let z' = h.lost_is in record {
       short = omega arith;
       lost_is = omega arith;
       tally = subst (Tallies b' f' u') (sym q) t;
     }
 
-pub reached-is : {p l b f u : ℕ} (p' : ℕ) (c : List Level) (x : Report) → Accounts p l b f u c → p' ≡ behind_report p x → p' ≡ behind_report (accounted c) x
+pub reached-is : {p l b f u : ℕ} (p' : ℕ) (c : List Level) (x : Report) → Accounts p l b f u c → p' ≡ behind_report p x
+    → p' ≡ behind_report (accounted c) x
 reached-is p' c x h e = e ∙ ap (λ v. behind_report v x) h.place_is
 
 -- fewer gaps count than there are cells
-before-few : (n p : ℕ) (x : Report) → p ≤ place_of x → length (filter is_lost (gaps_before n p x)) + p ≤ behind_report p x
+before-few : (n p : ℕ) (x : Report) → p ≤ place_of x
+    → length (filter is_lost (gaps_before n p x)) + p ≤ behind_report p x
 before-few n p (Whole at s b) h =
     let a = lost-append (full_gaps p (full_count p at)) (rest_gap (ltb 0 n) (behind_full p at) at) in
     let f = lost-full p (full_count p at) in
@@ -344,12 +489,15 @@ behind-next p (Marked at s wrong) h = let l = behind-near p at h in omega arith
 behind-next p (Fault at cell why) h = let l = behind-near p at h in omega arith
 behind-next p (Unfinished at cells) h = let l = behind-near p at h in omega arith
 
-lost-few : (n p : ℕ) (r : List Report) → Spaced p r → length (filter is_lost (account_from n p r)) + p ≤ reached_from p r
+lost-few : (n p : ℕ) (r : List Report) → Spaced p r
+    → length (filter is_lost (account_from n p r)) + p ≤ reached_from p r
 lost-few n p [] s = omega arith
 lost-few n p (x ∷ r) s =
-    let a = lost-append (gaps_before n p x) (reported x ∷ account_from (n + length (wholes (x ∷ []))) (behind_report p x) r) in
+    let a = lost-append (gaps_before n p x)
+    (reported x ∷ account_from (n + length (wholes (x ∷ []))) (behind_report p x) r) in
     let f = before-few n p x s.0 in
-    let g = lost-few (n + length (wholes (x ∷ []))) (behind_report p x) r (spaced-weaker (behind_report p x) (next_place x) r (behind-next p x s.0) s.1) in
+    let g = lost-few (n + length (wholes (x ∷ []))) (behind_report p x) r
+    (spaced-weaker (behind_report p x) (next_place x) r (behind-next p x s.0) s.1) in
     omega arith
 
 behind-limit : (m p : ℕ) (x : Report) → p ≤ m + block_len → place_of x ≤ m → behind_report p x ≤ m + block_len
@@ -371,11 +519,13 @@ few-lost c =
     let f = lost-few 0 0 (decided c) (spaced-decided c) in
     let g = lost-full p (full_count p q) in
     let k = behind-far p q in
-    let l = behind-most p q (length c + block_len) (reached-limit (length c) 0 (decided c) (omega arith) (near-decided c)) (omega arith) in
+    let l = behind-most p q (length c + block_len)
+    (reached-limit (length c) 0 (decided c) (omega arith) (near-decided c)) (omega arith) in
     omega arith
 
 -- so the counters do not run over
-pub lost-room : {p l b f u : ℕ} (c d : List Level) (n : ℕ) → Accounts p l b f u c → n ≡ length (c ++ d) → n ≤ 2 ^ 43 → l ≤ 2 ^ 43 + 24576
+pub lost-room : {p l b f u : ℕ} (c d : List Level) (n : ℕ) → Accounts p l b f u c → n ≡ length (c ++ d) → n ≤ 2 ^ 43
+    → l ≤ 2 ^ 43 + 24576
 lost-room c d n h e s =
     let a = h.lost_is in
     let f = few-lost c in
@@ -383,11 +533,14 @@ lost-room c d n h e s =
     let k = length-append c d in
     omega arith
 
-pub near-new : (c d : List Level) (x : Report) (n : ℕ) → decided (c ++ d) ≡ decided c ++ x ∷ [] → n ≡ length (c ++ d) → place_of x ≤ n
-near-new c d x n q e = let u = upto-last (length (c ++ d)) (decided c) x (subst (UpTo (length (c ++ d))) q (near-decided (c ++ d))) in omega arith
+pub near-new : (c d : List Level) (x : Report) (n : ℕ) → decided (c ++ d) ≡ decided c ++ x ∷ [] → n ≡ length (c ++ d)
+    → place_of x ≤ n
+near-new c d x n q e = let u = upto-last (length (c ++ d)) (decided c) x
+    (subst (UpTo (length (c ++ d))) q (near-decided (c ++ d))) in omega arith
 
 pub near-last : (c : List Level) (x : Report) (n : ℕ) → reports c ≡ decided c ++ x ∷ [] → n ≡ length c → place_of x ≤ n
-near-last c x n q e = let u = upto-last (length c) (decided c) x (subst (UpTo (length c)) q (near-reports c)) in omega arith
+near-last c x n q e = let u = upto-last (length c) (decided c) x (subst (UpTo (length c)) q (near-reports c))
+    in omega arith
 
 pub few-reports : (c : List Level) → length (reports c) ≤ length c + 1
 few-reports c =
@@ -426,16 +579,37 @@ sum-room c h =
     let m = block_len_24576 in
     omega arith
 
-pub drive-room : {max : ℕ} {form : Form} {w : Writing Level} {g : List Level → Type 0} (l b f u : ℕ) {ended : Bool} {source sink : Movement} {bytes cells : ℕ}
+pub drive-room : {max : ℕ} {form : Form} {w : Writing Level} {g : List Level → Type 0} (l b f u : ℕ)
+    {ended : Bool} {source sink : Movement} {bytes cells : ℕ}
     → Drive max form w g (λ c. Accounted l b f u c) ended source sink (Ok (bytes, cells)) → f + l < 2 ^ 64
 drive-room {form = form} l b f u r = sum-room (cells_of form r.run.bytes) r.run.ran.1.0
 
-pub counted : (form : Form) (b : List ℕ) (bytes cells l k f u : ℕ) → bytes ≡ length b → cells ≡ length (cells_of form b) → Accounted l k f u (cells_of form b)
-    → ◌≡◌ {A = Counts} (record { bytes = bytes; cells = cells; blocks = k; faults = f + l; unfinished = u; marks = 0 }) (account_counts form b)
+pub counted : (form : Form) (b : List ℕ) (bytes cells l k f u : ℕ) → bytes ≡ length b → cells ≡ length (cells_of form b)
+    → Accounted l k f u (cells_of form b)
+    → ◌≡◌ {A = Counts} (record { bytes = bytes; cells = cells; blocks = k; faults = f + l; unfinished = u; marks = 0 })
+    (account_counts form b)
 unfolding account_counts blocks
 counted form b n c l k f u e d t =
     let r = reports (cells_of form b) in
-    let s : f + l ≡ length (filter is_faulty r) + length (filter is_lost (account (cells_of form b))) = ap₂ (λ x y. x + y) t.tally.faults_is t.lost_is in
+    let s : f + l ≡ length (filter is_faulty r) + length (filter is_lost (account (cells_of form b)))
+    = ap₂ (λ x y. x + y) t.tally.faults_is t.lost_is in
     ap₂ (λ (x y : ℕ). record { bytes = x; cells = y; blocks = k; faults = f + l; unfinished = u; marks = 0 }) e d
-    ∙ ap₂ (λ (x y : ℕ). record { bytes = length b; cells = length (cells_of form b); blocks = x; faults = y; unfinished = u; marks = 0 }) t.tally.blocks_is s
-    ∙ ap (λ (x : ℕ). record { bytes = length b; cells = length (cells_of form b); blocks = length (wholes r); faults = length (filter is_faulty r) + length (filter is_lost (account (cells_of form b))); unfinished = x; marks = 0 }) t.tally.unfinished_is
+    ∙ ap₂ (λ (x y : ℕ). record {
+      bytes = length b;
+      cells = length (cells_of form b);
+      blocks = x;
+      faults = y;
+      unfinished
+          = u;
+      marks = 0;
+    }) t.tally.blocks_is s
+    ∙ ap (λ (x : ℕ). record {
+      bytes = length b;
+      cells = length (cells_of form b);
+      blocks = length (wholes r);
+      faults
+          = length (filter is_faulty r) + length (filter is_lost (account (cells_of form b)));
+      unfinished = x;
+      marks = 0;
+    })
+    t.tally.unfinished_is

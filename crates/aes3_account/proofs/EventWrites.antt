@@ -1,5 +1,31 @@
 -- Events that are written.
-use Rattle.std.proofs.Common.{◌≡◌, ℕ, zero, suc, ◌+◌, ◌<◌, List, [], ◌∷◌, ◌++◌, Result, Ok, Err, IfOk, OnErr, length, take, drop, get_or, refl, sym, ap, ◌∙◌, append_assoc, arith}
+use Rattle.std.proofs.Common.{
+  ◌≡◌,
+  ℕ,
+  zero,
+  suc,
+  ◌+◌,
+  ◌<◌,
+  List,
+  [],
+  ◌∷◌,
+  ◌++◌,
+  Result,
+  Ok,
+  Err,
+  IfOk,
+  OnErr,
+  length,
+  take,
+  drop,
+  get_or,
+  refl,
+  sym,
+  ap,
+  ◌∙◌,
+  append_assoc,
+  arith,
+}
 use Rattle.aes3_lines.specs.declared.event.Event.{Event}
 use Rattle.aes3_lines.specs.declared.event.Style.{Style}
 use Rattle.aes3_lines.specs.Events.{event_line}
@@ -20,19 +46,24 @@ if-any (Err e) b = tt
 
 -- lines before an event, its own, and those behind it
 pub split-lines : (style : Style) (es : List Event) (k : ℕ) (d : Event) → k < length es
-    → (event_lines style (take k es) ++ event_line style (get_or es k d)) ++ event_lines style (drop (suc k) es) ≡ event_lines style es
+    → (event_lines style (take k es) ++ event_line style (get_or es k d)) ++ event_lines style (drop (suc k) es)
+    ≡ event_lines style es
 split-lines style [] k d h = absurd (omega arith)
 split-lines style (e ∷ es) zero d h = refl
 split-lines style (e ∷ es) (suc k) d h =
-    append_assoc (event_line style e ++ event_lines style (take k es)) (event_line style (get_or es k d)) (event_lines style (drop (suc k) es))
-    ∙ append_assoc (event_line style e) (event_lines style (take k es)) (event_line style (get_or es k d) ++ event_lines style (drop (suc k) es))
+    append_assoc (event_line style e ++ event_lines style (take k es)) (event_line style (get_or es k d))
+    (event_lines style (drop (suc k) es))
+    ∙ append_assoc (event_line style e) (event_lines style (take k es))
+    (event_line style (get_or es k d) ++ event_lines style (drop (suc k) es))
     ∙ ap (λ z. event_line style e ++ z)
-    (sym (append_assoc (event_lines style (take k es)) (event_line style (get_or es k d)) (event_lines style (drop (suc k) es)))
+    (sym (append_assoc (event_lines style (take k es)) (event_line style (get_or es k d))
+    (event_lines style (drop (suc k) es)))
     ∙ split-lines style es k d (omega arith))
 
 -- events put behind none, and more behind those
 pub put-one : {A : Type 0} {none one told : List A} (a : List A) → told ≡ one → one ≡ none ++ a → none ≡ [] → told ≡ a
 put-one a e f n = e ∙ f ∙ ap (λ z. z ++ a) n
 
-pub put-two : {A : Type 0} {none one two told : List A} (a b : List A) → told ≡ two → two ≡ one ++ b → one ≡ none ++ a → none ≡ [] → told ≡ a ++ b
+pub put-two : {A : Type 0} {none one two told : List A} (a b : List A) → told ≡ two → two ≡ one ++ b → one ≡ none ++ a
+    → none ≡ [] → told ≡ a ++ b
 put-two a b e g f n = e ∙ g ∙ ap (λ z. z ++ b) (f ∙ ap (λ z. z ++ a) n)

@@ -1,10 +1,44 @@
 -- Gaps between two places, in two parts, and the account of more reports.
-use Rattle.std.proofs.Common.{◌≡◌, ℕ, zero, suc, ◌+◌, ◌-◌, ◌*◌, ◌/◌, ◌<◌, ◌≤◌, Bool, true, false, cond, ltb, List, [], ◌∷◌, ◌++◌, Option, length, refl, sym, ap, ap₂, ◌∙◌, arith, append_assoc, append-nil, length-append, Result, Ok, Err}
+use Rattle.std.proofs.Common.{
+  ◌≡◌,
+  ℕ,
+  zero,
+  suc,
+  ◌+◌,
+  ◌-◌,
+  ◌*◌,
+  ◌/◌,
+  ◌<◌,
+  ◌≤◌,
+  Bool,
+  true,
+  false,
+  cond,
+  ltb,
+  List,
+  [],
+  ◌∷◌,
+  ◌++◌,
+  Option,
+  length,
+  refl,
+  sym,
+  ap,
+  ap₂,
+  ◌∙◌,
+  arith,
+  append_assoc,
+  append-nil,
+  length-append,
+  Result,
+  Ok,
+  Err,
+}
 use Rattle.std.specs.Prelude.{IfOk}
 use Rattle.std.specs.List.{filter}
 use Rattle.std.proofs.lemmas.List.Elements.{filter-append}
 use Rattle.std.proofs.lemmas.Grind.{flat_map-append}
-use Rattle.aes3_block.specs.Blocks.{block_len}
+use Rattle.aes3_frame.specs.Blocks.{block_len}
 use Rattle.aes3_lock.specs.declared.report.Report.{Report}
 use Rattle.aes3_lock.specs.declared.report.Report.TheVariants.{Whole, Marked, Fault, Unfinished}
 use Rattle.aes3_lock.specs.Reports.{wholes}
@@ -15,7 +49,22 @@ use Rattle.aes3_cell.proofs.Growing.{front-is, front-join, front-more}
 use Rattle.aes3_lines.specs.declared.lines.Lines.{Lines}
 use Rattle.aes3_account.specs.GapLines.{entry_line, gap_line, account_lines}
 use Rattle.aes3_lock.specs.Remains.{place_of}
-use Rattle.aes3_account.specs.Gaps.{Entry, reported, lost, full_gaps, full_count, behind_full, kind, rest_gap, gaps, gaps_before, behind_report, account_from, reached_from, is_lost}
+use Rattle.aes3_account.specs.Gaps.{
+  Entry,
+  reported,
+  lost,
+  full_gaps,
+  full_count,
+  behind_full,
+  kind,
+  rest_gap,
+  gaps,
+  gaps_before,
+  behind_report,
+  account_from,
+  reached_from,
+  is_lost,
+}
 
 -- gaps of a block's length
 full-add : (p m k : ℕ) → full_gaps p (m + k) ≡ full_gaps p m ++ full_gaps (p + block_len * m) k
@@ -26,7 +75,8 @@ full-add p zero k =
 full-add p (suc m) k =
     let a : suc m + k ≡ suc (m + k) = omega arith in
     let b : p + block_len + block_len * m ≡ p + block_len * suc m = rw block_len_24576 (omega arith) in
-    ap (full_gaps p) a ∙ ap (λ z. lost p block_len ∷ z) (full-add (p + block_len) m k ∙ ap (λ z. full_gaps (p + block_len) m ++ full_gaps z k) b)
+    ap (full_gaps p) a ∙ ap (λ z. lost p block_len ∷ z)
+    (full-add (p + block_len) m k ∙ ap (λ z. full_gaps (p + block_len) m ++ full_gaps z k) b)
 
 pub full-more : (p m : ℕ) → full_gaps p (m + 1) ≡ full_gaps p m ++ lost (p + block_len * m) block_len ∷ []
 full-more p m = full-add p m 1
@@ -39,20 +89,26 @@ pub behind-join : (p a b : ℕ) → a ≤ b → behind_full (behind_full p a) b 
 unfolding behind_full full_count
 behind-join p a b h = rw block_len_24576 (omega arith)
 
-full-parts : (p a k : ℕ) → full_gaps p (full_count p a + k) ≡ full_gaps p (full_count p a) ++ full_gaps (behind_full p a) k
+full-parts : (p a k : ℕ) → full_gaps p (full_count p a + k)
+    ≡ full_gaps p (full_count p a) ++ full_gaps (behind_full p a) k
 unfolding behind_full
 full-parts p a k = full-add p (full_count p a) k
 
-pub full-join : (p a b : ℕ) → a ≤ b → full_gaps p (full_count p b) ≡ full_gaps p (full_count p a) ++ full_gaps (behind_full p a) (full_count (behind_full p a) b)
+pub full-join : (p a b : ℕ) → a ≤ b
+    → full_gaps p (full_count p b)
+    ≡ full_gaps p (full_count p a) ++ full_gaps (behind_full p a) (full_count (behind_full p a) b)
 full-join p a b h = ap (full_gaps p) (count-add p a b h) ∙ full-parts p a (full_count (behind_full p a) b)
 
-pub gaps-join : (counts : Bool) (p a b : ℕ) → a ≤ b → gaps counts p b ≡ full_gaps p (full_count p a) ++ gaps counts (behind_full p a) b
+pub gaps-join : (counts : Bool) (p a b : ℕ) → a ≤ b
+    → gaps counts p b ≡ full_gaps p (full_count p a) ++ gaps counts (behind_full p a) b
 gaps-join counts p a b h =
     ap₂ (λ x y. x ++ rest_gap counts y b) (full-join p a b h) (sym (behind-join p a b h))
-    ∙ append_assoc (full_gaps p (full_count p a)) (full_gaps (behind_full p a) (full_count (behind_full p a) b)) (rest_gap counts (behind_full (behind_full p a) b) b)
+    ∙ append_assoc (full_gaps p (full_count p a)) (full_gaps (behind_full p a) (full_count (behind_full p a) b))
+    (rest_gap counts (behind_full (behind_full p a) b) b)
 
 -- those before a report
-pub before-join : (n p a : ℕ) (x : Report) → a ≤ place_of x → gaps_before n p x ≡ full_gaps p (full_count p a) ++ gaps_before n (behind_full p a) x
+pub before-join : (n p a : ℕ) (x : Report) → a ≤ place_of x
+    → gaps_before n p x ≡ full_gaps p (full_count p a) ++ gaps_before n (behind_full p a) x
 before-join n p a (Whole at s b) h = gaps-join _ p a at h
 before-join n p a (Marked at s wrong) h = full-join p a at h
 before-join n p a (Fault at cell why) h = full-join p a at h
@@ -66,22 +122,29 @@ report-join p a (Unfinished at cells) h = sym (behind-join p a at h)
 
 -- one more report
 pub account-push : (n p : ℕ) (r : List Report) (x : Report)
-    → account_from n p (r ++ x ∷ []) ≡ account_from n p r ++ (gaps_before (n + length (wholes r)) (reached_from p r) x ++ reported x ∷ [])
+    → account_from n p (r ++ x ∷ [])
+    ≡ account_from n p r ++ (gaps_before (n + length (wholes r)) (reached_from p r) x ++ reported x ∷ [])
 account-push n p [] x = let e : n ≡ n + 0 = omega arith in ap (λ m. gaps_before m p x ++ reported x ∷ []) e
 account-push n p (y ∷ r) x =
     let k = ap length (wholes-append (y ∷ []) r) in
     let l = length-append (wholes (y ∷ [])) (wholes r) in
     let e : n + length (wholes (y ∷ [])) + length (wholes r) ≡ n + length (wholes (y ∷ r)) = omega (arith, k, l) in
     let f = account-push (n + length (wholes (y ∷ []))) (behind_report p y) r x in
-    ap (λ z. gaps_before n p y ++ reported y ∷ z) (f ∙ ap (λ m. account_from (n + length (wholes (y ∷ []))) (behind_report p y) r ++ (gaps_before m (reached_from (behind_report p y) r) x ++ reported x ∷ [])) e)
-    ∙ sym (append_assoc (gaps_before n p y) (reported y ∷ account_from (n + length (wholes (y ∷ []))) (behind_report p y) r) (gaps_before (n + length (wholes (y ∷ r))) (reached_from (behind_report p y) r) x ++ reported x ∷ []))
+    ap (λ z. gaps_before n p y ++ reported y ∷ z)
+    (f ∙ ap (λ m. account_from (n + length (wholes (y ∷ []))) (behind_report p y) r
+    ++ (gaps_before m (reached_from (behind_report p y) r) x ++ reported x ∷ [])) e)
+    ∙ sym (append_assoc (gaps_before n p y)
+    (reported y ∷ account_from (n + length (wholes (y ∷ []))) (behind_report p y) r)
+    (gaps_before (n + length (wholes (y ∷ r))) (reached_from (behind_report p y) r) x ++ reported x ∷ []))
 
-pub reached-push : (p : ℕ) (r : List Report) (x : Report) → reached_from p (r ++ x ∷ []) ≡ behind_report (reached_from p r) x
+pub reached-push : (p : ℕ) (r : List Report) (x : Report)
+    → reached_from p (r ++ x ∷ []) ≡ behind_report (reached_from p r) x
 reached-push p [] x = refl
 reached-push p (y ∷ r) x = reached-push (behind_report p y) r x
 
 -- how many of them count
-pub lost-append : (a b : List Entry) → length (filter is_lost (a ++ b)) ≡ length (filter is_lost a) + length (filter is_lost b)
+pub lost-append : (a b : List Entry)
+    → length (filter is_lost (a ++ b)) ≡ length (filter is_lost a) + length (filter is_lost b)
 lost-append a b = ap length (filter-append is_lost a b) ∙ length-append (filter is_lost a) (filter is_lost b)
 
 pub lost-full : (p n : ℕ) → length (filter is_lost (full_gaps p n)) ≡ n
@@ -121,7 +184,8 @@ unfolding behind_full
 behind-is p q k x e f = e ∙ ap (λ z. p + block_len * z) f
 
 -- their lines, one more, and where a front of one more was written
-pub full-line : (lines : Lines) (p k x : ℕ) → x ≡ p + block_len * k → account_lines lines (full_gaps p k) ++ gap_line x 24576 ≡ account_lines lines (full_gaps p (k + 1))
+pub full-line : (lines : Lines) (p k x : ℕ) → x ≡ p + block_len * k
+    → account_lines lines (full_gaps p k) ++ gap_line x 24576 ≡ account_lines lines (full_gaps p (k + 1))
 full-line lines p k x e =
     let b = block_len_24576 in
     ap₂ (λ y z. account_lines lines (full_gaps p k) ++ gap_line y z) e (sym b)
@@ -130,29 +194,37 @@ full-line lines p k x e =
     ∙ ap (account_lines lines) (sym (full-more p k))
 
 pub full-front : {t t' t'' : Option (List ℕ)} (lines : Lines) (p k n x : ℕ) → x ≡ p + block_len * k → k < n
-    → Grew t t' (account_lines lines (full_gaps p k)) → GrewFront t' t'' (gap_line x 24576) → GrewFront t t'' (account_lines lines (full_gaps p n))
+    → Grew t t' (account_lines lines (full_gaps p k)) → GrewFront t' t'' (gap_line x 24576)
+    → GrewFront t t'' (account_lines lines (full_gaps p n))
 full-front lines p k n x e h g f =
     let q : n ≡ k + 1 + (n - (k + 1)) = omega arith in
-    front-is (sym (ap (λ m. account_lines lines (full_gaps p m)) q ∙ ap (account_lines lines) (full-add p (k + 1) (n - (k + 1)))
+    front-is (sym (ap (λ m. account_lines lines (full_gaps p m)) q
+    ∙ ap (account_lines lines) (full-add p (k + 1) (n - (k + 1)))
     ∙ flat_map-append (entry_line lines) (full_gaps p (k + 1)) (full_gaps (p + block_len * (k + 1)) (n - (k + 1)))))
-    (front-more (front-is (full-line lines p k x e) (front-join g f)) (account_lines lines (full_gaps (p + block_len * (k + 1)) (n - (k + 1)))))
+    (front-more (front-is (full-line lines p k x e) (front-join g f))
+    (account_lines lines (full_gaps (p + block_len * (k + 1)) (n - (k + 1)))))
 
-pub lines-append : (lines : Lines) (a b : List Entry) → account_lines lines (a ++ b) ≡ account_lines lines a ++ account_lines lines b
+pub lines-append : (lines : Lines) (a b : List Entry)
+    → account_lines lines (a ++ b) ≡ account_lines lines a ++ account_lines lines b
 lines-append lines a b = flat_map-append (entry_line lines) a b
 
 -- all gaps before a place
 pub gaps-lines : (lines : Lines) (counts : Bool) (p q x : ℕ) → x ≡ behind_full p q
-    → account_lines lines (full_gaps p (full_count p q)) ++ account_lines lines (rest_gap counts x q) ≡ account_lines lines (gaps counts p q)
+    → account_lines lines (full_gaps p (full_count p q)) ++ account_lines lines (rest_gap counts x q)
+    ≡ account_lines lines (gaps counts p q)
 gaps-lines lines counts p q x e =
     ap (λ z. account_lines lines (full_gaps p (full_count p q)) ++ account_lines lines (rest_gap counts z q)) e
     ∙ sym (flat_map-append (entry_line lines) (full_gaps p (full_count p q)) (rest_gap counts (behind_full p q) q))
 
-pub gaps-lost : (counts : Bool) (p q x l l' l'' : ℕ) → x ≡ behind_full p q → l' ≡ l + full_count p q → l'' ≡ l' + length (filter is_lost (rest_gap counts x q))
+pub gaps-lost : (counts : Bool) (p q x l l' l'' : ℕ) → x ≡ behind_full p q → l' ≡ l + full_count p q
+    → l'' ≡ l' + length (filter is_lost (rest_gap counts x q))
     → l'' ≡ l + length (filter is_lost (gaps counts p q))
 gaps-lost counts p q x l l' l'' e f g =
     let a = lost-append (full_gaps p (full_count p q)) (rest_gap counts (behind_full p q) q) in
     let b = lost-full p (full_count p q) in
-    let c : length (filter is_lost (rest_gap counts x q)) ≡ length (filter is_lost (rest_gap counts (behind_full p q) q)) = ap (λ z. length (filter is_lost (rest_gap counts z q))) e in
+    let c : length (filter is_lost (rest_gap counts x q))
+    ≡ length (filter is_lost (rest_gap counts (behind_full p q) q))
+    = ap (λ z. length (filter is_lost (rest_gap counts z q))) e in
     omega arith
 
 pub full-lost : (p n l l' : ℕ) → l' ≡ l + n → l' ≡ l + length (filter is_lost (full_gaps p n))

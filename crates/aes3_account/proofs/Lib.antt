@@ -6,6 +6,7 @@ pub mod SignalWords
 pub mod WatchedCells
 pub mod WatchedGaps
 pub mod EventWrites
+mod FewEvents
 pub mod Covering
 pub mod Rowed
 pub mod LostGaps

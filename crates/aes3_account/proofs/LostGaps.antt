@@ -1,11 +1,46 @@
 -- Where a cell of a stream of whole blocks changes, a gap counts.
-use Rattle.std.proofs.Common.{◌≡◌, ℕ, zero, suc, ◌+◌, ◌-◌, ◌*◌, ◌%◌, ◌<◌, ◌≤◌, ◌⊎◌, inl, inr, Bool, true, false, cond, leb, ◌&&◌, List, [], ◌∷◌, Some, length, drop, refl, sym, ap, ap₂, ◌∙◌, subst, arith, le-leb, length-append}
+use Rattle.std.proofs.Common.{
+  ◌≡◌,
+  ℕ,
+  zero,
+  suc,
+  ◌+◌,
+  ◌-◌,
+  ◌*◌,
+  ◌%◌,
+  ◌<◌,
+  ◌≤◌,
+  ◌⊎◌,
+  inl,
+  inr,
+  Bool,
+  true,
+  false,
+  cond,
+  leb,
+  ◌&&◌,
+  List,
+  [],
+  ◌∷◌,
+  Some,
+  length,
+  drop,
+  refl,
+  sym,
+  ap,
+  ap₂,
+  ◌∙◌,
+  subst,
+  arith,
+  le-leb,
+  length-append,
+}
 use Rattle.std.specs.List.{All, Contains, filter}
 use Rattle.std.proofs.lemmas.Bool.{cases_lt}
 use Rattle.std.proofs.lemmas.List.{take_all}
-use Rattle.aes3_cell.specs.declared.level.Level.{Level}
-use Rattle.aes3_block.specs.Blocks.{block_len, stream, IsBlock}
-use Rattle.aes3_block.proofs.FileLaws.{each-block}
+use Rattle.aes3_level.specs.declared.level.Level.{Level}
+use Rattle.aes3_frame.specs.Blocks.{block_len, stream, IsBlock}
+use Rattle.aes3_frame.proofs.FileLaws.{each-block}
 use Rattle.aes3_lock.specs.declared.report.Report.{Report}
 use Rattle.aes3_lock.specs.declared.report.Report.TheVariants.{Whole, Marked, Fault, Unfinished}
 use Rattle.aes3_lock.specs.Damage.{changed}
@@ -27,7 +62,8 @@ use Rattle.aes3_account.specs.GapLaws.{InRow}
 use Rattle.aes3_account.proofs.Rowed.{no-block, no-gap}
 
 -- the block of a whole report stands closed at its place
-whole-stands : (c : List Level) (at : ℕ) (t : Level) (b : List (List Bool)) → Contains (reports c) (Whole at t b) → StandsClosed b t (drop at c)
+whole-stands : (c : List Level) (at : ℕ) (t : Level) (b : List (List Bool)) → Contains (reports c) (Whole at t b)
+    → StandsClosed b t (drop at c)
 whole-stands c at t b h = let r = report-at c at (Whole at t b) h refl in go r.0 r.1 r.2
   where
     go : (o : Outcome) → outcome_at (drop at c) ≡ Some o → Whole at t b ≡ report_of at o → StandsClosed b t (drop at c)
@@ -40,12 +76,25 @@ whole-stands c at t b h = let r = report-at c at (Whole at t b) h refl in go r.0
     go (unfinished n) e q = cc
 
 -- the first of whole blocks in a row, if there is one
-pub row-first : (a : ℕ) (r : List Report) → InRow a r → (wholes r ≡ []) ⊎ ((t : Level) × (b : List (List Bool)) × Contains r (Whole a t b))
+pub row-first : (a : ℕ) (r : List Report) → InRow a r
+    → (wholes r ≡ []) ⊎ ((t : Level) × (b : List (List Bool)) × Contains r (Whole a t b))
 row-first a [] h = inl refl
 row-first a (Whole at t b ∷ r) h = inr (t, b, (0, omega arith, ap (λ p. Whole p t b) h.0))
-row-first a (Marked at t n ∷ r) h = elim (row-first a r h) [ inl e ↦ inl e | inr m ↦ inr (m.0, m.1, (suc m.2.0, (let l = m.2.1 in omega arith), m.2.2)) ]
-row-first a (Fault at cell why ∷ r) h = elim (row-first a r h) [ inl e ↦ inl e | inr m ↦ inr (m.0, m.1, (suc m.2.0, (let l = m.2.1 in omega arith), m.2.2)) ]
-row-first a (Unfinished at n ∷ r) h = elim (row-first a r h) [ inl e ↦ inl e | inr m ↦ inr (m.0, m.1, (suc m.2.0, (let l = m.2.1 in omega arith), m.2.2)) ]
+row-first a (Marked at t n ∷ r) h
+    = elim (row-first a r h) [
+      | inl e ↦ inl e
+      | inr m ↦ inr (m.0, m.1, (suc m.2.0, (let l = m.2.1 in omega arith), m.2.2))
+    ]
+row-first a (Fault at cell why ∷ r) h
+    = elim (row-first a r h) [
+      | inl e ↦ inl e
+      | inr m ↦ inr (m.0, m.1, (suc m.2.0, (let l = m.2.1 in omega arith), m.2.2))
+    ]
+row-first a (Unfinished at n ∷ r) h
+    = elim (row-first a r h) [
+      | inl e ↦ inl e
+      | inr m ↦ inr (m.0, m.1, (suc m.2.0, (let l = m.2.1 in omega arith), m.2.2))
+    ]
 
 -- of blocks of which a cell changes at least one is not given
 one-at-most : (x y : Bool) (b : List (List Bool)) → length (cond x (cond y [] (b ∷ [])) []) ≤ 1
@@ -67,7 +116,8 @@ none-given true true b e = refl
 none-given false true b e = refl
 none-given x false b e = cc
 
-given-fewer : (k p i j : ℕ) (bs : List (List (List Bool))) → p ≤ k → k < p + length bs * block_len → length (given_within (after_change k) p i j bs) < length bs
+given-fewer : (k p i j : ℕ) (bs : List (List (List Bool))) → p ≤ k → k < p + length bs * block_len
+    → length (given_within (after_change k) p i j bs) < length bs
 given-fewer k p i j [] h l = absurd (omega arith)
 given-fewer k p i j (b ∷ bs) h l =
     let first = cond (leb i p && leb (p + block_len) j) (after_change k p b) [] in
@@ -75,22 +125,27 @@ given-fewer k p i j (b ∷ bs) h l =
     by n (λ a w. given-fewer k (p + block_len) i j bs a w) (cases_lt k (p + block_len))
   where
     by : length (given_within (after_change k) p i j (b ∷ bs))
-        ≡ length (cond (leb i p && leb (p + block_len) j) (after_change k p b) []) + length (given_within (after_change k) (p + block_len) i j bs)
-        → (p + block_len ≤ k → k < p + block_len + length bs * block_len → length (given_within (after_change k) (p + block_len) i j bs) < length bs)
-        → (k < p + block_len) ⊎ (p + block_len ≤ k) → length (given_within (after_change k) p i j (b ∷ bs)) < suc (length bs)
+        ≡ length (cond (leb i p && leb (p + block_len) j) (after_change k p b) [])
+        + length (given_within (after_change k) (p + block_len) i j bs)
+        → (p + block_len ≤ k → k < p + block_len + length bs * block_len
+        → length (given_within (after_change k) (p + block_len) i j bs) < length bs)
+        → (k < p + block_len) ⊎ (p + block_len ≤ k)
+        → length (given_within (after_change k) p i j (b ∷ bs)) < suc (length bs)
     by n next (inl a) =
         let y : reaches k p ≡ true = ap₂ (λ u v. u && v) (le-leb p k h) (le-leb k (p + block_len) (omega arith)) in
         let z = none-given (leb i p && leb (p + block_len) j) (reaches k p) b y in
         let r = given-most k (p + block_len) i j bs in
         omega arith
     by n next (inr a) =
-        let w : p + suc (length bs) * block_len ≡ p + block_len + length bs * block_len = rw block_len_24576 (omega arith) in
+        let w : p + suc (length bs) * block_len ≡ p + block_len + length bs * block_len
+        = rw block_len_24576 (omega arith) in
         let m = one-at-most (leb i p && leb (p + block_len) j) (reaches k p) b in
         let r = next a (subst (λ v. k < v) w l) in
         omega arith
 
 -- the stream as a piece of itself
-pub all-piece : (s : Level) (bs : List (List (List Bool))) → All IsBlock bs → IsPiece s bs 0 (length (stream s bs)) (stream s bs)
+pub all-piece : (s : Level) (bs : List (List (List Bool))) → All IsBlock bs
+    → IsPiece s bs 0 (length (stream s bs)) (stream s bs)
 all-piece s bs h = record {
   blocks = h;
   order = omega arith;
@@ -98,11 +153,13 @@ all-piece s bs h = record {
   is = sym (take_all (length (stream s bs) - 0) (stream s bs) (omega arith));
 }
 
-pub length-blocks : (s : Level) (bs : List (List (List Bool))) → All IsBlock bs → length (stream s bs) ≡ length bs * block_len
+pub length-blocks : (s : Level) (bs : List (List (List Bool))) → All IsBlock bs
+    → length (stream s bs) ≡ length bs * block_len
 length-blocks s bs h = stream-length s bs (each-block bs h) ∙ whole-len (length bs)
 
 -- no row of fewer blocks has all the cells
-short-row : (n m first len : ℕ) → len ≡ n * block_len → m < n → first % block_len ≡ 0 → first < block_len → len < first + block_len * (m + 1) → ⊥
+short-row : (n m first len : ℕ) → len ≡ n * block_len → m < n → first % block_len ≡ 0 → first < block_len
+    → len < first + block_len * (m + 1) → ⊥
 short-row n m first len e l z f r =
     let a : len ≡ n * 24576 = e ∙ ap (λ (v : ℕ). n * v) block_len_24576 in
     let b : first % 24576 ≡ 0 = sym (ap (λ (v : ℕ). first % v) block_len_24576) ∙ z in
@@ -129,18 +186,27 @@ none-lost s bs h k l e =
     let m = length-changed k c in
     let g = no-gap (changed k c) e in
     go g.first (row-first g.first (reports (changed k c)) g.row) g.begins g.ends (no-block (changed k c) e)
-    (λ t b w. aligned-first g.first (few-blocks s bs 0 (length c) c (changed k c) p m g.first b t (whole-stands (changed k c) g.first t b w) (let a = apart-changed k c in omega arith)))
-    (subst (λ (d : List (List (List Bool))). length d < length bs) (sym (blocks-one-changed s bs 0 (length c) c p k l)) (given-fewer (0 + k) 0 0 (length c) bs (omega arith) (omega arith)))
+    (λ t b w. aligned-first g.first
+    (few-blocks s bs 0 (length c) c (changed k c) p m g.first b t (whole-stands (changed k c) g.first t b w)
+    (let a = apart-changed k c in omega arith)))
+    (subst (λ (d : List (List (List Bool))). length d < length bs) (sym (blocks-one-changed s bs 0 (length c) c p k l))
+    (given-fewer (0 + k) 0 0 (length c) bs (omega arith) (omega arith)))
     (m ∙ n) (omega arith)
   where
-    go : (first : ℕ) → (wholes (reports (changed k (stream s bs))) ≡ []) ⊎ ((t : Level) × (b : List (List Bool)) × Contains (reports (changed k (stream s bs))) (Whole first t b))
-        → first < block_len → length (changed k (stream s bs)) < first + block_len * (length (blocks (changed k (stream s bs))) + 1)
+    go : (first : ℕ) → (wholes (reports (changed k (stream s bs))) ≡ [])
+        ⊎ ((t : Level) × (b : List (List Bool)) × Contains (reports (changed k (stream s bs))) (Whole first t b))
+        → first < block_len → length (changed k (stream s bs))
+        < first + block_len * (length (blocks (changed k (stream s bs))) + 1)
         → (wholes (reports (changed k (stream s bs))) ≡ [] → length (changed k (stream s bs)) < block_len)
-        → ((t : Level) (b : List (List Bool)) → Contains (reports (changed k (stream s bs))) (Whole first t b) → first % block_len ≡ 0)
-        → length (blocks (changed k (stream s bs))) < length bs → length (changed k (stream s bs)) ≡ length bs * block_len → 0 < length (changed k (stream s bs)) → ⊥
-    go first (inl none) f r short at few n some = no-row (length bs) (length (changed k (stream s bs))) n some (short none)
+        → ((t : Level) (b : List (List Bool)) → Contains (reports (changed k (stream s bs))) (Whole first t b)
+        → first % block_len ≡ 0)
+        → length (blocks (changed k (stream s bs))) < length bs
+        → length (changed k (stream s bs)) ≡ length bs * block_len → 0 < length (changed k (stream s bs)) → ⊥
+    go first (inl none) f r short at few n some
+        = no-row (length bs) (length (changed k (stream s bs))) n some (short none)
     go first (inr w) f r short at few n some =
-        short-row (length bs) (length (blocks (changed k (stream s bs)))) first (length (changed k (stream s bs))) n few (at w.0 w.1 w.2) f r
+        short-row (length bs) (length (blocks (changed k (stream s bs)))) first (length (changed k (stream s bs))) n few
+        (at w.0 w.1 w.2) f r
 
 pub change-lost : (s : Level) (bs : List (List (List Bool))) → All IsBlock bs → (k : ℕ) → k < length (stream s bs)
     → 0 < length (filter is_lost (account (changed k (stream s bs))))

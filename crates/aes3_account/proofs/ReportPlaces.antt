@@ -1,17 +1,59 @@
 -- Where the reports on cells stand.
-use Rattle.std.proofs.Common.{◌≡◌, ℕ, zero, suc, ◌+◌, ◌-◌, ◌<◌, ◌≤◌, ◌⊎◌, inl, inr, Bool, true, false, cond, List, [], ◌∷◌, ◌++◌, Option, Some, None, length, drop, refl, sym, ap, ◌∙◌, subst, arith, append_assoc}
+use Rattle.std.proofs.Common.{
+  ◌≡◌,
+  ℕ,
+  zero,
+  suc,
+  ◌+◌,
+  ◌-◌,
+  ◌<◌,
+  ◌≤◌,
+  ◌⊎◌,
+  inl,
+  inr,
+  Bool,
+  true,
+  false,
+  cond,
+  List,
+  [],
+  ◌∷◌,
+  ◌++◌,
+  Option,
+  Some,
+  None,
+  length,
+  drop,
+  refl,
+  sym,
+  ap,
+  ◌∙◌,
+  subst,
+  arith,
+  append_assoc,
+}
 use Rattle.std.proofs.lemmas.Bool.{cases_lt}
 use Rattle.std.proofs.lemmas.List.{append_cancel_left}
-use Rattle.aes3_cell.specs.declared.level.Level.{Level}
+use Rattle.aes3_level.specs.declared.level.Level.{Level}
 use Rattle.aes3_slot.specs.declared.mark.Mark.TheVariants.{Z}
 use Rattle.aes3_slot.specs.Preambles.{entry}
 use Rattle.aes3_slot.proofs.Beginnings.{begins-stands, begins-append, stands-drop}
-use Rattle.aes3_block.specs.Blocks.{block_len}
+use Rattle.aes3_frame.specs.Blocks.{block_len}
 use Rattle.aes3_lock.specs.declared.report.Report.{Report}
 use Rattle.aes3_lock.specs.declared.report.Report.TheVariants.{Whole, Marked, Fault, Unfinished}
 use Rattle.aes3_lock.specs.Candidates.{begins_block}
 use Rattle.aes3_lock.specs.Outcomes.{Outcome, whole, marked, fault, unfinished, outcome}
-use Rattle.aes3_lock.specs.Reports.{told, report_of, outcome_at, reports_from, reports, decided_at, open_at, decided_from, decided}
+use Rattle.aes3_lock.specs.Reports.{
+  told,
+  report_of,
+  outcome_at,
+  reports_from,
+  reports,
+  decided_at,
+  open_at,
+  decided_from,
+  decided,
+}
 use Rattle.aes3_lock.proofs.Fronts.{front-is}
 use Rattle.aes3_lock.proofs.Deciding.{decided-from, decided-stays, none-from-begins, block_len_24576}
 use Rattle.aes3_lock.proofs.Ends.{final, outcome_at-none, reports-split}
@@ -91,24 +133,28 @@ told-upto p q (Some o) h = (let e = place-is q o in omega arith, tt)
 decided-own : (p : ℕ) (c : List Level) → From p (decided_from p c)
 decided-own p [] = tt
 decided-own p (x ∷ c) =
-    from-join p (told p (decided_at (x ∷ c))) (decided_from (suc p) c) (told-from p p (decided_at (x ∷ c)) (omega arith))
+    from-join p (told p (decided_at (x ∷ c))) (decided_from (suc p) c)
+    (told-from p p (decided_at (x ∷ c)) (omega arith))
     (from-weaker p (suc p) (decided_from (suc p) c) (omega arith) (decided-own (suc p) c))
 
 reports-own : (p : ℕ) (c : List Level) → From p (reports_from p c)
 reports-own p [] = tt
 reports-own p (x ∷ c) =
-    from-join p (told p (outcome_at (x ∷ c))) (reports_from (suc p) c) (told-from p p (outcome_at (x ∷ c)) (omega arith))
+    from-join p (told p (outcome_at (x ∷ c))) (reports_from (suc p) c)
+    (told-from p p (outcome_at (x ∷ c)) (omega arith))
     (from-weaker p (suc p) (reports_from (suc p) c) (omega arith) (reports-own (suc p) c))
 
 reports-upto : (m p : ℕ) (c : List Level) → p + length c ≤ m → UpTo m (reports_from p c)
 reports-upto m p [] h = tt
 reports-upto m p (x ∷ c) h =
-    upto-join m (told p (outcome_at (x ∷ c))) (reports_from (suc p) c) (told-upto m p (outcome_at (x ∷ c)) (omega arith)) (reports-upto m (suc p) c (omega arith))
+    upto-join m (told p (outcome_at (x ∷ c))) (reports_from (suc p) c)
+    (told-upto m p (outcome_at (x ∷ c)) (omega arith)) (reports-upto m (suc p) c (omega arith))
 
 decided-upto : (m p : ℕ) (c : List Level) → p + length c ≤ m → UpTo m (decided_from p c)
 decided-upto m p [] h = tt
 decided-upto m p (x ∷ c) h =
-    upto-join m (told p (decided_at (x ∷ c))) (decided_from (suc p) c) (told-upto m p (decided_at (x ∷ c)) (omega arith)) (decided-upto m (suc p) c (omega arith))
+    upto-join m (told p (decided_at (x ∷ c))) (decided_from (suc p) c)
+    (told-upto m p (decided_at (x ∷ c)) (omega arith)) (decided-upto m (suc p) c (omega arith))
 
 pub near-reports : (c : List Level) → UpTo (length c) (reports c)
 unfolding reports
@@ -119,7 +165,8 @@ unfolding decided
 near-decided c = decided-upto (length c) 0 c (omega arith)
 
 -- where no block begins at the first k places
-none-before : (k q : ℕ) (c : List Level) → ((i : ℕ) → i < k → begins_block (drop i c) ≡ false) → From (q + k) (reports_from q c)
+none-before : (k q : ℕ) (c : List Level) → ((i : ℕ) → i < k → begins_block (drop i c) ≡ false)
+    → From (q + k) (reports_from q c)
 none-before zero q c h = from-weaker (q + 0) q (reports_from q c) (omega arith) (reports-own q c)
 none-before (suc k) q [] h = tt
 none-before (suc k) q (x ∷ c) h =
@@ -144,12 +191,16 @@ spaced-from : (p : ℕ) (c : List Level) → Spaced p (reports_from p c)
 spaced-from p [] = tt
 spaced-from p (x ∷ c) = go (outcome_at (x ∷ c)) refl (spaced-from (suc p) c)
   where
-    go : (o : Option Outcome) → outcome_at (x ∷ c) ≡ o → Spaced (suc p) (reports_from (suc p) c) → Spaced p (told p o ++ reports_from (suc p) c)
+    go : (o : Option Outcome) → outcome_at (x ∷ c) ≡ o → Spaced (suc p) (reports_from (suc p) c)
+        → Spaced p (told p o ++ reports_from (suc p) c)
     go None e s = spaced-weaker p (suc p) (reports_from (suc p) c) (omega arith) s
     go (Some (whole t b)) e s =
         let f = none-before (block_len - 1) (suc p) c (behind-whole b t x c e) in
-        let m = block_len_24576 in
-        (omega arith, spaced-later (p + block_len) (suc p) (reports_from (suc p) c) (from-weaker (p + block_len) (suc p + (block_len - 1)) (reports_from (suc p) c) (omega arith) f) s)
+        let m = block_len_24576 in (
+          omega arith,
+          spaced-later (p + block_len) (suc p) (reports_from (suc p) c)
+              (from-weaker (p + block_len) (suc p + (block_len - 1)) (reports_from (suc p) c) (omega arith) f) s,
+        )
     go (Some (marked t wrong)) e s = (omega arith, s)
     go (Some (fault f)) e s = (omega arith, s)
     go (Some (unfinished n)) e s = (omega arith, s)
@@ -170,29 +221,36 @@ same-decided : (c d : List Level) → block_len < length c → decided_at (c ++ 
 same-decided c d l = go (begins_block c) refl
   where
     go : (b : Bool) → begins_block c ≡ b → decided_at (c ++ d) ≡ decided_at c
-    go false q = let m = block_len_24576 in none-from-begins (c ++ d) (begins-append Z c d (omega arith) ∙ q) ∙ sym (none-from-begins c q)
+    go false q = let m = block_len_24576 in none-from-begins (c ++ d) (begins-append Z c d (omega arith) ∙ q)
+        ∙ sym (none-from-begins c q)
     go true q =
         let w = (front-is (entry c) c).within in
         let e = decided-from c q (omega arith) in
         decided-stays c d (outcome c) e ∙ sym e
 
 -- so what more cells decide stands a block's length before them at most
-late-from : (p : ℕ) (c d : List Level) (x : Report) → decided_from p (c ++ d) ≡ decided_from p c ++ x ∷ [] → p + length c ≤ place_of x + block_len
+late-from : (p : ℕ) (c d : List Level) (x : Report) → decided_from p (c ++ d) ≡ decided_from p c ++ x ∷ []
+    → p + length c ≤ place_of x + block_len
 late-from p [] d x e = let f = (subst (From p) e (decided-own p d)).0 in omega arith
 late-from p (y ∷ c) d x e = go (cases_lt block_len (length (y ∷ c))) (late-from (suc p) c d x)
   where
     go : (block_len < length (y ∷ c)) ⊎ (length (y ∷ c) ≤ block_len)
-        → (decided_from (suc p) (c ++ d) ≡ decided_from (suc p) c ++ x ∷ [] → suc p + length c ≤ place_of x + block_len) → p + length (y ∷ c) ≤ place_of x + block_len
-    go (inr l) ih = let f = from-last p (decided_from p (y ∷ c)) x (subst (From p) e (decided-own p (y ∷ c ++ d))) in omega arith
+        → (decided_from (suc p) (c ++ d) ≡ decided_from (suc p) c ++ x ∷ [] → suc p + length c ≤ place_of x + block_len)
+        → p + length (y ∷ c) ≤ place_of x + block_len
+    go (inr l) ih = let f = from-last p (decided_from p (y ∷ c)) x (subst (From p) e (decided-own p (y ∷ c ++ d)))
+        in omega arith
     go (inl l) ih =
         let o = decided_at (y ∷ c) in
         let s : decided_at (y ∷ c ++ d) ≡ o = same-decided (y ∷ c) d l in
         let q : told p o ++ decided_from (suc p) (c ++ d) ≡ told p o ++ (decided_from (suc p) c ++ x ∷ []) =
-        ap (λ v. told p v ++ decided_from (suc p) (c ++ d)) (sym s) ∙ e ∙ append_assoc (told p o) (decided_from (suc p) c) (x ∷ []) in
-        let r = ih (append_cancel_left (told p o) (decided_from (suc p) (c ++ d)) (decided_from (suc p) c ++ x ∷ []) q) in
+        ap (λ v. told p v ++ decided_from (suc p) (c ++ d)) (sym s) ∙ e
+        ∙ append_assoc (told p o) (decided_from (suc p) c) (x ∷ []) in
+        let r = ih (append_cancel_left (told p o) (decided_from (suc p) (c ++ d)) (decided_from (suc p) c ++ x ∷ []) q)
+        in
         omega arith
 
-pub late-decided : (c d : List Level) (x : Report) → decided (c ++ d) ≡ decided c ++ x ∷ [] → length c ≤ place_of x + block_len
+pub late-decided : (c d : List Level) (x : Report) → decided (c ++ d) ≡ decided c ++ x ∷ []
+    → length c ≤ place_of x + block_len
 unfolding decided
 late-decided c d x e = let l = late-from 0 c d x e in omega arith
 
@@ -201,7 +259,8 @@ late-final p [] x e = cc
 late-final p (y ∷ c) x e = go (open_at (y ∷ c)) refl e (late-final (suc p) c x)
   where
     go : (b : Bool) → open_at (y ∷ c) ≡ b → cond b (told p (outcome_at (y ∷ c))) (final (suc p) c) ≡ x ∷ []
-        → (final (suc p) c ≡ x ∷ [] → suc p + length c ≤ place_of x + block_len) → p + length (y ∷ c) ≤ place_of x + block_len
+        → (final (suc p) c ≡ x ∷ [] → suc p + length c ≤ place_of x + block_len)
+        → p + length (y ∷ c) ≤ place_of x + block_len
     go true o q ih =
         let l = (open-room (y ∷ c) (is-open (y ∷ c) o)).1 in
         let f = (subst (From p) q (told-from p p (outcome_at (y ∷ c)) (omega arith))).0 in

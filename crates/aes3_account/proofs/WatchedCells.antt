@@ -1,14 +1,51 @@
 -- A line watched, as its cells come.
-use Rattle.std.proofs.Common.{◌≡◌, ℕ, ◌+◌, ◌-◌, ◌*◌, ◌^◌, ◌<◌, ◌≤◌, ◌⊎◌, inl, inr, Bool, true, false, cond, ltb, List, [], ◌∷◌, ◌++◌, Option, Some, None, Ok, length, drop, refl, sym, ap, ap₂, ◌∙◌, subst, arith, append-nil, append_assoc, length-append}
+use Rattle.std.proofs.Common.{
+  ◌≡◌,
+  ℕ,
+  ◌+◌,
+  ◌-◌,
+  ◌*◌,
+  ◌^◌,
+  ◌<◌,
+  ◌≤◌,
+  ◌⊎◌,
+  inl,
+  inr,
+  Bool,
+  true,
+  false,
+  cond,
+  ltb,
+  List,
+  [],
+  ◌∷◌,
+  ◌++◌,
+  Option,
+  Some,
+  None,
+  Ok,
+  length,
+  drop,
+  refl,
+  sym,
+  ap,
+  ap₂,
+  ◌∙◌,
+  subst,
+  arith,
+  append-nil,
+  append_assoc,
+  length-append,
+}
 use Rattle.std.specs.Prelude.{◌||◌, nat_lt}
 use Rattle.std.specs.List.{filter, flat_map}
 use Rattle.std.proofs.lemmas.Bool.{ltb-false, le-ltb}
 use Rattle.std.proofs.lemmas.List.{append_cancel_left, drop_at}
 use Rattle.std.proofs.lemmas.Grind.{flat_map-append}
-use Rattle.aes3_cell.specs.declared.level.Level.{Level}
+use Rattle.aes3_level.specs.declared.level.Level.{Level}
 use Rattle.aes3_cell.specs.declared.form.Form.{Form}
 use Rattle.aes3_cell.specs.declared.counts.Counts.{Counts}
-use Rattle.aes3_block.specs.Blocks.{block_len, block_slots}
+use Rattle.aes3_frame.specs.Blocks.{block_len, block_slots}
 use Rattle.aes3_lock.specs.declared.report.Report.{Report}
 use Rattle.aes3_lock.specs.declared.report.Report.TheVariants.{Whole, Marked, Fault, Unfinished}
 use Rattle.aes3_lock.specs.Reports.{reports, decided, wholes, blocks}
@@ -30,7 +67,32 @@ use Rattle.aes3_lines.specs.Events.{event_line}
 use Rattle.aes3_account.specs.Signals.{change_events, signals_of}
 use Rattle.aes3_account.specs.declared.signals.Signals.{Signals}
 use Rattle.aes3_account.specs.declared.watched.Watched.{Watched}
-use Rattle.aes3_account.specs.Watching.{unwatched, is_told, loss_events, up_to, whole_events, slips, behind_whole, told_events, next, events_from, behind_reports, begun_events, watched, is_locked, ended, watch_events, event_lines, begun_watch, watch_lines, watch_counts, watching, IsKept, Watches, Ended}
+use Rattle.aes3_account.specs.Watching.{
+  unwatched,
+  is_told,
+  loss_events,
+  up_to,
+  whole_events,
+  slips,
+  behind_whole,
+  told_events,
+  next,
+  events_from,
+  behind_reports,
+  begun_events,
+  watched,
+  is_locked,
+  ended,
+  watch_events,
+  event_lines,
+  begun_watch,
+  watch_lines,
+  watch_counts,
+  watching,
+  IsKept,
+  Watches,
+  Ended,
+}
 use Rattle.aes3_account.proofs.ReportPlaces.{split-reports, late-decided, late-reports}
 use Rattle.aes3_account.proofs.Accounts.{one-answer, one-final, decided-more, few-reports}
 
@@ -45,18 +107,20 @@ made now p l = record { found = true; place = p; lost = false; losses = l; lates
 pub whole-is : (w : Watched) (at l : ℕ) (now : Signals) (b : Bool) → slips w at ≡ b → l ≡ cond b (w.losses + 1) w.losses
     → made now (at + 24576) l ≡ behind_whole w at now
 whole-is w at l now b e f =
-    ap (made now (at + 24576)) f ∙ sym (ap₂ (λ (n : ℕ) (v : Bool). made now (at + n) (cond v (w.losses + 1) w.losses)) block_len_24576 e)
+    ap (made now (at + 24576)) f
+    ∙ sym (ap₂ (λ (n : ℕ) (v : Bool). made now (at + n) (cond v (w.losses + 1) w.losses)) block_len_24576 e)
 
 -- up to a place, and on to a place behind it
 far : (p a b : ℕ) → a ≤ b → ltb (a - p) block_len ≡ false → ltb (b - p) block_len ≡ false
 far p a b h e = let l = ltb-false (a - p) block_len e in le-ltb (b - p) block_len (omega arith)
 
-or-false : (x y : Bool) → (x || y) ≡ false → (x ≡ false) × (y ≡ false)
+pub or-false : (x y : Bool) → (x || y) ≡ false → (x ≡ false) × (y ≡ false)
 or-false false y e = (refl, e)
 or-false true y e = (e, cc)
 
 later : (w : Watched) (a b : ℕ) → a ≤ b → is_told w a ≡ false → is_told w b ≡ false
-later w a b h e = let o = or-false w.lost (ltb (a - w.place) block_len) e in ap₂ (λ (x y : Bool). x || y) o.0 (far w.place a b h o.1)
+later w a b h e = let o = or-false w.lost (ltb (a - w.place) block_len) e in ap₂ (λ (x y : Bool). x || y) o.0
+    (far w.place a b h o.1)
 
 pub either : (b : Bool) → (b ≡ true) ⊎ (b ≡ false)
 either true = inl refl
@@ -68,7 +132,7 @@ as_lost w = record { found = w.found; place = w.place; lost = true; losses = w.l
 pub up-told : (w : Watched) (a : ℕ) (b : Bool) → is_told w a ≡ b → up_to w a ≡ cond b w (as_lost w)
 up-told w a b e = ap (λ x. cond x w (as_lost w)) e
 
-loss-told : (w : Watched) (a : ℕ) (b : Bool) → is_told w a ≡ b → loss_events w a ≡ cond b [] (Lost w.place ∷ [])
+pub loss-told : (w : Watched) (a : ℕ) (b : Bool) → is_told w a ≡ b → loss_events w a ≡ cond b [] (Lost w.place ∷ [])
 loss-told w a b e = ap (λ (x : Bool). cond {A = List Event} x [] (Lost w.place ∷ [])) e
 
 pub up-latest : (w : Watched) (a : ℕ) → (up_to w a).latest ≡ w.latest
@@ -94,12 +158,16 @@ up-join w a b h = go (either (is_told w a))
     go (inl e) = sym (ap (λ v. up_to v b) (up-told w a true e))
     go (inr e) = up-told w b false (later w a b h e) ∙ sym (ap (λ v. up_to v b) (up-told w a false e))
 
-report-join : (w : Watched) (a : ℕ) (x : Report) → a ≤ place_of x → told_events w x ≡ loss_events w a ++ told_events (up_to w a) x
+report-join : (w : Watched) (a : ℕ) (x : Report) → a ≤ place_of x
+    → told_events w x ≡ loss_events w a ++ told_events (up_to w a) x
 report-join w a (Whole at s b) h =
-    ap₂ (λ l v. l ++ (whole_events v at s ++ change_events at w.latest (signals_of b))) (loss-join w a at h) (up-join w a at h)
+    ap₂ (λ l v. l ++ (whole_events v at s ++ change_events at w.latest (signals_of b))) (loss-join w a at h)
+    (up-join w a at h)
     ∙ append_assoc (loss_events w a) (loss_events (up_to w a) at)
     (whole_events (up_to (up_to w a) at) at s ++ change_events at w.latest (signals_of b))
-    ∙ ap (λ o. loss_events w a ++ (loss_events (up_to w a) at ++ (whole_events (up_to (up_to w a) at) at s ++ change_events at o (signals_of b))))
+    ∙ ap (λ o. loss_events w a
+    ++ (loss_events (up_to w a) at
+    ++ (whole_events (up_to (up_to w a) at) at s ++ change_events at o (signals_of b))))
     (sym (up-latest w a))
 report-join w a (Marked at s wrong) h = loss-join w a at h
 report-join w a (Fault at cell why) h = loss-join w a at h
@@ -112,13 +180,15 @@ next-join w a (Fault at cell why) h = up-join w a at h
 next-join w a (Unfinished at cells) h = up-join w a at h
 
 -- one more report
-events-push : (w : Watched) (r : List Report) (x : Report) → events_from w (r ++ x ∷ []) ≡ events_from w r ++ told_events (behind_reports w r) x
+events-push : (w : Watched) (r : List Report) (x : Report)
+    → events_from w (r ++ x ∷ []) ≡ events_from w r ++ told_events (behind_reports w r) x
 events-push w [] x = append-nil (told_events w x)
 events-push w (y ∷ r) x =
     ap (λ z. told_events w y ++ z) (events-push (next w y) r x)
     ∙ sym (append_assoc (told_events w y) (events_from (next w y) r) (told_events (behind_reports (next w y) r) x))
 
-behind-push : (w : Watched) (r : List Report) (x : Report) → behind_reports w (r ++ x ∷ []) ≡ next (behind_reports w r) x
+behind-push : (w : Watched) (r : List Report) (x : Report)
+    → behind_reports w (r ++ x ∷ []) ≡ next (behind_reports w r) x
 behind-push w [] x = refl
 behind-push w (y ∷ r) x = behind-push (next w y) r x
 
@@ -127,13 +197,15 @@ shorter : (c d : List Level) → length c - block_len ≤ length (c ++ d) - bloc
 shorter c d = let l = length-append c d in omega arith
 
 -- more cells that decide no report
-pub watched-passed : (c d : List Level) → decided (c ++ d) ≡ decided c → watched (c ++ d) ≡ up_to (watched c) (length (c ++ d) - block_len)
+pub watched-passed : (c d : List Level) → decided (c ++ d) ≡ decided c
+    → watched (c ++ d) ≡ up_to (watched c) (length (c ++ d) - block_len)
 unfolding watched
 watched-passed c d e =
     ap (λ r. up_to (behind_reports unwatched r) (length (c ++ d) - block_len)) e
     ∙ up-join (behind_reports unwatched (decided c)) (length c - block_len) (length (c ++ d) - block_len) (shorter c d)
 
-pub begun-passed : (c d : List Level) → decided (c ++ d) ≡ decided c → begun_events (c ++ d) ≡ begun_events c ++ loss_events (watched c) (length (c ++ d) - block_len)
+pub begun-passed : (c d : List Level) → decided (c ++ d) ≡ decided c
+    → begun_events (c ++ d) ≡ begun_events c ++ loss_events (watched c) (length (c ++ d) - block_len)
 unfolding begun_events watched
 begun-passed c d e =
     let w = behind_reports unwatched (decided c) in
@@ -144,10 +216,12 @@ begun-passed c d e =
     ∙ sym (append_assoc (events_from unwatched (decided c)) (loss_events w s) (loss_events (up_to w s) t))
 
 -- a report, and what stands behind it
-next-watched : (c : List Level) (x : Report) → length c ≤ place_of x + block_len → behind_reports unwatched (decided c ++ x ∷ []) ≡ next (watched c) x
+next-watched : (c : List Level) (x : Report) → length c ≤ place_of x + block_len
+    → behind_reports unwatched (decided c ++ x ∷ []) ≡ next (watched c) x
 unfolding watched
 next-watched c x h =
-    behind-push unwatched (decided c) x ∙ next-join (behind_reports unwatched (decided c)) (length c - block_len) x (omega arith)
+    behind-push unwatched (decided c) x
+    ∙ next-join (behind_reports unwatched (decided c)) (length c - block_len) x (omega arith)
 
 four-joined : {A : Type 0} (a f g t : List A) → (a ++ (f ++ g)) ++ t ≡ (a ++ f) ++ (g ++ t)
 four-joined a f g t = simp append_assoc
@@ -158,10 +232,12 @@ unfolding begun_events watched
 events-watched c x tail h =
     let w = behind_reports unwatched (decided c) in
     let s = length c - block_len in
-    ap (λ z. z ++ tail) (events-push unwatched (decided c) x ∙ ap (λ z. events_from unwatched (decided c) ++ z) (report-join w s x (omega arith)))
+    ap (λ z. z ++ tail) (events-push unwatched (decided c) x
+    ∙ ap (λ z. events_from unwatched (decided c) ++ z) (report-join w s x (omega arith)))
     ∙ four-joined (events_from unwatched (decided c)) (loss_events w s) (told_events (up_to w s) x) tail
 
-watched-is : (c : List Level) (r : List Report) (w : Watched) → decided c ≡ r → behind_reports unwatched r ≡ w → watched c ≡ up_to w (length c - block_len)
+watched-is : (c : List Level) (r : List Report) (w : Watched) → decided c ≡ r → behind_reports unwatched r ≡ w
+    → watched c ≡ up_to w (length c - block_len)
 unfolding watched
 watched-is c r w e f =
     ap (λ v. up_to (behind_reports unwatched v) (length c - block_len)) e ∙ ap (λ v. up_to v (length c - block_len)) f
@@ -175,10 +251,12 @@ begun-is c r w e f =
 
 pub watched-taken : (c d : List Level) (x : Report) → decided (c ++ d) ≡ decided c ++ x ∷ []
     → watched (c ++ d) ≡ up_to (next (watched c) x) (length (c ++ d) - block_len)
-watched-taken c d x e = watched-is (c ++ d) (decided c ++ x ∷ []) (next (watched c) x) e (next-watched c x (late-decided c d x e))
+watched-taken c d x e = watched-is (c ++ d) (decided c ++ x ∷ []) (next (watched c) x) e
+    (next-watched c x (late-decided c d x e))
 
 pub begun-taken : (c d : List Level) (x : Report) → decided (c ++ d) ≡ decided c ++ x ∷ []
-    → begun_events (c ++ d) ≡ begun_events c ++ (told_events (watched c) x ++ loss_events (next (watched c) x) (length (c ++ d) - block_len))
+    → begun_events (c ++ d) ≡ begun_events c
+    ++ (told_events (watched c) x ++ loss_events (next (watched c) x) (length (c ++ d) - block_len))
 begun-taken c d x e =
     let h = late-decided c d x e in
     begun-is (c ++ d) (decided c ++ x ∷ []) (next (watched c) x) e (next-watched c x h)
@@ -195,7 +273,8 @@ all-is c r w e f =
     ap (λ v. events_from unwatched v ++ last_events (behind_reports unwatched v) (length c)) e
     ∙ ap (λ v. events_from unwatched r ++ last_events v (length c)) f
 
-ended-is : (c : List Level) (r : List Report) (w : Watched) → reports c ≡ r → behind_reports unwatched r ≡ w → ended c ≡ up_to w (length c)
+ended-is : (c : List Level) (r : List Report) (w : Watched) → reports c ≡ r → behind_reports unwatched r ≡ w
+    → ended c ≡ up_to w (length c)
 unfolding ended
 ended-is c r w e f = ap (λ v. up_to (behind_reports unwatched v) (length c)) e ∙ ap (λ v. up_to v (length c)) f
 
@@ -213,7 +292,8 @@ last-join w a b h =
     ap₂ (λ l v. l ++ End b (is_locked v) ∷ []) (loss-join w a b h) (up-join w a b h)
     ∙ append_assoc (loss_events w a) (loss_events (up_to w a) b) (End b (is_locked (up_to (up_to w a) b)) ∷ [])
 
-pub all-closed : (c : List Level) → reports c ≡ decided c ++ [] → watch_events c ≡ begun_events c ++ last_events (watched c) (length c)
+pub all-closed : (c : List Level) → reports c ≡ decided c ++ []
+    → watch_events c ≡ begun_events c ++ last_events (watched c) (length c)
 unfolding watched begun_events
 all-closed c e =
     let w = behind_reports unwatched (decided c) in
@@ -222,8 +302,10 @@ all-closed c e =
     ∙ ap (λ z. events_from unwatched (decided c) ++ z) (last-join w s (length c) (before-last c))
     ∙ sym (append_assoc (events_from unwatched (decided c)) (loss_events w s) (last_events (up_to w s) (length c)))
 
-pub ended-closed_with : (c : List Level) (x : Report) → reports c ≡ decided c ++ x ∷ [] → ended c ≡ up_to (next (watched c) x) (length c)
-ended-closed_with c x e = ended-is c (decided c ++ x ∷ []) (next (watched c) x) e (next-watched c x (late-reports c x e))
+pub ended-closed_with : (c : List Level) (x : Report) → reports c ≡ decided c ++ x ∷ []
+    → ended c ≡ up_to (next (watched c) x) (length c)
+ended-closed_with c x e = ended-is c (decided c ++ x ∷ []) (next (watched c) x) e
+    (next-watched c x (late-reports c x e))
 
 pub all-closed_with : (c : List Level) (x : Report) → reports c ≡ decided c ++ x ∷ []
     → watch_events c ≡ begun_events c ++ (told_events (watched c) x ++ last_events (next (watched c) x) (length c))
@@ -236,14 +318,16 @@ all-closed_with c x e =
 begun-more : (c : List Level) (l : Level) → (m : List Event) × (begun_events (c ++ l ∷ []) ≡ begun_events c ++ m)
 begun-more c l = go (one-answer 0 c l)
   where
-    go : (answer 0 c l ≡ []) ⊎ ((x : Report) × (answer 0 c l ≡ x ∷ [])) → (m : List Event) × (begun_events (c ++ l ∷ []) ≡ begun_events c ++ m)
+    go : (answer 0 c l ≡ []) ⊎ ((x : Report) × (answer 0 c l ≡ x ∷ []))
+        → (m : List Event) × (begun_events (c ++ l ∷ []) ≡ begun_events c ++ m)
     go (inl e) = (_, begun-passed c (l ∷ []) (decided-more c l ∙ ap (λ r. decided c ++ r) e ∙ append-nil (decided c)))
     go (inr x) = (_, begun-taken c (l ∷ []) x.0 (decided-more c l ∙ ap (λ r. decided c ++ r) x.1))
 
 all-more : (c : List Level) → (m : List Event) × (watch_events c ≡ begun_events c ++ m)
 all-more c = go (one-final 0 c)
   where
-    go : (final 0 c ≡ []) ⊎ ((x : Report) × (final 0 c ≡ x ∷ [])) → (m : List Event) × (watch_events c ≡ begun_events c ++ m)
+    go : (final 0 c ≡ []) ⊎ ((x : Report) × (final 0 c ≡ x ∷ []))
+        → (m : List Event) × (watch_events c ≡ begun_events c ++ m)
     go (inl e) = (_, all-closed c (split-reports c ∙ ap (λ r. decided c ++ r) e))
     go (inr x) = (_, all-closed_with c x.0 (split-reports c ∙ ap (λ r. decided c ++ r) x.1))
 
@@ -251,15 +335,18 @@ all-more c = go (one-final 0 c)
 grown : {A : Type 0} (a b m : List A) → b ≡ a ++ m → b ≡ a ++ drop (length a) b
 grown a b m e = e ∙ ap (λ z. a ++ z) (sym (ap (drop (length a)) e ∙ drop_at a m (length a) refl))
 
-grown-lines : (style : Style) (a b m : List Event) → b ≡ a ++ m → event_lines style b ≡ event_lines style a ++ event_lines style (drop (length a) b)
-grown-lines style a b m e = ap (event_lines style) (grown a b m e) ∙ flat_map-append (event_line style) a (drop (length a) b)
+grown-lines : (style : Style) (a b m : List Event) → b ≡ a ++ m
+    → event_lines style b ≡ event_lines style a ++ event_lines style (drop (length a) b)
+grown-lines style a b m e = ap (event_lines style) (grown a b m e)
+    ∙ flat_map-append (event_line style) a (drop (length a) b)
 
 adds-is : (style : Style) (c : List Level) (l : Level)
     → event_lines style (drop (length (begun_events c)) (begun_events (c ++ l ∷ []))) ≡ (watching style).adds c l
 unfolding watching
 adds-is style c l = refl
 
-ends-is : (style : Style) (c : List Level) → (watching style).ends c ≡ event_lines style (drop (length (begun_events c)) (watch_events c))
+ends-is : (style : Style) (c : List Level)
+    → (watching style).ends c ≡ event_lines style (drop (length (begun_events c)) (watch_events c))
 unfolding watching
 ends-is style c = refl
 
@@ -271,38 +358,44 @@ pub before-watch : (style : Style) (c : List Level) → before_end (watching sty
 before-watch style c =
     before-is (watching style) (begun_watch style) (ap (event_lines style) begins)
     (λ c l. let m = begun-more c l in
-    grown-lines style (begun_events c) (begun_events (c ++ l ∷ [])) m.0 m.1 ∙ ap (λ z. begun_watch style c ++ z) (adds-is style c l)) c
+    grown-lines style (begun_events c) (begun_events (c ++ l ∷ [])) m.0 m.1
+    ∙ ap (λ z. begun_watch style c ++ z) (adds-is style c l)) c
 
 pub with-watch : (style : Style) (c : List Level) → with_end (watching style) c ≡ watch_lines style c
 unfolding with_end
 with-watch style c =
     let m = all-more c in
-    ap₂ (λ x y. x ++ y) (before-watch style c) (ends-is style c) ∙ sym (grown-lines style (begun_events c) (watch_events c) m.0 m.1)
+    ap₂ (λ x y. x ++ y) (before-watch style c) (ends-is style c)
+    ∙ sym (grown-lines style (begun_events c) (watch_events c) m.0 m.1)
 
 pub behind-watch : (style : Style) (c d : List Level) (m : List Event) → begun_events (c ++ d) ≡ begun_events c ++ m
     → event_lines style m ≡ behind (watching style) c d
 behind-watch style c d m e =
     append_cancel_left (begun_watch style c) (event_lines style m) (behind (watching style) c d)
     (sym (flat_map-append (event_line style) (begun_events c) m) ∙ sym (ap (event_lines style) e)
-    ∙ sym (before-watch style (c ++ d)) ∙ before-join (watching style) c d ∙ ap (λ z. z ++ behind (watching style) c d) (before-watch style c))
+    ∙ sym (before-watch style (c ++ d)) ∙ before-join (watching style) c d
+    ∙ ap (λ z. z ++ behind (watching style) c d) (before-watch style c))
 
 pub ends-watch : (style : Style) (c : List Level) (m : List Event) → watch_events c ≡ begun_events c ++ m
     → event_lines style m ≡ (watching style).ends c
 ends-watch style c m e =
-    sym (ends-is style c ∙ ap (event_lines style) (ap (drop (length (begun_events c))) e ∙ drop_at (begun_events c) m (length (begun_events c)) refl))
+    sym (ends-is style c ∙ ap (event_lines style)
+    (ap (drop (length (begun_events c))) e ∙ drop_at (begun_events c) m (length (begun_events c)) refl))
 
 -- what is kept of a block's samples
 pub kept-up : (w : Watched) (a : ℕ) (words : List ℕ) → IsKept w.latest words → IsKept (up_to w a).latest words
 kept-up w a words h = subst (λ o. IsKept o words) (sym (up-latest w a)) h
 
 -- the cells of a run that decide no report
-pub pass-lines : (style : Style) (w : Watched) (s : ℕ) (c d : List Level) → w ≡ watched c → s ≡ length (c ++ d) - block_len → decided (c ++ d) ≡ decided c
+pub pass-lines : (style : Style) (w : Watched) (s : ℕ) (c d : List Level) → w ≡ watched c
+    → s ≡ length (c ++ d) - block_len → decided (c ++ d) ≡ decided c
     → event_lines style (loss_events w s) ≡ behind (watching style) c d
 pass-lines style w s c d e f q =
     ap (event_lines style) (ap₂ loss_events e f)
     ∙ behind-watch style c d (loss_events (watched c) (length (c ++ d) - block_len)) (begun-passed c d q)
 
-pub pass-watches : {w : Watched} {words : List ℕ} {b f u : ℕ} (w' : Watched) (s : ℕ) (c d : List Level) → Watches w words b f u c
+pub pass-watches : {w : Watched} {words : List ℕ} {b f u : ℕ} (w' : Watched) (s : ℕ) (c d : List Level)
+    → Watches w words b f u c
     → decided (c ++ d) ≡ decided c → s ≡ length (c ++ d) - block_len → w' ≡ up_to w s → Watches w' words b f u (c ++ d)
 pass-watches {w} {words} {b} {f} {u} w' s c d h q e g = record {
   state_is = g ∙ ap₂ up_to h.state_is e ∙ sym (watched-passed c d q);
@@ -311,14 +404,18 @@ pass-watches {w} {words} {b} {f} {u} w' s c d h q e g = record {
 }
 
 -- a report, and cells behind it
-pub take-lines : (style : Style) (w w' : Watched) (s : ℕ) (c d : List Level) (x : Report) → w ≡ watched c → w' ≡ next w x → s ≡ length (c ++ d) - block_len
-    → decided (c ++ d) ≡ decided c ++ x ∷ [] → event_lines style (told_events w x ++ loss_events w' s) ≡ behind (watching style) c d
+pub take-lines : (style : Style) (w w' : Watched) (s : ℕ) (c d : List Level) (x : Report) → w ≡ watched c
+    → w' ≡ next w x → s ≡ length (c ++ d) - block_len
+    → decided (c ++ d) ≡ decided c ++ x ∷ []
+    → event_lines style (told_events w x ++ loss_events w' s) ≡ behind (watching style) c d
 take-lines style w w' s c d x e g f q =
     ap (event_lines style) (ap₂ (λ v y. told_events w x ++ loss_events v y) g f
     ∙ ap (λ v. told_events v x ++ loss_events (next v x) (length (c ++ d) - block_len)) e)
-    ∙ behind-watch style c d (told_events (watched c) x ++ loss_events (next (watched c) x) (length (c ++ d) - block_len)) (begun-taken c d x q)
+    ∙ behind-watch style c d (told_events (watched c) x
+    ++ loss_events (next (watched c) x) (length (c ++ d) - block_len)) (begun-taken c d x q)
 
-pub take-watches : {w : Watched} {words : List ℕ} {b f u : ℕ} {words' : List ℕ} {b' f' u' : ℕ} (w' w'' : Watched) (s : ℕ) (c d : List Level) (x : Report)
+pub take-watches : {w : Watched} {words : List ℕ} {b f u : ℕ} {words' : List ℕ} {b' f' u' : ℕ} (w' w'' : Watched)
+    (s : ℕ) (c d : List Level) (x : Report)
     → Watches w words b f u c
     → decided (c ++ d) ≡ decided c ++ x ∷ [] → s ≡ length (c ++ d) - block_len → w' ≡ next w x → IsKept w'.latest words'
     → Tallies b' f' u' (decided c ++ x ∷ []) → w'' ≡ up_to w' s → Watches w'' words' b' f' u' (c ++ d)
@@ -329,11 +426,15 @@ take-watches {w} {words} {b} {f} {u} {words'} {b'} {f'} {u'} w' w'' s c d x h q 
 }
 
 -- the end
-pub close-lines : (style : Style) (w : Watched) (n : ℕ) (c : List Level) → w ≡ watched c → n ≡ length c → reports c ≡ decided c ++ []
+pub close-lines : (style : Style) (w : Watched) (n : ℕ) (c : List Level) → w ≡ watched c → n ≡ length c
+    → reports c ≡ decided c ++ []
     → event_lines style (last_events w n) ≡ (watching style).ends c
-close-lines style w n c e f q = ap (event_lines style) (ap₂ last_events e f) ∙ ends-watch style c (last_events (watched c) (length c)) (all-closed c q)
+close-lines style w n c e f q
+    = ap (event_lines style) (ap₂ last_events e f)
+    ∙ ends-watch style c (last_events (watched c) (length c)) (all-closed c q)
 
-pub close-ended : {w : Watched} {words : List ℕ} {b f u : ℕ} (w' : Watched) (n : ℕ) (c : List Level) → Watches w words b f u c → reports c ≡ decided c ++ []
+pub close-ended : {w : Watched} {words : List ℕ} {b f u : ℕ} (w' : Watched) (n : ℕ) (c : List Level)
+    → Watches w words b f u c → reports c ≡ decided c ++ []
     → n ≡ length c → n ≤ 2 ^ 43 → w' ≡ up_to w n → Ended w'.losses b f u c
 close-ended {w} {words} {b} {f} {u} w' n c h q e s k = record {
   short = omega arith;
@@ -341,14 +442,20 @@ close-ended {w} {words} {b} {f} {u} w' n c h q e s k = record {
   tally = subst (Tallies b f u) (sym (q ∙ append-nil (decided c))) h.tally;
 }
 
-pub close_with-lines : (style : Style) (w w' : Watched) (n : ℕ) (c : List Level) (x : Report) → w ≡ watched c → w' ≡ next w x → n ≡ length c
-    → reports c ≡ decided c ++ x ∷ [] → event_lines style (told_events w x ++ last_events w' n) ≡ (watching style).ends c
+pub close_with-lines : (style : Style) (w w' : Watched) (n : ℕ) (c : List Level) (x : Report) → w ≡ watched c
+    → w' ≡ next w x → n ≡ length c
+    → reports c ≡ decided c ++ x ∷ []
+    → event_lines style (told_events w x ++ last_events w' n) ≡ (watching style).ends c
 close_with-lines style w w' n c x e g f q =
-    ap (event_lines style) (ap₂ (λ v y. told_events w x ++ last_events v y) g f ∙ ap (λ v. told_events v x ++ last_events (next v x) (length c)) e)
-    ∙ ends-watch style c (told_events (watched c) x ++ last_events (next (watched c) x) (length c)) (all-closed_with c x q)
+    ap (event_lines style) (ap₂ (λ v y. told_events w x ++ last_events v y) g f
+    ∙ ap (λ v. told_events v x ++ last_events (next v x) (length c)) e)
+    ∙ ends-watch style c (told_events (watched c) x ++ last_events (next (watched c) x) (length c))
+    (all-closed_with c x q)
 
-pub close_with-ended : {w : Watched} {words : List ℕ} {b f u b' f' u' : ℕ} (w' w'' : Watched) (n : ℕ) (c : List Level) (x : Report) → Watches w words b f u c
-    → reports c ≡ decided c ++ x ∷ [] → n ≡ length c → n ≤ 2 ^ 43 → w' ≡ next w x → Tallies b' f' u' (decided c ++ x ∷ []) → w'' ≡ up_to w' n
+pub close_with-ended : {w : Watched} {words : List ℕ} {b f u b' f' u' : ℕ} (w' w'' : Watched) (n : ℕ) (c : List Level)
+    (x : Report) → Watches w words b f u c
+    → reports c ≡ decided c ++ x ∷ [] → n ≡ length c → n ≤ 2 ^ 43 → w' ≡ next w x
+    → Tallies b' f' u' (decided c ++ x ∷ []) → w'' ≡ up_to w' n
     → Ended w''.losses b' f' u' c
 close_with-ended {w} {words} {b} {f} {u} {b'} {f'} {u'} w' w'' n c x h q e s g t k = record {
   short = omega arith;
@@ -356,9 +463,11 @@ close_with-ended {w} {words} {b} {f} {u} {b'} {f'} {u'} w' w'' n c x h q e s g t
   tally = subst (Tallies b' f' u') (sym q) t;
 }
 
-pub begins-watched : {w : Watched} {words : List ℕ} {b f u : ℕ} → w ≡ unwatched → Tallies b f u [] → Watches w words b f u []
+pub begins-watched : {w : Watched} {words : List ℕ} {b f u : ℕ} → w ≡ unwatched → Tallies b f u []
+    → Watches w words b f u []
 unfolding watched decided block_len block_slots
-begins-watched {words = words} e t = record { state_is = e; kept = subst (λ v. IsKept v.latest words) (sym e) tt; tally = t }
+begins-watched {words = words} e t
+    = record { state_is = e; kept = subst (λ v. IsKept v.latest words) (sym e) tt; tally = t }
 
 -- the same of what is kept behind calls that leave some of it as it was
 pub same-watches : (w : Watched) (words words' : List ℕ) (t t' : Tally) (c : List Level) → words' ≡ words → t' ≡ t
@@ -367,10 +476,12 @@ same-watches w words words' t t' c e f h =
     subst (λ v. Watches w v t'.blocks t'.faults t'.unfinished c) (sym e)
     (subst (λ (v : Tally). Watches w words v.blocks v.faults v.unfinished c) (sym f) h)
 
-pub same-ended : (l : ℕ) (t t' : Tally) (c : List Level) → t' ≡ t → Ended l t.blocks t.faults t.unfinished c → Ended l t'.blocks t'.faults t'.unfinished c
+pub same-ended : (l : ℕ) (t t' : Tally) (c : List Level) → t' ≡ t → Ended l t.blocks t.faults t.unfinished c
+    → Ended l t'.blocks t'.faults t'.unfinished c
 same-ended l t t' c f h = subst (λ (v : Tally). Ended l v.blocks v.faults v.unfinished c) (sym f) h
 
-pub same-tally : (t t' : Tally) (r : List Report) → t' ≡ t → Tallies t.blocks t.faults t.unfinished r → Tallies t'.blocks t'.faults t'.unfinished r
+pub same-tally : (t t' : Tally) (r : List Report) → t' ≡ t → Tallies t.blocks t.faults t.unfinished r
+    → Tallies t'.blocks t'.faults t'.unfinished r
 same-tally t t' r f h = subst (λ (v : Tally). Tallies v.blocks v.faults v.unfinished r) (sym f) h
 
 -- cells are not told as lost more often than there are cells
@@ -416,7 +527,8 @@ few-ended c =
     let f = few-reports c in
     omega arith
 
-pub loss-room : {w : Watched} {words : List ℕ} {b f u : ℕ} (c d : List Level) (n : ℕ) → Watches w words b f u c → n ≡ length (c ++ d) → n ≤ 2 ^ 43 → w.losses ≤ 2 ^ 44 + 1
+pub loss-room : {w : Watched} {words : List ℕ} {b f u : ℕ} (c d : List Level) (n : ℕ) → Watches w words b f u c
+    → n ≡ length (c ++ d) → n ≤ 2 ^ 43 → w.losses ≤ 2 ^ 44 + 1
 loss-room {w} c d n h e s =
     let a : w.losses ≡ (watched c).losses = ap (λ v. v.losses) h.state_is in
     let f = few-watched c in
@@ -432,16 +544,37 @@ sum-room c h =
     let r = few-reports c in
     omega arith
 
-pub watch-room : {max : ℕ} {form : Form} {w : Writing Level} {g : List Level → Type 0} (l b f u : ℕ) {ended : Bool} {source sink : Movement} {bytes cells : ℕ}
+pub watch-room : {max : ℕ} {form : Form} {w : Writing Level} {g : List Level → Type 0} (l b f u : ℕ)
+    {ended : Bool} {source sink : Movement} {bytes cells : ℕ}
     → Drive max form w g (λ c. Ended l b f u c) ended source sink (Ok (bytes, cells)) → f + l < 2 ^ 64
 watch-room {form = form} l b f u r = sum-room (cells_of form r.run.bytes) r.run.ran.1.0
 
-pub watch-counted : (form : Form) (b : List ℕ) (bytes cells l k f u : ℕ) → bytes ≡ length b → cells ≡ length (cells_of form b) → Ended l k f u (cells_of form b)
-    → ◌≡◌ {A = Counts} (record { bytes = bytes; cells = cells; blocks = k; faults = f + l; unfinished = u; marks = 0 }) (watch_counts form b)
+pub watch-counted : (form : Form) (b : List ℕ) (bytes cells l k f u : ℕ) → bytes ≡ length b
+    → cells ≡ length (cells_of form b) → Ended l k f u (cells_of form b)
+    → ◌≡◌ {A = Counts} (record { bytes = bytes; cells = cells; blocks = k; faults = f + l; unfinished = u; marks = 0 })
+    (watch_counts form b)
 unfolding watch_counts blocks
 watch-counted form b n c l k f u e d t =
     let r = reports (cells_of form b) in
-    let s : f + l ≡ length (filter is_faulty r) + (ended (cells_of form b)).losses = ap₂ (λ x y. x + y) t.tally.faults_is t.losses_is in
+    let s : f + l ≡ length (filter is_faulty r) + (ended (cells_of form b)).losses
+    = ap₂ (λ x y. x + y) t.tally.faults_is t.losses_is in
     ap₂ (λ (x y : ℕ). record { bytes = x; cells = y; blocks = k; faults = f + l; unfinished = u; marks = 0 }) e d
-    ∙ ap₂ (λ (x y : ℕ). record { bytes = length b; cells = length (cells_of form b); blocks = x; faults = y; unfinished = u; marks = 0 }) t.tally.blocks_is s
-    ∙ ap (λ (x : ℕ). record { bytes = length b; cells = length (cells_of form b); blocks = length (wholes r); faults = length (filter is_faulty r) + (ended (cells_of form b)).losses; unfinished = x; marks = 0 }) t.tally.unfinished_is
+    ∙ ap₂ (λ (x y : ℕ). record {
+      bytes = length b;
+      cells = length (cells_of form b);
+      blocks = x;
+      faults = y;
+      unfinished
+          = u;
+      marks = 0;
+    }) t.tally.blocks_is s
+    ∙ ap (λ (x : ℕ). record {
+      bytes = length b;
+      cells = length (cells_of form b);
+      blocks = length (wholes r);
+      faults
+          = length (filter is_faulty r) + (ended (cells_of form b)).losses;
+      unfinished = x;
+      marks = 0;
+    })
+    t.tally.unfinished_is

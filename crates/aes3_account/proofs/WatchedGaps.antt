@@ -1,15 +1,57 @@
 -- A loss or a slip is told just where a gap of the account counts.
-use Rattle.std.proofs.Common.{◌≡◌, ℕ, ◌+◌, ◌-◌, ◌*◌, ◌<◌, ◌≤◌, ◌⊎◌, inl, inr, Bool, true, false, cond, ltb, List, [], ◌∷◌, ◌++◌, length, refl, sym, ap, ap₂, ◌∙◌, subst, arith, append_assoc}
+use Rattle.std.proofs.Common.{
+  ◌≡◌,
+  ℕ,
+  ◌+◌,
+  ◌-◌,
+  ◌*◌,
+  ◌<◌,
+  ◌≤◌,
+  ◌⊎◌,
+  inl,
+  inr,
+  Bool,
+  true,
+  false,
+  cond,
+  ltb,
+  List,
+  [],
+  ◌∷◌,
+  ◌++◌,
+  length,
+  refl,
+  sym,
+  ap,
+  ap₂,
+  ◌∙◌,
+  subst,
+  arith,
+  append_assoc,
+}
 use Rattle.std.specs.Prelude.{◌||◌, ◌&&◌, not}
 use Rattle.std.specs.List.{filter}
 use Rattle.std.proofs.lemmas.Bool.{ltb-true, ltb-false, lt-ltb}
-use Rattle.aes3_cell.specs.declared.level.Level.{Level}
-use Rattle.aes3_block.specs.Blocks.{block_len}
+use Rattle.aes3_level.specs.declared.level.Level.{Level}
+use Rattle.aes3_frame.specs.Blocks.{block_len}
 use Rattle.aes3_lock.specs.declared.report.Report.{Report}
 use Rattle.aes3_lock.specs.declared.report.Report.TheVariants.{Whole, Marked, Fault, Unfinished}
 use Rattle.aes3_lock.specs.Reports.{reports}
 use Rattle.aes3_lock.proofs.Deciding.{block_len_24576}
-use Rattle.aes3_account.specs.Gaps.{Entry, reported, full_gaps, full_count, behind_full, kind, rest_gap, gaps, account_from, reached_from, account, is_lost}
+use Rattle.aes3_account.specs.Gaps.{
+  Entry,
+  reported,
+  full_gaps,
+  full_count,
+  behind_full,
+  kind,
+  rest_gap,
+  gaps,
+  account_from,
+  reached_from,
+  account,
+  is_lost,
+}
 use Rattle.aes3_account.specs.Signals.{signals_of}
 use Rattle.aes3_account.specs.declared.signals.Signals.{Signals}
 use Rattle.aes3_account.specs.declared.watched.Watched.{Watched}
@@ -83,7 +125,8 @@ told-by q b h e = ap₂ (λ (x : Bool) (y : ℕ). x || ltb (q - y) block_len) h.
 up-near : {w : Watched} {n p : ℕ} (q : ℕ) → Even w n p → ltb (q - p) block_len ≡ true → up_to w q ≡ w
 up-near {w} q h e = up-told w q true (told-by q true h e)
 
-up-far : {w : Watched} {n p : ℕ} (q : ℕ) → Even w n p → ltb (q - p) block_len ≡ false → (up_to w q).losses ≡ w.losses + 1
+up-far : {w : Watched} {n p : ℕ} (q : ℕ) → Even w n p → ltb (q - p) block_len ≡ false
+    → (up_to w q).losses ≡ w.losses + 1
 up-far {w} q h e = ap (λ v. v.losses) (up-told w q false (told-by q false h e))
 
 -- how many gaps count
@@ -95,23 +138,28 @@ cut-none p q = go (ltb p q)
     go false = refl
 
 gaps-count : (k : Bool) (p q : ℕ) → count (gaps k p q) ≡ full_count p q + count (rest_gap k (behind_full p q) q)
-gaps-count k p q = lost-append (full_gaps p (full_count p q)) (rest_gap k (behind_full p q) q) ∙ ap (λ m. m + count (rest_gap k (behind_full p q) q)) (lost-full p (full_count p q))
+gaps-count k p q = lost-append (full_gaps p (full_count p q)) (rest_gap k (behind_full p q) q)
+    ∙ ap (λ m. m + count (rest_gap k (behind_full p q) q)) (lost-full p (full_count p q))
 
 at-end : (w : Watched) (n p q : ℕ) → Even w n p → Same (count (gaps false p q)) (up_to w q).losses w.losses
 at-end w n p q h = go (either (ltb (q - p) block_len))
   where
-    go : (ltb (q - p) block_len ≡ true) ⊎ (ltb (q - p) block_len ≡ false) → Same (count (gaps false p q)) (up_to w q).losses w.losses
+    go : (ltb (q - p) block_len ≡ true) ⊎ (ltb (q - p) block_len ≡ false)
+        → Same (count (gaps false p q)) (up_to w q).losses w.losses
     go (inl e) = record {
       one = λ z. ap (λ v. v.losses) (up-near q h e);
-      other = λ z. let a = gaps-count false p q in let b = near-none p q e in let d = cut-none (behind_full p q) q in omega arith;
+      other = λ z. let a = gaps-count false p q in let b = near-none p q e in let d = cut-none (behind_full p q)
+          q in omega arith;
     }
-    go (inr e) = let a = gaps-count false p q in let f = far-some p q e in let u = up-far q h e in more (omega arith) (omega arith)
+    go (inr e) = let a = gaps-count false p q in let f = far-some p q e in let u = up-far q h e in more (omega arith)
+        (omega arith)
 
 -- behind a report
 abbrev all_of : ℕ → ℕ → List Report → ℕ → List Entry
 all_of n p r q = account_from n p r ++ gaps false (reached_from p r) q
 
-front-count : (g rest : List Entry) (x : Report) (tail : List Entry) → count ((g ++ reported x ∷ rest) ++ tail) ≡ count g + count (rest ++ tail)
+front-count : (g rest : List Entry) (x : Report) (tail : List Entry)
+    → count ((g ++ reported x ∷ rest) ++ tail) ≡ count g + count (rest ++ tail)
 front-count g rest x tail =
     ap count (append_assoc g (reported x ∷ rest) tail) ∙ lost-append g (reported x ∷ (rest ++ tail))
 
@@ -132,8 +180,10 @@ lost-on : (v : Watched) (r : List Report) (q m : ℕ) → m < v.losses → m < (
 lost-on v r q m h = let b = behind-more v r in let t = up-more (behind_reports v r) q in omega arith
 
 -- behind a report of no whole block
-other-step : (w : Watched) (n p q at : ℕ) (r : List Report) → Even w n p → ((v : Watched) (m k : ℕ) → Even v m k → Goes r q v m k)
-    → Same (full_count p at + count (all_of (n + 0) (behind_full p at) r q)) (up_to (behind_reports (up_to w at) r) q).losses w.losses
+other-step : (w : Watched) (n p q at : ℕ) (r : List Report) → Even w n p
+    → ((v : Watched) (m k : ℕ) → Even v m k → Goes r q v m k)
+    → Same (full_count p at + count (all_of (n + 0) (behind_full p at) r q))
+    (up_to (behind_reports (up_to w at) r) q).losses w.losses
 other-step w n p q at r h rec = go (either (ltb (at - p) block_len))
   where
     even : ltb (at - p) block_len ≡ true → Even w (n + 0) (behind_full p at)
@@ -144,11 +194,14 @@ other-step w n p q at r h rec = go (either (ltb (at - p) block_len))
     }
 
     go : (ltb (at - p) block_len ≡ true) ⊎ (ltb (at - p) block_len ≡ false)
-        → Same (full_count p at + count (all_of (n + 0) (behind_full p at) r q)) (up_to (behind_reports (up_to w at) r) q).losses w.losses
+        → Same (full_count p at + count (all_of (n + 0) (behind_full p at) r q))
+        (up_to (behind_reports (up_to w at) r) q).losses w.losses
     go (inl e) =
         same-on (near-none p at e) (ap (λ v. v.losses) (up-near at h e))
-        (rec (up_to w at) (n + 0) (behind_full p at) (subst (λ v. Even v (n + 0) (behind_full p at)) (sym (up-near at h e)) (even e)))
-    go (inr e) = let u = up-far at h e in some-more _ (far-some p at e) (lost-on (up_to w at) r q w.losses (omega arith))
+        (rec (up_to w at) (n + 0) (behind_full p at)
+        (subst (λ v. Even v (n + 0) (behind_full p at)) (sym (up-near at h e)) (even e)))
+    go (inr e) = let u = up-far at h e in some-more _ (far-some p at e)
+        (lost-on (up_to w at) r q w.losses (omega arith))
 
 -- behind a whole block
 rest-count : (k : Bool) (p q : ℕ) → count (rest_gap k p q) ≡ cond (k && ltb p q) 1 0
@@ -164,34 +217,43 @@ slips-is : {w : Watched} {n p : ℕ} (at : ℕ) → Even w n p → slips w at �
 slips-is {w} {n} at h =
     ap₂ (λ (x y : Bool). x && (not y && ltb w.place at)) h.found h.held ∙ ap (λ (v : ℕ). ltb 0 n && ltb v at) h.place
 
-near-count : {w : Watched} {n p : ℕ} (at : ℕ) → Even w n p → ltb (at - p) block_len ≡ true → count (gaps (ltb 0 n) p at) ≡ cond (slips w at) 1 0
+near-count : {w : Watched} {n p : ℕ} (at : ℕ) → Even w n p → ltb (at - p) block_len ≡ true
+    → count (gaps (ltb 0 n) p at) ≡ cond (slips w at) 1 0
 near-count {w} {n} {p} at h e =
     let a = gaps-count (ltb 0 n) p at in
     let b = near-none p at e in
     let c : count (rest_gap (ltb 0 n) (behind_full p at) at) ≡ cond (slips w at) 1 0 =
-    ap (λ y. count (rest_gap (ltb 0 n) y at)) (near-behind p at b) ∙ rest-count (ltb 0 n) p at ∙ ap (λ (x : Bool). cond {A = ℕ} x 1 0) (sym (slips-is at h)) in
+    ap (λ y. count (rest_gap (ltb 0 n) y at)) (near-behind p at b) ∙ rest-count (ltb 0 n) p at
+    ∙ ap (λ (x : Bool). cond {A = ℕ} x 1 0) (sym (slips-is at h)) in
     omega arith
 
-whole-step : (w : Watched) (n p q at : ℕ) (now : Signals) (r : List Report) → Even w n p → ((v : Watched) (m k : ℕ) → Even v m k → Goes r q v m k)
-    → Same (count (gaps (ltb 0 n) p at) + count (all_of (n + 1) (at + block_len) r q)) (up_to (behind_reports (behind_whole (up_to w at) at now) r) q).losses w.losses
+whole-step : (w : Watched) (n p q at : ℕ) (now : Signals) (r : List Report) → Even w n p
+    → ((v : Watched) (m k : ℕ) → Even v m k → Goes r q v m k)
+    → Same (count (gaps (ltb 0 n) p at) + count (all_of (n + 1) (at + block_len) r q))
+    (up_to (behind_reports (behind_whole (up_to w at) at now) r) q).losses w.losses
 whole-step w n p q at now r h rec = go (either (ltb (at - p) block_len))
   where
     even : Even (behind_whole (up_to w at) at now) (n + 1) (at + block_len)
     even = record { held = refl; place = refl; found = sym (lt-ltb 0 (n + 1) (omega arith)) }
 
     near : ltb (at - p) block_len ≡ true → (slips w at ≡ true) ⊎ (slips w at ≡ false)
-        → Same (count (gaps (ltb 0 n) p at) + count (all_of (n + 1) (at + block_len) r q)) (up_to (behind_reports (behind_whole (up_to w at) at now) r) q).losses w.losses
+        → Same (count (gaps (ltb 0 n) p at) + count (all_of (n + 1) (at + block_len) r q))
+        (up_to (behind_reports (behind_whole (up_to w at) at now) r) q).losses w.losses
     near e (inl s) =
-        let l : (behind_whole (up_to w at) at now).losses ≡ w.losses + 1 = ap (λ v. (behind_whole v at now).losses) (up-near at h e) ∙ ap (λ (b : Bool). cond b (w.losses + 1) w.losses) s in
+        let l : (behind_whole (up_to w at) at now).losses ≡ w.losses + 1
+        = ap (λ v. (behind_whole v at now).losses) (up-near at h e)
+        ∙ ap (λ (b : Bool). cond b (w.losses + 1) w.losses) s in
         let c : count (gaps (ltb 0 n) p at) ≡ 1 = near-count at h e ∙ ap (λ (b : Bool). cond {A = ℕ} b 1 0) s in
         some-more _ (omega arith) (lost-on (behind_whole (up_to w at) at now) r q w.losses (omega arith))
     near e (inr s) =
         same-on (near-count at h e ∙ ap (λ (b : Bool). cond {A = ℕ} b 1 0) s)
-        (ap (λ v. (behind_whole v at now).losses) (up-near at h e) ∙ ap (λ (b : Bool). cond b (w.losses + 1) w.losses) s)
+        (ap (λ v. (behind_whole v at now).losses) (up-near at h e)
+        ∙ ap (λ (b : Bool). cond b (w.losses + 1) w.losses) s)
         (rec (behind_whole (up_to w at) at now) (n + 1) (at + block_len) even)
 
     go : (ltb (at - p) block_len ≡ true) ⊎ (ltb (at - p) block_len ≡ false)
-        → Same (count (gaps (ltb 0 n) p at) + count (all_of (n + 1) (at + block_len) r q)) (up_to (behind_reports (behind_whole (up_to w at) at now) r) q).losses w.losses
+        → Same (count (gaps (ltb 0 n) p at) + count (all_of (n + 1) (at + block_len) r q))
+        (up_to (behind_reports (behind_whole (up_to w at) at now) r) q).losses w.losses
     go (inl e) = near e (either (slips w at))
     go (inr e) =
         let u = up-far at h e in
@@ -203,22 +265,28 @@ whole-step w n p q at now r h rec = go (either (ltb (at - p) block_len))
 goes : (r : List Report) (w : Watched) (n p q : ℕ) → Even w n p → Goes r q w n p
 goes [] w n p q h = at-end w n p q h
 goes (Whole at s b ∷ r) w n p q h =
-    same-is (front-count (gaps (ltb 0 n) p at) (account_from (n + 1) (at + block_len) r) (Whole at s b) (gaps false (reached_from (at + block_len) r) q))
+    same-is (front-count (gaps (ltb 0 n) p at) (account_from (n + 1) (at + block_len) r) (Whole at s b)
+    (gaps false (reached_from (at + block_len) r) q))
     (whole-step w n p q at (signals_of b) r h (λ v m k e. goes r v m k q e))
 goes (Marked at s wrong ∷ r) w n p q h =
-    same-is (front-count (full_gaps p (full_count p at)) (account_from (n + 0) (behind_full p at) r) (Marked at s wrong) (gaps false (reached_from (behind_full p at) r) q)
+    same-is (front-count (full_gaps p (full_count p at)) (account_from (n + 0) (behind_full p at) r) (Marked at s wrong)
+    (gaps false (reached_from (behind_full p at) r) q)
     ∙ ap (λ m. m + count (all_of (n + 0) (behind_full p at) r q)) (lost-full p (full_count p at)))
     (other-step w n p q at r h (λ v m k e. goes r v m k q e))
 goes (Fault at cell why ∷ r) w n p q h =
-    same-is (front-count (full_gaps p (full_count p at)) (account_from (n + 0) (behind_full p at) r) (Fault at cell why) (gaps false (reached_from (behind_full p at) r) q)
+    same-is (front-count (full_gaps p (full_count p at)) (account_from (n + 0) (behind_full p at) r) (Fault at cell why)
+    (gaps false (reached_from (behind_full p at) r) q)
     ∙ ap (λ m. m + count (all_of (n + 0) (behind_full p at) r q)) (lost-full p (full_count p at)))
     (other-step w n p q at r h (λ v m k e. goes r v m k q e))
 goes (Unfinished at cells ∷ r) w n p q h =
-    same-is (front-count (full_gaps p (full_count p at)) (account_from (n + 0) (behind_full p at) r) (Unfinished at cells) (gaps false (reached_from (behind_full p at) r) q)
+    same-is (front-count (full_gaps p (full_count p at)) (account_from (n + 0) (behind_full p at) r)
+    (Unfinished at cells) (gaps false (reached_from (behind_full p at) r) q)
     ∙ ap (λ m. m + count (all_of (n + 0) (behind_full p at) r q)) (lost-full p (full_count p at)))
     (other-step w n p q at r h (λ v m k e. goes r v m k q e))
 
-pub losses-are-gaps : (c : List Level) → (length (filter is_lost (account c)) ≡ 0 → (ended c).losses ≡ 0) × ((ended c).losses ≡ 0 → length (filter is_lost (account c)) ≡ 0)
+pub losses-are-gaps : (c : List Level)
+    → (length (filter is_lost (account c)) ≡ 0 → (ended c).losses ≡ 0)
+    × ((ended c).losses ≡ 0 → length (filter is_lost (account c)) ≡ 0)
 unfolding account ended
 losses-are-gaps c =
     let g = goes (reports c) unwatched 0 0 (length c) (record { held = refl; place = refl; found = refl }) in

@@ -1,7 +1,7 @@
 -- What an account writes and counts, as its cells come.
 use Rattle.std.specs.Prelude.{ℕ, List, [], ◌∷◌, ◌++◌, length, drop, ◌≡◌, ◌≤◌, ◌+◌, ◌^◌}
 use Rattle.std.specs.List.{filter}
-use Rattle.aes3_cell.specs.declared.level.Level.{Level}
+use Rattle.aes3_level.specs.declared.level.Level.{Level}
 use Rattle.aes3_cell.specs.declared.form.Form.{Form}
 use Rattle.aes3_cell.specs.declared.counts.Counts.{Counts}
 use Rattle.aes3_lock.specs.Reports.{blocks, decided, reports}
@@ -24,7 +24,8 @@ account_counts form b = record {
   marks = 0;
 }
 
--- a taker that writes the lines of an account: with one more cell those that now stand whatever follows, at the end all others
+-- a taker that writes the lines of an account: with one more cell those that now stand whatever follows, at the end all
+-- others
 unfoldable pub accounting : Lines → Writing Level
 accounting lines = record {
   adds = λ c l. account_lines lines (drop (length (begun_account c)) (begun_account (c ++ l ∷ [])));

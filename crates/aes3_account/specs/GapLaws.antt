@@ -1,8 +1,8 @@
 -- Laws of the account of an input's cells.
 use Rattle.std.specs.Prelude.{ℕ, List, [], ◌∷◌, ◌++◌, Bool, length, ◌≡◌, ◌<◌, ◌≤◌, ◌+◌, ◌*◌}
 use Rattle.std.specs.List.{All, filter}
-use Rattle.aes3_cell.specs.declared.level.Level.{Level}
-use Rattle.aes3_block.specs.Blocks.{block_len, stream, IsBlock}
+use Rattle.aes3_level.specs.declared.level.Level.{Level}
+use Rattle.aes3_frame.specs.Blocks.{block_len, stream, IsBlock}
 use Rattle.aes3_lock.specs.declared.report.Report.{Report}
 use Rattle.aes3_lock.specs.declared.report.Report.TheVariants.{Whole, Marked, Fault, Unfinished}
 use Rattle.aes3_lock.specs.Damage.{changed, without}
@@ -10,7 +10,8 @@ use Rattle.aes3_lock.specs.Pieces.{IsPiece}
 use Rattle.aes3_lock.specs.Reports.{blocks, reports}
 use Rattle.aes3_account.specs.Gaps.{Entry, reported, lost, cut, account, begun_account, accounted, is_lost}
 
--- the whole blocks and the gaps of an account are the cells from place p up to, but without, place q, each exactly once, in order
+-- the whole blocks and the gaps of an account are the cells from place p up to, but without, place q, each exactly
+-- once, in order
 abbrev pub Covers : ℕ → List Entry → ℕ → Type 0
 Covers p [] q = p ≡ q
 Covers p (reported (Whole at s b) ∷ e) q = (at ≡ p) × Covers (at + block_len) e q
@@ -76,10 +77,12 @@ ChangeIsLost =
 -- and where one is lost that stands between the first block and the last
 abbrev pub LossIsLost : Type 0
 LossIsLost =
-    (s : Level) (bs : List (List (List Bool))) → All IsBlock bs → (k : ℕ) → block_len ≤ k → k + block_len < length (stream s bs)
+    (s : Level) (bs : List (List (List Bool))) → All IsBlock bs → (k : ℕ) → block_len ≤ k
+    → k + block_len < length (stream s bs)
     → 0 < length (filter is_lost (account (without k (stream s bs))))
 
--- where the whole blocks of cells, one at least, stand so, no gap counts; and so in a piece of a lawful stream with a whole block
+-- where the whole blocks of cells, one at least, stand so, no gap counts; and so in a piece of a lawful stream with a
+-- whole block
 abbrev pub RowHasNoGap : Type 0
 RowHasNoGap = (c : List Level) → LosesNothing c → 0 < length (blocks c) → length (filter is_lost (account c)) ≡ 0
 

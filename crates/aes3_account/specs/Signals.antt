@@ -1,10 +1,25 @@
 -- What the whole blocks of a line say of their samples, and where that changes.
-use Rattle.std.specs.Prelude.{ℕ, List, [], ◌∷◌, ◌++◌, Bool, true, false, Option, Some, None, count_ones, ◌==◌, if◌then◌else◌}
+use Rattle.std.specs.Prelude.{
+  ℕ,
+  List,
+  [],
+  ◌∷◌,
+  ◌++◌,
+  Bool,
+  true,
+  false,
+  Option,
+  Some,
+  None,
+  count_ones,
+  ◌==◌,
+  if◌then◌else◌,
+}
 use Rattle.std.specs.List.{sum_by}
 use Rattle.std.specs.Str.{bytes_eq}
-use Rattle.aes3_block.specs.declared.status.Channel.{Channel}
-use Rattle.aes3_block.specs.declared.status.Channel.TheVariants.{First, Second}
-use Rattle.aes3_block.specs.Statuses.{status_of, validity_of}
+use Rattle.aes3_frame.specs.declared.status.Channel.{Channel}
+use Rattle.aes3_frame.specs.declared.status.Channel.TheVariants.{First, Second}
+use Rattle.aes3_frame.specs.Statuses.{status_of, validity_of}
 use Rattle.aes3_lines.specs.declared.event.Event.{Event}
 use Rattle.aes3_lines.specs.declared.event.Event.TheVariants.{Status, Validity}
 use Rattle.aes3_lines.specs.declared.event.Marking.{Marking}
@@ -40,11 +55,13 @@ same_marking Mixed Mixed = true
 
 -- a channel of a whole block at a place, behind a whole block that says otherwise
 abbrev pub status_events : ℕ → Channel → ChannelSignals → ChannelSignals → List Event
-status_events at channel before now = if bytes_eq before.status now.status then [] else Status at channel now.status ∷ []
+status_events at channel before now
+    = if bytes_eq before.status now.status then [] else Status at channel now.status ∷ []
 
 abbrev pub validity_events : ℕ → Channel → ChannelSignals → ChannelSignals → List Event
 validity_events at channel before now =
-    if same_marking (marking_of before.invalid) (marking_of now.invalid) then [] else Validity at channel (marking_of now.invalid) ∷ []
+    if same_marking (marking_of before.invalid) (marking_of now.invalid) then [] else Validity at channel
+    (marking_of now.invalid) ∷ []
 
 -- both channels behind the whole block before it, if there is one: the first says nothing new
 unfoldable pub change_events : ℕ → Option Signals → Signals → List Event

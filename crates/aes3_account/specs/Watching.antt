@@ -1,12 +1,38 @@
--- What is told of a line that is watched: where its whole blocks begin, stay away, come back and go on at another place, and where they say
+-- What is told of a line that is watched: where its whole blocks begin, stay away, come back and go on at another
+-- place, and where they say
 -- something else of their samples.
-use Rattle.std.specs.Prelude.{ℕ, List, [], ◌∷◌, ◌++◌, Bool, true, false, not, Option, Some, None, IfSome, length, drop, ◌≡◌, ◌≤◌, ◌+◌, ◌-◌, ◌^◌, ◌&&◌, ◌||◌, nat_lt, if◌then◌else◌}
+use Rattle.std.specs.Prelude.{
+  ℕ,
+  List,
+  [],
+  ◌∷◌,
+  ◌++◌,
+  Bool,
+  true,
+  false,
+  not,
+  Option,
+  Some,
+  None,
+  IfSome,
+  length,
+  drop,
+  ◌≡◌,
+  ◌≤◌,
+  ◌+◌,
+  ◌-◌,
+  ◌^◌,
+  ◌&&◌,
+  ◌||◌,
+  nat_lt,
+  if◌then◌else◌,
+}
 use Rattle.std.specs.List.{filter, flat_map}
-use Rattle.aes3_cell.specs.declared.level.Level.{Level}
+use Rattle.aes3_level.specs.declared.level.Level.{Level}
 use Rattle.aes3_cell.specs.declared.form.Form.{Form}
 use Rattle.aes3_cell.specs.declared.counts.Counts.{Counts}
 use Rattle.aes3_slot.specs.ReadWords.{read_words}
-use Rattle.aes3_block.specs.Blocks.{block_len}
+use Rattle.aes3_frame.specs.Blocks.{block_len}
 use Rattle.aes3_lock.specs.declared.report.Report.{Report}
 use Rattle.aes3_lock.specs.declared.report.Report.TheVariants.{Whole, Marked, Fault, Unfinished}
 use Rattle.aes3_lock.specs.Outcomes.{payloads_of}
@@ -22,8 +48,10 @@ use Rattle.aes3_account.specs.Signals.{change_events, signals_of}
 use Rattle.aes3_account.specs.declared.signals.Signals.{Signals}
 use Rattle.aes3_account.specs.declared.watched.Watched.{Watched}
 
--- a line of which no cell has come. `found`: a whole block has; `place`: behind the last one, or 0; `lost`: the cells from there on
--- are told as lost; `losses`: how many such cells and slips were told; `latest`: what the last whole block says of its samples
+-- a line of which no cell has come. `found`: a whole block has; `place`: behind the last one, or 0; `lost`: the cells
+-- from there on
+-- are told as lost; `losses`: how many such cells and slips were told; `latest`: what the last whole block says of its
+-- samples
 abbrev pub unwatched : Watched
 unwatched = record { found = false; place = 0; lost = false; losses = 0; latest = None }
 
@@ -36,14 +64,23 @@ loss_events w q = if is_told w q then [] else Lost w.place ∷ []
 
 abbrev pub up_to : Watched → ℕ → Watched
 up_to w q =
-    if is_told w q then w else record { found = w.found; place = w.place; lost = true; losses = w.losses + 1; latest = w.latest }
+    if is_told w q then w else record {
+      found = w.found;
+      place = w.place;
+      lost = true;
+      losses = w.losses + 1;
+      latest
+          = w.latest;
+    }
 
--- a whole block at a place before which all is told: the first of all, one behind lost cells, one behind fewer than a block has, or
+-- a whole block at a place before which all is told: the first of all, one behind lost cells, one behind fewer than a
+-- block has, or
 -- one directly behind another
 abbrev pub whole_events : Watched → ℕ → Level → List Event
 whole_events w at s =
     if w.found
-    then (if w.lost then Back at (at - w.place) ∷ [] else (if nat_lt w.place at then Slipped at (at - w.place) ∷ [] else []))
+    then (if w.lost then Back at (at - w.place)
+    ∷ [] else (if nat_lt w.place at then Slipped at (at - w.place) ∷ [] else []))
     else Locked at s ∷ []
 
 abbrev pub slips : Watched → ℕ → Bool
@@ -51,7 +88,14 @@ slips w at = w.found && (not w.lost && nat_lt w.place at)
 
 abbrev pub behind_whole : Watched → ℕ → Signals → Watched
 behind_whole w at now =
-    record { found = true; place = at + block_len; lost = false; losses = if slips w at then w.losses + 1 else w.losses; latest = Some now }
+    record {
+      found = true;
+      place = at + block_len;
+      lost = false;
+      losses
+          = if slips w at then w.losses + 1 else w.losses;
+      latest = Some now;
+    }
 
 -- the events of a report, and the line behind it
 abbrev pub told_events : Watched → Report → List Event

@@ -1,7 +1,7 @@
 //! Who is told of the reports on cells, and of how far the cells have come.
 
 ghost use Rattle.std.specs.Prelude.{◌≡◌, ◌+◌, ◌<◌, ◌≤◌, ◌^◌, List, [], ◌∷◌, ◌++◌, length, IfOk, OnErr};
-ghost use Rattle.aes3_cell.specs.declared.level.Level.{Level};
+ghost use Rattle.aes3_level.specs.declared.level.Level.{Level};
 ghost use Rattle.aes3_cell.specs.Ends.{Grew, GrewFront};
 ghost use Rattle.aes3_lock.specs.Following.{report_in};
 ghost use Rattle.aes3_lock.specs.Reports.{decided, reports};

@@ -3,7 +3,7 @@
 ghost use Rattle.aes3_account.specs.GapLaws.{AccountIsInTime, AccountIsWhole, AccountStands};
 ghost use Rattle.aes3_account.specs.GapLaws.{ChangeIsLost, GapsAreShort, LossIsLost};
 ghost use Rattle.aes3_account.specs.GapLaws.{NoGapLosesNothing, PieceHasNoGap, RowHasNoGap};
-ghost use Rattle.aes3_account.specs.WatchLaws.{LossesAreGaps};
+ghost use Rattle.aes3_account.specs.WatchLaws.{CellsHaveFewEvents, EventsAreFew, LossesAreGaps};
 
 /// The whole blocks and the gaps of the account of any cells are these cells, each exactly once, in
 /// order, and its reports are all reports on them.
@@ -53,4 +53,11 @@ pub fn whole_rows_have_no_gap()
 /// ends with the status of `check --gaps`.
 pub fn losses_are_gaps()
     ensures { LossesAreGaps }
+{}
+
+/// `watch` tells six lines at most for each whole block, and two beside them, whatever the cells
+/// are: so six for each 24,576 cells, and two.
+pub fn events_are_few()
+    ensures blocks { EventsAreFew }
+    ensures cells { CellsHaveFewEvents }
 {}

@@ -8,13 +8,15 @@ use Rattle.aes3_arguments.specs.Jobs.{Options, ReadsFile, StandsIn, file_by, nam
 use Rattle.aes3_arguments.proofs.OptionRows.{some_inj}
 
 -- the options' file is the one that the words read
-pub some_read : (words : List Text) (name : Text) (options : Options) (file : Option (Bor Text)) → StandsIn words name options
+pub some_read : (words : List Text) (name : Text) (options : Options) (file : Option (Bor Text))
+    → StandsIn words name options
     → option_map (λ f. f.now) file ≡ file_by options → IfSome file (λ f. ReadsFile words f.now)
 some_read words name options None stands is = tt
 some_read words name options (Some f) stands is = (name, options, stands, sym is)
 
 -- where the options name none, neither do the words
-pub none_read : (words : List Text) (name : Text) (options : Options) (file : Option (Bor Text)) → StandsIn words name options
+pub none_read : (words : List Text) (name : Text) (options : Options) (file : Option (Bor Text))
+    → StandsIn words name options
     → option_map (λ f. f.now) file ≡ file_by options → file ≡ None → (f : Text) → ¬ ReadsFile words f
 none_read words name options file stands is none f reads =
     let by : file_by options ≡ None = sym is ∙ ap (option_map (λ g. g.now)) none in
@@ -22,6 +24,8 @@ none_read words name options file stands is none f reads =
     true≢false (ap is_some (sym (ap file_by same ∙ reads.3) ∙ by))
 
 -- what the text of a file's name is
-pub file_is : (options : Options) (text : Text) (standard : Bool) → first_of (codes "FILE") options ≡ Some text → bytes_eq text (codes "-") ≡ standard
+pub file_is : (options : Options) (text : Text) (standard : Bool) → first_of (codes "FILE") options ≡ Some text
+    → bytes_eq text (codes "-") ≡ standard
     → file_by options ≡ cond {A = Option Text} standard None (Some text)
-file_is options text standard given is = ap (option_and_then named_file) given ∙ ap (λ (b : Bool). cond {A = Option Text} b None (Some text)) is
+file_is options text standard given is
+    = ap (option_and_then named_file) given ∙ ap (λ (b : Bool). cond {A = Option Text} b None (Some text)) is

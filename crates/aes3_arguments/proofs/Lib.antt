@@ -4,4 +4,5 @@ mod LineAnswers
 mod LineWalks
 mod OptionReads
 mod OptionRows
+mod StyleOptions
 mod TakenLines

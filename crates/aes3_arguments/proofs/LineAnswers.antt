@@ -1,5 +1,22 @@
 -- From a parse's answer to the program's.
-use Rattle.std.proofs.Common.{◌≡◌, ◌∙◌, List, [], Option, Some, None, true, inl, inr, refl, sym, ap, subst, true≢false, is_some}
+use Rattle.std.proofs.Common.{
+  ◌≡◌,
+  ◌∙◌,
+  List,
+  [],
+  Option,
+  Some,
+  None,
+  true,
+  inl,
+  inr,
+  refl,
+  sym,
+  ap,
+  subst,
+  true≢false,
+  is_some,
+}
 use Rattle.std.specs.Option.{option_map}
 use Rattle.clap.specs.Faults.{is_simple_and_free}
 use Rattle.clap.specs.Kinds.{HasKind}
@@ -14,7 +31,17 @@ use Rattle.clap.specs.declared.parser.matches.ArgMatches.TheViews.{out-ArgMatche
 use Rattle.aes3_commands.specs.CommandLine.{command_line}
 use Rattle.aes3_lines.specs.Settings.{IsSettingsFault}
 use Rattle.aes3_lines.specs.declared.listed.SettingsFault.{SettingsFault}
-use Rattle.aes3_arguments.specs.Jobs.{IsBadOptionOf, IsLineFaultOf, IsSettingsFaultOf, Options, StandsIn, Tells, TellsSettings, faults_in, refused_text}
+use Rattle.aes3_arguments.specs.Jobs.{
+  AreBadOptionsOf,
+  IsLineFaultOf,
+  IsSettingsFaultOf,
+  Options,
+  StandsIn,
+  Tells,
+  TellsSettings,
+  faults_in,
+  refused_text,
+}
 use Rattle.aes3_arguments.specs.declared.job.LineFault.{LineFault}
 use Rattle.aes3_arguments.specs.declared.job.LineFault.TheVariants as fault
 use Rattle.aes3_arguments.proofs.OptionRows.{some_inj}
@@ -26,7 +53,8 @@ pub line_is_simple : is_simple command_line ≡ true
 line_is_simple = refl
 
 -- what is told of an error of the parse
-pub error_told : (words : List Text) (e : Error) (told : LineFault) → HasKind (faults_in words) e → Tells (kind_of e) told → IsLineFaultOf words told
+pub error_told : (words : List Text) (e : Error) (told : LineFault) → HasKind (faults_in words) e
+    → Tells (kind_of e) told → IsLineFaultOf words told
 error_told words e (fault.Usage text) kind tells = elim kind [
   | inl memory ↦ absurd (tells.0 memory)
   | inr among ↦ inl (kind_of e, among, tells.1, tells.2)
@@ -40,37 +68,48 @@ error_told words e (fault.Help text) kind tells = elim kind [
 ]
 error_told words e (fault.Refused error) kind tells = inl tells
 
--- a bad status is told, and so are bad settings
-pub bad_option_told : (words : List Text) (name : Text) (options : Options) (told : LineFault) → StandsIn words name options
-    → IsBadOptionOf name options told → IsLineFaultOf words told
+-- a bad status is told, and so are bad settings and options that clash
+pub bad_option_told : (words : List Text) (name : Text) (options : Options) (told : LineFault)
+    → StandsIn words name options
+    → AreBadOptionsOf name options told → IsLineFaultOf words told
 bad_option_told words name options (fault.Usage text) stands bad = inr (name, options, stands, bad)
-bad_option_told words name options (fault.Help text) stands bad = elim bad [ inl rewrite ↦ absurd rewrite.1 | inr from_pcm ↦ absurd from_pcm.1 ]
+bad_option_told words name options (fault.Help text) stands bad = elim bad [
+  | inl option ↦ elim option [ inl rewrite ↦ absurd rewrite.1 | inr from_pcm ↦ absurd from_pcm.1 ]
+  | inr clash ↦ absurd clash.1
+]
 bad_option_told words name options (fault.Refused error) stands bad = elim bad [
-  | inl rewrite ↦ elim rewrite.1 [
-    | inl memory ↦ inl memory
-    | inr status ↦ inr (status.0, (name, options, stands, inl rewrite.0, status.1))
+  | inl option ↦ elim option [
+    | inl rewrite ↦ elim rewrite.1 [
+      | inl memory ↦ inl memory
+      | inr status ↦ inr (status.0, (name, options, stands, inl rewrite.0, status.1))
+    ]
+    | inr from_pcm ↦ elim from_pcm.1 [
+      | inl memory ↦ inl memory
+      | inr status ↦ inr (status.0, (name, options, stands, inr from_pcm.0, status.1))
+    ]
   ]
-  | inr from_pcm ↦ elim from_pcm.1 [
-    | inl memory ↦ inl memory
-    | inr status ↦ inr (status.0, (name, options, stands, inr from_pcm.0, status.1))
-  ]
+  | inr clash ↦ inl clash.1
 ]
 
-both_parts : {X : Type 0} (f : X → Text) (g : X → List Row) (o : Option X) (name : Text) (options : List Row) → Some name ≡ option_map f o
+both_parts : {X : Type 0} (f : X → Text) (g : X → List Row) (o : Option X) (name : Text) (options : List Row)
+    → Some name ≡ option_map f o
     → Some options ≡ option_map (λ (p : Text × List Row). p.1) (option_map {U = Text × List Row} (λ b. (f b, g b)) o)
     → option_map {U = Text × List Row} (λ b. (f b, g b)) o ≡ Some (name, options)
 both_parts f g None name options named rows = absurd (true≢false (ap is_some named))
 both_parts f g (Some x) name options named rows = λ i. Some (sym (some_inj _ _ named) i, sym (some_inj _ _ rows) i)
 
 -- the command that the matches hold is the one that stands in the words
-pub command_stands : (words : List Text) (m : ArgMatches) (name : Text) (options : List Row) → faults_in words ≡ [] → HasMatchesOf command_line words m
-    → Some name ≡ subcommand_name_of m → Some options ≡ option_map (λ (p : Text × List Row). p.1) (subcommand_rows_of m) → StandsIn words name options
+pub command_stands : (words : List Text) (m : ArgMatches) (name : Text) (options : List Row) → faults_in words ≡ []
+    → HasMatchesOf command_line words m
+    → Some name ≡ subcommand_name_of m → Some options ≡ option_map (λ (p : Text × List Row). p.1) (subcommand_rows_of m)
+    → StandsIn words name options
 command_stands words m name options none matches named rows =
     (none, sym (matches line_is_simple).1 ∙ both_parts _ _ (out-ArgMatches m).subcommand name options named rows)
 
 -- what is told of settings that are none
 pub settings_told : (options : Options) (name usage : Text) (texts : List Text) (why : SettingsFault) (told : LineFault)
-    → TellsSettings (refused_text name usage texts why) told → all_of name options ≡ Some texts → IsSettingsFault texts why
+    → TellsSettings (refused_text name usage texts why) told → all_of name options ≡ Some texts
+    → IsSettingsFault texts why
     → IsSettingsFaultOf options name usage told
 settings_told options name usage texts why (fault.Usage text) tells given bad = (texts, why, given, bad, tells)
 settings_told options name usage texts why (fault.Help text) tells given bad = tells

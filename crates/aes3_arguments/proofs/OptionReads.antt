@@ -1,5 +1,31 @@
 -- What the getters of a parse's matches read, by the options that the matches have.
-use Rattle.std.proofs.Common.{◌≡◌, ◌∙◌, ℕ, Bool, List, map, Bor, Option, Some, None, Result, Ok, Err, inl, inr, true, false, codes, refl, sym, ap, cond}
+use Rattle.std.proofs.Common.{
+  ◌≡◌,
+  ◌∙◌,
+  ◌<◌,
+  ◌^◌,
+  arith,
+  ℕ,
+  Bool,
+  List,
+  map,
+  Bor,
+  Option,
+  Some,
+  None,
+  Result,
+  Ok,
+  Err,
+  inl,
+  inr,
+  true,
+  false,
+  codes,
+  refl,
+  sym,
+  ap,
+  cond,
+}
 use Rattle.std.specs.Prelude.{option_and_then}
 use Rattle.std.specs.Option.{option_map, option_map_or}
 use Rattle.std.specs.Str.{bytes_eq}
@@ -9,9 +35,10 @@ use Rattle.clap.specs.Walk.{Text, all_of, one_of}
 use Rattle.clap.specs.ValueTests.{is_unsigned_in}
 use Rattle.clap.specs.declared.builder.value_parser.ValueParser.TheVariants as vp
 use Rattle.clap.specs.declared.parser.matches.ArgMatches.{ArgMatches}
-use Rattle.clap.proofs.ValueTestLemmas.{accepts-Accepts}
+use Rattle.clap.proofs.ValueTestLemmas.{Accepts-accepts, accepts-Accepts}
 use Rattle.clap.proofs.WalkLemmas.{one_text-rows, raw_values-rows}
-use Rattle.aes3_arguments.specs.Jobs.{IsNumber, MayBeFlag, is_set, number_in, options_of}
+use Rattle.aes3_commands.specs.CommandLine.{most_frames}
+use Rattle.aes3_arguments.specs.Jobs.{IsNumber, MayBeFlag, MayBeRate, is_set, number_in, options_of, rate_by}
 
 -- `get_flag` tells whether the flag stands
 pub flag_is : (m : ArgMatches) (name : Text) (answer : Bool) → MayBeFlag (options_of m) name
@@ -64,6 +91,46 @@ number_is E G m name n answer only is value = go (one_of name (options_of m)) re
 abbrev pub texts_in : Option (Bor (List (Bor Text))) → Option (List Text)
 texts_in = option_map (λ (s : Bor (List (Bor Text))). map (λ (v : Bor Text). v.now) s.now)
 
-pub texts_are : (m : ArgMatches) (name : Text) (answer is : Option (Bor (List (Bor Text)))) → texts_in answer ≡ option_map raw_values (matched_of (found_of m) name)
+pub texts_are : (m : ArgMatches) (name : Text) (answer is : Option (Bor (List (Bor Text))))
+    → texts_in answer ≡ option_map raw_values (matched_of (found_of m) name)
     → answer ≡ is → all_of name (options_of m) ≡ texts_in is
 texts_are m name answer is read same = sym (raw_values-rows (found_of m) name) ∙ (sym read ∙ ap texts_in same)
+
+-- a number of frames a second is read as that number
+rate_parses : (E : Type 0) (G : Text → Result ℕ E → Type 0) (text : Text) (answer : Option ℕ)
+    → ((t : Text) (x : Result ℕ E) → G t x → ParsesUnsigned 32 10 t x)
+    → is_unsigned_in 1 most_frames text ≡ true → ReadsOne G text answer → answer ≡ number_in text
+rate_parses E G text answer only passed read = go answer read ∙ sym is
+  where
+    value : ℕ
+    value = digits_value 10 (without_leading_plus text)
+
+    few : value < 2 ^ 32
+    few = let bounds = accepts-Accepts false (vp.Unsigned 1 most_frames) text passed in omega (arith, bounds.3)
+
+    is : number_in text ≡ Some value
+    is =
+        let bounds = accepts-Accepts false (vp.Unsigned 1 most_frames) text passed in
+        let wide = Accepts-accepts false (vp.Unsigned 0 18446744073709551615) text
+        (bounds.0, bounds.1, omega arith, omega (arith, few)) in
+        ap (λ (b : Bool). cond b (Some value) None) wide
+
+    go : (o : Option ℕ) → ReadsOne G text o → o ≡ Some value
+    go (Some v) h = ap Some (only text (Ok v) h).1
+    go None h =
+        let numeral = accepts-Accepts false (vp.Unsigned 1 most_frames) text passed in
+        absurd (only text (Err h.0) h.1 (numeral.0, few))
+
+-- `get_one` reads the rate
+pub rate_is : (E : Type 0) (G : Text → Result ℕ E → Type 0) (m : ArgMatches) (answer : Option ℕ)
+    → ((t : Text) (x : Result ℕ E) → G t x → ParsesUnsigned 32 10 t x)
+    → MayBeRate (options_of m) (codes "rate")
+    → (one_text (found_of m) (codes "rate") ≡ None → answer ≡ None)
+    → ((t : Text) → one_text (found_of m) (codes "rate") ≡ Some t → ReadsOne G t answer)
+    → answer ≡ rate_by (options_of m)
+rate_is E G m answer only rate none value = elim rate [
+  | inl e ↦ none (one_text-rows (found_of m) (codes "rate") ∙ e) ∙ sym (ap (option_and_then number_in) e)
+  | inr given ↦
+      rate_parses E G given.0 answer only given.2 (value given.0 (one_text-rows (found_of m) (codes "rate") ∙ given.1))
+      ∙ sym (ap (option_and_then number_in) given.1)
+]

@@ -1,5 +1,34 @@
 -- What holds of the command that stands in words that the definitions take.
-use Rattle.std.proofs.Common.{◌≡◌, ◌∙◌, ◌⊎◌, ◌<◌, ℕ, Bool, List, [], ◌∷◌, length, Option, Some, None, true, false, not, codes, refl, sym, ap, subst, cond, inl, inr, arith, is_some, true≢false, ◌||◌}
+use Rattle.std.proofs.Common.{
+  ◌≡◌,
+  ◌∙◌,
+  ◌⊎◌,
+  ◌<◌,
+  ℕ,
+  Bool,
+  List,
+  [],
+  ◌∷◌,
+  length,
+  Option,
+  Some,
+  None,
+  true,
+  false,
+  not,
+  codes,
+  refl,
+  sym,
+  ap,
+  subst,
+  cond,
+  inl,
+  inr,
+  arith,
+  is_some,
+  true≢false,
+  ◌||◌,
+}
 use Rattle.std.specs.Prelude.{⊤, option_and_then, slice_get}
 use Rattle.std.specs.List.{find}
 use Rattle.std.specs.Option.{option_map, option_map_or}
@@ -12,26 +41,76 @@ use Rattle.clap.specs.Kinds.{check_kinds, value_kinds}
 use Rattle.clap.specs.Takes.{is_given}
 use Rattle.clap.specs.Values.{read_as, reading_of, refused_kind}
 use Rattle.clap.specs.ValueTests.{accepts}
-use Rattle.clap.specs.Simple.{App, Shape, argument_words, built, built_leaf, entered, inherited, label_of, marked_built, names_of, rows_at, subcommand_of, with_leaf_noted}
-use Rattle.clap.specs.Walk.{Row, Rule, Text, answers_to, arg_by_id, nothing_held, one_of, reading_by, row_text, rows_after, stop_after}
+use Rattle.clap.specs.Simple.{
+  App,
+  Shape,
+  argument_words,
+  built,
+  built_leaf,
+  entered,
+  inherited,
+  label_of,
+  marked_built,
+  names_of,
+  rows_at,
+  subcommand_of,
+  with_leaf_noted,
+}
+use Rattle.clap.specs.Walk.{
+  Row,
+  Rule,
+  Text,
+  answers_to,
+  arg_by_id,
+  nothing_held,
+  one_of,
+  reading_by,
+  row_text,
+  rows_after,
+  stop_after,
+}
 use Rattle.clap.specs.declared.builder.value_parser.ValueParser.{ValueParser}
 use Rattle.clap.specs.declared.builder.value_parser.ValueParser.TheVariants as vp
-use Rattle.aes3_commands.specs.CommandLine.{check, command_line, cut, encode, from_pcm, normal, reader, rewrite, show}
+use Rattle.aes3_commands.specs.CommandLine.{
+  check,
+  command_line,
+  cut,
+  encode,
+  from_pcm,
+  normal,
+  reader,
+  rewrite,
+  show,
+  watch,
+}
 use Rattle.aes3_arguments.specs.Jobs.{IsNumber, MayBeFlag, Options, StandsIn, number_in}
 use Rattle.aes3_arguments.proofs.LineWalks.{level_checked, level_fits}
-use Rattle.aes3_arguments.proofs.OptionRows.{FitAll, Fits, SoundAll, flag_sound, help_sound, or_nil, some_inj, value_sound, values_sound}
+use Rattle.aes3_arguments.proofs.OptionRows.{
+  FitAll,
+  Fits,
+  SoundAll,
+  flag_sound,
+  help_sound,
+  or_nil,
+  some_inj,
+  value_sound,
+  values_sound,
+}
 
 -- ---- the options by their definitions
 
-accepted : (ignore_case : Bool) (parser : ValueParser) (text : Text) → value_kinds ignore_case parser text ≡ [] → accepts ignore_case parser text ≡ true
+accepted : (ignore_case : Bool) (parser : ValueParser) (text : Text) → value_kinds ignore_case parser text ≡ []
+    → accepts ignore_case parser text ≡ true
 accepted ignore_case parser text none = go (accepts ignore_case parser text) refl none
   where
-    go : (b : Bool) → accepts ignore_case parser text ≡ b → cond b [] (refused_kind parser ∷ []) ≡ [] → accepts ignore_case parser text ≡ true
+    go : (b : Bool) → accepts ignore_case parser text ≡ b → cond b [] (refused_kind parser ∷ []) ≡ []
+        → accepts ignore_case parser text ≡ true
     go true is e = is
     go false is e = absurd (omega (arith, ap length e))
 
 -- the first value of the row of an option passed its parser
-row_reads : (c : List Rule) (id : Text) (r : Row) (a : Rule) (parser : ValueParser) → Fits c r → bytes_eq r.id id ≡ true → arg_by_id c id ≡ Some a → a.parser ≡ Some parser
+row_reads : (c : List Rule) (id : Text) (r : Row) (a : Rule) (parser : ValueParser) → Fits c r → bytes_eq r.id id ≡ true
+    → arg_by_id c id ≡ Some a → a.parser ≡ Some parser
     → (text : Text) × (row_text r ≡ Some (read_as (reading_by a) text)) × (accepts a.ignore_case parser text ≡ true)
 row_reads c id r a parser fit same own is = go r.values fit.passed fit.given refl
   where
@@ -42,54 +121,70 @@ row_reads c id r a parser fit same own is = go r.values fit.passed fit.given ref
         → (text : Text) × (row_text r ≡ Some (read_as (reading_by a) text)) × (accepts a.ignore_case parser text ≡ true)
     go [] passed given values_are = absurd (omega arith)
     go (text ∷ rest) passed given values_are =
-        let first = accepted a.ignore_case (parser_of_value a.parser) text (subst (λ (x : Rule). value_kinds x.ignore_case (parser_of_value x.parser) text ≡ []) rule_is (or_nil _ _ passed).0) in (
+        let first = accepted a.ignore_case (parser_of_value a.parser) text
+        (subst (λ (x : Rule). value_kinds x.ignore_case (parser_of_value x.parser) text ≡ []) rule_is
+        (or_nil _ _ passed).0) in (
           text,
-          (λ i. option_map (read_as (fit.reads i)) (slice_get (values_are i) 0)) ∙ ap (λ (x : Rule). Some (read_as (reading_by x) text)) rule_is,
+          (λ i. option_map (read_as (fit.reads i)) (slice_get (values_are i) 0))
+              ∙ ap (λ (x : Rule). Some (read_as (reading_by x) text)) rule_is,
           (λ i. accepts a.ignore_case (parser_of_value (sym is i)) text) ∙ first,
         )
 
 -- and so of the options: there is no row of the option, or it has such a value
-option_reads : (c : List Rule) (rows : List Row) (id : Text) (a : Rule) (parser : ValueParser) → FitAll c rows → arg_by_id c id ≡ Some a → a.parser ≡ Some parser
-    → (find (λ r. bytes_eq r.id id) rows ≡ None) ⊎ ((text : Text) × (one_of id rows ≡ Some (read_as (reading_by a) text)) × (accepts a.ignore_case parser text ≡ true))
+pub option_reads : (c : List Rule) (rows : List Row) (id : Text) (a : Rule) (parser : ValueParser) → FitAll c rows
+    → arg_by_id c id ≡ Some a → a.parser ≡ Some parser
+    → (find (λ r. bytes_eq r.id id) rows ≡ None)
+    ⊎ ((text : Text) × (one_of id rows ≡ Some (read_as (reading_by a) text))
+    × (accepts a.ignore_case parser text ≡ true))
 option_reads c [] id a parser fit own is = inl refl
 option_reads c (r ∷ rs) id a parser fit own is = go (bytes_eq r.id id) refl (option_reads c rs id a parser fit.1 own is)
   where
     go : (b : Bool) → bytes_eq r.id id ≡ b
-        → (find (λ x. bytes_eq x.id id) rs ≡ None) ⊎ ((text : Text) × (one_of id rs ≡ Some (read_as (reading_by a) text)) × (accepts a.ignore_case parser text ≡ true))
+        → (find (λ x. bytes_eq x.id id) rs ≡ None)
+        ⊎ ((text : Text) × (one_of id rs ≡ Some (read_as (reading_by a) text))
+        × (accepts a.ignore_case parser text ≡ true))
         → (cond b (Some r) (find (λ x. bytes_eq x.id id) rs) ≡ None)
-        ⊎ ((text : Text) × (option_and_then row_text (cond b (Some r) (find (λ x. bytes_eq x.id id) rs)) ≡ Some (read_as (reading_by a) text)) × (accepts a.ignore_case parser text ≡ true))
+        ⊎ ((text : Text) × (option_and_then row_text (cond b (Some r) (find (λ x. bytes_eq x.id id) rs))
+        ≡ Some (read_as (reading_by a) text)) × (accepts a.ignore_case parser text ≡ true))
     go true same rest = inr (row_reads c id r a parser fit.0 same own is)
     go false same rest = rest
 
 -- no definition has this id: no row has it either
-no_row : (c : List Rule) (rows : List Row) (id : Text) → FitAll c rows → arg_by_id c id ≡ None → one_of id rows ≡ None
+pub no_row : (c : List Rule) (rows : List Row) (id : Text) → FitAll c rows → arg_by_id c id ≡ None
+    → one_of id rows ≡ None
 no_row c [] id fit none = refl
 no_row c (r ∷ rs) id fit none = go (bytes_eq r.id id) refl (no_row c rs id fit.1 none)
   where
-    go : (b : Bool) → bytes_eq r.id id ≡ b → one_of id rs ≡ None → option_and_then row_text (cond b (Some r) (find (λ x. bytes_eq x.id id) rs)) ≡ None
-    go true same rest = absurd (true≢false (ap is_some (sym fit.0.own ∙ (ap (arg_by_id c) ((bytes_eq-Decides r.id id).0 same) ∙ none))))
+    go : (b : Bool) → bytes_eq r.id id ≡ b → one_of id rs ≡ None
+        → option_and_then row_text (cond b (Some r) (find (λ x. bytes_eq x.id id) rs)) ≡ None
+    go true same rest = absurd
+        (true≢false (ap is_some (sym fit.0.own ∙ (ap (arg_by_id c) ((bytes_eq-Decides r.id id).0 same) ∙ none))))
     go false same rest = rest
 
 -- the definition of a flag
 abbrev IsFlagRule : Rule → Type 0
 IsFlagRule a = a.parser ≡ Some vp.Bool
 
-abbrev FlagOrNone : Option Rule → Type 0
+abbrev pub FlagOrNone : Option Rule → Type 0
 FlagOrNone None = ⊤
 FlagOrNone (Some a) = IsFlagRule a
 
-as_written : (a : Rule) (parser : ValueParser) (text : Text) → a.parser ≡ Some parser → read_as (reading_of parser) text ≡ text → read_as (reading_by a) text ≡ text
+pub as_written : (a : Rule) (parser : ValueParser) (text : Text) → a.parser ≡ Some parser
+    → read_as (reading_of parser) text ≡ text → read_as (reading_by a) text ≡ text
 as_written a parser text is plain = (λ i. read_as (reading_of (parser_of_value (is i))) text) ∙ plain
 
-flag_reads : (c : List Rule) (rows : List Row) (id : Text) (o : Option Rule) → FitAll c rows → arg_by_id c id ≡ o → FlagOrNone o → MayBeFlag rows id
+pub flag_reads : (c : List Rule) (rows : List Row) (id : Text) (o : Option Rule) → FitAll c rows → arg_by_id c id ≡ o
+    → FlagOrNone o → MayBeFlag rows id
 flag_reads c rows id None fit own flag = inl (no_row c rows id fit own)
 flag_reads c rows id (Some a) fit own flag = elim (option_reads c rows id a vp.Bool fit own flag) [
   | inl none ↦ inl (ap (option_and_then row_text) none)
-  | inr given ↦ inr (go (bytes_eq given.0 (codes "true")) given.0 (given.1 ∙ ap Some (as_written a vp.Bool given.0 flag refl)) refl given.2)
+  | inr given ↦ inr (go (bytes_eq given.0 (codes "true")) given.0
+      (given.1 ∙ ap Some (as_written a vp.Bool given.0 flag refl)) refl given.2)
 ]
   where
     go : (b : Bool) (t : Text) → one_of id rows ≡ Some t → bytes_eq t (codes "true") ≡ b
-        → (b || bytes_eq t (codes "false")) ≡ true → (one_of id rows ≡ Some (codes "true")) ⊎ (one_of id rows ≡ Some (codes "false"))
+        → (b || bytes_eq t (codes "false")) ≡ true
+        → (one_of id rows ≡ Some (codes "true")) ⊎ (one_of id rows ≡ Some (codes "false"))
     go true t at same passed = inl (at ∙ ap Some ((bytes_eq-Decides t (codes "true")).0 same))
     go false t at same passed = inr (at ∙ ap Some ((bytes_eq-Decides t (codes "false")).0 passed))
 
@@ -97,10 +192,12 @@ flag_reads c rows id (Some a) fit own flag = elim (option_reads c rows id a vp.B
 abbrev max : ℕ
 max = 18446744073709551615
 
-number_reads : (c : List Rule) (rows : List Row) (id : Text) (a : Rule) → FitAll c rows → arg_by_id c id ≡ Some a → a.parser ≡ Some (vp.Unsigned 0 max)
+number_reads : (c : List Rule) (rows : List Row) (id : Text) (a : Rule) → FitAll c rows → arg_by_id c id ≡ Some a
+    → a.parser ≡ Some (vp.Unsigned 0 max)
     → is_given id rows ≡ true → (n : ℕ) × IsNumber rows id n
 number_reads c rows id a fit own is given = elim (option_reads c rows id a (vp.Unsigned 0 max) fit own is) [
-  | inl none ↦ absurd (true≢false (sym given ∙ ap (λ o. option_map_or (λ (r : Row). explicit_source r.source) o false) none))
+  | inl none ↦ absurd (true≢false
+      (sym given ∙ ap (λ o. option_map_or (λ (r : Row). explicit_source r.source) o false) none))
   | inr found ↦ (
     digits_value 10 (without_leading_plus found.0),
     ap (option_and_then number_in) (found.1 ∙ ap Some (as_written a (vp.Unsigned 0 max) found.0 is refl))
@@ -136,18 +233,21 @@ pub record IsKnown (s : Shape) : Type 0 where
   pub gaps : FlagOrNone (arg_by_id s.rules (codes "gaps"))
   pub changes : FlagOrNone (arg_by_id s.rules (codes "changes"))
   pub exact : FlagOrNone (arg_by_id s.rules (codes "exact"))
-  pub numbers : (rows : List Row) → s.name ≡ codes "cut" → FitAll s.rules rows → check_fault s rows false ≡ [] → Numbers rows
+  pub numbers : (rows : List Row) → s.name ≡ codes "cut" → FitAll s.rules rows → check_fault s rows false ≡ []
+      → Numbers rows
 
-abbrev KnownAll : List Shape → Type 0
-KnownAll [] = ⊤
-KnownAll (s ∷ rest) = IsKnown s × KnownAll rest
+-- what holds of all commands holds of the one that is found
+abbrev pub EachShape : (Shape → Type 0) → List Shape → Type 0
+EachShape P [] = ⊤
+EachShape P (s ∷ rest) = P s × EachShape P rest
 
-found_known : (xs : List Shape) (p : Shape → Bool) (s : Shape) → KnownAll xs → find p xs ≡ Some s → IsKnown s
-found_known [] p s known e = absurd (true≢false (sym (ap is_some e)))
-found_known (x ∷ xs) p s known e = go (p x) (λ rest. found_known xs p s known.1 rest) e
+pub found_shape : (P : Shape → Type 0) (xs : List Shape) (p : Shape → Bool) (s : Shape) → EachShape P xs
+    → find p xs ≡ Some s → P s
+found_shape P [] p s each e = absurd (true≢false (sym (ap is_some e)))
+found_shape P (x ∷ xs) p s each e = go (p x) (λ rest. found_shape P xs p s each.1 rest) e
   where
-    go : (b : Bool) → (find p xs ≡ Some s → IsKnown s) → cond b (Some x) (find p xs) ≡ Some s → IsKnown s
-    go true later same = subst IsKnown (some_inj _ _ same) known.0
+    go : (b : Bool) → (find p xs ≡ Some s → P s) → cond b (Some x) (find p xs) ≡ Some s → P s
+    go true later same = subst P (some_inj _ _ same) each.0
     go false later same = later same
 
 -- a command that is not called `cut`
@@ -173,7 +273,13 @@ encode_known = record {
 
 reader_known : (name : Text) → bytes_eq name (codes "cut") ≡ false → IsKnown (leaf (reader name))
 reader_known name differs = record {
-  sound = (flag_sound _ _ (codes "true") refl refl refl refl, (value_sound _ _ refl refl refl, (help_sound _ _ refl refl, tt)));
+  sound = (
+    flag_sound _ _ (codes "true") refl refl refl refl,
+    (
+      flag_sound _ _ (codes "true") refl refl refl refl,
+      (value_sound _ _ refl refl refl, (help_sound _ _ refl refl, tt)),
+    ),
+  );
   packed_in = refl;
   packed_out = tt;
   mend_check = tt;
@@ -188,7 +294,16 @@ check_known : IsKnown (leaf check)
 check_known = record {
   sound = (
     flag_sound _ _ (codes "true") refl refl refl refl,
-    (flag_sound _ _ (codes "true") refl refl refl refl, (flag_sound _ _ (codes "true") refl refl refl refl, (value_sound _ _ refl refl refl, (help_sound _ _ refl refl, tt)))),
+    (
+      flag_sound _ _ (codes "true") refl refl refl refl,
+      (
+        flag_sound _ _ (codes "true") refl refl refl refl,
+        (
+          flag_sound _ _ (codes "true") refl refl refl refl,
+          (value_sound _ _ refl refl refl, (help_sound _ _ refl refl, tt)),
+        ),
+      ),
+    ),
   );
   packed_in = refl;
   packed_out = tt;
@@ -200,9 +315,40 @@ check_known = record {
   numbers = λ rows name fit passed. other_name (codes "check") refl name;
 }
 
+watch_known : IsKnown (leaf watch)
+watch_known = record {
+  sound = (
+    flag_sound _ _ (codes "true") refl refl refl refl,
+    (
+      flag_sound _ _ (codes "true") refl refl refl refl,
+      (
+        flag_sound _ _ (codes "true") refl refl refl refl,
+        (value_sound _ _ refl refl refl, (value_sound _ _ refl refl refl, (help_sound _ _ refl refl, tt))),
+      ),
+    ),
+  );
+  packed_in = refl;
+  packed_out = tt;
+  mend_check = tt;
+  faults = tt;
+  gaps = tt;
+  changes = tt;
+  exact = tt;
+  numbers = λ rows name fit passed. other_name (codes "watch") refl name;
+}
+
 show_known : IsKnown (leaf show)
 show_known = record {
-  sound = (flag_sound _ _ (codes "true") refl refl refl refl, (flag_sound _ _ (codes "true") refl refl refl refl, (value_sound _ _ refl refl refl, (help_sound _ _ refl refl, tt))));
+  sound = (
+    flag_sound _ _ (codes "true") refl refl refl refl,
+    (
+      flag_sound _ _ (codes "true") refl refl refl refl,
+      (
+        flag_sound _ _ (codes "true") refl refl refl refl,
+        (value_sound _ _ refl refl refl, (help_sound _ _ refl refl, tt)),
+      ),
+    ),
+  );
   packed_in = refl;
   packed_out = tt;
   mend_check = tt;
@@ -215,7 +361,16 @@ show_known = record {
 
 normal_known : IsKnown (leaf normal)
 normal_known = record {
-  sound = (flag_sound _ _ (codes "true") refl refl refl refl, (flag_sound _ _ (codes "true") refl refl refl refl, (value_sound _ _ refl refl refl, (help_sound _ _ refl refl, tt))));
+  sound = (
+    flag_sound _ _ (codes "true") refl refl refl refl,
+    (
+      flag_sound _ _ (codes "true") refl refl refl refl,
+      (
+        flag_sound _ _ (codes "true") refl refl refl refl,
+        (value_sound _ _ refl refl refl, (help_sound _ _ refl refl, tt)),
+      ),
+    ),
+  );
   packed_in = refl;
   packed_out = refl;
   mend_check = tt;
@@ -230,7 +385,13 @@ cut_known : IsKnown (leaf cut)
 cut_known = record {
   sound = (
     flag_sound _ _ (codes "true") refl refl refl refl,
-    (flag_sound _ _ (codes "true") refl refl refl refl, (value_sound _ _ refl refl refl, (value_sound _ _ refl refl refl, (help_sound _ _ refl refl, tt)))),
+    (
+      flag_sound _ _ (codes "true") refl refl refl refl,
+      (
+        flag_sound _ _ (codes "true") refl refl refl refl,
+        (value_sound _ _ refl refl refl, (value_sound _ _ refl refl refl, (help_sound _ _ refl refl, tt))),
+      ),
+    ),
   );
   packed_in = refl;
   packed_out = refl;
@@ -240,7 +401,8 @@ cut_known = record {
   changes = tt;
   exact = tt;
   numbers = λ rows name fit passed.
-      let given = both_given (is_given (codes "FROM") rows) (is_given (codes "COUNT") rows) (nothing_wanted false false _ passed) in (
+      let given = both_given (is_given (codes "FROM") rows) (is_given (codes "COUNT") rows)
+      (nothing_wanted false false _ passed) in (
         number_reads (leaf cut).rules rows (codes "FROM") _ fit refl refl given.0,
         number_reads (leaf cut).rules rows (codes "COUNT") _ fit refl refl given.1,
       );
@@ -253,14 +415,20 @@ rewrite_known = record {
     (
       flag_sound _ _ (codes "true") refl refl refl refl,
       (
-        value_sound _ _ refl refl refl,
+        flag_sound _ _ (codes "true") refl refl refl refl,
         (
           value_sound _ _ refl refl refl,
           (
-            values_sound _ _ refl refl refl,
+            value_sound _ _ refl refl refl,
             (
               values_sound _ _ refl refl refl,
-              (flag_sound _ _ (codes "true") refl refl refl refl, (value_sound _ _ refl refl refl, (help_sound _ _ refl refl, tt))),
+              (
+                values_sound _ _ refl refl refl,
+                (
+                  flag_sound _ _ (codes "true") refl refl refl refl,
+                  (value_sound _ _ refl refl refl, (help_sound _ _ refl refl, tt)),
+                ),
+              ),
             ),
           ),
         ),
@@ -287,7 +455,13 @@ from_pcm_known = record {
         values_sound _ _ refl refl refl,
         (
           values_sound _ _ refl refl refl,
-          (flag_sound _ _ (codes "true") refl refl refl refl, (flag_sound _ _ (codes "true") refl refl refl refl, (value_sound _ _ refl refl refl, (help_sound _ _ refl refl, tt)))),
+          (
+            flag_sound _ _ (codes "true") refl refl refl refl,
+            (
+              flag_sound _ _ (codes "true") refl refl refl refl,
+              (value_sound _ _ refl refl refl, (help_sound _ _ refl refl, tt)),
+            ),
+          ),
         ),
       ),
     ),
@@ -302,7 +476,7 @@ from_pcm_known = record {
   numbers = λ rows name fit passed. other_name (codes "from-pcm") refl name;
 }
 
-all_known : KnownAll (built command_line).subs
+all_known : EachShape IsKnown (built command_line).subs
 all_known = (
   encode_known,
   (
@@ -312,10 +486,13 @@ all_known = (
       (
         check_known,
         (
-          reader_known (codes "watch") refl,
+          watch_known,
           (
             show_known,
-            (reader_known (codes "scan") refl, (cut_known, (rewrite_known, (reader_known (codes "to-pcm") refl, (from_pcm_known, tt))))),
+            (
+              reader_known (codes "scan") refl,
+              (cut_known, (rewrite_known, (reader_known (codes "to-pcm") refl, (from_pcm_known, tt)))),
+            ),
           ),
         ),
       ),
@@ -326,18 +503,20 @@ all_known = (
 -- ---- the command that stands in the words
 
 -- the command, and the words after it in which nothing is at fault
-record Entered (a : App) (name : Text) (options : Options) : Type 0 where
-  by : Shape → Bool
-  found : Shape
-  is_found : find by (built a).subs ≡ Some found
-  named : found.name ≡ name
-  words : List Text
-  rows : rows_after found.rules [] words ≡ options
-  faultless : level_fault found [] nothing_held words false [] ≡ []
+pub record Entered (a : App) (name : Text) (options : Options) : Type 0 where
+  pub by : Shape → Bool
+  pub found : Shape
+  pub is_found : find by (built a).subs ≡ Some found
+  pub named : found.name ≡ name
+  pub words : List Text
+  pub rows : rows_after found.rules [] words ≡ options
+  pub faultless : level_fault found [] nothing_held words false [] ≡ []
 
-entered_command : (a : App) (words : List Text) (name : Text) (options : Options) → fault_of a words ≡ [] → subcommand_of a words ≡ Some (name, options) → Entered a name options
+entered_command : (a : App) (words : List Text) (name : Text) (options : Options) → fault_of a words ≡ []
+    → subcommand_of a words ≡ Some (name, options) → Entered a name options
 entered_command a words name options none stands =
-    go (stop_after (built a).top.rules (names_of (built a)) (argument_words a words)) stands (or_nil _ _ (or_nil _ _ none).1).0
+    go (stop_after (built a).top.rules (names_of (built a)) (argument_words a words)) stands
+    (or_nil _ _ (or_nil _ _ none).1).0
   where
     at_command : (p : Text × List Text) (o : Option Shape) → find (λ s. answers_to p.0 (label_of s)) (built a).subs ≡ o
         → option_map (λ s. rows_at s p.1) o ≡ Some (name, options)
@@ -355,18 +534,28 @@ entered_command a words name options none stands =
           faultless = passed;
         }
 
-    go : (stop : Option (Text × List Text)) → entered (built a) stop ≡ Some (name, options) → entered_fault (built a) stop ≡ [] → Entered a name options
+    go : (stop : Option (Text × List Text)) → entered (built a) stop ≡ Some (name, options)
+        → entered_fault (built a) stop ≡ [] → Entered a name options
     go None is passed = absurd (true≢false (sym (ap is_some is)))
     go (Some p) is passed = at_command p (find (λ s. answers_to p.0 (label_of s)) (built a).subs) refl is passed
 
+-- the command that stands in the words, with what its options have
+pub command_entered : (words : List Text) (name : Text) (options : Options) → StandsIn words name options
+    → (e : Entered command_line name options) × FitAll e.found.rules options
+command_entered words name options stands =
+    let e = entered_command command_line words name options stands.0 stands.1 in
+    let known = found_shape IsKnown (built command_line).subs e.by e.found all_known e.is_found in
+    (e, subst (FitAll e.found.rules) e.rows (level_fits e.found [] e.words false [] known.sound e.faultless))
+
 -- the flags read as flags
 pub flags_stand : (words : List Text) (name : Text) (options : Options) → StandsIn words name options
-    → MayBeFlag options (codes "packed-in") × MayBeFlag options (codes "packed-out") × MayBeFlag options (codes "mend-check")
+    → MayBeFlag options (codes "packed-in") × MayBeFlag options (codes "packed-out")
+    × MayBeFlag options (codes "mend-check")
     × MayBeFlag options (codes "faults") × MayBeFlag options (codes "gaps")
     × MayBeFlag options (codes "changes") × MayBeFlag options (codes "exact")
 flags_stand words name options stands =
     let e = entered_command command_line words name options stands.0 stands.1 in
-    let known = found_known (built command_line).subs e.by e.found all_known e.is_found in
+    let known = found_shape IsKnown (built command_line).subs e.by e.found all_known e.is_found in
     let fit = subst (FitAll e.found.rules) e.rows (level_fits e.found [] e.words false [] known.sound e.faultless) in (
       flag_reads e.found.rules options (codes "packed-in") _ fit refl known.packed_in,
       flag_reads e.found.rules options (codes "packed-out") _ fit refl known.packed_out,
@@ -377,11 +566,33 @@ flags_stand words name options stands =
       flag_reads e.found.rules options (codes "exact") _ fit refl known.exact,
     )
 
+-- a name that is a flag where a command takes it
+abbrev HasFlag : Text → Shape → Type 0
+HasFlag id s = FlagOrNone (arg_by_id s.rules id)
+
+flag_stands : (words : List Text) (name : Text) (options : Options) (id : Text)
+    → EachShape (HasFlag id) (built command_line).subs → StandsIn words name options → MayBeFlag options id
+flag_stands words name options id flags stands =
+    let e = entered_command command_line words name options stands.0 stands.1 in
+    let known = found_shape IsKnown (built command_line).subs e.by e.found all_known e.is_found in
+    let fit = subst (FitAll e.found.rules) e.rows (level_fits e.found [] e.words false [] known.sound e.faultless) in
+    flag_reads e.found.rules options id _ fit refl
+    (found_shape (HasFlag id) (built command_line).subs e.by e.found flags e.is_found)
+
+-- `--raw-in` reads as a flag
+raw_in_flags : EachShape (HasFlag (codes "raw-in")) (built command_line).subs
+raw_in_flags = (tt, (refl, (refl, (refl, (refl, (refl, (refl, (refl, (refl, (refl, (tt, tt)))))))))))
+
+pub raw_in_stands : (words : List Text) (name : Text) (options : Options) → StandsIn words name options
+    → MayBeFlag options (codes "raw-in")
+raw_in_stands words name options stands = flag_stands words name options (codes "raw-in") raw_in_flags stands
+
 -- `cut` has its numbers
-pub numbers_stand : (words : List Text) (name : Text) (options : Options) → StandsIn words name options → name ≡ codes "cut" → Numbers options
+pub numbers_stand : (words : List Text) (name : Text) (options : Options) → StandsIn words name options
+    → name ≡ codes "cut" → Numbers options
 numbers_stand words name options stands is_cut =
     let e = entered_command command_line words name options stands.0 stands.1 in
-    let known = found_known (built command_line).subs e.by e.found all_known e.is_found in
+    let known = found_shape IsKnown (built command_line).subs e.by e.found all_known e.is_found in
     let fit = level_fits e.found [] e.words false [] known.sound e.faultless in
     let checked = level_checked e.found [] e.words false [] e.faultless in
     subst Numbers e.rows (known.numbers (rows_after e.found.rules [] e.words) (e.named ∙ is_cut) fit checked)

@@ -1,5 +1,21 @@
 -- What `--explain` tells.
-use Rattle.std.specs.Prelude.{ℕ, Bool, List, [], ◌∷◌, ◌++◌, ◌≡◌, ◌<◌, ◌≤◌, ◌==◌, ◌⊎◌, if◌then◌else◌, codes, decimal, false}
+use Rattle.std.specs.Prelude.{
+  ℕ,
+  Bool,
+  List,
+  [],
+  ◌∷◌,
+  ◌++◌,
+  ◌≡◌,
+  ◌<◌,
+  ◌≤◌,
+  ◌==◌,
+  ◌⊎◌,
+  if◌then◌else◌,
+  codes,
+  decimal,
+  false,
+}
 use Rattle.std.specs.Str.{bytes_eq}
 use Rattle.clap.specs.Walk.{Text}
 use Rattle.aes3_cell.specs.declared.refusal.RunError.TheVariants.{Memory}
@@ -43,6 +59,7 @@ advice_of n =
     else if n == 7 then codes "go on with a new run"
     else if n == 8 then codes "it needs 2 MB"
     else if n == 9 then codes "`--status1` and `--status2` take 24 bytes, two digits each"
-    else if n == 10 then codes "the last octet counts the unused cells before it, 0 to 7, and these are 0: `printf '\\0' >> FILE` adds it where there are none"
+    else if n == 10 then codes
+    "the last octet counts the unused cells before it, 0 to 7, and these are 0: `printf '\\0' >> FILE` adds it where there are none"
     else if n == 11 then codes "leave `--exact` out to drop them, or make samples of 24 bits first (`sox IN -b 24 OUT`)"
     else []

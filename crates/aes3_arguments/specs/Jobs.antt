@@ -1,6 +1,23 @@
 -- What a command line asks for, by what `clap` makes of its words.
-use Rattle.std.specs.Prelude.{ℕ, Bool, List, [], ◌∷◌, ◌++◌, ◌≡◌, ◌≢◌, ◌⊎◌, Option, Some, None, codes, get_or, true, false}
-use Rattle.std.specs.Prelude.{if◌then◌else◌, option_and_then, is_some}
+use Rattle.std.specs.Prelude.{
+  ℕ,
+  Bool,
+  List,
+  [],
+  ◌∷◌,
+  ◌++◌,
+  ◌≡◌,
+  ◌≢◌,
+  ◌⊎◌,
+  Option,
+  Some,
+  None,
+  codes,
+  get_or,
+  true,
+  false,
+}
+use Rattle.std.specs.Prelude.{if◌then◌else◌, option_and_then, is_some, ◌&&◌}
 use Rattle.std.specs.Option.{option_map_or}
 use Rattle.std.specs.Str.{bytes_eq}
 use Rattle.std.specs.Str.Parse.{digits_value, without_leading_plus}
@@ -24,11 +41,15 @@ use Rattle.aes3_lines.specs.declared.listed.SettingsFault.{SettingsFault}
 use Rattle.aes3_lines.specs.declared.listed.SettingsFault.TheVariants.{Unknown, TooMany}
 use Rattle.aes3_lines.specs.declared.lines.Lines.{Lines}
 use Rattle.aes3_lines.specs.declared.lines.Lines.TheVariants as lines
-use Rattle.aes3_commands.specs.CommandLine.{command_line}
+use Rattle.aes3_lines.specs.declared.event.Notation.{Notation}
+use Rattle.aes3_lines.specs.declared.event.Notation.TheVariants.{Words, Json}
+use Rattle.aes3_lines.specs.declared.event.Style.{Style}
+use Rattle.aes3_commands.specs.CommandLine.{command_line, most_frames}
 use Rattle.aes3_arguments.specs.Explained.{AsksToExplain, IsExplanation}
 use Rattle.aes3_arguments.specs.StatusTexts.{status_in}
 use Rattle.aes3_job.specs.declared.job.Job.{Job}
 use Rattle.aes3_job.specs.declared.job.Job.TheVariants as job
+use Rattle.aes3_arguments.specs.declared.layout.Octets.{Octets}
 use Rattle.aes3_arguments.specs.declared.job.LineFault.{LineFault}
 use Rattle.aes3_arguments.specs.declared.job.LineFault.TheVariants as fault
 
@@ -70,6 +91,10 @@ is_set options name =
 abbrev pub form_by : Options → Text → Form
 form_by options name = if is_set options name then form.Packed else form.Text
 
+-- the form of the cells that are read: raw octets are read as packed cells
+abbrev pub input_by : Options → Form
+input_by options = if is_set options (codes "raw-in") then form.Packed else form_by options (codes "packed-in")
+
 -- which reports get a line
 abbrev pub lines_by : Options → Lines
 lines_by options = if is_set options (codes "faults") then lines.Faults else lines.All
@@ -82,6 +107,22 @@ number_in text = if is_unsigned_in 0 18446744073709551615 text
 -- the number at this place among the words
 abbrev pub IsNumber : Options → Text → ℕ → Type 0
 IsNumber options name n = option_and_then number_in (one_of name options) ≡ Some n
+
+-- the option is a number of frames a second that was given, or none
+abbrev pub MayBeRate : Options → Text → Type 0
+MayBeRate options name = (one_of name options ≡ None)
+    ⊎ ((text : Text) × (one_of name options ≡ Some text) × (is_unsigned_in 1 most_frames text ≡ true))
+
+-- how the lines of events are written: as words or JSON objects, with times where the number of frames a second is
+-- given
+abbrev pub notation_by : Options → Notation
+notation_by options = if is_set options (codes "json") then Json else Words
+
+abbrev pub rate_by : Options → Option ℕ
+rate_by options = option_and_then number_in (one_of (codes "rate") options)
+
+abbrev pub style_by : Options → Style
+style_by options = record { notation = notation_by options; rate = rate_by options }
 
 -- the status bytes that an option's text has; none where the option is left out
 abbrev pub HasStatus : Option Text → Option (List ℕ) → Type 0
@@ -114,35 +155,35 @@ abbrev pub AsksFor : Text → Options → Job → Type 0
 AsksFor name options (job.Encode output) =
     (name ≡ codes "encode") × (output ≡ form_by options (codes "packed-out"))
 AsksFor name options (job.Decode input) =
-    (name ≡ codes "decode") × (input ≡ form_by options (codes "packed-in"))
+    (name ≡ codes "decode") × (input ≡ input_by options)
 AsksFor name options (job.Normal input output) =
-    (name ≡ codes "normal") × (input ≡ form_by options (codes "packed-in"))
+    (name ≡ codes "normal") × (input ≡ input_by options)
     × (output ≡ form_by options (codes "packed-out"))
 AsksFor name options (job.Check input told) =
-    (name ≡ codes "check") × (input ≡ form_by options (codes "packed-in"))
+    (name ≡ codes "check") × (input ≡ input_by options)
     × (told ≡ lines_by options) × (is_set options (codes "gaps") ≡ false)
 AsksFor name options (job.Account input told) =
-    (name ≡ codes "check") × (input ≡ form_by options (codes "packed-in"))
+    (name ≡ codes "check") × (input ≡ input_by options)
     × (told ≡ lines_by options) × (is_set options (codes "gaps") ≡ true)
-AsksFor name options (job.Watch input) =
-    (name ≡ codes "watch") × (input ≡ form_by options (codes "packed-in"))
+AsksFor name options (job.Watch input style) =
+    (name ≡ codes "watch") × (input ≡ input_by options) × (style ≡ style_by options)
 AsksFor name options (job.Show input) =
-    (name ≡ codes "show") × (input ≡ form_by options (codes "packed-in"))
+    (name ≡ codes "show") × (input ≡ input_by options)
     × (is_set options (codes "changes") ≡ false)
 AsksFor name options (job.ShowChanges input) =
-    (name ≡ codes "show") × (input ≡ form_by options (codes "packed-in"))
+    (name ≡ codes "show") × (input ≡ input_by options)
     × (is_set options (codes "changes") ≡ true)
 AsksFor name options (job.Scan input) =
-    (name ≡ codes "scan") × (input ≡ form_by options (codes "packed-in"))
+    (name ≡ codes "scan") × (input ≡ input_by options)
 AsksFor name options (job.Cut input output first count) =
-    (name ≡ codes "cut") × (input ≡ form_by options (codes "packed-in"))
+    (name ≡ codes "cut") × (input ≡ input_by options)
     × (output ≡ form_by options (codes "packed-out"))
     × IsNumber options (codes "FROM") first × IsNumber options (codes "COUNT") count
 AsksFor name options (job.Rewrite input output change) =
-    (name ≡ codes "rewrite") × (input ≡ form_by options (codes "packed-in"))
+    (name ≡ codes "rewrite") × (input ≡ input_by options)
     × (output ≡ form_by options (codes "packed-out")) × IsChange options change
 AsksFor name options (job.ToPcm input) =
-    (name ≡ codes "to-pcm") × (input ≡ form_by options (codes "packed-in"))
+    (name ≡ codes "to-pcm") × (input ≡ input_by options)
 AsksFor name options (job.FromPcm exact change) =
     (name ≡ codes "from-pcm") × (exact ≡ is_set options (codes "exact")) × IsChange options change
 
@@ -157,6 +198,21 @@ AskNothing words = (texts : List Text) → ¬ AsksToExplain words texts
 -- the words ask for the job
 abbrev pub IsJobOf : List Text → Job → Type 0
 IsJobOf words job = AskNothing words × IsLineOf words job
+
+-- ---- the octets of packed cells
+
+-- two options that say otherwise of the octets that are read
+abbrev pub clash : Options → Bool
+clash options = is_set options (codes "raw-in") && is_set options (codes "packed-in")
+
+-- how the options lay out the octets; none of them clash
+abbrev pub AreOctets : Options → Octets → Type 0
+AreOctets options octets = (octets.raw_in ≡ is_set options (codes "raw-in")) × (clash options ≡ false)
+
+-- the command that stands in the words has octets that are laid out so
+abbrev pub HaveOctets : List Text → Octets → Type 0
+HaveOctets words octets = (name : Text) × (options : Options) × StandsIn words name options
+    × AreOctets options octets
 
 -- ---- the input
 
@@ -218,7 +274,8 @@ fault_text name texts TooMany = many_text name
 -- what is told of that, where the command is called by `usage`
 unfoldable pub refused_text : Text → Text → List Text → SettingsFault → Text
 refused_text name usage texts why =
-    fault_text name texts why ++ (10 ∷ codes "Usage: ") ++ usage ++ (10 ∷ 10 ∷ codes "For more information, try '--help'." ++ 10 ∷ [])
+    fault_text name texts why ++ (10 ∷ codes "Usage: ") ++ usage
+    ++ (10 ∷ 10 ∷ codes "For more information, try '--help'." ++ 10 ∷ [])
 
 -- the option's texts have no settings, and this text tells why
 abbrev pub TellsBadSettings : Options → Text → Text → Text → Type 0
@@ -247,6 +304,20 @@ TellsABadOption name options text =
     ((name ≡ codes "rewrite") × TellsABadSetting options rewrite_usage text)
     ⊎ ((name ≡ codes "from-pcm") × TellsABadSetting options from_pcm_usage text)
 
+-- what is told of options that clash
+abbrev pub clash_text : Text
+clash_text = codes "error: the argument '--raw-in' cannot be used with '--packed-in'"
+    ++ (10 ∷ 10 ∷ codes "Usage: aes3 COMMAND [OPTIONS] < INPUT > OUTPUT")
+    ++ (10 ∷ 10 ∷ codes "For more information, try '--help'.") ++ 10 ∷ []
+
+-- options clash, and this text tells it
+abbrev pub TellsAClash : Options → Text → Type 0
+TellsAClash options text = (clash options ≡ true) × (text ≡ clash_text)
+
+-- one of the options is a setting that is none, or two clash, and this text tells why
+abbrev pub TellsBadOptions : Text → Options → Text → Type 0
+TellsBadOptions name options text = TellsABadOption name options text ⊎ TellsAClash options text
+
 -- the definitions do not take the words, and ask for no help and no version
 abbrev pub IsNotTaken : List Text → Type 0
 IsNotTaken words = (kind : _) × IsAmong kind (faults_in words) × (kind ≢ DisplayHelp) × (kind ≢ DisplayVersion)
@@ -258,7 +329,8 @@ IsExplained words told = (texts : List Text) × AsksToExplain words texts × IsE
 -- why the words are no job, where they ask to explain nothing
 abbrev pub IsLineFaultOf : List Text → LineFault → Type 0
 IsLineFaultOf words (fault.Usage text) = IsNotTaken words
-    ⊎ ((name : Text) × (options : Options) × StandsIn words name options × TellsABadOption name options text.bytes.items)
+    ⊎ ((name : Text) × (options : Options) × StandsIn words name options
+    × TellsBadOptions name options text.bytes.items)
 IsLineFaultOf words (fault.Help text) = IsAmong DisplayHelp (faults_in words) ⊎ IsAmong DisplayVersion (faults_in words)
 IsLineFaultOf words (fault.Refused error) =
     (error ≡ Memory) ⊎ ((error ≡ BadStatusText) × ((name : Text) × (options : Options)
@@ -299,3 +371,17 @@ abbrev pub IsBadOptionOf : Text → Options → LineFault → Type 0
 IsBadOptionOf name options told =
     ((name ≡ codes "rewrite") × IsChangeFaultOf options rewrite_usage told)
     ⊎ ((name ≡ codes "from-pcm") × IsChangeFaultOf options from_pcm_usage told)
+
+-- what is told of options that clash; or memory was refused
+abbrev pub TellsClash : LineFault → Type 0
+TellsClash (fault.Usage text) = text.bytes.items ≡ clash_text
+TellsClash (fault.Help text) = ⊥
+TellsClash (fault.Refused error) = error ≡ Memory
+
+-- options clash, and that is told
+abbrev pub IsClashOf : Options → LineFault → Type 0
+IsClashOf options told = (clash options ≡ true) × TellsClash told
+
+-- the words are taken, and an option is wrong or two clash
+abbrev pub AreBadOptionsOf : Text → Options → LineFault → Type 0
+AreBadOptionsOf name options told = IsBadOptionOf name options told ⊎ IsClashOf options told

@@ -5,13 +5,14 @@ ghost use Rattle.clap.specs.Walk.{first_of};
 ghost use Rattle.aes3_arguments.specs.Jobs.{AreSettings, AsksFor, HasStatus, IsBadOptionOf, IsBadStatus};
 ghost use Rattle.aes3_arguments.specs.Jobs.{IsChange, IsChangeFaultOf, IsNumber};
 ghost use Rattle.aes3_arguments.specs.Jobs.{IsSettingsFaultOf, IsStatus, MayBeFlag, StandsIn};
-ghost use Rattle.aes3_arguments.specs.Jobs.{TellsSettings, form_by, is_set, lines_by, options_of};
+ghost use Rattle.aes3_arguments.specs.Jobs.{TellsSettings, form_by, input_by, is_set, lines_by, options_of};
 ghost use Rattle.aes3_arguments.specs.Jobs.{refused_text};
 ghost use Rattle.aes3_arguments.specs.declared.job.LineFault.TheVariants.{Refused};
 ghost use Rattle.aes3_cell.specs.declared.refusal.RunError.TheVariants.{BadStatusText, Memory};
 
 use crate::refusals::settings_refused;
 use crate::status_text::status_of_text;
+use crate::style::style;
 use aes3_cell::{Form, RunError};
 use aes3_commands::help;
 use aes3_job::Job;
@@ -49,14 +50,17 @@ pub(crate) fn job_of_command(
     ensures job { IfOk result (AsksFor name.now (options_of options.now)) }
     ensures fault { IfErr result (IsBadOptionOf name.now (options_of options.now)) }
 {
-    let input = form(options, "packed-in");
+    let input = input_form(options);
     let output = form(options, "packed-out");
     match name {
         "encode" => Ok(Job::Encode { output }),
         "decode" => Ok(Job::Decode { input }),
         "normal" => Ok(Job::Normal { input, output }),
         "check" => Ok(check(options, input)),
-        "watch" => Ok(Job::Watch { input }),
+        "watch" => Ok(Job::Watch {
+            input,
+            style: style(options),
+        }),
         "show" => Ok(show(options, input)),
         "scan" => Ok(Job::Scan { input }),
         "to-pcm" => Ok(Job::ToPcm { input }),
@@ -91,6 +95,18 @@ fn form(options: &ArgMatches<'_>, flag: &str) -> Form
     }
 }
 
+/// The form of the cells that are read: raw octets are read as packed cells.
+fn input_form(options: &ArgMatches<'_>) -> Form
+    requires raw { MayBeFlag (options_of options.now) (codes "raw-in") }
+    requires packed { MayBeFlag (options_of options.now) (codes "packed-in") }
+    ensures { result ≡ input_by (options_of options.now) }
+{
+    match form(options, "raw-in") {
+        Form::Packed => Form::Packed,
+        Form::Text => form(options, "packed-in"),
+    }
+}
+
 /// Which reports get a line.
 fn lines(options: &ArgMatches<'_>) -> Lines
     requires { MayBeFlag (options_of options.now) (codes "faults") }
@@ -107,7 +123,7 @@ fn lines(options: &ArgMatches<'_>) -> Lines
 fn check(options: &ArgMatches<'_>, input: Form) -> Job
     requires faults { MayBeFlag (options_of options.now) (codes "faults") }
     requires gaps { MayBeFlag (options_of options.now) (codes "gaps") }
-    requires form { input ≡ form_by (options_of options.now) (codes "packed-in") }
+    requires form { input ≡ input_by (options_of options.now) }
     ensures { AsksFor (codes "check") (options_of options.now) result }
 {
     let lines = lines(options);
@@ -121,7 +137,7 @@ fn check(options: &ArgMatches<'_>, input: Form) -> Job
 /// The job of `show` with its options.
 fn show(options: &ArgMatches<'_>, input: Form) -> Job
     requires changes { MayBeFlag (options_of options.now) (codes "changes") }
-    requires form { input ≡ form_by (options_of options.now) (codes "packed-in") }
+    requires form { input ≡ input_by (options_of options.now) }
     ensures { AsksFor (codes "show") (options_of options.now) result }
 {
     if options.get_flag("changes") {

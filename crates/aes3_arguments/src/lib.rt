@@ -8,14 +8,19 @@ mod explain;
 mod file;
 /// The job that a command with its options asks for.
 mod job;
+/// How the octets of packed cells are laid out.
+mod layout;
 /// What the words ask for.
 mod line;
 /// What is told of settings that are none.
 mod refusals;
 /// Channel status in hexadecimal.
 mod status_text;
+/// How lines of events are written.
+mod style;
 
 pub use explain::{advice, asks_to_explain, explanation};
 pub use job::LineFault;
+pub use layout::Octets;
 pub use line::{CommandLine, job_of_words, line_of_words};
 pub use status_text::status_of_text;

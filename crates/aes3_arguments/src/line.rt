@@ -3,13 +3,14 @@
 ghost use Rattle.std.specs.Prelude.{◌≡◌, List, ℕ, None, IfOk, IfErr, IfSome, map};
 ghost use Rattle.std.specs.Option.{option_map};
 ghost use Rattle.clap.specs.Values.{kind_of};
-ghost use Rattle.aes3_arguments.specs.Jobs.{AsksFor, IsBadOptionOf, IsFaultOf, IsJobOf, IsLineFaultOf, IsLineOf};
+ghost use Rattle.aes3_arguments.specs.Jobs.{AreBadOptionsOf, AreOctets, AsksFor, HaveOctets, IsFaultOf, IsJobOf, IsLineFaultOf, IsLineOf};
 ghost use Rattle.aes3_arguments.specs.Jobs.{ReadsFile, StandsIn, Tells, file_by, options_of};
 ghost use Rattle.aes3_arguments.specs.Explained.{IsExplanation};
 
 use crate::explain::{asks_to_explain, explained_number, explanation};
 use crate::file::file;
 use crate::job::{LineFault, job_of_command};
+use crate::layout::{Octets, octets_of_options};
 use aes3_cell::RunError;
 use aes3_commands::command_line;
 use aes3_job::Job;
@@ -22,6 +23,8 @@ use std::alloc::Global;
 pub struct CommandLine<'a> {
     /// What is to be done.
     pub job: Job,
+    /// How the octets are laid out that it reads.
+    pub octets: Octets,
     /// The name of the file that is read in place of standard input; none where the words name none,
     /// or name it `-`.
     pub file: Option<&'a str>,
@@ -31,11 +34,12 @@ pub struct CommandLine<'a> {
 ///
 /// # Errors
 /// `Usage` where the definitions of the command line don't take the words, no command stands in
-/// them, or a text of `--set1` or `--set2` is no setting; `Help` where `--help` or `--version`
+/// them, two options clash, or a text of `--set1` or `--set2` is no setting; `Help` where `--help` or `--version`
 /// stands in them; either where `--explain` is the first of them; `BadStatusText` where they are
 /// taken, but a status text isn't 48 hexadecimal digits; `Memory` where memory was refused.
 pub fn line_of_words<'a>(alloc: Global, words: &'a [&'a str]) -> Result<CommandLine<'a>, LineFault>
     ensures job { IfOk result (λ line. IsJobOf (map (λ word. word.now) words.now) line.job) }
+    ensures octets { IfOk result (λ line. HaveOctets (map (λ word. word.now) words.now) line.octets) }
     ensures file { IfOk result (λ line. IfSome line.file
         (λ name. ReadsFile (map (λ word. word.now) words.now) name.now)) }
     ensures standard { IfOk result (λ line. line.file ≡ None → (name : List ℕ)
@@ -78,6 +82,7 @@ fn explained(alloc: Global, words: &[&str]) -> LineFault
 /// What a command line that asks to explain nothing asks for.
 fn plain_line<'a>(alloc: Global, words: &'a [&'a str]) -> Result<CommandLine<'a>, LineFault>
     ensures job { IfOk result (λ line. IsLineOf (map (λ word. word.now) words.now) line.job) }
+    ensures octets { IfOk result (λ line. HaveOctets (map (λ word. word.now) words.now) line.octets) }
     ensures file { IfOk result (λ line. IfSome line.file
         (λ name. ReadsFile (map (λ word. word.now) words.now) name.now)) }
     ensures standard { IfOk result (λ line. line.file ≡ None → (name : List ℕ)
@@ -117,13 +122,16 @@ fn line_of_command<'a>(
 ) -> Result<CommandLine<'a>, LineFault>
     requires { (words : List (List ℕ)) × StandsIn words name.now (options_of options.now) }
     ensures job { IfOk result (λ line. AsksFor name.now (options_of options.now) line.job) }
+    ensures octets { IfOk result (λ line. AreOctets (options_of options.now) line.octets) }
     ensures file { IfOk result (λ line. option_map (λ name. name.now) line.file
         ≡ file_by (options_of options.now)) }
-    ensures fault { IfErr result (IsBadOptionOf name.now (options_of options.now)) }
+    ensures fault { IfErr result (AreBadOptionsOf name.now (options_of options.now)) }
 {
+    let octets = octets_of_options(alloc, options)?;
     let job = job_of_command(alloc, name, options)?;
     Ok(CommandLine {
         job,
+        octets,
         file: file(options),
     })
 }

@@ -12,10 +12,10 @@ use Rattle.std.proofs.lemmas.Grind.{flat_map-append}
 use Rattle.std.proofs.lemmas.List.{take_more_set, get_or-drop, nil_from_length}
 use Rattle.std.proofs.Math.Seq.{take-add}
 use Rattle.std.proofs.lemmas.Nat.Bits.{bit_at_lowest, bit_at_or}
-use Rattle.aes3_block.proofs.BitLemmas.{word-parity}
-use Rattle.aes3_block.specs.Files.{has_code, has_parity, is_lawful, low_bytes, payload_of, word_bytes, words_of}
+use Rattle.aes3_frame.proofs.BitLemmas.{word-parity}
+use Rattle.aes3_frame.specs.Files.{has_code, has_parity, is_lawful, low_bytes, payload_of, word_bytes, words_of}
 use Rattle.aes3_block.specs.Readers.{FileReader, TakesBlock, TakesQuietly, next_with}
-use Rattle.aes3_block.proofs.FileLaws.{words-of-word}
+use Rattle.aes3_frame.proofs.FileLaws.{words-of-word}
 use Rattle.aes3_block.proofs.Reading.{stored, reader-is, lawful-fault}
 use Rattle.aes3_block.proofs.WordReads.{takes-word, ends-block, number-bytes}
 

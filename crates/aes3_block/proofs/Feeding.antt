@@ -3,15 +3,15 @@ use Rattle.std.proofs.Common.{◌≡◌, ℕ, ◌*◌, ◌%◌, ◌<◌, ◌⊎�
 use Rattle.std.proofs.Common.{Result, Ok, Err, length, refl, sym, ap, ap₂, ◌∙◌, arith, append-nil, append_assoc}
 use Rattle.aes3_block.specs.declared.file.FileFault.{FileFault}
 use Rattle.aes3_block.specs.declared.file.FileFault.TheVariants.{BadLength}
-use Rattle.aes3_block.specs.Blocks.{block_slots}
-use Rattle.aes3_block.specs.Files.{words_of, file_blocks, IsBlockFile}
+use Rattle.aes3_frame.specs.Blocks.{block_slots}
+use Rattle.aes3_frame.specs.Files.{words_of, file_blocks, IsBlockFile}
 use Rattle.aes3_block.specs.Readers.{FileReader, reader_of, byte_fault, block_with, reader_with, fault_with}
 use Rattle.aes3_block.specs.Readers.{answer_with, next_with, end_answer}
 use Rattle.aes3_block.specs.Feeding.{blocks_of_answer, blocks_fed, reader_fed}
 use Rattle.aes3_block.specs.Laws.{IsAccepted}
-use Rattle.aes3_block.proofs.Streams.{file_blocks-nil}
+use Rattle.aes3_frame.proofs.Streams.{file_blocks-nil}
 use Rattle.aes3_block.proofs.Reading.{ends-open}
-use Rattle.aes3_block.proofs.Words.{all_lawful, all_lawful-from, lawful-words}
+use Rattle.aes3_frame.proofs.Words.{all_lawful, all_lawful-from, lawful-words}
 use Rattle.aes3_block.proofs.WholeBlocks.{added_blocks, reader-next, lawful-next, blocks-next, blocks-stay, fault-place}
 use Rattle.aes3_block.proofs.WholeBlocks.{end-none, end-whole_file}
 use Rattle.std.proofs.lemmas.Option.{none-some}

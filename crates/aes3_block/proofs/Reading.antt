@@ -6,12 +6,12 @@ use Rattle.std.proofs.lemmas.Bool.{cases_lt}
 use Rattle.std.proofs.lemmas.List.{get_or_append_left, get_or-append_right}
 use Rattle.aes3_block.specs.declared.file.FileFault.{FileFault}
 use Rattle.aes3_block.specs.declared.file.FileFault.TheVariants.{BadLength, BadCode, BadParity}
-use Rattle.aes3_block.specs.Blocks.{block_slots}
-use Rattle.aes3_block.specs.Files.{bytes_number, has_code, has_parity, is_lawful, low_bytes, payload_of}
+use Rattle.aes3_frame.specs.Blocks.{block_slots}
+use Rattle.aes3_frame.specs.Files.{bytes_number, has_code, has_parity, is_lawful, low_bytes, payload_of}
 use Rattle.aes3_block.specs.Readers.{FileReader, word_fault, ends_word, word_with, byte_fault, ends_block, block_with}
 use Rattle.aes3_block.specs.Readers.{reader_with, fault_with, answer_with, next_with, end_answer}
-use Rattle.aes3_block.proofs.Bytes.{length-low_bytes, bytes_number-low_bytes}
-use Rattle.aes3_block.proofs.BlockLemmas.{block_slots_384}
+use Rattle.aes3_frame.proofs.Bytes.{length-low_bytes, bytes_number-low_bytes}
+use Rattle.aes3_frame.proofs.BlockLemmas.{block_slots_384}
 
 -- a reader by what it stores
 abbrev pub stored : ℕ → List ℕ → ℕ → Option FileFault → FileReader

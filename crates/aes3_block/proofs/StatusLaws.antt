@@ -9,17 +9,17 @@ use Rattle.std.proofs.lemmas.Option.{slice_get-get_or, get_or_from_slice_get}
 use Rattle.aes3_bits.specs.Bits.{low_bits, number}
 use Rattle.aes3_slot.specs.Slots.{IsPayload, payload_len}
 use Rattle.aes3_bits.proofs.Bits.{length-low_bits, number-low_bits, low_bits-number}
-use Rattle.aes3_block.specs.declared.status.Channel.{Channel}
-use Rattle.aes3_block.specs.declared.status.Channel.TheVariants.{First, Second}
-use Rattle.aes3_block.specs.Blocks.{IsBlock}
-use Rattle.aes3_block.specs.Subframes.{audio_len}
-use Rattle.aes3_block.specs.Statuses.{of_channel, status_place, status_bit, status_bits, status_len, status_of}
-use Rattle.aes3_block.specs.Statuses.{bytes_in, bits_of_bytes, with_bits, with_status}
+use Rattle.aes3_frame.specs.declared.status.Channel.{Channel}
+use Rattle.aes3_frame.specs.declared.status.Channel.TheVariants.{First, Second}
+use Rattle.aes3_frame.specs.Blocks.{IsBlock}
+use Rattle.aes3_frame.specs.Subframes.{audio_len}
+use Rattle.aes3_frame.specs.Statuses.{of_channel, status_place, status_bit, status_bits, status_len, status_of}
+use Rattle.aes3_frame.specs.Statuses.{bytes_in, bits_of_bytes, with_bits, with_status}
 use Rattle.aes3_block.specs.Laws.{IsByte, payload_in, other_channel, SameButStatus}
-use Rattle.aes3_block.proofs.BlockLemmas.{block_slots_384}
-use Rattle.aes3_block.proofs.Runs.{Each27}
-use Rattle.aes3_block.proofs.Each.{each-payload, all-payloads, EachByte, each-byte}
-use Rattle.aes3_block.proofs.StatusBits.{status_len_24, first-get, second-get, bits-at, length-bits_of_bytes}
+use Rattle.aes3_frame.proofs.BlockLemmas.{block_slots_384}
+use Rattle.aes3_frame.proofs.Runs.{Each27}
+use Rattle.aes3_frame.proofs.Each.{each-payload, all-payloads, EachByte, each-byte}
+use Rattle.aes3_frame.proofs.StatusBits.{status_len_24, first-get, second-get, bits-at, length-bits_of_bytes}
 
 -- the payloads of a channel are half of a block's
 length-of_channel : (n : ℕ) (b : List (List Bool)) (channel : Channel) → length b ≡ 2 * n

@@ -6,16 +6,16 @@ use Rattle.std.proofs.lemmas.Bool.{cases_lt, cases_eq}
 use Rattle.std.proofs.lemmas.List.{take_all, drop-append-le, drop_all, get_or-append_right}
 use Rattle.aes3_block.specs.declared.file.FileFault.{FileFault}
 use Rattle.aes3_block.specs.declared.file.FileFault.TheVariants.{BadLength, BadCode, BadParity}
-use Rattle.aes3_block.specs.Blocks.{block_slots}
-use Rattle.aes3_block.specs.Files.{bytes_number, words_of, has_code, has_parity, lawful_words, payload_of, blocks_in}
-use Rattle.aes3_block.specs.Files.{file_blocks}
+use Rattle.aes3_frame.specs.Blocks.{block_slots}
+use Rattle.aes3_frame.specs.Files.{bytes_number, words_of, has_code, has_parity, lawful_words, payload_of, blocks_in}
+use Rattle.aes3_frame.specs.Files.{file_blocks}
 use Rattle.aes3_block.specs.Readers.{FileReader, reader_of, word_fault, ends_word, byte_fault, block_with, reader_with}
 use Rattle.aes3_block.specs.Readers.{end_answer}
-use Rattle.aes3_block.proofs.BlockLemmas.{block_slots_384}
+use Rattle.aes3_frame.proofs.BlockLemmas.{block_slots_384, count-within}
 use Rattle.aes3_block.proofs.Reading.{fault-lawful, fault-unlawful, reader-is}
-use Rattle.aes3_block.proofs.Words.{length-words, words-short, words-whole, all_lawful, all_lawful-push, lawful-words}
-use Rattle.aes3_block.proofs.Words.{lawful-stays}
-use Rattle.aes3_block.proofs.Streams.{blocks-front, blocks-more}
+use Rattle.aes3_frame.proofs.Words.{length-words, words-short, words-whole, all_lawful, all_lawful-push, lawful-words}
+use Rattle.aes3_frame.proofs.Words.{lawful-stays}
+use Rattle.aes3_frame.proofs.Streams.{blocks-front, blocks-more}
 use Rattle.std.proofs.lemmas.Option.{none-some}
 
 -- the word that byte x ends behind b
@@ -34,10 +34,6 @@ count-ending n h = omega arith
 count-whole : (n : ℕ) → n % block_slots + 1 ≡ block_slots → block_slots * ((n + 1) / block_slots) ≡ n + 1
 unfolding block_slots
 count-whole n h = omega arith
-
-pub count-within : (n : ℕ) → block_slots * (n / block_slots) ≤ n
-unfolding block_slots
-count-within n = omega arith
 
 last-place : (n : ℕ) → block_slots ≤ n % block_slots + 1 → n % block_slots + 1 ≡ block_slots
 unfolding block_slots

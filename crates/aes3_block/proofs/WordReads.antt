@@ -7,9 +7,9 @@ use Rattle.std.specs.Int.{from_le_bytes}
 use Rattle.std.proofs.lemmas.Bool.{cases_lt}
 use Rattle.std.proofs.lemmas.Nat.{le_bytes_4}
 use Rattle.aes3_block.specs.declared.file.FileFault.{FileFault}
-use Rattle.aes3_block.specs.Files.{low_bytes, payload_of, word_bytes}
+use Rattle.aes3_frame.specs.Files.{low_bytes, payload_of, word_bytes}
 use Rattle.aes3_block.specs.Readers.{FileReader, TakesBlock, TakesQuietly, word_fault, answer_with, next_with}
-use Rattle.aes3_block.proofs.Files.{le_bytes-is}
+use Rattle.aes3_frame.proofs.Files.{le_bytes-is}
 use Rattle.aes3_block.proofs.Reading.{stored, byte-short, byte-word, byte-block, byte-refused}
 
 -- the bytes before the last, one by one
@@ -63,7 +63,8 @@ module _ (seen : ℕ) (ws : List ℕ) (u w : ℕ) (start : seen % 4 ≡ 0) where
               subst (λ r. TakesQuietly r ((w / 256 / 256 % 256) ∷ (w / 256 / 256 / 256 % 256) ∷ [])
                   (stored (seen + 4) (ws ++ w ∷ []) 0 None)) (sym second.1) (
                     third.0,
-                    subst (λ r. TakesQuietly r ((w / 256 / 256 / 256 % 256) ∷ []) (stored (seen + 4) (ws ++ w ∷ []) 0 None))
+                    subst (λ r. TakesQuietly r ((w / 256 / 256 / 256 % 256) ∷ [])
+                        (stored (seen + 4) (ws ++ w ∷ []) 0 None))
                         (sym third.1) (q.0, e ∙ sym q.1),
                   ),
             ),

@@ -2,14 +2,14 @@
 use Rattle.std.specs.Prelude.{ℕ, List, [], ◌++◌, Bool, Some, Ok, length, map, take, slice_get, slice_index}
 use Rattle.std.specs.Prelude.{slice_index_or, All, ◌≡◌, ◌<◌, ◌+◌, ◌-◌, ◌*◌, ◌/◌, ◌%◌, ◌==◌}
 use Rattle.std.specs.Int.{bit_at}
-use Rattle.aes3_cell.specs.declared.level.Level.{Level}
-use Rattle.aes3_block.specs.declared.status.Channel.{Channel}
-use Rattle.aes3_block.specs.declared.status.Channel.TheVariants.{First, Second}
-use Rattle.aes3_block.specs.Blocks.{IsBlock, block_len, block_cells, stream}
-use Rattle.aes3_block.specs.Files.{file, file_blocks, IsBlockFile}
+use Rattle.aes3_level.specs.declared.level.Level.{Level}
+use Rattle.aes3_frame.specs.declared.status.Channel.{Channel}
+use Rattle.aes3_frame.specs.declared.status.Channel.TheVariants.{First, Second}
+use Rattle.aes3_frame.specs.Blocks.{IsBlock, block_len, block_cells, stream}
+use Rattle.aes3_frame.specs.Files.{file, file_blocks, IsBlockFile}
 use Rattle.aes3_block.specs.Readers.{reader_of, end_answer}
 use Rattle.aes3_block.specs.Feeding.{blocks_fed, reader_fed}
-use Rattle.aes3_block.specs.Statuses.{of_channel, status_bit, status_place, status_len, status_of, with_status}
+use Rattle.aes3_frame.specs.Statuses.{of_channel, status_bit, status_place, status_len, status_of, with_status}
 
 -- a block has 24,576 cells
 abbrev pub BlocksHaveOneLength : Type 0

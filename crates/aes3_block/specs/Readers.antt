@@ -3,8 +3,8 @@ use Rattle.std.specs.Prelude.{ℕ, suc, List, [], ◌∷◌, ◌++◌, Bool, fal
 use Rattle.std.specs.Prelude.{drop, ◌≡◌, ◌*◌, ◌/◌, ◌%◌, ◌==◌, map, if◌then◌else◌}
 use Rattle.aes3_block.specs.declared.file.FileFault.{FileFault}
 use Rattle.aes3_block.specs.declared.file.FileFault.TheVariants.{BadLength, BadCode, BadParity}
-use Rattle.aes3_block.specs.Blocks.{block_slots}
-use Rattle.aes3_block.specs.Files.{bytes_number, words_of, has_code, has_parity, payload_of}
+use Rattle.aes3_frame.specs.Blocks.{block_slots}
+use Rattle.aes3_frame.specs.Files.{bytes_number, words_of, has_code, has_parity, payload_of}
 
 -- how many bytes a reader has taken, the words of the block begun, the bytes of the word begun, and what it refused
 pub record FileReader : Type 0 where

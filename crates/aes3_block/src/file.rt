@@ -1,8 +1,6 @@
 //! Block files as they are read.
-use crate::block::{Block, SLOTS, zero_words};
-use crate::file_out::BLOCK_BYTES;
-use crate::word::{has_right_code, has_right_parity};
 use aes3_cell::RunError;
+use aes3_frame::{BLOCK_BYTES, Block, SLOTS, has_right_code, has_right_parity, zero_words};
 use arrayvec::ArrayVec;
 use std::fmt::{self, Debug, Display, Formatter, Write};
 use std::marker::Model;
@@ -60,7 +58,7 @@ pub struct BlockFile {
 
 impl Model for BlockFile {
     ghost use Rattle.std.specs.Prelude.{ℕ, ◌<◌, ◌≡◌, ◌*◌, ◌/◌, ◌%◌, ◌^◌, true, get_or, length};
-    ghost use Rattle.aes3_block.specs.Files.{is_lawful, low_bytes};
+    ghost use Rattle.aes3_frame.specs.Files.{is_lawful, low_bytes};
     ghost use Rattle.aes3_block.specs.Readers.{FileReader};
 
     ghost Value = { FileReader };
@@ -80,8 +78,8 @@ impl Model for BlockFile {
 ghost use Rattle.std.specs.Prelude.{◌≡◌, ◌≢◌, ℕ, ◌<◌, ◌≤◌, ◌+◌, ◌*◌, ◌^◌, true, false, [], ◌∷◌};
 ghost use Rattle.std.specs.Prelude.{◌++◌, Some, None, IfSome, IsSome, get_or, length, map};
 ghost use Rattle.std.specs.List.{flat_map};
-ghost use Rattle.aes3_block.specs.Blocks.{block_slots};
-ghost use Rattle.aes3_block.specs.Files.{is_lawful, low_bytes, payload_of, word_bytes, words_of};
+ghost use Rattle.aes3_frame.specs.Blocks.{block_slots};
+ghost use Rattle.aes3_frame.specs.Files.{is_lawful, low_bytes, payload_of, word_bytes, words_of};
 ghost use Rattle.aes3_block.specs.Readers.{FileReader, TakesBlock, TakesQuietly, answer_with};
 ghost use Rattle.aes3_block.specs.Readers.{end_answer, next_with, word_fault};
 

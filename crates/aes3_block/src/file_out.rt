@@ -3,13 +3,10 @@
 ghost use Rattle.std.specs.Prelude.{◌≡◌, ◌<◌, ◌+◌, ◌^◌, ℕ, get_or, length};
 ghost use Rattle.std.specs.List.{flat_map};
 ghost use Rattle.aes3_cell.specs.Writes.{Wrote};
-ghost use Rattle.aes3_block.specs.Files.{block_bytes, word_bytes};
+ghost use Rattle.aes3_frame.specs.Files.{block_bytes, word_bytes};
 
-use crate::block::{Block, SLOTS};
 use aes3_cell::{Fault, Sink, write_all};
-
-/// How many bytes a block has in a block file.
-pub const BLOCK_BYTES: usize = 4 * SLOTS;
+use aes3_frame::{BLOCK_BYTES, Block, SLOTS};
 
 pub(crate) fn blank_bytes() -> [u8; BLOCK_BYTES]
     ensures { length result ≡ BLOCK_BYTES }

@@ -2,22 +2,18 @@
 
 ghost use Rattle.std.specs.Prelude.{◌≡◌, ◌<◌, ◌+◌, ◌^◌, map, take, true};
 ghost use Rattle.std.specs.List.{flat_map};
-ghost use Rattle.aes3_cell.specs.Cells.{line, other};
+ghost use Rattle.aes3_level.specs.Cells.{line, other};
 ghost use Rattle.aes3_cell.specs.Writes.{Wrote};
-ghost use Rattle.aes3_cell.specs.Words.{word_cells};
+ghost use Rattle.aes3_level.specs.Words.{word_cells};
 ghost use Rattle.aes3_cell.specs.Written.{bytes_of};
 ghost use Rattle.aes3_slot.specs.ReadWords.{read_word, read_words};
 ghost use Rattle.aes3_slot.specs.Reading.{same};
-ghost use Rattle.aes3_slot.specs.Rules.{at};
 ghost use Rattle.aes3_slot.specs.Slots.{payload_len, subframe_runs};
-ghost use Rattle.aes3_block.specs.Blocks.{block_cells};
+ghost use Rattle.aes3_frame.specs.Blocks.{block_cells};
 
-use crate::block::SLOTS;
-use crate::cells::mark_of;
-use crate::gathered::GatheredCells;
-use crate::word::PAYLOAD_LIMIT;
 use aes3_cell::{Fault, Form, Level, Sink, put_words};
-use aes3_slot::{Mark, slot_bits, subframe_cells, wrong_cells};
+use aes3_frame::{GatheredCells, PAYLOAD_LIMIT, SLOTS, mark_of, wrong_in};
+use aes3_slot::{Mark, slot_bits, subframe_cells};
 
 /// A subframe's cells, or all of them inverted.
 fn turned(inverted: bool, cells: u64) -> u64
@@ -53,26 +49,6 @@ fn renew_each(before: Level, words: &[u64; SLOTS], cells: &mut [u64; SLOTS])
     for (slot, word) in words.iter().enumerate() {
         cells[slot] = renewed(before, mark_of(slot as u64), *word);
     }
-}
-
-/// One where a subframe's last cell is another level than `before`, as it is where its parity is
-/// wrong, else zero.
-fn other_last(before: Level, cells: u64) -> u64
-    ensures { result ≡ 0 → at (word_cells cells) 63 ≡ before }
-{
-    match before {
-        Level::Low => cells >> 63,
-        Level::High => !cells >> 63,
-    }
-}
-
-/// What is wrong with the cells of a subframe with this preamble after the level `before`: zero,
-/// where they are those of its payload, with right parity.
-pub(crate) fn wrong_in(before: Level, mark: Mark, cells: u64) -> u64
-    ensures { result ≡ 0 → word_cells cells ≡ line before
-        (subframe_runs mark (take payload_len (read_word cells))) }
-{
-    wrong_cells(before, mark, cells) | other_last(before, cells)
 }
 
 /// Puts the cells of the subframes into `cells`, all of them inverted where the first are, and says

@@ -3,14 +3,12 @@
 ghost use Rattle.std.specs.Prelude.{◌≡◌, ◌<◌, ◌+◌, ◌^◌, map};
 ghost use Rattle.std.specs.List.{flat_map};
 ghost use Rattle.aes3_cell.specs.Writes.{Wrote};
-ghost use Rattle.aes3_block.specs.Files.{payload_of, word_bytes};
-ghost use Rattle.aes3_block.specs.Samples.{block_samples, sample_of};
+ghost use Rattle.aes3_frame.specs.Files.{payload_of, word_bytes};
+ghost use Rattle.aes3_frame.specs.Samples.{block_samples, sample_of};
 
-use crate::block::{Block, SLOTS};
-use crate::file_out::{BLOCK_BYTES, blank_bytes};
-use crate::subframe::AUDIO_LIMIT;
-use crate::word::payload_of_word;
+use crate::file_out::blank_bytes;
 use aes3_cell::{Fault, Sink, write_all};
+use aes3_frame::{AUDIO_LIMIT, BLOCK_BYTES, Block, SLOTS, payload_of_word};
 
 /// The sample in a word of a block file, in the highest 24 of 32 bits.
 fn sample_of_word(word: u32) -> u32

@@ -8,13 +8,13 @@ use Rattle.std.proofs.lemmas.List.{take-append-drop, take-append-le, take-take, 
 use Rattle.std.proofs.lemmas.Slice.{take-put_mid}
 use borrow.Rule.Slice.PartMut.{put_mid}
 use Rattle.std.proofs.Math.Seq.{take-add, take-append-add}
-use Rattle.aes3_cell.specs.declared.level.Level.{Level}
+use Rattle.aes3_level.specs.declared.level.Level.{Level}
 use Rattle.aes3_cell.specs.Packed.{cells_of_octets}
-use Rattle.aes3_cell.specs.Words.{low_cells, word_cells, word_len}
-use Rattle.aes3_cell.proofs.Lines.{word_len_64}
+use Rattle.aes3_level.specs.Words.{low_cells, word_cells, word_len}
+use Rattle.aes3_level.proofs.WordCells.{word_len_64}
 use Rattle.aes3_cell.proofs.ManyWords.{length-words}
 use Rattle.aes3_cell.proofs.PackedCells.{cells_of_octets-append, length-cells_of_octets}
-use Rattle.aes3_cell.proofs.WordCells.{drop-low_cells, length-low_cells, take-low_cells}
+use Rattle.aes3_level.proofs.WordCells.{drop-low_cells, length-low_cells, take-low_cells}
 use Rattle.aes3_lock.specs.declared.report.Report.{Report}
 use Rattle.aes3_lock.specs.Reports.{decided}
 use Rattle.aes3_lock.specs.Following.{Follows, LockState}
@@ -26,7 +26,8 @@ length-front k octets h = length-cells_of_octets (take k octets) ∙ ap (λ n. 8
 
 split : (k : ℕ) (octets : List ℕ)
     → cells_of_octets octets ≡ cells_of_octets (take k octets) ++ cells_of_octets (drop k octets)
-split k octets = ap cells_of_octets (sym (take-append-drop k octets)) ∙ cells_of_octets-append (take k octets) (drop k octets)
+split k octets = ap cells_of_octets (sym (take-append-drop k octets))
+    ∙ cells_of_octets-append (take k octets) (drop k octets)
 
 pub take-octets : (k : ℕ) (octets : List ℕ) → k ≤ length octets
     → take (8 * k) (cells_of_octets octets) ≡ cells_of_octets (take k octets)

@@ -1,6 +1,6 @@
 -- Cells in octets.
 use Rattle.std.specs.Prelude.{ℕ, List, drop, take}
-use Rattle.aes3_cell.specs.declared.level.Level.{Level}
+use Rattle.aes3_level.specs.declared.level.Level.{Level}
 use Rattle.aes3_cell.specs.Packed.{cells_of_octets}
 
 -- `n` cells of octets from cell `first` on

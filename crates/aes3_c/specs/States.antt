@@ -2,10 +2,10 @@
 use Rattle.std.specs.Prelude.{ℕ, List, Bool, Option, Some, None, drop, map, false, ◌++◌, ◌≡◌, ◌==◌, nat_lt}
 use Rattle.std.specs.Prelude.{if◌then◌else◌}
 use Rattle.std.specs.Option.{ForSome}
-use Rattle.aes3_cell.specs.declared.level.Level.{Level}
-use Rattle.aes3_cell.specs.Words.{bit_of, level_of, low_cells, word_cells}
+use Rattle.aes3_level.specs.declared.level.Level.{Level}
+use Rattle.aes3_level.specs.Words.{bit_of, level_of, low_cells, word_cells}
 use Rattle.aes3_slot.specs.ReadWords.{read_words}
-use Rattle.aes3_block.specs.Files.{payload_of, word_of}
+use Rattle.aes3_frame.specs.Files.{payload_of, word_of}
 use Rattle.aes3_lock.specs.declared.candidate.Candidate.{Candidate}
 use Rattle.aes3_lock.specs.declared.report.Report.{Report}
 use Rattle.aes3_lock.specs.declared.report.Report.TheVariants.{Whole, Marked, Fault, Unfinished}

@@ -1,9 +1,9 @@
 //! The bits that the subframes of a block carry beside their audio: V, U and channel status.
 
 ghost use Rattle.std.specs.Prelude.{◌≡◌, ◌≢◌, ◌<◌, ◌≤◌, ℕ, true, false, get_or, map};
-ghost use Rattle.aes3_block.specs.Files.{is_lawful, payload_of};
-ghost use Rattle.aes3_block.specs.Statuses.{user_of, validity_of, with_status, with_user};
-ghost use Rattle.aes3_block.specs.Statuses.{with_validity};
+ghost use Rattle.aes3_frame.specs.Files.{is_lawful, payload_of};
+ghost use Rattle.aes3_frame.specs.Statuses.{user_of, validity_of, with_status, with_user};
+ghost use Rattle.aes3_frame.specs.Statuses.{with_validity};
 ghost use Rattle.aes3_c.specs.Codes.{channel_of};
 
 use crate::block::channel_of_number;
@@ -13,7 +13,7 @@ use aes3_block::Block;
 /// `i / 8` is the V bit of frame `i`. Answers 384, or the number of the first word that no
 /// block file may have; then no byte is put.
 #[unsafe(no_mangle)]
-#[tactic(auto, unfolding(aes3_block::specs::Blocks::block_slots))]
+#[tactic(auto, unfolding(aes3_frame::specs::Blocks::block_slots))]
 pub extern "C" fn aes3_block_validity(words: &[u32; 384], channel: u8, bits: &mut [u8; 24]) -> u32
     ensures bits { result ≡ 384 → bits.new
         ≡ validity_of (map payload_of words.now) (channel_of channel) }
@@ -35,7 +35,7 @@ pub extern "C" fn aes3_block_validity(words: &[u32; 384], channel: u8, bits: &mu
 /// `i / 8` is the U bit of frame `i`. Answers 384, or the number of the first word that no
 /// block file may have; then no byte is put.
 #[unsafe(no_mangle)]
-#[tactic(auto, unfolding(aes3_block::specs::Blocks::block_slots))]
+#[tactic(auto, unfolding(aes3_frame::specs::Blocks::block_slots))]
 pub extern "C" fn aes3_block_user(words: &[u32; 384], channel: u8, bits: &mut [u8; 24]) -> u32
     ensures bits { result ≡ 384 → bits.new
         ≡ user_of (map payload_of words.now) (channel_of channel) }
@@ -57,7 +57,7 @@ pub extern "C" fn aes3_block_user(words: &[u32; 384], channel: u8, bits: &mut [u
 /// parity bits that follow. Answers 384, or the number of the first word that no block file may
 /// have; then no word is changed.
 #[unsafe(no_mangle)]
-#[tactic(auto, unfolding(aes3_block::specs::Blocks::block_slots))]
+#[tactic(auto, unfolding(aes3_frame::specs::Blocks::block_slots))]
 pub extern "C" fn aes3_block_set_status(words: &mut [u32; 384], channel: u8, bits: &[u8; 24]) -> u32
     ensures set { result ≡ 384 → map payload_of words.new
         ≡ with_status (map payload_of words.old) (channel_of channel) bits.now }
@@ -82,7 +82,7 @@ pub extern "C" fn aes3_block_set_status(words: &mut [u32; 384], channel: u8, bit
 /// parity bits that follow. Answers 384, or the number of the first word that no block file may
 /// have; then no word is changed.
 #[unsafe(no_mangle)]
-#[tactic(auto, unfolding(aes3_block::specs::Blocks::block_slots))]
+#[tactic(auto, unfolding(aes3_frame::specs::Blocks::block_slots))]
 pub extern "C" fn aes3_block_set_validity(
     words: &mut [u32; 384],
     channel: u8,
@@ -111,7 +111,7 @@ pub extern "C" fn aes3_block_set_validity(
 /// parity bits that follow. Answers 384, or the number of the first word that no block file may
 /// have; then no word is changed.
 #[unsafe(no_mangle)]
-#[tactic(auto, unfolding(aes3_block::specs::Blocks::block_slots))]
+#[tactic(auto, unfolding(aes3_frame::specs::Blocks::block_slots))]
 pub extern "C" fn aes3_block_set_user(words: &mut [u32; 384], channel: u8, bits: &[u8; 24]) -> u32
     ensures set { result ≡ 384 → map payload_of words.new
         ≡ with_user (map payload_of words.old) (channel_of channel) bits.now }

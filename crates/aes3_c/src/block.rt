@@ -2,10 +2,10 @@
 
 ghost use Rattle.std.specs.Prelude.{◌≡◌, ◌≢◌, ◌<◌, ◌≤◌, ℕ, true, false, get_or, map};
 ghost use Rattle.std.specs.List.{flat_map};
-ghost use Rattle.aes3_cell.specs.Words.{level_of, word_cells};
-ghost use Rattle.aes3_block.specs.Blocks.{block_cells};
-ghost use Rattle.aes3_block.specs.Files.{is_lawful, payload_of};
-ghost use Rattle.aes3_block.specs.Statuses.{status_of};
+ghost use Rattle.aes3_level.specs.Words.{level_of, word_cells};
+ghost use Rattle.aes3_frame.specs.Blocks.{block_cells};
+ghost use Rattle.aes3_frame.specs.Files.{is_lawful, payload_of};
+ghost use Rattle.aes3_frame.specs.Statuses.{status_of};
 ghost use Rattle.aes3_c.specs.Codes.{channel_of};
 
 use crate::level::level_of_byte;
@@ -15,7 +15,7 @@ use aes3_block::{Block, Channel, fill_block_cells};
 /// word a subframe. Answers 384, or the number of the first word that no block file may have; then
 /// no cell is put.
 #[unsafe(no_mangle)]
-#[tactic(auto, unfolding(aes3_block::specs::Blocks::block_slots))]
+#[tactic(auto, unfolding(aes3_frame::specs::Blocks::block_slots))]
 pub extern "C" fn aes3_encode_block(words: &[u32; 384], before: u8, cells: &mut [u64; 384]) -> u32
     ensures cells { result ≡ 384 → flat_map word_cells cells.new
         ≡ block_cells (level_of before) (map payload_of words.now) }
@@ -47,7 +47,7 @@ pub(crate) fn channel_of_number(number: u8) -> Channel
 /// Puts the 24 bytes of a channel's status, of the block of these words, into `status`. Answers
 /// 384, or the number of the first word that no block file may have; then no byte is put.
 #[unsafe(no_mangle)]
-#[tactic(auto, unfolding(aes3_block::specs::Blocks::block_slots))]
+#[tactic(auto, unfolding(aes3_frame::specs::Blocks::block_slots))]
 pub extern "C" fn aes3_block_status(words: &[u32; 384], channel: u8, status: &mut [u8; 24]) -> u32
     ensures status { result ≡ 384 → status.new
         ≡ status_of (map payload_of words.now) (channel_of channel) }

@@ -1,7 +1,7 @@
 //! Words of 64 cells, and their written forms.
 
 ghost use Rattle.std.specs.Prelude.{◌≡◌, ◌<◌, ◌^◌, ℕ, true, false, map};
-ghost use Rattle.aes3_cell.specs.Words.{word_cells};
+ghost use Rattle.aes3_level.specs.Words.{word_cells};
 ghost use Rattle.aes3_cell.specs.Text.{byte_of, line_text};
 ghost use Rattle.aes3_cell.specs.Packed.{cells_of_octets, octets_of};
 

@@ -1,7 +1,7 @@
 //! Levels as bytes.
 
 ghost use Rattle.std.specs.Prelude.{◌≡◌};
-ghost use Rattle.aes3_cell.specs.Words.{bit_of, level_of};
+ghost use Rattle.aes3_level.specs.Words.{bit_of, level_of};
 
 use aes3_cell::Level;
 

@@ -3,11 +3,11 @@
 ghost use Rattle.std.specs.Prelude.{◌≡◌, ◌≢◌, ◌+◌, ◌<◌, ◌≤◌, ◌^◌, None, List, [], ◌++◌, length, take};
 ghost use Rattle.std.specs.Prelude.{◌*◌, ◌-◌, ◌/◌, get_or, map, min, option_map, option_to_list};
 ghost use Rattle.std.specs.List.{flat_map};
-ghost use Rattle.aes3_cell.specs.declared.level.Level.{Level};
-ghost use Rattle.aes3_cell.specs.Words.{low_cells, word_cells};
+ghost use Rattle.aes3_level.specs.declared.level.Level.{Level};
+ghost use Rattle.aes3_level.specs.Words.{low_cells, word_cells};
 ghost use Rattle.aes3_lock.specs.Reports.{decided, reports};
 ghost use Rattle.aes3_lock.specs.Following.{Follows, report_in};
-ghost use Rattle.aes3_block.specs.Files.{payload_of, word_of};
+ghost use Rattle.aes3_frame.specs.Files.{payload_of, word_of};
 ghost use Rattle.aes3_c.specs.States.{Coded, HasBlock, StopsAt, block_in, candidate_in, state_of};
 ghost use Rattle.aes3_c.specs.States.{told_in};
 

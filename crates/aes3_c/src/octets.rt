@@ -2,9 +2,9 @@
 
 ghost use Rattle.std.specs.Prelude.{◌≡◌, ◌≢◌, ◌+◌, ◌-◌, ◌*◌, ◌%◌, ◌<◌, ◌≤◌, ◌^◌, ◌++◌, ℕ, None};
 ghost use Rattle.std.specs.Prelude.{List, length, min, option_map, option_to_list, take};
-ghost use Rattle.aes3_cell.specs.declared.level.Level.{Level};
+ghost use Rattle.aes3_level.specs.declared.level.Level.{Level};
 ghost use Rattle.aes3_cell.specs.Packed.{cells_of_octets};
-ghost use Rattle.aes3_cell.specs.Words.{low_cells};
+ghost use Rattle.aes3_level.specs.Words.{low_cells};
 ghost use Rattle.aes3_lock.specs.Reports.{decided};
 ghost use Rattle.aes3_lock.specs.Following.{Follows, report_in};
 ghost use Rattle.aes3_c.specs.Octets.{cells_from};

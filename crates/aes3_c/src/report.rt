@@ -2,7 +2,7 @@
 
 ghost use Rattle.std.specs.Prelude.{◌≡◌, ◌<◌, ◌^◌, ℕ, Bool, List, get_or, map, option_map};
 ghost use Rattle.aes3_slot.specs.ReadWords.{read_words};
-ghost use Rattle.aes3_block.specs.Files.{payload_of, word_of};
+ghost use Rattle.aes3_frame.specs.Files.{payload_of, word_of};
 ghost use Rattle.aes3_lock.specs.Outcomes.{payloads_of};
 ghost use Rattle.aes3_lock.specs.Reports.{ending_report};
 ghost use Rattle.aes3_c.specs.Codes.{why_code, why_of_code};

@@ -1,4 +1,5 @@
--- One run of cells: where its last edge lies on the grid, and what the grid is behind it. `wide` is how far the longest cell passes the shortest, `wander` three times that.
+-- One run of cells: where its last edge lies on the grid, and what the grid is behind it. `wide` is how far the longest
+-- cell passes the shortest, `wander` three times that.
 use Rattle.std.proofs.Common.{ℕ, suc, ◌≡◌, ◌<◌, ◌≤◌, ◌+◌, ◌-◌, ◌*◌, ◌/◌, ◌⊎◌, ap, arith}
 use Rattle.std.proofs.Math.Nat.{mul-le-mul_left, mul-le-mul_right, lt_of_mul-lt-mul_right}
 
@@ -40,19 +41,24 @@ pub one-more : (given n period : ℕ) → given + 1 ≡ n → n * period ≡ giv
 one-more given n period e = rw (← e) (grind arith)
 
 -- its edge lies more than half a cell behind the place of the cell before and less than half a cell behind its own
-pub place-near : (low wander step cells run before displaced mean other : ℕ) → step ≤ cells + wander → cells ≤ step + wander
+pub place-near : (low wander step cells run before displaced mean other : ℕ) → step ≤ cells + wander
+    → cells ≤ step + wander
     → run + before ≡ step + displaced
-    → other + mean ≤ low + low / 2 + before + (31 * wander + 32) → low + low / 2 + before ≤ other + mean + (31 * wander + 32)
+    → other + mean ≤ low + low / 2 + before + (31 * wander + 32)
+    → low + low / 2 + before ≤ other + mean + (31 * wander + 32)
     → displaced < mean + (low / 2 - (32 * wander + 32)) → mean < displaced + (low / 2 - (32 * wander + 32))
     → (cells + low < run + other) × (run + other < cells + 2 * low)
-place-near low wander step cells run before displaced mean other above below placed most least ahead behind = (omega arith, omega arith)
+place-near low wander step cells run before displaced mean other above below placed most least ahead behind
+    = (omega arith, omega arith)
 
 -- a place on a grid against the next displacement
-pub place-moves : (wander step cells run before displaced mean place after middle slack : ℕ) → step ≤ cells + wander → cells ≤ step + wander
+pub place-moves : (wander step cells run before displaced mean place after middle slack : ℕ) → step ≤ cells + wander
+    → cells ≤ step + wander
     → run + before ≡ step + displaced → after + cells ≡ run + place
     → place + mean ≤ middle + before + slack → middle + before ≤ place + mean + slack
     → (after + mean ≤ middle + displaced + (slack + wander)) × (middle + displaced ≤ after + mean + (slack + wander))
-place-moves wander step cells run before displaced mean place after middle slack above below placed is most least = (omega arith, omega arith)
+place-moves wander step cells run before displaced mean place after middle slack above below placed is most least
+    = (omega arith, omega arith)
 
 -- a grid that goes a sixteenth of the way to an edge, and the mean that goes with it
 pub place-corrected : (wander displaced mean place middle : ℕ)
@@ -62,12 +68,16 @@ pub place-corrected : (wander displaced mean place middle : ℕ)
 place-corrected wander displaced mean place middle most least = (omega arith, omega arith)
 
 -- the edge before lies between one grid's bounds, as the next will
-pub other-near : (low wander step cells run before displaced mean place : ℕ) → step ≤ cells + wander → cells ≤ step + wander
+pub other-near : (low wander step cells run before displaced mean place : ℕ) → step ≤ cells + wander
+    → cells ≤ step + wander
     → run + before ≡ step + displaced → displaced < before + (low - wander) → before < displaced + (low - wander)
-    → place + mean ≤ low + low / 2 + before + (30 * wander + 32) → low + low / 2 + before ≤ place + mean + (30 * wander + 32)
-    → before ≤ mean + (low / 2 - (32 * wander + 32)) → mean ≤ before + (low / 2 - (32 * wander + 32)) → 32 * wander + 32 < low / 2
+    → place + mean ≤ low + low / 2 + before + (30 * wander + 32)
+    → low + low / 2 + before ≤ place + mean + (30 * wander + 32)
+    → before ≤ mean + (low / 2 - (32 * wander + 32)) → mean ≤ before + (low / 2 - (32 * wander + 32))
+    → 32 * wander + 32 < low / 2
     → (cells ≤ run + place) × (run + place ≤ cells + 3 * low)
-other-near low wander step cells run before displaced mean place above below placed ahead behind most least near_above near_below narrow = (omega arith, omega arith)
+other-near low wander step cells run before displaced mean place above below placed ahead behind most least near_above
+    near_below narrow = (omega arith, omega arith)
 
 -- a displacement is no further from the mean with it than from the one without
 pub mean-near : (mean displaced reach : ℕ) → displaced < mean + reach → mean < displaced + reach

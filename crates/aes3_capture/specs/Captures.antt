@@ -1,4 +1,5 @@
--- A capture of a line: how long the samples lay between one edge and the next, against the cells that the line has there. Each length is in parts of a sample, 65536 to one.
+-- A capture of a line: how long the samples lay between one edge and the next, against the cells that the line has
+-- there. Each length is in parts of a sample, 65536 to one.
 use Rattle.std.specs.Prelude.{ℕ, List, [], ◌∷◌, ◌≡◌, ◌<◌, ◌≤◌, ◌+◌, ◌-◌, ◌*◌, ◌/◌}
 use Rattle.aes3_capture.specs.declared.bounds.Bounds.{Bounds}
 
@@ -24,7 +25,9 @@ pub record IsBetween (first place spread : ℕ) : Type 0 where
   pub least : first ≤ place
   pub most : place ≤ first + spread
 
--- These samples lie between an edge displaced by `before` and the next, displaced by `displaced`, with one to three cells between their places, each as long as the bounds allow. Displacements count from a place before each edge, so that they are natural numbers.
+-- These samples lie between an edge displaced by `before` and the next, displaced by `displaced`, with one to three
+-- cells between their places, each as long as the bounds allow. Displacements count from a place before each edge, so
+-- that they are natural numbers.
 pub record IsPlaced (bounds : Bounds) (before cells run displaced : ℕ) : Type 0 where
   pub some : 1 ≤ cells
   pub few : cells ≤ 3
@@ -33,13 +36,15 @@ pub record IsPlaced (bounds : Bounds) (before cells run displaced : ℕ) : Type 
   pub shortest : cells * bounds.low ≤ step
   pub between : run + before ≡ step + displaced
 
--- The next edge is less than half a cell, less the margin, from the mean of those of its direction, and less than a cell, less the wander, from the edge before.
+-- The next edge is less than half a cell, less the margin, from the mean of those of its direction, and less than a
+-- cell, less the wander, from the edge before.
 pub record IsRun (bounds : Bounds) (mean before cells run displaced : ℕ) : Type 0 where
   pub placed : IsPlaced bounds before cells run displaced
   pub mean_near : IsCloser displaced mean (bounds.low / 2 - margin bounds)
   pub before_near : IsCloser displaced before (bounds.low - wander bounds)
 
--- These runs of samples are a capture of these runs of cells, from an edge displaced by `before` on. `same` and `other` are the means of the displacements of edges of its direction and of the other.
+-- These runs of samples are a capture of these runs of cells, from an edge displaced by `before` on. `same` and `other`
+-- are the means of the displacements of edges of its direction and of the other.
 abbrev pub Captures : Bounds → ℕ → ℕ → ℕ → List ℕ → List ℕ → Type 0
 Captures bounds same other before [] [] = Unit {0}
 Captures bounds same other before [] (run ∷ runs) = ⊥
@@ -48,19 +53,24 @@ Captures bounds same other before (n ∷ cells) (run ∷ runs) =
     (displaced : ℕ) × IsRun bounds other before n (65536 * run) displaced
     × Captures bounds (mean_with other displaced) same displaced cells runs
 
--- These runs of samples are a capture of these runs of cells, from an edge displaced by `before` on, in which no edge is displaced by more than `spread`, whatever form its displacements have.
+-- These runs of samples are a capture of these runs of cells, from an edge displaced by `before` on, in which no edge
+-- is displaced by more than `spread`, whatever form its displacements have.
 abbrev pub Spreads : Bounds → ℕ → ℕ → List ℕ → List ℕ → Type 0
 Spreads bounds spread before [] [] = before ≤ spread
 Spreads bounds spread before [] (run ∷ runs) = ⊥
 Spreads bounds spread before (n ∷ cells) [] = ⊥
 Spreads bounds spread before (n ∷ cells) (run ∷ runs) =
-    (displaced : ℕ) × (before ≤ spread) × IsPlaced bounds before n (65536 * run) displaced × Spreads bounds spread displaced cells runs
+    (displaced : ℕ) × (before ≤ spread) × IsPlaced bounds before n (65536 * run) displaced
+    × Spreads bounds spread displaced cells runs
 
--- These runs of samples are a capture of these runs of cells, from an edge displaced by `before` on. The displacements of edges of its direction are `late` at least and pass it by `spread` at most, those of the other direction likewise pass `later`. Where the falling edges are late as a whole, one of the two is by how much they are, and the other 0.
+-- These runs of samples are a capture of these runs of cells, from an edge displaced by `before` on. The displacements
+-- of edges of its direction are `late` at least and pass it by `spread` at most, those of the other direction likewise
+-- pass `later`. Where the falling edges are late as a whole, one of the two is by how much they are, and the other 0.
 abbrev pub SpreadsLate : Bounds → ℕ → ℕ → ℕ → ℕ → List ℕ → List ℕ → Type 0
 SpreadsLate bounds spread late later before [] [] = Unit {0}
 SpreadsLate bounds spread late later before [] (run ∷ runs) = ⊥
 SpreadsLate bounds spread late later before (n ∷ cells) [] = ⊥
 SpreadsLate bounds spread late later before (n ∷ cells) (run ∷ runs) =
-    (displaced : ℕ) × IsBetween late before spread × IsBetween later displaced spread × IsPlaced bounds before n (65536 * run) displaced
+    (displaced : ℕ) × IsBetween late before spread × IsBetween later displaced spread
+    × IsPlaced bounds before n (65536 * run) displaced
     × SpreadsLate bounds spread later late displaced cells runs

@@ -8,7 +8,8 @@ use Rattle.aes3_capture.specs.Captures.{IsRun, margin, mean_with, wander}
 abbrev pub middle_of : Bounds → ℕ
 middle_of bounds = bounds.low + bounds.low / 2
 
--- A follower at an edge, with this period: nothing has passed since, and the edge lies at these places on the grid of its direction and on the other.
+-- A follower at an edge, with this period: nothing has passed since, and the edge lies at these places on the grid of
+-- its direction and on the other.
 pub record Begins (follower : Follower) (bounds : Bounds) (period same other : ℕ) : Type 0 where
   pub bounds_is : follower.bounds ≡ bounds
   pub period_is : follower.period ≡ period
@@ -24,7 +25,9 @@ pub record Passed (old : Follower) (samples cells : ℕ) (new : Follower) : Type
   pub other_is : new.other ≡ old.other
   pub time : cells * old.period + new.elapsed ≡ old.elapsed + 65536 * samples
 
--- The place of an edge that comes now, on the grid of its direction, which was the other before it, and on the other one. One more cell ends at the edge where it lies a half of one or more behind the cells told; that cell's time is taken off.
+-- The place of an edge that comes now, on the grid of its direction, which was the other before it, and on the other
+-- one. One more cell ends at the edge where it lies a half of one or more behind the cells told; that cell's time is
+-- taken off.
 abbrev pub ends_cell : Follower → Bool
 ends_cell old = nat_le (old.period + old.bounds.low) (old.elapsed + old.other)
 
@@ -34,14 +37,16 @@ last_cell old = if ends_cell old then old.period else 0
 abbrev pub place_of : Follower → ℕ
 place_of old = old.elapsed + old.other - last_cell old
 
--- An edge: its direction's grid goes a sixteenth of the way to it, and the period goes with it by an 8192th, within its bounds.
+-- An edge: its direction's grid goes a sixteenth of the way to it, and the period goes with it by an 8192th, within its
+-- bounds.
 pub record Turned (old : Follower) (more : Bool) (new : Follower) : Type 0 where
   pub more_is : more ≡ ends_cell old
   pub bounds_is : new.bounds ≡ old.bounds
   pub elapsed_is : new.elapsed ≡ 0
   pub same_is : new.same ≡ place_of old - place_of old / 16 + middle_of old.bounds / 16
   pub other_is : new.other ≡ min (old.elapsed + old.same - last_cell old) (3 * old.bounds.low)
-  pub period_is : new.period ≡ min (max (old.period + place_of old / 8192 - middle_of old.bounds / 8192) old.bounds.low) old.bounds.high
+  pub period_is : new.period
+      ≡ min (max (old.period + place_of old / 8192 - middle_of old.bounds / 8192) old.bounds.low) old.bounds.high
 
 -- A follower counts so many cells of so many samples and the edge behind them.
 pub record Counted (old : Follower) (samples cells : ℕ) (new : Follower) : Type 0 where
@@ -57,18 +62,22 @@ abbrev pub CountedAll : Follower → List ℕ → List ℕ → Follower → Type
 CountedAll old [] [] new = new ≡ old
 CountedAll old [] (n ∷ cells) new = ⊥
 CountedAll old (run ∷ runs) [] new = ⊥
-CountedAll old (run ∷ runs) (n ∷ cells) new = (next : Follower) × Counted old run n next × CountedAll next runs cells new
+CountedAll old (run ∷ runs) (n ∷ cells) new
+    = (next : Follower) × Counted old run n next × CountedAll next runs cells new
 
 -- two places lie at most this apart
 pub record IsWithin (a b most : ℕ) : Type 0 where
   pub below : a ≤ b + most
   pub above : b ≤ a + most
 
--- The latest edge of the line was displaced by `displaced`; `run` has passed since, of which `given` cells are told. `same` and `other` are the means of the displacements of edges of its direction and of the other.
+-- The latest edge of the line was displaced by `displaced`; `run` has passed since, of which `given` cells are told.
+-- `same` and `other` are the means of the displacements of edges of its direction and of the other.
 pub record Follows (follower : Follower) (same other displaced run given : ℕ) : Type 0 where
   pub passed : given * follower.period + follower.elapsed ≡ run
-  pub same_place : IsWithin (follower.same + same) (middle_of follower.bounds + displaced) (30 * wander follower.bounds + 32)
-  pub other_place : IsWithin (follower.other + other) (middle_of follower.bounds + displaced) (31 * wander follower.bounds + 32)
+  pub same_place : IsWithin (follower.same + same) (middle_of follower.bounds + displaced)
+      (30 * wander follower.bounds + 32)
+  pub other_place : IsWithin (follower.other + other) (middle_of follower.bounds + displaced)
+      (31 * wander follower.bounds + 32)
   pub mean_near : IsWithin displaced same (follower.bounds.low / 2 - margin follower.bounds)
 
 -- whatever line it follows, samples that pass are told as cells, and the line is still followed
@@ -82,7 +91,8 @@ Ends old more new = (same other before run given cells displaced : ℕ) → Foll
     → IsRun old.bounds other before cells run displaced
     → (given + (if more then 1 else 0) ≡ cells) × Follows new (mean_with other displaced) same displaced 0 0
 
--- whatever line it follows, an edge behind samples ends the cells that the line has between it and the edge before, and the line is followed from this edge on
+-- whatever line it follows, an edge behind samples ends the cells that the line has between it and the edge before, and
+-- the line is followed from this edge on
 abbrev pub Counts : Follower → ℕ → ℕ → Follower → Type 0
 Counts old samples result new = (same other before cells displaced : ℕ) → Follows old same other before 0 0
     → IsRun old.bounds other before cells (65536 * samples) displaced

@@ -1,5 +1,27 @@
 -- Growth of an end's bytes.
-use Rattle.std.proofs.Common.{◌≡◌, ℕ, ◌+◌, ◌-◌, List, [], ◌++◌, length, take, drop, replicate, Option, Some, sym, ap, ap₂, ◌∙◌, append_assoc, append-nil, refl, arith}
+use Rattle.std.proofs.Common.{
+  ◌≡◌,
+  ℕ,
+  ◌+◌,
+  ◌-◌,
+  List,
+  [],
+  ◌++◌,
+  length,
+  take,
+  drop,
+  replicate,
+  Option,
+  Some,
+  sym,
+  ap,
+  ap₂,
+  ◌∙◌,
+  append_assoc,
+  append-nil,
+  refl,
+  arith,
+}
 use Rattle.std.proofs.lemmas.List.{take_at, append_cancel_left, length-replicate, replicate-append-replicate}
 use Rattle.std.proofs.Math.Seq.{take-add}
 use Rattle.aes3_cell.specs.Ends.{Grew, GrewFront, Told}
@@ -20,10 +42,22 @@ pub front-all : {a b : Option (List ℕ)} {x : List ℕ} → Grew a b x → Grew
 front-all {x} g = record { part = x; rest = []; is = append-nil x; grew = g }
 
 pub front-join : {a b d : Option (List ℕ)} {x y : List ℕ} → Grew a b x → GrewFront b d y → GrewFront a d (x ++ y)
-front-join {x} g h = record { part = x ++ h.part; rest = h.rest; is = append_assoc x h.part h.rest ∙ ap (λ z. x ++ z) h.is; grew = grew-join g h.grew }
+front-join {x} g h = record {
+  part = x ++ h.part;
+  rest = h.rest;
+  is
+      = append_assoc x h.part h.rest ∙ ap (λ z. x ++ z) h.is;
+  grew = grew-join g h.grew;
+}
 
 pub front-more : {a b : Option (List ℕ)} {x : List ℕ} → GrewFront a b x → (y : List ℕ) → GrewFront a b (x ++ y)
-front-more g y = record { part = g.part; rest = g.rest ++ y; is = sym (append_assoc g.part g.rest y) ∙ ap (λ z. z ++ y) g.is; grew = g.grew }
+front-more g y = record {
+  part = g.part;
+  rest = g.rest ++ y;
+  is
+      = sym (append_assoc g.part g.rest y) ∙ ap (λ z. z ++ y) g.is;
+  grew = g.grew;
+}
 
 pub front-is : {a b : Option (List ℕ)} {x y : List ℕ} → x ≡ y → GrewFront a b x → GrewFront a b y
 front-is e g = record { part = g.part; rest = g.rest; is = g.is ∙ e; grew = g.grew }
@@ -40,7 +74,8 @@ grew-take l at n s more e h = record {
 }
 
 -- a source of one byte again and again
-pub grew-replicate : (k n m x : ℕ) (s more : List ℕ) → s ≡ replicate n x → m ≡ k + n → Grew (Some (replicate k x)) (Some (replicate m x)) (take n (s ++ more))
+pub grew-replicate : (k n m x : ℕ) (s more : List ℕ) → s ≡ replicate n x → m ≡ k + n
+    → Grew (Some (replicate k x)) (Some (replicate m x)) (take n (s ++ more))
 grew-replicate k n m x s more e h = record {
   by = λ xs q.
       let before : replicate k x ≡ xs = cc in
@@ -49,7 +84,8 @@ grew-replicate k n m x s more e h = record {
 }
 
 -- one more write
-pub grew-write : {a b d : Option (List ℕ)} (l : List ℕ) (at n : ℕ) (s : List ℕ) → s ≡ drop at l → Grew a b (take at l) → Grew b d (take n s) → Grew a d (take (at + n) l)
+pub grew-write : {a b d : Option (List ℕ)} (l : List ℕ) (at n : ℕ) (s : List ℕ) → s ≡ drop at l → Grew a b (take at l)
+    → Grew b d (take n s) → Grew a d (take (at + n) l)
 grew-write l at n s e g h = grew-is (ap (λ z. take at l ++ take n z) e ∙ sym (take-add at n l)) (grew-join g h)
 
 -- the bytes that an end tells are those that it gave

@@ -1,5 +1,40 @@
 -- Cells kept from among others, four at a time, and numbers that hold cells.
-use Rattle.std.proofs.Common.{◌≡◌, ℕ, zero, suc, ◌+◌, ◌-◌, ◌*◌, ◌/◌, ◌%◌, ◌^◌, ◌<◌, ◌≤◌, List, [], ◌∷◌, ◌++◌, Bool, true, ◌&&◌, length, get_or, eqb, refl, sym, ap, ap₂, subst, ◌∙◌, arith, lit<, replicate, w64, append_assoc, length-append}
+use Rattle.std.proofs.Common.{
+  ◌≡◌,
+  ℕ,
+  zero,
+  suc,
+  ◌+◌,
+  ◌-◌,
+  ◌*◌,
+  ◌/◌,
+  ◌%◌,
+  ◌^◌,
+  ◌<◌,
+  ◌≤◌,
+  List,
+  [],
+  ◌∷◌,
+  ◌++◌,
+  Bool,
+  true,
+  ◌&&◌,
+  length,
+  get_or,
+  eqb,
+  refl,
+  sym,
+  ap,
+  ap₂,
+  subst,
+  ◌∙◌,
+  arith,
+  lit<,
+  replicate,
+  w64,
+  append_assoc,
+  length-append,
+}
 use Rattle.std.specs.Prelude.{bit_and, bit_or}
 use Rattle.std.specs.Int.{byte_at, to_le_bytes}
 use Rattle.std.specs.Simd.Lanes.{zip2}
@@ -10,13 +45,13 @@ use Rattle.std.proofs.lemmas.Nat.{and_mask, or_shifted, or_lt, shl_below, shr-sh
 use Rattle.std.proofs.lemmas.Nat.Bits.{bit_at_cat_low, bit_at_cat_high}
 use Rattle.std.proofs.Math.Nat.{pow-succ'}
 use Rattle.std.proofs.Math.Pow.{pow_mono}
-use Rattle.aes3_cell.specs.declared.level.Level.{Level}
+use Rattle.aes3_level.specs.declared.level.Level.{Level}
 use Rattle.aes3_cell.specs.declared.scattered.TheConstants.{TOGETHER, COUNTS}
-use Rattle.aes3_cell.specs.Words.{bit_of, low_cells}
+use Rattle.aes3_level.specs.Words.{bit_of, low_cells}
 use Rattle.aes3_cell.specs.Scattered.{cell_if, kept_cells, Holds}
-use Rattle.aes3_cell.proofs.WordCells.{low_cells-add, low_cells-same}
+use Rattle.aes3_level.proofs.WordCells.{low_cells-add, low_cells-same}
 use Rattle.aes3_cell.proofs.Octets.{bit_of-lt, level_of-bit_of, lowest-cell, mod-suc}
-use Rattle.aes3_cell.proofs.Moves.{bit_at-shr}
+use Rattle.aes3_level.proofs.Moves.{bit_at-shr}
 
 -- how many cells are kept
 length-cell_if : (b c : ℕ) → b < 2 → length (cell_if b c) ≡ b
@@ -57,8 +92,10 @@ kept-add (suc m) n k l =
     let b : 1 + m ≡ suc m = omega arith in
     ap (λ v. kept_cells v k l) a
     ∙ ap (λ c. cell_if (k % 2) (l % 2) ++ c) (kept-add m n (k / 2) (l / 2)
-    ∙ ap₂ (λ u v. kept_cells m (k / 2) (l / 2) ++ kept_cells n u v) (shr-shr k 1 m ∙ ap (λ v. k / 2 ^ v) b) (shr-shr l 1 m ∙ ap (λ v. l / 2 ^ v) b))
-    ∙ sym (append_assoc (cell_if (k % 2) (l % 2)) (kept_cells m (k / 2) (l / 2)) (kept_cells n (k / 2 ^ suc m) (l / 2 ^ suc m)))
+    ∙ ap₂ (λ u v. kept_cells m (k / 2) (l / 2) ++ kept_cells n u v) (shr-shr k 1 m ∙ ap (λ v. k / 2 ^ v) b)
+    (shr-shr l 1 m ∙ ap (λ v. l / 2 ^ v) b))
+    ∙ sym (append_assoc (cell_if (k % 2) (l % 2)) (kept_cells m (k / 2) (l / 2))
+    (kept_cells n (k / 2 ^ suc m) (l / 2 ^ suc m)))
 
 kept-low : (n k l : ℕ) → kept_cells n (k % 2 ^ n) (l % 2 ^ n) ≡ kept_cells n k l
 unfolding kept_cells
@@ -74,7 +111,8 @@ kept-low (suc n) k l =
 
 -- four places and those behind them, by the place p in the tables
 pub fours : (k l n s t p : ℕ) → t ≡ s + 4 → p ≡ k / 2 ^ s % 16 + 16 * (l / 2 ^ s % 16)
-    → kept_cells 4 (p % 16) (p / 16) ++ kept_cells n (k / 2 ^ t) (l / 2 ^ t) ≡ kept_cells (4 + n) (k / 2 ^ s) (l / 2 ^ s)
+    → kept_cells 4 (p % 16) (p / 16) ++ kept_cells n (k / 2 ^ t) (l / 2 ^ t)
+    ≡ kept_cells (4 + n) (k / 2 ^ s) (l / 2 ^ s)
 fours k l n s t p e f =
     let a : p % 16 ≡ k / 2 ^ s % 16 = omega arith in
     let b : p / 16 ≡ l / 2 ^ s % 16 = omega arith in
@@ -90,7 +128,8 @@ place-at a b =
     ap₂ bit_or (and_mask a 4) s ∙ o ∙ omega arith
 
 pub places-at : (k l i : ℕ) → i < 8
-    → get_or (zip2 bit_or (zip2 bit_and (to_le_bytes w64 k) (replicate 8 15)) (zip2 (λ a b. a * 2 ^ b % 2 ^ 8) (to_le_bytes w64 l) (replicate 8 4))) i 0
+    → get_or (zip2 bit_or (zip2 bit_and (to_le_bytes w64 k) (replicate 8 15))
+    (zip2 (λ a b. a * 2 ^ b % 2 ^ 8) (to_le_bytes w64 l) (replicate 8 4))) i 0
     ≡ k / 2 ^ (8 * i) % 16 + 16 * (l / 2 ^ (8 * i) % 16)
 places-at k l zero h = place-at (byte_at 0 k) (byte_at 0 l) ∙ omega arith
 places-at k l (suc zero) h = place-at (byte_at 1 k) (byte_at 1 l) ∙ omega arith
@@ -103,11 +142,13 @@ places-at k l (suc (suc (suc (suc (suc (suc (suc zero))))))) h = place-at (byte_
 places-at k l (suc (suc (suc (suc (suc (suc (suc (suc i)))))))) h = absurd (omega arith)
 
 -- all 64
-pub all-kept : (k l i w : ℕ) → i ≡ 8 → Holds (kept_cells (8 * i) (k / 2 ^ (64 - 8 * i)) (l / 2 ^ (64 - 8 * i))) w → Holds (kept_cells 64 k l) w
+pub all-kept : (k l i w : ℕ) → i ≡ 8 → Holds (kept_cells (8 * i) (k / 2 ^ (64 - 8 * i)) (l / 2 ^ (64 - 8 * i))) w
+    → Holds (kept_cells 64 k l) w
 all-kept k l i w e h =
     let a : k / 1 ≡ k = omega arith in
     let b : l / 1 ≡ l = omega arith in
-    subst (λ c. Holds c w) (ap₂ (kept_cells 64) a b) (subst (λ n. Holds (kept_cells (8 * n) (k / 2 ^ (64 - 8 * n)) (l / 2 ^ (64 - 8 * n))) w) e h)
+    subst (λ c. Holds c w) (ap₂ (kept_cells 64) a b)
+    (subst (λ n. Holds (kept_cells (8 * n) (k / 2 ^ (64 - 8 * n)) (l / 2 ^ (64 - 8 * n))) w) e h)
 
 -- the number of cells
 abbrev number_of : List Level → ℕ
@@ -122,13 +163,15 @@ holds-number (level ∷ c) =
     let o = r.bound in
     let p = pow-succ' 2 (length c) in
     record {
-      cells_of = lowest-cell (length c) (2 * number_of c + bit_of level) (number_of c) (bit_of level) b refl ∙ ap₂ ◌∷◌ (level_of-bit_of level) r.cells_of;
+      cells_of = lowest-cell (length c) (2 * number_of c + bit_of level) (number_of c) (bit_of level) b refl
+          ∙ ap₂ ◌∷◌ (level_of-bit_of level) r.cells_of;
       bound = omega arith;
     }
 
 -- the tables
 abbrev is_four : ℕ → Bool
-is_four p = eqb (get_or TOGETHER p 0) (number_of (kept_cells 4 (p % 16) (p / 16))) && eqb (get_or COUNTS p 0) (length (kept_cells 4 (p % 16) (p / 16)))
+is_four p = eqb (get_or TOGETHER p 0) (number_of (kept_cells 4 (p % 16) (p / 16))) && eqb (get_or COUNTS p 0)
+    (length (kept_cells 4 (p % 16) (p / 16)))
 
 pub record Four (p : ℕ) : Type 0 where
   pub holds : Holds (kept_cells 4 (p % 16) (p / 16)) (get_or TOGETHER p 0)
@@ -139,7 +182,8 @@ unfolding kept_cells
 four p h =
     let q = and_parts _ _ (agree_below_at is_four (λ _. true) 256 p refl h) in
     record {
-      holds = subst (Holds (kept_cells 4 (p % 16) (p / 16))) (sym (eqb-true (get_or TOGETHER p 0) _ q.0)) (holds-number (kept_cells 4 (p % 16) (p / 16)));
+      holds = subst (Holds (kept_cells 4 (p % 16) (p / 16))) (sym (eqb-true (get_or TOGETHER p 0) _ q.0))
+          (holds-number (kept_cells 4 (p % 16) (p / 16)));
       count = eqb-true (get_or COUNTS p 0) _ q.1;
     }
 
@@ -149,18 +193,21 @@ module _ (a b : List Level) (v w : ℕ) (h : Holds a v) (k : Holds b w) where
   shifted-lt = shl_below w (length b) (length a) k.bound
 
   front-same : low_cells (length a) (w * 2 ^ length a + v) ≡ a
-  front-same = low_cells-same (length a) (w * 2 ^ length a + v) v (λ i g. bit_at_cat_low w (length a) v i g) ∙ h.cells_of
+  front-same = low_cells-same (length a) (w * 2 ^ length a + v) v (λ i g. bit_at_cat_low w (length a) v i g)
+      ∙ h.cells_of
 
   back-same : low_cells (length b) ((w * 2 ^ length a + v) / 2 ^ length a) ≡ b
   back-same =
       low_cells-same (length b) ((w * 2 ^ length a + v) / 2 ^ length a) w
-      (λ i g. bit_at-shr (w * 2 ^ length a + v) (length a) i ∙ bit_at_cat_high w (length a) v (length a + i) h.bound (omega arith)
+      (λ i g. bit_at-shr (w * 2 ^ length a + v) (length a) i
+      ∙ bit_at_cat_high w (length a) v (length a + i) h.bound (omega arith)
       ∙ ap (λ n. w / 2 ^ n % 2) (let e : length a + i - length a ≡ i = omega arith in e))
       ∙ k.cells_of
 
   holds-join : Holds (a ++ b) (w * 2 ^ length a + v)
   holds-join = record {
-    cells_of = ap (λ n. low_cells n (w * 2 ^ length a + v)) (length-append a b) ∙ low_cells-add (length a) (length b) (w * 2 ^ length a + v) ∙ ap₂ ◌++◌ front-same back-same;
+    cells_of = ap (λ n. low_cells n (w * 2 ^ length a + v)) (length-append a b)
+        ∙ low_cells-add (length a) (length b) (w * 2 ^ length a + v) ∙ ap₂ ◌++◌ front-same back-same;
     bound = subst (λ n. w * 2 ^ length a + v < 2 ^ n) (sym (length-append a b)) below;
   }
     where
@@ -169,14 +216,18 @@ module _ (a b : List Level) (v w : ℕ) (h : Holds a v) (k : Holds b w) where
 
       below : w * 2 ^ length a + v < 2 ^ (length a + length b)
       below = subst (λ n. n < 2 ^ (length a + length b)) (or_shifted w (length a) v h.bound)
-          (or_lt (length a + length b) (w * 2 ^ length a) v (subst (λ n. w * 2 ^ length a < 2 ^ n) (let e : length b + length a ≡ length a + length b = omega arith in e) shifted-lt) wider)
+          (or_lt (length a + length b) (w * 2 ^ length a) v
+          (subst (λ n. w * 2 ^ length a < 2 ^ n)
+          (let e : length b + length a ≡ length a + length b = omega arith in e) shifted-lt) wider)
 
   whole-shift : length a + length b ≤ 64 → w * 2 ^ length a % 2 ^ 64 ≡ w * 2 ^ length a
   whole-shift s = let o = shifted-lt in let m = pow_mono {i = length b + length a} {j = 64} (omega arith) in omega arith
 
   pub holds-behind : (n : ℕ) → n ≡ length a → length a + length b ≤ 64 → Holds (a ++ b) (bit_or (w * 2 ^ n % 2 ^ 64) v)
   holds-behind n e s =
-      subst (Holds (a ++ b)) (sym (ap (λ j. bit_or (w * 2 ^ j % 2 ^ 64) v) e ∙ ap (λ x. bit_or x v) (whole-shift s) ∙ or_shifted w (length a) v h.bound)) holds-join
+      subst (Holds (a ++ b)) (sym
+      (ap (λ j. bit_or (w * 2 ^ j % 2 ^ 64) v) e ∙ ap (λ x. bit_or x v) (whole-shift s)
+      ∙ or_shifted w (length a) v h.bound)) holds-join
 
 -- the cells of a word and their number
 pub cells-held : {c : List Level} {w : ℕ} (n : ℕ) → n ≡ length c → Holds c w → low_cells n w ≡ c

@@ -1,10 +1,7 @@
 pub mod Growing
 pub mod Writing
 pub mod Buffering
-pub mod WordCells
-pub mod Moves
 pub mod Lines
-pub mod Runs
 pub mod CellTexts
 pub mod LineSteps
 pub mod Octets

@@ -1,10 +1,40 @@
 -- One more cell behind cells that are written, as text or packed.
-use Rattle.std.proofs.Common.{◌≡◌, ℕ, suc, ◌+◌, ◌*◌, ◌/◌, ◌<◌, List, [], ◌∷◌, ◌++◌, cond, length, take, drop, refl, sym, ap, ap₂, ◌∙◌, arith, append_assoc, append-nil, length-append, length-drop, eq-eqb, ne_eqb, inl, inr}
+use Rattle.std.proofs.Common.{
+  ◌≡◌,
+  ℕ,
+  suc,
+  ◌+◌,
+  ◌*◌,
+  ◌/◌,
+  ◌<◌,
+  List,
+  [],
+  ◌∷◌,
+  ◌++◌,
+  cond,
+  length,
+  take,
+  drop,
+  refl,
+  sym,
+  ap,
+  ap₂,
+  ◌∙◌,
+  arith,
+  append_assoc,
+  append-nil,
+  length-append,
+  length-drop,
+  eq-eqb,
+  ne_eqb,
+  inl,
+  inr,
+}
 use Rattle.std.proofs.lemmas.Bool.{cases_eq}
 use Rattle.std.proofs.lemmas.List.{take-append-drop, length-take-le, drop_all}
 use Rattle.std.proofs.Math.Seq.{drop-append-add}
-use Rattle.aes3_cell.specs.declared.level.Level.{Level}
-use Rattle.aes3_cell.specs.Words.{word_len}
+use Rattle.aes3_level.specs.declared.level.Level.{Level}
+use Rattle.aes3_level.specs.Words.{word_len}
 use Rattle.aes3_cell.specs.Text.{line_text, lines_text, text_of}
 use Rattle.aes3_cell.specs.Pending.{begun_cells, text_added, begun_after}
 use Rattle.aes3_cell.proofs.Lines.{text_of-append, text_of-line}
@@ -16,7 +46,8 @@ pub record Begun (n : ℕ) (whole begun c : List Level) : Type 0 where
   pub few : length begun < word_len
   pub begun_is : begun_cells c ≡ begun
 
-pub begun-of : (c : List Level) → Begun (length c / word_len) (take (word_len * (length c / word_len)) c) (begun_cells c) c
+pub begun-of : (c : List Level)
+    → Begun (length c / word_len) (take (word_len * (length c / word_len)) c) (begun_cells c) c
 unfolding begun_cells word_len
 begun-of c = record {
   is = sym (take-append-drop (64 * (length c / 64)) c);
@@ -53,10 +84,13 @@ begun_cells-more c l =
     let a = take (word_len * n) c in
     let d = begun_cells c in
     let x = length-append d (l ∷ []) in
-    ap (λ v. begun_cells (v ++ l ∷ [])) b.is ∙ ap begun_cells (append_assoc a d (l ∷ [])) ∙ begun_cells-append n a (d ++ l ∷ []) b.lines
+    ap (λ v. begun_cells (v ++ l ∷ [])) b.is ∙ ap begun_cells (append_assoc a d (l ∷ []))
+    ∙ begun_cells-append n a (d ++ l ∷ []) b.lines
     ∙ elim (cases_eq (suc (length d)) word_len) [
-      | inl e ↦ begun_cells-line (d ++ l ∷ []) (omega arith) ∙ ap (λ t. cond t [] (d ++ l ∷ [])) (sym (eq-eqb (suc (length d)) word_len e))
-      | inr e ↦ begun_cells-few (d ++ l ∷ []) (let f = b.few in omega arith) ∙ ap (λ t. cond {A = List Level} t [] (d ++ l ∷ [])) (sym (ne_eqb (suc (length d)) word_len e))
+      | inl e ↦ begun_cells-line (d ++ l ∷ []) (omega arith)
+          ∙ ap (λ t. cond t [] (d ++ l ∷ [])) (sym (eq-eqb (suc (length d)) word_len e))
+      | inr e ↦ begun_cells-few (d ++ l ∷ []) (let f = b.few in omega arith)
+          ∙ ap (λ t. cond {A = List Level} t [] (d ++ l ∷ [])) (sym (ne_eqb (suc (length d)) word_len e))
     ]
 
 text_of-few : (c : List Level) → length c < word_len → text_of c ≡ []
@@ -70,14 +104,18 @@ text_of-more c l =
     let a = take (word_len * n) c in
     let d = begun_cells c in
     let whole : text_of c ≡ text_of a =
-    ap text_of b.is ∙ text_of-append n a d b.lines ∙ ap (λ t. text_of a ++ t) (text_of-few d b.few) ∙ append-nil (text_of a) in
-    ap (λ v. text_of (v ++ l ∷ [])) b.is ∙ ap text_of (append_assoc a d (l ∷ [])) ∙ text_of-append n a (d ++ l ∷ []) b.lines
+    ap text_of b.is ∙ text_of-append n a d b.lines ∙ ap (λ t. text_of a ++ t) (text_of-few d b.few)
+    ∙ append-nil (text_of a) in
+    ap (λ v. text_of (v ++ l ∷ [])) b.is ∙ ap text_of (append_assoc a d (l ∷ []))
+    ∙ text_of-append n a (d ++ l ∷ []) b.lines
     ∙ ap₂ ◌++◌ (sym whole) (last d b.few)
   where
     last : (d : List Level) → length d < word_len → text_of (d ++ l ∷ []) ≡ text_added d l
     last d f =
         let x = length-append d (l ∷ []) in
         elim (cases_eq (suc (length d)) word_len) [
-          | inl e ↦ text_of-line (d ++ l ∷ []) (omega arith) ∙ ap (λ t. cond t (line_text (d ++ l ∷ [])) []) (sym (eq-eqb (suc (length d)) word_len e))
-          | inr e ↦ text_of-few (d ++ l ∷ []) (omega arith) ∙ ap (λ t. cond t (line_text (d ++ l ∷ [])) []) (sym (ne_eqb (suc (length d)) word_len e))
+          | inl e ↦ text_of-line (d ++ l ∷ []) (omega arith)
+              ∙ ap (λ t. cond t (line_text (d ++ l ∷ [])) []) (sym (eq-eqb (suc (length d)) word_len e))
+          | inr e ↦ text_of-few (d ++ l ∷ []) (omega arith)
+              ∙ ap (λ t. cond t (line_text (d ++ l ∷ [])) []) (sym (ne_eqb (suc (length d)) word_len e))
         ]

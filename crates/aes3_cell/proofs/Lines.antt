@@ -1,8 +1,49 @@
 -- Lines of cell text.
-use Rattle.std.proofs.Common.{◌≡◌, ℕ, zero, suc, ◌+◌, ◌*◌, ◌/◌, ◌%◌, ◌^◌, ◌<◌, ◌≤◌, List, [], ◌∷◌, ◌++◌, length, take, drop, map, refl, sym, ap, ap₂, ◌∙◌, arith, cond, eqb, replicate, eq-eqb, ne_eqb, append_assoc, append-nil, length-append, take-append-drop, subst, true, w64, length-drop, zero-add, suc-add}
+use Rattle.std.proofs.Common.{
+  ◌≡◌,
+  ℕ,
+  zero,
+  suc,
+  ◌+◌,
+  ◌*◌,
+  ◌/◌,
+  ◌%◌,
+  ◌^◌,
+  ◌<◌,
+  ◌≤◌,
+  List,
+  [],
+  ◌∷◌,
+  ◌++◌,
+  length,
+  take,
+  drop,
+  map,
+  refl,
+  sym,
+  ap,
+  ap₂,
+  ◌∙◌,
+  arith,
+  cond,
+  eqb,
+  replicate,
+  eq-eqb,
+  ne_eqb,
+  append_assoc,
+  append-nil,
+  length-append,
+  take-append-drop,
+  subst,
+  true,
+  w64,
+  length-drop,
+  zero-add,
+  suc-add,
+}
 use Rattle.std.proofs.lemmas.List.{map-append, take_all, take-append-le, drop-append-le, nil_from_length}
-use Rattle.aes3_cell.specs.declared.level.Level.{Level}
-use Rattle.aes3_cell.specs.Words.{level_of, low_cells, word_len, word_cells}
+use Rattle.aes3_level.specs.declared.level.Level.{Level}
+use Rattle.aes3_level.specs.Words.{level_of, low_cells, word_len, word_cells}
 use Rattle.aes3_cell.specs.Text.{byte_of, line_text, lines_text, text_of}
 use Rattle.aes3_cell.specs.Pending.{text_added, begun_after}
 use Rattle.std.specs.Prelude.{bit_and}
@@ -11,12 +52,8 @@ use Rattle.std.specs.List.{flat_map}
 use Rattle.std.specs.Simd.Lanes.{zip2, pick_l, sel_l, top}
 use Rattle.std.proofs.lemmas.Bool.{agree_below_at}
 use Rattle.std.proofs.lemmas.Nat.{shr-shr}
-use Rattle.aes3_cell.proofs.Moves.{same_places, same_places-is}
-use Rattle.aes3_cell.proofs.WordCells.{low_cells-add, low_cells-mod, length-low_cells}
-
-pub word_len_64 : word_len ≡ 64
-unfolding word_len
-word_len_64 = refl
+use Rattle.aes3_level.proofs.Moves.{same_places, same_places-is}
+use Rattle.aes3_level.proofs.WordCells.{word_len_64, low_cells-add, low_cells-mod, length-low_cells}
 
 -- which of its bits an octet has for cell 0, cell 1, and so on
 abbrev places : List ℕ
@@ -25,7 +62,8 @@ places = 1 ∷ 2 ∷ 4 ∷ 8 ∷ 16 ∷ 32 ∷ 64 ∷ 128 ∷ []
 -- the characters of an octet, by computation over all
 unfoldable pub characters : ℕ → List ℕ
 characters octet =
-    sel_l (map (top 7) (zip2 (λ a b. cond (eqb a b) 255 0) (zip2 bit_and (replicate 8 octet) places) places)) (replicate 8 49) (replicate 8 48)
+    sel_l (map (top 7) (zip2 (λ a b. cond (eqb a b) 255 0) (zip2 bit_and (replicate 8 octet) places) places))
+    (replicate 8 49) (replicate 8 48)
 
 pub eight-characters : (octet : ℕ) → octet < 256 → characters octet ≡ map byte_of (low_cells 8 octet)
 unfolding characters
@@ -43,20 +81,24 @@ all_places = flat_map {X = ℕ} (λ _. places) (0 ∷ 1 ∷ 2 ∷ 3 ∷ 4 ∷ 5 
 -- the characters of eight octets, all at once
 abbrev pub lanes_text : List ℕ → List ℕ
 lanes_text octets =
-    sel_l (map (top 7) (zip2 (λ a b. cond (eqb a b) 255 0) (zip2 bit_and (pick_l 0 (octets ++ octets) octet_numbers) all_places) all_places))
+    sel_l (map (top 7) (zip2 (λ a b. cond (eqb a b) 255 0)
+    (zip2 bit_and (pick_l 0 (octets ++ octets) octet_numbers) all_places) all_places))
     (replicate 64 49) (replicate 64 48)
 
 eight-octets : (a b c d e f g h : ℕ) → lanes_text (a ∷ b ∷ c ∷ d ∷ e ∷ f ∷ g ∷ h ∷ [])
-    ≡ characters a ++ (characters b ++ (characters c ++ (characters d ++ (characters e ++ (characters f ++ (characters g ++ (characters h ++ [])))))))
+    ≡ characters a ++ (characters b
+    ++ (characters c ++ (characters d ++ (characters e ++ (characters f ++ (characters g ++ (characters h ++ [])))))))
 unfolding characters
 eight-octets a b c d e f g h = refl
 
 -- the characters of an octet of a word and those behind it
-octet-text : (w n m octet : ℕ) (behind : List ℕ) → octet ≡ w / 2 ^ n % 256 → behind ≡ map byte_of (low_cells m (w / 2 ^ (n + 8)))
+octet-text : (w n m octet : ℕ) (behind : List ℕ) → octet ≡ w / 2 ^ n % 256
+    → behind ≡ map byte_of (low_cells m (w / 2 ^ (n + 8)))
     → characters octet ++ behind ≡ map byte_of (low_cells (8 + m) (w / 2 ^ n))
 octet-text w n m octet behind o e =
     ap₂ (λ a b. a ++ b)
-    (eight-characters octet (omega (arith, o)) ∙ ap (λ v. map byte_of (low_cells 8 v)) o ∙ ap (map byte_of) (low_cells-mod (w / 2 ^ n)))
+    (eight-characters octet (omega (arith, o)) ∙ ap (λ v. map byte_of (low_cells 8 v)) o
+    ∙ ap (map byte_of) (low_cells-mod (w / 2 ^ n)))
     (e ∙ ap (λ v. map byte_of (low_cells m v)) (sym (shr-shr w n 8)))
     ∙ sym (map-append byte_of (low_cells 8 (w / 2 ^ n)) (low_cells m (w / 2 ^ n / 2 ^ 8)))
     ∙ ap (map byte_of) (sym (low_cells-add 8 m (w / 2 ^ n)))
@@ -75,26 +117,32 @@ word-text w =
     (octet-text w 56 0 (byte_at 7 w) [] (omega arith) refl)))))))
     ∙ ap (λ v. map byte_of (low_cells 64 v)) (let e : w / 2 ^ 0 ≡ w = omega arith in e)
 
-pub line-whole : (line : List ℕ) (w k : ℕ) → k ≡ 8 → take (8 * k) line ≡ map byte_of (low_cells (8 * k) w) → drop 64 line ≡ 10 ∷ [] → line ≡ line_text (word_cells w)
+pub line-whole : (line : List ℕ) (w k : ℕ) → k ≡ 8 → take (8 * k) line ≡ map byte_of (low_cells (8 * k) w)
+    → drop 64 line ≡ 10 ∷ [] → line ≡ line_text (word_cells w)
 unfolding word_cells word_len
 line-whole line w k e front back =
     let j : 8 * k ≡ 64 = omega (arith, e) in
-    sym (take-append-drop 64 line) ∙ ap₂ (λ a b. a ++ b) (subst (λ n. take n line ≡ map byte_of (low_cells n w)) j front) back
+    sym (take-append-drop 64 line)
+    ∙ ap₂ (λ a b. a ++ b) (subst (λ n. take n line ≡ map byte_of (low_cells n w)) j front) back
 
 -- a cell put behind the cells begun, which are those of a number
 pub put-short : (p : List Level) (n w : ℕ) (l : Level) → low_cells n w ≡ p → n + 1 < 64 → text_added p l ≡ []
 put-short p n w l e h =
     let i : length p ≡ n = ap length (sym e) ∙ length-low_cells n w in
-    ap (λ b. cond b (line_text (p ++ l ∷ [])) []) (ne_eqb (suc (length p)) word_len (λ y. let k = word_len_64 in omega arith))
+    ap (λ b. cond b (line_text (p ++ l ∷ [])) [])
+    (ne_eqb (suc (length p)) word_len (λ y. let k = word_len_64 in omega arith))
 
-pub put-begun : (p : List Level) (n w : ℕ) (l : Level) → low_cells n w ≡ p → n + 1 < 64 → begun_after p l ≡ low_cells n w ++ l ∷ []
+pub put-begun : (p : List Level) (n w : ℕ) (l : Level) → low_cells n w ≡ p → n + 1 < 64
+    → begun_after p l ≡ low_cells n w ++ l ∷ []
 put-begun p n w l e h =
     let i : length p ≡ n = ap length (sym e) ∙ length-low_cells n w in
-    ap (λ b. cond {A = List Level} b [] (p ++ l ∷ [])) (ne_eqb (suc (length p)) word_len (λ y. let k = word_len_64 in omega arith))
+    ap (λ b. cond {A = List Level} b [] (p ++ l ∷ []))
+    (ne_eqb (suc (length p)) word_len (λ y. let k = word_len_64 in omega arith))
     ∙ ap (λ c. c ++ l ∷ []) (sym e)
 
 -- the cell that ends a line
-pub put-full : (p : List Level) (n w v : ℕ) (l : Level) → low_cells n w ≡ p → n + 1 ≡ 64 → low_cells (n + 1) v ≡ low_cells n w ++ l ∷ []
+pub put-full : (p : List Level) (n w v : ℕ) (l : Level) → low_cells n w ≡ p → n + 1 ≡ 64
+    → low_cells (n + 1) v ≡ low_cells n w ++ l ∷ []
     → line_text (word_cells v) ≡ text_added p l
 unfolding word_cells word_len
 put-full p n w v l e h q =
@@ -105,7 +153,8 @@ put-full p n w v l e h q =
 pub put-done : (p : List Level) (n w : ℕ) (l : Level) → low_cells n w ≡ p → n + 1 ≡ 64 → begun_after p l ≡ []
 put-done p n w l e h =
     let i : length p ≡ n = ap length (sym e) ∙ length-low_cells n w in
-    ap (λ b. cond {A = List Level} b [] (p ++ l ∷ [])) (eq-eqb (suc (length p)) word_len (let k = word_len_64 in omega arith))
+    ap (λ b. cond {A = List Level} b [] (p ++ l ∷ []))
+    (eq-eqb (suc (length p)) word_len (let k = word_len_64 in omega arith))
 
 -- the character of a bit
 pub level-byte : (b : ℕ) → b < 2 → 48 + b ≡ byte_of (level_of b)
@@ -114,8 +163,10 @@ level-byte (suc zero) h = refl
 level-byte (suc (suc b)) h = absurd (omega arith)
 
 -- the text of whole lines, joined
-lines-append : (n m : ℕ) (a b : List Level) → length a ≡ n * word_len → lines_text (n + m) (a ++ b) ≡ lines_text n a ++ lines_text m b
-lines-append zero m a b h = ap₂ (λ k c. lines_text k c) (zero-add m) (ap (λ c. c ++ b) (nil_from_length a (omega arith)))
+lines-append : (n m : ℕ) (a b : List Level) → length a ≡ n * word_len
+    → lines_text (n + m) (a ++ b) ≡ lines_text n a ++ lines_text m b
+lines-append zero m a b h = ap₂ (λ k c. lines_text k c) (zero-add m)
+    (ap (λ c. c ++ b) (nil_from_length a (omega arith)))
 lines-append (suc n) m a b h =
     let w = word_len_64 in
     let le : word_len ≤ length a = omega arith in

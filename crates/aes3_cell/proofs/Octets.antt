@@ -1,14 +1,42 @@
 -- One octet and its eight cells.
-use Rattle.std.proofs.Common.{◌≡◌, ℕ, zero, suc, ◌+◌, ◌-◌, ◌*◌, ◌/◌, ◌%◌, ◌^◌, ◌<◌, List, [], ◌∷◌, ◌++◌, length, take, get_or, replicate, reverse, refl, sym, ap, ap₂, ◌∙◌, arith, add-one}
+use Rattle.std.proofs.Common.{
+  ◌≡◌,
+  ℕ,
+  zero,
+  suc,
+  ◌+◌,
+  ◌-◌,
+  ◌*◌,
+  ◌/◌,
+  ◌%◌,
+  ◌^◌,
+  ◌<◌,
+  List,
+  [],
+  ◌∷◌,
+  ◌++◌,
+  length,
+  take,
+  get_or,
+  replicate,
+  reverse,
+  refl,
+  sym,
+  ap,
+  ap₂,
+  ◌∙◌,
+  arith,
+  add-one,
+}
 use Rattle.std.specs.Int.{bit_at}
 use Rattle.std.proofs.lemmas.List.{length-reverse, reverse-append, replicate_more, get_or-reverse}
 use Rattle.std.proofs.lemmas.Nat.{mod-pow-add}
 use Rattle.std.proofs.Math.Nat.{pow-succ'}
-use Rattle.aes3_cell.specs.declared.level.Level.{Level}
-use Rattle.aes3_cell.specs.declared.level.Level.TheVariants.{Low, High}
-use Rattle.aes3_cell.specs.Words.{level_of, bit_of, low_cells}
+use Rattle.aes3_level.specs.declared.level.Level.{Level}
+use Rattle.aes3_level.specs.declared.level.Level.TheVariants.{Low, High}
+use Rattle.aes3_level.specs.Words.{level_of, bit_of, low_cells}
 use Rattle.aes3_cell.specs.Packed.{octet_cells, weight, octet_of}
-use Rattle.aes3_cell.proofs.WordCells.{length-low_cells, low_cells-add, low_cells-at}
+use Rattle.aes3_level.proofs.WordCells.{length-low_cells, low_cells-add, low_cells-at}
 
 pub bit_of-lt : (level : Level) → bit_of level < 2
 bit_of-lt Low = omega arith
@@ -38,7 +66,8 @@ reverse-more xs x = reverse-append xs (x ∷ [])
 pub reverse-replicate : {X : Type 0} (n : ℕ) (x : X) → reverse (replicate n x) ≡ replicate n x
 reverse-replicate zero x = refl
 reverse-replicate (suc n) x =
-    reverse-cons x (replicate n x) ∙ ap (λ c. c ++ x ∷ []) (reverse-replicate n x) ∙ replicate_more n x ∙ ap (λ k. replicate k x) (add-one n)
+    reverse-cons x (replicate n x) ∙ ap (λ c. c ++ x ∷ []) (reverse-replicate n x) ∙ replicate_more n x
+    ∙ ap (λ k. replicate k x) (add-one n)
 
 -- one more of the lowest bits
 pub mod-suc : (w n : ℕ) → w % 2 ^ suc n ≡ (w / 2 % 2 ^ n) * 2 + w % 2
@@ -74,12 +103,14 @@ octet_cells-at x i h =
     ∙ ap (λ n. get_or (low_cells 8 x) (n - 1 - i) Low) (length-low_cells 8 x)
     ∙ low_cells-at 8 x (7 - i) (omega arith)
 
-pub octet_cells-unused : (x n : ℕ) → n < 8 → x % 2 ^ n ≡ 0 → octet_cells x ≡ reverse (low_cells (8 - n) (x / 2 ^ n)) ++ replicate n Low
+pub octet_cells-unused : (x n : ℕ) → n < 8 → x % 2 ^ n ≡ 0
+    → octet_cells x ≡ reverse (low_cells (8 - n) (x / 2 ^ n)) ++ replicate n Low
 octet_cells-unused x n h e =
     ap (λ k. reverse (low_cells k x)) (let q : 8 ≡ n + (8 - n) = omega arith in q)
     ∙ ap reverse (low_cells-add n (8 - n) x)
     ∙ reverse-append (low_cells n x) (low_cells (8 - n) (x / 2 ^ n))
-    ∙ ap (λ c. reverse (low_cells (8 - n) (x / 2 ^ n)) ++ c) (ap reverse (low_cells-Low n x e) ∙ reverse-replicate n Low)
+    ∙ ap (λ c. reverse (low_cells (8 - n) (x / 2 ^ n)) ++ c)
+    (ap reverse (low_cells-Low n x e) ∙ reverse-replicate n Low)
 
 -- weights
 weight-none : (c : List Level) → weight 0 c ≡ 0
@@ -140,7 +171,8 @@ octet_cells-octet_of (a ∷ b ∷ c ∷ d ∷ e ∷ f ∷ g ∷ i ∷ []) h =
         ∙ ap (λ t. level_of c ∷ t) (lowest-cell 1 _ a b hb (omega arith)
         ∙ ap (λ t. level_of b ∷ t) (lowest-cell 0 _ 0 a ha (omega arith))))))))
 
-    levels : level_of (bit_of a) ∷ level_of (bit_of b) ∷ level_of (bit_of c) ∷ level_of (bit_of d) ∷ level_of (bit_of e) ∷ level_of (bit_of f) ∷ level_of (bit_of g) ∷ level_of (bit_of i) ∷ []
+    levels : level_of (bit_of a) ∷ level_of (bit_of b) ∷ level_of (bit_of c) ∷ level_of (bit_of d) ∷ level_of (bit_of e)
+        ∷ level_of (bit_of f) ∷ level_of (bit_of g) ∷ level_of (bit_of i) ∷ []
         ≡ a ∷ b ∷ c ∷ d ∷ e ∷ f ∷ g ∷ i ∷ []
     levels = simp level_of-bit_of
 octet_cells-octet_of _ h = absurd (omega arith)

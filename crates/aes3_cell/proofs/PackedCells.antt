@@ -1,14 +1,91 @@
 -- Packed cells: octets of cells, and which octets pack cells.
-use Rattle.std.proofs.Common.{◌≡◌, ℕ, zero, suc, ◌+◌, ◌-◌, ◌*◌, ◌/◌, ◌%◌, ◌^◌, ◌<◌, ◌≤◌, List, [], ◌∷◌, ◌++◌, true, length, take, drop, get_or, replicate, reverse, refl, sym, ap, ap₂, ◌∙◌, subst, arith, append_assoc, append-nil, length-append, length-drop, eqb-true, eq-eqb, lt-ltb, ltb-true, nat_lt, ◌==◌}
+use Rattle.std.proofs.Common.{
+  ◌≡◌,
+  ℕ,
+  zero,
+  suc,
+  ◌+◌,
+  ◌-◌,
+  ◌*◌,
+  ◌/◌,
+  ◌%◌,
+  ◌^◌,
+  ◌<◌,
+  ◌≤◌,
+  List,
+  [],
+  ◌∷◌,
+  ◌++◌,
+  true,
+  length,
+  take,
+  drop,
+  get_or,
+  replicate,
+  reverse,
+  refl,
+  sym,
+  ap,
+  ap₂,
+  ◌∙◌,
+  subst,
+  arith,
+  append_assoc,
+  append-nil,
+  length-append,
+  length-drop,
+  eqb-true,
+  eq-eqb,
+  lt-ltb,
+  ltb-true,
+  nat_lt,
+  ◌==◌,
+}
 use Rattle.std.proofs.lemmas.Bool.{and_parts, and_from}
 use Rattle.std.proofs.lemmas.Grind.{flat_map-append}
-use Rattle.std.proofs.lemmas.List.{take_at, drop_at, length-replicate, length-take-le, reverse-append, reverse-reverse, take-append-drop, take-append-le, drop-append-le, drop-replicate, nil_from_length}
-use Rattle.aes3_cell.specs.declared.level.Level.{Level}
-use Rattle.aes3_cell.specs.declared.level.Level.TheVariants.{Low}
-use Rattle.aes3_cell.specs.Words.{low_cells}
-use Rattle.aes3_cell.specs.Packed.{octet_cells, cells_of_octets, Packs, is_padded, ends_packed, is_packed, last_place, last_octet, cells_of_packed, octet_of, first_octets, octets_of, packed_of}
-use Rattle.aes3_cell.proofs.WordCells.{length-low_cells, low_cells-add}
-use Rattle.aes3_cell.proofs.Octets.{reverse-more, reverse-replicate, low_bits-zero, length-octet_cells, octet_cells-unused, weight-fill, weight-take, octet_of-octet_cells, octet_cells-octet_of}
+use Rattle.std.proofs.lemmas.List.{
+  take_at,
+  drop_at,
+  length-replicate,
+  length-take-le,
+  reverse-append,
+  reverse-reverse,
+  take-append-drop,
+  take-append-le,
+  drop-append-le,
+  drop-replicate,
+  nil_from_length,
+}
+use Rattle.aes3_level.specs.declared.level.Level.{Level}
+use Rattle.aes3_level.specs.declared.level.Level.TheVariants.{Low}
+use Rattle.aes3_level.specs.Words.{low_cells}
+use Rattle.aes3_cell.specs.Packed.{
+  octet_cells,
+  cells_of_octets,
+  Packs,
+  is_padded,
+  ends_packed,
+  is_packed,
+  last_place,
+  last_octet,
+  cells_of_packed,
+  octet_of,
+  first_octets,
+  octets_of,
+  packed_of,
+}
+use Rattle.aes3_level.proofs.WordCells.{length-low_cells, low_cells-add}
+use Rattle.aes3_cell.proofs.Octets.{
+  reverse-more,
+  reverse-replicate,
+  low_bits-zero,
+  length-octet_cells,
+  octet_cells-unused,
+  weight-fill,
+  weight-take,
+  octet_of-octet_cells,
+  octet_cells-octet_of,
+}
 
 -- the cells of octets joined
 pub cells_of_octets-append : (a b : List ℕ) → cells_of_octets (a ++ b) ≡ cells_of_octets a ++ cells_of_octets b
@@ -41,17 +118,20 @@ first_octets-fill zero c k = refl
 first_octets-fill (suc n) c k =
     let d = drop-fill 8 c k in
     ap₂ (λ x xs. x ∷ xs)
-    (weight-take 8 128 (c ++ replicate k Low) (omega arith) ∙ weight-fill 128 c k ∙ sym (weight-take 8 128 c (omega arith)))
+    (weight-take 8 128 (c ++ replicate k Low) (omega arith) ∙ weight-fill 128 c k
+    ∙ sym (weight-take 8 128 c (omega arith)))
     (ap (first_octets n) d.1 ∙ first_octets-fill n (drop 8 c) d.0)
 
 cells_of_octets-whole : (n : ℕ) (c : List Level) → length c ≡ 8 * n → cells_of_octets (first_octets n c) ≡ c
 cells_of_octets-whole zero c h = sym (nil_from_length c (omega arith))
 cells_of_octets-whole (suc n) c h =
     let d = length-drop 8 c in
-    ap₂ ◌++◌ (octet_cells-octet_of (take 8 c) (length-take-le 8 c (omega arith))) (cells_of_octets-whole n (drop 8 c) (omega arith))
+    ap₂ ◌++◌ (octet_cells-octet_of (take 8 c) (length-take-le 8 c (omega arith)))
+    (cells_of_octets-whole n (drop 8 c) (omega arith))
     ∙ take-append-drop 8 c
 
-pub cells_of_octets-first_octets : (n : ℕ) (c : List Level) → length c ≤ 8 * n → cells_of_octets (first_octets n c) ≡ c ++ replicate (8 * n - length c) Low
+pub cells_of_octets-first_octets : (n : ℕ) (c : List Level) → length c ≤ 8 * n
+    → cells_of_octets (first_octets n c) ≡ c ++ replicate (8 * n - length c) Low
 cells_of_octets-first_octets n c h =
     let k = 8 * n - length c in
     let l = length-append c (replicate k Low) in
@@ -59,26 +139,33 @@ cells_of_octets-first_octets n c h =
     ap cells_of_octets (sym (first_octets-fill n c k)) ∙ cells_of_octets-whole n (c ++ replicate k Low) (omega arith)
 
 -- the octets of the cells of octets
-pub first_octets-cells_of_octets : (n : ℕ) (xs : List ℕ) → length xs ≡ n → ((i : ℕ) → i < length xs → get_or xs i 0 < 256) → first_octets n (cells_of_octets xs) ≡ xs
+pub first_octets-cells_of_octets : (n : ℕ) (xs : List ℕ) → length xs ≡ n
+    → ((i : ℕ) → i < length xs → get_or xs i 0 < 256) → first_octets n (cells_of_octets xs) ≡ xs
 first_octets-cells_of_octets zero xs h b = sym (nil_from_length xs h)
 first_octets-cells_of_octets (suc n) [] h b = absurd (omega arith)
 first_octets-cells_of_octets (suc n) (x ∷ xs) h b =
     ap₂ (λ y ys. y ∷ ys)
-    (ap octet_of (take_at (octet_cells x) (cells_of_octets xs) 8 (length-octet_cells x)) ∙ octet_of-octet_cells x (b 0 (omega arith)))
-    (ap (first_octets n) (drop_at (octet_cells x) (cells_of_octets xs) 8 (length-octet_cells x)) ∙ first_octets-cells_of_octets n xs (omega arith) (λ i l. b (suc i) (omega arith)))
+    (ap octet_of (take_at (octet_cells x) (cells_of_octets xs) 8 (length-octet_cells x))
+    ∙ octet_of-octet_cells x (b 0 (omega arith)))
+    (ap (first_octets n) (drop_at (octet_cells x) (cells_of_octets xs) 8 (length-octet_cells x))
+    ∙ first_octets-cells_of_octets n xs (omega arith) (λ i l. b (suc i) (omega arith)))
 
-pub first_octets-append : (n m : ℕ) (a b : List Level) → length a ≡ 8 * n → first_octets (n + m) (a ++ b) ≡ first_octets n a ++ first_octets m b
-first_octets-append zero m a b h = ap₂ first_octets (let e : 0 + m ≡ m = omega arith in e) (ap (λ c. c ++ b) (nil_from_length a (omega arith)))
+pub first_octets-append : (n m : ℕ) (a b : List Level) → length a ≡ 8 * n
+    → first_octets (n + m) (a ++ b) ≡ first_octets n a ++ first_octets m b
+first_octets-append zero m a b h
+    = ap₂ first_octets (let e : 0 + m ≡ m = omega arith in e) (ap (λ c. c ++ b) (nil_from_length a (omega arith)))
 first_octets-append (suc n) m a b h =
     let d = length-drop 8 a in
     ap (λ k. first_octets k (a ++ b)) (let e : suc n + m ≡ suc (n + m) = omega arith in e)
     ∙ ap₂ (λ c cs. octet_of c ∷ cs) (take-append-le 8 a b (omega arith))
-    (ap (first_octets (n + m)) (drop-append-le 8 a b (omega arith)) ∙ first_octets-append n m (drop 8 a) b (omega arith))
+    (ap (first_octets (n + m)) (drop-append-le 8 a b (omega arith))
+    ∙ first_octets-append n m (drop 8 a) b (omega arith))
 
 pub take-first_octets : (n m : ℕ) (c : List Level) → n ≤ m → take n (first_octets m c) ≡ first_octets n c
 take-first_octets zero m c h = refl
 take-first_octets (suc n) zero c h = absurd (omega arith)
-take-first_octets (suc n) (suc m) c h = ap (λ t. octet_of (take 8 c) ∷ t) (take-first_octets n m (drop 8 c) (omega arith))
+take-first_octets (suc n) (suc m) c h
+    = ap (λ t. octet_of (take 8 c) ∷ t) (take-first_octets n m (drop 8 c) (omega arith))
 
 -- what is written packs the cells
 pub packed_of-packs : (c : List Level) → Packs (packed_of c) c
@@ -112,7 +199,8 @@ take-front {front} {n} e = ap₂ take (last_place-is e) e.is ∙ take_at front (
 
 -- a padded octet ends in Low cells, and the other way round
 pub padded-from : (octet last : ℕ) → last < 8 → octet % 2 ^ last ≡ 0 → is_padded octet last ≡ true
-padded-from octet last h e = and_from (nat_lt last 8) ((octet % 2 ^ last) == 0) (lt-ltb last 8 h) (eq-eqb (octet % 2 ^ last) 0 e)
+padded-from octet last h e = and_from (nat_lt last 8) ((octet % 2 ^ last) == 0) (lt-ltb last 8 h)
+    (eq-eqb (octet % 2 ^ last) 0 e)
 
 pub padded-parts : (octet last : ℕ) → is_padded octet last ≡ true → (last < 8) × (octet % 2 ^ last ≡ 0)
 padded-parts octet last e =
@@ -131,20 +219,24 @@ cells-packs b c p =
     let r = length-replicate p.unused Low in
     let f = ap length p.filled in
     let k : 8 * last_place b - last_octet b ≡ length c = omega arith in
-    ap₂ (λ n xs. take n (cells_of_octets xs)) k (take-front e) ∙ ap (take (length c)) p.filled ∙ take_at c (replicate p.unused Low) (length c) refl
+    ap₂ (λ n xs. take n (cells_of_octets xs)) k (take-front e) ∙ ap (take (length c)) p.filled
+    ∙ take_at c (replicate p.unused Low) (length c) refl
 
 -- the last octet of a packed front ends in the unused cells
-unused-Low : (more : List ℕ) (x n : ℕ) (c : List Level) → n < 8 → cells_of_octets (more ++ x ∷ []) ≡ c ++ replicate n Low → x % 2 ^ n ≡ 0
+unused-Low : (more : List ℕ) (x n : ℕ) (c : List Level) → n < 8
+    → cells_of_octets (more ++ x ∷ []) ≡ c ++ replicate n Low → x % 2 ^ n ≡ 0
 unused-Low more x n c h e =
     let back : low_cells 8 x ++ reverse (cells_of_octets more) ≡ replicate n Low ++ reverse c =
     ap (λ v. v ++ reverse (cells_of_octets more)) (sym (reverse-reverse (low_cells 8 x)))
     ∙ sym (reverse-append (cells_of_octets more) (octet_cells x))
-    ∙ ap reverse (ap (λ v. cells_of_octets more ++ v) (sym (cells_of_octets-one x)) ∙ sym (cells_of_octets-append more (x ∷ [])) ∙ e)
+    ∙ ap reverse (ap (λ v. cells_of_octets more ++ v) (sym (cells_of_octets-one x))
+    ∙ sym (cells_of_octets-append more (x ∷ [])) ∙ e)
     ∙ reverse-append c (replicate n Low) ∙ ap (λ v. v ++ reverse c) (reverse-replicate n Low) in
     let split : low_cells 8 x ≡ low_cells n x ++ low_cells (8 - n) (x / 2 ^ n) =
     ap (λ k. low_cells k x) (let q : 8 ≡ n + (8 - n) = omega arith in q) ∙ low_cells-add n (8 - n) x in
     let front : low_cells n x ≡ replicate n Low =
-    sym (take_at (low_cells n x) (low_cells (8 - n) (x / 2 ^ n) ++ reverse (cells_of_octets more)) n (length-low_cells n x))
+    sym (take_at (low_cells n x) (low_cells (8 - n) (x / 2 ^ n) ++ reverse (cells_of_octets more)) n
+    (length-low_cells n x))
     ∙ ap (take n) (sym (append_assoc (low_cells n x) (low_cells (8 - n) (x / 2 ^ n)) (reverse (cells_of_octets more)))
     ∙ ap (λ v. v ++ reverse (cells_of_octets more)) (sym split) ∙ back)
     ∙ take_at (replicate n Low) (reverse c) n (length-replicate n Low) in
@@ -165,7 +257,8 @@ is_packed-packs b c p =
         eq-eqb p.unused 0 (omega (arith, ap length f))
     go (x ∷ back) e =
         let q = last-reverse p.front x back e in
-        padded-from x p.unused p.few (unused-Low (reverse back) x p.unused c p.few (ap cells_of_octets (sym q.is) ∙ p.filled))
+        padded-from x p.unused p.few
+        (unused-Low (reverse back) x p.unused c p.few (ap cells_of_octets (sym q.is) ∙ p.filled))
 
 -- octets that pass the test pack some cells
 packs-some : (b : List ℕ) → is_packed b ≡ true → (c : List Level) × Packs b c
@@ -176,8 +269,17 @@ packs-some b = go (reverse b) refl
     go [] e h = absurd cc
     go (n ∷ []) e h =
         let zero_is : n ≡ 0 = eqb-true n 0 h in
-        let q = last-reverse b n [] e in
-        ([], record { front = []; unused = 0; last = q.is ∙ ap (λ k. k ∷ []) zero_is; few = omega arith; filled = refl })
+        let q = last-reverse b n [] e in (
+          [],
+          record {
+            front = [];
+            unused = 0;
+            last = q.is ∙ ap (λ k. k ∷ []) zero_is;
+            few = omega arith;
+            filled
+                = refl;
+          },
+        )
     go (n ∷ x ∷ back) e h =
         let q = last-reverse b n (x ∷ back) e in
         let p = padded-parts x n h in

@@ -1,16 +1,92 @@
 -- Packed cells read octet by octet.
-use Rattle.std.proofs.Common.{◌≡◌, ℕ, zero, suc, ◌+◌, ◌-◌, ◌*◌, ◌<◌, ◌≤◌, ◌↔◌, List, [], ◌∷◌, ◌++◌, Bool, true, false, cond, Option, Some, None, Result, Ok, Err, IsOk, is_ok, length, take, get_or, reverse, refl, sym, ap, ap₂, ◌∙◌, arith, append_assoc, append-nil, length-append, lt-ltb, le-ltb, ◌==◌}
+use Rattle.std.proofs.Common.{
+  ◌≡◌,
+  ℕ,
+  zero,
+  suc,
+  ◌+◌,
+  ◌-◌,
+  ◌*◌,
+  ◌<◌,
+  ◌≤◌,
+  ◌↔◌,
+  List,
+  [],
+  ◌∷◌,
+  ◌++◌,
+  Bool,
+  true,
+  false,
+  cond,
+  Option,
+  Some,
+  None,
+  Result,
+  Ok,
+  Err,
+  IsOk,
+  is_ok,
+  length,
+  take,
+  get_or,
+  reverse,
+  refl,
+  sym,
+  ap,
+  ap₂,
+  ◌∙◌,
+  arith,
+  append_assoc,
+  append-nil,
+  length-append,
+  lt-ltb,
+  le-ltb,
+  ◌==◌,
+}
 use Rattle.std.proofs.lemmas.List.{take_at, take_all, length-reverse, reverse-append, reverse-reverse}
 use Rattle.std.proofs.Math.Seq.{take-append-add}
-use Rattle.aes3_cell.specs.declared.level.Level.{Level}
+use Rattle.aes3_level.specs.declared.level.Level.{Level}
 use Rattle.aes3_cell.specs.declared.refusal.BadPadding.{BadPadding}
-use Rattle.aes3_cell.specs.Packed.{octet_cells, cells_of_octets, IsPacked, is_padded, ends_packed, is_packed, last_place, last_octet, cells_of_packed, whole_cells}
-use Rattle.aes3_cell.specs.PackedReading.{PackedReader, packed_reader_of, packed_answer, packed_next, end_answer, packed_end, answer_cells, end_cells}
+use Rattle.aes3_cell.specs.Packed.{
+  octet_cells,
+  cells_of_octets,
+  IsPacked,
+  is_padded,
+  ends_packed,
+  is_packed,
+  last_place,
+  last_octet,
+  cells_of_packed,
+  whole_cells,
+}
+use Rattle.aes3_cell.specs.PackedReading.{
+  PackedReader,
+  packed_reader_of,
+  packed_answer,
+  packed_next,
+  end_answer,
+  packed_end,
+  answer_cells,
+  end_cells,
+}
 use Rattle.aes3_cell.proofs.Octets.{reverse-more}
-use Rattle.aes3_cell.proofs.PackedCells.{LastOctet, cells_of_octets-append, cells_of_octets-one, length-cells_of_octets, last_octet-is, last_place-is, take-front, is_packed-packs, packs-is_packed, last-reverse, padded-parts}
+use Rattle.aes3_cell.proofs.PackedCells.{
+  LastOctet,
+  cells_of_octets-append,
+  cells_of_octets-one,
+  length-cells_of_octets,
+  last_octet-is,
+  last_place-is,
+  take-front,
+  is_packed-packs,
+  packs-is_packed,
+  last-reverse,
+  padded-parts,
+}
 
 pub reader-is : {a a' c c' d d' : ℕ} → a ≡ a' → c ≡ c' → d ≡ d'
-    → ◌≡◌ {A = PackedReader} (record { seen = a; before_last = c; last = d }) (record { seen = a'; before_last = c'; last = d' })
+    → ◌≡◌ {A = PackedReader} (record { seen = a; before_last = c; last = d })
+    (record { seen = a'; before_last = c'; last = d' })
 reader-is e f g = rw (e, f, g) refl
 
 -- the reader behind one more octet
@@ -24,7 +100,8 @@ packed_reader-more b x =
 pub record LastTwo (b front : List ℕ) (octet last : ℕ) : Type 0 where
   pub is : b ≡ front ++ octet ∷ last ∷ []
 
-pub last_two : (b : List ℕ) (last octet : ℕ) (more : List ℕ) → reverse b ≡ last ∷ octet ∷ more → LastTwo b (reverse more) octet last
+pub last_two : (b : List ℕ) (last octet : ℕ) (more : List ℕ) → reverse b ≡ last ∷ octet ∷ more
+    → LastTwo b (reverse more) octet last
 last_two b last octet more e = record {
   is = sym (reverse-reverse b) ∙ ap reverse e ∙ reverse-append (last ∷ octet ∷ []) more;
 }
@@ -42,7 +119,8 @@ unfolding whole_cells
 whole-few b h = let n : length b - 2 ≡ 0 = omega arith in ap (λ k. cells_of_octets (take k b)) n
 
 -- the cells of all octets but the last two grow by those of the answer
-pub whole_cells-more : (b : List ℕ) (x : ℕ) → whole_cells (b ++ x ∷ []) ≡ whole_cells b ++ answer_cells (packed_answer (packed_reader_of b))
+pub whole_cells-more : (b : List ℕ) (x : ℕ)
+    → whole_cells (b ++ x ∷ []) ≡ whole_cells b ++ answer_cells (packed_answer (packed_reader_of b))
 unfolding packed_reader_of
 whole_cells-more b x = go (reverse b) refl
   where
@@ -53,9 +131,11 @@ whole_cells-more b x = go (reverse b) refl
     few h =
         let m = l in
         whole-few (b ++ x ∷ []) (omega arith) ∙ sym (whole-few b (omega arith)) ∙ sym (append-nil (whole_cells b))
-        ∙ ap (λ p. whole_cells b ++ answer_cells (cond p None (Some (get_or (reverse b) 1 0)))) (sym (lt-ltb (length b) 2 h))
+        ∙ ap (λ p. whole_cells b ++ answer_cells (cond p None (Some (get_or (reverse b) 1 0))))
+        (sym (lt-ltb (length b) 2 h))
 
-    go : (back : List ℕ) → reverse b ≡ back → whole_cells (b ++ x ∷ []) ≡ whole_cells b ++ answer_cells (packed_answer (packed_reader_of b))
+    go : (back : List ℕ) → reverse b ≡ back
+        → whole_cells (b ++ x ∷ []) ≡ whole_cells b ++ answer_cells (packed_answer (packed_reader_of b))
     go [] e = few (let r = length-reverse b in let q = ap length e in omega arith)
     go (last ∷ []) e = few (let r = length-reverse b in let q = ap length e in omega arith)
     go (last ∷ octet ∷ more) e =
@@ -64,11 +144,16 @@ whole_cells-more b x = go (reverse b) refl
         let r = length-reverse b in
         let q = ap length e in
         let next : LastTwo (b ++ x ∷ []) (front ++ octet ∷ []) last x =
-        record { is = ap (λ v. v ++ x ∷ []) two.is ∙ append_assoc front (octet ∷ last ∷ []) (x ∷ []) ∙ sym (append_assoc front (octet ∷ []) (last ∷ x ∷ [])) } in
+        record {
+          is = ap (λ v. v ++ x ∷ []) two.is ∙ append_assoc front (octet ∷ last ∷ []) (x ∷ [])
+              ∙ sym (append_assoc front (octet ∷ []) (last ∷ x ∷ []));
+        } in
         whole-of (b ++ x ∷ []) (front ++ octet ∷ []) last x next
-        ∙ cells_of_octets-append front (octet ∷ []) ∙ ap₂ ◌++◌ (sym (whole-of b front octet last two)) (cells_of_octets-one octet)
+        ∙ cells_of_octets-append front (octet ∷ [])
+        ∙ ap₂ ◌++◌ (sym (whole-of b front octet last two)) (cells_of_octets-one octet)
         ∙ ap (λ v. whole_cells b ++ octet_cells v) (sym (ap (λ v. get_or v 1 0) e))
-        ∙ ap (λ p. whole_cells b ++ answer_cells (cond p None (Some (get_or (reverse b) 1 0)))) (sym (le-ltb (length b) 2 (omega arith)))
+        ∙ ap (λ p. whole_cells b ++ answer_cells (cond p None (Some (get_or (reverse b) 1 0))))
+        (sym (le-ltb (length b) 2 (omega arith)))
 
 -- what the end answers, by the last octets
 end-none : (b : List ℕ) → reverse b ≡ [] → packed_end (packed_reader_of b) ≡ Err (record { at = 0 })
@@ -118,13 +203,16 @@ end-accepts b = go (reverse b) refl
     go : (back : List ℕ) → reverse b ≡ back → is_ok (packed_end (packed_reader_of b)) ≡ ends_packed back
     go [] e = ap is_ok (end-none b e)
     go (last ∷ []) e = ap is_ok (end-one b last e) ∙ test (last == 0) None 0
-    go (last ∷ octet ∷ more) e = ap is_ok (end-two b last octet more e) ∙ test (is_padded octet last) (Some (octet, 8 - last)) (suc (length more))
+    go (last ∷ octet ∷ more) e
+        = ap is_ok (end-two b last octet more e)
+        ∙ test (is_padded octet last) (Some (octet, 8 - last)) (suc (length more))
 
 pub end-ok : (b : List ℕ) (o : Option (ℕ × ℕ)) → packed_end (packed_reader_of b) ≡ Ok o → is_packed b ≡ true
 end-ok b o e = sym (end-accepts b) ∙ ap is_ok e
 
 -- a fault stands at the last octet
-pub end-fault : (b : List ℕ) (f : BadPadding) → packed_end (packed_reader_of b) ≡ Err f → (is_packed b ≡ false) × (f.at ≡ last_place b)
+pub end-fault : (b : List ℕ) (f : BadPadding) → packed_end (packed_reader_of b) ≡ Err f
+    → (is_packed b ≡ false) × (f.at ≡ last_place b)
 end-fault b f e = (sym (end-accepts b) ∙ ap is_ok e, go (reverse b) refl)
   where
     l : length (reverse b) ≡ length b
@@ -148,7 +236,9 @@ end-fault b f e = (sym (end-accepts b) ∙ ap is_ok e, go (reverse b) refl)
     go (last ∷ octet ∷ more) h =
         let q = ap length h in
         let n = l in
-        let at : f.at ≡ suc (length more) = place (is_padded octet last) (Some (octet, 8 - last)) (suc (length more)) (sym (end-two b last octet more h) ∙ e) in
+        let at : f.at ≡ suc (length more)
+        = place (is_padded octet last) (Some (octet, 8 - last)) (suc (length more))
+        (sym (end-two b last octet more h) ∙ e) in
         omega arith
 
 -- so an answer is Ok exactly where the octets pack some cells
@@ -162,8 +252,12 @@ end-lawful r answer e b h =
 pub end-used : (r : PackedReader) (octet used : ℕ) → packed_end r ≡ Ok (Some (octet, used)) → (1 ≤ used) × (used ≤ 8)
 end-used r octet used = go r.seen
   where
-    test : (p : Bool) (n : ℕ) → is_padded r.before_last r.last ≡ p → passed p (Some (r.before_last, 8 - r.last)) n ≡ Ok (Some (octet, used)) → (1 ≤ used) × (used ≤ 8)
-    test true n t q = let h = (padded-parts r.before_last r.last t).0 in let pair : ◌≡◌ {A = ℕ × ℕ} (r.before_last, 8 - r.last) (octet, used) = cc in let u = ap (λ v. v.1) pair in (omega arith, omega arith)
+    test : (p : Bool) (n : ℕ) → is_padded r.before_last r.last ≡ p
+        → passed p (Some (r.before_last, 8 - r.last)) n ≡ Ok (Some (octet, used)) → (1 ≤ used) × (used ≤ 8)
+    test true n t q = let h = (padded-parts r.before_last r.last t).0 in let pair : ◌≡◌ {A = ℕ × ℕ}
+        (r.before_last, 8 - r.last) (octet, used)
+        = cc in let u = ap (λ v. v.1) pair in
+        (omega arith, omega arith)
     test false n t q = absurd cc
 
     none : (p : Bool) → passed p None 0 ≡ Ok (Some (octet, used)) → ⊥
@@ -176,11 +270,13 @@ end-used r octet used = go r.seen
     go (suc (suc n)) e = test (is_padded r.before_last r.last) (suc n) refl e
 
 -- the cells of packed octets are those handed on before the end and those of the end
-pub cells-end : (b : List ℕ) → is_packed b ≡ true → cells_of_packed b ≡ whole_cells b ++ end_cells (packed_end (packed_reader_of b))
+pub cells-end : (b : List ℕ) → is_packed b ≡ true
+    → cells_of_packed b ≡ whole_cells b ++ end_cells (packed_end (packed_reader_of b))
 unfolding is_packed cells_of_packed
 cells-end b = go (reverse b) refl
   where
-    go : (back : List ℕ) → reverse b ≡ back → ends_packed back ≡ true → cells_of_packed b ≡ whole_cells b ++ end_cells (packed_end (packed_reader_of b))
+    go : (back : List ℕ) → reverse b ≡ back → ends_packed back ≡ true
+        → cells_of_packed b ≡ whole_cells b ++ end_cells (packed_end (packed_reader_of b))
     go [] e h = absurd cc
     go (last ∷ []) e h =
         let q : LastOctet b [] last = last-reverse b last [] e in
@@ -191,7 +287,8 @@ cells-end b = go (reverse b) refl
     go (last ∷ octet ∷ more) e h =
         let two = last_two b last octet more e in
         let front = reverse more in
-        let q : LastOctet b (front ++ octet ∷ []) last = record { is = two.is ∙ sym (append_assoc front (octet ∷ []) (last ∷ [])) } in
+        let q : LastOctet b (front ++ octet ∷ []) last
+        = record { is = two.is ∙ sym (append_assoc front (octet ∷ []) (last ∷ [])) } in
         let small = (padded-parts octet last h).0 in
         let place = last_place-is q in
         let unused = last_octet-is q in
@@ -199,7 +296,8 @@ cells-end b = go (reverse b) refl
         let o = length-cells_of_octets front in
         let k : 8 * last_place b - last_octet b ≡ length (cells_of_octets front) + (8 - last) = omega arith in
         ap₂ (λ n xs. take n (cells_of_octets xs)) k (take-front q)
-        ∙ ap (take (length (cells_of_octets front) + (8 - last))) (cells_of_octets-append front (octet ∷ []) ∙ ap (λ v. cells_of_octets front ++ v) (cells_of_octets-one octet))
+        ∙ ap (take (length (cells_of_octets front) + (8 - last)))
+        (cells_of_octets-append front (octet ∷ []) ∙ ap (λ v. cells_of_octets front ++ v) (cells_of_octets-one octet))
         ∙ take-append-add (cells_of_octets front) (octet_cells octet) (8 - last)
         ∙ ap₂ (λ u v. u ++ end_cells v) (sym (whole-of b front octet last two))
         (sym (end-two b last octet more e ∙ ap (λ p. passed p (Some (octet, 8 - last)) (suc (length more))) h))
@@ -209,5 +307,8 @@ pub whole_cells-front : (a b : List ℕ) → (more : List Level) × (whole_cells
 whole_cells-front a [] = ([], ap whole_cells (append-nil a) ∙ sym (append-nil (whole_cells a)))
 whole_cells-front a (x ∷ b) =
     let r = whole_cells-front (a ++ x ∷ []) b in
-    let added = answer_cells (packed_answer (packed_reader_of a)) in
-    (added ++ r.0, ap whole_cells (sym (append_assoc a (x ∷ []) b)) ∙ r.1 ∙ ap (λ c. c ++ r.0) (whole_cells-more a x) ∙ append_assoc (whole_cells a) added r.0)
+    let added = answer_cells (packed_answer (packed_reader_of a)) in (
+      added ++ r.0,
+      ap whole_cells (sym (append_assoc a (x ∷ []) b)) ∙ r.1 ∙ ap (λ c. c ++ r.0) (whole_cells-more a x)
+          ∙ append_assoc (whole_cells a) added r.0,
+    )

@@ -1,9 +1,27 @@
 -- Cells in either form, joined, ended and read back.
-use Rattle.std.proofs.Common.{◌≡◌, ℕ, ◌+◌, ◌-◌, ◌*◌, List, [], ◌∷◌, ◌++◌, length, refl, sym, ap, ◌∙◌, arith, append-nil, length-append}
-use Rattle.aes3_cell.specs.declared.level.Level.{Level}
+use Rattle.std.proofs.Common.{
+  ◌≡◌,
+  ℕ,
+  ◌+◌,
+  ◌-◌,
+  ◌*◌,
+  List,
+  [],
+  ◌∷◌,
+  ◌++◌,
+  length,
+  refl,
+  sym,
+  ap,
+  ◌∙◌,
+  arith,
+  append-nil,
+  length-append,
+}
+use Rattle.aes3_level.specs.declared.level.Level.{Level}
 use Rattle.aes3_cell.specs.declared.form.Form.{Form}
 use Rattle.aes3_cell.specs.declared.form.Form.TheVariants.{Text, Packed}
-use Rattle.aes3_cell.specs.Words.{word_len}
+use Rattle.aes3_level.specs.Words.{word_len}
 use Rattle.aes3_cell.specs.Text.{text_of}
 use Rattle.aes3_cell.specs.Packed.{octets_needed, first_octets, octets_of, packed_of}
 use Rattle.aes3_cell.specs.Written.{bytes_of, ending, written}
@@ -20,7 +38,8 @@ octets-append n a b h =
     ap (λ k. first_octets k (a ++ b)) e ∙ first_octets-append (8 * n) (octets_needed (length b)) a b (omega arith)
     ∙ ap (λ k. first_octets k a ++ first_octets (octets_needed (length b)) b) (sym f)
 
-pub bytes-append : (form : Form) (n : ℕ) (a b : List Level) → length a ≡ n * word_len → bytes_of form (a ++ b) ≡ bytes_of form a ++ bytes_of form b
+pub bytes-append : (form : Form) (n : ℕ) (a b : List Level) → length a ≡ n * word_len
+    → bytes_of form (a ++ b) ≡ bytes_of form a ++ bytes_of form b
 bytes-append Text n a b h = text_of-append n a b h
 bytes-append Packed n a b h = octets-append n a b h
 
@@ -30,7 +49,8 @@ bytes-nothing Text = refl
 bytes-nothing Packed = refl
 
 -- the bytes of whole words and what ends them are these cells written
-pub written-whole : (form : Form) (n : ℕ) (c : List Level) → length c ≡ n * word_len → bytes_of form c ++ ending form ≡ written form c
+pub written-whole : (form : Form) (n : ℕ) (c : List Level) → length c ≡ n * word_len
+    → bytes_of form c ++ ending form ≡ written form c
 unfolding packed_of word_len
 written-whole Text n c h = append-nil (text_of c)
 written-whole Packed n c h =

@@ -1,5 +1,3 @@
-pub mod Cells
-pub mod Words
 pub mod Text
 pub mod Scattered
 pub mod CellText

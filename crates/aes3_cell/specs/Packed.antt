@@ -1,9 +1,37 @@
--- Packed cells: octets of eight cells each, the first cell in the highest bit, then one last octet, the number of unused cells.
-use Rattle.std.specs.Prelude.{ℕ, zero, suc, List, [], ◌∷◌, ◌++◌, Bool, false, ◌≡◌, ◌<◌, ◌+◌, ◌-◌, ◌*◌, ◌/◌, ◌%◌, ◌^◌, ◌==◌, ◌&&◌, nat_lt, length, take, drop, get_or, replicate, reverse}
+-- Packed cells: octets of eight cells each, the first cell in the highest bit, then one last octet, the number of
+-- unused cells.
+use Rattle.std.specs.Prelude.{
+  ℕ,
+  zero,
+  suc,
+  List,
+  [],
+  ◌∷◌,
+  ◌++◌,
+  Bool,
+  false,
+  ◌≡◌,
+  ◌<◌,
+  ◌+◌,
+  ◌-◌,
+  ◌*◌,
+  ◌/◌,
+  ◌%◌,
+  ◌^◌,
+  ◌==◌,
+  ◌&&◌,
+  nat_lt,
+  length,
+  take,
+  drop,
+  get_or,
+  replicate,
+  reverse,
+}
 use Rattle.std.specs.List.{flat_map}
-use Rattle.aes3_cell.specs.declared.level.Level.{Level}
-use Rattle.aes3_cell.specs.declared.level.Level.TheVariants.{Low}
-use Rattle.aes3_cell.specs.Words.{bit_of, low_cells}
+use Rattle.aes3_level.specs.declared.level.Level.{Level}
+use Rattle.aes3_level.specs.declared.level.Level.TheVariants.{Low}
+use Rattle.aes3_level.specs.Words.{bit_of, low_cells}
 
 -- the eight cells of an octet, the first in the highest bit
 abbrev pub octet_cells : ℕ → List Level
@@ -13,7 +41,8 @@ octet_cells octet = reverse (low_cells 8 octet)
 abbrev pub cells_of_octets : List ℕ → List Level
 cells_of_octets octets = flat_map octet_cells octets
 
--- octets pack these cells: fewer than eight cells of the octets before the last stand unused behind them, all Low, and the last octet is their number
+-- octets pack these cells: fewer than eight cells of the octets before the last stand unused behind them, all Low, and
+-- the last octet is their number
 pub record Packs (octets : List ℕ) (cells : List Level) : Type 0 where
   pub front : List ℕ
   pub unused : ℕ
@@ -24,7 +53,8 @@ pub record Packs (octets : List ℕ) (cells : List Level) : Type 0 where
 abbrev pub IsPacked : List ℕ → Type 0
 IsPacked octets = (cells : List Level) × Packs octets cells
 
--- the same as a test: the last octet is a number n below 8, and the lowest n bits of the one before it are zero; a single octet is 0
+-- the same as a test: the last octet is a number n below 8, and the lowest n bits of the one before it are zero; a
+-- single octet is 0
 abbrev pub is_padded : ℕ → ℕ → Bool
 is_padded octet last = nat_lt last 8 && ((octet % 2 ^ last) == 0)
 
@@ -45,7 +75,8 @@ abbrev pub last_octet : List ℕ → ℕ
 last_octet octets = get_or (reverse octets) 0 0
 
 unfoldable pub cells_of_packed : List ℕ → List Level
-cells_of_packed octets = take (8 * last_place octets - last_octet octets) (cells_of_octets (take (last_place octets) octets))
+cells_of_packed octets = take (8 * last_place octets - last_octet octets)
+    (cells_of_octets (take (last_place octets) octets))
 
 -- the cells of all octets but the last two: no later octet makes any of them unused
 unfoldable pub whole_cells : List ℕ → List Level

@@ -1,6 +1,6 @@
 -- Octets of packed cells fed to a reader one behind the other.
 use Rattle.std.specs.Prelude.{ℕ, List, [], ◌∷◌, ◌++◌}
-use Rattle.aes3_cell.specs.declared.level.Level.{Level}
+use Rattle.aes3_level.specs.declared.level.Level.{Level}
 use Rattle.aes3_cell.specs.PackedReading.{PackedReader, packed_answer, packed_next, answer_cells}
 
 -- the reader behind octets

@@ -1,7 +1,7 @@
 -- The eight octets that are begun.
 use Rattle.std.specs.Prelude.{ℕ, suc, List, [], ◌∷◌, ◌++◌, Bool, length, ◌*◌, ◌/◌, ◌==◌, if◌then◌else◌}
-use Rattle.aes3_cell.specs.declared.level.Level.{Level}
-use Rattle.aes3_cell.specs.Words.{word_len}
+use Rattle.aes3_level.specs.declared.level.Level.{Level}
+use Rattle.aes3_level.specs.Words.{word_len}
 use Rattle.aes3_cell.specs.Packed.{first_octets, octets_of}
 
 -- the cells of eight octets that are not yet whole, and whether writing has failed

@@ -1,7 +1,7 @@
 -- The line of cell text that is begun.
 use Rattle.std.specs.Prelude.{ℕ, suc, List, [], ◌∷◌, ◌++◌, Bool, length, drop, ◌*◌, ◌/◌, ◌==◌, if◌then◌else◌}
-use Rattle.aes3_cell.specs.declared.level.Level.{Level}
-use Rattle.aes3_cell.specs.Words.{word_len}
+use Rattle.aes3_level.specs.declared.level.Level.{Level}
+use Rattle.aes3_level.specs.Words.{word_len}
 use Rattle.aes3_cell.specs.Text.{line_text}
 
 -- the cells of a line that is not yet whole, and whether writing has failed

@@ -1,7 +1,7 @@
 -- Cells that stand among other bytes, by a number's bits.
 use Rattle.std.specs.Prelude.{ℕ, zero, suc, List, [], ◌∷◌, ◌++◌, ◌≡◌, ◌<◌, ◌%◌, ◌/◌, ◌^◌, ◌==◌, length, if◌then◌else◌}
-use Rattle.aes3_cell.specs.declared.level.Level.{Level}
-use Rattle.aes3_cell.specs.Words.{level_of, low_cells}
+use Rattle.aes3_level.specs.declared.level.Level.{Level}
+use Rattle.aes3_level.specs.Words.{level_of, low_cells}
 
 -- one cell or none
 abbrev pub cell_if : ℕ → ℕ → List Level

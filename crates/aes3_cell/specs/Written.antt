@@ -1,14 +1,15 @@
 -- The bytes of cells in either form.
 use Rattle.std.specs.Prelude.{ℕ, List, [], ◌∷◌, ◌≡◌, ◌*◌, take}
 use Rattle.std.specs.List.{flat_map}
-use Rattle.aes3_cell.specs.declared.level.Level.{Level}
+use Rattle.aes3_level.specs.declared.level.Level.{Level}
 use Rattle.aes3_cell.specs.declared.form.Form.{Form}
 use Rattle.aes3_cell.specs.declared.form.Form.TheVariants.{Text, Packed}
-use Rattle.aes3_cell.specs.Words.{word_cells}
+use Rattle.aes3_level.specs.Words.{word_cells}
 use Rattle.aes3_cell.specs.Text.{text_of}
 use Rattle.aes3_cell.specs.Packed.{octets_of, packed_of}
 
--- the bytes of whole words of cells, and those that end them: packed, the number of unused cells, of which they have none
+-- the bytes of whole words of cells, and those that end them: packed, the number of unused cells, of which they have
+-- none
 abbrev pub bytes_of : Form → List Level → List ℕ
 bytes_of Text c = text_of c
 bytes_of Packed c = octets_of c

@@ -3,7 +3,7 @@
 ghost use Rattle.std.specs.Prelude.{◌≡◌, length, map};
 ghost use Rattle.std.specs.List.{flat_map};
 ghost use Rattle.aes3_cell.specs.Packed.{cells_of_octets, octet_of, octets_of};
-ghost use Rattle.aes3_cell.specs.Words.{low_cells, word_cells};
+ghost use Rattle.aes3_level.specs.Words.{low_cells, word_cells};
 
 use std::simd::prelude::*;
 

@@ -27,7 +27,7 @@ ghost use Rattle.aes3_cell.specs.Packed.{IsPacked, is_padded};
 ghost use Rattle.aes3_cell.specs.PackedFeeding.{cells_fed, octets_fed};
 ghost use Rattle.aes3_cell.specs.PackedReading.{packed_answer, packed_next, packed_end};
 ghost use Rattle.aes3_cell.specs.PackedReading.{packed_reader_of, end_answer};
-ghost use Rattle.aes3_cell.specs.Words.{word_cells};
+ghost use Rattle.aes3_level.specs.Words.{word_cells};
 
 use crate::packed_words::words_of_octets;
 use crate::refusal::BadPadding;

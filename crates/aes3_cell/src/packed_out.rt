@@ -14,7 +14,7 @@ pub struct PackedOut {
 
 impl Model for PackedOut {
     ghost use Rattle.std.specs.Prelude.{◌<◌, ◌^◌, reverse};
-    ghost use Rattle.aes3_cell.specs.Words.{low_cells};
+    ghost use Rattle.aes3_level.specs.Words.{low_cells};
     ghost use Rattle.aes3_cell.specs.PackedPending.{BegunOctets};
 
     ghost Value = { BegunOctets };
@@ -30,11 +30,11 @@ ghost use Rattle.aes3_cell.specs.Writes.{Wrote};
 ghost use Rattle.aes3_cell.specs.Packed.{octets_needed, packed_of};
 ghost use Rattle.aes3_cell.specs.PackedPending.{octets_added};
 ghost use Rattle.aes3_cell.specs.Pending.{begun_after};
-ghost use Rattle.aes3_cell.specs.Words.{bit_of, low_cells};
+ghost use Rattle.aes3_level.specs.Words.{bit_of, low_cells};
 
 use crate::ends::{Fault, Sink, write_all};
-use crate::level::Level;
 use crate::word::WORD_LEN;
+use aes3_level::Level;
 
 /// The word with one more cell behind the others, in the lowest bit.
 fn with_cell_behind(word: u64, level: Level) -> u64

@@ -2,10 +2,10 @@
 
 ghost use Rattle.std.specs.Prelude.{◌≡◌, ◌+◌, ◌*◌, ◌/◌, ◌%◌, ◌^◌, ◌<◌, ◌≤◌, ◌++◌, ℕ, List};
 ghost use Rattle.std.specs.Prelude.{IfNone, IfSome, OnSome, get_or, length};
-ghost use Rattle.aes3_cell.specs.declared.level.Level.{Level};
+ghost use Rattle.aes3_level.specs.declared.level.Level.{Level};
 ghost use Rattle.aes3_cell.specs.CellText.{IsCellText, cells_of_text};
 ghost use Rattle.aes3_cell.specs.Scattered.{Holds, kept_cells};
-ghost use Rattle.aes3_cell.specs.Words.{low_cells};
+ghost use Rattle.aes3_level.specs.Words.{low_cells};
 
 use crate::text_words::SomeCells;
 use crate::word::equal_to;

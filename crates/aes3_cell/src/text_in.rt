@@ -22,14 +22,14 @@ ghost use Rattle.std.specs.Prelude.{slice_index_or, take, IfSome, OnSome, IfNone
 ghost use Rattle.std.specs.List.{flat_map};
 ghost use Rattle.aes3_cell.specs.CellText.{IsCellText, cells_of_text};
 ghost use Rattle.aes3_cell.specs.Text.{byte_of, line_text, text_of, IsCellByte};
-ghost use Rattle.aes3_cell.specs.Words.{low_cells, word_cells};
+ghost use Rattle.aes3_level.specs.Words.{low_cells, word_cells};
 ghost use Rattle.aes3_cell.specs.TextReading.{text_answer, text_next, text_reader_of};
 
-use crate::level::Level;
 use crate::refusal::BadCell;
 use crate::scattered::cells_among;
 use crate::text_words::{SomeCells, words_of_lines};
 use crate::word::{LINE_LEN, word_of_text};
+use aes3_level::Level;
 
 impl CellText {
     /// A reader that has taken nothing.

@@ -12,7 +12,7 @@ pub struct TextOut {
 
 impl Model for TextOut {
     ghost use Rattle.std.specs.Prelude.{◌<◌, ◌^◌};
-    ghost use Rattle.aes3_cell.specs.Words.{low_cells};
+    ghost use Rattle.aes3_level.specs.Words.{low_cells};
     ghost use Rattle.aes3_cell.specs.Pending.{BegunLine};
 
     ghost Value = { BegunLine };
@@ -27,8 +27,8 @@ ghost use Rattle.aes3_cell.specs.Writes.{Wrote};
 ghost use Rattle.aes3_cell.specs.Pending.{text_added, begun_after};
 
 use crate::ends::{Fault, Sink, write_all};
-use crate::level::Level;
 use crate::word::{WORD_LEN, line_of_word, with_cell};
+use aes3_level::Level;
 
 impl TextOut {
     /// A writer at the beginning of a line.

@@ -3,9 +3,9 @@
 ghost use Rattle.std.specs.Prelude.{◌≡◌, ◌≢◌, ◌+◌, ◌*◌, ◌<◌, ◌≤◌, ◌^◌, ℕ, drop, length, map};
 ghost use Rattle.std.specs.Prelude.{slice_index_or, take, IfSome, OnSome};
 ghost use Rattle.std.specs.List.{flat_map};
-ghost use Rattle.aes3_cell.specs.declared.level.Level.{Level};
+ghost use Rattle.aes3_level.specs.declared.level.Level.{Level};
 ghost use Rattle.aes3_cell.specs.Text.{byte_of, line_text, text_of, IsCellByte};
-ghost use Rattle.aes3_cell.specs.Words.{low_cells, word_cells};
+ghost use Rattle.aes3_level.specs.Words.{low_cells, word_cells};
 
 use crate::word::{LINE_LEN, word_of_text};
 

@@ -3,12 +3,12 @@
 ghost use Rattle.std.specs.Prelude.{◌≡◌, ◌+◌, ◌<◌, ◌^◌, ◌==◌, ℕ, [], ◌∷◌, ◌++◌, map, get_or};
 ghost use Rattle.std.specs.Prelude.{if◌then◌else◌, IfSome, length};
 ghost use Rattle.std.specs.Int.{bit_at};
-ghost use Rattle.aes3_cell.specs.Words.{level_of, low_cells, word_cells};
+ghost use Rattle.aes3_level.specs.Words.{level_of, low_cells, word_cells};
 ghost use Rattle.aes3_cell.specs.Text.{byte_of, line_text};
 ghost use Rattle.aes3_cell.specs.Packed.{cells_of_octets, octets_of};
 
 use crate::eights::{eight_words, octets_of_eight};
-use crate::level::Level;
+use aes3_level::Level;
 use std::simd::prelude::*;
 
 /// How many cells a word has, and a line of text.

@@ -4,7 +4,7 @@ ghost use Rattle.std.specs.Prelude.{◌≡◌, ◌<◌, ◌≤◌, ◌+◌, ◌^
 ghost use Rattle.std.specs.List.{flat_map};
 ghost use Rattle.aes3_cell.specs.Ends.{Grew, GrewFront};
 ghost use Rattle.aes3_cell.specs.Writes.{Wrote};
-ghost use Rattle.aes3_cell.specs.Words.{word_cells};
+ghost use Rattle.aes3_level.specs.Words.{word_cells};
 ghost use Rattle.aes3_cell.specs.Written.{FirstLines, bytes_of, ending};
 ghost use Rattle.aes3_cell.specs.declared.form.Form.TheVariants.{Text, Packed};
 

@@ -1,5 +1,26 @@
 -- Steps from a builder of `clap` to the definitions of the command line.
-use Rattle.std.proofs.Common.{◌≡◌, ◌∙◌, ◌||◌, ◌<◌, ◌+◌, ◌++◌, ◌∷◌, ℕ, List, [], ap, ap₂, false, get_or, length, map, refl, subst, sym, take}
+use Rattle.std.proofs.Common.{
+  ◌≡◌,
+  ◌∙◌,
+  ◌||◌,
+  ◌<◌,
+  ◌+◌,
+  ◌++◌,
+  ◌∷◌,
+  ℕ,
+  List,
+  [],
+  ap,
+  ap₂,
+  false,
+  get_or,
+  length,
+  map,
+  refl,
+  subst,
+  sym,
+  take,
+}
 use Rattle.std.proofs.lemmas.List.{map-append, take_more}
 use Rattle.clap.specs.Built.{AddsArg, AddsSubcommand}
 use Rattle.clap.specs.Walk.{Rule, Text}
@@ -19,7 +40,8 @@ with_option app r old new argument added defined option = (
 )
 
 -- the first arguments of a command, and one more
-pub with_argument : (name : Text) (arguments : List Argument) (i : ℕ) (d : Argument) (old new : Command) (argument : Arg)
+pub with_argument : (name : Text) (arguments : List Argument) (i : ℕ) (d : Argument) (old new : Command)
+    (argument : Arg)
     → i < length arguments → AddsArg old argument new
     → IsDefinedAs (app_with (command name (map rule (take i arguments)))) old
     → IsOption (rule (get_or arguments i d)) argument
@@ -28,7 +50,8 @@ with_argument name arguments i d old new argument below added defined is =
     let more : map rule (take (i + 1) arguments) ≡ map rule (take i arguments) ++ rule (get_or arguments i d) ∷ [] =
     ap (map rule) (take_more arguments i d below) ∙ map-append rule (take i arguments) (get_or arguments i d ∷ []) in
     subst (λ rules. IsDefinedAs (app_with (command name rules)) new) (sym more)
-    (with_option (app_with (command name (map rule (take i arguments)))) (rule (get_or arguments i d)) old new argument added defined is)
+    (with_option (app_with (command name (map rule (take i arguments)))) (rule (get_or arguments i d))
+    old new argument added defined is)
 
 -- one more command
 with_command : (app : App) (s : Shape) (old sub new : Command) → AddsSubcommand old sub new
@@ -43,10 +66,12 @@ abbrev pub with_commands : List Name → App
 with_commands [] = program
 with_commands (n ∷ names) = record { top = record program.top { is_leaf = false }; subs = map shape (n ∷ names) }
 
-one_more : (names : List Name) (n : Name) → with_subcommand (with_commands names) (shape n) ≡ with_commands (names ++ n ∷ [])
+one_more : (names : List Name) (n : Name)
+    → with_subcommand (with_commands names) (shape n) ≡ with_commands (names ++ n ∷ [])
 one_more [] n = refl
 one_more (m ∷ names) n =
-    ap (λ shapes. record { top = record program.top { is_leaf = false }; subs = shapes }) (sym (map-append shape (m ∷ names) (n ∷ [])))
+    ap (λ shapes. record { top = record program.top { is_leaf = false }; subs = shapes })
+    (sym (map-append shape (m ∷ names) (n ∷ [])))
 
 -- the first commands of the program, and one more
 pub with_name : (names : List Name) (i : ℕ) (d : Name) (old sub new : Command)
@@ -54,7 +79,8 @@ pub with_name : (names : List Name) (i : ℕ) (d : Name) (old sub new : Command)
     → IsDefinedAs (app_with (shape (get_or names i d))) sub
     → IsDefinedAs (with_commands (take (i + 1) names)) new
 with_name names i d old sub new below added defined is =
-    let more : with_subcommand (with_commands (take i names)) (shape (get_or names i d)) ≡ with_commands (take (i + 1) names) =
+    let more : with_subcommand (with_commands (take i names)) (shape (get_or names i d))
+    ≡ with_commands (take (i + 1) names) =
     one_more (take i names) (get_or names i d) ∙ ap with_commands (sym (take_more names i d below)) in
     subst (λ app. IsDefinedAs app new) more
     (with_command (with_commands (take i names)) (shape (get_or names i d)) old sub new added defined is)

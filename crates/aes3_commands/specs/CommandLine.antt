@@ -1,5 +1,5 @@
 -- The command line, as definitions of `clap`: the commands, and the options and values of each.
-use Rattle.std.specs.Prelude.{List, [], ◌∷◌, ◌≡◌, Some, true, false, codes, map}
+use Rattle.std.specs.Prelude.{ℕ, List, [], ◌∷◌, ◌≡◌, Some, true, false, codes, map}
 use Rattle.clap.specs.Walk.{Rule, Text, rule_of}
 use Rattle.clap.specs.Simple.{App, Shape, app_of, new_rule, new_shape}
 use Rattle.clap.specs.declared.builder.arg.Arg.{Arg}
@@ -8,10 +8,40 @@ use Rattle.clap.specs.declared.builder.command.Command.{Command}
 use Rattle.clap.specs.declared.builder.command.Command.TheViews.{out-Command as fields_of}
 use Rattle.clap.specs.declared.builder.value_parser.ValueParser.TheVariants as vp
 use Rattle.aes3_commands.specs.declared.argument.Argument.{Argument}
-use Rattle.aes3_commands.specs.declared.argument.Argument.TheVariants.{PackedIn, PackedOut, Faults, Gaps, Changes, From, Count}
-use Rattle.aes3_commands.specs.declared.argument.Argument.TheVariants.{Status1, Status2, Set1, Set2, MendCheck, Exact, File}
+use Rattle.aes3_commands.specs.declared.argument.Argument.TheVariants.{
+  PackedIn,
+  RawIn,
+  PackedOut,
+  Faults,
+  Gaps,
+  Changes,
+  From,
+  Count,
+}
+use Rattle.aes3_commands.specs.declared.argument.Argument.TheVariants.{Json, Rate}
+use Rattle.aes3_commands.specs.declared.argument.Argument.TheVariants.{
+  Status1,
+  Status2,
+  Set1,
+  Set2,
+  MendCheck,
+  Exact,
+  File,
+}
 use Rattle.aes3_commands.specs.declared.definitions.Name.{Name}
-use Rattle.aes3_commands.specs.declared.definitions.Name.TheVariants.{Encode, Decode, Normal, Check, Watch, Show, Scan, Cut, Rewrite, ToPcm, FromPcm}
+use Rattle.aes3_commands.specs.declared.definitions.Name.TheVariants.{
+  Encode,
+  Decode,
+  Normal,
+  Check,
+  Watch,
+  Show,
+  Scan,
+  Cut,
+  Rewrite,
+  ToPcm,
+  FromPcm,
+}
 
 -- `--name`, which stands or does not
 abbrev pub flag : Text → Rule
@@ -30,6 +60,15 @@ abbrev pub number : Text → Rule
 number name =
     record (new_rule name) { required = true; parser = Some (vp.Unsigned 0 18446744073709551615) }
 
+-- how many frames a second a line has at most
+abbrev pub most_frames : ℕ
+most_frames = 1000000
+
+-- `--name HZ` with a whole number of frames a second, from 1 on, which may be left out
+abbrev pub rate_option : Text → Rule
+rate_option name =
+    record (new_rule name) { long = Some name; value_names = 1; parser = Some (vp.Unsigned 1 most_frames) }
+
 -- a file name at its place among the words, which may be left out
 abbrev pub file_name : Text → Rule
 file_name name = new_rule name
@@ -42,6 +81,10 @@ file = file_name (codes "FILE")
 abbrev pub packed_in : Rule
 packed_in = flag (codes "packed-in")
 
+-- it has raw octets of cells
+abbrev pub raw_in : Rule
+raw_in = flag (codes "raw-in")
+
 -- a command's output has packed cells
 abbrev pub packed_out : Rule
 packed_out = flag (codes "packed-out")
@@ -49,10 +92,13 @@ packed_out = flag (codes "packed-out")
 -- the options and values by their names
 abbrev pub rule : Argument → Rule
 rule PackedIn = packed_in
+rule RawIn = raw_in
 rule PackedOut = packed_out
 rule Faults = flag (codes "faults")
 rule Gaps = flag (codes "gaps")
 rule Changes = flag (codes "changes")
+rule Json = flag (codes "json")
+rule Rate = rate_option (codes "rate")
 rule From = number (codes "FROM")
 rule Count = number (codes "COUNT")
 rule Status1 = text_option (codes "status1")
@@ -71,24 +117,28 @@ encode = command (codes "encode") (packed_out ∷ [])
 
 -- a command that reads cells and writes none
 abbrev pub reader : Text → Shape
-reader name = command name (packed_in ∷ file ∷ [])
+reader name = command name (packed_in ∷ raw_in ∷ file ∷ [])
 
 abbrev pub check : Shape
-check = command (codes "check") (packed_in ∷ flag (codes "faults") ∷ flag (codes "gaps") ∷ file ∷ [])
+check = command (codes "check") (packed_in ∷ raw_in ∷ flag (codes "faults") ∷ flag (codes "gaps") ∷ file ∷ [])
+
+abbrev pub watch : Shape
+watch = command (codes "watch")
+    (packed_in ∷ raw_in ∷ flag (codes "json") ∷ rate_option (codes "rate") ∷ file ∷ [])
 
 abbrev pub show : Shape
-show = command (codes "show") (packed_in ∷ flag (codes "changes") ∷ file ∷ [])
+show = command (codes "show") (packed_in ∷ raw_in ∷ flag (codes "changes") ∷ file ∷ [])
 
 abbrev pub normal : Shape
-normal = command (codes "normal") (packed_in ∷ packed_out ∷ file ∷ [])
+normal = command (codes "normal") (packed_in ∷ raw_in ∷ packed_out ∷ file ∷ [])
 
 abbrev pub cut : Shape
 cut = command (codes "cut")
-    (packed_in ∷ packed_out ∷ number (codes "FROM") ∷ number (codes "COUNT") ∷ [])
+    (packed_in ∷ raw_in ∷ packed_out ∷ number (codes "FROM") ∷ number (codes "COUNT") ∷ [])
 
 abbrev pub rewrite : Shape
 rewrite = command (codes "rewrite")
-    (packed_in ∷ packed_out ∷ text_option (codes "status1") ∷ text_option (codes "status2")
+    (packed_in ∷ raw_in ∷ packed_out ∷ text_option (codes "status1") ∷ text_option (codes "status2")
     ∷ settings_option (codes "set1") ∷ settings_option (codes "set2")
     ∷ flag (codes "mend-check") ∷ file ∷ [])
 
@@ -104,7 +154,7 @@ shape Encode = encode
 shape Decode = reader (codes "decode")
 shape Normal = normal
 shape Check = check
-shape Watch = reader (codes "watch")
+shape Watch = watch
 shape Show = show
 shape Scan = reader (codes "scan")
 shape Cut = cut
@@ -135,7 +185,7 @@ command_line = record {
     has_version = true;
   };
   subs = encode ∷ reader (codes "decode") ∷ normal ∷ check
-      ∷ reader (codes "watch") ∷ show ∷ reader (codes "scan") ∷ cut ∷ rewrite
+      ∷ watch ∷ show ∷ reader (codes "scan") ∷ cut ∷ rewrite
       ∷ reader (codes "to-pcm") ∷ from_pcm ∷ [];
 }
 

@@ -1,16 +1,22 @@
 //! The options and values that commands take, each with the line that help tells of it.
 
 ghost use Rattle.aes3_commands.specs.CommandLine.{IsOption, flag, number, rule, settings_option};
-ghost use Rattle.aes3_commands.specs.CommandLine.{file_name, text_option};
+ghost use Rattle.aes3_commands.specs.CommandLine.{file_name, rate_option, text_option};
 
+use clap::builder::ValueParser;
 use clap::{Arg, ArgAction, value_parser};
 use std::alloc::Global;
+
+/// How many frames a second a line has at most, by `--rate`.
+const MOST_FRAMES: u64 = 1_000_000;
 
 /// An option or a value that a command takes.
 #[derive(Clone, Copy)]
 pub(crate) enum Argument {
     /// `--packed-in`: the cells that are read are packed.
     PackedIn,
+    /// `--raw-in`: they are raw octets.
+    RawIn,
     /// `--packed-out`: the cells that are written are packed.
     PackedOut,
     /// `--faults` of `check`.
@@ -19,6 +25,10 @@ pub(crate) enum Argument {
     Gaps,
     /// `--changes` of `show`.
     Changes,
+    /// `--json` of `watch`.
+    Json,
+    /// `--rate HZ` of `watch`.
+    Rate,
     /// The number of the first block of `cut`.
     From,
     /// How many blocks `cut` takes.
@@ -46,10 +56,17 @@ impl Argument {
     {
         match self {
             Argument::PackedIn => flag(alloc, "packed-in", "Read packed cells, eight an octet"),
+            Argument::RawIn => flag(
+                alloc,
+                "raw-in",
+                "Read packed cells with no last octet that counts",
+            ),
             Argument::PackedOut => flag(alloc, "packed-out", "Write packed cells, eight an octet"),
             Argument::Faults => flag(alloc, "faults", "Leave the whole blocks out"),
             Argument::Gaps => flag(alloc, "gaps", "Tell and count cells in no whole block"),
             Argument::Changes => flag(alloc, "changes", "Leave out what is as in the block before"),
+            Argument::Json => flag(alloc, "json", "Write JSON objects in place of words"),
+            Argument::Rate => rate(alloc, "rate", "Tell times, where a second has HZ frames"),
             Argument::From => number(alloc, "FROM", "The number of the first block, from 0 on"),
             Argument::Count => number(alloc, "COUNT", "How many blocks"),
             Argument::Status1 => status(
@@ -125,6 +142,17 @@ fn number<'a>(alloc: Global, name: &'a str, help: &'a str) -> Arg<'a>
     Arg::new(alloc, name)
         .required(true)
         .value_parser(value_parser!(u64))
+        .help(help)
+}
+
+/// The option `--name` with how many frames a second has.
+fn rate<'a>(alloc: Global, name: &'a str, help: &'a str) -> Arg<'a>
+    ensures { IsOption (rate_option name.now) result }
+{
+    Arg::new(alloc, name)
+        .long(name)
+        .value_name("HZ")
+        .value_parser(ValueParser::unsigned(1, MOST_FRAMES))
         .help(help)
 }
 

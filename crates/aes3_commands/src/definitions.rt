@@ -90,22 +90,42 @@ impl Name {
         use Argument::*;
         match self {
             Name::Encode => command(alloc, "encode", help::ENCODE, &[PackedOut]),
-            Name::Decode => command(alloc, "decode", help::DECODE, &[PackedIn, File]),
-            Name::Normal => command(alloc, "normal", help::NORMAL, &[PackedIn, PackedOut, File]),
-            Name::Check => command(alloc, "check", help::CHECK, &[PackedIn, Faults, Gaps, File]),
-            Name::Watch => command(alloc, "watch", help::WATCH, &[PackedIn, File]),
-            Name::Show => command(alloc, "show", help::SHOW, &[PackedIn, Changes, File]),
-            Name::Scan => command(alloc, "scan", help::SCAN, &[PackedIn, File]),
-            Name::Cut => command(alloc, "cut", help::CUT, &[PackedIn, PackedOut, From, Count]),
+            Name::Decode => command(alloc, "decode", help::DECODE, &[PackedIn, RawIn, File]),
+            Name::Normal => command(
+                alloc,
+                "normal",
+                help::NORMAL,
+                &[PackedIn, RawIn, PackedOut, File],
+            ),
+            Name::Check => command(
+                alloc,
+                "check",
+                help::CHECK,
+                &[PackedIn, RawIn, Faults, Gaps, File],
+            ),
+            Name::Watch => command(
+                alloc,
+                "watch",
+                help::WATCH,
+                &[PackedIn, RawIn, Json, Rate, File],
+            ),
+            Name::Show => command(alloc, "show", help::SHOW, &[PackedIn, RawIn, Changes, File]),
+            Name::Scan => command(alloc, "scan", help::SCAN, &[PackedIn, RawIn, File]),
+            Name::Cut => command(
+                alloc,
+                "cut",
+                help::CUT,
+                &[PackedIn, RawIn, PackedOut, From, Count],
+            ),
             Name::Rewrite => command(
                 alloc,
                 "rewrite",
                 help::REWRITE,
                 &[
-                    PackedIn, PackedOut, Status1, Status2, Set1, Set2, MendCheck, File,
+                    PackedIn, RawIn, PackedOut, Status1, Status2, Set1, Set2, MendCheck, File,
                 ],
             ),
-            Name::ToPcm => command(alloc, "to-pcm", help::TO_PCM, &[PackedIn, File]),
+            Name::ToPcm => command(alloc, "to-pcm", help::TO_PCM, &[PackedIn, RawIn, File]),
             Name::FromPcm => command(
                 alloc,
                 "from-pcm",

@@ -29,7 +29,7 @@ Forms of input and output:
                 and in either polarity. As text `0` and `1`, between which line feeds,
                 carriage returns and spaces are skipped; packed eight an octet, the
                 first in the highest bit, and then one octet with the number of unused
-                cells before it
+                cells before it, which raw octets (--raw-in) lack
   block         192 frames of two subframes, 24,576 cells. It is whole where all its
                 cells stand, with right parity, and the next cell, if there is one, ends
                 its last run
@@ -78,7 +78,7 @@ Examples:
 
 pub const DECODE: Texts<'static> = Texts {
     about: "Write the whole blocks as a block file",
-    usage: "aes3 decode [--packed-in] [FILE] > BLOCKFILE",
+    usage: "aes3 decode [--packed-in|--raw-in] [FILE] > BLOCKFILE",
     more: "Reads cells, begun anywhere and in either polarity.
 Writes the whole blocks that stand in them as a block file, 1,536 bytes each. What is
 cut or damaged is left out, and nothing is told of it: `aes3 check` tells it.
@@ -88,12 +88,13 @@ packed cells end wrongly; or as for every command.
 
 Examples:
     aes3 decode < line.txt > line.block
-    aes3 encode --packed-out < speech.block | aes3 decode --packed-in | cmp - speech.block",
+    aes3 encode --packed-out < speech.block | aes3 decode --packed-in | cmp - speech.block
+    aes3 encode --packed-out < speech.block | head -c -1 | aes3 decode --raw-in | cmp - speech.block",
 };
 
 pub const TO_PCM: Texts<'static> = Texts {
     about: "Write the samples of the whole blocks",
-    usage: "aes3 to-pcm [--packed-in] [FILE] > PCM",
+    usage: "aes3 to-pcm [--packed-in|--raw-in] [FILE] > PCM",
     more: "Reads cells, begun anywhere and in either polarity.
 Writes the samples of the whole blocks that stand in them: of each frame channel 1 and
 then channel 2, 4 bytes each, lowest first, the 24 bits of the sample in the highest
@@ -135,7 +136,7 @@ Examples:
 
 pub const NORMAL: Texts<'static> = Texts {
     about: "Write the whole blocks again, in the normal polarity",
-    usage: "aes3 normal [--packed-in] [--packed-out] [FILE] > CELLS",
+    usage: "aes3 normal [--packed-in|--raw-in] [--packed-out] [FILE] > CELLS",
     more: "Reads cells, begun anywhere and in either polarity.
 Writes the cells of the whole blocks that stand in them, one behind the other, as one
 line in the normal polarity: as text 64 cells, a subframe, a line. What is cut or
@@ -151,7 +152,7 @@ Examples:
 
 pub const CHECK: Texts<'static> = Texts {
     about: "Print each whole block and each fault",
-    usage: "aes3 check [--packed-in] [--faults] [--gaps] [FILE]",
+    usage: "aes3 check [--packed-in|--raw-in] [--faults] [--gaps] [FILE]",
     more: "Reads cells, begun anywhere and in either polarity.
 Writes a line for each place where a block's first preamble stands. P and C number the
 cells of the input from 0; L is the level before P, 0 or 1.
@@ -180,7 +181,7 @@ Examples:
 
 pub const SHOW: Texts<'static> = Texts {
     about: "Print the channel status of each whole block",
-    usage: "aes3 show [--packed-in] [--changes] [FILE]",
+    usage: "aes3 show [--packed-in|--raw-in] [--changes] [FILE]",
     more: "Reads cells, begun anywhere and in either polarity.
 Writes two lines for each whole block, channel 1 and then channel 2: `block=N channel=C`,
 N from 0, then `consumer` or `professional`, then each field as `name=value`. A code that
@@ -200,7 +201,7 @@ Examples:
 
 pub const WATCH: Texts<'static> = Texts {
     about: "Print where a line locks, is lost, comes back, slips or changes",
-    usage: "aes3 watch [--packed-in] [FILE]",
+    usage: "aes3 watch [--packed-in|--raw-in] [--json] [--rate HZ] [FILE]",
     more: "Reads cells, begun anywhere and in either polarity, as long as they come.
 Writes a line only where something changes. P numbers the cells from 0:
   locked at P before L   the first whole block begins at cell P; L is the level before it
@@ -215,7 +216,10 @@ Writes a line only where something changes. P numbers the cells from 0:
   end at P locked        the cells end at P, fewer than a block has behind a whole block
   end at P lost          they end otherwise
 `lost` comes once a line of `check` behind that block's length is due, or two blocks' cells
-have come from P on. `check --gaps` tells the same cells block by block.
+have come from P on. `check --gaps` tells the same cells block by block. With --rate HZ
+` time S` stands behind P: P as seconds with three places, 128 HZ cells a second. With
+--json each line is a JSON object: its first word is `event`, the one that stands alone at
+the end `status`, `validity` or `state`, and the others are named as above.
 
 Exit status: 0 no fault; 1 `check` has `marked` or `fault` lines, or there is `lost` or
 `slipped`; 3 refused: 1 a byte is no cell, 10 packed cells end wrongly; or as for every
@@ -223,12 +227,13 @@ command.
 
 Examples:
     aes3 watch < line.txt
-    aes3 encode < speech.block | sed '48200s/^1/0/' | aes3 watch | grep lost",
+    aes3 encode < speech.block | sed '48200s/^1/0/' | aes3 watch | grep lost
+    aes3 watch --json --rate 48000 < line.txt",
 };
 
 pub const SCAN: Texts<'static> = Texts {
     about: "Print each preamble",
-    usage: "aes3 scan [--packed-in] [FILE]",
+    usage: "aes3 scan [--packed-in|--raw-in] [FILE]",
     more: "Reads cells, begun anywhere and in either polarity.
 Writes a line for each place where the eight cells of a preamble stand, in step with a
 block or not:
@@ -245,7 +250,7 @@ Examples:
 
 pub const CUT: Texts<'static> = Texts {
     about: "Write COUNT of the whole blocks, from number FROM on",
-    usage: "aes3 cut [--packed-in] [--packed-out] <FROM> <COUNT> < CELLS > CELLS",
+    usage: "aes3 cut [--packed-in|--raw-in] [--packed-out] <FROM> <COUNT> < CELLS > CELLS",
     more: "Reads cells as `aes3 normal` does, to their end.
 Writes the cells of COUNT of the whole blocks in them, or as many as there are, from
 number FROM on, counted from 0, as one line in the normal polarity. A block lasts 192

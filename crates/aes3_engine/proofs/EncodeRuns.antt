@@ -3,7 +3,7 @@ use Rattle.std.proofs.Common.{◌≡◌, ◌≢◌, ℕ, ◌+◌, ◌*◌, ◌/�
 use Rattle.std.proofs.Common.{Option, Some, None, Err, length, take, get_or, refl, sym, ap, ◌∙◌, subst, arith}
 use Rattle.std.proofs.Common.{append_assoc, append-nil}
 use Rattle.std.proofs.lemmas.List.{take_all}
-use Rattle.aes3_cell.specs.declared.level.Level.TheVariants.{Low}
+use Rattle.aes3_level.specs.declared.level.Level.TheVariants.{Low}
 use Rattle.aes3_cell.specs.declared.refusal.RunError.{RunError}
 use Rattle.aes3_cell.specs.declared.refusal.RunError.TheVariants.{BadCell, BadLength, BadCode, BadParity, Read, Write}
 use Rattle.aes3_cell.specs.declared.refusal.RunError.TheVariants.{TooLong, Memory, BadStatusText, BadPadding, BadSample}
@@ -13,15 +13,16 @@ use Rattle.aes3_cell.specs.Written.{bytes_of, ending, written}
 use Rattle.aes3_cell.proofs.WrittenForms.{bytes-nothing, written-whole}
 use Rattle.aes3_block.specs.declared.file.FileFault.{FileFault}
 use Rattle.aes3_block.specs.declared.file.FileFault.TheVariants as fault
-use Rattle.aes3_block.specs.Blocks.{block_slots, block_len, stream}
-use Rattle.aes3_block.specs.Files.{words_of, lawful_words, has_code, has_parity, file_blocks, file, IsBlockFile}
+use Rattle.aes3_frame.specs.Blocks.{block_slots, block_len, stream}
+use Rattle.aes3_frame.specs.Files.{words_of, lawful_words, has_code, has_parity, file_blocks, file, IsBlockFile}
 use Rattle.aes3_block.specs.Readers.{FileReader, reader_of, byte_fault, block_with}
 use Rattle.aes3_block.specs.Refusals.{refusal_of}
-use Rattle.aes3_block.proofs.Words.{all_lawful, lawful-words}
+use Rattle.aes3_frame.proofs.Words.{all_lawful, lawful-words}
 use Rattle.aes3_block.proofs.WholeBlocks.{lawful-next, blocks-next, blocks-stay, added_blocks, fault-place, code-fault}
 use Rattle.aes3_block.proofs.WholeBlocks.{parity-fault, length-fault, end-none, end-whole_file, reader-new}
-use Rattle.aes3_block.proofs.Streams.{each27-whole, stream-bytes, stream-nil, file_blocks-nil, length-stream}
-use Rattle.aes3_block.proofs.Streams.{slot_count}
+use Rattle.aes3_block.proofs.StreamBytes.{stream-bytes}
+use Rattle.aes3_frame.proofs.Streams.{each27-whole, stream-nil, file_blocks-nil, length-stream}
+use Rattle.aes3_frame.proofs.Streams.{slot_count}
 use Rattle.aes3_input.specs.Converting.{or_else, fault_behind, first_fault, out, whole}
 use Rattle.aes3_input.specs.Running.{CleanEnd, IsFault, converted}
 use Rattle.aes3_input.proofs.Outputs.{out-is}

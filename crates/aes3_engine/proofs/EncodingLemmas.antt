@@ -2,7 +2,7 @@
 use Rattle.std.proofs.Common.{◌≡◌, ℕ, zero, suc, ◌+◌, ◌/◌, ◌≤◌, List, [], ◌∷◌, ◌++◌, Bool, true, Option, Some, None}
 use Rattle.std.proofs.Common.{Result, Ok, Err, length, drop, refl, sym, ap, ◌∙◌, subst, arith, append-nil, append_assoc}
 use Rattle.std.proofs.Common.{length-append}
-use Rattle.aes3_cell.specs.declared.level.Level.TheVariants.{Low}
+use Rattle.aes3_level.specs.declared.level.Level.TheVariants.{Low}
 use Rattle.aes3_cell.specs.declared.refusal.RunError.{RunError}
 use Rattle.aes3_cell.specs.Ends.{Grew, GrewFront}
 use Rattle.aes3_cell.specs.declared.form.Form.{Form}
@@ -10,13 +10,13 @@ use Rattle.aes3_cell.specs.Written.{bytes_of, ending}
 use Rattle.aes3_cell.proofs.Growing.{grew-none, grew-is, front-is}
 use Rattle.aes3_block.specs.declared.file.FileFault.{FileFault}
 use Rattle.aes3_block.specs.declared.file.FileFault.TheVariants as fault
-use Rattle.aes3_block.specs.Blocks.{block_slots, block_cells}
-use Rattle.aes3_block.specs.Files.{words_of, lawful_words, file_blocks, blocks_in}
+use Rattle.aes3_frame.specs.Blocks.{block_slots, block_cells}
+use Rattle.aes3_frame.specs.Files.{words_of, lawful_words, file_blocks, blocks_in}
 use Rattle.aes3_block.specs.Readers.{FileReader, reader_of, byte_fault, block_with, TakesBlock, TakesQuietly}
 use Rattle.aes3_block.specs.Readers.{answer_with, next_with, end_answer}
 use Rattle.aes3_block.specs.Refusals.{refusal_of}
 use Rattle.aes3_block.proofs.Reading.{answered, answered-err}
-use Rattle.aes3_block.proofs.Words.{all_lawful, lawful-words, all_lawful-from, length-words}
+use Rattle.aes3_frame.proofs.Words.{all_lawful, lawful-words, all_lawful-from, length-words}
 use Rattle.aes3_block.proofs.WholeBlocks.{reader-next, lawful-next, blocks-next, added_blocks}
 use Rattle.aes3_input.specs.Converting.{or_else, unless, fault_behind, out_behind, before_fault}
 use Rattle.aes3_input.specs.Running.{Fed, Stopped, PieceRan, EndRan}

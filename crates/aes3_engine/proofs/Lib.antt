@@ -1,10 +1,5 @@
 pub mod EncodingLemmas
 pub mod EncodeRuns
-pub mod Reports
-pub mod Locking
-pub mod ReportLemmas
-pub mod ReportRuns
-pub mod BlockRuns
 pub mod RewrittenBlocks
 pub mod SampleReads
 pub mod SampleRuns

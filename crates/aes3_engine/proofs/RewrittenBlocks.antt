@@ -1,25 +1,25 @@
 -- Blocks with other channel status.
 use Rattle.std.proofs.Common.{◌≡◌, ℕ, suc, List, [], ◌∷◌, ◌++◌, Bool, true, false, cond, Option, Some, None, refl, ap}
 use Rattle.std.proofs.Common.{◌∙◌}
-use Rattle.aes3_cell.specs.declared.level.Level.{Level}
+use Rattle.aes3_level.specs.declared.level.Level.{Level}
 use Rattle.aes3_cell.specs.declared.form.Form.{Form}
 use Rattle.aes3_cell.specs.Written.{ending}
-use Rattle.aes3_block.specs.declared.status.Channel.{Channel}
-use Rattle.aes3_block.specs.declared.status.Channel.TheVariants.{First, Second}
-use Rattle.aes3_block.specs.Statuses.{status_of, bits_of_bytes, with_status}
-use Rattle.aes3_block.proofs.Runs.{Each27}
-use Rattle.aes3_block.proofs.Streams.{EachBlock27}
+use Rattle.aes3_frame.specs.declared.status.Channel.{Channel}
+use Rattle.aes3_frame.specs.declared.status.Channel.TheVariants.{First, Second}
+use Rattle.aes3_frame.specs.Statuses.{status_of, bits_of_bytes, with_status}
+use Rattle.aes3_frame.proofs.Runs.{Each27}
+use Rattle.aes3_frame.proofs.Streams.{EachBlock27}
 use Rattle.aes3_lock.specs.Reports.{reports, decided, blocks}
 use Rattle.aes3_status.specs.Statuses.{is_professional}
 use Rattle.aes3_status.specs.declared.change.Change.{Change}
-use Rattle.aes3_engine.specs.ReportRuns.{output}
-use Rattle.aes3_engine.specs.BlockRuns.{decided_blocks, report_bytes, numbered, normal_block, begun_stream}
-use Rattle.aes3_engine.specs.BlockRuns.{written_stream}
+use Rattle.aes3_runs.specs.ReportRuns.{output}
+use Rattle.aes3_runs.specs.BlockRuns.{decided_blocks, report_bytes, numbered, normal_block, begun_stream}
+use Rattle.aes3_runs.specs.BlockRuns.{written_stream}
 use Rattle.aes3_status.specs.declared.setting.Setting.{Setting}
 use Rattle.aes3_status.specs.Settings.{set_in_turn}
 use Rattle.aes3_engine.specs.Rewriting.{set_status, set_settings, checked, mended, changed, rewritten, rewritten_block}
 use Rattle.aes3_engine.specs.Rewriting.{rewritten_blocks}
-use Rattle.aes3_engine.proofs.BlockRuns.{whole-stream, begun-stream, normal-numbered}
+use Rattle.aes3_runs.proofs.BlockRuns.{whole-stream, begun-stream, normal-numbered}
 use Rattle.aes3_block.proofs.StatusLaws.{payloads-stay}
 
 -- the payloads keep their lengths

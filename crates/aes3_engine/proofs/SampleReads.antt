@@ -13,11 +13,11 @@ use Rattle.aes3_cell.specs.declared.refusal.RunError.{RunError}
 use Rattle.aes3_cell.specs.declared.refusal.RunError.TheVariants.{BadLength, BadSample}
 use Rattle.aes3_cell.specs.Ends.{Grew, GrewFront}
 use Rattle.aes3_cell.proofs.Growing.{grew-none, grew-is, front-is}
-use Rattle.aes3_block.specs.Blocks.{block_slots}
-use Rattle.aes3_block.specs.Files.{bytes_number, words_of, block_bytes, file}
-use Rattle.aes3_block.specs.Sampled.{payload_of_sample, sampled, filled}
-use Rattle.aes3_block.proofs.SampleBlocks.{words-join, words-zeros, sampled-join, sampled-short, sampled-one}
-use Rattle.aes3_block.proofs.Words.{length-words}
+use Rattle.aes3_frame.specs.Blocks.{block_slots}
+use Rattle.aes3_frame.specs.Files.{bytes_number, words_of, block_bytes, file}
+use Rattle.aes3_frame.specs.Sampled.{payload_of_sample, sampled, filled}
+use Rattle.aes3_frame.proofs.SampleBlocks.{words-join, words-zeros, sampled-join, sampled-short, sampled-one}
+use Rattle.aes3_frame.proofs.Words.{length-words}
 use Rattle.aes3_input.specs.Converting.{or_else, unless, fault_behind, out_behind, first_fault, out}
 use Rattle.aes3_input.specs.Running.{Fed, Stopped}
 use Rattle.aes3_input.proofs.Feeding.{front-longer}
@@ -26,7 +26,7 @@ use Rattle.aes3_status.specs.declared.change.Change.{Change}
 use Rattle.aes3_engine.specs.Rewriting.{rewritten, rewritten_blocks}
 use Rattle.aes3_engine.specs.Sampling.{sample_file, exact_words, pcm_file, begun_pcm, AllExact, is_low, more_of}
 use Rattle.aes3_engine.specs.Sampling.{sampling, Samples, block_bytes_len, frame_len}
-use Rattle.aes3_block.proofs.WholeBlocks.{count-within}
+use Rattle.aes3_frame.proofs.BlockLemmas.{count-within}
 use Rattle.std.proofs.lemmas.Option.{none-some, same_Some}
 
 -- the block file of the samples in bytes, as far as they are whole blocks

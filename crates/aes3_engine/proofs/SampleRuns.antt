@@ -9,11 +9,11 @@ use Rattle.aes3_cell.specs.declared.refusal.RunError.{RunError}
 use Rattle.aes3_cell.specs.declared.refusal.RunError.TheVariants.{BadCell, BadLength, BadCode, BadParity, Read, Write}
 use Rattle.aes3_cell.specs.declared.refusal.RunError.TheVariants.{TooLong, Memory, BadStatusText, BadPadding, BadSample}
 use Rattle.aes3_cell.specs.declared.counts.Counts.{Counts}
-use Rattle.aes3_block.specs.Blocks.{block_slots}
-use Rattle.aes3_block.specs.Files.{words_of}
-use Rattle.aes3_block.specs.Sampled.{sampled, filled}
-use Rattle.aes3_block.proofs.SampleBlocks.{length-sampled, length-filled}
-use Rattle.aes3_block.proofs.Words.{length-words}
+use Rattle.aes3_frame.specs.Blocks.{block_slots}
+use Rattle.aes3_frame.specs.Files.{words_of}
+use Rattle.aes3_frame.specs.Sampled.{sampled, filled}
+use Rattle.aes3_frame.proofs.SampleBlocks.{length-sampled, length-filled}
+use Rattle.aes3_frame.proofs.Words.{length-words}
 use Rattle.aes3_input.specs.Converting.{or_else, fault_behind, first_fault, out, whole}
 use Rattle.aes3_input.specs.Running.{CleanEnd, IsFault, converted}
 use Rattle.aes3_input.proofs.InputRuns.{Gives}

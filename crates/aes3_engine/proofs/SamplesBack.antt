@@ -2,25 +2,25 @@
 use Rattle.std.proofs.Common.{◌≡◌, ℕ, suc, List, [], ◌∷◌, ◌++◌, Bool, map, refl, ap, ap₂, ◌∙◌, arith}
 use Rattle.std.specs.List.{flat_map, All}
 use Rattle.aes3_cell.specs.declared.form.Form.{Form}
-use Rattle.aes3_cell.specs.declared.level.Level.TheVariants.{Low}
-use Rattle.aes3_block.specs.declared.status.Channel.{Channel}
-use Rattle.aes3_block.specs.Blocks.{IsBlock}
-use Rattle.aes3_block.specs.Files.{word_bytes, file_blocks}
-use Rattle.aes3_block.specs.Samples.{sample_of, block_samples, samples}
-use Rattle.aes3_block.specs.Sampled.{IsSample, sampled, filled}
-use Rattle.aes3_block.specs.Statuses.{with_status}
-use Rattle.aes3_block.proofs.Each.{all-nil, all-cons}
-use Rattle.aes3_block.proofs.FileLaws.{file_blocks-file}
-use Rattle.aes3_block.proofs.SampleBlocks.{sampled-lawful, samples-filled, samples-status, words-back}
+use Rattle.aes3_level.specs.declared.level.Level.TheVariants.{Low}
+use Rattle.aes3_frame.specs.declared.status.Channel.{Channel}
+use Rattle.aes3_frame.specs.Blocks.{IsBlock}
+use Rattle.aes3_frame.specs.Files.{word_bytes, file_blocks}
+use Rattle.aes3_frame.specs.Samples.{sample_of, block_samples, samples}
+use Rattle.aes3_frame.specs.Sampled.{IsSample, sampled, filled}
+use Rattle.aes3_frame.specs.Statuses.{with_status}
+use Rattle.aes3_frame.proofs.Each.{all-nil, all-cons}
+use Rattle.aes3_frame.proofs.FileLaws.{file_blocks-file}
+use Rattle.aes3_frame.proofs.SampleBlocks.{sampled-lawful, samples-filled, samples-status, words-back}
 use Rattle.aes3_block.proofs.StatusLaws.{status-only}
 use Rattle.aes3_lock.specs.Reports.{blocks}
 use Rattle.aes3_lock.proofs.NormalStreams.{stream-blocks}
 use Rattle.aes3_status.specs.declared.change.Change.{Change}
-use Rattle.aes3_engine.specs.BlockRuns.{written_stream}
+use Rattle.aes3_runs.specs.BlockRuns.{written_stream}
 use Rattle.aes3_engine.specs.Rewriting.{rewritten, rewritten_blocks}
 use Rattle.aes3_engine.specs.SampleLaws.{line_of_pcm, pcm_of_line}
 use Rattle.aes3_engine.specs.Sampling.{sample_file}
-use Rattle.aes3_engine.proofs.BlockRuns.{each27, read-back}
+use Rattle.aes3_runs.proofs.BlockRuns.{each27, read-back}
 use Rattle.aes3_engine.proofs.RewrittenBlocks.{rewritten-keeps}
 
 -- blocks with other channel status are blocks, and have the same samples

@@ -1,15 +1,15 @@
 -- Blocks with other channel status.
 use Rattle.std.specs.Prelude.{ℕ, List, Bool, Option, Some, None, map, take, slice_set, if◌then◌else◌}
 use Rattle.aes3_cell.specs.declared.form.Form.{Form}
-use Rattle.aes3_block.specs.declared.status.Channel.{Channel}
-use Rattle.aes3_block.specs.declared.status.Channel.TheVariants.{First, Second}
-use Rattle.aes3_block.specs.Statuses.{status_of, with_status}
+use Rattle.aes3_frame.specs.declared.status.Channel.{Channel}
+use Rattle.aes3_frame.specs.declared.status.Channel.TheVariants.{First, Second}
+use Rattle.aes3_frame.specs.Statuses.{status_of, with_status}
 use Rattle.aes3_status.specs.Statuses.{is_professional}
 use Rattle.aes3_status.specs.Check.{check_byte_of}
 use Rattle.aes3_status.specs.declared.setting.Setting.{Setting}
 use Rattle.aes3_status.specs.Settings.{set_in_turn}
 use Rattle.aes3_status.specs.declared.change.Change.{Change}
-use Rattle.aes3_engine.specs.BlockRuns.{normal_block}
+use Rattle.aes3_runs.specs.BlockRuns.{normal_block}
 
 -- the status of a channel set, where one is given
 abbrev pub set_status : Channel → Option (List ℕ) → List (List Bool) → List (List Bool)

@@ -2,13 +2,13 @@
 use Rattle.std.specs.Prelude.{ℕ, List, ◌≡◌}
 use Rattle.std.specs.List.{flat_map, All}
 use Rattle.aes3_cell.specs.declared.form.Form.{Form}
-use Rattle.aes3_block.specs.Files.{word_bytes, file_blocks}
-use Rattle.aes3_block.specs.Samples.{samples}
-use Rattle.aes3_block.specs.Sampled.{IsSample, filled}
+use Rattle.aes3_frame.specs.Files.{word_bytes, file_blocks}
+use Rattle.aes3_frame.specs.Samples.{samples}
+use Rattle.aes3_frame.specs.Sampled.{IsSample, filled}
 use Rattle.aes3_lock.specs.Reports.{blocks}
 use Rattle.aes3_input.specs.Inputs.{cells_of}
 use Rattle.aes3_status.specs.declared.change.Change.{Change}
-use Rattle.aes3_engine.specs.BlockRuns.{written_stream}
+use Rattle.aes3_runs.specs.BlockRuns.{written_stream}
 use Rattle.aes3_engine.specs.Sampling.{pcm_file}
 
 -- the line that `encode` writes of what `from_pcm` writes of bytes, and the samples that `to_pcm` writes of a line

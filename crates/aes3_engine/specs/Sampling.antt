@@ -4,8 +4,8 @@ use Rattle.std.specs.Prelude.{◌==◌, IsTrue, length, take, drop, get_or, if�
 use Rattle.aes3_cell.specs.declared.counts.Counts.{Counts}
 use Rattle.aes3_cell.specs.declared.refusal.RunError.{RunError}
 use Rattle.aes3_cell.specs.declared.refusal.RunError.TheVariants.{BadLength, BadSample, Read, Write, TooLong}
-use Rattle.aes3_block.specs.Files.{bytes_number, words_of, file}
-use Rattle.aes3_block.specs.Sampled.{sampled, filled}
+use Rattle.aes3_frame.specs.Files.{bytes_number, words_of, file}
+use Rattle.aes3_frame.specs.Sampled.{sampled, filled}
 use Rattle.aes3_input.specs.Converting.{Reading}
 use Rattle.aes3_input.specs.Running.{Promise}
 use Rattle.aes3_status.specs.declared.change.Change.{Change}

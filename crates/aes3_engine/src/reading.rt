@@ -5,9 +5,9 @@ ghost use Rattle.std.specs.Prelude.{length, map, take, IfOk, IfErr, IsOk, OnErr,
 ghost use Rattle.std.specs.List.{All};
 ghost use Rattle.aes3_cell.specs.Ends.{Grew, GrewFront, Told};
 ghost use Rattle.aes3_cell.specs.Written.{ending, written};
-ghost use Rattle.aes3_cell.specs.declared.level.Level.{Level};
-ghost use Rattle.aes3_block.specs.Blocks.{IsBlock};
-ghost use Rattle.aes3_block.specs.Files.{file};
+ghost use Rattle.aes3_level.specs.declared.level.Level.{Level};
+ghost use Rattle.aes3_frame.specs.Blocks.{IsBlock};
+ghost use Rattle.aes3_frame.specs.Files.{file};
 ghost use Rattle.aes3_lock.specs.Reports.{blocks, normal};
 ghost use Rattle.aes3_lock.specs.Damage.{apart, without};
 ghost use Rattle.aes3_lock.specs.FrameLaws.{AreAllLeft, AreClose};
@@ -17,13 +17,13 @@ ghost use Rattle.aes3_lock.specs.Pieces.{IsPiece, given_blocks, whole_blocks};
 ghost use Rattle.aes3_input.specs.Driving.{CellRun, IsCause};
 ghost use Rattle.aes3_input.specs.Inputs.{IsInput, cells_before, cells_of};
 ghost use Rattle.aes3_input.specs.Running.{Complete, movement_of};
-ghost use Rattle.aes3_engine.specs.BlockRuns.{begun_stream, cut_block, cut_blocks, decided_blocks};
-ghost use Rattle.aes3_engine.specs.BlockRuns.{file_block, normal_block, written_stream};
-ghost use Rattle.aes3_engine.specs.ReportRuns.{counts_of};
+ghost use Rattle.aes3_runs.specs.BlockRuns.{begun_stream, cut_block, cut_blocks, decided_blocks};
+ghost use Rattle.aes3_runs.specs.BlockRuns.{file_block, normal_block, written_stream};
+ghost use Rattle.aes3_runs.specs.ReportRuns.{counts_of};
 
-use crate::blocks::{BlockWriter, run_blocks};
 use aes3_block::{GatheredCells, put_block_file, put_read_block};
 use aes3_cell::{Counts, Fault, Form, Level, RunError, Sink, Source, put_ending};
+use aes3_runs::{BlockWriter, run_blocks};
 
 /// Writes blocks as cells in the normal polarity.
 #[derive(Drop)]

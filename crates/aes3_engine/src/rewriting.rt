@@ -7,14 +7,14 @@ ghost use Rattle.aes3_lock.specs.Reports.{blocks};
 ghost use Rattle.aes3_input.specs.Inputs.{cells_of};
 ghost use Rattle.aes3_input.specs.Driving.{CellRun};
 ghost use Rattle.aes3_input.specs.Running.{movement_of};
-ghost use Rattle.aes3_engine.specs.BlockRuns.{begun_stream, decided_blocks, written_stream};
-ghost use Rattle.aes3_engine.specs.ReportRuns.{counts_of};
+ghost use Rattle.aes3_runs.specs.BlockRuns.{begun_stream, decided_blocks, written_stream};
+ghost use Rattle.aes3_runs.specs.ReportRuns.{counts_of};
 ghost use Rattle.aes3_engine.specs.Rewriting.{mended, rewritten, rewritten_block, rewritten_blocks};
 ghost use Rattle.aes3_engine.specs.Rewriting.{set_settings, set_status};
 
-use crate::blocks::{BlockWriter, run_blocks};
 use aes3_block::{Block, Channel, GatheredCells, put_block};
 use aes3_cell::{Counts, Fault, Form, Level, RunError, Sink, Source, put_ending};
+use aes3_runs::{BlockWriter, run_blocks};
 use aes3_status::{Change, SETTINGS, Setting, Status, set_fields, with_check};
 
 /// Sets the status of a channel, where one is given.

@@ -4,19 +4,19 @@ ghost use Rattle.std.specs.Prelude.{◌≡◌, ℕ, ◌+◌, ◌<◌, ◌≤◌,
 ghost use Rattle.std.specs.List.{All};
 ghost use Rattle.aes3_cell.specs.Ends.{Grew, Told};
 ghost use Rattle.aes3_cell.specs.Written.{written};
-ghost use Rattle.aes3_cell.specs.declared.level.Level.{Level};
-ghost use Rattle.aes3_block.specs.Blocks.{IsBlock};
-ghost use Rattle.aes3_block.specs.Samples.{samples};
+ghost use Rattle.aes3_level.specs.declared.level.Level.{Level};
+ghost use Rattle.aes3_frame.specs.Blocks.{IsBlock};
+ghost use Rattle.aes3_frame.specs.Samples.{samples};
 ghost use Rattle.aes3_lock.specs.Reports.{blocks, normal};
 ghost use Rattle.aes3_input.specs.Inputs.{cells_of};
 ghost use Rattle.aes3_input.specs.Driving.{CellRun};
 ghost use Rattle.aes3_input.specs.Running.{movement_of};
-ghost use Rattle.aes3_engine.specs.BlockRuns.{decided_blocks, sample_block, written_stream};
-ghost use Rattle.aes3_engine.specs.ReportRuns.{counts_of};
+ghost use Rattle.aes3_runs.specs.BlockRuns.{decided_blocks, sample_block, written_stream};
+ghost use Rattle.aes3_runs.specs.ReportRuns.{counts_of};
 
-use crate::blocks::{BlockWriter, run_blocks};
 use aes3_block::{GatheredCells, put_block_samples};
 use aes3_cell::{Counts, Fault, Form, RunError, Sink, Source};
+use aes3_runs::{BlockWriter, run_blocks};
 
 /// Writes blocks as their samples.
 #[derive(Drop)]

@@ -4,8 +4,8 @@ ghost use Rattle.std.specs.Prelude.{◌≡◌, ◌≢◌, ℕ, ◌+◌, ◌-◌,
 ghost use Rattle.std.specs.Prelude.{true, None, Err, get_or, length, map, take, IfErr, IfOk};
 ghost use Rattle.std.specs.Prelude.{IfSome, IsOk, OnErr, IsTrue};
 ghost use Rattle.aes3_cell.specs.Ends.{Grew, GrewFront, Told};
-ghost use Rattle.aes3_block.specs.Files.{block_bytes, words_of};
-ghost use Rattle.aes3_block.specs.Sampled.{payload_of_sample};
+ghost use Rattle.aes3_frame.specs.Files.{block_bytes, words_of};
+ghost use Rattle.aes3_frame.specs.Sampled.{payload_of_sample};
 ghost use Rattle.aes3_input.specs.Running.{FrontRan, InputRun, movement_of};
 ghost use Rattle.aes3_engine.specs.Rewriting.{rewritten};
 ghost use Rattle.aes3_engine.specs.Sampling.{IsPcm, Samples, pcm_file, sampled_file, sampling};

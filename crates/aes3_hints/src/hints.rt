@@ -251,7 +251,7 @@ pub(crate) fn reads_packed(job: &Job) -> bool {
         | Job::Normal { input, .. }
         | Job::Check { input, .. }
         | Job::Account { input, .. }
-        | Job::Watch { input }
+        | Job::Watch { input, .. }
         | Job::Show { input }
         | Job::ShowChanges { input }
         | Job::Scan { input }

@@ -8,17 +8,21 @@ use Rattle.aes3_input.specs.Running.{Movement, PieceRan, EndRan}
 
 -- it has taken no more, and failed or did not
 with-sink : (P : Movement → Type 0) (t t' u : Option (List ℕ)) (k k' n : ℕ) → u ≡ t' → n ≡ k'
-    → P (record { old = t; new = t'; failed_old = k; failed_new = k' }) → P (record { old = t; new = u; failed_old = k; failed_new = n })
+    → P (record { old = t; new = t'; failed_old = k; failed_new = k' })
+    → P (record { old = t; new = u; failed_old = k; failed_new = n })
 with-sink P t t' u k k' n e q p =
     subst (λ (v : Option (List ℕ)). P (record { old = t; new = v; failed_old = k; failed_new = n })) (sym e)
     (subst (λ (v : ℕ). P (record { old = t; new = t'; failed_old = k; failed_new = v })) (sym q) p)
 
-pub piece-passed : (r₀ r : Reading) (f₀ f s : List ℕ → Type 0) (piece : List ℕ) (t t' u : Option (List ℕ)) (k k' n : ℕ) → u ≡ t' → n ≡ k'
+pub piece-passed : (r₀ r : Reading) (f₀ f s : List ℕ → Type 0) (piece : List ℕ) (t t' u : Option (List ℕ)) (k k' n : ℕ)
+    → u ≡ t' → n ≡ k'
     → PieceRan r₀ r f₀ f s piece (record { old = t; new = t'; failed_old = k; failed_new = k' }) (Ok tt)
     → PieceRan r₀ r f₀ f s piece (record { old = t; new = u; failed_old = k; failed_new = n }) (Ok tt)
-piece-passed r₀ r f₀ f s piece t t' u k k' n e q p = with-sink (λ x. PieceRan r₀ r f₀ f s piece x (Ok tt)) t t' u k k' n e q p
+piece-passed r₀ r f₀ f s piece t t' u k k' n e q p
+    = with-sink (λ x. PieceRan r₀ r f₀ f s piece x (Ok tt)) t t' u k k' n e q p
 
-pub piece-stuck : (r₀ r : Reading) (f₀ f s : List ℕ → Type 0) (piece : List ℕ) (t t' u : Option (List ℕ)) (k k' n : ℕ) → u ≡ t' → n ≡ k' + 1
+pub piece-stuck : (r₀ r : Reading) (f₀ f s : List ℕ → Type 0) (piece : List ℕ) (t t' u : Option (List ℕ)) (k k' n : ℕ)
+    → u ≡ t' → n ≡ k' + 1
     → PieceRan r₀ r f₀ f s piece (record { old = t; new = t'; failed_old = k; failed_new = k' }) (Ok tt)
     → PieceRan r₀ r f₀ f s piece (record { old = t; new = u; failed_old = k; failed_new = n }) (Err Write)
 piece-stuck r₀ r f₀ f s piece t t' u k k' n e q p = (

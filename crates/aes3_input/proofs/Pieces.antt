@@ -1,5 +1,32 @@
 -- The loop over pieces, and each way out of it.
-use Rattle.std.proofs.Common.{◌≡◌, ℕ, ◌+◌, ◌-◌, ◌<◌, ◌≤◌, inl, inr, Bool, IsTrue, List, [], ◌++◌, length, take, Option, None, Ok, Err, sym, ap, ◌∙◌, subst, append-nil, arith, length-append}
+use Rattle.std.proofs.Common.{
+  ◌≡◌,
+  ℕ,
+  ◌+◌,
+  ◌-◌,
+  ◌<◌,
+  ◌≤◌,
+  inl,
+  inr,
+  Bool,
+  IsTrue,
+  List,
+  [],
+  ◌++◌,
+  length,
+  take,
+  Option,
+  None,
+  Ok,
+  Err,
+  sym,
+  ap,
+  ◌∙◌,
+  subst,
+  append-nil,
+  arith,
+  length-append,
+}
 use Rattle.std.proofs.lemmas.Bool.{cases_lt}
 use Rattle.std.proofs.lemmas.List.{take_all, take-take, length-take-le}
 use Rattle.std.proofs.Math.Seq.{take-append-add}
@@ -8,7 +35,19 @@ use Rattle.aes3_cell.specs.declared.refusal.RunError.TheVariants.{Read, Write, T
 use Rattle.aes3_cell.specs.Ends.{Grew}
 use Rattle.aes3_cell.proofs.Growing.{grew-join, grew-is, front-join, front-is}
 use Rattle.aes3_input.specs.Converting.{Reading, before_fault, first_fault, out, whole}
-use Rattle.aes3_input.specs.Running.{Fed, PieceRan, EndRan, InputRan, Left, Run, Movement, Quiet, Clean, CleanEnd, converted}
+use Rattle.aes3_input.specs.Running.{
+  Fed,
+  PieceRan,
+  EndRan,
+  InputRan,
+  Left,
+  Run,
+  Movement,
+  Quiet,
+  Clean,
+  CleanEnd,
+  converted,
+}
 use Rattle.aes3_input.proofs.Outputs.{before-all}
 use Rattle.aes3_input.proofs.Feeding.{fed-is, fed-join, ran-join}
 
@@ -21,15 +60,18 @@ pub record Upto (r₀ r : Reading) (f₀ f : List ℕ → Type 0) (g₀ g t₀ t
 
 -- the change of an end
 abbrev pub changed : Option (List ℕ) → Option (List ℕ) → ℕ → ℕ → Movement
-changed old new failed_old failed_new = record { old = old; new = new; failed_old = failed_old; failed_new = failed_new }
+changed old new failed_old failed_new
+    = record { old = old; new = new; failed_old = failed_old; failed_new = failed_new }
 
 -- which of the bytes may be taken, with the last piece
-allowed-is : (max : ℕ) (a buf : List ℕ) (n j room : ℕ) → length a ≤ max → room ≡ max + 1 - length a → n ≤ room → n ≤ length buf
+allowed-is : (max : ℕ) (a buf : List ℕ) (n j room : ℕ) → length a ≤ max → room ≡ max + 1 - length a → n ≤ room
+    → n ≤ length buf
     → (n ≡ room → j + 1 ≡ n) → (n < room → j ≡ n) → take max (a ++ take n buf) ≡ a ++ take j buf
 allowed-is max a buf n j room h r le lb last all =
     let k = max - length a in
     let e : length a + k ≡ max = omega arith in
-    let t : take max (a ++ take n buf) ≡ a ++ take k (take n buf) = ap (λ z. take z (a ++ take n buf)) (sym e) ∙ take-append-add a (take n buf) k in
+    let t : take max (a ++ take n buf) ≡ a ++ take k (take n buf)
+    = ap (λ z. take z (a ++ take n buf)) (sym e) ∙ take-append-add a (take n buf) k in
     let l : length (take n buf) ≡ n = length-take-le n buf lb in
     t ∙ ap (λ z. a ++ z) (elim (cases_lt n room) [
       | inl q ↦ take_all k (take n buf) (omega arith) ∙ ap (λ z. take z buf) (sym (all q))
@@ -43,21 +85,32 @@ allowed-within n j room r last all = elim (cases_lt n room) [
 ]
 
 -- a piece that was fed
-pub upto-more : {r₀ r r' : Reading} {f₀ f f' : List ℕ → Type 0} {g₀ g g' t₀ t t' : Option (List ℕ)} {seen : ℕ} {p : List ℕ}
-    → Upto r₀ r f₀ f g₀ g t₀ t seen → Grew g g' p → Fed r r' f f' t t' p → Upto r₀ r' f₀ f' g₀ g' t₀ t' (seen + length p)
-upto-more {p = p} u h d = record { bytes = u.bytes ++ p; given = grew-join u.given h; count = ap (λ z. z + length p) u.count ∙ sym (length-append u.bytes p); fed = fed-join u.fed d }
+pub upto-more : {r₀ r r' : Reading} {f₀ f f' : List ℕ
+    → Type 0} {g₀ g g' t₀ t t' : Option (List ℕ)} {seen : ℕ} {p : List ℕ}
+    → Upto r₀ r f₀ f g₀ g t₀ t seen → Grew g g' p → Fed r r' f f' t t' p
+    → Upto r₀ r' f₀ f' g₀ g' t₀ t' (seen + length p)
+upto-more {p = p} u h d = record {
+  bytes = u.bytes ++ p;
+  given = grew-join u.given h;
+  count
+      = ap (λ z. z + length p) u.count ∙ sym (length-append u.bytes p);
+  fed = fed-join u.fed d;
+}
 
 -- what was written, and no fault, from the start
-written : {r₀ r : Reading} {f₀ f : List ℕ → Type 0} {t₀ t : Option (List ℕ)} {a : List ℕ} → Fed r₀ r f₀ f t₀ t a → f₀ [] → Grew t₀ t (out r₀ a)
+written : {r₀ r : Reading} {f₀ f : List ℕ → Type 0} {t₀ t : Option (List ℕ)} {a : List ℕ} → Fed r₀ r f₀ f t₀ t a → f₀ []
+    → Grew t₀ t (out r₀ a)
 unfolding out
 written d h = d.grew [] h
 
-faultless : {r₀ r : Reading} {f₀ f : List ℕ → Type 0} {t₀ t : Option (List ℕ)} {a : List ℕ} → Fed r₀ r f₀ f t₀ t a → f₀ [] → first_fault r₀ a ≡ None
+faultless : {r₀ r : Reading} {f₀ f : List ℕ → Type 0} {t₀ t : Option (List ℕ)} {a : List ℕ} → Fed r₀ r f₀ f t₀ t a
+    → f₀ [] → first_fault r₀ a ≡ None
 unfolding first_fault
 faultless d h = d.clean [] h
 
 -- the source fails
-pub ran-read : (max : ℕ) {r₀ r : Reading} {f₀ f : List ℕ → Type 0} (s z : List ℕ → Type 0) {g₀ g : Option (List ℕ)} (g' : Option (List ℕ)) {t₀ t : Option (List ℕ)} {seen : ℕ} (ended : Bool) (n₀ n n' k₀ k : ℕ)
+pub ran-read : (max : ℕ) {r₀ r : Reading} {f₀ f : List ℕ → Type 0} (s z : List ℕ → Type 0) {g₀ g : Option (List ℕ)}
+    (g' : Option (List ℕ)) {t₀ t : Option (List ℕ)} {seen : ℕ} (ended : Bool) (n₀ n n' k₀ k : ℕ)
     → Upto r₀ r f₀ f g₀ g t₀ t seen → f₀ [] → seen ≤ max → n ≡ n₀ → k ≡ k₀ → n' ≡ n + 1 → g' ≡ g
     → Run max r₀ f s z ended (changed g₀ g' n₀ n') (changed t₀ t k₀ k) (Err Read)
 ran-read max {r₀ = r₀} {f = f} s z {g₀ = g₀} g' ended n₀ n n' k₀ k u h le es ek e eg =
@@ -79,7 +132,8 @@ ran-read max {r₀ = r₀} {f = f} s z {g₀ = g₀} g' ended n₀ n n' k₀ k u
     }
 
 -- the source has ended
-pub ran-end : (max : ℕ) {r₀ r : Reading} {f₀ f : List ℕ → Type 0} (f' s z : List ℕ → Type 0) {g₀ g g' t₀ t : Option (List ℕ)} (t' : Option (List ℕ)) {seen : ℕ} (ended : Bool) (n₀ n k₀ k k' : ℕ)
+pub ran-end : (max : ℕ) {r₀ r : Reading} {f₀ f : List ℕ → Type 0} (f' s z : List ℕ → Type 0)
+    {g₀ g g' t₀ t : Option (List ℕ)} (t' : Option (List ℕ)) {seen : ℕ} (ended : Bool) (n₀ n k₀ k k' : ℕ)
     → Upto r₀ r f₀ f g₀ g t₀ t seen → f₀ [] → seen ≤ max → n ≡ n₀ → k ≡ k₀ → Grew g g' [] → IsTrue ended
     → EndRan r f s z (changed t t' k k') (Ok tt)
     → Run max r₀ f' s z ended (changed g₀ g' n₀ n) (changed t₀ t' k₀ k') (Ok seen)
@@ -108,9 +162,11 @@ ran-end max {r₀ = r₀} f' s z t' ended n₀ n k₀ k k' u h le es ek eg en e 
       left = tt;
     }
 
-ended-as : (max : ℕ) (r₀ r : Reading) (f s z : List ℕ → Type 0) (b : List ℕ) (ended : Bool) (source : Movement) (t₀ t t' : Option (List ℕ)) (k₀ k k' : ℕ) (e : RunError)
+ended-as : (max : ℕ) (r₀ r : Reading) (f s z : List ℕ → Type 0) (b : List ℕ) (ended : Bool) (source : Movement)
+    (t₀ t t' : Option (List ℕ)) (k₀ k k' : ℕ) (e : RunError)
     → CleanEnd max r₀ b ended → r ≡ r₀ → f b → Quiet source → k ≡ k₀ → Grew t₀ t (out r₀ b)
-    → EndRan r f s z (changed t t' k k') (Err e) → InputRan (converted r₀ z) max b ended source (changed t₀ t' k₀ k') (Err e)
+    → EndRan r f s z (changed t t' k k') (Err e)
+    → InputRan (converted r₀ z) max b ended source (changed t₀ t' k₀ k') (Err e)
 unfolding whole
 ended-as max r₀ r f s z b ended source t₀ t t' k₀ k k' Write c same h q ek g w =
     let v = w.0 b h in
@@ -141,7 +197,8 @@ ended-left max r₀ r f f' s z b sink TooLong c h w = absurd w
 ended-left max r₀ r f f' s z b sink e c h w =
     subst s (sym (ap (before_fault r₀ []) (take_all max b c.short) ∙ before-all r₀ [] b c.clean)) (w.0 b h).1
 
-pub ran-end_err : (max : ℕ) {r₀ r : Reading} {f₀ f : List ℕ → Type 0} (f' s z : List ℕ → Type 0) {g₀ g g' t₀ t : Option (List ℕ)} (t' : Option (List ℕ)) {seen : ℕ} (ended : Bool) (n₀ n k₀ k k' : ℕ) (e : RunError)
+pub ran-end_err : (max : ℕ) {r₀ r : Reading} {f₀ f : List ℕ → Type 0} (f' s z : List ℕ → Type 0)
+    {g₀ g g' t₀ t : Option (List ℕ)} (t' : Option (List ℕ)) {seen : ℕ} (ended : Bool) (n₀ n k₀ k k' : ℕ) (e : RunError)
     → Upto r₀ r f₀ f g₀ g t₀ t seen → f₀ [] → seen ≤ max → n ≡ n₀ → k ≡ k₀ → Grew g g' [] → IsTrue ended
     → EndRan r f s z (changed t t' k k') (Err e)
     → Run max r₀ f' s z ended (changed g₀ g' n₀ n) (changed t₀ t' k₀ k') (Err e)
@@ -154,14 +211,18 @@ ran-end_err max {r₀} {r} {f₀} {f} f' s z {g₀} {g} {g'} {t₀} {t} t' {seen
         given = grew-is (append-nil b) (grew-join u.given eg);
         few = omega arith;
         ran = ended-as max r₀ r f s z b ended (changed g₀ g' n₀ n) t₀ t t' k₀ k k' e
-            (record { clean = record { short = omega arith; clean = faultless u.fed h }; end = en }) u.fed.same (u.fed.follows [] h) es ek (written u.fed h) w;
+            (record { clean = record { short = omega arith; clean = faultless u.fed h }; end = en }) u.fed.same
+            (u.fed.follows [] h) es ek (written u.fed h) w;
       };
-      left = ended-left max r₀ r f f' s z b (changed t t' k k') e (record { short = omega arith; clean = faultless u.fed h }) (u.fed.follows [] h) w;
+      left = ended-left max r₀ r f f' s z b (changed t t' k k') e
+          (record { short = omega arith; clean = faultless u.fed h }) (u.fed.follows [] h) w;
     }
 
 -- a piece stops the run
-piece-as : (max : ℕ) (r₀ r' : Reading) (f₀ f' s z : List ℕ → Type 0) (b : List ℕ) (ended : Bool) (source sink : Movement) (e : RunError)
-    → PieceRan r₀ r' f₀ f' s (take max b) sink (Err e) → f₀ [] → Quiet source → InputRan (converted r₀ z) max b ended source sink (Err e)
+piece-as : (max : ℕ) (r₀ r' : Reading) (f₀ f' s z : List ℕ → Type 0) (b : List ℕ) (ended : Bool)
+    (source sink : Movement) (e : RunError)
+    → PieceRan r₀ r' f₀ f' s (take max b) sink (Err e) → f₀ [] → Quiet source
+    → InputRan (converted r₀ z) max b ended source sink (Err e)
 unfolding out first_fault
 piece-as max r₀ r' f₀ f' s z b ended source sink Write w h q = (q, w.0, inl (w.1 [] h))
 piece-as max r₀ r' f₀ f' s z b ended source sink Read w h q = absurd w
@@ -175,18 +236,22 @@ piece-left max r₀ r' f₀ f' s b sink Read w h = absurd w
 piece-left max r₀ r' f₀ f' s b sink TooLong w h = absurd w
 piece-left max r₀ r' f₀ f' s b sink e w h = w.0.left [] h
 
-pub ran-piece : (max : ℕ) {r₀ r : Reading} (r' : Reading) {f₀ f : List ℕ → Type 0} (f' s z : List ℕ → Type 0) {g₀ g g' t₀ t : Option (List ℕ)} (t' : Option (List ℕ)) {seen : ℕ} (ended : Bool) (n₀ n k₀ k k' : ℕ)
+pub ran-piece : (max : ℕ) {r₀ r : Reading} (r' : Reading) {f₀ f : List ℕ → Type 0} (f' s z : List ℕ → Type 0)
+    {g₀ g g' t₀ t : Option (List ℕ)} (t' : Option (List ℕ)) {seen : ℕ} (ended : Bool) (n₀ n k₀ k k' : ℕ)
     (m j room : ℕ) (buf : List ℕ) (e : RunError)
     → Upto r₀ r f₀ f g₀ g t₀ t seen → f₀ [] → seen ≤ max → n ≡ n₀ → k ≡ k₀
-    → Grew g g' (take m buf) → room ≡ max + 1 - seen → m ≤ room → m ≤ length buf → (m ≡ room → j + 1 ≡ m) → (m < room → j ≡ m)
+    → Grew g g' (take m buf) → room ≡ max + 1 - seen → m ≤ room → m ≤ length buf → (m ≡ room → j + 1 ≡ m)
+    → (m < room → j ≡ m)
     → PieceRan r r' f f' s (take j buf) (changed t t' k k') (Err e)
     → Run max r₀ f' s z ended (changed g₀ g' n₀ n) (changed t₀ t' k₀ k') (Err e)
-ran-piece max {r₀} {r} r' {f₀} {f} f' s z {g₀} {g} {g'} {t₀} {t} t' {seen} ended n₀ n k₀ k k' m j room buf e u h le es ek eg er mr mb last all w =
+ran-piece max {r₀} {r} r' {f₀} {f} f' s z {g₀} {g} {g'} {t₀} {t} t' {seen} ended n₀ n k₀ k k' m j room buf e u h le es
+    ek eg er mr mb last all w =
     let l = u.count in
     let a = u.bytes in
     let q = length-append a (take m buf) in
     let q' : length (take m buf) ≡ m = length-take-le m buf mb in
-    let x : take max (a ++ take m buf) ≡ a ++ take j buf = allowed-is max a buf m j room (omega arith) (omega arith) mr mb last all in
+    let x : take max (a ++ take m buf) ≡ a ++ take j buf
+    = allowed-is max a buf m j room (omega arith) (omega arith) mr mb last all in
     let p : PieceRan r₀ r' f₀ f' s (take max (a ++ take m buf)) (changed t₀ t' k₀ k') (Err e) =
     ran-join r' f' s t' k' (take j buf) [] (take max (a ++ take m buf)) e u.fed ek
     (ap (λ v. a ++ v) (append-nil (take j buf)) ∙ sym x) w in
@@ -201,10 +266,12 @@ ran-piece max {r₀} {r} r' {f₀} {f} f' s z {g₀} {g} {g'} {t₀} {t} t' {see
     }
 
 -- one byte too many
-pub ran-long : (max : ℕ) {r₀ r r' : Reading} {f₀ f f' : List ℕ → Type 0} (s z : List ℕ → Type 0) {g₀ g g' t₀ t t' : Option (List ℕ)} {seen : ℕ} (ended : Bool) (n₀ n k₀ k k' : ℕ)
+pub ran-long : (max : ℕ) {r₀ r r' : Reading} {f₀ f f' : List ℕ → Type 0} (s z : List ℕ → Type 0)
+    {g₀ g g' t₀ t t' : Option (List ℕ)} {seen : ℕ} (ended : Bool) (n₀ n k₀ k k' : ℕ)
     (m j room : ℕ) (buf : List ℕ)
     → Upto r₀ r f₀ f g₀ g t₀ t seen → f₀ [] → seen ≤ max → n ≡ n₀ → k ≡ k₀ → k' ≡ k
-    → Grew g g' (take m buf) → room ≡ max + 1 - seen → m ≤ room → m ≤ length buf → (m ≡ room → j + 1 ≡ m) → (m < room → j ≡ m) → max < seen + m
+    → Grew g g' (take m buf) → room ≡ max + 1 - seen → m ≤ room → m ≤ length buf → (m ≡ room → j + 1 ≡ m)
+    → (m < room → j ≡ m) → max < seen + m
     → Fed r r' f f' t t' (take j buf)
     → Run max r₀ f' s z ended (changed g₀ g' n₀ n) (changed t₀ t' k₀ k') (Err TooLong)
 ran-long max s z ended n₀ n k₀ k k' m j room buf u h le es ek e eg er mr mb last all long d =
@@ -212,7 +279,8 @@ ran-long max s z ended n₀ n k₀ k k' m j room buf u h le es ek e eg er mr mb 
     let a = u.bytes in
     let q = length-append a (take m buf) in
     let q' : length (take m buf) ≡ m = length-take-le m buf mb in
-    let x : take max (a ++ take m buf) ≡ a ++ take j buf = allowed-is max a buf m j room (omega arith) (omega arith) mr mb last all in
+    let x : take max (a ++ take m buf) ≡ a ++ take j buf
+    = allowed-is max a buf m j room (omega arith) (omega arith) mr mb last all in
     let v : length (take max (a ++ take m buf)) ≡ max = length-take-le max (a ++ take m buf) (omega arith) in
     let y = fed-is (sym x) (fed-join u.fed d) in
     record {

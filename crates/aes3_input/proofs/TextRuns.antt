@@ -1,10 +1,54 @@
 -- A run over cell text.
-use Rattle.std.proofs.Common.{◌≡◌, ℕ, ◌+◌, ◌<◌, ◌⊎◌, inl, inr, Bool, true, false, cond, List, [], ◌∷◌, ◌++◌, length, take, Option, Some, None, Ok, Err, refl, sym, ap, ◌∙◌, subst, arith, append_assoc, append-nil, length-append}
+use Rattle.std.proofs.Common.{
+  ◌≡◌,
+  ℕ,
+  ◌+◌,
+  ◌<◌,
+  ◌⊎◌,
+  inl,
+  inr,
+  Bool,
+  true,
+  false,
+  cond,
+  List,
+  [],
+  ◌∷◌,
+  ◌++◌,
+  length,
+  take,
+  Option,
+  Some,
+  None,
+  Ok,
+  Err,
+  refl,
+  sym,
+  ap,
+  ◌∙◌,
+  subst,
+  arith,
+  append_assoc,
+  append-nil,
+  length-append,
+}
 use Rattle.std.proofs.lemmas.Option.{none-some, same_Some}
-use Rattle.aes3_cell.specs.declared.level.Level.{Level}
+use Rattle.aes3_level.specs.declared.level.Level.{Level}
 use Rattle.aes3_cell.specs.declared.form.Form.TheVariants.{Text}
 use Rattle.aes3_cell.specs.declared.refusal.RunError.{RunError}
-use Rattle.aes3_cell.specs.declared.refusal.RunError.TheVariants.{Read, Write, TooLong, BadCell, BadLength, BadCode, BadParity, Memory, BadStatusText, BadPadding, BadSample}
+use Rattle.aes3_cell.specs.declared.refusal.RunError.TheVariants.{
+  Read,
+  Write,
+  TooLong,
+  BadCell,
+  BadLength,
+  BadCode,
+  BadParity,
+  Memory,
+  BadStatusText,
+  BadPadding,
+  BadSample,
+}
 use Rattle.aes3_cell.specs.CellText.{is_good_byte, byte_cells, good_bytes, good, cells_of_text, IsCellText}
 use Rattle.aes3_cell.specs.TextReading.{TextReader, text_reader_of}
 use Rattle.aes3_cell.proofs.CellTexts.{good-join, good-bad, text-more, cells-more, cells-bad}
@@ -24,7 +68,8 @@ text-none = record { is = refl }
 text-one : (x : ℕ) → is_good_byte x ≡ true → IsCellText (x ∷ [])
 text-one x e = text-more [] x text-none e
 
-byte-fault : (w : Writing Level) (b : List ℕ) (x : ℕ) (t : Bool) → is_good_byte x ≡ t → (text_reading w).fault b x ≡ cond t None (Some (BadCell (length b)))
+byte-fault : (w : Writing Level) (b : List ℕ) (x : ℕ) (t : Bool) → is_good_byte x ≡ t
+    → (text_reading w).fault b x ≡ cond t None (Some (BadCell (length b)))
 unfolding text_reading
 byte-fault w b x t e = ap (λ p. cond {A = Option RunError} p None (Some (BadCell (length b)))) e
 
@@ -33,21 +78,27 @@ clean-behind : (w : Writing Level) (p d : List ℕ) → fault_behind (text_readi
 clean-behind w p [] h = text-none
 clean-behind w p (x ∷ d) h = go (is_good_byte x) refl (clean-behind w (p ++ x ∷ []) d)
   where
-    go : (t : Bool) → is_good_byte x ≡ t → (fault_behind (text_reading w) (p ++ x ∷ []) d ≡ None → IsCellText d) → IsCellText (x ∷ d)
+    go : (t : Bool) → is_good_byte x ≡ t → (fault_behind (text_reading w) (p ++ x ∷ []) d ≡ None → IsCellText d)
+        → IsCellText (x ∷ d)
     go true e next =
-        let n = next (ap (λ o. or_else o (fault_behind (text_reading w) (p ++ x ∷ []) d)) (sym (byte-fault w p x true e)) ∙ h) in
+        let n = next (ap (λ o. or_else o (fault_behind (text_reading w) (p ++ x ∷ []) d))
+        (sym (byte-fault w p x true e)) ∙ h) in
         record { is = let g = good-join (x ∷ []) d (text-one x e) in let i = n.is in omega arith }
-    go false e next = absurd (none-some _ (sym h ∙ ap (λ o. or_else o (fault_behind (text_reading w) (p ++ x ∷ []) d)) (byte-fault w p x false e)))
+    go false e next = absurd (none-some _
+        (sym h ∙ ap (λ o. or_else o (fault_behind (text_reading w) (p ++ x ∷ []) d)) (byte-fault w p x false e)))
 
-bad-behind : (w : Writing Level) (p d : List ℕ) (f : RunError) → fault_behind (text_reading w) p d ≡ Some f → (f ≡ BadCell (length p + good d)) × (good d < length d)
+bad-behind : (w : Writing Level) (p d : List ℕ) (f : RunError) → fault_behind (text_reading w) p d ≡ Some f
+    → (f ≡ BadCell (length p + good d)) × (good d < length d)
 bad-behind w p [] f h = absurd cc
 bad-behind w p (x ∷ d) f h = go (is_good_byte x) refl (bad-behind w (p ++ x ∷ []) d f)
   where
     go : (t : Bool) → is_good_byte x ≡ t
-        → (fault_behind (text_reading w) (p ++ x ∷ []) d ≡ Some f → (f ≡ BadCell (length (p ++ x ∷ []) + good d)) × (good d < length d))
+        → (fault_behind (text_reading w) (p ++ x ∷ []) d ≡ Some f
+        → (f ≡ BadCell (length (p ++ x ∷ []) + good d)) × (good d < length d))
         → (f ≡ BadCell (length p + good (x ∷ d))) × (good (x ∷ d) < length (x ∷ d))
     go true e next =
-        let n = next (ap (λ o. or_else o (fault_behind (text_reading w) (p ++ x ∷ []) d)) (sym (byte-fault w p x true e)) ∙ h) in
+        let n = next (ap (λ o. or_else o (fault_behind (text_reading w) (p ++ x ∷ []) d))
+        (sym (byte-fault w p x true e)) ∙ h) in
         let g : good (x ∷ d) ≡ 1 + good d = good-join (x ∷ []) d (text-one x e) in
         let l = length-append p (x ∷ []) in
         let s : length (p ++ x ∷ []) + good d ≡ length p + good (x ∷ d) = omega arith in
@@ -55,8 +106,11 @@ bad-behind w p (x ∷ d) f h = go (is_good_byte x) refl (bad-behind w (p ++ x �
         (n.0 ∙ ap BadCell s, omega arith)
     go false e next =
         let g : good (x ∷ d) ≡ 0 = good-bad [] x d text-none e in
-        let s : length p ≡ length p + good (x ∷ d) = omega arith in
-        (same_Some _ _ (sym h ∙ ap (λ o. or_else o (fault_behind (text_reading w) (p ++ x ∷ []) d)) (byte-fault w p x false e)) ∙ ap BadCell s, omega arith)
+        let s : length p ≡ length p + good (x ∷ d) = omega arith in (
+          same_Some _ _ (sym h ∙ ap (λ o. or_else o (fault_behind (text_reading w) (p ++ x ∷ []) d))
+              (byte-fault w p x false e)) ∙ ap BadCell s,
+          omega arith,
+        )
 
 pub text-clean : (w : Writing Level) (p d : List ℕ) → IsCellText d → fault_behind (text_reading w) p d ≡ None
 text-clean w p d g = go (fault_behind (text_reading w) p d) refl
@@ -69,7 +123,8 @@ clean-text : (w : Writing Level) (b : List ℕ) → first_fault (text_reading w)
 unfolding first_fault
 clean-text w b h = clean-behind w [] b h
 
-bad-text : (w : Writing Level) (b : List ℕ) (f : RunError) → first_fault (text_reading w) b ≡ Some f → (f ≡ BadCell (good b)) × (good b < length b)
+bad-text : (w : Writing Level) (b : List ℕ) (f : RunError) → first_fault (text_reading w) b ≡ Some f
+    → (f ≡ BadCell (good b)) × (good b < length b)
 unfolding first_fault
 bad-text w b f h = let q = bad-behind w [] b f h in (q.0 ∙ ap BadCell none-before, q.1)
   where
@@ -85,7 +140,8 @@ nothing-out : (w : Writing Level) → before_end w (cells_of_text []) ≡ []
 unfolding before_end
 nothing-out w = ap (before_end w) no-cells
 
-adds-text : (w : Writing Level) (b : List ℕ) (x : ℕ) → (text_reading w).adds b x ≡ behind w (cells_of_text b) (byte_cells x)
+adds-text : (w : Writing Level) (b : List ℕ) (x : ℕ)
+    → (text_reading w).adds b x ≡ behind w (cells_of_text b) (byte_cells x)
 unfolding text_reading
 adds-text w b x = refl
 
@@ -97,10 +153,12 @@ out-text w b =
   where
     more : (b : List ℕ) (x : ℕ) (t : Bool) → is_good_byte x ≡ t → IsCellText b → (text_reading w).fault b x ≡ None
         → before_end w (cells_of_text (b ++ x ∷ [])) ≡ before_end w (cells_of_text b) ++ (text_reading w).adds b x
-    more b x true e g n = ap (before_end w) (cells-more b x g) ∙ before-join w (cells_of_text b) (byte_cells x) ∙ ap (λ z. before_end w (cells_of_text b) ++ z) (sym (adds-text w b x))
+    more b x true e g n = ap (before_end w) (cells-more b x g) ∙ before-join w (cells_of_text b) (byte_cells x)
+        ∙ ap (λ z. before_end w (cells_of_text b) ++ z) (sym (adds-text w b x))
     more b x false e g n = absurd (none-some _ (sym n ∙ byte-fault w b x false e))
 
-    stays : (b : List ℕ) (x : ℕ) (d : List ℕ) (f : RunError) (t : Bool) → is_good_byte x ≡ t → IsCellText b → (text_reading w).fault b x ≡ Some f
+    stays : (b : List ℕ) (x : ℕ) (d : List ℕ) (f : RunError) (t : Bool) → is_good_byte x ≡ t → IsCellText b
+        → (text_reading w).fault b x ≡ Some f
         → before_end w (cells_of_text (b ++ x ∷ d)) ≡ before_end w (cells_of_text b)
     stays b x d f true e g n = absurd (none-some _ (sym (byte-fault w b x true e) ∙ n))
     stays b x d f false e g n = ap (before_end w) (cells-bad b x d g e)
@@ -118,14 +176,19 @@ cells-left w b = go [] b text-none
     go p (x ∷ d) g = step (is_good_byte x) refl (λ k. go (p ++ x ∷ []) d k)
       where
         step : (t : Bool) → is_good_byte x ≡ t
-            → (IsCellText (p ++ x ∷ []) → cells_of_text ((p ++ x ∷ []) ++ before_fault (text_reading w) (p ++ x ∷ []) d) ≡ cells_of_text ((p ++ x ∷ []) ++ d))
+            → (IsCellText (p ++ x ∷ [])
+            → cells_of_text ((p ++ x ∷ []) ++ before_fault (text_reading w) (p ++ x ∷ []) d)
+            ≡ cells_of_text ((p ++ x ∷ []) ++ d))
             → cells_of_text (p ++ before_fault (text_reading w) p (x ∷ d)) ≡ cells_of_text (p ++ x ∷ d)
         step true e next =
-            ap (λ o. cells_of_text (p ++ unless o (x ∷ before_fault (text_reading w) (p ++ x ∷ []) d))) (byte-fault w p x true e)
-            ∙ ap cells_of_text (sym (append_assoc p (x ∷ []) (before_fault (text_reading w) (p ++ x ∷ []) d))) ∙ next (text-more p x g e)
+            ap (λ o. cells_of_text (p ++ unless o (x ∷ before_fault (text_reading w) (p ++ x ∷ []) d)))
+            (byte-fault w p x true e)
+            ∙ ap cells_of_text (sym (append_assoc p (x ∷ []) (before_fault (text_reading w) (p ++ x ∷ []) d)))
+            ∙ next (text-more p x g e)
             ∙ ap cells_of_text (append_assoc p (x ∷ []) d)
         step false e next =
-            ap (λ o. cells_of_text (p ++ unless o (x ∷ before_fault (text_reading w) (p ++ x ∷ []) d))) (byte-fault w p x false e)
+            ap (λ o. cells_of_text (p ++ unless o (x ∷ before_fault (text_reading w) (p ++ x ∷ []) d)))
+            (byte-fault w p x false e)
             ∙ ap cells_of_text (append-nil p) ∙ sym (cells-bad p x d g e)
 
 text_reader-new : {r : TextReader} → r.seen ≡ 0 → r ≡ text_reader_of []
@@ -133,13 +196,21 @@ unfolding text_reader_of
 text_reader-new {r} e = ap (λ n. record { seen = n }) e
 
 -- nothing was taken
-pub starts : {text : TextReader} {cells : ℕ} (z : List Level → Type 0) → text.seen ≡ 0 → cells ≡ 0 → z [] → TextTaken text cells z []
+pub starts : {text : TextReader} {cells : ℕ} (z : List Level → Type 0) → text.seen ≡ 0 → cells ≡ 0 → z []
+    → TextTaken text cells z []
 starts {text} {cells} z e n h =
-    record { reader = text_reader-new e; lawful = text-none; count = n ∙ sym (ap length no-cells); taker = subst z (sym no-cells) h }
+    record {
+      reader = text_reader-new e;
+      lawful = text-none;
+      count = n ∙ sym (ap length no-cells);
+      taker
+          = subst z (sym no-cells) h;
+    }
 
 -- why a run was refused
 bad-of : (max : ℕ) (w : Writing Level) (b : List ℕ) (ended : Bool) (e : RunError)
-    → (first_fault (text_reading w) (take max b) ≡ Some e) ⊎ (CleanEnd max (text_reading w) b ended × ((text_reading w).end_fault b ≡ Some e))
+    → (first_fault (text_reading w) (take max b) ≡ Some e)
+    ⊎ (CleanEnd max (text_reading w) b ended × ((text_reading w).end_fault b ≡ Some e))
     → (e ≡ BadCell (good (take max b))) × (good (take max b) < length (take max b))
 unfolding text_reading
 bad-of max w b ended e h = elim h [
@@ -147,7 +218,8 @@ bad-of max w b ended e h = elim h [
   | inr g ↦ absurd (none-some _ g.1)
 ]
 
-text-cause : (w : Writing Level) (max : ℕ) (b : List ℕ) (ended : Bool) (e : RunError) → IsFault (text_reading w) max b ended e → IsCause Text max b ended e
+text-cause : (w : Writing Level) (max : ℕ) (b : List ℕ) (ended : Bool) (e : RunError)
+    → IsFault (text_reading w) max b ended e → IsCause Text max b ended e
 text-cause w max b ended Read r = (clean-text w b r.clean, r.short)
 text-cause w max b ended Write r = r
 text-cause w max b ended TooLong r = (clean-text w (take max b) r.0.clean, r.1)
@@ -168,22 +240,43 @@ text-cause w max b ended (BadPadding n) r = absurd (let q = (bad-of max w b ende
 text-cause w max b ended (BadSample n) r = absurd (let q = (bad-of max w b ended (BadSample n) r).0 in cc)
 
 -- the run
-text-gives : (w : Writing Level) (y : List ℕ → Type 0) (z : List Level → Type 0) → Gives (converted (text_reading w) y) (driven Text w z)
-text-gives w y z = record { input = λ b h. clean-text w b h.clean; whole = λ b h. whole-text w b; begun = out-text w; cause = text-cause w }
+text-gives : (w : Writing Level) (y : List ℕ → Type 0) (z : List Level → Type 0)
+    → Gives (converted (text_reading w) y) (driven Text w z)
+text-gives w y z = record {
+  input = λ b h. clean-text w b h.clean;
+  whole = λ b h. whole-text w b;
+  begun
+      = out-text w;
+  cause = text-cause w;
+}
 
-text-left : (max : ℕ) (w : Writing Level) (text : TextReader) (cells : ℕ) (f : List Level → Type 0) (b : List ℕ) (e : RunError)
-    → Left max (text_reading w) (TextTaken text cells f) (λ b. f (cells_of_text b)) b (Err e) → LeftCells max Text f b (Err e)
+text-left : (max : ℕ) (w : Writing Level) (text : TextReader) (cells : ℕ) (f : List Level → Type 0) (b : List ℕ)
+    (e : RunError)
+    → Left max (text_reading w) (TextTaken text cells f) (λ b. f (cells_of_text b)) b (Err e)
+    → LeftCells max Text f b (Err e)
 text-left max w text cells f b Write h = tt
 text-left max w text cells f b Read h = h.taker
 text-left max w text cells f b TooLong h = h.taker
 text-left max w text cells f b e h = subst f (cells-left w (take max b)) h
 
-pub text-ok : {max : ℕ} {w : Writing Level} {text : TextReader} {cells : ℕ} {f z : List Level → Type 0} {ended : Bool} {source sink : Movement} {n : ℕ}
-    → Run max (text_reading w) (TextTaken text cells f) (λ b. f (cells_of_text b)) (TextTaken text cells z) ended source sink (Ok n) → Drive max Text w f z ended source sink (Ok (n, cells))
+pub text-ok : {max : ℕ} {w : Writing Level} {text : TextReader} {cells : ℕ} {f z : List Level
+    → Type 0} {ended : Bool} {source sink : Movement} {n : ℕ}
+    → Run max (text_reading w) (TextTaken text cells f) (λ b. f (cells_of_text b)) (TextTaken text cells z)
+    ended source sink (Ok n) → Drive max Text w f z ended source sink (Ok (n, cells))
 text-ok {w = w} {text} {cells} {z = z} r =
-    record { run = run-ok (text-gives w (TextTaken text cells z) z) (λ b i h. (h.0.taker, h.1, h.0.count)) r.run; left = tt }
+    record {
+      run = run-ok (text-gives w (TextTaken text cells z) z) (λ b i h. (h.0.taker, h.1, h.0.count)) r.run;
+      left
+          = tt;
+    }
 
-pub text-err : {max : ℕ} {w : Writing Level} {text : TextReader} {cells : ℕ} {f z : List Level → Type 0} {ended : Bool} {source sink : Movement} {e : RunError}
-    → Run max (text_reading w) (TextTaken text cells f) (λ b. f (cells_of_text b)) (TextTaken text cells z) ended source sink (Err e) → Drive max Text w f z ended source sink (Err e)
+pub text-err : {max : ℕ} {w : Writing Level} {text : TextReader} {cells : ℕ} {f z : List Level
+    → Type 0} {ended : Bool} {source sink : Movement} {e : RunError}
+    → Run max (text_reading w) (TextTaken text cells f) (λ b. f (cells_of_text b)) (TextTaken text cells z)
+    ended source sink (Err e) → Drive max Text w f z ended source sink (Err e)
 text-err {max} {w} {text} {cells} {f} {z} {e = e} r =
-    record { run = run-err (text-gives w (TextTaken text cells z) z) r.run; left = text-left max w text cells f r.run.bytes e r.left }
+    record {
+      run = run-err (text-gives w (TextTaken text cells z) z) r.run;
+      left
+          = text-left max w text cells f r.run.bytes e r.left;
+    }

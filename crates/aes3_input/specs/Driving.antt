@@ -1,10 +1,22 @@
 -- What a run over cells answers, and what its taker has been given then.
 use Rattle.std.specs.Prelude.{ℕ, List, Bool, Result, Ok, Err, ◌≡◌, ◌≤◌, ◌+◌, IsTrue, length, take}
-use Rattle.aes3_cell.specs.declared.level.Level.{Level}
+use Rattle.aes3_level.specs.declared.level.Level.{Level}
 use Rattle.aes3_cell.specs.declared.form.Form.{Form}
 use Rattle.aes3_cell.specs.declared.counts.Counts.{Counts}
 use Rattle.aes3_cell.specs.declared.refusal.RunError.{RunError}
-use Rattle.aes3_cell.specs.declared.refusal.RunError.TheVariants.{BadCell, BadLength, BadCode, BadParity, Read, Write, TooLong, Memory, BadStatusText, BadPadding, BadSample}
+use Rattle.aes3_cell.specs.declared.refusal.RunError.TheVariants.{
+  BadCell,
+  BadLength,
+  BadCode,
+  BadParity,
+  Read,
+  Write,
+  TooLong,
+  Memory,
+  BadStatusText,
+  BadPadding,
+  BadSample,
+}
 use Rattle.aes3_input.specs.Running.{Movement, Promise, InputRun}
 use Rattle.aes3_input.specs.Taking.{Writing, before_end, with_end}
 use Rattle.aes3_input.specs.Inputs.{IsInput, cells_of, cells_before, NoBadByte, BadByteAt, BadEndAt}
@@ -24,7 +36,8 @@ IsCause form max b ended BadStatusText = ⊥
 IsCause form max b ended (BadSample at) = ⊥
 
 -- what a run over cells promises, of which all write `whole` and cells behind which more may come `begun`
-abbrev pub over_cells : {A : Type 0} → Form → (List Level → List ℕ) → (List Level → List ℕ) → (List ℕ → A → Type 0) → Promise A
+abbrev pub over_cells : {A : Type 0} → Form → (List Level → List ℕ) → (List Level → List ℕ) → (List ℕ → A → Type 0)
+    → Promise A
 over_cells form whole begun answer = record {
   input = IsInput form;
   whole = λ b. whole (cells_of form b);
@@ -37,12 +50,15 @@ over_cells form whole begun answer = record {
 abbrev pub counted_cells : Form → (List Level → List ℕ) → (List Level → List ℕ) → (List ℕ → Counts) → Promise Counts
 counted_cells form whole begun counts = over_cells form whole begun (λ b n. n ≡ counts b)
 
-abbrev pub CellRun : ℕ → Form → (List Level → List ℕ) → (List Level → List ℕ) → (List ℕ → Counts) → Bool → Movement → Movement → Result Counts RunError → Type 0
+abbrev pub CellRun : ℕ → Form → (List Level → List ℕ) → (List Level → List ℕ) → (List ℕ → Counts) → Bool → Movement
+    → Movement → Result Counts RunError → Type 0
 CellRun max form whole begun counts = InputRun (counted_cells form whole begun counts) max
 
--- what driving a taker promises, of which z holds then: how many bytes and cells there are; the taker was given exactly the cells
+-- what driving a taker promises, of which z holds then: how many bytes and cells there are; the taker was given exactly
+-- the cells
 abbrev pub driven : Form → Writing Level → (List Level → Type 0) → Promise (ℕ × ℕ)
-driven form w z = over_cells form (with_end w) (before_end w) (λ b n. z (cells_of form b) × (n.0 ≡ length b) × (n.1 ≡ length (cells_of form b)))
+driven form w z = over_cells form (with_end w) (before_end w)
+    (λ b n. z (cells_of form b) × (n.0 ≡ length b) × (n.1 ≡ length (cells_of form b)))
 
 -- what holds where a run over the bytes b was refused, and not by the sink: f of the cells before
 abbrev pub LeftCells : ℕ → Form → (List Level → Type 0) → List ℕ → Result (ℕ × ℕ) RunError → Type 0
@@ -51,6 +67,7 @@ LeftCells max form f b (Err Write) = Unit {0}
 LeftCells max form f b (Err e) = f (cells_before form (take max b))
 
 -- the run that drives a taker
-pub record Drive (max : ℕ) (form : Form) (w : Writing Level) (f z : List Level → Type 0) (ended : Bool) (source sink : Movement) (result : Result (ℕ × ℕ) RunError) : Type 0 where
+pub record Drive (max : ℕ) (form : Form) (w : Writing Level) (f z : List Level → Type 0) (ended : Bool)
+    (source sink : Movement) (result : Result (ℕ × ℕ) RunError) : Type 0 where
   pub run : InputRun (driven form w z) max ended source sink result
   pub left : LeftCells max form f run.bytes result

@@ -1,12 +1,35 @@
 -- What the two forms of cells make of an input's bytes.
-use Rattle.std.specs.Prelude.{ℕ, List, ◌++◌, Some, None, Result, Ok, Err, ◌≡◌, ◌+◌, ◌<◌, ◌≤◌, length, take, if◌then◌else◌}
-use Rattle.aes3_cell.specs.declared.level.Level.{Level}
+use Rattle.std.specs.Prelude.{
+  ℕ,
+  List,
+  ◌++◌,
+  Some,
+  None,
+  Result,
+  Ok,
+  Err,
+  ◌≡◌,
+  ◌+◌,
+  ◌<◌,
+  ◌≤◌,
+  length,
+  take,
+  if◌then◌else◌,
+}
+use Rattle.aes3_level.specs.declared.level.Level.{Level}
 use Rattle.aes3_cell.specs.declared.refusal.RunError.TheVariants.{BadCell, BadPadding}
 use Rattle.aes3_cell.specs.declared.ends.Fault.{Fault}
 use Rattle.aes3_cell.specs.Ends.{Grew, GrewFront}
-use Rattle.aes3_cell.specs.Words.{low_cells}
+use Rattle.aes3_level.specs.Words.{low_cells}
 use Rattle.aes3_cell.specs.Packed.{octet_cells, is_packed, last_place, cells_of_packed, whole_cells}
-use Rattle.aes3_cell.specs.PackedReading.{PackedReader, packed_reader_of, packed_answer, packed_end, answer_cells, end_cells}
+use Rattle.aes3_cell.specs.PackedReading.{
+  PackedReader,
+  packed_reader_of,
+  packed_answer,
+  packed_end,
+  answer_cells,
+  end_cells,
+}
 use Rattle.aes3_cell.specs.CellText.{is_good_byte, byte_cells, cells_of_text, IsCellText}
 use Rattle.aes3_cell.specs.TextReading.{TextReader, text_reader_of}
 use Rattle.aes3_input.specs.Converting.{Reading}
@@ -22,7 +45,8 @@ text_reading w = record {
   ends = λ b. w.ends (cells_of_text b);
 }
 
--- a reader that has taken the bytes b, none of which it refused; cells of them were counted, and a taker that took them follows f
+-- a reader that has taken the bytes b, none of which it refused; cells of them were counted, and a taker that took them
+-- follows f
 pub record TextTaken (text : TextReader) (cells : ℕ) (f : List Level → Type 0) (b : List ℕ) : Type 0 where
   pub reader : text ≡ text_reader_of b
   pub lawful : IsCellText b
@@ -48,7 +72,8 @@ packed_reading w = record {
   ends = λ b. behind w (whole_cells b) (end_cells (packed_end (packed_reader_of b))) ++ w.ends (cells_of_packed b);
 }
 
--- a reader that has taken the octets b; those cells of them that stand whatever follows were counted and taken; and the same behind the end
+-- a reader that has taken the octets b; those cells of them that stand whatever follows were counted and taken; and the
+-- same behind the end
 pub record PackedTaken (packed : PackedReader) (cells : ℕ) (f : List Level → Type 0) (b : List ℕ) : Type 0 where
   pub reader : packed ≡ packed_reader_of b
   pub count : cells ≡ length (whole_cells b)
@@ -59,17 +84,24 @@ pub record PackedEnded (cells : ℕ) (z : List Level → Type 0) (b : List ℕ) 
   pub taker : z (cells_of_packed b)
 
 -- a taker that followed f₀ and wrote as w₀ was handed the cells d; and the same with the end behind them
-abbrev pub CellsRan : Writing Level → Writing Level → (List Level → Type 0) → (List Level → Type 0) → List Level → Movement → Result (Unit {0}) Fault → Type 0
+abbrev pub CellsRan : Writing Level → Writing Level → (List Level → Type 0) → (List Level → Type 0) → List Level
+    → Movement → Result (Unit {0}) Fault → Type 0
 CellsRan w₀ w f₀ f d sink (Ok u) =
-    (w ≡ w₀) × ((c : List Level) → f₀ c → f (c ++ d)) × ((c : List Level) → f₀ c → Grew sink.old sink.new (behind w₀ c d)) × Quiet sink
-CellsRan w₀ w f₀ f d sink (Err x) = Failed sink × ((c : List Level) → f₀ c → GrewFront sink.old sink.new (behind w₀ c d))
+    (w ≡ w₀) × ((c : List Level) → f₀ c → f (c ++ d))
+    × ((c : List Level) → f₀ c → Grew sink.old sink.new (behind w₀ c d)) × Quiet sink
+CellsRan w₀ w f₀ f d sink (Err x)
+    = Failed sink × ((c : List Level) → f₀ c → GrewFront sink.old sink.new (behind w₀ c d))
 
--- of the first cells of a word, as many as told and one at least; where the sink failed, a front of what they write was taken
-abbrev pub FirstCellsRan : Writing Level → Writing Level → (List Level → Type 0) → (List Level → Type 0) → ℕ → ℕ → Movement → Result ℕ Fault → Type 0
+-- of the first cells of a word, as many as told and one at least; where the sink failed, a front of what they write was
+-- taken
+abbrev pub FirstCellsRan : Writing Level → Writing Level → (List Level → Type 0) → (List Level → Type 0) → ℕ → ℕ
+    → Movement → Result ℕ Fault → Type 0
 FirstCellsRan w₀ w f₀ f len word sink (Ok n) = (0 < n) × (n ≤ len) × CellsRan w₀ w f₀ f (low_cells n word) sink (Ok tt)
 FirstCellsRan w₀ w f₀ f len word sink (Err x) = CellsRan w₀ w f₀ f (low_cells len word) sink (Err x)
 
-abbrev pub EndCellsRan : Writing Level → (List Level → Type 0) → (List Level → Type 0) → List Level → Movement → Result (Unit {0}) Fault → Type 0
+abbrev pub EndCellsRan : Writing Level → (List Level → Type 0) → (List Level → Type 0) → List Level → Movement
+    → Result (Unit {0}) Fault → Type 0
 EndCellsRan w₀ f₀ z d sink (Ok u) =
     ((c : List Level) → f₀ c → z (c ++ d) × Grew sink.old sink.new (behind w₀ c d ++ w₀.ends (c ++ d))) × Quiet sink
-EndCellsRan w₀ f₀ z d sink (Err x) = Failed sink × ((c : List Level) → f₀ c → GrewFront sink.old sink.new (behind w₀ c d ++ w₀.ends (c ++ d)))
+EndCellsRan w₀ f₀ z d sink (Err x)
+    = Failed sink × ((c : List Level) → f₀ c → GrewFront sink.old sink.new (behind w₀ c d ++ w₀.ends (c ++ d)))

@@ -1,6 +1,6 @@
 -- An input of cells in either form.
 use Rattle.std.specs.Prelude.{ℕ, List, ◌≡◌, ◌<◌, length}
-use Rattle.aes3_cell.specs.declared.level.Level.{Level}
+use Rattle.aes3_level.specs.declared.level.Level.{Level}
 use Rattle.aes3_cell.specs.declared.form.Form.{Form}
 use Rattle.aes3_cell.specs.declared.form.Form.TheVariants.{Text, Packed}
 use Rattle.aes3_cell.specs.CellText.{good, cells_of_text, IsCellText}
@@ -15,7 +15,8 @@ abbrev pub cells_of : Form → List ℕ → List Level
 cells_of Text b = cells_of_text b
 cells_of Packed b = cells_of_packed b
 
--- the cells that bytes give whatever comes behind them: those before the first bad byte, or those of all octets but the last two
+-- the cells that bytes give whatever comes behind them: those before the first bad byte, or those of all octets but the
+-- last two
 abbrev pub cells_before : Form → List ℕ → List Level
 cells_before Text b = cells_of_text b
 cells_before Packed b = whole_cells b

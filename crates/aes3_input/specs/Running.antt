@@ -1,5 +1,25 @@
 -- What a run answers, and what it has written then.
-use Rattle.std.specs.Prelude.{ℕ, List, [], ◌++◌, Option, Some, None, Result, Ok, Err, ◌≡◌, ◌<◌, ◌≤◌, ◌+◌, ◌⊎◌, Bool, IsTrue, length, take}
+use Rattle.std.specs.Prelude.{
+  ℕ,
+  List,
+  [],
+  ◌++◌,
+  Option,
+  Some,
+  None,
+  Result,
+  Ok,
+  Err,
+  ◌≡◌,
+  ◌<◌,
+  ◌≤◌,
+  ◌+◌,
+  ◌⊎◌,
+  Bool,
+  IsTrue,
+  length,
+  take,
+}
 use Rattle.aes3_cell.specs.declared.refusal.RunError.{RunError}
 use Rattle.aes3_cell.specs.declared.refusal.RunError.TheVariants.{Read, Write, TooLong}
 use Rattle.aes3_cell.specs.Ends.{Grew, GrewFront}
@@ -32,34 +52,45 @@ pub record Fed (r₀ r : Reading) (f₀ f : List ℕ → Type 0) (t₀ t : Optio
   pub grew : (b : List ℕ) → f₀ b → Grew t₀ t (out_behind r₀ b a)
 
 -- it was stopped at the first fault of the bytes a; of the bytes before that s holds then
-pub record Stopped (r₀ : Reading) (f₀ s : List ℕ → Type 0) (t₀ t : Option (List ℕ)) (a : List ℕ) (e : RunError) : Type 0 where
+pub record Stopped (r₀ : Reading) (f₀ s : List ℕ → Type 0) (t₀ t : Option (List ℕ)) (a : List ℕ) (e : RunError)
+    : Type 0 where
   pub fault : (b : List ℕ) → f₀ b → fault_behind r₀ b a ≡ Some e
   pub left : (b : List ℕ) → f₀ b → s (b ++ before_fault r₀ b a)
   pub grew : (b : List ℕ) → f₀ b → Grew t₀ t (out_behind r₀ b a)
 
 -- what feeding a piece answers; only the loop tells Read and TooLong
-abbrev pub PieceRan : Reading → Reading → (List ℕ → Type 0) → (List ℕ → Type 0) → (List ℕ → Type 0) → List ℕ → Movement → Result (Unit {0}) RunError → Type 0
+abbrev pub PieceRan : Reading → Reading → (List ℕ → Type 0) → (List ℕ → Type 0) → (List ℕ → Type 0) → List ℕ → Movement
+    → Result (Unit {0}) RunError → Type 0
 PieceRan r₀ r f₀ f s piece sink (Ok u) = Fed r₀ r f₀ f sink.old sink.new piece × Quiet sink
-PieceRan r₀ r f₀ f s piece sink (Err Write) = Failed sink × ((b : List ℕ) → f₀ b → GrewFront sink.old sink.new (out_behind r₀ b piece))
+PieceRan r₀ r f₀ f s piece sink (Err Write)
+    = Failed sink × ((b : List ℕ) → f₀ b → GrewFront sink.old sink.new (out_behind r₀ b piece))
 PieceRan r₀ r f₀ f s piece sink (Err Read) = ⊥
 PieceRan r₀ r f₀ f s piece sink (Err TooLong) = ⊥
 PieceRan r₀ r f₀ f s piece sink (Err e) = Stopped r₀ f₀ s sink.old sink.new piece e × Quiet sink
 
 -- what taking a front of a piece answers: how many of its bytes these were
-abbrev pub FrontRan : Reading → Reading → (List ℕ → Type 0) → (List ℕ → Type 0) → (List ℕ → Type 0) → List ℕ → Movement → Result ℕ RunError → Type 0
-FrontRan r₀ r f₀ f s piece sink (Ok n) = (0 < n) × (n ≤ length piece) × Fed r₀ r f₀ f sink.old sink.new (take n piece) × Quiet sink
+abbrev pub FrontRan : Reading → Reading → (List ℕ → Type 0) → (List ℕ → Type 0) → (List ℕ → Type 0) → List ℕ → Movement
+    → Result ℕ RunError → Type 0
+FrontRan r₀ r f₀ f s piece sink (Ok n)
+    = (0 < n) × (n ≤ length piece) × Fed r₀ r f₀ f sink.old sink.new (take n piece) × Quiet sink
 FrontRan r₀ r f₀ f s piece sink (Err e) = PieceRan r₀ r f₀ f s piece sink (Err e)
 
 -- what the end answers; where it is no fault, z holds of the bytes, else s
-abbrev pub EndRan : Reading → (List ℕ → Type 0) → (List ℕ → Type 0) → (List ℕ → Type 0) → Movement → Result (Unit {0}) RunError → Type 0
-EndRan r f s z sink (Ok u) = ((b : List ℕ) → f b → (r.end_fault b ≡ None) × z b × Grew sink.old sink.new (r.ends b)) × Quiet sink
-EndRan r f s z sink (Err Write) = ((b : List ℕ) → f b → (r.end_fault b ≡ None) × GrewFront sink.old sink.new (r.ends b)) × Failed sink
+abbrev pub EndRan : Reading → (List ℕ → Type 0) → (List ℕ → Type 0) → (List ℕ → Type 0) → Movement
+    → Result (Unit {0}) RunError → Type 0
+EndRan r f s z sink (Ok u) = ((b : List ℕ) → f b → (r.end_fault b ≡ None) × z b × Grew sink.old sink.new (r.ends b))
+    × Quiet sink
+EndRan r f s z sink (Err Write)
+    = ((b : List ℕ) → f b → (r.end_fault b ≡ None) × GrewFront sink.old sink.new (r.ends b)) × Failed sink
 EndRan r f s z sink (Err Read) = ⊥
 EndRan r f s z sink (Err TooLong) = ⊥
-EndRan r f s z sink (Err e) = ((b : List ℕ) → f b → (r.end_fault b ≡ Some e) × s b × Grew sink.old sink.new []) × Quiet sink
+EndRan r f s z sink (Err e)
+    = ((b : List ℕ) → f b → (r.end_fault b ≡ Some e) × s b × Grew sink.old sink.new []) × Quiet sink
 
--- What a run promises: which bytes are an input of it, what it writes of one and of bytes behind which more may come, what it answers to one, and
--- why it refuses the bytes of a run of at most max bytes, where the truth value says whether the source has ended behind them.
+-- What a run promises: which bytes are an input of it, what it writes of one and of bytes behind which more may come,
+-- what it answers to one, and
+-- why it refuses the bytes of a run of at most max bytes, where the truth value says whether the source has ended
+-- behind them.
 pub record Promise (A : Type 0) : Type 1 where
   pub input : List ℕ → Type 0
   pub whole : List ℕ → List ℕ
@@ -74,12 +105,15 @@ pub record Complete (is_input : List ℕ → Type 0) (max : ℕ) (b : List ℕ) 
   pub end : IsTrue ended
 
 -- What a run answers to the bytes b:
--- Ok: they are an input of at most `max` bytes, and the source has ended; the answer; neither end failed; what the input writes is written
--- Write: the sink failed, once, and the source did not; a front is written of what the bytes up to the limit write behind which more may come,
+-- Ok: they are an input of at most `max` bytes, and the source has ended; the answer; neither end failed; what the
+-- input writes is written
+-- Write: the sink failed, once, and the source did not; a front is written of what the bytes up to the limit write
+-- behind which more may come,
 --   or, where the input is whole, of what it writes
 -- Read: its cause; the source failed, once, and the sink did not; what the bytes up to the limit write is written
 -- any other refusal: its cause; neither end failed; what the bytes up to the limit write is written
--- So Ok is owed where the input is in its form and fits and neither end failed: each refusal has a failure or a cause that says otherwise.
+-- So Ok is owed where the input is in its form and fits and neither end failed: each refusal has a failure or a cause
+-- that says otherwise.
 abbrev pub InputRan : {A : Type 0} → Promise A → ℕ → List ℕ → Bool → Movement → Movement → Result A RunError → Type 0
 InputRan p max b ended source sink (Ok n) =
     Complete p.input max b ended × p.answer b n × Quiet source × Quiet sink × Grew sink.old sink.new (p.whole b)
@@ -91,9 +125,11 @@ InputRan p max b ended source sink (Err Read) =
 InputRan p max b ended source sink (Err e) =
     p.cause max b ended e × Quiet source × Quiet sink × Grew sink.old sink.new (p.begun (take max b))
 
--- A run over an input of at most max bytes: the bytes that the source gave in it, which are those that it tells where it tells them, at most one
+-- A run over an input of at most max bytes: the bytes that the source gave in it, which are those that it tells where
+-- it tells them, at most one
 -- more than max; and what it answered to them, where `ended` says whether the source has ended.
-pub record InputRun {A : Type 0} (p : Promise A) (max : ℕ) (ended : Bool) (source sink : Movement) (result : Result A RunError) : Type 0 where
+pub record InputRun {A : Type 0} (p : Promise A) (max : ℕ) (ended : Bool) (source sink : Movement)
+    (result : Result A RunError) : Type 0 where
   pub bytes : List ℕ
   pub given : Grew source.old source.new bytes
   pub few : length bytes ≤ max + 1
@@ -131,7 +167,8 @@ converted r z = record {
   cause = IsFault r;
 }
 
--- what holds where a run over the bytes b was refused, and not by the sink: f of those up to max, or s of those before a fault
+-- what holds where a run over the bytes b was refused, and not by the sink: f of those up to max, or s of those before
+-- a fault
 abbrev pub Left : ℕ → Reading → (List ℕ → Type 0) → (List ℕ → Type 0) → List ℕ → Result ℕ RunError → Type 0
 Left max r f s b (Ok n) = Unit {0}
 Left max r f s b (Err Write) = Unit {0}
@@ -140,6 +177,7 @@ Left max r f s b (Err TooLong) = f (take max b)
 Left max r f s b (Err e) = s (before_fault r [] (take max b))
 
 -- a conversion's run
-pub record Run (max : ℕ) (r : Reading) (f s z : List ℕ → Type 0) (ended : Bool) (source sink : Movement) (result : Result ℕ RunError) : Type 0 where
+pub record Run (max : ℕ) (r : Reading) (f s z : List ℕ → Type 0) (ended : Bool) (source sink : Movement)
+    (result : Result ℕ RunError) : Type 0 where
   pub run : InputRun (converted r z) max ended source sink result
   pub left : Left max r f s run.bytes result

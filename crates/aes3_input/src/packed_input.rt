@@ -4,10 +4,10 @@ ghost use Rattle.std.specs.Prelude.{◌≡◌, ℕ, ◌+◌, ◌*◌, ◌<◌, �
 ghost use Rattle.std.specs.Prelude.{take, IfOk, IfSome, OnSome, IfNone};
 ghost use Rattle.std.specs.List.{flat_map};
 ghost use Rattle.aes3_cell.specs.declared.form.Form.{Form};
-ghost use Rattle.aes3_cell.specs.declared.level.Level.{Level};
+ghost use Rattle.aes3_level.specs.declared.level.Level.{Level};
 ghost use Rattle.aes3_cell.specs.Packed.{octet_cells, whole_cells};
 ghost use Rattle.aes3_cell.specs.PackedReading.{packed_reader_of};
-ghost use Rattle.aes3_cell.specs.Words.{low_cells, word_cells};
+ghost use Rattle.aes3_level.specs.Words.{low_cells, word_cells};
 ghost use Rattle.aes3_input.specs.Driving.{Drive};
 ghost use Rattle.aes3_input.specs.Forms.{CellsRan, EndCellsRan, PackedEnded, PackedTaken};
 ghost use Rattle.aes3_input.specs.Forms.{octet_front, packed_reading};

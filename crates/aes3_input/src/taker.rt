@@ -3,9 +3,9 @@
 ghost use Rattle.std.specs.Prelude.{◌≡◌, ◌+◌, ◌*◌, ◌<◌, ◌≤◌, ◌^◌, ◌++◌, List, [], ◌∷◌, length};
 ghost use Rattle.std.specs.Prelude.{IfOk, OnErr};
 ghost use Rattle.std.specs.List.{flat_map};
-ghost use Rattle.aes3_cell.specs.declared.level.Level.{Level};
+ghost use Rattle.aes3_level.specs.declared.level.Level.{Level};
 ghost use Rattle.aes3_cell.specs.Ends.{Grew, GrewFront};
-ghost use Rattle.aes3_cell.specs.Words.{low_cells, word_cells};
+ghost use Rattle.aes3_level.specs.Words.{low_cells, word_cells};
 ghost use Rattle.aes3_input.specs.Forms.{CellsRan, FirstCellsRan};
 ghost use Rattle.aes3_input.specs.Taking.{Writing};
 ghost use Rattle.aes3_input.specs.Running.{movement_of};

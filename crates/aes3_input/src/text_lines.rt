@@ -5,7 +5,7 @@ ghost use Rattle.std.specs.Prelude.{take, IfNone, IfSome, IsTrue, OnSome, ◌↔
 ghost use Rattle.std.specs.List.{flat_map};
 ghost use Rattle.aes3_cell.specs.CellText.{kind_of, separator};
 ghost use Rattle.aes3_cell.specs.Text.{byte_of};
-ghost use Rattle.aes3_cell.specs.Words.{word_cells};
+ghost use Rattle.aes3_level.specs.Words.{word_cells};
 ghost use Rattle.aes3_input.specs.Forms.{TextRead};
 
 use aes3_cell::{CellText, LINE_LEN, word_of_text};

@@ -6,7 +6,7 @@ ghost use Rattle.std.specs.Prelude.{if◌then◌else◌, true, IfNone};
 ghost use Rattle.std.specs.List.{flat_map};
 ghost use Rattle.aes3_cell.specs.CellText.{byte_cells, is_good_byte};
 ghost use Rattle.aes3_cell.specs.TextReading.{text_answer};
-ghost use Rattle.aes3_cell.specs.Words.{low_cells, word_cells};
+ghost use Rattle.aes3_level.specs.Words.{low_cells, word_cells};
 ghost use Rattle.aes3_input.specs.Forms.{TextRead};
 
 use crate::text_lines::{LINES, begins_line, ends_line, feed_lines, skip_separators};

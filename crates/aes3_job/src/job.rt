@@ -1,7 +1,7 @@
 //! What the program is asked to do.
 
 use aes3_cell::Form;
-use aes3_lines::Lines;
+use aes3_lines::{Lines, Style};
 use aes3_status::Change;
 
 /// What the program is asked to do.
@@ -30,9 +30,11 @@ pub enum Job {
         input: Form,
         lines: Lines,
     },
-    /// A line where what is known of a line changes: locked, lost, back, slipped and its end.
+    /// A line where what is known of a line changes: locked, lost, back, slipped and its end, in
+    /// this style.
     Watch {
         input: Form,
+        style: Style,
     },
     /// Two lines of channel status for each block.
     Show {

@@ -7,7 +7,9 @@ use Rattle.aes3_lines.specs.Settings.{LineShowsFields, OtherWordsStay, code_text
 use Rattle.aes3_status.proofs.SettingsApart.{other-codes-stay, other-meanings-stay}
 
 pub line-shows : LineShowsFields
-unfolding professional.signal_fields professional.mode_fields professional.name_fields professional.address_fields professional.professional_text consumer.signal_fields consumer.source_fields consumer.rate_fields consumer.length_fields consumer.consumer_text
+unfolding professional.signal_fields professional.mode_fields professional.name_fields professional.address_fields
+    professional.professional_text consumer.signal_fields consumer.source_fields consumer.rate_fields
+    consumer.length_fields consumer.consumer_text
 line-shows bytes check = (simp (append_assoc, append-nil), simp (append_assoc, append-nil))
 
 pub other-words-stay : OtherWordsStay

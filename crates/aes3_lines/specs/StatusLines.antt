@@ -1,7 +1,7 @@
 -- The line of a channel status.
 use Rattle.std.specs.Prelude.{ℕ, List, [], ◌∷◌, ◌++◌, if◌then◌else◌, codes, decimal}
-use Rattle.aes3_block.specs.declared.status.Channel.{Channel}
-use Rattle.aes3_block.specs.declared.status.Channel.TheVariants.{First, Second}
+use Rattle.aes3_frame.specs.declared.status.Channel.{Channel}
+use Rattle.aes3_frame.specs.declared.status.Channel.TheVariants.{First, Second}
 use Rattle.aes3_status.specs.Statuses.{is_professional}
 use Rattle.aes3_status.specs.Check.{check_state_of}
 use Rattle.aes3_lines.specs.Professional.{professional_text}

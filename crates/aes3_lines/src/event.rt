@@ -12,8 +12,8 @@ ghost use Rattle.aes3_lines.specs.StatusLines.{channel_digit};
 
 use crate::line::{DIGITS, LINE_LEN, Line};
 use crate::status::channel_digit as channel_number;
-use aes3_block::Channel;
 use aes3_cell::{Fault, Level, Sink};
+use aes3_frame::Channel;
 
 /// What a channel's validity bits are in a block: 0 says that a sample can be taken as it is
 /// (AES3-1, IEC 60958-1).

@@ -7,8 +7,8 @@ ghost use Rattle.aes3_lines.specs.StatusLines.{channel_digit, head_text, status_
 use crate::consumer::put_consumer;
 use crate::line::{LINE_LEN, Line};
 use crate::professional::put_professional;
-use aes3_block::Channel;
 use aes3_cell::{Fault, Sink};
+use aes3_frame::Channel;
 use aes3_status::{Status, check_state};
 
 /// How many bytes the beginning of a line has at most.

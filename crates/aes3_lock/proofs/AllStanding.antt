@@ -8,9 +8,9 @@ use Rattle.std.proofs.lemmas.List.{map-append}
 use Rattle.std.proofs.lemmas.List.Elements.{All-nil, All-append, Contains-append_right}
 use Rattle.std.proofs.lemmas.List.Kept.{AllPairs-cons}
 use Rattle.std.proofs.lemmas.Option.{same_Some}
-use Rattle.aes3_cell.specs.declared.level.Level.{Level}
+use Rattle.aes3_level.specs.declared.level.Level.{Level}
 use Rattle.aes3_slot.specs.Slots.{with_parity}
-use Rattle.aes3_block.specs.Blocks.{block_len}
+use Rattle.aes3_frame.specs.Blocks.{block_len}
 use Rattle.aes3_lock.specs.declared.report.Report.{Report}
 use Rattle.aes3_lock.specs.declared.report.Report.TheVariants.{Whole, Marked, Fault, Unfinished}
 use Rattle.aes3_lock.specs.Candidates.{begins_block}
@@ -21,7 +21,7 @@ use Rattle.aes3_lock.specs.Laws.{PlacedBlock, AreAllBlocks}
 use Rattle.aes3_lock.proofs.StandingBlocks.{block-stands, standing-begins, standing-room, standing-whole}
 use Rattle.aes3_lock.proofs.StandingBlocks.{whole-standing}
 use Rattle.aes3_lock.proofs.Ends.{outcome_at-none, outcome_at-some}
-use Rattle.aes3_block.proofs.CellLaws.{block_len_24576}
+use Rattle.aes3_frame.proofs.CellLaws.{block_len_24576}
 
 pub standing-at : (b : List (List Bool)) (s : Level) (c : List Level) → StandsClosed b s c
     → outcome_at c ≡ Some (whole s b)

@@ -5,13 +5,13 @@ use Rattle.std.proofs.Common.{subst, arith, length-take, length-drop, take-take,
 use Rattle.std.proofs.Common.{eq-eqb}
 use Rattle.std.proofs.lemmas.Bool.{cases_eq, cases_lt, cases_Bool, and_parts, eqb-true}
 use Rattle.std.proofs.lemmas.List.{take-append-drop}
-use Rattle.aes3_cell.specs.declared.level.Level.{Level}
-use Rattle.aes3_cell.specs.declared.level.Level.TheVariants.{Low}
-use Rattle.aes3_cell.specs.Cells.{other}
+use Rattle.aes3_level.specs.declared.level.Level.{Level}
+use Rattle.aes3_level.specs.declared.level.Level.TheVariants.{Low}
+use Rattle.aes3_level.specs.Cells.{other}
 use Rattle.aes3_slot.specs.Reading.{differs}
 use Rattle.aes3_slot.specs.Rules.{at, before, shape}
-use Rattle.aes3_block.specs.Blocks.{mark_at, block_len, block_cells, IsBlock}
-use Rattle.aes3_block.proofs.CellLaws.{length-block_cells, block_cells-unique, block_len_24576}
+use Rattle.aes3_frame.specs.Blocks.{mark_at, block_len, block_cells, IsBlock}
+use Rattle.aes3_frame.proofs.CellLaws.{length-block_cells, block_cells-unique, block_len_24576}
 use Rattle.aes3_lock.specs.Damage.{changed, between_slots, exchanged, places_apart}
 use Rattle.aes3_lock.specs.Remains.{left_of}
 use Rattle.aes3_lock.specs.Standing.{StandsClosed}
@@ -19,7 +19,7 @@ use Rattle.aes3_lock.proofs.Apart.{length-changed, at-changed, at-others, other-
 use Rattle.aes3_lock.proofs.DamageLaws.{stands-local}
 use Rattle.aes3_lock.proofs.Distances.{block-kept, block-level, other-same}
 use Rattle.aes3_lock.proofs.Exchanged.{Between, between-true, true-between, exchanged-block, exchanged-cells}
-use Rattle.aes3_block.proofs.BlockLemmas.{block_slots_384}
+use Rattle.aes3_frame.proofs.BlockLemmas.{block_slots_384}
 
 -- the first of the places, and those behind it where its cell is changed back
 abbrev First : ℕ → ℕ → List Level → List Level → Type 0

@@ -2,18 +2,18 @@
 -- levels.
 use Rattle.std.proofs.Common.{◌≡◌, ℕ, suc, ◌+◌, ◌*◌, ◌%◌, List, [], ◌∷◌, ◌++◌, Bool, true, false, map, refl, length}
 use Rattle.std.proofs.Common.{take, ap, ◌∙◌, sym, arith}
-use Rattle.aes3_cell.specs.declared.level.Level.{Level}
-use Rattle.aes3_cell.specs.declared.level.Level.TheVariants.{Low, High}
-use Rattle.aes3_cell.specs.Cells.{line, after}
-use Rattle.aes3_cell.proofs.Runs.{after-append}
+use Rattle.aes3_level.specs.declared.level.Level.{Level}
+use Rattle.aes3_level.specs.declared.level.Level.TheVariants.{Low, High}
+use Rattle.aes3_level.specs.Cells.{line, after}
+use Rattle.aes3_level.proofs.Runs.{after-append}
 use Rattle.aes3_slot.specs.declared.mark.Mark.{Mark}
 use Rattle.aes3_slot.specs.declared.mark.Mark.TheVariants.{X, Y, Z}
 use Rattle.aes3_slot.specs.Slots.{bits_runs, mark_runs, subframe_runs, runs_of, with_parity, IsPayload}
 use Rattle.aes3_slot.proofs.Subframes.{line-slots, after-mark, after-subframe}
-use Rattle.aes3_block.specs.Blocks.{mark_at, block_len, block_cells, IsBlock}
-use Rattle.aes3_block.proofs.CellLaws.{length-block_cells}
-use Rattle.aes3_block.proofs.Each.{each-payload}
-use Rattle.aes3_block.proofs.Runs.{Each27}
+use Rattle.aes3_frame.specs.Blocks.{mark_at, block_len, block_cells, IsBlock}
+use Rattle.aes3_frame.proofs.CellLaws.{length-block_cells}
+use Rattle.aes3_frame.proofs.Each.{each-payload}
+use Rattle.aes3_frame.proofs.Runs.{Each27}
 use Rattle.aes3_lock.specs.Damage.{apart, high_count}
 use Rattle.aes3_lock.specs.Standing.{StandsClosed}
 use Rattle.aes3_lock.proofs.Exchanged.{runs-cons}

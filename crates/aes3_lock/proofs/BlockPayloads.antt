@@ -8,10 +8,10 @@ use Rattle.aes3_slot.specs.Slots.{payload_len, with_parity}
 use Rattle.aes3_slot.specs.Rules.{Each28}
 use Rattle.aes3_slot.proofs.Parity.{split-parity}
 use Rattle.aes3_slot.proofs.Subframes.{odd_ones-with_parity}
-use Rattle.aes3_block.specs.Blocks.{block_slots, IsBlock}
-use Rattle.aes3_block.proofs.Runs.{Each27}
+use Rattle.aes3_frame.specs.Blocks.{block_slots, IsBlock}
+use Rattle.aes3_frame.proofs.Runs.{Each27}
 use Rattle.aes3_lock.specs.Outcomes.{payloads_of, wrong_parities}
-use Rattle.aes3_block.proofs.Each.{all-payloads}
+use Rattle.aes3_frame.proofs.Each.{all-payloads}
 
 -- with their parity bits 28
 pub payloads-with_parity : (b : List (List Bool)) → Each27 b → payloads_of (map with_parity b) ≡ b

@@ -6,10 +6,10 @@ use Rattle.std.specs.List.{Contains}
 use Rattle.std.proofs.lemmas.Bool.{cases_eq, cases_lt, cases_Bool}
 use Rattle.std.proofs.lemmas.List.{get_or_append_left}
 use Rattle.std.proofs.lemmas.List.Elements.{Contains-append_right, Contains-append_cases}
-use Rattle.aes3_cell.specs.declared.level.Level.{Level}
-use Rattle.aes3_cell.specs.declared.level.Level.TheVariants.{Low}
-use Rattle.aes3_cell.specs.Cells.{other}
-use Rattle.aes3_cell.proofs.Runs.{other_ne}
+use Rattle.aes3_level.specs.declared.level.Level.{Level}
+use Rattle.aes3_level.specs.declared.level.Level.TheVariants.{Low}
+use Rattle.aes3_level.specs.Cells.{other}
+use Rattle.aes3_level.proofs.Runs.{other_ne}
 use Rattle.aes3_slot.specs.declared.mark.Mark.{Mark}
 use Rattle.aes3_slot.specs.declared.mark.Mark.TheVariants.{Z}
 use Rattle.aes3_slot.specs.Rules.{at, before, shape, StandsMark, Kept}
@@ -17,9 +17,9 @@ use Rattle.aes3_slot.specs.Preambles.{entry}
 use Rattle.aes3_slot.proofs.Beginnings.{begins-stands, begins-short, stands-begins, stands-entry}
 use Rattle.aes3_slot.proofs.Distance.{stands-from, own-cell}
 use Rattle.aes3_slot.proofs.OwnPreambles.{stands-at}
-use Rattle.aes3_block.specs.Blocks.{mark_at, block_len, block_cells, stream, IsBlock}
-use Rattle.aes3_block.proofs.FileLaws.{EachBlock}
-use Rattle.aes3_block.proofs.CellLaws.{length-block_cells, stream-cons, block_len_24576}
+use Rattle.aes3_frame.specs.Blocks.{mark_at, block_len, block_cells, stream, IsBlock}
+use Rattle.aes3_frame.proofs.FileLaws.{EachBlock}
+use Rattle.aes3_frame.proofs.CellLaws.{length-block_cells, stream-cons, block_len_24576}
 use Rattle.aes3_lock.specs.declared.report.Report.{Report}
 use Rattle.aes3_lock.specs.Candidates.{begins_block, keeps, front}
 use Rattle.aes3_lock.specs.Damage.{changed}

@@ -3,7 +3,7 @@ use Rattle.std.proofs.Common.{◌≡◌, ℕ, zero, suc, ◌+◌, ◌<◌, ◌�
 use Rattle.std.proofs.Common.{◌||◌, ◌==◌, cond, refl, length, ap, ◌∙◌, sym, arith, eq-eqb, ne_eqb}
 use Rattle.std.proofs.lemmas.Bool.{cases_eq, cases_Bool, and_parts, eqb-true}
 use Rattle.std.specs.List.{Contains, filter, list_any}
-use Rattle.aes3_cell.specs.declared.level.Level.{Level}
+use Rattle.aes3_level.specs.declared.level.Level.{Level}
 use Rattle.aes3_slot.specs.Reading.{differs}
 use Rattle.aes3_slot.specs.Rules.{at}
 use Rattle.aes3_lock.specs.Damage.{between_slots, exchanged, places_apart}

@@ -3,13 +3,13 @@ use Rattle.std.proofs.Common.{◌≡◌, ◌≢◌, ℕ, suc, ◌+◌, ◌-◌, 
 use Rattle.std.proofs.Common.{take, drop, ap, ap₂, ◌∙◌, sym, subst, arith, length-drop, length-take, length-take-le}
 use Rattle.std.proofs.Common.{get_or-take, get_or-drop, ext_get_or}
 use Rattle.std.proofs.lemmas.Bool.{cases_eq, cases_lt}
-use Rattle.aes3_cell.specs.declared.level.Level.{Level}
-use Rattle.aes3_cell.specs.declared.level.Level.TheVariants.{Low}
-use Rattle.aes3_cell.specs.Cells.{other}
+use Rattle.aes3_level.specs.declared.level.Level.{Level}
+use Rattle.aes3_level.specs.declared.level.Level.TheVariants.{Low}
+use Rattle.aes3_level.specs.Cells.{other}
 use Rattle.aes3_slot.specs.Rules.{at}
-use Rattle.aes3_block.specs.Blocks.{block_len, block_cells, stream}
-use Rattle.aes3_block.proofs.FileLaws.{EachBlock, each-block}
-use Rattle.aes3_block.proofs.CellLaws.{length-block_cells, block_len_24576}
+use Rattle.aes3_frame.specs.Blocks.{block_len, block_cells, stream}
+use Rattle.aes3_frame.proofs.FileLaws.{EachBlock, each-block}
+use Rattle.aes3_frame.proofs.CellLaws.{length-block_cells, block_len_24576}
 use Rattle.aes3_lock.specs.Damage.{changed, apart, exchanged, places_apart}
 use Rattle.aes3_lock.specs.Remains.{left_of, after_changes}
 use Rattle.aes3_lock.specs.Pieces.{IsPiece, given_within, given_blocks}

@@ -2,15 +2,15 @@
 use Rattle.std.proofs.Common.{◌≡◌, ℕ, ◌-◌, ◌<◌, ◌≤◌, List, Bool, true, false, not, eqb, ltb, ◌&&◌, Option, Some, None}
 use Rattle.std.proofs.Common.{refl, take, ap, ◌∙◌, sym, arith, eq-eqb, lt-ltb, le-ltb, ltb-true, true≢false}
 use Rattle.std.proofs.lemmas.Bool.{and_parts, false_from_ne_true}
-use Rattle.aes3_cell.specs.declared.level.Level.{Level}
-use Rattle.aes3_cell.specs.declared.level.Level.TheVariants.{Low, High}
-use Rattle.aes3_cell.specs.Cells.{line}
+use Rattle.aes3_level.specs.declared.level.Level.{Level}
+use Rattle.aes3_level.specs.declared.level.Level.TheVariants.{Low, High}
+use Rattle.aes3_level.specs.Cells.{line}
 use Rattle.aes3_slot.specs.declared.mark.Mark.{Mark}
 use Rattle.aes3_slot.specs.declared.mark.Mark.TheVariants.{X, Y, Z}
 use Rattle.aes3_slot.specs.Slots.{mark_runs}
 use Rattle.aes3_slot.specs.Rules.{rule}
 use Rattle.aes3_slot.specs.Reading.{same, differs}
-use Rattle.aes3_block.specs.Blocks.{block_len, mark_at}
+use Rattle.aes3_frame.specs.Blocks.{block_len, mark_at}
 use Rattle.aes3_lock.specs.declared.report.Report.TheVariants.{Whole}
 use Rattle.aes3_slot.specs.Preambles.{entry, begins_with}
 use Rattle.aes3_lock.specs.Candidates.{begins_block}
@@ -19,7 +19,7 @@ use Rattle.aes3_lock.specs.Reports.{report_of}
 use Rattle.aes3_lock.specs.Steps.{begins_a_block, begun, ended, left}
 use Rattle.aes3_slot.proofs.Beginnings.{begins-stands}
 use Rattle.aes3_lock.proofs.Following.{begun-some, begun-none}
-use Rattle.aes3_block.proofs.CellLaws.{block_len_24576}
+use Rattle.aes3_frame.proofs.CellLaws.{block_len_24576}
 
 pub block-whole : (at : ℕ) (s : Level) (slots : List (List Bool)) (wrong : ℕ) → wrong ≡ wrong_parities slots → wrong ≡ 0
     → Whole at s (payloads_of slots) ≡ report_of at (block_outcome s slots)

@@ -6,15 +6,15 @@ use Rattle.std.proofs.Common.{drop, ap, ap₂, ◌∙◌, sym, arith, length-tak
 use Rattle.std.proofs.Common.{get_or-take, get_or-drop, ext_get_or}
 use Rattle.std.proofs.lemmas.Bool.{cases_eq, cases_lt}
 use Rattle.std.proofs.lemmas.List.{get_or_append_left}
-use Rattle.aes3_cell.specs.declared.level.Level.{Level}
-use Rattle.aes3_cell.specs.declared.level.Level.TheVariants.{Low}
-use Rattle.aes3_cell.specs.Cells.{other}
-use Rattle.aes3_cell.proofs.Runs.{other_ne}
+use Rattle.aes3_level.specs.declared.level.Level.{Level}
+use Rattle.aes3_level.specs.declared.level.Level.TheVariants.{Low}
+use Rattle.aes3_level.specs.Cells.{other}
+use Rattle.aes3_level.proofs.Runs.{other_ne}
 use Rattle.aes3_slot.specs.Rules.{at}
 use Rattle.aes3_slot.proofs.OwnPreambles.{begins}
-use Rattle.aes3_block.specs.Blocks.{block_len, block_cells, stream, IsBlock}
-use Rattle.aes3_block.proofs.FileLaws.{EachBlock}
-use Rattle.aes3_block.proofs.CellLaws.{length-block_cells, stream-cons, block_len_24576}
+use Rattle.aes3_frame.specs.Blocks.{block_len, block_cells, stream, IsBlock}
+use Rattle.aes3_frame.proofs.FileLaws.{EachBlock}
+use Rattle.aes3_frame.proofs.CellLaws.{length-block_cells, stream-cons, block_len_24576}
 use Rattle.aes3_lock.specs.Damage.{apart}
 use Rattle.aes3_lock.specs.Pieces.{IsPiece}
 use Rattle.aes3_lock.specs.Reports.{reports_from, wholes}

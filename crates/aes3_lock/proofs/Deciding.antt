@@ -6,16 +6,16 @@ use Rattle.std.proofs.Common.{append_assoc, append-nil}
 use Rattle.std.proofs.lemmas.Bool.{cases_lt, and_parts, eqb-false}
 use Rattle.std.proofs.lemmas.List.{get_or_append_left, take-append-le, drop-append-le, length-drop}
 use Rattle.std.proofs.lemmas.Option.{same_Some}
-use Rattle.aes3_cell.specs.declared.level.Level.{Level}
-use Rattle.aes3_cell.specs.declared.level.Level.TheVariants.{Low}
+use Rattle.aes3_level.specs.declared.level.Level.{Level}
+use Rattle.aes3_level.specs.declared.level.Level.TheVariants.{Low}
 use Rattle.aes3_slot.specs.declared.mark.Mark.TheVariants.{X, Y, Z}
 use Rattle.aes3_slot.specs.Rules.{StandsMark, at, before, shape, AllKept}
 use Rattle.aes3_slot.specs.Reading.{same, read_slots, read_bits}
 use Rattle.aes3_slot.proofs.Index.{before-append_left}
 use Rattle.aes3_slot.proofs.RuleTests.{same-refl}
 use Rattle.aes3_slot.proofs.OwnPreambles.{only-Z, stands-at}
-use Rattle.aes3_block.specs.Blocks.{mark_at, block_slots, block_len}
-pub use Rattle.aes3_block.proofs.CellLaws.{block_len_24576}
+use Rattle.aes3_frame.specs.Blocks.{mark_at, block_slots, block_len}
+pub use Rattle.aes3_frame.proofs.CellLaws.{block_len_24576}
 use Rattle.aes3_lock.specs.declared.report.Report.{Report}
 use Rattle.aes3_slot.specs.Preambles.{entry}
 use Rattle.aes3_lock.specs.Candidates.{keeps, front, begins_block}

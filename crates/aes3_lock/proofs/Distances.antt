@@ -3,27 +3,27 @@ use Rattle.std.proofs.Common.{◌≡◌, ℕ, zero, suc, ◌+◌, ◌-◌, ◌*�
 use Rattle.std.proofs.Common.{Bool, map, refl, length, take, drop, ap, ◌∙◌, sym, arith, length-take-le, length-drop}
 use Rattle.std.proofs.Common.{get_or-take, get_or-drop, lit<}
 use Rattle.std.proofs.lemmas.Bool.{cases_eq}
-use Rattle.aes3_cell.specs.declared.level.Level.{Level}
-use Rattle.aes3_cell.specs.declared.level.Level.TheVariants.{Low}
-use Rattle.aes3_cell.specs.Cells.{other}
-use Rattle.aes3_cell.proofs.Runs.{other-other}
+use Rattle.aes3_level.specs.declared.level.Level.{Level}
+use Rattle.aes3_level.specs.declared.level.Level.TheVariants.{Low}
+use Rattle.aes3_level.specs.Cells.{other}
+use Rattle.aes3_level.proofs.Runs.{other-other}
 use Rattle.aes3_slot.specs.declared.mark.Mark.{Mark}
 use Rattle.aes3_slot.specs.declared.mark.Mark.TheVariants.{X, Y, Z}
 use Rattle.aes3_slot.specs.Slots.{with_parity}
 use Rattle.aes3_slot.specs.Rules.{at, before, shape, AllKept}
 use Rattle.aes3_slot.proofs.Bridge.{kept-runs}
 use Rattle.aes3_slot.proofs.Distance.{preamble-apart, two-apart, own-cell}
-use Rattle.aes3_block.specs.Blocks.{mark_at, block_slots, block_len, block_cells, stream, IsBlock}
-use Rattle.aes3_block.proofs.FileLaws.{EachBlock}
-use Rattle.aes3_block.proofs.Each.{each-payload}
-use Rattle.aes3_block.proofs.CellLaws.{each28, length-block_cells, block_len_24576}
+use Rattle.aes3_frame.specs.Blocks.{mark_at, block_slots, block_len, block_cells, stream, IsBlock}
+use Rattle.aes3_frame.proofs.FileLaws.{EachBlock}
+use Rattle.aes3_frame.proofs.Each.{each-payload}
+use Rattle.aes3_frame.proofs.CellLaws.{each28, length-block_cells, block_len_24576}
 use Rattle.aes3_lock.specs.Damage.{apart}
 use Rattle.aes3_lock.proofs.Apart.{count-apart, count-parts}
 use Rattle.aes3_lock.proofs.Deciding.{later-marks}
 use Rattle.aes3_lock.proofs.LawfulPieces.{stream_marks, stream-kept, stream-length, stream-level, runs-level}
 use Rattle.aes3_lock.proofs.StandingBlocks.{first-mark}
 use Rattle.aes3_slot.proofs.OwnPreambles.{shape-first}
-use Rattle.aes3_block.proofs.BlockLemmas.{mark_at-odd, block_slots_384}
+use Rattle.aes3_frame.proofs.BlockLemmas.{mark_at-odd, block_slots_384}
 
 -- a block by the rule, and the level before each of its subframes
 pub block-kept : (t : Level) (d : List (List Bool)) → IsBlock d → AllKept mark_at t (block_cells t d)

@@ -11,8 +11,8 @@ use Rattle.std.proofs.lemmas.Bool.{cases_eq, cases_lt, false≢true}
 use Rattle.std.proofs.lemmas.List.{take_at, get_or-take, get_or_past}
 use Rattle.std.proofs.lemmas.Nat.{le_or_l, le_or_r}
 use Rattle.std.proofs.lemmas.Nat.Bits.{bit_at-zero}
-use Rattle.aes3_cell.specs.declared.level.Level.{Level}
-use Rattle.aes3_cell.specs.Words.{low_cells, word_cells, word_len}
+use Rattle.aes3_level.specs.declared.level.Level.{Level}
+use Rattle.aes3_level.specs.Words.{low_cells, word_cells, word_len}
 use Rattle.aes3_slot.specs.declared.mark.Mark.{Mark}
 use Rattle.aes3_slot.specs.declared.mark.Mark.TheVariants.{X, Y}
 use Rattle.aes3_slot.specs.Rules.{at}
@@ -23,10 +23,10 @@ use Rattle.aes3_slot.proofs.RuleTests.{same-true}
 use Rattle.aes3_slot.proofs.Fronts.{front-before}
 use Rattle.aes3_slot.proofs.ReadSubframes.{length-word}
 use Rattle.aes3_slot.proofs.WrongCells.{true-from_zero}
-use Rattle.aes3_block.specs.Blocks.{mark_at, block_slots, block_len}
-use Rattle.aes3_block.specs.Gathered.{IsRight, with_first}
-use Rattle.aes3_block.proofs.GatheredWords.{length-with_first}
-use Rattle.aes3_block.proofs.ReadCells.{right-subframe, none-wrong, even-by-last}
+use Rattle.aes3_frame.specs.Blocks.{mark_at, block_slots, block_len}
+use Rattle.aes3_frame.specs.Gathered.{IsRight, with_first}
+use Rattle.aes3_frame.proofs.GatheredWords.{length-with_first}
+use Rattle.aes3_frame.proofs.ReadCells.{right-subframe, none-wrong, even-by-last}
 use Rattle.aes3_lock.specs.declared.candidate.Candidate.{Candidate}
 use Rattle.aes3_lock.specs.Reports.{decided}
 use Rattle.aes3_lock.specs.Following.{LockState, Follows}

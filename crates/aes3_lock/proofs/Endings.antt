@@ -3,15 +3,15 @@ use Rattle.std.proofs.Common.{◌≡◌, ℕ, suc, ◌-◌, ◌<◌, ◌≤◌, 
 use Rattle.std.proofs.Common.{length, take, drop, ap, ◌∙◌, sym, subst, arith, take-append-drop, length-take}
 use Rattle.std.proofs.Common.{length-take-le, lt-ltb, le-ltb, true≢false}
 use Rattle.std.proofs.lemmas.Bool.{cases_lt, cases_Bool}
-use Rattle.aes3_cell.specs.declared.level.Level.{Level}
-use Rattle.aes3_cell.specs.Cells.{line}
+use Rattle.aes3_level.specs.declared.level.Level.{Level}
+use Rattle.aes3_level.specs.Cells.{line}
 use Rattle.aes3_slot.specs.Slots.{runs_of}
 use Rattle.aes3_slot.specs.Rules.{at, before, AllKept, Each28}
 use Rattle.aes3_slot.specs.Reading.{same, read_slots}
 use Rattle.aes3_slot.proofs.RuleTests.{same-true, same-refl}
 use Rattle.aes3_slot.proofs.Bridge.{read-runs}
 use Rattle.aes3_slot.proofs.Unique.{read_slots-line}
-use Rattle.aes3_block.specs.Blocks.{mark_at, block_slots, block_len}
+use Rattle.aes3_frame.specs.Blocks.{mark_at, block_slots, block_len}
 use Rattle.aes3_slot.specs.Preambles.{entry}
 use Rattle.aes3_lock.specs.Candidates.{front}
 use Rattle.aes3_lock.specs.Outcomes.{Outcome, fault, unfinished, outcome, block_outcome}
@@ -19,7 +19,7 @@ use Rattle.aes3_lock.specs.Standing.{IsClosed, SubframesStand}
 use Rattle.aes3_lock.proofs.Fronts.{IsFront, front-is, kept-from-keeps}
 use Rattle.aes3_lock.proofs.Deciding.{block_len_64}
 use Rattle.aes3_lock.proofs.Viability.{keeps-take}
-use Rattle.aes3_block.proofs.CellLaws.{block_len_24576}
+use Rattle.aes3_frame.proofs.CellLaws.{block_len_24576}
 
 -- the last cell of a block
 pub last-cell : (s : Level) (c : List Level) → before s c block_len ≡ at c (block_len - 1)

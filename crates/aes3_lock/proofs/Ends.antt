@@ -2,7 +2,7 @@
 use Rattle.std.proofs.Common.{◌≡◌, ℕ, zero, suc, ◌+◌, List, [], ◌∷◌, ◌++◌, Bool, true, false, cond, eqb, Some, None}
 use Rattle.std.proofs.Common.{refl, length, drop, ap, ◌∙◌, sym, arith, append_assoc, append-nil, length-drop}
 use Rattle.std.proofs.lemmas.Bool.{eqb-false}
-use Rattle.aes3_cell.specs.declared.level.Level.{Level}
+use Rattle.aes3_level.specs.declared.level.Level.{Level}
 use Rattle.aes3_lock.specs.declared.report.Report.{Report}
 use Rattle.aes3_slot.specs.Preambles.{entry}
 use Rattle.aes3_lock.specs.Candidates.{front, begins_block}

@@ -3,19 +3,19 @@ use Rattle.std.proofs.Common.{◌≡◌, ℕ, zero, suc, ◌+◌, ◌-◌, ◌*�
 use Rattle.std.proofs.Common.{Bool, true, false, ◌&&◌, ◌==◌, leb, le-leb, eq-eqb, not, map, refl, length, ap, ap₂, ◌∙◌}
 use Rattle.std.proofs.Common.{sym, arith, length-append}
 use Rattle.std.proofs.lemmas.Bool.{cases_lt, and_parts, leb-true, eqb-true}
-use Rattle.aes3_cell.specs.declared.level.Level.{Level}
-use Rattle.aes3_cell.specs.declared.level.Level.TheVariants.{Low, High}
-use Rattle.aes3_cell.specs.Cells.{line, other}
-use Rattle.aes3_cell.proofs.Runs.{line-append}
+use Rattle.aes3_level.specs.declared.level.Level.{Level}
+use Rattle.aes3_level.specs.declared.level.Level.TheVariants.{Low, High}
+use Rattle.aes3_level.specs.Cells.{line, other}
+use Rattle.aes3_level.proofs.Runs.{line-append}
 use Rattle.aes3_slot.specs.declared.mark.Mark.{Mark}
 use Rattle.aes3_bits.specs.Bits.{odd_ones}
 use Rattle.aes3_slot.specs.Slots.{bits_runs, mark_runs, slot_runs, subframe_runs, runs_of, with_parity, payload_len}
 use Rattle.aes3_slot.specs.Slots.{IsPayload}
 use Rattle.aes3_slot.proofs.Index.{length-mark}
 use Rattle.aes3_slot.proofs.Subframes.{not-not, line-slots, after-subframe, length-subframe}
-use Rattle.aes3_block.specs.Blocks.{mark_at, block_len, block_cells, IsBlock}
-use Rattle.aes3_block.proofs.Runs.{Each27}
-use Rattle.aes3_block.proofs.Each.{each-payload, all-payloads}
+use Rattle.aes3_frame.specs.Blocks.{mark_at, block_len, block_cells, IsBlock}
+use Rattle.aes3_frame.proofs.Runs.{Each27}
+use Rattle.aes3_frame.proofs.Each.{each-payload, all-payloads}
 use Rattle.aes3_lock.specs.Damage.{changed, pair_inverted, inverted_in, between_slots, exchanged}
 use Rattle.aes3_lock.proofs.Apart.{length-changed}
 

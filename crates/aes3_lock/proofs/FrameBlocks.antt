@@ -8,9 +8,9 @@ use Rattle.std.proofs.lemmas.Bool.{cases_eq, cases_lt}
 use Rattle.std.proofs.lemmas.List.{get_or_append_left, get_or-append-add}
 use Rattle.std.proofs.lemmas.List.Elements.{All-take, All-drop}
 use Rattle.std.specs.List.{flat_map}
-use Rattle.aes3_cell.specs.declared.level.Level.{Level}
-use Rattle.aes3_cell.specs.declared.level.Level.TheVariants.{Low, High}
-use Rattle.aes3_cell.specs.Cells.{line}
+use Rattle.aes3_level.specs.declared.level.Level.{Level}
+use Rattle.aes3_level.specs.declared.level.Level.TheVariants.{Low, High}
+use Rattle.aes3_level.specs.Cells.{line}
 use Rattle.aes3_slot.specs.declared.mark.Mark.{Mark}
 use Rattle.aes3_slot.specs.declared.mark.Mark.TheVariants.{X, Z}
 use Rattle.aes3_slot.specs.Slots.{bits_runs, mark_runs, subframe_runs, runs_of, with_parity, IsPayload}
@@ -18,10 +18,10 @@ use Rattle.aes3_slot.specs.Rules.{at, shape}
 use Rattle.aes3_slot.proofs.Distance.{own-cell}
 use Rattle.aes3_slot.proofs.Index.{length-mark}
 use Rattle.aes3_slot.proofs.Subframes.{line-slots, length-subframe}
-use Rattle.aes3_block.specs.Blocks.{mark_at, block_slots, block_len, block_cells, stream, IsBlock}
-use Rattle.aes3_block.proofs.Runs.{Each27}
-use Rattle.aes3_block.proofs.Each.{each-payload, all-payloads}
-use Rattle.aes3_block.proofs.FileLaws.{EachBlock}
+use Rattle.aes3_frame.specs.Blocks.{mark_at, block_slots, block_len, block_cells, stream, IsBlock}
+use Rattle.aes3_frame.proofs.Runs.{Each27}
+use Rattle.aes3_frame.proofs.Each.{each-payload, all-payloads}
+use Rattle.aes3_frame.proofs.FileLaws.{EachBlock}
 use Rattle.aes3_lock.specs.FrameLaws.{block_from, preamble_cells}
 use Rattle.aes3_lock.proofs.Distances.{block-mark}
 use Rattle.aes3_lock.proofs.Exchanged.{runs-cons}
@@ -29,8 +29,8 @@ use Rattle.aes3_lock.proofs.LawfulPieces.{payloads_in, each27-in, length-in, str
 use Rattle.aes3_lock.proofs.LawfulPieces.{stream-length, stream-level}
 use Rattle.aes3_lock.proofs.PlacesApart.{Has}
 use Rattle.aes3_lock.proofs.StandingBlocks.{first-mark}
-use Rattle.aes3_block.proofs.BlockLemmas.{mark_at-odd, block_slots_384}
-use Rattle.aes3_block.proofs.CellLaws.{block_len_24576}
+use Rattle.aes3_frame.proofs.BlockLemmas.{mark_at-odd, block_slots_384}
+use Rattle.aes3_frame.proofs.CellLaws.{block_len_24576}
 
 -- behind its preamble a subframe's cells are told by its payload
 payload-cell : (marks : ℕ → Mark) (s : Level) (ps : List (List Bool)) → Each27 ps → (j r : ℕ) → j < length ps → r < 56

@@ -8,13 +8,13 @@ use Rattle.std.proofs.lemmas.Bool.{cases_lt}
 use Rattle.std.proofs.lemmas.List.{get_or_append_left, get_or-append-add}
 use Rattle.std.proofs.lemmas.List.Elements.{All-contains, Contains-get_or}
 use Rattle.std.specs.List.{All, Contains, list_any}
-use Rattle.aes3_cell.specs.declared.level.Level.{Level}
-use Rattle.aes3_cell.specs.declared.level.Level.TheVariants.{Low}
-use Rattle.aes3_cell.proofs.Runs.{other_ne}
+use Rattle.aes3_level.specs.declared.level.Level.{Level}
+use Rattle.aes3_level.specs.declared.level.Level.TheVariants.{Low}
+use Rattle.aes3_level.proofs.Runs.{other_ne}
 use Rattle.aes3_slot.specs.Rules.{at, before}
-use Rattle.aes3_block.specs.Blocks.{block_len, block_cells, stream}
-use Rattle.aes3_block.proofs.FileLaws.{each-block}
-use Rattle.aes3_block.proofs.CellLaws.{length-block_cells, block_len_24576}
+use Rattle.aes3_frame.specs.Blocks.{block_len, block_cells, stream}
+use Rattle.aes3_frame.proofs.FileLaws.{each-block}
+use Rattle.aes3_frame.proofs.CellLaws.{length-block_cells, block_len_24576}
 use Rattle.aes3_lock.specs.Damage.{apart, places_apart}
 use Rattle.aes3_lock.specs.Remains.{left_of}
 use Rattle.aes3_lock.specs.FrameLaws.{block_from, preamble_cells, all_but, changes_from, IsLeftFrom, IsLeftAt}
@@ -33,7 +33,7 @@ use Rattle.aes3_lock.proofs.Distances.{block-level}
 use Rattle.aes3_lock.proofs.Exchanged.{Between}
 use Rattle.aes3_lock.proofs.FrameBlocks.{IsPreambleCell, has-preamble, from-block, own-alike, own-unlike}
 use Rattle.aes3_lock.proofs.PlacesApart.{Has, places-has, has-places}
-use Rattle.aes3_block.proofs.BlockLemmas.{block_slots_384}
+use Rattle.aes3_frame.proofs.BlockLemmas.{block_slots_384}
 use Rattle.aes3_slot.proofs.Distance.{equal-or}
 
 module _ (s : Level) (bs : List (List (List Bool))) (i j : ℕ) (c e : List Level) (p : IsPiece s bs i j c)

@@ -6,12 +6,12 @@ use Rattle.std.proofs.lemmas.List.{get_or_append_left}
 use Rattle.std.proofs.lemmas.List.Sums.{prefix_len_passes, prefix_len_stops, prefix_len-le-length}
 use Rattle.std.proofs.lemmas.List.FromFn.{length-range_with_len, get_or-range_with_len}
 use Rattle.std.specs.List.{range_with_len}
-use Rattle.aes3_cell.specs.declared.level.Level.{Level}
-use Rattle.aes3_cell.specs.declared.level.Level.TheVariants.{Low}
+use Rattle.aes3_level.specs.declared.level.Level.{Level}
+use Rattle.aes3_level.specs.declared.level.Level.TheVariants.{Low}
 use Rattle.aes3_slot.specs.Rules.{at, before, Kept}
 use Rattle.aes3_slot.proofs.Index.{before-append_left}
 use Rattle.aes3_slot.proofs.RuleTests.{kept-from-rule, rule-from-kept}
-use Rattle.aes3_block.specs.Blocks.{mark_at, block_len}
+use Rattle.aes3_frame.specs.Blocks.{mark_at, block_len}
 use Rattle.aes3_lock.specs.Candidates.{keeps, front}
 
 pub keeps-append : (s : Level) (c d : List Level) (i : ℕ) → i < length c → keeps s (c ++ d) i ≡ keeps s c i

@@ -2,11 +2,11 @@
 use Rattle.std.proofs.Common.{◌≡◌, ℕ, zero, suc, ◌+◌, ◌*◌, ◌<◌, ◌≤◌, List, [], ◌∷◌, refl, length, take, drop, get_or}
 use Rattle.std.proofs.Common.{ap, ap₂, ◌∙◌, sym, arith, length-drop, drop-drop}
 use Rattle.std.proofs.lemmas.List.{drop-take}
-use Rattle.aes3_cell.specs.declared.level.Level.{Level}
-use Rattle.aes3_cell.specs.Words.{word_cells}
+use Rattle.aes3_level.specs.declared.level.Level.{Level}
+use Rattle.aes3_level.specs.Words.{word_cells}
 use Rattle.aes3_slot.specs.Reading.{read_bits, read_slots}
 use Rattle.aes3_slot.specs.ReadWords.{read_words}
-use Rattle.aes3_block.specs.Blocks.{block_slots, block_len}
+use Rattle.aes3_frame.specs.Blocks.{block_slots, block_len}
 use Rattle.aes3_lock.specs.Following.{Filled}
 use Rattle.aes3_lock.proofs.Deciding.{block_len_64}
 

@@ -5,15 +5,15 @@ use Rattle.std.proofs.Common.{length-take-le, length-take, length-drop, get_or-t
 use Rattle.std.proofs.Common.{le-ltb, lt-ltb, eq-eqb, ne_eqb}
 use Rattle.std.specs.List.{All}
 use Rattle.std.proofs.lemmas.Bool.{cases_eq, cases_lt, lt-leb}
-use Rattle.aes3_cell.specs.declared.level.Level.{Level}
-use Rattle.aes3_cell.specs.declared.level.Level.TheVariants.{Low}
-use Rattle.aes3_cell.specs.Cells.{other}
-use Rattle.aes3_cell.proofs.Runs.{other_ne}
+use Rattle.aes3_level.specs.declared.level.Level.{Level}
+use Rattle.aes3_level.specs.declared.level.Level.TheVariants.{Low}
+use Rattle.aes3_level.specs.Cells.{other}
+use Rattle.aes3_level.proofs.Runs.{other_ne}
 use Rattle.aes3_slot.specs.Reading.{differs}
 use Rattle.aes3_slot.specs.Rules.{at}
-use Rattle.aes3_block.specs.Blocks.{block_len, block_cells, stream, IsBlock}
-use Rattle.aes3_block.proofs.FileLaws.{EachBlock, each-block}
-use Rattle.aes3_block.proofs.CellLaws.{length-block_cells, block_len_24576}
+use Rattle.aes3_frame.specs.Blocks.{block_len, block_cells, stream, IsBlock}
+use Rattle.aes3_frame.proofs.FileLaws.{EachBlock, each-block}
+use Rattle.aes3_frame.proofs.CellLaws.{length-block_cells, block_len_24576}
 use Rattle.aes3_lock.specs.Damage.{inserted}
 use Rattle.aes3_lock.specs.Remains.{after_insertion}
 use Rattle.aes3_lock.specs.Pieces.{given_within, given_blocks}
@@ -32,7 +32,7 @@ use Rattle.aes3_lock.proofs.Places.{gather, collect-gather, gather-add}
 use Rattle.aes3_lock.proofs.InsertedCells.{length-inserted, inserted-before, inserted-there, inserted-behind}
 use Rattle.aes3_lock.proofs.InsertedCells.{drop-inserted, run-cell, last-cell, in-middle, in-last, begun, in-run}
 use Rattle.aes3_lock.proofs.InsertedCells.{of-run, as-stream}
-use Rattle.aes3_block.proofs.BlockLemmas.{block_slots_384}
+use Rattle.aes3_frame.proofs.BlockLemmas.{block_slots_384}
 use Rattle.aes3_slot.proofs.Distance.{equal-or}
 
 module _ (s : Level) (bs : List (List (List Bool))) (h : EachBlock bs) (k : ℕ) (x : Level)

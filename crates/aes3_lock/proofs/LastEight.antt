@@ -3,9 +3,9 @@ use Rattle.std.proofs.Common.{◌≡◌, ℕ, zero, suc, ◌+◌, ◌-◌, ◌*�
 use Rattle.std.proofs.Common.{drop, replicate, ap, ap₂, ◌∙◌, sym, arith, length-append, length-drop, drop-drop, drop_at}
 use Rattle.std.proofs.Common.{get_or-drop, append_assoc}
 use Rattle.std.proofs.lemmas.List.{drop-append-le}
-use Rattle.aes3_cell.specs.declared.level.Level.{Level}
-use Rattle.aes3_cell.specs.declared.level.Level.TheVariants.{Low, High}
-use Rattle.aes3_cell.specs.Words.{low_cells, bit_of}
+use Rattle.aes3_level.specs.declared.level.Level.{Level}
+use Rattle.aes3_level.specs.declared.level.Level.TheVariants.{Low, High}
+use Rattle.aes3_level.specs.Words.{low_cells, bit_of}
 use Rattle.aes3_slot.specs.Rules.{at, before}
 use Rattle.aes3_lock.specs.Steps.{last_eight, eight_with}
 

@@ -3,9 +3,9 @@ use Rattle.std.proofs.Common.{◌≡◌, ℕ, zero, suc, ◌+◌, ◌*◌, ◌/�
 use Rattle.std.proofs.Common.{length, ap, ap₂, ◌∙◌, sym, subst, arith, append_assoc, length-append}
 use Rattle.std.specs.List.{flat_map}
 use Rattle.std.proofs.lemmas.List.{length-map, map-append}
-use Rattle.aes3_cell.specs.declared.level.Level.{Level}
-use Rattle.aes3_cell.specs.Cells.{line, after}
-use Rattle.aes3_cell.proofs.Runs.{line-append}
+use Rattle.aes3_level.specs.declared.level.Level.{Level}
+use Rattle.aes3_level.specs.Cells.{line, after}
+use Rattle.aes3_level.proofs.Runs.{line-append}
 use Rattle.aes3_slot.specs.declared.mark.Mark.{Mark}
 use Rattle.aes3_slot.specs.Slots.{slot_runs, subframe_runs, runs_of, with_parity, slots_len}
 use Rattle.aes3_slot.specs.Rules.{before, AllKept, StandsMark}
@@ -15,12 +15,12 @@ use Rattle.aes3_slot.proofs.Bridge.{kept-runs}
 use Rattle.aes3_slot.proofs.Aligned.{aligned, aligned-own}
 use Rattle.aes3_slot.proofs.OwnPreambles.{stands-room}
 use Rattle.aes3_slot.proofs.Distance.{stands-from}
-use Rattle.aes3_block.specs.Blocks.{mark_at, block_slots, block_runs, stream}
-use Rattle.aes3_block.proofs.Runs.{Each27}
-use Rattle.aes3_block.proofs.FileLaws.{EachBlock}
+use Rattle.aes3_frame.specs.Blocks.{mark_at, block_slots, block_runs, stream}
+use Rattle.aes3_frame.proofs.Runs.{Each27}
+use Rattle.aes3_frame.proofs.FileLaws.{EachBlock}
 use Rattle.aes3_lock.proofs.Viability.{length-runs_of}
-use Rattle.aes3_block.proofs.Each.{each-payload}
-use Rattle.aes3_block.proofs.CellLaws.{each28}
+use Rattle.aes3_frame.proofs.Each.{each-payload}
+use Rattle.aes3_frame.proofs.CellLaws.{each28}
 
 -- the payloads of blocks one behind the other
 abbrev pub payloads_in : List (List (List Bool)) → List (List Bool)

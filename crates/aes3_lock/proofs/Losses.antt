@@ -5,16 +5,16 @@ use Rattle.std.proofs.Common.{length-drop, get_or-take, get_or-drop, ext_get_or,
 use Rattle.std.proofs.lemmas.Bool.{cases_lt}
 use Rattle.std.proofs.lemmas.List.Elements.{All-map}
 use Rattle.std.specs.List.{All, Contains}
-use Rattle.aes3_cell.specs.declared.level.Level.{Level}
-use Rattle.aes3_cell.specs.declared.level.Level.TheVariants.{Low, High}
-use Rattle.aes3_cell.specs.Cells.{other}
-use Rattle.aes3_cell.proofs.Runs.{other_ne}
+use Rattle.aes3_level.specs.declared.level.Level.{Level}
+use Rattle.aes3_level.specs.declared.level.Level.TheVariants.{Low, High}
+use Rattle.aes3_level.specs.Cells.{other}
+use Rattle.aes3_level.proofs.Runs.{other_ne}
 use Rattle.aes3_slot.specs.declared.mark.Mark.TheVariants.{Z}
 use Rattle.aes3_slot.specs.Rules.{at, shape}
 use Rattle.aes3_slot.proofs.Distance.{stands-from}
-use Rattle.aes3_block.specs.Blocks.{mark_at, block_len, block_cells, stream}
-use Rattle.aes3_block.proofs.FileLaws.{each-block}
-use Rattle.aes3_block.proofs.CellLaws.{length-block_cells, block_len_24576}
+use Rattle.aes3_frame.specs.Blocks.{mark_at, block_len, block_cells, stream}
+use Rattle.aes3_frame.proofs.FileLaws.{each-block}
+use Rattle.aes3_frame.proofs.CellLaws.{length-block_cells, block_len_24576}
 use Rattle.aes3_lock.specs.Damage.{without}
 use Rattle.aes3_lock.specs.LossLaws.{without_each, StoodLater}
 use Rattle.aes3_lock.specs.Laws.{PlacedBlock}
@@ -28,7 +28,7 @@ use Rattle.aes3_lock.proofs.Distances.{block-level, block-mark}
 use Rattle.aes3_lock.proofs.LawfulPieces.{stream-aligned}
 use Rattle.aes3_lock.proofs.Lost.{without-before, without-behind}
 use Rattle.aes3_lock.proofs.StandingBlocks.{first-mark}
-use Rattle.aes3_block.proofs.BlockLemmas.{block_slots_384}
+use Rattle.aes3_frame.proofs.BlockLemmas.{block_slots_384}
 use Rattle.aes3_lock.proofs.InsertedCells.{first-run, run-cell}
 
 -- the cells that are left are those of the list, each at most n places later, and none back

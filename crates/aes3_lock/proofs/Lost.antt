@@ -4,11 +4,11 @@ use Rattle.std.proofs.Common.{◌&&◌, ◌==◌, cond, leb, ltb, refl, length, 
 use Rattle.std.proofs.Common.{length-take-le, length-drop, get_or-take, get_or-drop, ext_get_or, le-leb, le-ltb, eq-eqb}
 use Rattle.std.proofs.Common.{ne_eqb, lt-ltb}
 use Rattle.std.proofs.lemmas.Bool.{cases_eq, cases_lt, lt-leb}
-use Rattle.aes3_cell.specs.declared.level.Level.{Level}
-use Rattle.aes3_cell.specs.declared.level.Level.TheVariants.{Low}
+use Rattle.aes3_level.specs.declared.level.Level.{Level}
+use Rattle.aes3_level.specs.declared.level.Level.TheVariants.{Low}
 use Rattle.aes3_slot.specs.Rules.{at}
-use Rattle.aes3_block.specs.Blocks.{block_len, block_cells, stream, IsBlock}
-use Rattle.aes3_block.proofs.FileLaws.{EachBlock, each-block}
+use Rattle.aes3_frame.specs.Blocks.{block_len, block_cells, stream, IsBlock}
+use Rattle.aes3_frame.proofs.FileLaws.{EachBlock, each-block}
 use Rattle.aes3_lock.specs.Damage.{without, apart}
 use Rattle.aes3_lock.specs.Remains.{after_loss}
 use Rattle.aes3_lock.specs.Pieces.{IsPiece, given_within, given_blocks}
@@ -25,7 +25,7 @@ use Rattle.aes3_lock.proofs.LawfulPieces.{stream-length}
 use Rattle.aes3_lock.proofs.PlaceBlocks.{block_here, blocks-collect, here-none, here-some, here-any}
 use Rattle.aes3_lock.proofs.PieceBounds.{length-piece}
 use Rattle.aes3_lock.proofs.Places.{gather, collect-gather, gather-add}
-use Rattle.aes3_block.proofs.CellLaws.{block_len_24576}
+use Rattle.aes3_frame.proofs.CellLaws.{block_len_24576}
 
 -- the cells that are left
 pub length-without : (k : ℕ) (c : List Level) → k < length c → suc (length (without k c)) ≡ length c

@@ -6,11 +6,11 @@ use Rattle.std.specs.Prelude.{bit_or, nat_le, option_to_list, option_map, if◌t
 use Rattle.std.specs.Int.{bit_at}
 use Rattle.std.proofs.lemmas.Bool.{cases_eq, cases_lt, lt-leb}
 use Rattle.std.proofs.lemmas.Nat.Bits.{bit_at-zero}
-use Rattle.aes3_cell.specs.declared.level.Level.{Level}
-use Rattle.aes3_cell.specs.declared.level.Level.TheVariants.{Low}
-use Rattle.aes3_cell.specs.Cells.{other}
-use Rattle.aes3_cell.specs.Words.{low_cells, level_of, word_cells, word_len}
-use Rattle.aes3_cell.proofs.WordCells.{length-low_cells}
+use Rattle.aes3_level.specs.declared.level.Level.{Level}
+use Rattle.aes3_level.specs.declared.level.Level.TheVariants.{Low}
+use Rattle.aes3_level.specs.Cells.{other}
+use Rattle.aes3_level.specs.Words.{low_cells, level_of, word_cells, word_len}
+use Rattle.aes3_level.proofs.WordCells.{length-low_cells}
 use Rattle.aes3_slot.specs.Preambles.{entry, begins_with, begins_with_any, with_seven}
 use Rattle.aes3_slot.specs.Rules.{at}
 use Rattle.aes3_slot.specs.declared.mark.Mark.TheVariants.{X, Y, Z}

@@ -4,10 +4,10 @@ use Rattle.std.proofs.Common.{sym, subst, arith}
 use Rattle.std.specs.List.{All}
 use Rattle.std.proofs.lemmas.List.{take_all}
 use Rattle.std.proofs.lemmas.List.Elements.{All-map}
-use Rattle.aes3_cell.specs.declared.level.Level.{Level}
-use Rattle.aes3_cell.specs.declared.level.Level.TheVariants.{Low}
-use Rattle.aes3_block.specs.Blocks.{block_len, stream, IsBlock}
-use Rattle.aes3_block.proofs.FileLaws.{each-block}
+use Rattle.aes3_level.specs.declared.level.Level.{Level}
+use Rattle.aes3_level.specs.declared.level.Level.TheVariants.{Low}
+use Rattle.aes3_frame.specs.Blocks.{block_len, stream, IsBlock}
+use Rattle.aes3_frame.proofs.FileLaws.{each-block}
 use Rattle.aes3_lock.specs.Reports.{blocks, normal}
 use Rattle.aes3_lock.specs.Pieces.{given_within, whole_blocks}
 use Rattle.aes3_lock.proofs.AllStanding.{blocks-all_standing}

@@ -5,13 +5,13 @@ use Rattle.std.proofs.Common.{ap₂, ◌∙◌, sym, subst, arith, length-drop, 
 use Rattle.std.proofs.Common.{drop-cons, append_assoc, lt-ltb, le-ltb}
 use Rattle.std.proofs.lemmas.List.{take_more}
 use Rattle.std.proofs.lemmas.Bool.{cases_eq, cases_lt, false_from_ne_true}
-use Rattle.aes3_cell.specs.declared.level.Level.{Level}
-use Rattle.aes3_cell.specs.declared.level.Level.TheVariants.{Low}
-use Rattle.aes3_cell.specs.Words.{low_cells}
+use Rattle.aes3_level.specs.declared.level.Level.{Level}
+use Rattle.aes3_level.specs.declared.level.Level.TheVariants.{Low}
+use Rattle.aes3_level.specs.Words.{low_cells}
 use Rattle.aes3_slot.specs.Rules.{at, before, rule}
 use Rattle.aes3_slot.specs.Reading.{same, read_slots}
 use Rattle.aes3_slot.specs.ReadWords.{read_words}
-use Rattle.aes3_block.specs.Blocks.{mark_at, block_slots, block_len}
+use Rattle.aes3_frame.specs.Blocks.{mark_at, block_slots, block_len}
 use Rattle.aes3_lock.specs.declared.report.Report.{Report}
 use Rattle.aes3_lock.specs.declared.candidate.Candidate.{Candidate}
 use Rattle.aes3_slot.specs.Preambles.{entry}
@@ -27,7 +27,7 @@ use Rattle.aes3_lock.proofs.Fronts.{front-is, front-unique}
 use Rattle.aes3_lock.proofs.LastEight.{last_eight-with, last_eight-is}
 use Rattle.aes3_lock.proofs.Gathering.{words-whole}
 use Rattle.aes3_lock.proofs.TakenWords.{next-inside, next-whole}
-use Rattle.aes3_block.proofs.CellLaws.{block_len_24576}
+use Rattle.aes3_frame.proofs.CellLaws.{block_len_24576}
 
 -- the first cells as an octet
 pub octet-more : (c recent new : List Level) (i : ℕ) → i < length c → recent ≡ last_eight (take i c)

@@ -3,20 +3,20 @@
 use Rattle.std.proofs.Common.{◌≡◌, ℕ, zero, suc, ◌+◌, ◌*◌, ◌<◌, ◌≤◌, ◌⊎◌, inl, inr, cond, ltb, lt-ltb, le-ltb, List}
 use Rattle.std.proofs.Common.{Bool, refl, take, drop, ap, ◌∙◌, sym, arith, lit<}
 use Rattle.std.proofs.lemmas.Bool.{cases_lt}
-use Rattle.aes3_cell.specs.declared.level.Level.{Level}
-use Rattle.aes3_cell.specs.declared.level.Level.TheVariants.{Low, High}
-use Rattle.aes3_cell.specs.Cells.{other}
-use Rattle.aes3_cell.proofs.Runs.{other_ne}
+use Rattle.aes3_level.specs.declared.level.Level.{Level}
+use Rattle.aes3_level.specs.declared.level.Level.TheVariants.{Low, High}
+use Rattle.aes3_level.specs.Cells.{other}
+use Rattle.aes3_level.proofs.Runs.{other_ne}
 use Rattle.aes3_slot.specs.declared.mark.Mark.{Mark}
 use Rattle.aes3_slot.specs.declared.mark.Mark.TheVariants.{X, Y, Z}
 use Rattle.aes3_slot.specs.Rules.{at, before, shape}
 use Rattle.aes3_slot.proofs.Distance.{own-cell}
-use Rattle.aes3_block.specs.Blocks.{mark_at, block_slots, block_cells, IsBlock}
-use Rattle.aes3_block.proofs.CellLaws.{length-block_cells, block_len_24576}
+use Rattle.aes3_frame.specs.Blocks.{mark_at, block_slots, block_cells, IsBlock}
+use Rattle.aes3_frame.proofs.CellLaws.{length-block_cells, block_len_24576}
 use Rattle.aes3_lock.specs.Damage.{apart}
 use Rattle.aes3_lock.proofs.Apart.{count-apart, count-parts}
 use Rattle.aes3_lock.proofs.Distances.{block-kept, block-level, part-cell, part-length}
-use Rattle.aes3_block.proofs.BlockLemmas.{block_slots_384}
+use Rattle.aes3_frame.proofs.BlockLemmas.{block_slots_384}
 
 -- cell k of a preamble after the other level is the other one
 shape-other : (m : Mark) (k : ℕ) (s : Level) → k < 8 → shape m k (other s) ≡ other (shape m k s)

@@ -2,20 +2,20 @@
 use Rattle.std.proofs.Common.{◌≡◌, ℕ, zero, suc, ◌+◌, ◌-◌, ◌/◌, ◌%◌, ◌<◌, ◌≤◌, ◌⊎◌, inl, inr, List, Bool, length, take}
 use Rattle.std.proofs.Common.{drop, map, ap, ◌∙◌, sym, subst, arith, length-take-le, get_or-take, lit<}
 use Rattle.std.proofs.lemmas.Bool.{cases_lt, cases_eq}
-use Rattle.aes3_cell.specs.declared.level.Level.{Level}
-use Rattle.aes3_cell.specs.declared.level.Level.TheVariants.{Low}
+use Rattle.aes3_level.specs.declared.level.Level.{Level}
+use Rattle.aes3_level.specs.declared.level.Level.TheVariants.{Low}
 use Rattle.aes3_slot.specs.declared.mark.Mark.TheVariants.{Z}
 use Rattle.aes3_slot.specs.Slots.{with_parity}
 use Rattle.aes3_slot.specs.Rules.{at, AllKept, StandsMark}
 use Rattle.aes3_slot.proofs.OwnPreambles.{only-Z, three, stands-at, stands-room}
 use Rattle.aes3_slot.proofs.Distance.{stands-from}
-use Rattle.aes3_block.specs.Blocks.{mark_at, block_len}
+use Rattle.aes3_frame.specs.Blocks.{mark_at, block_len}
 use Rattle.aes3_lock.specs.Standing.{IsViable, StandsClosed}
 use Rattle.aes3_lock.proofs.Deciding.{later-marks}
 use Rattle.aes3_lock.proofs.Viability.{viable-kept}
 use Rattle.aes3_lock.proofs.StandingBlocks.{block-stands, standing-kept, standing-mark, standing-room}
 use Rattle.aes3_slot.proofs.Beginnings.{stands-drop, drop-stands, stands-entry}
-use Rattle.aes3_block.proofs.CellLaws.{block_len_24576}
+use Rattle.aes3_frame.proofs.CellLaws.{block_len_24576}
 
 -- in a viable list Z stands at the start alone
 pub viable-once : (s : Level) (c : List Level) → IsViable s c → (p : ℕ) (t : Level) → StandsMark Z t c p → p ≡ 0

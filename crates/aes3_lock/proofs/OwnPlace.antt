@@ -4,10 +4,10 @@
 use Rattle.std.proofs.Common.{◌≡◌, ◌≢◌, ℕ, zero, suc, ◌+◌, ◌<◌, ◌≤◌, ◌⊎◌, inl, inr, List, [], ◌∷◌, ◌++◌, Bool, true}
 use Rattle.std.proofs.Common.{false, map, refl, length, ap, ap₂, ◌∙◌, sym, subst, arith, length-append}
 use Rattle.std.proofs.lemmas.List.{get_or_append_left, get_or-append-add}
-use Rattle.aes3_cell.specs.declared.level.Level.{Level}
-use Rattle.aes3_cell.specs.declared.level.Level.TheVariants.{Low}
-use Rattle.aes3_cell.specs.Cells.{line, other, after}
-use Rattle.aes3_cell.proofs.Runs.{after-append}
+use Rattle.aes3_level.specs.declared.level.Level.{Level}
+use Rattle.aes3_level.specs.declared.level.Level.TheVariants.{Low}
+use Rattle.aes3_level.specs.Cells.{line, other, after}
+use Rattle.aes3_level.proofs.Runs.{after-append}
 use Rattle.aes3_slot.specs.declared.mark.Mark.{Mark}
 use Rattle.aes3_slot.specs.Slots.{bits_runs, mark_runs, subframe_runs, runs_of, with_parity, slots_len, IsPayload}
 use Rattle.aes3_slot.specs.Rules.{at}
@@ -15,10 +15,10 @@ use Rattle.aes3_slot.proofs.Index.{length-mark}
 use Rattle.aes3_slot.proofs.Parity.{some-unique}
 use Rattle.aes3_slot.proofs.SamePlace.{pair-apart}
 use Rattle.aes3_slot.proofs.Subframes.{line-slots, after-mark, after-subframe, length-with_parity, length-subframe}
-use Rattle.aes3_block.specs.Blocks.{mark_at, block_cells, IsBlock}
-use Rattle.aes3_block.proofs.CellLaws.{length-block_cells, block_cells-unique}
-use Rattle.aes3_block.proofs.Runs.{Each27}
-use Rattle.aes3_block.proofs.Each.{each-payload}
+use Rattle.aes3_frame.specs.Blocks.{mark_at, block_cells, IsBlock}
+use Rattle.aes3_frame.proofs.CellLaws.{length-block_cells, block_cells-unique}
+use Rattle.aes3_frame.proofs.Runs.{Each27}
+use Rattle.aes3_frame.proofs.Each.{each-payload}
 use Rattle.aes3_lock.specs.Damage.{changed, apart, exchanged}
 use Rattle.aes3_lock.proofs.Apart.{count-apart, length-changed, at-others, apart-mended, apart-none, other-of}
 use Rattle.aes3_lock.proofs.OtherLevel.{other-level}

@@ -8,10 +8,10 @@ use Rattle.std.proofs.Math.Seq.{take-append-add}
 use Rattle.std.proofs.lemmas.Bool.{cases_lt}
 use Rattle.std.proofs.lemmas.List.{drop-append-le}
 use Rattle.std.proofs.lemmas.Nat.{shr_le, and_le_r, one_shl, pow_pos}
-use Rattle.aes3_cell.specs.declared.level.Level.{Level}
-use Rattle.aes3_cell.specs.Words.{level_of, low_cells, word_cells}
-use Rattle.aes3_cell.proofs.WordCells.{length-low_cells, low_cells-add}
-use Rattle.aes3_cell.proofs.Moves.{bit_at-shr}
+use Rattle.aes3_level.specs.declared.level.Level.{Level}
+use Rattle.aes3_level.specs.Words.{level_of, low_cells, word_cells}
+use Rattle.aes3_level.proofs.WordCells.{length-low_cells, low_cells-add}
+use Rattle.aes3_level.proofs.Moves.{bit_at-shr}
 use Rattle.aes3_slot.specs.declared.mark.Mark.{Mark}
 use Rattle.aes3_slot.specs.ReadWords.{read_words}
 use Rattle.aes3_slot.specs.Reading.{same}
@@ -21,7 +21,7 @@ use Rattle.aes3_slot.specs.Preambles.{entry}
 use Rattle.aes3_slot.proofs.RuleTests.{stands-append}
 use Rattle.aes3_slot.proofs.WrongCells.{true-from_zero, false-from_one}
 use Rattle.aes3_slot.proofs.ReadSubframes.{length-word}
-use Rattle.aes3_block.specs.Blocks.{mark_at, block_slots, block_len}
+use Rattle.aes3_frame.specs.Blocks.{mark_at, block_slots, block_len}
 use Rattle.aes3_lock.specs.declared.candidate.Candidate.{Candidate}
 use Rattle.aes3_lock.specs.Candidates.{keeps}
 use Rattle.aes3_lock.specs.declared.report.Report.TheVariants.{Fault}
@@ -40,7 +40,7 @@ use Rattle.aes3_lock.proofs.WordSteps.{more-cells, made-whole, start, start-leng
 use Rattle.aes3_lock.proofs.Following.{hand, hand-open, offset, tested, goes-on, push-last}
 use Rattle.aes3_lock.proofs.TakenWords.{all-64}
 use Rattle.std.proofs.lemmas.Option.{same_Some}
-use Rattle.aes3_block.proofs.CellLaws.{block_len_24576}
+use Rattle.aes3_frame.proofs.CellLaws.{block_len_24576}
 
 -- x has the first cells of the word w behind those of the subframe at offset o of the candidate, and there is room for
 -- n of these

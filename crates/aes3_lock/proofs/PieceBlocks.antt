@@ -1,9 +1,9 @@
 -- The blocks of a piece of a lawful stream are those that lie whole in it.
 use Rattle.std.proofs.Common.{◌≡◌, ℕ, ◌-◌, ◌≤◌, List, [], ◌∷◌, Bool, length, take, drop, ap, ◌∙◌, arith, get_or-drop}
-use Rattle.aes3_cell.specs.declared.level.Level.{Level}
-use Rattle.aes3_cell.specs.declared.level.Level.TheVariants.{Low}
-use Rattle.aes3_block.specs.Blocks.{stream}
-use Rattle.aes3_block.proofs.FileLaws.{EachBlock, each-block}
+use Rattle.aes3_level.specs.declared.level.Level.{Level}
+use Rattle.aes3_level.specs.declared.level.Level.TheVariants.{Low}
+use Rattle.aes3_frame.specs.Blocks.{stream}
+use Rattle.aes3_frame.proofs.FileLaws.{EachBlock, each-block}
 use Rattle.aes3_lock.specs.Pieces.{IsPiece, given_within, whole_blocks}
 use Rattle.aes3_lock.specs.Reports.{reports_from, reports, wholes, blocks}
 use Rattle.aes3_lock.proofs.Apart.{apart-self}

@@ -2,10 +2,10 @@
 use Rattle.std.proofs.Common.{◌≡◌, ℕ, zero, suc, ◌+◌, ◌-◌, ◌%◌, ◌<◌, ◌≤◌, ◌⊎◌, inl, inr, List, [], ◌∷◌, ◌++◌, Bool}
 use Rattle.std.proofs.Common.{◌&&◌, cond, leb, refl, length, drop, ap, ap₂, ◌∙◌, sym, arith, drop-drop, drop_at}
 use Rattle.std.proofs.lemmas.Bool.{cases_lt}
-use Rattle.aes3_cell.specs.declared.level.Level.{Level}
-use Rattle.aes3_block.specs.Blocks.{block_len, block_cells, stream}
-use Rattle.aes3_block.proofs.FileLaws.{EachBlock}
-use Rattle.aes3_block.proofs.CellLaws.{length-block_cells, stream-cons, block_len_24576}
+use Rattle.aes3_level.specs.declared.level.Level.{Level}
+use Rattle.aes3_frame.specs.Blocks.{block_len, block_cells, stream}
+use Rattle.aes3_frame.proofs.FileLaws.{EachBlock}
+use Rattle.aes3_frame.proofs.CellLaws.{length-block_cells, stream-cons, block_len_24576}
 use Rattle.aes3_lock.specs.Pieces.{given_within}
 use Rattle.aes3_lock.proofs.Places.{gather, spaced, gather-within, Sparse, gather-spaced}
 use Rattle.aes3_lock.proofs.LawfulPieces.{stream-length}

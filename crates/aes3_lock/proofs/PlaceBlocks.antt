@@ -1,7 +1,7 @@
 -- The blocks of cells, place by place.
 use Rattle.std.proofs.Common.{◌≡◌, ℕ, suc, ◌*◌, List, [], ◌∷◌, ◌++◌, Bool, Option, Some, None, refl, ap, ◌∙◌, arith}
-use Rattle.aes3_cell.specs.declared.level.Level.{Level}
-use Rattle.aes3_block.specs.Blocks.{block_slots, block_len}
+use Rattle.aes3_level.specs.declared.level.Level.{Level}
+use Rattle.aes3_frame.specs.Blocks.{block_slots, block_len}
 use Rattle.aes3_lock.specs.Outcomes.{Outcome, whole, marked, fault, unfinished}
 use Rattle.aes3_lock.specs.Reports.{told, outcome_at, reports_from, wholes}
 use Rattle.aes3_lock.specs.Standing.{StandsClosed}

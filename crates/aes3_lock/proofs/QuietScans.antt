@@ -9,10 +9,10 @@ use Rattle.std.proofs.lemmas.Bool.{cases_eq, cases_lt}
 use Rattle.std.proofs.lemmas.Nat.{shr_le}
 use Rattle.std.proofs.lemmas.Nat.Bits.{bit_at-trailing_zeros}
 use Rattle.std.proofs.Math.Seq.{take-add}
-use Rattle.aes3_cell.specs.declared.level.Level.{Level}
-use Rattle.aes3_cell.specs.Words.{low_cells, level_of, word_cells}
-use Rattle.aes3_cell.proofs.Moves.{bit_at-shr}
-use Rattle.aes3_cell.proofs.WordCells.{length-low_cells}
+use Rattle.aes3_level.specs.declared.level.Level.{Level}
+use Rattle.aes3_level.specs.Words.{low_cells, level_of, word_cells}
+use Rattle.aes3_level.proofs.Moves.{bit_at-shr}
+use Rattle.aes3_level.proofs.WordCells.{length-low_cells}
 use Rattle.aes3_slot.specs.declared.mark.Mark.{Mark}
 use Rattle.aes3_slot.specs.declared.mark.Mark.TheVariants.{X, Y, Z}
 use Rattle.aes3_slot.specs.Preambles.{entry, begins_with, begins_with_any}

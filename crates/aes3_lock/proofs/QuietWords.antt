@@ -9,9 +9,9 @@ use Rattle.std.specs.Int.Count.{trailing_of_zero}
 use Rattle.std.proofs.lemmas.List.{drop-append-le}
 use Rattle.std.proofs.lemmas.Bool.{cases_eq}
 use Rattle.std.proofs.lemmas.Nat.Bits.{bit_at-trailing_zeros, bit_at-zero}
-use Rattle.aes3_cell.specs.declared.level.Level.{Level}
-use Rattle.aes3_cell.specs.Words.{level_of, low_cells, word_cells}
-use Rattle.aes3_cell.proofs.WordCells.{length-low_cells, drop-low_cells, low_cells-suc}
+use Rattle.aes3_level.specs.declared.level.Level.{Level}
+use Rattle.aes3_level.specs.Words.{level_of, low_cells, word_cells}
+use Rattle.aes3_level.proofs.WordCells.{length-low_cells, drop-low_cells, low_cells-suc}
 use Rattle.aes3_slot.specs.declared.mark.Mark.TheVariants.{Z}
 use Rattle.aes3_slot.specs.Preambles.{with_seven}
 use Rattle.aes3_slot.proofs.ReadSubframes.{length-word}

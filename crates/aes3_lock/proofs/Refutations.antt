@@ -2,9 +2,9 @@
 use Rattle.std.proofs.Common.{◌≡◌, ℕ, ◌+◌, ◌<◌, ◌≤◌, ◌⊎◌, inl, inr, List, Bool, true, false, cond, eqb, length, take}
 use Rattle.std.proofs.Common.{ap, ◌∙◌, sym, arith}
 use Rattle.std.proofs.lemmas.Bool.{cases_lt}
-use Rattle.aes3_cell.specs.declared.level.Level.{Level}
+use Rattle.aes3_level.specs.declared.level.Level.{Level}
 use Rattle.aes3_slot.specs.Reading.{read_slots}
-use Rattle.aes3_block.specs.Blocks.{block_slots, block_len}
+use Rattle.aes3_frame.specs.Blocks.{block_slots, block_len}
 use Rattle.aes3_slot.specs.Preambles.{entry}
 use Rattle.aes3_lock.specs.Candidates.{front}
 use Rattle.aes3_lock.specs.Outcomes.{whole, marked, fault, unfinished, outcome, block_outcome, wrong_parities}

@@ -1,13 +1,13 @@
 -- The definitions on a few cells.
 use Rattle.std.proofs.Common.{◌≡◌, List, [], ◌∷◌, ◌++◌, true, false, refl, replicate, take, ◌+◌}
-use Rattle.aes3_cell.specs.declared.level.Level.{Level}
-use Rattle.aes3_cell.specs.declared.level.Level.TheVariants.{Low, High}
+use Rattle.aes3_level.specs.declared.level.Level.{Level}
+use Rattle.aes3_level.specs.declared.level.Level.TheVariants.{Low, High}
 use Rattle.aes3_slot.specs.declared.mark.Mark.{Mark}
 use Rattle.aes3_slot.specs.declared.mark.Mark.TheVariants.{X, Y, Z}
-use Rattle.aes3_cell.specs.Words.{low_cells}
-use Rattle.aes3_cell.specs.Cells.{line}
+use Rattle.aes3_level.specs.Words.{low_cells}
+use Rattle.aes3_level.specs.Cells.{line}
 use Rattle.aes3_slot.specs.Slots.{mark_runs, slot_runs, payload_len}
-use Rattle.aes3_block.specs.Blocks.{mark_at, block_len, block_slots, block_cells, zero_block}
+use Rattle.aes3_frame.specs.Blocks.{mark_at, block_len, block_slots, block_cells, zero_block}
 use Rattle.aes3_lock.specs.declared.report.Report.TheVariants.{Fault, Unfinished}
 use Rattle.aes3_lock.specs.declared.report.Why.TheVariants.{Preamble, Biphase}
 use Rattle.aes3_slot.specs.Preambles.{begins_with}

@@ -4,8 +4,8 @@ use Rattle.std.proofs.Common.{false, Option, Some, None, refl, length, drop, ap,
 use Rattle.std.proofs.Common.{length-drop, append_assoc, append-nil}
 use Rattle.std.proofs.lemmas.Bool.{cases_eq, cases_lt, false_from_ne_true}
 use Rattle.std.proofs.lemmas.List.{drop-append-le}
-use Rattle.aes3_cell.specs.declared.level.Level.{Level}
-use Rattle.aes3_cell.specs.declared.level.Level.TheVariants.{Low, High}
+use Rattle.aes3_level.specs.declared.level.Level.{Level}
+use Rattle.aes3_level.specs.declared.level.Level.TheVariants.{Low, High}
 use Rattle.aes3_slot.specs.declared.mark.Mark.TheVariants.{Z}
 use Rattle.aes3_slot.specs.Preambles.{entry}
 use Rattle.aes3_slot.specs.Rules.{at, shape, StandsMark}

@@ -4,9 +4,9 @@ use Rattle.std.proofs.Common.{drop, map, ap, ap₂, ◌∙◌, sym, subst, arith
 use Rattle.std.proofs.Common.{take-take, take_at, eq-eqb, ne_eqb}
 use Rattle.std.proofs.lemmas.List.{length-map}
 use Rattle.std.proofs.lemmas.Bool.{cases_eq}
-use Rattle.aes3_cell.specs.declared.level.Level.{Level}
-use Rattle.aes3_cell.specs.Cells.{line, after}
-use Rattle.aes3_cell.proofs.Runs.{line-append}
+use Rattle.aes3_level.specs.declared.level.Level.{Level}
+use Rattle.aes3_level.specs.Cells.{line, after}
+use Rattle.aes3_level.proofs.Runs.{line-append}
 use Rattle.aes3_slot.specs.declared.mark.Mark.{Mark}
 use Rattle.aes3_slot.specs.declared.mark.Mark.TheVariants.{Z}
 use Rattle.aes3_slot.specs.Slots.{mark_runs, slot_runs, bits_runs, runs_of, with_parity}
@@ -16,7 +16,7 @@ use Rattle.aes3_slot.proofs.Index.{length-mark}
 use Rattle.aes3_slot.proofs.Subframes.{line-slots}
 use Rattle.aes3_slot.proofs.Bridge.{kept-runs}
 use Rattle.aes3_slot.proofs.Unique.{read_slots-line}
-use Rattle.aes3_block.specs.Blocks.{mark_at, block_slots, block_len, block_cells}
+use Rattle.aes3_frame.specs.Blocks.{mark_at, block_slots, block_len, block_cells}
 use Rattle.aes3_slot.specs.Preambles.{entry}
 use Rattle.aes3_lock.specs.Candidates.{begins_block, front}
 use Rattle.aes3_lock.specs.Outcomes.{whole, marked, fault, unfinished, outcome, block_outcome, wrong_parities}
@@ -28,8 +28,8 @@ use Rattle.aes3_lock.proofs.Viability.{length-runs_of, front-from, keeps-take}
 use Rattle.aes3_lock.proofs.Endings.{Ending, refuted, ended, unclosed, closed, ending, read-stands}
 use Rattle.aes3_slot.proofs.Beginnings.{stands-begins, stands-entry}
 use Rattle.aes3_lock.proofs.BlockPayloads.{payloads-with_parity, right-with_parity, slots-right, block-payloads}
-use Rattle.aes3_block.proofs.Each.{each-payload}
-use Rattle.aes3_block.proofs.CellLaws.{each28, block_len_24576}
+use Rattle.aes3_frame.proofs.Each.{each-payload}
+use Rattle.aes3_frame.proofs.CellLaws.{each28, block_len_24576}
 
 pub first-mark : mark_at 0 ≡ Z
 unfolding mark_at

@@ -8,10 +8,10 @@ use Rattle.std.proofs.lemmas.Nat.{one_shl, shr-shr, or_shifted}
 use Rattle.std.proofs.lemmas.Bool.{cases_lt}
 use Rattle.std.proofs.lemmas.Nat.Bits.{bit_at_and, bit_at_or, bit_at-lt, bit_at-zero, bit_at_above, bit_at_ones}
 use Rattle.std.proofs.lemmas.Nat.Bits.{bit_at_cat_low, bit_at_cat_high}
-use Rattle.aes3_cell.specs.Words.{low_cells, word_cells, word_len}
-use Rattle.aes3_cell.proofs.WordCells.{length-low_cells, low_cells-add, low_cells-same, take-low_cells}
-use Rattle.aes3_cell.proofs.WordCells.{drop-low_cells}
-use Rattle.aes3_cell.proofs.Moves.{bit_at-shr, shl-above, shl-below}
+use Rattle.aes3_level.specs.Words.{low_cells, word_cells, word_len}
+use Rattle.aes3_level.proofs.WordCells.{length-low_cells, low_cells-add, low_cells-same, take-low_cells}
+use Rattle.aes3_level.proofs.WordCells.{drop-low_cells}
+use Rattle.aes3_level.proofs.Moves.{bit_at-shr, shl-above, shl-below}
 
 pub cells-completed : (n cells word : ℕ) → n < 64 → cells < 2 ^ n
     → low_cells 64 (bit_or cells (word * 2 ^ n % 2 ^ 64)) ≡ low_cells n cells ++ take (64 - n) (low_cells 64 word)

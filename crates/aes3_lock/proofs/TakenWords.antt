@@ -4,15 +4,15 @@ use Rattle.std.proofs.Common.{refl, length, take, drop, set, ap, ap₂, ◌∙�
 use Rattle.std.proofs.Common.{length-drop, take-append-drop, take_all, add-one}
 use Rattle.std.proofs.lemmas.List.{drop-append-le}
 use Rattle.std.proofs.Math.Seq.{get_or-append_seam}
-use Rattle.aes3_cell.specs.declared.level.Level.{Level}
-use Rattle.aes3_cell.specs.declared.level.Level.TheVariants.{Low}
-use Rattle.aes3_cell.specs.Words.{low_cells, word_cells, word_len}
+use Rattle.aes3_level.specs.declared.level.Level.{Level}
+use Rattle.aes3_level.specs.declared.level.Level.TheVariants.{Low}
+use Rattle.aes3_level.specs.Words.{low_cells, word_cells, word_len}
 use Rattle.aes3_slot.specs.Rules.{at, AllKept}
 use Rattle.aes3_slot.specs.Fronts.{IsFrontOf}
 use Rattle.aes3_slot.proofs.Fronts.{kept-from-front, front-from-kept}
 use Rattle.aes3_lock.proofs.SubframeWords.{take-word}
 use Rattle.aes3_slot.proofs.ReadSubframes.{length-word}
-use Rattle.aes3_block.specs.Blocks.{mark_at, block_slots, block_len}
+use Rattle.aes3_frame.specs.Blocks.{mark_at, block_slots, block_len}
 use Rattle.aes3_lock.specs.declared.candidate.Candidate.{Candidate}
 use Rattle.aes3_slot.specs.Preambles.{entry}
 use Rattle.aes3_lock.specs.Candidates.{keeps}

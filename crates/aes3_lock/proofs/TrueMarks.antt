@@ -4,16 +4,16 @@ use Rattle.std.proofs.Common.{true, false, ◌&&◌, cond, leb, Some, None, refl
 use Rattle.std.proofs.Common.{subst, arith, length-take, take-take, get_or-take, lit<}
 use Rattle.std.specs.Option.{option_to_list, option_map}
 use Rattle.std.proofs.lemmas.Bool.{cases_lt, false_from_ne_true}
-use Rattle.aes3_cell.specs.declared.level.Level.{Level}
-use Rattle.aes3_cell.specs.declared.level.Level.TheVariants.{Low}
-use Rattle.aes3_cell.specs.Cells.{line, other}
+use Rattle.aes3_level.specs.declared.level.Level.{Level}
+use Rattle.aes3_level.specs.declared.level.Level.TheVariants.{Low}
+use Rattle.aes3_level.specs.Cells.{line, other}
 use Rattle.aes3_slot.specs.declared.mark.Mark.{Mark}
 use Rattle.aes3_slot.specs.declared.mark.Mark.TheVariants.{X, Y, Z}
 use Rattle.aes3_slot.specs.Slots.{mark_runs}
 use Rattle.aes3_slot.specs.Rules.{StandsMark}
 use Rattle.aes3_slot.proofs.OwnPreambles.{stands-room}
-use Rattle.aes3_block.specs.Blocks.{mark_at, block_slots, stream}
-use Rattle.aes3_block.proofs.FileLaws.{EachBlock, each-block}
+use Rattle.aes3_frame.specs.Blocks.{mark_at, block_slots, stream}
+use Rattle.aes3_frame.proofs.FileLaws.{EachBlock, each-block}
 use Rattle.aes3_slot.specs.Preambles.{entry, begins_with, same_cells}
 use Rattle.aes3_lock.specs.Preambles.{first_mark, placed, marks_from, marks}
 use Rattle.aes3_lock.specs.Pieces.{IsPiece, marks_within, true_marks}

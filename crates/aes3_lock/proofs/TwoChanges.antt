@@ -4,13 +4,13 @@ use Rattle.std.proofs.Common.{◌&&◌, ◌==◌, cond, leb, ltb, length, take, 
 use Rattle.std.proofs.Common.{length-drop, length-take, get_or-take, get_or-drop, le-leb, lt-ltb, le-ltb, eq-eqb}
 use Rattle.std.proofs.Common.{ne_eqb}
 use Rattle.std.proofs.lemmas.Bool.{cases_eq, cases_lt, lt-leb}
-use Rattle.aes3_cell.specs.declared.level.Level.{Level}
-use Rattle.aes3_cell.specs.declared.level.Level.TheVariants.{Low}
-use Rattle.aes3_cell.specs.Cells.{other}
-use Rattle.aes3_cell.proofs.Runs.{other_ne}
+use Rattle.aes3_level.specs.declared.level.Level.{Level}
+use Rattle.aes3_level.specs.declared.level.Level.TheVariants.{Low}
+use Rattle.aes3_level.specs.Cells.{other}
+use Rattle.aes3_level.proofs.Runs.{other_ne}
 use Rattle.aes3_slot.specs.Rules.{at}
-use Rattle.aes3_block.specs.Blocks.{block_len, stream}
-use Rattle.aes3_block.proofs.FileLaws.{EachBlock}
+use Rattle.aes3_frame.specs.Blocks.{block_len, stream}
+use Rattle.aes3_frame.proofs.FileLaws.{EachBlock}
 use Rattle.aes3_lock.specs.Damage.{changed, apart, between_slots}
 use Rattle.aes3_lock.specs.Remains.{holds, reaches, left_of, after_changes, after_change, after_two_changes}
 use Rattle.aes3_lock.specs.Pieces.{IsPiece, given_within, given_blocks}

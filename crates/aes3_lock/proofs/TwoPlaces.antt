@@ -1,13 +1,13 @@
 -- No block is made of cells of two places of a lawful stream that aren't whole subframes apart.
 use Rattle.std.proofs.Common.{◌≡◌, ℕ, ◌+◌, ◌-◌, ◌*◌, ◌%◌, ◌<◌, ◌≤◌, List, Bool, length, take, drop, ap, ◌∙◌, sym, arith}
 use Rattle.std.proofs.Common.{length-drop, length-take, get_or-take, get_or-drop, lit<}
-use Rattle.aes3_cell.specs.declared.level.Level.{Level}
-use Rattle.aes3_cell.specs.declared.level.Level.TheVariants.{Low}
+use Rattle.aes3_level.specs.declared.level.Level.{Level}
+use Rattle.aes3_level.specs.declared.level.Level.TheVariants.{Low}
 use Rattle.aes3_slot.specs.Rules.{at, shape}
 use Rattle.aes3_slot.proofs.Distance.{own-cell, stands-from}
-use Rattle.aes3_block.specs.Blocks.{mark_at, block_slots, block_len, block_cells, stream, IsBlock}
-use Rattle.aes3_block.proofs.FileLaws.{each-block}
-use Rattle.aes3_block.proofs.CellLaws.{length-block_cells, block_len_24576}
+use Rattle.aes3_frame.specs.Blocks.{mark_at, block_slots, block_len, block_cells, stream, IsBlock}
+use Rattle.aes3_frame.proofs.FileLaws.{each-block}
+use Rattle.aes3_frame.proofs.CellLaws.{length-block_cells, block_len_24576}
 use Rattle.aes3_lock.specs.Pieces.{IsPiece}
 use Rattle.aes3_lock.proofs.Damaged.{streamed}
 use Rattle.aes3_lock.proofs.Distances.{block-kept, block-level}

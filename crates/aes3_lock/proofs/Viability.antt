@@ -3,21 +3,21 @@ use Rattle.std.proofs.Common.{◌≡◌, ℕ, suc, ◌*◌, ◌<◌, ◌≤◌, 
 use Rattle.std.proofs.Common.{drop, ap, ◌∙◌, sym, subst, arith, length-append, length-take, length-take-le}
 use Rattle.std.proofs.Common.{take-append-drop, true≢false}
 use Rattle.std.proofs.lemmas.Bool.{cases_lt}
-use Rattle.aes3_cell.specs.declared.level.Level.{Level}
-use Rattle.aes3_cell.specs.Cells.{line}
+use Rattle.aes3_level.specs.declared.level.Level.{Level}
+use Rattle.aes3_level.specs.Cells.{line}
 use Rattle.aes3_slot.specs.declared.mark.Mark.{Mark}
 use Rattle.aes3_slot.specs.Slots.{runs_of, slot_runs}
 use Rattle.aes3_slot.specs.Rules.{AllKept, Each28}
 use Rattle.aes3_slot.proofs.Index.{subframe-length}
 use Rattle.aes3_slot.proofs.Bridge.{kept-runs, kept-front}
 use Rattle.aes3_slot.proofs.WholeSubframes.{extend-runs}
-use Rattle.aes3_block.specs.Blocks.{mark_at, block_slots, block_len}
+use Rattle.aes3_frame.specs.Blocks.{mark_at, block_slots, block_len}
 use Rattle.aes3_lock.specs.Candidates.{keeps, front}
 use Rattle.aes3_lock.specs.Standing.{IsViable}
 use Rattle.aes3_lock.proofs.Fronts.{keeps-append, kept-from-keeps, keeps-from-kept, IsFront, front-is, front-unique}
 use Rattle.aes3_lock.proofs.Deciding.{block_len_64}
-use Rattle.aes3_cell.proofs.Runs.{line-append}
-use Rattle.aes3_cell.specs.Cells.{after}
+use Rattle.aes3_level.proofs.Runs.{line-append}
+use Rattle.aes3_level.specs.Cells.{after}
 
 pub keeps-take : (s : Level) (c : List Level) (n i : ℕ) → i < n → i < length c → keeps s (take n c) i ≡ keeps s c i
 keeps-take s c n i h g =

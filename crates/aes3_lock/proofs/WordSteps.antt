@@ -5,14 +5,14 @@ use Rattle.std.proofs.Common.{length-drop, length-take-le, take-append-drop, app
 use Rattle.std.proofs.lemmas.List.{drop-append-le, take-append-le, take_at, get_or-set_same, get_or-set_other}
 use Rattle.std.proofs.lemmas.List.{get_or-append_right}
 use Rattle.std.proofs.lemmas.Bool.{cases_eq, cases_lt}
-use Rattle.aes3_cell.specs.declared.level.Level.{Level}
-use Rattle.aes3_cell.specs.declared.level.Level.TheVariants.{Low}
-use Rattle.aes3_cell.specs.Words.{low_cells, word_cells}
+use Rattle.aes3_level.specs.declared.level.Level.{Level}
+use Rattle.aes3_level.specs.declared.level.Level.TheVariants.{Low}
+use Rattle.aes3_level.specs.Words.{low_cells, word_cells}
 use Rattle.aes3_slot.specs.Rules.{at, before, AllKept}
 use Rattle.aes3_slot.specs.Fronts.{stands}
 use Rattle.aes3_slot.proofs.Index.{before-append_left, before-append_right}
 use Rattle.aes3_slot.proofs.RuleTests.{kept-from-stands, stands-from-kept}
-use Rattle.aes3_block.specs.Blocks.{mark_at, block_slots, block_len}
+use Rattle.aes3_frame.specs.Blocks.{mark_at, block_slots, block_len}
 use Rattle.aes3_lock.specs.Candidates.{keeps}
 use Rattle.aes3_lock.specs.Following.{Gathered}
 use Rattle.aes3_lock.proofs.Deciding.{block_len_64}

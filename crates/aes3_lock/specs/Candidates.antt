@@ -1,11 +1,11 @@
 -- Where a block may begin, and how far the cells go on as a block's.
 use Rattle.std.specs.Prelude.{ℕ, List, Bool, length, ◌*◌, ◌/◌, min}
 use Rattle.std.specs.List.{prefix_len, range_with_len}
-use Rattle.aes3_cell.specs.declared.level.Level.{Level}
+use Rattle.aes3_level.specs.declared.level.Level.{Level}
 use Rattle.aes3_slot.specs.declared.mark.Mark.TheVariants.{Z}
 use Rattle.aes3_slot.specs.Rules.{at, before, rule}
 use Rattle.aes3_slot.specs.Preambles.{begins_with}
-use Rattle.aes3_block.specs.Blocks.{mark_at, block_len}
+use Rattle.aes3_frame.specs.Blocks.{mark_at, block_len}
 
 -- a candidate: the preamble of a block stands at the start
 abbrev pub begins_block : List Level → Bool

@@ -2,8 +2,8 @@
 use Rattle.std.specs.Prelude.{ℕ, suc, List, [], ◌∷◌, Bool, true, length, ◌≡◌, ◌≢◌, ◌<◌, ◌≤◌, ◌+◌, ◌-◌, ◌%◌, ◌↔◌, take}
 use Rattle.std.specs.Prelude.{drop}
 use Rattle.std.specs.List.{All, Contains}
-use Rattle.aes3_cell.specs.declared.level.Level.{Level}
-use Rattle.aes3_block.specs.Blocks.{block_len, block_cells, stream, IsBlock}
+use Rattle.aes3_level.specs.declared.level.Level.{Level}
+use Rattle.aes3_frame.specs.Blocks.{block_len, block_cells, stream, IsBlock}
 use Rattle.aes3_lock.specs.declared.report.Report.{Report}
 use Rattle.aes3_lock.specs.Damage.{changed, without, inserted, apart, places_apart}
 use Rattle.aes3_lock.specs.Remains.{after_change, after_two_changes, after_loss, after_insertion, after_changes}

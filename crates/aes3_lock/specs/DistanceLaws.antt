@@ -1,10 +1,10 @@
 -- Laws over the definitions: how far the cells of blocks and of lawful streams are apart.
 use Rattle.std.specs.Prelude.{ℕ, suc, List, Bool, true, length, ◌≡◌, ◌≢◌, ◌<◌, ◌≤◌, ◌+◌, ◌%◌, take, drop}
-use Rattle.aes3_cell.specs.declared.level.Level.{Level}
-use Rattle.aes3_cell.specs.Cells.{line, other}
+use Rattle.aes3_level.specs.declared.level.Level.{Level}
+use Rattle.aes3_level.specs.Cells.{line, other}
 use Rattle.aes3_slot.specs.declared.mark.Mark.{Mark}
 use Rattle.aes3_slot.specs.Slots.{subframe_runs, IsPayload}
-use Rattle.aes3_block.specs.Blocks.{block_len, block_cells, IsBlock}
+use Rattle.aes3_frame.specs.Blocks.{block_len, block_cells, IsBlock}
 use Rattle.aes3_lock.specs.Damage.{changed, apart, high_count, between_slots, exchanged}
 use Rattle.aes3_lock.specs.Pieces.{IsPiece}
 use Rattle.aes3_lock.specs.Standing.{StandsClosed}

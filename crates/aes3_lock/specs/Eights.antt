@@ -1,7 +1,7 @@
 -- Eight words of cells at once, and the subframes that they make whole.
 use Rattle.std.specs.Prelude.{ℕ, zero, suc, List, ◌-◌, get_or, drop}
-use Rattle.aes3_cell.specs.declared.level.Level.{Level}
-use Rattle.aes3_cell.specs.Words.{low_cells, word_cells}
+use Rattle.aes3_level.specs.declared.level.Level.{Level}
+use Rattle.aes3_level.specs.Words.{low_cells, word_cells}
 
 -- the first cells of a subframe that are known before word i of words: those begun before the first, or the last of the
 -- word before

@@ -1,11 +1,11 @@
 -- Which lists of cells a lock and a scan follow.
 use Rattle.std.specs.Prelude.{ℕ, List, true, false, length, ◌≡◌, ◌<◌, ◌≤◌, ◌+◌, ◌-◌, ◌*◌, ◌/◌, ◌%◌, ◌^◌, Some, drop}
 use Rattle.std.specs.Prelude.{take, get_or, MatchOption, Option}
-use Rattle.aes3_cell.specs.declared.level.Level.{Level}
-use Rattle.aes3_cell.specs.Words.{low_cells, word_cells}
+use Rattle.aes3_level.specs.declared.level.Level.{Level}
+use Rattle.aes3_level.specs.Words.{low_cells, word_cells}
 use Rattle.aes3_slot.specs.Rules.{at, before, rule}
 use Rattle.aes3_slot.specs.ReadWords.{read_words}
-use Rattle.aes3_block.specs.Blocks.{block_slots, block_len, mark_at}
+use Rattle.aes3_frame.specs.Blocks.{block_slots, block_len, mark_at}
 use Rattle.aes3_lock.specs.declared.candidate.Candidate.{Candidate}
 use Rattle.aes3_slot.specs.Preambles.{entry}
 use Rattle.aes3_lock.specs.Candidates.{begins_block}

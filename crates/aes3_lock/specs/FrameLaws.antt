@@ -4,8 +4,8 @@
 use Rattle.std.specs.Prelude.{ℕ, suc, List, [], ◌∷◌, Bool, not, map, length, ◌≡◌, ◌<◌, ◌≤◌, ◌+◌, ◌-◌, ◌/◌, ◌%◌, ◌==◌}
 use Rattle.std.specs.Prelude.{◌↔◌, take, drop, if◌then◌else◌}
 use Rattle.std.specs.List.{All, AllPairs, Contains, filter, list_any, flat_map}
-use Rattle.aes3_cell.specs.declared.level.Level.{Level}
-use Rattle.aes3_block.specs.Blocks.{block_slots, block_len}
+use Rattle.aes3_level.specs.declared.level.Level.{Level}
+use Rattle.aes3_frame.specs.Blocks.{block_slots, block_len}
 use Rattle.aes3_lock.specs.Damage.{apart, places_apart}
 use Rattle.aes3_lock.specs.Remains.{left_of}
 use Rattle.aes3_lock.specs.Laws.{PlacedBlock}

@@ -1,11 +1,11 @@
 -- Laws over the definitions: what the reports, the blocks and the preambles of cells are, whatever the cells.
 use Rattle.std.specs.Prelude.{ℕ, List, Bool, true, length, ◌≡◌, ◌<◌, ◌≤◌, ◌+◌, ◌++◌, ◌↔◌, take, drop, map}
 use Rattle.std.specs.List.{filter, All, AllPairs, Contains}
-use Rattle.aes3_cell.specs.declared.level.Level.{Level}
+use Rattle.aes3_level.specs.declared.level.Level.{Level}
 use Rattle.aes3_slot.specs.declared.mark.Mark.{Mark}
 use Rattle.aes3_slot.specs.declared.mark.Mark.TheVariants.{Z}
 use Rattle.aes3_slot.specs.Rules.{StandsMark}
-use Rattle.aes3_block.specs.Blocks.{block_len, stream, IsBlock}
+use Rattle.aes3_frame.specs.Blocks.{block_len, stream, IsBlock}
 use Rattle.aes3_lock.specs.declared.report.Report.{Report}
 use Rattle.aes3_slot.specs.Preambles.{entry}
 use Rattle.aes3_lock.specs.Candidates.{begins_block, keeps, front}

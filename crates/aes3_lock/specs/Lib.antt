@@ -16,9 +16,9 @@ pub mod DamageLaws
 pub mod FrameLaws
 pub mod LossLaws
 pub mod Spacing
-pub use Rattle.aes3_cell.specs.Cells
+pub use Rattle.aes3_level.specs.Cells
 pub use Rattle.aes3_slot.specs.Slots
-pub use Rattle.aes3_block.specs.Blocks
+pub use Rattle.aes3_frame.specs.Blocks
 pub mod Parts
 pub mod Splits
 pub mod Eights

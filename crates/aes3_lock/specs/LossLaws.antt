@@ -1,7 +1,7 @@
 -- Laws over the definitions: what stays of a piece of a lawful stream of which two or three cells are lost.
 use Rattle.std.specs.Prelude.{ℕ, List, [], ◌∷◌, Bool, length, ◌≤◌, ◌+◌, drop}
 use Rattle.std.specs.List.{All, Contains}
-use Rattle.aes3_cell.specs.declared.level.Level.{Level}
+use Rattle.aes3_level.specs.declared.level.Level.{Level}
 use Rattle.aes3_lock.specs.Damage.{without}
 use Rattle.aes3_lock.specs.Pieces.{IsPiece}
 use Rattle.aes3_lock.specs.Reports.{blocks}

@@ -1,12 +1,12 @@
 -- What becomes of a candidate.
 use Rattle.std.specs.Prelude.{ℕ, List, Bool, length, ◌%◌, ◌==◌, map, take, nat_lt, if◌then◌else◌}
 use Rattle.std.specs.List.{filter}
-use Rattle.aes3_cell.specs.declared.level.Level.{Level}
+use Rattle.aes3_level.specs.declared.level.Level.{Level}
 use Rattle.aes3_bits.specs.Bits.{odd_ones}
 use Rattle.aes3_slot.specs.Slots.{payload_len}
 use Rattle.aes3_slot.specs.Rules.{at, before}
 use Rattle.aes3_slot.specs.Reading.{same, read_slots}
-use Rattle.aes3_block.specs.Blocks.{block_slots, block_len}
+use Rattle.aes3_frame.specs.Blocks.{block_slots, block_len}
 use Rattle.aes3_lock.specs.declared.report.Why.{Why}
 use Rattle.aes3_lock.specs.declared.report.Why.TheVariants.{Preamble, Biphase, Unclosed}
 use Rattle.aes3_slot.specs.Preambles.{entry}

@@ -1,5 +1,5 @@
 -- What a lock keeps, as its state.
-use Rattle.aes3_cell.specs.Words.{low_cells}
+use Rattle.aes3_level.specs.Words.{low_cells}
 use Rattle.aes3_lock.specs.declared.parts.LockParts.{LockParts}
 use Rattle.aes3_lock.specs.Following.{LockState}
 

@@ -2,9 +2,9 @@
 use Rattle.std.specs.Prelude.{ℕ, zero, suc, List, [], ◌∷◌, ◌++◌, Bool, length, ◌≡◌, ◌≤◌, ◌+◌, ◌-◌, ◌*◌, ◌%◌, ◌&&◌}
 use Rattle.std.specs.Prelude.{nat_le, take, drop, if◌then◌else◌}
 use Rattle.std.specs.List.{All}
-use Rattle.aes3_cell.specs.declared.level.Level.{Level}
+use Rattle.aes3_level.specs.declared.level.Level.{Level}
 use Rattle.aes3_slot.specs.declared.mark.Mark.{Mark}
-use Rattle.aes3_block.specs.Blocks.{mark_at, block_slots, block_len, stream, IsBlock}
+use Rattle.aes3_frame.specs.Blocks.{mark_at, block_slots, block_len, stream, IsBlock}
 
 -- the cells of a stream of blocks after level s from cell i up to, but without, cell j
 pub record IsPiece (s : Level) (bs : List (List (List Bool))) (i j : ℕ) (c : List Level) : Type 0 where

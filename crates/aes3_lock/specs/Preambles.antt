@@ -1,7 +1,7 @@
 -- All preambles that stand in a list of cells.
 use Rattle.std.specs.Prelude.{ℕ, suc, List, [], ◌∷◌, ◌++◌, Option, Some, None, option_to_list, option_map}
 use Rattle.std.specs.Prelude.{if◌then◌else◌}
-use Rattle.aes3_cell.specs.declared.level.Level.{Level}
+use Rattle.aes3_level.specs.declared.level.Level.{Level}
 use Rattle.aes3_slot.specs.declared.mark.Mark.{Mark}
 use Rattle.aes3_slot.specs.declared.mark.Mark.TheVariants.{X, Y, Z}
 use Rattle.aes3_slot.specs.Preambles.{entry, begins_with}

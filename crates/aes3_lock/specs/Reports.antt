@@ -1,9 +1,9 @@
 -- All reports of a list of cells, and the blocks that stand in it.
 use Rattle.std.specs.Prelude.{ℕ, suc, List, [], ◌∷◌, ◌++◌, Bool, true, false, not, length, ◌+◌, ◌==◌, ◌&&◌, Option}
 use Rattle.std.specs.Prelude.{Some, None, nat_lt, option_to_list, option_map, if◌then◌else◌}
-use Rattle.aes3_cell.specs.declared.level.Level.{Level}
-use Rattle.aes3_cell.specs.declared.level.Level.TheVariants.{Low}
-use Rattle.aes3_block.specs.Blocks.{block_len, stream}
+use Rattle.aes3_level.specs.declared.level.Level.{Level}
+use Rattle.aes3_level.specs.declared.level.Level.TheVariants.{Low}
+use Rattle.aes3_frame.specs.Blocks.{block_len, stream}
 use Rattle.aes3_lock.specs.declared.report.Ending.{Ending}
 use Rattle.aes3_lock.specs.declared.report.Ending.TheVariants.{Whole as EndsWhole, Marked as EndsMarked}
 use Rattle.aes3_lock.specs.declared.report.Ending.TheVariants.{Fault as EndsFault, Unfinished as EndsUnfinished}

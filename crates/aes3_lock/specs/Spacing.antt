@@ -1,6 +1,6 @@
 -- Laws on how near candidates are to one another, and how many reports some cells decide.
 use Rattle.std.specs.Prelude.{ℕ, List, length, ◌<◌, ◌≤◌, ◌+◌, ◌++◌}
-use Rattle.aes3_cell.specs.declared.level.Level.{Level}
+use Rattle.aes3_level.specs.declared.level.Level.{Level}
 use Rattle.aes3_slot.specs.declared.mark.Mark.TheVariants.{Z}
 use Rattle.aes3_slot.specs.Rules.{StandsMark}
 use Rattle.aes3_lock.specs.Reports.{decided}

@@ -1,8 +1,8 @@
 -- Cells cut in two: their reports from those of a front and of the rest.
 use Rattle.std.specs.Prelude.{ℕ, List, ◌++◌, Bool, ◌≡◌, ◌≤◌, ◌+◌, nat_lt, take, drop, map}
 use Rattle.std.specs.List.{filter}
-use Rattle.aes3_cell.specs.declared.level.Level.{Level}
-use Rattle.aes3_block.specs.Blocks.{block_len}
+use Rattle.aes3_level.specs.declared.level.Level.{Level}
+use Rattle.aes3_frame.specs.Blocks.{block_len}
 use Rattle.aes3_lock.specs.declared.report.Report.{Report}
 use Rattle.aes3_lock.specs.declared.report.Report.TheVariants.{Whole, Marked, Fault, Unfinished}
 use Rattle.aes3_lock.specs.Reports.{reports}

@@ -1,10 +1,10 @@
 -- Blocks that stand at the start of a list of cells.
 use Rattle.std.specs.Prelude.{List, ◌++◌, Bool, length, ◌≡◌, ◌≢◌, ◌<◌, ◌-◌, take}
-use Rattle.aes3_cell.specs.declared.level.Level.{Level}
-use Rattle.aes3_cell.specs.Cells.{line}
+use Rattle.aes3_level.specs.declared.level.Level.{Level}
+use Rattle.aes3_level.specs.Cells.{line}
 use Rattle.aes3_slot.specs.Slots.{runs_of}
 use Rattle.aes3_slot.specs.Rules.{at, Each28}
-use Rattle.aes3_block.specs.Blocks.{mark_at, block_slots, block_len, block_cells, IsBlock}
+use Rattle.aes3_frame.specs.Blocks.{mark_at, block_slots, block_len, block_cells, IsBlock}
 
 -- the cells end behind a block's number of cells, or the next one differs from the last of them
 pub record IsClosed (c : List Level) : Type 0 where

@@ -1,6 +1,6 @@
 //! A place at which a block may begin.
 
-use aes3_cell::Level;
+use aes3_level::Level;
 
 /// A place at which preamble Z stands, as far as the cells from it on are those of a block.
 #[derive(Clone, Copy)]

@@ -2,16 +2,16 @@
 
 ghost use Rattle.std.specs.Prelude.{◌≡◌, ℕ, ◌+◌, ◌-◌, ◌<◌, ◌≤◌, ◌^◌, ◌++◌, true, get_or, length};
 ghost use Rattle.std.specs.Prelude.{take};
-ghost use Rattle.aes3_cell.specs.Words.{low_cells, word_cells};
+ghost use Rattle.aes3_level.specs.Words.{low_cells, word_cells};
 ghost use Rattle.aes3_slot.specs.Fronts.{IsFrontOf};
 ghost use Rattle.aes3_slot.specs.Rules.{at};
-ghost use Rattle.aes3_block.specs.Blocks.{mark_at};
-ghost use Rattle.aes3_block.specs.Gathered.{IsRight};
+ghost use Rattle.aes3_frame.specs.Blocks.{mark_at};
+ghost use Rattle.aes3_frame.specs.Gathered.{IsRight};
 ghost use Rattle.aes3_lock.specs.Eights.{begun_before};
 
 use crate::subframe::completed;
-use aes3_block::mark_of;
-use aes3_cell::Level;
+use aes3_frame::mark_of;
+use aes3_level::Level;
 use aes3_slot::wrong_cells_of_eight;
 use std::simd::prelude::*;
 

@@ -9,7 +9,7 @@ use crate::candidate::Candidate;
 use crate::outcome::{left_ending, report_with};
 use crate::parts::LockParts;
 use crate::report::{Ending, Report};
-use aes3_block::{GatheredCells, SLOTS};
+use aes3_frame::{GatheredCells, SLOTS};
 use std::marker::Model;
 
 /// Finds every block and every begun block in cells that come one by one, in fixed memory.
@@ -28,8 +28,8 @@ pub struct Lock {
 impl Model for Lock {
     ghost use Rattle.std.specs.Prelude.{◌≡◌, ◌≤◌, length};
     ghost use Rattle.std.specs.Option.{ForSome};
-    ghost use Rattle.aes3_cell.specs.Words.{low_cells};
-    ghost use Rattle.aes3_block.specs.Blocks.{block_slots};
+    ghost use Rattle.aes3_level.specs.Words.{low_cells};
+    ghost use Rattle.aes3_frame.specs.Blocks.{block_slots};
     ghost use Rattle.aes3_lock.specs.Following.{LockState};
 
     ghost Value = { LockState };
@@ -48,7 +48,7 @@ impl Model for Lock {
 
 ghost use Rattle.std.specs.Prelude.{◌≡◌, ◌≤◌, List, [], ◌++◌, option_map, option_to_list};
 ghost use Rattle.std.specs.Option.{ForSome};
-ghost use Rattle.aes3_cell.specs.declared.level.Level.{Level};
+ghost use Rattle.aes3_level.specs.declared.level.Level.{Level};
 ghost use Rattle.aes3_lock.specs.Reports.{decided, reports};
 ghost use Rattle.aes3_lock.specs.Following.{Follows, report_in};
 ghost use Rattle.aes3_lock.specs.Parts.{parts_state};

@@ -12,8 +12,8 @@ use crate::candidate::Candidate;
 use crate::recent::PREAMBLE_CELLS;
 use crate::report::{Ending, Report, Why};
 use crate::rule::turns;
-use aes3_block::{BLOCK_CELLS, GatheredCells};
-use aes3_cell::Level;
+use aes3_frame::{BLOCK_CELLS, GatheredCells};
+use aes3_level::Level;
 use aes3_slot::SUBFRAME_CELLS;
 
 /// What becomes of a block all of whose subframes are there and which is closed.

@@ -1,7 +1,7 @@
 //! What a lock keeps.
 
 use crate::candidate::Candidate;
-use aes3_block::SLOTS;
+use aes3_frame::SLOTS;
 
 /// All that a lock keeps, for a caller that keeps it in a form of its own: `Lock::parts` gives it,
 /// and `Lock::of_parts` makes the same lock of it.

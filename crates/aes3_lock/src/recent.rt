@@ -2,12 +2,12 @@
 
 ghost use Rattle.std.specs.Prelude.{◌≡◌, ◌≤◌};
 ghost use Rattle.std.specs.Option.{ForSome};
-ghost use Rattle.aes3_cell.specs.Words.{low_cells};
+ghost use Rattle.aes3_level.specs.Words.{low_cells};
 ghost use Rattle.aes3_slot.specs.Rules.{at};
 ghost use Rattle.aes3_lock.specs.Steps.{begins_a_block, begun, eight_with};
 
 use crate::candidate::Candidate;
-use aes3_cell::Level;
+use aes3_level::Level;
 use aes3_slot::{Mark, match_mark};
 
 /// How many cells a preamble has.

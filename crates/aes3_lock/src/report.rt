@@ -1,7 +1,7 @@
 //! What a lock tells of a place at which a block may begin.
 
-use aes3_block::Block;
-use aes3_cell::Level;
+use aes3_frame::Block;
+use aes3_level::Level;
 
 /// Why a cell refutes a candidate.
 #[derive(Clone, Copy, PartialEq, Eq, Debug)]

@@ -3,11 +3,11 @@
 ghost use Rattle.std.specs.Prelude.{◌≡◌, ◌<◌};
 ghost use Rattle.aes3_slot.specs.Rules.{rule, shape};
 ghost use Rattle.aes3_slot.specs.Reading.{differs};
-ghost use Rattle.aes3_block.specs.Blocks.{mark_at};
+ghost use Rattle.aes3_frame.specs.Blocks.{mark_at};
 
 use crate::recent::PREAMBLE_CELLS;
-use aes3_block::mark_of;
-use aes3_cell::Level;
+use aes3_frame::mark_of;
+use aes3_level::Level;
 use aes3_slot::{Mark, SUBFRAME_CELLS, mark_cells};
 
 /// Cell `k` of a preamble after the level `before`.

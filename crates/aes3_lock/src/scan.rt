@@ -2,7 +2,7 @@
 use crate::recent::{PREAMBLE_CELLS, with_cell};
 use crate::subframe::{completed, last_behind, rest_of};
 use crate::word_marks::WordMarks;
-use aes3_cell::Level;
+use aes3_level::Level;
 use aes3_slot::{Mark, match_mark, preambles};
 use std::marker::Model;
 
@@ -17,7 +17,7 @@ pub struct Scan {
 }
 
 impl Model for Scan {
-    ghost use Rattle.aes3_cell.specs.Words.{low_cells};
+    ghost use Rattle.aes3_level.specs.Words.{low_cells};
     ghost use Rattle.aes3_lock.specs.Following.{ScanState};
 
     ghost Value = { ScanState };
@@ -27,9 +27,9 @@ impl Model for Scan {
 
 ghost use Rattle.std.specs.Prelude.{◌≡◌, ◌<◌, ◌≤◌, ◌+◌, ◌^◌, None, List, [], ◌∷◌, ◌++◌, drop};
 ghost use Rattle.std.specs.Prelude.{length, option_to_list};
-ghost use Rattle.aes3_cell.specs.Words.{low_cells, word_cells};
+ghost use Rattle.aes3_level.specs.Words.{low_cells, word_cells};
 ghost use Rattle.aes3_lock.specs.Steps.{ended_mark};
-ghost use Rattle.aes3_cell.specs.declared.level.Level.{Level};
+ghost use Rattle.aes3_level.specs.declared.level.Level.{Level};
 ghost use Rattle.aes3_lock.specs.Preambles.{marks};
 ghost use Rattle.aes3_lock.specs.Following.{ScanFollows};
 

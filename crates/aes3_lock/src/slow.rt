@@ -1,6 +1,6 @@
 //! All reports of a list of cells, each place tried by itself.
 ghost use Rattle.std.specs.Prelude.{◌≡◌, ◌<◌, ◌≤◌, ◌+◌, ◌^◌, IfOk, length, option_to_list, take};
-ghost use Rattle.aes3_cell.specs.Words.{low_cells};
+ghost use Rattle.aes3_level.specs.Words.{low_cells};
 ghost use Rattle.aes3_slot.specs.Rules.{before};
 ghost use Rattle.aes3_lock.specs.Candidates.{front};
 ghost use Rattle.aes3_lock.specs.Reports.{outcome_at, reports, told};
@@ -12,8 +12,8 @@ use crate::recent::{PREAMBLE_CELLS, candidate_in, with_cell};
 use crate::report::Report;
 use crate::rule::may_stand;
 use crate::subframe::with_next;
-use aes3_block::{BLOCK_CELLS, GatheredCells, SLOTS};
-use aes3_cell::Level;
+use aes3_frame::{BLOCK_CELLS, GatheredCells, SLOTS};
+use aes3_level::Level;
 use aes3_slot::SUBFRAME_CELLS;
 use std::alloc::{AllocError, Global};
 

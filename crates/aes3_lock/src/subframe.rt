@@ -1,10 +1,10 @@
 //! The cells of a subframe that is not whole yet, in a word, the first in the lowest bit.
 
 ghost use Rattle.std.specs.Prelude.{◌≡◌, ◌+◌, ◌-◌, ◌%◌, ◌<◌, ◌≤◌, ◌^◌, [], ◌∷◌, ◌++◌, drop, take};
-ghost use Rattle.aes3_cell.specs.Words.{level_of, low_cells, word_cells};
+ghost use Rattle.aes3_level.specs.Words.{level_of, low_cells, word_cells};
 ghost use Rattle.aes3_slot.specs.Rules.{at};
 
-use aes3_cell::Level;
+use aes3_level::Level;
 
 /// The first `len` cells of a subframe with one more.
 pub(crate) fn with_next(cells: u64, len: u64, cell: Level) -> u64

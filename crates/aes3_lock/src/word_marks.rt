@@ -1,7 +1,7 @@
 //! The preambles that end in a word of cells.
 
 use crate::recent::PREAMBLE_CELLS;
-use aes3_cell::Level;
+use aes3_level::Level;
 use aes3_slot::{Mark, mark_places};
 use std::marker::Model;
 
@@ -27,7 +27,7 @@ pub struct WordMarks {
 
 impl Model for WordMarks {
     ghost use Rattle.std.specs.Prelude.{ℕ, List, ◌≤◌, ◌^◌};
-    ghost use Rattle.aes3_cell.specs.declared.level.Level.{Level};
+    ghost use Rattle.aes3_level.specs.declared.level.Level.{Level};
     ghost use Rattle.aes3_slot.specs.declared.mark.Mark.{Mark};
     ghost use Rattle.aes3_slot.specs.Preambles.{with_seven};
     ghost use Rattle.aes3_lock.specs.MarkBits.{marks_left, MarksLeft};
@@ -43,9 +43,9 @@ impl Model for WordMarks {
 ghost use Rattle.std.specs.Prelude.{◌≡◌, ◌==◌, ℕ, ◌+◌, ◌<◌, ◌≤◌, ◌^◌, List, [], ◌++◌, None, drop};
 ghost use Rattle.std.specs.Prelude.{length, nat_le, option_to_list, if◌then◌else◌};
 ghost use Rattle.std.specs.Int.{bit_at};
-ghost use Rattle.aes3_cell.specs.declared.level.Level.{Level};
-ghost use Rattle.aes3_cell.specs.Cells.{other};
-ghost use Rattle.aes3_cell.specs.Words.{level_of, word_cells};
+ghost use Rattle.aes3_level.specs.declared.level.Level.{Level};
+ghost use Rattle.aes3_level.specs.Cells.{other};
+ghost use Rattle.aes3_level.specs.Words.{level_of, word_cells};
 ghost use Rattle.aes3_slot.specs.declared.mark.Mark.TheVariants.{X, Y, Z};
 ghost use Rattle.aes3_slot.specs.Preambles.{with_seven};
 ghost use Rattle.aes3_lock.specs.Preambles.{marks};

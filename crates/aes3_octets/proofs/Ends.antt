@@ -1,5 +1,40 @@
 -- What ends of other forms tell.
-use Rattle.std.proofs.Common.{◌≡◌, ◌<◌, ◌==◌, ℕ, suc, zero, Bool, false, List, [], ◌∷◌, ◌++◌, Option, Some, None, Result, Ok, Err, IfOk, ◌≤◌, map, length, take, drop, get_or, set, refl, sym, subst, ap, ap₂, ◌∙◌, append-nil, arith}
+use Rattle.std.proofs.Common.{
+  ◌≡◌,
+  ◌<◌,
+  ◌==◌,
+  ℕ,
+  suc,
+  zero,
+  Bool,
+  false,
+  List,
+  [],
+  ◌∷◌,
+  ◌++◌,
+  Option,
+  Some,
+  None,
+  Result,
+  Ok,
+  Err,
+  IfOk,
+  ◌≤◌,
+  map,
+  length,
+  take,
+  drop,
+  get_or,
+  set,
+  refl,
+  sym,
+  subst,
+  ap,
+  ap₂,
+  ◌∙◌,
+  append-nil,
+  arith,
+}
 use Rattle.std.proofs.lemmas.List.{length-map, length-take, length-take-le, map-append, take-map, take-take, take_at}
 use Rattle.std.specs.Option.{option_map}
 use Rattle.aes3_cell.specs.Ends.{Grew}
@@ -13,15 +48,21 @@ some-items zero m e f h = absurd cc
 some-items (suc n) m e f h = omega arith
 
 -- nothing more came, and the octet that counts is given
-pub zero-behind : {a b : Option (List ℕ)} (buf : List ℕ) → 0 < length buf → Grew a b [] → Grew a (option_map packed_of_raw b) (take 1 (set buf 0 0))
+pub zero-behind : {a b : Option (List ℕ)} (buf : List ℕ) → 0 < length buf → Grew a b []
+    → Grew a (option_map packed_of_raw b) (take 1 (set buf 0 0))
 zero-behind [] h g = absurd (omega arith)
-zero-behind (x ∷ buf) h g = record { by = λ xs h. ap (option_map packed_of_raw) (g.by xs h) ∙ ap (λ ys. Some (ys ++ 0 ∷ [])) (append-nil xs) }
+zero-behind (x ∷ buf) h g = record {
+  by
+      = λ xs h. ap (option_map packed_of_raw) (g.by xs h) ∙ ap (λ ys. Some (ys ++ 0 ∷ [])) (append-nil xs);
+}
 
-pub still-raw : {a b : Option (List ℕ)} {x : List ℕ} {is_counted : Bool} → is_counted ≡ false → Grew a b x → Grew (raw_told is_counted a) b x
+pub still-raw : {a b : Option (List ℕ)} {x : List ℕ} {is_counted : Bool} → is_counted ≡ false → Grew a b x
+    → Grew (raw_told is_counted a) b x
 still-raw {a} {b} {x} e g = subst (λ k. Grew (raw_told k a) b x) (sym e) g
 
 -- a front of a piece filled with octets, and turned
-pub filled-turned : (n : ℕ) (xs piece copied ys rest : List ℕ) → n ≤ length xs → copied ≡ take n xs → ys ≡ map turned (take n (copied ++ drop n piece))
+pub filled-turned : (n : ℕ) (xs piece copied ys rest : List ℕ) → n ≤ length xs → copied ≡ take n xs
+    → ys ≡ map turned (take n (copied ++ drop n piece))
     → take n (ys ++ rest) ≡ map turned (take n xs)
 filled-turned n xs piece copied ys rest l e f =
     let size : length copied ≡ n = ap length e ∙ length-take-le n xs l in
@@ -35,12 +76,14 @@ take-small (suc n) [] h i = omega arith
 take-small (suc n) (x ∷ xs) h zero = h 0
 take-small (suc n) (x ∷ xs) h (suc i) = take-small n xs (λ j. h (suc j)) i
 
-taken-turned : (k n : ℕ) (xs piece : List ℕ) → take n piece ≡ map turned (take n xs) → ((i : ℕ) → get_or xs i 0 < 256) → k ≤ n → map turned (take k (take n piece)) ≡ take k xs
+taken-turned : (k n : ℕ) (xs piece : List ℕ) → take n piece ≡ map turned (take n xs) → ((i : ℕ) → get_or xs i 0 < 256)
+    → k ≤ n → map turned (take k (take n piece)) ≡ take k xs
 taken-turned k n xs piece e h l =
     ap (λ v. map turned (take k v)) e ∙ ap (map turned) (take-map turned k (take n xs))
     ∙ turned-all (take k (take n xs)) (take-small k (take n xs) (take-small n xs h)) ∙ take-take k n xs l
 
-some-grew : {a b : Option (List ℕ)} (k n : ℕ) (xs piece : List ℕ) → take n piece ≡ map turned (take n xs) → ((i : ℕ) → get_or xs i 0 < 256) → k ≤ length (take n piece)
+some-grew : {a b : Option (List ℕ)} (k n : ℕ) (xs piece : List ℕ) → take n piece ≡ map turned (take n xs)
+    → ((i : ℕ) → get_or xs i 0 < 256) → k ≤ length (take n piece)
     → Grew a b (take k (take n piece)) → Grew (option_map (map turned) a) (option_map (map turned) b) (take k xs)
 some-grew {a = None} k n xs piece e h l g = record { by = λ zs q. absurd cc }
 some-grew {a = Some z} {b = b} k n xs piece e h l g = record {
@@ -48,10 +91,14 @@ some-grew {a = Some z} {b = b} k n xs piece e h l g = record {
       let r = g.by z refl in
       let s : map turned z ≡ zs = cc in
       let m = length-take n piece in
-      ap (option_map (map turned)) r ∙ ap Some (map-append turned z (take k (take n piece)) ∙ ap₂ ◌++◌ s (taken-turned k n xs piece e h (omega (arith, m, l))));
+      ap (option_map (map turned)) r
+      ∙ ap Some (map-append turned z (take k (take n piece))
+      ∙ ap₂ ◌++◌ s (taken-turned k n xs piece e h (omega (arith, m, l))));
 }
 
-pub front-grew : {E : Type 0} (a b : Option (List ℕ)) (n : ℕ) (xs piece : List ℕ) (r : Result ℕ E) → take n piece ≡ map turned (take n xs) → ((i : ℕ) → get_or xs i 0 < 256)
-    → IfOk r (λ k. k ≤ length (take n piece)) → IfOk r (λ k. Grew a b (take k (take n piece))) → IfOk r (λ k. Grew (option_map (map turned) a) (option_map (map turned) b) (take k xs))
+pub front-grew : {E : Type 0} (a b : Option (List ℕ)) (n : ℕ) (xs piece : List ℕ) (r : Result ℕ E)
+    → take n piece ≡ map turned (take n xs) → ((i : ℕ) → get_or xs i 0 < 256)
+    → IfOk r (λ k. k ≤ length (take n piece)) → IfOk r (λ k. Grew a b (take k (take n piece)))
+    → IfOk r (λ k. Grew (option_map (map turned) a) (option_map (map turned) b) (take k xs))
 front-grew a b n xs piece (Ok k) e h l g = some-grew k n xs piece e h l g
 front-grew a b n xs piece (Err x) e h l g = tt

@@ -1,12 +1,13 @@
 -- Octets of cells as hardware gives them: without the octet that counts, or with the first cell in the lowest bit.
 use Rattle.std.specs.Prelude.{ℕ, List, [], ◌∷◌, ◌++◌, ◌≡◌, ◌<◌, replicate}
 use Rattle.std.specs.List.{flat_map}
-use Rattle.aes3_cell.specs.declared.level.Level.{Level}
-use Rattle.aes3_cell.specs.declared.level.Level.TheVariants.{Low}
+use Rattle.aes3_level.specs.declared.level.Level.{Level}
+use Rattle.aes3_level.specs.declared.level.Level.TheVariants.{Low}
 use Rattle.aes3_cell.specs.Packed.{octet_of}
-use Rattle.aes3_cell.specs.Words.{low_cells}
+use Rattle.aes3_level.specs.Words.{low_cells}
 
--- raw octets have no octet behind them that counts; packed, they have one, and it says that none of their cells is unused
+-- raw octets have no octet behind them that counts; packed, they have one, and it says that none of their cells is
+-- unused
 abbrev pub packed_of_raw : List ℕ → List ℕ
 packed_of_raw octets = octets ++ 0 ∷ []
 

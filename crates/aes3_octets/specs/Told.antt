@@ -7,10 +7,6 @@ use Rattle.aes3_octets.specs.Octets.{packed_of_raw, turned}
 abbrev pub raw_told : Bool → Option (List ℕ) → Option (List ℕ)
 raw_told is_counted told = if is_counted then option_map packed_of_raw told else told
 
--- whether the end was told, by the source itself where it is raw
-abbrev pub ended_by : Bool → Bool → Bool → Bool
-ended_by is_own is_ended source_ended = if is_own then is_ended else source_ended
-
 -- octets that are turned, each of them, or are as they are
 abbrev pub all_told : Bool → Option (List ℕ) → Option (List ℕ)
 all_told is_turned told = if is_turned then option_map (map turned) told else told

@@ -6,11 +6,18 @@ use aes3_runner::{Unread, run_words, tell_unread};
 
 #[test]
 fn command_lines_are_run(rt: HostRuntime) {
-    let rows: [(&[&str], &[u8], &[u8], &[u8], u8); 3] = [
+    let rows: [(&[&str], &[u8], &[u8], &[u8], u8); 4] = [
         (&["encode", "--packed-out"], b"", b"\0", b"", 0),
         (
             &["check", "--packed-in"],
             b"\xE8\0",
+            b"unfinished at 0 cells 8\n",
+            b"",
+            0,
+        ),
+        (
+            &["check", "--raw-in"],
+            b"\xE8",
             b"unfinished at 0 cells 8\n",
             b"",
             0,
@@ -24,18 +31,18 @@ fn command_lines_are_run(rt: HostRuntime) {
         ),
     ];
     for (words, input, output, errors, status) in rows {
-        let mut source = MemorySource::new(input, 1);
+        let source = MemorySource::new(input, 1);
         let mut sink = MemorySink::new(rt.alloc());
         let mut lines = MemorySink::new(rt.alloc());
         let answer = run_words(
             rt.alloc(),
             words,
-            &mut source,
+            source,
             &mut sink,
             &mut lines,
             &mut Nobody,
         );
-        assert!(&rt; answer == status);
+        assert!(&rt; answer.status == status);
         assert!(&rt; sink.bytes() == output);
         assert!(&rt; lines.bytes() == errors);
     }
@@ -44,20 +51,20 @@ fn command_lines_are_run(rt: HostRuntime) {
 /// A refused command line leaves its input unread.
 #[test]
 fn a_bad_status_text_reads_nothing(rt: HostRuntime) {
-    let mut source = MemorySource::new(b"2", 1);
+    let source = MemorySource::new(b"2", 1);
     let mut sink = MemorySink::new(rt.alloc());
     let mut lines = MemorySink::new(rt.alloc());
-    let answer = run_words(
+    let mut answer = run_words(
         rt.alloc(),
         &["rewrite", "--status1", "0"],
-        &mut source,
+        source,
         &mut sink,
         &mut lines,
         &mut Nobody,
     );
-    assert!(&rt; answer == 3);
+    assert!(&rt; answer.status == 3);
     assert!(&rt; lines.bytes() == b"aes3: refused 9\n".as_slice());
-    assert!(&rt; source.read(&mut [0]) == Ok(1));
+    assert!(&rt; answer.source.read(&mut [0]) == Ok(1));
 }
 
 #[test]

@@ -1,11 +1,33 @@
 -- The bytes of cells at the end, by the words before them.
-use Rattle.std.proofs.Common.{◌≡◌, ℕ, ◌-◌, ◌*◌, ◌/◌, ◌<◌, List, [], ◌∷◌, ◌++◌, length, drop, refl, sym, ap, ap₂, ◌∙◌, arith, append_assoc, append-nil, length-append}
+use Rattle.std.proofs.Common.{
+  ◌≡◌,
+  ℕ,
+  ◌-◌,
+  ◌*◌,
+  ◌/◌,
+  ◌<◌,
+  List,
+  [],
+  ◌∷◌,
+  ◌++◌,
+  length,
+  drop,
+  refl,
+  sym,
+  ap,
+  ap₂,
+  ◌∙◌,
+  arith,
+  append_assoc,
+  append-nil,
+  length-append,
+}
 use Rattle.std.specs.List.{flat_map}
 use Rattle.std.proofs.lemmas.List.{drop_at}
-use Rattle.aes3_cell.specs.declared.level.Level.{Level}
+use Rattle.aes3_level.specs.declared.level.Level.{Level}
 use Rattle.aes3_cell.specs.declared.form.Form.{Form}
 use Rattle.aes3_cell.specs.declared.form.Form.TheVariants.{Text, Packed}
-use Rattle.aes3_cell.specs.Words.{word_cells, word_len}
+use Rattle.aes3_level.specs.Words.{word_cells, word_len}
 use Rattle.aes3_cell.specs.Text.{text_of, lines_text}
 use Rattle.aes3_cell.specs.Pending.{begun_cells}
 use Rattle.aes3_cell.specs.Packed.{octets_needed, octets_of, packed_of}
@@ -31,24 +53,32 @@ more-packed : (n : ℕ) (a c : List Level) → length a ≡ n * word_len → pac
 unfolding packed_of word_len
 more-packed n a c h =
     let l = length-append a c in
-    let e : 8 * octets_needed (length (a ++ c)) - length (a ++ c) ≡ 8 * octets_needed (length c) - length c = omega (arith, l, h) in
+    let e : 8 * octets_needed (length (a ++ c)) - length (a ++ c) ≡ 8 * octets_needed (length c) - length c
+    = omega (arith, l, h) in
     ap₂ (λ x k. x ++ k ∷ []) (bytes-append Packed n a c h) e ∙ append_assoc (octets_of a) (octets_of c) _
 
 pub finished-append : (form : Form) (words : List ℕ) (rest : List Level) → length rest < 64
-    → finished form (flat_map word_cells words ++ rest) ≡ bytes_of form (flat_map word_cells words) ++ ending_of form rest
+    → finished form (flat_map word_cells words ++ rest)
+    ≡ bytes_of form (flat_map word_cells words) ++ ending_of form rest
 unfolding finished
 finished-append Text words rest few =
     let a = flat_map word_cells words in
     let l = length-words words in
-    ap₂ (λ t c. t ++ last_line c) (text_of-append (length words) a rest l ∙ ap (λ t. text_of a ++ t) (few-text rest few) ∙ append-nil (text_of a)) (begun-few (length words) a rest l few)
+    ap₂ (λ t c. t ++ last_line c)
+    (text_of-append (length words) a rest l ∙ ap (λ t. text_of a ++ t) (few-text rest few) ∙ append-nil (text_of a))
+    (begun-few (length words) a rest l few)
 finished-append Packed words rest few = more-packed (length words) (flat_map word_cells words) rest (length-words words)
 
 pub finished-begins : (form : Form) (words : List ℕ) (more : List Level)
-    → (rest : List ℕ) × (bytes_of form (flat_map word_cells words) ++ rest ≡ finished form (flat_map word_cells words ++ more))
+    → (rest : List ℕ) × (bytes_of form (flat_map word_cells words) ++ rest
+    ≡ finished form (flat_map word_cells words ++ more))
 unfolding finished
 finished-begins Text words more =
     let a = flat_map word_cells words in (
       text_of more ++ last_line (begun_cells (a ++ more)),
-      sym (append_assoc (text_of a) (text_of more) _) ∙ ap (λ t. t ++ last_line (begun_cells (a ++ more))) (sym (text_of-append (length words) a more (length-words words))),
+      sym (append_assoc (text_of a) (text_of more) _)
+          ∙ ap (λ t. t ++ last_line (begun_cells (a ++ more)))
+          (sym (text_of-append (length words) a more (length-words words))),
     )
-finished-begins Packed words more = (packed_of more, sym (more-packed (length words) (flat_map word_cells words) more (length-words words)))
+finished-begins Packed words more
+    = (packed_of more, sym (more-packed (length words) (flat_map word_cells words) more (length-words words)))

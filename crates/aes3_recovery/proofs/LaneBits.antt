@@ -1,5 +1,31 @@
 -- One bit of each of 64 octets, and of samples of two.
-use Rattle.std.proofs.Common.{◌≡◌, ℕ, zero, suc, ◌+◌, ◌-◌, ◌*◌, ◌%◌, ◌^◌, ◌<◌, ◌≤◌, not, cond, eqb, false, List, map, length, get_or, replicate, sym, ap, w8, ◌∙◌, arith}
+use Rattle.std.proofs.Common.{
+  ◌≡◌,
+  ℕ,
+  zero,
+  suc,
+  ◌+◌,
+  ◌-◌,
+  ◌*◌,
+  ◌%◌,
+  ◌^◌,
+  ◌<◌,
+  ◌≤◌,
+  not,
+  cond,
+  eqb,
+  false,
+  List,
+  map,
+  length,
+  get_or,
+  replicate,
+  sym,
+  ap,
+  w8,
+  ◌∙◌,
+  arith,
+}
 use Rattle.std.specs.Prelude.{bit_and}
 use Rattle.std.specs.Int.{bit_at}
 use Rattle.std.specs.Simd.Lanes.{mask_l, zip2, top}
@@ -16,17 +42,22 @@ small (suc (suc t)) p h some = absurd (omega arith)
 
 one-bit : (x b y : ℕ) → y ≡ 2 ^ b → cond (not (eqb (bit_and x y) 0)) 1 0 ≡ bit_at x b
 one-bit x b y is =
-    ap (λ v. cond (not (eqb v 0)) 1 0) (ap (bit_and x) is ∙ and_pow x b) ∙ small (bit_at x b) (2 ^ b) (bit_at-lt x b) (pow_pos b)
+    ap (λ v. cond (not (eqb v 0)) 1 0) (ap (bit_and x) is ∙ and_pow x b)
+    ∙ small (bit_at x b) (2 ^ b) (bit_at-lt x b) (pow_pos b)
 
 pub lane-bits : (xs : List ℕ) (b y i : ℕ) → length xs ≡ 64 → y ≡ 2 ^ b → i < 64
-    → bit_at (mask_l (map (top 7) (zip2 (λ a b. cond (not (eqb a b)) 255 0) (zip2 bit_and xs (replicate 64 y)) (replicate 64 0))) % 2 ^ 64) i ≡ bit_at (get_or xs i 0) b
+    → bit_at (mask_l (map (top 7)
+    (zip2 (λ a b. cond (not (eqb a b)) 255 0) (zip2 bit_and xs (replicate 64 y)) (replicate 64 0))) % 2 ^ 64) i
+    ≡ bit_at (get_or xs i 0) b
 lane-bits xs b y i long is h =
     let zs = map (λ x. bit_and x y) xs in
     let many : length zs ≡ 64 = length-map xs (λ x. bit_and x y) ∙ long in
-    ap (λ v. bit_at (mask_l (map (top 7) (zip2 (λ a b. cond (not (eqb a b)) 255 0) v (replicate 64 0))) % 2 ^ 64) i) (zip2_splat bit_and xs 64 y long)
+    ap (λ v. bit_at (mask_l (map (top 7) (zip2 (λ a b. cond (not (eqb a b)) 255 0) v (replicate 64 0))) % 2 ^ 64) i)
+    (zip2_splat bit_and xs 64 y long)
     ∙ ap (λ m. bit_at m i) (bitmask_splat w8 (λ a b. not (eqb a b)) zs 64 0 many (omega arith))
     ∙ bit_mask_l (map (λ x. not (eqb x 0)) zs) i
-    ∙ ap (λ t. cond t 1 0) (get_or-map (λ x. not (eqb x 0)) zs i 0 false (omega (arith, many, h)) ∙ ap (λ x. not (eqb x 0)) (get_or-map (λ x. bit_and x y) xs i 0 0 (omega (arith, long, h))))
+    ∙ ap (λ t. cond t 1 0) (get_or-map (λ x. not (eqb x 0)) zs i 0 false (omega (arith, many, h))
+    ∙ ap (λ x. not (eqb x 0)) (get_or-map (λ x. bit_and x y) xs i 0 0 (omega (arith, long, h))))
     ∙ one-bit (get_or xs i 0) b y is
 
 pub low-bit : (a b k : ℕ) → k < 8 → bit_at a (k % 8) ≡ bit_at (a + 256 * b) k

@@ -1,9 +1,9 @@
 -- Cells on their way to a sink.
 use Rattle.std.specs.Prelude.{ℕ, List, ◌++◌, ◌≡◌, Option, Some, Result, IfOk, OnErr, take}
 use Rattle.std.specs.List.{flat_map}
-use Rattle.aes3_cell.specs.declared.level.Level.{Level}
+use Rattle.aes3_level.specs.declared.level.Level.{Level}
 use Rattle.aes3_cell.specs.declared.form.Form.{Form}
-use Rattle.aes3_cell.specs.Words.{low_cells, word_cells}
+use Rattle.aes3_level.specs.Words.{low_cells, word_cells}
 use Rattle.aes3_cell.specs.Written.{bytes_of}
 use Rattle.aes3_recovery.specs.Endings.{finished}
 use Rattle.aes3_recovery.specs.declared.queue.CellQueue.{CellQueue}
@@ -32,8 +32,10 @@ pub record Stopped (told : Option (List ℕ)) (begun : List ℕ) (form : Form) (
   pub cells : flat_map word_cells words ++ more ≡ all
   pub front : ToldFront told begun (bytes_of form (flat_map word_cells words))
 
--- These cells came behind all others: what a sink tells and what waits are all of them, none lost, in their order. Where the sink failed, it tells a front of the whole words of them.
-pub record Puts {A R E : Type 0} (taken : A → Option (List ℕ)) (old new : CellQueue) (before after : A) (result : Result R E) (added : List Level) : Type 0 where
+-- These cells came behind all others: what a sink tells and what waits are all of them, none lost, in their order.
+-- Where the sink failed, it tells a front of the whole words of them.
+pub record Puts {A R E : Type 0} (taken : A → Option (List ℕ)) (old new : CellQueue) (before after : A)
+    (result : Result R E) (added : List Level) : Type 0 where
   pub form : new.form ≡ old.form
   pub cells : (begun : List ℕ) (all : List Level) → Queued (taken before) begun old.form (waiting old) all
       → IfOk result (λ _. Queued (taken after) begun old.form (waiting new) (all ++ added))
@@ -41,7 +43,8 @@ pub record Puts {A R E : Type 0} (taken : A → Option (List ℕ)) (old new : Ce
       → OnErr result (Stopped (taken after) begun old.form (all ++ added))
 
 -- The end: a sink tells all cells, or a front of them where it failed.
-pub record Finishes {A R E : Type 0} (taken : A → Option (List ℕ)) (old : CellQueue) (before after : A) (result : Result R E) : Type 0 where
+pub record Finishes {A R E : Type 0} (taken : A → Option (List ℕ)) (old : CellQueue) (before after : A)
+    (result : Result R E) : Type 0 where
   pub cells : (begun : List ℕ) (all : List Level) → Queued (taken before) begun old.form (waiting old) all
       → IfOk result (λ _. taken after ≡ Some (begun ++ finished old.form all))
   pub err : (begun : List ℕ) (all : List Level) → Queued (taken before) begun old.form (waiting old) all

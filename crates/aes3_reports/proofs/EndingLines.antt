@@ -8,7 +8,8 @@ use Rattle.aes3_lines.specs.declared.lines.Lines.TheVariants.{All, Faults}
 use Rattle.aes3_reports.specs.Lines.{told_line}
 
 -- the line of an ending has none of its block's bits
-pub ending-told : (l : Lines) (e : Ending) (slots : List (List Bool)) → told_line l (ending_report [] e) ≡ told_line l (ending_report slots e)
+pub ending-told : (l : Lines) (e : Ending) (slots : List (List Bool))
+    → told_line l (ending_report [] e) ≡ told_line l (ending_report slots e)
 ending-told All (Whole at s) slots = refl
 ending-told All (Marked at s wrong) slots = refl
 ending-told All (Fault at cell why) slots = refl

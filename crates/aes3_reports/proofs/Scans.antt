@@ -1,9 +1,32 @@
 -- The lines of preambles, as cells come.
-use Rattle.std.proofs.Common.{◌≡◌, ℕ, suc, ◌+◌, ◌≤◌, List, [], ◌∷◌, ◌++◌, Option, Some, None, length, drop, refl, sym, ap, ap₂, ◌∙◌, arith, append-nil, length-append}
+use Rattle.std.proofs.Common.{
+  ◌≡◌,
+  ℕ,
+  suc,
+  ◌+◌,
+  ◌≤◌,
+  List,
+  [],
+  ◌∷◌,
+  ◌++◌,
+  Option,
+  Some,
+  None,
+  length,
+  drop,
+  refl,
+  sym,
+  ap,
+  ap₂,
+  ◌∙◌,
+  arith,
+  append-nil,
+  length-append,
+}
 use Rattle.std.specs.Prelude.{option_to_list, option_map}
 use Rattle.std.proofs.lemmas.Grind.{flat_map-append}
 use Rattle.std.proofs.lemmas.List.{append_cancel_left, drop_at}
-use Rattle.aes3_cell.specs.declared.level.Level.{Level}
+use Rattle.aes3_level.specs.declared.level.Level.{Level}
 use Rattle.aes3_cell.specs.declared.form.Form.{Form}
 use Rattle.aes3_cell.specs.declared.counts.Counts.{Counts}
 use Rattle.aes3_slot.specs.declared.mark.Mark.{Mark}
@@ -19,7 +42,8 @@ use Rattle.aes3_lines.specs.MarkLines.{line_of, mark_line, mark_lines}
 use Rattle.aes3_reports.specs.Scanning.{marks_by, marking, scan_counts, Scanned}
 
 -- the preambles of all cells before are those of all cells
-marks-by : (c : List Level) (l : Level) (m : List (ℕ × Mark × Level)) → marks (c ++ l ∷ []) ≡ marks c ++ m → marks_by c l ≡ m
+marks-by : (c : List Level) (l : Level) (m : List (ℕ × Mark × Level)) → marks (c ++ l ∷ []) ≡ marks c ++ m
+    → marks_by c l ≡ m
 marks-by c l m e = ap (drop (length (marks c))) e ∙ drop_at (marks c) m (length (marks c)) refl
 
 marks-more : (c : List Level) (l : Level) → marks (c ++ l ∷ []) ≡ marks c ++ marks_by c l
@@ -40,7 +64,8 @@ adds-lines c l = refl
 pub before-lines : (c : List Level) → before_end marking c ≡ mark_lines (marks c)
 before-lines c =
     before-is marking (λ c. mark_lines (marks c)) nothing
-    (λ c l. ap mark_lines (marks-more c l) ∙ flat_map-append line_of (marks c) (marks_by c l) ∙ ap (λ z. mark_lines (marks c) ++ z) (sym (adds-lines c l))) c
+    (λ c l. ap mark_lines (marks-more c l) ∙ flat_map-append line_of (marks c) (marks_by c l)
+    ∙ ap (λ z. mark_lines (marks c) ++ z) (sym (adds-lines c l))) c
 
 pub with-lines : (c : List Level) → with_end marking c ≡ mark_lines (marks c)
 unfolding with_end marking
@@ -68,15 +93,27 @@ pub few-marks : (c : List Level) → length (marks c) ≤ length c
 unfolding marks
 few-marks c = few-from 0 c
 
-pub scanned-mark : {scan new : ScanState} {count : ℕ} {c : List Level} (d : List Level) (m : ℕ × Mark × Level) → Scanned scan count c → ScanFollows new (c ++ d) → marks (c ++ d) ≡ marks c ++ m ∷ []
+pub scanned-mark : {scan new : ScanState} {count : ℕ} {c : List Level} (d : List Level) (m : ℕ × Mark × Level)
+    → Scanned scan count c → ScanFollows new (c ++ d) → marks (c ++ d) ≡ marks c ++ m ∷ []
     → Scanned new (count + 1) (c ++ d)
-scanned-mark {c} d m h f e = record { follows = f; count_is = (let n = h.count_is in let k = ap length e in let a = length-append (marks c) (m ∷ []) in omega arith) }
+scanned-mark {c} d m h f e = record {
+  follows = f;
+  count_is
+      = (let n = h.count_is in let k = ap length e in let a = length-append (marks c) (m ∷ []) in omega arith);
+}
 
-pub scanned-marks : {scan new : ScanState} {count n : ℕ} {c : List Level} (d : List Level) (m : List (ℕ × Mark × Level)) → Scanned scan count c → ScanFollows new (c ++ d) → marks (c ++ d) ≡ marks c ++ m
+pub scanned-marks : {scan new : ScanState} {count n : ℕ} {c : List Level} (d : List Level) (m : List (ℕ × Mark × Level))
+    → Scanned scan count c → ScanFollows new (c ++ d) → marks (c ++ d) ≡ marks c ++ m
     → n ≡ count + length m → Scanned new n (c ++ d)
-scanned-marks {c = c} d m h f e s = record { follows = f; count_is = (let n = h.count_is in let k = ap length e in let a = length-append (marks c) m in omega arith) }
+scanned-marks {c = c} d m h f e s
+    = record {
+      follows = f;
+      count_is
+          = (let n = h.count_is in let k = ap length e in let a = length-append (marks c) m in omega arith);
+    }
 
-pub scanned-none : {scan new : ScanState} {count : ℕ} {c : List Level} (d : List Level) → Scanned scan count c → ScanFollows new (c ++ d) → marks (c ++ d) ≡ marks c ++ []
+pub scanned-none : {scan new : ScanState} {count : ℕ} {c : List Level} (d : List Level) → Scanned scan count c
+    → ScanFollows new (c ++ d) → marks (c ++ d) ≡ marks c ++ []
     → Scanned new count (c ++ d)
 scanned-none {c} d h f e = record { follows = f; count_is = h.count_is ∙ sym (ap length (e ∙ append-nil (marks c))) }
 
@@ -84,26 +121,41 @@ pub scan-starts : {scan : ScanState} {count : ℕ} → ScanFollows scan [] → c
 unfolding marks
 scan-starts f e = record { follows = f; count_is = e }
 
-pub counted : (form : Form) (b : List ℕ) (bytes cells count : ℕ) (scan : ScanState) → bytes ≡ length b → cells ≡ length (cells_of form b) → Scanned scan count (cells_of form b)
-    → ◌≡◌ {A = Counts} (record { bytes = bytes; cells = cells; blocks = 0; faults = 0; unfinished = 0; marks = count }) (scan_counts form b)
+pub counted : (form : Form) (b : List ℕ) (bytes cells count : ℕ) (scan : ScanState) → bytes ≡ length b
+    → cells ≡ length (cells_of form b) → Scanned scan count (cells_of form b)
+    → ◌≡◌ {A = Counts} (record { bytes = bytes; cells = cells; blocks = 0; faults = 0; unfinished = 0; marks = count })
+    (scan_counts form b)
 unfolding scan_counts
 counted form b bytes cells count scan e f h =
     ap₂ (λ (x y : ℕ). record { bytes = x; cells = y; blocks = 0; faults = 0; unfinished = 0; marks = count }) e f
-    ∙ ap (λ (x : ℕ). record { bytes = length b; cells = length (cells_of form b); blocks = 0; faults = 0; unfinished = 0; marks = x }) h.count_is
+    ∙ ap (λ (x : ℕ). record {
+      bytes = length b;
+      cells = length (cells_of form b);
+      blocks = 0;
+      faults = 0;
+      unfinished
+          = 0;
+      marks = x;
+    }) h.count_is
 
 -- what cells write that end a preamble or none
-pub marks-behind : (c d : List Level) (m : List (ℕ × Mark × Level)) → marks (c ++ d) ≡ marks c ++ m → behind marking c d ≡ mark_lines m
+pub marks-behind : (c d : List Level) (m : List (ℕ × Mark × Level)) → marks (c ++ d) ≡ marks c ++ m
+    → behind marking c d ≡ mark_lines m
 marks-behind c d m e =
     append_cancel_left (mark_lines (marks c)) (behind marking c d) (mark_lines m)
-    (ap (λ z. z ++ behind marking c d) (sym (before-lines c)) ∙ sym (before-join marking c d) ∙ before-lines (c ++ d) ∙ ap mark_lines e ∙ flat_map-append line_of (marks c) m)
+    (ap (λ z. z ++ behind marking c d) (sym (before-lines c)) ∙ sym (before-join marking c d) ∙ before-lines (c ++ d)
+    ∙ ap mark_lines e ∙ flat_map-append line_of (marks c) m)
 
-pub told-grew : (t t' : Option (List ℕ)) (c d : List Level) (m : ℕ × Mark × Level) → marks (c ++ d) ≡ marks c ++ m ∷ [] → Grew t t' (mark_line m.0 m.1 m.2) → Grew t t' (behind marking c d)
+pub told-grew : (t t' : Option (List ℕ)) (c d : List Level) (m : ℕ × Mark × Level) → marks (c ++ d) ≡ marks c ++ m ∷ []
+    → Grew t t' (mark_line m.0 m.1 m.2) → Grew t t' (behind marking c d)
 unfolding line_of
 told-grew t t' c d m e g = grew-is (sym (append-nil (line_of m)) ∙ sym (marks-behind c d (m ∷ []) e)) g
 
-pub told-front : (t t' : Option (List ℕ)) (c d : List Level) (m : ℕ × Mark × Level) → marks (c ++ d) ≡ marks c ++ m ∷ [] → GrewFront t t' (mark_line m.0 m.1 m.2) → GrewFront t t' (behind marking c d)
+pub told-front : (t t' : Option (List ℕ)) (c d : List Level) (m : ℕ × Mark × Level) → marks (c ++ d) ≡ marks c ++ m ∷ []
+    → GrewFront t t' (mark_line m.0 m.1 m.2) → GrewFront t t' (behind marking c d)
 unfolding line_of
 told-front t t' c d m e g = front-is (sym (append-nil (line_of m)) ∙ sym (marks-behind c d (m ∷ []) e)) g
 
-pub none-grew : {t t' : Option (List ℕ)} (c d : List Level) → marks (c ++ d) ≡ marks c ++ [] → t' ≡ t → Grew t t' (behind marking c d)
+pub none-grew : {t t' : Option (List ℕ)} (c d : List Level) → marks (c ++ d) ≡ marks c ++ [] → t' ≡ t
+    → Grew t t' (behind marking c d)
 none-grew c d e g = grew-is (sym (marks-behind c d [] e)) (grew-none g)

@@ -1,5 +1,24 @@
 -- A run that is flushed: what is told of it where it was refused, or where that failed.
-use Rattle.std.proofs.Common.{◌≡◌, ◌≢◌, ℕ, ◌+◌, inl, inr, Bool, List, [], Option, Result, Ok, Err, refl, sym, ap, subst, arith}
+use Rattle.std.proofs.Common.{
+  ◌≡◌,
+  ◌≢◌,
+  ℕ,
+  ◌+◌,
+  inl,
+  inr,
+  Bool,
+  List,
+  [],
+  Option,
+  Result,
+  Ok,
+  Err,
+  refl,
+  sym,
+  ap,
+  subst,
+  arith,
+}
 use Rattle.aes3_cell.specs.Ends.{Grew}
 use Rattle.aes3_cell.specs.declared.refusal.RunError.{RunError}
 use Rattle.aes3_cell.specs.declared.refusal.RunError.TheVariants.{Write}
@@ -11,17 +30,22 @@ use Rattle.aes3_runner.specs.JobRuns.{Flushed, JobRan, RunRan, status_by}
 use Rattle.aes3_runner.specs.Lines.{refusal_line}
 
 -- a run of a job, by what the job is
-pub run-of : {job job' : Job} {ended : Bool} {source sink : Movement} {r : Result Counts RunError} → job ≡ job' → RunRan job' ended source sink r → RunRan job ended source sink r
+pub run-of : {job job' : Job} {ended : Bool} {source sink : Movement} {r : Result Counts RunError} → job ≡ job'
+    → RunRan job' ended source sink r → RunRan job ended source sink r
 run-of {ended = ended} {source} {sink} {r} e run = subst (λ (j : Job). RunRan j ended source sink r) (sym e) run
 
-pub refused-flushed : (job : Job) {ended : Bool} {source : Movement} {t₀ t₁ t₂ : Option (List ℕ)} {f₀ f₁ f₂ : ℕ} {errors : Movement} {status : ℕ} {x told : RunError}
+pub refused-flushed : (job : Job)
+    {ended : Bool} {source : Movement} {t₀ t₁ t₂ : Option (List ℕ)} {f₀ f₁ f₂ : ℕ} {errors : Movement} {status : ℕ}
+    {x told : RunError}
     → RunRan job ended source (record { old = t₀; new = t₁; failed_old = f₀; failed_new = f₁ }) (Err x)
     → Flushed x (record { old = t₁; new = t₂; failed_old = f₁; failed_new = f₂ }) told → status ≡ 3
-    → (Quiet errors → Grew errors.old errors.new (refusal_line told)) → JobRan job ended source (record { old = t₀; new = t₂; failed_old = f₀; failed_new = f₂ }) errors status
+    → (Quiet errors → Grew errors.old errors.new (refusal_line told))
+    → JobRan job ended source (record { old = t₀; new = t₂; failed_old = f₀; failed_new = f₂ }) errors status
 refused-flushed job {ended} {source} {t₀} {f₀ = f₀} {f₁} {errors = errors} {x = x} r f s l = record {
   answer = Err x;
   failed = f₁;
-  run = subst (λ v. RunRan job ended source (record { old = t₀; new = v; failed_old = f₀; failed_new = f₁ }) (Err x)) (sym f.0) r;
+  run = subst (λ v. RunRan job ended source (record { old = t₀; new = v; failed_old = f₀; failed_new = f₁ }) (Err x))
+      (sym f.0) r;
   told = (
     s,
     elim f.1 [
@@ -32,11 +56,17 @@ refused-flushed job {ended} {source} {t₀} {f₀ = f₀} {f₁} {errors = error
 }
 
 -- where the sink did not fail, it was flushed
-pub passed-on : (job : Job) {ended : Bool} {source : Movement} {t₀ t₁ t₂ : Option (List ℕ)} {f₀ f₁ f₂ : ℕ} {x told : RunError} {P : Type 0}
+pub passed-on : (job : Job)
+    {ended : Bool} {source : Movement} {t₀ t₁ t₂ : Option (List ℕ)} {f₀ f₁ f₂ : ℕ} {x told : RunError} {P : Type 0}
     → RunRan job ended source (record { old = t₀; new = t₁; failed_old = f₀; failed_new = f₁ }) (Err x)
-    → Flushed x (record { old = t₁; new = t₂; failed_old = f₁; failed_new = f₂ }) told → (f₂ ≡ f₁ → x ≢ Write → P) → f₂ ≡ f₀ → P
+    → Flushed x (record { old = t₁; new = t₂; failed_old = f₁; failed_new = f₂ }) told → (f₂ ≡ f₁ → x ≢ Write → P)
+    → f₂ ≡ f₀ → P
 passed-on job {f₀ = f₀} {f₁} {f₂} {x} r f p h =
-    let n : x ≢ Write = λ e. let v : f₁ ≡ f₀ + 1 = run-write r (ap (λ w. Err w) e) in elim f.1 [ inl k ↦ let i = k.1 in omega arith | inr k ↦ k.0 e ] in
+    let n : x ≢ Write = λ e. let v : f₁ ≡ f₀ + 1
+    = run-write r (ap (λ w. Err w) e) in elim f.1 [
+      | inl k ↦ let i = k.1 in omega arith
+      | inr k ↦ k.0 e
+    ] in
     let v : f₁ ≡ f₀ = run-sink_quiet (Err x) r (λ e. n (error-is e)) in
     p (omega arith) n
   where
@@ -44,7 +74,9 @@ passed-on job {f₀ = f₀} {f₁} {f₂} {x} r f p h =
     error-is e = cc
 
 -- a run that ended well
-pub done : (job : Job) {ended : Bool} {source errors : Movement} {t₀ t₁ : Option (List ℕ)} {f₀ f₁ : ℕ} {status : ℕ} {counts : Counts}
-    → RunRan job ended source (record { old = t₀; new = t₁; failed_old = f₀; failed_new = f₁ }) (Ok counts) → status ≡ status_by job counts → Grew errors.old errors.new []
+pub done : (job : Job) {ended : Bool} {source errors : Movement} {t₀ t₁ : Option (List ℕ)} {f₀ f₁ : ℕ} {status : ℕ}
+    {counts : Counts}
+    → RunRan job ended source (record { old = t₀; new = t₁; failed_old = f₀; failed_new = f₁ }) (Ok counts)
+    → status ≡ status_by job counts → Grew errors.old errors.new []
     → JobRan job ended source (record { old = t₀; new = t₁; failed_old = f₀; failed_new = f₁ }) errors status
 done job {f₁ = f₁} {counts = counts} r s l = record { answer = Ok counts; failed = f₁; run = r; told = (s, refl, l) }

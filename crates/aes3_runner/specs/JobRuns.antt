@@ -1,24 +1,22 @@
 -- What the program does for a job.
-use Rattle.std.specs.Prelude.{ℕ, List, [], Bool, Result, Ok, Err, ◌≡◌, ◌≢◌, ◌+◌, ◌^◌, ◌==◌, ◌⊎◌, if◌then◌else◌, None}
-use Rattle.aes3_cell.specs.declared.level.Level.TheVariants.{Low}
+use Rattle.std.specs.Prelude.{ℕ, List, [], Bool, Result, Ok, Err, ◌≡◌, ◌≢◌, ◌+◌, ◌^◌, ◌==◌, ◌⊎◌, if◌then◌else◌}
+use Rattle.aes3_level.specs.declared.level.Level.TheVariants.{Low}
 use Rattle.aes3_cell.specs.declared.counts.Counts.{Counts}
 use Rattle.aes3_cell.specs.declared.refusal.RunError.{RunError}
 use Rattle.aes3_cell.specs.declared.refusal.RunError.TheVariants as refusal
 use Rattle.aes3_cell.specs.Ends.{Grew}
 use Rattle.aes3_cell.specs.Written.{written}
-use Rattle.aes3_block.specs.Files.{file}
-use Rattle.aes3_block.specs.Samples.{samples}
+use Rattle.aes3_frame.specs.Files.{file}
+use Rattle.aes3_frame.specs.Samples.{samples}
 use Rattle.aes3_lock.specs.Preambles.{marks}
 use Rattle.aes3_lock.specs.Reports.{blocks, decided, normal, reports}
 use Rattle.aes3_input.specs.Running.{Movement, Promise, InputRun, Quiet, Failed}
 use Rattle.aes3_input.specs.Driving.{counted_cells}
 use Rattle.aes3_engine.specs.Encoding.{encoded_file}
-use Rattle.aes3_engine.specs.ReportRuns.{counts_of}
-use Rattle.aes3_engine.specs.BlockRuns.{begun_stream, written_stream, cut_blocks, decided_blocks}
+use Rattle.aes3_runs.specs.ReportRuns.{counts_of}
+use Rattle.aes3_runs.specs.BlockRuns.{begun_stream, written_stream, cut_blocks, decided_blocks}
 use Rattle.aes3_engine.specs.Rewriting.{rewritten_blocks}
 use Rattle.aes3_engine.specs.Sampling.{sampled_file}
-use Rattle.aes3_lines.specs.declared.event.Style.{Style}
-use Rattle.aes3_lines.specs.declared.event.Notation.TheVariants.{Words}
 use Rattle.aes3_lines.specs.MarkLines.{mark_lines}
 use Rattle.aes3_account.specs.Gaps.{account, begun_account}
 use Rattle.aes3_account.specs.Accounting.{account_counts}
@@ -28,32 +26,51 @@ use Rattle.aes3_reports.specs.Lines.{report_lines}
 use Rattle.aes3_reports.specs.Scanning.{scan_counts}
 use Rattle.aes3_account.specs.Watching.{begun_watch, watch_counts, watch_lines}
 use Rattle.aes3_job.specs.declared.job.Job.{Job}
-use Rattle.aes3_job.specs.declared.job.Job.TheVariants.{Encode, Decode, Normal, Check, Account, Watch, Show, ShowChanges, Scan, Cut, Rewrite, ToPcm, FromPcm}
+use Rattle.aes3_job.specs.declared.job.Job.TheVariants.{
+  Encode,
+  Decode,
+  Normal,
+  Check,
+  Account,
+  Watch,
+  Show,
+  ShowChanges,
+  Scan,
+  Cut,
+  Rewrite,
+  ToPcm,
+  FromPcm,
+}
 use Rattle.aes3_runner.specs.Lines.{refusal_line}
 
 -- how many bytes an input may have
 abbrev pub most : ℕ
 most = 2 ^ 40
 
--- how `watch` writes what changes
-abbrev pub as_words : Style
-as_words = record { notation = Words; rate = None }
-
--- what a job promises: its input, what it writes of one, what of bytes behind which more may come, what it counts, and why it is refused
+-- what a job promises: its input, what it writes of one, what of bytes behind which more may come, what it counts, and
+-- why it is refused
 abbrev pub promise_of : Job → Promise Counts
 promise_of (Encode o) = encoded_file o
 promise_of (Decode i) = counted_cells i (λ c. file (blocks c)) (λ c. file (decided_blocks c)) (counts_of i)
-promise_of (Normal i o) = counted_cells i (λ c. written o (normal c)) (λ c. begun_stream o (decided_blocks c)) (counts_of i)
-promise_of (Check i lines) = counted_cells i (λ c. report_lines lines (reports c)) (λ c. report_lines lines (decided c)) (counts_of i)
-promise_of (Account i lines) = counted_cells i (λ c. account_lines lines (account c)) (λ c. account_lines lines (begun_account c)) (account_counts i)
-promise_of (Watch i) = counted_cells i (watch_lines as_words) (begun_watch as_words) (watch_counts i)
-promise_of (Show i) = counted_cells i (λ c. status_lines (blocks c)) (λ c. status_lines (decided_blocks c)) (counts_of i)
-promise_of (ShowChanges i) = counted_cells i (λ c. change_lines (blocks c)) (λ c. change_lines (decided_blocks c)) (counts_of i)
+promise_of (Normal i o) = counted_cells i (λ c. written o (normal c)) (λ c. begun_stream o (decided_blocks c))
+    (counts_of i)
+promise_of (Check i lines) = counted_cells i (λ c. report_lines lines (reports c)) (λ c. report_lines lines (decided c))
+    (counts_of i)
+promise_of (Account i lines)
+    = counted_cells i (λ c. account_lines lines (account c)) (λ c. account_lines lines (begun_account c))
+    (account_counts i)
+promise_of (Watch i style) = counted_cells i (watch_lines style) (begun_watch style) (watch_counts i)
+promise_of (Show i) = counted_cells i (λ c. status_lines (blocks c)) (λ c. status_lines (decided_blocks c))
+    (counts_of i)
+promise_of (ShowChanges i) = counted_cells i (λ c. change_lines (blocks c)) (λ c. change_lines (decided_blocks c))
+    (counts_of i)
 promise_of (Scan i) = counted_cells i (λ c. mark_lines (marks c)) (λ c. mark_lines (marks c)) (scan_counts i)
 promise_of (Cut i o from count) =
-    counted_cells i (λ c. written_stream o (cut_blocks from count (blocks c))) (λ c. begun_stream o (cut_blocks from count (decided_blocks c))) (counts_of i)
+    counted_cells i (λ c. written_stream o (cut_blocks from count (blocks c)))
+    (λ c. begun_stream o (cut_blocks from count (decided_blocks c))) (counts_of i)
 promise_of (Rewrite i o change) =
-    counted_cells i (λ c. written_stream o (rewritten_blocks change (blocks c))) (λ c. begun_stream o (rewritten_blocks change (decided_blocks c))) (counts_of i)
+    counted_cells i (λ c. written_stream o (rewritten_blocks change (blocks c)))
+    (λ c. begun_stream o (rewritten_blocks change (decided_blocks c))) (counts_of i)
 promise_of (ToPcm i) = counted_cells i (λ c. samples (blocks c)) (λ c. samples (decided_blocks c)) (counts_of i)
 promise_of (FromPcm exact change) = sampled_file exact change
 
@@ -68,7 +85,7 @@ status_by (Decode i) n = 0
 status_by (Normal i o) n = 0
 status_by (Check i lines) n = if n.faults == 0 then 0 else 1
 status_by (Account i lines) n = if n.faults == 0 then 0 else 1
-status_by (Watch i) n = if n.faults == 0 then 0 else 1
+status_by (Watch i style) n = if n.faults == 0 then 0 else 1
 status_by (Show i) n = 0
 status_by (ShowChanges i) n = 0
 status_by (Scan i) n = 0
@@ -86,13 +103,16 @@ Flushed error sink told = (sink.new ≡ sink.old)
 abbrev pub before_flush : Movement → ℕ → Movement
 before_flush sink failed = record { old = sink.old; new = sink.new; failed_old = sink.failed_old; failed_new = failed }
 
--- what is told of a run's answer, and the exit status: nothing of one that ended well; of a refusal its line, or that of `Write` where the flush behind
+-- what is told of a run's answer, and the exit status: nothing of one that ended well; of a refusal its line, or that
+-- of `Write` where the flush behind
 -- it failed
 abbrev pub AnswerTold : Job → Result Counts RunError → ℕ → Movement → Movement → ℕ → Type 0
-AnswerTold job (Ok counts) failed sink errors status = (status ≡ status_by job counts) × (sink.failed_new ≡ failed) × Grew errors.old errors.new []
+AnswerTold job (Ok counts) failed sink errors status
+    = (status ≡ status_by job counts) × (sink.failed_new ≡ failed) × Grew errors.old errors.new []
 AnswerTold job (Err error) failed sink errors status = (status ≡ 3)
     × (((sink.failed_new ≡ failed) × (Quiet errors → Grew errors.old errors.new (refusal_line error)))
-    ⊎ ((error ≢ refusal.Write) × (sink.failed_new ≡ failed + 1) × (Quiet errors → Grew errors.old errors.new (refusal_line refusal.Write))))
+    ⊎ ((error ≢ refusal.Write) × (sink.failed_new ≡ failed + 1)
+    × (Quiet errors → Grew errors.old errors.new (refusal_line refusal.Write))))
 
 -- a job: what its run answered, how often the sink had failed then, and what is told of that
 pub record JobRan (job : Job) (ended : Bool) (source sink errors : Movement) (status : ℕ) : Type 0 where

@@ -14,5 +14,6 @@ refusal_line error = codes "aes3: refused " ++ decimal (number_of error) ++ plac
 
 -- what is told of words that are not UTF-8
 abbrev pub not_utf8_text : List ℕ
-not_utf8_text = codes "error: the words are not UTF-8" ++ (10 ∷ 10 ∷ codes "Usage: aes3 COMMAND [OPTIONS] < INPUT > OUTPUT")
+not_utf8_text = codes "error: the words are not UTF-8"
+    ++ (10 ∷ 10 ∷ codes "Usage: aes3 COMMAND [OPTIONS] < INPUT > OUTPUT")
     ++ (10 ∷ 10 ∷ codes "For more information, try '--help'.") ++ 10 ∷ []

@@ -6,24 +6,29 @@ use Rattle.aes3_input.specs.Running.{Movement, Quiet, Failed}
 use Rattle.aes3_job.specs.declared.job.Job.{Job}
 use Rattle.aes3_arguments.specs.declared.job.LineFault.{LineFault}
 use Rattle.aes3_arguments.specs.declared.line.CommandLine.{CommandLine}
+use Rattle.aes3_arguments.specs.declared.layout.Octets.{Octets}
 use Rattle.aes3_runner.specs.declared.run.Unread.{Unread}
 use Rattle.aes3_runner.specs.declared.run.Unread.TheVariants as unread
 use Rattle.aes3_arguments.specs.declared.job.LineFault.TheVariants.{Usage, Help, Refused}
-use Rattle.aes3_arguments.specs.Jobs.{IsJobOf, IsFaultOf}
-use Rattle.aes3_runner.specs.JobRuns.{JobRan}
+use Rattle.aes3_arguments.specs.Jobs.{HaveOctets, IsJobOf, IsFaultOf}
+use Rattle.aes3_runner.specs.OctetRuns.{OctetsRan}
 use Rattle.aes3_runner.specs.Lines.{refusal_line}
 use Rattle.aes3_runner.specs.Lines.{not_utf8_text}
 
 -- a line that is no job: why not is told among the errors, and help in the output
 abbrev pub FaultRan : LineFault → Movement → Movement → ℕ → Type 0
-FaultRan (Usage text) sink errors status = (status ≡ 2) × Grew sink.old sink.new [] × (Quiet errors → Grew errors.old errors.new text.bytes.items)
+FaultRan (Usage text) sink errors status
+    = (status ≡ 2) × Grew sink.old sink.new [] × (Quiet errors → Grew errors.old errors.new text.bytes.items)
 FaultRan (Help text) sink errors status =
-    ((status ≡ 0) × Quiet sink × Grew sink.old sink.new text.bytes.items) ⊎ ((status ≡ 3) × Failed sink × (Quiet errors → Grew errors.old errors.new (refusal_line Write)))
-FaultRan (Refused error) sink errors status = (status ≡ 3) × Grew sink.old sink.new [] × (Quiet errors → Grew errors.old errors.new (refusal_line error))
+    ((status ≡ 0) × Quiet sink × Grew sink.old sink.new text.bytes.items)
+    ⊎ ((status ≡ 3) × Failed sink × (Quiet errors → Grew errors.old errors.new (refusal_line Write)))
+FaultRan (Refused error) sink errors status
+    = (status ≡ 3) × Grew sink.old sink.new [] × (Quiet errors → Grew errors.old errors.new (refusal_line error))
 
 -- a line that asks for a job, which is run; or for none, which is told and nothing is read
 abbrev pub LineRan : Result CommandLine LineFault → Bool → Movement → Movement → Movement → ℕ → Type 0
-LineRan (Ok line) ended source sink errors status = JobRan line.job ended source sink errors status
+LineRan (Ok line) ended source sink errors status
+    = OctetsRan line.octets.raw_in line.job ended source sink errors status
 LineRan (Err fault) ended source sink errors status =
     Grew source.old source.new [] × Quiet source × FaultRan fault sink errors status
 
@@ -31,7 +36,9 @@ LineRan (Err fault) ended source sink errors status =
 pub record JobOfWords (words : List (List ℕ)) (ended : Bool) (source sink errors : Movement) (status : ℕ) : Type 0 where
   pub job : Job
   pub asked : IsJobOf words job
-  pub ran : JobRan job ended source sink errors status
+  pub octets : Octets
+  pub laid_out : HaveOctets words octets
+  pub ran : OctetsRan octets.raw_in job ended source sink errors status
 
 pub record FaultOfWords (words : List (List ℕ)) (source sink errors : Movement) (status : ℕ) : Type 0 where
   pub fault : LineFault
@@ -41,9 +48,11 @@ pub record FaultOfWords (words : List (List ℕ)) (source sink errors : Movement
   pub ran : FaultRan fault sink errors status
 
 abbrev pub WordsRan : List (List ℕ) → Bool → Movement → Movement → Movement → ℕ → Type 0
-WordsRan words ended source sink errors status = JobOfWords words ended source sink errors status ⊎ FaultOfWords words source sink errors status
+WordsRan words ended source sink errors status
+    = JobOfWords words ended source sink errors status ⊎ FaultOfWords words source sink errors status
 
 -- words that could not be read: what is told of that
 abbrev pub UnreadTold : Unread → Movement → ℕ → Type 0
 UnreadTold unread.NotUtf8 errors status = (status ≡ 2) × (Quiet errors → Grew errors.old errors.new not_utf8_text)
-UnreadTold unread.Memory errors status = (status ≡ 3) × (Quiet errors → Grew errors.old errors.new (refusal_line Memory))
+UnreadTold unread.Memory errors status
+    = (status ≡ 3) × (Quiet errors → Grew errors.old errors.new (refusal_line Memory))

@@ -8,17 +8,10 @@ use aes3_account::{account, watch};
 use aes3_cell::{Counts, RunError, Sink, Source};
 use aes3_engine::{cut, decode, encode, from_pcm, normalise, rewrite, to_pcm};
 use aes3_job::Job;
-use aes3_lines::{Notation, Style};
 use aes3_text::{check, scan, show, show_changes};
 
 /// How many bytes an input may have.
 const MAX_BYTES: u64 = 1 << 40;
-
-/// How `watch` writes what changes.
-const AS_WORDS: Style = Style {
-    notation: Notation::Words,
-    rate: None,
-};
 
 /// The exit status of a run that was not refused.
 pub const DONE: u8 = 0;
@@ -60,7 +53,7 @@ pub fn run_job<S: Source, T: Sink>(
         Job::Normal { input, output } => normalise(source, sink, MAX_BYTES, input, output),
         Job::Check { input, lines } => check(source, sink, MAX_BYTES, input, lines),
         Job::Account { input, lines } => account(source, sink, MAX_BYTES, input, lines),
-        Job::Watch { input } => watch(source, sink, MAX_BYTES, input, AS_WORDS),
+        Job::Watch { input, style } => watch(source, sink, MAX_BYTES, input, style),
         Job::Show { input } => show(source, sink, MAX_BYTES, input),
         Job::ShowChanges { input } => show_changes(source, sink, MAX_BYTES, input),
         Job::Scan { input } => scan(source, sink, MAX_BYTES, input),

@@ -6,6 +6,8 @@
 mod finish;
 /// A job done by the run that it asks for.
 mod job_run;
+/// A job whose octets are laid out in other ways.
+mod octets;
 /// The line of a refusal.
 mod refusal;
 /// A whole command line.
@@ -13,5 +15,6 @@ mod run;
 
 pub use finish::finish_job;
 pub use job_run::{DONE, FAULTY, run_job};
+pub use octets::{Ran, run_octets};
 pub use refusal::{REFUSED, put_refusal, refuse};
 pub use run::{USAGE, Unread, run_line, run_words, tell_unread};

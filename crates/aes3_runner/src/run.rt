@@ -5,8 +5,8 @@ ghost use Rattle.aes3_cell.specs.Ends.{Grew};
 ghost use Rattle.aes3_runner.specs.WordRuns.{FaultRan, LineRan, UnreadTold, WordsRan};
 ghost use Rattle.aes3_input.specs.Running.{movement_of};
 
-use crate::finish::finish_job;
 use crate::job_run::DONE;
+use crate::octets::{Ran, run_octets};
 use crate::refusal::refuse;
 use aes3_arguments::{CommandLine, LineFault, line_of_words};
 use aes3_cell::{Fault, RunError, Sink, Source, write_all};
@@ -111,20 +111,20 @@ pub fn tell_unread<E: Sink, O: Observer>(fault: Unread, errors: &mut E, observer
 /// source is what the line reads. A sink that held nothing before and did not fail has passed on all
 /// that it took, and so have the errors. Refusals are told on `errors`, whose own faults change
 /// nothing. The observer is told how it goes on; one that is silent writes nothing.
-pub fn run_line<S: Source, T: Sink, E: Sink, O: Observer>(
+pub fn run_line<S: Source + Drop, T: Sink, E: Sink, O: Observer>(
     line: Result<CommandLine<'_>, LineFault>,
-    source: &mut S,
+    source: S,
     sink: &mut T,
     errors: &mut E,
     observer: &mut O,
-) -> u8
-    requires source_room { S.failed source.old + 1 < 2 ^ 64 }
+) -> Ran<S>
+    requires source_room { S.failed source + 1 < 2 ^ 64 }
     requires sink_room { T.failed sink.old + 1 < 2 ^ 64 }
     requires errors_room { E.failed errors.old + 1 < 2 ^ 64 }
-    ensures ran { LineRan line.entry (S.has_ended source.new)
-        (movement_of S.given S.failed source.old source.new)
+    ensures ran { LineRan line.entry (S.has_ended result.source)
+        (movement_of S.given S.failed source result.source)
         (movement_of T.taken T.failed sink.old sink.new)
-        (movement_of E.taken E.failed errors.old errors.new) result }
+        (movement_of E.taken E.failed errors.old errors.new) result.status }
     ensures passed_on { T.passed sink.old ≡ T.taken sink.old → T.failed sink.new ≡ T.failed sink.old
         → T.passed sink.new ≡ T.taken sink.new }
     ensures errors { E.failed errors.new ≤ E.failed errors.old + 1 }
@@ -134,27 +134,30 @@ pub fn run_line<S: Source, T: Sink, E: Sink, O: Observer>(
     ensures same { O.is_silent observer.new ≡ O.is_silent observer.old }
 {
     match line {
-        Ok(line) => finish_job(&line.job, source, sink, errors, observer),
-        Err(fault) => tell_fault(fault, sink, errors, observer),
+        Ok(line) => run_octets(line.octets, &line.job, source, sink, errors, observer),
+        Err(fault) => Ran {
+            status: tell_fault(fault, sink, errors, observer),
+            source,
+        },
     }
 }
 
 /// Runs a command line, without the program's name, whose input is the source, as [`run_line`] does.
-pub fn run_words<S: Source, T: Sink, E: Sink, O: Observer>(
+pub fn run_words<S: Source + Drop, T: Sink, E: Sink, O: Observer>(
     alloc: Global,
     words: &[&str],
-    source: &mut S,
+    source: S,
     sink: &mut T,
     errors: &mut E,
     observer: &mut O,
-) -> u8
-    requires source_room { S.failed source.old + 1 < 2 ^ 64 }
+) -> Ran<S>
+    requires source_room { S.failed source + 1 < 2 ^ 64 }
     requires sink_room { T.failed sink.old + 1 < 2 ^ 64 }
     requires errors_room { E.failed errors.old + 1 < 2 ^ 64 }
-    ensures ran { WordsRan (map (λ word. word.now) words.now) (S.has_ended source.new)
-        (movement_of S.given S.failed source.old source.new)
+    ensures ran { WordsRan (map (λ word. word.now) words.now) (S.has_ended result.source)
+        (movement_of S.given S.failed source result.source)
         (movement_of T.taken T.failed sink.old sink.new)
-        (movement_of E.taken E.failed errors.old errors.new) result }
+        (movement_of E.taken E.failed errors.old errors.new) result.status }
     ensures passed_on { T.passed sink.old ≡ T.taken sink.old → T.failed sink.new ≡ T.failed sink.old
         → T.passed sink.new ≡ T.taken sink.new }
     ensures errors { E.failed errors.new ≤ E.failed errors.old + 1 }

@@ -3,12 +3,12 @@
 use Rattle.std.proofs.Common.{◌≡◌, ℕ, suc, ◌+◌, ◌*◌, ◌/◌, ◌%◌, ◌<◌, ◌≤◌, ◌⊎◌, inl, inr, List, refl, length, ap, ap₂}
 use Rattle.std.proofs.Common.{◌∙◌, sym, arith, lit<}
 use Rattle.std.proofs.lemmas.Bool.{cases_lt, cases_eq}
-use Rattle.aes3_cell.specs.declared.level.Level.{Level}
+use Rattle.aes3_level.specs.declared.level.Level.{Level}
 use Rattle.aes3_slot.specs.declared.mark.Mark.{Mark}
 use Rattle.aes3_slot.specs.declared.mark.Mark.TheVariants.{X, Y, Z}
-use Rattle.aes3_cell.specs.Cells.{other}
+use Rattle.aes3_level.specs.Cells.{other}
 use Rattle.aes3_slot.specs.Rules.{StandsMark, at, before, shape, AllKept}
-use Rattle.aes3_cell.proofs.Runs.{other_ne}
+use Rattle.aes3_level.proofs.Runs.{other_ne}
 use Rattle.aes3_slot.proofs.OwnPreambles.{stands-room, stands-at, change, run-of, two-of, own, shapes-apart}
 use Rattle.aes3_slot.proofs.OwnPreambles.{same-from-first}
 

@@ -4,13 +4,13 @@ use Rattle.std.proofs.Common.{Bool, refl, length, take, drop, ap, ap₂, ◌∙�
 use Rattle.std.proofs.Common.{take-append-drop, length-drop, length-take-le, take-add, ext_get_or}
 use Rattle.std.proofs.lemmas.List.{get_or_append_left, get_or-append-add}
 use Rattle.std.proofs.lemmas.Bool.{cases_lt}
-use Rattle.aes3_cell.specs.declared.level.Level.{Level}
-use Rattle.aes3_cell.specs.declared.level.Level.TheVariants.{Low}
+use Rattle.aes3_level.specs.declared.level.Level.{Level}
+use Rattle.aes3_level.specs.declared.level.Level.TheVariants.{Low}
 use Rattle.aes3_slot.specs.declared.mark.Mark.{Mark}
-use Rattle.aes3_cell.specs.Cells.{line, other, after}
+use Rattle.aes3_level.specs.Cells.{line, other, after}
 use Rattle.aes3_slot.specs.Slots.{bits_runs, mark_runs, runs_of, slot_runs}
 use Rattle.aes3_slot.specs.Rules.{at, before, Kept, AllKept, Each28}
-use Rattle.aes3_cell.proofs.Runs.{line-append}
+use Rattle.aes3_level.proofs.Runs.{line-append}
 use Rattle.aes3_slot.proofs.Subframes.{line-slots}
 use Rattle.aes3_slot.proofs.Index.{subframe, subframe-length, subframe-preamble, subframe-slot, subframe-last}
 use Rattle.aes3_slot.proofs.Index.{read-bits, length-mark, last-mark, before-append_right, before-append_left}

@@ -9,12 +9,12 @@ use Rattle.std.proofs.lemmas.List.{get_or-map, length-map}
 use Rattle.std.proofs.lemmas.Bool.{agree_below_at, cases_eq, cases_lt, lt-ltb, le-ltb}
 use Rattle.std.proofs.lemmas.Simd.{get_or-zip2, get_or-replicate, length-zip2}
 use Rattle.std.proofs.lemmas.Nat.Bits.{bit_at-lt, bit_at_xor}
-use Rattle.aes3_cell.specs.declared.level.Level.{Level}
-use Rattle.aes3_cell.specs.declared.level.Level.TheVariants.{Low, High}
-use Rattle.aes3_cell.specs.Cells.{line}
-use Rattle.aes3_cell.specs.Words.{level_of, low_cells, word_cells, word_len}
-use Rattle.aes3_cell.proofs.WordCells.{drop-low_cells, low_cells-at}
-use Rattle.aes3_cell.proofs.Moves.{bit_at-shr, shl-above, shl-below}
+use Rattle.aes3_level.specs.declared.level.Level.{Level}
+use Rattle.aes3_level.specs.declared.level.Level.TheVariants.{Low, High}
+use Rattle.aes3_level.specs.Cells.{line}
+use Rattle.aes3_level.specs.Words.{level_of, low_cells, word_cells, word_len}
+use Rattle.aes3_level.proofs.WordCells.{drop-low_cells, low_cells-at}
+use Rattle.aes3_level.proofs.Moves.{bit_at-shr, shl-above, shl-below}
 use Rattle.aes3_slot.specs.declared.mark.Mark.{Mark}
 use Rattle.aes3_slot.specs.declared.mark.Mark.TheVariants.{X, Y, Z}
 use Rattle.aes3_bits.specs.Bits.{low_bits}

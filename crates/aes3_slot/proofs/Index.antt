@@ -2,14 +2,14 @@
 use Rattle.std.proofs.Common.{◌≡◌, ℕ, zero, suc, ◌+◌, ◌*◌, ◌<◌, ◌≤◌, List, [], ◌∷◌, ◌++◌, Bool, true, false, refl}
 use Rattle.std.proofs.Common.{length, ap, ◌∙◌, sym, arith, length-append}
 use Rattle.std.proofs.lemmas.List.{get_or_append_left, get_or-append-add}
-use Rattle.aes3_cell.specs.declared.level.Level.{Level}
-use Rattle.aes3_cell.specs.declared.level.Level.TheVariants.{Low, High}
+use Rattle.aes3_level.specs.declared.level.Level.{Level}
+use Rattle.aes3_level.specs.declared.level.Level.TheVariants.{Low, High}
 use Rattle.aes3_slot.specs.declared.mark.Mark.{Mark}
 use Rattle.aes3_slot.specs.declared.mark.Mark.TheVariants.{X, Y, Z}
-use Rattle.aes3_cell.specs.Cells.{line, other, after}
+use Rattle.aes3_level.specs.Cells.{line, other, after}
 use Rattle.aes3_slot.specs.Slots.{bits_runs, mark_runs, slot_runs}
 use Rattle.aes3_slot.specs.Rules.{at, before, shape}
-use Rattle.aes3_cell.proofs.Runs.{after-append, length-line}
+use Rattle.aes3_level.proofs.Runs.{after-append, length-line}
 use Rattle.aes3_slot.proofs.Subframes.{line-slots, total-bits, after-mark}
 
 -- the last cell, or the level before where there is none, is the level after

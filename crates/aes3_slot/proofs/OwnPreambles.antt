@@ -2,13 +2,13 @@
 use Rattle.std.proofs.Common.{◌≡◌, ℕ, zero, suc, ◌+◌, ◌*◌, ◌/◌, ◌%◌, ◌<◌, ◌≤◌, ◌⊎◌, inl, inr, List, refl, length, drop}
 use Rattle.std.proofs.Common.{ap, ◌∙◌, sym, arith, length-drop, get_or-drop, get_or-take, length-take, lit<}
 use Rattle.std.proofs.lemmas.Bool.{cases_lt}
-use Rattle.aes3_cell.specs.declared.level.Level.{Level}
-use Rattle.aes3_cell.specs.declared.level.Level.TheVariants.{Low}
+use Rattle.aes3_level.specs.declared.level.Level.{Level}
+use Rattle.aes3_level.specs.declared.level.Level.TheVariants.{Low}
 use Rattle.aes3_slot.specs.declared.mark.Mark.{Mark}
 use Rattle.aes3_slot.specs.declared.mark.Mark.TheVariants.{X, Y, Z}
-use Rattle.aes3_cell.specs.Cells.{other}
+use Rattle.aes3_level.specs.Cells.{other}
 use Rattle.aes3_slot.specs.Rules.{StandsMark, at, before, shape, AllKept}
-use Rattle.aes3_cell.proofs.Runs.{other-other, other_ne}
+use Rattle.aes3_level.proofs.Runs.{other-other, other_ne}
 use Rattle.aes3_slot.proofs.Index.{length-mark}
 
 pub stands-room : (m : Mark) (t : Level) (c : List Level) (p : ℕ) → StandsMark m t c p → p + 8 ≤ length c

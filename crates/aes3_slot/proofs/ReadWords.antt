@@ -5,12 +5,12 @@ use Rattle.std.specs.Prelude.{bit_xor}
 use Rattle.std.specs.Int.{bit_at}
 use Rattle.std.proofs.lemmas.Nat.{shr_le, xor_lt}
 use Rattle.std.proofs.lemmas.Nat.Bits.{bit_at_xor, bit_at-suc, bit_at_lowest, bit_at_above}
-use Rattle.aes3_cell.specs.Words.{level_of, low_cells}
-use Rattle.aes3_cell.proofs.WordCells.{drop-low_cells}
+use Rattle.aes3_level.specs.Words.{level_of, low_cells}
+use Rattle.aes3_level.proofs.WordCells.{drop-low_cells}
 use Rattle.aes3_bits.specs.Bits.{low_bits}
 use Rattle.aes3_slot.specs.Reading.{differs, read_bits}
 use Rattle.aes3_bits.proofs.Bits.{lt-from-bits}
-use Rattle.aes3_cell.proofs.Moves.{bit_at-shr}
+use Rattle.aes3_level.proofs.Moves.{bit_at-shr}
 
 -- a slot carries a one where its cells differ
 pub read_bits-word : (k w v : ℕ) → ((i : ℕ) → i < k → bit_at v i ≡ (bit_at w (2 * i) + bit_at w (suc (2 * i))) % 2)

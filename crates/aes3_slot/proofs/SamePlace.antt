@@ -1,11 +1,11 @@
 -- Two blocks at one place, after one level, differ in two neighbouring cells at least.
 use Rattle.std.proofs.Common.{◌≡◌, ◌≢◌, ℕ, suc, ◌*◌, ◌%◌, ◌<◌, List, [], ◌∷◌, Bool, true, false, refl, length, ap, sym}
 use Rattle.std.proofs.Common.{arith}
-use Rattle.aes3_cell.specs.declared.level.Level.{Level}
-use Rattle.aes3_cell.specs.Cells.{line, other, after}
+use Rattle.aes3_level.specs.declared.level.Level.{Level}
+use Rattle.aes3_level.specs.Cells.{line, other, after}
 use Rattle.aes3_slot.specs.Slots.{bits_runs}
 use Rattle.aes3_slot.specs.Rules.{at}
-use Rattle.aes3_cell.proofs.Runs.{other_ne}
+use Rattle.aes3_level.proofs.Runs.{other_ne}
 
 -- the first cells after opposite levels
 first-apart : (t : Level) (a b : List Bool) → length a ≡ length b

@@ -12,7 +12,7 @@ use Rattle.std.proofs.lemmas.Nat.{and_le_r}
 use Rattle.std.proofs.lemmas.Nat.Bits.{bit_at_and, bit_at_ones, bit_at_cat_low, bit_at_cat_high}
 use Rattle.std.proofs.lemmas.Simd.{swz_l, SwzOk, SwzOk-from_below, get_or-swz_l_below, Each1-from_get_or, get_or-zip2}
 use Rattle.std.proofs.lemmas.Simd.{get_or-replicate, get_or_wider, get_or_narrower, get_or-chunk, length-chunk}
-use Rattle.aes3_cell.proofs.Moves.{bit_at-shr}
+use Rattle.aes3_level.proofs.Moves.{bit_at-shr}
 use Rattle.aes3_slot.specs.declared.four.TheConstants.{SPREAD, IN_TURN}
 
 -- bit k of a number whose bit n is bit n of x, at twice its place and one more

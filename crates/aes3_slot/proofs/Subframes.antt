@@ -1,10 +1,10 @@
 -- The length of a subframe, and the level after it.
 use Rattle.std.proofs.Common.{◌≡◌, ℕ, zero, suc, ◌+◌, ◌*◌, List, [], ◌∷◌, ◌++◌, Bool, true, false, not, refl, length}
 use Rattle.std.proofs.Common.{ap, ◌∙◌, sym, arith, length-append}
-use Rattle.aes3_cell.specs.declared.level.Level.{Level}
-use Rattle.aes3_cell.specs.declared.level.Level.TheVariants.{Low, High}
-use Rattle.aes3_cell.specs.Cells.{line, other, after}
-use Rattle.aes3_cell.proofs.Runs.{other-other, line-append, after-append, total, total-append, length-line}
+use Rattle.aes3_level.specs.declared.level.Level.{Level}
+use Rattle.aes3_level.specs.declared.level.Level.TheVariants.{Low, High}
+use Rattle.aes3_level.specs.Cells.{line, other, after}
+use Rattle.aes3_level.proofs.Runs.{other-other, line-append, after-append, total, total-append, length-line}
 use Rattle.aes3_slot.specs.declared.mark.Mark.{Mark}
 use Rattle.aes3_slot.specs.declared.mark.Mark.TheVariants.{X, Y, Z}
 use Rattle.aes3_bits.specs.Bits.{odd_ones}

@@ -8,17 +8,17 @@ use Rattle.std.proofs.lemmas.Bool.{cases_lt, agree_below_at, lt-ltb, le-ltb, eq-
 use Rattle.std.proofs.lemmas.Nat.{and_mask, pow_pos}
 use Rattle.std.proofs.lemmas.Nat.Bits.{bit_at_and, bit_at_or, bit_at_xor, bit_at_above, bit_at_cat_high, bit_at_cat_low}
 use Rattle.std.proofs.lemmas.Nat.Bits.{bit_at-lt, bit_at_ones, bit_at-suc, bit_at_lowest, bit_at_not, bit_at-zero}
-use Rattle.aes3_cell.specs.declared.level.Level.{Level}
-use Rattle.aes3_cell.specs.declared.level.Level.TheVariants.{Low, High}
-use Rattle.aes3_cell.specs.Cells.{line, other}
-use Rattle.aes3_cell.specs.Words.{level_of, low_cells}
+use Rattle.aes3_level.specs.declared.level.Level.{Level}
+use Rattle.aes3_level.specs.declared.level.Level.TheVariants.{Low, High}
+use Rattle.aes3_level.specs.Cells.{line, other}
+use Rattle.aes3_level.specs.Words.{level_of, low_cells}
 use Rattle.aes3_slot.specs.declared.mark.Mark.{Mark}
 use Rattle.aes3_slot.specs.declared.mark.Mark.TheVariants.{X, Y, Z}
 use Rattle.aes3_bits.specs.Bits.{low_bits}
 use Rattle.aes3_slot.specs.Slots.{mark_runs, bits_runs, slot_runs}
 use Rattle.aes3_slot.specs.Turns.{turned, cells_of_turns, run_turns}
 use Rattle.aes3_bits.proofs.Bits.{low_bits-same, low_bits-add}
-use Rattle.aes3_cell.proofs.Moves.{bit_at-shr, shl-below, shl-above}
+use Rattle.aes3_level.proofs.Moves.{bit_at-shr, shl-below, shl-above}
 
 -- the parity of the bits of t below i
 abbrev pub parity_below : ℕ → ℕ → ℕ

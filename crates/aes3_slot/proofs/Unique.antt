@@ -1,14 +1,14 @@
 -- Cells determine the bits that they carry.
 use Rattle.std.proofs.Common.{◌≡◌, ℕ, suc, ◌<◌, List, [], ◌∷◌, ◌++◌, Bool, true, false, refl, length, take, drop, ap}
 use Rattle.std.proofs.Common.{ap₂, ◌∙◌, sym, arith, take_at, drop_at, append_assoc}
-use Rattle.aes3_cell.specs.declared.level.Level.{Level}
-use Rattle.aes3_cell.specs.declared.level.Level.TheVariants.{Low, High}
+use Rattle.aes3_level.specs.declared.level.Level.{Level}
+use Rattle.aes3_level.specs.declared.level.Level.TheVariants.{Low, High}
 use Rattle.aes3_slot.specs.declared.mark.Mark.{Mark}
-use Rattle.aes3_cell.specs.Cells.{line, after}
+use Rattle.aes3_level.specs.Cells.{line, after}
 use Rattle.aes3_slot.specs.Slots.{bits_runs, mark_runs, runs_of, slot_runs}
 use Rattle.aes3_slot.specs.Rules.{Each28}
 use Rattle.aes3_slot.specs.Reading.{read_bits, read_slots}
-use Rattle.aes3_cell.proofs.Runs.{line-append, length-line}
+use Rattle.aes3_level.proofs.Runs.{line-append, length-line}
 use Rattle.aes3_slot.proofs.Subframes.{total-bits, line-slots}
 use Rattle.aes3_slot.specs.Rules.{at, shape}
 use Rattle.aes3_slot.proofs.OwnPreambles.{same-from-first, shapes-apart}

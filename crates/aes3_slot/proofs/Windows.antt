@@ -7,12 +7,12 @@ use Rattle.std.specs.Int.{bit_at, bit_not}
 use Rattle.std.proofs.lemmas.Bool.{cases_lt}
 use Rattle.std.proofs.lemmas.List.{get_or_append_left, get_or-append_right}
 use Rattle.std.proofs.lemmas.Nat.Bits.{bit_at_and, bit_at_or, bit_at_xor, bit_at_not, bit_at-lt, bit_at_above}
-use Rattle.aes3_cell.specs.declared.level.Level.{Level}
-use Rattle.aes3_cell.specs.declared.level.Level.TheVariants.{Low, High}
-use Rattle.aes3_cell.specs.Cells.{line, other}
-use Rattle.aes3_cell.specs.Words.{level_of, low_cells, word_cells, word_len}
-use Rattle.aes3_cell.proofs.Moves.{bit_at-shr, shl-above, shl-below}
-use Rattle.aes3_cell.proofs.WordCells.{length-low_cells, low_cells-at}
+use Rattle.aes3_level.specs.declared.level.Level.{Level}
+use Rattle.aes3_level.specs.declared.level.Level.TheVariants.{Low, High}
+use Rattle.aes3_level.specs.Cells.{line, other}
+use Rattle.aes3_level.specs.Words.{level_of, low_cells, word_cells, word_len}
+use Rattle.aes3_level.proofs.Moves.{bit_at-shr, shl-above, shl-below}
+use Rattle.aes3_level.proofs.WordCells.{length-low_cells, low_cells-at}
 use Rattle.aes3_slot.specs.declared.mark.Mark.{Mark}
 use Rattle.aes3_slot.specs.declared.mark.Mark.TheVariants.{X, Y, Z}
 use Rattle.aes3_slot.specs.Slots.{mark_runs}

@@ -7,8 +7,8 @@ use Rattle.std.specs.Int.{bit_at}
 use Rattle.std.specs.List.{flat_map}
 use Rattle.std.proofs.lemmas.Bool.{cases_eq}
 use Rattle.std.proofs.lemmas.List.{drop-append-le, drop_at}
-use Rattle.aes3_cell.specs.Words.{low_cells, word_cells, word_len}
-use Rattle.aes3_cell.proofs.WordCells.{low_cells-add}
+use Rattle.aes3_level.specs.Words.{low_cells, word_cells, word_len}
+use Rattle.aes3_level.proofs.WordCells.{low_cells-add}
 use Rattle.aes3_slot.specs.declared.mark.Mark.TheVariants.{Z}
 use Rattle.aes3_slot.specs.Preambles.{begins_with, with_seven, words_with_seven}
 use Rattle.aes3_slot.proofs.ReadSubframes.{length-word}

@@ -8,16 +8,16 @@ use Rattle.std.proofs.lemmas.Bool.{cases_lt, cases_eq, agree_below_at, eqb-true}
 use Rattle.std.proofs.lemmas.Nat.{xor_lt, mod_below}
 use Rattle.std.proofs.lemmas.Nat.Bits.{bit_at_and, bit_at_or, bit_at_xor, bit_at_not, bit_at-lt, bit_at_ones}
 use Rattle.std.proofs.lemmas.Nat.Bits.{bit_at_ones_above}
-use Rattle.aes3_cell.specs.declared.level.Level.{Level}
-use Rattle.aes3_cell.specs.Cells.{line}
-use Rattle.aes3_cell.specs.Words.{level_of, low_cells}
-use Rattle.aes3_cell.proofs.WordCells.{low_cells-at}
+use Rattle.aes3_level.specs.declared.level.Level.{Level}
+use Rattle.aes3_level.specs.Cells.{line}
+use Rattle.aes3_level.specs.Words.{level_of, low_cells}
+use Rattle.aes3_level.proofs.WordCells.{low_cells-at}
 use Rattle.aes3_slot.specs.declared.mark.Mark.{Mark}
 use Rattle.aes3_slot.specs.Slots.{mark_runs}
 use Rattle.aes3_slot.specs.Reading.{same, differs}
 use Rattle.aes3_slot.specs.Rules.{at, before, shape, rule}
 use Rattle.aes3_slot.specs.Fronts.{stands, stands_even}
-use Rattle.aes3_cell.proofs.Moves.{shl-above}
+use Rattle.aes3_level.proofs.Moves.{shl-above}
 use Rattle.aes3_slot.proofs.Turns.{slot_starts-bit}
 
 preamble-bit : (i : ℕ) → bit_at 255 i ≡ cond (ltb i 8) 1 0

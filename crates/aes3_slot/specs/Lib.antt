@@ -5,6 +5,6 @@ pub mod Reading
 pub mod ReadWords
 pub mod Preambles
 pub mod Fronts
-pub use Rattle.aes3_cell.specs.Cells
-pub use Rattle.aes3_cell.specs.Words
+pub use Rattle.aes3_level.specs.Cells
+pub use Rattle.aes3_level.specs.Words
 pub use Rattle.aes3_bits.specs.Bits

@@ -1,6 +1,6 @@
 -- The bits that words of 64 cells carry, each the cells of a subframe.
 use Rattle.std.specs.Prelude.{ℕ, List, Bool, drop, map}
-use Rattle.aes3_cell.specs.Words.{word_cells}
+use Rattle.aes3_level.specs.Words.{word_cells}
 use Rattle.aes3_slot.specs.Reading.{read_bits}
 
 -- the bits of the slots behind its preamble

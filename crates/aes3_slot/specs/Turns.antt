@@ -1,8 +1,8 @@
 -- A line by its turns: whether each cell differs from the one before it.
 use Rattle.std.specs.Prelude.{ℕ, List, [], ◌∷◌, ◌++◌, ◌-◌, Bool, true, false, replicate}
-use Rattle.aes3_cell.specs.declared.level.Level.{Level}
-use Rattle.aes3_cell.specs.Cells.{other}
-use Rattle.aes3_cell.specs.Words.{word_len}
+use Rattle.aes3_level.specs.declared.level.Level.{Level}
+use Rattle.aes3_level.specs.Cells.{other}
+use Rattle.aes3_level.specs.Words.{word_len}
 use Rattle.aes3_bits.specs.Bits.{low_bits}
 
 -- s where b is false, the other level where it is true

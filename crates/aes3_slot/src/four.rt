@@ -3,13 +3,13 @@
 ghost use Rattle.std.specs.Prelude.{◌≡◌, ℕ, ◌<◌, ◌^◌, ◌+◌, ◌*◌, ◌/◌, ◌%◌, ◌==◌, get_or, length};
 ghost use Rattle.std.specs.Prelude.{if◌then◌else◌, map, bit_xor};
 ghost use Rattle.std.specs.Int.{bit_at};
-ghost use Rattle.aes3_cell.specs.Cells.{line};
-ghost use Rattle.aes3_cell.specs.Words.{word_cells};
+ghost use Rattle.aes3_level.specs.Cells.{line};
+ghost use Rattle.aes3_level.specs.Words.{word_cells};
 ghost use Rattle.aes3_slot.specs.Slots.{slot_runs, slots_bits};
 
 use crate::mark::Mark;
 use crate::subframe::slots_cells;
-use aes3_cell::Level;
+use aes3_level::Level;
 use std::simd::prelude::*;
 
 /// The words, each of whose bits is turned where the bit so far below it is a one.

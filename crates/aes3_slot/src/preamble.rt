@@ -2,14 +2,14 @@
 
 ghost use Rattle.std.specs.Prelude.{◌≡◌, IfSome};
 ghost use Rattle.std.specs.Int.{bit_at};
-ghost use Rattle.aes3_cell.specs.declared.level.Level.{Level};
-ghost use Rattle.aes3_cell.specs.Cells.{line};
-ghost use Rattle.aes3_cell.specs.Words.{level_of, low_cells};
+ghost use Rattle.aes3_level.specs.declared.level.Level.{Level};
+ghost use Rattle.aes3_level.specs.Cells.{line};
+ghost use Rattle.aes3_level.specs.Words.{level_of, low_cells};
 ghost use Rattle.aes3_slot.specs.declared.mark.Mark.{Mark};
 ghost use Rattle.aes3_slot.specs.Slots.{mark_runs};
 
 use crate::mark::Mark;
-use aes3_cell::Level;
+use aes3_level::Level;
 
 /// A word whose lowest bits are the eight cells of the preamble after the level `before`, the
 /// earliest in bit 0, and whose highest bit has that level again (AES3-3; IEC 60958-1).

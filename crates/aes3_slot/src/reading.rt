@@ -3,8 +3,8 @@
 ghost use Rattle.std.specs.Prelude.{◌≡◌, ◌==◌, ℕ, Bool, true, false, not, ◌<◌, ◌≤◌, ◌+◌, ◌*◌, ◌%◌};
 ghost use Rattle.std.specs.Prelude.{◌^◌, drop, take, slice_index_or, if◌then◌else◌, IfOk, IfErr};
 ghost use Rattle.std.specs.Int.{bit_at};
-ghost use Rattle.aes3_cell.specs.Cells.{line, other};
-ghost use Rattle.aes3_cell.specs.Words.{word_cells};
+ghost use Rattle.aes3_level.specs.Cells.{line, other};
+ghost use Rattle.aes3_level.specs.Words.{word_cells};
 ghost use Rattle.aes3_slot.specs.Slots.{payload_bits, slot_runs, slots_bits, subframe_runs};
 ghost use Rattle.aes3_slot.specs.Preambles.{InLanes};
 ghost use Rattle.aes3_slot.specs.Reading.{read_bits};
@@ -14,7 +14,7 @@ ghost use Rattle.aes3_slot.specs.Fronts.{IsFrontOf, IsLawfulFrontOf, stands, sta
 use crate::mark::Mark;
 use crate::preamble::mark_cells;
 use crate::subframe::SLOT_STARTS;
-use aes3_cell::Level;
+use aes3_level::Level;
 use std::simd::prelude::*;
 
 /// Where 64 cells are no subframe.

@@ -2,15 +2,15 @@
 
 ghost use Rattle.std.specs.Prelude.{◌≡◌, ℕ, ◌<◌, ◌^◌, ◌*◌, ◌+◌, ◌%◌, ◌/◌, ◌==◌, if◌then◌else◌};
 ghost use Rattle.std.specs.Int.{bit_at};
-ghost use Rattle.aes3_cell.specs.Cells.{line};
-ghost use Rattle.aes3_cell.specs.Words.{word_cells};
+ghost use Rattle.aes3_level.specs.Cells.{line};
+ghost use Rattle.aes3_level.specs.Words.{word_cells};
 ghost use Rattle.aes3_bits.specs.Bits.{low_bits, odd_ones};
 ghost use Rattle.aes3_slot.specs.Slots.{mark_runs, payload_bits, slot_runs, slots_bits};
 ghost use Rattle.aes3_slot.specs.Slots.{subframe_runs};
 ghost use Rattle.aes3_slot.specs.Turns.{cells_of_turns, run_turns, word_turns};
 
 use crate::mark::Mark;
-use aes3_cell::Level;
+use aes3_level::Level;
 
 /// How many cells a subframe has (AES3-3; IEC 60958-1).
 pub const SUBFRAME_CELLS: u64 = 64;

@@ -1,8 +1,8 @@
 -- What changed cells that leave a block do to its channel status.
 use Rattle.std.specs.Prelude.{ℕ, suc, List, Bool, true, ◌≡◌, ◌≢◌, ◌<◌}
-use Rattle.aes3_block.specs.declared.status.Channel.{Channel}
-use Rattle.aes3_block.specs.Blocks.{block_len, IsBlock}
-use Rattle.aes3_block.specs.Statuses.{status_of}
+use Rattle.aes3_frame.specs.declared.status.Channel.{Channel}
+use Rattle.aes3_frame.specs.Blocks.{block_len, IsBlock}
+use Rattle.aes3_frame.specs.Statuses.{status_of}
 use Rattle.aes3_status.specs.declared.check.Check.TheVariants.{Good}
 use Rattle.aes3_status.specs.Check.{check_state_of}
 use Rattle.aes3_lock.specs.Damage.{between_slots, exchanged}

@@ -3,15 +3,15 @@ use Rattle.std.specs.Prelude.{ℕ, suc, List, [], ◌∷◌, ◌++◌, Bool, len
 use Rattle.std.specs.List.{last_or}
 use Rattle.std.specs.Option.{option_map}
 use Rattle.std.specs.Str.{bytes_eq}
-use Rattle.aes3_block.specs.declared.status.Channel.{Channel}
-use Rattle.aes3_block.specs.declared.status.Channel.TheVariants.{First, Second}
-use Rattle.aes3_block.specs.Statuses.{status_of}
+use Rattle.aes3_frame.specs.declared.status.Channel.{Channel}
+use Rattle.aes3_frame.specs.declared.status.Channel.TheVariants.{First, Second}
+use Rattle.aes3_frame.specs.Statuses.{status_of}
 use Rattle.aes3_lock.specs.declared.report.Report.{Report}
 use Rattle.aes3_lock.specs.declared.report.Report.TheVariants.{Whole, Marked, Fault, Unfinished}
 use Rattle.aes3_lock.specs.Reports.{wholes}
 use Rattle.aes3_lock.specs.Tallies.{Tallies}
 use Rattle.aes3_input.specs.Taking.{Writing}
-use Rattle.aes3_engine.specs.BlockRuns.{numbered}
+use Rattle.aes3_runs.specs.BlockRuns.{numbered}
 use Rattle.aes3_lines.specs.StatusLines.{status_line}
 
 -- the line of a channel of a block, the lines of both, and of blocks numbered from 0
@@ -33,16 +33,19 @@ change_line channel n (Some before) status = if bytes_eq before status then [] e
 abbrev pub status_in : Channel → Option (List (List Bool)) → Option (List ℕ)
 status_in channel b = option_map (λ a. status_of a channel) b
 
--- the lines of block n behind a block, if there is one; and those of blocks, the first of number n: each behind the one before it
+-- the lines of block n behind a block, if there is one; and those of blocks, the first of number n: each behind the one
+-- before it
 unfoldable pub block_changes : ℕ → Option (List (List Bool)) → List (List Bool) → List ℕ
 block_changes n before b =
-    change_line First n (status_in First before) (status_of b First) ++ change_line Second n (status_in Second before) (status_of b Second)
+    change_line First n (status_in First before) (status_of b First)
+    ++ change_line Second n (status_in Second before) (status_of b Second)
 
 abbrev pub changes_from : ℕ → Option (List (List Bool)) → List (List (List Bool)) → List ℕ
 changes_from n before [] = []
 changes_from n before (b ∷ bs) = block_changes n before b ++ changes_from (suc n) (Some b) bs
 
--- of blocks numbered from 0: both lines of the first, and each channel's line where its status is not that of the block before
+-- of blocks numbered from 0: both lines of the first, and each channel's line where its status is not that of the block
+-- before
 abbrev pub change_lines : List (List (List Bool)) → List ℕ
 change_lines bs = changes_from 0 None bs
 

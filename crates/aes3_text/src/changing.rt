@@ -4,25 +4,25 @@ ghost use Rattle.std.specs.Prelude.{ℕ, ◌≡◌, ◌+◌, ◌<◌, ◌≤◌,
 ghost use Rattle.std.specs.Prelude.{length, IfOk, OnErr};
 ghost use Rattle.aes3_cell.specs.Ends.{Grew, GrewFront, Told};
 ghost use Rattle.aes3_cell.specs.Writes.{Wrote};
-ghost use Rattle.aes3_block.specs.Statuses.{status_of};
-ghost use Rattle.aes3_block.specs.declared.status.Channel.TheVariants as channel;
+ghost use Rattle.aes3_frame.specs.Statuses.{status_of};
+ghost use Rattle.aes3_frame.specs.declared.status.Channel.TheVariants as channel;
 ghost use Rattle.aes3_lock.specs.Following.{report_in};
 ghost use Rattle.aes3_lock.specs.Reports.{blocks, wholes};
 ghost use Rattle.aes3_input.specs.Driving.{CellRun};
 ghost use Rattle.aes3_input.specs.Inputs.{cells_of};
 ghost use Rattle.aes3_input.specs.Running.{movement_of};
-ghost use Rattle.aes3_engine.specs.BlockRuns.{decided_blocks};
+ghost use Rattle.aes3_runs.specs.BlockRuns.{decided_blocks};
 ghost use Rattle.aes3_lock.specs.Tallies.{Tallies};
-ghost use Rattle.aes3_engine.specs.ReportRuns.{counts_of};
+ghost use Rattle.aes3_runs.specs.ReportRuns.{counts_of};
 ghost use Rattle.aes3_text.specs.Runs.{AreLast, Changes, change_line, change_lines, changing};
 ghost use Rattle.aes3_text.specs.Runs.{report_changes};
 
 use aes3_block::{Block, Channel};
 use aes3_cell::{Counts, Fault, Form, RunError, Sink, Source};
-use aes3_engine::{Locked, Reporter};
 use aes3_input::drive;
 use aes3_lines::line_of_status;
 use aes3_lock::{Ending, Lock, Tally};
+use aes3_runs::{Locked, Reporter};
 
 /// Writes the line of a channel's status in block `number`, unless it is the one before it.
 #[tactic(auto, unfolding(crate::specs::Runs::change_line))]

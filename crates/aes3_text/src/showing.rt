@@ -7,14 +7,14 @@ ghost use Rattle.aes3_lock.specs.Reports.{blocks};
 ghost use Rattle.aes3_input.specs.Driving.{CellRun};
 ghost use Rattle.aes3_input.specs.Inputs.{cells_of};
 ghost use Rattle.aes3_input.specs.Running.{movement_of};
-ghost use Rattle.aes3_engine.specs.BlockRuns.{decided_blocks};
-ghost use Rattle.aes3_engine.specs.ReportRuns.{counts_of};
+ghost use Rattle.aes3_runs.specs.BlockRuns.{decided_blocks};
+ghost use Rattle.aes3_runs.specs.ReportRuns.{counts_of};
 ghost use Rattle.aes3_text.specs.Runs.{channel_line, channel_lines, status_lines};
 
 use aes3_block::{Block, Channel, GatheredCells};
 use aes3_cell::{Counts, Fault, Form, RunError, Sink, Source};
-use aes3_engine::{BlockWriter, run_blocks};
 use aes3_lines::line_of_status;
+use aes3_runs::{BlockWriter, run_blocks};
 
 /// Writes the channel status of a channel of block `number`.
 #[tactic(auto, unfolding(crate::specs::Runs::channel_line))]

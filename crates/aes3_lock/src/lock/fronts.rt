@@ -1,8 +1,8 @@
 //! Fronts of words of cells, up to the first cell that decides a report.
 ghost use Rattle.std.specs.Prelude.{◌≡◌, ◌≢◌, ◌<◌, ◌≤◌, ◌+◌, ◌-◌, ◌^◌, None, Some};
 ghost use Rattle.std.specs.Prelude.{List, [], ◌∷◌, ◌++◌, drop, length, option_map, option_to_list};
-ghost use Rattle.aes3_cell.specs.declared.level.Level.{Level};
-ghost use Rattle.aes3_cell.specs.Words.{low_cells, word_cells};
+ghost use Rattle.aes3_level.specs.declared.level.Level.{Level};
+ghost use Rattle.aes3_level.specs.Words.{low_cells, word_cells};
 ghost use Rattle.aes3_lock.specs.Reports.{decided};
 ghost use Rattle.aes3_lock.specs.Following.{Follows, Stops, report_in};
 ghost use Rattle.aes3_lock.specs.Outcomes.{why_of};
@@ -15,8 +15,8 @@ use crate::outcome::{ending_at, refutation};
 use crate::recent::{PREAMBLE_CELLS, candidate_in, last_cell, with_cell};
 use crate::report::{Ending, Pushed, Report};
 use crate::subframe::{completed, first_cell, first_of, last_behind, last_of, rest_of, with_next};
-use aes3_block::{BLOCK_CELLS, mark_of};
-use aes3_cell::Level;
+use aes3_frame::{BLOCK_CELLS, mark_of};
+use aes3_level::Level;
 use aes3_slot::{SUBFRAME_CELLS, block_preambles, wrong_cells};
 use arrayvec::ArrayVec;
 

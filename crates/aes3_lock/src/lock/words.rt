@@ -3,8 +3,8 @@ ghost use Rattle.std.specs.Prelude.{◌≡◌, ◌<◌, ◌≤◌, ◌+◌, ◌*
 ghost use Rattle.std.specs.Prelude.{List, ◌++◌, drop, get_or, length, take};
 ghost use Rattle.std.specs.List.{flat_map};
 ghost use Rattle.std.specs.Option.{ForSome};
-ghost use Rattle.aes3_cell.specs.declared.level.Level.{Level};
-ghost use Rattle.aes3_cell.specs.Words.{word_cells};
+ghost use Rattle.aes3_level.specs.declared.level.Level.{Level};
+ghost use Rattle.aes3_level.specs.Words.{word_cells};
 ghost use Rattle.aes3_lock.specs.Reports.{decided, open_at};
 ghost use Rattle.aes3_lock.specs.Following.{BeginsIn, Follows};
 
@@ -13,7 +13,7 @@ use crate::eight::{are_subframes, eight_completed};
 use crate::lock::Lock;
 use crate::recent::PREAMBLE_CELLS;
 use crate::subframe::{completed, last_octet, last_of, rest_of};
-use aes3_block::{BLOCK_CELLS, mark_of};
+use aes3_frame::{BLOCK_CELLS, mark_of};
 use aes3_slot::{SUBFRAME_CELLS, begins_subframe, block_preambles};
 
 impl Lock {

@@ -17,11 +17,23 @@ pub returns-in-Ok-clause-run : goal.returns-in-Ok-clause-run
 returns-in-Ok-clause-run g c =
     let t = c.drive.new.taker.reporter in
     let l = c.new-taker.result.reporter.lines in
-    drove-ok (λ d. account_lines c.args.lines (account d)) (λ d. account_lines c.args.lines (begun_account d)) (account_counts c.args.input)
-    (record { bytes = c.in-Ok.bytes; cells = c.in-Ok.cells; blocks = t.tally.blocks; faults = t.tally.faults + t.lost; unfinished = t.tally.unfinished; marks = 0 })
-    (λ d. with-account l d ∙ ap (λ v. account_lines v (account d)) (ap (λ k. k.lines) c.new-taker.ensures.reporter ∙ c.new.ensures.lines))
-    (λ d. before-account l d ∙ ap (λ v. account_lines v (begun_account d)) (ap (λ k. k.lines) c.new-taker.ensures.reporter ∙ c.new.ensures.lines))
-    (λ b e f h. counted c.args.input b c.in-Ok.bytes c.in-Ok.cells t.lost t.tally.blocks t.tally.faults t.tally.unfinished e f h) c.in-Ok.ensures.ran
+    drove-ok (λ d. account_lines c.args.lines (account d)) (λ d. account_lines c.args.lines (begun_account d))
+    (account_counts c.args.input)
+    (record {
+      bytes = c.in-Ok.bytes;
+      cells = c.in-Ok.cells;
+      blocks = t.tally.blocks;
+      faults
+          = t.tally.faults + t.lost;
+      unfinished = t.tally.unfinished;
+      marks = 0;
+    })
+    (λ d. with-account l d ∙ ap (λ v. account_lines v (account d))
+    (ap (λ k. k.lines) c.new-taker.ensures.reporter ∙ c.new.ensures.lines))
+    (λ d. before-account l d ∙ ap (λ v. account_lines v (begun_account d))
+    (ap (λ k. k.lines) c.new-taker.ensures.reporter ∙ c.new.ensures.lines))
+    (λ b e f h. counted c.args.input b c.in-Ok.bytes c.in-Ok.cells t.lost t.tally.blocks t.tally.faults
+    t.tally.unfinished e f h) c.in-Ok.ensures.ran
 
 pub returns-in-Ok-clause-lines : goal.returns-in-Ok-clause-lines
 returns-in-Ok-clause-lines g c = λ b t. (run-told (returns-in-Ok-clause-run g c) b t).4
@@ -29,6 +41,9 @@ returns-in-Ok-clause-lines g c = λ b t. (run-told (returns-in-Ok-clause-run g c
 pub returns-in-Err-clause-run : goal.returns-in-Err-clause-run
 returns-in-Err-clause-run g c =
     let l = c.new-taker.result.reporter.lines in
-    drove-err (λ d. account_lines c.args.lines (account d)) (λ d. account_lines c.args.lines (begun_account d)) (account_counts c.args.input)
-    (λ d. with-account l d ∙ ap (λ v. account_lines v (account d)) (ap (λ k. k.lines) c.new-taker.ensures.reporter ∙ c.new.ensures.lines))
-    (λ d. before-account l d ∙ ap (λ v. account_lines v (begun_account d)) (ap (λ k. k.lines) c.new-taker.ensures.reporter ∙ c.new.ensures.lines)) c.in-Err.ensures.ran
+    drove-err (λ d. account_lines c.args.lines (account d)) (λ d. account_lines c.args.lines (begun_account d))
+    (account_counts c.args.input)
+    (λ d. with-account l d ∙ ap (λ v. account_lines v (account d))
+    (ap (λ k. k.lines) c.new-taker.ensures.reporter ∙ c.new.ensures.lines))
+    (λ d. before-account l d ∙ ap (λ v. account_lines v (begun_account d))
+    (ap (λ k. k.lines) c.new-taker.ensures.reporter ∙ c.new.ensures.lines)) c.in-Err.ensures.ran

@@ -13,6 +13,7 @@ loop-byte-preserved c =
     let f = c.ones-found.ensures.few in
     let g = l.invariant.few in
     record {
-      sum = ones-more l.byte-index l.found c.ones-found.result c.args.bytes.now (omega arith) l.invariant.sum c.ones-found.ensures.ones;
+      sum = ones-more l.byte-index l.found c.ones-found.result c.args.bytes.now (omega arith)
+          l.invariant.sum c.ones-found.ensures.ones;
       few = omega arith;
     }

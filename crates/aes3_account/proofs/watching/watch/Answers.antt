@@ -16,18 +16,28 @@ returns-in-Ok-clause-run g c =
     let t = c.drive.new.taker.reporter in
     let l = t.state.losses in
     drove-ok (watch_lines c.args.style) (begun_watch c.args.style) (watch_counts c.args.input)
-    (record { bytes = c.in-Ok.bytes; cells = c.in-Ok.cells; blocks = t.tally.blocks; faults = t.tally.faults + l; unfinished = t.tally.unfinished; marks = 0 })
+    (record {
+      bytes = c.in-Ok.bytes;
+      cells = c.in-Ok.cells;
+      blocks = t.tally.blocks;
+      faults
+          = t.tally.faults + l;
+      unfinished = t.tally.unfinished;
+      marks = 0;
+    })
     (λ d. with-watch c.new-taker.result.reporter.style d
     ∙ ap (λ v. watch_lines v d) (ap (λ k. k.style) c.new-taker.ensures.reporter ∙ c.new.ensures.style))
     (λ d. before-watch c.new-taker.result.reporter.style d
     ∙ ap (λ v. begun_watch v d) (ap (λ k. k.style) c.new-taker.ensures.reporter ∙ c.new.ensures.style))
-    (λ b e f h. watch-counted c.args.input b c.in-Ok.bytes c.in-Ok.cells l t.tally.blocks t.tally.faults t.tally.unfinished e f h) c.in-Ok.ensures.ran
+    (λ b e f h. watch-counted c.args.input b c.in-Ok.bytes c.in-Ok.cells l t.tally.blocks t.tally.faults
+    t.tally.unfinished e f h) c.in-Ok.ensures.ran
 
 pub returns-in-Ok-clause-lines : goal.returns-in-Ok-clause-lines
 returns-in-Ok-clause-lines g c = λ b t. (run-told (returns-in-Ok-clause-run g c) b t).4
 
 pub returns-in-Err-clause-run : goal.returns-in-Err-clause-run
-returns-in-Err-clause-run g c = drove-err (watch_lines c.args.style) (begun_watch c.args.style) (watch_counts c.args.input)
+returns-in-Err-clause-run g c
+    = drove-err (watch_lines c.args.style) (begun_watch c.args.style) (watch_counts c.args.input)
     (λ d. with-watch c.new-taker.result.reporter.style d
     ∙ ap (λ v. watch_lines v d) (ap (λ k. k.style) c.new-taker.ensures.reporter ∙ c.new.ensures.style))
     (λ d. before-watch c.new-taker.result.reporter.style d

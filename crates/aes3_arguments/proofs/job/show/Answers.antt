@@ -4,10 +4,14 @@ use Rattle.aes3_arguments.proofs.job.show.Goals as goal
 
 pub returns-then-get_flag : goal.returns-then-get_flag
 returns-then-get_flag c =
-    let is = flag_is c.args.options.now (codes "changes") c.get_flag.result c.requires.changes c.get_flag.ensures.none c.get_flag.ensures.value c.get_flag.ensures.other in
+    let is = flag_is c.args.options.now (codes "changes")
+    c.get_flag.result c.requires.changes c.get_flag.ensures.none c.get_flag.ensures.value c.get_flag.ensures.other
+    in
     (refl, c.requires.form, sym is ∙ c.if-get_flag.true)
 
 pub returns-else-get_flag : goal.returns-else-get_flag
 returns-else-get_flag c =
-    let is = flag_is c.args.options.now (codes "changes") c.get_flag.result c.requires.changes c.get_flag.ensures.none c.get_flag.ensures.value c.get_flag.ensures.other in
+    let is = flag_is c.args.options.now (codes "changes")
+    c.get_flag.result c.requires.changes c.get_flag.ensures.none c.get_flag.ensures.value c.get_flag.ensures.other
+    in
     (refl, c.requires.form, sym is ∙ c.if-get_flag.false)

@@ -11,7 +11,8 @@ returns-then-asks_to_explain-clause-fault c =
 pub returns-in-Some-clause-fault : goal.returns-in-Some-clause-fault
 returns-in-Some-clause-fault c =
     let words = map (λ (word : Bor (List ℕ)). word.now) c.args.words.now in
-    told_of words (c.in-Some.number.now ∷ []) c.explained-in-Some.result (inr (c.in-Some.number.now, c.in-Some.ensures.some, refl)) c.explained-in-Some.ensures
+    told_of words (c.in-Some.number.now ∷ []) c.explained-in-Some.result
+    (inr (c.in-Some.number.now, c.in-Some.ensures.some, refl)) c.explained-in-Some.ensures
 
 pub returns-in-None-clause-job : goal.returns-in-None-clause-job
 returns-in-None-clause-job c =

@@ -13,30 +13,44 @@ returns-in-Err-clause-fault c =
     let words = map (λ word. word.now) c.args.words.now in
     let is = c.in_ok-command.ensures.0 in
     let kind = c.in-Err.ensures.kinds (ap is_simple_and_free is ∙ line_is_free) in
-    error_told words c.in-Err.error c.fault_of.result (subst (λ (a : App). HasKind (fault_of a words) c.in-Err.error) is kind) c.fault_of.ensures
+    error_told words c.in-Err.error c.fault_of.result
+    (subst (λ (a : App). HasKind (fault_of a words) c.in-Err.error) is kind) c.fault_of.ensures
 
-stands : (c : goal.In-Some) → StandsIn (map (λ word. word.now) c.args.words.now) c.in-Some.name.now (options_of c.in-Some.options.now)
+stands : (c : goal.In-Some)
+    → StandsIn (map (λ word. word.now) c.args.words.now) c.in-Some.name.now (options_of c.in-Some.options.now)
 stands c =
     let words = map (λ word. word.now) c.args.words.now in
     let is = c.in_ok-command.ensures.0 in
-    let none = subst (λ (a : App). fault_of a words ≡ []) is (c.in-Ok.ensures.kinds (ap is_simple_and_free is ∙ line_is_free)) in
+    let none = subst (λ (a : App). fault_of a words ≡ []) is
+    (c.in-Ok.ensures.kinds (ap is_simple_and_free is ∙ line_is_free)) in
     let matches = subst (λ (a : App). HasMatchesOf a words c.in-Ok.matches) is c.in-Ok.ensures.matches in
-    command_stands words c.in-Ok.matches c.in-Some.name.now (options_of c.in-Some.options.now) none matches c.in-Some.ensures.name c.in-Some.ensures.rows
+    command_stands words c.in-Ok.matches c.in-Some.name.now (options_of c.in-Some.options.now)
+    none matches c.in-Some.ensures.name c.in-Some.ensures.rows
 
 pub line_of_command-requires : goal.line_of_command-requires
 line_of_command-requires c = (map (λ word. word.now) c.args.words.now, stands c)
 
-stood : (c : goal.Joined-matches) → StandsIn (map (λ word. word.now) c.args.words.now) c.in-Some.name.now (options_of c.in-Some.options.now)
+stood : (c : goal.Joined-matches)
+    → StandsIn (map (λ word. word.now) c.args.words.now) c.in-Some.name.now (options_of c.in-Some.options.now)
 stood c =
     let words = map (λ word. word.now) c.args.words.now in
     let is = c.in_ok-command.ensures.0 in
-    let none = subst (λ (a : App). fault_of a words ≡ []) is (c.in-Ok.ensures.kinds (ap is_simple_and_free is ∙ line_is_free)) in
+    let none = subst (λ (a : App). fault_of a words ≡ []) is
+    (c.in-Ok.ensures.kinds (ap is_simple_and_free is ∙ line_is_free)) in
     let matches = subst (λ (a : App). HasMatchesOf a words c.in-Ok.matches) is c.in-Ok.ensures.matches in
-    command_stands words c.in-Ok.matches c.in-Some.name.now (options_of c.in-Some.options.now) none matches c.in-Some.ensures.name c.in-Some.ensures.rows
+    command_stands words c.in-Ok.matches c.in-Some.name.now (options_of c.in-Some.options.now)
+    none matches c.in-Some.ensures.name c.in-Some.ensures.rows
 
 pub returns-clause-job : goal.returns-clause-job
 returns-clause-job c =
-    IfOk-weaker c.line_of_command.result _ _ (λ line asks. (c.in-Some.name.now, options_of c.in-Some.options.now, stood c, asks)) c.line_of_command.ensures.job
+    IfOk-weaker c.line_of_command.result _ _
+    (λ line asks. (c.in-Some.name.now, options_of c.in-Some.options.now, stood c, asks)) c.line_of_command.ensures.job
+
+pub returns-clause-octets : goal.returns-clause-octets
+returns-clause-octets c =
+    IfOk-weaker c.line_of_command.result _ _
+    (λ line are. (c.in-Some.name.now, options_of c.in-Some.options.now, stood c, are))
+    c.line_of_command.ensures.octets
 
 pub returns-clause-file : goal.returns-clause-file
 returns-clause-file c =

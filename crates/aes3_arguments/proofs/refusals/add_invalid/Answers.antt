@@ -11,7 +11,8 @@ returns c =
     let value = value_text c.args.setting.now in
     let option = option_text c.args.name.now in
     let told = choices c.args.setting.now in
-    let line = c.in_ok-add_option.ensures ∙ (ap (λ t. t ++ option) c.in_ok-add_value.ensures ∙ append_assoc old value option) in
+    let line = c.in_ok-add_option.ensures
+    ∙ (ap (λ t. t ++ option) c.in_ok-add_value.ensures ∙ append_assoc old value option) in
     IfOk-weaker c.add_choices.result _ _
     (λ x h. h ∙ (ap (λ t. t ++ told) line ∙ append_assoc old (value ++ option) told))
     c.add_choices.ensures

@@ -10,5 +10,6 @@ returns c =
     let begin = codes "'--" in
     let name = c.args.name.now in
     let end = codes " <NAME=WORD>'" ++ 10 ∷ [] in
-    let begun = c.in_ok-push_str-2.ensures.bytes ∙ (ap (λ t. t ++ name) c.in_ok-push_str.ensures.bytes ∙ append_assoc old begin name) in
+    let begun = c.in_ok-push_str-2.ensures.bytes
+    ∙ (ap (λ t. t ++ name) c.in_ok-push_str.ensures.bytes ∙ append_assoc old begin name) in
     c.in_ok-push_str-3.ensures.bytes ∙ (ap (λ t. t ++ end) begun ∙ append_assoc old (begin ++ name) end)

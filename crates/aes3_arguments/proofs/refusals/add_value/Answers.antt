@@ -10,5 +10,6 @@ returns c =
     let begin = codes "error: invalid value '" in
     let setting = c.args.setting.now in
     let end = codes "' for " in
-    let begun = c.in_ok-push_str-2.ensures.bytes ∙ (ap (λ t. t ++ setting) c.in_ok-push_str.ensures.bytes ∙ append_assoc old begin setting) in
+    let begun = c.in_ok-push_str-2.ensures.bytes
+    ∙ (ap (λ t. t ++ setting) c.in_ok-push_str.ensures.bytes ∙ append_assoc old begin setting) in
     c.in_ok-push_str-3.ensures.bytes ∙ (ap (λ t. t ++ end) begun ∙ append_assoc old (begin ++ setting) end)

@@ -1,5 +1,5 @@
 use Rattle.std.proofs.Common.{◌∙◌, arith, eq-eqb, eqb-true, sym}
-use Rattle.aes3_block.proofs.BlockLemmas.{block_slots_384}
+use Rattle.aes3_frame.proofs.BlockLemmas.{block_slots_384}
 use Rattle.aes3_block.proofs.BlockReads.{one-judged}
 use Rattle.aes3_block.proofs.file.are_lawful.Goals as goal
 

@@ -1,7 +1,7 @@
 use Rattle.std.proofs.Common.{◌≡◌, List, ℕ, true, get_or, arith, sym, ap, subst, ◌∙◌}
 use Rattle.arrayvec.specs.ArrayVec.{ArrayVec}
-use Rattle.aes3_block.specs.Files.{is_lawful}
-use Rattle.aes3_block.proofs.BlockLemmas.{block_slots_384}
+use Rattle.aes3_frame.specs.Files.{is_lawful}
+use Rattle.aes3_frame.proofs.BlockLemmas.{block_slots_384}
 use Rattle.aes3_block.proofs.file.take_block.Goals as goal
 
 pub of_words-requires : goal.of_words-requires

@@ -1,7 +1,7 @@
 use Rattle.std.proofs.Common.{arith, ap, ◌∙◌, ◌+◌, ◌*◌, ◌%◌, ◌^◌}
 use Rattle.std.specs.Prelude.{bit_or}
-use Rattle.aes3_block.specs.Files.{low_bytes}
-use Rattle.aes3_block.proofs.Bytes.{bytes-with_byte, with_byte-lt}
+use Rattle.aes3_frame.specs.Files.{low_bytes}
+use Rattle.aes3_frame.proofs.Bytes.{bytes-with_byte, with_byte-lt}
 use Rattle.aes3_block.proofs.file.word_with_byte.Goals as goal
 
 pub returns-clause-bytes : goal.returns-clause-bytes

@@ -1,6 +1,6 @@
 use Rattle.std.proofs.Common.{rules, arith, ◌∙◌, ◌+◌, ◌*◌, ◌-◌}
 use Rattle.std.proofs.lemmas.Slice.{overwrites}
-use Rattle.aes3_block.proofs.Files.{bytes-word}
+use Rattle.aes3_frame.proofs.Files.{bytes-word}
 use Rattle.aes3_block.proofs.file_out.bytes_of_words.Goals as goal
 
 pub loop-i-preserved : goal.loop-i-preserved

@@ -1,6 +1,6 @@
 use Rattle.std.proofs.Common.{◌≡◌, ◌*◌, length, take}
 use Rattle.std.specs.List.{flat_map}
-use Rattle.aes3_block.specs.Files.{word_bytes}
+use Rattle.aes3_frame.specs.Files.{word_bytes}
 use Rattle.aes3_block.proofs.file_out.bytes_of_words.Given as goal
 
 abbrev pub invariant-loop-i : goal.invariant-loop-i

@@ -1,7 +1,7 @@
 use Rattle.std.proofs.Common.{arith, ◌∙◌}
 use Rattle.aes3_cell.proofs.Writing.{wrote-is}
-use Rattle.aes3_block.proofs.BlockLemmas.{block_slots_384}
-use Rattle.aes3_block.proofs.Files.{bytes-of-payloads}
+use Rattle.aes3_frame.proofs.BlockLemmas.{block_slots_384}
+use Rattle.aes3_frame.proofs.Files.{bytes-of-payloads}
 use Rattle.aes3_block.proofs.file_out.put_block_file.Goals as goal
 
 pub returns : goal.returns

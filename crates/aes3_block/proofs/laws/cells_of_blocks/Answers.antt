@@ -1,4 +1,4 @@
-use Rattle.aes3_block.proofs.CellLaws.{length-block_cells, block_len_24576, last-block_cells}
+use Rattle.aes3_frame.proofs.CellLaws.{length-block_cells, block_len_24576, last-block_cells}
 use Rattle.aes3_block.proofs.laws.cells_of_blocks.Goals as goal
 
 pub returns-clause-count : goal.returns-clause-count

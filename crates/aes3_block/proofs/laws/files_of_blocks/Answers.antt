@@ -1,5 +1,5 @@
-use Rattle.aes3_block.proofs.FileLaws.{file_blocks-file, is_block_file-file}
-use Rattle.aes3_block.proofs.FileBlocks.{file_blocks-blocks, file-file_blocks}
+use Rattle.aes3_frame.proofs.FileLaws.{file_blocks-file, is_block_file-file}
+use Rattle.aes3_frame.proofs.FileBlocks.{file_blocks-blocks, file-file_blocks}
 use Rattle.aes3_block.proofs.laws.files_of_blocks.Goals as goal
 
 pub returns-clause-back : goal.returns-clause-back

@@ -1,4 +1,4 @@
-use Rattle.aes3_block.proofs.CellLaws.{stream-append, stream-unique}
+use Rattle.aes3_frame.proofs.CellLaws.{stream-append, stream-unique}
 use Rattle.aes3_block.proofs.laws.streams_of_blocks.Goals as goal
 
 pub returns-clause-joined : goal.returns-clause-joined

@@ -1,9 +1,9 @@
 use Rattle.std.proofs.Common.{◌∙◌, ap, sym, arith, length-set, map}
 use Rattle.std.specs.List.{flat_map}
 use Rattle.std.proofs.lemmas.List.{take_all}
-use Rattle.aes3_cell.specs.Cells.{other}
-use Rattle.aes3_cell.specs.Words.{word_cells}
-use Rattle.aes3_block.proofs.GatheredWords.{inverted-more}
+use Rattle.aes3_level.specs.Cells.{other}
+use Rattle.aes3_level.specs.Words.{word_cells}
+use Rattle.aes3_frame.proofs.GatheredWords.{inverted-more}
 use Rattle.aes3_block.proofs.read_cells.invert_all.Goals as goal
 
 pub loop-slot-preserved : goal.loop-slot-preserved

@@ -1,7 +1,7 @@
 use Rattle.std.proofs.Common.{◌≡◌, length, map, take}
 use Rattle.std.specs.List.{flat_map}
-use Rattle.aes3_cell.specs.Cells.{other}
-use Rattle.aes3_cell.specs.Words.{word_cells}
+use Rattle.aes3_level.specs.Cells.{other}
+use Rattle.aes3_level.specs.Words.{word_cells}
 use Rattle.aes3_block.proofs.read_cells.invert_all.Given as goal
 
 abbrev pub invariant-loop-slot : goal.invariant-loop-slot

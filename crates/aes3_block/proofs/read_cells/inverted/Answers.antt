@@ -1,5 +1,5 @@
 use Rattle.std.proofs.Common.{arith}
-use Rattle.aes3_cell.specs.Words.{word_cells, word_len}
+use Rattle.aes3_level.specs.Words.{word_cells, word_len}
 use Rattle.aes3_slot.proofs.Turns.{low_cells-not}
 use Rattle.aes3_block.proofs.read_cells.inverted.Goals as goal
 

@@ -1,13 +1,13 @@
 use Rattle.std.proofs.Common.{◌∙◌, ap, sym, map, take}
 use Rattle.std.specs.List.{flat_map}
-use Rattle.aes3_cell.specs.Cells.{other}
-use Rattle.aes3_cell.specs.Words.{word_cells}
+use Rattle.aes3_level.specs.Cells.{other}
+use Rattle.aes3_level.specs.Words.{word_cells}
 use Rattle.aes3_cell.specs.Written.{bytes_of}
 use Rattle.aes3_cell.proofs.Writing.{wrote-is}
 use Rattle.aes3_slot.specs.ReadWords.{read_words}
 use Rattle.aes3_slot.specs.Slots.{payload_len}
-use Rattle.aes3_block.specs.Blocks.{block_cells}
-use Rattle.aes3_block.proofs.GatheredWords.{block-other}
+use Rattle.aes3_frame.specs.Blocks.{block_cells}
+use Rattle.aes3_frame.proofs.GatheredWords.{block-other}
 use Rattle.aes3_block.proofs.read_cells.put_read_block.Goals as goal
 use Rattle.aes3_slot.proofs.RuleTests.{same-true}
 

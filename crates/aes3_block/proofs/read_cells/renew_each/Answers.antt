@@ -1,11 +1,11 @@
 use Rattle.std.proofs.Common.{◌∙◌, ap, get_or, arith, length-set}
-use Rattle.aes3_cell.specs.Cells.{line}
+use Rattle.aes3_level.specs.Cells.{line}
 use Rattle.aes3_slot.specs.Slots.{subframe_runs}
-use Rattle.aes3_block.specs.Blocks.{block_cells}
-use Rattle.aes3_block.proofs.BlockLemmas.{block_slots_384}
-use Rattle.aes3_block.proofs.ReadCells.{carried-payload, payloads-carried}
-use Rattle.aes3_block.proofs.Runs.{cells-more, cells-whole}
-use Rattle.aes3_block.proofs.SlotWords.{carried}
+use Rattle.aes3_frame.specs.Blocks.{block_cells}
+use Rattle.aes3_frame.proofs.BlockLemmas.{block_slots_384}
+use Rattle.aes3_frame.proofs.ReadCells.{carried-payload, payloads-carried}
+use Rattle.aes3_frame.proofs.Runs.{cells-more, cells-whole}
+use Rattle.aes3_frame.proofs.SlotWords.{carried}
 use Rattle.aes3_block.proofs.read_cells.renew_each.Goals as goal
 
 pub loop-slot-preserved : goal.loop-slot-preserved

@@ -1,9 +1,9 @@
 use Rattle.std.proofs.Common.{◌≡◌, length, map, take}
 use Rattle.std.specs.List.{flat_map}
-use Rattle.aes3_cell.specs.Cells.{line}
-use Rattle.aes3_cell.specs.Words.{word_cells}
-use Rattle.aes3_block.specs.Blocks.{block_runs}
-use Rattle.aes3_block.proofs.SlotWords.{carried}
+use Rattle.aes3_level.specs.Cells.{line}
+use Rattle.aes3_level.specs.Words.{word_cells}
+use Rattle.aes3_frame.specs.Blocks.{block_runs}
+use Rattle.aes3_frame.proofs.SlotWords.{carried}
 use Rattle.aes3_block.proofs.read_cells.renew_each.Given as goal
 
 abbrev pub invariant-loop-slot : goal.invariant-loop-slot

@@ -1,7 +1,7 @@
 use Rattle.std.proofs.Common.{ap, ◌∙◌, take}
-use Rattle.aes3_cell.specs.Cells.{line}
+use Rattle.aes3_level.specs.Cells.{line}
 use Rattle.aes3_slot.specs.Slots.{payload_len, subframe_runs}
-use Rattle.aes3_block.proofs.SlotWords.{payload-low}
+use Rattle.aes3_frame.proofs.SlotWords.{payload-low}
 use Rattle.aes3_block.proofs.read_cells.renewed.Goals as goal
 
 pub returns-then-wrong_in-eq0 : goal.returns-then-wrong_in-eq0

@@ -1,5 +1,5 @@
 use Rattle.std.proofs.Common.{arith}
-use Rattle.aes3_block.proofs.ReadCells.{read-not}
+use Rattle.aes3_frame.proofs.ReadCells.{read-not}
 use Rattle.aes3_block.proofs.read_cells.turned.Goals as goal
 
 pub returns-then-inverted : goal.returns-then-inverted

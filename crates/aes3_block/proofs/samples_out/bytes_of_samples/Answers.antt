@@ -1,10 +1,10 @@
 use Rattle.std.proofs.Common.{rules, arith, ◌∙◌, ◌<◌, ◌+◌, ◌*◌, ◌-◌, ◌^◌, ap, sym, map, get_or, w32}
 use Rattle.std.specs.Int.{to_le_bytes}
 use Rattle.std.proofs.lemmas.Slice.{overwrites}
-use Rattle.aes3_block.specs.Files.{payload_of}
-use Rattle.aes3_block.specs.Samples.{sample_of}
-use Rattle.aes3_block.proofs.Files.{bytes-word}
-use Rattle.aes3_block.proofs.Samples.{samples-at, length-samples}
+use Rattle.aes3_frame.specs.Files.{payload_of}
+use Rattle.aes3_frame.specs.Samples.{sample_of}
+use Rattle.aes3_frame.proofs.Files.{bytes-word}
+use Rattle.aes3_frame.proofs.Samples.{samples-at, length-samples}
 use Rattle.aes3_block.proofs.samples_out.bytes_of_samples.Goals as goal
 
 pub loop-i-preserved : goal.loop-i-preserved

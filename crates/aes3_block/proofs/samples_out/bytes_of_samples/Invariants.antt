@@ -1,7 +1,7 @@
 use Rattle.std.proofs.Common.{◌≡◌, ◌*◌, length, map, take}
 use Rattle.std.specs.List.{flat_map}
-use Rattle.aes3_block.specs.Files.{payload_of, word_bytes}
-use Rattle.aes3_block.specs.Samples.{sample_of}
+use Rattle.aes3_frame.specs.Files.{payload_of, word_bytes}
+use Rattle.aes3_frame.specs.Samples.{sample_of}
 use Rattle.aes3_block.proofs.samples_out.bytes_of_samples.Given as goal
 
 abbrev pub invariant-loop-i : goal.invariant-loop-i

@@ -1,8 +1,8 @@
 use Rattle.std.proofs.Common.{◌∙◌, ap, map}
 use Rattle.std.specs.List.{flat_map}
 use Rattle.aes3_cell.proofs.Writing.{wrote-is}
-use Rattle.aes3_block.specs.Files.{word_bytes}
-use Rattle.aes3_block.specs.Samples.{block_samples, sample_of}
+use Rattle.aes3_frame.specs.Files.{word_bytes}
+use Rattle.aes3_frame.specs.Samples.{block_samples, sample_of}
 use Rattle.aes3_block.proofs.samples_out.put_block_samples.Goals as goal
 
 pub returns : goal.returns

@@ -1,6 +1,6 @@
 use Rattle.std.proofs.Common.{◌∙◌, ap}
-use Rattle.aes3_block.specs.Samples.{sample_of}
-use Rattle.aes3_block.proofs.Samples.{sample-payload}
+use Rattle.aes3_frame.specs.Samples.{sample_of}
+use Rattle.aes3_frame.proofs.Samples.{sample-payload}
 use Rattle.aes3_block.proofs.samples_out.sample_of_word.Goals as goal
 
 pub returns : goal.returns

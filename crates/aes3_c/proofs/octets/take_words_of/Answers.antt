@@ -1,7 +1,7 @@
 use Rattle.std.proofs.Common.{◌≡◌, ◌+◌, ◌-◌, ◌*◌, ◌++◌, List, take, subst, arith, sym, ap}
 use Rattle.std.proofs.Common.{◌∙◌}
 use Rattle.std.specs.Prelude.{option_map, option_to_list}
-use Rattle.aes3_cell.specs.declared.level.Level.{Level}
+use Rattle.aes3_level.specs.declared.level.Level.{Level}
 use Rattle.aes3_cell.specs.Packed.{cells_of_octets}
 use Rattle.aes3_lock.specs.Reports.{decided}
 use Rattle.aes3_lock.specs.Following.{Follows, report_in}
@@ -26,7 +26,8 @@ returns-clause-report c = λ l f.
     let path = behind-words c.args.octets.now c.words_of_octets.new.words l c.take_words-taken.result
     c.push_front-pushed.result.taken c.words_of_octets.ensures.cells (omega (arith, w, more)) few in
     ap decided (sym path) ∙ c.push_front-pushed.ensures.report _ (c.take_words-taken.ensures.follows l f)
-    ∙ ap (λ r. r ++ option_to_list (option_map (report_in c.push_front-pushed.new.self) c.push_front-pushed.result.ending))
+    ∙ ap (λ r. r ++ option_to_list
+    (option_map (report_in c.push_front-pushed.new.self) c.push_front-pushed.result.ending))
     (c.take_words-taken.ensures.none l f)
 
 pub returns-clause-last : goal.returns-clause-last

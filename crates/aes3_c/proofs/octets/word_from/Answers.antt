@@ -12,7 +12,8 @@ returns c = λ n few within.
     let k = c.args.at / 8 in
     let m = c.min-count.result in
     let count = c.min-count.ensures in
-    let front : between k (k + m) octets ≡ take m (drop k octets) = between_is octets k (k + m) ∙ drop-take k m octets in
+    let front : between k (k + m) octets ≡ take m (drop k octets)
+    = between_is octets k (k + m) ∙ drop-take k m octets in
     let ys = c.copy_from_slice.ensures.after ∙ front in
     let d = length-drop k octets in
     let len = ap length ys ∙ length-take-le m (drop k octets) (omega (arith, d, count)) in

@@ -1,7 +1,7 @@
 use Rattle.std.proofs.Common.{arith, ◌∙◌, ap, map, sym}
-use Rattle.aes3_block.specs.Files.{word_of}
-use Rattle.aes3_block.proofs.BlockLemmas.{block_slots_384}
-use Rattle.aes3_block.proofs.Files.{words-of-payloads}
+use Rattle.aes3_frame.specs.Files.{word_of}
+use Rattle.aes3_frame.proofs.BlockLemmas.{block_slots_384}
+use Rattle.aes3_frame.proofs.Files.{words-of-payloads}
 use Rattle.aes3_c.proofs.report.put_words_of.Goals as goal
 
 pub returns-clause-words : goal.returns-clause-words

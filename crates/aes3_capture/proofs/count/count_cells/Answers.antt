@@ -4,10 +4,12 @@ use Rattle.aes3_capture.proofs.count.count_cells.Goals as goal
 
 pub returns-clause-mean : goal.returns-clause-mean
 returns-clause-mean c = λ counts displaced captures.
-    c.count_cells_behind.ensures.mean counts displaced displaced displaced (c.new.ensures.line displaced) (rw c.new.ensures.bounds captures)
+    c.count_cells_behind.ensures.mean counts displaced displaced displaced (c.new.ensures.line displaced)
+    (rw c.new.ensures.bounds captures)
 
 pub returns-clause-spread : goal.returns-clause-spread
 returns-clause-spread c = λ counts spread displaced narrow spreads.
     let first : displaced ≤ spread = first-below c.args.bounds spread displaced counts c.args.runs.now spreads in
     c.count_cells_behind.ensures.mean counts displaced displaced displaced (c.new.ensures.line displaced)
-    (rw c.new.ensures.bounds (captures-spread c.args.bounds spread displaced displaced displaced counts c.args.runs.now narrow first first spreads))
+    (rw c.new.ensures.bounds (captures-spread c.args.bounds spread displaced displaced displaced counts c.args.runs.now
+    narrow first first spreads))

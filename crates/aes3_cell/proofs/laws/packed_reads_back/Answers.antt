@@ -4,4 +4,5 @@ use Rattle.aes3_cell.proofs.laws.packed_reads_back.Goals as goal
 
 pub returns : goal.returns
 returns c = λ cells.
-    let p = packed_of-packs cells in (p, is_packed-packs (packed_of cells) cells p, cells-packs (packed_of cells) cells p)
+    let p = packed_of-packs cells in
+    (p, is_packed-packs (packed_of cells) cells p, cells-packs (packed_of cells) cells p)

@@ -14,6 +14,7 @@ returns c =
   where
     moved : c.if-len-eq0.filled ≡ c.args.word * 2 ^ (64 - c.args.len)
     moved = elim c.if-len-eq0.branch [
-      | then-len-eq0 v ↦ v.filled-is ∙ none-moved c.args.word c.args.len (64 - c.args.len) v.if-len-eq0.true c.requires.bound
+      | then-len-eq0 v ↦ v.filled-is
+          ∙ none-moved c.args.word c.args.len (64 - c.args.len) v.if-len-eq0.true c.requires.bound
       | else-len-eq0 v ↦ v.filled-is ∙ shl_exact c.args.len (64 - c.args.len) 64 c.requires.bound (omega arith)
     ]

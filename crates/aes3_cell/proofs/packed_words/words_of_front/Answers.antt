@@ -6,6 +6,7 @@ pub loop-i-preserved : goal.loop-i-preserved
 loop-i-preserved c =
     let len = c.loop-i.auto.words in
     record {
-      cells = words-put c.loop-i.words c.eight_words-eight.result c.args.octets.now c.loop-i.i c.eight_words-eight.ensures.len (omega (arith, len)) c.loop-i.invariant.cells
+      cells = words-put c.loop-i.words c.eight_words-eight.result c.args.octets.now c.loop-i.i
+          c.eight_words-eight.ensures.len (omega (arith, len)) c.loop-i.invariant.cells
           c.eight_words-eight.ensures.cells;
     }

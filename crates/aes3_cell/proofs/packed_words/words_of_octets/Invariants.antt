@@ -1,8 +1,9 @@
 use Rattle.std.proofs.Common.{◌≡◌, ◌*◌, take}
 use Rattle.std.specs.List.{flat_map}
 use Rattle.aes3_cell.specs.Packed.{cells_of_octets}
-use Rattle.aes3_cell.specs.Words.{word_cells}
+use Rattle.aes3_level.specs.Words.{word_cells}
 use Rattle.aes3_cell.proofs.packed_words.words_of_octets.Given as goal
 
 abbrev pub invariant-loop-i : goal.invariant-loop-i
-invariant-loop-i l = record { cells : flat_map word_cells (take l.i l.words) ≡ cells_of_octets (take (8 * l.i) l.octets) }
+invariant-loop-i l = record
+    { cells : flat_map word_cells (take l.i l.words) ≡ cells_of_octets (take (8 * l.i) l.octets) }

@@ -7,7 +7,8 @@ use Rattle.aes3_cell.proofs.scattered.behind_four.Goals as goal
 pub overflow_shl-result : goal.overflow_shl-result
 overflow_shl-result c =
     let p = c.args.place in
-    let e : c.from-2.result ≡ length (kept_cells 4 (p % 16) (p / 16)) = c.from-2.ensures ∙ ap (λ j. get_or COUNTS j 0) c.from.ensures ∙ (four p c.ranges.place.fits).count in
+    let e : c.from-2.result ≡ length (kept_cells 4 (p % 16) (p / 16))
+    = c.from-2.ensures ∙ ap (λ j. get_or COUNTS j 0) c.from.ensures ∙ (four p c.ranges.place.fits).count in
     let l = length-kept-le 4 (p % 16) (p / 16) in
     omega arith
 
@@ -15,8 +16,11 @@ pub returns : goal.returns
 returns c = λ cells short h.
     let p = c.args.place in
     let f = four p c.ranges.place.fits in
-    let e : c.from-2.result ≡ length (kept_cells 4 (p % 16) (p / 16)) = c.from-2.ensures ∙ ap (λ j. get_or COUNTS j 0) c.from.ensures ∙ f.count in
-    let t : get_or TOGETHER p 0 ≡ c.from-4.result = sym (c.from-4.ensures ∙ ap (λ j. get_or TOGETHER j 0) c.from-3.ensures) in
+    let e : c.from-2.result ≡ length (kept_cells 4 (p % 16) (p / 16))
+    = c.from-2.ensures ∙ ap (λ j. get_or COUNTS j 0) c.from.ensures ∙ f.count in
+    let t : get_or TOGETHER p 0 ≡ c.from-4.result
+    = sym (c.from-4.ensures ∙ ap (λ j. get_or TOGETHER j 0) c.from-3.ensures) in
     let l = length-kept-le 4 (p % 16) (p / 16) in
-    holds-behind (kept_cells 4 (p % 16) (p / 16)) cells c.from-4.result c.args.word (subst (Holds (kept_cells 4 (p % 16) (p / 16))) t f.holds) h
+    holds-behind (kept_cells 4 (p % 16) (p / 16)) cells c.from-4.result c.args.word
+    (subst (Holds (kept_cells 4 (p % 16) (p / 16))) t f.holds) h
     c.from-2.result e (omega arith)

@@ -21,7 +21,8 @@ loop-i-preserved c =
     let s = 4 + 8 * j in
     let t = 64 - 8 * i in
     let high : q ≡ k / 2 ^ s % 16 + 16 * (l / 2 ^ s % 16) =
-    c.places-high.ensures j (omega arith) ∙ ap₂ (λ u v. u % 16 + 16 * (v % 16)) (shr-shr k 4 (8 * j)) (shr-shr l 4 (8 * j)) in
+    c.places-high.ensures j (omega arith)
+    ∙ ap₂ (λ u v. u % 16 + 16 * (v % 16)) (shr-shr k 4 (8 * j)) (shr-shr l 4 (8 * j)) in
     let short = length-kept-le (8 * i) (k / 2 ^ t) (l / 2 ^ t) in
     let inner = subst (λ z. Holds z c.behind_four.result) (fours k l (8 * i) s t q (omega arith) high)
     (c.behind_four.ensures (kept_cells (8 * i) (k / 2 ^ t) (l / 2 ^ t)) (omega arith) c.loop-i.invariant) in
@@ -29,7 +30,8 @@ loop-i-preserved c =
     let a : 4 + (4 + 8 * i) ≡ 8 * (i + 1) = omega arith in
     let b : 8 * j ≡ 64 - 8 * (i + 1) = omega arith in
     subst (λ z. Holds z c.behind_four-word.result)
-    (fours k l (4 + 8 * i) (8 * j) s p (omega arith) (c.places-low.ensures j (omega arith)) ∙ ap₂ (λ m n. kept_cells m (k / 2 ^ n) (l / 2 ^ n)) a b)
+    (fours k l (4 + 8 * i) (8 * j) s p (omega arith) (c.places-low.ensures j (omega arith))
+    ∙ ap₂ (λ m n. kept_cells m (k / 2 ^ n) (l / 2 ^ n)) a b)
     (c.behind_four-word.ensures (kept_cells (4 + 8 * i) (k / 2 ^ s) (l / 2 ^ s)) (omega arith) inner)
 
 pub invariant_of-result : goal.invariant_of-result
@@ -44,4 +46,5 @@ invariant_of-result c =
 pub returns : goal.returns
 returns c =
     let k = c.args.kept in
-    cells-held (ones k) (sym (length-kept 64 k c.args.levels c.ranges.kept.fits)) (all-kept k c.args.levels c.loop-i.i c.loop-i.word (omega arith) c.loop-i.invariant)
+    cells-held (ones k) (sym (length-kept 64 k c.args.levels c.ranges.kept.fits))
+    (all-kept k c.args.levels c.loop-i.i c.loop-i.word (omega arith) c.loop-i.invariant)

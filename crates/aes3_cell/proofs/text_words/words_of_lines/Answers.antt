@@ -10,9 +10,11 @@ loop-i-init c = record { within = omega arith; lines = sym (bytes-nothing Text) 
 
 pub loop-i-preserved : goal.loop-i-preserved
 loop-i-preserved c = record {
-  within = let b = c.in-Some.ensures.bound in let l = length-drop (65 * c.loop-i.i) c.args.text.now in omega (arith, b, l);
+  within = let b = c.in-Some.ensures.bound in let l = length-drop (65 * c.loop-i.i) c.args.text.now in omega
+      (arith, b, l);
   lines = lines-more c.loop-i.words c.args.text.now c.loop-i.i c.in-Some.word (omega arith) c.loop-i.invariant.lines
-      (ap (take 65) (sym (between_to_end c.args.text.now (65 * c.loop-i.i) (length c.args.text.now) (omega arith))) ∙ c.in-Some.ensures.cells);
+      (ap (take 65) (sym (between_to_end c.args.text.now (65 * c.loop-i.i) (length c.args.text.now) (omega arith)))
+      ∙ c.in-Some.ensures.cells);
 }
 
 pub returns-in-None-clause-stops : goal.returns-in-None-clause-stops

@@ -1,7 +1,7 @@
 use Rattle.std.proofs.Common.{◌≡◌, ◌≤◌, ◌*◌, length, take}
 use Rattle.std.specs.List.{flat_map}
 use Rattle.aes3_cell.specs.Text.{text_of}
-use Rattle.aes3_cell.specs.Words.{word_cells}
+use Rattle.aes3_level.specs.Words.{word_cells}
 use Rattle.aes3_cell.proofs.text_words.words_of_lines.Given as goal
 
 abbrev pub invariant-loop-i : goal.invariant-loop-i

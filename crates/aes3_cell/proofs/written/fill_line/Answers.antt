@@ -10,5 +10,6 @@ returns c =
     let size : length ys ≡ 65 = ap length (c.put_line.ensures) ∙ length-line (get_or c.args.words.now i 0) in
     let len = c.requires.room in
     let told = c.told-words in
-    put-more Text c.args.words.now c.args.text.now ys i (65 * i) (65 * (i + 1)) (65 * i + 65 - 65 * i) (omega (arith, told)) (omega (arith, size)) (omega (arith, len))
+    put-more Text c.args.words.now c.args.text.now ys i (65 * i) (65 * (i + 1)) (65 * i + 65 - 65 * i)
+    (omega (arith, told)) (omega (arith, size)) (omega (arith, len))
     c.requires.before (c.put_line.ensures ∙ line-bytes (get_or c.args.words.now i 0))

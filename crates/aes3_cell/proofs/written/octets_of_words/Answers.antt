@@ -6,4 +6,5 @@ pub returns : goal.returns
 returns c =
     let f = c.octets_of_eight-front in
     let b = c.octets_of_eight-back in
-    sixteen-put c.args.words.now (replicate 128 0) f.result b.result c.told-words refl f.ensures.len b.ensures.len f.ensures.octets b.ensures.octets
+    sixteen-put c.args.words.now (replicate 128 0)
+    f.result b.result c.told-words refl f.ensures.len b.ensures.len f.ensures.octets b.ensures.octets

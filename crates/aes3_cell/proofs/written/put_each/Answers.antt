@@ -1,6 +1,6 @@
 use Rattle.std.proofs.Common.{◌+◌, ◌∙◌, sym, ap, refl, arith, drop}
 use Rattle.std.specs.List.{flat_map}
-use Rattle.aes3_cell.specs.Words.{word_cells}
+use Rattle.aes3_level.specs.Words.{word_cells}
 use Rattle.aes3_cell.specs.Written.{bytes_of}
 use Rattle.aes3_cell.proofs.Growing.{grew-none, grew-join, grew-is, front-is, front-join, front-more}
 use Rattle.aes3_cell.proofs.ManyWords.{bytes-words, bytes-split}
@@ -12,7 +12,8 @@ loop-word-init g c = record { grew = grew-is (sym (bytes-nothing c.args.form)) (
 
 pub loop-word-preserved : goal.loop-word-preserved
 loop-word-preserved g c = record {
-  grew = grew-is (bytes-words c.args.form c.args.words.now c.loop-word.word-index c.loop-word-test.true) (grew-join c.loop-word.invariant.grew c.in-Ok.ensures.grew);
+  grew = grew-is (bytes-words c.args.form c.args.words.now c.loop-word.word-index c.loop-word-test.true)
+      (grew-join c.loop-word.invariant.grew c.in-Ok.ensures.grew);
   quiet = c.in-Ok.ensures.count ∙ c.loop-word.invariant.quiet;
 }
 
@@ -26,7 +27,8 @@ returns-in-Err g c =
       err = (
         c.in-Err.ensures.err.0 ∙ ap (λ n. n + 1) c.loop-word.invariant.quiet,
         front-is (bytes-split c.args.form words (i + 1) (omega arith))
-            (front-more (front-is (bytes-words c.args.form words i c.loop-word-test.true) (front-join c.loop-word.invariant.grew c.in-Err.ensures.err.1))
+            (front-more (front-is (bytes-words c.args.form words i c.loop-word-test.true)
+            (front-join c.loop-word.invariant.grew c.in-Err.ensures.err.1))
             (bytes_of c.args.form (flat_map word_cells (drop (i + 1) words)))),
       );
     }

@@ -1,7 +1,7 @@
 use Rattle.std.proofs.Common.{◌+◌, ◌∙◌, ap, sym, refl, arith, length, drop, take, length-drop, append-nil}
 use Rattle.std.specs.List.{flat_map}
 use Rattle.std.proofs.lemmas.Slice.{between_to_end}
-use Rattle.aes3_cell.specs.Words.{word_cells}
+use Rattle.aes3_level.specs.Words.{word_cells}
 use Rattle.aes3_cell.specs.Written.{bytes_of}
 use Rattle.aes3_cell.proofs.Growing.{grew-none, grew-join, grew-is, front-is, front-join, front-more}
 use Rattle.aes3_cell.proofs.ManyWords.{bytes-block, bytes-split}
@@ -9,7 +9,12 @@ use Rattle.aes3_cell.proofs.WrittenForms.{bytes-nothing}
 use Rattle.aes3_cell.proofs.written.put_front.Goals as goal
 
 pub loop-many-init : goal.loop-many-init
-loop-many-init g c = record { within = omega arith; grew = grew-is (sym (bytes-nothing c.args.form)) (grew-none refl); quiet = refl }
+loop-many-init g c = record {
+  within = omega arith;
+  grew
+      = grew-is (sym (bytes-nothing c.args.form)) (grew-none refl);
+  quiet = refl;
+}
 
 pub loop-many-preserved : goal.loop-many-preserved
 loop-many-preserved g c =
@@ -19,15 +24,20 @@ loop-many-preserved g c =
     let rest = between_to_end words at (length words) (omega arith) in
     let enough = c.in-Some.ensures.cases.enough in
     let l = ap length rest ∙ length-drop at words in
-    let many = ap (λ w. bytes_of c.args.form (flat_map word_cells w)) (c.in-Some.ensures.cases.same ∙ ap (take 16) rest) in
+    let many = ap (λ w. bytes_of c.args.form (flat_map word_cells w)) (c.in-Some.ensures.cases.same ∙ ap (take 16) rest)
+    in
     record {
       within = omega (arith, enough, l);
-      grew = grew-is (bytes-block c.args.form words at 16 within) (grew-join c.loop-many.invariant.grew (grew-is many (rw c.in-Ok-true.field-0-test at c.in-Ok-true.ensures.cells)));
+      grew = grew-is (bytes-block c.args.form words at 16 within)
+          (grew-join c.loop-many.invariant.grew
+          (grew-is many (rw c.in-Ok-true.field-0-test at c.in-Ok-true.ensures.cells)));
       quiet = c.in-Ok-true.ensures.count ∙ c.loop-many.invariant.quiet;
     }
 
 pub returns-in-Ok-false-clause-cells : goal.returns-in-Ok-false-clause-cells
-returns-in-Ok-false-clause-cells g c = grew-is (append-nil _) (grew-join c.loop-many.invariant.grew (rw c.in-Ok-false.field-0-test at c.in-Ok-false.ensures.cells))
+returns-in-Ok-false-clause-cells g c
+    = grew-is (append-nil _) (grew-join c.loop-many.invariant.grew
+    (rw c.in-Ok-false.field-0-test at c.in-Ok-false.ensures.cells))
 
 pub returns-in-Err-clause-err : goal.returns-in-Err-clause-err
 returns-in-Err-clause-err g c =
@@ -37,10 +47,12 @@ returns-in-Err-clause-err g c =
     let rest = between_to_end words at (length words) (omega arith) in
     let enough = c.in-Some.ensures.cases.enough in
     let l = ap length rest ∙ length-drop at words in
-    let many = ap (λ w. bytes_of c.args.form (flat_map word_cells w)) (c.in-Some.ensures.cases.same ∙ ap (take 16) rest) in (
+    let many = ap (λ w. bytes_of c.args.form (flat_map word_cells w)) (c.in-Some.ensures.cases.same ∙ ap (take 16) rest)
+    in (
       c.in-Err.ensures.err.0 ∙ ap (λ n. n + 1) c.loop-many.invariant.quiet,
       front-is (bytes-split c.args.form words (at + 16) (omega (arith, enough, l)))
-          (front-more (front-is (bytes-block c.args.form words at 16 within) (front-join c.loop-many.invariant.grew (front-is many c.in-Err.ensures.err.1)))
+          (front-more (front-is (bytes-block c.args.form words at 16 within)
+          (front-join c.loop-many.invariant.grew (front-is many c.in-Err.ensures.err.1)))
           (bytes_of c.args.form (flat_map word_cells (drop (at + 16) words)))),
     )
 

@@ -1,9 +1,9 @@
 use Rattle.std.proofs.Common.{ap, ◌∙◌, sym}
 use Rattle.aes3_cell.specs.declared.form.Form.{Form}
-use Rattle.aes3_cell.specs.Words.{word_cells}
+use Rattle.aes3_level.specs.Words.{word_cells}
 use Rattle.aes3_cell.specs.Written.{bytes_of}
 use Rattle.aes3_cell.proofs.Lines.{text_of-line}
-use Rattle.aes3_cell.proofs.WordCells.{length-word_cells}
+use Rattle.aes3_level.proofs.WordCells.{length-word_cells}
 use Rattle.aes3_cell.proofs.Writing.{wrote-is}
 use Rattle.aes3_cell.proofs.written.put_word.Goals as goal
 

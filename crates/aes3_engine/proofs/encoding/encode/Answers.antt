@@ -1,10 +1,10 @@
 use Rattle.std.proofs.Common.{ap, ◌∙◌, arith}
-use Rattle.aes3_cell.specs.declared.level.Level.TheVariants.{Low}
+use Rattle.aes3_level.specs.declared.level.Level.TheVariants.{Low}
 use Rattle.aes3_cell.specs.Written.{written}
 use Rattle.aes3_cell.proofs.Growing.{grew-is}
-use Rattle.aes3_block.specs.Blocks.{stream}
-use Rattle.aes3_block.specs.Files.{file}
-use Rattle.aes3_block.proofs.FileLaws.{file_blocks-file}
+use Rattle.aes3_frame.specs.Blocks.{stream}
+use Rattle.aes3_frame.specs.Files.{file}
+use Rattle.aes3_frame.proofs.FileLaws.{file_blocks-file}
 use Rattle.aes3_lock.specs.Reports.{blocks, normal}
 use Rattle.aes3_lock.proofs.NormalStreams.{blocks-lawful}
 use Rattle.aes3_input.proofs.InputRuns.{run-ok, run-err, run-told, run-owed}

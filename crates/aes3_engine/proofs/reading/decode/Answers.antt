@@ -1,9 +1,9 @@
-use Rattle.aes3_block.specs.Files.{block_bytes, file}
+use Rattle.aes3_frame.specs.Files.{block_bytes, file}
 use Rattle.aes3_lock.specs.Reports.{blocks}
 use Rattle.aes3_input.proofs.InputRuns.{run-wrote}
 use Rattle.aes3_input.proofs.CellRuns.{cells-run}
-use Rattle.aes3_engine.specs.BlockRuns.{decided_blocks}
-use Rattle.aes3_engine.proofs.BlockRuns.{alike-whole, alike-begun, run-back}
+use Rattle.aes3_runs.specs.BlockRuns.{decided_blocks}
+use Rattle.aes3_runs.proofs.BlockRuns.{alike-whole, alike-begun, run-back}
 use Rattle.aes3_engine.proofs.reading.decode.Goals as goal
 
 pub returns-clause-run : goal.returns-clause-run

@@ -1,7 +1,7 @@
 use Rattle.aes3_lock.specs.Reports.{blocks}
 use Rattle.aes3_input.proofs.InputRuns.{run-wrote}
 use Rattle.aes3_input.proofs.CellRuns.{cells-run}
-use Rattle.aes3_engine.specs.BlockRuns.{begun_stream, decided_blocks, written_stream}
+use Rattle.aes3_runs.specs.BlockRuns.{begun_stream, decided_blocks, written_stream}
 use Rattle.aes3_engine.specs.Rewriting.{rewritten_blocks}
 use Rattle.aes3_engine.proofs.RewrittenBlocks.{rewritten-whole, rewritten-begun}
 use Rattle.aes3_engine.proofs.rewriting.rewrite.Goals as goal

@@ -1,9 +1,9 @@
-use Rattle.aes3_block.specs.Samples.{block_samples, samples}
+use Rattle.aes3_frame.specs.Samples.{block_samples, samples}
 use Rattle.aes3_lock.specs.Reports.{blocks}
 use Rattle.aes3_input.proofs.InputRuns.{run-wrote}
 use Rattle.aes3_input.proofs.CellRuns.{cells-run}
-use Rattle.aes3_engine.specs.BlockRuns.{decided_blocks}
-use Rattle.aes3_engine.proofs.BlockRuns.{alike-whole, alike-begun, run-alike, run-back, run-normal}
+use Rattle.aes3_runs.specs.BlockRuns.{decided_blocks}
+use Rattle.aes3_runs.proofs.BlockRuns.{alike-whole, alike-begun, run-alike, run-back, run-normal}
 use Rattle.aes3_engine.proofs.samples.to_pcm.Goals as goal
 
 pub returns-clause-run : goal.returns-clause-run

@@ -24,34 +24,45 @@ returns-in-Err-clause-run g c =
 pub returns-in-Ok-finish-clause-run : goal.returns-in-Ok-finish-clause-run
 returns-in-Ok-finish-clause-run g c =
     let v = c.pieces.invariant in
-    ran-end c.args.max_bytes (g.I.Input.follows c.finish.new.input c.finish.new.taker) (g.I.Input.stopped c.finish.new.input c.finish.new.taker) (g.I.Input.finished c.finish.new.input c.finish.new.taker) _ _ _ _ _ _ _
+    ran-end c.args.max_bytes (g.I.Input.follows c.finish.new.input c.finish.new.taker)
+    (g.I.Input.stopped c.finish.new.input c.finish.new.taker)
+    (g.I.Input.finished c.finish.new.input c.finish.new.taker) _ _ _ _ _ _ _
     v.upto c.requires.start v.short (c.in-Ok.ensures.count ∙ v.quiet_source) v.quiet_sink
-    (grew-is (ap (λ z. take z c.read_piece.new.piece) c.if-n-eq0.true) c.in-Ok.ensures.bytes) (c.in-Ok.ensures.end.0 c.if-n-eq0.true) c.in-Ok-finish.ensures.ran
+    (grew-is (ap (λ z. take z c.read_piece.new.piece) c.if-n-eq0.true) c.in-Ok.ensures.bytes)
+    (c.in-Ok.ensures.end.0 c.if-n-eq0.true) c.in-Ok-finish.ensures.ran
 
 pub returns-in-Err-finish-clause-run : goal.returns-in-Err-finish-clause-run
 returns-in-Err-finish-clause-run g c =
     let v = c.pieces.invariant in
-    ran-end_err c.args.max_bytes (g.I.Input.follows c.finish.new.input c.finish.new.taker) (g.I.Input.stopped c.finish.new.input c.finish.new.taker) (g.I.Input.finished c.finish.new.input c.finish.new.taker) _ _ _ _ _ _ _ c.in-Err-finish.error
+    ran-end_err c.args.max_bytes (g.I.Input.follows c.finish.new.input c.finish.new.taker)
+    (g.I.Input.stopped c.finish.new.input c.finish.new.taker)
+    (g.I.Input.finished c.finish.new.input c.finish.new.taker) _ _ _ _ _ _ _ c.in-Err-finish.error
     v.upto c.requires.start v.short (c.in-Ok.ensures.count ∙ v.quiet_source) v.quiet_sink
-    (grew-is (ap (λ z. take z c.read_piece.new.piece) c.if-n-eq0.true) c.in-Ok.ensures.bytes) (c.in-Ok.ensures.end.0 c.if-n-eq0.true) c.in-Err-finish.ensures.ran
+    (grew-is (ap (λ z. take z c.read_piece.new.piece) c.if-n-eq0.true) c.in-Ok.ensures.bytes)
+    (c.in-Ok.ensures.end.0 c.if-n-eq0.true) c.in-Err-finish.ensures.ran
 
 pub returns-in-Err-feed-clause-run : goal.returns-in-Err-feed-clause-run
 returns-in-Err-feed-clause-run g c =
     let v = c.pieces.invariant in
     let room = c.args.max_bytes + 1 - c.pieces.seen in
-    ran-piece c.args.max_bytes (g.I.Input.reads c.feed.new.input c.feed.new.taker) (g.I.Input.follows c.feed.new.input c.feed.new.taker) (g.I.Input.stopped c.feed.new.input c.feed.new.taker) (g.I.Input.finished c.feed.new.input c.feed.new.taker) _ _ _ _ _ _ _
+    ran-piece c.args.max_bytes (g.I.Input.reads c.feed.new.input c.feed.new.taker)
+    (g.I.Input.follows c.feed.new.input c.feed.new.taker) (g.I.Input.stopped c.feed.new.input c.feed.new.taker)
+    (g.I.Input.finished c.feed.new.input c.feed.new.taker) _ _ _ _ _ _ _
     c.in-Ok.n c.allowed_of-allowed.result room c.read_piece.new.piece c.in-Err-feed.error
     v.upto c.requires.start v.short (c.in-Ok.ensures.count ∙ v.quiet_source) v.quiet_sink
-    c.in-Ok.ensures.bytes refl c.in-Ok.ensures.bound.1 c.in-Ok.ensures.bound.0 c.allowed_of-allowed.ensures.last c.allowed_of-allowed.ensures.all c.in-Err-feed.ensures.ran
+    c.in-Ok.ensures.bytes refl c.in-Ok.ensures.bound.1 c.in-Ok.ensures.bound.0 c.allowed_of-allowed.ensures.last
+    c.allowed_of-allowed.ensures.all c.in-Err-feed.ensures.ran
 
 pub returns-then-seen-max_bytes-clause-run : goal.returns-then-seen-max_bytes-clause-run
 returns-then-seen-max_bytes-clause-run g c =
     let v = c.pieces.invariant in
     let room = c.args.max_bytes + 1 - c.pieces.seen in
-    ran-long c.args.max_bytes (g.I.Input.stopped c.feed.new.input c.feed.new.taker) (g.I.Input.finished c.feed.new.input c.feed.new.taker) (g.S.Source.has_ended c.read_piece.new.source) _ _ _ _ _
+    ran-long c.args.max_bytes (g.I.Input.stopped c.feed.new.input c.feed.new.taker)
+    (g.I.Input.finished c.feed.new.input c.feed.new.taker) (g.S.Source.has_ended c.read_piece.new.source) _ _ _ _ _
     c.in-Ok.n c.allowed_of-allowed.result room c.read_piece.new.piece
     v.upto c.requires.start v.short (c.in-Ok.ensures.count ∙ v.quiet_source) v.quiet_sink c.in-Ok-feed.ensures.ran.1
-    c.in-Ok.ensures.bytes refl c.in-Ok.ensures.bound.1 c.in-Ok.ensures.bound.0 c.allowed_of-allowed.ensures.last c.allowed_of-allowed.ensures.all (omega arith) c.in-Ok-feed.ensures.ran.0
+    c.in-Ok.ensures.bytes refl c.in-Ok.ensures.bound.1 c.in-Ok.ensures.bound.0 c.allowed_of-allowed.ensures.last
+    c.allowed_of-allowed.ensures.all (omega arith) c.in-Ok-feed.ensures.ran.0
 
 pub pieces-preserved : goal.pieces-preserved
 pieces-preserved g c =

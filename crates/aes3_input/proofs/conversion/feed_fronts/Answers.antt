@@ -1,4 +1,22 @@
-use Rattle.std.proofs.Common.{◌≡◌, ◌+◌, ◌-◌, ◌^◌, ◌≤◌, ◌++◌, [], length, take, drop, arith, ap, ◌∙◌, refl, append-nil, length-append, length-drop}
+use Rattle.std.proofs.Common.{
+  ◌≡◌,
+  ◌+◌,
+  ◌-◌,
+  ◌^◌,
+  ◌≤◌,
+  ◌++◌,
+  [],
+  length,
+  take,
+  drop,
+  arith,
+  ap,
+  ◌∙◌,
+  refl,
+  append-nil,
+  length-append,
+  length-drop,
+}
 use Rattle.std.proofs.lemmas.List.{length-take-le, take-append-drop, take_rest}
 use Rattle.aes3_input.proofs.Feeding.{fed-none, fed-front, ran-join}
 use Rattle.aes3_input.proofs.conversion.feed_fronts.Goals as goal
@@ -26,7 +44,8 @@ loop-at-preserved g c =
     let d = length-drop at xs in
     record {
       within = omega arith;
-      fed = fed-front xs (take (length xs - at) (drop at xs)) at c.in-Ok.taken (take_rest xs at) c.loop-at.invariant.fed r.2;
+      fed = fed-front xs (take (length xs - at) (drop at xs)) at c.in-Ok.taken (take_rest xs at)
+          c.loop-at.invariant.fed r.2;
       quiet = r.3 ∙ c.loop-at.invariant.quiet;
     }
 
@@ -35,6 +54,9 @@ returns-in-Err g c =
     let xs = c.args.piece.now in
     let at = c.loop-at.at in
     let rest = take (length xs - at) (drop at xs) in
-    ran-join (g.I.Input.reads c.take_front.new.self c.take_front.new.taker) (g.I.Input.follows c.take_front.new.self c.take_front.new.taker) (g.I.Input.stopped c.take_front.new.self c.take_front.new.taker)
+    ran-join (g.I.Input.reads c.take_front.new.self c.take_front.new.taker)
+    (g.I.Input.follows c.take_front.new.self c.take_front.new.taker)
+    (g.I.Input.stopped c.take_front.new.self c.take_front.new.taker)
     (g.T.Sink.taken c.take_front.new.sink) (g.T.Sink.failed c.take_front.new.sink)
-    rest [] xs c.in-Err.error c.loop-at.invariant.fed c.loop-at.invariant.quiet (ap (λ v. take at xs ++ v) (append-nil rest ∙ take_rest xs at) ∙ take-append-drop at xs) c.in-Err.ensures
+    rest [] xs c.in-Err.error c.loop-at.invariant.fed c.loop-at.invariant.quiet
+    (ap (λ v. take at xs ++ v) (append-nil rest ∙ take_rest xs at) ∙ take-append-drop at xs) c.in-Err.ensures

@@ -2,7 +2,9 @@ use Rattle.aes3_input.proofs.PackedRuns.{packed-starts, packed-ok, packed-err}
 use Rattle.aes3_input.proofs.packed_input.drive_packed.Goals as goal
 
 pub convert-requires-clause-start : goal.convert-requires-clause-start
-convert-requires-clause-start g c = packed-starts (g.K.Taker.follows c.args.taker.now) c.new-input.ensures.packed c.new-input.ensures.cells c.requires.start
+convert-requires-clause-start g c
+    = packed-starts (g.K.Taker.follows c.args.taker.now)
+    c.new-input.ensures.packed c.new-input.ensures.cells c.requires.start
 
 pub returns-in-Ok-clause-ran : goal.returns-in-Ok-clause-ran
 returns-in-Ok-clause-ran g c = packed-ok c.in-Ok.ensures.run

@@ -5,7 +5,7 @@ use Rattle.std.proofs.lemmas.Slice.{take-put_mid}
 use Rattle.aes3_cell.specs.Packed.{whole_cells}
 use Rattle.aes3_cell.specs.PackedReading.{packed_reader_of}
 use Rattle.aes3_cell.specs.PackedFeeding.{octets_fed, cells_fed}
-use Rattle.aes3_cell.specs.Words.{word_cells}
+use Rattle.aes3_level.specs.Words.{word_cells}
 use Rattle.aes3_cell.proofs.PackedFeeding.{reader-fed, whole-fed}
 use Rattle.aes3_input.proofs.packed_input.feed_words.Goals as goal
 

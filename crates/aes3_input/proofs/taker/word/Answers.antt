@@ -1,4 +1,4 @@
-use Rattle.aes3_cell.specs.Words.{word_len, word_cells}
+use Rattle.aes3_level.specs.Words.{word_len, word_cells}
 use Rattle.aes3_input.proofs.taker.word.Goals as goal
 
 pub returns : goal.returns

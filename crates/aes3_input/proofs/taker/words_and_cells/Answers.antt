@@ -1,6 +1,6 @@
 use Rattle.std.proofs.Common.{◌+◌, ◌*◌, ◌^◌, ◌≤◌, ◌++◌, length, arith, length-append}
 use Rattle.std.specs.List.{flat_map}
-use Rattle.aes3_cell.specs.Words.{low_cells, word_cells}
+use Rattle.aes3_level.specs.Words.{low_cells, word_cells}
 use Rattle.aes3_input.proofs.Handing.{cells-ran-behind, front-of-more, length-words}
 use Rattle.aes3_input.proofs.taker.words_and_cells.Goals as goal
 
@@ -26,9 +26,12 @@ returns-in-Ok g c =
     let ta = g.T.Sink.taken in
     let fa = g.T.Sink.failed in
     record {
-      ran = cells-ran-behind (wr c.args.taker.now) (wr c.words.new.self) (wr c.cells.new.self) (fo c.args.taker.now) (fo c.words.new.self) (fo c.cells.new.self)
-          (flat_map word_cells c.args.words.now) (low_cells c.args.len c.args.word) (ta c.args.sink.now) (ta c.words.new.sink) (ta c.cells.new.sink)
-          (fa c.args.sink.now) (fa c.words.new.sink) (fa c.cells.new.sink) c.cells.result c.in-Ok.ensures.ran c.cells.ensures.ran;
+      ran = cells-ran-behind (wr c.args.taker.now) (wr c.words.new.self) (wr c.cells.new.self) (fo c.args.taker.now)
+          (fo c.words.new.self) (fo c.cells.new.self)
+          (flat_map word_cells c.args.words.now) (low_cells c.args.len c.args.word) (ta c.args.sink.now)
+          (ta c.words.new.sink) (ta c.cells.new.sink)
+          (fa c.args.sink.now) (fa c.words.new.sink) (fa c.cells.new.sink)
+          c.cells.result c.in-Ok.ensures.ran c.cells.ensures.ran;
     }
 
 pub returns-in-Err : goal.returns-in-Err
@@ -37,7 +40,8 @@ returns-in-Err g c =
     record {
       ran = (
         r.0,
-        front-of-more (g.K.Taker.writes c.args.taker.now) (g.K.Taker.follows c.args.taker.now) (g.T.Sink.taken c.args.sink.now) (g.T.Sink.taken c.words.new.sink)
+        front-of-more (g.K.Taker.writes c.args.taker.now) (g.K.Taker.follows c.args.taker.now)
+            (g.T.Sink.taken c.args.sink.now) (g.T.Sink.taken c.words.new.sink)
             (flat_map word_cells c.args.words.now) (low_cells c.args.len c.args.word) r.1,
       );
     }

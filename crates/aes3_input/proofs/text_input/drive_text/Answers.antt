@@ -8,4 +8,5 @@ pub returns-in-Err-clause-ran : goal.returns-in-Err-clause-ran
 returns-in-Err-clause-ran g c = text-err c.in-Err.ensures.run
 
 pub convert-requires-clause-start : goal.convert-requires-clause-start
-convert-requires-clause-start g c = starts (g.K.Taker.follows c.args.taker.now) c.new-input.ensures.text c.new-input.ensures.cells c.requires.start
+convert-requires-clause-start g c
+    = starts (g.K.Taker.follows c.args.taker.now) c.new-input.ensures.text c.new-input.ensures.cells c.requires.start

@@ -1,6 +1,6 @@
 use Rattle.std.proofs.Common.{◌≡◌, ◌*◌, ◌≤◌, length, take}
 use Rattle.std.specs.List.{flat_map}
-use Rattle.aes3_cell.specs.Words.{word_cells}
+use Rattle.aes3_level.specs.Words.{word_cells}
 use Rattle.aes3_input.specs.Forms.{TextRead}
 use Rattle.aes3_input.proofs.text_lines.feed_any_lines.Given as goal
 

@@ -1,6 +1,6 @@
 use Rattle.std.proofs.Common.{◌≡◌, ℕ, List, Option, Some, None, IfSome, take, map, sym, ◌∙◌}
 use Rattle.aes3_cell.specs.Text.{byte_of}
-use Rattle.aes3_cell.specs.Words.{word_cells}
+use Rattle.aes3_level.specs.Words.{word_cells}
 use Rattle.aes3_input.proofs.text_lines.feed_front.Goals as goal
 
 same : (xs ys : List ℕ) (word : Option ℕ) → ys ≡ xs → IfSome word (λ w. ys ≡ map byte_of (word_cells w))

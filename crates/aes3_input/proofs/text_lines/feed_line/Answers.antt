@@ -1,6 +1,6 @@
 use Rattle.std.proofs.Common.{◌-◌, length, take, drop, append-nil, refl}
 use Rattle.std.proofs.lemmas.List.{take_rest}
-use Rattle.aes3_cell.specs.Words.{word_cells}
+use Rattle.aes3_level.specs.Words.{word_cells}
 use Rattle.aes3_input.proofs.TextReads.{read-is, read-front, read-word}
 use Rattle.aes3_input.proofs.text_lines.feed_line.Goals as goal
 
@@ -10,4 +10,5 @@ returns-in-Some-clause-read c =
     let w = c.in-Some.word in
     read-is refl (append-nil (word_cells w))
     (read-front xs (take (length xs - 64) (drop 64 xs)) 64 c.skip_separators-separators.result (take_rest xs 64)
-    (read-word c.args.text.now c.feed_front.new.text (take 64 xs) w c.in-Some.ensures.cells c.in-Some.ensures.seen) c.skip_separators-separators.ensures.read)
+    (read-word c.args.text.now c.feed_front.new.text (take 64 xs) w c.in-Some.ensures.cells c.in-Some.ensures.seen)
+    c.skip_separators-separators.ensures.read)

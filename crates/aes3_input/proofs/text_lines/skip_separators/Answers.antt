@@ -11,4 +11,6 @@ loop-i-preserved c =
     let xs = c.args.piece.now in
     let i = c.loop-i.i in
     read-is (sym (take_more xs i 0 (omega arith))) refl
-    (read-join c.loop-i.invariant (read-separator c.loop-i.text c.feed_byte.new.self (get_or xs i 0) (c.is_separator.ensures.0 c.if-not-is_separator.false) c.feed_byte.ensures.next))
+    (read-join c.loop-i.invariant
+    (read-separator c.loop-i.text c.feed_byte.new.self (get_or xs i 0)
+    (c.is_separator.ensures.0 c.if-not-is_separator.false) c.feed_byte.ensures.next))

@@ -1,6 +1,6 @@
 use Rattle.std.proofs.Common.{◌-◌, length, take, drop, append-nil, refl}
 use Rattle.std.proofs.lemmas.List.{take_rest}
-use Rattle.aes3_cell.specs.Words.{low_cells}
+use Rattle.aes3_level.specs.Words.{low_cells}
 use Rattle.aes3_input.proofs.TextReads.{read-is, read-front}
 use Rattle.aes3_input.proofs.text_words.feed_cells.Goals as goal
 
@@ -9,4 +9,5 @@ returns-in-Ok-clause-read c =
     let xs = c.args.piece.now in
     let at = c.in-Ok.taken in
     read-is refl (append-nil (low_cells c.in-Ok.cells.len c.in-Ok.cells.word))
-    (read-front xs (take (length xs - at) (drop at xs)) at c.skip_separators-separators.result (take_rest xs at) c.in-Ok.ensures.read c.skip_separators-separators.ensures.read)
+    (read-front xs (take (length xs - at) (drop at xs)) at c.skip_separators-separators.result (take_rest xs at)
+    c.in-Ok.ensures.read c.skip_separators-separators.ensures.read)

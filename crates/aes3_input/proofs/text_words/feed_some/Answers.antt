@@ -10,5 +10,6 @@ loop-at-preserved c =
     record {
       some = omega arith;
       within = omega arith;
-      read = read-is (sym (take_more c.args.piece.now c.loop-at.at 0 c.loop-at-test.true)) (sym q.cells) (read-join v.read q.read);
+      read = read-is (sym (take_more c.args.piece.now c.loop-at.at 0 c.loop-at-test.true)) (sym q.cells)
+          (read-join v.read q.read);
     }

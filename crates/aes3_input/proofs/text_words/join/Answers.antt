@@ -17,7 +17,11 @@ pub invariant_of-rest-2 : goal.invariant_of-rest-2
 invariant_of-rest-2 c =
     let a = c.args.front in
     let b = c.args.back in
-    record { few = (let f = b.few in let g = c.requires.few in omega arith); bound = whole-lt a.len a.word b.word a.bound c.requires.few b.len c.if-len-lt-BITS.false b.bound }
+    record {
+      few = (let f = b.few in let g = c.requires.few in omega arith);
+      bound
+          = whole-lt a.len a.word b.word a.bound c.requires.few b.len c.if-len-lt-BITS.false b.bound;
+    }
 
 pub returns : goal.returns
 returns c =

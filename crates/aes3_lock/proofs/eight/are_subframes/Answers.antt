@@ -2,9 +2,9 @@ use Rattle.std.proofs.Common.{◌≡◌, ℕ, ◌+◌, ◌%◌, ◌<◌, ◌==�
 use Rattle.std.specs.Prelude.{bit_or, if◌then◌else◌}
 use Rattle.std.specs.Simd.Lanes.{fold_l}
 use Rattle.std.proofs.lemmas.Bool.{eqb-true}
-use Rattle.aes3_cell.specs.Words.{word_cells}
+use Rattle.aes3_level.specs.Words.{word_cells}
 use Rattle.aes3_slot.specs.Fronts.{stands_even}
-use Rattle.aes3_block.specs.Blocks.{mark_at}
+use Rattle.aes3_frame.specs.Blocks.{mark_at}
 use Rattle.aes3_lock.proofs.EightWords.{lane-stands, mark-behind, even-front, even-last, even-word}
 use Rattle.aes3_lock.proofs.eight.are_subframes.Goals as goal
 

@@ -1,5 +1,5 @@
 use Rattle.aes3_slot.specs.Reading.{read_slots}
-use Rattle.aes3_block.specs.Blocks.{block_slots}
+use Rattle.aes3_frame.specs.Blocks.{block_slots}
 use Rattle.aes3_lock.proofs.Refutations.{fault-front, fault-viable, fault-within, viable-fault, fault-unclosed}
 use Rattle.aes3_lock.proofs.Refutations.{unclosed-fault}
 use Rattle.aes3_lock.proofs.laws.fault_where_no_block_begins.Goals as goal

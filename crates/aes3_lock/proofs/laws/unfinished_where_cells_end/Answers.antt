@@ -1,6 +1,6 @@
 use Rattle.std.proofs.Common.{ap, ◌∙◌, subst, sym, ◌<◌}
 use Rattle.aes3_lock.specs.Outcomes.{unfinished}
-use Rattle.aes3_block.specs.Blocks.{block_len}
+use Rattle.aes3_frame.specs.Blocks.{block_len}
 use Rattle.aes3_lock.proofs.Refutations.{unfinished-viable, viable-unfinished}
 use Rattle.aes3_lock.proofs.laws.unfinished_where_cells_end.Goals as goal
 

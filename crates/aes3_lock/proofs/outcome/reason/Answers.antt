@@ -1,7 +1,7 @@
 use Rattle.std.proofs.Common.{◌≡◌, ◌%◌, eqb, ltb, true, false, refl, arith, eq-eqb, ne_eqb, lt-ltb, le-ltb}
-use Rattle.aes3_block.specs.Blocks.{block_len}
+use Rattle.aes3_frame.specs.Blocks.{block_len}
 use Rattle.aes3_lock.proofs.outcome.reason.Goals as goal
-use Rattle.aes3_block.proofs.CellLaws.{block_len_24576}
+use Rattle.aes3_frame.proofs.CellLaws.{block_len_24576}
 
 pub returns-then-offset-eq-BLOCK_CELLS : goal.returns-then-offset-eq-BLOCK_CELLS
 returns-then-offset-eq-BLOCK_CELLS c =

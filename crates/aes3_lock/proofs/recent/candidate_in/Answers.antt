@@ -1,6 +1,6 @@
 use Rattle.std.proofs.Common.{sym, ap, ◌∙◌, arith, refl}
-use Rattle.aes3_cell.specs.Cells.{line}
-use Rattle.aes3_cell.specs.Words.{low_cells}
+use Rattle.aes3_level.specs.Cells.{line}
+use Rattle.aes3_level.specs.Words.{low_cells}
 use Rattle.aes3_slot.specs.declared.mark.Mark.TheVariants.{Z}
 use Rattle.aes3_slot.specs.Slots.{mark_runs}
 use Rattle.aes3_lock.proofs.Codes.{begun-Z, begun-short, begun-other, mark-Z, other-mark}

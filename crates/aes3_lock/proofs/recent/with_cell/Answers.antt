@@ -1,7 +1,7 @@
 use Rattle.std.proofs.Common.{arith, sym, ap, ◌∙◌}
-use Rattle.aes3_cell.specs.declared.level.Level.TheVariants.{High}
+use Rattle.aes3_level.specs.declared.level.Level.TheVariants.{High}
 use Rattle.aes3_lock.specs.Steps.{eight_with}
-use Rattle.aes3_cell.specs.Words.{low_cells}
+use Rattle.aes3_level.specs.Words.{low_cells}
 use Rattle.aes3_lock.proofs.LastEight.{byte-with}
 use Rattle.aes3_lock.proofs.recent.with_cell.Goals as goal
 

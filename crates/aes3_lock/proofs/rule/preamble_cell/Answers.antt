@@ -1,7 +1,7 @@
 use Rattle.std.proofs.Common.{ℕ, ◌≡◌, ◌/◌, ◌%◌, ◌^◌, sym, ap, ◌∙◌, get_or, arith}
-use Rattle.aes3_cell.specs.declared.level.Level.TheVariants.{Low}
-use Rattle.aes3_cell.specs.Words.{level_of}
-use Rattle.aes3_cell.proofs.WordCells.{low_cells-at}
+use Rattle.aes3_level.specs.declared.level.Level.TheVariants.{Low}
+use Rattle.aes3_level.specs.Words.{level_of}
+use Rattle.aes3_level.proofs.WordCells.{low_cells-at}
 use Rattle.aes3_lock.proofs.rule.preamble_cell.Goals as goal
 
 even-if-not-odd : (x : ℕ) → (x % 2 ≡ 1 → ⊥) → x % 2 ≡ 0

@@ -1,6 +1,6 @@
 use Rattle.std.proofs.Common.{◌-◌, refl, sym, ap, ◌∙◌, arith}
 use Rattle.std.specs.Prelude.{option_map}
-use Rattle.aes3_cell.specs.Words.{low_cells}
+use Rattle.aes3_level.specs.Words.{low_cells}
 use Rattle.aes3_lock.specs.Preambles.{placed}
 use Rattle.aes3_lock.proofs.Scanning.{first_mark-line, first_mark-none, ended-short, ended-long}
 use Rattle.aes3_lock.proofs.scan.mark_ending.Goals as goal

@@ -1,5 +1,5 @@
 use Rattle.std.proofs.Common.{take, sym, arith, length-take-le}
-use Rattle.aes3_cell.specs.Words.{low_cells}
+use Rattle.aes3_level.specs.Words.{low_cells}
 use Rattle.aes3_lock.proofs.LastEight.{last_eight-nil}
 use Rattle.aes3_lock.proofs.OnePlace.{octet-more, octet-all}
 use Rattle.aes3_lock.proofs.slow.first_eight.Goals as goal

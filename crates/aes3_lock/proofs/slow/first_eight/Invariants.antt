@@ -1,5 +1,5 @@
 use Rattle.std.proofs.Common.{◌≡◌, take}
-use Rattle.aes3_cell.specs.Words.{low_cells}
+use Rattle.aes3_level.specs.Words.{low_cells}
 use Rattle.aes3_lock.specs.Steps.{last_eight}
 use Rattle.aes3_lock.proofs.slow.first_eight.Given as goal
 

@@ -1,14 +1,14 @@
 use Rattle.std.proofs.Common.{◌≡◌, ◌+◌, ◌%◌, ◌^◌, ◌<◌, [], ◌∷◌, ◌++◌, true, sym, ap, ◌∙◌, arith}
-use Rattle.aes3_cell.specs.Words.{low_cells}
+use Rattle.aes3_level.specs.Words.{low_cells}
 use Rattle.aes3_slot.specs.Rules.{at, rule}
-use Rattle.aes3_block.specs.Blocks.{mark_at}
+use Rattle.aes3_frame.specs.Blocks.{mark_at}
 use Rattle.aes3_lock.proofs.OnePlace.{walk-inside, walk-whole, walk-same, walk-full, walk-stops, walk-all}
 use Rattle.aes3_lock.proofs.slow.go_through.Goals as goal
 use Rattle.aes3_lock.proofs.slow.go_through.Goals.{then-offset-eq-BLOCK_CELLS-via-then-offset-eq-BLOCK_CELLS}
 use Rattle.aes3_lock.proofs.slow.go_through.Goals.{then-offset-eq-BLOCK_CELLS-via-else-offset-eq-BLOCK_CELLS+then-not-may_stand}
 use Rattle.aes3_lock.proofs.slow.go_through.Goals.{then-len, else-len}
-use Rattle.aes3_block.proofs.BlockLemmas.{block_slots_384}
-use Rattle.aes3_block.proofs.CellLaws.{block_len_24576}
+use Rattle.aes3_frame.proofs.BlockLemmas.{block_slots_384}
+use Rattle.aes3_frame.proofs.CellLaws.{block_len_24576}
 
 pub returns-then-offset-eq-BLOCK_CELLS-clause-front : goal.returns-then-offset-eq-BLOCK_CELLS-clause-front
 returns-then-offset-eq-BLOCK_CELLS-clause-front c =

@@ -1,4 +1,4 @@
-use Rattle.aes3_cell.specs.Words.{word_cells, word_len}
+use Rattle.aes3_level.specs.Words.{word_cells, word_len}
 use Rattle.aes3_lock.proofs.SubframeWords.{cells-completed}
 use Rattle.aes3_lock.proofs.subframe.completed.Goals as goal
 

@@ -1,7 +1,7 @@
 use Rattle.std.proofs.Common.{sym, arith}
-use Rattle.aes3_cell.specs.Words.{word_cells, word_len}
+use Rattle.aes3_level.specs.Words.{word_cells, word_len}
 use Rattle.aes3_lock.proofs.subframe.last_of.Goals as goal
-use Rattle.aes3_block.proofs.ReadCells.{last-of}
+use Rattle.aes3_frame.proofs.ReadCells.{last-of}
 
 pub returns-then-word-eq0 : goal.returns-then-word-eq0
 unfolding word_cells word_len

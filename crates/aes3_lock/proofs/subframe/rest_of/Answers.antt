@@ -1,5 +1,5 @@
 use Rattle.std.proofs.Common.{arith}
-use Rattle.aes3_cell.specs.Words.{word_cells, word_len}
+use Rattle.aes3_level.specs.Words.{word_cells, word_len}
 use Rattle.aes3_lock.proofs.SubframeWords.{cells-rest, rest-few}
 use Rattle.aes3_lock.proofs.subframe.rest_of.Goals as goal
 

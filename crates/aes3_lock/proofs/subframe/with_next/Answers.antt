@@ -1,6 +1,6 @@
 use Rattle.std.proofs.Common.{[], ◌∷◌, ◌++◌, ◌∙◌, sym, ap}
-use Rattle.aes3_cell.specs.Words.{low_cells}
-use Rattle.aes3_cell.proofs.WordCells.{low_cells-low, low_cells-high, with_bit-lt}
+use Rattle.aes3_level.specs.Words.{low_cells}
+use Rattle.aes3_level.proofs.WordCells.{low_cells-low, low_cells-high, with_bit-lt}
 use Rattle.aes3_lock.proofs.subframe.with_next.Goals as goal
 
 pub returns-in-Low-clause-cells : goal.returns-in-Low-clause-cells

@@ -3,7 +3,7 @@ use Rattle.std.proofs.Common.{le-leb}
 use Rattle.std.specs.Prelude.{nat_le, if◌then◌else◌}
 use Rattle.std.specs.Int.{bit_at}
 use Rattle.std.proofs.lemmas.Bool.{cases_lt, lt-leb}
-use Rattle.aes3_cell.proofs.Moves.{bit_at-shr, shl-above, shl-below}
+use Rattle.aes3_level.proofs.Moves.{bit_at-shr, shl-above, shl-below}
 use Rattle.aes3_lock.proofs.word_marks.behind_start.Goals as goal
 
 pub returns : goal.returns

@@ -7,5 +7,15 @@ use Rattle.aes3_octets.proofs.laws.raw_are_packed.Goals as goal
 pub returns : goal.returns
 returns c = λ octets.
     let p : Packs (packed_of_raw octets) (cells_of_octets octets) =
-    record { front = octets; unused = 0; last = refl; few = omega arith; filled = sym (append-nil (cells_of_octets octets)) } in
-    (p, is_packed-packs (packed_of_raw octets) (cells_of_octets octets) p, cells-packs (packed_of_raw octets) (cells_of_octets octets) p)
+    record {
+      front = octets;
+      unused = 0;
+      last = refl;
+      few = omega arith;
+      filled
+          = sym (append-nil (cells_of_octets octets));
+    } in (
+      p,
+      is_packed-packs (packed_of_raw octets) (cells_of_octets octets) p,
+      cells-packs (packed_of_raw octets) (cells_of_octets octets) p,
+    )

@@ -11,7 +11,8 @@ loop-i-preserved c =
     let within = c.loop-i-test.true in
     let size : 8 * i + 8 - 8 * i ≡ 8 = omega arith in
     let next : 8 * i + 8 ≡ 8 * (i + 1) = omega arith in
-    more-turned (8 * i) 8 (8 * i + 8 - 8 * i) xs c.loop-i.octets c.turn_few.new.octets c.loop-i.invariant (omega (arith, within)) size
+    more-turned (8 * i) 8 (8 * i + 8 - 8 * i) xs c.loop-i.octets c.turn_few.new.octets c.loop-i.invariant
+    (omega (arith, within)) size
     (c.turn_few.ensures ∙ ap (λ n. map turned (take n (drop (8 * i) c.loop-i.octets))) size)
     ∙ ap (λ n. map turned (take n xs) ++ drop n xs) next
 
@@ -25,5 +26,6 @@ returns c =
     let n = 8 * (length xs / 8) in
     let i : 8 * c.loop-i.i ≡ n = omega (arith, last, end) in
     let size = length-drop n now in
-    rest-turned n (length now - n) xs now c.turn_few-2.new.octets (c.loop-i.invariant ∙ ap (λ k. map turned (take k xs) ++ drop k xs) i) (omega arith) (omega (arith, len))
+    rest-turned n (length now - n) xs now c.turn_few-2.new.octets
+    (c.loop-i.invariant ∙ ap (λ k. map turned (take k xs) ++ drop k xs) i) (omega arith) (omega (arith, len))
     (c.turn_few-2.ensures ∙ ap (map turned) (take_all (length now - n) (drop n now) (omega (arith, size))))

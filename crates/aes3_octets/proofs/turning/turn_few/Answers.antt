@@ -6,4 +6,5 @@ pub returns : goal.returns
 returns c =
     let few = c.requires in
     c.copy_from_slice-2.ensures.after
-    ∙ few-turned (length c.args.octets.now) c.args.octets.now c.copy_from_slice.new.self c.turned_eight.result (omega arith) (omega arith) c.copy_from_slice.ensures.after c.turned_eight.ensures
+    ∙ few-turned (length c.args.octets.now) c.args.octets.now c.copy_from_slice.new.self c.turned_eight.result
+    (omega arith) (omega arith) c.copy_from_slice.ensures.after c.turned_eight.ensures

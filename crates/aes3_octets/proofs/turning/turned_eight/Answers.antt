@@ -1,6 +1,6 @@
 use Rattle.std.proofs.Common.{◌∙◌, ap, arith}
 use Rattle.aes3_cell.specs.Packed.{octets_of}
-use Rattle.aes3_cell.specs.Words.{word_cells}
+use Rattle.aes3_level.specs.Words.{word_cells}
 use Rattle.aes3_octets.proofs.TurnedOctets.{eight-turned}
 use Rattle.aes3_octets.proofs.turning.turned_eight.Goals as goal
 

@@ -1,5 +1,5 @@
 use Rattle.std.proofs.Common.{refl, ◌∙◌, ◌*◌, ◌∷◌, [], arith}
-use Rattle.aes3_cell.proofs.Moves.{gathers-itself, gathers-above, gathers-masked, gathers-at, any_of-one}
+use Rattle.aes3_level.proofs.Moves.{gathers-itself, gathers-above, gathers-masked, gathers-at, any_of-one}
 use Rattle.aes3_recovery.proofs.levels.even_bits.Goals as goal
 
 pub returns : goal.returns

@@ -7,7 +7,10 @@ pub returns-in-Ok-clause-ran : goal.returns-in-Ok-clause-ran
 returns-in-Ok-clause-ran g c = done c.args.job.now c.in-Ok.ensures.ran c.exit_status.ensures (grew-none refl)
 
 pub returns-in-Err-clause-ran : goal.returns-in-Err-clause-ran
-returns-in-Err-clause-ran g c = refused-flushed c.args.job.now c.in-Err.ensures.ran c.flushed.ensures.told c.refuse.ensures.status c.refuse.ensures.line
+returns-in-Err-clause-ran g c
+    = refused-flushed c.args.job.now c.in-Err.ensures.ran c.flushed.ensures.told c.refuse.ensures.status
+    c.refuse.ensures.line
 
 pub returns-in-Err-clause-passed_on : goal.returns-in-Err-clause-passed_on
-returns-in-Err-clause-passed_on g c = passed-on c.args.job.now c.in-Err.ensures.ran c.flushed.ensures.told c.flushed.ensures.passed_on
+returns-in-Err-clause-passed_on g c
+    = passed-on c.args.job.now c.in-Err.ensures.ran c.flushed.ensures.told c.flushed.ensures.passed_on

@@ -1,7 +1,7 @@
 use Rattle.std.proofs.Common.{◌≡◌, ◌%◌, ◌==◌, [], ◌∷◌, refl}
 use Rattle.std.specs.Prelude.{if◌then◌else◌}
-use Rattle.aes3_cell.specs.Cells.{line}
-use Rattle.aes3_cell.specs.Words.{word_cells}
+use Rattle.aes3_level.specs.Cells.{line}
+use Rattle.aes3_level.specs.Words.{word_cells}
 use Rattle.aes3_slot.specs.Slots.{slot_runs, slots_bits}
 use Rattle.aes3_slot.proofs.FourSubframes.{cells-of-four, two-in-turn}
 use Rattle.aes3_slot.proofs.four.slots_cells_of_four.Goals as goal

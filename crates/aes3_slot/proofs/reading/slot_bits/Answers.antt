@@ -1,5 +1,5 @@
 use Rattle.std.proofs.Common.{arith}
-use Rattle.aes3_cell.specs.Words.{word_cells, word_len}
+use Rattle.aes3_level.specs.Words.{word_cells, word_len}
 use Rattle.aes3_slot.specs.Slots.{slots_len}
 use Rattle.aes3_slot.proofs.ReadWords.{slots-read, slots-lt}
 use Rattle.aes3_slot.proofs.reading.slot_bits.Goals as goal

@@ -1,7 +1,7 @@
 use Rattle.std.proofs.Common.{Ok, ap, ◌∙◌, sym, true}
 use Rattle.std.proofs.lemmas.Bool.{true≢false}
-use Rattle.aes3_cell.specs.Cells.{line}
-use Rattle.aes3_cell.specs.Words.{word_cells}
+use Rattle.aes3_level.specs.Cells.{line}
+use Rattle.aes3_level.specs.Words.{word_cells}
 use Rattle.aes3_slot.specs.Slots.{slot_runs, payload_bits}
 use Rattle.aes3_slot.specs.Fronts.{with_some_parity}
 use Rattle.aes3_slot.proofs.Fronts.{front-from-lawful, lawful-from-front}

@@ -1,7 +1,7 @@
 use Rattle.std.proofs.Common.{◌%◌, ◌==◌, ◌∙◌, Fits, ap, refl, sym, arith, w64}
 use Rattle.std.specs.Prelude.{if◌then◌else◌}
 use Rattle.std.proofs.lemmas.Simd.{Each1-get_or}
-use Rattle.aes3_cell.specs.Cells.{line}
+use Rattle.aes3_level.specs.Cells.{line}
 use Rattle.aes3_slot.specs.Slots.{mark_runs}
 use Rattle.aes3_slot.proofs.EightSubframes.{Expected, in-turn, wrong-lanes}
 use Rattle.aes3_slot.proofs.reading.wrong_cells_of_eight.Goals as goal

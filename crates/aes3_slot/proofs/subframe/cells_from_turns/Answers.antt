@@ -1,4 +1,4 @@
-use Rattle.aes3_cell.specs.Words.{word_cells, word_len}
+use Rattle.aes3_level.specs.Words.{word_cells, word_len}
 use Rattle.aes3_slot.proofs.Turns.{sums-itself, sums-doubled, cells-sums}
 use Rattle.aes3_slot.proofs.subframe.cells_from_turns.Goals as goal
 

@@ -1,4 +1,4 @@
-use Rattle.aes3_cell.specs.Words.{word_len}
+use Rattle.aes3_level.specs.Words.{word_len}
 use Rattle.aes3_slot.specs.Slots.{slots_len}
 use Rattle.aes3_slot.proofs.Turns.{turns-word}
 use Rattle.aes3_slot.proofs.subframe.slot_turns.Goals as goal

@@ -1,10 +1,10 @@
 use Rattle.std.proofs.Common.{sym, ap, ◌∙◌, arith, map}
-use Rattle.aes3_cell.specs.Cells.{other, line}
-use Rattle.aes3_cell.specs.Words.{word_cells, word_len}
+use Rattle.aes3_level.specs.Cells.{other, line}
+use Rattle.aes3_level.specs.Words.{word_cells, word_len}
 use Rattle.aes3_slot.specs.Slots.{slot_runs, slots_bits}
 use Rattle.aes3_slot.specs.Turns.{cells_of_turns, run_turns}
 use Rattle.aes3_slot.proofs.Turns.{line-turns, cells_of_turns-other, low_cells-not}
-use Rattle.aes3_cell.specs.declared.level.Level.TheVariants.{Low, High}
+use Rattle.aes3_level.specs.declared.level.Level.TheVariants.{Low, High}
 use Rattle.aes3_slot.proofs.subframe.slots_cells.Goals as goal
 
 pub returns-in-Low : goal.returns-in-Low

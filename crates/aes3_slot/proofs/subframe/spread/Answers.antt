@@ -1,6 +1,6 @@
 use Rattle.std.proofs.Common.{refl, ◌∙◌, ap, arith, ◌%◌, ◌/◌, cond, eqb}
 use Rattle.std.specs.Int.{bit_at}
-use Rattle.aes3_cell.proofs.Moves.{gathers-itself, gathers-below, gathers-masked, gathers-at, twice, any_of-twice}
+use Rattle.aes3_level.proofs.Moves.{gathers-itself, gathers-below, gathers-masked, gathers-at, twice, any_of-twice}
 use Rattle.aes3_slot.proofs.subframe.spread.Goals as goal
 
 pub returns : goal.returns

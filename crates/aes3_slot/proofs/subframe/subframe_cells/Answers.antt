@@ -1,5 +1,5 @@
 use Rattle.std.proofs.Common.{ap, ◌∙◌, arith}
-use Rattle.aes3_cell.specs.Cells.{line}
+use Rattle.aes3_level.specs.Cells.{line}
 use Rattle.aes3_slot.specs.Slots.{payload_len, slot_runs, slots_len}
 use Rattle.aes3_bits.proofs.Bits.{low_bits-with_parity}
 use Rattle.aes3_slot.proofs.subframe.subframe_cells.Goals as goal

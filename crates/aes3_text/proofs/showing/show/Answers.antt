@@ -1,13 +1,14 @@
 use Rattle.aes3_lock.specs.Reports.{blocks}
 use Rattle.aes3_input.proofs.InputRuns.{run-wrote}
 use Rattle.aes3_input.proofs.CellRuns.{cells-run}
-use Rattle.aes3_engine.specs.BlockRuns.{decided_blocks}
+use Rattle.aes3_runs.specs.BlockRuns.{decided_blocks}
 use Rattle.aes3_text.specs.Runs.{status_lines}
 use Rattle.aes3_text.proofs.RunLines.{show-whole, show-begun}
 use Rattle.aes3_text.proofs.showing.show.Goals as goal
 
 pub returns-clause-run : goal.returns-clause-run
-returns-clause-run g c = cells-run c.args.input (λ d. status_lines (blocks d)) (λ d. status_lines (decided_blocks d)) show-whole show-begun c.run_blocks.ensures.ran
+returns-clause-run g c = cells-run c.args.input (λ d. status_lines (blocks d)) (λ d. status_lines (decided_blocks d))
+    show-whole show-begun c.run_blocks.ensures.ran
 
 pub returns-clause-lines : goal.returns-clause-lines
 returns-clause-lines g c = run-wrote c.run_blocks.result (returns-clause-run g c)

@@ -1,7 +1,7 @@
 use Rattle.std.proofs.Common.{◌-◌, ◌/◌, ◌^◌, ◌++◌, sym, ap, ◌∙◌}
 use Rattle.std.specs.Prelude.{option_to_list, option_map}
 use Rattle.std.proofs.lemmas.Result.{err_from_is_err_and}
-use Rattle.aes3_cell.specs.Words.{low_cells}
+use Rattle.aes3_level.specs.Words.{low_cells}
 use Rattle.aes3_cell.proofs.Growing.{front-is, front-more}
 use Rattle.aes3_lock.specs.Following.{report_in}
 use Rattle.aes3_lock.specs.Reports.{decided}
@@ -24,7 +24,9 @@ returns-in_err-take-in-Some g c =
       ran = rw q.1 (
         c.in_err-take-in-Some.ensures.err_count,
         (λ b h.
-            front-is (sym (ap (λ z. behind w b z) (cells-parted c.args.word n c.args.len p.within) ∙ items-join w b d rest))
-            (front-more (c.in_err-take-in-Some.ensures.err_grew b d h.1 (p.report b h.0 ∙ ap (λ o. decided b ++ o) told) (c.seen-seen.ensures ∙ (p.follows b h.0).seen)) _)),
+            front-is (sym (ap (λ z. behind w b z) (cells-parted c.args.word n c.args.len p.within)
+            ∙ items-join w b d rest))
+            (front-more (c.in_err-take-in-Some.ensures.err_grew b d h.1 (p.report b h.0 ∙ ap (λ o. decided b ++ o) told)
+            (c.seen-seen.ensures ∙ (p.follows b h.0).seen)) _)),
       );
     }

@@ -1,10 +1,37 @@
-use Rattle.std.proofs.Common.{◌≡◌, ◌+◌, ◌-◌, ◌*◌, ◌^◌, ◌<◌, ◌≤◌, ◌++◌, List, length, take, drop, get_or, arith, ap, ◌∙◌, length-append, length-drop}
+use Rattle.std.proofs.Common.{
+  ◌≡◌,
+  ◌+◌,
+  ◌-◌,
+  ◌*◌,
+  ◌^◌,
+  ◌<◌,
+  ◌≤◌,
+  ◌++◌,
+  List,
+  length,
+  take,
+  drop,
+  get_or,
+  arith,
+  ap,
+  ◌∙◌,
+  length-append,
+  length-drop,
+}
 use Rattle.std.specs.List.{flat_map}
 use Rattle.std.proofs.lemmas.List.{length-take-le, take_rest, take_all}
 use Rattle.std.proofs.lemmas.Result.{err_from_is_err_and}
-use Rattle.aes3_cell.specs.Words.{word_len, word_cells}
-use Rattle.aes3_input.proofs.Handing.{handed-is, handed-cells, handed-cells-front, length-words, words-more, words-parted, words-further}
-use Rattle.aes3_cell.specs.declared.level.Level.{Level}
+use Rattle.aes3_level.specs.Words.{word_len, word_cells}
+use Rattle.aes3_input.proofs.Handing.{
+  handed-is,
+  handed-cells,
+  handed-cells-front,
+  length-words,
+  words-more,
+  words-parted,
+  words-further,
+}
+use Rattle.aes3_level.specs.declared.level.Level.{Level}
 use Rattle.aes3_lock.specs.Following.{Follows}
 use Rattle.aes3_account.proofs.counted.CountedTaker.words.Goals as goal
 
@@ -61,8 +88,10 @@ returns-in_err-pass g c =
     record {
       ran = rw p.1 (
         c.in_err-pass.ensures.err_count ∙ ap (λ k. k + 1) v.quiet,
-        handed-cells-front b (flat_map word_cells (drop (at + n) ws)) (words-further ws rest at n (take_rest ws at)) (words-parted ws (at + n)) v.handed
-            (λ d q. c.in_err-pass.ensures.err_grew d b q.1 (c.take_words-at.ensures.none d q.0) (c.seen-seen.ensures ∙ (c.take_words-at.ensures.follows d q.0).seen)),
+        handed-cells-front b (flat_map word_cells (drop (at + n) ws)) (words-further ws rest at n (take_rest ws at))
+            (words-parted ws (at + n)) v.handed
+            (λ d q. c.in_err-pass.ensures.err_grew d b q.1 (c.take_words-at.ensures.none d q.0)
+            (c.seen-seen.ensures ∙ (c.take_words-at.ensures.follows d q.0).seen)),
       );
     }
 
@@ -75,9 +104,16 @@ returns-then-at-words g c =
     let rest = take (length ws - at) (drop at ws) in
     let b = flat_map word_cells (take n rest) in
     let h =
-    handed-cells {f' = λ (d : List Level). Follows c.take_words-at.new.self d × g.R.CellReporter.follows c.pass.new.self d} b (words-further ws rest at n (take_rest ws at)) v.handed c.in_ok-pass.ensures.same
-    (λ d q. (c.take_words-at.ensures.follows d q.0, c.in_ok-pass.ensures.next d b q.1 (c.take_words-at.ensures.none d q.0) (c.seen-seen.ensures ∙ (c.take_words-at.ensures.follows d q.0).seen)))
-    (λ d q. c.in_ok-pass.ensures.grew d b q.1 (c.take_words-at.ensures.none d q.0) (c.seen-seen.ensures ∙ (c.take_words-at.ensures.follows d q.0).seen)) in
+    handed-cells {f' = λ (d : List Level). Follows c.take_words-at.new.self d
+    × g.R.CellReporter.follows c.pass.new.self d} b (words-further ws rest at n (take_rest ws at))
+    v.handed c.in_ok-pass.ensures.same
+    (λ d q. (
+      c.take_words-at.ensures.follows d q.0,
+      c.in_ok-pass.ensures.next d b q.1 (c.take_words-at.ensures.none d q.0)
+          (c.seen-seen.ensures ∙ (c.take_words-at.ensures.follows d q.0).seen),
+    ))
+    (λ d q. c.in_ok-pass.ensures.grew d b q.1 (c.take_words-at.ensures.none d q.0)
+    (c.seen-seen.ensures ∙ (c.take_words-at.ensures.follows d q.0).seen)) in
     let e = handed-is (ap (flat_map word_cells) (take_all (at + n) ws (omega arith))) h in
     record { ran = (e.same, e.follows, e.grew, c.in_ok-pass.ensures.count ∙ v.quiet) }
 
@@ -92,9 +128,16 @@ cells-requires-clause-following g c =
     let rest = take (length ws - at) (drop at ws) in
     let b = flat_map word_cells (take n rest) in
     let h =
-    handed-cells {f' = λ (d : List Level). Follows c.take_words-at.new.self d × g.R.CellReporter.follows c.pass.new.self d} b (words-further ws rest at n (take_rest ws at)) v.handed c.in_ok-pass.ensures.same
-    (λ d q. (c.take_words-at.ensures.follows d q.0, c.in_ok-pass.ensures.next d b q.1 (c.take_words-at.ensures.none d q.0) (c.seen-seen.ensures ∙ (c.take_words-at.ensures.follows d q.0).seen)))
-    (λ d q. c.in_ok-pass.ensures.grew d b q.1 (c.take_words-at.ensures.none d q.0) (c.seen-seen.ensures ∙ (c.take_words-at.ensures.follows d q.0).seen)) in
+    handed-cells {f' = λ (d : List Level). Follows c.take_words-at.new.self d
+    × g.R.CellReporter.follows c.pass.new.self d} b (words-further ws rest at n (take_rest ws at))
+    v.handed c.in_ok-pass.ensures.same
+    (λ d q. (
+      c.take_words-at.ensures.follows d q.0,
+      c.in_ok-pass.ensures.next d b q.1 (c.take_words-at.ensures.none d q.0)
+          (c.seen-seen.ensures ∙ (c.take_words-at.ensures.follows d q.0).seen),
+    ))
+    (λ d q. c.in_ok-pass.ensures.grew d b q.1 (c.take_words-at.ensures.none d q.0)
+    (c.seen-seen.ensures ∙ (c.take_words-at.ensures.follows d q.0).seen)) in
     let all = flat_map word_cells (take (at + n) ws) in
     let a = length-append q.0 all in
     let k = length-words (take (at + n) ws) in
@@ -111,13 +154,21 @@ returns-in_err-cells g c =
     let rest = take (length ws - at) (drop at ws) in
     let b = flat_map word_cells (take n rest) in
     let h =
-    handed-cells {f' = λ (d : List Level). Follows c.take_words-at.new.self d × g.R.CellReporter.follows c.pass.new.self d} b (words-further ws rest at n (take_rest ws at)) v.handed c.in_ok-pass.ensures.same
-    (λ d q. (c.take_words-at.ensures.follows d q.0, c.in_ok-pass.ensures.next d b q.1 (c.take_words-at.ensures.none d q.0) (c.seen-seen.ensures ∙ (c.take_words-at.ensures.follows d q.0).seen)))
-    (λ d q. c.in_ok-pass.ensures.grew d b q.1 (c.take_words-at.ensures.none d q.0) (c.seen-seen.ensures ∙ (c.take_words-at.ensures.follows d q.0).seen)) in
+    handed-cells {f' = λ (d : List Level). Follows c.take_words-at.new.self d
+    × g.R.CellReporter.follows c.pass.new.self d} b (words-further ws rest at n (take_rest ws at))
+    v.handed c.in_ok-pass.ensures.same
+    (λ d q. (
+      c.take_words-at.ensures.follows d q.0,
+      c.in_ok-pass.ensures.next d b q.1 (c.take_words-at.ensures.none d q.0)
+          (c.seen-seen.ensures ∙ (c.take_words-at.ensures.follows d q.0).seen),
+    ))
+    (λ d q. c.in_ok-pass.ensures.grew d b q.1 (c.take_words-at.ensures.none d q.0)
+    (c.seen-seen.ensures ∙ (c.take_words-at.ensures.follows d q.0).seen)) in
     let r = c.in_err-cells.ensures.ran in
     let o : at + n < length ws = omega arith in
     let front =
-    handed-cells-front (word_cells (get_or ws (at + n) 0)) (flat_map word_cells (drop (at + n + 1) ws)) (words-more ws (at + n) o) (words-parted ws (at + n + 1)) h r.1 in
+    handed-cells-front (word_cells (get_or ws (at + n) 0)) (flat_map word_cells (drop (at + n + 1) ws))
+    (words-more ws (at + n) o) (words-parted ws (at + n + 1)) h r.1 in
     let p = err_from_is_err_and c.from_residual-in_err-cells.result c.from_residual-in_err-cells.ensures.1 in
     record {
       ran = rw p.1 (
@@ -136,9 +187,16 @@ handing-preserved g c =
     let rest = take (length ws - at) (drop at ws) in
     let b = flat_map word_cells (take n rest) in
     let h =
-    handed-cells {f' = λ (d : List Level). Follows c.take_words-at.new.self d × g.R.CellReporter.follows c.pass.new.self d} b (words-further ws rest at n (take_rest ws at)) v.handed c.in_ok-pass.ensures.same
-    (λ d q. (c.take_words-at.ensures.follows d q.0, c.in_ok-pass.ensures.next d b q.1 (c.take_words-at.ensures.none d q.0) (c.seen-seen.ensures ∙ (c.take_words-at.ensures.follows d q.0).seen)))
-    (λ d q. c.in_ok-pass.ensures.grew d b q.1 (c.take_words-at.ensures.none d q.0) (c.seen-seen.ensures ∙ (c.take_words-at.ensures.follows d q.0).seen)) in
+    handed-cells {f' = λ (d : List Level). Follows c.take_words-at.new.self d
+    × g.R.CellReporter.follows c.pass.new.self d} b (words-further ws rest at n (take_rest ws at))
+    v.handed c.in_ok-pass.ensures.same
+    (λ d q. (
+      c.take_words-at.ensures.follows d q.0,
+      c.in_ok-pass.ensures.next d b q.1 (c.take_words-at.ensures.none d q.0)
+          (c.seen-seen.ensures ∙ (c.take_words-at.ensures.follows d q.0).seen),
+    ))
+    (λ d q. c.in_ok-pass.ensures.grew d b q.1 (c.take_words-at.ensures.none d q.0)
+    (c.seen-seen.ensures ∙ (c.take_words-at.ensures.follows d q.0).seen)) in
     let r = c.in_ok-cells.ensures.ran in
     record {
       within = omega arith;

@@ -30,15 +30,20 @@ pub returns-in_err-tell_ending-clause-wrote : goal.returns-in_err-tell_ending-cl
 returns-in_err-tell_ending-clause-wrote g c =
     let k = c.args.self.now in
     let x = report_in c.args.lock.now c.args.ending in
-    let p = err_from_is_err_and c.from_residual-in_err-tell_ending.result c.from_residual-in_err-tell_ending.ensures.1 in
+    let p = err_from_is_err_and c.from_residual-in_err-tell_ending.result c.from_residual-in_err-tell_ending.ensures.1
+    in
     let f = c.in_err-tell_ending.ensures.err in
     rw p.1 (record {
       grew = tt;
       count = tt;
       err = (
         f.0 ∙ ap (λ m. m + 1) c.in_ok-tell_before.ensures.wrote.count,
-        front-is (ap (λ z. account_lines k.lines (gaps_before k.tally.blocks k.place x) ++ z) (sym (append-nil (told_line k.lines x))) ∙ sym (lines-append k.lines (gaps_before k.tally.blocks k.place x) (reported x ∷ [])))
-            (front-join c.in_ok-tell_before.ensures.wrote.grew (front-is (ending-told k.lines c.args.ending (read_words c.args.lock.now.words)) (rw c.tell_before.ensures.lines at f.1))),
+        front-is (ap (λ z. account_lines k.lines (gaps_before k.tally.blocks k.place x) ++ z)
+            (sym (append-nil (told_line k.lines x)))
+            ∙ sym (lines-append k.lines (gaps_before k.tally.blocks k.place x) (reported x ∷ [])))
+            (front-join c.in_ok-tell_before.ensures.wrote.grew
+            (front-is (ending-told k.lines c.args.ending (read_words c.args.lock.now.words))
+            (rw c.tell_before.ensures.lines at f.1))),
       );
     })
 
@@ -47,9 +52,12 @@ returns-clause-wrote g c =
     let k = c.args.self.now in
     let x = report_in c.args.lock.now c.args.ending in
     record {
-      grew = grew-is (ap (λ z. account_lines k.lines (gaps_before k.tally.blocks k.place x) ++ z) (sym (append-nil (told_line k.lines x))) ∙ sym (lines-append k.lines (gaps_before k.tally.blocks k.place x) (reported x ∷ [])))
+      grew = grew-is (ap (λ z. account_lines k.lines (gaps_before k.tally.blocks k.place x) ++ z)
+          (sym (append-nil (told_line k.lines x)))
+          ∙ sym (lines-append k.lines (gaps_before k.tally.blocks k.place x) (reported x ∷ [])))
           (grew-join c.in_ok-tell_before.ensures.wrote.grew
-          (grew-is (ending-told k.lines c.args.ending (read_words c.args.lock.now.words)) (rw c.tell_before.ensures.lines at c.in_ok-tell_ending.ensures.grew)));
+          (grew-is (ending-told k.lines c.args.ending (read_words c.args.lock.now.words))
+          (rw c.tell_before.ensures.lines at c.in_ok-tell_ending.ensures.grew)));
       count = c.in_ok-tell_ending.ensures.count ∙ c.in_ok-tell_before.ensures.wrote.count;
       err = tt;
     }

@@ -19,13 +19,15 @@ returns-in_err-line_of_gap-clause-wrote g c =
       count = tt;
       err = (
         c.in_err-line_of_gap.ensures.err.0 ∙ ap (λ n. n + 1) v.quiet,
-        full-front c.args.self.now.lines c.args.self.now.place k (full_count c.args.self.now.place c.args.to) c.gaps.self.place v.place (omega arith) v.grew c.in_err-line_of_gap.ensures.err.1,
+        full-front c.args.self.now.lines c.args.self.now.place k (full_count c.args.self.now.place c.args.to)
+            c.gaps.self.place v.place (omega arith) v.grew c.in_err-line_of_gap.ensures.err.1,
       );
     })
 
 pub overflow_add-self : goal.overflow_add-self
 overflow_add-self g c =
-    let p : c.gaps.self.place ≡ c.args.self.now.place + 24576 * c.gaps._told = c.gaps.invariant.place ∙ ap (λ (n : ℕ). c.args.self.now.place + n * c.gaps._told) block_len_24576 in
+    let p : c.gaps.self.place ≡ c.args.self.now.place + 24576 * c.gaps._told
+    = c.gaps.invariant.place ∙ ap (λ (n : ℕ). c.args.self.now.place + n * c.gaps._told) block_len_24576 in
     omega arith
 
 pub gaps-preserved : goal.gaps-preserved
@@ -36,9 +38,11 @@ gaps-preserved g c =
     record {
       lines = v.lines;
       tally = v.tally;
-      place = rw b (let p : c.gaps.self.place ≡ c.args.self.now.place + 24576 * c.gaps._told = v.place ∙ ap (λ (n : ℕ). c.args.self.now.place + n * c.gaps._told) b in omega arith);
+      place = rw b (let p : c.gaps.self.place ≡ c.args.self.now.place + 24576 * c.gaps._told
+          = v.place ∙ ap (λ (n : ℕ). c.args.self.now.place + n * c.gaps._told) b in omega arith);
       lost = (let l = v.lost in omega arith);
-      grew = grew-is (full-line c.args.self.now.lines c.args.self.now.place k c.gaps.self.place v.place) (grew-join v.grew c.in_ok-line_of_gap.ensures.grew);
+      grew = grew-is (full-line c.args.self.now.lines c.args.self.now.place k c.gaps.self.place v.place)
+          (grew-join v.grew c.in_ok-line_of_gap.ensures.grew);
       quiet = c.in_ok-line_of_gap.ensures.count ∙ v.quiet;
     }
 
@@ -59,4 +63,9 @@ pub returns-clause-wrote : goal.returns-clause-wrote
 returns-clause-wrote g c =
     let s = c.saturating_sub-count.result in
     let e = count-is c.args.self.now.place c.args.to s c.gaps._told (omega arith) (omega arith) in
-    record { grew = grew-is (ap (λ k. account_lines c.args.self.now.lines (full_gaps c.args.self.now.place k)) e) c.gaps.invariant.grew; count = c.gaps.invariant.quiet; err = tt }
+    record {
+      grew = grew-is (ap (λ k. account_lines c.args.self.now.lines (full_gaps c.args.self.now.place k)) e)
+          c.gaps.invariant.grew;
+      count = c.gaps.invariant.quiet;
+      err = tt;
+    }

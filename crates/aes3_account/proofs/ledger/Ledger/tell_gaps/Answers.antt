@@ -41,15 +41,18 @@ returns-in_err-tell_rest-clause-wrote g c =
 pub returns-clause-lost : goal.returns-clause-lost
 returns-clause-lost g c =
     let k = c.args.self.now in
-    gaps-lost c.args.counts k.place c.args.to c.tell_full.new.self.place k.lost c.tell_full.new.self.lost c.tell_rest.new.self.lost
+    gaps-lost c.args.counts k.place c.args.to c.tell_full.new.self.place k.lost c.tell_full.new.self.lost
+    c.tell_rest.new.self.lost
     c.in_ok-tell_full.ensures.place c.in_ok-tell_full.ensures.lost c.tell_rest.ensures.lost
 
 pub returns-clause-wrote : goal.returns-clause-wrote
 returns-clause-wrote g c =
     let k = c.args.self.now in
     record {
-      grew = grew-is (gaps-lines k.lines c.args.counts k.place c.args.to c.tell_full.new.self.place c.in_ok-tell_full.ensures.place)
-          (grew-join c.in_ok-tell_full.ensures.wrote.grew (rw c.tell_full.ensures.lines at c.in_ok-tell_rest.ensures.wrote.grew));
+      grew = grew-is (gaps-lines k.lines c.args.counts k.place c.args.to c.tell_full.new.self.place
+          c.in_ok-tell_full.ensures.place)
+          (grew-join c.in_ok-tell_full.ensures.wrote.grew
+          (rw c.tell_full.ensures.lines at c.in_ok-tell_rest.ensures.wrote.grew));
       count = c.in_ok-tell_rest.ensures.wrote.count ∙ c.in_ok-tell_full.ensures.wrote.count;
       err = tt;
     }

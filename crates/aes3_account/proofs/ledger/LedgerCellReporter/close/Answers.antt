@@ -15,11 +15,14 @@ pub returns-in_err-tell_gaps-clause-err_grew : goal.returns-in_err-tell_gaps-cla
 returns-in_err-tell_gaps-clause-err_grew g c =
     let k = c.args.self.now in
     let p = err_from_is_err_and c.from_residual.result c.from_residual.ensures.1 in
-    rw p.1 (λ d h q n. front-is (close-lines k.lines k.place c.args.seen d h.place_is n q) c.in_err-tell_gaps.ensures.wrote.err.1)
+    rw p.1 (λ d h q n. front-is (close-lines k.lines k.place c.args.seen d h.place_is n q)
+    c.in_err-tell_gaps.ensures.wrote.err.1)
 
 pub returns-clause-done : goal.returns-clause-done
 returns-clause-done g c =
-    λ d h q n. rw c.tell_gaps.ensures.tally (close-accounts c.tell_gaps.new.self.lost c.args.seen d h q n c.requires.following.1 c.in_ok-tell_gaps.ensures.lost)
+    λ d h q n. rw c.tell_gaps.ensures.tally
+    (close-accounts c.tell_gaps.new.self.lost c.args.seen d h q n c.requires.following.1
+    c.in_ok-tell_gaps.ensures.lost)
 
 pub returns-clause-grew : goal.returns-clause-grew
 returns-clause-grew g c =

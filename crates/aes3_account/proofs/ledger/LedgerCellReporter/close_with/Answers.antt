@@ -7,7 +7,14 @@ use Rattle.aes3_lock.specs.Reports.{decided}
 use Rattle.aes3_lock.proofs.Tallies.{few-decided}
 use Rattle.aes3_account.specs.Gaps.{accounted, behind_report, gaps}
 use Rattle.aes3_account.specs.GapLines.{account_lines}
-use Rattle.aes3_account.proofs.Accounts.{lost-room, near-last, reached-is, report-lines, close_with-lines, close_with-accounts}
+use Rattle.aes3_account.proofs.Accounts.{
+  lost-room,
+  near-last,
+  reached-is,
+  report-lines,
+  close_with-lines,
+  close_with-accounts,
+}
 use Rattle.aes3_account.proofs.ledger.LedgerCellReporter.close_with.Goals as goal
 
 pub tell-requires-clause-few : goal.tell-requires-clause-few
@@ -41,7 +48,8 @@ returns-in_err-tell-clause-err_grew g c =
     rw p.1 (λ d h q n.
     let r = behind_report (accounted d) x in
     front-is (close_with-lines k.lines r (length d) d x refl refl q)
-    (front-more (front-is (report-lines k.lines k.tally.blocks k.place d x h.tally.blocks_is h.place_is) c.in_err-tell.ensures.wrote.err.1)
+    (front-more (front-is (report-lines k.lines k.tally.blocks k.place d x h.tally.blocks_is h.place_is)
+    c.in_err-tell.ensures.wrote.err.1)
     (account_lines k.lines (gaps false r (length d)))))
 
 pub tell_gaps-requires-clause-few : goal.tell_gaps-requires-clause-few
@@ -60,8 +68,10 @@ returns-in_err-tell_gaps-clause-err_grew g c =
     let x = report_in c.args.lock.now c.args.ending in
     let p = err_from_is_err_and c.from_residual-in_err-tell_gaps.result c.from_residual-in_err-tell_gaps.ensures.1 in
     rw p.1 (λ d h q n.
-    front-is (close_with-lines k.lines m.place c.args.seen d x (reached-is m.place d x h c.in_ok-tell.ensures.place) n q)
-    (front-join (grew-is (report-lines k.lines k.tally.blocks k.place d x h.tally.blocks_is h.place_is) c.in_ok-tell.ensures.wrote.grew)
+    front-is (close_with-lines k.lines m.place c.args.seen d x (reached-is m.place d x h c.in_ok-tell.ensures.place)
+    n q)
+    (front-join (grew-is (report-lines k.lines k.tally.blocks k.place d x h.tally.blocks_is h.place_is)
+    c.in_ok-tell.ensures.wrote.grew)
     (rw c.tell.ensures.lines at c.in_err-tell_gaps.ensures.wrote.err.1)))
 
 pub returns-clause-done : goal.returns-clause-done
@@ -70,7 +80,8 @@ returns-clause-done g c =
     let x = report_in c.args.lock.now c.args.ending in
     λ d h q n. rw c.tell_gaps.ensures.tally
     (close_with-accounts m.place m.lost c.tell_gaps.new.self.lost c.args.seen d x h q n c.requires.following.1
-    c.in_ok-tell.ensures.place c.in_ok-tell.ensures.lost (c.in_ok-tell.ensures.tally (decided d) h.tally) c.in_ok-tell_gaps.ensures.lost)
+    c.in_ok-tell.ensures.place c.in_ok-tell.ensures.lost (c.in_ok-tell.ensures.tally (decided d) h.tally)
+    c.in_ok-tell_gaps.ensures.lost)
 
 pub returns-clause-grew : goal.returns-clause-grew
 returns-clause-grew g c =
@@ -79,5 +90,6 @@ returns-clause-grew g c =
     let x = report_in c.args.lock.now c.args.ending in
     λ d h q n.
     grew-is (close_with-lines k.lines m.place c.args.seen d x (reached-is m.place d x h c.in_ok-tell.ensures.place) n q)
-    (grew-join (grew-is (report-lines k.lines k.tally.blocks k.place d x h.tally.blocks_is h.place_is) c.in_ok-tell.ensures.wrote.grew)
+    (grew-join (grew-is (report-lines k.lines k.tally.blocks k.place d x h.tally.blocks_is h.place_is)
+    c.in_ok-tell.ensures.wrote.grew)
     (rw c.tell.ensures.lines at c.in_ok-tell_gaps.ensures.wrote.grew))

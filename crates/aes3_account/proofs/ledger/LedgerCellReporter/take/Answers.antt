@@ -1,7 +1,7 @@
 use Rattle.std.proofs.Common.{◌-◌, ◌++◌, length, length-append, refl, arith}
 use Rattle.std.proofs.lemmas.Result.{err_from_is_err_and}
 use Rattle.aes3_cell.proofs.Growing.{grew-is, grew-join, front-is, front-join, front-more}
-use Rattle.aes3_block.specs.Blocks.{block_len}
+use Rattle.aes3_frame.specs.Blocks.{block_len}
 use Rattle.aes3_lock.specs.Following.{report_in}
 use Rattle.aes3_lock.specs.Reports.{decided}
 use Rattle.aes3_lock.proofs.Tallies.{few-decided}
@@ -43,7 +43,8 @@ returns-in_err-tell-clause-err_grew g c =
     let r = behind_report (accounted d) x in
     let s = length (d ++ e) - block_len in
     front-is (take-lines k.lines r s d e x refl refl q)
-    (front-more (front-is (report-lines k.lines k.tally.blocks k.place d x h.tally.blocks_is h.place_is) c.in_err-tell.ensures.wrote.err.1)
+    (front-more (front-is (report-lines k.lines k.tally.blocks k.place d x h.tally.blocks_is h.place_is)
+    c.in_err-tell.ensures.wrote.err.1)
     (account_lines k.lines (full_gaps r (full_count r s)))))
 
 pub tell_full-requires-clause-few : goal.tell_full-requires-clause-few
@@ -63,8 +64,10 @@ returns-in_err-tell_full-clause-err_grew g c =
     let s = c.saturating_sub.result in
     let p = err_from_is_err_and c.from_residual-in_err-tell_full.result c.from_residual-in_err-tell_full.ensures.1 in
     rw p.1 (λ d e h q n.
-    front-is (take-lines k.lines m.place s d e x (reached-is m.place d x h c.in_ok-tell.ensures.place) (less s c.args.seen _ (omega arith) n) q)
-    (front-join (grew-is (report-lines k.lines k.tally.blocks k.place d x h.tally.blocks_is h.place_is) c.in_ok-tell.ensures.wrote.grew)
+    front-is (take-lines k.lines m.place s d e x (reached-is m.place d x h c.in_ok-tell.ensures.place)
+    (less s c.args.seen _ (omega arith) n) q)
+    (front-join (grew-is (report-lines k.lines k.tally.blocks k.place d x h.tally.blocks_is h.place_is)
+    c.in_ok-tell.ensures.wrote.grew)
     (rw c.tell.ensures.lines at c.in_err-tell_full.ensures.wrote.err.1)))
 
 pub returns-clause-next : goal.returns-clause-next
@@ -85,6 +88,8 @@ returns-clause-grew g c =
     let x = report_in c.args.lock.now c.args.ending in
     let s = c.saturating_sub.result in
     λ d e h q n.
-    grew-is (take-lines k.lines m.place s d e x (reached-is m.place d x h c.in_ok-tell.ensures.place) (less s c.args.seen _ (omega arith) n) q)
-    (grew-join (grew-is (report-lines k.lines k.tally.blocks k.place d x h.tally.blocks_is h.place_is) c.in_ok-tell.ensures.wrote.grew)
+    grew-is (take-lines k.lines m.place s d e x (reached-is m.place d x h c.in_ok-tell.ensures.place)
+    (less s c.args.seen _ (omega arith) n) q)
+    (grew-join (grew-is (report-lines k.lines k.tally.blocks k.place d x h.tally.blocks_is h.place_is)
+    c.in_ok-tell.ensures.wrote.grew)
     (rw c.tell.ensures.lines at c.in_ok-tell_full.ensures.wrote.grew))

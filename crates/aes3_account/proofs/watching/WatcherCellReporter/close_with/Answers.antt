@@ -27,8 +27,11 @@ count-requires g c =
     let h = c.requires.following in
     let f = few-decided h.0 in
     let e = h.2 in
-    let s = h.1 in
-    (decided h.0, omega arith, same-tally c.args.self.now.tally c.take_report.new.self.tally (decided h.0) c.take_report.ensures.tally h.4.tally)
+    let s = h.1 in (
+      decided h.0,
+      omega arith,
+      same-tally c.args.self.now.tally c.take_report.new.self.tally (decided h.0) c.take_report.ensures.tally h.4.tally,
+    )
 
 pub end-requires-clause-few : goal.end-requires-clause-few
 end-requires-clause-few g c =
@@ -46,7 +49,8 @@ returns-clause-done g c =
     if-any c.put_events.result (λ d h q n.
     same-ended r.state.losses c.count.new.self r.tally d c.end.ensures.tally
     (close_with-ended m.state r.state c.args.seen d x h q n c.requires.following.1 c.take_report.ensures.state
-    (c.count.ensures (decided d) (same-tally k.tally m.tally (decided d) c.take_report.ensures.tally h.tally)) c.end.ensures.state))
+    (c.count.ensures (decided d) (same-tally k.tally m.tally (decided d) c.take_report.ensures.tally h.tally))
+    c.end.ensures.state))
 
 pub returns-clause-grew : goal.returns-clause-grew
 returns-clause-grew g c =

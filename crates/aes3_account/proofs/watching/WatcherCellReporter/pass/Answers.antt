@@ -30,7 +30,8 @@ returns-clause-grew g c =
     let s = c.saturating_sub.result in
     let told = put-one _ c.deref.ensures.0 c.go_on.ensures.events c.new-events.ensures in
     if-ok c.put_events.result (λ w d e h q n.
-    grew-is (ap₂ event_lines c.go_on.ensures.style told ∙ pass-lines k.style k.state s d e h.state_is (less s c.args.seen _ (omega arith) n) q) w)
+    grew-is (ap₂ event_lines c.go_on.ensures.style told
+    ∙ pass-lines k.style k.state s d e h.state_is (less s c.args.seen _ (omega arith) n) q) w)
     c.put_events.ensures.grew
 
 pub returns-clause-err_grew : goal.returns-clause-err_grew
@@ -39,5 +40,6 @@ returns-clause-err_grew g c =
     let s = c.saturating_sub.result in
     let told = put-one _ c.deref.ensures.0 c.go_on.ensures.events c.new-events.ensures in
     if-err c.put_events.result (λ w d e h q n.
-    front-is (ap₂ event_lines c.go_on.ensures.style told ∙ pass-lines k.style k.state s d e h.state_is (less s c.args.seen _ (omega arith) n) q) w.1)
+    front-is (ap₂ event_lines c.go_on.ensures.style told
+    ∙ pass-lines k.style k.state s d e h.state_is (less s c.args.seen _ (omega arith) n) q) w.1)
     c.put_events.ensures.err

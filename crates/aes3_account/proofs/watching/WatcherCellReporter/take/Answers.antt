@@ -28,8 +28,11 @@ count-requires g c =
     let f = few-decided h.0 in
     let l = length-append h.0 h.1 in
     let e = h.3 in
-    let s = h.2 in
-    (decided h.0, omega arith, same-tally c.args.self.now.tally c.take_report.new.self.tally (decided h.0) c.take_report.ensures.tally h.5.tally)
+    let s = h.2 in (
+      decided h.0,
+      omega arith,
+      same-tally c.args.self.now.tally c.take_report.new.self.tally (decided h.0) c.take_report.ensures.tally h.5.tally,
+    )
 
 pub go_on-requires-clause-few : goal.go_on-requires-clause-few
 go_on-requires-clause-few g c =
@@ -47,8 +50,10 @@ returns-clause-next g c =
     let s = c.saturating_sub.result in
     if-any c.put_events.result (λ d e h q n.
     same-watches r.state m.words r.words c.count.new.self r.tally (d ++ e) c.go_on.ensures.words c.go_on.ensures.tally
-    (take-watches m.state r.state s d e x h q (less s c.args.seen _ (omega arith) n) c.take_report.ensures.state c.take_report.ensures.kept
-    (c.count.ensures (decided d) (same-tally k.tally m.tally (decided d) c.take_report.ensures.tally h.tally)) c.go_on.ensures.state))
+    (take-watches m.state r.state s d e x h q (less s c.args.seen _ (omega arith) n)
+    c.take_report.ensures.state c.take_report.ensures.kept
+    (c.count.ensures (decided d) (same-tally k.tally m.tally (decided d) c.take_report.ensures.tally h.tally))
+    c.go_on.ensures.state))
 
 pub returns-clause-grew : goal.returns-clause-grew
 returns-clause-grew g c =
@@ -59,7 +64,8 @@ returns-clause-grew g c =
     let told = put-two _ _ c.deref.ensures.0 c.go_on.ensures.events c.take_report.ensures.events c.new-events.ensures in
     if-ok c.put_events.result (λ w d e h q n.
     grew-is (ap₂ event_lines (c.go_on.ensures.style ∙ c.take_report.ensures.style) told
-    ∙ take-lines k.style k.state m.state s d e x h.state_is c.take_report.ensures.state (less s c.args.seen _ (omega arith) n) q) w)
+    ∙ take-lines k.style k.state m.state s d e x h.state_is c.take_report.ensures.state
+    (less s c.args.seen _ (omega arith) n) q) w)
     c.put_events.ensures.grew
 
 pub returns-clause-err_grew : goal.returns-clause-err_grew
@@ -71,5 +77,6 @@ returns-clause-err_grew g c =
     let told = put-two _ _ c.deref.ensures.0 c.go_on.ensures.events c.take_report.ensures.events c.new-events.ensures in
     if-err c.put_events.result (λ w d e h q n.
     front-is (ap₂ event_lines (c.go_on.ensures.style ∙ c.take_report.ensures.style) told
-    ∙ take-lines k.style k.state m.state s d e x h.state_is c.take_report.ensures.state (less s c.args.seen _ (omega arith) n) q) w.1)
+    ∙ take-lines k.style k.state m.state s d e x h.state_is c.take_report.ensures.state
+    (less s c.args.seen _ (omega arith) n) q) w.1)
     c.put_events.ensures.err

@@ -1,10 +1,10 @@
 use Rattle.std.proofs.Common.{◌≡◌, ◌+◌, ◌*◌, ◌%◌, ◌^◌, ◌<◌, List, Bool, None, length, map, get_or, arith, sym, ap}
 use Rattle.std.proofs.Common.{subst, ◌∙◌}
-use Rattle.aes3_block.specs.Files.{is_lawful, payload_of, words_of}
+use Rattle.aes3_frame.specs.Files.{is_lawful, payload_of, words_of}
 use Rattle.aes3_block.specs.Readers.{FileReader, TakesBlock}
-use Rattle.aes3_block.proofs.BlockLemmas.{block_slots_384}
+use Rattle.aes3_frame.proofs.BlockLemmas.{block_slots_384}
 use Rattle.aes3_block.proofs.BlockReads.{takes-block, words-again}
-use Rattle.aes3_block.proofs.Bytes.{length-low_bytes}
+use Rattle.aes3_frame.proofs.Bytes.{length-low_bytes}
 use Rattle.aes3_block.proofs.Reading.{stored}
 use Rattle.aes3_block.proofs.WordReads.{none-is, none-not}
 use Rattle.aes3_block.proofs.file.BlockFile.feed_block.Goals as goal

@@ -1,6 +1,6 @@
 use Rattle.std.proofs.Common.{◌≡◌, ℕ, ◌+◌, ◌/◌, ◌<◌, List, [], ◌∷◌, ◌++◌, true, None, length, get_or, arith, sym, ap}
 use Rattle.std.proofs.Common.{subst, ◌∙◌}
-use Rattle.aes3_block.specs.Files.{is_lawful}
+use Rattle.aes3_frame.specs.Files.{is_lawful}
 use Rattle.aes3_block.specs.Readers.{answer_with, next_with}
 use Rattle.aes3_block.proofs.Reading.{Taken, stored, byte-short, byte-ends, fault-lawful, push-lawful}
 use Rattle.aes3_block.proofs.file.BlockFile.feed_byte.Goals as goal

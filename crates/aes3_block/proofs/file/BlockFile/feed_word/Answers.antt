@@ -1,9 +1,9 @@
 use Rattle.std.proofs.Common.{◌≡◌, ◌+◌, ◌/◌, ◌%◌, ◌<◌, ◌*◌, ℕ, List, [], ◌∷◌, ◌++◌, length, length-append, get_or, true}
 use Rattle.std.proofs.Common.{None, arith, sym, ap, subst, ◌∙◌}
 use Rattle.std.proofs.lemmas.Nat.{pow_pos}
-use Rattle.aes3_block.specs.Files.{is_lawful}
+use Rattle.aes3_frame.specs.Files.{is_lawful}
 use Rattle.aes3_block.specs.Readers.{FileReader, TakesQuietly}
-use Rattle.aes3_block.proofs.Bytes.{length-low_bytes}
+use Rattle.aes3_frame.proofs.Bytes.{length-low_bytes}
 use Rattle.aes3_block.proofs.Reading.{stored, fault-lawful, push-lawful}
 use Rattle.aes3_block.proofs.WordReads.{takes-word, quiet-word, number-bytes, none-is, none-not, refused-none}
 use Rattle.aes3_block.proofs.file.BlockFile.feed_word.Goals as goal

@@ -20,5 +20,7 @@ returns-clause-counted c = record {
 
 pub returns-clause-line : goal.returns-clause-line
 returns-clause-line c =
-    run-counts c.args.self.now c.pass-told.new.self c.edge.new.self c.args.samples c.pass-told.result (c.pass-told.result + c.from.result) c.edge.result
-    c.pass-told.ensures.bounds c.pass-told.ensures.line c.edge.ensures.line (ap (λ n. c.pass-told.result + n) (c.from.ensures ∙ byte-one c.edge.result))
+    run-counts c.args.self.now c.pass-told.new.self c.edge.new.self c.args.samples c.pass-told.result
+    (c.pass-told.result + c.from.result) c.edge.result
+    c.pass-told.ensures.bounds c.pass-told.ensures.line c.edge.ensures.line
+    (ap (λ n. c.pass-told.result + n) (c.from.ensures ∙ byte-one c.edge.result))

@@ -15,7 +15,8 @@ returns-clause-held g c =
     let after = c.copy_from_slice.ensures.after in
     let size = ap length after in
     let len = c.as_mut_slice.ensures.len in
-    held-put b.start b.end end k b.bytes.len b.bytes.items s ys (drop (length (put_mid b.end k s ys)) b.bytes.items) c.as_mut_slice.ensures.value
+    held-put b.start b.end end k b.bytes.len b.bytes.items s ys (drop (length (put_mid b.end k s ys)) b.bytes.items)
+    c.as_mut_slice.ensures.value
     b.ordered b.within (omega (arith, size)) (omega (arith, len))
     ∙ ap (λ v. held b.start b.end b.bytes.items ++ v) after
 

@@ -10,9 +10,11 @@ pub loop-self-preserved : goal.loop-self-preserved
 loop-self-preserved g c =
     let b = c.loop-self.self in
     let n = c.in-Ok.n in
-    let given = ap (λ s. take (b.end - b.start) (drop b.start s)) c.as_slice.ensures.value ∙ between_is b.bytes.items b.start b.end in
+    let given = ap (λ s. take (b.end - b.start) (drop b.start s)) c.as_slice.ensures.value
+    ∙ between_is b.bytes.items b.start b.end in
     record {
       taken = ap (followed_by (g.T.Sink.taken c.write.new.self)) (sym (drop-drop n b.start (take b.end b.bytes.items)))
-          ∙ handed-on _ _ n (held b.start b.end b.bytes.items) c.in-Ok.ensures.tells (grew-is (ap (take n) given) c.in-Ok.ensures.bytes) ∙ c.loop-self.invariant.taken;
+          ∙ handed-on _ _ n (held b.start b.end b.bytes.items) c.in-Ok.ensures.tells
+          (grew-is (ap (take n) given) c.in-Ok.ensures.bytes) ∙ c.loop-self.invariant.taken;
       quiet = c.in-Ok.ensures.count ∙ c.loop-self.invariant.quiet;
     }

@@ -10,7 +10,8 @@ returns-clause-cells c =
     let some : 0 < length c.args.words.now = search rules in
     let seen = ap (λ (r : PackedReader). r.seen) c.self.view_is in
     let begun : 2 ≤ v.seen = let b = c.requires.begun in omega (arith, b, seen) in
-    words-behind (record { seen = v.seen; before_last = v.before_last; last = v.last }) c.args.words.now c.words_of_octets.new.words c.args.octets.now c.word_of_octets.result begun some c.requires.len
+    words-behind (record { seen = v.seen; before_last = v.before_last; last = v.last })
+    c.args.words.now c.words_of_octets.new.words c.args.octets.now c.word_of_octets.result begun some c.requires.len
     c.word_of_octets.ensures c.words_of_octets.ensures.cells
     ∙ ap (λ r. cells_fed r c.args.octets.now) c.self.view_is
 
@@ -19,5 +20,6 @@ returns-clause-next c =
     let v = c.self.inside in
     let some : 0 < length c.args.words.now = search rules in
     let n = c.requires.len in
-    reader-behind_words (record { seen = v.seen; before_last = v.before_last; last = v.last }) c.args.octets.now (omega (arith, some, n))
+    reader-behind_words (record { seen = v.seen; before_last = v.before_last; last = v.last }) c.args.octets.now
+    (omega (arith, some, n))
     ∙ ap (λ r. octets_fed r c.args.octets.now) c.self.view_is

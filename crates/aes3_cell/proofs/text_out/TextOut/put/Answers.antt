@@ -6,11 +6,18 @@ use Rattle.aes3_cell.proofs.text_out.TextOut.put.Goals as goal
 
 pub returns-then-self-lt-WORD_LEN-clause-wrote : goal.returns-then-self-lt-WORD_LEN-clause-wrote
 returns-then-self-lt-WORD_LEN-clause-wrote g c =
-    record { grew = grew-is (sym (put-short _ _ _ c.args.level (ap (λ v. v.cells) c.self.view_is) c.if-self-lt-WORD_LEN.true)) (grew-none refl); count = refl; err = tt }
+    record {
+      grew = grew-is (sym
+          (put-short _ _ _ c.args.level (ap (λ v. v.cells) c.self.view_is) c.if-self-lt-WORD_LEN.true))
+          (grew-none refl);
+      count = refl;
+      err = tt;
+    }
 
 pub returns-then-self-lt-WORD_LEN-clause-begun : goal.returns-then-self-lt-WORD_LEN-clause-begun
 returns-then-self-lt-WORD_LEN-clause-begun g c =
-    c.with_cell-word.ensures.cells ∙ sym (put-begun _ _ _ c.args.level (ap (λ v. v.cells) c.self.view_is) c.if-self-lt-WORD_LEN.true)
+    c.with_cell-word.ensures.cells
+    ∙ sym (put-begun _ _ _ c.args.level (ap (λ v. v.cells) c.self.view_is) c.if-self-lt-WORD_LEN.true)
 
 pub returns-clause-wrote : goal.returns-clause-wrote
 returns-clause-wrote g c =

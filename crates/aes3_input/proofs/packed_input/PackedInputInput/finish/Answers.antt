@@ -16,29 +16,36 @@ overflow_add-self g c =
     let l = h.1 in
     let e = h.2.count in
     let n = few-cells h.0 in
-    let u = last-used c.args.self.now.packed c.in-Ok.last c.unwrap_or-octet.result (sym c.in-Ok.is ∙ c.end.ensures.answer) c.unwrap_or-octet.ensures in
+    let u = last-used c.args.self.now.packed c.in-Ok.last c.unwrap_or-octet.result
+    (sym c.in-Ok.is ∙ c.end.ensures.answer) c.unwrap_or-octet.ensures in
     let k = c.from.ensures in
     omega arith
 
 pub returns-in-Ok-hand_on_last : goal.returns-in-Ok-hand_on_last
 returns-in-Ok-hand_on_last g c =
     let r = c.in-Ok-hand_on_last.ensures in (
-      last-ok (g.K.Taker.writes c.args.taker.now) (g.K.Taker.follows c.args.taker.now) (g.K.Taker.finished c.hand_on_last.new.taker) c.args.self.now.packed c.args.self.now.cells c.in-Ok.last c.unwrap_or-octet.result c.from.result
-          (g.T.Sink.taken c.args.sink.now) (g.T.Sink.taken c.hand_on_last.new.sink) (sym c.in-Ok.is ∙ c.end.ensures.answer) c.unwrap_or-octet.ensures c.from.ensures r.0,
+      last-ok (g.K.Taker.writes c.args.taker.now) (g.K.Taker.follows c.args.taker.now)
+          (g.K.Taker.finished c.hand_on_last.new.taker)
+          c.args.self.now.packed c.args.self.now.cells c.in-Ok.last c.unwrap_or-octet.result c.from.result
+          (g.T.Sink.taken c.args.sink.now) (g.T.Sink.taken c.hand_on_last.new.sink)
+          (sym c.in-Ok.is ∙ c.end.ensures.answer) c.unwrap_or-octet.ensures c.from.ensures r.0,
       r.1,
     )
 
 pub returns-in-Err-hand_on_last : goal.returns-in-Err-hand_on_last
 returns-in-Err-hand_on_last g c =
     let r = c.in-Err-hand_on_last.ensures in (
-      last-front (g.K.Taker.writes c.args.taker.now) (g.K.Taker.follows c.args.taker.now) c.args.self.now.packed c.args.self.now.cells c.in-Ok.last c.unwrap_or-octet.result
-          (g.T.Sink.taken c.args.sink.now) (g.T.Sink.taken c.hand_on_last.new.sink) (sym c.in-Ok.is ∙ c.end.ensures.answer) c.unwrap_or-octet.ensures r.1,
+      last-front (g.K.Taker.writes c.args.taker.now) (g.K.Taker.follows c.args.taker.now)
+          c.args.self.now.packed c.args.self.now.cells c.in-Ok.last c.unwrap_or-octet.result
+          (g.T.Sink.taken c.args.sink.now) (g.T.Sink.taken c.hand_on_last.new.sink)
+          (sym c.in-Ok.is ∙ c.end.ensures.answer) c.unwrap_or-octet.ensures r.1,
       r.0,
     )
 
 pub returns-in-Err : goal.returns-in-Err
 returns-in-Err g c = (
-  last-bad (g.K.Taker.writes c.args.taker.now) (g.K.Taker.follows c.args.taker.now) c.args.self.now.packed c.args.self.now.cells c.in-Err.fault (g.T.Sink.taken c.args.sink.now)
+  last-bad (g.K.Taker.writes c.args.taker.now) (g.K.Taker.follows c.args.taker.now)
+      c.args.self.now.packed c.args.self.now.cells c.in-Err.fault (g.T.Sink.taken c.args.sink.now)
       (sym c.in-Err.is ∙ c.end.ensures.answer),
   refl,
 )

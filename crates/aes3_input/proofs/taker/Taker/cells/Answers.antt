@@ -1,6 +1,6 @@
 use Rattle.std.proofs.Common.{◌+◌, ◌-◌, ◌/◌, ◌^◌, ◌≤◌, ◌++◌, [], length, sym, ap, ◌∙◌, arith, append-nil, length-append}
-use Rattle.aes3_cell.specs.Words.{low_cells}
-use Rattle.aes3_cell.proofs.WordCells.{length-low_cells, low_cells-add}
+use Rattle.aes3_level.specs.Words.{low_cells}
+use Rattle.aes3_level.proofs.WordCells.{length-low_cells, low_cells-add}
 use Rattle.aes3_input.proofs.Handing.{handed-cells, handed-cells-front, cells-parted}
 use Rattle.aes3_input.proofs.taker.Taker.cells.Goals as goal
 
@@ -24,7 +24,8 @@ loop-taken-preserved g c =
     let i = c.loop-taken.taken in
     record {
       within = let w = r.1 in let o = v.within in omega arith;
-      handed = handed-cells (low_cells n (c.args.word / 2 ^ i)) (low_cells-add i n c.args.word) v.handed r.2.0 r.2.1 r.2.2;
+      handed = handed-cells (low_cells n (c.args.word / 2 ^ i)) (low_cells-add i n c.args.word)
+          v.handed r.2.0 r.2.1 r.2.2;
       quiet = r.2.3 ∙ v.quiet;
     }
 
@@ -37,6 +38,7 @@ returns-in-Err g c =
     record {
       ran = (
         r.0 ∙ ap (λ k. k + 1) v.quiet,
-        handed-cells-front b [] (cells-parted c.args.word i c.args.len v.within) (sym (append-nil (low_cells c.args.len c.args.word))) v.handed r.1,
+        handed-cells-front b [] (cells-parted c.args.word i c.args.len v.within)
+            (sym (append-nil (low_cells c.args.len c.args.word))) v.handed r.1,
       );
     }

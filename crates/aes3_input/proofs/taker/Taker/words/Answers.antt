@@ -1,7 +1,7 @@
 use Rattle.std.proofs.Common.{◌+◌, ◌*◌, ◌^◌, ◌≤◌, ◌≡◌, ◌++◌, length, take, drop, get_or, ap, ◌∙◌, arith, length-append}
 use Rattle.std.specs.List.{flat_map}
 use Rattle.std.proofs.lemmas.List.{length-take-le}
-use Rattle.aes3_cell.specs.Words.{word_len, word_cells}
+use Rattle.aes3_level.specs.Words.{word_len, word_cells}
 use Rattle.aes3_input.proofs.Handing.{handed-cells, handed-cells-front, length-words, words-more, words-parted}
 use Rattle.aes3_input.proofs.taker.Taker.words.Goals as goal
 
@@ -39,6 +39,7 @@ returns-in-Err g c =
     record {
       ran = (
         r.0 ∙ ap (λ k. k + 1) v.quiet,
-        handed-cells-front (word_cells (get_or ws i 0)) (flat_map word_cells (drop (i + 1) ws)) (words-more ws i (omega arith)) (words-parted ws (i + 1)) v.handed r.1,
+        handed-cells-front (word_cells (get_or ws i 0)) (flat_map word_cells (drop (i + 1) ws))
+            (words-more ws i (omega arith)) (words-parted ws (i + 1)) v.handed r.1,
       );
     }

@@ -14,7 +14,17 @@ finish-requires-clause-following g c =
 pub returns-in-Ok : goal.returns-in-Ok
 unfolding text_reading
 returns-in-Ok g c = (
-  λ b h. (refl, record { reader = h.reader; lawful = h.lawful; count = h.count; taker = c.in-Ok.ensures.done (cells_of_text b) h.taker }, c.in-Ok.ensures.grew (cells_of_text b) h.taker),
+  λ b h. (
+    refl,
+    record {
+      reader = h.reader;
+      lawful = h.lawful;
+      count = h.count;
+      taker
+          = c.in-Ok.ensures.done (cells_of_text b) h.taker;
+    },
+    c.in-Ok.ensures.grew (cells_of_text b) h.taker,
+  ),
   c.in-Ok.ensures.count,
 )
 

@@ -1,12 +1,30 @@
-use Rattle.std.proofs.Common.{◌≡◌, ◌+◌, ◌*◌, [], ◌∷◌, ◌++◌, length, take, drop, get_or, arith, refl, ap, ap₂, sym, ◌∙◌, length-append}
+use Rattle.std.proofs.Common.{
+  ◌≡◌,
+  ◌+◌,
+  ◌*◌,
+  [],
+  ◌∷◌,
+  ◌++◌,
+  length,
+  take,
+  drop,
+  get_or,
+  arith,
+  refl,
+  ap,
+  ap₂,
+  sym,
+  ◌∙◌,
+  length-append,
+}
 use Rattle.std.specs.List.{flat_map}
 use Rattle.std.proofs.lemmas.List.{length-take-le, take-append-drop}
 use Rattle.std.proofs.Math.Seq.{drop-cons}
 use Rattle.aes3_cell.specs.declared.refusal.RunError.TheVariants.{BadCell}
 use Rattle.aes3_cell.specs.CellText.{cells_of_text}
-use Rattle.aes3_cell.specs.Words.{low_cells, word_cells}
+use Rattle.aes3_level.specs.Words.{low_cells, word_cells}
 use Rattle.aes3_cell.proofs.CellTexts.{length-cells_of_text}
-use Rattle.aes3_cell.proofs.WordCells.{length-low_cells}
+use Rattle.aes3_level.proofs.WordCells.{length-low_cells}
 use Rattle.aes3_input.specs.Forms.{text_reading, TextTaken}
 use Rattle.aes3_input.proofs.TextLemmas.{taken-seen, byte-bad}
 use Rattle.aes3_input.proofs.Feeding.{fed-none, ran-join}
@@ -25,7 +43,8 @@ words_and_cells-requires-clause-following g c =
     let q = c.in-Ok.ensures.few in
     let n = length-cells_of_text h.0 in
     let r = t.rest.few in
-    let m : length (take t.count c.fill.new.words) ≡ t.count = length-take-le t.count c.fill.new.words (let e = c.in-Ok.ensures.len in omega arith) in
+    let m : length (take t.count c.fill.new.words) ≡ t.count
+    = length-take-le t.count c.fill.new.words (let e = c.in-Ok.ensures.len in omega arith) in
     (cells_of_text h.0, omega arith, h.2.taker)
 
 pub overflow_add-self-in-Ok-words_and_cells : goal.overflow_add-self-in-Ok-words_and_cells
@@ -46,13 +65,17 @@ returns-in-Ok-words_and_cells g c =
     let t = c.in-Ok.taken in
     let ws = take t.count c.fill.new.words in
     let d = low_cells t.rest.len t.rest.word in
-    let m : length ws ≡ t.count = length-take-le t.count c.fill.new.words (let e = q.len in let f = q.few in omega arith) in
+    let m : length ws ≡ t.count
+    = length-take-le t.count c.fill.new.words (let e = q.len in let f = q.few in omega arith) in
     let n : length (flat_map word_cells ws ++ d) ≡ 64 * t.count + c.from.result =
-    length-append (flat_map word_cells ws) d ∙ ap₂ ◌+◌ (length-words ws ∙ ap (λ k. 64 * k) m) (length-low_cells t.rest.len t.rest.word ∙ sym c.from.ensures) in (
+    length-append (flat_map word_cells ws) d
+    ∙ ap₂ ◌+◌ (length-words ws ∙ ap (λ k. 64 * k) m) (length-low_cells t.rest.len t.rest.word ∙ sym c.from.ensures) in (
       q.within.0,
       q.within.1,
-      text-front (g.K.Taker.writes c.args.taker.now) (g.K.Taker.writes c.words_and_cells.new.taker) (g.K.Taker.follows c.args.taker.now) (g.K.Taker.follows c.words_and_cells.new.taker)
-          c.args.self.now.text c.fill.new.text c.args.self.now.cells (64 * t.count + c.from.result) (take t.bytes c.args.piece.now) (flat_map word_cells ws ++ d)
+      text-front (g.K.Taker.writes c.args.taker.now) (g.K.Taker.writes c.words_and_cells.new.taker)
+          (g.K.Taker.follows c.args.taker.now) (g.K.Taker.follows c.words_and_cells.new.taker)
+          c.args.self.now.text c.fill.new.text c.args.self.now.cells (64 * t.count + c.from.result)
+          (take t.bytes c.args.piece.now) (flat_map word_cells ws ++ d)
           (g.T.Sink.taken c.args.sink.now) (g.T.Sink.taken c.words_and_cells.new.sink) q.read n r.0 r.1 r.2,
       r.3,
     )
@@ -64,10 +87,14 @@ returns-in-Err g c =
     let w = g.K.Taker.writes c.args.taker.now in
     let f = g.K.Taker.follows c.args.taker.now in
     let t = g.T.Sink.taken c.args.sink.now in
-    ran-join (text_reading w) (TextTaken c.fill.new.text c.args.self.now.cells f) (λ b. f (cells_of_text b)) t (g.T.Sink.failed c.args.sink.now)
-    (get_or xs 0 0 ∷ []) (drop 1 xs) xs (BadCell c.in-Err.fault.at) (fed-none (text_reading w) (TextTaken c.args.self.now.text c.args.self.now.cells f) t) refl
-    (sym (drop-cons xs 0 0 (omega arith)))
-    (byte-bad w f c.args.self.now.text c.args.self.now.cells (get_or xs 0 0) c.in-Err.fault t c.in-Err.ensures.fault, refl)
+    ran-join (text_reading w) (TextTaken c.fill.new.text c.args.self.now.cells f) (λ b. f (cells_of_text b)) t
+    (g.T.Sink.failed c.args.sink.now)
+    (get_or xs 0 0 ∷ []) (drop 1 xs) xs (BadCell c.in-Err.fault.at)
+    (fed-none (text_reading w) (TextTaken c.args.self.now.text c.args.self.now.cells f) t) refl
+    (sym (drop-cons xs 0 0 (omega arith))) (
+      byte-bad w f c.args.self.now.text c.args.self.now.cells (get_or xs 0 0) c.in-Err.fault t c.in-Err.ensures.fault,
+      refl,
+    )
 
 pub returns-in-Err-words_and_cells : goal.returns-in-Err-words_and_cells
 returns-in-Err-words_and_cells g c =
@@ -76,7 +103,10 @@ returns-in-Err-words_and_cells g c =
     let t = c.in-Ok.taken in
     let xs = c.args.piece.now in (
       r.0,
-      text-part (g.K.Taker.writes c.args.taker.now) (g.K.Taker.follows c.args.taker.now) c.args.self.now.text c.fill.new.text c.args.self.now.cells
-          (take t.bytes xs) (drop t.bytes xs) xs (flat_map word_cells (take t.count c.fill.new.words) ++ low_cells t.rest.len t.rest.word)
-          (g.T.Sink.taken c.args.sink.now) (g.T.Sink.taken c.words_and_cells.new.sink) (take-append-drop t.bytes xs) q.read r.1,
+      text-part (g.K.Taker.writes c.args.taker.now) (g.K.Taker.follows c.args.taker.now)
+          c.args.self.now.text c.fill.new.text c.args.self.now.cells
+          (take t.bytes xs) (drop t.bytes xs) xs
+          (flat_map word_cells (take t.count c.fill.new.words) ++ low_cells t.rest.len t.rest.word)
+          (g.T.Sink.taken c.args.sink.now) (g.T.Sink.taken c.words_and_cells.new.sink) (take-append-drop t.bytes xs)
+          q.read r.1,
     )

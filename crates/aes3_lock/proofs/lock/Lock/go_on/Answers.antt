@@ -2,8 +2,8 @@ use Rattle.std.proofs.Common.{◌≡◌, ℕ, w64, ◌+◌, ◌-◌, ◌/◌, �
 use Rattle.std.proofs.Common.{append-nil, refl, sym, ap, subst, ◌∙◌, arith}
 use Rattle.std.specs.Prelude.{option_map, option_to_list}
 use Rattle.std.specs.Int.{trailing_zeros}
-use Rattle.aes3_cell.specs.declared.level.Level.{Level}
-use Rattle.aes3_cell.specs.Words.{low_cells}
+use Rattle.aes3_level.specs.declared.level.Level.{Level}
+use Rattle.aes3_level.specs.Words.{low_cells}
 use Rattle.aes3_lock.specs.declared.report.Report.TheVariants.{Fault}
 use Rattle.aes3_lock.specs.Outcomes.{why_of}
 use Rattle.aes3_lock.specs.Reports.{decided}
@@ -13,7 +13,7 @@ use Rattle.aes3_lock.proofs.PartWords.{Begun, all-right, next-wrong, part-next, 
 use Rattle.aes3_lock.proofs.PushedWords.{none-told}
 use Rattle.aes3_lock.proofs.lock.Lock.go_on.Goals as goal
 use Rattle.aes3_lock.proofs.lock.Lock.go_on.Goals.{After-one, After-refute, After-quiet, After-quiet-2}
-use Rattle.aes3_block.proofs.CellLaws.{block_len_24576}
+use Rattle.aes3_frame.proofs.CellLaws.{block_len_24576}
 
 -- a cell behind a whole block
 past : (c : After-one) → Stops c.args.self.now c.first_cell.result

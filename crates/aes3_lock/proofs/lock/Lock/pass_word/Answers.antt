@@ -1,5 +1,5 @@
 use Rattle.std.proofs.Common.{◌≡◌, ◌+◌, ◌++◌, ℕ, ◌<◌, false, None, drop, refl, sym, ap, subst, ◌∙◌, arith}
-use Rattle.aes3_cell.specs.Words.{low_cells, word_cells}
+use Rattle.aes3_level.specs.Words.{low_cells, word_cells}
 use Rattle.aes3_lock.specs.Candidates.{begins_block}
 use Rattle.aes3_lock.specs.Following.{LockState, Follows, BeginsIn}
 use Rattle.aes3_lock.proofs.QuietWords.{seven-before, none-begins, one-begins, quiet-follows, quiet-none}

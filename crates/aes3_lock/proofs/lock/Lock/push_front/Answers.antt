@@ -1,7 +1,7 @@
 use Rattle.std.proofs.Common.{◌≡◌, ◌+◌, ◌-◌, ◌++◌, [], false, Option, Some, None, refl, sym, ap, ◌∙◌, arith, append-nil}
 use Rattle.std.specs.Prelude.{option_map, option_to_list}
 use Rattle.std.specs.Option.{is_some}
-use Rattle.aes3_cell.specs.Words.{low_cells}
+use Rattle.aes3_level.specs.Words.{low_cells}
 use Rattle.aes3_lock.specs.declared.report.Ending.{Ending}
 use Rattle.aes3_lock.specs.declared.report.Report.{Report}
 use Rattle.aes3_lock.specs.Reports.{decided}

@@ -1,7 +1,7 @@
 use Rattle.std.proofs.Common.{◌≡◌, ◌++◌, subst, ap, ◌∙◌, sym, arith}
 use Rattle.std.specs.Prelude.{option_map, option_to_list}
-use Rattle.aes3_cell.specs.Words.{low_cells, word_cells, word_len}
-use Rattle.aes3_cell.proofs.WordCells.{length-low_cells}
+use Rattle.aes3_level.specs.Words.{low_cells, word_cells, word_len}
+use Rattle.aes3_level.proofs.WordCells.{length-low_cells}
 use Rattle.aes3_lock.specs.Reports.{decided}
 use Rattle.aes3_lock.specs.Following.{Follows, report_in}
 use Rattle.aes3_lock.proofs.Spacing.{few-told}

@@ -1,5 +1,5 @@
 use Rattle.std.proofs.Common.{refl, ◌≡◌, ◌+◌, ◌-◌, [], ◌∷◌, ◌++◌, sym, ap, subst, ◌∙◌, arith}
-use Rattle.aes3_cell.specs.Words.{low_cells}
+use Rattle.aes3_level.specs.Words.{low_cells}
 use Rattle.aes3_slot.specs.ReadWords.{read_words}
 use Rattle.aes3_slot.specs.Rules.{at}
 use Rattle.aes3_slot.specs.Reading.{same}

@@ -3,18 +3,18 @@ use Rattle.std.proofs.Common.{refl, sym, ap, ◌∙◌, subst, arith, length-dro
 use Rattle.std.specs.List.{flat_map}
 use Rattle.std.proofs.lemmas.List.{length-take-le}
 use Rattle.std.proofs.lemmas.Slice.{between_to_end}
-use Rattle.aes3_cell.specs.declared.level.Level.{Level}
-use Rattle.aes3_cell.specs.Words.{word_cells}
+use Rattle.aes3_level.specs.declared.level.Level.{Level}
+use Rattle.aes3_level.specs.Words.{word_cells}
 use Rattle.aes3_slot.specs.Fronts.{IsFrontOf}
-use Rattle.aes3_block.specs.Gathered.{IsRight}
-use Rattle.aes3_block.proofs.GatheredWords.{length-with_first}
+use Rattle.aes3_frame.specs.Gathered.{IsRight}
+use Rattle.aes3_frame.proofs.GatheredWords.{length-with_first}
 use Rattle.aes3_lock.specs.Reports.{decided}
 use Rattle.aes3_lock.specs.Following.{LockState, Follows}
 use Rattle.aes3_lock.proofs.EightWords.{begun-few, behind-is, behind-none, eight-later, front-fits, lock_behind}
 use Rattle.aes3_lock.proofs.EightWords.{mark-even}
 use Rattle.aes3_lock.proofs.PushedWords.{next-words, no-words}
 use Rattle.aes3_lock.proofs.lock.Lock.take_eights.Goals as goal
-use Rattle.aes3_block.proofs.CellLaws.{block_len_24576}
+use Rattle.aes3_frame.proofs.CellLaws.{block_len_24576}
 
 pub loop-taken-init : goal.loop-taken-init
 loop-taken-init c =

@@ -1,8 +1,8 @@
 use Rattle.std.proofs.Common.{◌≡◌, ◌+◌, ◌-◌, ◌/◌, ◌%◌, ◌++◌, take, drop, Some, false, refl, sym, ap, subst, ◌∙◌, arith}
 use Rattle.std.proofs.lemmas.Bool.{false_from_ne_true}
-use Rattle.aes3_cell.specs.Words.{low_cells, word_cells}
+use Rattle.aes3_level.specs.Words.{low_cells, word_cells}
 use Rattle.aes3_slot.specs.Fronts.{IsFrontOf}
-use Rattle.aes3_block.specs.Blocks.{mark_at}
+use Rattle.aes3_frame.specs.Blocks.{mark_at}
 use Rattle.aes3_lock.specs.declared.candidate.Candidate.{Candidate}
 use Rattle.aes3_lock.specs.Reports.{open_at}
 use Rattle.aes3_lock.specs.Following.{LockState, Follows}
@@ -11,7 +11,7 @@ use Rattle.aes3_lock.proofs.lock.Lock.take_word.Goals as goal
 use Rattle.aes3_lock.proofs.lock.Lock.take_word.Goals.{then-not-begins_subframe-via-then-not-begins_subframe}
 use Rattle.aes3_lock.proofs.lock.Lock.take_word.Goals.{then-not-begins_subframe-via-else-not-begins_subframe+then-not-begins_subframe-2}
 use Rattle.std.proofs.lemmas.Option.{same_Some}
-use Rattle.aes3_block.proofs.CellLaws.{block_len_24576}
+use Rattle.aes3_frame.proofs.CellLaws.{block_len_24576}
 
 pub returns-then-offset-clause-stops : goal.returns-then-offset-clause-stops
 returns-then-offset-clause-stops c = λ r l f t s.

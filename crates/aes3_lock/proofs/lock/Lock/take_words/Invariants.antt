@@ -1,7 +1,7 @@
 use Rattle.std.proofs.Common.{◌≡◌, ◌≤◌, ◌+◌, ◌*◌, ◌-◌, ◌++◌, List, length, take}
 use Rattle.std.specs.List.{flat_map}
-use Rattle.aes3_cell.specs.declared.level.Level.{Level}
-use Rattle.aes3_cell.specs.Words.{word_cells}
+use Rattle.aes3_level.specs.declared.level.Level.{Level}
+use Rattle.aes3_level.specs.Words.{word_cells}
 use Rattle.aes3_lock.specs.Reports.{decided}
 use Rattle.aes3_lock.specs.Following.{Follows}
 use Rattle.aes3_lock.proofs.lock.Lock.take_words.Given as goal

@@ -2,9 +2,9 @@ use Rattle.std.proofs.Common.{◌≡◌, ◌+◌, ◌++◌, drop, length, ℕ, L
 use Rattle.std.proofs.Common.{length-append}
 use Rattle.std.specs.Prelude.{option_to_list}
 use Rattle.std.specs.Int.{trailing_zeros}
-use Rattle.aes3_cell.specs.declared.level.Level.{Level}
-use Rattle.aes3_cell.specs.Words.{low_cells, word_cells}
-use Rattle.aes3_cell.proofs.WordCells.{length-low_cells}
+use Rattle.aes3_level.specs.declared.level.Level.{Level}
+use Rattle.aes3_level.specs.Words.{low_cells, word_cells}
+use Rattle.aes3_level.proofs.WordCells.{length-low_cells}
 use Rattle.aes3_slot.specs.Preambles.{with_seven}
 use Rattle.aes3_lock.specs.Preambles.{marks}
 use Rattle.aes3_lock.specs.Steps.{last_eight, ended_mark}

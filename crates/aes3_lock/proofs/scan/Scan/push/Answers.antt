@@ -1,6 +1,6 @@
 use Rattle.std.proofs.Common.{◌+◌, ◌++◌, refl, sym, ap, subst, ◌∙◌}
 use Rattle.std.specs.Prelude.{option_to_list}
-use Rattle.aes3_cell.specs.Words.{low_cells}
+use Rattle.aes3_level.specs.Words.{low_cells}
 use Rattle.aes3_lock.specs.Preambles.{marks}
 use Rattle.aes3_lock.specs.Following.{ScanFollows}
 use Rattle.aes3_lock.proofs.Scanning.{scan-next, scan-mark}

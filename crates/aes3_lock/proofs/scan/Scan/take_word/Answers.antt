@@ -1,5 +1,5 @@
 use Rattle.std.proofs.Common.{◌+◌, ◌++◌, drop, sym, ap, ◌∙◌, arith}
-use Rattle.aes3_cell.specs.Words.{word_cells, word_len}
+use Rattle.aes3_level.specs.Words.{word_cells, word_len}
 use Rattle.aes3_slot.proofs.ReadSubframes.{length-word}
 use Rattle.aes3_lock.specs.Following.{ScanState}
 use Rattle.aes3_lock.proofs.QuietWords.{seven-before}

@@ -1,6 +1,6 @@
 use Rattle.std.proofs.Common.{ℕ, List, ◌+◌, ◌-◌, ◌∷◌, ◌++◌, ap, ap₂, ◌∙◌, sym, arith}
 use Rattle.std.specs.Prelude.{option_to_list, option_map}
-use Rattle.aes3_cell.specs.declared.level.Level.{Level}
+use Rattle.aes3_level.specs.declared.level.Level.{Level}
 use Rattle.aes3_slot.specs.declared.mark.Mark.{Mark}
 use Rattle.aes3_slot.specs.Preambles.{with_seven}
 use Rattle.aes3_lock.specs.Preambles.{placed}

@@ -5,6 +5,7 @@ use Rattle.aes3_octets.proofs.raw.RawSourceSource.read.Goals as goal
 
 pub returns-in-Ok-eq0-clause-bytes : goal.returns-in-Ok-eq0-clause-bytes
 returns-in-Ok-eq0-clause-bytes g c =
-    let none = ap (λ n. take n c.read-2.new.buf) c.in-Ok-eq0.field-0-test in
-    let some = some-items (length c.args.buf.now) (length c.read-2.new.buf) c.is_empty.ensures c.if-is_empty.false c.read-2.auto.buf in
-    still-raw c.if-self.false (zero-behind c.read-2.new.buf some (grew-is none c.in-Ok-eq0.ensures.bytes))
+    let none = ap (λ n. take n c.read.new.buf) c.in-Ok-eq0.field-0-test in
+    let some = some-items (length c.args.buf.now) (length c.read.new.buf)
+    c.is_empty.ensures c.if-is_empty.false c.read.auto.buf in
+    still-raw c.if-self.false (zero-behind c.read.new.buf some (grew-is none c.in-Ok-eq0.ensures.bytes))

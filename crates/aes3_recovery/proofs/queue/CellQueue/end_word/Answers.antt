@@ -1,5 +1,5 @@
 use Rattle.std.proofs.Common.{arith, refl}
-use Rattle.aes3_cell.specs.Words.{low_cells}
+use Rattle.aes3_level.specs.Words.{low_cells}
 use Rattle.aes3_recovery.proofs.Queueing.{written-puts, full-words}
 use Rattle.aes3_recovery.proofs.queue.CellQueue.end_word.Goals as goal
 
@@ -7,5 +7,6 @@ pub returns-else-self-lt-WORDS-clause-cells : goal.returns-else-self-lt-WORDS-cl
 returns-else-self-lt-WORDS-clause-cells g c = λ added e.
     let q = c.args.self.now in
     written-puts q _ c.put_words.result _ added refl
-    (full-words q.words q.count c.args.word (low_cells q.len q.word) added (low_cells c.args.len c.args.rest) (omega arith) q.words_left c.if-self-lt-WORDS.false e)
+    (full-words q.words q.count c.args.word (low_cells q.len q.word) added (low_cells c.args.len c.args.rest)
+    (omega arith) q.words_left c.if-self-lt-WORDS.false e)
     c.put_words.ensures

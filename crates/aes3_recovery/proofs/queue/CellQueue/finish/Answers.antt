@@ -1,6 +1,6 @@
 use Rattle.std.proofs.Common.{arith}
-use Rattle.aes3_cell.specs.Words.{low_cells}
-use Rattle.aes3_cell.proofs.WordCells.{length-low_cells}
+use Rattle.aes3_level.specs.Words.{low_cells}
+use Rattle.aes3_level.proofs.WordCells.{length-low_cells}
 use Rattle.aes3_recovery.proofs.Queueing.{ends-finish, stops-finish, put-is}
 use Rattle.aes3_recovery.proofs.queue.CellQueue.finish.Goals as goal
 
@@ -8,8 +8,12 @@ pub returns-in-Ok-clause-cells : goal.returns-in-Ok-clause-cells
 returns-in-Ok-clause-cells g c =
     let m = c.pass_on.new.self in
     let l = length-low_cells m.len m.word in
-    ends-finish c.args.self.now m c.args.sink.now c.pass_on.new.sink c.put_rest.new.sink c.put_rest.result (low_cells m.len m.word)
-    (put-is c.in-Ok.field-0 c.in-Ok.ensures.cells) c.pass_on.ensures.few (omega (arith, l, m.cells_left)) c.put_rest.ensures
+    ends-finish c.args.self.now m c.args.sink.now c.pass_on.new.sink c.put_rest.new.sink c.put_rest.result
+    (low_cells m.len m.word)
+    (put-is c.in-Ok.field-0 c.in-Ok.ensures.cells) c.pass_on.ensures.few (omega (arith, l, m.cells_left))
+    c.put_rest.ensures
 
 pub returns-in-Err-clause-cells : goal.returns-in-Err-clause-cells
-returns-in-Err-clause-cells g c = stops-finish c.args.self.now _ c.args.sink.now c.pass_on.new.sink c.in-Err.fault c.in-Err.fault c.in-Err.ensures.cells
+returns-in-Err-clause-cells g c
+    = stops-finish c.args.self.now _ c.args.sink.now c.pass_on.new.sink c.in-Err.fault c.in-Err.fault
+    c.in-Err.ensures.cells

@@ -1,5 +1,5 @@
 use Rattle.std.proofs.Common.{◌++◌, length, ap, sym, subst, arith, length-append}
-use Rattle.aes3_cell.specs.Words.{word_cells}
+use Rattle.aes3_level.specs.Words.{word_cells}
 use Rattle.aes3_cell.proofs.Growing.{front-is}
 use Rattle.aes3_slot.proofs.ReadSubframes.{length-word}
 use Rattle.aes3_lock.specs.Preambles.{marks}
@@ -33,7 +33,8 @@ pub returns-in-Ok-clause-next : goal.returns-in-Ok-clause-next
 returns-in-Ok-clause-next g c = λ d h.
     let f = c.take_word-found in
     subst (λ k. Scanned k c.tell_all.new.self.marks (d ++ word_cells c.args.word)) (sym c.in-Ok.ensures.scan)
-    (scanned-marks (word_cells c.args.word) f.result h (f.ensures.follows d h.follows) (f.ensures.marks d h.follows) c.in-Ok.ensures.marks)
+    (scanned-marks (word_cells c.args.word) f.result h (f.ensures.follows d h.follows) (f.ensures.marks d h.follows)
+    c.in-Ok.ensures.marks)
 
 pub returns-in-Ok-clause-wrote : goal.returns-in-Ok-clause-wrote
 returns-in-Ok-clause-wrote g c = λ d h.
@@ -43,4 +44,5 @@ returns-in-Ok-clause-wrote g c = λ d h.
 pub returns-in-Err-clause-err_grew : goal.returns-in-Err-clause-err_grew
 returns-in-Err-clause-err_grew g c = λ d h.
     let f = c.take_word-found in
-    front-is (ap (λ z. c.args.self.now.lines ++ z) (sym (marks-behind d (word_cells c.args.word) f.result (f.ensures.marks d h.follows)))) c.in-Err.ensures.err.1
+    front-is (ap (λ z. c.args.self.now.lines ++ z)
+    (sym (marks-behind d (word_cells c.args.word) f.result (f.ensures.marks d h.follows)))) c.in-Err.ensures.err.1

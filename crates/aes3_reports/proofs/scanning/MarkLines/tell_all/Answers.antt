@@ -27,17 +27,21 @@ loop-mark-preserved g c =
 pub returns-in-Err-clause-err : goal.returns-in-Err-clause-err
 returns-in-Err-clause-err g c =
     let v = c.loop-mark.invariant in
-    let e = c.take_next.ensures.next ∙ ap (λ o. option_to_list o ++ c.take_next.new.self) c.in-Some.is in
-    (c.in-Err.ensures.err.0 ∙ ap (λ n. n + 1) v.quiet, telling-fails c.in-Some.mark c.take_next.new.self v.telling e c.in-Err.ensures.err.1)
+    let e = c.take_next.ensures.next ∙ ap (λ o. option_to_list o ++ c.take_next.new.self) c.in-Some.is in (
+      c.in-Err.ensures.err.0 ∙ ap (λ n. n + 1) v.quiet,
+      telling-fails c.in-Some.mark c.take_next.new.self v.telling e c.in-Err.ensures.err.1,
+    )
 
 pub returns-clause-wrote : goal.returns-clause-wrote
 returns-clause-wrote g c =
     let n : c.take_next.result ≡ None = search rules in
-    let e = c.take_next.ensures.next ∙ ap (λ o. option_to_list o ++ c.take_next.new.self) n ∙ c.take_next.ensures.end n in
+    let e = c.take_next.ensures.next ∙ ap (λ o. option_to_list o ++ c.take_next.new.self) n
+    ∙ c.take_next.ensures.end n in
     (telling-ends c.loop-mark.invariant.telling e).0
 
 pub returns-clause-marks : goal.returns-clause-marks
 returns-clause-marks g c =
     let n : c.take_next.result ≡ None = search rules in
-    let e = c.take_next.ensures.next ∙ ap (λ o. option_to_list o ++ c.take_next.new.self) n ∙ c.take_next.ensures.end n in
+    let e = c.take_next.ensures.next ∙ ap (λ o. option_to_list o ++ c.take_next.new.self) n
+    ∙ c.take_next.ensures.end n in
     (telling-ends c.loop-mark.invariant.telling e).1

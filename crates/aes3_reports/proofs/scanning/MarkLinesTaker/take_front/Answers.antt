@@ -1,6 +1,6 @@
 use Rattle.std.proofs.Common.{◌-◌, ◌/◌, ◌^◌, ◌++◌, refl, sym, ap, subst, ◌∙◌, arith}
 use Rattle.std.specs.Prelude.{option_to_list}
-use Rattle.aes3_cell.specs.Words.{low_cells}
+use Rattle.aes3_level.specs.Words.{low_cells}
 use Rattle.aes3_cell.proofs.Growing.{front-is, front-more}
 use Rattle.aes3_lock.specs.Preambles.{marks}
 use Rattle.aes3_input.specs.Taking.{behind}
@@ -39,9 +39,11 @@ returns-in-Ok g c =
             c.in-Ok.ensures.none,
             subst (λ k. Scanned k c.tell_alone.new.self.marks (d ++ b)) (sym c.tell_alone.ensures.scan)
                 (subst (λ m. Scanned c.next_in-taken.new.self m (d ++ b)) (sym c.tell_alone.ensures.marks)
-                (scanned-mark b c.in-Some.found h.1 (p.follows d h.1.follows) (p.mark d h.1.follows ∙ ap (λ o. marks d ++ option_to_list o) c.in-Some.is))),
+                (scanned-mark b c.in-Some.found h.1 (p.follows d h.1.follows)
+                (p.mark d h.1.follows ∙ ap (λ o. marks d ++ option_to_list o) c.in-Some.is))),
           )),
-          (λ d h. told-grew _ _ d b c.in-Some.found (p.mark d h.1.follows ∙ ap (λ o. marks d ++ option_to_list o) c.in-Some.is) c.in-Ok.ensures.wrote.grew),
+          (λ d h. told-grew _ _ d b c.in-Some.found
+              (p.mark d h.1.follows ∙ ap (λ o. marks d ++ option_to_list o) c.in-Some.is) c.in-Ok.ensures.wrote.grew),
           c.in-Ok.ensures.wrote.count,
         ),
       );
@@ -57,8 +59,11 @@ returns-in-Err g c =
       ran = (
         c.in-Err.ensures.wrote.err.0,
         (λ d h.
-            front-is (sym (ap (λ z. behind marking d z) (cells-parted c.args.word n c.args.len p.within) ∙ items-join marking d b rest))
-            (front-more (told-front _ _ d b c.in-Some.found (p.mark d h.1.follows ∙ ap (λ o. marks d ++ option_to_list o) c.in-Some.is) c.in-Err.ensures.wrote.err.1) _)),
+            front-is (sym (ap (λ z. behind marking d z) (cells-parted c.args.word n c.args.len p.within)
+            ∙ items-join marking d b rest))
+            (front-more (told-front _ _ d b c.in-Some.found
+            (p.mark d h.1.follows ∙ ap (λ o. marks d ++ option_to_list o) c.in-Some.is) c.in-Err.ensures.wrote.err.1)
+            _)),
       );
     }
 
@@ -72,7 +77,11 @@ returns-in-None g c =
         p.within,
         (
           refl,
-          (λ d h. (h.0, scanned-none b h.1 (p.follows d h.1.follows) (p.mark d h.1.follows ∙ ap (λ o. marks d ++ option_to_list o) c.in-None.is))),
+          (λ d h. (
+            h.0,
+            scanned-none b h.1 (p.follows d h.1.follows)
+                (p.mark d h.1.follows ∙ ap (λ o. marks d ++ option_to_list o) c.in-None.is),
+          )),
           (λ d h. none-grew d b (p.mark d h.1.follows ∙ ap (λ o. marks d ++ option_to_list o) c.in-None.is) refl),
           refl,
         ),

@@ -1,8 +1,32 @@
-use Rattle.std.proofs.Common.{◌≡◌, ◌+◌, ◌*◌, ◌^◌, ◌<◌, ◌≤◌, [], ◌++◌, List, Option, ℕ, length, take, drop, get_or, refl, sym, ap, ◌∙◌, subst, arith, append_assoc, length-append}
+use Rattle.std.proofs.Common.{
+  ◌≡◌,
+  ◌+◌,
+  ◌*◌,
+  ◌^◌,
+  ◌<◌,
+  ◌≤◌,
+  [],
+  ◌++◌,
+  List,
+  Option,
+  ℕ,
+  length,
+  take,
+  drop,
+  get_or,
+  refl,
+  sym,
+  ap,
+  ◌∙◌,
+  subst,
+  arith,
+  append_assoc,
+  length-append,
+}
 use Rattle.std.specs.List.{flat_map}
 use Rattle.std.proofs.lemmas.List.{length-take-le, take_all}
-use Rattle.aes3_cell.specs.declared.level.Level.{Level}
-use Rattle.aes3_cell.specs.Words.{word_cells}
+use Rattle.aes3_level.specs.declared.level.Level.{Level}
+use Rattle.aes3_level.specs.Words.{word_cells}
 use Rattle.aes3_cell.proofs.Growing.{front-is, front-more}
 use Rattle.aes3_input.specs.Taking.{behind}
 use Rattle.aes3_input.proofs.Items.{items-join}
@@ -26,10 +50,12 @@ take_word-requires-clause-following g c =
 
 -- what the words so far and one more write
 more : (d : List Level) (ws : List ℕ) (i : ℕ) → i < length ws
-    → behind marking d (flat_map word_cells (take i ws)) ++ behind marking (d ++ flat_map word_cells (take i ws)) (word_cells (get_or ws i 0))
+    → behind marking d (flat_map word_cells (take i ws))
+    ++ behind marking (d ++ flat_map word_cells (take i ws)) (word_cells (get_or ws i 0))
     ≡ behind marking d (flat_map word_cells (take (i + 1) ws))
 more d ws i h =
-    sym (items-join marking d (flat_map word_cells (take i ws)) (word_cells (get_or ws i 0))) ∙ ap (behind marking d) (sym (words-more ws i h))
+    sym (items-join marking d (flat_map word_cells (take i ws)) (word_cells (get_or ws i 0)))
+    ∙ ap (behind marking d) (sym (words-more ws i h))
 
 pub loop-word-preserved : goal.loop-word-preserved
 loop-word-preserved g c =
@@ -41,7 +67,8 @@ loop-word-preserved g c =
     record {
       next = λ d h.
           subst (Scanned c.take_word.new.self.scan c.take_word.new.self.marks)
-          (append_assoc d f (word_cells (get_or ws i 0)) ∙ ap (λ z. d ++ z) (sym (words-more ws i (omega arith)))) (r.next (d ++ f) (v.next d h));
+          (append_assoc d f (word_cells (get_or ws i 0)) ∙ ap (λ z. d ++ z) (sym (words-more ws i (omega arith))))
+          (r.next (d ++ f) (v.next d h));
       held = λ d h. held-is (more d ws i (omega arith)) (held-join (v.held d h) (r.wrote (d ++ f) (v.next d h)));
       fits = r.fits;
       quiet = r.count ∙ v.quiet;
@@ -60,17 +87,24 @@ returns-in-Err g c =
         r.err_count ∙ ap (λ k. k + 1) v.quiet,
         (λ d h.
             front-is
-            (ap (λ z. z ++ behind marking (d ++ flat_map word_cells (take (i + 1) ws)) rest) (ap (λ z. z ++ (behind marking d f ++ behind marking (d ++ f) (word_cells (get_or ws i 0)))) h.0 ∙ more d ws i (omega arith))
-            ∙ sym (ap (behind marking d) (words-parted ws (i + 1)) ∙ items-join marking d (flat_map word_cells (take (i + 1) ws)) rest))
-            (front-more (held-front (behind marking (d ++ f) (word_cells (get_or ws i 0))) (v.held d h.1) (r.err_grew (d ++ f) (v.next d h.1))) (behind marking (d ++ flat_map word_cells (take (i + 1) ws)) rest))),
+            (ap (λ z. z ++ behind marking (d ++ flat_map word_cells (take (i + 1) ws)) rest)
+            (ap (λ z. z ++ (behind marking d f ++ behind marking (d ++ f) (word_cells (get_or ws i 0)))) h.0
+            ∙ more d ws i (omega arith))
+            ∙ sym (ap (behind marking d) (words-parted ws (i + 1))
+            ∙ items-join marking d (flat_map word_cells (take (i + 1) ws)) rest))
+            (front-more (held-front (behind marking (d ++ f) (word_cells (get_or ws i 0))) (v.held d h.1)
+            (r.err_grew (d ++ f) (v.next d h.1)))
+            (behind marking (d ++ flat_map word_cells (take (i + 1) ws)) rest))),
       );
     }
 
 -- all words were taken, behind none that were held
 all : {t t' : Option (List ℕ)} {h k : List ℕ} (d : List Level) (ws : List ℕ) (i : ℕ) → length ws ≤ i → h ≡ []
-    → AllButHeld t t' h k (behind marking d (flat_map word_cells (take i ws))) → AllButHeld t t' [] k (behind marking d (flat_map word_cells ws))
+    → AllButHeld t t' h k (behind marking d (flat_map word_cells (take i ws)))
+    → AllButHeld t t' [] k (behind marking d (flat_map word_cells ws))
 all {t} {t'} {h} {k} d ws i l e x =
-    subst (λ z. AllButHeld t t' z k (behind marking d (flat_map word_cells ws))) e (held-is (ap (λ z. behind marking d (flat_map word_cells z)) (take_all i ws l)) x)
+    subst (λ z. AllButHeld t t' z k (behind marking d (flat_map word_cells ws))) e
+    (held-is (ap (λ z. behind marking d (flat_map word_cells z)) (take_all i ws l)) x)
 
 pub returns-in-Ok-hand_on : goal.returns-in-Ok-hand_on
 returns-in-Ok-hand_on g c =
@@ -83,7 +117,8 @@ returns-in-Ok-hand_on g c =
         refl,
         (λ d h. (
           r.none,
-          subst (λ z. Scanned c.loop-word.self.scan c.loop-word.self.marks (d ++ flat_map word_cells z)) (take_all i ws (omega arith)) (v.next d h.1),
+          subst (λ z. Scanned c.loop-word.self.scan c.loop-word.self.marks (d ++ flat_map word_cells z))
+              (take_all i ws (omega arith)) (v.next d h.1),
         )),
         (λ d h. all-handed (all d ws i (omega arith) h.0 (v.held d h.1)) r.wrote.grew),
         r.wrote.count ∙ v.quiet,

@@ -11,40 +11,51 @@ returns-in-Whole-clause-last g c =
     let k = c.args.self.now in
     let x = report_in c.args.lock.now c.args.ending in
     whole-last c.put_block.result x k.first k.second c.put_block.new.self.first c.put_block.new.self.second
-    (told-whole c.args.lock.now c.in-Whole.is c.gathered.ensures c.block.ensures) c.put_block.ensures.first c.put_block.ensures.second
+    (told-whole c.args.lock.now c.in-Whole.is c.gathered.ensures c.block.ensures)
+    c.put_block.ensures.first c.put_block.ensures.second
 
 pub returns-in-Whole-clause-lines : goal.returns-in-Whole-clause-lines
 returns-in-Whole-clause-lines g c =
     let k = c.args.self.now in
     let x = report_in c.args.lock.now c.args.ending in
-    whole-grew c.put_block.result x k.first k.second k.tally.blocks (g.T.Sink.taken c.args.sink.now) (g.T.Sink.taken c.put_block.new.sink)
+    whole-grew c.put_block.result x k.first k.second k.tally.blocks (g.T.Sink.taken c.args.sink.now)
+    (g.T.Sink.taken c.put_block.new.sink)
     (told-whole c.args.lock.now c.in-Whole.is c.gathered.ensures c.block.ensures) c.put_block.ensures.wrote.grew
 
 pub returns-in-Whole-clause-err_lines : goal.returns-in-Whole-clause-err_lines
 returns-in-Whole-clause-err_lines g c =
     let k = c.args.self.now in
     let x = report_in c.args.lock.now c.args.ending in
-    whole-front c.put_block.result x k.first k.second k.tally.blocks (g.T.Sink.failed c.args.sink.now) (g.T.Sink.failed c.put_block.new.sink)
+    whole-front c.put_block.result x k.first k.second k.tally.blocks (g.T.Sink.failed c.args.sink.now)
+    (g.T.Sink.failed c.put_block.new.sink)
     (g.T.Sink.taken c.args.sink.now) (g.T.Sink.taken c.put_block.new.sink)
     (told-whole c.args.lock.now c.in-Whole.is c.gathered.ensures c.block.ensures) c.put_block.ensures.wrote.err
 
 pub returns-in-Marked-clause-last : goal.returns-in-Marked-clause-last
 returns-in-Marked-clause-last g c = λ bs h.
-    other-last (report_in c.args.lock.now c.args.ending) bs (ap (λ e. wholes (report_in c.args.lock.now e ∷ [])) c.in-Marked.is) h
+    other-last (report_in c.args.lock.now c.args.ending) bs
+    (ap (λ e. wholes (report_in c.args.lock.now e ∷ [])) c.in-Marked.is) h
 
 pub returns-in-Marked-clause-lines : goal.returns-in-Marked-clause-lines
-returns-in-Marked-clause-lines g c = λ bs h n. grew-is (sym (ap (λ e. report_changes bs (report_in c.args.lock.now e)) c.in-Marked.is)) (grew-none refl)
+returns-in-Marked-clause-lines g c
+    = λ bs h n. grew-is (sym (ap (λ e. report_changes bs (report_in c.args.lock.now e)) c.in-Marked.is))
+    (grew-none refl)
 
 pub returns-in-Fault-clause-last : goal.returns-in-Fault-clause-last
 returns-in-Fault-clause-last g c = λ bs h.
-    other-last (report_in c.args.lock.now c.args.ending) bs (ap (λ e. wholes (report_in c.args.lock.now e ∷ [])) c.in-Fault.is) h
+    other-last (report_in c.args.lock.now c.args.ending) bs
+    (ap (λ e. wholes (report_in c.args.lock.now e ∷ [])) c.in-Fault.is) h
 
 pub returns-in-Fault-clause-lines : goal.returns-in-Fault-clause-lines
-returns-in-Fault-clause-lines g c = λ bs h n. grew-is (sym (ap (λ e. report_changes bs (report_in c.args.lock.now e)) c.in-Fault.is)) (grew-none refl)
+returns-in-Fault-clause-lines g c
+    = λ bs h n. grew-is (sym (ap (λ e. report_changes bs (report_in c.args.lock.now e)) c.in-Fault.is)) (grew-none refl)
 
 pub returns-in-Unfinished-clause-last : goal.returns-in-Unfinished-clause-last
 returns-in-Unfinished-clause-last g c = λ bs h.
-    other-last (report_in c.args.lock.now c.args.ending) bs (ap (λ e. wholes (report_in c.args.lock.now e ∷ [])) c.in-Unfinished.is) h
+    other-last (report_in c.args.lock.now c.args.ending) bs
+    (ap (λ e. wholes (report_in c.args.lock.now e ∷ [])) c.in-Unfinished.is) h
 
 pub returns-in-Unfinished-clause-lines : goal.returns-in-Unfinished-clause-lines
-returns-in-Unfinished-clause-lines g c = λ bs h n. grew-is (sym (ap (λ e. report_changes bs (report_in c.args.lock.now e)) c.in-Unfinished.is)) (grew-none refl)
+returns-in-Unfinished-clause-lines g c
+    = λ bs h n. grew-is (sym (ap (λ e. report_changes bs (report_in c.args.lock.now e)) c.in-Unfinished.is))
+    (grew-none refl)

@@ -1,6 +1,6 @@
 use Rattle.std.proofs.Common.{◌+◌, ◌++◌, ◌∙◌, ap, ap₂}
 use Rattle.std.proofs.lemmas.Result.{err_from_is_err_and}
-use Rattle.aes3_block.specs.declared.status.Channel.TheVariants.{First, Second}
+use Rattle.aes3_frame.specs.declared.status.Channel.TheVariants.{First, Second}
 use Rattle.aes3_cell.proofs.Growing.{grew-is, grew-join, front-is, front-join, front-more}
 use Rattle.aes3_text.specs.Runs.{change_line}
 use Rattle.aes3_text.proofs.changing.ChangeLines.put_block.Goals as goal
@@ -25,7 +25,8 @@ returns-in_err-put_change-clause-wrote g c =
 pub returns-in_err-put_change-2-clause-wrote : goal.returns-in_err-put_change-2-clause-wrote
 returns-in_err-put_change-2-clause-wrote g c =
     let k = c.args.self.now in
-    let p = err_from_is_err_and c.from_residual-in_err-put_change-2.result c.from_residual-in_err-put_change-2.ensures.1 in
+    let p = err_from_is_err_and c.from_residual-in_err-put_change-2.result c.from_residual-in_err-put_change-2.ensures.1
+    in
     let f = c.in_err-put_change-2.ensures.err in
     rw p.1 (record {
       grew = tt;
@@ -44,7 +45,8 @@ returns-clause-wrote g c =
     let k = c.args.self.now in
     record {
       grew = grew-is
-          (ap₂ (λ u v. change_line First k.tally.blocks k.first u ++ change_line Second k.tally.blocks k.second v) c.channel_status-first.ensures c.channel_status-second.ensures)
+          (ap₂ (λ u v. change_line First k.tally.blocks k.first u ++ change_line Second k.tally.blocks k.second v)
+          c.channel_status-first.ensures c.channel_status-second.ensures)
           (grew-join c.in_ok-put_change.ensures.grew c.in_ok-put_change-2.ensures.grew);
       count = c.in_ok-put_change-2.ensures.count ∙ c.in_ok-put_change.ensures.count;
       err = tt;

@@ -4,4 +4,5 @@ use Rattle.aes3_reports.proofs.EndingLines.{ending-told}
 use Rattle.aes3_text.proofs.checking.ReportLinesReportWriter.tell.Goals as goal
 
 pub returns : goal.returns
-returns g c = wrote-is (ending-told c.args.self.now.lines c.args.ending (read_words c.args._lock.now.words)) c.tell_ending.ensures
+returns g c = wrote-is (ending-told c.args.self.now.lines c.args.ending (read_words c.args._lock.now.words))
+    c.tell_ending.ensures

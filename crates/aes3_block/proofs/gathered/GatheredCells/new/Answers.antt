@@ -1,6 +1,0 @@
-use Rattle.aes3_block.specs.Blocks.{block_slots}
-use Rattle.aes3_block.proofs.gathered.GatheredCells.new.Goals as goal
-
-pub returns : goal.returns
-unfolding block_slots
-returns c = c.of_words.ensures.words

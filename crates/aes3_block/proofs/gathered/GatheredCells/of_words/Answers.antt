@@ -1,6 +1,0 @@
-use Rattle.std.proofs.Common.{arith}
-use Rattle.aes3_block.proofs.BlockLemmas.{block_slots_384}
-use Rattle.aes3_block.proofs.gathered.GatheredCells.of_words.Goals as goal
-
-pub returns-clause-len : goal.returns-clause-len
-returns-clause-len c = let n = block_slots_384 in omega arith

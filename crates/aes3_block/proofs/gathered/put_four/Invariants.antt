@@ -1,9 +1,0 @@
-use Rattle.std.proofs.Common.{◌≡◌, length}
-use Rattle.aes3_block.specs.Gathered.{with_first}
-use Rattle.aes3_block.proofs.gathered.put_four.Given as goal
-
-abbrev pub invariant-loop-i : goal.invariant-loop-i
-invariant-loop-i l = record {
-  len : length l.words ≡ 384;
-  kept : l.words ≡ with_first l.at l.fn.words l.four l.i;
-}

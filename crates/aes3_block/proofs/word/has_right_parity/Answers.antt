@@ -1,6 +1,0 @@
-use Rattle.std.proofs.Common.{arith}
-use Rattle.aes3_block.proofs.BitLemmas.{word-parity}
-use Rattle.aes3_block.proofs.word.has_right_parity.Goals as goal
-
-pub returns : goal.returns
-returns c = word-parity c.args.word (omega arith)

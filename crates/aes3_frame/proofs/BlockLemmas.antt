@@ -1,0 +1,69 @@
+-- Blocks kept as words.
+use Rattle.std.proofs.Common.{◌≡◌, ◌≢◌, ℕ, zero, suc, ◌*◌, ◌/◌, ◌%◌, ◌≤◌, List, ◌∷◌, Bool, true, cond, map, set, get_or}
+use Rattle.std.proofs.Common.{replicate, refl, ap, ap₂, ◌∙◌, arith, eq-eqb, ne_eqb}
+use Rattle.std.proofs.lemmas.List.{map-set}
+use Rattle.aes3_slot.specs.declared.mark.Mark.{Mark}
+use Rattle.aes3_slot.specs.declared.mark.Mark.TheVariants.{X, Y, Z}
+use Rattle.aes3_slot.specs.Slots.{payload_len, slots_len}
+use Rattle.aes3_frame.specs.Blocks.{block_slots, zero_block, mark_at}
+use Rattle.aes3_frame.specs.Files.{is_lawful, payload_of}
+
+pub block_slots_384 : block_slots ≡ 384
+unfolding block_slots
+block_slots_384 = refl
+
+pub count-within : (n : ℕ) → block_slots * (n / block_slots) ≤ n
+unfolding block_slots
+count-within n = omega arith
+
+-- zeros
+map-replicate : {A B : Type 0} (f : A → B) (n : ℕ) (x : A) → map f (replicate n x) ≡ replicate n (f x)
+map-replicate f zero x = refl
+map-replicate f (suc n) x = ap (λ xs. f x ∷ xs) (map-replicate f n x)
+
+get_or-zeros : (n i : ℕ) → ◌≡◌ {A = ℕ} (get_or (replicate n 0) i 0) 0
+get_or-zeros zero i = refl
+get_or-zeros (suc n) zero = refl
+get_or-zeros (suc n) (suc i) = get_or-zeros n i
+
+pub zeros-payloads : (words : List ℕ) → words ≡ replicate block_slots 0 → map payload_of words ≡ zero_block
+unfolding zero_block payload_len
+zeros-payloads words e = ap (map payload_of) e ∙ map-replicate payload_of block_slots 0
+
+zero-lawful : is_lawful 0 ≡ true
+unfolding slots_len
+zero-lawful = refl
+
+pub zeros-lawful : (words : List ℕ) → words ≡ replicate block_slots 0 → (i : ℕ) → is_lawful (get_or words i 0) ≡ true
+zeros-lawful words e i = ap is_lawful (ap (λ w. get_or w i 0) e ∙ get_or-zeros block_slots i) ∙ zero-lawful
+
+-- two payloads written
+pub payloads-set : (words : List ℕ) (i j v w : ℕ) (x y : List Bool) → payload_of v ≡ x → payload_of w ≡ y
+    → map payload_of (set (set words i v) j w) ≡ set (set (map payload_of words) i x) j y
+payloads-set words i j v w x y e f =
+    map-set payload_of (set words i v) j w
+    ∙ ap₂ (λ ws p. set ws j p) (map-set payload_of words i v ∙ ap (set (map payload_of words) i) e) f
+
+-- the preambles of a block
+pub mark_at-zero : (i : ℕ) → i ≡ 0 → mark_at i ≡ Z
+unfolding mark_at
+mark_at-zero i e = ap mark_at e
+
+pub mark_at-odd : (i : ℕ) → i % 2 ≡ 1 → mark_at i ≡ Y
+unfolding mark_at
+mark_at-odd zero e = absurd (omega arith)
+mark_at-odd (suc j) e = ap (λ b. cond {A = Mark} b Y X) (eq-eqb (j % 2) 0 (omega arith))
+
+pub mark_at-even : (i : ℕ) → i ≢ 0 → i % 2 ≢ 1 → mark_at i ≡ X
+unfolding mark_at
+mark_at-even zero n e = absurd (n refl)
+mark_at-even (suc j) n e = ap (λ b. cond {A = Mark} b Y X) (ne_eqb (j % 2) 0 (λ q. e (omega arith)))
+
+-- whole blocks of words and of bytes
+pub slots-whole : (n : ℕ) → block_slots * n / block_slots ≡ n
+unfolding block_slots
+slots-whole n = omega arith
+
+pub bytes-whole : (n : ℕ) → 4 * (block_slots * n) % (4 * block_slots) ≡ 0
+unfolding block_slots
+bytes-whole n = omega arith

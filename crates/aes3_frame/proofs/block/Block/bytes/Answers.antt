@@ -1,0 +1,16 @@
+use Rattle.std.proofs.Common.{arith, ◌∙◌, length-set}
+use Rattle.aes3_frame.specs.Statuses.{place_of, bits_at}
+use Rattle.aes3_frame.proofs.StatusBits.{bytes-push, bytes-all}
+use Rattle.aes3_frame.proofs.block.Block.bytes.Goals as goal
+
+pub loop-k-preserved : goal.loop-k-preserved
+loop-k-preserved c = record {
+  bytes = bytes-push c.loop-k.k c.byte.result c.loop-k.bytes
+      (bits_at (place_of c.args.bit) c.args.self.now c.args.channel) (omega arith)
+      c.loop-k.invariant.bytes c.byte.ensures;
+  len = length-set c.loop-k.bytes c.loop-k.k c.byte.result ∙ c.loop-k.invariant.len;
+}
+
+pub returns : goal.returns
+returns c = bytes-all c.loop-k.k c.loop-k.bytes (bits_at (place_of c.args.bit) c.args.self.now c.args.channel)
+    (omega arith) c.loop-k.invariant.len c.loop-k.invariant.bytes

@@ -1,0 +1,6 @@
+use Rattle.aes3_frame.specs.Blocks.{block_slots}
+use Rattle.aes3_frame.proofs.gathered.GatheredCells.new.Goals as goal
+
+pub returns : goal.returns
+unfolding block_slots
+returns c = c.of_words.ensures.words

@@ -1,0 +1,6 @@
+use Rattle.std.proofs.Common.{arith}
+use Rattle.aes3_frame.proofs.BitLemmas.{word-parity}
+use Rattle.aes3_frame.proofs.word.has_right_parity.Goals as goal
+
+pub returns : goal.returns
+returns c = word-parity c.args.word (omega arith)

@@ -1,0 +1,39 @@
+-- Blocks of 192 frames, as their 384 payloads in order of transmission.
+use Rattle.std.specs.Prelude.{ℕ, zero, suc, List, Bool, false, length, ◌≡◌, ◌*◌, ◌%◌, ◌==◌, map, replicate}
+use Rattle.std.specs.Prelude.{if◌then◌else◌}
+use Rattle.std.specs.List.{flat_map, All}
+use Rattle.aes3_level.specs.declared.level.Level.{Level}
+use Rattle.aes3_level.specs.Cells.{line}
+use Rattle.aes3_slot.specs.declared.mark.Mark.{Mark}
+use Rattle.aes3_slot.specs.declared.mark.Mark.TheVariants.{X, Y, Z}
+use Rattle.aes3_slot.specs.Slots.{payload_len, IsPayload, with_parity, runs_of}
+
+-- the preamble of a block's subframe by its number: Z and Y in frame 0, X and Y in the frames behind it
+unfoldable pub mark_at : ℕ → Mark
+mark_at zero = Z
+mark_at (suc j) = if (j % 2) == 0 then Y else X
+
+-- how many subframes and how many cells a block has
+unfoldable pub block_slots : ℕ
+block_slots = 384
+
+unfoldable pub block_len : ℕ
+block_len = 64 * block_slots
+
+pub record IsBlock (b : List (List Bool)) : Type 0 where
+  pub count : length b ≡ block_slots
+  pub payloads : All IsPayload b
+
+-- the block all of whose bits are 0
+unfoldable pub zero_block : List (List Bool)
+zero_block = replicate block_slots (replicate payload_len false)
+
+-- the runs of a block, its cells after level s, and the cells of blocks one behind the other
+abbrev pub block_runs : List (List Bool) → List ℕ
+block_runs b = runs_of mark_at (map with_parity b)
+
+unfoldable pub block_cells : Level → List (List Bool) → List Level
+block_cells s b = line s (block_runs b)
+
+unfoldable pub stream : Level → List (List (List Bool)) → List Level
+stream s bs = line s (flat_map block_runs bs)

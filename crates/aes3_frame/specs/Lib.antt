@@ -1,0 +1,11 @@
+pub mod Subframes
+pub mod Blocks
+pub mod Files
+pub mod Gathered
+pub mod Samples
+pub mod Sampled
+pub mod Statuses
+pub use Rattle.aes3_level.specs.Cells
+pub use Rattle.aes3_level.specs.Words
+pub use Rattle.aes3_bits.specs.Bits
+pub use Rattle.aes3_slot.specs.Slots

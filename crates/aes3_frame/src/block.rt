@@ -1,0 +1,138 @@
+//! Blocks.
+use aes3_slot::SUBFRAME_CELLS;
+use std::marker::Model;
+
+/// How many frames a block has.
+pub const FRAMES: usize = 192;
+
+/// How many subframes a block has.
+pub const SLOTS: usize = 384;
+
+/// How many cells a block has.
+pub const BLOCK_CELLS: u64 = SUBFRAME_CELLS * SLOTS as u64;
+
+/// How many bytes a block has in a block file.
+pub const BLOCK_BYTES: usize = 4 * SLOTS;
+
+/// A block: 192 frames that begin with preamble Z (AES3-3, IEC 60958-1).
+///
+/// A contract sees it as its 384 payloads in order of transmission, channel 1 first.
+#[derive(Drop)]
+pub struct Block {
+    words: [u32; SLOTS],
+}
+
+impl Model for Block {
+    ghost use Rattle.std.specs.Prelude.{List, Bool, ℕ, ◌<◌, ◌≡◌, true, get_or, map};
+    ghost use Rattle.aes3_frame.specs.Files.{is_lawful, payload_of};
+    ghost use Rattle.aes3_frame.specs.Blocks.{block_slots};
+
+    ghost Value = { List (List Bool) };
+
+    ghost view = { λ b. map payload_of b.words };
+
+    ghost invariant = { λ b. (i : ℕ) → i < block_slots → is_lawful (get_or b.words i 0) ≡ true };
+}
+
+ghost use Rattle.std.specs.Prelude.{◌≡◌, ◌<◌, ◌+◌, ◌*◌, ℕ, IfErr, IfOk, Some, true, false, get_or};
+ghost use Rattle.std.specs.Prelude.{length, map, replicate, slice_get, slice_set};
+ghost use Rattle.aes3_frame.specs.Blocks.{block_slots, zero_block};
+ghost use Rattle.aes3_frame.specs.Files.{is_lawful, payload_of};
+ghost use Rattle.aes3_frame.specs.Subframes.{bits_of};
+
+use crate::frame::Frame;
+use crate::subframe::Subframe;
+use crate::word::{has_right_code, has_right_parity, payload_of_word, word_of_payload};
+
+/// Words of payloads that are 0.
+pub fn zero_words() -> [u32; SLOTS]
+    ensures { result ≡ replicate block_slots 0 }
+{
+    [0; SLOTS]
+}
+
+/// Whether a word is as a block file may have it.
+pub(crate) fn is_lawful_word(word: u32) -> bool
+    ensures { result ≡ is_lawful word }
+{
+    has_right_code(word) && has_right_parity(word)
+}
+
+impl Block {
+    /// The block all of whose bits are 0.
+    pub fn zero() -> Block
+        ensures { result ≡ zero_block }
+    {
+        Block {
+            words: zero_words(),
+        }
+    }
+
+    /// The same block once more.
+    pub fn copy(&self) -> Block
+        ensures { result ≡ self.now }
+    {
+        Block { words: self.words }
+    }
+
+    /// Frame `i`.
+    pub fn frame(&self, i: usize) -> Frame
+        requires { i < FRAMES }
+        ensures first { slice_get self.now (2 * i) ≡ Some (bits_of result.first) }
+        ensures second { slice_get self.now (2 * i + 1) ≡ Some (bits_of result.second) }
+    {
+        Frame {
+            first: Subframe::of_payload(payload_of_word(self.words[2 * i])),
+            second: Subframe::of_payload(payload_of_word(self.words[2 * i + 1])),
+        }
+    }
+
+    /// Sets frame `i`, and no other.
+    pub fn set_frame(&mut self, i: usize, frame: Frame)
+        requires { i < FRAMES }
+        ensures { self.new ≡ slice_set (slice_set self.old (2 * i) (bits_of frame.first))
+            (2 * i + 1) (bits_of frame.second) }
+    {
+        self.words[2 * i] = word_of_payload(frame.first.payload());
+        self.words[2 * i + 1] = word_of_payload(frame.second.payload());
+    }
+
+    /// The block of these words, as a block file has them.
+    ///
+    /// # Errors
+    /// The number of the first word that is not lawful.
+    #[tactic(auto, unfolding(crate::specs::Blocks::block_slots))]
+    pub fn try_of_words(words: &[u32; SLOTS]) -> Result<Block, usize>
+        ensures block { IfOk result (λ b. b ≡ map payload_of words.now) }
+        ensures lawful { IfOk result (λ _. (i : ℕ) → i < block_slots
+            → is_lawful (get_or words.now i 0) ≡ true) }
+        ensures within { IfErr result (λ n. n < block_slots) }
+        ensures unlawful { IfErr result (λ n. is_lawful (get_or words.now n 0) ≡ false) }
+        ensures first { IfErr result (λ n. (i : ℕ) → i < n
+            → is_lawful (get_or words.now i 0) ≡ true) }
+    {
+        for (i, word) in words.iter().enumerate() {
+            if !is_lawful_word(*word) {
+                return Err(i);
+            }
+        }
+        Ok(Block::of_words(*words))
+    }
+
+    /// The block of lawful words.
+    pub fn of_words(words: [u32; SLOTS]) -> Block
+        requires { (i : ℕ) → i < block_slots → is_lawful (get_or words i 0) ≡ true }
+        ensures { result ≡ map payload_of words }
+    {
+        Block { words }
+    }
+
+    /// Its words in a block file.
+    pub fn words(&self) -> &[u32; SLOTS]
+        ensures count { length result.now ≡ block_slots }
+        ensures lawful { (i : ℕ) → i < block_slots → is_lawful (get_or result.now i 0) ≡ true }
+        ensures payloads { map payload_of result.now ≡ self.now }
+    {
+        &self.words
+    }
+}

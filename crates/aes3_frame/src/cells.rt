@@ -1,0 +1,39 @@
+//! The cells of a block.
+
+ghost use Rattle.std.specs.Prelude.{◌≡◌};
+ghost use Rattle.std.specs.List.{flat_map};
+ghost use Rattle.aes3_level.specs.Words.{word_cells};
+ghost use Rattle.aes3_frame.specs.Blocks.{block_cells, mark_at};
+
+use crate::block::{Block, SLOTS};
+use crate::word::slots_of_word;
+use aes3_level::Level;
+use aes3_slot::{Mark, slots_cells, slots_cells_of_four};
+use std::simd::prelude::*;
+
+/// The preamble of a block's subframe, given its number from 0 on (AES3-3; IEC 60958-1).
+pub fn mark_of(slot: u64) -> Mark
+    ensures { result ≡ mark_at slot }
+{
+    if slot == 0 {
+        Mark::Z
+    } else if slot % 2 == 1 {
+        Mark::Y
+    } else {
+        Mark::X
+    }
+}
+
+/// Puts the cells of a block after the level `before` into `cells`, a word a subframe, the earliest
+/// cell in bit 0.
+pub fn fill_block_cells(before: Level, block: &Block, cells: &mut [u64; SLOTS])
+    ensures { flat_map word_cells cells.new ≡ block_cells before block.now }
+{
+    let words = block.words();
+    for i in 0..SLOTS / 4 {
+        let four = u32x4::from_slice(&words[4 * i..]);
+        let subframes = slots_cells_of_four(before, Mark::X, Mark::Y, four);
+        subframes.copy_to_slice(&mut cells[4 * i..]);
+    }
+    cells[0] = slots_cells(before, Mark::Z, slots_of_word(words[0]));
+}

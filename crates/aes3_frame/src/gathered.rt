@@ -1,0 +1,273 @@
+//! The cells of a block's subframes as they are gathered from a line.
+use crate::block::{Block, SLOTS, zero_words};
+use aes3_level::Level;
+use std::marker::Model;
+use std::simd::prelude::*;
+
+/// The cells of a block's subframes, 64 each, the earliest in bit 0, as they come one behind the
+/// other.
+///
+/// A contract sees the words. It also keeps how many of the first are a block's first subframes as
+/// they stand, with right parity, so that nobody has to judge them again.
+#[derive(Drop)]
+pub struct GatheredCells {
+    words: [u64; SLOTS],
+    before: Level,
+    right: usize,
+}
+
+impl Model for GatheredCells {
+    ghost use Rattle.std.specs.Prelude.{List, ℕ};
+    ghost use Rattle.aes3_frame.specs.Gathered.{AreRight};
+
+    ghost Value = { List ℕ };
+
+    ghost view = { λ c. c.words };
+
+    ghost invariant = { λ c. AreRight c.before c.right c.words };
+}
+
+ghost use Rattle.std.specs.Prelude.{◌≡◌, ℕ, true, false, ◌<◌, ◌≤◌, ◌+◌, ◌*◌, ◌/◌, ◌%◌, ◌^◌, ◌⊎◌};
+ghost use Rattle.std.specs.Prelude.{IfSome, bit_xor, get_or, length, map, replicate, set, take};
+ghost use Rattle.std.specs.Int.{bit_at};
+ghost use Rattle.std.specs.List.{filter, flat_map};
+ghost use Rattle.aes3_level.specs.Words.{word_cells};
+ghost use Rattle.aes3_bits.specs.Bits.{odd_ones};
+ghost use Rattle.aes3_slot.specs.ReadWords.{read_word, read_words};
+ghost use Rattle.aes3_slot.specs.Slots.{payload_len};
+ghost use Rattle.aes3_frame.specs.Blocks.{block_cells, block_slots, mark_at};
+ghost use Rattle.aes3_frame.specs.Files.{is_lawful, payload_of};
+ghost use Rattle.aes3_frame.specs.Gathered.{IsRight, with_first};
+
+use crate::cells::mark_of;
+use crate::slots::wrong_parities;
+use crate::word::{payload_of_word, word_of_payload};
+use crate::wrong_cells::wrong_in;
+
+/// How many of the first words are right after the level `before`, with `more` right ones put from
+/// `slot` on, where `right` of them were after the level `first`.
+fn right_behind(right: usize, first: Level, slot: usize, before: Level, more: usize) -> usize
+    requires { slot + more ≤ SLOTS }
+    ensures { (j : ℕ) → j < result
+        → ((j < slot) × (j < right) × (first ≡ before)) ⊎ ((slot ≤ j) × (j < slot + more)) }
+{
+    let known = if first == before { right.min(slot) } else { 0 };
+    if known == slot { slot + more } else { known }
+}
+
+/// Puts eight words from `slot` on.
+fn put_eight(words: &mut [u64; SLOTS], slot: usize, subframes: &[u64; 8])
+    requires { slot + 8 ≤ SLOTS }
+    ensures { words.new ≡ with_first slot words.old subframes.now 8 }
+{
+    for (i, cells) in subframes.iter().enumerate() {
+        words[slot + i] = *cells;
+    }
+}
+
+/// Puts four words from `at` on.
+fn put_four(words: &mut [u32; SLOTS], at: usize, four: &[u32; 4])
+    requires { at + 4 ≤ SLOTS }
+    ensures { words.new ≡ with_first at words.old four.now 4 }
+{
+    for (i, word) in four.iter().enumerate() {
+        words[at + i] = *word;
+    }
+}
+
+/// The bits that a subframe's 64 cells carry in slots 4 to 31, each at the place of its slot in a
+/// word of a block file, but with the octets of that word two octets apart.
+fn octets_apart(cells: u64) -> u64
+    ensures none { (i : ℕ) → i < 4 → bit_at result i ≡ 0 }
+    ensures bits { (i : ℕ) → i < 28 → bit_at result (16 * ((i + 4) / 8) + (i + 4) % 8)
+        ≡ bit_at (bit_xor cells (cells / 2) / 2 ^ 8) (2 * i) }
+{
+    let word = (cells ^ (cells >> 1)) & 0x5555_5555_5555_5500;
+    let word = (word | (word >> 1)) & 0x3333_3333_3333_3333;
+    let word = (word | (word >> 2)) & 0x0F0F_0F0F_0F0F_0F0F;
+    (word | (word >> 4)) & 0x00FF_00FF_00FF_00FF
+}
+
+/// The octets at even places.
+const EVEN: [usize; 16] = [0, 2, 4, 6, 8, 10, 12, 14, 16, 18, 20, 22, 24, 26, 28, 30];
+
+/// Words of the octets at even places.
+fn even_octets(words: u64x4) -> [u32; 4]
+    ensures bits { (i j : ℕ) → i < 4 → j < 32 → bit_at (get_or result i 0) j
+        ≡ bit_at (get_or words i 0) (16 * (j / 8) + j % 8) }
+    ensures fits { (i : ℕ) → i < 4 → get_or result i 0 < 2 ^ 32 }
+{
+    u32x4::from_le_bytes(words.to_le_bytes().swizzle(EVEN)).to_array()
+}
+
+/// The words of the payloads that the cells of four subframes carry, with the parity bits that
+/// they carry too: lawful where those are right.
+fn words_as_read(cells: &[u64; 4]) -> [u32; 4]
+    ensures lawful { (i : ℕ) → i < 4 → odd_ones (read_word (get_or cells.now i 0)) ≡ false
+        → is_lawful (get_or result i 0) ≡ true }
+    ensures payload { (i : ℕ) → i < 4 → payload_of (get_or result i 0)
+        ≡ take payload_len (read_word (get_or cells.now i 0)) }
+{
+    even_octets(u64x4::from_array([
+        octets_apart(cells[0]),
+        octets_apart(cells[1]),
+        octets_apart(cells[2]),
+        octets_apart(cells[3]),
+    ]))
+}
+
+/// The lawful word with the payload of a word.
+fn with_right_parity(word: u32) -> u32
+    ensures lawful { is_lawful result ≡ true }
+    ensures payload { payload_of result ≡ payload_of word }
+{
+    word_of_payload(payload_of_word(word))
+}
+
+/// The lawful words with the payloads of four words.
+fn with_right_parities(words: &[u32; 4]) -> [u32; 4]
+    ensures lawful { (i : ℕ) → i < 4 → is_lawful (get_or result i 0) ≡ true }
+    ensures payload { (i : ℕ) → i < 4 → payload_of (get_or result i 0)
+        ≡ payload_of (get_or words.now i 0) }
+{
+    [
+        with_right_parity(words[0]),
+        with_right_parity(words[1]),
+        with_right_parity(words[2]),
+        with_right_parity(words[3]),
+    ]
+}
+
+/// The lawful words whose payloads the cells of four subframes carry. It makes no parity bits where
+/// `even` says that those that are there are right.
+fn words_of_four(cells: &[u64; 4], even: bool) -> [u32; 4]
+    requires { even ≡ true → (i : ℕ) → i < 4
+        → odd_ones (read_word (get_or cells.now i 0)) ≡ false }
+    ensures lawful { (i : ℕ) → i < 4 → is_lawful (get_or result i 0) ≡ true }
+    ensures payload { (i : ℕ) → i < 4 → payload_of (get_or result i 0)
+        ≡ take payload_len (read_word (get_or cells.now i 0)) }
+{
+    let words = words_as_read(cells);
+    if even {
+        words
+    } else {
+        with_right_parities(&words)
+    }
+}
+
+/// The block whose payloads these subframes carry. It makes no parity bits where `even` says that
+/// those that are there are right.
+#[inline(always)]
+fn block_of_fours(words: &[u64; SLOTS], even: bool) -> Block
+    requires { even ≡ true → (i : ℕ) → i < block_slots
+        → odd_ones (read_word (get_or words.now i 0)) ≡ false }
+    ensures { result ≡ map (take payload_len) (read_words words.now) }
+{
+    let mut lawful = zero_words();
+    for i in 0..SLOTS / 4 {
+        let at = 4 * i;
+        let four = [words[at], words[at + 1], words[at + 2], words[at + 3]];
+        put_four(&mut lawful, at, &words_of_four(&four, even));
+    }
+    Block::of_words(lawful)
+}
+
+impl GatheredCells {
+    /// Words all of whose cells are low.
+    pub fn new() -> Self
+        ensures { result ≡ replicate block_slots 0 }
+    {
+        GatheredCells::of_words(&[0; SLOTS])
+    }
+
+    /// These words.
+    pub fn of_words(words: &[u64; SLOTS]) -> Self
+        ensures words { result ≡ words.now }
+        ensures len { length result ≡ block_slots }
+    {
+        GatheredCells {
+            words: *words,
+            before: Level::Low,
+            right: 0,
+        }
+    }
+
+    /// Keeps these words in place of all.
+    pub fn keep_all(&mut self, words: &[u64; SLOTS])
+        ensures words { self.new ≡ words.now }
+        ensures len { length self.new ≡ block_slots }
+    {
+        self.words = *words;
+        self.right = 0;
+    }
+
+    /// The words.
+    pub fn words(&self) -> &[u64; SLOTS]
+        ensures { result.now ≡ self.now }
+    {
+        &self.words
+    }
+
+    /// Keeps the cells of subframe `slot`, before whose first the line has the level `before`.
+    pub fn keep(&mut self, slot: usize, before: Level, cells: u64)
+        requires { slot < SLOTS }
+        ensures { self.new ≡ set self.old slot cells }
+    {
+        let more = usize::from(wrong_in(before, mark_of(slot as u64), cells) == 0);
+        self.right = right_behind(self.right, self.before, slot, before, more);
+        self.before = before;
+        self.words[slot] = cells;
+    }
+
+    /// Keeps the cells of eight subframes from `slot` on, each of them right after the level
+    /// `before`.
+    pub fn keep_eight(&mut self, slot: usize, before: Level, subframes: &[u64; 8])
+        requires within { slot + 8 ≤ SLOTS }
+        requires right { (i : ℕ) → i < 8 → IsRight before (mark_at (slot + i))
+            (get_or subframes.now i 0) }
+        ensures { self.new ≡ with_first slot self.old subframes.now 8 }
+    {
+        self.right = right_behind(self.right, self.before, slot, before, 8);
+        self.before = before;
+        put_eight(&mut self.words, slot, subframes);
+    }
+
+    /// The level after which the words are a block's cells as they stand, with right parity, where
+    /// it knows one.
+    pub fn level_before(&self) -> Option<Level>
+        ensures { IfSome result (λ s. flat_map word_cells self.now
+            ≡ block_cells s (map (take payload_len) (read_words self.now))) }
+    {
+        if self.right >= SLOTS {
+            Some(self.before)
+        } else {
+            None
+        }
+    }
+
+    /// The block whose payloads these subframes carry, as `Block::of_cells` gathers it. It makes no
+    /// parity bits where it knows those that are there to be right.
+    #[inline(always)]
+    pub fn block(&self) -> Block
+        ensures { result ≡ map (take payload_len) (read_words self.now) }
+    {
+        // Two loops: one that asked each time would read the cells through memory.
+        if self.right >= SLOTS {
+            block_of_fours(&self.words, true)
+        } else {
+            block_of_fours(&self.words, false)
+        }
+    }
+
+    /// How many of the subframes have a wrong parity bit, as `wrong_parities` counts them. It
+    /// counts none again that it knows to be right.
+    pub fn wrong_parities(&self) -> u16
+        ensures { result ≡ length (filter odd_ones (read_words self.now)) }
+    {
+        if self.right >= SLOTS {
+            0
+        } else {
+            wrong_parities(&self.words)
+        }
+    }
+}

@@ -1,0 +1,56 @@
+//! The channel status of a block.
+
+/// One of the two channels of a line.
+#[derive(Clone, Copy, PartialEq, Eq)]
+pub enum Channel {
+    /// Channel 1, the first subframe of each frame.
+    First,
+    /// Channel 2, the second subframe of each frame.
+    Second,
+}
+
+/// How many bytes the channel status of one channel has in a block.
+pub const STATUS_LEN: usize = 24;
+
+ghost use Rattle.std.specs.Prelude.{◌≡◌, [], ◌∷◌};
+ghost use Rattle.aes3_frame.specs.Subframes.{bits_of};
+ghost use Rattle.aes3_frame.specs.Statuses.{status_of, with_bits, with_status};
+
+use crate::block::{Block, FRAMES};
+use crate::carried::{Carried, bit_of};
+use crate::frame::Frame;
+
+impl Block {
+    /// The channel status of a channel (AES3-2, IEC 60958-1): bit `i % 8` of byte `i / 8` is the C
+    /// bit of frame `i`.
+    pub fn channel_status(&self, channel: Channel) -> [u8; STATUS_LEN]
+        ensures { result ≡ status_of self.now channel }
+    {
+        self.bytes(Carried::Status, channel)
+    }
+
+    /// Sets the channel status of a channel, and changes nothing else but the parity bits that
+    /// follow.
+    pub fn set_channel_status(&mut self, channel: Channel, status: &[u8; STATUS_LEN])
+        ensures { self.new ≡ with_status self.old channel status.now }
+    {
+        // Not by `set_bytes`, in which a channel that the caller knows is looked up for each frame.
+        for i in 0..FRAMES {
+            let frame = with_bit(self.frame(i), channel, bit_of(status, i));
+            self.set_frame(i, frame);
+        }
+    }
+}
+
+/// A frame with this C bit in the subframe of a channel.
+fn with_bit(frame: Frame, channel: Channel, bit: bool) -> Frame
+    ensures { bits_of result.first ∷ bits_of result.second ∷ []
+        ≡ with_bits channel (bits_of frame.first ∷ bits_of frame.second ∷ []) (bit ∷ []) }
+{
+    let mut frame = frame;
+    match channel {
+        Channel::First => frame.first.c = bit,
+        Channel::Second => frame.second.c = bit,
+    }
+    frame
+}

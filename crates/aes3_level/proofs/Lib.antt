@@ -1,0 +1,4 @@
+pub mod WordCells
+pub mod WordLists
+pub mod Moves
+pub mod Runs

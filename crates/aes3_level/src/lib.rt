@@ -1,0 +1,7 @@
+//! The level of a line in each of its cells, and cells as bits of a word.
+#![tactic(auto)]
+
+/// The two levels of a line.
+mod level;
+
+pub use level::Level;

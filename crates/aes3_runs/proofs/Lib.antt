@@ -1,0 +1,5 @@
+pub mod Reports
+pub mod Locking
+pub mod ReportLemmas
+pub mod ReportRuns
+pub mod BlockRuns

@@ -1,0 +1,75 @@
+//! Cells as they go through a lock.
+
+ghost use Rattle.std.specs.Prelude.{◌≡◌, []};
+ghost use Rattle.aes3_lock.specs.Following.{Follows};
+ghost use Rattle.aes3_lock.specs.Reports.{decided, reports};
+ghost use Rattle.aes3_runs.specs.Reporting.{reporting};
+
+use crate::reporter::Reporter;
+use aes3_cell::{Fault, Sink};
+use aes3_input::Taker;
+use aes3_lock::Lock;
+
+/// Takes cells, and hands each report on them to a reporter when it is decided.
+#[derive(Drop)]
+pub struct Locked<R> {
+    lock: Lock,
+    /// What the reports are handed to.
+    pub reporter: R,
+}
+
+impl<R: Reporter> Locked<R> {
+    /// A taker that has taken no cell.
+    pub fn new(reporter: R) -> Self
+        ensures lock { Follows result.lock [] }
+        ensures reporter { result.reporter ≡ reporter }
+    {
+        Locked {
+            lock: Lock::new(),
+            reporter,
+        }
+    }
+}
+
+impl<R: Reporter> Taker for Locked<R> {
+    ghost follows = { λ k c. Follows k.lock c × R.follows k.reporter (decided c) };
+
+    ghost writes = { λ k. reporting (R.writes k.reporter) };
+
+    ghost finished = { λ k c. R.finished k.reporter (reports c) };
+
+    fn take_front<T: Sink>(&mut self, sink: &mut T, word: u64, len: u32) -> Result<u32, Fault> {
+        let pushed = self.lock.push_front(word, len);
+        match pushed.ending {
+            Some(ending) => match self.reporter.tell(sink, &self.lock, ending) {
+                Ok(()) => Ok(pushed.taken),
+                Err(fault) => Err(fault),
+            },
+            None => Ok(pushed.taken),
+        }
+    }
+
+    fn words<T: Sink>(&mut self, sink: &mut T, words: &[u64]) -> Result<(), Fault> {
+        let mut at = 0;
+        loop {
+            at += self.lock.take_words(&words[at..]);
+            if at == words.len() {
+                return Ok(());
+            }
+            match self.cells(sink, words[at], u64::BITS) {
+                Ok(()) => at += 1,
+                Err(fault) => return Err(fault),
+            }
+        }
+    }
+
+    fn finish<T: Sink>(&mut self, sink: &mut T) -> Result<(), Fault> {
+        match self.lock.end() {
+            Some(ending) => match self.reporter.tell(sink, &self.lock, ending) {
+                Ok(()) => self.reporter.finish(sink),
+                Err(fault) => Err(fault),
+            },
+            None => self.reporter.finish(sink),
+        }
+    }
+}
