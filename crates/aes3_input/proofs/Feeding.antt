@@ -1,24 +1,6 @@
 -- Pieces fed one behind the other.
-use Rattle.std.proofs.Common.{
-  ◌≡◌,
-  ℕ,
-  ◌+◌,
-  List,
-  [],
-  ◌++◌,
-  take,
-  drop,
-  Option,
-  Some,
-  Err,
-  sym,
-  ap,
-  ◌∙◌,
-  subst,
-  append_assoc,
-  append-nil,
-  refl,
-}
+use Rattle.std.proofs.Common.{◌≡◌, ℕ, ◌+◌, List, [], ◌++◌, take, drop, Option, Some, Err, sym, ap, ◌∙◌, subst}
+use Rattle.std.proofs.Common.{append_assoc, append-nil, refl}
 use Rattle.std.proofs.Math.Seq.{take-add}
 use Rattle.aes3_cell.specs.declared.refusal.RunError.{RunError}
 use Rattle.aes3_cell.specs.declared.refusal.RunError.TheVariants.{Read, Write, TooLong}
@@ -26,15 +8,8 @@ use Rattle.aes3_cell.specs.Ends.{GrewFront}
 use Rattle.aes3_cell.proofs.Growing.{grew-none, grew-join, grew-is, front-join, front-more, front-is}
 use Rattle.aes3_input.specs.Converting.{Reading, fault_behind, out_behind, before_fault}
 use Rattle.aes3_input.specs.Running.{Fed, Stopped, PieceRan}
-use Rattle.aes3_input.proofs.Outputs.{
-  behind-join,
-  behind-clean,
-  fault-clean,
-  behind-fault,
-  fault-first,
-  before-clean,
-  before-first,
-}
+use Rattle.aes3_input.proofs.Outputs.{behind-join, behind-clean, fault-clean, behind-fault, fault-first, before-clean}
+use Rattle.aes3_input.proofs.Outputs.{before-first}
 
 pub fed-none : (r : Reading) (f : List ℕ → Type 0) (t : Option (List ℕ)) → Fed r r f f t t []
 fed-none r f t = record {

@@ -1,36 +1,7 @@
 -- Cells and words handed to a taker, one behind the other.
-use Rattle.std.proofs.Common.{
-  ◌≡◌,
-  ℕ,
-  ◌+◌,
-  ◌-◌,
-  ◌/◌,
-  ◌*◌,
-  ◌^◌,
-  ◌<◌,
-  ◌≤◌,
-  length,
-  length-append,
-  take,
-  drop,
-  get_or,
-  Result,
-  Ok,
-  Err,
-  refl,
-  List,
-  [],
-  ◌∷◌,
-  ◌++◌,
-  Option,
-  sym,
-  ap,
-  ◌∙◌,
-  subst,
-  arith,
-  append-nil,
-  append_assoc,
-}
+use Rattle.std.proofs.Common.{◌≡◌, ℕ, ◌+◌, ◌-◌, ◌/◌, ◌*◌, ◌^◌, ◌<◌, ◌≤◌, length, length-append, take, drop, get_or}
+use Rattle.std.proofs.Common.{Result, Ok, Err, refl, List, [], ◌∷◌, ◌++◌, Option, sym, ap, ◌∙◌, subst, arith}
+use Rattle.std.proofs.Common.{append-nil, append_assoc}
 use Rattle.std.specs.List.{flat_map}
 use Rattle.std.proofs.lemmas.Grind.{flat_map-append}
 use Rattle.std.proofs.lemmas.List.{take_more, take-append-drop}

@@ -1,36 +1,7 @@
 -- Packed cells taken octet by octet.
-use Rattle.std.proofs.Common.{
-  ◌≡◌,
-  ℕ,
-  ◌+◌,
-  ◌-◌,
-  ◌*◌,
-  ◌≤◌,
-  List,
-  [],
-  ◌∷◌,
-  ◌++◌,
-  cond,
-  Option,
-  Some,
-  None,
-  Result,
-  Ok,
-  Err,
-  IfOk,
-  OnErr,
-  length,
-  take,
-  refl,
-  sym,
-  ap,
-  ap₂,
-  ◌∙◌,
-  subst,
-  arith,
-  append-nil,
-  length-append,
-}
+use Rattle.std.proofs.Common.{◌≡◌, ℕ, ◌+◌, ◌-◌, ◌*◌, ◌≤◌, List, [], ◌∷◌, ◌++◌, cond, Option, Some, None, Result, Ok}
+use Rattle.std.proofs.Common.{Err, IfOk, OnErr, length, take, refl, sym, ap, ap₂, ◌∙◌, subst, arith, append-nil}
+use Rattle.std.proofs.Common.{length-append}
 use Rattle.std.proofs.lemmas.List.{length-take-le}
 use Rattle.std.specs.Option.{unwrap_or}
 use Rattle.aes3_level.specs.declared.level.Level.{Level}
@@ -40,15 +11,8 @@ use Rattle.aes3_cell.specs.declared.refusal.BadPadding as padding
 use Rattle.aes3_cell.specs.declared.ends.Fault as device
 use Rattle.aes3_cell.specs.Ends.{Grew, GrewFront}
 use Rattle.aes3_cell.specs.Packed.{octet_cells, last_place, cells_of_packed, whole_cells}
-use Rattle.aes3_cell.specs.PackedReading.{
-  PackedReader,
-  packed_reader_of,
-  packed_answer,
-  packed_next,
-  packed_end,
-  answer_cells,
-  end_cells,
-}
+use Rattle.aes3_cell.specs.PackedReading.{PackedReader, packed_reader_of, packed_answer, packed_next, packed_end}
+use Rattle.aes3_cell.specs.PackedReading.{answer_cells, end_cells}
 use Rattle.aes3_cell.proofs.Growing.{grew-none, grew-is, grew-join, front-is, front-join}
 use Rattle.aes3_cell.proofs.Octets.{length-octet_cells}
 use Rattle.aes3_cell.proofs.PackedCells.{length-cells_of_octets}

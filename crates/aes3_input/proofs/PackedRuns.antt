@@ -1,59 +1,16 @@
 -- A run over packed cells.
-use Rattle.std.proofs.Common.{
-  ◌≡◌,
-  ℕ,
-  ◌⊎◌,
-  inl,
-  inr,
-  Bool,
-  true,
-  false,
-  cond,
-  List,
-  [],
-  ◌∷◌,
-  ◌++◌,
-  length,
-  take,
-  Option,
-  Some,
-  None,
-  Ok,
-  Err,
-  refl,
-  sym,
-  ap,
-  ap₂,
-  ◌∙◌,
-  subst,
-  append_assoc,
-}
+use Rattle.std.proofs.Common.{◌≡◌, ℕ, ◌⊎◌, inl, inr, Bool, true, false, cond, List, [], ◌∷◌, ◌++◌, length, take, Option}
+use Rattle.std.proofs.Common.{Some, None, Ok, Err, refl, sym, ap, ap₂, ◌∙◌, subst, append_assoc}
 use Rattle.std.proofs.lemmas.Option.{none-some, same_Some}
 use Rattle.aes3_level.specs.declared.level.Level.{Level}
 use Rattle.aes3_cell.specs.declared.form.Form.TheVariants.{Packed}
 use Rattle.aes3_cell.specs.declared.refusal.RunError.{RunError}
-use Rattle.aes3_cell.specs.declared.refusal.RunError.TheVariants.{
-  Read,
-  Write,
-  TooLong,
-  BadCell,
-  BadLength,
-  BadCode,
-  BadParity,
-  Memory,
-  BadStatusText,
-  BadPadding,
-  BadSample,
-}
+use Rattle.aes3_cell.specs.declared.refusal.RunError.TheVariants.{Read, Write, TooLong, BadCell, BadLength, BadCode}
+use Rattle.aes3_cell.specs.declared.refusal.RunError.TheVariants.{BadParity, Memory, BadStatusText, BadPadding}
+use Rattle.aes3_cell.specs.declared.refusal.RunError.TheVariants.{BadSample}
 use Rattle.aes3_cell.specs.Packed.{IsPacked, is_packed, last_place, cells_of_packed, whole_cells}
-use Rattle.aes3_cell.specs.PackedReading.{
-  PackedReader,
-  packed_reader_of,
-  packed_answer,
-  packed_end,
-  answer_cells,
-  end_cells,
-}
+use Rattle.aes3_cell.specs.PackedReading.{PackedReader, packed_reader_of, packed_answer, packed_end, answer_cells}
+use Rattle.aes3_cell.specs.PackedReading.{end_cells}
 use Rattle.aes3_cell.proofs.PackedCells.{is_packed-packs, packs-is_packed}
 use Rattle.aes3_cell.proofs.PackedReads.{whole_cells-more, cells-end}
 use Rattle.aes3_input.specs.Converting.{fault_behind, first_fault, out, whole}

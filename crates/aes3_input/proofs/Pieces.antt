@@ -1,32 +1,6 @@
 -- The loop over pieces, and each way out of it.
-use Rattle.std.proofs.Common.{
-  ◌≡◌,
-  ℕ,
-  ◌+◌,
-  ◌-◌,
-  ◌<◌,
-  ◌≤◌,
-  inl,
-  inr,
-  Bool,
-  IsTrue,
-  List,
-  [],
-  ◌++◌,
-  length,
-  take,
-  Option,
-  None,
-  Ok,
-  Err,
-  sym,
-  ap,
-  ◌∙◌,
-  subst,
-  append-nil,
-  arith,
-  length-append,
-}
+use Rattle.std.proofs.Common.{◌≡◌, ℕ, ◌+◌, ◌-◌, ◌<◌, ◌≤◌, inl, inr, Bool, IsTrue, List, [], ◌++◌, length, take, Option}
+use Rattle.std.proofs.Common.{None, Ok, Err, sym, ap, ◌∙◌, subst, append-nil, arith, length-append}
 use Rattle.std.proofs.lemmas.Bool.{cases_lt}
 use Rattle.std.proofs.lemmas.List.{take_all, take-take, length-take-le}
 use Rattle.std.proofs.Math.Seq.{take-append-add}
@@ -35,19 +9,8 @@ use Rattle.aes3_cell.specs.declared.refusal.RunError.TheVariants.{Read, Write, T
 use Rattle.aes3_cell.specs.Ends.{Grew}
 use Rattle.aes3_cell.proofs.Growing.{grew-join, grew-is, front-join, front-is}
 use Rattle.aes3_input.specs.Converting.{Reading, before_fault, first_fault, out, whole}
-use Rattle.aes3_input.specs.Running.{
-  Fed,
-  PieceRan,
-  EndRan,
-  InputRan,
-  Left,
-  Run,
-  Movement,
-  Quiet,
-  Clean,
-  CleanEnd,
-  converted,
-}
+use Rattle.aes3_input.specs.Running.{Fed, PieceRan, EndRan, InputRan, Left, Run, Movement, Quiet, Clean, CleanEnd}
+use Rattle.aes3_input.specs.Running.{converted}
 use Rattle.aes3_input.proofs.Outputs.{before-all}
 use Rattle.aes3_input.proofs.Feeding.{fed-is, fed-join, ran-join}
 

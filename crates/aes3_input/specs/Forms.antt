@@ -1,35 +1,14 @@
 -- What the two forms of cells make of an input's bytes.
-use Rattle.std.specs.Prelude.{
-  ℕ,
-  List,
-  ◌++◌,
-  Some,
-  None,
-  Result,
-  Ok,
-  Err,
-  ◌≡◌,
-  ◌+◌,
-  ◌<◌,
-  ◌≤◌,
-  length,
-  take,
-  if◌then◌else◌,
-}
+use Rattle.std.specs.Prelude.{ℕ, List, ◌++◌, Some, None, Result, Ok, Err, ◌≡◌, ◌+◌, ◌<◌, ◌≤◌, length, take}
+use Rattle.std.specs.Prelude.{if◌then◌else◌}
 use Rattle.aes3_level.specs.declared.level.Level.{Level}
 use Rattle.aes3_cell.specs.declared.refusal.RunError.TheVariants.{BadCell, BadPadding}
 use Rattle.aes3_cell.specs.declared.ends.Fault.{Fault}
 use Rattle.aes3_cell.specs.Ends.{Grew, GrewFront}
 use Rattle.aes3_level.specs.Words.{low_cells}
 use Rattle.aes3_cell.specs.Packed.{octet_cells, is_packed, last_place, cells_of_packed, whole_cells}
-use Rattle.aes3_cell.specs.PackedReading.{
-  PackedReader,
-  packed_reader_of,
-  packed_answer,
-  packed_end,
-  answer_cells,
-  end_cells,
-}
+use Rattle.aes3_cell.specs.PackedReading.{PackedReader, packed_reader_of, packed_answer, packed_end, answer_cells}
+use Rattle.aes3_cell.specs.PackedReading.{end_cells}
 use Rattle.aes3_cell.specs.CellText.{is_good_byte, byte_cells, cells_of_text, IsCellText}
 use Rattle.aes3_cell.specs.TextReading.{TextReader, text_reader_of}
 use Rattle.aes3_input.specs.Converting.{Reading}
@@ -89,8 +68,8 @@ abbrev pub CellsRan : Writing Level → Writing Level → (List Level → Type 0
 CellsRan w₀ w f₀ f d sink (Ok u) =
     (w ≡ w₀) × ((c : List Level) → f₀ c → f (c ++ d))
     × ((c : List Level) → f₀ c → Grew sink.old sink.new (behind w₀ c d)) × Quiet sink
-CellsRan w₀ w f₀ f d sink (Err x)
-    = Failed sink × ((c : List Level) → f₀ c → GrewFront sink.old sink.new (behind w₀ c d))
+CellsRan w₀ w f₀ f d sink (Err x) =
+    Failed sink × ((c : List Level) → f₀ c → GrewFront sink.old sink.new (behind w₀ c d))
 
 -- of the first cells of a word, as many as told and one at least; where the sink failed, a front of what they write was
 -- taken
@@ -103,5 +82,5 @@ abbrev pub EndCellsRan : Writing Level → (List Level → Type 0) → (List Lev
     → Result (Unit {0}) Fault → Type 0
 EndCellsRan w₀ f₀ z d sink (Ok u) =
     ((c : List Level) → f₀ c → z (c ++ d) × Grew sink.old sink.new (behind w₀ c d ++ w₀.ends (c ++ d))) × Quiet sink
-EndCellsRan w₀ f₀ z d sink (Err x)
-    = Failed sink × ((c : List Level) → f₀ c → GrewFront sink.old sink.new (behind w₀ c d ++ w₀.ends (c ++ d)))
+EndCellsRan w₀ f₀ z d sink (Err x) =
+    Failed sink × ((c : List Level) → f₀ c → GrewFront sink.old sink.new (behind w₀ c d ++ w₀.ends (c ++ d)))

@@ -1,22 +1,5 @@
-use Rattle.std.proofs.Common.{
-  ◌≡◌,
-  ◌+◌,
-  ◌-◌,
-  ◌^◌,
-  ◌≤◌,
-  ◌++◌,
-  [],
-  length,
-  take,
-  drop,
-  arith,
-  ap,
-  ◌∙◌,
-  refl,
-  append-nil,
-  length-append,
-  length-drop,
-}
+use Rattle.std.proofs.Common.{◌≡◌, ◌+◌, ◌-◌, ◌^◌, ◌≤◌, ◌++◌, [], length, take, drop, arith, ap, ◌∙◌, refl, append-nil}
+use Rattle.std.proofs.Common.{length-append, length-drop}
 use Rattle.std.proofs.lemmas.List.{length-take-le, take-append-drop, take_rest}
 use Rattle.aes3_input.proofs.Feeding.{fed-none, fed-front, ran-join}
 use Rattle.aes3_input.proofs.conversion.feed_fronts.Goals as goal
