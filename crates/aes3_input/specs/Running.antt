@@ -25,6 +25,17 @@ Quiet e = e.failed_new ≡ e.failed_old
 abbrev pub Failed : Movement → Type 0
 Failed e = e.failed_new ≡ e.failed_old + 1
 
+-- What an input and its taker are at one moment.
+-- reads: which bytes are faults that come, and what they write
+-- follows: what holds of the bytes that both have taken
+-- stopped: what holds of the bytes before a fault, once that was refused
+-- finished: what holds of all bytes, once both have taken their end
+pub record InputState : Type 1 where
+  pub reads : Reading
+  pub follows : List ℕ → Type 0
+  pub stopped : List ℕ → Type 0
+  pub finished : List ℕ → Type 0
+
 -- a conversion that followed f₀ was fed the bytes a, which are no fault
 pub record Fed (r₀ r : Reading) (f₀ f : List ℕ → Type 0) (t₀ t : Option (List ℕ)) (a : List ℕ) : Type 0 where
   pub same : r ≡ r₀
@@ -40,33 +51,36 @@ pub record Stopped (r₀ : Reading) (f₀ s : List ℕ → Type 0) (t₀ t : Opt
   pub grew : (b : List ℕ) → f₀ b → Grew t₀ t (out_behind r₀ b a)
 
 -- what feeding a piece answers; only the loop tells Read and TooLong
-abbrev pub PieceRan : Reading → Reading → (List ℕ → Type 0) → (List ℕ → Type 0) → (List ℕ → Type 0) → List ℕ → Movement
-    → Result (Unit {0}) RunError → Type 0
-PieceRan r₀ r f₀ f s piece sink (Ok u) = Fed r₀ r f₀ f sink.old sink.new piece × Quiet sink
-PieceRan r₀ r f₀ f s piece sink (Err Write) =
-    Failed sink × ((b : List ℕ) → f₀ b → GrewFront sink.old sink.new (out_behind r₀ b piece))
-PieceRan r₀ r f₀ f s piece sink (Err Read) = ⊥
-PieceRan r₀ r f₀ f s piece sink (Err TooLong) = ⊥
-PieceRan r₀ r f₀ f s piece sink (Err e) = Stopped r₀ f₀ s sink.old sink.new piece e × Quiet sink
+abbrev pub PieceRan : InputState → InputState → List ℕ → Movement → Result (Unit {0}) RunError → Type 0
+PieceRan old new piece sink (Ok u) =
+    Fed old.reads new.reads old.follows new.follows sink.old sink.new piece × Quiet sink
+PieceRan old new piece sink (Err Write) =
+    Failed sink × ((b : List ℕ) → old.follows b → GrewFront sink.old sink.new (out_behind old.reads b piece))
+PieceRan old new piece sink (Err Read) = ⊥
+PieceRan old new piece sink (Err TooLong) = ⊥
+PieceRan old new piece sink (Err e) =
+    Stopped old.reads old.follows new.stopped sink.old sink.new piece e × Quiet sink
 
 -- what taking a front of a piece answers: how many of its bytes these were
-abbrev pub FrontRan : Reading → Reading → (List ℕ → Type 0) → (List ℕ → Type 0) → (List ℕ → Type 0) → List ℕ → Movement
-    → Result ℕ RunError → Type 0
-FrontRan r₀ r f₀ f s piece sink (Ok n) =
-    (0 < n) × (n ≤ length piece) × Fed r₀ r f₀ f sink.old sink.new (take n piece) × Quiet sink
-FrontRan r₀ r f₀ f s piece sink (Err e) = PieceRan r₀ r f₀ f s piece sink (Err e)
+abbrev pub FrontRan : InputState → InputState → List ℕ → Movement → Result ℕ RunError → Type 0
+FrontRan old new piece sink (Ok n) =
+    (0 < n) × (n ≤ length piece)
+    × Fed old.reads new.reads old.follows new.follows sink.old sink.new (take n piece) × Quiet sink
+FrontRan old new piece sink (Err e) = PieceRan old new piece sink (Err e)
 
--- what the end answers; where it is no fault, z holds of the bytes, else s
-abbrev pub EndRan : Reading → (List ℕ → Type 0) → (List ℕ → Type 0) → (List ℕ → Type 0) → Movement
-    → Result (Unit {0}) RunError → Type 0
-EndRan r f s z sink (Ok u) =
-    ((b : List ℕ) → f b → (r.end_fault b ≡ None) × z b × Grew sink.old sink.new (r.ends b)) × Quiet sink
-EndRan r f s z sink (Err Write) =
-    ((b : List ℕ) → f b → (r.end_fault b ≡ None) × GrewFront sink.old sink.new (r.ends b)) × Failed sink
-EndRan r f s z sink (Err Read) = ⊥
-EndRan r f s z sink (Err TooLong) = ⊥
-EndRan r f s z sink (Err e) =
-    ((b : List ℕ) → f b → (r.end_fault b ≡ Some e) × s b × Grew sink.old sink.new []) × Quiet sink
+-- what the end answers
+abbrev pub EndRan : InputState → InputState → Movement → Result (Unit {0}) RunError → Type 0
+EndRan old new sink (Ok u) =
+    ((b : List ℕ) → old.follows b
+    → (old.reads.end_fault b ≡ None) × new.finished b × Grew sink.old sink.new (old.reads.ends b)) × Quiet sink
+EndRan old new sink (Err Write) =
+    ((b : List ℕ) → old.follows b
+    → (old.reads.end_fault b ≡ None) × GrewFront sink.old sink.new (old.reads.ends b)) × Failed sink
+EndRan old new sink (Err Read) = ⊥
+EndRan old new sink (Err TooLong) = ⊥
+EndRan old new sink (Err e) =
+    ((b : List ℕ) → old.follows b
+    → (old.reads.end_fault b ≡ Some e) × new.stopped b × Grew sink.old sink.new []) × Quiet sink
 
 -- What a run promises: which bytes are an input of it, what it writes of one and of bytes behind which more may come,
 -- what it answers to one, and why it refuses the bytes of a run of at most max bytes, where the truth value says
@@ -156,7 +170,7 @@ Left max r f s b (Err TooLong) = f (take max b)
 Left max r f s b (Err e) = s (before_fault r [] (take max b))
 
 -- a conversion's run
-pub record Run (max : ℕ) (r : Reading) (f s z : List ℕ → Type 0) (ended : Bool) (source sink : Movement)
-    (result : Result ℕ RunError) : Type 0 where
-  pub run : InputRun (converted r z) max ended source sink result
-  pub left : Left max r f s run.bytes result
+pub record Run (max : ℕ) (old new : InputState) (ended : Bool) (source sink : Movement) (result : Result ℕ RunError)
+    : Type 0 where
+  pub run : InputRun (converted old.reads new.finished) max ended source sink result
+  pub left : Left max old.reads new.follows new.stopped run.bytes result
