@@ -10,8 +10,8 @@ abbrev pub WhereNone : (List Level → Type 0) → ℕ → (List Level → List 
 WhereNone f seen P = (c d : List Level) → f c → decided (c ++ d) ≡ decided c → seen ≡ length (c ++ d) → P c d
 
 abbrev pub WhereDecided : (List Level → Type 0) → ℕ → Report → (List Level → List Level → Type 0) → Type 0
-WhereDecided f seen x P = (c d : List Level) → f c → decided (c ++ d) ≡ decided c ++ x ∷ [] → seen ≡ length (c ++ d)
-    → P c d
+WhereDecided f seen x P =
+    (c d : List Level) → f c → decided (c ++ d) ≡ decided c ++ x ∷ [] → seen ≡ length (c ++ d) → P c d
 
 -- and of the `seen` cells c, of which f holds, where their end decides the reports r
 abbrev pub AtEnd : (List Level → Type 0) → ℕ → List Report → (List Level → Type 0) → Type 0

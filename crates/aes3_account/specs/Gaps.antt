@@ -25,8 +25,7 @@ use Rattle.aes3_lock.specs.declared.report.Report.TheVariants.{Whole, Marked, Fa
 use Rattle.aes3_lock.specs.Reports.{decided, reports, wholes}
 
 -- an entry of the account of an input's cells: a report; a gap from a place on, of some cells, that counts among the
--- faults;
--- and one that doesn't, since the input is cut there
+-- faults; and one that doesn't, since the input is cut there
 pub data Entry : Type 0 where
   reported : Report → Entry
   lost : ℕ → ℕ → Entry
@@ -57,9 +56,8 @@ abbrev pub gaps : Bool → ℕ → ℕ → List Entry
 gaps counts p q = full_gaps p (full_count p q) ++ rest_gap counts (behind_full p q) q
 
 -- the gaps before a report, where the cells before place p are accounted for and n whole blocks stand there: all cells
--- before a
--- whole block, a short gap counting if a whole block stands before it; before any other report only gaps of a block's
--- length
+-- before a whole block, a short gap counting if a whole block stands before it; before any other report only gaps of a
+-- block's length
 abbrev pub gaps_before : ℕ → ℕ → Report → List Entry
 gaps_before n p (Whole at s b) = gaps (nat_lt 0 n) p at
 gaps_before n p (Marked at s wrong) = full_gaps p (full_count p at)
@@ -76,8 +74,8 @@ behind_report p (Unfinished at cells) = behind_full p at
 -- reports, each behind the gaps before it, and the place before which all cells are accounted for with them
 abbrev pub account_from : ℕ → ℕ → List Report → List Entry
 account_from n p [] = []
-account_from n p (x ∷ r) = gaps_before n p x ++ reported x
-    ∷ account_from (n + length (wholes (x ∷ []))) (behind_report p x) r
+account_from n p (x ∷ r) =
+    gaps_before n p x ++ reported x ∷ account_from (n + length (wholes (x ∷ []))) (behind_report p x) r
 
 abbrev pub reached_from : ℕ → List Report → ℕ
 reached_from p [] = p
@@ -88,8 +86,7 @@ unfoldable pub account : List Level → List Entry
 account c = account_from 0 0 (reports c) ++ gaps false (reached_from 0 (reports c)) (length c)
 
 -- what of it stands whatever cells follow, as soon as two blocks' cells have come from the first of a gap on, and the
--- place
--- before which all cells are accounted for with it
+-- place before which all cells are accounted for with it
 unfoldable pub begun_account : List Level → List Entry
 begun_account c =
     let p = reached_from 0 (decided c) in

@@ -55,13 +55,14 @@ same_marking Mixed Mixed = true
 
 -- a channel of a whole block at a place, behind a whole block that says otherwise
 abbrev pub status_events : ℕ → Channel → ChannelSignals → ChannelSignals → List Event
-status_events at channel before now
-    = if bytes_eq before.status now.status then [] else Status at channel now.status ∷ []
+status_events at channel before now =
+    if bytes_eq before.status now.status then [] else Status at channel now.status ∷ []
 
 abbrev pub validity_events : ℕ → Channel → ChannelSignals → ChannelSignals → List Event
 validity_events at channel before now =
-    if same_marking (marking_of before.invalid) (marking_of now.invalid) then [] else Validity at channel
-    (marking_of now.invalid) ∷ []
+    if same_marking (marking_of before.invalid) (marking_of now.invalid)
+    then []
+    else Validity at channel (marking_of now.invalid) ∷ []
 
 -- both channels behind the whole block before it, if there is one: the first says nothing new
 unfoldable pub change_events : ℕ → Option Signals → Signals → List Event

@@ -1,6 +1,5 @@
 -- What is told of a line that is watched: where its whole blocks begin, stay away, come back and go on at another
--- place, and where they say
--- something else of their samples.
+-- place, and where they say something else of their samples.
 use Rattle.std.specs.Prelude.{
   ℕ,
   List,
@@ -48,10 +47,12 @@ use Rattle.aes3_account.specs.Signals.{change_events, signals_of}
 use Rattle.aes3_account.specs.declared.signals.Signals.{Signals}
 use Rattle.aes3_account.specs.declared.watched.Watched.{Watched}
 
--- a line of which no cell has come. `found`: a whole block has; `place`: behind the last one, or 0; `lost`: the cells
--- from there on
--- are told as lost; `losses`: how many such cells and slips were told; `latest`: what the last whole block says of its
--- samples
+-- A line of which no cell has come.
+-- found: a whole block has come
+-- place: the place behind the last whole block, or 0
+-- lost: the cells from there on are told as lost
+-- losses: how often cells were told as lost, or a block as slipped
+-- latest: what the last whole block says of its samples
 abbrev pub unwatched : Watched
 unwatched = record { found = false; place = 0; lost = false; losses = 0; latest = None }
 
@@ -64,24 +65,20 @@ loss_events w q = if is_told w q then [] else Lost w.place ∷ []
 
 abbrev pub up_to : Watched → ℕ → Watched
 up_to w q =
-    if is_told w q then w else record {
-      found = w.found;
-      place = w.place;
-      lost = true;
-      losses = w.losses + 1;
-      latest
-          = w.latest;
-    }
+    if is_told w q
+    then w
+    else record { found = w.found; place = w.place; lost = true; losses = w.losses + 1; latest = w.latest }
 
--- a whole block at a place before which all is told: the first of all, one behind lost cells, one behind fewer than a
--- block has, or
--- one directly behind another
+-- a whole block at a place before which all is told, and behind another: behind lost cells, behind fewer than a block
+-- has, or directly behind it; and any whole block, of which the first locks
+abbrev pub later_events : Watched → ℕ → List Event
+later_events w at =
+    if w.lost
+    then Back at (at - w.place) ∷ []
+    else (if nat_lt w.place at then Slipped at (at - w.place) ∷ [] else [])
+
 abbrev pub whole_events : Watched → ℕ → Level → List Event
-whole_events w at s =
-    if w.found
-    then (if w.lost then Back at (at - w.place)
-    ∷ [] else (if nat_lt w.place at then Slipped at (at - w.place) ∷ [] else []))
-    else Locked at s ∷ []
+whole_events w at s = if w.found then later_events w at else Locked at s ∷ []
 
 abbrev pub slips : Watched → ℕ → Bool
 slips w at = w.found && (not w.lost && nat_lt w.place at)
@@ -92,8 +89,7 @@ behind_whole w at now =
       found = true;
       place = at + block_len;
       lost = false;
-      losses
-          = if slips w at then w.losses + 1 else w.losses;
+      losses = if slips w at then w.losses + 1 else w.losses;
       latest = Some now;
     }
 

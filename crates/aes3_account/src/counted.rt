@@ -30,11 +30,11 @@ impl<R: CellReporter> Counted<R> {
 }
 
 impl<R: CellReporter> Taker for Counted<R> {
-    ghost follows = { λ k c. Follows k.lock c × R.follows k.reporter c };
-
-    ghost writes = { λ k. R.writes k.reporter };
-
-    ghost finished = { λ k. R.finished k.reporter };
+    ghost state = { λ k. record {
+      writes = R.writes k.reporter;
+      follows = λ c. Follows k.lock c × R.follows k.reporter c;
+      finished = R.finished k.reporter;
+    } };
 
     fn take_front<T: Sink>(&mut self, sink: &mut T, word: u64, len: u32) -> Result<u32, Fault> {
         let pushed = self.lock.push_front(word, len);

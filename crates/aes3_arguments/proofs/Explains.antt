@@ -1,28 +1,6 @@
 -- Which words behind `--explain` can be explained.
-use Rattle.std.proofs.Common.{
-  ◌≡◌,
-  ◌<◌,
-  ◌∙◌,
-  List,
-  [],
-  ◌∷◌,
-  ◌++◌,
-  length,
-  ◌-◌,
-  take,
-  drop,
-  codes,
-  true,
-  false,
-  Bor,
-  inl,
-  inr,
-  map,
-  ap,
-  sym,
-  true≢false,
-  arith,
-}
+use Rattle.std.proofs.Common.{◌≡◌, ◌<◌, ◌∙◌, List, [], ◌∷◌, ◌++◌, length, ◌-◌, take, drop, codes, true, false, Bor, inl}
+use Rattle.std.proofs.Common.{inr, map, ap, sym, true≢false, arith}
 use Rattle.std.proofs.lemmas.List.{take_all}
 use Rattle.std.proofs.lemmas.Slice.Eq.{bytes_eq-Decides}
 use Rattle.clap.specs.Walk.{Text}

@@ -1,22 +1,6 @@
 -- From a parse's answer to the program's.
-use Rattle.std.proofs.Common.{
-  ◌≡◌,
-  ◌∙◌,
-  List,
-  [],
-  Option,
-  Some,
-  None,
-  true,
-  inl,
-  inr,
-  refl,
-  sym,
-  ap,
-  subst,
-  true≢false,
-  is_some,
-}
+use Rattle.std.proofs.Common.{◌≡◌, ◌∙◌, List, [], Option, Some, None, true, inl, inr, refl, sym, ap, subst, true≢false}
+use Rattle.std.proofs.Common.{is_some}
 use Rattle.std.specs.Option.{option_map}
 use Rattle.clap.specs.Faults.{is_simple_and_free}
 use Rattle.clap.specs.Kinds.{HasKind}
@@ -31,17 +15,8 @@ use Rattle.clap.specs.declared.parser.matches.ArgMatches.TheViews.{out-ArgMatche
 use Rattle.aes3_commands.specs.CommandLine.{command_line}
 use Rattle.aes3_lines.specs.Settings.{IsSettingsFault}
 use Rattle.aes3_lines.specs.declared.listed.SettingsFault.{SettingsFault}
-use Rattle.aes3_arguments.specs.Jobs.{
-  AreBadOptionsOf,
-  IsLineFaultOf,
-  IsSettingsFaultOf,
-  Options,
-  StandsIn,
-  Tells,
-  TellsSettings,
-  faults_in,
-  refused_text,
-}
+use Rattle.aes3_arguments.specs.Jobs.{AreBadOptionsOf, IsLineFaultOf, IsSettingsFaultOf, Options, StandsIn, Tells}
+use Rattle.aes3_arguments.specs.Jobs.{TellsSettings, faults_in, refused_text}
 use Rattle.aes3_arguments.specs.declared.job.LineFault.{LineFault}
 use Rattle.aes3_arguments.specs.declared.job.LineFault.TheVariants as fault
 use Rattle.aes3_arguments.proofs.OptionRows.{some_inj}

@@ -1,32 +1,6 @@
 -- A walk over words in which nothing is at fault leaves options whose values passed their parsers.
-use Rattle.std.proofs.Common.{
-  ◌≡◌,
-  ◌∙◌,
-  ℕ,
-  Bool,
-  List,
-  [],
-  ◌∷◌,
-  length,
-  drop,
-  Option,
-  Some,
-  None,
-  true,
-  false,
-  zero,
-  suc,
-  refl,
-  sym,
-  ap,
-  subst,
-  cond,
-  arith,
-  is_some,
-  unwrap_or,
-  ◌&&◌,
-  ◌||◌,
-}
+use Rattle.std.proofs.Common.{◌≡◌, ◌∙◌, ℕ, Bool, List, [], ◌∷◌, length, drop, Option, Some, None, true, false, zero}
+use Rattle.std.proofs.Common.{suc, refl, sym, ap, subst, cond, arith, is_some, unwrap_or, ◌&&◌, ◌||◌}
 use Rattle.std.proofs.lemmas.Bool.{ne_eqb}
 use Rattle.std.specs.Prelude.{encode_utf8, slice_get}
 use Rattle.std.specs.List.{find, fold}
@@ -34,97 +8,20 @@ use Rattle.std.specs.Option.{option_map_or}
 use Rattle.std.specs.Str.{bytes_eq, chars}
 use Rattle.clap.specs.Lexer.{long_of, short_of}
 use Rattle.clap.specs.Kinds.{Kinds, or_else, request_kinds}
-use Rattle.clap.specs.Faults.{
-  bundle_fault,
-  bundle_step_fault,
-  check_fault,
-  defaults_fault,
-  flag_word_fault,
-  flags_fault,
-  given_default_fault,
-  level_fault,
-  long_fault,
-  option_fault,
-  other_fault,
-  positional_fault,
-  react_fault,
-  settle_fault,
-  short_fault,
-  step_fault,
-  stray_fault,
-  turn_fault,
-  use_fault,
-  values_fault,
-  walk_fault,
-  word_fault,
-}
+use Rattle.clap.specs.Faults.{bundle_fault, bundle_step_fault, check_fault, defaults_fault, flag_word_fault}
+use Rattle.clap.specs.Faults.{flags_fault, given_default_fault, level_fault, long_fault, option_fault, other_fault}
+use Rattle.clap.specs.Faults.{positional_fault, react_fault, settle_fault, short_fault, step_fault, stray_fault}
+use Rattle.clap.specs.Faults.{turn_fault, use_fault, values_fault, walk_fault, word_fault}
 use Rattle.clap.specs.Simple.{Shape}
-use Rattle.clap.specs.Walk.{
-  Held,
-  Names,
-  Outcome,
-  Row,
-  Rule,
-  Step,
-  Text,
-  Waiting,
-  Walk,
-  action_of,
-  after_flag,
-  after_step,
-  arg_by_id,
-  arg_by_index,
-  arg_by_long,
-  arg_by_short,
-  attached_value,
-  bundle,
-  bundle_met,
-  bundle_step,
-  default_rows,
-  done,
-  flag_met,
-  has_row,
-  is_empty,
-  is_pending,
-  long_met,
-  long_or_other,
-  nothing_held,
-  option_met,
-  option_word,
-  plain,
-  plain_word,
-  positional_held,
-  reacted,
-  refused,
-  rows_after,
-  settled,
-  short_met,
-  short_or_plain,
-  subcommand_met,
-  subcommand_or_other,
-  takes_several,
-  takes_values,
-  to_positional,
-  value,
-  waits,
-  walk,
-  walk_from,
-  walked,
-  with_default,
-  word_met,
-}
-use Rattle.clap.specs.Walk.{
-  idle,
-  option,
-  positional,
-  next,
-  trailing,
-  subcommand,
-  reading_by,
-  settled_rows,
-  used_by_id,
-  walked_from,
-}
+use Rattle.clap.specs.Walk.{Held, Names, Outcome, Row, Rule, Step, Text, Waiting, Walk, action_of, after_flag}
+use Rattle.clap.specs.Walk.{after_step, arg_by_id, arg_by_index, arg_by_long, arg_by_short, attached_value, bundle}
+use Rattle.clap.specs.Walk.{bundle_met, bundle_step, default_rows, done, flag_met, has_row, is_empty, is_pending}
+use Rattle.clap.specs.Walk.{long_met, long_or_other, nothing_held, option_met, option_word, plain, plain_word}
+use Rattle.clap.specs.Walk.{positional_held, reacted, refused, rows_after, settled, short_met, short_or_plain}
+use Rattle.clap.specs.Walk.{subcommand_met, subcommand_or_other, takes_several, takes_values, to_positional, value}
+use Rattle.clap.specs.Walk.{waits, walk, walk_from, walked, with_default, word_met}
+use Rattle.clap.specs.Walk.{idle, option, positional, next, trailing, subcommand, reading_by, settled_rows, used_by_id}
+use Rattle.clap.specs.Walk.{walked_from}
 use Rattle.clap.specs.declared.error.kind.ErrorKind.TheVariants.{TooManyValues}
 use Rattle.clap.specs.declared.parser.matches.ValueSource.TheVariants.{DefaultValue}
 use Rattle.aes3_arguments.proofs.OptionRows.{FitAll, IsSound, SoundAll, fit_used, fit_with, or_nil}

@@ -1,31 +1,6 @@
 -- What the getters of a parse's matches read, by the options that the matches have.
-use Rattle.std.proofs.Common.{
-  ◌≡◌,
-  ◌∙◌,
-  ◌<◌,
-  ◌^◌,
-  arith,
-  ℕ,
-  Bool,
-  List,
-  map,
-  Bor,
-  Option,
-  Some,
-  None,
-  Result,
-  Ok,
-  Err,
-  inl,
-  inr,
-  true,
-  false,
-  codes,
-  refl,
-  sym,
-  ap,
-  cond,
-}
+use Rattle.std.proofs.Common.{◌≡◌, ◌∙◌, ◌<◌, ◌^◌, arith, ℕ, Bool, List, map, Bor, Option, Some, None, Result, Ok, Err}
+use Rattle.std.proofs.Common.{inl, inr, true, false, codes, refl, sym, ap, cond}
 use Rattle.std.specs.Prelude.{option_and_then}
 use Rattle.std.specs.Option.{option_map, option_map_or}
 use Rattle.std.specs.Str.{bytes_eq}

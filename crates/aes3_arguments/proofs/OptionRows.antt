@@ -1,30 +1,6 @@
 -- The values that a command's options have: each passed the parser of its definition.
-use Rattle.std.proofs.Common.{
-  ◌≡◌,
-  ◌∙◌,
-  ◌<◌,
-  ℕ,
-  Bool,
-  List,
-  [],
-  ◌∷◌,
-  ◌++◌,
-  length,
-  length-append,
-  Option,
-  Some,
-  true,
-  false,
-  refl,
-  sym,
-  ap,
-  ap₂,
-  subst,
-  cond,
-  arith,
-  true≢false,
-  ◌==◌,
-}
+use Rattle.std.proofs.Common.{◌≡◌, ◌∙◌, ◌<◌, ℕ, Bool, List, [], ◌∷◌, ◌++◌, length, length-append, Option, Some, true}
+use Rattle.std.proofs.Common.{false, refl, sym, ap, ap₂, subst, cond, arith, true≢false, ◌==◌}
 use Rattle.std.proofs.lemmas.Bool.{eqb-true}
 use Rattle.clap.specs.declared.error.kind.ErrorKind.TheVariants.{WrongNumberOfValues}
 use Rattle.std.specs.Prelude.{⊤, unwrap_or}
@@ -33,18 +9,8 @@ use Rattle.std.proofs.lemmas.Slice.Eq.{bytes_eq-Decides}
 use Rattle.clap.specs.Facts.{unwrap_or_range}
 use Rattle.clap.specs.Kinds.{Kinds, or_else, range_kinds, request_kinds}
 use Rattle.clap.specs.Faults.{action_fault, use_fault, values_fault}
-use Rattle.clap.specs.Walk.{
-  Row,
-  Rule,
-  Text,
-  arg_by_id,
-  more_values,
-  reading_by,
-  used,
-  values_or_missing,
-  with_values,
-  without,
-}
+use Rattle.clap.specs.Walk.{Row, Rule, Text, arg_by_id, more_values, reading_by, used, values_or_missing, with_values}
+use Rattle.clap.specs.Walk.{without}
 use Rattle.clap.specs.declared.builder.action.ArgAction.{ArgAction}
 use Rattle.clap.specs.declared.builder.action.ArgAction.TheVariants.{Append, Help, Set, SetTrue}
 use Rattle.clap.specs.declared.builder.range.ValueRange.{ValueRange}

@@ -7,16 +7,8 @@ use Rattle.clap.specs.declared.builder.value_parser.ValueParser.TheVariants as v
 use Rattle.aes3_commands.specs.CommandLine.{command_line, most_frames}
 use Rattle.aes3_arguments.specs.Jobs.{MayBeFlag, MayBeRate, Options, StandsIn}
 use Rattle.aes3_arguments.proofs.OptionRows.{FitAll}
-use Rattle.aes3_arguments.proofs.TakenLines.{
-  EachShape,
-  FlagOrNone,
-  as_written,
-  command_entered,
-  flag_reads,
-  found_shape,
-  no_row,
-  option_reads,
-}
+use Rattle.aes3_arguments.proofs.TakenLines.{EachShape, FlagOrNone, as_written, command_entered, flag_reads}
+use Rattle.aes3_arguments.proofs.TakenLines.{found_shape, no_row, option_reads}
 
 -- the definition of a rate
 abbrev RateOrNone : Option Rule → Type 0

@@ -1,34 +1,6 @@
 -- What holds of the command that stands in words that the definitions take.
-use Rattle.std.proofs.Common.{
-  ◌≡◌,
-  ◌∙◌,
-  ◌⊎◌,
-  ◌<◌,
-  ℕ,
-  Bool,
-  List,
-  [],
-  ◌∷◌,
-  length,
-  Option,
-  Some,
-  None,
-  true,
-  false,
-  not,
-  codes,
-  refl,
-  sym,
-  ap,
-  subst,
-  cond,
-  inl,
-  inr,
-  arith,
-  is_some,
-  true≢false,
-  ◌||◌,
-}
+use Rattle.std.proofs.Common.{◌≡◌, ◌∙◌, ◌⊎◌, ◌<◌, ℕ, Bool, List, [], ◌∷◌, length, Option, Some, None, true, false, not}
+use Rattle.std.proofs.Common.{codes, refl, sym, ap, subst, cond, inl, inr, arith, is_some, true≢false, ◌||◌}
 use Rattle.std.specs.Prelude.{⊤, option_and_then, slice_get}
 use Rattle.std.specs.List.{find}
 use Rattle.std.specs.Option.{option_map, option_map_or}
@@ -41,61 +13,18 @@ use Rattle.clap.specs.Kinds.{check_kinds, value_kinds}
 use Rattle.clap.specs.Takes.{is_given}
 use Rattle.clap.specs.Values.{read_as, reading_of, refused_kind}
 use Rattle.clap.specs.ValueTests.{accepts}
-use Rattle.clap.specs.Simple.{
-  App,
-  Shape,
-  argument_words,
-  built,
-  built_leaf,
-  entered,
-  inherited,
-  label_of,
-  marked_built,
-  names_of,
-  rows_at,
-  subcommand_of,
-  with_leaf_noted,
-}
-use Rattle.clap.specs.Walk.{
-  Row,
-  Rule,
-  Text,
-  answers_to,
-  arg_by_id,
-  nothing_held,
-  one_of,
-  reading_by,
-  row_text,
-  rows_after,
-  stop_after,
-}
+use Rattle.clap.specs.Simple.{App, Shape, argument_words, built, built_leaf, entered, inherited, label_of, marked_built}
+use Rattle.clap.specs.Simple.{names_of, rows_at, subcommand_of, with_leaf_noted}
+use Rattle.clap.specs.Walk.{Row, Rule, Text, answers_to, arg_by_id, nothing_held, one_of, reading_by, row_text}
+use Rattle.clap.specs.Walk.{rows_after, stop_after}
 use Rattle.clap.specs.declared.builder.value_parser.ValueParser.{ValueParser}
 use Rattle.clap.specs.declared.builder.value_parser.ValueParser.TheVariants as vp
-use Rattle.aes3_commands.specs.CommandLine.{
-  check,
-  command_line,
-  cut,
-  encode,
-  from_pcm,
-  normal,
-  reader,
-  rewrite,
-  show,
-  watch,
-}
+use Rattle.aes3_commands.specs.CommandLine.{check, command_line, cut, encode, from_pcm, normal, reader, rewrite, show}
+use Rattle.aes3_commands.specs.CommandLine.{watch}
 use Rattle.aes3_arguments.specs.Jobs.{IsNumber, MayBeFlag, Options, StandsIn, number_in}
 use Rattle.aes3_arguments.proofs.LineWalks.{level_checked, level_fits}
-use Rattle.aes3_arguments.proofs.OptionRows.{
-  FitAll,
-  Fits,
-  SoundAll,
-  flag_sound,
-  help_sound,
-  or_nil,
-  some_inj,
-  value_sound,
-  values_sound,
-}
+use Rattle.aes3_arguments.proofs.OptionRows.{FitAll, Fits, SoundAll, flag_sound, help_sound, or_nil, some_inj}
+use Rattle.aes3_arguments.proofs.OptionRows.{value_sound, values_sound}
 
 -- ---- the options by their definitions
 

@@ -1,22 +1,6 @@
 -- What a command line asks for, by what `clap` makes of its words.
-use Rattle.std.specs.Prelude.{
-  ℕ,
-  Bool,
-  List,
-  [],
-  ◌∷◌,
-  ◌++◌,
-  ◌≡◌,
-  ◌≢◌,
-  ◌⊎◌,
-  Option,
-  Some,
-  None,
-  codes,
-  get_or,
-  true,
-  false,
-}
+use Rattle.std.specs.Prelude.{ℕ, Bool, List, [], ◌∷◌, ◌++◌, ◌≡◌, ◌≢◌, ◌⊎◌, Option, Some, None, codes, get_or, true}
+use Rattle.std.specs.Prelude.{false}
 use Rattle.std.specs.Prelude.{if◌then◌else◌, option_and_then, is_some, ◌&&◌}
 use Rattle.std.specs.Option.{option_map_or}
 use Rattle.std.specs.Str.{bytes_eq}

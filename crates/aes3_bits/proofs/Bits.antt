@@ -1,22 +1,7 @@
 -- The bits of a number as a list.
 use Rattle.std.proofs.Common.{lit<, ◌≡◌, ℕ, zero, suc, ◌+◌, ◌-◌, ◌*◌, ◌/◌, ◌%◌, ◌^◌, ◌<◌, ◌≤◌, ◌⊎◌, inl, inr, min, List}
-use Rattle.std.proofs.Common.{
-  [],
-  ◌∷◌,
-  ◌++◌,
-  Bool,
-  true,
-  false,
-  not,
-  cond,
-  length,
-  take,
-  drop,
-  get_or,
-  eqb,
-  eq-eqb,
-  ne_eqb,
-}
+use Rattle.std.proofs.Common.{[], ◌∷◌, ◌++◌, Bool, true, false, not, cond, length, take, drop, get_or, eqb, eq-eqb}
+use Rattle.std.proofs.Common.{ne_eqb}
 use Rattle.std.proofs.Common.{refl, sym, ap, ap₂, ◌∙◌, arith, mul_assoc}
 use mir.Val.{bool_byte}
 use Rattle.std.specs.Prelude.{bit_or, count_ones}

@@ -62,8 +62,8 @@ abbrev pub CountedAll : Follower → List ℕ → List ℕ → Follower → Type
 CountedAll old [] [] new = new ≡ old
 CountedAll old [] (n ∷ cells) new = ⊥
 CountedAll old (run ∷ runs) [] new = ⊥
-CountedAll old (run ∷ runs) (n ∷ cells) new
-    = (next : Follower) × Counted old run n next × CountedAll next runs cells new
+CountedAll old (run ∷ runs) (n ∷ cells) new =
+    (next : Follower) × Counted old run n next × CountedAll next runs cells new
 
 -- two places lie at most this apart
 pub record IsWithin (a b most : ℕ) : Type 0 where

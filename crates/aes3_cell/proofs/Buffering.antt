@@ -1,32 +1,8 @@
 -- Bytes that a sink holds for another one.
-use Rattle.std.proofs.Common.{
-  ◌≡◌,
-  ℕ,
-  ◌+◌,
-  ◌≤◌,
-  List,
-  ◌++◌,
-  Option,
-  Some,
-  None,
-  length,
-  take,
-  drop,
-  refl,
-  ap,
-  ◌∙◌,
-  append_assoc,
-  take-append-drop,
-  arith,
-}
-use Rattle.std.proofs.lemmas.List.{
-  length-take,
-  length-take-le,
-  length-append,
-  take-append-le,
-  take-take,
-  drop-append-le,
-}
+use Rattle.std.proofs.Common.{◌≡◌, ℕ, ◌+◌, ◌≤◌, List, ◌++◌, Option, Some, None, length, take, drop, refl, ap, ◌∙◌}
+use Rattle.std.proofs.Common.{append_assoc, take-append-drop, arith}
+use Rattle.std.proofs.lemmas.List.{length-take, length-take-le, length-append, take-append-le, take-take}
+use Rattle.std.proofs.lemmas.List.{drop-append-le}
 use Rattle.std.proofs.lemmas.Slice.{take-put_mid}
 use borrow.Rule.Slice.PartMut.{put_mid}
 use Rattle.std.specs.Option.{is_some}

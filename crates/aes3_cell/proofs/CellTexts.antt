@@ -1,42 +1,7 @@
 -- Cell text joined, read byte by byte, and written and read again.
-use Rattle.std.proofs.Common.{
-  ◌≡◌,
-  ℕ,
-  zero,
-  suc,
-  ◌+◌,
-  ◌*◌,
-  ◌/◌,
-  ◌%◌,
-  ◌≤◌,
-  List,
-  [],
-  ◌∷◌,
-  ◌++◌,
-  Bool,
-  true,
-  false,
-  cond,
-  length,
-  take,
-  drop,
-  map,
-  Option,
-  Some,
-  None,
-  Ok,
-  Err,
-  refl,
-  sym,
-  ap,
-  ap₂,
-  ◌∙◌,
-  arith,
-  append-nil,
-  length-append,
-  length-drop,
-  option_to_list,
-}
+use Rattle.std.proofs.Common.{◌≡◌, ℕ, zero, suc, ◌+◌, ◌*◌, ◌/◌, ◌%◌, ◌≤◌, List, [], ◌∷◌, ◌++◌, Bool, true, false, cond}
+use Rattle.std.proofs.Common.{length, take, drop, map, Option, Some, None, Ok, Err, refl, sym, ap, ap₂, ◌∙◌, arith}
+use Rattle.std.proofs.Common.{append-nil, length-append, length-drop, option_to_list}
 use Rattle.std.specs.List.{flat_map, take_while}
 use Rattle.std.proofs.lemmas.Grind.{flat_map-append}
 use Rattle.std.proofs.lemmas.List.{take-append-drop}
@@ -46,21 +11,8 @@ use Rattle.aes3_level.specs.declared.level.Level.TheVariants.{Low, High}
 use Rattle.aes3_cell.specs.declared.refusal.BadCell.{BadCell}
 use Rattle.aes3_level.specs.Words.{word_len}
 use Rattle.aes3_cell.specs.Text.{byte_of, line_text, lines_text, text_of}
-use Rattle.aes3_cell.specs.CellText.{
-  Kind,
-  cell,
-  separator,
-  bad,
-  kind_of,
-  is_good,
-  kind_cells,
-  is_good_byte,
-  byte_cells,
-  good_bytes,
-  good,
-  cells_of_text,
-  IsCellText,
-}
+use Rattle.aes3_cell.specs.CellText.{Kind, cell, separator, bad, kind_of, is_good, kind_cells, is_good_byte, byte_cells}
+use Rattle.aes3_cell.specs.CellText.{good_bytes, good, cells_of_text, IsCellText}
 use Rattle.aes3_cell.specs.TextReading.{TextReader, text_reader_of, kind_answer, text_answer, kind_next, text_next}
 use Rattle.aes3_level.proofs.WordCells.{word_len_64}
 

@@ -1,31 +1,6 @@
 -- Readers and writers that are given a whole list, one by one.
-use Rattle.std.proofs.Common.{
-  ◌≡◌,
-  ℕ,
-  ◌<◌,
-  List,
-  [],
-  ◌∷◌,
-  ◌++◌,
-  true,
-  Option,
-  Some,
-  None,
-  Result,
-  Ok,
-  Err,
-  length,
-  refl,
-  sym,
-  ap,
-  ap₂,
-  ◌∙◌,
-  subst,
-  arith,
-  append_assoc,
-  append-nil,
-  length-append,
-}
+use Rattle.std.proofs.Common.{◌≡◌, ℕ, ◌<◌, List, [], ◌∷◌, ◌++◌, true, Option, Some, None, Result, Ok, Err, length, refl}
+use Rattle.std.proofs.Common.{sym, ap, ap₂, ◌∙◌, subst, arith, append_assoc, append-nil, length-append}
 use Rattle.aes3_level.specs.declared.level.Level.{Level}
 use Rattle.aes3_cell.specs.declared.refusal.BadCell.{BadCell}
 use Rattle.aes3_cell.specs.CellText.{IsCellText, cells_of_text, good}
@@ -36,15 +11,8 @@ use Rattle.aes3_cell.specs.PackedReading.{packed_reader_of, packed_end, end_cell
 use Rattle.aes3_cell.specs.Pending.{text_added, begun_after, begun_cells}
 use Rattle.aes3_cell.specs.Text.{text_of}
 use Rattle.aes3_cell.specs.TextReading.{text_reader_of, text_answer, text_next}
-use Rattle.aes3_cell.specs.Laws.{
-  cells_answered,
-  text_cells_fed,
-  refusal_answered,
-  text_refusal,
-  text_put,
-  octets_put,
-  begun_put,
-}
+use Rattle.aes3_cell.specs.Laws.{cells_answered, text_cells_fed, refusal_answered, text_refusal, text_put, octets_put}
+use Rattle.aes3_cell.specs.Laws.{begun_put}
 use Rattle.aes3_cell.specs.declared.form.Form.TheVariants.{Text}
 use Rattle.aes3_cell.proofs.CellTexts.{text-fed, text-refused, cells-text}
 use Rattle.aes3_cell.proofs.LineSteps.{begun_cells-nil, begun_cells-more, text_of-more}

@@ -1,27 +1,6 @@
 -- Growth of an end's bytes.
-use Rattle.std.proofs.Common.{
-  ◌≡◌,
-  ℕ,
-  ◌+◌,
-  ◌-◌,
-  List,
-  [],
-  ◌++◌,
-  length,
-  take,
-  drop,
-  replicate,
-  Option,
-  Some,
-  sym,
-  ap,
-  ap₂,
-  ◌∙◌,
-  append_assoc,
-  append-nil,
-  refl,
-  arith,
-}
+use Rattle.std.proofs.Common.{◌≡◌, ℕ, ◌+◌, ◌-◌, List, [], ◌++◌, length, take, drop, replicate, Option, Some, sym, ap}
+use Rattle.std.proofs.Common.{ap₂, ◌∙◌, append_assoc, append-nil, refl, arith}
 use Rattle.std.proofs.lemmas.List.{take_at, append_cancel_left, length-replicate, replicate-append-replicate}
 use Rattle.std.proofs.Math.Seq.{take-add}
 use Rattle.aes3_cell.specs.Ends.{Grew, GrewFront, Told}

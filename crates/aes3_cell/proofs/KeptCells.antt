@@ -1,40 +1,7 @@
 -- Cells kept from among others, four at a time, and numbers that hold cells.
-use Rattle.std.proofs.Common.{
-  ◌≡◌,
-  ℕ,
-  zero,
-  suc,
-  ◌+◌,
-  ◌-◌,
-  ◌*◌,
-  ◌/◌,
-  ◌%◌,
-  ◌^◌,
-  ◌<◌,
-  ◌≤◌,
-  List,
-  [],
-  ◌∷◌,
-  ◌++◌,
-  Bool,
-  true,
-  ◌&&◌,
-  length,
-  get_or,
-  eqb,
-  refl,
-  sym,
-  ap,
-  ap₂,
-  subst,
-  ◌∙◌,
-  arith,
-  lit<,
-  replicate,
-  w64,
-  append_assoc,
-  length-append,
-}
+use Rattle.std.proofs.Common.{◌≡◌, ℕ, zero, suc, ◌+◌, ◌-◌, ◌*◌, ◌/◌, ◌%◌, ◌^◌, ◌<◌, ◌≤◌, List, [], ◌∷◌, ◌++◌, Bool}
+use Rattle.std.proofs.Common.{true, ◌&&◌, length, get_or, eqb, refl, sym, ap, ap₂, subst, ◌∙◌, arith, lit<, replicate}
+use Rattle.std.proofs.Common.{w64, append_assoc, length-append}
 use Rattle.std.specs.Prelude.{bit_and, bit_or}
 use Rattle.std.specs.Int.{byte_at, to_le_bytes}
 use Rattle.std.specs.Simd.Lanes.{zip2}

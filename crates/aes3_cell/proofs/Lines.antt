@@ -1,46 +1,8 @@
 -- Lines of cell text.
-use Rattle.std.proofs.Common.{
-  ◌≡◌,
-  ℕ,
-  zero,
-  suc,
-  ◌+◌,
-  ◌*◌,
-  ◌/◌,
-  ◌%◌,
-  ◌^◌,
-  ◌<◌,
-  ◌≤◌,
-  List,
-  [],
-  ◌∷◌,
-  ◌++◌,
-  length,
-  take,
-  drop,
-  map,
-  refl,
-  sym,
-  ap,
-  ap₂,
-  ◌∙◌,
-  arith,
-  cond,
-  eqb,
-  replicate,
-  eq-eqb,
-  ne_eqb,
-  append_assoc,
-  append-nil,
-  length-append,
-  take-append-drop,
-  subst,
-  true,
-  w64,
-  length-drop,
-  zero-add,
-  suc-add,
-}
+use Rattle.std.proofs.Common.{◌≡◌, ℕ, zero, suc, ◌+◌, ◌*◌, ◌/◌, ◌%◌, ◌^◌, ◌<◌, ◌≤◌, List, [], ◌∷◌, ◌++◌, length, take}
+use Rattle.std.proofs.Common.{drop, map, refl, sym, ap, ap₂, ◌∙◌, arith, cond, eqb, replicate, eq-eqb, ne_eqb}
+use Rattle.std.proofs.Common.{append_assoc, append-nil, length-append, take-append-drop, subst, true, w64, length-drop}
+use Rattle.std.proofs.Common.{zero-add, suc-add}
 use Rattle.std.proofs.lemmas.List.{map-append, take_all, take-append-le, drop-append-le, nil_from_length}
 use Rattle.aes3_level.specs.declared.level.Level.{Level}
 use Rattle.aes3_level.specs.Words.{level_of, low_cells, word_len, word_cells}

@@ -1,91 +1,21 @@
 -- Packed cells: octets of cells, and which octets pack cells.
-use Rattle.std.proofs.Common.{
-  ◌≡◌,
-  ℕ,
-  zero,
-  suc,
-  ◌+◌,
-  ◌-◌,
-  ◌*◌,
-  ◌/◌,
-  ◌%◌,
-  ◌^◌,
-  ◌<◌,
-  ◌≤◌,
-  List,
-  [],
-  ◌∷◌,
-  ◌++◌,
-  true,
-  length,
-  take,
-  drop,
-  get_or,
-  replicate,
-  reverse,
-  refl,
-  sym,
-  ap,
-  ap₂,
-  ◌∙◌,
-  subst,
-  arith,
-  append_assoc,
-  append-nil,
-  length-append,
-  length-drop,
-  eqb-true,
-  eq-eqb,
-  lt-ltb,
-  ltb-true,
-  nat_lt,
-  ◌==◌,
-}
+use Rattle.std.proofs.Common.{◌≡◌, ℕ, zero, suc, ◌+◌, ◌-◌, ◌*◌, ◌/◌, ◌%◌, ◌^◌, ◌<◌, ◌≤◌, List, [], ◌∷◌, ◌++◌, true}
+use Rattle.std.proofs.Common.{length, take, drop, get_or, replicate, reverse, refl, sym, ap, ap₂, ◌∙◌, subst, arith}
+use Rattle.std.proofs.Common.{append_assoc, append-nil, length-append, length-drop, eqb-true, eq-eqb, lt-ltb, ltb-true}
+use Rattle.std.proofs.Common.{nat_lt, ◌==◌}
 use Rattle.std.proofs.lemmas.Bool.{and_parts, and_from}
 use Rattle.std.proofs.lemmas.Grind.{flat_map-append}
-use Rattle.std.proofs.lemmas.List.{
-  take_at,
-  drop_at,
-  length-replicate,
-  length-take-le,
-  reverse-append,
-  reverse-reverse,
-  take-append-drop,
-  take-append-le,
-  drop-append-le,
-  drop-replicate,
-  nil_from_length,
-}
+use Rattle.std.proofs.lemmas.List.{take_at, drop_at, length-replicate, length-take-le, reverse-append, reverse-reverse}
+use Rattle.std.proofs.lemmas.List.{take-append-drop, take-append-le, drop-append-le, drop-replicate, nil_from_length}
 use Rattle.aes3_level.specs.declared.level.Level.{Level}
 use Rattle.aes3_level.specs.declared.level.Level.TheVariants.{Low}
 use Rattle.aes3_level.specs.Words.{low_cells}
-use Rattle.aes3_cell.specs.Packed.{
-  octet_cells,
-  cells_of_octets,
-  Packs,
-  is_padded,
-  ends_packed,
-  is_packed,
-  last_place,
-  last_octet,
-  cells_of_packed,
-  octet_of,
-  first_octets,
-  octets_of,
-  packed_of,
-}
+use Rattle.aes3_cell.specs.Packed.{octet_cells, cells_of_octets, Packs, is_padded, ends_packed, is_packed, last_place}
+use Rattle.aes3_cell.specs.Packed.{last_octet, cells_of_packed, octet_of, first_octets, octets_of, packed_of}
 use Rattle.aes3_level.proofs.WordCells.{length-low_cells, low_cells-add}
-use Rattle.aes3_cell.proofs.Octets.{
-  reverse-more,
-  reverse-replicate,
-  low_bits-zero,
-  length-octet_cells,
-  octet_cells-unused,
-  weight-fill,
-  weight-take,
-  octet_of-octet_cells,
-  octet_cells-octet_of,
-}
+use Rattle.aes3_cell.proofs.Octets.{reverse-more, reverse-replicate, low_bits-zero, length-octet_cells}
+use Rattle.aes3_cell.proofs.Octets.{octet_cells-unused, weight-fill, weight-take, octet_of-octet_cells}
+use Rattle.aes3_cell.proofs.Octets.{octet_cells-octet_of}
 
 -- the cells of octets joined
 pub cells_of_octets-append : (a b : List ℕ) → cells_of_octets (a ++ b) ≡ cells_of_octets a ++ cells_of_octets b

@@ -1,88 +1,20 @@
 -- Packed cells read octet by octet.
-use Rattle.std.proofs.Common.{
-  ◌≡◌,
-  ℕ,
-  zero,
-  suc,
-  ◌+◌,
-  ◌-◌,
-  ◌*◌,
-  ◌<◌,
-  ◌≤◌,
-  ◌↔◌,
-  List,
-  [],
-  ◌∷◌,
-  ◌++◌,
-  Bool,
-  true,
-  false,
-  cond,
-  Option,
-  Some,
-  None,
-  Result,
-  Ok,
-  Err,
-  IsOk,
-  is_ok,
-  length,
-  take,
-  get_or,
-  reverse,
-  refl,
-  sym,
-  ap,
-  ap₂,
-  ◌∙◌,
-  arith,
-  append_assoc,
-  append-nil,
-  length-append,
-  lt-ltb,
-  le-ltb,
-  ◌==◌,
-}
+use Rattle.std.proofs.Common.{◌≡◌, ℕ, zero, suc, ◌+◌, ◌-◌, ◌*◌, ◌<◌, ◌≤◌, ◌↔◌, List, [], ◌∷◌, ◌++◌, Bool, true, false}
+use Rattle.std.proofs.Common.{cond, Option, Some, None, Result, Ok, Err, IsOk, is_ok, length, take, get_or, reverse}
+use Rattle.std.proofs.Common.{refl, sym, ap, ap₂, ◌∙◌, arith, append_assoc, append-nil, length-append, lt-ltb, le-ltb}
+use Rattle.std.proofs.Common.{◌==◌}
 use Rattle.std.proofs.lemmas.List.{take_at, take_all, length-reverse, reverse-append, reverse-reverse}
 use Rattle.std.proofs.Math.Seq.{take-append-add}
 use Rattle.aes3_level.specs.declared.level.Level.{Level}
 use Rattle.aes3_cell.specs.declared.refusal.BadPadding.{BadPadding}
-use Rattle.aes3_cell.specs.Packed.{
-  octet_cells,
-  cells_of_octets,
-  IsPacked,
-  is_padded,
-  ends_packed,
-  is_packed,
-  last_place,
-  last_octet,
-  cells_of_packed,
-  whole_cells,
-}
-use Rattle.aes3_cell.specs.PackedReading.{
-  PackedReader,
-  packed_reader_of,
-  packed_answer,
-  packed_next,
-  end_answer,
-  packed_end,
-  answer_cells,
-  end_cells,
-}
+use Rattle.aes3_cell.specs.Packed.{octet_cells, cells_of_octets, IsPacked, is_padded, ends_packed, is_packed}
+use Rattle.aes3_cell.specs.Packed.{last_place, last_octet, cells_of_packed, whole_cells}
+use Rattle.aes3_cell.specs.PackedReading.{PackedReader, packed_reader_of, packed_answer, packed_next, end_answer}
+use Rattle.aes3_cell.specs.PackedReading.{packed_end, answer_cells, end_cells}
 use Rattle.aes3_cell.proofs.Octets.{reverse-more}
-use Rattle.aes3_cell.proofs.PackedCells.{
-  LastOctet,
-  cells_of_octets-append,
-  cells_of_octets-one,
-  length-cells_of_octets,
-  last_octet-is,
-  last_place-is,
-  take-front,
-  is_packed-packs,
-  packs-is_packed,
-  last-reverse,
-  padded-parts,
-}
+use Rattle.aes3_cell.proofs.PackedCells.{LastOctet, cells_of_octets-append, cells_of_octets-one, length-cells_of_octets}
+use Rattle.aes3_cell.proofs.PackedCells.{last_octet-is, last_place-is, take-front, is_packed-packs, packs-is_packed}
+use Rattle.aes3_cell.proofs.PackedCells.{last-reverse, padded-parts}
 
 pub reader-is : {a a' c c' d d' : ℕ} → a ≡ a' → c ≡ c' → d ≡ d'
     → ◌≡◌ {A = PackedReader} (record { seen = a; before_last = c; last = d })

@@ -1,34 +1,6 @@
 -- One more cell behind cells that are packed.
-use Rattle.std.proofs.Common.{
-  ◌≡◌,
-  ℕ,
-  suc,
-  ◌+◌,
-  ◌-◌,
-  ◌*◌,
-  ◌/◌,
-  ◌<◌,
-  List,
-  [],
-  ◌∷◌,
-  ◌++◌,
-  cond,
-  length,
-  take,
-  refl,
-  sym,
-  ap,
-  ap₂,
-  ◌∙◌,
-  arith,
-  append_assoc,
-  append-nil,
-  length-append,
-  eq-eqb,
-  ne_eqb,
-  inl,
-  inr,
-}
+use Rattle.std.proofs.Common.{◌≡◌, ℕ, suc, ◌+◌, ◌-◌, ◌*◌, ◌/◌, ◌<◌, List, [], ◌∷◌, ◌++◌, cond, length, take, refl, sym}
+use Rattle.std.proofs.Common.{ap, ap₂, ◌∙◌, arith, append_assoc, append-nil, length-append, eq-eqb, ne_eqb, inl, inr}
 use Rattle.std.proofs.lemmas.Bool.{cases_eq}
 use Rattle.aes3_level.specs.declared.level.Level.{Level}
 use Rattle.aes3_level.specs.Words.{word_len}

@@ -1,41 +1,7 @@
 -- Packed cells in words: the latest cell in the lowest bit.
-use Rattle.std.proofs.Common.{
-  ◌≡◌,
-  ℕ,
-  zero,
-  suc,
-  ◌+◌,
-  ◌-◌,
-  ◌*◌,
-  ◌/◌,
-  ◌%◌,
-  ◌^◌,
-  ◌<◌,
-  List,
-  [],
-  ◌∷◌,
-  ◌++◌,
-  cond,
-  length,
-  take,
-  set,
-  get_or,
-  replicate,
-  reverse,
-  refl,
-  sym,
-  ap,
-  ap₂,
-  ◌∙◌,
-  subst,
-  arith,
-  append_assoc,
-  append-nil,
-  length-append,
-  add-one,
-  eq-eqb,
-  ne_eqb,
-}
+use Rattle.std.proofs.Common.{◌≡◌, ℕ, zero, suc, ◌+◌, ◌-◌, ◌*◌, ◌/◌, ◌%◌, ◌^◌, ◌<◌, List, [], ◌∷◌, ◌++◌, cond, length}
+use Rattle.std.proofs.Common.{take, set, get_or, replicate, reverse, refl, sym, ap, ap₂, ◌∙◌, subst, arith}
+use Rattle.std.proofs.Common.{append_assoc, append-nil, length-append, add-one, eq-eqb, ne_eqb}
 use Rattle.std.specs.Int.{bit_at, byte_at, bytes_high_first}
 use Rattle.std.proofs.lemmas.List.{take_more_set, replicate_more, take-append-le, length-reverse, reverse-append}
 use Rattle.std.proofs.lemmas.Nat.Bits.{bit_at_cat_low}
@@ -50,12 +16,8 @@ use Rattle.aes3_cell.specs.PackedPending.{octets_added}
 use Rattle.aes3_level.proofs.WordCells.{length-low_cells, low_cells-add, low_cells-same}
 use Rattle.aes3_level.proofs.WordCells.{word_len_64}
 use Rattle.aes3_cell.proofs.Octets.{level_of-bit_of, bit_of-lt, reverse-cons, lowest-cell}
-use Rattle.aes3_cell.proofs.PackedCells.{
-  first_octets-cells_of_octets,
-  first_octets-fill,
-  take-first_octets,
-  length-first_octets,
-}
+use Rattle.aes3_cell.proofs.PackedCells.{first_octets-cells_of_octets, first_octets-fill, take-first_octets}
+use Rattle.aes3_cell.proofs.PackedCells.{length-first_octets}
 
 -- the cells of a word, the latest in the lowest bit
 abbrev pub high_cells : ℕ → ℕ → List Level

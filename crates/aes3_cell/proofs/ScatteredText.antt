@@ -1,33 +1,6 @@
 -- Text of cells and separators, by the bits that tell which byte is which.
-use Rattle.std.proofs.Common.{
-  ◌≡◌,
-  ℕ,
-  zero,
-  suc,
-  ◌-◌,
-  ◌/◌,
-  ◌^◌,
-  ◌<◌,
-  ◌==◌,
-  List,
-  [],
-  ◌∷◌,
-  ◌++◌,
-  Bool,
-  true,
-  false,
-  cond,
-  length,
-  max,
-  get_or,
-  refl,
-  sym,
-  ap,
-  ap₂,
-  ◌∙◌,
-  arith,
-  lit<,
-}
+use Rattle.std.proofs.Common.{◌≡◌, ℕ, zero, suc, ◌-◌, ◌/◌, ◌^◌, ◌<◌, ◌==◌, List, [], ◌∷◌, ◌++◌, Bool, true, false, cond}
+use Rattle.std.proofs.Common.{length, max, get_or, refl, sym, ap, ap₂, ◌∙◌, arith, lit<}
 use Rattle.std.specs.Prelude.{bit_or, ◌||◌, if◌then◌else◌}
 use Rattle.std.specs.Int.{bit_at}
 use Rattle.std.specs.List.{flat_map, take_while}
@@ -35,21 +8,8 @@ use Rattle.std.proofs.lemmas.Bool.{eqb-true}
 use Rattle.std.proofs.lemmas.Nat.{or_lt}
 use Rattle.std.proofs.lemmas.Nat.Bits.{bit_at_lowest, bit_at-suc, bit_at_or, bit_at_ones, same_from_bits_below}
 use Rattle.aes3_level.specs.declared.level.Level.TheVariants.{Low, High}
-use Rattle.aes3_cell.specs.CellText.{
-  Kind,
-  cell,
-  separator,
-  bad,
-  kind_of,
-  is_good,
-  kind_cells,
-  is_good_byte,
-  byte_cells,
-  good_bytes,
-  good,
-  cells_of_text,
-  IsCellText,
-}
+use Rattle.aes3_cell.specs.CellText.{Kind, cell, separator, bad, kind_of, is_good, kind_cells, is_good_byte, byte_cells}
+use Rattle.aes3_cell.specs.CellText.{good_bytes, good, cells_of_text, IsCellText}
 use Rattle.aes3_cell.specs.Scattered.{cell_if, kept_cells}
 use Rattle.aes3_cell.proofs.CellTexts.{good_bytes-good, good_bytes-bad}
 

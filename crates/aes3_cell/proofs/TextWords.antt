@@ -1,32 +1,6 @@
 -- Words of cells in text.
-use Rattle.std.proofs.Common.{
-  ◌≡◌,
-  ℕ,
-  zero,
-  suc,
-  ◌-◌,
-  ◌/◌,
-  ◌%◌,
-  ◌^◌,
-  ◌<◌,
-  ◌⊎◌,
-  inl,
-  inr,
-  max,
-  List,
-  length,
-  map,
-  get_or,
-  ext_get_or,
-  eq-eqb,
-  ne_eqb,
-  lit<,
-  refl,
-  sym,
-  ap,
-  ◌∙◌,
-  arith,
-}
+use Rattle.std.proofs.Common.{◌≡◌, ℕ, zero, suc, ◌-◌, ◌/◌, ◌%◌, ◌^◌, ◌<◌, ◌⊎◌, inl, inr, max, List, length, map, get_or}
+use Rattle.std.proofs.Common.{ext_get_or, eq-eqb, ne_eqb, lit<, refl, sym, ap, ◌∙◌, arith}
 use Rattle.std.specs.Prelude.{bit_or, ◌==◌, if◌then◌else◌}
 use Rattle.std.specs.Int.{bit_at}
 use Rattle.std.proofs.lemmas.Bool.{cases_eq}

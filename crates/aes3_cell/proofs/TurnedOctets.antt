@@ -1,57 +1,14 @@
 -- Octets with their bits in the opposite order, by two tables.
-use Rattle.std.proofs.Common.{
-  ◌≡◌,
-  ℕ,
-  ◌+◌,
-  ◌-◌,
-  ◌*◌,
-  ◌/◌,
-  ◌^◌,
-  ◌<◌,
-  ◌≤◌,
-  List,
-  [],
-  ◌∷◌,
-  Bool,
-  true,
-  length,
-  map,
-  get_or,
-  replicate,
-  reverse,
-  eqb,
-  bit_and,
-  bit_or,
-  ext_get_or,
-  refl,
-  sym,
-  ap,
-  ap₂,
-  ◌∙◌,
-  arith,
-  w8,
-  Fits,
-}
+use Rattle.std.proofs.Common.{◌≡◌, ℕ, ◌+◌, ◌-◌, ◌*◌, ◌/◌, ◌^◌, ◌<◌, ◌≤◌, List, [], ◌∷◌, Bool, true, length, map, get_or}
+use Rattle.std.proofs.Common.{replicate, reverse, eqb, bit_and, bit_or, ext_get_or, refl, sym, ap, ap₂, ◌∙◌, arith, w8}
+use Rattle.std.proofs.Common.{Fits}
 use Rattle.std.specs.Simd.Lanes.{zip2, Each1}
 use Rattle.std.proofs.lemmas.Bool.{agree_below, agree_below_at, eqb-true}
 use Rattle.std.proofs.lemmas.List.{length-map, get_or-map, reverse-reverse}
 use Rattle.std.proofs.lemmas.Nat.{and_le_r}
-use Rattle.std.proofs.lemmas.Simd.{
-  swz_l,
-  SwzOk,
-  SwzOk-from_below,
-  length-swz_l,
-  get_or-swz_l_below,
-  get_or-zip2,
-  length-zip2,
-  get_or-replicate,
-  Each1-all,
-  Each1-weaker,
-  Each1-zip2,
-  Each2-splat,
-  Each1-get_or,
-  below_from_Fits,
-}
+use Rattle.std.proofs.lemmas.Simd.{swz_l, SwzOk, SwzOk-from_below, length-swz_l, get_or-swz_l_below, get_or-zip2}
+use Rattle.std.proofs.lemmas.Simd.{length-zip2, get_or-replicate, Each1-all, Each1-weaker, Each1-zip2, Each2-splat}
+use Rattle.std.proofs.lemmas.Simd.{Each1-get_or, below_from_Fits}
 use Rattle.aes3_cell.specs.declared.eights.TheConstants.{FROM_LOW, FROM_HIGH}
 use Rattle.aes3_level.specs.declared.level.Level.{Level}
 use Rattle.aes3_level.specs.declared.level.Level.TheVariants.{Low, High}

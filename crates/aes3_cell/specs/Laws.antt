@@ -1,22 +1,6 @@
 -- The laws of the written forms of cells.
-use Rattle.std.specs.Prelude.{
-  ℕ,
-  List,
-  [],
-  ◌∷◌,
-  ◌++◌,
-  Option,
-  Some,
-  None,
-  Result,
-  Ok,
-  Err,
-  length,
-  ◌≡◌,
-  ◌%◌,
-  ◌<◌,
-  IsTrue,
-}
+use Rattle.std.specs.Prelude.{ℕ, List, [], ◌∷◌, ◌++◌, Option, Some, None, Result, Ok, Err, length, ◌≡◌, ◌%◌, ◌<◌}
+use Rattle.std.specs.Prelude.{IsTrue}
 use Rattle.aes3_level.specs.declared.level.Level.{Level}
 use Rattle.aes3_level.specs.Words.{word_len}
 use Rattle.aes3_cell.specs.Text.{text_of}
@@ -51,8 +35,8 @@ cells_answered (Err fault) cells = []
 
 abbrev pub text_cells_fed : TextReader → List ℕ → List Level
 text_cells_fed reader [] = []
-text_cells_fed reader (byte ∷ bytes)
-    = cells_answered (text_answer reader byte) (text_cells_fed (text_next reader byte) bytes)
+text_cells_fed reader (byte ∷ bytes) =
+    cells_answered (text_answer reader byte) (text_cells_fed (text_next reader byte) bytes)
 
 abbrev pub refusal_answered : Result (Option Level) BadCell → Option BadCell → Option BadCell
 refusal_answered (Ok cell) later = later
@@ -60,8 +44,8 @@ refusal_answered (Err fault) later = Some fault
 
 abbrev pub text_refusal : TextReader → List ℕ → Option BadCell
 text_refusal reader [] = None
-text_refusal reader (byte ∷ bytes)
-    = refusal_answered (text_answer reader byte) (text_refusal (text_next reader byte) bytes)
+text_refusal reader (byte ∷ bytes) =
+    refusal_answered (text_answer reader byte) (text_refusal (text_next reader byte) bytes)
 
 -- a new reader answers the cells of the bytes that it is fed, and refuses the first bad one with its place
 abbrev pub TextReaderAnswersCells : Type 0

@@ -1,33 +1,7 @@
 -- Packed cells: octets of eight cells each, the first cell in the highest bit, then one last octet, the number of
 -- unused cells.
-use Rattle.std.specs.Prelude.{
-  ℕ,
-  zero,
-  suc,
-  List,
-  [],
-  ◌∷◌,
-  ◌++◌,
-  Bool,
-  false,
-  ◌≡◌,
-  ◌<◌,
-  ◌+◌,
-  ◌-◌,
-  ◌*◌,
-  ◌/◌,
-  ◌%◌,
-  ◌^◌,
-  ◌==◌,
-  ◌&&◌,
-  nat_lt,
-  length,
-  take,
-  drop,
-  get_or,
-  replicate,
-  reverse,
-}
+use Rattle.std.specs.Prelude.{ℕ, zero, suc, List, [], ◌∷◌, ◌++◌, Bool, false, ◌≡◌, ◌<◌, ◌+◌, ◌-◌, ◌*◌, ◌/◌, ◌%◌, ◌^◌}
+use Rattle.std.specs.Prelude.{◌==◌, ◌&&◌, nat_lt, length, take, drop, get_or, replicate, reverse}
 use Rattle.std.specs.List.{flat_map}
 use Rattle.aes3_level.specs.declared.level.Level.{Level}
 use Rattle.aes3_level.specs.declared.level.Level.TheVariants.{Low}

@@ -1,26 +1,6 @@
 -- Packed cells read octet by octet.
-use Rattle.std.specs.Prelude.{
-  ℕ,
-  zero,
-  suc,
-  List,
-  [],
-  length,
-  take,
-  get_or,
-  reverse,
-  Option,
-  Some,
-  None,
-  Result,
-  Ok,
-  Err,
-  ◌+◌,
-  ◌-◌,
-  ◌==◌,
-  nat_lt,
-  if◌then◌else◌,
-}
+use Rattle.std.specs.Prelude.{ℕ, zero, suc, List, [], length, take, get_or, reverse, Option, Some, None, Result, Ok}
+use Rattle.std.specs.Prelude.{Err, ◌+◌, ◌-◌, ◌==◌, nat_lt, if◌then◌else◌}
 use Rattle.aes3_cell.specs.declared.refusal.BadPadding.{BadPadding}
 use Rattle.aes3_level.specs.declared.level.Level.{Level}
 use Rattle.aes3_cell.specs.Packed.{octet_cells, is_padded}
@@ -52,8 +32,8 @@ packed_next reader octet = record { seen = reader.seen + 1; before_last = reader
 abbrev pub end_answer : ℕ → ℕ → ℕ → Result (Option (ℕ × ℕ)) BadPadding
 end_answer zero octet last = Err (record { at = 0 })
 end_answer (suc zero) octet last = if last == 0 then Ok None else Err (record { at = 0 })
-end_answer (suc (suc n)) octet last
-    = if is_padded octet last then Ok (Some (octet, 8 - last)) else Err (record { at = suc n })
+end_answer (suc (suc n)) octet last =
+    if is_padded octet last then Ok (Some (octet, 8 - last)) else Err (record { at = suc n })
 
 abbrev pub packed_end : PackedReader → Result (Option (ℕ × ℕ)) BadPadding
 packed_end reader = end_answer reader.seen reader.before_last reader.last

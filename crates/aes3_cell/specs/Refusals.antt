@@ -1,19 +1,8 @@
 -- The numbers of the refusals, and where the fault stands.
 use Rattle.std.specs.Prelude.{ℕ, Option, Some, None}
 use Rattle.aes3_cell.specs.declared.refusal.RunError.{RunError}
-use Rattle.aes3_cell.specs.declared.refusal.RunError.TheVariants.{
-  BadCell,
-  BadLength,
-  BadCode,
-  BadParity,
-  Read,
-  Write,
-  TooLong,
-  Memory,
-  BadStatusText,
-  BadPadding,
-  BadSample,
-}
+use Rattle.aes3_cell.specs.declared.refusal.RunError.TheVariants.{BadCell, BadLength, BadCode, BadParity, Read, Write}
+use Rattle.aes3_cell.specs.declared.refusal.RunError.TheVariants.{TooLong, Memory, BadStatusText, BadPadding, BadSample}
 
 abbrev pub number_of : RunError → ℕ
 number_of (BadCell at) = 1

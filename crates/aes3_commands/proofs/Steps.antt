@@ -1,26 +1,6 @@
 -- Steps from a builder of `clap` to the definitions of the command line.
-use Rattle.std.proofs.Common.{
-  ◌≡◌,
-  ◌∙◌,
-  ◌||◌,
-  ◌<◌,
-  ◌+◌,
-  ◌++◌,
-  ◌∷◌,
-  ℕ,
-  List,
-  [],
-  ap,
-  ap₂,
-  false,
-  get_or,
-  length,
-  map,
-  refl,
-  subst,
-  sym,
-  take,
-}
+use Rattle.std.proofs.Common.{◌≡◌, ◌∙◌, ◌||◌, ◌<◌, ◌+◌, ◌++◌, ◌∷◌, ℕ, List, [], ap, ap₂, false, get_or, length, map}
+use Rattle.std.proofs.Common.{refl, subst, sym, take}
 use Rattle.std.proofs.lemmas.List.{map-append, take_more}
 use Rattle.clap.specs.Built.{AddsArg, AddsSubcommand}
 use Rattle.clap.specs.Walk.{Rule, Text}

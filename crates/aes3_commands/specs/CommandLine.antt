@@ -8,40 +8,14 @@ use Rattle.clap.specs.declared.builder.command.Command.{Command}
 use Rattle.clap.specs.declared.builder.command.Command.TheViews.{out-Command as fields_of}
 use Rattle.clap.specs.declared.builder.value_parser.ValueParser.TheVariants as vp
 use Rattle.aes3_commands.specs.declared.argument.Argument.{Argument}
-use Rattle.aes3_commands.specs.declared.argument.Argument.TheVariants.{
-  PackedIn,
-  RawIn,
-  PackedOut,
-  Faults,
-  Gaps,
-  Changes,
-  From,
-  Count,
-}
+use Rattle.aes3_commands.specs.declared.argument.Argument.TheVariants.{PackedIn, RawIn, PackedOut, Faults, Gaps}
+use Rattle.aes3_commands.specs.declared.argument.Argument.TheVariants.{Changes, From, Count}
 use Rattle.aes3_commands.specs.declared.argument.Argument.TheVariants.{Json, Rate}
-use Rattle.aes3_commands.specs.declared.argument.Argument.TheVariants.{
-  Status1,
-  Status2,
-  Set1,
-  Set2,
-  MendCheck,
-  Exact,
-  File,
-}
+use Rattle.aes3_commands.specs.declared.argument.Argument.TheVariants.{Status1, Status2, Set1, Set2, MendCheck, Exact}
+use Rattle.aes3_commands.specs.declared.argument.Argument.TheVariants.{File}
 use Rattle.aes3_commands.specs.declared.definitions.Name.{Name}
-use Rattle.aes3_commands.specs.declared.definitions.Name.TheVariants.{
-  Encode,
-  Decode,
-  Normal,
-  Check,
-  Watch,
-  Show,
-  Scan,
-  Cut,
-  Rewrite,
-  ToPcm,
-  FromPcm,
-}
+use Rattle.aes3_commands.specs.declared.definitions.Name.TheVariants.{Encode, Decode, Normal, Check, Watch, Show, Scan}
+use Rattle.aes3_commands.specs.declared.definitions.Name.TheVariants.{Cut, Rewrite, ToPcm, FromPcm}
 
 -- `--name`, which stands or does not
 abbrev pub flag : Text → Rule

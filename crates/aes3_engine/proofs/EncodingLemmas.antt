@@ -21,7 +21,7 @@ use Rattle.aes3_block.proofs.WholeBlocks.{reader-next, lawful-next, blocks-next,
 use Rattle.aes3_input.specs.Converting.{or_else, unless, fault_behind, out_behind, before_fault}
 use Rattle.aes3_input.specs.Running.{Fed, Stopped, PieceRan, EndRan}
 use Rattle.aes3_input.proofs.Feeding.{fed-none, fed-is, fed-join, front-joined}
-use Rattle.aes3_engine.specs.Encoding.{encoding, refused_by, refused_at_end, block_written, Encodes, AllLawful}
+use Rattle.aes3_engine.specs.Encoding.{encoding, encoding_state, refused_by, refused_at_end, block_written, Encodes, AllLawful}
 use Rattle.aes3_block.proofs.Feeding.{reader-open}
 
 -- one byte that is no fault
@@ -153,17 +153,16 @@ stopped-byte form {file} {blocks} x f t a = record {
     here : (b : List ℕ) → Encodes file blocks b → byte_fault (reader_of b) x ≡ Some f
     here b h = answered-err (reader_of b) x f (reader-open b) (a ∙ ap (λ v. answer_with v x) h.reader)
 
-pub byte-refused : (form : Form) (file : FileReader) (blocks : ℕ) (after : List ℕ → Type 0) (x : ℕ) (f : FileFault)
+pub byte-refused : (form : Form) (file new : FileReader) (blocks : ℕ) (x : ℕ) (f : FileFault)
     (e : RunError) (t : Option (List ℕ)) (k : ℕ) → e ≡ refusal_of f → Err f ≡ answer_with file x
-    → PieceRan (encoding form) (encoding form) (Encodes file blocks) after (Blocks blocks) (x ∷ [])
+    → PieceRan (encoding_state form file blocks) (encoding_state form new blocks) (x ∷ [])
     (record { old = t; new = t; failed_old = k; failed_new = k }) (Err e)
-byte-refused form file blocks after x f e t k q a =
-    subst (λ (v : RunError). PieceRan (encoding form) (encoding form) (Encodes file blocks) after (Blocks blocks)
-    (x ∷ []) (record { old = t; new = t; failed_old = k; failed_new = k }) (Err v)) (sym q)
-    (go f (stopped-byte form x f t a))
+byte-refused form file new blocks x f e t k q a =
+    subst (λ (v : RunError). PieceRan (encoding_state form file blocks) (encoding_state form new blocks) (x ∷ [])
+    (record { old = t; new = t; failed_old = k; failed_new = k }) (Err v)) (sym q) (go f (stopped-byte form x f t a))
   where
     go : (f : FileFault) → Stopped (encoding form) (Encodes file blocks) (Blocks blocks) t t (x ∷ []) (refusal_of f)
-        → PieceRan (encoding form) (encoding form) (Encodes file blocks) after (Blocks blocks) (x ∷ [])
+        → PieceRan (encoding_state form file blocks) (encoding_state form new blocks) (x ∷ [])
         (record { old = t; new = t; failed_old = k; failed_new = k }) (Err (refusal_of f))
     go (fault.BadLength left) s = (s, refl)
     go (fault.BadCode at) s = (s, refl)
@@ -189,16 +188,16 @@ pub end-front : (form : Form) {file : FileReader} {blocks : ℕ} (t t' : Option 
 unfolding encoding
 end-front form {file} t t' q g b h = (end-of form file b (Ok tt) h.reader q, g)
 
-pub end-refused : (form : Form) (file : FileReader) (blocks : ℕ) (after : List ℕ → Type 0) (f : FileFault)
+pub end-refused : (form : Form) (file new : FileReader) (blocks : ℕ) (f : FileFault)
     (e : RunError) (t : Option (List ℕ)) (k : ℕ) → e ≡ refusal_of f → Err f ≡ end_answer file
-    → EndRan (encoding form) (Encodes file blocks) (Blocks blocks) after
+    → EndRan (encoding_state form file blocks) (encoding_state form new blocks)
     (record { old = t; new = t; failed_old = k; failed_new = k }) (Err e)
-end-refused form file blocks after f e t k q a =
-    subst (λ (v : RunError). EndRan (encoding form) (Encodes file blocks) (Blocks blocks) after
+end-refused form file new blocks f e t k q a =
+    subst (λ (v : RunError). EndRan (encoding_state form file blocks) (encoding_state form new blocks)
     (record { old = t; new = t; failed_old = k; failed_new = k }) (Err v)) (sym q) (go f a)
   where
     go : (f : FileFault) → Err f ≡ end_answer file
-        → EndRan (encoding form) (Encodes file blocks) (Blocks blocks) after
+        → EndRan (encoding_state form file blocks) (encoding_state form new blocks)
         (record { old = t; new = t; failed_old = k; failed_new = k }) (Err (refusal_of f))
     go (fault.BadLength left) a =
         (λ b h. (end-of form file b (Err (fault.BadLength left)) h.reader a, h.count, grew-none refl), refl)

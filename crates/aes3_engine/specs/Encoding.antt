@@ -12,7 +12,7 @@ use Rattle.aes3_frame.specs.Files.{words_of, lawful_words, has_code, has_parity,
 use Rattle.aes3_block.specs.Readers.{FileReader, reader_of, byte_fault, block_with, end_answer}
 use Rattle.aes3_block.specs.Refusals.{refusal_of}
 use Rattle.aes3_input.specs.Converting.{Reading}
-use Rattle.aes3_input.specs.Running.{Promise}
+use Rattle.aes3_input.specs.Running.{InputState, Promise}
 use Rattle.aes3_cell.specs.declared.form.Form.{Form}
 use Rattle.aes3_cell.specs.Written.{bytes_of, ending, written}
 
@@ -104,3 +104,12 @@ pub record Encodes (file : FileReader) (blocks : ℕ) (b : List ℕ) : Type 0 wh
   pub reader : file ≡ reader_of b
   pub lawful : AllLawful b
   pub count : blocks ≡ length (file_blocks b)
+
+-- a block file as an input, of which so many blocks are written in this form
+abbrev pub encoding_state : Form → FileReader → ℕ → InputState
+encoding_state form file blocks = record {
+  reads = encoding form;
+  follows = Encodes file blocks;
+  stopped = λ b. blocks ≡ length (file_blocks b);
+  finished = Encodes file blocks;
+}

@@ -7,7 +7,7 @@ use Rattle.aes3_cell.specs.declared.refusal.RunError.TheVariants.{BadLength, Bad
 use Rattle.aes3_frame.specs.Files.{bytes_number, words_of, file}
 use Rattle.aes3_frame.specs.Sampled.{sampled, filled}
 use Rattle.aes3_input.specs.Converting.{Reading}
-use Rattle.aes3_input.specs.Running.{Promise}
+use Rattle.aes3_input.specs.Running.{InputState, Promise}
 use Rattle.aes3_status.specs.declared.change.Change.{Change}
 use Rattle.aes3_engine.specs.Rewriting.{rewritten_blocks}
 
@@ -111,3 +111,13 @@ pub record Samples (exact : Bool) (seen : ℕ) (begun b : List ℕ) : Type 0 whe
   pub bytes : b ≡ before ++ take (seen % block_bytes_len) begun
   pub count : seen ≡ length b
   pub bits : AllExact exact b
+
+-- samples as an input of which `seen` bytes have come, with the bytes of the block that is begun; its taker is the
+-- change of each block's channel status
+abbrev pub sampling_state : Bool → ℕ → List ℕ → Change → InputState
+sampling_state exact seen begun change = record {
+  reads = sampling exact change;
+  follows = Samples exact seen begun;
+  stopped = λ b. Unit {0};
+  finished = λ b. Unit {0};
+}

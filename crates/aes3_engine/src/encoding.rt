@@ -13,7 +13,7 @@ ghost use Rattle.aes3_frame.specs.Files.{file, IsBlockFile, file_blocks};
 ghost use Rattle.aes3_block.specs.Readers.{TakesBlock, TakesQuietly};
 ghost use Rattle.aes3_lock.specs.Reports.{blocks, normal};
 ghost use Rattle.aes3_input.specs.Running.{FrontRan, InputRun, PieceRan, movement_of};
-ghost use Rattle.aes3_engine.specs.Encoding.{Encodes, encoded_file, encoding};
+ghost use Rattle.aes3_engine.specs.Encoding.{Encodes, encoded_file, encoding_state};
 
 use aes3_block::{BLOCK_BYTES, BLOCK_CELLS, Block, BlockFile, SLOTS, fill_block_cells};
 use aes3_cell::{Counts, Fault, Form, Level, RunError, Sink, Source, put_ending, put_words};
@@ -57,9 +57,8 @@ fn take_byte<T: Sink>(
     requires room { T.failed sink.old + 1 < 2 ^ 64 }
     requires following { (b : List ℕ) × (length b < 2 ^ 40)
         × Encodes file.old encoder.old.blocks b }
-    ensures { PieceRan (encoding encoder.old.output) (encoding encoder.new.output)
-        (Encodes file.old encoder.old.blocks) (Encodes file.new encoder.new.blocks)
-        (λ b. encoder.new.blocks ≡ length (file_blocks b)) (byte ∷ [])
+    ensures { PieceRan (encoding_state encoder.old.output file.old encoder.old.blocks)
+        (encoding_state encoder.new.output file.new encoder.new.blocks) (byte ∷ [])
         (movement_of T.taken T.failed sink.old sink.new) result }
 {
     match file.feed_byte(byte) {
@@ -115,9 +114,8 @@ fn take_few<T: Sink>(
     requires room { T.failed sink.old + 1 < 2 ^ 64 }
     requires following { (b : List ℕ) × (length b + length piece.now ≤ 2 ^ 40)
         × Encodes file.old encoder.old.blocks b }
-    ensures { FrontRan (encoding encoder.old.output) (encoding encoder.new.output)
-        (Encodes file.old encoder.old.blocks) (Encodes file.new encoder.new.blocks)
-        (λ b. encoder.new.blocks ≡ length (file_blocks b)) piece.now
+    ensures { FrontRan (encoding_state encoder.old.output file.old encoder.old.blocks)
+        (encoding_state encoder.new.output file.new encoder.new.blocks) piece.now
         (movement_of T.taken T.failed sink.old sink.new) result }
 {
     if feed_front(file, piece) {
@@ -130,13 +128,7 @@ fn take_few<T: Sink>(
 }
 
 impl Input<Encoder> for BlockFile {
-    ghost follows = { λ file encoder. Encodes file encoder.blocks };
-
-    ghost reads = { λ _ encoder. encoding encoder.output };
-
-    ghost finished = { λ file encoder. Encodes file encoder.blocks };
-
-    ghost stopped = { λ _ encoder b. encoder.blocks ≡ length (file_blocks b) };
+    ghost state = { λ file encoder. encoding_state encoder.output file encoder.blocks };
 
     /// Takes the bytes of a whole block where none is begun and its words are lawful, else a word's
     /// or one.

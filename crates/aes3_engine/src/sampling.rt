@@ -6,9 +6,9 @@ ghost use Rattle.std.specs.Prelude.{IfSome, IsOk, OnErr, IsTrue};
 ghost use Rattle.aes3_cell.specs.Ends.{Grew, GrewFront, Told};
 ghost use Rattle.aes3_frame.specs.Files.{block_bytes, words_of};
 ghost use Rattle.aes3_frame.specs.Sampled.{payload_of_sample};
-ghost use Rattle.aes3_input.specs.Running.{FrontRan, InputRun, movement_of};
+ghost use Rattle.aes3_input.specs.Running.{InputRun, movement_of};
 ghost use Rattle.aes3_engine.specs.Rewriting.{rewritten};
-ghost use Rattle.aes3_engine.specs.Sampling.{IsPcm, Samples, pcm_file, sampled_file, sampling};
+ghost use Rattle.aes3_engine.specs.Sampling.{IsPcm, pcm_file, sampled_file, sampling_state};
 
 use crate::rewriting::rewrite_block;
 use aes3_block::{BLOCK_BYTES, Block, put_block_file};
@@ -71,13 +71,7 @@ fn put_samples<T: Sink>(
 }
 
 impl Input<Change> for SampleInput {
-    ghost follows = { λ input change. Samples input.exact input.seen input.begun };
-
-    ghost reads = { λ input change. sampling input.exact change };
-
-    ghost finished = { λ input change b. Unit {0} };
-
-    ghost stopped = { λ input change b. Unit {0} };
+    ghost state = { λ input change. sampling_state input.exact input.seen input.begun change };
 
     /// Takes what a piece has of the block that is begun.
     fn take_front<T: Sink>(

@@ -1,40 +1,7 @@
 -- Words of a block file, four at once, of the cells of four subframes.
-use Rattle.std.proofs.Common.{
-  ◌≡◌,
-  ℕ,
-  zero,
-  suc,
-  ◌+◌,
-  ◌-◌,
-  ◌*◌,
-  ◌/◌,
-  ◌%◌,
-  ◌^◌,
-  ◌<◌,
-  ◌≤◌,
-  ◌⊎◌,
-  inl,
-  inr,
-  List,
-  [],
-  ◌∷◌,
-  ◌++◌,
-  true,
-  false,
-  cond,
-  ltb,
-  length,
-  take,
-  get_or,
-  get_or-set_other,
-  refl,
-  sym,
-  ap,
-  ap₂,
-  subst,
-  ◌∙◌,
-  arith,
-}
+use Rattle.std.proofs.Common.{◌≡◌, ℕ, zero, suc, ◌+◌, ◌-◌, ◌*◌, ◌/◌, ◌%◌, ◌^◌, ◌<◌, ◌≤◌, ◌⊎◌, inl, inr, List, [], ◌∷◌}
+use Rattle.std.proofs.Common.{◌++◌, true, false, cond, ltb, length, take, get_or, get_or-set_other, refl, sym, ap, ap₂}
+use Rattle.std.proofs.Common.{subst, ◌∙◌, arith}
 use Rattle.std.specs.Prelude.{bit_xor}
 use Rattle.std.specs.Int.{bit_at}
 use Rattle.std.specs.Simd.Lanes.{pick_l, chunk}
@@ -44,17 +11,8 @@ use Rattle.std.proofs.lemmas.Nat.{xor_lt, mod_below}
 use Rattle.std.proofs.lemmas.Nat.Bits.{bit_at_cat_low, bit_at_cat_high, bit_at_above}
 use Rattle.std.proofs.lemmas.Simd.{pick_l_left, get_or_wider, get_or_narrower}
 use Rattle.aes3_level.specs.Words.{word_cells, word_len}
-use Rattle.aes3_level.proofs.Moves.{
-  Gathers,
-  masked,
-  with_above,
-  in_place,
-  any_of,
-  any_of-one,
-  same_places,
-  same_places-is,
-  bit_at-shr,
-}
+use Rattle.aes3_level.proofs.Moves.{Gathers, masked, with_above, in_place, any_of, any_of-one, same_places}
+use Rattle.aes3_level.proofs.Moves.{same_places-is, bit_at-shr}
 use Rattle.aes3_bits.specs.Bits.{odd_ones}
 use Rattle.aes3_slot.specs.Slots.{payload_len, slots_len, slots_bits}
 use Rattle.aes3_slot.specs.ReadWords.{read_word}

@@ -1,62 +1,16 @@
 -- The V, U and C bits of a block, read and written frame by frame.
 use mir.Val.{bool_byte}
-use Rattle.std.proofs.Common.{
-  ◌≡◌,
-  ℕ,
-  zero,
-  suc,
-  ◌+◌,
-  ◌-◌,
-  ◌*◌,
-  ◌/◌,
-  ◌%◌,
-  ◌^◌,
-  ◌<◌,
-  ◌≤◌,
-  ◌⊎◌,
-  inl,
-  inr,
-  List,
-  [],
-  ◌∷◌,
-  ◌++◌,
-  Bool,
-  true,
-  false,
-  cond,
-  eqb,
-  length,
-  take,
-  drop,
-  get_or,
-  set,
-  Some,
-  None,
-  refl,
-  sym,
-  ap,
-  ap₂,
-  ◌∙◌,
-  arith,
-  add-one,
-  length-append,
-}
+use Rattle.std.proofs.Common.{◌≡◌, ℕ, zero, suc, ◌+◌, ◌-◌, ◌*◌, ◌/◌, ◌%◌, ◌^◌, ◌<◌, ◌≤◌, ◌⊎◌, inl, inr, List, [], ◌∷◌}
+use Rattle.std.proofs.Common.{◌++◌, Bool, true, false, cond, eqb, length, take, drop, get_or, set, Some, None, refl}
+use Rattle.std.proofs.Common.{sym, ap, ap₂, ◌∙◌, arith, add-one, length-append}
 use Rattle.std.specs.Prelude.{slice_get, bit_or, bit_and}
 use Rattle.std.specs.Int.{bit_at}
 use Rattle.std.specs.Int.Bits.{or_shifted_r}
 use Rattle.std.specs.Option.{option_map}
 use Rattle.std.proofs.lemmas.Nat.{shl_whole}
 use Rattle.std.proofs.lemmas.Bool.{cases_lt}
-use Rattle.std.proofs.lemmas.List.{
-  take_more,
-  take_more_set,
-  take_all,
-  length-take-le,
-  get_or-append-add,
-  get_or_append_left,
-  set-append_right,
-  drop-drop,
-}
+use Rattle.std.proofs.lemmas.List.{take_more, take_more_set, take_all, length-take-le, get_or-append-add}
+use Rattle.std.proofs.lemmas.List.{get_or_append_left, set-append_right, drop-drop}
 use Rattle.std.proofs.lemmas.Option.{slice_get-map, slice_get-get_or, slice_get_within, get_or_from_slice_get}
 use Rattle.aes3_bits.specs.Bits.{low_bits, number}
 use Rattle.aes3_bits.proofs.Bits.{length-low_bits, low_bits-at, number-lt, number-push}
@@ -64,17 +18,8 @@ use Rattle.aes3_frame.specs.declared.subframe.Subframe.{Subframe}
 use Rattle.aes3_frame.specs.declared.status.Channel.{Channel}
 use Rattle.aes3_frame.specs.declared.status.Channel.TheVariants.{First, Second}
 use Rattle.aes3_frame.specs.Subframes.{audio_len, bits_of}
-use Rattle.aes3_frame.specs.Statuses.{
-  of_channel,
-  validity_place,
-  user_place,
-  status_place,
-  bits_at,
-  status_len,
-  bytes_in,
-  bits_of_bytes,
-  with_bits_at,
-}
+use Rattle.aes3_frame.specs.Statuses.{of_channel, validity_place, user_place, status_place, bits_at, status_len}
+use Rattle.aes3_frame.specs.Statuses.{bytes_in, bits_of_bytes, with_bits_at}
 use Rattle.aes3_frame.proofs.BitLemmas.{bit-set}
 
 pub status_len_24 : status_len ≡ 24

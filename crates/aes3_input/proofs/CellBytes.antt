@@ -1,31 +1,6 @@
 -- The bits of bytes that are cells or separators.
-use Rattle.std.proofs.Common.{
-  ◌≡◌,
-  ◌==◌,
-  ℕ,
-  ◌+◌,
-  ◌*◌,
-  ◌/◌,
-  ◌%◌,
-  ◌^◌,
-  ◌<◌,
-  ◌≤◌,
-  ◌++◌,
-  Bool,
-  true,
-  false,
-  sym,
-  ap,
-  ap₂,
-  subst,
-  ◌∙◌,
-  refl,
-  arith,
-  [],
-  lit≤,
-  add-zero,
-  append-nil,
-}
+use Rattle.std.proofs.Common.{◌≡◌, ◌==◌, ℕ, ◌+◌, ◌*◌, ◌/◌, ◌%◌, ◌^◌, ◌<◌, ◌≤◌, ◌++◌, Bool, true, false, sym, ap, ap₂}
+use Rattle.std.proofs.Common.{subst, ◌∙◌, refl, arith, [], lit≤, add-zero, append-nil}
 use Rattle.std.specs.Prelude.{bit_and, bit_or, ◌||◌, if◌then◌else◌}
 use Rattle.std.specs.Int.Bits.{or_zero_r}
 use Rattle.std.proofs.lemmas.Bool.{eqb-true}

@@ -1,33 +1,6 @@
 -- Cells put behind others, and the words that they make.
-use Rattle.std.proofs.Common.{
-  ◌≡◌,
-  ℕ,
-  ◌+◌,
-  ◌-◌,
-  ◌*◌,
-  ◌/◌,
-  ◌%◌,
-  ◌^◌,
-  ◌<◌,
-  ◌≤◌,
-  List,
-  [],
-  ◌++◌,
-  Bool,
-  true,
-  false,
-  length,
-  take,
-  set,
-  max,
-  sym,
-  ap,
-  ap₂,
-  subst,
-  ◌∙◌,
-  arith,
-  append_assoc,
-}
+use Rattle.std.proofs.Common.{◌≡◌, ℕ, ◌+◌, ◌-◌, ◌*◌, ◌/◌, ◌%◌, ◌^◌, ◌<◌, ◌≤◌, List, [], ◌++◌, Bool, true, false, length}
+use Rattle.std.proofs.Common.{take, set, max, sym, ap, ap₂, subst, ◌∙◌, arith, append_assoc}
 use mir.Val.{bool_byte}
 use Rattle.std.specs.Prelude.{bit_or, if◌then◌else◌}
 use Rattle.std.specs.Int.{bit_at}

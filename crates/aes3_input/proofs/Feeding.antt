@@ -1,40 +1,15 @@
 -- Pieces fed one behind the other.
-use Rattle.std.proofs.Common.{
-  ◌≡◌,
-  ℕ,
-  ◌+◌,
-  List,
-  [],
-  ◌++◌,
-  take,
-  drop,
-  Option,
-  Some,
-  Err,
-  sym,
-  ap,
-  ◌∙◌,
-  subst,
-  append_assoc,
-  append-nil,
-  refl,
-}
+use Rattle.std.proofs.Common.{◌≡◌, ℕ, ◌+◌, List, [], ◌++◌, take, drop, Option, Some, Err, sym, ap, ◌∙◌, subst}
+use Rattle.std.proofs.Common.{append_assoc, append-nil, refl}
 use Rattle.std.proofs.Math.Seq.{take-add}
 use Rattle.aes3_cell.specs.declared.refusal.RunError.{RunError}
 use Rattle.aes3_cell.specs.declared.refusal.RunError.TheVariants.{Read, Write, TooLong}
 use Rattle.aes3_cell.specs.Ends.{GrewFront}
 use Rattle.aes3_cell.proofs.Growing.{grew-none, grew-join, grew-is, front-join, front-more, front-is}
 use Rattle.aes3_input.specs.Converting.{Reading, fault_behind, out_behind, before_fault}
-use Rattle.aes3_input.specs.Running.{Fed, Stopped, PieceRan}
-use Rattle.aes3_input.proofs.Outputs.{
-  behind-join,
-  behind-clean,
-  fault-clean,
-  behind-fault,
-  fault-first,
-  before-clean,
-  before-first,
-}
+use Rattle.aes3_input.specs.Running.{Fed, InputState, Stopped, PieceRan}
+use Rattle.aes3_input.proofs.Outputs.{behind-join, behind-clean, fault-clean, behind-fault, fault-first, before-clean}
+use Rattle.aes3_input.proofs.Outputs.{before-first}
 
 pub fed-none : (r : Reading) (f : List ℕ → Type 0) (t : Option (List ℕ)) → Fed r r f f t t []
 fed-none r f t = record {
@@ -104,18 +79,17 @@ pub front-longer : (r : Reading) (b d rest xs : List ℕ) {t t' : Option (List �
     → GrewFront t t' (out_behind r b d) → GrewFront t t' (out_behind r b xs)
 front-longer r b d rest xs e g = front-is (sym (behind-join r b d rest) ∙ ap (out_behind r b) e) (front-more g _)
 
-pub ran-join : {r₀ r : Reading} (r' : Reading) {f₀ f : List ℕ → Type 0} (f' s : List ℕ → Type 0)
-    {t₀ t : Option (List ℕ)} (t' : Option (List ℕ)) {k₀ k : ℕ} (k' : ℕ) {a : List ℕ} (d rest xs : List ℕ) (e : RunError)
-    → Fed r₀ r f₀ f t₀ t a → k ≡ k₀ → a ++ (d ++ rest) ≡ xs
-    → PieceRan r r' f f' s d (record { old = t; new = t'; failed_old = k; failed_new = k' }) (Err e)
-    → PieceRan r₀ r' f₀ f' s xs (record { old = t₀; new = t'; failed_old = k₀; failed_new = k' }) (Err e)
-ran-join {r₀} {r} r' {f₀} {f} f' s {t₀} {t} t' {k₀} {k} k' {a} d rest xs e p q l ran =
-    subst (λ (z : List ℕ). PieceRan r₀ r' f₀ f' s z (record { old = t₀; new = t'; failed_old = k₀; failed_new = k' })
-    (Err e)) l (go e ran)
+pub ran-join : (old mid new : InputState) {t₀ t : Option (List ℕ)} (t' : Option (List ℕ)) {k₀ k : ℕ} (k' : ℕ)
+    {a : List ℕ} (d rest xs : List ℕ) (e : RunError)
+    → Fed old.reads mid.reads old.follows mid.follows t₀ t a → k ≡ k₀ → a ++ (d ++ rest) ≡ xs
+    → PieceRan mid new d (record { old = t; new = t'; failed_old = k; failed_new = k' }) (Err e)
+    → PieceRan old new xs (record { old = t₀; new = t'; failed_old = k₀; failed_new = k' }) (Err e)
+ran-join old mid new {t₀} {t} t' {k₀} {k} k' {a} d rest xs e p q l ran =
+    subst (λ (z : List ℕ). PieceRan old new z (record { old = t₀; new = t'; failed_old = k₀; failed_new = k' }) (Err e))
+    l (go e ran)
   where
-    go : (e : RunError) → PieceRan r r' f f' s d (record { old = t; new = t'; failed_old = k; failed_new = k' }) (Err e)
-        → PieceRan r₀ r' f₀ f' s (a ++ (d ++ rest)) (record { old = t₀; new = t'; failed_old = k₀; failed_new = k' })
-        (Err e)
+    go : (e : RunError) → PieceRan mid new d (record { old = t; new = t'; failed_old = k; failed_new = k' }) (Err e)
+        → PieceRan old new (a ++ (d ++ rest)) (record { old = t₀; new = t'; failed_old = k₀; failed_new = k' }) (Err e)
     go Write w = (w.0 ∙ ap (λ z. z + 1) q, front-joined d rest p w.1)
     go Read w = absurd w
     go TooLong w = absurd w

@@ -1,21 +1,6 @@
 -- Words of cells taken from the front of a piece.
-use Rattle.std.proofs.Common.{
-  ◌≡◌,
-  ℕ,
-  ◌+◌,
-  List,
-  [],
-  ◌++◌,
-  Option,
-  None,
-  length,
-  sym,
-  ap,
-  ap₂,
-  ◌∙◌,
-  subst,
-  length-append,
-}
+use Rattle.std.proofs.Common.{◌≡◌, ℕ, ◌+◌, List, [], ◌++◌, Option, None, length, sym, ap, ap₂, ◌∙◌, subst}
+use Rattle.std.proofs.Common.{length-append}
 use Rattle.std.proofs.lemmas.List.{append_cancel_left}
 use Rattle.aes3_level.specs.declared.level.Level.{Level}
 use Rattle.aes3_cell.specs.Ends.{Grew, GrewFront}

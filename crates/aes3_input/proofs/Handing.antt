@@ -1,36 +1,7 @@
 -- Cells and words handed to a taker, one behind the other.
-use Rattle.std.proofs.Common.{
-  ◌≡◌,
-  ℕ,
-  ◌+◌,
-  ◌-◌,
-  ◌/◌,
-  ◌*◌,
-  ◌^◌,
-  ◌<◌,
-  ◌≤◌,
-  length,
-  length-append,
-  take,
-  drop,
-  get_or,
-  Result,
-  Ok,
-  Err,
-  refl,
-  List,
-  [],
-  ◌∷◌,
-  ◌++◌,
-  Option,
-  sym,
-  ap,
-  ◌∙◌,
-  subst,
-  arith,
-  append-nil,
-  append_assoc,
-}
+use Rattle.std.proofs.Common.{◌≡◌, ℕ, ◌+◌, ◌-◌, ◌/◌, ◌*◌, ◌^◌, ◌<◌, ◌≤◌, length, length-append, take, drop, get_or}
+use Rattle.std.proofs.Common.{Result, Ok, Err, refl, List, [], ◌∷◌, ◌++◌, Option, sym, ap, ◌∙◌, subst, arith}
+use Rattle.std.proofs.Common.{append-nil, append_assoc}
 use Rattle.std.specs.List.{flat_map}
 use Rattle.std.proofs.lemmas.Grind.{flat_map-append}
 use Rattle.std.proofs.lemmas.List.{take_more, take-append-drop}
@@ -44,7 +15,7 @@ use Rattle.aes3_cell.proofs.Growing.{grew-is, grew-join, front-is, front-join, f
 use Rattle.aes3_cell.specs.declared.ends.Fault.{Fault}
 use Rattle.aes3_input.specs.Running.{Movement}
 use Rattle.aes3_input.specs.Forms.{CellsRan}
-use Rattle.aes3_input.specs.Taking.{Writing, behind}
+use Rattle.aes3_input.specs.Taking.{TakerState, Writing, behind}
 use Rattle.aes3_input.proofs.Items.{items-join}
 
 -- a taker that followed f₀ and wrote as w₀ was handed the cells a
@@ -131,19 +102,18 @@ words-further ws rest i n e =
     ∙ flat_map-append word_cells (take i ws) (take n rest)
 
 -- the same cells
-pub cells-ran-is : (w₀ w : Writing Level) (f₀ f : List Level → Type 0) (d e : List Level) (sink : Movement)
-    (result : Result (Unit {0}) Fault) → d ≡ e
-    → CellsRan w₀ w f₀ f d sink result → CellsRan w₀ w f₀ f e sink result
-cells-ran-is w₀ w f₀ f d e sink result q r = subst (λ (z : List Level). CellsRan w₀ w f₀ f z sink result) q r
+pub cells-ran-is : (old new : TakerState Level) (d e : List Level) (sink : Movement)
+    (result : Result (Unit {0}) Fault) → d ≡ e → CellsRan old new d sink result → CellsRan old new e sink result
+cells-ran-is old new d e sink result q r = subst (λ (z : List Level). CellsRan old new z sink result) q r
 
 -- more cells behind those handed on
-pub cells-ran-behind : (w₀ w w' : Writing Level) (f₀ f f' : List Level → Type 0) (a b : List Level)
+pub cells-ran-behind : (old mid new : TakerState Level) (a b : List Level)
     (t₀ t t' : Option (List ℕ)) (n₀ n n' : ℕ) (result : Result (Unit {0}) Fault)
-    → CellsRan w₀ w f₀ f a (record { old = t₀; new = t; failed_old = n₀; failed_new = n }) (Ok tt)
-    → CellsRan w w' f f' b (record { old = t; new = t'; failed_old = n; failed_new = n' }) result
-    → CellsRan w₀ w' f₀ f' (a ++ b) (record { old = t₀; new = t'; failed_old = n₀; failed_new = n' }) result
-cells-ran-behind w₀ w w' f₀ f f' a b t₀ t t' n₀ n n' (Ok u) p q =
-    let h : Handed w₀ w' f₀ f' t₀ t' (a ++ b)
+    → CellsRan old mid a (record { old = t₀; new = t; failed_old = n₀; failed_new = n }) (Ok tt)
+    → CellsRan mid new b (record { old = t; new = t'; failed_old = n; failed_new = n' }) result
+    → CellsRan old new (a ++ b) (record { old = t₀; new = t'; failed_old = n₀; failed_new = n' }) result
+cells-ran-behind old mid new a b t₀ t t' n₀ n n' (Ok u) p q =
+    let h : Handed old.writes new.writes old.follows new.follows t₀ t' (a ++ b)
     = handed-cells b refl (handed-ran p.0 p.1 p.2) q.0 q.1 q.2 in (h.same, h.follows, h.grew, q.3 ∙ p.3)
-cells-ran-behind w₀ w w' f₀ f f' a b t₀ t t' n₀ n n' (Err x) p q =
+cells-ran-behind old mid new a b t₀ t t' n₀ n n' (Err x) p q =
     (q.0 ∙ ap (λ k. k + 1) p.3, handed-cells-front b [] refl (sym (append-nil (a ++ b))) (handed-ran p.0 p.1 p.2) q.1)

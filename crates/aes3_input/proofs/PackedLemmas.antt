@@ -1,36 +1,7 @@
 -- Packed cells taken octet by octet.
-use Rattle.std.proofs.Common.{
-  ◌≡◌,
-  ℕ,
-  ◌+◌,
-  ◌-◌,
-  ◌*◌,
-  ◌≤◌,
-  List,
-  [],
-  ◌∷◌,
-  ◌++◌,
-  cond,
-  Option,
-  Some,
-  None,
-  Result,
-  Ok,
-  Err,
-  IfOk,
-  OnErr,
-  length,
-  take,
-  refl,
-  sym,
-  ap,
-  ap₂,
-  ◌∙◌,
-  subst,
-  arith,
-  append-nil,
-  length-append,
-}
+use Rattle.std.proofs.Common.{◌≡◌, ℕ, ◌+◌, ◌-◌, ◌*◌, ◌≤◌, List, [], ◌∷◌, ◌++◌, cond, Option, Some, None, Result, Ok}
+use Rattle.std.proofs.Common.{Err, IfOk, OnErr, length, take, refl, sym, ap, ap₂, ◌∙◌, subst, arith, append-nil}
+use Rattle.std.proofs.Common.{length-append}
 use Rattle.std.proofs.lemmas.List.{length-take-le}
 use Rattle.std.specs.Option.{unwrap_or}
 use Rattle.aes3_level.specs.declared.level.Level.{Level}
@@ -40,23 +11,17 @@ use Rattle.aes3_cell.specs.declared.refusal.BadPadding as padding
 use Rattle.aes3_cell.specs.declared.ends.Fault as device
 use Rattle.aes3_cell.specs.Ends.{Grew, GrewFront}
 use Rattle.aes3_cell.specs.Packed.{octet_cells, last_place, cells_of_packed, whole_cells}
-use Rattle.aes3_cell.specs.PackedReading.{
-  PackedReader,
-  packed_reader_of,
-  packed_answer,
-  packed_next,
-  packed_end,
-  answer_cells,
-  end_cells,
-}
+use Rattle.aes3_cell.specs.PackedReading.{PackedReader, packed_reader_of, packed_answer, packed_next, packed_end}
+use Rattle.aes3_cell.specs.PackedReading.{answer_cells, end_cells}
 use Rattle.aes3_cell.proofs.Growing.{grew-none, grew-is, grew-join, front-is, front-join}
 use Rattle.aes3_cell.proofs.Octets.{length-octet_cells}
 use Rattle.aes3_cell.proofs.PackedCells.{length-cells_of_octets}
 use Rattle.aes3_cell.proofs.PackedReads.{packed_reader-more, whole_cells-more, end-ok, end-fault, end-used, cells-end}
 use Rattle.aes3_input.specs.Converting.{fault_behind, out_behind}
 use Rattle.aes3_input.specs.Running.{Fed}
-use Rattle.aes3_input.specs.Taking.{Writing, behind}
-use Rattle.aes3_input.specs.Forms.{octet_front, packed_reading, PackedTaken, PackedEnded, EndCellsRan}
+use Rattle.aes3_input.specs.Taking.{TakerState, Writing, behind}
+use Rattle.aes3_input.specs.Forms.{octet_front, packed_reading, PackedTaken, PackedEnded}
+use Rattle.aes3_input.specs.Forms.{CellsRan, EndCellsRan}
 
 -- the first cells of an octet
 all-eight : (octet : ℕ) → octet_front 8 octet ≡ octet_cells octet
@@ -215,22 +180,23 @@ last-bad w₀ f₀ packed cells fault t a b h =
     (ap₂ (λ v k. cond {A = Option RunError} v None (Some (BadPadding k))) q.0 (sym q.1), h.taker, grew-none refl)
 
 -- the last cells, and the end
-pub ended : (w₀ w : Writing Level) (f₀ f z : List Level → Type 0) (d : List Level) (t t' t'' : Option (List ℕ))
+pub ended : (old mid new : TakerState Level) (d : List Level) (t t' t'' : Option (List ℕ))
     (k k' k'' : ℕ) (result : Result (Unit {0}) device.Fault)
-    → w ≡ w₀ → ((c : List Level) → f₀ c → f (c ++ d)) → ((c : List Level) → f₀ c → Grew t t' (behind w₀ c d)) → k' ≡ k
-    → IfOk result (λ (x : Unit {0}). (c : List Level) → f c → z c)
-    → IfOk result (λ (x : Unit {0}). (c : List Level) → f c → Grew t' t'' (w.ends c))
+    → CellsRan old mid d (record { old = t; new = t'; failed_old = k; failed_new = k' }) (Ok tt)
+    → IfOk result (λ (x : Unit {0}). (c : List Level) → mid.follows c → new.finished c)
+    → IfOk result (λ (x : Unit {0}). (c : List Level) → mid.follows c → Grew t' t'' (mid.writes.ends c))
     → IfOk result (λ (x : Unit {0}). k'' ≡ k')
-    → OnErr result (k'' ≡ k' + 1) → OnErr result ((c : List Level) → f c → GrewFront t' t'' (w.ends c))
-    → EndCellsRan w₀ f₀ z d (record { old = t; new = t''; failed_old = k; failed_new = k'' }) result
-ended w₀ w f₀ f z d t t' t'' k k' k'' (Ok x) s a g q done grew count failed front = (
+    → OnErr result (k'' ≡ k' + 1)
+    → OnErr result ((c : List Level) → mid.follows c → GrewFront t' t'' (mid.writes.ends c))
+    → EndCellsRan old new d (record { old = t; new = t''; failed_old = k; failed_new = k'' }) result
+ended old mid new d t t' t'' k k' k'' (Ok x) (s, a, g, q) done grew count failed front = (
   λ c h. (
     done (c ++ d) (a c h),
     grew-join (g c h) (grew-is (ap (λ (v : Writing Level). v.ends (c ++ d)) s) (grew (c ++ d) (a c h))),
   ),
   count ∙ q,
 )
-ended w₀ w f₀ f z d t t' t'' k k' k'' (Err x) s a g q done grew count failed front = (
+ended old mid new d t t' t'' k k' k'' (Err x) (s, a, g, q) done grew count failed front = (
   failed ∙ ap (λ n. n + 1) q,
   λ c h. front-join (g c h) (front-is (ap (λ (v : Writing Level). v.ends (c ++ d)) s) (front (c ++ d) (a c h))),
 )

@@ -1,65 +1,22 @@
 -- A run over packed cells.
-use Rattle.std.proofs.Common.{
-  ◌≡◌,
-  ℕ,
-  ◌⊎◌,
-  inl,
-  inr,
-  Bool,
-  true,
-  false,
-  cond,
-  List,
-  [],
-  ◌∷◌,
-  ◌++◌,
-  length,
-  take,
-  Option,
-  Some,
-  None,
-  Ok,
-  Err,
-  refl,
-  sym,
-  ap,
-  ap₂,
-  ◌∙◌,
-  subst,
-  append_assoc,
-}
+use Rattle.std.proofs.Common.{◌≡◌, ℕ, ◌⊎◌, inl, inr, Bool, true, false, cond, List, [], ◌∷◌, ◌++◌, length, take, Option}
+use Rattle.std.proofs.Common.{Some, None, Ok, Err, refl, sym, ap, ap₂, ◌∙◌, subst, append_assoc}
 use Rattle.std.proofs.lemmas.Option.{none-some, same_Some}
 use Rattle.aes3_level.specs.declared.level.Level.{Level}
 use Rattle.aes3_cell.specs.declared.form.Form.TheVariants.{Packed}
 use Rattle.aes3_cell.specs.declared.refusal.RunError.{RunError}
-use Rattle.aes3_cell.specs.declared.refusal.RunError.TheVariants.{
-  Read,
-  Write,
-  TooLong,
-  BadCell,
-  BadLength,
-  BadCode,
-  BadParity,
-  Memory,
-  BadStatusText,
-  BadPadding,
-  BadSample,
-}
+use Rattle.aes3_cell.specs.declared.refusal.RunError.TheVariants.{Read, Write, TooLong, BadCell, BadLength, BadCode}
+use Rattle.aes3_cell.specs.declared.refusal.RunError.TheVariants.{BadParity, Memory, BadStatusText, BadPadding}
+use Rattle.aes3_cell.specs.declared.refusal.RunError.TheVariants.{BadSample}
 use Rattle.aes3_cell.specs.Packed.{IsPacked, is_packed, last_place, cells_of_packed, whole_cells}
-use Rattle.aes3_cell.specs.PackedReading.{
-  PackedReader,
-  packed_reader_of,
-  packed_answer,
-  packed_end,
-  answer_cells,
-  end_cells,
-}
+use Rattle.aes3_cell.specs.PackedReading.{PackedReader, packed_reader_of, packed_answer, packed_end, answer_cells}
+use Rattle.aes3_cell.specs.PackedReading.{end_cells}
 use Rattle.aes3_cell.proofs.PackedCells.{is_packed-packs, packs-is_packed}
 use Rattle.aes3_cell.proofs.PackedReads.{whole_cells-more, cells-end}
 use Rattle.aes3_input.specs.Converting.{fault_behind, first_fault, out, whole}
 use Rattle.aes3_input.specs.Running.{Movement, IsFault, Left, Run, CleanEnd, converted}
-use Rattle.aes3_input.specs.Taking.{Writing, behind, before_end, with_end}
-use Rattle.aes3_input.specs.Forms.{packed_reading, PackedTaken, PackedEnded}
+use Rattle.aes3_input.specs.Taking.{TakerState, Writing, behind, before_end, with_end}
+use Rattle.aes3_input.specs.Forms.{packed_reading, packed_state, PackedTaken, PackedEnded}
 use Rattle.aes3_input.specs.Driving.{IsCause, LeftCells, Drive, driven}
 use Rattle.aes3_input.proofs.Outputs.{out-is, before-all}
 use Rattle.aes3_input.proofs.Items.{before-join}
@@ -203,24 +160,23 @@ packed-left max w packed cells f b e h
     = subst (λ (v : List ℕ). f (whole_cells v))
     (before-all (packed_reading w) [] (take max b) (clean-behind w [] (take max b))) h
 
-pub packed-ok : {max : ℕ} {w : Writing Level} {packed : PackedReader} {cells : ℕ} {f z : List Level
-    → Type 0} {ended : Bool} {source sink : Movement} {n : ℕ}
-    → Run max (packed_reading w) (PackedTaken packed cells f) (λ b. f (whole_cells b)) (PackedEnded cells z)
-    ended source sink (Ok n) → Drive max Packed w f z ended source sink (Ok (n, cells))
-packed-ok {w = w} {cells = cells} {z = z} r =
+pub packed-ok : {max : ℕ} (old new : TakerState Level) {packed₀ packed : PackedReader} {cells₀ cells : ℕ} {ended : Bool}
+    {source sink : Movement} {n : ℕ}
+    → Run max (packed_state packed₀ cells₀ old) (packed_state packed cells new) ended source sink (Ok n)
+    → Drive max Packed old.writes new.follows new.finished ended source sink (Ok (n, cells))
+packed-ok old new {cells = cells} r =
     record {
-      run = run-ok (packed-gives w (PackedEnded cells z) z) (λ b i h. (h.0.taker, h.1, h.0.count)) r.run;
-      left
-          = tt;
+      run = run-ok (packed-gives old.writes (PackedEnded cells new.finished) new.finished)
+          (λ b i h. (h.0.taker, h.1, h.0.count)) r.run;
+      left = tt;
     }
 
-pub packed-err : {max : ℕ} {w : Writing Level} {packed : PackedReader} {cells : ℕ} {f z : List Level
-    → Type 0} {ended : Bool} {source sink : Movement} {e : RunError}
-    → Run max (packed_reading w) (PackedTaken packed cells f) (λ b. f (whole_cells b)) (PackedEnded cells z)
-    ended source sink (Err e) → Drive max Packed w f z ended source sink (Err e)
-packed-err {max} {w} {packed} {cells} {f} {z} {e = e} r =
+pub packed-err : {max : ℕ} (old new : TakerState Level) {packed₀ packed : PackedReader} {cells₀ cells : ℕ}
+    {ended : Bool} {source sink : Movement} {e : RunError}
+    → Run max (packed_state packed₀ cells₀ old) (packed_state packed cells new) ended source sink (Err e)
+    → Drive max Packed old.writes new.follows new.finished ended source sink (Err e)
+packed-err {max} old new {packed = packed} {cells = cells} {e = e} r =
     record {
-      run = run-err (packed-gives w (PackedEnded cells z) z) r.run;
-      left
-          = packed-left max w packed cells f r.run.bytes e r.left;
+      run = run-err (packed-gives old.writes (PackedEnded cells new.finished) new.finished) r.run;
+      left = packed-left max old.writes packed cells new.follows r.run.bytes e r.left;
     }

@@ -1,32 +1,6 @@
 -- The loop over pieces, and each way out of it.
-use Rattle.std.proofs.Common.{
-  ◌≡◌,
-  ℕ,
-  ◌+◌,
-  ◌-◌,
-  ◌<◌,
-  ◌≤◌,
-  inl,
-  inr,
-  Bool,
-  IsTrue,
-  List,
-  [],
-  ◌++◌,
-  length,
-  take,
-  Option,
-  None,
-  Ok,
-  Err,
-  sym,
-  ap,
-  ◌∙◌,
-  subst,
-  append-nil,
-  arith,
-  length-append,
-}
+use Rattle.std.proofs.Common.{◌≡◌, ℕ, ◌+◌, ◌-◌, ◌<◌, ◌≤◌, inl, inr, Bool, IsTrue, List, [], ◌++◌, length, take, Option}
+use Rattle.std.proofs.Common.{None, Ok, Err, sym, ap, ◌∙◌, subst, append-nil, arith, length-append}
 use Rattle.std.proofs.lemmas.Bool.{cases_lt}
 use Rattle.std.proofs.lemmas.List.{take_all, take-take, length-take-le}
 use Rattle.std.proofs.Math.Seq.{take-append-add}
@@ -35,19 +9,8 @@ use Rattle.aes3_cell.specs.declared.refusal.RunError.TheVariants.{Read, Write, T
 use Rattle.aes3_cell.specs.Ends.{Grew}
 use Rattle.aes3_cell.proofs.Growing.{grew-join, grew-is, front-join, front-is}
 use Rattle.aes3_input.specs.Converting.{Reading, before_fault, first_fault, out, whole}
-use Rattle.aes3_input.specs.Running.{
-  Fed,
-  PieceRan,
-  EndRan,
-  InputRan,
-  Left,
-  Run,
-  Movement,
-  Quiet,
-  Clean,
-  CleanEnd,
-  converted,
-}
+use Rattle.aes3_input.specs.Running.{Fed, PieceRan, EndRan, InputRan, Left, Run, Movement, Quiet, Clean, CleanEnd}
+use Rattle.aes3_input.specs.Running.{InputState, converted}
 use Rattle.aes3_input.proofs.Outputs.{before-all}
 use Rattle.aes3_input.proofs.Feeding.{fed-is, fed-join, ran-join}
 
@@ -109,11 +72,12 @@ unfolding first_fault
 faultless d h = d.clean [] h
 
 -- the source fails
-pub ran-read : (max : ℕ) {r₀ r : Reading} {f₀ f : List ℕ → Type 0} (s z : List ℕ → Type 0) {g₀ g : Option (List ℕ)}
+pub ran-read : (max : ℕ) (old new : InputState) {g₀ g : Option (List ℕ)}
     (g' : Option (List ℕ)) {t₀ t : Option (List ℕ)} {seen : ℕ} (ended : Bool) (n₀ n n' k₀ k : ℕ)
-    → Upto r₀ r f₀ f g₀ g t₀ t seen → f₀ [] → seen ≤ max → n ≡ n₀ → k ≡ k₀ → n' ≡ n + 1 → g' ≡ g
-    → Run max r₀ f s z ended (changed g₀ g' n₀ n') (changed t₀ t k₀ k) (Err Read)
-ran-read max {r₀ = r₀} {f = f} s z {g₀ = g₀} g' ended n₀ n n' k₀ k u h le es ek e eg =
+    → Upto old.reads new.reads old.follows new.follows g₀ g t₀ t seen → old.follows [] → seen ≤ max → n ≡ n₀ → k ≡ k₀
+    → n' ≡ n + 1 → g' ≡ g
+    → Run max old new ended (changed g₀ g' n₀ n') (changed t₀ t k₀ k) (Err Read)
+ran-read max old new {g₀ = g₀} g' ended n₀ n n' k₀ k u h le es ek e eg =
     let l = u.count in
     let all : take max u.bytes ≡ u.bytes = take_all max u.bytes (omega arith) in
     record {
@@ -125,20 +89,21 @@ ran-read max {r₀ = r₀} {f = f} s z {g₀ = g₀} g' ended n₀ n n' k₀ k u
           record { short = omega arith; clean = faultless u.fed h },
           e ∙ ap (λ v. v + 1) es,
           ek,
-          grew-is (ap (out r₀) (sym all)) (written u.fed h),
+          grew-is (ap (out old.reads) (sym all)) (written u.fed h),
         );
       };
-      left = subst f (sym all) (u.fed.follows [] h);
+      left = subst new.follows (sym all) (u.fed.follows [] h);
     }
 
 -- the source has ended
-pub ran-end : (max : ℕ) {r₀ r : Reading} {f₀ f : List ℕ → Type 0} (f' s z : List ℕ → Type 0)
+pub ran-end : (max : ℕ) (old mid new : InputState)
     {g₀ g g' t₀ t : Option (List ℕ)} (t' : Option (List ℕ)) {seen : ℕ} (ended : Bool) (n₀ n k₀ k k' : ℕ)
-    → Upto r₀ r f₀ f g₀ g t₀ t seen → f₀ [] → seen ≤ max → n ≡ n₀ → k ≡ k₀ → Grew g g' [] → IsTrue ended
-    → EndRan r f s z (changed t t' k k') (Ok tt)
-    → Run max r₀ f' s z ended (changed g₀ g' n₀ n) (changed t₀ t' k₀ k') (Ok seen)
+    → Upto old.reads mid.reads old.follows mid.follows g₀ g t₀ t seen → old.follows [] → seen ≤ max → n ≡ n₀ → k ≡ k₀
+    → Grew g g' [] → IsTrue ended
+    → EndRan mid new (changed t t' k k') (Ok tt)
+    → Run max old new ended (changed g₀ g' n₀ n) (changed t₀ t' k₀ k') (Ok seen)
 unfolding whole
-ran-end max {r₀ = r₀} f' s z t' ended n₀ n k₀ k k' u h le es ek eg en e =
+ran-end max old mid new t' ended n₀ n k₀ k k' u h le es ek eg en e =
     let l = u.count in
     let b = u.bytes in
     let q = e.0 b (u.fed.follows [] h) in
@@ -162,15 +127,16 @@ ran-end max {r₀ = r₀} f' s z t' ended n₀ n k₀ k k' u h le es ek eg en e 
       left = tt;
     }
 
-ended-as : (max : ℕ) (r₀ r : Reading) (f s z : List ℕ → Type 0) (b : List ℕ) (ended : Bool) (source : Movement)
+ended-as : (max : ℕ) (old mid new : InputState) (b : List ℕ) (ended : Bool) (source : Movement)
     (t₀ t t' : Option (List ℕ)) (k₀ k k' : ℕ) (e : RunError)
-    → CleanEnd max r₀ b ended → r ≡ r₀ → f b → Quiet source → k ≡ k₀ → Grew t₀ t (out r₀ b)
-    → EndRan r f s z (changed t t' k k') (Err e)
-    → InputRan (converted r₀ z) max b ended source (changed t₀ t' k₀ k') (Err e)
+    → CleanEnd max old.reads b ended → mid.reads ≡ old.reads → mid.follows b → Quiet source → k ≡ k₀
+    → Grew t₀ t (out old.reads b)
+    → EndRan mid new (changed t t' k k') (Err e)
+    → InputRan (converted old.reads new.finished) max b ended source (changed t₀ t' k₀ k') (Err e)
 unfolding whole
-ended-as max r₀ r f s z b ended source t₀ t t' k₀ k k' Write c same h q ek g w =
+ended-as max old mid new b ended source t₀ t t' k₀ k k' Write c same h q ek g w =
     let v = w.0 b h in
-    let n : r₀.end_fault b ≡ None = ap (λ v. v.end_fault b) (sym same) ∙ v.0 in (
+    let n : old.reads.end_fault b ≡ None = ap (λ v. v.end_fault b) (sym same) ∙ v.0 in (
       q,
       w.1 ∙ ap (λ n. n + 1) ek,
       inr (
@@ -178,31 +144,34 @@ ended-as max r₀ r f s z b ended source t₀ t t' k₀ k k' Write c same h q ek
         front-join g (front-is (ap (λ v. v.ends b) same) v.1),
       ),
     )
-ended-as max r₀ r f s z b ended source t₀ t t' k₀ k k' Read c same h q ek g w = absurd w
-ended-as max r₀ r f s z b ended source t₀ t t' k₀ k k' TooLong c same h q ek g w = absurd w
-ended-as max r₀ r f s z b ended source t₀ t t' k₀ k k' e c same h q ek g w =
+ended-as max old mid new b ended source t₀ t t' k₀ k k' Read c same h q ek g w = absurd w
+ended-as max old mid new b ended source t₀ t t' k₀ k k' TooLong c same h q ek g w = absurd w
+ended-as max old mid new b ended source t₀ t t' k₀ k k' e c same h q ek g w =
     let v = w.0 b h in (
       inr (c, ap (λ v. v.end_fault b) (sym same) ∙ v.0),
       q,
       w.1 ∙ ek,
-      grew-is (append-nil (out r₀ b) ∙ ap (out r₀) (sym (take_all max b c.clean.short))) (grew-join g v.2),
+      grew-is (append-nil (out old.reads b) ∙ ap (out old.reads) (sym (take_all max b c.clean.short)))
+          (grew-join g v.2),
     )
 
-ended-left : (max : ℕ) (r₀ r : Reading) (f f' s z : List ℕ → Type 0) (b : List ℕ) (sink : Movement) (e : RunError)
-    → Clean max r₀ b → f b → EndRan r f s z sink (Err e) → Left max r₀ f' s b (Err e)
+ended-left : (max : ℕ) (r : Reading) (mid new : InputState) (b : List ℕ) (sink : Movement) (e : RunError)
+    → Clean max r b → mid.follows b → EndRan mid new sink (Err e)
+    → Left max r new.follows new.stopped b (Err e)
 unfolding first_fault
-ended-left max r₀ r f f' s z b sink Write c h w = tt
-ended-left max r₀ r f f' s z b sink Read c h w = absurd w
-ended-left max r₀ r f f' s z b sink TooLong c h w = absurd w
-ended-left max r₀ r f f' s z b sink e c h w =
-    subst s (sym (ap (before_fault r₀ []) (take_all max b c.short) ∙ before-all r₀ [] b c.clean)) (w.0 b h).1
+ended-left max r mid new b sink Write c h w = tt
+ended-left max r mid new b sink Read c h w = absurd w
+ended-left max r mid new b sink TooLong c h w = absurd w
+ended-left max r mid new b sink e c h w =
+    subst new.stopped (sym (ap (before_fault r []) (take_all max b c.short) ∙ before-all r [] b c.clean)) (w.0 b h).1
 
-pub ran-end_err : (max : ℕ) {r₀ r : Reading} {f₀ f : List ℕ → Type 0} (f' s z : List ℕ → Type 0)
+pub ran-end_err : (max : ℕ) (old mid new : InputState)
     {g₀ g g' t₀ t : Option (List ℕ)} (t' : Option (List ℕ)) {seen : ℕ} (ended : Bool) (n₀ n k₀ k k' : ℕ) (e : RunError)
-    → Upto r₀ r f₀ f g₀ g t₀ t seen → f₀ [] → seen ≤ max → n ≡ n₀ → k ≡ k₀ → Grew g g' [] → IsTrue ended
-    → EndRan r f s z (changed t t' k k') (Err e)
-    → Run max r₀ f' s z ended (changed g₀ g' n₀ n) (changed t₀ t' k₀ k') (Err e)
-ran-end_err max {r₀} {r} {f₀} {f} f' s z {g₀} {g} {g'} {t₀} {t} t' {seen} ended n₀ n k₀ k k' e u h le es ek eg en w =
+    → Upto old.reads mid.reads old.follows mid.follows g₀ g t₀ t seen → old.follows [] → seen ≤ max → n ≡ n₀ → k ≡ k₀
+    → Grew g g' [] → IsTrue ended
+    → EndRan mid new (changed t t' k k') (Err e)
+    → Run max old new ended (changed g₀ g' n₀ n) (changed t₀ t' k₀ k') (Err e)
+ran-end_err max old mid new {g₀} {g} {g'} {t₀} {t} t' {seen} ended n₀ n k₀ k k' e u h le es ek eg en w =
     let l = u.count in
     let b = u.bytes in
     record {
@@ -210,41 +179,41 @@ ran-end_err max {r₀} {r} {f₀} {f} f' s z {g₀} {g} {g'} {t₀} {t} t' {seen
         bytes = b;
         given = grew-is (append-nil b) (grew-join u.given eg);
         few = omega arith;
-        ran = ended-as max r₀ r f s z b ended (changed g₀ g' n₀ n) t₀ t t' k₀ k k' e
+        ran = ended-as max old mid new b ended (changed g₀ g' n₀ n) t₀ t t' k₀ k k' e
             (record { clean = record { short = omega arith; clean = faultless u.fed h }; end = en }) u.fed.same
             (u.fed.follows [] h) es ek (written u.fed h) w;
       };
-      left = ended-left max r₀ r f f' s z b (changed t t' k k') e
+      left = ended-left max old.reads mid new b (changed t t' k k') e
           (record { short = omega arith; clean = faultless u.fed h }) (u.fed.follows [] h) w;
     }
 
 -- a piece stops the run
-piece-as : (max : ℕ) (r₀ r' : Reading) (f₀ f' s z : List ℕ → Type 0) (b : List ℕ) (ended : Bool)
-    (source sink : Movement) (e : RunError)
-    → PieceRan r₀ r' f₀ f' s (take max b) sink (Err e) → f₀ [] → Quiet source
-    → InputRan (converted r₀ z) max b ended source sink (Err e)
+piece-as : (max : ℕ) (old new : InputState) (b : List ℕ) (ended : Bool) (source sink : Movement) (e : RunError)
+    → PieceRan old new (take max b) sink (Err e) → old.follows [] → Quiet source
+    → InputRan (converted old.reads new.finished) max b ended source sink (Err e)
 unfolding out first_fault
-piece-as max r₀ r' f₀ f' s z b ended source sink Write w h q = (q, w.0, inl (w.1 [] h))
-piece-as max r₀ r' f₀ f' s z b ended source sink Read w h q = absurd w
-piece-as max r₀ r' f₀ f' s z b ended source sink TooLong w h q = absurd w
-piece-as max r₀ r' f₀ f' s z b ended source sink e w h q = (inl (w.0.fault [] h), q, w.1, w.0.grew [] h)
+piece-as max old new b ended source sink Write w h q = (q, w.0, inl (w.1 [] h))
+piece-as max old new b ended source sink Read w h q = absurd w
+piece-as max old new b ended source sink TooLong w h q = absurd w
+piece-as max old new b ended source sink e w h q = (inl (w.0.fault [] h), q, w.1, w.0.grew [] h)
 
-piece-left : (max : ℕ) (r₀ r' : Reading) (f₀ f' s : List ℕ → Type 0) (b : List ℕ) (sink : Movement) (e : RunError)
-    → PieceRan r₀ r' f₀ f' s (take max b) sink (Err e) → f₀ [] → Left max r₀ f' s b (Err e)
-piece-left max r₀ r' f₀ f' s b sink Write w h = tt
-piece-left max r₀ r' f₀ f' s b sink Read w h = absurd w
-piece-left max r₀ r' f₀ f' s b sink TooLong w h = absurd w
-piece-left max r₀ r' f₀ f' s b sink e w h = w.0.left [] h
+piece-left : (max : ℕ) (old new : InputState) (b : List ℕ) (sink : Movement) (e : RunError)
+    → PieceRan old new (take max b) sink (Err e) → old.follows []
+    → Left max old.reads new.follows new.stopped b (Err e)
+piece-left max old new b sink Write w h = tt
+piece-left max old new b sink Read w h = absurd w
+piece-left max old new b sink TooLong w h = absurd w
+piece-left max old new b sink e w h = w.0.left [] h
 
-pub ran-piece : (max : ℕ) {r₀ r : Reading} (r' : Reading) {f₀ f : List ℕ → Type 0} (f' s z : List ℕ → Type 0)
+pub ran-piece : (max : ℕ) (old mid new : InputState)
     {g₀ g g' t₀ t : Option (List ℕ)} (t' : Option (List ℕ)) {seen : ℕ} (ended : Bool) (n₀ n k₀ k k' : ℕ)
     (m j room : ℕ) (buf : List ℕ) (e : RunError)
-    → Upto r₀ r f₀ f g₀ g t₀ t seen → f₀ [] → seen ≤ max → n ≡ n₀ → k ≡ k₀
+    → Upto old.reads mid.reads old.follows mid.follows g₀ g t₀ t seen → old.follows [] → seen ≤ max → n ≡ n₀ → k ≡ k₀
     → Grew g g' (take m buf) → room ≡ max + 1 - seen → m ≤ room → m ≤ length buf → (m ≡ room → j + 1 ≡ m)
     → (m < room → j ≡ m)
-    → PieceRan r r' f f' s (take j buf) (changed t t' k k') (Err e)
-    → Run max r₀ f' s z ended (changed g₀ g' n₀ n) (changed t₀ t' k₀ k') (Err e)
-ran-piece max {r₀} {r} r' {f₀} {f} f' s z {g₀} {g} {g'} {t₀} {t} t' {seen} ended n₀ n k₀ k k' m j room buf e u h le es
+    → PieceRan mid new (take j buf) (changed t t' k k') (Err e)
+    → Run max old new ended (changed g₀ g' n₀ n) (changed t₀ t' k₀ k') (Err e)
+ran-piece max old mid new {g₀} {g} {g'} {t₀} {t} t' {seen} ended n₀ n k₀ k k' m j room buf e u h le es
     ek eg er mr mb last all w =
     let l = u.count in
     let a = u.bytes in
@@ -252,29 +221,29 @@ ran-piece max {r₀} {r} r' {f₀} {f} f' s z {g₀} {g} {g'} {t₀} {t} t' {see
     let q' : length (take m buf) ≡ m = length-take-le m buf mb in
     let x : take max (a ++ take m buf) ≡ a ++ take j buf
     = allowed-is max a buf m j room (omega arith) (omega arith) mr mb last all in
-    let p : PieceRan r₀ r' f₀ f' s (take max (a ++ take m buf)) (changed t₀ t' k₀ k') (Err e) =
-    ran-join r' f' s t' k' (take j buf) [] (take max (a ++ take m buf)) e u.fed ek
+    let p : PieceRan old new (take max (a ++ take m buf)) (changed t₀ t' k₀ k') (Err e) =
+    ran-join old mid new t' k' (take j buf) [] (take max (a ++ take m buf)) e u.fed ek
     (ap (λ v. a ++ v) (append-nil (take j buf)) ∙ sym x) w in
     record {
       run = record {
         bytes = a ++ take m buf;
         given = grew-join u.given eg;
         few = omega arith;
-        ran = piece-as max r₀ r' f₀ f' s z (a ++ take m buf) ended (changed g₀ g' n₀ n) (changed t₀ t' k₀ k') e p h es;
+        ran = piece-as max old new (a ++ take m buf) ended (changed g₀ g' n₀ n) (changed t₀ t' k₀ k') e p h es;
       };
-      left = piece-left max r₀ r' f₀ f' s (a ++ take m buf) (changed t₀ t' k₀ k') e p h;
+      left = piece-left max old new (a ++ take m buf) (changed t₀ t' k₀ k') e p h;
     }
 
 -- one byte too many
-pub ran-long : (max : ℕ) {r₀ r r' : Reading} {f₀ f f' : List ℕ → Type 0} (s z : List ℕ → Type 0)
+pub ran-long : (max : ℕ) (old mid new : InputState)
     {g₀ g g' t₀ t t' : Option (List ℕ)} {seen : ℕ} (ended : Bool) (n₀ n k₀ k k' : ℕ)
     (m j room : ℕ) (buf : List ℕ)
-    → Upto r₀ r f₀ f g₀ g t₀ t seen → f₀ [] → seen ≤ max → n ≡ n₀ → k ≡ k₀ → k' ≡ k
-    → Grew g g' (take m buf) → room ≡ max + 1 - seen → m ≤ room → m ≤ length buf → (m ≡ room → j + 1 ≡ m)
+    → Upto old.reads mid.reads old.follows mid.follows g₀ g t₀ t seen → old.follows [] → seen ≤ max → n ≡ n₀ → k ≡ k₀
+    → k' ≡ k → Grew g g' (take m buf) → room ≡ max + 1 - seen → m ≤ room → m ≤ length buf → (m ≡ room → j + 1 ≡ m)
     → (m < room → j ≡ m) → max < seen + m
-    → Fed r r' f f' t t' (take j buf)
-    → Run max r₀ f' s z ended (changed g₀ g' n₀ n) (changed t₀ t' k₀ k') (Err TooLong)
-ran-long max s z ended n₀ n k₀ k k' m j room buf u h le es ek e eg er mr mb last all long d =
+    → Fed mid.reads new.reads mid.follows new.follows t t' (take j buf)
+    → Run max old new ended (changed g₀ g' n₀ n) (changed t₀ t' k₀ k') (Err TooLong)
+ran-long max old mid new ended n₀ n k₀ k k' m j room buf u h le es ek e eg er mr mb last all long d =
     let l = u.count in
     let a = u.bytes in
     let q = length-append a (take m buf) in

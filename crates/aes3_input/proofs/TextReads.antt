@@ -1,31 +1,6 @@
 -- Bytes of cell text that a reader took, joined.
-use Rattle.std.proofs.Common.{
-  ◌≡◌,
-  ℕ,
-  ◌+◌,
-  ◌≤◌,
-  List,
-  [],
-  ◌∷◌,
-  ◌++◌,
-  true,
-  Option,
-  Some,
-  None,
-  Ok,
-  length,
-  take,
-  drop,
-  map,
-  refl,
-  ap,
-  ap₂,
-  sym,
-  ◌∙◌,
-  subst,
-  arith,
-  length-append,
-}
+use Rattle.std.proofs.Common.{◌≡◌, ℕ, ◌+◌, ◌≤◌, List, [], ◌∷◌, ◌++◌, true, Option, Some, None, Ok, length, take, drop}
+use Rattle.std.proofs.Common.{map, refl, ap, ap₂, sym, ◌∙◌, subst, arith, length-append}
 use Rattle.std.proofs.lemmas.List.{length-map, length-take-le}
 use Rattle.std.proofs.Math.Seq.{take-add}
 use Rattle.aes3_level.specs.declared.level.Level.{Level}
@@ -33,20 +8,8 @@ use Rattle.aes3_cell.specs.Text.{byte_of}
 use Rattle.std.specs.Prelude.{IfSome, OnSome}
 use Rattle.aes3_cell.specs.declared.text_words.SomeCells.{SomeCells}
 use Rattle.aes3_level.specs.Words.{low_cells, word_cells}
-use Rattle.aes3_cell.specs.CellText.{
-  Kind,
-  cell,
-  separator,
-  bad,
-  kind_of,
-  is_good,
-  kind_cells,
-  is_good_byte,
-  byte_cells,
-  good_bytes,
-  cells_of_text,
-  IsCellText,
-}
+use Rattle.aes3_cell.specs.CellText.{Kind, cell, separator, bad, kind_of, is_good, kind_cells, is_good_byte, byte_cells}
+use Rattle.aes3_cell.specs.CellText.{good_bytes, cells_of_text, IsCellText}
 use Rattle.aes3_cell.specs.TextReading.{TextReader, text_answer, kind_next, text_next}
 use Rattle.aes3_cell.proofs.CellTexts.{answer-ok, text-join, cells-join, text-more, cells-more, cells-text}
 use Rattle.aes3_level.proofs.WordCells.{word_len_64}

@@ -1,61 +1,21 @@
 -- A run over cell text.
-use Rattle.std.proofs.Common.{
-  ◌≡◌,
-  ℕ,
-  ◌+◌,
-  ◌<◌,
-  ◌⊎◌,
-  inl,
-  inr,
-  Bool,
-  true,
-  false,
-  cond,
-  List,
-  [],
-  ◌∷◌,
-  ◌++◌,
-  length,
-  take,
-  Option,
-  Some,
-  None,
-  Ok,
-  Err,
-  refl,
-  sym,
-  ap,
-  ◌∙◌,
-  subst,
-  arith,
-  append_assoc,
-  append-nil,
-  length-append,
-}
+use Rattle.std.proofs.Common.{◌≡◌, ℕ, ◌+◌, ◌<◌, ◌⊎◌, inl, inr, Bool, true, false, cond, List, [], ◌∷◌, ◌++◌, length}
+use Rattle.std.proofs.Common.{take, Option, Some, None, Ok, Err, refl, sym, ap, ◌∙◌, subst, arith, append_assoc}
+use Rattle.std.proofs.Common.{append-nil, length-append}
 use Rattle.std.proofs.lemmas.Option.{none-some, same_Some}
 use Rattle.aes3_level.specs.declared.level.Level.{Level}
 use Rattle.aes3_cell.specs.declared.form.Form.TheVariants.{Text}
 use Rattle.aes3_cell.specs.declared.refusal.RunError.{RunError}
-use Rattle.aes3_cell.specs.declared.refusal.RunError.TheVariants.{
-  Read,
-  Write,
-  TooLong,
-  BadCell,
-  BadLength,
-  BadCode,
-  BadParity,
-  Memory,
-  BadStatusText,
-  BadPadding,
-  BadSample,
-}
+use Rattle.aes3_cell.specs.declared.refusal.RunError.TheVariants.{Read, Write, TooLong, BadCell, BadLength, BadCode}
+use Rattle.aes3_cell.specs.declared.refusal.RunError.TheVariants.{BadParity, Memory, BadStatusText, BadPadding}
+use Rattle.aes3_cell.specs.declared.refusal.RunError.TheVariants.{BadSample}
 use Rattle.aes3_cell.specs.CellText.{is_good_byte, byte_cells, good_bytes, good, cells_of_text, IsCellText}
 use Rattle.aes3_cell.specs.TextReading.{TextReader, text_reader_of}
 use Rattle.aes3_cell.proofs.CellTexts.{good-join, good-bad, text-more, cells-more, cells-bad}
 use Rattle.aes3_input.specs.Converting.{or_else, unless, fault_behind, before_fault, first_fault, out, whole}
 use Rattle.aes3_input.specs.Running.{Movement, IsFault, Left, Run, CleanEnd, converted}
-use Rattle.aes3_input.specs.Taking.{Writing, behind, before_end, with_end}
-use Rattle.aes3_input.specs.Forms.{text_reading, TextTaken}
+use Rattle.aes3_input.specs.Taking.{TakerState, Writing, behind, before_end, with_end}
+use Rattle.aes3_input.specs.Forms.{text_reading, text_state, TextTaken}
 use Rattle.aes3_input.specs.Driving.{IsCause, LeftCells, Drive, driven}
 use Rattle.aes3_input.proofs.Outputs.{out-is}
 use Rattle.aes3_input.proofs.Items.{before-join}
@@ -259,24 +219,23 @@ text-left max w text cells f b Read h = h.taker
 text-left max w text cells f b TooLong h = h.taker
 text-left max w text cells f b e h = subst f (cells-left w (take max b)) h
 
-pub text-ok : {max : ℕ} {w : Writing Level} {text : TextReader} {cells : ℕ} {f z : List Level
-    → Type 0} {ended : Bool} {source sink : Movement} {n : ℕ}
-    → Run max (text_reading w) (TextTaken text cells f) (λ b. f (cells_of_text b)) (TextTaken text cells z)
-    ended source sink (Ok n) → Drive max Text w f z ended source sink (Ok (n, cells))
-text-ok {w = w} {text} {cells} {z = z} r =
+pub text-ok : {max : ℕ} (old new : TakerState Level) {text₀ text : TextReader} {cells₀ cells : ℕ} {ended : Bool}
+    {source sink : Movement} {n : ℕ}
+    → Run max (text_state text₀ cells₀ old) (text_state text cells new) ended source sink (Ok n)
+    → Drive max Text old.writes new.follows new.finished ended source sink (Ok (n, cells))
+text-ok old new {text = text} {cells = cells} r =
     record {
-      run = run-ok (text-gives w (TextTaken text cells z) z) (λ b i h. (h.0.taker, h.1, h.0.count)) r.run;
-      left
-          = tt;
+      run = run-ok (text-gives old.writes (TextTaken text cells new.finished) new.finished)
+          (λ b i h. (h.0.taker, h.1, h.0.count)) r.run;
+      left = tt;
     }
 
-pub text-err : {max : ℕ} {w : Writing Level} {text : TextReader} {cells : ℕ} {f z : List Level
-    → Type 0} {ended : Bool} {source sink : Movement} {e : RunError}
-    → Run max (text_reading w) (TextTaken text cells f) (λ b. f (cells_of_text b)) (TextTaken text cells z)
-    ended source sink (Err e) → Drive max Text w f z ended source sink (Err e)
-text-err {max} {w} {text} {cells} {f} {z} {e = e} r =
+pub text-err : {max : ℕ} (old new : TakerState Level) {text₀ text : TextReader} {cells₀ cells : ℕ} {ended : Bool}
+    {source sink : Movement} {e : RunError}
+    → Run max (text_state text₀ cells₀ old) (text_state text cells new) ended source sink (Err e)
+    → Drive max Text old.writes new.follows new.finished ended source sink (Err e)
+text-err {max} old new {text = text} {cells = cells} {e = e} r =
     record {
-      run = run-err (text-gives w (TextTaken text cells z) z) r.run;
-      left
-          = text-left max w text cells f r.run.bytes e r.left;
+      run = run-err (text-gives old.writes (TextTaken text cells new.finished) new.finished) r.run;
+      left = text-left max old.writes text cells new.follows r.run.bytes e r.left;
     }

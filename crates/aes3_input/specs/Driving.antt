@@ -4,19 +4,8 @@ use Rattle.aes3_level.specs.declared.level.Level.{Level}
 use Rattle.aes3_cell.specs.declared.form.Form.{Form}
 use Rattle.aes3_cell.specs.declared.counts.Counts.{Counts}
 use Rattle.aes3_cell.specs.declared.refusal.RunError.{RunError}
-use Rattle.aes3_cell.specs.declared.refusal.RunError.TheVariants.{
-  BadCell,
-  BadLength,
-  BadCode,
-  BadParity,
-  Read,
-  Write,
-  TooLong,
-  Memory,
-  BadStatusText,
-  BadPadding,
-  BadSample,
-}
+use Rattle.aes3_cell.specs.declared.refusal.RunError.TheVariants.{BadCell, BadLength, BadCode, BadParity, Read, Write}
+use Rattle.aes3_cell.specs.declared.refusal.RunError.TheVariants.{TooLong, Memory, BadStatusText, BadPadding, BadSample}
 use Rattle.aes3_input.specs.Running.{Movement, Promise, InputRun}
 use Rattle.aes3_input.specs.Taking.{Writing, before_end, with_end}
 use Rattle.aes3_input.specs.Inputs.{IsInput, cells_of, cells_before, NoBadByte, BadByteAt, BadEndAt}

@@ -1,40 +1,19 @@
 -- What the two forms of cells make of an input's bytes.
-use Rattle.std.specs.Prelude.{
-  ℕ,
-  List,
-  ◌++◌,
-  Some,
-  None,
-  Result,
-  Ok,
-  Err,
-  ◌≡◌,
-  ◌+◌,
-  ◌<◌,
-  ◌≤◌,
-  length,
-  take,
-  if◌then◌else◌,
-}
+use Rattle.std.specs.Prelude.{ℕ, List, ◌++◌, Some, None, Result, Ok, Err, ◌≡◌, ◌+◌, ◌<◌, ◌≤◌, length, take}
+use Rattle.std.specs.Prelude.{if◌then◌else◌}
 use Rattle.aes3_level.specs.declared.level.Level.{Level}
 use Rattle.aes3_cell.specs.declared.refusal.RunError.TheVariants.{BadCell, BadPadding}
 use Rattle.aes3_cell.specs.declared.ends.Fault.{Fault}
 use Rattle.aes3_cell.specs.Ends.{Grew, GrewFront}
 use Rattle.aes3_level.specs.Words.{low_cells}
 use Rattle.aes3_cell.specs.Packed.{octet_cells, is_packed, last_place, cells_of_packed, whole_cells}
-use Rattle.aes3_cell.specs.PackedReading.{
-  PackedReader,
-  packed_reader_of,
-  packed_answer,
-  packed_end,
-  answer_cells,
-  end_cells,
-}
+use Rattle.aes3_cell.specs.PackedReading.{PackedReader, packed_reader_of, packed_answer, packed_end, answer_cells}
+use Rattle.aes3_cell.specs.PackedReading.{end_cells}
 use Rattle.aes3_cell.specs.CellText.{is_good_byte, byte_cells, cells_of_text, IsCellText}
 use Rattle.aes3_cell.specs.TextReading.{TextReader, text_reader_of}
 use Rattle.aes3_input.specs.Converting.{Reading}
-use Rattle.aes3_input.specs.Running.{Movement, Quiet, Failed}
-use Rattle.aes3_input.specs.Taking.{Writing, behind}
+use Rattle.aes3_input.specs.Running.{InputState, Movement, Quiet, Failed}
+use Rattle.aes3_input.specs.Taking.{TakerState, Writing, behind}
 
 -- cell text: a bad byte is a fault, the cell of any other is handed on
 unfoldable pub text_reading : Writing Level → Reading
@@ -52,6 +31,15 @@ pub record TextTaken (text : TextReader) (cells : ℕ) (f : List Level → Type 
   pub lawful : IsCellText b
   pub count : cells ≡ length (cells_of_text b)
   pub taker : f (cells_of_text b)
+
+-- cell text as an input, with a reader, the count of its cells and the taker that took them
+abbrev pub text_state : TextReader → ℕ → TakerState Level → InputState
+text_state text cells taker = record {
+  reads = text_reading taker.writes;
+  follows = TextTaken text cells taker.follows;
+  stopped = λ b. taker.follows (cells_of_text b);
+  finished = TextTaken text cells taker.finished;
+}
 
 -- a reader of text took the bytes d, which are the cells c and separators
 pub record TextRead (old new : TextReader) (d : List ℕ) (c : List Level) : Type 0 where
@@ -83,25 +71,37 @@ pub record PackedEnded (cells : ℕ) (z : List Level → Type 0) (b : List ℕ) 
   pub count : cells ≡ length (cells_of_packed b)
   pub taker : z (cells_of_packed b)
 
--- a taker that followed f₀ and wrote as w₀ was handed the cells d; and the same with the end behind them
-abbrev pub CellsRan : Writing Level → Writing Level → (List Level → Type 0) → (List Level → Type 0) → List Level
-    → Movement → Result (Unit {0}) Fault → Type 0
-CellsRan w₀ w f₀ f d sink (Ok u) =
-    (w ≡ w₀) × ((c : List Level) → f₀ c → f (c ++ d))
-    × ((c : List Level) → f₀ c → Grew sink.old sink.new (behind w₀ c d)) × Quiet sink
-CellsRan w₀ w f₀ f d sink (Err x)
-    = Failed sink × ((c : List Level) → f₀ c → GrewFront sink.old sink.new (behind w₀ c d))
+-- packed cells as an input
+abbrev pub packed_state : PackedReader → ℕ → TakerState Level → InputState
+packed_state packed cells taker = record {
+  reads = packed_reading taker.writes;
+  follows = PackedTaken packed cells taker.follows;
+  stopped = λ b. taker.follows (whole_cells b);
+  finished = PackedEnded cells taker.finished;
+}
+
+-- a taker was handed the cells d; and the same with the end behind them
+abbrev pub CellsRan : TakerState Level → TakerState Level → List Level → Movement → Result (Unit {0}) Fault → Type 0
+CellsRan old new d sink (Ok u) =
+    (new.writes ≡ old.writes) × ((c : List Level) → old.follows c → new.follows (c ++ d))
+    × ((c : List Level) → old.follows c → Grew sink.old sink.new (behind old.writes c d)) × Quiet sink
+CellsRan old new d sink (Err x) =
+    Failed sink × ((c : List Level) → old.follows c → GrewFront sink.old sink.new (behind old.writes c d))
 
 -- of the first cells of a word, as many as told and one at least; where the sink failed, a front of what they write was
 -- taken
-abbrev pub FirstCellsRan : Writing Level → Writing Level → (List Level → Type 0) → (List Level → Type 0) → ℕ → ℕ
-    → Movement → Result ℕ Fault → Type 0
-FirstCellsRan w₀ w f₀ f len word sink (Ok n) = (0 < n) × (n ≤ len) × CellsRan w₀ w f₀ f (low_cells n word) sink (Ok tt)
-FirstCellsRan w₀ w f₀ f len word sink (Err x) = CellsRan w₀ w f₀ f (low_cells len word) sink (Err x)
+abbrev pub FirstCellsRan : TakerState Level → TakerState Level → ℕ → ℕ → Movement → Result ℕ Fault → Type 0
+FirstCellsRan old new len word sink (Ok n) =
+    (0 < n) × (n ≤ len) × CellsRan old new (low_cells n word) sink (Ok tt)
+FirstCellsRan old new len word sink (Err x) = CellsRan old new (low_cells len word) sink (Err x)
 
-abbrev pub EndCellsRan : Writing Level → (List Level → Type 0) → (List Level → Type 0) → List Level → Movement
-    → Result (Unit {0}) Fault → Type 0
-EndCellsRan w₀ f₀ z d sink (Ok u) =
-    ((c : List Level) → f₀ c → z (c ++ d) × Grew sink.old sink.new (behind w₀ c d ++ w₀.ends (c ++ d))) × Quiet sink
-EndCellsRan w₀ f₀ z d sink (Err x)
-    = Failed sink × ((c : List Level) → f₀ c → GrewFront sink.old sink.new (behind w₀ c d ++ w₀.ends (c ++ d)))
+-- what cells write that come, and the end behind them
+abbrev pub ending : Writing Level → List Level → List Level → List ℕ
+ending w c d = behind w c d ++ w.ends (c ++ d)
+
+abbrev pub EndCellsRan : TakerState Level → TakerState Level → List Level → Movement → Result (Unit {0}) Fault → Type 0
+EndCellsRan old new d sink (Ok u) =
+    ((c : List Level) → old.follows c
+    → new.finished (c ++ d) × Grew sink.old sink.new (ending old.writes c d)) × Quiet sink
+EndCellsRan old new d sink (Err x) =
+    Failed sink × ((c : List Level) → old.follows c → GrewFront sink.old sink.new (ending old.writes c d))

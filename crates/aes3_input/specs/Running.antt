@@ -1,25 +1,6 @@
 -- What a run answers, and what it has written then.
-use Rattle.std.specs.Prelude.{
-  ℕ,
-  List,
-  [],
-  ◌++◌,
-  Option,
-  Some,
-  None,
-  Result,
-  Ok,
-  Err,
-  ◌≡◌,
-  ◌<◌,
-  ◌≤◌,
-  ◌+◌,
-  ◌⊎◌,
-  Bool,
-  IsTrue,
-  length,
-  take,
-}
+use Rattle.std.specs.Prelude.{ℕ, List, [], ◌++◌, Option, Some, None, Result, Ok, Err, ◌≡◌, ◌<◌, ◌≤◌, ◌+◌, ◌⊎◌, Bool}
+use Rattle.std.specs.Prelude.{IsTrue, length, take}
 use Rattle.aes3_cell.specs.declared.refusal.RunError.{RunError}
 use Rattle.aes3_cell.specs.declared.refusal.RunError.TheVariants.{Read, Write, TooLong}
 use Rattle.aes3_cell.specs.Ends.{Grew, GrewFront}
@@ -44,6 +25,17 @@ Quiet e = e.failed_new ≡ e.failed_old
 abbrev pub Failed : Movement → Type 0
 Failed e = e.failed_new ≡ e.failed_old + 1
 
+-- What an input and its taker are at one moment.
+-- reads: which bytes are faults that come, and what they write
+-- follows: what holds of the bytes that both have taken
+-- stopped: what holds of the bytes before a fault, once that was refused
+-- finished: what holds of all bytes, once both have taken their end
+pub record InputState : Type 1 where
+  pub reads : Reading
+  pub follows : List ℕ → Type 0
+  pub stopped : List ℕ → Type 0
+  pub finished : List ℕ → Type 0
+
 -- a conversion that followed f₀ was fed the bytes a, which are no fault
 pub record Fed (r₀ r : Reading) (f₀ f : List ℕ → Type 0) (t₀ t : Option (List ℕ)) (a : List ℕ) : Type 0 where
   pub same : r ≡ r₀
@@ -59,38 +51,40 @@ pub record Stopped (r₀ : Reading) (f₀ s : List ℕ → Type 0) (t₀ t : Opt
   pub grew : (b : List ℕ) → f₀ b → Grew t₀ t (out_behind r₀ b a)
 
 -- what feeding a piece answers; only the loop tells Read and TooLong
-abbrev pub PieceRan : Reading → Reading → (List ℕ → Type 0) → (List ℕ → Type 0) → (List ℕ → Type 0) → List ℕ → Movement
-    → Result (Unit {0}) RunError → Type 0
-PieceRan r₀ r f₀ f s piece sink (Ok u) = Fed r₀ r f₀ f sink.old sink.new piece × Quiet sink
-PieceRan r₀ r f₀ f s piece sink (Err Write)
-    = Failed sink × ((b : List ℕ) → f₀ b → GrewFront sink.old sink.new (out_behind r₀ b piece))
-PieceRan r₀ r f₀ f s piece sink (Err Read) = ⊥
-PieceRan r₀ r f₀ f s piece sink (Err TooLong) = ⊥
-PieceRan r₀ r f₀ f s piece sink (Err e) = Stopped r₀ f₀ s sink.old sink.new piece e × Quiet sink
+abbrev pub PieceRan : InputState → InputState → List ℕ → Movement → Result (Unit {0}) RunError → Type 0
+PieceRan old new piece sink (Ok u) =
+    Fed old.reads new.reads old.follows new.follows sink.old sink.new piece × Quiet sink
+PieceRan old new piece sink (Err Write) =
+    Failed sink × ((b : List ℕ) → old.follows b → GrewFront sink.old sink.new (out_behind old.reads b piece))
+PieceRan old new piece sink (Err Read) = ⊥
+PieceRan old new piece sink (Err TooLong) = ⊥
+PieceRan old new piece sink (Err e) =
+    Stopped old.reads old.follows new.stopped sink.old sink.new piece e × Quiet sink
 
 -- what taking a front of a piece answers: how many of its bytes these were
-abbrev pub FrontRan : Reading → Reading → (List ℕ → Type 0) → (List ℕ → Type 0) → (List ℕ → Type 0) → List ℕ → Movement
-    → Result ℕ RunError → Type 0
-FrontRan r₀ r f₀ f s piece sink (Ok n)
-    = (0 < n) × (n ≤ length piece) × Fed r₀ r f₀ f sink.old sink.new (take n piece) × Quiet sink
-FrontRan r₀ r f₀ f s piece sink (Err e) = PieceRan r₀ r f₀ f s piece sink (Err e)
+abbrev pub FrontRan : InputState → InputState → List ℕ → Movement → Result ℕ RunError → Type 0
+FrontRan old new piece sink (Ok n) =
+    (0 < n) × (n ≤ length piece)
+    × Fed old.reads new.reads old.follows new.follows sink.old sink.new (take n piece) × Quiet sink
+FrontRan old new piece sink (Err e) = PieceRan old new piece sink (Err e)
 
--- what the end answers; where it is no fault, z holds of the bytes, else s
-abbrev pub EndRan : Reading → (List ℕ → Type 0) → (List ℕ → Type 0) → (List ℕ → Type 0) → Movement
-    → Result (Unit {0}) RunError → Type 0
-EndRan r f s z sink (Ok u) = ((b : List ℕ) → f b → (r.end_fault b ≡ None) × z b × Grew sink.old sink.new (r.ends b))
-    × Quiet sink
-EndRan r f s z sink (Err Write)
-    = ((b : List ℕ) → f b → (r.end_fault b ≡ None) × GrewFront sink.old sink.new (r.ends b)) × Failed sink
-EndRan r f s z sink (Err Read) = ⊥
-EndRan r f s z sink (Err TooLong) = ⊥
-EndRan r f s z sink (Err e)
-    = ((b : List ℕ) → f b → (r.end_fault b ≡ Some e) × s b × Grew sink.old sink.new []) × Quiet sink
+-- what the end answers
+abbrev pub EndRan : InputState → InputState → Movement → Result (Unit {0}) RunError → Type 0
+EndRan old new sink (Ok u) =
+    ((b : List ℕ) → old.follows b
+    → (old.reads.end_fault b ≡ None) × new.finished b × Grew sink.old sink.new (old.reads.ends b)) × Quiet sink
+EndRan old new sink (Err Write) =
+    ((b : List ℕ) → old.follows b
+    → (old.reads.end_fault b ≡ None) × GrewFront sink.old sink.new (old.reads.ends b)) × Failed sink
+EndRan old new sink (Err Read) = ⊥
+EndRan old new sink (Err TooLong) = ⊥
+EndRan old new sink (Err e) =
+    ((b : List ℕ) → old.follows b
+    → (old.reads.end_fault b ≡ Some e) × new.stopped b × Grew sink.old sink.new []) × Quiet sink
 
 -- What a run promises: which bytes are an input of it, what it writes of one and of bytes behind which more may come,
--- what it answers to one, and
--- why it refuses the bytes of a run of at most max bytes, where the truth value says whether the source has ended
--- behind them.
+-- what it answers to one, and why it refuses the bytes of a run of at most max bytes, where the truth value says
+-- whether the source has ended behind them.
 pub record Promise (A : Type 0) : Type 1 where
   pub input : List ℕ → Type 0
   pub whole : List ℕ → List ℕ
@@ -106,10 +100,9 @@ pub record Complete (is_input : List ℕ → Type 0) (max : ℕ) (b : List ℕ) 
 
 -- What a run answers to the bytes b:
 -- Ok: they are an input of at most `max` bytes, and the source has ended; the answer; neither end failed; what the
--- input writes is written
+--   input writes is written
 -- Write: the sink failed, once, and the source did not; a front is written of what the bytes up to the limit write
--- behind which more may come,
---   or, where the input is whole, of what it writes
+--   behind which more may come, or, where the input is whole, of what it writes
 -- Read: its cause; the source failed, once, and the sink did not; what the bytes up to the limit write is written
 -- any other refusal: its cause; neither end failed; what the bytes up to the limit write is written
 -- So Ok is owed where the input is in its form and fits and neither end failed: each refusal has a failure or a cause
@@ -126,8 +119,8 @@ InputRan p max b ended source sink (Err e) =
     p.cause max b ended e × Quiet source × Quiet sink × Grew sink.old sink.new (p.begun (take max b))
 
 -- A run over an input of at most max bytes: the bytes that the source gave in it, which are those that it tells where
--- it tells them, at most one
--- more than max; and what it answered to them, where `ended` says whether the source has ended.
+-- it tells them, at most one more than max; and what it answered to them, where `ended` says whether the source has
+-- ended.
 pub record InputRun {A : Type 0} (p : Promise A) (max : ℕ) (ended : Bool) (source sink : Movement)
     (result : Result A RunError) : Type 0 where
   pub bytes : List ℕ
@@ -177,7 +170,7 @@ Left max r f s b (Err TooLong) = f (take max b)
 Left max r f s b (Err e) = s (before_fault r [] (take max b))
 
 -- a conversion's run
-pub record Run (max : ℕ) (r : Reading) (f s z : List ℕ → Type 0) (ended : Bool) (source sink : Movement)
-    (result : Result ℕ RunError) : Type 0 where
-  pub run : InputRun (converted r z) max ended source sink result
-  pub left : Left max r f s run.bytes result
+pub record Run (max : ℕ) (old new : InputState) (ended : Bool) (source sink : Movement) (result : Result ℕ RunError)
+    : Type 0 where
+  pub run : InputRun (converted old.reads new.finished) max ended source sink result
+  pub left : Left max old.reads new.follows new.stopped run.bytes result

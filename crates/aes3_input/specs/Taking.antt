@@ -6,6 +6,15 @@ pub record Writing (A : Type 0) : Type 0 where
   pub adds : List A → A → List ℕ
   pub ends : List A → List ℕ
 
+-- What a taker of items is at one moment.
+-- writes: what the items write that come
+-- follows: what holds of the items that it has taken
+-- finished: what holds of all items, once it has taken their end
+pub record TakerState (A : Type 0) : Type 1 where
+  pub writes : Writing A
+  pub follows : List A → Type 0
+  pub finished : List A → Type 0
+
 -- what the items d write behind the items c
 abbrev pub behind : {A : Type 0} → Writing A → List A → List A → List ℕ
 behind w c [] = []

@@ -3,25 +3,20 @@
 ghost use Rattle.std.specs.Prelude.{◌≡◌, ℕ, ◌+◌, ◌<◌, ◌≤◌, ◌^◌, ◌↔◌, List, [], length, take, IfOk};
 ghost use Rattle.std.specs.Prelude.{OnErr, IsTrue};
 ghost use Rattle.aes3_cell.specs.Ends.{Grew};
-ghost use Rattle.aes3_input.specs.Converting.{Reading};
-ghost use Rattle.aes3_input.specs.Running.{EndRan, FrontRan, PieceRan, Run, movement_of};
+ghost use Rattle.aes3_input.specs.Running.{EndRan, FrontRan, InputState, PieceRan, Run};
+ghost use Rattle.aes3_input.specs.Running.{movement_of};
 
 use aes3_cell::{Fault, RunError, Sink, Source};
 
 /// A form of input: takes bytes, in pieces of any size, front by front, and hands what they carry
 /// to a taker `K`, which writes.
 ///
-/// The contract speaks of the bytes that the input and its taker have taken (`follows`), of what
-/// bytes write and which are faults (`reads`), of what holds after the end (`finished`), and of
-/// what holds of the bytes before a fault when it was refused (`stopped`).
+/// The contract speaks of what the input and its taker are at one moment (`state`): of what bytes
+/// write and which are faults (`reads`), of the bytes that both have taken (`follows`), of what
+/// holds of the bytes before a fault when it was refused (`stopped`), and of what holds after the
+/// end (`finished`).
 pub trait Input<K> {
-    ghost follows: { Self → K → List ℕ → Type 0 };
-
-    ghost reads: { Self → K → Reading };
-
-    ghost finished: { Self → K → List ℕ → Type 0 };
-
-    ghost stopped: { Self → K → List ℕ → Type 0 };
+    ghost state: { Self → K → InputState };
 
     /// Takes a front of a piece, at least one byte, and answers how many bytes it is.
     fn take_front<T: Sink>(
@@ -33,18 +28,16 @@ pub trait Input<K> {
         requires some { 0 < length piece.now }
         requires room { T.failed sink.old + 1 < 2 ^ 64 }
         requires following { (b : List ℕ) × (length b + length piece.now ≤ 2 ^ 40)
-            × follows self.old taker.old b }
-        ensures { FrontRan (reads self.old taker.old) (reads self.new taker.new)
-            (follows self.old taker.old) (follows self.new taker.new) (stopped self.new taker.new)
-            piece.now
+            × (state self.old taker.old).follows b }
+        ensures { FrontRan (state self.old taker.old) (state self.new taker.new) piece.now
             (movement_of T.taken T.failed sink.old sink.new) result };
 
     /// Takes the end of the input.
     fn finish<T: Sink>(&mut self, taker: &mut K, sink: &mut T) -> Result<(), RunError>
         requires room { T.failed sink.old + 1 < 2 ^ 64 }
-        requires following { (b : List ℕ) × (length b ≤ 2 ^ 40) × follows self.old taker.old b }
-        ensures { EndRan (reads self.old taker.old) (follows self.old taker.old)
-            (stopped self.new taker.new) (finished self.new taker.new)
+        requires following { (b : List ℕ) × (length b ≤ 2 ^ 40)
+            × (state self.old taker.old).follows b }
+        ensures { EndRan (state self.old taker.old) (state self.new taker.new)
             (movement_of T.taken T.failed sink.old sink.new) result };
 }
 
@@ -93,10 +86,8 @@ fn feed_fronts<T: Sink, K, I: Input<K>>(
 ) -> Result<(), RunError>
     requires room { T.failed sink.old + 1 < 2 ^ 64 }
     requires following { (b : List ℕ) × (length b + length piece.now ≤ 2 ^ 40)
-        × I.follows input.old taker.old b }
-    ensures { PieceRan (I.reads input.old taker.old) (I.reads input.new taker.new)
-        (I.follows input.old taker.old) (I.follows input.new taker.new)
-        (I.stopped input.new taker.new) piece.now
+        × (I.state input.old taker.old).follows b }
+    ensures { PieceRan (I.state input.old taker.old) (I.state input.new taker.new) piece.now
         (movement_of T.taken T.failed sink.old sink.new) result }
 {
     let mut at = 0;
@@ -119,10 +110,8 @@ fn feed<T: Sink, K, I: Input<K>>(
 ) -> Result<(), RunError>
     requires room { T.failed sink.old + 1 < 2 ^ 64 }
     requires following { (b : List ℕ) × (length b + length piece.now ≤ 2 ^ 40)
-        × I.follows input.old taker.old b }
-    ensures ran { PieceRan (I.reads input.old taker.old) (I.reads input.new taker.new)
-        (I.follows input.old taker.old) (I.follows input.new taker.new)
-        (I.stopped input.new taker.new) piece.now
+        × (I.state input.old taker.old).follows b }
+    ensures ran { PieceRan (I.state input.old taker.old) (I.state input.new taker.new) piece.now
         (movement_of T.taken T.failed sink.old sink.new) result }
     ensures passed_on { IfOk result (λ _. T.passed sink.new ≡ T.taken sink.new) }
 {
@@ -142,9 +131,9 @@ fn finish<T: Sink, K, I: Input<K>>(
     sink: &mut T,
 ) -> Result<(), RunError>
     requires room { T.failed sink.old + 1 < 2 ^ 64 }
-    requires following { (b : List ℕ) × (length b ≤ 2 ^ 40) × I.follows input.old taker.old b }
-    ensures ran { EndRan (I.reads input.old taker.old) (I.follows input.old taker.old)
-        (I.stopped input.new taker.new) (I.finished input.new taker.new)
+    requires following { (b : List ℕ) × (length b ≤ 2 ^ 40)
+        × (I.state input.old taker.old).follows b }
+    ensures ran { EndRan (I.state input.old taker.old) (I.state input.new taker.new)
         (movement_of T.taken T.failed sink.old sink.new) result }
     ensures passed_on { IfOk result (λ _. T.passed sink.new ≡ T.taken sink.new) }
 {
@@ -172,10 +161,9 @@ pub fn convert<S: Source, T: Sink, K, I: Input<K>>(
     requires source_room { S.failed source.old + 1 < 2 ^ 64 }
     requires sink_room { T.failed sink.old + 1 < 2 ^ 64 }
     requires limit { max_bytes ≤ 2 ^ 40 }
-    requires start { I.follows input.old taker.old [] }
-    ensures run { Run max_bytes (I.reads input.old taker.old) (I.follows input.new taker.new)
-        (I.stopped input.new taker.new) (I.finished input.new taker.new) (S.has_ended source.new)
-        (movement_of S.given S.failed source.old source.new)
+    requires start { (I.state input.old taker.old).follows [] }
+    ensures run { Run max_bytes (I.state input.old taker.old) (I.state input.new taker.new)
+        (S.has_ended source.new) (movement_of S.given S.failed source.old source.new)
         (movement_of T.taken T.failed sink.old sink.new) result }
 
     // At Ok the sink has passed on all that it took, and so it had before a read that failed.

@@ -28,9 +28,9 @@ pub fn drive<S: Source, T: Sink, K: Taker>(
     requires source_room { S.failed source.old + 1 < 2 ^ 64 }
     requires sink_room { T.failed sink.old + 1 < 2 ^ 64 }
     requires limit { max_bytes ≤ 2 ^ 40 }
-    requires start { K.follows taker.old [] }
-    ensures ran { Drive max_bytes input (K.writes taker.old) (K.follows taker.new)
-        (K.finished taker.new) (S.has_ended source.new)
+    requires start { (K.state taker.old).follows [] }
+    ensures ran { Drive max_bytes input (K.state taker.old).writes (K.state taker.new).follows
+        (K.state taker.new).finished (S.has_ended source.new)
         (movement_of S.given S.failed source.old source.new)
         (movement_of T.taken T.failed sink.old sink.new) result }
     ensures passed_on { IfOk result (λ _. T.passed sink.new ≡ T.taken sink.new) }

@@ -9,7 +9,7 @@ ghost use Rattle.aes3_cell.specs.Packed.{octet_cells, whole_cells};
 ghost use Rattle.aes3_cell.specs.PackedReading.{packed_reader_of};
 ghost use Rattle.aes3_level.specs.Words.{low_cells, word_cells};
 ghost use Rattle.aes3_input.specs.Driving.{Drive};
-ghost use Rattle.aes3_input.specs.Forms.{CellsRan, EndCellsRan, PackedEnded, PackedTaken};
+ghost use Rattle.aes3_input.specs.Forms.{CellsRan, EndCellsRan, PackedTaken, packed_state};
 ghost use Rattle.aes3_input.specs.Forms.{octet_front, packed_reading};
 ghost use Rattle.aes3_input.specs.Running.{FrontRan, PieceRan, movement_of};
 
@@ -57,9 +57,9 @@ fn word_of_octet(octet: u8) -> u64
 fn hand_on<T: Sink, K: Taker>(taker: &mut K, sink: &mut T, octet: u8, used: u8) -> Result<(), Fault>
     requires few { used ≤ 8 }
     requires room { T.failed sink.old + 1 < 2 ^ 64 }
-    requires following { (c : List Level) × (length c + 8 ≤ 2 ^ 43) × K.follows taker.old c }
-    ensures { CellsRan (K.writes taker.old) (K.writes taker.new) (K.follows taker.old)
-        (K.follows taker.new) (octet_front used octet)
+    requires following { (c : List Level) × (length c + 8 ≤ 2 ^ 43)
+        × (K.state taker.old).follows c }
+    ensures { CellsRan (K.state taker.old) (K.state taker.new) (octet_front used octet)
         (movement_of T.taken T.failed sink.old sink.new) result }
 {
     taker.cells(sink, word_of_octet(octet), u32::from(used))
@@ -74,9 +74,9 @@ fn hand_on_last<T: Sink, K: Taker>(
 ) -> Result<(), Fault>
     requires few { used ≤ 8 }
     requires room { T.failed sink.old + 1 < 2 ^ 64 }
-    requires following { (c : List Level) × (length c + 8 ≤ 2 ^ 43) × K.follows taker.old c }
-    ensures { EndCellsRan (K.writes taker.old) (K.follows taker.old) (K.finished taker.new)
-        (octet_front used octet)
+    requires following { (c : List Level) × (length c + 8 ≤ 2 ^ 43)
+        × (K.state taker.old).follows c }
+    ensures { EndCellsRan (K.state taker.old) (K.state taker.new) (octet_front used octet)
         (movement_of T.taken T.failed sink.old sink.new) result }
 {
     match hand_on(taker, sink, octet, used) {
@@ -94,11 +94,9 @@ fn take_octet<T: Sink, K: Taker>(
 ) -> Result<(), RunError>
     requires room { T.failed sink.old + 1 < 2 ^ 64 }
     requires following { (b : List ℕ) × (length b < 2 ^ 40)
-        × PackedTaken input.old.packed input.old.cells (K.follows taker.old) b }
-    ensures { PieceRan (packed_reading (K.writes taker.old)) (packed_reading (K.writes taker.new))
-        (PackedTaken input.old.packed input.old.cells (K.follows taker.old))
-        (PackedTaken input.new.packed input.new.cells (K.follows taker.new))
-        (λ b. K.follows taker.new (whole_cells b)) (octet ∷ [])
+        × PackedTaken input.old.packed input.old.cells (K.state taker.old).follows b }
+    ensures { PieceRan (packed_state input.old.packed input.old.cells (K.state taker.old))
+        (packed_state input.new.packed input.new.cells (K.state taker.new)) (octet ∷ [])
         (movement_of T.taken T.failed sink.old sink.new) result }
 {
     match input.packed.feed_byte(octet) {
@@ -146,11 +144,9 @@ fn take_first<T: Sink, K: Taker>(
     requires some { 0 < length piece.now }
     requires room { T.failed sink.old + 1 < 2 ^ 64 }
     requires following { (b : List ℕ) × (length b + length piece.now ≤ 2 ^ 40)
-        × PackedTaken input.old.packed input.old.cells (K.follows taker.old) b }
-    ensures { FrontRan (packed_reading (K.writes taker.old)) (packed_reading (K.writes taker.new))
-        (PackedTaken input.old.packed input.old.cells (K.follows taker.old))
-        (PackedTaken input.new.packed input.new.cells (K.follows taker.new))
-        (λ b. K.follows taker.new (whole_cells b)) piece.now
+        × PackedTaken input.old.packed input.old.cells (K.state taker.old).follows b }
+    ensures { FrontRan (packed_state input.old.packed input.old.cells (K.state taker.old))
+        (packed_state input.new.packed input.new.cells (K.state taker.new)) piece.now
         (movement_of T.taken T.failed sink.old sink.new) result }
 {
     match take_octet(input, taker, sink, piece[0]) {
@@ -169,9 +165,9 @@ pub(crate) fn drive_packed<S: Source, T: Sink, K: Taker>(
     requires source_room { S.failed source.old + 1 < 2 ^ 64 }
     requires sink_room { T.failed sink.old + 1 < 2 ^ 64 }
     requires limit { max_bytes ≤ 2 ^ 40 }
-    requires start { K.follows taker.old [] }
-    ensures ran { Drive max_bytes Form.Packed (K.writes taker.old) (K.follows taker.new)
-        (K.finished taker.new) (S.has_ended source.new)
+    requires start { (K.state taker.old).follows [] }
+    ensures ran { Drive max_bytes Form.Packed (K.state taker.old).writes (K.state taker.new).follows
+        (K.state taker.new).finished (S.has_ended source.new)
         (movement_of S.given S.failed source.old source.new)
         (movement_of T.taken T.failed sink.old sink.new) result }
     ensures passed_on { IfOk result (λ _. T.passed sink.new ≡ T.taken sink.new) }
@@ -184,13 +180,7 @@ pub(crate) fn drive_packed<S: Source, T: Sink, K: Taker>(
 }
 
 impl<K: Taker> Input<K> for PackedInput {
-    ghost follows = { λ input taker. PackedTaken input.packed input.cells (K.follows taker) };
-
-    ghost reads = { λ _ taker. packed_reading (K.writes taker) };
-
-    ghost finished = { λ input taker. PackedEnded input.cells (K.finished taker) };
-
-    ghost stopped = { λ _ taker b. K.follows taker (whole_cells b) };
+    ghost state = { λ input taker. packed_state input.packed input.cells (K.state taker) };
 
     fn take_front<T: Sink>(
         &mut self,

@@ -3,8 +3,8 @@
 ghost use Rattle.std.specs.Prelude.{◌≡◌, ℕ, ◌+◌, ◌<◌, ◌≤◌, ◌^◌, List, [], length, IfOk};
 ghost use Rattle.aes3_cell.specs.CellText.{cells_of_text};
 ghost use Rattle.aes3_input.specs.Driving.{Drive};
-ghost use Rattle.aes3_input.specs.Forms.{TextTaken, text_reading};
-ghost use Rattle.aes3_input.specs.Running.{FrontRan, movement_of};
+ghost use Rattle.aes3_input.specs.Forms.{text_state};
+ghost use Rattle.aes3_input.specs.Running.{movement_of};
 
 use crate::conversion::{Input, convert};
 use crate::taker::{Taker, words_and_cells};
@@ -45,9 +45,9 @@ pub(crate) fn drive_text<S: Source, T: Sink, K: Taker>(
     requires source_room { S.failed source.old + 1 < 2 ^ 64 }
     requires sink_room { T.failed sink.old + 1 < 2 ^ 64 }
     requires limit { max_bytes ≤ 2 ^ 40 }
-    requires start { K.follows taker.old [] }
-    ensures ran { Drive max_bytes Form.Text (K.writes taker.old) (K.follows taker.new)
-        (K.finished taker.new) (S.has_ended source.new)
+    requires start { (K.state taker.old).follows [] }
+    ensures ran { Drive max_bytes Form.Text (K.state taker.old).writes (K.state taker.new).follows
+        (K.state taker.new).finished (S.has_ended source.new)
         (movement_of S.given S.failed source.old source.new)
         (movement_of T.taken T.failed sink.old sink.new) result }
     ensures passed_on { IfOk result (λ _. T.passed sink.new ≡ T.taken sink.new) }
@@ -60,13 +60,7 @@ pub(crate) fn drive_text<S: Source, T: Sink, K: Taker>(
 }
 
 impl<K: Taker> Input<K> for TextInput {
-    ghost follows = { λ input taker. TextTaken input.text input.cells (K.follows taker) };
-
-    ghost reads = { λ _ taker. text_reading (K.writes taker) };
-
-    ghost finished = { λ input taker. TextTaken input.text input.cells (K.finished taker) };
-
-    ghost stopped = { λ _ taker b. K.follows taker (cells_of_text b) };
+    ghost state = { λ input taker. text_state input.text input.cells (K.state taker) };
 
     fn take_front<T: Sink>(
         &mut self,

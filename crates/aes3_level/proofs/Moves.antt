@@ -1,55 +1,13 @@
 -- Bits moved to other places of a word of 64.
-use Rattle.std.proofs.Common.{
-  lit<,
-  ◌≡◌,
-  ℕ,
-  zero,
-  suc,
-  ◌+◌,
-  ◌-◌,
-  ◌*◌,
-  ◌/◌,
-  ◌%◌,
-  ◌^◌,
-  ◌<◌,
-  ◌≤◌,
-  ◌⊎◌,
-  inl,
-  inr,
-  min,
-  max,
-  List,
-  [],
-  ◌∷◌,
-  ◌++◌,
-  Bool,
-  true,
-  false,
-  cond,
-  ◌&&◌,
-  eqb,
-  ltb,
-  refl,
-  sym,
-  ap,
-  ap₂,
-  ◌∙◌,
-  arith,
-}
+use Rattle.std.proofs.Common.{lit<, ◌≡◌, ℕ, zero, suc, ◌+◌, ◌-◌, ◌*◌, ◌/◌, ◌%◌, ◌^◌, ◌<◌, ◌≤◌, ◌⊎◌, inl, inr, min, max}
+use Rattle.std.proofs.Common.{List, [], ◌∷◌, ◌++◌, Bool, true, false, cond, ◌&&◌, eqb, ltb, refl, sym, ap, ap₂, ◌∙◌}
+use Rattle.std.proofs.Common.{arith}
 use Rattle.std.specs.Prelude.{bit_and, bit_or}
 use Rattle.std.specs.Int.{bit_at}
 use Rattle.std.proofs.lemmas.Bool.{cases_lt, agree_below, agree_below_at, lt-ltb, le-ltb, eqb-true, and_parts}
 use Rattle.std.proofs.lemmas.Nat.{and_mask, and_le_l, mod_below, or_lt, pow_pos, shr-shr, shr_le}
-use Rattle.std.proofs.lemmas.Nat.Bits.{
-  bit_at_and,
-  bit_at_or,
-  bit_at-lt,
-  bit_at_ones,
-  bit_at_above,
-  bit_at_cat_low,
-  bit_at_cat_high,
-  bit_at-zero,
-}
+use Rattle.std.proofs.lemmas.Nat.Bits.{bit_at_and, bit_at_or, bit_at-lt, bit_at_ones, bit_at_above, bit_at_cat_low}
+use Rattle.std.proofs.lemmas.Nat.Bits.{bit_at_cat_high, bit_at-zero}
 
 -- the bits of `x >> k`
 pub bit_at-shr : (w k i : ℕ) → bit_at (w / 2 ^ k) i ≡ bit_at w (k + i)

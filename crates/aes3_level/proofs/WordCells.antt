@@ -1,47 +1,13 @@
 -- Cells in words, by their bits.
-use Rattle.std.proofs.Common.{
-  ◌≡◌,
-  ℕ,
-  zero,
-  suc,
-  ◌+◌,
-  ◌*◌,
-  ◌/◌,
-  ◌%◌,
-  ◌^◌,
-  ◌<◌,
-  [],
-  ◌∷◌,
-  ◌++◌,
-  length,
-  take,
-  drop,
-  min,
-  get_or,
-  refl,
-  sym,
-  ap,
-  ap₂,
-  ◌∙◌,
-  arith,
-  add-one,
-  w64,
-}
+use Rattle.std.proofs.Common.{◌≡◌, ℕ, zero, suc, ◌+◌, ◌*◌, ◌/◌, ◌%◌, ◌^◌, ◌<◌, [], ◌∷◌, ◌++◌, length, take, drop, min}
+use Rattle.std.proofs.Common.{get_or, refl, sym, ap, ap₂, ◌∙◌, arith, add-one, w64}
 use Rattle.std.specs.Prelude.{bit_or}
 use Rattle.std.specs.Int.{bit_at}
 use Rattle.std.specs.Int.Bits.{or_shifted_r}
 use Rattle.std.proofs.lemmas.List.{drop_at, take_at}
 use Rattle.std.proofs.lemmas.Nat.{one_shl, shr-shr, and_mask}
-use Rattle.std.proofs.lemmas.Nat.Bits.{
-  bit_at_lowest,
-  bit_at-suc,
-  bit_at_above,
-  bit_at_set_same,
-  bit_at_set_other,
-  bit_at_and,
-  bit_at_ones,
-  bit_at-lt,
-}
+use Rattle.std.proofs.lemmas.Nat.Bits.{bit_at_lowest, bit_at-suc, bit_at_above, bit_at_set_same, bit_at_set_other}
+use Rattle.std.proofs.lemmas.Nat.Bits.{bit_at_and, bit_at_ones, bit_at-lt}
 use Rattle.std.proofs.Math.Nat.{pow-succ'}
 use Rattle.aes3_level.specs.declared.level.Level.TheVariants.{Low, High}
 use Rattle.aes3_level.specs.Words.{level_of, low_cells, word_len, word_cells}

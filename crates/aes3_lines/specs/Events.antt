@@ -1,24 +1,6 @@
 -- What is told of a line that is watched: events, each a line of words or a JSON object. Numbers are decimal.
-use Rattle.std.specs.Prelude.{
-  ℕ,
-  List,
-  [],
-  ◌∷◌,
-  ◌++◌,
-  ◌+◌,
-  ◌*◌,
-  ◌/◌,
-  ◌%◌,
-  Bool,
-  true,
-  false,
-  Option,
-  Some,
-  None,
-  max,
-  codes,
-  decimal,
-}
+use Rattle.std.specs.Prelude.{ℕ, List, [], ◌∷◌, ◌++◌, ◌+◌, ◌*◌, ◌/◌, ◌%◌, Bool, true, false, Option, Some, None, max}
+use Rattle.std.specs.Prelude.{codes, decimal}
 use Rattle.hex.specs.Hex.{encode_lower}
 use Rattle.aes3_lines.specs.declared.event.Event.{Event}
 use Rattle.aes3_lines.specs.declared.event.Event.TheVariants.{Locked, Lost, Back, Slipped, Status, Validity, End}
@@ -59,8 +41,8 @@ second_cells rate = 128 * max rate 1
 unfoldable pub seconds : ℕ → ℕ → List ℕ
 seconds cells at =
     let thousandths = 1000 * (at % cells) / cells in
-    decimal (at / cells) ++ 46 ∷ (48 + thousandths / 100 % 10) ∷ (48 + thousandths / 10 % 10) ∷ (48 + thousandths % 10)
-    ∷ []
+    decimal (at / cells)
+    ++ 46 ∷ (48 + thousandths / 100 % 10) ∷ (48 + thousandths / 10 % 10) ∷ (48 + thousandths % 10) ∷ []
 
 -- where an event is: its cell and, where the rate is known, the time
 unfoldable pub time_field : Notation → Option ℕ → ℕ → List ℕ

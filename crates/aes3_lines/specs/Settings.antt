@@ -86,10 +86,8 @@ IsShownThen text setting = (bytes : List ℕ) (code : ℕ) → length bytes ≡ 
     → shown_of setting.field (set_by setting bytes) ≡ codes " " ++ text
 
 -- a setting leaves what `show` prints of each other field for the use of the status, unless the codes of that field
--- have
--- another meaning under the number that is set: of the sample word length under the use of the auxiliary bits or the
--- greatest
--- length, of the emphasis in consumer status under what the sample words carry
+-- have another meaning under the number that is set: of the sample word length under the use of the auxiliary bits or
+-- the greatest length, of the emphasis in consumer status under what the sample words carry
 abbrev pub OtherWordsStay : Type 0
 OtherWordsStay = (setting : Setting) (f : Field) (bytes : List ℕ) → length bytes ≡ 24 → is_for f bytes ≡ true
     → f ≢ setting.field → told_by f ≢ Some setting.field → shown_of f (set_by setting bytes) ≡ shown_of f bytes

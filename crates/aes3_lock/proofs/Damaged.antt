@@ -1,6 +1,5 @@
 -- A piece of a lawful stream of which some cells are changed: no block stands in it where none began, and where one
--- began that
--- block, or one that the changed cells make of it.
+-- began that block, or one that the changed cells make of it.
 use Rattle.std.proofs.Common.{◌≡◌, ℕ, suc, ◌+◌, ◌-◌, ◌%◌, ◌<◌, ◌≤◌, ◌⊎◌, inl, inr, List, [], ◌∷◌, Bool, length, take}
 use Rattle.std.proofs.Common.{drop, ap, ap₂, ◌∙◌, sym, arith, length-take-le, length-drop, take-take, take_at}
 use Rattle.std.proofs.Common.{get_or-take, get_or-drop, ext_get_or}

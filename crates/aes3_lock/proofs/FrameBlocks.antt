@@ -1,6 +1,5 @@
 -- The block that the subframes of a stream from a frame on would be: its cells are those of the stream but for two in
--- each of two
--- preambles.
+-- each of two preambles.
 use Rattle.std.proofs.Common.{◌≡◌, ℕ, zero, suc, ◌+◌, ◌-◌, ◌*◌, ◌/◌, ◌%◌, ◌<◌, ◌≤◌, ◌⊎◌, inl, inr, List, [], ◌∷◌, ◌++◌}
 use Rattle.std.proofs.Common.{Bool, map, refl, length, take, drop, get_or, ap, ap₂, ◌∙◌, sym, subst, arith}
 use Rattle.std.proofs.Common.{length-take-le, length-drop, get_or-take, get_or-drop, eq-eqb, ne_eqb}

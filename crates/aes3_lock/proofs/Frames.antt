@@ -1,6 +1,5 @@
 -- What any changed cells of a piece of a lawful stream leave at a frame: the law of changed cells of a block, of the
--- block that its
--- subframes would be.
+-- block that its subframes would be.
 use Rattle.std.proofs.Common.{map, ◌≡◌, ℕ, suc, ◌+◌, ◌-◌, ◌*◌, ◌%◌, ◌<◌, ◌≤◌, ◌↔◌, ◌⊎◌, inl, inr, List, [], ◌∷◌, ◌++◌}
 use Rattle.std.proofs.Common.{Bool, true, false, ◌==◌, length, take, drop, get_or, ap, ◌∙◌, sym, subst, arith}
 use Rattle.std.proofs.Common.{length-take, length-drop, length-append, take_at, get_or-take, get_or-drop}

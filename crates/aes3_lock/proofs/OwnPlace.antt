@@ -1,6 +1,5 @@
 -- Two blocks after one level differ in two neighbouring cells between two slots at least, and in no other only where
--- one of them is
--- the other with these cells changed.
+-- one of them is the other with these cells changed.
 use Rattle.std.proofs.Common.{◌≡◌, ◌≢◌, ℕ, zero, suc, ◌+◌, ◌<◌, ◌≤◌, ◌⊎◌, inl, inr, List, [], ◌∷◌, ◌++◌, Bool, true}
 use Rattle.std.proofs.Common.{false, map, refl, length, ap, ap₂, ◌∙◌, sym, subst, arith, length-append}
 use Rattle.std.proofs.lemmas.List.{get_or_append_left, get_or-append-add}

@@ -59,7 +59,6 @@ inverted_in zero n (p ∷ ps) = pair_inverted n p ∷ ps
 inverted_in (suc j) n (p ∷ ps) = p ∷ inverted_in j n ps
 
 -- the block whose cells are those of b but for cell x, the second of a slot, and the cell behind it, the first of the
--- next slot:
--- the bits of both slots are inverted, where the second isn't that of parity
+-- next slot: the bits of both slots are inverted, where the second isn't that of parity
 abbrev pub exchanged : ℕ → List (List Bool) → List (List Bool)
 exchanged x b = inverted_in (x / 64) ((x % 64 - 9) / 2) b

@@ -13,8 +13,7 @@ use Rattle.aes3_lock.specs.Reports.{reports, blocks}
 use Rattle.aes3_lock.specs.Standing.{StandsClosed}
 
 -- where at most 3 cells of a piece change, blocks stand closed only where one of its stream began; where at most 383
--- do, only where a
--- frame did, and after the level of the stream
+-- do, only where a frame did, and after the level of the stream
 abbrev pub FewChangesMakeNoBlock : Type 0
 FewChangesMakeNoBlock =
     (s : Level) (bs : List (List (List Bool))) (i j : ℕ) (c e : List Level) → IsPiece s bs i j c → length e ≡ length c
@@ -49,8 +48,7 @@ ChangeLeavesTheOthers =
     → blocks (changed k c) ≡ given_blocks (after_change (i + k)) bs i j
 
 -- with two cells changed all but those that hold one or end directly before one; a block in which both are next to each
--- other
--- between two slots is given with the bits of these inverted
+-- other between two slots is given with the bits of these inverted
 abbrev pub TwoChangesLeaveTheOthers : Type 0
 TwoChangesLeaveTheOthers =
     (s : Level) (bs : List (List (List Bool))) (i j : ℕ) (c : List Level) → IsPiece s bs i j c → (k l : ℕ) → k < l
@@ -64,16 +62,15 @@ LossLeavesTheOthers =
     → blocks (without k c) ≡ given_blocks (after_loss (i + k)) bs i j
 
 -- of a stream that isn't cut and has one cell put in, all blocks are given but one whose cells it stands between or
--- that it doesn't
--- close; between the cells of the first run of a preamble it stands before the block
+-- that it doesn't close; between the cells of the first run of a preamble it stands before the block
 abbrev pub InsertionLeavesTheOthers : Type 0
 InsertionLeavesTheOthers =
     (s : Level) (bs : List (List (List Bool))) → All IsBlock bs → (k : ℕ) (x : Level) → k ≤ length (stream s bs)
     → blocks (inserted k x (stream s bs)) ≡ given_blocks (after_insertion s k x) bs 0 (length (stream s bs))
 
 -- where the first m cells of a block, 8 or more and not those of its last subframe, are those of a piece from place p
--- on, and the
--- others those from place q on, the places are whole subframes apart: no slip by lost or by inserted cells is bridged
+-- on, and the others those from place q on, the places are whole subframes apart: no slip by lost or by inserted cells
+-- is bridged
 abbrev pub SlipsAreNotBridged : Type 0
 SlipsAreNotBridged =
     (s : Level) (bs : List (List (List Bool))) (i j : ℕ) (c : List Level) → IsPiece s bs i j c
@@ -89,8 +86,7 @@ pub record LiesInBlock (k q i : ℕ) (c : List Level) : Type 0 where
   pub before : k < q + block_len
 
 -- where it changes, behind the preamble of the block, there is a report at this place, and each covers the change: it
--- is marked, or a
--- fault at the cell or behind it
+-- is marked, or a fault at the cell or behind it
 pub record IsReported (k q : ℕ) (c : List Level) : Type 0 where
   pub report : Report
   pub there : Contains (reports c) report

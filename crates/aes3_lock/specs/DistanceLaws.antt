@@ -10,8 +10,7 @@ use Rattle.aes3_lock.specs.Pieces.{IsPiece}
 use Rattle.aes3_lock.specs.Standing.{StandsClosed}
 
 -- from a place of a piece where no block of its stream begins, the cells differ from those of every block at 4 places
--- or more; where
--- no frame begins, and from those of every block after the other level, at 384 or more
+-- or more; where no frame begins, and from those of every block after the other level, at 384 or more
 abbrev pub FarWhereNoBlockBegins : Type 0
 FarWhereNoBlockBegins =
     (s : Level) (bs : List (List (List Bool))) (i j : ℕ) (c : List Level) → IsPiece s bs i j c → (q : ℕ)
@@ -33,8 +32,7 @@ FarFromTheOtherLevel =
     → (t : Level) (d : List (List Bool)) → IsBlock d → t ≢ s → 384 ≤ apart (take block_len (drop q c)) (block_cells t d)
 
 -- a block's cells differ from those of every block after the other level at 3,840 places or more, and after its own
--- level from
--- those of every other block at 2 or more
+-- level from those of every other block at 2 or more
 abbrev pub FarAfterOtherLevel : Type 0
 FarAfterOtherLevel =
     (s : Level) (b d : List (List Bool)) → IsBlock b → IsBlock d
@@ -68,8 +66,7 @@ BlocksStandByTheirCells =
     → StandsClosed b s c → StandsClosed b s d
 
 -- half of the cells of a subframe are high; so where blocks stand in cells and, at the same place, in changed cells, an
--- even number of
--- theirs changed: an odd number always takes the block
+-- even number of theirs changed: an odd number always takes the block
 abbrev pub SubframesAreBalanced : Type 0
 SubframesAreBalanced = (s : Level) (m : Mark) (p : List Bool) → IsPayload p
     → high_count (line s (subframe_runs m p)) ≡ 32

@@ -15,8 +15,7 @@ use Rattle.aes3_lock.specs.Reports.{open_at, ending_report}
 use Rattle.aes3_lock.specs.Steps.{last_eight}
 
 -- how many cells a lock has seen, the last eight, the candidate in hand, the cells of its last subframe that isn't
--- whole, the
--- first in the lowest bit, and words with the cells of its whole subframes
+-- whole, the first in the lowest bit, and words with the cells of its whole subframes
 pub record LockState : Type 0 where
   pub seen : ℕ
   pub recent : List Level
@@ -35,8 +34,7 @@ Filled words d = (j : ℕ) → j < block_slots → 64 * j + 64 ≤ length d
     → word_cells (get_or words j 0) ≡ take 64 (drop (64 * j) d)
 
 -- what is kept of a candidate's cells d after level s: the level before the subframe that isn't whole, its cells, and
--- those of
--- each subframe before it
+-- those of each subframe before it
 pub record Gathered (u : Level) (subframe : ℕ) (words : List ℕ) (s : Level) (d : List Level) : Type 0 where
   pub level : u ≡ before s d (64 * (length d / 64))
   pub cells : low_cells (length d % 64) subframe ≡ drop (64 * (length d / 64)) d

@@ -18,9 +18,8 @@ abbrev pub block_from : ℕ → List (List (List Bool)) → List (List Bool)
 block_from p bs = take block_slots (drop (p / 64) (flat_map (λ b. b) bs))
 
 -- which of its cells, counted from p, aren't those of the stream: none where a block of the stream begins; else cells 4
--- and 6 of its
--- first preamble, where the stream has X and it has Z, and of the one where the next block begins, where the stream has
--- Z and it X
+-- and 6 of its first preamble, where the stream has X and it has Z, and of the one where the next block begins, where
+-- the stream has Z and it X
 abbrev pub preamble_cells : ℕ → List ℕ
 preamble_cells p =
     if p % block_len == 0 then [] else 4 ∷ 6 ∷ (block_len - p % block_len + 4) ∷ (block_len - p % block_len + 6) ∷ []
@@ -30,8 +29,7 @@ abbrev pub all_but : List ℕ → List ℕ → List ℕ
 all_but some xs = filter (λ x. not (list_any (λ y. y == x) some)) xs
 
 -- block d is what changed cells leave of the subframes of a stream from cell p on: those preamble cells are among them,
--- and all others
--- are pairs between two slots
+-- and all others are pairs between two slots
 pub record IsLeftFrom (p : ℕ) (bs : List (List (List Bool))) (cells : List ℕ) (d : List (List Bool)) : Type 0 where
   pub preambles : All (Contains cells) (preamble_cells p)
   pub pairs : left_of (all_but (preamble_cells p) cells) (block_from p bs) ≡ d ∷ []

@@ -23,8 +23,7 @@ pub record StoodLater (n q : ℕ) (d : List (List Bool)) (t : Level) (c : List L
   pub stood : StandsClosed d t (drop (q + later) c)
 
 -- where at most three cells of a piece are lost, each block that stands closed stood closed in the piece, no more cells
--- later than
--- were lost; so no block is given that the piece doesn't have
+-- later than were lost; so no block is given that the piece doesn't have
 abbrev pub LossesChangeNoBlock : Type 0
 LossesChangeNoBlock =
     (s : Level) (bs : List (List (List Bool))) (i j : ℕ) (c : List Level) → IsPiece s bs i j c

@@ -30,8 +30,7 @@ unfoldable pub whole_blocks : List (List (List Bool)) → ℕ → ℕ → List (
 whole_blocks bs i j = given_within (λ p b. b ∷ []) 0 i j bs
 
 -- the preambles of n subframes of a stream from subframe k on of which all eight cells lie in cells i to j, their
--- places
--- counted from cell i; a lawful subframe ends at the level before it, so all are after level s
+-- places counted from cell i; a lawful subframe ends at the level before it, so all are after level s
 abbrev pub marks_within : ℕ → ℕ → Level → ℕ → ℕ → List (ℕ × Mark × Level)
 marks_within zero k s i j = []
 marks_within (suc n) k s i j =

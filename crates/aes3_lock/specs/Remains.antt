@@ -30,17 +30,15 @@ abbrev pub after_loss : ℕ → ℕ → List (List Bool) → List (List (List Bo
 after_loss k p b = if holds k p then [] else b ∷ []
 
 -- after cell x was put in before cell k of a stream after level s: the block stays where x stands before it, or behind
--- the cell that
--- closes it, or closes it, or makes the first run of its preamble, three cells of the level that isn't s, one cell
--- longer
+-- the cell that closes it, or closes it, or makes the first run of its preamble, three cells of the level that isn't s,
+-- one cell longer
 abbrev pub after_insertion : Level → ℕ → Level → ℕ → List (List Bool) → List (List (List Bool))
 after_insertion s k x p b =
     if nat_le k p ||
     (nat_lt (p + block_len) k || (differs s x && (nat_le k (p + 3) || k == p + block_len))) then b ∷ [] else []
 
 -- what is given of a block of which these cells changed, or the cell behind its last: two next to each other between
--- two slots make
--- another block of it, and any other takes it
+-- two slots make another block of it, and any other takes it
 abbrev pub left_of : List ℕ → List (List Bool) → List (List (List Bool))
 left_of [] b = b ∷ []
 left_of (x ∷ []) b = []

@@ -20,8 +20,7 @@ behind n (Fault at cell why) = Fault (n + at) (n + cell) why
 behind n (Unfinished at cells) = Unfinished (n + at) cells
 
 -- the reports of cells are those of their first n cells and a block's number more, as far as they begin in the n, and
--- those of
--- the cells behind the n
+-- those of the cells behind the n
 abbrev pub ReportsJoin : Type 0
 ReportsJoin =
     (n more : ℕ) (c : List Level) → block_len ≤ more

@@ -37,8 +37,7 @@ unfoldable pub ended_mark : ℕ → List Level → Option (ℕ × Mark × Level)
 ended_mark n recent = if nat_le 8 n then option_map (placed (n - 8)) (first_mark recent) else None
 
 -- the outcome of a candidate after level s which the cell at an offset ends, whether or not that cell equals the one
--- before
--- it, and where the cells end
+-- before it, and where the cells end
 abbrev pub ended : Level → ℕ → Bool → List (List Bool) → Outcome
 ended s offset equal slots =
     if nat_lt offset block_len then fault offset else (if equal then fault offset else block_outcome s slots)

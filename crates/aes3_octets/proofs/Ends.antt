@@ -1,40 +1,7 @@
 -- What ends of other forms tell.
-use Rattle.std.proofs.Common.{
-  ◌≡◌,
-  ◌<◌,
-  ◌==◌,
-  ℕ,
-  suc,
-  zero,
-  Bool,
-  false,
-  List,
-  [],
-  ◌∷◌,
-  ◌++◌,
-  Option,
-  Some,
-  None,
-  Result,
-  Ok,
-  Err,
-  IfOk,
-  ◌≤◌,
-  map,
-  length,
-  take,
-  drop,
-  get_or,
-  set,
-  refl,
-  sym,
-  subst,
-  ap,
-  ap₂,
-  ◌∙◌,
-  append-nil,
-  arith,
-}
+use Rattle.std.proofs.Common.{◌≡◌, ◌<◌, ◌==◌, ℕ, suc, zero, Bool, false, List, [], ◌∷◌, ◌++◌, Option, Some, None}
+use Rattle.std.proofs.Common.{Result, Ok, Err, IfOk, ◌≤◌, map, length, take, drop, get_or, set, refl, sym, subst, ap}
+use Rattle.std.proofs.Common.{ap₂, ◌∙◌, append-nil, arith}
 use Rattle.std.proofs.lemmas.List.{length-map, length-take, length-take-le, map-append, take-map, take-take, take_at}
 use Rattle.std.specs.Option.{option_map}
 use Rattle.aes3_cell.specs.Ends.{Grew}

@@ -1,50 +1,11 @@
 -- Octets with their bits in the opposite order.
-use Rattle.std.proofs.Common.{
-  ◌≡◌,
-  ℕ,
-  suc,
-  ◌+◌,
-  ◌-◌,
-  ◌*◌,
-  ◌/◌,
-  ◌%◌,
-  ◌<◌,
-  ◌≤◌,
-  List,
-  [],
-  ◌∷◌,
-  ◌++◌,
-  length,
-  map,
-  take,
-  drop,
-  get_or,
-  replicate,
-  refl,
-  sym,
-  ap,
-  ap₂,
-  ◌∙◌,
-  append_assoc,
-  append-nil,
-  take-append-drop,
-  arith,
-  w64,
-}
+use Rattle.std.proofs.Common.{◌≡◌, ℕ, suc, ◌+◌, ◌-◌, ◌*◌, ◌/◌, ◌%◌, ◌<◌, ◌≤◌, List, [], ◌∷◌, ◌++◌, length, map, take}
+use Rattle.std.proofs.Common.{drop, get_or, replicate, refl, sym, ap, ap₂, ◌∙◌, append_assoc, append-nil}
+use Rattle.std.proofs.Common.{take-append-drop, arith, w64}
 use Rattle.std.specs.List.{flat_map}
 use Rattle.std.specs.Int.{from_le_bytes}
-use Rattle.std.proofs.lemmas.List.{
-  length-map,
-  length-drop,
-  length-take-le,
-  get_or-map,
-  map-append,
-  take-map,
-  take_at,
-  drop_at,
-  drop_all,
-  drop-drop,
-}
+use Rattle.std.proofs.lemmas.List.{length-map, length-drop, length-take-le, get_or-map, map-append, take-map, take_at}
+use Rattle.std.proofs.lemmas.List.{drop_at, drop_all, drop-drop}
 use Rattle.std.proofs.Math.Seq.{take-add}
 use Rattle.std.proofs.lemmas.Slice.{take-put_mid}
 use borrow.Rule.Slice.PartMut.{put_mid}
@@ -53,11 +14,8 @@ use Rattle.aes3_level.specs.declared.level.Level.TheVariants.{Low, High}
 use Rattle.aes3_level.specs.Words.{low_cells, word_len, word_cells}
 use Rattle.aes3_cell.specs.Packed.{cells_of_octets, first_octets, octets_needed, octets_of, packed_of, octet_of, weight}
 use Rattle.aes3_cell.proofs.Octets.{octet_of-octet_cells}
-use Rattle.aes3_cell.proofs.PackedCells.{
-  first_octets-cells_of_octets,
-  length-cells_of_octets,
-  cells_of_octets-first_octets,
-}
+use Rattle.aes3_cell.proofs.PackedCells.{first_octets-cells_of_octets, length-cells_of_octets}
+use Rattle.aes3_cell.proofs.PackedCells.{cells_of_octets-first_octets}
 use Rattle.aes3_cell.proofs.TurnedOctets.{low_cells-turned, octet_cells-turned}
 use Rattle.aes3_level.proofs.WordCells.{low_cells-add, low_cells-mod}
 use Rattle.aes3_octets.specs.Octets.{PacksTurned, turned, turned_cells}

@@ -16,7 +16,6 @@ abbrev pub TurnedHaveCells : Type 0
 TurnedHaveCells = (octets : List ℕ) → cells_of_octets (map turned octets) ≡ flat_map turned_cells octets
 
 -- whole octets of cells, packed and then turned with the last, are packed with the first in the lowest bit: that none
--- is unused reads
--- the same either way
+-- is unused reads the same either way
 abbrev pub WholeAreTurned : Type 0
 WholeAreTurned = (c : List Level) → length c % 8 ≡ 0 → PacksTurned (map turned (packed_of c)) c

@@ -162,11 +162,11 @@ impl MarkLines {
 }
 
 impl Taker for MarkLines {
-    ghost follows = { λ k c. (k.lines ≡ []) × Scanned k.scan k.marks c };
-
-    ghost writes = { λ _. marking };
-
-    ghost finished = { λ k. Scanned k.scan k.marks };
+    ghost state = { λ k. record {
+      writes = marking;
+      follows = λ c. (k.lines ≡ []) × Scanned k.scan k.marks c;
+      finished = Scanned k.scan k.marks;
+    } };
 
     fn take_front<T: Sink>(&mut self, sink: &mut T, word: u64, len: u32) -> Result<u32, Fault> {
         let (taken, found) = self.scan.next_in(word, len);

@@ -52,25 +52,31 @@ most = 2 ^ 40
 abbrev pub promise_of : Job → Promise Counts
 promise_of (Encode o) = encoded_file o
 promise_of (Decode i) = counted_cells i (λ c. file (blocks c)) (λ c. file (decided_blocks c)) (counts_of i)
-promise_of (Normal i o) = counted_cells i (λ c. written o (normal c)) (λ c. begun_stream o (decided_blocks c))
-    (counts_of i)
-promise_of (Check i lines) = counted_cells i (λ c. report_lines lines (reports c)) (λ c. report_lines lines (decided c))
-    (counts_of i)
-promise_of (Account i lines)
-    = counted_cells i (λ c. account_lines lines (account c)) (λ c. account_lines lines (begun_account c))
+promise_of (Normal i o) =
+    counted_cells i (λ c. written o (normal c)) (λ c. begun_stream o (decided_blocks c)) (counts_of i)
+promise_of (Check i lines) =
+    counted_cells i (λ c. report_lines lines (reports c)) (λ c. report_lines lines (decided c)) (counts_of i)
+promise_of (Account i lines) =
+    counted_cells i
+    (λ c. account_lines lines (account c))
+    (λ c. account_lines lines (begun_account c))
     (account_counts i)
 promise_of (Watch i style) = counted_cells i (watch_lines style) (begun_watch style) (watch_counts i)
-promise_of (Show i) = counted_cells i (λ c. status_lines (blocks c)) (λ c. status_lines (decided_blocks c))
-    (counts_of i)
-promise_of (ShowChanges i) = counted_cells i (λ c. change_lines (blocks c)) (λ c. change_lines (decided_blocks c))
-    (counts_of i)
+promise_of (Show i) =
+    counted_cells i (λ c. status_lines (blocks c)) (λ c. status_lines (decided_blocks c)) (counts_of i)
+promise_of (ShowChanges i) =
+    counted_cells i (λ c. change_lines (blocks c)) (λ c. change_lines (decided_blocks c)) (counts_of i)
 promise_of (Scan i) = counted_cells i (λ c. mark_lines (marks c)) (λ c. mark_lines (marks c)) (scan_counts i)
 promise_of (Cut i o from count) =
-    counted_cells i (λ c. written_stream o (cut_blocks from count (blocks c)))
-    (λ c. begun_stream o (cut_blocks from count (decided_blocks c))) (counts_of i)
+    counted_cells i
+    (λ c. written_stream o (cut_blocks from count (blocks c)))
+    (λ c. begun_stream o (cut_blocks from count (decided_blocks c)))
+    (counts_of i)
 promise_of (Rewrite i o change) =
-    counted_cells i (λ c. written_stream o (rewritten_blocks change (blocks c)))
-    (λ c. begun_stream o (rewritten_blocks change (decided_blocks c))) (counts_of i)
+    counted_cells i
+    (λ c. written_stream o (rewritten_blocks change (blocks c)))
+    (λ c. begun_stream o (rewritten_blocks change (decided_blocks c)))
+    (counts_of i)
 promise_of (ToPcm i) = counted_cells i (λ c. samples (blocks c)) (λ c. samples (decided_blocks c)) (counts_of i)
 promise_of (FromPcm exact change) = sampled_file exact change
 
@@ -96,23 +102,27 @@ status_by (FromPcm exact change) n = 0
 
 -- a refusal behind which the sink was flushed: it stays what it was, or that failed
 abbrev pub Flushed : RunError → Movement → RunError → Type 0
-Flushed error sink told = (sink.new ≡ sink.old)
+Flushed error sink told =
+    (sink.new ≡ sink.old)
     × (((told ≡ error) × Quiet sink) ⊎ ((error ≢ refusal.Write) × (told ≡ refusal.Write) × Failed sink))
 
 -- how a sink moved up to its last flush, which takes no byte, where it had failed so often then
 abbrev pub before_flush : Movement → ℕ → Movement
 before_flush sink failed = record { old = sink.old; new = sink.new; failed_old = sink.failed_old; failed_new = failed }
 
+-- the line of a refusal stands among the errors, where these take it
+abbrev pub IsTold : Movement → RunError → Type 0
+IsTold errors error = Quiet errors → Grew errors.old errors.new (refusal_line error)
+
 -- what is told of a run's answer, and the exit status: nothing of one that ended well; of a refusal its line, or that
--- of `Write` where the flush behind
--- it failed
+-- of `Write` where the flush behind it failed
 abbrev pub AnswerTold : Job → Result Counts RunError → ℕ → Movement → Movement → ℕ → Type 0
-AnswerTold job (Ok counts) failed sink errors status
-    = (status ≡ status_by job counts) × (sink.failed_new ≡ failed) × Grew errors.old errors.new []
-AnswerTold job (Err error) failed sink errors status = (status ≡ 3)
-    × (((sink.failed_new ≡ failed) × (Quiet errors → Grew errors.old errors.new (refusal_line error)))
-    ⊎ ((error ≢ refusal.Write) × (sink.failed_new ≡ failed + 1)
-    × (Quiet errors → Grew errors.old errors.new (refusal_line refusal.Write))))
+AnswerTold job (Ok counts) failed sink errors status =
+    (status ≡ status_by job counts) × (sink.failed_new ≡ failed) × Grew errors.old errors.new []
+AnswerTold job (Err error) failed sink errors status =
+    (status ≡ 3)
+    × (((sink.failed_new ≡ failed) × IsTold errors error)
+    ⊎ ((error ≢ refusal.Write) × (sink.failed_new ≡ failed + 1) × IsTold errors refusal.Write))
 
 -- a job: what its run answered, how often the sink had failed then, and what is told of that
 pub record JobRan (job : Job) (ended : Bool) (source sink errors : Movement) (status : ℕ) : Type 0 where

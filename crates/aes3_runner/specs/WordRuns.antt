@@ -11,24 +11,24 @@ use Rattle.aes3_runner.specs.declared.run.Unread.{Unread}
 use Rattle.aes3_runner.specs.declared.run.Unread.TheVariants as unread
 use Rattle.aes3_arguments.specs.declared.job.LineFault.TheVariants.{Usage, Help, Refused}
 use Rattle.aes3_arguments.specs.Jobs.{HaveOctets, IsJobOf, IsFaultOf}
+use Rattle.aes3_runner.specs.JobRuns.{IsTold}
 use Rattle.aes3_runner.specs.OctetRuns.{OctetsRan}
-use Rattle.aes3_runner.specs.Lines.{refusal_line}
 use Rattle.aes3_runner.specs.Lines.{not_utf8_text}
 
 -- a line that is no job: why not is told among the errors, and help in the output
 abbrev pub FaultRan : LineFault → Movement → Movement → ℕ → Type 0
-FaultRan (Usage text) sink errors status
-    = (status ≡ 2) × Grew sink.old sink.new [] × (Quiet errors → Grew errors.old errors.new text.bytes.items)
+FaultRan (Usage text) sink errors status =
+    (status ≡ 2) × Grew sink.old sink.new [] × (Quiet errors → Grew errors.old errors.new text.bytes.items)
 FaultRan (Help text) sink errors status =
     ((status ≡ 0) × Quiet sink × Grew sink.old sink.new text.bytes.items)
-    ⊎ ((status ≡ 3) × Failed sink × (Quiet errors → Grew errors.old errors.new (refusal_line Write)))
-FaultRan (Refused error) sink errors status
-    = (status ≡ 3) × Grew sink.old sink.new [] × (Quiet errors → Grew errors.old errors.new (refusal_line error))
+    ⊎ ((status ≡ 3) × Failed sink × IsTold errors Write)
+FaultRan (Refused error) sink errors status =
+    (status ≡ 3) × Grew sink.old sink.new [] × IsTold errors error
 
 -- a line that asks for a job, which is run; or for none, which is told and nothing is read
 abbrev pub LineRan : Result CommandLine LineFault → Bool → Movement → Movement → Movement → ℕ → Type 0
-LineRan (Ok line) ended source sink errors status
-    = OctetsRan line.octets.raw_in line.job ended source sink errors status
+LineRan (Ok line) ended source sink errors status =
+    OctetsRan line.octets.raw_in line.job ended source sink errors status
 LineRan (Err fault) ended source sink errors status =
     Grew source.old source.new [] × Quiet source × FaultRan fault sink errors status
 
@@ -48,11 +48,10 @@ pub record FaultOfWords (words : List (List ℕ)) (source sink errors : Movement
   pub ran : FaultRan fault sink errors status
 
 abbrev pub WordsRan : List (List ℕ) → Bool → Movement → Movement → Movement → ℕ → Type 0
-WordsRan words ended source sink errors status
-    = JobOfWords words ended source sink errors status ⊎ FaultOfWords words source sink errors status
+WordsRan words ended source sink errors status =
+    JobOfWords words ended source sink errors status ⊎ FaultOfWords words source sink errors status
 
 -- words that could not be read: what is told of that
 abbrev pub UnreadTold : Unread → Movement → ℕ → Type 0
 UnreadTold unread.NotUtf8 errors status = (status ≡ 2) × (Quiet errors → Grew errors.old errors.new not_utf8_text)
-UnreadTold unread.Memory errors status
-    = (status ≡ 3) × (Quiet errors → Grew errors.old errors.new (refusal_line Memory))
+UnreadTold unread.Memory errors status = (status ≡ 3) × IsTold errors Memory

@@ -32,11 +32,11 @@ impl<R: Reporter> Locked<R> {
 }
 
 impl<R: Reporter> Taker for Locked<R> {
-    ghost follows = { λ k c. Follows k.lock c × R.follows k.reporter (decided c) };
-
-    ghost writes = { λ k. reporting (R.writes k.reporter) };
-
-    ghost finished = { λ k c. R.finished k.reporter (reports c) };
+    ghost state = { λ k. record {
+      writes = reporting (R.writes k.reporter);
+      follows = λ c. Follows k.lock c × R.follows k.reporter (decided c);
+      finished = λ c. R.finished k.reporter (reports c);
+    } };
 
     fn take_front<T: Sink>(&mut self, sink: &mut T, word: u64, len: u32) -> Result<u32, Fault> {
         let pushed = self.lock.push_front(word, len);

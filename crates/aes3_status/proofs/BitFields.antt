@@ -1,24 +1,6 @@
 -- The number of a field's bits, from the bytes that hold them.
-use Rattle.std.proofs.Common.{
-  ◌≡◌,
-  ℕ,
-  zero,
-  suc,
-  ◌+◌,
-  ◌-◌,
-  ◌*◌,
-  ◌/◌,
-  ◌%◌,
-  ◌^◌,
-  ◌<◌,
-  ◌≤◌,
-  Bool,
-  false,
-  List,
-  [],
-  ◌∷◌,
-  ◌++◌,
-}
+use Rattle.std.proofs.Common.{◌≡◌, ℕ, zero, suc, ◌+◌, ◌-◌, ◌*◌, ◌/◌, ◌%◌, ◌^◌, ◌<◌, ◌≤◌, Bool, false, List, [], ◌∷◌}
+use Rattle.std.proofs.Common.{◌++◌}
 use Rattle.std.proofs.Common.{length, take, drop, get_or, eqb, refl, ap, ap₂, ◌∙◌, sym, arith}
 use Rattle.std.specs.Prelude.{bit_and}
 use Rattle.std.proofs.Math.Pow.{pow_mono}
@@ -28,14 +10,8 @@ use Rattle.std.proofs.lemmas.List.{length-take, take_more}
 use Rattle.std.proofs.lemmas.Nat.{and_mask}
 use Rattle.std.proofs.lemmas.Nat.Bits.{ones_shr}
 use Rattle.aes3_bits.specs.Bits.{low_bits, number}
-use Rattle.aes3_bits.proofs.Bits.{
-  length-low_bits,
-  low_bits-at,
-  number-append,
-  number-low_bits,
-  number-lt,
-  number-middle,
-}
+use Rattle.aes3_bits.proofs.Bits.{length-low_bits, low_bits-at, number-append, number-low_bits, number-lt}
+use Rattle.aes3_bits.proofs.Bits.{number-middle}
 use Rattle.aes3_status.specs.Bits.{byte_bits, status_bits, field, bytes_field}
 
 pub length-byte_bits : (n : ℕ) → length (byte_bits n) ≡ 8

@@ -1,31 +1,6 @@
 -- The lines that tell changes, block by block.
-use Rattle.std.proofs.Common.{
-  ◌≡◌,
-  ℕ,
-  zero,
-  suc,
-  ◌+◌,
-  Bool,
-  true,
-  false,
-  cond,
-  not,
-  List,
-  [],
-  ◌∷◌,
-  ◌++◌,
-  Option,
-  Some,
-  None,
-  length,
-  drop,
-  get_or,
-  refl,
-  ap,
-  ap₂,
-  ◌∙◌,
-  arith,
-}
+use Rattle.std.proofs.Common.{◌≡◌, ℕ, zero, suc, ◌+◌, Bool, true, false, cond, not, List, [], ◌∷◌, ◌++◌, Option, Some}
+use Rattle.std.proofs.Common.{None, length, drop, get_or, refl, ap, ap₂, ◌∙◌, arith}
 use Rattle.std.specs.List.{flat_map, range_with_len}
 use Rattle.std.specs.Str.{bytes_eq}
 use Rattle.std.proofs.lemmas.List.{drop-drop, get_or-drop}
@@ -34,16 +9,8 @@ use Rattle.aes3_frame.specs.declared.status.Channel.TheVariants.{First, Second}
 use Rattle.aes3_frame.specs.Statuses.{status_of}
 use Rattle.aes3_runs.specs.BlockRuns.{numbered}
 use Rattle.aes3_lines.specs.StatusLines.{status_line}
-use Rattle.aes3_text.specs.Runs.{
-  block_changes,
-  change_line,
-  change_lines,
-  changes_from,
-  channel_line,
-  channel_lines,
-  status_in,
-  status_lines,
-}
+use Rattle.aes3_text.specs.Runs.{block_changes, change_line, change_lines, changes_from, channel_line, channel_lines}
+use Rattle.aes3_text.specs.Runs.{status_in, status_lines}
 use Rattle.aes3_text.specs.ChangeLaws.{line_at, new_line_at}
 
 -- what stands at place n of a list, where the rest from there on is known

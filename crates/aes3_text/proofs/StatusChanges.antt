@@ -1,33 +1,6 @@
 -- The lines of channel status where it changes, one behind the other.
-use Rattle.std.proofs.Common.{
-  ◌≡◌,
-  ℕ,
-  suc,
-  ◌+◌,
-  List,
-  [],
-  ◌∷◌,
-  ◌++◌,
-  Bool,
-  length,
-  Option,
-  Some,
-  None,
-  refl,
-  sym,
-  ap,
-  ap₂,
-  ◌∙◌,
-  subst,
-  arith,
-  append-nil,
-  append_assoc,
-  Result,
-  Ok,
-  Err,
-  IfOk,
-  OnErr,
-}
+use Rattle.std.proofs.Common.{◌≡◌, ℕ, suc, ◌+◌, List, [], ◌∷◌, ◌++◌, Bool, length, Option, Some, None, refl, sym, ap}
+use Rattle.std.proofs.Common.{ap₂, ◌∙◌, subst, arith, append-nil, append_assoc, Result, Ok, Err, IfOk, OnErr}
 use Rattle.std.specs.List.{last_or}
 use Rattle.aes3_level.specs.declared.level.Level.{Level}
 use Rattle.aes3_cell.specs.declared.ends.Fault as device
@@ -50,17 +23,8 @@ use Rattle.aes3_runs.specs.Reporting.{reporting}
 use Rattle.aes3_runs.specs.BlockRuns.{decided_blocks}
 use Rattle.aes3_lock.specs.Tallies.{Tallies}
 use Rattle.aes3_runs.proofs.Reports.{before-reports, with-reports}
-use Rattle.aes3_text.specs.Runs.{
-  AreLast,
-  Changes,
-  block_changes,
-  change_line,
-  change_lines,
-  changes_from,
-  changing,
-  report_changes,
-  status_in,
-}
+use Rattle.aes3_text.specs.Runs.{AreLast, Changes, block_changes, change_line, change_lines, changes_from, changing}
+use Rattle.aes3_text.specs.Runs.{report_changes, status_in}
 
 last-push : (o : Option (List (List Bool))) (bs : List (List (List Bool))) (b : List (List Bool))
     → last_or o (bs ++ b ∷ []) ≡ Some b

@@ -1,47 +1,11 @@
 -- Two changed cells between two slots invert one bit of a channel status at most.
-use Rattle.std.proofs.Common.{
-  ◌≡◌,
-  ◌≢◌,
-  ℕ,
-  zero,
-  suc,
-  ◌-◌,
-  ◌/◌,
-  ◌%◌,
-  ◌==◌,
-  ◌<◌,
-  ◌⊎◌,
-  inl,
-  inr,
-  List,
-  [],
-  ◌∷◌,
-  ◌++◌,
-  Bool,
-  true,
-  false,
-  not,
-  map,
-  refl,
-  ap,
-  ap₂,
-  ◌∙◌,
-  sym,
-  subst,
-  arith,
-}
+use Rattle.std.proofs.Common.{◌≡◌, ◌≢◌, ℕ, zero, suc, ◌-◌, ◌/◌, ◌%◌, ◌==◌, ◌<◌, ◌⊎◌, inl, inr, List, [], ◌∷◌, ◌++◌}
+use Rattle.std.proofs.Common.{Bool, true, false, not, map, refl, ap, ap₂, ◌∙◌, sym, subst, arith}
 use Rattle.aes3_frame.specs.declared.status.Channel.{Channel}
 use Rattle.aes3_frame.specs.declared.status.Channel.TheVariants.{First, Second}
 use Rattle.aes3_frame.specs.Blocks.{block_len, IsBlock}
-use Rattle.aes3_frame.specs.Statuses.{
-  of_channel,
-  status_bit,
-  status_bits,
-  status_of,
-  status_len,
-  bytes_in,
-  bits_of_bytes,
-}
+use Rattle.aes3_frame.specs.Statuses.{of_channel, status_bit, status_bits, status_of, status_len, bytes_in}
+use Rattle.aes3_frame.specs.Statuses.{bits_of_bytes}
 use Rattle.aes3_block.proofs.StatusLaws.{bits-of-status, length-status_of}
 use Rattle.aes3_frame.proofs.StatusBits.{status_len_24}
 use Rattle.aes3_status.specs.declared.check.Check.TheVariants.{Good}

@@ -14,8 +14,8 @@ line_at bs channel k = channel_line channel k (get_or bs k [])
 -- whether block k is the first, or the channel has another status in it than in the block before
 abbrev pub is_new : List (List (List Bool)) → Channel → ℕ → Bool
 is_new bs channel zero = true
-is_new bs channel (suc k) = not
-    (bytes_eq (status_of (get_or bs k []) channel) (status_of (get_or bs (suc k) []) channel))
+is_new bs channel (suc k) =
+    not (bytes_eq (status_of (get_or bs k []) channel) (status_of (get_or bs (suc k) []) channel))
 
 abbrev pub new_line_at : List (List (List Bool)) → Channel → ℕ → List ℕ
 new_line_at bs channel k = if is_new bs channel k then line_at bs channel k else []

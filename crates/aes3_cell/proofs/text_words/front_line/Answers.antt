@@ -2,10 +2,8 @@ use Rattle.std.proofs.Common.{◌∙◌, sym, arith}
 use Rattle.std.proofs.lemmas.Option.{IfSome_then}
 use Rattle.aes3_cell.proofs.TextLines.{line-long, line-feed, line-cells, line-whole}
 use Rattle.aes3_cell.proofs.text_words.front_line.Goals as goal
-use Rattle.aes3_cell.proofs.text_words.front_line.Goals.{
-  then-text-lt-LINE_LEN-via-then-text-lt-LINE_LEN,
-  then-text-lt-LINE_LEN-via-else-text-lt-LINE_LEN+then-text-ne10,
-}
+use Rattle.aes3_cell.proofs.text_words.front_line.Goals.{then-text-lt-LINE_LEN-via-then-text-lt-LINE_LEN}
+use Rattle.aes3_cell.proofs.text_words.front_line.Goals.{then-text-lt-LINE_LEN-via-else-text-lt-LINE_LEN+then-text-ne10}
 
 pub returns-then-text-lt-LINE_LEN-clause-owed : goal.returns-then-text-lt-LINE_LEN-clause-owed
 returns-then-text-lt-LINE_LEN-clause-owed c = λ w h e.

@@ -1,5 +1,4 @@
 use Rattle.std.proofs.Common.{arith, ap, sym, ◌∙◌, refl, Ok}
-use Rattle.aes3_engine.specs.Encoding.{Encodes}
 use Rattle.aes3_engine.proofs.EncodingLemmas.{byte-none, byte-block, byte-front, byte-refused, encodes-seen, few-blocks}
 use Rattle.aes3_engine.proofs.encoding.take_byte.Goals as goal
 
@@ -43,7 +42,7 @@ returns-in-Err-put_cells g c = (
 
 pub returns-in-Err : goal.returns-in-Err
 returns-in-Err g c =
-    byte-refused c.args.encoder.now.output c.args.file.now c.args.encoder.now.blocks
-    (Encodes c.feed_byte.new.self c.args.encoder.now.blocks) c.args.byte c.in-Err.fault c.from.result
+    byte-refused c.args.encoder.now.output c.args.file.now c.feed_byte.new.self c.args.encoder.now.blocks
+    c.args.byte c.in-Err.fault c.from.result
     (g.T.Sink.taken c.args.sink.now) (g.T.Sink.failed c.args.sink.now)
     c.from.ensures (sym c.in-Err.is ∙ c.feed_byte.ensures.answer)

@@ -2,8 +2,8 @@ use Rattle.std.proofs.Common.{◌∷◌, [], take, drop, get_or, arith, sym, ref
 use Rattle.std.proofs.lemmas.List.{take_more}
 use Rattle.std.proofs.Math.Seq.{drop-cons}
 use Rattle.aes3_input.proofs.Feeding.{fed-is, fed-join, ran-join}
-use Rattle.aes3_engine.specs.Encoding.{encoding, Encodes}
-use Rattle.aes3_engine.proofs.EncodingLemmas.{Blocks, bytes-quiet, encodes-seen}
+use Rattle.aes3_engine.specs.Encoding.{encoding_state, Encodes}
+use Rattle.aes3_engine.proofs.EncodingLemmas.{bytes-quiet, encodes-seen}
 use Rattle.aes3_engine.proofs.encoding.take_few.Goals as goal
 
 pub feed_front-requires : goal.feed_front-requires
@@ -22,8 +22,11 @@ pub returns-in-Err : goal.returns-in-Err
 returns-in-Err g c =
     let xs = c.args.piece.now in
     let k = c.requires.some in
-    ran-join (encoding c.take_byte.new.encoder.output) (Encodes c.take_byte.new.file c.take_byte.new.encoder.blocks)
-    (Blocks c.take_byte.new.encoder.blocks)
+    let encoder = c.args.encoder.now in
+    let new = c.take_byte.new in
+    ran-join (encoding_state encoder.output c.args.file.now encoder.blocks)
+    (encoding_state encoder.output c.feed_front.new.file encoder.blocks)
+    (encoding_state new.encoder.output new.file new.encoder.blocks)
     (g.T.Sink.taken c.take_byte.new.sink) (g.T.Sink.failed c.take_byte.new.sink)
     (get_or xs 0 0 ∷ []) (drop 1 xs) xs c.in-Err.error
     (bytes-quiet c.args.encoder.now.output c.args.file.now c.feed_front.new.file [] (g.T.Sink.taken c.args.sink.now)

@@ -18,15 +18,15 @@ pieces-init g c = record {
 pub returns-in-Err-clause-run : goal.returns-in-Err-clause-run
 returns-in-Err-clause-run g c =
     let v = c.pieces.invariant in
-    ran-read c.args.max_bytes _ _ _ (g.S.Source.has_ended c.read_piece.new.source) _ _ _ _ _
+    ran-read c.args.max_bytes (g.I.Input.state c.args.input.now c.args.taker.now)
+    (g.I.Input.state c.pieces.input c.pieces.taker) _ (g.S.Source.has_ended c.read_piece.new.source) _ _ _ _ _
     v.upto c.requires.start v.short v.quiet_source v.quiet_sink c.in-Err.ensures.err.0 c.in-Err.ensures.err.1
 
 pub returns-in-Ok-finish-clause-run : goal.returns-in-Ok-finish-clause-run
 returns-in-Ok-finish-clause-run g c =
     let v = c.pieces.invariant in
-    ran-end c.args.max_bytes (g.I.Input.follows c.finish.new.input c.finish.new.taker)
-    (g.I.Input.stopped c.finish.new.input c.finish.new.taker)
-    (g.I.Input.finished c.finish.new.input c.finish.new.taker) _ _ _ _ _ _ _
+    ran-end c.args.max_bytes (g.I.Input.state c.args.input.now c.args.taker.now)
+    (g.I.Input.state c.pieces.input c.pieces.taker) (g.I.Input.state c.finish.new.input c.finish.new.taker) _ _ _ _ _ _ _
     v.upto c.requires.start v.short (c.in-Ok.ensures.count ∙ v.quiet_source) v.quiet_sink
     (grew-is (ap (λ z. take z c.read_piece.new.piece) c.if-n-eq0.true) c.in-Ok.ensures.bytes)
     (c.in-Ok.ensures.end.0 c.if-n-eq0.true) c.in-Ok-finish.ensures.ran
@@ -34,9 +34,8 @@ returns-in-Ok-finish-clause-run g c =
 pub returns-in-Err-finish-clause-run : goal.returns-in-Err-finish-clause-run
 returns-in-Err-finish-clause-run g c =
     let v = c.pieces.invariant in
-    ran-end_err c.args.max_bytes (g.I.Input.follows c.finish.new.input c.finish.new.taker)
-    (g.I.Input.stopped c.finish.new.input c.finish.new.taker)
-    (g.I.Input.finished c.finish.new.input c.finish.new.taker) _ _ _ _ _ _ _ c.in-Err-finish.error
+    ran-end_err c.args.max_bytes (g.I.Input.state c.args.input.now c.args.taker.now)
+    (g.I.Input.state c.pieces.input c.pieces.taker) (g.I.Input.state c.finish.new.input c.finish.new.taker) _ _ _ _ _ _ _ c.in-Err-finish.error
     v.upto c.requires.start v.short (c.in-Ok.ensures.count ∙ v.quiet_source) v.quiet_sink
     (grew-is (ap (λ z. take z c.read_piece.new.piece) c.if-n-eq0.true) c.in-Ok.ensures.bytes)
     (c.in-Ok.ensures.end.0 c.if-n-eq0.true) c.in-Err-finish.ensures.ran
@@ -45,9 +44,8 @@ pub returns-in-Err-feed-clause-run : goal.returns-in-Err-feed-clause-run
 returns-in-Err-feed-clause-run g c =
     let v = c.pieces.invariant in
     let room = c.args.max_bytes + 1 - c.pieces.seen in
-    ran-piece c.args.max_bytes (g.I.Input.reads c.feed.new.input c.feed.new.taker)
-    (g.I.Input.follows c.feed.new.input c.feed.new.taker) (g.I.Input.stopped c.feed.new.input c.feed.new.taker)
-    (g.I.Input.finished c.feed.new.input c.feed.new.taker) _ _ _ _ _ _ _
+    ran-piece c.args.max_bytes (g.I.Input.state c.args.input.now c.args.taker.now)
+    (g.I.Input.state c.pieces.input c.pieces.taker) (g.I.Input.state c.feed.new.input c.feed.new.taker) _ _ _ _ _ _ _
     c.in-Ok.n c.allowed_of-allowed.result room c.read_piece.new.piece c.in-Err-feed.error
     v.upto c.requires.start v.short (c.in-Ok.ensures.count ∙ v.quiet_source) v.quiet_sink
     c.in-Ok.ensures.bytes refl c.in-Ok.ensures.bound.1 c.in-Ok.ensures.bound.0 c.allowed_of-allowed.ensures.last
@@ -57,8 +55,8 @@ pub returns-then-seen-max_bytes-clause-run : goal.returns-then-seen-max_bytes-cl
 returns-then-seen-max_bytes-clause-run g c =
     let v = c.pieces.invariant in
     let room = c.args.max_bytes + 1 - c.pieces.seen in
-    ran-long c.args.max_bytes (g.I.Input.stopped c.feed.new.input c.feed.new.taker)
-    (g.I.Input.finished c.feed.new.input c.feed.new.taker) (g.S.Source.has_ended c.read_piece.new.source) _ _ _ _ _
+    ran-long c.args.max_bytes (g.I.Input.state c.args.input.now c.args.taker.now)
+    (g.I.Input.state c.pieces.input c.pieces.taker) (g.I.Input.state c.feed.new.input c.feed.new.taker) (g.S.Source.has_ended c.read_piece.new.source) _ _ _ _ _
     c.in-Ok.n c.allowed_of-allowed.result room c.read_piece.new.piece
     v.upto c.requires.start v.short (c.in-Ok.ensures.count ∙ v.quiet_source) v.quiet_sink c.in-Ok-feed.ensures.ran.1
     c.in-Ok.ensures.bytes refl c.in-Ok.ensures.bound.1 c.in-Ok.ensures.bound.0 c.allowed_of-allowed.ensures.last

@@ -4,8 +4,8 @@ use Rattle.aes3_input.proofs.conversion.convert.Given as goal
 
 abbrev pub invariant-pieces : goal.invariant-pieces
 invariant-pieces g l = record {
-  upto : Upto (g.I.Input.reads l.fn.input l.fn.taker) (g.I.Input.reads l.input l.taker)
-      (g.I.Input.follows l.fn.input l.fn.taker) (g.I.Input.follows l.input l.taker)
+  upto : Upto (g.I.Input.state l.fn.input l.fn.taker).reads (g.I.Input.state l.input l.taker).reads
+      (g.I.Input.state l.fn.input l.fn.taker).follows (g.I.Input.state l.input l.taker).follows
       (g.S.Source.given l.fn.source) (g.S.Source.given l.source) (g.T.Sink.taken l.fn.sink) (g.T.Sink.taken l.sink)
       l.seen;
   short : l.seen ≤ l.max_bytes;

@@ -1,22 +1,5 @@
-use Rattle.std.proofs.Common.{
-  ◌≡◌,
-  ◌+◌,
-  ◌-◌,
-  ◌^◌,
-  ◌≤◌,
-  ◌++◌,
-  [],
-  length,
-  take,
-  drop,
-  arith,
-  ap,
-  ◌∙◌,
-  refl,
-  append-nil,
-  length-append,
-  length-drop,
-}
+use Rattle.std.proofs.Common.{◌≡◌, ◌+◌, ◌-◌, ◌^◌, ◌≤◌, ◌++◌, [], length, take, drop, arith, ap, ◌∙◌, refl, append-nil}
+use Rattle.std.proofs.Common.{length-append, length-drop}
 use Rattle.std.proofs.lemmas.List.{length-take-le, take-append-drop, take_rest}
 use Rattle.aes3_input.proofs.Feeding.{fed-none, fed-front, ran-join}
 use Rattle.aes3_input.proofs.conversion.feed_fronts.Goals as goal
@@ -54,9 +37,8 @@ returns-in-Err g c =
     let xs = c.args.piece.now in
     let at = c.loop-at.at in
     let rest = take (length xs - at) (drop at xs) in
-    ran-join (g.I.Input.reads c.take_front.new.self c.take_front.new.taker)
-    (g.I.Input.follows c.take_front.new.self c.take_front.new.taker)
-    (g.I.Input.stopped c.take_front.new.self c.take_front.new.taker)
+    ran-join (g.I.Input.state c.args.input.now c.args.taker.now) (g.I.Input.state c.loop-at.input c.loop-at.taker)
+    (g.I.Input.state c.take_front.new.self c.take_front.new.taker)
     (g.T.Sink.taken c.take_front.new.sink) (g.T.Sink.failed c.take_front.new.sink)
     rest [] xs c.in-Err.error c.loop-at.invariant.fed c.loop-at.invariant.quiet
     (ap (λ v. take at xs ++ v) (append-nil rest ∙ take_rest xs at) ∙ take-append-drop at xs) c.in-Err.ensures

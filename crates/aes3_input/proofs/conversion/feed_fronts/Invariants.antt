@@ -5,8 +5,8 @@ use Rattle.aes3_input.proofs.conversion.feed_fronts.Given as goal
 abbrev pub invariant-loop-at : goal.invariant-loop-at
 invariant-loop-at g l = record {
   within : l.at ≤ length l.piece;
-  fed : Fed (g.I.Input.reads l.fn.input l.fn.taker) (g.I.Input.reads l.input l.taker)
-      (g.I.Input.follows l.fn.input l.fn.taker) (g.I.Input.follows l.input l.taker)
+  fed : Fed (g.I.Input.state l.fn.input l.fn.taker).reads (g.I.Input.state l.input l.taker).reads
+      (g.I.Input.state l.fn.input l.fn.taker).follows (g.I.Input.state l.input l.taker).follows
       (g.T.Sink.taken l.fn.sink) (g.T.Sink.taken l.sink) (take l.at l.piece);
   quiet : g.T.Sink.failed l.sink ≡ g.T.Sink.failed l.fn.sink;
 }

@@ -11,14 +11,12 @@ returns g c =
     let w = c.word_of_octet.result in
     let n = c.args.used in
     let e : n + (8 - n) ≡ 8 = (let h = c.requires.few in omega arith) in
-    cells-ran-is (g.K.Taker.writes c.args.taker.now) (g.K.Taker.writes c.cells.new.self)
-    (g.K.Taker.follows c.args.taker.now) (g.K.Taker.follows c.cells.new.self)
+    cells-ran-is (g.K.Taker.state c.args.taker.now) (g.K.Taker.state c.cells.new.self)
     (low_cells c.from.result w) (octet_front n c.args.octet)
     (record {
       old = g.T.Sink.taken c.args.sink.now;
       new = g.T.Sink.taken c.cells.new.sink;
-      failed_old
-          = g.T.Sink.failed c.args.sink.now;
+      failed_old = g.T.Sink.failed c.args.sink.now;
       failed_new = g.T.Sink.failed c.cells.new.sink;
     }) c.cells.result
     (ap (λ k. low_cells k w) c.from.ensures ∙ sym (take-low_cells n (8 - n) w) ∙ ap (λ k. take n (low_cells k w)) e

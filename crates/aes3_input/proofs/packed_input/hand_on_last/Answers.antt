@@ -16,15 +16,12 @@ finish-requires-clause-following g c =
 
 pub returns-in-Ok : goal.returns-in-Ok
 returns-in-Ok g c =
-    let r = c.in-Ok.ensures in
-    ended (g.K.Taker.writes c.args.taker.now) (g.K.Taker.writes c.hand_on.new.taker)
-    (g.K.Taker.follows c.args.taker.now) (g.K.Taker.follows c.hand_on.new.taker)
-    (g.K.Taker.finished c.finish.new.self)
+    ended (g.K.Taker.state c.args.taker.now) (g.K.Taker.state c.hand_on.new.taker) (g.K.Taker.state c.finish.new.self)
     (octet_front c.args.used c.args.octet) (g.T.Sink.taken c.args.sink.now) (g.T.Sink.taken c.hand_on.new.sink)
     (g.T.Sink.taken c.finish.new.sink)
     (g.T.Sink.failed c.args.sink.now) (g.T.Sink.failed c.hand_on.new.sink) (g.T.Sink.failed c.finish.new.sink)
     c.finish.result
-    r.0 r.1 r.2 r.3 c.finish.ensures.done c.finish.ensures.grew c.finish.ensures.count c.finish.ensures.err_count
+    c.in-Ok.ensures c.finish.ensures.done c.finish.ensures.grew c.finish.ensures.count c.finish.ensures.err_count
     c.finish.ensures.err_grew
 
 pub returns-in-Err : goal.returns-in-Err

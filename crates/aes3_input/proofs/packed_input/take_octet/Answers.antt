@@ -23,7 +23,7 @@ overflow_add-input g c =
 
 pub returns-in-None : goal.returns-in-None
 returns-in-None g c = (
-  octet-none (g.K.Taker.writes c.args.taker.now) (g.K.Taker.follows c.args.taker.now)
+  octet-none (g.K.Taker.state c.args.taker.now).writes (g.K.Taker.state c.args.taker.now).follows
       c.args.input.now.packed c.feed_byte.new.self c.args.input.now.cells c.args.octet
       (g.T.Sink.taken c.args.sink.now) (sym c.in-None.is ∙ c.feed_byte.ensures.answer) c.feed_byte.ensures.next,
   refl,
@@ -32,8 +32,8 @@ returns-in-None g c = (
 pub returns-in-Ok : goal.returns-in-Ok
 returns-in-Ok g c =
     let r = c.in-Ok.ensures in (
-      octet-whole (g.K.Taker.writes c.args.taker.now) (g.K.Taker.writes c.hand_on.new.taker)
-          (g.K.Taker.follows c.args.taker.now) (g.K.Taker.follows c.hand_on.new.taker)
+      octet-whole (g.K.Taker.state c.args.taker.now).writes (g.K.Taker.state c.hand_on.new.taker).writes
+          (g.K.Taker.state c.args.taker.now).follows (g.K.Taker.state c.hand_on.new.taker).follows
           c.args.input.now.packed c.feed_byte.new.self c.args.input.now.cells c.args.octet c.in-Some.whole
           (g.T.Sink.taken c.args.sink.now) (g.T.Sink.taken c.hand_on.new.sink)
           (sym c.in-Some.is ∙ c.feed_byte.ensures.answer) c.feed_byte.ensures.next r.0 r.1 r.2,
@@ -44,7 +44,7 @@ pub returns-in-Err : goal.returns-in-Err
 returns-in-Err g c =
     let r = c.in-Err.ensures in (
       r.0,
-      octet-front (g.K.Taker.writes c.args.taker.now) (g.K.Taker.follows c.args.taker.now)
+      octet-front (g.K.Taker.state c.args.taker.now).writes (g.K.Taker.state c.args.taker.now).follows
           c.args.input.now.packed c.args.input.now.cells c.args.octet c.in-Some.whole
           (g.T.Sink.taken c.args.sink.now) (g.T.Sink.taken c.hand_on.new.sink)
           (sym c.in-Some.is ∙ c.feed_byte.ensures.answer) r.1,

@@ -21,13 +21,11 @@ cells-requires-clause-following g c =
 
 pub returns-in-Ok : goal.returns-in-Ok
 returns-in-Ok g c =
-    let wr = g.K.Taker.writes in
-    let fo = g.K.Taker.follows in
+    let st = g.K.Taker.state in
     let ta = g.T.Sink.taken in
     let fa = g.T.Sink.failed in
     record {
-      ran = cells-ran-behind (wr c.args.taker.now) (wr c.words.new.self) (wr c.cells.new.self) (fo c.args.taker.now)
-          (fo c.words.new.self) (fo c.cells.new.self)
+      ran = cells-ran-behind (st c.args.taker.now) (st c.words.new.self) (st c.cells.new.self)
           (flat_map word_cells c.args.words.now) (low_cells c.args.len c.args.word) (ta c.args.sink.now)
           (ta c.words.new.sink) (ta c.cells.new.sink)
           (fa c.args.sink.now) (fa c.words.new.sink) (fa c.cells.new.sink)
@@ -40,7 +38,7 @@ returns-in-Err g c =
     record {
       ran = (
         r.0,
-        front-of-more (g.K.Taker.writes c.args.taker.now) (g.K.Taker.follows c.args.taker.now)
+        front-of-more (g.K.Taker.state c.args.taker.now).writes (g.K.Taker.state c.args.taker.now).follows
             (g.T.Sink.taken c.args.sink.now) (g.T.Sink.taken c.words.new.sink)
             (flat_map word_cells c.args.words.now) (low_cells c.args.len c.args.word) r.1,
       );

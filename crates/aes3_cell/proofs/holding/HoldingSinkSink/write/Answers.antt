@@ -1,23 +1,5 @@
-use Rattle.std.proofs.Common.{
-  ◌≡◌,
-  ◌≤◌,
-  ◌∙◌,
-  ℕ,
-  List,
-  ◌++◌,
-  Some,
-  Result,
-  Ok,
-  Err,
-  IfOk,
-  OnErr,
-  length,
-  take,
-  refl,
-  ap,
-  arith,
-  length-append,
-}
+use Rattle.std.proofs.Common.{◌≡◌, ◌≤◌, ◌∙◌, ℕ, List, ◌++◌, Some, Result, Ok, Err, IfOk, OnErr, length, take, refl, ap}
+use Rattle.std.proofs.Common.{arith, length-append}
 use Rattle.std.proofs.lemmas.List.{take-append-le}
 use Rattle.aes3_cell.specs.Ends.{Grew}
 use Rattle.aes3_cell.proofs.holding.HoldingSinkSink.write.Goals as goal

@@ -4,14 +4,8 @@ use Rattle.aes3_cell.specs.Pending.{begun_after}
 use Rattle.aes3_cell.specs.PackedPending.{octets_added}
 use Rattle.aes3_cell.proofs.Growing.{grew-none, grew-is}
 use Rattle.aes3_cell.proofs.Writing.{wrote-is, ok-always}
-use Rattle.aes3_cell.proofs.PackedWords.{
-  high_cells,
-  length-high_cells,
-  packed-short,
-  packed-begun,
-  packed-full,
-  packed-done,
-}
+use Rattle.aes3_cell.proofs.PackedWords.{high_cells, length-high_cells, packed-short, packed-begun, packed-full}
+use Rattle.aes3_cell.proofs.PackedWords.{packed-done}
 use Rattle.aes3_cell.proofs.packed_out.PackedOut.put.Goals as goal
 
 pub returns-then-self-lt-WORD_LEN-clause-wrote : goal.returns-then-self-lt-WORD_LEN-clause-wrote

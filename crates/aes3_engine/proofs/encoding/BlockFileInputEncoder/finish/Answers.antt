@@ -1,5 +1,4 @@
 use Rattle.std.proofs.Common.{sym, ◌∙◌}
-use Rattle.aes3_engine.specs.Encoding.{Encodes}
 use Rattle.aes3_engine.proofs.EncodingLemmas.{end-clean, end-front, end-refused}
 use Rattle.aes3_engine.proofs.encoding.BlockFileInputEncoder.finish.Goals as goal
 
@@ -12,9 +11,8 @@ returns-in-Ok-put_ending g c = (
 
 pub returns-in-Err : goal.returns-in-Err
 returns-in-Err g c =
-    end-refused c.args.encoder.now.output c.args.self.now c.args.encoder.now.blocks
-    (Encodes c.args.self.now c.args.encoder.now.blocks) c.in-Err.fault c.from.result (g.T.Sink.taken c.args.sink.now)
-    (g.T.Sink.failed c.args.sink.now)
+    end-refused c.args.encoder.now.output c.args.self.now c.args.self.now c.args.encoder.now.blocks
+    c.in-Err.fault c.from.result (g.T.Sink.taken c.args.sink.now) (g.T.Sink.failed c.args.sink.now)
     c.from.ensures (sym c.in-Err.is ∙ c.end.ensures)
 
 pub returns-in-Err-put_ending : goal.returns-in-Err-put_ending

@@ -1,8 +1,8 @@
 use Rattle.std.proofs.Common.{◌≤◌, ◌+◌, ◌^◌, ℕ, List, length, take, drop, arith, sym, subst, take-append-drop}
 use Rattle.aes3_block.specs.Readers.{FileReader}
 use Rattle.aes3_input.specs.Running.{FrontRan, movement_of}
-use Rattle.aes3_engine.specs.Encoding.{encoding, Encodes}
-use Rattle.aes3_engine.proofs.EncodingLemmas.{Blocks, block-fed, block-front, encodes-seen, few-blocks}
+use Rattle.aes3_engine.specs.Encoding.{encoding_state, Encodes}
+use Rattle.aes3_engine.proofs.EncodingLemmas.{block-fed, block-front, encodes-seen, few-blocks}
 use Rattle.aes3_engine.proofs.encoding.BlockFileInputEncoder.take_front.Goals as goal
 
 pub feed_block-requires : goal.feed_block-requires
@@ -44,7 +44,6 @@ take_few-requires-clause-following g c =
 pub returns-in-None : goal.returns-in-None
 returns-in-None g c =
     let n = c.take_few.new in
-    subst (λ (f : FileReader). FrontRan (encoding c.args.encoder.now.output) (encoding n.encoder.output)
-    (Encodes f c.args.encoder.now.blocks) (Encodes n.file n.encoder.blocks) (Blocks n.encoder.blocks)
-    c.args.piece.now (movement_of g.T.Sink.taken g.T.Sink.failed c.args.sink.now n.sink) c.take_few.result)
+    subst (λ (f : FileReader). FrontRan (encoding_state c.args.encoder.now.output f c.args.encoder.now.blocks)
+    (encoding_state n.encoder.output n.file n.encoder.blocks) c.args.piece.now (movement_of g.T.Sink.taken g.T.Sink.failed c.args.sink.now n.sink) c.take_few.result)
     (c.feed_block.ensures.left c.in-None.is) c.take_few.ensures

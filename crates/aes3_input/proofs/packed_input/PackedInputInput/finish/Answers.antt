@@ -24,8 +24,8 @@ overflow_add-self g c =
 pub returns-in-Ok-hand_on_last : goal.returns-in-Ok-hand_on_last
 returns-in-Ok-hand_on_last g c =
     let r = c.in-Ok-hand_on_last.ensures in (
-      last-ok (g.K.Taker.writes c.args.taker.now) (g.K.Taker.follows c.args.taker.now)
-          (g.K.Taker.finished c.hand_on_last.new.taker)
+      last-ok (g.K.Taker.state c.args.taker.now).writes (g.K.Taker.state c.args.taker.now).follows
+          (g.K.Taker.state c.hand_on_last.new.taker).finished
           c.args.self.now.packed c.args.self.now.cells c.in-Ok.last c.unwrap_or-octet.result c.from.result
           (g.T.Sink.taken c.args.sink.now) (g.T.Sink.taken c.hand_on_last.new.sink)
           (sym c.in-Ok.is ∙ c.end.ensures.answer) c.unwrap_or-octet.ensures c.from.ensures r.0,
@@ -35,7 +35,7 @@ returns-in-Ok-hand_on_last g c =
 pub returns-in-Err-hand_on_last : goal.returns-in-Err-hand_on_last
 returns-in-Err-hand_on_last g c =
     let r = c.in-Err-hand_on_last.ensures in (
-      last-front (g.K.Taker.writes c.args.taker.now) (g.K.Taker.follows c.args.taker.now)
+      last-front (g.K.Taker.state c.args.taker.now).writes (g.K.Taker.state c.args.taker.now).follows
           c.args.self.now.packed c.args.self.now.cells c.in-Ok.last c.unwrap_or-octet.result
           (g.T.Sink.taken c.args.sink.now) (g.T.Sink.taken c.hand_on_last.new.sink)
           (sym c.in-Ok.is ∙ c.end.ensures.answer) c.unwrap_or-octet.ensures r.1,
@@ -44,7 +44,7 @@ returns-in-Err-hand_on_last g c =
 
 pub returns-in-Err : goal.returns-in-Err
 returns-in-Err g c = (
-  last-bad (g.K.Taker.writes c.args.taker.now) (g.K.Taker.follows c.args.taker.now)
+  last-bad (g.K.Taker.state c.args.taker.now).writes (g.K.Taker.state c.args.taker.now).follows
       c.args.self.now.packed c.args.self.now.cells c.in-Err.fault (g.T.Sink.taken c.args.sink.now)
       (sym c.in-Err.is ∙ c.end.ensures.answer),
   refl,

@@ -42,8 +42,8 @@ returns-in-Ok g c =
     (let e = q.len in let f = q.few in omega arith) in (
       (let z = c.if-count-eq0.false in omega arith),
       q.within,
-      octets-front (g.K.Taker.writes c.args.taker.now) (g.K.Taker.writes c.words.new.self)
-          (g.K.Taker.follows c.args.taker.now) (g.K.Taker.follows c.words.new.self)
+      octets-front (g.K.Taker.state c.args.taker.now).writes (g.K.Taker.state c.words.new.self).writes
+          (g.K.Taker.state c.args.taker.now).follows (g.K.Taker.state c.words.new.self).follows
           c.args.self.now.packed c.feed_words-count.new.packed c.args.self.now.cells (64 * n)
           (take (8 * n) c.args.piece.now) (flat_map word_cells ws)
           (g.T.Sink.taken c.args.sink.now) (g.T.Sink.taken c.words.new.sink) q.next q.cells
@@ -58,7 +58,7 @@ returns-in-Err g c =
     let n = c.feed_words-count.result in
     let xs = c.args.piece.now in (
       r.0,
-      octets-part (g.K.Taker.writes c.args.taker.now) (g.K.Taker.follows c.args.taker.now)
+      octets-part (g.K.Taker.state c.args.taker.now).writes (g.K.Taker.state c.args.taker.now).follows
           c.args.self.now.packed c.args.self.now.cells
           (take (8 * n) xs) (drop (8 * n) xs) xs (flat_map word_cells (take n c.feed_words-count.new.words))
           (g.T.Sink.taken c.args.sink.now) (g.T.Sink.taken c.words.new.sink) (take-append-drop (8 * n) xs) q.cells r.1,

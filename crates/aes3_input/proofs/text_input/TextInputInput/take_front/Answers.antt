@@ -1,22 +1,5 @@
-use Rattle.std.proofs.Common.{
-  ◌≡◌,
-  ◌+◌,
-  ◌*◌,
-  [],
-  ◌∷◌,
-  ◌++◌,
-  length,
-  take,
-  drop,
-  get_or,
-  arith,
-  refl,
-  ap,
-  ap₂,
-  sym,
-  ◌∙◌,
-  length-append,
-}
+use Rattle.std.proofs.Common.{◌≡◌, ◌+◌, ◌*◌, [], ◌∷◌, ◌++◌, length, take, drop, get_or, arith, refl, ap, ap₂, sym, ◌∙◌}
+use Rattle.std.proofs.Common.{length-append}
 use Rattle.std.specs.List.{flat_map}
 use Rattle.std.proofs.lemmas.List.{length-take-le, take-append-drop}
 use Rattle.std.proofs.Math.Seq.{drop-cons}
@@ -25,7 +8,7 @@ use Rattle.aes3_cell.specs.CellText.{cells_of_text}
 use Rattle.aes3_level.specs.Words.{low_cells, word_cells}
 use Rattle.aes3_cell.proofs.CellTexts.{length-cells_of_text}
 use Rattle.aes3_level.proofs.WordCells.{length-low_cells}
-use Rattle.aes3_input.specs.Forms.{text_reading, TextTaken}
+use Rattle.aes3_input.specs.Forms.{text_state}
 use Rattle.aes3_input.proofs.TextLemmas.{taken-seen, byte-bad}
 use Rattle.aes3_input.proofs.Feeding.{fed-none, ran-join}
 use Rattle.aes3_input.proofs.Handing.{length-words}
@@ -72,8 +55,8 @@ returns-in-Ok-words_and_cells g c =
     ∙ ap₂ ◌+◌ (length-words ws ∙ ap (λ k. 64 * k) m) (length-low_cells t.rest.len t.rest.word ∙ sym c.from.ensures) in (
       q.within.0,
       q.within.1,
-      text-front (g.K.Taker.writes c.args.taker.now) (g.K.Taker.writes c.words_and_cells.new.taker)
-          (g.K.Taker.follows c.args.taker.now) (g.K.Taker.follows c.words_and_cells.new.taker)
+      text-front (g.K.Taker.state c.args.taker.now).writes (g.K.Taker.state c.words_and_cells.new.taker).writes
+          (g.K.Taker.state c.args.taker.now).follows (g.K.Taker.state c.words_and_cells.new.taker).follows
           c.args.self.now.text c.fill.new.text c.args.self.now.cells (64 * t.count + c.from.result)
           (take t.bytes c.args.piece.now) (flat_map word_cells ws ++ d)
           (g.T.Sink.taken c.args.sink.now) (g.T.Sink.taken c.words_and_cells.new.sink) q.read n r.0 r.1 r.2,
@@ -84,15 +67,16 @@ pub returns-in-Err : goal.returns-in-Err
 returns-in-Err g c =
     let xs = c.args.piece.now in
     let k = c.requires.some in
-    let w = g.K.Taker.writes c.args.taker.now in
-    let f = g.K.Taker.follows c.args.taker.now in
+    let taker = g.K.Taker.state c.args.taker.now in
+    let start = text_state c.args.self.now.text c.args.self.now.cells taker in
     let t = g.T.Sink.taken c.args.sink.now in
-    ran-join (text_reading w) (TextTaken c.fill.new.text c.args.self.now.cells f) (λ b. f (cells_of_text b)) t
+    ran-join start start (text_state c.fill.new.text c.args.self.now.cells taker) t
     (g.T.Sink.failed c.args.sink.now)
     (get_or xs 0 0 ∷ []) (drop 1 xs) xs (BadCell c.in-Err.fault.at)
-    (fed-none (text_reading w) (TextTaken c.args.self.now.text c.args.self.now.cells f) t) refl
+    (fed-none start.reads start.follows t) refl
     (sym (drop-cons xs 0 0 (omega arith))) (
-      byte-bad w f c.args.self.now.text c.args.self.now.cells (get_or xs 0 0) c.in-Err.fault t c.in-Err.ensures.fault,
+      byte-bad taker.writes taker.follows c.args.self.now.text c.args.self.now.cells (get_or xs 0 0) c.in-Err.fault t
+          c.in-Err.ensures.fault,
       refl,
     )
 
@@ -103,7 +87,7 @@ returns-in-Err-words_and_cells g c =
     let t = c.in-Ok.taken in
     let xs = c.args.piece.now in (
       r.0,
-      text-part (g.K.Taker.writes c.args.taker.now) (g.K.Taker.follows c.args.taker.now)
+      text-part (g.K.Taker.state c.args.taker.now).writes (g.K.Taker.state c.args.taker.now).follows
           c.args.self.now.text c.fill.new.text c.args.self.now.cells
           (take t.bytes xs) (drop t.bytes xs) xs
           (flat_map word_cells (take t.count c.fill.new.words) ++ low_cells t.rest.len t.rest.word)
