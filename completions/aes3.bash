@@ -68,15 +68,15 @@ _aes3() {
     esac
     case ${COMP_WORDS[1]} in
         encode) _aes3_words --packed-out --help ;;
-        decode) _aes3_words --packed-in --help ;;
-        normal) _aes3_words --packed-in --packed-out --help ;;
-        check) _aes3_words --packed-in --faults --gaps --help ;;
-        watch) _aes3_words --packed-in --json --rate --help ;;
-        show) _aes3_words --packed-in --changes --help ;;
-        scan) _aes3_words --packed-in --help ;;
-        cut) _aes3_words --packed-in --packed-out --help ;;
-        rewrite) _aes3_words --packed-in --packed-out --status1 --status2 --set1 --set2 --mend-check --help ;;
-        to-pcm) _aes3_words --packed-in --help ;;
+        decode) _aes3_words --packed-in --raw-in --help ;;
+        normal) _aes3_words --packed-in --raw-in --packed-out --help ;;
+        check) _aes3_words --packed-in --raw-in --faults --gaps --help ;;
+        watch) _aes3_words --packed-in --raw-in --json --rate --help ;;
+        show) _aes3_words --packed-in --raw-in --changes --help ;;
+        scan) _aes3_words --packed-in --raw-in --help ;;
+        cut) _aes3_words --packed-in --raw-in --packed-out --help ;;
+        rewrite) _aes3_words --packed-in --raw-in --packed-out --status1 --status2 --set1 --set2 --mend-check --help ;;
+        to-pcm) _aes3_words --packed-in --raw-in --help ;;
         from-pcm) _aes3_words --status1 --status2 --set1 --set2 --mend-check --exact --help ;;
     esac
 }

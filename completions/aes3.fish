@@ -70,33 +70,41 @@ complete -c aes3 -n '__fish_seen_subcommand_from encode' -l packed-out -d 'Write
 complete -c aes3 -n '__fish_seen_subcommand_from encode' -l help -s h -d 'Print help'
 complete -c aes3 -n "__fish_seen_subcommand_from decode; and not string match -q -- '-*' (commandline -ct)" -F
 complete -c aes3 -n '__fish_seen_subcommand_from decode' -l packed-in -d 'Read packed cells, eight an octet'
+complete -c aes3 -n '__fish_seen_subcommand_from decode' -l raw-in -d 'Read packed cells with no last octet that counts'
 complete -c aes3 -n '__fish_seen_subcommand_from decode' -l help -s h -d 'Print help'
 complete -c aes3 -n "__fish_seen_subcommand_from normal; and not string match -q -- '-*' (commandline -ct)" -F
 complete -c aes3 -n '__fish_seen_subcommand_from normal' -l packed-in -d 'Read packed cells, eight an octet'
+complete -c aes3 -n '__fish_seen_subcommand_from normal' -l raw-in -d 'Read packed cells with no last octet that counts'
 complete -c aes3 -n '__fish_seen_subcommand_from normal' -l packed-out -d 'Write packed cells, eight an octet'
 complete -c aes3 -n '__fish_seen_subcommand_from normal' -l help -s h -d 'Print help'
 complete -c aes3 -n "__fish_seen_subcommand_from check; and not string match -q -- '-*' (commandline -ct)" -F
 complete -c aes3 -n '__fish_seen_subcommand_from check' -l packed-in -d 'Read packed cells, eight an octet'
+complete -c aes3 -n '__fish_seen_subcommand_from check' -l raw-in -d 'Read packed cells with no last octet that counts'
 complete -c aes3 -n '__fish_seen_subcommand_from check' -l faults -d 'Leave the whole blocks out'
 complete -c aes3 -n '__fish_seen_subcommand_from check' -l gaps -d 'Tell and count cells in no whole block'
 complete -c aes3 -n '__fish_seen_subcommand_from check' -l help -s h -d 'Print help'
 complete -c aes3 -n "__fish_seen_subcommand_from watch; and not string match -q -- '-*' (commandline -ct)" -F
 complete -c aes3 -n '__fish_seen_subcommand_from watch' -l packed-in -d 'Read packed cells, eight an octet'
+complete -c aes3 -n '__fish_seen_subcommand_from watch' -l raw-in -d 'Read packed cells with no last octet that counts'
 complete -c aes3 -n '__fish_seen_subcommand_from watch' -l json -d 'Write JSON objects in place of words'
 complete -c aes3 -n '__fish_seen_subcommand_from watch' -l rate -x -d 'Tell times, where a second has HZ frames'
 complete -c aes3 -n '__fish_seen_subcommand_from watch' -l help -s h -d 'Print help'
 complete -c aes3 -n "__fish_seen_subcommand_from show; and not string match -q -- '-*' (commandline -ct)" -F
 complete -c aes3 -n '__fish_seen_subcommand_from show' -l packed-in -d 'Read packed cells, eight an octet'
+complete -c aes3 -n '__fish_seen_subcommand_from show' -l raw-in -d 'Read packed cells with no last octet that counts'
 complete -c aes3 -n '__fish_seen_subcommand_from show' -l changes -d 'Leave out what is as in the block before'
 complete -c aes3 -n '__fish_seen_subcommand_from show' -l help -s h -d 'Print help'
 complete -c aes3 -n "__fish_seen_subcommand_from scan; and not string match -q -- '-*' (commandline -ct)" -F
 complete -c aes3 -n '__fish_seen_subcommand_from scan' -l packed-in -d 'Read packed cells, eight an octet'
+complete -c aes3 -n '__fish_seen_subcommand_from scan' -l raw-in -d 'Read packed cells with no last octet that counts'
 complete -c aes3 -n '__fish_seen_subcommand_from scan' -l help -s h -d 'Print help'
 complete -c aes3 -n '__fish_seen_subcommand_from cut' -l packed-in -d 'Read packed cells, eight an octet'
+complete -c aes3 -n '__fish_seen_subcommand_from cut' -l raw-in -d 'Read packed cells with no last octet that counts'
 complete -c aes3 -n '__fish_seen_subcommand_from cut' -l packed-out -d 'Write packed cells, eight an octet'
 complete -c aes3 -n '__fish_seen_subcommand_from cut' -l help -s h -d 'Print help'
 complete -c aes3 -n "__fish_seen_subcommand_from rewrite; and not string match -q -- '-*' (commandline -ct)" -F
 complete -c aes3 -n '__fish_seen_subcommand_from rewrite' -l packed-in -d 'Read packed cells, eight an octet'
+complete -c aes3 -n '__fish_seen_subcommand_from rewrite' -l raw-in -d 'Read packed cells with no last octet that counts'
 complete -c aes3 -n '__fish_seen_subcommand_from rewrite' -l packed-out -d 'Write packed cells, eight an octet'
 complete -c aes3 -n '__fish_seen_subcommand_from rewrite' -l status1 -x -d 'The status of channel 1, in hexadecimal'
 complete -c aes3 -n '__fish_seen_subcommand_from rewrite' -l status2 -x -d 'The status of channel 2, in hexadecimal'
@@ -106,6 +114,7 @@ complete -c aes3 -n '__fish_seen_subcommand_from rewrite' -l mend-check -d 'Writ
 complete -c aes3 -n '__fish_seen_subcommand_from rewrite' -l help -s h -d 'Print help'
 complete -c aes3 -n "__fish_seen_subcommand_from to-pcm; and not string match -q -- '-*' (commandline -ct)" -F
 complete -c aes3 -n '__fish_seen_subcommand_from to-pcm' -l packed-in -d 'Read packed cells, eight an octet'
+complete -c aes3 -n '__fish_seen_subcommand_from to-pcm' -l raw-in -d 'Read packed cells with no last octet that counts'
 complete -c aes3 -n '__fish_seen_subcommand_from to-pcm' -l help -s h -d 'Print help'
 complete -c aes3 -n "__fish_seen_subcommand_from from-pcm; and not string match -q -- '-*' (commandline -ct)" -F
 complete -c aes3 -n '__fish_seen_subcommand_from from-pcm' -l status1 -x -d 'The status of channel 1, in hexadecimal'

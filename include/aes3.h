@@ -20,6 +20,7 @@
  *
  * Stack in bytes that a call used (examples/c/stack.c, x86-64): aes3_lock_push 4,960,
  * aes3_lock_finish 4,792, aes3_lock_take_octets 3,992, aes3_lock_take_words 3,304,
+ * aes3_capture_cells 2,288,
  * aes3_block_status, aes3_block_validity and aes3_block_user 1,592, aes3_encode_block,
  * aes3_block_set_status and its kin 1,576, aes3_lock_block 1,560, each other 70 at most.
  */
@@ -264,6 +265,34 @@ enum aes3_check {
 
 /* How a professional status stands to its check byte, an aes3_check. */
 uint8_t aes3_status_check_state(const uint8_t status[24]);
+
+/* ---- Captures: the samples of a logic analyser ---- */
+
+/* What was found of a line among samples. */
+typedef struct aes3_capture {
+    uint64_t octets;   /* octets of packed cells that were put */
+    uint64_t samples;  /* samples taken */
+    uint64_t cells;    /* cells recovered of them */
+    uint64_t period;   /* how long a cell was last, in 65,536ths of a sample; 0 where no line was found */
+    uint64_t edges;    /* edges followed */
+    uint64_t greatest; /* the greatest distance of an edge from its place, in 256ths of a sample */
+    uint64_t squares;  /* the sum of the squares of these distances */
+    uint64_t dead;     /* stretches in which the line was dead */
+    uint64_t dead_at;  /* the sample at which the latest of them began */
+    uint64_t measured; /* how often the line was measured; 0 where none was found */
+} aes3_capture;
+AES3_SIZE(aes3_capture, 80);
+
+/*
+ * Recovers the cells of a line from all samples of a capture, in `count` octets: of `unit` octets a
+ * sample, 1 or 2, the lower first, of which bit `bit` is the line, 0 to 7 or 0 to 15. A cell is
+ * `period` 65,536ths of a sample; where that is 0 it is measured. Puts the cells into cells[], packed
+ * as `aes3-cells --packed-out` writes them, and what was found into *found. Answers whether they all
+ * fitted into the `room` octets; where not, a front of them stands there. A quarter of `count`, and 64
+ * octets, are room enough for any samples.
+ */
+bool aes3_capture_cells(const uint8_t *samples, size_t count, uint8_t unit, uint8_t bit, uint64_t period,
+                        uint8_t *cells, size_t room, aes3_capture *found);
 
 #undef AES3_SIZE
 

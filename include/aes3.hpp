@@ -105,6 +105,11 @@ inline std::uint32_t set_user(words &block, int channel, const status &to) {
 }
 inline bool fields(const status &of, aes3_professional &to) { return aes3_status_professional(of, &to); }
 inline bool fields(const status &of, aes3_consumer &to) { return aes3_status_consumer(of, &to); }
+// Recovers the cells of a line from all samples of a capture, packed; false where they don't fit.
+inline bool recover(span<const std::uint8_t> samples, int unit, int bit, span<std::uint8_t> to, aes3_capture &found) {
+    return aes3_capture_cells(samples.data, samples.size, static_cast<std::uint8_t>(unit), static_cast<std::uint8_t>(bit), 0,
+                              to.data, to.size, &found);
+}
 inline std::uint32_t version() { return aes3_version(); }
 inline std::uint8_t check_byte(const status &of) { return aes3_status_check_byte(of); }
 inline aes3_check check(const status &of) { return static_cast<aes3_check>(aes3_status_check_state(of)); }

@@ -59,7 +59,7 @@ fi
 if [ ! -e "$place/bin/sh" ]; then
     mkdir -p "$place"
     if ! timeout 900 mmdebstrap --quiet --variant=minbase \
-        --include=python3,python3-numpy,gcc,g++,libc6-dev,pkg-config,cmake,make,cargo,man-db,sox "$release" "$place" >"$work/said" 2>&1; then
+        --include=python3,python3-numpy,gcc,g++,libc6-dev,pkg-config,cmake,make,cargo,man-db,sox,parallel "$release" "$place" >"$work/said" 2>&1; then
         echo "left out: the packages in a root of their own (mmdebstrap makes none: $(tail -n 1 "$work/said"))"
         end
     fi
@@ -78,7 +78,8 @@ judge "the linker knows the library" inside "ldconfig -p | grep -q libaes3.so.1"
 judge "the page for a browser" cmp "$place/usr/share/doc/aes3/aes3.html" "$root/web/aes3.html"
 
 # What the pages name is in the package: each file below examples/ that a command of them has.
-grep -ohE 'examples/[a-z0-9_/.-]+\.(py|block|svg)' "$root/README.md" "$root/docs/TUTORIAL.md" "$root/examples/README.md" | sort -u >"$work/named"
+grep -ohE 'examples/[a-z]+/[a-z_.]+|examples/[a-z]+\.block' "$root/README.md" "$root/docs/TUTORIAL.md" | grep -v '^examples/own/' | sort -u >"$work/named"
+grep -ohE '`(many|watch|neighbours)/[a-z0-9_@.-]+' "$root/examples/README.md" | sed 's/^`/examples\//' | grep -v '/run$' | sort -u >>"$work/named"
 while IFS= read -r file; do
     judge "$file" test -e "$place/usr/share/doc/aes3/$file"
 done <"$work/named"
@@ -101,7 +102,7 @@ cp "$root/docs/TUTORIAL.md" "$place/walk/docs"
 cp "$root/tests/readme.sh" "$place/walk/tests"
 cp -r "$place/usr/share/doc/aes3/examples" "$place/walk/examples"
 judge "the commands of README and tutorial" inside "CELLS=/usr/bin/aes3-cells sh tests/readme.sh /usr/bin/aes3"
-grep -E '^left out: |passed' "$work/said" | sed 's/^left out: /left out, in a root of its own: /'
+grep -aE '^left out: |passed' "$work/said" | sed 's/^left out: /left out, in a root of its own: /'
 
 cp "$root"/examples/c/*.c "$root"/examples/cpp/*.cpp "$root"/examples/python/*.py "$place/walk/src"
 cp -r "$root/examples/rust" "$place/walk/rust"

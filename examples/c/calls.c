@@ -161,6 +161,41 @@ static void octets(void) {
     WANT(aes3_lock_seen(&lock) == 3);
 }
 
+/* Two blocks, four samples a cell: in bit 3 of an octet, and in bit 9 of two; then with too little room, and no line. */
+static void captures(void) {
+    enum { CELLS = 2 * AES3_BLOCK_CELLS, PACKED = CELLS / 8 + 1, SAMPLES = 4 * CELLS };
+    static uint8_t octets[2 * SAMPLES], wanted[PACKED], packed[SAMPLES];
+    static aes3_lock lock;
+    static aes3_report report;
+    aes3_capture found;
+    for (int unit = 1; unit <= 2; unit++) {
+        memset(octets, 0xA0, sizeof octets);
+        for (int i = 0; i < SAMPLES; i++) {
+            int level = (int)(cells[i / 256 % AES3_BLOCK_WORDS] >> (i / 4 % 64) & 1);
+            octets[unit * i + unit - 1] = (uint8_t)(0xA5 & ~(unit == 1 ? 8 : 2)) | (uint8_t)(level << (unit == 1 ? 3 : 1));
+        }
+        memset(packed, 0x5A, sizeof packed);
+        WANT(aes3_capture_cells(octets, (size_t)(unit * SAMPLES), (uint8_t)unit, unit == 1 ? 3 : 9, 0, packed, sizeof packed, &found));
+        /* No edge tells where the first run began: it is a cell shorter here, and all behind it is as it was. */
+        WANT(found.samples == SAMPLES && found.cells == CELLS - 1 && found.octets == PACKED && packed[PACKED - 1] == 1);
+        WANT(found.period >> 7 == 4 << 9 && found.measured == 1 && found.dead == 0 && found.greatest < 32 && found.edges > 0);
+        aes3_lock_init(&lock);
+        aes3_lock_take_octets(&lock, packed, AES3_BLOCK_CELLS / 8, 0, &report);
+        aes3_lock_take_octets(&lock, packed + AES3_BLOCK_CELLS / 8, AES3_BLOCK_CELLS / 8 - 1, 0, &report);
+        aes3_lock_push(&lock, aes3_word_of_octets(packed + PACKED - 9) >> 56, 7, &report);
+        aes3_lock_finish(&lock, &report);
+        WANT(report.kind == AES3_WHOLE && report.at == AES3_BLOCK_CELLS - 1 && memcmp(report.words, words, sizeof words) == 0);
+        WANT(packed[PACKED] == 0x5A);
+        memcpy(wanted, packed, PACKED);
+    }
+    memset(packed, 0x5A, sizeof packed);
+    WANT(!aes3_capture_cells(octets, 2 * SAMPLES, 2, 9, 0, packed, 100, &found));
+    WANT(found.octets == 100 && memcmp(packed, wanted, 100) == 0 && packed[100] == 0x5A);
+    WANT(aes3_capture_cells(octets, 2 * SAMPLES, 2, 0, 0, packed, sizeof packed, &found));
+    WANT(found.measured == 0 && found.period == 0);
+    WANT(aes3_capture_cells(octets, 0, 1, 0, 0, packed, 1, &found) && found.samples == 0 && found.cells == 0);
+}
+
 int main(void) {
     WANT(aes3_version() == AES3_VERSION_NUMBER);
     statuses();
@@ -173,6 +208,7 @@ int main(void) {
     written();
     locks();
     octets();
+    captures();
     if (!failed)
         puts("each call answers as it should");
     return failed;

@@ -152,7 +152,7 @@ static void reports(void) {
 
 int main(void) {
     WANT(sizeof(aes3_lock) == 3104 && sizeof(aes3_report) == 1560);
-    WANT(sizeof(aes3_professional) == 32 && sizeof(aes3_consumer) == 33);
+    WANT(sizeof(aes3_professional) == 32 && sizeof(aes3_consumer) == 33 && sizeof(aes3_capture) == 80);
     statuses();
     reports();
     if (!failed)

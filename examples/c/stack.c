@@ -17,7 +17,8 @@ static aes3_professional professional;
 static aes3_consumer consumer;
 static uint32_t words[AES3_BLOCK_WORDS];
 static uint64_t cells[AES3_BLOCK_WORDS], word;
-static uint8_t status[AES3_STATUS_BYTES], line[65], line_octets[8 * AES3_BLOCK_WORDS + 1];
+static aes3_capture found;
+static uint8_t status[AES3_STATUS_BYTES], line[65], line_octets[8 * AES3_BLOCK_WORDS + 1], packed[8 * AES3_BLOCK_WORDS];
 
 static void nothing(void) {}
 static void init(void) { aes3_lock_init(&lock); }
@@ -42,6 +43,7 @@ static void octets_of_word(void) { aes3_octets_of_word(word, line); }
 static void read_professional(void) { aes3_status_professional(status, &professional); }
 static void read_consumer(void) { aes3_status_consumer(status, &consumer); }
 static void check_byte(void) { status[23] = aes3_status_check_byte(status); }
+static void recover(void) { aes3_capture_cells(line_octets, sizeof line_octets, 1, 0, 0, packed, sizeof packed, &found); }
 static void version(void) { status[22] = (uint8_t)aes3_version(); }
 static void check_state(void) { status[22] = aes3_status_check_state(status); }
 
@@ -102,5 +104,9 @@ int main(void) {
     failed |= tell("aes3_status_check_byte", check_byte, 256);
     failed |= tell("aes3_status_check_state", check_state, 256);
     failed |= tell("aes3_version", version, 256);
+    for (size_t i = 0; i < sizeof line_octets; i++) /* a line of four samples a cell */
+        line_octets[i] = cells[i / 256] >> (i / 4 % 64) & 1;
+    failed |= tell("aes3_capture_cells", recover, 8192);
+    failed |= found.edges == 0;
     return failed;
 }

@@ -39,6 +39,18 @@ for name in $inputs; do
     echo $? >>$name.want
 done
 
+# Samples of the line with jitter, in an octet each and in two, and what aes3-cells makes of them.
+recover=$here/../../crates/aes3_cells/out/aes3_cells
+if [ -x "$recover" ] && command -v python3 >/dev/null; then
+    head -c 2000000 line.txt | "$here/../neighbours/samples.py" 3.90625 0.3 >capture.samples
+    python3 -c 'import sys; sys.stdout.buffer.write(b"".join(bytes([0x55, it << 3]) for it in sys.stdin.buffer.read()))' \
+        <capture.samples >wide.samples
+    "$recover" --packed-out <capture.samples >capture.want 2>/dev/null
+    "$recover" --packed-out --unit 2 --bit 11 <wide.samples >wide.want 2>/dev/null
+else
+    echo "left out: captures beside aes3-cells (bin/build aes3_cells makes it, and python3 the samples)"
+fi
+
 # A command that tells the reports of cells, on each input.
 compare() {
     for name in $inputs; do
@@ -60,7 +72,7 @@ build() { # COMPILER FLAGS..
         echo "left out: the checks of addresses and undefined behaviour by $compiler (they do not work here)"
         checks=
     }
-    for example in check encode calls layout user; do
+    for example in check encode calls layout user capture; do
         "$compiler" "$@" -O2 -Wall -Wextra -pedantic -Werror $checks -I"$here/../../include" \
             -o $example "$here/$example.c" -x none "$library" || {
             differs "$example.c, which $compiler does not compile,"
@@ -76,6 +88,15 @@ build() { # COMPILER FLAGS..
     judge "user by $compiler" cmp -s got user.bits
     judge "only user bits by $compiler" eval './user none.bits <user.block | cmp -s - "$speech"'
     compare ./check
+    for each in capture:0:1 wide:11:2; do
+        IFS=: read -r name bit unit <<WORDS
+$each
+WORDS
+        [ ! -e $name.want ] || {
+            ./capture "$bit" "$unit" <$name.samples >got 2>/dev/null
+            judge "capture by $compiler on $name" cmp -s $name.want got
+        }
+    done
     echo "built and run: $compiler $*${checks:+ $checks}"
 }
 

@@ -77,6 +77,17 @@ int main() {
         is_same &= made[i] == block[i];
     judge("take_octets", took && is_same && count == 4 && fourth.seen() == AES3_BLOCK_CELLS + 8);
 
+    // The same once more, of samples: four of each cell, in bit 2.
+    static std::uint8_t samples[4 * AES3_BLOCK_CELLS], packed[AES3_BLOCK_CELLS];
+    for (int i = 0; i < 4 * AES3_BLOCK_CELLS; i++)
+        samples[i] = static_cast<std::uint8_t>((cells[i / 256] >> (i / 4 % 64) & 1) << 2);
+    aes3_capture capture;
+    // No edge tells where the first run began: it is a cell shorter.
+    bool came = aes3::recover(samples, 1, 2, packed, capture) && capture.cells == AES3_BLOCK_CELLS - 1;
+    for (int i = 0; i < 8 * AES3_BLOCK_WORDS - 1; i++)
+        came &= packed[i] == static_cast<std::uint8_t>(octets[i] << 1 | octets[i + 1] >> 7);
+    judge("recover", came && capture.octets == 8 * AES3_BLOCK_WORDS + 1);
+
     block[7] = 1u << 28;
     judge("an unlawful word", aes3::encode(block, false, cells) == 7 && aes3::status_of(block, 2, found) == 7);
     return !is_right;

@@ -44,6 +44,17 @@ assert aes3.block_validity(changed, 1) == aes3.block_status(changed, 1) == statu
 assert aes3.block_validity(changed, 2) == bytes(24) and aes3.block_status(changed, 2) == aes3.block_status(blocks[0], 2)
 
 
+# A line in bit 2 of samples, five a cell, and in bit 9 of samples of two octets.
+bits = "".join(f"{it:08b}" for it in packed[: 2 * 24576 // 8])
+levels = [int(it) for it in bits for _ in range(5)]
+for unit, bit, octets in (1, 2, [it << 2 for it in levels]), (2, 9, [it for level in levels for it in (0, level << 1)]):
+    cells_found, figures = aes3.cells_of_samples(bytes(octets), bit, unit)
+    # No edge tells where the first run began: it is a cell shorter.
+    assert "".join(f"{it:08b}" for it in cells_found[:-1])[:-1] == bits[1:] and cells_found[-1] == 1
+    assert figures["cells"] == len(bits) - 1 and figures["period"] >> 8 == 5 << 8
+assert aes3.cells_of_samples(bytes(1000))[1]["measured"] == 0
+
+
 def is_refused(call, *words):
     try:
         call(*words)
@@ -56,7 +67,7 @@ assert is_refused(aes3.encode_block, [1] + 383 * [0]) and is_refused(aes3.encode
 assert is_refused(aes3.block_status, blocks[0], 3) and is_refused(aes3.check_byte, b"")
 assert is_refused(aes3.with_user, [1] + 383 * [0], 1, status) and is_refused(aes3.with_status, blocks[0], 1, b"")
 assert is_refused(aes3.words_of_text, "012") and is_refused(aes3.words_of_packed, b"\0\x08") and is_refused(aes3.words_of_packed, b"\1\1")
-assert is_refused(lock.push, 0, 65)
+assert is_refused(lock.push, 0, 65) and is_refused(aes3.cells_of_samples, b"", 8) and is_refused(aes3.cells_of_samples, b"", 0, 3)
 
 if aes3.numpy:
     assert str(cells.dtype) == str(aes3.encode_block(blocks[0]).dtype) == "uint64"

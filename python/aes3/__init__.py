@@ -27,6 +27,7 @@ VERSION = "0.1.0"  # of the program aes3 and of aes3.h
 
 NONE, WHOLE, MARKED, FAULT, UNFINISHED = range(5)
 WHYS = "preamble", "biphase", "unclosed"
+FOUND = "samples", "cells", "period", "edges", "greatest", "squares", "dead", "dead_at", "measured"
 
 _Words = c.c_uint32 * 384
 _Cells = c.c_uint64 * 384
@@ -56,6 +57,10 @@ class _Report(c.Structure):
                 ("kind", c.c_uint8), ("before", c.c_uint8), ("why", c.c_uint8)]
 
 
+class _Capture(c.Structure):
+    _fields_ = [(name, c.c_uint64) for name in ("octets", *FOUND)]
+
+
 def _declare(name, result, *arguments):
     function = getattr(_lib, name)
     function.restype, function.argtypes = result, arguments
@@ -79,6 +84,10 @@ _bits = {
     for sets in (False, True)
 }
 _check_byte = _declare("aes3_status_check_byte", c.c_uint8, c.POINTER(_Status))
+_capture_cells = _declare(
+    "aes3_capture_cells", c.c_bool, c.c_void_p, c.c_size_t, c.c_uint8, c.c_uint8, c.c_uint64, c.c_void_p, c.c_size_t,
+    c.POINTER(_Capture)
+)
 
 
 # ---- arrays
@@ -237,6 +246,25 @@ def _with_bits(name, words, channel, bits):
 def check_byte(status):
     """The check byte of a professional channel status of 24 bytes."""
     return _check_byte(c.byref(_status_in(status)))
+
+
+# ---- captures
+
+
+def cells_of_samples(samples, bit=0, unit=1, period=0):
+    """The packed cells of the line in a bit of samples, as `aes3-cells --packed-out` writes them, and what was found of it.
+
+    A sample has `unit` octets, 1 or 2, the lower first; a cell is `period` 65,536ths of a sample, or is measured. What was found is a
+    dict by the names of aes3.h: `measured` is 0 where no line was.
+    """
+    if unit not in (1, 2) or bit not in range(8 * unit):
+        raise ValueError("a sample has one octet and bits 0 to 7, or two and bits 0 to 15")
+    owner, at, count = _octets_in(samples)
+    room, found = (c.c_uint8 * (count // 4 + 64))(), _Capture()
+    if not _capture_cells(at, count, unit, bit, period, room, len(room), c.byref(found)):
+        raise ValueError("the cells are more than samples can have")
+    del owner
+    return bytes(memoryview(room)[: found.octets]), {name: getattr(found, name) for name in FOUND}
 
 
 # ---- the lock

@@ -3,3 +3,4 @@ pub mod States
 pub mod Professional
 pub mod Consumer
 pub mod Octets
+pub mod Room

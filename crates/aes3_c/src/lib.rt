@@ -7,6 +7,8 @@
 mod bits;
 /// Blocks: their words, bytes and cells.
 mod block;
+/// The cells of captures.
+mod capture;
 /// Words of 64 cells, and their written forms.
 mod cells;
 /// The fields of consumer channel status.
@@ -19,8 +21,12 @@ mod lock;
 mod octets;
 /// The fields of professional channel status.
 mod professional;
+/// From samples to cells.
+mod recovering;
 /// Reports as plain numbers.
 mod report;
+/// A sink over memory that is lent.
+mod room;
 /// Channel status: its use and its check byte.
 mod status;
 #[cfg(test)]

@@ -12,4 +12,4 @@ pub use levels::{Unit, levels_of};
 pub use measure::{RUNS, follower_of_runs};
 pub use queue::CellQueue;
 pub use recovery::{Figures, Recovery};
-pub use run::{Progress, Refusal, recover};
+pub use run::{Progress, Refusal, feed, recover};

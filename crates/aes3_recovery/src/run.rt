@@ -32,7 +32,10 @@ const PIECE_LEN: usize = 131_072;
 const CHUNK: usize = 64;
 
 /// Takes a piece of whole samples, 64 octets at once, and the rest.
-fn feed<T: Sink>(
+///
+/// # Errors
+/// The sink's fault.
+pub fn feed<T: Sink>(
     recovery: &mut Recovery,
     sink: &mut T,
     unit: Unit,

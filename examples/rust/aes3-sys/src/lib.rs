@@ -88,12 +88,29 @@ pub const AES3_GOOD: u8 = 0;
 pub const AES3_ABSENT: u8 = 1;
 pub const AES3_BAD: u8 = 2;
 
+/// What was found of a line among samples.
+#[repr(C)]
+#[derive(Clone, Copy, Debug, Default, PartialEq, Eq)]
+pub struct aes3_capture {
+    pub octets: u64,
+    pub samples: u64,
+    pub cells: u64,
+    pub period: u64,
+    pub edges: u64,
+    pub greatest: u64,
+    pub squares: u64,
+    pub dead: u64,
+    pub dead_at: u64,
+    pub measured: u64,
+}
+
 // The sizes that the library was built for, as aes3.h has them.
 const _: () = {
     assert!(core::mem::size_of::<aes3_lock>() == 3104);
     assert!(core::mem::size_of::<aes3_report>() == 1560);
     assert!(core::mem::size_of::<aes3_professional>() == 32);
     assert!(core::mem::size_of::<aes3_consumer>() == 33);
+    assert!(core::mem::size_of::<aes3_capture>() == 80);
 };
 
 extern "C" {
@@ -125,4 +142,14 @@ extern "C" {
     pub fn aes3_status_consumer(status: *const u8, fields: *mut aes3_consumer) -> bool;
     pub fn aes3_status_check_byte(status: *const u8) -> u8;
     pub fn aes3_status_check_state(status: *const u8) -> u8;
+    pub fn aes3_capture_cells(
+        samples: *const u8,
+        count: usize,
+        unit: u8,
+        bit: u8,
+        period: u64,
+        cells: *mut u8,
+        room: usize,
+        found: *mut aes3_capture,
+    ) -> bool;
 }

@@ -1,0 +1,51 @@
+//! The cells of captures.
+
+ghost use Rattle.std.specs.Prelude.{◌≡◌, ◌≤◌, length};
+
+use crate::recovering::recover_into;
+
+/// What was found of a line among samples.
+#[repr(C)]
+#[derive(Drop)]
+pub struct Aes3Capture {
+    /// How many octets of packed cells were put.
+    pub octets: u64,
+    /// How many samples there were, and how many cells were recovered of them.
+    pub samples: u64,
+    pub cells: u64,
+    /// How long a cell was last, in 65,536ths of a sample; 0 where no line was found.
+    pub period: u64,
+    /// How many edges were followed, the greatest distance of one from its place, and the sum of
+    /// the squares of these, in 256ths of a sample.
+    pub edges: u64,
+    pub greatest: u64,
+    pub squares: u64,
+    /// How many stretches were dead, where the latest began, in samples, and how often the line was
+    /// measured.
+    pub dead: u64,
+    pub dead_at: u64,
+    pub measured: u64,
+}
+
+// As the header has it.
+const _: () = prove!(size_of::<Aes3Capture>() == 80);
+
+const _: () = prove!(align_of::<Aes3Capture>() == 8);
+
+/// Recovers the cells of a line from all samples of a capture, of `unit` octets each, 1 or 2, the
+/// lower first, in whose bit `bit` the line is. A cell is `period` 65,536ths of a sample, or is
+/// measured where that is 0. Puts the packed cells, and what was found. Answers whether there was
+/// room for all of them; else a front of them stands there.
+#[unsafe(no_mangle)]
+pub extern "C" fn aes3_capture_cells(
+    samples: &[u8],
+    unit: u8,
+    bit: u8,
+    period: u64,
+    cells: &mut [u8],
+    found: &mut Aes3Capture,
+) -> bool
+    ensures within { found.new.octets ≤ length cells.new }
+{
+    recover_into(samples, unit, bit, period, cells, found)
+}
