@@ -155,13 +155,6 @@ Numbers options =
 -- what the proofs need to know of a command that is built
 pub record IsKnown (s : Shape) : Type 0 where
   pub sound : SoundAll s.rules s.rules
-  pub packed_in : FlagOrNone (arg_by_id s.rules (codes "packed-in"))
-  pub packed_out : FlagOrNone (arg_by_id s.rules (codes "packed-out"))
-  pub mend_check : FlagOrNone (arg_by_id s.rules (codes "mend-check"))
-  pub faults : FlagOrNone (arg_by_id s.rules (codes "faults"))
-  pub gaps : FlagOrNone (arg_by_id s.rules (codes "gaps"))
-  pub changes : FlagOrNone (arg_by_id s.rules (codes "changes"))
-  pub exact : FlagOrNone (arg_by_id s.rules (codes "exact"))
   pub numbers : (rows : List Row) → s.name ≡ codes "cut" → FitAll s.rules rows → check_fault s rows false ≡ []
       → Numbers rows
 
@@ -190,13 +183,6 @@ leaf s = built_leaf (inherited (with_leaf_noted (marked_built command_line.top))
 encode_known : IsKnown (leaf encode)
 encode_known = record {
   sound = (flag_sound _ _ (codes "true") refl refl refl refl, (help_sound _ _ refl refl, tt));
-  packed_in = tt;
-  packed_out = refl;
-  mend_check = tt;
-  faults = tt;
-  gaps = tt;
-  changes = tt;
-  exact = tt;
   numbers = λ rows name fit passed. other_name (codes "encode") refl name;
 }
 
@@ -209,13 +195,6 @@ reader_known name differs = record {
       (value_sound _ _ refl refl refl, (help_sound _ _ refl refl, tt)),
     ),
   );
-  packed_in = refl;
-  packed_out = tt;
-  mend_check = tt;
-  faults = tt;
-  gaps = tt;
-  changes = tt;
-  exact = tt;
   numbers = λ rows same fit passed. other_name name differs same;
 }
 
@@ -234,13 +213,6 @@ check_known = record {
       ),
     ),
   );
-  packed_in = refl;
-  packed_out = tt;
-  mend_check = tt;
-  faults = refl;
-  gaps = refl;
-  changes = tt;
-  exact = tt;
   numbers = λ rows name fit passed. other_name (codes "check") refl name;
 }
 
@@ -256,13 +228,6 @@ watch_known = record {
       ),
     ),
   );
-  packed_in = refl;
-  packed_out = tt;
-  mend_check = tt;
-  faults = tt;
-  gaps = tt;
-  changes = tt;
-  exact = tt;
   numbers = λ rows name fit passed. other_name (codes "watch") refl name;
 }
 
@@ -278,13 +243,6 @@ show_known = record {
       ),
     ),
   );
-  packed_in = refl;
-  packed_out = tt;
-  mend_check = tt;
-  faults = tt;
-  gaps = tt;
-  changes = refl;
-  exact = tt;
   numbers = λ rows name fit passed. other_name (codes "show") refl name;
 }
 
@@ -300,13 +258,6 @@ normal_known = record {
       ),
     ),
   );
-  packed_in = refl;
-  packed_out = refl;
-  mend_check = tt;
-  faults = tt;
-  gaps = tt;
-  changes = tt;
-  exact = tt;
   numbers = λ rows name fit passed. other_name (codes "normal") refl name;
 }
 
@@ -322,13 +273,6 @@ cut_known = record {
       ),
     ),
   );
-  packed_in = refl;
-  packed_out = refl;
-  mend_check = tt;
-  faults = tt;
-  gaps = tt;
-  changes = tt;
-  exact = tt;
   numbers = λ rows name fit passed.
       let given = both_given (is_given (codes "FROM") rows) (is_given (codes "COUNT") rows)
       (nothing_wanted false false _ passed) in (
@@ -364,13 +308,6 @@ rewrite_known = record {
       ),
     ),
   );
-  packed_in = refl;
-  packed_out = refl;
-  mend_check = refl;
-  faults = tt;
-  gaps = tt;
-  changes = tt;
-  exact = tt;
   numbers = λ rows name fit passed. other_name (codes "rewrite") refl name;
 }
 
@@ -395,13 +332,6 @@ from_pcm_known = record {
       ),
     ),
   );
-  packed_in = tt;
-  packed_out = tt;
-  mend_check = refl;
-  faults = tt;
-  gaps = tt;
-  changes = tt;
-  exact = refl;
   numbers = λ rows name fit passed. other_name (codes "from-pcm") refl name;
 }
 
@@ -476,25 +406,6 @@ command_entered words name options stands =
     let known = found_shape IsKnown (built command_line).subs e.by e.found all_known e.is_found in
     (e, subst (FitAll e.found.rules) e.rows (level_fits e.found [] e.words false [] known.sound e.faultless))
 
--- the flags read as flags
-pub flags_stand : (words : List Text) (name : Text) (options : Options) → StandsIn words name options
-    → MayBeFlag options (codes "packed-in") × MayBeFlag options (codes "packed-out")
-    × MayBeFlag options (codes "mend-check")
-    × MayBeFlag options (codes "faults") × MayBeFlag options (codes "gaps")
-    × MayBeFlag options (codes "changes") × MayBeFlag options (codes "exact")
-flags_stand words name options stands =
-    let e = entered_command command_line words name options stands.0 stands.1 in
-    let known = found_shape IsKnown (built command_line).subs e.by e.found all_known e.is_found in
-    let fit = subst (FitAll e.found.rules) e.rows (level_fits e.found [] e.words false [] known.sound e.faultless) in (
-      flag_reads e.found.rules options (codes "packed-in") _ fit refl known.packed_in,
-      flag_reads e.found.rules options (codes "packed-out") _ fit refl known.packed_out,
-      flag_reads e.found.rules options (codes "mend-check") _ fit refl known.mend_check,
-      flag_reads e.found.rules options (codes "faults") _ fit refl known.faults,
-      flag_reads e.found.rules options (codes "gaps") _ fit refl known.gaps,
-      flag_reads e.found.rules options (codes "changes") _ fit refl known.changes,
-      flag_reads e.found.rules options (codes "exact") _ fit refl known.exact,
-    )
-
 -- a name that is a flag where a command takes it
 abbrev HasFlag : Text → Shape → Type 0
 HasFlag id s = FlagOrNone (arg_by_id s.rules id)
@@ -508,9 +419,46 @@ flag_stands words name options id flags stands =
     flag_reads e.found.rules options id _ fit refl
     (found_shape (HasFlag id) (built command_line).subs e.by e.found flags e.is_found)
 
--- `--raw-in` reads as a flag
+-- each flag, of the commands in their order: `refl` where it is one of the command's, `tt` where it is none
+packed_in_flags : EachShape (HasFlag (codes "packed-in")) (built command_line).subs
+packed_in_flags = (tt, (refl, (refl, (refl, (refl, (refl, (refl, (refl, (refl, (refl, (tt, tt)))))))))))
+
 raw_in_flags : EachShape (HasFlag (codes "raw-in")) (built command_line).subs
 raw_in_flags = (tt, (refl, (refl, (refl, (refl, (refl, (refl, (refl, (refl, (refl, (tt, tt)))))))))))
+
+packed_out_flags : EachShape (HasFlag (codes "packed-out")) (built command_line).subs
+packed_out_flags = (refl, (tt, (refl, (tt, (tt, (tt, (tt, (refl, (refl, (tt, (tt, tt)))))))))))
+
+mend_check_flags : EachShape (HasFlag (codes "mend-check")) (built command_line).subs
+mend_check_flags = (tt, (tt, (tt, (tt, (tt, (tt, (tt, (tt, (refl, (tt, (refl, tt)))))))))))
+
+faults_flags : EachShape (HasFlag (codes "faults")) (built command_line).subs
+faults_flags = (tt, (tt, (tt, (refl, (tt, (tt, (tt, (tt, (tt, (tt, (tt, tt)))))))))))
+
+gaps_flags : EachShape (HasFlag (codes "gaps")) (built command_line).subs
+gaps_flags = (tt, (tt, (tt, (refl, (tt, (tt, (tt, (tt, (tt, (tt, (tt, tt)))))))))))
+
+changes_flags : EachShape (HasFlag (codes "changes")) (built command_line).subs
+changes_flags = (tt, (tt, (tt, (tt, (tt, (refl, (tt, (tt, (tt, (tt, (tt, tt)))))))))))
+
+exact_flags : EachShape (HasFlag (codes "exact")) (built command_line).subs
+exact_flags = (tt, (tt, (tt, (tt, (tt, (tt, (tt, (tt, (tt, (tt, (refl, tt)))))))))))
+
+-- the flags read as flags
+pub flags_stand : (words : List Text) (name : Text) (options : Options) → StandsIn words name options
+    → MayBeFlag options (codes "packed-in") × MayBeFlag options (codes "packed-out")
+    × MayBeFlag options (codes "mend-check")
+    × MayBeFlag options (codes "faults") × MayBeFlag options (codes "gaps")
+    × MayBeFlag options (codes "changes") × MayBeFlag options (codes "exact")
+flags_stand words name options stands = (
+  flag_stands words name options (codes "packed-in") packed_in_flags stands,
+  flag_stands words name options (codes "packed-out") packed_out_flags stands,
+  flag_stands words name options (codes "mend-check") mend_check_flags stands,
+  flag_stands words name options (codes "faults") faults_flags stands,
+  flag_stands words name options (codes "gaps") gaps_flags stands,
+  flag_stands words name options (codes "changes") changes_flags stands,
+  flag_stands words name options (codes "exact") exact_flags stands,
+)
 
 pub raw_in_stands : (words : List Text) (name : Text) (options : Options) → StandsIn words name options
     → MayBeFlag options (codes "raw-in")

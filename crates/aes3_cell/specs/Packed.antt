@@ -49,8 +49,8 @@ abbrev pub last_octet : List ℕ → ℕ
 last_octet octets = get_or (reverse octets) 0 0
 
 unfoldable pub cells_of_packed : List ℕ → List Level
-cells_of_packed octets = take (8 * last_place octets - last_octet octets)
-    (cells_of_octets (take (last_place octets) octets))
+cells_of_packed octets =
+    take (8 * last_place octets - last_octet octets) (cells_of_octets (take (last_place octets) octets))
 
 -- the cells of all octets but the last two: no later octet makes any of them unused
 unfoldable pub whole_cells : List ℕ → List Level

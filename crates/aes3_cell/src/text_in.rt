@@ -76,7 +76,7 @@ impl CellText {
         ensures owed { (word : ℕ) → word < 2 ^ 64 → bytes.now ≡ map byte_of (word_cells word)
             → result ≡ Some word }
         ensures seen { OnSome result (self.new.seen ≡ self.old.seen + 64) }
-        ensures none { IfNone result (self.new ≡ self.old) }
+        ensures same { IfNone result (self.new ≡ self.old) }
     {
         let word = word_of_text(bytes)?;
         self.seen += 64;
@@ -112,7 +112,7 @@ impl CellText {
         ensures lawful { OnSome result (IsCellText bytes.now) }
         ensures owed { IfNone result (¬ IsCellText bytes.now) }
         ensures seen { OnSome result (self.new.seen ≡ self.old.seen + 64) }
-        ensures none { IfNone result (self.new ≡ self.old) }
+        ensures same { IfNone result (self.new ≡ self.old) }
     {
         let cells = cells_among(bytes)?;
         self.seen += bytes.len() as u64;

@@ -26,8 +26,8 @@ abbrev pub checked : List ℕ → List ℕ
 checked status = slice_set status 23 (check_byte_of (take 23 status))
 
 abbrev pub mended : Channel → List (List Bool) → List (List Bool)
-mended channel b = if is_professional (status_of b channel) then with_status b channel
-    (checked (status_of b channel)) else b
+mended channel b =
+    if is_professional (status_of b channel) then with_status b channel (checked (status_of b channel)) else b
 
 -- the statuses of a change set, then its fields
 abbrev pub changed : Change → List (List Bool) → List (List Bool)

@@ -46,7 +46,8 @@ CellRun max form whole begun counts = InputRun (counted_cells form whole begun c
 -- what driving a taker promises, of which z holds then: how many bytes and cells there are; the taker was given exactly
 -- the cells
 abbrev pub driven : Form → Writing Level → (List Level → Type 0) → Promise (ℕ × ℕ)
-driven form w z = over_cells form (with_end w) (before_end w)
+driven form w z =
+    over_cells form (with_end w) (before_end w)
     (λ b n. z (cells_of form b) × (n.0 ≡ length b) × (n.1 ≡ length (cells_of form b)))
 
 -- what holds where a run over the bytes b was refused, and not by the sink: f of the cells before

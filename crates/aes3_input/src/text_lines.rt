@@ -51,7 +51,7 @@ fn feed_front(text: &mut CellText, piece: &[u8]) -> Option<u64>
     ensures bound { OnSome result (64 ≤ length piece.now) }
     ensures cells { IfSome result (λ word. take 64 piece.now ≡ map byte_of (word_cells word)) }
     ensures seen { OnSome result (text.new.seen ≡ text.old.seen + 64) }
-    ensures none { IfNone result (text.new ≡ text.old) }
+    ensures same { IfNone result (text.new ≡ text.old) }
 {
     match piece.first_chunk() {
         Some(bytes) => text.feed_word(bytes),
@@ -66,7 +66,7 @@ fn feed_line(text: &mut CellText, piece: &[u8]) -> Option<(usize, u64)>
     ensures within { IfSome result (λ line. (64 ≤ line.0) × (line.0 ≤ length piece.now)) }
     ensures read { IfSome result (λ line. TextRead text.old text.new (take line.0 piece.now)
         (word_cells line.1)) }
-    ensures none { IfNone result (text.new ≡ text.old) }
+    ensures same { IfNone result (text.new ≡ text.old) }
 {
     match feed_front(text, piece) {
         Some(word) => {
@@ -87,7 +87,7 @@ fn feed_any_lines(text: &mut CellText, piece: &[u8], words: &mut [u64; LINES]) -
     ensures len { length words.new ≡ 64 }
     ensures read { TextRead text.old text.new (take result.0 piece.now)
         (flat_map word_cells (take result.1 words.new)) }
-    ensures none { result.0 ≡ 0 → text.new ≡ text.old }
+    ensures same { result.0 ≡ 0 → text.new ≡ text.old }
 {
     let mut at = 0;
     for count in 0..LINES {
@@ -116,7 +116,7 @@ pub(crate) fn feed_lines(
     ensures len { length words.new ≡ 64 }
     ensures read { TextRead text.old text.new (take result.0 piece.now)
         (flat_map word_cells (take result.1 words.new)) }
-    ensures none { result.0 ≡ 0 → text.new ≡ text.old }
+    ensures same { result.0 ≡ 0 → text.new ≡ text.old }
 {
     let count = text.feed_lines(piece, words);
     if count == 0 {

@@ -81,7 +81,7 @@ fn feed_chunk(text: &mut CellText, piece: &[u8]) -> Option<SomeCells>
     ensures bound { OnSome result (64 ≤ length piece.now) }
     ensures read { IfSome result (λ cells. TextRead text.old text.new (take 64 piece.now)
         (low_cells cells.len cells.word)) }
-    ensures none { IfNone result (text.new ≡ text.old) }
+    ensures same { IfNone result (text.new ≡ text.old) }
 {
     match piece.first_chunk() {
         Some(bytes) => text.feed_scattered(bytes),
@@ -99,7 +99,7 @@ fn feed_chunks(text: &mut CellText, piece: &[u8], words: &mut [u64; LINES]) -> T
     ensures read { TextRead text.old text.new (take result.bytes piece.now)
         (flat_map word_cells (take result.count words.new)
         ++ low_cells result.rest.len result.rest.word) }
-    ensures none { result.bytes ≡ 0 → text.new ≡ text.old }
+    ensures same { result.bytes ≡ 0 → text.new ≡ text.old }
 {
     let mut bytes = 0;
     let mut count = 0;
@@ -129,7 +129,7 @@ fn feed_words(text: &mut CellText, piece: &[u8], words: &mut [u64; LINES]) -> Ta
     ensures read { TextRead text.old text.new (take result.bytes piece.now)
         (flat_map word_cells (take result.count words.new)
         ++ low_cells result.rest.len result.rest.word) }
-    ensures none { result.bytes ≡ 0 → text.new ≡ text.old }
+    ensures same { result.bytes ≡ 0 → text.new ≡ text.old }
 {
     let (bytes, count) = feed_lines(text, piece, words);
     if bytes == 0 && !ends_line(piece) {

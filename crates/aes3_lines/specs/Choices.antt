@@ -48,8 +48,9 @@ among count code text =
 -- what is told of a code: nothing where it has no word, nor where the same is told already
 abbrev pub code_choice : Field → ℕ → ℕ → List ℕ
 code_choice f under code =
-    if has_word f under code && not (is_told f under code) then among (code_count f) code
-    (code_text f under code) else []
+    if has_word f under code && not (is_told f under code)
+    then among (code_count f) code (code_text f under code)
+    else []
 
 -- what a field can be set to, where the number `under` tells what its codes mean
 abbrev pub code_choices : Field → ℕ → List ℕ

@@ -98,12 +98,13 @@ shown_fields fields bytes = flat_map (λ f. shown_of f bytes) fields
 
 abbrev pub LineShowsFields : Type 0
 LineShowsFields = (bytes : List ℕ) (check : Check)
-    → (consumer.consumer_text bytes ≡ codes " consumer" ++ shown_fields consumer_fields bytes ++ field_text
-    (codes "rest") (encode_lower (consumer_status.rest bytes)))
+    → (consumer.consumer_text bytes
+    ≡ codes " consumer" ++ shown_fields consumer_fields bytes
+    ++ field_text (codes "rest") (encode_lower (consumer_status.rest bytes)))
     × (professional.professional_text bytes check
     ≡ codes " professional" ++ shown_fields (take 12 professional_fields) bytes
-    ++ field_text (codes "origin") (map shown (status.origin bytes)) ++ field_text (codes "destination")
-    (map shown (status.destination bytes))
-    ++ field_text (codes "local") (decimal (status.local bytes)) ++ field_text (codes "time")
-    (decimal (status.time bytes))
+    ++ field_text (codes "origin") (map shown (status.origin bytes))
+    ++ field_text (codes "destination") (map shown (status.destination bytes))
+    ++ field_text (codes "local") (decimal (status.local bytes))
+    ++ field_text (codes "time") (decimal (status.time bytes))
     ++ shown_fields (drop 12 professional_fields) bytes ++ field_text (codes "check") (professional.check_word check))

@@ -17,8 +17,8 @@ head_text block channel = codes "block=" ++ decimal block ++ codes " channel=" +
 
 -- the use and the fields of a channel status
 abbrev pub status_text : List ℕ → List ℕ
-status_text bytes = if is_professional bytes then professional_text bytes
-    (check_state_of bytes) else consumer_text bytes
+status_text bytes =
+    if is_professional bytes then professional_text bytes (check_state_of bytes) else consumer_text bytes
 
 -- the line of a channel's status, its 24 bytes, in block `block`
 abbrev pub status_line : ℕ → Channel → List ℕ → List ℕ

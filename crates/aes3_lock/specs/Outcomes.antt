@@ -29,8 +29,8 @@ wrong_parities slots = length (filter odd_ones slots)
 
 -- what the bits of a block's subframes are
 abbrev pub block_outcome : Level → List (List Bool) → Outcome
-block_outcome s slots = if wrong_parities slots == 0 then whole s (payloads_of slots) else marked s
-    (wrong_parities slots)
+block_outcome s slots =
+    if wrong_parities slots == 0 then whole s (payloads_of slots) else marked s (wrong_parities slots)
 
 -- the outcome of the candidate at the start
 unfoldable pub outcome : List Level → Outcome

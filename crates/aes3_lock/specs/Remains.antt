@@ -34,8 +34,9 @@ after_loss k p b = if holds k p then [] else b ∷ []
 -- one cell longer
 abbrev pub after_insertion : Level → ℕ → Level → ℕ → List (List Bool) → List (List (List Bool))
 after_insertion s k x p b =
-    if nat_le k p ||
-    (nat_lt (p + block_len) k || (differs s x && (nat_le k (p + 3) || k == p + block_len))) then b ∷ [] else []
+    if nat_le k p || (nat_lt (p + block_len) k || (differs s x && (nat_le k (p + 3) || k == p + block_len)))
+    then b ∷ []
+    else []
 
 -- what is given of a block of which these cells changed, or the cell behind its last: two next to each other between
 -- two slots make another block of it, and any other takes it

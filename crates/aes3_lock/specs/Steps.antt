@@ -29,8 +29,9 @@ begins_a_block Z = true
 -- the candidate whose preamble the last eight of n cells are
 unfoldable pub begun : ℕ → List Level → Option Candidate
 begun n recent =
-    if nat_le 8 n && begins_block recent then Some
-    (record { at = n - 8; before = entry recent; level = entry recent }) else None
+    if nat_le 8 n && begins_block recent
+    then Some (record { at = n - 8; before = entry recent; level = entry recent })
+    else None
 
 -- the preamble that the last eight of n cells are, with its place
 unfoldable pub ended_mark : ℕ → List Level → Option (ℕ × Mark × Level)

@@ -20,8 +20,8 @@ first_bit place = 8 * place.byte + place.first
 -- its bits become those of the code, and all others stay
 abbrev pub OnlyItsBitsChange : Type 0
 OnlyItsBitsChange = (place : Place) (code : ℕ) (bytes : List ℕ) → IsPlace place → length bytes ≡ 24
-    → status_bits (with_field place code bytes) ≡ with_bits (first_bit place) (low_bits place.count code)
-    (status_bits bytes)
+    → status_bits (with_field place code bytes)
+    ≡ with_bits (first_bit place) (low_bits place.count code) (status_bits bytes)
 
 -- the code is read back, as far as the field has bits for it
 abbrev pub CodeIsReadBack : Type 0

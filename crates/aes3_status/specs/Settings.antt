@@ -56,8 +56,8 @@ under f bytes = option_map_or (λ g. number_at (place_of g) bytes) (told_by f) 0
 
 -- the code that a setting has for a status; none where the status is for the other use
 abbrev pub code_for : Setting → List ℕ → Option ℕ
-code_for setting bytes = if is_for setting.field bytes then get_or setting.codes
-    (under setting.field bytes) None else None
+code_for setting bytes =
+    if is_for setting.field bytes then get_or setting.codes (under setting.field bytes) None else None
 
 abbrev pub with_code : Place → Option ℕ → List ℕ → List ℕ
 with_code place None bytes = bytes

@@ -30,7 +30,7 @@ returns-in-Err g c =
     (g.T.Sink.taken c.take_byte.new.sink) (g.T.Sink.failed c.take_byte.new.sink)
     (get_or xs 0 0 ∷ []) (drop 1 xs) xs c.in-Err.error
     (bytes-quiet c.args.encoder.now.output c.args.file.now c.feed_front.new.file [] (g.T.Sink.taken c.args.sink.now)
-    (c.feed_front.ensures.left c.if-feed_front.false))
+    (c.feed_front.ensures.same c.if-feed_front.false))
     refl (sym (drop-cons xs 0 0 (omega arith))) c.in-Err.ensures
 
 pub take_byte-requires-clause-following : goal.take_byte-requires-clause-following
@@ -38,7 +38,7 @@ take_byte-requires-clause-following g c =
     let q = c.requires.following in
     let l = q.1 in
     let k = c.requires.some in
-    let e = c.feed_front.ensures.left c.if-feed_front.false in
+    let e = c.feed_front.ensures.same c.if-feed_front.false in
     (q.0, omega arith, subst (λ f. Encodes f c.args.encoder.now.blocks q.0) (sym e) q.2)
 
 pub returns-in-Ok : goal.returns-in-Ok
@@ -46,7 +46,7 @@ returns-in-Ok g c =
     let xs = c.args.piece.now in
     let k = c.requires.some in
     let f = c.feed_front.new.file in
-    let e = c.feed_front.ensures.left c.if-feed_front.false in
+    let e = c.feed_front.ensures.same c.if-feed_front.false in
     let q = bytes-quiet c.args.encoder.now.output c.args.file.now f [] (g.T.Sink.taken c.args.sink.now) e in (
       omega arith,
       omega arith,

@@ -39,11 +39,11 @@ pub take_few-requires-clause-following : goal.take_few-requires-clause-following
 take_few-requires-clause-following g c =
     subst (λ (f : FileReader). (b : List ℕ) × (length b + length c.args.piece.now ≤ 2 ^ 40)
     × Encodes f c.args.encoder.now.blocks b)
-    (sym (c.feed_block.ensures.left c.in-None.is)) c.requires.following
+    (sym (c.feed_block.ensures.same c.in-None.is)) c.requires.following
 
 pub returns-in-None : goal.returns-in-None
 returns-in-None g c =
     let n = c.take_few.new in
     subst (λ (f : FileReader). FrontRan (encoding_state c.args.encoder.now.output f c.args.encoder.now.blocks)
     (encoding_state n.encoder.output n.file n.encoder.blocks) c.args.piece.now (movement_of g.T.Sink.taken g.T.Sink.failed c.args.sink.now n.sink) c.take_few.result)
-    (c.feed_block.ensures.left c.in-None.is) c.take_few.ensures
+    (c.feed_block.ensures.same c.in-None.is) c.take_few.ensures

@@ -62,13 +62,13 @@ loop-taken-preserved c =
 
 pub returns-else-take_word-clause-stops : goal.returns-else-take_word-clause-stops
 returns-else-take_word-clause-stops c = λ _ l f t is.
-    let left = c.take_word.ensures.left c.if-take_word.false in
-    c.take_word.ensures.stops c.if-take_word.false l (subst (λ (k : LockState). Follows k l) left f)
-    t (ap (λ (k : LockState). k.candidate) (sym left) ∙ is)
+    let same = c.take_word.ensures.same c.if-take_word.false in
+    c.take_word.ensures.stops c.if-take_word.false l (subst (λ (k : LockState). Follows k l) same f)
+    t (ap (λ (k : LockState). k.candidate) (sym same) ∙ is)
 
 pub returns-else-take_word-clause-begins : goal.returns-else-take_word-clause-begins
 returns-else-take_word-clause-begins c = λ _ none.
-    let left = c.take_word.ensures.left c.if-take_word.false in
+    let same = c.take_word.ensures.same c.if-take_word.false in
     let cells = word_cells (get_or c.args.words.now c.loop-taken.taken 0) in
-    subst (λ (k : LockState). BeginsIn (drop 1 k.recent ++ cells)) (sym left)
-    (c.take_word.ensures.begins c.if-take_word.false (ap (λ (k : LockState). k.candidate) (sym left) ∙ none))
+    subst (λ (k : LockState). BeginsIn (drop 1 k.recent ++ cells)) (sym same)
+    (c.take_word.ensures.begins c.if-take_word.false (ap (λ (k : LockState). k.candidate) (sym same) ∙ none))
