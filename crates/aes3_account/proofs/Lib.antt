@@ -12,3 +12,4 @@ pub mod Rowed
 pub mod LostGaps
 pub mod PieceGaps
 pub mod LostCells
+mod LockedLines

@@ -89,27 +89,27 @@ unfolding behind_full
 near-behind p q e = ap (λ n. p + block_len * n) e ∙ (rw block_len_24576 (omega arith))
 
 -- losses do not become fewer
-up-more : (w : Watched) (q : ℕ) → w.losses ≤ (up_to w q).losses
+pub up-more : (w : Watched) (q : ℕ) → w.losses ≤ (up_to w q).losses
 up-more w q = go (is_told w q)
   where
     go : (b : Bool) → w.losses ≤ (cond b w (as_lost w)).losses
     go true = omega arith
     go false = omega arith
 
-whole-more : (w : Watched) (at : ℕ) (now : Signals) → w.losses ≤ (behind_whole w at now).losses
+pub whole-more : (w : Watched) (at : ℕ) (now : Signals) → w.losses ≤ (behind_whole w at now).losses
 whole-more w at now = go (slips w at)
   where
     go : (b : Bool) → w.losses ≤ cond b (w.losses + 1) w.losses
     go true = omega arith
     go false = omega arith
 
-next-more : (w : Watched) (x : Report) → w.losses ≤ (next w x).losses
+pub next-more : (w : Watched) (x : Report) → w.losses ≤ (next w x).losses
 next-more w (Whole at s b) = let u = up-more w at in let v = whole-more (up_to w at) at (signals_of b) in omega arith
 next-more w (Marked at s wrong) = up-more w at
 next-more w (Fault at cell why) = up-more w at
 next-more w (Unfinished at cells) = up-more w at
 
-behind-more : (w : Watched) (r : List Report) → w.losses ≤ (behind_reports w r).losses
+pub behind-more : (w : Watched) (r : List Report) → w.losses ≤ (behind_reports w r).losses
 behind-more w [] = omega arith
 behind-more w (x ∷ r) = let a = next-more w x in let b = behind-more (next w x) r in omega arith
 

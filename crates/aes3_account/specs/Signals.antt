@@ -12,6 +12,8 @@ use Rattle.std.specs.Prelude.{
   Some,
   None,
   count_ones,
+  ◌/◌,
+  ◌^◌,
   ◌==◌,
   if◌then◌else◌,
 }
@@ -37,6 +39,10 @@ channel_signals b channel = record { status = status_of b channel; invalid = one
 -- of both
 unfoldable pub signals_of : List (List Bool) → Signals
 signals_of b = record { first = channel_signals b First; second = channel_signals b Second }
+
+-- of a subframe's 64 cells in a word, the last eight, which carry its validity bit and its bit of channel status
+abbrev pub last_cells : ℕ → ℕ
+last_cells word = word / 2 ^ 56
 
 -- what 192 validity bits are of which n are 1
 abbrev pub marking_of : ℕ → Marking

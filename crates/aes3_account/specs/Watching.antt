@@ -16,6 +16,7 @@ use Rattle.std.specs.Prelude.{
   IfSome,
   length,
   drop,
+  map,
   ◌≡◌,
   ◌≤◌,
   ◌+◌,
@@ -43,7 +44,7 @@ use Rattle.aes3_lines.specs.declared.event.Event.{Event}
 use Rattle.aes3_lines.specs.declared.event.Event.TheVariants.{Locked, Lost, Back, Slipped, End}
 use Rattle.aes3_lines.specs.declared.event.Style.{Style}
 use Rattle.aes3_lines.specs.Events.{event_line}
-use Rattle.aes3_account.specs.Signals.{change_events, signals_of}
+use Rattle.aes3_account.specs.Signals.{change_events, last_cells, signals_of}
 use Rattle.aes3_account.specs.declared.signals.Signals.{Signals}
 use Rattle.aes3_account.specs.declared.watched.Watched.{Watched}
 
@@ -164,14 +165,18 @@ watching style = record {
   ends = λ c. event_lines style (drop (length (begun_events c)) (watch_events c));
 }
 
--- words of cells carry a whole block that says this of its samples, where there is one
+-- the last eight cells of subframes are those of a whole block that says this of its samples, where there is one
+abbrev pub SaysSo : List ℕ → Signals → Type 0
+SaysSo lasts now =
+    (words : List ℕ) × (map last_cells words ≡ lasts) × (now ≡ signals_of (payloads_of (read_words words)))
+
 abbrev pub IsKept : Option Signals → List ℕ → Type 0
-IsKept latest words = IfSome latest (λ now. now ≡ signals_of (payloads_of (read_words words)))
+IsKept latest lasts = IfSome latest (λ now. SaysSo lasts now)
 
 -- what is kept of a line whose cells c have come, and of one that has ended
-pub record Watches (state : Watched) (words : List ℕ) (blocks faults unfinished : ℕ) (c : List Level) : Type 0 where
+pub record Watches (state : Watched) (lasts : List ℕ) (blocks faults unfinished : ℕ) (c : List Level) : Type 0 where
   pub state_is : state ≡ watched c
-  pub kept : IsKept state.latest words
+  pub kept : IsKept state.latest lasts
   pub tally : Tallies blocks faults unfinished (decided c)
 
 pub record Ended (losses blocks faults unfinished : ℕ) (c : List Level) : Type 0 where

@@ -3,7 +3,9 @@
 ghost use Rattle.aes3_account.specs.GapLaws.{AccountIsInTime, AccountIsWhole, AccountStands};
 ghost use Rattle.aes3_account.specs.GapLaws.{ChangeIsLost, GapsAreShort, LossIsLost};
 ghost use Rattle.aes3_account.specs.GapLaws.{NoGapLosesNothing, PieceHasNoGap, RowHasNoGap};
-ghost use Rattle.aes3_account.specs.WatchLaws.{CellsHaveFewEvents, EventsAreFew, LossesAreGaps};
+ghost use Rattle.aes3_account.specs.WatchLaws.{BlocksFollow, CellsHaveFewEvents, EventsAreFew};
+ghost use Rattle.aes3_account.specs.WatchLaws.{LocksOnce, LossesAreGaps, PieceStaysLocked};
+ghost use Rattle.aes3_account.specs.WatchLaws.{RowStaysLocked};
 
 /// The whole blocks and the gaps of the account of any cells are these cells, each exactly once, in
 /// order, and its reports are all reports on them.
@@ -60,4 +62,20 @@ pub fn losses_are_gaps()
 pub fn events_are_few()
     ensures blocks { EventsAreFew }
     ensures cells { CellsHaveFewEvents }
+{}
+
+/// `watch` tells one `locked` of cells that have a whole block, and none of others. Where no gap of
+/// the account counts and there is a whole block, it tells no `lost`, `back` or `slipped`, and the
+/// line is locked at its end; so it is of a piece of a lawful stream that has a whole block.
+pub fn lawful_lines_stay_locked()
+    ensures once { LocksOnce }
+    ensures row { RowStaysLocked }
+    ensures piece { PieceStaysLocked }
+{}
+
+/// Each whole block stands directly behind the one before it; or `watch` tells it as `slipped`, and
+/// fewer cells than a block has lie between them; or it tells these cells as `lost`, from the first
+/// of them on, and the block as `back`.
+pub fn blocks_follow_or_are_told()
+    ensures { BlocksFollow }
 {}

@@ -1,16 +1,19 @@
 //! What the whole blocks of a line say of their samples, and where that changes.
 
-ghost use Rattle.std.specs.Prelude.{◌≡◌, ◌≤◌, ◌+◌, ◌/◌, ◌^◌, ◌++◌, true, count_ones};
+ghost use Rattle.std.specs.Prelude.{◌≡◌, ◌≤◌, ◌+◌, ◌^◌, ◌++◌, ℕ, List, true, count_ones};
+ghost use Rattle.std.specs.Prelude.{drop, map, take};
 ghost use Rattle.arrayvec.specs.ArrayVec.{array_vec_len};
 ghost use Rattle.aes3_slot.specs.ReadWords.{read_words};
 ghost use Rattle.aes3_lock.specs.Outcomes.{payloads_of};
-ghost use Rattle.aes3_account.specs.Signals.{change_events, channel_signals, marking_of, ones_in};
+ghost use Rattle.aes3_account.specs.Signals.{change_events, channel_signals, last_cells};
+ghost use Rattle.aes3_account.specs.Signals.{marking_of, ones_in};
 ghost use Rattle.aes3_account.specs.Signals.{same_marking, signals_of, status_events};
 ghost use Rattle.aes3_account.specs.Signals.{validity_events};
 
 use aes3_block::{Block, Channel, SLOTS};
 use aes3_lines::{Event, Marking};
 use arrayvec::ArrayVec;
+use std::simd::prelude::*;
 
 /// How many validity bits a channel has in a block.
 const FRAMES: u64 = 192;
@@ -18,9 +21,12 @@ const FRAMES: u64 = 192;
 /// How many events are gathered at most.
 pub(crate) const EVENTS: usize = 8;
 
-/// In the upper half of a subframe's cells, the first cell of the two that carry its validity bit,
-/// and of those that carry its bit of channel status.
-const FIRST_CELLS: u32 = 1 << 24 | 1 << 28;
+/// How many words are taken at once.
+const LANES: usize = 16;
+
+/// Among the last eight cells of a subframe, the first of the two that carry its validity bit, and
+/// of those that carry its bit of channel status.
+const FIRST_CELLS: u8 = 1 | 1 << 4;
 
 /// What a whole block says of a channel's samples.
 #[derive(Clone, Copy)]
@@ -80,26 +86,45 @@ impl Signals {
     }
 }
 
-/// The last 32 cells of a word.
+/// The last eight cells of each of sixteen words, from word `at` on.
 #[inline(always)]
-fn upper_half(word: u64) -> u32
-    ensures { result ≡ word / 2 ^ 32 }
+fn last_cells(words: &[u64; SLOTS], at: usize) -> u8x16
+    requires { at + LANES ≤ SLOTS }
+    ensures { result ≡ map last_cells (take LANES (drop at words.now)) }
 {
-    (word >> 32) as u32
+    (u64x16::from_slice(&words[at..]) >> u64x16::splat(56)).cast::<u8>()
 }
 
-/// Whether the cells of two blocks' subframes carry the same validity bits and channel status: two
-/// cells that carry a 1 differ.
-pub(crate) fn carry_the_same(words: &[u64; SLOTS], others: &[u64; SLOTS]) -> bool
-    ensures { result ≡ true → signals_of (payloads_of (read_words words.now))
-        ≡ signals_of (payloads_of (read_words others.now)) }
+/// The cells of no block.
+pub(crate) fn no_cells() -> [u8; SLOTS] {
+    [0; SLOTS]
+}
+
+/// The last eight cells of each word.
+pub(crate) fn last_cells_of(words: &[u64; SLOTS]) -> [u8; SLOTS]
+    ensures { result ≡ map last_cells words.now }
 {
-    let mut unlike = 0;
+    let mut lasts = no_cells();
     for i in 0..SLOTS {
-        let turned = upper_half(words[i] ^ others[i]);
-        unlike |= turned ^ (turned >> 1);
+        lasts[i] = (words[i] >> 56) as u8;
     }
-    unlike & FIRST_CELLS == 0
+    lasts
+}
+
+/// Whether the cells of a block's subframes carry the same validity bits and channel status as
+/// those of which these are the last eight each: two cells that carry a 1 differ.
+pub(crate) fn carry_the_same(words: &[u64; SLOTS], lasts: &[u8; SLOTS]) -> bool
+    ensures { result ≡ true → (others : List ℕ) → map last_cells others ≡ lasts.now
+        → signals_of (payloads_of (read_words words.now))
+        ≡ signals_of (payloads_of (read_words others)) }
+{
+    let mut unlike = u8x16::splat(0);
+    for i in 0..SLOTS / LANES {
+        let at = LANES * i;
+        let turned = last_cells(words, at) ^ u8x16::from_slice(&lasts[at..]);
+        unlike |= turned ^ (turned >> u8x16::splat(1));
+    }
+    unlike.reduce_or() & FIRST_CELLS == 0
 }
 
 /// What 192 validity bits are of which so many are 1.

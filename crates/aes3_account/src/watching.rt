@@ -13,14 +13,14 @@ ghost use Rattle.aes3_input.specs.Inputs.{cells_of};
 ghost use Rattle.aes3_input.specs.Running.{movement_of};
 ghost use Rattle.aes3_lines.specs.declared.event.Event.TheVariants.{End};
 ghost use Rattle.aes3_account.specs.Signals.{change_events, signals_of};
-ghost use Rattle.aes3_account.specs.Watching.{Ended, IsKept, Watches, begun_watch, behind_whole};
+ghost use Rattle.aes3_account.specs.Watching.{Ended, IsKept, SaysSo, Watches, begun_watch, behind_whole};
 ghost use Rattle.aes3_account.specs.Watching.{event_lines, is_locked, is_told, loss_events, next};
 ghost use Rattle.aes3_account.specs.Watching.{slips, told_events, unwatched, up_to, watch_counts};
 ghost use Rattle.aes3_account.specs.Watching.{watch_lines, watching, whole_events};
 
 use crate::cell_reporter::CellReporter;
 use crate::counted::Counted;
-use crate::signals::{EVENTS, Signals, add_changes, carry_the_same};
+use crate::signals::{EVENTS, Signals, add_changes, carry_the_same, last_cells_of, no_cells};
 use crate::watched::Watched;
 use aes3_block::SLOTS;
 use aes3_cell::{Counts, Fault, Form, Level, RunError, Sink, Source};
@@ -146,50 +146,47 @@ impl Watched {
     }
 }
 
-/// The words of no block.
-fn no_words() -> [u64; SLOTS] {
-    [0; SLOTS]
-}
-
 /// What is kept of a line that is watched.
 #[derive(Drop)]
 struct Watcher {
     style: Style,
     state: Watched,
-    /// The cells of a whole block that says the same of its samples as the last one.
-    words: [u64; SLOTS],
+    /// The last eight cells of each subframe of a whole block that says the same of its samples as
+    /// the last one.
+    lasts: [u8; SLOTS],
     tally: Tally,
 }
 
 impl Watcher {
     /// No cell has come.
     fn new(style: Style) -> Self
-        ensures state { Watches result.state result.words result.tally.blocks result.tally.faults
+        ensures state { Watches result.state result.lasts result.tally.blocks result.tally.faults
             result.tally.unfinished [] }
         ensures style { result.style ≡ style }
     {
         Watcher {
             style,
             state: Watched::new(),
-            words: no_words(),
+            lasts: no_cells(),
             tally: Tally::new(),
         }
     }
 
     /// What a lock's whole block says of its samples.
+    #[tactic(auto, using(crate::proofs::SignalWords::said_same, crate::proofs::SignalWords::said_new))]
     fn signals(&mut self, lock: &Lock) -> Signals
-        requires { IsKept self.old.state.latest self.old.words }
+        requires { IsKept self.old.state.latest self.old.lasts }
         ensures signals { result ≡ signals_of (payloads_of (read_words lock.now.words)) }
-        ensures kept { result ≡ signals_of (payloads_of (read_words self.new.words)) }
+        ensures kept { SaysSo self.new.lasts result }
         ensures style { self.new.style ≡ self.old.style }
         ensures state { self.new.state ≡ self.old.state }
         ensures tally { self.new.tally ≡ self.old.tally }
     {
         let words = lock.words();
         match self.state.latest {
-            Some(latest) if carry_the_same(words, &self.words) => latest,
+            Some(latest) if carry_the_same(words, &self.lasts) => latest,
             _ => {
-                self.words = *words;
+                self.lasts = last_cells_of(words);
                 Signals::of(&lock.gathered().block())
             }
         }
@@ -200,7 +197,7 @@ impl Watcher {
         requires few { self.old.state.losses + 1 < 2 ^ 64 }
         requires room { array_vec_len events.old + 1 ≤ EVENTS }
         ensures style { self.new.style ≡ self.old.style }
-        ensures words { self.new.words ≡ self.old.words }
+        ensures lasts { self.new.lasts ≡ self.old.lasts }
         ensures tally { self.new.tally ≡ self.old.tally }
         ensures state { self.new.state ≡ up_to self.old.state to }
         ensures few { self.new.state.losses ≤ self.old.state.losses + 1 }
@@ -222,11 +219,11 @@ impl Watcher {
     )
         requires few { self.old.state.losses + 2 < 2 ^ 64 }
         requires near { at ≤ 2 ^ 43 }
-        requires kept { IsKept self.old.state.latest self.old.words }
+        requires kept { IsKept self.old.state.latest self.old.lasts }
         requires room { array_vec_len events.old + 6 ≤ EVENTS }
         ensures style { self.new.style ≡ self.old.style }
         ensures tally { self.new.tally ≡ self.old.tally }
-        ensures kept { IsKept self.new.state.latest self.new.words }
+        ensures kept { IsKept self.new.state.latest self.new.lasts }
         ensures state { self.new.state ≡ behind_whole (up_to self.old.state at) at
             (signals_of (payloads_of (read_words lock.now.words))) }
         ensures few { self.new.state.losses ≤ self.old.state.losses + 2 }
@@ -247,11 +244,11 @@ impl Watcher {
     fn take_report(&mut self, events: &mut ArrayVec<Event, EVENTS>, lock: &Lock, ending: Ending)
         requires few { self.old.state.losses + 2 < 2 ^ 64 }
         requires near { place_of (report_in lock.now ending) ≤ 2 ^ 43 }
-        requires kept { IsKept self.old.state.latest self.old.words }
+        requires kept { IsKept self.old.state.latest self.old.lasts }
         requires room { array_vec_len events.old + 6 ≤ EVENTS }
         ensures style { self.new.style ≡ self.old.style }
         ensures tally { self.new.tally ≡ self.old.tally }
-        ensures kept { IsKept self.new.state.latest self.new.words }
+        ensures kept { IsKept self.new.state.latest self.new.lasts }
         ensures state { self.new.state ≡ next self.old.state (report_in lock.now ending) }
         ensures few { self.new.state.losses ≤ self.old.state.losses + 2 }
         ensures events { events.new.items ≡ events.old.items
@@ -286,7 +283,7 @@ impl Watcher {
 
 impl CellReporter for Watcher {
     ghost follows = { λ k.
-        Watches k.state k.words k.tally.blocks k.tally.faults k.tally.unfinished };
+        Watches k.state k.lasts k.tally.blocks k.tally.faults k.tally.unfinished };
 
     ghost writes = { λ k. watching k.style };
 

@@ -21,7 +21,7 @@ returns-clause-next g c =
     let m = c.go_on.new.self in
     let s = c.saturating_sub.result in
     if-any c.put_events.result (λ d e h q n.
-    same-watches m.state k.words m.words k.tally m.tally (d ++ e) c.go_on.ensures.words c.go_on.ensures.tally
+    same-watches m.state k.lasts m.lasts k.tally m.tally (d ++ e) c.go_on.ensures.lasts c.go_on.ensures.tally
     (pass-watches m.state s d e h q (less s c.args.seen _ (omega arith) n) c.go_on.ensures.state))
 
 pub returns-clause-grew : goal.returns-clause-grew

@@ -49,7 +49,7 @@ returns-clause-next g c =
     let x = report_in c.args.lock.now c.args.ending in
     let s = c.saturating_sub.result in
     if-any c.put_events.result (λ d e h q n.
-    same-watches r.state m.words r.words c.count.new.self r.tally (d ++ e) c.go_on.ensures.words c.go_on.ensures.tally
+    same-watches r.state m.lasts r.lasts c.count.new.self r.tally (d ++ e) c.go_on.ensures.lasts c.go_on.ensures.tally
     (take-watches m.state r.state s d e x h q (less s c.args.seen _ (omega arith) n)
     c.take_report.ensures.state c.take_report.ensures.kept
     (c.count.ensures (decided d) (same-tally k.tally m.tally (decided d) c.take_report.ensures.tally h.tally))
