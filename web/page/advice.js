@@ -1,5 +1,6 @@
 /* What a file is that holds no cells, or cells in another order, and what to do with it. */
 
+import { samplesIn } from "./capture.js";
 import { TURNED } from "./cells.js";
 import { wholeIn } from "./reading.js";
 import { counted } from "./words.js";
@@ -18,17 +19,6 @@ const BEGINNINGS = [
         + "cells yet. To make cells of them:", ["sigrok-cli -I vcd -i FILE -O binary -o SAMPLES", CHANNEL]],
     [/^(PK\x03\x04|\x1f\x8b|\xfd7zXZ|BZh|\x28\xb5\x2f\xfd)/, "This is a compressed file or an archive. Unpack it first.", []],
 ];
-
-/* Whether bytes are samples of a logic analyser, of one or two bytes: few values, and runs of one that last longer than a sample. */
-function areSamples(bytes) {
-    return [1, 2].some(size => {
-        let changes = 0;
-        for (let i = size; i < bytes.length; i++) {
-            changes += bytes[i] !== bytes[i - size];
-        }
-        return bytes.length >= 64 && new Set(bytes).size <= 4 && changes > 0 && 3 * changes < 2 * bytes.length;
-    });
-}
 
 /* Whether words of a block file stand there: bits 0 to 3 of each are 0, and some sample is not. */
 const areWords = bytes => bytes.length >= 1536 && bytes.every((byte, i) => i % 4 > 0 || (byte & 15) === 0);
@@ -52,7 +42,7 @@ async function turnedAdvice(codec, { form, file }) {
 }
 
 /* What to say of a file in which no whole block stands; the commands that mend it; whether it is none of cells (`isOther`), or in
-   which form it is to be read. */
+   which form it is to be read, or in which of its channels a line may be. */
 export async function adviceOf(codec, cells) {
     const { head, form, file } = cells;
     const known = form === "text" ? undefined : BEGINNINGS.find(([beginning]) => beginning.test(latin(head)));
@@ -62,9 +52,10 @@ export async function adviceOf(codec, cells) {
     if (known) {
         return { says: known[1], commands: known[2], isOther: true };
     }
-    if (form === "packed" && areSamples(head)) {
-        const says = "These look like samples of a logic analyser, and no cells yet. To make cells of them:";
-        return { says, commands: [CHANNEL.replace("SAMPLES", "FILE")], isOther: true };
+    const samples = form === "packed" && samplesIn(head);
+    if (samples) {
+        const says = "These look like samples of a logic analyser, and no cells yet. To make cells of them, here or by a program:";
+        return { says, commands: [CHANNEL.replace("SAMPLES", "FILE")], isOther: true, samples };
     }
     if (form === "packed" && file.size % 1536 === 0 && areWords(head)) {
         return { says: "This looks like a block file. To make a line of it:", commands: ["aes3 encode < FILE > LINE"], isOther: true };

@@ -2,7 +2,7 @@
 
 import { plain } from "./words.js";
 
-const PIECE = 1 << 20; // bytes of the file that are read at once
+export const PIECE = 1 << 20; // bytes of the file that are read at once
 const ZERO = 48, ONE = 49;
 const isSeparator = byte => byte === 10 || byte === 13 || byte === 32;
 export const isText = bytes => bytes.every(byte => byte === ZERO || byte === ONE || isSeparator(byte));

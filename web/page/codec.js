@@ -20,7 +20,7 @@ export class Codec {
         };
         [this.lock, this.other] = [room(3104), room(3104)];
         [this.report, this.block, this.cells] = [room(1560), room(1536), room(3072)];
-        [this.status, this.fields] = [room(24), room(64)];
+        [this.status, this.fields, this.capture] = [room(24), room(64), room(80)];
         this.buffer = room(0);
         this.view = new DataView(memory);
         this.bytes = new Uint8Array(memory);
@@ -105,5 +105,25 @@ export class Codec {
         new Uint32Array(this.view.buffer, this.block, 384).set(words);
         const answer = this.call("encode_block", BigInt(this.block), before, BigInt(this.cells));
         return answer === 384 ? this.bytes.slice(this.cells, this.cells + 3072) : null;
+    }
+
+    /* How many octets of samples `recover` takes: behind them there is room for their cells. */
+    mostSamples() {
+        return Math.floor((this.octets.length - 64) / 5) * 4;
+    }
+
+    /* The cells of the line in a channel of the samples in the first `size` octets of the buffer, packed, and what was found of it. */
+    recover(size, unit, channel) {
+        const to = this.buffer + size;
+        const room = this.bytes.length - to;
+        const isWhole = this.call("capture_cells", BigInt(this.buffer), BigInt(size), unit, channel, 0n, BigInt(to), BigInt(room),
+            BigInt(this.capture));
+        if (!isWhole) {
+            throw new Error("there is no room for the cells");
+        }
+        const [octets, samples, cells, period, edges, greatest, squares, dead, deadAt, measured] =
+            new BigUint64Array(this.view.buffer, this.capture, 10);
+        const found = { samples, cells, period, edges, greatest, squares, dead, deadAt, measured };
+        return { cells: this.bytes.slice(to, to + Number(octets)), found };
     }
 }

@@ -21,7 +21,9 @@ function listenToFiles(page) {
     at("file").addEventListener("change", () => at("file").files.length > 0 && page.open(at("file").files[0]));
     // So that the same file is read again where it was written anew.
     at("file").addEventListener("click", () => at("file").value = "");
-    at("form").addEventListener("change", () => page.file && page.open(page.file));
+    for (const id of ["form", "unit", "channel"]) {
+        at(id).addEventListener("change", () => page.reopen());
+    }
     at("rate").addEventListener("change", () => page.found && (page.showTimes(), page.levels(page.first)));
     at("example").addEventListener("click", () => page.open(exampleFile(page.codec)));
     at("save-wav").addEventListener("click", () => saveWav(page));

@@ -2,6 +2,7 @@
 
 import { adviceOf } from "./advice.js";
 import { changesText, frameRows, peakRows, peakTexts, statusTable } from "./blocks.js";
+import { recoveredFile } from "./capture.js";
 import { CellFile } from "./cells.js";
 import { Codec, SUBFRAME_CELLS } from "./codec.js";
 import { listen } from "./controls.js";
@@ -40,8 +41,9 @@ class Page {
         document.body.dataset.state = "reading";
         try {
             const found = await this.turns.alone(`${file.name} is read`, async progress => {
-                const cells = await CellFile.open(file, at("form").value);
-                return readAll(this.codec, cells, bytes => progress(bytes, file.size));
+                const { cells, figures } = await this.cellsOf(file, progress);
+                const found = await readAll(this.codec, cells, bytes => progress(bytes, cells.file.size));
+                return { ...found, figures };
             });
             await this.show(found, turn);
         } catch (error) {
@@ -51,6 +53,18 @@ class Page {
                 document.body.dataset.state = "failed";
             }
         }
+    }
+
+    /* The cells of a file, and of samples what was found of the line in them. */
+    async cellsOf(file, progress) {
+        const form = at("form").value;
+        if (form !== "samples") {
+            return { cells: await CellFile.open(file, form) };
+        }
+        const line = { unit: Number(at("unit").value), channel: Number(at("channel").value) };
+        const recovered = await recoveredFile(this.codec, file, line, bytes => progress(bytes, file.size));
+        const figures = `samples of a logic analyser, channel ${line.channel}: ${recovered.figures}`;
+        return { cells: await CellFile.open(recovered.file, "packed"), figures };
     }
 
     async show(found, turn) {
@@ -79,8 +93,8 @@ class Page {
     }
 
     stateText() {
-        const { cells } = this.found;
-        return `${this.file.name}: ${cellCount(cells.total)}, as ${FORMS[cells.form]}`;
+        const { cells, figures } = this.found;
+        return `${this.file.name}: ${cellCount(cells.total)}, as ${figures ?? FORMS[cells.form]}`;
     }
 
     /* What to do with a file that is none, with a button where the page can do it. */
@@ -93,15 +107,28 @@ class Page {
             made.addEventListener("click", press);
             at("advice").append(made);
         };
-        advice?.form && button("Read it so", () => {
-            at("form").value = advice.form;
-            this.open(this.file);
-        });
+        advice?.form && button("Read it so", () => this.openAs(advice.form));
+        advice?.samples?.channels.forEach(channel => button(`Recover the cells of channel ${channel}`, () => {
+            [at("unit").value, at("channel").value] = [advice.samples.unit, channel];
+            this.openAs("samples");
+        }));
         advice?.isOther && button("Show it as cells all the same", () => {
             at("found").hidden = false;
             drawStrip(at("strip"), this.found);
             this.levels(this.first + (this.count - this.shown()) / 2);
         });
+    }
+
+    /* Reads the file once more, in another form. */
+    openAs(form) {
+        at("form").value = form;
+        return this.reopen();
+    }
+
+    /* Reads the file that is open once more, by what the menus say now. */
+    reopen() {
+        at("samples").hidden = at("form").value !== "samples";
+        return this.file && this.open(this.file);
     }
 
     /* All that speaks of times. */
