@@ -45,9 +45,11 @@ pub fn account<S: Source, T: Sink>(
         (account_lines lines (account (cells_of input b)))) }
     // It is a run over cells: Ok is owed, a refusal has its cause, and what stood before it is
     // written.
-    ensures run { CellRun max_bytes input (λ c. account_lines lines (account c))
-        (λ c. account_lines lines (begun_account c)) (account_counts input)
-        (S.has_ended source.new) (movement_of S.given S.failed source.old source.new)
+    ensures run { CellRun max_bytes input (record {
+      whole = λ c. account_lines lines (account c);
+      begun = λ c. account_lines lines (begun_account c);
+      counts = account_counts input;
+    }) (S.has_ended source.new) (movement_of S.given S.failed source.old source.new)
         (movement_of T.taken T.failed sink.old sink.new) result }
     ensures passed_on { IfOk result (λ _. T.passed sink.new ≡ T.taken sink.new) }
 {

@@ -361,8 +361,11 @@ pub fn watch<S: Source, T: Sink>(
         → Grew (T.taken sink.old) (T.taken sink.new) (watch_lines style (cells_of input b))) }
     // It is a run over cells: Ok is owed, a refusal has its cause, and what stood before it is
     // written.
-    ensures run { CellRun max_bytes input (watch_lines style) (begun_watch style) (watch_counts input)
-        (S.has_ended source.new) (movement_of S.given S.failed source.old source.new)
+    ensures run { CellRun max_bytes input (record {
+      whole = watch_lines style;
+      begun = begun_watch style;
+      counts = watch_counts input;
+    }) (S.has_ended source.new) (movement_of S.given S.failed source.old source.new)
         (movement_of T.taken T.failed sink.old sink.new) result }
     ensures passed_on { IfOk result (λ _. T.passed sink.new ≡ T.taken sink.new) }
 {

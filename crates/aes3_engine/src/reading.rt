@@ -186,9 +186,11 @@ pub fn normalise<S: Source, T: Sink>(
         → length b ≤ max_bytes + 1 }
 
     // All that in one, of a source that tells no bytes too: no end failed but the one it was refused for.
-    ensures run { CellRun max_bytes input (λ c. written output (normal c))
-        (λ c. begun_stream output (decided_blocks c)) (counts_of input) (S.has_ended source.new)
-        (movement_of S.given S.failed source.old source.new)
+    ensures run { CellRun max_bytes input (record {
+      whole = λ c. written output (normal c);
+      begun = λ c. begun_stream output (decided_blocks c);
+      counts = counts_of input;
+    }) (S.has_ended source.new) (movement_of S.given S.failed source.old source.new)
         (movement_of T.taken T.failed sink.old sink.new) result }
 {
     run_blocks(source, sink, max_bytes, input, NormalBlocks { output })
@@ -220,9 +222,11 @@ pub fn decode<S: Source, T: Sink>(
         → Grew (T.taken sink.old) (T.taken sink.new) (file bs)) }
     // It is a run over cells: Ok is owed, a refusal has its cause, and what was decided before it
     // is written.
-    ensures run { CellRun max_bytes input (λ c. file (blocks c)) (λ c. file (decided_blocks c))
-        (counts_of input)
-        (S.has_ended source.new) (movement_of S.given S.failed source.old source.new)
+    ensures run { CellRun max_bytes input (record {
+      whole = λ c. file (blocks c);
+      begun = λ c. file (decided_blocks c);
+      counts = counts_of input;
+    }) (S.has_ended source.new) (movement_of S.given S.failed source.old source.new)
         (movement_of T.taken T.failed sink.old sink.new) result }
     ensures passed_on { IfOk result (λ _. T.passed sink.new ≡ T.taken sink.new) }
 {
@@ -253,10 +257,11 @@ pub fn cut<S: Source, T: Sink>(
         (written_stream output (cut_blocks from count (blocks (cells_of input b))))) }
     // It is a run over cells: Ok is owed, a refusal has its cause, and what was decided before it
     // is written.
-    ensures run { CellRun max_bytes input (λ c. written_stream output
-        (cut_blocks from count (blocks c))) (λ c. begun_stream output
-        (cut_blocks from count (decided_blocks c))) (counts_of input)
-        (S.has_ended source.new) (movement_of S.given S.failed source.old source.new)
+    ensures run { CellRun max_bytes input (record {
+      whole = λ c. written_stream output (cut_blocks from count (blocks c));
+      begun = λ c. begun_stream output (cut_blocks from count (decided_blocks c));
+      counts = counts_of input;
+    }) (S.has_ended source.new) (movement_of S.given S.failed source.old source.new)
         (movement_of T.taken T.failed sink.old sink.new) result }
     ensures passed_on { IfOk result (λ _. T.passed sink.new ≡ T.taken sink.new) }
 {

@@ -72,9 +72,11 @@ pub fn to_pcm<S: Source, T: Sink>(
         → Grew (T.taken sink.old) (T.taken sink.new) (samples bs)) }
     // It is a run over cells: Ok is owed, a refusal has its cause, and what was decided before it
     // is written.
-    ensures run { CellRun max_bytes input (λ c. samples (blocks c))
-        (λ c. samples (decided_blocks c)) (counts_of input)
-        (S.has_ended source.new) (movement_of S.given S.failed source.old source.new)
+    ensures run { CellRun max_bytes input (record {
+      whole = λ c. samples (blocks c);
+      begun = λ c. samples (decided_blocks c);
+      counts = counts_of input;
+    }) (S.has_ended source.new) (movement_of S.given S.failed source.old source.new)
         (movement_of T.taken T.failed sink.old sink.new) result }
     ensures passed_on { IfOk result (λ _. T.passed sink.new ≡ T.taken sink.new) }
 {

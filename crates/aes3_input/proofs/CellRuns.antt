@@ -35,7 +35,7 @@ pub drove-ok : {max : ℕ} {form : Form} {w : Writing Level} {f z : List Level �
     → ((c : List Level) → with_end w c ≡ whole c) → ((c : List Level) → before_end w c ≡ begun c)
     → ((b : List ℕ) → bytes ≡ length b → cells ≡ length (cells_of form b) → z (cells_of form b) → n ≡ counts b)
     → Drive max form w f z ended source sink (Ok (bytes, cells))
-    → CellRun max form whole begun counts ended source sink (Ok n)
+    → CellRun max form (record { whole = whole; begun = begun; counts = counts }) ended source sink (Ok n)
 drove-ok {form = form} whole begun counts n p q k r
     = run-ok (cells-give form whole begun p q) (λ b i h. k b h.1 h.2 h.0) r.run
 
@@ -43,14 +43,16 @@ pub drove-err : {max : ℕ} {form : Form} {w : Writing Level} {f z : List Level 
     (whole begun : List Level → List ℕ) (counts : List ℕ → Counts)
     {ended : Bool} {source sink : Movement} {x : RunError}
     → ((c : List Level) → with_end w c ≡ whole c) → ((c : List Level) → before_end w c ≡ begun c)
-    → Drive max form w f z ended source sink (Err x) → CellRun max form whole begun counts ended source sink (Err x)
+    → Drive max form w f z ended source sink (Err x)
+    → CellRun max form (record { whole = whole; begun = begun; counts = counts }) ended source sink (Err x)
 drove-err {form = form} whole begun counts p q r = run-err (cells-give form whole begun p q) r.run
 
 pub cells-run : {max : ℕ} (form : Form)
     {whole begun : List Level → List ℕ} {counts : List ℕ
     → Counts} {ended : Bool} {source sink : Movement} {r : Result Counts RunError} (g h : List Level → List ℕ)
     → ((c : List Level) → whole c ≡ g c) → ((c : List Level) → begun c ≡ h c)
-    → CellRun max form whole begun counts ended source sink r → CellRun max form g h counts ended source sink r
+    → CellRun max form (record { whole = whole; begun = begun; counts = counts }) ended source sink r
+    → CellRun max form (record { whole = g; begun = h; counts = counts }) ended source sink r
 cells-run form g h p q run = run-is (cells-give form g h p q) (λ b n e. e) run
 
 -- an input of cells that fits has no cause

@@ -39,9 +39,17 @@ over_cells form whole begun answer = record {
 abbrev pub counted_cells : Form → (List Level → List ℕ) → (List Level → List ℕ) → (List ℕ → Counts) → Promise Counts
 counted_cells form whole begun counts = over_cells form whole begun (λ b n. n ≡ counts b)
 
-abbrev pub CellRun : ℕ → Form → (List Level → List ℕ) → (List Level → List ℕ) → (List ℕ → Counts) → Bool → Movement
-    → Movement → Result Counts RunError → Type 0
-CellRun max form whole begun counts = InputRun (counted_cells form whole begun counts) max
+-- What a command that reads cells promises of them.
+-- whole: what it writes of an input's cells
+-- begun: what it writes of cells behind which more may come
+-- counts: what it counts of an input's bytes
+pub record CellPromise : Type 0 where
+  pub whole : List Level → List ℕ
+  pub begun : List Level → List ℕ
+  pub counts : List ℕ → Counts
+
+abbrev pub CellRun : ℕ → Form → CellPromise → Bool → Movement → Movement → Result Counts RunError → Type 0
+CellRun max form p = InputRun (counted_cells form p.whole p.begun p.counts) max
 
 -- what driving a taker promises, of which z holds then: how many bytes and cells there are; the taker was given exactly
 -- the cells

@@ -219,9 +219,11 @@ pub fn scan<S: Source, T: Sink>(
         → Grew (T.taken sink.old) (T.taken sink.new) (mark_lines (marks (cells_of input b)))) }
     // It is a run over cells: Ok is owed, a refusal has its cause, and what was told before it is
     // written.
-    ensures run { CellRun max_bytes input (λ c. mark_lines (marks c)) (λ c. mark_lines (marks c))
-        (scan_counts input)
-        (S.has_ended source.new) (movement_of S.given S.failed source.old source.new)
+    ensures run { CellRun max_bytes input (record {
+      whole = λ c. mark_lines (marks c);
+      begun = λ c. mark_lines (marks c);
+      counts = scan_counts input;
+    }) (S.has_ended source.new) (movement_of S.given S.failed source.old source.new)
         (movement_of T.taken T.failed sink.old sink.new) result }
     ensures passed_on { IfOk result (λ _. T.passed sink.new ≡ T.taken sink.new) }
 {

@@ -38,4 +38,8 @@ report_writing f ending = record { adds = λ r x. f (length (wholes r)) x; ends 
 -- a run over cells that gives each report its bytes, and at the end e
 abbrev pub ReportRun : ℕ → Form → (ℕ → Report → List ℕ) → List ℕ → Bool → Movement → Movement
     → Result Counts RunError → Type 0
-ReportRun max form f e = CellRun max form (λ c. output f (reports c) ++ e) (λ c. output f (decided c)) (counts_of form)
+ReportRun max form f e = CellRun max form (record {
+  whole = λ c. output f (reports c) ++ e;
+  begun = λ c. output f (decided c);
+  counts = counts_of form;
+})

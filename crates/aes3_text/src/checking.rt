@@ -70,9 +70,11 @@ pub fn check<S: Source, T: Sink>(
         (report_lines lines (reports (cells_of input b)))) }
     // It is a run over cells: Ok is owed, a refusal has its cause, and what was decided before it
     // is written.
-    ensures run { CellRun max_bytes input (λ c. report_lines lines (reports c))
-        (λ c. report_lines lines (decided c)) (counts_of input)
-        (S.has_ended source.new) (movement_of S.given S.failed source.old source.new)
+    ensures run { CellRun max_bytes input (record {
+      whole = λ c. report_lines lines (reports c);
+      begun = λ c. report_lines lines (decided c);
+      counts = counts_of input;
+    }) (S.has_ended source.new) (movement_of S.given S.failed source.old source.new)
         (movement_of T.taken T.failed sink.old sink.new) result }
     ensures passed_on { IfOk result (λ _. T.passed sink.new ≡ T.taken sink.new) }
 {
