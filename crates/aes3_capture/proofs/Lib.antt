@@ -1,3 +1,4 @@
 pub mod Steps
 pub mod Edges
 pub mod Counts
+pub mod Whole

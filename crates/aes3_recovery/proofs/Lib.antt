@@ -1,5 +1,9 @@
 mod LaneBits
+pub mod SameLevels
+pub mod RunsBehind
+pub mod Followed
 pub mod Steady
 pub mod WordBits
 pub mod EndBytes
 pub mod Queueing
+pub mod States

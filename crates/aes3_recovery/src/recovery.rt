@@ -1,11 +1,12 @@
 //! Cells recovered from the levels of samples.
 
-ghost use Rattle.std.specs.Prelude.{◌+◌, ◌<◌, ◌≤◌, ◌^◌, ◌≡◌};
+ghost use Rattle.std.specs.Prelude.{ℕ, List, [], ◌++◌, ◌+◌, ◌<◌, ◌≤◌, ◌^◌, ◌≡◌, ◌≢◌};
 ghost use Rattle.std.specs.Prelude.{IfOk, OnErr};
 
+use crate::edges::{Edges, Piece};
+use crate::line_follower::LineFollower;
 use crate::measure::{RUNS, bounds_around, follower_of_runs};
-use crate::queue::CellQueue;
-use aes3_capture::{Follower, PARTS};
+use aes3_capture::{Bounds, Follower, PARTS};
 use aes3_cell::{Fault, Form, Sink};
 
 /// How many cells without an edge are a dead stretch.
@@ -51,20 +52,18 @@ enum State {
 /// Recovers the cells of one line.
 #[derive(Drop)]
 pub struct Recovery {
-    queue: CellQueue,
+    /// The line, its edges and its cells. Its follower is one of a line only once that is found.
+    line: LineFollower,
+    found: bool,
     figures: Figures,
     /// How long a cell is, in parts of a sample, where that is given.
     known: Option<u64>,
-    follower: Option<Follower>,
     state: State,
     /// The samples that wait for the first period.
     held: u64,
     /// The runs of samples that wait to be measured.
     runs: [u32; RUNS],
     count: usize,
-    /// The level now, and the samples of it that were not passed on.
-    high: bool,
-    run: u32,
     /// The mean distance of edges from their places.
     spread: u64,
     ghost few: { count < 256 },
@@ -82,20 +81,41 @@ fn known_follower(known: Option<u64>) -> Option<Follower> {
     }
 }
 
+/// A follower of no line.
+fn any_follower() -> Follower {
+    let bounds = Bounds {
+        low: 2 * PARTS,
+        high: 2 * PARTS,
+    };
+    Follower::new(bounds, 2 * PARTS)
+}
+
 impl Recovery {
+    ghost use Rattle.aes3_level.specs.declared.level.Level.{Level};
+    ghost use Rattle.aes3_level.specs.Words.{low_cells};
+    ghost use Rattle.aes3_capture.specs.declared.follower.Follower.{Follower};
+    ghost use Rattle.aes3_capture.specs.Captures.{Captures};
+    ghost use Rattle.aes3_capture.specs.Following.{Follows};
+    ghost use Rattle.aes3_recovery.specs.Endings.{level_if};
+    ghost use Rattle.aes3_recovery.specs.Runs.{AreCaptured};
+    ghost use Rattle.aes3_recovery.specs.LineFollowing.{Followed, Gives, RunTold, SomeTold};
+    ghost use Rattle.aes3_recovery.specs.declared.recovery.State.TheVariants.{Following, Still};
+
     /// A recovery of which nothing came. A cell is so many parts of a sample, where that is given.
     pub fn new(form: Form, known: Option<u64>) -> Self {
+        let (follower, found) = match known_follower(known) {
+            Some(follower) => (follower, true),
+            None => (any_follower(), false),
+        };
         Recovery {
-            queue: CellQueue::new(form),
+            line: LineFollower::new(form, follower, Edges::new(false)),
+            found,
             figures: Figures::default(),
             known,
-            follower: known_follower(known),
             state: State::Still,
             held: 0,
             runs: [0; RUNS],
             count: 0,
-            high: false,
-            run: 0,
             spread: 0,
         }
     }
@@ -103,8 +123,9 @@ impl Recovery {
     /// What was found of the line so far.
     pub fn figures(&self) -> Figures {
         let mut figures = self.figures;
-        if let Some(follower) = self.follower {
-            figures.period = follower.period();
+        figures.cells = self.line.cells();
+        if self.found {
+            figures.period = self.line.follower().period();
         }
         figures
     }
@@ -118,41 +139,64 @@ impl Recovery {
         requires room { T.failed sink.old + 1 < 2 ^ 64 }
         ensures count { IfOk result (λ _. T.failed sink.new ≡ T.failed sink.old) }
         ensures err_count { OnErr result (T.failed sink.new ≡ T.failed sink.old + 1) }
+        ensures follows { self.old.state ≡ Following → self.new.state ≡ Following
+            → self.new.figures.measured ≡ self.old.figures.measured
+            → self.old.figures.measured + 1 < 2 ^ 64 → 1 ≤ self.old.figures.samples
+            → (begun : List ℕ) (front : List Level) (first : Follower) (before : Level) (seen : List Level)
+            → Followed (T.taken sink.old) begun front self.old.line first before seen []
+            → IfOk result (λ _. Followed (T.taken sink.new) begun front self.new.line first before
+            (seen ++ low_cells len levels) []) }
+        ensures mean { self.old.state ≡ Following → self.new.state ≡ Following
+            → self.new.figures.measured ≡ self.old.figures.measured
+            → self.old.figures.measured + 1 < 2 ^ 64 → 1 ≤ self.old.figures.samples
+            → (begun : List ℕ) (front : List Level) (first : Follower) (before : Level) (seen : List Level)
+            (same other_mean displaced : ℕ) (cells : List Level)
+            → Followed (T.taken sink.old) begun front self.old.line first before seen []
+            → Follows first same other_mean displaced 0 0
+            → AreCaptured (Captures first.bounds same other_mean displaced) before cells
+            (seen ++ low_cells len levels)
+            → IfOk result (λ _. Gives (T.taken sink.new) begun front self.new.line cells) }
     {
-        if len == 0 {
-            return Ok(());
-        }
-        if self.figures.samples == 0 {
-            self.high = levels & 1 == 1;
-        }
-        self.figures.samples = self.figures.samples.saturating_add(u64::from(len));
-        let before = levels << 1 | u64::from(self.high);
-        let mut edges = (levels ^ before) & (u64::MAX >> (64 - len));
-        let mut at = 0;
-        'edges: for _ in 0..edges.count_ones() {
-            let next = edges.trailing_zeros();
-            match self.edge(sink, next.saturating_sub(at)) {
+        self.count_samples(levels, len);
+        let mut piece = Piece::new(levels, len);
+        while let Some(run) = self.line.next_edge(&mut piece) {
+            let high = !self.line.is_high();
+            match self.edge(sink, high, run) {
                 Ok(()) => {}
                 Err(fault) => return Err(fault),
             }
-            at = next;
-            edges &= edges.wrapping_sub(1);
         }
-        self.run = self.run.saturating_add(len.saturating_sub(at));
         self.rest(sink)
     }
 
-    /// Takes an edge behind so many more samples.
+    /// Counts samples; the first of all says at which level the line begins.
     #[inline(always)]
-    fn edge<T: Sink>(&mut self, sink: &mut T, samples: u32) -> Result<(), Fault>
+    fn count_samples(&mut self, levels: u64, len: u32)
+        ensures state { self.new.state ≡ self.old.state }
+        ensures measured { self.new.figures.measured ≡ self.old.figures.measured }
+        ensures line { 1 ≤ self.old.figures.samples → self.new.line ≡ self.old.line }
+    {
+        let before = self.figures.samples;
+        self.figures.samples = before.saturating_add(u64::from(len));
+        if before > 0 {
+            return;
+        }
+        self.line.start(levels & 1 == 1);
+    }
+
+    /// Takes an edge behind a run of samples of this level.
+    #[inline(always)]
+    fn edge<T: Sink>(&mut self, sink: &mut T, high: bool, run: u32) -> Result<(), Fault>
         requires room { T.failed sink.old + 1 < 2 ^ 64 }
         ensures count { IfOk result (λ _. T.failed sink.new ≡ T.failed sink.old) }
         ensures err_count { OnErr result (T.failed sink.new ≡ T.failed sink.old + 1) }
+        ensures up { self.old.figures.measured ≤ self.new.figures.measured }
+        ensures begun { self.old.state ≢ Following → self.new.state ≡ Following
+            → self.old.figures.measured + 1 < 2 ^ 64
+            → self.old.figures.measured < self.new.figures.measured }
+        ensures told { self.old.state ≡ Following → RunTold T.taken self.old.line self.new.line sink.old sink.new
+            result run (level_if high) }
     {
-        let run = self.run.saturating_add(samples);
-        let high = self.high;
-        self.run = 0;
-        self.high = !high;
         match self.state {
             State::Following => self.follow(sink, high, run),
             State::Still => {
@@ -169,28 +213,14 @@ impl Recovery {
         requires room { T.failed sink.old + 1 < 2 ^ 64 }
         ensures count { IfOk result (λ _. T.failed sink.new ≡ T.failed sink.old) }
         ensures err_count { OnErr result (T.failed sink.new ≡ T.failed sink.old + 1) }
+        ensures state { self.new.state ≡ self.old.state }
+        ensures measured { self.new.figures.measured ≡ self.old.figures.measured }
     {
-        match &mut self.follower {
-            Some(follower) => {
-                let cells = follower.run(run);
-                self.put(sink, high, cells)
-            }
-            None => {
-                self.held = self.held.saturating_add(u64::from(run));
-                Ok(())
-            }
+        if self.found {
+            return self.line.tell(sink, high, run);
         }
-    }
-
-    /// Puts cells into the queue.
-    #[inline(always)]
-    fn put<T: Sink>(&mut self, sink: &mut T, high: bool, cells: u64) -> Result<(), Fault>
-        requires room { T.failed sink.old + 1 < 2 ^ 64 }
-        ensures count { IfOk result (λ _. T.failed sink.new ≡ T.failed sink.old) }
-        ensures err_count { OnErr result (T.failed sink.new ≡ T.failed sink.old + 1) }
-    {
-        self.figures.cells = self.figures.cells.saturating_add(cells);
-        self.queue.put(sink, high, cells)
+        self.held = self.held.saturating_add(u64::from(run));
+        Ok(())
     }
 
     /// Tells the cells of a run of a line whose edges are near their places.
@@ -199,8 +229,11 @@ impl Recovery {
         requires room { T.failed sink.old + 1 < 2 ^ 64 }
         ensures count { IfOk result (λ _. T.failed sink.new ≡ T.failed sink.old) }
         ensures err_count { OnErr result (T.failed sink.new ≡ T.failed sink.old + 1) }
+        ensures told { RunTold T.taken self.old.line self.new.line sink.old sink.new result run
+            (level_if high) }
+        ensures measured { self.new.figures.measured ≡ self.old.figures.measured }
     {
-        match self.tell(sink, high, run) {
+        match self.line.tell(sink, high, run) {
             Ok(()) => {
                 self.note();
                 Ok(())
@@ -212,22 +245,23 @@ impl Recovery {
     /// Notes how far the latest edge is from its place. A line is lost where edges are so far from
     /// theirs as they would be by chance, or where rising and falling edges have slipped.
     #[inline(always)]
-    fn note(&mut self) {
-        if let Some(follower) = self.follower {
-            // The grid has gone a sixteenth of the way to it.
-            let left = follower.distance() >> 8;
-            let distance = left.saturating_add(left / 15);
-            self.figures.edges = self.figures.edges.saturating_add(1);
-            self.figures.greatest = self.figures.greatest.max(distance);
-            let square = distance.saturating_mul(distance);
-            self.figures.squares = self.figures.squares.saturating_add(square);
-            self.spread = (self.spread - (self.spread >> 8))
-                .saturating_add(distance)
-                .min(1 << 32);
-            if self.spread > follower.period() / 5 || follower.has_slipped() {
-                self.state = State::Measuring;
-            }
-        }
+    fn note(&mut self)
+        ensures line { self.new.line ≡ self.old.line }
+        ensures measured { self.new.figures.measured ≡ self.old.figures.measured }
+    {
+        let follower = self.line.follower();
+        // The grid has gone a sixteenth of the way to it.
+        let left = follower.distance() >> 8;
+        let distance = left.saturating_add(left / 15);
+        self.figures.edges = self.figures.edges.saturating_add(1);
+        self.figures.greatest = self.figures.greatest.max(distance);
+        let square = distance.saturating_mul(distance);
+        self.figures.squares = self.figures.squares.saturating_add(square);
+        self.spread = (self.spread - (self.spread >> 8))
+            .saturating_add(distance)
+            .min(1 << 32);
+        let lost = self.spread > follower.period() / 5 || follower.has_slipped();
+        self.state = if lost { State::Measuring } else { self.state };
     }
 
     /// Gathers a run of a line that is to be measured.
@@ -235,6 +269,10 @@ impl Recovery {
         requires room { T.failed sink.old + 1 < 2 ^ 64 }
         ensures count { IfOk result (λ _. T.failed sink.new ≡ T.failed sink.old) }
         ensures err_count { OnErr result (T.failed sink.new ≡ T.failed sink.old + 1) }
+        ensures up { self.old.figures.measured ≤ self.new.figures.measured }
+        ensures begun { self.old.state ≢ Following → self.new.state ≡ Following
+            → self.old.figures.measured + 1 < 2 ^ 64
+            → self.old.figures.measured < self.new.figures.measured }
     {
         self.runs[self.count] = run;
         if self.count + 1 < RUNS {
@@ -251,14 +289,17 @@ impl Recovery {
         requires room { T.failed sink.old + 1 < 2 ^ 64 }
         ensures count { IfOk result (λ _. T.failed sink.new ≡ T.failed sink.old) }
         ensures err_count { OnErr result (T.failed sink.new ≡ T.failed sink.old + 1) }
+        ensures up { self.old.figures.measured ≤ self.new.figures.measured }
+        ensures begun { self.old.state ≢ Following → self.new.state ≡ Following
+            → self.old.figures.measured + 1 < 2 ^ 64
+            → self.old.figures.measured < self.new.figures.measured }
     {
-        let told = match follower_of_runs(&self.runs[..count], self.known) {
-            Some(follower) => self.begin(sink, follower, count),
-            None => Ok(()),
-        };
-        match told {
-            Ok(()) => self.release(sink, count),
-            Err(fault) => Err(fault),
+        match follower_of_runs(&self.runs[..count], self.known) {
+            None => self.release(sink, count),
+            Some(follower) => match self.begin(sink, follower, count) {
+                Ok(()) => self.release(sink, count),
+                Err(fault) => Err(fault),
+            },
         }
     }
 
@@ -272,19 +313,20 @@ impl Recovery {
         requires room { T.failed sink.old + 1 < 2 ^ 64 }
         ensures count { IfOk result (λ _. T.failed sink.new ≡ T.failed sink.old) }
         ensures err_count { OnErr result (T.failed sink.new ≡ T.failed sink.old + 1) }
+        ensures up { self.old.figures.measured ≤ self.new.figures.measured }
+        ensures begun { self.old.figures.measured + 1 < 2 ^ 64
+            → self.old.figures.measured < self.new.figures.measured }
     {
-        let is_first = self.follower.is_none();
-        self.follower = Some(follower);
+        let is_first = !self.found;
+        self.found = true;
+        self.line.follow(follower);
         self.state = State::Following;
         self.spread = 0;
         self.figures.measured = self.figures.measured.saturating_add(1);
         if is_first {
-            let high = self.high == (count % 2 == 1);
-            self.put(
-                sink,
-                high,
-                self.held.saturating_mul(PARTS) / follower.period().max(1),
-            )
+            let high = self.line.is_high() == (count % 2 == 1);
+            let cells = self.held.saturating_mul(PARTS) / follower.period().max(1);
+            self.line.put(sink, high, cells)
         } else {
             Ok(())
         }
@@ -296,9 +338,11 @@ impl Recovery {
         requires room { T.failed sink.old + 1 < 2 ^ 64 }
         ensures count { IfOk result (λ _. T.failed sink.new ≡ T.failed sink.old) }
         ensures err_count { OnErr result (T.failed sink.new ≡ T.failed sink.old + 1) }
+        ensures state { self.new.state ≡ self.old.state }
+        ensures measured { self.new.figures.measured ≡ self.old.figures.measured }
     {
         // Behind the last of them comes the level now, and they take turns.
-        let mut high = self.high != (count % 2 == 1);
+        let mut high = self.line.is_high() != (count % 2 == 1);
         for i in 0..count {
             match self.tell(sink, high, self.runs[i]) {
                 Ok(()) => {}
@@ -309,18 +353,30 @@ impl Recovery {
         Ok(())
     }
 
+    /// How long a cell is taken to be, in parts of a sample.
+    #[inline(always)]
+    fn period(&self) -> u64
+        ensures { result ≤ 2 ^ 30 }
+    {
+        if self.found {
+            self.line.follower().period()
+        } else {
+            ANY_PERIOD
+        }
+    }
+
     /// A line is dead where no edge came for long: what waits is told as cells.
     #[inline(always)]
     fn rest<T: Sink>(&mut self, sink: &mut T) -> Result<(), Fault>
         requires room { T.failed sink.old + 1 < 2 ^ 64 }
         ensures count { IfOk result (λ _. T.failed sink.new ≡ T.failed sink.old) }
         ensures err_count { OnErr result (T.failed sink.new ≡ T.failed sink.old + 1) }
+        ensures measured { self.new.figures.measured ≡ self.old.figures.measured }
+        ensures state { self.new.state ≡ Following → self.old.state ≡ Following }
+        ensures told { self.new.state ≡ Following
+            → SomeTold T.taken self.old.line self.new.line sink.old sink.new result }
     {
-        let period = match self.follower {
-            Some(follower) => follower.period(),
-            None => ANY_PERIOD,
-        };
-        if u64::from(self.run) * PARTS / DEAD < period {
+        if u64::from(self.line.waiting()) * PARTS / DEAD < self.period() {
             return Ok(());
         }
         self.still(sink)
@@ -331,12 +387,10 @@ impl Recovery {
         requires room { T.failed sink.old + 1 < 2 ^ 64 }
         ensures count { IfOk result (λ _. T.failed sink.new ≡ T.failed sink.old) }
         ensures err_count { OnErr result (T.failed sink.new ≡ T.failed sink.old + 1) }
+        ensures state { self.new.state ≡ Still }
+        ensures measured { self.new.figures.measured ≡ self.old.figures.measured }
     {
-        if self.state != State::Still {
-            self.figures.dead = self.figures.dead.saturating_add(1);
-            self.figures.dead_at = self.figures.samples.saturating_sub(u64::from(self.run));
-        }
-        self.state = State::Still;
+        self.note_dead();
         let count = self.count;
         self.count = 0;
         match self.release(sink, count) {
@@ -345,24 +399,34 @@ impl Recovery {
         }
     }
 
+    /// Notes that a line is dead, and where it died.
+    fn note_dead(&mut self)
+        ensures state { self.new.state ≡ Still }
+        ensures measured { self.new.figures.measured ≡ self.old.figures.measured }
+    {
+        if self.state == State::Still {
+            return;
+        }
+        self.figures.dead = self.figures.dead.saturating_add(1);
+        let waiting = u64::from(self.line.waiting());
+        self.figures.dead_at = self.figures.samples.saturating_sub(waiting);
+        self.state = State::Still;
+    }
+
     /// Tells the cells of samples behind which no edge has come yet.
     fn wait<T: Sink>(&mut self, sink: &mut T) -> Result<(), Fault>
         requires room { T.failed sink.old + 1 < 2 ^ 64 }
         ensures count { IfOk result (λ _. T.failed sink.new ≡ T.failed sink.old) }
         ensures err_count { OnErr result (T.failed sink.new ≡ T.failed sink.old + 1) }
+        ensures state { self.new.state ≡ self.old.state }
+        ensures measured { self.new.figures.measured ≡ self.old.figures.measured }
     {
-        let run = self.run;
-        self.run = 0;
-        match &mut self.follower {
-            Some(follower) => {
-                let cells = follower.pass(run);
-                self.put(sink, self.high, cells)
-            }
-            None => {
-                self.held = self.held.saturating_add(u64::from(run));
-                Ok(())
-            }
+        if self.found {
+            return self.line.pass(sink);
         }
+        let run = self.line.take_waiting();
+        self.held = self.held.saturating_add(u64::from(run));
+        Ok(())
     }
 
     /// Passes on the words of cells that are whole.
@@ -374,7 +438,7 @@ impl Recovery {
         ensures count { IfOk result (λ _. T.failed sink.new ≡ T.failed sink.old) }
         ensures err_count { OnErr result (T.failed sink.new ≡ T.failed sink.old + 1) }
     {
-        match self.queue.pass_on(sink) {
+        match self.line.pass_on(sink) {
             Ok(()) => sink.flush(),
             Err(fault) => Err(fault),
         }
@@ -408,10 +472,10 @@ impl Recovery {
         ensures count { IfOk result (λ _. T.failed sink.new ≡ T.failed sink.old) }
         ensures err_count { OnErr result (T.failed sink.new ≡ T.failed sink.old + 1) }
     {
-        let run = self.run;
-        self.run = 0;
-        match self.tell(sink, self.high, run) {
-            Ok(()) => match self.queue.finish(sink) {
+        let run = self.line.take_waiting();
+        let high = self.line.is_high();
+        match self.tell(sink, high, run) {
+            Ok(()) => match self.line.finish(sink) {
                 Ok(()) => sink.flush(),
                 Err(fault) => Err(fault),
             },

@@ -1,5 +1,24 @@
-use Rattle.std.proofs.Common.{◌≡◌}
+use Rattle.std.proofs.Common.{ℕ, List, [], ◌++◌, ◌≡◌, ◌≤◌, ◌<◌, ◌+◌, ◌^◌}
+use Rattle.aes3_level.specs.declared.level.Level.{Level}
+use Rattle.aes3_level.specs.Words.{low_cells}
+use Rattle.aes3_capture.specs.declared.follower.Follower.{Follower}
+use Rattle.aes3_recovery.specs.Runs.{levels_in}
+use Rattle.aes3_recovery.specs.LineFollowing.{Followed}
+use Rattle.aes3_recovery.specs.declared.recovery.State.TheVariants.{Following}
 use Rattle.aes3_recovery.proofs.recovery.Recovery.take.Given as goal
 
-abbrev pub invariant-edges : goal.invariant-edges
-invariant-edges g l = g.T.Sink.failed l.sink ≡ g.T.Sink.failed l.fn.sink
+abbrev pub invariant-loop-run : goal.invariant-loop-run
+invariant-loop-run g l = record {
+  quiet : g.T.Sink.failed l.sink ≡ g.T.Sink.failed l.fn.sink;
+  up : l.fn.self.figures.measured ≤ l.self.figures.measured;
+  followed : l.fn.self.state ≡ Following → l.self.state ≡ Following
+      → l.self.figures.measured ≡ l.fn.self.figures.measured → l.fn.self.figures.measured + 1 < 2 ^ 64
+      → 1 ≤ l.fn.self.figures.samples
+      → (begun : List ℕ) (front : List Level) (first : Follower) (before : Level) (seen : List Level)
+      → Followed (g.T.Sink.taken l.fn.sink) begun front l.fn.self.line first before seen []
+      → Followed (g.T.Sink.taken l.sink) begun front l.self.line first before
+      (seen ++ low_cells l.fn.len l.fn.levels) (levels_in l.piece);
+}
+
+abbrev pub decreases-loop-run : goal.decreases-loop-run
+decreases-loop-run g l = l.piece.len

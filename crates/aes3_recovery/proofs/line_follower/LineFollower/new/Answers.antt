@@ -1,0 +1,10 @@
+use Rattle.std.proofs.Common.{[], Some}
+use Rattle.aes3_recovery.specs.declared.line_follower.LineFollower.{LineFollower}
+use Rattle.aes3_recovery.proofs.Followed.{followed-first, queued-none}
+use Rattle.aes3_recovery.proofs.line_follower.LineFollower.new.Goals as goal
+
+pub returns-clause-begins : goal.returns-clause-begins
+returns-clause-begins c = λ begun short.
+    let made : LineFollower
+    = record { edges = c.args.edges; follower = c.args.follower; queue = c.new.result; cells = 0 } in
+    followed-first (Some begun) begun [] made (queued-none begun made c.new.ensures.none) short
