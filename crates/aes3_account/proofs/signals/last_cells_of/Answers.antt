@@ -1,6 +1,5 @@
 use Rattle.std.proofs.Common.{◌∙◌, arith}
 use Rattle.std.proofs.lemmas.List.{length-set}
-use Rattle.aes3_account.specs.Signals.{last_cells}
 use Rattle.aes3_account.proofs.SignalWords.{lasts-all, lasts-more}
 use Rattle.aes3_account.proofs.signals.last_cells_of.Goals as goal
 
