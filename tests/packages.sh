@@ -96,6 +96,14 @@ links() {
 }
 judge "the links between the pages" links
 
+# rustc and GNU parallel look themselves up in /proc.
+has_proc=
+if mount -t proc proc "$place/proc" 2>/dev/null; then
+    has_proc=1
+else
+    inside "rm -f /usr/bin/parallel"
+fi
+
 # The commands of README and tutorial, over the package's examples.
 cp "$root/README.md" "$place/walk"
 cp "$root/docs/TUTORIAL.md" "$place/walk/docs"
@@ -104,8 +112,9 @@ cp -r "$place/usr/share/doc/aes3/examples" "$place/walk/examples"
 judge "the commands of README and tutorial" inside "CELLS=/usr/bin/aes3-cells sh tests/readme.sh /usr/bin/aes3"
 grep -aE '^left out: |passed' "$work/said" | sed 's/^left out: /left out, in a root of its own: /'
 
-cp "$root"/examples/c/*.c "$root"/examples/cpp/*.cpp "$root"/examples/python/*.py "$place/walk/src"
-cp -r "$root/examples/rust" "$place/walk/rust"
+brought=$place/usr/share/doc
+cp "$brought"/libaes3-dev/examples/c/*.c "$brought"/libaes3-dev/examples/cpp/*.cpp "$brought"/python3-aes3/examples/*.py "$place/walk/src"
+cp -r "$brought/libaes3-dev/examples/rust" "$place/walk/rust"
 cat >"$place/walk/src/CMakeLists.txt" <<'CMAKE'
 cmake_minimum_required(VERSION 3.13)
 project(own C)
@@ -121,6 +130,9 @@ tells() { inside "{ $1 <line.txt || [ \$? = 1 ]; } >got && cmp got want"; }
 tells_packed() { inside "$1 <line.packed >got && cmp got want.packed"; }
 judge "a program in C" inside 'cc -o check src/check.c $(pkg-config --cflags --libs aes3)'
 judge "a program in C, run" tells ./check
+judge "a capture in C" inside 'cc -o capture src/capture.c $(pkg-config --cflags --libs aes3)
+    examples/neighbours/samples.py 3.90625 0.3 <line.txt >samples.bin
+    ./capture <samples.bin >got.packed && aes3-cells --packed-out <samples.bin >want.cells && cmp got.packed want.cells'
 judge "a program in C++" inside 'c++ -std=c++11 -o checkpp src/check.cpp $(pkg-config --cflags --libs aes3)'
 judge "a program in C++, run" tells_packed ./checkpp
 judge "CMake" inside "cmake -S src -B made && cmake --build made"
@@ -128,12 +140,10 @@ judge "a program by CMake" tells made/shared
 judge "a program by CMake, static" tells made/static
 judge "the module for Python, compiled" inside "ls /usr/lib/python3/dist-packages/aes3/__pycache__/*.pyc"
 judge "a program in Python" tells "python3 src/check.py"
-# rustc looks itself up in /proc.
-if mount -t proc proc "$place/proc" 2>/dev/null; then
+if [ -n "$has_proc" ]; then
     judge "a program in Rust" inside "cd rust && cargo build --offline -q --example check && cp target/debug/examples/check ../checkrs"
     judge "a program in Rust, run" tells ./checkrs
     judge "the tests in Rust" inside "cd rust && cargo test --offline -q"
-    umount "$place/proc"
 else
     echo "left out: Rust over the packages (no /proc can be mounted in their root)"
 fi

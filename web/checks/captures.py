@@ -50,7 +50,7 @@ def compare_captures(compare, browser, program, folder):
         buttons = browser.ask("[...at('advice').querySelectorAll('button')].map(it => it.textContent)")
         press = f"Recover the cells of channel {channel}"
         if not name.startswith("a dead"):
-            compare.same(f"{name}: recognised", (shown["isOther"], press in buttons), (True, True))
+            compare.same(f"{name}: recognised", (shown["isOther"], press in buttons, "--unit 2" in shown["advice"]), (True, True, unit == 2))
             browser.ask("document.body.dataset.state = 'given'; [...at('advice').querySelectorAll('button')]"
                         f".find(it => it.textContent === '{press}').click()")
         else:

@@ -55,7 +55,8 @@ export async function adviceOf(codec, cells) {
     const samples = form === "packed" && samplesIn(head);
     if (samples) {
         const says = "These look like samples of a logic analyser, and no cells yet. To make cells of them, here or by a program:";
-        return { says, commands: [CHANNEL.replace("SAMPLES", "FILE")], isOther: true, samples };
+        const command = CHANNEL.replace("SAMPLES", "FILE").replace("--bit", samples.unit === 2 ? "--unit 2 --bit" : "--bit");
+        return { says, commands: [command], isOther: true, samples };
     }
     if (form === "packed" && file.size % 1536 === 0 && areWords(head)) {
         return { says: "This looks like a block file. To make a line of it:", commands: ["aes3 encode < FILE > LINE"], isOther: true };

@@ -44,7 +44,7 @@ function figuresText({ period, edges, greatest, squares, dead, deadAt, measured 
    and what was found of it. */
 export async function recoveredFile(codec, file, { unit, channel }, progress) {
     if (file.size > codec.mostSamples()) {
-        throw new Error(`this page takes ${plain(codec.mostSamples())} bytes of samples. A longer capture is for the program: `
+        throw new Error(`this page takes ${plain(codec.mostSamples())} bytes of samples at most. A longer capture is for the program: `
             + `aes3-cells --bit ${channel}${unit === 2 ? " --unit 2" : ""} < FILE > LINE`);
     }
     for (let from = 0; from < file.size; from += PIECE) {

@@ -11,6 +11,8 @@ pub enum Error {
     },
     /// A lock takes 2^43 cells, which is 16 days of a line at 48 kHz, and has to be made anew then.
     Full,
+    /// The cells of a capture are more than there is room for.
+    NoRoom,
 }
 
 impl fmt::Display for Error {
@@ -18,6 +20,7 @@ impl fmt::Display for Error {
         match self {
             Error::Unlawful { word } => write!(to, "word {word} of the block is not lawful"),
             Error::Full => to.write_str("the lock has taken 2^43 cells"),
+            Error::NoRoom => to.write_str("there is no room for the cells of the capture"),
         }
     }
 }

@@ -17,13 +17,15 @@
 #![warn(missing_docs)]
 
 mod block;
+mod capture;
 mod error;
 mod lock;
 mod status;
 mod words;
 
-pub use aes3_sys::{aes3_consumer as Consumer, aes3_professional as Professional};
+pub use aes3_sys::{aes3_capture as Capture, aes3_consumer as Consumer, aes3_professional as Professional};
 pub use block::{Block, Channel, BLOCK_CELLS, BLOCK_WORDS};
+pub use capture::{cells_of_samples, room_for, Unit};
 pub use error::Error;
 pub use lock::{Lock, Report, Why};
 pub use status::{Check, Status, STATUS_BYTES};
