@@ -1,3 +1,4 @@
 pub mod LooksOf
 pub mod Places
 pub mod Progresses
+pub mod Sentences

@@ -1,7 +1,11 @@
 //! Sentences for whoever sits at a terminal.
 
-ghost use Rattle.std.specs.Prelude.{◌≡◌, IsFalse, IsTrue, None, not};
+ghost use Rattle.std.specs.Prelude.{◌≡◌, ◌≤◌, IfSome, IsFalse, IsTrue, None, Some, not};
 ghost use Rattle.aes3_cell.specs.Ends.{Grew};
+ghost use Rattle.aes3_cell.specs.Refusals.{number_of};
+ghost use Rattle.aes3_arguments.specs.Explained.{advice_of};
+ghost use Rattle.aes3_hints.specs.Sentences.{Explained, ExplainedBy, greeting, is_told, reads_hint};
+ghost use Rattle.aes3_hints.specs.Sentences.{writes_hint, writes_packed};
 
 use crate::looks::{Looks, advice_by_looks, are_turned, looks_of};
 use crate::progress::{Progress, course_of};
@@ -110,26 +114,79 @@ impl<T: Sink + Drop> Hints<T> {
     )
         ensures silent { IsFalse self.old.terminals.errors
             → T.taken self.new.sink ≡ T.taken self.old.sink }
+        ensures told { IsTrue self.old.terminals.errors → T.failed self.new.sink ≡ 0
+            → IfSome self.old.refusal (λ error. Explained error (T.taken self.old.sink)
+            (T.taken self.new.sink)) }
     {
-        let sentence = match (self.refusal, file) {
-            (Some(RunError::Read), Some(name)) => unread_sentence(self.alloc, name),
+        match (self.refusal, file) {
+            (Some(RunError::Read), Some(name)) => {
+                self.tell_refusal(RunError::Read, Some(Place::File(name)), Some(UNREAD));
+            }
             (Some(error), _) => {
                 let told = advice_by_looks(error, looks_of(source.first()));
-                sentence(self.alloc, error, place_of(error, words, source), told)
+                self.tell_refusal(error, place_of(error, words, source), told);
             }
-            (None, _) => warning_line(self.alloc, self.job, source.first()),
-        };
-        self.tell(&sentence.unwrap_or(String::new(self.alloc)));
+            (None, _) => self.warn(source.first()),
+        }
     }
 
     /// Says what was refused where the words could not be read.
     pub fn explain_unread(&mut self)
         ensures silent { IsFalse self.old.terminals.errors
             → T.taken self.new.sink ≡ T.taken self.old.sink }
+        ensures told { IsTrue self.old.terminals.errors → T.failed self.new.sink ≡ 0
+            → IfSome self.old.refusal (λ error. ExplainedBy (advice_of (number_of error))
+            (T.taken self.old.sink) (T.taken self.new.sink)) }
     {
         if let Some(error) = self.refusal {
-            let sentence = sentence(self.alloc, error, None, None);
-            self.tell(&sentence.unwrap_or(String::new(self.alloc)));
+            self.tell_advice(error, None, advice(error.number()));
+        }
+    }
+
+    /// Tells what was refused, where, and what to do: this, if it is known, or what is always told
+    /// of this refusal.
+    fn tell_refusal(
+        &mut self,
+        error: RunError,
+        place: Option<Place<'_>>,
+        told: Option<&'static str>,
+    )
+        requires { IfSome told (λ told. IsTrue (is_told told.now)) }
+        ensures silent { IsFalse self.old.terminals.errors
+            → T.taken self.new.sink ≡ T.taken self.old.sink }
+        ensures told { IsTrue self.old.terminals.errors → T.failed self.new.sink ≡ 0
+            → Explained error (T.taken self.old.sink) (T.taken self.new.sink) }
+    {
+        match told {
+            Some(told) => self.tell_advice(error, place, told),
+            None => self.tell_advice(error, place, advice(error.number())),
+        }
+    }
+
+    /// Tells what was refused, where, and this advice. Where memory is refused it tells the advice
+    /// alone.
+    fn tell_advice(&mut self, error: RunError, place: Option<Place<'_>>, advice: &str)
+        ensures silent { IsFalse self.old.terminals.errors
+            → T.taken self.new.sink ≡ T.taken self.old.sink }
+        ensures told { IsTrue self.old.terminals.errors → T.failed self.new.sink ≡ 0
+            → ExplainedBy advice.now (T.taken self.old.sink) (T.taken self.new.sink) }
+    {
+        let what = refused_text(self.alloc, error, place).unwrap_or(String::new(self.alloc));
+        self.tell("aes3: ");
+        self.tell(&what);
+        self.tell(advice);
+        self.tell("\n");
+    }
+
+    /// Tells of an input that a job took, if its first bytes look like another kind.
+    fn warn(&mut self, first: &[u8])
+        ensures silent { IsFalse self.old.terminals.errors
+            → T.taken self.new.sink ≡ T.taken self.old.sink }
+    {
+        if let Some(told) = warning(self.job, first) {
+            self.tell("aes3: ");
+            self.tell(told);
+            self.tell("\n");
         }
     }
 
@@ -139,7 +196,9 @@ impl<T: Sink + Drop> Hints<T> {
             → T.taken self.new.sink ≡ T.taken self.old.sink }
         ensures told { T.failed self.new.sink ≡ 0 → IsTrue self.old.terminals.errors
             → Grew (T.taken self.old.sink) (T.taken self.new.sink) text.now }
+        ensures failed { T.failed self.old.sink ≤ T.failed self.new.sink }
         ensures terminals { self.new.terminals ≡ self.old.terminals }
+        ensures job { self.new.job ≡ self.old.job }
     {
         if self.terminals.errors && self.sink.failures() == 0 {
             let _ = write_all(&mut self.sink, text.as_bytes());
@@ -147,41 +206,26 @@ impl<T: Sink + Drop> Hints<T> {
     }
 }
 
-/// What was refused, where, and what to do. Where memory for it is refused there is none.
-fn sentence(
-    alloc: Global,
-    error: RunError,
-    place: Option<Place>,
-    told: Option<&'static str>,
-) -> Option<String> {
-    let told = told.unwrap_or_else(|| advice(error.number()));
-    let line = match place {
+/// What to do where a file can't be read.
+const UNREAD: &str = "is there such a file, may you read it, and is it no folder?";
+
+/// What was refused, and where. Where memory for it is refused there is none.
+fn refused_text(alloc: Global, error: RunError, place: Option<Place<'_>>) -> Option<String> {
+    let text = match place {
         Some(Place::Byte(Position { line, column })) => {
-            format!(in alloc; "aes3: {error} (line {line}, column {column}): {told}\n")
+            format!(in alloc; "{error} (line {line}, column {column}): ")
         }
-        Some(Place::Option(name)) => format!(in alloc; "aes3: {error} ({name}): {told}\n"),
-        None => format!(in alloc; "aes3: {error}: {told}\n"),
+        Some(Place::Option(name)) | Some(Place::File(name)) => {
+            format!(in alloc; "{error} ({name}): ")
+        }
+        None => format!(in alloc; "{error}: "),
     };
-    line.ok()
-}
-
-/// That the file of this name can't be read, and what to do. Where memory for it is refused there is
-/// none.
-fn unread_sentence(alloc: Global, name: &str) -> Option<String> {
-    let error = RunError::Read;
-    let told = "is there such a file, may you read it, and is it no folder?";
-    format!(in alloc; "aes3: {error} ({name}): {told}\n").ok()
-}
-
-/// What is told of an input that a job took, if its first bytes look like another kind.
-fn warning_line(alloc: Global, job: Option<Job>, first: &[u8]) -> Option<String> {
-    let told = warning(job?, first)?;
-    format!(in alloc; "aes3: {told}\n").ok()
+    text.ok()
 }
 
 /// What to do where the first bytes of an input look like another kind than this job takes.
-fn warning(job: Job, first: &[u8]) -> Option<&'static str> {
-    match (job, looks_of(first)) {
+fn warning(job: Option<Job>, first: &[u8]) -> Option<&'static str> {
+    match (job?, looks_of(first)) {
         (Job::FromPcm { .. }, Looks::Wave) => Some(
             "this is a WAV file, whose head was taken as samples: `sox FILE -t s32 - | aes3 from-pcm` leaves it out",
         ),
@@ -194,11 +238,13 @@ fn warning(job: Job, first: &[u8]) -> Option<&'static str> {
 
 /// Where a refusal stands, as a person looks for it.
 #[derive(Clone, Copy)]
-enum Place {
+enum Place<'a> {
     /// A byte of cell text.
     Byte(Position),
     /// An option of the command line.
     Option(&'static str),
+    /// The file of this name.
+    File(&'a str),
 }
 
 /// Where to look for what was refused.
@@ -206,13 +252,13 @@ fn place_of<S: Source + Drop>(
     error: RunError,
     words: &[&str],
     source: &Watched<S>,
-) -> Option<Place> {
+) -> Option<Place<'static>> {
     match error {
-        RunError::BadCell { at } => source.position(at).map(Place::Byte),
-        RunError::BadStatusText => ["--status1", "--status2"]
-            .into_iter()
-            .find(|name| has_bad_status(words, name))
-            .map(Place::Option),
+        RunError::BadCell { at } => Some(Place::Byte(source.position(at)?)),
+        RunError::BadStatusText => {
+            let mut names = ["--status1", "--status2"].into_iter();
+            Some(Place::Option(names.find(|name| has_bad_status(words, name))?))
+        }
         _ => None,
     }
 }
@@ -233,13 +279,37 @@ fn has_bad_status(words: &[&str], name: &str) -> bool {
 }
 
 /// Whether the job writes packed cells.
-fn writes_packed(job: &Job) -> bool {
+fn writes_packed(job: &Job) -> bool
+    ensures { result ≡ writes_packed job.now }
+{
     match job {
         Job::Encode { output }
         | Job::Normal { output, .. }
         | Job::Cut { output, .. }
-        | Job::Rewrite { output, .. } => *output == Form::Packed,
+        | Job::Rewrite { output, .. } => matches!(output, Form::Packed),
         _ => false,
+    }
+}
+
+/// What is told before a job where standard input is a terminal, or isn't.
+fn reads_hint(is_terminal: bool) -> &'static str
+    ensures { result.now ≡ reads_hint is_terminal }
+{
+    if is_terminal {
+        "aes3: reads from the terminal up to Ctrl-D; a file by < FILE\n"
+    } else {
+        ""
+    }
+}
+
+/// What is told before this job where standard output is a terminal, or isn't.
+fn writes_hint(is_terminal: bool, job: &Job) -> &'static str
+    ensures { result.now ≡ writes_hint is_terminal job.now }
+{
+    if is_terminal && writes_packed(job) {
+        "aes3: writes packed cells to the terminal; to a file by > FILE\n"
+    } else {
+        ""
     }
 }
 
@@ -266,17 +336,25 @@ impl<T: Sink + Drop> Observer for Hints<T> {
 
     ghost is_silent = { λ h. not h.terminals.errors };
 
-    fn begins(&mut self, job: &Job) {
+    fn begins(&mut self, job: &Job)
+        ensures silent { IsTrue (not self.old.terminals.errors)
+            → T.taken self.new.sink ≡ T.taken self.old.sink }
+        ensures same { not self.new.terminals.errors ≡ not self.old.terminals.errors }
+        ensures told { IsTrue self.old.terminals.errors → T.failed self.new.sink ≡ 0
+            → Grew (T.taken self.old.sink) (T.taken self.new.sink)
+            (greeting self.old.terminals job.now) }
+        ensures job { self.new.job ≡ Some job.now }
+    {
         self.job = Some(*job);
-        if self.terminals.input {
-            self.tell("aes3: reads from the terminal up to Ctrl-D; a file by < FILE\n");
-        }
-        if self.terminals.output && writes_packed(job) {
-            self.tell("aes3: writes packed cells to the terminal; to a file by > FILE\n");
-        }
+        self.tell(reads_hint(self.terminals.input));
+        self.tell(writes_hint(self.terminals.output, job));
     }
 
-    fn refused(&mut self, error: RunError) {
+    fn refused(&mut self, error: RunError)
+        ensures told { T.taken self.new.sink ≡ T.taken self.old.sink }
+        ensures same { not self.new.terminals.errors ≡ not self.old.terminals.errors }
+        ensures refusal { self.new.refusal ≡ Some error }
+    {
         self.refusal = Some(error);
     }
 }

@@ -1,9 +1,10 @@
 //! What the first bytes of a refused input look like, and what to do then.
 
-ghost use Rattle.std.specs.Prelude.{◌≡◌, Bool};
+ghost use Rattle.std.specs.Prelude.{◌≡◌, Bool, IfSome, IsTrue};
 ghost use Rattle.std.specs.List.{list_all};
 ghost use Rattle.aes3_hints.specs.LooksOf.{begins, is_bit, is_cell_text, is_compressed, is_text, looks};
 ghost use Rattle.aes3_hints.specs.LooksOf.{is_in};
+ghost use Rattle.aes3_hints.specs.Sentences.{is_told};
 
 use aes3_cell::RunError;
 
@@ -142,7 +143,9 @@ pub(crate) fn are_turned(first: &[u8]) -> bool {
 }
 
 /// What to do about this refusal of an input that looks so, if its looks tell.
-pub(crate) fn advice_by_looks(error: RunError, looks: Looks) -> Option<&'static str> {
+pub(crate) fn advice_by_looks(error: RunError, looks: Looks) -> Option<&'static str>
+    ensures { IfSome result (λ told. IsTrue (is_told told.now)) }
+{
     let is_of_text = matches!(error, RunError::BadCell { .. });
     let is_of_samples = matches!(error, RunError::BadSample { .. });
     match (error, looks) {

@@ -66,7 +66,8 @@ impl Position {
 impl<S: Source + Drop> Watched<S> {
     /// Watches this source where it `is_on`.
     pub fn new(alloc: Global, source: S, is_on: bool) -> Self
-        ensures { result.source ≡ source }
+        ensures source { result.source ≡ source }
+        ensures on { result.is_on ≡ is_on }
     {
         Watched {
             source,
