@@ -1,31 +1,6 @@
 -- What stands of an account, and how long its gaps are.
-use Rattle.std.proofs.Common.{
-  ◌≡◌,
-  ℕ,
-  zero,
-  suc,
-  ◌+◌,
-  ◌-◌,
-  ◌<◌,
-  ◌≤◌,
-  Bool,
-  true,
-  false,
-  cond,
-  ltb,
-  List,
-  [],
-  ◌∷◌,
-  ◌++◌,
-  length,
-  refl,
-  sym,
-  ap,
-  ◌∙◌,
-  arith,
-  append-nil,
-  append_assoc,
-}
+use Rattle.std.proofs.Common.{◌≡◌, ℕ, zero, suc, ◌+◌, ◌-◌, ◌<◌, ◌≤◌, Bool, true, false, cond, ltb, List, [], ◌∷◌, ◌++◌}
+use Rattle.std.proofs.Common.{length, refl, sym, ap, ◌∙◌, arith, append-nil, append_assoc}
 use Rattle.std.specs.List.{All}
 use Rattle.std.proofs.lemmas.Bool.{ltb-true}
 use Rattle.std.proofs.lemmas.List.Elements.{All-append, All-cons, All-nil}
@@ -35,22 +10,8 @@ use Rattle.aes3_lock.specs.declared.report.Report.{Report}
 use Rattle.aes3_lock.specs.declared.report.Report.TheVariants.{Whole, Marked, Fault, Unfinished}
 use Rattle.aes3_lock.specs.Reports.{reports, wholes}
 use Rattle.aes3_lock.proofs.Deciding.{block_len_24576}
-use Rattle.aes3_account.specs.Gaps.{
-  Entry,
-  reported,
-  full_gaps,
-  full_count,
-  behind_full,
-  kind,
-  rest_gap,
-  gaps,
-  gaps_before,
-  behind_report,
-  account_from,
-  reached_from,
-  account,
-  begun_account,
-}
+use Rattle.aes3_account.specs.Gaps.{Entry, reported, full_gaps, full_count, behind_full, kind, rest_gap, gaps}
+use Rattle.aes3_account.specs.Gaps.{gaps_before, behind_report, account_from, reached_from, account, begun_account}
 use Rattle.aes3_account.specs.GapLaws.{HasGapOfABlock}
 use Rattle.aes3_account.proofs.Accounts.{account-more, begun-more}
 

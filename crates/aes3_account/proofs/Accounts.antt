@@ -1,43 +1,7 @@
 -- The account of cells, as they come.
-use Rattle.std.proofs.Common.{
-  ◌≡◌,
-  ℕ,
-  suc,
-  ◌+◌,
-  ◌-◌,
-  ◌*◌,
-  ◌^◌,
-  ◌<◌,
-  ◌≤◌,
-  ◌⊎◌,
-  inl,
-  inr,
-  Bool,
-  true,
-  false,
-  cond,
-  ltb,
-  List,
-  [],
-  ◌∷◌,
-  ◌++◌,
-  Option,
-  Some,
-  None,
-  Ok,
-  length,
-  drop,
-  refl,
-  sym,
-  ap,
-  ap₂,
-  ◌∙◌,
-  subst,
-  arith,
-  append-nil,
-  append_assoc,
-  length-append,
-}
+use Rattle.std.proofs.Common.{◌≡◌, ℕ, suc, ◌+◌, ◌-◌, ◌*◌, ◌^◌, ◌<◌, ◌≤◌, ◌⊎◌, inl, inr, Bool, true, false, cond, ltb}
+use Rattle.std.proofs.Common.{List, [], ◌∷◌, ◌++◌, Option, Some, None, Ok, length, drop, refl, sym, ap, ap₂, ◌∙◌, subst}
+use Rattle.std.proofs.Common.{arith, append-nil, append_assoc, length-append}
 use Rattle.std.specs.List.{filter}
 use Rattle.std.proofs.lemmas.Grind.{flat_map-append}
 use Rattle.std.proofs.lemmas.List.{append_cancel_left, drop_at}
@@ -60,55 +24,17 @@ use Rattle.aes3_lock.proofs.Tallies.{tallies-few, few-decided}
 use Rattle.aes3_input.proofs.Items.{before-is, before-join as end-join}
 use Rattle.aes3_lines.specs.declared.lines.Lines.{Lines}
 use Rattle.aes3_lock.specs.Remains.{place_of}
-use Rattle.aes3_account.specs.Gaps.{
-  Entry,
-  reported,
-  full_gaps,
-  full_count,
-  behind_full,
-  rest_gap,
-  gaps,
-  gaps_before,
-  behind_report,
-  account_from,
-  reached_from,
-  account,
-  begun_account,
-  accounted,
-  is_lost,
-}
+use Rattle.aes3_account.specs.Gaps.{Entry, reported, full_gaps, full_count, behind_full, rest_gap, gaps, gaps_before}
+use Rattle.aes3_account.specs.Gaps.{behind_report, account_from, reached_from, account, begun_account, accounted}
+use Rattle.aes3_account.specs.Gaps.{is_lost}
 use Rattle.aes3_account.specs.GapLines.{entry_line, account_lines}
 use Rattle.aes3_account.specs.Accounting.{Accounts, Accounted, account_counts, accounting}
-use Rattle.aes3_account.proofs.GapLemmas.{
-  behind-join,
-  full-join,
-  gaps-join,
-  before-join,
-  report-join,
-  account-push,
-  reached-push,
-  lost-append,
-  lost-full,
-  lost-rest,
-  behind-near,
-  behind-far,
-  behind-most,
-  count-few,
-}
-use Rattle.aes3_account.proofs.ReportPlaces.{
-  UpTo,
-  Spaced,
-  next_place,
-  upto-last,
-  spaced-weaker,
-  spaced-decided,
-  spaced-reports,
-  near-decided,
-  near-reports,
-  split-reports,
-  late-decided,
-  late-reports,
-}
+use Rattle.aes3_account.proofs.GapLemmas.{behind-join, full-join, gaps-join, before-join, report-join, account-push}
+use Rattle.aes3_account.proofs.GapLemmas.{reached-push, lost-append, lost-full, lost-rest, behind-near, behind-far}
+use Rattle.aes3_account.proofs.GapLemmas.{behind-most, count-few}
+use Rattle.aes3_account.proofs.ReportPlaces.{UpTo, Spaced, next_place, upto-last, spaced-weaker, spaced-decided}
+use Rattle.aes3_account.proofs.ReportPlaces.{spaced-reports, near-decided, near-reports, split-reports, late-decided}
+use Rattle.aes3_account.proofs.ReportPlaces.{late-reports}
 
 pub starts : {b f u : ℕ} → Tallies b f u [] → Accounts 0 0 b f u []
 unfolding accounted begun_account behind_full full_count decided block_len block_slots

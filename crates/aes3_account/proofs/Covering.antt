@@ -1,35 +1,6 @@
 -- The whole blocks and the gaps of an account are all cells.
-use Rattle.std.proofs.Common.{
-  ◌≡◌,
-  ℕ,
-  zero,
-  suc,
-  ◌+◌,
-  ◌-◌,
-  ◌*◌,
-  ◌<◌,
-  ◌≤◌,
-  Bool,
-  true,
-  false,
-  cond,
-  ltb,
-  List,
-  [],
-  ◌∷◌,
-  ◌++◌,
-  Option,
-  Some,
-  None,
-  length,
-  refl,
-  sym,
-  ap,
-  ◌∙◌,
-  subst,
-  arith,
-  append-nil,
-}
+use Rattle.std.proofs.Common.{◌≡◌, ℕ, zero, suc, ◌+◌, ◌-◌, ◌*◌, ◌<◌, ◌≤◌, Bool, true, false, cond, ltb, List, [], ◌∷◌}
+use Rattle.std.proofs.Common.{◌++◌, Option, Some, None, length, refl, sym, ap, ◌∙◌, subst, arith, append-nil}
 use Rattle.std.proofs.lemmas.Bool.{ltb-false}
 use Rattle.aes3_level.specs.declared.level.Level.{Level}
 use Rattle.aes3_frame.specs.Blocks.{block_len}
@@ -40,25 +11,9 @@ use Rattle.aes3_lock.specs.Reports.{told, outcome_at, reports_from, reports, dec
 use Rattle.aes3_lock.proofs.Deciding.{block_len_24576}
 use Rattle.aes3_lock.proofs.AllStanding.{at-standing, closed-room}
 use Rattle.aes3_lock.specs.Remains.{place_of}
-use Rattle.aes3_account.specs.Gaps.{
-  Entry,
-  reported,
-  lost,
-  cut,
-  full_gaps,
-  full_count,
-  behind_full,
-  kind,
-  rest_gap,
-  gaps,
-  gaps_before,
-  behind_report,
-  account_from,
-  reached_from,
-  account,
-  begun_account,
-  accounted,
-}
+use Rattle.aes3_account.specs.Gaps.{Entry, reported, lost, cut, full_gaps, full_count, behind_full, kind, rest_gap}
+use Rattle.aes3_account.specs.Gaps.{gaps, gaps_before, behind_report, account_from, reached_from, account}
+use Rattle.aes3_account.specs.Gaps.{begun_account, accounted}
 use Rattle.aes3_account.specs.GapLaws.{Covers, reports_in}
 use Rattle.aes3_account.proofs.GapLemmas.{behind-near}
 use Rattle.aes3_account.proofs.ReportPlaces.{Spaced, next_place, spaced-weaker, spaced-reports, spaced-decided}

@@ -1,35 +1,6 @@
 -- Few events are told of any cells.
-use Rattle.std.proofs.Common.{
-  ◌≡◌,
-  ℕ,
-  suc,
-  ◌+◌,
-  ◌-◌,
-  ◌*◌,
-  ◌<◌,
-  ◌≤◌,
-  ◌⊎◌,
-  inl,
-  inr,
-  Bool,
-  true,
-  false,
-  cond,
-  ltb,
-  List,
-  [],
-  ◌∷◌,
-  ◌++◌,
-  Option,
-  Some,
-  None,
-  length,
-  ap,
-  subst,
-  sym,
-  arith,
-  length-append,
-}
+use Rattle.std.proofs.Common.{◌≡◌, ℕ, suc, ◌+◌, ◌-◌, ◌*◌, ◌<◌, ◌≤◌, ◌⊎◌, inl, inr, Bool, true, false, cond, ltb, List}
+use Rattle.std.proofs.Common.{[], ◌∷◌, ◌++◌, Option, Some, None, length, ap, subst, sym, arith, length-append}
 use Rattle.std.specs.Str.{bytes_eq}
 use Rattle.aes3_level.specs.declared.level.Level.{Level}
 use Rattle.aes3_frame.specs.Blocks.{block_len}
@@ -42,31 +13,13 @@ use Rattle.aes3_lock.proofs.AllStanding.{wholes-append}
 use Rattle.aes3_lock.proofs.Deciding.{block_len_24576}
 use Rattle.aes3_lines.specs.declared.event.Event.{Event}
 use Rattle.aes3_lines.specs.declared.event.Event.TheVariants.{Back, End, Locked, Lost, Slipped, Status, Validity}
-use Rattle.aes3_account.specs.Signals.{
-  change_events,
-  marking_of,
-  same_marking,
-  signals_of,
-  status_events,
-  validity_events,
-}
+use Rattle.aes3_account.specs.Signals.{change_events, marking_of, same_marking, signals_of, status_events}
+use Rattle.aes3_account.specs.Signals.{validity_events}
 use Rattle.aes3_account.specs.declared.signals.ChannelSignals.{ChannelSignals}
 use Rattle.aes3_account.specs.declared.signals.Signals.{Signals}
 use Rattle.aes3_account.specs.declared.watched.Watched.{Watched}
-use Rattle.aes3_account.specs.Watching.{
-  behind_reports,
-  ended,
-  events_from,
-  is_locked,
-  is_told,
-  loss_events,
-  next,
-  told_events,
-  unwatched,
-  up_to,
-  watch_events,
-  whole_events,
-}
+use Rattle.aes3_account.specs.Watching.{behind_reports, ended, events_from, is_locked, is_told, loss_events, next}
+use Rattle.aes3_account.specs.Watching.{told_events, unwatched, up_to, watch_events, whole_events}
 use Rattle.aes3_account.proofs.Covering.{EndsUpTo, ends-reports}
 use Rattle.aes3_account.proofs.ReportPlaces.{Spaced, spaced-reports, spaced-weaker}
 use Rattle.aes3_account.proofs.WatchedCells.{as_lost, either, loss-told, or-false, up-told}

@@ -1,39 +1,7 @@
 -- Gaps between two places, in two parts, and the account of more reports.
-use Rattle.std.proofs.Common.{
-  ◌≡◌,
-  ℕ,
-  zero,
-  suc,
-  ◌+◌,
-  ◌-◌,
-  ◌*◌,
-  ◌/◌,
-  ◌<◌,
-  ◌≤◌,
-  Bool,
-  true,
-  false,
-  cond,
-  ltb,
-  List,
-  [],
-  ◌∷◌,
-  ◌++◌,
-  Option,
-  length,
-  refl,
-  sym,
-  ap,
-  ap₂,
-  ◌∙◌,
-  arith,
-  append_assoc,
-  append-nil,
-  length-append,
-  Result,
-  Ok,
-  Err,
-}
+use Rattle.std.proofs.Common.{◌≡◌, ℕ, zero, suc, ◌+◌, ◌-◌, ◌*◌, ◌/◌, ◌<◌, ◌≤◌, Bool, true, false, cond, ltb, List, []}
+use Rattle.std.proofs.Common.{◌∷◌, ◌++◌, Option, length, refl, sym, ap, ap₂, ◌∙◌, arith, append_assoc, append-nil}
+use Rattle.std.proofs.Common.{length-append, Result, Ok, Err}
 use Rattle.std.specs.Prelude.{IfOk}
 use Rattle.std.specs.List.{filter}
 use Rattle.std.proofs.lemmas.List.Elements.{filter-append}
@@ -49,22 +17,8 @@ use Rattle.aes3_cell.proofs.Growing.{front-is, front-join, front-more}
 use Rattle.aes3_lines.specs.declared.lines.Lines.{Lines}
 use Rattle.aes3_account.specs.GapLines.{entry_line, gap_line, account_lines}
 use Rattle.aes3_lock.specs.Remains.{place_of}
-use Rattle.aes3_account.specs.Gaps.{
-  Entry,
-  reported,
-  lost,
-  full_gaps,
-  full_count,
-  behind_full,
-  kind,
-  rest_gap,
-  gaps,
-  gaps_before,
-  behind_report,
-  account_from,
-  reached_from,
-  is_lost,
-}
+use Rattle.aes3_account.specs.Gaps.{Entry, reported, lost, full_gaps, full_count, behind_full, kind, rest_gap, gaps}
+use Rattle.aes3_account.specs.Gaps.{gaps_before, behind_report, account_from, reached_from, is_lost}
 
 -- gaps of a block's length
 full-add : (p m k : ℕ) → full_gaps p (m + k) ≡ full_gaps p m ++ full_gaps (p + block_len * m) k

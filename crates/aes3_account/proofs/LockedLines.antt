@@ -1,38 +1,7 @@
 -- A line locks once; it stays locked where no gap counts; and its whole blocks follow one another, or that is told.
-use Rattle.std.proofs.Common.{
-  ◌≡◌,
-  ℕ,
-  suc,
-  ◌+◌,
-  ◌-◌,
-  ◌<◌,
-  ◌≤◌,
-  ◌⊎◌,
-  inl,
-  inr,
-  Bool,
-  true,
-  false,
-  cond,
-  ltb,
-  List,
-  [],
-  ◌∷◌,
-  ◌++◌,
-  Option,
-  Some,
-  None,
-  IfSome,
-  length,
-  refl,
-  sym,
-  ap,
-  ap₂,
-  ◌∙◌,
-  subst,
-  arith,
-  length-append,
-}
+use Rattle.std.proofs.Common.{◌≡◌, ℕ, suc, ◌+◌, ◌-◌, ◌<◌, ◌≤◌, ◌⊎◌, inl, inr, Bool, true, false, cond, ltb, List, []}
+use Rattle.std.proofs.Common.{◌∷◌, ◌++◌, Option, Some, None, IfSome, length, refl, sym, ap, ap₂, ◌∙◌, subst, arith}
+use Rattle.std.proofs.Common.{length-append}
 use Rattle.std.specs.Prelude.{◌||◌, ◌&&◌, not}
 use Rattle.std.specs.List.{Contains, filter}
 use Rattle.std.specs.Str.{bytes_eq}
@@ -49,39 +18,14 @@ use Rattle.aes3_lock.specs.Reports.{blocks, reports, wholes}
 use Rattle.aes3_lines.specs.declared.event.Event.{Event}
 use Rattle.aes3_lines.specs.declared.event.Event.TheVariants.{Back, End, Locked, Lost, Slipped, Status, Validity}
 use Rattle.aes3_account.specs.Gaps.{account, is_lost}
-use Rattle.aes3_account.specs.Signals.{
-  change_events,
-  marking_of,
-  same_marking,
-  signals_of,
-  status_events,
-  validity_events,
-}
+use Rattle.aes3_account.specs.Signals.{change_events, marking_of, same_marking, signals_of, status_events}
+use Rattle.aes3_account.specs.Signals.{validity_events}
 use Rattle.aes3_account.specs.declared.signals.ChannelSignals.{ChannelSignals}
 use Rattle.aes3_account.specs.declared.signals.Signals.{Signals}
 use Rattle.aes3_account.specs.declared.watched.Watched.{Watched}
-use Rattle.aes3_account.specs.Watching.{
-  behind_reports,
-  behind_whole,
-  ended,
-  events_from,
-  is_locked,
-  is_told,
-  loss_events,
-  next,
-  told_events,
-  unwatched,
-  up_to,
-  watch_events,
-  whole_events,
-}
-use Rattle.aes3_account.specs.WatchLaws.{
-  AllBehind,
-  IsBehind,
-  StaysLocked,
-  is_breaking,
-  is_locking,
-}
+use Rattle.aes3_account.specs.Watching.{behind_reports, behind_whole, ended, events_from, is_locked, is_told}
+use Rattle.aes3_account.specs.Watching.{loss_events, next, told_events, unwatched, up_to, watch_events, whole_events}
+use Rattle.aes3_account.specs.WatchLaws.{AllBehind, IsBehind, StaysLocked, is_breaking, is_locking}
 use Rattle.aes3_account.proofs.PieceGaps.{piece-no-gap}
 use Rattle.aes3_account.proofs.ReportPlaces.{Spaced, spaced-reports}
 use Rattle.aes3_account.proofs.WatchedCells.{as_lost, either, loss-told, up-told}

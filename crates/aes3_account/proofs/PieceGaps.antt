@@ -1,44 +1,7 @@
 -- Where the whole blocks of cells stand in a row from end to end no gap counts, as in a piece of a lawful stream.
-use Rattle.std.proofs.Common.{
-  ◌≡◌,
-  ℕ,
-  zero,
-  suc,
-  ◌+◌,
-  ◌-◌,
-  ◌*◌,
-  ◌/◌,
-  ◌%◌,
-  ◌<◌,
-  ◌≤◌,
-  ◌⊎◌,
-  inl,
-  inr,
-  Bool,
-  true,
-  false,
-  cond,
-  ltb,
-  List,
-  [],
-  ◌∷◌,
-  ◌++◌,
-  Option,
-  Some,
-  None,
-  length,
-  take,
-  drop,
-  refl,
-  sym,
-  ap,
-  ◌∙◌,
-  subst,
-  arith,
-  length-drop,
-  drop-drop,
-  get_or-drop,
-}
+use Rattle.std.proofs.Common.{◌≡◌, ℕ, zero, suc, ◌+◌, ◌-◌, ◌*◌, ◌/◌, ◌%◌, ◌<◌, ◌≤◌, ◌⊎◌, inl, inr, Bool, true, false}
+use Rattle.std.proofs.Common.{cond, ltb, List, [], ◌∷◌, ◌++◌, Option, Some, None, length, take, drop, refl, sym, ap}
+use Rattle.std.proofs.Common.{◌∙◌, subst, arith, length-drop, drop-drop, get_or-drop}
 use Rattle.std.specs.List.{Contains, filter}
 use Rattle.std.proofs.lemmas.Bool.{cases_eq, cases_lt, le-ltb}
 use Rattle.aes3_level.specs.declared.level.Level.{Level}
@@ -59,19 +22,8 @@ use Rattle.aes3_lock.proofs.Damaged.{line-cell, own-stays}
 use Rattle.aes3_lock.proofs.DamageLaws.{few-blocks}
 use Rattle.aes3_lock.proofs.Deciding.{block_len_24576}
 use Rattle.aes3_lock.proofs.PieceBounds.{length-piece}
-use Rattle.aes3_account.specs.Gaps.{
-  reported,
-  full_gaps,
-  full_count,
-  behind_full,
-  kind,
-  rest_gap,
-  gaps,
-  account_from,
-  reached_from,
-  account,
-  is_lost,
-}
+use Rattle.aes3_account.specs.Gaps.{reported, full_gaps, full_count, behind_full, kind, rest_gap, gaps, account_from}
+use Rattle.aes3_account.specs.Gaps.{reached_from, account, is_lost}
 use Rattle.aes3_account.specs.GapLaws.{InRow, LosesNothing}
 use Rattle.aes3_account.proofs.GapLemmas.{lost-append, lost-full}
 use Rattle.aes3_account.proofs.LostGaps.{length-blocks, row-first}

@@ -1,32 +1,6 @@
 -- Where no gap counts, the whole blocks stand in a row.
-use Rattle.std.proofs.Common.{
-  ◌≡◌,
-  ℕ,
-  suc,
-  ◌+◌,
-  ◌-◌,
-  ◌*◌,
-  ◌/◌,
-  ◌<◌,
-  ◌≤◌,
-  Bool,
-  true,
-  false,
-  cond,
-  ltb,
-  List,
-  [],
-  ◌∷◌,
-  ◌++◌,
-  length,
-  refl,
-  sym,
-  ap,
-  ◌∙◌,
-  subst,
-  arith,
-  lt-ltb,
-}
+use Rattle.std.proofs.Common.{◌≡◌, ℕ, suc, ◌+◌, ◌-◌, ◌*◌, ◌/◌, ◌<◌, ◌≤◌, Bool, true, false, cond, ltb, List, [], ◌∷◌}
+use Rattle.std.proofs.Common.{◌++◌, length, refl, sym, ap, ◌∙◌, subst, arith, lt-ltb}
 use Rattle.std.specs.List.{filter}
 use Rattle.std.proofs.lemmas.Bool.{ltb-false}
 use Rattle.aes3_level.specs.declared.level.Level.{Level}
@@ -35,19 +9,8 @@ use Rattle.aes3_lock.specs.declared.report.Report.{Report}
 use Rattle.aes3_lock.specs.declared.report.Report.TheVariants.{Whole, Marked, Fault, Unfinished}
 use Rattle.aes3_lock.specs.Reports.{reports, wholes, blocks}
 use Rattle.aes3_lock.proofs.Deciding.{block_len_24576}
-use Rattle.aes3_account.specs.Gaps.{
-  reported,
-  full_gaps,
-  full_count,
-  behind_full,
-  kind,
-  rest_gap,
-  gaps,
-  account_from,
-  reached_from,
-  account,
-  is_lost,
-}
+use Rattle.aes3_account.specs.Gaps.{reported, full_gaps, full_count, behind_full, kind, rest_gap, gaps, account_from}
+use Rattle.aes3_account.specs.Gaps.{reached_from, account, is_lost}
 use Rattle.aes3_account.specs.GapLaws.{InRow, LosesNothing}
 use Rattle.aes3_account.proofs.GapLemmas.{lost-append, lost-full, behind-near}
 use Rattle.aes3_account.proofs.ReportPlaces.{Spaced, spaced-weaker, spaced-reports}

@@ -1,42 +1,7 @@
 -- A line watched, as its cells come.
-use Rattle.std.proofs.Common.{
-  ◌≡◌,
-  ℕ,
-  ◌+◌,
-  ◌-◌,
-  ◌*◌,
-  ◌^◌,
-  ◌<◌,
-  ◌≤◌,
-  ◌⊎◌,
-  inl,
-  inr,
-  Bool,
-  true,
-  false,
-  cond,
-  ltb,
-  List,
-  [],
-  ◌∷◌,
-  ◌++◌,
-  Option,
-  Some,
-  None,
-  Ok,
-  length,
-  drop,
-  refl,
-  sym,
-  ap,
-  ap₂,
-  ◌∙◌,
-  subst,
-  arith,
-  append-nil,
-  append_assoc,
-  length-append,
-}
+use Rattle.std.proofs.Common.{◌≡◌, ℕ, ◌+◌, ◌-◌, ◌*◌, ◌^◌, ◌<◌, ◌≤◌, ◌⊎◌, inl, inr, Bool, true, false, cond, ltb, List}
+use Rattle.std.proofs.Common.{[], ◌∷◌, ◌++◌, Option, Some, None, Ok, length, drop, refl, sym, ap, ap₂, ◌∙◌, subst}
+use Rattle.std.proofs.Common.{arith, append-nil, append_assoc, length-append}
 use Rattle.std.specs.Prelude.{◌||◌, nat_lt}
 use Rattle.std.specs.List.{filter, flat_map}
 use Rattle.std.proofs.lemmas.Bool.{ltb-false, le-ltb}
@@ -67,32 +32,10 @@ use Rattle.aes3_lines.specs.Events.{event_line}
 use Rattle.aes3_account.specs.Signals.{change_events, signals_of}
 use Rattle.aes3_account.specs.declared.signals.Signals.{Signals}
 use Rattle.aes3_account.specs.declared.watched.Watched.{Watched}
-use Rattle.aes3_account.specs.Watching.{
-  unwatched,
-  is_told,
-  loss_events,
-  up_to,
-  whole_events,
-  slips,
-  behind_whole,
-  told_events,
-  next,
-  events_from,
-  behind_reports,
-  begun_events,
-  watched,
-  is_locked,
-  ended,
-  watch_events,
-  event_lines,
-  begun_watch,
-  watch_lines,
-  watch_counts,
-  watching,
-  IsKept,
-  Watches,
-  Ended,
-}
+use Rattle.aes3_account.specs.Watching.{unwatched, is_told, loss_events, up_to, whole_events, slips, behind_whole}
+use Rattle.aes3_account.specs.Watching.{told_events, next, events_from, behind_reports, begun_events, watched}
+use Rattle.aes3_account.specs.Watching.{is_locked, ended, watch_events, event_lines, begun_watch, watch_lines}
+use Rattle.aes3_account.specs.Watching.{watch_counts, watching, IsKept, Watches, Ended}
 use Rattle.aes3_account.proofs.ReportPlaces.{split-reports, late-decided, late-reports}
 use Rattle.aes3_account.proofs.Accounts.{one-answer, one-final, decided-more, few-reports}
 

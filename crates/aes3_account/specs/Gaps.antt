@@ -1,23 +1,6 @@
 -- Where the cells of an input are: in whole blocks, and in the gaps between them.
-use Rattle.std.specs.Prelude.{
-  ℕ,
-  zero,
-  suc,
-  List,
-  [],
-  ◌∷◌,
-  ◌++◌,
-  Bool,
-  true,
-  false,
-  length,
-  ◌+◌,
-  ◌-◌,
-  ◌*◌,
-  ◌/◌,
-  nat_lt,
-  if◌then◌else◌,
-}
+use Rattle.std.specs.Prelude.{ℕ, zero, suc, List, [], ◌∷◌, ◌++◌, Bool, true, false, length, ◌+◌, ◌-◌, ◌*◌, ◌/◌, nat_lt}
+use Rattle.std.specs.Prelude.{if◌then◌else◌}
 use Rattle.aes3_level.specs.declared.level.Level.{Level}
 use Rattle.aes3_frame.specs.Blocks.{block_len}
 use Rattle.aes3_lock.specs.declared.report.Report.{Report}

@@ -1,22 +1,6 @@
 -- What the whole blocks of a line say of their samples, and where that changes.
-use Rattle.std.specs.Prelude.{
-  ℕ,
-  List,
-  [],
-  ◌∷◌,
-  ◌++◌,
-  Bool,
-  true,
-  false,
-  Option,
-  Some,
-  None,
-  count_ones,
-  ◌/◌,
-  ◌^◌,
-  ◌==◌,
-  if◌then◌else◌,
-}
+use Rattle.std.specs.Prelude.{ℕ, List, [], ◌∷◌, ◌++◌, Bool, true, false, Option, Some, None, count_ones, ◌/◌, ◌^◌, ◌==◌}
+use Rattle.std.specs.Prelude.{if◌then◌else◌}
 use Rattle.std.specs.List.{sum_by}
 use Rattle.std.specs.Str.{bytes_eq}
 use Rattle.aes3_frame.specs.declared.status.Channel.{Channel}

@@ -1,25 +1,6 @@
 -- What the lines of a line watched have to do with its account and its whole blocks, and how few they are.
-use Rattle.std.specs.Prelude.{
-  ℕ,
-  List,
-  [],
-  ◌∷◌,
-  Bool,
-  true,
-  false,
-  Option,
-  Some,
-  None,
-  IfSome,
-  length,
-  ◌≡◌,
-  ◌<◌,
-  ◌≤◌,
-  ◌⊎◌,
-  ◌+◌,
-  ◌-◌,
-  ◌*◌,
-}
+use Rattle.std.specs.Prelude.{ℕ, List, [], ◌∷◌, Bool, true, false, Option, Some, None, IfSome, length, ◌≡◌, ◌<◌, ◌≤◌}
+use Rattle.std.specs.Prelude.{◌⊎◌, ◌+◌, ◌-◌, ◌*◌}
 use Rattle.std.specs.List.{Contains, filter}
 use Rattle.aes3_level.specs.declared.level.Level.{Level}
 use Rattle.aes3_frame.specs.Blocks.{block_len}

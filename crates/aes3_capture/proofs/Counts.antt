@@ -1,32 +1,6 @@
 -- The cells counted of a capture, and those that are left of it.
-use Rattle.std.proofs.Common.{
-  ℕ,
-  suc,
-  List,
-  [],
-  ◌∷◌,
-  ◌++◌,
-  ◌≡◌,
-  ◌<◌,
-  ◌≤◌,
-  ◌-◌,
-  ◌*◌,
-  ◌/◌,
-  ◌+◌,
-  sym,
-  ◌∙◌,
-  ap,
-  append_assoc,
-  append-nil,
-  arith,
-  length,
-  take,
-  drop,
-  get_or,
-  set,
-  add-one,
-  drop-cons,
-}
+use Rattle.std.proofs.Common.{ℕ, suc, List, [], ◌∷◌, ◌++◌, ◌≡◌, ◌<◌, ◌≤◌, ◌-◌, ◌*◌, ◌/◌, ◌+◌, sym, ◌∙◌, ap}
+use Rattle.std.proofs.Common.{append_assoc, append-nil, arith, length, take, drop, get_or, set, add-one, drop-cons}
 use Rattle.std.proofs.lemmas.List.{take_all, take_more_set}
 use Rattle.std.proofs.Math.Seq.{drop-length}
 use Rattle.aes3_capture.specs.declared.bounds.Bounds.{Bounds}

@@ -4,17 +4,8 @@ use Rattle.std.specs.Prelude.{Bool, nat_le, if◌then◌else◌}
 use Rattle.aes3_capture.specs.declared.follower.Follower.{Follower}
 use Rattle.aes3_capture.specs.Captures.{IsRun, mean_with, margin, wander}
 use Rattle.aes3_capture.specs.Following.{Follows, Passes, Ends, Counts}
-use Rattle.aes3_capture.proofs.Steps.{
-  steps-near,
-  run-near,
-  told-near,
-  one-more,
-  place-near,
-  place-moves,
-  place-corrected,
-  other-near,
-  mean-near,
-}
+use Rattle.aes3_capture.proofs.Steps.{steps-near, run-near, told-near, one-more, place-near, place-moves}
+use Rattle.aes3_capture.proofs.Steps.{place-corrected, other-near, mean-near}
 
 -- the cells told before an edge, and what has passed since: all cells, or all but one
 pub record AllTold (f : Follower) (run given cells : ℕ) : Type 0 where

@@ -21,7 +21,8 @@ use Rattle.aes3_block.proofs.WholeBlocks.{reader-next, lawful-next, blocks-next,
 use Rattle.aes3_input.specs.Converting.{or_else, unless, fault_behind, out_behind, before_fault}
 use Rattle.aes3_input.specs.Running.{Fed, Stopped, PieceRan, EndRan}
 use Rattle.aes3_input.proofs.Feeding.{fed-none, fed-is, fed-join, front-joined}
-use Rattle.aes3_engine.specs.Encoding.{encoding, encoding_state, refused_by, refused_at_end, block_written, Encodes, AllLawful}
+use Rattle.aes3_engine.specs.Encoding.{encoding, encoding_state, refused_by, refused_at_end, block_written, Encodes}
+use Rattle.aes3_engine.specs.Encoding.{AllLawful}
 use Rattle.aes3_block.proofs.Feeding.{reader-open}
 
 -- one byte that is no fault

@@ -4,17 +4,8 @@ use Rattle.std.specs.List.{list_all, starts_with}
 use Rattle.aes3_hints.specs.declared.looks.Alphabet.{Alphabet}
 use Rattle.aes3_hints.specs.declared.looks.Alphabet.TheVariants.{Cells, Ascii, Bits}
 use Rattle.aes3_hints.specs.declared.looks.Looks.{Looks}
-use Rattle.aes3_hints.specs.declared.looks.Looks.TheVariants.{
-  Empty,
-  CellText,
-  BlockFile,
-  Wave,
-  Session,
-  Compressed,
-  OtherText,
-  Samples,
-  Octets,
-}
+use Rattle.aes3_hints.specs.declared.looks.Looks.TheVariants.{Empty, CellText, BlockFile, Wave, Session, Compressed}
+use Rattle.aes3_hints.specs.declared.looks.Looks.TheVariants.{OtherText, Samples, Octets}
 
 -- a cell or a separator
 abbrev pub is_cell_text : ℕ → Bool

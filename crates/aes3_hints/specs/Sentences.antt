@@ -1,5 +1,6 @@
 -- What is told at a terminal: before a job, and of a refusal.
-use Rattle.std.specs.Prelude.{ℕ, Bool, true, false, List, [], ◌∷◌, ◌++◌, Option, ◌≡◌, ◌⊎◌, ◌&&◌, if◌then◌else◌, codes, IsTrue}
+use Rattle.std.specs.Prelude.{ℕ, Bool, true, false, List, [], ◌∷◌, ◌++◌, Option, ◌≡◌, ◌⊎◌, ◌&&◌, if◌then◌else◌, codes}
+use Rattle.std.specs.Prelude.{IsTrue}
 use Rattle.std.specs.List.{list_any}
 use Rattle.std.specs.Str.{bytes_eq}
 use Rattle.aes3_cell.specs.Ends.{Grew}
@@ -10,21 +11,8 @@ use Rattle.aes3_cell.specs.Refusals.{number_of}
 use Rattle.aes3_arguments.specs.Explained.{advice_of}
 use Rattle.aes3_hints.specs.declared.hints.Terminals.{Terminals}
 use Rattle.aes3_job.specs.declared.job.Job.{Job}
-use Rattle.aes3_job.specs.declared.job.Job.TheVariants.{
-  Encode,
-  Decode,
-  Normal,
-  Check,
-  Account,
-  Watch,
-  Show,
-  ShowChanges,
-  Scan,
-  Cut,
-  Rewrite,
-  ToPcm,
-  FromPcm,
-}
+use Rattle.aes3_job.specs.declared.job.Job.TheVariants.{Encode, Decode, Normal, Check, Account, Watch, Show}
+use Rattle.aes3_job.specs.declared.job.Job.TheVariants.{ShowChanges, Scan, Cut, Rewrite, ToPcm, FromPcm}
 
 -- whether it is the packed form
 abbrev pub is_packed : Form → Bool

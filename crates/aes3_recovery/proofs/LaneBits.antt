@@ -1,31 +1,6 @@
 -- One bit of each of 64 octets, and of samples of two.
-use Rattle.std.proofs.Common.{
-  ◌≡◌,
-  ℕ,
-  zero,
-  suc,
-  ◌+◌,
-  ◌-◌,
-  ◌*◌,
-  ◌%◌,
-  ◌^◌,
-  ◌<◌,
-  ◌≤◌,
-  not,
-  cond,
-  eqb,
-  false,
-  List,
-  map,
-  length,
-  get_or,
-  replicate,
-  sym,
-  ap,
-  w8,
-  ◌∙◌,
-  arith,
-}
+use Rattle.std.proofs.Common.{◌≡◌, ℕ, zero, suc, ◌+◌, ◌-◌, ◌*◌, ◌%◌, ◌^◌, ◌<◌, ◌≤◌, not, cond, eqb, false, List, map}
+use Rattle.std.proofs.Common.{length, get_or, replicate, sym, ap, w8, ◌∙◌, arith}
 use Rattle.std.specs.Prelude.{bit_and}
 use Rattle.std.specs.Int.{bit_at}
 use Rattle.std.specs.Simd.Lanes.{mask_l, zip2, top}

@@ -26,21 +26,8 @@ use Rattle.aes3_reports.specs.Lines.{report_lines}
 use Rattle.aes3_reports.specs.Scanning.{scan_counts}
 use Rattle.aes3_account.specs.Watching.{begun_watch, watch_counts, watch_lines}
 use Rattle.aes3_job.specs.declared.job.Job.{Job}
-use Rattle.aes3_job.specs.declared.job.Job.TheVariants.{
-  Encode,
-  Decode,
-  Normal,
-  Check,
-  Account,
-  Watch,
-  Show,
-  ShowChanges,
-  Scan,
-  Cut,
-  Rewrite,
-  ToPcm,
-  FromPcm,
-}
+use Rattle.aes3_job.specs.declared.job.Job.TheVariants.{Encode, Decode, Normal, Check, Account, Watch, Show}
+use Rattle.aes3_job.specs.declared.job.Job.TheVariants.{ShowChanges, Scan, Cut, Rewrite, ToPcm, FromPcm}
 use Rattle.aes3_runner.specs.Lines.{refusal_line}
 
 -- how many bytes an input may have

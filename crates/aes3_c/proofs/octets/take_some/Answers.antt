@@ -1,23 +1,5 @@
-use Rattle.std.proofs.Common.{
-  ◌≡◌,
-  ℕ,
-  ◌+◌,
-  ◌-◌,
-  ◌*◌,
-  ◌/◌,
-  ◌%◌,
-  ◌≤◌,
-  ◌++◌,
-  List,
-  length,
-  take,
-  drop,
-  subst,
-  arith,
-  sym,
-  ap,
-  ◌∙◌,
-}
+use Rattle.std.proofs.Common.{◌≡◌, ℕ, ◌+◌, ◌-◌, ◌*◌, ◌/◌, ◌%◌, ◌≤◌, ◌++◌, List, length, take, drop, subst, arith, sym}
+use Rattle.std.proofs.Common.{ap, ◌∙◌}
 use Rattle.std.specs.List.{between}
 use Rattle.std.proofs.lemmas.List.{drop-take, length-drop, length-take-le}
 use Rattle.std.proofs.lemmas.Slice.{between_is}

@@ -3,12 +3,9 @@ use Rattle.std.proofs.lemmas.List.{take_all, take_more}
 use Rattle.aes3_capture.specs.Following.{CountedAll}
 use Rattle.aes3_recovery.specs.Measuring.{runs_of_a_line}
 use Rattle.aes3_recovery.proofs.Steady.{counted-more, of-a-line-more, of-a-line, of-none-below, of-none-above}
-use Rattle.aes3_recovery.proofs.measure.is_steady.Goals.{
-  then-cells-ge1+then-cells-le3,
-  else-cells-ge1,
-  else-cells-ge1-via-then-cells-ge1+else-cells-le3,
-  else-cells-ge1-via-else-cells-ge1,
-}
+use Rattle.aes3_recovery.proofs.measure.is_steady.Goals.{then-cells-ge1+then-cells-le3, else-cells-ge1}
+use Rattle.aes3_recovery.proofs.measure.is_steady.Goals.{else-cells-ge1-via-then-cells-ge1+else-cells-le3}
+use Rattle.aes3_recovery.proofs.measure.is_steady.Goals.{else-cells-ge1-via-else-cells-ge1}
 use Rattle.aes3_recovery.proofs.measure.is_steady.Goals as goal
 
 pub loop-i-preserved : goal.loop-i-preserved

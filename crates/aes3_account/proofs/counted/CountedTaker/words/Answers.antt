@@ -1,36 +1,11 @@
-use Rattle.std.proofs.Common.{
-  ◌≡◌,
-  ◌+◌,
-  ◌-◌,
-  ◌*◌,
-  ◌^◌,
-  ◌<◌,
-  ◌≤◌,
-  ◌++◌,
-  List,
-  length,
-  take,
-  drop,
-  get_or,
-  arith,
-  ap,
-  ◌∙◌,
-  length-append,
-  length-drop,
-}
+use Rattle.std.proofs.Common.{◌≡◌, ◌+◌, ◌-◌, ◌*◌, ◌^◌, ◌<◌, ◌≤◌, ◌++◌, List, length, take, drop, get_or, arith, ap, ◌∙◌}
+use Rattle.std.proofs.Common.{length-append, length-drop}
 use Rattle.std.specs.List.{flat_map}
 use Rattle.std.proofs.lemmas.List.{length-take-le, take_rest, take_all}
 use Rattle.std.proofs.lemmas.Result.{err_from_is_err_and}
 use Rattle.aes3_level.specs.Words.{word_len, word_cells}
-use Rattle.aes3_input.proofs.Handing.{
-  handed-is,
-  handed-cells,
-  handed-cells-front,
-  length-words,
-  words-more,
-  words-parted,
-  words-further,
-}
+use Rattle.aes3_input.proofs.Handing.{handed-is, handed-cells, handed-cells-front, length-words, words-more}
+use Rattle.aes3_input.proofs.Handing.{words-parted, words-further}
 use Rattle.aes3_level.specs.declared.level.Level.{Level}
 use Rattle.aes3_lock.specs.Following.{Follows}
 use Rattle.aes3_account.proofs.counted.CountedTaker.words.Goals as goal

@@ -7,14 +7,8 @@ use Rattle.aes3_lock.specs.Reports.{decided}
 use Rattle.aes3_lock.proofs.Tallies.{few-decided}
 use Rattle.aes3_account.specs.Gaps.{accounted, behind_report, gaps}
 use Rattle.aes3_account.specs.GapLines.{account_lines}
-use Rattle.aes3_account.proofs.Accounts.{
-  lost-room,
-  near-last,
-  reached-is,
-  report-lines,
-  close_with-lines,
-  close_with-accounts,
-}
+use Rattle.aes3_account.proofs.Accounts.{lost-room, near-last, reached-is, report-lines, close_with-lines}
+use Rattle.aes3_account.proofs.Accounts.{close_with-accounts}
 use Rattle.aes3_account.proofs.ledger.LedgerCellReporter.close_with.Goals as goal
 
 pub tell-requires-clause-few : goal.tell-requires-clause-few
