@@ -34,8 +34,8 @@ loop-run-preserved g c =
           followed-edge c.loop-run.self.line c.next_edge.new.self c.edge.new.self.line c.loop-run.sink c.edge.new.sink
           c.in-Ok.field-0 begun front first before (seen ++ low_cells c.args.len c.args.levels) c.loop-run.piece
           c.next_edge.new.piece c.in-Some.run' c.loop-run.piece.few c.in-Some.ensures.edge
-          c.next_edge.ensures.follower c.next_edge.ensures.queue (not c.is_high-high.result) (ap not c.is_high-high.ensures)
-          (c.in-Ok.ensures.told follows)
+          c.next_edge.ensures.follower c.next_edge.ensures.queue
+          (not c.is_high-high.result) (ap not c.is_high-high.ensures) (c.in-Ok.ensures.told follows)
           (c.loop-run.invariant.followed was follows kept room some begun front first before seen w);
     }
 
