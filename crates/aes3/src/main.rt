@@ -7,10 +7,10 @@ mod input;
 
 ghost use Rattle.std.specs.Prelude.{◌+◌, ◌<◌, ◌^◌, ◌≡◌, IfErr};
 
-use aes3_arguments::{CommandLine, LineFault, line_of_words};
+use aes3_arguments::line_of_words;
 use aes3_cell::{BufferedSink, Sink, StdSink, StdSource};
 use aes3_hints::{Clearing, Hints, Terminals};
-use aes3_runner::{Unread, run_line, tell_unread};
+use aes3_runner::{Unread, file_of_line, run_and_explain, tell_unread};
 use input::Input;
 use std::cell::Cell;
 use std::env;
@@ -50,7 +50,7 @@ fn run_program<E: Sink, H: Sink + Drop>(
     let words: Vec<&str> = words.iter().map(|word| word.as_str()).collect(rt.alloc())?;
     let told = StdSink::new(rt.stderr());
     let output = StdSink::new(rt.stdout().lock());
-    let output = Clearing::new(output, told, shown, terminals.output);
+    let output = Clearing::new(output, told, shown, terminals.output && terminals.errors);
     let mut sink = BufferedSink::new(rt.alloc(), output)?;
     let line = line_of_words(rt.alloc(), &words);
     let file = file_of_line(&line);
@@ -65,18 +65,7 @@ fn run_program<E: Sink, H: Sink + Drop>(
     };
     let watched = hints.watch(StdSource::new(input));
     let source = hints.follow(rt, watched, StdSink::new(rt.stderr()), shown, len, &line);
-    let mut ran = run_line(line, source, &mut sink, errors, hints);
-    ran.source.end();
-    hints.explain(&words, file, ran.source.source());
-    Ok(ran.status)
-}
-
-/// The file that the line reads in place of standard input.
-fn file_of_line<'a>(line: &Result<CommandLine<'a>, LineFault>) -> Option<&'a str> {
-    match line {
-        Ok(line) => line.file,
-        Err(_) => None,
-    }
+    Ok(run_and_explain(line, &words, source, &mut sink, errors, hints).status)
 }
 
 /// The words of the command line behind the program's name.

@@ -1,2 +1,3 @@
+pub mod ErrorsToldLemmas
 pub mod Flushes
 pub mod RawRuns

@@ -1,5 +1,5 @@
 -- A job on raw octets, by what it is told of them.
-use Rattle.std.proofs.Common.{◌≡◌, ℕ, Bool, false, List, Option, sym, subst}
+use Rattle.std.proofs.Common.{◌≡◌, ℕ, Bool, false, List, Option, subst}
 use Rattle.std.specs.Prelude.{IsTrue}
 use Rattle.aes3_input.specs.Running.{Movement}
 use Rattle.aes3_octets.specs.Told.{raw_told}

@@ -1,6 +1,5 @@
 -- What the program does for a job.
-use Rattle.std.specs.Prelude.{ℕ, List, [], Bool, Result, Ok, Err, ◌≡◌, ◌≢◌, ◌+◌, ◌^◌, ◌==◌, ◌⊎◌, if◌then◌else◌}
-use Rattle.aes3_level.specs.declared.level.Level.TheVariants.{Low}
+use Rattle.std.specs.Prelude.{ℕ, [], Bool, Result, Ok, Err, ◌≡◌, ◌≢◌, ◌+◌, ◌^◌, ◌==◌, ◌⊎◌, if◌then◌else◌}
 use Rattle.aes3_cell.specs.declared.counts.Counts.{Counts}
 use Rattle.aes3_cell.specs.declared.refusal.RunError.{RunError}
 use Rattle.aes3_cell.specs.declared.refusal.RunError.TheVariants as refusal

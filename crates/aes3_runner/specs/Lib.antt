@@ -1,4 +1,5 @@
 pub mod JobRuns
 pub mod Lines
 pub mod OctetRuns
+pub mod StandardErrors
 pub mod WordRuns

@@ -20,7 +20,7 @@ abbrev pub FaultRan : LineFault → Movement → Movement → ℕ → Type 0
 FaultRan (Usage text) sink errors status =
     (status ≡ 2) × Grew sink.old sink.new [] × (Quiet errors → Grew errors.old errors.new text.bytes.items)
 FaultRan (Help text) sink errors status =
-    ((status ≡ 0) × Quiet sink × Grew sink.old sink.new text.bytes.items)
+    ((status ≡ 0) × Quiet sink × Grew sink.old sink.new text.bytes.items × Grew errors.old errors.new [])
     ⊎ ((status ≡ 3) × Failed sink × IsTold errors Write)
 FaultRan (Refused error) sink errors status =
     (status ≡ 3) × Grew sink.old sink.new [] × IsTold errors error

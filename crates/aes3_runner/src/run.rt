@@ -84,7 +84,9 @@ pub enum Unread {
 }
 
 impl From<AllocError> for Unread {
-    fn from(_error: AllocError) -> Unread {
+    fn from(_error: AllocError) -> Unread
+        ensures { result ≡ Unread.Memory }
+    {
         Unread::Memory
     }
 }

@@ -1,0 +1,114 @@
+-- What standard error is told of a line, by what ran.
+use Rattle.std.proofs.Common.{◌≤◌, ◌==◌, ℕ, inl, inr, Bool, true, false, Result, Ok, Err, arith}
+use Rattle.std.proofs.Common.{if◌then◌else◌}
+use Rattle.aes3_cell.specs.declared.counts.Counts.{Counts}
+use Rattle.aes3_cell.specs.declared.refusal.RunError.{RunError}
+use Rattle.aes3_cell.specs.declared.refusal.RunError.TheVariants as refusal
+use Rattle.aes3_input.specs.Running.{Movement}
+use Rattle.aes3_arguments.specs.declared.job.LineFault.{LineFault}
+use Rattle.aes3_arguments.specs.declared.job.LineFault.TheVariants.{Usage, Help, Refused}
+use Rattle.aes3_arguments.specs.declared.line.CommandLine.{CommandLine}
+use Rattle.aes3_job.specs.declared.job.Job.{Job}
+use Rattle.aes3_job.specs.declared.job.Job.TheVariants.{
+  Encode,
+  Decode,
+  Normal,
+  Check,
+  Account,
+  Watch,
+  Show,
+  ShowChanges,
+  Scan,
+  Cut,
+  Rewrite,
+  ToPcm,
+  FromPcm,
+}
+use Rattle.aes3_runner.specs.JobRuns.{AnswerTold, status_by}
+use Rattle.aes3_runner.specs.OctetRuns.{OctetsRan}
+use Rattle.aes3_runner.specs.StandardErrors.{ErrorsTold}
+use Rattle.aes3_runner.specs.WordRuns.{LineRan}
+
+-- a status of a test is 0 or 1
+few-of : (b : Bool) → (if b then 0 else 1) ≤ 1
+few-of true = omega arith
+few-of false = omega arith
+
+few : (job : Job) (n : Counts) → status_by job n ≤ 1
+few (Encode o) n = omega arith
+few (Decode i) n = omega arith
+few (Normal i o) n = omega arith
+few (Check i l) n = few-of (n.faults == 0)
+few (Account i l) n = few-of (n.faults == 0)
+few (Watch i l) n = few-of (n.faults == 0)
+few (Show i) n = omega arith
+few (ShowChanges i) n = omega arith
+few (Scan i) n = omega arith
+few (Cut i o f c) n = omega arith
+few (Rewrite i o c) n = omega arith
+few (ToPcm i) n = omega arith
+few (FromPcm e c) n = omega arith
+
+-- of a job's answer
+of-answer : (line : CommandLine) (job : Job) (answer : Result Counts RunError) (failed : ℕ) (sink errors : Movement)
+    (status : ℕ) → AnswerTold job answer failed sink errors status → ErrorsTold (Ok line) errors status
+of-answer line job (Ok n) failed sink errors status t =
+    let small = few job n in
+    record {
+      known = omega (arith, t.0, small);
+      done = λ s. t.2;
+      usage = λ s. absurd (omega (arith, t.0, small, s));
+      refusal = λ s. absurd (omega (arith, t.0, small, s));
+    }
+of-answer line job (Err error) failed sink errors status t = record {
+  known = omega (arith, t.0);
+  done = λ s. absurd (omega (arith, t.0, s));
+  usage = λ s. absurd (omega (arith, t.0, s));
+  refusal = λ s q. elim t.1 [
+    | inl k ↦ record { error = error; line = k.1 q }
+    | inr k ↦ record { error = refusal.Write; line = k.2 q }
+  ];
+}
+
+of-job : (line : CommandLine) (raw : Bool) (job : Job) (ended : Bool) (source sink errors : Movement) (status : ℕ)
+    → OctetsRan raw job ended source sink errors status → ErrorsTold (Ok line) errors status
+of-job line true job ended source sink errors status r
+    = of-answer line job r.ran.answer r.ran.failed sink errors status r.ran.told
+of-job line false job ended source sink errors status r
+    = of-answer line job r.answer r.failed sink errors status r.told
+
+-- of a line
+pub errors-told : (line : Result CommandLine LineFault) (ended : Bool) (source sink errors : Movement) (status : ℕ)
+    → LineRan line ended source sink errors status → ErrorsTold line errors status
+errors-told (Ok line) ended source sink errors status r
+    = of-job line line.octets.raw_in line.job ended source sink errors status r
+errors-told (Err (Usage text)) ended source sink errors status r =
+    let s = r.2.0 in
+    record {
+      known = omega (arith, s);
+      done = λ h. absurd (omega (arith, s, h));
+      usage = λ h q. r.2.2 q;
+      refusal = λ h. absurd (omega (arith, s, h));
+    }
+errors-told (Err (Help text)) ended source sink errors status r = elim r.2 [
+  | inl k ↦ record {
+    known = omega (arith, k.0);
+    done = λ h. k.3;
+    usage = λ h. absurd (omega (arith, k.0, h));
+    refusal = λ h. absurd (omega (arith, k.0, h));
+  }
+  | inr k ↦ record {
+    known = omega (arith, k.0);
+    done = λ h. absurd (omega (arith, k.0, h));
+    usage = λ h. absurd (omega (arith, k.0, h));
+    refusal = λ h q. record { error = refusal.Write; line = k.2 q };
+  }
+]
+errors-told (Err (Refused error)) ended source sink errors status r =
+    let s = r.2.0 in
+    record {
+      known = omega (arith, s);
+      done = λ h. absurd (omega (arith, s, h));
+      usage = λ h. absurd (omega (arith, s, h));
+      refusal = λ h q. record { error = error; line = r.2.2 q };
+    }

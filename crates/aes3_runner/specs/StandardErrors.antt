@@ -1,0 +1,29 @@
+-- What standard error is told of a command line where nobody sits at a terminal.
+use Rattle.std.specs.Prelude.{ℕ, [], Result, Ok, Err, ◌≡◌, ◌≤◌}
+use Rattle.aes3_cell.specs.Ends.{Grew}
+use Rattle.aes3_cell.specs.declared.refusal.RunError.{RunError}
+use Rattle.aes3_input.specs.Running.{Movement, Quiet}
+use Rattle.aes3_arguments.specs.declared.job.LineFault.{LineFault}
+use Rattle.aes3_arguments.specs.declared.job.LineFault.TheVariants.{Usage, Help, Refused}
+use Rattle.aes3_arguments.specs.declared.line.CommandLine.{CommandLine}
+use Rattle.aes3_runner.specs.Lines.{refusal_line}
+
+-- the line of a refusal, and nothing else
+pub record RefusalTold (errors : Movement) : Type 0 where
+  pub error : RunError
+  pub line : Grew errors.old errors.new (refusal_line error)
+
+-- why the words are no command, and nothing else
+abbrev pub UsageTold : Result CommandLine LineFault → Movement → Type 0
+UsageTold (Ok line) errors = ⊥
+UsageTold (Err (Usage text)) errors = Grew errors.old errors.new text.bytes.items
+UsageTold (Err (Help text)) errors = ⊥
+UsageTold (Err (Refused error)) errors = ⊥
+
+-- nothing of a line that was run to its end, at status 0 and 1; at 2 why its words are no command; at 3 the line of a
+-- refusal
+pub record ErrorsTold (line : Result CommandLine LineFault) (errors : Movement) (status : ℕ) : Type 0 where
+  pub known : status ≤ 3
+  pub done : status ≤ 1 → Grew errors.old errors.new []
+  pub usage : status ≡ 2 → Quiet errors → UsageTold line errors
+  pub refusal : status ≡ 3 → Quiet errors → RefusalTold errors
