@@ -9,21 +9,8 @@ use Rattle.aes3_arguments.specs.declared.job.LineFault.{LineFault}
 use Rattle.aes3_arguments.specs.declared.job.LineFault.TheVariants.{Usage, Help, Refused}
 use Rattle.aes3_arguments.specs.declared.line.CommandLine.{CommandLine}
 use Rattle.aes3_job.specs.declared.job.Job.{Job}
-use Rattle.aes3_job.specs.declared.job.Job.TheVariants.{
-  Encode,
-  Decode,
-  Normal,
-  Check,
-  Account,
-  Watch,
-  Show,
-  ShowChanges,
-  Scan,
-  Cut,
-  Rewrite,
-  ToPcm,
-  FromPcm,
-}
+use Rattle.aes3_job.specs.declared.job.Job.TheVariants.{Encode, Decode, Normal, Check, Account, Watch, Show}
+use Rattle.aes3_job.specs.declared.job.Job.TheVariants.{ShowChanges, Scan, Cut, Rewrite, ToPcm, FromPcm}
 use Rattle.aes3_runner.specs.JobRuns.{AnswerTold, status_by}
 use Rattle.aes3_runner.specs.OctetRuns.{OctetsRan}
 use Rattle.aes3_runner.specs.StandardErrors.{ErrorsTold}
