@@ -1,8 +1,10 @@
+mod CarriedOptions
 mod Explains
 mod Files
 mod LineAnswers
 mod LineWalks
+mod Misuses
 mod OptionReads
 mod OptionRows
-mod StyleOptions
 mod TakenLines
+mod TakenOptions

@@ -43,14 +43,14 @@ error_told words e (fault.Help text) kind tells = elim kind [
 ]
 error_told words e (fault.Refused error) kind tells = inl tells
 
--- a bad status is told, and so are bad settings and options that clash
+-- a bad status is told, and so are bad settings and options that are misused
 pub bad_option_told : (words : List Text) (name : Text) (options : Options) (told : LineFault)
     → StandsIn words name options
     → AreBadOptionsOf name options told → IsLineFaultOf words told
 bad_option_told words name options (fault.Usage text) stands bad = inr (name, options, stands, bad)
 bad_option_told words name options (fault.Help text) stands bad = elim bad [
   | inl option ↦ elim option [ inl rewrite ↦ absurd rewrite.1 | inr from_pcm ↦ absurd from_pcm.1 ]
-  | inr clash ↦ absurd clash.1
+  | inr misuse ↦ absurd misuse.2
 ]
 bad_option_told words name options (fault.Refused error) stands bad = elim bad [
   | inl option ↦ elim option [
@@ -63,7 +63,7 @@ bad_option_told words name options (fault.Refused error) stands bad = elim bad [
       | inr status ↦ inr (status.0, (name, options, stands, inr from_pcm.0, status.1))
     ]
   ]
-  | inr clash ↦ inl clash.1
+  | inr misuse ↦ inl misuse.2
 ]
 
 both_parts : {X : Type 0} (f : X → Text) (g : X → List Row) (o : Option X) (name : Text) (options : List Row)

@@ -1,6 +1,6 @@
 -- What the getters of a parse's matches read, by the options that the matches have.
-use Rattle.std.proofs.Common.{◌≡◌, ◌∙◌, ◌<◌, ◌^◌, arith, ℕ, Bool, List, map, Bor, Option, Some, None, Result, Ok, Err}
-use Rattle.std.proofs.Common.{inl, inr, true, false, codes, refl, sym, ap, cond}
+use Rattle.std.proofs.Common.{◌≡◌, ◌∙◌, ◌<◌, ◌≤◌, ◌^◌, arith, ℕ, Bool, List, map, Bor, Option, Some, None, Result, Ok, Err}
+use Rattle.std.proofs.Common.{inl, inr, true, false, codes, refl, sym, ap, cond, subst, is_some, true≢false}
 use Rattle.std.specs.Prelude.{option_and_then}
 use Rattle.std.specs.Option.{option_map, option_map_or}
 use Rattle.std.specs.Str.{bytes_eq}
@@ -12,8 +12,9 @@ use Rattle.clap.specs.declared.builder.value_parser.ValueParser.TheVariants as v
 use Rattle.clap.specs.declared.parser.matches.ArgMatches.{ArgMatches}
 use Rattle.clap.proofs.ValueTestLemmas.{Accepts-accepts, accepts-Accepts}
 use Rattle.clap.proofs.WalkLemmas.{one_text-rows, raw_values-rows}
-use Rattle.aes3_commands.specs.CommandLine.{most_frames}
-use Rattle.aes3_arguments.specs.Jobs.{IsNumber, MayBeFlag, MayBeRate, is_set, number_in, options_of, rate_by}
+use Rattle.aes3_commands.specs.CommandLine.{greatest, most_frames}
+use Rattle.aes3_arguments.specs.Jobs.{IsNumber, MayBeFlag, MayBeWithin, Options, is_set, number_by, number_in, options_of}
+use Rattle.aes3_arguments.proofs.OptionRows.{some_inj}
 
 -- `get_flag` tells whether the flag stands
 pub flag_is : (m : ArgMatches) (name : Text) (answer : Bool) → MayBeFlag (options_of m) name
@@ -71,41 +72,70 @@ pub texts_are : (m : ArgMatches) (name : Text) (answer is : Option (Bor (List (B
     → answer ≡ is → all_of name (options_of m) ≡ texts_in is
 texts_are m name answer is read same = sym (raw_values-rows (found_of m) name) ∙ (sym read ∙ ap texts_in same)
 
--- a number of frames a second is read as that number
-rate_parses : (E : Type 0) (G : Text → Result ℕ E → Type 0) (text : Text) (answer : Option ℕ)
-    → ((t : Text) (x : Result ℕ E) → G t x → ParsesUnsigned 32 10 t x)
-    → is_unsigned_in 1 most_frames text ≡ true → ReadsOne G text answer → answer ≡ number_in text
-rate_parses E G text answer only passed read = go answer read ∙ sym is
+-- a text within bounds writes a number, which is within them
+pub bounded_in : (least most : ℕ) (text : Text) → is_unsigned_in least most text ≡ true
+    → (n : ℕ) × (number_in text ≡ Some n) × (least ≤ n) × (n ≤ most)
+bounded_in least most text passed =
+    let bounds = accepts-Accepts false (vp.Unsigned least most) text passed in
+    let wide = Accepts-accepts false (vp.Unsigned 0 greatest) text
+    (bounds.0, bounds.1, omega arith, omega (arith, bounds.1)) in (
+      digits_value 10 (without_leading_plus text),
+      ap (λ (b : Bool). cond b (Some (digits_value 10 (without_leading_plus text))) None) wide,
+      bounds.2,
+      bounds.3,
+    )
+
+-- a number that an option gives is within its bounds
+pub within : (least most : ℕ) (options : Options) (name : Text) (n : ℕ) → MayBeWithin least most options name
+    → number_by options name ≡ Some n → n ≤ most
+within least most options name n bounds is = elim bounds [
+  | inl none ↦ absurd (true≢false (ap is_some (sym is ∙ ap (option_and_then number_in) none)))
+  | inr given ↦
+      let found = bounded_in least most given.0 given.2 in
+      subst (λ (x : ℕ). x ≤ most)
+      (some_inj _ _ (sym found.1 ∙ (sym (ap (option_and_then number_in) given.1) ∙ is))) found.3
+]
+
+-- a number within bounds is read as that number, by a type that holds it
+bounded_parses : (w : ℕ) (E : Type 0) (G : Text → Result ℕ E → Type 0) (least most : ℕ) (text : Text)
+    (answer : Option ℕ)
+    → ((t : Text) (x : Result ℕ E) → G t x → ParsesUnsigned w 10 t x)
+    → is_unsigned_in least most text ≡ true → digits_value 10 (without_leading_plus text) < 2 ^ w
+    → ReadsOne G text answer → answer ≡ number_in text
+unfolding bounded_in
+bounded_parses w E G least most text answer only passed few read =
+    go answer read ∙ sym (bounded_in least most text passed).1
   where
-    value : ℕ
-    value = digits_value 10 (without_leading_plus text)
-
-    few : value < 2 ^ 32
-    few = let bounds = accepts-Accepts false (vp.Unsigned 1 most_frames) text passed in omega (arith, bounds.3)
-
-    is : number_in text ≡ Some value
-    is =
-        let bounds = accepts-Accepts false (vp.Unsigned 1 most_frames) text passed in
-        let wide = Accepts-accepts false (vp.Unsigned 0 18446744073709551615) text
-        (bounds.0, bounds.1, omega arith, omega (arith, few)) in
-        ap (λ (b : Bool). cond b (Some value) None) wide
-
-    go : (o : Option ℕ) → ReadsOne G text o → o ≡ Some value
+    go : (o : Option ℕ) → ReadsOne G text o → o ≡ Some (bounded_in least most text passed).0
     go (Some v) h = ap Some (only text (Ok v) h).1
     go None h =
-        let numeral = accepts-Accepts false (vp.Unsigned 1 most_frames) text passed in
-        absurd (only text (Err h.0) h.1 (numeral.0, few))
+        let bounds = accepts-Accepts false (vp.Unsigned least most) text passed in
+        absurd (only text (Err h.0) h.1 (bounds.0, few))
 
--- `get_one` reads the rate
-pub rate_is : (E : Type 0) (G : Text → Result ℕ E → Type 0) (m : ArgMatches) (answer : Option ℕ)
-    → ((t : Text) (x : Result ℕ E) → G t x → ParsesUnsigned 32 10 t x)
-    → MayBeRate (options_of m) (codes "rate")
-    → (one_text (found_of m) (codes "rate") ≡ None → answer ≡ None)
-    → ((t : Text) → one_text (found_of m) (codes "rate") ≡ Some t → ReadsOne G t answer)
-    → answer ≡ rate_by (options_of m)
-rate_is E G m answer only rate none value = elim rate [
-  | inl e ↦ none (one_text-rows (found_of m) (codes "rate") ∙ e) ∙ sym (ap (option_and_then number_in) e)
+-- `get_one` reads the number of an option, where it is given
+pub bounded_is : (w : ℕ) (E : Type 0) (G : Text → Result ℕ E → Type 0) (m : ArgMatches) (name : Text) (least most : ℕ)
+    (answer : Option ℕ)
+    → ((t : Text) (x : Result ℕ E) → G t x → ParsesUnsigned w 10 t x)
+    → ((text : Text) → is_unsigned_in least most text ≡ true → digits_value 10 (without_leading_plus text) < 2 ^ w)
+    → MayBeWithin least most (options_of m) name
+    → (one_text (found_of m) name ≡ None → answer ≡ None)
+    → ((t : Text) → one_text (found_of m) name ≡ Some t → ReadsOne G t answer)
+    → answer ≡ number_by (options_of m) name
+bounded_is w E G m name least most answer only few bounds none value = elim bounds [
+  | inl e ↦ none (one_text-rows (found_of m) name ∙ e) ∙ sym (ap (option_and_then number_in) e)
   | inr given ↦
-      rate_parses E G given.0 answer only given.2 (value given.0 (one_text-rows (found_of m) (codes "rate") ∙ given.1))
+      bounded_parses w E G least most given.0 answer only given.2 (few given.0 given.2)
+      (value given.0 (one_text-rows (found_of m) name ∙ given.1))
       ∙ sym (ap (option_and_then number_in) given.1)
 ]
+
+-- 32 bits hold a number of frames a second
+pub few_frames : (text : Text) → is_unsigned_in 1 most_frames text ≡ true
+    → digits_value 10 (without_leading_plus text) < 2 ^ 32
+few_frames text passed =
+    let bounds = accepts-Accepts false (vp.Unsigned 1 most_frames) text passed in omega (arith, bounds.3)
+
+-- 64 bits hold each number of an option
+pub few : (least most : ℕ) (text : Text) → is_unsigned_in least most text ≡ true
+    → digits_value 10 (without_leading_plus text) < 2 ^ 64
+few least most text passed = (accepts-Accepts false (vp.Unsigned least most) text passed).1

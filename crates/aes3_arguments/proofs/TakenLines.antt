@@ -1,11 +1,10 @@
 -- What holds of the command that stands in words that the definitions take.
-use Rattle.std.proofs.Common.{◌≡◌, ◌∙◌, ◌⊎◌, ◌<◌, ℕ, Bool, List, [], ◌∷◌, length, Option, Some, None, true, false, not}
+use Rattle.std.proofs.Common.{◌≡◌, ◌∙◌, ◌⊎◌, ◌<◌, ◌≤◌, ℕ, Bool, List, [], ◌∷◌, length, Option, Some, None, true, false, not}
 use Rattle.std.proofs.Common.{codes, refl, sym, ap, subst, cond, inl, inr, arith, is_some, true≢false, ◌||◌}
 use Rattle.std.specs.Prelude.{⊤, option_and_then, slice_get}
 use Rattle.std.specs.List.{find}
 use Rattle.std.specs.Option.{option_map, option_map_or}
 use Rattle.std.specs.Str.{bytes_eq}
-use Rattle.std.specs.Str.Parse.{digits_value, without_leading_plus}
 use Rattle.std.proofs.lemmas.Slice.Eq.{bytes_eq-Decides}
 use Rattle.clap.specs.Facts.{explicit_source, parser_of_value}
 use Rattle.clap.specs.Faults.{check_fault, entered_fault, fault_of, level_fault, values_fault}
@@ -20,9 +19,10 @@ use Rattle.clap.specs.Walk.{rows_after, stop_after}
 use Rattle.clap.specs.declared.builder.value_parser.ValueParser.{ValueParser}
 use Rattle.clap.specs.declared.builder.value_parser.ValueParser.TheVariants as vp
 use Rattle.aes3_commands.specs.CommandLine.{check, command_line, cut, encode, from_pcm, normal, reader, rewrite, show}
-use Rattle.aes3_commands.specs.CommandLine.{watch}
+use Rattle.aes3_commands.specs.CommandLine.{greatest, to_bits, to_pcm, watch}
 use Rattle.aes3_arguments.specs.Jobs.{IsNumber, MayBeFlag, Options, StandsIn, number_in}
 use Rattle.aes3_arguments.proofs.LineWalks.{level_checked, level_fits}
+use Rattle.aes3_arguments.proofs.OptionReads.{bounded_in}
 use Rattle.aes3_arguments.proofs.OptionRows.{FitAll, Fits, SoundAll, flag_sound, help_sound, or_nil, some_inj}
 use Rattle.aes3_arguments.proofs.OptionRows.{value_sound, values_sound}
 
@@ -118,29 +118,28 @@ flag_reads c rows id (Some a) fit own flag = elim (option_reads c rows id a vp.B
     go false t at same passed = inr (at ∙ ap Some ((bytes_eq-Decides t (codes "false")).0 passed))
 
 -- a number that was given
-abbrev max : ℕ
-max = 18446744073709551615
-
-number_reads : (c : List Rule) (rows : List Row) (id : Text) (a : Rule) → FitAll c rows → arg_by_id c id ≡ Some a
-    → a.parser ≡ Some (vp.Unsigned 0 max)
-    → is_given id rows ≡ true → (n : ℕ) × IsNumber rows id n
-number_reads c rows id a fit own is given = elim (option_reads c rows id a (vp.Unsigned 0 max) fit own is) [
+pub number_reads : (c : List Rule) (rows : List Row) (id : Text) (a : Rule) (least most : ℕ) → FitAll c rows
+    → arg_by_id c id ≡ Some a → a.parser ≡ Some (vp.Unsigned least most)
+    → is_given id rows ≡ true → (n : ℕ) × IsNumber rows id n × (least ≤ n) × (n ≤ most)
+number_reads c rows id a least most fit own is given = elim (option_reads c rows id a (vp.Unsigned least most) fit own is) [
   | inl none ↦ absurd (true≢false
       (sym given ∙ ap (λ o. option_map_or (λ (r : Row). explicit_source r.source) o false) none))
-  | inr found ↦ (
-    digits_value 10 (without_leading_plus found.0),
-    ap (option_and_then number_in) (found.1 ∙ ap Some (as_written a (vp.Unsigned 0 max) found.0 is refl))
-        ∙ ap (λ (b : Bool). cond b (Some (digits_value 10 (without_leading_plus found.0))) None) found.2,
-  )
+  | inr found ↦
+      let n = bounded_in least most found.0 found.2 in (
+        n.0,
+        ap (option_and_then number_in) (found.1 ∙ ap Some (as_written a (vp.Unsigned least most) found.0 is refl)) ∙ n.1,
+        n.2,
+        n.3,
+      )
 ]
 
 -- what is wanted was given
-both_given : (first second : Bool) → (not first || (not second || false)) ≡ false → (first ≡ true) × (second ≡ true)
+pub both_given : (first second : Bool) → (not first || (not second || false)) ≡ false → (first ≡ true) × (second ≡ true)
 both_given true true e = (refl, refl)
 both_given true false e = absurd (true≢false e)
 both_given false second e = absurd (true≢false e)
 
-nothing_wanted : (help subcommand argument : Bool) → check_kinds help subcommand argument ≡ [] → argument ≡ false
+pub nothing_wanted : (help subcommand argument : Bool) → check_kinds help subcommand argument ≡ [] → argument ≡ false
 nothing_wanted true subcommand argument e = absurd (omega (arith, ap length e))
 nothing_wanted false true argument e = absurd (omega (arith, ap length e))
 nothing_wanted false false true e = absurd (omega (arith, ap length e))
@@ -173,191 +172,86 @@ found_shape P (x ∷ xs) p s each e = go (p x) (λ rest. found_shape P xs p s ea
     go false later same = later same
 
 -- a command that is not called `cut`
-other_name : {X : Type 0} (name : Text) → bytes_eq name (codes "cut") ≡ false → name ≡ codes "cut" → X
+pub other_name : {X : Type 0} (name : Text) → bytes_eq name (codes "cut") ≡ false → name ≡ codes "cut" → X
 other_name name differs same = absurd (true≢false (sym (ap (λ t. bytes_eq t (codes "cut")) same) ∙ differs))
 
 -- the command as it is built
-abbrev leaf : Shape → Shape
+abbrev pub leaf : Shape → Shape
 leaf s = built_leaf (inherited (with_leaf_noted (marked_built command_line.top)) s)
 
 encode_known : IsKnown (leaf encode)
 encode_known = record {
-  sound = (flag_sound _ _ (codes "true") refl refl refl refl, (help_sound _ _ refl refl, tt));
+  sound = (flag_sound _ _ (codes "true") refl refl refl refl, (flag_sound _ _ (codes "true") refl refl refl refl, (help_sound _ _ refl refl, tt)));
   numbers = λ rows name fit passed. other_name (codes "encode") refl name;
 }
 
 reader_known : (name : Text) → bytes_eq name (codes "cut") ≡ false → IsKnown (leaf (reader name))
 reader_known name differs = record {
-  sound = (
-    flag_sound _ _ (codes "true") refl refl refl refl,
-    (
-      flag_sound _ _ (codes "true") refl refl refl refl,
-      (value_sound _ _ refl refl refl, (help_sound _ _ refl refl, tt)),
-    ),
-  );
+  sound = (flag_sound _ _ (codes "true") refl refl refl refl, (flag_sound _ _ (codes "true") refl refl refl refl, (flag_sound _ _ (codes "true") refl refl refl refl, (value_sound _ _ refl refl refl, (help_sound _ _ refl refl, tt)))));
   numbers = λ rows same fit passed. other_name name differs same;
 }
 
 check_known : IsKnown (leaf check)
 check_known = record {
-  sound = (
-    flag_sound _ _ (codes "true") refl refl refl refl,
-    (
-      flag_sound _ _ (codes "true") refl refl refl refl,
-      (
-        flag_sound _ _ (codes "true") refl refl refl refl,
-        (
-          flag_sound _ _ (codes "true") refl refl refl refl,
-          (value_sound _ _ refl refl refl, (help_sound _ _ refl refl, tt)),
-        ),
-      ),
-    ),
-  );
+  sound = (flag_sound _ _ (codes "true") refl refl refl refl, (flag_sound _ _ (codes "true") refl refl refl refl, (flag_sound _ _ (codes "true") refl refl refl refl, (flag_sound _ _ (codes "true") refl refl refl refl, (flag_sound _ _ (codes "true") refl refl refl refl, (value_sound _ _ refl refl refl, (help_sound _ _ refl refl, tt)))))));
   numbers = λ rows name fit passed. other_name (codes "check") refl name;
 }
 
 watch_known : IsKnown (leaf watch)
 watch_known = record {
-  sound = (
-    flag_sound _ _ (codes "true") refl refl refl refl,
-    (
-      flag_sound _ _ (codes "true") refl refl refl refl,
-      (
-        flag_sound _ _ (codes "true") refl refl refl refl,
-        (value_sound _ _ refl refl refl, (value_sound _ _ refl refl refl, (help_sound _ _ refl refl, tt))),
-      ),
-    ),
-  );
+  sound = (flag_sound _ _ (codes "true") refl refl refl refl, (flag_sound _ _ (codes "true") refl refl refl refl, (flag_sound _ _ (codes "true") refl refl refl refl, (flag_sound _ _ (codes "true") refl refl refl refl, (value_sound _ _ refl refl refl, (value_sound _ _ refl refl refl, (value_sound _ _ refl refl refl, (value_sound _ _ refl refl refl, (help_sound _ _ refl refl, tt)))))))));
   numbers = λ rows name fit passed. other_name (codes "watch") refl name;
 }
 
 show_known : IsKnown (leaf show)
 show_known = record {
-  sound = (
-    flag_sound _ _ (codes "true") refl refl refl refl,
-    (
-      flag_sound _ _ (codes "true") refl refl refl refl,
-      (
-        flag_sound _ _ (codes "true") refl refl refl refl,
-        (value_sound _ _ refl refl refl, (help_sound _ _ refl refl, tt)),
-      ),
-    ),
-  );
+  sound = (flag_sound _ _ (codes "true") refl refl refl refl, (flag_sound _ _ (codes "true") refl refl refl refl, (flag_sound _ _ (codes "true") refl refl refl refl, (flag_sound _ _ (codes "true") refl refl refl refl, (flag_sound _ _ (codes "true") refl refl refl refl, (flag_sound _ _ (codes "true") refl refl refl refl, (value_sound _ _ refl refl refl, (help_sound _ _ refl refl, tt))))))));
   numbers = λ rows name fit passed. other_name (codes "show") refl name;
 }
 
 normal_known : IsKnown (leaf normal)
 normal_known = record {
-  sound = (
-    flag_sound _ _ (codes "true") refl refl refl refl,
-    (
-      flag_sound _ _ (codes "true") refl refl refl refl,
-      (
-        flag_sound _ _ (codes "true") refl refl refl refl,
-        (value_sound _ _ refl refl refl, (help_sound _ _ refl refl, tt)),
-      ),
-    ),
-  );
+  sound = (flag_sound _ _ (codes "true") refl refl refl refl, (flag_sound _ _ (codes "true") refl refl refl refl, (flag_sound _ _ (codes "true") refl refl refl refl, (flag_sound _ _ (codes "true") refl refl refl refl, (value_sound _ _ refl refl refl, (help_sound _ _ refl refl, tt))))));
   numbers = λ rows name fit passed. other_name (codes "normal") refl name;
 }
 
 cut_known : IsKnown (leaf cut)
 cut_known = record {
-  sound = (
-    flag_sound _ _ (codes "true") refl refl refl refl,
-    (
-      flag_sound _ _ (codes "true") refl refl refl refl,
-      (
-        flag_sound _ _ (codes "true") refl refl refl refl,
-        (value_sound _ _ refl refl refl, (value_sound _ _ refl refl refl, (help_sound _ _ refl refl, tt))),
-      ),
-    ),
-  );
+  sound = (flag_sound _ _ (codes "true") refl refl refl refl, (flag_sound _ _ (codes "true") refl refl refl refl, (flag_sound _ _ (codes "true") refl refl refl refl, (flag_sound _ _ (codes "true") refl refl refl refl, (value_sound _ _ refl refl refl, (value_sound _ _ refl refl refl, (help_sound _ _ refl refl, tt)))))));
   numbers = λ rows name fit passed.
       let given = both_given (is_given (codes "FROM") rows) (is_given (codes "COUNT") rows)
-      (nothing_wanted false false _ passed) in (
-        number_reads (leaf cut).rules rows (codes "FROM") _ fit refl refl given.0,
-        number_reads (leaf cut).rules rows (codes "COUNT") _ fit refl refl given.1,
-      );
+      (nothing_wanted false false _ passed) in
+      let from = number_reads (leaf cut).rules rows (codes "FROM") _ 0 greatest fit refl refl given.0 in
+      let count = number_reads (leaf cut).rules rows (codes "COUNT") _ 0 greatest fit refl refl given.1 in
+      ((from.0, from.1), (count.0, count.1));
 }
 
 rewrite_known : IsKnown (leaf rewrite)
 rewrite_known = record {
-  sound = (
-    flag_sound _ _ (codes "true") refl refl refl refl,
-    (
-      flag_sound _ _ (codes "true") refl refl refl refl,
-      (
-        flag_sound _ _ (codes "true") refl refl refl refl,
-        (
-          value_sound _ _ refl refl refl,
-          (
-            value_sound _ _ refl refl refl,
-            (
-              values_sound _ _ refl refl refl,
-              (
-                values_sound _ _ refl refl refl,
-                (
-                  flag_sound _ _ (codes "true") refl refl refl refl,
-                  (value_sound _ _ refl refl refl, (help_sound _ _ refl refl, tt)),
-                ),
-              ),
-            ),
-          ),
-        ),
-      ),
-    ),
-  );
+  sound = (flag_sound _ _ (codes "true") refl refl refl refl, (flag_sound _ _ (codes "true") refl refl refl refl, (flag_sound _ _ (codes "true") refl refl refl refl, (flag_sound _ _ (codes "true") refl refl refl refl, (value_sound _ _ refl refl refl, (value_sound _ _ refl refl refl, (values_sound _ _ refl refl refl, (values_sound _ _ refl refl refl, (flag_sound _ _ (codes "true") refl refl refl refl, (value_sound _ _ refl refl refl, (value_sound _ _ refl refl refl, (flag_sound _ _ (codes "true") refl refl refl refl, (flag_sound _ _ (codes "true") refl refl refl refl, (value_sound _ _ refl refl refl, (help_sound _ _ refl refl, tt)))))))))))))));
   numbers = λ rows name fit passed. other_name (codes "rewrite") refl name;
+}
+
+to_pcm_known : IsKnown (leaf to_pcm)
+to_pcm_known = record {
+  sound = (flag_sound _ _ (codes "true") refl refl refl refl, (flag_sound _ _ (codes "true") refl refl refl refl, (flag_sound _ _ (codes "true") refl refl refl refl, (flag_sound _ _ (codes "true") refl refl refl refl, (value_sound _ _ refl refl refl, (help_sound _ _ refl refl, tt))))));
+  numbers = λ rows name fit passed. other_name (codes "to-pcm") refl name;
+}
+
+to_bits_known : IsKnown (leaf to_bits)
+to_bits_known = record {
+  sound = (flag_sound _ _ (codes "true") refl refl refl refl, (flag_sound _ _ (codes "true") refl refl refl refl, (flag_sound _ _ (codes "true") refl refl refl refl, (value_sound _ _ refl refl refl, (value_sound _ _ refl refl refl, (value_sound _ _ refl refl refl, (help_sound _ _ refl refl, tt)))))));
+  numbers = λ rows name fit passed. other_name (codes "to-bits") refl name;
 }
 
 from_pcm_known : IsKnown (leaf from_pcm)
 from_pcm_known = record {
-  sound = (
-    value_sound _ _ refl refl refl,
-    (
-      value_sound _ _ refl refl refl,
-      (
-        values_sound _ _ refl refl refl,
-        (
-          values_sound _ _ refl refl refl,
-          (
-            flag_sound _ _ (codes "true") refl refl refl refl,
-            (
-              flag_sound _ _ (codes "true") refl refl refl refl,
-              (value_sound _ _ refl refl refl, (help_sound _ _ refl refl, tt)),
-            ),
-          ),
-        ),
-      ),
-    ),
-  );
+  sound = (value_sound _ _ refl refl refl, (value_sound _ _ refl refl refl, (values_sound _ _ refl refl refl, (values_sound _ _ refl refl refl, (flag_sound _ _ (codes "true") refl refl refl refl, (flag_sound _ _ (codes "true") refl refl refl refl, (value_sound _ _ refl refl refl, (help_sound _ _ refl refl, tt))))))));
   numbers = λ rows name fit passed. other_name (codes "from-pcm") refl name;
 }
 
-all_known : EachShape IsKnown (built command_line).subs
-all_known = (
-  encode_known,
-  (
-    reader_known (codes "decode") refl,
-    (
-      normal_known,
-      (
-        check_known,
-        (
-          watch_known,
-          (
-            show_known,
-            (
-              reader_known (codes "scan") refl,
-              (cut_known, (rewrite_known, (reader_known (codes "to-pcm") refl, (from_pcm_known, tt)))),
-            ),
-          ),
-        ),
-      ),
-    ),
-  ),
-)
+pub all_known : EachShape IsKnown (built command_line).subs
+all_known = (encode_known, (reader_known (codes "decode") refl, (normal_known, (check_known, (watch_known, (show_known, (reader_known (codes "scan") refl, (cut_known, (rewrite_known, (to_pcm_known, (from_pcm_known, (to_bits_known, tt))))))))))))
 
 -- ---- the command that stands in the words
 
@@ -371,7 +265,7 @@ pub record Entered (a : App) (name : Text) (options : Options) : Type 0 where
   pub rows : rows_after found.rules [] words ≡ options
   pub faultless : level_fault found [] nothing_held words false [] ≡ []
 
-entered_command : (a : App) (words : List Text) (name : Text) (options : Options) → fault_of a words ≡ []
+pub entered_command : (a : App) (words : List Text) (name : Text) (options : Options) → fault_of a words ≡ []
     → subcommand_of a words ≡ Some (name, options) → Entered a name options
 entered_command a words name options none stands =
     go (stop_after (built a).top.rules (names_of (built a)) (argument_words a words)) stands
@@ -405,64 +299,6 @@ command_entered words name options stands =
     let e = entered_command command_line words name options stands.0 stands.1 in
     let known = found_shape IsKnown (built command_line).subs e.by e.found all_known e.is_found in
     (e, subst (FitAll e.found.rules) e.rows (level_fits e.found [] e.words false [] known.sound e.faultless))
-
--- a name that is a flag where a command takes it
-abbrev HasFlag : Text → Shape → Type 0
-HasFlag id s = FlagOrNone (arg_by_id s.rules id)
-
-flag_stands : (words : List Text) (name : Text) (options : Options) (id : Text)
-    → EachShape (HasFlag id) (built command_line).subs → StandsIn words name options → MayBeFlag options id
-flag_stands words name options id flags stands =
-    let e = entered_command command_line words name options stands.0 stands.1 in
-    let known = found_shape IsKnown (built command_line).subs e.by e.found all_known e.is_found in
-    let fit = subst (FitAll e.found.rules) e.rows (level_fits e.found [] e.words false [] known.sound e.faultless) in
-    flag_reads e.found.rules options id _ fit refl
-    (found_shape (HasFlag id) (built command_line).subs e.by e.found flags e.is_found)
-
--- each flag, of the commands in their order: `refl` where it is one of the command's, `tt` where it is none
-packed_in_flags : EachShape (HasFlag (codes "packed-in")) (built command_line).subs
-packed_in_flags = (tt, (refl, (refl, (refl, (refl, (refl, (refl, (refl, (refl, (refl, (tt, tt)))))))))))
-
-raw_in_flags : EachShape (HasFlag (codes "raw-in")) (built command_line).subs
-raw_in_flags = (tt, (refl, (refl, (refl, (refl, (refl, (refl, (refl, (refl, (refl, (tt, tt)))))))))))
-
-packed_out_flags : EachShape (HasFlag (codes "packed-out")) (built command_line).subs
-packed_out_flags = (refl, (tt, (refl, (tt, (tt, (tt, (tt, (refl, (refl, (tt, (tt, tt)))))))))))
-
-mend_check_flags : EachShape (HasFlag (codes "mend-check")) (built command_line).subs
-mend_check_flags = (tt, (tt, (tt, (tt, (tt, (tt, (tt, (tt, (refl, (tt, (refl, tt)))))))))))
-
-faults_flags : EachShape (HasFlag (codes "faults")) (built command_line).subs
-faults_flags = (tt, (tt, (tt, (refl, (tt, (tt, (tt, (tt, (tt, (tt, (tt, tt)))))))))))
-
-gaps_flags : EachShape (HasFlag (codes "gaps")) (built command_line).subs
-gaps_flags = (tt, (tt, (tt, (refl, (tt, (tt, (tt, (tt, (tt, (tt, (tt, tt)))))))))))
-
-changes_flags : EachShape (HasFlag (codes "changes")) (built command_line).subs
-changes_flags = (tt, (tt, (tt, (tt, (tt, (refl, (tt, (tt, (tt, (tt, (tt, tt)))))))))))
-
-exact_flags : EachShape (HasFlag (codes "exact")) (built command_line).subs
-exact_flags = (tt, (tt, (tt, (tt, (tt, (tt, (tt, (tt, (tt, (tt, (refl, tt)))))))))))
-
--- the flags read as flags
-pub flags_stand : (words : List Text) (name : Text) (options : Options) → StandsIn words name options
-    → MayBeFlag options (codes "packed-in") × MayBeFlag options (codes "packed-out")
-    × MayBeFlag options (codes "mend-check")
-    × MayBeFlag options (codes "faults") × MayBeFlag options (codes "gaps")
-    × MayBeFlag options (codes "changes") × MayBeFlag options (codes "exact")
-flags_stand words name options stands = (
-  flag_stands words name options (codes "packed-in") packed_in_flags stands,
-  flag_stands words name options (codes "packed-out") packed_out_flags stands,
-  flag_stands words name options (codes "mend-check") mend_check_flags stands,
-  flag_stands words name options (codes "faults") faults_flags stands,
-  flag_stands words name options (codes "gaps") gaps_flags stands,
-  flag_stands words name options (codes "changes") changes_flags stands,
-  flag_stands words name options (codes "exact") exact_flags stands,
-)
-
-pub raw_in_stands : (words : List Text) (name : Text) (options : Options) → StandsIn words name options
-    → MayBeFlag options (codes "raw-in")
-raw_in_stands words name options stands = flag_stands words name options (codes "raw-in") raw_in_flags stands
 
 -- `cut` has its numbers
 pub numbers_stand : (words : List Text) (name : Text) (options : Options) → StandsIn words name options

@@ -1,7 +1,7 @@
 -- What a command line asks for, by what `clap` makes of its words.
 use Rattle.std.specs.Prelude.{ℕ, Bool, List, [], ◌∷◌, ◌++◌, ◌≡◌, ◌≢◌, ◌⊎◌, Option, Some, None, codes, get_or, true}
 use Rattle.std.specs.Prelude.{false}
-use Rattle.std.specs.Prelude.{if◌then◌else◌, option_and_then, is_some, ◌&&◌}
+use Rattle.std.specs.Prelude.{if◌then◌else◌, option_and_then, option_map, is_some, not, ◌&&◌, ◌*◌, ◌==◌}
 use Rattle.std.specs.Option.{option_map_or}
 use Rattle.std.specs.Str.{bytes_eq}
 use Rattle.std.specs.Str.Parse.{digits_value, without_leading_plus}
@@ -17,23 +17,32 @@ use Rattle.clap.specs.declared.error.kind.ErrorKind.TheVariants.{DisplayHelp, Di
 use Rattle.aes3_cell.specs.declared.form.Form.{Form}
 use Rattle.aes3_cell.specs.declared.form.Form.TheVariants as form
 use Rattle.aes3_cell.specs.declared.refusal.RunError.TheVariants.{BadStatusText, Memory}
+use Rattle.aes3_frame.specs.declared.status.Channel.{Channel}
+use Rattle.aes3_frame.specs.declared.status.Channel.TheVariants.{First, Second}
+use Rattle.aes3_status.specs.declared.carried.CarriedBits.{CarriedBits}
+use Rattle.aes3_status.specs.declared.carried.CarriedBits.TheVariants.{Validity, User, Status}
 use Rattle.aes3_status.specs.declared.change.Change.{Change}
 use Rattle.aes3_status.specs.declared.setting.Setting.{Setting}
 use Rattle.aes3_lines.specs.Choices.{choices}
 use Rattle.aes3_lines.specs.Settings.{AreSettingsOf, IsSettingsFault}
 use Rattle.aes3_lines.specs.declared.listed.SettingsFault.{SettingsFault}
 use Rattle.aes3_lines.specs.declared.listed.SettingsFault.TheVariants.{Unknown, TooMany}
+use Rattle.aes3_lines.specs.declared.detail.Detail.{Detail}
+use Rattle.aes3_lines.specs.declared.detail.Detail.TheVariants.{Plain, Place, Carried}
 use Rattle.aes3_lines.specs.declared.lines.Lines.{Lines}
 use Rattle.aes3_lines.specs.declared.lines.Lines.TheVariants as lines
 use Rattle.aes3_lines.specs.declared.event.Notation.{Notation}
 use Rattle.aes3_lines.specs.declared.event.Notation.TheVariants.{Words, Json}
 use Rattle.aes3_lines.specs.declared.event.Style.{Style}
-use Rattle.aes3_commands.specs.CommandLine.{command_line, most_frames}
+use Rattle.aes3_commands.specs.CommandLine.{command_line, most_cells, most_frames, most_seconds}
 use Rattle.aes3_arguments.specs.Explained.{AsksToExplain, IsExplanation}
 use Rattle.aes3_arguments.specs.StatusTexts.{status_in}
 use Rattle.aes3_job.specs.declared.job.Job.{Job}
 use Rattle.aes3_job.specs.declared.job.Job.TheVariants as job
 use Rattle.aes3_arguments.specs.declared.layout.Octets.{Octets}
+use Rattle.aes3_arguments.specs.declared.misuse.Misuse.{Misuse}
+use Rattle.aes3_arguments.specs.declared.misuse.Misuse.TheVariants.{TwoForms, NoCellsPacked, TwoPeriods, NoRate}
+use Rattle.aes3_arguments.specs.declared.misuse.Misuse.TheVariants.{UnknownBits}
 use Rattle.aes3_arguments.specs.declared.job.LineFault.{LineFault}
 use Rattle.aes3_arguments.specs.declared.job.LineFault.TheVariants as fault
 
@@ -79,6 +88,11 @@ form_by options name = if is_set options name then form.Packed else form.Text
 abbrev pub input_by : Options → Form
 input_by options = if is_set options (codes "raw-in") then form.Packed else form_by options (codes "packed-in")
 
+-- what stands behind a line of channel status: `--more` tells the place too
+abbrev pub detail_by : Options → Detail
+detail_by options = if is_set options (codes "more") then Carried
+    else if is_set options (codes "at") then Place else Plain
+
 -- which reports get a line
 abbrev pub lines_by : Options → Lines
 lines_by options = if is_set options (codes "faults") then lines.Faults else lines.All
@@ -92,10 +106,22 @@ number_in text = if is_unsigned_in 0 18446744073709551615 text
 abbrev pub IsNumber : Options → Text → ℕ → Type 0
 IsNumber options name n = option_and_then number_in (one_of name options) ≡ Some n
 
--- the option is a number of frames a second that was given, or none
+-- the option is a number within these bounds that was given, or none
+abbrev pub MayBeWithin : ℕ → ℕ → Options → Text → Type 0
+MayBeWithin least most options name = (one_of name options ≡ None)
+    ⊎ ((text : Text) × (one_of name options ≡ Some text) × (is_unsigned_in least most text ≡ true))
+
+-- and so of a number of frames a second
 abbrev pub MayBeRate : Options → Text → Type 0
-MayBeRate options name = (one_of name options ≡ None)
-    ⊎ ((text : Text) × (one_of name options ≡ Some text) × (is_unsigned_in 1 most_frames text ≡ true))
+MayBeRate = MayBeWithin 1 most_frames
+
+-- the number that the option gives, where it is given
+abbrev pub number_by : Options → Text → Option ℕ
+number_by options name = option_and_then number_in (one_of name options)
+
+-- the bit that it gives
+abbrev pub bit_by : Options → Text → Option Bool
+bit_by options name = option_map (λ n. n == 1) (number_by options name)
 
 -- how the lines of events are written: as words or JSON objects, with times where the number of frames a second is
 -- given
@@ -103,10 +129,40 @@ abbrev pub notation_by : Options → Notation
 notation_by options = if is_set options (codes "json") then Json else Words
 
 abbrev pub rate_by : Options → Option ℕ
-rate_by options = option_and_then number_in (one_of (codes "rate") options)
+rate_by options = number_by options (codes "rate")
 
 abbrev pub style_by : Options → Style
 style_by options = record { notation = notation_by options; rate = rate_by options }
+
+-- how many cells a frame has
+abbrev pub frame_cells : ℕ
+frame_cells = 128
+
+-- after how many cells sums are told: so many, or so many seconds of so many frames
+abbrev pub period_in : Option ℕ → Option ℕ → Option ℕ → Option ℕ
+period_in (Some cells) seconds rate = Some cells
+period_in None (Some seconds) (Some rate) = Some (seconds * rate * frame_cells)
+period_in None (Some seconds) None = None
+period_in None None rate = None
+
+abbrev pub every_by : Options → Option ℕ
+every_by options =
+    period_in (number_by options (codes "every")) (number_by options (codes "every-seconds")) (rate_by options)
+
+-- the bits of this name that subframes carry behind their audio
+abbrev pub bits_in : Text → Option CarriedBits
+bits_in text = if bytes_eq text (codes "user") then Some User
+    else if bytes_eq text (codes "validity") then Some Validity
+    else if bytes_eq text (codes "status") then Some Status
+    else None
+
+abbrev pub bits_by : Options → Option CarriedBits
+bits_by options = option_and_then bits_in (first_of (codes "BITS") options)
+
+-- the number of a channel
+abbrev pub number_of : Channel → ℕ
+number_of First = 1
+number_of Second = 2
 
 -- the status bytes that an option's text has; none where the option is left out
 abbrev pub HasStatus : Option Text → Option (List ℕ) → Type 0
@@ -130,7 +186,34 @@ IsChange options change = IsStatus options (codes "status1") change.status1
     × IsStatus options (codes "status2") change.status2
     × AreSettings options (codes "set1") change.settings1
     × AreSettings options (codes "set2") change.settings2
+    × (change.validity1 ≡ bit_by options (codes "valid1"))
+    × (change.validity2 ≡ bit_by options (codes "valid2"))
+    × (change.clear_user1 ≡ is_set options (codes "clear-user1"))
+    × (change.clear_user2 ≡ is_set options (codes "clear-user2"))
     × (change.mend ≡ is_set options (codes "mend-check"))
+
+-- flags are flags among the options of a command, and numbers within their bounds
+pub record AreTaken (options : Options) : Type 0 where
+  pub packed_in : MayBeFlag options (codes "packed-in")
+  pub raw_in : MayBeFlag options (codes "raw-in")
+  pub packed_out : MayBeFlag options (codes "packed-out")
+  pub lsb_first : MayBeFlag options (codes "lsb-first")
+  pub faults : MayBeFlag options (codes "faults")
+  pub gaps : MayBeFlag options (codes "gaps")
+  pub json : MayBeFlag options (codes "json")
+  pub rate : MayBeRate options (codes "rate")
+  pub every : MayBeWithin 1 most_cells options (codes "every")
+  pub every_seconds : MayBeWithin 1 most_seconds options (codes "every-seconds")
+  pub changes : MayBeFlag options (codes "changes")
+  pub at : MayBeFlag options (codes "at")
+  pub more : MayBeFlag options (codes "more")
+  pub valid : MayBeFlag options (codes "valid")
+  pub exact : MayBeFlag options (codes "exact")
+  pub mend_check : MayBeFlag options (codes "mend-check")
+  pub valid1 : MayBeWithin 0 1 options (codes "valid1")
+  pub valid2 : MayBeWithin 0 1 options (codes "valid2")
+  pub clear_user1 : MayBeFlag options (codes "clear-user1")
+  pub clear_user2 : MayBeFlag options (codes "clear-user2")
 
 -- ---- jobs
 
@@ -150,12 +233,15 @@ AsksFor name options (job.Account input told) =
     (name ≡ codes "check") × (input ≡ input_by options)
     × (told ≡ lines_by options) × (is_set options (codes "gaps") ≡ true)
 AsksFor name options (job.Watch input style) =
+    (name ≡ codes "watch") × (input ≡ input_by options) × (style ≡ style_by options) × (every_by options ≡ None)
+AsksFor name options (job.WatchSums input style every) =
     (name ≡ codes "watch") × (input ≡ input_by options) × (style ≡ style_by options)
-AsksFor name options (job.Show input) =
-    (name ≡ codes "show") × (input ≡ input_by options)
+    × (every_by options ≡ Some every)
+AsksFor name options (job.Show input detail) =
+    (name ≡ codes "show") × (input ≡ input_by options) × (detail ≡ detail_by options)
     × (is_set options (codes "changes") ≡ false)
-AsksFor name options (job.ShowChanges input) =
-    (name ≡ codes "show") × (input ≡ input_by options)
+AsksFor name options (job.ShowChanges input detail) =
+    (name ≡ codes "show") × (input ≡ input_by options) × (detail ≡ detail_by options)
     × (is_set options (codes "changes") ≡ true)
 AsksFor name options (job.Scan input) =
     (name ≡ codes "scan") × (input ≡ input_by options)
@@ -166,10 +252,13 @@ AsksFor name options (job.Cut input output first count) =
 AsksFor name options (job.Rewrite input output change) =
     (name ≡ codes "rewrite") × (input ≡ input_by options)
     × (output ≡ form_by options (codes "packed-out")) × IsChange options change
-AsksFor name options (job.ToPcm input) =
-    (name ≡ codes "to-pcm") × (input ≡ input_by options)
+AsksFor name options (job.ToPcm input valid) =
+    (name ≡ codes "to-pcm") × (input ≡ input_by options) × (valid ≡ is_set options (codes "valid"))
 AsksFor name options (job.FromPcm exact change) =
     (name ≡ codes "from-pcm") × (exact ≡ is_set options (codes "exact")) × IsChange options change
+AsksFor name options (job.ToBits input bits channel) =
+    (name ≡ codes "to-bits") × (input ≡ input_by options)
+    × (bits_by options ≡ Some bits) × IsNumber options (codes "CHANNEL") (number_of channel)
 
 -- the definitions take the words, and the command that stands in them asks for the job
 abbrev pub IsLineOf : List Text → Job → Type 0
@@ -183,15 +272,47 @@ AskNothing words = (texts : List Text) → ¬ AsksToExplain words texts
 abbrev pub IsJobOf : List Text → Job → Type 0
 IsJobOf words job = AskNothing words × IsLineOf words job
 
+-- ---- options that are misused
+
+-- the cells that are read have two forms
+abbrev pub has_two_forms : Options → Bool
+has_two_forms options = is_set options (codes "raw-in") && is_set options (codes "packed-in")
+
+-- the first of eight packed cells has a place, and no cells are packed
+abbrev pub has_no_cells_packed : Options → Bool
+has_no_cells_packed options = is_set options (codes "lsb-first") && (not (is_set options (codes "raw-in"))
+    && (not (is_set options (codes "packed-in")) && not (is_set options (codes "packed-out"))))
+
+-- sums are told after cells and after seconds
+abbrev pub has_two_periods : Options → Bool
+has_two_periods options =
+    is_some (number_by options (codes "every")) && is_some (number_by options (codes "every-seconds"))
+
+-- they are told after seconds of which nothing says how many cells one has
+abbrev pub has_no_rate : Options → Bool
+has_no_rate options = is_some (number_by options (codes "every-seconds")) && not (is_some (rate_by options))
+
+-- bits are named that there are none of
+abbrev pub has_unknown_bits : Options → Bool
+has_unknown_bits options =
+    option_map_or (λ text. not (is_some (bits_in text))) (first_of (codes "BITS") options) false
+
+-- what is wrong with options, of more the first
+abbrev pub misuse_by : Options → Option Misuse
+misuse_by options =
+    if has_two_forms options then Some TwoForms
+    else if has_no_cells_packed options then Some NoCellsPacked
+    else if has_two_periods options then Some TwoPeriods
+    else if has_no_rate options then Some NoRate
+    else if has_unknown_bits options then Some UnknownBits
+    else None
+
 -- ---- the octets of packed cells
 
--- two options that say otherwise of the octets that are read
-abbrev pub clash : Options → Bool
-clash options = is_set options (codes "raw-in") && is_set options (codes "packed-in")
-
--- how the options lay out the octets; none of them clash
+-- how the options lay out the octets; none of them are misused
 abbrev pub AreOctets : Options → Octets → Type 0
-AreOctets options octets = (octets.raw_in ≡ is_set options (codes "raw-in")) × (clash options ≡ false)
+AreOctets options octets = (octets.raw_in ≡ is_set options (codes "raw-in"))
+    × (octets.lsb_first ≡ is_set options (codes "lsb-first")) × (misuse_by options ≡ None)
 
 -- the command that stands in the words has octets that are laid out so
 abbrev pub HaveOctets : List Text → Octets → Type 0
@@ -288,19 +409,31 @@ TellsABadOption name options text =
     ((name ≡ codes "rewrite") × TellsABadSetting options rewrite_usage text)
     ⊎ ((name ≡ codes "from-pcm") × TellsABadSetting options from_pcm_usage text)
 
--- what is told of options that clash
-abbrev pub clash_text : Text
-clash_text = codes "error: the argument '--raw-in' cannot be used with '--packed-in'"
-    ++ (10 ∷ 10 ∷ codes "Usage: aes3 COMMAND [OPTIONS] < INPUT > OUTPUT")
+-- the line that says what is wrong with options, and what stands behind it
+abbrev pub misuse_line : Misuse → Text
+misuse_line TwoForms = codes "error: the argument '--raw-in' cannot be used with '--packed-in'"
+misuse_line NoCellsPacked =
+    codes "error: the argument '--lsb-first' needs '--packed-in', '--raw-in' or '--packed-out'"
+misuse_line TwoPeriods =
+    codes "error: the argument '--every <CELLS>' cannot be used with '--every-seconds <N>'"
+misuse_line NoRate = codes "error: the argument '--every-seconds <N>' needs '--rate <HZ>'"
+misuse_line UnknownBits = codes "error: invalid value for '<BITS>': it is 'user', 'validity' or 'status'"
+
+abbrev pub misuse_end : Text
+misuse_end = (10 ∷ 10 ∷ codes "Usage: aes3 COMMAND [OPTIONS] < INPUT > OUTPUT")
     ++ (10 ∷ 10 ∷ codes "For more information, try '--help'.") ++ 10 ∷ []
 
--- options clash, and this text tells it
-abbrev pub TellsAClash : Options → Text → Type 0
-TellsAClash options text = (clash options ≡ true) × (text ≡ clash_text)
+-- what is told of that
+abbrev pub misuse_text : Misuse → Text
+misuse_text misuse = misuse_line misuse ++ misuse_end
 
--- one of the options is a setting that is none, or two clash, and this text tells why
+-- the options are misused, and this text tells how
+abbrev pub TellsAMisuse : Options → Text → Type 0
+TellsAMisuse options text = (misuse : Misuse) × (misuse_by options ≡ Some misuse) × (text ≡ misuse_text misuse)
+
+-- one of the options is a setting that is none, or they are misused, and this text tells why
 abbrev pub TellsBadOptions : Text → Options → Text → Type 0
-TellsBadOptions name options text = TellsABadOption name options text ⊎ TellsAClash options text
+TellsBadOptions name options text = TellsABadOption name options text ⊎ TellsAMisuse options text
 
 -- the definitions do not take the words, and ask for no help and no version
 abbrev pub IsNotTaken : List Text → Type 0
@@ -356,16 +489,16 @@ IsBadOptionOf name options told =
     ((name ≡ codes "rewrite") × IsChangeFaultOf options rewrite_usage told)
     ⊎ ((name ≡ codes "from-pcm") × IsChangeFaultOf options from_pcm_usage told)
 
--- what is told of options that clash; or memory was refused
-abbrev pub TellsClash : LineFault → Type 0
-TellsClash (fault.Usage text) = text.bytes.items ≡ clash_text
-TellsClash (fault.Help text) = ⊥
-TellsClash (fault.Refused error) = error ≡ Memory
+-- what is told of options that are misused; or memory was refused
+abbrev pub TellsMisuse : Misuse → LineFault → Type 0
+TellsMisuse misuse (fault.Usage text) = text.bytes.items ≡ misuse_text misuse
+TellsMisuse misuse (fault.Help text) = ⊥
+TellsMisuse misuse (fault.Refused error) = error ≡ Memory
 
--- options clash, and that is told
-abbrev pub IsClashOf : Options → LineFault → Type 0
-IsClashOf options told = (clash options ≡ true) × TellsClash told
+-- the options are misused, and that is told
+abbrev pub IsMisuseOf : Options → LineFault → Type 0
+IsMisuseOf options told = (misuse : Misuse) × (misuse_by options ≡ Some misuse) × TellsMisuse misuse told
 
--- the words are taken, and an option is wrong or two clash
+-- the words are taken, and an option is wrong or they are misused
 abbrev pub AreBadOptionsOf : Text → Options → LineFault → Type 0
-AreBadOptionsOf name options told = IsBadOptionOf name options told ⊎ IsClashOf options told
+AreBadOptionsOf name options told = IsBadOptionOf name options told ⊎ IsMisuseOf options told

@@ -1,18 +1,21 @@
 //! The job that a command with its options asks for.
 
-ghost use Rattle.std.specs.Prelude.{◌≡◌, ◌≢◌, ℕ, List, codes, IfOk, IfErr, map};
+ghost use Rattle.std.specs.Prelude.{◌≡◌, ℕ, List, None, codes, IfOk, IfErr, map};
 ghost use Rattle.clap.specs.Walk.{first_of};
 ghost use Rattle.aes3_arguments.specs.Jobs.{AreSettings, AsksFor, HasStatus, IsBadOptionOf, IsBadStatus};
-ghost use Rattle.aes3_arguments.specs.Jobs.{IsChange, IsChangeFaultOf, IsNumber};
+ghost use Rattle.aes3_arguments.specs.Jobs.{AreTaken, IsChange, IsChangeFaultOf, misuse_by};
 ghost use Rattle.aes3_arguments.specs.Jobs.{IsSettingsFaultOf, IsStatus, MayBeFlag, StandsIn};
 ghost use Rattle.aes3_arguments.specs.Jobs.{TellsSettings, form_by, input_by, is_set, lines_by, options_of};
 ghost use Rattle.aes3_arguments.specs.Jobs.{refused_text};
 ghost use Rattle.aes3_arguments.specs.declared.job.LineFault.TheVariants.{Refused};
 ghost use Rattle.aes3_cell.specs.declared.refusal.RunError.TheVariants.{BadStatusText, Memory};
 
+use crate::carried::to_bits;
 use crate::refusals::settings_refused;
+use crate::show::show;
 use crate::status_text::status_of_text;
-use crate::style::style;
+use crate::value::{bit, flag, number};
+use crate::watch::watch;
 use aes3_cell::{Form, RunError};
 use aes3_commands::help;
 use aes3_job::Job;
@@ -46,7 +49,8 @@ pub(crate) fn job_of_command(
     name: &str,
     options: &ArgMatches<'_>,
 ) -> Result<Job, LineFault>
-    requires { (words : List (List ℕ)) × StandsIn words name.now (options_of options.now) }
+    requires stands { (words : List (List ℕ)) × StandsIn words name.now (options_of options.now) }
+    requires fit { misuse_by (options_of options.now) ≡ None }
     ensures job { IfOk result (AsksFor name.now (options_of options.now)) }
     ensures fault { IfErr result (IsBadOptionOf name.now (options_of options.now)) }
 {
@@ -57,15 +61,15 @@ pub(crate) fn job_of_command(
         "decode" => Ok(Job::Decode { input }),
         "normal" => Ok(Job::Normal { input, output }),
         "check" => Ok(check(options, input)),
-        "watch" => Ok(Job::Watch {
-            input,
-            style: style(options),
-        }),
+        "watch" => Ok(watch(options, input)),
         "show" => Ok(show(options, input)),
         "scan" => Ok(Job::Scan { input }),
-        "to-pcm" => Ok(Job::ToPcm { input }),
+        "to-pcm" => Ok(Job::ToPcm {
+            input,
+            valid: flag(options, "valid"),
+        }),
         "from-pcm" => Ok(Job::FromPcm {
-            exact: exact(options),
+            exact: flag(options, "exact"),
             change: change(alloc, options, help::FROM_PCM.usage)?,
         }),
         "cut" => Ok(Job::Cut {
@@ -79,6 +83,7 @@ pub(crate) fn job_of_command(
             output,
             change: change(alloc, options, help::REWRITE.usage)?,
         }),
+        "to-bits" => Ok(to_bits(options, input)),
         _ => unreachable!(),
     }
 }
@@ -134,39 +139,10 @@ fn check(options: &ArgMatches<'_>, input: Form) -> Job
     }
 }
 
-/// The job of `show` with its options.
-fn show(options: &ArgMatches<'_>, input: Form) -> Job
-    requires changes { MayBeFlag (options_of options.now) (codes "changes") }
-    requires form { input ≡ input_by (options_of options.now) }
-    ensures { AsksFor (codes "show") (options_of options.now) result }
-{
-    if options.get_flag("changes") {
-        Job::ShowChanges { input }
-    } else {
-        Job::Show { input }
-    }
-}
-
-/// Whether samples of more than 24 bits are refused.
-fn exact(options: &ArgMatches<'_>) -> bool
-    requires { MayBeFlag (options_of options.now) (codes "exact") }
-    ensures { result ≡ is_set (options_of options.now) (codes "exact") }
-{
-    options.get_flag("exact")
-}
-
-/// The number of this name.
-fn number(options: &ArgMatches<'_>, name: &str) -> u64
-    requires { (n : ℕ) × IsNumber (options_of options.now) name.now n }
-    ensures { IsNumber (options_of options.now) name.now result }
-{
-    options.get_one::<u64>(name).unwrap()
-}
-
 /// The change that the options of `rewrite` and `from-pcm` ask for; `usage` says how the command is
 /// called. A text that is no setting is told before a status that is none.
 fn change(alloc: Global, options: &ArgMatches<'_>, usage: &str) -> Result<Change, LineFault>
-    requires { MayBeFlag (options_of options.now) (codes "mend-check") }
+    requires { AreTaken (options_of options.now) }
     ensures change { IfOk result (IsChange (options_of options.now)) }
     ensures fault { IfErr result (IsChangeFaultOf (options_of options.now) usage.now) }
 {
@@ -177,7 +153,11 @@ fn change(alloc: Global, options: &ArgMatches<'_>, usage: &str) -> Result<Change
         status2: status(options, "status2")?,
         settings1,
         settings2,
-        mend: options.get_flag("mend-check"),
+        validity1: bit(options, "valid1"),
+        validity2: bit(options, "valid2"),
+        clear_user1: flag(options, "clear-user1"),
+        clear_user2: flag(options, "clear-user2"),
+        mend: flag(options, "mend-check"),
     })
 }
 

@@ -2,6 +2,8 @@
 //! none.
 #![tactic(auto)]
 
+/// The job of `to-bits`.
+mod carried;
 /// What refusals mean, the texts of `--explain`.
 mod explain;
 /// The file that a command's options name.
@@ -12,12 +14,20 @@ mod job;
 mod layout;
 /// What the words ask for.
 mod line;
+/// What is wrong with options that the command takes each by itself.
+mod misuse;
 /// What is told of settings that are none.
 mod refusals;
+/// The job of `show`.
+mod show;
 /// Channel status in hexadecimal.
 mod status_text;
 /// How lines of events are written.
 mod style;
+/// The values that the options of a command have.
+mod value;
+/// The job of `watch`.
+mod watch;
 
 pub use explain::{advice, asks_to_explain, explanation};
 pub use job::LineFault;

@@ -11,6 +11,7 @@ use crate::explain::{asks_to_explain, explained_number, explanation};
 use crate::file::file;
 use crate::job::{LineFault, job_of_command};
 use crate::layout::{Octets, octets_of_options};
+use crate::misuse::{misuse_fault, misuse_of_options};
 use aes3_cell::RunError;
 use aes3_commands::command_line;
 use aes3_job::Job;
@@ -23,7 +24,7 @@ use std::alloc::Global;
 pub struct CommandLine<'a> {
     /// What is to be done.
     pub job: Job,
-    /// How the octets are laid out that it reads.
+    /// How the octets are laid out that it reads and writes.
     pub octets: Octets,
     /// The name of the file that is read in place of standard input; none where the words name none,
     /// or name it `-`.
@@ -34,7 +35,7 @@ pub struct CommandLine<'a> {
 ///
 /// # Errors
 /// `Usage` where the definitions of the command line don't take the words, no command stands in
-/// them, two options clash, or a text of `--set1` or `--set2` is no setting; `Help` where `--help` or `--version`
+/// them, options are misused, or a text of `--set1` or `--set2` is no setting; `Help` where `--help` or `--version`
 /// stands in them; either where `--explain` is the first of them; `BadStatusText` where they are
 /// taken, but a status text isn't 48 hexadecimal digits; `Memory` where memory was refused.
 pub fn line_of_words<'a>(alloc: Global, words: &'a [&'a str]) -> Result<CommandLine<'a>, LineFault>
@@ -127,11 +128,13 @@ fn line_of_command<'a>(
         ≡ file_by (options_of options.now)) }
     ensures fault { IfErr result (AreBadOptionsOf name.now (options_of options.now)) }
 {
-    let octets = octets_of_options(alloc, options)?;
+    if let Some(misuse) = misuse_of_options(options) {
+        return Err(misuse_fault(alloc, misuse));
+    }
     let job = job_of_command(alloc, name, options)?;
     Ok(CommandLine {
         job,
-        octets,
+        octets: octets_of_options(options),
         file: file(options),
     })
 }

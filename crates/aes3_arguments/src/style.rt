@@ -19,7 +19,7 @@ fn notation(options: &ArgMatches<'_>) -> Notation
 }
 
 /// How many frames a second has, where the options tell it.
-fn rate(options: &ArgMatches<'_>) -> Option<u32>
+pub(crate) fn rate(options: &ArgMatches<'_>) -> Option<u32>
     requires { MayBeRate (options_of options.now) (codes "rate") }
     ensures { result ≡ rate_by (options_of options.now) }
 {

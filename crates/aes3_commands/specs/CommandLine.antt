@@ -1,5 +1,5 @@
 -- The command line, as definitions of `clap`: the commands, and the options and values of each.
-use Rattle.std.specs.Prelude.{ℕ, List, [], ◌∷◌, ◌≡◌, Some, true, false, codes, map}
+use Rattle.std.specs.Prelude.{ℕ, List, [], ◌∷◌, ◌≡◌, Some, true, false, codes}
 use Rattle.clap.specs.Walk.{Rule, Text, rule_of}
 use Rattle.clap.specs.Simple.{App, Shape, app_of, new_rule, new_shape}
 use Rattle.clap.specs.declared.builder.arg.Arg.{Arg}
@@ -9,13 +9,14 @@ use Rattle.clap.specs.declared.builder.command.Command.TheViews.{out-Command as 
 use Rattle.clap.specs.declared.builder.value_parser.ValueParser.TheVariants as vp
 use Rattle.aes3_commands.specs.declared.argument.Argument.{Argument}
 use Rattle.aes3_commands.specs.declared.argument.Argument.TheVariants.{PackedIn, RawIn, PackedOut, Faults, Gaps}
-use Rattle.aes3_commands.specs.declared.argument.Argument.TheVariants.{Changes, From, Count}
-use Rattle.aes3_commands.specs.declared.argument.Argument.TheVariants.{Json, Rate}
+use Rattle.aes3_commands.specs.declared.argument.Argument.TheVariants.{LsbFirst, Changes, At, More, From, Count}
+use Rattle.aes3_commands.specs.declared.argument.Argument.TheVariants.{Json, Rate, Every, EverySeconds}
 use Rattle.aes3_commands.specs.declared.argument.Argument.TheVariants.{Status1, Status2, Set1, Set2, MendCheck, Exact}
-use Rattle.aes3_commands.specs.declared.argument.Argument.TheVariants.{File}
+use Rattle.aes3_commands.specs.declared.argument.Argument.TheVariants.{Valid1, Valid2, ClearUser1, ClearUser2, Valid}
+use Rattle.aes3_commands.specs.declared.argument.Argument.TheVariants.{Bits, Channel, File}
 use Rattle.aes3_commands.specs.declared.definitions.Name.{Name}
 use Rattle.aes3_commands.specs.declared.definitions.Name.TheVariants.{Encode, Decode, Normal, Check, Watch, Show, Scan}
-use Rattle.aes3_commands.specs.declared.definitions.Name.TheVariants.{Cut, Rewrite, ToPcm, FromPcm}
+use Rattle.aes3_commands.specs.declared.definitions.Name.TheVariants.{Cut, Rewrite, ToPcm, FromPcm, ToBits}
 
 -- `--name`, which stands or does not
 abbrev pub flag : Text → Rule
@@ -29,19 +30,34 @@ text_option name = record (new_rule name) { long = Some name; value_names = 1 }
 abbrev pub settings_option : Text → Rule
 settings_option name = record (new_rule name) { long = Some name; action = Some Append; value_names = 1 }
 
--- a whole number from 0 to 2^64 - 1, at its place among the words
-abbrev pub number : Text → Rule
-number name =
-    record (new_rule name) { required = true; parser = Some (vp.Unsigned 0 18446744073709551615) }
+-- a whole number within these bounds, at its place among the words
+abbrev pub number : Text → ℕ → ℕ → Rule
+number name least most = record (new_rule name) { required = true; parser = Some (vp.Unsigned least most) }
+
+-- a word at its place among the words
+abbrev pub word : Text → Rule
+word name = record (new_rule name) { required = true }
+
+-- `--name N` with a whole number within these bounds, which may be left out
+abbrev pub number_option : Text → ℕ → ℕ → Rule
+number_option name least most =
+    record (new_rule name) { long = Some name; value_names = 1; parser = Some (vp.Unsigned least most) }
+
+-- the greatest number of 64 bits
+abbrev pub greatest : ℕ
+greatest = 18446744073709551615
 
 -- how many frames a second a line has at most
 abbrev pub most_frames : ℕ
 most_frames = 1000000
 
--- `--name HZ` with a whole number of frames a second, from 1 on, which may be left out
-abbrev pub rate_option : Text → Rule
-rate_option name =
-    record (new_rule name) { long = Some name; value_names = 1; parser = Some (vp.Unsigned 1 most_frames) }
+-- after how many cells sums are told at most: 2^40
+abbrev pub most_cells : ℕ
+most_cells = 1099511627776
+
+-- after how many seconds they are told at most
+abbrev pub most_seconds : ℕ
+most_seconds = 3600
 
 -- a file name at its place among the words, which may be left out
 abbrev pub file_name : Text → Rule
@@ -63,6 +79,10 @@ raw_in = flag (codes "raw-in")
 abbrev pub packed_out : Rule
 packed_out = flag (codes "packed-out")
 
+-- its packed cells have the first of eight in the lowest bit
+abbrev pub lsb_first : Rule
+lsb_first = flag (codes "lsb-first")
+
 -- the options and values by their names
 abbrev pub rule : Argument → Rule
 rule PackedIn = packed_in
@@ -70,57 +90,84 @@ rule RawIn = raw_in
 rule PackedOut = packed_out
 rule Faults = flag (codes "faults")
 rule Gaps = flag (codes "gaps")
+rule LsbFirst = lsb_first
 rule Changes = flag (codes "changes")
+rule At = flag (codes "at")
+rule More = flag (codes "more")
 rule Json = flag (codes "json")
-rule Rate = rate_option (codes "rate")
-rule From = number (codes "FROM")
-rule Count = number (codes "COUNT")
+rule Rate = number_option (codes "rate") 1 most_frames
+rule Every = number_option (codes "every") 1 most_cells
+rule EverySeconds = number_option (codes "every-seconds") 1 most_seconds
+rule From = number (codes "FROM") 0 greatest
+rule Count = number (codes "COUNT") 0 greatest
 rule Status1 = text_option (codes "status1")
 rule Status2 = text_option (codes "status2")
 rule Set1 = settings_option (codes "set1")
 rule Set2 = settings_option (codes "set2")
 rule MendCheck = flag (codes "mend-check")
+rule Valid1 = number_option (codes "valid1") 0 1
+rule Valid2 = number_option (codes "valid2") 0 1
+rule ClearUser1 = flag (codes "clear-user1")
+rule ClearUser2 = flag (codes "clear-user2")
+rule Valid = flag (codes "valid")
 rule Exact = flag (codes "exact")
+rule Bits = word (codes "BITS")
+rule Channel = number (codes "CHANNEL") 1 2
 rule File = file
 
 abbrev pub command : Text → List Rule → Shape
 command name options = record (new_shape name) { rules = options }
 
 abbrev pub encode : Shape
-encode = command (codes "encode") (packed_out ∷ [])
+encode = command (codes "encode") (packed_out ∷ lsb_first ∷ [])
 
--- a command that reads cells and writes none
+-- a command that reads cells and writes none, with more options
+abbrev pub reader_with : Text → List Rule → Shape
+reader_with name options = command name (packed_in ∷ raw_in ∷ lsb_first ∷ options)
+
+-- one without more options
 abbrev pub reader : Text → Shape
-reader name = command name (packed_in ∷ raw_in ∷ file ∷ [])
+reader name = reader_with name (file ∷ [])
 
 abbrev pub check : Shape
-check = command (codes "check") (packed_in ∷ raw_in ∷ flag (codes "faults") ∷ flag (codes "gaps") ∷ file ∷ [])
+check = reader_with (codes "check") (flag (codes "faults") ∷ flag (codes "gaps") ∷ file ∷ [])
 
 abbrev pub watch : Shape
-watch = command (codes "watch")
-    (packed_in ∷ raw_in ∷ flag (codes "json") ∷ rate_option (codes "rate") ∷ file ∷ [])
+watch = reader_with (codes "watch")
+    (flag (codes "json") ∷ number_option (codes "rate") 1 most_frames
+    ∷ number_option (codes "every") 1 most_cells ∷ number_option (codes "every-seconds") 1 most_seconds ∷ file ∷ [])
 
 abbrev pub show : Shape
-show = command (codes "show") (packed_in ∷ raw_in ∷ flag (codes "changes") ∷ file ∷ [])
+show = reader_with (codes "show")
+    (flag (codes "changes") ∷ flag (codes "at") ∷ flag (codes "more") ∷ file ∷ [])
 
 abbrev pub normal : Shape
-normal = command (codes "normal") (packed_in ∷ raw_in ∷ packed_out ∷ file ∷ [])
+normal = command (codes "normal") (packed_in ∷ raw_in ∷ packed_out ∷ lsb_first ∷ file ∷ [])
 
 abbrev pub cut : Shape
 cut = command (codes "cut")
-    (packed_in ∷ raw_in ∷ packed_out ∷ number (codes "FROM") ∷ number (codes "COUNT") ∷ [])
+    (packed_in ∷ raw_in ∷ packed_out ∷ lsb_first
+    ∷ number (codes "FROM") 0 greatest ∷ number (codes "COUNT") 0 greatest ∷ [])
 
 abbrev pub rewrite : Shape
 rewrite = command (codes "rewrite")
-    (packed_in ∷ raw_in ∷ packed_out ∷ text_option (codes "status1") ∷ text_option (codes "status2")
-    ∷ settings_option (codes "set1") ∷ settings_option (codes "set2")
-    ∷ flag (codes "mend-check") ∷ file ∷ [])
+    (packed_in ∷ raw_in ∷ packed_out ∷ lsb_first
+    ∷ text_option (codes "status1") ∷ text_option (codes "status2")
+    ∷ settings_option (codes "set1") ∷ settings_option (codes "set2") ∷ flag (codes "mend-check")
+    ∷ number_option (codes "valid1") 0 1 ∷ number_option (codes "valid2") 0 1
+    ∷ flag (codes "clear-user1") ∷ flag (codes "clear-user2") ∷ file ∷ [])
+
+abbrev pub to_pcm : Shape
+to_pcm = reader_with (codes "to-pcm") (flag (codes "valid") ∷ file ∷ [])
 
 abbrev pub from_pcm : Shape
 from_pcm = command (codes "from-pcm")
     (text_option (codes "status1") ∷ text_option (codes "status2")
     ∷ settings_option (codes "set1") ∷ settings_option (codes "set2")
     ∷ flag (codes "mend-check") ∷ flag (codes "exact") ∷ file ∷ [])
+
+abbrev pub to_bits : Shape
+to_bits = reader_with (codes "to-bits") (word (codes "BITS") ∷ number (codes "CHANNEL") 1 2 ∷ file ∷ [])
 
 -- the commands by their names
 abbrev pub shape : Name → Shape
@@ -133,8 +180,9 @@ shape Show = show
 shape Scan = reader (codes "scan")
 shape Cut = cut
 shape Rewrite = rewrite
-shape ToPcm = reader (codes "to-pcm")
+shape ToPcm = to_pcm
 shape FromPcm = from_pcm
+shape ToBits = to_bits
 
 -- the program with no command yet
 abbrev pub program : App
@@ -160,7 +208,7 @@ command_line = record {
   };
   subs = encode ∷ reader (codes "decode") ∷ normal ∷ check
       ∷ watch ∷ show ∷ reader (codes "scan") ∷ cut ∷ rewrite
-      ∷ reader (codes "to-pcm") ∷ from_pcm ∷ [];
+      ∷ to_pcm ∷ from_pcm ∷ to_bits ∷ [];
 }
 
 -- a command by itself

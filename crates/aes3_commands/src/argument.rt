@@ -1,14 +1,20 @@
 //! The options and values that commands take, each with the line that help tells of it.
 
 ghost use Rattle.aes3_commands.specs.CommandLine.{IsOption, flag, number, rule, settings_option};
-ghost use Rattle.aes3_commands.specs.CommandLine.{file_name, rate_option, text_option};
+ghost use Rattle.aes3_commands.specs.CommandLine.{file_name, number_option, text_option, word};
 
 use clap::builder::ValueParser;
-use clap::{Arg, ArgAction, value_parser};
+use clap::{Arg, ArgAction};
 use std::alloc::Global;
 
 /// How many frames a second a line has at most, by `--rate`.
 const MOST_FRAMES: u64 = 1_000_000;
+
+/// After how many cells sums are told at most, by `--every`: so many bytes an input has at most.
+const MOST_CELLS: u64 = 1 << 40;
+
+/// After how many seconds they are told at most, by `--every-seconds`: an hour.
+const MOST_SECONDS: u64 = 3_600;
 
 /// An option or a value that a command takes.
 #[derive(Clone, Copy)]
@@ -19,16 +25,26 @@ pub(crate) enum Argument {
     RawIn,
     /// `--packed-out`: the cells that are written are packed.
     PackedOut,
+    /// `--lsb-first`: the first of eight packed cells stands in the lowest bit.
+    LsbFirst,
     /// `--faults` of `check`.
     Faults,
     /// `--gaps` of `check`.
     Gaps,
     /// `--changes` of `show`.
     Changes,
+    /// `--at` of `show`.
+    At,
+    /// `--more` of `show`.
+    More,
     /// `--json` of `watch`.
     Json,
     /// `--rate HZ` of `watch`.
     Rate,
+    /// `--every CELLS` of `watch`.
+    Every,
+    /// `--every-seconds N` of `watch`.
+    EverySeconds,
     /// The number of the first block of `cut`.
     From,
     /// How many blocks `cut` takes.
@@ -43,8 +59,22 @@ pub(crate) enum Argument {
     Set2,
     /// `--mend-check`: check bytes are made anew.
     MendCheck,
+    /// `--valid1 0|1`: the validity bit of channel 1.
+    Valid1,
+    /// `--valid2 0|1`: the validity bit of channel 2.
+    Valid2,
+    /// `--clear-user1`: the user bits of channel 1 become 0.
+    ClearUser1,
+    /// `--clear-user2`: the user bits of channel 2 become 0.
+    ClearUser2,
+    /// `--valid` of `to-pcm`.
+    Valid,
     /// `--exact` of `from-pcm`.
     Exact,
+    /// Which bits `to-bits` writes.
+    Bits,
+    /// Of which channel it writes them.
+    Channel,
     /// The name of the file that is read in place of standard input.
     File,
 }
@@ -62,13 +92,50 @@ impl Argument {
                 "Read packed cells with no last octet that counts",
             ),
             Argument::PackedOut => flag(alloc, "packed-out", "Write packed cells, eight an octet"),
+            Argument::LsbFirst => flag(
+                alloc,
+                "lsb-first",
+                "Packed cells have the first of eight in the lowest bit",
+            ),
             Argument::Faults => flag(alloc, "faults", "Leave the whole blocks out"),
             Argument::Gaps => flag(alloc, "gaps", "Tell and count cells in no whole block"),
             Argument::Changes => flag(alloc, "changes", "Leave out what is as in the block before"),
+            Argument::At => flag(alloc, "at", "Tell the cell at which each block begins"),
+            Argument::More => flag(
+                alloc,
+                "more",
+                "Tell how many V and U bits are 1, and that cell",
+            ),
             Argument::Json => flag(alloc, "json", "Write JSON objects in place of words"),
-            Argument::Rate => rate(alloc, "rate", "Tell times, where a second has HZ frames"),
-            Argument::From => number(alloc, "FROM", "The number of the first block, from 0 on"),
-            Argument::Count => number(alloc, "COUNT", "How many blocks"),
+            Argument::Rate => number_option(
+                alloc,
+                "rate",
+                "HZ",
+                MOST_FRAMES,
+                "Tell times, where a second has HZ frames",
+            ),
+            Argument::Every => number_option(
+                alloc,
+                "every",
+                "CELLS",
+                MOST_CELLS,
+                "Tell sums after each CELLS cells",
+            ),
+            Argument::EverySeconds => number_option(
+                alloc,
+                "every-seconds",
+                "N",
+                MOST_SECONDS,
+                "Tell sums after each N seconds, by --rate",
+            ),
+            Argument::From => number(
+                alloc,
+                "FROM",
+                0,
+                u64::MAX,
+                "The number of the first block, from 0 on",
+            ),
+            Argument::Count => number(alloc, "COUNT", 0, u64::MAX, "How many blocks"),
             Argument::Status1 => status(
                 alloc,
                 "status1",
@@ -94,7 +161,26 @@ impl Argument {
                 "mend-check",
                 "Write the check byte that professional status asks for",
             ),
+            Argument::Valid1 => bit(
+                alloc,
+                "valid1",
+                "The validity bit of channel 1: 0 says that samples can be taken as they are",
+            ),
+            Argument::Valid2 => bit(
+                alloc,
+                "valid2",
+                "The validity bit of channel 2: 0 says that samples can be taken as they are",
+            ),
+            Argument::ClearUser1 => flag(alloc, "clear-user1", "Make the user bits of channel 1 0"),
+            Argument::ClearUser2 => flag(alloc, "clear-user2", "Make the user bits of channel 2 0"),
+            Argument::Valid => flag(
+                alloc,
+                "valid",
+                "Write zero for a sample whose validity bit is 1",
+            ),
             Argument::Exact => flag(alloc, "exact", "Refuse samples of more than 24 bits"),
+            Argument::Bits => word(alloc, "BITS", "Which bits: `user`, `validity` or `status`"),
+            Argument::Channel => number(alloc, "CHANNEL", 1, 2, "Of which channel: 1 or 2"),
             Argument::File => file_name(
                 alloc,
                 "FILE",
@@ -135,24 +221,48 @@ fn settings<'a>(alloc: Global, name: &'a str, help: &'a str) -> Arg<'a>
         .help(help)
 }
 
-/// A number that has to stand at its place among the words.
-fn number<'a>(alloc: Global, name: &'a str, help: &'a str) -> Arg<'a>
-    ensures { IsOption (number name.now) result }
+/// A number from `least` to `most` that has to stand at its place among the words.
+fn number<'a>(alloc: Global, name: &'a str, least: u64, most: u64, help: &'a str) -> Arg<'a>
+    ensures { IsOption (number name.now least most) result }
 {
     Arg::new(alloc, name)
         .required(true)
-        .value_parser(value_parser!(u64))
+        .value_parser(ValueParser::unsigned(least, most))
         .help(help)
 }
 
-/// The option `--name` with how many frames a second has.
-fn rate<'a>(alloc: Global, name: &'a str, help: &'a str) -> Arg<'a>
-    ensures { IsOption (rate_option name.now) result }
+/// A word that has to stand at its place among the words.
+fn word<'a>(alloc: Global, name: &'a str, help: &'a str) -> Arg<'a>
+    ensures { IsOption (word name.now) result }
+{
+    Arg::new(alloc, name).required(true).help(help)
+}
+
+/// The option `--name` with a number from 1 to `most`, which help calls `value`.
+fn number_option<'a>(
+    alloc: Global,
+    name: &'a str,
+    value: &'a str,
+    most: u64,
+    help: &'a str,
+) -> Arg<'a>
+    ensures { IsOption (number_option name.now 1 most) result }
 {
     Arg::new(alloc, name)
         .long(name)
-        .value_name("HZ")
-        .value_parser(ValueParser::unsigned(1, MOST_FRAMES))
+        .value_name(value)
+        .value_parser(ValueParser::unsigned(1, most))
+        .help(help)
+}
+
+/// The option `--name` with a bit.
+fn bit<'a>(alloc: Global, name: &'a str, help: &'a str) -> Arg<'a>
+    ensures { IsOption (number_option name.now 0 1) result }
+{
+    Arg::new(alloc, name)
+        .long(name)
+        .value_name("0|1")
+        .value_parser(ValueParser::unsigned(0, 1))
         .help(help)
 }
 

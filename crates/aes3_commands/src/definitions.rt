@@ -34,10 +34,12 @@ pub(crate) enum Name {
     ToPcm,
     /// `from-pcm`
     FromPcm,
+    /// `to-bits`
+    ToBits,
 }
 
 /// The commands, in the order in which help lists them.
-const NAMES: [Name; 11] = [
+const NAMES: [Name; 12] = [
     Name::Encode,
     Name::Decode,
     Name::Normal,
@@ -49,6 +51,7 @@ const NAMES: [Name; 11] = [
     Name::Rewrite,
     Name::ToPcm,
     Name::FromPcm,
+    Name::ToBits,
 ];
 
 /// The program's command line.
@@ -89,48 +92,84 @@ impl Name {
     {
         use Argument::*;
         match self {
-            Name::Encode => command(alloc, "encode", help::ENCODE, &[PackedOut]),
-            Name::Decode => command(alloc, "decode", help::DECODE, &[PackedIn, RawIn, File]),
+            Name::Encode => command(alloc, "encode", help::ENCODE, &[PackedOut, LsbFirst]),
+            Name::Decode => command(
+                alloc,
+                "decode",
+                help::DECODE,
+                &[PackedIn, RawIn, LsbFirst, File],
+            ),
             Name::Normal => command(
                 alloc,
                 "normal",
                 help::NORMAL,
-                &[PackedIn, RawIn, PackedOut, File],
+                &[PackedIn, RawIn, PackedOut, LsbFirst, File],
             ),
             Name::Check => command(
                 alloc,
                 "check",
                 help::CHECK,
-                &[PackedIn, RawIn, Faults, Gaps, File],
+                &[PackedIn, RawIn, LsbFirst, Faults, Gaps, File],
             ),
             Name::Watch => command(
                 alloc,
                 "watch",
                 help::WATCH,
-                &[PackedIn, RawIn, Json, Rate, File],
+                &[
+                    PackedIn,
+                    RawIn,
+                    LsbFirst,
+                    Json,
+                    Rate,
+                    Every,
+                    EverySeconds,
+                    File,
+                ],
             ),
-            Name::Show => command(alloc, "show", help::SHOW, &[PackedIn, RawIn, Changes, File]),
-            Name::Scan => command(alloc, "scan", help::SCAN, &[PackedIn, RawIn, File]),
+            Name::Show => command(
+                alloc,
+                "show",
+                help::SHOW,
+                &[PackedIn, RawIn, LsbFirst, Changes, At, More, File],
+            ),
+            Name::Scan => command(
+                alloc,
+                "scan",
+                help::SCAN,
+                &[PackedIn, RawIn, LsbFirst, File],
+            ),
             Name::Cut => command(
                 alloc,
                 "cut",
                 help::CUT,
-                &[PackedIn, RawIn, PackedOut, From, Count],
+                &[PackedIn, RawIn, PackedOut, LsbFirst, From, Count],
             ),
             Name::Rewrite => command(
                 alloc,
                 "rewrite",
                 help::REWRITE,
                 &[
-                    PackedIn, RawIn, PackedOut, Status1, Status2, Set1, Set2, MendCheck, File,
+                    PackedIn, RawIn, PackedOut, LsbFirst, Status1, Status2, Set1, Set2, MendCheck,
+                    Valid1, Valid2, ClearUser1, ClearUser2, File,
                 ],
             ),
-            Name::ToPcm => command(alloc, "to-pcm", help::TO_PCM, &[PackedIn, RawIn, File]),
+            Name::ToPcm => command(
+                alloc,
+                "to-pcm",
+                help::TO_PCM,
+                &[PackedIn, RawIn, LsbFirst, Valid, File],
+            ),
             Name::FromPcm => command(
                 alloc,
                 "from-pcm",
                 help::FROM_PCM,
                 &[Status1, Status2, Set1, Set2, MendCheck, Exact, File],
+            ),
+            Name::ToBits => command(
+                alloc,
+                "to-bits",
+                help::TO_BITS,
+                &[PackedIn, RawIn, LsbFirst, Bits, Channel, File],
             ),
         }
     }

@@ -28,8 +28,9 @@ Forms of input and output:
   cells         half time slots of the line, one level each. They may begin anywhere
                 and in either polarity. As text `0` and `1`, between which line feeds,
                 carriage returns and spaces are skipped; packed eight an octet, the
-                first in the highest bit, and then one octet with the number of unused
-                cells before it, which raw octets (--raw-in) lack
+                first in the highest bit, or with --lsb-first in the lowest, and then
+                one octet with the number of unused cells before it, which raw octets
+                (--raw-in) lack
   block         192 frames of two subframes, 24,576 cells. It is whole where all its
                 cells stand, with right parity, and the next cell, if there is one, ends
                 its last run
@@ -63,7 +64,7 @@ Examples, three tasks with examples/speech.block of the sources:
 
 pub const ENCODE: Texts<'static> = Texts {
     about: "Write the cells of a block file",
-    usage: "aes3 encode [--packed-out] < BLOCKFILE > CELLS",
+    usage: "aes3 encode [--packed-out [--lsb-first]] < BLOCKFILE > CELLS",
     more: "Reads a block file: 1,536 bytes a block, 384 words of 4 bytes, the lowest first.
 Writes the cells of its blocks as one line in the normal polarity, in which each
 preamble begins 111: as text 64 cells, a subframe, a line.
@@ -78,7 +79,7 @@ Examples:
 
 pub const DECODE: Texts<'static> = Texts {
     about: "Write the whole blocks as a block file",
-    usage: "aes3 decode [--packed-in|--raw-in] [FILE] > BLOCKFILE",
+    usage: "aes3 decode [--packed-in|--raw-in] [--lsb-first] [FILE] > BLOCKFILE",
     more: "Reads cells, begun anywhere and in either polarity.
 Writes the whole blocks that stand in them as a block file, 1,536 bytes each. What is
 cut or damaged is left out, and nothing is told of it: `aes3 check` tells it.
@@ -94,19 +95,21 @@ Examples:
 
 pub const TO_PCM: Texts<'static> = Texts {
     about: "Write the samples of the whole blocks",
-    usage: "aes3 to-pcm [--packed-in|--raw-in] [FILE] > PCM",
+    usage: "aes3 to-pcm [--packed-in|--raw-in] [--lsb-first] [--valid] [FILE] > PCM",
     more: "Reads cells, begun anywhere and in either polarity.
 Writes the samples of the whole blocks that stand in them: of each frame channel 1 and
 then channel 2, 4 bytes each, lowest first, the 24 bits of the sample in the highest
 ones (S32LE: `ffmpeg -f s32le`, `sox -t raw -e signed -b 32 -L`, ALSA's S32_LE). V, U
 and C are left out, as is what is cut or damaged, and nothing is told of it: `aes3
-check` tells it.
+check` tells it. With --valid a sample whose validity bit is 1, which says that it can't
+be taken as it is, is written as zero.
 
 Exit status: 0 done, also where no block was found; 3 refused: 1 a byte is no cell, 10
 packed cells end wrongly; or as for every command.
 
 Examples:
     aes3 to-pcm < line.txt > line.s32
+    aes3 to-pcm --valid < line.txt | cmp - line.s32
     aes3 to-pcm < line.txt | sox -t raw -r 48000 -e signed -b 32 -c 2 -L - -b 24 line.wav",
 };
 
@@ -136,7 +139,7 @@ Examples:
 
 pub const NORMAL: Texts<'static> = Texts {
     about: "Write the whole blocks again, in the normal polarity",
-    usage: "aes3 normal [--packed-in|--raw-in] [--packed-out] [FILE] > CELLS",
+    usage: "aes3 normal [--packed-in|--raw-in] [--packed-out] [--lsb-first] [FILE] > CELLS",
     more: "Reads cells, begun anywhere and in either polarity.
 Writes the cells of the whole blocks that stand in them, one behind the other, as one
 line in the normal polarity: as text 64 cells, a subframe, a line. What is cut or
@@ -147,12 +150,13 @@ packed cells end wrongly; or as for every command.
 
 Examples:
     tr 01 10 < line.txt | aes3 normal > same.txt
-    aes3 normal --packed-out < line.txt > line.packed",
+    aes3 normal --packed-out < line.txt > line.packed
+    aes3 normal --packed-out --lsb-first < line.txt | aes3 normal --packed-in --lsb-first > same.txt",
 };
 
 pub const CHECK: Texts<'static> = Texts {
     about: "Print each whole block and each fault",
-    usage: "aes3 check [--packed-in|--raw-in] [--faults] [--gaps] [FILE]",
+    usage: "aes3 check [--packed-in|--raw-in] [--lsb-first] [--faults] [--gaps] [FILE]",
     more: "Reads cells, begun anywhere and in either polarity.
 Writes a line for each place where a block's first preamble stands. P and C number the
 cells of the input from 0; L is the level before P, 0 or 1.
@@ -181,14 +185,16 @@ Examples:
 
 pub const SHOW: Texts<'static> = Texts {
     about: "Print the channel status of each whole block",
-    usage: "aes3 show [--packed-in|--raw-in] [--changes] [FILE]",
+    usage: "aes3 show [--packed-in|--raw-in] [--lsb-first] [--changes] [--at|--more] [FILE]",
     more: "Reads cells, begun anywhere and in either polarity.
 Writes two lines for each whole block, channel 1 and then channel 2: `block=N channel=C`,
 N from 0, then `consumer` or `professional`, then each field as `name=value`. A code that
 its table has no word for is printed as `code` and its number. `check` of professional
 use is `good`, `bad`, or `absent` where it does not hold and byte 23 is zero. With
 --changes both lines of the first block are written, and of each other a channel's line
-where its status is not that of the block before.
+where its status is not that of the block before. With --at ` at=P` stands behind each
+line: P is the cell at which the block begins, counted from 0. With --more ` v=N u=N at=P`
+does: how many of the channel's 192 validity bits are 1, and how many of its user bits.
 
 Exit status: 0 done, also where no block was found; 3 refused: 1 a byte is no cell, 10
 packed cells end wrongly; or as for every command.
@@ -196,12 +202,13 @@ packed cells end wrongly; or as for every command.
 Examples:
     aes3 cut 0 1 < line.txt | aes3 show
     aes3 show < line.txt | grep -c rate=48000
-    aes3 show --changes < line.txt",
+    aes3 show --changes --at < line.txt
+    aes3 show --more < line.txt | grep -c ' v=0 '",
 };
 
 pub const WATCH: Texts<'static> = Texts {
     about: "Print where a line locks, is lost, comes back, slips or changes",
-    usage: "aes3 watch [--packed-in|--raw-in] [--json] [--rate HZ] [FILE]",
+    usage: "aes3 watch [OPTIONS] [FILE]",
     more: "Reads cells, begun anywhere and in either polarity, as long as they come.
 Writes a line only where something changes. P numbers the cells from 0:
   locked at P before L   the first whole block begins at cell P; L is the level before it
@@ -219,7 +226,9 @@ Writes a line only where something changes. P numbers the cells from 0:
 have come from P on. `check --gaps` tells the same cells block by block. With --rate HZ
 ` time S` stands behind P: P as seconds with three places, 128 HZ cells a second. With
 --json each line is a JSON object: its first word is `event`, the one that stands alone at
-the end `status`, `validity` or `state`, and the others are named as above.
+the end `status`, `validity` or `state`, and the others are named as above. With --every
+CELLS sums are told after each so many cells, up to 2^40 of them; with --every-seconds N
+after each N seconds, up to 3,600 of them, by the HZ of --rate, which has to be there then.
 
 Exit status: 0 no fault; 1 `check` has `marked` or `fault` lines, or there is `lost` or
 `slipped`; 3 refused: 1 a byte is no cell, 10 packed cells end wrongly; or as for every
@@ -228,12 +237,13 @@ command.
 Examples:
     aes3 watch < line.txt
     aes3 encode < speech.block | sed '48200s/^1/0/' | aes3 watch | grep lost
-    aes3 watch --json --rate 48000 < line.txt",
+    aes3 watch --json --rate 48000 < line.txt
+    aes3 watch --rate 48000 --every-seconds 1 < line.txt",
 };
 
 pub const SCAN: Texts<'static> = Texts {
     about: "Print each preamble",
-    usage: "aes3 scan [--packed-in|--raw-in] [FILE]",
+    usage: "aes3 scan [--packed-in|--raw-in] [--lsb-first] [FILE]",
     more: "Reads cells, begun anywhere and in either polarity.
 Writes a line for each place where the eight cells of a preamble stand, in step with a
 block or not:
@@ -250,7 +260,7 @@ Examples:
 
 pub const CUT: Texts<'static> = Texts {
     about: "Write COUNT of the whole blocks, from number FROM on",
-    usage: "aes3 cut [--packed-in|--raw-in] [--packed-out] <FROM> <COUNT> < CELLS > CELLS",
+    usage: "aes3 cut [OPTIONS] <FROM> <COUNT> < CELLS > CELLS",
     more: "Reads cells as `aes3 normal` does, to their end.
 Writes the cells of COUNT of the whole blocks in them, or as many as there are, from
 number FROM on, counted from 0, as one line in the normal polarity. A block lasts 192
@@ -265,7 +275,7 @@ Examples:
 };
 
 pub const REWRITE: Texts<'static> = Texts {
-    about: "Write the whole blocks with new channel status",
+    about: "Write the whole blocks with new channel status, V or U",
     usage: "aes3 rewrite [OPTIONS] [FILE] > CELLS",
     more: "Reads cells as `aes3 normal` does.
 Writes what it would, with the channel status of each block set as the options ask.
@@ -273,8 +283,10 @@ HEX48 is the 24 bytes of a channel's status as 48 hexadecimal digits, byte 0 fir
 --set1 NAME=WORD and --set2 NAME=WORD set fields, by the names and words that `aes3 show`
 prints; each may stand 32 times, and they are set in that order. A status for the use
 that has no such field stays as it is. With --mend-check byte 23 of each channel whose
-status is professional then becomes its check byte. Without any option the blocks are as
-they were.
+status is professional then becomes its check byte. --valid1 0 and --valid2 0 make V of
+all subframes of a channel 0, which says that their samples can be taken as they are; with
+1 it says that they can't. --clear-user1 and --clear-user2 make U of all of them 0.
+Without any option the blocks are as they were.
 
 Exit status: 0 done, also where no block was found; 3 refused: 9 a status is not 48
 hexadecimal digits, and nothing is read, 1 a byte is no cell, 10 packed cells end
@@ -282,6 +294,24 @@ wrongly; or as for every command.
 
 Examples:
     aes3 rewrite --mend-check < line.txt > mended.txt
+    aes3 rewrite --valid1 0 --valid2 0 --clear-user1 --clear-user2 < line.txt > clear.txt
     aes3 rewrite --set1 rate=48000 --set1 emphasis=none --mend-check < line.txt > new.txt
     aes3 rewrite --status2 040000020b00000000000000000000000000000000000000 < line.txt > new.txt",
+};
+
+pub const TO_BITS: Texts<'static> = Texts {
+    about: "Write the user, validity or status bits of a channel",
+    usage: "aes3 to-bits [OPTIONS] <user|validity|status> <1|2> [FILE] > BITS",
+    more: "Reads cells, begun anywhere and in either polarity.
+Writes of each whole block that stands in them the 192 bits of one kind that the subframes of
+a channel carry behind their audio, as 24 bytes, the bit of frame 0 in the lowest bit of the
+first: U with `user`, V with `validity`, C, the channel status, with `status`. What is cut
+or damaged is left out, and nothing is told of it: `aes3 check` tells it.
+
+Exit status: 0 done, also where no block was found; 3 refused: 1 a byte is no cell, 10
+packed cells end wrongly; or as for every command.
+
+Examples:
+    aes3 to-bits user 1 < line.txt > user.bits
+    aes3 to-bits status 2 < line.txt | wc -c",
 };

@@ -1,8 +1,9 @@
 //! What the program is asked to do.
 
 use aes3_cell::Form;
-use aes3_lines::{Lines, Style};
-use aes3_status::Change;
+use aes3_frame::Channel;
+use aes3_lines::{Detail, Lines, Style};
+use aes3_status::{CarriedBits, Change};
 
 /// What the program is asked to do.
 #[derive(Clone, Copy, PartialEq, Eq)]
@@ -36,13 +37,21 @@ pub enum Job {
         input: Form,
         style: Style,
     },
-    /// Two lines of channel status for each block.
+    /// The same, and a line of what was counted so far for each `every` cells, from 1 to 2^40.
+    WatchSums {
+        input: Form,
+        style: Style,
+        every: u64,
+    },
+    /// Two lines of channel status for each block, with this behind them.
     Show {
         input: Form,
+        detail: Detail,
     },
-    /// Those of them that differ from the block before.
+    /// Those of them whose status differs from that of the block before.
     ShowChanges {
         input: Form,
+        detail: Detail,
     },
     /// A line for each preamble.
     Scan {
@@ -56,19 +65,27 @@ pub enum Job {
         from: u64,
         count: u64,
     },
-    /// Cells to the normal stream of their blocks, with other channel status.
+    /// Cells to the normal stream of their blocks, with other channel status, validity and user
+    /// bits.
     Rewrite {
         input: Form,
         output: Form,
         change: Change,
     },
-    /// Cells to the samples of their blocks.
+    /// Cells to the samples of their blocks; where `valid`, with zero for those that are not.
     ToPcm {
         input: Form,
+        valid: bool,
     },
     /// Samples to a block file, with channel status; where `exact`, of 24 bits alone.
     FromPcm {
         exact: bool,
         change: Change,
+    },
+    /// Cells to bits that the subframes of a channel carry behind their audio.
+    ToBits {
+        input: Form,
+        bits: CarriedBits,
+        channel: Channel,
     },
 }

@@ -6,6 +6,8 @@
 mod choices;
 /// The fields of a status line for consumer use.
 mod consumer;
+/// What stands behind a line of channel status.
+mod detail;
 /// Events of a line that is watched, and their lines.
 mod event;
 /// A field of a status line: its name and its text.
@@ -34,6 +36,7 @@ mod tail;
 mod words;
 
 pub use choices::add_choices;
+pub use detail::Detail;
 pub use event::{Event, Marking, Notation, Style, line_of_event};
 pub use gathered::{GATHERED_LEN, GatheredLines};
 pub use lines::Lines;

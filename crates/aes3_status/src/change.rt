@@ -15,6 +15,14 @@ pub struct Change {
     /// The fields that are then set in the status of channel 2, one after the other; `None` sets
     /// none.
     pub settings2: Option<[Setting; SETTINGS]>,
+    /// What the validity bit of each subframe of channel 1 gets; `None` leaves it as it is.
+    pub validity1: Option<bool>,
+    /// What the validity bit of each subframe of channel 2 gets; `None` leaves it as it is.
+    pub validity2: Option<bool>,
+    /// Whether the user bit of each subframe of channel 1 gets 0.
+    pub clear_user1: bool,
+    /// Whether the user bit of each subframe of channel 2 gets 0.
+    pub clear_user2: bool,
     /// Whether professional status then gets the check byte that it asks for.
     pub mend: bool,
 }

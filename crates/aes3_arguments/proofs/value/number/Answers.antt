@@ -1,7 +1,7 @@
 use Rattle.std.proofs.Common.{◌∙◌, refl, sym}
 use Rattle.std.specs.Str.Parse.{ParsesUnsigned, ExplainsUnsignedError, HasUnsignedDigitsIfOk}
 use Rattle.aes3_arguments.proofs.OptionReads.{number_is}
-use Rattle.aes3_arguments.proofs.job.number.Goals as goal
+use Rattle.aes3_arguments.proofs.value.number.Goals as goal
 
 pub unwrap-requires : goal.unwrap-requires
 unwrap-requires c =

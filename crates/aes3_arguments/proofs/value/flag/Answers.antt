@@ -1,5 +1,5 @@
 use Rattle.aes3_arguments.proofs.OptionReads.{flag_is}
-use Rattle.aes3_arguments.proofs.layout.flag.Goals as goal
+use Rattle.aes3_arguments.proofs.value.flag.Goals as goal
 
 pub returns : goal.returns
 returns c = flag_is c.args.options.now c.args.name.now c.get_flag.result c.requires c.get_flag.ensures.none

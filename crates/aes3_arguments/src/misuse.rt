@@ -1,0 +1,143 @@
+//! What is wrong with options that the command takes each by itself.
+
+ghost use Rattle.std.specs.Prelude.{◌≡◌, IfOk};
+ghost use Rattle.aes3_arguments.specs.Jobs.{AreTaken, TellsMisuse, has_no_cells_packed, has_no_rate};
+ghost use Rattle.aes3_arguments.specs.Jobs.{has_two_forms, has_two_periods, has_unknown_bits, misuse_by};
+ghost use Rattle.aes3_arguments.specs.Jobs.{misuse_line, misuse_text, options_of};
+
+use crate::carried::bits_of_text;
+use crate::job::LineFault;
+use crate::style::rate;
+use crate::value::{flag, number_if_given};
+use aes3_cell::RunError;
+use clap::ArgMatches;
+use std::alloc::{AllocError, Global};
+
+/// What is wrong with options that the command takes each by itself.
+#[derive(Clone, Copy)]
+pub(crate) enum Misuse {
+    /// `--raw-in` beside `--packed-in`.
+    TwoForms,
+    /// `--lsb-first` where no cells are packed.
+    NoCellsPacked,
+    /// `--every` beside `--every-seconds`.
+    TwoPeriods,
+    /// `--every-seconds` without `--rate`.
+    NoRate,
+    /// `to-bits` of bits that there are none of.
+    UnknownBits,
+}
+
+/// What stands behind the line that says what is wrong, as `clap` tells of words that it doesn't
+/// take.
+const END: &str = "
+
+Usage: aes3 COMMAND [OPTIONS] < INPUT > OUTPUT
+
+For more information, try '--help'.
+";
+
+/// What is wrong with the options, the first of it where there is more.
+pub(crate) fn misuse_of_options(options: &ArgMatches<'_>) -> Option<Misuse>
+    requires { AreTaken (options_of options.now) }
+    ensures { result ≡ misuse_by (options_of options.now) }
+{
+    if has_two_forms(options) {
+        Some(Misuse::TwoForms)
+    } else if has_no_cells_packed(options) {
+        Some(Misuse::NoCellsPacked)
+    } else if has_two_periods(options) {
+        Some(Misuse::TwoPeriods)
+    } else if has_no_rate(options) {
+        Some(Misuse::NoRate)
+    } else if has_unknown_bits(options) {
+        Some(Misuse::UnknownBits)
+    } else {
+        None
+    }
+}
+
+/// Whether the cells that are read have two forms.
+fn has_two_forms(options: &ArgMatches<'_>) -> bool
+    requires { AreTaken (options_of options.now) }
+    ensures { result ≡ has_two_forms (options_of options.now) }
+{
+    flag(options, "raw-in") && flag(options, "packed-in")
+}
+
+/// Whether the first of eight packed cells has a place and no cells are packed.
+fn has_no_cells_packed(options: &ArgMatches<'_>) -> bool
+    requires { AreTaken (options_of options.now) }
+    ensures { result ≡ has_no_cells_packed (options_of options.now) }
+{
+    flag(options, "lsb-first")
+        && !flag(options, "raw-in")
+        && !flag(options, "packed-in")
+        && !flag(options, "packed-out")
+}
+
+/// Whether sums are told after cells and after seconds.
+fn has_two_periods(options: &ArgMatches<'_>) -> bool
+    requires { AreTaken (options_of options.now) }
+    ensures { result ≡ has_two_periods (options_of options.now) }
+{
+    number_if_given(options, "every").is_some()
+        && number_if_given(options, "every-seconds").is_some()
+}
+
+/// Whether they are told after seconds of which nothing says how many cells one has.
+fn has_no_rate(options: &ArgMatches<'_>) -> bool
+    requires { AreTaken (options_of options.now) }
+    ensures { result ≡ has_no_rate (options_of options.now) }
+{
+    number_if_given(options, "every-seconds").is_some() && rate(options).is_none()
+}
+
+/// Whether bits are named that there are none of.
+fn has_unknown_bits(options: &ArgMatches<'_>) -> bool
+    ensures { result ≡ has_unknown_bits (options_of options.now) }
+{
+    let Some(text) = options.get_str("BITS") else {
+        return false;
+    };
+    bits_of_text(text).is_none()
+}
+
+/// What is told of it.
+pub(crate) fn misuse_fault(alloc: Global, misuse: Misuse) -> LineFault
+    ensures { TellsMisuse misuse result }
+{
+    match told_misuse(alloc, misuse) {
+        Ok(text) => LineFault::Usage { text },
+        Err(_) => LineFault::Refused(RunError::Memory),
+    }
+}
+
+/// The text that tells of it.
+fn told_misuse(alloc: Global, misuse: Misuse) -> Result<String, AllocError>
+    ensures { IfOk result (λ text. text.bytes.items ≡ misuse_text misuse) }
+{
+    let mut text = String::new(alloc);
+    text.push_str(misuse_line(misuse))?;
+    text.push_str(END)?;
+    Ok(text)
+}
+
+/// The line that says what is wrong.
+fn misuse_line(misuse: Misuse) -> &'static str
+    ensures { result.now ≡ misuse_line misuse }
+{
+    match misuse {
+        Misuse::TwoForms => "error: the argument '--raw-in' cannot be used with '--packed-in'",
+        Misuse::NoCellsPacked => {
+            "error: the argument '--lsb-first' needs '--packed-in', '--raw-in' or '--packed-out'"
+        }
+        Misuse::TwoPeriods => {
+            "error: the argument '--every <CELLS>' cannot be used with '--every-seconds <N>'"
+        }
+        Misuse::NoRate => "error: the argument '--every-seconds <N>' needs '--rate <HZ>'",
+        Misuse::UnknownBits => {
+            "error: invalid value for '<BITS>': it is 'user', 'validity' or 'status'"
+        }
+    }
+}
