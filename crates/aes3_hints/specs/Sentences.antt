@@ -11,8 +11,8 @@ use Rattle.aes3_cell.specs.Refusals.{number_of}
 use Rattle.aes3_arguments.specs.Explained.{advice_of}
 use Rattle.aes3_hints.specs.declared.hints.Terminals.{Terminals}
 use Rattle.aes3_job.specs.declared.job.Job.{Job}
-use Rattle.aes3_job.specs.declared.job.Job.TheVariants.{Encode, Decode, Normal, Check, Account, Watch, Show}
-use Rattle.aes3_job.specs.declared.job.Job.TheVariants.{ShowChanges, Scan, Cut, Rewrite, ToPcm, FromPcm}
+use Rattle.aes3_job.specs.declared.job.Job.TheVariants.{Encode, Decode, Normal, Check, Account, Watch, WatchSums}
+use Rattle.aes3_job.specs.declared.job.Job.TheVariants.{Show, ShowChanges, Scan, Cut, Rewrite, ToPcm, FromPcm, ToBits}
 
 -- whether it is the packed form
 abbrev pub is_packed : Form → Bool
@@ -27,13 +27,15 @@ writes_packed (Normal input output) = is_packed output
 writes_packed (Check input lines) = false
 writes_packed (Account input lines) = false
 writes_packed (Watch input style) = false
-writes_packed (Show input) = false
-writes_packed (ShowChanges input) = false
+writes_packed (WatchSums input style every) = false
+writes_packed (Show input detail) = false
+writes_packed (ShowChanges input detail) = false
 writes_packed (Scan input) = false
 writes_packed (Cut input output from count) = is_packed output
 writes_packed (Rewrite input output change) = is_packed output
-writes_packed (ToPcm input) = false
+writes_packed (ToPcm input valid) = false
 writes_packed (FromPcm exact change) = false
+writes_packed (ToBits input bits channel) = false
 
 -- what is told before a job where standard input, or output, is a terminal or isn't
 abbrev pub reads_hint : Bool → List ℕ

@@ -322,12 +322,14 @@ pub(crate) fn reads_packed(job: &Job) -> bool {
         | Job::Check { input, .. }
         | Job::Account { input, .. }
         | Job::Watch { input, .. }
-        | Job::Show { input }
-        | Job::ShowChanges { input }
+        | Job::WatchSums { input, .. }
+        | Job::Show { input, .. }
+        | Job::ShowChanges { input, .. }
         | Job::Scan { input }
         | Job::Cut { input, .. }
         | Job::Rewrite { input, .. }
-        | Job::ToPcm { input } => *input == Form::Packed,
+        | Job::ToPcm { input, .. }
+        | Job::ToBits { input, .. } => *input == Form::Packed,
     }
 }
 
