@@ -3,8 +3,10 @@
 use aes3_arguments::{LineFault, job_of_words, status_of_text};
 use aes3_cell::{Form, RunError};
 use aes3_engine::Change;
+use aes3_frame::Channel;
 use aes3_job::Job;
-use aes3_text::Lines;
+use aes3_lines::{Detail, Lines, Notation, Style};
+use aes3_status::CarriedBits;
 use std::alloc::Global;
 use std::test::Fail;
 
@@ -51,14 +53,43 @@ const REWRITE: Job = Job::Rewrite {
         status2: None,
         settings1: None,
         settings2: None,
+        validity1: None,
+        validity2: None,
+        clear_user1: false,
+        clear_user2: false,
         mend: true,
+    },
+};
+
+const WATCH_SUMS: Job = Job::WatchSums {
+    input: TEXT,
+    style: Style {
+        notation: Notation::Words,
+        rate: Some(48_000),
+    },
+    every: 12_288_000,
+};
+
+const VALID: Job = Job::Rewrite {
+    input: TEXT,
+    output: TEXT,
+    change: Change {
+        status1: None,
+        status2: None,
+        settings1: None,
+        settings2: None,
+        validity1: Some(false),
+        validity2: Some(true),
+        clear_user1: false,
+        clear_user2: true,
+        mend: false,
     },
 };
 
 /// Each line asks for its job; `tests/rows` has the others, for the program.
 #[test]
 fn jobs_of_words(rt: HostRuntime) {
-    let lines: [(&[&str], Job); 3] = [
+    let lines: [(&[&str], Job); 8] = [
         (
             &["check"],
             Job::Check {
@@ -68,6 +99,36 @@ fn jobs_of_words(rt: HostRuntime) {
         ),
         (&["cut", "+1", "--packed-out", "007"], CUT),
         (&["rewrite", "--mend-check", "--status1", STATUS], REWRITE),
+        (
+            &["rewrite", "--valid1", "0", "--valid2=1", "--clear-user2"],
+            VALID,
+        ),
+        (
+            &["watch", "--every-seconds", "2", "--rate", "48000"],
+            WATCH_SUMS,
+        ),
+        (
+            &["show", "--at", "--more"],
+            Job::Show {
+                input: TEXT,
+                detail: Detail::Carried,
+            },
+        ),
+        (
+            &["to-pcm", "--valid", "--packed-in", "--lsb-first"],
+            Job::ToPcm {
+                input: Form::Packed,
+                valid: true,
+            },
+        ),
+        (
+            &["to-bits", "validity", "2"],
+            Job::ToBits {
+                input: TEXT,
+                bits: CarriedBits::Validity,
+                channel: Channel::Second,
+            },
+        ),
     ];
     for (words, job) in lines {
         let answer = job_of_words(rt.alloc(), words);
@@ -77,9 +138,14 @@ fn jobs_of_words(rt: HostRuntime) {
 
 #[test]
 fn words_that_are_no_job(rt: HostRuntime) {
-    let lines: [(&[&str], Told); 4] = [
+    let lines: [(&[&str], Told); 9] = [
         (&["help"], Told::Usage),
         (&["cut", "1"], Told::Usage),
+        (&["check", "--lsb-first"], Told::Usage),
+        (&["watch", "--every-seconds", "1"], Told::Usage),
+        (&["watch", "--every", "0"], Told::Usage),
+        (&["to-bits", "audio", "1"], Told::Usage),
+        (&["to-bits", "user", "3"], Told::Usage),
         (&["rewrite", "--status1", "0", "--help"], Told::Help),
         (
             &["rewrite", "--status1", "0"],

@@ -42,6 +42,10 @@ const MENDED: Job = Job::Rewrite {
         status2: None,
         settings1: None,
         settings2: None,
+        validity1: None,
+        validity2: None,
+        clear_user1: false,
+        clear_user2: false,
         mend: true,
     },
 };
@@ -170,7 +174,7 @@ fn samples_of_a_line(rt: HostRuntime) -> Result<(), Fail> {
         assert!(rt; run_job(&Job::Encode { output: form }, &mut source, &mut line).is_ok());
         let mut pcm = MemorySink::new(rt.alloc());
         let mut source = MemorySource::new(line.bytes(), 4_096);
-        assert!(rt; run_job(&Job::ToPcm { input: form }, &mut source, &mut pcm).is_ok());
+        assert!(rt; run_job(&Job::ToPcm { input: form, valid: false }, &mut source, &mut pcm).is_ok());
         assert!(rt; pcm.bytes() == samples.as_slice());
     }
     Ok(())

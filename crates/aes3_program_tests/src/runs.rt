@@ -7,6 +7,7 @@ use crate::job::{ZEROS, begun, block_text};
 use aes3_cell::{FailingSink, FailingSource, Form, MemorySink, MemorySource, RunError, ShortSink};
 use aes3_engine::Change;
 use aes3_job::Job;
+use aes3_lines::Detail;
 use aes3_runner::run_job;
 use aes3_text::Lines;
 use std::alloc::{AllocError, Global};
@@ -293,6 +294,10 @@ fn cells_with_other_status(rt: HostRuntime) -> Result<(), Fail> {
             status2: None,
             settings1: None,
             settings2: None,
+            validity1: None,
+            validity2: None,
+            clear_user1: false,
+            clear_user2: false,
             mend: true,
         },
     };
@@ -374,9 +379,16 @@ fn status_of_cells(rt: HostRuntime) -> Result<(), Fail> {
     let of = inputs_of_rows(rt.alloc())?;
     let one = shown(rt.alloc(), 1)?;
     let two = shown(rt.alloc(), 2)?;
-    let text = Job::Show { input: TEXT };
-    let packed = Job::Show { input: PACKED };
-    let changes = Job::ShowChanges { input: TEXT };
+    let detail = Detail::Plain;
+    let text = Job::Show { input: TEXT, detail };
+    let packed = Job::Show {
+        input: PACKED,
+        detail,
+    };
+    let changes = Job::ShowChanges {
+        input: TEXT,
+        detail,
+    };
     let rows = [
         to_lines(text, &of.two, &two, first_line(24_961, &one)),
         to_lines(text, &of.early, &one, Early::Nothing),
@@ -444,7 +456,14 @@ fn blocks_of_cells(rt: HostRuntime) -> Result<(), Fail> {
     let text = Job::Decode { input: TEXT };
     let packed = Job::Decode { input: PACKED };
     // The samples of the zero block are zeros, as its file is.
-    let samples = Job::ToPcm { input: TEXT };
+    let samples = Job::ToPcm {
+        input: TEXT,
+        valid: false,
+    };
+    let valid = Job::ToPcm {
+        input: TEXT,
+        valid: true,
+    };
     let file = Job::FromPcm {
         exact: true,
         change: Change {
@@ -452,6 +471,10 @@ fn blocks_of_cells(rt: HostRuntime) -> Result<(), Fail> {
             status2: None,
             settings1: None,
             settings2: None,
+            validity1: None,
+            validity2: None,
+            clear_user1: false,
+            clear_user2: false,
             mend: false,
         },
     };
@@ -463,6 +486,7 @@ fn blocks_of_cells(rt: HostRuntime) -> Result<(), Fail> {
         in_buffers(packed, &of.packed, &of.file, first(3_075), 1_536),
         in_buffers(samples, &of.early, one, Early::Nothing, 1_536),
         in_buffers(samples, &of.two, &of.file, first(24_961), 1_536),
+        in_buffers(valid, &of.two, &of.file, first(24_961), 1_536),
         in_buffers(
             file,
             &of.file,
