@@ -5,6 +5,7 @@ use Rattle.std.proofs.Common.{ap₂, ◌∙◌, append-nil, arith}
 use Rattle.std.proofs.lemmas.List.{length-map, length-take, length-take-le, map-append, take-map, take-take, take_at}
 use Rattle.std.specs.Option.{option_map}
 use Rattle.aes3_cell.specs.Ends.{Grew}
+use Rattle.aes3_cell.proofs.Growing.{grew-is}
 use Rattle.aes3_octets.specs.Octets.{packed_of_raw, turned}
 use Rattle.aes3_octets.specs.Told.{raw_told}
 use Rattle.aes3_octets.proofs.TurnedOctets.{turned-all}
@@ -69,3 +70,17 @@ pub front-grew : {E : Type 0} (a b : Option (List ℕ)) (n : ℕ) (xs piece : Li
     → IfOk r (λ k. Grew (option_map (map turned) a) (option_map (map turned) b) (take k xs))
 front-grew a b n xs piece (Ok k) e h l g = some-grew k n xs piece e h l g
 front-grew a b n xs piece (Err x) e h l g = tt
+
+-- what was handed on of them
+handed-front : (k n : ℕ) (xs piece : List ℕ) → take n piece ≡ map turned (take n xs) → k ≤ n
+    → take k (take n piece) ≡ map turned (take k xs)
+handed-front k n xs piece e l =
+    ap (take k) e ∙ take-map turned k (take n xs) ∙ ap (map turned) (take-take k n xs l)
+
+pub handed-on : {E : Type 0} (a b : Option (List ℕ)) (n : ℕ) (xs piece : List ℕ) (r : Result ℕ E)
+    → take n piece ≡ map turned (take n xs) → IfOk r (λ k. k ≤ length (take n piece))
+    → IfOk r (λ k. Grew a b (take k (take n piece))) → IfOk r (λ k. Grew a b (map turned (take k xs)))
+handed-on a b n xs piece (Ok k) e l g =
+    let m = length-take n piece in
+    grew-is (handed-front k n xs piece e (omega (arith, m, l))) g
+handed-on a b n xs piece (Err x) e l g = tt
