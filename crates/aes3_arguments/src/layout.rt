@@ -22,6 +22,9 @@ For more information, try '--help'.
 pub struct Octets {
     /// Those that are read have no last octet that counts.
     pub raw_in: bool,
+    /// Whether the first cell of each octet stands in its lowest bit, of packed cells that are read
+    /// or written.
+    pub lsb_first: bool,
 }
 
 /// How the options lay out the octets.
@@ -42,6 +45,7 @@ pub(crate) fn octets_of_options(
     }
     Ok(Octets {
         raw_in: flag(options, "raw-in"),
+        lsb_first: false,
     })
 }
 
