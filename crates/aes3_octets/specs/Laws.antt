@@ -3,7 +3,7 @@ use Rattle.std.specs.Prelude.{ℕ, List, ◌≡◌, ◌%◌, ◌<◌, ◌↔◌,
 use Rattle.std.specs.List.{flat_map}
 use Rattle.aes3_level.specs.declared.level.Level.{Level}
 use Rattle.aes3_cell.specs.Packed.{Packs, cells_of_octets, cells_of_packed, is_packed, packed_of}
-use Rattle.aes3_octets.specs.Octets.{PacksTurned, packed_of_raw, packed_of_turned, turned, turned_cells}
+use Rattle.aes3_octets.specs.Octets.{PacksTurned, packed_of_raw, packed_of_turned, turned, turned_cells, turned_octet}
 
 -- raw octets, packed, mean exactly their cells
 abbrev pub RawArePacked : Type 0
@@ -31,4 +31,5 @@ RawAreTurned = (octets : List ℕ) → packed_of_turned (packed_of_raw octets) �
 
 -- octets turned twice are as they were
 abbrev pub TurnedTwice : Type 0
-TurnedTwice = (octets : List ℕ) → ((i : ℕ) → get_or octets i 0 < 256) → map turned (map turned octets) ≡ octets
+TurnedTwice = (octets : List ℕ) → (map turned_octet (map turned_octet octets) ≡ octets)
+    × (((i : ℕ) → get_or octets i 0 < 256) → map turned_octet octets ≡ map turned octets)

@@ -1,5 +1,5 @@
 -- Octets of cells as hardware gives them: without the octet that counts, or with the first cell in the lowest bit.
-use Rattle.std.specs.Prelude.{ℕ, List, [], ◌∷◌, ◌++◌, ◌≡◌, ◌<◌, drop, map, replicate, take}
+use Rattle.std.specs.Prelude.{ℕ, List, [], ◌∷◌, ◌++◌, ◌≡◌, ◌<◌, drop, map, nat_lt, replicate, take, if◌then◌else◌}
 use Rattle.std.specs.List.{flat_map}
 use Rattle.aes3_level.specs.declared.level.Level.{Level}
 use Rattle.aes3_level.specs.declared.level.Level.TheVariants.{Low}
@@ -18,6 +18,10 @@ turned_cells octet = low_cells 8 octet
 -- the octet that has these cells with the first in the highest bit
 abbrev pub turned : ℕ → ℕ
 turned octet = octet_of (turned_cells octet)
+
+-- the same of a number that may be none: then it stays
+abbrev pub turned_octet : ℕ → ℕ
+turned_octet number = if nat_lt number 256 then turned number else number
 
 -- octets pack these cells with the first of each octet in the lowest bit; the last octet is a number, as ever
 pub record PacksTurned (octets : List ℕ) (cells : List Level) : Type 0 where

@@ -3,7 +3,7 @@ use Rattle.std.specs.Prelude.{ℕ, List, [], ◌∷◌, Bool, Option, Some, None
 use Rattle.std.specs.Option.{option_map}
 use Rattle.std.specs.Str.{bytes_eq}
 use Rattle.aes3_cell.specs.Packed.{last_place}
-use Rattle.aes3_octets.specs.Octets.{packed_of_raw, packed_of_turned, turned, turned_front}
+use Rattle.aes3_octets.specs.Octets.{packed_of_raw, packed_of_turned, turned_front, turned_octet}
 
 -- raw octets, and whether the octet that counts was given behind them
 abbrev pub raw_told : Bool → Option (List ℕ) → Option (List ℕ)
@@ -11,7 +11,7 @@ raw_told is_counted told = if is_counted then option_map packed_of_raw told else
 
 -- octets that are turned, each of them
 abbrev pub all_turned : Option (List ℕ) → Option (List ℕ)
-all_turned told = option_map (map turned) told
+all_turned told = option_map (map turned_octet) told
 
 -- octets up to the last, which is this one: those before it, turned; of others nothing is told
 abbrev pub turned_before : ℕ → List ℕ → Option (List ℕ)
