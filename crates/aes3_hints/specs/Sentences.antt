@@ -35,6 +35,22 @@ writes_packed (Rewrite input output change) = is_packed output
 writes_packed (ToPcm input) = false
 writes_packed (FromPcm exact change) = false
 
+-- whether the job reads packed cells
+abbrev pub reads_packed : Job → Bool
+reads_packed (Encode output) = false
+reads_packed (Decode input) = is_packed input
+reads_packed (Normal input output) = is_packed input
+reads_packed (Check input lines) = is_packed input
+reads_packed (Account input lines) = is_packed input
+reads_packed (Watch input style) = is_packed input
+reads_packed (Show input) = is_packed input
+reads_packed (ShowChanges input) = is_packed input
+reads_packed (Scan input) = is_packed input
+reads_packed (Cut input output from count) = is_packed input
+reads_packed (Rewrite input output change) = is_packed input
+reads_packed (ToPcm input) = is_packed input
+reads_packed (FromPcm exact change) = false
+
 -- what is told before a job where standard input, or output, is a terminal or isn't
 abbrev pub reads_hint : Bool → List ℕ
 reads_hint terminal = if terminal
