@@ -1,13 +1,16 @@
 -- What the program does for a job whose octets are laid out in other ways than the job reads and writes them.
-use Rattle.std.specs.Prelude.{ℕ, List, [], Bool, true, false, Option, None, IsTrue, ◌≡◌, ◌⊎◌, ◌&&◌}
+use Rattle.std.specs.Prelude.{ℕ, List, [], Bool, true, false, Option, None, IsTrue, map, ◌≡◌, ◌⊎◌, ◌&&◌}
+use Rattle.aes3_level.specs.declared.level.Level.{Level}
 use Rattle.aes3_cell.specs.Ends.{Grew}
+use Rattle.aes3_cell.specs.Packed.{Packs}
 use Rattle.aes3_cell.specs.declared.refusal.RunError.TheVariants.{Read, Write}
 use Rattle.aes3_input.specs.Running.{Movement, Quiet, Failed}
+use Rattle.aes3_octets.specs.Octets.{PacksTurned, turned}
 use Rattle.aes3_octets.specs.Told.{all_turned, only, raw_told, turned_told}
 use Rattle.aes3_job.specs.declared.job.Job.{Job}
 use Rattle.aes3_arguments.specs.declared.layout.Octets.{Octets}
 use Rattle.aes3_hints.specs.Sentences.{reads_packed, writes_packed}
-use Rattle.aes3_runner.specs.JobRuns.{IsTold, JobRan}
+use Rattle.aes3_runner.specs.JobRuns.{IsTold, JobRan, promise_of}
 
 -- how a source of raw octets moved, as the job reads them: with the octet that counts behind all of them, or without it
 -- so far
@@ -106,3 +109,13 @@ SourceRan octets job ended source sink errors status =
 abbrev pub OctetsRan : Octets → Job → Bool → Movement → Movement → Movement → ℕ → Type 0
 OctetsRan octets job ended source sink errors status =
     SourceRan octets job ended source (written_by (octets.lsb_first && writes_packed job) sink) errors status
+
+-- octets that pack cells, and turned with the last of them pack the same with the first of each octet in the lowest bit
+pub record PackBoth (octets : List ℕ) : Type 0 where
+  pub cells : List Level
+  pub packs : Packs octets cells
+  pub turned : PacksTurned (map turned octets) cells
+
+-- whatever a job writes as packed cells can be turned with the last octet: it is whole octets of cells
+abbrev pub OutputsCanBeTurned : Type 0
+OutputsCanBeTurned = (job : Job) → IsTrue (writes_packed job) → (bytes : List ℕ) → PackBoth ((promise_of job).whole bytes)

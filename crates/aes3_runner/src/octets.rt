@@ -3,7 +3,7 @@
 ghost use Rattle.std.specs.Prelude.{◌≡◌, ◌&&◌, ◌<◌, ◌≤◌, ◌+◌, ◌^◌, IsTrue, None, true};
 ghost use Rattle.aes3_hints.specs.Sentences.{reads_packed};
 ghost use Rattle.aes3_input.specs.Running.{movement_of};
-ghost use Rattle.aes3_runner.specs.OctetRuns.{BehindRan, OctetsRan, PackedRan, SourceRan};
+ghost use Rattle.aes3_runner.specs.OctetRuns.{BehindRan, OctetsRan, OutputsCanBeTurned, PackedRan, SourceRan};
 
 use crate::finish::{finish_begun, finish_job, refuse_unread};
 use aes3_arguments::Octets;
@@ -211,3 +211,9 @@ fn run_behind<S: Source + Drop, T: Sink + Drop, E: Sink, O: Observer>(
         sink,
     }
 }
+
+/// Packed cells that a job writes can be turned with the octet that counts, since they are whole
+/// octets of them.
+pub fn outputs_can_be_turned()
+    ensures { OutputsCanBeTurned }
+{}

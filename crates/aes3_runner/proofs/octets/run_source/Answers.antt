@@ -1,5 +1,5 @@
-use Rattle.std.proofs.Common.{Bool, ap, subst, sym, IsTrue}
-use Rattle.aes3_input.specs.Running.{Movement, movement_of}
+use Rattle.std.proofs.Common.{ap, subst, sym, IsTrue}
+use Rattle.aes3_input.specs.Running.{movement_of}
 use Rattle.aes3_runner.specs.OctetRuns.{PackedRan, SourceRan}
 use Rattle.aes3_runner.proofs.RawRuns.{raw-ran, source-raw}
 use Rattle.aes3_runner.proofs.octets.run_source.Goals as goal
