@@ -51,7 +51,7 @@ fn run_program<E: Sink, H: Sink + Drop>(
     let told = StdSink::new(rt.stderr());
     let output = StdSink::new(rt.stdout().lock());
     let output = Clearing::new(output, told, shown, terminals.output && terminals.errors);
-    let mut sink = BufferedSink::new(rt.alloc(), output)?;
+    let sink = BufferedSink::new(rt.alloc(), output)?;
     let line = line_of_words(rt.alloc(), &words);
     let file = file_of_line(&line);
     if file.is_some() {
@@ -65,7 +65,7 @@ fn run_program<E: Sink, H: Sink + Drop>(
     };
     let watched = hints.watch(StdSource::new(input));
     let source = hints.follow(rt, watched, StdSink::new(rt.stderr()), shown, len, &line);
-    Ok(run_and_explain(line, &words, source, &mut sink, errors, hints).status)
+    Ok(run_and_explain(line, &words, source, sink, errors, hints).status)
 }
 
 /// The words of the command line behind the program's name.

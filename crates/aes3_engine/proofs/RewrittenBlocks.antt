@@ -65,7 +65,7 @@ module _ (P : List (List Bool) → Type 0) (keeps : (channel : Channel) (b : Lis
       if-keeps change.mend (mended Second (mended First s)) s
       (mended-keeps Second (mended First s) (mended-keeps First s k)) k
 
-each-blocks : (change : Change) (bs : List (List (List Bool))) → EachBlock27 bs
+pub each-blocks : (change : Change) (bs : List (List (List Bool))) → EachBlock27 bs
     → EachBlock27 (rewritten_blocks change bs)
 each-blocks change [] h = tt
 each-blocks change (b ∷ bs) h = (rewritten-keeps Each27 each-status change b h.0, each-blocks change bs h.1)

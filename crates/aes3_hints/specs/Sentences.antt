@@ -37,6 +37,24 @@ writes_packed (ToPcm input valid) = false
 writes_packed (FromPcm exact change) = false
 writes_packed (ToBits input bits channel) = false
 
+-- whether the job reads packed cells
+abbrev pub reads_packed : Job → Bool
+reads_packed (Encode output) = false
+reads_packed (Decode input) = is_packed input
+reads_packed (Normal input output) = is_packed input
+reads_packed (Check input lines) = is_packed input
+reads_packed (Account input lines) = is_packed input
+reads_packed (Watch input style) = is_packed input
+reads_packed (WatchSums input style every) = is_packed input
+reads_packed (Show input detail) = is_packed input
+reads_packed (ShowChanges input detail) = is_packed input
+reads_packed (Scan input) = is_packed input
+reads_packed (Cut input output from count) = is_packed input
+reads_packed (Rewrite input output change) = is_packed input
+reads_packed (ToPcm input valid) = is_packed input
+reads_packed (FromPcm exact change) = false
+reads_packed (ToBits input bits channel) = is_packed input
+
 -- what is told before a job where standard input, or output, is a terminal or isn't
 abbrev pub reads_hint : Bool → List ℕ
 reads_hint terminal = if terminal

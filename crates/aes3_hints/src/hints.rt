@@ -5,6 +5,7 @@ ghost use Rattle.aes3_cell.specs.Ends.{Grew};
 ghost use Rattle.aes3_cell.specs.Refusals.{number_of};
 ghost use Rattle.aes3_arguments.specs.Explained.{advice_of};
 ghost use Rattle.aes3_hints.specs.Sentences.{Explained, ExplainedBy, greeting, is_told, reads_hint};
+ghost use Rattle.aes3_hints.specs.Sentences.{reads_packed};
 ghost use Rattle.aes3_hints.specs.Sentences.{writes_hint, writes_packed};
 
 use crate::looks::{Looks, advice_by_looks, are_turned, looks_of};
@@ -126,7 +127,7 @@ impl<T: Sink + Drop> Hints<T> {
                 let told = advice_by_looks(error, looks_of(source.first()));
                 self.tell_refusal(error, place_of(error, words, source), told);
             }
-            (None, _) => self.warn(source.first()),
+            (None, _) => self.warn(words, source.first()),
         }
     }
 
@@ -179,11 +180,11 @@ impl<T: Sink + Drop> Hints<T> {
     }
 
     /// Tells of an input that a job took, if its first bytes look like another kind.
-    fn warn(&mut self, first: &[u8])
+    fn warn(&mut self, words: &[&str], first: &[u8])
         ensures silent { IsFalse self.old.terminals.errors
             → T.taken self.new.sink ≡ T.taken self.old.sink }
     {
-        if let Some(told) = warning(self.job, first) {
+        if let Some(told) = warning(self.job, is_lsb_first(words), first) {
             self.tell("aes3: ");
             self.tell(told);
             self.tell("\n");
@@ -223,15 +224,20 @@ fn refused_text(alloc: Global, error: RunError, place: Option<Place<'_>>) -> Opt
     text.ok()
 }
 
+/// Whether the words say that the first cell of each octet stands in its lowest bit.
+fn is_lsb_first(words: &[&str]) -> bool {
+    words.iter().any(|word| *word == "--lsb-first")
+}
+
 /// What to do where the first bytes of an input look like another kind than this job takes.
-fn warning(job: Option<Job>, first: &[u8]) -> Option<&'static str> {
+fn warning(job: Option<Job>, is_lsb_first: bool, first: &[u8]) -> Option<&'static str> {
     match (job?, looks_of(first)) {
         (Job::FromPcm { .. }, Looks::Wave) => Some(
             "this is a WAV file, whose head was taken as samples: `sox FILE -t s32 - | aes3 from-pcm` leaves it out",
         ),
-        (job, Looks::Octets) if reads_packed(&job) && are_turned(first) => Some(
-            "the cells look packed with the first in the lowest bit: `perl -0777 -ne 'print pack(\"B*\", unpack(\"b*\", $_))' FILE` turns them",
-        ),
+        (job, Looks::Octets) if reads_packed(&job) && !is_lsb_first && are_turned(first) => {
+            Some("the cells look packed with the first in the lowest bit: try `--lsb-first`")
+        }
         _ => None,
     }
 }
@@ -279,7 +285,7 @@ fn has_bad_status(words: &[&str], name: &str) -> bool {
 }
 
 /// Whether the job writes packed cells.
-fn writes_packed(job: &Job) -> bool
+pub fn writes_packed(job: &Job) -> bool
     ensures { result ≡ writes_packed job.now }
 {
     match job {
@@ -314,7 +320,9 @@ fn writes_hint(is_terminal: bool, job: &Job) -> &'static str
 }
 
 /// Whether the job reads packed cells.
-pub(crate) fn reads_packed(job: &Job) -> bool {
+pub fn reads_packed(job: &Job) -> bool
+    ensures { result ≡ reads_packed job.now }
+{
     match job {
         Job::Encode { .. } | Job::FromPcm { .. } => false,
         Job::Decode { input }
@@ -329,7 +337,7 @@ pub(crate) fn reads_packed(job: &Job) -> bool {
         | Job::Cut { input, .. }
         | Job::Rewrite { input, .. }
         | Job::ToPcm { input, .. }
-        | Job::ToBits { input, .. } => *input == Form::Packed,
+        | Job::ToBits { input, .. } => matches!(input, Form::Packed),
     }
 }
 

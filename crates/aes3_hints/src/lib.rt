@@ -14,6 +14,6 @@ mod progress;
 mod watched;
 
 pub use clearing::Clearing;
-pub use hints::{Hints, Terminals};
+pub use hints::{Hints, Terminals, reads_packed, writes_packed};
 pub use progress::Progress;
 pub use watched::Watched;

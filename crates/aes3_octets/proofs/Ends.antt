@@ -5,9 +5,10 @@ use Rattle.std.proofs.Common.{ap₂, ◌∙◌, append-nil, arith}
 use Rattle.std.proofs.lemmas.List.{length-map, length-take, length-take-le, map-append, take-map, take-take, take_at}
 use Rattle.std.specs.Option.{option_map}
 use Rattle.aes3_cell.specs.Ends.{Grew}
-use Rattle.aes3_octets.specs.Octets.{packed_of_raw, turned}
-use Rattle.aes3_octets.specs.Told.{raw_told}
-use Rattle.aes3_octets.proofs.TurnedOctets.{turned-all}
+use Rattle.aes3_cell.proofs.Growing.{grew-is}
+use Rattle.aes3_octets.specs.Octets.{packed_of_raw, turned, turned_octet}
+use Rattle.aes3_octets.specs.Told.{all_turned, raw_told}
+use Rattle.aes3_octets.proofs.TurnedOctets.{octets-back, octets-twice}
 
 -- a list that is not empty
 pub some-items : {b : Bool} (n m : ℕ) → b ≡ (n == 0) → b ≡ false → m ≡ n → 0 < m
@@ -44,28 +45,50 @@ take-small (suc n) (x ∷ xs) h zero = h 0
 take-small (suc n) (x ∷ xs) h (suc i) = take-small n xs (λ j. h (suc j)) i
 
 taken-turned : (k n : ℕ) (xs piece : List ℕ) → take n piece ≡ map turned (take n xs) → ((i : ℕ) → get_or xs i 0 < 256)
-    → k ≤ n → map turned (take k (take n piece)) ≡ take k xs
+    → k ≤ n → map turned_octet (take k (take n piece)) ≡ take k xs
 taken-turned k n xs piece e h l =
-    ap (λ v. map turned (take k v)) e ∙ ap (map turned) (take-map turned k (take n xs))
-    ∙ turned-all (take k (take n xs)) (take-small k (take n xs) (take-small n xs h)) ∙ take-take k n xs l
+    ap (λ v. map turned_octet (take k v)) e ∙ ap (map turned_octet) (take-map turned k (take n xs))
+    ∙ octets-back (take k (take n xs)) (take-small k (take n xs) (take-small n xs h)) ∙ take-take k n xs l
 
 some-grew : {a b : Option (List ℕ)} (k n : ℕ) (xs piece : List ℕ) → take n piece ≡ map turned (take n xs)
     → ((i : ℕ) → get_or xs i 0 < 256) → k ≤ length (take n piece)
-    → Grew a b (take k (take n piece)) → Grew (option_map (map turned) a) (option_map (map turned) b) (take k xs)
+    → Grew a b (take k (take n piece)) → Grew (all_turned a) (all_turned b) (take k xs)
 some-grew {a = None} k n xs piece e h l g = record { by = λ zs q. absurd cc }
 some-grew {a = Some z} {b = b} k n xs piece e h l g = record {
   by = λ zs q.
       let r = g.by z refl in
-      let s : map turned z ≡ zs = cc in
+      let s : map turned_octet z ≡ zs = cc in
       let m = length-take n piece in
-      ap (option_map (map turned)) r
-      ∙ ap Some (map-append turned z (take k (take n piece))
+      ap all_turned r
+      ∙ ap Some (map-append turned_octet z (take k (take n piece))
       ∙ ap₂ ◌++◌ s (taken-turned k n xs piece e h (omega (arith, m, l))));
 }
 
 pub front-grew : {E : Type 0} (a b : Option (List ℕ)) (n : ℕ) (xs piece : List ℕ) (r : Result ℕ E)
     → take n piece ≡ map turned (take n xs) → ((i : ℕ) → get_or xs i 0 < 256)
     → IfOk r (λ k. k ≤ length (take n piece)) → IfOk r (λ k. Grew a b (take k (take n piece)))
-    → IfOk r (λ k. Grew (option_map (map turned) a) (option_map (map turned) b) (take k xs))
+    → IfOk r (λ k. Grew (all_turned a) (all_turned b) (take k xs))
 front-grew a b n xs piece (Ok k) e h l g = some-grew k n xs piece e h l g
 front-grew a b n xs piece (Err x) e h l g = tt
+
+-- what was handed on of them
+handed-front : (k n : ℕ) (xs piece : List ℕ) → take n piece ≡ map turned (take n xs) → k ≤ n
+    → take k (take n piece) ≡ map turned (take k xs)
+handed-front k n xs piece e l =
+    ap (take k) e ∙ take-map turned k (take n xs) ∙ ap (map turned) (take-take k n xs l)
+
+pub handed-on : {E : Type 0} (a b : Option (List ℕ)) (n : ℕ) (xs piece : List ℕ) (r : Result ℕ E)
+    → take n piece ≡ map turned (take n xs) → IfOk r (λ k. k ≤ length (take n piece))
+    → IfOk r (λ k. Grew a b (take k (take n piece))) → IfOk r (λ k. Grew a b (map turned (take k xs)))
+handed-on a b n xs piece (Ok k) e l g =
+    let m = length-take n piece in
+    grew-is (handed-front k n xs piece e (omega (arith, m, l))) g
+handed-on a b n xs piece (Err x) e l g = tt
+
+-- what is told of turned octets determines them
+told-twice : (a : Option (List ℕ)) → all_turned (all_turned a) ≡ a
+told-twice None = refl
+told-twice (Some v) = ap Some (octets-twice v)
+
+pub same-turned : (a b : Option (List ℕ)) → all_turned a ≡ all_turned b → a ≡ b
+same-turned a b e = sym (told-twice a) ∙ ap all_turned e ∙ told-twice b

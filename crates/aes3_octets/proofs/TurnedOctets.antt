@@ -1,7 +1,8 @@
 -- Octets with their bits in the opposite order.
 use Rattle.std.proofs.Common.{◌≡◌, ℕ, suc, ◌+◌, ◌-◌, ◌*◌, ◌/◌, ◌%◌, ◌<◌, ◌≤◌, List, [], ◌∷◌, ◌++◌, length, map, take}
 use Rattle.std.proofs.Common.{drop, get_or, replicate, refl, sym, ap, ap₂, ◌∙◌, append_assoc, append-nil}
-use Rattle.std.proofs.Common.{take-append-drop, arith, w64}
+use Rattle.std.proofs.Common.{take-append-drop, arith, w64, Bool, true, false, nat_lt, if◌then◌else◌}
+use Rattle.std.proofs.Common.{lt-ltb, ltb-true}
 use Rattle.std.specs.List.{flat_map}
 use Rattle.std.specs.Int.{from_le_bytes}
 use Rattle.std.proofs.lemmas.List.{length-map, length-drop, length-take-le, get_or-map, map-append, take-map, take_at}
@@ -18,7 +19,7 @@ use Rattle.aes3_cell.proofs.PackedCells.{first_octets-cells_of_octets, length-ce
 use Rattle.aes3_cell.proofs.PackedCells.{cells_of_octets-first_octets}
 use Rattle.aes3_cell.proofs.TurnedOctets.{low_cells-turned, octet_cells-turned}
 use Rattle.aes3_level.proofs.WordCells.{low_cells-add, low_cells-mod}
-use Rattle.aes3_octets.specs.Octets.{PacksTurned, turned, turned_cells}
+use Rattle.aes3_octets.specs.Octets.{PacksTurned, turned, turned_cells, turned_octet}
 
 -- the cells of turned octets
 pub octets-turned : (v : List ℕ) → cells_of_octets (map turned v) ≡ flat_map turned_cells v
@@ -37,9 +38,31 @@ turned-lt x = omega (arith, weight-le 128 (low_cells 8 x))
 pub turned-back : (x : ℕ) → x < 256 → turned (turned x) ≡ x
 turned-back x h = ap octet_of (low_cells-turned x) ∙ octet_of-octet_cells x h
 
-pub turned-all : (v : List ℕ) → ((i : ℕ) → get_or v i 0 < 256) → map turned (map turned v) ≡ v
-turned-all [] h = refl
-turned-all (x ∷ v) h = ap₂ ◌∷◌ (turned-back x (h 0)) (turned-all v (λ i. h (suc i)))
+is-octet : (x : ℕ) → x < 256 → turned_octet x ≡ turned x
+is-octet x h = ap (λ b. if b then turned x else x) (lt-ltb x 256 h)
+
+turned_octet-twice : (x : ℕ) → turned_octet (turned_octet x) ≡ x
+turned_octet-twice x = go (nat_lt x 256) refl
+  where
+    go : (b : Bool) → nat_lt x 256 ≡ b → turned_octet (turned_octet x) ≡ x
+    go true e =
+        let h : x < 256 = ltb-true x 256 e in
+        ap turned_octet (is-octet x h) ∙ is-octet (turned x) (turned-lt x) ∙ turned-back x h
+    go false e =
+        let is : turned_octet x ≡ x = ap (λ b. if b then turned x else x) e in
+        ap turned_octet is ∙ is
+
+pub octets-twice : (v : List ℕ) → map turned_octet (map turned_octet v) ≡ v
+octets-twice [] = refl
+octets-twice (x ∷ v) = ap₂ ◌∷◌ (turned_octet-twice x) (octets-twice v)
+
+pub are-octets : (v : List ℕ) → ((i : ℕ) → get_or v i 0 < 256) → map turned_octet v ≡ map turned v
+are-octets [] h = refl
+are-octets (x ∷ v) h = ap₂ ◌∷◌ (is-octet x (h 0)) (are-octets v (λ i. h (suc i)))
+
+-- a turned octet turned back
+pub octets-back : (v : List ℕ) → ((i : ℕ) → get_or v i 0 < 256) → map turned_octet (map turned v) ≡ v
+octets-back v h = ap (map turned_octet) (sym (are-octets v h)) ∙ octets-twice v
 
 -- a number below n * 256 + x and its octet
 low-cells-byte : (n k w x r : ℕ) → x < 256 → w ≡ r * 256 + x → k ≡ 8 + n

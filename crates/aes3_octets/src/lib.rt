@@ -8,9 +8,12 @@ pub mod laws;
 mod raw;
 /// Octets turned, as they are written.
 mod turned_sink;
+/// Packed cells turned, as they are read.
+mod turned_source;
 /// The bits of octets in the opposite order.
 mod turning;
 
 pub use raw::RawSource;
 pub use turned_sink::TurnedSink;
+pub use turned_source::{TurnedSource, first_octet};
 pub use turning::turn;

@@ -1,11 +1,11 @@
 //! Octets of cells whose first cell stands in the lowest bit, as they are written.
 
 ghost use Rattle.std.specs.Prelude.{◌≡◌, ◌+◌, ◌<◌, ◌≤◌, ◌^◌, length, map};
-ghost use Rattle.std.specs.Prelude.{min, take, true, IfOk, OnErr};
+ghost use Rattle.std.specs.Prelude.{min, take, IfOk, OnErr};
 ghost use Rattle.std.specs.Option.{is_some};
 ghost use Rattle.aes3_cell.specs.Ends.{Grew};
 ghost use Rattle.aes3_octets.specs.Octets.{turned};
-ghost use Rattle.aes3_octets.specs.Told.{all_told};
+ghost use Rattle.aes3_octets.specs.Told.{all_turned};
 
 use crate::turning::turn;
 use aes3_cell::{Fault, Sink};
@@ -31,59 +31,56 @@ fn fill_turned(octets: &[u8], piece: &mut [u8]) -> usize
     n
 }
 
-/// Hands octets to the sink behind it, with the bits of each turned where it `is_turned`, else as
-/// they are.
+/// Hands octets to the sink behind it, with the bits of each turned.
 ///
 /// Whole octets of cells are packed with the first cell of each octet in the lowest bit then: the
 /// octet that counts is turned too, but it is 0.
 #[derive(Drop)]
 pub struct TurnedSink<T: Drop> {
     sink: T,
-    is_turned: bool,
 }
 
 impl<T: Sink + Drop> TurnedSink<T> {
-    /// Hands octets to this sink, turned where it `is_turned`.
-    pub fn new(sink: T, is_turned: bool) -> Self
-        ensures sink { result.sink ≡ sink }
-        ensures turned { result.is_turned ≡ is_turned }
+    /// Hands octets to this sink, turned.
+    pub fn new(sink: T) -> Self
+        ensures { result.sink ≡ sink }
     {
-        TurnedSink { sink, is_turned }
+        TurnedSink { sink }
     }
 
-    /// Hands the first octets on, turned, and says how many the sink took.
-    fn write_turned(&mut self, octets: &[u8]) -> Result<usize, Fault>
-        requires room { T.failed self.old.sink + 1 < 2 ^ 64 }
-        requires turned { self.old.is_turned ≡ true }
-        ensures same { self.new.is_turned ≡ self.old.is_turned }
-        ensures bound { IfOk result (λ n. n ≤ length octets.now) }
-        ensures some { IfOk result (λ n. 0 < length octets.now → 0 < n) }
-        ensures bytes { IfOk result (λ n. Grew (all_told true (T.taken self.old.sink))
-            (all_told true (T.taken self.new.sink)) (take n octets.now)) }
-        ensures count { IfOk result (λ _. T.failed self.new.sink ≡ T.failed self.old.sink) }
-        ensures err { OnErr result ((T.failed self.new.sink ≡ T.failed self.old.sink + 1)
-            × (T.taken self.new.sink ≡ T.taken self.old.sink)) }
-        ensures tells { is_some (T.taken self.new.sink) ≡ is_some (T.taken self.old.sink) }
+    /// The sink behind it, which has all that this one took.
+    pub fn into_sink(self) -> T
+        ensures { result ≡ self.sink }
     {
-        let mut piece = blank_piece();
-        let n = fill_turned(octets, &mut piece);
-        self.sink.write(&piece[..n])
+        self.sink
     }
 }
 
 impl<T: Sink + Drop> Sink for TurnedSink<T> {
-    ghost taken = { λ s. all_told s.is_turned (T.taken s.sink) };
+    ghost taken = { λ s. all_turned (T.taken s.sink) };
 
-    ghost passed = { λ s. all_told s.is_turned (T.passed s.sink) };
+    ghost passed = { λ s. all_turned (T.passed s.sink) };
 
     ghost failed = { λ s. T.failed s.sink };
 
-    fn write(&mut self, buf: &[u8]) -> Result<usize, Fault> {
-        if self.is_turned {
-            self.write_turned(buf)
-        } else {
-            self.sink.write(buf)
-        }
+    /// Hands the first octets on, turned, and says how many the sink took.
+    fn write(&mut self, buf: &[u8]) -> Result<usize, Fault>
+        requires room { T.failed self.old.sink + 1 < 2 ^ 64 }
+        ensures bound { IfOk result (λ n. n ≤ length buf.now) }
+        ensures some { IfOk result (λ n. 0 < length buf.now → 0 < n) }
+        ensures bytes { IfOk result (λ n. Grew (all_turned (T.taken self.old.sink))
+            (all_turned (T.taken self.new.sink)) (take n buf.now)) }
+        ensures count { IfOk result (λ _. T.failed self.new.sink ≡ T.failed self.old.sink) }
+        ensures err { OnErr result ((T.failed self.new.sink ≡ T.failed self.old.sink + 1)
+            × (all_turned (T.taken self.new.sink) ≡ all_turned (T.taken self.old.sink))) }
+        ensures tells { is_some (all_turned (T.taken self.new.sink))
+            ≡ is_some (all_turned (T.taken self.old.sink)) }
+        ensures handed { IfOk result (λ n. Grew (T.taken self.old.sink) (T.taken self.new.sink)
+            (map turned (take n buf.now))) }
+    {
+        let mut piece = blank_piece();
+        let n = fill_turned(buf, &mut piece);
+        self.sink.write(&piece[..n])
     }
 
     fn flush(&mut self) -> Result<(), Fault> {

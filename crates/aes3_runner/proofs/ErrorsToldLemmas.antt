@@ -1,5 +1,5 @@
 -- What standard error is told of a line, by what ran.
-use Rattle.std.proofs.Common.{◌≤◌, ◌==◌, ℕ, inl, inr, Bool, true, false, Result, Ok, Err, arith}
+use Rattle.std.proofs.Common.{◌≤◌, ◌==◌, ◌&&◌, ℕ, inl, inr, Bool, true, false, Result, Ok, Err, arith}
 use Rattle.std.proofs.Common.{if◌then◌else◌}
 use Rattle.aes3_cell.specs.declared.counts.Counts.{Counts}
 use Rattle.aes3_cell.specs.declared.refusal.RunError.{RunError}
@@ -8,11 +8,12 @@ use Rattle.aes3_input.specs.Running.{Movement}
 use Rattle.aes3_arguments.specs.declared.job.LineFault.{LineFault}
 use Rattle.aes3_arguments.specs.declared.job.LineFault.TheVariants.{Usage, Help, Refused}
 use Rattle.aes3_arguments.specs.declared.line.CommandLine.{CommandLine}
+use Rattle.aes3_hints.specs.Sentences.{reads_packed, writes_packed}
 use Rattle.aes3_job.specs.declared.job.Job.{Job}
 use Rattle.aes3_job.specs.declared.job.Job.TheVariants.{Encode, Decode, Normal, Check, Account, Watch, Show}
 use Rattle.aes3_job.specs.declared.job.Job.TheVariants.{ShowChanges, Scan, Cut, Rewrite, ToPcm, FromPcm}
 use Rattle.aes3_runner.specs.JobRuns.{AnswerTold, status_by}
-use Rattle.aes3_runner.specs.OctetRuns.{OctetsRan}
+use Rattle.aes3_runner.specs.OctetRuns.{FirstFailed, PackedRan, RawBy, as_raw, written_by}
 use Rattle.aes3_runner.specs.StandardErrors.{ErrorsTold}
 use Rattle.aes3_runner.specs.WordRuns.{LineRan}
 
@@ -57,18 +58,44 @@ of-answer line job (Err error) failed sink errors status t = record {
   ];
 }
 
-of-job : (line : CommandLine) (raw : Bool) (job : Job) (ended : Bool) (source sink errors : Movement) (status : ℕ)
-    → OctetsRan raw job ended source sink errors status → ErrorsTold (Ok line) errors status
-of-job line true job ended source sink errors status r
-    = of-answer line job r.ran.answer r.ran.failed sink errors status r.ran.told
-of-job line false job ended source sink errors status r
+-- of a job whose first octet could not be read
+of-first : (line : CommandLine) (source sink errors : Movement) (status : ℕ) → FirstFailed source sink errors status
+    → ErrorsTold (Ok line) errors status
+of-first line source sink errors status r =
+    let k = r.refused.refused in
+    record {
+      known = omega (arith, k);
+      done = λ s. absurd (omega (arith, k, s));
+      usage = λ s. absurd (omega (arith, k, s));
+      refusal = λ s q. elim r.refused.told [
+        | inl k ↦ record { error = refusal.Read; line = k.1 q }
+        | inr k ↦ record { error = refusal.Write; line = k.1 q }
+      ];
+    }
+
+of-packed : (line : CommandLine) (turned : Bool) (job : Job) (ended : Bool) (source sink errors : Movement) (status : ℕ)
+    → PackedRan turned job ended source sink errors status → ErrorsTold (Ok line) errors status
+of-packed line true job ended source sink errors status r = elim r [
+  | inl k ↦ of-answer line job k.ran.ran.answer k.ran.ran.failed sink errors status k.ran.ran.told
+  | inr k ↦ of-first line source sink errors status k
+]
+of-packed line false job ended source sink errors status r
     = of-answer line job r.answer r.failed sink errors status r.told
+
+of-job : (line : CommandLine) (raw turned : Bool) (job : Job) (ended : Bool) (source sink errors : Movement) (status : ℕ)
+    → RawBy raw (λ ended source. PackedRan turned job ended source sink errors status) ended source
+    → ErrorsTold (Ok line) errors status
+of-job line true turned job ended source sink errors status r
+    = of-packed line turned job r.told_end (as_raw r.counted source) sink errors status r.ran
+of-job line false turned job ended source sink errors status r
+    = of-packed line turned job ended source sink errors status r
 
 -- of a line
 pub errors-told : (line : Result CommandLine LineFault) (ended : Bool) (source sink errors : Movement) (status : ℕ)
     → LineRan line ended source sink errors status → ErrorsTold line errors status
 errors-told (Ok line) ended source sink errors status r
-    = of-job line line.octets.raw_in line.job ended source sink errors status r
+    = of-job line line.octets.raw_in (line.octets.lsb_first && reads_packed line.job) line.job ended source
+    (written_by (line.octets.lsb_first && writes_packed line.job) sink) errors status r
 errors-told (Err (Usage text)) ended source sink errors status r =
     let s = r.2.0 in
     record {

@@ -3,12 +3,13 @@ use Rattle.std.proofs.Common.{◌≡◌, ◌≢◌, ℕ, ◌+◌, inl, inr, Bool
 use Rattle.std.proofs.Common.{arith}
 use Rattle.aes3_cell.specs.Ends.{Grew}
 use Rattle.aes3_cell.specs.declared.refusal.RunError.{RunError}
-use Rattle.aes3_cell.specs.declared.refusal.RunError.TheVariants.{Write}
+use Rattle.aes3_cell.specs.declared.refusal.RunError.TheVariants.{Read, Write}
 use Rattle.aes3_cell.specs.declared.counts.Counts.{Counts}
 use Rattle.aes3_input.specs.Running.{Movement, Quiet}
 use Rattle.aes3_input.proofs.InputRuns.{run-write, run-sink_quiet}
 use Rattle.aes3_job.specs.declared.job.Job.{Job}
 use Rattle.aes3_runner.specs.JobRuns.{Flushed, JobRan, RunRan, status_by}
+use Rattle.aes3_runner.specs.OctetRuns.{ReadRefused}
 use Rattle.aes3_runner.specs.Lines.{refusal_line}
 
 -- a run of a job, by what the job is
@@ -62,3 +63,15 @@ pub done : (job : Job) {ended : Bool} {source errors : Movement} {t₀ t₁ : Op
     → status ≡ status_by job counts → Grew errors.old errors.new []
     → JobRan job ended source (record { old = t₀; new = t₁; failed_old = f₀; failed_new = f₁ }) errors status
 done job {f₁ = f₁} {counts = counts} r s l = record { answer = Ok counts; failed = f₁; run = r; told = (s, refl, l) }
+
+-- a refusal before anything was run
+pub read-refused : {sink errors : Movement} {status : ℕ} {told : RunError} → Flushed Read sink told → status ≡ 3
+    → (Quiet errors → Grew errors.old errors.new (refusal_line told)) → ReadRefused sink errors status
+read-refused {errors = errors} f s l = record {
+  refused = s;
+  nothing = f.0;
+  told = elim f.1 [
+    | inl k ↦ inl (k.1, λ q. subst (λ v. Grew errors.old errors.new (refusal_line v)) k.0 (l q))
+    | inr k ↦ inr (k.2, λ q. subst (λ v. Grew errors.old errors.new (refusal_line v)) k.1 (l q))
+  ];
+}

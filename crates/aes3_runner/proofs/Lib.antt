@@ -1,3 +1,4 @@
+mod PackedOutputs
 pub mod ErrorsToldLemmas
 pub mod Flushes
 pub mod RawRuns

@@ -1,9 +1,16 @@
--- What the program does for a job whose octets are laid out in other ways than the job reads them.
-use Rattle.std.specs.Prelude.{ℕ, Bool, true, false, IsTrue}
-use Rattle.aes3_input.specs.Running.{Movement}
-use Rattle.aes3_octets.specs.Told.{raw_told}
+-- What the program does for a job whose octets are laid out in other ways than the job reads and writes them.
+use Rattle.std.specs.Prelude.{ℕ, List, [], Bool, true, false, Option, None, IsTrue, map, ◌≡◌, ◌⊎◌, ◌&&◌}
+use Rattle.aes3_level.specs.declared.level.Level.{Level}
+use Rattle.aes3_cell.specs.Ends.{Grew}
+use Rattle.aes3_cell.specs.Packed.{Packs}
+use Rattle.aes3_cell.specs.declared.refusal.RunError.TheVariants.{Read, Write}
+use Rattle.aes3_input.specs.Running.{Movement, Quiet, Failed}
+use Rattle.aes3_octets.specs.Octets.{PacksTurned, turned}
+use Rattle.aes3_octets.specs.Told.{all_turned, only, raw_told, turned_told}
 use Rattle.aes3_job.specs.declared.job.Job.{Job}
-use Rattle.aes3_runner.specs.JobRuns.{JobRan}
+use Rattle.aes3_arguments.specs.declared.layout.Octets.{Octets}
+use Rattle.aes3_hints.specs.Sentences.{reads_packed, writes_packed}
+use Rattle.aes3_runner.specs.JobRuns.{IsTold, JobRan, promise_of}
 
 -- how a source of raw octets moved, as the job reads them: with the octet that counts behind all of them, or without it
 -- so far
@@ -15,16 +22,100 @@ as_raw counted source = record {
   failed_new = source.failed_new;
 }
 
--- a job on raw octets: it is run on their packed form. The octet that counts came only once the source had ended, and
--- before the job was told the end.
-pub record RawRan (job : Job) (ended : Bool) (source sink errors : Movement) (status : ℕ) : Type 0 where
+-- how a source moved whose octets have their first cell in the lowest bit, as the job reads them: behind its first
+-- octet, which is held back then, if there is one, up to the octet that is held back now, if one is
+abbrev pub as_turned : Option ℕ → Option ℕ → Movement → Movement
+as_turned first held source = record {
+  old = turned_told first source.old;
+  new = turned_told held source.new;
+  failed_old = source.failed_old;
+  failed_new = source.failed_new;
+}
+
+-- how a sink moved as the job wrote to it, where each octet is turned on the way
+abbrev pub written_by : Bool → Movement → Movement
+written_by true sink = record {
+  old = all_turned sink.old;
+  new = all_turned sink.new;
+  failed_old = sink.failed_old;
+  failed_new = sink.failed_new;
+}
+written_by false sink = sink
+
+-- a run on raw octets: it is one on their packed form. The octet that counts came only once the source had ended, and
+-- before the end was told.
+pub record RawRan (Ran : Bool → Movement → Type 0) (ended : Bool) (source : Movement) : Type 0 where
   pub counted : Bool
   pub told_end : Bool
   pub behind_all : IsTrue counted → IsTrue ended
   pub before_end : IsTrue told_end → IsTrue counted
-  pub ran : JobRan job told_end (as_raw counted source) sink errors status
+  pub ran : Ran told_end (as_raw counted source)
 
--- a job on octets that are raw, or on input as it is
-abbrev pub OctetsRan : Bool → Job → Bool → Movement → Movement → Movement → ℕ → Type 0
-OctetsRan true job ended source sink errors status = RawRan job ended source sink errors status
-OctetsRan false job ended source sink errors status = JobRan job ended source sink errors status
+-- a job on packed cells with the first of each octet in the lowest bit, of which the first octet was read, if there is
+-- one: it is run on the octets turned, and the last, which counts, as it is. One octet is held back until the source has
+-- ended, and none once the job was told the end.
+pub record BehindRan (first : Option ℕ) (job : Job) (ended : Bool) (source sink errors : Movement) (status : ℕ) : Type 0
+  where
+    pub held : Option ℕ
+    pub told_end : Bool
+    pub behind_all : held ≡ None → IsTrue ended
+    pub before_end : IsTrue told_end → held ≡ None
+    pub ran : JobRan job told_end (as_turned first held source) sink errors status
+
+-- the same from the first octet on
+pub record TurnedRan (job : Job) (ended : Bool) (source sink errors : Movement) (status : ℕ) : Type 0 where
+  pub first : Option ℕ
+  pub begun : Option (List ℕ)
+  pub read : Grew source.old begun (only first)
+  pub ran : BehindRan first job ended (record {
+    old = begun;
+    new = source.new;
+    failed_old = source.failed_old;
+    failed_new = source.failed_new;
+  }) sink errors status
+
+-- that the input can't be read is refused, or that the sink failed at its flush then; nothing is written
+pub record ReadRefused (sink errors : Movement) (status : ℕ) : Type 0 where
+  pub refused : status ≡ 3
+  pub nothing : sink.new ≡ sink.old
+  pub told : (Quiet sink × IsTold errors Read) ⊎ (Failed sink × IsTold errors Write)
+
+-- the source failed at its first octet
+pub record FirstFailed (source sink errors : Movement) (status : ℕ) : Type 0 where
+  pub failed : Failed source
+  pub unread : Grew source.old source.new []
+  pub refused : ReadRefused sink errors status
+
+-- a job on packed cells whose octets are turned, or on input as it is
+abbrev pub PackedRan : Bool → Job → Bool → Movement → Movement → Movement → ℕ → Type 0
+PackedRan true job ended source sink errors status =
+    TurnedRan job ended source sink errors status ⊎ FirstFailed source sink errors status
+PackedRan false job ended source sink errors status = JobRan job ended source sink errors status
+
+-- a run on octets that are raw, or on input as it is
+abbrev pub RawBy : Bool → (Bool → Movement → Type 0) → Bool → Movement → Type 0
+RawBy true Ran ended source = RawRan Ran ended source
+RawBy false Ran ended source = Ran ended source
+
+-- a job on such octets, whose output is as it writes it
+abbrev pub SourceRan : Octets → Job → Bool → Movement → Movement → Movement → ℕ → Type 0
+SourceRan octets job ended source sink errors status =
+    RawBy octets.raw_in
+    (λ ended source. PackedRan (octets.lsb_first && reads_packed job) job ended source sink errors status)
+    ended source
+
+-- a job whose octets are laid out so: packed cells are turned where they are read and where they are written, and
+-- nothing else is
+abbrev pub OctetsRan : Octets → Job → Bool → Movement → Movement → Movement → ℕ → Type 0
+OctetsRan octets job ended source sink errors status =
+    SourceRan octets job ended source (written_by (octets.lsb_first && writes_packed job) sink) errors status
+
+-- octets that pack cells, and turned with the last of them pack the same with the first of each octet in the lowest bit
+pub record PackBoth (octets : List ℕ) : Type 0 where
+  pub cells : List Level
+  pub packs : Packs octets cells
+  pub turned : PacksTurned (map turned octets) cells
+
+-- whatever a job writes as packed cells can be turned with the last octet: it is whole octets of cells
+abbrev pub OutputsCanBeTurned : Type 0
+OutputsCanBeTurned = (job : Job) → IsTrue (writes_packed job) → (bytes : List ℕ) → PackBoth ((promise_of job).whole bytes)

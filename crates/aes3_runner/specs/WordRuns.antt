@@ -28,7 +28,7 @@ FaultRan (Refused error) sink errors status =
 -- a line that asks for a job, which is run; or for none, which is told and nothing is read
 abbrev pub LineRan : Result CommandLine LineFault → Bool → Movement → Movement → Movement → ℕ → Type 0
 LineRan (Ok line) ended source sink errors status =
-    OctetsRan line.octets.raw_in line.job ended source sink errors status
+    OctetsRan line.octets line.job ended source sink errors status
 LineRan (Err fault) ended source sink errors status =
     Grew source.old source.new [] × Quiet source × FaultRan fault sink errors status
 
@@ -38,7 +38,7 @@ pub record JobOfWords (words : List (List ℕ)) (ended : Bool) (source sink erro
   pub asked : IsJobOf words job
   pub octets : Octets
   pub laid_out : HaveOctets words octets
-  pub ran : OctetsRan octets.raw_in job ended source sink errors status
+  pub ran : OctetsRan octets job ended source sink errors status
 
 pub record FaultOfWords (words : List (List ℕ)) (source sink errors : Movement) (status : ℕ) : Type 0 where
   pub fault : LineFault

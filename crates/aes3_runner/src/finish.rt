@@ -2,6 +2,7 @@
 
 ghost use Rattle.std.specs.Prelude.{◌≡◌, ◌≢◌, ◌<◌, ◌≤◌, ◌+◌, ◌^◌, IsTrue};
 ghost use Rattle.aes3_runner.specs.JobRuns.{Flushed, JobRan};
+ghost use Rattle.aes3_runner.specs.OctetRuns.{ReadRefused};
 ghost use Rattle.aes3_input.specs.Running.{movement_of};
 
 use crate::job_run::{exit_status, run_job};
@@ -54,8 +55,55 @@ pub fn finish_job<S: Source, T: Sink, E: Sink, O: Observer>(
     ensures same { O.is_silent observer.new ≡ O.is_silent observer.old }
 {
     observer.begins(job);
+    finish_begun(job, source, sink, errors, observer)
+}
+
+/// Does the same for a job of which the observer was told.
+pub(crate) fn finish_begun<S: Source, T: Sink, E: Sink, O: Observer>(
+    job: &Job,
+    source: &mut S,
+    sink: &mut T,
+    errors: &mut E,
+    observer: &mut O,
+) -> u8
+    requires source_room { S.failed source.old + 1 < 2 ^ 64 }
+    requires sink_room { T.failed sink.old + 1 < 2 ^ 64 }
+    requires errors_room { E.failed errors.old + 1 < 2 ^ 64 }
+    ensures ran { JobRan job.now (S.has_ended source.new)
+        (movement_of S.given S.failed source.old source.new)
+        (movement_of T.taken T.failed sink.old sink.new)
+        (movement_of E.taken E.failed errors.old errors.new) result }
+    ensures passed_on { T.failed sink.new ≡ T.failed sink.old
+        → T.passed sink.new ≡ T.taken sink.new }
+    ensures errors { E.failed errors.new ≤ E.failed errors.old + 1 }
+    ensures left { E.passed errors.old ≡ E.taken errors.old
+        → E.failed errors.new ≡ E.failed errors.old → E.passed errors.new ≡ E.taken errors.new }
+    ensures silent { IsTrue (O.is_silent observer.old) → O.told observer.new ≡ O.told observer.old }
+    ensures same { O.is_silent observer.new ≡ O.is_silent observer.old }
+{
     match run_job(job, source, sink) {
         Ok(counts) => exit_status(job, &counts),
         Err(error) => refuse(flushed(error, sink), errors, observer),
     }
+}
+
+/// Refuses a job whose input can't be read, before it is run, as [`finish_job`] does behind that.
+pub(crate) fn refuse_unread<T: Sink, E: Sink, O: Observer>(
+    sink: &mut T,
+    errors: &mut E,
+    observer: &mut O,
+) -> u8
+    requires sink_room { T.failed sink.old + 1 < 2 ^ 64 }
+    requires errors_room { E.failed errors.old + 1 < 2 ^ 64 }
+    ensures refused { ReadRefused (movement_of T.taken T.failed sink.old sink.new)
+        (movement_of E.taken E.failed errors.old errors.new) result }
+    ensures passed_on { T.failed sink.new ≡ T.failed sink.old
+        → T.passed sink.new ≡ T.taken sink.new }
+    ensures errors { E.failed errors.new ≤ E.failed errors.old + 1 }
+    ensures left { E.passed errors.old ≡ E.taken errors.old
+        → E.failed errors.new ≡ E.failed errors.old → E.passed errors.new ≡ E.taken errors.new }
+    ensures silent { O.told observer.new ≡ O.told observer.old }
+    ensures same { O.is_silent observer.new ≡ O.is_silent observer.old }
+{
+    refuse(flushed(RunError::Read, sink), errors, observer)
 }

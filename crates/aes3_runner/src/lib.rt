@@ -17,7 +17,7 @@ mod run;
 
 pub use finish::finish_job;
 pub use job_run::{DONE, FAULTY, run_job};
-pub use octets::{Ran, run_octets};
+pub use octets::{Ran, outputs_can_be_turned, run_octets};
 pub use program::{file_of_line, run_and_explain};
 pub use refusal::{REFUSED, put_refusal, refuse};
 pub use run::{USAGE, Unread, run_line, run_words, tell_unread};

@@ -1,82 +1,219 @@
-//! A job between ends whose octets are laid out in other ways than the job reads them.
+//! A job between ends whose octets are laid out in other ways than the job reads and writes them.
 
-ghost use Rattle.std.specs.Prelude.{◌≡◌, ◌<◌, ◌≤◌, ◌+◌, ◌^◌, IsTrue};
+ghost use Rattle.std.specs.Prelude.{◌≡◌, ◌&&◌, ◌<◌, ◌≤◌, ◌+◌, ◌^◌, IsTrue, None, true};
+ghost use Rattle.aes3_hints.specs.Sentences.{reads_packed};
 ghost use Rattle.aes3_input.specs.Running.{movement_of};
-ghost use Rattle.aes3_runner.specs.OctetRuns.{OctetsRan, RawRan};
+ghost use Rattle.aes3_runner.specs.OctetRuns.{BehindRan, OctetsRan, OutputsCanBeTurned, PackedRan, SourceRan};
 
-use crate::finish::finish_job;
+use crate::finish::{finish_begun, finish_job, refuse_unread};
 use aes3_arguments::Octets;
 use aes3_cell::{Sink, Source};
+use aes3_hints::{reads_packed, writes_packed};
 use aes3_job::{Job, Observer};
-use aes3_octets::RawSource;
+use aes3_octets::{RawSource, TurnedSink, TurnedSource, first_octet};
 
-/// The exit status of a run, and the source behind it.
+/// The exit status of a run, and the ends behind it.
 #[derive(Drop)]
-pub struct Ran<S: Drop> {
+pub struct Ran<S: Drop, T: Drop> {
     pub status: u8,
     pub source: S,
+    pub sink: T,
 }
 
-/// Runs a job whose octets are laid out so, as [`finish_job`] does.
-pub fn run_octets<S: Source + Drop, T: Sink, E: Sink, O: Observer>(
+/// Runs a job whose octets are laid out so, as [`finish_job`] does: where the first cell of each
+/// octet stands in the lowest bit, packed cells are turned that it reads, and those that it writes.
+pub fn run_octets<S: Source + Drop, T: Sink + Drop, E: Sink, O: Observer>(
     octets: Octets,
     job: &Job,
     source: S,
-    sink: &mut T,
+    sink: T,
     errors: &mut E,
     observer: &mut O,
-) -> Ran<S>
+) -> Ran<S, T>
     requires source_room { S.failed source + 1 < 2 ^ 64 }
-    requires sink_room { T.failed sink.old + 1 < 2 ^ 64 }
+    requires sink_room { T.failed sink + 1 < 2 ^ 64 }
     requires errors_room { E.failed errors.old + 1 < 2 ^ 64 }
-    ensures ran { OctetsRan octets.raw_in job.now (S.has_ended result.source)
+    ensures ran { OctetsRan octets job.now (S.has_ended result.source)
         (movement_of S.given S.failed source result.source)
-        (movement_of T.taken T.failed sink.old sink.new)
+        (movement_of T.taken T.failed sink result.sink)
         (movement_of E.taken E.failed errors.old errors.new) result.status }
-    ensures passed_on { T.failed sink.new ≡ T.failed sink.old
-        → T.passed sink.new ≡ T.taken sink.new }
+    ensures passed_on { T.failed result.sink ≡ T.failed sink
+        → T.passed result.sink ≡ T.taken result.sink }
     ensures errors { E.failed errors.new ≤ E.failed errors.old + 1 }
     ensures left { E.passed errors.old ≡ E.taken errors.old
         → E.failed errors.new ≡ E.failed errors.old → E.passed errors.new ≡ E.taken errors.new }
     ensures silent { IsTrue (O.is_silent observer.old) → O.told observer.new ≡ O.told observer.old }
     ensures same { O.is_silent observer.new ≡ O.is_silent observer.old }
 {
-    if octets.raw_in {
-        return run_raw(job, source, sink, errors, observer);
+    if octets.lsb_first && writes_packed(job) {
+        let ran = run_source(octets, job, source, TurnedSink::new(sink), errors, observer);
+        return Ran {
+            status: ran.status,
+            source: ran.source,
+            sink: ran.sink.into_sink(),
+        };
     }
-    let mut source = source;
-    let status = finish_job(job, &mut source, sink, errors, observer);
-    Ran { status, source }
+    run_source(octets, job, source, sink, errors, observer)
 }
 
-/// Runs a job of packed cells on raw octets, as [`finish_job`] does on these and the octet that
-/// counts behind them.
-fn run_raw<S: Source + Drop, T: Sink, E: Sink, O: Observer>(
+/// Whether octets that are laid out so are turned before the job reads them.
+fn turns_input(octets: Octets, job: &Job) -> bool
+    ensures { result ≡ octets.lsb_first && reads_packed job.now }
+{
+    octets.lsb_first && reads_packed(job)
+}
+
+/// Runs a job that reads octets laid out so, and writes its output as it is.
+fn run_source<S: Source + Drop, T: Sink + Drop, E: Sink, O: Observer>(
+    octets: Octets,
     job: &Job,
     source: S,
-    sink: &mut T,
+    sink: T,
     errors: &mut E,
     observer: &mut O,
-) -> Ran<S>
+) -> Ran<S, T>
     requires source_room { S.failed source + 1 < 2 ^ 64 }
-    requires sink_room { T.failed sink.old + 1 < 2 ^ 64 }
+    requires sink_room { T.failed sink + 1 < 2 ^ 64 }
     requires errors_room { E.failed errors.old + 1 < 2 ^ 64 }
-    ensures ran { RawRan job.now (S.has_ended result.source)
+    ensures ran { SourceRan octets job.now (S.has_ended result.source)
         (movement_of S.given S.failed source result.source)
-        (movement_of T.taken T.failed sink.old sink.new)
+        (movement_of T.taken T.failed sink result.sink)
         (movement_of E.taken E.failed errors.old errors.new) result.status }
-    ensures passed_on { T.failed sink.new ≡ T.failed sink.old
-        → T.passed sink.new ≡ T.taken sink.new }
+    ensures passed_on { T.failed result.sink ≡ T.failed sink
+        → T.passed result.sink ≡ T.taken result.sink }
     ensures errors { E.failed errors.new ≤ E.failed errors.old + 1 }
     ensures left { E.passed errors.old ≡ E.taken errors.old
         → E.failed errors.new ≡ E.failed errors.old → E.passed errors.new ≡ E.taken errors.new }
     ensures silent { IsTrue (O.is_silent observer.old) → O.told observer.new ≡ O.told observer.old }
     ensures same { O.is_silent observer.new ≡ O.is_silent observer.old }
 {
-    let mut raw = RawSource::new(source);
-    let status = finish_job(job, &mut raw, sink, errors, observer);
+    let is_turned = turns_input(octets, job);
+    if octets.raw_in {
+        let raw = RawSource::new(source);
+        let ran = run_packed(is_turned, job, raw, sink, errors, observer);
+        return Ran {
+            status: ran.status,
+            source: ran.source.into_source(),
+            sink: ran.sink,
+        };
+    }
+    run_packed(is_turned, job, source, sink, errors, observer)
+}
+
+/// Runs a job on packed cells whose octets are turned, or on input as it is.
+fn run_packed<S: Source + Drop, T: Sink + Drop, E: Sink, O: Observer>(
+    is_turned: bool,
+    job: &Job,
+    source: S,
+    sink: T,
+    errors: &mut E,
+    observer: &mut O,
+) -> Ran<S, T>
+    requires source_room { S.failed source + 1 < 2 ^ 64 }
+    requires sink_room { T.failed sink + 1 < 2 ^ 64 }
+    requires errors_room { E.failed errors.old + 1 < 2 ^ 64 }
+    ensures ran { PackedRan is_turned job.now (S.has_ended result.source)
+        (movement_of S.given S.failed source result.source)
+        (movement_of T.taken T.failed sink result.sink)
+        (movement_of E.taken E.failed errors.old errors.new) result.status }
+    ensures passed_on { T.failed result.sink ≡ T.failed sink
+        → T.passed result.sink ≡ T.taken result.sink }
+    ensures errors { E.failed errors.new ≤ E.failed errors.old + 1 }
+    ensures left { E.passed errors.old ≡ E.taken errors.old
+        → E.failed errors.new ≡ E.failed errors.old → E.passed errors.new ≡ E.taken errors.new }
+    ensures silent { IsTrue (O.is_silent observer.old) → O.told observer.new ≡ O.told observer.old }
+    ensures same { O.is_silent observer.new ≡ O.is_silent observer.old }
+{
+    if is_turned {
+        return run_turned(job, source, sink, errors, observer);
+    }
+    let mut source = source;
+    let mut sink = sink;
+    let status = finish_job(job, &mut source, &mut sink, errors, observer);
     Ran {
         status,
-        source: raw.into_source(),
+        source,
+        sink,
     }
 }
+
+/// Runs a job on packed cells with the first of each octet in the lowest bit. The first octet is
+/// read before the job is: where that fails, it is refused as the job would.
+fn run_turned<S: Source + Drop, T: Sink + Drop, E: Sink, O: Observer>(
+    job: &Job,
+    source: S,
+    sink: T,
+    errors: &mut E,
+    observer: &mut O,
+) -> Ran<S, T>
+    requires source_room { S.failed source + 1 < 2 ^ 64 }
+    requires sink_room { T.failed sink + 1 < 2 ^ 64 }
+    requires errors_room { E.failed errors.old + 1 < 2 ^ 64 }
+    ensures ran { PackedRan true job.now (S.has_ended result.source)
+        (movement_of S.given S.failed source result.source)
+        (movement_of T.taken T.failed sink result.sink)
+        (movement_of E.taken E.failed errors.old errors.new) result.status }
+    ensures passed_on { T.failed result.sink ≡ T.failed sink
+        → T.passed result.sink ≡ T.taken result.sink }
+    ensures errors { E.failed errors.new ≤ E.failed errors.old + 1 }
+    ensures left { E.passed errors.old ≡ E.taken errors.old
+        → E.failed errors.new ≡ E.failed errors.old → E.passed errors.new ≡ E.taken errors.new }
+    ensures silent { IsTrue (O.is_silent observer.old) → O.told observer.new ≡ O.told observer.old }
+    ensures same { O.is_silent observer.new ≡ O.is_silent observer.old }
+{
+    observer.begins(job);
+    let mut source = source;
+    match first_octet(&mut source) {
+        Ok(first) => run_behind(first, job, source, sink, errors, observer),
+        Err(_) => {
+            let mut sink = sink;
+            let status = refuse_unread(&mut sink, errors, observer);
+            Ran {
+                status,
+                source,
+                sink,
+            }
+        }
+    }
+}
+
+/// Runs a job on such cells, of which `first` was read, and of which the observer was told.
+fn run_behind<S: Source + Drop, T: Sink + Drop, E: Sink, O: Observer>(
+    first: Option<u8>,
+    job: &Job,
+    source: S,
+    sink: T,
+    errors: &mut E,
+    observer: &mut O,
+) -> Ran<S, T>
+    requires source_room { S.failed source + 1 < 2 ^ 64 }
+    requires sink_room { T.failed sink + 1 < 2 ^ 64 }
+    requires errors_room { E.failed errors.old + 1 < 2 ^ 64 }
+    requires end { first ≡ None → IsTrue (S.has_ended source) }
+    ensures ran { BehindRan first job.now (S.has_ended result.source)
+        (movement_of S.given S.failed source result.source)
+        (movement_of T.taken T.failed sink result.sink)
+        (movement_of E.taken E.failed errors.old errors.new) result.status }
+    ensures passed_on { T.failed result.sink ≡ T.failed sink
+        → T.passed result.sink ≡ T.taken result.sink }
+    ensures errors { E.failed errors.new ≤ E.failed errors.old + 1 }
+    ensures left { E.passed errors.old ≡ E.taken errors.old
+        → E.failed errors.new ≡ E.failed errors.old → E.passed errors.new ≡ E.taken errors.new }
+    ensures silent { IsTrue (O.is_silent observer.old) → O.told observer.new ≡ O.told observer.old }
+    ensures same { O.is_silent observer.new ≡ O.is_silent observer.old }
+{
+    let mut turned = TurnedSource::new(source, first);
+    let mut sink = sink;
+    let status = finish_begun(job, &mut turned, &mut sink, errors, observer);
+    Ran {
+        status,
+        source: turned.into_source(),
+        sink,
+    }
+}
+
+/// Packed cells that a job writes can be turned with the octet that counts, since they are whole
+/// octets of them.
+pub fn outputs_can_be_turned()
+    ensures { OutputsCanBeTurned }
+{}

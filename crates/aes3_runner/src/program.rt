@@ -34,24 +34,24 @@ pub fn run_and_explain<
     C: Clock + Drop,
     S: Source + Drop,
     P: Sink + Drop,
-    T: Sink,
+    T: Sink + Drop,
     E: Sink,
     H: Sink + Drop,
 >(
     line: Result<CommandLine<'_>, LineFault>,
     words: &[&str],
     source: Progress<'a, C, Watched<S>, P>,
-    sink: &mut T,
+    sink: T,
     errors: &mut E,
     hints: &mut Hints<H>,
-) -> Ran<Progress<'a, C, Watched<S>, P>>
+) -> Ran<Progress<'a, C, Watched<S>, P>, T>
     requires source_room { S.failed source.source.source + 1 < 2 ^ 64 }
-    requires sink_room { T.failed sink.old + 1 < 2 ^ 64 }
+    requires sink_room { T.failed sink + 1 < 2 ^ 64 }
     requires errors_room { E.failed errors.old + 1 < 2 ^ 64 }
     ensures ran { LineRan line.entry (S.has_ended result.source.source.source)
         (movement_of S.given S.failed source.entry.source.source
         result.source.source.source)
-        (movement_of T.taken T.failed sink.old sink.new)
+        (movement_of T.taken T.failed sink result.sink)
         (movement_of E.taken E.failed errors.old errors.new) result.status }
     ensures told { ErrorsTold line.entry
         (movement_of E.taken E.failed errors.old errors.new) result.status }
@@ -60,8 +60,8 @@ pub fn run_and_explain<
     ensures errors { E.failed errors.new ≤ E.failed errors.old + 1 }
     ensures left { E.passed errors.old ≡ E.taken errors.old
         → E.failed errors.new ≡ E.failed errors.old → E.passed errors.new ≡ E.taken errors.new }
-    ensures passed_on { T.passed sink.old ≡ T.taken sink.old → T.failed sink.new ≡ T.failed sink.old
-        → T.passed sink.new ≡ T.taken sink.new }
+    ensures passed_on { T.passed sink ≡ T.taken sink → T.failed result.sink ≡ T.failed sink
+        → T.passed result.sink ≡ T.taken result.sink }
 {
     let file = file_of_line(&line);
     let mut ran = run_line(line, source, sink, errors, hints);

@@ -113,22 +113,22 @@ pub fn tell_unread<E: Sink, O: Observer>(fault: Unread, errors: &mut E, observer
 /// source is what the line reads. A sink that held nothing before and did not fail has passed on all
 /// that it took, and so have the errors. Refusals are told on `errors`, whose own faults change
 /// nothing. The observer is told how it goes on; one that is silent writes nothing.
-pub fn run_line<S: Source + Drop, T: Sink, E: Sink, O: Observer>(
+pub fn run_line<S: Source + Drop, T: Sink + Drop, E: Sink, O: Observer>(
     line: Result<CommandLine<'_>, LineFault>,
     source: S,
-    sink: &mut T,
+    sink: T,
     errors: &mut E,
     observer: &mut O,
-) -> Ran<S>
+) -> Ran<S, T>
     requires source_room { S.failed source + 1 < 2 ^ 64 }
-    requires sink_room { T.failed sink.old + 1 < 2 ^ 64 }
+    requires sink_room { T.failed sink + 1 < 2 ^ 64 }
     requires errors_room { E.failed errors.old + 1 < 2 ^ 64 }
     ensures ran { LineRan line.entry (S.has_ended result.source)
         (movement_of S.given S.failed source result.source)
-        (movement_of T.taken T.failed sink.old sink.new)
+        (movement_of T.taken T.failed sink result.sink)
         (movement_of E.taken E.failed errors.old errors.new) result.status }
-    ensures passed_on { T.passed sink.old ≡ T.taken sink.old → T.failed sink.new ≡ T.failed sink.old
-        → T.passed sink.new ≡ T.taken sink.new }
+    ensures passed_on { T.passed sink ≡ T.taken sink → T.failed result.sink ≡ T.failed sink
+        → T.passed result.sink ≡ T.taken result.sink }
     ensures errors { E.failed errors.new ≤ E.failed errors.old + 1 }
     ensures left { E.passed errors.old ≡ E.taken errors.old
         → E.failed errors.new ≡ E.failed errors.old → E.passed errors.new ≡ E.taken errors.new }
@@ -137,31 +137,36 @@ pub fn run_line<S: Source + Drop, T: Sink, E: Sink, O: Observer>(
 {
     match line {
         Ok(line) => run_octets(line.octets, &line.job, source, sink, errors, observer),
-        Err(fault) => Ran {
-            status: tell_fault(fault, sink, errors, observer),
-            source,
-        },
+        Err(fault) => {
+            let mut sink = sink;
+            let status = tell_fault(fault, &mut sink, errors, observer);
+            Ran {
+                status,
+                source,
+                sink,
+            }
+        }
     }
 }
 
 /// Runs a command line, without the program's name, whose input is the source, as [`run_line`] does.
-pub fn run_words<S: Source + Drop, T: Sink, E: Sink, O: Observer>(
+pub fn run_words<S: Source + Drop, T: Sink + Drop, E: Sink, O: Observer>(
     alloc: Global,
     words: &[&str],
     source: S,
-    sink: &mut T,
+    sink: T,
     errors: &mut E,
     observer: &mut O,
-) -> Ran<S>
+) -> Ran<S, T>
     requires source_room { S.failed source + 1 < 2 ^ 64 }
-    requires sink_room { T.failed sink.old + 1 < 2 ^ 64 }
+    requires sink_room { T.failed sink + 1 < 2 ^ 64 }
     requires errors_room { E.failed errors.old + 1 < 2 ^ 64 }
     ensures ran { WordsRan (map (λ word. word.now) words.now) (S.has_ended result.source)
         (movement_of S.given S.failed source result.source)
-        (movement_of T.taken T.failed sink.old sink.new)
+        (movement_of T.taken T.failed sink result.sink)
         (movement_of E.taken E.failed errors.old errors.new) result.status }
-    ensures passed_on { T.passed sink.old ≡ T.taken sink.old → T.failed sink.new ≡ T.failed sink.old
-        → T.passed sink.new ≡ T.taken sink.new }
+    ensures passed_on { T.passed sink ≡ T.taken sink → T.failed result.sink ≡ T.failed sink
+        → T.passed result.sink ≡ T.taken result.sink }
     ensures errors { E.failed errors.new ≤ E.failed errors.old + 1 }
     ensures left { E.passed errors.old ≡ E.taken errors.old
         → E.failed errors.new ≡ E.failed errors.old → E.passed errors.new ≡ E.taken errors.new }

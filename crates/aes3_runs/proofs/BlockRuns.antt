@@ -168,7 +168,7 @@ behind-numbers zero bs h = h
 behind-numbers (suc n) [] h = h
 behind-numbers (suc n) (b ∷ bs) h = behind-numbers n bs h.1
 
-cut-each : (from count : ℕ) (bs : List (List (List Bool))) → EachBlock27 bs → EachBlock27 (cut_blocks from count bs)
+pub cut-each : (from count : ℕ) (bs : List (List (List Bool))) → EachBlock27 bs → EachBlock27 (cut_blocks from count bs)
 cut-each from count bs h = front-numbers count (drop from bs) (behind-numbers from bs h)
 
 cut-bytes : (form : Form) (from count : ℕ) (bs : List (List (List Bool))) → EachBlock27 bs
@@ -208,7 +208,7 @@ pub alike-begun : (f : List (List Bool) → List ℕ) (c : List Level)
 alike-begun f c = blocks-output (λ n b. f b) 0 (decided c) ∙ alike-behind f 0 (decided_blocks c)
 
 -- a lawful line is read back
-lines : (bs : List (List (List Bool))) → EachBlock27 bs → length (stream Low bs) % word_len ≡ 0
+pub lines : (bs : List (List (List Bool))) → EachBlock27 bs → length (stream Low bs) % word_len ≡ 0
 unfolding stream
 lines bs h = ap (λ n. n % word_len) (length-stream Low bs h ∙ ap (λ k. slot_count bs * k) word_len_64)
     ∙ ap (λ k. (slot_count bs * 64) % k) word_len_64 ∙ no-rest (slot_count bs)
