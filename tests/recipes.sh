@@ -56,6 +56,9 @@ octets() {
 # So many zero blocks packed, without the last octet.
 packed_blocks() { repeated "$1" "$work/packed"; }
 
+# The octets of zero blocks, each with its first cell in the lowest bit.
+lowest_first() { LC_ALL=C tr '\350\314\344\342' '\027\063\047\107'; }
+
 # The zero block packed, without the last octet.
 make_packed() {
     octets E8 CC CC CC CC CC CC CC

@@ -146,7 +146,7 @@ aes3: byte 0 is neither cell nor separator (line 1, column 1): a session of sigr
         "$program" encode --packed-out < "$root/examples/speech.block" > "$folder/speech"
         perl -0777 -ne 'print pack("B*", unpack("b*", $_))' "$folder/speech" > "$folder/turned"
         at_terminal "packed cells with the first in the lowest bit" \
-            "aes3: the cells look packed with the first in the lowest bit: \`perl -0777 -ne 'print pack(\"B*\", unpack(\"b*\", \$_))' FILE\` turns them" \
+            "aes3: the cells look packed with the first in the lowest bit: try \`--lsb-first\`" \
             "$program show --packed-in < '$folder/turned'"
     else
         echo "left out: packed cells with the first in the lowest bit (perl is not installed)"

@@ -32,18 +32,11 @@ fn command_lines_are_run(rt: HostRuntime) {
     ];
     for (words, input, output, errors, status) in rows {
         let source = MemorySource::new(input, 1);
-        let mut sink = MemorySink::new(rt.alloc());
+        let sink = MemorySink::new(rt.alloc());
         let mut lines = MemorySink::new(rt.alloc());
-        let answer = run_words(
-            rt.alloc(),
-            words,
-            source,
-            &mut sink,
-            &mut lines,
-            &mut Nobody,
-        );
+        let answer = run_words(rt.alloc(), words, source, sink, &mut lines, &mut Nobody);
         assert!(&rt; answer.status == status);
-        assert!(&rt; sink.bytes() == output);
+        assert!(&rt; answer.sink.bytes() == output);
         assert!(&rt; lines.bytes() == errors);
     }
 }
@@ -52,13 +45,13 @@ fn command_lines_are_run(rt: HostRuntime) {
 #[test]
 fn a_bad_status_text_reads_nothing(rt: HostRuntime) {
     let source = MemorySource::new(b"2", 1);
-    let mut sink = MemorySink::new(rt.alloc());
+    let sink = MemorySink::new(rt.alloc());
     let mut lines = MemorySink::new(rt.alloc());
     let mut answer = run_words(
         rt.alloc(),
         &["rewrite", "--status1", "0"],
         source,
-        &mut sink,
+        sink,
         &mut lines,
         &mut Nobody,
     );
