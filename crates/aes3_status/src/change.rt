@@ -1,8 +1,9 @@
-//! What the channel status of a stream is changed to.
+//! What the channel status, the validity bits and the user bits of a stream are changed to.
 
 use crate::setting::{SETTINGS, Setting};
 
-/// New channel status for each block of a stream (AES3-2, IEC 60958-3).
+/// New channel status for each block of a stream (AES3-2, IEC 60958-3), and new validity and user
+/// bits (AES3-1, IEC 60958-1).
 #[derive(Clone, Copy, PartialEq, Eq)]
 pub struct Change {
     /// The 24 status bytes that channel 1 gets; `None` leaves it as it is.
@@ -15,6 +16,14 @@ pub struct Change {
     /// The fields that are then set in the status of channel 2, one after the other; `None` sets
     /// none.
     pub settings2: Option<[Setting; SETTINGS]>,
+    /// What the validity bit of each subframe of channel 1 gets; `None` leaves it as it is.
+    pub validity1: Option<bool>,
+    /// What the validity bit of each subframe of channel 2 gets; `None` leaves it as it is.
+    pub validity2: Option<bool>,
+    /// Whether the user bit of each subframe of channel 1 gets 0.
+    pub clear_user1: bool,
+    /// Whether the user bit of each subframe of channel 2 gets 0.
+    pub clear_user2: bool,
     /// Whether professional status then gets the check byte that it asks for.
     pub mend: bool,
 }

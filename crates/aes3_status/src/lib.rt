@@ -4,7 +4,9 @@
 
 /// Where a field stands in the 24 bytes.
 mod bits;
-/// What the channel status of a stream is changed to.
+/// The bits that subframes carry behind their audio.
+mod carried;
+/// What the channel status, the validity bits and the user bits of a stream are changed to.
 mod change;
 /// The check byte (CRCC) of professional channel status.
 mod check;
@@ -23,6 +25,7 @@ mod setting;
 /// Channel status for either use.
 mod status;
 
+pub use carried::CarriedBits;
 pub use change::Change;
 pub use check::{Check, check_byte, check_state, with_check};
 pub use consumer::Con;
