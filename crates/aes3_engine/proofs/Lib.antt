@@ -4,3 +4,6 @@ pub mod RewrittenBlocks
 pub mod SampleReads
 pub mod SampleRuns
 pub mod SamplesBack
+pub mod BitsAt
+pub mod ValidSamples
+pub mod BitsBack

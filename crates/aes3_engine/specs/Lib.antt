@@ -2,3 +2,5 @@ pub mod Encoding
 pub mod Rewriting
 pub mod Sampling
 pub mod SampleLaws
+pub mod Carrying
+pub mod ValidSamples

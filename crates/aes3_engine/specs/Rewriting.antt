@@ -1,15 +1,39 @@
--- Blocks with other channel status.
-use Rattle.std.specs.Prelude.{ℕ, List, Bool, Option, Some, None, map, take, slice_set, if◌then◌else◌}
+-- Blocks with other channel status, and with other V and U bits.
+use Rattle.std.specs.Prelude.{ℕ, List, Bool, false, Option, Some, None, map, take, replicate, slice_set}
+use Rattle.std.specs.Prelude.{if◌then◌else◌}
 use Rattle.aes3_cell.specs.declared.form.Form.{Form}
 use Rattle.aes3_frame.specs.declared.status.Channel.{Channel}
 use Rattle.aes3_frame.specs.declared.status.Channel.TheVariants.{First, Second}
-use Rattle.aes3_frame.specs.Statuses.{status_of, with_status}
+use Rattle.aes3_frame.specs.Statuses.{status_len, status_of, with_status, with_user, with_validity}
 use Rattle.aes3_status.specs.Statuses.{is_professional}
 use Rattle.aes3_status.specs.Check.{check_byte_of}
 use Rattle.aes3_status.specs.declared.setting.Setting.{Setting}
 use Rattle.aes3_status.specs.Settings.{set_in_turn}
 use Rattle.aes3_status.specs.declared.change.Change.{Change}
 use Rattle.aes3_runs.specs.BlockRuns.{normal_block}
+
+-- the bytes of a channel's bits that are all this one
+abbrev pub all_bits : Bool → List ℕ
+all_bits bit = replicate status_len (if bit then 255 else 0)
+
+-- the bit 0, where that is asked for
+abbrev pub cleared : Bool → Option Bool
+cleared asked = if asked then Some false else None
+
+-- each V bit, or each U bit, of a channel set to this one, where one is given
+abbrev pub set_validity : Channel → Option Bool → List (List Bool) → List (List Bool)
+set_validity channel None b = b
+set_validity channel (Some bit) b = with_validity b channel (all_bits bit)
+
+abbrev pub set_user : Channel → Option Bool → List (List Bool) → List (List Bool)
+set_user channel None b = b
+set_user channel (Some bit) b = with_user b channel (all_bits bit)
+
+-- the V and the U bits of a change set
+abbrev pub with_bits_given : Change → List (List Bool) → List (List Bool)
+with_bits_given change b =
+    set_user Second (cleared change.clear_user2) (set_user First (cleared change.clear_user1)
+    (set_validity Second change.validity2 (set_validity First change.validity1 b)))
 
 -- the status of a channel set, where one is given
 abbrev pub set_status : Channel → Option (List ℕ) → List (List Bool) → List (List Bool)
@@ -29,11 +53,11 @@ abbrev pub mended : Channel → List (List Bool) → List (List Bool)
 mended channel b =
     if is_professional (status_of b channel) then with_status b channel (checked (status_of b channel)) else b
 
--- the statuses of a change set, then its fields
+-- the V and the U bits of a change set, then its statuses, then its fields
 abbrev pub changed : Change → List (List Bool) → List (List Bool)
 changed change b =
     set_settings Second change.settings2 (set_settings First change.settings1
-    (set_status Second change.status2 (set_status First change.status1 b)))
+    (set_status Second change.status2 (set_status First change.status1 (with_bits_given change b))))
 
 -- a block with a change, and then the check bytes mended where that is asked for
 abbrev pub rewritten : Change → List (List Bool) → List (List Bool)

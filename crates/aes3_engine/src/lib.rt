@@ -1,26 +1,32 @@
 //! Whole runs: an input converted to an output.
 #![tactic(auto)]
 
+/// From cells to the bits that subframes carry behind their audio.
+mod carrying;
 /// From a block file to cells.
 mod encoding;
-/// The law that samples come back.
+/// The laws that samples and bits come back.
 pub mod laws;
 /// From cells to cells and block files: `normalise`, `decode` and `cut`.
 mod reading;
-/// From cells to cells with other channel status.
+/// From cells to cells with other channel status, validity bits and user bits.
 mod rewriting;
 /// From cells to samples.
 mod samples;
 /// From samples to a block file.
 mod sampling;
+/// From cells to samples, with zero in place of each that is not valid.
+mod valid_samples;
 
 pub use aes3_runs::{
     BlockWriter, Input, Locked, ReportWriter, Reporter, Taker, Tally, cell, convert, drive,
     run_blocks, run_reports, word,
 };
-pub use aes3_status::Change;
+pub use aes3_status::{CarriedBits, Change};
+pub use carrying::to_bits;
 pub use encoding::encode;
 pub use reading::{cut, decode, normalise};
 pub use rewriting::rewrite;
 pub use samples::to_pcm;
 pub use sampling::from_pcm;
+pub use valid_samples::to_valid_pcm;

@@ -1,4 +1,4 @@
-//! Cells to the normal stream of their blocks, with other channel status.
+//! Cells to the normal stream of their blocks, with other channel status, V and U bits.
 
 ghost use Rattle.std.specs.Prelude.{◌≡◌, ℕ, ◌+◌, ◌<◌, ◌≤◌, ◌^◌, List, IfOk};
 ghost use Rattle.aes3_cell.specs.Ends.{Grew, Told};
@@ -10,12 +10,49 @@ ghost use Rattle.aes3_input.specs.Running.{movement_of};
 ghost use Rattle.aes3_runs.specs.BlockRuns.{begun_stream, decided_blocks, written_stream};
 ghost use Rattle.aes3_runs.specs.ReportRuns.{counts_of};
 ghost use Rattle.aes3_engine.specs.Rewriting.{mended, rewritten, rewritten_block, rewritten_blocks};
-ghost use Rattle.aes3_engine.specs.Rewriting.{set_settings, set_status};
+ghost use Rattle.aes3_engine.specs.Rewriting.{all_bits, cleared, set_settings, set_status};
+ghost use Rattle.aes3_engine.specs.Rewriting.{set_user, set_validity, with_bits_given};
 
 use aes3_block::{Block, Channel, GatheredCells, put_block};
 use aes3_cell::{Counts, Fault, Form, Level, RunError, Sink, Source, put_ending};
 use aes3_runs::{BlockWriter, run_blocks};
 use aes3_status::{Change, SETTINGS, Setting, Status, set_fields, with_check};
+
+/// The bytes of a channel's bits that are all this one.
+#[tactic(auto, unfolding(aes3_frame::specs::Statuses::status_len))]
+fn all_bits(bit: bool) -> [u8; 24]
+    ensures { result ≡ all_bits bit }
+{
+    if bit { [u8::MAX; 24] } else { [0; 24] }
+}
+
+/// Sets each validity bit of a channel, where one is given.
+fn set_validity(block: &mut Block, channel: Channel, bit: Option<bool>)
+    ensures { block.new ≡ set_validity channel bit block.old }
+{
+    if let Some(bit) = bit {
+        block.set_validity(channel, &all_bits(bit));
+    }
+}
+
+/// Clears the user bits of a channel, where that is asked for.
+fn clear_user(block: &mut Block, channel: Channel, asked: bool)
+    ensures { block.new ≡ set_user channel (cleared asked) block.old }
+{
+    if asked {
+        block.set_user(channel, &all_bits(false));
+    }
+}
+
+/// Sets the validity bits and the user bits of a block.
+fn set_bits(block: &mut Block, change: &Change)
+    ensures { block.new ≡ with_bits_given change.now block.old }
+{
+    set_validity(block, Channel::First, change.validity1);
+    set_validity(block, Channel::Second, change.validity2);
+    clear_user(block, Channel::First, change.clear_user1);
+    clear_user(block, Channel::Second, change.clear_user2);
+}
 
 /// Sets the status of a channel, where one is given.
 fn set_status(block: &mut Block, channel: Channel, status: &Option<[u8; 24]>)
@@ -48,10 +85,11 @@ fn mend(block: &mut Block, channel: Channel)
     }
 }
 
-/// Changes the channel status of a block.
+/// Changes the validity bits, the user bits and the channel status of a block.
 pub(crate) fn rewrite_block(block: &mut Block, change: &Change)
     ensures { block.new ≡ rewritten change.now block.old }
 {
+    set_bits(block, change);
     set_status(block, Channel::First, &change.status1);
     set_status(block, Channel::Second, &change.status2);
     set_settings(block, Channel::First, &change.settings1);
@@ -86,9 +124,10 @@ impl BlockWriter for RewrittenBlocks {
 }
 
 /// Reads cells from any cell on, and writes the blocks that stand whole and closed in them as
-/// `normalise` does, each with its channel status changed: first the statuses of the change are
-/// set, then its fields, then, where it asks for that, professional status gets its check byte
-/// (AES3-2). Consumer status is never mended, and nothing else of a block changes.
+/// `normalise` does, each with the change: its validity bits and user bits are set (AES3-1, IEC
+/// 60958-1), then its statuses, then its fields, then, where it asks for that, professional status
+/// gets its check byte (AES3-2). Consumer status is never mended, and nothing else of a block
+/// changes.
 ///
 /// # Errors
 /// Those of `normalise`.

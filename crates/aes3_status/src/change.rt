@@ -1,8 +1,9 @@
-//! What the channel status of a stream is changed to.
+//! What the channel status, the validity bits and the user bits of a stream are changed to.
 
 use crate::setting::{SETTINGS, Setting};
 
-/// New channel status for each block of a stream (AES3-2, IEC 60958-3).
+/// New channel status for each block of a stream (AES3-2, IEC 60958-3), and new validity and user
+/// bits (AES3-1, IEC 60958-1).
 #[derive(Clone, Copy, PartialEq, Eq)]
 pub struct Change {
     /// The 24 status bytes that channel 1 gets; `None` leaves it as it is.

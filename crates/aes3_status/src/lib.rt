@@ -6,7 +6,7 @@
 mod bits;
 /// The bits that subframes carry behind their audio.
 mod carried;
-/// What the channel status of a stream is changed to.
+/// What the channel status, the validity bits and the user bits of a stream are changed to.
 mod change;
 /// The check byte (CRCC) of professional channel status.
 mod check;

@@ -1,0 +1,112 @@
+//! Cells to the samples of their blocks, with zero in place of each that is not valid.
+
+ghost use Rattle.std.specs.Prelude.{◌≡◌, ℕ, ◌+◌, ◌<◌, ◌≤◌, ◌^◌, List, [], Bool, IfOk, map};
+ghost use Rattle.std.specs.List.{All};
+ghost use Rattle.aes3_cell.specs.Ends.{Grew, Told};
+ghost use Rattle.aes3_frame.specs.Blocks.{IsBlock};
+ghost use Rattle.aes3_frame.specs.Samples.{samples};
+ghost use Rattle.aes3_frame.specs.Subframes.{bits_of};
+ghost use Rattle.aes3_lock.specs.Reports.{blocks};
+ghost use Rattle.aes3_input.specs.Inputs.{cells_of};
+ghost use Rattle.aes3_input.specs.Driving.{CellRun};
+ghost use Rattle.aes3_input.specs.Running.{movement_of};
+ghost use Rattle.aes3_runs.specs.BlockRuns.{decided_blocks, written_stream};
+ghost use Rattle.aes3_runs.specs.ReportRuns.{counts_of};
+ghost use Rattle.aes3_engine.specs.ValidSamples.{IsAllValid, silenced, valid_block_samples};
+ghost use Rattle.aes3_engine.specs.ValidSamples.{valid_samples};
+
+use aes3_block::{Block, Frame, GatheredCells, Subframe, put_block_samples};
+use aes3_cell::{Counts, Fault, Form, RunError, Sink, Source};
+use aes3_runs::{BlockWriter, run_blocks};
+
+/// A subframe with zero audio where its validity bit is 1.
+fn silenced(subframe: Subframe) -> Subframe
+    ensures { bits_of result ≡ silenced (bits_of subframe) }
+{
+    if !subframe.v {
+        return subframe;
+    }
+    Subframe {
+        audio: 0,
+        v: subframe.v,
+        u: subframe.u,
+        c: subframe.c,
+    }
+}
+
+/// Sets the audio of each subframe to zero whose validity bit is 1.
+fn silence(block: &mut Block)
+    ensures { block.new ≡ map silenced block.old }
+{
+    for i in 0..block.words().len() / 2 {
+        let frame = block.frame(i);
+        let frame = Frame {
+            first: silenced(frame.first),
+            second: silenced(frame.second),
+        };
+        block.set_frame(i, frame);
+    }
+}
+
+/// Writes blocks as their samples, with zero in place of each that is not valid.
+#[derive(Drop)]
+struct ValidSampleBlocks;
+
+impl BlockWriter for ValidSampleBlocks {
+    ghost writes = { λ _ n b. valid_block_samples b };
+
+    ghost ends = { λ _. [] };
+
+    fn put<T: Sink>(&self, sink: &mut T, _number: u64, cells: &GatheredCells) -> Result<(), Fault> {
+        let mut block = cells.block();
+        silence(&mut block);
+        put_block_samples(&block, sink)
+    }
+
+    fn put_end<T: Sink>(&self, _sink: &mut T) -> Result<(), Fault> {
+        Ok(())
+    }
+}
+
+/// Reads cells from any cell on, and writes the samples of the blocks that stand whole and closed
+/// in them as `to_pcm` does, but zero for each whose validity bit is 1: it is not suitable for
+/// conversion to analogue (AES3-1, IEC 60958-1).
+///
+/// # Errors
+/// Those of `to_pcm`.
+pub fn to_valid_pcm<S: Source, T: Sink>(
+    source: &mut S,
+    sink: &mut T,
+    max_bytes: u64,
+    input: Form,
+) -> Result<Counts, RunError>
+    requires source_room { S.failed source.old + 1 < 2 ^ 64 }
+    requires sink_room { T.failed sink.old + 1 < 2 ^ 64 }
+    requires limit { max_bytes ≤ 2 ^ 40 }
+
+    // Where it answers Ok, exactly the blocks that stand whole and closed in the input are written,
+    // as their samples, 0 where a V bit is 1.
+    ensures samples { IfOk result (λ _. (b : List ℕ)
+        → Told (S.given source.old) (S.given source.new) b
+        → Grew (T.taken sink.old) (T.taken sink.new)
+        (valid_samples (blocks (cells_of input b)))) }
+    // Where no V bit of theirs is 1, these are the samples that `to_pcm` writes.
+    ensures all { IfOk result (λ _. (b : List ℕ) → Told (S.given source.old) (S.given source.new) b
+        → All IsAllValid (blocks (cells_of input b))
+        → Grew (T.taken sink.old) (T.taken sink.new) (samples (blocks (cells_of input b)))) }
+    // What `encode` writes of blocks gives their valid samples.
+    ensures back { IfOk result (λ _. (bs : List (List (List Bool))) → All IsBlock bs
+        → Told (S.given source.old) (S.given source.new) (written_stream input bs)
+        → Grew (T.taken sink.old) (T.taken sink.new) (valid_samples bs)) }
+    // It is a run over cells: Ok is owed, a refusal has its cause, and what was decided before it
+    // is written.
+    ensures run { CellRun max_bytes input (record {
+      whole = λ c. valid_samples (blocks c);
+      begun = λ c. valid_samples (decided_blocks c);
+      counts = counts_of input;
+    }) (S.has_ended source.new) (movement_of S.given S.failed source.old source.new)
+        (movement_of T.taken T.failed sink.old sink.new) result }
+    ensures passed_on { IfOk result (λ _. T.passed sink.new ≡ T.taken sink.new) }
+{
+    run_blocks(source, sink, max_bytes, input, ValidSampleBlocks)
+}
