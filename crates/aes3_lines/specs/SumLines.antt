@@ -1,5 +1,5 @@
 -- The line of a sum: what was counted of the cells of a period of a line that is watched. Numbers are decimal.
-use Rattle.std.specs.Prelude.{ℕ, List, [], ◌∷◌, ◌++◌, ◌+◌, codes, decimal}
+use Rattle.std.specs.Prelude.{ℕ, List, [], ◌∷◌, ◌++◌, codes, decimal}
 use Rattle.aes3_lines.specs.declared.event.Notation.{Notation}
 use Rattle.aes3_lines.specs.declared.event.Style.{Style}
 use Rattle.aes3_lines.specs.declared.sum.Figures.{Figures}
@@ -12,15 +12,11 @@ period_fields style from to =
     number_field style.notation (codes "from") (decimal from) ++ time_field style.notation style.rate from
     ++ number_field style.notation (codes "to") (decimal to)
 
--- how many faults there are, whatever their cause
-abbrev pub faults_of : Figures → ℕ
-faults_of f = f.preamble + f.biphase + f.unclosed
-
 -- the reports of the period by their kinds, faults by their causes
 unfoldable pub report_fields : Notation → Figures → List ℕ
 report_fields n f =
     number_field n (codes "whole") (decimal f.whole) ++ number_field n (codes "marked") (decimal f.marked)
-    ++ number_field n (codes "fault") (decimal (faults_of f)) ++ number_field n (codes "preamble") (decimal f.preamble)
+    ++ number_field n (codes "fault") (decimal f.fault) ++ number_field n (codes "preamble") (decimal f.preamble)
     ++ number_field n (codes "biphase") (decimal f.biphase) ++ number_field n (codes "unclosed") (decimal f.unclosed)
 
 -- the cells that were lost, and what the whole blocks say of their samples

@@ -2,7 +2,7 @@
 
 ghost use Rattle.std.specs.Prelude.{◌≡◌, ◌<◌, ◌≤◌, ◌+◌, ◌*◌, ◌^◌, ◌++◌, length};
 ghost use Rattle.aes3_cell.specs.Writes.{Wrote};
-ghost use Rattle.aes3_lines.specs.SumLines.{faults_of, period_fields, report_fields, sample_fields};
+ghost use Rattle.aes3_lines.specs.SumLines.{period_fields, report_fields, sample_fields};
 ghost use Rattle.aes3_lines.specs.SumLines.{sum_line};
 
 use crate::event::{FIELD_LEN, Notation, Style, put_closing, put_number, put_opening, put_time};
@@ -16,7 +16,9 @@ pub struct Figures {
     pub whole: u64,
     /// How many of which a subframe has a wrong parity bit.
     pub marked: u64,
-    /// How many candidates that a cell of a preamble refutes.
+    /// How many candidates that a cell refutes, whatever the cause.
+    pub fault: u64,
+    /// How many of them a cell of a preamble refutes.
     pub preamble: u64,
     /// How many that a time slot refutes which begins with no change of level.
     pub biphase: u64,
@@ -56,15 +58,13 @@ fn put_period(line: &mut Line, style: &Style, from: u64, to: u64)
 /// Appends the reports of the period by their kinds.
 #[tactic(auto, unfolding(crate::specs::SumLines::report_fields))]
 fn put_reports(line: &mut Line, notation: Notation, figures: &Figures)
-    requires few { faults_of figures.now < 2 ^ 64 }
     requires space { length line.old + 6 * FIELD_LEN ≤ LINE_LEN }
     ensures text { line.new ≡ line.old ++ report_fields notation figures.now }
     ensures len { length line.new ≤ length line.old + 6 * FIELD_LEN }
 {
-    let fault = figures.preamble + figures.biphase + figures.unclosed;
     put_number(line, notation, "whole", figures.whole);
     put_number(line, notation, "marked", figures.marked);
-    put_number(line, notation, "fault", fault);
+    put_number(line, notation, "fault", figures.fault);
     put_number(line, notation, "preamble", figures.preamble);
     put_number(line, notation, "biphase", figures.biphase);
     put_number(line, notation, "unclosed", figures.unclosed);
@@ -90,7 +90,6 @@ fn put_samples(line: &mut Line, notation: Notation, figures: &Figures)
 /// The sink's fault; then it has taken a front of the line.
 #[tactic(auto, unfolding(crate::specs::SumLines::sum_line))]
 pub fn line_of_sum<T: Sink>(style: &Style, sum: &Sum, sink: &mut T) -> Result<(), Fault>
-    requires few { faults_of sum.now.figures < 2 ^ 64 }
     requires room { T.failed sink.old + 1 < 2 ^ 64 }
     ensures { Wrote T.taken T.failed sink.old sink.new (sum_line style.now sum.now) result }
 {
