@@ -35,7 +35,7 @@ full-add p (suc m) k =
 pub full-more : (p m : ℕ) → full_gaps p (m + 1) ≡ full_gaps p m ++ lost (p + block_len * m) block_len ∷ []
 full-more p m = full-add p m 1
 
-count-add : (p a b : ℕ) → a ≤ b → full_count p b ≡ full_count p a + full_count (behind_full p a) b
+pub count-add : (p a b : ℕ) → a ≤ b → full_count p b ≡ full_count p a + full_count (behind_full p a) b
 unfolding full_count behind_full
 count-add p a b h = rw block_len_24576 (omega arith)
 

@@ -13,3 +13,5 @@ pub mod LostGaps
 pub mod PieceGaps
 pub mod LostCells
 mod LockedLines
+pub mod Sums
+mod SumWrites

@@ -85,7 +85,7 @@ up-latest w a = go (is_told w a)
     go true = refl
     go false = refl
 
-loss-join : (w : Watched) (a b : ℕ) → a ≤ b → loss_events w b ≡ loss_events w a ++ loss_events (up_to w a) b
+pub loss-join : (w : Watched) (a b : ℕ) → a ≤ b → loss_events w b ≡ loss_events w a ++ loss_events (up_to w a) b
 loss-join w a b h = go (either (is_told w a))
   where
     go : (is_told w a ≡ true) ⊎ (is_told w a ≡ false) → loss_events w b ≡ loss_events w a ++ loss_events (up_to w a) b
@@ -94,7 +94,7 @@ loss-join w a b h = go (either (is_told w a))
         loss-told w b false (later w a b h e) ∙ sym (append-nil (Lost w.place ∷ []))
         ∙ sym (ap₂ (λ x v. x ++ loss_events v b) (loss-told w a false e) (up-told w a false e))
 
-up-join : (w : Watched) (a b : ℕ) → a ≤ b → up_to w b ≡ up_to (up_to w a) b
+pub up-join : (w : Watched) (a b : ℕ) → a ≤ b → up_to w b ≡ up_to (up_to w a) b
 up-join w a b h = go (either (is_told w a))
   where
     go : (is_told w a ≡ true) ⊎ (is_told w a ≡ false) → up_to w b ≡ up_to (up_to w a) b
@@ -116,7 +116,7 @@ report-join w a (Marked at s wrong) h = loss-join w a at h
 report-join w a (Fault at cell why) h = loss-join w a at h
 report-join w a (Unfinished at cells) h = loss-join w a at h
 
-next-join : (w : Watched) (a : ℕ) (x : Report) → a ≤ place_of x → next w x ≡ next (up_to w a) x
+pub next-join : (w : Watched) (a : ℕ) (x : Report) → a ≤ place_of x → next w x ≡ next (up_to w a) x
 next-join w a (Whole at s b) h = ap (λ v. behind_whole v at (signals_of b)) (up-join w a at h)
 next-join w a (Marked at s wrong) h = up-join w a at h
 next-join w a (Fault at cell why) h = up-join w a at h
@@ -136,7 +136,7 @@ behind-push w [] x = refl
 behind-push w (y ∷ r) x = behind-push (next w y) r x
 
 -- the cells before the last block's
-shorter : (c d : List Level) → length c - block_len ≤ length (c ++ d) - block_len
+pub shorter : (c d : List Level) → length c - block_len ≤ length (c ++ d) - block_len
 shorter c d = let l = length-append c d in omega arith
 
 -- more cells that decide no report
@@ -166,7 +166,7 @@ next-watched c x h =
     behind-push unwatched (decided c) x
     ∙ next-join (behind_reports unwatched (decided c)) (length c - block_len) x (omega arith)
 
-four-joined : {A : Type 0} (a f g t : List A) → (a ++ (f ++ g)) ++ t ≡ (a ++ f) ++ (g ++ t)
+pub four-joined : {A : Type 0} (a f g t : List A) → (a ++ (f ++ g)) ++ t ≡ (a ++ f) ++ (g ++ t)
 four-joined a f g t = simp append_assoc
 
 events-watched : (c : List Level) (x : Report) (tail : List Event) → length c ≤ place_of x + block_len
@@ -221,7 +221,7 @@ ended-is : (c : List Level) (r : List Report) (w : Watched) → reports c ≡ r 
 unfolding ended
 ended-is c r w e f = ap (λ v. up_to (behind_reports unwatched v) (length c)) e ∙ ap (λ v. up_to v (length c)) f
 
-before-last : (c : List Level) → length c - block_len ≤ length c
+pub before-last : (c : List Level) → length c - block_len ≤ length c
 before-last c = omega arith
 
 pub ended-closed : (c : List Level) → reports c ≡ decided c ++ [] → ended c ≡ up_to (watched c) (length c)
@@ -275,7 +275,7 @@ all-more c = go (one-final 0 c)
     go (inr x) = (_, all-closed_with c x.0 (split-reports c ∙ ap (λ r. decided c ++ r) x.1))
 
 -- what the taker writes
-grown : {A : Type 0} (a b m : List A) → b ≡ a ++ m → b ≡ a ++ drop (length a) b
+pub grown : {A : Type 0} (a b m : List A) → b ≡ a ++ m → b ≡ a ++ drop (length a) b
 grown a b m e = e ∙ ap (λ z. a ++ z) (sym (ap (drop (length a)) e ∙ drop_at a m (length a) refl))
 
 grown-lines : (style : Style) (a b m : List Event) → b ≡ a ++ m
@@ -428,7 +428,7 @@ pub same-tally : (t t' : Tally) (r : List Report) → t' ≡ t → Tallies t.blo
 same-tally t t' r f h = subst (λ (v : Tally). Tallies v.blocks v.faults v.unfinished r) (sym f) h
 
 -- cells are not told as lost more often than there are cells
-few-up : (w : Watched) (q : ℕ) → (up_to w q).losses ≤ w.losses + 1
+pub few-up : (w : Watched) (q : ℕ) → (up_to w q).losses ≤ w.losses + 1
 few-up w q = go (is_told w q)
   where
     go : (b : Bool) → (cond b w (as_lost w)).losses ≤ w.losses + 1

@@ -6,3 +6,4 @@ pub mod GapLaws
 pub mod Signals
 pub mod Watching
 pub mod WatchLaws
+pub mod Sums

@@ -16,6 +16,10 @@ pub mod laws;
 mod ledger;
 /// What the whole blocks of a line say of their samples, and where that changes.
 mod signals;
+/// What is known of a line of which sums are told.
+mod summed;
+/// A line watched, with a sum for each period of it.
+mod summing;
 /// What is known of a line that is watched.
 mod watched;
 /// A line watched: what changes, in a few lines.
@@ -23,4 +27,5 @@ mod watching;
 
 pub use accounting::account;
 pub use gap::line_of_gap;
+pub use summing::watch_sums;
 pub use watching::watch;

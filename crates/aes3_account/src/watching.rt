@@ -36,7 +36,11 @@ const BLOCK_CELLS: u64 = 24_576;
 ///
 /// # Errors
 /// The sink's fault; then it has taken a front of the lines.
-fn put_events<T: Sink>(style: &Style, events: &[Event], sink: &mut T) -> Result<(), Fault>
+pub(crate) fn put_events<T: Sink>(
+    style: &Style,
+    events: &[Event],
+    sink: &mut T,
+) -> Result<(), Fault>
     requires room { T.failed sink.old + 1 < 2 ^ 64 }
     ensures { Wrote T.taken T.failed sink.old sink.new (event_lines style.now events.now) result }
 {
@@ -148,18 +152,18 @@ impl Watched {
 
 /// What is kept of a line that is watched.
 #[derive(Drop)]
-struct Watcher {
-    style: Style,
-    state: Watched,
+pub(crate) struct Watcher {
+    pub(crate) style: Style,
+    pub(crate) state: Watched,
     /// The last eight cells of each subframe of a whole block that says the same of its samples as
     /// the last one.
-    lasts: [u8; SLOTS],
-    tally: Tally,
+    pub(crate) lasts: [u8; SLOTS],
+    pub(crate) tally: Tally,
 }
 
 impl Watcher {
     /// No cell has come.
-    fn new(style: Style) -> Self
+    pub(crate) fn new(style: Style) -> Self
         ensures state { Watches result.state result.lasts result.tally.blocks result.tally.faults
             result.tally.unfinished [] }
         ensures style { result.style ≡ style }
@@ -193,7 +197,7 @@ impl Watcher {
     }
 
     /// Goes on to cell `to`, before which no whole block begins.
-    fn go_on(&mut self, events: &mut ArrayVec<Event, EVENTS>, to: u64)
+    pub(crate) fn go_on(&mut self, events: &mut ArrayVec<Event, EVENTS>, to: u64)
         requires few { self.old.state.losses + 1 < 2 ^ 64 }
         requires room { array_vec_len events.old + 1 ≤ EVENTS }
         ensures style { self.new.style ≡ self.old.style }
@@ -241,7 +245,12 @@ impl Watcher {
     }
 
     /// Goes on to a report.
-    fn take_report(&mut self, events: &mut ArrayVec<Event, EVENTS>, lock: &Lock, ending: Ending)
+    pub(crate) fn take_report(
+        &mut self,
+        events: &mut ArrayVec<Event, EVENTS>,
+        lock: &Lock,
+        ending: Ending,
+    )
         requires few { self.old.state.losses + 2 < 2 ^ 64 }
         requires near { place_of (report_in lock.now ending) ≤ 2 ^ 43 }
         requires kept { IsKept self.old.state.latest self.old.lasts }
@@ -264,7 +273,7 @@ impl Watcher {
     }
 
     /// Goes on to the end of `seen` cells.
-    fn end(&mut self, events: &mut ArrayVec<Event, EVENTS>, seen: u64)
+    pub(crate) fn end(&mut self, events: &mut ArrayVec<Event, EVENTS>, seen: u64)
         requires few { self.old.state.losses + 1 < 2 ^ 64 }
         requires room { array_vec_len events.old + 2 ≤ EVENTS }
         ensures style { self.new.style ≡ self.old.style }

@@ -8,3 +8,4 @@ pub mod Gathering
 pub mod Settings
 pub mod Choices
 pub mod Events
+pub mod SumLines

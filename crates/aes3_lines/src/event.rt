@@ -104,14 +104,14 @@ const NAME_LEN: usize = 10;
 const WORD_LEN: usize = 48;
 
 /// How many bytes a field has at most.
-const FIELD_LEN: usize = 64;
+pub(crate) const FIELD_LEN: usize = 64;
 
 /// How many cells a frame has.
 const FRAME_CELLS: u64 = 128;
 
 /// Begins the line of an event of this word.
 #[tactic(auto, unfolding(crate::specs::Events::opening))]
-fn put_opening(line: &mut Line, notation: Notation, word: &str)
+pub(crate) fn put_opening(line: &mut Line, notation: Notation, word: &str)
     requires word { length word.now ≤ NAME_LEN }
     requires none { length line.old ≡ 0 }
     ensures text { line.new ≡ line.old ++ opening notation word.now }
@@ -150,7 +150,7 @@ fn put_name(line: &mut Line, notation: Notation, name: &str)
 }
 
 /// Appends a field with a number.
-fn put_number(line: &mut Line, notation: Notation, name: &str, number: u64)
+pub(crate) fn put_number(line: &mut Line, notation: Notation, name: &str, number: u64)
     requires name { length name.now ≤ NAME_LEN }
     requires space { length line.old + FIELD_LEN ≤ LINE_LEN }
     ensures text { line.new ≡ line.old ++ number_field notation name.now (decimal number) }
@@ -221,7 +221,7 @@ fn put_seconds(line: &mut Line, cells: u64, at: u64)
 
 /// Appends the time of cell `at`, where the rate is known.
 #[tactic(auto, unfolding(crate::specs::Events::time_field))]
-fn put_time(line: &mut Line, style: &Style, at: u64)
+pub(crate) fn put_time(line: &mut Line, style: &Style, at: u64)
     requires space { length line.old + FIELD_LEN ≤ LINE_LEN }
     ensures text { line.new ≡ line.old ++ time_field style.now.notation style.now.rate at }
     ensures len { length line.new ≤ length line.old + FIELD_LEN }
@@ -367,7 +367,7 @@ fn put_fields(line: &mut Line, notation: Notation, event: &Event)
 
 /// Appends what ends the line of an event.
 #[tactic(auto, unfolding(crate::specs::Events::closing))]
-fn put_closing(line: &mut Line, notation: Notation)
+pub(crate) fn put_closing(line: &mut Line, notation: Notation)
     requires space { length line.old + FIELD_LEN ≤ LINE_LEN }
     ensures text { line.new ≡ line.old ++ closing notation }
     ensures len { length line.new ≤ length line.old + FIELD_LEN }

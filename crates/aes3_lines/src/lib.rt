@@ -30,6 +30,8 @@ mod professional;
 mod settings;
 /// The line of a channel status.
 mod status;
+/// Sums of a line that is watched, and their lines.
+mod sum;
 /// A short line, made from its end.
 mod tail;
 /// The words that the codes of a field are printed as.
@@ -44,4 +46,5 @@ pub use listed::{SettingsFault, settings_of_texts};
 pub use mark::{MARK_LEN, line_of_mark};
 pub use settings::{consumer_setting, professional_setting};
 pub use status::line_of_status;
+pub use sum::{Figures, Sum, line_of_sum};
 pub use tail::{TAIL_LEN, Tail};

@@ -1,0 +1,120 @@
+-- What is kept and written of a line of which sums are told, as its cells come.
+use Rattle.std.proofs.Common.{◌≡◌, ℕ, ◌+◌, ◌-◌, ◌^◌, ◌<◌, ◌≤◌, List, [], ◌∷◌, ◌++◌, length, refl, sym, ap, ap₂, ◌∙◌, subst}
+use Rattle.std.proofs.Common.{arith, append-nil}
+use Rattle.aes3_level.specs.declared.level.Level.{Level}
+use Rattle.aes3_frame.specs.Blocks.{block_len, block_slots}
+use Rattle.aes3_lock.specs.declared.report.Report.{Report}
+use Rattle.aes3_lock.specs.declared.tally.Tally.{Tally}
+use Rattle.aes3_lock.specs.Reports.{reports, decided}
+use Rattle.aes3_lock.specs.Tallies.{Tallies}
+use Rattle.aes3_input.specs.Taking.{Writing, behind}
+use Rattle.aes3_lines.specs.declared.event.Style.{Style}
+use Rattle.aes3_account.specs.Watching.{Ended, IsKept, up_to, Watches, watched}
+use Rattle.aes3_account.specs.declared.summed.Summed.{Summed}
+use Rattle.aes3_account.specs.Sums.{all_told, begun_notices, go_to, next_sum, notice_lines, report_told, summed, summing}
+use Rattle.aes3_account.specs.Sums.{more, no_figures, on_to, periods, summed_by, Sums, told_to, unsummed}
+use Rattle.aes3_account.specs.Gaps.{behind_full, full_count}
+use Rattle.aes3_account.specs.declared.watched.Watched.{Watched}
+use Rattle.aes3_lines.specs.declared.sum.Figures.{Figures}
+use Rattle.aes3_account.proofs.WatchedCells.{close-ended, close_with-ended, pass-watches, same-watches, take-watches}
+use Rattle.aes3_account.proofs.Sums.{behind-lines, ends-lines, go-at, lines-join, next-at, notices-closed}
+use Rattle.aes3_account.proofs.Sums.{notices-closed_with, notices-passed, notices-taken, none-before, summed-known, summed-passed, summed-taken}
+
+-- cells that decide no report
+pub passed-sums : {every : ℕ} {u : Summed} {lasts : List ℕ} {b f k : ℕ} (v : Summed) (s : ℕ) (c d : List Level)
+    → Sums every u lasts b f k c
+    → decided (c ++ d) ≡ decided c → s ≡ length (c ++ d) - block_len → v ≡ go_to every u s
+    → Sums every v lasts b f k (c ++ d)
+passed-sums {every} {u} {lasts} {b} {f} {k} v s c d h q e g = record {
+  some = h.some;
+  few = h.few;
+  state_is = g ∙ ap₂ (go_to every) h.state_is e ∙ sym (summed-passed every c d h.some q);
+  watches = pass-watches v.watched s c d h.watches q e (go-at every u v s h.some g);
+}
+
+pub passed-lines : (style : Style) (every : ℕ) (u : Summed) (s : ℕ) (c d : List Level) → 0 < every
+    → u ≡ summed every c → s ≡ length (c ++ d) - block_len → decided (c ++ d) ≡ decided c
+    → notice_lines style (told_to every u s) ≡ behind (summing style every) c d
+passed-lines style every u s c d h e f q =
+    ap (notice_lines style) (ap₂ (told_to every) e f)
+    ∙ behind-lines style every c d (told_to every (summed every c) (length (c ++ d) - block_len)) h
+    (notices-passed every c d h q)
+
+-- a report, and cells behind it
+pub taken-sums : {every : ℕ} {u : Summed} {lasts : List ℕ} {b f k : ℕ} {lasts' : List ℕ} {b' f' k' : ℕ} (v w : Summed)
+    (s : ℕ) (c d : List Level) (x : Report)
+    → Sums every u lasts b f k c
+    → decided (c ++ d) ≡ decided c ++ x ∷ [] → s ≡ length (c ++ d) - block_len → v ≡ next_sum every u x
+    → IsKept v.watched.latest lasts' → Tallies b' f' k' (decided c ++ x ∷ []) → w ≡ go_to every v s
+    → Sums every w lasts' b' f' k' (c ++ d)
+taken-sums {every} {u} {lasts} {b} {f} {k} {lasts'} {b'} {f'} {k'} v w s c d x h q e g m t l = record {
+  some = h.some;
+  few = h.few;
+  state_is = l ∙ ap₂ (go_to every) (g ∙ ap (λ y. next_sum every y x) h.state_is) e
+      ∙ sym (summed-taken every c d x h.some q);
+  watches = take-watches v.watched w.watched s c d x h.watches q e (next-at every u v x h.some g) m t
+      (go-at every v w s h.some l);
+}
+
+pub taken-lines : (style : Style) (every : ℕ) (u v : Summed) (s : ℕ) (c d : List Level) (x : Report) → 0 < every
+    → u ≡ summed every c → v ≡ next_sum every u x → s ≡ length (c ++ d) - block_len
+    → decided (c ++ d) ≡ decided c ++ x ∷ []
+    → notice_lines style (report_told every u x) ++ notice_lines style (told_to every v s)
+    ≡ behind (summing style every) c d
+taken-lines style every u v s c d x h e g f q =
+    sym (lines-join style (report_told every u x) (told_to every v s))
+    ∙ ap (notice_lines style) (ap₂ (λ y z. report_told every u x ++ told_to every y z) g f
+    ∙ ap (λ y. report_told every y x ++ told_to every (next_sum every y x) (length (c ++ d) - block_len)) e)
+    ∙ behind-lines style every c d (report_told every (summed every c) x
+    ++ told_to every (next_sum every (summed every c) x) (length (c ++ d) - block_len)) h
+    (notices-taken every c d x h q)
+
+-- the end
+pub closed-lines : (style : Style) (every : ℕ) (u : Summed) (n : ℕ) (c : List Level) → 0 < every → u ≡ summed every c
+    → n ≡ length c → reports c ≡ decided c ++ []
+    → notice_lines style (all_told every u n) ≡ (summing style every).ends c
+closed-lines style every u n c h e f q =
+    ap (notice_lines style) (ap₂ (all_told every) e f)
+    ∙ ends-lines style every c (all_told every (summed every c) (length c)) (notices-closed every c h q)
+
+pub closed_with-lines : (style : Style) (every : ℕ) (u v : Summed) (n : ℕ) (c : List Level) (x : Report) → 0 < every
+    → u ≡ summed every c → v ≡ next_sum every u x → n ≡ length c → reports c ≡ decided c ++ x ∷ []
+    → notice_lines style (report_told every u x) ++ notice_lines style (all_told every v n)
+    ≡ (summing style every).ends c
+closed_with-lines style every u v n c x h e g f q =
+    sym (lines-join style (report_told every u x) (all_told every v n))
+    ∙ ap (notice_lines style) (ap₂ (λ y z. report_told every u x ++ all_told every y z) g f
+    ∙ ap (λ y. report_told every y x ++ all_told every (next_sum every y x) (length c)) e)
+    ∙ ends-lines style every c (report_told every (summed every c) x
+    ++ all_told every (next_sum every (summed every c) x) (length c)) (notices-closed_with every c x h q)
+
+-- the same of what is kept behind calls that leave some of it as it was
+pub same-sums : (every every' : ℕ) (v : Summed) (lasts lasts' : List ℕ) (t t' : Tally) (c : List Level)
+    → every' ≡ every → lasts' ≡ lasts → t' ≡ t
+    → Sums every v lasts t.blocks t.faults t.unfinished c → Sums every' v lasts' t'.blocks t'.faults t'.unfinished c
+same-sums every every' v lasts lasts' t t' c a e f h =
+    subst (λ n. Sums n v lasts' t'.blocks t'.faults t'.unfinished c) (sym a)
+    (record {
+      some = h.some;
+      few = h.few;
+      state_is = h.state_is;
+      watches = same-watches v.watched lasts lasts' t t' c e f h.watches;
+    })
+
+-- no cell
+start-sums : (every : ℕ) → summed every [] ≡ unsummed
+unfolding summed decided go_to behind_full full_count more block_len block_slots
+start-sums every = ap (λ n. on_to (periods every n unsummed) 0) (none-before every)
+
+pub begins-sums : (every : ℕ) (w : Watched) (figures : Figures) (lasts : List ℕ) (b f k : ℕ) → 0 < every
+    → every ≤ 2 ^ 40 → figures ≡ no_figures → Watches w lasts b f k []
+    → Sums every (summed_by w 0 0 figures) lasts b f k []
+begins-sums every w figures lasts b f k h l e v = record {
+  some = h;
+  few = l;
+  state_is =
+      ap₂ (λ x y. summed_by x 0 0 y)
+      (v.state_is ∙ sym (summed-known every [] h) ∙ ap (λ x. x.watched) (start-sums every)) e
+      ∙ sym (start-sums every);
+  watches = v;
+}

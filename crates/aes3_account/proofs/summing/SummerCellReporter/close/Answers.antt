@@ -1,0 +1,45 @@
+use Rattle.std.proofs.Common.{◌-◌, ◌++◌, ◌∷◌, [], length, length-append, append-nil, refl, sym, ap, ap₂, ◌∙◌, arith}
+use Rattle.std.proofs.lemmas.Result.{err_from_is_err_and}
+use Rattle.aes3_cell.proofs.Growing.{grew-is, grew-join, front-is, front-join, front-more}
+use Rattle.aes3_lock.specs.Following.{report_in}
+use Rattle.aes3_lock.specs.Reports.{decided}
+use Rattle.aes3_lock.proofs.Tallies.{few-decided}
+use Rattle.aes3_account.specs.Sums.{all_told, next_sum, notice_lines, summed_by, told_to}
+use Rattle.aes3_account.proofs.Accounts.{less, near-new, near-last}
+use Rattle.aes3_account.proofs.WatchedCells.{close-ended, close_with-ended, loss-room, same-ended, same-tally}
+use Rattle.aes3_account.proofs.Sums.{next-at}
+use Rattle.aes3_account.proofs.SumWrites.{closed-lines, closed_with-lines, passed-lines, passed-sums, same-sums}
+use Rattle.aes3_account.proofs.SumWrites.{taken-lines, taken-sums}
+use Rattle.aes3_account.proofs.summing.SummerCellReporter.close.Goals as goal
+
+pub end-requires-clause-few : goal.end-requires-clause-few
+end-requires-clause-few g c =
+    let h = c.requires.following in
+    let l = loss-room h.0 [] c.args.seen h.3.watches (h.2 ∙ ap length (sym (append-nil h.0))) h.1 in
+    omega arith
+
+pub end-requires-clause-some : goal.end-requires-clause-some
+end-requires-clause-some g c = c.requires.following.3.some
+
+pub returns-in_err-end-clause-err_grew : goal.returns-in_err-end-clause-err_grew
+returns-in_err-end-clause-err_grew g c =
+    let k = c.args.self.now in
+    let p = err_from_is_err_and c.from_residual.result c.from_residual.ensures.1 in
+    rw p.1 (λ d h q n. front-is (closed-lines k.watcher.style k.every
+    (summed_by k.watcher.state k.from k.place k.figures) c.args.seen d h.some h.state_is n q)
+    c.in_err-end.ensures.wrote.err.1)
+
+pub returns-clause-done : goal.returns-clause-done
+returns-clause-done g c =
+    let k = c.args.self.now in
+    let m = c.end.new.self in
+    λ d h q n.
+    same-ended m.watcher.state.losses k.watcher.tally m.watcher.tally d c.end.ensures.tally
+    (close-ended m.watcher.state c.args.seen d h.watches q n c.requires.following.1 c.in_ok-end.ensures.state)
+
+pub returns-clause-grew : goal.returns-clause-grew
+returns-clause-grew g c =
+    let k = c.args.self.now in
+    λ d h q n. grew-is (closed-lines k.watcher.style k.every
+    (summed_by k.watcher.state k.from k.place k.figures) c.args.seen d h.some h.state_is n q)
+    c.in_ok-end.ensures.wrote.grew
