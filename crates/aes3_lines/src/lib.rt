@@ -6,6 +6,8 @@
 mod choices;
 /// The fields of a status line for consumer use.
 mod consumer;
+/// What stands behind a line of channel status.
+mod detail;
 /// Events of a line that is watched, and their lines.
 mod event;
 /// A field of a status line: its name and its text.
@@ -22,6 +24,8 @@ mod lines;
 mod listed;
 /// The line of a preamble.
 mod mark;
+/// Bits that are 1.
+mod ones;
 /// The fields of a status line for professional use.
 mod professional;
 /// Fields by their names, and codes by the words that `show` prints.
@@ -34,11 +38,13 @@ mod tail;
 mod words;
 
 pub use choices::add_choices;
+pub use detail::Detail;
 pub use event::{Event, Marking, Notation, Style, line_of_event};
 pub use gathered::{GATHERED_LEN, GatheredLines};
 pub use lines::Lines;
 pub use listed::{SettingsFault, settings_of_texts};
 pub use mark::{MARK_LEN, line_of_mark};
+pub use ones::ones_in;
 pub use settings::{consumer_setting, professional_setting};
-pub use status::line_of_status;
+pub use status::{line_of_status, line_of_status_with, text_of_detail};
 pub use tail::{TAIL_LEN, Tail};
