@@ -5,3 +5,4 @@ pub mod SettingTexts
 pub mod SettingLists
 pub mod SettingLines
 pub mod ChoiceTexts
+mod OnesMore

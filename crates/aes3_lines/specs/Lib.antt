@@ -3,6 +3,7 @@ pub mod Words
 pub mod Fields
 pub mod Professional
 pub mod Consumer
+pub mod Ones
 pub mod StatusLines
 pub mod Gathering
 pub mod Settings

@@ -24,6 +24,8 @@ mod lines;
 mod listed;
 /// The line of a preamble.
 mod mark;
+/// Bits that are 1.
+mod ones;
 /// The fields of a status line for professional use.
 mod professional;
 /// Fields by their names, and codes by the words that `show` prints.
@@ -44,7 +46,8 @@ pub use gathered::{GATHERED_LEN, GatheredLines};
 pub use lines::Lines;
 pub use listed::{SettingsFault, settings_of_texts};
 pub use mark::{MARK_LEN, line_of_mark};
+pub use ones::ones_in;
 pub use settings::{consumer_setting, professional_setting};
-pub use status::line_of_status;
+pub use status::{line_of_status, line_of_status_with, text_of_detail};
 pub use sum::{Figures, Sum, line_of_sum};
 pub use tail::{TAIL_LEN, Tail};

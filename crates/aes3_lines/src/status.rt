@@ -2,13 +2,17 @@
 
 ghost use Rattle.std.specs.Prelude.{◌≡◌, ◌<◌, ◌≤◌, ◌+◌, ◌++◌, ◌^◌, length};
 ghost use Rattle.aes3_cell.specs.Writes.{Wrote};
-ghost use Rattle.aes3_lines.specs.StatusLines.{channel_digit, head_text, status_line, status_text};
+ghost use Rattle.aes3_lines.specs.StatusLines.{channel_digit, detail_text, head_text, status_line};
+ghost use Rattle.aes3_lines.specs.StatusLines.{status_line_with, status_text};
 
 use crate::consumer::put_consumer;
+use crate::detail::Detail;
 use crate::line::{LINE_LEN, Line};
+use crate::ones::ones_in;
 use crate::professional::put_professional;
+use crate::tail::{TAIL_LEN, Tail};
 use aes3_cell::{Fault, Sink};
-use aes3_frame::Channel;
+use aes3_frame::{Block, Channel};
 use aes3_status::{Status, check_state};
 
 /// How many bytes the beginning of a line has at most.
@@ -42,12 +46,58 @@ fn head_of(block: u64, channel: Channel) -> Line
 fn put_status(line: &mut Line, status: &[u8; 24])
     requires { length line.old ≤ HEAD_LEN }
     ensures text { line.new ≡ line.old ++ status_text status.now }
-    ensures len { length line.new < LINE_LEN }
+    ensures len { length line.new + TAIL_LEN < LINE_LEN }
 {
     match Status::read(status) {
         Status::Professional(fields) => put_professional(line, &fields, check_state(status)),
         Status::Consumer(fields) => put_consumer(line, &fields),
     }
+}
+
+/// What stands behind the status of a channel of a block that begins at cell `at` (AES3-1,
+/// IEC 60958-1: validity and user bits).
+pub fn text_of_detail(detail: Detail, channel: Channel, at: u64, block: &Block) -> Tail
+    ensures { result ≡ detail_text detail channel at block.now }
+{
+    let mut text = Tail::new();
+    match detail {
+        Detail::Plain => {}
+        Detail::Place => {
+            text.number(at);
+            text.text(b" at=");
+        }
+        Detail::Carried => {
+            text.number(at);
+            text.text(b" at=");
+            text.number(ones_in(&block.user(channel)));
+            text.text(b" u=");
+            text.number(ones_in(&block.validity(channel)));
+            text.text(b" v=");
+        }
+    }
+    text
+}
+
+/// Writes the line of a channel status, that of `channel` in block number `block`, with a text
+/// before its line feed, as one buffer.
+///
+/// # Errors
+/// The sink's fault; then it has taken a front of the line.
+pub fn line_of_status_with<T: Sink>(
+    block: u64,
+    channel: Channel,
+    status: &[u8; 24],
+    text: &Tail,
+    sink: &mut T,
+) -> Result<(), Fault>
+    requires room { T.failed sink.old + 1 < 2 ^ 64 }
+    ensures { Wrote T.taken T.failed sink.old sink.new
+        (status_line_with block channel status.now text.now) result }
+{
+    let mut line = head_of(block, channel);
+    put_status(&mut line, status);
+    line.bytes(text.as_bytes());
+    line.end(sink)
 }
 
 /// Writes the line of a channel status, that of `channel` in block number `block`, as one buffer.
@@ -64,7 +114,5 @@ pub fn line_of_status<T: Sink>(
     ensures { Wrote T.taken T.failed sink.old sink.new
         (status_line block channel status.now) result }
 {
-    let mut line = head_of(block, channel);
-    put_status(&mut line, status);
-    line.end(sink)
+    line_of_status_with(block, channel, status, &Tail::new(), sink)
 }

@@ -77,6 +77,15 @@ impl Tail {
         self.text(digit_of(level));
     }
 
+    /// Its bytes so far.
+    #[inline]
+    pub(crate) fn as_bytes(&self) -> &[u8]
+        ensures bytes { result.now ≡ self.now }
+        ensures len { length result.now ≤ TAIL_LEN }
+    {
+        &self.bytes[self.at..]
+    }
+
     /// Hands it to the sink as one buffer.
     ///
     /// # Errors
