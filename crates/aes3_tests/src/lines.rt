@@ -9,7 +9,8 @@ use aes3_lock::{Report, Why};
 use aes3_slot::Mark;
 use aes3_status::{SETTINGS, Setting, set_fields};
 use aes3_text::{
-    consumer_setting, line_of_mark, line_of_report, line_of_status, professional_setting,
+    Detail, consumer_setting, line_of_mark, line_of_report, line_of_status, line_of_status_with,
+    professional_setting, text_of_detail,
 };
 use std::alloc::Global;
 use std::test::Fail;
@@ -279,6 +280,28 @@ fn fields_of_status_lines(rt: HostRuntime) -> Result<(), Fail> {
             let line = line_of(rt.alloc(), 0, Channel::First, &status);
             assert!(rt; str::from_utf8(line.bytes())?.contains(*part), "{part}");
         }
+    }
+    Ok(())
+}
+
+/// What stands behind a line of channel 2, of which one V bit is 1 and two U bits are.
+#[test]
+fn details_of_status_lines(rt: HostRuntime) -> Result<(), Fail> {
+    let mut block = Block::zero();
+    block.set_validity(Channel::Second, &status_of(&[0x80], 0));
+    block.set_user(Channel::Second, &status_of(&[0x01], 0x80));
+    for (detail, expected) in [
+        (Detail::Plain, "=00000000000000000000000000000000000000\n"),
+        (Detail::Place, "00 at=24445\n"),
+        (Detail::Carried, "00 v=1 u=2 at=24445\n"),
+    ] {
+        let mut sink = MemorySink::new(rt.alloc());
+        let text = text_of_detail(detail, Channel::Second, 24_445, &block);
+        let _ = line_of_status_with(0, Channel::Second, &[0; 24], &text, &mut sink);
+        assert!(rt;
+            str::from_utf8(sink.bytes())?.contains(expected),
+            "{expected}"
+        );
     }
     Ok(())
 }

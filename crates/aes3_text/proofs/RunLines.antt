@@ -1,14 +1,11 @@
--- The lines of reports and of blocks, one behind the other.
+-- The lines of reports, one behind the other.
 use Rattle.std.proofs.Common.{◌≡◌, ℕ, ◌+◌, List, [], ◌∷◌, ◌++◌, length, refl, ap, ◌∙◌, append-nil}
 use Rattle.aes3_level.specs.declared.level.Level.{Level}
 use Rattle.aes3_lock.specs.declared.report.Report.{Report}
-use Rattle.aes3_lock.specs.Reports.{reports, decided, wholes, blocks}
+use Rattle.aes3_lock.specs.Reports.{reports, decided, wholes}
 use Rattle.aes3_runs.specs.ReportRuns.{output_from, output}
-use Rattle.aes3_runs.specs.BlockRuns.{report_bytes, decided_blocks}
-use Rattle.aes3_runs.proofs.ReportLemmas.{blocks-output}
 use Rattle.aes3_lines.specs.declared.lines.Lines.{Lines}
 use Rattle.aes3_reports.specs.Lines.{told_line, report_lines}
-use Rattle.aes3_text.specs.Runs.{channel_lines, status_lines}
 
 lines-from : (l : Lines) (n : ℕ) (r : List Report) → output_from (λ m. told_line l) n r ≡ report_lines l r
 lines-from l n [] = refl
@@ -20,10 +17,3 @@ check-whole l c = append-nil (output (λ m. told_line l) (reports c)) ∙ lines-
 
 pub check-begun : (l : Lines) (c : List Level) → output (λ m. told_line l) (decided c) ≡ report_lines l (decided c)
 check-begun l c = lines-from l 0 (decided c)
-
-pub show-whole : (c : List Level) → output (report_bytes channel_lines) (reports c) ++ [] ≡ status_lines (blocks c)
-unfolding blocks
-show-whole c = append-nil (output (report_bytes channel_lines) (reports c)) ∙ blocks-output channel_lines 0 (reports c)
-
-pub show-begun : (c : List Level) → output (report_bytes channel_lines) (decided c) ≡ status_lines (decided_blocks c)
-show-begun c = blocks-output channel_lines 0 (decided c)

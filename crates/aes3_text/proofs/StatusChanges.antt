@@ -1,11 +1,12 @@
--- The lines of channel status where it changes, one behind the other.
-use Rattle.std.proofs.Common.{◌≡◌, ℕ, suc, ◌+◌, List, [], ◌∷◌, ◌++◌, Bool, length, Option, Some, None, refl, sym, ap}
-use Rattle.std.proofs.Common.{ap₂, ◌∙◌, subst, arith, append-nil, append_assoc, Result, Ok, Err, IfOk, OnErr}
+-- The lines of channel status, one behind the other.
+use Rattle.std.proofs.Common.{◌≡◌, ℕ, suc, ◌+◌, List, [], ◌∷◌, ◌++◌, Bool, true, false, length, Option, Some, None, refl, sym, ap}
+use Rattle.std.proofs.Common.{ap₂, ◌∙◌, subst, arith, append-nil, append_assoc, length-append, Result, Ok, Err, IfOk, OnErr}
 use Rattle.std.specs.List.{last_or}
 use Rattle.aes3_level.specs.declared.level.Level.{Level}
 use Rattle.aes3_cell.specs.declared.ends.Fault as device
 use Rattle.aes3_cell.specs.Ends.{Grew, GrewFront}
 use Rattle.aes3_cell.proofs.Growing.{grew-is, front-is}
+use Rattle.aes3_frame.specs.declared.status.Channel.{Channel}
 use Rattle.aes3_frame.specs.declared.status.Channel.TheVariants.{First, Second}
 use Rattle.aes3_frame.specs.Statuses.{status_of}
 use Rattle.aes3_slot.specs.ReadWords.{read_words}
@@ -20,61 +21,55 @@ use Rattle.aes3_lock.proofs.AllStanding.{wholes-append}
 use Rattle.aes3_input.specs.Taking.{before_end, with_end}
 use Rattle.aes3_input.proofs.Items.{before-is}
 use Rattle.aes3_runs.specs.Reporting.{reporting}
-use Rattle.aes3_runs.specs.BlockRuns.{decided_blocks}
+use Rattle.aes3_runs.specs.BlockRuns.{numbered}
 use Rattle.aes3_lock.specs.Tallies.{Tallies}
 use Rattle.aes3_runs.proofs.Reports.{before-reports, with-reports}
-use Rattle.aes3_text.specs.Runs.{AreLast, Changes, block_changes, change_line, change_lines, changes_from, changing}
-use Rattle.aes3_text.specs.Runs.{report_changes, status_in}
+use Rattle.aes3_lines.specs.declared.detail.Detail.{Detail}
+use Rattle.aes3_lines.specs.declared.detail.Detail.TheVariants.{Plain}
+use Rattle.aes3_lines.specs.StatusLines.{detail_text, head_text, status_line_with, status_text}
+use Rattle.aes3_text.specs.DetailLaws.{Behind}
+use Rattle.aes3_text.specs.Runs.{AreLast, Shows, block_changes, block_details, change_details, change_line, change_lines}
+use Rattle.aes3_text.specs.Runs.{changes_from, channel_line, channel_lines, detail_line, detail_lines, details_from}
+use Rattle.aes3_text.specs.Runs.{report_details, showing, status_in, status_lines, told}
 
 last-push : (o : Option (List (List Bool))) (bs : List (List (List Bool))) (b : List (List Bool))
     → last_or o (bs ++ b ∷ []) ≡ Some b
 last-push o [] b = refl
 last-push o (c ∷ bs) b = last-push (Some c) bs b
 
-changes-push : (n : ℕ) (o : Option (List (List Bool))) (bs : List (List (List Bool))) (b : List (List Bool))
-    → changes_from n o (bs ++ b ∷ []) ≡ changes_from n o bs ++ block_changes (n + length bs) (last_or o bs) b
-changes-push n o [] b = append-nil (block_changes n o b) ∙ ap (λ k. block_changes k o b) none
-  where
-    none : n ≡ n + 0
-    none = omega arith
-changes-push n o (c ∷ bs) b =
-    ap (λ z. block_changes n o c ++ z)
-    (changes-push (suc n) (Some c) bs b
-    ∙ ap (λ k. changes_from (suc n) (Some c) bs ++ block_changes k (last_or (Some c) bs) b) next)
-    ∙ sym (append_assoc (block_changes n o c) (changes_from (suc n) (Some c) bs)
-    (block_changes (n + length (c ∷ bs)) (last_or (Some c) bs) b))
-  where
-    next : suc n + length bs ≡ n + length (c ∷ bs)
-    next = omega arith
-
 -- what one report more writes
-report-push : (r : List Report) (x : Report)
-    → change_lines (wholes (r ++ x ∷ [])) ≡ change_lines (wholes r) ++ changing.adds r x
-unfolding changing
-report-push r x = ap change_lines (wholes-append r (x ∷ [])) ∙ go x
-  where
-    go : (x : Report) → change_lines (wholes r ++ wholes (x ∷ []))
-        ≡ change_lines (wholes r) ++ report_changes (wholes r) x
-    go (Whole at s b) = changes-push 0 None (wholes r) b
-        ∙ ap (λ k. change_lines (wholes r) ++ block_changes k (last_or None (wholes r)) b) (omega arith)
-    go (Marked at s wrong) = ap change_lines (append-nil (wholes r)) ∙ sym (append-nil (change_lines (wholes r)))
-    go (Fault at cell why) = ap change_lines (append-nil (wholes r)) ∙ sym (append-nil (change_lines (wholes r)))
-    go (Unfinished at cells) = ap change_lines (append-nil (wholes r)) ∙ sym (append-nil (change_lines (wholes r)))
+details-push : (ch : Bool) (d : Detail) (bs : List (List (List Bool))) (r : List Report) (x : Report)
+    → details_from ch d bs (r ++ x ∷ []) ≡ details_from ch d bs r ++ report_details ch d (bs ++ wholes r) x
+details-push ch d bs [] x = append-nil (report_details ch d bs x)
+    ∙ ap (λ v. report_details ch d v x) (sym (append-nil bs))
+details-push ch d bs (y ∷ r) x =
+    ap (λ z. report_details ch d bs y ++ z)
+    (details-push ch d (bs ++ wholes (y ∷ [])) r x
+    ∙ ap (λ v. details_from ch d (bs ++ wholes (y ∷ [])) r ++ report_details ch d v x)
+    (append_assoc bs (wholes (y ∷ [])) (wholes r) ∙ ap (λ v. bs ++ v) (sym (wholes-append (y ∷ []) r))))
+    ∙ sym (append_assoc (report_details ch d bs y) (details_from ch d (bs ++ wholes (y ∷ [])) r)
+    (report_details ch d (bs ++ wholes (y ∷ r)) x))
 
-before-changes : (r : List Report) → before_end changing r ≡ change_lines (wholes r)
-before-changes r = before-is changing (λ v. change_lines (wholes v)) refl report-push r
+report-push : (ch : Bool) (d : Detail) (r : List Report) (x : Report)
+    → details_from ch d [] (r ++ x ∷ []) ≡ details_from ch d [] r ++ (showing ch d).adds r x
+unfolding showing
+report-push ch d r x = details-push ch d [] r x
 
-with-changes : (r : List Report) → with_end changing r ≡ change_lines (wholes r)
-unfolding with_end changing
-with-changes r = ap (λ o. o ++ []) (before-changes r) ∙ append-nil (change_lines (wholes r))
+before-shown : (ch : Bool) (d : Detail) (r : List Report) → before_end (showing ch d) r ≡ details_from ch d [] r
+before-shown ch d r = before-is (showing ch d) (λ v. details_from ch d [] v) refl (report-push ch d) r
+
+with-shown : (ch : Bool) (d : Detail) (r : List Report) → with_end (showing ch d) r ≡ details_from ch d [] r
+unfolding with_end showing
+with-shown ch d r = ap (λ o. o ++ []) (before-shown ch d r) ∙ append-nil (details_from ch d [] r)
 
 -- what cells write
-pub before-cells : (c : List Level) → before_end (reporting changing) c ≡ change_lines (decided_blocks c)
-before-cells c = before-reports changing c ∙ before-changes (decided c)
+pub before-cells : (ch : Bool) (d : Detail) (c : List Level)
+    → before_end (reporting (showing ch d)) c ≡ details_from ch d [] (decided c)
+before-cells ch d c = before-reports (showing ch d) c ∙ before-shown ch d (decided c)
 
-pub with-cells : (c : List Level) → with_end (reporting changing) c ≡ change_lines (blocks c)
-unfolding blocks
-with-cells c = with-reports changing c ∙ with-changes (reports c)
+pub with-cells : (ch : Bool) (d : Detail) (c : List Level)
+    → with_end (reporting (showing ch d)) c ≡ details_from ch d [] (reports c)
+with-cells ch d c = with-reports (showing ch d) c ∙ with-shown ch d (reports c)
 
 -- before any cell there is no report
 pub nothing-decided : (P : List Report → Type 0) → P [] → P (decided [])
@@ -109,45 +104,118 @@ pub other-last : {f s : Option (List ℕ)} (x : Report) (bs : List (List (List B
 other-last {f} {s} x bs e h = subst (AreLast f s) (sym (ap (λ v. bs ++ v) e ∙ append-nil bs)) h
 
 -- the lines that are written
-whole-is : {f s : Option (List ℕ)} {n : ℕ} (x : Report) {at : ℕ} {l : Level} {b : List (List Bool)}
+abbrev pub line_as : Bool → Detail → ℕ → ℕ → Channel → List (List Bool) → Option (List ℕ) → List ℕ → List ℕ
+line_as ch d n at channel b before status =
+    told ch before status (status_line_with n channel status (detail_text d channel at b))
+
+abbrev pub shown : Bool → Detail → ℕ → ℕ → Option (List ℕ) → Option (List ℕ) → List (List Bool) → List ℕ
+shown ch d n at f s b =
+    line_as ch d n at First b f (status_of b First) ++ line_as ch d n at Second b s (status_of b Second)
+
+whole-is : (ch : Bool) (d : Detail) {f s : Option (List ℕ)} {n : ℕ} (x : Report) {at : ℕ} {l : Level}
+    {b : List (List Bool)}
     (bs : List (List (List Bool))) → x ≡ Whole at l b → AreLast f s bs → n ≡ length bs
-    → change_line First n f (status_of b First) ++ change_line Second n s (status_of b Second) ≡ report_changes bs x
-unfolding block_changes
-whole-is {f} {s} {n} x {at} {l} {b} bs e h k =
-    ap (λ v. change_line First v f (status_of b First) ++ change_line Second v s (status_of b Second)) k
-    ∙ ap₂ (λ u v. change_line First (length bs) u (status_of b First)
-    ++ change_line Second (length bs) v (status_of b Second)) h.first_is h.second_is
-    ∙ ap (report_changes bs) (sym e)
+    → shown ch d n at f s b ≡ report_details ch d bs x
+unfolding block_details detail_line
+whole-is ch d {f} {s} {n} x {at} {l} {b} bs e h k =
+    ap (λ v. shown ch d v at f s b) k
+    ∙ ap₂ (λ u v. shown ch d (length bs) at u v b) h.first_is h.second_is
+    ∙ ap (report_details ch d bs) (sym e)
 
-pub whole-grew : (result : Result (Unit {0}) device.Fault) (x : Report) {at : ℕ} {l : Level} {b : List (List Bool)}
+pub whole-grew : (ch : Bool) (d : Detail) (result : Result (Unit {0}) device.Fault) (x : Report) {at : ℕ} {l : Level}
+    {b : List (List Bool)}
     (f s : Option (List ℕ)) (n : ℕ) (t t' : Option (List ℕ)) → x ≡ Whole at l b
-    → IfOk result (λ (u : Unit {0}). Grew t t'
-    (change_line First n f (status_of b First) ++ change_line Second n s (status_of b Second)))
+    → IfOk result (λ (u : Unit {0}). Grew t t' (shown ch d n at f s b))
     → IfOk result (λ (u : Unit {0}). (bs : List (List (List Bool))) → AreLast f s bs → n ≡ length bs
-    → Grew t t' (report_changes bs x))
-whole-grew (Ok u) x f s n t t' e g = λ bs h k. grew-is (whole-is x bs e h k) g
-whole-grew (Err d) x f s n t t' e g = tt
+    → Grew t t' (report_details ch d bs x))
+whole-grew ch d (Ok u) x f s n t t' e g = λ bs h k. grew-is (whole-is ch d x bs e h k) g
+whole-grew ch d (Err v) x f s n t t' e g = tt
 
-pub whole-front : (result : Result (Unit {0}) device.Fault) (x : Report) {at : ℕ} {l : Level} {b : List (List Bool)}
+pub whole-front : (ch : Bool) (d : Detail) (result : Result (Unit {0}) device.Fault) (x : Report) {at : ℕ} {l : Level}
+    {b : List (List Bool)}
     (f s : Option (List ℕ)) (n i j : ℕ) (t t' : Option (List ℕ)) → x ≡ Whole at l b
-    → OnErr result ((j ≡ i + 1)
-    × GrewFront t t' (change_line First n f (status_of b First) ++ change_line Second n s (status_of b Second)))
+    → OnErr result ((j ≡ i + 1) × GrewFront t t' (shown ch d n at f s b))
     → OnErr result ((bs : List (List (List Bool))) → AreLast f s bs → n ≡ length bs
-    → GrewFront t t' (report_changes bs x))
-whole-front (Ok u) x f s n i j t t' e g = tt
-whole-front (Err d) x f s n i j t t' e g = λ bs h k. front-is (whole-is x bs e h k) g.1
+    → GrewFront t t' (report_details ch d bs x))
+whole-front ch d (Ok u) x f s n i j t t' e g = tt
+whole-front ch d (Err v) x f s n i j t t' e g = λ bs h k. front-is (whole-is ch d x bs e h k) g.1
 
 -- what a report writes
-pub adds-is : (r : List Report) (x : Report) → report_changes (wholes r) x ≡ changing.adds r x
-unfolding changing
-adds-is r x = refl
+pub adds-is : (ch : Bool) (d : Detail) (r : List Report) (x : Report)
+    → report_details ch d (wholes r) x ≡ (showing ch d).adds r x
+unfolding showing
+adds-is ch d r x = refl
 
-pub no-ends : (r : List Report) → [] ≡ changing.ends r
-unfolding changing
-no-ends r = refl
+pub no-ends : (ch : Bool) (d : Detail) (r : List Report) → [] ≡ (showing ch d).ends r
+unfolding showing
+no-ends ch d r = refl
 
 -- one report more
-pub next-changes : {f' s' : Option (List ℕ)} {n' k' u' : ℕ} (r : List Report) (x : Report)
+pub next-shown : {f' s' : Option (List ℕ)} {n' k' u' : ℕ} (r : List Report) (x : Report)
     → AreLast f' s' (wholes r ++ wholes (x ∷ [])) → Tallies n' k' u' (r ++ x ∷ [])
-    → Changes f' s' n' k' u' (r ++ x ∷ [])
-next-changes {f'} {s'} r x h t = record { last = subst (AreLast f' s') (sym (wholes-append r (x ∷ []))) h; tally = t }
+    → Shows f' s' n' k' u' (r ++ x ∷ [])
+next-shown {f'} {s'} r x h t = record { last = subst (AreLast f' s') (sym (wholes-append r (x ∷ []))) h; tally = t }
+
+-- with no detail the lines are those of blocks alone
+one-more : (bs : List (List (List Bool))) (b : List (List Bool)) → length (bs ++ b ∷ []) ≡ suc (length bs)
+one-more bs b = let e = length-append bs (b ∷ []) in omega arith
+
+plain-block : (n at : ℕ) (o : Option (List (List Bool))) (b : List (List Bool))
+    → block_details false Plain n at o b ≡ channel_lines n b
+unfolding block_details detail_line channel_line
+plain-block n at o b = refl
+
+plain-from : (bs : List (List (List Bool))) (r : List Report)
+    → details_from false Plain bs r ≡ numbered channel_lines (length bs) (wholes r)
+plain-from bs [] = refl
+plain-from bs (Whole at s b ∷ r) =
+    ap₂ (λ u v. u ++ v) (plain-block (length bs) at (last_or None bs) b)
+    (plain-from (bs ++ b ∷ []) r ∙ ap (λ n. numbered channel_lines n (wholes r)) (one-more bs b))
+plain-from bs (Marked at s wrong ∷ r)
+    = plain-from (bs ++ []) r ∙ ap (λ v. numbered channel_lines (length v) (wholes r)) (append-nil bs)
+plain-from bs (Fault at cell why ∷ r)
+    = plain-from (bs ++ []) r ∙ ap (λ v. numbered channel_lines (length v) (wholes r)) (append-nil bs)
+plain-from bs (Unfinished at cells ∷ r)
+    = plain-from (bs ++ []) r ∙ ap (λ v. numbered channel_lines (length v) (wholes r)) (append-nil bs)
+
+pub plain-lines : (r : List Report) → detail_lines Plain r ≡ status_lines (wholes r)
+plain-lines r = plain-from [] r
+
+plain-change : (n at : ℕ) (o : Option (List (List Bool))) (b : List (List Bool))
+    → block_details true Plain n at o b ≡ block_changes n o b
+unfolding block_details detail_line block_changes change_line
+plain-change n at o b = refl
+
+changes-of : (bs : List (List (List Bool))) (r : List Report)
+    → details_from true Plain bs r ≡ changes_from (length bs) (last_or None bs) (wholes r)
+changes-of bs [] = refl
+changes-of bs (Whole at s b ∷ r) =
+    ap₂ (λ u v. u ++ v) (plain-change (length bs) at (last_or None bs) b)
+    (changes-of (bs ++ b ∷ []) r
+    ∙ ap₂ (λ n o. changes_from n o (wholes r)) (one-more bs b) (last-push None bs b))
+changes-of bs (Marked at s wrong ∷ r)
+    = changes-of (bs ++ []) r ∙ ap (λ v. changes_from (length v) (last_or None v) (wholes r)) (append-nil bs)
+changes-of bs (Fault at cell why ∷ r)
+    = changes-of (bs ++ []) r ∙ ap (λ v. changes_from (length v) (last_or None v) (wholes r)) (append-nil bs)
+changes-of bs (Unfinished at cells ∷ r)
+    = changes-of (bs ++ []) r ∙ ap (λ v. changes_from (length v) (last_or None v) (wholes r)) (append-nil bs)
+
+pub plain-changes : (r : List Report) → change_details Plain r ≡ change_lines (wholes r)
+plain-changes r = changes-of [] r
+
+pub plain-whole : (c : List Level) → detail_lines Plain (reports c) ≡ status_lines (blocks c)
+unfolding blocks
+plain-whole c = plain-lines (reports c)
+
+-- and a line with a detail is the plain line with it before its line feed
+pub detail-behind : (detail : Detail) (channel : Channel) (n at : ℕ) (b : List (List Bool))
+    → Behind (channel_line channel n b) (detail_text detail channel at b) (detail_line detail channel n at b)
+unfolding channel_line detail_line
+detail-behind detail channel n at b =
+    let h = head_text n channel in
+    let s = status_text (status_of b channel) in
+    record {
+      words = h ++ s;
+      plain = sym (append_assoc h s (10 ∷ []));
+      behind = sym (append_assoc h s (detail_text detail channel at b ++ 10 ∷ []));
+    }

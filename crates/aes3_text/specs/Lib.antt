@@ -1,3 +1,4 @@
 pub mod Runs
 pub mod Laws
 pub mod ChangeLaws
+pub mod DetailLaws

@@ -1,5 +1,6 @@
 -- The lines of channel status of whole runs.
-use Rattle.std.specs.Prelude.{ℕ, suc, List, [], ◌∷◌, ◌++◌, Bool, length, ◌≡◌, Option, Some, None, if◌then◌else◌}
+use Rattle.std.specs.Prelude.{ℕ, suc, List, [], ◌∷◌, ◌++◌, Bool, true, false, length, ◌≡◌, Option, Some, None}
+use Rattle.std.specs.Prelude.{if◌then◌else◌}
 use Rattle.std.specs.List.{last_or}
 use Rattle.std.specs.Option.{option_map}
 use Rattle.std.specs.Str.{bytes_eq}
@@ -12,7 +13,8 @@ use Rattle.aes3_lock.specs.Reports.{wholes}
 use Rattle.aes3_lock.specs.Tallies.{Tallies}
 use Rattle.aes3_input.specs.Taking.{Writing}
 use Rattle.aes3_runs.specs.BlockRuns.{numbered}
-use Rattle.aes3_lines.specs.StatusLines.{status_line}
+use Rattle.aes3_lines.specs.declared.detail.Detail.{Detail}
+use Rattle.aes3_lines.specs.StatusLines.{detail_text, status_line, status_line_with}
 
 -- the line of a channel of a block, the lines of both, and of blocks numbered from 0
 unfoldable pub channel_line : Channel → ℕ → List (List Bool) → List ℕ
@@ -24,10 +26,16 @@ channel_lines n b = channel_line First n b ++ channel_line Second n b
 abbrev pub status_lines : List (List (List Bool)) → List ℕ
 status_lines bs = numbered channel_lines 0 bs
 
+-- a line of a channel's status; where those that tell no change are left out, none behind the same status in the block
+-- before, if there is one
+abbrev pub told : Bool → Option (List ℕ) → List ℕ → List ℕ → List ℕ
+told false before status line = line
+told true None status line = line
+told true (Some before) status line = if bytes_eq before status then [] else line
+
 -- the line of a channel's status in block n, unless the block before it, if there is one, has the same status
 unfoldable pub change_line : Channel → ℕ → Option (List ℕ) → List ℕ → List ℕ
-change_line channel n None status = status_line n channel status
-change_line channel n (Some before) status = if bytes_eq before status then [] else status_line n channel status
+change_line channel n before status = told true before status (status_line n channel status)
 
 -- a channel's status in a block, if there is one
 abbrev pub status_in : Channel → Option (List (List Bool)) → Option (List ℕ)
@@ -49,21 +57,45 @@ changes_from n before (b ∷ bs) = block_changes n before b ++ changes_from (suc
 abbrev pub change_lines : List (List (List Bool)) → List ℕ
 change_lines bs = changes_from 0 None bs
 
--- a reporter that writes so
-abbrev pub report_changes : List (List (List Bool)) → Report → List ℕ
-report_changes bs (Whole at s b) = block_changes (length bs) (last_or None bs) b
-report_changes bs (Marked at s wrong) = []
-report_changes bs (Fault at cell why) = []
-report_changes bs (Unfinished at cells) = []
+-- the line of a channel's status in block n, which begins at cell `at`, with its detail behind
+unfoldable pub detail_line : Detail → Channel → ℕ → ℕ → List (List Bool) → List ℕ
+detail_line detail channel n at b = status_line_with n channel (status_of b channel) (detail_text detail channel at b)
 
-unfoldable pub changing : Writing Report
-changing = record { adds = λ r x. report_changes (wholes r) x; ends = λ r. [] }
+-- the lines of block n, which begins at cell `at`, behind a block, if there is one: both, or those of changes
+unfoldable pub block_details : Bool → Detail → ℕ → ℕ → Option (List (List Bool)) → List (List Bool) → List ℕ
+block_details changes detail n at before b =
+    told changes (status_in First before) (status_of b First) (detail_line detail First n at b)
+    ++ told changes (status_in Second before) (status_of b Second) (detail_line detail Second n at b)
+
+-- what a report writes behind the blocks bs, and reports one behind the other
+abbrev pub report_details : Bool → Detail → List (List (List Bool)) → Report → List ℕ
+report_details changes detail bs (Whole at s b) = block_details changes detail (length bs) at (last_or None bs) b
+report_details changes detail bs (Marked at s wrong) = []
+report_details changes detail bs (Fault at cell why) = []
+report_details changes detail bs (Unfinished at cells) = []
+
+abbrev pub details_from : Bool → Detail → List (List (List Bool)) → List Report → List ℕ
+details_from changes detail bs [] = []
+details_from changes detail bs (x ∷ r) =
+    report_details changes detail bs x ++ details_from changes detail (bs ++ wholes (x ∷ [])) r
+
+-- of reports the lines of each whole block: both; or both of the first, and of each other those of a status that is not
+-- that of the block before
+abbrev pub detail_lines : Detail → List Report → List ℕ
+detail_lines detail r = details_from false detail [] r
+
+abbrev pub change_details : Detail → List Report → List ℕ
+change_details detail r = details_from true detail [] r
+
+-- a reporter that writes so
+unfoldable pub showing : Bool → Detail → Writing Report
+showing changes detail = record { adds = λ r x. report_details changes detail (wholes r) x; ends = λ r. [] }
 
 -- the statuses of the last of blocks, if there is one; and with them the counters of the reports r
 pub record AreLast (first second : Option (List ℕ)) (bs : List (List (List Bool))) : Type 0 where
   pub first_is : first ≡ status_in First (last_or None bs)
   pub second_is : second ≡ status_in Second (last_or None bs)
 
-pub record Changes (first second : Option (List ℕ)) (blocks faults unfinished : ℕ) (r : List Report) : Type 0 where
+pub record Shows (first second : Option (List ℕ)) (blocks faults unfinished : ℕ) (r : List Report) : Type 0 where
   pub last : AreLast first second (wholes r)
   pub tally : Tallies blocks faults unfinished r

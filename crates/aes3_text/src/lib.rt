@@ -3,20 +3,19 @@
 //! too.
 #![tactic(auto)]
 
-/// The channel status of each block that changes it, line by line.
-mod changing;
 /// The reports on cells, line by line.
 mod checking;
 /// Laws over the definitions alone, whatever the cells.
 pub mod laws;
-/// The channel status of each block, line by line.
+/// The channel status of blocks, line by line.
 mod showing;
+/// A reporter that writes the channel status of blocks.
+mod status_lines;
 
 pub use aes3_lines::{
-    Lines, SettingsFault, add_choices, consumer_setting, line_of_mark, line_of_status,
-    professional_setting, settings_of_texts,
+    Detail, Lines, SettingsFault, add_choices, consumer_setting, line_of_mark, line_of_status,
+    line_of_status_with, professional_setting, settings_of_texts, text_of_detail,
 };
 pub use aes3_reports::{line_of_report, scan};
-pub use changing::show_changes;
 pub use checking::check;
-pub use showing::show;
+pub use showing::{show, show_changes, show_detail};

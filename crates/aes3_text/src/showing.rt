@@ -1,63 +1,58 @@
 //! The channel status of blocks, line by line.
 
-ghost use Rattle.std.specs.Prelude.{◌≡◌, ℕ, ◌+◌, ◌<◌, ◌≤◌, ◌^◌, List, [], IfOk};
+ghost use Rattle.std.specs.Prelude.{◌≡◌, ℕ, ◌+◌, ◌<◌, ◌≤◌, ◌^◌, List, [], true, false, IfOk};
 ghost use Rattle.aes3_cell.specs.Ends.{Grew, Told};
-ghost use Rattle.aes3_cell.specs.Writes.{Wrote};
-ghost use Rattle.aes3_lock.specs.Reports.{blocks};
+ghost use Rattle.aes3_lock.specs.Reports.{blocks, decided, reports};
 ghost use Rattle.aes3_input.specs.Driving.{CellRun};
 ghost use Rattle.aes3_input.specs.Inputs.{cells_of};
 ghost use Rattle.aes3_input.specs.Running.{movement_of};
 ghost use Rattle.aes3_runs.specs.BlockRuns.{decided_blocks};
 ghost use Rattle.aes3_runs.specs.ReportRuns.{counts_of};
-ghost use Rattle.aes3_text.specs.Runs.{channel_line, channel_lines, status_lines};
+ghost use Rattle.aes3_text.specs.Runs.{change_details, detail_lines, details_from, status_lines};
 
-use aes3_block::{Block, Channel, GatheredCells};
-use aes3_cell::{Counts, Fault, Form, RunError, Sink, Source};
-use aes3_lines::line_of_status;
-use aes3_runs::{BlockWriter, run_blocks};
+use crate::status_lines::StatusLines;
+use aes3_cell::{Counts, Form, RunError, Sink, Source};
+use aes3_input::drive;
+use aes3_lines::Detail;
+use aes3_runs::Locked;
 
-/// Writes the channel status of a channel of block `number`.
-#[tactic(auto, unfolding(crate::specs::Runs::channel_line))]
-fn put_channel<T: Sink>(
-    channel: Channel,
-    number: u64,
-    block: &Block,
+/// Reads cells, and writes the lines of the blocks: all of them, or those of changes.
+///
+/// # Errors
+/// Those of `show`.
+fn show_lines<S: Source, T: Sink>(
+    source: &mut S,
     sink: &mut T,
-) -> Result<(), Fault>
-    requires room { T.failed sink.old + 1 < 2 ^ 64 }
-    ensures { Wrote T.taken T.failed sink.old sink.new
-        (channel_line channel number block.now) result }
+    max_bytes: u64,
+    input: Form,
+    detail: Detail,
+    changes: bool,
+) -> Result<Counts, RunError>
+    requires source_room { S.failed source.old + 1 < 2 ^ 64 }
+    requires sink_room { T.failed sink.old + 1 < 2 ^ 64 }
+    requires limit { max_bytes ≤ 2 ^ 40 }
+    ensures run { CellRun max_bytes input (record {
+      whole = λ c. details_from changes detail [] (reports c);
+      begun = λ c. details_from changes detail [] (decided c);
+      counts = counts_of input;
+    }) (S.has_ended source.new) (movement_of S.given S.failed source.old source.new)
+        (movement_of T.taken T.failed sink.old sink.new) result }
+    ensures passed_on { IfOk result (λ _. T.passed sink.new ≡ T.taken sink.new) }
 {
-    let status = block.channel_status(channel);
-    line_of_status(number, channel, &status, sink)
-}
-
-/// Writes the lines of a block's two channels.
-fn put_channels<T: Sink>(number: u64, block: &Block, sink: &mut T) -> Result<(), Fault>
-    requires room { T.failed sink.old + 1 < 2 ^ 64 }
-    ensures { Wrote T.taken T.failed sink.old sink.new (channel_lines number block.now) result }
-{
-    match put_channel(Channel::First, number, block, sink) {
-        Ok(()) => put_channel(Channel::Second, number, block, sink),
-        Err(fault) => Err(fault),
-    }
-}
-
-/// Writes the channel status of each block.
-#[derive(Drop)]
-struct ChannelLines;
-
-impl BlockWriter for ChannelLines {
-    ghost writes = { λ _. channel_lines };
-
-    ghost ends = { λ _. [] };
-
-    fn put<T: Sink>(&self, sink: &mut T, number: u64, cells: &GatheredCells) -> Result<(), Fault> {
-        put_channels(number, &cells.block(), sink)
-    }
-
-    fn put_end<T: Sink>(&self, _sink: &mut T) -> Result<(), Fault> {
-        Ok(())
+    let mut taker = Locked::new(StatusLines::new(detail, changes));
+    match drive(source, sink, max_bytes, input, &mut taker) {
+        Ok((bytes, cells)) => {
+            let tally = &taker.reporter.tally;
+            Ok(Counts {
+                bytes,
+                cells,
+                blocks: tally.blocks,
+                faults: tally.faults,
+                unfinished: tally.unfinished,
+                marks: 0,
+            })
+        }
+        Err(error) => Err(error),
     }
 }
 
@@ -91,5 +86,77 @@ pub fn show<S: Source, T: Sink>(
         (movement_of T.taken T.failed sink.old sink.new) result }
     ensures passed_on { IfOk result (λ _. T.passed sink.new ≡ T.taken sink.new) }
 {
-    run_blocks(source, sink, max_bytes, input, ChannelLines)
+    show_lines(source, sink, max_bytes, input, Detail::Plain, false)
+}
+
+/// Does what `show` does, with this detail behind each line (AES3-1, IEC 60958-1: validity and user
+/// bits).
+///
+/// # Errors
+/// Those of `show`.
+pub fn show_detail<S: Source, T: Sink>(
+    source: &mut S,
+    sink: &mut T,
+    max_bytes: u64,
+    input: Form,
+    detail: Detail,
+) -> Result<Counts, RunError>
+    requires source_room { S.failed source.old + 1 < 2 ^ 64 }
+    requires sink_room { T.failed sink.old + 1 < 2 ^ 64 }
+    requires limit { max_bytes ≤ 2 ^ 40 }
+
+    // Where it answers Ok, exactly the lines of the whole blocks are written, in order of place.
+    ensures lines { IfOk result (λ _. (b : List ℕ)
+        → Told (S.given source.old) (S.given source.new) b
+        → Grew (T.taken sink.old) (T.taken sink.new)
+        (detail_lines detail (reports (cells_of input b)))) }
+    // It is a run over cells: Ok is owed, a refusal has its cause, and what was decided before it
+    // is written.
+    ensures run { CellRun max_bytes input (record {
+      whole = λ c. detail_lines detail (reports c);
+      begun = λ c. detail_lines detail (decided c);
+      counts = counts_of input;
+    }) (S.has_ended source.new) (movement_of S.given S.failed source.old source.new)
+        (movement_of T.taken T.failed sink.old sink.new) result }
+    ensures passed_on { IfOk result (λ _. T.passed sink.new ≡ T.taken sink.new) }
+{
+    show_lines(source, sink, max_bytes, input, detail, false)
+}
+
+/// Reads cells from any cell on, and writes the channel status of the blocks that stand whole and
+/// closed in them, where it changes (AES3-2, IEC 60958-3), with this detail behind each line: both
+/// lines of the first, and of each other a channel's line where its status is not that of the block
+/// before.
+///
+/// # Errors
+/// Those of `show`; then the lines of the blocks are written that were decided before, and after
+/// `Write` a front of them.
+pub fn show_changes<S: Source, T: Sink>(
+    source: &mut S,
+    sink: &mut T,
+    max_bytes: u64,
+    input: Form,
+    detail: Detail,
+) -> Result<Counts, RunError>
+    requires source_room { S.failed source.old + 1 < 2 ^ 64 }
+    requires sink_room { T.failed sink.old + 1 < 2 ^ 64 }
+    requires limit { max_bytes ≤ 2 ^ 40 }
+
+    // Where it answers Ok, exactly the lines of the blocks are written that are their first or a
+    // change, in order of place.
+    ensures lines { IfOk result (λ _. (b : List ℕ)
+        → Told (S.given source.old) (S.given source.new) b
+        → Grew (T.taken sink.old) (T.taken sink.new)
+        (change_details detail (reports (cells_of input b)))) }
+    // It is a run over cells: Ok is owed, a refusal has its cause, and what was decided before it
+    // is written.
+    ensures run { CellRun max_bytes input (record {
+      whole = λ c. change_details detail (reports c);
+      begun = λ c. change_details detail (decided c);
+      counts = counts_of input;
+    }) (S.has_ended source.new) (movement_of S.given S.failed source.old source.new)
+        (movement_of T.taken T.failed sink.old sink.new) result }
+    ensures passed_on { IfOk result (λ _. T.passed sink.new ≡ T.taken sink.new) }
+{
+    show_lines(source, sink, max_bytes, input, detail, true)
 }
