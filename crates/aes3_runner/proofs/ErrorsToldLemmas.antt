@@ -10,8 +10,8 @@ use Rattle.aes3_arguments.specs.declared.job.LineFault.TheVariants.{Usage, Help,
 use Rattle.aes3_arguments.specs.declared.line.CommandLine.{CommandLine}
 use Rattle.aes3_hints.specs.Sentences.{reads_packed, writes_packed}
 use Rattle.aes3_job.specs.declared.job.Job.{Job}
-use Rattle.aes3_job.specs.declared.job.Job.TheVariants.{Encode, Decode, Normal, Check, Account, Watch, Show}
-use Rattle.aes3_job.specs.declared.job.Job.TheVariants.{ShowChanges, Scan, Cut, Rewrite, ToPcm, FromPcm}
+use Rattle.aes3_job.specs.declared.job.Job.TheVariants.{Encode, Decode, Normal, Check, Account, Watch, WatchSums}
+use Rattle.aes3_job.specs.declared.job.Job.TheVariants.{Show, ShowChanges, Scan, Cut, Rewrite, ToPcm, FromPcm, ToBits}
 use Rattle.aes3_runner.specs.JobRuns.{AnswerTold, status_by}
 use Rattle.aes3_runner.specs.OctetRuns.{FirstFailed, PackedRan, RawBy, as_raw, written_by}
 use Rattle.aes3_runner.specs.StandardErrors.{ErrorsTold}
@@ -29,13 +29,15 @@ few (Normal i o) n = omega arith
 few (Check i l) n = few-of (n.faults == 0)
 few (Account i l) n = few-of (n.faults == 0)
 few (Watch i l) n = few-of (n.faults == 0)
-few (Show i) n = omega arith
-few (ShowChanges i) n = omega arith
+few (WatchSums i l e) n = few-of (n.faults == 0)
+few (Show i d) n = omega arith
+few (ShowChanges i d) n = omega arith
 few (Scan i) n = omega arith
 few (Cut i o f c) n = omega arith
 few (Rewrite i o c) n = omega arith
-few (ToPcm i) n = omega arith
+few (ToPcm i v) n = omega arith
 few (FromPcm e c) n = omega arith
+few (ToBits i b c) n = omega arith
 
 -- of a job's answer
 of-answer : (line : CommandLine) (job : Job) (answer : Result Counts RunError) (failed : ℕ) (sink errors : Movement)

@@ -19,8 +19,8 @@ use Rattle.aes3_engine.specs.Rewriting.{rewritten_blocks}
 use Rattle.aes3_engine.proofs.RewrittenBlocks.{each-blocks}
 use Rattle.aes3_hints.specs.Sentences.{is_packed, writes_packed}
 use Rattle.aes3_job.specs.declared.job.Job.{Job}
-use Rattle.aes3_job.specs.declared.job.Job.TheVariants.{Encode, Decode, Normal, Check, Account, Watch, Show}
-use Rattle.aes3_job.specs.declared.job.Job.TheVariants.{ShowChanges, Scan, Cut, Rewrite, ToPcm, FromPcm}
+use Rattle.aes3_job.specs.declared.job.Job.TheVariants.{Encode, Decode, Normal, Check, Account, Watch, WatchSums}
+use Rattle.aes3_job.specs.declared.job.Job.TheVariants.{Show, ShowChanges, Scan, Cut, Rewrite, ToPcm, FromPcm, ToBits}
 use Rattle.aes3_runner.specs.JobRuns.{promise_of}
 use Rattle.aes3_runner.specs.OctetRuns.{PackBoth}
 
@@ -48,12 +48,14 @@ can-be-turned (Normal i o) h b = of-normal o (cells_of i b) h
 can-be-turned (Check i told) h b = absurd cc
 can-be-turned (Account i told) h b = absurd cc
 can-be-turned (Watch i style) h b = absurd cc
-can-be-turned (Show i) h b = absurd cc
-can-be-turned (ShowChanges i) h b = absurd cc
+can-be-turned (WatchSums i style every) h b = absurd cc
+can-be-turned (Show i detail) h b = absurd cc
+can-be-turned (ShowChanges i detail) h b = absurd cc
 can-be-turned (Scan i) h b = absurd cc
 can-be-turned (Cut i o from count) h b =
     of-blocks o (cut_blocks from count (blocks (cells_of i b))) h (cut-each from count (blocks (cells_of i b)) (blocks27 (cells_of i b)))
 can-be-turned (Rewrite i o change) h b =
     of-blocks o (rewritten_blocks change (blocks (cells_of i b))) h (each-blocks change (blocks (cells_of i b)) (blocks27 (cells_of i b)))
-can-be-turned (ToPcm i) h b = absurd cc
+can-be-turned (ToPcm i valid) h b = absurd cc
 can-be-turned (FromPcm exact change) h b = absurd cc
+can-be-turned (ToBits i bits channel) h b = absurd cc

@@ -1,5 +1,5 @@
 -- What the program does for a job.
-use Rattle.std.specs.Prelude.{ℕ, [], Bool, Result, Ok, Err, ◌≡◌, ◌≢◌, ◌+◌, ◌^◌, ◌==◌, ◌⊎◌, if◌then◌else◌}
+use Rattle.std.specs.Prelude.{ℕ, [], Bool, true, false, Result, Ok, Err, ◌≡◌, ◌≢◌, ◌+◌, ◌^◌, ◌==◌, ◌⊎◌, if◌then◌else◌, max, min}
 use Rattle.aes3_cell.specs.declared.counts.Counts.{Counts}
 use Rattle.aes3_cell.specs.declared.refusal.RunError.{RunError}
 use Rattle.aes3_cell.specs.declared.refusal.RunError.TheVariants as refusal
@@ -16,22 +16,29 @@ use Rattle.aes3_runs.specs.ReportRuns.{counts_of}
 use Rattle.aes3_runs.specs.BlockRuns.{begun_stream, written_stream, cut_blocks, decided_blocks}
 use Rattle.aes3_engine.specs.Rewriting.{rewritten_blocks}
 use Rattle.aes3_engine.specs.Sampling.{sampled_file}
+use Rattle.aes3_engine.specs.Carrying.{all_carried}
+use Rattle.aes3_engine.specs.ValidSamples.{valid_samples}
 use Rattle.aes3_lines.specs.MarkLines.{mark_lines}
 use Rattle.aes3_account.specs.Gaps.{account, begun_account}
 use Rattle.aes3_account.specs.Accounting.{account_counts}
 use Rattle.aes3_account.specs.GapLines.{account_lines}
-use Rattle.aes3_text.specs.Runs.{change_lines, status_lines}
+use Rattle.aes3_text.specs.Runs.{change_details, detail_lines}
 use Rattle.aes3_reports.specs.Lines.{report_lines}
 use Rattle.aes3_reports.specs.Scanning.{scan_counts}
+use Rattle.aes3_account.specs.Sums.{begun_sums, sum_lines}
 use Rattle.aes3_account.specs.Watching.{begun_watch, watch_counts, watch_lines}
 use Rattle.aes3_job.specs.declared.job.Job.{Job}
-use Rattle.aes3_job.specs.declared.job.Job.TheVariants.{Encode, Decode, Normal, Check, Account, Watch, Show}
-use Rattle.aes3_job.specs.declared.job.Job.TheVariants.{ShowChanges, Scan, Cut, Rewrite, ToPcm, FromPcm}
+use Rattle.aes3_job.specs.declared.job.Job.TheVariants.{Encode, Decode, Normal, Check, Account, Watch, WatchSums}
+use Rattle.aes3_job.specs.declared.job.Job.TheVariants.{Show, ShowChanges, Scan, Cut, Rewrite, ToPcm, FromPcm, ToBits}
 use Rattle.aes3_runner.specs.Lines.{refusal_line}
 
 -- how many bytes an input may have
 abbrev pub most : ℕ
 most = 2 ^ 40
+
+-- after how many cells sums are told: 1 at least, and no more than an input may have bytes
+abbrev pub period : ℕ → ℕ
+period every = min (max every 1) most
 
 -- what a job promises: its input, what it writes of one, what of bytes behind which more may come, what it counts, and
 -- why it is refused
@@ -48,10 +55,12 @@ promise_of (Account i lines) =
     (λ c. account_lines lines (begun_account c))
     (account_counts i)
 promise_of (Watch i style) = counted_cells i (watch_lines style) (begun_watch style) (watch_counts i)
-promise_of (Show i) =
-    counted_cells i (λ c. status_lines (blocks c)) (λ c. status_lines (decided_blocks c)) (counts_of i)
-promise_of (ShowChanges i) =
-    counted_cells i (λ c. change_lines (blocks c)) (λ c. change_lines (decided_blocks c)) (counts_of i)
+promise_of (WatchSums i style every) =
+    counted_cells i (sum_lines style (period every)) (begun_sums style (period every)) (watch_counts i)
+promise_of (Show i detail) =
+    counted_cells i (λ c. detail_lines detail (reports c)) (λ c. detail_lines detail (decided c)) (counts_of i)
+promise_of (ShowChanges i detail) =
+    counted_cells i (λ c. change_details detail (reports c)) (λ c. change_details detail (decided c)) (counts_of i)
 promise_of (Scan i) = counted_cells i (λ c. mark_lines (marks c)) (λ c. mark_lines (marks c)) (scan_counts i)
 promise_of (Cut i o from count) =
     counted_cells i
@@ -63,8 +72,15 @@ promise_of (Rewrite i o change) =
     (λ c. written_stream o (rewritten_blocks change (blocks c)))
     (λ c. begun_stream o (rewritten_blocks change (decided_blocks c)))
     (counts_of i)
-promise_of (ToPcm i) = counted_cells i (λ c. samples (blocks c)) (λ c. samples (decided_blocks c)) (counts_of i)
+promise_of (ToPcm i true) =
+    counted_cells i (λ c. valid_samples (blocks c)) (λ c. valid_samples (decided_blocks c)) (counts_of i)
+promise_of (ToPcm i false) = counted_cells i (λ c. samples (blocks c)) (λ c. samples (decided_blocks c)) (counts_of i)
 promise_of (FromPcm exact change) = sampled_file exact change
+promise_of (ToBits i bits channel) =
+    counted_cells i
+    (λ c. all_carried bits channel (blocks c))
+    (λ c. all_carried bits channel (decided_blocks c))
+    (counts_of i)
 
 -- a run of a job
 abbrev pub RunRan : Job → Bool → Movement → Movement → Result Counts RunError → Type 0
@@ -78,13 +94,15 @@ status_by (Normal i o) n = 0
 status_by (Check i lines) n = if n.faults == 0 then 0 else 1
 status_by (Account i lines) n = if n.faults == 0 then 0 else 1
 status_by (Watch i style) n = if n.faults == 0 then 0 else 1
-status_by (Show i) n = 0
-status_by (ShowChanges i) n = 0
+status_by (WatchSums i style every) n = if n.faults == 0 then 0 else 1
+status_by (Show i detail) n = 0
+status_by (ShowChanges i detail) n = 0
 status_by (Scan i) n = 0
 status_by (Cut i o from count) n = 0
 status_by (Rewrite i o change) n = 0
-status_by (ToPcm i) n = 0
+status_by (ToPcm i valid) n = 0
 status_by (FromPcm exact change) n = 0
+status_by (ToBits i bits channel) n = 0
 
 -- a refusal behind which the sink was flushed: it stays what it was, or that failed
 abbrev pub Flushed : RunError → Movement → RunError → Type 0

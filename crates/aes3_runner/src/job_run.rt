@@ -1,14 +1,14 @@
 //! A job between a source and a sink.
 
-ghost use Rattle.std.specs.Prelude.{◌≡◌, ◌<◌, ◌+◌, ◌^◌, IfOk};
+ghost use Rattle.std.specs.Prelude.{◌≡◌, ◌<◌, ◌≤◌, ◌+◌, ◌^◌, IfOk};
 ghost use Rattle.aes3_input.specs.Running.{movement_of};
-ghost use Rattle.aes3_runner.specs.JobRuns.{RunRan, status_by};
+ghost use Rattle.aes3_runner.specs.JobRuns.{RunRan, period, status_by};
 
-use aes3_account::{account, watch};
+use aes3_account::{account, watch, watch_sums};
 use aes3_cell::{Counts, RunError, Sink, Source};
-use aes3_engine::{cut, decode, encode, from_pcm, normalise, rewrite, to_pcm};
+use aes3_engine::{cut, decode, encode, from_pcm, normalise, rewrite, to_bits, to_pcm, to_valid_pcm};
 use aes3_job::Job;
-use aes3_text::{check, scan, show, show_changes};
+use aes3_text::{check, scan, show_changes, show_detail};
 
 /// How many bytes an input may have.
 const MAX_BYTES: u64 = 1 << 40;
@@ -27,8 +27,19 @@ pub(crate) fn exit_status(job: &Job, counts: &Counts) -> u8
         Job::Check { .. } if counts.faults > 0 => FAULTY,
         Job::Account { .. } if counts.faults > 0 => FAULTY,
         Job::Watch { .. } if counts.faults > 0 => FAULTY,
+        Job::WatchSums { .. } if counts.faults > 0 => FAULTY,
         _ => DONE,
     }
+}
+
+/// After how many cells sums are told: 1 at least, and no more than an input may have bytes. What
+/// words ask for is such a number.
+fn period(every: u64) -> u64
+    ensures period { result ≡ period every }
+    ensures some { 0 < result }
+    ensures few { result ≤ 2 ^ 40 }
+{
+    every.max(1).min(MAX_BYTES)
 }
 
 /// Runs a job.
@@ -54,8 +65,13 @@ pub fn run_job<S: Source, T: Sink>(
         Job::Check { input, lines } => check(source, sink, MAX_BYTES, input, lines),
         Job::Account { input, lines } => account(source, sink, MAX_BYTES, input, lines),
         Job::Watch { input, style } => watch(source, sink, MAX_BYTES, input, style),
-        Job::Show { input } => show(source, sink, MAX_BYTES, input),
-        Job::ShowChanges { input } => show_changes(source, sink, MAX_BYTES, input),
+        Job::WatchSums {
+            input,
+            style,
+            every,
+        } => watch_sums(source, sink, MAX_BYTES, input, style, period(every)),
+        Job::Show { input, detail } => show_detail(source, sink, MAX_BYTES, input, detail),
+        Job::ShowChanges { input, detail } => show_changes(source, sink, MAX_BYTES, input, detail),
         Job::Scan { input } => scan(source, sink, MAX_BYTES, input),
         Job::Cut {
             input,
@@ -68,7 +84,16 @@ pub fn run_job<S: Source, T: Sink>(
             output,
             change,
         } => rewrite(source, sink, MAX_BYTES, input, output, &change),
-        Job::ToPcm { input } => to_pcm(source, sink, MAX_BYTES, input),
+        Job::ToPcm { input, valid: true } => to_valid_pcm(source, sink, MAX_BYTES, input),
+        Job::ToPcm {
+            input,
+            valid: false,
+        } => to_pcm(source, sink, MAX_BYTES, input),
         Job::FromPcm { exact, change } => from_pcm(source, sink, MAX_BYTES, exact, &change),
+        Job::ToBits {
+            input,
+            bits,
+            channel,
+        } => to_bits(source, sink, MAX_BYTES, input, bits, channel),
     }
 }

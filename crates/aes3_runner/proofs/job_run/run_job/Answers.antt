@@ -20,7 +20,7 @@ pub returns-in-Watch-clause-ran : goal.returns-in-Watch-clause-ran
 returns-in-Watch-clause-ran g c = run-of c.in-Watch.is c.watch.ensures.run
 
 pub returns-in-Show-clause-ran : goal.returns-in-Show-clause-ran
-returns-in-Show-clause-ran g c = run-of c.in-Show.is c.show.ensures.run
+returns-in-Show-clause-ran g c = run-of c.in-Show.is c.show_detail.ensures.run
 
 pub returns-in-ShowChanges-clause-ran : goal.returns-in-ShowChanges-clause-ran
 returns-in-ShowChanges-clause-ran g c = run-of c.in-ShowChanges.is c.show_changes.ensures.run
@@ -39,3 +39,6 @@ returns-in-ToPcm-clause-ran g c = run-of c.in-ToPcm.is c.to_pcm.ensures.run
 
 pub returns-in-FromPcm-clause-ran : goal.returns-in-FromPcm-clause-ran
 returns-in-FromPcm-clause-ran g c = run-of c.in-FromPcm.is c.from_pcm.ensures.run
+
+pub returns-in-ToBits-clause-ran : goal.returns-in-ToBits-clause-ran
+returns-in-ToBits-clause-ran g c = run-of c.in-ToBits.is c.to_bits.ensures.run
