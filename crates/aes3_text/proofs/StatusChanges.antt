@@ -160,10 +160,16 @@ next-shown {f'} {s'} r x h t = record { last = subst (AreLast f' s') (sym (whole
 one-more : (bs : List (List (List Bool))) (b : List (List Bool)) → length (bs ++ b ∷ []) ≡ suc (length bs)
 one-more bs b = let e = length-append bs (b ∷ []) in omega arith
 
+plain-line : (channel : Channel) (n at : ℕ) (b : List (List Bool))
+    → detail_line Plain channel n at b ≡ channel_line channel n b
+unfolding detail_line channel_line
+plain-line channel n at b
+    = ap (λ v. v ++ 10 ∷ []) (append-nil (head_text n channel ++ status_text (status_of b channel)))
+
 plain-block : (n at : ℕ) (o : Option (List (List Bool))) (b : List (List Bool))
     → block_details false Plain n at o b ≡ channel_lines n b
-unfolding block_details detail_line channel_line
-plain-block n at o b = refl
+unfolding block_details
+plain-block n at o b = ap₂ (λ u v. u ++ v) (plain-line First n at b) (plain-line Second n at b)
 
 plain-from : (bs : List (List (List Bool))) (r : List Report)
     → details_from false Plain bs r ≡ numbered channel_lines (length bs) (wholes r)
@@ -183,8 +189,11 @@ plain-lines r = plain-from [] r
 
 plain-change : (n at : ℕ) (o : Option (List (List Bool))) (b : List (List Bool))
     → block_details true Plain n at o b ≡ block_changes n o b
-unfolding block_details detail_line block_changes change_line
-plain-change n at o b = refl
+unfolding block_details block_changes change_line channel_line
+plain-change n at o b =
+    ap₂ (λ u v. told true (status_in First o) (status_of b First) u
+    ++ told true (status_in Second o) (status_of b Second) v)
+    (plain-line First n at b) (plain-line Second n at b)
 
 changes-of : (bs : List (List (List Bool))) (r : List Report)
     → details_from true Plain bs r ≡ changes_from (length bs) (last_or None bs) (wholes r)
@@ -211,11 +220,8 @@ plain-whole c = plain-lines (reports c)
 pub detail-behind : (detail : Detail) (channel : Channel) (n at : ℕ) (b : List (List Bool))
     → Behind (channel_line channel n b) (detail_text detail channel at b) (detail_line detail channel n at b)
 unfolding channel_line detail_line
-detail-behind detail channel n at b =
-    let h = head_text n channel in
-    let s = status_text (status_of b channel) in
-    record {
-      words = h ++ s;
-      plain = sym (append_assoc h s (10 ∷ []));
-      behind = sym (append_assoc h s (detail_text detail channel at b ++ 10 ∷ []));
-    }
+detail-behind detail channel n at b = record {
+  words = head_text n channel ++ status_text (status_of b channel);
+  plain = refl;
+  behind = refl;
+}
