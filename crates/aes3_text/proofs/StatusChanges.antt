@@ -1,6 +1,8 @@
 -- The lines of channel status, one behind the other.
-use Rattle.std.proofs.Common.{◌≡◌, ℕ, suc, ◌+◌, List, [], ◌∷◌, ◌++◌, Bool, true, false, length, Option, Some, None, refl, sym, ap}
-use Rattle.std.proofs.Common.{ap₂, ◌∙◌, subst, arith, append-nil, append_assoc, length-append, Result, Ok, Err, IfOk, OnErr}
+use Rattle.std.proofs.Common.{◌≡◌, ℕ, suc, ◌+◌, List, [], ◌∷◌, ◌++◌, Bool, true, false, length, Option, Some, None}
+use Rattle.std.proofs.Common.{refl, sym, ap}
+use Rattle.std.proofs.Common.{ap₂, ◌∙◌, subst, arith, append-nil, append_assoc, length-append, Result, Ok, Err, IfOk}
+use Rattle.std.proofs.Common.{OnErr}
 use Rattle.std.specs.List.{last_or}
 use Rattle.aes3_level.specs.declared.level.Level.{Level}
 use Rattle.aes3_cell.specs.declared.ends.Fault as device
@@ -28,7 +30,8 @@ use Rattle.aes3_lines.specs.declared.detail.Detail.{Detail}
 use Rattle.aes3_lines.specs.declared.detail.Detail.TheVariants.{Plain}
 use Rattle.aes3_lines.specs.StatusLines.{detail_text, head_text, status_line_with, status_text}
 use Rattle.aes3_text.specs.DetailLaws.{Behind}
-use Rattle.aes3_text.specs.Runs.{AreLast, Shows, block_changes, block_details, change_details, change_line, change_lines}
+use Rattle.aes3_text.specs.Runs.{AreLast, Shows, block_changes, block_details, change_details, change_line}
+use Rattle.aes3_text.specs.Runs.{change_lines}
 use Rattle.aes3_text.specs.Runs.{changes_from, channel_line, channel_lines, detail_line, detail_lines, details_from}
 use Rattle.aes3_text.specs.Runs.{report_details, showing, status_in, status_lines, told}
 
