@@ -1,6 +1,8 @@
 -- The lines of channel status, one behind the other.
-use Rattle.std.proofs.Common.{◌≡◌, ℕ, suc, ◌+◌, List, [], ◌∷◌, ◌++◌, Bool, true, false, length, Option, Some, None, refl, sym, ap}
-use Rattle.std.proofs.Common.{ap₂, ◌∙◌, subst, arith, append-nil, append_assoc, length-append, Result, Ok, Err, IfOk, OnErr}
+use Rattle.std.proofs.Common.{◌≡◌, ℕ, suc, ◌+◌, List, [], ◌∷◌, ◌++◌, Bool, true, false, length, Option, Some, None}
+use Rattle.std.proofs.Common.{refl, sym, ap}
+use Rattle.std.proofs.Common.{ap₂, ◌∙◌, subst, arith, append-nil, append_assoc, length-append, Result, Ok, Err, IfOk}
+use Rattle.std.proofs.Common.{OnErr}
 use Rattle.std.specs.List.{last_or}
 use Rattle.aes3_level.specs.declared.level.Level.{Level}
 use Rattle.aes3_cell.specs.declared.ends.Fault as device
@@ -28,7 +30,8 @@ use Rattle.aes3_lines.specs.declared.detail.Detail.{Detail}
 use Rattle.aes3_lines.specs.declared.detail.Detail.TheVariants.{Plain}
 use Rattle.aes3_lines.specs.StatusLines.{detail_text, head_text, status_line_with, status_text}
 use Rattle.aes3_text.specs.DetailLaws.{Behind}
-use Rattle.aes3_text.specs.Runs.{AreLast, Shows, block_changes, block_details, change_details, change_line, change_lines}
+use Rattle.aes3_text.specs.Runs.{AreLast, Shows, block_changes, block_details, change_details, change_line}
+use Rattle.aes3_text.specs.Runs.{change_lines}
 use Rattle.aes3_text.specs.Runs.{changes_from, channel_line, channel_lines, detail_line, detail_lines, details_from}
 use Rattle.aes3_text.specs.Runs.{report_details, showing, status_in, status_lines, told}
 
@@ -160,10 +163,16 @@ next-shown {f'} {s'} r x h t = record { last = subst (AreLast f' s') (sym (whole
 one-more : (bs : List (List (List Bool))) (b : List (List Bool)) → length (bs ++ b ∷ []) ≡ suc (length bs)
 one-more bs b = let e = length-append bs (b ∷ []) in omega arith
 
+plain-line : (channel : Channel) (n at : ℕ) (b : List (List Bool))
+    → detail_line Plain channel n at b ≡ channel_line channel n b
+unfolding detail_line channel_line
+plain-line channel n at b
+    = ap (λ v. v ++ 10 ∷ []) (append-nil (head_text n channel ++ status_text (status_of b channel)))
+
 plain-block : (n at : ℕ) (o : Option (List (List Bool))) (b : List (List Bool))
     → block_details false Plain n at o b ≡ channel_lines n b
-unfolding block_details detail_line channel_line
-plain-block n at o b = refl
+unfolding block_details
+plain-block n at o b = ap₂ (λ u v. u ++ v) (plain-line First n at b) (plain-line Second n at b)
 
 plain-from : (bs : List (List (List Bool))) (r : List Report)
     → details_from false Plain bs r ≡ numbered channel_lines (length bs) (wholes r)
@@ -183,8 +192,11 @@ plain-lines r = plain-from [] r
 
 plain-change : (n at : ℕ) (o : Option (List (List Bool))) (b : List (List Bool))
     → block_details true Plain n at o b ≡ block_changes n o b
-unfolding block_details detail_line block_changes change_line
-plain-change n at o b = refl
+unfolding block_details block_changes change_line channel_line
+plain-change n at o b =
+    ap₂ (λ u v. told true (status_in First o) (status_of b First) u
+    ++ told true (status_in Second o) (status_of b Second) v)
+    (plain-line First n at b) (plain-line Second n at b)
 
 changes-of : (bs : List (List (List Bool))) (r : List Report)
     → details_from true Plain bs r ≡ changes_from (length bs) (last_or None bs) (wholes r)
@@ -211,11 +223,8 @@ plain-whole c = plain-lines (reports c)
 pub detail-behind : (detail : Detail) (channel : Channel) (n at : ℕ) (b : List (List Bool))
     → Behind (channel_line channel n b) (detail_text detail channel at b) (detail_line detail channel n at b)
 unfolding channel_line detail_line
-detail-behind detail channel n at b =
-    let h = head_text n channel in
-    let s = status_text (status_of b channel) in
-    record {
-      words = h ++ s;
-      plain = sym (append_assoc h s (10 ∷ []));
-      behind = sym (append_assoc h s (detail_text detail channel at b ++ 10 ∷ []));
-    }
+detail-behind detail channel n at b = record {
+  words = head_text n channel ++ status_text (status_of b channel);
+  plain = refl;
+  behind = refl;
+}
