@@ -97,7 +97,8 @@ changed-from e zero i (x ∷ c) h =
     let j : i + 0 ≡ i = omega arith in
     let o : IsOne e Changed i = subst (IsOne e Changed) j h in
     ap₂ ◌++◌
-    (ap₂ (λ n b. replicate n (level_turned b x)) (sym (times-once e i (one-here e Changed i o Lost) (one-here e Changed i o Doubled)))
+    (ap₂ (λ n b. replicate n (level_turned b x))
+    (sym (times-once e i (one-here e Changed i o Lost) (one-here e Changed i o Doubled)))
     (turned-here e Changed i o))
     (rest e Changed i o c ∙ ap (λ n. map (level_turned (is_odd n)) c) (before-next e Changed i o) ∙ same-cells c)
 changed-from e (suc k) i (x ∷ c) h =
@@ -126,7 +127,8 @@ inverted-from e zero i (x ∷ c) h =
     let j : i + 0 ≡ i = omega arith in
     let o : IsOne e Inverted i = subst (IsOne e Inverted) j h in
     ap₂ ◌++◌
-    (ap₂ (λ n b. replicate n (level_turned b x)) (sym (times-once e i (one-here e Inverted i o Lost) (one-here e Inverted i o Doubled)))
+    (ap₂ (λ n b. replicate n (level_turned b x))
+    (sym (times-once e i (one-here e Inverted i o Lost) (one-here e Inverted i o Doubled)))
     (turned-here e Inverted i o))
     (rest e Inverted i o c ∙ ap (λ n. map (level_turned (is_odd n)) c) (before-next e Inverted i o) ∙ other-cells c)
 inverted-from e (suc k) i (x ∷ c) h =

@@ -82,7 +82,8 @@ clear-one {from = from} {a = a} {b = b} list n d h less p q = record {
 -- where the next multiple stands
 not-repeated : (kind : ErrorKind) (i : ℕ) (every : Every) → (0 < i → 0 < every.cells → i % every.cells ≡ 0 → ⊥)
     → repeated kind i (Some every) ≡ 0
-not-repeated kind i every h = go (same_kind every.kind kind) (cases_lt 0 i) (cases_lt 0 every.cells) (cases_eq (i % every.cells) 0)
+not-repeated kind i every h = go (same_kind every.kind kind) (cases_lt 0 i) (cases_lt 0 every.cells)
+    (cases_eq (i % every.cells) 0)
   where
     go : (b : Bool) → (0 < i) ⊎ (i ≤ 0) → (0 < every.cells) ⊎ (every.cells ≤ 0)
         → (i % every.cells ≡ 0) ⊎ (i % every.cells ≡ 0 → ⊥)
@@ -106,7 +107,8 @@ between : (n q p r : ℕ) → 0 < r → r < n → n * q + r ≤ n * p → n * p 
 between n q p r some less h l = go (cases_lt q p)
   where
     go : (q < p) ⊎ (p ≤ q) → ⊥
-    go (inl a) = let m : n * suc q ≤ n * p = mul-le-mul_left n (omega (arith, a)) in let e : n * suc q ≡ n * q + n = grind arith in omega (arith, m, e, l)
+    go (inl a) = let m : n * suc q ≤ n * p = mul-le-mul_left n (omega (arith, a)) in
+        let e : n * suc q ≡ n * q + n = grind arith in omega (arith, m, e, l)
     go (inr a) = let m : n * p ≤ n * q = mul-le-mul_left n a in omega (arith, m, h, some)
 
 parted : (n m : ℕ) → m ≡ n * (m / n) + m % n

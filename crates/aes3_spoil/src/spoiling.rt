@@ -181,8 +181,8 @@ pub fn spoil<S: Source, T: Sink>(
         → Told (S.given source.old) (S.given source.new) b
         → Grew (T.taken sink.old) (T.taken sink.new)
         (finished output (spoiled errors.now (cells_of input b)))) }
-    // It is a run over cells: Ok is owed, a refusal has its cause, and what was decided before it is
-    // written.
+    // It is a run over cells: Ok is owed, a refusal has its cause, and the whole words of what was
+    // decided before it are written.
     ensures run { CellRun max_bytes input (record {
       whole = λ c. finished output (spoiled errors.now c);
       begun = λ c. bytes_of output (whole_words (spoiled errors.now c));

@@ -21,4 +21,5 @@ pub returns : goal.returns
 returns c =
     let e = c.args.self.now in
     ap₂ ◌+◌ c.loop-error.invariant.count c.one_if_repeated.ensures
-    ∙ sym (at-errors e c.args.kind c.args.place (take e.len e.list) c.loop-error.error-index c.loop-error-test.false refl)
+    ∙ sym (at-errors e c.args.kind c.args.place (take e.len e.list)
+    c.loop-error.error-index c.loop-error-test.false refl)
