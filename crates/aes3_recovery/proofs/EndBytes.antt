@@ -36,17 +36,21 @@ more-packed n a c h =
     = omega (arith, l, h) in
     ap₂ (λ x k. x ++ k ∷ []) (bytes-append Packed n a c h) e ∙ append_assoc (octets_of a) (octets_of c) _
 
+-- cells behind whole words
+pub finished-joined : (form : Form) (n : ℕ) (a rest : List Level) → length a ≡ n * word_len → length rest < 64
+    → finished form (a ++ rest) ≡ bytes_of form a ++ ending_of form rest
+unfolding finished
+finished-joined Text n a rest l few =
+    ap₂ (λ t c. t ++ last_line c)
+    (text_of-append n a rest l ∙ ap (λ t. text_of a ++ t) (few-text rest few) ∙ append-nil (text_of a))
+    (begun-few n a rest l few)
+finished-joined Packed n a rest l few = more-packed n a rest l
+
 pub finished-append : (form : Form) (words : List ℕ) (rest : List Level) → length rest < 64
     → finished form (flat_map word_cells words ++ rest)
     ≡ bytes_of form (flat_map word_cells words) ++ ending_of form rest
-unfolding finished
-finished-append Text words rest few =
-    let a = flat_map word_cells words in
-    let l = length-words words in
-    ap₂ (λ t c. t ++ last_line c)
-    (text_of-append (length words) a rest l ∙ ap (λ t. text_of a ++ t) (few-text rest few) ∙ append-nil (text_of a))
-    (begun-few (length words) a rest l few)
-finished-append Packed words rest few = more-packed (length words) (flat_map word_cells words) rest (length-words words)
+finished-append form words rest few =
+    finished-joined form (length words) (flat_map word_cells words) rest (length-words words) few
 
 pub finished-begins : (form : Form) (words : List ℕ) (more : List Level)
     → (rest : List ℕ) × (bytes_of form (flat_map word_cells words) ++ rest

@@ -38,7 +38,7 @@ high-bits n h = ap (λ v. low_cells n (v - 1)) (one_shl n 64 h) ∙ low_cells-on
 pub behind-all : (n w : ℕ) → w < 2 ^ n → w / 2 ^ n ≡ 0
 behind-all n w h = div-eq_of_lt h
 
-low_cells-low-bits : (n w : ℕ) → low_cells n (w % 2 ^ n) ≡ low_cells n w
+pub low_cells-low-bits : (n w : ℕ) → low_cells n (w % 2 ^ n) ≡ low_cells n w
 low_cells-low-bits n w =
     low_cells-same n (w % 2 ^ n) w
     (λ i h. sym (bit_at_cat_low (w / 2 ^ n) n (w % 2 ^ n) i h) ∙ ap (λ v. bit_at v i) (parts (2 ^ n) w))

@@ -14,6 +14,6 @@ pub use edges::{Edges, Piece};
 pub use levels::{Unit, levels_of};
 pub use line_follower::LineFollower;
 pub use measure::{RUNS, follower_of_runs};
-pub use queue::CellQueue;
+pub use queue::{CellQueue, bits_of_cells, put_last};
 pub use recovery::{Figures, Recovery};
 pub use run::{Progress, Refusal, feed, recover};

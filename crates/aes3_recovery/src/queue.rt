@@ -148,34 +148,36 @@ impl CellQueue {
         ensures cells { Finishes T.taken self.old sink.old sink.new result }
     {
         match self.pass_on(sink) {
-            Ok(()) => self.put_rest(sink),
+            Ok(()) => put_last(self.form, self.word, self.len, sink),
             Err(fault) => Err(fault),
         }
     }
+}
 
-    /// Writes the cells of the word that is not whole, and the ending.
-    fn put_rest<T: Sink>(&self, sink: &mut T) -> Result<(), Fault>
-        requires room { T.failed sink.old + 1 < 2 ^ 64 }
-        ensures { Wrote T.taken T.failed sink.old sink.new
-            (ending_of self.now.form (low_cells self.now.len self.now.word)) result }
-    {
-        match self.form {
-            Form::Text if self.len == 0 => Ok(()),
-            Form::Text => write_all(
-                sink,
-                &last_line_of(self.word, self.len)[..self.len as usize + 1],
-            ),
-            Form::Packed => {
-                let octets = self.len.div_ceil(8) as usize;
-                write_all(sink, &last_octets(self.word, self.len)[..octets + 1])
-            }
+/// Writes the cells behind the last whole word, the first in the lowest bit, and in packed form how
+/// many of the last octet are unused.
+///
+/// # Errors
+/// The sink's fault; then it has taken a front of the bytes.
+pub fn put_last<T: Sink>(form: Form, word: u64, len: u32, sink: &mut T) -> Result<(), Fault>
+    requires few { len < 64 }
+    requires no_more { word < 2 ^ len }
+    requires room { T.failed sink.old + 1 < 2 ^ 64 }
+    ensures { Wrote T.taken T.failed sink.old sink.new (ending_of form (low_cells len word)) result }
+{
+    match form {
+        Form::Text if len == 0 => Ok(()),
+        Form::Text => write_all(sink, &last_line_of(word, len)[..len as usize + 1]),
+        Form::Packed => {
+            let octets = len.div_ceil(8) as usize;
+            write_all(sink, &last_octets(word, len)[..octets + 1])
         }
     }
 }
 
 /// The word whose lowest bits are so many cells of one level.
 #[inline(always)]
-fn bits_of_cells(high: bool, cells: u32) -> u64
+pub fn bits_of_cells(high: bool, cells: u32) -> u64
     requires { cells ≤ 32 }
     ensures cells { low_cells cells result ≡ replicate cells (level_if high) }
     ensures no_more { result < 2 ^ cells }

@@ -8,10 +8,10 @@ pub returns-in-Ok-clause-cells : goal.returns-in-Ok-clause-cells
 returns-in-Ok-clause-cells g c =
     let m = c.pass_on.new.self in
     let l = length-low_cells m.len m.word in
-    ends-finish c.args.self.now m c.args.sink.now c.pass_on.new.sink c.put_rest.new.sink c.put_rest.result
+    ends-finish c.args.self.now m c.args.sink.now c.pass_on.new.sink c.put_last.new.sink c.put_last.result
     (low_cells m.len m.word)
     (put-is c.in-Ok.field-0 c.in-Ok.ensures.cells) c.pass_on.ensures.few (omega (arith, l, m.cells_left))
-    c.put_rest.ensures
+    c.put_last.ensures
 
 pub returns-in-Err-clause-cells : goal.returns-in-Err-clause-cells
 returns-in-Err-clause-cells g c

@@ -1,0 +1,4 @@
+pub mod Errors
+pub mod SpoilLaws
+pub mod Spoiled
+pub mod Spoiling

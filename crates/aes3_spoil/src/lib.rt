@@ -1,0 +1,21 @@
+//! Test signals with errors put in on purpose: cells written again, some of them changed, lost or
+//! doubled (AES3-3; IEC 60958-1).
+#![tactic(auto)]
+
+/// Cells on their way to a sink, in whole words.
+mod cells_out;
+/// Which errors stand where.
+mod errors;
+/// Kinds of errors, and one error.
+mod kinds;
+/// What no errors, one changed cell and one lost cell make of cells.
+mod laws;
+/// The run.
+mod spoiling;
+/// Errors of a subframe and of a block.
+mod subframe_errors;
+
+pub use errors::{ERRORS, Errors};
+pub use kinds::{CellError, ErrorKind, Every};
+pub use laws::spoiled_cells_are_damaged;
+pub use spoiling::spoil;

@@ -1,0 +1,88 @@
+//! Errors of a subframe and of a block, as the cells at which they stand: a subframe has 64 cells,
+//! a preamble of 8 and then two for each time slot from 4 to 31 (AES3-3; IEC 60958-1).
+
+ghost use Rattle.std.specs.Prelude.{◌≡◌, ◌+◌, ◌-◌, ◌*◌, ◌<◌, ◌≤◌, ◌^◌, ◌++◌, ◌∷◌, [], length};
+ghost use Rattle.aes3_spoil.specs.Errors.{errors_of};
+ghost use Rattle.aes3_spoil.specs.declared.kinds.ErrorKind.TheVariants.{Changed, Inverted};
+
+use crate::errors::{ERRORS, Errors};
+use crate::kinds::ErrorKind;
+
+/// How many cells a subframe has.
+const SUBFRAME_CELLS: u64 = 64;
+
+/// How many of them are its preamble, and how many a time slot has.
+const PREAMBLE_CELLS: u64 = 8;
+
+const SLOT_CELLS: u64 = 2;
+
+/// The cell of a preamble that is changed: the last of its first run, which no bits have so long.
+const PREAMBLE_CELL: u64 = 2;
+
+/// The first time slot behind the preamble, and that of the channel status bit.
+const FIRST_SLOT: u64 = 4;
+
+const STATUS_SLOT: u64 = 30;
+
+/// The frame of a block that has the first bit of the check byte (AES3-2: byte 23).
+const CHECK_FRAME: u64 = 184;
+
+impl Errors {
+    /// A wrong parity bit as a sender makes it, in the subframe whose first cell has the number
+    /// `place`: its last cell and all cells behind have the other level, so that the time slot has
+    /// the other bit, and all that follows is lawful after it.
+    pub fn add_wrong_parity(&mut self, place: u64)
+        requires room { length (errors_of self.old) < ERRORS }
+        requires within { place < 2 ^ 63 }
+        ensures list { errors_of self.new
+            ≡ errors_of self.old ++ record { place = place + 63; kind = Inverted } ∷ [] }
+        ensures every { self.new.every ≡ self.old.every }
+    {
+        self.add(place + (SUBFRAME_CELLS - 1), ErrorKind::Inverted);
+    }
+
+    /// A time slot from 4 to 31 that does not begin with a change of level, in the subframe whose
+    /// first cell has the number `place`: the slot's first cell is changed, and no other.
+    pub fn add_biphase(&mut self, place: u64, slot: u8)
+        requires room { length (errors_of self.old) < ERRORS }
+        requires within { place < 2 ^ 63 }
+        requires first { 4 ≤ slot }
+        requires last { slot ≤ 31 }
+        ensures list { errors_of self.new ≡ errors_of self.old
+            ++ record { place = place + 8 + 2 * (slot - 4); kind = Changed } ∷ [] }
+        ensures every { self.new.every ≡ self.old.every }
+    {
+        let cell = PREAMBLE_CELLS + SLOT_CELLS * (u64::from(slot) - FIRST_SLOT);
+        self.add(place + cell, ErrorKind::Changed);
+    }
+
+    /// A preamble that is none, in the subframe whose first cell has the number `place`: its third
+    /// cell is changed.
+    pub fn add_preamble(&mut self, place: u64)
+        requires room { length (errors_of self.old) < ERRORS }
+        requires within { place < 2 ^ 63 }
+        ensures list { errors_of self.new
+            ≡ errors_of self.old ++ record { place = place + 2; kind = Changed } ∷ [] }
+        ensures every { self.new.every ≡ self.old.every }
+    {
+        self.add(place + PREAMBLE_CELL, ErrorKind::Changed);
+    }
+
+    /// A wrong check byte in the block whose first cell has the number `place`: in frame 184,
+    /// channel 1, the second cell of the channel status bit's time slot and the first of that of
+    /// the parity bit are changed. So both bits are others, and nothing else: the block stays
+    /// whole, and a good professional check byte is bad.
+    pub fn add_check_byte(&mut self, place: u64)
+        requires room { length (errors_of self.old) + 1 < ERRORS }
+        requires within { place < 2 ^ 63 }
+        ensures list { errors_of self.new ≡ errors_of self.old
+            ++ record { place = place + 64 * (2 * 184) + 61; kind = Changed }
+            ∷ record { place = place + 64 * (2 * 184) + 62; kind = Changed } ∷ [] }
+        ensures every { self.new.every ≡ self.old.every }
+    {
+        let subframe = SUBFRAME_CELLS * (2 * CHECK_FRAME);
+        let cell = PREAMBLE_CELLS + SLOT_CELLS * (STATUS_SLOT - FIRST_SLOT) + 1;
+        self.add(place + (subframe + cell), ErrorKind::Changed);
+        self.add(place + (subframe + cell + 1), ErrorKind::Changed);
+    }
+}
