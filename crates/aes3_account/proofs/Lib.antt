@@ -15,3 +15,4 @@ pub mod LostCells
 mod LockedLines
 pub mod Sums
 mod SumWrites
+mod SumEvents

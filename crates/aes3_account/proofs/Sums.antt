@@ -199,7 +199,7 @@ period-lines style every u v e =
     (sum (record { from = u.from; to = q; figures = (on_to u q).figures }) ∷ [])
 
 -- what is known by events on the way
-suc-times : (every n : ℕ) → suc n * every ≡ every + n * every
+pub suc-times : (every n : ℕ) → suc n * every ≡ every + n * every
 suc-times every n = grind arith
 
 pub periods-watched : (every n : ℕ) (u : Summed) (q : ℕ) → 0 < every → n * every ≤ q - u.from
@@ -643,7 +643,7 @@ next-known every u x h =
     ap (λ w. next w x) (go-watched every u (place_of x) h)
     ∙ sym (next-join u.watched (place_of x) x (omega arith))
 
-behind-known : (every : ℕ) (u : Summed) (r : List Report) → 0 < every
+pub behind-known : (every : ℕ) (u : Summed) (r : List Report) → 0 < every
     → (behind_sums every u r).watched ≡ behind_reports u.watched r
 behind-known every u [] h = refl
 behind-known every u (x ∷ r) h =

@@ -101,7 +101,7 @@ up-join w a b h = go (either (is_told w a))
     go (inl e) = sym (ap (λ v. up_to v b) (up-told w a true e))
     go (inr e) = up-told w b false (later w a b h e) ∙ sym (ap (λ v. up_to v b) (up-told w a false e))
 
-report-join : (w : Watched) (a : ℕ) (x : Report) → a ≤ place_of x
+pub report-join : (w : Watched) (a : ℕ) (x : Report) → a ≤ place_of x
     → told_events w x ≡ loss_events w a ++ told_events (up_to w a) x
 report-join w a (Whole at s b) h =
     ap₂ (λ l v. l ++ (whole_events v at s ++ change_events at w.latest (signals_of b))) (loss-join w a at h)

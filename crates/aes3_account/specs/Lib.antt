@@ -7,3 +7,4 @@ pub mod Signals
 pub mod Watching
 pub mod WatchLaws
 pub mod Sums
+pub mod SumLaws

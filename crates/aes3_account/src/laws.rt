@@ -3,6 +3,7 @@
 ghost use Rattle.aes3_account.specs.GapLaws.{AccountIsInTime, AccountIsWhole, AccountStands};
 ghost use Rattle.aes3_account.specs.GapLaws.{ChangeIsLost, GapsAreShort, LossIsLost};
 ghost use Rattle.aes3_account.specs.GapLaws.{NoGapLosesNothing, PieceHasNoGap, RowHasNoGap};
+ghost use Rattle.aes3_account.specs.SumLaws.{BegunEventsStay, EventsStay};
 ghost use Rattle.aes3_account.specs.WatchLaws.{BlocksFollow, CellsHaveFewEvents, EventsAreFew};
 ghost use Rattle.aes3_account.specs.WatchLaws.{LocksOnce, LossesAreGaps, PieceStaysLocked};
 ghost use Rattle.aes3_account.specs.WatchLaws.{RowStaysLocked};
@@ -78,4 +79,11 @@ pub fn lawful_lines_stay_locked()
 /// of them on, and the block as `back`.
 pub fn blocks_follow_or_are_told()
     ensures { BlocksFollow }
+{}
+
+/// The events that `watch_sums` tells beside its sums are those that `watch` tells, in their order,
+/// whatever the period; so it is where a run was refused.
+pub fn sums_leave_events()
+    ensures all { EventsStay }
+    ensures begun { BegunEventsStay }
 {}
