@@ -1,6 +1,6 @@
 -- Few events are told of any cells.
-use Rattle.std.proofs.Common.{◌≡◌, ℕ, suc, ◌+◌, ◌-◌, ◌*◌, ◌<◌, ◌≤◌, ◌⊎◌, inl, inr, Bool, true, false, cond, ltb, List}
-use Rattle.std.proofs.Common.{[], ◌∷◌, ◌++◌, Option, Some, None, length, ap, subst, sym, arith, length-append}
+use Rattle.std.proofs.Common.{◌≡◌, ℕ, suc, ◌+◌, ◌-◌, ◌*◌, ◌≤◌, ◌⊎◌, inl, inr, Bool, true, false, cond, ltb, List}
+use Rattle.std.proofs.Common.{[], ◌∷◌, ◌++◌, Option, Some, None, length, ap, arith, length-append}
 use Rattle.std.specs.Str.{bytes_eq}
 use Rattle.aes3_level.specs.declared.level.Level.{Level}
 use Rattle.aes3_frame.specs.Blocks.{block_len}
@@ -12,7 +12,7 @@ use Rattle.aes3_lock.specs.Reports.{blocks, reports, wholes}
 use Rattle.aes3_lock.proofs.AllStanding.{wholes-append}
 use Rattle.aes3_lock.proofs.Deciding.{block_len_24576}
 use Rattle.aes3_lines.specs.declared.event.Event.{Event}
-use Rattle.aes3_lines.specs.declared.event.Event.TheVariants.{Back, End, Locked, Lost, Slipped, Status, Validity}
+use Rattle.aes3_lines.specs.declared.event.Event.TheVariants.{Back, End, Locked, Slipped, Status, Validity}
 use Rattle.aes3_account.specs.Signals.{change_events, marking_of, same_marking, signals_of, status_events}
 use Rattle.aes3_account.specs.Signals.{validity_events}
 use Rattle.aes3_account.specs.declared.signals.ChannelSignals.{ChannelSignals}
@@ -22,7 +22,7 @@ use Rattle.aes3_account.specs.Watching.{behind_reports, ended, events_from, is_l
 use Rattle.aes3_account.specs.Watching.{told_events, unwatched, up_to, watch_events, whole_events}
 use Rattle.aes3_account.proofs.Covering.{EndsUpTo, ends-reports}
 use Rattle.aes3_account.proofs.ReportPlaces.{Spaced, spaced-reports, spaced-weaker}
-use Rattle.aes3_account.proofs.WatchedCells.{as_lost, either, loss-told, or-false, up-told}
+use Rattle.aes3_account.proofs.WatchedCells.{either, loss-told, or-false, up-told}
 
 -- a loss can be told where none stands
 abbrev room : Bool → ℕ

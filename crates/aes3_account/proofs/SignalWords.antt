@@ -1,6 +1,6 @@
 -- Blocks whose cells carry the same validity bits and channel status.
 use Rattle.std.proofs.Common.{◌≡◌, ℕ, zero, suc, ◌+◌, ◌*◌, ◌/◌, ◌%◌, ◌^◌, ◌<◌, ◌≤◌, ◌⊎◌, inl, inr, subst, List, [], ◌∷◌}
-use Rattle.std.proofs.Common.{◌++◌, Bool, true, false, min, max, eqb, length, map, take, drop, get_or, refl, sym, ap}
+use Rattle.std.proofs.Common.{◌++◌, Bool, false, eqb, length, map, take, drop, get_or, refl, sym, ap}
 use Rattle.std.proofs.Common.{ap₂, ◌∙◌, arith}
 use Rattle.std.specs.Prelude.{bit_and, bit_or, bit_xor, count_ones, replicate, set}
 use Rattle.std.specs.Int.{bit_at}
@@ -11,7 +11,6 @@ use Rattle.std.proofs.lemmas.List.Sums.{sum_by-append}
 use Rattle.std.proofs.lemmas.Simd.{get_or-chunk, get_or-replicate, get_or-zip2, length-chunk, length-zip2}
 use Rattle.std.proofs.lemmas.Nat.Bits.{bit_at_and, bit_at_or, bit_at_xor, bit_at-suc, bit_at-lt, bit_at_lowest}
 use Rattle.std.proofs.lemmas.Nat.Bits.{bit_at-zero}
-use Rattle.aes3_level.specs.declared.level.Level.{Level}
 use Rattle.aes3_level.specs.Words.{level_of, low_cells, word_cells, word_len}
 use Rattle.aes3_level.proofs.WordCells.{drop-low_cells}
 use Rattle.aes3_level.proofs.Moves.{bit_at-shr}
@@ -21,7 +20,7 @@ use Rattle.aes3_slot.specs.ReadWords.{read_word, read_words}
 use Rattle.aes3_frame.specs.declared.status.Channel.{Channel}
 use Rattle.aes3_frame.specs.declared.status.Channel.TheVariants.{First, Second}
 use Rattle.aes3_frame.specs.Subframes.{audio_len}
-use Rattle.aes3_frame.specs.Statuses.{bits_at, bytes_in, of_channel, status_len, status_of, status_place, validity_of}
+use Rattle.aes3_frame.specs.Statuses.{bits_at, bytes_in, status_len, status_of, status_place, validity_of}
 use Rattle.aes3_frame.specs.Statuses.{validity_place}
 use Rattle.aes3_lock.specs.Outcomes.{payloads_of}
 use Rattle.aes3_account.specs.Signals.{last_cells, ones_in, signals_of}

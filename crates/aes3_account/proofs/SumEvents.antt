@@ -1,18 +1,15 @@
 -- The events that are told beside sums.
 use Rattle.std.proofs.Common.{◌≡◌, ℕ, zero, suc, ◌+◌, ◌-◌, ◌*◌, ◌/◌, ◌<◌, ◌≤◌, Bool, true, false, cond, List, [], ◌∷◌, ◌++◌}
 use Rattle.std.proofs.Common.{length, refl, sym, ap, ap₂, ◌∙◌, arith, append-nil, append_assoc, ltb}
-use Rattle.aes3_level.specs.declared.level.Level.{Level}
 use Rattle.aes3_frame.specs.Blocks.{block_len}
 use Rattle.aes3_lock.specs.declared.report.Report.{Report}
 use Rattle.aes3_lock.specs.Reports.{reports, decided}
 use Rattle.aes3_lock.specs.Remains.{place_of}
 use Rattle.aes3_lines.specs.declared.event.Event.{Event}
 use Rattle.aes3_lines.specs.declared.event.Event.TheVariants.{End}
-use Rattle.aes3_lines.specs.declared.sum.Sum.{Sum}
-use Rattle.aes3_account.specs.declared.watched.Watched.{Watched}
 use Rattle.aes3_account.specs.declared.summed.Summed.{Summed}
-use Rattle.aes3_account.specs.Watching.{begun_events, behind_reports, ended, events_from, is_locked, loss_events, next}
-use Rattle.aes3_account.specs.Watching.{told_events, unwatched, up_to, watch_events}
+use Rattle.aes3_account.specs.Watching.{begun_events, ended, events_from, is_locked, loss_events}
+use Rattle.aes3_account.specs.Watching.{told_events, up_to, watch_events}
 use Rattle.aes3_account.specs.Sums.{Notice, event, sum, events, all_told, begun_notices, behind_sums, end_told, ends_before}
 use Rattle.aes3_account.specs.Sums.{go_to, last_sum, next_period, next_sum, notices, on_to, period_told, periods}
 use Rattle.aes3_account.specs.Sums.{periods_told, report_told, sums_from, told_to, unsummed}

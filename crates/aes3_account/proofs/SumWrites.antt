@@ -1,22 +1,21 @@
 -- What is kept and written of a line of which sums are told, as its cells come.
-use Rattle.std.proofs.Common.{◌≡◌, ℕ, ◌+◌, ◌-◌, ◌^◌, ◌<◌, ◌≤◌, List, [], ◌∷◌, ◌++◌, length, refl, sym, ap, ap₂, ◌∙◌, subst}
-use Rattle.std.proofs.Common.{arith, append-nil}
+use Rattle.std.proofs.Common.{◌≡◌, ℕ, ◌-◌, ◌^◌, ◌<◌, ◌≤◌, List, [], ◌∷◌, ◌++◌, length, sym, ap, ap₂, ◌∙◌, subst}
 use Rattle.aes3_level.specs.declared.level.Level.{Level}
 use Rattle.aes3_frame.specs.Blocks.{block_len, block_slots}
 use Rattle.aes3_lock.specs.declared.report.Report.{Report}
 use Rattle.aes3_lock.specs.declared.tally.Tally.{Tally}
 use Rattle.aes3_lock.specs.Reports.{reports, decided}
 use Rattle.aes3_lock.specs.Tallies.{Tallies}
-use Rattle.aes3_input.specs.Taking.{Writing, behind}
+use Rattle.aes3_input.specs.Taking.{behind}
 use Rattle.aes3_lines.specs.declared.event.Style.{Style}
-use Rattle.aes3_account.specs.Watching.{Ended, IsKept, up_to, Watches, watched}
+use Rattle.aes3_account.specs.Watching.{IsKept, Watches}
 use Rattle.aes3_account.specs.declared.summed.Summed.{Summed}
-use Rattle.aes3_account.specs.Sums.{all_told, begun_notices, go_to, next_sum, notice_lines, report_told, summed, summing}
+use Rattle.aes3_account.specs.Sums.{all_told, go_to, next_sum, notice_lines, report_told, summed, summing}
 use Rattle.aes3_account.specs.Sums.{more, no_figures, on_to, periods, summed_by, Sums, told_to, unsummed}
 use Rattle.aes3_account.specs.Gaps.{behind_full, full_count}
 use Rattle.aes3_account.specs.declared.watched.Watched.{Watched}
 use Rattle.aes3_lines.specs.declared.sum.Figures.{Figures}
-use Rattle.aes3_account.proofs.WatchedCells.{close-ended, close_with-ended, pass-watches, same-watches, take-watches}
+use Rattle.aes3_account.proofs.WatchedCells.{pass-watches, same-watches, take-watches}
 use Rattle.aes3_account.proofs.Sums.{behind-lines, ends-lines, go-at, lines-join, next-at, notices-closed}
 use Rattle.aes3_account.proofs.Sums.{notices-closed_with, notices-passed, notices-taken, none-before, summed-known, summed-passed, summed-taken}
 

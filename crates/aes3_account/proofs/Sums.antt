@@ -1,44 +1,42 @@
 -- A line of which sums are told, as its cells come.
-use Rattle.std.proofs.Common.{◌≡◌, ℕ, zero, suc, ◌+◌, ◌-◌, ◌*◌, ◌/◌, ◌^◌, ◌<◌, ◌≤◌, ◌⊎◌, inl, inr, Bool, true, false, cond}
-use Rattle.std.proofs.Common.{ltb, List, [], ◌∷◌, ◌++◌, length, drop, map, refl, sym, ap, ap₂, ◌∙◌, subst, arith, append-nil}
-use Rattle.std.proofs.Common.{append_assoc, length-append, Option, take, get_or, nat_lt}
-use Rattle.std.specs.List.{flat_map}
+use Rattle.std.proofs.Common.{◌≡◌, ℕ, zero, suc, ◌+◌, ◌-◌, ◌*◌, ◌/◌, ◌<◌, ◌≤◌, ◌⊎◌, inl, inr, Bool, true, false, cond}
+use Rattle.std.proofs.Common.{List, [], ◌∷◌, ◌++◌, length, drop, refl, sym, ap, ap₂, ◌∙◌, subst, arith, append-nil}
+use Rattle.std.proofs.Common.{append_assoc, Option, take, get_or}
 use Rattle.std.proofs.Math.Nat.{add-mul-div_left, div-add-mod, le-div_iff_mul-le, mod-lt, mul-div-le, zero-div}
 use Rattle.std.proofs.lemmas.List.{append_cancel_left, drop_at, take_more}
 use Rattle.std.proofs.lemmas.Grind.{flat_map-append}
 use Rattle.std.proofs.lemmas.List.Sums.{sum_by-append}
 use Rattle.aes3_level.specs.declared.level.Level.{Level}
 use Rattle.aes3_cell.specs.Ends.{Grew, GrewFront}
-use Rattle.aes3_cell.proofs.Growing.{front-is, front-join, front-more, grew-is, grew-join}
+use Rattle.aes3_cell.proofs.Growing.{front-is, front-join, front-more}
 use Rattle.aes3_frame.specs.Blocks.{block_len, block_slots}
 use Rattle.aes3_lock.specs.declared.report.Report.{Report}
 use Rattle.aes3_lock.specs.Reports.{reports, decided}
 use Rattle.aes3_lock.specs.Remains.{place_of}
 use Rattle.aes3_lock.proofs.Deciding.{answer, block_len_24576}
 use Rattle.aes3_lock.proofs.Ends.{final}
-use Rattle.aes3_input.specs.Taking.{Writing, behind, before_end, with_end}
+use Rattle.aes3_input.specs.Taking.{behind, before_end, with_end}
 use Rattle.aes3_input.proofs.Items.{before-is, before-join}
 use Rattle.aes3_lines.specs.declared.event.Event.{Event}
 use Rattle.aes3_lines.specs.declared.event.Event.TheVariants.{End}
 use Rattle.aes3_lines.specs.declared.event.Style.{Style}
 use Rattle.aes3_lines.specs.declared.sum.Figures.{Figures}
-use Rattle.aes3_lines.specs.declared.sum.Sum.{Sum}
 use Rattle.aes3_lines.specs.Events.{event_line}
 use Rattle.aes3_lines.specs.SumLines.{sum_line}
 use Rattle.aes3_account.specs.Gaps.{behind_full, full_count}
-use Rattle.aes3_account.specs.Watching.{unwatched, loss_events, up_to, told_events, next, behind_reports, watched, Watches}
+use Rattle.aes3_account.specs.Watching.{loss_events, up_to, told_events, next, behind_reports, watched}
 use Rattle.aes3_account.specs.Watching.{event_lines, is_told, is_locked, IsKept}
 use Rattle.aes3_account.specs.declared.watched.Watched.{Watched}
 use Rattle.aes3_account.specs.declared.summed.Summed.{Summed}
 use Rattle.aes3_account.specs.Sums.{Notice, event, sum, events, begun_notices, begun_sums, behind_sums, end_told, ends_before}
 use Rattle.aes3_account.specs.Sums.{change_of, changes_in, go_to, more, next_period, next_sum, no_figures, notice_line, notice_lines, notices, on_to}
 use Rattle.aes3_account.specs.Sums.{period_told, periods, periods_told, report_told, sum_lines, summed, summing, sums_from}
-use Rattle.aes3_account.specs.Sums.{all_told, last_sum, take_report, told_to, unsummed, with_lost, Sums}
+use Rattle.aes3_account.specs.Sums.{all_told, last_sum, take_report, told_to, unsummed, with_lost}
 use Rattle.aes3_account.proofs.GapLemmas.{behind-join, count-add}
 use Rattle.aes3_account.proofs.ReportPlaces.{split-reports, late-decided, late-reports}
 use Rattle.aes3_account.proofs.Accounts.{one-answer, one-final, decided-more}
 use Rattle.aes3_account.proofs.WatchedCells.{loss-join, up-join, next-join, shorter, before-last, few-up, grown}
-use Rattle.aes3_account.proofs.WatchedCells.{four-joined, as_lost, up-latest}
+use Rattle.aes3_account.proofs.WatchedCells.{as_lost, up-latest}
 
 -- more, and more behind it
 more-join : (n x y z : ℕ) → z ≡ x + y → more (more n x) y ≡ more n z

@@ -1,6 +1,6 @@
 -- The bits that the subframes of a block carry, set and read.
 use Rattle.std.proofs.Common.{◌≡◌, ◌≢◌, ℕ, zero, suc, ◌*◌, ◌<◌, ◌≤◌, List, [], ◌∷◌, Bool, true, false, length, map}
-use Rattle.std.proofs.Common.{replicate, refl, ap, ap₂, ◌∙◌, arith, get_or-set_same, get_or-set_other}
+use Rattle.std.proofs.Common.{refl, ap, ap₂, ◌∙◌, arith, get_or-set_same, get_or-set_other}
 use Rattle.std.proofs.lemmas.List.{length-set, take-set-le}
 use Rattle.aes3_bits.specs.Bits.{number}
 use Rattle.aes3_slot.specs.Slots.{IsPayload, payload_len}

@@ -2,7 +2,6 @@
 use Rattle.std.proofs.Common.{◌≡◌, ◌≢◌, ℕ, suc, ◌<◌, List, [], ◌∷◌, ◌++◌, Bool, Option, Some, None, refl, sym, ap, ap₂}
 use Rattle.std.proofs.Common.{◌∙◌, arith}
 use Rattle.std.specs.List.{flat_map, All}
-use Rattle.aes3_cell.specs.declared.form.Form.{Form}
 use Rattle.aes3_slot.specs.Slots.{payload_len}
 use Rattle.aes3_frame.specs.declared.status.Channel.{Channel}
 use Rattle.aes3_frame.specs.declared.status.Channel.TheVariants.{First, Second}
@@ -14,10 +13,9 @@ use Rattle.aes3_block.specs.Laws.{other_channel}
 use Rattle.aes3_status.specs.declared.carried.CarriedBits.{CarriedBits}
 use Rattle.aes3_status.specs.declared.carried.CarriedBits.TheVariants.{Validity, User, Status}
 use Rattle.aes3_status.specs.declared.change.Change.{Change}
-use Rattle.aes3_runs.specs.BlockRuns.{written_stream}
 use Rattle.aes3_engine.specs.Rewriting.{all_bits, cleared, rewritten, rewritten_blocks, set_user, set_validity}
 use Rattle.aes3_engine.specs.Rewriting.{with_bits_given}
-use Rattle.aes3_engine.specs.Carrying.{all_carried, bit_given, bits_of_line, carried, given_bits, BitsComeBack}
+use Rattle.aes3_engine.specs.Carrying.{all_carried, bit_given, carried, given_bits, BitsComeBack}
 use Rattle.aes3_engine.proofs.BitsAt.{all-read, channel-apart, lawful-at, place-apart}
 use Rattle.aes3_engine.proofs.RewrittenBlocks.{statuses-keep}
 use Rattle.aes3_engine.proofs.SamplesBack.{line-blocks, rewritten-lawful}

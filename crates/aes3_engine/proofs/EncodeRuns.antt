@@ -1,6 +1,6 @@
 -- A whole run over a block file.
-use Rattle.std.proofs.Common.{◌≡◌, ◌≢◌, ℕ, ◌+◌, ◌*◌, ◌/◌, ◌%◌, ◌<◌, ◌≤◌, ◌⊎◌, inl, inr, List, [], ◌∷◌, ◌++◌, Bool, true}
-use Rattle.std.proofs.Common.{Option, Some, None, Err, length, take, get_or, refl, sym, ap, ◌∙◌, subst, arith}
+use Rattle.std.proofs.Common.{◌≡◌, ◌≢◌, ℕ, ◌*◌, ◌/◌, ◌%◌, ◌<◌, ◌≤◌, ◌⊎◌, inl, inr, List, [], ◌∷◌, ◌++◌, Bool, true}
+use Rattle.std.proofs.Common.{Option, Some, None, length, take, get_or, refl, sym, ap, ◌∙◌, subst, arith}
 use Rattle.std.proofs.Common.{append_assoc, append-nil}
 use Rattle.std.proofs.lemmas.List.{take_all}
 use Rattle.aes3_level.specs.declared.level.Level.TheVariants.{Low}
@@ -19,12 +19,12 @@ use Rattle.aes3_block.specs.Readers.{FileReader, reader_of, byte_fault, block_wi
 use Rattle.aes3_block.specs.Refusals.{refusal_of}
 use Rattle.aes3_frame.proofs.Words.{all_lawful, lawful-words}
 use Rattle.aes3_block.proofs.WholeBlocks.{lawful-next, blocks-next, blocks-stay, added_blocks, fault-place, code-fault}
-use Rattle.aes3_block.proofs.WholeBlocks.{parity-fault, length-fault, end-none, end-whole_file, reader-new}
+use Rattle.aes3_block.proofs.WholeBlocks.{parity-fault, length-fault, end-none, reader-new}
 use Rattle.aes3_block.proofs.StreamBytes.{stream-bytes}
 use Rattle.aes3_frame.proofs.Streams.{each27-whole, stream-nil, file_blocks-nil, length-stream}
 use Rattle.aes3_frame.proofs.Streams.{slot_count}
 use Rattle.aes3_input.specs.Converting.{or_else, fault_behind, first_fault, out, whole}
-use Rattle.aes3_input.specs.Running.{CleanEnd, IsFault, converted}
+use Rattle.aes3_input.specs.Running.{IsFault, converted}
 use Rattle.aes3_input.proofs.Outputs.{out-is}
 use Rattle.aes3_input.proofs.InputRuns.{Gives}
 use Rattle.aes3_engine.specs.Encoding.{encoded, encoded_file, encoding, refused_by, refused_at_end, block_written}

@@ -1,6 +1,6 @@
 -- A whole run over samples.
 use Rattle.std.proofs.Common.{◌≡◌, ◌≢◌, ℕ, zero, suc, ◌+◌, ◌-◌, ◌%◌, ◌<◌, ◌≤◌, ◌⊎◌, inl, inr, List, [], ◌∷◌, ◌++◌, Bool}
-use Rattle.std.proofs.Common.{true, Option, Some, None, Err, length, take, replicate, get_or, refl, sym, ap, ap₂, ◌∙◌}
+use Rattle.std.proofs.Common.{true, Option, Some, None, length, take, replicate, get_or, refl, sym, ap, ap₂, ◌∙◌}
 use Rattle.std.proofs.Common.{subst, arith, length-append}
 use Rattle.std.specs.Int.{div_ceil}
 use Rattle.std.proofs.lemmas.Bool.{cases_eq}
@@ -14,11 +14,11 @@ use Rattle.aes3_frame.specs.Files.{words_of}
 use Rattle.aes3_frame.specs.Sampled.{sampled, filled}
 use Rattle.aes3_frame.proofs.SampleBlocks.{length-sampled, length-filled}
 use Rattle.aes3_frame.proofs.Words.{length-words}
-use Rattle.aes3_input.specs.Converting.{or_else, fault_behind, first_fault, out, whole}
+use Rattle.aes3_input.specs.Converting.{or_else, fault_behind, first_fault, whole}
 use Rattle.aes3_input.specs.Running.{CleanEnd, IsFault, converted}
 use Rattle.aes3_input.proofs.InputRuns.{Gives}
 use Rattle.aes3_status.specs.declared.change.Change as change
-use Rattle.aes3_engine.specs.Sampling.{pcm_file, begun_pcm, frame_len, AllExact, IsPcm, BadSampleAt, IsPcmCause}
+use Rattle.aes3_engine.specs.Sampling.{pcm_file, frame_len, AllExact, IsPcm, BadSampleAt, IsPcmCause}
 use Rattle.aes3_engine.specs.Sampling.{pcm_counts, more_of, sampled_file, sampling}
 use Rattle.aes3_engine.proofs.SampleReads.{made, file-more, begun-all, out-samples, byte-clean, byte-bad, clean-all}
 use Rattle.aes3_engine.proofs.SampleReads.{end-whole, end-left}

@@ -7,7 +7,6 @@ use Rattle.std.proofs.lemmas.Slice.{take-put_mid_below}
 use Rattle.std.proofs.Math.Seq.{take-add, take-append-add}
 use Rattle.itoa.proofs.Decimal.{pair, decimal_four}
 use Rattle.aes3_level.specs.declared.level.Level.{Level}
-use Rattle.aes3_level.specs.declared.level.Level.TheVariants.{Low, High}
 use Rattle.aes3_slot.specs.declared.mark.Mark.{Mark}
 use Rattle.aes3_slot.specs.declared.mark.Mark.TheVariants.{X, Y, Z}
 use Rattle.aes3_lines.specs.MarkLines.{level_digit, mark_beginning, mark_ending, mark_line}

@@ -1,4 +1,3 @@
-use Rattle.std.proofs.Common.{false}
 use Rattle.aes3_lock.specs.Reports.{blocks}
 use Rattle.aes3_input.proofs.InputRuns.{run-wrote}
 use Rattle.aes3_input.proofs.CellRuns.{cells-run}

@@ -1,4 +1,4 @@
-use Rattle.std.proofs.Common.{◌+◌, ◌/◌, refl, ◌≡◌, ap, ◌∙◌, arith, sym}
+use Rattle.std.proofs.Common.{◌+◌, ◌/◌, refl, ap, ◌∙◌, arith, sym}
 use Rattle.std.proofs.lemmas.Result.{err_from_is_err_and}
 use Rattle.aes3_cell.proofs.Growing.{grew-is, grew-join}
 use Rattle.aes3_account.specs.Sums.{ends_before, notice_lines, periods, periods_told, summed_by}

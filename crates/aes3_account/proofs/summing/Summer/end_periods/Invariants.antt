@@ -1,4 +1,4 @@
-use Rattle.std.proofs.Common.{◌≡◌, ◌≤◌, ◌+◌}
+use Rattle.std.proofs.Common.{◌≡◌}
 use Rattle.aes3_cell.specs.Ends.{Grew}
 use Rattle.aes3_account.specs.Sums.{notice_lines, periods, periods_told, summed_by}
 use Rattle.aes3_account.proofs.summing.Summer.end_periods.Given as goal

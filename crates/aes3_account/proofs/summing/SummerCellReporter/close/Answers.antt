@@ -1,15 +1,9 @@
-use Rattle.std.proofs.Common.{◌-◌, ◌++◌, ◌∷◌, [], length, length-append, append-nil, refl, sym, ap, ap₂, ◌∙◌, arith}
+use Rattle.std.proofs.Common.{[], length, append-nil, sym, ap, ◌∙◌, arith}
 use Rattle.std.proofs.lemmas.Result.{err_from_is_err_and}
-use Rattle.aes3_cell.proofs.Growing.{grew-is, grew-join, front-is, front-join, front-more}
-use Rattle.aes3_lock.specs.Following.{report_in}
-use Rattle.aes3_lock.specs.Reports.{decided}
-use Rattle.aes3_lock.proofs.Tallies.{few-decided}
-use Rattle.aes3_account.specs.Sums.{all_told, next_sum, notice_lines, summed_by, told_to}
-use Rattle.aes3_account.proofs.Accounts.{less, near-new, near-last}
-use Rattle.aes3_account.proofs.WatchedCells.{close-ended, close_with-ended, loss-room, same-ended, same-tally}
-use Rattle.aes3_account.proofs.Sums.{next-at}
-use Rattle.aes3_account.proofs.SumWrites.{closed-lines, closed_with-lines, passed-lines, passed-sums, same-sums}
-use Rattle.aes3_account.proofs.SumWrites.{taken-lines, taken-sums}
+use Rattle.aes3_cell.proofs.Growing.{grew-is, front-is}
+use Rattle.aes3_account.specs.Sums.{summed_by}
+use Rattle.aes3_account.proofs.WatchedCells.{close-ended, loss-room, same-ended}
+use Rattle.aes3_account.proofs.SumWrites.{closed-lines}
 use Rattle.aes3_account.proofs.summing.SummerCellReporter.close.Goals as goal
 
 pub end-requires-clause-few : goal.end-requires-clause-few

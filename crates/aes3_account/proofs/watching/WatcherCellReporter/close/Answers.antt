@@ -1,11 +1,7 @@
-use Rattle.std.proofs.Common.{◌-◌, ◌++◌, ◌∷◌, [], length, length-append, append-nil, refl, sym, ap, ap₂, ◌∙◌, arith}
+use Rattle.std.proofs.Common.{[], length, append-nil, sym, ap, ap₂, ◌∙◌, arith}
 use Rattle.aes3_cell.proofs.Growing.{grew-is, front-is}
-use Rattle.aes3_lock.specs.Following.{report_in}
-use Rattle.aes3_lock.specs.Reports.{decided}
-use Rattle.aes3_lock.proofs.Tallies.{few-decided}
 use Rattle.aes3_account.specs.Watching.{event_lines}
-use Rattle.aes3_account.proofs.Accounts.{less, near-new, near-last}
-use Rattle.aes3_account.proofs.EventWrites.{if-ok, if-err, if-any, put-one, put-two}
+use Rattle.aes3_account.proofs.EventWrites.{if-ok, if-err, if-any, put-one}
 use Rattle.aes3_account.proofs.WatchedCells.{loss-room, close-lines, close-ended, same-ended}
 use Rattle.aes3_account.proofs.watching.WatcherCellReporter.close.Goals as goal
 

@@ -1,11 +1,11 @@
-use Rattle.std.proofs.Common.{◌-◌, ◌++◌, ◌∷◌, [], length, length-append, append-nil, refl, sym, ap, ap₂, ◌∙◌, arith}
+use Rattle.std.proofs.Common.{◌++◌, length-append, ap₂, ◌∙◌, arith}
 use Rattle.aes3_cell.proofs.Growing.{grew-is, front-is}
 use Rattle.aes3_lock.specs.Following.{report_in}
 use Rattle.aes3_lock.specs.Reports.{decided}
 use Rattle.aes3_lock.proofs.Tallies.{few-decided}
 use Rattle.aes3_account.specs.Watching.{event_lines}
-use Rattle.aes3_account.proofs.Accounts.{less, near-new, near-last}
-use Rattle.aes3_account.proofs.EventWrites.{if-ok, if-err, if-any, put-one, put-two}
+use Rattle.aes3_account.proofs.Accounts.{less, near-new}
+use Rattle.aes3_account.proofs.EventWrites.{if-ok, if-err, if-any, put-two}
 use Rattle.aes3_account.proofs.WatchedCells.{loss-room, take-lines, take-watches, same-watches, same-tally}
 use Rattle.aes3_account.proofs.watching.WatcherCellReporter.take.Goals as goal
 
