@@ -227,8 +227,13 @@ have come from P on. `check --gaps` tells the same cells block by block. With --
 ` time S` stands behind P: P as seconds with three places, 128 HZ cells a second. With
 --json each line is a JSON object: its first word is `event`, the one that stands alone at
 the end `status`, `validity` or `state`, and the others are named as above. With --every
-CELLS sums are told after each so many cells, up to 2^40 of them; with --every-seconds N
-after each N seconds, up to 3,600 of them, by the HZ of --rate, which has to be there then.
+CELLS, 2^40 at most, there is also a line for each CELLS cells and for what is left at the
+end, with --every-seconds N for each N seconds, 3,600 at most, by --rate HZ:
+  sum from P to Q whole N marked N fault N preamble N biphase N unclosed N lost N
+      invalid1 N invalid2 N changes N
+in one line: of the cells from P on and before Q the blocks and faults that `check` tells
+and begin there, the faults by their causes, the cells in gaps that count, the subframes
+of each channel of whole blocks whose V is 1, and the lines `status` and `validity`.
 
 Exit status: 0 no fault; 1 `check` has `marked` or `fault` lines, or there is `lost` or
 `slipped`; 3 refused: 1 a byte is no cell, 10 packed cells end wrongly; or as for every

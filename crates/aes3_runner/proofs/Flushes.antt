@@ -5,10 +5,16 @@ use Rattle.aes3_cell.specs.Ends.{Grew}
 use Rattle.aes3_cell.specs.declared.refusal.RunError.{RunError}
 use Rattle.aes3_cell.specs.declared.refusal.RunError.TheVariants.{Read, Write}
 use Rattle.aes3_cell.specs.declared.counts.Counts.{Counts}
-use Rattle.aes3_input.specs.Running.{Movement, Quiet}
+use Rattle.aes3_input.specs.Running.{InputRun, Movement, Quiet}
 use Rattle.aes3_input.proofs.InputRuns.{run-write, run-sink_quiet}
 use Rattle.aes3_job.specs.declared.job.Job.{Job}
-use Rattle.aes3_runner.specs.JobRuns.{Flushed, JobRan, RunRan, status_by}
+use Rattle.aes3_job.specs.declared.job.Job.TheVariants.{WatchSums}
+use Rattle.aes3_cell.specs.declared.form.Form.{Form}
+use Rattle.aes3_lines.specs.declared.event.Style.{Style}
+use Rattle.aes3_account.specs.Sums.{begun_sums, sum_lines}
+use Rattle.aes3_account.specs.Watching.{watch_counts}
+use Rattle.aes3_input.specs.Driving.{counted_cells}
+use Rattle.aes3_runner.specs.JobRuns.{Flushed, JobRan, RunRan, most, period, status_by}
 use Rattle.aes3_runner.specs.OctetRuns.{ReadRefused}
 use Rattle.aes3_runner.specs.Lines.{refusal_line}
 
@@ -16,6 +22,15 @@ use Rattle.aes3_runner.specs.Lines.{refusal_line}
 pub run-of : {job job' : Job} {ended : Bool} {source sink : Movement} {r : Result Counts RunError} → job ≡ job'
     → RunRan job' ended source sink r → RunRan job ended source sink r
 run-of {ended = ended} {source} {sink} {r} e run = subst (λ (j : Job). RunRan j ended source sink r) (sym e) run
+
+-- a run that tells sums, after so many cells as the job says
+pub sums-of : (i : Form) (style : Style) (every n : ℕ) {ended : Bool} {source sink : Movement}
+    {r : Result Counts RunError} → n ≡ period every
+    → InputRun (counted_cells i (sum_lines style n) (begun_sums style n) (watch_counts i)) most ended source sink r
+    → RunRan (WatchSums i style every) ended source sink r
+sums-of i style every n {ended} {source} {sink} {r} e run =
+    subst (λ (k : ℕ). InputRun (counted_cells i (sum_lines style k) (begun_sums style k) (watch_counts i)) most
+    ended source sink r) e run
 
 pub refused-flushed : (job : Job)
     {ended : Bool} {source : Movement} {t₀ t₁ t₂ : Option (List ℕ)} {f₀ f₁ f₂ : ℕ} {errors : Movement} {status : ℕ}

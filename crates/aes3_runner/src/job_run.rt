@@ -2,10 +2,11 @@
 
 ghost use Rattle.std.specs.Prelude.{◌≡◌, ◌<◌, ◌≤◌, ◌+◌, ◌^◌, IfOk};
 ghost use Rattle.aes3_input.specs.Running.{movement_of};
+ghost use Rattle.aes3_job.specs.declared.job.Job.TheVariants.{ToPcm};
 ghost use Rattle.aes3_runner.specs.JobRuns.{RunRan, period, status_by};
 
 use aes3_account::{account, watch, watch_sums};
-use aes3_cell::{Counts, RunError, Sink, Source};
+use aes3_cell::{Counts, Form, RunError, Sink, Source};
 use aes3_engine::{cut, decode, encode, from_pcm, normalise, rewrite, to_bits, to_pcm, to_valid_pcm};
 use aes3_job::Job;
 use aes3_text::{check, scan, show_changes, show_detail};
@@ -40,6 +41,27 @@ fn period(every: u64) -> u64
     ensures few { result ≤ 2 ^ 40 }
 {
     every.max(1).min(MAX_BYTES)
+}
+
+/// Runs `to-pcm`: of all samples, or with zero for those that are not valid.
+fn run_samples<S: Source, T: Sink>(
+    source: &mut S,
+    sink: &mut T,
+    input: Form,
+    valid: bool,
+) -> Result<Counts, RunError>
+    requires source_room { S.failed source.old + 1 < 2 ^ 64 }
+    requires sink_room { T.failed sink.old + 1 < 2 ^ 64 }
+    ensures ran { RunRan (ToPcm input valid) (S.has_ended source.new)
+        (movement_of S.given S.failed source.old source.new)
+        (movement_of T.taken T.failed sink.old sink.new) result }
+    ensures passed_on { IfOk result (λ _. T.passed sink.new ≡ T.taken sink.new) }
+{
+    if valid {
+        to_valid_pcm(source, sink, MAX_BYTES, input)
+    } else {
+        to_pcm(source, sink, MAX_BYTES, input)
+    }
 }
 
 /// Runs a job.
@@ -84,11 +106,7 @@ pub fn run_job<S: Source, T: Sink>(
             output,
             change,
         } => rewrite(source, sink, MAX_BYTES, input, output, &change),
-        Job::ToPcm { input, valid: true } => to_valid_pcm(source, sink, MAX_BYTES, input),
-        Job::ToPcm {
-            input,
-            valid: false,
-        } => to_pcm(source, sink, MAX_BYTES, input),
+        Job::ToPcm { input, valid } => run_samples(source, sink, input, valid),
         Job::FromPcm { exact, change } => from_pcm(source, sink, MAX_BYTES, exact, &change),
         Job::ToBits {
             input,

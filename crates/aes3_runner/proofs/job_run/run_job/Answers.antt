@@ -1,4 +1,4 @@
-use Rattle.aes3_runner.proofs.Flushes.{run-of}
+use Rattle.aes3_runner.proofs.Flushes.{run-of, sums-of}
 use Rattle.aes3_runner.proofs.job_run.run_job.Goals as goal
 
 pub returns-in-Encode-clause-ran : goal.returns-in-Encode-clause-ran
@@ -35,10 +35,15 @@ pub returns-in-Rewrite-clause-ran : goal.returns-in-Rewrite-clause-ran
 returns-in-Rewrite-clause-ran g c = run-of c.in-Rewrite.is c.rewrite.ensures.run
 
 pub returns-in-ToPcm-clause-ran : goal.returns-in-ToPcm-clause-ran
-returns-in-ToPcm-clause-ran g c = run-of c.in-ToPcm.is c.to_pcm.ensures.run
+returns-in-ToPcm-clause-ran g c = run-of c.in-ToPcm.is c.run_samples.ensures.ran
 
 pub returns-in-FromPcm-clause-ran : goal.returns-in-FromPcm-clause-ran
 returns-in-FromPcm-clause-ran g c = run-of c.in-FromPcm.is c.from_pcm.ensures.run
 
 pub returns-in-ToBits-clause-ran : goal.returns-in-ToBits-clause-ran
 returns-in-ToBits-clause-ran g c = run-of c.in-ToBits.is c.to_bits.ensures.run
+
+pub returns-in-WatchSums-clause-ran : goal.returns-in-WatchSums-clause-ran
+returns-in-WatchSums-clause-ran g c =
+    run-of c.in-WatchSums.is (sums-of c.in-WatchSums.input c.in-WatchSums.style c.in-WatchSums.every c.period.result
+    c.period.ensures.period c.watch_sums.ensures.run)
