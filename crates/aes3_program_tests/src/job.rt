@@ -174,7 +174,17 @@ fn samples_of_a_line(rt: HostRuntime) -> Result<(), Fail> {
         assert!(rt; run_job(&Job::Encode { output: form }, &mut source, &mut line).is_ok());
         let mut pcm = MemorySink::new(rt.alloc());
         let mut source = MemorySource::new(line.bytes(), 4_096);
-        assert!(rt; run_job(&Job::ToPcm { input: form, valid: false }, &mut source, &mut pcm).is_ok());
+        assert!(rt;
+            run_job(
+                &Job::ToPcm {
+                    input: form,
+                    valid: false
+                },
+                &mut source,
+                &mut pcm
+            )
+            .is_ok()
+        );
         assert!(rt; pcm.bytes() == samples.as_slice());
     }
     Ok(())

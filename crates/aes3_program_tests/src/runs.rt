@@ -380,7 +380,10 @@ fn status_of_cells(rt: HostRuntime) -> Result<(), Fail> {
     let one = shown(rt.alloc(), 1)?;
     let two = shown(rt.alloc(), 2)?;
     let detail = Detail::Plain;
-    let text = Job::Show { input: TEXT, detail };
+    let text = Job::Show {
+        input: TEXT,
+        detail,
+    };
     let packed = Job::Show {
         input: PACKED,
         detail,

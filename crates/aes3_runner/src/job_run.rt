@@ -7,7 +7,9 @@ ghost use Rattle.aes3_runner.specs.JobRuns.{RunRan, period, status_by};
 
 use aes3_account::{account, watch, watch_sums};
 use aes3_cell::{Counts, Form, RunError, Sink, Source};
-use aes3_engine::{cut, decode, encode, from_pcm, normalise, rewrite, to_bits, to_pcm, to_valid_pcm};
+use aes3_engine::{
+    cut, decode, encode, from_pcm, normalise, rewrite, to_bits, to_pcm, to_valid_pcm,
+};
 use aes3_job::Job;
 use aes3_text::{check, scan, show_changes, show_detail};
 
