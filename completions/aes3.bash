@@ -9,6 +9,17 @@ _aes3_words() {
     done
 }
 
+# Those of the first place of which none of its words is there yet.
+_aes3_due() {
+    local each word
+    for each; do
+        for word in $each; do [[ " ${words[*]} " == *" $word "* ]] && continue 2; done
+        _aes3_words $each
+        return 0
+    done
+    return 1
+}
+
 _aes3_setting() {
     case $typed in
         payload=*) _aes3_words payload={pcm,other} ;;
@@ -55,29 +66,34 @@ _aes3() {
     esac
     case ${words[-1]} in
         --set1 | --set2) _aes3_setting; return ;;
-        --rate | --status1 | --status2) return ;;
+        --valid1 | --valid2) _aes3_words 0 1; return ;;
+        --every | --every-seconds | --rate | --status1 | --status2) return ;;
         --explain) _aes3_words 1 2 3 4 5 6 7 8 9 10 11; return ;;
     esac
     [ -z "$option" ] || return
     if [ "$COMP_CWORD" = 1 ]; then
-        _aes3_words encode decode normal check watch show scan cut rewrite to-pcm from-pcm --help --version --explain
+        _aes3_words encode decode normal check watch show scan cut rewrite to-pcm from-pcm to-bits --help --version --explain
         return
     fi
     case ${COMP_WORDS[1]} in
-        decode | normal | check | watch | show | scan | rewrite | to-pcm | from-pcm) [[ $typed == -* ]] || { compopt -o default; return; } ;;
+        to-bits) [[ $typed != -* ]] && _aes3_due 'user validity status' '1 2' && return ;;
     esac
     case ${COMP_WORDS[1]} in
-        encode) _aes3_words --packed-out --help ;;
-        decode) _aes3_words --packed-in --raw-in --help ;;
-        normal) _aes3_words --packed-in --raw-in --packed-out --help ;;
-        check) _aes3_words --packed-in --raw-in --faults --gaps --help ;;
-        watch) _aes3_words --packed-in --raw-in --json --rate --help ;;
-        show) _aes3_words --packed-in --raw-in --changes --help ;;
-        scan) _aes3_words --packed-in --raw-in --help ;;
-        cut) _aes3_words --packed-in --raw-in --packed-out --help ;;
-        rewrite) _aes3_words --packed-in --raw-in --packed-out --status1 --status2 --set1 --set2 --mend-check --help ;;
-        to-pcm) _aes3_words --packed-in --raw-in --help ;;
+        decode | normal | check | watch | show | scan | rewrite | to-pcm | from-pcm | to-bits) [[ $typed == -* ]] || { compopt -o default; return; } ;;
+    esac
+    case ${COMP_WORDS[1]} in
+        encode) _aes3_words --packed-out --lsb-first --help ;;
+        decode) _aes3_words --packed-in --raw-in --lsb-first --help ;;
+        normal) _aes3_words --packed-in --raw-in --packed-out --lsb-first --help ;;
+        check) _aes3_words --packed-in --raw-in --lsb-first --faults --gaps --help ;;
+        watch) _aes3_words --packed-in --raw-in --lsb-first --json --rate --every --every-seconds --help ;;
+        show) _aes3_words --packed-in --raw-in --lsb-first --changes --at --more --help ;;
+        scan) _aes3_words --packed-in --raw-in --lsb-first --help ;;
+        cut) _aes3_words --packed-in --raw-in --packed-out --lsb-first --help ;;
+        rewrite) _aes3_words --packed-in --raw-in --packed-out --lsb-first --status1 --status2 --set1 --set2 --mend-check --valid1 --valid2 --clear-user1 --clear-user2 --help ;;
+        to-pcm) _aes3_words --packed-in --raw-in --lsb-first --valid --help ;;
         from-pcm) _aes3_words --status1 --status2 --set1 --set2 --mend-check --exact --help ;;
+        to-bits) _aes3_words --packed-in --raw-in --lsb-first --help ;;
     esac
 }
 complete -F _aes3 aes3

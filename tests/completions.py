@@ -67,6 +67,7 @@ def cases(program):
     found += [("aes3 rewrite --set1 nothing", "aes3 rewrite --set1 nothing"), ("aes3 rewrite --set1 b3=256", "aes3 rewrite --set1 b3=256")]
     found += [("aes3 rewrite --set1 rate=44", "aes3 rewrite --set1 rate=44100 ")]
     found += [("aes3 from-pcm --set1 rate=48000 --set2 cop", "aes3 from-pcm --set1 rate=48000 --set2 copyright=")]
+    found += [("aes3 to-bits va", "aes3 to-bits validity "), ("aes3 to-bits user --lsb", "aes3 to-bits user --lsb-first ")]
     found += [(f"aes3 rewrite --set2 {it}", f"aes3 rewrite --set2 {it}=") for it in settled(list(fields))]
     # Behind the option and `=`.
     found += [("aes3 rewrite --set1=cop", "aes3 rewrite --set1=copyright="), ("aes3 rewrite --set2=rate=44", "aes3 rewrite --set2=rate=44100 ")]
