@@ -55,6 +55,7 @@ part tests/streams.sh "$program"
 part tests/help.sh "$program"
 part tests/readme.sh "$program"
 part_with cc tests/allocations.sh "$program"
+part_with python3 tests/random.py "$program"
 part_with python3 bin/make-manual --check "$program"
 part tests/manual.sh
 part_with python3 tests/completions.py "$program"

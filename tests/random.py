@@ -1,0 +1,170 @@
+#!/usr/bin/env python3
+"""tests/random.py PROGRAM [CASES [SEED]]: random lines with random damage, and what is made of them in Python beside what PROGRAM makes.
+
+Each case (40 where no number is given) is some blocks of the speech with V and U bits turned, as cells that are then turned, lost, put in
+and cut. Of these the sums of `watch --every` are compared with the lines of `check --gaps`; `to-bits`, `show --more`, `to-pcm --valid` and
+`rewrite` with the block file of `decode`; and `--lsb-first` with octets that are packed here. The last line is `N passed, M failed`.
+"""
+
+import os
+import random
+import subprocess
+import sys
+
+BLOCK_BYTES, CELLS, FRAMES = 1536, 24_576, 192
+PLACES = {"validity": 28, "user": 29, "status": 30}
+CAUSES = ("preamble", "biphase", "unclosed")
+ROOT = os.path.dirname(os.path.dirname(os.path.realpath(__file__)))
+
+
+def run(program, words, given):
+    ran = subprocess.run([program, *words], input=given, stdout=subprocess.PIPE, stderr=subprocess.DEVNULL, check=False)
+    return ran.returncode, ran.stdout
+
+
+def told(program, words, cells):
+    return [line.split() for line in run(program, words, cells)[1].decode().splitlines()]
+
+
+def words_of(octets):
+    return [int.from_bytes(octets[i : i + 4], "little") for i in range(0, len(octets), 4)]
+
+
+def bytes_of(words):
+    return b"".join(word.to_bytes(4, "little") for word in words)
+
+
+def with_parity(word):
+    return word & 0x7FFFFFFF | (bin(word & 0x7FFFFFF0).count("1") & 1) << 31
+
+
+def line_of(program, chance, speech):
+    """Some blocks with V and U bits turned, as cells that are damaged."""
+    count = chance.randrange(1, 7)
+    first = chance.randrange(len(speech) // BLOCK_BYTES - count)
+    words = words_of(speech[BLOCK_BYTES * first : BLOCK_BYTES * (first + count)])
+    for _ in range(chance.choice([0, 3, 50])):
+        at = chance.randrange(len(words))
+        words[at] = with_parity(words[at] ^ 1 << chance.choice([28, 29]))
+    cells = bytearray(run(program, ["encode"], bytes_of(words))[1].replace(b"\n", b""))
+    for _ in range(chance.choice([0, 0, 1, 2, 5])):
+        at, kind = chance.randrange(len(cells)), chance.randrange(4)
+        if kind == 0:
+            cells[at] ^= 1
+        elif kind == 1:
+            del cells[at : at + chance.randrange(1, 200)]
+        elif kind == 2:
+            cells[at:at] = bytes(chance.choice(b"01") for _ in range(chance.randrange(1, 30_000)))
+        else:
+            del cells[: chance.randrange(3000)]
+    return bytes(cells)
+
+
+def counted(lines):
+    """What the lines of `check --gaps` add up to, by the words of a sum: the whole input, or a period by its number."""
+    wholes = [int(line[2]) for line in lines if line[0] == "whole"]
+    for kind, _, at, *rest in lines:
+        at = int(at)
+        if kind == "gap":
+            cells = int(rest[1])
+            if cells == CELLS or (wholes and wholes[0] < at < wholes[-1]):
+                yield at, "lost", cells
+        elif kind == "fault":
+            yield at, "fault", 1
+            yield at, rest[2], 1
+        elif kind in ("whole", "marked"):
+            yield at, kind, 1
+
+
+def sums_differ(program, cells, every):
+    lines = told(program, ["watch", "--every", str(every)], cells)
+    if [line for line in lines if line[0] != "sum"] != told(program, ["watch"], cells):
+        return True
+    found, end = {}, 0
+    for _, _, begin, _, behind, *fields in (line for line in lines if line[0] == "sum"):
+        if int(begin) != end or int(behind) not in (end + every, len(cells)):
+            return True
+        for word, number in zip(fields[::2], map(int, fields[1::2])):
+            found[word, end // every] = number
+            found[word] = found.get(word, 0) + number
+        end = int(behind)
+    wanted = {}
+    for at, word, number in counted(told(program, ["check", "--gaps"], cells)):
+        wanted[word] = wanted.get(word, 0) + number
+        wanted[word, at // every] = wanted.get((word, at // every), 0) + number
+    totals = ("whole", "marked", "fault", "lost", *CAUSES)
+    periods = [(word, period) for word in ("whole", "marked", *CAUSES) for period in range(-(-end // every))]
+    return end != len(cells) or any(found.get(key, 0) != wanted.get(key, 0) for key in [*totals, *periods])
+
+
+def bits_of(words, place, channel):
+    """The bits of a channel at a place, a list for each block."""
+    bits = [word >> place & 1 for word in words[channel::2]]
+    return [bits[i : i + FRAMES] for i in range(0, len(bits), FRAMES)]
+
+
+def octets_of(bits):
+    return bytes(sum(bits[8 * i + j] << j for j in range(8)) for i in range(len(bits) // 8))
+
+
+def packed(cells):
+    """Whole and begun octets with the first cell in the lowest bit, and how many cells of the last are unused."""
+    bits = [cell & 1 for cell in cells] + [0] * (-len(cells) % 8)
+    return octets_of(bits) + bytes([-len(cells) % 8])
+
+
+def changed(word, channel):
+    """A word as `rewrite --valid2 1 --clear-user1` makes it."""
+    return with_parity(word | 1 << 28 if channel else word & ~(1 << 29))
+
+
+def judged(program, cells, every):
+    """Each comparison by its name, and whether it holds."""
+    words = words_of(run(program, ["decode"], cells)[1])
+    wholes = [line[2] for line in told(program, ["check"], cells) if line[0] == "whole"]
+    yield "the sums", not sums_differ(program, cells, every)
+    for name, place in PLACES.items():
+        for channel in (0, 1):
+            wanted = b"".join(map(octets_of, bits_of(words, place, channel)))
+            yield f"to-bits {name}", run(program, ["to-bits", name, str(channel + 1)], cells)[1] == wanted
+    counts = [[sum(bits) for bits in bits_of(words, place, channel)] for channel in (0, 1) for place in (28, 29)]
+    behind = [
+        [f"v={counts[2 * channel][i]}", f"u={counts[2 * channel + 1][i]}", f"at={at}"]
+        for i, at in enumerate(wholes)
+        for channel in (0, 1)
+    ]
+    plain = told(program, ["show"], cells)
+    yield "show --more", told(program, ["show", "--more"], cells) == [line + more for line, more in zip(plain, behind)]
+    samples = b"".join((0 if word >> 28 & 1 else (word >> 4 & 0xFFFFFF) << 8).to_bytes(4, "little") for word in words)
+    yield "to-pcm --valid", run(program, ["to-pcm", "--valid"], cells)[1] == samples
+    again = run(program, ["rewrite", "--valid2", "1", "--clear-user1"], cells)[1]
+    wanted = bytes_of(changed(word, i % 2) for i, word in enumerate(words))
+    yield "rewrite of V and U", run(program, ["decode"], again)[1] == wanted
+    check = run(program, ["check"], cells)
+    yield "check --lsb-first", run(program, ["check", "--packed-in", "--lsb-first"], packed(cells)) == check
+    out = run(program, ["normal"], cells)[1].replace(b"\n", b"")
+    yield "normal --lsb-first", run(program, ["normal", "--packed-out", "--lsb-first"], cells)[1] == packed(out)
+
+
+def main():
+    if not 2 <= len(sys.argv) <= 4:
+        sys.exit(__doc__)
+    program = os.path.realpath(sys.argv[1])
+    cases = int(sys.argv[2]) if len(sys.argv) > 2 else 40
+    seed = int(sys.argv[3]) if len(sys.argv) > 3 else 1
+    chance, passed, failed = random.Random(seed), 0, 0
+    with open(f"{ROOT}/examples/speech.block", "rb") as file:
+        speech = file.read()
+    for case in range(cases):
+        cells = line_of(program, chance, speech)
+        every = chance.choice([1000, CELLS, 30_000, 100_000, 1 << 30, chance.randrange(300, 60_000)])
+        for name, holds in judged(program, cells, every):
+            passed, failed = passed + holds, failed + (not holds)
+            if not holds:
+                print(f"NOT the same: {name}, case {case} of seed {seed}")
+    print(f"{passed} passed, {failed} failed")
+    return 1 if failed else 0
+
+
+if __name__ == "__main__":
+    sys.exit(main())
