@@ -1,4 +1,5 @@
 pub mod Growing
+mod Retries
 pub mod Writing
 pub mod Buffering
 pub mod Lines

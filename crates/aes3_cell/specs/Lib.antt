@@ -3,6 +3,7 @@ pub mod Scattered
 pub mod CellText
 pub mod Packed
 pub mod Ends
+pub mod Attempts
 pub mod Writes
 pub mod Buffering
 pub mod Refusals

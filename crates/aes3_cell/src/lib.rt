@@ -2,6 +2,7 @@
 //! go to.
 #![tactic(auto)]
 
+mod attempts;
 mod buffered;
 mod counts;
 mod eights;
@@ -26,6 +27,7 @@ mod word;
 mod written;
 
 pub use aes3_level::Level;
+pub use attempts::{Reader, Trouble, Writer};
 pub use buffered::BufferedSink;
 pub use counts::Counts;
 pub use endless::EndlessSource;

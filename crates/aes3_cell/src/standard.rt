@@ -4,13 +4,11 @@ ghost use Rattle.std.specs.Prelude.{◌≡◌, ◌≤◌, ◌<◌, ◌+◌, ◌^
 ghost use Rattle.std.specs.Prelude.{IfOk, IsTrue, OnErr, length, take};
 ghost use Rattle.std.specs.Io.KnownBytes.{ReadConsumes, WriteAppends};
 ghost use Rattle.std.specs.Option.{is_some};
+ghost use Rattle.aes3_cell.specs.Attempts.{Flushed, PassedOn, Retried};
 ghost use Rattle.aes3_cell.specs.Ends.{Grew, untold};
 
+use crate::attempts::{Reader, Writer, read_again, write_again};
 use crate::ends::{Fault, Sink, Source};
-use std::io::{ErrorKind, Read, Write};
-
-/// How often a read or a write that a signal interrupts is tried again.
-const TRIES: u32 = 1_000_000;
 
 /// A source over a reader.
 #[derive(Drop)]
@@ -20,7 +18,7 @@ pub struct StdSource<R: Drop> {
     failures: u64,
 }
 
-impl<R: Read + Drop> StdSource<R> {
+impl<R: Reader + Drop> StdSource<R> {
     /// A source of what the reader gives.
     pub fn new(reader: R) -> Self
         ensures reader { result.reader ≡ reader }
@@ -35,7 +33,7 @@ impl<R: Read + Drop> StdSource<R> {
     }
 }
 
-impl<R: Read + Drop> Source for StdSource<R> {
+impl<R: Reader + Drop> Source for StdSource<R> {
     ghost given = { λ _. untold };
 
     ghost has_ended = { λ s. s.ended };
@@ -53,21 +51,20 @@ impl<R: Read + Drop> Source for StdSource<R> {
         ensures count { IfOk result (λ _. self.new.failures ≡ self.old.failures) }
         ensures err { OnErr result ((self.new.failures ≡ self.old.failures + 1)
             × (untold ≡ untold)) }
-        ensures reads { ReadConsumes (R.remaining self.old.reader) (R.remaining self.new.reader)
-            result buf.new }
+        ensures reads { ReadConsumes (R.left self.old.reader) (R.left self.new.reader) result
+            buf.new }
+        ensures met { Retried (R.met self.old.reader) (R.met self.new.reader) result }
     {
-        for _ in 0..TRIES {
-            match self.reader.read(buf) {
-                Ok(n) => {
-                    self.ended = n == 0;
-                    return Ok(n);
-                }
-                Err(error) if error.kind() == ErrorKind::Interrupted => {}
-                Err(_) => break,
+        match read_again(&mut self.reader, buf) {
+            Ok(count) => {
+                self.ended = count == 0;
+                Ok(count)
+            }
+            Err(fault) => {
+                self.failures += 1;
+                Err(fault)
             }
         }
-        self.failures += 1;
-        Err(Fault)
     }
 
     fn failures(&self) -> u64 {
@@ -82,7 +79,7 @@ pub struct StdSink<W: Drop> {
     failures: u64,
 }
 
-impl<W: Write + Drop> StdSink<W> {
+impl<W: Writer + Drop> StdSink<W> {
     /// A sink that hands its bytes to the writer.
     pub fn new(writer: W) -> Self
         ensures writer { result.writer ≡ writer }
@@ -95,7 +92,7 @@ impl<W: Write + Drop> StdSink<W> {
     }
 }
 
-impl<W: Write + Drop> Sink for StdSink<W> {
+impl<W: Writer + Drop> Sink for StdSink<W> {
     ghost taken = { λ _. untold };
 
     ghost passed = { λ _. untold };
@@ -113,25 +110,34 @@ impl<W: Write + Drop> Sink for StdSink<W> {
         ensures err { OnErr result ((self.new.failures ≡ self.old.failures + 1)
             × (untold ≡ untold)) }
         ensures tells { is_some untold ≡ is_some untold }
-        ensures writes { WriteAppends (W.contents self.old.writer) (W.contents self.new.writer)
-            result buf.now }
+        ensures writes { WriteAppends (W.held self.old.writer) (W.held self.new.writer) result
+            buf.now }
+        ensures met { Retried (W.met self.old.writer) (W.met self.new.writer) result }
     {
         if buf.is_empty() {
             return Ok(0);
         }
-        for _ in 0..TRIES {
-            match self.writer.write(buf) {
-                Ok(n) if n > 0 => return Ok(n),
-                Err(error) if error.kind() == ErrorKind::Interrupted => {}
-                _ => break,
+        match write_again(&mut self.writer, buf) {
+            Ok(count) => Ok(count),
+            Err(fault) => {
+                self.failures += 1;
+                Err(fault)
             }
         }
-        self.failures += 1;
-        Err(Fault)
     }
 
-    fn flush(&mut self) -> Result<(), Fault> {
-        match self.writer.flush() {
+    /// Has the writer pass on what it took.
+    fn flush(&mut self) -> Result<(), Fault>
+        requires room { self.old.failures + 1 < 2 ^ 64 }
+        ensures bytes { untold ≡ untold }
+        ensures passed_on { IfOk result (λ _. untold ≡ untold) }
+        ensures count { IfOk result (λ _. self.new.failures ≡ self.old.failures) }
+        ensures err { OnErr result (self.new.failures ≡ self.old.failures + 1) }
+        ensures flushes { IfOk result (λ _. PassedOn (W.held self.new.writer)
+            (W.passed self.new.writer)) }
+        ensures met { Flushed (W.met self.old.writer) (W.met self.new.writer) result }
+    {
+        match self.writer.try_flush() {
             Ok(()) => Ok(()),
             Err(_) => {
                 self.failures += 1;

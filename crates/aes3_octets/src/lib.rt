@@ -16,4 +16,3 @@ mod turning;
 pub use raw::RawSource;
 pub use turned_sink::TurnedSink;
 pub use turned_source::{TurnedSource, first_octet};
-pub use turning::turn;

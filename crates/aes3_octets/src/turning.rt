@@ -9,7 +9,7 @@ use aes3_cell::octets_of_word;
 const EIGHT: usize = 8;
 
 /// Turns the bits of each octet: the lowest becomes the highest.
-pub fn turn(octets: &mut [u8])
+pub(crate) fn turn(octets: &mut [u8])
     ensures { octets.new ≡ map turned octets.old }
 {
     let eights = octets.len() / EIGHT;

@@ -1,0 +1,25 @@
+-- What a device met, tried again and again.
+use Rattle.std.proofs.Common.{◌≡◌, ◌+◌, ℕ, List, [], ◌∷◌, ◌++◌, Option, Some, replicate, sym, ap, ◌∙◌}
+use Rattle.std.proofs.Common.{append_assoc, append-nil}
+use Rattle.std.proofs.lemmas.List.{replicate_more}
+use Rattle.aes3_cell.specs.Attempts.{Met}
+use Rattle.aes3_cell.specs.declared.attempts.Trouble.{Trouble}
+use Rattle.aes3_cell.specs.declared.attempts.Trouble.TheVariants.{Interrupted}
+
+pub met-none : (a : Option (List Trouble)) → Met a a []
+met-none a = record { by = λ xs h. h ∙ ap Some (sym (append-nil xs)) }
+
+pub met-join : {a b d : Option (List Trouble)} {x y : List Trouble} → Met a b x → Met b d y → Met a d (x ++ y)
+met-join {x} {y} g h = record { by = λ xs e. h.by (xs ++ x) (g.by xs e) ∙ ap Some (append_assoc xs x y) }
+
+pub met-is : {a b : Option (List Trouble)} {x y : List Trouble} → x ≡ y → Met a b x → Met a b y
+met-is e g = record { by = λ xs h. g.by xs h ∙ ap (λ z. Some (xs ++ z)) e }
+
+-- one more interruption
+pub met-more : {a b d : Option (List Trouble)} (n : ℕ) → Met a b (replicate n Interrupted)
+    → Met b d (Interrupted ∷ []) → Met a d (replicate (n + 1) Interrupted)
+met-more n g h = met-is (replicate_more n Interrupted) (met-join g h)
+
+-- an answer behind them
+pub met-answered : {a b d : Option (List Trouble)} {x : List Trouble} → Met a b x → Met b d [] → Met a d x
+met-answered {x} g h = met-is (append-nil x) (met-join g h)
