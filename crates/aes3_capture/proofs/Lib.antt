@@ -2,3 +2,4 @@ pub mod Steps
 pub mod Edges
 pub mod Counts
 pub mod Whole
+pub mod Tolerance

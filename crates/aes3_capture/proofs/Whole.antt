@@ -1,11 +1,11 @@
 -- What a follower that counts runs one after the other counts of a capture.
-use Rattle.std.proofs.Common.{ℕ, List, [], ◌∷◌, ◌≡◌, ◌<◌, ◌≤◌, ◌+◌, ◌-◌, ◌*◌, ◌/◌, ◌⊎◌, inl, inr, refl, sym, ap, ap₂}
+use Rattle.std.proofs.Common.{ℕ, List, [], ◌∷◌, ◌≡◌, ◌<◌, ◌≤◌, ◌+◌, ◌*◌, inl, inr, refl, sym, ap, ap₂}
 use Rattle.std.proofs.Common.{◌∙◌, arith, add_assoc}
 use Rattle.std.specs.Prelude.{Bool, nat_le, if◌then◌else◌}
 use Rattle.aes3_capture.specs.declared.follower.Follower.{Follower}
-use Rattle.aes3_capture.specs.Captures.{Captures, IsRun, margin, mean_with, wander}
+use Rattle.aes3_capture.specs.Captures.{Captures, mean_with}
 use Rattle.aes3_capture.specs.Following.{Follows, Passes, Ends, Counts, Passed, Turned, Counted, CountedAll}
-use Rattle.aes3_capture.specs.Following.{ends_cell, last_cell, IsWithin, middle_of}
+use Rattle.aes3_capture.specs.Following.{last_cell}
 use Rattle.aes3_capture.proofs.Edges.{decided, goes-on, one-told, none-told, run-counts}
 
 -- samples that pass after others

@@ -1,6 +1,6 @@
 -- A capture of a line: how long the samples lay between one edge and the next, against the cells that the line has
 -- there. Each length is in parts of a sample, 65536 to one.
-use Rattle.std.specs.Prelude.{ℕ, List, [], ◌∷◌, ◌≡◌, ◌<◌, ◌≤◌, ◌+◌, ◌-◌, ◌*◌, ◌/◌}
+use Rattle.std.specs.Prelude.{ℕ, List, [], ◌∷◌, ◌≡◌, ◌<◌, ◌≤◌, ◌+◌, ◌-◌, ◌*◌, ◌/◌, ◌⊎◌}
 use Rattle.aes3_capture.specs.declared.bounds.Bounds.{Bounds}
 
 -- how far three cells of unknown length can carry an edge
@@ -74,3 +74,18 @@ SpreadsLate bounds spread late later before (n ∷ cells) (run ∷ runs) =
     (displaced : ℕ) × IsBetween late before spread × IsBetween later displaced spread
     × IsPlaced bounds before n (65536 * run) displaced
     × SpreadsLate bounds spread later late displaced cells runs
+
+-- cells may be so much longer or shorter than a period: one part in `part` of it
+pub record IsAbout (bounds : Bounds) (period part : ℕ) : Type 0 where
+  pub low : bounds.low ≡ period - period / part
+  pub high : bounds.high ≡ period + period / part
+
+-- From so many samples a cell on, in parts of one, AES3's jitter of high frequencies is borne whatever its form: from
+-- 16.2 samples on where cells may be a 1024th longer or shorter, from 6.5 on with a 2048th, from 4.5 on with an 8192nd.
+abbrev pub IsEnough : ℕ → ℕ → Type 0
+IsEnough part period = ((part ≡ 1024) × (1061684 ≤ period)) ⊎ ((part ≡ 2048) × (425984 ≤ period))
+    ⊎ ((part ≡ 8192) × (294912 ≤ period))
+
+-- that jitter and the sampling: a quarter of a cell from peak to peak, and a sample
+abbrev pub tolerance : ℕ → ℕ
+tolerance period = period / 4 + 65536

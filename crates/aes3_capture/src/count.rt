@@ -1,7 +1,8 @@
 //! The cells of a whole capture.
 
 ghost use Rattle.std.specs.Prelude.{◌≡◌, ◌+◌, ◌-◌, ◌/◌, ◌<◌, ◌≤◌, ℕ, List, length};
-ghost use Rattle.aes3_capture.specs.Captures.{Captures, IsBetween, Spreads, SpreadsLate, margin, wander};
+ghost use Rattle.aes3_capture.specs.Captures.{Captures, IsAbout, IsBetween, IsEnough, Spreads, SpreadsLate};
+ghost use Rattle.aes3_capture.specs.Captures.{margin, tolerance, wander};
 ghost use Rattle.aes3_capture.specs.Following.{Follows};
 
 use crate::bounds::Bounds;
@@ -11,7 +12,9 @@ use crate::follower::Follower;
 ///
 /// They are the line's as long as each edge is less than half a cell, less a margin, from the mean
 /// of the displacements of those of its direction before it; so they are where no edge is displaced
-/// by half a cell less that margin against another, whatever form the jitter has.
+/// by half a cell less that margin against another, whatever form the jitter has. So the jitter that
+/// AES3 asks a receiver to bear at high frequencies, a quarter of a unit interval from peak to peak
+/// (AES3, tolerance of a receiver), is borne from the numbers of samples a cell on that `IsEnough` has.
 pub fn count_cells(bounds: Bounds, period: u64, runs: &[u32], cells: &mut [u64])
     requires longest { period ≤ bounds.high }
     requires shortest { bounds.low ≤ period }
@@ -20,6 +23,8 @@ pub fn count_cells(bounds: Bounds, period: u64, runs: &[u32], cells: &mut [u64])
         → Captures bounds displaced displaced displaced counts runs.now → cells.new ≡ counts }
     ensures spread { (counts : List ℕ) (spread displaced : ℕ) → spread < bounds.low / 2 - margin bounds
         → Spreads bounds spread displaced counts runs.now → cells.new ≡ counts }
+    ensures tolerance { (counts : List ℕ) (cell part displaced : ℕ) → IsAbout bounds cell part → IsEnough part cell
+        → Spreads bounds (tolerance cell) displaced counts runs.now → cells.new ≡ counts }
 {
     count_cells_behind(Follower::new(bounds, period), runs, cells)
 }

@@ -1,6 +1,9 @@
 mod LaneBits
 pub mod SameLevels
 pub mod RunsBehind
+pub mod RunsToEnd
+pub mod Telling
+pub mod Recovering
 pub mod Followed
 pub mod Steady
 pub mod WordBits

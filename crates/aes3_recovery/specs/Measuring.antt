@@ -3,7 +3,7 @@ use Rattle.std.specs.Prelude.{ℕ, List, [], ◌∷◌, Option, Some, None, ◌�
 use Rattle.std.specs.Prelude.{nat_le, length}
 use Rattle.aes3_capture.specs.declared.bounds.Bounds.{Bounds}
 use Rattle.aes3_capture.specs.declared.follower.Follower.{Follower}
-use Rattle.aes3_capture.specs.Following.{CountedAll}
+use Rattle.aes3_capture.specs.Following.{Begins, CountedAll, middle_of}
 
 -- how many of these runs of cells have one to three, as those of a line
 abbrev pub runs_of_a_line : List ℕ → ℕ
@@ -38,3 +38,10 @@ pub record IsSteady (follower : Follower) (runs : List ℕ) : Type 0 where
 pub record IsMeasured (known : Option ℕ) (runs : List ℕ) (follower : Follower) : Type 0 where
   pub placed : IsPlaced known follower
   pub steady : IsSteady follower runs
+
+-- the follower of a period that was asked for, which counts from the first sample on
+pub record IsAskedFor (known : Option ℕ) (follower : Follower) : Type 0 where
+  pub period : ℕ
+  pub asked : known ≡ Some period
+  pub around : IsAround follower.bounds period
+  pub begins : Begins follower follower.bounds period (middle_of follower.bounds) (middle_of follower.bounds)

@@ -38,6 +38,8 @@ impl LineFollower {
     pub fn new(form: Form, follower: Follower, edges: Edges) -> Self
         ensures follower { result.follower ≡ follower }
         ensures form { result.queue.form ≡ form }
+        ensures edges { result.edges ≡ edges }
+        ensures none { waiting result.queue ≡ [] }
         ensures begins { (begun : List ℕ) → edges.run < 2 ^ 31
             → Followed (Some begun) begun [] result follower (other (level_if edges.high))
             (replicate edges.run (level_if edges.high)) [] }

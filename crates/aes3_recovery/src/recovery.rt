@@ -1,7 +1,8 @@
 //! Cells recovered from the levels of samples.
 
-ghost use Rattle.std.specs.Prelude.{ℕ, List, [], ◌++◌, ◌+◌, ◌<◌, ◌≤◌, ◌^◌, ◌≡◌, ◌≢◌};
-ghost use Rattle.std.specs.Prelude.{IfOk, OnErr};
+ghost use Rattle.std.specs.Prelude.{ℕ, List, [], ◌∷◌, ◌++◌, ◌+◌, ◌*◌, ◌/◌, ◌-◌, ◌%◌, ◌<◌, ◌≤◌, ◌^◌, ◌≡◌, ◌≢◌, Bool, Option};
+ghost use Rattle.std.specs.Prelude.{IfOk, OnErr, IfSome, Some, min, take, length, replicate, true, false};
+ghost use Rattle.aes3_recovery.specs.Measuring.{IsAskedFor};
 
 use crate::edges::{Edges, Piece};
 use crate::line_follower::LineFollower;
@@ -71,7 +72,9 @@ pub struct Recovery {
 }
 
 /// A follower of a line of which the period alone is known, if that.
-fn known_follower(known: Option<u64>) -> Option<Follower> {
+fn known_follower(known: Option<u64>) -> Option<Follower>
+    ensures { IfSome result (λ follower. IsAskedFor known follower) }
+{
     match known {
         Some(period) => match bounds_around(period) {
             Some(bounds) => Some(Follower::new(bounds, period)),
@@ -92,21 +95,37 @@ fn any_follower() -> Follower {
 
 impl Recovery {
     ghost use Rattle.aes3_level.specs.declared.level.Level.{Level};
-    ghost use Rattle.aes3_level.specs.Words.{low_cells};
+    ghost use Rattle.aes3_level.specs.Words.{level_of, low_cells};
     ghost use Rattle.aes3_capture.specs.declared.follower.Follower.{Follower};
     ghost use Rattle.aes3_capture.specs.Captures.{Captures};
     ghost use Rattle.aes3_capture.specs.Following.{Follows};
     ghost use Rattle.aes3_recovery.specs.Endings.{level_if};
     ghost use Rattle.aes3_recovery.specs.Runs.{AreCaptured};
+    ghost use Rattle.aes3_level.specs.Cells.{after, other};
     ghost use Rattle.aes3_recovery.specs.LineFollowing.{Followed, Gives, RunTold, SomeTold};
-    ghost use Rattle.aes3_recovery.specs.declared.recovery.State.TheVariants.{Following, Still};
+    ghost use Rattle.aes3_recovery.specs.Endings.{finished};
+    ghost use Rattle.aes3_recovery.specs.Recovering.{AreEnded, AreRecovered, AreTold, Holds, Recovered, Setting, StandsOn};
+    ghost use Rattle.aes3_recovery.specs.Recovering.{runs_waiting};
+    ghost use Rattle.aes3_recovery.specs.RecoverySteps.{Gave, KeepsRuns, KeepsTold, RunsTold};
+    ghost use Rattle.aes3_recovery.specs.declared.recovery.State.TheVariants.{Following, Measuring, Still};
 
     /// A recovery of which nothing came. A cell is so many parts of a sample, where that is given.
-    pub fn new(form: Form, known: Option<u64>) -> Self {
-        let (follower, found) = match known_follower(known) {
-            Some(follower) => (follower, true),
-            None => (any_follower(), false),
-        };
+    pub fn new(form: Form, known: Option<u64>) -> Self
+        ensures recovered { (setting : Setting) → setting.form ≡ form → setting.known ≡ known
+            → Recovered (Some setting.begun) setting [] [] result }
+    {
+        match known_follower(known) {
+            Some(follower) => Recovery::with_follower(form, known, follower, true),
+            None => Recovery::with_follower(form, known, any_follower(), false),
+        }
+    }
+
+    /// A recovery of which nothing came, with a follower of its line, where one is found.
+    fn with_follower(form: Form, known: Option<u64>, follower: Follower, found: bool) -> Self
+        ensures recovered { (setting : Setting) → setting.form ≡ form → setting.known ≡ known
+            → (found ≡ true → IsAskedFor known follower)
+            → Recovered (Some setting.begun) setting [] [] result }
+    {
         Recovery {
             line: LineFollower::new(form, follower, Edges::new(false)),
             found,
@@ -121,7 +140,10 @@ impl Recovery {
     }
 
     /// What was found of the line so far.
-    pub fn figures(&self) -> Figures {
+    pub fn figures(&self) -> Figures
+        ensures samples { result.samples ≡ self.now.figures.samples }
+        ensures measured { result.measured ≡ self.now.figures.measured }
+    {
         let mut figures = self.figures;
         figures.cells = self.line.cells();
         if self.found {
@@ -156,6 +178,9 @@ impl Recovery {
             → AreCaptured (Captures first.bounds same other_mean displaced) before cells
             (seen ++ low_cells len levels)
             → IfOk result (λ _. Gives (T.taken sink.new) begun front self.new.line cells) }
+        ensures recovered { (setting : Setting) (seen : List Level)
+            → Recovered (T.taken sink.old) setting seen [] self.old
+            → IfOk result (λ _. Recovered (T.taken sink.new) setting (seen ++ low_cells len levels) [] self.new) }
     {
         self.count_samples(levels, len);
         let mut piece = Piece::new(levels, len);
@@ -175,10 +200,15 @@ impl Recovery {
         ensures state { self.new.state ≡ self.old.state }
         ensures measured { self.new.figures.measured ≡ self.old.figures.measured }
         ensures line { 1 ≤ self.old.figures.samples → self.new.line ≡ self.old.line }
+        ensures samples { self.new.figures.samples ≡ min (self.old.figures.samples + len) (2 ^ 64 - 1) }
+        ensures none { len ≡ 0 → self.new.line ≡ self.old.line }
+        ensures begins { self.old.figures.samples ≡ 0 → 1 ≤ len
+            → (level_if self.new.line.edges.high ≡ level_of (levels % 2)) × (self.new.line.edges.run ≡ 0) }
+        ensures others { KeepsTold self.old self.new }
     {
         let before = self.figures.samples;
         self.figures.samples = before.saturating_add(u64::from(len));
-        if before > 0 {
+        if before > 0 || len == 0 {
             return;
         }
         self.line.start(levels & 1 == 1);
@@ -196,6 +226,14 @@ impl Recovery {
             → self.old.figures.measured < self.new.figures.measured }
         ensures told { self.old.state ≡ Following → RunTold T.taken self.old.line self.new.line sink.old sink.new
             result run (level_if high) }
+        ensures edges { self.new.line.edges ≡ self.old.line.edges }
+        ensures samples { self.new.figures.samples ≡ self.old.figures.samples }
+        ensures stands { (setting : Setting) (level : Level) (done : List ℕ) (past : ℕ)
+            → Holds (T.taken sink.old) setting level done past self.old
+            → level_if high ≡ other (after level (done ++ runs_waiting self.old))
+            → level_if self.old.line.edges.high ≡ other (level_if high)
+            → IfOk result (λ _. StandsOn (T.taken sink.new) setting level
+            ((done ++ runs_waiting self.old) ++ (past + run) ∷ []) self.new.line.edges.run self.new) }
     {
         match self.state {
             State::Following => self.follow(sink, high, run),
@@ -215,6 +253,9 @@ impl Recovery {
         ensures err_count { OnErr result (T.failed sink.new ≡ T.failed sink.old + 1) }
         ensures state { self.new.state ≡ self.old.state }
         ensures measured { self.new.figures.measured ≡ self.old.figures.measured }
+        ensures keeps { KeepsRuns self.old self.new }
+        ensures told { (level : Level) → level_if high ≡ other level
+            → IfOk result (λ _. RunsTold T.taken self.old self.new sink.old sink.new level (run ∷ [])) }
     {
         if self.found {
             return self.line.tell(sink, high, run);
@@ -232,6 +273,7 @@ impl Recovery {
         ensures told { RunTold T.taken self.old.line self.new.line sink.old sink.new result run
             (level_if high) }
         ensures measured { self.new.figures.measured ≡ self.old.figures.measured }
+        ensures keeps { KeepsRuns self.old self.new }
     {
         match self.line.tell(sink, high, run) {
             Ok(()) => {
@@ -248,6 +290,7 @@ impl Recovery {
     fn note(&mut self)
         ensures line { self.new.line ≡ self.old.line }
         ensures measured { self.new.figures.measured ≡ self.old.figures.measured }
+        ensures keeps { KeepsRuns self.old self.new }
     {
         let follower = self.line.follower();
         // The grid has gone a sixteenth of the way to it.
@@ -273,6 +316,13 @@ impl Recovery {
         ensures begun { self.old.state ≢ Following → self.new.state ≡ Following
             → self.old.figures.measured + 1 < 2 ^ 64
             → self.old.figures.measured < self.new.figures.measured }
+        ensures edges { self.new.line.edges ≡ self.old.line.edges }
+        ensures samples { self.new.figures.samples ≡ self.old.figures.samples }
+        ensures stands { (setting : Setting) (level : Level) (done : List ℕ)
+            → self.old.state ≡ Measuring → Holds (T.taken sink.old) setting level done 0 self.old
+            → level_if self.old.line.edges.high ≡ after level (done ++ runs_waiting self.old)
+            → IfOk result (λ _. StandsOn (T.taken sink.new) setting level
+            ((done ++ runs_waiting self.old) ++ run ∷ []) self.new.line.edges.run self.new) }
     {
         self.runs[self.count] = run;
         if self.count + 1 < RUNS {
@@ -293,6 +343,16 @@ impl Recovery {
         ensures begun { self.old.state ≢ Following → self.new.state ≡ Following
             → self.old.figures.measured + 1 < 2 ^ 64
             → self.old.figures.measured < self.new.figures.measured }
+        ensures edges { self.new.line.edges ≡ self.old.line.edges }
+        ensures samples { self.new.figures.samples ≡ self.old.figures.samples }
+        ensures none { self.new.count ≡ self.old.count }
+        ensures followed { self.old.state ≡ Measuring → self.new.state ≡ Following → self.new.found ≡ true }
+        ensures told { (setting : Setting) (level : Level) (done : List ℕ)
+            → 128 ≤ count
+            → AreTold (T.taken sink.old) setting level done 0 self.old
+            → level_if self.old.line.edges.high ≡ other (after level (done ++ take count self.old.runs))
+            → IfOk result (λ _. AreTold (T.taken sink.new) setting level
+            (done ++ take count self.old.runs) 0 self.new) }
     {
         match follower_of_runs(&self.runs[..count], self.known) {
             None => self.release(sink, count),
@@ -310,12 +370,26 @@ impl Recovery {
         follower: Follower,
         count: usize,
     ) -> Result<(), Fault>
+        requires within { count ≤ 256 }
         requires room { T.failed sink.old + 1 < 2 ^ 64 }
         ensures count { IfOk result (λ _. T.failed sink.new ≡ T.failed sink.old) }
         ensures err_count { OnErr result (T.failed sink.new ≡ T.failed sink.old + 1) }
         ensures up { self.old.figures.measured ≤ self.new.figures.measured }
         ensures begun { self.old.figures.measured + 1 < 2 ^ 64
             → self.old.figures.measured < self.new.figures.measured }
+        ensures edges { self.new.line.edges ≡ self.old.line.edges }
+        ensures samples { self.new.figures.samples ≡ self.old.figures.samples }
+        ensures none { self.new.count ≡ self.old.count }
+        ensures runs { self.new.runs ≡ self.old.runs }
+        ensures known { self.new.known ≡ self.old.known }
+        ensures found { self.new.found ≡ true }
+        ensures follower { self.new.line.follower ≡ follower }
+        ensures again { self.old.found ≡ true
+            → IfOk result (λ _. Gave T.taken self.old.line self.new.line sink.old sink.new []) }
+        ensures first { (level : Level) → self.old.found ≡ false
+            → level_if self.old.line.edges.high ≡ other (after level (take count self.old.runs))
+            → IfOk result (λ _. Gave T.taken self.old.line self.new.line sink.old sink.new
+            (replicate (min (65536 * self.old.held) (2 ^ 64 - 1) / follower.period) level)) }
     {
         let is_first = !self.found;
         self.found = true;
@@ -324,11 +398,26 @@ impl Recovery {
         self.spread = 0;
         self.figures.measured = self.figures.measured.saturating_add(1);
         if is_first {
-            let high = self.line.is_high() == (count % 2 == 1);
-            let cells = self.held.saturating_mul(PARTS) / follower.period().max(1);
+            let high = self.is_high_before(count);
+            let cells = self.held.saturating_mul(PARTS) / follower.period();
             self.line.put(sink, high, cells)
         } else {
             Ok(())
+        }
+    }
+
+    /// Whether the line was high before the runs that were gathered: they take turns, and behind the last of them comes
+    /// the level now.
+    fn is_high_before(&self, count: usize) -> bool
+        requires within { count ≤ 256 }
+        ensures { (level : Level)
+            → level_if self.now.line.edges.high ≡ other (after level (take count self.now.runs))
+            → level_if result ≡ level }
+    {
+        if count % 2 == 1 {
+            self.line.is_high()
+        } else {
+            !self.line.is_high()
         }
     }
 
@@ -340,9 +429,13 @@ impl Recovery {
         ensures err_count { OnErr result (T.failed sink.new ≡ T.failed sink.old + 1) }
         ensures state { self.new.state ≡ self.old.state }
         ensures measured { self.new.figures.measured ≡ self.old.figures.measured }
+        ensures keeps { KeepsRuns self.old self.new }
+        ensures told { (level : Level)
+            → level_if self.old.line.edges.high ≡ other (after level (take count self.old.runs))
+            → IfOk result (λ _. RunsTold T.taken self.old self.new sink.old sink.new level
+            (take count self.old.runs)) }
     {
-        // Behind the last of them comes the level now, and they take turns.
-        let mut high = self.line.is_high() != (count % 2 == 1);
+        let mut high = !self.is_high_before(count);
         for i in 0..count {
             match self.tell(sink, high, self.runs[i]) {
                 Ok(()) => {}
@@ -375,6 +468,12 @@ impl Recovery {
         ensures state { self.new.state ≡ Following → self.old.state ≡ Following }
         ensures told { self.new.state ≡ Following
             → SomeTold T.taken self.old.line self.new.line sink.old sink.new result }
+        ensures high { self.new.line.edges.high ≡ self.old.line.edges.high }
+        ensures samples { self.new.figures.samples ≡ self.old.figures.samples }
+        ensures short { IfOk result (λ _. self.new.line.edges.run < 2 ^ 31) }
+        ensures stands { (setting : Setting) (level : Level) (runs : List ℕ) (behind : ℕ)
+            → StandsOn (T.taken sink.old) setting level runs behind self.old
+            → IfOk result (λ _. StandsOn (T.taken sink.new) setting level runs behind self.new) }
     {
         if u64::from(self.line.waiting()) * PARTS / DEAD < self.period() {
             return Ok(());
@@ -389,6 +488,12 @@ impl Recovery {
         ensures err_count { OnErr result (T.failed sink.new ≡ T.failed sink.old + 1) }
         ensures state { self.new.state ≡ Still }
         ensures measured { self.new.figures.measured ≡ self.old.figures.measured }
+        ensures high { self.new.line.edges.high ≡ self.old.line.edges.high }
+        ensures samples { self.new.figures.samples ≡ self.old.figures.samples }
+        ensures short { IfOk result (λ _. self.new.line.edges.run ≡ 0) }
+        ensures stands { (setting : Setting) (level : Level) (runs : List ℕ) (behind : ℕ)
+            → StandsOn (T.taken sink.old) setting level runs behind self.old
+            → IfOk result (λ _. StandsOn (T.taken sink.new) setting level runs behind self.new) }
     {
         self.note_dead();
         let count = self.count;
@@ -403,6 +508,9 @@ impl Recovery {
     fn note_dead(&mut self)
         ensures state { self.new.state ≡ Still }
         ensures measured { self.new.figures.measured ≡ self.old.figures.measured }
+        ensures keeps { KeepsRuns self.old self.new }
+        ensures line { self.new.line ≡ self.old.line }
+        ensures held { self.new.held ≡ self.old.held }
     {
         if self.state == State::Still {
             return;
@@ -420,6 +528,16 @@ impl Recovery {
         ensures err_count { OnErr result (T.failed sink.new ≡ T.failed sink.old + 1) }
         ensures state { self.new.state ≡ self.old.state }
         ensures measured { self.new.figures.measured ≡ self.old.figures.measured }
+        ensures high { self.new.line.edges.high ≡ self.old.line.edges.high }
+        ensures all { self.new.line.edges.run ≡ 0 }
+        ensures samples { self.new.figures.samples ≡ self.old.figures.samples }
+        ensures count_is { self.new.count ≡ self.old.count }
+        ensures told { (setting : Setting) (level : Level) (done : List ℕ) (past : ℕ)
+            → AreTold (T.taken sink.old) setting level done past self.old
+            → level_if self.old.line.edges.high ≡ other (after level done)
+            → IfOk result (λ _. AreTold (T.taken sink.new) setting level done
+            (past + self.old.line.edges.run) self.new) }
+        ensures known { self.new.known ≡ self.old.known }
     {
         if self.found {
             return self.line.pass(sink);
@@ -437,6 +555,10 @@ impl Recovery {
         requires room { T.failed sink.old + 1 < 2 ^ 64 }
         ensures count { IfOk result (λ _. T.failed sink.new ≡ T.failed sink.old) }
         ensures err_count { OnErr result (T.failed sink.new ≡ T.failed sink.old + 1) }
+        ensures passed { IfOk result (λ _. T.passed sink.new ≡ T.taken sink.new) }
+        ensures recovered { (setting : Setting) (seen : List Level)
+            → Recovered (T.taken sink.old) setting seen [] self.old
+            → IfOk result (λ _. Recovered (T.taken sink.new) setting seen [] self.new) }
     {
         match self.line.pass_on(sink) {
             Ok(()) => sink.flush(),
@@ -452,17 +574,38 @@ impl Recovery {
         requires room { T.failed sink.old + 1 < 2 ^ 64 }
         ensures count { IfOk result (λ _. T.failed sink.new ≡ T.failed sink.old) }
         ensures err_count { OnErr result (T.failed sink.new ≡ T.failed sink.old + 1) }
+        ensures passed { IfOk result (λ _. T.passed sink.new ≡ T.taken sink.new) }
+        ensures recovered { (setting : Setting) (seen : List Level)
+            → Recovered (T.taken sink.old) setting seen [] self.old
+            → IfOk result (λ _. (cells : List Level) × AreRecovered setting.known seen cells self.new
+            × (T.taken sink.new ≡ Some (setting.begun ++ finished setting.form cells))) }
     {
         let count = self.count;
         self.count = 0;
-        let told = if count < FEW {
+        match self.tell_gathered(sink, count) {
+            Ok(()) => self.end(sink),
+            Err(fault) => Err(fault),
+        }
+    }
+
+    /// Tells the cells of the last runs that were gathered, which are measured where they are many.
+    fn tell_gathered<T: Sink>(&mut self, sink: &mut T, count: usize) -> Result<(), Fault>
+        requires within { count ≤ 256 }
+        requires room { T.failed sink.old + 1 < 2 ^ 64 }
+        ensures count { IfOk result (λ _. T.failed sink.new ≡ T.failed sink.old) }
+        ensures err_count { OnErr result (T.failed sink.new ≡ T.failed sink.old + 1) }
+        ensures edges { self.new.line.edges ≡ self.old.line.edges }
+        ensures told { (setting : Setting) (level : Level) (done : List ℕ) (past : ℕ)
+            → (1 ≤ length (take count self.old.runs) → past ≡ 0)
+            → AreTold (T.taken sink.old) setting level done past self.old
+            → level_if self.old.line.edges.high ≡ other (after level (done ++ take count self.old.runs))
+            → IfOk result (λ _. AreTold (T.taken sink.new) setting level
+            (done ++ take count self.old.runs) past self.new) }
+    {
+        if count < FEW {
             self.release(sink, count)
         } else {
             self.decide(sink, count)
-        };
-        match told {
-            Ok(()) => self.end(sink),
-            Err(fault) => Err(fault),
         }
     }
 
@@ -471,6 +614,13 @@ impl Recovery {
         requires room { T.failed sink.old + 1 < 2 ^ 64 }
         ensures count { IfOk result (λ _. T.failed sink.new ≡ T.failed sink.old) }
         ensures err_count { OnErr result (T.failed sink.new ≡ T.failed sink.old + 1) }
+        ensures passed { IfOk result (λ _. T.passed sink.new ≡ T.taken sink.new) }
+        ensures ended { (setting : Setting) (level : Level) (done : List ℕ) (past : ℕ)
+            → AreTold (T.taken sink.old) setting level done past self.old
+            → level_if self.old.line.edges.high ≡ other (after level done)
+            → IfOk result (λ _. (cells : List Level)
+            × AreEnded setting.known level (done ++ (past + self.old.line.edges.run) ∷ []) cells self.new
+            × (T.taken sink.new ≡ Some (setting.begun ++ finished setting.form cells))) }
     {
         let run = self.line.take_waiting();
         let high = self.line.is_high();

@@ -3,6 +3,7 @@ use Rattle.aes3_level.specs.Words.{low_cells}
 use Rattle.aes3_recovery.specs.Runs.{levels_in}
 use Rattle.aes3_recovery.specs.declared.recovery.State.TheVariants.{Following}
 use Rattle.aes3_recovery.proofs.Followed.{followed-begins, followed-edge, followed-rest, gives-ok}
+use Rattle.aes3_recovery.proofs.Recovering.{recovered-edge, recovered-rest-ok, recovered-word, turned-ended}
 use Rattle.aes3_recovery.proofs.States.{following-or}
 use Rattle.aes3_recovery.proofs.recovery.Recovery.take.Goals as goal
 
@@ -14,6 +15,11 @@ loop-run-init g c = record {
       followed-begins (g.T.Sink.taken c.args.sink.now) begun front c.args.self.now.line c.count_samples.new.self.line
       first before seen (low_cells c.args.len c.args.levels) (levels_in c.new-piece.result)
       (c.count_samples.ensures.line some) c.new-piece.ensures w;
+  recovered = λ setting seen w.
+      let counted = c.count_samples.ensures in
+      rw c.new-piece.ensures
+      (recovered-word (g.T.Sink.taken c.args.sink.now) setting seen c.args.len c.args.levels c.args.self.now
+      c.count_samples.new.self counted.others counted.state counted.samples counted.line counted.none counted.begins w);
 }
 
 pub loop-run-preserved : goal.loop-run-preserved
@@ -37,6 +43,27 @@ loop-run-preserved g c =
           c.next_edge.ensures.follower c.next_edge.ensures.queue
           (not c.is_high-high.result) (ap not c.is_high-high.ensures) (c.in-Ok.ensures.told follows)
           (c.loop-run.invariant.followed was follows kept room some begun front first before seen w);
+      recovered = λ setting seen w.
+          let old = c.loop-run.self in
+          let edge = c.in-Some.ensures.edge in
+          let turned = turned-ended old.line.edges c.next_edge.new.self.edges c.loop-run.piece c.next_edge.new.piece
+          c.in-Some.run' (not c.is_high-high.result) edge (ap not c.is_high-high.ensures) in
+          recovered-edge (g.T.Sink.taken c.loop-run.sink) (g.T.Sink.taken c.edge.new.sink) setting
+          (seen ++ low_cells c.args.len c.args.levels) c.loop-run.piece c.next_edge.new.piece c.in-Some.run' old _
+          c.edge.new.self c.loop-run.piece.few edge
+          (record {
+            found_is = refl;
+            known_is = refl;
+            held_is = refl;
+            count_is = refl;
+            runs_are = refl;
+            measured_is = refl;
+            queue_is = c.next_edge.ensures.queue;
+            follower_is = c.next_edge.ensures.follower;
+          })
+          refl c.edge.ensures.edges c.edge.ensures.samples
+          (λ level done past h e. c.in-Ok.ensures.stands setting level done past h (turned.0 ∙ e) turned.1)
+          (c.loop-run.invariant.recovered setting seen w);
     }
 
 pub returns-clause-follows : goal.returns-clause-follows
@@ -55,3 +82,21 @@ returns-clause-mean g c =
     gives-ok c.rest.result (g.T.Sink.taken c.rest.new.sink) begun front c.rest.new.self.line first before
     (seen ++ low_cells c.args.len c.args.levels) same other_mean displaced cells
     (returns-clause-follows g c was is equal room some begun front first before seen w) follows captured
+
+pub returns-clause-recovered : goal.returns-clause-recovered
+returns-clause-recovered g c = λ setting seen w.
+    recovered-rest-ok (g.T.Sink.taken c.loop-run.sink) (g.T.Sink.taken c.rest.new.sink) setting
+    (seen ++ low_cells c.args.len c.args.levels) c.loop-run.piece c.loop-run.self _ c.rest.new.self c.rest.result
+    c.loop-run.piece.few c.in_default.ensures.rest
+    (record {
+      found_is = refl;
+      known_is = refl;
+      held_is = refl;
+      count_is = refl;
+      runs_are = refl;
+      measured_is = refl;
+      queue_is = c.next_edge.ensures.queue;
+      follower_is = c.next_edge.ensures.follower;
+    })
+    refl c.rest.ensures.high c.rest.ensures.samples c.rest.ensures.short (c.rest.ensures.stands setting)
+    (c.loop-run.invariant.recovered setting seen w)

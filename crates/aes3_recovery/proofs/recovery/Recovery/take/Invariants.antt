@@ -4,6 +4,7 @@ use Rattle.aes3_level.specs.Words.{low_cells}
 use Rattle.aes3_capture.specs.declared.follower.Follower.{Follower}
 use Rattle.aes3_recovery.specs.Runs.{levels_in}
 use Rattle.aes3_recovery.specs.LineFollowing.{Followed}
+use Rattle.aes3_recovery.specs.Recovering.{Recovered, Setting}
 use Rattle.aes3_recovery.specs.declared.recovery.State.TheVariants.{Following}
 use Rattle.aes3_recovery.proofs.recovery.Recovery.take.Given as goal
 
@@ -18,6 +19,8 @@ invariant-loop-run g l = record {
       → Followed (g.T.Sink.taken l.fn.sink) begun front l.fn.self.line first before seen []
       → Followed (g.T.Sink.taken l.sink) begun front l.self.line first before
       (seen ++ low_cells l.fn.len l.fn.levels) (levels_in l.piece);
+  recovered : (setting : Setting) (seen : List Level) → Recovered (g.T.Sink.taken l.fn.sink) setting seen [] l.fn.self
+      → Recovered (g.T.Sink.taken l.sink) setting (seen ++ low_cells l.fn.len l.fn.levels) (levels_in l.piece) l.self;
 }
 
 abbrev pub decreases-loop-run : goal.decreases-loop-run

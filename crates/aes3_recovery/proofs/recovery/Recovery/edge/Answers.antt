@@ -1,0 +1,51 @@
+use Rattle.std.proofs.Common.{refl, sym, ap, ◌∙◌, ◌++◌, ◌∷◌, [], ◌≡◌, ◌+◌, arith, subst}
+use Rattle.aes3_level.specs.Cells.{after, other}
+use Rattle.aes3_level.proofs.Runs.{other-other}
+use Rattle.aes3_recovery.specs.Endings.{level_if}
+use Rattle.aes3_recovery.specs.Recovering.{Holds, StandsOn, runs_waiting}
+use Rattle.aes3_recovery.specs.declared.recovery.State.TheVariants.{Following, Measuring, Still}
+use Rattle.aes3_recovery.proofs.Telling.{ok-map, stands-run, tell-ok, told-keeps}
+use Rattle.aes3_recovery.proofs.recovery.Recovery.edge.Goals as goal
+
+pub returns-in-Following-clause-stands : goal.returns-in-Following-clause-stands
+returns-in-Following-clause-stands g c = λ setting level done past h turns flips.
+    let old = c.args.self.now in
+    let new = c.follow.new.self in
+    let k = c.follow.ensures.keeps in
+    let found = h.order.followed c.in-Following.is in
+    stands-run g.T.Sink.taken old new c.args.sink.now c.follow.new.sink c.follow.result setting level done past c.args.run c.args.high
+    (h.order.none_wait (λ m. apart (sym c.in-Following.is ∙ m))) h.told_is turns flips
+    (λ e. tell-ok old new c.args.sink.now c.follow.new.sink c.follow.result (after level done) (level_if c.args.high)
+    c.args.run found e c.follow.ensures.told) k (λ f. k.found_is ∙ found)
+  where
+    apart : Following ≡ Measuring → ⊥
+    apart e = cc
+
+pub returns-in-Still-clause-stands : goal.returns-in-Still-clause-stands
+returns-in-Still-clause-stands g c = λ setting level done past h turns flips.
+    let old = c.args.self.now in
+    let new = c.tell.new.self in
+    stands-run g.T.Sink.taken _ new c.args.sink.now c.tell.new.sink c.tell.result setting level done past c.args.run c.args.high
+    (h.order.none_wait (λ m. apart (sym c.in-Still.is ∙ m)))
+    (told-keeps (g.T.Sink.taken c.args.sink.now) setting level done past old _ h.told_is refl refl refl refl refl refl)
+    turns flips (c.tell.ensures.told (after level done)) c.tell.ensures.keeps
+    (λ f. absurd (unlike (sym c.tell.ensures.state ∙ f)))
+  where
+    apart : Still ≡ Measuring → ⊥
+    apart e = cc
+
+    unlike : Measuring ≡ Following → ⊥
+    unlike e = cc
+
+pub returns-in-Measuring-clause-stands : goal.returns-in-Measuring-clause-stands
+returns-in-Measuring-clause-stands g c = λ setting level done past h turns flips.
+    let old = c.args.self.now in
+    let new = c.gather.new.self in
+    let none = h.order.none_past c.in-Measuring.is in
+    let waits = runs_waiting old in
+    ok-map c.gather.result _ _
+    (λ w. subst (λ n. StandsOn (g.T.Sink.taken c.gather.new.sink) setting level ((done ++ waits) ++ n ∷ [])
+    new.line.edges.run new) (let z : c.args.run ≡ past + c.args.run = omega (arith, none) in z) w)
+    (c.gather.ensures.stands setting level done c.in-Measuring.is
+    (subst (λ n. Holds (g.T.Sink.taken c.args.sink.now) setting level done n old) none h)
+    (flips ∙ ap other turns ∙ other-other (after level (done ++ waits))))
