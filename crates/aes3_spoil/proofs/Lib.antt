@@ -5,3 +5,4 @@ pub mod WholeWords
 pub mod SpoiledCells
 pub mod Taking
 pub mod Writings
+mod Refuting

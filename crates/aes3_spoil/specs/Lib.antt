@@ -1,4 +1,5 @@
 pub mod Errors
+pub mod ReportLaws
 pub mod SpoilLaws
 pub mod Spoiled
 pub mod Spoiling

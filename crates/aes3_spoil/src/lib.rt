@@ -8,7 +8,7 @@ mod cells_out;
 mod errors;
 /// Kinds of errors, and one error.
 mod kinds;
-/// What no errors, one changed cell and one lost cell make of cells.
+/// What no errors and one error make of cells and of the reports on them.
 mod laws;
 /// The run.
 mod spoiling;
@@ -17,5 +17,5 @@ mod subframe_errors;
 
 pub use errors::{ERRORS, Errors};
 pub use kinds::{CellError, ErrorKind, Every};
-pub use laws::spoiled_cells_are_damaged;
+pub use laws::{one_error_is_told, spoiled_cells_are_damaged};
 pub use spoiling::spoil;

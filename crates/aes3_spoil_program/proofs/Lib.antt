@@ -1,0 +1,4 @@
+mod Adding
+mod Lines
+mod Numbers
+mod Options

@@ -1,0 +1,4 @@
+pub mod Asks
+pub mod Named
+pub mod SpoilLine
+pub mod Values
