@@ -22,7 +22,7 @@ use Rattle.aes3_input.specs.Driving.{Drive}
 use Rattle.aes3_lock.specs.Tallies.{is_faulty, Tallies}
 use Rattle.aes3_lock.proofs.Tallies.{tallies-few, few-decided}
 use Rattle.aes3_input.proofs.Items.{before-is, before-join as end-join}
-use Rattle.aes3_lines.specs.declared.lines.Lines.{Lines}
+use Rattle.aes3_settings.specs.declared.lines.Lines.{Lines}
 use Rattle.aes3_lock.specs.Remains.{place_of}
 use Rattle.aes3_account.specs.Gaps.{Entry, reported, full_gaps, full_count, behind_full, rest_gap, gaps, gaps_before}
 use Rattle.aes3_account.specs.Gaps.{behind_report, account_from, reached_from, account, begun_account, accounted}

@@ -2,7 +2,7 @@
 use Rattle.std.proofs.Common.{◌≡◌, ℕ, zero, suc, ◌<◌, List, [], ◌∷◌, ◌++◌, Result, Ok, Err, IfOk, OnErr, length}
 use Rattle.std.proofs.Common.{take, drop, get_or, refl, sym, ap, ◌∙◌, append_assoc, arith}
 use Rattle.aes3_lines.specs.declared.event.Event.{Event}
-use Rattle.aes3_lines.specs.declared.event.Style.{Style}
+use Rattle.aes3_settings.specs.declared.style.Style.{Style}
 use Rattle.aes3_lines.specs.Events.{event_line}
 use Rattle.aes3_account.specs.Watching.{event_lines}
 

@@ -14,7 +14,7 @@ use Rattle.aes3_lock.proofs.Deciding.{block_len_24576}
 use Rattle.aes3_lock.proofs.AllStanding.{wholes-append}
 use Rattle.aes3_cell.specs.Ends.{Grew, GrewFront}
 use Rattle.aes3_cell.proofs.Growing.{front-is, front-join, front-more}
-use Rattle.aes3_lines.specs.declared.lines.Lines.{Lines}
+use Rattle.aes3_settings.specs.declared.lines.Lines.{Lines}
 use Rattle.aes3_account.specs.GapLines.{entry_line, gap_line, account_lines}
 use Rattle.aes3_lock.specs.Remains.{place_of}
 use Rattle.aes3_account.specs.Gaps.{Entry, reported, lost, full_gaps, full_count, behind_full, kind, rest_gap, gaps}

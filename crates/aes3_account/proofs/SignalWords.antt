@@ -2,12 +2,11 @@
 use Rattle.std.proofs.Common.{◌≡◌, ℕ, zero, suc, ◌+◌, ◌*◌, ◌/◌, ◌%◌, ◌^◌, ◌<◌, ◌≤◌, ◌⊎◌, inl, inr, subst, List, [], ◌∷◌}
 use Rattle.std.proofs.Common.{◌++◌, Bool, false, eqb, length, map, take, drop, get_or, refl, sym, ap}
 use Rattle.std.proofs.Common.{ap₂, ◌∙◌, arith}
-use Rattle.std.specs.Prelude.{bit_and, bit_or, bit_xor, count_ones, replicate, set}
+use Rattle.std.specs.Prelude.{bit_and, bit_or, bit_xor, replicate, set}
 use Rattle.std.specs.Int.{bit_at}
 use Rattle.std.specs.Simd.Lanes.{fold_l, zip2}
 use Rattle.std.proofs.lemmas.Bool.{cases_lt}
 use Rattle.std.proofs.lemmas.List.{get_or-map, length-map, map-append, take_all, take_more, take_more_set}
-use Rattle.std.proofs.lemmas.List.Sums.{sum_by-append}
 use Rattle.std.proofs.lemmas.Simd.{get_or-chunk, get_or-replicate, get_or-zip2, length-chunk, length-zip2}
 use Rattle.std.proofs.lemmas.Nat.Bits.{bit_at_and, bit_at_or, bit_at_xor, bit_at-suc, bit_at-lt, bit_at_lowest}
 use Rattle.std.proofs.lemmas.Nat.Bits.{bit_at-zero}
@@ -23,7 +22,8 @@ use Rattle.aes3_frame.specs.Subframes.{audio_len}
 use Rattle.aes3_frame.specs.Statuses.{bits_at, bytes_in, status_len, status_of, status_place, validity_of}
 use Rattle.aes3_frame.specs.Statuses.{validity_place}
 use Rattle.aes3_lock.specs.Outcomes.{payloads_of}
-use Rattle.aes3_account.specs.Signals.{last_cells, ones_in, signals_of}
+use Rattle.aes3_lines.specs.Ones.{ones_in}
+use Rattle.aes3_account.specs.Signals.{last_cells, signals_of}
 use Rattle.aes3_account.specs.declared.signals.Signals.{Signals}
 use Rattle.aes3_account.specs.Watching.{SaysSo}
 
@@ -312,19 +312,3 @@ said_same lasts now ws k h = k.2 ∙ sym (h k.0 k.1)
 
 pub said_new : (ws : List ℕ) → SaysSo (map last_cells ws) (signals_of (payloads_of (read_words ws)))
 said_new ws = (ws, refl, refl)
-
--- how many bits of bytes are 1
-ones-append : (xs ys : List ℕ) → ones_in (xs ++ ys) ≡ ones_in xs + ones_in ys
-unfolding ones_in
-ones-append xs ys = sum_by-append count_ones xs ys
-
-one-byte : (x : ℕ) → ones_in (x ∷ []) ≡ count_ones x
-unfolding ones_in
-one-byte x = omega arith
-
-pub ones-more : (k n m : ℕ) (bytes : List ℕ) → k < length bytes → n ≡ ones_in (take k bytes)
-    → m ≡ count_ones (get_or bytes k 0)
-    → n + m ≡ ones_in (take (k + 1) bytes)
-ones-more k n m bytes h e f =
-    ap₂ (λ x y. x + y) e (f ∙ sym (one-byte (get_or bytes k 0)))
-    ∙ sym (ones-append (take k bytes) (get_or bytes k 0 ∷ [])) ∙ ap ones_in (sym (take_more bytes k 0 h))

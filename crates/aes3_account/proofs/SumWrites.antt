@@ -7,7 +7,7 @@ use Rattle.aes3_lock.specs.declared.tally.Tally.{Tally}
 use Rattle.aes3_lock.specs.Reports.{reports, decided}
 use Rattle.aes3_lock.specs.Tallies.{Tallies}
 use Rattle.aes3_input.specs.Taking.{behind}
-use Rattle.aes3_lines.specs.declared.event.Style.{Style}
+use Rattle.aes3_settings.specs.declared.style.Style.{Style}
 use Rattle.aes3_account.specs.Watching.{IsKept, Watches}
 use Rattle.aes3_account.specs.declared.summed.Summed.{Summed}
 use Rattle.aes3_account.specs.Sums.{all_told, go_to, next_sum, notice_lines, report_told, summed, summing}

@@ -27,7 +27,7 @@ use Rattle.aes3_lock.specs.Tallies.{is_faulty, Tallies}
 use Rattle.aes3_lock.proofs.Tallies.{tallies-few, few-decided}
 use Rattle.aes3_lines.specs.declared.event.Event.{Event}
 use Rattle.aes3_lines.specs.declared.event.Event.TheVariants.{Lost, End}
-use Rattle.aes3_lines.specs.declared.event.Style.{Style}
+use Rattle.aes3_settings.specs.declared.style.Style.{Style}
 use Rattle.aes3_lines.specs.Events.{event_line}
 use Rattle.aes3_account.specs.Signals.{change_events, signals_of}
 use Rattle.aes3_account.specs.declared.signals.Signals.{Signals}

@@ -8,7 +8,7 @@ use Rattle.aes3_lock.specs.Reports.{blocks, decided, reports}
 use Rattle.aes3_lock.specs.Tallies.{is_faulty, is_unfinished, Tallies}
 use Rattle.aes3_input.specs.Taking.{Writing}
 use Rattle.aes3_input.specs.Inputs.{cells_of}
-use Rattle.aes3_lines.specs.declared.lines.Lines.{Lines}
+use Rattle.aes3_settings.specs.declared.lines.Lines.{Lines}
 use Rattle.aes3_account.specs.declared.ledger.Ledger.{Ledger}
 use Rattle.aes3_account.specs.Gaps.{account, accounted, begun_account, is_lost}
 use Rattle.aes3_account.specs.GapLines.{account_lines}

@@ -1,7 +1,7 @@
 -- The lines of gaps and of an account. Numbers are decimal.
 use Rattle.std.specs.Prelude.{ℕ, List, [], ◌∷◌, ◌++◌, codes, decimal}
 use Rattle.std.specs.List.{flat_map}
-use Rattle.aes3_lines.specs.declared.lines.Lines.{Lines}
+use Rattle.aes3_settings.specs.declared.lines.Lines.{Lines}
 use Rattle.aes3_reports.specs.Lines.{told_line}
 use Rattle.aes3_account.specs.Gaps.{Entry, reported, lost, cut}
 

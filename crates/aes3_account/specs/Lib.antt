@@ -2,9 +2,7 @@ pub mod Gaps
 pub mod GapLines
 pub mod CellReports
 pub mod Accounting
-pub mod GapLaws
 pub mod Signals
 pub mod Watching
-pub mod WatchLaws
 pub mod Sums
-pub mod SumLaws
+pub mod Kept

@@ -1,7 +1,6 @@
 -- What the whole blocks of a line say of their samples, and where that changes.
-use Rattle.std.specs.Prelude.{ℕ, List, [], ◌∷◌, ◌++◌, Bool, true, false, Option, Some, None, count_ones, ◌/◌, ◌^◌, ◌==◌}
+use Rattle.std.specs.Prelude.{ℕ, List, [], ◌∷◌, ◌++◌, Bool, true, false, Option, Some, None, ◌/◌, ◌^◌, ◌==◌}
 use Rattle.std.specs.Prelude.{if◌then◌else◌}
-use Rattle.std.specs.List.{sum_by}
 use Rattle.std.specs.Str.{bytes_eq}
 use Rattle.aes3_frame.specs.declared.status.Channel.{Channel}
 use Rattle.aes3_frame.specs.declared.status.Channel.TheVariants.{First, Second}
@@ -10,13 +9,11 @@ use Rattle.aes3_lines.specs.declared.event.Event.{Event}
 use Rattle.aes3_lines.specs.declared.event.Event.TheVariants.{Status, Validity}
 use Rattle.aes3_lines.specs.declared.event.Marking.{Marking}
 use Rattle.aes3_lines.specs.declared.event.Marking.TheVariants.{Clear, Set, Mixed}
+use Rattle.aes3_lines.specs.Ones.{ones_in}
 use Rattle.aes3_account.specs.declared.signals.Signals.{Signals}
 use Rattle.aes3_account.specs.declared.signals.ChannelSignals.{ChannelSignals}
 
 -- of a channel of a block: its status, and how many of its validity bits are 1
-unfoldable pub ones_in : List ℕ → ℕ
-ones_in bytes = sum_by count_ones bytes
-
 abbrev pub channel_signals : List (List Bool) → Channel → ChannelSignals
 channel_signals b channel = record { status = status_of b channel; invalid = ones_in (validity_of b channel) }
 

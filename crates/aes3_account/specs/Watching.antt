@@ -17,7 +17,7 @@ use Rattle.aes3_input.specs.Taking.{Writing}
 use Rattle.aes3_lock.specs.Tallies.{is_faulty, is_unfinished, Tallies}
 use Rattle.aes3_lines.specs.declared.event.Event.{Event}
 use Rattle.aes3_lines.specs.declared.event.Event.TheVariants.{Locked, Lost, Back, Slipped, End}
-use Rattle.aes3_lines.specs.declared.event.Style.{Style}
+use Rattle.aes3_settings.specs.declared.style.Style.{Style}
 use Rattle.aes3_lines.specs.Events.{event_line}
 use Rattle.aes3_account.specs.Signals.{change_events, last_cells, signals_of}
 use Rattle.aes3_account.specs.declared.signals.Signals.{Signals}

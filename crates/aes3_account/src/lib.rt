@@ -10,8 +10,6 @@ mod cell_reporter;
 mod counted;
 /// The line of a gap.
 mod gap;
-/// Laws over the definitions alone, whatever the cells.
-pub mod laws;
 /// What is accounted for of all cells.
 mod ledger;
 /// What the whole blocks of a line say of their samples, and where that changes.

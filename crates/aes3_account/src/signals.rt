@@ -1,17 +1,17 @@
 //! What the whole blocks of a line say of their samples, and where that changes.
 
-ghost use Rattle.std.specs.Prelude.{◌≡◌, ◌≤◌, ◌+◌, ◌^◌, ◌++◌, ℕ, List, true, count_ones};
+ghost use Rattle.std.specs.Prelude.{◌≡◌, ◌≤◌, ◌+◌, ◌^◌, ◌++◌, ℕ, List, true};
 ghost use Rattle.std.specs.Prelude.{drop, map, take};
 ghost use Rattle.arrayvec.specs.ArrayVec.{array_vec_len};
 ghost use Rattle.aes3_slot.specs.ReadWords.{read_words};
 ghost use Rattle.aes3_lock.specs.Outcomes.{payloads_of};
 ghost use Rattle.aes3_account.specs.Signals.{change_events, channel_signals, last_cells};
-ghost use Rattle.aes3_account.specs.Signals.{marking_of, ones_in};
+ghost use Rattle.aes3_account.specs.Signals.{marking_of};
 ghost use Rattle.aes3_account.specs.Signals.{same_marking, signals_of, status_events};
 ghost use Rattle.aes3_account.specs.Signals.{validity_events};
 
 use aes3_block::{Block, Channel, SLOTS};
-use aes3_lines::{Event, Marking};
+use aes3_lines::{Event, Marking, ones_in};
 use arrayvec::ArrayVec;
 use std::simd::prelude::*;
 
@@ -41,26 +41,6 @@ pub(crate) struct ChannelSignals {
 pub(crate) struct Signals {
     pub(crate) first: ChannelSignals,
     pub(crate) second: ChannelSignals,
-}
-
-/// How many bits of a byte are 1.
-#[tactic(auto, using(std::proofs::lemmas::Nat::ones_le_self))]
-fn ones(byte: u8) -> u64
-    ensures ones { result ≡ count_ones byte }
-    ensures few { result ≤ 255 }
-{
-    u64::from(byte.count_ones())
-}
-
-/// How many bits of bytes are 1.
-fn ones_in(bytes: &[u8; 24]) -> u64
-    ensures { result ≡ ones_in bytes.now }
-{
-    let mut found = 0;
-    for byte in bytes {
-        found += ones(*byte);
-    }
-    found
 }
 
 /// What a block says of a channel's samples.

@@ -1,6 +1,0 @@
-use Rattle.aes3_account.proofs.AccountFronts.{account-stands}
-use Rattle.aes3_account.proofs.Covering.{begun-covers, accounted-soon}
-use Rattle.aes3_account.proofs.laws.account_is_in_time.Goals as goal
-
-pub returns : goal.returns
-returns c = record { time = λ d. (begun-covers d, accounted-soon d); stands = account-stands }

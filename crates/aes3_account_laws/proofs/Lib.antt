@@ -1,0 +1,14 @@
+mod AccountFronts
+mod WatchedGaps
+mod FewEvents
+mod Covering
+mod Rowed
+mod LostGaps
+mod PieceGaps
+mod LostCells
+mod LockedLines
+mod SumEvents
+mod PeriodLists
+mod PeriodPlaces
+mod PeriodSums
+mod PeriodTotals

@@ -1,0 +1,4 @@
+pub mod GapLaws
+pub mod WatchLaws
+pub mod SumLaws
+pub mod PeriodLaws
