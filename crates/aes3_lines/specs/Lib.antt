@@ -1,12 +1,6 @@
 pub mod MarkLines
-pub mod Words
-pub mod Fields
-pub mod Professional
-pub mod Consumer
 pub mod Ones
 pub mod StatusLines
 pub mod Gathering
-pub mod Settings
-pub mod Choices
 pub mod Events
 pub mod SumLines

@@ -10,10 +10,11 @@ ghost use Rattle.aes3_lines.specs.Events.{seconds, time_field, word_field};
 ghost use Rattle.aes3_lines.specs.MarkLines.{level_digit};
 ghost use Rattle.aes3_lines.specs.StatusLines.{channel_digit};
 
-use crate::line::{DIGITS, LINE_LEN, Line};
+use crate::ending::{digit_of, end_line};
 use crate::status::channel_digit as channel_number;
 use aes3_cell::{Fault, Level, Sink};
 use aes3_frame::Channel;
+use aes3_settings::{DIGITS, LINE_LEN, Line, Notation, Style};
 
 /// What a channel's validity bits are in a block: 0 says that a sample can be taken as it is
 /// (AES3-1, IEC 60958-1).
@@ -78,23 +79,6 @@ impl Default for Event {
     fn default() -> Self {
         Event::Lost { at: 0 }
     }
-}
-
-/// As what the line of an event is written.
-#[derive(Clone, Copy, PartialEq, Eq)]
-pub enum Notation {
-    /// As words.
-    Words,
-    /// As a JSON object.
-    Json,
-}
-
-/// How the lines of events are written.
-#[derive(Clone, Copy, PartialEq, Eq)]
-pub struct Style {
-    pub notation: Notation,
-    /// How many frames a second has, one at least, where times are written.
-    pub rate: Option<u32>,
 }
 
 /// How many bytes the name of a field has at most, and the word of an event.
@@ -312,7 +296,7 @@ fn put_level(line: &mut Line, notation: Notation, before: Level)
     ensures len { length line.new ≤ length line.old + FIELD_LEN }
 {
     put_name(line, notation, "before");
-    line.level(before);
+    line.bytes(digit_of(before));
 }
 
 /// Appends a status.
@@ -392,5 +376,5 @@ pub fn line_of_event<T: Sink>(style: &Style, event: &Event, sink: &mut T) -> Res
     put_place(&mut line, style, place_of(event));
     put_fields(&mut line, style.notation, event);
     put_closing(&mut line, style.notation);
-    line.end(sink)
+    end_line(&mut line, sink)
 }

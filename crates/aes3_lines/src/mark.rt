@@ -6,8 +6,9 @@ ghost use Rattle.aes3_cell.specs.Writes.{Wrote};
 ghost use Rattle.aes3_lines.specs.MarkLines.{level_digit, mark_beginning, mark_ending, mark_letter};
 ghost use Rattle.aes3_lines.specs.MarkLines.{mark_line};
 
-use crate::line::Line;
+use crate::ending::{digit_of, end_line};
 use aes3_cell::{Fault, Level, Sink};
+use aes3_settings::Line;
 use aes3_slot::Mark;
 use itoa::Buffer;
 
@@ -90,7 +91,7 @@ pub(crate) fn text_of_mark(at: u64, mark: Mark, before: Level) -> Line
     line.text(" at ");
     line.number(at);
     line.text(" before ");
-    line.level(before);
+    line.bytes(digit_of(before));
     line
 }
 
@@ -103,7 +104,7 @@ pub fn line_of_mark<T: Sink>(at: u64, mark: Mark, before: Level, sink: &mut T) -
     ensures { Wrote T.taken T.failed sink.old sink.new (mark_line at mark before) result }
 {
     let mut line = text_of_mark(at, mark, before);
-    line.end(sink)
+    end_line(&mut line, sink)
 }
 
 /// What a preamble's line begins with.

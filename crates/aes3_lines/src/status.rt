@@ -1,19 +1,16 @@
 //! The line of a channel status.
 
-ghost use Rattle.std.specs.Prelude.{◌≡◌, ◌<◌, ◌≤◌, ◌+◌, ◌++◌, ◌^◌, length};
+ghost use Rattle.std.specs.Prelude.{◌≡◌, ◌<◌, ◌≤◌, ◌+◌, ◌^◌, length};
 ghost use Rattle.aes3_cell.specs.Writes.{Wrote};
 ghost use Rattle.aes3_lines.specs.StatusLines.{channel_digit, detail_text, head_text, status_line};
-ghost use Rattle.aes3_lines.specs.StatusLines.{status_line_with, status_text};
+ghost use Rattle.aes3_lines.specs.StatusLines.{status_line_with};
 
-use crate::consumer::put_consumer;
-use crate::detail::Detail;
-use crate::line::{LINE_LEN, Line};
+use crate::ending::end_line;
 use crate::ones::ones_in;
-use crate::professional::put_professional;
-use crate::tail::{TAIL_LEN, Tail};
+use crate::tail::Tail;
 use aes3_cell::{Fault, Sink};
 use aes3_frame::{Block, Channel};
-use aes3_status::{Status, check_state};
+use aes3_settings::{Detail, Line, put_status};
 
 /// How many bytes the beginning of a line has at most.
 const HEAD_LEN: usize = 40;
@@ -40,18 +37,6 @@ fn head_of(block: u64, channel: Channel) -> Line
     line.text(" channel=");
     line.text(channel_digit(channel));
     line
-}
-
-/// Appends a channel status.
-fn put_status(line: &mut Line, status: &[u8; 24])
-    requires { length line.old ≤ HEAD_LEN }
-    ensures text { line.new ≡ line.old ++ status_text status.now }
-    ensures len { length line.new + TAIL_LEN < LINE_LEN }
-{
-    match Status::read(status) {
-        Status::Professional(fields) => put_professional(line, &fields, check_state(status)),
-        Status::Consumer(fields) => put_consumer(line, &fields),
-    }
 }
 
 /// What stands behind the status of a channel of a block that begins at cell `at` (AES3-1,
@@ -97,7 +82,7 @@ pub fn line_of_status_with<T: Sink>(
     let mut line = head_of(block, channel);
     put_status(&mut line, status);
     line.bytes(text.as_bytes());
-    line.end(sink)
+    end_line(&mut line, sink)
 }
 
 /// Writes the line of a channel status, that of `channel` in block number `block`, as one buffer.

@@ -1,6 +1,6 @@
 //! A short line, made from its end.
 
-use crate::line::digit_of;
+use crate::ending::digit_of;
 use aes3_cell::{Fault, Level, Sink, write_all};
 use itoa::write_digits;
 use std::marker::Model;

@@ -1,0 +1,5 @@
+pub mod Tables
+pub mod SettingTexts
+pub mod SettingLists
+pub mod SettingLines
+pub mod ChoiceTexts

@@ -1,0 +1,222 @@
+//! What the fields of channel status can be set to, as text.
+
+ghost use Rattle.std.specs.Prelude.{◌≡◌, ◌<◌, ◌++◌, [], ◌∷◌, codes, map, IfOk};
+ghost use Rattle.std.specs.List.{flat_map, list_any};
+ghost use Rattle.aes3_settings.specs.Choices.{below, choices, code_choice, code_choices, code_count};
+ghost use Rattle.aes3_settings.specs.Choices.{field_choices, has_name, has_word};
+ghost use Rattle.aes3_settings.specs.Choices.{is_known, is_named, is_printed, is_told, name_of};
+ghost use Rattle.aes3_settings.specs.Choices.{named_choices, names_of, use_choices};
+ghost use Rattle.aes3_settings.specs.Settings.{code_text};
+
+use crate::line::Line;
+use crate::settings::{CONSUMER, PROFESSIONAL, name_of, put_code};
+use aes3_status::Field;
+use std::alloc::AllocError;
+
+/// How many codes a byte has.
+const BYTE_CODES: u32 = 256;
+
+/// Whether a text `NAME=WORD` has the field's name.
+fn is_named(setting: &str, field: Field) -> bool
+    ensures { result ≡ is_named setting.now field }
+{
+    let name = match setting.split_once('=') {
+        Some((name, _)) => name,
+        None => setting,
+    };
+    name == name_of(field)
+}
+
+/// Whether one of the fields has the name of a text `NAME=WORD`.
+fn has_name(fields: &[Field], setting: &str) -> bool
+    ensures { result ≡ has_name fields.now setting.now }
+{
+    for field in fields {
+        if is_named(setting, *field) {
+            return true;
+        }
+    }
+    false
+}
+
+/// Whether a field for either use has the name of a text `NAME=WORD`.
+fn is_known(setting: &str) -> bool
+    ensures { result ≡ is_known setting.now }
+{
+    has_name(PROFESSIONAL, setting) || has_name(CONSUMER, setting)
+}
+
+/// Whether a code has a word: one without is printed as `code` and its number.
+fn has_word(field: Field, under: u8, code: u8) -> bool
+    ensures { result ≡ has_word field under code }
+{
+    let mut line = Line::new();
+    put_code(&mut line, field, under, code);
+    let mut number = Line::new();
+    number.field(name_of(field));
+    number.text("code");
+    number.number(u64::from(code));
+    line.as_bytes() != number.as_bytes()
+}
+
+/// Whether a code of the field is printed as this line, where the number `under` tells what its
+/// codes mean.
+fn is_printed(line: &Line, field: Field, under: u8) -> bool
+    ensures { result ≡ is_printed line.now field under }
+{
+    let mut other = Line::new();
+    for code in 0..field.codes() {
+        other.clear();
+        put_code(&mut other, field, under, code as u8);
+        if other.as_bytes() == line.as_bytes() {
+            return true;
+        }
+    }
+    false
+}
+
+/// Whether a code is printed as one is under a lower number.
+fn is_told(field: Field, under: u8, code: u8) -> bool
+    ensures { result ≡ is_told field under code }
+{
+    let mut line = Line::new();
+    put_code(&mut line, field, under, code);
+    for lower in 0..under {
+        if is_printed(&line, field, lower) {
+            return true;
+        }
+    }
+    false
+}
+
+/// Appends what a code is printed as.
+fn add_text(text: &mut String, field: Field, under: u8, code: u8) -> Result<(), AllocError>
+    ensures { IfOk result (λ _. text.new.bytes.items ≡ text.old.bytes.items
+        ++ code_text field under code) }
+{
+    let mut line = Line::new();
+    put_code(&mut line, field, under, code);
+    match str::from_utf8(line.as_bytes()) {
+        Ok(word) => text.push_str(word),
+        Err(_) => unreachable!(),
+    }
+}
+
+/// Appends what is told of a code: nothing where it has no word or is told already; of the codes of
+/// a byte the first and the last.
+fn add_code(text: &mut String, field: Field, under: u8, code: u8) -> Result<(), AllocError>
+    ensures { IfOk result (λ _. text.new.bytes.items ≡ text.old.bytes.items
+        ++ code_choice field under code) }
+{
+    if !has_word(field, under, code) || is_told(field, under, code) {
+        return Ok(());
+    }
+    if field.codes() < BYTE_CODES || code == 0 {
+        add_text(text, field, under, code)
+    } else if code == u8::MAX {
+        text.push_str(" ..")?;
+        add_text(text, field, under, code)
+    } else {
+        Ok(())
+    }
+}
+
+/// Appends what the codes of a field are printed as, where the number `under` tells what they mean.
+fn add_codes(text: &mut String, field: Field, under: u8) -> Result<(), AllocError>
+    ensures { IfOk result (λ _. text.new.bytes.items ≡ text.old.bytes.items
+        ++ code_choices field under) }
+{
+    for code in 0..field.codes() {
+        add_code(text, field, under, code as u8)?;
+    }
+    Ok(())
+}
+
+/// Appends what a field can be set to.
+fn add_field(text: &mut String, field: Field) -> Result<(), AllocError>
+    ensures { IfOk result (λ _. text.new.bytes.items ≡ text.old.bytes.items ++ field_choices field) }
+{
+    for under in 0..8 {
+        add_codes(text, field, under)?;
+    }
+    Ok(())
+}
+
+/// Appends what those of the fields with the name of a text `NAME=WORD` can be set to.
+fn add_named(text: &mut String, fields: &[Field], setting: &str) -> Result<(), AllocError>
+    ensures { IfOk result (λ _. text.new.bytes.items
+        ≡ text.old.bytes.items ++ flat_map (named_choices setting.now) fields.now) }
+{
+    for field in fields {
+        if is_named(setting, *field) {
+            add_field(text, *field)?;
+        }
+    }
+    Ok(())
+}
+
+/// Appends the names of the fields.
+fn add_names(text: &mut String, fields: &[Field]) -> Result<(), AllocError>
+    ensures { IfOk result (λ _. text.new.bytes.items ≡ text.old.bytes.items ++ names_of fields.now) }
+{
+    for field in fields {
+        text.push_str(" ")?;
+        text.push_str(name_of(*field))?;
+    }
+    Ok(())
+}
+
+/// Appends a line of what those of the fields with the name of a text `NAME=WORD` can be set to.
+fn add_named_line(
+    text: &mut String,
+    head: &str,
+    fields: &[Field],
+    setting: &str,
+) -> Result<(), AllocError>
+    ensures { IfOk result (λ _. text.new.bytes.items
+        ≡ text.old.bytes.items ++ (head.now ++ flat_map (named_choices setting.now) fields.now
+        ++ 10 ∷ [])) }
+{
+    text.push_str(head)?;
+    add_named(text, fields, setting)?;
+    text.push_str("\n")
+}
+
+/// Appends a line of the names of the fields.
+fn add_names_line(text: &mut String, head: &str, fields: &[Field]) -> Result<(), AllocError>
+    ensures { IfOk result (λ _. text.new.bytes.items
+        ≡ text.old.bytes.items ++ (head.now ++ names_of fields.now ++ 10 ∷ [])) }
+{
+    text.push_str(head)?;
+    add_names(text, fields)?;
+    text.push_str("\n")
+}
+
+/// Appends the line of the fields for one use: what those with the name of a text `NAME=WORD` can
+/// be set to, or, where no field for either use has it, the names of all.
+#[tactic(auto, unfolding(crate::specs::Choices::use_choices))]
+fn add_use(text: &mut String, head: &str, fields: &[Field], setting: &str) -> Result<(), AllocError>
+    ensures { IfOk result (λ _. text.new.bytes.items
+        ≡ text.old.bytes.items ++ use_choices head.now fields.now setting.now) }
+{
+    if !is_known(setting) {
+        return add_names_line(text, head, fields);
+    }
+    if !has_name(fields, setting) {
+        return Ok(());
+    }
+    add_named_line(text, head, fields, setting)
+}
+
+/// Appends what can be set in place of a text `NAME=WORD` that sets nothing, a line for each use:
+/// where a field has the name what it can be set to, else the names of the fields. Codes without a
+/// word are left out.
+///
+/// # Errors
+/// Memory was refused.
+pub fn add_choices(text: &mut String, setting: &str) -> Result<(), AllocError>
+    ensures { IfOk result (λ _. text.new.bytes.items ≡ text.old.bytes.items ++ choices setting.now) }
+{
+    add_use(text, "  professional:", PROFESSIONAL, setting)?;
+    add_use(text, "  consumer:", CONSUMER, setting)
+}

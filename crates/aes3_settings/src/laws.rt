@@ -1,0 +1,15 @@
+//! Laws of the lines of channel status and of the fields that they show.
+
+ghost use Rattle.aes3_settings.specs.Settings.{LineShowsFields, OtherWordsStay};
+
+/// The line of a channel status is made of what is printed of each field that can be set, in order,
+/// and of the others.
+pub fn line_shows_fields()
+    ensures { LineShowsFields }
+{}
+
+/// A field that is set by name leaves what is printed of every other field, but where it tells what
+/// the other's codes mean.
+pub fn other_words_stay()
+    ensures { OtherWordsStay }
+{}

@@ -1,0 +1,40 @@
+//! Channel status as text (AES3-2, IEC 60958-3): what is printed of each code of a field, the setting
+//! that such a text finds, and what could stand in its place. Beside them how lines are written, as a
+//! command line asks for it.
+#![tactic(auto)]
+
+/// What the fields of channel status can be set to, as text.
+mod choices;
+/// The fields of a status for consumer use.
+mod consumer;
+/// What stands behind a line of channel status.
+mod detail;
+/// A field of a status: its name and its text.
+mod fields;
+/// Laws of what is printed of channel status.
+pub mod laws;
+/// A line in the making, from its beginning.
+mod line;
+/// Which reports get a line.
+mod lines;
+/// The settings of several texts.
+mod listed;
+/// The fields of a status for professional use.
+mod professional;
+/// Fields by their names, and codes by the words that `show` prints.
+mod settings;
+/// A whole channel status.
+mod status;
+/// How the lines of events are written.
+mod style;
+/// The words that the codes of a field are printed as.
+mod words;
+
+pub use choices::add_choices;
+pub use detail::Detail;
+pub use line::{DIGITS, LINE_LEN, Line};
+pub use lines::Lines;
+pub use listed::{SettingsFault, settings_of_texts};
+pub use settings::{consumer_setting, professional_setting};
+pub use status::{STATUS_LEN, put_status};
+pub use style::{Notation, Style};
