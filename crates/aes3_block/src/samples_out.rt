@@ -28,9 +28,16 @@ fn bytes_of_samples(words: &[u32; SLOTS]) -> [u8; BLOCK_BYTES]
     bytes
 }
 
-/// Writes the samples of a block, channel 1 and then channel 2 of each frame: 384 words of 32 bits,
-/// lowest byte first, each with the 24 audio bits of its subframe in the highest ones (AES3-1, IEC
-/// 60958-1); handed on as one buffer.
+/// The samples of a block, channel 1 and then channel 2 of each frame: 384 words of 32 bits, lowest
+/// byte first, each with the 24 audio bits of its subframe in the highest ones (AES3-1, IEC
+/// 60958-1).
+pub fn samples_of_block(block: &Block) -> [u8; BLOCK_BYTES]
+    ensures { result ≡ block_samples block.now }
+{
+    bytes_of_samples(block.words())
+}
+
+/// Writes the samples of a block, as `samples_of_block` says; handed on as one buffer.
 ///
 /// # Errors
 /// The sink's fault; then it has taken a front of the bytes.
@@ -38,5 +45,5 @@ pub fn put_block_samples<T: Sink>(block: &Block, sink: &mut T) -> Result<(), Fau
     requires room { T.failed sink.old + 1 < 2 ^ 64 }
     ensures { Wrote T.taken T.failed sink.old sink.new (block_samples block.now) result }
 {
-    write_all(sink, &bytes_of_samples(block.words()))
+    write_all(sink, &samples_of_block(block))
 }

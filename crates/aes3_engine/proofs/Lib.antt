@@ -7,3 +7,6 @@ pub mod SamplesBack
 pub mod BitsAt
 pub mod ValidSamples
 pub mod BitsBack
+pub mod FillSteps
+pub mod FillTimes
+pub mod FillRuns

@@ -4,3 +4,5 @@ pub mod Sampling
 pub mod SampleLaws
 pub mod Carrying
 pub mod ValidSamples
+pub mod Filling
+pub mod FillSteps

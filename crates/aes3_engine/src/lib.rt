@@ -5,6 +5,8 @@
 mod carrying;
 /// From a block file to cells.
 mod encoding;
+/// From cells to samples that keep time.
+mod filling;
 /// The laws that samples and bits come back.
 pub mod laws;
 /// From cells to cells and block files: `normalise`, `decode` and `cut`.
@@ -18,6 +20,7 @@ mod sampling;
 /// From cells to samples, with zero in place of each that is not valid.
 mod valid_samples;
 
+pub use aes3_frame::Fill;
 pub use aes3_runs::{
     BlockWriter, Input, Locked, ReportWriter, Reporter, Taker, Tally, cell, convert, drive,
     run_blocks, run_reports, word,
@@ -25,6 +28,7 @@ pub use aes3_runs::{
 pub use aes3_status::{CarriedBits, Change};
 pub use carrying::to_bits;
 pub use encoding::encode;
+pub use filling::to_filled_pcm;
 pub use reading::{cut, decode, normalise};
 pub use rewriting::rewrite;
 pub use samples::to_pcm;

@@ -8,6 +8,8 @@ mod block;
 mod carried;
 /// The cells of a block, made four subframes at a time.
 mod cells;
+/// What stands in place of frames that no block gives.
+mod fill;
 /// A frame: its two subframes.
 mod frame;
 /// The cells of subframes as they are gathered from a line, and the block that they make.
@@ -27,6 +29,7 @@ mod wrong_cells;
 
 pub use block::{BLOCK_BYTES, BLOCK_CELLS, Block, SLOTS, zero_words};
 pub use cells::{fill_block_cells, mark_of};
+pub use fill::Fill;
 pub use frame::Frame;
 pub use gathered::GatheredCells;
 pub use slots::wrong_parities;

@@ -61,3 +61,4 @@ pub mod ChangedPlaces
 pub mod FrameBlocks
 pub mod Frames
 pub mod Losses
+pub mod ReportPlaces

@@ -1,0 +1,92 @@
+-- The run that writes samples that keep time.
+use Rattle.std.proofs.Common.{◌≡◌, ℕ, List, [], Bool, Result, Ok, Err, IfOk, Option, None, ◌∙◌, subst}
+use Rattle.aes3_level.specs.declared.level.Level.{Level}
+use Rattle.aes3_cell.specs.declared.form.Form.{Form}
+use Rattle.aes3_cell.specs.declared.refusal.RunError.{RunError}
+use Rattle.aes3_cell.specs.declared.counts.Counts.{Counts}
+use Rattle.aes3_cell.specs.Ends.{Grew, Told}
+use Rattle.aes3_cell.proofs.Growing.{grew-is}
+use Rattle.aes3_frame.specs.declared.fill.Fill.{Fill}
+use Rattle.aes3_frame.specs.Samples.{samples}
+use Rattle.aes3_lock.specs.Reports.{reports, decided, blocks}
+use Rattle.aes3_lock.specs.Tallies.{Tallies}
+use Rattle.aes3_input.specs.Running.{Movement}
+use Rattle.aes3_input.specs.Taking.{before_end, with_end}
+use Rattle.aes3_input.specs.Inputs.{cells_of}
+use Rattle.aes3_input.specs.Driving.{Drive, CellRun}
+use Rattle.aes3_input.proofs.CellRuns.{drove-ok, drove-err}
+use Rattle.aes3_input.proofs.InputRuns.{run-wrote}
+use Rattle.aes3_runs.specs.Reporting.{reporting}
+use Rattle.aes3_runs.specs.ReportRuns.{counts_of}
+use Rattle.aes3_runs.proofs.Reports.{before-reports, with-reports}
+use Rattle.aes3_runs.proofs.ReportRuns.{counted}
+use Rattle.aes3_engine.specs.Filling.{placed, filled, InRow, KeepsTime}
+use Rattle.aes3_engine.specs.declared.filling.Progress.{Progress}
+use Rattle.aes3_engine.specs.FillSteps.{fill_writing, progress_of}
+use Rattle.aes3_engine.proofs.FillSteps.{before-filled, with-filled}
+use Rattle.aes3_engine.proofs.FillTimes.{row-samples, filled-in-time}
+
+abbrev pub FillRun : ℕ → Form → Fill → Bool → Movement → Movement → Result Counts RunError → Type 0
+FillRun max form fill = CellRun max form (record {
+  whole = λ c. filled fill (placed (reports c));
+  begun = λ c. filled fill (placed (decided c));
+  counts = counts_of form;
+})
+
+-- what cells write through their reports
+before-cells : (fill : Fill) (c : List Level)
+    → before_end (reporting (fill_writing fill)) c ≡ filled fill (placed (decided c))
+before-cells fill c = before-reports (fill_writing fill) c ∙ before-filled fill (decided c)
+
+with-cells : (fill : Fill) (c : List Level)
+    → with_end (reporting (fill_writing fill)) c ≡ filled fill (placed (reports c))
+with-cells fill c = with-reports (fill_writing fill) c ∙ with-filled fill (reports c)
+
+pub fill-ok : {max : ℕ} {form : Form} (fill : Fill) {g : List Level
+    → Type 0} {blocks faults unfinished : ℕ} {ended : Bool} {source sink : Movement} {bytes cells : ℕ}
+    → Drive max form (reporting (fill_writing fill)) g
+    (λ c. Tallies blocks faults unfinished (reports c)) ended source sink (Ok (bytes, cells))
+    → FillRun max form fill ended source sink
+    (Ok (record { bytes = bytes; cells = cells; blocks = blocks; faults = faults; unfinished = unfinished; marks = 0 }))
+fill-ok {form} fill {blocks = k} {faults = u} {unfinished = v} {bytes = n} {cells = m} r =
+    drove-ok (λ c. filled fill (placed (reports c))) (λ c. filled fill (placed (decided c))) (counts_of form)
+    (record { bytes = n; cells = m; blocks = k; faults = u; unfinished = v; marks = 0 })
+    (with-cells fill) (before-cells fill) (λ b p q t. counted form b n m k u v p q t) r
+
+pub fill-err : {max : ℕ} {form : Form} (fill : Fill) {g z : List Level
+    → Type 0} {ended : Bool} {source sink : Movement} {x : RunError}
+    → Drive max form (reporting (fill_writing fill)) g z ended source sink (Err x)
+    → FillRun max form fill ended source sink (Err x)
+fill-err {form} fill r = drove-err (λ c. filled fill (placed (reports c))) (λ c. filled fill (placed (decided c)))
+    (counts_of form) (with-cells fill) (before-cells fill) r
+
+pub fill-same : {max : ℕ} (form : Form) {f h : Fill} {ended : Bool} {source sink : Movement}
+    {r : Result Counts RunError} → f ≡ h → FillRun max form f ended source sink r → FillRun max form h ended source sink r
+fill-same {max} form {ended = ended} {source = source} {sink = sink} {r = r} e run =
+    subst (λ (v : Fill). FillRun max form v ended source sink r) e run
+
+-- a reporter of no report
+pub nothing-reached : (fill : Fill) {k : Option Progress} → k ≡ None → k ≡ progress_of fill (placed (decided []))
+unfolding decided
+nothing-reached fill e = e
+
+-- its clauses
+pub run-row : {max : ℕ} (input : Form) (fill : Fill) {ended : Bool} {source sink : Movement} (r : Result Counts RunError)
+    → FillRun max input fill ended source sink r
+    → IfOk r (λ (n : Counts). (b : List ℕ) (p : ℕ) → Told source.old source.new b
+    → InRow p (placed (reports (cells_of input b))) → Grew sink.old sink.new (samples (blocks (cells_of input b))))
+run-row input fill (Ok n) run =
+    λ b p t h. grew-is (row-samples fill p (cells_of input b) h) (run-wrote (Ok n) run b t)
+run-row input fill (Err e) run = tt
+
+pub run-in-time : {max : ℕ} (input : Form) (fill : Fill) {ended : Bool} {source sink : Movement}
+    (r : Result Counts RunError) → FillRun max input fill ended source sink r
+    → IfOk r (λ (n : Counts). (b : List ℕ) → Told source.old source.new b
+    → (o : List ℕ) × Grew sink.old sink.new o × KeepsTime o (placed (reports (cells_of input b))))
+run-in-time input fill (Ok n) run =
+    λ b t. (
+      filled fill (placed (reports (cells_of input b))),
+      run-wrote (Ok n) run b t,
+      filled-in-time fill (cells_of input b),
+    )
+run-in-time input fill (Err e) run = tt

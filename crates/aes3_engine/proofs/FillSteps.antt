@@ -1,0 +1,155 @@
+-- Samples that keep time, made block by block.
+use Rattle.std.proofs.Common.{◌≡◌, ℕ, ◌+◌, ◌-◌, ◌/◌, ◌%◌, ◌<◌, List, [], ◌∷◌, ◌++◌, Bool, Option, Some, drop}
+use Rattle.std.proofs.Common.{replicate, refl, sym, ap, ap₂, ◌∙◌, arith, append-nil, append_assoc}
+use Rattle.std.specs.List.{flat_map}
+use Rattle.std.proofs.lemmas.Grind.{flat_map-append}
+use Rattle.std.proofs.lemmas.List.{replicate-append-replicate}
+use Rattle.aes3_frame.specs.declared.fill.Fill.{Fill}
+use Rattle.aes3_frame.specs.declared.fill.Fill.TheVariants.{Zero, Hold}
+use Rattle.aes3_frame.specs.Samples.{block_samples}
+use Rattle.aes3_lock.specs.declared.report.Report.{Report}
+use Rattle.aes3_lock.specs.declared.report.Report.TheVariants.{Whole, Marked, Fault, Unfinished}
+use Rattle.aes3_input.specs.Taking.{before_end, with_end}
+use Rattle.aes3_input.proofs.Items.{before-is}
+use Rattle.aes3_engine.specs.declared.filling.Progress.{Progress}
+use Rattle.aes3_engine.specs.Filling.{Placed, placed, between, filled_behind, filled, frame_cells, frame_bytes}
+use Rattle.aes3_engine.specs.Filling.{block_frames, frames_between, filling, repeated}
+use Rattle.aes3_engine.specs.FillSteps.{last_of, behind_blocks, fill_writing, reached, progress_of, first_of}
+use Rattle.aes3_engine.specs.FillSteps.{progress_behind, bytes_behind}
+
+-- more reports have more blocks
+pub placed-append : (r q : List Report) → placed (r ++ q) ≡ placed r ++ placed q
+placed-append [] q = refl
+placed-append (Whole at s b ∷ r) q =
+    ap (λ (v : List Placed). record { place = at; block = b } ∷ v) (placed-append r q)
+placed-append (Marked at s wrong ∷ r) q = placed-append r q
+placed-append (Fault at cell why ∷ r) q = placed-append r q
+placed-append (Unfinished at cells ∷ r) q = placed-append r q
+
+-- what more blocks write
+behind-append : (fill : Fill) (p : ℕ) (x : Placed) (xs ys : List Placed)
+    → filled_behind fill p x (xs ++ ys) ≡ filled_behind fill p x xs ++ filled_behind fill p (last_of x xs) ys
+behind-append fill p x [] ys = refl
+behind-append fill p x (z ∷ xs) ys =
+    let b = between fill p x z in
+    let s = block_samples z.block in
+    let f = filled_behind fill p z xs in
+    let g = filled_behind fill p (last_of z xs) ys in
+    ap (λ v. b ++ s ++ v) (behind-append fill p z xs ys) ∙ sym (append_assoc (b ++ s) f g)
+
+pub filled-append : (fill : Fill) (xs ys : List Placed)
+    → filled fill (xs ++ ys) ≡ filled fill xs ++ behind_blocks fill xs ys
+filled-append fill [] ys = refl
+filled-append fill (x ∷ xs) ys =
+    let s = block_samples x.block in
+    ap (λ v. s ++ v) (behind-append fill x.place x xs ys)
+    ∙ sym (append_assoc s (filled_behind fill x.place x xs) (filled_behind fill x.place (last_of x xs) ys))
+
+-- what reports write
+pub before-filled : (fill : Fill) (r : List Report) → before_end (fill_writing fill) r ≡ filled fill (placed r)
+unfolding fill_writing
+before-filled fill r =
+    before-is (fill_writing fill) (λ q. filled fill (placed q)) refl
+    (λ q x. ap (filled fill) (placed-append q (x ∷ [])) ∙ filled-append fill (placed q) (placed (x ∷ []))) r
+
+pub with-filled : (fill : Fill) (r : List Report) → with_end (fill_writing fill) r ≡ filled fill (placed r)
+unfolding with_end fill_writing
+with-filled fill r = append-nil (before_end (fill_writing fill) r) ∙ before-filled fill r
+
+-- how far samples come with more blocks
+last-append : (x : Placed) (xs ys : List Placed) → last_of x (xs ++ ys) ≡ last_of (last_of x xs) ys
+last-append x [] ys = refl
+last-append x (z ∷ xs) ys = last-append z xs ys
+
+reached-behind : (fill : Fill) (p : ℕ) (x : Placed) (ys : List Placed)
+    → progress_behind fill (Some (reached fill p x)) ys ≡ Some (reached fill p (last_of x ys))
+reached-behind fill p x [] = refl
+reached-behind fill p x (y ∷ ys) = reached-behind fill p y ys
+
+pub progress-append : (fill : Fill) (xs ys : List Placed)
+    → progress_behind fill (progress_of fill xs) ys ≡ progress_of fill (xs ++ ys)
+progress-append fill [] [] = refl
+progress-append fill [] (y ∷ ys) = reached-behind fill y.place y ys
+progress-append fill (x ∷ xs) ys =
+    reached-behind fill x.place (last_of x xs) ys
+    ∙ ap (λ v. Some (reached fill x.place v)) (sym (last-append x xs ys))
+
+-- and what these write by that
+reached-bytes : (fill : Fill) (p : ℕ) (x : Placed) (ys : List Placed)
+    → bytes_behind fill (Some (reached fill p x)) ys ≡ filled_behind fill p x ys
+reached-bytes fill p x [] = refl
+reached-bytes fill p x (y ∷ ys) =
+    ap (λ v. between fill p x y ++ block_samples y.block ++ v) (reached-bytes fill p y ys)
+
+pub bytes-behind : (fill : Fill) (xs ys : List Placed)
+    → bytes_behind fill (progress_of fill xs) ys ≡ behind_blocks fill xs ys
+bytes-behind fill [] [] = refl
+bytes-behind fill [] (y ∷ ys) = ap (λ v. block_samples y.block ++ v) (reached-bytes fill y.place y ys)
+bytes-behind fill (x ∷ xs) ys = reached-bytes fill x.place (last_of x xs) ys
+
+-- one more report
+pub progress-next : (fill fill' : Fill) (k k' : Option Progress) (r : List Report) (x : Report) → fill' ≡ fill
+    → k' ≡ progress_behind fill k (placed (x ∷ [])) → k ≡ progress_of fill (placed r)
+    → k' ≡ progress_of fill' (placed (r ++ x ∷ []))
+progress-next fill fill' k k' r x e p q =
+    p ∙ ap (λ (v : Option Progress). progress_behind fill v (placed (x ∷ []))) q
+    ∙ progress-append fill (placed r) (placed (x ∷ []))
+    ∙ ap (progress_of fill) (sym (placed-append r (x ∷ [])))
+    ∙ ap (λ (f : Fill). progress_of f (placed (r ++ x ∷ []))) (sym e)
+
+pub adds-is : (fill : Fill) (k : Option Progress) (r : List Report) (x : Report) → k ≡ progress_of fill (placed r)
+    → bytes_behind fill k (placed (x ∷ [])) ≡ (fill_writing fill).adds r x
+unfolding fill_writing
+adds-is fill k r x e =
+    ap (λ (v : Option Progress). bytes_behind fill v (placed (x ∷ []))) e
+    ∙ bytes-behind fill (placed r) (placed (x ∷ []))
+
+-- how many frames there are, and what a frame is
+pub nearest : (p q n : ℕ) → n ≡ q - p → n / 128 + n % 128 / 64 ≡ frames_between p q
+unfolding frames_between frame_cells
+nearest p q n e = omega arith
+
+pub zero-frame : (b : List (List Bool)) → ◌≡◌ {A = List ℕ} (0 ∷ 0 ∷ 0 ∷ 0 ∷ 0 ∷ 0 ∷ 0 ∷ 0 ∷ []) (filling Zero b)
+unfolding filling frame_bytes
+zero-frame b = refl
+
+pub last-frame : (b : List (List Bool)) → drop 1528 (block_samples b) ≡ filling Hold b
+unfolding filling frame_bytes block_frames
+last-frame b = refl
+
+-- how far samples have come with one more block
+pub progress-is : (fill : Fill) (k : Option Progress) (at : ℕ) (b : List (List Bool))
+    {first frames : ℕ} {frame : List ℕ} → first ≡ first_of k at → frames ≡ frames_between first at
+    → frame ≡ filling fill b
+    → ◌≡◌ {A = Option Progress} (Some (record { first = first; frames = frames + 192; frame = frame }))
+    (Some (reached fill (first_of k at) (record { place = at; block = b })))
+unfolding block_frames
+progress-is fill k at b {first} {frames} {frame} p q r =
+    ap (λ (f : ℕ). Some (record { first = f; frames = frames + 192; frame = frame })) p
+    ∙ ap₂ (λ (n : ℕ) (v : List ℕ). Some (record { first = first_of k at; frames = n; frame = v }))
+    (ap (λ n. n + 192) (q ∙ ap (λ f. frames_between f at) p)) r
+
+-- a frame so many times
+repeated-add : (n m : ℕ) (frame : List ℕ) → repeated (n + m) frame ≡ repeated n frame ++ repeated m frame
+unfolding repeated
+repeated-add n m frame =
+    ap (flat_map (λ f. f)) (sym (replicate-append-replicate n m frame))
+    ∙ flat_map-append (λ f. f) (replicate n frame) (replicate m frame)
+
+repeated-once : (frame : List ℕ) → repeated 1 frame ≡ frame
+unfolding repeated
+repeated-once frame = append-nil frame
+
+pub repeated-none : (frame : List ℕ) → repeated 0 frame ≡ []
+unfolding repeated
+repeated-none frame = refl
+
+pub repeated-more : (n : ℕ) (frame : List ℕ) → repeated (n + 1) frame ≡ repeated n frame ++ frame
+repeated-more n frame = repeated-add n 1 frame ∙ ap (λ v. repeated n frame ++ v) (repeated-once frame)
+
+pub repeated-rest : (k n : ℕ) (frame : List ℕ) → k < n
+    → (repeated k frame ++ frame) ++ repeated (n - (k + 1)) frame ≡ repeated n frame
+repeated-rest k n frame l =
+    let e : k + 1 + (n - (k + 1)) ≡ n = omega arith in
+    ap (λ v. v ++ repeated (n - (k + 1)) frame) (sym (repeated-more k frame))
+    ∙ sym (repeated-add (k + 1) (n - (k + 1)) frame) ∙ ap (λ m. repeated m frame) e

@@ -1,0 +1,84 @@
+-- Samples that keep time: the blocks' samples, with frames between them that fill the time that no block gives.
+use Rattle.std.specs.Prelude.{ℕ, List, [], ◌∷◌, ◌++◌, Bool, ◌+◌, ◌-◌, ◌*◌, ◌/◌, ◌≡◌, ◌<◌, ◌≤◌, length, drop, replicate}
+use Rattle.std.specs.List.{flat_map}
+use Rattle.aes3_frame.specs.declared.fill.Fill.{Fill}
+use Rattle.aes3_frame.specs.declared.fill.Fill.TheVariants.{Zero, Hold}
+use Rattle.aes3_frame.specs.Blocks.{block_len}
+use Rattle.aes3_frame.specs.Samples.{block_samples}
+use Rattle.aes3_lock.specs.declared.report.Report.{Report}
+use Rattle.aes3_lock.specs.declared.report.Report.TheVariants.{Whole, Marked, Fault, Unfinished}
+
+-- a whole block, and the place of its first cell
+pub record Placed : Type 0 where
+  pub place : ℕ
+  pub block : List (List Bool)
+
+-- the whole blocks of reports
+abbrev pub placed : List Report → List Placed
+placed [] = []
+placed (Whole at s b ∷ r) = record { place = at; block = b } ∷ placed r
+placed (Marked at s wrong ∷ r) = placed r
+placed (Fault at cell why ∷ r) = placed r
+placed (Unfinished at cells ∷ r) = placed r
+
+-- how many cells and how many bytes of samples a frame has, and how many frames a block
+unfoldable pub frame_cells : ℕ
+frame_cells = 128
+
+unfoldable pub frame_bytes : ℕ
+frame_bytes = 8
+
+unfoldable pub block_frames : ℕ
+block_frames = 192
+
+-- how many frames stand before a block at place q, where the first block is at place p: the whole number nearest to the
+-- cells between them over those of a frame; a half goes up
+unfoldable pub frames_between : ℕ → ℕ → ℕ
+frames_between p q = (q - p + frame_cells / 2) / frame_cells
+
+-- a frame of filling behind a block: zeros, or the block's last frame, which is the last sample of each channel
+unfoldable pub filling : Fill → List (List Bool) → List ℕ
+filling Zero b = replicate frame_bytes 0
+filling Hold b = drop (frame_bytes * (block_frames - 1)) (block_samples b)
+
+-- a frame n times
+unfoldable pub repeated : ℕ → List ℕ → List ℕ
+repeated n frame = flat_map (λ f. f) (replicate n frame)
+
+-- the filling between block x and the next block y, where the first block is at place p: the frames that are still
+-- missing before y
+abbrev pub between : Fill → ℕ → Placed → Placed → List ℕ
+between fill p x y =
+    repeated (frames_between p y.place - (frames_between p x.place + block_frames)) (filling fill x.block)
+
+-- the samples of the blocks behind block x, with the filling before each, and those of all blocks
+abbrev pub filled_behind : Fill → ℕ → Placed → List Placed → List ℕ
+filled_behind fill p x [] = []
+filled_behind fill p x (y ∷ more) = between fill p x y ++ block_samples y.block ++ filled_behind fill p y more
+
+abbrev pub filled : Fill → List Placed → List ℕ
+filled fill [] = []
+filled fill (x ∷ more) = block_samples x.block ++ filled_behind fill x.place x more
+
+-- blocks stand in a row, the first at place p and each directly behind the one before it
+abbrev pub InRow : ℕ → List Placed → Type 0
+InRow p [] = Unit {0}
+InRow p (x ∷ more) = (x.place ≡ p) × InRow (p + block_len) more
+
+-- among these samples are those of block y, of which b are the blocks behind it, in time: in front of them stand frames
+-- that take as long as the cells from place `first` to it, to half a frame; behind the last block stands nothing
+pub record StandsInTime (samples : List ℕ) (first : ℕ) (y : Placed) (b : List Placed) : Type 0 where
+  pub frames : ℕ
+  pub before : List ℕ
+  pub after : List ℕ
+  pub is : samples ≡ before ++ block_samples y.block ++ after
+  pub count : length before ≡ frame_bytes * frames
+  pub not_late : frame_cells * frames ≤ y.place - first + frame_cells / 2
+  pub not_early : y.place - first < frame_cells * frames + frame_cells / 2
+  pub last : b ≡ [] → after ≡ []
+
+-- so each block does, from the first one on
+abbrev pub KeepsTime : List ℕ → List Placed → Type 0
+KeepsTime samples [] = samples ≡ []
+KeepsTime samples (x ∷ more) =
+    (a : List Placed) (y : Placed) (b : List Placed) → x ∷ more ≡ a ++ y ∷ b → StandsInTime samples x.place y b

@@ -1,0 +1,266 @@
+//! Cells to samples that keep time: frames between whole blocks fill the time that no block gives.
+
+ghost use Rattle.std.specs.Prelude.{◌≡◌, ℕ, ◌+◌, ◌-◌, ◌*◌, ◌/◌, ◌<◌, ◌≤◌, ◌^◌, ◌++◌, List, [], ◌∷◌, Bool};
+ghost use Rattle.std.specs.Prelude.{IfOk, Some, None, drop};
+ghost use Rattle.aes3_cell.specs.Ends.{Grew, Told};
+ghost use Rattle.aes3_cell.specs.Writes.{Wrote};
+ghost use Rattle.aes3_frame.specs.Samples.{block_samples, samples};
+ghost use Rattle.aes3_lock.specs.Following.{report_in};
+ghost use Rattle.aes3_lock.specs.Reports.{blocks, decided, reports};
+ghost use Rattle.aes3_lock.specs.Tallies.{IsTallyOf};
+ghost use Rattle.aes3_input.specs.Inputs.{cells_of};
+ghost use Rattle.aes3_input.specs.Driving.{CellRun};
+ghost use Rattle.aes3_input.specs.Running.{movement_of};
+ghost use Rattle.aes3_runs.specs.ReportRuns.{counts_of};
+ghost use Rattle.aes3_engine.specs.Filling.{InRow, KeepsTime, block_frames, filled, filling};
+ghost use Rattle.aes3_engine.specs.Filling.{frame_bytes, frames_between, placed, repeated};
+ghost use Rattle.aes3_engine.specs.FillSteps.{bytes_behind, fill_writing, filling_before, first_of};
+ghost use Rattle.aes3_engine.specs.FillSteps.{progress_behind, progress_of, reached};
+
+use aes3_block::{BLOCK_BYTES, Block, samples_of_block};
+use aes3_cell::{Counts, Fault, Form, RunError, Sink, Source, write_all};
+use aes3_frame::Fill;
+use aes3_lock::{Ending, Lock, Tally};
+use aes3_runs::{Locked, Reporter, drive};
+
+/// How many cells a frame has, how many bytes its samples, and how many frames a block has (AES3-3).
+const FRAME_CELLS: u64 = 128;
+
+const FRAME_BYTES: usize = 8;
+
+const BLOCK_FRAMES: u64 = 192;
+
+/// How far samples have come.
+#[derive(Clone, Copy)]
+struct Progress {
+    /// The place of the first block.
+    first: u64,
+    /// How many frames there are from it on.
+    frames: u64,
+    /// The samples of a frame that fills.
+    frame: [u8; FRAME_BYTES],
+}
+
+/// How many frames stand before a block at a place, where the first block is at place `first`.
+fn frames_between(first: u64, at: u64) -> u64
+    ensures count { result ≡ frames_between first at }
+    ensures few { result < 2 ^ 58 }
+{
+    let cells = at.saturating_sub(first);
+    cells / FRAME_CELLS + cells % FRAME_CELLS / (FRAME_CELLS / 2)
+}
+
+/// The samples of a frame that fills the time behind the samples of a block.
+fn filling(fill: Fill, samples: &[u8; BLOCK_BYTES]) -> [u8; FRAME_BYTES]
+    ensures { (b : List (List Bool)) → samples.now ≡ block_samples b → result ≡ filling fill b }
+{
+    let mut frame = [0; FRAME_BYTES];
+    match fill {
+        Fill::Zero => {}
+        Fill::Hold => frame.copy_from_slice(&samples[BLOCK_BYTES - FRAME_BYTES..]),
+    }
+    frame
+}
+
+/// Writes a frame so many times.
+///
+/// # Errors
+/// The sink's fault; then it has taken a front of the bytes.
+fn put_frames<T: Sink>(sink: &mut T, frame: &[u8; FRAME_BYTES], count: u64) -> Result<(), Fault>
+    requires room { T.failed sink.old + 1 < 2 ^ 64 }
+    ensures { Wrote T.taken T.failed sink.old sink.new (repeated count frame.now) result }
+{
+    'frames: for _written in 0..count {
+        match write_all(sink, frame) {
+            Ok(()) => {}
+            Err(fault) => return Err(fault),
+        }
+    }
+    Ok(())
+}
+
+/// Writes the samples of blocks, and what fills the time between them.
+#[derive(Drop)]
+struct FilledBlocks {
+    fill: Fill,
+    progress: Option<Progress>,
+    tally: Tally,
+}
+
+impl FilledBlocks {
+    /// A reporter that has taken no report.
+    fn new(fill: Fill) -> Self
+        ensures fill { result.fill ≡ fill }
+        ensures progress { result.progress ≡ None }
+        ensures tally { IsTallyOf result.tally [] }
+    {
+        FilledBlocks {
+            fill,
+            progress: None,
+            tally: Tally::new(),
+        }
+    }
+
+    /// Writes what fills the time before a block at a place.
+    ///
+    /// # Errors
+    /// The sink's fault; then it has taken a front of the bytes.
+    fn put_filling<T: Sink>(&self, sink: &mut T, at: u64) -> Result<(), Fault>
+        requires room { T.failed sink.old + 1 < 2 ^ 64 }
+        ensures { Wrote T.taken T.failed sink.old sink.new
+            (filling_before self.now.progress at) result }
+    {
+        match self.progress {
+            None => Ok(()),
+            Some(progress) => {
+                let frames = frames_between(progress.first, at).saturating_sub(progress.frames);
+                put_frames(sink, &progress.frame, frames)
+            }
+        }
+    }
+
+    /// Takes note that the samples of a block at a place are written.
+    fn note(&mut self, at: u64, samples: &[u8; BLOCK_BYTES])
+        ensures fill { self.new.fill ≡ self.old.fill }
+        ensures tally { self.new.tally ≡ self.old.tally }
+        ensures progress { (b : List (List Bool)) → samples.now ≡ block_samples b
+            → self.new.progress ≡ Some (reached self.old.fill (first_of self.old.progress at)
+            (record { place = at; block = b })) }
+    {
+        let first = match self.progress {
+            None => at,
+            Some(progress) => progress.first,
+        };
+        self.progress = Some(Progress {
+            first,
+            frames: frames_between(first, at) + BLOCK_FRAMES,
+            frame: filling(self.fill, samples),
+        });
+    }
+
+    /// Writes the samples of a block at a place behind what fills the time before it.
+    ///
+    /// # Errors
+    /// The sink's fault; then it has taken a front of the bytes.
+    fn put_block<T: Sink>(&mut self, sink: &mut T, at: u64, block: &Block) -> Result<(), Fault>
+        requires room { T.failed sink.old + 1 < 2 ^ 64 }
+        ensures fill { IfOk result (λ _. self.new.fill ≡ self.old.fill) }
+        ensures tally { IfOk result (λ _. self.new.tally ≡ self.old.tally) }
+        ensures progress { IfOk result (λ _. self.new.progress
+            ≡ Some (reached self.old.fill (first_of self.old.progress at)
+            (record { place = at; block = block.now }))) }
+        ensures wrote { Wrote T.taken T.failed sink.old sink.new
+            (filling_before self.old.progress at ++ block_samples block.now) result }
+    {
+        match self.put_filling(sink, at) {
+            Ok(()) => {
+                let samples = samples_of_block(block);
+                self.note(at, &samples);
+                write_all(sink, &samples)
+            }
+            Err(fault) => Err(fault),
+        }
+    }
+
+    /// Writes what a report gives.
+    ///
+    /// # Errors
+    /// The sink's fault; then it has taken a front of the bytes.
+    fn put<T: Sink>(&mut self, sink: &mut T, lock: &Lock, ending: Ending) -> Result<(), Fault>
+        requires room { T.failed sink.old + 1 < 2 ^ 64 }
+        ensures fill { IfOk result (λ _. self.new.fill ≡ self.old.fill) }
+        ensures tally { IfOk result (λ _. self.new.tally ≡ self.old.tally) }
+        ensures progress { IfOk result (λ _. self.new.progress ≡ progress_behind self.old.fill
+            self.old.progress (placed (report_in lock.now ending ∷ []))) }
+        ensures wrote { Wrote T.taken T.failed sink.old sink.new
+            (bytes_behind self.old.fill self.old.progress (placed (report_in lock.now ending ∷ []))) result }
+    {
+        match ending {
+            Ending::Whole { at, .. } => self.put_block(sink, at, &lock.gathered().block()),
+            Ending::Marked { .. } => Ok(()),
+            Ending::Fault { .. } => Ok(()),
+            Ending::Unfinished { .. } => Ok(()),
+        }
+    }
+}
+
+impl Reporter for FilledBlocks {
+    ghost follows = { λ k r. IsTallyOf k.tally r × (k.progress ≡ progress_of k.fill (placed r)) };
+
+    ghost writes = { λ k. fill_writing k.fill };
+
+    ghost finished = { λ k. IsTallyOf k.tally };
+
+    fn tell<T: Sink>(&mut self, sink: &mut T, lock: &Lock, ending: Ending) -> Result<(), Fault> {
+        match self.put(sink, lock, ending) {
+            Ok(()) => {
+                self.tally.count(lock, ending);
+                Ok(())
+            }
+            Err(fault) => Err(fault),
+        }
+    }
+
+    fn finish<T: Sink>(&mut self, _sink: &mut T) -> Result<(), Fault> {
+        Ok(())
+    }
+}
+
+/// Reads cells from any cell on, and writes samples that keep time: those of the blocks that stand
+/// whole and closed in them, as `to_pcm` does, and before each but the first as many frames as bring
+/// the frames from the first block on to the whole number nearest to its cells from there over 128,
+/// a half going up. Each is zero, or the last frame of the block before. Behind the last block
+/// nothing is written, as no block tells that time goes on.
+///
+/// # Errors
+/// Those of `to_pcm`.
+pub fn to_filled_pcm<S: Source, T: Sink>(
+    source: &mut S,
+    sink: &mut T,
+    max_bytes: u64,
+    input: Form,
+    fill: Fill,
+) -> Result<Counts, RunError>
+    requires source_room { S.failed source.old + 1 < 2 ^ 64 }
+    requires sink_room { T.failed sink.old + 1 < 2 ^ 64 }
+    requires limit { max_bytes ≤ 2 ^ 40 }
+
+    // Where it answers Ok, exactly the blocks that stand whole and closed in the input are written,
+    // as their samples, with what fills the time between them.
+    ensures samples { IfOk result (λ _. (b : List ℕ)
+        → Told (S.given source.old) (S.given source.new) b
+        → Grew (T.taken sink.old) (T.taken sink.new)
+        (filled fill (placed (reports (cells_of input b))))) }
+    // Where these blocks stand in a row, these are the samples that `to_pcm` writes.
+    ensures row { IfOk result (λ _. (b : List ℕ) (p : ℕ)
+        → Told (S.given source.old) (S.given source.new) b
+        → InRow p (placed (reports (cells_of input b)))
+        → Grew (T.taken sink.old) (T.taken sink.new) (samples (blocks (cells_of input b)))) }
+    // Each block's samples stand in time, to half a frame; behind those of the last is nothing.
+    ensures time { IfOk result (λ _. (b : List ℕ)
+        → Told (S.given source.old) (S.given source.new) b
+        → (o : List ℕ) × Grew (T.taken sink.old) (T.taken sink.new) o
+        × KeepsTime o (placed (reports (cells_of input b)))) }
+    // It is a run over cells: Ok is owed, a refusal has its cause, and what was decided before it
+    // is written.
+    ensures run { CellRun max_bytes input (record {
+      whole = λ c. filled fill (placed (reports c));
+      begun = λ c. filled fill (placed (decided c));
+      counts = counts_of input;
+    }) (S.has_ended source.new) (movement_of S.given S.failed source.old source.new)
+        (movement_of T.taken T.failed sink.old sink.new) result }
+    ensures passed_on { IfOk result (λ _. T.passed sink.new ≡ T.taken sink.new) }
+{
+    let mut taker = Locked::new(FilledBlocks::new(fill));
+    match drive(source, sink, max_bytes, input, &mut taker) {
+        Ok((bytes, cells)) => Ok(Counts {
+            bytes,
+            cells,
+            blocks: taker.reporter.tally.blocks,
+            faults: taker.reporter.tally.faults,
+            unfinished: taker.reporter.tally.unfinished,
+            marks: 0,
+        }),
+        Err(error) => Err(error),
+    }
+}
