@@ -13,8 +13,8 @@ use Rattle.clap.specs.declared.error.kind.ErrorKind.{ErrorKind}
 use Rattle.clap.specs.declared.parser.matches.ArgMatches.{ArgMatches}
 use Rattle.clap.specs.declared.parser.matches.ArgMatches.TheViews.{out-ArgMatches}
 use Rattle.aes3_commands.specs.CommandLine.{command_line}
-use Rattle.aes3_lines.specs.Settings.{IsSettingsFault}
-use Rattle.aes3_lines.specs.declared.listed.SettingsFault.{SettingsFault}
+use Rattle.aes3_settings.specs.Settings.{IsSettingsFault}
+use Rattle.aes3_settings.specs.declared.listed.SettingsFault.{SettingsFault}
 use Rattle.aes3_arguments.specs.Jobs.{AreBadOptionsOf, IsLineFaultOf, IsSettingsFaultOf, Options, StandsIn, Tells}
 use Rattle.aes3_arguments.specs.Jobs.{TellsSettings, faults_in, refused_text}
 use Rattle.aes3_arguments.specs.declared.job.LineFault.{LineFault}

@@ -23,17 +23,17 @@ use Rattle.aes3_status.specs.declared.carried.CarriedBits.{CarriedBits}
 use Rattle.aes3_status.specs.declared.carried.CarriedBits.TheVariants.{Validity, User, Status}
 use Rattle.aes3_status.specs.declared.change.Change.{Change}
 use Rattle.aes3_status.specs.declared.setting.Setting.{Setting}
-use Rattle.aes3_lines.specs.Choices.{choices}
-use Rattle.aes3_lines.specs.Settings.{AreSettingsOf, IsSettingsFault}
-use Rattle.aes3_lines.specs.declared.listed.SettingsFault.{SettingsFault}
-use Rattle.aes3_lines.specs.declared.listed.SettingsFault.TheVariants.{Unknown, TooMany}
-use Rattle.aes3_lines.specs.declared.detail.Detail.{Detail}
-use Rattle.aes3_lines.specs.declared.detail.Detail.TheVariants.{Plain, Place, Carried}
-use Rattle.aes3_lines.specs.declared.lines.Lines.{Lines}
-use Rattle.aes3_lines.specs.declared.lines.Lines.TheVariants as lines
-use Rattle.aes3_lines.specs.declared.event.Notation.{Notation}
-use Rattle.aes3_lines.specs.declared.event.Notation.TheVariants.{Words, Json}
-use Rattle.aes3_lines.specs.declared.event.Style.{Style}
+use Rattle.aes3_settings.specs.Choices.{choices}
+use Rattle.aes3_settings.specs.Settings.{AreSettingsOf, IsSettingsFault}
+use Rattle.aes3_settings.specs.declared.listed.SettingsFault.{SettingsFault}
+use Rattle.aes3_settings.specs.declared.listed.SettingsFault.TheVariants.{Unknown, TooMany}
+use Rattle.aes3_settings.specs.declared.detail.Detail.{Detail}
+use Rattle.aes3_settings.specs.declared.detail.Detail.TheVariants.{Plain, Place, Carried}
+use Rattle.aes3_settings.specs.declared.lines.Lines.{Lines}
+use Rattle.aes3_settings.specs.declared.lines.Lines.TheVariants as lines
+use Rattle.aes3_settings.specs.declared.style.Notation.{Notation}
+use Rattle.aes3_settings.specs.declared.style.Notation.TheVariants.{Words, Json}
+use Rattle.aes3_settings.specs.declared.style.Style.{Style}
 use Rattle.aes3_commands.specs.CommandLine.{command_line, most_cells, most_frames, most_seconds}
 use Rattle.aes3_arguments.specs.Explained.{AsksToExplain, IsExplanation}
 use Rattle.aes3_arguments.specs.StatusTexts.{status_in}

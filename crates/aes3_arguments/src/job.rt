@@ -19,13 +19,13 @@ use crate::watch::watch;
 use aes3_cell::{Form, RunError};
 use aes3_commands::help;
 use aes3_job::Job;
-use aes3_lines::{Lines, SettingsFault, settings_of_texts};
+use aes3_settings::{Lines, SettingsFault, settings_of_texts};
 use aes3_status::{Change, SETTINGS, Setting};
 use clap::ArgMatches;
 use std::alloc::{AllocError, Global};
 
 /// Why a command line gives no job.
-#[derive(Debug, Drop)]
+#[derive(Drop)]
 pub enum LineFault {
     /// The words are no command line of the program; the text says why.
     Usage { text: String },

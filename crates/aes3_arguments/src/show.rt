@@ -6,7 +6,7 @@ ghost use Rattle.aes3_arguments.specs.Jobs.{AreTaken, AsksFor, detail_by, input_
 use crate::value::flag;
 use aes3_cell::Form;
 use aes3_job::Job;
-use aes3_lines::Detail;
+use aes3_settings::Detail;
 use clap::ArgMatches;
 
 /// The job of `show` with its options.

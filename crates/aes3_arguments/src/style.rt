@@ -3,7 +3,7 @@
 ghost use Rattle.std.specs.Prelude.{◌≡◌, codes};
 ghost use Rattle.aes3_arguments.specs.Jobs.{MayBeFlag, MayBeRate, notation_by, options_of, rate_by, style_by};
 
-use aes3_lines::{Notation, Style};
+use aes3_settings::{Notation, Style};
 use clap::ArgMatches;
 
 /// As words or as JSON objects.

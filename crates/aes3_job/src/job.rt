@@ -2,7 +2,7 @@
 
 use aes3_cell::Form;
 use aes3_frame::Channel;
-use aes3_lines::{Detail, Lines, Style};
+use aes3_settings::{Detail, Lines, Style};
 use aes3_status::{CarriedBits, Change};
 
 /// What the program is asked to do.

@@ -3,8 +3,8 @@ use Rattle.std.proofs.Common.{◌≡◌, Bool, List, [], refl}
 use Rattle.aes3_lock.specs.declared.report.Ending.{Ending}
 use Rattle.aes3_lock.specs.declared.report.Ending.TheVariants.{Whole, Marked, Fault, Unfinished}
 use Rattle.aes3_lock.specs.Reports.{ending_report}
-use Rattle.aes3_lines.specs.declared.lines.Lines.{Lines}
-use Rattle.aes3_lines.specs.declared.lines.Lines.TheVariants.{All, Faults}
+use Rattle.aes3_settings.specs.declared.lines.Lines.{Lines}
+use Rattle.aes3_settings.specs.declared.lines.Lines.TheVariants.{All, Faults}
 use Rattle.aes3_reports.specs.Lines.{told_line}
 
 -- the line of an ending has none of its block's bits

@@ -10,7 +10,7 @@ use Rattle.aes3_input.proofs.InputRuns.{run-write, run-sink_quiet}
 use Rattle.aes3_job.specs.declared.job.Job.{Job}
 use Rattle.aes3_job.specs.declared.job.Job.TheVariants.{WatchSums}
 use Rattle.aes3_cell.specs.declared.form.Form.{Form}
-use Rattle.aes3_lines.specs.declared.event.Style.{Style}
+use Rattle.aes3_settings.specs.declared.style.Style.{Style}
 use Rattle.aes3_account.specs.Sums.{begun_sums, sum_lines}
 use Rattle.aes3_account.specs.Watching.{watch_counts}
 use Rattle.aes3_input.specs.Driving.{counted_cells}

@@ -75,7 +75,7 @@ fn tell_fault<T: Sink, E: Sink, O: Observer>(
 }
 
 /// Why the words of a command line could not be read.
-#[derive(Clone, Copy, PartialEq, Eq, Debug)]
+#[derive(Clone, Copy)]
 pub enum Unread {
     /// They are not UTF-8.
     NotUtf8,

@@ -31,5 +31,5 @@ pub use check::{Check, check_byte, check_state, with_check};
 pub use consumer::Con;
 pub use field::{ConField, Field, ProField};
 pub use professional::Pro;
-pub use setting::{SETTINGS, Setting, set_field, set_fields};
+pub use setting::{SETTINGS, Setting, set_fields};
 pub use status::Status;

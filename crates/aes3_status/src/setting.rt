@@ -42,7 +42,7 @@ fn code_for(bytes: &[u8; 24], setting: &Setting) -> Option<u8>
 
 /// Writes the setting's code to its field, and leaves all other bits as they were. A status for the
 /// other use than the field's stays as it is, and so does one that the setting has no code for.
-pub fn set_field(bytes: &mut [u8; 24], setting: &Setting)
+fn set_field(bytes: &mut [u8; 24], setting: &Setting)
     ensures { bytes.new ≡ set_by setting.now bytes.old }
 {
     match code_for(bytes, setting) {

@@ -26,9 +26,10 @@ use Rattle.aes3_runs.specs.Reporting.{reporting}
 use Rattle.aes3_runs.specs.BlockRuns.{numbered}
 use Rattle.aes3_lock.specs.Tallies.{Tallies}
 use Rattle.aes3_runs.proofs.Reports.{before-reports, with-reports}
-use Rattle.aes3_lines.specs.declared.detail.Detail.{Detail}
-use Rattle.aes3_lines.specs.declared.detail.Detail.TheVariants.{Plain}
-use Rattle.aes3_lines.specs.StatusLines.{detail_text, head_text, status_line_with, status_text}
+use Rattle.aes3_settings.specs.declared.detail.Detail.{Detail}
+use Rattle.aes3_settings.specs.declared.detail.Detail.TheVariants.{Plain}
+use Rattle.aes3_settings.specs.StatusTexts.{status_text}
+use Rattle.aes3_lines.specs.StatusLines.{detail_text, head_text, status_line_with}
 use Rattle.aes3_text.specs.DetailLaws.{Behind}
 use Rattle.aes3_text.specs.Runs.{AreLast, Shows, block_changes, block_details, change_details, change_line}
 use Rattle.aes3_text.specs.Runs.{change_lines}

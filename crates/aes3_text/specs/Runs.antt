@@ -13,7 +13,7 @@ use Rattle.aes3_lock.specs.Reports.{wholes}
 use Rattle.aes3_lock.specs.Tallies.{Tallies}
 use Rattle.aes3_input.specs.Taking.{Writing}
 use Rattle.aes3_runs.specs.BlockRuns.{numbered}
-use Rattle.aes3_lines.specs.declared.detail.Detail.{Detail}
+use Rattle.aes3_settings.specs.declared.detail.Detail.{Detail}
 use Rattle.aes3_lines.specs.StatusLines.{detail_text, status_line, status_line_with}
 
 -- the line of a channel of a block, the lines of both, and of blocks numbered from 0

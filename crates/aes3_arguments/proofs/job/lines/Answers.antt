@@ -1,5 +1,5 @@
 use Rattle.std.proofs.Common.{◌∙◌, sym, ap, Bool, cond, codes}
-use Rattle.aes3_lines.specs.declared.lines.Lines.TheVariants.{All, Faults}
+use Rattle.aes3_settings.specs.declared.lines.Lines.TheVariants.{All, Faults}
 use Rattle.aes3_arguments.proofs.OptionReads.{flag_is}
 use Rattle.aes3_arguments.proofs.job.lines.Goals as goal
 

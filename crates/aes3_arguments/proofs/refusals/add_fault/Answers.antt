@@ -1,6 +1,6 @@
 use Rattle.std.proofs.Common.{◌∙◌, ◌++◌, Bor, List, ℕ, ap, map, sym}
 use Rattle.std.proofs.lemmas.Result.{IfOk-weaker}
-use Rattle.aes3_lines.specs.declared.listed.SettingsFault.{SettingsFault}
+use Rattle.aes3_settings.specs.declared.listed.SettingsFault.{SettingsFault}
 use Rattle.aes3_arguments.specs.Jobs.{fault_text, invalid_text}
 use Rattle.aes3_arguments.proofs.refusals.add_fault.Goals as goal
 

@@ -1,6 +1,6 @@
 use Rattle.std.proofs.Common.{◌∙◌, ◌++◌, ap, append_assoc}
 use Rattle.std.proofs.lemmas.Result.{IfOk-weaker}
-use Rattle.aes3_lines.specs.Choices.{choices}
+use Rattle.aes3_settings.specs.Choices.{choices}
 use Rattle.aes3_arguments.specs.Jobs.{invalid_text, option_text, value_text}
 use Rattle.aes3_arguments.proofs.refusals.add_invalid.Goals as goal
 

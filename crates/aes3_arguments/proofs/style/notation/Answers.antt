@@ -1,5 +1,5 @@
 use Rattle.std.proofs.Common.{◌∙◌, sym, ap, Bool, cond, codes}
-use Rattle.aes3_lines.specs.declared.event.Notation.TheVariants.{Json, Words}
+use Rattle.aes3_settings.specs.declared.style.Notation.TheVariants.{Json, Words}
 use Rattle.aes3_arguments.proofs.OptionReads.{flag_is}
 use Rattle.aes3_arguments.proofs.style.notation.Goals as goal
 

@@ -2,7 +2,7 @@ use Rattle.std.proofs.Common.{◌≡◌, Bool, [], sym, subst, ap, ap₂, ◌∙
 use Rattle.aes3_lock.specs.Reports.{decided, reports}
 use Rattle.aes3_input.proofs.CellRuns.{drove-ok, drove-err}
 use Rattle.aes3_runs.specs.ReportRuns.{counts_of}
-use Rattle.aes3_lines.specs.declared.detail.Detail.{Detail}
+use Rattle.aes3_settings.specs.declared.detail.Detail.{Detail}
 use Rattle.aes3_runs.proofs.ReportRuns.{counted}
 use Rattle.aes3_text.specs.declared.status_lines.StatusLines.{StatusLines}
 use Rattle.aes3_text.specs.Runs.{Shows, details_from}
