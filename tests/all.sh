@@ -1,11 +1,11 @@
 #!/bin/sh
 # tests/all.sh [PROGRAM]: all that is run with a built program, with bin/aes3's where none is given: the worked rows, the
 # machine's own streams, refused memory, the examples of help, README and tutorial, the manual page, the shells' completions, the pictures and the figures of
-# the books, captures with jitter, round trips with other programs, and the examples from C (also for 64-bit ARM), C++, Python and Rust, and of the page in a browser, and the Debian packages in a
+# the books, captures with jitter, errors put in on purpose, round trips with other programs, and the examples from C (also for 64-bit ARM), C++, Python and Rust, and of the page in a browser, and the Debian packages in a
 # root of their own.
 #
-# Each part prints what fails, `left out: WHAT (WHY)` where something it needs is not installed, and `N passed, M failed`. At the
-# end all that was left out is told once more; the last line is the sum, and the status 1 where something failed.
+# Each part prints what fails, `left out: WHAT (WHY)` where something it needs is not installed, and `N passed, M failed`; behind it stand
+# its seconds. At the end all that was left out is told once more; the last line is the sum, and the status 1 where something failed.
 
 root=$(dirname "$(dirname "$(realpath "$0")")")
 cd "$root" || exit 2
@@ -17,16 +17,18 @@ else
 fi
 folder=$(mktemp -d) || exit 2
 trap 'rm -rf "$folder"' EXIT
-trap 'exit 130' INT TERM
-passed=0 failed=0
+trap 'kill "$packages" 2>/dev/null; exit 130' INT TERM
+passed=0 failed=0 packages=
 : >"$folder/left"
 
 # Runs a part, and counts what it counted. One that ends without a count has failed.
 part() {
     echo "== $*"
+    begun=$(date +%s)
     "$@" >"$folder/said" 2>&1 </dev/null
     status=$?
     cat "$folder/said"
+    echo "($(($(date +%s) - begun)) s)"
     grep '^left out: ' "$folder/said" >>"$folder/left"
     counts=$(grep -E '^[0-9]+ passed, [0-9]+ failed$' "$folder/said" | tail -n 1)
     wrong=${counts#* passed, }
@@ -50,6 +52,18 @@ part_with() {
     fi
 }
 
+# The packages in a root of their own, which mostly waits for a mirror: begun first, and told last.
+if [ -e crates/aes3_c/out/libaes3_c.a ]; then
+    tests/packages.sh >"$folder/packages" 2>&1 </dev/null &
+    packages=$!
+fi
+end_of() {
+    wait "$packages"
+    status=$?
+    cat "$folder/packages"
+    return $status
+}
+
 part tests/rows.sh "$program"
 part tests/streams.sh "$program"
 part tests/help.sh "$program"
@@ -60,10 +74,12 @@ part_with python3 bin/make-manual --check "$program"
 part tests/manual.sh
 part_with python3 tests/completions.py "$program"
 part tests/captures.sh "$root/crates/aes3_cells/out/aes3_cells" "$program"
+part tests/spoil.sh "$root/crates/aes3_spoil_program/out/aes3_spoil_program" "$program"
 part_with python3 bin/figures --check
 part_with python3 examples/pictures/make --check "$program"
 part_with python3 examples/neighbours/run "$program"
 part examples/many/run "$program" 20
+part examples/spoil/run "$program"
 part_with python3 examples/watch/run "$program"
 part_with python3 web/test "$program"
 part_with python3 examples/own/run
@@ -74,7 +90,7 @@ if [ -e crates/aes3_c/out/libaes3_c.a ]; then
     part_with cargo examples/rust/test.sh "$program"
     part examples/c/arm.sh "$program"
     part_with cc tests/install.sh
-    part tests/packages.sh
+    part end_of tests/packages.sh
 else
     echo "left out: examples/c/test.sh, examples/c/arm.sh and those of cpp, python and rust, tests/install.sh, tests/packages.sh (no C library is built: bin/build aes3_c)" | tee -a "$folder/left"
 fi

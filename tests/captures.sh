@@ -197,6 +197,14 @@ for option in $(grep -o -e '--[a-z][a-z-]*' help | sort -u); do
         judge "$shell lacks $option" grep -q -e "-l $name\|--$name" "$root/completions/$shell"
     done
 done
+# The example of aes3's manual page, behind what sigrok writes.
+mkdir bin && ln -s "$program" bin/aes3-cells && ln -s "$aes3" bin/aes3
+sed -n '/^aes3.-cells < capture.bin/,/^\.EE/p' "$root/man/aes3.1" | tr -d '\134' | grep -v '^\.' >example
+head -c 4608 "$root/examples/speech.block" | "$aes3" encode >sent.txt
+"$root/examples/neighbours/samples.py" 3.90625 0.3 <sent.txt >capture.bin
+judge "the example of the manual page" env PATH="$work/bin:$PATH" sh -e example
+tail -c 3072 samples.s32 >taken
+judge "the samples that it takes" eval '"$aes3" to-pcm sent.txt | tail -c 3072 | cmp - taken'
 judge "its version" test "$("$program" --version)" = "aes3-cells $("$aes3" --version | cut -d' ' -f2)"
 
 judge "runs that are no line" "$python" "$here/hostile.py" "$program"

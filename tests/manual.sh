@@ -1,6 +1,6 @@
 #!/bin/sh
 # tests/manual.sh: the manual page has its sections, in their order, what it says of files is what bin/install brings, and man shows
-# it and that of aes3-cells without a warning. That its text is what the program prints, bin/make-manual --check tells.
+# it and those of aes3-cells and aes3-spoil without a warning. That its text is what the program prints, bin/make-manual --check tells.
 #
 # The last line is `N passed, M failed`, and the status 0 where none failed.
 
@@ -39,7 +39,7 @@ while IFS= read -r place; do
     judge "bin/install brings no $place" grep -q " $place\$" "$root/bin/install"
 done <"$work/places"
 if command -v man >/dev/null && command -v groff >/dev/null; then
-    for shown in "$page" "$root/man/aes3-cells.1"; do
+    for shown in "$page" "$root/man/aes3-cells.1" "$root/man/aes3-spoil.1"; do
         man --warnings -l "$shown" >/dev/null 2>"$work/warnings"
         judge "man warns: $(cat "$work/warnings")" test ! -s "$work/warnings"
     done

@@ -109,7 +109,7 @@ cp "$root/README.md" "$place/walk"
 cp "$root/docs/TUTORIAL.md" "$place/walk/docs"
 cp "$root/tests/readme.sh" "$place/walk/tests"
 cp -r "$place/usr/share/doc/aes3/examples" "$place/walk/examples"
-judge "the commands of README and tutorial" inside "CELLS=/usr/bin/aes3-cells sh tests/readme.sh /usr/bin/aes3"
+judge "the commands of README and tutorial" inside "CELLS=/usr/bin/aes3-cells SPOIL=/usr/bin/aes3-spoil sh tests/readme.sh /usr/bin/aes3"
 grep -aE '^left out: |passed' "$work/said" | sed 's/^left out: /left out, in a root of its own: /'
 
 brought=$place/usr/share/doc
@@ -140,6 +140,10 @@ judge "a program by CMake" tells made/shared
 judge "a program by CMake, static" tells made/static
 judge "the module for Python, compiled" inside "ls /usr/lib/python3/dist-packages/aes3/__pycache__/*.pyc"
 judge "a program in Python" tells "python3 src/check.py"
+judge "user bits beside a WAV in Python" inside 'sox -R -n -r 48000 -b 24 -c 2 tone.wav synth 0.4 sine 997
+    sox tone.wav -t s32 - | aes3 from-pcm | python3 src/user.py README.md | aes3 encode --packed-out >line.user
+    head -c 2400 README.md >sent && aes3 to-bits user 1 --packed-in line.user >got && cmp got sent
+    sox tone.wav -t s32 sent && aes3 to-pcm --packed-in line.user >got && cmp got sent'
 if [ -n "$has_proc" ]; then
     judge "a program in Rust" inside "cd rust && cargo build --offline -q --example check && cp target/debug/examples/check ../checkrs"
     judge "a program in Rust, run" tells ./checkrs

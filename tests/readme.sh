@@ -5,8 +5,8 @@
 # An example is a line that begins with '$ ' in a block that begins with ```sh; what is expected, standard error with
 # it, are the lines below it up to the next. A command may go on in lines that end in a backslash. Each FILE's examples
 # run in a folder of their own, one after the other, by sh: PROGRAM is there as bin/aes3 and on the PATH as aes3, aes3-cells
-# likewise where bin/build aes3_cells left it or CELLS names it, and the folder examples is a copy. A block that begins with ```sh needs TOOL.. is left out, with a word, where one of the
-# tools is not there.
+# and aes3-spoil likewise where bin/build left them or CELLS and SPOIL name them, and the folder examples is a copy. A block that
+# begins with ```sh needs TOOL.. is left out, with a word, where one of the tools is not there.
 #
 # They may leave files in out/ alone. The last line is `N passed, M failed`, and the status 0 where each example printed what it should.
 
@@ -14,6 +14,7 @@
 root=$(dirname "$(dirname "$(realpath "$0")")")
 program=$(realpath "$1") || exit 2
 cells=$(realpath -m "${CELLS:-$root/crates/aes3_cells/out/aes3_cells}")
+spoil=$(realpath -m "${SPOIL:-$root/crates/aes3_spoil_program/out/aes3_spoil_program}")
 shift
 [ $# -gt 0 ] || set -- "$root/README.md" "$root/docs/TUTORIAL.md"
 work=$(mktemp -d) || exit 2
@@ -50,6 +51,7 @@ for file in "$@"; do
     mkdir -p "$work/parts" "$work/here/bin"
     ln -s "$program" "$work/here/bin/aes3"
     [ ! -x "$cells" ] || ln -s "$cells" "$work/here/bin/aes3-cells"
+    [ ! -x "$spoil" ] || ln -s "$spoil" "$work/here/bin/aes3-spoil"
     cp -R "$root/examples" "$work/here/examples"
     parted "$file"
     for command in "$work"/parts/*.cmd; do
