@@ -1,6 +1,7 @@
 #!/bin/sh
 # test.sh [PROGRAM [LIBRARY]]: installs the module of python/ by pip in a scratch folder, and runs the examples over it and the shared
-# library: each call, and check.py on whole and damaged lines, whose lines have to be those of PROGRAM. Done with numpy and without.
+# library: each call; check.py on whole and damaged lines, whose lines have to be those of PROGRAM; and user.py, which sends the samples
+# of a WAV and a stream of user bits by one line, from which PROGRAM takes both again. Done with numpy and without.
 # PROGRAM is bin/aes3 where none is given, LIBRARY what `bin/build aes3_c` makes.
 # The last line is `N passed, M failed`; status 1 where one differs.
 here=$(dirname "$(realpath "$0")")
@@ -62,6 +63,28 @@ tells() { # PYTHON FILE OPTION..
     cmp got want
 }
 
+# Half a second of sound in 24 bits as a WAV, its samples as `aes3` takes them, and user bits that end within a block. They end with the
+# last block, so that none is filled up.
+python3 - <<'END'
+import struct, wave
+
+samples = [(i * i * 977 + i) % 2**24 for i in range(2 * 192 * 125)]
+with wave.open("sound.wav", "wb") as file:
+    file.setparams((2, 3, 48000, 0, "NONE", ""))
+    file.writeframes(b"".join(struct.pack("<I", it)[:3] for it in samples))
+with wave.open("sound.wav", "rb") as file:
+    octets = file.readframes(file.getnframes())
+open("sound.s32", "wb").write(b"".join(b"\0" + octets[i : i + 3] for i in range(0, len(octets), 3)))
+user = bytes(i * 7 % 251 for i in range(24 * 100 + 5))
+open("user", "wb").write(user)
+open("user.want", "wb").write(user.ljust(24 * 125, b"\0"))
+END
+carries() { # PYTHON
+    "$program" from-pcm --exact <sound.s32 | "$1" "$here/user.py" user | "$program" encode --packed-out >carried.packed &&
+        "$program" to-bits user 1 --packed-in <carried.packed | cmp - user.want &&
+        "$program" to-pcm --packed-in <carried.packed | cmp - sound.s32
+}
+
 sed -n '/^```python$/,/^```$/p' "$root/docs/C.md" | sed '/^```/d' >shown.py
 ln -s speech.packed line.packed
 shown() { # PYTHON
@@ -73,6 +96,7 @@ examples() { # PYTHON
     echo "run: $1, $(cat said)"
     judge "check.py by $1 on packed cells" tells "$1" speech.packed --packed-in
     judge "the example of docs/C.md by $1" shown "$1"
+    judge "user.py by $1" carries "$1"
     for name in line damaged turned marked; do judge "check.py by $1 on $name" tells "$1" $name.txt; done
 }
 

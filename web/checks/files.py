@@ -50,7 +50,9 @@ def compare_files(compare, browser, program, folder):
         shown = given(name, data)
         compare.same(f"{name}: {shown['advice'][:60]}", says in shown["advice"], True)
         compare.same(f"{name}: no rows, and nothing else that is wrong", (shown["isOther"], shown["trouble"]), (True, ""))
+        compare.same(f"{name}: no cells are counted", browser.ask("at('state').textContent"), f"{name}: {len(data):,} bytes")
         browser.ask("[...at('advice').querySelectorAll('button')].find(it => it.textContent.startsWith('Show')).click()")
+        compare.same(f"{name}: its cells, all the same", " cells, as " in browser.ask("at('state').textContent"), True)
         compare.same(f"{name}: shown all the same", browser.ask("at('found').hidden"), False)
         order = "at('advice').getBoundingClientRect().bottom <= at('rows').getBoundingClientRect().top"
         compare.same(f"{name}: the advice stands first", browser.ask(order), True)

@@ -74,7 +74,7 @@ class Page {
             return;
         }
         this.found = found;
-        at("state").textContent = this.stateText();
+        at("state").textContent = advice?.isOther ? `${this.file.name}: ${counted(this.file.size, "byte", "bytes")}` : this.stateText();
         this.advise(advice);
         at("trouble").textContent = advice?.isOther || advice?.form ? "" : cells.fault ?? cells.ending ?? "";
         at("found").hidden = advice?.isOther ?? false;
@@ -84,7 +84,7 @@ class Page {
         at("cell").max = Math.max(cells.total - 1, 0);
         at("block").max = Math.max(tally.blocks - 1, 0);
         at("no-pcm").hidden = tally.blocks === 0 || !isOtherThanPcm(this.codec, tally.first);
-        at("save-wav").disabled = at("save-blocks").disabled = tally.blocks === 0;
+        at("save-wav").disabled = at("save-blocks").disabled = at("sound").hidden = tally.blocks === 0;
         const fault = reports.firstFault();
         await this.showBlock(fault < 0 ? 0 : reports.wholeBefore(fault));
         this.showTimes();
@@ -114,6 +114,7 @@ class Page {
         }));
         advice?.isOther && button("Show it as cells all the same", () => {
             at("found").hidden = false;
+            at("state").textContent = this.stateText();
             drawStrip(at("strip"), this.found);
             this.levels(this.first + (this.count - this.shown()) / 2);
         });
