@@ -3,10 +3,11 @@
 ghost use Rattle.std.specs.Prelude.{◌≡◌, ◌+◌, ◌<◌, ◌≤◌, ◌^◌, [], length, map};
 ghost use Rattle.std.specs.Prelude.{take, IfNone, IfSome, IsTrue, OnSome, ◌↔◌};
 ghost use Rattle.std.specs.List.{flat_map};
-ghost use Rattle.aes3_cell.specs.CellText.{kind_of, separator};
+ghost use Rattle.aes3_cell.specs.CellText.{cells_of_text, kind_of, separator};
 ghost use Rattle.aes3_cell.specs.Text.{byte_of};
 ghost use Rattle.aes3_level.specs.Words.{word_cells};
 ghost use Rattle.aes3_input.specs.Forms.{TextRead};
+ghost use Rattle.aes3_input.specs.TextLines.{LineBegins};
 
 use aes3_cell::{CellText, LINE_LEN, word_of_text};
 
@@ -134,8 +135,10 @@ fn begins_with_cells(text: &[u8]) -> bool {
     }
 }
 
-/// Whether text begins with a line of 64 cells.
-fn is_line(text: &[u8]) -> bool {
+/// Whether text begins with 64 cells.
+fn is_line(text: &[u8]) -> bool
+    ensures { IsTrue result → length (cells_of_text (take 64 text.now)) ≡ 64 }
+{
     match text.first_chunk() {
         Some(bytes) => word_of_text(bytes).is_some(),
         None => false,
@@ -143,11 +146,12 @@ fn is_line(text: &[u8]) -> bool {
 }
 
 /// Whether a line of 64 cells begins at a place of a piece: a line feed stands before it, and a
-/// separator behind it. No promise rests on it: where chunks end there, the lines behind are read
-/// as lines. Chunks of 64 bytes and lines of 65 meet within 65 chunks.
+/// separator behind it. Where chunks end there, the lines behind are read as lines. Chunks of 64
+/// bytes and lines of 65 meet within 65 chunks.
 #[inline(always)]
 pub(crate) fn begins_line(piece: &[u8], at: usize) -> bool
     requires within { at ≤ length piece.now }
+    ensures { IsTrue result → LineBegins piece.now at }
 {
     at > 0
         && piece.len() - at > LINE_CELLS
@@ -156,18 +160,24 @@ pub(crate) fn begins_line(piece: &[u8], at: usize) -> bool
         && is_line(&piece[at..])
 }
 
-/// Whether text begins with the end of a line, and two lines of 64 cells behind it: no more than up
-/// to there is then read byte by byte. Where lines of 64 and others come in turn it is not so.
-pub(crate) fn ends_line(text: &[u8]) -> bool {
+/// Where two lines of 64 cells begin, one behind the other, behind the first line feed of a text and
+/// at most a line from its beginning: no more than up to there is then read byte by byte. Where
+/// lines of 64 and others come in turn there is no such place.
+pub(crate) fn two_lines_behind(text: &[u8]) -> Option<usize>
+    ensures first { IfSome result (λ at. LineBegins text.now at) }
+    ensures second { IfSome result (λ at. LineBegins text.now (at + 65)) }
+{
     for (i, byte) in text.iter().enumerate() {
         if *byte == b'\n' {
-            return text.len() > i + LINE_LEN
-                && begins_line(text, i + 1)
-                && begins_line(text, i + 1 + LINE_LEN);
+            let at = i + 1;
+            let both = text.len() >= at + LINE_LEN
+                && begins_line(text, at)
+                && begins_line(text, at + LINE_LEN);
+            return both.then_some(at);
         }
         if i == LINE_CELLS {
-            return false;
+            return None;
         }
     }
-    false
+    None
 }

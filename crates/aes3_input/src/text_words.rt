@@ -9,7 +9,7 @@ ghost use Rattle.aes3_cell.specs.TextReading.{text_answer};
 ghost use Rattle.aes3_level.specs.Words.{low_cells, word_cells};
 ghost use Rattle.aes3_input.specs.Forms.{TextRead};
 
-use crate::text_lines::{LINES, begins_line, ends_line, feed_lines, skip_separators};
+use crate::text_lines::{LINES, begins_line, feed_lines, skip_separators, two_lines_behind};
 use aes3_cell::{BadCell, CellText, SomeCells};
 
 /// No cells.
@@ -132,7 +132,7 @@ fn feed_words(text: &mut CellText, piece: &[u8], words: &mut [u64; LINES]) -> Ta
     ensures same { result.bytes ≡ 0 → text.new ≡ text.old }
 {
     let (bytes, count) = feed_lines(text, piece, words);
-    if bytes == 0 && !ends_line(piece) {
+    if bytes == 0 && two_lines_behind(piece).is_none() {
         return feed_chunks(text, piece, words);
     }
     Taken {
