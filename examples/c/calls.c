@@ -64,6 +64,7 @@ static void carried(void) {
     block[7] ^= 1;
     WANT(aes3_block_set_user(block, 1, sent) == 7 && aes3_block_set_validity(block, 1, sent) == 7);
     WANT(aes3_block_set_status(block, 1, sent) == 7 && aes3_block_user(block, 1, bits) == 7);
+    WANT(aes3_block_status(block, 1, bits) == 7);
     block[7] ^= 1;
     WANT(memcmp(block, words, sizeof block) == 0);
 }
@@ -85,15 +86,26 @@ static void written(void) {
 static void locks(void) {
     static aes3_lock lock, copy;
     static aes3_report report;
+    static uint32_t block[AES3_BLOCK_WORDS];
+    const uint8_t first = 0xE8; /* the preamble of a block */
+    memset(&lock, 9, sizeof lock);
+    memset(&report, 9, sizeof report);
     aes3_lock_init(&lock);
     WANT(aes3_lock_push(&lock, cells[0], 64, &report) == 64 && report.kind == AES3_NONE);
     WANT(aes3_lock_take_words(&lock, cells + 1, AES3_BLOCK_WORDS - 1) == AES3_BLOCK_WORDS - 1);
     WANT(aes3_lock_seen(&lock) == AES3_BLOCK_CELLS);
     aes3_lock_finish(&lock, &report);
-    WANT(report.kind == AES3_WHOLE && report.at == 0 && memcmp(report.words, words, sizeof words) == 0);
+    WANT(report.kind == AES3_WHOLE && report.at == 0 && report.before == 0);
+    WANT(memcmp(report.words, words, sizeof words) == 0);
     WANT(aes3_lock_take_words(&lock, cells, 1) == 0);
+    /* The next block decides it with its first cell, and the others of its first octet decide nothing. */
     WANT(aes3_lock_push(&lock, cells[0], 64, &report) == 1);
-    WANT(report.kind == AES3_WHOLE && report.before == 0 && memcmp(report.words, words, sizeof words) == 0);
+    WANT(report.kind == AES3_WHOLE && report.at == 0 && report.before == 0);
+    WANT(memcmp(report.words, words, sizeof words) == 0);
+    aes3_lock_block(&lock, block);
+    WANT(memcmp(block, words, sizeof words) == 0);
+    copy = lock;
+    WANT(aes3_lock_take_octets(&copy, &first, 1, 1, &report) == 7 && report.kind == AES3_NONE);
     WANT(aes3_lock_push(&lock, cells[0] >> 1, 63, &report) == 63 && report.kind == AES3_NONE);
     copy = lock;
     WANT(aes3_lock_push(&copy, cells[1], 10, &report) == 10 && report.kind == AES3_NONE);
@@ -203,6 +215,7 @@ int main(void) {
     words[5] ^= 0x80000000;
     memset(cells, 0x55, sizeof cells);
     WANT(aes3_encode_block(words, 0, cells) == 5 && cells[0] == 0x5555555555555555);
+    WANT(cells[AES3_BLOCK_WORDS - 1] == 0x5555555555555555);
     words[5] ^= 0x80000000;
     WANT(aes3_encode_block(words, 0, cells) == AES3_BLOCK_WORDS);
     written();

@@ -29,7 +29,5 @@ mod report;
 mod room;
 /// Channel status: its use and its check byte.
 mod status;
-#[cfg(test)]
-mod tests;
 /// The version of the library.
 mod version;
