@@ -1,7 +1,7 @@
 -- Options that are misused.
 use Rattle.std.proofs.Common.{◌≡◌, Bool, Option, Some, None, true, false, not, refl, sym, ap, cond, is_some, true≢false}
 use Rattle.aes3_arguments.specs.Jobs.{Options, has_no_cells_packed, has_no_rate, has_two_forms, has_two_periods}
-use Rattle.aes3_arguments.specs.Jobs.{has_unknown_bits, misuse_by}
+use Rattle.aes3_arguments.specs.Jobs.{fills_valid_samples, has_unknown_bits, has_unknown_filling, misuse_by}
 use Rattle.aes3_arguments.specs.declared.misuse.Misuse.{Misuse}
 
 -- what is told first of two
@@ -9,14 +9,14 @@ first_or : (b : Bool) (first : Misuse) (later : Option Misuse) → cond b (Some 
 first_or true first later none = absurd (true≢false (ap is_some none))
 first_or false first later none = none
 
-last_or : (b : Bool) (first : Misuse) → cond b (Some first) None ≡ None → b ≡ false
-last_or true first none = absurd (true≢false (ap is_some none))
-last_or false first none = refl
+none_or : (b : Bool) (first : Misuse) (later : Option Misuse) → cond b (Some first) later ≡ None → b ≡ false
+none_or true first later none = absurd (true≢false (ap is_some none))
+none_or false first later none = refl
 
 -- options that are not misused name no unknown bits
 pub no_unknown_bits : (options : Options) → misuse_by options ≡ None → has_unknown_bits options ≡ false
 no_unknown_bits options none =
-    last_or (has_unknown_bits options) _
+    none_or (has_unknown_bits options) _ _
     (first_or (has_no_rate options) _ _
     (first_or (has_two_periods options) _ _
     (first_or (has_no_cells_packed options) _ _

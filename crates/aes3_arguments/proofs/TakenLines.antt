@@ -234,7 +234,7 @@ rewrite_known = record {
 
 to_pcm_known : IsKnown (leaf to_pcm)
 to_pcm_known = record {
-  sound = (flag_sound _ _ (codes "true") refl refl refl refl, (flag_sound _ _ (codes "true") refl refl refl refl, (flag_sound _ _ (codes "true") refl refl refl refl, (flag_sound _ _ (codes "true") refl refl refl refl, (value_sound _ _ refl refl refl, (help_sound _ _ refl refl, tt))))));
+  sound = (flag_sound _ _ (codes "true") refl refl refl refl, (flag_sound _ _ (codes "true") refl refl refl refl, (flag_sound _ _ (codes "true") refl refl refl refl, (flag_sound _ _ (codes "true") refl refl refl refl, (value_sound _ _ refl refl refl, (value_sound _ _ refl refl refl, (help_sound _ _ refl refl, tt)))))));
   numbers = λ rows name fit passed. other_name (codes "to-pcm") refl name;
 }
 

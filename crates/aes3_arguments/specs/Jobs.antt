@@ -17,6 +17,8 @@ use Rattle.clap.specs.declared.error.kind.ErrorKind.TheVariants.{DisplayHelp, Di
 use Rattle.aes3_cell.specs.declared.form.Form.{Form}
 use Rattle.aes3_cell.specs.declared.form.Form.TheVariants as form
 use Rattle.aes3_cell.specs.declared.refusal.RunError.TheVariants.{BadStatusText, Memory}
+use Rattle.aes3_frame.specs.declared.fill.Fill.{Fill}
+use Rattle.aes3_frame.specs.declared.fill.Fill.TheVariants.{Zero, Hold}
 use Rattle.aes3_frame.specs.declared.status.Channel.{Channel}
 use Rattle.aes3_frame.specs.declared.status.Channel.TheVariants.{First, Second}
 use Rattle.aes3_status.specs.declared.carried.CarriedBits.{CarriedBits}
@@ -42,7 +44,7 @@ use Rattle.aes3_job.specs.declared.job.Job.TheVariants as job
 use Rattle.aes3_arguments.specs.declared.layout.Octets.{Octets}
 use Rattle.aes3_arguments.specs.declared.misuse.Misuse.{Misuse}
 use Rattle.aes3_arguments.specs.declared.misuse.Misuse.TheVariants.{TwoForms, NoCellsPacked, TwoPeriods, NoRate}
-use Rattle.aes3_arguments.specs.declared.misuse.Misuse.TheVariants.{UnknownBits}
+use Rattle.aes3_arguments.specs.declared.misuse.Misuse.TheVariants.{UnknownBits, UnknownFilling, FillsValidSamples}
 use Rattle.aes3_arguments.specs.declared.job.LineFault.{LineFault}
 use Rattle.aes3_arguments.specs.declared.job.LineFault.TheVariants as fault
 
@@ -159,6 +161,15 @@ bits_in text = if bytes_eq text (codes "user") then Some User
 abbrev pub bits_by : Options → Option CarriedBits
 bits_by options = option_and_then bits_in (first_of (codes "BITS") options)
 
+-- the filling of this name
+abbrev pub fill_in : Text → Option Fill
+fill_in text = if bytes_eq text (codes "zero") then Some Zero
+    else if bytes_eq text (codes "hold") then Some Hold
+    else None
+
+abbrev pub fill_by : Options → Option Fill
+fill_by options = option_and_then fill_in (first_of (codes "fill") options)
+
 -- the number of a channel
 abbrev pub number_of : Channel → ℕ
 number_of First = 1
@@ -254,6 +265,9 @@ AsksFor name options (job.Rewrite input output change) =
     × (output ≡ form_by options (codes "packed-out")) × IsChange options change
 AsksFor name options (job.ToPcm input valid) =
     (name ≡ codes "to-pcm") × (input ≡ input_by options) × (valid ≡ is_set options (codes "valid"))
+    × (fill_by options ≡ None)
+AsksFor name options (job.ToFilledPcm input fill) =
+    (name ≡ codes "to-pcm") × (input ≡ input_by options) × (fill_by options ≡ Some fill)
 AsksFor name options (job.FromPcm exact change) =
     (name ≡ codes "from-pcm") × (exact ≡ is_set options (codes "exact")) × IsChange options change
 AsksFor name options (job.ToBits input bits channel) =
@@ -297,6 +311,15 @@ abbrev pub has_unknown_bits : Options → Bool
 has_unknown_bits options =
     option_map_or (λ text. not (is_some (bits_in text))) (first_of (codes "BITS") options) false
 
+-- a filling is named that there is none of
+abbrev pub has_unknown_filling : Options → Bool
+has_unknown_filling options =
+    option_map_or (λ text. not (is_some (fill_in text))) (first_of (codes "fill") options) false
+
+-- time is filled between samples of which those that are not valid are silenced
+abbrev pub fills_valid_samples : Options → Bool
+fills_valid_samples options = is_some (fill_by options) && is_set options (codes "valid")
+
 -- what is wrong with options, of more the first
 abbrev pub misuse_by : Options → Option Misuse
 misuse_by options =
@@ -305,6 +328,8 @@ misuse_by options =
     else if has_two_periods options then Some TwoPeriods
     else if has_no_rate options then Some NoRate
     else if has_unknown_bits options then Some UnknownBits
+    else if has_unknown_filling options then Some UnknownFilling
+    else if fills_valid_samples options then Some FillsValidSamples
     else None
 
 -- ---- the octets of packed cells
@@ -418,6 +443,8 @@ misuse_line TwoPeriods =
     codes "error: the argument '--every <CELLS>' cannot be used with '--every-seconds <N>'"
 misuse_line NoRate = codes "error: the argument '--every-seconds <N>' needs '--rate <HZ>'"
 misuse_line UnknownBits = codes "error: invalid value for '<BITS>': it is 'user', 'validity' or 'status'"
+misuse_line UnknownFilling = codes "error: invalid value for '--fill <zero|hold>': it is 'zero' or 'hold'"
+misuse_line FillsValidSamples = codes "error: the argument '--fill <zero|hold>' cannot be used with '--valid'"
 
 abbrev pub misuse_end : Text
 misuse_end = (10 ∷ 10 ∷ codes "Usage: aes3 COMMAND [OPTIONS] < INPUT > OUTPUT")

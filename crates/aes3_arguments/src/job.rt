@@ -12,6 +12,7 @@ ghost use Rattle.aes3_cell.specs.declared.refusal.RunError.TheVariants.{BadStatu
 
 use crate::carried::to_bits;
 use crate::refusals::settings_refused;
+use crate::samples::to_pcm;
 use crate::show::show;
 use crate::status_text::status_of_text;
 use crate::value::{bit, flag, number};
@@ -64,10 +65,7 @@ pub(crate) fn job_of_command(
         "watch" => Ok(watch(options, input)),
         "show" => Ok(show(options, input)),
         "scan" => Ok(Job::Scan { input }),
-        "to-pcm" => Ok(Job::ToPcm {
-            input,
-            valid: flag(options, "valid"),
-        }),
+        "to-pcm" => Ok(to_pcm(options, input)),
         "from-pcm" => Ok(Job::FromPcm {
             exact: flag(options, "exact"),
             change: change(alloc, options, help::FROM_PCM.usage)?,

@@ -18,6 +18,8 @@ mod line;
 mod misuse;
 /// What is told of settings that are none.
 mod refusals;
+/// The job of `to-pcm`.
+mod samples;
 /// The job of `show`.
 mod show;
 /// Channel status in hexadecimal.

@@ -3,10 +3,12 @@
 ghost use Rattle.std.specs.Prelude.{◌≡◌, IfOk};
 ghost use Rattle.aes3_arguments.specs.Jobs.{AreTaken, TellsMisuse, has_no_cells_packed, has_no_rate};
 ghost use Rattle.aes3_arguments.specs.Jobs.{has_two_forms, has_two_periods, has_unknown_bits, misuse_by};
+ghost use Rattle.aes3_arguments.specs.Jobs.{fills_valid_samples};
 ghost use Rattle.aes3_arguments.specs.Jobs.{misuse_line, misuse_text, options_of};
 
 use crate::carried::bits_of_text;
 use crate::job::LineFault;
+use crate::samples::{fill, has_unknown_filling};
 use crate::style::rate;
 use crate::value::{flag, number_if_given};
 use aes3_cell::RunError;
@@ -26,6 +28,10 @@ pub(crate) enum Misuse {
     NoRate,
     /// `to-bits` of bits that there are none of.
     UnknownBits,
+    /// `--fill` with what there is none of.
+    UnknownFilling,
+    /// `--fill` beside `--valid`.
+    FillsValidSamples,
 }
 
 /// What stands behind the line that says what is wrong, as `clap` tells of words that it doesn't
@@ -52,6 +58,10 @@ pub(crate) fn misuse_of_options(options: &ArgMatches<'_>) -> Option<Misuse>
         Some(Misuse::NoRate)
     } else if has_unknown_bits(options) {
         Some(Misuse::UnknownBits)
+    } else if has_unknown_filling(options) {
+        Some(Misuse::UnknownFilling)
+    } else if fills_valid_samples(options) {
+        Some(Misuse::FillsValidSamples)
     } else {
         None
     }
@@ -103,6 +113,14 @@ fn has_unknown_bits(options: &ArgMatches<'_>) -> bool
     bits_of_text(text).is_none()
 }
 
+/// Whether time is to be filled between samples of which some are silenced.
+fn fills_valid_samples(options: &ArgMatches<'_>) -> bool
+    requires { AreTaken (options_of options.now) }
+    ensures { result ≡ fills_valid_samples (options_of options.now) }
+{
+    fill(options).is_some() && flag(options, "valid")
+}
+
 /// What is told of it.
 pub(crate) fn misuse_fault(alloc: Global, misuse: Misuse) -> LineFault
     ensures { TellsMisuse misuse result }
@@ -138,6 +156,12 @@ fn misuse_line(misuse: Misuse) -> &'static str
         Misuse::NoRate => "error: the argument '--every-seconds <N>' needs '--rate <HZ>'",
         Misuse::UnknownBits => {
             "error: invalid value for '<BITS>': it is 'user', 'validity' or 'status'"
+        }
+        Misuse::UnknownFilling => {
+            "error: invalid value for '--fill <zero|hold>': it is 'zero' or 'hold'"
+        }
+        Misuse::FillsValidSamples => {
+            "error: the argument '--fill <zero|hold>' cannot be used with '--valid'"
         }
     }
 }

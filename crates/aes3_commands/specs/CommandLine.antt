@@ -12,7 +12,7 @@ use Rattle.aes3_commands.specs.declared.argument.Argument.TheVariants.{PackedIn,
 use Rattle.aes3_commands.specs.declared.argument.Argument.TheVariants.{LsbFirst, Changes, At, More, From, Count}
 use Rattle.aes3_commands.specs.declared.argument.Argument.TheVariants.{Json, Rate, Every, EverySeconds}
 use Rattle.aes3_commands.specs.declared.argument.Argument.TheVariants.{Status1, Status2, Set1, Set2, MendCheck, Exact}
-use Rattle.aes3_commands.specs.declared.argument.Argument.TheVariants.{Valid1, Valid2, ClearUser1, ClearUser2, Valid}
+use Rattle.aes3_commands.specs.declared.argument.Argument.TheVariants.{Valid1, Valid2, ClearUser1, ClearUser2, Valid, Fill}
 use Rattle.aes3_commands.specs.declared.argument.Argument.TheVariants.{Bits, Channel, File}
 use Rattle.aes3_commands.specs.declared.definitions.Name.{Name}
 use Rattle.aes3_commands.specs.declared.definitions.Name.TheVariants.{Encode, Decode, Normal, Check, Watch, Show, Scan}
@@ -110,6 +110,7 @@ rule Valid2 = number_option (codes "valid2") 0 1
 rule ClearUser1 = flag (codes "clear-user1")
 rule ClearUser2 = flag (codes "clear-user2")
 rule Valid = flag (codes "valid")
+rule Fill = text_option (codes "fill")
 rule Exact = flag (codes "exact")
 rule Bits = word (codes "BITS")
 rule Channel = number (codes "CHANNEL") 1 2
@@ -158,7 +159,7 @@ rewrite = command (codes "rewrite")
     ∷ flag (codes "clear-user1") ∷ flag (codes "clear-user2") ∷ file ∷ [])
 
 abbrev pub to_pcm : Shape
-to_pcm = reader_with (codes "to-pcm") (flag (codes "valid") ∷ file ∷ [])
+to_pcm = reader_with (codes "to-pcm") (flag (codes "valid") ∷ text_option (codes "fill") ∷ file ∷ [])
 
 abbrev pub from_pcm : Shape
 from_pcm = command (codes "from-pcm")

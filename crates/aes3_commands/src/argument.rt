@@ -69,6 +69,8 @@ pub(crate) enum Argument {
     ClearUser2,
     /// `--valid` of `to-pcm`.
     Valid,
+    /// `--fill zero|hold` of `to-pcm`.
+    Fill,
     /// `--exact` of `from-pcm`.
     Exact,
     /// Which bits `to-bits` writes.
@@ -136,14 +138,16 @@ impl Argument {
                 "The number of the first block, from 0 on",
             ),
             Argument::Count => number(alloc, "COUNT", 0, u64::MAX, "How many blocks"),
-            Argument::Status1 => status(
+            Argument::Status1 => text(
                 alloc,
                 "status1",
+                "HEX48",
                 "The status of channel 1, in hexadecimal",
             ),
-            Argument::Status2 => status(
+            Argument::Status2 => text(
                 alloc,
                 "status2",
+                "HEX48",
                 "The status of channel 2, in hexadecimal",
             ),
             Argument::Set1 => settings(
@@ -178,6 +182,12 @@ impl Argument {
                 "valid",
                 "Write zero for a sample whose validity bit is 1",
             ),
+            Argument::Fill => text(
+                alloc,
+                "fill",
+                "zero|hold",
+                "Keep time: fill what no whole block gives with zeros, or with the last frame",
+            ),
             Argument::Exact => flag(alloc, "exact", "Refuse samples of more than 24 bits"),
             Argument::Bits => word(alloc, "BITS", "Which bits: `user`, `validity` or `status`"),
             Argument::Channel => number(alloc, "CHANNEL", 1, 2, "Of which channel: 1 or 2"),
@@ -200,13 +210,13 @@ fn flag<'a>(alloc: Global, name: &'a str, help: &'a str) -> Arg<'a>
         .help(help)
 }
 
-/// The option `--name` with a channel status.
-fn status<'a>(alloc: Global, name: &'a str, help: &'a str) -> Arg<'a>
+/// The option `--name` with a text, as help calls it.
+fn text<'a>(alloc: Global, name: &'a str, value: &'a str, help: &'a str) -> Arg<'a>
     ensures { IsOption (text_option name.now) result }
 {
     Arg::new(alloc, name)
         .long(name)
-        .value_name("HEX48")
+        .value_name(value)
         .help(help)
 }
 

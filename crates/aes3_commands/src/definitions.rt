@@ -157,7 +157,7 @@ impl Name {
                 alloc,
                 "to-pcm",
                 help::TO_PCM,
-                &[PackedIn, RawIn, LsbFirst, Valid, File],
+                &[PackedIn, RawIn, LsbFirst, Valid, Fill, File],
             ),
             Name::FromPcm => command(
                 alloc,

@@ -95,14 +95,17 @@ Examples:
 
 pub const TO_PCM: Texts<'static> = Texts {
     about: "Write the samples of the whole blocks",
-    usage: "aes3 to-pcm [--packed-in|--raw-in] [--lsb-first] [--valid] [FILE] > PCM",
+    usage: "aes3 to-pcm [--packed-in|--raw-in] [--lsb-first] [--valid|--fill zero|hold] [FILE] > PCM",
     more: "Reads cells, begun anywhere and in either polarity.
 Writes the samples of the whole blocks that stand in them: of each frame channel 1 and
 then channel 2, 4 bytes each, lowest first, the 24 bits of the sample in the highest
 ones (S32LE: `ffmpeg -f s32le`, `sox -t raw -e signed -b 32 -L`, ALSA's S32_LE). V, U
 and C are left out, as is what is cut or damaged, and nothing is told of it: `aes3
 check` tells it. With --valid a sample whose validity bit is 1, which says that it can't
-be taken as it is, is written as zero.
+be taken as it is, is written as zero. With --fill the samples keep time: what no whole
+block gives between two of them is filled with frames of zeros (`zero`) or with the last
+frame before it (`hold`), so many that each block stands to half a frame where its cells
+do, counted from the first block.
 
 Exit status: 0 done, also where no block was found; 3 refused: 1 a byte is no cell, 10
 packed cells end wrongly; or as for every command.
@@ -110,6 +113,7 @@ packed cells end wrongly; or as for every command.
 Examples:
     aes3 to-pcm < line.txt > line.s32
     aes3 to-pcm --valid < line.txt | cmp - line.s32
+    aes3 to-pcm --fill hold < line.txt | cmp - line.s32
     aes3 to-pcm < line.txt | sox -t raw -r 48000 -e signed -b 32 -c 2 -L - -b 24 line.wav",
 };
 

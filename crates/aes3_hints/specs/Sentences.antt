@@ -13,6 +13,7 @@ use Rattle.aes3_hints.specs.declared.hints.Terminals.{Terminals}
 use Rattle.aes3_job.specs.declared.job.Job.{Job}
 use Rattle.aes3_job.specs.declared.job.Job.TheVariants.{Encode, Decode, Normal, Check, Account, Watch, WatchSums}
 use Rattle.aes3_job.specs.declared.job.Job.TheVariants.{Show, ShowChanges, Scan, Cut, Rewrite, ToPcm, FromPcm, ToBits}
+use Rattle.aes3_job.specs.declared.job.Job.TheVariants.{ToFilledPcm}
 
 -- whether it is the packed form
 abbrev pub is_packed : Form → Bool
@@ -34,6 +35,7 @@ writes_packed (Scan input) = false
 writes_packed (Cut input output from count) = is_packed output
 writes_packed (Rewrite input output change) = is_packed output
 writes_packed (ToPcm input valid) = false
+writes_packed (ToFilledPcm input fill) = false
 writes_packed (FromPcm exact change) = false
 writes_packed (ToBits input bits channel) = false
 
@@ -52,6 +54,7 @@ reads_packed (Scan input) = is_packed input
 reads_packed (Cut input output from count) = is_packed input
 reads_packed (Rewrite input output change) = is_packed input
 reads_packed (ToPcm input valid) = is_packed input
+reads_packed (ToFilledPcm input fill) = is_packed input
 reads_packed (FromPcm exact change) = false
 reads_packed (ToBits input bits channel) = is_packed input
 

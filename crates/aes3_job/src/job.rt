@@ -1,7 +1,7 @@
 //! What the program is asked to do.
 
 use aes3_cell::Form;
-use aes3_frame::Channel;
+use aes3_frame::{Channel, Fill};
 use aes3_settings::{Detail, Lines, Style};
 use aes3_status::{CarriedBits, Change};
 
@@ -76,6 +76,12 @@ pub enum Job {
     ToPcm {
         input: Form,
         valid: bool,
+    },
+    /// Cells to the samples of their blocks, with frames between them that fill the time which no
+    /// block gives.
+    ToFilledPcm {
+        input: Form,
+        fill: Fill,
     },
     /// Samples to a block file, with channel status; where `exact`, of 24 bits alone.
     FromPcm {

@@ -12,6 +12,7 @@ use Rattle.aes3_hints.specs.Sentences.{reads_packed, writes_packed}
 use Rattle.aes3_job.specs.declared.job.Job.{Job}
 use Rattle.aes3_job.specs.declared.job.Job.TheVariants.{Encode, Decode, Normal, Check, Account, Watch, WatchSums}
 use Rattle.aes3_job.specs.declared.job.Job.TheVariants.{Show, ShowChanges, Scan, Cut, Rewrite, ToPcm, FromPcm, ToBits}
+use Rattle.aes3_job.specs.declared.job.Job.TheVariants.{ToFilledPcm}
 use Rattle.aes3_runner.specs.JobRuns.{AnswerTold, status_by}
 use Rattle.aes3_runner.specs.OctetRuns.{FirstFailed, PackedRan, RawBy, as_raw, written_by}
 use Rattle.aes3_runner.specs.StandardErrors.{ErrorsTold}
@@ -36,6 +37,7 @@ few (Scan i) n = omega arith
 few (Cut i o f c) n = omega arith
 few (Rewrite i o c) n = omega arith
 few (ToPcm i v) n = omega arith
+few (ToFilledPcm i fill) n = omega arith
 few (FromPcm e c) n = omega arith
 few (ToBits i b c) n = omega arith
 

@@ -21,6 +21,7 @@ use Rattle.aes3_hints.specs.Sentences.{is_packed, writes_packed}
 use Rattle.aes3_job.specs.declared.job.Job.{Job}
 use Rattle.aes3_job.specs.declared.job.Job.TheVariants.{Encode, Decode, Normal, Check, Account, Watch, WatchSums}
 use Rattle.aes3_job.specs.declared.job.Job.TheVariants.{Show, ShowChanges, Scan, Cut, Rewrite, ToPcm, FromPcm, ToBits}
+use Rattle.aes3_job.specs.declared.job.Job.TheVariants.{ToFilledPcm}
 use Rattle.aes3_runner.specs.JobRuns.{promise_of}
 use Rattle.aes3_runner.specs.OctetRuns.{PackBoth}
 
@@ -57,5 +58,6 @@ can-be-turned (Cut i o from count) h b =
 can-be-turned (Rewrite i o change) h b =
     of-blocks o (rewritten_blocks change (blocks (cells_of i b))) h (each-blocks change (blocks (cells_of i b)) (blocks27 (cells_of i b)))
 can-be-turned (ToPcm i valid) h b = absurd cc
+can-be-turned (ToFilledPcm i fill) h b = absurd cc
 can-be-turned (FromPcm exact change) h b = absurd cc
 can-be-turned (ToBits i bits channel) h b = absurd cc

@@ -17,6 +17,7 @@ use Rattle.aes3_runs.specs.BlockRuns.{begun_stream, written_stream, cut_blocks, 
 use Rattle.aes3_engine.specs.Rewriting.{rewritten_blocks}
 use Rattle.aes3_engine.specs.Sampling.{sampled_file}
 use Rattle.aes3_engine.specs.Carrying.{all_carried}
+use Rattle.aes3_engine.specs.Filling.{filled, placed}
 use Rattle.aes3_engine.specs.ValidSamples.{valid_samples}
 use Rattle.aes3_lines.specs.MarkLines.{mark_lines}
 use Rattle.aes3_account.specs.Gaps.{account, begun_account}
@@ -30,6 +31,7 @@ use Rattle.aes3_account.specs.Watching.{begun_watch, watch_counts, watch_lines}
 use Rattle.aes3_job.specs.declared.job.Job.{Job}
 use Rattle.aes3_job.specs.declared.job.Job.TheVariants.{Encode, Decode, Normal, Check, Account, Watch, WatchSums}
 use Rattle.aes3_job.specs.declared.job.Job.TheVariants.{Show, ShowChanges, Scan, Cut, Rewrite, ToPcm, FromPcm, ToBits}
+use Rattle.aes3_job.specs.declared.job.Job.TheVariants.{ToFilledPcm}
 use Rattle.aes3_runner.specs.Lines.{refusal_line}
 
 -- how many bytes an input may have
@@ -75,6 +77,8 @@ promise_of (Rewrite i o change) =
 promise_of (ToPcm i true) =
     counted_cells i (λ c. valid_samples (blocks c)) (λ c. valid_samples (decided_blocks c)) (counts_of i)
 promise_of (ToPcm i false) = counted_cells i (λ c. samples (blocks c)) (λ c. samples (decided_blocks c)) (counts_of i)
+promise_of (ToFilledPcm i fill) =
+    counted_cells i (λ c. filled fill (placed (reports c))) (λ c. filled fill (placed (decided c))) (counts_of i)
 promise_of (FromPcm exact change) = sampled_file exact change
 promise_of (ToBits i bits channel) =
     counted_cells i
@@ -101,6 +105,7 @@ status_by (Scan i) n = 0
 status_by (Cut i o from count) n = 0
 status_by (Rewrite i o change) n = 0
 status_by (ToPcm i valid) n = 0
+status_by (ToFilledPcm i fill) n = 0
 status_by (FromPcm exact change) n = 0
 status_by (ToBits i bits channel) n = 0
 

@@ -8,7 +8,7 @@ ghost use Rattle.aes3_runner.specs.JobRuns.{RunRan, period, status_by};
 use aes3_account::{account, watch, watch_sums};
 use aes3_cell::{Counts, Form, RunError, Sink, Source};
 use aes3_engine::{
-    cut, decode, encode, from_pcm, normalise, rewrite, to_bits, to_pcm, to_valid_pcm,
+    cut, decode, encode, from_pcm, normalise, rewrite, to_bits, to_filled_pcm, to_pcm, to_valid_pcm,
 };
 use aes3_job::Job;
 use aes3_text::{check, scan, show_changes, show_detail};
@@ -109,6 +109,7 @@ pub fn run_job<S: Source, T: Sink>(
             change,
         } => rewrite(source, sink, MAX_BYTES, input, output, &change),
         Job::ToPcm { input, valid } => run_samples(source, sink, input, valid),
+        Job::ToFilledPcm { input, fill } => to_filled_pcm(source, sink, MAX_BYTES, input, fill),
         Job::FromPcm { exact, change } => from_pcm(source, sink, MAX_BYTES, exact, &change),
         Job::ToBits {
             input,

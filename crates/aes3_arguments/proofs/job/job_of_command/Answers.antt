@@ -54,12 +54,12 @@ pub number-requires-in-cut : goal.number-requires-in-cut
 number-requires-in-cut c = (numbers_stand c.requires.stands.0 c.args.name.now (options_of c.args.options.now)
     c.requires.stands.1 c.in-cut.is).1
 
+pub to_pcm-requires-clause-taken : goal.to_pcm-requires-clause-taken
+to_pcm-requires-clause-taken c =
+    options_taken c.requires.stands.0 c.args.name.now (options_of c.args.options.now) c.requires.stands.1
+
 pub flag-requires : goal.flag-requires
 flag-requires c =
-    (options_taken c.requires.stands.0 c.args.name.now (options_of c.args.options.now) c.requires.stands.1).valid
-
-pub flag-requires-in-text-2 : goal.flag-requires-in-text-2
-flag-requires-in-text-2 c =
     (options_taken c.requires.stands.0 c.args.name.now (options_of c.args.options.now) c.requires.stands.1).exact
 
 pub change-requires : goal.change-requires

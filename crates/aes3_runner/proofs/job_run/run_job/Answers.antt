@@ -37,6 +37,9 @@ returns-in-Rewrite-clause-ran g c = run-of c.in-Rewrite.is c.rewrite.ensures.run
 pub returns-in-ToPcm-clause-ran : goal.returns-in-ToPcm-clause-ran
 returns-in-ToPcm-clause-ran g c = run-of c.in-ToPcm.is c.run_samples.ensures.ran
 
+pub returns-in-ToFilledPcm-clause-ran : goal.returns-in-ToFilledPcm-clause-ran
+returns-in-ToFilledPcm-clause-ran g c = run-of c.in-ToFilledPcm.is c.to_filled_pcm.ensures.run
+
 pub returns-in-FromPcm-clause-ran : goal.returns-in-FromPcm-clause-ran
 returns-in-FromPcm-clause-ran g c = run-of c.in-FromPcm.is c.from_pcm.ensures.run
 
