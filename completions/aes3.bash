@@ -67,6 +67,7 @@ _aes3() {
     case ${words[-1]} in
         --set1 | --set2) _aes3_setting; return ;;
         --valid1 | --valid2) _aes3_words 0 1; return ;;
+        --fill) _aes3_words zero hold; return ;;
         --every | --every-seconds | --rate | --status1 | --status2) return ;;
         --explain) _aes3_words 1 2 3 4 5 6 7 8 9 10 11; return ;;
     esac
@@ -91,7 +92,7 @@ _aes3() {
         scan) _aes3_words --packed-in --raw-in --lsb-first --help ;;
         cut) _aes3_words --packed-in --raw-in --packed-out --lsb-first --help ;;
         rewrite) _aes3_words --packed-in --raw-in --packed-out --lsb-first --status1 --status2 --set1 --set2 --mend-check --valid1 --valid2 --clear-user1 --clear-user2 --help ;;
-        to-pcm) _aes3_words --packed-in --raw-in --lsb-first --valid --help ;;
+        to-pcm) _aes3_words --packed-in --raw-in --lsb-first --valid --fill --help ;;
         from-pcm) _aes3_words --status1 --status2 --set1 --set2 --mend-check --exact --help ;;
         to-bits) _aes3_words --packed-in --raw-in --lsb-first --help ;;
     esac

@@ -135,6 +135,7 @@ complete -c aes3 -n '__fish_seen_subcommand_from to-pcm' -l packed-in -d 'Read p
 complete -c aes3 -n '__fish_seen_subcommand_from to-pcm' -l raw-in -d 'Read packed cells with no last octet that counts'
 complete -c aes3 -n '__fish_seen_subcommand_from to-pcm' -l lsb-first -d 'Packed cells have the first of eight in the lowest bit'
 complete -c aes3 -n '__fish_seen_subcommand_from to-pcm' -l valid -d 'Write zero for a sample whose validity bit is 1'
+complete -c aes3 -n '__fish_seen_subcommand_from to-pcm' -l fill -x -a 'zero hold' -d 'Keep time: fill what no whole block gives with zeros, or with the last frame'
 complete -c aes3 -n '__fish_seen_subcommand_from to-pcm' -l help -s h -d 'Print help'
 complete -c aes3 -n "__fish_seen_subcommand_from from-pcm; and not string match -q -- '-*' (commandline -ct)" -F
 complete -c aes3 -n '__fish_seen_subcommand_from from-pcm' -l status1 -x -d 'The status of channel 1, in hexadecimal'
