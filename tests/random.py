@@ -2,8 +2,8 @@
 """tests/random.py PROGRAM [CASES [SEED]]: random lines with random damage, and what is made of them in Python beside what PROGRAM makes.
 
 Each case (40 where no number is given) is some blocks of the speech with V and U bits turned, as cells that are then turned, lost, put in
-and cut. Of these the sums of `watch --every` are compared with the lines of `check --gaps`; `to-bits`, `show --more`, `to-pcm --valid` and
-`rewrite` with the block file of `decode`; and `--lsb-first` with octets that are packed here. The last line is `N passed, M failed`.
+and cut. Of these the sums of `watch --every` are compared with the lines of `check --gaps`; `to-bits`, `show --more`, `to-pcm --valid`,
+`to-pcm --fill` and `rewrite` with the block file of `decode`; and `--lsb-first` with octets that are packed here. The last line is `N passed, M failed`.
 """
 
 import os
@@ -137,6 +137,8 @@ def judged(program, cells, every):
     yield "show --more", told(program, ["show", "--more"], cells) == [line + more for line, more in zip(plain, behind)]
     samples = b"".join((0 if word >> 28 & 1 else (word >> 4 & 0xFFFFFF) << 8).to_bytes(4, "little") for word in words)
     yield "to-pcm --valid", run(program, ["to-pcm", "--valid"], cells)[1] == samples
+    for fill in ("zero", "hold"):
+        yield f"to-pcm --fill {fill}", run(program, ["to-pcm", "--fill", fill], cells)[1] == filled(words, [int(at) for at in wholes], fill)
     again = run(program, ["rewrite", "--valid2", "1", "--clear-user1"], cells)[1]
     wanted = bytes_of(changed(word, i % 2) for i, word in enumerate(words))
     yield "rewrite of V and U", run(program, ["decode"], again)[1] == wanted
@@ -144,6 +146,22 @@ def judged(program, cells, every):
     yield "check --lsb-first", run(program, ["check", "--packed-in", "--lsb-first"], packed(cells)) == check
     out = run(program, ["normal"], cells)[1].replace(b"\n", b"")
     yield "normal --lsb-first", run(program, ["normal", "--packed-out", "--lsb-first"], cells)[1] == packed(out)
+
+
+def filled(words, wholes, fill):
+    """The samples of blocks at these places, and frames before each but the first, until it stands in its time."""
+    blocks = [words[i : i + 2 * FRAMES] for i in range(0, len(words), 2 * FRAMES)]
+    out, frames = [], 0
+    for at, block in zip(wholes, blocks):
+        missing = round_up_half(at - wholes[0], CELLS // FRAMES) - frames
+        out += missing * ([0, 0] if fill == "zero" else out[-2:])
+        out += [word >> 4 & 0xFFFFFF for word in block]
+        frames += missing + FRAMES
+    return b"".join((sample << 8).to_bytes(4, "little") for sample in out)
+
+
+def round_up_half(number, by):
+    return (2 * number + by) // (2 * by)
 
 
 def main():
