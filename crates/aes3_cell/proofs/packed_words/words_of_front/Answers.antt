@@ -1,4 +1,4 @@
-use Rattle.std.proofs.Common.{arith}
+use Rattle.std.proofs.Common.{arith, rules}
 use Rattle.aes3_cell.proofs.EightWords.{words-put}
 use Rattle.aes3_cell.proofs.packed_words.words_of_front.Goals as goal
 
@@ -10,3 +10,6 @@ loop-i-preserved c =
           c.eight_words-eight.ensures.len (omega (arith, len)) c.loop-i.invariant.cells
           c.eight_words-eight.ensures.cells;
     }
+
+pub loop-i-init : goal.loop-i-init
+loop-i-init c = search rules

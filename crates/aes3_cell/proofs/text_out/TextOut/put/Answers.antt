@@ -1,4 +1,4 @@
-use Rattle.std.proofs.Common.{◌<◌, arith, refl, sym, ap, ◌∙◌}
+use Rattle.std.proofs.Common.{◌<◌, arith, refl, sym, ap, ◌∙◌, rules}
 use Rattle.aes3_cell.proofs.Growing.{grew-none, grew-is}
 use Rattle.aes3_cell.proofs.Writing.{wrote-is, ok-always}
 use Rattle.aes3_cell.proofs.Lines.{put-short, put-begun, put-full, put-done}
@@ -33,3 +33,6 @@ returns-clause-begun g c =
     let i : c.self.inside.len < 64 = c.self.invariant.0 in
     let cells = ap (λ v. v.cells) c.self.view_is in
     ok-always _ (sym (put-done _ c.self.inside.len c.self.inside.word c.args.level cells (omega arith)))
+
+pub returns-clause-failed : goal.returns-clause-failed
+returns-clause-failed g c = search rules

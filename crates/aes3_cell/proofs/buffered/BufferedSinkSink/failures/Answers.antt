@@ -1,0 +1,5 @@
+use Rattle.std.proofs.Common.{rules}
+use Rattle.aes3_cell.proofs.buffered.BufferedSinkSink.failures.Goals as goal
+
+pub returns : goal.returns
+returns g c = search rules

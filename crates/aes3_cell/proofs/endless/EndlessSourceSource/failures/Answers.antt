@@ -1,0 +1,5 @@
+use Rattle.std.proofs.Common.{refl}
+use Rattle.aes3_cell.proofs.endless.EndlessSourceSource.failures.Goals as goal
+
+pub returns : goal.returns
+returns c = refl

@@ -1,0 +1,5 @@
+use Rattle.std.proofs.Common.{refl}
+use Rattle.aes3_cell.proofs.failing.FailingSinkSink.failures.Goals as goal
+
+pub returns : goal.returns
+returns c = refl
