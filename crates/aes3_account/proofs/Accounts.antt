@@ -32,9 +32,9 @@ use Rattle.aes3_account.specs.Accounting.{Accounts, Accounted, account_counts, a
 use Rattle.aes3_account.proofs.GapLemmas.{behind-join, full-join, gaps-join, before-join, report-join, account-push}
 use Rattle.aes3_account.proofs.GapLemmas.{reached-push, lost-append, lost-full, lost-rest, behind-near, behind-far}
 use Rattle.aes3_account.proofs.GapLemmas.{behind-most, count-few}
-use Rattle.aes3_account.proofs.ReportPlaces.{UpTo, Spaced, next_place, upto-last, spaced-weaker, spaced-decided}
-use Rattle.aes3_account.proofs.ReportPlaces.{spaced-reports, near-decided, near-reports, split-reports, late-decided}
-use Rattle.aes3_account.proofs.ReportPlaces.{late-reports}
+use Rattle.aes3_lock.proofs.ReportPlaces.{UpTo, Spaced, next_place, upto-last, spaced-weaker, spaced-decided}
+use Rattle.aes3_lock.proofs.ReportPlaces.{spaced-reports, near-decided, near-reports, split-reports, late-decided}
+use Rattle.aes3_lock.proofs.ReportPlaces.{late-reports}
 
 pub starts : {b f u : ℕ} → Tallies b f u [] → Accounts 0 0 b f u []
 unfolding accounted begun_account behind_full full_count decided block_len block_slots

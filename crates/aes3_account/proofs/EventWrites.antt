@@ -1,6 +1,8 @@
 -- Events that are written.
 use Rattle.std.proofs.Common.{◌≡◌, ℕ, zero, suc, ◌<◌, List, [], ◌∷◌, ◌++◌, Result, Ok, Err, IfOk, OnErr, length}
-use Rattle.std.proofs.Common.{take, drop, get_or, refl, sym, ap, ◌∙◌, append_assoc, arith}
+use Rattle.std.proofs.Common.{take, drop, get_or, refl, sym, ap, ◌∙◌, ◌+◌, append-nil, append_assoc, arith}
+use Rattle.std.proofs.lemmas.Grind.{flat_map-append}
+use Rattle.std.proofs.lemmas.List.{take_more}
 use Rattle.aes3_lines.specs.declared.event.Event.{Event}
 use Rattle.aes3_settings.specs.declared.style.Style.{Style}
 use Rattle.aes3_lines.specs.Events.{event_line}
@@ -34,6 +36,14 @@ split-lines style (e ∷ es) (suc k) d h =
     (sym (append_assoc (event_lines style (take k es)) (event_line style (get_or es k d))
     (event_lines style (drop (suc k) es)))
     ∙ split-lines style es k d (omega arith))
+
+-- and those of one more
+pub more-lines : (style : Style) (es : List Event) (k : ℕ) (d : Event) → k < length es
+    → event_lines style (take k es) ++ event_line style (get_or es k d) ≡ event_lines style (take (k + 1) es)
+more-lines style es k d h =
+    ap (λ z. event_lines style (take k es) ++ z) (sym (append-nil (event_line style (get_or es k d))))
+    ∙ sym (flat_map-append (event_line style) (take k es) (get_or es k d ∷ []))
+    ∙ ap (event_lines style) (sym (take_more es k d h))
 
 -- events put behind none, and more behind those
 pub put-one : {A : Type 0} {none one told : List A} (a : List A) → told ≡ one → one ≡ none ++ a → none ≡ [] → told ≡ a

@@ -1,5 +1,4 @@
 pub mod GapLemmas
-pub mod ReportPlaces
 pub mod Accounts
 pub mod SignalWords
 pub mod WatchedCells

@@ -33,7 +33,7 @@ use Rattle.aes3_account.specs.Sums.{change_of, changes_in, go_to, more, next_per
 use Rattle.aes3_account.specs.Sums.{period_told, periods, periods_told, report_told, sum_lines, summed, summing, sums_from}
 use Rattle.aes3_account.specs.Sums.{all_told, last_sum, take_report, told_to, unsummed, with_lost}
 use Rattle.aes3_account.proofs.GapLemmas.{behind-join, count-add}
-use Rattle.aes3_account.proofs.ReportPlaces.{split-reports, late-decided, late-reports}
+use Rattle.aes3_lock.proofs.ReportPlaces.{split-reports, late-decided, late-reports}
 use Rattle.aes3_account.proofs.Accounts.{one-answer, one-final, decided-more}
 use Rattle.aes3_account.proofs.WatchedCells.{loss-join, up-join, next-join, shorter, before-last, few-up, grown}
 use Rattle.aes3_account.proofs.WatchedCells.{as_lost, up-latest}

@@ -36,7 +36,7 @@ use Rattle.aes3_account.specs.Watching.{unwatched, is_told, loss_events, up_to, 
 use Rattle.aes3_account.specs.Watching.{told_events, next, events_from, behind_reports, begun_events, watched}
 use Rattle.aes3_account.specs.Watching.{is_locked, ended, watch_events, event_lines, begun_watch, watch_lines}
 use Rattle.aes3_account.specs.Watching.{watch_counts, watching, IsKept, Watches, Ended}
-use Rattle.aes3_account.proofs.ReportPlaces.{split-reports, late-decided, late-reports}
+use Rattle.aes3_lock.proofs.ReportPlaces.{split-reports, late-decided, late-reports}
 use Rattle.aes3_account.proofs.Accounts.{one-answer, one-final, decided-more, few-reports}
 
 -- what the code computes

@@ -16,7 +16,7 @@ use Rattle.aes3_account.specs.Gaps.{gaps, gaps_before, behind_report, account_fr
 use Rattle.aes3_account.specs.Gaps.{begun_account, accounted}
 use Rattle.aes3_account_laws.specs.GapLaws.{Covers, reports_in}
 use Rattle.aes3_account.proofs.GapLemmas.{behind-near}
-use Rattle.aes3_account.proofs.ReportPlaces.{Spaced, next_place, spaced-weaker, spaced-reports, spaced-decided}
+use Rattle.aes3_lock.proofs.ReportPlaces.{Spaced, next_place, spaced-weaker, spaced-reports, spaced-decided}
 
 covers-join : (p m q : ℕ) (a b : List Entry) → Covers p a m → Covers m b q → Covers p (a ++ b) q
 covers-join p m q [] b h g = subst (λ (k : ℕ). Covers k b q) (sym h) g

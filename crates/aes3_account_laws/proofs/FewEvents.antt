@@ -21,7 +21,7 @@ use Rattle.aes3_account.specs.Kept.{Watched}
 use Rattle.aes3_account.specs.Watching.{behind_reports, ended, events_from, is_locked, is_told, loss_events, next}
 use Rattle.aes3_account.specs.Watching.{told_events, unwatched, up_to, watch_events, whole_events}
 use Rattle.aes3_account_laws.proofs.Covering.{EndsUpTo, ends-reports}
-use Rattle.aes3_account.proofs.ReportPlaces.{Spaced, spaced-reports, spaced-weaker}
+use Rattle.aes3_lock.proofs.ReportPlaces.{Spaced, spaced-reports, spaced-weaker}
 use Rattle.aes3_account.proofs.WatchedCells.{either, loss-told, or-false, up-told}
 
 -- a loss can be told where none stands

@@ -27,7 +27,7 @@ use Rattle.aes3_account.specs.Watching.{behind_reports, behind_whole, ended, eve
 use Rattle.aes3_account.specs.Watching.{loss_events, next, told_events, unwatched, up_to, watch_events, whole_events}
 use Rattle.aes3_account_laws.specs.WatchLaws.{AllBehind, IsBehind, StaysLocked, is_breaking, is_locking}
 use Rattle.aes3_account_laws.proofs.PieceGaps.{piece-no-gap}
-use Rattle.aes3_account.proofs.ReportPlaces.{Spaced, spaced-reports}
+use Rattle.aes3_lock.proofs.ReportPlaces.{Spaced, spaced-reports}
 use Rattle.aes3_account.proofs.WatchedCells.{as_lost, either, loss-told, up-told}
 use Rattle.aes3_account_laws.proofs.WatchedGaps.{behind-more, losses-are-gaps, next-more, up-more, whole-more}
 

@@ -27,7 +27,7 @@ use Rattle.aes3_account.specs.Sums.{change_of, changes_in, counted_report, says,
 use Rattle.aes3_account.specs.Watching.{behind_reports, events_from, is_told, loss_events, next, told_events, up_to}
 use Rattle.aes3_account.specs.Watching.{whole_events}
 use Rattle.aes3_account.proofs.GapLemmas.{behind-near}
-use Rattle.aes3_account.proofs.ReportPlaces.{Spaced, next_place, spaced-weaker}
+use Rattle.aes3_lock.proofs.ReportPlaces.{Spaced, next_place, spaced-weaker}
 use Rattle.aes3_account.proofs.WatchedCells.{either, loss-told, or-false, up-told}
 use Rattle.aes3_account_laws.specs.PeriodLaws.{counts_at, figures_of, in_64_bits, lost_cells, told_at}
 use Rattle.aes3_account_laws.proofs.PeriodLists.{AllBefore, AllFrom, all-before-join, all-before-more, all-from-join}

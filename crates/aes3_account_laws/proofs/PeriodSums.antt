@@ -30,7 +30,7 @@ use Rattle.aes3_account.specs.Sums.{told_to, unsummed, with_lost}
 use Rattle.aes3_account.specs.Watching.{behind_reports, ended, events_from, is_locked, is_told, loss_events, next}
 use Rattle.aes3_account.specs.Watching.{told_events, unwatched, up_to, watch_events}
 use Rattle.aes3_account.proofs.GapLemmas.{behind-join, full-join}
-use Rattle.aes3_account.proofs.ReportPlaces.{Spaced, spaced-reports, spaced-weaker}
+use Rattle.aes3_lock.proofs.ReportPlaces.{Spaced, spaced-reports, spaced-weaker}
 use Rattle.aes3_account.proofs.Sums.{ends-few, go-watched, next-known, periods-from, suc-times}
 use Rattle.aes3_account.proofs.WatchedCells.{loss-join, report-join, up-join}
 use Rattle.aes3_account_laws.specs.PeriodLaws.{counts_at, figures_of, in_64_bits}

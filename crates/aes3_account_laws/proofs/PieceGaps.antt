@@ -27,7 +27,7 @@ use Rattle.aes3_account.specs.Gaps.{reached_from, account, is_lost}
 use Rattle.aes3_account_laws.specs.GapLaws.{InRow, LosesNothing}
 use Rattle.aes3_account.proofs.GapLemmas.{lost-append, lost-full}
 use Rattle.aes3_account_laws.proofs.LostGaps.{length-blocks, row-first}
-use Rattle.aes3_account.proofs.ReportPlaces.{Spaced, UpTo, near-reports, next_place, spaced-weaker, spaced-reports}
+use Rattle.aes3_lock.proofs.ReportPlaces.{Spaced, UpTo, near-reports, next_place, spaced-weaker, spaced-reports}
 
 -- ---- a piece's blocks stand in a row
 

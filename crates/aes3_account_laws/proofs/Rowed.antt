@@ -13,7 +13,7 @@ use Rattle.aes3_account.specs.Gaps.{reported, full_gaps, full_count, behind_full
 use Rattle.aes3_account.specs.Gaps.{reached_from, account, is_lost}
 use Rattle.aes3_account_laws.specs.GapLaws.{InRow, LosesNothing}
 use Rattle.aes3_account.proofs.GapLemmas.{lost-append, lost-full, behind-near}
-use Rattle.aes3_account.proofs.ReportPlaces.{Spaced, spaced-weaker, spaced-reports}
+use Rattle.aes3_lock.proofs.ReportPlaces.{Spaced, spaced-weaker, spaced-reports}
 
 -- no gap of a block's length between two places
 count-none : (p q : ℕ) → full_count p q ≡ 0 → q < p + block_len

@@ -1,8 +1,8 @@
 -- A block file read byte by byte.
 use Rattle.std.proofs.Common.{◌≡◌, ℕ, suc, ◌+◌, ◌*◌, ◌/◌, ◌%◌, ◌^◌, ◌<◌, ◌≤◌, ◌≢◌, ◌-◌, ◌⊎◌, inl, inr, List, [], ◌∷◌}
 use Rattle.std.proofs.Common.{◌++◌, Bool, true, false, cond, eqb, ◌&&◌, length, length-append, get_or, map, Option}
-use Rattle.std.proofs.Common.{Some, None, Result, Ok, Err, refl, sym, ap, ◌∙◌, arith, eq-eqb, ne_eqb, add-one}
-use Rattle.std.proofs.lemmas.Bool.{cases_lt}
+use Rattle.std.proofs.Common.{Some, None, Result, Ok, Err, refl, sym, ap, subst, ◌∙◌, arith, eq-eqb, ne_eqb, add-one}
+use Rattle.std.proofs.lemmas.Bool.{cases_eq, cases_lt}
 use Rattle.std.proofs.lemmas.List.{get_or_append_left, get_or-append_right}
 use Rattle.aes3_block.specs.declared.file.FileFault.{FileFault}
 use Rattle.aes3_block.specs.declared.file.FileFault.TheVariants.{BadLength, BadCode, BadParity}
@@ -163,6 +163,28 @@ push-lawful ws v e old i lt = go (cases_lt i (length ws))
         let n = length-append ws (v ∷ []) in
         let z : i - length ws ≡ 0 = omega (arith, lt, n, h) in
         ap is_lawful (get_or-append_right ws (v ∷ []) (length ws) i 0 refl h ∙ ap (λ k. get_or (v ∷ []) k 0) z) ∙ e
+
+-- what is left of the words and a lawful one that the byte behind `seen` bytes ends
+pub left-lawful : (seen : ℕ) (ws left : List ℕ) (v : ℕ) (block : Option (List (List Bool)))
+    → Taken (ws ++ v ∷ []) left block → length ws ≡ seen / 4 % 384 → 3 ≤ seen % 4 → is_lawful v ≡ true
+    → ((i : ℕ) → i < length ws → is_lawful (get_or ws i 0) ≡ true)
+    → (length left ≡ (seen + 1) / 4 % 384) × ((i : ℕ) → i < length left → is_lawful (get_or left i 0) ≡ true)
+left-lawful seen ws left v block t e h lawful old = go (cases_eq (length (ws ++ v ∷ [])) 384)
+  where
+    go : (length (ws ++ v ∷ []) ≡ 384) ⊎ (length (ws ++ v ∷ []) ≡ 384 → ⊥)
+        → (length left ≡ (seen + 1) / 4 % 384) × ((i : ℕ) → i < length left → is_lawful (get_or left i 0) ≡ true)
+    go (inl all) =
+        let n = length-append ws (v ∷ []) in
+        let none = ap length (t.whole all).1 in
+        (omega (arith, n, none), λ i l. absurd (omega arith))
+    go (inr few) =
+        let n = length-append ws (v ∷ []) in
+        let same = (t.begun few).1 in
+        let len = ap length same in (
+          omega (arith, n, len, few),
+          subst (λ (all : List ℕ). (i : ℕ) → i < length all → is_lawful (get_or all i 0) ≡ true) (sym same)
+              (push-lawful ws v lawful old),
+        )
 
 -- a word without a fault is lawful
 pub fault-lawful : (at w : ℕ) → word_fault at w ≡ None → is_lawful w ≡ true

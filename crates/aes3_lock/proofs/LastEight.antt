@@ -5,32 +5,30 @@ use Rattle.std.proofs.Common.{get_or-drop, append_assoc}
 use Rattle.std.proofs.lemmas.List.{drop-append-le}
 use Rattle.aes3_level.specs.declared.level.Level.{Level}
 use Rattle.aes3_level.specs.declared.level.Level.TheVariants.{Low, High}
-use Rattle.aes3_level.specs.Words.{low_cells, bit_of}
+use Rattle.aes3_level.specs.Words.{low_cells, bit_of, level_of}
 use Rattle.aes3_slot.specs.Rules.{at, before}
 use Rattle.aes3_lock.specs.Steps.{last_eight, eight_with}
 
+-- y doubled n times
+abbrev doubled : ℕ → ℕ → ℕ
+doubled zero y = y
+doubled (suc n) y = 2 * doubled n y
+
+-- n cells with one more, behind them in the next bit
+one-behind : (n x : ℕ) (l : Level) → x < doubled n 1
+    → low_cells (suc n) (x + doubled n (bit_of l)) ≡ low_cells n x ++ l ∷ []
+one-behind zero x Low h = ap (λ b. level_of b ∷ []) (let e : (x + 0) % 2 ≡ 0 = omega arith in e)
+one-behind zero x High h = ap (λ b. level_of b ∷ []) (let e : (x + 1) % 2 ≡ 1 = omega arith in e)
+one-behind (suc n) x l h =
+    let y = doubled n (bit_of l) in
+    let e : (x + 2 * y) % 2 ≡ x % 2 = omega arith in
+    let f : (x + 2 * y) / 2 ≡ x / 2 + y = omega arith in
+    ap₂ (λ b c. level_of b ∷ c) e (ap (low_cells (suc n)) f ∙ one-behind n (x / 2) l (omega arith))
+
 -- a byte with one more cell
 pub byte-with : (w : ℕ) (l : Level) → w < 256 → low_cells 8 (w / 2 + 128 * bit_of l) ≡ eight_with (low_cells 8 w) l
-byte-with w Low h =
-    let e0 : (w / 2 + 128 * 0) % 2 ≡ w / 2 % 2 = omega arith in
-    let e1 : (w / 2 + 128 * 0) / 2 % 2 ≡ w / 2 / 2 % 2 = omega arith in
-    let e2 : (w / 2 + 128 * 0) / 2 / 2 % 2 ≡ w / 2 / 2 / 2 % 2 = omega arith in
-    let e3 : (w / 2 + 128 * 0) / 2 / 2 / 2 % 2 ≡ w / 2 / 2 / 2 / 2 % 2 = omega arith in
-    let e4 : (w / 2 + 128 * 0) / 2 / 2 / 2 / 2 % 2 ≡ w / 2 / 2 / 2 / 2 / 2 % 2 = omega arith in
-    let e5 : (w / 2 + 128 * 0) / 2 / 2 / 2 / 2 / 2 % 2 ≡ w / 2 / 2 / 2 / 2 / 2 / 2 % 2 = omega arith in
-    let e6 : (w / 2 + 128 * 0) / 2 / 2 / 2 / 2 / 2 / 2 % 2 ≡ w / 2 / 2 / 2 / 2 / 2 / 2 / 2 % 2 = omega arith in
-    let e7 : (w / 2 + 128 * 0) / 2 / 2 / 2 / 2 / 2 / 2 / 2 % 2 ≡ 0 = omega arith in
-    rw (e0, e1, e2, e3, e4, e5, e6, e7) refl
-byte-with w High h =
-    let e0 : (w / 2 + 128 * 1) % 2 ≡ w / 2 % 2 = omega arith in
-    let e1 : (w / 2 + 128 * 1) / 2 % 2 ≡ w / 2 / 2 % 2 = omega arith in
-    let e2 : (w / 2 + 128 * 1) / 2 / 2 % 2 ≡ w / 2 / 2 / 2 % 2 = omega arith in
-    let e3 : (w / 2 + 128 * 1) / 2 / 2 / 2 % 2 ≡ w / 2 / 2 / 2 / 2 % 2 = omega arith in
-    let e4 : (w / 2 + 128 * 1) / 2 / 2 / 2 / 2 % 2 ≡ w / 2 / 2 / 2 / 2 / 2 % 2 = omega arith in
-    let e5 : (w / 2 + 128 * 1) / 2 / 2 / 2 / 2 / 2 % 2 ≡ w / 2 / 2 / 2 / 2 / 2 / 2 % 2 = omega arith in
-    let e6 : (w / 2 + 128 * 1) / 2 / 2 / 2 / 2 / 2 / 2 % 2 ≡ w / 2 / 2 / 2 / 2 / 2 / 2 / 2 % 2 = omega arith in
-    let e7 : (w / 2 + 128 * 1) / 2 / 2 / 2 / 2 / 2 / 2 / 2 % 2 ≡ 1 = omega arith in
-    rw (e0, e1, e2, e3, e4, e5, e6, e7) refl
+byte-with w Low h = one-behind 7 (w / 2) Low (omega arith)
+byte-with w High h = one-behind 7 (w / 2) High (omega arith)
 
 abbrev pad : List Level
 pad = replicate 8 Low

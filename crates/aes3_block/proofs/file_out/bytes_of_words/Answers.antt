@@ -1,5 +1,8 @@
-use Rattle.std.proofs.Common.{rules, arith, ◌∙◌, ◌+◌, ◌*◌, ◌-◌}
+use Rattle.std.proofs.Common.{rules, arith, sym, ap, ◌∙◌, ◌+◌, ◌*◌, ◌-◌}
+use Rattle.std.specs.List.{flat_map}
+use Rattle.std.proofs.lemmas.List.{take_all}
 use Rattle.std.proofs.lemmas.Slice.{overwrites}
+use Rattle.aes3_frame.specs.Files.{word_bytes}
 use Rattle.aes3_frame.proofs.Files.{bytes-word}
 use Rattle.aes3_block.proofs.file_out.bytes_of_words.Goals as goal
 
@@ -11,3 +14,11 @@ loop-i-preserved c = record {
       ∙ c.to_le_bytes.ensures);
   len = search (rules, overwrites);
 }
+
+pub returns-clause-bytes : goal.returns-clause-bytes
+returns-clause-bytes c =
+    let i = c.loop-i.i in
+    let len = c.loop-i.invariant.len in
+    let told = c.told-words in
+    sym (take_all (4 * i) c.loop-i.bytes (omega (arith, len))) ∙ c.loop-i.invariant.bytes
+    ∙ ap (flat_map word_bytes) (take_all i c.args.words.now (omega (arith, told)))

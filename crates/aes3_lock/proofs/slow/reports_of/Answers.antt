@@ -1,5 +1,6 @@
 use Rattle.std.proofs.Common.{◌+◌, ◌++◌, drop, sym, ap, ◌∙◌, arith, append-nil}
 use Rattle.std.specs.Prelude.{option_to_list}
+use Rattle.std.proofs.lemmas.List.{drop_all}
 use Rattle.aes3_lock.specs.Reports.{reports_from}
 use Rattle.aes3_lock.proofs.OnePlace.{reports-none, reports-more}
 use Rattle.aes3_lock.proofs.slow.reports_of.Goals as goal
@@ -21,3 +22,10 @@ loop-at-preserved c =
                 ∙ sym (ap (λ r. c.loop-at.found.items ++ option_to_list r) w.in_default.is)
           ]) ∙ more;
     }
+
+pub returns : goal.returns
+returns c =
+    let found = c.loop-at.found.items in
+    sym (append-nil found)
+    ∙ ap (λ cells. found ++ reports_from c.loop-at.at cells)
+    (sym (drop_all c.loop-at.at c.args.cells.now (omega arith))) ∙ c.loop-at.invariant.found

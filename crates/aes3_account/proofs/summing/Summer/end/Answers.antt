@@ -3,10 +3,29 @@ use Rattle.std.proofs.lemmas.Result.{err_from_is_err_and}
 use Rattle.aes3_cell.proofs.Growing.{grew-is, grew-join, front-is, front-join, front-more}
 use Rattle.aes3_account.specs.Watching.{event_lines, is_locked, loss_events, up_to}
 use Rattle.aes3_lines.specs.declared.event.Event.TheVariants.{End}
-use Rattle.aes3_account.specs.Sums.{summed_by}
+use Rattle.aes3_account.specs.Sums.{go_to, last_sum, notice_lines, summed_by}
 use Rattle.aes3_account.proofs.EventWrites.{put-one}
 use Rattle.aes3_account.proofs.Sums.{all-lines, end-known}
 use Rattle.aes3_account.proofs.summing.Summer.end.Goals as goal
+
+pub returns-in_err-go_to-clause-wrote : goal.returns-in_err-go_to-clause-wrote
+returns-in_err-go_to-clause-wrote g c =
+    let k = c.args.self.now in
+    let n = c.args.seen in
+    let u = summed_by k.watcher.state k.from k.place k.figures in
+    let v = go_to k.every u n in
+    let told = loss_events v.watched n ++ End n (is_locked (up_to v.watched n)) ∷ [] in
+    let p = err_from_is_err_and c.from_residual.result c.from_residual.ensures.1 in
+    let f = c.in_err-go_to.ensures.wrote.err in
+    rw p.1 (record {
+      grew = tt;
+      count = tt;
+      err = (
+        f.0,
+        front-is (all-lines k.watcher.style k.every u v n told refl refl)
+            (front-more f.1 (notice_lines k.watcher.style (last_sum v n) ++ event_lines k.watcher.style told)),
+      );
+    })
 
 pub returns-in_err-tell_last-clause-wrote : goal.returns-in_err-tell_last-clause-wrote
 returns-in_err-tell_last-clause-wrote g c =

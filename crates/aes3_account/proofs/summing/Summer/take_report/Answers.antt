@@ -1,9 +1,9 @@
 use Rattle.std.proofs.Common.{◌+◌, ap, ap₂, ◌∙◌, refl}
 use Rattle.std.proofs.lemmas.Result.{err_from_is_err_and}
-use Rattle.aes3_cell.proofs.Growing.{grew-is, grew-join, front-is, front-join}
+use Rattle.aes3_cell.proofs.Growing.{grew-is, grew-join, front-is, front-join, front-more}
 use Rattle.aes3_lock.specs.Following.{report_in}
-use Rattle.aes3_account.specs.Watching.{event_lines}
-use Rattle.aes3_account.specs.Sums.{summed_by}
+use Rattle.aes3_account.specs.Watching.{event_lines, told_events}
+use Rattle.aes3_account.specs.Sums.{go_to, summed_by}
 use Rattle.aes3_account.proofs.EventWrites.{put-one}
 use Rattle.aes3_account.proofs.Sums.{kept-go, report-lines}
 use Rattle.aes3_account.proofs.summing.Summer.take_report.Goals as goal
@@ -15,6 +15,25 @@ take_report-requires-clause-kept g c =
     kept-go k.every (summed_by k.watcher.state k.from k.place k.figures)
     (summed_by n.watcher.state n.from n.place n.figures) c.place_in.result k.watcher.lasts n.watcher.lasts
     c.in_ok-go_to.ensures.state c.go_to.ensures.lasts c.requires.kept
+
+pub returns-in_err-go_to-clause-wrote : goal.returns-in_err-go_to-clause-wrote
+returns-in_err-go_to-clause-wrote g c =
+    let k = c.args.self.now in
+    let x = report_in c.args.lock.now c.args.ending in
+    let u = summed_by k.watcher.state k.from k.place k.figures in
+    let v = go_to k.every u c.place_in.result in
+    let told = told_events v.watched x in
+    let p = err_from_is_err_and c.from_residual.result c.from_residual.ensures.1 in
+    let f = c.in_err-go_to.ensures.wrote.err in
+    rw p.1 (record {
+      grew = tt;
+      count = tt;
+      err = (
+        f.0,
+        front-is (report-lines k.watcher.style k.every u v x c.place_in.result told c.place_in.ensures refl refl)
+            (front-more f.1 (event_lines k.watcher.style told)),
+      );
+    })
 
 pub returns-in_err-put_events-clause-wrote : goal.returns-in_err-put_events-clause-wrote
 returns-in_err-put_events-clause-wrote g c =

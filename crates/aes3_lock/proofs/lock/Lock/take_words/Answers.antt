@@ -39,6 +39,16 @@ loop-taken-preserved-then-eights-gt0 c =
 none-taken : (c : List Level) (words : List ℕ) (n : ℕ) → n ≡ 0 → c ++ flat_map word_cells (take n words) ≡ c
 none-taken c words n e = ap (λ k. c ++ flat_map word_cells (take k words)) e ∙ no-words c words
 
+pub returns-else-take_word-clause-follows : goal.returns-else-take_word-clause-follows
+returns-else-take_word-clause-follows c = λ l f.
+    let words = c.args.words.now in
+    let at = c.loop-taken.taken in
+    let zero : c.take_eights-eights.result ≡ 0 = omega arith in
+    subst (λ (k : LockState). Follows k (l ++ flat_map word_cells (take at words)))
+    (sym (c.take_word.ensures.same c.if-take_word.false))
+    (subst (λ cells. Follows c.take_eights-eights.new.self cells) (none-taken _ _ _ zero)
+    (c.take_eights-eights.ensures.follows _ (c.loop-taken.invariant.follows l f)))
+
 pub loop-taken-preserved : goal.loop-taken-preserved
 loop-taken-preserved c =
     let i = c.loop-taken.invariant in

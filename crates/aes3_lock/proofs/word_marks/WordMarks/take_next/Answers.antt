@@ -1,4 +1,4 @@
-use Rattle.std.proofs.Common.{ℕ, List, ◌+◌, ◌-◌, ◌∷◌, ◌++◌, ap, ap₂, ◌∙◌, sym, arith}
+use Rattle.std.proofs.Common.{ℕ, List, ◌+◌, ◌-◌, ◌∷◌, ◌++◌, refl, ap, ap₂, ◌∙◌, sym, arith}
 use Rattle.std.specs.Prelude.{option_to_list, option_map}
 use Rattle.aes3_level.specs.declared.level.Level.{Level}
 use Rattle.aes3_slot.specs.declared.mark.Mark.{Mark}
@@ -33,3 +33,9 @@ returns-clause-next c =
     (sym c.level_before.ensures)
     ∙ ap (λ k. led (s.seen + k - 7) c.mark_at.result c.level_before.result (marks_left s.seen b w.result))
     (sym c.from.ensures)
+
+pub returns-then-self-eq0-clause-next : goal.returns-then-self-eq0-clause-next
+returns-then-self-eq0-clause-next c = refl
+
+pub returns-clause-end : goal.returns-clause-end
+returns-clause-end c = λ e. cc
