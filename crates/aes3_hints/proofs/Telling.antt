@@ -1,8 +1,15 @@
 -- Texts told one behind the other.
-use Rattle.std.proofs.Common.{◌≡◌, ◌≤◌, ℕ, Bool, IsTrue, List, [], ◌∷◌, Option, arith, codes, subst, sym}
+use Rattle.std.proofs.Common.{◌≡◌, ◌≤◌, ℕ, Bool, IsTrue, List, [], ◌∷◌, ◌++◌, Option, arith, codes, subst, sym}
 use Rattle.aes3_cell.specs.Ends.{Grew}
-use Rattle.aes3_cell.proofs.Growing.{grew-join}
+use Rattle.aes3_cell.proofs.Growing.{grew-is, grew-join}
 use Rattle.aes3_hints.specs.Sentences.{ExplainedBy}
+
+-- two texts, where neither of them failed
+pub two-told : {b₀ b₁ : Bool} {t₀ t₁ t₂ : Option (List ℕ)} {f₁ f₂ : ℕ} {x y x' y' : List ℕ}
+    → (f₁ ≡ 0 → IsTrue b₀ → Grew t₀ t₁ x) → (f₂ ≡ 0 → IsTrue b₁ → Grew t₁ t₂ y) → b₁ ≡ b₀ → f₁ ≤ f₂
+    → x ≡ x' → y ≡ y' → IsTrue b₀ → f₂ ≡ 0 → Grew t₀ t₂ (x' ++ y')
+two-told g₁ g₂ e l p q on quiet =
+    grew-join (grew-is p (g₁ (omega arith) on)) (grew-is q (g₂ quiet (subst (λ (b : Bool). IsTrue b) (sym e) on)))
 
 -- a sentence in four parts, where none of them failed
 pub four-told : {b₀ b₁ b₂ b₃ : Bool} {t₀ t₁ t₂ t₃ t₄ : Option (List ℕ)} {f₁ f₂ f₃ f₄ : ℕ} {what advice : List ℕ}

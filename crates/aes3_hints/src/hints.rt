@@ -1,6 +1,6 @@
 //! Sentences for whoever sits at a terminal.
 
-ghost use Rattle.std.specs.Prelude.{◌≡◌, ◌≤◌, IfSome, IsFalse, IsTrue, None, Some, not};
+ghost use Rattle.std.specs.Prelude.{◌≡◌, ◌<◌, ◌≤◌, IfSome, IsFalse, IsTrue, None, Some, length, not};
 ghost use Rattle.aes3_cell.specs.Ends.{Grew};
 ghost use Rattle.aes3_cell.specs.Refusals.{number_of};
 ghost use Rattle.aes3_arguments.specs.Explained.{advice_of};
@@ -226,7 +226,7 @@ fn refused_text(alloc: Global, error: RunError, place: Option<Place<'_>>) -> Opt
 
 /// Whether the words say that the first cell of each octet stands in its lowest bit.
 fn is_lsb_first(words: &[&str]) -> bool {
-    words.iter().any(|word| *word == "--lsb-first")
+    words.contains(&"--lsb-first")
 }
 
 /// What to do where the first bytes of an input look like another kind than this job takes.
@@ -261,27 +261,41 @@ fn place_of<S: Source + Drop>(
 ) -> Option<Place<'static>> {
     match error {
         RunError::BadCell { at } => Some(Place::Byte(source.position(at)?)),
-        RunError::BadStatusText => {
-            let mut names = ["--status1", "--status2"].into_iter();
-            Some(Place::Option(names.find(|name| has_bad_status(words, name))?))
-        }
+        RunError::BadStatusText => Some(Place::Option(bad_status_option(words)?)),
         _ => None,
+    }
+}
+
+/// The option that stands among the words with a text that is no channel status.
+fn bad_status_option(words: &[&str]) -> Option<&'static str> {
+    if has_bad_status(words, "--status1") {
+        Some("--status1")
+    } else if has_bad_status(words, "--status2") {
+        Some("--status2")
+    } else {
+        None
     }
 }
 
 /// Whether the option stands among the words with a text that is no channel status.
 fn has_bad_status(words: &[&str], name: &str) -> bool {
-    words.iter().enumerate().any(|(at, word)| {
-        match word.strip_prefix(name) {
-            Some("") => words
-                .get(at + 1)
-                .is_some_and(|text| status_of_text(text).is_none()),
-            Some(rest) => rest
-                .strip_prefix("=")
-                .is_some_and(|text| status_of_text(text).is_none()),
-            None => false,
+    for at in 0..words.len() {
+        match text_of_option(words, at, name) {
+            Some(text) if status_of_text(text).is_none() => return true,
+            _ => {}
         }
-    })
+    }
+    false
+}
+
+/// The text of the option, where the word of this number is it: the rest of that word or the next.
+fn text_of_option<'a>(words: &[&'a str], at: usize, name: &str) -> Option<&'a str>
+    requires { at < length words.now }
+{
+    match words[at].strip_prefix(name)? {
+        "" => words.get(at + 1).copied(),
+        rest => rest.strip_prefix("="),
+    }
 }
 
 /// Whether the job writes packed cells.

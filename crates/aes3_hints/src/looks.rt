@@ -83,7 +83,12 @@ fn is_text(byte: u8) -> bool
 
 /// Whether every whole word has its four lowest bits clear.
 fn are_block_words(first: &[u8]) -> bool {
-    first.len() >= 4 && first.iter().step_by(4).all(|byte| *byte % 16 == 0)
+    for byte in first.iter().step_by(4) {
+        if *byte % 16 != 0 {
+            return false;
+        }
+    }
+    first.len() >= 4
 }
 
 /// Whether they are the head of a file of gzip, xz or zstd.
@@ -131,15 +136,37 @@ fn looks_by(first: &[u8], is_block: bool) -> Looks
 /// no more than three.
 fn has_long_run(first: u8, second: u8) -> bool {
     let bits = u16::from(first) << 8 | u16::from(second);
-    (0..13).any(|at| matches!(bits >> at & 15, 0 | 15))
+    for at in 0u32..13 {
+        if matches!(bits >> at & 15, 0 | 15) {
+            return true;
+        }
+    }
+    false
+}
+
+/// Whether two of the octets that follow one another have such a run.
+fn have_long_run(octets: &[u8]) -> bool {
+    for at in 1..octets.len() {
+        if has_long_run(octets[at - 1], octets[at]) {
+            return true;
+        }
+    }
+    false
+}
+
+/// Whether two of them do with the lowest bit of each first.
+fn have_long_run_turned(octets: &[u8]) -> bool {
+    for at in 1..octets.len() {
+        if has_long_run(octets[at - 1].reverse_bits(), octets[at].reverse_bits()) {
+            return true;
+        }
+    }
+    false
 }
 
 /// Whether the octets can be packed cells only where the first cell stands in the lowest bit.
 pub(crate) fn are_turned(first: &[u8]) -> bool {
-    let pairs = || first.iter().zip(first.iter().skip(1));
-    first.len() > 1
-        && pairs().any(|(a, b)| has_long_run(*a, *b))
-        && !pairs().any(|(a, b)| has_long_run(a.reverse_bits(), b.reverse_bits()))
+    have_long_run(first) && !have_long_run_turned(first)
 }
 
 /// What to do about this refusal of an input that looks so, if its looks tell.

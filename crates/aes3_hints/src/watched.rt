@@ -90,7 +90,7 @@ impl<S: Source + Drop> Watched<S> {
         ensures position { IfSome result (λ position. position
             ≡ fold behind self.now.start (take (at - self.now.before) self.now.piece.items)) }
     {
-        let place = usize::try_from(at.checked_sub(self.before)?).ok()?;
+        let place = at.checked_sub(self.before)? as usize;
         let front = self.piece.get(..place)?;
         Some(self.start.behind_all(front))
     }

@@ -101,8 +101,9 @@ impl Line {
         ensures field { self.new ≡ self.old ++ field_text name.now (map shown characters) }
         ensures len { length self.new ≤ length self.old + FIELD_LEN }
     {
+        let [first, second, third, last] = characters;
         self.field(name);
-        self.bytes(&characters.map(shown));
+        self.bytes(&[shown(first), shown(second), shown(third), shown(last)]);
     }
 
     /// Appends a field with the four lowest bits of a number as digits, the lowest first.

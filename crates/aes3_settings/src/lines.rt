@@ -1,7 +1,7 @@
 //! Which reports get a line.
 
 /// Which reports get a line.
-#[derive(Clone, Copy, PartialEq, Eq, Debug)]
+#[derive(Clone, Copy, PartialEq, Eq)]
 pub enum Lines {
     /// All of them.
     All,
