@@ -1,37 +1,53 @@
 //! Where a block carries channel status, its samples, and block files read by words.
 
+use crate::status::with_byte;
 use aes3_block::{Block, BlockFile, Channel, FileFault, Frame, Subframe, put_block_samples};
 use aes3_cell::MemorySink;
-use std::test::Fail;
+use std::alloc::Global;
+
+/// Whether of all first payloads of a block that of one frame alone has a bit, the last but one, and
+/// no second payload has any.
+fn has_bit_in(block: &Block, frame: usize) -> bool {
+    for i in 0..192 {
+        let carried = block.frame(i);
+        let first = u32::from(i == frame) << 26;
+        if carried.first.payload() != first || carried.second.payload() != 0 {
+            return false;
+        }
+    }
+    true
+}
+
+/// Whether a channel status that has one bit is carried in this frame.
+fn is_carried_in(status: &[u8; 24], frame: usize) -> bool {
+    let mut block = Block::zero();
+    block.set_channel_status(Channel::First, status);
+    block.channel_status(Channel::First) == *status
+        && block.channel_status(Channel::Second) == [0; 24]
+        && has_bit_in(&block, frame)
+}
+
+/// A byte's number, its value, and the frame that carries its bit.
+const CARRIED: &[(usize, u8, usize)] = &[(0, 0x01, 0), (0, 0x80, 7), (1, 0x01, 8), (23, 0x80, 191)];
 
 #[test]
 fn frames_that_carry_a_bit(rt: HostRuntime) {
-    for (k, byte, frame) in [(0, 0x01, 0), (0, 0x80, 7), (1, 0x01, 8), (23, 0x80, 191)] {
-        let mut status = [0; 24];
-        status[k] = byte;
-        let mut block = Block::zero();
-        block.set_channel_status(Channel::First, &status);
-        assert!(rt; block.channel_status(Channel::First) == status);
-        assert!(rt; block.channel_status(Channel::Second) == [0; 24]);
-        for i in 0..192 {
-            let carried = block.frame(i);
-            let bits = (carried.first.payload(), carried.second.payload());
-            assert!(rt; bits == (u32::from(i == frame) << 26, 0));
-        }
+    for (k, byte, frame) in CARRIED {
+        assert!(rt; is_carried_in(&with_byte([0; 24], *k, *byte), *frame));
     }
 }
 
 /// A word with audio 1 and its parity bit.
-const WORD: [u8; 4] = [0x10, 0, 0, 0x80];
+const WORD: &[u8; 4] = &[0x10, 0, 0, 0x80];
 
 /// The same without the parity bit.
-const WRONG: [u8; 4] = [0x10, 0, 0, 0];
+const WRONG: &[u8; 4] = &[0x10, 0, 0, 0];
 
 /// A word's bytes one by one, as far as they are no fault: whether they end a block.
-fn by_bytes(file: &mut BlockFile, bytes: [u8; 4]) -> Result<bool, FileFault> {
+fn by_bytes(file: &mut BlockFile, bytes: &[u8; 4]) -> Result<bool, FileFault> {
     let mut block = false;
-    for byte in bytes {
-        if file.seen() < 1 << 20 && file.feed_byte(byte)?.is_some() {
+    for byte in bytes.iter() {
+        if file.seen() < 1 << 20 && file.feed_byte(*byte)?.is_some() {
             block = true;
         }
     }
@@ -43,47 +59,66 @@ fn is_taken(file: &mut BlockFile, bytes: &[u8; 4]) -> bool {
     file.seen() < 1 << 20 && file.feed_word(bytes)
 }
 
+/// Whether all words of a block but the last are taken at once, and that one byte by byte.
+fn takes_a_block(file: &mut BlockFile) -> bool {
+    for _ in 0..383 {
+        if !is_taken(file, WORD) {
+            return false;
+        }
+    }
+    !is_taken(file, WORD) && by_bytes(file, WORD) == Ok(true)
+}
+
+/// Whether a word behind a block that is not lawful is left to be refused byte by byte, and none is
+/// taken behind it.
+fn refuses_a_word(file: &mut BlockFile) -> bool {
+    let fault = FileFault::BadParity { at: 384 };
+    let is_left = !is_taken(file, WRONG) && file.seen() == 1_536;
+    let is_refused = by_bytes(file, WRONG) == Err(fault) && file.end() == Err(fault);
+    is_left && is_refused && !is_taken(file, WORD)
+}
+
 #[test]
 fn words_of_a_file(rt: HostRuntime) {
     let mut file = BlockFile::new();
-    for _ in 0..383 {
-        assert!(rt; is_taken(&mut file, &WORD));
-    }
-    // The last word of a block and a word that is not lawful are left to be taken byte by byte.
-    assert!(rt; !is_taken(&mut file, &WORD) && by_bytes(&mut file, WORD) == Ok(true));
-    assert!(rt; !is_taken(&mut file, &WRONG) && file.seen() == 1_536);
-    let fault = FileFault::BadParity { at: 384 };
-    assert!(rt; by_bytes(&mut file, WRONG) == Err(fault) && file.end() == Err(fault));
-    assert!(rt; !is_taken(&mut file, &WORD));
+    assert!(rt; takes_a_block(&mut file) && refuses_a_word(&mut file));
+}
+
+/// Audio as its four low bits, as a sample of 20 bits and as one of 24.
+fn samples_of(audio: u32) -> Option<(u8, i32, i32)> {
+    let subframe = Subframe::try_new(audio, false, false, false)?;
+    Some((subframe.aux(), subframe.sample20(), subframe.signed24()))
 }
 
 #[test]
 fn samples_of_subframes(rt: HostRuntime) {
-    for (audio, samples) in [
-        (16_777_205, Some((5, -1, -11))),
-        (8_388_608, Some((0, -524_288, -8_388_608))),
-        (16_777_216, None),
-    ] {
-        let found = match Subframe::try_new(audio, false, false, false) {
-            Some(one) => Some((one.aux(), one.sample20(), one.signed24())),
-            None => None,
-        };
-        assert!(rt; found == samples, "{audio}");
-    }
+    assert!(rt; samples_of(16_777_205) == Some((5, -1, -11)));
+    assert!(rt; samples_of(8_388_608) == Some((0, -524_288, -8_388_608)));
+    assert!(rt; samples_of(16_777_216).is_none());
+}
+
+/// A block of zeros but for the last frame.
+fn with_last_frame() -> Option<Block> {
+    let mut block = Block::zero();
+    let frame = Frame {
+        first: Subframe::try_new(0x12_3456, true, true, true)?,
+        second: Subframe::try_new(0x80_0001, false, false, false)?,
+    };
+    block.set_frame(191, frame);
+    Some(block)
+}
+
+/// Whether the samples of a block are zeros but for the last two, which are these.
+fn ends_in_samples(alloc: Global, block: &Block, last: &[u8; 8]) -> bool {
+    let mut sink = MemorySink::new(alloc);
+    let mut samples = [0; 1_536];
+    samples[1_528..].copy_from_slice(last);
+    put_block_samples(block, &mut sink).is_ok() && sink.bytes() == samples.as_slice()
 }
 
 #[test]
-fn samples_of_the_last_frame(rt: HostRuntime) -> Result<(), Fail> {
-    let mut block = Block::zero();
-    let frame = Frame {
-        first: Subframe::try_new(0x12_3456, true, true, true).ok_or("24 bits")?,
-        second: Subframe::try_new(0x80_0001, false, false, false).ok_or("24 bits")?,
-    };
-    block.set_frame(191, frame);
-    let mut sink = MemorySink::new(rt.alloc());
-    assert!(rt; put_block_samples(&block, &mut sink).is_ok());
-    let mut samples = [0; 1_536];
-    samples[1_528..].copy_from_slice(&[0, 0x56, 0x34, 0x12, 0, 0x01, 0, 0x80]);
-    assert!(rt; sink.bytes() == samples.as_slice());
-    Ok(())
+fn samples_of_the_last_frame(rt: HostRuntime) {
+    let block = with_last_frame().expect(&rt, "audio of 24 bits");
+    let last = [0, 0x56, 0x34, 0x12, 0, 0x01, 0, 0x80];
+    assert!(rt; ends_in_samples(rt.alloc(), &block, &last));
 }

@@ -7,7 +7,6 @@ use aes3_cell::Level;
 use aes3_lock::{Lock, Report};
 use aes3_slot::slots_cells;
 use std::alloc::{AllocError, Global};
-use std::process::Abort;
 
 /// The bits of the slots of 24 subframes, which the blocks have again and again.
 type Subframes = [u32; 24];
@@ -49,7 +48,7 @@ enum Damage {
 
 /// A block that is given: its place, and of a payload that is another one than it was the subframe
 /// and the bits.
-#[derive(Clone, Copy, PartialEq, Eq, Debug)]
+#[derive(Clone, Copy, PartialEq, Eq)]
 struct Given {
     at: u64,
     other: Option<(usize, u32)>,
@@ -108,26 +107,44 @@ fn push(lock: &mut Lock, cell: Level, subframes: &Subframes, found: &mut Found) 
     }
 }
 
+/// The level of cell `k` of a word.
+fn level_of(word: u64, k: usize) -> Level
+    requires { k < 64 }
+{
+    if (word >> k) & 1 == 1 {
+        Level::High
+    } else {
+        Level::Low
+    }
+}
+
+/// Takes the cells of a word one by one, with some damage.
+fn push_each(
+    lock: &mut Lock,
+    i: usize,
+    word: u64,
+    subframes: &Subframes,
+    damage: Damage,
+    found: &mut Found,
+) {
+    for k in 0..64_usize {
+        let (first, second) = damaged(damage, i, k, level_of(word, k));
+        if let Some(cell) = first {
+            push(lock, cell, subframes, found);
+        }
+        if let Some(cell) = second {
+            push(lock, cell, subframes, found);
+        }
+    }
+}
+
 /// The blocks that the lock gives of the subframes three times, with some damage.
 fn blocks_of(words: &[u64], subframes: &Subframes, damage: Damage) -> [Option<Given>; ROOM] {
     let mut found = Found::new();
     let mut lock = Lock::new();
     for (i, word) in words.iter().enumerate() {
         if is_damaged(damage, i) || lock.seen() >= MANY || !lock.take_word(*word) {
-            for k in 0..64_u32 {
-                let cell = if (*word >> k) & 1 == 1 {
-                    Level::High
-                } else {
-                    Level::Low
-                };
-                let (first, second) = damaged(damage, i, k, cell);
-                if let Some(cell) = first {
-                    push(&mut lock, cell, subframes, &mut found);
-                }
-                if let Some(cell) = second {
-                    push(&mut lock, cell, subframes, &mut found);
-                }
-            }
+            push_each(&mut lock, i, *word, subframes, damage, &mut found);
         }
     }
     if let Some(Report::Whole { at, before, block }) = lock.finish() {
@@ -139,32 +156,43 @@ fn blocks_of(words: &[u64], subframes: &Subframes, damage: Damage) -> [Option<Gi
 /// Whether a word of cells has some damage.
 fn is_damaged(damage: Damage, word: usize) -> bool {
     match damage {
-        Damage::Changed(places) => {
-            places[0] / 64 == word
-                || places[1] / 64 == word
-                || places[2] / 64 == word
-                || places[3] / 64 == word
-        }
-        Damage::Lost(place) => place / 64 == word,
-        Damage::Inserted(place, _) => place / 64 == word,
+        Damage::Changed(places) => is_one_in(&places, word),
+        Damage::Lost(place) | Damage::Inserted(place, _) => place / 64 == word,
     }
 }
 
-/// What stands in place of cell `k` of a word.
-fn damaged(damage: Damage, word: usize, k: u32, cell: Level) -> (Option<Level>, Option<Level>) {
-    let is_at = |place: usize| place / 64 == word && place % 64 == k as usize;
-    match damage {
-        Damage::Changed(places) => {
-            let changed = is_at(places[0])
-                || is_at(places[1])
-                || is_at(places[2])
-                || is_at(places[3]);
-            (Some(if changed { cell.flip() } else { cell }), None)
+/// Whether one of these places is in a word.
+fn is_one_in(places: &[usize; 4], word: usize) -> bool {
+    for place in places.iter() {
+        if *place / 64 == word {
+            return true;
         }
-        Damage::Lost(place) if is_at(place) => (None, None),
-        Damage::Inserted(place, level) if is_at(place) => (Some(level), Some(cell)),
+    }
+    false
+}
+
+/// What stands in place of cell `k` of a word.
+fn damaged(damage: Damage, word: usize, k: usize, cell: Level) -> (Option<Level>, Option<Level>) {
+    match damage {
+        Damage::Changed(places) => (Some(changed(&places, word, k, cell)), None),
+        Damage::Lost(place) if is_at(place, word, k) => (None, None),
+        Damage::Inserted(place, level) if is_at(place, word, k) => (Some(level), Some(cell)),
         _ => (Some(cell), None),
     }
+}
+
+fn is_at(place: usize, word: usize, k: usize) -> bool {
+    place / 64 == word && place % 64 == k
+}
+
+/// The cell, changed where one of these places is its own.
+fn changed(places: &[usize; 4], word: usize, k: usize, cell: Level) -> Level {
+    for place in places.iter() {
+        if is_at(*place, word, k) {
+            return cell.flip();
+        }
+    }
+    cell
 }
 
 /// The block that begins at a place as it was, or with other bits in one payload.
@@ -231,7 +259,8 @@ fn left_of(damage: Damage, start: usize) -> Option<Given>
     }
 }
 
-fn expect(rt: &impl Abort, words: &[u64], subframes: &Subframes, damage: Damage) {
+/// Whether the lock gives what is left.
+fn is_left(words: &[u64], subframes: &Subframes, damage: Damage) -> bool {
     let mut expected = Found::new();
     for start in STARTS {
         if start <= 50_000
@@ -240,7 +269,7 @@ fn expect(rt: &impl Abort, words: &[u64], subframes: &Subframes, damage: Damage)
             keep(&mut expected, block);
         }
     }
-    assert!(rt; blocks_of(words, subframes, damage) == expected.blocks);
+    blocks_of(words, subframes, damage) == expected.blocks
 }
 
 /// The words of the cells of three blocks.
@@ -255,25 +284,24 @@ fn three_blocks(alloc: Global, subframes: &Subframes) -> Result<Vec<u64>, AllocE
     Ok(words)
 }
 
-fn expect_each_way(rt: &impl Abort, words: &[u64], subframes: &Subframes, place: usize) {
-    expect(
-        rt,
-        words,
-        subframes,
-        Damage::Changed([place, NOWHERE, NOWHERE, NOWHERE]),
-    );
-    expect(rt, words, subframes, Damage::Lost(place));
-    expect(rt, words, subframes, Damage::Inserted(place, Level::Low));
-    expect(rt, words, subframes, Damage::Inserted(place, Level::High));
+fn is_left_each_way(words: &[u64], subframes: &Subframes, place: usize) -> bool {
+    let changed = Damage::Changed([place, NOWHERE, NOWHERE, NOWHERE]);
+    is_left(words, subframes, changed)
+        && is_left(words, subframes, Damage::Lost(place))
+        && is_left(words, subframes, Damage::Inserted(place, Level::Low))
+        && is_left(words, subframes, Damage::Inserted(place, Level::High))
 }
 
 /// Every cell of the subframes before and behind the borders of the second block.
-fn around_borders(rt: &impl Abort, words: &[u64], subframes: &Subframes) {
+fn is_left_around_borders(words: &[u64], subframes: &Subframes) -> bool {
     for first in [24_512_usize, 24_576, 49_088, 49_152] {
         for k in 0..65 {
-            expect_each_way(rt, words, subframes, first + k);
+            if !is_left_each_way(words, subframes, first + k) {
+                return false;
+            }
         }
     }
+    true
 }
 
 /// A place among the cells by a number.
@@ -290,8 +318,17 @@ fn next(number: u64) -> u64 {
     number ^ (number << 17)
 }
 
+/// A cell, a pair that rises and three that rise.
+fn is_left_of_three(words: &[u64], subframes: &Subframes, a: usize, b: usize, c: usize) -> bool {
+    let pair = Damage::Changed([a, b, NOWHERE, NOWHERE]);
+    let three = Damage::Changed([a, b, c, NOWHERE]);
+    is_left_each_way(words, subframes, c)
+        && (a >= b || is_left(words, subframes, pair))
+        && (a >= b || b >= c || is_left(words, subframes, three))
+}
+
 /// Pairs and triples by a row of numbers, every second time next to each other.
-fn at_random(rt: &impl Abort, words: &[u64], subframes: &Subframes) {
+fn is_left_at_random(words: &[u64], subframes: &Subframes) -> bool {
     let mut number = 0x9E37_79B9;
     for round in 0..1_000 {
         number = next(number);
@@ -308,31 +345,21 @@ fn at_random(rt: &impl Abort, words: &[u64], subframes: &Subframes) {
         } else {
             place_of(number)
         };
-        if a < b {
-            expect(
-                rt,
-                words,
-                subframes,
-                Damage::Changed([a, b, NOWHERE, NOWHERE]),
-            );
-            if b < c {
-                expect(rt, words, subframes, Damage::Changed([a, b, c, NOWHERE]));
-            }
+        if !is_left_of_three(words, subframes, a, b, c) {
+            return false;
         }
-        expect_each_way(rt, words, subframes, c);
     }
+    true
 }
 
 #[test]
 fn zero_blocks_damaged(rt: HostRuntime) {
     let words = three_blocks(rt.alloc(), &ZEROS).expect(&rt, "memory");
-    around_borders(&rt, &words, &ZEROS);
-    at_random(&rt, &words, &ZEROS);
+    assert!(rt; is_left_around_borders(&words, &ZEROS) && is_left_at_random(&words, &ZEROS));
 }
 
 #[test]
 fn blocks_of_speech_damaged(rt: HostRuntime) {
     let words = three_blocks(rt.alloc(), &SPEECH).expect(&rt, "memory");
-    around_borders(&rt, &words, &SPEECH);
-    at_random(&rt, &words, &SPEECH);
+    assert!(rt; is_left_around_borders(&words, &SPEECH) && is_left_at_random(&words, &SPEECH));
 }

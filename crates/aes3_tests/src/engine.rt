@@ -9,7 +9,6 @@ use aes3_cell::{
 use aes3_engine::cut;
 use std::alloc::{AllocError, Global};
 use std::io::BufWriter;
-use std::test::Fail;
 
 /// More bytes than a test has.
 const MANY: u64 = 1 << 20;
@@ -20,70 +19,73 @@ const ALL: u64 = u64::MAX;
 /// How many bytes a block has as cell text.
 const BLOCK_TEXT: usize = 24_960;
 
-/// 28 slots of bit 0.
-const ZEROS: &[u8] = b"11001100110011001100110011001100110011001100110011001100\n";
+/// A preamble and 28 slots of bit 0.
+const FIRST: &[u8; 65] = b"1110100011001100110011001100110011001100110011001100110011001100\n";
+
+const EVEN: &[u8; 65] = b"1110001011001100110011001100110011001100110011001100110011001100\n";
+
+const ODD: &[u8; 65] = b"1110010011001100110011001100110011001100110011001100110011001100\n";
+
+/// The subframe of zero blocks with this number as cell text.
+fn line_of(number: usize) -> &'static [u8; 65] {
+    match (number % 384, number % 2) {
+        (0, _) => FIRST,
+        (_, 0) => EVEN,
+        _ => ODD,
+    }
+}
+
+/// The same as packed cells.
+fn octets_of(number: usize) -> &'static [u8; 8] {
+    match (number % 384, number % 2) {
+        (0, _) => b"\xE8\xCC\xCC\xCC\xCC\xCC\xCC\xCC",
+        (_, 0) => b"\xE2\xCC\xCC\xCC\xCC\xCC\xCC\xCC",
+        _ => b"\xE4\xCC\xCC\xCC\xCC\xCC\xCC\xCC",
+    }
+}
 
 /// The first so many subframes of zero blocks as cell text, for each number.
 fn text_of(alloc: Global, fronts: &[usize]) -> Result<Vec<u8>, AllocError> {
     let mut text = Vec::new(alloc);
     for lines in fronts {
-        add_text(&mut text, *lines)?;
+        for number in 0..*lines {
+            text.extend_from_slice(line_of(number))?;
+        }
     }
     Ok(text)
 }
 
-fn add_text(text: &mut Vec<u8>, lines: usize) -> Result<(), AllocError> {
-    for number in 0..lines {
-        let preamble: &[u8] = match (number % 384, number % 2) {
-            (0, _) => b"11101000",
-            (_, 1) => b"11100100",
-            _ => b"11100010",
-        };
-        text.extend_from_slice(preamble)?;
-        text.extend_from_slice(ZEROS)?;
-    }
-    Ok(())
-}
-
-/// So many subframes of zero blocks as packed cells, and then these octets.
-fn packed_of(alloc: Global, lines: usize, end: &[u8]) -> Result<Vec<u8>, AllocError> {
+/// So many subframes of zero blocks as packed cells, and the octet behind them.
+fn packed_of(alloc: Global, lines: usize) -> Result<Vec<u8>, AllocError> {
     let mut octets = Vec::new(alloc);
     for number in 0..lines {
-        octets.push(match (number % 384, number % 2) {
-            (0, _) => 0xE8,
-            (_, 1) => 0xE4,
-            _ => 0xE2,
-        })?;
-        octets.extend_from_slice(&[0xCC; 7])?;
+        octets.extend_from_slice(octets_of(number))?;
     }
-    octets.extend_from_slice(end)?;
+    octets.push(0)?;
     Ok(octets)
 }
 
-/// The first cells of a text, in lines of so many, with one separator behind every eight and
-/// another behind every line.
-fn in_lines(
-    alloc: Global,
-    text: &[u8],
-    cells: usize,
-    len: usize,
-    between: &[u8],
-    end: &[u8],
-) -> Result<Vec<u8>, AllocError>
-    requires { 0 < len }
-{
+/// How many cells there are, how many in a line, what stands behind every eighth and behind a line,
+/// and how many bytes are read at once.
+type Layout = (usize, usize, &'static [u8], &'static [u8], usize);
+
+/// What stands behind a cell.
+fn behind(layout: &Layout, number: usize) -> &'static [u8] {
+    if number % layout.1.max(1) == layout.1.max(1) - 1 {
+        layout.3
+    } else if number % 8 == 7 {
+        layout.2
+    } else {
+        b""
+    }
+}
+
+/// The first cells of zero blocks in lines.
+fn in_lines(alloc: Global, layout: &Layout) -> Result<Vec<u8>, AllocError> {
     let mut lines = Vec::new(alloc);
-    let mut written = 0;
-    for byte in text.iter() {
-        if *byte != b'\n' && written < cells {
-            lines.push(*byte)?;
-            written += 1;
-            if written % len == 0 {
-                lines.extend_from_slice(end)?;
-            } else if written % 8 == 0 {
-                lines.extend_from_slice(between)?;
-            }
-        }
+    for number in 0..layout.0 {
+        lines.push(line_of(number / 64)[number % 64])?;
+        lines.extend_from_slice(behind(layout, number))?;
     }
     Ok(lines)
 }
@@ -105,78 +107,106 @@ fn blocks_within(
     (answer, sink)
 }
 
-#[test]
-fn lines_of_any_length_change_no_output(rt: HostRuntime) -> Result<(), Fail> {
-    let one = text_of(rt.alloc(), &[384])?;
-    let more = text_of(rt.alloc(), &[384, 20])?;
-    let rows: [(usize, usize, &[u8], &[u8], usize); 9] = [
-        (25_856, 64, b"", b"\n", 4_096),
-        (25_793, 64, b"", b"\n", 4_096),
-        (25_856, 63, b"", b"\n", 4_096),
-        (25_793, 30_000, b"", b"\n", 4_096),
-        (25_793, 64, b"", b"\r\n", 1_000),
-        (25_856, 64, b" ", b"\r\n", 4_096),
-        (25_793, 64, b" ", b"\r\n", 77),
-        (25_793, 65, b"  ", b" \n", 4_096),
-        (25_856, 1, b"", b"\n", 4_096),
-    ];
-    for (cells, len, between, end, piece) in rows {
-        assert!(rt; len > 0 && piece > 0);
-        let text = in_lines(rt.alloc(), &more, cells, len, between, end)?;
-        let (answer, sink) = blocks_within(rt.alloc(), &text, piece, MANY, Form::Text);
-        let counted = matches!(answer, Ok(counts) if counts.cells == cells as u64);
-        assert!(rt;
-            counted && sink.bytes() == one.as_slice(),
-            "{cells} in lines of {len}"
-        );
-    }
-    Ok(())
+/// The first block and more behind it.
+const LAYOUTS: &[Layout] = &[
+    (25_856, 64, b"", b"\n", 4_096),
+    (25_793, 64, b"", b"\n", 4_096),
+    (25_856, 63, b"", b"\n", 4_096),
+    (25_793, 30_000, b"", b"\n", 4_096),
+    (25_793, 64, b"", b"\r\n", 1_000),
+    (25_856, 64, b" ", b"\r\n", 4_096),
+    (25_793, 64, b" ", b"\r\n", 77),
+    (25_793, 65, b"  ", b" \n", 4_096),
+    (25_856, 1, b"", b"\n", 4_096),
+];
+
+/// Whether the first block is cut out of cells in lines, and each cell counted.
+fn is_first_block_cut(alloc: Global, layout: &Layout) -> Result<bool, AllocError> {
+    let text = in_lines(alloc, layout)?;
+    let block = text_of(alloc, &[384])?;
+    let (answer, sink) = blocks_within(alloc, &text, layout.4.max(1), MANY, Form::Text);
+    let cells = answer.is_ok_and(|counts| counts.cells == layout.0 as u64);
+    Ok(cells && sink.bytes() == block.as_slice())
 }
 
 #[test]
-fn what_is_decided_leaves_before_the_next_read(rt: HostRuntime) -> Result<(), Fail> {
-    let two = text_of(rt.alloc(), &[384, 384])?;
-    for (call, written) in [(385, 0), (386, BLOCK_TEXT), (769, BLOCK_TEXT)] {
-        let mut output = BufWriter::with_capacity(rt.alloc(), 1 << 16, Vec::new(rt.alloc()))?;
-        let mut source = FailingSource::new(&two, 65, call);
-        let mut sink = StdSink::new(&mut output);
-        let answer = cut(&mut source, &mut sink, MANY, Form::Text, Form::Text, 0, ALL);
-        assert!(rt; answer == Err(RunError::Read), "read {call}");
-        assert!(rt; output.get_ref().len() == written, "read {call}");
+fn lines_of_any_length_change_no_output(rt: HostRuntime) {
+    for layout in LAYOUTS {
+        assert!(rt;
+            is_first_block_cut(rt.alloc(), layout) == Ok(true),
+            "{} in lines of {}",
+            layout.0,
+            layout.1
+        );
     }
-    Ok(())
+}
+
+/// How many bytes have left where this read of two blocks fails, of a line each.
+fn left_at_read(alloc: Global, call: u64) -> Option<usize>
+    requires { 0 < call }
+{
+    let two = text_of(alloc, &[384, 384]).ok()?;
+    let mut output = BufWriter::with_capacity(alloc, 1 << 16, Vec::new(alloc)).ok()?;
+    let mut source = FailingSource::new(&two, 65, call);
+    let mut sink = StdSink::new(&mut output);
+    let answer = cut(&mut source, &mut sink, MANY, Form::Text, Form::Text, 0, ALL);
+    if answer == Err(RunError::Read) {
+        Some(output.get_ref().len())
+    } else {
+        None
+    }
 }
 
 #[test]
-fn the_last_byte_that_fits(rt: HostRuntime) -> Result<(), Fail> {
-    let one = text_of(rt.alloc(), &[384])?;
-    let two = text_of(rt.alloc(), &[384, 384])?;
-    let packed = packed_of(rt.alloc(), 384, &[0])?;
-    let two_packed = packed_of(rt.alloc(), 768, &[0])?;
-    let rows: [(&[u8], Form, u64, bool, usize); 12] = [
-        (&one, Form::Text, 24_960, true, BLOCK_TEXT),
-        (&one, Form::Text, 24_959, false, 0),
-        (&one, Form::Text, 0, false, 0),
-        (&one, Form::Text, 1 << 40, true, BLOCK_TEXT),
-        (b"", Form::Text, 0, true, 0),
-        (b"x", Form::Text, 0, false, 0),
-        (&two, Form::Text, 49_920, true, 2 * BLOCK_TEXT),
-        (&two, Form::Text, 49_919, false, BLOCK_TEXT),
-        (&packed, Form::Packed, 3_073, true, BLOCK_TEXT),
-        (&packed, Form::Packed, 3_072, false, 0),
-        (&packed, Form::Packed, 0, false, 0),
-        (&two_packed, Form::Packed, 6_144, false, BLOCK_TEXT),
-    ];
-    for (input, form, max_bytes, fits, written) in rows {
-        assert!(rt; max_bytes <= 1 << 40);
-        let (answer, sink) = blocks_within(rt.alloc(), input, 4_096, max_bytes, form);
-        let expected = if fits { None } else { Some(RunError::TooLong) };
-        assert!(rt;
-            answer.err() == expected && sink.bytes().len() == written,
-            "{max_bytes}"
-        );
+fn what_is_decided_leaves_before_the_next_read(rt: HostRuntime) {
+    assert!(rt; left_at_read(rt.alloc(), 385) == Some(0));
+    assert!(rt; left_at_read(rt.alloc(), 386) == Some(BLOCK_TEXT));
+    assert!(rt; left_at_read(rt.alloc(), 769) == Some(BLOCK_TEXT));
+}
+
+/// So many subframes of zero blocks in a form, the most bytes, whether they are more, and how many
+/// bytes are written.
+type Limit = (usize, Form, u64, bool, usize);
+
+const LIMITS: &[Limit] = &[
+    (384, Form::Text, 24_960, false, BLOCK_TEXT),
+    (384, Form::Text, 24_959, true, 0),
+    (384, Form::Text, 0, true, 0),
+    (384, Form::Text, 1 << 40, false, BLOCK_TEXT),
+    (0, Form::Text, 0, false, 0),
+    (768, Form::Text, 49_920, false, 2 * BLOCK_TEXT),
+    (768, Form::Text, 49_919, true, BLOCK_TEXT),
+    (384, Form::Packed, 3_073, false, BLOCK_TEXT),
+    (384, Form::Packed, 3_072, true, 0),
+    (384, Form::Packed, 0, true, 0),
+    (768, Form::Packed, 6_144, true, BLOCK_TEXT),
+];
+
+/// Whether an input of at most 2^40 bytes is too long, and how many bytes are written of it.
+fn too_long(alloc: Global, input: &[u8], form: Form, max_bytes: u64) -> Option<(bool, usize)> {
+    let (answer, sink) = blocks_within(alloc, input, 4_096, max_bytes.min(1 << 40), form);
+    match answer {
+        Ok(_) => Some((false, sink.bytes().len())),
+        Err(RunError::TooLong) => Some((true, sink.bytes().len())),
+        Err(_) => None,
     }
-    Ok(())
+}
+
+fn is_limit_kept(alloc: Global, limit: &Limit) -> Result<bool, AllocError> {
+    let (subframes, form, max_bytes, is_too_long, written) = *limit;
+    let input = match form {
+        Form::Text => text_of(alloc, &[subframes])?,
+        Form::Packed => packed_of(alloc, subframes)?,
+    };
+    Ok(too_long(alloc, &input, form, max_bytes) == Some((is_too_long, written)))
+}
+
+#[test]
+fn the_last_byte_that_fits(rt: HostRuntime) {
+    for limit in LIMITS {
+        assert!(rt; is_limit_kept(rt.alloc(), limit) == Ok(true), "{}", limit.2);
+    }
+    assert!(rt; too_long(rt.alloc(), b"x", Form::Text, 0) == Some((true, 0)));
 }
 
 #[test]
@@ -185,14 +215,26 @@ fn inputs_without_an_end(rt: HostRuntime) {
         let mut source = EndlessSource::new(byte, 64);
         let mut sink = MemorySink::new(rt.alloc());
         let answer = cut(&mut source, &mut sink, 1_000, form, form, 0, ALL);
-        assert!(rt; answer == Err(RunError::TooLong));
-        assert!(rt; sink.bytes().is_empty());
+        assert!(rt; answer == Err(RunError::TooLong) && sink.bytes().is_empty());
+    }
+}
+
+/// What is counted where blocks are written from the second on, of a block behind the front of
+/// another and before one more subframe, and nothing is written.
+fn counted(alloc: Global) -> Option<Counts> {
+    let text = text_of(alloc, &[200, 384, 1]).ok()?;
+    let mut source = MemorySource::new(&text, 4_096);
+    let mut sink = MemorySink::new(alloc);
+    let answer = cut(&mut source, &mut sink, MANY, Form::Text, Form::Text, 1, 1);
+    if sink.bytes().is_empty() {
+        answer.ok()
+    } else {
+        None
     }
 }
 
 #[test]
-fn counts_of_a_run(rt: HostRuntime) -> Result<(), Fail> {
-    let early = text_of(rt.alloc(), &[200, 384, 1])?;
+fn counts_of_a_run(rt: HostRuntime) {
     let counts = Counts {
         bytes: 38_025,
         cells: 37_440,
@@ -201,10 +243,5 @@ fn counts_of_a_run(rt: HostRuntime) -> Result<(), Fail> {
         unfinished: 1,
         marks: 0,
     };
-    let mut source = MemorySource::new(&early, 4_096);
-    let mut sink = MemorySink::new(rt.alloc());
-    let answer = cut(&mut source, &mut sink, MANY, Form::Text, Form::Text, 1, 1);
-    assert!(rt; answer == Ok(counts));
-    assert!(rt; sink.bytes().is_empty());
-    Ok(())
+    assert!(rt; counted(rt.alloc()) == Some(counts));
 }

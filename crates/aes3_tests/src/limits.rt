@@ -7,15 +7,8 @@ use aes3_lock::{Lock, Report};
 use aes3_slot::slots_cells;
 use std::alloc::{AllocError, Global};
 
-/// A block that is given: its place, and whether all its bits are zero.
-#[derive(Clone, Copy, PartialEq, Eq, Debug)]
-struct Given {
-    at: u64,
-    is_zero: bool,
-}
-
-/// The first two blocks that are given.
-type Blocks = [Option<Given>; 2];
+/// The first two blocks that are given: their places, and whether all their bits are zero.
+type Blocks = [Option<(u64, bool)>; 2];
 
 /// Many more cells than a test has.
 const MANY: u64 = 1 << 40;
@@ -33,14 +26,9 @@ fn is_zero(block: &Block) -> bool {
 /// Keeps what a report gives where there is room.
 fn keep(blocks: &mut Blocks, report: Option<Report>) {
     if let Some(Report::Whole { at, block, .. }) = report {
-        let given = Some(Given {
-            at,
-            is_zero: is_zero(&block),
-        });
-        if blocks[0].is_none() {
-            blocks[0] = given;
-        } else if blocks[1].is_none() {
-            blocks[1] = given;
+        let place = usize::from(blocks[0].is_some());
+        if blocks[place].is_none() {
+            blocks[place] = Some((at, is_zero(&block)));
         }
     }
 }
@@ -57,11 +45,6 @@ fn blocks_of(cells: &[Level], lost: &[usize]) -> Blocks {
     }
     keep(&mut blocks, lock.finish());
     blocks
-}
-
-/// A zero block at a place, or another one.
-fn block_at(at: u64, is_zero: bool) -> Option<Given> {
-    Some(Given { at, is_zero })
 }
 
 /// The cells of two zero blocks, one behind the other.
@@ -87,9 +70,22 @@ fn change(cells: &mut [Level], place: usize) {
     }
 }
 
-fn change_each(cells: &mut [Level], places: &[usize]) {
+/// Whether the lock gives these blocks of two zero blocks, of which cells are changed.
+fn gives_behind_changes(alloc: Global, places: &[usize], blocks: Blocks) -> bool {
+    let Ok(mut cells) = two_blocks(alloc) else {
+        return false;
+    };
     for place in places.iter() {
-        change(cells, *place);
+        change(&mut cells, *place);
+    }
+    blocks_of(&cells, &[]) == blocks
+}
+
+/// Whether the lock gives these blocks of two zero blocks, of which cells are lost.
+fn gives_behind_losses(alloc: Global, places: &[usize], blocks: Blocks) -> bool {
+    match two_blocks(alloc) {
+        Ok(cells) => blocks_of(&cells, places) == blocks,
+        Err(_) => false,
     }
 }
 
@@ -98,25 +94,31 @@ fn change_each(cells: &mut [Level], places: &[usize]) {
 /// cells of two preambles: those of the first alone make none, and no change makes none.
 #[test]
 fn four_changed_cells_make_a_block_elsewhere(rt: HostRuntime) {
-    let mut cells = two_blocks(rt.alloc()).expect(&rt, "memory");
-    let unchanged = blocks_of(&cells, &[]);
-    change_each(&mut cells, &[132, 134]);
-    let first_changed = blocks_of(&cells, &[]);
-    change_each(&mut cells, &[24_580, 24_582]);
-    let both_changed = blocks_of(&cells, &[]);
-    let second = block_at(24_576, true);
-    assert!(rt; unchanged == [block_at(0, true), second]);
-    assert!(rt; first_changed == [second, None]);
-    assert!(rt; both_changed == [block_at(128, true), None]);
+    let unchanged = [Some((0, true)), Some((24_576, true))];
+    assert!(rt; gives_behind_changes(rt.alloc(), &[], unchanged));
+    let second = [Some((24_576, true)), None];
+    assert!(rt; gives_behind_changes(rt.alloc(), &[132, 134], second));
+    let elsewhere = [Some((128, true)), None];
+    assert!(rt; gives_behind_changes(rt.alloc(), &[132, 134, 24_580, 24_582], elsewhere));
 }
 
 /// Two blocks after one level differ in 2 cells or more: here in 2, so it is not 3. And two changed
 /// cells need not take the block in which both are: between two slots they leave another.
 #[test]
 fn two_changed_cells_make_another_block(rt: HostRuntime) {
-    let mut cells = two_blocks(rt.alloc()).expect(&rt, "memory");
-    change_each(&mut cells, &[9, 10]);
-    assert!(rt; blocks_of(&cells, &[]) == [block_at(0, false), block_at(24_576, true)]);
+    let another = [Some((0, false)), Some((24_576, true))];
+    assert!(rt; gives_behind_changes(rt.alloc(), &[9, 10], another));
+}
+
+/// Two cells of each subframe changed of a block that begins with the second subframe of a frame.
+fn change_many(cells: &mut [Level]) {
+    for subframe in 1..385_usize {
+        let start = 64 * subframe;
+        change(cells, start + 5);
+        // The preamble of a block has its other cell before that one, the others behind it.
+        let at_block = subframe == 1 || subframe == 384;
+        change(cells, if at_block { start + 4 } else { start + 6 });
+    }
 }
 
 /// Where at most 383 cells change, no block is given but where a frame began. It is not so however
@@ -124,32 +126,24 @@ fn two_changed_cells_make_another_block(rt: HostRuntime) {
 #[test]
 fn many_changed_cells_make_a_block_at_no_frame(rt: HostRuntime) {
     let mut cells = two_blocks(rt.alloc()).expect(&rt, "memory");
-    for subframe in 1..385_usize {
-        let start = 64 * subframe;
-        change(&mut cells, start + 5);
-        // The preamble of a block has its other cell before that one, the others behind it.
-        let at_block = subframe == 1 || subframe == 384;
-        change(&mut cells, if at_block { start + 4 } else { start + 6 });
-    }
-    assert!(rt; blocks_of(&cells, &[]) == [block_at(64, true), None]);
+    change_many(&mut cells);
+    assert!(rt; blocks_of(&cells, &[]) == [Some((64, true)), None]);
 }
 
 /// Where at most three cells are lost, no block is changed. Four can change one: two of its last
 /// subframe, in whose place two of the next preamble come, and two of that preamble.
 #[test]
 fn four_lost_cells_change_a_block(rt: HostRuntime) {
-    let cells = two_blocks(rt.alloc()).expect(&rt, "memory");
-    let blocks = blocks_of(&cells, &[24_521, 24_522, 24_576, 24_577]);
-    assert!(rt; blocks == [block_at(0, false), None]);
+    let changed = [Some((0, false)), None];
+    assert!(rt; gives_behind_losses(rt.alloc(), &[24_521, 24_522, 24_576, 24_577], changed));
 }
 
 /// A block that is given where cells are lost stood that many cells later at most: here as many, so
 /// it is not fewer.
 #[test]
 fn a_block_stands_as_many_cells_later_as_are_lost(rt: HostRuntime) {
-    let cells = two_blocks(rt.alloc()).expect(&rt, "memory");
-    let one_lost = blocks_of(&cells, &[100]);
-    let three_lost = blocks_of(&cells, &[100, 200, 300]);
-    assert!(rt; one_lost == [block_at(24_575, true), None]);
-    assert!(rt; three_lost == [block_at(24_573, true), None]);
+    let behind_one = [Some((24_575, true)), None];
+    assert!(rt; gives_behind_losses(rt.alloc(), &[100], behind_one));
+    let behind_three = [Some((24_573, true)), None];
+    assert!(rt; gives_behind_losses(rt.alloc(), &[100, 200, 300], behind_three));
 }

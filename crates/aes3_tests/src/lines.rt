@@ -1,7 +1,6 @@
 //! Lines as they are printed.
 
-ghost use Rattle.std.specs.Prelude.{◌<◌};
-
+use crate::status::{status_of, with_byte};
 use aes3_account::line_of_gap;
 use aes3_block::{Block, Channel};
 use aes3_cell::{Level, MemorySink};
@@ -13,7 +12,33 @@ use aes3_text::{
     professional_setting, text_of_detail,
 };
 use std::alloc::Global;
-use std::test::Fail;
+
+/// Whether a report is told in this line.
+fn is_told(alloc: Global, report: &Report, expected: &str) -> bool {
+    let mut sink = MemorySink::new(alloc);
+    let _ = line_of_report(report, &mut sink);
+    sink.bytes() == expected.as_bytes()
+}
+
+/// Whether the fault of a cell far behind is told in this line.
+fn is_fault_told(alloc: Global, why: Why, expected: &str) -> bool {
+    let fault = Report::Fault {
+        at: 0,
+        cell: u64::MAX,
+        why,
+    };
+    is_told(alloc, &fault, expected)
+}
+
+#[test]
+fn lines_of_faults(rt: HostRuntime) {
+    let unclosed = "fault at 0 cell 18446744073709551615 unclosed\n";
+    assert!(rt; is_fault_told(rt.alloc(), Why::Unclosed, unclosed));
+    let biphase = "fault at 0 cell 18446744073709551615 biphase\n";
+    assert!(rt; is_fault_told(rt.alloc(), Why::Biphase, biphase));
+    let preamble = "fault at 0 cell 18446744073709551615 preamble\n";
+    assert!(rt; is_fault_told(rt.alloc(), Why::Preamble, preamble));
+}
 
 #[test]
 fn lines_of_reports(rt: HostRuntime) {
@@ -27,94 +52,68 @@ fn lines_of_reports(rt: HostRuntime) {
         before: Level::Low,
         wrong: 384,
     };
-    let fault = |why| Report::Fault {
-        at: 0,
-        cell: u64::MAX,
-        why,
-    };
-    for (report, expected) in [
-        (whole, "whole at 24445 before 1\n"),
-        (marked, "marked at 64 before 0 wrong 384\n"),
-        (
-            fault(Why::Unclosed),
-            "fault at 0 cell 18446744073709551615 unclosed\n",
-        ),
-        (
-            fault(Why::Biphase),
-            "fault at 0 cell 18446744073709551615 biphase\n",
-        ),
-        (
-            fault(Why::Preamble),
-            "fault at 0 cell 18446744073709551615 preamble\n",
-        ),
-        (
-            Report::Unfinished { at: 131, cells: 8 },
-            "unfinished at 131 cells 8\n",
-        ),
-    ] {
-        let mut sink = MemorySink::new(rt.alloc());
-        let _ = line_of_report(&report, &mut sink);
-        assert!(rt; sink.bytes() == expected.as_bytes(), "{expected}");
-    }
+    let unfinished = Report::Unfinished { at: 131, cells: 8 };
+    assert!(rt; is_told(rt.alloc(), &whole, "whole at 24445 before 1\n"));
+    assert!(rt; is_told(rt.alloc(), &marked, "marked at 64 before 0 wrong 384\n"));
+    assert!(rt; is_told(rt.alloc(), &unfinished, "unfinished at 131 cells 8\n"));
+}
+
+/// Whether a preamble and a gap are told in these lines.
+fn are_told(alloc: Global, mark: Mark, before: Level, expected: &str) -> bool {
+    let mut sink = MemorySink::new(alloc);
+    line_of_mark(131, mark, before, &mut sink).is_ok()
+        && line_of_gap(131, 24_576, &mut sink).is_ok()
+        && sink.bytes() == expected.as_bytes()
 }
 
 #[test]
 fn lines_of_preambles_and_gaps(rt: HostRuntime) {
-    for (mark, before, expected) in [
-        (
-            Mark::Z,
-            Level::Low,
-            "mark Z at 131 before 0\ngap at 131 cells 24576\n",
-        ),
-        (
-            Mark::Y,
-            Level::High,
-            "mark Y at 131 before 1\ngap at 131 cells 24576\n",
-        ),
-        (
-            Mark::X,
-            Level::Low,
-            "mark X at 131 before 0\ngap at 131 cells 24576\n",
-        ),
-    ] {
-        let mut sink = MemorySink::new(rt.alloc());
-        assert!(rt; line_of_mark(131, mark, before, &mut sink).is_ok());
-        assert!(rt; line_of_gap(131, 24_576, &mut sink).is_ok());
-        assert!(rt; sink.bytes() == expected.as_bytes(), "{expected}");
-    }
+    let first = "mark Z at 131 before 0\ngap at 131 cells 24576\n";
+    assert!(rt; are_told(rt.alloc(), Mark::Z, Level::Low, first));
+    let second = "mark Y at 131 before 1\ngap at 131 cells 24576\n";
+    assert!(rt; are_told(rt.alloc(), Mark::Y, Level::High, second));
+    let other = "mark X at 131 before 0\ngap at 131 cells 24576\n";
+    assert!(rt; are_told(rt.alloc(), Mark::X, Level::Low, other));
 }
 
-/// A channel status that begins with these bytes, zeros behind them but for the last.
-fn status_of(front: &[u8], last: u8) -> [u8; 24] {
-    let mut status = [0; 24];
-    for (byte, value) in status.iter_mut().zip(front) {
-        *byte = *value;
-    }
-    status[23] = last;
-    status
-}
+/// A block's number, a channel, the first bytes of its status, the last, and the line.
+type StatusLine = (u64, Channel, [u8; 6], u8, &'static str);
 
-/// The first bytes of a channel status, its last, and its line for block 0, channel 1.
-const LINES: &[(&[u8], u8, &str)] = &[
+const LINES: &[StatusLine] = &[
     (
-        &[0x01],
+        0,
+        Channel::First,
+        [0x01, 0, 0, 0, 0, 0],
         0x32,
         "block=0 channel=1 professional payload=pcm emphasis=not-indicated unlocked=no rate=not-indicated mode=not-indicated user=not-indicated aux=undefined word=not-indicated b2high=0 b3=0 b4=0 b5=0 origin=.... destination=.... local=0 time=0 unreliable=0000 b22low=0 check=good\n",
     ),
     (
-        &[0x3D, 0x02, 0x00, 0x00, 0x02],
+        0,
+        Channel::First,
+        [0x3D, 0x02, 0, 0, 0x02, 0],
         0x9B,
         "block=0 channel=1 professional payload=pcm emphasis=j17 unlocked=yes rate=not-indicated mode=stereophonic user=not-indicated aux=undefined word=not-indicated b2high=0 b3=0 b4=2 b5=0 origin=.... destination=.... local=0 time=0 unreliable=0000 b22low=0 check=good\n",
     ),
     (
-        &[0x04, 0x01, 0x21, 0x02, 0x0B],
+        0,
+        Channel::First,
+        [0x04, 0x01, 0x21, 0x02, 0x0B, 0],
         0,
         "block=0 channel=1 consumer payload=pcm copyright=not-asserted emphasis=none mode=0 category=cd generation=0 source=1 number=2 rate=48000 accuracy=level2 b3high=0 greatest=24 word=24 original=0 rest=00000000000000000000000000000000000000\n",
     ),
     (
-        &[],
+        0,
+        Channel::First,
+        [0; 6],
         0,
         "block=0 channel=1 consumer payload=pcm copyright=asserted emphasis=none mode=0 category=general generation=0 source=not-specified number=not-specified rate=44100 accuracy=level2 b3high=0 greatest=20 word=not-indicated original=0 rest=00000000000000000000000000000000000000\n",
+    ),
+    (
+        u64::MAX,
+        Channel::Second,
+        [0; 6],
+        0,
+        "block=18446744073709551615 channel=2 consumer payload=pcm copyright=asserted emphasis=none mode=0 category=general generation=0 source=not-specified number=not-specified rate=44100 accuracy=level2 b3high=0 greatest=20 word=not-indicated original=0 rest=00000000000000000000000000000000000000\n",
     ),
 ];
 
@@ -125,20 +124,24 @@ fn line_of(alloc: Global, block: u64, channel: Channel, status: &[u8; 24]) -> Me
     sink
 }
 
-#[test]
-fn lines_of_status(rt: HostRuntime) {
-    for (front, last, expected) in LINES {
-        let line = line_of(rt.alloc(), 0, Channel::First, &status_of(front, *last));
-        assert!(rt; line.bytes() == expected.as_bytes(), "{expected}");
-    }
-    let line = line_of(rt.alloc(), u64::MAX, Channel::Second, &[0; 24]);
-    let head = b"block=18446744073709551615 channel=2 consumer payload=";
-    assert!(rt; line.bytes().starts_with(head));
+fn is_line(alloc: Global, line: &StatusLine) -> bool {
+    let (block, channel, front, last, expected) = *line;
+    let found = line_of(alloc, block, channel, &status_of(front, last));
+    found.bytes() == expected.as_bytes()
 }
 
-/// A byte's number, its value, and what the line then has. The other bytes are zero, but for byte
-/// 0, which is 1.
-const PROFESSIONAL: &[(usize, u8, &str)] = &[
+#[test]
+fn lines_of_status(rt: HostRuntime) {
+    for line in LINES {
+        assert!(rt; is_line(rt.alloc(), line), "{}", line.4);
+    }
+}
+
+/// A byte's number, its value, and what the line then has.
+type Part = (usize, u8, &'static str);
+
+/// The other bytes are zero, but for byte 0, which is 1.
+const PROFESSIONAL: &[Part] = &[
     (0, 0x01, " payload=pcm "),
     (0, 0x03, " payload=other "),
     (0, 0x01, " emphasis=not-indicated "),
@@ -215,8 +218,8 @@ const PROFESSIONAL: &[(usize, u8, &str)] = &[
     (23, 0x33, " check=bad\n"),
 ];
 
-/// A byte's number, its value, and what the line then has. The other bytes are zero.
-const CONSUMER: &[(usize, u8, &str)] = &[
+/// The other bytes are zero.
+const CONSUMER: &[Part] = &[
     (0, 0x00, " payload=pcm "),
     (0, 0x02, " payload=other "),
     (0, 0x00, " copyright=asserted "),
@@ -270,53 +273,72 @@ const CONSUMER: &[(usize, u8, &str)] = &[
     (23, 0x0F, " rest=0000000000000000000000000000000000000f\n"),
 ];
 
-#[test]
-fn fields_of_status_lines(rt: HostRuntime) -> Result<(), Fail> {
-    for (first, rows) in [(1, PROFESSIONAL), (0, CONSUMER)] {
-        for (at, value, part) in rows {
-            let mut status = status_of(&[first], 0);
-            assert!(rt; *at < 24);
-            status[*at] = *value;
-            let line = line_of(rt.alloc(), 0, Channel::First, &status);
-            assert!(rt; str::from_utf8(line.bytes())?.contains(*part), "{part}");
-        }
+/// Whether the line of a status whose other bytes are zero but for the first has a part.
+fn has_part(alloc: Global, first: u8, part: &Part) -> bool {
+    let (at, value, text) = *part;
+    let status = with_byte(with_byte([0; 24], 0, first), at, value);
+    let line = line_of(alloc, 0, Channel::First, &status);
+    match str::from_utf8(line.bytes()) {
+        Ok(line) => line.contains(text),
+        Err(_) => false,
     }
-    Ok(())
 }
 
-/// What stands behind a line of channel 2, of which one V bit is 1 and two U bits are.
 #[test]
-fn details_of_status_lines(rt: HostRuntime) -> Result<(), Fail> {
-    let mut block = Block::zero();
-    block.set_validity(Channel::Second, &status_of(&[0x80], 0));
-    block.set_user(Channel::Second, &status_of(&[0x01], 0x80));
-    for (detail, expected) in [
-        (Detail::Plain, "=00000000000000000000000000000000000000\n"),
-        (Detail::Place, "00 at=24445\n"),
-        (Detail::Carried, "00 v=1 u=2 at=24445\n"),
-    ] {
-        let mut sink = MemorySink::new(rt.alloc());
-        let text = text_of_detail(detail, Channel::Second, 24_445, &block);
-        let _ = line_of_status_with(0, Channel::Second, &[0; 24], &text, &mut sink);
-        assert!(rt;
-            str::from_utf8(sink.bytes())?.contains(expected),
-            "{expected}"
-        );
+fn fields_of_professional_lines(rt: HostRuntime) {
+    for part in PROFESSIONAL {
+        assert!(rt; has_part(rt.alloc(), 1, part), "{}", part.2);
     }
-    Ok(())
+}
+
+#[test]
+fn fields_of_consumer_lines(rt: HostRuntime) {
+    for part in CONSUMER {
+        assert!(rt; has_part(rt.alloc(), 0, part), "{}", part.2);
+    }
+}
+
+/// A block of whose second channel one V bit is 1 and two U bits are.
+fn block_with_details() -> Block {
+    let mut block = Block::zero();
+    block.set_validity(Channel::Second, &status_of([0x80, 0, 0, 0, 0, 0], 0));
+    block.set_user(Channel::Second, &status_of([0x01, 0, 0, 0, 0, 0], 0x80));
+    block
+}
+
+/// Whether the line of the second channel of a block ends so.
+fn ends(alloc: Global, detail: Detail, block: &Block, expected: &str) -> bool {
+    let mut sink = MemorySink::new(alloc);
+    let text = text_of_detail(detail, Channel::Second, 24_445, block);
+    let _ = line_of_status_with(0, Channel::Second, &[0; 24], &text, &mut sink);
+    sink.bytes().ends_with(expected.as_bytes())
+}
+
+#[test]
+fn details_of_status_lines(rt: HostRuntime) {
+    let block = block_with_details();
+    let zeros = "=00000000000000000000000000000000000000\n";
+    assert!(rt; ends(rt.alloc(), Detail::Plain, &block, zeros));
+    assert!(rt; ends(rt.alloc(), Detail::Place, &block, "00 at=24445\n"));
+    assert!(rt; ends(rt.alloc(), Detail::Carried, &block, "00 v=1 u=2 at=24445\n"));
+}
+
+/// A rate for each use of channel status.
+fn rates() -> Option<[Setting; SETTINGS]> {
+    let mut settings = [Setting::NOTHING; SETTINGS];
+    settings[0] = professional_setting("rate=32000")?;
+    settings[1] = consumer_setting("rate=32000")?;
+    Some(settings)
 }
 
 /// Fields that are set by name are shown by name, in the code of each use.
 #[test]
-fn fields_set_by_name(rt: HostRuntime) -> Result<(), Fail> {
-    let mut settings = [Setting::NOTHING; SETTINGS];
-    settings[0] = professional_setting("rate=32000").ok_or("professional")?;
-    settings[1] = consumer_setting("rate=32000").ok_or("consumer")?;
-    let is_unknown = professional_setting("rate=96000").is_none();
-    let mut professional = status_of(&[0x01], 0);
+fn fields_set_by_name(rt: HostRuntime) {
+    let settings = rates().expect(&rt, "rates of both uses");
+    let mut professional = with_byte([0; 24], 0, 0x01);
     let mut consumer = [0; 24];
     set_fields(&mut professional, &settings);
     set_fields(&mut consumer, &settings);
+    let is_unknown = professional_setting("rate=96000").is_none();
     assert!(rt; (professional[0], consumer[3], is_unknown) == (0xC1, 0x03, true));
-    Ok(())
 }

@@ -1,12 +1,12 @@
 //! Worked lists of cells, by the lock and by trying every place, and their preambles.
-ghost use Rattle.std.specs.Prelude.{◌≤◌};
+ghost use Rattle.std.specs.Prelude.{◌<◌, ◌≤◌};
 
+use crate::slot::{WRONG_PARITY, ZEROS};
 use aes3_cell::Level;
 use aes3_lock::{Lock, Report, Scan, Why, reports_of};
 use aes3_slot::{Mark, slots_cells};
 use arrayvec::ArrayVec;
 use std::alloc::{AllocError, Global};
-use std::process::Abort;
 
 /// A report in few words; of a whole block, whether it is the zero block.
 #[derive(Clone, Copy, PartialEq, Eq)]
@@ -23,8 +23,8 @@ const LINES: usize = 16;
 /// Many more cells than a test has.
 const MANY: u64 = 1 << 40;
 
-/// The bits of slots 4 to 31 of a subframe whose parity bit alone is set, and wrong.
-const ODD: u32 = 1 << 27;
+/// The second subframe of a frame whose first bit and parity bit alone are 1.
+const ONE_LAST: u64 = 0x4CCC_CCCC_CCCC_CD27;
 
 fn line_of(report: Report) -> Line {
     match report {
@@ -86,7 +86,7 @@ enum Piece {
 }
 
 /// Candidates five cells apart, each of which ends within the second 64 cells.
-const DENSE_PIECES: [Piece; 4] = [
+const DENSE_PIECES: &[Piece] = &[
     Piece::Cells(0x5555_5555_5555_5555, 0, 52),
     Piece::Cells(DENSE, 0, 60),
     Piece::Cells(DENSE, 0, 13),
@@ -94,7 +94,7 @@ const DENSE_PIECES: [Piece; 4] = [
 ];
 
 /// A preamble that begins within another.
-const PREAMBLE_IN_A_PREAMBLE: [Piece; 2] = [
+const PREAMBLE_IN_A_PREAMBLE: &[Piece] = &[
     Piece::Lines(Level::Low, 0, 2),
     Piece::Cells(0b111_0100_0111, 0, 11),
 ];
@@ -154,104 +154,114 @@ fn only(lines: &[Line]) -> [Option<Line>; LINES] {
     all
 }
 
-fn expect(rt: &impl Abort, alloc: Global, pieces: &[Piece], lines: &[Line]) {
-    let cells = cells_of(alloc, pieces).expect(rt, "memory");
-    let places = by_places(alloc, &cells).expect(rt, "memory");
-    assert!(rt; places == only(lines) && by_lock(&cells) == places);
+/// Whether the lock and the slow form both give these reports, and none behind them.
+fn are_told(alloc: Global, pieces: &[Piece], lines: &[Line]) -> Result<bool, AllocError> {
+    let cells = cells_of(alloc, pieces)?;
+    let places = by_places(alloc, &cells)?;
+    Ok(places == only(lines) && by_lock(&cells) == places)
 }
+
+/// Each list of cells, and its reports.
+const ROWS: &[(&[Piece], &[Line])] = &[
+    // A block that begins within another.
+    (
+        &[
+            Piece::Lines(Level::Low, 0, 200),
+            Piece::Lines(Level::Low, 0, 384),
+        ],
+        &[
+            Line::Fault(0, 12_804, Why::Preamble),
+            Line::Whole(12_800, Level::Low, true),
+        ],
+    ),
+    (
+        PREAMBLE_IN_A_PREAMBLE,
+        &[Line::Fault(0, 138, Why::Biphase), Line::Unfinished(131, 8)],
+    ),
+    // A block of the other polarity whose first cell is the last of the block before.
+    (
+        &[
+            Piece::Lines(Level::Low, 0, 383),
+            Piece::Cells(ONE_LAST, 0, 64),
+            Piece::Cells(!ZEROS, 1, 64),
+            Piece::Lines(Level::High, 1, 384),
+        ],
+        &[
+            Line::Fault(0, 24_576, Why::Unclosed),
+            Line::Whole(24_575, Level::High, true),
+        ],
+    ),
+    // A block with one wrong parity bit, and one behind it.
+    (
+        &[
+            Piece::Cells(WRONG_PARITY, 0, 64),
+            Piece::Lines(Level::High, 1, 384),
+            Piece::Lines(Level::High, 0, 384),
+        ],
+        &[
+            Line::Marked(0, Level::Low, 1),
+            Line::Whole(24_576, Level::High, true),
+        ],
+    ),
+    // Four cells changed make a block where none began: a third preamble becomes a first one,
+    // and the next first one a third.
+    (
+        &[
+            Piece::Lines(Level::Low, 0, 2),
+            Piece::Lines(Level::Low, 0, 1),
+            Piece::Lines(Level::Low, 3, 384),
+            Piece::Lines(Level::Low, 2, 3),
+            Piece::Lines(Level::Low, 1, 384),
+        ],
+        &[
+            Line::Fault(0, 132, Why::Preamble),
+            Line::Whole(128, Level::Low, true),
+        ],
+    ),
+];
 
 #[test]
 fn reports_of_blocks(rt: HostRuntime) {
-    let wrong_first = slots_cells(Level::Low, Mark::Z, ODD);
-    let one_last = slots_cells(Level::Low, Mark::Y, ODD | 1);
-    let rows: [(&[Piece], [Line; 2]); 5] = [
-        // A block that begins within another.
-        (
-            &[
-                Piece::Lines(Level::Low, 0, 200),
-                Piece::Lines(Level::Low, 0, 384),
-            ],
-            [
-                Line::Fault(0, 12_804, Why::Preamble),
-                Line::Whole(12_800, Level::Low, true),
-            ],
-        ),
-        (
-            &PREAMBLE_IN_A_PREAMBLE,
-            [Line::Fault(0, 138, Why::Biphase), Line::Unfinished(131, 8)],
-        ),
-        // A block of the other polarity whose first cell is the last of the block before.
-        (
-            &[
-                Piece::Lines(Level::Low, 0, 383),
-                Piece::Cells(one_last, 0, 64),
-                Piece::Cells(zeros(0, Level::High), 1, 64),
-                Piece::Lines(Level::High, 1, 384),
-            ],
-            [
-                Line::Fault(0, 24_576, Why::Unclosed),
-                Line::Whole(24_575, Level::High, true),
-            ],
-        ),
-        // A block with one wrong parity bit, and one behind it.
-        (
-            &[
-                Piece::Cells(wrong_first, 0, 64),
-                Piece::Lines(Level::High, 1, 384),
-                Piece::Lines(Level::High, 0, 384),
-            ],
-            [
-                Line::Marked(0, Level::Low, 1),
-                Line::Whole(24_576, Level::High, true),
-            ],
-        ),
-        // Four cells changed make a block where none began: a third preamble becomes a first one,
-        // and the next first one a third.
-        (
-            &[
-                Piece::Lines(Level::Low, 0, 2),
-                Piece::Lines(Level::Low, 0, 1),
-                Piece::Lines(Level::Low, 3, 384),
-                Piece::Lines(Level::Low, 2, 3),
-                Piece::Lines(Level::Low, 1, 384),
-            ],
-            [
-                Line::Fault(0, 132, Why::Preamble),
-                Line::Whole(128, Level::Low, true),
-            ],
-        ),
-    ];
-    for (pieces, lines) in rows {
-        expect(&rt, rt.alloc(), pieces, &lines);
+    for (pieces, lines) in ROWS {
+        assert!(rt; are_told(rt.alloc(), pieces, lines) == Ok(true));
     }
+}
+
+/// Faults five cells apart, the first at a cell.
+fn faults_from(at: u64) -> [Line; 14]
+    requires { at < 1000 }
+{
+    let mut lines = [Line::Unfinished(0, 0); 14];
+    for i in 0..14 {
+        let at = at + 5 * i as u64;
+        lines[i] = Line::Fault(at, at + 12, Why::Biphase);
+    }
+    lines
 }
 
 #[test]
 fn fourteen_reports_within_64_cells(rt: HostRuntime) {
-    let mut lines = [Line::Fault(117, 125, Why::Biphase); 14];
-    for i in 0..13 {
-        let at = 52 + 5 * i as u64;
-        lines[i] = Line::Fault(at, at + 12, Why::Biphase);
-    }
-    expect(&rt, rt.alloc(), &DENSE_PIECES, &lines);
+    let mut lines = faults_from(52);
+    lines[13] = Line::Fault(117, 125, Why::Biphase);
+    assert!(rt; are_told(rt.alloc(), DENSE_PIECES, &lines) == Ok(true));
 }
 
 /// Run with each allocation refused in turn, this shows that the slow form answers its error or the
 /// same reports.
 #[test]
 fn refused_memory_is_told(rt: HostRuntime) {
-    if let Ok(cells) = cells_of(rt.alloc(), &DENSE_PIECES)
+    if let Ok(cells) = cells_of(rt.alloc(), DENSE_PIECES)
         && let Ok(lines) = by_places(rt.alloc(), &cells)
     {
         assert!(rt; lines == by_lock(&cells));
     }
 }
 
-#[test]
-fn reports_of_a_word(rt: HostRuntime) {
+/// The reports of a word that the lock takes at once.
+fn by_word(word: u64) -> [Option<Line>; LINES] {
     let mut lock = Lock::new();
     let mut told = ArrayVec::new();
-    lock.push_word(DENSE, &mut told);
+    lock.push_word(word, &mut told);
     let mut lines = [None; LINES];
     let mut count = 0;
     for report in told {
@@ -260,17 +270,20 @@ fn reports_of_a_word(rt: HostRuntime) {
     if let Some(report) = lock.finish() {
         keep(&mut lines, &mut count, report);
     }
-    let mut expected = [Line::Unfinished(55, 9); 12];
-    for i in 0..11 {
-        let at = 5 * i as u64;
-        expected[i] = Line::Fault(at, at + 12, Why::Biphase);
-    }
-    assert!(rt; lines == only(&expected));
+    lines
 }
 
 #[test]
-fn preambles_of_cells(rt: HostRuntime) {
-    let cells = cells_of(rt.alloc(), &PREAMBLE_IN_A_PREAMBLE).expect(&rt, "memory");
+fn reports_of_a_word(rt: HostRuntime) {
+    let mut lines = only(&faults_from(0));
+    lines[11] = Some(Line::Unfinished(55, 9));
+    lines[12] = None;
+    lines[13] = None;
+    assert!(rt; by_word(DENSE) == lines);
+}
+
+/// The first preambles among cells.
+fn marks_of(cells: &[Level]) -> [Option<(u64, Mark, Level)>; 5] {
     let mut marks = [None; 5];
     let mut count = 0;
     let mut scan = Scan::new();
@@ -283,6 +296,12 @@ fn preambles_of_cells(rt: HostRuntime) {
             count += 1;
         }
     }
+    marks
+}
+
+#[test]
+fn preambles_of_cells(rt: HostRuntime) {
+    let cells = cells_of(rt.alloc(), PREAMBLE_IN_A_PREAMBLE).expect(&rt, "memory");
     let expected = [
         Some((0, Mark::Z, Level::Low)),
         Some((64, Mark::Y, Level::Low)),
@@ -290,5 +309,5 @@ fn preambles_of_cells(rt: HostRuntime) {
         Some((131, Mark::Z, Level::High)),
         None,
     ];
-    assert!(rt; marks == expected);
+    assert!(rt; marks_of(&cells) == expected);
 }

@@ -3,33 +3,56 @@
 use aes3_status::{Check, Con, Pro, Status, check_byte, check_state, with_check};
 
 /// A channel status that begins with these bytes, zeros behind them, and byte 23.
-fn status_of(front: [u8; 6], check: u8) -> [u8; 24] {
+pub(crate) fn status_of(front: [u8; 6], last: u8) -> [u8; 24] {
     let mut bytes = [0; 24];
     bytes[..6].copy_from_slice(&front);
-    bytes[23] = check;
+    bytes[23] = last;
     bytes
+}
+
+/// A channel status with one byte as it is given.
+pub(crate) fn with_byte(mut bytes: [u8; 24], at: usize, value: u8) -> [u8; 24] {
+    if let Some(byte) = bytes.get_mut(at) {
+        *byte = value;
+    }
+    bytes
+}
+
+/// The first bytes of a channel status, the check byte that is sent, the right one, and what the
+/// first is.
+const CHECKS: &[([u8; 6], u8, u8, Check)] = &[
+    ([0x01, 0, 0, 0, 0, 0], 0x32, 0x32, Check::Good),
+    ([0x01, 0, 0, 0, 0, 0], 0x00, 0x32, Check::Absent),
+    ([0x01, 0, 0, 0, 0, 0], 0x33, 0x32, Check::Bad),
+    // J.17 pre-emphasis, unlocked, stereophonic.
+    ([0x3D, 0x02, 0, 0, 0x02, 0], 0x9B, 0x9B, Check::Good),
+];
+
+fn is_checked(front: [u8; 6], sent: u8, check: u8, state: Check) -> bool {
+    let status = status_of(front, sent);
+    check_byte(&status) == check
+        && check_state(&status) == state
+        && with_check(status) == status_of(front, check)
 }
 
 #[test]
 fn check_bytes(rt: HostRuntime) {
-    let plain = [0x01, 0, 0, 0, 0, 0];
-    // J.17 pre-emphasis, unlocked, stereophonic.
-    let coded = [0x3D, 0x02, 0, 0, 0x02, 0];
-    for (front, sent, check, state) in [
-        (plain, 0x32, 0x32, Check::Good),
-        (plain, 0x00, 0x32, Check::Absent),
-        (plain, 0x33, 0x32, Check::Bad),
-        (coded, 0x9B, 0x9B, Check::Good),
-    ] {
-        let status = status_of(front, sent);
-        assert!(rt; (check_byte(&status), check_state(&status)) == (check, state));
-        assert!(rt; with_check(status) == status_of(front, check));
+    for (front, sent, check, state) in CHECKS {
+        assert!(rt; is_checked(*front, *sent, *check, *state), "sent {sent}");
+    }
+}
+
+fn professional(bytes: &[u8; 24]) -> Option<Pro> {
+    match Status::read(bytes) {
+        Status::Professional(fields) => Some(fields),
+        Status::Consumer(_) => None,
     }
 }
 
 /// The fields of bytes 0 to 5.
-fn professional_codes(fields: &Pro) -> [u8; 12] {
-    [
+fn professional_codes(bytes: &[u8; 24]) -> Option<[u8; 12]> {
+    let fields = professional(bytes)?;
+    Some([
         fields.payload(),
         fields.emphasis(),
         fields.unlocked(),
@@ -42,7 +65,7 @@ fn professional_codes(fields: &Pro) -> [u8; 12] {
         fields.b3(),
         fields.b4(),
         fields.b5(),
-    ]
+    ])
 }
 
 /// Each field another number than its neighbours.
@@ -53,31 +76,37 @@ const PROFESSIONAL: [u8; 24] = [
 
 #[test]
 fn professional_fields(rt: HostRuntime) {
-    match Status::read(&status_of([0x3D, 0x02, 0x00, 0x00, 0x02, 0], 0)) {
-        // J.17, unlocked, stereophonic.
-        Status::Professional(fields) => assert!(rt;
-            professional_codes(&fields) == [0, 7, 1, 0, 2, 0, 0, 0, 0, 0, 2, 0]
-        ),
-        Status::Consumer(_) => assert!(rt; false),
-    }
-    match Status::read(&PROFESSIONAL) {
-        Status::Professional(fields) => {
-            // 50/15 microseconds, 48 kHz.
-            let codes = [1, 3, 1, 2, 2, 12, 4, 5, 1, 3, 42, 5];
-            assert!(rt; professional_codes(&fields) == codes);
-            assert!(rt; (fields.origin(), fields.destination()) == (*b"ABCD", *b"WXYZ"));
-            assert!(rt; (fields.local(), fields.time()) == (0x0102_0304, 0x0A0B_0C0D));
-            // Bytes 6 to 13 and 18 to 21 are unreliable.
-            assert!(rt; (fields.unreliable(), fields.b22low()) == (10, 5));
-        }
-        Status::Consumer(_) => assert!(rt; false),
-    }
-    assert!(rt; Status::read(&PROFESSIONAL).to_bytes() == PROFESSIONAL);
+    // J.17, unlocked, stereophonic.
+    let coded = status_of([0x3D, 0x02, 0x00, 0x00, 0x02, 0], 0);
+    assert!(rt; professional_codes(&coded) == Some([0, 7, 1, 0, 2, 0, 0, 0, 0, 0, 2, 0]));
+    // 50/15 microseconds, 48 kHz.
+    let codes = [1, 3, 1, 2, 2, 12, 4, 5, 1, 3, 42, 5];
+    assert!(rt; professional_codes(&PROFESSIONAL) == Some(codes));
 }
 
-/// The fields of bytes 0 to 4.
-fn consumer_codes(fields: &Con) -> [u8; 14] {
-    [
+/// Bytes 6 to 13 and 18 to 21 are unreliable.
+fn has_texts_and_times(fields: &Pro) -> bool {
+    fields.origin() == *b"ABCD"
+        && fields.destination() == *b"WXYZ"
+        && fields.local() == 0x0102_0304
+        && fields.time() == 0x0A0B_0C0D
+        && fields.unreliable() == 10
+        && fields.b22low() == 5
+}
+
+#[test]
+fn professional_texts_and_times(rt: HostRuntime) {
+    let status = Status::read(&PROFESSIONAL);
+    assert!(rt; matches!(&status, Status::Professional(fields) if has_texts_and_times(fields)));
+    assert!(rt; status.to_bytes() == PROFESSIONAL);
+}
+
+/// The fields of bytes 0 to 4, and the bytes behind them.
+fn consumer_codes(bytes: &[u8; 24]) -> Option<([u8; 14], [u8; 19])> {
+    let Status::Consumer(fields) = Status::read(bytes) else {
+        return None;
+    };
+    let codes = [
         fields.payload(),
         fields.copyright(),
         fields.emphasis(),
@@ -92,31 +121,20 @@ fn consumer_codes(fields: &Con) -> [u8; 14] {
         fields.greatest(),
         fields.word(),
         fields.original(),
-    ]
+    ];
+    Some((codes, fields.rest()))
 }
 
 #[test]
 fn consumer_fields(rt: HostRuntime) {
-    // A compact disc: copyright not asserted, 48 kHz, 24 bits of 24; and one with other numbers, 16
-    // bits of 20.
-    for (front, codes) in [
-        (
-            [0x04, 0x01, 0x21, 0x02, 0x0B, 0],
-            [0, 1, 0, 0, 1, 0, 1, 2, 2, 0, 0, 1, 5, 0],
-        ),
-        (
-            [0x58, 0xFF, 0x00, 0x90, 0xA2, 7],
-            [0, 0, 3, 1, 127, 1, 0, 0, 0, 1, 2, 0, 1, 10],
-        ),
-    ] {
-        let bytes = status_of(front, 0);
-        let mut rest = [0; 19];
-        rest[0] = front[5];
-        match Status::read(&bytes) {
-            Status::Consumer(fields) => {
-                assert!(rt; (consumer_codes(&fields), fields.rest()) == (codes, rest));
-            }
-            Status::Professional(_) => assert!(rt; false),
-        }
-    }
+    // A compact disc: copyright not asserted, 48 kHz, 24 bits of 24.
+    let disc = status_of([0x04, 0x01, 0x21, 0x02, 0x0B, 0], 0);
+    let codes = [0, 1, 0, 0, 1, 0, 1, 2, 2, 0, 0, 1, 5, 0];
+    assert!(rt; consumer_codes(&disc) == Some((codes, [0; 19])));
+    // Other numbers, 16 bits of 20.
+    let other = status_of([0x58, 0xFF, 0x00, 0x90, 0xA2, 7], 0);
+    let codes = [0, 0, 3, 1, 127, 1, 0, 0, 0, 1, 2, 0, 1, 10];
+    let mut rest = [0; 19];
+    rest[0] = 7;
+    assert!(rt; consumer_codes(&other) == Some((codes, rest)));
 }
