@@ -7,7 +7,7 @@ pub const PARTS: u64 = 65_536;
 
 /// How long the cells of a line may be, in parts of a sample: at least two samples, at most 8192,
 /// and the longest at most twice the shortest.
-#[derive(Clone, Copy, Debug)]
+#[derive(Clone, Copy)]
 pub struct Bounds {
     pub low: u64,
     pub high: u64,

@@ -6,7 +6,7 @@ use crate::bounds::{Bounds, PARTS};
 
 /// Follows the edges of a line: how long a cell is, and where its grid lies. Rising and falling
 /// edges have a grid of their own, as a line may be later in one direction; both have one period.
-#[derive(Clone, Copy, Debug)]
+#[derive(Clone, Copy)]
 pub struct Follower {
     bounds: Bounds,
     /// How long a cell is.

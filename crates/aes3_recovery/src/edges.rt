@@ -7,7 +7,7 @@ ghost use Rattle.aes3_level.specs.Words.{level_of, low_cells};
 ghost use Rattle.aes3_recovery.specs.Endings.{level_if};
 
 /// Levels of samples that are still to be taken, the first in the lowest bit.
-#[derive(Clone, Copy, Debug)]
+#[derive(Clone, Copy)]
 pub struct Piece {
     levels: u64,
     len: u32,
@@ -28,7 +28,7 @@ impl Piece {
 }
 
 /// The level of a line, and how many samples of it came behind its latest edge and wait to be told.
-#[derive(Clone, Copy, Debug)]
+#[derive(Clone, Copy)]
 pub struct Edges {
     high: bool,
     run: u32,

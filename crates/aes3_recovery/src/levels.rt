@@ -8,7 +8,7 @@ use std::simd::prelude::*;
 
 /// How the samples lie: octets of eight lines, or pairs of octets of sixteen, the lower lines first;
 /// and which line of them it is.
-#[derive(Clone, Copy, PartialEq, Eq, Debug)]
+#[derive(Clone, Copy)]
 pub enum Unit {
     /// Samples of one octet, and the line in this bit.
     Octets(u8),

@@ -20,7 +20,7 @@ const ANY_PERIOD: u64 = 1 << 29;
 const FEW: usize = 128;
 
 /// What was found of a line.
-#[derive(Clone, Copy, Debug, Default)]
+#[derive(Clone, Copy, Default)]
 pub struct Figures {
     /// How many samples there are, and how many cells were recovered.
     pub samples: u64,
@@ -40,7 +40,7 @@ pub struct Figures {
 }
 
 /// How far a line is known.
-#[derive(Clone, Copy, PartialEq, Eq, Debug)]
+#[derive(Clone, Copy, PartialEq, Eq)]
 enum State {
     /// No edge came for long.
     Still,

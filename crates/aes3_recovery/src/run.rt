@@ -8,7 +8,7 @@ use crate::recovery::{Figures, Recovery};
 use aes3_cell::{Fault, Form, Sink, Source};
 
 /// Why a run was refused.
-#[derive(Clone, Copy, PartialEq, Eq, Debug)]
+#[derive(Clone, Copy)]
 pub enum Refusal {
     /// The source failed.
     Read,
@@ -17,7 +17,7 @@ pub enum Refusal {
 }
 
 /// How far a run came.
-#[derive(Clone, Copy, PartialEq, Eq, Debug)]
+#[derive(Clone, Copy)]
 pub enum Progress {
     /// The samples have ended.
     Ended,

@@ -1,4 +1,4 @@
-use Rattle.std.proofs.Common.{◌-◌, ◌∙◌, length, take, drop, arith, refl, sym, ap, length-drop}
+use Rattle.std.proofs.Common.{◌-◌, ◌∙◌, length, take, drop, arith, rules, refl, sym, ap, length-drop}
 use Rattle.std.proofs.lemmas.List.{length-set, take_rest}
 use Rattle.aes3_level.specs.Words.{low_cells}
 use Rattle.aes3_input.proofs.Chunks.{words-joined, one-or-none}
@@ -40,3 +40,6 @@ loop-count-preserved c =
           (let e = v.len in omega arith) c.from-count.ensures c.join-more.ensures.cells)
           (read-front xs (take (length xs - at) (drop at xs)) at 64 (take_rest xs at) v.read q.read);
     }
+
+pub returns-in-None-clause-read : goal.returns-in-None-clause-read
+returns-in-None-clause-read c = search rules

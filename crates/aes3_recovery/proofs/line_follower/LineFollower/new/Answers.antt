@@ -1,4 +1,4 @@
-use Rattle.std.proofs.Common.{[], Some}
+use Rattle.std.proofs.Common.{[], rules, Some}
 use Rattle.aes3_recovery.specs.declared.line_follower.LineFollower.{LineFollower}
 use Rattle.aes3_recovery.proofs.Followed.{followed-first, queued-none}
 use Rattle.aes3_recovery.proofs.line_follower.LineFollower.new.Goals as goal
@@ -8,3 +8,6 @@ returns-clause-begins c = λ begun short.
     let made : LineFollower
     = record { edges = c.args.edges; follower = c.args.follower; queue = c.new.result; cells = 0 } in
     followed-first (Some begun) begun [] made (queued-none begun made c.new.ensures.none) short
+
+pub returns-clause-form : goal.returns-clause-form
+returns-clause-form c = search rules

@@ -1,0 +1,32 @@
+use Rattle.std.proofs.Common.{◌∙◌, refl}
+use Rattle.aes3_recovery.proofs.recovery.Recovery.follow.Goals as goal
+
+pub returns-in-Ok-clause-told : goal.returns-in-Ok-clause-told
+returns-in-Ok-clause-told g c = rw c.note.ensures.line c.in-Ok.ensures.told
+
+pub returns-in-Ok-clause-keeps : goal.returns-in-Ok-clause-keeps
+returns-in-Ok-clause-keeps g c =
+    let k = c.note.ensures.keeps in
+    record {
+      found_is = k.found_is;
+      known_is = k.known_is;
+      count_is = k.count_is;
+      runs_are = k.runs_are;
+      samples_are = k.samples_are;
+      measured_is = k.measured_is;
+      edges_are = k.edges_are ∙ c.in-Ok.ensures.told.edges;
+    }
+
+pub returns-in-Err-clause-told : goal.returns-in-Err-clause-told
+returns-in-Err-clause-told g c = c.in-Err.ensures.told
+
+pub returns-in-Err-clause-keeps : goal.returns-in-Err-clause-keeps
+returns-in-Err-clause-keeps g c = record {
+  found_is = refl;
+  known_is = refl;
+  count_is = refl;
+  runs_are = refl;
+  samples_are = refl;
+  measured_is = refl;
+  edges_are = c.in-Err.ensures.told.edges;
+}
