@@ -1,7 +1,5 @@
 //! Inputs and outputs that rows name, written out from the line code.
 
-ghost use Rattle.std.specs.Prelude.{◌+◌, ◌*◌, ◌<◌};
-
 use std::alloc::{AllocError, Global};
 
 /// Bytes of an input or an output.
@@ -61,6 +59,7 @@ fn add_line(text: &mut Vec<u8>, line: usize, slots: &[u8]) -> Result<(), AllocEr
     text.extend_from_slice(b"\n")
 }
 
+/// The text of the zero block whose first line is `first` behind its preamble.
 fn block_text(alloc: Global, first: &[u8]) -> Result<Vec<u8>, AllocError> {
     let mut text = Vec::new(alloc);
     for line in 0..384 {
@@ -140,8 +139,9 @@ fn packed_blocks(alloc: Global) -> Result<Vec<u8>, AllocError> {
 
 fn block_file(alloc: Global, first: &[u8], len: usize) -> Result<Vec<u8>, AllocError> {
     let mut file = Vec::new(alloc);
-    for i in 0..len {
-        file.push(first.get(i).copied().unwrap_or(0))?;
+    file.extend_from_slice(first)?;
+    for _ in first.len()..len {
+        file.push(0)?;
     }
     Ok(file)
 }
@@ -176,16 +176,18 @@ fn shown(alloc: Global, blocks: u64) -> Result<Vec<u8>, AllocError> {
     Ok(lines)
 }
 
-/// Adds the line of the preamble of a line of the zero block that begins at a cell.
-fn add_mark(marks: &mut Vec<u8>, alloc: Global, at: usize, line: usize) -> Result<(), AllocError>
-    requires { at + 64 * line < 100000 }
-{
+/// Adds the line of the preamble of a line of the zero block.
+fn add_mark(
+    marks: &mut Vec<u8>,
+    alloc: Global,
+    line: usize,
+    place: usize,
+) -> Result<(), AllocError> {
     let mark = match (line, line % 2) {
         (0, _) => "Z",
         (_, 1) => "Y",
         _ => "X",
     };
-    let place = at + 64 * line;
     let told = format!(in alloc; "mark {mark} at {place} before 0\n")?;
     marks.extend_from_slice(told.as_bytes())
 }
@@ -193,11 +195,13 @@ fn add_mark(marks: &mut Vec<u8>, alloc: Global, at: usize, line: usize) -> Resul
 fn marks(alloc: Global, lines: usize) -> Result<Vec<u8>, AllocError> {
     let front = lines.min(384);
     let mut marks = Vec::new(alloc);
-    for line in 0..front {
-        add_mark(&mut marks, alloc, 0, line)?;
-    }
-    for line in 0..384 {
-        add_mark(&mut marks, alloc, 64 * front, line)?;
+    for number in 0..front + 384 {
+        let line = if number < front {
+            number
+        } else {
+            number - front
+        };
+        add_mark(&mut marks, alloc, line, 64 * number)?;
     }
     Ok(marks)
 }
