@@ -8,7 +8,6 @@ use aes3_job::Job;
 use aes3_lines::{Detail, Lines, Notation, Style};
 use aes3_status::CarriedBits;
 use std::alloc::Global;
-use std::test::Fail;
 
 const TEXT: Form = Form::Text;
 
@@ -20,21 +19,22 @@ const STATUS_BYTES: [u8; 24] = [
     0,
 ];
 
-/// What a command line without a job is answered.
-#[derive(Clone, Copy, PartialEq, Eq, Debug)]
+/// What a command line is answered.
+#[derive(Clone, Copy, PartialEq, Eq)]
 enum Told {
+    Job,
     Usage,
     Help,
     Refused(RunError),
 }
 
 /// What the words are answered.
-fn answered(alloc: Global, words: &[&str]) -> Option<Told> {
+fn answered(alloc: Global, words: &[&str]) -> Told {
     match job_of_words(alloc, words) {
-        Ok(_) => None,
-        Err(LineFault::Usage { .. }) => Some(Told::Usage),
-        Err(LineFault::Help { .. }) => Some(Told::Help),
-        Err(LineFault::Refused(error)) => Some(Told::Refused(error)),
+        Ok(_) => Told::Job,
+        Err(LineFault::Usage { .. }) => Told::Usage,
+        Err(LineFault::Help { .. }) => Told::Help,
+        Err(LineFault::Refused(error)) => Told::Refused(error),
     }
 }
 
@@ -86,91 +86,105 @@ const VALID: Job = Job::Rewrite {
     },
 };
 
-/// Each line asks for its job; `tests/rows` has the others, for the program.
-#[test]
-fn jobs_of_words(rt: HostRuntime) {
-    let lines: [(&[&str], Job); 8] = [
-        (
-            &["check"],
-            Job::Check {
-                input: TEXT,
-                lines: Lines::All,
-            },
-        ),
-        (&["cut", "+1", "--packed-out", "007"], CUT),
-        (&["rewrite", "--mend-check", "--status1", STATUS], REWRITE),
-        (
-            &["rewrite", "--valid1", "0", "--valid2=1", "--clear-user2"],
-            VALID,
-        ),
-        (
-            &["watch", "--every-seconds", "2", "--rate", "48000"],
-            WATCH_SUMS,
-        ),
-        (
-            &["show", "--at", "--more"],
-            Job::Show {
-                input: TEXT,
-                detail: Detail::Carried,
-            },
-        ),
-        (
-            &["to-pcm", "--valid", "--packed-in", "--lsb-first"],
-            Job::ToPcm {
-                input: Form::Packed,
-                valid: true,
-            },
-        ),
-        (
-            &["to-bits", "validity", "2"],
-            Job::ToBits {
-                input: TEXT,
-                bits: CarriedBits::Validity,
-                channel: Channel::Second,
-            },
-        ),
-    ];
-    for (words, job) in lines {
-        let answer = job_of_words(rt.alloc(), words);
-        assert!(&rt; answer.is_ok_and(|found| found == job));
+fn asks_for(alloc: Global, words: &[&str], job: Job) -> bool {
+    match job_of_words(alloc, words) {
+        Ok(found) => found == job,
+        Err(_) => false,
     }
 }
 
+const CHECK: Job = Job::Check {
+    input: TEXT,
+    lines: Lines::All,
+};
+
+const SHOW: Job = Job::Show {
+    input: TEXT,
+    detail: Detail::Carried,
+};
+
+const TO_PCM: Job = Job::ToPcm {
+    input: Form::Packed,
+    valid: true,
+};
+
+const TO_BITS: Job = Job::ToBits {
+    input: TEXT,
+    bits: CarriedBits::Validity,
+    channel: Channel::Second,
+};
+
+/// Whether each line asks for its job; `tests/rows` has the others, for the program.
+fn is_each_asked_for(alloc: Global) -> bool {
+    asks_for(alloc, &["check"], CHECK)
+        && asks_for(alloc, &["cut", "+1", "--packed-out", "007"], CUT)
+        && asks_for(
+            alloc,
+            &["rewrite", "--mend-check", "--status1", STATUS],
+            REWRITE,
+        )
+        && asks_for(
+            alloc,
+            &["rewrite", "--valid1", "0", "--valid2=1", "--clear-user2"],
+            VALID,
+        )
+        && asks_for(
+            alloc,
+            &["watch", "--every-seconds", "2", "--rate", "48000"],
+            WATCH_SUMS,
+        )
+        && asks_for(alloc, &["show", "--at", "--more"], SHOW)
+        && asks_for(
+            alloc,
+            &["to-pcm", "--valid", "--packed-in", "--lsb-first"],
+            TO_PCM,
+        )
+        && asks_for(alloc, &["to-bits", "validity", "2"], TO_BITS)
+}
+
+#[test]
+fn jobs_of_words(rt: HostRuntime) {
+    assert!(rt; is_each_asked_for(rt.alloc()));
+}
+
+const NO_JOBS: &[(&[&str], Told)] = &[
+    (&["help"], Told::Usage),
+    (&["cut", "1"], Told::Usage),
+    (&["check", "--lsb-first"], Told::Usage),
+    (&["watch", "--every-seconds", "1"], Told::Usage),
+    (&["watch", "--every", "0"], Told::Usage),
+    (&["to-bits", "audio", "1"], Told::Usage),
+    (&["to-bits", "user", "3"], Told::Usage),
+    (&["rewrite", "--status1", "0", "--help"], Told::Help),
+    (
+        &["rewrite", "--status1", "0"],
+        Told::Refused(RunError::BadStatusText),
+    ),
+];
+
 #[test]
 fn words_that_are_no_job(rt: HostRuntime) {
-    let lines: [(&[&str], Told); 9] = [
-        (&["help"], Told::Usage),
-        (&["cut", "1"], Told::Usage),
-        (&["check", "--lsb-first"], Told::Usage),
-        (&["watch", "--every-seconds", "1"], Told::Usage),
-        (&["watch", "--every", "0"], Told::Usage),
-        (&["to-bits", "audio", "1"], Told::Usage),
-        (&["to-bits", "user", "3"], Told::Usage),
-        (&["rewrite", "--status1", "0", "--help"], Told::Help),
-        (
-            &["rewrite", "--status1", "0"],
-            Told::Refused(RunError::BadStatusText),
-        ),
-    ];
-    for (words, answer) in lines {
-        assert!(&rt; answered(rt.alloc(), words) == Some(answer));
+    for (number, (words, told)) in NO_JOBS.iter().enumerate() {
+        assert!(rt; answered(rt.alloc(), words) == *told, "line {number}");
     }
 }
 
 #[test]
 fn status_texts(rt: HostRuntime) {
-    assert!(&rt; status_of_text(STATUS) == Some(STATUS_BYTES));
-    assert!(&rt; status_of_text("").is_none());
+    assert!(rt; status_of_text(STATUS) == Some(STATUS_BYTES) && status_of_text("").is_none());
+}
+
+/// Whether a rewriting job is asked for, or want of memory is told.
+fn is_rewriting_or_memory(alloc: Global) -> bool {
+    match job_of_words(alloc, &["rewrite", "--status1", STATUS, "--mend-check"]) {
+        Ok(job) => job == REWRITE,
+        Err(LineFault::Refused(error)) => error == RunError::Memory,
+        Err(_) => false,
+    }
 }
 
 /// Run with the allocations refused in turn, this shows that each is told or changes nothing.
 #[test]
-fn refused_memory_is_told(rt: HostRuntime) -> Result<(), Fail> {
-    let words = ["rewrite", "--status1", STATUS, "--mend-check"];
-    match job_of_words(rt.alloc(), &words) {
-        Ok(job) => assert!(&rt; job == REWRITE),
-        Err(LineFault::Refused(error)) => assert!(&rt; error == RunError::Memory),
-        Err(_) => panic!(&rt; "another fault"),
-    }
-    Ok(())
+fn refused_memory_is_told(rt: HostRuntime) {
+    assert!(rt; is_rewriting_or_memory(rt.alloc()));
 }
