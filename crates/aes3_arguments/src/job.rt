@@ -66,21 +66,14 @@ pub(crate) fn job_of_command(
         "show" => Ok(show(options, input)),
         "scan" => Ok(Job::Scan { input }),
         "to-pcm" => Ok(to_pcm(options, input)),
-        "from-pcm" => Ok(Job::FromPcm {
-            exact: flag(options, "exact"),
-            change: change(alloc, options, help::FROM_PCM.usage)?,
-        }),
+        "from-pcm" => from_pcm(alloc, options),
         "cut" => Ok(Job::Cut {
             input,
             output,
             from: number(options, "FROM"),
             count: number(options, "COUNT"),
         }),
-        "rewrite" => Ok(Job::Rewrite {
-            input,
-            output,
-            change: change(alloc, options, help::REWRITE.usage)?,
-        }),
+        "rewrite" => rewrite(alloc, options, input, output),
         "to-bits" => Ok(to_bits(options, input)),
         _ => unreachable!(),
     }
@@ -134,6 +127,44 @@ fn check(options: &ArgMatches<'_>, input: Form) -> Job
         Job::Account { input, lines }
     } else {
         Job::Check { input, lines }
+    }
+}
+
+/// The job of `from-pcm` with its options.
+fn from_pcm(alloc: Global, options: &ArgMatches<'_>) -> Result<Job, LineFault>
+    requires { AreTaken (options_of options.now) }
+    ensures job { IfOk result (AsksFor (codes "from-pcm") (options_of options.now)) }
+    ensures fault { IfErr result (IsBadOptionOf (codes "from-pcm") (options_of options.now)) }
+{
+    match change(alloc, options, help::FROM_PCM.usage) {
+        Ok(change) => Ok(Job::FromPcm {
+            exact: flag(options, "exact"),
+            change,
+        }),
+        Err(fault) => Err(fault),
+    }
+}
+
+/// The job of `rewrite` with its options.
+fn rewrite(
+    alloc: Global,
+    options: &ArgMatches<'_>,
+    input: Form,
+    output: Form,
+) -> Result<Job, LineFault>
+    requires taken { AreTaken (options_of options.now) }
+    requires input { input ≡ input_by (options_of options.now) }
+    requires output { output ≡ form_by (options_of options.now) (codes "packed-out") }
+    ensures job { IfOk result (AsksFor (codes "rewrite") (options_of options.now)) }
+    ensures fault { IfErr result (IsBadOptionOf (codes "rewrite") (options_of options.now)) }
+{
+    match change(alloc, options, help::REWRITE.usage) {
+        Ok(change) => Ok(Job::Rewrite {
+            input,
+            output,
+            change,
+        }),
+        Err(fault) => Err(fault),
     }
 }
 

@@ -91,14 +91,13 @@ fn plain_line<'a>(alloc: Global, words: &'a [&'a str]) -> Result<CommandLine<'a>
     ensures fault { IfErr result (IsLineFaultOf (map (λ word. word.now) words.now)) }
 {
     let command = command_line(alloc)?;
-    let matches = match command.try_get_matches_from(words) {
-        Ok(matches) => matches,
-        Err(error) => return Err(fault_of(alloc, &error)),
-    };
-    let Some((name, options)) = matches.subcommand() else {
-        unreachable!();
-    };
-    line_of_command(alloc, name, options)
+    match command.try_get_matches_from(words) {
+        Ok(matches) => match matches.subcommand() {
+            Some((name, options)) => line_of_command(alloc, name, options),
+            None => unreachable!(),
+        },
+        Err(error) => Err(fault_of(alloc, &error)),
+    }
 }
 
 /// What `clap` tells of words that give no matches.

@@ -10,6 +10,8 @@ use Rattle.clap.specs.declared.builder.command.Command.{Command}
 use Rattle.aes3_commands.specs.CommandLine.{IsDefinedAs, IsOption, app_with, command, program, rule, shape}
 use Rattle.aes3_commands.specs.declared.argument.Argument.{Argument}
 use Rattle.aes3_commands.specs.declared.definitions.Name.{Name}
+use Rattle.aes3_commands.specs.declared.definitions.Name.TheVariants.{Encode, Decode, Normal, Check, Watch, Show, Scan}
+use Rattle.aes3_commands.specs.declared.definitions.Name.TheVariants.{Cut, Rewrite, ToPcm, FromPcm, ToBits}
 
 -- one more argument
 with_option : (app : App) (r : Rule) (old new : Command) (argument : Arg) → AddsArg old argument new
@@ -64,3 +66,18 @@ with_name names i d old sub new below added defined is =
     one_more (take i names) (get_or names i d) ∙ ap with_commands (sym (take_more names i d below)) in
     subst (λ app. IsDefinedAs app new) more
     (with_command (with_commands (take i names)) (shape (get_or names i d)) old sub new added defined is)
+
+-- each command is told by its name and its rules
+pub shape-is : (n : Name) → command (shape n).name (shape n).rules ≡ shape n
+shape-is Encode = refl
+shape-is Decode = refl
+shape-is Normal = refl
+shape-is Check = refl
+shape-is Watch = refl
+shape-is Show = refl
+shape-is Scan = refl
+shape-is Cut = refl
+shape-is Rewrite = refl
+shape-is ToPcm = refl
+shape-is FromPcm = refl
+shape-is ToBits = refl

@@ -1,6 +1,6 @@
 //! The program's command line, as definitions for `clap`.
 
-ghost use Rattle.std.specs.Prelude.{IfOk, map};
+ghost use Rattle.std.specs.Prelude.{◌≡◌, IfOk, map};
 ghost use Rattle.aes3_commands.specs.CommandLine.{IsDefinedAs, app_with, command, command_line};
 ghost use Rattle.aes3_commands.specs.CommandLine.{program, rule, shape};
 
@@ -72,17 +72,15 @@ pub fn command_line<'a>(alloc: Global) -> Result<Command<'a>, AllocError>
 fn program<'a>(alloc: Global) -> Result<Command<'a>, AllocError>
     ensures { IfOk result (IsDefinedAs program) }
 {
-    Ok(
-        Command::new(alloc, "aes3")
-            .about(help::PROGRAM.about)
-            .override_usage(help::PROGRAM.usage)
-            .after_help(help::PROGRAM.more)
-            .bin_name("aes3")?
-            .no_binary_name(true)
-            .version(help::VERSION)
-            .disable_help_subcommand(true)
-            .subcommand_required(true),
-    )
+    Command::new(alloc, "aes3")
+        .about(help::PROGRAM.about)
+        .override_usage(help::PROGRAM.usage)
+        .after_help(help::PROGRAM.more)
+        .no_binary_name(true)
+        .version(help::VERSION)
+        .disable_help_subcommand(true)
+        .subcommand_required(true)
+        .bin_name("aes3")
 }
 
 impl Name {
@@ -90,87 +88,77 @@ impl Name {
     pub(crate) fn define<'a>(self, alloc: Global) -> Result<Command<'a>, AllocError>
         ensures { IfOk result (IsDefinedAs (app_with (shape self))) }
     {
+        command(alloc, self.word(), self.texts(), self.arguments())
+    }
+
+    /// The word that it is.
+    fn word<'a>(self) -> &'a str
+        ensures { result.now ≡ (shape self).name }
+    {
+        match self {
+            Name::Encode => "encode",
+            Name::Decode => "decode",
+            Name::Normal => "normal",
+            Name::Check => "check",
+            Name::Watch => "watch",
+            Name::Show => "show",
+            Name::Scan => "scan",
+            Name::Cut => "cut",
+            Name::Rewrite => "rewrite",
+            Name::ToPcm => "to-pcm",
+            Name::FromPcm => "from-pcm",
+            Name::ToBits => "to-bits",
+        }
+    }
+
+    /// Its texts.
+    fn texts<'a>(self) -> &'a Texts<'a> {
+        match self {
+            Name::Encode => &help::ENCODE,
+            Name::Decode => &help::DECODE,
+            Name::Normal => &help::NORMAL,
+            Name::Check => &help::CHECK,
+            Name::Watch => &help::WATCH,
+            Name::Show => &help::SHOW,
+            Name::Scan => &help::SCAN,
+            Name::Cut => &help::CUT,
+            Name::Rewrite => &help::REWRITE,
+            Name::ToPcm => &help::TO_PCM,
+            Name::FromPcm => &help::FROM_PCM,
+            Name::ToBits => &help::TO_BITS,
+        }
+    }
+
+    /// The options and values that it takes, in the order in which help lists them.
+    fn arguments(self) -> &'static [Argument]
+        ensures { map rule result.now ≡ (shape self).rules }
+    {
         use Argument::*;
         match self {
-            Name::Encode => command(alloc, "encode", help::ENCODE, &[PackedOut, LsbFirst]),
-            Name::Decode => command(
-                alloc,
-                "decode",
-                help::DECODE,
-                &[PackedIn, RawIn, LsbFirst, File],
-            ),
-            Name::Normal => command(
-                alloc,
-                "normal",
-                help::NORMAL,
-                &[PackedIn, RawIn, PackedOut, LsbFirst, File],
-            ),
-            Name::Check => command(
-                alloc,
-                "check",
-                help::CHECK,
-                &[PackedIn, RawIn, LsbFirst, Faults, Gaps, File],
-            ),
-            Name::Watch => command(
-                alloc,
-                "watch",
-                help::WATCH,
-                &[
-                    PackedIn,
-                    RawIn,
-                    LsbFirst,
-                    Json,
-                    Rate,
-                    Every,
-                    EverySeconds,
-                    File,
-                ],
-            ),
-            Name::Show => command(
-                alloc,
-                "show",
-                help::SHOW,
-                &[PackedIn, RawIn, LsbFirst, Changes, At, More, File],
-            ),
-            Name::Scan => command(
-                alloc,
-                "scan",
-                help::SCAN,
-                &[PackedIn, RawIn, LsbFirst, File],
-            ),
-            Name::Cut => command(
-                alloc,
-                "cut",
-                help::CUT,
-                &[PackedIn, RawIn, PackedOut, LsbFirst, From, Count],
-            ),
-            Name::Rewrite => command(
-                alloc,
-                "rewrite",
-                help::REWRITE,
-                &[
-                    PackedIn, RawIn, PackedOut, LsbFirst, Status1, Status2, Set1, Set2, MendCheck,
-                    Valid1, Valid2, ClearUser1, ClearUser2, File,
-                ],
-            ),
-            Name::ToPcm => command(
-                alloc,
-                "to-pcm",
-                help::TO_PCM,
-                &[PackedIn, RawIn, LsbFirst, Valid, Fill, File],
-            ),
-            Name::FromPcm => command(
-                alloc,
-                "from-pcm",
-                help::FROM_PCM,
-                &[Status1, Status2, Set1, Set2, MendCheck, Exact, File],
-            ),
-            Name::ToBits => command(
-                alloc,
-                "to-bits",
-                help::TO_BITS,
-                &[PackedIn, RawIn, LsbFirst, Bits, Channel, File],
-            ),
+            Name::Encode => &[PackedOut, LsbFirst],
+            Name::Decode => &[PackedIn, RawIn, LsbFirst, File],
+            Name::Normal => &[PackedIn, RawIn, PackedOut, LsbFirst, File],
+            Name::Check => &[PackedIn, RawIn, LsbFirst, Faults, Gaps, File],
+            Name::Watch => &[
+                PackedIn,
+                RawIn,
+                LsbFirst,
+                Json,
+                Rate,
+                Every,
+                EverySeconds,
+                File,
+            ],
+            Name::Show => &[PackedIn, RawIn, LsbFirst, Changes, At, More, File],
+            Name::Scan => &[PackedIn, RawIn, LsbFirst, File],
+            Name::Cut => &[PackedIn, RawIn, PackedOut, LsbFirst, From, Count],
+            Name::Rewrite => &[
+                PackedIn, RawIn, PackedOut, LsbFirst, Status1, Status2, Set1, Set2, MendCheck,
+                Valid1, Valid2, ClearUser1, ClearUser2, File,
+            ],
+            Name::ToPcm => &[PackedIn, RawIn, LsbFirst, Valid, Fill, File],
+            Name::FromPcm => &[Status1, Status2, Set1, Set2, MendCheck, Exact, File],
+            Name::ToBits => &[PackedIn, RawIn, LsbFirst, Bits, Channel, File],
         }
     }
 }
@@ -179,7 +167,7 @@ impl Name {
 fn command<'a>(
     alloc: Global,
     name: &'a str,
-    texts: Texts<'a>,
+    texts: &Texts<'a>,
     arguments: &[Argument],
 ) -> Result<Command<'a>, AllocError>
     ensures { IfOk result (IsDefinedAs (app_with (command name.now (map rule arguments.now)))) }

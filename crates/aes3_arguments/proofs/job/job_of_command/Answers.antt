@@ -1,5 +1,5 @@
-use Rattle.std.proofs.Common.{sym, subst}
-use Rattle.aes3_arguments.specs.Jobs.{AsksFor, options_of}
+use Rattle.std.proofs.Common.{IfErr, IfOk, sym, subst}
+use Rattle.aes3_arguments.specs.Jobs.{AsksFor, IsBadOptionOf, options_of}
 use Rattle.aes3_arguments.proofs.CarriedOptions.{bits_stand, channel_stands}
 use Rattle.aes3_arguments.proofs.Misuses.{no_unknown_bits}
 use Rattle.aes3_arguments.proofs.TakenLines.{numbers_stand}
@@ -58,17 +58,31 @@ pub to_pcm-requires-clause-taken : goal.to_pcm-requires-clause-taken
 to_pcm-requires-clause-taken c =
     options_taken c.requires.stands.0 c.args.name.now (options_of c.args.options.now) c.requires.stands.1
 
-pub flag-requires : goal.flag-requires
-flag-requires c =
-    (options_taken c.requires.stands.0 c.args.name.now (options_of c.args.options.now) c.requires.stands.1).exact
-
-pub change-requires : goal.change-requires
-change-requires c =
+pub from_pcm-requires : goal.from_pcm-requires
+from_pcm-requires c =
     options_taken c.requires.stands.0 c.args.name.now (options_of c.args.options.now) c.requires.stands.1
 
-pub change-requires-in-rewrite : goal.change-requires-in-rewrite
-change-requires-in-rewrite c =
+pub returns-in-text-2-clause-job : goal.returns-in-text-2-clause-job
+returns-in-text-2-clause-job c = subst (λ n. IfOk c.from_pcm.result (AsksFor n (options_of c.args.options.now)))
+    (sym c.in-text-2.is) c.from_pcm.ensures.job
+
+pub returns-in-text-2-clause-fault : goal.returns-in-text-2-clause-fault
+returns-in-text-2-clause-fault c =
+    subst (λ n. IfErr c.from_pcm.result (IsBadOptionOf n (options_of c.args.options.now)))
+    (sym c.in-text-2.is) c.from_pcm.ensures.fault
+
+pub rewrite-requires-clause-taken : goal.rewrite-requires-clause-taken
+rewrite-requires-clause-taken c =
     options_taken c.requires.stands.0 c.args.name.now (options_of c.args.options.now) c.requires.stands.1
+
+pub returns-in-rewrite-clause-job : goal.returns-in-rewrite-clause-job
+returns-in-rewrite-clause-job c = subst (λ n. IfOk c.rewrite.result (AsksFor n (options_of c.args.options.now)))
+    (sym c.in-rewrite.is) c.rewrite.ensures.job
+
+pub returns-in-rewrite-clause-fault : goal.returns-in-rewrite-clause-fault
+returns-in-rewrite-clause-fault c =
+    subst (λ n. IfErr c.rewrite.result (IsBadOptionOf n (options_of c.args.options.now)))
+    (sym c.in-rewrite.is) c.rewrite.ensures.fault
 
 pub to_bits-requires-clause-bits : goal.to_bits-requires-clause-bits
 to_bits-requires-clause-bits c =
@@ -79,3 +93,26 @@ pub to_bits-requires-clause-channel : goal.to_bits-requires-clause-channel
 to_bits-requires-clause-channel c =
     channel_stands c.requires.stands.0 c.args.name.now (options_of c.args.options.now) c.requires.stands.1
     c.in-text-3.is
+
+pub returns-in-encode-clause-job : goal.returns-in-encode-clause-job
+returns-in-encode-clause-job c = (c.in-encode.is, c.form-output.ensures)
+
+pub returns-in-decode-clause-job : goal.returns-in-decode-clause-job
+returns-in-decode-clause-job c = (c.in-decode.is, c.input_form-input.ensures)
+
+pub returns-in-normal-clause-job : goal.returns-in-normal-clause-job
+returns-in-normal-clause-job c = (c.in-normal.is, c.input_form-input.ensures, c.form-output.ensures)
+
+pub returns-in-scan-clause-job : goal.returns-in-scan-clause-job
+returns-in-scan-clause-job c = (c.in-scan.is, c.input_form-input.ensures)
+
+pub returns-in-text-clause-job : goal.returns-in-text-clause-job
+returns-in-text-clause-job c = (c.in-text.is, c.input_form-input.ensures, c.flag.ensures)
+
+pub returns-in-cut-clause-job : goal.returns-in-cut-clause-job
+returns-in-cut-clause-job c =
+    (c.in-cut.is, c.input_form-input.ensures, c.form-output.ensures, c.number.ensures, c.number-in-cut.ensures)
+
+pub returns-in-text-3-clause-job : goal.returns-in-text-3-clause-job
+returns-in-text-3-clause-job c =
+    subst (λ n. AsksFor n (options_of c.args.options.now) c.to_bits.result) (sym c.in-text-3.is) c.to_bits.ensures

@@ -41,33 +41,33 @@ stood c =
     command_stands words c.in-Ok.matches c.in-Some.name.now (options_of c.in-Some.options.now)
     none matches c.in-Some.ensures.name c.in-Some.ensures.rows
 
-pub returns-clause-job : goal.returns-clause-job
-returns-clause-job c =
+pub returns-in-Some-clause-job : goal.returns-in-Some-clause-job
+returns-in-Some-clause-job c =
     IfOk-weaker c.line_of_command.result _ _
     (λ line asks. (c.in-Some.name.now, options_of c.in-Some.options.now, stood c, asks)) c.line_of_command.ensures.job
 
-pub returns-clause-octets : goal.returns-clause-octets
-returns-clause-octets c =
+pub returns-in-Some-clause-octets : goal.returns-in-Some-clause-octets
+returns-in-Some-clause-octets c =
     IfOk-weaker c.line_of_command.result _ _
     (λ line are. (c.in-Some.name.now, options_of c.in-Some.options.now, stood c, are))
     c.line_of_command.ensures.octets
 
-pub returns-clause-file : goal.returns-clause-file
-returns-clause-file c =
+pub returns-in-Some-clause-file : goal.returns-in-Some-clause-file
+returns-in-Some-clause-file c =
     let words = map (λ word. word.now) c.args.words.now in
     IfOk-weaker c.line_of_command.result _ _
     (λ line is. some_read words c.in-Some.name.now (options_of c.in-Some.options.now) line.file (stood c) is)
     c.line_of_command.ensures.file
 
-pub returns-clause-standard : goal.returns-clause-standard
-returns-clause-standard c =
+pub returns-in-Some-clause-standard : goal.returns-in-Some-clause-standard
+returns-in-Some-clause-standard c =
     let words = map (λ word. word.now) c.args.words.now in
     IfOk-weaker c.line_of_command.result _ _
     (λ line is. none_read words c.in-Some.name.now (options_of c.in-Some.options.now) line.file (stood c) is)
     c.line_of_command.ensures.file
 
-pub returns-clause-fault : goal.returns-clause-fault
-returns-clause-fault c =
+pub returns-in-Some-clause-fault : goal.returns-in-Some-clause-fault
+returns-in-Some-clause-fault c =
     let words = map (λ word. word.now) c.args.words.now in
     IfErr-weaker c.line_of_command.result _ _
     (λ told bad. bad_option_told words c.in-Some.name.now (options_of c.in-Some.options.now) told (stood c) bad)

@@ -1,0 +1,8 @@
+use Rattle.std.proofs.Common.{inl, refl}
+use Rattle.aes3_arguments.proofs.job.rewrite.Goals as goal
+
+pub returns-in-Ok-clause-job : goal.returns-in-Ok-clause-job
+returns-in-Ok-clause-job c = (refl, c.requires.input, c.requires.output, c.in-Ok.ensures.change)
+
+pub returns-in-Err-clause-fault : goal.returns-in-Err-clause-fault
+returns-in-Err-clause-fault c = inl (refl, c.in-Err.ensures.fault)
