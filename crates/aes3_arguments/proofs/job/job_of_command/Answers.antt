@@ -107,7 +107,8 @@ pub returns-in-scan-clause-job : goal.returns-in-scan-clause-job
 returns-in-scan-clause-job c = (c.in-scan.is, c.input_form-input.ensures)
 
 pub returns-in-text-clause-job : goal.returns-in-text-clause-job
-returns-in-text-clause-job c = (c.in-text.is, c.input_form-input.ensures, c.flag.ensures)
+returns-in-text-clause-job c =
+    subst (λ n. AsksFor n (options_of c.args.options.now) c.to_pcm.result) (sym c.in-text.is) c.to_pcm.ensures
 
 pub returns-in-cut-clause-job : goal.returns-in-cut-clause-job
 returns-in-cut-clause-job c =
