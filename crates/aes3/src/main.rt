@@ -23,20 +23,33 @@ fn main(rt: HostRuntime) -> ExitCode {
     let told = StdSink::new(rt.stderr());
     let mut errors = Clearing::new(StdSink::new(rt.stderr()), told, &shown, terminals.errors);
     let mut hints = Hints::new(rt.alloc(), StdSink::new(rt.stderr()), terminals);
-    let status = match run_program(&rt, terminals, &shown, &mut errors, &mut hints) {
-        Ok(status) => status,
-        Err(fault) => {
-            let status = tell_unread(fault, &mut errors, &mut hints);
-            hints.explain_unread();
-            status
-        }
-    };
+    let status = run_program(&rt, terminals, &shown, &mut errors, &mut hints);
     ExitCode::from(status)
 }
 
-/// Runs the command line between what it reads and standard output, both buffered. Whether a line of
-/// progress stands on standard error is in `shown`.
+/// Runs the command line, or tells why it can't be read, and answers the exit status. Whether a line
+/// of progress stands on standard error is in `shown`.
 fn run_program<E: Sink, H: Sink + Drop>(
+    rt: &HostRuntime,
+    terminals: Terminals,
+    shown: &Cell<bool>,
+    errors: &mut E,
+    hints: &mut Hints<H>,
+) -> u8
+    requires { E.failed errors.old + 1 < 2 ^ 64 }
+{
+    match run_buffered(rt, terminals, shown, errors, hints) {
+        Ok(status) => status,
+        Err(fault) => {
+            let status = tell_unread(fault, errors, hints);
+            hints.explain_unread();
+            status
+        }
+    }
+}
+
+/// Runs the command line between what it reads and standard output, both buffered.
+fn run_buffered<E: Sink, H: Sink + Drop>(
     rt: &HostRuntime,
     terminals: Terminals,
     shown: &Cell<bool>,
