@@ -1,11 +1,13 @@
 #!/bin/sh
-# tests/all.sh [PROGRAM]: all that is run with a built program, with bin/aes3's where none is given: the worked rows, the
-# machine's own streams, refused memory, the examples of help, README and tutorial, the manual page, the shells' completions, the pictures and the figures of
-# the books, captures with jitter, errors put in on purpose, round trips with other programs, and the examples from C (also for 64-bit ARM), C++, Python and Rust, and of the page in a browser, and the Debian packages in a
-# root of their own.
+# tests/all.sh [PROGRAM]: all that is run with a built program, with bin/aes3's where none is given: the worked rows, the machine's own
+# streams, refused memory, the examples of help, README and tutorial, the manual page, the shells' completions, the pictures and
+# the figures of the books, captures with jitter, errors put in on purpose, round trips with other programs, the examples from C (also
+# for 64-bit ARM), C++, Python and Rust, and of the page in a browser, and the Debian packages in a root of their own.
 #
-# Each part prints what fails, `left out: WHAT (WHY)` where something it needs is not installed, and `N passed, M failed`; behind it stand
-# its seconds. At the end all that was left out is told once more; the last line is the sum, and the status 1 where something failed.
+# The C library is built first, where that is still to be done. Each part has folders of its own, and as many run side by side as there
+# are processors. Each prints what fails, `left out: WHAT (WHY)` where something it needs is not installed, and `N passed, M failed`;
+# behind it stand its seconds. At the end all that was left out is told once more; the last line is the sum, and the status 1 where
+# something failed.
 
 root=$(dirname "$(dirname "$(realpath "$0")")")
 cd "$root" || exit 2
@@ -17,28 +19,28 @@ else
 fi
 folder=$(mktemp -d) || exit 2
 trap 'rm -rf "$folder"' EXIT
-trap 'kill "$packages" 2>/dev/null; exit 130' INT TERM
-passed=0 failed=0 packages=
+trap 'kill $running 2>/dev/null; exit 130' INT TERM
+passed=0 failed=0 parts=0 running=
 : >"$folder/left"
 
-# Runs a part, and counts what it counted. One that ends without a count has failed.
+# A line in it for each part that may begin.
+mkfifo "$folder/places"
+exec 3<>"$folder/places"
+for _ in $(seq "$(nproc)"); do echo; done >&3
+
+# Begins a part, once there is a place for it.
 part() {
-    echo "== $*"
-    begun=$(date +%s)
-    "$@" >"$folder/said" 2>&1 </dev/null
-    status=$?
-    cat "$folder/said"
-    echo "($(($(date +%s) - begun)) s)"
-    grep '^left out: ' "$folder/said" >>"$folder/left"
-    counts=$(grep -E '^[0-9]+ passed, [0-9]+ failed$' "$folder/said" | tail -n 1)
-    wrong=${counts#* passed, }
-    wrong=${wrong% failed}
-    if [ -z "$counts" ] || { [ "$status" != 0 ] && [ "$wrong" = 0 ]; }; then
-        echo "FAILED: $1 ended with status $status"
-        counts=${counts:-0} wrong=1
-    fi
-    passed=$((passed + ${counts%% *}))
-    failed=$((failed + wrong))
+    parts=$((parts + 1))
+    echo "== $*" >"$folder/$parts.name"
+    read -r _ <&3
+    {
+        begun=$(date +%s)
+        "$@" >"$folder/$parts.said" 2>&1 </dev/null 3>&-
+        echo $? >"$folder/$parts.status"
+        echo "($(($(date +%s) - begun)) s)" >"$folder/$parts.seconds"
+        echo >&3
+    } &
+    running="$running $!"
 }
 
 # part_with TOOL COMMAND..: a part that needs a tool.
@@ -52,18 +54,29 @@ part_with() {
     fi
 }
 
-# The packages in a root of their own, which mostly waits for a mirror: begun first, and told last.
-if [ -e crates/aes3_c/out/libaes3_c.a ]; then
-    tests/packages.sh >"$folder/packages" 2>&1 </dev/null &
-    packages=$!
-fi
-end_of() {
-    wait "$packages"
-    status=$?
-    cat "$folder/packages"
-    return $status
+# Shows what a part said, and counts what it counted. One that ended without a count has failed.
+tell() {
+    cat "$folder/$1.name" "$folder/$1.said" "$folder/$1.seconds"
+    status=$(cat "$folder/$1.status")
+    grep '^left out: ' "$folder/$1.said" >>"$folder/left"
+    counts=$(grep -E '^[0-9]+ passed, [0-9]+ failed$' "$folder/$1.said" | tail -n 1)
+    wrong=${counts#* passed, }
+    wrong=${wrong% failed}
+    if [ -z "$counts" ] || { [ "$status" != 0 ] && [ "$wrong" = 0 ]; }; then
+        echo "FAILED: this ended with status $status"
+        counts=${counts:-0} wrong=1
+    fi
+    passed=$((passed + ${counts%% *}))
+    failed=$((failed + wrong))
 }
 
+library() {
+    bin/build aes3_c && echo "1 passed, 0 failed"
+}
+
+part_with rt library
+library=${running##* }
+part_with python3 web/test "$program"
 part tests/rows.sh "$program"
 part tests/streams.sh "$program"
 part tests/help.sh "$program"
@@ -81,20 +94,28 @@ part_with python3 examples/neighbours/run "$program"
 part examples/many/run "$program" 20
 part examples/spoil/run "$program"
 part_with python3 examples/watch/run "$program"
-part_with python3 web/test "$program"
 part_with python3 examples/own/run
+
+# Behind the C library those over it; for 64-bit ARM it is proved anew, and the packages wait for a mirror.
+[ -z "$library" ] || wait "$library"
 if [ -e crates/aes3_c/out/libaes3_c.a ]; then
+    part tests/packages.sh
+    part examples/c/arm.sh "$program"
     part examples/c/test.sh "$program"
     part_with python3 examples/cpp/test.sh "$program"
     part_with python3 examples/python/test.sh "$program"
     part_with cargo examples/rust/test.sh "$program"
-    part examples/c/arm.sh "$program"
     part_with cc tests/install.sh
-    part end_of tests/packages.sh
 else
     echo "left out: examples/c/test.sh, examples/c/arm.sh and those of cpp, python and rust, tests/install.sh, tests/packages.sh (no C library is built: bin/build aes3_c)" | tee -a "$folder/left"
 fi
 
+number=0
+for pid in $running; do
+    number=$((number + 1))
+    wait "$pid"
+    tell "$number"
+done
 [ ! -s "$folder/left" ] || { echo "== left out" && cat "$folder/left"; }
 echo "$passed passed, $failed failed"
 [ "$failed" = 0 ]
