@@ -10,12 +10,11 @@ root=$(dirname "$(dirname "$(realpath "$0")")")
 program=$(realpath -m "${1:-$root/crates/aes3_cells/out/aes3_cells}")
 aes3=$(realpath -m "${2:-$root/crates/aes3/out/aes3}")
 here=$root/tests/captures
-passed=0 failed=0
+# shellcheck source=tests/judging.sh
+. "$root/tests/judging.sh"
 leave_out() {
     echo "left out: $1 ($2)"
-    [ -n "${3-}" ] || return 0
-    echo "$passed passed, $failed failed"
-    exit 0
+    [ -z "${3-}" ] || tell
 }
 [ -x "$program" ] || leave_out "tests/captures.sh" "there is no aes3-cells: bin/build aes3_cells" all
 for python in python3 /usr/bin/python3 none; do
@@ -23,22 +22,7 @@ for python in python3 /usr/bin/python3 none; do
 done
 [ "$python" != none ] || leave_out "tests/captures.sh" "numpy is not installed" all
 
-work=$(mktemp -d) || exit 2
-trap 'rm -rf "$work"' EXIT
-trap 'exit 130' INT TERM
 cd "$work" || exit 2
-
-judge() {
-    what=$1
-    shift
-    if "$@" >said 2>&1; then
-        passed=$((passed + 1))
-    else
-        failed=$((failed + 1))
-        echo "captures: $what" >&2
-        cat said >&2
-    fi
-}
 
 # sent_back LEAST: of the blocks of `sent`, LEAST and more are those of `capture`, in their order and with no other.
 sent_back() {
@@ -208,5 +192,4 @@ judge "the samples that it takes" eval '"$aes3" to-pcm sent.txt | tail -c 3072 |
 judge "its version" test "$("$program" --version)" = "aes3-cells $("$aes3" --version | cut -d' ' -f2)"
 
 judge "runs that are no line" "$python" "$here/hostile.py" "$program"
-echo "$passed passed, $failed failed"
-[ "$failed" = 0 ]
+tell

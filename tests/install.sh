@@ -7,22 +7,8 @@
 # The last line is `N passed, M failed`, and the status 0 where none failed.
 
 root=$(dirname "$(dirname "$(realpath "$0")")")
-work=$(mktemp -d) || exit 2
-trap 'rm -rf "$work"' EXIT
-passed=0 failed=0
-
-# judge WHAT COMMAND..
-judge() {
-    what=$1
-    shift
-    if "$@" >"$work/said" 2>&1; then
-        passed=$((passed + 1))
-    else
-        failed=$((failed + 1))
-        echo "install: $what" >&2
-        cat "$work/said" >&2
-    fi
-}
+# shellcheck source=tests/judging.sh
+. "$root/tests/judging.sh"
 judge_not() {
     what=$1
     shift
@@ -121,5 +107,4 @@ if [ -e "$to/lib/libaes3.so.1" ]; then
         judge_not "a version that there is not" cmake -S "$work" -B "$work/other" -DCMAKE_PREFIX_PATH="$to"
     fi
 fi
-echo "$passed passed, $failed failed"
-[ "$failed" = 0 ]
+tell

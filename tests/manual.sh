@@ -6,17 +6,8 @@
 
 root=$(dirname "$(dirname "$(realpath "$0")")")
 page=$root/man/aes3.1
-work=$(mktemp -d) || exit 2
-trap 'rm -rf "$work"' EXIT
-passed=0 failed=0
-
-# judge WHAT COMMAND..
-judge() {
-    what=$1
-    shift
-    if "$@" >&2; then passed=$((passed + 1)); else echo "manual: $what" >&2; failed=$((failed + 1)); fi
-}
-
+# shellcheck source=tests/judging.sh
+. "$root/tests/judging.sh"
 cat >"$work/wanted" <<'SECTIONS'
 NAME
 SYNOPSIS
@@ -46,5 +37,4 @@ if command -v man >/dev/null && command -v groff >/dev/null; then
 else
     echo "left out: how man shows the page (man and groff are not installed)"
 fi
-echo "$passed passed, $failed failed"
-[ "$failed" = 0 ]
+tell

@@ -10,35 +10,16 @@
 root=$(dirname "$(dirname "$(realpath "$0")")")
 # shellcheck disable=SC1091
 release=$(. /etc/os-release && echo "${VERSION_CODENAME:-stable}")
-work=$(mktemp -d) || exit 2
+# shellcheck source=tests/judging.sh
+. "$root/tests/judging.sh"
 place=${AES3_ROOT:-$work/root}
 trap 'umount "$place/proc" 2>/dev/null; rm -rf "$work"' EXIT
-trap 'exit 130' INT TERM
-passed=0 failed=0
-
-# judge WHAT COMMAND..
-judge() {
-    what=$1
-    shift
-    if "$@" >"$work/said" 2>&1; then
-        passed=$((passed + 1))
-    else
-        failed=$((failed + 1))
-        echo "packages: $what" >&2
-        tail -n 20 "$work/said" >&2
-    fi
-}
 lacks() { ! command -v "$1" >/dev/null; }
-end() {
-    echo "$passed passed, $failed failed"
-    [ "$failed" = 0 ]
-    exit
-}
 
 for tool in dpkg-deb cc python3 pandoc; do
     if lacks $tool; then
         echo "left out: the Debian packages ($tool is not installed)"
-        end
+        tell
     fi
 done
 mkdir "$work/debs"
@@ -54,14 +35,14 @@ fi
 
 if lacks mmdebstrap || [ "$(id -u)" != 0 ]; then
     echo "left out: the packages in a root of their own (mmdebstrap is not installed, or this is not root)"
-    end
+    tell
 fi
 if [ ! -e "$place/bin/sh" ]; then
     mkdir -p "$place"
     if ! timeout 900 mmdebstrap --quiet --variant=minbase \
         --include=python3,python3-numpy,gcc,g++,libc6-dev,pkg-config,cmake,make,cargo,man-db,sox,parallel "$release" "$place" >"$work/said" 2>&1; then
         echo "left out: the packages in a root of their own (mmdebstrap makes none: $(tail -n 1 "$work/said"))"
-        end
+        tell
     fi
 fi
 
@@ -154,4 +135,4 @@ fi
 
 judge "the packages removed" inside "dpkg -P python3-aes3 libaes3-dev libaes3-1 aes3"
 judge "what is left of them" test -z "$(find "$place/usr" "$place/etc" -name '*aes3*' | head -n 1)"
-end
+tell

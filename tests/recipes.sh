@@ -1,11 +1,9 @@
-# shellcheck shell=sh disable=SC2034 # `passed` and `failed` are counted by the scripts that read this
-# A folder for work, and recipes for the inputs and the expected output of rows: each writes bytes to standard output. They
-# use the line code alone and plain tools, never the program.
+# shellcheck shell=sh
+# Recipes for the inputs and the expected output of rows: each writes bytes to standard output. They use the line code alone and
+# plain tools, never the program. What tests/judging.sh has is here too.
 
-work=$(mktemp -d) || exit 2
-trap 'rm -rf "$work"' EXIT
-trap 'exit 130' INT TERM
-passed=0 failed=0
+# shellcheck source=tests/judging.sh
+. "$(dirname "$(realpath "$0")")/judging.sh"
 
 # 28 slots of bit 0, behind a preamble that ends at the level before it.
 slots=11001100110011001100110011001100110011001100110011001100

@@ -24,19 +24,6 @@ ln -s "$program" bin/aes3-spoil
 ln -s "$aes3" bin/aes3
 PATH=$work/bin:$PATH
 
-# judge WHAT COMMAND..
-judge() {
-    what=$1
-    shift
-    if "$@" >said 2>&1; then
-        passed=$((passed + 1))
-    else
-        failed=$((failed + 1))
-        echo "spoil: $what" >&2
-        cat said >&2
-    fi
-}
-
 # row WANTED WORDS..: what is written of the cells `in`, with nothing on standard error.
 row() {
     printf '%s' "$1" >want
@@ -225,5 +212,4 @@ if command -v python3 >/dev/null; then
 else
     echo "left out: random errors beside Python's (python3 is not installed)"
 fi
-echo "$passed passed, $failed failed"
-[ "$failed" = 0 ]
+tell

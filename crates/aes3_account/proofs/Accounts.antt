@@ -19,7 +19,7 @@ use Rattle.aes3_input.specs.Running.{Movement}
 use Rattle.aes3_input.specs.Taking.{Writing, behind, before_end, with_end}
 use Rattle.aes3_input.specs.Inputs.{cells_of}
 use Rattle.aes3_input.specs.Driving.{Drive}
-use Rattle.aes3_lock.specs.Tallies.{is_faulty, Tallies}
+use Rattle.aes3_lock.specs.Tallies.{is_faulty, is_unfinished, Tallies}
 use Rattle.aes3_lock.proofs.Tallies.{tallies-few, few-decided}
 use Rattle.aes3_input.proofs.Items.{before-is, before-join as end-join}
 use Rattle.aes3_settings.specs.declared.lines.Lines.{Lines}
@@ -41,7 +41,7 @@ unfolding accounted begun_account behind_full full_count decided block_len block
 starts t = record { place_is = refl; lost_is = refl; tally = t }
 
 -- where the cells before place p of a front c of the cells are accounted for, more cells or a report begin there
-shorter : (c d : List Level) → length c - block_len ≤ length (c ++ d) - block_len
+pub shorter : (c d : List Level) → length c - block_len ≤ length (c ++ d) - block_len
 shorter c d = let l = length-append c d in omega arith
 
 -- the entries that more cells give which decide no report
@@ -409,7 +409,7 @@ before-few n p (Marked at s wrong) h = let f = lost-full p (full_count p at) in 
 before-few n p (Fault at cell why) h = let f = lost-full p (full_count p at) in let k = behind-far p at in omega arith
 before-few n p (Unfinished at cells) h = let f = lost-full p (full_count p at) in let k = behind-far p at in omega arith
 
-behind-next : (p : ℕ) (x : Report) → p ≤ place_of x → behind_report p x ≤ next_place x
+pub behind-next : (p : ℕ) (x : Report) → p ≤ place_of x → behind_report p x ≤ next_place x
 behind-next p (Whole at s b) h = omega arith
 behind-next p (Marked at s wrong) h = let l = behind-near p at h in omega arith
 behind-next p (Fault at cell why) h = let l = behind-near p at h in omega arith
@@ -510,32 +510,36 @@ pub drive-room : {max : ℕ} {form : Form} {w : Writing Level} {g : List Level �
     → Drive max form w g (λ c. Accounted l b f u c) ended source sink (Ok (bytes, cells)) → f + l < 2 ^ 64
 drive-room {form = form} l b f u r = sum-room (cells_of form r.run.bytes) r.run.ran.1.0
 
+-- what a run counts that tells reports and, as faults too, so many losses
+pub counts-are : (bytes cells : ℕ) (r : List Report) (n c l k f u losses : ℕ) → n ≡ bytes → c ≡ cells → Tallies k f u r
+    → l ≡ losses
+    → ◌≡◌ {A = Counts} (record { bytes = n; cells = c; blocks = k; faults = f + l; unfinished = u; marks = 0 })
+    (record {
+      bytes = bytes;
+      cells = cells;
+      blocks = length (wholes r);
+      faults = length (filter is_faulty r) + losses;
+      unfinished = length (filter is_unfinished r);
+      marks = 0;
+    })
+counts-are bytes cells r n c l k f u losses e d t g =
+    let s : f + l ≡ length (filter is_faulty r) + losses = ap₂ (λ x y. x + y) t.faults_is g in
+    ap₂ (λ (x y : ℕ). record { bytes = x; cells = y; blocks = k; faults = f + l; unfinished = u; marks = 0 }) e d
+    ∙ ap₂ (λ (x y : ℕ). record { bytes = bytes; cells = cells; blocks = x; faults = y; unfinished = u; marks = 0 })
+    t.blocks_is s
+    ∙ ap (λ (x : ℕ). record {
+      bytes = bytes;
+      cells = cells;
+      blocks = length (wholes r);
+      faults = length (filter is_faulty r) + losses;
+      unfinished = x;
+      marks = 0;
+    }) t.unfinished_is
+
 pub counted : (form : Form) (b : List ℕ) (bytes cells l k f u : ℕ) → bytes ≡ length b → cells ≡ length (cells_of form b)
     → Accounted l k f u (cells_of form b)
     → ◌≡◌ {A = Counts} (record { bytes = bytes; cells = cells; blocks = k; faults = f + l; unfinished = u; marks = 0 })
     (account_counts form b)
 unfolding account_counts blocks
 counted form b n c l k f u e d t =
-    let r = reports (cells_of form b) in
-    let s : f + l ≡ length (filter is_faulty r) + length (filter is_lost (account (cells_of form b)))
-    = ap₂ (λ x y. x + y) t.tally.faults_is t.lost_is in
-    ap₂ (λ (x y : ℕ). record { bytes = x; cells = y; blocks = k; faults = f + l; unfinished = u; marks = 0 }) e d
-    ∙ ap₂ (λ (x y : ℕ). record {
-      bytes = length b;
-      cells = length (cells_of form b);
-      blocks = x;
-      faults = y;
-      unfinished
-          = u;
-      marks = 0;
-    }) t.tally.blocks_is s
-    ∙ ap (λ (x : ℕ). record {
-      bytes = length b;
-      cells = length (cells_of form b);
-      blocks = length (wholes r);
-      faults
-          = length (filter is_faulty r) + length (filter is_lost (account (cells_of form b)));
-      unfinished = x;
-      marks = 0;
-    })
-    t.tally.unfinished_is
+    counts-are _ _ (reports (cells_of form b)) n c l k f u _ e d t.tally t.lost_is

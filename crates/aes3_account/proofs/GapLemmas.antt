@@ -117,6 +117,10 @@ pub behind-near : (p q : ℕ) → p ≤ q → behind_full p q ≤ q
 unfolding behind_full full_count
 behind-near p q h = rw block_len_24576 (omega arith)
 
+pub behind-none : (p q : ℕ) → full_count p q ≡ 0 → behind_full p q ≡ p
+unfolding behind_full
+behind-none p q e = ap (λ z. p + block_len * z) e ∙ rw block_len_24576 (omega arith)
+
 pub behind-far : (p q : ℕ) → p + full_count p q ≤ behind_full p q
 unfolding behind_full full_count
 behind-far p q = rw block_len_24576 (omega arith)

@@ -183,7 +183,8 @@ module _ (unlike t v : List ℕ) (lu : length unlike ≡ 16) (lt : length t ≡ 
 
   pub l-unlike : length (unlike_lanes unlike t v) ≡ 16
   l-unlike =
-      length-zip2 bit_or unlike (zip2 bit_xor (turned_lanes t v) (moved_lanes (turned_lanes t v))) (lu ∙ sym l-both) ∙ lu
+      length-zip2 bit_or unlike (zip2 bit_xor (turned_lanes t v) (moved_lanes (turned_lanes t v))) (lu ∙ sym l-both)
+      ∙ lu
 
   lane : (r : ℕ) → r < 16
       → get_or (unlike_lanes unlike t v) r 0

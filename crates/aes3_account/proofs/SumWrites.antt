@@ -17,7 +17,8 @@ use Rattle.aes3_account.specs.declared.watched.Watched.{Watched}
 use Rattle.aes3_lines.specs.declared.sum.Figures.{Figures}
 use Rattle.aes3_account.proofs.WatchedCells.{pass-watches, same-watches, take-watches}
 use Rattle.aes3_account.proofs.Sums.{behind-lines, ends-lines, go-at, lines-join, next-at, notices-closed}
-use Rattle.aes3_account.proofs.Sums.{notices-closed_with, notices-passed, notices-taken, none-before, summed-known, summed-passed, summed-taken}
+use Rattle.aes3_account.proofs.Sums.{notices-closed_with, notices-passed, notices-taken, none-before, summed-known}
+use Rattle.aes3_account.proofs.Sums.{summed-passed, summed-taken}
 
 -- cells that decide no report
 pub passed-sums : {every : ℕ} {u : Summed} {lasts : List ℕ} {b f k : ℕ} (v : Summed) (s : ℕ) (c d : List Level)

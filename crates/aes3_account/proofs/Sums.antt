@@ -1,11 +1,9 @@
 -- A line of which sums are told, as its cells come.
-use Rattle.std.proofs.Common.{◌≡◌, ℕ, zero, suc, ◌+◌, ◌-◌, ◌*◌, ◌/◌, ◌<◌, ◌≤◌, ◌⊎◌, inl, inr, Bool, true, false, cond}
-use Rattle.std.proofs.Common.{List, [], ◌∷◌, ◌++◌, length, drop, refl, sym, ap, ap₂, ◌∙◌, subst, arith, append-nil}
-use Rattle.std.proofs.Common.{append_assoc, Option, take, get_or}
+use Rattle.std.proofs.Common.{◌≡◌, ℕ, zero, suc, ◌+◌, ◌-◌, ◌*◌, ◌/◌, ◌<◌, ◌≤◌, ◌⊎◌, inl, inr, List, [], ◌∷◌, ◌++◌}
+use Rattle.std.proofs.Common.{length, drop, refl, sym, ap, ap₂, ◌∙◌, subst, arith, append-nil, append_assoc, Option}
 use Rattle.std.proofs.Math.Nat.{add-mul-div_left, div-add-mod, le-div_iff_mul-le, mod-lt, mul-div-le, zero-div}
-use Rattle.std.proofs.lemmas.List.{append_cancel_left, drop_at, take_more}
+use Rattle.std.proofs.lemmas.List.{append_cancel_left, drop_at, map-append}
 use Rattle.std.proofs.lemmas.Grind.{flat_map-append}
-use Rattle.std.proofs.lemmas.List.Sums.{sum_by-append}
 use Rattle.aes3_level.specs.declared.level.Level.{Level}
 use Rattle.aes3_cell.specs.Ends.{Grew, GrewFront}
 use Rattle.aes3_cell.proofs.Growing.{front-is, front-join, front-more}
@@ -24,19 +22,20 @@ use Rattle.aes3_lines.specs.declared.sum.Figures.{Figures}
 use Rattle.aes3_lines.specs.Events.{event_line}
 use Rattle.aes3_lines.specs.SumLines.{sum_line}
 use Rattle.aes3_account.specs.Gaps.{behind_full, full_count}
-use Rattle.aes3_account.specs.Watching.{loss_events, up_to, told_events, next, behind_reports, watched}
-use Rattle.aes3_account.specs.Watching.{event_lines, is_told, is_locked, IsKept}
+use Rattle.aes3_account.specs.Watching.{loss_events, up_to, told_events, next, behind_reports, watched, event_lines}
+use Rattle.aes3_account.specs.Watching.{is_locked, IsKept}
 use Rattle.aes3_account.specs.declared.watched.Watched.{Watched}
 use Rattle.aes3_account.specs.declared.summed.Summed.{Summed}
-use Rattle.aes3_account.specs.Sums.{Notice, event, sum, events, begun_notices, begun_sums, behind_sums, end_told, ends_before}
-use Rattle.aes3_account.specs.Sums.{change_of, changes_in, go_to, more, next_period, next_sum, no_figures, notice_line, notice_lines, notices, on_to}
-use Rattle.aes3_account.specs.Sums.{period_told, periods, periods_told, report_told, sum_lines, summed, summing, sums_from}
-use Rattle.aes3_account.specs.Sums.{all_told, last_sum, take_report, told_to, unsummed, with_lost}
+use Rattle.aes3_account.specs.Sums.{Notice, event, sum, events, begun_notices, begun_sums, behind_sums, end_told}
+use Rattle.aes3_account.specs.Sums.{ends_before, go_to, more, next_period, next_sum, no_figures, notice_line}
+use Rattle.aes3_account.specs.Sums.{notice_lines, notices, on_to, period_told, periods, periods_told, report_told}
+use Rattle.aes3_account.specs.Sums.{sum_lines, summed, summing, sums_from, all_told, last_sum, take_report, told_to}
+use Rattle.aes3_account.specs.Sums.{unsummed, with_lost}
 use Rattle.aes3_account.proofs.GapLemmas.{behind-join, count-add}
 use Rattle.aes3_lock.proofs.ReportPlaces.{split-reports, late-decided, late-reports}
-use Rattle.aes3_account.proofs.Accounts.{one-answer, one-final, decided-more}
-use Rattle.aes3_account.proofs.WatchedCells.{loss-join, up-join, next-join, shorter, before-last, few-up, grown}
-use Rattle.aes3_account.proofs.WatchedCells.{as_lost, up-latest}
+use Rattle.aes3_account.proofs.Accounts.{one-answer, one-final, decided-more, shorter}
+use Rattle.aes3_account.proofs.WatchedCells.{loss-join, up-join, up-losses, next-join, before-last, few-up, grown}
+use Rattle.aes3_account.proofs.WatchedCells.{up-latest}
 
 -- more, and more behind it
 more-join : (n x y z : ℕ) → z ≡ x + y → more (more n x) y ≡ more n z
@@ -89,13 +88,11 @@ next-on every u a h = ap₂ (λ (w : Watched) (p : ℕ). record {
   figures = no_figures;
 }) (sym (up-join u.watched a (u.from + every) h)) (behind-join u.place a (u.from + every) h)
 
-map-join : (a b : List Event) → events (a ++ b) ≡ events a ++ events b
-map-join [] b = refl
-map-join (x ∷ a) b = ap (λ z. event x ∷ z) (map-join a b)
-
 loss-on : (u : Summed) (a b : ℕ) → a ≤ b
     → events (loss_events u.watched b) ≡ events (loss_events u.watched a) ++ events (loss_events (on_to u a).watched b)
-loss-on u a b h = ap events (loss-join u.watched a b h) ∙ map-join (loss_events u.watched a) (loss_events (up_to u.watched a) b)
+loss-on u a b h =
+    ap events (loss-join u.watched a b h)
+    ∙ map-append event (loss_events u.watched a) (loss_events (up_to u.watched a) b)
 
 told-on : (every : ℕ) (u : Summed) (a : ℕ) → a ≤ u.from + every
     → period_told every u ≡ events (loss_events u.watched a) ++ period_told every (on_to u a)
@@ -139,10 +136,11 @@ periods-more every n u = periods-add every n 1 u
 pub periods_told-more : (every n : ℕ) (u : Summed)
     → periods_told every (n + 1) u ≡ periods_told every n u ++ period_told every (periods every n u)
 periods_told-more every n u =
-    periods_told-add every n 1 u ∙ ap (λ z. periods_told every n u ++ z) (append-nil (period_told every (periods every n u)))
+    periods_told-add every n 1 u
+    ∙ ap (λ z. periods_told every n u ++ z) (append-nil (period_told every (periods every n u)))
 
 -- how many ends of periods there are up to a place
-near-end : (every n : ℕ) → 0 < every → n < every * (n / every) + every
+pub near-end : (every n : ℕ) → 0 < every → n < every * (n / every) + every
 near-end every n h = let d = div-add-mod n every in let m = mod-lt n h in omega arith
 
 ends-step : (every f a b : ℕ) → 0 < every → a ≤ b
@@ -207,13 +205,6 @@ periods-watched every (suc n) u q h l =
     let t = suc-times every n in
     periods-watched every n (next_period every u) q h (omega arith)
     ∙ sym (up-join u.watched (u.from + every) q (omega arith))
-
-up-losses : (w : Watched) (q : ℕ) → w.losses ≤ (up_to w q).losses
-up-losses w q = go (is_told w q)
-  where
-    go : (b : Bool) → w.losses ≤ (cond b w (as_lost w)).losses
-    go true = omega arith
-    go false = omega arith
 
 pub periods-few : (every n : ℕ) (u : Summed) (q : ℕ) → 0 < every → n * every ≤ q - u.from
     → (periods every n u).watched.losses ≤ u.watched.losses + 1
@@ -293,22 +284,6 @@ pub go-is : (every : ℕ) (u v w : Summed) (q : ℕ) → v ≡ periods every (en
 unfolding go_to
 go-is every u v w q e f = f ∙ ap (λ x. on_to x q) e
 
--- how many events tell of a change
-changes-append : (a b : List Event) → changes_in (a ++ b) ≡ changes_in a + changes_in b
-unfolding changes_in
-changes-append a b = sum_by-append change_of a b
-
-one-change : (e : Event) → changes_in (e ∷ []) ≡ change_of e
-unfolding changes_in
-one-change e = omega arith
-
-pub changes-more : (k n m : ℕ) (es : List Event) (d : Event) → k < length es → n ≡ changes_in (take k es)
-    → m ≡ change_of (get_or es k d)
-    → n + m ≡ changes_in (take (k + 1) es)
-changes-more k n m es d h e f =
-    ap₂ (λ x y. x + y) e (f ∙ sym (one-change (get_or es k d)))
-    ∙ sym (changes-append (take k es) (get_or es k d ∷ [])) ∙ ap changes_in (sym (take_more es k d h))
-
 -- what the last whole block says stays
 periods-latest : (every n : ℕ) (u : Summed) → (periods every n u).watched.latest ≡ u.watched.latest
 periods-latest every zero u = refl
@@ -365,7 +340,8 @@ told-periods every (suc k) v a b h l =
     ap (λ z. (z ++ periods_told every k n) ++ t) (told-on every v a l)
     ∙ five-joined (events (loss_events v.watched a)) (period_told every (on_to v a)) (periods_told every k n) t
     ∙ ap (λ x. events (loss_events v.watched a)
-    ++ ((period_told every (on_to v a) ++ periods_told every k x) ++ events (loss_events (periods every k x).watched b)))
+    ++ ((period_told every (on_to v a) ++ periods_told every k x)
+    ++ events (loss_events (periods every k x).watched b)))
     (sym (next-on every v a l))
   where
     five-joined : (a b c d : List Notice) → ((a ++ b) ++ c) ++ d ≡ a ++ ((b ++ c) ++ d)
@@ -408,8 +384,10 @@ told-join every u a b h l =
     let v = there every u a in
     let k = ends_before every (on_to v a) b in
     ap (λ m. periods_told every m u ++ events (loss_events (periods every m u).watched b)) (ends-add every u a b h l)
-    ∙ ap₂ (λ x (y : Summed). x ++ events (loss_events y.watched b)) (periods_told-add every n k u) (periods-add every n k u)
-    ∙ append_assoc (periods_told every n u) (periods_told every k v) (events (loss_events (periods every k v).watched b))
+    ∙ ap₂ (λ x (y : Summed). x ++ events (loss_events y.watched b)) (periods_told-add every n k u)
+    (periods-add every n k u)
+    ∙ append_assoc (periods_told every n u) (periods_told every k v)
+    (events (loss_events (periods every k v).watched b))
     ∙ ap (λ z. periods_told every n u ++ z) (told-periods every k v a b l (there-near every u a h))
     ∙ sym (append_assoc (periods_told every n u) (events (loss_events v.watched a))
     (periods_told every k (on_to v a) ++ events (loss_events (periods every k (on_to v a)).watched b)))

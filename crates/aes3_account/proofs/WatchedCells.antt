@@ -3,7 +3,6 @@ use Rattle.std.proofs.Common.{◌≡◌, ℕ, ◌+◌, ◌-◌, ◌*◌, ◌^◌
 use Rattle.std.proofs.Common.{[], ◌∷◌, ◌++◌, Some, Ok, length, drop, refl, sym, ap, ap₂, ◌∙◌, subst}
 use Rattle.std.proofs.Common.{arith, append-nil, append_assoc, length-append}
 use Rattle.std.specs.Prelude.{◌||◌, nat_lt}
-use Rattle.std.specs.List.{filter}
 use Rattle.std.proofs.lemmas.Bool.{ltb-false, le-ltb}
 use Rattle.std.proofs.lemmas.List.{append_cancel_left, drop_at}
 use Rattle.std.proofs.lemmas.Grind.{flat_map-append}
@@ -13,7 +12,7 @@ use Rattle.aes3_cell.specs.declared.counts.Counts.{Counts}
 use Rattle.aes3_frame.specs.Blocks.{block_len, block_slots}
 use Rattle.aes3_lock.specs.declared.report.Report.{Report}
 use Rattle.aes3_lock.specs.declared.report.Report.TheVariants.{Whole, Marked, Fault, Unfinished}
-use Rattle.aes3_lock.specs.Reports.{reports, decided, wholes, blocks}
+use Rattle.aes3_lock.specs.Reports.{reports, decided, blocks}
 use Rattle.aes3_lock.specs.Remains.{place_of}
 use Rattle.aes3_lock.proofs.Deciding.{answer, block_len_24576}
 use Rattle.aes3_lock.proofs.Ends.{final}
@@ -23,7 +22,7 @@ use Rattle.aes3_input.specs.Inputs.{cells_of}
 use Rattle.aes3_input.specs.Driving.{Drive}
 use Rattle.aes3_input.proofs.Items.{before-is, before-join}
 use Rattle.aes3_lock.specs.declared.tally.Tally.{Tally}
-use Rattle.aes3_lock.specs.Tallies.{is_faulty, Tallies}
+use Rattle.aes3_lock.specs.Tallies.{Tallies}
 use Rattle.aes3_lock.proofs.Tallies.{tallies-few, few-decided}
 use Rattle.aes3_lines.specs.declared.event.Event.{Event}
 use Rattle.aes3_lines.specs.declared.event.Event.TheVariants.{Lost, End}
@@ -37,7 +36,7 @@ use Rattle.aes3_account.specs.Watching.{told_events, next, events_from, behind_r
 use Rattle.aes3_account.specs.Watching.{is_locked, ended, watch_events, event_lines, begun_watch, watch_lines}
 use Rattle.aes3_account.specs.Watching.{watch_counts, watching, IsKept, Watches, Ended}
 use Rattle.aes3_lock.proofs.ReportPlaces.{split-reports, late-decided, late-reports}
-use Rattle.aes3_account.proofs.Accounts.{one-answer, one-final, decided-more, few-reports}
+use Rattle.aes3_account.proofs.Accounts.{counts-are, one-answer, one-final, decided-more, few-reports, shorter}
 
 -- what the code computes
 pub told-is : (w : Watched) (q s : ℕ) → s ≡ q - w.place → w.lost ≡ false → nat_lt s 24576 ≡ is_told w q
@@ -74,6 +73,27 @@ as_lost w = record { found = w.found; place = w.place; lost = true; losses = w.l
 
 pub up-told : (w : Watched) (a : ℕ) (b : Bool) → is_told w a ≡ b → up_to w a ≡ cond b w (as_lost w)
 up-told w a b e = ap (λ x. cond x w (as_lost w)) e
+
+pub up-is-told : (w : Watched) (q : ℕ) → is_told (up_to w q) q ≡ true
+up-is-told w q = go (either (is_told w q))
+  where
+    go : (is_told w q ≡ true) ⊎ (is_told w q ≡ false) → is_told (up_to w q) q ≡ true
+    go (inl t) = ap (λ v. is_told v q) (up-told w q true t) ∙ t
+    go (inr t) = ap (λ v. is_told v q) (up-told w q false t)
+
+pub up-found : (w : Watched) (q : ℕ) → (up_to w q).found ≡ w.found
+up-found w q = go (is_told w q)
+  where
+    go : (b : Bool) → (cond b w (as_lost w)).found ≡ w.found
+    go true = refl
+    go false = refl
+
+pub up-losses : (w : Watched) (q : ℕ) → w.losses ≤ (up_to w q).losses
+up-losses w q = go (is_told w q)
+  where
+    go : (b : Bool) → w.losses ≤ (cond b w (as_lost w)).losses
+    go true = omega arith
+    go false = omega arith
 
 pub loss-told : (w : Watched) (a : ℕ) (b : Bool) → is_told w a ≡ b → loss_events w a ≡ cond b [] (Lost w.place ∷ [])
 loss-told w a b e = ap (λ (x : Bool). cond {A = List Event} x [] (Lost w.place ∷ [])) e
@@ -136,9 +156,6 @@ behind-push w [] x = refl
 behind-push w (y ∷ r) x = behind-push (next w y) r x
 
 -- the cells before the last block's
-pub shorter : (c d : List Level) → length c - block_len ≤ length (c ++ d) - block_len
-shorter c d = let l = length-append c d in omega arith
-
 -- more cells that decide no report
 pub watched-passed : (c d : List Level) → decided (c ++ d) ≡ decided c
     → watched (c ++ d) ≡ up_to (watched c) (length (c ++ d) - block_len)
@@ -498,26 +515,4 @@ pub watch-counted : (form : Form) (b : List ℕ) (bytes cells l k f u : ℕ) →
     (watch_counts form b)
 unfolding watch_counts blocks
 watch-counted form b n c l k f u e d t =
-    let r = reports (cells_of form b) in
-    let s : f + l ≡ length (filter is_faulty r) + (ended (cells_of form b)).losses
-    = ap₂ (λ x y. x + y) t.tally.faults_is t.losses_is in
-    ap₂ (λ (x y : ℕ). record { bytes = x; cells = y; blocks = k; faults = f + l; unfinished = u; marks = 0 }) e d
-    ∙ ap₂ (λ (x y : ℕ). record {
-      bytes = length b;
-      cells = length (cells_of form b);
-      blocks = x;
-      faults = y;
-      unfinished
-          = u;
-      marks = 0;
-    }) t.tally.blocks_is s
-    ∙ ap (λ (x : ℕ). record {
-      bytes = length b;
-      cells = length (cells_of form b);
-      blocks = length (wholes r);
-      faults
-          = length (filter is_faulty r) + (ended (cells_of form b)).losses;
-      unfinished = x;
-      marks = 0;
-    })
-    t.tally.unfinished_is
+    counts-are _ _ (reports (cells_of form b)) n c l k f u _ e d t.tally t.losses_is

@@ -1,6 +1,6 @@
 -- Sums of a line that is watched: for each period of its cells what comes of them, told beside the events.
-use Rattle.std.specs.Prelude.{ℕ, zero, suc, List, [], ◌∷◌, ◌++◌, Bool, true, false, length, drop, map, ◌≡◌, ◌+◌, ◌-◌, ◌*◌}
-use Rattle.std.specs.Prelude.{◌/◌, ◌^◌, ◌<◌, ◌≤◌, nat_lt, min, if◌then◌else◌}
+use Rattle.std.specs.Prelude.{ℕ, zero, suc, List, [], ◌∷◌, ◌++◌, Bool, true, false, length, drop, map, ◌≡◌, ◌+◌, ◌-◌}
+use Rattle.std.specs.Prelude.{◌*◌, ◌/◌, ◌^◌, ◌<◌, ◌≤◌, nat_lt, min, if◌then◌else◌}
 use Rattle.std.specs.List.{flat_map, sum_by}
 use Rattle.aes3_level.specs.declared.level.Level.{Level}
 use Rattle.aes3_frame.specs.Blocks.{block_len}

@@ -1,6 +1,7 @@
 //! A line watched, with a sum for each period of it.
 
-ghost use Rattle.std.specs.Prelude.{◌≡◌, ℕ, ◌+◌, ◌*◌, ◌-◌, ◌<◌, ◌≤◌, ◌^◌, ◌++◌, [], List, Some, IfOk, false, if◌then◌else◌};
+ghost use Rattle.std.specs.Prelude.{◌≡◌, ℕ, ◌+◌, ◌*◌, ◌-◌, ◌<◌, ◌≤◌, ◌^◌, ◌++◌, [], List, Some, IfOk, false};
+ghost use Rattle.std.specs.Prelude.{if◌then◌else◌};
 ghost use Rattle.aes3_cell.specs.Ends.{Grew, Told};
 ghost use Rattle.aes3_cell.specs.Writes.{Wrote};
 ghost use Rattle.aes3_frame.specs.Blocks.{block_len};
@@ -14,10 +15,10 @@ ghost use Rattle.aes3_account.specs.Signals.{signals_of};
 ghost use Rattle.aes3_account.specs.Watching.{Ended, IsKept, event_lines, loss_events, up_to, watch_counts};
 ghost use Rattle.aes3_account.specs.Sums.{Sums, begun_sums, change_of, changes_in, end_told, ends_before};
 ghost use Rattle.aes3_lines.specs.SumLines.{sum_line};
-ghost use Rattle.aes3_account.specs.Sums.{go_to, last_sum, more, next_period, no_figures, next_sum};
-ghost use Rattle.aes3_account.specs.Sums.{notice_lines, on_to, period_told, periods, periods_told};
-ghost use Rattle.aes3_account.specs.Sums.{place_behind, report_told, sum_lines, summed_by, summing, take_report};
-ghost use Rattle.aes3_account.specs.Sums.{all_told, counted_report, is_whole, told_to, with_fault, with_lost, with_marked, with_whole};
+ghost use Rattle.aes3_account.specs.Sums.{go_to, last_sum, more, next_period, no_figures, next_sum, notice_lines};
+ghost use Rattle.aes3_account.specs.Sums.{on_to, period_told, periods, periods_told, place_behind, report_told};
+ghost use Rattle.aes3_account.specs.Sums.{sum_lines, summed_by, summing, take_report, all_told, counted_report};
+ghost use Rattle.aes3_account.specs.Sums.{is_whole, told_to, with_fault, with_lost, with_marked, with_whole};
 
 use crate::cell_reporter::CellReporter;
 use crate::counted::Counted;

@@ -15,6 +15,7 @@ use Rattle.aes3_account.specs.Gaps.{Entry, reported, lost, cut, full_gaps, full_
 use Rattle.aes3_account.specs.Gaps.{gaps, gaps_before, behind_report, account_from, reached_from, account}
 use Rattle.aes3_account.specs.Gaps.{begun_account, accounted}
 use Rattle.aes3_account_laws.specs.GapLaws.{Covers, reports_in}
+use Rattle.aes3_account.proofs.Accounts.{behind-next}
 use Rattle.aes3_account.proofs.GapLemmas.{behind-near}
 use Rattle.aes3_lock.proofs.ReportPlaces.{Spaced, next_place, spaced-weaker, spaced-reports, spaced-decided}
 
@@ -63,12 +64,6 @@ covers-before n p q (Fault at cell why) e h g
 covers-before n p q (Unfinished at cells) e h g
     = covers-join p (behind_full p at) q (full_gaps p (full_count p at)) (reported (Unfinished at cells) ∷ e)
     (covers-full p at) g
-
-behind-next : (p : ℕ) (x : Report) → p ≤ place_of x → behind_report p x ≤ next_place x
-behind-next p (Whole at s b) h = omega arith
-behind-next p (Marked at s wrong) h = let l = behind-near p at h in omega arith
-behind-next p (Fault at cell why) h = let l = behind-near p at h in omega arith
-behind-next p (Unfinished at cells) h = let l = behind-near p at h in omega arith
 
 covers-from : (n p : ℕ) (r : List Report) → Spaced p r → Covers p (account_from n p r) (reached_from p r)
 covers-from n p [] s = refl

@@ -28,8 +28,8 @@ use Rattle.aes3_account.specs.Watching.{loss_events, next, told_events, unwatche
 use Rattle.aes3_account_laws.specs.WatchLaws.{AllBehind, IsBehind, StaysLocked, is_breaking, is_locking}
 use Rattle.aes3_account_laws.proofs.PieceGaps.{piece-no-gap}
 use Rattle.aes3_lock.proofs.ReportPlaces.{Spaced, spaced-reports}
-use Rattle.aes3_account.proofs.WatchedCells.{as_lost, either, loss-told, up-told}
-use Rattle.aes3_account_laws.proofs.WatchedGaps.{behind-more, losses-are-gaps, next-more, up-more, whole-more}
+use Rattle.aes3_account.proofs.WatchedCells.{as_lost, either, loss-told, up-found, up-is-told, up-losses, up-told}
+use Rattle.aes3_account_laws.proofs.WatchedGaps.{behind-more, losses-are-gaps, next-more, whole-more}
 
 abbrev locks : List Event → ℕ
 locks e = length (filter is_locking e)
@@ -94,13 +94,6 @@ loss-breaks w q = go (is_told w q)
     go : (b : Bool) → breaks (cond {A = List Event} b [] (Lost w.place ∷ [])) + w.losses ≡ (cond b w (as_lost w)).losses
     go true = omega arith
     go false = omega arith
-
-up-found : (w : Watched) (q : ℕ) → (up_to w q).found ≡ w.found
-up-found w q = go (is_told w q)
-  where
-    go : (b : Bool) → (cond b w (as_lost w)).found ≡ w.found
-    go true = refl
-    go false = refl
 
 up-place : (w : Watched) (q : ℕ) → (up_to w q).place ≡ w.place
 up-place w q = go (is_told w q)
@@ -235,7 +228,7 @@ report-kept w (Whole at s b) h e =
     let l = loss_events w at in
     let p = whole_events v at s in
     let k = change_events at w.latest now in
-    let m = up-more w at in
+    let m = up-losses w at in
     let n = whole-more v at now in
     let a = loss-breaks w at in
     let f = whole-breaks v at s now (up-kept w at h (omega (arith, e, m, n))) in
@@ -266,7 +259,7 @@ row-stays c z k =
     let l = loss_events w (length c) in
     let e : List Event = End (length c) (is_locked (up_to w (length c))) ∷ [] in
     let none : (up_to w (length c)).losses ≡ 0 = (losses-are-gaps c).0 z in
-    let m = up-more w (length c) in
+    let m = up-losses w (length c) in
     let a = run-kept unwatched r refl (let q : w.losses ≡ 0 = omega (arith, none, m) in q) in
     let b = loss-breaks w (length c) in
     let x = count-append is_breaking (events_from unwatched r) (l ++ e) in
@@ -316,13 +309,6 @@ up-known e w q last h i = go (either (is_told w q))
     go (inr t) =
         subst (λ v. Known e v last) (sym (up-told w q false t))
         (known-lost e w last h (inside-one e (loss_events w q) (Lost w.place) i (loss-told w q false t)))
-
-up-is-told : (w : Watched) (q : ℕ) → is_told (up_to w q) q ≡ true
-up-is-told w q = go (either (is_told w q))
-  where
-    go : (is_told w q ≡ true) ⊎ (is_told w q ≡ false) → is_told (up_to w q) q ≡ true
-    go (inl t) = ap (λ v. is_told v q) (up-told w q true t) ∙ t
-    go (inr t) = ap (λ v. is_told v q) (up-told w q false t)
 
 module _ (e : List Event) (v : Watched) (at : ℕ) (s : Level) (i : Inside e (whole_events v at s)) (l : v.place ≤ at)
     (t : is_told v at ≡ true) where

@@ -4,6 +4,7 @@ use Rattle.std.proofs.Common.{◌++◌, refl, sym, ap, ap₂, ◌∙◌, arith, 
 use Rattle.std.specs.Prelude.{◌&&◌, min}
 use Rattle.std.specs.List.{filter, sum_by}
 use Rattle.std.proofs.lemmas.Bool.{ltb-true, lt-ltb, le-ltb}
+use Rattle.std.proofs.lemmas.List.{map-append}
 use Rattle.std.proofs.lemmas.List.Elements.{filter-append}
 use Rattle.std.proofs.lemmas.List.Sums.{sum_by-append}
 use Rattle.aes3_frame.specs.Statuses.{validity_of}
@@ -12,7 +13,8 @@ use Rattle.aes3_lines.specs.declared.event.Event.{Event}
 use Rattle.aes3_lines.specs.declared.sum.Figures.{Figures}
 use Rattle.aes3_lines.specs.Ones.{ones_in}
 use Rattle.aes3_account.specs.Gaps.{Entry}
-use Rattle.aes3_account.specs.Sums.{Notice, event, sum, events, change_of, is_biphase, is_preamble, is_unclosed, more, no_figures}
+use Rattle.aes3_account.specs.Sums.{Notice, event, sum, events, change_of, is_biphase, is_preamble, is_unclosed, more}
+use Rattle.aes3_account.specs.Sums.{no_figures}
 use Rattle.aes3_account_laws.specs.PeriodLaws.{by_block, by_fault, by_mark, counts_at, figures_of, fitted, in_64_bits}
 use Rattle.aes3_account_laws.specs.PeriodLaws.{lost_cells, told_at, within}
 
@@ -177,7 +179,8 @@ none-more n = ap fitted (let e : 0 + n ≡ n = omega arith in e)
 
 pub none-plus : (g : Figures) → in_64_bits (plus no_figures g) ≡ in_64_bits g
 none-plus g =
-    same-figures (none-more g.whole) (none-more g.marked) (none-more g.fault) (none-more g.preamble) (none-more g.biphase)
+    same-figures (none-more g.whole) (none-more g.marked) (none-more g.fault) (none-more g.preamble)
+    (none-more g.biphase)
     (none-more g.unclosed) (none-more g.lost) (none-more g.invalid_first) (none-more g.invalid_second)
     (none-more g.changes)
 
@@ -202,11 +205,8 @@ left_told every n (suc k) from g e v =
       to = min (from + every) n;
       figures = in_64_bits (plus g (figures_of (before counts_at (min (from + every) n) e)
           (before told_at (min (from + every) n) v)));
-    }) ∷ left_told every n k (from + every) no_figures (from_on counts_at (from + every) e) (from_on told_at (from + every) v)
-
-map-join : (a b : List Event) → events (a ++ b) ≡ events a ++ events b
-map-join [] b = refl
-map-join (x ∷ a) b = ap (λ z. event x ∷ z) (map-join a b)
+    }) ∷ left_told every n k (from + every) no_figures (from_on counts_at (from + every) e)
+    (from_on told_at (from + every) v)
 
 abbrev the_sum : ℕ → ℕ → Figures → Notice
 the_sum from q f = sum (record { from = from; to = q; figures = in_64_bits f })
@@ -231,7 +231,7 @@ left-pass every n k from g a e b v h l =
     ∷ left_told every n k r no_figures i j) s t
     ∙ ap₂ (λ i f. i ++ the_sum from q f
     ∷ left_told every n k r no_figures (from_on counts_at r e) (from_on told_at r v))
-    (map-join b (before told_at q v)) (plus-pass g a (before counts_at q e) b (before told_at q v))
+    (map-append event b (before told_at q v)) (plus-pass g a (before counts_at q e) b (before told_at q v))
     ∙ append_assoc (events b) (events (before told_at q v))
     (the_sum from q (plus (plus g (figures_of a b)) (figures_of (before counts_at q e) (before told_at q v)))
     ∷ left_told every n k r no_figures (from_on counts_at r e) (from_on told_at r v))
@@ -241,7 +241,8 @@ pub left-end : (every n k from q : ℕ) (g : Figures) (e : List Entry) (v : List
     → AllFrom counts_at q e → AllFrom told_at q v
     → left_told every n (suc k) from g e v
     ≡ the_sum from q g
-    ∷ left_told every n k (from + every) no_figures (from_on counts_at (from + every) e) (from_on told_at (from + every) v)
+    ∷ left_told every n k (from + every) no_figures (from_on counts_at (from + every) e)
+    (from_on told_at (from + every) v)
 left-end every n k from q g e v i h l =
     let r = from + every in
     let rest = left_told every n k r no_figures (from_on counts_at r e) (from_on told_at r v) in

@@ -1,6 +1,7 @@
 -- Where entries and events lie, and what gaps and reports come to.
-use Rattle.std.proofs.Common.{◌≡◌, ℕ, zero, suc, ◌+◌, ◌-◌, ◌*◌, ◌<◌, ◌≤◌, ◌⊎◌, inl, inr, Bool, true, false, cond, ltb, eqb}
-use Rattle.std.proofs.Common.{List, [], ◌∷◌, ◌++◌, Option, Some, None, length, refl, sym, ap, ◌∙◌, subst, arith, append-nil, append_assoc, ap₂}
+use Rattle.std.proofs.Common.{◌≡◌, ℕ, zero, suc, ◌+◌, ◌-◌, ◌*◌, ◌<◌, ◌≤◌, ◌⊎◌, inl, inr, Bool, true, false, cond, ltb}
+use Rattle.std.proofs.Common.{eqb, List, [], ◌∷◌, ◌++◌, Option, Some, None, length, refl, sym, ap, ◌∙◌, subst, arith}
+use Rattle.std.proofs.Common.{append-nil, append_assoc, ap₂}
 use Rattle.std.specs.Prelude.{◌||◌}
 use Rattle.std.specs.List.{sum_by}
 use Rattle.std.specs.Str.{bytes_eq}
@@ -28,7 +29,7 @@ use Rattle.aes3_account.specs.Watching.{behind_reports, events_from, is_told, lo
 use Rattle.aes3_account.specs.Watching.{whole_events}
 use Rattle.aes3_account.proofs.GapLemmas.{behind-near}
 use Rattle.aes3_lock.proofs.ReportPlaces.{Spaced, next_place, spaced-weaker}
-use Rattle.aes3_account.proofs.WatchedCells.{either, loss-told, or-false, up-told}
+use Rattle.aes3_account.proofs.WatchedCells.{either, loss-told, or-false, up-is-told}
 use Rattle.aes3_account_laws.specs.PeriodLaws.{counts_at, figures_of, in_64_bits, lost_cells, told_at}
 use Rattle.aes3_account_laws.proofs.PeriodLists.{AllBefore, AllFrom, all-before-join, all-before-more, all-from-join}
 use Rattle.aes3_account_laws.proofs.PeriodLists.{fit-more, fit-same, plus, same-figures}
@@ -105,15 +106,12 @@ rest-at counts p q h = go counts (ltb p q) refl
     go false true e = (let l = ltb-true p q e in omega arith, tt)
     go k false e = tt
 
-cut-from : (a p n : ℕ) → a ≤ n → AllFrom counts_at a (rest_gap false p n)
+pub cut-from : (a p n : ℕ) → a ≤ n → AllFrom counts_at a (rest_gap false p n)
 cut-from a p n h = go (ltb p n)
   where
     go : (t : Bool) → AllFrom counts_at a (cond t (cut p (n - p) ∷ []) [])
     go true = (omega arith, tt)
     go false = tt
-
-pub end-from : (a p n : ℕ) → a ≤ n → AllFrom counts_at a (rest_gap false p n)
-end-from a p n h = cut-from a p n h
 
 -- what stands before a report behind the gaps of a block's length
 abbrev pub rest_before : ℕ → ℕ → Report → List Entry
@@ -140,7 +138,8 @@ report-at m p (Unfinished at cells) h = (refl, tt)
 
 pub report-before : (m p z : ℕ) (x : Report) → place_of x < p + block_len → place_of x < z
     → AllBefore counts_at z (rest_before m p x ++ reported x ∷ [])
-report-before m p z x h l = at-before counts_at (place_of x) z (rest_before m p x ++ reported x ∷ []) l (report-at m p x h)
+report-before m p z x h l =
+    at-before counts_at (place_of x) z (rest_before m p x ++ reported x ∷ []) l (report-at m p x h)
 
 pub report-from : (m p a : ℕ) (x : Report) → place_of x < p + block_len → a ≤ place_of x
     → AllFrom counts_at a (rest_before m p x ++ reported x ∷ [])
@@ -233,13 +232,6 @@ loss-from w a q h = go (either (is_told w q))
 pub no-loss : (w : Watched) (q : ℕ) → is_told w q ≡ true → loss_events w q ≡ []
 no-loss w q e = loss-told w q true e
 
-pub told-self : (w : Watched) (q : ℕ) → is_told (up_to w q) q ≡ true
-told-self w q = go (either (is_told w q))
-  where
-    go : (is_told w q ≡ true) ⊎ (is_told w q ≡ false) → is_told (up_to w q) q ≡ true
-    go (inl e) = subst (λ v. is_told v q ≡ true) (sym (up-told w q true e)) e
-    go (inr e) = subst (λ v. is_told v q ≡ true) (sym (up-told w q false e)) refl
-
 pub told-less : (w : Watched) (a b : ℕ) → a ≤ b → is_told w b ≡ true → is_told w a ≡ true
 told-less w a b l h = go (either (is_told w a))
   where
@@ -280,9 +272,9 @@ stop-behind p (Unfinished at cells) = behind-past p at
 pub told-next : (w : Watched) (x : Report) → is_told (next w x) (stop x) ≡ true
 told-next w (Whole at s b) =
     let m = block_len_24576 in lt-ltb (at + block_len - (at + block_len)) block_len (omega arith)
-told-next w (Marked at s wrong) = told-self w at
-told-next w (Fault at cell why) = told-self w at
-told-next w (Unfinished at cells) = told-self w at
+told-next w (Marked at s wrong) = up-is-told w at
+told-next w (Fault at cell why) = up-is-told w at
+told-next w (Unfinished at cells) = up-is-told w at
 
 whole-at : (w : Watched) (at : ℕ) (s : Level) → AllAt told_at at (whole_events w at s)
 whole-at w at s = go w.found w.lost (ltb w.place at)

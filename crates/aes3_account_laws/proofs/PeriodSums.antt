@@ -1,11 +1,10 @@
 -- What is told of a line with sums is what its periods tell.
-use Rattle.std.proofs.Common.{◌≡◌, ℕ, zero, suc, ◌+◌, ◌-◌, ◌*◌, ◌/◌, ◌%◌, ◌<◌, ◌≤◌, Bool, true, false, cond, ltb}
-use Rattle.std.proofs.Common.{List, [], ◌∷◌, ◌++◌, Option, Some, None, length, refl, sym, ap, ap₂, ◌∙◌, subst, arith, append-nil}
-use Rattle.std.proofs.Common.{append_assoc}
+use Rattle.std.proofs.Common.{◌≡◌, ℕ, zero, suc, ◌+◌, ◌-◌, ◌*◌, ◌/◌, ◌%◌, ◌<◌, ◌≤◌, Bool, true, false, cond, ltb, List}
+use Rattle.std.proofs.Common.{[], ◌∷◌, ◌++◌, Option, Some, None, length, refl, sym, ap, ap₂, ◌∙◌, subst, arith}
+use Rattle.std.proofs.Common.{append-nil, append_assoc}
 use Rattle.std.specs.Prelude.{min}
 use Rattle.std.specs.Int.{div_ceil}
 use Rattle.std.specs.List.{flat_map, range_with_len}
-use Rattle.std.proofs.Math.Nat.{div-add-mod, mod-lt}
 use Rattle.std.proofs.lemmas.Bool.{le-ltb, lt-ltb}
 use Rattle.std.proofs.lemmas.Grind.{div_ceil_times}
 use Rattle.aes3_level.specs.declared.level.Level.{Level}
@@ -23,26 +22,26 @@ use Rattle.aes3_lines.specs.declared.sum.Figures.{Figures}
 use Rattle.aes3_account.specs.Gaps.{Entry, reported, full_gaps, full_count, behind_full, rest_gap, gaps, gaps_before}
 use Rattle.aes3_account.specs.Gaps.{account, account_from, behind_report, reached_from}
 use Rattle.aes3_account.specs.Kept.{Summed, Watched}
-use Rattle.aes3_account.specs.Sums.{Notice, event, sum, events, all_told, behind_sums, changes_in, counted_report, end_told}
-use Rattle.aes3_account.specs.Sums.{ends_before, go_to, last_sum, next_period, next_sum, no_figures, notices, on_to}
-use Rattle.aes3_account.specs.Sums.{period_told, periods, periods_told, report_told, says, sums_from}
-use Rattle.aes3_account.specs.Sums.{told_to, unsummed, with_lost}
+use Rattle.aes3_account.specs.Sums.{Notice, event, sum, events, all_told, behind_sums, changes_in, counted_report}
+use Rattle.aes3_account.specs.Sums.{end_told, ends_before, go_to, last_sum, next_period, next_sum, no_figures, notices}
+use Rattle.aes3_account.specs.Sums.{on_to, period_told, periods, periods_told, report_told, says, sums_from, told_to}
+use Rattle.aes3_account.specs.Sums.{unsummed, with_lost}
 use Rattle.aes3_account.specs.Watching.{behind_reports, ended, events_from, is_locked, is_told, loss_events, next}
 use Rattle.aes3_account.specs.Watching.{told_events, unwatched, up_to, watch_events}
 use Rattle.aes3_account.proofs.GapLemmas.{behind-join, full-join}
 use Rattle.aes3_lock.proofs.ReportPlaces.{Spaced, spaced-reports, spaced-weaker}
-use Rattle.aes3_account.proofs.Sums.{ends-few, go-watched, next-known, periods-from, suc-times}
-use Rattle.aes3_account.proofs.WatchedCells.{loss-join, report-join, up-join}
+use Rattle.aes3_account.proofs.Sums.{ends-few, go-watched, near-end, next-known, periods-from, suc-times}
+use Rattle.aes3_account.proofs.WatchedCells.{loss-join, report-join, up-found, up-is-told, up-join}
 use Rattle.aes3_account_laws.specs.PeriodLaws.{counts_at, figures_of, in_64_bits}
 use Rattle.aes3_account_laws.specs.PeriodLaws.{SumsAreByPeriods, told_at, within}
 use Rattle.aes3_account_laws.proofs.PeriodLists.{AllFrom, all-before-more, all-from-join, between, from-all, from_on}
-use Rattle.aes3_account_laws.proofs.PeriodLists.{fitted-none, left-end, left-next, left-pass, left_told, none-plus, plus}
-use Rattle.aes3_account_laws.proofs.PeriodLists.{twice-from}
-use Rattle.aes3_account_laws.proofs.PeriodPlaces.{account-split, Ahead, behind-past, chunk-before, end-from, entries-behind}
-use Rattle.aes3_account_laws.proofs.PeriodPlaces.{events-behind, full-from, loss-before, loss-from, no-loss, on-figures}
-use Rattle.aes3_account_laws.proofs.PeriodPlaces.{report-before, report-figures, report-from, rest_before, stop, stop-behind}
-use Rattle.aes3_account_laws.proofs.PeriodPlaces.{stop-far, stop-spaced, times-suc, told-before, told-from, told-less}
-use Rattle.aes3_account_laws.proofs.PeriodPlaces.{told-next, told-self}
+use Rattle.aes3_account_laws.proofs.PeriodLists.{fitted-none, left-end, left-next, left-pass, left_told, none-plus}
+use Rattle.aes3_account_laws.proofs.PeriodLists.{plus, twice-from}
+use Rattle.aes3_account_laws.proofs.PeriodPlaces.{account-split, Ahead, behind-past, chunk-before, cut-from}
+use Rattle.aes3_account_laws.proofs.PeriodPlaces.{entries-behind, events-behind, full-from, loss-before, loss-from}
+use Rattle.aes3_account_laws.proofs.PeriodPlaces.{no-loss, on-figures, report-before, report-figures, report-from}
+use Rattle.aes3_account_laws.proofs.PeriodPlaces.{rest_before, stop, stop-behind, stop-far, stop-spaced, times-suc}
+use Rattle.aes3_account_laws.proofs.PeriodPlaces.{told-before, told-from, told-less, told-next}
 
 -- how many periods are left from a place on, up to the end of n cells
 pub record Left (every n from k : ℕ) : Type 0 where
@@ -69,7 +68,8 @@ one-period : (every n k : ℕ) (u : Summed) (g : Figures) (b : ℕ) (e : List En
     → u.from + every ≤ b → b ≤ n → u.figures ≡ in_64_bits g → AllFrom counts_at b e → AllFrom told_at b v
     → left_told every n (suc k) u.from g (ahead u b e) (later u b v)
     ≡ period_told every u
-    ++ left_told every n k (u.from + every) no_figures (ahead (next_period every u) b e) (later (next_period every u) b v)
+    ++ left_told every n k (u.from + every) no_figures (ahead (next_period every u) b e)
+    (later (next_period every u) b v)
 one-period every n k u g b e v h l q a c =
     let r = u.from + every in
     let w = next_period every u in
@@ -88,7 +88,7 @@ one-period every n k u g b e v h l q a c =
     (all-from-join counts_at r (full_gaps w.place (full_count w.place b)) e
     (full-from r w.place (full_count w.place b) (behind-past u.place r))
     (from-less-entries r b e h a))
-    (all-from-join told_at r (loss_events w.watched b) v (loss-from w.watched r b (told-self u.watched r))
+    (all-from-join told_at r (loss_events w.watched b) v (loss-from w.watched r b (up-is-told u.watched r))
     (from-less-events r b v h c)))
     ∙ ap (λ z. events j ++ sum (record { from = u.from; to = r; figures = z }) ∷ rest)
     (sym (ap (λ x. with_lost x (block_len * full_count u.place r)) q
@@ -171,9 +171,6 @@ gone-on every n k u g b e v h l q i =
     }
 
 -- places of the periods
-near-end : (every n : ℕ) → 0 < every → n < every * (n / every) + every
-near-end every n h = let d = div-add-mod n every in let m = mod-lt n h in omega arith
-
 periods-place : (every n : ℕ) (u : Summed) (q : ℕ) → 0 < every → n * every ≤ q - u.from
     → behind_full (periods every n u).place q ≡ behind_full u.place q
 periods-place every zero u q h l = refl
@@ -185,7 +182,7 @@ periods-place every (suc n) u q h l =
 periods-told : (every n : ℕ) (u : Summed) → is_told u.watched u.from ≡ true
     → is_told (periods every n u).watched (periods every n u).from ≡ true
 periods-told every zero u h = h
-periods-told every (suc n) u h = periods-told every n (next_period every u) (told-self u.watched (u.from + every))
+periods-told every (suc n) u h = periods-told every n (next_period every u) (up-is-told u.watched (u.from + every))
 
 -- what is so before the reports that are left
 record Ready (every n m k s : ℕ) (u : Summed) (g : Figures) (r : List Report) : Type 0 where
@@ -237,7 +234,8 @@ gone-to every n h k u g b e v f l i q a c = last p.count p.left refl
           kept = r.kept;
           told_is =
               p.told_is
-              ∙ ap (λ x. periods_told every j u ++ left_told every n x w.from p.figures (ahead w b e) (later w b v)) (sym z)
+              ∙ ap (λ x. periods_told every j u ++ left_told every n x w.from p.figures (ahead w b e) (later w b v))
+              (sym z)
               ∙ ap (λ x. periods_told every j u ++ x) r.told_is
               ∙ sym (append_assoc (periods_told every j u) (events (loss_events w.watched b))
               (left_told every n r.count w.from r.figures e v));
@@ -265,7 +263,7 @@ end-is : (v : Summed) (x : Watched) (n : ℕ) → v.watched ≡ up_to x n
     → end_told v n ≡ last_sum v n ++ event (End n (is_locked (up_to x n))) ∷ []
 end-is v x n e =
     ap (λ z. last_sum v n ++ z) (ap₂ (λ a y. events (a ++ End n (is_locked y) ∷ []))
-    (ap (λ y. loss_events y n) e ∙ no-loss (up_to x n) n (told-self x n))
+    (ap (λ y. loss_events y n) e ∙ no-loss (up_to x n) n (up-is-told x n))
     (ap (λ y. up_to y n) e ∙ sym (up-join x n n (omega arith))))
 
 last-none : (v : Summed) (n : ℕ) → n ≤ v.from → last_sum v n ≡ []
@@ -344,7 +342,8 @@ locked_at w r n = is_locked (up_to (behind_reports w r) n)
 
 run-end : (every n : ℕ) → 0 < every → (m k s : ℕ) (u : Summed) (g : Figures) → Ready every n m k s u g []
     → all_told every u n
-    ≡ left_told every n k u.from g (gaps false u.place n) (loss_events u.watched n ++ End n (locked_at u.watched [] n) ∷ [])
+    ≡ left_told every n k u.from g (gaps false u.place n)
+    (loss_events u.watched n ++ End n (locked_at u.watched [] n) ∷ [])
     ++ event (End n (locked_at u.watched [] n)) ∷ []
 run-end every n h m k s u g i =
     let x = locked_at u.watched [] n in
@@ -355,16 +354,9 @@ run-end every n h m k s u g i =
     ∙ sym (append_assoc (told_to every u n) (last_sum (go_to every u n) n) (event (End n x) ∷ []))
     ∙ ap (λ z. z ++ event (End n x) ∷ [])
     (finish every n h k u g e (End n x ∷ []) (omega arith) (told-less u.watched u.from s a i.known) i.left i.kept
-    (end-from n (behind_full u.place n) n (omega arith)) (omega arith, tt))
+    (cut-from n (behind_full u.place n) n (omega arith)) (omega arith, tt))
 
 -- behind a report
-up-found : (w : Watched) (q : ℕ) → (up_to w q).found ≡ w.found
-up-found w q = go (is_told w q)
-  where
-    go : (b : Bool) → (cond b w (record { found = w.found; place = w.place; lost = true; losses = w.losses + 1; latest = w.latest })).found ≡ w.found
-    go true = refl
-    go false = refl
-
 next-found : (w : Watched) (m : ℕ) (x : Report) → w.found ≡ ltb 0 m
     → (next w x).found ≡ ltb 0 (m + length (wholes (x ∷ [])))
 next-found w m (Whole at s b) h = sym (lt-ltb 0 (m + 1) (omega arith))
@@ -391,8 +383,10 @@ next-figures every u x m f h e q =
     let g = go-watched every u a h in
     ap₂ (λ (y : Figures) (p : ℕ). counted_report y p z.watched.found (says x) (changes_in (told_events z.watched x)) x)
     q (go-place every u a h)
-    ∙ ap (λ (v : Watched). counted_report (in_64_bits f) (behind_full u.place a) v.found (says x) (changes_in (told_events v x)) x) g
-    ∙ ap (λ (t : Bool). counted_report (in_64_bits f) (behind_full u.place a) t (says x) (changes_in (told_events w x)) x)
+    ∙ ap (λ (v : Watched). counted_report (in_64_bits f) (behind_full u.place a) v.found (says x)
+    (changes_in (told_events v x)) x) g
+    ∙ ap (λ (t : Bool). counted_report (in_64_bits f) (behind_full u.place a) t (says x)
+    (changes_in (told_events w x)) x)
     (up-found u.watched a ∙ e)
     ∙ report-figures f m (behind_full u.place a) w x
 
@@ -456,14 +450,17 @@ run every n h (x ∷ r) m k s u g i = go q.count q.left refl (λ k' f j. run eve
         (all-from-join counts_at a ce (entries_of m' p' r n)
         (report-from m (behind_full u.place a) a x (behind-past u.place a) (omega arith))
         (entries-behind a m' p' n r (omega arith) (stop-near r) (omega arith)))
-        (all-from-join told_at a de (events_of w' r n) (told-from (up_to u.watched a) x a (told-self u.watched a) (omega arith))
-        (events-behind a n (locked_at w' r n) w' r (told-less w' a (stop x) o (told-next u.watched x)) (stop-near r) (omega arith)))
+        (all-from-join told_at a de (events_of w' r n)
+        (told-from (up_to u.watched a) x a (up-is-told u.watched a) (omega arith))
+        (events-behind a n (locked_at w' r n) w' r (told-less w' a (stop x) o (told-next u.watched x)) (stop-near r)
+        (omega arith)))
       where
         stop-near : (v : List Report) → Spaced a r
         stop-near v = spaced-weaker a (stop x) r (stop-far x) (stop-spaced x r i.spaced.1)
 
     as-told : left_told every n k u.from g (entries_of m u.place (x ∷ r) n) (events_of u.watched (x ∷ r) n)
-        ≡ told_to every u a ++ left_told every n q.count z.from q.figures (ce ++ entries_of m' p' r n) (de ++ events_of w' r n)
+        ≡ told_to every u a ++ left_told every n q.count z.from q.figures (ce ++ entries_of m' p' r n)
+        (de ++ events_of w' r n)
     as-told =
         ap₂ (left_told every n k u.from g)
         (append_assoc (gaps_before m u.place x) (reported x ∷ account_from m' p' r) (gaps false (reached_from p' r) n)
@@ -564,8 +561,10 @@ by-period every n e v (suc k) j =
     let q = min (p + every) n in
     let r = p + every in
     let t : r ≡ every * (j + 1) = grind arith in
-    let rest = left_told every n k r no_figures (from_on counts_at r (from_on counts_at p e)) (from_on told_at r (from_on told_at p v)) in
-    ap₂ (λ x y. events y ++ sum (record { from = p; to = q; figures = in_64_bits (plus no_figures (figures_of x y)) }) ∷ rest)
+    let rest = left_told every n k r no_figures (from_on counts_at r (from_on counts_at p e))
+    (from_on told_at r (from_on told_at p v)) in
+    ap₂ (λ x y. events y ++ sum (record { from = p; to = q; figures = in_64_bits (plus no_figures (figures_of x y)) })
+    ∷ rest)
     (between counts_at p q e) (between told_at p q v)
     ∙ ap (λ f. events (within told_at p q v) ++ sum (record { from = p; to = q; figures = f }) ∷ rest)
     (none-plus (figures_of (within counts_at p q e) (within told_at p q v)))
@@ -575,7 +574,8 @@ by-period every n e v (suc k) j =
       figures = in_64_bits (figures_of (within counts_at p q e) (within told_at p q v));
     }) ∷ []) rest)
     ∙ ap (λ z. period_at every n e v j ++ z)
-    (ap₂ (left_told every n k r no_figures) (twice-from counts_at p r e (omega arith)) (twice-from told_at p r v (omega arith))
+    (ap₂ (left_told every n k r no_figures) (twice-from counts_at p r e (omega arith))
+    (twice-from told_at p r v (omega arith))
     ∙ ap (λ z. left_told every n k z no_figures (from_on counts_at z e) (from_on told_at z v)) t
     ∙ by-period every n e v k (j + 1))
 

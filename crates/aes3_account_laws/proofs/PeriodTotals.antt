@@ -1,6 +1,6 @@
 -- What counts in all periods is what the whole account has.
-use Rattle.std.proofs.Common.{◌≡◌, ℕ, zero, suc, ◌+◌, ◌-◌, ◌*◌, ◌<◌, ◌≤◌, ◌⊎◌, inl, inr, Bool, true, false, cond, ltb, not}
-use Rattle.std.proofs.Common.{List, [], ◌∷◌, ◌++◌, length, refl, sym, ap, ap₂, ◌∙◌, subst, arith}
+use Rattle.std.proofs.Common.{◌≡◌, ℕ, zero, suc, ◌+◌, ◌-◌, ◌*◌, ◌<◌, ◌≤◌, ◌⊎◌, inl, inr, Bool, true, false, cond, ltb}
+use Rattle.std.proofs.Common.{not, List, [], ◌∷◌, ◌++◌, length, refl, sym, ap, ap₂, ◌∙◌, subst, arith}
 use Rattle.std.specs.Prelude.{min}
 use Rattle.std.specs.Int.{div_ceil}
 use Rattle.std.specs.List.{range_with_len, sum_by}
@@ -19,8 +19,8 @@ use Rattle.aes3_lock.specs.Reports.{blocks, reports, wholes}
 use Rattle.aes3_lines.specs.declared.event.Event.{Event}
 use Rattle.aes3_lines.specs.declared.event.Event.TheVariants.{End}
 use Rattle.aes3_lines.specs.Ones.{ones_in}
-use Rattle.aes3_account.specs.Gaps.{Entry, reported, lost, cut, account, account_from, behind_full, behind_report, full_count}
-use Rattle.aes3_account.specs.Gaps.{full_gaps, gaps, reached_from, rest_gap}
+use Rattle.aes3_account.specs.Gaps.{Entry, reported, lost, cut, account, account_from, behind_full, behind_report}
+use Rattle.aes3_account.specs.Gaps.{full_count, full_gaps, gaps, reached_from, rest_gap}
 use Rattle.aes3_account.specs.Kept.{Watched}
 use Rattle.aes3_account.specs.Sums.{change_of, is_biphase, is_preamble, is_unclosed}
 use Rattle.aes3_account.specs.Watching.{behind_reports, ended, events_from, is_locked, loss_events, next, told_events}
@@ -31,8 +31,8 @@ use Rattle.aes3_account_laws.specs.PeriodLaws.{cut_cells, FaultsHaveCauses, lost
 use Rattle.aes3_account_laws.proofs.Covering.{account-covers, account-reports}
 use Rattle.aes3_account_laws.proofs.PeriodLists.{AllBefore, all-before-join, all-before-more, between, from-all}
 use Rattle.aes3_account_laws.proofs.PeriodLists.{from-pass, from_on, same-figures, twice-from}
-use Rattle.aes3_account_laws.proofs.PeriodPlaces.{account-split, Ahead, behind-past, chunk-before, loss-before, report-before}
-use Rattle.aes3_account_laws.proofs.PeriodPlaces.{rest_before, times-suc, told-before}
+use Rattle.aes3_account_laws.proofs.PeriodPlaces.{account-split, Ahead, behind-past, chunk-before, loss-before}
+use Rattle.aes3_account_laws.proofs.PeriodPlaces.{report-before, rest_before, times-suc, told-before}
 use Rattle.aes3_account_laws.proofs.PeriodSums.{ahead-reports, from-zero, Left, starts-left}
 
 -- a count over all periods
@@ -145,7 +145,8 @@ account-none f h c =
     let r = reports c in
     let n = length c in
     let p = reached_from 0 r in
-    ap (sum_by f) (from-pass counts_at n (account_from 0 0 r) (gaps false p n) (account-before n 0 0 r (ahead-reports c))
+    ap (sum_by f) (from-pass counts_at n (account_from 0 0 r) (gaps false p n)
+    (account-before n 0 0 r (ahead-reports c))
     ∙ from-pass counts_at n (full_gaps p (full_count p n)) (rest_gap false (behind_full p n) n) (chunk-before p n))
     ∙ cut-none f h (behind_full p n) n
 
@@ -195,10 +196,14 @@ periods-add-up every h c =
 -- the whole account
 blocks-in : (e : List Entry) → sum_by (by_block (λ b. 1)) e ≡ length (wholes (reports_in e))
 blocks-in [] = refl
-blocks-in (reported (Whole at s b) ∷ e) = let r = blocks-in e in sum_by-cons (by_block (λ b. 1)) (reported (Whole at s b)) e ∙ omega arith
-blocks-in (reported (Marked at s wrong) ∷ e) = let r = blocks-in e in sum_by-cons (by_block (λ b. 1)) (reported (Marked at s wrong)) e ∙ omega arith
-blocks-in (reported (Fault at cell why) ∷ e) = let r = blocks-in e in sum_by-cons (by_block (λ b. 1)) (reported (Fault at cell why)) e ∙ omega arith
-blocks-in (reported (Unfinished at cells) ∷ e) = let r = blocks-in e in sum_by-cons (by_block (λ b. 1)) (reported (Unfinished at cells)) e ∙ omega arith
+blocks-in (reported (Whole at s b) ∷ e) =
+    let r = blocks-in e in sum_by-cons (by_block (λ b. 1)) (reported (Whole at s b)) e ∙ omega arith
+blocks-in (reported (Marked at s wrong) ∷ e) =
+    let r = blocks-in e in sum_by-cons (by_block (λ b. 1)) (reported (Marked at s wrong)) e ∙ omega arith
+blocks-in (reported (Fault at cell why) ∷ e) =
+    let r = blocks-in e in sum_by-cons (by_block (λ b. 1)) (reported (Fault at cell why)) e ∙ omega arith
+blocks-in (reported (Unfinished at cells) ∷ e) =
+    let r = blocks-in e in sum_by-cons (by_block (λ b. 1)) (reported (Unfinished at cells)) e ∙ omega arith
 blocks-in (lost at n ∷ e) = let r = blocks-in e in sum_by-cons (by_block (λ b. 1)) (lost at n) e ∙ omega arith
 blocks-in (cut at n ∷ e) = let r = blocks-in e in sum_by-cons (by_block (λ b. 1)) (cut at n) e ∙ omega arith
 
@@ -215,7 +220,8 @@ cells-cons x e =
     ap (λ z. block_len * z + sum_by lost_cells (x ∷ e) + sum_by cut_cells (x ∷ e)) (sum_by-cons (by_block (λ b. 1)) x e)
     ∙ ap₂ (λ y z. block_len * (by_block (λ b. 1) x + sum_by (by_block (λ b. 1)) e) + y + z) (sum_by-cons lost_cells x e)
     (sum_by-cons cut_cells x e)
-    ∙ six block_len (by_block (λ b. 1) x) (sum_by (by_block (λ b. 1)) e) (lost_cells x) (sum_by lost_cells e) (cut_cells x)
+    ∙ six block_len (by_block (λ b. 1) x) (sum_by (by_block (λ b. 1)) e) (lost_cells x) (sum_by lost_cells e)
+    (cut_cells x)
     (sum_by cut_cells e)
   where
     six : (l a b x y u v : ℕ) → l * (a + b) + (x + y) + (u + v) ≡ l * a + x + u + (l * b + y + v)
@@ -248,7 +254,8 @@ all-cells c =
     let o : 0 + cells_in (account c) ≡ cells_in (account c) = omega arith in
     sym o ∙ r
 
-causes-of : (x : Entry) → by_fault (λ why. 1) x ≡ by_fault is_preamble x + by_fault is_biphase x + by_fault is_unclosed x
+causes-of : (x : Entry) → by_fault (λ why. 1) x
+    ≡ by_fault is_preamble x + by_fault is_biphase x + by_fault is_unclosed x
 causes-of (reported (Whole at s b)) = refl
 causes-of (reported (Marked at s wrong)) = refl
 causes-of (reported (Fault at cell Preamble)) = refl

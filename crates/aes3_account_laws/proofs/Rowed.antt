@@ -12,7 +12,7 @@ use Rattle.aes3_lock.proofs.Deciding.{block_len_24576}
 use Rattle.aes3_account.specs.Gaps.{reported, full_gaps, full_count, behind_full, kind, rest_gap, gaps, account_from}
 use Rattle.aes3_account.specs.Gaps.{reached_from, account, is_lost}
 use Rattle.aes3_account_laws.specs.GapLaws.{InRow, LosesNothing}
-use Rattle.aes3_account.proofs.GapLemmas.{lost-append, lost-full, behind-near}
+use Rattle.aes3_account.proofs.GapLemmas.{lost-append, lost-full, behind-near, behind-none}
 use Rattle.aes3_lock.proofs.ReportPlaces.{Spaced, spaced-weaker, spaced-reports}
 
 -- no gap of a block's length between two places
@@ -21,10 +21,6 @@ unfolding full_count
 count-none p q e =
     let f : (q - p) / 24576 ≡ 0 = sym (ap (λ (z : ℕ). (q - p) / z) block_len_24576) ∙ e in
     rw block_len_24576 (omega arith)
-
-behind-none : (p q : ℕ) → full_count p q ≡ 0 → behind_full p q ≡ p
-unfolding behind_full
-behind-none p q e = ap (λ z. p + block_len * z) e ∙ rw block_len_24576 (omega arith)
 
 -- no gap at all that counts
 rest-none : (p q : ℕ) → length (filter is_lost (rest_gap true p q)) ≡ 0 → q ≤ p

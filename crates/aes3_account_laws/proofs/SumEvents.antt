@@ -1,6 +1,6 @@
 -- The events that are told beside sums.
-use Rattle.std.proofs.Common.{◌≡◌, ℕ, zero, suc, ◌+◌, ◌-◌, ◌*◌, ◌/◌, ◌<◌, ◌≤◌, Bool, true, false, cond, List, [], ◌∷◌, ◌++◌}
-use Rattle.std.proofs.Common.{length, refl, sym, ap, ap₂, ◌∙◌, arith, append-nil, append_assoc, ltb}
+use Rattle.std.proofs.Common.{◌≡◌, ℕ, zero, suc, ◌+◌, ◌-◌, ◌*◌, ◌/◌, ◌<◌, ◌≤◌, Bool, true, false, cond, List, [], ◌∷◌}
+use Rattle.std.proofs.Common.{◌++◌, length, refl, sym, ap, ap₂, ◌∙◌, arith, append-nil, append_assoc, ltb}
 use Rattle.aes3_frame.specs.Blocks.{block_len}
 use Rattle.aes3_lock.specs.declared.report.Report.{Report}
 use Rattle.aes3_lock.specs.Reports.{reports, decided}
@@ -10,9 +10,9 @@ use Rattle.aes3_lines.specs.declared.event.Event.TheVariants.{End}
 use Rattle.aes3_account.specs.Kept.{Summed}
 use Rattle.aes3_account.specs.Watching.{begun_events, ended, events_from, is_locked, loss_events}
 use Rattle.aes3_account.specs.Watching.{told_events, up_to, watch_events}
-use Rattle.aes3_account.specs.Sums.{Notice, event, sum, events, all_told, begun_notices, behind_sums, end_told, ends_before}
-use Rattle.aes3_account.specs.Sums.{go_to, last_sum, next_period, next_sum, notices, on_to, period_told, periods}
-use Rattle.aes3_account.specs.Sums.{periods_told, report_told, sums_from, told_to, unsummed}
+use Rattle.aes3_account.specs.Sums.{Notice, event, sum, events, all_told, begun_notices, behind_sums, end_told}
+use Rattle.aes3_account.specs.Sums.{ends_before, go_to, last_sum, next_period, next_sum, notices, on_to, period_told}
+use Rattle.aes3_account.specs.Sums.{periods, periods_told, report_told, sums_from, told_to, unsummed}
 use Rattle.aes3_account_laws.specs.SumLaws.{events_in, EventsStay, BegunEventsStay}
 use Rattle.aes3_account.proofs.WatchedCells.{loss-join, report-join, up-join}
 use Rattle.aes3_account.proofs.Sums.{behind-known, ends-few, go-watched, next-known, suc-times}

@@ -16,8 +16,8 @@ use Rattle.aes3_account.specs.Signals.{signals_of}
 use Rattle.aes3_account.specs.Kept.{Signals}
 use Rattle.aes3_account.specs.Kept.{Watched}
 use Rattle.aes3_account.specs.Watching.{unwatched, is_told, up_to, slips, behind_whole, next, behind_reports, ended}
-use Rattle.aes3_account.proofs.GapLemmas.{lost-append, lost-full}
-use Rattle.aes3_account.proofs.WatchedCells.{either, as_lost, up-told}
+use Rattle.aes3_account.proofs.GapLemmas.{behind-none, lost-append, lost-full}
+use Rattle.aes3_account.proofs.WatchedCells.{either, up-losses, up-told}
 
 abbrev count : List Entry → ℕ
 count e = length (filter is_lost e)
@@ -44,18 +44,7 @@ far-some p q e = go (ltb-false (q - p) block_len e)
     go : block_len ≤ q - p → 0 < full_count p q
     go h = rw block_len_24576 (let g : 24576 ≤ q - p = subst (λ n. n ≤ q - p) block_len_24576 h in omega arith)
 
-near-behind : (p q : ℕ) → full_count p q ≡ 0 → behind_full p q ≡ p
-unfolding behind_full
-near-behind p q e = ap (λ n. p + block_len * n) e ∙ (rw block_len_24576 (omega arith))
-
 -- losses do not become fewer
-pub up-more : (w : Watched) (q : ℕ) → w.losses ≤ (up_to w q).losses
-up-more w q = go (is_told w q)
-  where
-    go : (b : Bool) → w.losses ≤ (cond b w (as_lost w)).losses
-    go true = omega arith
-    go false = omega arith
-
 pub whole-more : (w : Watched) (at : ℕ) (now : Signals) → w.losses ≤ (behind_whole w at now).losses
 whole-more w at now = go (slips w at)
   where
@@ -64,10 +53,10 @@ whole-more w at now = go (slips w at)
     go false = omega arith
 
 pub next-more : (w : Watched) (x : Report) → w.losses ≤ (next w x).losses
-next-more w (Whole at s b) = let u = up-more w at in let v = whole-more (up_to w at) at (signals_of b) in omega arith
-next-more w (Marked at s wrong) = up-more w at
-next-more w (Fault at cell why) = up-more w at
-next-more w (Unfinished at cells) = up-more w at
+next-more w (Whole at s b) = let u = up-losses w at in let v = whole-more (up_to w at) at (signals_of b) in omega arith
+next-more w (Marked at s wrong) = up-losses w at
+next-more w (Fault at cell why) = up-losses w at
+next-more w (Unfinished at cells) = up-losses w at
 
 pub behind-more : (w : Watched) (r : List Report) → w.losses ≤ (behind_reports w r).losses
 behind-more w [] = omega arith
@@ -137,7 +126,7 @@ abbrev Goes : List Report → ℕ → Watched → ℕ → ℕ → Type 0
 Goes r q w n p = Same (count (all_of n p r q)) (up_to (behind_reports w r) q).losses w.losses
 
 lost-on : (v : Watched) (r : List Report) (q m : ℕ) → m < v.losses → m < (up_to (behind_reports v r) q).losses
-lost-on v r q m h = let b = behind-more v r in let t = up-more (behind_reports v r) q in omega arith
+lost-on v r q m h = let b = behind-more v r in let t = up-losses (behind_reports v r) q in omega arith
 
 -- behind a report of no whole block
 other-step : (w : Watched) (n p q at : ℕ) (r : List Report) → Even w n p
@@ -149,7 +138,7 @@ other-step w n p q at r h rec = go (either (ltb (at - p) block_len))
     even : ltb (at - p) block_len ≡ true → Even w (n + 0) (behind_full p at)
     even e = record {
       held = h.held;
-      place = h.place ∙ sym (near-behind p at (near-none p at e));
+      place = h.place ∙ sym (behind-none p at (near-none p at e));
       found = h.found ∙ ap (ltb 0) (let z : n ≡ n + 0 = omega arith in z);
     }
 
@@ -183,7 +172,7 @@ near-count {w} {n} {p} at h e =
     let a = gaps-count (ltb 0 n) p at in
     let b = near-none p at e in
     let c : count (rest_gap (ltb 0 n) (behind_full p at) at) ≡ cond (slips w at) 1 0 =
-    ap (λ y. count (rest_gap (ltb 0 n) y at)) (near-behind p at b) ∙ rest-count (ltb 0 n) p at
+    ap (λ y. count (rest_gap (ltb 0 n) y at)) (behind-none p at b) ∙ rest-count (ltb 0 n) p at
     ∙ ap (λ (x : Bool). cond {A = ℕ} x 1 0) (sym (slips-is at h)) in
     omega arith
 

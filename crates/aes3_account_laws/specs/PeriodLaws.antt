@@ -21,8 +21,8 @@ use Rattle.aes3_account.specs.Sums.{Notice, event, sum, events, change_of, is_bi
 use Rattle.aes3_account.specs.Sums.{notices}
 use Rattle.aes3_account.specs.Watching.{ended, is_locked, watch_events}
 
--- The cell at which an entry of an account counts: a report's first; the last of a gap of a block's length; and behind a
--- shorter gap the first cell of the block that ends it.
+-- The cell at which an entry of an account counts: a report's first; the last of a gap of a block's length; and behind
+-- a shorter gap the first cell of the block that ends it.
 abbrev pub counts_at : Entry → ℕ
 counts_at (reported x) = place_of x
 counts_at (lost at n) = if n == block_len then at + block_len - 1 else at + n
@@ -42,7 +42,8 @@ told_at (End at locked) = at
 abbrev pub within : {X : Type 0} → (X → ℕ) → ℕ → ℕ → List X → List X
 within place p q xs = filter (λ x. not (nat_lt (place x) p) && nat_lt (place x) q) xs
 
--- what an entry adds to a count of whole blocks by their bits, of marked blocks, of faults by their cause, of lost cells
+-- what an entry adds to a count of whole blocks by their bits, of marked blocks, of faults by their cause, of lost
+-- cells
 abbrev pub by_block : (List (List Bool) → ℕ) → Entry → ℕ
 by_block f (reported (Whole at s b)) = f b
 by_block f (reported (Marked at s wrong)) = 0
@@ -125,7 +126,8 @@ period_of c p q = events (within told_at p q (watch_events c)) ++ sum (sum_of c 
 -- what is told of all cells: their periods, each of so many cells but the last, and the end
 abbrev pub by_periods : ℕ → List Level → List Notice
 by_periods every c =
-    flat_map (λ k. period_of c (every * k) (min (every * k + every) (length c))) (range_with_len 0 (div_ceil (length c) every))
+    flat_map (λ k. period_of c (every * k) (min (every * k + every) (length c)))
+    (range_with_len 0 (div_ceil (length c) every))
     ++ event (End (length c) (is_locked (ended c))) ∷ []
 
 abbrev pub SumsAreByPeriods : Type 0
@@ -152,7 +154,8 @@ added f ks = record {
 -- those of all periods are the figures of the whole account and of all events
 abbrev pub PeriodsAddUp : Type 0
 PeriodsAddUp = (every : ℕ) → 0 < every → (c : List Level)
-    → added (λ k. figures_in c (every * k) (min (every * k + every) (length c))) (range_with_len 0 (div_ceil (length c) every))
+    → added (λ k. figures_in c (every * k) (min (every * k + every) (length c)))
+    (range_with_len 0 (div_ceil (length c) every))
     ≡ figures_of (account c) (watch_events c)
 
 -- which have all whole blocks, and each cell once: in a whole block, lost, or in a gap where the input is cut

@@ -66,8 +66,8 @@ PieceStaysLocked =
     (s : Level) (bs : List (List (List Bool))) (i j : ℕ) (c : List Level) → IsPiece s bs i j c → 0 < length (blocks c)
     → StaysLocked c
 
--- a whole block at place q stands directly behind the one that ends before place p; or it is told as slipped, and stands
--- less than a block behind it; or the cells between them are told as lost from p on, and as back at q
+-- a whole block at place q stands directly behind the one that ends before place p; or it is told as slipped, and
+-- stands less than a block behind it; or the cells between them are told as lost from p on, and as back at q
 abbrev pub IsBehind : List Event → ℕ → ℕ → Type 0
 IsBehind events p q = (q ≡ p)
     ⊎ ((Contains events (Slipped q (q - p)) × (q - p < block_len))

@@ -1,6 +1,6 @@
 -- The words of `to-bits`, of the command that stands in words that the definitions take.
-use Rattle.std.proofs.Common.{◌≡◌, ◌∙◌, ◌<◌, ◌≤◌, ℕ, Bool, List, [], ◌∷◌, length, Option, Some, None, true, false, not, zero, suc}
-use Rattle.std.proofs.Common.{codes, refl, sym, ap, subst, cond, arith, is_some, true≢false}
+use Rattle.std.proofs.Common.{◌≡◌, ◌∙◌, ◌<◌, ◌≤◌, ℕ, Bool, List, [], ◌∷◌, length, Option, Some, None, true, false, not}
+use Rattle.std.proofs.Common.{zero, suc, codes, refl, sym, ap, subst, cond, arith, is_some, true≢false}
 use Rattle.std.specs.Prelude.{option_and_then, slice_get}
 use Rattle.std.specs.List.{find}
 use Rattle.std.specs.Option.{option_map_or}
@@ -19,7 +19,7 @@ use Rattle.aes3_arguments.specs.Jobs.{IsNumber, Options, StandsIn, bits_by, bits
 use Rattle.aes3_arguments.proofs.LineWalks.{level_checked, level_fits}
 use Rattle.aes3_arguments.proofs.OptionRows.{FitAll}
 use Rattle.aes3_arguments.proofs.TakenLines.{EachShape, all_known, entered_command, found_shape, leaf, nothing_wanted}
-use Rattle.aes3_arguments.proofs.TakenLines.{both_given, number_reads, IsKnown}
+use Rattle.aes3_arguments.proofs.TakenLines.{also, both_given, number_reads, IsKnown}
 
 -- an option that was given has a text
 text_reads : (c : List Rule) (rows : List Row) (id : Text) → FitAll c rows → is_given id rows ≡ true
@@ -32,7 +32,8 @@ text_reads c (r ∷ rs) id fit given = go (bytes_eq r.id id) (λ rest. text_read
     one (v ∷ vs) some = refl
 
     go : (b : Bool) → (is_given id rs ≡ true → is_some (first_of id rs) ≡ true)
-        → option_map_or (λ (x : Row). explicit_source x.source) (cond b (Some r) (find (λ x. bytes_eq x.id id) rs)) false
+        → option_map_or (λ (x : Row). explicit_source x.source)
+        (cond b (Some r) (find (λ x. bytes_eq x.id id) rs)) false
         ≡ true
         → is_some (option_and_then (λ (x : Row). slice_get x.values 0)
         (cond b (Some r) (find (λ x. bytes_eq x.id id) rs))) ≡ true
@@ -70,7 +71,12 @@ has_words same rows fit passed =
     )
 
 all_words : EachShape HasWords (built command_line).subs
-all_words = (no_words (leaf encode) refl, (no_words (leaf (reader (codes "decode"))) refl, (no_words (leaf normal) refl, (no_words (leaf check) refl, (no_words (leaf watch) refl, (no_words (leaf show) refl, (no_words (leaf (reader (codes "scan"))) refl, (no_words (leaf cut) refl, (no_words (leaf rewrite) refl, (no_words (leaf to_pcm) refl, (no_words (leaf from_pcm) refl, (has_words, tt))))))))))))
+all_words =
+    also (no_words (leaf encode) refl) (also (no_words (leaf (reader (codes "decode"))) refl)
+    (also (no_words (leaf normal) refl) (also (no_words (leaf check) refl) (also (no_words (leaf watch) refl)
+    (also (no_words (leaf show) refl) (also (no_words (leaf (reader (codes "scan"))) refl)
+    (also (no_words (leaf cut) refl) (also (no_words (leaf rewrite) refl) (also (no_words (leaf to_pcm) refl)
+    (also (no_words (leaf from_pcm) refl) (also (has_words) tt)))))))))))
 
 words_stand : (words : List Text) (name : Text) (options : Options) → StandsIn words name options
     → name ≡ codes "to-bits" → Words options

@@ -1,19 +1,20 @@
 -- What the getters of a parse's matches read, by the options that the matches have.
-use Rattle.std.proofs.Common.{◌≡◌, ◌∙◌, ◌<◌, ◌≤◌, ◌^◌, arith, ℕ, Bool, List, map, Bor, Option, Some, None, Result, Ok, Err}
-use Rattle.std.proofs.Common.{inl, inr, true, false, codes, refl, sym, ap, cond, subst, is_some, true≢false}
+use Rattle.std.proofs.Common.{◌≡◌, ◌∙◌, ◌<◌, ◌≤◌, ◌^◌, arith, ℕ, Bool, List, map, Bor, Option, Some, None, Result, Ok}
+use Rattle.std.proofs.Common.{Err, inl, inr, true, false, codes, refl, sym, ap, cond, subst, is_some, true≢false}
 use Rattle.std.specs.Prelude.{option_and_then}
 use Rattle.std.specs.Option.{option_map, option_map_or}
 use Rattle.std.specs.Str.{bytes_eq}
 use Rattle.std.specs.Str.Parse.{ParsesUnsigned, digits_value, without_leading_plus}
-use Rattle.clap.specs.Matches.{ReadsOne, found_of, matched_of, one_text, raw_values}
-use Rattle.clap.specs.Walk.{Text, all_of, one_of}
+use Rattle.clap.specs.Matches.{ReadsOne, first_value, found_of, matched_of, one_text, raw_values}
+use Rattle.clap.specs.Walk.{Text, all_of, first_of, one_of}
 use Rattle.clap.specs.ValueTests.{is_unsigned_in}
 use Rattle.clap.specs.declared.builder.value_parser.ValueParser.TheVariants as vp
 use Rattle.clap.specs.declared.parser.matches.ArgMatches.{ArgMatches}
 use Rattle.clap.proofs.ValueTestLemmas.{Accepts-accepts, accepts-Accepts}
-use Rattle.clap.proofs.WalkLemmas.{one_text-rows, raw_values-rows}
+use Rattle.clap.proofs.WalkLemmas.{first_value-rows, one_text-rows, raw_values-rows}
 use Rattle.aes3_commands.specs.CommandLine.{greatest, most_frames}
-use Rattle.aes3_arguments.specs.Jobs.{IsNumber, MayBeFlag, MayBeWithin, Options, is_set, number_by, number_in, options_of}
+use Rattle.aes3_arguments.specs.Jobs.{IsNumber, MayBeFlag, MayBeWithin, Options, is_set, number_by, number_in}
+use Rattle.aes3_arguments.specs.Jobs.{options_of}
 use Rattle.aes3_arguments.proofs.OptionRows.{some_inj}
 
 -- `get_flag` tells whether the flag stands
@@ -62,6 +63,15 @@ number_is E G m name n answer only is value = go (one_of name (options_of m)) re
     go None at same = cc
     go (Some text) at same =
         number_parses E G text n answer only same (value text (one_text-rows (found_of m) name ∙ at))
+
+-- `get_str` reads the first text
+abbrev pub text_in : Option (Bor Text) → Option Text
+text_in = option_map (λ (s : Bor Text). s.now)
+
+pub text_is : (m : ArgMatches) (name : Text) (answer is : Option (Bor Text))
+    → text_in answer ≡ first_value (found_of m) name
+    → answer ≡ is → first_of name (options_of m) ≡ text_in is
+text_is m name answer is read same = sym (first_value-rows (found_of m) name) ∙ (sym read ∙ ap text_in same)
 
 -- `get_strs` reads all the texts
 abbrev pub texts_in : Option (Bor (List (Bor Text))) → Option (List Text)

@@ -1,6 +1,6 @@
 -- What holds of the command that stands in words that the definitions take.
-use Rattle.std.proofs.Common.{◌≡◌, ◌∙◌, ◌⊎◌, ◌<◌, ◌≤◌, ℕ, Bool, List, [], ◌∷◌, length, Option, Some, None, true, false, not}
-use Rattle.std.proofs.Common.{codes, refl, sym, ap, subst, cond, inl, inr, arith, is_some, true≢false, ◌||◌}
+use Rattle.std.proofs.Common.{◌≡◌, ◌∙◌, ◌⊎◌, ◌<◌, ◌≤◌, ℕ, Bool, List, [], ◌∷◌, length, Option, Some, None, true, false}
+use Rattle.std.proofs.Common.{not, codes, refl, sym, ap, subst, cond, inl, inr, arith, is_some, true≢false, ◌||◌}
 use Rattle.std.specs.Prelude.{⊤, option_and_then, slice_get}
 use Rattle.std.specs.List.{find}
 use Rattle.std.specs.Option.{option_map, option_map_or}
@@ -121,17 +121,19 @@ flag_reads c rows id (Some a) fit own flag = elim (option_reads c rows id a vp.B
 pub number_reads : (c : List Rule) (rows : List Row) (id : Text) (a : Rule) (least most : ℕ) → FitAll c rows
     → arg_by_id c id ≡ Some a → a.parser ≡ Some (vp.Unsigned least most)
     → is_given id rows ≡ true → (n : ℕ) × IsNumber rows id n × (least ≤ n) × (n ≤ most)
-number_reads c rows id a least most fit own is given = elim (option_reads c rows id a (vp.Unsigned least most) fit own is) [
-  | inl none ↦ absurd (true≢false
-      (sym given ∙ ap (λ o. option_map_or (λ (r : Row). explicit_source r.source) o false) none))
-  | inr found ↦
-      let n = bounded_in least most found.0 found.2 in (
-        n.0,
-        ap (option_and_then number_in) (found.1 ∙ ap Some (as_written a (vp.Unsigned least most) found.0 is refl)) ∙ n.1,
-        n.2,
-        n.3,
-      )
-]
+number_reads c rows id a least most fit own is given =
+    elim (option_reads c rows id a (vp.Unsigned least most) fit own is) [
+      | inl none ↦ absurd (true≢false
+          (sym given ∙ ap (λ o. option_map_or (λ (r : Row). explicit_source r.source) o false) none))
+      | inr found ↦
+          let n = bounded_in least most found.0 found.2 in (
+            n.0,
+            ap (option_and_then number_in) (found.1 ∙ ap Some (as_written a (vp.Unsigned least most) found.0 is refl))
+                ∙ n.1,
+            n.2,
+            n.3,
+          )
+    ]
 
 -- what is wanted was given
 pub both_given : (first second : Bool) → (not first || (not second || false)) ≡ false → (first ≡ true) × (second ≡ true)
@@ -175,49 +177,88 @@ found_shape P (x ∷ xs) p s each e = go (p x) (λ rest. found_shape P xs p s ea
 pub other_name : {X : Type 0} (name : Text) → bytes_eq name (codes "cut") ≡ false → name ≡ codes "cut" → X
 other_name name differs same = absurd (true≢false (sym (ap (λ t. bytes_eq t (codes "cut")) same) ∙ differs))
 
+-- one more fact before others
+pub also : {A B : Type 0} → A → B → A × B
+also a b = (a, b)
+
 -- the command as it is built
 abbrev pub leaf : Shape → Shape
 leaf s = built_leaf (inherited (with_leaf_noted (marked_built command_line.top)) s)
 
 encode_known : IsKnown (leaf encode)
 encode_known = record {
-  sound = (flag_sound _ _ (codes "true") refl refl refl refl, (flag_sound _ _ (codes "true") refl refl refl refl, (help_sound _ _ refl refl, tt)));
+  sound =
+      also (flag_sound _ _ (codes "true") refl refl refl refl)
+      (also (flag_sound _ _ (codes "true") refl refl refl refl) (also (help_sound _ _ refl refl) tt));
   numbers = λ rows name fit passed. other_name (codes "encode") refl name;
 }
 
 reader_known : (name : Text) → bytes_eq name (codes "cut") ≡ false → IsKnown (leaf (reader name))
 reader_known name differs = record {
-  sound = (flag_sound _ _ (codes "true") refl refl refl refl, (flag_sound _ _ (codes "true") refl refl refl refl, (flag_sound _ _ (codes "true") refl refl refl refl, (value_sound _ _ refl refl refl, (help_sound _ _ refl refl, tt)))));
+  sound =
+      also (flag_sound _ _ (codes "true") refl refl refl refl)
+      (also (flag_sound _ _ (codes "true") refl refl refl refl)
+      (also (flag_sound _ _ (codes "true") refl refl refl refl) (also (value_sound _ _ refl refl refl)
+      (also (help_sound _ _ refl refl) tt))));
   numbers = λ rows same fit passed. other_name name differs same;
 }
 
 check_known : IsKnown (leaf check)
 check_known = record {
-  sound = (flag_sound _ _ (codes "true") refl refl refl refl, (flag_sound _ _ (codes "true") refl refl refl refl, (flag_sound _ _ (codes "true") refl refl refl refl, (flag_sound _ _ (codes "true") refl refl refl refl, (flag_sound _ _ (codes "true") refl refl refl refl, (value_sound _ _ refl refl refl, (help_sound _ _ refl refl, tt)))))));
+  sound =
+      also (flag_sound _ _ (codes "true") refl refl refl refl)
+      (also (flag_sound _ _ (codes "true") refl refl refl refl)
+      (also (flag_sound _ _ (codes "true") refl refl refl refl)
+      (also (flag_sound _ _ (codes "true") refl refl refl refl)
+      (also (flag_sound _ _ (codes "true") refl refl refl refl) (also (value_sound _ _ refl refl refl)
+      (also (help_sound _ _ refl refl) tt))))));
   numbers = λ rows name fit passed. other_name (codes "check") refl name;
 }
 
 watch_known : IsKnown (leaf watch)
 watch_known = record {
-  sound = (flag_sound _ _ (codes "true") refl refl refl refl, (flag_sound _ _ (codes "true") refl refl refl refl, (flag_sound _ _ (codes "true") refl refl refl refl, (flag_sound _ _ (codes "true") refl refl refl refl, (value_sound _ _ refl refl refl, (value_sound _ _ refl refl refl, (value_sound _ _ refl refl refl, (value_sound _ _ refl refl refl, (help_sound _ _ refl refl, tt)))))))));
+  sound =
+      also (flag_sound _ _ (codes "true") refl refl refl refl)
+      (also (flag_sound _ _ (codes "true") refl refl refl refl)
+      (also (flag_sound _ _ (codes "true") refl refl refl refl)
+      (also (flag_sound _ _ (codes "true") refl refl refl refl) (also (value_sound _ _ refl refl refl)
+      (also (value_sound _ _ refl refl refl) (also (value_sound _ _ refl refl refl)
+      (also (value_sound _ _ refl refl refl) (also (help_sound _ _ refl refl) tt))))))));
   numbers = λ rows name fit passed. other_name (codes "watch") refl name;
 }
 
 show_known : IsKnown (leaf show)
 show_known = record {
-  sound = (flag_sound _ _ (codes "true") refl refl refl refl, (flag_sound _ _ (codes "true") refl refl refl refl, (flag_sound _ _ (codes "true") refl refl refl refl, (flag_sound _ _ (codes "true") refl refl refl refl, (flag_sound _ _ (codes "true") refl refl refl refl, (flag_sound _ _ (codes "true") refl refl refl refl, (value_sound _ _ refl refl refl, (help_sound _ _ refl refl, tt))))))));
+  sound =
+      also (flag_sound _ _ (codes "true") refl refl refl refl)
+      (also (flag_sound _ _ (codes "true") refl refl refl refl)
+      (also (flag_sound _ _ (codes "true") refl refl refl refl)
+      (also (flag_sound _ _ (codes "true") refl refl refl refl)
+      (also (flag_sound _ _ (codes "true") refl refl refl refl)
+      (also (flag_sound _ _ (codes "true") refl refl refl refl) (also (value_sound _ _ refl refl refl)
+      (also (help_sound _ _ refl refl) tt)))))));
   numbers = λ rows name fit passed. other_name (codes "show") refl name;
 }
 
 normal_known : IsKnown (leaf normal)
 normal_known = record {
-  sound = (flag_sound _ _ (codes "true") refl refl refl refl, (flag_sound _ _ (codes "true") refl refl refl refl, (flag_sound _ _ (codes "true") refl refl refl refl, (flag_sound _ _ (codes "true") refl refl refl refl, (value_sound _ _ refl refl refl, (help_sound _ _ refl refl, tt))))));
+  sound =
+      also (flag_sound _ _ (codes "true") refl refl refl refl)
+      (also (flag_sound _ _ (codes "true") refl refl refl refl)
+      (also (flag_sound _ _ (codes "true") refl refl refl refl)
+      (also (flag_sound _ _ (codes "true") refl refl refl refl) (also (value_sound _ _ refl refl refl)
+      (also (help_sound _ _ refl refl) tt)))));
   numbers = λ rows name fit passed. other_name (codes "normal") refl name;
 }
 
 cut_known : IsKnown (leaf cut)
 cut_known = record {
-  sound = (flag_sound _ _ (codes "true") refl refl refl refl, (flag_sound _ _ (codes "true") refl refl refl refl, (flag_sound _ _ (codes "true") refl refl refl refl, (flag_sound _ _ (codes "true") refl refl refl refl, (value_sound _ _ refl refl refl, (value_sound _ _ refl refl refl, (help_sound _ _ refl refl, tt)))))));
+  sound =
+      also (flag_sound _ _ (codes "true") refl refl refl refl)
+      (also (flag_sound _ _ (codes "true") refl refl refl refl)
+      (also (flag_sound _ _ (codes "true") refl refl refl refl)
+      (also (flag_sound _ _ (codes "true") refl refl refl refl) (also (value_sound _ _ refl refl refl)
+      (also (value_sound _ _ refl refl refl) (also (help_sound _ _ refl refl) tt))))));
   numbers = λ rows name fit passed.
       let given = both_given (is_given (codes "FROM") rows) (is_given (codes "COUNT") rows)
       (nothing_wanted false false _ passed) in
@@ -228,30 +269,58 @@ cut_known = record {
 
 rewrite_known : IsKnown (leaf rewrite)
 rewrite_known = record {
-  sound = (flag_sound _ _ (codes "true") refl refl refl refl, (flag_sound _ _ (codes "true") refl refl refl refl, (flag_sound _ _ (codes "true") refl refl refl refl, (flag_sound _ _ (codes "true") refl refl refl refl, (value_sound _ _ refl refl refl, (value_sound _ _ refl refl refl, (values_sound _ _ refl refl refl, (values_sound _ _ refl refl refl, (flag_sound _ _ (codes "true") refl refl refl refl, (value_sound _ _ refl refl refl, (value_sound _ _ refl refl refl, (flag_sound _ _ (codes "true") refl refl refl refl, (flag_sound _ _ (codes "true") refl refl refl refl, (value_sound _ _ refl refl refl, (help_sound _ _ refl refl, tt)))))))))))))));
+  sound =
+      also (flag_sound _ _ (codes "true") refl refl refl refl)
+      (also (flag_sound _ _ (codes "true") refl refl refl refl)
+      (also (flag_sound _ _ (codes "true") refl refl refl refl)
+      (also (flag_sound _ _ (codes "true") refl refl refl refl) (also (value_sound _ _ refl refl refl)
+      (also (value_sound _ _ refl refl refl) (also (values_sound _ _ refl refl refl)
+      (also (values_sound _ _ refl refl refl) (also (flag_sound _ _ (codes "true") refl refl refl refl)
+      (also (value_sound _ _ refl refl refl) (also (value_sound _ _ refl refl refl)
+      (also (flag_sound _ _ (codes "true") refl refl refl refl)
+      (also (flag_sound _ _ (codes "true") refl refl refl refl) (also (value_sound _ _ refl refl refl)
+      (also (help_sound _ _ refl refl) tt))))))))))))));
   numbers = λ rows name fit passed. other_name (codes "rewrite") refl name;
 }
 
 to_pcm_known : IsKnown (leaf to_pcm)
 to_pcm_known = record {
-  sound = (flag_sound _ _ (codes "true") refl refl refl refl, (flag_sound _ _ (codes "true") refl refl refl refl, (flag_sound _ _ (codes "true") refl refl refl refl, (flag_sound _ _ (codes "true") refl refl refl refl, (value_sound _ _ refl refl refl, (value_sound _ _ refl refl refl, (help_sound _ _ refl refl, tt)))))));
+  sound =
+      also (flag_sound _ _ (codes "true") refl refl refl refl)
+      (also (flag_sound _ _ (codes "true") refl refl refl refl)
+      (also (flag_sound _ _ (codes "true") refl refl refl refl)
+      (also (flag_sound _ _ (codes "true") refl refl refl refl) (also (value_sound _ _ refl refl refl)
+      (also (value_sound _ _ refl refl refl) (also (help_sound _ _ refl refl) tt))))));
   numbers = λ rows name fit passed. other_name (codes "to-pcm") refl name;
 }
 
 to_bits_known : IsKnown (leaf to_bits)
 to_bits_known = record {
-  sound = (flag_sound _ _ (codes "true") refl refl refl refl, (flag_sound _ _ (codes "true") refl refl refl refl, (flag_sound _ _ (codes "true") refl refl refl refl, (value_sound _ _ refl refl refl, (value_sound _ _ refl refl refl, (value_sound _ _ refl refl refl, (help_sound _ _ refl refl, tt)))))));
+  sound =
+      also (flag_sound _ _ (codes "true") refl refl refl refl)
+      (also (flag_sound _ _ (codes "true") refl refl refl refl)
+      (also (flag_sound _ _ (codes "true") refl refl refl refl) (also (value_sound _ _ refl refl refl)
+      (also (value_sound _ _ refl refl refl) (also (value_sound _ _ refl refl refl) (also (help_sound _ _ refl refl)
+      tt))))));
   numbers = λ rows name fit passed. other_name (codes "to-bits") refl name;
 }
 
 from_pcm_known : IsKnown (leaf from_pcm)
 from_pcm_known = record {
-  sound = (value_sound _ _ refl refl refl, (value_sound _ _ refl refl refl, (values_sound _ _ refl refl refl, (values_sound _ _ refl refl refl, (flag_sound _ _ (codes "true") refl refl refl refl, (flag_sound _ _ (codes "true") refl refl refl refl, (value_sound _ _ refl refl refl, (help_sound _ _ refl refl, tt))))))));
+  sound =
+      also (value_sound _ _ refl refl refl) (also (value_sound _ _ refl refl refl)
+      (also (values_sound _ _ refl refl refl) (also (values_sound _ _ refl refl refl)
+      (also (flag_sound _ _ (codes "true") refl refl refl refl)
+      (also (flag_sound _ _ (codes "true") refl refl refl refl) (also (value_sound _ _ refl refl refl)
+      (also (help_sound _ _ refl refl) tt)))))));
   numbers = λ rows name fit passed. other_name (codes "from-pcm") refl name;
 }
 
 pub all_known : EachShape IsKnown (built command_line).subs
-all_known = (encode_known, (reader_known (codes "decode") refl, (normal_known, (check_known, (watch_known, (show_known, (reader_known (codes "scan") refl, (cut_known, (rewrite_known, (to_pcm_known, (from_pcm_known, (to_bits_known, tt))))))))))))
+all_known =
+    also (encode_known) (also (reader_known (codes "decode") refl) (also (normal_known) (also (check_known)
+    (also (watch_known) (also (show_known) (also (reader_known (codes "scan") refl) (also (cut_known)
+    (also (rewrite_known) (also (to_pcm_known) (also (from_pcm_known) (also (to_bits_known) tt)))))))))))
 
 -- ---- the command that stands in the words
 

@@ -21,7 +21,8 @@ bounded_reads least most c rows id None fit own bounds = inl (no_row c rows id f
 bounded_reads least most c rows id (Some a) fit own bounds =
     elim (option_reads c rows id a (vp.Unsigned least most) fit own bounds) [
       | inl none ↦ inl (ap (option_and_then row_text) none)
-      | inr given ↦ inr (given.0, given.1 ∙ ap Some (as_written a (vp.Unsigned least most) given.0 bounds refl), given.2)
+      | inr given ↦
+          inr (given.0, given.1 ∙ ap Some (as_written a (vp.Unsigned least most) given.0 bounds refl), given.2)
     ]
 
 -- a name that is a flag, or such a number, where a command takes it

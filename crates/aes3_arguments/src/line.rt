@@ -3,8 +3,8 @@
 ghost use Rattle.std.specs.Prelude.{◌≡◌, List, ℕ, None, IfOk, IfErr, IfSome, map};
 ghost use Rattle.std.specs.Option.{option_map};
 ghost use Rattle.clap.specs.Values.{kind_of};
-ghost use Rattle.aes3_arguments.specs.Jobs.{AreBadOptionsOf, AreOctets, AsksFor, HaveOctets, IsFaultOf, IsJobOf, IsLineFaultOf, IsLineOf};
-ghost use Rattle.aes3_arguments.specs.Jobs.{ReadsFile, StandsIn, Tells, file_by, options_of};
+ghost use Rattle.aes3_arguments.specs.Jobs.{AreBadOptionsOf, AreOctets, AsksFor, HaveOctets, IsFaultOf, IsJobOf};
+ghost use Rattle.aes3_arguments.specs.Jobs.{IsLineFaultOf, IsLineOf, ReadsFile, StandsIn, Tells, file_by, options_of};
 ghost use Rattle.aes3_arguments.specs.Explained.{IsExplanation};
 
 use crate::explain::{asks_to_explain, explained_number, explanation};

@@ -144,29 +144,17 @@ fn has_long_run(first: u8, second: u8) -> bool {
     false
 }
 
-/// Whether two of the octets that follow one another have such a run.
-fn have_long_run(octets: &[u8]) -> bool {
-    for at in 1..octets.len() {
-        if has_long_run(octets[at - 1], octets[at]) {
-            return true;
-        }
-    }
-    false
-}
-
-/// Whether two of them do with the lowest bit of each first.
-fn have_long_run_turned(octets: &[u8]) -> bool {
-    for at in 1..octets.len() {
-        if has_long_run(octets[at - 1].reverse_bits(), octets[at].reverse_bits()) {
-            return true;
-        }
-    }
-    false
-}
-
-/// Whether the octets can be packed cells only where the first cell stands in the lowest bit.
+/// Whether the octets can be packed cells only where the first cell stands in the lowest bit: two
+/// that follow one another have such a run, and none have one with the lowest bit of each first.
 pub(crate) fn are_turned(first: &[u8]) -> bool {
-    have_long_run(first) && !have_long_run_turned(first)
+    let mut is_long = false;
+    let mut is_long_turned = false;
+    for at in 1..first.len() {
+        let (before, octet) = (first[at - 1], first[at]);
+        is_long |= has_long_run(before, octet);
+        is_long_turned |= has_long_run(before.reverse_bits(), octet.reverse_bits());
+    }
+    is_long && !is_long_turned
 }
 
 /// What to do about this refusal of an input that looks so, if its looks tell.

@@ -1,3 +1,2 @@
 pub mod Gathering
 mod MarkTexts
-mod OnesMore

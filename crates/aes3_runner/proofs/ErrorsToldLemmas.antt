@@ -86,7 +86,8 @@ of-packed line true job ended source sink errors status r = elim r [
 of-packed line false job ended source sink errors status r
     = of-answer line job r.answer r.failed sink errors status r.told
 
-of-job : (line : CommandLine) (raw turned : Bool) (job : Job) (ended : Bool) (source sink errors : Movement) (status : ℕ)
+of-job : (line : CommandLine) (raw turned : Bool) (job : Job) (ended : Bool) (source sink errors : Movement)
+    (status : ℕ)
     → RawBy raw (λ ended source. PackedRan turned job ended source sink errors status) ended source
     → ErrorsTold (Ok line) errors status
 of-job line true turned job ended source sink errors status r

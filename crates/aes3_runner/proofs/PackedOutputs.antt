@@ -54,9 +54,11 @@ can-be-turned (Show i detail) h b = absurd cc
 can-be-turned (ShowChanges i detail) h b = absurd cc
 can-be-turned (Scan i) h b = absurd cc
 can-be-turned (Cut i o from count) h b =
-    of-blocks o (cut_blocks from count (blocks (cells_of i b))) h (cut-each from count (blocks (cells_of i b)) (blocks27 (cells_of i b)))
+    of-blocks o (cut_blocks from count (blocks (cells_of i b))) h
+    (cut-each from count (blocks (cells_of i b)) (blocks27 (cells_of i b)))
 can-be-turned (Rewrite i o change) h b =
-    of-blocks o (rewritten_blocks change (blocks (cells_of i b))) h (each-blocks change (blocks (cells_of i b)) (blocks27 (cells_of i b)))
+    of-blocks o (rewritten_blocks change (blocks (cells_of i b))) h
+    (each-blocks change (blocks (cells_of i b)) (blocks27 (cells_of i b)))
 can-be-turned (ToPcm i valid) h b = absurd cc
 can-be-turned (ToFilledPcm i fill) h b = absurd cc
 can-be-turned (FromPcm exact change) h b = absurd cc

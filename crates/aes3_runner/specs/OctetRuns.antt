@@ -52,8 +52,8 @@ pub record RawRan (Ran : Bool → Movement → Type 0) (ended : Bool) (source : 
   pub ran : Ran told_end (as_raw counted source)
 
 -- a job on packed cells with the first of each octet in the lowest bit, of which the first octet was read, if there is
--- one: it is run on the octets turned, and the last, which counts, as it is. One octet is held back until the source has
--- ended, and none once the job was told the end.
+-- one: it is run on the octets turned, and the last, which counts, as it is. One octet is held back until the source
+-- has ended, and none once the job was told the end.
 pub record BehindRan (first : Option ℕ) (job : Job) (ended : Bool) (source sink errors : Movement) (status : ℕ) : Type 0
   where
     pub held : Option ℕ
@@ -118,4 +118,5 @@ pub record PackBoth (octets : List ℕ) : Type 0 where
 
 -- whatever a job writes as packed cells can be turned with the last octet: it is whole octets of cells
 abbrev pub OutputsCanBeTurned : Type 0
-OutputsCanBeTurned = (job : Job) → IsTrue (writes_packed job) → (bytes : List ℕ) → PackBoth ((promise_of job).whole bytes)
+OutputsCanBeTurned =
+    (job : Job) → IsTrue (writes_packed job) → (bytes : List ℕ) → PackBoth ((promise_of job).whole bytes)

@@ -26,7 +26,8 @@ pub returns-in-Whole-clause-err_lines : goal.returns-in-Whole-clause-err_lines
 returns-in-Whole-clause-err_lines g c =
     let k = c.args.self.now in
     let x = report_in c.args.lock.now c.args.ending in
-    whole-front k.changes k.detail c.put_block.result x k.first k.second k.tally.blocks (g.T.Sink.failed c.args.sink.now)
+    whole-front k.changes k.detail c.put_block.result x k.first k.second k.tally.blocks
+    (g.T.Sink.failed c.args.sink.now)
     (g.T.Sink.failed c.put_block.new.sink)
     (g.T.Sink.taken c.args.sink.now) (g.T.Sink.taken c.put_block.new.sink)
     (told-whole c.args.lock.now c.in-Whole.is c.gathered.ensures c.block.ensures) c.put_block.ensures.wrote.err
@@ -38,7 +39,8 @@ returns-in-Marked-clause-last g c = λ bs h.
 
 pub returns-in-Marked-clause-lines : goal.returns-in-Marked-clause-lines
 returns-in-Marked-clause-lines g c
-    = λ bs h n. grew-is (sym (ap (λ e. report_details c.args.self.now.changes c.args.self.now.detail bs (report_in c.args.lock.now e)) c.in-Marked.is))
+    = λ bs h n. grew-is (sym (ap (λ e. report_details c.args.self.now.changes c.args.self.now.detail bs
+    (report_in c.args.lock.now e)) c.in-Marked.is))
     (grew-none refl)
 
 pub returns-in-Fault-clause-last : goal.returns-in-Fault-clause-last
@@ -48,7 +50,8 @@ returns-in-Fault-clause-last g c = λ bs h.
 
 pub returns-in-Fault-clause-lines : goal.returns-in-Fault-clause-lines
 returns-in-Fault-clause-lines g c
-    = λ bs h n. grew-is (sym (ap (λ e. report_details c.args.self.now.changes c.args.self.now.detail bs (report_in c.args.lock.now e)) c.in-Fault.is)) (grew-none refl)
+    = λ bs h n. grew-is (sym (ap (λ e. report_details c.args.self.now.changes c.args.self.now.detail bs
+    (report_in c.args.lock.now e)) c.in-Fault.is)) (grew-none refl)
 
 pub returns-in-Unfinished-clause-last : goal.returns-in-Unfinished-clause-last
 returns-in-Unfinished-clause-last g c = λ bs h.
@@ -57,5 +60,6 @@ returns-in-Unfinished-clause-last g c = λ bs h.
 
 pub returns-in-Unfinished-clause-lines : goal.returns-in-Unfinished-clause-lines
 returns-in-Unfinished-clause-lines g c
-    = λ bs h n. grew-is (sym (ap (λ e. report_details c.args.self.now.changes c.args.self.now.detail bs (report_in c.args.lock.now e)) c.in-Unfinished.is))
+    = λ bs h n. grew-is (sym (ap (λ e. report_details c.args.self.now.changes c.args.self.now.detail bs
+    (report_in c.args.lock.now e)) c.in-Unfinished.is))
     (grew-none refl)

@@ -13,10 +13,12 @@ returns-in-Ok-clause-next g c = λ r h.
 
 pub returns-in-Ok-clause-grew : goal.returns-in-Ok-clause-grew
 returns-in-Ok-clause-grew g c
-    = λ r h. grew-is (adds-is c.args.self.now.changes c.args.self.now.detail r (report_in c.args.lock.now c.args.ending))
+    = λ r h. grew-is (adds-is c.args.self.now.changes c.args.self.now.detail r
+    (report_in c.args.lock.now c.args.ending))
     (c.in-Ok.ensures.lines (wholes r) h.last h.tally.blocks_is)
 
 pub returns-in-Err-clause-err_grew : goal.returns-in-Err-clause-err_grew
 returns-in-Err-clause-err_grew g c
-    = λ r h. front-is (adds-is c.args.self.now.changes c.args.self.now.detail r (report_in c.args.lock.now c.args.ending))
+    = λ r h. front-is (adds-is c.args.self.now.changes c.args.self.now.detail r
+    (report_in c.args.lock.now c.args.ending))
     (c.in-Err.ensures.err_lines (wholes r) h.last h.tally.blocks_is)
