@@ -88,7 +88,7 @@ _aes3() {
         normal) _aes3_words --packed-in --raw-in --packed-out --lsb-first --help ;;
         check) _aes3_words --packed-in --raw-in --lsb-first --faults --gaps --help ;;
         watch) _aes3_words --packed-in --raw-in --lsb-first --json --rate --every --every-seconds --help ;;
-        show) _aes3_words --packed-in --raw-in --lsb-first --changes --at --more --help ;;
+        show) _aes3_words --packed-in --raw-in --lsb-first --changes --at --more --names --help ;;
         scan) _aes3_words --packed-in --raw-in --lsb-first --help ;;
         cut) _aes3_words --packed-in --raw-in --packed-out --lsb-first --help ;;
         rewrite) _aes3_words --packed-in --raw-in --packed-out --lsb-first --status1 --status2 --set1 --set2 --mend-check --valid1 --valid2 --clear-user1 --clear-user2 --help ;;

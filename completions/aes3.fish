@@ -104,6 +104,7 @@ complete -c aes3 -n '__fish_seen_subcommand_from show' -l lsb-first -d 'Packed c
 complete -c aes3 -n '__fish_seen_subcommand_from show' -l changes -d 'Leave out what is as in the block before'
 complete -c aes3 -n '__fish_seen_subcommand_from show' -l at -d 'Tell the cell at which each block begins'
 complete -c aes3 -n '__fish_seen_subcommand_from show' -l more -d 'Tell how many V and U bits are 1, and that cell'
+complete -c aes3 -n '__fish_seen_subcommand_from show' -l names -d 'Tell the words of codes that are printed as numbers'
 complete -c aes3 -n '__fish_seen_subcommand_from show' -l help -s h -d 'Print help'
 complete -c aes3 -n "__fish_seen_subcommand_from scan; and not string match -q -- '-*' (commandline -ct)" -F
 complete -c aes3 -n '__fish_seen_subcommand_from scan' -l packed-in -d 'Read packed cells, eight an octet'

@@ -3,7 +3,7 @@
 
 Each case (40 where no number is given) is some blocks of the speech with V and U bits turned, as cells that are then turned, lost, put in
 and cut. Of these the sums of `watch --every` are compared with the lines of `check --gaps`; `to-bits`, `show --more`, `to-pcm --valid`,
-`to-pcm --fill` and `rewrite` with the block file of `decode`; and `--lsb-first` with octets that are packed here. The last line is `N passed, M failed`.
+`to-pcm --fill` and `rewrite` with the block file of `decode`; `show --names` with the codes of alsa/asoundef.h; and `--lsb-first` with octets that are packed here. The last line is `N passed, M failed`.
 """
 
 import os
@@ -13,6 +13,17 @@ import sys
 
 BLOCK_BYTES, CELLS, FRAMES = 1536, 24_576, 192
 PLACES = {"validity": 28, "user": 29, "status": 30}
+# The words of codes by alsa/asoundef.h: category codes of consumer use, original sampling frequencies from code 0 on.
+CATEGORIES = {
+    0x01 | 0x08: "non-iec908-cd", 0x01 | 0x48: "mini-disc", 0x01 | 0x18: "dvd", 0x01 | 0x78: "other-laser-optical",
+    0x02: "pcm-coder", 0x02 | 0x10: "mixer", 0x02 | 0x18: "rate-converter", 0x02 | 0x20: "sampler", 0x02 | 0x28: "sound-processor",
+    0x02 | 0x78: "other-converter", 0x03 | 0x08: "video-recorder", 0x03 | 0x40: "dcc", 0x03 | 0x18: "magnetic-disc",
+    0x03 | 0x78: "other-magnetic", 0x04: "dab-japan", 0x04 | 0x08: "dab-europe", 0x04 | 0x60: "dab-usa", 0x04 | 0x40: "software-delivery",
+    0x04 | 0x20: "iec62105", 0x04 | 0x78: "other-broadcast", 0x05: "synthesizer", 0x05 | 0x08: "microphone", 0x05 | 0x78: "other-musical",
+    0x06: "adc", 0x06 | 0x60: "other-adc", 0x16: "adc-copyright", 0x16 | 0x60: "other-adc-copyright", 0x08: "solid-state-recorder",
+    0x08 | 0x70: "other-solid-state", 0x40: "experimental",
+}  # fmt: skip
+ORIGINALS = "not-indicated 192000 12000 176400 - 96000 8000 88200 16000 24000 11025 22050 32000 48000 - 44100".split()
 CAUSES = ("preamble", "biphase", "unclosed")
 ROOT = os.path.dirname(os.path.dirname(os.path.realpath(__file__)))
 
@@ -118,7 +129,17 @@ def changed(word, channel):
     return with_parity(word | 1 << 28 if channel else word & ~(1 << 29))
 
 
-def judged(program, cells, every):
+def named(status):
+    """What `show --names` tells behind the line of a status."""
+    if status[0] & 1:
+        found = {"mode": "vector-to-byte-3" if status[1] & 15 == 15 else None}
+    else:
+        found = {"category": CATEGORIES.get(status[1] & 127), "rate": "768000" if status[3] & 15 == 9 else None}
+        found["original"] = ORIGINALS[status[4] >> 4].strip("-")
+    return [f"{name}={word}" for name, word in found.items() if word]
+
+
+def judged(program, cells, every, statuses):
     """Each comparison by its name, and whether it holds."""
     words = words_of(run(program, ["decode"], cells)[1])
     wholes = [line[2] for line in told(program, ["check"], cells) if line[0] == "whole"]
@@ -135,6 +156,10 @@ def judged(program, cells, every):
     ]
     plain = told(program, ["show"], cells)
     yield "show --more", told(program, ["show", "--more"], cells) == [line + more for line, more in zip(plain, behind)]
+    set_anew = run(program, ["rewrite", "--status1", statuses[0].hex(), "--status2", statuses[1].hex()], cells)[1]
+    plain = told(program, ["show"], set_anew)
+    behind = [named(status) for status in statuses] * (len(plain) // 2)
+    yield "show --names", told(program, ["show", "--names"], set_anew) == [line + more for line, more in zip(plain, behind)]
     samples = b"".join((0 if word >> 28 & 1 else (word >> 4 & 0xFFFFFF) << 8).to_bytes(4, "little") for word in words)
     yield "to-pcm --valid", run(program, ["to-pcm", "--valid"], cells)[1] == samples
     for fill in ("zero", "hold"):
@@ -176,7 +201,8 @@ def main():
     for case in range(cases):
         cells = line_of(program, chance, speech)
         every = chance.choice([1000, CELLS, 30_000, 100_000, 1 << 30, chance.randrange(300, 60_000)])
-        for name, holds in judged(program, cells, every):
+        statuses = [bytes(chance.randrange(256) for _ in range(24)) for _ in range(2)]
+        for name, holds in judged(program, cells, every, statuses):
             passed, failed = passed + holds, failed + (not holds)
             if not holds:
                 print(f"NOT the same: {name}, case {case} of seed {seed}")

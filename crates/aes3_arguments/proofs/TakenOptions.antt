@@ -78,6 +78,9 @@ at_flags = (tt, (tt, (tt, (tt, (tt, (refl, (tt, (tt, (tt, (tt, (tt, (tt, tt)))))
 more_flags : EachShape (HasFlag (codes "more")) (built command_line).subs
 more_flags = (tt, (tt, (tt, (tt, (tt, (refl, (tt, (tt, (tt, (tt, (tt, (tt, tt))))))))))))
 
+names_flags : EachShape (HasFlag (codes "names")) (built command_line).subs
+names_flags = (tt, (tt, (tt, (tt, (tt, (refl, (tt, (tt, (tt, (tt, (tt, (tt, tt))))))))))))
+
 valid_flags : EachShape (HasFlag (codes "valid")) (built command_line).subs
 valid_flags = (tt, (tt, (tt, (tt, (tt, (tt, (tt, (tt, (tt, (refl, (tt, (tt, tt))))))))))))
 
@@ -124,6 +127,7 @@ options_taken words name options stands = record {
   changes = flag_stands words name options (codes "changes") changes_flags stands;
   at = flag_stands words name options (codes "at") at_flags stands;
   more = flag_stands words name options (codes "more") more_flags stands;
+  names = flag_stands words name options (codes "names") names_flags stands;
   valid = flag_stands words name options (codes "valid") valid_flags stands;
   exact = flag_stands words name options (codes "exact") exact_flags stands;
   mend_check = flag_stands words name options (codes "mend-check") mend_check_flags stands;

@@ -1,7 +1,7 @@
 -- What a command line asks for, by what `clap` makes of its words.
 use Rattle.std.specs.Prelude.{ℕ, Bool, List, [], ◌∷◌, ◌++◌, ◌≡◌, ◌≢◌, ◌⊎◌, Option, Some, None, codes, get_or, true}
 use Rattle.std.specs.Prelude.{false}
-use Rattle.std.specs.Prelude.{if◌then◌else◌, option_and_then, option_map, is_some, not, ◌&&◌, ◌*◌, ◌==◌}
+use Rattle.std.specs.Prelude.{if◌then◌else◌, option_and_then, option_map, is_some, not, ◌&&◌, ◌||◌, ◌*◌, ◌==◌}
 use Rattle.std.specs.Option.{option_map_or}
 use Rattle.std.specs.Str.{bytes_eq}
 use Rattle.std.specs.Str.Parse.{digits_value, without_leading_plus}
@@ -30,7 +30,7 @@ use Rattle.aes3_settings.specs.Settings.{AreSettingsOf, IsSettingsFault}
 use Rattle.aes3_settings.specs.declared.listed.SettingsFault.{SettingsFault}
 use Rattle.aes3_settings.specs.declared.listed.SettingsFault.TheVariants.{Unknown, TooMany}
 use Rattle.aes3_settings.specs.declared.detail.Detail.{Detail}
-use Rattle.aes3_settings.specs.declared.detail.Detail.TheVariants.{Plain, Place, Carried}
+use Rattle.aes3_settings.specs.declared.detail.Detail.TheVariants.{Plain, Place, Carried, Names}
 use Rattle.aes3_settings.specs.declared.lines.Lines.{Lines}
 use Rattle.aes3_settings.specs.declared.lines.Lines.TheVariants as lines
 use Rattle.aes3_settings.specs.declared.style.Notation.{Notation}
@@ -45,6 +45,7 @@ use Rattle.aes3_arguments.specs.declared.layout.Octets.{Octets}
 use Rattle.aes3_arguments.specs.declared.misuse.Misuse.{Misuse}
 use Rattle.aes3_arguments.specs.declared.misuse.Misuse.TheVariants.{TwoForms, NoCellsPacked, TwoPeriods, NoRate}
 use Rattle.aes3_arguments.specs.declared.misuse.Misuse.TheVariants.{UnknownBits, UnknownFilling, FillsValidSamples}
+use Rattle.aes3_arguments.specs.declared.misuse.Misuse.TheVariants.{TwoDetails}
 use Rattle.aes3_arguments.specs.declared.job.LineFault.{LineFault}
 use Rattle.aes3_arguments.specs.declared.job.LineFault.TheVariants as fault
 
@@ -90,10 +91,11 @@ form_by options name = if is_set options name then form.Packed else form.Text
 abbrev pub input_by : Options → Form
 input_by options = if is_set options (codes "raw-in") then form.Packed else form_by options (codes "packed-in")
 
--- what stands behind a line of channel status: `--more` tells the place too
+-- what stands behind a line of channel status: `--more` tells the place too, and `--names` stands by itself
 abbrev pub detail_by : Options → Detail
 detail_by options = if is_set options (codes "more") then Carried
-    else if is_set options (codes "at") then Place else Plain
+    else if is_set options (codes "at") then Place
+    else if is_set options (codes "names") then Names else Plain
 
 -- which reports get a line
 abbrev pub lines_by : Options → Lines
@@ -218,6 +220,7 @@ pub record AreTaken (options : Options) : Type 0 where
   pub changes : MayBeFlag options (codes "changes")
   pub at : MayBeFlag options (codes "at")
   pub more : MayBeFlag options (codes "more")
+  pub names : MayBeFlag options (codes "names")
   pub valid : MayBeFlag options (codes "valid")
   pub exact : MayBeFlag options (codes "exact")
   pub mend_check : MayBeFlag options (codes "mend-check")
@@ -320,6 +323,11 @@ has_unknown_filling options =
 abbrev pub fills_valid_samples : Options → Bool
 fills_valid_samples options = is_some (fill_by options) && is_set options (codes "valid")
 
+-- words of codes are to stand behind a line of channel status, and the place of its block too
+abbrev pub has_two_details : Options → Bool
+has_two_details options =
+    is_set options (codes "names") && (is_set options (codes "at") || is_set options (codes "more"))
+
 -- what is wrong with options, of more the first
 abbrev pub misuse_by : Options → Option Misuse
 misuse_by options =
@@ -330,6 +338,7 @@ misuse_by options =
     else if has_unknown_bits options then Some UnknownBits
     else if has_unknown_filling options then Some UnknownFilling
     else if fills_valid_samples options then Some FillsValidSamples
+    else if has_two_details options then Some TwoDetails
     else None
 
 -- ---- the octets of packed cells
@@ -445,6 +454,7 @@ misuse_line NoRate = codes "error: the argument '--every-seconds <N>' needs '--r
 misuse_line UnknownBits = codes "error: invalid value for '<BITS>': it is 'user', 'validity' or 'status'"
 misuse_line UnknownFilling = codes "error: invalid value for '--fill <zero|hold>': it is 'zero' or 'hold'"
 misuse_line FillsValidSamples = codes "error: the argument '--fill <zero|hold>' cannot be used with '--valid'"
+misuse_line TwoDetails = codes "error: the argument '--names' cannot be used with '--at' or '--more'"
 
 abbrev pub misuse_end : Text
 misuse_end = (10 ∷ 10 ∷ codes "Usage: aes3 COMMAND [OPTIONS] < INPUT > OUTPUT")

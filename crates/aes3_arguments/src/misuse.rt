@@ -3,7 +3,7 @@
 ghost use Rattle.std.specs.Prelude.{◌≡◌, IfOk};
 ghost use Rattle.aes3_arguments.specs.Jobs.{AreTaken, TellsMisuse, has_no_cells_packed, has_no_rate};
 ghost use Rattle.aes3_arguments.specs.Jobs.{has_two_forms, has_two_periods, has_unknown_bits, misuse_by};
-ghost use Rattle.aes3_arguments.specs.Jobs.{fills_valid_samples};
+ghost use Rattle.aes3_arguments.specs.Jobs.{fills_valid_samples, has_two_details};
 ghost use Rattle.aes3_arguments.specs.Jobs.{misuse_line, misuse_text, options_of};
 
 use crate::carried::bits_of_text;
@@ -32,6 +32,8 @@ pub(crate) enum Misuse {
     UnknownFilling,
     /// `--fill` beside `--valid`.
     FillsValidSamples,
+    /// `--names` beside `--at` or `--more`.
+    TwoDetails,
 }
 
 /// What stands behind the line that says what is wrong, as `clap` tells of words that it doesn't
@@ -62,6 +64,8 @@ pub(crate) fn misuse_of_options(options: &ArgMatches<'_>) -> Option<Misuse>
         Some(Misuse::UnknownFilling)
     } else if fills_valid_samples(options) {
         Some(Misuse::FillsValidSamples)
+    } else if has_two_details(options) {
+        Some(Misuse::TwoDetails)
     } else {
         None
     }
@@ -121,6 +125,14 @@ fn fills_valid_samples(options: &ArgMatches<'_>) -> bool
     fill(options).is_some() && flag(options, "valid")
 }
 
+/// Whether words of codes are to stand behind a line, and the place of its block too.
+fn has_two_details(options: &ArgMatches<'_>) -> bool
+    requires { AreTaken (options_of options.now) }
+    ensures { result ≡ has_two_details (options_of options.now) }
+{
+    flag(options, "names") && (flag(options, "at") || flag(options, "more"))
+}
+
 /// What is told of it.
 pub(crate) fn misuse_fault(alloc: Global, misuse: Misuse) -> LineFault
     ensures { TellsMisuse misuse result }
@@ -162,6 +174,9 @@ fn misuse_line(misuse: Misuse) -> &'static str
         }
         Misuse::FillsValidSamples => {
             "error: the argument '--fill <zero|hold>' cannot be used with '--valid'"
+        }
+        Misuse::TwoDetails => {
+            "error: the argument '--names' cannot be used with '--at' or '--more'"
         }
     }
 }

@@ -23,7 +23,8 @@ pub(crate) fn show(options: &ArgMatches<'_>, input: Form) -> Job
     }
 }
 
-/// What stands behind each line: what `--more` asks for tells the place too.
+/// What stands behind each line: what `--more` asks for tells the place too, and `--names` stands by
+/// itself.
 fn detail(options: &ArgMatches<'_>) -> Detail
     requires { AreTaken (options_of options.now) }
     ensures { result ≡ detail_by (options_of options.now) }
@@ -32,6 +33,8 @@ fn detail(options: &ArgMatches<'_>) -> Detail
         Detail::Carried
     } else if flag(options, "at") {
         Detail::Place
+    } else if flag(options, "names") {
+        Detail::Names
     } else {
         Detail::Plain
     }

@@ -9,7 +9,7 @@ use Rattle.clap.specs.declared.builder.command.Command.TheViews.{out-Command as 
 use Rattle.clap.specs.declared.builder.value_parser.ValueParser.TheVariants as vp
 use Rattle.aes3_commands.specs.declared.argument.Argument.{Argument}
 use Rattle.aes3_commands.specs.declared.argument.Argument.TheVariants.{PackedIn, RawIn, PackedOut, Faults, Gaps}
-use Rattle.aes3_commands.specs.declared.argument.Argument.TheVariants.{LsbFirst, Changes, At, More, From, Count}
+use Rattle.aes3_commands.specs.declared.argument.Argument.TheVariants.{LsbFirst, Changes, At, More, Names, From, Count}
 use Rattle.aes3_commands.specs.declared.argument.Argument.TheVariants.{Json, Rate, Every, EverySeconds}
 use Rattle.aes3_commands.specs.declared.argument.Argument.TheVariants.{Status1, Status2, Set1, Set2, MendCheck, Exact}
 use Rattle.aes3_commands.specs.declared.argument.Argument.TheVariants.{Valid1, Valid2, ClearUser1, ClearUser2, Valid, Fill}
@@ -94,6 +94,7 @@ rule LsbFirst = lsb_first
 rule Changes = flag (codes "changes")
 rule At = flag (codes "at")
 rule More = flag (codes "more")
+rule Names = flag (codes "names")
 rule Json = flag (codes "json")
 rule Rate = number_option (codes "rate") 1 most_frames
 rule Every = number_option (codes "every") 1 most_cells
@@ -140,7 +141,7 @@ watch = reader_with (codes "watch")
 
 abbrev pub show : Shape
 show = reader_with (codes "show")
-    (flag (codes "changes") ∷ flag (codes "at") ∷ flag (codes "more") ∷ file ∷ [])
+    (flag (codes "changes") ∷ flag (codes "at") ∷ flag (codes "more") ∷ flag (codes "names") ∷ file ∷ [])
 
 abbrev pub normal : Shape
 normal = command (codes "normal") (packed_in ∷ raw_in ∷ packed_out ∷ lsb_first ∷ file ∷ [])

@@ -37,6 +37,8 @@ pub(crate) enum Argument {
     At,
     /// `--more` of `show`.
     More,
+    /// `--names` of `show`.
+    Names,
     /// `--json` of `watch`.
     Json,
     /// `--rate HZ` of `watch`.
@@ -107,6 +109,11 @@ impl Argument {
                 alloc,
                 "more",
                 "Tell how many V and U bits are 1, and that cell",
+            ),
+            Argument::Names => flag(
+                alloc,
+                "names",
+                "Tell the words of codes that are printed as numbers",
             ),
             Argument::Json => flag(alloc, "json", "Write JSON objects in place of words"),
             Argument::Rate => number_option(

@@ -149,7 +149,7 @@ impl Name {
                 EverySeconds,
                 File,
             ],
-            Name::Show => &[PackedIn, RawIn, LsbFirst, Changes, At, More, File],
+            Name::Show => &[PackedIn, RawIn, LsbFirst, Changes, At, More, Names, File],
             Name::Scan => &[PackedIn, RawIn, LsbFirst, File],
             Name::Cut => &[PackedIn, RawIn, PackedOut, LsbFirst, From, Count],
             Name::Rewrite => &[

@@ -189,7 +189,7 @@ Examples:
 
 pub const SHOW: Texts<'static> = Texts {
     about: "Print the channel status of each whole block",
-    usage: "aes3 show [--packed-in|--raw-in] [--lsb-first] [--changes] [--at|--more] [FILE]",
+    usage: "aes3 show [--packed-in|--raw-in] [--lsb-first] [--changes] [--at|--more|--names] [FILE]",
     more: "Reads cells, begun anywhere and in either polarity.
 Writes two lines for each whole block, channel 1 and then channel 2: `block=N channel=C`,
 N from 0, then `consumer` or `professional`, then each field as `name=value`. A code that
@@ -199,6 +199,8 @@ use is `good`, `bad`, or `absent` where it does not hold and byte 23 is zero. Wi
 where its status is not that of the block before. With --at ` at=P` stands behind each
 line: P is the cell at which the block begins, counted from 0. With --more ` v=N u=N at=P`
 does: how many of the channel's 192 validity bits are 1, and how many of its user bits.
+With --names ` NAME=WORD` does for each code that the line has as a number and that has a
+name: `category`, `rate` and `original` of consumer use, `mode` of professional use.
 
 Exit status: 0 done, also where no block was found; 3 refused: 1 a byte is no cell, 10
 packed cells end wrongly; or as for every command.
@@ -207,7 +209,8 @@ Examples:
     aes3 cut 0 1 < line.txt | aes3 show
     aes3 show < line.txt | grep -c rate=48000
     aes3 show --changes --at < line.txt
-    aes3 show --more < line.txt | grep -c ' v=0 '",
+    aes3 show --more < line.txt | grep -c ' v=0 '
+    aes3 show --names < line.txt | sed -n 1p",
 };
 
 pub const WATCH: Texts<'static> = Texts {

@@ -1,5 +1,6 @@
 pub mod MarkLines
 pub mod Ones
+pub mod Names
 pub mod StatusLines
 pub mod Gathering
 pub mod Events

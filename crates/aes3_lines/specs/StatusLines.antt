@@ -2,11 +2,12 @@
 use Rattle.std.specs.Prelude.{ℕ, List, [], ◌∷◌, ◌++◌, Bool, codes, decimal}
 use Rattle.aes3_frame.specs.declared.status.Channel.{Channel}
 use Rattle.aes3_frame.specs.declared.status.Channel.TheVariants.{First, Second}
-use Rattle.aes3_frame.specs.Statuses.{user_of, validity_of}
+use Rattle.aes3_frame.specs.Statuses.{status_of, user_of, validity_of}
 use Rattle.aes3_settings.specs.declared.detail.Detail.{Detail}
-use Rattle.aes3_settings.specs.declared.detail.Detail.TheVariants.{Plain, Place, Carried}
+use Rattle.aes3_settings.specs.declared.detail.Detail.TheVariants.{Plain, Place, Carried, Names}
 use Rattle.aes3_settings.specs.StatusTexts.{status_text}
 use Rattle.aes3_lines.specs.Ones.{ones_in}
+use Rattle.aes3_lines.specs.Names.{names_text}
 
 abbrev pub channel_digit : Channel → List ℕ
 channel_digit First = codes "1"
@@ -25,7 +26,7 @@ abbrev pub status_line_with : ℕ → Channel → List ℕ → List ℕ → List
 status_line_with block channel bytes text = head_text block channel ++ status_text bytes ++ text ++ 10 ∷ []
 
 -- what stands behind the status of a channel of a block, which begins at cell `at`: nothing, the cell, or how many of
--- the channel's validity bits are 1, how many of its user bits, and the cell
+-- the channel's validity bits are 1, how many of its user bits, and the cell, or the words of codes of its status
 abbrev pub detail_text : Detail → Channel → ℕ → List (List Bool) → List ℕ
 detail_text Plain channel at b = []
 detail_text Place channel at b = codes " at=" ++ decimal at
@@ -33,3 +34,4 @@ detail_text Carried channel at b =
     codes " v=" ++ decimal (ones_in (validity_of b channel))
     ++ codes " u=" ++ decimal (ones_in (user_of b channel))
     ++ codes " at=" ++ decimal at
+detail_text Names channel at b = names_text (status_of b channel)

@@ -10,6 +10,8 @@ mod event;
 mod gathered;
 /// The line of a preamble.
 mod mark;
+/// The words of codes that a line of channel status has as numbers.
+mod names;
 /// Bits that are 1.
 mod ones;
 /// The line of a channel status.

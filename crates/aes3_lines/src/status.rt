@@ -6,6 +6,7 @@ ghost use Rattle.aes3_lines.specs.StatusLines.{channel_digit, detail_text, head_
 ghost use Rattle.aes3_lines.specs.StatusLines.{status_line_with};
 
 use crate::ending::end_line;
+use crate::names::put_names;
 use crate::ones::ones_in;
 use crate::tail::Tail;
 use aes3_cell::{Fault, Sink};
@@ -40,7 +41,7 @@ fn head_of(block: u64, channel: Channel) -> Line
 }
 
 /// What stands behind the status of a channel of a block that begins at cell `at` (AES3-1,
-/// IEC 60958-1: validity and user bits).
+/// IEC 60958-1: validity and user bits; AES3-2, IEC 60958-3: words of codes).
 pub fn text_of_detail(detail: Detail, channel: Channel, at: u64, block: &Block) -> Tail
     ensures { result ≡ detail_text detail channel at block.now }
 {
@@ -59,6 +60,7 @@ pub fn text_of_detail(detail: Detail, channel: Channel, at: u64, block: &Block) 
             text.number(ones_in(&block.validity(channel)));
             text.text(b" v=");
         }
+        Detail::Names => put_names(&mut text, &block.channel_status(channel)),
     }
     text
 }

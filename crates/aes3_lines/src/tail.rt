@@ -6,7 +6,7 @@ use itoa::write_digits;
 use std::marker::Model;
 
 /// How many bytes a short line has at most.
-pub const TAIL_LEN: usize = 80;
+pub const TAIL_LEN: usize = 96;
 
 /// The end of a short line, as far as it is written: so each number's digits are put where they
 /// stay, the last first.
@@ -24,7 +24,7 @@ impl Model for Tail {
 
     ghost view = { λ tail. drop tail.at tail.bytes };
 
-    ghost invariant = { λ tail. tail.at ≤ 80 };
+    ghost invariant = { λ tail. tail.at ≤ 96 };
 }
 
 impl Tail {
@@ -55,6 +55,17 @@ impl Tail {
         let end = self.at;
         self.at -= N;
         self.bytes[self.at..end].copy_from_slice(&text);
+    }
+
+    /// Puts the word before it.
+    pub(crate) fn word(&mut self, word: &str)
+        requires { length self.old + length word.now ≤ TAIL_LEN }
+        ensures word { self.new ≡ word.now ++ self.old }
+        ensures len { length self.new ≡ length word.now + length self.old }
+    {
+        let end = self.at;
+        self.at -= word.len();
+        self.bytes[self.at..end].copy_from_slice(word.as_bytes());
     }
 
     /// Puts the number before it in decimal.

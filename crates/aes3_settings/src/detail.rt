@@ -10,4 +10,6 @@ pub enum Detail {
     /// How many of the channel's subframes in the block have a validity bit that is 1, how many a
     /// user bit that is 1, and where the block begins, as ` v=N u=N at=P`.
     Carried,
+    /// The words of codes that the line has as numbers, as ` NAME=WORD` each.
+    Names,
 }

@@ -38,3 +38,4 @@ pub use listed::{SettingsFault, settings_of_texts};
 pub use settings::{consumer_setting, professional_setting};
 pub use status::{STATUS_LEN, put_status};
 pub use style::{Notation, Style};
+pub use words::{WORD_LEN, word_of};

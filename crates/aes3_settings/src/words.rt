@@ -5,7 +5,7 @@ ghost use Rattle.std.specs.Option.{option_copied};
 ghost use Rattle.aes3_settings.specs.Words.{are_within, rows_of, word_of};
 
 /// How many bytes a word has at most.
-pub(crate) const WORD_LEN: usize = 20;
+pub const WORD_LEN: usize = 20;
 
 /// What the sample words carry (AES3-2, IEC 60958-3, byte 0 bit 1).
 pub(crate) const PAYLOAD: &[(u8, &str)] = &[(0, "pcm"), (1, "other")];
@@ -33,8 +33,8 @@ pub(crate) const UP_TO_20: &[(u8, &str)] = &[
 /// Sample word lengths where the greatest isn't told (AES3-2).
 pub(crate) const UP_TO_ANY: &[(u8, &str)] = &[(0, "not-indicated")];
 
-/// The word of a code in a table whose rows are a code and its word.
-pub(crate) fn word_of<'a>(words: &[(u8, &'a str)], code: u8) -> Option<&'a str>
+/// The word of a code in a table whose rows are a code and its word: that of the first such row.
+pub fn word_of<'a>(words: &[(u8, &'a str)], code: u8) -> Option<&'a str>
     requires { IsTrue (are_within WORD_LEN words.now) }
     ensures word { option_copied result ≡ word_of (rows_of words.now) code }
     ensures len { IfSome result (λ word. length word.now ≤ WORD_LEN) }

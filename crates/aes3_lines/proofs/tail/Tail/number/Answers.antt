@@ -6,7 +6,7 @@ use Rattle.aes3_lines.proofs.tail.Tail.number.Goals as goal
 pub write_digits-self-inside-requires : goal.write_digits-self-inside-requires
 write_digits-self-inside-requires c =
     let d = length-decimal-le 20 c.args.number (omega arith) (omega arith) (omega arith) in
-    let l : length c.self.inside.bytes ≡ 80 = search rules in
+    let l : length c.self.inside.bytes ≡ 96 = search rules in
     let v = ap length c.self.view_is in
     let w = length-drop c.self.inside.at c.self.inside.bytes in
     let r = c.requires in

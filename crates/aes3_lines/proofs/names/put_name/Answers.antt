@@ -1,0 +1,15 @@
+use Rattle.std.proofs.Common.{sym, append_assoc}
+use Rattle.aes3_settings.specs.Fields.{field_text}
+use Rattle.aes3_lines.proofs.names.put_name.Goals as goal
+
+pub returns-in-Some-clause-name : goal.returns-in-Some-clause-name
+unfolding field_text
+returns-in-Some-clause-name c =
+    rw (
+      c.text-in-Some.ensures.text,
+      c.word-in-Some.ensures.word,
+      c.text.ensures.text,
+      c.word.ensures.word,
+      sym c.in-Some.ensures.word,
+    )
+    (simp append_assoc)
