@@ -111,9 +111,13 @@ tells() { inside "{ $1 <line.txt || [ \$? = 1 ]; } >got && cmp got want"; }
 tells_packed() { inside "$1 <line.packed >got && cmp got want.packed"; }
 judge "a program in C" inside 'cc -o check src/check.c $(pkg-config --cflags --libs aes3)'
 judge "a program in C, run" tells ./check
-judge "a capture in C" inside 'cc -o capture src/capture.c $(pkg-config --cflags --libs aes3)
-    examples/neighbours/samples.py 3.90625 0.3 <line.txt >samples.bin
-    ./capture <samples.bin >got.packed && aes3-cells --packed-out <samples.bin >want.cells && cmp got.packed want.cells'
+if inside "command -v aes3-cells" >/dev/null; then
+    judge "a capture in C" inside 'cc -o capture src/capture.c $(pkg-config --cflags --libs aes3)
+        examples/neighbours/samples.py 3.90625 0.3 <line.txt >samples.bin
+        ./capture <samples.bin >got.packed && aes3-cells --packed-out <samples.bin >want.cells && cmp got.packed want.cells'
+else
+    echo "left out: a capture in C, in a root of its own (no aes3-cells was built: bin/build aes3_cells)"
+fi
 judge "a program in C++" inside 'c++ -std=c++11 -o checkpp src/check.cpp $(pkg-config --cflags --libs aes3)'
 judge "a program in C++, run" tells_packed ./checkpp
 judge "CMake" inside "cmake -S src -B made && cmake --build made"
