@@ -20,9 +20,10 @@
  *
  * Stack in bytes that a call used (examples/c/stack.c, x86-64): aes3_lock_push 4,960,
  * aes3_lock_finish 4,792, aes3_lock_take_octets 3,976, aes3_lock_take_words 3,304,
- * aes3_capture_cells 3,480,
+ * aes3_capture_cells 3,480, aes3_block_of_samples 3,096,
  * aes3_block_status, aes3_block_validity and aes3_block_user 1,592, aes3_encode_block,
- * aes3_block_set_status and its kin 1,576, aes3_lock_block 1,560, each other 70 at most.
+ * aes3_block_set_status and its kin 1,576, aes3_lock_block and aes3_block_samples 1,560, each other
+ * 70 at most.
  */
 #ifndef AES3_H
 #define AES3_H
@@ -178,6 +179,21 @@ uint32_t aes3_block_set_status(uint32_t words[384], uint8_t channel, const uint8
 uint32_t aes3_block_set_validity(uint32_t words[384], uint8_t channel, const uint8_t bits[24]);
 uint32_t aes3_block_set_user(uint32_t words[384], uint8_t channel, const uint8_t bits[24]);
 
+/*
+ * Puts the samples of a block as `aes3 to-pcm` writes them, channel 1 and then channel 2 of each
+ * frame: 24 bits in the highest bits of each, and 0 in the lowest 8. It asks no V bit. Answers 384;
+ * or, where a word is not lawful, the number of the first that is not, and leaves samples[] as it
+ * was.
+ */
+uint32_t aes3_block_samples(const uint32_t words[384], int32_t samples[384]);
+
+/*
+ * Puts the words of a block of samples, 192 frames of channel 1 and channel 2, as `aes3 from-pcm`
+ * makes them: the audio of a subframe is the highest 24 bits of its sample. The lowest 8 don't
+ * count, and V, U and C are 0; aes3_block_set_status and its kin set these.
+ */
+void aes3_block_of_samples(const int32_t samples[384], uint32_t words[384]);
+
 /* ---- Words of cells, written ---- */
 
 /*
@@ -253,6 +269,16 @@ bool aes3_status_professional(const uint8_t status[24], aes3_professional *field
 
 /* Where a status is for consumer use, puts its fields and answers true; else changes nothing. */
 bool aes3_status_consumer(const uint8_t status[24], aes3_consumer *fields);
+
+/*
+ * Puts the status for professional use that has these fields and their check byte, and answers true;
+ * or, where a field of n bits has a code above 2^n - 1, answers false and changes nothing.
+ * aes3_status_professional gives the same fields back.
+ */
+bool aes3_status_of_professional(const aes3_professional *fields, uint8_t status[24]);
+
+/* The same for consumer use, which has no check byte. */
+bool aes3_status_of_consumer(const aes3_consumer *fields, uint8_t status[24]);
 
 /* The check byte (CRCC) of a professional status, from its bytes 0 to 22 (AES3-2, byte 23). */
 uint8_t aes3_status_check_byte(const uint8_t status[24]);

@@ -10,6 +10,7 @@ namespace aes3 {
 using report = aes3_report;
 using words = uint32_t[AES3_BLOCK_WORDS];  // a block
 using cells = uint64_t[AES3_BLOCK_WORDS];  // its cells
+using samples = int32_t[AES3_BLOCK_WORDS]; // its samples, channel 1 and channel 2 of each frame
 using status = uint8_t[AES3_STATUS_BYTES]; // a channel's status, or its V or its U bits
 
 // Memory of someone else: a pointer with a length, an array, or what has both as std::vector and std::span do.
@@ -48,10 +49,14 @@ inline uint32_t user_of(const words &block, uint8_t channel, status &to) { retur
 inline uint32_t set_status(words &block, uint8_t channel, const status &to) { return aes3_block_set_status(block, channel, to); }
 inline uint32_t set_validity(words &block, uint8_t channel, const status &to) { return aes3_block_set_validity(block, channel, to); }
 inline uint32_t set_user(words &block, uint8_t channel, const status &to) { return aes3_block_set_user(block, channel, to); }
+inline uint32_t samples_of(const words &block, samples &to) { return aes3_block_samples(block, to); }
+inline void block_of(const samples &from, words &to) { aes3_block_of_samples(from, to); }
 
 // Of a status: its fields, where it is for that use, and its check byte.
 inline bool fields(const status &of, aes3_professional &to) { return aes3_status_professional(of, &to); }
 inline bool fields(const status &of, aes3_consumer &to) { return aes3_status_consumer(of, &to); }
+inline bool status_of(const aes3_professional &fields, status &to) { return aes3_status_of_professional(&fields, to); }
+inline bool status_of(const aes3_consumer &fields, status &to) { return aes3_status_of_consumer(&fields, to); }
 inline uint8_t check_byte(const status &of) { return aes3_status_check_byte(of); }
 inline aes3_check check(const status &of) { return static_cast<aes3_check>(aes3_status_check_state(of)); }
 

@@ -19,6 +19,39 @@ static uint64_t cells[AES3_BLOCK_WORDS];
 /* 48 kHz, two channels, from JATH (AES3-2). */
 static const uint8_t sent[AES3_STATUS_BYTES] = {0x85, 0x02, 0x2C, 0, 0, 0, 'J', 'A', 'T', 'H'};
 
+/* A status of fields, and the greatest code of each; a code that is one too great is refused, and changes nothing. */
+static void built(void) {
+    uint8_t status[AES3_STATUS_BYTES], wanted[AES3_STATUS_BYTES];
+    aes3_professional professional;
+    aes3_consumer consumer;
+    memset(&professional, 0, sizeof professional);
+    professional.rate = 2, professional.emphasis = 1, professional.mode = 2, professional.aux = 4, professional.word = 5;
+    memcpy(professional.origin, "JATH", 4);
+    memcpy(wanted, sent, sizeof wanted);
+    wanted[23] = aes3_status_check_byte(sent);
+    WANT(aes3_status_of_professional(&professional, status) && memcmp(status, wanted, sizeof status) == 0);
+    memset(&professional, 0xFF, sizeof professional);
+    WANT(!aes3_status_of_professional(&professional, status) && memcmp(status, wanted, sizeof status) == 0);
+    professional.payload = professional.unlocked = 1, professional.emphasis = professional.aux = professional.word = 7;
+    professional.rate = professional.b2high = 3, professional.mode = professional.user = professional.b22low = 15;
+    professional.unreliable = 16;
+    WANT(!aes3_status_of_professional(&professional, status) && memcmp(status, wanted, sizeof status) == 0);
+    professional.unreliable = 15;
+    memset(wanted, 0xFF, sizeof wanted);
+    wanted[23] = aes3_status_check_byte(wanted);
+    WANT(aes3_status_of_professional(&professional, status) && memcmp(status, wanted, sizeof status) == 0);
+    memset(&consumer, 0xFF, sizeof consumer);
+    WANT(!aes3_status_of_consumer(&consumer, status) && memcmp(status, wanted, sizeof status) == 0);
+    consumer.payload = consumer.copyright = consumer.generation = consumer.greatest = 1, consumer.category = 127;
+    consumer.emphasis = consumer.word = 7, consumer.mode = consumer.accuracy = consumer.b3high = 3;
+    consumer.source = consumer.number = consumer.rate = 15, consumer.original = 16;
+    WANT(!aes3_status_of_consumer(&consumer, status) && memcmp(status, wanted, sizeof status) == 0);
+    consumer.original = 15;
+    memset(wanted, 0xFF, sizeof wanted);
+    wanted[0] = 0xFE;
+    WANT(aes3_status_of_consumer(&consumer, status) && memcmp(status, wanted, sizeof status) == 0);
+}
+
 static void statuses(void) {
     uint8_t status[AES3_STATUS_BYTES];
     aes3_professional professional;
@@ -39,6 +72,7 @@ static void statuses(void) {
     WANT(!aes3_status_professional(status, &professional));
     WANT(aes3_status_consumer(status, &consumer));
     WANT(consumer.copyright == 1 && consumer.rate == 2 && consumer.rest[1] == 'J');
+    built();
     WANT(aes3_block_set_status(words, 2, sent) == AES3_BLOCK_WORDS);
     WANT(aes3_block_status(words, 2, status) == AES3_BLOCK_WORDS && memcmp(status, sent, sizeof status) == 0);
     WANT(aes3_block_status(words, 1, status) == AES3_BLOCK_WORDS && status[0] == 0 && status[6] == 0);
@@ -67,6 +101,31 @@ static void carried(void) {
     WANT(aes3_block_status(block, 1, bits) == 7);
     block[7] ^= 1;
     WANT(memcmp(block, words, sizeof block) == 0);
+}
+
+/* Samples of 24 bits come back; the lowest 8 bits of one don't count. */
+static void sampled(void) {
+    static int32_t samples[AES3_BLOCK_WORDS], back[AES3_BLOCK_WORDS];
+    static uint32_t block[AES3_BLOCK_WORDS];
+    uint8_t bits[AES3_STATUS_BYTES];
+    for (int i = 0; i < AES3_BLOCK_WORDS; i++)
+        samples[i] = (i - 192) * 256 * 32767;
+    samples[0] = INT32_MIN;
+    samples[2] = 0x123456FF;
+    samples[383] = INT32_MAX - 255;
+    memset(block, 0xFF, sizeof block);
+    aes3_block_of_samples(samples, block);
+    /* Bit 23 of the audio is bit 27 of a word, and bit 31 makes the ones even in number. */
+    WANT(block[0] == 0x88000000 && block[2] == (0x01234560 | 0x80000000) && block[192] == 0);
+    WANT(aes3_block_samples(block, back) == AES3_BLOCK_WORDS && back[2] == 0x12345600);
+    back[2] = samples[2];
+    WANT(memcmp(back, samples, sizeof back) == 0);
+    WANT(aes3_block_set_user(block, 1, sent) == AES3_BLOCK_WORDS);
+    WANT(aes3_block_samples(block, back) == AES3_BLOCK_WORDS && back[383] == samples[383]);
+    WANT(aes3_block_status(block, 1, bits) == AES3_BLOCK_WORDS && bits[0] == 0);
+    block[9] ^= 0x10;
+    memset(back, 0x5A, sizeof back);
+    WANT(aes3_block_samples(block, back) == 9 && back[0] == 0x5A5A5A5A && back[383] == 0x5A5A5A5A);
 }
 
 static void written(void) {
@@ -212,6 +271,7 @@ int main(void) {
     WANT(aes3_version() == AES3_VERSION_NUMBER);
     statuses();
     carried();
+    sampled();
     words[5] ^= 0x80000000;
     memset(cells, 0x55, sizeof cells);
     WANT(aes3_encode_block(words, 0, cells) == 5 && cells[0] == 0x5555555555555555);

@@ -56,7 +56,7 @@ static void bit_of_status(const struct field *fields, size_t count, const unsign
 static void statuses(void) {
     unsigned char got[2][64];
     for (int bit = 1; bit < 8 * AES3_STATUS_BYTES; bit++) {
-        uint8_t status[AES3_STATUS_BYTES] = {0};
+        uint8_t status[AES3_STATUS_BYTES] = {0}, back[AES3_STATUS_BYTES];
         union {
             aes3_professional professional;
             aes3_consumer consumer;
@@ -65,12 +65,17 @@ static void statuses(void) {
         status[bit / 8] = (uint8_t)(1 << bit % 8);
         memset(&room, 0xAA, sizeof room);
         WANT(aes3_status_consumer(status, &room.consumer));
+        memset(back, 0x55, sizeof back);
+        WANT(aes3_status_of_consumer(&room.consumer, back) && memcmp(back, status, sizeof back) == 0);
         memcpy(got[0], &room, sizeof got[0]);
         bit_of_status(consumer, sizeof consumer / sizeof *consumer, got[0], bit);
         WANT(got[0][sizeof(aes3_consumer)] == 0xAA);
         status[0] |= 1;
         memset(&room, 0xAA, sizeof room);
         WANT(aes3_status_professional(status, &room.professional));
+        memset(back, 0x55, sizeof back);
+        WANT(aes3_status_of_professional(&room.professional, back) && memcmp(back, status, sizeof back - 1) == 0);
+        WANT(back[23] == aes3_status_check_byte(status));
         memcpy(got[1], &room, sizeof got[1]);
         bit_of_status(professional, sizeof professional / sizeof *professional, got[1], bit);
         WANT(got[1][sizeof(aes3_professional)] == 0xAA);

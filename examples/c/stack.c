@@ -16,6 +16,7 @@ static aes3_report report;
 static aes3_professional professional;
 static aes3_consumer consumer;
 static uint32_t words[AES3_BLOCK_WORDS];
+static int32_t samples[AES3_BLOCK_WORDS];
 static uint64_t cells[AES3_BLOCK_WORDS], word;
 static aes3_capture found;
 static uint8_t status[AES3_STATUS_BYTES], line[65], line_octets[8 * AES3_BLOCK_WORDS + 1], packed[8 * AES3_BLOCK_WORDS];
@@ -36,12 +37,16 @@ static void block_user(void) { aes3_block_user(words, 1, status); }
 static void set_status(void) { aes3_block_set_status(words, 1, status); }
 static void set_validity(void) { aes3_block_set_validity(words, 1, status); }
 static void set_user(void) { aes3_block_set_user(words, 1, status); }
+static void block_samples(void) { aes3_block_samples(words, samples); }
+static void block_of_samples(void) { aes3_block_of_samples(samples, words); }
 static void word_of_text(void) { aes3_word_of_text(line, &word); }
 static void word_of_octets(void) { word = aes3_word_of_octets(status); }
 static void line_of_word(void) { aes3_line_of_word(word, line); }
 static void octets_of_word(void) { aes3_octets_of_word(word, line); }
 static void read_professional(void) { aes3_status_professional(status, &professional); }
 static void read_consumer(void) { aes3_status_consumer(status, &consumer); }
+static void of_professional(void) { aes3_status_of_professional(&professional, status); }
+static void of_consumer(void) { aes3_status_of_consumer(&consumer, status); }
 static void check_byte(void) { status[23] = aes3_status_check_byte(status); }
 static void recover(void) { aes3_capture_cells(line_octets, sizeof line_octets, 1, 0, 0, packed, sizeof packed, &found); }
 static void version(void) { status[22] = (uint8_t)aes3_version(); }
@@ -95,12 +100,16 @@ int main(void) {
     failed |= tell("aes3_block_set_status", set_status, 4096);
     failed |= tell("aes3_block_set_validity", set_validity, 4096);
     failed |= tell("aes3_block_set_user", set_user, 4096);
+    failed |= tell("aes3_block_samples", block_samples, 4096);
+    failed |= tell("aes3_block_of_samples", block_of_samples, 8192);
     failed |= tell("aes3_line_of_word", line_of_word, 256);
     failed |= tell("aes3_word_of_text", word_of_text, 256);
     failed |= tell("aes3_octets_of_word", octets_of_word, 256);
     failed |= tell("aes3_word_of_octets", word_of_octets, 256);
     failed |= tell("aes3_status_professional", read_professional, 256);
     failed |= tell("aes3_status_consumer", read_consumer, 256);
+    failed |= tell("aes3_status_of_professional", of_professional, 256);
+    failed |= tell("aes3_status_of_consumer", of_consumer, 256);
     failed |= tell("aes3_status_check_byte", check_byte, 256);
     failed |= tell("aes3_status_check_state", check_state, 256);
     failed |= tell("aes3_version", version, 256);

@@ -39,6 +39,11 @@ for name in $inputs; do
     echo $? >>$name.want
 done
 
+# Samples, not of whole blocks, and the block file of them with the status that samples.c makes.
+"$program" to-pcm <line.txt | head -c 400000 >speech.s32
+status=85022c0000004a4154480000000000000000000000000000
+"$program" from-pcm --status1 $status --status2 $status --mend-check <speech.s32 >speech.want
+
 # Samples of the line with jitter, in an octet each and in two, and what aes3-cells makes of them.
 recover=$here/../../crates/aes3_cells/out/aes3_cells
 if [ -x "$recover" ] && command -v python3 >/dev/null; then
@@ -72,7 +77,7 @@ build() { # COMPILER FLAGS..
         echo "left out: the checks of addresses and undefined behaviour by $compiler (they do not work here)"
         checks=
     }
-    for example in check encode calls layout user capture; do
+    for example in check encode calls layout user samples capture; do
         "$compiler" "$@" -O2 -Wall -Wextra -pedantic -Werror $checks -I"$here/../../include" \
             -o $example "$here/$example.c" -x none "$library" || {
             differs "$example.c, which $compiler does not compile,"
@@ -87,6 +92,10 @@ build() { # COMPILER FLAGS..
     ./user <user.block >got
     judge "user by $compiler" cmp -s got user.bits
     judge "only user bits by $compiler" eval './user none.bits <user.block | cmp -s - "$speech"'
+    ./samples JATH <speech.s32 >got
+    judge "samples by $compiler" cmp -s got speech.want
+    ./samples <speech.want | head -c 400000 >got
+    judge "samples back by $compiler" cmp -s got speech.s32
     compare ./check
     for each in capture:0:1 wide:11:2; do
         IFS=: read -r name bit unit <<WORDS

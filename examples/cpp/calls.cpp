@@ -33,6 +33,12 @@ int main() {
     judge("user_of", aes3::user_of(carried, 2, found) == AES3_BLOCK_WORDS && found[0] == 0x85 && found[1] == 0x02);
     judge("set_validity", aes3::set_validity(carried, 1, status) == AES3_BLOCK_WORDS && carried[0] == 9u << 28);
     judge("validity_of", aes3::validity_of(carried, 2, found) == AES3_BLOCK_WORDS && found[0] == 0);
+    aes3::samples sound;
+    judge("samples_of", aes3::samples_of(carried, sound) == AES3_BLOCK_WORDS && sound[0] == 0);
+    sound[1] = -256;
+    aes3::words heard;
+    aes3::block_of(sound, heard);
+    judge("block_of", heard[0] == 0 && heard[1] == 0x0FFFFFF0 && aes3::samples_of(heard, sound) == AES3_BLOCK_WORDS && sound[1] == -256);
     judge("no status", aes3::status_of(carried, 1, found) == AES3_BLOCK_WORDS && found[0] == 0);
     judge("status_of again", aes3::status_of(block, 1, found) == AES3_BLOCK_WORDS);
     aes3_professional professional;

@@ -65,6 +65,9 @@ def is_refused(call, *words):
 
 assert is_refused(aes3.encode_block, [1] + 383 * [0]) and is_refused(aes3.encode_block, 383 * [0])
 assert is_refused(aes3.block_status, blocks[0], 3) and is_refused(aes3.check_byte, b"")
+sound = [(i - 192) * 256 * 32767 for i in range(384)]
+assert list(aes3.block_samples(aes3.block_of_samples([it | 255 for it in sound]))) == sound
+assert is_refused(aes3.block_samples, [1] + 383 * [0]) and is_refused(aes3.block_of_samples, sound[1:])
 assert is_refused(aes3.with_user, [1] + 383 * [0], 1, status) and is_refused(aes3.with_status, blocks[0], 1, b"")
 assert is_refused(aes3.words_of_text, "012") and is_refused(aes3.words_of_packed, b"\0\x08") and is_refused(aes3.words_of_packed, b"\1\1")
 assert is_refused(lock.push, 0, 65) and is_refused(aes3.cells_of_samples, b"", 8) and is_refused(aes3.cells_of_samples, b"", 0, 3)

@@ -31,6 +31,7 @@ FOUND = "samples", "cells", "period", "edges", "greatest", "squares", "dead", "d
 
 _Words = c.c_uint32 * 384
 _Cells = c.c_uint64 * 384
+_Samples = c.c_int32 * 384
 _Status = c.c_uint8 * 24
 
 
@@ -78,6 +79,8 @@ _take_octets = _declare(
 _block = _declare("aes3_lock_block", None, c.POINTER(_Lock), c.POINTER(_Words))
 _finish = _declare("aes3_lock_finish", None, c.POINTER(_Lock), c.POINTER(_Report))
 _encode_block = _declare("aes3_encode_block", c.c_uint32, c.POINTER(_Words), c.c_uint8, c.POINTER(_Cells))
+_block_samples = _declare("aes3_block_samples", c.c_uint32, c.POINTER(_Words), c.POINTER(_Samples))
+_block_of_samples = _declare("aes3_block_of_samples", None, c.POINTER(_Samples), c.POINTER(_Words))
 _bits = {
     (name, sets): _declare(f"aes3_block_{'set_' * sets}{name}", c.c_uint32, c.POINTER(_Words), c.c_uint8, c.POINTER(_Status))
     for name in ("status", "validity", "user")
@@ -193,6 +196,22 @@ def encode_block(words, before=0):
     cells = _Cells()
     _lawful(_encode_block(c.byref(_block_in(words)), before, c.byref(cells)))
     return _out(cells)
+
+
+def block_samples(words):
+    """The 384 samples of a block, channel 1 and 2 of each frame, 24 bits in the highest of 32; ValueError where a word is not lawful."""
+    samples = _Samples()
+    _lawful(_block_samples(c.byref(_block_in(words)), c.byref(samples)))
+    return _out(samples)
+
+
+def block_of_samples(samples):
+    """The words of the block of such samples, whose lowest 8 bits don't count, with V, U and C 0."""
+    if len(samples) != 384:
+        raise ValueError("a block has 384 samples")
+    words = _Words()
+    _block_of_samples(c.byref(_Samples(*map(int, samples))), c.byref(words))
+    return _out(words)
 
 
 def block_status(words, channel):

@@ -1,5 +1,5 @@
 -- Numbers that stand for the variants of an enum.
-use Rattle.std.specs.Prelude.{ℕ, ◌+◌, ◌*◌, ◌==◌, if◌then◌else◌}
+use Rattle.std.specs.Prelude.{ℕ, List, ◌∷◌, ◌+◌, ◌*◌, ◌^◌, ◌==◌, get_or, if◌then◌else◌}
 use Rattle.aes3_frame.specs.declared.status.Channel.{Channel}
 use Rattle.aes3_frame.specs.declared.status.Channel.TheVariants.{First, Second}
 use Rattle.aes3_status.specs.declared.check.Check.{Check}
@@ -30,3 +30,11 @@ why_code Unclosed = 2
 -- the channel of a number
 abbrev pub channel_of : ℕ → Channel
 channel_of n = if n == 1 then First else Second
+
+-- what a code adds to its byte, where its field begins with this bit
+abbrev pub code_from : ℕ → ℕ → ℕ
+code_from first code = 2 ^ first * code
+
+-- four bytes, and others behind them
+abbrev pub four_bytes : List ℕ → List ℕ → List ℕ
+four_bytes four more = get_or four 0 0 ∷ get_or four 1 0 ∷ get_or four 2 0 ∷ get_or four 3 0 ∷ more

@@ -1,8 +1,9 @@
 //! The fields of consumer channel status.
 
-ghost use Rattle.std.specs.Prelude.{◌≡◌, true, false, not};
+ghost use Rattle.std.specs.Prelude.{◌≡◌, ◌↔◌, ◌<◌, ℕ, List, true, false, not, get_or, length};
 ghost use Rattle.aes3_status.specs.Statuses.{is_professional};
-ghost use Rattle.aes3_c.specs.Consumer.{consumer_fields};
+ghost use Rattle.aes3_c.specs.Consumer.{ConsumerFits, consumer_bytes, consumer_fields};
+ghost use Rattle.aes3_c.specs.Consumer.{first_bytes};
 
 use aes3_status::{Con, Status};
 
@@ -66,5 +67,73 @@ pub extern "C" fn aes3_status_consumer(status: &[u8; 24], fields: &mut Aes3Consu
         return false;
     };
     *fields = fields_of(&status);
+    true
+}
+
+/// Whether each field has bits for its code.
+fn fits(fields: &Aes3Consumer) -> bool
+    ensures fits { result ≡ true → ConsumerFits fields.now }
+    ensures only { ConsumerFits fields.now → result ≡ true }
+{
+    fields.payload < 2
+        && fields.copyright < 2
+        && fields.emphasis < 8
+        && fields.mode < 4
+        && fields.category < 128
+        && fields.generation < 2
+        && fields.source < 16
+        && fields.number < 16
+        && fields.rate < 16
+        && fields.accuracy < 4
+        && fields.b3high < 4
+        && fields.greatest < 2
+        && fields.word < 8
+        && fields.original < 16
+}
+
+/// The first bytes of these fields, those before `rest`.
+fn first_bytes(fields: &Aes3Consumer) -> [u8; 5]
+    requires { ConsumerFits fields.now }
+    ensures { result ≡ first_bytes fields.now }
+{
+    let first = (fields.payload << 1) + (fields.copyright << 2) + (fields.emphasis << 3);
+    [
+        first + (fields.mode << 6),
+        fields.category + (fields.generation << 7),
+        fields.source + (fields.number << 4),
+        fields.rate + (fields.accuracy << 4) + (fields.b3high << 6),
+        fields.greatest + (fields.word << 1) + (fields.original << 4),
+    ]
+}
+
+/// The bytes of these fields.
+fn bytes_of(fields: &Aes3Consumer) -> [u8; 24]
+    requires { ConsumerFits fields.now }
+    ensures { result ≡ consumer_bytes fields.now }
+{
+    let mut bytes = [0; 24];
+    bytes[..5].copy_from_slice(&first_bytes(fields));
+    bytes[5..].copy_from_slice(&fields.rest);
+    bytes
+}
+
+/// Puts the channel status for consumer use that has these fields, and answers whether each field
+/// has bits for its code; else it changes nothing (IEC 60958-3).
+#[unsafe(no_mangle)]
+pub extern "C" fn aes3_status_of_consumer(fields: &Aes3Consumer, status: &mut [u8; 24]) -> bool
+    ensures fits { result ≡ true ↔ ConsumerFits fields.now }
+    ensures consumer { result ≡ true → is_professional status.new ≡ false }
+    ensures fields { result ≡ true → consumer_fields status.new ≡ fields.now }
+
+    // No other status is for consumer use and has these fields.
+    ensures only { result ≡ true → (bytes : List ℕ) → length bytes ≡ 24
+        → ((i : ℕ) → get_or bytes i 0 < 256) → is_professional bytes ≡ false
+        → consumer_fields bytes ≡ fields.now → bytes ≡ status.new }
+    ensures left { result ≡ false → status.new ≡ status.old }
+{
+    if !fits(fields) {
+        return false;
+    }
+    *status = bytes_of(fields);
     true
 }

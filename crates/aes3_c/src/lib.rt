@@ -27,6 +27,8 @@ mod recovering;
 mod report;
 /// A sink over memory that is lent.
 mod room;
+/// The samples of blocks.
+mod samples;
 /// Channel status: its use and its check byte.
 mod status;
 /// The version of the library.

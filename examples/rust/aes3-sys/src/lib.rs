@@ -134,12 +134,16 @@ extern "C" {
     pub fn aes3_block_set_status(words: *mut u32, channel: u8, status: *const u8) -> u32;
     pub fn aes3_block_set_validity(words: *mut u32, channel: u8, bits: *const u8) -> u32;
     pub fn aes3_block_set_user(words: *mut u32, channel: u8, bits: *const u8) -> u32;
+    pub fn aes3_block_samples(words: *const u32, samples: *mut i32) -> u32;
+    pub fn aes3_block_of_samples(samples: *const i32, words: *mut u32);
     pub fn aes3_word_of_text(text: *const u8, word: *mut u64) -> bool;
     pub fn aes3_word_of_octets(octets: *const u8) -> u64;
     pub fn aes3_line_of_word(word: u64, line: *mut u8);
     pub fn aes3_octets_of_word(word: u64, octets: *mut u8);
     pub fn aes3_status_professional(status: *const u8, fields: *mut aes3_professional) -> bool;
     pub fn aes3_status_consumer(status: *const u8, fields: *mut aes3_consumer) -> bool;
+    pub fn aes3_status_of_professional(fields: *const aes3_professional, status: *mut u8) -> bool;
+    pub fn aes3_status_of_consumer(fields: *const aes3_consumer, status: *mut u8) -> bool;
     pub fn aes3_status_check_byte(status: *const u8) -> u8;
     pub fn aes3_status_check_state(status: *const u8) -> u8;
     pub fn aes3_capture_cells(
