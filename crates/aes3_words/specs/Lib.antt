@@ -1,0 +1,4 @@
+pub mod Forms
+pub mod Lists
+pub mod Told
+pub mod Laws
