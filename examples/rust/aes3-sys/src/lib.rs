@@ -126,7 +126,13 @@ extern "C" {
         report: *mut aes3_report,
     ) -> usize;
     pub fn aes3_lock_block(lock: *const aes3_lock, words: *mut u32);
-    pub fn aes3_lock_take_cells(lock: *mut aes3_lock, words: *const u64, count: usize, first: usize, report: *mut aes3_report) -> usize;
+    pub fn aes3_lock_take_cells(
+        lock: *mut aes3_lock,
+        words: *const u64,
+        count: usize,
+        first: usize,
+        report: *mut aes3_report,
+    ) -> usize;
     pub fn aes3_lock_finish(lock: *const aes3_lock, report: *mut aes3_report);
     pub fn aes3_encode_block(words: *const u32, before: u8, cells: *mut u64) -> u32;
     pub fn aes3_block_status(words: *const u32, channel: u8, status: *mut u8) -> u32;
