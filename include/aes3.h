@@ -19,8 +19,8 @@
  * makes the ones in bits 4 to 31 even in number. A word that is so is lawful.
  *
  * Stack in bytes that a call used (examples/c/stack.c, x86-64): aes3_lock_push 4,960,
- * aes3_lock_finish 4,792, aes3_lock_take_octets 3,976, aes3_lock_take_words 3,304,
- * aes3_capture_cells 3,480, aes3_block_of_samples 3,096,
+ * aes3_lock_finish 4,792, aes3_lock_take_octets 3,976, aes3_lock_take_cells 3,432,
+ * aes3_lock_take_words 3,304, aes3_capture_cells 3,480, aes3_block_of_samples 3,096,
  * aes3_block_status, aes3_block_validity and aes3_block_user 1,592, aes3_encode_block,
  * aes3_block_set_status and its kin 1,576, aes3_lock_block and aes3_block_samples 1,560, each other
  * 70 at most.
@@ -138,6 +138,14 @@ uint32_t aes3_lock_push(aes3_lock *lock, uint64_t word, uint32_t count, aes3_rep
 size_t aes3_lock_take_octets(aes3_lock *lock, const uint8_t *octets, size_t count, size_t first, aes3_report *report);
 
 /*
+ * The same of many cells in words: takes the cells of words[0] to words[count - 1] from the one of
+ * number `first` on, 64 a word, and puts the report without its words. A loop that takes words by
+ * aes3_lock_take_words and each next one by aes3_lock_push is told the same, but makes the words of
+ * every whole block and copies the lock three times a block.
+ */
+size_t aes3_lock_take_cells(aes3_lock *lock, const uint64_t *words, size_t count, size_t first, aes3_report *report);
+
+/*
  * Puts the words of the block of the lock's last report, where that is whole, until the lock takes
  * more cells. Where it is marked, puts what the subframes carry, with right parity bits.
  */
@@ -204,6 +212,12 @@ bool aes3_word_of_text(const uint8_t text[64], uint64_t *word);
 
 /* The cells of eight octets, the first in the highest bit of the first. */
 uint64_t aes3_word_of_octets(const uint8_t octets[8]);
+
+/*
+ * Puts the words of many octets, eight octets a word, as long as there are eight more and room for a
+ * word: `count` octets, and `room` words. Answers how many words it put.
+ */
+size_t aes3_words_of_octets(const uint8_t *octets, size_t count, uint64_t *words, size_t room);
 
 /* Puts the cells of a word as 64 characters and a line feed. */
 void aes3_line_of_word(uint64_t word, uint8_t line[65]);

@@ -232,6 +232,60 @@ static void octets(void) {
     WANT(aes3_lock_seen(&lock) == 3);
 }
 
+/* The same in words. */
+static void many_words(void) {
+    enum { ALL = 3 * AES3_BLOCK_WORDS };
+    static aes3_lock lock;
+    static aes3_report report;
+    static uint8_t octets[8 * ALL + 7];
+    static uint64_t line[ALL], got[ALL + 1];
+    static uint32_t block[AES3_BLOCK_WORDS];
+    for (int i = 0; i < ALL; i++) {
+        line[i] = cells[i % AES3_BLOCK_WORDS];
+        aes3_octets_of_word(line[i], octets + 8 * i);
+    }
+    got[ALL] = 5;
+    WANT(aes3_words_of_octets(octets, sizeof octets, got, ALL + 1) == ALL && got[ALL] == 5);
+    WANT(memcmp(got, line, sizeof line) == 0);
+    got[1] = 5;
+    WANT(aes3_words_of_octets(octets, sizeof octets, got, 1) == 1 && got[0] == line[0] && got[1] == 5);
+    WANT(aes3_words_of_octets(octets, 7, got, 1) == 0);
+    line[AES3_BLOCK_WORDS + 12] ^= (uint64_t)1 << 34; /* cell 802 of the block, the first of a time slot */
+    for (size_t piece = 1; piece <= ALL; piece = 5 * piece + 2) {
+        int told = 0;
+        aes3_lock_init(&lock);
+        for (size_t from = 0; from < ALL; from += piece) {
+            size_t count = piece < ALL - from ? piece : ALL - from, at = 0;
+            do {
+                memset(&report, 0xFF, sizeof report);
+                at += aes3_lock_take_cells(&lock, line + from, count, at, &report);
+                WANT(report.words[0] == 0xFFFFFFFF && report.words[383] == 0xFFFFFFFF);
+                if (report.kind == AES3_NONE)
+                    continue;
+                if (told++ == 0) {
+                    WANT(report.kind == AES3_WHOLE && report.at == 0 && report.before == 0);
+                    WANT(64 * from + at == AES3_BLOCK_CELLS + 1);
+                    aes3_lock_block(&lock, block);
+                    WANT(memcmp(block, words, sizeof words) == 0);
+                } else {
+                    WANT(report.kind == AES3_FAULT && report.at == AES3_BLOCK_CELLS);
+                    WANT(report.cell == AES3_BLOCK_CELLS + 802 && report.why == AES3_BIPHASE);
+                    WANT(64 * from + at == AES3_BLOCK_CELLS + 803);
+                }
+            } while (report.kind != AES3_NONE);
+            WANT(at == 64 * count);
+        }
+        WANT(told == 2 && aes3_lock_seen(&lock) == 64 * ALL);
+        aes3_lock_finish(&lock, &report);
+        WANT(report.kind == AES3_WHOLE && report.at == 2 * AES3_BLOCK_CELLS);
+    }
+    /* From a cell on, to its word's end; from none. */
+    aes3_lock_init(&lock);
+    WANT(aes3_lock_take_cells(&lock, line, 2, 125, &report) == 3 && report.kind == AES3_NONE);
+    WANT(aes3_lock_take_cells(&lock, line, 2, 128, &report) == 0 && report.kind == AES3_NONE);
+    WANT(aes3_lock_seen(&lock) == 3);
+}
+
 /* Two blocks, four samples a cell: in bit 3 of an octet, and in bit 9 of two; then with too little room, and no line. */
 static void captures(void) {
     enum { CELLS = 2 * AES3_BLOCK_CELLS, PACKED = CELLS / 8 + 1, SAMPLES = 4 * CELLS };
@@ -281,6 +335,7 @@ int main(void) {
     written();
     locks();
     octets();
+    many_words();
     captures();
     if (!failed)
         puts("each call answers as it should");

@@ -17,7 +17,7 @@ static aes3_professional professional;
 static aes3_consumer consumer;
 static uint32_t words[AES3_BLOCK_WORDS];
 static int32_t samples[AES3_BLOCK_WORDS];
-static uint64_t cells[AES3_BLOCK_WORDS], word;
+static uint64_t cells[AES3_BLOCK_WORDS], line_cells[AES3_BLOCK_WORDS + 1], word;
 static aes3_capture found;
 static uint8_t status[AES3_STATUS_BYTES], line[65], line_octets[8 * AES3_BLOCK_WORDS + 1], packed[8 * AES3_BLOCK_WORDS];
 
@@ -28,6 +28,8 @@ static void begin_block(void) { aes3_lock_push(&lock, cells[0], 64, &report); }
 static void take_words(void) { aes3_lock_take_words(&lock, cells + 1, AES3_BLOCK_WORDS - 1); }
 static void end_block(void) { aes3_lock_push(&lock, cells[0], 64, &report); }
 static void take_octets(void) { aes3_lock_take_octets(&lock, line_octets, sizeof line_octets, 0, &report); }
+static void take_cells(void) { aes3_lock_take_cells(&lock, line_cells, AES3_BLOCK_WORDS + 1, 0, &report); }
+static void words_of_octets(void) { aes3_words_of_octets(line_octets, sizeof line_octets, line_cells, AES3_BLOCK_WORDS); }
 static void lock_block(void) { aes3_lock_block(&lock, words); }
 static void finish(void) { aes3_lock_finish(&lock, &report); }
 static void encode_block(void) { aes3_encode_block(words, 0, cells); }
@@ -92,6 +94,11 @@ int main(void) {
     line_octets[8 * AES3_BLOCK_WORDS] = line_octets[0];
     aes3_lock_init(&lock);
     failed |= tell("aes3_lock_take_octets", take_octets, 4096);
+    failed |= report.kind != AES3_WHOLE;
+    failed |= tell("aes3_words_of_octets", words_of_octets, 256);
+    line_cells[AES3_BLOCK_WORDS] = line_cells[0];
+    aes3_lock_init(&lock);
+    failed |= tell("aes3_lock_take_cells", take_cells, 4096);
     failed |= report.kind != AES3_WHOLE;
     failed |= tell("aes3_lock_block", lock_block, 8192);
     failed |= tell("aes3_block_status", block_status, 2048);

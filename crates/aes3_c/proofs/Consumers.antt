@@ -1,8 +1,8 @@
 -- Fields of consumer channel status and the bytes that have them.
-use Rattle.std.proofs.Common.{◌≡◌, ℕ, zero, suc, ◌+◌, ◌*◌, ◌/◌, ◌%◌, ◌^◌, ◌<◌, ◌≤◌, List, [], ◌∷◌, ◌++◌, Bool, true, false}
-use Rattle.std.proofs.Common.{length, take, drop, get_or, refl, sym, ap, ap₂, ◌∙◌, arith, eqb}
+use Rattle.std.proofs.Common.{◌≡◌, ℕ, ◌+◌, ◌*◌, ◌/◌, ◌%◌, ◌<◌, ◌≤◌, List, [], ◌∷◌, false}
+use Rattle.std.proofs.Common.{length, drop, get_or, refl, sym, ap, ◌∙◌, arith, eqb}
 use Rattle.std.proofs.lemmas.List.{length-drop, take_all}
-use Rattle.aes3_status.specs.Bits.{bytes_field, field}
+use Rattle.aes3_status.specs.Bits.{bytes_field}
 use Rattle.aes3_status.specs.Consumer.{payload, copyright, emphasis, mode, category, generation, source, number, rate}
 use Rattle.aes3_status.specs.Consumer.{accuracy, b3high, greatest, word, original, rest}
 use Rattle.aes3_status.specs.Statuses.{is_professional}

@@ -1,5 +1,5 @@
 -- The fields of consumer channel status (IEC 60958-3) as C is told them.
-use Rattle.std.specs.Prelude.{ℕ, List, [], ◌∷◌, ◌++◌, ◌<◌, ◌+◌, ◌*◌, ◌^◌}
+use Rattle.std.specs.Prelude.{ℕ, List, [], ◌∷◌, ◌++◌, ◌<◌, ◌+◌, ◌^◌}
 use Rattle.aes3_status.specs.declared.field.ConField.TheVariants as con
 use Rattle.aes3_status.specs.Consumer.{payload, copyright, emphasis, mode, category, generation, source, number, rate}
 use Rattle.aes3_status.specs.Consumer.{accuracy, b3high, greatest, word, original, rest, con_place}

@@ -33,3 +33,5 @@ mod samples;
 mod status;
 /// The version of the library.
 mod version;
+/// Cells in words, many at once.
+mod words;

@@ -12,21 +12,13 @@ ghost use Rattle.aes3_c.specs.States.{Coded, block_in, state_of, told_of};
 
 use crate::lock::{Aes3Lock, MOST, keep, lock_of};
 use crate::report::{Aes3Report, put_ending};
+use crate::words::{Taken, take_whole};
 use aes3_cell::{word_of_octets, words_of_octets};
-use aes3_lock::{Ending, Lock};
+use aes3_lock::Lock;
 
 /// How many words are made of octets at once: so few that they take little of the stack, and so
 /// many that the calls for them cost little.
 const WORDS: usize = 64;
-
-/// What a lock took of cells.
-#[derive(Clone, Copy)]
-struct Taken {
-    /// How many.
-    cells: usize,
-    /// What the last of them made of the block that was begun, if it ended one.
-    ending: Option<Ending>,
-}
 
 /// How many cells of octets, from cell `first` on, a lock that has seen so many takes at most.
 fn most_cells(seen: u64, octets: usize, first: usize) -> usize
@@ -75,18 +67,7 @@ fn take_words_of(state: &mut Lock, octets: &[u8]) -> Taken
     let mut memory = [0; WORDS];
     let words = &mut memory[..octets.len() / 8];
     words_of_octets(octets, words);
-    let taken = state.take_words(words);
-    if taken == words.len() {
-        return Taken {
-            cells: 64 * taken,
-            ending: None,
-        };
-    }
-    let pushed = state.push_front(words[taken], u64::BITS);
-    Taken {
-        cells: 64 * taken + pushed.taken as usize,
-        ending: pushed.ending,
-    }
+    take_whole(state, words)
 }
 
 /// Takes some of `len` cells of octets from cell `at` on, up to the first that decides a report and

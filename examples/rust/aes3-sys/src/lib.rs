@@ -126,6 +126,13 @@ extern "C" {
         report: *mut aes3_report,
     ) -> usize;
     pub fn aes3_lock_block(lock: *const aes3_lock, words: *mut u32);
+    pub fn aes3_lock_take_cells(
+        lock: *mut aes3_lock,
+        words: *const u64,
+        count: usize,
+        first: usize,
+        report: *mut aes3_report,
+    ) -> usize;
     pub fn aes3_lock_finish(lock: *const aes3_lock, report: *mut aes3_report);
     pub fn aes3_encode_block(words: *const u32, before: u8, cells: *mut u64) -> u32;
     pub fn aes3_block_status(words: *const u32, channel: u8, status: *mut u8) -> u32;
@@ -138,6 +145,7 @@ extern "C" {
     pub fn aes3_block_of_samples(samples: *const i32, words: *mut u32);
     pub fn aes3_word_of_text(text: *const u8, word: *mut u64) -> bool;
     pub fn aes3_word_of_octets(octets: *const u8) -> u64;
+    pub fn aes3_words_of_octets(octets: *const u8, count: usize, words: *mut u64, room: usize) -> usize;
     pub fn aes3_line_of_word(word: u64, line: *mut u8);
     pub fn aes3_octets_of_word(word: u64, octets: *mut u8);
     pub fn aes3_status_professional(status: *const u8, fields: *mut aes3_professional) -> bool;

@@ -29,6 +29,22 @@ impl Block {
         Block { words: [0; BLOCK_WORDS] }
     }
 
+    /// The block of samples, channel 1 and then channel 2 of each frame: the highest 24 bits of each. V, U and C are 0.
+    pub fn of_samples(samples: &[i32; BLOCK_WORDS]) -> Block {
+        let mut block = Block::silence();
+        // SAFETY: both point to 384 items that don't overlap.
+        unsafe { sys::aes3_block_of_samples(samples.as_ptr(), block.words.as_mut_ptr()) };
+        block
+    }
+
+    /// All samples, channel 1 and then channel 2 of each frame, in the highest 24 bits of each.
+    pub fn samples(&self) -> Result<[i32; BLOCK_WORDS], Error> {
+        let mut samples = [0; BLOCK_WORDS];
+        // SAFETY: both point to 384 items that don't overlap.
+        let lawful = unsafe { sys::aes3_block_samples(self.words.as_ptr(), samples.as_mut_ptr()) };
+        lawful_or(lawful, samples)
+    }
+
     /// The sample of a channel in a frame, 0 to 191, in the highest 24 bits of an `i32`.
     pub fn sample(&self, frame: usize, channel: Channel) -> i32 {
         (self.words[2 * frame + channel as usize - 1] << 4) as i32 & !0xff

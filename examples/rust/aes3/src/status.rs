@@ -23,6 +23,20 @@ pub struct Status {
 }
 
 impl Status {
+    /// The status for professional use with these fields and their check byte; `None` where a field has no bits for its code.
+    pub fn of_professional(fields: &Professional) -> Option<Status> {
+        let mut bytes = [0; STATUS_BYTES];
+        // SAFETY: the bytes are 24, and the fields are another place.
+        unsafe { sys::aes3_status_of_professional(fields, bytes.as_mut_ptr()) }.then_some(Status { bytes })
+    }
+
+    /// The same for consumer use, without a check byte.
+    pub fn of_consumer(fields: &Consumer) -> Option<Status> {
+        let mut bytes = [0; STATUS_BYTES];
+        // SAFETY: the bytes are 24, and the fields are another place.
+        unsafe { sys::aes3_status_of_consumer(fields, bytes.as_mut_ptr()) }.then_some(Status { bytes })
+    }
+
     /// The fields of a status for professional use (AES3-2), where it is one.
     pub fn professional(&self) -> Option<Professional> {
         let mut fields = Professional::default();

@@ -113,7 +113,10 @@ fn status_and_samples() {
     let professional = status.professional().unwrap();
     assert_eq!((professional.rate, professional.aux, professional.word), (2, 4, 5));
     assert_eq!((status.consumer(), status.check()), (None, Check::Good));
+    assert_eq!(Status::of_professional(&professional), Some(status));
     let other = Status { bytes: [4; 24] };
+    assert_eq!(Status::of_consumer(&other.consumer().unwrap()), Some(other));
+    assert_eq!(Status::of_professional(&aes3::Professional { rate: 4, ..professional }), None);
     assert!(other.professional().is_none());
     assert_eq!(other.consumer().unwrap().copyright, 1);
     let mut bytes = status.bytes;
@@ -122,6 +125,9 @@ fn status_and_samples() {
     bytes[23] = status.bytes[23] ^ 1;
     assert_eq!(Status { bytes }.check(), Check::Bad);
     assert_eq!(block.sample(0, Channel::One), 0x12345600);
+    let samples = block.samples().unwrap();
+    assert_eq!((samples[0], samples[383]), (0x12345600, block.sample(191, Channel::Two)));
+    assert_eq!(aes3::Block::of_samples(&samples).samples(), Ok(samples));
     assert_eq!(block.sample(191, Channel::Two), 0x1234_5600 + 383 * 256);
     let mut low = Block::silence();
     low.words[0] = word(0x800000, false);

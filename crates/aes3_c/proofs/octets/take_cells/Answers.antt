@@ -1,6 +1,7 @@
 use Rattle.std.proofs.Common.{◌≡◌, ◌+◌, ◌-◌, ◌++◌, [], false, Option, Some, None, refl, sym, ap, ◌∙◌, arith, append-nil}
 use Rattle.std.specs.Prelude.{option_map, option_to_list}
 use Rattle.std.specs.Option.{is_some}
+use Rattle.aes3_cell.specs.Packed.{cells_of_octets}
 use Rattle.aes3_lock.specs.declared.report.Ending.{Ending}
 use Rattle.aes3_lock.specs.declared.report.Report.{Report}
 use Rattle.aes3_lock.specs.Reports.{decided}
@@ -22,7 +23,7 @@ loop-taken-preserved c =
     let k = c.loop-taken.state in
     let n = c.loop-taken.taken in
     let m = c.take_some-more.result.cells in
-    let octets = c.args.octets.now in
+    let octets = cells_of_octets c.args.octets.now in
     let q = no-ending (report_in c.take_some-more.new.state) c.take_some-more.result.ending (sym c.is_some.ensures
     ∙ c.if-is_some.false) in
     record {
@@ -36,12 +37,12 @@ loop-taken-preserved c =
 -- or an ending
 pub returns-then-is_some-clause-follows : goal.returns-then-is_some-clause-follows
 returns-then-is_some-clause-follows c = λ l f.
-    more-follows c.loop-taken.state c.take_some-more.new.state c.args.octets.now l c.args.first c.loop-taken.taken
+    more-follows c.loop-taken.state c.take_some-more.new.state (cells_of_octets c.args.octets.now) l c.args.first c.loop-taken.taken
     c.take_some-more.result.cells c.take_some-more.ensures.follows (c.loop-taken.invariant.follows l f)
 
 pub returns-then-is_some-clause-report : goal.returns-then-is_some-clause-report
 returns-then-is_some-clause-report c = λ l f.
-    more-reports c.loop-taken.state c.args.octets.now l c.args.first c.loop-taken.taken c.take_some-more.result.cells _
+    more-reports c.loop-taken.state (cells_of_octets c.args.octets.now) l c.args.first c.loop-taken.taken c.take_some-more.result.cells _
     c.take_some-more.ensures.report (c.loop-taken.invariant.follows l f) (c.loop-taken.invariant.none l f)
 
 pub returns-then-is_some-clause-last : goal.returns-then-is_some-clause-last
@@ -51,7 +52,7 @@ returns-then-is_some-clause-last c = λ ended l f.
     let s = c.take_some-more.ensures.some in
     ap (λ i. decided (l ++ cells_from c.args.octets.now c.args.first i))
     (let e : n + m - 1 ≡ n + (m - 1) = omega (arith, s) in e)
-    ∙ more-reports c.loop-taken.state c.args.octets.now l c.args.first n (m - 1) []
+    ∙ more-reports c.loop-taken.state (cells_of_octets c.args.octets.now) l c.args.first n (m - 1) []
     (λ d g. c.take_some-more.ensures.last ended d g ∙ sym (append-nil (decided d)))
     (c.loop-taken.invariant.follows l f) (c.loop-taken.invariant.none l f)
     ∙ append-nil (decided l)

@@ -1,46 +1,20 @@
-use Rattle.std.proofs.Common.{◌≡◌, ◌+◌, ◌-◌, ◌*◌, ◌++◌, List, take, subst, arith, sym, ap}
-use Rattle.std.proofs.Common.{◌∙◌}
-use Rattle.std.specs.Prelude.{option_map, option_to_list}
+use Rattle.std.proofs.Common.{◌++◌, ◌-◌, List, take, subst, sym, ap, ◌∙◌}
 use Rattle.aes3_level.specs.declared.level.Level.{Level}
-use Rattle.aes3_cell.specs.Packed.{cells_of_octets}
 use Rattle.aes3_lock.specs.Reports.{decided}
-use Rattle.aes3_lock.specs.Following.{Follows, report_in}
-use Rattle.aes3_c.proofs.OctetCells.{behind-words}
+use Rattle.aes3_lock.specs.Following.{Follows}
 use Rattle.aes3_c.proofs.octets.take_words_of.Goals as goal
 
 pub returns-clause-follows : goal.returns-clause-follows
 returns-clause-follows c = λ l f.
-    let w = c.take_words-taken.ensures.within in
-    let more = c.if-taken-words.false in
-    let few = c.push_front-pushed.ensures.within in
-    let path = behind-words c.args.octets.now c.words_of_octets.new.words l c.take_words-taken.result
-    c.push_front-pushed.result.taken c.words_of_octets.ensures.cells (omega (arith, w, more)) few in
-    subst (λ (d : List Level). Follows c.push_front-pushed.new.self d) path
-    (c.push_front-pushed.ensures.follows _ (c.take_words-taken.ensures.follows l f))
+    subst (λ (d : List Level). Follows c.take_whole.new.state (l ++ take c.take_whole.result.cells d))
+    c.words_of_octets.ensures.cells (c.take_whole.ensures.follows l f)
 
 pub returns-clause-report : goal.returns-clause-report
 returns-clause-report c = λ l f.
-    let w = c.take_words-taken.ensures.within in
-    let more = c.if-taken-words.false in
-    let few = c.push_front-pushed.ensures.within in
-    let path = behind-words c.args.octets.now c.words_of_octets.new.words l c.take_words-taken.result
-    c.push_front-pushed.result.taken c.words_of_octets.ensures.cells (omega (arith, w, more)) few in
-    ap decided (sym path) ∙ c.push_front-pushed.ensures.report _ (c.take_words-taken.ensures.follows l f)
-    ∙ ap (λ r. r ++ option_to_list
-    (option_map (report_in c.push_front-pushed.new.self) c.push_front-pushed.result.ending))
-    (c.take_words-taken.ensures.none l f)
+    ap (λ d. decided (l ++ take c.take_whole.result.cells d)) (sym c.words_of_octets.ensures.cells)
+    ∙ c.take_whole.ensures.report l f
 
 pub returns-clause-last : goal.returns-clause-last
 returns-clause-last c = λ ended l f.
-    let w = c.take_words-taken.ensures.within in
-    let more = c.if-taken-words.false in
-    let few = c.push_front-pushed.ensures.within in
-    let some = c.push_front-pushed.ensures.some in
-    let i = c.take_words-taken.result in
-    let n = c.push_front-pushed.result.taken in
-    let path = behind-words c.args.octets.now c.words_of_octets.new.words l i (n - 1)
-    c.words_of_octets.ensures.cells (omega (arith, w, more)) (omega (arith, few)) in
-    ap (λ k. decided (l ++ take k (cells_of_octets c.args.octets.now)))
-    (let e : 64 * i + n - 1 ≡ 64 * i + (n - 1) = omega (arith, some) in e)
-    ∙ ap decided (sym path) ∙ c.push_front-pushed.ensures.last ended _ (c.take_words-taken.ensures.follows l f)
-    ∙ c.take_words-taken.ensures.none l f
+    ap (λ d. decided (l ++ take (c.take_whole.result.cells - 1) d)) (sym c.words_of_octets.ensures.cells)
+    ∙ c.take_whole.ensures.last ended l f

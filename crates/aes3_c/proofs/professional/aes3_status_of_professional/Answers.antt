@@ -1,9 +1,9 @@
-use Rattle.std.proofs.Common.{ℕ, List, [], ◌∷◌, ◌++◌, get_or, take, slice_set, ap, ap₂, ◌∙◌, sym, subst}
+use Rattle.std.proofs.Common.{ℕ, List, [], ◌∷◌, ◌++◌, get_or, take, slice_set, ap, ◌∙◌, sym, subst}
 use Rattle.aes3_status.specs.Bits.{status_bits}
 use Rattle.aes3_status.specs.Check.{CheckHolds}
 use Rattle.aes3_status.specs.Statuses.{is_professional}
 use Rattle.aes3_status.proofs.CheckBytes.{good-holds}
-use Rattle.aes3_c.specs.Professional.{professional_bytes, professional_fields}
+use Rattle.aes3_c.specs.Professional.{professional_bytes}
 use Rattle.aes3_c.proofs.Professionals.{bytes-back, bytes-professional}
 use Rattle.aes3_c.proofs.professional.aes3_status_of_professional.Goals as goal
 

@@ -1,5 +1,4 @@
-use Rattle.std.proofs.Common.{◌≡◌, ◌+◌, ◌*◌, ◌%◌, ◌<◌, ◌^◌, get_or, slice_set, length, refl, ap, ◌∙◌, arith}
-use Rattle.aes3_frame.specs.Files.{low_bytes}
+use Rattle.std.proofs.Common.{◌≡◌, ◌+◌, ◌*◌, ◌%◌, ◌<◌, ◌^◌, get_or, slice_set, refl, ap, ◌∙◌, arith}
 use Rattle.aes3_frame.proofs.Files.{le_bytes-is}
 use Rattle.aes3_c.specs.Professional.{professional_fields}
 use Rattle.aes3_c.proofs.Professionals.{AreBytes, fields-back}
