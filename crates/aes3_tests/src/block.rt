@@ -33,7 +33,10 @@ const CARRIED: &[(usize, u8, usize)] = &[(0, 0x01, 0), (0, 0x80, 7), (1, 0x01, 8
 #[test]
 fn frames_that_carry_a_bit(rt: HostRuntime) {
     for (k, byte, frame) in CARRIED {
-        assert!(rt; is_carried_in(&with_byte([0; 24], *k, *byte), *frame));
+        assert!(rt;
+            is_carried_in(&with_byte([0; 24], *k, *byte), *frame),
+            "frame {frame}"
+        );
     }
 }
 

@@ -84,8 +84,8 @@ fn packed_in(octets: &[u8]) -> PackedIn {
 
 #[test]
 fn packed_rows_read(rt: HostRuntime) {
-    for (octets, end) in PACKED_ROWS {
-        assert!(rt; packed_in(octets).end() == *end);
+    for (row, (octets, end)) in PACKED_ROWS.iter().enumerate() {
+        assert!(rt; packed_in(octets).end() == *end, "row {row}");
     }
 }
 
@@ -299,7 +299,10 @@ fn read_three(left: u32) -> (Result<usize, Fault>, [u8; 3]) {
 #[test]
 fn interrupted_reads(rt: HostRuntime) {
     for left in [0, 999_999] {
-        assert!(rt; read_three(left) == (Ok(3), *b"111"));
+        assert!(rt;
+            read_three(left) == (Ok(3), *b"111"),
+            "{left} interruptions"
+        );
     }
     assert!(rt; read_three(1_000_000) == (Err(Fault), *b"000"));
 }

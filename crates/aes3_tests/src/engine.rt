@@ -215,7 +215,10 @@ fn inputs_without_an_end(rt: HostRuntime) {
         let mut source = EndlessSource::new(byte, 64);
         let mut sink = MemorySink::new(rt.alloc());
         let answer = cut(&mut source, &mut sink, 1_000, form, form, 0, ALL);
-        assert!(rt; answer == Err(RunError::TooLong) && sink.bytes().is_empty());
+        assert!(rt;
+            answer == Err(RunError::TooLong) && sink.bytes().is_empty(),
+            "byte {byte}"
+        );
     }
 }
 

@@ -1,7 +1,7 @@
 //! Worked lists of cells, by the lock and by trying every place, and their preambles.
 ghost use Rattle.std.specs.Prelude.{◌<◌, ◌≤◌};
 
-use crate::slot::{WRONG_PARITY, ZEROS};
+use crate::slot::ZEROS;
 use aes3_cell::Level;
 use aes3_lock::{Lock, Report, Scan, Why, reports_of};
 use aes3_slot::{Mark, slots_cells};
@@ -23,8 +23,11 @@ const LINES: usize = 16;
 /// Many more cells than a test has.
 const MANY: u64 = 1 << 40;
 
-/// The second subframe of a frame whose first bit and parity bit alone are 1.
-const ONE_LAST: u64 = 0x4CCC_CCCC_CCCC_CD27;
+/// The bits of slots 4 to 31 of a subframe whose parity bit alone is 1, and wrong.
+const ODD: u32 = 1 << 27;
+
+/// The same where all are 1.
+const ALL_ONES: u32 = (1 << 28) - 1;
 
 fn line_of(report: Report) -> Line {
     match report {
@@ -81,6 +84,8 @@ const DENSE: u64 = 0x745D_1745_D174_5D17;
 enum Piece {
     /// The subframes `0` to `1` of the zero block after a level.
     Lines(Level, usize, usize),
+    /// A subframe after a level, with a preamble and these bits in slots 4 to 31.
+    Slots(Level, Mark, u32),
     /// The cells `1` to `2` of a word.
     Cells(u64, u32, u32),
 }
@@ -104,6 +109,10 @@ fn cells_of(alloc: Global, pieces: &[Piece]) -> Result<Vec<Level>, AllocError> {
     for piece in pieces.iter() {
         match *piece {
             Piece::Lines(before, from, to) => add_lines(&mut cells, before, from, to)?,
+            Piece::Slots(before, mark, bits) => {
+                let word = slots_cells(before, mark, bits & ALL_ONES);
+                add(&mut cells, word, 0, 64)?;
+            }
             Piece::Cells(word, from, to) => add(&mut cells, word, from, to.min(64))?,
         }
     }
@@ -182,7 +191,7 @@ const ROWS: &[(&[Piece], &[Line])] = &[
     (
         &[
             Piece::Lines(Level::Low, 0, 383),
-            Piece::Cells(ONE_LAST, 0, 64),
+            Piece::Slots(Level::Low, Mark::Y, ODD | 1),
             Piece::Cells(!ZEROS, 1, 64),
             Piece::Lines(Level::High, 1, 384),
         ],
@@ -194,7 +203,7 @@ const ROWS: &[(&[Piece], &[Line])] = &[
     // A block with one wrong parity bit, and one behind it.
     (
         &[
-            Piece::Cells(WRONG_PARITY, 0, 64),
+            Piece::Slots(Level::Low, Mark::Z, ODD),
             Piece::Lines(Level::High, 1, 384),
             Piece::Lines(Level::High, 0, 384),
         ],
@@ -222,8 +231,11 @@ const ROWS: &[(&[Piece], &[Line])] = &[
 
 #[test]
 fn reports_of_blocks(rt: HostRuntime) {
-    for (pieces, lines) in ROWS {
-        assert!(rt; are_told(rt.alloc(), pieces, lines) == Ok(true));
+    for (row, (pieces, lines)) in ROWS.iter().enumerate() {
+        assert!(rt;
+            are_told(rt.alloc(), pieces, lines) == Ok(true),
+            "row {row}"
+        );
     }
 }
 

@@ -13,7 +13,7 @@ pub(crate) const ZEROS: u64 = 0x3333_3333_3333_3317;
 const FIRST_BIT: u64 = 0x4CCC_CCCC_CCCC_CD17;
 
 /// The same with a wrong parity bit.
-pub(crate) const WRONG_PARITY: u64 = 0xB333_3333_3333_3317;
+const WRONG_PARITY: u64 = 0xB333_3333_3333_3317;
 
 fn writes_subframes() -> bool {
     subframe_cells(Level::Low, Mark::Z, 0) == ZEROS
@@ -60,7 +60,7 @@ fn preamble_of(window: u8) -> Option<(Mark, Level)> {
 #[test]
 fn preambles_among_all_octets(rt: HostRuntime) {
     for window in 0..=255 {
-        assert!(rt; match_mark(window) == preamble_of(window));
+        assert!(rt; match_mark(window) == preamble_of(window), "octet {window}");
     }
 }
 
@@ -84,8 +84,8 @@ fn found_in(cells: u64, next: u8) -> (u64, u64) {
 
 #[test]
 fn preambles_in_words(rt: HostRuntime) {
-    for (cells, next, places) in BEGINNINGS {
-        assert!(rt; found_in(*cells, *next) == (*places, *places));
+    for (row, (cells, next, places)) in BEGINNINGS.iter().enumerate() {
+        assert!(rt; found_in(*cells, *next) == (*places, *places), "row {row}");
     }
     assert!(rt; preambles(ZEROS, 0x27) == 1);
 }
