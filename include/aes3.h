@@ -3,8 +3,8 @@
  * puts in their places; the first is libaes3_c.a of `bin/build aes3_c`.
  *
  * No function allocates, prints, waits, aborts or keeps anything between calls, and each returns
- * for all arguments that meet what is said here. The library wants memcpy and memset, and nothing
- * else. Different locks may be used by different threads at once, one lock by one thread at a time.
+ * for all arguments that meet what is said here. The library wants memcpy, memmove and memset, and
+ * nothing else. Different locks may be used by different threads at once, one lock by one thread at a time.
  *
  * What the caller owes, and nothing checks: no pointer is null; each points to as many objects as
  * its type says (words and octets of the calls that take many to `count`), aligned as C wants it;
@@ -22,8 +22,8 @@
  * aes3_lock_finish 4,792, aes3_lock_take_octets 3,976, aes3_lock_take_cells 3,432,
  * aes3_lock_take_words 3,304, aes3_capture_cells 3,480, aes3_block_of_samples 3,096,
  * aes3_block_status, aes3_block_validity and aes3_block_user 1,592, aes3_encode_block,
- * aes3_block_set_status and its kin 1,576, aes3_lock_block and aes3_block_samples 1,560, each other
- * 70 at most.
+ * aes3_block_set_status and its kin 1,576, aes3_lock_block and aes3_block_samples 1,560,
+ * aes3_status_text 1,304, each other 70 at most.
  */
 #ifndef AES3_H
 #define AES3_H
@@ -58,7 +58,8 @@ uint32_t aes3_version(void);
 enum {
     AES3_BLOCK_WORDS = 384,   /* words of a block, and words of its cells */
     AES3_BLOCK_CELLS = 24576, /* cells of a block */
-    AES3_STATUS_BYTES = 24    /* bytes of a channel status */
+    AES3_STATUS_BYTES = 24,   /* bytes of a channel status */
+    AES3_STATUS_TEXT = 800    /* characters of one, written, at most */
 };
 
 /* ---- The lock: finds blocks in cells that come one behind the other ---- */
@@ -305,6 +306,13 @@ enum aes3_check {
 
 /* How a professional status stands to its check byte, an aes3_check. */
 uint8_t aes3_status_check_state(const uint8_t status[24]);
+
+/*
+ * Puts the use and the fields of a status as `aes3 show` writes them, as " professional payload=pcm
+ * emphasis=none ..": each behind a space, with the word of its code, and no 0 at the end. Answers
+ * how many characters; those behind them stay.
+ */
+uint32_t aes3_status_text(const uint8_t status[24], char text[800]);
 
 /* ---- Captures: the samples of a logic analyser ---- */
 

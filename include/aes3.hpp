@@ -57,6 +57,8 @@ inline bool fields(const status &of, aes3_professional &to) { return aes3_status
 inline bool fields(const status &of, aes3_consumer &to) { return aes3_status_consumer(of, &to); }
 inline bool status_of(const aes3_professional &fields, status &to) { return aes3_status_of_professional(&fields, to); }
 inline bool status_of(const aes3_consumer &fields, status &to) { return aes3_status_of_consumer(&fields, to); }
+// Its text as `aes3 show` writes it: answers how many characters.
+inline uint32_t text_of(const status &of, char (&to)[AES3_STATUS_TEXT]) { return aes3_status_text(of, to); }
 inline uint8_t check_byte(const status &of) { return aes3_status_check_byte(of); }
 inline aes3_check check(const status &of) { return static_cast<aes3_check>(aes3_status_check_state(of)); }
 

@@ -52,6 +52,18 @@ static void built(void) {
     WANT(aes3_status_of_consumer(&consumer, status) && memcmp(status, wanted, sizeof status) == 0);
 }
 
+/* A status as `aes3 show` writes it. */
+static void written_status(void) {
+    static const char wanted[] = " professional payload=pcm emphasis=none unlocked=no rate=48000 mode=stereophonic user=not-indicated"
+        " aux=audio word=24 b2high=0 b3=0 b4=0 b5=0 origin=JATH destination=.... local=0 time=0 unreliable=0000 b22low=0 check=absent";
+    static char text[AES3_STATUS_TEXT];
+    const uint8_t other[AES3_STATUS_BYTES] = {4, 0, 0, 2, 0x0B};
+    memset(text, '#', sizeof text);
+    WANT(aes3_status_text(sent, text) == sizeof wanted - 1 && memcmp(text, wanted, sizeof wanted - 1) == 0);
+    WANT(text[sizeof wanted - 1] == '#' && text[sizeof text - 1] == '#');
+    WANT(aes3_status_text(other, text) > 0 && memcmp(text, " consumer payload=pcm copyright=not-asserted ", 45) == 0);
+}
+
 static void statuses(void) {
     uint8_t status[AES3_STATUS_BYTES];
     aes3_professional professional;
@@ -73,6 +85,7 @@ static void statuses(void) {
     WANT(aes3_status_consumer(status, &consumer));
     WANT(consumer.copyright == 1 && consumer.rate == 2 && consumer.rest[1] == 'J');
     built();
+    written_status();
     WANT(aes3_block_set_status(words, 2, sent) == AES3_BLOCK_WORDS);
     WANT(aes3_block_status(words, 2, status) == AES3_BLOCK_WORDS && memcmp(status, sent, sizeof status) == 0);
     WANT(aes3_block_status(words, 1, status) == AES3_BLOCK_WORDS && status[0] == 0 && status[6] == 0);

@@ -17,6 +17,7 @@ static aes3_professional professional;
 static aes3_consumer consumer;
 static uint32_t words[AES3_BLOCK_WORDS];
 static int32_t samples[AES3_BLOCK_WORDS];
+static char text[AES3_STATUS_TEXT];
 static uint64_t cells[AES3_BLOCK_WORDS], line_cells[AES3_BLOCK_WORDS + 1], word;
 static aes3_capture found;
 static uint8_t status[AES3_STATUS_BYTES], line[65], line_octets[8 * AES3_BLOCK_WORDS + 1], packed[8 * AES3_BLOCK_WORDS];
@@ -49,6 +50,7 @@ static void read_professional(void) { aes3_status_professional(status, &professi
 static void read_consumer(void) { aes3_status_consumer(status, &consumer); }
 static void of_professional(void) { aes3_status_of_professional(&professional, status); }
 static void of_consumer(void) { aes3_status_of_consumer(&consumer, status); }
+static void status_text(void) { aes3_status_text(status, text); }
 static void check_byte(void) { status[23] = aes3_status_check_byte(status); }
 static void recover(void) { aes3_capture_cells(line_octets, sizeof line_octets, 1, 0, 0, packed, sizeof packed, &found); }
 static void version(void) { status[22] = (uint8_t)aes3_version(); }
@@ -117,6 +119,7 @@ int main(void) {
     failed |= tell("aes3_status_consumer", read_consumer, 256);
     failed |= tell("aes3_status_of_professional", of_professional, 256);
     failed |= tell("aes3_status_of_consumer", of_consumer, 256);
+    failed |= tell("aes3_status_text", status_text, 4096);
     failed |= tell("aes3_status_check_byte", check_byte, 256);
     failed |= tell("aes3_status_check_state", check_state, 256);
     failed |= tell("aes3_version", version, 256);

@@ -149,7 +149,7 @@ judge "the stack that docs/C.md tells" told_stack
 # What the library wants of others.
 nm -u "$library" | sed -n 's/^ *U //p' | sort -u | tr '\n' ' ' >wants
 echo "wants: $(cat wants)"
-judge "what the library wants" [ "$(cat wants)" = "memcpy memset " ]
+judge "what the library wants" [ "$(cat wants)" = "memcpy memmove memset " ]
 
 # The functions that the header declares, and those that the library has.
 sed -n 's/^[a-z][a-z0-9_ ]*[ *]\(aes3_[a-z_]*\)(.*/\1/p' "$here/../../include/aes3.h" | sort >declared

@@ -43,6 +43,8 @@ int main() {
     judge("status_of again", aes3::status_of(block, 1, found) == AES3_BLOCK_WORDS);
     aes3_professional professional;
     aes3_consumer consumer;
+    char text[AES3_STATUS_TEXT];
+    judge("text_of", aes3::text_of(found, text) > 200 && text[0] == ' ' && text[1] == 'p');
     judge("professional", aes3::fields(found, professional) && professional.rate == 2);
     judge("no consumer", !aes3::fields(found, consumer));
     judge("check", aes3::check(found) == AES3_GOOD);

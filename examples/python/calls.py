@@ -35,6 +35,8 @@ assert aes3.block_status(blocks[0], 1) == bytes([4, 0, 0, 2, 0x0B] + 19 * [0])
 status = bytes.fromhex("85022c0000004a4154480000000000000000000000000000")
 assert aes3.check_byte(status) == int(sys.argv[4], 16)
 
+assert aes3.status_text(status).startswith("professional payload=pcm emphasis=none unlocked=no rate=48000 mode=stereophonic ")
+
 # V, U and C bits set in a copy of a block, and nothing else.
 changed = aes3.with_user(blocks[0], 2, status)
 assert [i for i in range(384) if changed[i] != blocks[0][i]] == [2 * i + 1 for i in range(192) if status[i // 8] >> i % 8 & 1]

@@ -87,6 +87,7 @@ _bits = {
     for sets in (False, True)
 }
 _check_byte = _declare("aes3_status_check_byte", c.c_uint8, c.POINTER(_Status))
+_status_text = _declare("aes3_status_text", c.c_uint32, c.POINTER(_Status), c.c_char * 800)
 _capture_cells = _declare(
     "aes3_capture_cells", c.c_bool, c.c_void_p, c.c_size_t, c.c_uint8, c.c_uint8, c.c_uint64, c.c_void_p, c.c_size_t,
     c.POINTER(_Capture)
@@ -265,6 +266,12 @@ def _with_bits(name, words, channel, bits):
 def check_byte(status):
     """The check byte of a professional channel status of 24 bytes."""
     return _check_byte(c.byref(_status_in(status)))
+
+
+def status_text(status):
+    """The use and the fields of a channel status of 24 bytes as `aes3 show` writes them."""
+    text = (c.c_char * 800)()
+    return text[1 : _status_text(c.byref(_status_in(status)), text)].decode("ascii")
 
 
 # ---- captures

@@ -40,7 +40,8 @@ unfolding field
 from-byte bytes byte h = ap (λ bits. number (take 32 bits)) (drop-bytes bytes byte 0 h (omega arith))
 
 -- four bytes are those of their number
-pub number-is : (bytes : List ℕ) (byte n : ℕ) → byte + 4 ≤ length bytes → ((i : ℕ) → get_or bytes i 0 < 256) → n < 2 ^ 32
+pub number-is : (bytes : List ℕ) (byte n : ℕ) → byte + 4 ≤ length bytes → ((i : ℕ) → get_or bytes i 0 < 256) → n < 2 ^
+    32
     → get_or bytes byte 0 ≡ n % 256 → get_or bytes (byte + 1) 0 ≡ n / 256 % 256
     → get_or bytes (byte + 2) 0 ≡ n / 256 / 256 % 256 → get_or bytes (byte + 3) 0 ≡ n / 256 / 256 / 256 % 256
     → field byte 0 32 bytes ≡ n

@@ -53,4 +53,5 @@ professional_bytes f check =
     + code_from (pro_place pro.B2high).first f.b2high)
     ∷ f.b3 ∷ f.b4 ∷ f.b5
     ∷ four_bytes f.origin (four_bytes f.destination (four_bytes (low_bytes 4 f.local) (four_bytes (low_bytes 4 f.time)
-    ((code_from (pro_place pro.B22low).first f.b22low + code_from (pro_place pro.Unreliable).first f.unreliable) ∷ check ∷ []))))
+    ((code_from (pro_place pro.B22low).first f.b22low + code_from (pro_place pro.Unreliable).first f.unreliable)
+    ∷ check ∷ []))))

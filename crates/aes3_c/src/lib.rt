@@ -31,6 +31,8 @@ mod room;
 mod samples;
 /// Channel status: its use and its check byte.
 mod status;
+/// Channel status as text.
+mod text;
 /// The version of the library.
 mod version;
 /// Cells in words, many at once.

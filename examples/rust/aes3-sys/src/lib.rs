@@ -152,6 +152,7 @@ extern "C" {
     pub fn aes3_status_consumer(status: *const u8, fields: *mut aes3_consumer) -> bool;
     pub fn aes3_status_of_professional(fields: *const aes3_professional, status: *mut u8) -> bool;
     pub fn aes3_status_of_consumer(fields: *const aes3_consumer, status: *mut u8) -> bool;
+    pub fn aes3_status_text(status: *const u8, text: *mut u8) -> u32;
     pub fn aes3_status_check_byte(status: *const u8) -> u8;
     pub fn aes3_status_check_state(status: *const u8) -> u8;
     pub fn aes3_capture_cells(

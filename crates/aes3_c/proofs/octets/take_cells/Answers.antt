@@ -37,12 +37,14 @@ loop-taken-preserved c =
 -- or an ending
 pub returns-then-is_some-clause-follows : goal.returns-then-is_some-clause-follows
 returns-then-is_some-clause-follows c = λ l f.
-    more-follows c.loop-taken.state c.take_some-more.new.state (cells_of_octets c.args.octets.now) l c.args.first c.loop-taken.taken
+    more-follows c.loop-taken.state c.take_some-more.new.state (cells_of_octets c.args.octets.now) l c.args.first
+    c.loop-taken.taken
     c.take_some-more.result.cells c.take_some-more.ensures.follows (c.loop-taken.invariant.follows l f)
 
 pub returns-then-is_some-clause-report : goal.returns-then-is_some-clause-report
 returns-then-is_some-clause-report c = λ l f.
-    more-reports c.loop-taken.state (cells_of_octets c.args.octets.now) l c.args.first c.loop-taken.taken c.take_some-more.result.cells _
+    more-reports c.loop-taken.state (cells_of_octets c.args.octets.now) l c.args.first c.loop-taken.taken
+    c.take_some-more.result.cells _
     c.take_some-more.ensures.report (c.loop-taken.invariant.follows l f) (c.loop-taken.invariant.none l f)
 
 pub returns-then-is_some-clause-last : goal.returns-then-is_some-clause-last
