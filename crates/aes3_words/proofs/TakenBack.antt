@@ -1,5 +1,5 @@
 -- Octets that were taken are told by what was written of them.
-use Rattle.std.proofs.Common.{◌≡◌, ◌<◌, ◌+◌, ◌-◌, ◌*◌, ◌/◌, ◌%◌, ℕ, Bool, true, false, List, [], ◌∷◌, ◌++◌, Option, Some, None}
+use Rattle.std.proofs.Common.{◌≡◌, ◌<◌, ◌+◌, ◌*◌, ◌/◌, ◌%◌, ℕ, Bool, true, false, List, [], ◌∷◌, ◌++◌, Option, Some, None}
 use Rattle.std.proofs.Common.{length, take, drop, refl, sym, ap, ap₂, ◌∙◌, append-nil, take-append-drop, arith, nat_lt}
 use Rattle.std.proofs.lemmas.List.{length-drop}
 use Rattle.std.proofs.Common.{lt-ltb, ltb-true, if◌then◌else◌, ◌&&◌}
@@ -9,7 +9,7 @@ use Rattle.aes3_words.specs.Forms.{code, unwritten_word, with_code, without_code
 use Rattle.aes3_words.specs.Lists.{each_word, first_place, next, up_to}
 use Rattle.aes3_words.specs.Told.{passed_told, taken_word, written_told}
 use Rattle.aes3_words.proofs.EachWord.{Fours, length-each}
-use Rattle.aes3_words.proofs.OneWord.{few-code, turned, turned-lt}
+use Rattle.aes3_words.proofs.OneWord.{few-code, turned-lt}
 use Rattle.aes3_words.proofs.Reading.{length-up, same-ends}
 
 abbrev fit : ℕ → ℕ → ℕ → ℕ → Bool

@@ -1,5 +1,5 @@
 -- What the source and the sink of words tell of their octets, by what the end behind them tells.
-use Rattle.std.specs.Prelude.{ℕ, List, [], ◌∷◌, ◌++◌, ◌≡◌, ◌+◌, ◌-◌, ◌/◌, ◌%◌, Bool, true, false, Option, Some, None, IsTrue, take}
+use Rattle.std.specs.Prelude.{ℕ, List, [], ◌∷◌, ◌++◌, ◌≡◌, ◌+◌, ◌-◌, ◌/◌, ◌%◌, Bool, Option, Some, None, IsTrue, take}
 use Rattle.std.specs.Prelude.{drop, length, nat_lt, ◌&&◌, if◌then◌else◌, option_and_then}
 use Rattle.std.specs.Option.{option_map}
 use Rattle.std.specs.Str.{bytes_eq}

@@ -1,4 +1,4 @@
-use Rattle.std.proofs.Common.{◌≡◌, ◌<◌, ◌≤◌, ◌∙◌, ◌+◌, ◌-◌, ◌*◌, ◌/◌, ◌%◌, ◌++◌, [], length, take, drop, ap, refl, sym, arith}
+use Rattle.std.proofs.Common.{◌≡◌, ◌≤◌, ◌∙◌, ◌+◌, ◌-◌, ◌/◌, ◌%◌, ◌++◌, length, take, drop, ap, refl, sym, arith}
 use Rattle.std.proofs.lemmas.List.{length-take-le, take_all, take_at}
 use Rattle.aes3_cell.proofs.Growing.{grew-is, grew-none}
 use Rattle.aes3_words.specs.Forms.{own_word}
