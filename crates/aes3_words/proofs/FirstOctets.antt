@@ -1,7 +1,7 @@
 -- The octets that the first block begins with.
-use Rattle.std.proofs.Common.{◌≡◌, ◌≢◌, ◌<◌, ◌≤◌, ◌+◌, ◌-◌, ◌*◌, ◌/◌, ◌%◌, ℕ, suc, zero, Bool, true, false, List, [], ◌∷◌, ◌++◌}
-use Rattle.std.proofs.Common.{Option, Some, length, take, drop, get_or, refl, sym, subst, ap, ap₂, ◌∙◌, append_assoc, append-nil, arith}
-use Rattle.std.proofs.Common.{if◌then◌else◌, IsTrue, ◌||◌, Result, Ok, Err, OnErr}
+use Rattle.std.proofs.Common.{◌≡◌, ◌<◌, ◌≤◌, ◌+◌, ◌-◌, ℕ, suc, zero, Bool, true, false, List, [], ◌∷◌, ◌++◌}
+use Rattle.std.proofs.Common.{Option, length, take, drop, get_or, refl, sym, ap, ap₂, ◌∙◌, append_assoc, append-nil, arith}
+use Rattle.std.proofs.Common.{if◌then◌else◌, IsTrue, Result, Ok, Err, OnErr}
 use Rattle.std.proofs.lemmas.List.{get_or-take, length-append, length-take-le, length-drop, take_at, drop_at, take-append-le}
 use Rattle.std.proofs.Math.Seq.{take-add}
 use borrow.Rule.Slice.PartMut.{put_mid}
@@ -9,7 +9,7 @@ use Rattle.aes3_cell.specs.Ends.{Grew}
 use Rattle.aes3_cell.proofs.Growing.{grew-is, grew-join, grew-none}
 use Rattle.aes3_words.specs.declared.form.Words.{Words}
 use Rattle.aes3_words.specs.Forms.{is_within}
-use Rattle.aes3_words.specs.Lists.{from_block, most_left_out}
+use Rattle.aes3_words.specs.Lists.{from_block}
 use Rattle.aes3_words.specs.Told.{Begins, FailedBehind, ReadFirst}
 
 -- octets put behind the first n of a list

@@ -5,3 +5,4 @@ pub mod Writing
 pub mod ReadBack
 pub mod FirstOctets
 pub mod Parts
+pub mod TakenBack

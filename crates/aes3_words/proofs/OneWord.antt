@@ -1,6 +1,6 @@
 -- A word in a form.
-use Rattle.std.proofs.Common.{◌≡◌, ◌<◌, ◌+◌, ◌-◌, ◌*◌, ◌/◌, ◌%◌, ◌==◌, ℕ, suc, zero, Bool, true, false, List, [], ◌∷◌, ◌++◌}
-use Rattle.std.proofs.Common.{length, get_or, refl, sym, ap, ap₂, ◌∙◌, arith, nat_lt, lt-ltb, ltb-true, if◌then◌else◌, ◌&&◌}
+use Rattle.std.proofs.Common.{◌≡◌, ◌<◌, ◌+◌, ◌*◌, ◌/◌, ◌%◌, ◌==◌, ℕ, Bool, true, false, List, [], ◌∷◌, ◌++◌}
+use Rattle.std.proofs.Common.{length, refl, ap, ap₂, ◌∙◌, arith, nat_lt, lt-ltb, if◌then◌else◌, ◌&&◌}
 use Rattle.aes3_words.specs.declared.form.Words.{Words}
 use Rattle.aes3_words.specs.declared.form.Words.TheVariants.{Own, Alsa, Am824}
 use Rattle.aes3_words.specs.declared.form.Way.{Way}
@@ -50,11 +50,11 @@ pub coded-lt : (c a : ℕ) → a < 256 → with_code c a < 256
 coded-lt c a h = omega arith
 
 -- a word turned right and left again
-turned : (s t u : ℕ) → s < 256 → t < 256
+pub turned : (s t u : ℕ) → s < 256 → t < 256
     → (u % 16 * 16 + s / 16) % 16 * 16 + (s % 16 * 16 + t / 16) / 16 ≡ s
 turned s t u hs ht = omega arith
 
-turned-lt : (s t : ℕ) → s < 256 → t < 256 → s % 16 * 16 + t / 16 < 256
+pub turned-lt : (s t : ℕ) → s < 256 → t < 256 → s % 16 * 16 + t / 16 < 256
 turned-lt s t hs ht = omega arith
 
 pub am824-back : (p a b c d : ℕ) → a < 256 → b < 256 → c < 256 → d < 256

@@ -1,13 +1,13 @@
 -- Words that were written in a form, read again, and words whose codes are wrong.
-use Rattle.std.proofs.Common.{◌≡◌, ◌≢◌, ◌<◌, ◌≤◌, ◌+◌, ◌-◌, ◌*◌, ◌/◌, ◌%◌, ◌==◌, ℕ, suc, zero, inl, inr, Bool, true, false}
-use Rattle.std.proofs.Common.{List, [], ◌∷◌, ◌++◌, length, take, drop, get_or, refl, sym, subst, ap, ap₂, ◌∙◌, arith}
-use Rattle.std.proofs.Common.{append_assoc, take-append-drop, if◌then◌else◌, ◌||◌, true≢false}
+use Rattle.std.proofs.Common.{◌≡◌, ◌<◌, ◌+◌, ◌*◌, ◌/◌, ◌%◌, ◌==◌, ℕ, suc, zero, inl, inr, Bool, true, false}
+use Rattle.std.proofs.Common.{List, [], ◌∷◌, ◌++◌, length, take, drop, get_or, refl, sym, ap, ◌∙◌, arith}
+use Rattle.std.proofs.Common.{append_assoc, take-append-drop, if◌then◌else◌, ◌||◌}
 use Rattle.std.specs.Prelude.{◌⊎◌, ◌↔◌}
 use Rattle.std.proofs.lemmas.Bool.{eq-eqb, ne_eqb}
-use Rattle.std.proofs.lemmas.List.{length-append, length-take-le, length-drop}
+use Rattle.std.proofs.lemmas.List.{length-take-le, length-drop}
 use Rattle.aes3_words.specs.declared.form.Words.{Words}
 use Rattle.aes3_words.specs.declared.form.Words.TheVariants.{Own, Alsa, Am824}
-use Rattle.aes3_words.specs.Forms.{by_place, code, code_in, is_within, own_word, unwritten_word, with_code, without_code}
+use Rattle.aes3_words.specs.Forms.{code, code_in, is_within, own_word, with_code, without_code}
 use Rattle.aes3_words.specs.Forms.{written_word}
 use Rattle.aes3_words.specs.Lists.{each_word, from_block, most_left_out, next, own_of, up_to, written_of}
 use Rattle.aes3_words.specs.Told.{own_ending}

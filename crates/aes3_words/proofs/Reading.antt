@@ -1,8 +1,8 @@
 -- What a source of words tells of its octets.
-use Rattle.std.proofs.Common.{◌≡◌, ◌<◌, ◌≤◌, ◌+◌, ◌-◌, ◌*◌, ◌/◌, ◌%◌, ℕ, Bool, true, false, List, [], ◌∷◌, ◌++◌, Option}
+use Rattle.std.proofs.Common.{◌≡◌, ◌<◌, ◌≤◌, ◌+◌, ◌-◌, ◌*◌, ◌/◌, ◌%◌, ℕ, Bool, true, false, List, [], ◌++◌, Option}
 use Rattle.std.proofs.Common.{Some, None, length, take, drop, refl, sym, ap, ap₂, ◌∙◌, append_assoc, append-nil}
 use Rattle.std.proofs.Common.{take-append-drop, arith, if◌then◌else◌}
-use Rattle.std.proofs.lemmas.List.{length-append, length-take, length-take-le, length-drop, take_at, drop_at}
+use Rattle.std.proofs.lemmas.List.{length-append, length-take-le, length-drop, take_at, drop_at}
 use Rattle.std.proofs.lemmas.Slice.Eq.{bytes_eq-Decides}
 use Rattle.std.specs.Str.{bytes_eq}
 use Rattle.aes3_cell.specs.Ends.{Grew}
@@ -10,7 +10,7 @@ use Rattle.aes3_words.specs.declared.form.Words.{Words}
 use Rattle.aes3_words.specs.declared.form.Way.TheVariants.{Read}
 use Rattle.aes3_words.specs.Forms.{own_word}
 use Rattle.aes3_words.specs.Lists.{each_word, first_place, up_to}
-use Rattle.aes3_words.specs.Told.{own_ending, read_told, without}
+use Rattle.aes3_words.specs.Told.{ReadOn, own_ending, read_told, without}
 use Rattle.aes3_words.proofs.EachWord.{Fours, all-words, length-each, up-more}
 use Rattle.aes3_words.proofs.OneWord.{fours}
 
@@ -60,7 +60,7 @@ ending-at form p k front rest h =
     ∙ ap₂ (λ a b. up_to (own_word form) p a ++ b) (take_at front rest (length front) refl)
     (drop_at front rest (length front) refl)
 
-length-up : (f : ℕ → ℕ → ℕ → ℕ → ℕ → List ℕ) → Fours f → (p : ℕ) (v : List ℕ) → length (up_to f p v) ≡ length v
+pub length-up : (f : ℕ → ℕ → ℕ → ℕ → ℕ → List ℕ) → Fours f → (p : ℕ) (v : List ℕ) → length (up_to f p v) ≡ length v
 length-up f k p v =
     let r = length v % 4 in
     let q = first_place p (length v / 4) in
@@ -174,3 +174,23 @@ read-by a b c form form' p k q q' m m' held held' given given' left left'
           ∙ g.by zs (sym (ap (λ v. read_told form p k v a) h) ∙ y)
           ∙ ap (λ v. Some (zs ++ v)) (sym e);
     }
+
+-- nothing was read, or some octets
+pub read-none : {a b : Option (List ℕ)} (p k : ℕ) → p < 384 → k ≤ 3 → Grew a b [] → ReadOn a b p k p k
+read-none p k h s g = record {
+  octets = [];
+  read = g;
+  advanced = record { place = omega (arith, h, s); begun = omega (arith, s) };
+}
+
+pub read-some : {a b : Option (List ℕ)} (p k q m : ℕ) (x : List ℕ) → Grew a b x
+    → q ≡ (p + (k + length x) / 4) % 384 → m ≡ (k + length x) % 4 → ReadOn a b p k q m
+read-some p k q m x g e f = record { octets = x; read = g; advanced = record { place = e; begun = f } }
+
+pub read-where : (a b c : Option (List ℕ)) (p k q m q' m' : ℕ) → c ≡ b → q' ≡ q → m' ≡ m → ReadOn a b p k q m
+    → ReadOn a c p k q' m'
+read-where a b c p k q m q' m' e f h r = record {
+  octets = r.octets;
+  read = record { by = λ zs y. e ∙ r.read.by zs y };
+  advanced = record { place = f ∙ r.advanced.place; begun = h ∙ r.advanced.begun };
+}

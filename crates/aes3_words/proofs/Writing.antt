@@ -1,8 +1,8 @@
 -- What a sink of words tells of its octets.
-use Rattle.std.proofs.Common.{◌≡◌, ◌<◌, ◌≤◌, ◌+◌, ◌-◌, ◌*◌, ◌/◌, ◌%◌, ℕ, suc, zero, Bool, true, false, List, [], ◌∷◌, ◌++◌}
-use Rattle.std.proofs.Common.{Option, Some, None, length, take, drop, get_or, refl, sym, ap, ap₂, ◌∙◌, append_assoc}
-use Rattle.std.proofs.Common.{append-nil, take-append-drop, arith, if◌then◌else◌}
-use Rattle.std.proofs.lemmas.List.{length-append, length-take, length-take-le, length-drop, take_at, drop_at}
+use Rattle.std.proofs.Common.{◌≡◌, ◌<◌, ◌+◌, ◌*◌, ◌/◌, ◌%◌, ℕ, suc, zero, List, [], ◌∷◌, ◌++◌}
+use Rattle.std.proofs.Common.{Option, Some, None, Result, Ok, Err, IfOk, length, take, drop, get_or, refl, sym, ap, ap₂, ◌∙◌, append_assoc}
+use Rattle.std.proofs.Common.{append-nil, take-append-drop, arith}
+use Rattle.std.proofs.lemmas.List.{length-take-le, length-drop, take_at, drop_at}
 use Rattle.std.specs.Option.{option_map}
 use Rattle.aes3_cell.specs.Buffering.{followed_by}
 use Rattle.aes3_cell.specs.Ends.{Grew}
@@ -10,7 +10,7 @@ use Rattle.aes3_words.specs.declared.form.Words.{Words}
 use Rattle.aes3_words.specs.declared.form.Way.TheVariants.{Write}
 use Rattle.aes3_words.specs.Forms.{written_word}
 use Rattle.aes3_words.specs.Lists.{each_word, next, up_to}
-use Rattle.aes3_words.specs.Told.{taken_word, written_told}
+use Rattle.aes3_words.specs.Told.{passed_told, taken_word, written_told}
 use Rattle.aes3_words.proofs.EachWord.{each-cut, length-each, up-more}
 use Rattle.aes3_words.proofs.OneWord.{fours, taken-written}
 
@@ -88,3 +88,15 @@ same-told a b v w {f} {g} {p} {q} {s} {t} ef ep es e =
 
 pub followed-grew : {a b : Option (List ℕ)} {x : List ℕ} → b ≡ followed_by a x → Grew a b x
 followed-grew {x = x} e = record { by = λ zs h. e ∙ ap (λ v. followed_by v x) h }
+
+pub passed-all : (form : Words) (p : ℕ) (waiting begun : List ℕ) (taken passed : Option (List ℕ)) → waiting ≡ []
+    → passed ≡ taken
+    → passed_told form p waiting begun taken passed ≡ written_told form p waiting begun taken
+passed-all form p [] begun taken passed e h = ap (written_told form p [] begun) h
+passed-all form p (x ∷ waiting) begun taken passed e h = absurd cc
+
+pub passed-where : {A E : Type 0} (r : Result A E) (form : Words) (p : ℕ) (waiting begun : List ℕ)
+    (taken passed : Option (List ℕ)) → waiting ≡ [] → IfOk r (λ (u : A). passed ≡ taken)
+    → IfOk r (λ (u : A). passed_told form p waiting begun taken passed ≡ written_told form p waiting begun taken)
+passed-where (Ok u) form p waiting begun taken passed e h = passed-all form p waiting begun taken passed e h
+passed-where (Err x) form p waiting begun taken passed e h = tt

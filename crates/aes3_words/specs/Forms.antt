@@ -1,5 +1,5 @@
 -- The words of subframes in the forms of other programs: four octets each, with a code of the preamble.
-use Rattle.std.specs.Prelude.{ℕ, List, [], ◌∷◌, Bool, true, false, ◌+◌, ◌-◌, ◌*◌, ◌/◌, ◌%◌, ◌==◌, ◌||◌, if◌then◌else◌}
+use Rattle.std.specs.Prelude.{ℕ, List, [], ◌∷◌, Bool, false, ◌+◌, ◌-◌, ◌*◌, ◌/◌, ◌%◌, ◌==◌, ◌||◌, if◌then◌else◌}
 use Rattle.aes3_words.specs.declared.form.Words.{Words}
 use Rattle.aes3_words.specs.declared.form.Words.TheVariants.{Own, Alsa, Am824}
 use Rattle.aes3_words.specs.declared.form.Way.{Way}

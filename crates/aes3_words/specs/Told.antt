@@ -1,5 +1,5 @@
 -- What the source and the sink of words tell of their octets, by what the end behind them tells.
-use Rattle.std.specs.Prelude.{ℕ, List, [], ◌∷◌, ◌++◌, ◌≡◌, ◌+◌, ◌-◌, Bool, true, false, Option, Some, None, IsTrue, take}
+use Rattle.std.specs.Prelude.{ℕ, List, [], ◌∷◌, ◌++◌, ◌≡◌, ◌+◌, ◌-◌, ◌/◌, ◌%◌, Bool, Option, Some, None, IsTrue, take}
 use Rattle.std.specs.Prelude.{drop, length, nat_lt, ◌&&◌, if◌then◌else◌, option_and_then}
 use Rattle.std.specs.Option.{option_map}
 use Rattle.std.specs.Str.{bytes_eq}
@@ -38,6 +38,15 @@ abbrev pub written_told : Words → ℕ → List ℕ → List ℕ → Option (Li
 written_told form place waiting begun told =
     option_map (λ octets. up_to (taken_word form) place (octets ++ waiting) ++ begun) told
 
+-- what is told of octets that were passed on: while words wait, something else than of those that were taken
+abbrev pub other_than : Option (List ℕ) → Option (List ℕ)
+other_than (Some octets) = None
+other_than None = Some []
+
+abbrev pub passed_told : Words → ℕ → List ℕ → List ℕ → Option (List ℕ) → Option (List ℕ) → Option (List ℕ)
+passed_told form place [] begun taken passed = written_told form place [] begun passed
+passed_told form place (x ∷ waiting) begun taken passed = other_than (written_told form place (x ∷ waiting) begun taken)
+
 -- octets behind those that are left out: whatever follows them, and nothing does where the source is over, the first
 -- block is looked for no further
 pub record Begins (form : Words) (left_out first : List ℕ) (is_over : Bool) : Type 0 where
@@ -55,3 +64,15 @@ pub record FailedBehind (old new : Option (List ℕ)) (before after : ℕ) : Typ
   pub count : after ≡ before + 1
   pub octets : List ℕ
   pub read : Grew old new octets
+
+-- octets more, behind so many of the word at this place: the place of the word that is begun then, and how many of it
+-- have come
+pub record Advanced (octets old_place old_begun new_place new_begun : ℕ) : Type 0 where
+  pub place : new_place ≡ (old_place + (old_begun + octets) / 4) % 384
+  pub begun : new_begun ≡ (old_begun + octets) % 4
+
+-- the same of octets that were read
+pub record ReadOn (old new : Option (List ℕ)) (place begun place_new begun_new : ℕ) : Type 0 where
+  pub octets : List ℕ
+  pub read : Grew old new octets
+  pub advanced : Advanced (length octets) place begun place_new begun_new

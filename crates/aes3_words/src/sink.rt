@@ -2,8 +2,10 @@
 
 ghost use Rattle.std.specs.Prelude.{◌≡◌, ◌++◌, ◌+◌, ◌<◌, ◌≤◌, ◌^◌, ℕ, List, [], Option, length, min};
 ghost use Rattle.std.specs.Prelude.{take, IfOk, OnErr};
+ghost use Rattle.std.specs.Option.{is_some};
 ghost use Rattle.aes3_cell.specs.Buffering.{followed_by, held};
-ghost use Rattle.aes3_words.specs.Told.{written_told};
+ghost use Rattle.aes3_cell.specs.Ends.{Grew};
+ghost use Rattle.aes3_words.specs.Told.{Advanced, passed_told, written_told};
 ghost use Rattle.aes3_words.specs.declared.first.TheConstants.{HELD};
 ghost use Rattle.aes3_words.specs.declared.sink.TheConstants.{PIECE_LEN};
 
@@ -89,6 +91,7 @@ impl<T: Sink + Drop> WordSink<T> {
         ensures form { self.new.form ≡ self.old.form }
         ensures place { self.new.place ≡ self.old.place }
         ensures begun { take self.new.len self.new.begun ≡ take self.old.len self.old.begun }
+        ensures len { self.new.len ≡ self.old.len }
     {
         let piece = self.piece;
         while self.start < self.end {
@@ -128,6 +131,8 @@ impl<T: Sink + Drop> WordSink<T> {
             (held self.new.start self.new.end self.new.piece) (take self.new.len self.new.begun) told
             ≡ followed_by (written_told self.old.form self.old.place [] (take self.old.len self.old.begun) told)
             (take result buf.now) }
+        ensures form { self.new.form ≡ self.old.form }
+        ensures place { Advanced result self.old.place self.old.len self.new.place self.new.len }
     {
         let mut begun = self.begun;
         let mut piece = blank_piece();
@@ -150,18 +155,71 @@ impl<T: Sink + Drop> Sink for WordSink<T> {
     ghost taken = { λ s. written_told s.form s.place (held s.start s.end s.piece) (take s.len s.begun)
         (T.taken s.sink) };
 
-    ghost passed = { λ s. written_told s.form s.place [] (take s.len s.begun) (T.passed s.sink) };
+    ghost passed = { λ s. passed_told s.form s.place (held s.start s.end s.piece) (take s.len s.begun)
+        (T.taken s.sink) (T.passed s.sink) };
 
     ghost failed = { λ s. T.failed s.sink };
 
-    fn write(&mut self, buf: &[u8]) -> Result<usize, Fault> {
+    fn write(&mut self, buf: &[u8]) -> Result<usize, Fault>
+        requires room { T.failed self.old.sink + 1 < 2 ^ 64 }
+        ensures bound { IfOk result (λ n. n ≤ length buf.now) }
+        ensures some { IfOk result (λ n. 0 < length buf.now → 0 < n) }
+        ensures bytes { IfOk result (λ n. Grew (written_told self.old.form self.old.place
+            (held self.old.start self.old.end self.old.piece) (take self.old.len self.old.begun)
+            (T.taken self.old.sink))
+            (written_told self.new.form self.new.place
+            (held self.new.start self.new.end self.new.piece) (take self.new.len self.new.begun)
+            (T.taken self.new.sink)) (take n buf.now)) }
+        ensures count { IfOk result (λ _. T.failed self.new.sink ≡ T.failed self.old.sink) }
+        ensures err { OnErr result ((T.failed self.new.sink ≡ T.failed self.old.sink + 1)
+            × (written_told self.new.form self.new.place
+            (held self.new.start self.new.end self.new.piece) (take self.new.len self.new.begun)
+            (T.taken self.new.sink)
+            ≡ written_told self.old.form self.old.place
+            (held self.old.start self.old.end self.old.piece) (take self.old.len self.old.begun)
+            (T.taken self.old.sink))) }
+        ensures tells { is_some (written_told self.new.form self.new.place
+            (held self.new.start self.new.end self.new.piece) (take self.new.len self.new.begun)
+            (T.taken self.new.sink))
+            ≡ is_some (written_told self.old.form self.old.place
+            (held self.old.start self.old.end self.old.piece) (take self.old.len self.old.begun)
+            (T.taken self.old.sink)) }
+
+        // Each word has the place behind that of the one before it.
+        ensures place { IfOk result (λ n. Advanced n
+            self.old.place self.old.len self.new.place self.new.len) }
+        ensures form { self.new.form ≡ self.old.form }
+    {
         match self.pass_on() {
             Ok(()) => Ok(self.take(buf)),
             Err(fault) => Err(fault),
         }
     }
 
-    fn flush(&mut self) -> Result<(), Fault> {
+    fn flush(&mut self) -> Result<(), Fault>
+        requires room { T.failed self.old.sink + 1 < 2 ^ 64 }
+        ensures bytes { written_told self.new.form self.new.place
+            (held self.new.start self.new.end self.new.piece) (take self.new.len self.new.begun)
+            (T.taken self.new.sink)
+            ≡ written_told self.old.form self.old.place
+            (held self.old.start self.old.end self.old.piece) (take self.old.len self.old.begun)
+            (T.taken self.old.sink) }
+        ensures passed_on { IfOk result (λ _.
+            passed_told self.new.form self.new.place
+            (held self.new.start self.new.end self.new.piece) (take self.new.len self.new.begun)
+            (T.taken self.new.sink) (T.passed self.new.sink)
+            ≡ written_told self.new.form self.new.place
+            (held self.new.start self.new.end self.new.piece) (take self.new.len self.new.begun)
+            (T.taken self.new.sink)) }
+        ensures count { IfOk result (λ _. T.failed self.new.sink ≡ T.failed self.old.sink) }
+        ensures err { OnErr result (T.failed self.new.sink ≡ T.failed self.old.sink + 1) }
+
+        // It is no octet further, and nothing waits where it answers Ok.
+        ensures place { self.new.place ≡ self.old.place }
+        ensures len { self.new.len ≡ self.old.len }
+        ensures form { self.new.form ≡ self.old.form }
+        ensures none { IfOk result (λ _. held self.new.start self.new.end self.new.piece ≡ []) }
+    {
         match self.pass_on() {
             Ok(()) => self.sink.flush(),
             Err(fault) => Err(fault),

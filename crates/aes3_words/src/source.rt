@@ -5,7 +5,7 @@ ghost use Rattle.std.specs.Prelude.{true, false, min, IfOk, IsTrue, OnErr};
 ghost use Rattle.aes3_cell.specs.Ends.{Grew};
 ghost use Rattle.aes3_words.specs.Forms.{own_word};
 ghost use Rattle.aes3_words.specs.Lists.{each_word};
-ghost use Rattle.aes3_words.specs.Told.{read_told};
+ghost use Rattle.aes3_words.specs.Told.{ReadOn, read_told};
 ghost use Rattle.aes3_words.specs.declared.first.TheConstants.{HELD};
 
 use crate::first::{First, HELD};
@@ -170,6 +170,9 @@ impl<S: Source + Drop> WordSource<S> {
             ≡ read_told self.old.form self.old.place self.old.begun
             (take self.old.len self.old.held) (S.given self.old.source))) }
         ensures told { self.new.is_ended ≡ false }
+        ensures form { self.new.form ≡ self.old.form }
+        ensures place { ReadOn (S.given self.old.source) (S.given self.new.source)
+            self.old.place self.old.begun self.new.place self.new.begun }
     {
         let mut piece = blank_piece();
         let most = buf.len().min(READ_LEN);
@@ -194,7 +197,27 @@ impl<S: Source + Drop> Source for WordSource<S> {
 
     ghost failed = { λ s. S.failed s.source };
 
-    fn read(&mut self, buf: &mut [u8]) -> Result<usize, Fault> {
+    fn read(&mut self, buf: &mut [u8]) -> Result<usize, Fault>
+        requires room { S.failed self.old.source + 1 < 2 ^ 64 }
+        ensures bound { IfOk result (λ n. n ≤ length buf.new) }
+        ensures bytes { IfOk result (λ n. Grew
+            (read_told self.old.form self.old.place self.old.begun (take self.old.len self.old.held)
+            (S.given self.old.source))
+            (read_told self.new.form self.new.place self.new.begun (take self.new.len self.new.held)
+            (S.given self.new.source)) (take n buf.new)) }
+        ensures end { IfOk result (λ n. 0 < length buf.new → (n ≡ 0 ↔ IsTrue self.new.is_ended)) }
+        ensures count { IfOk result (λ _. S.failed self.new.source ≡ S.failed self.old.source) }
+        ensures err { OnErr result ((S.failed self.new.source ≡ S.failed self.old.source + 1)
+            × (read_told self.new.form self.new.place self.new.begun (take self.new.len self.new.held)
+            (S.given self.new.source)
+            ≡ read_told self.old.form self.old.place self.old.begun
+            (take self.old.len self.old.held) (S.given self.old.source))) }
+
+        // Each word has the place behind that of the one before it.
+        ensures place { ReadOn (S.given self.old.source) (S.given self.new.source)
+            self.old.place self.old.begun self.new.place self.new.begun }
+        ensures form { self.new.form ≡ self.old.form }
+    {
         if buf.is_empty() {
             return Ok(0);
         }

@@ -1,4 +1,4 @@
-use Rattle.std.proofs.Common.{◌≡◌, ◌<◌, ◌≤◌, ◌∙◌, [], length, take, ap, ap₂, arith}
+use Rattle.std.proofs.Common.{◌≡◌, ◌≤◌, ◌∙◌, length, take, ap, ap₂, arith}
 use Rattle.std.proofs.lemmas.List.{length-take-le}
 use Rattle.aes3_cell.proofs.Growing.{grew-join}
 use Rattle.aes3_words.proofs.FirstOctets.{failed-more, first-last, first-outside, first-over, first-within, next-first}

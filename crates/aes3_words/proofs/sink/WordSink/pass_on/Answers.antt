@@ -19,6 +19,7 @@ loop-self-preserved g c =
       same = same;
       quiet = c.in-Ok.ensures.count ∙ c.loop-self.invariant.quiet;
       form = c.loop-self.invariant.form;
+      len = c.loop-self.invariant.len;
       place = c.loop-self.invariant.place;
       begun = c.loop-self.invariant.begun;
     }

@@ -9,6 +9,7 @@ invariant-loop-self g l = record {
   same : l.self.piece ≡ l.fn.self.piece;
   quiet : g.T.Sink.failed l.self.sink ≡ g.T.Sink.failed l.fn.self.sink;
   form : l.self.form ≡ l.fn.self.form;
+  len : l.self.len ≡ l.fn.self.len;
   place : l.self.place ≡ l.fn.self.place;
   begun : take l.self.len l.self.begun ≡ take l.fn.self.len l.fn.self.begun;
 }

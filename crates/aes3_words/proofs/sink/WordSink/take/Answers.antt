@@ -1,5 +1,5 @@
-use Rattle.std.proofs.Common.{◌≡◌, ◌≤◌, ◌∙◌, ◌+◌, ◌-◌, ◌*◌, ◌/◌, ◌%◌, ◌++◌, length, take, drop, ap, refl, sym, arith}
-use Rattle.std.proofs.lemmas.List.{length-append, length-take-le, take-append-le, drop-append-le, take_at}
+use Rattle.std.proofs.Common.{◌≡◌, ◌∙◌, ◌+◌, ◌-◌, ◌*◌, ◌/◌, ◌%◌, ◌++◌, length, take, drop, ap, sym, arith}
+use Rattle.std.proofs.lemmas.List.{length-take-le, take-append-le}
 use Rattle.aes3_words.proofs.Parts.{cut-of}
 use Rattle.aes3_words.proofs.Writing.{taken-more, told-more}
 use Rattle.aes3_words.proofs.sink.WordSink.take.Goals as goal

@@ -1,4 +1,4 @@
-use Rattle.std.proofs.Common.{◌≡◌, ◌∙◌, [], take, ap, sym}
+use Rattle.std.proofs.Common.{◌∙◌, take, ap, sym}
 use Rattle.aes3_cell.specs.Buffering.{followed_by, held}
 use Rattle.aes3_words.specs.Told.{written_told}
 use Rattle.aes3_words.proofs.Writing.{followed-grew, same-told}
