@@ -321,7 +321,14 @@ fn details_of_status_lines(rt: HostRuntime) {
     assert!(rt; ends(rt.alloc(), Detail::Plain, &block, zeros));
     assert!(rt; ends(rt.alloc(), Detail::Place, &block, "00 at=24445\n"));
     assert!(rt; ends(rt.alloc(), Detail::Carried, &block, "00 v=1 u=2 at=24445\n"));
-    assert!(rt; ends(rt.alloc(), Detail::Names, &block, "00 original=not-indicated\n"));
+    assert!(rt;
+        ends(
+            rt.alloc(),
+            Detail::Names,
+            &block,
+            "00 original=not-indicated\n"
+        )
+    );
 }
 
 /// A rate for each use of channel status.
