@@ -11,7 +11,7 @@ from checks.expected import ROOT
 
 CALLS = """(blocks, statuses) => {
     const codec = page.codec, told = [];
-    const { status, fields, cells, buffer } = codec;
+    const { status, text, cells, buffer } = codec;
     const octets = (from, count) => [...codec.bytes.slice(from, from + count)];
     for (const words of blocks) {
         new Uint32Array(codec.view.buffer, codec.block, 384).set(words);
@@ -24,11 +24,13 @@ CALLS = """(blocks, statuses) => {
         }
     }
     for (const given of statuses) {
-        codec.bytes.fill(0, fields, fields + 64);
+        codec.bytes.fill(0, text, text + 64);
         codec.bytes.set(given, status);
-        told.push([codec.call("status_professional", BigInt(status), BigInt(fields)), octets(fields, 30)]);
-        codec.bytes.fill(0, fields, fields + 64);
-        told.push([codec.call("status_consumer", BigInt(status), BigInt(fields)), octets(fields, 33)]);
+        told.push([codec.call("status_professional", BigInt(status), BigInt(text)), octets(text, 30)]);
+        codec.bytes.fill(0, text, text + 64);
+        told.push([codec.call("status_consumer", BigInt(status), BigInt(text)), octets(text, 33)]);
+        const length = codec.call("status_text", BigInt(status), BigInt(text));
+        told.push([length, octets(text, length)]);
         told.push([codec.call("status_check_byte", BigInt(status)), codec.call("status_check_state", BigInt(status))]);
         codec.bytes.set(given.slice(0, 8), buffer);
         const word = codec.call("word_of_octets", BigInt(buffer));
@@ -51,7 +53,7 @@ def native_calls(library, blocks, statuses):
     library.aes3_word_of_text.restype = library.aes3_status_professional.restype = c.c_bool
     library.aes3_status_consumer.restype = c.c_bool
     library.aes3_status_check_byte.restype = library.aes3_status_check_state.restype = c.c_uint8
-    library.aes3_encode_block.restype = library.aes3_block_status.restype = c.c_uint32
+    library.aes3_encode_block.restype = library.aes3_block_status.restype = library.aes3_status_text.restype = c.c_uint32
     told = []
     for words in blocks:
         words = (c.c_uint32 * 384)(*words)
@@ -65,6 +67,9 @@ def native_calls(library, blocks, statuses):
         told.append([library.aes3_status_professional(status, fields), list(fields)[:30]])
         fields = (c.c_uint8 * 64)()
         told.append([library.aes3_status_consumer(status, fields), list(fields)[:33]])
+        text = (c.c_uint8 * 800)()
+        length = library.aes3_status_text(status, text)
+        told.append([length, list(text)[:length]])
         told.append([library.aes3_status_check_byte(status), library.aes3_status_check_state(status)])
         line, cells = (c.c_uint8 * 65)(), (c.c_uint64 * 1)()
         word = library.aes3_word_of_octets((c.c_uint8 * 8)(*given[:8]))

@@ -3,6 +3,9 @@
 export const BLOCK_CELLS = 24576;
 export const SUBFRAME_CELLS = 64;
 
+/* How many characters the text of a channel status has at most. */
+const STATUS_TEXT = 800;
+
 export class Codec {
     static async make(octets) {
         const { instance } = await WebAssembly.instantiate(octets, {});
@@ -20,7 +23,7 @@ export class Codec {
         };
         [this.lock, this.other] = [room(3104), room(3104)];
         [this.report, this.block, this.cells] = [room(1560), room(1536), room(3072)];
-        [this.status, this.fields, this.capture] = [room(24), room(64), room(80)];
+        [this.status, this.text, this.capture] = [room(24), room(STATUS_TEXT), room(80)];
         this.buffer = room(0);
         this.view = new DataView(memory);
         this.bytes = new Uint8Array(memory);
@@ -88,16 +91,11 @@ export class Codec {
         return this.bytes.slice(this.status, this.status + 24);
     }
 
-    /* The fields of a channel status as they lie in memory, whether it is professional, and its check byte's state. */
-    fieldsOf(status) {
+    /* A channel status as `aes3 show` prints it: its use and its fields, each with a space before it. */
+    textOf(status) {
         this.bytes.set(status, this.status);
-        const [from, to] = [BigInt(this.status), BigInt(this.fields)];
-        const professional = this.call("status_professional", from, to) !== 0;
-        if (!professional) {
-            this.call("status_consumer", from, to);
-        }
-        const check = this.call("status_check_state", from);
-        return { professional, check, bytes: this.bytes.slice(this.fields, this.fields + 64) };
+        const count = this.call("status_text", BigInt(this.status), BigInt(this.text));
+        return String.fromCharCode(...this.bytes.subarray(this.text, this.text + count));
     }
 
     /* The cells of a block as 3,072 octets, the earliest cell of each in bit 0; null where a word is not lawful. */

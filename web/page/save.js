@@ -3,7 +3,7 @@
 import { sampleOf } from "./tally.js";
 import { lineOf } from "./reports.js";
 import { durationOf } from "./rate.js";
-import { statusLine, statusOf } from "./status.js";
+import { statusLine } from "./status.js";
 import { cellCount, plain } from "./words.js";
 
 const FRAMES = 192;
@@ -61,7 +61,7 @@ export function* accountOf(codec, { cells, reports, tally }, { rate, summary, no
         yield `${changes}\n`;
         yield "channel status of the last whole block:\n";
         for (const channel of [1, 2]) {
-            yield `${statusLine(statusOf(codec, tally.statuses[channel - 1]), tally.blocks - 1, channel)}\n`;
+            yield `${statusLine(codec, tally.statuses[channel - 1], tally.blocks - 1, channel)}\n`;
         }
     }
     yield "lines of aes3 check:\n";
