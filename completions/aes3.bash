@@ -22,11 +22,12 @@ _aes3_due() {
 
 _aes3_setting() {
     case $typed in
+        use=*) _aes3_words use={consumer,professional} ;;
         payload=*) _aes3_words payload={pcm,other} ;;
         emphasis=*) _aes3_words emphasis={not-indicated,none,50/15,j17} ;;
         unlocked=*) _aes3_words unlocked={no,yes} ;;
-        rate=*) _aes3_words rate={not-indicated,44100,48000,32000,22050,24000,88200,96000,176400,192000} ;;
-        mode=*) _aes3_words mode={not-indicated,stereophonic,single,two-channel,primary-secondary,0,1,2,3} ;;
+        rate=*) _aes3_words rate={not-indicated,44100,48000,32000,22050,24000,88200,96000,176400,192000,768000} ;;
+        mode=*) _aes3_words mode={not-indicated,stereophonic,single,two-channel,primary-secondary,vector-to-byte-3,0,1,2,3} ;;
         user=*) _aes3_words user={not-indicated,block192,user} ;;
         aux=*) _aes3_words aux={undefined,coordination,audio,user} ;;
         word=*) _aes3_words word={not-indicated,16,18,19,20,17,22,23,24,21} ;;
@@ -37,15 +38,15 @@ _aes3_setting() {
         unreliable=*) _aes3_words unreliable={0000,1000,0100,1100,0010,1010,0110,1110,0001,1001,0101,1101,0011,1011,0111,1111} ;;
         b22low=*) _aes3_words b22low={0,1,2,3,4,5,6,7,8,9,10,11,12,13,14,15} ;;
         copyright=*) _aes3_words copyright={asserted,not-asserted} ;;
-        category=*) _aes3_words category={general,cd,dat} ;;
+        category=*) _aes3_words category={general,cd,dat,pcm-coder,dab-japan,synthesizer,adc,solid-state-recorder,non-iec908-cd,video-recorder,dab-europe,microphone,mixer,adc-copyright,dvd,rate-converter,magnetic-disc,sampler,iec62105,sound-processor,experimental,dcc,software-delivery,mini-disc,dab-usa,other-adc,other-adc-copyright,other-solid-state,other-laser-optical,other-converter,other-magnetic,other-broadcast,other-musical} ;;
         generation=*) _aes3_words generation={0,1} ;;
         source=*) _aes3_words source={not-specified,1,2,3,4,5,6,7,8,9,10,11,12,13,14,15} ;;
         number=*) _aes3_words number={not-specified,1,2,3,4,5,6,7,8,9,10,11,12,13,14,15} ;;
         accuracy=*) _aes3_words accuracy={level2,level1,level3} ;;
         b3high=*) _aes3_words b3high={0,1,2,3} ;;
         greatest=*) _aes3_words greatest={20,24} ;;
-        original=*) _aes3_words original={0,1,2,3,4,5,6,7,8,9,10,11,12,13,14,15} ;;
-        *) compopt -o nospace; _aes3_words payload= emphasis= unlocked= rate= mode= user= aux= word= b2high= b3= b4= b5= unreliable= b22low= copyright= category= generation= source= number= accuracy= b3high= greatest= original= ;;
+        original=*) _aes3_words original={0,1,2,3,4,5,6,7,8,9,10,11,12,13,14,15,not-indicated,192000,12000,176400,96000,8000,88200,16000,24000,11025,22050,32000,48000,44100} ;;
+        *) compopt -o nospace; _aes3_words use= payload= emphasis= unlocked= rate= mode= user= aux= word= b2high= b3= b4= b5= unreliable= b22low= copyright= category= generation= source= number= accuracy= b3high= greatest= original= ;;
     esac
 }
 
@@ -67,9 +68,10 @@ _aes3() {
     case ${words[-1]} in
         --set1 | --set2) _aes3_setting; return ;;
         --valid1 | --valid2) _aes3_words 0 1; return ;;
+        --words) _aes3_words own alsa am824; return ;;
         --fill) _aes3_words zero hold; return ;;
         --every | --every-seconds | --rate | --status1 | --status2) return ;;
-        --explain) _aes3_words 1 2 3 4 5 6 7 8 9 10 11; return ;;
+        --explain) _aes3_words 1 2 3 4 5 6 7 8 9 10 11 12; return ;;
     esac
     [ -z "$option" ] || return
     if [ "$COMP_CWORD" = 1 ]; then
@@ -83,8 +85,8 @@ _aes3() {
         decode | normal | check | watch | show | scan | rewrite | to-pcm | from-pcm | to-bits) [[ $typed == -* ]] || { compopt -o default; return; } ;;
     esac
     case ${COMP_WORDS[1]} in
-        encode) _aes3_words --packed-out --lsb-first --help ;;
-        decode) _aes3_words --packed-in --raw-in --lsb-first --help ;;
+        encode) _aes3_words --packed-out --lsb-first --words --help ;;
+        decode) _aes3_words --packed-in --raw-in --lsb-first --words --help ;;
         normal) _aes3_words --packed-in --raw-in --packed-out --lsb-first --help ;;
         check) _aes3_words --packed-in --raw-in --lsb-first --faults --gaps --help ;;
         watch) _aes3_words --packed-in --raw-in --lsb-first --json --rate --every --every-seconds --help ;;
@@ -93,7 +95,7 @@ _aes3() {
         cut) _aes3_words --packed-in --raw-in --packed-out --lsb-first --help ;;
         rewrite) _aes3_words --packed-in --raw-in --packed-out --lsb-first --status1 --status2 --set1 --set2 --mend-check --valid1 --valid2 --clear-user1 --clear-user2 --help ;;
         to-pcm) _aes3_words --packed-in --raw-in --lsb-first --valid --fill --help ;;
-        from-pcm) _aes3_words --status1 --status2 --set1 --set2 --mend-check --exact --help ;;
+        from-pcm) _aes3_words --status1 --status2 --set1 --set2 --mend-check --exact --words --help ;;
         to-bits) _aes3_words --packed-in --raw-in --lsb-first --help ;;
     esac
 }

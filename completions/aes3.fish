@@ -1,6 +1,8 @@
 # Completion of aes3 in fish. Made by bin/make-manual from what the program says of itself.
 function __aes3_setting
     switch (string replace -r -- '^--[^=]*=' '' (commandline -ct))
+        case 'use=*'
+            printf 'use=%s\n' consumer professional
         case 'payload=*'
             printf 'payload=%s\n' pcm other
         case 'emphasis=*'
@@ -8,9 +10,9 @@ function __aes3_setting
         case 'unlocked=*'
             printf 'unlocked=%s\n' no yes
         case 'rate=*'
-            printf 'rate=%s\n' not-indicated 44100 48000 32000 22050 24000 88200 96000 176400 192000
+            printf 'rate=%s\n' not-indicated 44100 48000 32000 22050 24000 88200 96000 176400 192000 768000
         case 'mode=*'
-            printf 'mode=%s\n' not-indicated stereophonic single two-channel primary-secondary 0 1 2 3
+            printf 'mode=%s\n' not-indicated stereophonic single two-channel primary-secondary vector-to-byte-3 0 1 2 3
         case 'user=*'
             printf 'user=%s\n' not-indicated block192 user
         case 'aux=*'
@@ -32,7 +34,7 @@ function __aes3_setting
         case 'copyright=*'
             printf 'copyright=%s\n' asserted not-asserted
         case 'category=*'
-            printf 'category=%s\n' general cd dat
+            printf 'category=%s\n' general cd dat pcm-coder dab-japan synthesizer adc solid-state-recorder non-iec908-cd video-recorder dab-europe microphone mixer adc-copyright dvd rate-converter magnetic-disc sampler iec62105 sound-processor experimental dcc software-delivery mini-disc dab-usa other-adc other-adc-copyright other-solid-state other-laser-optical other-converter other-magnetic other-broadcast other-musical
         case 'generation=*'
             printf 'generation=%s\n' 0 1
         case 'source=*'
@@ -46,15 +48,15 @@ function __aes3_setting
         case 'greatest=*'
             printf 'greatest=%s\n' 20 24
         case 'original=*'
-            printf 'original=%s\n' 0 1 2 3 4 5 6 7 8 9 10 11 12 13 14 15
+            printf 'original=%s\n' 0 1 2 3 4 5 6 7 8 9 10 11 12 13 14 15 not-indicated 192000 12000 176400 96000 8000 88200 16000 24000 11025 22050 32000 48000 44100
         case '*'
-            printf '%s=\n' payload emphasis unlocked rate mode user aux word b2high b3 b4 b5 unreliable b22low copyright category generation source number accuracy b3high greatest original
+            printf '%s=\n' use payload emphasis unlocked rate mode user aux word b2high b3 b4 b5 unreliable b22low copyright category generation source number accuracy b3high greatest original
     end
 end
 complete -c aes3 -f
 complete -c aes3 -n __fish_use_subcommand -s h -l help -d 'Print help'
 complete -c aes3 -n __fish_use_subcommand -s V -l version -d 'Print version'
-complete -c aes3 -n __fish_use_subcommand -l explain -x -a '1 2 3 4 5 6 7 8 9 10 11' -d 'Print what the refusals mean, or the one of this NUMBER, and what to do'
+complete -c aes3 -n __fish_use_subcommand -l explain -x -a '1 2 3 4 5 6 7 8 9 10 11 12' -d 'Print what the refusals mean, or the one of this NUMBER, and what to do'
 complete -c aes3 -n __fish_use_subcommand -a encode -d 'Write the cells of a block file'
 complete -c aes3 -n __fish_use_subcommand -a decode -d 'Write the whole blocks as a block file'
 complete -c aes3 -n __fish_use_subcommand -a normal -d 'Write the whole blocks again, in the normal polarity'
@@ -69,11 +71,13 @@ complete -c aes3 -n __fish_use_subcommand -a from-pcm -d 'Write a block file of 
 complete -c aes3 -n __fish_use_subcommand -a to-bits -d 'Write the user, validity or status bits of a channel'
 complete -c aes3 -n '__fish_seen_subcommand_from encode' -l packed-out -d 'Write packed cells, eight an octet'
 complete -c aes3 -n '__fish_seen_subcommand_from encode' -l lsb-first -d 'Packed cells have the first of eight in the lowest bit'
+complete -c aes3 -n '__fish_seen_subcommand_from encode' -l words -x -a 'own alsa am824' -d 'The words of the block file are ours, ALSA'\''s or those of AM824'
 complete -c aes3 -n '__fish_seen_subcommand_from encode' -l help -s h -d 'Print help'
 complete -c aes3 -n "__fish_seen_subcommand_from decode; and not string match -q -- '-*' (commandline -ct)" -F
 complete -c aes3 -n '__fish_seen_subcommand_from decode' -l packed-in -d 'Read packed cells, eight an octet'
 complete -c aes3 -n '__fish_seen_subcommand_from decode' -l raw-in -d 'Read packed cells with no last octet that counts'
 complete -c aes3 -n '__fish_seen_subcommand_from decode' -l lsb-first -d 'Packed cells have the first of eight in the lowest bit'
+complete -c aes3 -n '__fish_seen_subcommand_from decode' -l words -x -a 'own alsa am824' -d 'The words of the block file are ours, ALSA'\''s or those of AM824'
 complete -c aes3 -n '__fish_seen_subcommand_from decode' -l help -s h -d 'Print help'
 complete -c aes3 -n "__fish_seen_subcommand_from normal; and not string match -q -- '-*' (commandline -ct)" -F
 complete -c aes3 -n '__fish_seen_subcommand_from normal' -l packed-in -d 'Read packed cells, eight an octet'
@@ -145,6 +149,7 @@ complete -c aes3 -n '__fish_seen_subcommand_from from-pcm' -l set1 -x -a '(__aes
 complete -c aes3 -n '__fish_seen_subcommand_from from-pcm' -l set2 -x -a '(__aes3_setting)' -d 'A field of channel 2 as `show` prints it; may be repeated'
 complete -c aes3 -n '__fish_seen_subcommand_from from-pcm' -l mend-check -d 'Write the check byte that professional status asks for'
 complete -c aes3 -n '__fish_seen_subcommand_from from-pcm' -l exact -d 'Refuse samples of more than 24 bits'
+complete -c aes3 -n '__fish_seen_subcommand_from from-pcm' -l words -x -a 'own alsa am824' -d 'The words of the block file are ours, ALSA'\''s or those of AM824'
 complete -c aes3 -n '__fish_seen_subcommand_from from-pcm' -l help -s h -d 'Print help'
 complete -c aes3 -n '__fish_seen_subcommand_from to-bits; and not __fish_seen_subcommand_from user validity status' -a 'user validity status'
 complete -c aes3 -n '__fish_seen_subcommand_from to-bits; and __fish_seen_subcommand_from user validity status; and not __fish_seen_subcommand_from 1 2' -a '1 2'

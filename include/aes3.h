@@ -155,6 +155,61 @@ void aes3_lock_block(const aes3_lock *lock, uint32_t words[384]);
 /* Puts what the end of the cells decides, or AES3_NONE, into *report. The lock stays as it was. */
 void aes3_lock_finish(const aes3_lock *lock, aes3_report *report);
 
+/* ---- The account: the cells of a lock that lie in no whole block ---- */
+
+/*
+ * What has been told of a lock's cells, by its reports and the gaps between them, in memory of its caller. It may be
+ * copied by assignment.
+ */
+typedef struct aes3_account {
+    uint64_t state[2];
+} aes3_account;
+AES3_SIZE(aes3_account, 16);
+
+/*
+ * A gap: cells in a row that lie in no whole block, as `aes3 check --gaps` tells it. Where more are in a row, gaps of
+ * 24,576 cells are told one behind the other, and one of those that are left.
+ */
+typedef struct aes3_gap {
+    uint64_t at;    /* place of its first cell, counted from the lock's first */
+    uint64_t cells; /* how many, 1 to 24,576 */
+    uint8_t counts; /* 1 where it counts among the faults of `aes3 check --gaps`; 0 for fewer than 24,576 cells before
+                       the first or behind the last whole block, where the cells are cut */
+} aes3_gap;
+AES3_SIZE(aes3_gap, 24);
+
+/* Makes an account of which nothing is told, for a lock that has seen no cell. */
+void aes3_account_init(aes3_account *account);
+
+/*
+ * Puts the next gap before a report of the lock into *gap and answers true; or, where none is left, takes the report
+ * for told, leaves *gap as it was and answers false. Each report goes here in turn, until false is answered, and is
+ * told then; AES3_NONE gives false and changes nothing. The report needs no words.
+ *
+ *     do {
+ *         at += aes3_lock_take_cells(&lock, words, count, at, &report);
+ *         while (aes3_account_before(&account, &report, &gap))
+ *             ...  the gap
+ *         ...      the report
+ *         while (aes3_account_passed(&account, aes3_lock_seen(&lock), &gap))
+ *             ...  the gap
+ *     } while (report.kind != AES3_NONE);
+ *
+ * and at the end aes3_lock_finish, aes3_account_before and aes3_account_end likewise. All gaps and reports, in this order,
+ * are then the lines of `aes3 check --gaps`: each cell lies in one whole block or in one gap.
+ */
+bool aes3_account_before(aes3_account *account, const aes3_report *report, aes3_gap *gap);
+
+/*
+ * Where the lock has seen `seen` cells, and each report was told, puts the next gap that stands whatever cells follow and
+ * answers true: one of 24,576 cells with as many cells behind it. Answers false where there is none yet, and leaves *gap
+ * as it was. So a line that is dead is told while it is. Who doesn't ask is told these gaps later, in the same order.
+ */
+bool aes3_account_passed(aes3_account *account, uint64_t seen, aes3_gap *gap);
+
+/* The same at the end of the `seen` cells: puts the next of all gaps that are left. */
+bool aes3_account_end(aes3_account *account, uint64_t seen, aes3_gap *gap);
+
 /* ---- Blocks ---- */
 
 /*

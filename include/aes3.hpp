@@ -8,6 +8,7 @@
 namespace aes3 {
 
 using report = aes3_report;
+using gap = aes3_gap;
 using words = uint32_t[AES3_BLOCK_WORDS];  // a block
 using cells = uint64_t[AES3_BLOCK_WORDS];  // its cells
 using samples = int32_t[AES3_BLOCK_WORDS]; // its samples, channel 1 and channel 2 of each frame
@@ -39,6 +40,27 @@ class lock {
     void block(words &to) const { aes3_lock_block(&state, to); }
     // Tells the report that the end of the cells decides, if it decides one.
     template <class Tell> void finish(Tell &&tell) const;
+};
+
+// Tells the gaps between whole blocks, as `aes3 check --gaps` does, by tell(const gap &): those before each report that the lock
+// tells, those that stand whatever follows the cells that it has seen, and at the end of the cells all that are left.
+class account {
+    aes3_account state;
+
+  public:
+    account() { aes3_account_init(&state); }
+    template <class Tell> void before(const report &told, Tell &&tell) {
+        for (gap it; aes3_account_before(&state, &told, &it);)
+            tell(it);
+    }
+    template <class Tell> void passed(uint64_t seen, Tell &&tell) {
+        for (gap it; aes3_account_passed(&state, seen, &it);)
+            tell(it);
+    }
+    template <class Tell> void end(uint64_t seen, Tell &&tell) {
+        for (gap it; aes3_account_end(&state, seen, &it);)
+            tell(it);
+    }
 };
 
 // Of a block, and of its channel 1 or 2. Each answers 384, or the number of the first word that is not lawful.

@@ -3,7 +3,7 @@
 
 Each case (40 where no number is given) is some blocks of the speech with V and U bits turned, as cells that are then turned, lost, put in
 and cut. Of these the sums of `watch --every` are compared with the lines of `check --gaps`; `to-bits`, `show --more`, `to-pcm --valid`,
-`to-pcm --fill` and `rewrite` with the block file of `decode`; `show --names` with the codes of alsa/asoundef.h; and `--lsb-first` with octets that are packed here. The last line is `N passed, M failed`.
+`to-pcm --fill` and `rewrite` with the block file of `decode`; `show --names` with the codes of alsa/asoundef.h, and what it prints with what `rewrite` sets by it; and `--lsb-first` with octets that are packed here. The last line is `N passed, M failed`.
 """
 
 import os
@@ -23,6 +23,8 @@ CATEGORIES = {
     0x06: "adc", 0x06 | 0x60: "other-adc", 0x16: "adc-copyright", 0x16 | 0x60: "other-adc-copyright", 0x08: "solid-state-recorder",
     0x08 | 0x70: "other-solid-state", 0x40: "experimental",
 }  # fmt: skip
+# The fields of a line that can't be set by name.
+UNSET = ("origin", "destination", "local", "time", "check", "rest")
 ORIGINALS = "not-indicated 192000 12000 176400 - 96000 8000 88200 16000 24000 11025 22050 32000 48000 - 44100".split()
 CAUSES = ("preamble", "biphase", "unclosed")
 ROOT = os.path.dirname(os.path.dirname(os.path.realpath(__file__)))
@@ -139,6 +141,12 @@ def named(status):
     return [f"{name}={word}" for name, word in found.items() if word]
 
 
+def settings(line):
+    """What `show --names` prints of a status, as `rewrite` takes it."""
+    fields = [it for it in line[3:] if it.partition("=")[0] not in UNSET]
+    return [word for it in (f"use={line[2]}", *fields) for word in ("--set1", it)]
+
+
 def judged(program, cells, every, statuses):
     """Each comparison by its name, and whether it holds."""
     words = words_of(run(program, ["decode"], cells)[1])
@@ -160,6 +168,10 @@ def judged(program, cells, every, statuses):
     plain = told(program, ["show"], set_anew)
     behind = [named(status) for status in statuses] * (len(plain) // 2)
     yield "show --names", told(program, ["show", "--names"], set_anew) == [line + more for line, more in zip(plain, behind)]
+    lines = told(program, ["show", "--names"], set_anew)[:1]
+    typed = [["rewrite", "--status1", statuses[1].hex(), *settings(line)] for line in lines]
+    again = [told(program, ["show", "--names"], run(program, it, cells)[1])[0] for it in typed]
+    yield "rewrite by what show prints", list(map(settings, again)) == list(map(settings, lines))
     samples = b"".join((0 if word >> 28 & 1 else (word >> 4 & 0xFFFFFF) << 8).to_bytes(4, "little") for word in words)
     yield "to-pcm --valid", run(program, ["to-pcm", "--valid"], cells)[1] == samples
     for fill in ("zero", "hold"):

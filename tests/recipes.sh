@@ -43,6 +43,18 @@ blocks() { repeated "$1" "$work/zero"; }
 # So many zero bytes: words of a block file whose payload is 0.
 zeros() { head -c "$1" /dev/zero; }
 
+# N zero blocks as words in another form, of which those with Z, with X and with Y have these octets.
+zero_words() {
+    # shellcheck disable=SC2086
+    { octets $2; octets $4; } >"$work/first_words"
+    # shellcheck disable=SC2086
+    { octets $3; octets $4; } >"$work/other_words"
+    { cat "$work/first_words"; repeated 191 "$work/other_words"; } >"$work/words"
+    repeated "$1" "$work/words"
+}
+alsa_words() { zero_words "$1" '08 00 00 00' '02 00 00 00' '04 00 00 00'; }
+am824_words() { zero_words "$1" '30 00 00 00' '10 00 00 00' '00 00 00 00'; }
+
 # The bytes that the words name in hexadecimal digits.
 octets() {
     for octet; do

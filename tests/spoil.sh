@@ -125,6 +125,8 @@ found "marked at 0 before 0 wrong 1${lf}whole at 24576 before 1${lf}whole at 491
 found "marked at 0 before 0 wrong 2${lf}whole at 24576 before 0${lf}whole at 49152 before 0$lf" --parity 128 --parity 24512
 found "whole at 0 before 0${lf}fault at 24576 cell 30002 biphase${lf}whole at 49151 before 0$lf" --drop 30000
 found "whole at 0 before 0${lf}fault at 24576 cell 30002 biphase${lf}whole at 49153 before 0$lf" --double 30000
+found "whole at 0 before 0${lf}whole at 24577 before 0${lf}whole at 49153 before 0$lf" --double 24578
+found "whole at 0 before 0${lf}whole at 49153 before 0$lf" --double 24579
 found "whole at 0 before 0${lf}whole at 24576 before 0${lf}whole at 49152 before 0$lf" --check-byte 24576
 found "fault at 0 cell 24000 preamble${lf}fault at 24576 cell 48000 preamble${lf}fault at 49152 cell 72000 preamble$lf" --every 24000:cell
 with_status 1 850200000000000000000000000000000000000000000000 <zero >status.txt

@@ -137,10 +137,13 @@ aes3: byte 0 is neither cell nor separator (line 1, column 1): these look like s
     at_terminal "a session of sigrok" "aes3: refused 1 at 0
 aes3: byte 0 is neither cell nor separator (line 1, column 1): a session of sigrok begins so: \`sigrok-cli -i FILE -O binary | aes3-cells\` makes cells of it" \
         "$program check < '$folder/session'"
-    printf 'RIFF1234' > "$folder/wave"
-    at_terminal "a WAV file taken as samples" \
-        "aes3: this is a WAV file, whose head was taken as samples: \`sox FILE -t s32 - | aes3 from-pcm\` leaves it out" \
+    printf 'RIFF1234WAVEfmt ' > "$folder/wave"
+    at_terminal "a WAV file as samples" "aes3: refused 12 at 0
+aes3: the samples begin with the header of a WAV file: \`sox FILE -t s32 - | aes3 from-pcm\` takes its samples" \
         "$program from-pcm < '$folder/wave' > '$folder/output'"
+    at_terminal "a WAV file as cells" "aes3: refused 1 at 0
+aes3: byte 0 is neither cell nor separator (line 1, column 1): this is a WAV file: \`sox FILE -t s32 - | aes3 from-pcm\` takes its samples" \
+        "$program check < '$folder/wave'"
     if command -v perl > /dev/null; then
         # It shows where runs of more than three cells stand in the first octets, as they do in these.
         "$program" encode --packed-out < "$root/examples/speech.block" > "$folder/speech"

@@ -334,6 +334,42 @@ static void captures(void) {
     WANT(aes3_capture_cells(octets, 0, 1, 0, 0, packed, 1, &found) && found.samples == 0 && found.cells == 0);
 }
 
+/* The gap that was put. */
+static int is_gap(const aes3_gap *gap, uint64_t at, uint64_t cells, uint8_t counts) {
+    return gap->at == at && gap->cells == cells && gap->counts == counts;
+}
+
+static void accounts(void) {
+    const uint64_t block = AES3_BLOCK_CELLS;
+    static aes3_report report;
+    aes3_account account, copy;
+    aes3_gap gap = {1, 2, 3};
+    aes3_account_init(&account);
+    report.kind = AES3_NONE;
+    WANT(!aes3_account_before(&account, &report, &gap));
+    WANT(!aes3_account_passed(&account, 2 * block - 1, &gap) && is_gap(&gap, 1, 2, 3));
+    WANT(aes3_account_passed(&account, 2 * block, &gap) && is_gap(&gap, 0, block, 1));
+    WANT(!aes3_account_passed(&account, 2 * block, &gap));
+    copy = account;
+    /* A fault has only gaps of a block's length before it, a whole block all. */
+    report.kind = AES3_FAULT;
+    report.at = 2 * block + 9;
+    WANT(aes3_account_before(&account, &report, &gap) && is_gap(&gap, block, block, 1));
+    WANT(!aes3_account_before(&account, &report, &gap));
+    report.kind = AES3_WHOLE;
+    report.at = 2 * block + 20;
+    WANT(aes3_account_before(&account, &report, &gap) && is_gap(&gap, 2 * block, 20, 0));
+    WANT(!aes3_account_before(&account, &report, &gap));
+    report.at = 3 * block + 27;
+    WANT(aes3_account_before(&account, &report, &gap) && is_gap(&gap, 3 * block + 20, 7, 1));
+    WANT(!aes3_account_before(&account, &report, &gap) && is_gap(&gap, 3 * block + 20, 7, 1));
+    WANT(!aes3_account_end(&account, 4 * block + 27, &gap));
+    /* The copy goes on by itself. */
+    WANT(aes3_account_end(&copy, 2 * block + 5, &gap) && is_gap(&gap, block, block, 1));
+    WANT(aes3_account_end(&copy, 2 * block + 5, &gap) && is_gap(&gap, 2 * block, 5, 0));
+    WANT(!aes3_account_end(&copy, 2 * block + 5, &gap));
+}
+
 int main(void) {
     WANT(aes3_version() == AES3_VERSION_NUMBER);
     statuses();
@@ -349,6 +385,7 @@ int main(void) {
     locks();
     octets();
     many_words();
+    accounts();
     captures();
     if (!failed)
         puts("each call answers as it should");

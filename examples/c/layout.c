@@ -155,11 +155,40 @@ static void reports(void) {
     WANT(memcmp(&told, wanted, sizeof told) == 0);
 }
 
+/* The gap of seven cells between two whole blocks, octet by octet, and that of a cell behind them. */
+static void gaps(void) {
+    static aes3_account account;
+    static union {
+        aes3_gap gap;
+        unsigned char bytes[sizeof(aes3_gap) + 8];
+    } put, due;
+    const uint64_t at = 100000 + AES3_BLOCK_CELLS, cells = 7, early = 100000;
+    const uint8_t counts[] = {0, 1};
+    aes3_account_init(&account);
+    told.report.kind = AES3_WHOLE;
+    told.report.at = early;
+    while (aes3_account_before(&account, &told.report, &put.gap)) {
+    }
+    memset(&put, 0xAA, sizeof put);
+    memset(&due, 0xAA, sizeof due);
+    told.report.at = at + cells;
+    WANT(aes3_account_before(&account, &told.report, &put.gap));
+    memcpy(&due.gap.at, &at, sizeof at), memcpy(&due.gap.cells, &cells, sizeof cells);
+    memcpy(&due.gap.counts, &counts[1], sizeof counts[1]);
+    WANT(memcmp(&put, &due, sizeof put) == 0);
+    WANT(!aes3_account_before(&account, &told.report, &put.gap));
+    WANT(memcmp(&put, &due, sizeof put) == 0);
+    WANT(aes3_account_end(&account, at + cells + AES3_BLOCK_CELLS + 1, &put.gap));
+    WANT(put.gap.at == at + cells + AES3_BLOCK_CELLS && put.gap.cells == 1 && put.gap.counts == counts[0]);
+}
+
 int main(void) {
     WANT(sizeof(aes3_lock) == 3104 && sizeof(aes3_report) == 1560);
+    WANT(sizeof(aes3_account) == 16 && sizeof(aes3_gap) == 24);
     WANT(sizeof(aes3_professional) == 32 && sizeof(aes3_consumer) == 33 && sizeof(aes3_capture) == 80);
     statuses();
     reports();
+    gaps();
     if (!failed)
         puts("each field stands where the header has it");
     return failed;

@@ -13,6 +13,8 @@ static ucontext_t back, there;
 
 static aes3_lock lock;
 static aes3_report report;
+static aes3_account account;
+static aes3_gap gap;
 static aes3_professional professional;
 static aes3_consumer consumer;
 static uint32_t words[AES3_BLOCK_WORDS];
@@ -33,6 +35,10 @@ static void take_cells(void) { aes3_lock_take_cells(&lock, line_cells, AES3_BLOC
 static void words_of_octets(void) { aes3_words_of_octets(line_octets, sizeof line_octets, line_cells, AES3_BLOCK_WORDS); }
 static void lock_block(void) { aes3_lock_block(&lock, words); }
 static void finish(void) { aes3_lock_finish(&lock, &report); }
+static void account_init(void) { aes3_account_init(&account); }
+static void account_before(void) { aes3_account_before(&account, &report, &gap); }
+static void account_passed(void) { aes3_account_passed(&account, 100000, &gap); }
+static void account_end(void) { aes3_account_end(&account, 100000, &gap); }
 static void encode_block(void) { aes3_encode_block(words, 0, cells); }
 static void block_status(void) { aes3_block_status(words, 1, status); }
 static void block_validity(void) { aes3_block_validity(words, 1, status); }
@@ -91,6 +97,10 @@ int main(void) {
     failed |= tell("aes3_lock_push, whole", end_block, 8192);
     failed |= report.kind != AES3_WHOLE;
     failed |= tell("aes3_lock_seen", seen, 256);
+    failed |= tell("aes3_account_init", account_init, 256);
+    failed |= tell("aes3_account_before", account_before, 256);
+    failed |= tell("aes3_account_passed", account_passed, 256);
+    failed |= tell("aes3_account_end", account_end, 256);
     for (int i = 0; i < AES3_BLOCK_WORDS; i++)
         aes3_octets_of_word(cells[i], line_octets + 8 * i);
     line_octets[8 * AES3_BLOCK_WORDS] = line_octets[0];

@@ -39,6 +39,15 @@ for name in $inputs; do
     echo $? >>$name.want
 done
 
+# Cells in whole blocks and gaps: with the line dead in the midst, with no whole block, and of a few cells.
+{ head -c 2000000 line.txt; head -c 170000 /dev/zero | tr '\0' 0; tail -c 1500000 line.txt; } >dead.txt
+tail -c +20000 line.txt | head -c 30000 >none.txt
+echo 1101 >few.txt
+for name in $inputs dead none few; do
+    "$program" check --gaps <$name.txt >$name.gaps
+    echo $? >>$name.gaps
+done
+
 # Samples, not of whole blocks, and the block file of them with the status that samples.c makes.
 "$program" to-pcm <line.txt | head -c 400000 >speech.s32
 status=85022c0000004a4154480000000000000000000000000000
@@ -55,6 +64,14 @@ if [ -x "$recover" ] && command -v python3 >/dev/null; then
 else
     echo "left out: captures beside aes3-cells (bin/build aes3_cells makes it, and python3 the samples)"
 fi
+
+# The lines of gaps.c, on each input.
+gaps() {
+    for name in $inputs dead none few; do
+        { ./gaps <$name.txt && echo 0 || echo $?; } >got
+        judge "gaps by $1 on $name" cmp -s $name.gaps got
+    done
+}
 
 # A command that tells the reports of cells, on each input.
 compare() {
@@ -77,7 +94,7 @@ build() { # COMPILER FLAGS..
         echo "left out: the checks of addresses and undefined behaviour by $compiler (they do not work here)"
         checks=
     }
-    for example in check encode calls layout user samples capture; do
+    for example in check gaps encode calls layout user samples capture; do
         "$compiler" "$@" -O2 -Wall -Wextra -pedantic -Werror $checks -I"$here/../../include" \
             -o $example "$here/$example.c" -x none "$library" || {
             differs "$example.c, which $compiler does not compile,"
@@ -97,6 +114,7 @@ build() { # COMPILER FLAGS..
     ./samples <speech.want | head -c 400000 >got
     judge "samples back by $compiler" cmp -s got speech.s32
     compare ./check
+    gaps "$compiler"
     for each in capture:0:1 wide:11:2; do
         IFS=: read -r name bit unit <<WORDS
 $each

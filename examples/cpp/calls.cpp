@@ -85,6 +85,20 @@ int main() {
         is_same &= made[i] == block[i];
     judge("take_octets", took && is_same && count == 4 && fourth.seen() == AES3_BLOCK_CELLS + 8);
 
+    // Gaps: two of a dead line while it is dead, seven cells before a whole block, none behind it, and three at the end.
+    aes3::account account;
+    std::uint64_t gaps[2] = {}, lost = 0;
+    const auto tell_gap = [&](const aes3::gap &it) { gaps[0]++, gaps[1] += it.cells, lost += it.counts; };
+    account.passed(3 * AES3_BLOCK_CELLS, tell_gap);
+    judge("gaps that passed", gaps[0] == 2 && gaps[1] == 2 * AES3_BLOCK_CELLS && lost == 2);
+    aes3::report whole = {};
+    whole.kind = AES3_WHOLE;
+    whole.at = 2 * AES3_BLOCK_CELLS + 7;
+    account.before(whole, tell_gap);
+    account.passed(3 * AES3_BLOCK_CELLS + 8, tell_gap);
+    account.end(3 * AES3_BLOCK_CELLS + 10, tell_gap);
+    judge("gaps", gaps[0] == 4 && gaps[1] == 2 * AES3_BLOCK_CELLS + 10 && lost == 2);
+
     // The same once more, of samples: four of each cell, in bit 2.
     static std::uint8_t samples[4 * AES3_BLOCK_CELLS], packed[AES3_BLOCK_CELLS];
     for (int i = 0; i < 4 * AES3_BLOCK_CELLS; i++)

@@ -74,6 +74,24 @@ assert is_refused(aes3.with_user, [1] + 383 * [0], 1, status) and is_refused(aes
 assert is_refused(aes3.words_of_text, "012") and is_refused(aes3.words_of_packed, b"\0\x08") and is_refused(aes3.words_of_packed, b"\1\1")
 assert is_refused(lock.push, 0, 65) and is_refused(aes3.cells_of_samples, b"", 8) and is_refused(aes3.cells_of_samples, b"", 0, 3)
 
+# Gaps: of a dead line while it is dead, before whole blocks, and at the end.
+gap_block = 24576
+
+
+def gaps(told):
+    return [(gap.at, gap.cells, gap.counts) for gap in told]
+
+
+account = aes3.Account()
+assert gaps(account.passed(2 * gap_block)) == [(0, gap_block, True)] and gaps(account.passed(3 * gap_block - 1)) == []
+first = aes3.Lock().take_octets(packed)[0]
+first.at = 2 * gap_block + 7
+assert gaps(account.before(first)) == [(gap_block, gap_block, True), (2 * gap_block, 7, False)]
+first.at = 3 * gap_block + 9
+told = account.before(first)
+assert gaps(told) == [(3 * gap_block + 7, 2, True)] and str(told[0]) == f"gap at {3 * gap_block + 7} cells 2"
+assert gaps(account.end(4 * gap_block + 10)) == [(4 * gap_block + 9, 1, False)]
+
 if aes3.numpy:
     assert str(cells.dtype) == str(aes3.encode_block(blocks[0]).dtype) == "uint64"
     assert str(reports[0].words.dtype) == "uint32"

@@ -58,6 +58,14 @@ class _Report(c.Structure):
                 ("kind", c.c_uint8), ("before", c.c_uint8), ("why", c.c_uint8)]
 
 
+class _Account(c.Structure):
+    _fields_ = [("state", c.c_uint64 * 2)]
+
+
+class _Gap(c.Structure):
+    _fields_ = [("at", c.c_uint64), ("cells", c.c_uint64), ("counts", c.c_uint8)]
+
+
 class _Capture(c.Structure):
     _fields_ = [(name, c.c_uint64) for name in ("octets", *FOUND)]
 
@@ -78,6 +86,10 @@ _take_octets = _declare(
 )
 _block = _declare("aes3_lock_block", None, c.POINTER(_Lock), c.POINTER(_Words))
 _finish = _declare("aes3_lock_finish", None, c.POINTER(_Lock), c.POINTER(_Report))
+_account_init = _declare("aes3_account_init", None, c.POINTER(_Account))
+_before = _declare("aes3_account_before", c.c_bool, c.POINTER(_Account), c.POINTER(_Report), c.POINTER(_Gap))
+_passed = _declare("aes3_account_passed", c.c_bool, c.POINTER(_Account), c.c_uint64, c.POINTER(_Gap))
+_end = _declare("aes3_account_end", c.c_bool, c.POINTER(_Account), c.c_uint64, c.POINTER(_Gap))
 _encode_block = _declare("aes3_encode_block", c.c_uint32, c.POINTER(_Words), c.c_uint8, c.POINTER(_Cells))
 _block_samples = _declare("aes3_block_samples", c.c_uint32, c.POINTER(_Words), c.POINTER(_Samples))
 _block_of_samples = _declare("aes3_block_of_samples", None, c.POINTER(_Samples), c.POINTER(_Words))
@@ -373,3 +385,45 @@ class Lock:
         told = _Report()
         _finish(c.byref(self._lock), c.byref(told))
         return [] if told.kind == NONE else [Report(told)]
+
+
+# ---- the account
+
+
+class Gap:
+    """Cells in a row that lie in no whole block: the place of the first, how many, and whether it counts among the faults."""
+
+    def __init__(self, told):
+        self.at, self.cells, self.counts = told.at, told.cells, bool(told.counts)
+
+    def __str__(self):
+        """Its line, as `aes3 check --gaps` writes it."""
+        return f"gap at {self.at} cells {self.cells}"
+
+
+class Account:
+    """Tells the gaps between the whole blocks of a lock's cells."""
+
+    def __init__(self):
+        self._account = _Account()
+        _account_init(c.byref(self._account))
+
+    def before(self, report):
+        """The list of the gaps before a report. Each report of the lock goes here in turn, and is told then."""
+        told = _Report(at=report.at, cell=report.cell, wrong=report.wrong, kind=report.kind, before=report.before, why=report.why)
+        return self._gaps(lambda gap: _before(c.byref(self._account), c.byref(told), gap))
+
+    def passed(self, seen):
+        """The list of the gaps that stand whatever follows the `seen` cells, all of whose reports were told."""
+        return self._gaps(lambda gap: _passed(c.byref(self._account), seen, gap))
+
+    def end(self, seen):
+        """The list of all gaps that are left at the end of the `seen` cells, all of whose reports were told."""
+        return self._gaps(lambda gap: _end(c.byref(self._account), seen, gap))
+
+    @staticmethod
+    def _gaps(put):
+        gaps, gap = [], _Gap()
+        while put(c.byref(gap)):
+            gaps.append(Gap(gap))
+        return gaps

@@ -1,4 +1,4 @@
-pub mod GapLemmas
+pub mod GapWrites
 pub mod Accounts
 pub mod SignalWords
 pub mod WatchedCells

@@ -12,7 +12,7 @@ use Rattle.aes3_account.specs.Watching.{IsKept, Watches}
 use Rattle.aes3_account.specs.declared.summed.Summed.{Summed}
 use Rattle.aes3_account.specs.Sums.{all_told, go_to, next_sum, notice_lines, report_told, summed, summing}
 use Rattle.aes3_account.specs.Sums.{more, no_figures, on_to, periods, summed_by, Sums, told_to, unsummed}
-use Rattle.aes3_account.specs.Gaps.{behind_full, full_count}
+use Rattle.aes3_gaps.specs.Gaps.{behind_full, full_count}
 use Rattle.aes3_account.specs.declared.watched.Watched.{Watched}
 use Rattle.aes3_lines.specs.declared.sum.Figures.{Figures}
 use Rattle.aes3_account.proofs.WatchedCells.{pass-watches, same-watches, take-watches}

@@ -21,7 +21,7 @@ use Rattle.aes3_settings.specs.declared.style.Style.{Style}
 use Rattle.aes3_lines.specs.declared.sum.Figures.{Figures}
 use Rattle.aes3_lines.specs.Events.{event_line}
 use Rattle.aes3_lines.specs.SumLines.{sum_line}
-use Rattle.aes3_account.specs.Gaps.{behind_full, full_count}
+use Rattle.aes3_gaps.specs.Gaps.{behind_full, full_count}
 use Rattle.aes3_account.specs.Watching.{loss_events, up_to, told_events, next, behind_reports, watched, event_lines}
 use Rattle.aes3_account.specs.Watching.{is_locked, IsKept}
 use Rattle.aes3_account.specs.declared.watched.Watched.{Watched}
@@ -31,9 +31,9 @@ use Rattle.aes3_account.specs.Sums.{ends_before, go_to, more, next_period, next_
 use Rattle.aes3_account.specs.Sums.{notice_lines, notices, on_to, period_told, periods, periods_told, report_told}
 use Rattle.aes3_account.specs.Sums.{sum_lines, summed, summing, sums_from, all_told, last_sum, take_report, told_to}
 use Rattle.aes3_account.specs.Sums.{unsummed, with_lost}
-use Rattle.aes3_account.proofs.GapLemmas.{behind-join, count-add}
+use Rattle.aes3_gaps.proofs.GapLemmas.{behind-join, count-add}
 use Rattle.aes3_lock.proofs.ReportPlaces.{split-reports, late-decided, late-reports}
-use Rattle.aes3_account.proofs.Accounts.{one-answer, one-final, decided-more, shorter}
+use Rattle.aes3_gaps.proofs.BegunAccounts.{one-answer, one-final, decided-more, shorter}
 use Rattle.aes3_account.proofs.WatchedCells.{loss-join, up-join, up-losses, next-join, before-last, few-up, grown}
 use Rattle.aes3_account.proofs.WatchedCells.{up-latest}
 

@@ -36,7 +36,8 @@ use Rattle.aes3_account.specs.Watching.{told_events, next, events_from, behind_r
 use Rattle.aes3_account.specs.Watching.{is_locked, ended, watch_events, event_lines, begun_watch, watch_lines}
 use Rattle.aes3_account.specs.Watching.{watch_counts, watching, IsKept, Watches, Ended}
 use Rattle.aes3_lock.proofs.ReportPlaces.{split-reports, late-decided, late-reports}
-use Rattle.aes3_account.proofs.Accounts.{counts-are, one-answer, one-final, decided-more, few-reports, shorter}
+use Rattle.aes3_gaps.proofs.BegunAccounts.{one-answer, one-final, decided-more, shorter}
+use Rattle.aes3_account.proofs.Accounts.{counts-are, few-reports}
 
 -- what the code computes
 pub told-is : (w : Watched) (q s : ℕ) → s ≡ q - w.place → w.lost ≡ false → nat_lt s 24576 ≡ is_told w q

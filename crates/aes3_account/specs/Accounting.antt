@@ -1,5 +1,5 @@
 -- What an account writes and counts, as its cells come.
-use Rattle.std.specs.Prelude.{ℕ, List, [], ◌∷◌, ◌++◌, length, drop, ◌≡◌, ◌≤◌, ◌+◌, ◌^◌}
+use Rattle.std.specs.Prelude.{ℕ, List, [], ◌∷◌, ◌++◌, length, drop, ◌≡◌, ◌≤◌, ◌+◌, ◌^◌, nat_lt}
 use Rattle.std.specs.List.{filter}
 use Rattle.aes3_level.specs.declared.level.Level.{Level}
 use Rattle.aes3_cell.specs.declared.form.Form.{Form}
@@ -10,7 +10,7 @@ use Rattle.aes3_input.specs.Taking.{Writing}
 use Rattle.aes3_input.specs.Inputs.{cells_of}
 use Rattle.aes3_settings.specs.declared.lines.Lines.{Lines}
 use Rattle.aes3_account.specs.declared.ledger.Ledger.{Ledger}
-use Rattle.aes3_account.specs.Gaps.{account, accounted, begun_account, is_lost}
+use Rattle.aes3_gaps.specs.Gaps.{account, accounted, begun_account, is_lost}
 use Rattle.aes3_account.specs.GapLines.{account_lines}
 
 -- what a run counts that accounts for all cells: the gaps that count are faults too
@@ -44,8 +44,9 @@ pub record Accounted (lost blocks faults unfinished : ℕ) (c : List Level) : Ty
   pub tally : Tallies blocks faults unfinished (reports c)
 
 -- a ledger of the cells c, and one that has taken their end
-abbrev pub IsLedgerOf : Ledger → List Level → Type 0
-IsLedgerOf k c = Accounts k.place k.lost k.tally.blocks k.tally.faults k.tally.unfinished c
+pub record IsLedgerOf (k : Ledger) (c : List Level) : Type 0 where
+  pub accounts : Accounts k.account.place k.lost k.tally.blocks k.tally.faults k.tally.unfinished c
+  pub found_is : k.account.found ≡ nat_lt 0 k.tally.blocks
 
 abbrev pub IsClosedLedgerOf : Ledger → List Level → Type 0
 IsClosedLedgerOf k c = Accounted k.lost k.tally.blocks k.tally.faults k.tally.unfinished c

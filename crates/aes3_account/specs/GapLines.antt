@@ -3,7 +3,7 @@ use Rattle.std.specs.Prelude.{ℕ, List, [], ◌∷◌, ◌++◌, codes, decimal
 use Rattle.std.specs.List.{flat_map}
 use Rattle.aes3_settings.specs.declared.lines.Lines.{Lines}
 use Rattle.aes3_reports.specs.Lines.{told_line}
-use Rattle.aes3_account.specs.Gaps.{Entry, reported, lost, cut}
+use Rattle.aes3_gaps.specs.Gaps.{Entry, reported, lost, cut}
 
 -- the line of a gap of some cells from cell `at` on
 abbrev pub gap_line : ℕ → ℕ → List ℕ

@@ -1,4 +1,3 @@
-pub mod Gaps
 pub mod GapLines
 pub mod CellReports
 pub mod Accounting

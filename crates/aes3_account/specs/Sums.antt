@@ -18,7 +18,7 @@ use Rattle.aes3_lines.specs.declared.sum.Figures.{Figures}
 use Rattle.aes3_lines.specs.declared.sum.Sum.{Sum}
 use Rattle.aes3_lines.specs.Events.{event_line}
 use Rattle.aes3_lines.specs.SumLines.{sum_line}
-use Rattle.aes3_account.specs.Gaps.{behind_full, full_count}
+use Rattle.aes3_gaps.specs.Gaps.{behind_full, full_count}
 use Rattle.aes3_account.specs.Signals.{signals_of}
 use Rattle.aes3_account.specs.Watching.{is_locked, loss_events, next, told_events, unwatched, up_to, Watches}
 use Rattle.aes3_account.specs.declared.signals.Signals.{Signals}

@@ -5,7 +5,7 @@ ghost use Rattle.aes3_cell.specs.Ends.{Grew, Told};
 ghost use Rattle.aes3_input.specs.Driving.{CellRun};
 ghost use Rattle.aes3_input.specs.Inputs.{cells_of};
 ghost use Rattle.aes3_input.specs.Running.{movement_of};
-ghost use Rattle.aes3_account.specs.Gaps.{account, begun_account};
+ghost use Rattle.aes3_gaps.specs.Gaps.{account, begun_account};
 ghost use Rattle.aes3_account.specs.Accounting.{account_counts};
 ghost use Rattle.aes3_account.specs.GapLines.{account_lines};
 
@@ -54,18 +54,14 @@ pub fn account<S: Source, T: Sink>(
     ensures passed_on { IfOk result (λ _. T.passed sink.new ≡ T.taken sink.new) }
 {
     let mut taker = Counted::new(Ledger::new(lines));
-    match drive(source, sink, max_bytes, input, &mut taker) {
-        Ok((bytes, cells)) => {
-            let told = &taker.reporter;
-            Ok(Counts {
-                bytes,
-                cells,
-                blocks: told.tally.blocks,
-                faults: told.tally.faults + told.lost,
-                unfinished: told.tally.unfinished,
-                marks: 0,
-            })
-        }
-        Err(error) => Err(error),
-    }
+    let (bytes, cells) = drive(source, sink, max_bytes, input, &mut taker)?;
+    let told = &taker.reporter;
+    Ok(Counts {
+        bytes,
+        cells,
+        blocks: told.tally.blocks,
+        faults: told.tally.faults + told.lost,
+        unfinished: told.tally.unfinished,
+        marks: 0,
+    })
 }

@@ -10,7 +10,7 @@ ghost use Rattle.aes3_lock.specs.Remains.{place_of};
 ghost use Rattle.aes3_input.specs.Driving.{CellRun};
 ghost use Rattle.aes3_input.specs.Inputs.{cells_of};
 ghost use Rattle.aes3_input.specs.Running.{movement_of};
-ghost use Rattle.aes3_account.specs.Gaps.{behind_full, full_count};
+ghost use Rattle.aes3_gaps.specs.Gaps.{behind_full, full_count};
 ghost use Rattle.aes3_account.specs.Signals.{signals_of};
 ghost use Rattle.aes3_account.specs.Watching.{Ended, IsKept, event_lines, loss_events, up_to, watch_counts};
 ghost use Rattle.aes3_account.specs.Sums.{Sums, begun_sums, change_of, changes_in, end_told, ends_before};
@@ -519,18 +519,14 @@ pub fn watch_sums<S: Source, T: Sink>(
     ensures passed_on { IfOk result (λ _. T.passed sink.new ≡ T.taken sink.new) }
 {
     let mut taker = Counted::new(Summer::new(style, every));
-    match drive(source, sink, max_bytes, input, &mut taker) {
-        Ok((bytes, cells)) => {
-            let told = &taker.reporter.watcher;
-            Ok(Counts {
-                bytes,
-                cells,
-                blocks: told.tally.blocks,
-                faults: told.tally.faults + told.state.losses,
-                unfinished: told.tally.unfinished,
-                marks: 0,
-            })
-        }
-        Err(error) => Err(error),
-    }
+    let (bytes, cells) = drive(source, sink, max_bytes, input, &mut taker)?;
+    let told = &taker.reporter.watcher;
+    Ok(Counts {
+        bytes,
+        cells,
+        blocks: told.tally.blocks,
+        faults: told.tally.faults + told.state.losses,
+        unfinished: told.tally.unfinished,
+        marks: 0,
+    })
 }

@@ -379,18 +379,14 @@ pub fn watch<S: Source, T: Sink>(
     ensures passed_on { IfOk result (λ _. T.passed sink.new ≡ T.taken sink.new) }
 {
     let mut taker = Counted::new(Watcher::new(style));
-    match drive(source, sink, max_bytes, input, &mut taker) {
-        Ok((bytes, cells)) => {
-            let told = &taker.reporter;
-            Ok(Counts {
-                bytes,
-                cells,
-                blocks: told.tally.blocks,
-                faults: told.tally.faults + told.state.losses,
-                unfinished: told.tally.unfinished,
-                marks: 0,
-            })
-        }
-        Err(error) => Err(error),
-    }
+    let (bytes, cells) = drive(source, sink, max_bytes, input, &mut taker)?;
+    let told = &taker.reporter;
+    Ok(Counts {
+        bytes,
+        cells,
+        blocks: told.tally.blocks,
+        faults: told.tally.faults + told.state.losses,
+        unfinished: told.tally.unfinished,
+        marks: 0,
+    })
 }

@@ -1,6 +1,6 @@
--- What stands of an account, and how long its gaps are.
-use Rattle.std.proofs.Common.{◌≡◌, ℕ, zero, suc, ◌+◌, ◌-◌, ◌<◌, ◌≤◌, Bool, true, false, cond, ltb, List, [], ◌∷◌, ◌++◌}
-use Rattle.std.proofs.Common.{length, refl, sym, ap, ◌∙◌, arith, append-nil, append_assoc}
+-- How long the gaps of an account are.
+use Rattle.std.proofs.Common.{◌≡◌, ℕ, zero, suc, ◌+◌, ◌-◌, ◌<◌, ◌≤◌, Bool, true, false, cond, ltb, List, [], ◌∷◌}
+use Rattle.std.proofs.Common.{length, refl, arith}
 use Rattle.std.specs.List.{All}
 use Rattle.std.proofs.lemmas.Bool.{ltb-true}
 use Rattle.std.proofs.lemmas.List.Elements.{All-append, All-cons, All-nil}
@@ -10,26 +10,9 @@ use Rattle.aes3_lock.specs.declared.report.Report.{Report}
 use Rattle.aes3_lock.specs.declared.report.Report.TheVariants.{Whole, Marked, Fault, Unfinished}
 use Rattle.aes3_lock.specs.Reports.{reports, wholes}
 use Rattle.aes3_lock.proofs.Deciding.{block_len_24576}
-use Rattle.aes3_account.specs.Gaps.{Entry, reported, full_gaps, full_count, behind_full, kind, rest_gap, gaps}
-use Rattle.aes3_account.specs.Gaps.{gaps_before, behind_report, account_from, reached_from, account, begun_account}
+use Rattle.aes3_gaps.specs.Gaps.{Entry, reported, full_gaps, full_count, behind_full, kind, rest_gap, gaps}
+use Rattle.aes3_gaps.specs.Gaps.{gaps_before, behind_report, account_from, reached_from, account}
 use Rattle.aes3_account_laws.specs.GapLaws.{HasGapOfABlock}
-use Rattle.aes3_account.proofs.Accounts.{account-more, begun-more}
-
-begun-stands : (c d : List Level) → (more : List Entry) × (begun_account (c ++ d) ≡ begun_account c ++ more)
-begun-stands c [] = ([], ap begun_account (append-nil c) ∙ sym (append-nil (begun_account c)))
-begun-stands c (l ∷ d) =
-    let a = begun-more c l in
-    let b = begun-stands (c ++ l ∷ []) d in (
-      a.0 ++ b.0,
-      ap begun_account (sym (append_assoc c (l ∷ []) d)) ∙ b.1 ∙ ap (λ z. z ++ b.0) a.1
-          ∙ append_assoc (begun_account c) a.0 b.0,
-    )
-
-pub account-stands : (c d : List Level) → (more : List Entry) × (account (c ++ d) ≡ begun_account c ++ more)
-account-stands c d =
-    let a = begun-stands c d in
-    let b = account-more (c ++ d) in
-    (a.0 ++ b.0, b.1 ∙ ap (λ z. z ++ b.0) a.1 ∙ append_assoc (begun_account c) a.0 b.0)
 
 -- gaps
 abbrev Short : List Entry → Type 0

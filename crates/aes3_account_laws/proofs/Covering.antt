@@ -11,12 +11,14 @@ use Rattle.aes3_lock.specs.Reports.{told, outcome_at, reports_from, reports, dec
 use Rattle.aes3_lock.proofs.Deciding.{block_len_24576}
 use Rattle.aes3_lock.proofs.AllStanding.{at-standing, closed-room}
 use Rattle.aes3_lock.specs.Remains.{place_of}
-use Rattle.aes3_account.specs.Gaps.{Entry, reported, lost, cut, full_gaps, full_count, behind_full, kind, rest_gap}
-use Rattle.aes3_account.specs.Gaps.{gaps, gaps_before, behind_report, account_from, reached_from, account}
-use Rattle.aes3_account.specs.Gaps.{begun_account, accounted}
-use Rattle.aes3_account_laws.specs.GapLaws.{Covers, reports_in}
+use Rattle.aes3_gaps.specs.Gaps.{Entry, reported, lost, cut, full_gaps, full_count, behind_full, kind, rest_gap}
+use Rattle.aes3_gaps.specs.Gaps.{gaps, gaps_before, behind_report, account_from, reached_from, account}
+use Rattle.aes3_gaps.specs.Gaps.{begun_account, accounted}
+use Rattle.aes3_gaps.specs.Told.{reports_in}
+use Rattle.aes3_gaps.proofs.ToldFronts.{in-append}
+use Rattle.aes3_account_laws.specs.GapLaws.{Covers}
 use Rattle.aes3_account.proofs.Accounts.{behind-next}
-use Rattle.aes3_account.proofs.GapLemmas.{behind-near}
+use Rattle.aes3_gaps.proofs.GapLemmas.{behind-near}
 use Rattle.aes3_lock.proofs.ReportPlaces.{Spaced, next_place, spaced-weaker, spaced-reports, spaced-decided}
 
 covers-join : (p m q : ℕ) (a b : List Entry) → Covers p a m → Covers m b q → Covers p (a ++ b) q
@@ -120,12 +122,6 @@ account-covers c =
     (reached-within (length c) 0 r (omega arith) (spaced-reports c) (ends-reports c)))
 
 -- its reports are all
-in-append : (a b : List Entry) → reports_in (a ++ b) ≡ reports_in a ++ reports_in b
-in-append [] b = refl
-in-append (reported x ∷ a) b = ap (λ z. x ∷ z) (in-append a b)
-in-append (lost at n ∷ a) b = in-append a b
-in-append (cut at n ∷ a) b = in-append a b
-
 in-full : (p n : ℕ) → reports_in (full_gaps p n) ≡ []
 in-full p zero = refl
 in-full p (suc n) = in-full (p + block_len) n

@@ -17,7 +17,7 @@ use Rattle.aes3_lock.specs.Pieces.{IsPiece}
 use Rattle.aes3_lock.specs.Reports.{blocks, reports, wholes}
 use Rattle.aes3_lines.specs.declared.event.Event.{Event}
 use Rattle.aes3_lines.specs.declared.event.Event.TheVariants.{Back, End, Locked, Lost, Slipped, Status, Validity}
-use Rattle.aes3_account.specs.Gaps.{account, is_lost}
+use Rattle.aes3_gaps.specs.Gaps.{account, is_lost}
 use Rattle.aes3_account.specs.Signals.{change_events, marking_of, same_marking, signals_of, status_events}
 use Rattle.aes3_account.specs.Signals.{validity_events}
 use Rattle.aes3_account.specs.Kept.{ChannelSignals}

@@ -23,7 +23,7 @@ use Rattle.aes3_lock.proofs.DamageLaws.{stands-local}
 use Rattle.aes3_lock.proofs.Deciding.{block_len_24576}
 use Rattle.aes3_lock.proofs.LawfulPieces.{stream_marks, stream-length, stream-stands}
 use Rattle.aes3_lock.proofs.Lost.{drop-without}
-use Rattle.aes3_account.specs.Gaps.{account, is_lost}
+use Rattle.aes3_gaps.specs.Gaps.{account, is_lost}
 use Rattle.aes3_account_laws.specs.GapLaws.{InRow}
 use Rattle.aes3_account_laws.proofs.LostGaps.{all-piece, length-blocks}
 use Rattle.aes3_account_laws.proofs.PieceGaps.{piece-stands}

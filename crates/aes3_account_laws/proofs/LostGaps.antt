@@ -24,7 +24,7 @@ use Rattle.aes3_lock.proofs.Deciding.{block_len_24576}
 use Rattle.aes3_lock.proofs.LawfulPieces.{stream-length}
 use Rattle.aes3_lock.proofs.PlaceBlocks.{whole-len}
 use Rattle.aes3_lock.proofs.TwoChanges.{blocks-one-changed}
-use Rattle.aes3_account.specs.Gaps.{account, is_lost}
+use Rattle.aes3_gaps.specs.Gaps.{account, is_lost}
 use Rattle.aes3_account_laws.specs.GapLaws.{InRow}
 use Rattle.aes3_account_laws.proofs.Rowed.{no-block, no-gap}
 

@@ -12,7 +12,7 @@ use Rattle.aes3_frame.specs.declared.status.Channel.TheVariants.{First, Second}
 use Rattle.aes3_lines.specs.declared.event.Event.{Event}
 use Rattle.aes3_lines.specs.declared.sum.Figures.{Figures}
 use Rattle.aes3_lines.specs.Ones.{ones_in}
-use Rattle.aes3_account.specs.Gaps.{Entry}
+use Rattle.aes3_gaps.specs.Gaps.{Entry}
 use Rattle.aes3_account.specs.Sums.{Notice, event, sum, events, change_of, is_biphase, is_preamble, is_unclosed, more}
 use Rattle.aes3_account.specs.Sums.{no_figures}
 use Rattle.aes3_account_laws.specs.PeriodLaws.{by_block, by_fault, by_mark, counts_at, figures_of, fitted, in_64_bits}

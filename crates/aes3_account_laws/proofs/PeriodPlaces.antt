@@ -19,15 +19,15 @@ use Rattle.aes3_lock.proofs.Deciding.{block_len_24576}
 use Rattle.aes3_lines.specs.declared.event.Event.{Event}
 use Rattle.aes3_lines.specs.declared.event.Event.TheVariants.{Back, End, Locked, Lost, Slipped, Status, Validity}
 use Rattle.aes3_lines.specs.declared.sum.Figures.{Figures}
-use Rattle.aes3_account.specs.Gaps.{Entry, reported, lost, cut, full_gaps, full_count, behind_full, kind, rest_gap}
-use Rattle.aes3_account.specs.Gaps.{gaps, gaps_before, behind_report, account_from, reached_from}
+use Rattle.aes3_gaps.specs.Gaps.{Entry, reported, lost, cut, full_gaps, full_count, behind_full, kind, rest_gap}
+use Rattle.aes3_gaps.specs.Gaps.{gaps, gaps_before, behind_report, account_from, reached_from}
 use Rattle.aes3_account.specs.Kept.{ChannelSignals, Signals, Watched}
 use Rattle.aes3_account.specs.Signals.{change_events, marking_of, same_marking, signals_of, status_events}
 use Rattle.aes3_account.specs.Signals.{validity_events}
 use Rattle.aes3_account.specs.Sums.{change_of, changes_in, counted_report, says, with_lost, with_whole}
 use Rattle.aes3_account.specs.Watching.{behind_reports, events_from, is_told, loss_events, next, told_events, up_to}
 use Rattle.aes3_account.specs.Watching.{whole_events}
-use Rattle.aes3_account.proofs.GapLemmas.{behind-near}
+use Rattle.aes3_gaps.proofs.GapLemmas.{behind-near}
 use Rattle.aes3_lock.proofs.ReportPlaces.{Spaced, next_place, spaced-weaker}
 use Rattle.aes3_account.proofs.WatchedCells.{either, loss-told, or-false, up-is-told}
 use Rattle.aes3_account_laws.specs.PeriodLaws.{counts_at, figures_of, in_64_bits, lost_cells, told_at}

@@ -19,8 +19,8 @@ use Rattle.aes3_lock.proofs.Deciding.{block_len_24576}
 use Rattle.aes3_lines.specs.declared.event.Event.{Event}
 use Rattle.aes3_lines.specs.declared.event.Event.TheVariants.{End}
 use Rattle.aes3_lines.specs.declared.sum.Figures.{Figures}
-use Rattle.aes3_account.specs.Gaps.{Entry, reported, full_gaps, full_count, behind_full, rest_gap, gaps, gaps_before}
-use Rattle.aes3_account.specs.Gaps.{account, account_from, behind_report, reached_from}
+use Rattle.aes3_gaps.specs.Gaps.{Entry, reported, full_gaps, full_count, behind_full, rest_gap, gaps, gaps_before}
+use Rattle.aes3_gaps.specs.Gaps.{account, account_from, behind_report, reached_from}
 use Rattle.aes3_account.specs.Kept.{Summed, Watched}
 use Rattle.aes3_account.specs.Sums.{Notice, event, sum, events, all_told, behind_sums, changes_in, counted_report}
 use Rattle.aes3_account.specs.Sums.{end_told, ends_before, go_to, last_sum, next_period, next_sum, no_figures, notices}
@@ -28,7 +28,7 @@ use Rattle.aes3_account.specs.Sums.{on_to, period_told, periods, periods_told, r
 use Rattle.aes3_account.specs.Sums.{unsummed, with_lost}
 use Rattle.aes3_account.specs.Watching.{behind_reports, ended, events_from, is_locked, is_told, loss_events, next}
 use Rattle.aes3_account.specs.Watching.{told_events, unwatched, up_to, watch_events}
-use Rattle.aes3_account.proofs.GapLemmas.{behind-join, full-join}
+use Rattle.aes3_gaps.proofs.GapLemmas.{behind-join, full-join}
 use Rattle.aes3_lock.proofs.ReportPlaces.{Spaced, spaced-reports, spaced-weaker}
 use Rattle.aes3_account.proofs.Sums.{ends-few, go-watched, near-end, next-known, periods-from, suc-times}
 use Rattle.aes3_account.proofs.WatchedCells.{loss-join, report-join, up-found, up-is-told, up-join}

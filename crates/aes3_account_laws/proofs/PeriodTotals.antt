@@ -19,13 +19,14 @@ use Rattle.aes3_lock.specs.Reports.{blocks, reports, wholes}
 use Rattle.aes3_lines.specs.declared.event.Event.{Event}
 use Rattle.aes3_lines.specs.declared.event.Event.TheVariants.{End}
 use Rattle.aes3_lines.specs.Ones.{ones_in}
-use Rattle.aes3_account.specs.Gaps.{Entry, reported, lost, cut, account, account_from, behind_full, behind_report}
-use Rattle.aes3_account.specs.Gaps.{full_count, full_gaps, gaps, reached_from, rest_gap}
+use Rattle.aes3_gaps.specs.Gaps.{Entry, reported, lost, cut, account, account_from, behind_full, behind_report}
+use Rattle.aes3_gaps.specs.Gaps.{full_count, full_gaps, gaps, reached_from, rest_gap}
 use Rattle.aes3_account.specs.Kept.{Watched}
 use Rattle.aes3_account.specs.Sums.{change_of, is_biphase, is_preamble, is_unclosed}
 use Rattle.aes3_account.specs.Watching.{behind_reports, ended, events_from, is_locked, loss_events, next, told_events}
 use Rattle.aes3_account.specs.Watching.{unwatched, watch_events}
-use Rattle.aes3_account_laws.specs.GapLaws.{Covers, reports_in}
+use Rattle.aes3_gaps.specs.Told.{reports_in}
+use Rattle.aes3_account_laws.specs.GapLaws.{Covers}
 use Rattle.aes3_account_laws.specs.PeriodLaws.{AllBlocksCount, AllCellsCount, by_block, by_fault, by_mark, counts_at}
 use Rattle.aes3_account_laws.specs.PeriodLaws.{cut_cells, FaultsHaveCauses, lost_cells, PeriodsAddUp, told_at, within}
 use Rattle.aes3_account_laws.proofs.Covering.{account-covers, account-reports}

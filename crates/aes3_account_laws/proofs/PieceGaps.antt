@@ -22,10 +22,10 @@ use Rattle.aes3_lock.proofs.Damaged.{line-cell, own-stays}
 use Rattle.aes3_lock.proofs.DamageLaws.{few-blocks}
 use Rattle.aes3_lock.proofs.Deciding.{block_len_24576}
 use Rattle.aes3_lock.proofs.PieceBounds.{length-piece}
-use Rattle.aes3_account.specs.Gaps.{reported, full_gaps, full_count, behind_full, kind, rest_gap, gaps, account_from}
-use Rattle.aes3_account.specs.Gaps.{reached_from, account, is_lost}
+use Rattle.aes3_gaps.specs.Gaps.{reported, full_gaps, full_count, behind_full, kind, rest_gap, gaps, account_from}
+use Rattle.aes3_gaps.specs.Gaps.{reached_from, account, is_lost}
 use Rattle.aes3_account_laws.specs.GapLaws.{InRow, LosesNothing}
-use Rattle.aes3_account.proofs.GapLemmas.{lost-append, lost-full}
+use Rattle.aes3_gaps.proofs.GapLemmas.{lost-append, lost-full}
 use Rattle.aes3_account_laws.proofs.LostGaps.{length-blocks, row-first}
 use Rattle.aes3_lock.proofs.ReportPlaces.{Spaced, UpTo, near-reports, next_place, spaced-weaker, spaced-reports}
 

@@ -9,10 +9,10 @@ use Rattle.aes3_lock.specs.declared.report.Report.{Report}
 use Rattle.aes3_lock.specs.declared.report.Report.TheVariants.{Whole, Marked, Fault, Unfinished}
 use Rattle.aes3_lock.specs.Reports.{reports, wholes, blocks}
 use Rattle.aes3_lock.proofs.Deciding.{block_len_24576}
-use Rattle.aes3_account.specs.Gaps.{reported, full_gaps, full_count, behind_full, kind, rest_gap, gaps, account_from}
-use Rattle.aes3_account.specs.Gaps.{reached_from, account, is_lost}
+use Rattle.aes3_gaps.specs.Gaps.{reported, full_gaps, full_count, behind_full, kind, rest_gap, gaps, account_from}
+use Rattle.aes3_gaps.specs.Gaps.{reached_from, account, is_lost}
 use Rattle.aes3_account_laws.specs.GapLaws.{InRow, LosesNothing}
-use Rattle.aes3_account.proofs.GapLemmas.{lost-append, lost-full, behind-near, behind-none}
+use Rattle.aes3_gaps.proofs.GapLemmas.{lost-append, lost-full, behind-near, behind-none}
 use Rattle.aes3_lock.proofs.ReportPlaces.{Spaced, spaced-weaker, spaced-reports}
 
 -- no gap of a block's length between two places

@@ -1,5 +1,5 @@
 -- A loss or a slip is told just where a gap of the account counts.
-use Rattle.std.proofs.Common.{◌≡◌, ℕ, ◌+◌, ◌-◌, ◌*◌, ◌<◌, ◌≤◌, ◌⊎◌, inl, inr, Bool, true, false, cond, ltb, List, []}
+use Rattle.std.proofs.Common.{◌≡◌, ℕ, ◌+◌, ◌-◌, ◌<◌, ◌≤◌, ◌⊎◌, inl, inr, Bool, true, false, cond, ltb, List, []}
 use Rattle.std.proofs.Common.{◌∷◌, ◌++◌, length, refl, sym, ap, ap₂, ◌∙◌, subst, arith, append_assoc}
 use Rattle.std.specs.Prelude.{◌||◌, ◌&&◌, not}
 use Rattle.std.specs.List.{filter}
@@ -10,13 +10,13 @@ use Rattle.aes3_lock.specs.declared.report.Report.{Report}
 use Rattle.aes3_lock.specs.declared.report.Report.TheVariants.{Whole, Marked, Fault, Unfinished}
 use Rattle.aes3_lock.specs.Reports.{reports}
 use Rattle.aes3_lock.proofs.Deciding.{block_len_24576}
-use Rattle.aes3_account.specs.Gaps.{Entry, reported, full_gaps, full_count, behind_full, kind, rest_gap, gaps}
-use Rattle.aes3_account.specs.Gaps.{account_from, reached_from, account, is_lost}
+use Rattle.aes3_gaps.specs.Gaps.{Entry, reported, full_gaps, full_count, behind_full, kind, rest_gap, gaps}
+use Rattle.aes3_gaps.specs.Gaps.{account_from, reached_from, account, is_lost}
 use Rattle.aes3_account.specs.Signals.{signals_of}
 use Rattle.aes3_account.specs.Kept.{Signals}
 use Rattle.aes3_account.specs.Kept.{Watched}
 use Rattle.aes3_account.specs.Watching.{unwatched, is_told, up_to, slips, behind_whole, next, behind_reports, ended}
-use Rattle.aes3_account.proofs.GapLemmas.{behind-none, lost-append, lost-full}
+use Rattle.aes3_gaps.proofs.GapLemmas.{behind-none, lost-append, lost-full}
 use Rattle.aes3_account.proofs.WatchedCells.{either, up-losses, up-told}
 
 abbrev count : List Entry → ℕ

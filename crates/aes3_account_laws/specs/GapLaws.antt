@@ -8,7 +8,8 @@ use Rattle.aes3_lock.specs.declared.report.Report.TheVariants.{Whole, Marked, Fa
 use Rattle.aes3_lock.specs.Damage.{changed, without}
 use Rattle.aes3_lock.specs.Pieces.{IsPiece}
 use Rattle.aes3_lock.specs.Reports.{blocks, reports}
-use Rattle.aes3_account.specs.Gaps.{Entry, reported, lost, cut, account, begun_account, accounted, is_lost}
+use Rattle.aes3_gaps.specs.Gaps.{Entry, reported, lost, cut, account, begun_account, accounted, is_lost}
+use Rattle.aes3_gaps.specs.Told.{reports_in}
 
 -- the whole blocks and the gaps of an account are the cells from place p up to, but without, place q, each exactly
 -- once, in order
@@ -20,13 +21,6 @@ Covers p (reported (Fault at cell why) ∷ e) q = Covers p e q
 Covers p (reported (Unfinished at cells) ∷ e) q = Covers p e q
 Covers p (lost at n ∷ e) q = (at ≡ p) × Covers (at + n) e q
 Covers p (cut at n ∷ e) q = (at ≡ p) × Covers (at + n) e q
-
--- the reports of an account
-abbrev pub reports_in : List Entry → List Report
-reports_in [] = []
-reports_in (reported x ∷ e) = x ∷ reports_in e
-reports_in (lost at n ∷ e) = reports_in e
-reports_in (cut at n ∷ e) = reports_in e
 
 -- the account of all cells has all of them in a whole block or a gap, and all reports
 abbrev pub AccountIsWhole : Type 0

@@ -16,7 +16,7 @@ use Rattle.aes3_lines.specs.declared.event.Event.TheVariants.{Locked, Lost, Back
 use Rattle.aes3_lines.specs.declared.sum.Figures.{Figures}
 use Rattle.aes3_lines.specs.declared.sum.Sum.{Sum}
 use Rattle.aes3_lines.specs.Ones.{ones_in}
-use Rattle.aes3_account.specs.Gaps.{Entry, reported, lost, cut, account}
+use Rattle.aes3_gaps.specs.Gaps.{Entry, reported, lost, cut, account}
 use Rattle.aes3_account.specs.Sums.{Notice, event, sum, events, change_of, is_biphase, is_preamble, is_unclosed}
 use Rattle.aes3_account.specs.Sums.{notices}
 use Rattle.aes3_account.specs.Watching.{ended, is_locked, watch_events}

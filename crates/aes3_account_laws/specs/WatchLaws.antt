@@ -10,7 +10,7 @@ use Rattle.aes3_lock.specs.Pieces.{IsPiece}
 use Rattle.aes3_lock.specs.Reports.{blocks, reports}
 use Rattle.aes3_lines.specs.declared.event.Event.{Event}
 use Rattle.aes3_lines.specs.declared.event.Event.TheVariants.{Back, End, Locked, Lost, Slipped, Status, Validity}
-use Rattle.aes3_account.specs.Gaps.{account, is_lost}
+use Rattle.aes3_gaps.specs.Gaps.{account, is_lost}
 use Rattle.aes3_account.specs.Watching.{ended, is_locked, watch_events}
 
 -- cells are told as lost, or a block as slipped, just where a gap of the account counts

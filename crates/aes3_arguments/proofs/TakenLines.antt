@@ -18,8 +18,8 @@ use Rattle.clap.specs.Walk.{Row, Rule, Text, answers_to, arg_by_id, nothing_held
 use Rattle.clap.specs.Walk.{rows_after, stop_after}
 use Rattle.clap.specs.declared.builder.value_parser.ValueParser.{ValueParser}
 use Rattle.clap.specs.declared.builder.value_parser.ValueParser.TheVariants as vp
-use Rattle.aes3_commands.specs.CommandLine.{check, command_line, cut, encode, from_pcm, normal, reader, rewrite, show}
-use Rattle.aes3_commands.specs.CommandLine.{greatest, to_bits, to_pcm, watch}
+use Rattle.aes3_commands.specs.CommandLine.{check, command_line, cut, decode, encode, from_pcm, normal, reader, rewrite}
+use Rattle.aes3_commands.specs.CommandLine.{greatest, show, to_bits, to_pcm, watch}
 use Rattle.aes3_arguments.specs.Jobs.{IsNumber, MayBeFlag, Options, StandsIn, number_in}
 use Rattle.aes3_arguments.proofs.LineWalks.{level_checked, level_fits}
 use Rattle.aes3_arguments.proofs.OptionReads.{bounded_in}
@@ -189,8 +189,19 @@ encode_known : IsKnown (leaf encode)
 encode_known = record {
   sound =
       also (flag_sound _ _ (codes "true") refl refl refl refl)
-      (also (flag_sound _ _ (codes "true") refl refl refl refl) (also (help_sound _ _ refl refl) tt));
+      (also (flag_sound _ _ (codes "true") refl refl refl refl) (also (value_sound _ _ refl refl refl)
+      (also (help_sound _ _ refl refl) tt)));
   numbers = λ rows name fit passed. other_name (codes "encode") refl name;
+}
+
+decode_known : IsKnown (leaf decode)
+decode_known = record {
+  sound =
+      also (flag_sound _ _ (codes "true") refl refl refl refl)
+      (also (flag_sound _ _ (codes "true") refl refl refl refl)
+      (also (flag_sound _ _ (codes "true") refl refl refl refl) (also (value_sound _ _ refl refl refl)
+      (also (value_sound _ _ refl refl refl) (also (help_sound _ _ refl refl) tt)))));
+  numbers = λ rows name fit passed. other_name (codes "decode") refl name;
 }
 
 reader_known : (name : Text) → bytes_eq name (codes "cut") ≡ false → IsKnown (leaf (reader name))
@@ -313,13 +324,13 @@ from_pcm_known = record {
       (also (values_sound _ _ refl refl refl) (also (values_sound _ _ refl refl refl)
       (also (flag_sound _ _ (codes "true") refl refl refl refl)
       (also (flag_sound _ _ (codes "true") refl refl refl refl) (also (value_sound _ _ refl refl refl)
-      (also (help_sound _ _ refl refl) tt)))))));
+      (also (value_sound _ _ refl refl refl) (also (help_sound _ _ refl refl) tt))))))));
   numbers = λ rows name fit passed. other_name (codes "from-pcm") refl name;
 }
 
 pub all_known : EachShape IsKnown (built command_line).subs
 all_known =
-    also (encode_known) (also (reader_known (codes "decode") refl) (also (normal_known) (also (check_known)
+    also (encode_known) (also (decode_known) (also (normal_known) (also (check_known)
     (also (watch_known) (also (show_known) (also (reader_known (codes "scan") refl) (also (cut_known)
     (also (rewrite_known) (also (to_pcm_known) (also (from_pcm_known) (also (to_bits_known) tt)))))))))))
 

@@ -7,9 +7,9 @@ use Rattle.aes3_cell.specs.declared.refusal.RunError.TheVariants.{Memory}
 use Rattle.aes3_arguments.specs.declared.job.LineFault.{LineFault}
 use Rattle.aes3_arguments.specs.declared.job.LineFault.TheVariants as fault
 
--- the text writes the number of a refusal, from 1 to 11
+-- the text writes the number of a refusal, from 1 to 12
 abbrev pub IsRefusalNumber : Text → ℕ → Type 0
-IsRefusalNumber text n = (0 < n) × (n ≤ 11) × (text ≡ decimal n)
+IsRefusalNumber text n = (0 < n) × (n ≤ 12) × (text ≡ decimal n)
 
 -- the words ask what refusals mean
 abbrev pub asks_to_explain : List Text → Bool
@@ -37,7 +37,7 @@ abbrev pub advice_of : ℕ → Text
 advice_of n =
     if n == 1 then codes "are these packed cells (`--packed-in`), or a block file (`encode`)?"
     else if n == 2 then codes "cut the file to a multiple of 1,536 bytes, samples to one of 8, or fill them up"
-    else if n == 3 then codes "clear them: ALSA's words have codes there"
+    else if n == 3 then codes "are these ALSA's words (`--words alsa`)? else clear them"
     else if n == 4 then codes "is the file big-endian, or are samples not in bits 4 to 27?"
     else if n == 5 then codes "a folder, a closed input, a broken disk?"
     else if n == 6 then codes "a full disk, or a reader that ended early, as `head` does: then it means nothing"
@@ -47,4 +47,5 @@ advice_of n =
     else if n == 10 then codes
     "the last octet counts the unused cells before it, 0 to 7, and these are 0: `printf '\\0' >> FILE` adds it where there are none"
     else if n == 11 then codes "leave `--exact` out to drop them, or make samples of 24 bits first (`sox IN -b 24 OUT`)"
+    else if n == 12 then codes "`sox FILE -t s32 - | aes3 from-pcm` takes its samples"
     else []

@@ -34,8 +34,10 @@ use Rattle.aes3_settings.specs.declared.detail.Detail.TheVariants.{Plain, Place,
 use Rattle.aes3_settings.specs.declared.lines.Lines.{Lines}
 use Rattle.aes3_settings.specs.declared.lines.Lines.TheVariants as lines
 use Rattle.aes3_settings.specs.declared.style.Notation.{Notation}
-use Rattle.aes3_settings.specs.declared.style.Notation.TheVariants.{Words, Json}
+use Rattle.aes3_settings.specs.declared.style.Notation.TheVariants as notation
 use Rattle.aes3_settings.specs.declared.style.Style.{Style}
+use Rattle.aes3_words.specs.declared.form.Words.{Words}
+use Rattle.aes3_words.specs.declared.form.Words.TheVariants as word_form
 use Rattle.aes3_commands.specs.CommandLine.{command_line, most_cells, most_frames, most_seconds}
 use Rattle.aes3_arguments.specs.Explained.{AsksToExplain, IsExplanation}
 use Rattle.aes3_arguments.specs.StatusTexts.{status_in}
@@ -45,7 +47,7 @@ use Rattle.aes3_arguments.specs.declared.layout.Octets.{Octets}
 use Rattle.aes3_arguments.specs.declared.misuse.Misuse.{Misuse}
 use Rattle.aes3_arguments.specs.declared.misuse.Misuse.TheVariants.{TwoForms, NoCellsPacked, TwoPeriods, NoRate}
 use Rattle.aes3_arguments.specs.declared.misuse.Misuse.TheVariants.{UnknownBits, UnknownFilling, FillsValidSamples}
-use Rattle.aes3_arguments.specs.declared.misuse.Misuse.TheVariants.{TwoDetails}
+use Rattle.aes3_arguments.specs.declared.misuse.Misuse.TheVariants.{TwoDetails, UnknownWords}
 use Rattle.aes3_arguments.specs.declared.job.LineFault.{LineFault}
 use Rattle.aes3_arguments.specs.declared.job.LineFault.TheVariants as fault
 
@@ -130,7 +132,7 @@ bit_by options name = option_map (λ n. n == 1) (number_by options name)
 -- how the lines of events are written: as words or JSON objects, with times where the number of frames a second is
 -- given
 abbrev pub notation_by : Options → Notation
-notation_by options = if is_set options (codes "json") then Json else Words
+notation_by options = if is_set options (codes "json") then notation.Json else notation.Words
 
 abbrev pub rate_by : Options → Option ℕ
 rate_by options = number_by options (codes "rate")
@@ -171,6 +173,23 @@ fill_in text = if bytes_eq text (codes "zero") then Some Zero
 
 abbrev pub fill_by : Options → Option Fill
 fill_by options = option_and_then fill_in (first_of (codes "fill") options)
+
+-- the form of words of this name, and the one that the options give a block file: its own where none is named
+abbrev pub words_in : Text → Option Words
+words_in text = if bytes_eq text (codes "own") then Some word_form.Own
+    else if bytes_eq text (codes "alsa") then Some word_form.Alsa
+    else if bytes_eq text (codes "am824") then Some word_form.Am824
+    else None
+
+abbrev pub words_named : Options → Option Words
+words_named options = option_and_then words_in (first_of (codes "words") options)
+
+abbrev pub or_own : Option Words → Words
+or_own (Some form) = form
+or_own None = word_form.Own
+
+abbrev pub words_by : Options → Words
+words_by options = or_own (words_named options)
 
 -- the number of a channel
 abbrev pub number_of : Channel → ℕ
@@ -233,10 +252,10 @@ pub record AreTaken (options : Options) : Type 0 where
 
 -- the command of this name, with these options, asks for the job
 abbrev pub AsksFor : Text → Options → Job → Type 0
-AsksFor name options (job.Encode output) =
-    (name ≡ codes "encode") × (output ≡ form_by options (codes "packed-out"))
-AsksFor name options (job.Decode input) =
-    (name ≡ codes "decode") × (input ≡ input_by options)
+AsksFor name options (job.Encode output form) =
+    (name ≡ codes "encode") × (output ≡ form_by options (codes "packed-out")) × (form ≡ words_by options)
+AsksFor name options (job.Decode input form) =
+    (name ≡ codes "decode") × (input ≡ input_by options) × (form ≡ words_by options)
 AsksFor name options (job.Normal input output) =
     (name ≡ codes "normal") × (input ≡ input_by options)
     × (output ≡ form_by options (codes "packed-out"))
@@ -271,8 +290,9 @@ AsksFor name options (job.ToPcm input valid) =
     × (fill_by options ≡ None)
 AsksFor name options (job.ToFilledPcm input fill) =
     (name ≡ codes "to-pcm") × (input ≡ input_by options) × (fill_by options ≡ Some fill)
-AsksFor name options (job.FromPcm exact change) =
+AsksFor name options (job.FromPcm exact change form) =
     (name ≡ codes "from-pcm") × (exact ≡ is_set options (codes "exact")) × IsChange options change
+    × (form ≡ words_by options)
 AsksFor name options (job.ToBits input bits channel) =
     (name ≡ codes "to-bits") × (input ≡ input_by options)
     × (bits_by options ≡ Some bits) × IsNumber options (codes "CHANNEL") (number_of channel)
@@ -328,6 +348,11 @@ abbrev pub has_two_details : Options → Bool
 has_two_details options =
     is_set options (codes "names") && (is_set options (codes "at") || is_set options (codes "more"))
 
+-- a form of words is named that there is none of
+abbrev pub has_unknown_words : Options → Bool
+has_unknown_words options =
+    option_map_or (λ text. not (is_some (words_in text))) (first_of (codes "words") options) false
+
 -- what is wrong with options, of more the first
 abbrev pub misuse_by : Options → Option Misuse
 misuse_by options =
@@ -339,6 +364,7 @@ misuse_by options =
     else if has_unknown_filling options then Some UnknownFilling
     else if fills_valid_samples options then Some FillsValidSamples
     else if has_two_details options then Some TwoDetails
+    else if has_unknown_words options then Some UnknownWords
     else None
 
 -- ---- the octets of packed cells
@@ -455,6 +481,8 @@ misuse_line UnknownBits = codes "error: invalid value for '<BITS>': it is 'user'
 misuse_line UnknownFilling = codes "error: invalid value for '--fill <zero|hold>': it is 'zero' or 'hold'"
 misuse_line FillsValidSamples = codes "error: the argument '--fill <zero|hold>' cannot be used with '--valid'"
 misuse_line TwoDetails = codes "error: the argument '--names' cannot be used with '--at' or '--more'"
+misuse_line UnknownWords =
+    codes "error: invalid value for '--words <own|alsa|am824>': it is 'own', 'alsa' or 'am824'"
 
 abbrev pub misuse_end : Text
 misuse_end = (10 ∷ 10 ∷ codes "Usage: aes3 COMMAND [OPTIONS] < INPUT > OUTPUT")

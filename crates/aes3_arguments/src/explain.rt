@@ -9,7 +9,7 @@ use itoa::Buffer;
 use std::alloc::{AllocError, Global};
 
 /// How many refusals there are.
-const REFUSALS: u8 = 11;
+const REFUSALS: u8 = 12;
 
 /// The word that asks for them.
 const EXPLAIN: &str = "--explain";
@@ -18,7 +18,7 @@ const EXPLAIN: &str = "--explain";
 const EXPLAIN_NUMBER: &str = "--explain=";
 
 /// What is told of words behind it that are no number of a refusal.
-const UNKNOWN: &str = "error: the refusals have the numbers 1 to 11
+const UNKNOWN: &str = "error: the refusals have the numbers 1 to 12
 
 Usage: aes3 --explain [NUMBER]
 
@@ -32,7 +32,7 @@ pub fn advice(number: u8) -> &'static str
     match number {
         1 => "are these packed cells (`--packed-in`), or a block file (`encode`)?",
         2 => "cut the file to a multiple of 1,536 bytes, samples to one of 8, or fill them up",
-        3 => "clear them: ALSA's words have codes there",
+        3 => "are these ALSA's words (`--words alsa`)? else clear them",
         4 => "is the file big-endian, or are samples not in bits 4 to 27?",
         5 => "a folder, a closed input, a broken disk?",
         6 => "a full disk, or a reader that ended early, as `head` does: then it means nothing",
@@ -43,6 +43,7 @@ pub fn advice(number: u8) -> &'static str
             "the last octet counts the unused cells before it, 0 to 7, and these are 0: `printf '\\0' >> FILE` adds it where there are none",
         11 =>
             "leave `--exact` out to drop them, or make samples of 24 bits first (`sox IN -b 24 OUT`)",
+        12 => "`sox FILE -t s32 - | aes3 from-pcm` takes its samples",
         _ => "",
     }
 }
@@ -63,6 +64,7 @@ fn wrong(number: u8) -> &'static str {
         10 => "packed cells end wrongly, at octet PLACE",
         11 =>
             "with `--exact`, the sample word that begins at byte PLACE has bits below the highest 24",
+        12 => "the input of `from-pcm` begins with the header of a WAV file, and not with samples",
         _ => "",
     }
 }

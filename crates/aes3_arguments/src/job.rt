@@ -17,6 +17,7 @@ use crate::show::show;
 use crate::status_text::status_of_text;
 use crate::value::{bit, flag, number};
 use crate::watch::watch;
+use crate::words::words;
 use aes3_cell::{Form, RunError};
 use aes3_commands::help;
 use aes3_job::Job;
@@ -58,8 +59,14 @@ pub(crate) fn job_of_command(
     let input = input_form(options);
     let output = form(options, "packed-out");
     match name {
-        "encode" => Ok(Job::Encode { output }),
-        "decode" => Ok(Job::Decode { input }),
+        "encode" => Ok(Job::Encode {
+            output,
+            words: words(options),
+        }),
+        "decode" => Ok(Job::Decode {
+            input,
+            words: words(options),
+        }),
         "normal" => Ok(Job::Normal { input, output }),
         "check" => Ok(check(options, input)),
         "watch" => Ok(watch(options, input)),
@@ -140,6 +147,7 @@ fn from_pcm(alloc: Global, options: &ArgMatches<'_>) -> Result<Job, LineFault>
         Ok(change) => Ok(Job::FromPcm {
             exact: flag(options, "exact"),
             change,
+            words: words(options),
         }),
         Err(fault) => Err(fault),
     }

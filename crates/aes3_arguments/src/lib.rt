@@ -30,6 +30,8 @@ mod style;
 mod value;
 /// The job of `watch`.
 mod watch;
+/// The form of a block file's words.
+mod words;
 
 pub use explain::{advice, asks_to_explain, explanation};
 pub use job::LineFault;

@@ -11,6 +11,7 @@ use crate::job::LineFault;
 use crate::samples::{fill, has_unknown_filling};
 use crate::style::rate;
 use crate::value::{flag, number_if_given};
+use crate::words::has_unknown_words;
 use aes3_cell::RunError;
 use clap::ArgMatches;
 use std::alloc::{AllocError, Global};
@@ -34,6 +35,8 @@ pub(crate) enum Misuse {
     FillsValidSamples,
     /// `--names` beside `--at` or `--more`.
     TwoDetails,
+    /// `--words` of a form that there is none of.
+    UnknownWords,
 }
 
 /// What stands behind the line that says what is wrong, as `clap` tells of words that it doesn't
@@ -66,6 +69,8 @@ pub(crate) fn misuse_of_options(options: &ArgMatches<'_>) -> Option<Misuse>
         Some(Misuse::FillsValidSamples)
     } else if has_two_details(options) {
         Some(Misuse::TwoDetails)
+    } else if has_unknown_words(options) {
+        Some(Misuse::UnknownWords)
     } else {
         None
     }
@@ -177,6 +182,9 @@ fn misuse_line(misuse: Misuse) -> &'static str
         }
         Misuse::TwoDetails => {
             "error: the argument '--names' cannot be used with '--at' or '--more'"
+        }
+        Misuse::UnknownWords => {
+            "error: invalid value for '--words <own|alsa|am824>': it is 'own', 'alsa' or 'am824'"
         }
     }
 }

@@ -26,6 +26,13 @@ fn bytes_of_words(words: &[u32; SLOTS]) -> [u8; BLOCK_BYTES]
     bytes
 }
 
+/// A block as 1,536 bytes of a block file.
+pub fn bytes_of_block(block: &Block) -> [u8; BLOCK_BYTES]
+    ensures { result ≡ block_bytes block.now }
+{
+    bytes_of_words(block.words())
+}
+
 /// Writes a block as 1,536 bytes, handed on as one buffer.
 ///
 /// # Errors
@@ -34,5 +41,5 @@ pub fn put_block_file<T: Sink>(block: &Block, sink: &mut T) -> Result<(), Fault>
     requires room { T.failed sink.old + 1 < 2 ^ 64 }
     ensures { Wrote T.taken T.failed sink.old sink.new (block_bytes block.now) result }
 {
-    write_all(sink, &bytes_of_words(block.words()))
+    write_all(sink, &bytes_of_block(block))
 }

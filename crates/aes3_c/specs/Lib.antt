@@ -4,3 +4,4 @@ pub mod Professional
 pub mod Consumer
 pub mod Octets
 pub mod Room
+pub mod Accounts

@@ -3,6 +3,8 @@
 //! calls; `include/aes3.h` is the header.
 #![tactic(auto)]
 
+/// The gaps of the account of all cells.
+mod account;
 /// The validity, user and channel status bits of a block's channel.
 mod bits;
 /// Blocks: their words, bytes and cells.

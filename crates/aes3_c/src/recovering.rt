@@ -50,10 +50,8 @@ fn recover_all(
 ) -> Result<(), Fault>
     requires { sink.old.failures ≡ 0 }
 {
-    match feed(recovery, sink, unit, samples) {
-        Ok(()) => recovery.finish(sink),
-        Err(fault) => Err(fault),
-    }
+    feed(recovery, sink, unit, samples)?;
+    recovery.finish(sink)
 }
 
 /// Recovers the cells of a line, and puts them and what was found. Answers whether there was room.

@@ -48,6 +48,17 @@ fn byte_of_why(why: Why) -> u8
     }
 }
 
+/// The reason of a byte.
+pub(crate) fn why_of_byte(byte: u8) -> Why
+    ensures { result ≡ why_of_code byte }
+{
+    match byte {
+        0 => Why::Preamble,
+        1 => Why::Biphase,
+        _ => Why::Unclosed,
+    }
+}
+
 /// Puts the same words once more.
 // In the place itself: an array that is answered would be one more on the stack.
 fn put_words(words: &[u32; 384], out: &mut [u32; 384])

@@ -2,8 +2,11 @@
 //! are proved.
 #![tactic(auto)]
 
+/// How long a cell may be.
 mod bounds;
+/// The cells of a whole capture.
 mod count;
+/// A follower of edges.
 mod follower;
 
 pub use bounds::{Bounds, PARTS};

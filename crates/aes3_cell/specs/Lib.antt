@@ -15,3 +15,4 @@ pub mod PackedFeeding
 pub mod PackedPending
 pub mod Laws
 pub mod Written
+pub mod Wave

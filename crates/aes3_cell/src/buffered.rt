@@ -67,13 +67,8 @@ impl<T: Sink + Drop> BufferedSink<T> {
         ensures err { OnErr result (T.failed self.new.sink ≡ T.failed self.old.sink + 1) }
     {
         while self.start < self.end {
-            match self
-                .sink
-                .write(&self.bytes.as_slice()[self.start..self.end])
-            {
-                Ok(n) => self.start += n,
-                Err(fault) => return Err(fault),
-            }
+            let bytes = &self.bytes.as_slice()[self.start..self.end];
+            self.start += self.sink.write(bytes)?;
         }
         self.start = 0;
         self.end = 0;
@@ -137,20 +132,14 @@ impl<T: Sink + Drop> Sink for BufferedSink<T> {
     #[inline(always)]
     fn write(&mut self, buf: &[u8]) -> Result<usize, Fault> {
         let n = buf.len().min(BUFFER_LEN);
-        match self.make_room(n) {
-            Ok(()) => {
-                self.append(&buf[..n]);
-                Ok(n)
-            }
-            Err(fault) => Err(fault),
-        }
+        self.make_room(n)?;
+        self.append(&buf[..n]);
+        Ok(n)
     }
 
     fn flush(&mut self) -> Result<(), Fault> {
-        match self.drain() {
-            Ok(()) => self.sink.flush(),
-            Err(fault) => Err(fault),
-        }
+        self.drain()?;
+        self.sink.flush()
     }
 
     fn failures(&self) -> u64 {
@@ -163,15 +152,11 @@ impl<T: Sink + Drop> Sink for BufferedSink<T> {
 
     #[inline(always)]
     fn put_many(&mut self, form: Form, words: &[u64; MANY]) -> Result<bool, Fault> {
-        match self.make_room(LINES_LEN) {
-            Ok(()) => {
-                match form {
-                    Form::Text => self.append_lines(words),
-                    Form::Packed => self.append(&octets_of_words(words)),
-                }
-                Ok(true)
-            }
-            Err(fault) => Err(fault),
+        self.make_room(LINES_LEN)?;
+        match form {
+            Form::Text => self.append_lines(words),
+            Form::Packed => self.append(&octets_of_words(words)),
         }
+        Ok(true)
     }
 }

@@ -111,10 +111,7 @@ pub fn write_all<T: Sink>(sink: &mut T, bytes: &[u8]) -> Result<(), Fault>
 {
     let mut at = 0;
     while at < bytes.len() {
-        match sink.write(&bytes[at..]) {
-            Ok(n) => at += n,
-            Err(fault) => return Err(fault),
-        }
+        at += sink.write(&bytes[at..])?;
     }
     Ok(())
 }

@@ -2,28 +2,53 @@
 //! go to.
 #![tactic(auto)]
 
+/// Reads and writes that a signal can interrupt, and that are tried again then.
 mod attempts;
+/// A sink that gathers the bytes for another one.
 mod buffered;
+/// What a run has counted.
 mod counts;
+/// Words of cells as octets, eight words at once.
 mod eights;
+/// A source that gives one byte again and again, for tests.
 mod endless;
+/// Where bytes come from and go to.
 mod ends;
+/// Ends over memory that fail from some call on, for tests.
 mod failing;
+/// The written forms of cells.
 mod form;
+/// A sink over memory that holds what it took until it is flushed, for tests.
 mod holding;
+/// Laws of the written forms, over all lists of cells.
 pub mod laws;
+/// Ends over memory, which tell their bytes.
 mod memory;
+/// Packed cells as they are read.
 mod packed_in;
+/// Packed cells as they are written.
 mod packed_out;
+/// Octets of packed cells as words of cells, many at once.
 mod packed_words;
+/// Why a run is refused.
 mod refusal;
+/// Cells among separators, 64 bytes at once.
 mod scattered;
+/// A sink over memory that takes few bytes a call, for tests.
 mod short;
+/// Ends over std's readers and writers.
 mod standard;
+/// Cell text as it is read.
 mod text_in;
+/// Cell text as it is written.
 mod text_out;
+/// Cell text as words of cells, many lines at once.
 mod text_words;
+/// The header of a WAV file.
+mod wave;
+/// Words of 64 cells, their line of text and their octets.
 mod word;
+/// Words of cells written in either form.
 mod written;
 
 pub use aes3_level::Level;
@@ -45,5 +70,6 @@ pub use standard::{StdSink, StdSource};
 pub use text_in::CellText;
 pub use text_out::TextOut;
 pub use text_words::SomeCells;
+pub use wave::begins_wave;
 pub use word::{LINE_LEN, line_of_word, octets_of_word, word_of_octets, word_of_text};
 pub use written::{put_ending, put_word, put_words};

@@ -20,7 +20,7 @@ pub struct BadPadding {
     pub at: u64,
 }
 
-/// The eleven refusals of a run or a command line.
+/// The twelve refusals of a run or a command line.
 #[derive(Clone, Copy, PartialEq, Eq, Error)]
 pub enum RunError {
     #[error("byte {at} is neither cell nor separator")]
@@ -45,6 +45,8 @@ pub enum RunError {
     BadPadding { at: u64 },
     #[error("the sample word that begins at byte {at} has bits below the highest 24")]
     BadSample { at: u64 },
+    #[error("the samples begin with the header of a WAV file")]
+    WaveHeader,
 }
 
 /// Its sentence.
@@ -55,7 +57,7 @@ impl Debug for RunError {
 }
 
 impl RunError {
-    /// The refusal's number, 1 to 11, as the program prints it.
+    /// The refusal's number, 1 to 12, as the program prints it.
     pub fn number(&self) -> u8
         ensures { result ≡ number_of self.now }
     {
@@ -71,6 +73,7 @@ impl RunError {
             RunError::BadStatusText => 9,
             RunError::BadPadding { .. } => 10,
             RunError::BadSample { .. } => 11,
+            RunError::WaveHeader => 12,
         }
     }
 
@@ -86,6 +89,7 @@ impl RunError {
             | RunError::BadPadding { at }
             | RunError::BadSample { at } => Some(at),
             RunError::BadLength { left } => Some(left),
+            RunError::WaveHeader => Some(0),
             _ => None,
         }
     }

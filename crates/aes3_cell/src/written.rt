@@ -85,11 +85,10 @@ fn put_front<T: Sink>(form: Form, words: &[u64], sink: &mut T) -> Result<usize, 
 {
     let mut at = 0;
     while let Some(many) = words[at..].first_chunk() {
-        match sink.put_many(form, many) {
-            Ok(true) => at += MANY,
-            Ok(false) => break,
-            Err(fault) => return Err(fault),
+        if !sink.put_many(form, many)? {
+            break;
         }
+        at += MANY;
     }
     Ok(at)
 }
@@ -101,10 +100,7 @@ fn put_each<T: Sink>(form: Form, words: &[u64], sink: &mut T) -> Result<(), Faul
         (bytes_of form (flat_map word_cells words.now)) result }
 {
     for word in words.iter() {
-        match put_word(form, *word, sink) {
-            Ok(()) => {}
-            Err(fault) => return Err(fault),
-        }
+        put_word(form, *word, sink)?;
     }
     Ok(())
 }
@@ -118,10 +114,8 @@ pub fn put_words<T: Sink>(form: Form, words: &[u64], sink: &mut T) -> Result<(),
     ensures { Wrote T.taken T.failed sink.old sink.new
         (bytes_of form (flat_map word_cells words.now)) result }
 {
-    match put_front(form, words, sink) {
-        Ok(written) => put_each(form, &words[written..], sink),
-        Err(fault) => Err(fault),
-    }
+    let written = put_front(form, words, sink)?;
+    put_each(form, &words[written..], sink)
 }
 
 /// Writes what stands behind the last word of cells: in packed form one octet, the number of unused

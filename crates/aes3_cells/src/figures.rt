@@ -40,7 +40,8 @@ pub fn figures_line(
         format!(in alloc; ", the latest from sample {}", figures.dead_at)?
     };
     format!(in alloc;
-        "aes3-cells: {} cells, {length} samples a cell{frequency}, edges {rms} of a cell rms, {most} at most, {} dead stretches{latest}, measured {} times\n",
+        "aes3-cells: {} cells, {length} samples a cell{frequency}, edges {rms} of a cell rms, \
+            {most} at most, {} dead stretches{latest}, measured {} times\n",
         figures.cells, figures.dead, figures.measured
     )
 }

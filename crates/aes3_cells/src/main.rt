@@ -2,7 +2,9 @@
 //! cells.
 #![tactic(auto)]
 
+/// The line that tells what was found.
 mod figures;
+/// The words of the command line.
 mod line;
 
 ghost use Rattle.std.specs.Prelude.{◌+◌, ◌<◌, ◌≤◌, ◌^◌, ◌≡◌, IfErr};

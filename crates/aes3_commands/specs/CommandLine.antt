@@ -12,8 +12,8 @@ use Rattle.aes3_commands.specs.declared.argument.Argument.TheVariants.{PackedIn,
 use Rattle.aes3_commands.specs.declared.argument.Argument.TheVariants.{LsbFirst, Changes, At, More, Names, From, Count}
 use Rattle.aes3_commands.specs.declared.argument.Argument.TheVariants.{Json, Rate, Every, EverySeconds}
 use Rattle.aes3_commands.specs.declared.argument.Argument.TheVariants.{Status1, Status2, Set1, Set2, MendCheck, Exact}
-use Rattle.aes3_commands.specs.declared.argument.Argument.TheVariants.{Valid1, Valid2, ClearUser1, ClearUser2, Valid, Fill}
-use Rattle.aes3_commands.specs.declared.argument.Argument.TheVariants.{Bits, Channel, File}
+use Rattle.aes3_commands.specs.declared.argument.Argument.TheVariants.{Valid1, Valid2, ClearUser1, ClearUser2, Valid}
+use Rattle.aes3_commands.specs.declared.argument.Argument.TheVariants.{Fill, Bits, Channel, Words, File}
 use Rattle.aes3_commands.specs.declared.definitions.Name.{Name}
 use Rattle.aes3_commands.specs.declared.definitions.Name.TheVariants.{Encode, Decode, Normal, Check, Watch, Show, Scan}
 use Rattle.aes3_commands.specs.declared.definitions.Name.TheVariants.{Cut, Rewrite, ToPcm, FromPcm, ToBits}
@@ -83,6 +83,10 @@ packed_out = flag (codes "packed-out")
 abbrev pub lsb_first : Rule
 lsb_first = flag (codes "lsb-first")
 
+-- the form of the words of the block file that a command reads or writes
+abbrev pub words : Rule
+words = text_option (codes "words")
+
 -- the options and values by their names
 abbrev pub rule : Argument → Rule
 rule PackedIn = packed_in
@@ -113,6 +117,7 @@ rule ClearUser2 = flag (codes "clear-user2")
 rule Valid = flag (codes "valid")
 rule Fill = text_option (codes "fill")
 rule Exact = flag (codes "exact")
+rule Words = words
 rule Bits = word (codes "BITS")
 rule Channel = number (codes "CHANNEL") 1 2
 rule File = file
@@ -121,7 +126,7 @@ abbrev pub command : Text → List Rule → Shape
 command name options = record (new_shape name) { rules = options }
 
 abbrev pub encode : Shape
-encode = command (codes "encode") (packed_out ∷ lsb_first ∷ [])
+encode = command (codes "encode") (packed_out ∷ lsb_first ∷ words ∷ [])
 
 -- a command that reads cells and writes none, with more options
 abbrev pub reader_with : Text → List Rule → Shape
@@ -130,6 +135,9 @@ reader_with name options = command name (packed_in ∷ raw_in ∷ lsb_first ∷ 
 -- one without more options
 abbrev pub reader : Text → Shape
 reader name = reader_with name (file ∷ [])
+
+abbrev pub decode : Shape
+decode = reader_with (codes "decode") (words ∷ file ∷ [])
 
 abbrev pub check : Shape
 check = reader_with (codes "check") (flag (codes "faults") ∷ flag (codes "gaps") ∷ file ∷ [])
@@ -166,7 +174,7 @@ abbrev pub from_pcm : Shape
 from_pcm = command (codes "from-pcm")
     (text_option (codes "status1") ∷ text_option (codes "status2")
     ∷ settings_option (codes "set1") ∷ settings_option (codes "set2")
-    ∷ flag (codes "mend-check") ∷ flag (codes "exact") ∷ file ∷ [])
+    ∷ flag (codes "mend-check") ∷ flag (codes "exact") ∷ words ∷ file ∷ [])
 
 abbrev pub to_bits : Shape
 to_bits = reader_with (codes "to-bits") (word (codes "BITS") ∷ number (codes "CHANNEL") 1 2 ∷ file ∷ [])
@@ -174,7 +182,7 @@ to_bits = reader_with (codes "to-bits") (word (codes "BITS") ∷ number (codes "
 -- the commands by their names
 abbrev pub shape : Name → Shape
 shape Encode = encode
-shape Decode = reader (codes "decode")
+shape Decode = decode
 shape Normal = normal
 shape Check = check
 shape Watch = watch
@@ -208,7 +216,7 @@ command_line = record {
     subcommand_required = true;
     has_version = true;
   };
-  subs = encode ∷ reader (codes "decode") ∷ normal ∷ check
+  subs = encode ∷ decode ∷ normal ∷ check
       ∷ watch ∷ show ∷ reader (codes "scan") ∷ cut ∷ rewrite
       ∷ to_pcm ∷ from_pcm ∷ to_bits ∷ [];
 }

@@ -75,6 +75,8 @@ pub(crate) enum Argument {
     Fill,
     /// `--exact` of `from-pcm`.
     Exact,
+    /// `--words own|alsa|am824`: the form of the words of a block file.
+    Words,
     /// Which bits `to-bits` writes.
     Bits,
     /// Of which channel it writes them.
@@ -196,6 +198,12 @@ impl Argument {
                 "Keep time: fill what no whole block gives with zeros, or with the last frame",
             ),
             Argument::Exact => flag(alloc, "exact", "Refuse samples of more than 24 bits"),
+            Argument::Words => text(
+                alloc,
+                "words",
+                "own|alsa|am824",
+                "The words of the block file are ours, ALSA's or those of AM824",
+            ),
             Argument::Bits => word(alloc, "BITS", "Which bits: `user`, `validity` or `status`"),
             Argument::Channel => number(alloc, "CHANNEL", 1, 2, "Of which channel: 1 or 2"),
             Argument::File => file_name(

@@ -135,8 +135,8 @@ impl Name {
     {
         use Argument::*;
         match self {
-            Name::Encode => &[PackedOut, LsbFirst],
-            Name::Decode => &[PackedIn, RawIn, LsbFirst, File],
+            Name::Encode => &[PackedOut, LsbFirst, Words],
+            Name::Decode => &[PackedIn, RawIn, LsbFirst, Words, File],
             Name::Normal => &[PackedIn, RawIn, PackedOut, LsbFirst, File],
             Name::Check => &[PackedIn, RawIn, LsbFirst, Faults, Gaps, File],
             Name::Watch => &[
@@ -157,7 +157,7 @@ impl Name {
                 Valid1, Valid2, ClearUser1, ClearUser2, File,
             ],
             Name::ToPcm => &[PackedIn, RawIn, LsbFirst, Valid, Fill, File],
-            Name::FromPcm => &[Status1, Status2, Set1, Set2, MendCheck, Exact, File],
+            Name::FromPcm => &[Status1, Status2, Set1, Set2, MendCheck, Exact, Words, File],
             Name::ToBits => &[PackedIn, RawIn, LsbFirst, Bits, Channel, File],
         }
     }

@@ -36,7 +36,9 @@ Forms of input and output:
                 its last run
   block file    1,536 bytes a block: 384 words of 4 bytes, lowest first, channel 1 and
                 then channel 2 of each frame. Bit N of a word is time slot N: bits 0
-                to 3 are zero, 4 to 27 the sample, 28 V, 29 U, 30 C, 31 even parity
+                to 3 are zero, 4 to 27 the sample, 28 V, 29 U, 30 C, 31 even parity.
+                With --words alsa they have the preamble's code there, as ALSA's
+                IEC958_SUBFRAME_LE, and with --words am824 the form of AM824 words
 
 Exit status:
   0  done, or help or the version was asked for
@@ -44,7 +46,7 @@ Exit status:
   2  the words are no command line; why is told on standard error
   3  refused; standard error has one line, `aes3: refused NUMBER at PLACE`, or no place
 
-Refusals have the numbers 1 to 11; PLACE counts bytes, words or octets from 0. `aes3
+Refusals have the numbers 1 to 12; PLACE counts bytes, words or octets from 0. `aes3
 --explain` prints what was wrong and what to do, with a NUMBER of that refusal alone.
 
 Examples, three tasks with examples/speech.block of the sources:
@@ -64,31 +66,41 @@ Examples, three tasks with examples/speech.block of the sources:
 
 pub const ENCODE: Texts<'static> = Texts {
     about: "Write the cells of a block file",
-    usage: "aes3 encode [--packed-out [--lsb-first]] < BLOCKFILE > CELLS",
+    usage: "aes3 encode [--packed-out [--lsb-first]] [--words own|alsa|am824] < BLOCKFILE > CELLS",
     more: "Reads a block file: 1,536 bytes a block, 384 words of 4 bytes, the lowest first.
 Writes the cells of its blocks as one line in the normal polarity, in which each
 preamble begins 111: as text 64 cells, a subframe, a line.
+With --words alsa the words are ALSA's IEC958_SUBFRAME_LE, where bits 0 to 3 have the
+code of the preamble, of Z 8, of X 2, of Y 4, or are zero. With --words am824 they are
+those of AM824 (IEC 61883-6, SMPTE ST 2110-31), the highest byte first. Such words may
+begin inside a block: up to 383 whose code is that of X or Y are left out before the
+first block, and a refusal counts words from there on.
 
 Exit status: 0 done; 3 refused: 2 the file ends inside a block, 3 a word has bits 0 to
-3 that are not zero, 4 a word has the wrong parity; or as for every command.
+3 that are not zero, or a code that is not due there, 4 a word has the wrong parity; or
+as for every command.
 
 Examples:
     aes3 encode < speech.block > line.txt
+    aes3 encode < speech.block | aes3 decode --words alsa > speech.alsa
+    aes3 encode --words alsa < speech.alsa | aes3 decode | cmp - speech.block
     aes3 encode --packed-out < speech.block | wc -c",
 };
 
 pub const DECODE: Texts<'static> = Texts {
     about: "Write the whole blocks as a block file",
-    usage: "aes3 decode [--packed-in|--raw-in] [--lsb-first] [FILE] > BLOCKFILE",
+    usage: "aes3 decode [OPTIONS] [FILE] > BLOCKFILE",
     more: "Reads cells, begun anywhere and in either polarity.
 Writes the whole blocks that stand in them as a block file, 1,536 bytes each. What is
-cut or damaged is left out, and nothing is told of it: `aes3 check` tells it.
+cut or damaged is left out, and nothing is told of it: `aes3 check` tells it. With --words
+alsa or am824 its words are in that form, as `aes3 encode` reads them.
 
 Exit status: 0 done, also where no block was found; 3 refused: 1 a byte is no cell, 10
 packed cells end wrongly; or as for every command.
 
 Examples:
     aes3 decode < line.txt > line.block
+    aes3 decode --words am824 < line.txt > line.am824
     aes3 encode --packed-out < speech.block | aes3 decode --packed-in | cmp - speech.block
     aes3 encode --packed-out < speech.block | head -c -1 | aes3 decode --raw-in | cmp - speech.block",
 };
@@ -122,17 +134,18 @@ pub const FROM_PCM: Texts<'static> = Texts {
     usage: "aes3 from-pcm [OPTIONS] [FILE] > BLOCKFILE",
     more: "Reads samples as `aes3 to-pcm` writes them: of each frame channel 1 and then channel 2,
 4 bytes each, lowest first (S32LE: `ffmpeg -f s32le`, `sox -t raw -e signed -b 32 -L`,
-ALSA's S32_LE), without the header of a WAV file, which would be taken as samples (`sox
-FILE -t s32 -` leaves it off). The 24 highest bits of each are the sample, the lowest 8
+ALSA's S32_LE). The header of a WAV file before them is refused (`sox FILE -t s32 -`
+leaves it off). The 24 highest bits of each are the sample, the lowest 8
 are dropped; with --exact they have to be zero. Samples that are zero fill up the last
 block.
 Writes a block file with V and U 0 and the channel status that the options give, as `aes3
 rewrite` has them, else zeros: that is consumer status, whose fields --set1 NAME=WORD and
---set2 NAME=WORD then set.
+--set2 NAME=WORD then set. With --words alsa or am824 its words are in that form, as `aes3
+encode` reads them.
 
 Exit status: 0 done; 3 refused: 9 a status is not 48 hexadecimal digits, and nothing is
-read, 2 the samples end inside a frame, 11 a sample has more than 24 bits; or as for
-every command.
+read, 2 the samples end inside a frame, 11 a sample has more than 24 bits, 12 they begin
+with the header of a WAV file; or as for every command.
 
 Examples:
     aes3 from-pcm --exact < line.s32 | aes3 encode | aes3 to-pcm | cmp - line.s32
@@ -293,8 +306,10 @@ pub const REWRITE: Texts<'static> = Texts {
 Writes what it would, with the channel status of each block set as the options ask.
 HEX48 is the 24 bytes of a channel's status as 48 hexadecimal digits, byte 0 first. Then
 --set1 NAME=WORD and --set2 NAME=WORD set fields, by the names and words that `aes3 show`
-prints; each may stand 32 times, and they are set in that order. A status for the use
-that has no such field stays as it is. With --mend-check byte 23 of each channel whose
+prints, with --names too, and use=professional or use=consumer sets the use; each may
+stand 32 times, and they are set in that order. A status for the use that has no such
+field stays as it is, and so does one in which the word has no code, as a consumer one for
+word=24 without greatest=24 before it. With --mend-check byte 23 of each channel whose
 status is professional then becomes its check byte. --valid1 0 and --valid2 0 make V of
 all subframes of a channel 0, which says that their samples can be taken as they are; with
 1 it says that they can't. --clear-user1 and --clear-user2 make U of all of them 0.

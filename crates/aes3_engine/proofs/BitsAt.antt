@@ -36,7 +36,8 @@ pub lawful-at : (place : ℕ) (channel : Channel) (b : List (List Bool)) (bits :
     → IsBlock (with_bits_at place channel b bits)
 lawful-at place channel b bits h = record {
   count = length-at place channel b bits ∙ h.count;
-  payloads = all-payloads (with_bits_at place channel b bits) (each-at place channel b bits (each-payload b h.payloads));
+  payloads = all-payloads (with_bits_at place channel b bits)
+      (each-at place channel b bits (each-payload b h.payloads));
 }
 
 -- behind the audio they leave the samples
@@ -61,7 +62,8 @@ place-apart place other Second First (p ∷ b) bits h =
 place-apart place other Second Second (p ∷ b) bits h = place-apart place other First First b bits h
 
 pub channel-apart : (place other : ℕ) (channel : Channel) (b : List (List Bool)) (bits : List Bool)
-    → bits_at other (with_bits_at place channel b bits) (other_channel channel) ≡ bits_at other b (other_channel channel)
+    → bits_at other (with_bits_at place channel b bits) (other_channel channel)
+    ≡ bits_at other b (other_channel channel)
 channel-apart place other channel [] bits = refl
 channel-apart place other First (p ∷ b) [] = refl
 channel-apart place other First (p ∷ b) (c ∷ bits) = channel-apart place other Second b bits

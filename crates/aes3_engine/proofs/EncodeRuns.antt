@@ -7,6 +7,7 @@ use Rattle.aes3_level.specs.declared.level.Level.TheVariants.{Low}
 use Rattle.aes3_cell.specs.declared.refusal.RunError.{RunError}
 use Rattle.aes3_cell.specs.declared.refusal.RunError.TheVariants.{BadCell, BadLength, BadCode, BadParity, Read, Write}
 use Rattle.aes3_cell.specs.declared.refusal.RunError.TheVariants.{TooLong, Memory, BadStatusText, BadPadding, BadSample}
+use Rattle.aes3_cell.specs.declared.refusal.RunError.TheVariants.{WaveHeader}
 use Rattle.aes3_cell.specs.declared.counts.Counts.{Counts}
 use Rattle.aes3_cell.specs.declared.form.Form.{Form}
 use Rattle.aes3_cell.specs.Written.{bytes_of, ending, written}
@@ -58,12 +59,12 @@ lawful-of-clean form p (x ∷ d) l e =
         ∙ next (lawful-next p x l q) e
     go (Some f) q e next = absurd cc
 
-clean-lawful : (form : Form) (b : List ℕ) → first_fault (encoding form) b ≡ None → AllLawful b
+pub clean-lawful : (form : Form) (b : List ℕ) → first_fault (encoding form) b ≡ None → AllLawful b
 unfolding first_fault
 clean-lawful form b e = record { is = lawful-words b (lawful-of-clean form [] b refl e) }
 
 -- what the conversion writes
-out-encoded : (form : Form) (b : List ℕ) → out (encoding form) b ≡ encoded form b
+pub out-encoded : (form : Form) (b : List ℕ) → out (encoding form) b ≡ encoded form b
 unfolding encoding encoded
 out-encoded form = out-is (encoding form) (encoded form) nothing more stays
   where
@@ -91,7 +92,7 @@ out-encoded form = out-is (encoding form) (encoded form) nothing more stays
         let r = refused-some (byte_fault (reader_of b) x) e q in
         ap (λ v. bytes_of form (stream Low v)) (blocks-stay b x d r.0 (all-lawful (clean-lawful form b c)) r.1)
 
-whole-encoded : (form : Form) (b : List ℕ) → whole (encoding form) b ≡ written form (stream Low (file_blocks b))
+pub whole-encoded : (form : Form) (b : List ℕ) → whole (encoding form) b ≡ written form (stream Low (file_blocks b))
 unfolding whole encoding encoded stream
 whole-encoded form b =
     ap (λ o. o ++ ending form) (out-encoded form b)
@@ -152,7 +153,7 @@ cause-of : (form : Form) (b : List ℕ) (e : RunError) → first_fault (encoding
 unfolding first_fault
 cause-of form b e q = cause-behind form [] b e refl q
 
-end-cases : (form : Form) (b : List ℕ) → (((encoding form).end_fault b ≡ None) × (length b % (4 * block_slots) ≡ 0))
+pub end-cases : (form : Form) (b : List ℕ) → (((encoding form).end_fault b ≡ None) × (length b % (4 * block_slots) ≡ 0))
     ⊎ (((encoding form).end_fault b ≡ Some (BadLength (length b % (4 * block_slots))))
     × (0 < length b % (4 * block_slots)))
 unfolding encoding
@@ -162,7 +163,8 @@ end-cases form b = elim (end-none b) [
 ]
 
 -- the cause of each refusal
-code-cause : (form : Form) (b : List ℕ) (at : ℕ) → first_fault (encoding form) b ≡ Some (BadCode at) → BadCodeAt b at
+pub code-cause : (form : Form) (b : List ℕ) (at : ℕ) → first_fault (encoding form) b ≡ Some (BadCode at)
+    → BadCodeAt b at
 code-cause form b at q = elim (cause-of form b (BadCode at) q) [
   | inl c ↦ subst (BadCodeAt b) (same c.0 c.1) c.2
   | inr c ↦ absurd (other c.0 c.1)
@@ -174,7 +176,7 @@ code-cause form b at q = elim (cause-of form b (BadCode at) q) [
     other : (k : ℕ) → BadCode at ≡ BadParity k → ⊥
     other k e = cc
 
-parity-cause : (form : Form) (b : List ℕ) (at : ℕ) → first_fault (encoding form) b ≡ Some (BadParity at)
+pub parity-cause : (form : Form) (b : List ℕ) (at : ℕ) → first_fault (encoding form) b ≡ Some (BadParity at)
     → BadParityAt b at
 parity-cause form b at q = elim (cause-of form b (BadParity at) q) [
   | inl c ↦ absurd (other c.0 c.1)
@@ -188,18 +190,18 @@ parity-cause form b at q = elim (cause-of form b (BadParity at) q) [
     other k e = cc
 
 -- a refusal that is neither of a word nor of the end has no cause
-no-fault-cause : (form : Form) (b : List ℕ) (e : RunError) → ((k : ℕ) → e ≡ BadCode k → ⊥)
+pub no-fault-cause : (form : Form) (b : List ℕ) (e : RunError) → ((k : ℕ) → e ≡ BadCode k → ⊥)
     → ((k : ℕ) → e ≡ BadParity k → ⊥) → first_fault (encoding form) b ≡ Some e → ⊥
 no-fault-cause form b e c p q = elim (cause-of form b e q) [ inl r ↦ c r.0 r.1 | inr r ↦ p r.0 r.1 ]
 
-no-end-cause : (form : Form) (b : List ℕ) (e : RunError) → ((k : ℕ) → e ≡ BadLength k → ⊥)
+pub no-end-cause : (form : Form) (b : List ℕ) (e : RunError) → ((k : ℕ) → e ≡ BadLength k → ⊥)
     → (encoding form).end_fault b ≡ Some e → ⊥
 no-end-cause form b e n q = elim (end-cases form b) [
   | inl r ↦ none-some _ (sym r.0 ∙ q)
   | inr r ↦ n (length b % (4 * block_slots)) (same_Some _ _ (sym q ∙ r.0))
 ]
 
-length-cause : (form : Form) (b : List ℕ) (left : ℕ) → (encoding form).end_fault b ≡ Some (BadLength left)
+pub length-cause : (form : Form) (b : List ℕ) (left : ℕ) → (encoding form).end_fault b ≡ Some (BadLength left)
     → (left ≡ length b % (4 * block_slots)) × (0 < left)
 length-cause form b left q = elim (end-cases form b) [
   | inl r ↦ absurd (none-some _ (sym r.0 ∙ q))
@@ -247,6 +249,10 @@ fault-cause form max b ended (BadPadding at) h = elim h [
 fault-cause form max b ended (BadSample at) h = elim h [
   | inl q ↦ no-fault-cause form (take max b) (BadSample at) (λ k e. cc) (λ k e. cc) q
   | inr q ↦ no-end-cause form b (BadSample at) (λ k e. cc) q.1
+]
+fault-cause form max b ended WaveHeader h = elim h [
+  | inl q ↦ no-fault-cause form (take max b) WaveHeader (λ k e. cc) (λ k e. cc) q
+  | inr q ↦ no-end-cause form b WaveHeader (λ k e. cc) q.1
 ]
 
 -- bytes without a fault are a block file
@@ -302,6 +308,7 @@ no-file-cause max b ended i l Memory r w h = h
 no-file-cause max b ended i l BadStatusText r w h = h
 no-file-cause max b ended i l (BadPadding n) r w h = h
 no-file-cause max b ended i l (BadSample n) r w h = h
+no-file-cause max b ended i l WaveHeader r w h = h
 
 -- the run
 pub encoding-gives : (form : Form) (z : List ℕ → Type 0) → Gives (converted (encoding form) z) (encoded_file form)

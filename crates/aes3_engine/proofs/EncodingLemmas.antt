@@ -26,8 +26,8 @@ use Rattle.aes3_engine.specs.Encoding.{AllLawful}
 use Rattle.aes3_block.proofs.Feeding.{reader-open}
 
 -- one byte that is no fault
-one-clean : (form : Form) (b : List ℕ) (x : ℕ) (block : Option (List (List Bool))) → byte_fault (reader_of b) x ≡ None
-    → block_with (reader_of b) x ≡ block
+pub one-clean : (form : Form) (b : List ℕ) (x : ℕ) (block : Option (List (List Bool)))
+    → byte_fault (reader_of b) x ≡ None → block_with (reader_of b) x ≡ block
     → (fault_behind (encoding form) b (x ∷ []) ≡ None)
     × (out_behind (encoding form) b (x ∷ []) ≡ block_written form block)
 unfolding encoding
@@ -37,7 +37,7 @@ one-clean form b x block e f = (
       ∙ append-nil (block_written form (block_with (reader_of b) x)) ∙ ap (block_written form) f,
 )
 
-one-fault : (form : Form) (b : List ℕ) (x : ℕ) (f : FileFault) → byte_fault (reader_of b) x ≡ Some f
+pub one-fault : (form : Form) (b : List ℕ) (x : ℕ) (f : FileFault) → byte_fault (reader_of b) x ≡ Some f
     → (fault_behind (encoding form) b (x ∷ []) ≡ Some (refusal_of f)) × (out_behind (encoding form) b (x ∷ []) ≡ [])
     × (before_fault (encoding form) b (x ∷ []) ≡ [])
 unfolding encoding

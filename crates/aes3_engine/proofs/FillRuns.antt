@@ -61,7 +61,8 @@ fill-err {form} fill r = drove-err (λ c. filled fill (placed (reports c))) (λ 
     (counts_of form) (with-cells fill) (before-cells fill) r
 
 pub fill-same : {max : ℕ} (form : Form) {f h : Fill} {ended : Bool} {source sink : Movement}
-    {r : Result Counts RunError} → f ≡ h → FillRun max form f ended source sink r → FillRun max form h ended source sink r
+    {r : Result Counts RunError} → f ≡ h → FillRun max form f ended source sink r
+    → FillRun max form h ended source sink r
 fill-same {max} form {ended = ended} {source = source} {sink = sink} {r = r} e run =
     subst (λ (v : Fill). FillRun max form v ended source sink r) e run
 
@@ -71,7 +72,8 @@ unfolding decided
 nothing-reached fill e = e
 
 -- its clauses
-pub run-row : {max : ℕ} (input : Form) (fill : Fill) {ended : Bool} {source sink : Movement} (r : Result Counts RunError)
+pub run-row : {max : ℕ} (input : Form) (fill : Fill) {ended : Bool} {source sink : Movement}
+    (r : Result Counts RunError)
     → FillRun max input fill ended source sink r
     → IfOk r (λ (n : Counts). (b : List ℕ) (p : ℕ) → Told source.old source.new b
     → InRow p (placed (reports (cells_of input b))) → Grew sink.old sink.new (samples (blocks (cells_of input b))))

@@ -1,6 +1,10 @@
 pub mod EncodingLemmas
 pub mod EncodeRuns
+pub mod WordReads
+pub mod WordRuns
+pub mod WordsBack
 pub mod RewrittenBlocks
+pub mod WaveHeaders
 pub mod SampleReads
 pub mod SampleRuns
 pub mod SamplesBack

@@ -95,7 +95,10 @@ module _ (P : List (List Bool) → Type 0) (keeps : (place : ℕ) (channel : Cha
 pub each-blocks : (change : Change) (bs : List (List (List Bool))) → EachBlock27 bs
     → EachBlock27 (rewritten_blocks change bs)
 each-blocks change [] h = tt
-each-blocks change (b ∷ bs) h = (rewritten-keeps Each27 (λ place channel d bits l. each-at place channel d bits) change b h.0, each-blocks change bs h.1)
+each-blocks change (b ∷ bs) h = (
+  rewritten-keeps Each27 (λ place channel d bits l. each-at place channel d bits) change b h.0,
+  each-blocks change bs h.1,
+)
 
 -- what the changed blocks write
 changed-numbered : (form : Form) (change : Change) (n : ℕ) (bs : List (List (List Bool)))

@@ -1,45 +1,51 @@
 -- Samples converted byte by byte.
-use Rattle.std.proofs.Common.{◌≡◌, ◌≢◌, ℕ, zero, suc, ◌+◌, ◌-◌, ◌*◌, ◌/◌, ◌%◌, ◌<◌, ◌≤◌, inl, inr, List, [], ◌∷◌, ◌++◌}
+use Rattle.std.proofs.Common.{◌≡◌, ◌≢◌, ℕ, zero, suc, ◌+◌, ◌-◌, ◌*◌, ◌/◌, ◌%◌, ◌<◌, ◌≤◌, ◌⊎◌, inl, inr, List, [], ◌∷◌}
+use Rattle.std.proofs.Common.{◌++◌}
 use Rattle.std.proofs.Common.{Bool, true, false, not, cond, ◌&&◌, eqb, Option, Some, None, length, take, drop}
 use Rattle.std.proofs.Common.{replicate, get_or, map, refl, sym, ap, ap₂, ◌∙◌, subst, arith, append_assoc, append-nil}
 use Rattle.std.proofs.Common.{length-append, eq-eqb, ne_eqb}
 use borrow.Rule.Slice.PartMut.{put_mid}
-use Rattle.std.proofs.lemmas.Bool.{cases_eq, cases_lt}
+use Rattle.std.proofs.lemmas.Bool.{cases_Bool, cases_eq, cases_lt}
 use Rattle.std.proofs.lemmas.Grind.{flat_map-append}
 use Rattle.std.proofs.lemmas.List.{append_cancel_left, drop_at, drop_all, map-append, get_or-append_right}
 use Rattle.std.proofs.lemmas.List.{get_or_append_left, take-append-drop, length-take-le, length-drop, drop_more}
-use Rattle.std.proofs.lemmas.List.{drop-drop, get_or-take, get_or_past}
+use Rattle.std.proofs.lemmas.List.{drop-drop, get_or-take, get_or_past, nil_from_length}
 use Rattle.aes3_cell.specs.declared.refusal.RunError.{RunError}
-use Rattle.aes3_cell.specs.declared.refusal.RunError.TheVariants.{BadLength, BadSample}
+use Rattle.aes3_cell.specs.declared.refusal.RunError.TheVariants.{BadLength, BadSample, WaveHeader}
 use Rattle.aes3_cell.specs.Ends.{Grew, GrewFront}
+use Rattle.aes3_cell.specs.Wave.{begins_wave}
 use Rattle.aes3_cell.proofs.Growing.{grew-none, grew-is, front-is}
 use Rattle.aes3_frame.specs.Blocks.{block_slots}
-use Rattle.aes3_frame.specs.Files.{bytes_number, words_of, block_bytes, file}
+use Rattle.aes3_frame.specs.Files.{bytes_number, words_of}
 use Rattle.aes3_frame.specs.Sampled.{payload_of_sample, sampled, filled}
 use Rattle.aes3_frame.proofs.SampleBlocks.{words-join, words-zeros, sampled-join, sampled-short, sampled-one}
 use Rattle.aes3_frame.proofs.Words.{length-words}
 use Rattle.aes3_input.specs.Converting.{or_else, unless, fault_behind, out_behind, first_fault, out}
 use Rattle.aes3_input.specs.Running.{Fed, Stopped}
 use Rattle.aes3_input.proofs.Feeding.{front-longer}
-use Rattle.aes3_input.proofs.Outputs.{out-is, behind-clean, fault-clean}
+use Rattle.aes3_input.proofs.Outputs.{out-is, behind-clean, fault-clean, fault-first}
+use Rattle.aes3_words.specs.declared.form.Words.{Words}
 use Rattle.aes3_status.specs.declared.change.Change.{Change}
 use Rattle.aes3_engine.specs.Rewriting.{rewritten, rewritten_blocks}
-use Rattle.aes3_engine.specs.Sampling.{sample_file, exact_words, pcm_file, begun_pcm, AllExact, is_low, more_of}
-use Rattle.aes3_engine.specs.Sampling.{sampling, Samples, block_bytes_len, frame_len}
+use Rattle.aes3_engine.specs.Words.{block_words, words_file}
+use Rattle.aes3_engine.specs.Sampling.{sample_file, exact_words, pcm_words, begun_pcm, sample_words, AllExact, is_low}
+use Rattle.aes3_engine.specs.Sampling.{more_of}
+use Rattle.aes3_engine.specs.Sampling.{sampling, Samples, AreSamples, block_bytes_len, frame_len, wave_header_len}
+use Rattle.aes3_engine.proofs.WaveHeaders.{wave-front, wave-more, wave-settled, wave-short, wave-head}
 use Rattle.aes3_frame.proofs.BlockLemmas.{count-within}
 use Rattle.std.proofs.lemmas.Option.{none-some, same_Some}
 
 -- the block file of the samples in bytes, as far as they are whole blocks
-abbrev pub made : Change → List ℕ → List ℕ
-made change b = sample_file change (words_of b)
+abbrev pub made : Words → Change → List ℕ → List ℕ
+made form change b = sample_file form change (words_of b)
 
-made-join : (change : Change) (ws vs : List ℕ) → length ws % block_slots ≡ 0
-    → sample_file change (ws ++ vs) ≡ sample_file change ws ++ sample_file change vs
+made-join : (form : Words) (change : Change) (ws vs : List ℕ) → length ws % block_slots ≡ 0
+    → sample_file form change (ws ++ vs) ≡ sample_file form change ws ++ sample_file form change vs
 unfolding sample_file
-made-join change ws vs h =
-    ap (λ bs. file (rewritten_blocks change bs)) (sampled-join ws vs h)
-    ∙ ap file (map-append (rewritten change) (sampled ws) (sampled vs))
-    ∙ flat_map-append block_bytes (rewritten_blocks change (sampled ws)) (rewritten_blocks change (sampled vs))
+made-join form change ws vs h =
+    ap (λ bs. words_file form (rewritten_blocks change bs)) (sampled-join ws vs h)
+    ∙ ap (words_file form) (map-append (rewritten change) (sampled ws) (sampled vs))
+    ∙ flat_map-append (block_words form) (rewritten_blocks change (sampled ws)) (rewritten_blocks change (sampled vs))
 
 whole-words : (b : List ℕ) → length b % block_bytes_len ≡ 0 → length (words_of b) % block_slots ≡ 0
 unfolding block_slots block_bytes_len
@@ -50,34 +56,37 @@ unfolding block_bytes_len
 whole-four n h = omega arith
 
 -- behind whole blocks
-pub made-behind : (change : Change) (p q : List ℕ) → length p % block_bytes_len ≡ 0
-    → made change (p ++ q) ≡ made change p ++ made change q
-made-behind change p q h =
-    ap (sample_file change) (words-join p q (whole-four (length p) h))
-    ∙ made-join change (words_of p) (words_of q) (whole-words p h)
+pub made-behind : (form : Words) (change : Change) (p q : List ℕ) → length p % block_bytes_len ≡ 0
+    → made form change (p ++ q) ≡ made form change p ++ made form change q
+made-behind form change p q h =
+    ap (sample_file form change) (words-join p q (whole-four (length p) h))
+    ∙ made-join form change (words_of p) (words_of q) (whole-words p h)
 
-pub made-short : (change : Change) (q : List ℕ) → length q < 1536 → made change q ≡ []
+pub made-short : (form : Words) (change : Change) (q : List ℕ) → length q < 1536 → made form change q ≡ []
 unfolding sample_file block_slots
-made-short change q h =
-    ap (λ bs. file (rewritten_blocks change bs)) (sampled-short (words_of q) (let l = length-words q in omega arith))
+made-short form change q h =
+    ap (λ bs. words_file form (rewritten_blocks change bs)) (sampled-short (words_of q)
+    (let l = length-words q in omega arith))
 
-pub made-one : (change : Change) (q : List ℕ) → length q ≡ 1536
-    → made change q ≡ block_bytes (rewritten change (map payload_of_sample (words_of q)))
+pub made-one : (form : Words) (change : Change) (q : List ℕ) → length q ≡ 1536
+    → made form change q ≡ block_words form (rewritten change (map payload_of_sample (words_of q)))
 unfolding sample_file block_slots
-made-one change q h =
-    ap (λ bs. file (rewritten_blocks change bs)) (sampled-one (words_of q) (let l = length-words q in omega arith))
-    ∙ append-nil (block_bytes (rewritten change (map payload_of_sample (words_of q))))
+made-one form change q h =
+    ap (λ bs. words_file form (rewritten_blocks change bs)) (sampled-one (words_of q)
+    (let l = length-words q in omega arith))
+    ∙ append-nil (block_words form (rewritten change (map payload_of_sample (words_of q))))
 
 -- what is written of a front stays
 more-join : (a d : List ℕ) → more_of a (a ++ d) ≡ d
 more-join a d = drop_at a d (length a) refl
 
-pub made-more : (change : Change) (p h d : List ℕ) → length p % block_bytes_len ≡ 0 → length h < 1536
-    → made change (p ++ h ++ d) ≡ made change (p ++ h) ++ made change (h ++ d)
-made-more change p h d w l =
-    ap (made change) (append_assoc p h d) ∙ made-behind change p (h ++ d) w
-    ∙ ap (λ z. z ++ made change (h ++ d))
-    (sym (made-behind change p h w ∙ ap (λ z. made change p ++ z) (made-short change h l) ∙ append-nil (made change p)))
+pub made-more : (form : Words) (change : Change) (p h d : List ℕ) → length p % block_bytes_len ≡ 0 → length h < 1536
+    → made form change (p ++ h ++ d) ≡ made form change (p ++ h) ++ made form change (h ++ d)
+made-more form change p h d w l =
+    ap (made form change) (append_assoc p h d) ∙ made-behind form change p (h ++ d) w
+    ∙ ap (λ z. z ++ made form change (h ++ d))
+    (sym (made-behind form change p h w ∙ ap (λ z. made form change p ++ z) (made-short form change h l)
+    ∙ append-nil (made form change p)))
 
 count-rest : (n : ℕ) → n - block_slots * (n / block_slots) < block_slots
 unfolding block_slots
@@ -87,14 +96,14 @@ count-whole : (n : ℕ) → block_slots * n % block_slots ≡ 0
 unfolding block_slots
 count-whole n = omega arith
 
-file-short : (change : Change) (ws : List ℕ) → length ws < block_slots → sample_file change ws ≡ []
+file-short : (form : Words) (change : Change) (ws : List ℕ) → length ws < block_slots → sample_file form change ws ≡ []
 unfolding sample_file
-file-short change ws h = ap (λ bs. file (rewritten_blocks change bs)) (sampled-short ws h)
+file-short form change ws h = ap (λ bs. words_file form (rewritten_blocks change bs)) (sampled-short ws h)
 
-pub file-more : (change : Change) (ws vs : List ℕ)
-    → sample_file change (ws ++ vs) ≡ sample_file change ws ++ more_of (sample_file change ws)
-    (sample_file change (ws ++ vs))
-file-more change ws vs =
+pub file-more : (form : Words) (change : Change) (ws vs : List ℕ)
+    → sample_file form change (ws ++ vs) ≡ sample_file form change ws ++ more_of (sample_file form change ws)
+    (sample_file form change (ws ++ vs))
+file-more form change ws vs =
     let k = block_slots * (length ws / block_slots) in
     let p = take k ws in
     let h = drop k ws in
@@ -102,14 +111,16 @@ file-more change ws vs =
     let w : length p % block_slots ≡ 0 = ap (λ n. n % block_slots) (length-take-le k ws (count-within (length ws)))
     ∙ count-whole (length ws / block_slots) in
     let s : length h < block_slots = subst (λ n. n < block_slots) (sym (length-drop k ws)) (count-rest (length ws)) in
-    let m : sample_file change (ws ++ vs) ≡ sample_file change ws ++ sample_file change (h ++ vs) =
-    ap (λ z. sample_file change (z ++ vs)) (sym e) ∙ ap (sample_file change) (append_assoc p h vs)
-    ∙ made-join change p (h ++ vs) w
-    ∙ ap (λ z. z ++ sample_file change (h ++ vs))
-    (sym (append-nil (sample_file change p)) ∙ ap (λ z. sample_file change p ++ z) (sym (file-short change h s))
-    ∙ sym (made-join change p h w) ∙ ap (sample_file change) e) in
-    m ∙ ap (λ z. sample_file change ws ++ z)
-    (sym (ap (more_of (sample_file change ws)) m ∙ more-join (sample_file change ws) (sample_file change (h ++ vs))))
+    let m : sample_file form change (ws ++ vs) ≡ sample_file form change ws ++ sample_file form change (h ++ vs) =
+    ap (λ z. sample_file form change (z ++ vs)) (sym e) ∙ ap (sample_file form change) (append_assoc p h vs)
+    ∙ made-join form change p (h ++ vs) w
+    ∙ ap (λ z. z ++ sample_file form change (h ++ vs))
+    (sym (append-nil (sample_file form change p)) ∙ ap (λ z. sample_file form change p ++ z) (sym
+    (file-short form change h s))
+    ∙ sym (made-join form change p h w) ∙ ap (sample_file form change) e) in
+    m ∙ ap (λ z. sample_file form change ws ++ z)
+    (sym (ap (more_of (sample_file form change ws)) m ∙ more-join (sample_file form change ws)
+    (sample_file form change (h ++ vs))))
 
 -- one more byte ends a word or none
 words-more : (b d : List ℕ) → (vs : List ℕ) × (words_of (b ++ d) ≡ words_of b ++ vs)
@@ -120,12 +131,13 @@ words-more (x ∷ y ∷ z ∷ []) d = (words_of (x ∷ y ∷ z ∷ d), refl)
 words-more (x ∷ y ∷ z ∷ w ∷ b) d = let r = words-more b d in
     (r.0, ap (λ ws. bytes_number (x ∷ y ∷ z ∷ w ∷ []) ∷ ws) r.1)
 
-pub any-more : (change : Change) (b d : List ℕ)
-    → made change (b ++ d) ≡ made change b ++ more_of (made change b) (made change (b ++ d))
-any-more change b d =
+pub any-more : (form : Words) (change : Change) (b d : List ℕ)
+    → made form change (b ++ d) ≡ made form change b ++ more_of (made form change b) (made form change (b ++ d))
+any-more form change b d =
     let r = words-more b d in
-    subst (λ (ws : List ℕ). sample_file change ws ≡ made change b ++ more_of (made change b) (sample_file change ws))
-    (sym r.1) (file-more change (words_of b) r.0)
+    subst (λ (ws : List ℕ). sample_file form change ws ≡ made form change b ++ more_of (made form change b)
+    (sample_file form change ws))
+    (sym r.1) (file-more form change (words_of b) r.0)
 
 -- ---- faults
 
@@ -154,40 +166,72 @@ from-true true b x h = elim (cases_eq (length b % 4) 0) [
   | inr q ↦ absurd (let t = low-false true b x (λ e r. absurd (q r)) in cc)
 ]
 
-abbrev fault-of : Bool → ℕ → Option RunError
-fault-of t n = cond {A = Option RunError} t (Some (BadSample n)) None
+abbrev fault-of : Bool → Bool → ℕ → Option RunError
+fault-of t w n = cond {A = Option RunError} t (Some (BadSample n)) (cond {A = Option RunError} w (Some WaveHeader) None)
 
-fault-none : (t : Bool) (n : ℕ) → fault-of t n ≡ None → t ≡ false
-fault-none false n h = refl
-fault-none true n h = absurd (none-some _ (sym h))
+fault-none : (t w : Bool) (n : ℕ) → fault-of t w n ≡ None → (t ≡ false) × (w ≡ false)
+fault-none false false n h = (refl, refl)
+fault-none false true n h = absurd (none-some _ (sym h))
+fault-none true w n h = absurd (none-some _ (sym h))
 
-fault-some : (t : Bool) (n : ℕ) (e : RunError) → fault-of t n ≡ Some e → (t ≡ true) × (e ≡ BadSample n)
-fault-some false n e h = absurd (none-some _ h)
-fault-some true n e h = (refl, sym (same_Some _ _ h))
+fault-some : (t w : Bool) (n : ℕ) (e : RunError) → fault-of t w n ≡ Some e
+    → ((t ≡ true) × (e ≡ BadSample n)) ⊎ ((t ≡ false) × (w ≡ true) × (e ≡ WaveHeader))
+fault-some false false n e h = absurd (none-some _ h)
+fault-some false true n e h = inr (refl, refl, sym (same_Some _ _ h))
+fault-some true w n e h = inl (refl, sym (same_Some _ _ h))
 
-pub clean-byte : (exact : Bool) (change : Change) (b : List ℕ) (x : ℕ) → (exact ≡ true → length b % 4 ≡ 0 → x ≡ 0)
-    → (sampling exact change).fault b x ≡ None
+-- with the byte x they end with the header of a WAV file
+abbrev with_byte : List ℕ → ℕ → Bool
+with_byte b x = begins_wave (b ++ x ∷ [])
+
+pub clean-byte : (exact : Bool) (form : Words) (change : Change) (b : List ℕ) (x : ℕ) → (exact ≡ true
+    → length b % 4 ≡ 0 → x ≡ 0)
+    → begins_wave (b ++ x ∷ []) ≡ false
+    → (sampling exact form change).fault b x ≡ None
 unfolding sampling
-clean-byte exact change b x h = ap (λ t. fault-of t (length b)) (low-false exact b x h)
+clean-byte exact form change b x h w = ap₂ (λ s t. fault-of s t (length b)) (low-false exact b x h) w
 
-pub bad-byte : (exact : Bool) (change : Change) (b : List ℕ) (x : ℕ) → exact ≡ true → length b % 4 ≡ 0 → x ≢ 0
-    → (sampling exact change).fault b x ≡ Some (BadSample (length b))
+wave-byte : (exact : Bool) (form : Words) (change : Change) (b : List ℕ) (x : ℕ) → (exact ≡ true → length b % 4 ≡ 0
+    → x ≡ 0)
+    → begins_wave (b ++ x ∷ []) ≡ true
+    → (sampling exact form change).fault b x ≡ Some WaveHeader
 unfolding sampling
-bad-byte exact change b x e q n = ap (λ t. fault-of t (length b)) (low-true exact b x e q n)
+wave-byte exact form change b x h w = ap₂ (λ s t. fault-of s t (length b)) (low-false exact b x h) w
 
-pub byte-clean : (exact : Bool) (change : Change) (b : List ℕ) (x : ℕ) → (sampling exact change).fault b x ≡ None
-    → exact ≡ true → length b % 4 ≡ 0 → x ≡ 0
+pub bad-byte : (exact : Bool) (form : Words) (change : Change) (b : List ℕ) (x : ℕ) → exact ≡ true
+    → length b % 4 ≡ 0 → x ≢ 0
+    → (sampling exact form change).fault b x ≡ Some (BadSample (length b))
 unfolding sampling
-byte-clean exact change b x h = from-false exact b x (fault-none (is_low exact b x) (length b) h)
+bad-byte exact form change b x e q n = ap (λ t. fault-of t (with_byte b x) (length b)) (low-true exact b x e q n)
 
-pub byte-bad : (exact : Bool) (change : Change) (b : List ℕ) (x : ℕ) (e : RunError)
-    → (sampling exact change).fault b x ≡ Some e
-    → (e ≡ BadSample (length b)) × (exact ≡ true) × (length b % 4 ≡ 0) × (x ≢ 0)
+pub byte-clean : (exact : Bool) (form : Words) (change : Change) (b : List ℕ) (x : ℕ)
+    → (sampling exact form change).fault b x ≡ None
+    → (exact ≡ true → length b % 4 ≡ 0 → x ≡ 0) × (begins_wave (b ++ x ∷ []) ≡ false)
 unfolding sampling
-byte-bad exact change b x e h =
-    let q = fault-some (is_low exact b x) (length b) e h in
-    let r = from-true exact b x q.0 in
-    (q.1, r.0, r.1, r.2)
+byte-clean exact form change b x h =
+    let q = fault-none (is_low exact b x) (with_byte b x) (length b) h in
+    (from-false exact b x q.0, q.1)
+
+-- a byte that is refused: the lowest of a sample, or the last of a header
+pub record LowByte (exact : Bool) (b : List ℕ) (x : ℕ) (e : RunError) : Type 0 where
+  pub is : e ≡ BadSample (length b)
+  pub asked : exact ≡ true
+  pub lowest : length b % 4 ≡ 0
+  pub some : x ≢ 0
+
+pub record HeaderByte (exact : Bool) (b : List ℕ) (x : ℕ) (e : RunError) : Type 0 where
+  pub is : e ≡ WaveHeader
+  pub bits : exact ≡ true → length b % 4 ≡ 0 → x ≡ 0
+  pub header : begins_wave (b ++ x ∷ []) ≡ true
+
+pub byte-bad : (exact : Bool) (form : Words) (change : Change) (b : List ℕ) (x : ℕ) (e : RunError)
+    → (sampling exact form change).fault b x ≡ Some e
+    → LowByte exact b x e ⊎ HeaderByte exact b x e
+unfolding sampling
+byte-bad exact form change b x e h = elim (fault-some (is_low exact b x) (with_byte b x) (length b) e h) [
+  | inl q ↦ let r = from-true exact b x q.0 in inl (record { is = q.1; asked = r.0; lowest = r.1; some = r.2 })
+  | inr q ↦ inr (record { is = q.2; bits = from-false exact b x q.0; header = q.1 })
+]
 
 -- no lowest byte of a sample of d behind b is set
 abbrev pub ExactBehind : Bool → ℕ → List ℕ → Type 0
@@ -200,33 +244,64 @@ behind-tail : (exact : Bool) (n x : ℕ) (d : List ℕ) (k : ℕ) → k ≡ n + 
     → ExactBehind exact k d
 behind-tail exact n x d k q h e i r = h e (suc i) (ap (λ j. j % 4) (let z : n + suc i ≡ k + i = omega arith in z) ∙ r)
 
-behind-cons : (exact : Bool) (n x : ℕ) (d : List ℕ) (k : ℕ) → k ≡ n + 1 → (exact ≡ true → n % 4 ≡ 0 → x ≡ 0)
+pub behind-cons : (exact : Bool) (n x : ℕ) (d : List ℕ) (k : ℕ) → k ≡ n + 1 → (exact ≡ true → n % 4 ≡ 0 → x ≡ 0)
     → ExactBehind exact k d → ExactBehind exact n (x ∷ d)
 behind-cons exact n x d k q h t e zero r = h e (ap (λ j. j % 4) (let z : n ≡ n + 0 = omega arith in z) ∙ r)
 behind-cons exact n x d k q h t e (suc i) r = t e i (ap (λ j. j % 4) (let z : k + i ≡ n + suc i = omega arith in z) ∙ r)
 
-pub exact-clean : (exact : Bool) (change : Change) (b d : List ℕ) → ExactBehind exact (length b) d
-    → fault_behind (sampling exact change) b d ≡ None
-exact-clean exact change b [] h = refl
-exact-clean exact change b (x ∷ d) h =
-    ap (λ o. or_else o (fault_behind (sampling exact change) (b ++ x ∷ []) d))
-    (clean-byte exact change b x (behind-head exact (length b) x d h))
-    ∙ exact-clean exact change (b ++ x ∷ []) d
-    (behind-tail exact (length b) x d (length (b ++ x ∷ [])) (length-append b (x ∷ [])) h)
+-- nothing of d behind b is refused
+pub record CleanBehind (exact : Bool) (b d : List ℕ) : Type 0 where
+  pub bits : ExactBehind exact (length b) d
+  pub samples : begins_wave (b ++ d) ≡ false
 
-pub clean-exact : (exact : Bool) (change : Change) (b d : List ℕ) → fault_behind (sampling exact change) b d ≡ None
-    → ExactBehind exact (length b) d
-clean-exact exact change b [] h = λ e i r. refl
-clean-exact exact change b (x ∷ d) h =
-    go ((sampling exact change).fault b x) refl h (clean-exact exact change (b ++ x ∷ []) d)
+pub one-more : (b d : List ℕ) (x : ℕ) → begins_wave ((b ++ x ∷ []) ++ d) ≡ begins_wave (b ++ x ∷ d)
+one-more b d x = ap begins_wave (append_assoc b (x ∷ []) d)
+
+pub exact-clean : (exact : Bool) (form : Words) (change : Change) (b d : List ℕ) → CleanBehind exact b d
+    → fault_behind (sampling exact form change) b d ≡ None
+exact-clean exact form change b [] h = refl
+exact-clean exact form change b (x ∷ d) h =
+    let w = one-more b d x ∙ h.samples in
+    ap (λ o. or_else o (fault_behind (sampling exact form change) (b ++ x ∷ []) d))
+    (clean-byte exact form change b x (behind-head exact (length b) x d h.bits) (wave-front (b ++ x ∷ []) d w))
+    ∙ exact-clean exact form change (b ++ x ∷ []) d (record {
+      bits = behind-tail exact (length b) x d (length (b ++ x ∷ [])) (length-append b (x ∷ [])) h.bits;
+      samples = w;
+    })
+
+pub clean-exact : (exact : Bool) (form : Words) (change : Change) (b d : List ℕ) → begins_wave b ≡ false
+    → fault_behind (sampling exact form change) b d ≡ None
+    → CleanBehind exact b d
+clean-exact exact form change b [] w h =
+    record { bits = λ e i r. refl; samples = ap begins_wave (append-nil b) ∙ w }
+clean-exact exact form change b (x ∷ d) w h =
+    go ((sampling exact form change).fault b x) refl h (clean-exact exact form change (b ++ x ∷ []) d)
   where
-    go : (o : Option RunError) → (sampling exact change).fault b x ≡ o
-        → or_else o (fault_behind (sampling exact change) (b ++ x ∷ []) d) ≡ None
-        → (fault_behind (sampling exact change) (b ++ x ∷ []) d ≡ None → ExactBehind exact (length (b ++ x ∷ [])) d)
-        → ExactBehind exact (length b) (x ∷ d)
+    go : (o : Option RunError) → (sampling exact form change).fault b x ≡ o
+        → or_else o (fault_behind (sampling exact form change) (b ++ x ∷ []) d) ≡ None
+        → (begins_wave (b ++ x ∷ []) ≡ false → fault_behind (sampling exact form change) (b ++ x ∷ []) d ≡ None
+        → CleanBehind exact (b ++ x ∷ []) d)
+        → CleanBehind exact b (x ∷ d)
     go (Some e) q h next = absurd cc
-    go None q h next = behind-cons exact (length b) x d (length (b ++ x ∷ [])) (length-append b (x ∷ []))
-        (byte-clean exact change b x q) (next h)
+    go None q h next = let c = byte-clean exact form change b x q in let n = next c.1 h in record {
+      bits = behind-cons exact (length b) x d (length (b ++ x ∷ [])) (length-append b (x ∷ [])) c.0 n.bits;
+      samples = sym (one-more b d x) ∙ n.samples;
+    }
+
+-- the header of a WAV file that ends in d
+wave-found : (exact : Bool) (form : Words) (change : Change) (b d : List ℕ) → ExactBehind exact (length b) d
+    → begins_wave b ≡ false → begins_wave (b ++ d) ≡ true
+    → fault_behind (sampling exact form change) b d ≡ Some WaveHeader
+wave-found exact form change b [] h w e = absurd (let q = ap begins_wave (append-nil b) in cc)
+wave-found exact form change b (x ∷ d) h w e = elim (cases_Bool (with_byte b x)) [
+  | inl q ↦ ap (λ o. or_else o more) (wave-byte exact form change b x (behind-head exact (length b) x d h) q)
+  | inr q ↦ ap (λ o. or_else o more) (clean-byte exact form change b x (behind-head exact (length b) x d h) q)
+      ∙ wave-found exact form change (b ++ x ∷ []) d
+      (behind-tail exact (length b) x d (length (b ++ x ∷ [])) (length-append b (x ∷ [])) h) q (one-more b d x ∙ e)
+]
+  where
+    more : Option RunError
+    more = fault_behind (sampling exact form change) (b ++ x ∷ []) d
 
 -- the whole input
 pub all-exact : (exact : Bool) (b : List ℕ) → ExactBehind exact 0 b → AllExact exact b
@@ -235,10 +310,12 @@ all-exact exact b h e i r = h e i (ap (λ k. k % 4) (let z : 0 + i ≡ i = omega
 pub all-behind : (exact : Bool) (b : List ℕ) → AllExact exact b → ExactBehind exact 0 b
 all-behind exact b h e i r = h e i (ap (λ k. k % 4) (let z : i ≡ 0 + i = omega arith in z) ∙ r)
 
-pub clean-all : (exact : Bool) (change : Change) (b : List ℕ) → first_fault (sampling exact change) b ≡ None
-    → AllExact exact b
+pub clean-all : (exact : Bool) (form : Words) (change : Change) (b : List ℕ)
+    → first_fault (sampling exact form change) b ≡ None
+    → AreSamples exact b
 unfolding first_fault
-clean-all exact change b h = all-exact exact b (clean-exact exact change [] b h)
+clean-all exact form change b h = let c = clean-exact exact form change [] b refl h in
+    record { bits = all-exact exact b c.bits; samples = c.samples }
 
 -- more bytes
 pub all-more : (exact : Bool) (b d : List ℕ) → AllExact exact b → ExactBehind exact (length b) d
@@ -247,6 +324,16 @@ all-more exact b d h t e i r = elim (cases_lt i (length b)) [
   | inl l ↦ get_or_append_left b d 0 i l ∙ h e i r
   | inr l ↦ get_or-append_right b d (length b) i 0 refl (omega arith)
       ∙ t e (i - length b) (ap (λ k. k % 4) (let z : length b + (i - length b) ≡ i = omega arith in z) ∙ r)
+]
+
+pub clean-more : (exact : Bool) (b d : List ℕ) → AreSamples exact b → CleanBehind exact b d → AreSamples exact (b ++ d)
+clean-more exact b d h t = record { bits = all-more exact b d h.bits t.bits; samples = t.samples }
+
+-- where only 24 bits are taken, no sample begins as that header does
+exact-none : (exact : Bool) (b : List ℕ) → exact ≡ true → AllExact exact b → begins_wave b ≡ false
+exact-none exact b e h = elim (cases_Bool (begins_wave b)) [
+  | inl q ↦ absurd (let r = wave-head b q in let z = h e 0 refl in omega arith)
+  | inr q ↦ q
 ]
 
 -- the samples before the first that has more bits
@@ -279,69 +366,128 @@ exact-stop (a ∷ b ∷ c ∷ e ∷ rest) x d h l n =
     word : ℕ
     word = bytes_number (a ∷ b ∷ c ∷ e ∷ [])
 
-pub begun-all : (exact : Bool) (change : Change) (b : List ℕ) → AllExact exact b
-    → begun_pcm exact change b ≡ made change b
-begun-all false change b h = refl
-begun-all true change b h = ap (sample_file change) (exact-all b (h refl))
+words-all : (exact : Bool) (b : List ℕ) → AllExact exact b → sample_words exact b ≡ words_of b
+words-all false b h = refl
+words-all true b h = exact-all b (h refl)
 
-begun-stop : (exact : Bool) (change : Change) (b : List ℕ) (x : ℕ) (d : List ℕ) → AllExact exact b → exact ≡ true
-    → length b % 4 ≡ 0 → x ≢ 0
-    → begun_pcm exact change (b ++ x ∷ d) ≡ begun_pcm exact change b
-begun-stop false change b x d h e l n = absurd cc
-begun-stop true change b x d h e l n =
-    ap (sample_file change) (exact-stop b x d (h refl) l n ∙ sym (exact-all b (h refl)))
+words-stop : (exact : Bool) (b : List ℕ) (x : ℕ) (d : List ℕ) (e : RunError) → AllExact exact b → LowByte exact b x e
+    → sample_words exact (b ++ x ∷ d) ≡ words_of b
+words-stop false b x d e h l = absurd (let q = l.asked in cc)
+words-stop true b x d e h l = exact-stop b x d (h refl) l.lowest l.some
+
+begun-none : (exact : Bool) (form : Words) (change : Change) (b : List ℕ) → begins_wave b ≡ true
+    → begun_pcm exact form change b ≡ []
+begun-none exact form change b w = ap (λ t. cond {A = List ℕ} t [] (sample_file form change (sample_words exact b))) w
+
+begun-some : (exact : Bool) (form : Words) (change : Change) (b : List ℕ) → begins_wave b ≡ false
+    → begun_pcm exact form change b ≡ sample_file form change (sample_words exact b)
+begun-some exact form change b w = ap (λ t. cond {A = List ℕ} t [] (sample_file form change (sample_words exact b))) w
+
+pub begun-all : (exact : Bool) (form : Words) (change : Change) (b : List ℕ) → AreSamples exact b
+    → begun_pcm exact form change b ≡ made form change b
+begun-all exact form change b h = begun-some exact form change b h.samples
+    ∙ ap (sample_file form change) (words-all exact b h.bits)
+
+-- nothing of a header is written
+begun-few : (exact : Bool) (form : Words) (change : Change) (b d : List ℕ) → AreSamples exact b
+    → begins_wave (b ++ d) ≡ true
+    → begun_pcm exact form change (b ++ d) ≡ begun_pcm exact form change b
+begun-few exact form change b d h w =
+    let l = wave-short b d h.samples w in
+    begun-none exact form change (b ++ d) w ∙ sym (begun-all exact form change b h
+    ∙ made-short form change b (omega arith))
+
+begun-stop : (exact : Bool) (form : Words) (change : Change) (b : List ℕ) (x : ℕ) (d : List ℕ) (e : RunError)
+    → AreSamples exact b
+    → LowByte exact b x e
+    → begun_pcm exact form change (b ++ x ∷ d) ≡ begun_pcm exact form change b
+begun-stop exact form change b x d e h l = elim (cases_Bool (begins_wave (b ++ x ∷ d))) [
+  | inl w ↦ begun-few exact form change b (x ∷ d) h w
+  | inr w ↦ begun-some exact form change (b ++ x ∷ d) w
+      ∙ ap (sample_file form change) (words-stop exact b x d e h.bits l)
+      ∙ sym (begun-all exact form change b h)
+]
 
 -- what the conversion writes
-adds-is : (exact : Bool) (change : Change) (b : List ℕ) (x : ℕ)
-    → (sampling exact change).adds b x ≡ more_of (made change b) (made change (b ++ x ∷ []))
+adds-is : (exact : Bool) (form : Words) (change : Change) (b : List ℕ) (x : ℕ)
+    → (sampling exact form change).adds b x ≡ more_of (made form change b) (made form change (b ++ x ∷ []))
 unfolding sampling
-adds-is exact change b x = refl
+adds-is exact form change b x = refl
 
 one-behind : (exact : Bool) (b : List ℕ) (x : ℕ) → (exact ≡ true → length b % 4 ≡ 0 → x ≡ 0)
-    → ExactBehind exact (length b) (x ∷ [])
-one-behind exact b x h = behind-cons exact (length b) x [] (length b + 1) refl h (λ e i r. refl)
+    → begins_wave (b ++ x ∷ []) ≡ false
+    → CleanBehind exact b (x ∷ [])
+one-behind exact b x h w =
+    record { bits = behind-cons exact (length b) x [] (length b + 1) refl h (λ e i r. refl); samples = w }
 
-pub out-samples : (exact : Bool) (change : Change) (b : List ℕ)
-    → out (sampling exact change) b ≡ begun_pcm exact change b
-out-samples exact change = out-is (sampling exact change) (begun_pcm exact change)
-    (begun-all exact change [] (λ e i r. refl) ∙ made-short change [] (omega arith)) more stays
+pub out-samples : (exact : Bool) (form : Words) (change : Change) (b : List ℕ)
+    → out (sampling exact form change) b ≡ begun_pcm exact form change b
+out-samples exact form change = out-is (sampling exact form change) (begun_pcm exact form change)
+    (begun-all exact form change [] (record { bits = λ e i r. refl; samples = refl })
+    ∙ made-short form change [] (omega arith)) more stays
   where
-    more : (b : List ℕ) (x : ℕ) → first_fault (sampling exact change) b ≡ None
-        → (sampling exact change).fault b x ≡ None
-        → begun_pcm exact change (b ++ x ∷ []) ≡ begun_pcm exact change b ++ (sampling exact change).adds b x
+    more : (b : List ℕ) (x : ℕ) → first_fault (sampling exact form change) b ≡ None
+        → (sampling exact form change).fault b x ≡ None
+        → begun_pcm exact form change (b ++ x ∷ []) ≡ begun_pcm exact form change b ++
+        (sampling exact form change).adds b x
     more b x c e =
-        let h = clean-all exact change b c in
-        let k = all-more exact b (x ∷ []) h (one-behind exact b x (byte-clean exact change b x e)) in
-        begun-all exact change (b ++ x ∷ []) k ∙ any-more change b (x ∷ [])
-        ∙ ap₂ ◌++◌ (sym (begun-all exact change b h)) (sym (adds-is exact change b x))
+        let h = clean-all exact form change b c in
+        let q = byte-clean exact form change b x e in
+        let k = clean-more exact b (x ∷ []) h (one-behind exact b x q.0 q.1) in
+        begun-all exact form change (b ++ x ∷ []) k ∙ any-more form change b (x ∷ [])
+        ∙ ap₂ ◌++◌ (sym (begun-all exact form change b h)) (sym (adds-is exact form change b x))
 
-    stays : (b : List ℕ) (x : ℕ) (d : List ℕ) (e : RunError) → first_fault (sampling exact change) b ≡ None
-        → (sampling exact change).fault b x ≡ Some e
-        → begun_pcm exact change (b ++ x ∷ d) ≡ begun_pcm exact change b
-    stays b x d e c q = let r = byte-bad exact change b x e q in
-        begun-stop exact change b x d (clean-all exact change b c) r.1 r.2 r.3
+    stays : (b : List ℕ) (x : ℕ) (d : List ℕ) (e : RunError) → first_fault (sampling exact form change) b ≡ None
+        → (sampling exact form change).fault b x ≡ Some e
+        → begun_pcm exact form change (b ++ x ∷ d) ≡ begun_pcm exact form change b
+    stays b x d e c q = elim (byte-bad exact form change b x e q) [
+      | inl r ↦ begun-stop exact form change b x d e (clean-all exact form change b c) r
+      | inr r ↦ begun-few exact form change b (x ∷ d) (clean-all exact form change b c)
+          (sym (one-more b d x) ∙ wave-more (b ++ x ∷ []) d r.header)
+    ]
+
+first-clean : (exact : Bool) (form : Words) (change : Change) (b : List ℕ) → AreSamples exact b
+    → fault_behind (sampling exact form change) [] b ≡ None
+first-clean exact form change b h =
+    exact-clean exact form change [] b (record { bits = all-behind exact b h.bits; samples = h.samples })
+
+-- a header of which the bytes b are the beginning writes nothing
+wave-writes : (exact : Bool) (form : Words) (change : Change) (b d : List ℕ) → AreSamples exact b
+    → begins_wave (b ++ d) ≡ true
+    → out_behind (sampling exact form change) b d ≡ []
+unfolding out
+wave-writes exact form change b d h w =
+    let l = wave-short b d h.samples w in
+    let s : out (sampling exact form change) b ≡ [] =
+    out-samples exact form change b ∙ begun-all exact form change b h ∙ made-short form change b (omega arith) in
+    ap (λ v. v ++ out_behind (sampling exact form change) b d) (sym s)
+    ∙ sym (behind-clean (sampling exact form change) [] b d (first-clean exact form change b h))
+    ∙ out-samples exact form change (b ++ d) ∙ begun-none exact form change (b ++ d) w
 
 -- what clean bytes write behind clean bytes
-pub behind-made : (exact : Bool) (change : Change) (b d : List ℕ) → AllExact exact b → ExactBehind exact (length b) d
-    → made change (b ++ d) ≡ made change b ++ out_behind (sampling exact change) b d
+pub behind-made : (exact : Bool) (form : Words) (change : Change) (b d : List ℕ) → AreSamples exact b
+    → CleanBehind exact b d
+    → made form change (b ++ d) ≡ made form change b ++ out_behind (sampling exact form change) b d
 unfolding first_fault out
-behind-made exact change b d h t =
-    sym (begun-all exact change (b ++ d) (all-more exact b d h t)) ∙ sym (out-samples exact change (b ++ d))
-    ∙ behind-clean (sampling exact change) [] b d (exact-clean exact change [] b (all-behind exact b h))
-    ∙ ap (λ z. z ++ out_behind (sampling exact change) b d) (out-samples exact change b ∙ begun-all exact change b h)
+behind-made exact form change b d h t =
+    sym (begun-all exact form change (b ++ d) (clean-more exact b d h t)) ∙ sym (out-samples exact form change (b ++ d))
+    ∙ behind-clean (sampling exact form change) [] b d (first-clean exact form change b h)
+    ∙ ap (λ z. z ++ out_behind (sampling exact form change) b d) (out-samples exact form change b
+    ∙ begun-all exact form change b h)
 
 -- ---- the end
 
-pub end-whole : (exact : Bool) (k : Change) (b : List ℕ) → length b % frame_len ≡ 0
-    → (sampling exact k).end_fault b ≡ None
+pub end-whole : (exact : Bool) (form : Words) (k : Change) (b : List ℕ) → length b % frame_len ≡ 0
+    → (sampling exact form k).end_fault b ≡ None
 unfolding sampling
-end-whole exact k b h = ap (λ t. cond {A = Option RunError} t None (Some (BadLength (length b % frame_len))))
+end-whole exact form k b h = ap (λ t. cond {A = Option RunError} t None (Some (BadLength (length b % frame_len))))
     (eq-eqb (length b % frame_len) 0 h)
 
-pub end-left : (exact : Bool) (k : Change) (b : List ℕ) (left : ℕ) → left ≡ length b % frame_len → 0 < left
-    → (sampling exact k).end_fault b ≡ Some (BadLength left)
+pub end-left : (exact : Bool) (form : Words) (k : Change) (b : List ℕ) (left : ℕ) → left ≡ length b % frame_len
+    → 0 < left
+    → (sampling exact form k).end_fault b ≡ Some (BadLength left)
 unfolding sampling
-end-left exact k b left e h =
+end-left exact form k b left e h =
     ap (λ t. cond {A = Option RunError} t None (Some (BadLength (length b % frame_len))))
     (ne_eqb (length b % frame_len) 0 (λ q. omega arith))
     ∙ ap (λ n. Some (BadLength n)) (sym e)
@@ -362,7 +508,12 @@ pad-words b h =
 place-behind : (exact : Bool) (n k : ℕ) (d : List ℕ) → k ≡ n % 1536 → ExactBehind exact k d → ExactBehind exact n d
 place-behind exact n k d e h t i r = h t i (omega arith)
 
-module _ (exact : Bool) (change : Change) (seen : ℕ) (begun : List ℕ) (size : length begun ≡ 1536) where
+-- what is known of the bytes d, which begin at this place of a block: nothing of them is refused
+pub record CleanHere (exact : Bool) (seen : ℕ) (held d : List ℕ) : Type 0 where
+  pub bits : ExactBehind exact (seen % 1536) d
+  pub samples : seen < wave_header_len → begins_wave (held ++ d) ≡ false
+
+module _ (exact : Bool) (form : Words) (change : Change) (seen : ℕ) (begun : List ℕ) (size : length begun ≡ 1536) where
   abbrev at : ℕ
   at = seen % 1536
 
@@ -372,23 +523,44 @@ module _ (exact : Bool) (change : Change) (seen : ℕ) (begun : List ℕ) (size 
   held-length : length held ≡ at
   held-length = length-take-le at begun (omega (arith, size))
 
+  -- while they are fewer than a header has, they are all held
+  held-all : (b : List ℕ) → Samples exact seen begun b → seen < wave_header_len → b ≡ held
+  unfolding block_bytes_len
+  held-all b h l =
+      let c = h.count in
+      let w = h.whole in
+      let n : length b ≡ length h.before + length held = ap length h.bytes ∙ length-append h.before held in
+      let z : length h.before ≡ 0 = omega arith in
+      h.bytes ∙ ap (λ p. p ++ held) (nil_from_length h.before z)
+
+  still : (b d : List ℕ) → Samples exact seen begun b → (seen < wave_header_len → begins_wave (held ++ d) ≡ false)
+      → begins_wave (b ++ d) ≡ false
+  still b d h w = elim (cases_lt seen wave_header_len) [
+    | inl l ↦ ap (λ v. begins_wave (v ++ d)) (held-all b h l) ∙ w l
+    | inr l ↦ wave-settled b d (let c = h.count in omega arith) ∙ h.clean.samples
+  ]
+
+  at-place : (b d : List ℕ) → Samples exact seen begun b → ExactBehind exact at d → ExactBehind exact (length b) d
+  at-place b d h t = place-behind exact (length b) at d (ap (λ n. n % 1536) h.count) t
+
+  behind : (b d : List ℕ) → Samples exact seen begun b → CleanHere exact seen held d → CleanBehind exact b d
+  behind b d h t = record { bits = at-place b d h t.bits; samples = still b d h t.samples }
+
   -- what clean bytes write behind those that were taken
-  writes : (b d : List ℕ) → Samples exact seen begun b → ExactBehind exact at d
-      → made change (held ++ d) ≡ out_behind (sampling exact change) b d
+  writes : (b d : List ℕ) → Samples exact seen begun b → CleanBehind exact b d
+      → made form change (held ++ d) ≡ out_behind (sampling exact form change) b d
   unfolding block_bytes_len
   writes b d h t =
       let p = h.before in
       let e : b ≡ p ++ held = h.bytes in
-      append_cancel_left (made change b) (made change (held ++ d)) (out_behind (sampling exact change) b d)
-      (sym (ap (λ v. made change (v ++ d)) e ∙ made-more change p held d h.whole (let l = held-length in omega arith)
-      ∙ ap (λ v. made change v ++ made change (held ++ d)) (sym e))
-      ∙ behind-made exact change b d h.bits (place-behind exact (length b) at d (ap (λ n. n % 1536) h.count) t))
+      append_cancel_left (made form change b) (made form change (held ++ d)) (out_behind
+      (sampling exact form change) b d)
+      (sym (ap (λ v. made form change (v ++ d)) e ∙ made-more form change p held d h.whole
+      (let l = held-length in omega arith)
+      ∙ ap (λ v. made form change v ++ made form change (held ++ d)) (sym e))
+      ∙ behind-made exact form change b d h.clean t)
 
-  clean : (b d : List ℕ) → Samples exact seen begun b → ExactBehind exact at d
-      → fault_behind (sampling exact change) b d ≡ None
-  clean b d h t = exact-clean exact change b d (place-behind exact (length b) at d (ap (λ n. n % 1536) h.count) t)
-
-  next : (b d new : List ℕ) (n : ℕ) → length d ≡ n → Samples exact seen begun b → ExactBehind exact at d → at + n ≤ 1536
+  next : (b d new : List ℕ) (n : ℕ) → length d ≡ n → Samples exact seen begun b → CleanBehind exact b d → at + n ≤ 1536
       → take (at + n) new ≡ held ++ d
       → Samples exact (seen + n) new (b ++ d)
   unfolding block_bytes_len
@@ -400,7 +572,7 @@ module _ (exact : Bool) (change : Change) (seen : ℕ) (begun : List ℕ) (size 
           ∙ ap (λ v. h.before ++ v)
           (sym e ∙ ap (λ k. take k new) (let f : at + n ≡ (seen + n) % 1536 = omega arith in f));
       count = count;
-      bits = bits;
+      clean = clean-more exact b d h.clean t;
     }
     | inr r ↦ record {
       before = b ++ d;
@@ -408,50 +580,68 @@ module _ (exact : Bool) (change : Change) (seen : ℕ) (begun : List ℕ) (size 
       bytes = sym (append-nil (b ++ d))
           ∙ ap (λ k. b ++ d ++ take k new) (let f : 0 ≡ (seen + n) % 1536 = omega arith in f);
       count = count;
-      bits = bits;
+      clean = clean-more exact b d h.clean t;
     }
   ]
     where
       count : seen + n ≡ length (b ++ d)
       count = ap₂ ◌+◌ h.count (sym q) ∙ sym (length-append b d)
 
-      bits : AllExact exact (b ++ d)
-      bits = all-more exact b d h.bits (place-behind exact (length b) at d (ap (λ n. n % 1536) h.count) t)
-
-  pub front-fed : (d new : List ℕ) (n : ℕ) (t t' : Option (List ℕ)) → length d ≡ n → ExactBehind exact at d
+  pub front-fed : (d new : List ℕ) (n : ℕ) (t t' : Option (List ℕ)) → length d ≡ n → CleanHere exact seen held d
       → at + n ≤ 1536 → take (at + n) new ≡ held ++ d
-      → Grew t t' (made change (held ++ d))
-      → Fed (sampling exact change) (sampling exact change) (Samples exact seen begun)
+      → Grew t t' (made form change (held ++ d))
+      → Fed (sampling exact form change) (sampling exact form change) (Samples exact seen begun)
       (Samples exact (seen + n) new) t t' d
   front-fed d new n t t' q x l e g = record {
     same = refl;
-    clean = λ b h. clean b d h x;
-    follows = λ b h. next b d new n q h x l e;
-    grew = λ b h. grew-is (writes b d h x) g;
+    clean = λ b h. exact-clean exact form change b d (behind b d h x);
+    follows = λ b h. next b d new n q h (behind b d h x) l e;
+    grew = λ b h. grew-is (writes b d h (behind b d h x)) g;
   }
 
-  pub front-part : (d rest xs : List ℕ) (t t' : Option (List ℕ)) → ExactBehind exact at d → d ++ rest ≡ xs
-      → GrewFront t t' (made change (held ++ d))
-      → (b : List ℕ) → Samples exact seen begun b → GrewFront t t' (out_behind (sampling exact change) b xs)
-  front-part d rest xs t t' x e g b h = front-longer (sampling exact change) b d rest xs e (front-is (writes b d h x) g)
+  pub front-part : (d rest xs : List ℕ) (t t' : Option (List ℕ)) → CleanHere exact seen held d → d ++ rest ≡ xs
+      → GrewFront t t' (made form change (held ++ d))
+      → (b : List ℕ) → Samples exact seen begun b → GrewFront t t' (out_behind (sampling exact form change) b xs)
+  front-part d rest xs t t' x e g b h = front-longer (sampling exact form change) b d rest xs e (front-is
+      (writes b d h (behind b d h x)) g)
+
+  -- the header of a WAV file that ends in the bytes d
+  pub front-header : (s : List ℕ → Type 0) (d rest xs : List ℕ) (t : Option (List ℕ)) → ((b : List ℕ) → s b)
+      → ExactBehind exact at d → d ++ rest ≡ xs → seen < wave_header_len → begins_wave (held ++ d) ≡ true
+      → Stopped (sampling exact form change) (Samples exact seen begun) s t t xs WaveHeader
+  front-header s d rest xs t any x e l w = record {
+    fault = λ b h. ap (fault_behind (sampling exact form change) b) (sym e)
+        ∙ fault-first (sampling exact form change) b d rest WaveHeader
+        (wave-found exact form change b d (at-place b d h x) h.clean.samples (ends b h));
+    left = λ b h. any _;
+    grew = λ b h. grew-is
+        (sym (ap (out_behind (sampling exact form change) b) (sym e)
+        ∙ wave-writes exact form change b (d ++ rest) h.clean
+        (ap begins_wave (sym (append_assoc b d rest)) ∙ wave-more (b ++ d) rest (ends b h))))
+        (grew-none refl);
+  }
+    where
+      ends : (b : List ℕ) → Samples exact seen begun b → begins_wave (b ++ d) ≡ true
+      ends b h = ap (λ v. begins_wave (v ++ d)) (held-all b h l) ∙ w
 
   -- the first byte that is refused
   pub front-stopped : (s : List ℕ → Type 0) (i : ℕ) (xs : List ℕ) (t : Option (List ℕ)) → ((b : List ℕ) → s b)
       → exact ≡ true → i < length xs → at + i < 1536 → (at + i) % 4 ≡ 0
       → get_or xs i 0 ≢ 0 → ((j : ℕ) → j < i → (at + j) % 4 ≡ 0 → get_or xs j 0 ≡ 0)
-      → Stopped (sampling exact change) (Samples exact seen begun) s t t xs (BadSample (seen + i))
+      → Stopped (sampling exact form change) (Samples exact seen begun) s t t xs (BadSample (seen + i))
   front-stopped s i xs t any e w f m n first = record {
-    fault = λ b h. ap (fault_behind (sampling exact change) b) (sym parts)
-        ∙ fault-clean (sampling exact change) b d (x ∷ rest) (clean b d h before)
-        ∙ ap (λ o. or_else o (fault_behind (sampling exact change) ((b ++ d) ++ x ∷ []) rest)) (here b h);
+    fault = λ b h. ap (fault_behind (sampling exact form change) b) (sym parts)
+        ∙ fault-clean (sampling exact form change) b d (x ∷ rest) (exact-clean exact form change b d (clean b h))
+        ∙ ap (λ o. or_else o (fault_behind (sampling exact form change) ((b ++ d) ++ x ∷ []) rest)) (here b h);
     left = λ b h. any _;
     grew = λ b h. grew-is
-        (sym (ap (out_behind (sampling exact change) b) (sym parts)
-        ∙ behind-clean (sampling exact change) b d (x ∷ rest) (clean b d h before)
-        ∙ ap (λ v. v ++ out_behind (sampling exact change) (b ++ d) (x ∷ rest)) (sym (writes b d h before)
-        ∙ made-short change (held ++ d) short)
+        (sym (ap (out_behind (sampling exact form change) b) (sym parts)
+        ∙ behind-clean (sampling exact form change) b d (x ∷ rest) (exact-clean exact form change b d (clean b h))
+        ∙ ap (λ v. v ++ out_behind (sampling exact form change) (b ++ d) (x ∷ rest)) (sym (writes b d h (clean b h))
+        ∙ made-short form change (held ++ d) short)
         ∙ ap (λ o. unless o
-        ((sampling exact change).adds (b ++ d) x ++ out_behind (sampling exact change) ((b ++ d) ++ x ∷ []) rest))
+        ((sampling exact form change).adds (b ++ d) x ++ out_behind (sampling exact form change)
+        ((b ++ d) ++ x ∷ []) rest))
         (here b h)))
         (grew-none refl);
   }
@@ -477,21 +667,27 @@ module _ (exact : Bool) (change : Change) (seen : ℕ) (begun : List ℕ) (size 
         | inr l ↦ get_or_past d j 0 (let c = count in omega arith)
       ]
 
+      clean : (b : List ℕ) → Samples exact seen begun b → CleanBehind exact b d
+      clean b h = let k = at-place b d h before in record {
+        bits = k;
+        samples = exact-none exact (b ++ d) e (all-more exact b d h.clean.bits k);
+      }
+
       short : length (held ++ d) < 1536
       short = let l = length-append held d in let h = held-length in let c = count in omega arith
 
       here : (b : List ℕ) → Samples exact seen begun b
-          → (sampling exact change).fault (b ++ d) x ≡ Some (BadSample (seen + i))
+          → (sampling exact form change).fault (b ++ d) x ≡ Some (BadSample (seen + i))
       here b h =
           let l = length-append b d in
           let c = count in
           let k = h.count in
           let p : length (b ++ d) ≡ seen + i = omega arith in
-          bad-byte exact change (b ++ d) x e (omega arith) n ∙ ap (λ v. Some (BadSample v)) p
+          bad-byte exact form change (b ++ d) x e (omega arith) n ∙ ap (λ v. Some (BadSample v)) p
 
   -- what the end writes
   ends-tail : (b : List ℕ) → Samples exact seen begun b → seen % 8 ≡ 0 → 0 < at
-      → (sampling exact change).ends b ≡ made change (held ++ replicate (1536 - at) 0)
+      → (sampling exact form change).ends b ≡ made form change (held ++ replicate (1536 - at) 0)
   unfolding sampling block_bytes_len
   ends-tail b h e w =
       let z : List ℕ = replicate (1536 - at) 0 in
@@ -499,48 +695,55 @@ module _ (exact : Bool) (change : Change) (seen : ℕ) (begun : List ℕ) (size 
       let q : b ≡ h.before ++ held = h.bytes in
       let k : (1536 - length b % 1536) % 1536 ≡ 1536 - at = omega arith in
       let l : length b % 8 ≡ 0 = omega arith in
-      let f : pcm_file change b ≡ made change b ++ made change (held ++ z) =
-      ap (sample_file change) (pad-words b l) ∙ ap (λ n. made change (b ++ replicate n 0)) k
-      ∙ ap (λ v. made change (v ++ z)) q
-      ∙ made-more change h.before held z h.whole (let m = held-length in omega arith)
-      ∙ ap (λ v. made change v ++ made change (held ++ z)) (sym q) in
-      ap (more_of (made change b)) f ∙ more-join (made change b) (made change (held ++ z))
+      let f : pcm_words form change b ≡ made form change b ++ made form change (held ++ z) =
+      ap (sample_file form change) (pad-words b l) ∙ ap (λ n. made form change (b ++ replicate n 0)) k
+      ∙ ap (λ v. made form change (v ++ z)) q
+      ∙ made-more form change h.before held z h.whole (let m = held-length in omega arith)
+      ∙ ap (λ v. made form change v ++ made form change (held ++ z)) (sym q) in
+      ap (more_of (made form change b)) f ∙ more-join (made form change b) (made form change (held ++ z))
 
-  ends-none : (b : List ℕ) → Samples exact seen begun b → seen % 8 ≡ 0 → at ≡ 0 → (sampling exact change).ends b ≡ []
+  ends-none : (b : List ℕ) → Samples exact seen begun b → seen % 8 ≡ 0 → at ≡ 0
+      → (sampling exact form change).ends b ≡ []
   unfolding sampling
   ends-none b h e w =
       let c : seen ≡ length b = h.count in
       let k : (1536 - length b % 1536) % 1536 ≡ 0 = omega arith in
       let l : length b % 8 ≡ 0 = omega arith in
-      let f : pcm_file change b ≡ made change b ++ [] =
-      ap (sample_file change) (pad-words b l) ∙ ap (λ n. made change (b ++ replicate n 0)) k
-      ∙ ap (made change) (append-nil b) ∙ sym (append-nil (made change b)) in
-      ap (more_of (made change b)) f ∙ more-join (made change b) []
+      let f : pcm_words form change b ≡ made form change b ++ [] =
+      ap (sample_file form change) (pad-words b l) ∙ ap (λ n. made form change (b ++ replicate n 0)) k
+      ∙ ap (made form change) (append-nil b) ∙ sym (append-nil (made form change b)) in
+      ap (more_of (made form change b)) f ∙ more-join (made form change b) []
 
-  frames : (b : List ℕ) → Samples exact seen begun b → seen % 8 ≡ 0 → (sampling exact change).end_fault b ≡ None
-  frames b h e = end-whole exact change b (ap (λ n. n % 8) (sym h.count) ∙ e)
+  frames : (b : List ℕ) → Samples exact seen begun b → seen % 8 ≡ 0 → (sampling exact form change).end_fault b ≡ None
+  frames b h e = end-whole exact form change b (ap (λ n. n % 8) (sym h.count) ∙ e)
 
   pub end-none : (z : List ℕ → Type 0) (t : Option (List ℕ)) → ((b : List ℕ) → z b) → seen % 8 ≡ 0 → at ≡ 0
-      → (b : List ℕ) → Samples exact seen begun b → ((sampling exact change).end_fault b ≡ None) × z b
-      × Grew t t ((sampling exact change).ends b)
+      → (b : List ℕ) → Samples exact seen begun b → ((sampling exact form change).end_fault b ≡ None) × z b
+      × Grew t t ((sampling exact form change).ends b)
   end-none z t any e w b h = (frames b h e, any b, grew-is (sym (ends-none b h e w)) (grew-none refl))
 
   pub end-tail : (z : List ℕ → Type 0) (t t' : Option (List ℕ)) → ((b : List ℕ) → z b) → seen % 8 ≡ 0 → 0 < at
-      → Grew t t' (made change (held ++ replicate (1536 - at) 0))
-      → (b : List ℕ) → Samples exact seen begun b → ((sampling exact change).end_fault b ≡ None) × z b
-      × Grew t t' ((sampling exact change).ends b)
+      → Grew t t' (made form change (held ++ replicate (1536 - at) 0))
+      → (b : List ℕ) → Samples exact seen begun b → ((sampling exact form change).end_fault b ≡ None) × z b
+      × Grew t t' ((sampling exact form change).ends b)
   end-tail z t t' any e w g b h = (frames b h e, any b, grew-is (sym (ends-tail b h e w)) g)
 
   pub end-part : (t t' : Option (List ℕ)) → seen % 8 ≡ 0 → 0 < at
-      → GrewFront t t' (made change (held ++ replicate (1536 - at) 0))
-      → (b : List ℕ) → Samples exact seen begun b → ((sampling exact change).end_fault b ≡ None)
-      × GrewFront t t' ((sampling exact change).ends b)
+      → GrewFront t t' (made form change (held ++ replicate (1536 - at) 0))
+      → (b : List ℕ) → Samples exact seen begun b → ((sampling exact form change).end_fault b ≡ None)
+      × GrewFront t t' ((sampling exact form change).ends b)
   end-part t t' e w g b h = (frames b h e, front-is (sym (ends-tail b h e w)) g)
 
   pub end-refused : (s : List ℕ → Type 0) (t : Option (List ℕ)) → ((b : List ℕ) → s b) → 0 < seen % 8
-      → (b : List ℕ) → Samples exact seen begun b → ((sampling exact change).end_fault b ≡ Some (BadLength (seen % 8)))
+      → (b : List ℕ) → Samples exact seen begun b → ((sampling exact form change).end_fault b
+      ≡ Some (BadLength (seen % 8)))
       × s b × Grew t t []
-  end-refused s t any w b h = (end-left exact change b (seen % 8) (ap (λ n. n % 8) h.count) w, any b, grew-none refl)
+  end-refused s t any w b h = (
+    end-left exact form change b (seen % 8) (ap
+        (λ n. n % 8) h.count) w,
+    any b,
+    grew-none refl,
+  )
 
 -- a block of which bytes were put behind those that were held
 pub put-whole : (n k : ℕ) (begun ys : List ℕ) → length begun ≡ 1536 → n + k ≡ 1536
@@ -549,12 +752,23 @@ put-whole n k begun ys l e =
     ap (λ v. take n begun ++ (ys ++ v)) (drop-drop k n begun ∙ drop_all (n + k) begun (omega arith))
     ∙ ap (λ v. take n begun ++ v) (append-nil ys)
 
-pub block-made : (change : Change) (new whole : List ℕ) → new ≡ whole → length whole ≡ 1536
-    → block_bytes (rewritten change (map payload_of_sample (words_of new))) ≡ made change whole
-block-made change new whole e l = ap (λ v. block_bytes (rewritten change (map payload_of_sample (words_of v)))) e
-    ∙ sym (made-one change whole l)
+pub block-made : (form : Words) (change : Change) (new whole : List ℕ) → new ≡ whole → length whole ≡ 1536
+    → block_words form (rewritten change (map payload_of_sample (words_of new))) ≡ made form change whole
+block-made form change new whole e l = ap (λ v. block_words form (rewritten change (map payload_of_sample
+    (words_of v)))) e
+    ∙ sym (made-one form change whole l)
 
 -- an input that has taken nothing
 pub starts : (exact : Bool) (begun : List ℕ) → Samples exact 0 begun []
 unfolding block_bytes_len
-starts exact begun = record { before = []; whole = refl; bytes = refl; count = refl; bits = λ e i r. refl }
+starts exact begun = record {
+  before = [];
+  whole = refl;
+  bytes = refl;
+  count = refl;
+  clean = record {
+    bits = λ e i r.
+        refl;
+    samples = refl;
+  };
+}

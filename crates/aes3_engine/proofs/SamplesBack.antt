@@ -13,6 +13,7 @@ use Rattle.aes3_frame.proofs.SampleBlocks.{sampled-lawful, samples-filled, words
 use Rattle.aes3_input.specs.Inputs.{cells_of}
 use Rattle.aes3_lock.specs.Reports.{blocks}
 use Rattle.aes3_lock.proofs.NormalStreams.{stream-blocks}
+use Rattle.aes3_words.specs.declared.form.Words.TheVariants.{Own}
 use Rattle.aes3_status.specs.declared.change.Change.{Change}
 use Rattle.aes3_runs.specs.BlockRuns.{written_stream}
 use Rattle.aes3_engine.specs.Rewriting.{rewritten, rewritten_blocks}
@@ -52,5 +53,5 @@ samples-back form change ws h =
     let bs = rewritten_blocks change (sampled (filled ws)) in
     let k = rewritten-lawful change (sampled (filled ws)) (sampled-lawful (filled ws)) in
     ap (λ v. pcm_of_line form (written_stream form v))
-    (ap (λ v. file_blocks (sample_file change (filled v))) (words-back ws h) ∙ file_blocks-file bs k)
+    (ap (λ v. file_blocks (sample_file Own change (filled v))) (words-back ws h) ∙ file_blocks-file bs k)
     ∙ ap samples (line-blocks form bs k) ∙ samples-same change (sampled (filled ws)) ∙ samples-filled ws h

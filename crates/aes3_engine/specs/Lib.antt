@@ -1,4 +1,5 @@
 pub mod Encoding
+pub mod Words
 pub mod Rewriting
 pub mod Sampling
 pub mod SampleLaws

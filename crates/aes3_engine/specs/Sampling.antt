@@ -1,19 +1,25 @@
 -- What `from_pcm` makes of samples: words of four bytes, lowest byte first, channel 1 and then channel 2 of each frame.
-use Rattle.std.specs.Prelude.{ℕ, List, [], ◌∷◌, ◌++◌, Bool, true, not, ◌&&◌, Some, None, ◌≡◌, ◌≢◌, ◌<◌, ◌≤◌, ◌+◌, ◌%◌}
+use Rattle.std.specs.Prelude.{ℕ, List, [], ◌∷◌, ◌++◌, Bool, true, false, not, ◌&&◌, Some, None, ◌≡◌, ◌≢◌, ◌<◌, ◌≤◌, ◌+◌}
+use Rattle.std.specs.Prelude.{◌%◌}
 use Rattle.std.specs.Prelude.{◌==◌, IsTrue, length, take, drop, get_or, if◌then◌else◌}
 use Rattle.aes3_cell.specs.declared.counts.Counts.{Counts}
 use Rattle.aes3_cell.specs.declared.refusal.RunError.{RunError}
 use Rattle.aes3_cell.specs.declared.refusal.RunError.TheVariants.{BadLength, BadSample, Read, Write, TooLong}
-use Rattle.aes3_frame.specs.Files.{bytes_number, words_of, file}
+use Rattle.aes3_cell.specs.declared.refusal.RunError.TheVariants.{WaveHeader}
+use Rattle.aes3_cell.specs.Wave.{begins_wave}
+use Rattle.aes3_frame.specs.Files.{bytes_number, words_of}
 use Rattle.aes3_frame.specs.Sampled.{sampled, filled}
 use Rattle.aes3_input.specs.Converting.{Reading}
 use Rattle.aes3_input.specs.Running.{InputState, Promise}
 use Rattle.aes3_status.specs.declared.change.Change.{Change}
+use Rattle.aes3_words.specs.declared.form.Words.{Words}
+use Rattle.aes3_words.specs.declared.form.Words.TheVariants.{Own}
 use Rattle.aes3_engine.specs.Rewriting.{rewritten_blocks}
+use Rattle.aes3_engine.specs.Words.{words_file}
 
--- the block file of samples, as far as they are whole blocks, each with its channel status set
-unfoldable pub sample_file : Change → List ℕ → List ℕ
-sample_file change words = file (rewritten_blocks change (sampled words))
+-- the block file of samples, as far as they are whole blocks, each with its channel status set, its words in a form
+unfoldable pub sample_file : Words → Change → List ℕ → List ℕ
+sample_file form change words = words_file form (rewritten_blocks change (sampled words))
 
 -- the samples of bytes; where only 24 bits are taken, those before the first that has more: its lowest byte is not zero
 abbrev pub exact_words : List ℕ → List ℕ
@@ -24,15 +30,33 @@ abbrev pub sample_words : Bool → List ℕ → List ℕ
 sample_words exact b = if exact then exact_words b else words_of b
 
 -- what is written of whole samples, and behind which more may come
-abbrev pub pcm_file : Change → List ℕ → List ℕ
-pcm_file change b = sample_file change (filled (words_of b))
+abbrev pub pcm_words : Words → Change → List ℕ → List ℕ
+pcm_words form change b = sample_file form change (filled (words_of b))
 
-abbrev pub begun_pcm : Bool → Change → List ℕ → List ℕ
-begun_pcm exact change b = sample_file change (sample_words exact b)
+abbrev pub begun_pcm : Bool → Words → Change → List ℕ → List ℕ
+begun_pcm exact form change b = if begins_wave b then [] else sample_file form change (sample_words exact b)
+
+-- the block file in its own words
+abbrev pub pcm_file : Change → List ℕ → List ℕ
+pcm_file change b = pcm_words Own change b
 
 -- where only 24 bits are taken, the lowest byte of each sample is zero
 abbrev pub AllExact : Bool → List ℕ → Type 0
 AllExact exact b = exact ≡ true → (i : ℕ) → i % 4 ≡ 0 → get_or b i 0 ≡ 0
+
+-- no sample is refused, and they don't begin with the header of a WAV file
+pub record AreSamples (exact : Bool) (b : List ℕ) : Type 0 where
+  pub bits : AllExact exact b
+  pub samples : begins_wave b ≡ false
+
+-- how many bytes of that header are looked at
+abbrev pub wave_header_len : ℕ
+wave_header_len = 12
+
+-- they begin with it, and no sample before its end is refused
+pub record IsWave (exact : Bool) (b : List ℕ) : Type 0 where
+  pub header : begins_wave b ≡ true
+  pub bits : AllExact exact (take wave_header_len b)
 
 -- whole frames, of two samples each
 abbrev pub frame_len : ℕ
@@ -40,19 +64,20 @@ frame_len = 8
 
 pub record IsPcm (exact : Bool) (b : List ℕ) : Type 0 where
   pub whole : length b % frame_len ≡ 0
-  pub bits : AllExact exact b
+  pub clean : AreSamples exact b
 
--- byte number `at` is the lowest one of a sample and is not zero, and none before it is so
+-- byte number `at` is the lowest one of a sample and is not zero, and none before it is refused
 pub record BadSampleAt (exact : Bool) (b : List ℕ) (at : ℕ) : Type 0 where
   pub asked : exact ≡ true
   pub within : at < length b
   pub lowest : at % 4 ≡ 0
   pub some : get_or b at 0 ≢ 0
   pub first : (i : ℕ) → i < at → i % 4 ≡ 0 → get_or b i 0 ≡ 0
+  pub samples : begins_wave (take at b) ≡ false
 
 -- the bytes end inside a frame
 pub record EndsInFrame (exact : Bool) (b : List ℕ) (left : ℕ) : Type 0 where
-  pub bits : AllExact exact b
+  pub clean : AreSamples exact b
   pub count : left ≡ length b % frame_len
   pub some : 0 < left
 
@@ -60,8 +85,9 @@ pub record EndsInFrame (exact : Bool) (b : List ℕ) (left : ℕ) : Type 0 where
 abbrev pub IsPcmCause : Bool → ℕ → List ℕ → Bool → RunError → Type 0
 IsPcmCause exact max b ended (BadSample at) = BadSampleAt exact (take max b) at
 IsPcmCause exact max b ended (BadLength left) = EndsInFrame exact b left × (length b ≤ max) × IsTrue ended
-IsPcmCause exact max b ended TooLong = AllExact exact (take max b) × (length b ≡ max + 1)
-IsPcmCause exact max b ended Read = AllExact exact b × (length b ≤ max)
+IsPcmCause exact max b ended WaveHeader = IsWave exact (take max b)
+IsPcmCause exact max b ended TooLong = AreSamples exact (take max b) × (length b ≡ max + 1)
+IsPcmCause exact max b ended Read = AreSamples exact b × (length b ≤ max)
 IsPcmCause exact max b ended Write = length b ≤ max + 1
 IsPcmCause exact max b ended e = ⊥
 
@@ -77,14 +103,17 @@ pcm_counts b = record {
 }
 
 -- what `from_pcm` promises
-abbrev pub sampled_file : Bool → Change → Promise Counts
-sampled_file exact change = record {
+abbrev pub sampled_words : Bool → Words → Change → Promise Counts
+sampled_words exact form change = record {
   input = IsPcm exact;
-  whole = pcm_file change;
-  begun = begun_pcm exact change;
+  whole = pcm_words form change;
+  begun = begun_pcm exact form change;
   answer = λ b n. n ≡ pcm_counts b;
   cause = IsPcmCause exact;
 }
+
+abbrev pub sampled_file : Bool → Change → Promise Counts
+sampled_file exact change = sampled_words exact Own change
 
 -- byte by byte: what is written of the bytes with one more, or with the end, and not of the bytes alone
 abbrev pub is_low : Bool → List ℕ → ℕ → Bool
@@ -93,12 +122,14 @@ is_low exact b x = exact && (length b % 4) == 0 && not (x == 0)
 abbrev pub more_of : List ℕ → List ℕ → List ℕ
 more_of before all = drop (length before) all
 
-unfoldable pub sampling : Bool → Change → Reading
-sampling exact change = record {
-  fault = λ b x. if is_low exact b x then Some (BadSample (length b)) else None;
-  adds = λ b x. more_of (sample_file change (words_of b)) (sample_file change (words_of (b ++ x ∷ [])));
+unfoldable pub sampling : Bool → Words → Change → Reading
+sampling exact form change = record {
+  fault = λ b x.
+      if is_low exact b x then Some (BadSample (length b))
+      else if begins_wave (b ++ x ∷ []) then Some WaveHeader else None;
+  adds = λ b x. more_of (sample_file form change (words_of b)) (sample_file form change (words_of (b ++ x ∷ [])));
   end_fault = λ b. if (length b % frame_len) == 0 then None else Some (BadLength (length b % frame_len));
-  ends = λ b. more_of (sample_file change (words_of b)) (pcm_file change b);
+  ends = λ b. more_of (sample_file form change (words_of b)) (pcm_words form change b);
 }
 
 -- an input that has taken the bytes b: the blocks that are whole, and the bytes of the one that is begun
@@ -110,13 +141,13 @@ pub record Samples (exact : Bool) (seen : ℕ) (begun b : List ℕ) : Type 0 whe
   pub whole : length before % block_bytes_len ≡ 0
   pub bytes : b ≡ before ++ take (seen % block_bytes_len) begun
   pub count : seen ≡ length b
-  pub bits : AllExact exact b
+  pub clean : AreSamples exact b
 
 -- samples as an input of which `seen` bytes have come, with the bytes of the block that is begun; its taker is the
 -- change of each block's channel status
-abbrev pub sampling_state : Bool → ℕ → List ℕ → Change → InputState
-sampling_state exact seen begun change = record {
-  reads = sampling exact change;
+abbrev pub sampling_state : Bool → Words → ℕ → List ℕ → Change → InputState
+sampling_state exact form seen begun change = record {
+  reads = sampling exact form change;
   follows = Samples exact seen begun;
   stopped = λ b. Unit {0};
   finished = λ b. Unit {0};

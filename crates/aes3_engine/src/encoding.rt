@@ -22,13 +22,13 @@ use aes3_input::{Input, convert};
 /// Writes the cells of each block in a form, and counts the blocks. The cells are made in words
 /// that it keeps, which so are cleared once.
 #[derive(Drop)]
-struct Encoder {
-    output: Form,
-    blocks: u64,
-    cells: [u64; SLOTS],
+pub(crate) struct Encoder {
+    pub(crate) output: Form,
+    pub(crate) blocks: u64,
+    pub(crate) cells: [u64; SLOTS],
 }
 
-fn blank_cells() -> [u64; SLOTS] {
+pub(crate) fn blank_cells() -> [u64; SLOTS] {
     [0; SLOTS]
 }
 

@@ -19,6 +19,10 @@ mod samples;
 mod sampling;
 /// From cells to samples, with zero in place of each that is not valid.
 mod valid_samples;
+/// From a block file whose words are in another form to cells.
+mod word_encoding;
+/// Blocks as block files in other forms.
+mod words;
 
 pub use aes3_frame::Fill;
 pub use aes3_runs::{
@@ -29,8 +33,9 @@ pub use aes3_status::{CarriedBits, Change};
 pub use carrying::to_bits;
 pub use encoding::encode;
 pub use filling::to_filled_pcm;
-pub use reading::{cut, decode, normalise};
+pub use reading::{cut, decode, decode_words, normalise};
 pub use rewriting::rewrite;
 pub use samples::to_pcm;
-pub use sampling::from_pcm;
+pub use sampling::{from_pcm, from_pcm_words};
 pub use valid_samples::to_valid_pcm;
+pub use word_encoding::encode_words;

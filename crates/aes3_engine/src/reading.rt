@@ -18,12 +18,15 @@ ghost use Rattle.aes3_input.specs.Driving.{CellRun, IsCause};
 ghost use Rattle.aes3_input.specs.Inputs.{IsInput, cells_before, cells_of};
 ghost use Rattle.aes3_input.specs.Running.{Complete, movement_of};
 ghost use Rattle.aes3_runs.specs.BlockRuns.{begun_stream, cut_block, cut_blocks, decided_blocks};
-ghost use Rattle.aes3_runs.specs.BlockRuns.{file_block, normal_block, written_stream};
+ghost use Rattle.aes3_runs.specs.BlockRuns.{normal_block, written_stream};
 ghost use Rattle.aes3_runs.specs.ReportRuns.{counts_of};
+ghost use Rattle.aes3_engine.specs.Words.{numbered_words, words_file};
 
-use aes3_block::{GatheredCells, put_block_file, put_read_block};
+use crate::words::put_block_words;
+use aes3_block::{GatheredCells, put_read_block};
 use aes3_cell::{Counts, Fault, Form, Level, RunError, Sink, Source, put_ending};
 use aes3_runs::{BlockWriter, run_blocks};
+use aes3_words::Words;
 
 /// Writes blocks as cells in the normal polarity.
 #[derive(Drop)]
@@ -47,15 +50,17 @@ impl BlockWriter for NormalBlocks {
 
 /// Writes blocks as a block file.
 #[derive(Drop)]
-struct FileBlocks;
+struct FileBlocks {
+    words: Words,
+}
 
 impl BlockWriter for FileBlocks {
-    ghost writes = { λ _. file_block };
+    ghost writes = { λ k. numbered_words k.words };
 
     ghost ends = { λ _. [] };
 
     fn put<T: Sink>(&self, sink: &mut T, _number: u64, cells: &GatheredCells) -> Result<(), Fault> {
-        put_block_file(&cells.block(), sink)
+        put_block_words(&cells.block(), self.words, sink)
     }
 
     fn put_end<T: Sink>(&self, _sink: &mut T) -> Result<(), Fault> {
@@ -230,7 +235,39 @@ pub fn decode<S: Source, T: Sink>(
         (movement_of T.taken T.failed sink.old sink.new) result }
     ensures passed_on { IfOk result (λ _. T.passed sink.new ≡ T.taken sink.new) }
 {
-    run_blocks(source, sink, max_bytes, input, FileBlocks)
+    decode_words(source, sink, max_bytes, input, Words::Own)
+}
+
+/// Does what `decode` does, and writes a block file whose words are in this form.
+///
+/// # Errors
+/// Those of `decode`.
+pub fn decode_words<S: Source, T: Sink>(
+    source: &mut S,
+    sink: &mut T,
+    max_bytes: u64,
+    input: Form,
+    words: Words,
+) -> Result<Counts, RunError>
+    requires source_room { S.failed source.old + 1 < 2 ^ 64 }
+    requires sink_room { T.failed sink.old + 1 < 2 ^ 64 }
+    requires limit { max_bytes ≤ 2 ^ 40 }
+
+    // What `encode` writes of blocks gives their file in these words.
+    ensures back { IfOk result (λ _. (bs : List (List (List Bool))) → All IsBlock bs
+        → Told (S.given source.old) (S.given source.new) (written_stream input bs)
+        → Grew (T.taken sink.old) (T.taken sink.new) (words_file words bs)) }
+    // It is a run over cells: where it answers Ok, exactly the blocks that stand whole and closed in
+    // the input are written, as their file.
+    ensures run { CellRun max_bytes input (record {
+      whole = λ c. words_file words (blocks c);
+      begun = λ c. words_file words (decided_blocks c);
+      counts = counts_of input;
+    }) (S.has_ended source.new) (movement_of S.given S.failed source.old source.new)
+        (movement_of T.taken T.failed sink.old sink.new) result }
+    ensures passed_on { IfOk result (λ _. T.passed sink.new ≡ T.taken sink.new) }
+{
+    run_blocks(source, sink, max_bytes, input, FileBlocks { words })
 }
 
 /// Reads cells from any cell on, and of the blocks that stand whole and closed in them writes

@@ -1,28 +1,38 @@
 //! Samples to a block file.
 
 ghost use Rattle.std.specs.Prelude.{◌≡◌, ◌≢◌, ℕ, ◌+◌, ◌-◌, ◌<◌, ◌≤◌, ◌^◌, ◌%◌, ◌⊎◌, List, Bool};
-ghost use Rattle.std.specs.Prelude.{true, None, Err, get_or, length, map, take, IfErr, IfOk};
+ghost use Rattle.std.specs.Prelude.{true, false, None, Err, get_or, length, map, take, IfErr, IfOk};
 ghost use Rattle.std.specs.Prelude.{IfSome, IsOk, OnErr, IsTrue};
 ghost use Rattle.aes3_cell.specs.Ends.{Grew, GrewFront, Told};
-ghost use Rattle.aes3_frame.specs.Files.{block_bytes, words_of};
+ghost use Rattle.aes3_cell.specs.Wave.{begins_wave};
+ghost use Rattle.aes3_frame.specs.Files.{words_of};
 ghost use Rattle.aes3_frame.specs.Sampled.{payload_of_sample};
 ghost use Rattle.aes3_input.specs.Running.{InputRun, movement_of};
 ghost use Rattle.aes3_engine.specs.Rewriting.{rewritten};
-ghost use Rattle.aes3_engine.specs.Sampling.{IsPcm, pcm_file, sampled_file, sampling_state};
+ghost use Rattle.aes3_engine.specs.Sampling.{IsPcm, pcm_file, pcm_words, sampled_file, sampled_words};
+ghost use Rattle.aes3_engine.specs.Sampling.{sampling_state};
+ghost use Rattle.aes3_engine.specs.Words.{block_words};
 
 use crate::rewriting::rewrite_block;
-use aes3_block::{BLOCK_BYTES, Block, put_block_file};
-use aes3_cell::{Counts, Fault, RunError, Sink, Source};
+use crate::words::put_block_words;
+use aes3_block::{BLOCK_BYTES, Block};
+use aes3_cell::{Counts, Fault, RunError, Sink, Source, begins_wave};
 use aes3_input::{Input, convert};
 use aes3_status::Change;
+use aes3_words::Words;
 
 /// How many bytes a frame of two samples has.
 const FRAME_BYTES: u64 = 8;
+
+/// How many bytes of a WAV file's header are looked at.
+const WAVE_HEADER_BYTES: u64 = 12;
 
 /// Samples as they come, and the bytes of the block that they have begun.
 #[derive(Drop)]
 struct SampleInput {
     exact: bool,
+    /// The form of the words that are written.
+    words: Words,
     seen: u64,
     begun: [u8; BLOCK_BYTES],
 }
@@ -51,27 +61,29 @@ fn low_bits_in(exact: bool, piece: &[u8], at: usize) -> Option<usize>
     None
 }
 
-/// Writes the block of samples with its channel status, as a block file has it.
+/// Writes the block of samples with its channel status, as a block file has it whose words are in
+/// this form.
 fn put_samples<T: Sink>(
     samples: &[u8; BLOCK_BYTES],
     change: &Change,
+    words: Words,
     sink: &mut T,
 ) -> Result<(), Fault>
     requires room { T.failed sink.old + 1 < 2 ^ 64 }
     ensures bytes { IfOk result (λ _. Grew (T.taken sink.old) (T.taken sink.new)
-        (block_bytes (rewritten change.now (map payload_of_sample (words_of samples.now))))) }
+        (block_words words (rewritten change.now (map payload_of_sample (words_of samples.now))))) }
     ensures count { IfOk result (λ _. T.failed sink.new ≡ T.failed sink.old) }
     ensures err { OnErr result ((T.failed sink.new ≡ T.failed sink.old + 1)
         × GrewFront (T.taken sink.old) (T.taken sink.new)
-        (block_bytes (rewritten change.now (map payload_of_sample (words_of samples.now))))) }
+        (block_words words (rewritten change.now (map payload_of_sample (words_of samples.now))))) }
 {
     let mut block = Block::of_samples(samples);
     rewrite_block(&mut block, change);
-    put_block_file(&block, sink)
+    put_block_words(&block, words, sink)
 }
 
 impl Input<Change> for SampleInput {
-    ghost state = { λ input change. sampling_state input.exact input.seen input.begun change };
+    ghost state = { λ input change. sampling_state input.exact input.words input.seen input.begun change };
 
     /// Takes what a piece has of the block that is begun.
     fn take_front<T: Sink>(
@@ -91,11 +103,14 @@ impl Input<Change> for SampleInput {
             None => {}
         }
         self.begun[at..at + len].copy_from_slice(&piece[..len]);
+        if self.has_header(at + len) {
+            return Err(RunError::WaveHeader);
+        }
         self.seen += len as u64;
         if at + len < BLOCK_BYTES {
             return Ok(len);
         }
-        match put_samples(&self.begun, change, sink) {
+        match put_samples(&self.begun, change, self.words, sink) {
             Ok(()) => Ok(len),
             Err(_) => Err(RunError::Write),
         }
@@ -112,7 +127,7 @@ impl Input<Change> for SampleInput {
             return Ok(());
         }
         self.begun[at..].fill(0);
-        match put_samples(&self.begun, change, sink) {
+        match put_samples(&self.begun, change, self.words, sink) {
             Ok(()) => Ok(()),
             Err(_) => Err(RunError::Write),
         }
@@ -126,6 +141,18 @@ impl SampleInput {
     {
         (self.seen % BLOCK_BYTES as u64) as usize
     }
+
+    /// Whether the header of a WAV file ends in these first bytes of a block, of which no more than
+    /// `seen` were taken before.
+    fn has_header(&self, len: usize) -> bool
+        requires { len ≤ BLOCK_BYTES }
+        ensures yes { result ≡ true → (self.now.seen < WAVE_HEADER_BYTES)
+            × (begins_wave (take len self.now.begun) ≡ true) }
+        ensures no { result ≡ false → self.now.seen < WAVE_HEADER_BYTES
+            → begins_wave (take len self.now.begun) ≡ false }
+    {
+        self.seen < WAVE_HEADER_BYTES && begins_wave(&self.begun[..len])
+    }
 }
 
 /// Writes a block file of samples, each word of 32 bits with the lowest byte first, channel 1 and
@@ -135,7 +162,8 @@ impl SampleInput {
 ///
 /// # Errors
 /// `BadLength` where the input ends inside a frame, `BadSample` where `exact` is set and one of the
-/// lowest 8 bits of a word is too, `TooLong` where it has more than `max_bytes` bytes, `Read` and
+/// lowest 8 bits of a word is too, `WaveHeader` where the input begins with the header of a WAV file
+/// and no sample before its end was refused, `TooLong` where it has more than `max_bytes` bytes, `Read` and
 /// `Write` where an end failed. Then the blocks that were whole before are written, and after
 /// `Write` a front of the output.
 pub fn from_pcm<S: Source, T: Sink>(
@@ -155,8 +183,8 @@ pub fn from_pcm<S: Source, T: Sink>(
         → Grew (T.taken sink.old) (T.taken sink.new) (pcm_file change.now b)) }
     ensures passed_on { IfOk result (λ _. T.passed sink.new ≡ T.taken sink.new) }
 
-    // It owes Ok where the input is whole frames, of 24 bits where that is asked, and fits, and
-    // neither end failed.
+    // It owes Ok where the input is whole frames, of 24 bits where that is asked, and no WAV file,
+    // and fits, and neither end failed.
     ensures owed { (b : List ℕ) → Told (S.given source.old) (S.given source.new) b → IsPcm exact b
         → length b ≤ max_bytes
         → S.failed source.new ≡ S.failed source.old → T.failed sink.new ≡ T.failed sink.old
@@ -167,8 +195,46 @@ pub fn from_pcm<S: Source, T: Sink>(
         (movement_of S.given S.failed source.old source.new)
         (movement_of T.taken T.failed sink.old sink.new) result }
 {
+    from_pcm_words(source, sink, max_bytes, exact, change, Words::Own)
+}
+
+/// Does what `from_pcm` does, and writes a block file whose words are in this form.
+///
+/// # Errors
+/// Those of `from_pcm`.
+pub fn from_pcm_words<S: Source, T: Sink>(
+    source: &mut S,
+    sink: &mut T,
+    max_bytes: u64,
+    exact: bool,
+    change: &Change,
+    words: Words,
+) -> Result<Counts, RunError>
+    requires source_room { S.failed source.old + 1 < 2 ^ 64 }
+    requires sink_room { T.failed sink.old + 1 < 2 ^ 64 }
+    requires limit { max_bytes ≤ 2 ^ 40 }
+
+    // Where it answers Ok, the block file of the samples is written, filled up with zero samples to
+    // whole blocks.
+    ensures file { IfOk result (λ _. (b : List ℕ) → Told (S.given source.old) (S.given source.new) b
+        → Grew (T.taken sink.old) (T.taken sink.new) (pcm_words words change.now b)) }
+    ensures passed_on { IfOk result (λ _. T.passed sink.new ≡ T.taken sink.new) }
+
+    // It owes Ok where the input is whole frames, of 24 bits where that is asked, and no WAV file,
+    // and fits, and neither end failed.
+    ensures owed { (b : List ℕ) → Told (S.given source.old) (S.given source.new) b → IsPcm exact b
+        → length b ≤ max_bytes
+        → S.failed source.new ≡ S.failed source.old → T.failed sink.new ≡ T.failed sink.old
+        → IsOk result }
+
+    // What it answers to every input, and has written then.
+    ensures run { InputRun (sampled_words exact words change.now) max_bytes (S.has_ended source.new)
+        (movement_of S.given S.failed source.old source.new)
+        (movement_of T.taken T.failed sink.old sink.new) result }
+{
     let mut input = SampleInput {
         exact,
+        words,
         seen: 0,
         begun: [0; BLOCK_BYTES],
     };

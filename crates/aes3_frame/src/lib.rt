@@ -1,5 +1,5 @@
-//! Subframes, frames and blocks of 192 frames as what they carry (AES3-2, AES3-3, IEC 60958-1), and blocks as they are gathered
-//! from a line.
+//! Subframes, frames and blocks of 192 frames as what they carry (AES3-2, AES3-3, IEC 60958-1), and
+//! blocks as they are gathered from a line.
 #![tactic(auto)]
 
 /// A block: the words of its 384 subframes.

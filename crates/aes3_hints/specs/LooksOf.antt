@@ -1,6 +1,7 @@
 -- What the first bytes of an input look like.
 use Rattle.std.specs.Prelude.{ℕ, Bool, List, [], ◌∷◌, ◌++◌, ◌==◌, ◌||◌, ◌&&◌, if◌then◌else◌, nat_le, codes, length}
-use Rattle.std.specs.List.{list_all, starts_with}
+use Rattle.std.specs.List.{list_all}
+use Rattle.aes3_cell.specs.Wave.{begins, begins_wave}
 use Rattle.aes3_hints.specs.declared.looks.Alphabet.{Alphabet}
 use Rattle.aes3_hints.specs.declared.looks.Alphabet.TheVariants.{Cells, Ascii, Bits}
 use Rattle.aes3_hints.specs.declared.looks.Looks.{Looks}
@@ -25,10 +26,6 @@ is_in Cells byte = is_cell_text byte
 is_in Ascii byte = is_text byte
 is_in Bits byte = is_bit byte
 
--- they begin so
-abbrev pub begins : List ℕ → List ℕ → Bool
-begins first head = starts_with (λ a b. a == b) first head
-
 -- the head of a file of gzip, xz or zstd
 abbrev pub is_compressed : List ℕ → Bool
 is_compressed first = begins first (31 ∷ 139 ∷ []) || begins first (253 ∷ codes "7zXZ")
@@ -38,7 +35,7 @@ is_compressed first = begins first (31 ∷ 139 ∷ []) || begins first (253 ∷ 
 abbrev pub looks : Bool → List ℕ → Looks
 looks block first =
     if length first == 0 then Empty
-    else if begins first (codes "RIFF") then Wave
+    else if begins_wave first then Wave
     else if begins first (codes "PK" ++ 3 ∷ 4 ∷ []) then Session
     else if is_compressed first then Compressed
     else if list_all (is_in Cells) first then CellText

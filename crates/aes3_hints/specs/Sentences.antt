@@ -22,8 +22,8 @@ is_packed Packed = true
 
 -- whether the job writes packed cells
 abbrev pub writes_packed : Job → Bool
-writes_packed (Encode output) = is_packed output
-writes_packed (Decode input) = false
+writes_packed (Encode output words) = is_packed output
+writes_packed (Decode input words) = false
 writes_packed (Normal input output) = is_packed output
 writes_packed (Check input lines) = false
 writes_packed (Account input lines) = false
@@ -36,13 +36,13 @@ writes_packed (Cut input output from count) = is_packed output
 writes_packed (Rewrite input output change) = is_packed output
 writes_packed (ToPcm input valid) = false
 writes_packed (ToFilledPcm input fill) = false
-writes_packed (FromPcm exact change) = false
+writes_packed (FromPcm exact change words) = false
 writes_packed (ToBits input bits channel) = false
 
 -- whether the job reads packed cells
 abbrev pub reads_packed : Job → Bool
-reads_packed (Encode output) = false
-reads_packed (Decode input) = is_packed input
+reads_packed (Encode output words) = false
+reads_packed (Decode input words) = is_packed input
 reads_packed (Normal input output) = is_packed input
 reads_packed (Check input lines) = is_packed input
 reads_packed (Account input lines) = is_packed input
@@ -55,7 +55,7 @@ reads_packed (Cut input output from count) = is_packed input
 reads_packed (Rewrite input output change) = is_packed input
 reads_packed (ToPcm input valid) = is_packed input
 reads_packed (ToFilledPcm input fill) = is_packed input
-reads_packed (FromPcm exact change) = false
+reads_packed (FromPcm exact change words) = false
 reads_packed (ToBits input bits channel) = is_packed input
 
 -- what is told before a job where standard input, or output, is a terminal or isn't

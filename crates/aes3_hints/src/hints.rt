@@ -232,9 +232,6 @@ fn is_lsb_first(words: &[&str]) -> bool {
 /// What to do where the first bytes of an input look like another kind than this job takes.
 fn warning(job: Option<Job>, is_lsb_first: bool, first: &[u8]) -> Option<&'static str> {
     match (job?, looks_of(first)) {
-        (Job::FromPcm { .. }, Looks::Wave) => Some(
-            "this is a WAV file, whose head was taken as samples: `sox FILE -t s32 - | aes3 from-pcm` leaves it out",
-        ),
         (job, Looks::Octets) if reads_packed(&job) && !is_lsb_first && are_turned(first) => {
             Some("the cells look packed with the first in the lowest bit: try `--lsb-first`")
         }
@@ -303,7 +300,7 @@ pub fn writes_packed(job: &Job) -> bool
     ensures { result ≡ writes_packed job.now }
 {
     match job {
-        Job::Encode { output }
+        Job::Encode { output, .. }
         | Job::Normal { output, .. }
         | Job::Cut { output, .. }
         | Job::Rewrite { output, .. } => matches!(output, Form::Packed),
@@ -339,7 +336,7 @@ pub fn reads_packed(job: &Job) -> bool
 {
     match job {
         Job::Encode { .. } | Job::FromPcm { .. } => false,
-        Job::Decode { input }
+        Job::Decode { input, .. }
         | Job::Normal { input, .. }
         | Job::Check { input, .. }
         | Job::Account { input, .. }

@@ -2,11 +2,12 @@
 
 ghost use Rattle.std.specs.Prelude.{◌≡◌, Bool, IfSome, IsTrue};
 ghost use Rattle.std.specs.List.{list_all};
-ghost use Rattle.aes3_hints.specs.LooksOf.{begins, is_bit, is_cell_text, is_compressed, is_text, looks};
+ghost use Rattle.aes3_cell.specs.Wave.{begins, begins_wave};
+ghost use Rattle.aes3_hints.specs.LooksOf.{is_bit, is_cell_text, is_compressed, is_text, looks};
 ghost use Rattle.aes3_hints.specs.LooksOf.{is_in};
 ghost use Rattle.aes3_hints.specs.Sentences.{is_told};
 
-use aes3_cell::RunError;
+use aes3_cell::{RunError, begins_wave};
 
 /// A kind of file that is given to the wrong command.
 #[derive(Clone, Copy)]
@@ -113,7 +114,7 @@ fn looks_by(first: &[u8], is_block: bool) -> Looks
 {
     if first.is_empty() {
         Looks::Empty
-    } else if first.starts_with(b"RIFF") {
+    } else if begins_wave(first) {
         Looks::Wave
     } else if first.starts_with(b"PK\x03\x04") {
         Looks::Session
@@ -165,6 +166,7 @@ pub(crate) fn advice_by_looks(error: RunError, looks: Looks) -> Option<&'static 
     let is_of_samples = matches!(error, RunError::BadSample { .. });
     match (error, looks) {
         (RunError::Read | RunError::Write | RunError::Memory | RunError::TooLong, _) => None,
+        (RunError::WaveHeader, _) => None,
         (_, Looks::Wave) => {
             Some("this is a WAV file: `sox FILE -t s32 - | aes3 from-pcm` takes its samples")
         }

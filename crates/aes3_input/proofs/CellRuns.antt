@@ -7,6 +7,7 @@ use Rattle.aes3_cell.specs.declared.form.Form.TheVariants.{Text, Packed}
 use Rattle.aes3_cell.specs.declared.refusal.RunError.{RunError}
 use Rattle.aes3_cell.specs.declared.refusal.RunError.TheVariants.{BadCell, BadLength, BadCode, BadParity, Read, Write}
 use Rattle.aes3_cell.specs.declared.refusal.RunError.TheVariants.{TooLong, Memory, BadStatusText, BadPadding, BadSample}
+use Rattle.aes3_cell.specs.declared.refusal.RunError.TheVariants.{WaveHeader}
 use Rattle.aes3_cell.specs.declared.counts.Counts.{Counts}
 use Rattle.aes3_cell.specs.CellText.{good}
 use Rattle.aes3_input.specs.Running.{Movement}
@@ -80,3 +81,4 @@ no-cell-cause form max b ended i l (BadParity n) r w h = h
 no-cell-cause form max b ended i l Memory r w h = h
 no-cell-cause form max b ended i l BadStatusText r w h = h
 no-cell-cause form max b ended i l (BadSample n) r w h = h
+no-cell-cause form max b ended i l WaveHeader r w h = h

@@ -27,7 +27,8 @@ pub piece-stuck : (old new : InputState) (piece : List ℕ) (t t' u : Option (Li
     → PieceRan old new piece (record { old = t; new = u; failed_old = k; failed_new = n }) (Err Write)
 piece-stuck old new piece t t' u k k' n e q p = (
   q ∙ ap (λ v. v + 1) p.1,
-  λ b h. subst (λ (v : Option (List ℕ)). GrewFront t v (out_behind old.reads b piece)) (sym e) (front-all (p.0.grew b h)),
+  λ b h. subst (λ (v : Option (List ℕ)). GrewFront t v (out_behind old.reads b piece)) (sym e)
+      (front-all (p.0.grew b h)),
 )
 
 pub end-passed : (old new : InputState) (t t' u : Option (List ℕ)) (k k' n : ℕ) → u ≡ t' → n ≡ k'
@@ -39,6 +40,7 @@ pub end-stuck : (old new : InputState) (t t' u : Option (List ℕ)) (k k' n : �
     → EndRan old new (record { old = t; new = t'; failed_old = k; failed_new = k' }) (Ok tt)
     → EndRan old new (record { old = t; new = u; failed_old = k; failed_new = n }) (Err Write)
 end-stuck old new t t' u k k' n e q p = (
-  λ b h. let v = p.0 b h in (v.0, subst (λ (x : Option (List ℕ)). GrewFront t x (old.reads.ends b)) (sym e) (front-all v.2)),
+  λ b h. let v = p.0 b h in
+      (v.0, subst (λ (x : Option (List ℕ)). GrewFront t x (old.reads.ends b)) (sym e) (front-all v.2)),
   q ∙ ap (λ v. v + 1) p.1,
 )

@@ -13,7 +13,8 @@ fault-join r b (x ∷ d) e =
     ∙ ap (λ z. or_else (fault_behind r (b ++ x ∷ []) d) (fault_behind r z e)) (append_assoc b (x ∷ []) d))
   where
     go : (o : Option RunError)
-        → fault_behind r (b ++ x ∷ []) (d ++ e) ≡ or_else (fault_behind r (b ++ x ∷ []) d) (fault_behind r (b ++ x ∷ d) e)
+        → fault_behind r (b ++ x ∷ []) (d ++ e)
+        ≡ or_else (fault_behind r (b ++ x ∷ []) d) (fault_behind r (b ++ x ∷ d) e)
         → or_else o (fault_behind r (b ++ x ∷ []) (d ++ e))
         ≡ or_else (or_else o (fault_behind r (b ++ x ∷ []) d)) (fault_behind r (b ++ x ∷ d) e)
     go (Some f) h = refl

@@ -78,7 +78,10 @@ fn allowed_of(n: usize, room: u64) -> usize
 }
 
 /// Takes all of a piece, one front of what is left after the other.
-fn feed_fronts<T: Sink, K, I: Input<K>>(
+///
+/// # Errors
+/// The first that a front is refused with.
+pub fn feed_fronts<T: Sink, K, I: Input<K>>(
     input: &mut I,
     taker: &mut K,
     sink: &mut T,
@@ -92,10 +95,7 @@ fn feed_fronts<T: Sink, K, I: Input<K>>(
 {
     let mut at = 0;
     while at < piece.len() {
-        match input.take_front(taker, sink, &piece[at..]) {
-            Ok(taken) => at += taken,
-            Err(error) => return Err(error),
-        }
+        at += input.take_front(taker, sink, &piece[at..])?;
     }
     Ok(())
 }
@@ -115,12 +115,10 @@ fn feed<T: Sink, K, I: Input<K>>(
         (movement_of T.taken T.failed sink.old sink.new) result }
     ensures passed_on { IfOk result (λ _. T.passed sink.new ≡ T.taken sink.new) }
 {
-    match feed_fronts(input, taker, sink, piece) {
-        Ok(()) => match sink.flush() {
-            Ok(()) => Ok(()),
-            Err(_) => Err(RunError::Write),
-        },
-        Err(error) => Err(error),
+    feed_fronts(input, taker, sink, piece)?;
+    match sink.flush() {
+        Ok(()) => Ok(()),
+        Err(_) => Err(RunError::Write),
     }
 }
 
@@ -137,12 +135,10 @@ fn finish<T: Sink, K, I: Input<K>>(
         (movement_of T.taken T.failed sink.old sink.new) result }
     ensures passed_on { IfOk result (λ _. T.passed sink.new ≡ T.taken sink.new) }
 {
-    match input.finish(taker, sink) {
-        Ok(()) => match sink.flush() {
-            Ok(()) => Ok(()),
-            Err(_) => Err(RunError::Write),
-        },
-        Err(error) => Err(error),
+    input.finish(taker, sink)?;
+    match sink.flush() {
+        Ok(()) => Ok(()),
+        Err(_) => Err(RunError::Write),
     }
 }
 
@@ -180,16 +176,11 @@ pub fn convert<S: Source, T: Sink, K, I: Input<K>>(
             Err(_) => return Err(RunError::Read),
         };
         if n == 0 {
-            return match finish(input, taker, sink) {
-                Ok(()) => Ok(seen),
-                Err(error) => Err(error),
-            };
+            finish(input, taker, sink)?;
+            return Ok(seen);
         }
         let allowed = allowed_of(n, room);
-        match feed(input, taker, sink, &piece[..allowed]) {
-            Ok(()) => {}
-            Err(error) => return Err(error),
-        }
+        feed(input, taker, sink, &piece[..allowed])?;
         seen += n as u64;
         if seen > max_bytes {
             return Err(RunError::TooLong);

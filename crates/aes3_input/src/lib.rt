@@ -17,6 +17,6 @@ mod text_lines;
 /// The words of cells that text begins with, whatever its lines.
 mod text_words;
 
-pub use conversion::{Input, convert};
+pub use conversion::{Input, convert, feed_fronts};
 pub use driver::drive;
 pub use taker::{Taker, cell, word};

@@ -79,10 +79,8 @@ fn hand_on_last<T: Sink, K: Taker>(
     ensures { EndCellsRan (K.state taker.old) (K.state taker.new) (octet_front used octet)
         (movement_of T.taken T.failed sink.old sink.new) result }
 {
-    match hand_on(taker, sink, octet, used) {
-        Ok(()) => taker.finish(sink),
-        Err(fault) => Err(fault),
-    }
+    hand_on(taker, sink, octet, used)?;
+    taker.finish(sink)
 }
 
 /// Takes one octet, and hands on the cells of the one that came two octets before.
@@ -149,10 +147,8 @@ fn take_first<T: Sink, K: Taker>(
         (packed_state input.new.packed input.new.cells (K.state taker.new)) piece.now
         (movement_of T.taken T.failed sink.old sink.new) result }
 {
-    match take_octet(input, taker, sink, piece[0]) {
-        Ok(()) => Ok(1),
-        Err(error) => Err(error),
-    }
+    take_octet(input, taker, sink, piece[0])?;
+    Ok(1)
 }
 
 /// `drive` over packed cells.
@@ -173,10 +169,8 @@ pub(crate) fn drive_packed<S: Source, T: Sink, K: Taker>(
     ensures passed_on { IfOk result (λ _. T.passed sink.new ≡ T.taken sink.new) }
 {
     let mut input = PackedInput::new();
-    match convert(source, sink, max_bytes, &mut input, taker) {
-        Ok(bytes) => Ok((bytes, input.cells)),
-        Err(error) => Err(error),
-    }
+    let bytes = convert(source, sink, max_bytes, &mut input, taker)?;
+    Ok((bytes, input.cells))
 }
 
 impl<K: Taker> Input<K> for PackedInput {

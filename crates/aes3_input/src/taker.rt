@@ -64,10 +64,7 @@ pub trait Taker {
     {
         let mut taken = 0;
         while taken < len {
-            match self.take_front(sink, word >> taken, len - taken) {
-                Ok(more) => taken += more,
-                Err(fault) => return Err(fault),
-            }
+            taken += self.take_front(sink, word >> taken, len - taken)?;
         }
         Ok(())
     }
@@ -84,10 +81,7 @@ pub trait Taker {
             (movement_of T.taken T.failed sink.old sink.new) result }
     {
         for word in words.iter() {
-            match self.cells(sink, *word, u64::BITS) {
-                Ok(()) => {}
-                Err(fault) => return Err(fault),
-            }
+            self.cells(sink, *word, u64::BITS)?;
         }
         Ok(())
     }
@@ -112,10 +106,8 @@ pub(crate) fn words_and_cells<K: Taker, T: Sink>(
         (flat_map word_cells words.now ++ low_cells len word)
         (movement_of T.taken T.failed sink.old sink.new) result }
 {
-    match taker.words(sink, words) {
-        Ok(()) => taker.cells(sink, word, len),
-        Err(fault) => Err(fault),
-    }
+    taker.words(sink, words)?;
+    taker.cells(sink, word, len)
 }
 
 /// Takes one more cell.

@@ -53,10 +53,8 @@ pub(crate) fn drive_text<S: Source, T: Sink, K: Taker>(
     ensures passed_on { IfOk result (λ _. T.passed sink.new ≡ T.taken sink.new) }
 {
     let mut input = TextInput::new();
-    match convert(source, sink, max_bytes, &mut input, taker) {
-        Ok(bytes) => Ok((bytes, input.cells)),
-        Err(error) => Err(error),
-    }
+    let bytes = convert(source, sink, max_bytes, &mut input, taker)?;
+    Ok((bytes, input.cells))
 }
 
 impl<K: Taker> Input<K> for TextInput {

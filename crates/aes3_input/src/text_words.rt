@@ -169,10 +169,8 @@ fn with_byte(text: &mut CellText, cells: SomeCells, byte: u8) -> Result<SomeCell
     ensures fault { IfErr result (λ fault. Err fault ≡ text_answer text.old byte) }
     ensures same { OnErr result (text.new ≡ text.old) }
 {
-    match text.feed_byte(byte) {
-        Ok(_) => Ok(with_cell_of(cells, byte)),
-        Err(fault) => Err(fault),
-    }
+    text.feed_byte(byte)?;
+    Ok(with_cell_of(cells, byte))
 }
 
 /// Takes the bytes that a piece begins with, until they have 64 cells, a line of so many begins, or
@@ -187,10 +185,7 @@ fn feed_some(text: &mut CellText, piece: &[u8]) -> Result<(usize, SomeCells), Ba
         ≡ text_answer text.old (slice_index piece.now 0)) }
     ensures same { OnErr result (text.new ≡ text.old) }
 {
-    let mut cells = match with_byte(text, SomeCells { word: 0, len: 0 }, piece[0]) {
-        Ok(cells) => cells,
-        Err(fault) => return Err(fault),
-    };
+    let mut cells = with_byte(text, SomeCells { word: 0, len: 0 }, piece[0])?;
     let mut at = 1;
     while at < piece.len() && cells.len < u64::BITS && !begins_line(piece, at) {
         match with_byte(text, cells, piece[at]) {
@@ -216,13 +211,9 @@ fn feed_cells(text: &mut CellText, piece: &[u8]) -> Result<(usize, SomeCells), B
         ≡ text_answer text.old (slice_index piece.now 0)) }
     ensures same { OnErr result (text.new ≡ text.old) }
 {
-    match feed_some(text, piece) {
-        Ok((taken, cells)) => {
-            let separators = skip_separators(text, &piece[taken..]);
-            Ok((taken + separators, cells))
-        }
-        Err(fault) => Err(fault),
-    }
+    let (taken, cells) = feed_some(text, piece)?;
+    let separators = skip_separators(text, &piece[taken..]);
+    Ok((taken + separators, cells))
 }
 
 /// Takes a front of a piece, and answers how many bytes it has, how many words its cells make, and
@@ -251,12 +242,10 @@ pub(crate) fn fill(
     if taken.bytes > 0 {
         return Ok(taken);
     }
-    match feed_cells(text, piece) {
-        Ok((bytes, rest)) => Ok(Taken {
-            bytes,
-            count: 0,
-            rest,
-        }),
-        Err(fault) => Err(fault),
-    }
+    let (bytes, rest) = feed_cells(text, piece)?;
+    Ok(Taken {
+        bytes,
+        count: 0,
+        rest,
+    })
 }

@@ -4,17 +4,20 @@ use aes3_cell::Form;
 use aes3_frame::{Channel, Fill};
 use aes3_settings::{Detail, Lines, Style};
 use aes3_status::{CarriedBits, Change};
+use aes3_words::Words;
 
 /// What the program is asked to do.
 #[derive(Clone, Copy, PartialEq, Eq)]
 pub enum Job {
-    /// Block file to cells.
+    /// Block file to cells, its words in this form.
     Encode {
         output: Form,
+        words: Words,
     },
-    /// Cells to a block file.
+    /// Cells to a block file, its words in this form.
     Decode {
         input: Form,
+        words: Words,
     },
     /// Cells to the normal stream of their blocks.
     Normal {
@@ -83,10 +86,12 @@ pub enum Job {
         input: Form,
         fill: Fill,
     },
-    /// Samples to a block file, with channel status; where `exact`, of 24 bits alone.
+    /// Samples to a block file, with channel status, its words in this form; where `exact`, of 24
+    /// bits alone.
     FromPcm {
         exact: bool,
         change: Change,
+        words: Words,
     },
     /// Cells to bits that the subframes of a channel carry behind their audio.
     ToBits {

@@ -1,6 +1,5 @@
 pub mod MarkLines
 pub mod Ones
-pub mod Names
 pub mod StatusLines
 pub mod Gathering
 pub mod Events

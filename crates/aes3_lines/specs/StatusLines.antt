@@ -5,9 +5,8 @@ use Rattle.aes3_frame.specs.declared.status.Channel.TheVariants.{First, Second}
 use Rattle.aes3_frame.specs.Statuses.{status_of, user_of, validity_of}
 use Rattle.aes3_settings.specs.declared.detail.Detail.{Detail}
 use Rattle.aes3_settings.specs.declared.detail.Detail.TheVariants.{Plain, Place, Carried, Names}
-use Rattle.aes3_settings.specs.StatusTexts.{status_text}
+use Rattle.aes3_settings.specs.StatusTexts.{names_text, status_text}
 use Rattle.aes3_lines.specs.Ones.{ones_in}
-use Rattle.aes3_lines.specs.Names.{names_text}
 
 abbrev pub channel_digit : Channel → List ℕ
 channel_digit First = codes "1"

@@ -23,7 +23,8 @@ report_fields n f =
 unfoldable pub sample_fields : Notation → Figures → List ℕ
 sample_fields n f =
     number_field n (codes "lost") (decimal f.lost) ++ number_field n (codes "invalid1") (decimal f.invalid_first)
-    ++ number_field n (codes "invalid2") (decimal f.invalid_second) ++ number_field n (codes "changes") (decimal f.changes)
+    ++ number_field n (codes "invalid2") (decimal f.invalid_second)
+    ++ number_field n (codes "changes") (decimal f.changes)
 
 -- the line of a sum
 unfoldable pub sum_line : Style → Sum → List ℕ

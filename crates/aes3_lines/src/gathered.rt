@@ -92,12 +92,8 @@ impl GatheredLines {
         ensures wrote { Wrote T.taken T.failed sink.old sink.new self.old result }
         ensures none { IfOk result (λ _. self.new ≡ []) }
     {
-        match write_all(sink, &self.text[..self.len]) {
-            Ok(()) => {
-                self.len = 0;
-                Ok(())
-            }
-            Err(fault) => Err(fault),
-        }
+        write_all(sink, &self.text[..self.len])?;
+        self.len = 0;
+        Ok(())
     }
 }

@@ -82,7 +82,8 @@ fn letter(mark: Mark) -> &'static str
 
 /// The line of a preamble at cell `at` after the level `before`, without its line feed.
 pub(crate) fn text_of_mark(at: u64, mark: Mark, before: Level) -> Line
-    ensures text { result ≡ codes "mark " ++ mark_letter mark ++ codes " at " ++ decimal at ++ codes " before " ++ level_digit before }
+    ensures text { result ≡ codes "mark " ++ mark_letter mark ++ codes " at " ++ decimal at
+        ++ codes " before " ++ level_digit before }
     ensures len { length result < MARK_LEN }
 {
     let mut line = Line::new();

@@ -1,5 +1,6 @@
 //! Laws over the definitions alone: what reports, blocks and preambles are, whatever the cells.
 
+/// How near candidates are to one another.
 pub mod spacing;
 
 ghost use Rattle.aes3_lock.specs.Laws.{CandidateWhereZStands, WholeWhereBlockStands};
@@ -12,7 +13,9 @@ ghost use Rattle.aes3_lock.specs.Laws.{MarksAreAllStanding, MarksAreTrue, Blocks
 ghost use Rattle.aes3_lock.specs.Laws.{StreamGivesBlocks, StreamsDiffer, NormalIsFixed};
 ghost use Rattle.aes3_lock.specs.Laws.{NormalTellsBlocks};
 
+/// What stays of a lawful stream of which cells change or are lost.
 mod damage;
+/// Cells that are cut into pieces.
 mod splitting;
 
 pub use damage::{

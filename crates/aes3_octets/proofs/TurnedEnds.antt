@@ -1,7 +1,7 @@
 -- What a source of turned octets tells, and which cells it gives.
 use Rattle.std.proofs.Common.{◌≡◌, ◌<◌, ◌≤◌, ◌-◌, ℕ, suc, zero, Bool, true, false, List, [], ◌∷◌, ◌++◌, Option}
-use Rattle.std.proofs.Common.{Some, None, map, length, take, drop, get_or, set, replicate, refl, sym, subst, ap, ap₂, ◌∙◌}
-use Rattle.std.proofs.Common.{append-nil, append_assoc, take-append-drop, arith, if◌then◌else◌}
+use Rattle.std.proofs.Common.{Some, None, map, length, take, drop, get_or, set, replicate, refl, sym, subst, ap, ap₂}
+use Rattle.std.proofs.Common.{◌∙◌, append-nil, append_assoc, take-append-drop, arith, if◌then◌else◌}
 use Rattle.std.proofs.Math.Seq.{take-suc}
 use Rattle.std.proofs.lemmas.List.{length-append, length-map, length-take-le, map-append, take_at, drop_at, take-take}
 use Rattle.std.proofs.lemmas.Slice.Eq.{bytes_eq-Decides}
@@ -20,7 +20,8 @@ use Rattle.aes3_octets.proofs.TurnedOctets.{octets-turned}
 -- octets up to the last
 drop-front : (front : List ℕ) (x : ℕ) → drop (last_place (front ++ x ∷ [])) (front ++ x ∷ []) ≡ x ∷ []
 drop-front front x =
-    ap (λ n. drop n (front ++ x ∷ [])) (last_place-is {b = front ++ x ∷ []} {front = front} {n = x} (record { is = refl }))
+    ap (λ n. drop n (front ++ x ∷ []))
+    (last_place-is {b = front ++ x ∷ []} {front = front} {n = x} (record { is = refl }))
     ∙ drop_at front (x ∷ []) (length front) refl
 
 before-front : (front : List ℕ) (x : ℕ) → turned_front (front ++ x ∷ []) ≡ map turned front
@@ -61,8 +62,8 @@ first-of x (y ∷ buf) h = refl
 
 pub last-given : {a b : Option (List ℕ)} {held : Option ℕ} (x : ℕ) (buf : List ℕ) → held ≡ Some x → 0 < length buf
     → Grew a b [] → Grew (turned_told held a) (option_map packed_of_turned b) (take 1 (set buf 0 x))
-last-given {a} {b} x buf e s g = subst (λ h. Grew (turned_told h a) (option_map packed_of_turned b) (take 1 (set buf 0 x)))
-    (sym e) (go a g)
+last-given {a} {b} x buf e s g =
+    subst (λ h. Grew (turned_told h a) (option_map packed_of_turned b) (take 1 (set buf 0 x))) (sym e) (go a g)
   where
     go : (a : Option (List ℕ)) → Grew a b []
         → Grew (turned_told (Some x) a) (option_map packed_of_turned b) (take 1 (set buf 0 x))
@@ -82,7 +83,8 @@ pub more-given : {a b : Option (List ℕ)} {held : Option ℕ} (x n : ℕ) (buf 
     → Grew (turned_told held a) (option_and_then (turned_before (get_or buf (n - 1) 0)) b)
     (take n (octets ++ drop n buf))
 more-given x zero buf octets e s l g q = absurd (omega arith)
-more-given {a} {b} {held} x (suc m) buf octets e s l g q = subst (λ h. Grew (turned_told h a) next given) (sym e) (go a g)
+more-given {a} {b} {held} x (suc m) buf octets e s l g q =
+    subst (λ h. Grew (turned_told h a) next given) (sym e) (go a g)
   where
     next : Option (List ℕ)
     next = option_and_then (turned_before (get_or buf (suc m - 1) 0)) b

@@ -22,10 +22,9 @@ pub fn first_octet<S: Source>(source: &mut S) -> Result<Option<u8>, Fault>
         × (S.given source.new ≡ S.given source.old)) }
 {
     let mut first = [0];
-    match source.read(&mut first) {
-        Ok(0) => Ok(None),
-        Ok(_) => Ok(Some(first[0])),
-        Err(fault) => Err(fault),
+    match source.read(&mut first)? {
+        0 => Ok(None),
+        _ => Ok(Some(first[0])),
     }
 }
 
@@ -95,19 +94,15 @@ impl<S: Source + Drop> TurnedSource<S> {
             ≡ turned_told self.old.held (S.given self.old.source))) }
         ensures same { self.new.is_ended ≡ self.old.is_ended }
     {
-        match self.source.read(buf) {
-            Ok(0) => {
-                buf[0] = octet;
-                self.held = None;
-                Ok(1)
-            }
-            Ok(n) => {
-                self.held = Some(buf[n - 1]);
-                turn_behind(octet, &mut buf[..n]);
-                Ok(n)
-            }
-            Err(fault) => Err(fault),
+        let n = self.source.read(buf)?;
+        if n == 0 {
+            buf[0] = octet;
+            self.held = None;
+            return Ok(1);
         }
+        self.held = Some(buf[n - 1]);
+        turn_behind(octet, &mut buf[..n]);
+        Ok(n)
     }
 }
 

@@ -6,13 +6,20 @@ use aes3_engine::Change;
 use aes3_job::{Job, Nobody};
 use aes3_runner::{finish_job, run_job};
 use aes3_text::Lines;
+use aes3_words::Words;
 use std::alloc::{AllocError, Global};
 
 const TEXT: Form = Form::Text;
 
-const ENCODE: Job = Job::Encode { output: TEXT };
+const ENCODE: Job = Job::Encode {
+    output: TEXT,
+    words: Words::Own,
+};
 
-const DECODE: Job = Job::Decode { input: TEXT };
+const DECODE: Job = Job::Decode {
+    input: TEXT,
+    words: Words::Own,
+};
 
 const NORMAL: Job = Job::Normal {
     input: TEXT,
@@ -168,7 +175,10 @@ fn cells(rt: HostRuntime) {
 
 /// Whether a file of blocks becomes these samples on the way over a line.
 fn is_heard(alloc: Global, form: Form, file: &[u8], samples: &[u8]) -> bool {
-    let encode = Job::Encode { output: form };
+    let encode = Job::Encode {
+        output: form,
+        words: Words::Own,
+    };
     let mut line = MemorySink::new(alloc);
     let is_written = run_job(&encode, &mut MemorySource::new(file, 4_096), &mut line).is_ok();
     let to_pcm = Job::ToPcm {

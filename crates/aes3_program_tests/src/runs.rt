@@ -397,9 +397,15 @@ fn preambles_of_cells(rt: HostRuntime) {
     assert!(rt; are_right(rt.alloc(), SCAN_PACKED, SCANNED_PACKED));
 }
 
-const DECODE: Job = Job::Decode { input: TEXT };
+const DECODE: Job = Job::Decode {
+    input: TEXT,
+    words: Words::Own,
+};
 
-const DECODE_PACKED: Job = Job::Decode { input: PACKED };
+const DECODE_PACKED: Job = Job::Decode {
+    input: PACKED,
+    words: Words::Own,
+};
 
 const TO_PCM: Job = Job::ToPcm {
     input: TEXT,
@@ -414,6 +420,7 @@ const TO_VALID_PCM: Job = Job::ToPcm {
 const FROM_PCM: Job = Job::FromPcm {
     exact: true,
     change: AS_IT_IS,
+    words: Words::Own,
 };
 
 /// A block as a file or as samples.
@@ -446,9 +453,15 @@ fn blocks_of_cells(rt: HostRuntime) {
     assert!(rt; are_right(rt.alloc(), FROM_PCM, SAMPLED));
 }
 
-const ENCODE: Job = Job::Encode { output: TEXT };
+const ENCODE: Job = Job::Encode {
+    output: TEXT,
+    words: Words::Own,
+};
 
-const PACK: Job = Job::Encode { output: PACKED };
+const PACK: Job = Job::Encode {
+    output: PACKED,
+    words: Words::Own,
+};
 
 const NORMAL_PACKED: Job = Job::Normal {
     input: PACKED,

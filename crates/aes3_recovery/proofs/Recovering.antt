@@ -1,7 +1,7 @@
 -- What a recovery tells of samples, through their edges and to their end.
 use Rattle.std.proofs.Common.{ℕ, zero, suc, List, [], ◌∷◌, ◌++◌, ◌≡◌, ◌≤◌, ◌<◌, ◌+◌, ◌/◌, ◌^◌, ◌-◌, ◌%◌, inl, inr}
-use Rattle.std.proofs.Common.{Option, Some, Result, Ok, Err, Bool, true, false, IfOk, not, refl, sym, ap, ap₂, ◌∙◌, subst}
-use Rattle.std.proofs.Common.{arith, append_assoc, append-nil, length, length-append, replicate, min, take}
+use Rattle.std.proofs.Common.{Option, Some, Result, Ok, Err, Bool, true, false, IfOk, not, refl, sym, ap, ap₂, ◌∙◌}
+use Rattle.std.proofs.Common.{subst, arith, append_assoc, append-nil, length, length-append, replicate, min, take}
 use Rattle.aes3_level.specs.declared.level.Level.{Level}
 use Rattle.aes3_level.specs.declared.level.Level.TheVariants.{High}
 use Rattle.aes3_level.specs.Cells.{line, other, after}
@@ -106,7 +106,8 @@ found-from told setting level u now w [] none none' is r st =
       given = 0;
       passed = subst (λ n. Passed w.at 0 n now.line.follower) given w.passed;
       cells = subst (λ (x : List Level). Queued told setting.begun now.line.queue.form (waiting now.line.queue) x)
-          (ap₂ (λ b c. first_cells level b w.start ++ (line (after level b) c ++ replicate w.given (other level))) none is
+          (ap₂ (λ b c. first_cells level b w.start ++ (line (after level b) c ++ replicate w.given (other level)))
+          none is
           ∙ ap (λ n. first_cells level [] w.start ++ replicate n (other level)) given
           ∙ ap (λ x. x ++ []) (no-cells level w.start) ∙ ap (λ x. x ++ []) (sym (no-cells u w.start)))
           w.cells;
@@ -252,7 +253,8 @@ recovered-edge told told' setting seen piece left run old mid new few e k state 
       split = λ more.
           w.split more
           ∙ ap (λ x. w.runs ++ x)
-          (ap (λ x. runs_to_end u w.behind (x ++ more)) (e.levels ∙ ap (λ x. replicate e.samples u ++ x ∷ levels_in left) e.turned)
+          (ap (λ x. runs_to_end u w.behind (x ++ more))
+          (e.levels ∙ ap (λ x. replicate e.samples u ++ x ∷ levels_in left) e.turned)
           ∙ ap (runs_to_end u w.behind) (append_assoc (replicate e.samples u) (other u ∷ levels_in left) more)
           ∙ end-same u w.behind e.samples (other u ∷ (levels_in left ++ more))
           ∙ end-edge u (w.behind + e.samples) (levels_in left ++ more))
@@ -350,7 +352,8 @@ pub recovered-gave : {A : Type 0} {taken : A → Option (List ℕ)} (setting : S
     → new.line.follower ≡ old.line.follower → new.found ≡ old.found → new.known ≡ old.known → new.held ≡ old.held
     → new.figures ≡ old.figures → new.runs ≡ old.runs → new.count ≡ old.count → new.state ≡ old.state
     → Recovered (taken a) setting seen [] old → Recovered (taken b) setting seen [] new
-recovered-gave {taken = taken} setting seen old new a b gave edges follower found known held figures runs count state w =
+recovered-gave {taken = taken} setting seen old new a b gave edges follower found known held figures runs count
+    state w =
     let s = w.stands in
     let waits : runs_waiting new ≡ runs_waiting old = ap₂ take count runs in
     record {
@@ -460,8 +463,12 @@ pub ended-ok : {A R E S F : Type 0} {taken : A → Option (List ℕ)} (setting :
     × (told ≡ Some (setting.begun ++ finished setting.form cells)))
 ended-ok {taken = taken} setting level done now b d v told (Err e) w f same = tt
 ended-ok {taken = taken} setting level done now b d v told (Ok x) w f same =
-    let end = ended-told (taken b) setting level done now w in
-    (end.0, end.1, same ∙ f.cells setting.begun end.0 end.2 ∙ ap (λ form. Some (setting.begun ++ finished form end.0)) w.form_is)
+    let end = ended-told (taken b) setting level done now w in (
+      end.0,
+      end.1,
+      same ∙ f.cells setting.begun end.0 end.2
+          ∙ ap (λ form. Some (setting.begun ++ finished form end.0)) w.form_is,
+    )
 
 pub ended-recovered-ok : {R E : Type 0} (told : Option (List ℕ)) (setting : Setting) (seen : List Level)
     (old new : Recovery) (told' : Option (List ℕ)) (r : Result R E) (w : Recovered told setting seen [] old) (n : ℕ)

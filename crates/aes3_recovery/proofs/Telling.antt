@@ -1,6 +1,6 @@
 -- Runs told one behind the other, whichever follower counts them.
-use Rattle.std.proofs.Common.{ℕ, zero, suc, List, [], ◌∷◌, ◌++◌, ◌≡◌, ◌≤◌, ◌<◌, ◌+◌, ◌*◌, ◌/◌, ◌^◌, ◌-◌, ◌%◌, ◌⊎◌, inl, inr}
-use Rattle.std.proofs.Common.{Option, Result, Ok, Err, Bool, true, false, IfOk, refl, sym, ap, ap₂, ◌∙◌, subst}
+use Rattle.std.proofs.Common.{ℕ, zero, suc, List, [], ◌∷◌, ◌++◌, ◌≡◌, ◌≤◌, ◌<◌, ◌+◌, ◌*◌, ◌/◌, ◌^◌, ◌-◌, ◌%◌, ◌⊎◌, inl}
+use Rattle.std.proofs.Common.{inr, Option, Result, Ok, Err, Bool, true, false, IfOk, refl, sym, ap, ap₂, ◌∙◌, subst}
 use Rattle.std.proofs.Common.{arith, append_assoc, append-nil, length, replicate, min, take, get_or}
 use Rattle.std.proofs.lemmas.List.{replicate-append-replicate, take_more}
 use Rattle.aes3_level.specs.declared.level.Level.{Level}
@@ -160,8 +160,8 @@ told-held : {A : Type 0} {taken : A → Option (List ℕ)} (old new : Recovery) 
 told-held old new a b begun done past r rs w found measured h = record {
   found_is = found;
   none = measured ∙ w.none;
-  held = held-more old.held (samples_of done) past r (samples_of rs) new.held (samples_of (done ++ (past + r) ∷ rs)) w.held h.held
-      (samples-append done ((past + r) ∷ rs));
+  held = held-more old.held (samples_of done) past r (samples_of rs) new.held
+      (samples_of (done ++ (past + r) ∷ rs)) w.held h.held (samples-append done ((past + r) ∷ rs));
   cells = h.gave.each begun [] w.cells;
 }
 
@@ -180,7 +180,8 @@ told-more old new a b setting level done past r rs w t found known measured = el
   | inr f ↦ let c = t.found f.found_is in record {
     form_is = c.gave.form_is ∙ w.form_is;
     known_is = known ∙ w.known_is;
-    either = inr (told-counts old new a b setting level done past r rs c.counts f (found ∙ f.found_is) c.counted c.gave);
+    either = inr
+        (told-counts old new a b setting level done past r rs c.counts f (found ∙ f.found_is) c.counted c.gave);
   }
 ]
 
@@ -207,8 +208,8 @@ told-anew {taken = taken} old mid new a b d setting level done r rs counts w fou
       at = new.line.follower;
       starts = starts-more setting.known w.before w.behind (r ∷ rs) w.start w.starts;
       counts = w.counts ++ counts;
-      counted = recounted-append setting.known w.start w.at new.line.follower w.behind w.counts (r ∷ rs) counts w.counted
-          (recounted-anew setting.known w.at mid.line.follower new.line.follower r rs counts c m);
+      counted = recounted-append setting.known w.start w.at new.line.follower w.behind w.counts (r ∷ rs) counts
+          w.counted (recounted-anew setting.known w.at mid.line.follower new.line.follower r rs counts c m);
       given = 0;
       passed = passed-none new.line.follower;
       cells = subst (λ (x : List Level). Queued (taken d) setting.begun new.line.queue.form (waiting new.line.queue) x)
@@ -438,7 +439,8 @@ told-chain {taken = taken} x y z a b d level xs ys same p q = record {
             (ap (λ l. line level c.counts ++ line l e.counts)
             (sym (after-as-many level c.counts xs (counted-many x.line.follower y.line.follower xs c.counts c.counted)))
             ∙ sym (line-append level c.counts e.counts))
-            (gave-chain x.line y.line z.line a b d (line level c.counts) (line (after level xs) e.counts) c.gave e.gave);
+            (gave-chain x.line y.line z.line a b d (line level c.counts) (line (after level xs) e.counts)
+            c.gave e.gave);
       };
   unfound = λ found.
       let c = p.unfound found in

@@ -94,8 +94,10 @@ pub record Setting : Type 0 where
   pub form : Form
   pub known : Option ℕ
 
--- The runs `done` were told, before a line was found: their samples, and `past` samples of the run behind them, are held.
-pub record IsUnfound (told : Option (List ℕ)) (begun : List ℕ) (done : List ℕ) (past : ℕ) (now : Recovery) : Type 0 where
+-- The runs `done` were told, before a line was found: their samples, and `past` samples of the run behind them, are
+-- held.
+pub record IsUnfound (told : Option (List ℕ)) (begun : List ℕ) (done : List ℕ) (past : ℕ)
+    (now : Recovery) : Type 0 where
   pub found_is : now.found ≡ false
   pub none : now.figures.measured ≡ 0
   pub held : now.held ≡ min (samples_of done + past) (2 ^ 64 - 1)
@@ -130,8 +132,8 @@ pub record AreTold (told : Option (List ℕ)) (setting : Setting) (level : Level
 abbrev pub runs_waiting : Recovery → List ℕ
 runs_waiting now = take now.count now.runs
 
--- Runs wait only while a line is measured, and then no sample of the run behind them was told. A line that is followed was
--- found.
+-- Runs wait only while a line is measured, and then no sample of the run behind them was told. A line that is followed
+-- was found.
 pub record IsInOrder (past : ℕ) (now : Recovery) : Type 0 where
   pub none_wait : (now.state ≡ Measuring → ⊥) → now.count ≡ 0
   pub none_past : now.state ≡ Measuring → past ≡ 0
@@ -143,8 +145,8 @@ pub record Holds (told : Option (List ℕ)) (setting : Setting) (level : Level) 
   pub order : IsInOrder past now
   pub told_is : AreTold told setting level done past now
 
--- These runs were ended by edges, behind a sample of this level, and so many samples came behind the last edge: each run
--- was told once and in order, but for those that wait to be measured and the samples that wait for an edge.
+-- These runs were ended by edges, behind a sample of this level, and so many samples came behind the last edge: each
+-- run was told once and in order, but for those that wait to be measured and the samples that wait for an edge.
 pub record StandsOn (told : Option (List ℕ)) (setting : Setting) (level : Level) (runs : List ℕ)
     (samples : ℕ) (now : Recovery) : Type 0 where
   pub done : List ℕ

@@ -47,14 +47,14 @@ impl Edges {
     }
 
     /// Whether the line is high.
-    pub fn is_high(&self) -> bool
+    pub(crate) fn is_high(&self) -> bool
         ensures { result ≡ self.now.high }
     {
         self.high
     }
 
     /// How many samples of its level came behind the latest edge and wait to be told.
-    pub fn waiting(&self) -> u32
+    pub(crate) fn waiting(&self) -> u32
         ensures { result ≡ self.now.run }
     {
         self.run

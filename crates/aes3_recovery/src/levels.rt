@@ -2,7 +2,7 @@
 
 ghost use Rattle.std.specs.Prelude.{ℕ, ◌*◌, ◌<◌, ◌≤◌, ◌≡◌, get_or};
 ghost use Rattle.std.specs.Int.{bit_at};
-ghost use Rattle.aes3_recovery.specs.Levels.{AreLevels};
+ghost use Rattle.aes3_recovery.specs.Levels.{AreLevels, bits_of_sample};
 
 use std::simd::prelude::*;
 
@@ -19,6 +19,7 @@ pub enum Unit {
 impl Unit {
     /// How many octets a sample has.
     pub fn len(self) -> usize
+        ensures bits { 8 * result ≡ bits_of_sample self }
         ensures some { 1 ≤ result }
         ensures few { result ≤ 2 }
     {

@@ -2,18 +2,25 @@
 //! from samples to cells.
 #![tactic(auto)]
 
+/// The edges of a line among the levels of its samples.
 mod edges;
+/// The levels of a line among samples of many.
 mod levels;
+/// A line followed from an edge on, from the levels of its samples to its cells.
 mod line_follower;
+/// How long a cell is and where the grid of a line lies, measured from the samples between edges.
 mod measure;
+/// Cells on their way to a sink.
 mod queue;
+/// Cells recovered from the levels of samples.
 mod recovery;
+/// The run from samples to cells.
 mod run;
 
 pub use edges::{Edges, Piece};
 pub use levels::{Unit, levels_of};
 pub use line_follower::LineFollower;
-pub use measure::{RUNS, follower_of_runs};
+pub use measure::follower_of_runs;
 pub use queue::{CellQueue, bits_of_cells, put_last};
 pub use recovery::{Figures, Recovery};
 pub use run::{Progress, Refusal, feed, recover};

@@ -96,7 +96,7 @@ impl LineFollower {
     }
 
     /// Begins at a sample of this level, as if no other had come before it.
-    pub fn start(&mut self, high: bool)
+    pub(crate) fn start(&mut self, high: bool)
         ensures high { self.new.edges.high ≡ high }
         ensures none { self.new.edges.run ≡ 0 }
         ensures follower { self.new.follower ≡ self.old.follower }
@@ -107,7 +107,7 @@ impl LineFollower {
 
     /// Goes on to the next edge of a piece, as `Edges::next_edge`.
     #[inline(always)]
-    pub fn next_edge(&mut self, piece: &mut Piece) -> Option<u32>
+    pub(crate) fn next_edge(&mut self, piece: &mut Piece) -> Option<u32>
         ensures edge { IfSome result (λ run.
             EdgeCame self.old.edges piece.old run self.new.edges piece.new) }
         ensures rest { IfNone result (NoEdgeCame self.old.edges piece.old self.new.edges) }
@@ -119,7 +119,7 @@ impl LineFollower {
 
     /// Whether the line is high.
     #[inline(always)]
-    pub fn is_high(&self) -> bool
+    pub(crate) fn is_high(&self) -> bool
         ensures { result ≡ self.now.edges.high }
     {
         self.edges.is_high()
@@ -127,14 +127,14 @@ impl LineFollower {
 
     /// How many samples came behind the latest edge and wait to be told.
     #[inline(always)]
-    pub fn waiting(&self) -> u32
+    pub(crate) fn waiting(&self) -> u32
         ensures { result ≡ self.now.edges.run }
     {
         self.edges.waiting()
     }
 
     /// Takes the samples that wait, and tells no cells of them.
-    pub fn take_waiting(&mut self) -> u32
+    pub(crate) fn take_waiting(&mut self) -> u32
         ensures all { result ≡ self.old.edges.run }
         ensures none { self.new.edges.run ≡ 0 }
         ensures level { self.new.edges.high ≡ self.old.edges.high }
@@ -146,21 +146,21 @@ impl LineFollower {
 
     /// The follower at the latest edge that was told.
     #[inline(always)]
-    pub fn follower(&self) -> Follower
+    pub(crate) fn follower(&self) -> Follower
         ensures { result ≡ self.now.follower }
     {
         self.follower
     }
 
     /// How many cells were given.
-    pub fn cells(&self) -> u64
+    pub(crate) fn cells(&self) -> u64
         ensures { result ≡ self.now.cells }
     {
         self.cells
     }
 
     /// Goes on with another follower.
-    pub fn follow(&mut self, follower: Follower)
+    pub(crate) fn follow(&mut self, follower: Follower)
         ensures follower { self.new.follower ≡ follower }
         ensures edges { self.new.edges ≡ self.old.edges }
         ensures queue { self.new.queue ≡ self.old.queue }
@@ -173,7 +173,7 @@ impl LineFollower {
     /// # Errors
     /// The sink's fault.
     #[inline(always)]
-    pub fn tell<T: Sink>(&mut self, sink: &mut T, high: bool, run: u32) -> Result<(), Fault>
+    pub(crate) fn tell<T: Sink>(&mut self, sink: &mut T, high: bool, run: u32) -> Result<(), Fault>
         requires room { T.failed sink.old + 1 < 2 ^ 64 }
         ensures count { IfOk result (λ _. T.failed sink.new ≡ T.failed sink.old) }
         ensures err_count { OnErr result (T.failed sink.new ≡ T.failed sink.old + 1) }
@@ -202,7 +202,7 @@ impl LineFollower {
     ///
     /// # Errors
     /// The sink's fault.
-    pub fn pass<T: Sink>(&mut self, sink: &mut T) -> Result<(), Fault>
+    pub(crate) fn pass<T: Sink>(&mut self, sink: &mut T) -> Result<(), Fault>
         requires room { T.failed sink.old + 1 < 2 ^ 64 }
         ensures count { IfOk result (λ _. T.failed sink.new ≡ T.failed sink.old) }
         ensures err_count { OnErr result (T.failed sink.new ≡ T.failed sink.old + 1) }
@@ -220,7 +220,7 @@ impl LineFollower {
     /// # Errors
     /// The sink's fault.
     #[inline(always)]
-    pub fn put<T: Sink>(&mut self, sink: &mut T, high: bool, cells: u64) -> Result<(), Fault>
+    pub(crate) fn put<T: Sink>(&mut self, sink: &mut T, high: bool, cells: u64) -> Result<(), Fault>
         requires room { T.failed sink.old + 1 < 2 ^ 64 }
         ensures count { IfOk result (λ _. T.failed sink.new ≡ T.failed sink.old) }
         ensures err_count { OnErr result (T.failed sink.new ≡ T.failed sink.old + 1) }

@@ -8,7 +8,7 @@ use aes3_capture::{Bounds, Follower, PARTS};
 
 /// How many runs of samples are measured at once, and how many of them find about how long a cell
 /// is.
-pub const RUNS: usize = 256;
+pub(crate) const RUNS: usize = 256;
 
 const FIRST: usize = 48;
 

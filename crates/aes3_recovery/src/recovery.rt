@@ -1,7 +1,7 @@
 //! Cells recovered from the levels of samples.
 
-ghost use Rattle.std.specs.Prelude.{ℕ, List, [], ◌∷◌, ◌++◌, ◌+◌, ◌*◌, ◌/◌, ◌-◌, ◌%◌, ◌<◌, ◌≤◌, ◌^◌, ◌≡◌, ◌≢◌, Bool, Option};
-ghost use Rattle.std.specs.Prelude.{IfOk, OnErr, IfSome, Some, min, take, length, replicate, true, false};
+ghost use Rattle.std.specs.Prelude.{ℕ, List, [], ◌∷◌, ◌++◌, ◌+◌, ◌*◌, ◌/◌, ◌-◌, ◌%◌, ◌<◌, ◌≤◌, ◌^◌, ◌≡◌, ◌≢◌, Bool};
+ghost use Rattle.std.specs.Prelude.{Option, IfOk, OnErr, IfSome, Some, min, take, length, replicate, true, false};
 ghost use Rattle.aes3_recovery.specs.Measuring.{IsAskedFor};
 
 use crate::edges::{Edges, Piece};
@@ -104,8 +104,8 @@ impl Recovery {
     ghost use Rattle.aes3_level.specs.Cells.{after, other};
     ghost use Rattle.aes3_recovery.specs.LineFollowing.{Followed, Gives, RunTold, SomeTold};
     ghost use Rattle.aes3_recovery.specs.Endings.{finished};
-    ghost use Rattle.aes3_recovery.specs.Recovering.{AreEnded, AreRecovered, AreTold, Holds, Recovered, Setting, StandsOn};
-    ghost use Rattle.aes3_recovery.specs.Recovering.{runs_waiting};
+    ghost use Rattle.aes3_recovery.specs.Recovering.{AreEnded, AreRecovered, AreTold, Holds, Recovered, Setting};
+    ghost use Rattle.aes3_recovery.specs.Recovering.{StandsOn, runs_waiting};
     ghost use Rattle.aes3_recovery.specs.RecoverySteps.{Gave, KeepsRuns, KeepsTold, RunsTold};
     ghost use Rattle.aes3_recovery.specs.declared.recovery.State.TheVariants.{Following, Measuring, Still};
 

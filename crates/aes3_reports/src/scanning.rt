@@ -78,10 +78,7 @@ impl MarkLines {
         if sink.takes_much() && !self.lines.is_full() {
             return Ok(());
         }
-        match self.lines.hand_on(sink) {
-            Ok(()) => Ok(()),
-            Err(fault) => Err(fault),
-        }
+        self.lines.hand_on(sink)
     }
 
     /// Writes the line of a preamble that the scan told at once, and counts it.
@@ -99,10 +96,7 @@ impl MarkLines {
             (mark_line found.0 found.1 found.2) result }
     {
         self.gather(found);
-        match self.lines.hand_on(sink) {
-            Ok(()) => Ok(()),
-            Err(fault) => Err(fault),
-        }
+        self.lines.hand_on(sink)
     }
 
     /// Tells the preambles of a word.
@@ -124,10 +118,7 @@ impl MarkLines {
     {
         let mut left = found;
         while let Some(mark) = left.take_next() {
-            match self.tell(sink, mark) {
-                Ok(()) => {}
-                Err(fault) => return Err(fault),
-            }
+            self.tell(sink, mark)?;
         }
         Ok(())
     }
@@ -154,10 +145,7 @@ impl MarkLines {
             (self.old.lines ++ behind marking c (word_cells word))) }
     {
         let found = self.scan.take_word(word);
-        match self.tell_all(sink, found) {
-            Ok(()) => Ok(()),
-            Err(fault) => Err(fault),
-        }
+        self.tell_all(sink, found)
     }
 }
 
@@ -171,25 +159,19 @@ impl Taker for MarkLines {
     fn take_front<T: Sink>(&mut self, sink: &mut T, word: u64, len: u32) -> Result<u32, Fault> {
         let (taken, found) = self.scan.next_in(word, len);
         match found {
-            Some(found) => match self.tell_alone(sink, found) {
-                Ok(()) => Ok(taken),
-                Err(fault) => Err(fault),
-            },
+            Some(found) => {
+                self.tell_alone(sink, found)?;
+                Ok(taken)
+            }
             None => Ok(taken),
         }
     }
 
     fn words<T: Sink>(&mut self, sink: &mut T, words: &[u64]) -> Result<(), Fault> {
         for word in words.iter() {
-            match self.take_word(sink, *word) {
-                Ok(()) => {}
-                Err(fault) => return Err(fault),
-            }
+            self.take_word(sink, *word)?;
         }
-        match self.lines.hand_on(sink) {
-            Ok(()) => Ok(()),
-            Err(fault) => Err(fault),
-        }
+        self.lines.hand_on(sink)
     }
 
     fn finish<T: Sink>(&mut self, _sink: &mut T) -> Result<(), Fault> {
@@ -228,15 +210,13 @@ pub fn scan<S: Source, T: Sink>(
     ensures passed_on { IfOk result (λ _. T.passed sink.new ≡ T.taken sink.new) }
 {
     let mut taker = MarkLines::new();
-    match drive(source, sink, max_bytes, input, &mut taker) {
-        Ok((bytes, cells)) => Ok(Counts {
-            bytes,
-            cells,
-            blocks: 0,
-            faults: 0,
-            unfinished: 0,
-            marks: taker.marks,
-        }),
-        Err(error) => Err(error),
-    }
+    let (bytes, cells) = drive(source, sink, max_bytes, input, &mut taker)?;
+    Ok(Counts {
+        bytes,
+        cells,
+        blocks: 0,
+        faults: 0,
+        unfinished: 0,
+        marks: taker.marks,
+    })
 }

@@ -24,8 +24,8 @@ few-of true = omega arith
 few-of false = omega arith
 
 few : (job : Job) (n : Counts) → status_by job n ≤ 1
-few (Encode o) n = omega arith
-few (Decode i) n = omega arith
+few (Encode o w) n = omega arith
+few (Decode i w) n = omega arith
 few (Normal i o) n = omega arith
 few (Check i l) n = few-of (n.faults == 0)
 few (Account i l) n = few-of (n.faults == 0)
@@ -38,7 +38,7 @@ few (Cut i o f c) n = omega arith
 few (Rewrite i o c) n = omega arith
 few (ToPcm i v) n = omega arith
 few (ToFilledPcm i fill) n = omega arith
-few (FromPcm e c) n = omega arith
+few (FromPcm e c w) n = omega arith
 few (ToBits i b c) n = omega arith
 
 -- of a job's answer

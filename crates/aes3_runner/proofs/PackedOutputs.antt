@@ -8,6 +8,8 @@ use Rattle.aes3_cell.specs.declared.form.Form.TheVariants.{Text, Packed}
 use Rattle.aes3_cell.specs.Written.{written}
 use Rattle.aes3_cell.proofs.PackedCells.{packed_of-packs}
 use Rattle.aes3_octets.proofs.TurnedOctets.{whole-turned}
+use Rattle.aes3_words.specs.declared.form.Words.TheVariants.{Own, Alsa, Am824}
+use Rattle.aes3_words.specs.Lists.{own_of}
 use Rattle.aes3_frame.specs.Blocks.{stream}
 use Rattle.aes3_frame.specs.Files.{file_blocks}
 use Rattle.aes3_frame.proofs.Streams.{EachBlock27, each27-whole}
@@ -43,8 +45,10 @@ of-normal form c h = of-blocks form (blocks c) h (blocks27 c)
 
 pub can-be-turned : (job : Job) → IsTrue (writes_packed job) → (bytes : List ℕ)
     → PackBoth ((promise_of job).whole bytes)
-can-be-turned (Encode o) h b = of-blocks o (file_blocks b) h (each27-whole b)
-can-be-turned (Decode i) h b = absurd cc
+can-be-turned (Encode o Own) h b = of-blocks o (file_blocks b) h (each27-whole b)
+can-be-turned (Encode o Alsa) h b = of-blocks o (file_blocks (own_of Alsa b)) h (each27-whole (own_of Alsa b))
+can-be-turned (Encode o Am824) h b = of-blocks o (file_blocks (own_of Am824 b)) h (each27-whole (own_of Am824 b))
+can-be-turned (Decode i words) h b = absurd cc
 can-be-turned (Normal i o) h b = of-normal o (cells_of i b) h
 can-be-turned (Check i told) h b = absurd cc
 can-be-turned (Account i told) h b = absurd cc
@@ -61,5 +65,5 @@ can-be-turned (Rewrite i o change) h b =
     (each-blocks change (blocks (cells_of i b)) (blocks27 (cells_of i b)))
 can-be-turned (ToPcm i valid) h b = absurd cc
 can-be-turned (ToFilledPcm i fill) h b = absurd cc
-can-be-turned (FromPcm exact change) h b = absurd cc
+can-be-turned (FromPcm exact change words) h b = absurd cc
 can-be-turned (ToBits i bits channel) h b = absurd cc

@@ -6,22 +6,21 @@ use Rattle.aes3_cell.specs.declared.refusal.RunError.{RunError}
 use Rattle.aes3_cell.specs.declared.refusal.RunError.TheVariants as refusal
 use Rattle.aes3_cell.specs.Ends.{Grew}
 use Rattle.aes3_cell.specs.Written.{written}
-use Rattle.aes3_frame.specs.Files.{file}
 use Rattle.aes3_frame.specs.Samples.{samples}
 use Rattle.aes3_lock.specs.Preambles.{marks}
 use Rattle.aes3_lock.specs.Reports.{blocks, decided, normal, reports}
 use Rattle.aes3_input.specs.Running.{Movement, Promise, InputRun, Quiet, Failed}
 use Rattle.aes3_input.specs.Driving.{counted_cells}
-use Rattle.aes3_engine.specs.Encoding.{encoded_file}
+use Rattle.aes3_engine.specs.Words.{encoded_words, words_file}
 use Rattle.aes3_runs.specs.ReportRuns.{counts_of}
 use Rattle.aes3_runs.specs.BlockRuns.{begun_stream, written_stream, cut_blocks, decided_blocks}
 use Rattle.aes3_engine.specs.Rewriting.{rewritten_blocks}
-use Rattle.aes3_engine.specs.Sampling.{sampled_file}
+use Rattle.aes3_engine.specs.Sampling.{sampled_words}
 use Rattle.aes3_engine.specs.Carrying.{all_carried}
 use Rattle.aes3_engine.specs.Filling.{filled, placed}
 use Rattle.aes3_engine.specs.ValidSamples.{valid_samples}
 use Rattle.aes3_lines.specs.MarkLines.{mark_lines}
-use Rattle.aes3_account.specs.Gaps.{account, begun_account}
+use Rattle.aes3_gaps.specs.Gaps.{account, begun_account}
 use Rattle.aes3_account.specs.Accounting.{account_counts}
 use Rattle.aes3_account.specs.GapLines.{account_lines}
 use Rattle.aes3_text.specs.Runs.{change_details, detail_lines}
@@ -46,8 +45,12 @@ period every = min (max every 1) most
 -- what a job promises: its input, what it writes of one, what of bytes behind which more may come, what it counts, and
 -- why it is refused
 abbrev pub promise_of : Job → Promise Counts
-promise_of (Encode o) = encoded_file o
-promise_of (Decode i) = counted_cells i (λ c. file (blocks c)) (λ c. file (decided_blocks c)) (counts_of i)
+promise_of (Encode o words) = encoded_words words o
+promise_of (Decode i words) =
+    counted_cells i
+    (λ c. words_file words (blocks c))
+    (λ c. words_file words (decided_blocks c))
+    (counts_of i)
 promise_of (Normal i o) =
     counted_cells i (λ c. written o (normal c)) (λ c. begun_stream o (decided_blocks c)) (counts_of i)
 promise_of (Check i lines) =
@@ -80,7 +83,7 @@ promise_of (ToPcm i true) =
 promise_of (ToPcm i false) = counted_cells i (λ c. samples (blocks c)) (λ c. samples (decided_blocks c)) (counts_of i)
 promise_of (ToFilledPcm i fill) =
     counted_cells i (λ c. filled fill (placed (reports c))) (λ c. filled fill (placed (decided c))) (counts_of i)
-promise_of (FromPcm exact change) = sampled_file exact change
+promise_of (FromPcm exact change words) = sampled_words exact words change
 promise_of (ToBits i bits channel) =
     counted_cells i
     (λ c. all_carried bits channel (blocks c))
@@ -93,8 +96,8 @@ RunRan job = InputRun (promise_of job) most
 
 -- its exit status: 1 where `check` finds faults, with gaps or without, or `watch` does, else 0
 abbrev pub status_by : Job → Counts → ℕ
-status_by (Encode o) n = 0
-status_by (Decode i) n = 0
+status_by (Encode o words) n = 0
+status_by (Decode i words) n = 0
 status_by (Normal i o) n = 0
 status_by (Check i lines) n = if n.faults == 0 then 0 else 1
 status_by (Account i lines) n = if n.faults == 0 then 0 else 1
@@ -107,7 +110,7 @@ status_by (Cut i o from count) n = 0
 status_by (Rewrite i o change) n = 0
 status_by (ToPcm i valid) n = 0
 status_by (ToFilledPcm i fill) n = 0
-status_by (FromPcm exact change) n = 0
+status_by (FromPcm exact change words) n = 0
 status_by (ToBits i bits channel) n = 0
 
 -- a refusal behind which the sink was flushed: it stays what it was, or that failed

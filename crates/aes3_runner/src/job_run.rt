@@ -8,7 +8,8 @@ ghost use Rattle.aes3_runner.specs.JobRuns.{RunRan, period, status_by};
 use aes3_account::{account, watch, watch_sums};
 use aes3_cell::{Counts, Form, RunError, Sink, Source};
 use aes3_engine::{
-    cut, decode, encode, from_pcm, normalise, rewrite, to_bits, to_filled_pcm, to_pcm, to_valid_pcm,
+    cut, decode_words, encode_words, from_pcm_words, normalise, rewrite, to_bits, to_filled_pcm,
+    to_pcm, to_valid_pcm,
 };
 use aes3_job::Job;
 use aes3_text::{check, scan, show_changes, show_detail};
@@ -83,8 +84,8 @@ pub fn run_job<S: Source, T: Sink>(
     ensures passed_on { IfOk result (λ _. T.passed sink.new ≡ T.taken sink.new) }
 {
     match *job {
-        Job::Encode { output } => encode(source, sink, MAX_BYTES, output),
-        Job::Decode { input } => decode(source, sink, MAX_BYTES, input),
+        Job::Encode { output, words } => encode_words(source, sink, MAX_BYTES, output, words),
+        Job::Decode { input, words } => decode_words(source, sink, MAX_BYTES, input, words),
         Job::Normal { input, output } => normalise(source, sink, MAX_BYTES, input, output),
         Job::Check { input, lines } => check(source, sink, MAX_BYTES, input, lines),
         Job::Account { input, lines } => account(source, sink, MAX_BYTES, input, lines),
@@ -110,7 +111,11 @@ pub fn run_job<S: Source, T: Sink>(
         } => rewrite(source, sink, MAX_BYTES, input, output, &change),
         Job::ToPcm { input, valid } => run_samples(source, sink, input, valid),
         Job::ToFilledPcm { input, fill } => to_filled_pcm(source, sink, MAX_BYTES, input, fill),
-        Job::FromPcm { exact, change } => from_pcm(source, sink, MAX_BYTES, exact, &change),
+        Job::FromPcm {
+            exact,
+            change,
+            words,
+        } => from_pcm_words(source, sink, MAX_BYTES, exact, &change, words),
         Job::ToBits {
             input,
             bits,

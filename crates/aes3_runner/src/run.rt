@@ -35,10 +35,8 @@ fn put_text<T: Sink>(text: &str, sink: &mut T) -> Result<(), Fault>
     ensures count { IfOk result (λ _. T.failed sink.new ≡ T.failed sink.old) }
     ensures err { OnErr result (T.failed sink.new ≡ T.failed sink.old + 1) }
 {
-    match write_all(sink, text.as_bytes()) {
-        Ok(()) => sink.flush(),
-        Err(fault) => Err(fault),
-    }
+    write_all(sink, text.as_bytes())?;
+    sink.flush()
 }
 
 /// Tells why words are no job, and answers the exit status.

@@ -41,10 +41,10 @@ impl<R: Reporter> Taker for Locked<R> {
     fn take_front<T: Sink>(&mut self, sink: &mut T, word: u64, len: u32) -> Result<u32, Fault> {
         let pushed = self.lock.push_front(word, len);
         match pushed.ending {
-            Some(ending) => match self.reporter.tell(sink, &self.lock, ending) {
-                Ok(()) => Ok(pushed.taken),
-                Err(fault) => Err(fault),
-            },
+            Some(ending) => {
+                self.reporter.tell(sink, &self.lock, ending)?;
+                Ok(pushed.taken)
+            }
             None => Ok(pushed.taken),
         }
     }
@@ -56,19 +56,17 @@ impl<R: Reporter> Taker for Locked<R> {
             if at == words.len() {
                 return Ok(());
             }
-            match self.cells(sink, words[at], u64::BITS) {
-                Ok(()) => at += 1,
-                Err(fault) => return Err(fault),
-            }
+            self.cells(sink, words[at], u64::BITS)?;
+            at += 1;
         }
     }
 
     fn finish<T: Sink>(&mut self, sink: &mut T) -> Result<(), Fault> {
         match self.lock.end() {
-            Some(ending) => match self.reporter.tell(sink, &self.lock, ending) {
-                Ok(()) => self.reporter.finish(sink),
-                Err(fault) => Err(fault),
-            },
+            Some(ending) => {
+                self.reporter.tell(sink, &self.lock, ending)?;
+                self.reporter.finish(sink)
+            }
             None => self.reporter.finish(sink),
         }
     }

@@ -74,13 +74,9 @@ impl<W: ReportWriter> Reporter for Counting<W> {
 
     #[inline(always)]
     fn tell<T: Sink>(&mut self, sink: &mut T, lock: &Lock, ending: Ending) -> Result<(), Fault> {
-        match self.writer.tell(sink, self.tally.blocks, lock, ending) {
-            Ok(()) => {
-                self.tally.count(lock, ending);
-                Ok(())
-            }
-            Err(fault) => Err(fault),
-        }
+        self.writer.tell(sink, self.tally.blocks, lock, ending)?;
+        self.tally.count(lock, ending);
+        Ok(())
     }
 
     fn finish<T: Sink>(&mut self, sink: &mut T) -> Result<(), Fault> {
@@ -111,15 +107,14 @@ pub fn run_reports<S: Source, T: Sink, W: ReportWriter + Drop>(
     ensures passed_on { IfOk result (λ _. T.passed sink.new ≡ T.taken sink.new) }
 {
     let mut taker = Locked::new(Counting::new(writer));
-    match drive(source, sink, max_bytes, input, &mut taker) {
-        Ok((bytes, cells)) => Ok(Counts {
-            bytes,
-            cells,
-            blocks: taker.reporter.tally.blocks,
-            faults: taker.reporter.tally.faults,
-            unfinished: taker.reporter.tally.unfinished,
-            marks: 0,
-        }),
-        Err(error) => Err(error),
-    }
+    let (bytes, cells) = drive(source, sink, max_bytes, input, &mut taker)?;
+    let tally = &taker.reporter.tally;
+    Ok(Counts {
+        bytes,
+        cells,
+        blocks: tally.blocks,
+        faults: tally.faults,
+        unfinished: tally.unfinished,
+        marks: 0,
+    })
 }

@@ -18,11 +18,11 @@ use Rattle.aes3_status.specs.declared.field.ProField.TheVariants as pro
 use Rattle.aes3_status.specs.declared.field.ConField.{ConField}
 use Rattle.aes3_status.specs.declared.field.ConField.TheVariants as con
 use Rattle.aes3_status.specs.declared.field.Field.{Field}
-use Rattle.aes3_status.specs.declared.field.Field.TheVariants.{Professional, Consumer}
+use Rattle.aes3_status.specs.declared.field.Field.TheVariants.{Use, Professional, Consumer}
 use Rattle.aes3_settings.specs.Choices.{below}
 use Rattle.aes3_settings.specs.Fields.{field_text, four_bits, specified}
-use Rattle.aes3_settings.specs.Words.{Words, payload_words, word_for, word_of, words_up_to_20, words_up_to_24}
-use Rattle.aes3_settings.specs.Words.{words_up_to_any}
+use Rattle.aes3_settings.specs.Words.{Words, payload_words, use_words, word_for, word_of, words_up_to_20}
+use Rattle.aes3_settings.specs.Words.{words_up_to_24, words_up_to_any}
 use Rattle.aes3_settings.specs.Professional as professional
 use Rattle.aes3_settings.specs.Consumer as consumer
 use Rattle.aes3_settings.specs.Settings.{code_text}
@@ -175,6 +175,9 @@ ascii-con con.Word under code l = ascii-field (codes "word") _ refl (lengths (un
 ascii-con con.Original under code l = ascii-field (codes "original") _ refl (ascii-number code l)
 
 pub code-is-text : (f : Field) (under code : ℕ) → code < 256 → IsUtf8 (code_text f under code)
+code-is-text Use under code l =
+    IsUtf8-from_ascii (field_text (codes "use") (word_for use_words code))
+    (ascii-field (codes "use") _ refl (ascii-word use_words code refl l))
 code-is-text (Professional f) under code l = IsUtf8-from_ascii (professional.pro_text f under code)
     (ascii-pro f under code l)
 code-is-text (Consumer f) under code l = IsUtf8-from_ascii (consumer.con_text f under code) (ascii-con f under code l)

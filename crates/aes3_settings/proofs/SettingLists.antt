@@ -5,7 +5,8 @@ use Rattle.std.proofs.Math.ListN.{set}
 use Rattle.std.proofs.lemmas.Bool.{cases_lt}
 use Rattle.std.proofs.lemmas.List.{get_or-set_same, get_or-set_other, get_or-replicate, length-set, get_or_past}
 use Rattle.aes3_status.specs.declared.setting.Setting.{Setting}
-use Rattle.aes3_settings.specs.Settings.{AreSettingsOf, IsSetBy, IsUnknown, nothing, consumer_fields, professional_fields}
+use Rattle.aes3_settings.specs.Settings.{AreSettingsOf, IsSetBy, IsUnknown, nothing, consumer_fields}
+use Rattle.aes3_settings.specs.Settings.{professional_fields}
 
 -- the settings of one text
 pub record Own (texts : List (List ℕ)) (settings : List Setting) (k : ℕ) : Type 0 where

@@ -1,15 +1,18 @@
 -- Settings by the texts of their codes.
 use Rattle.std.proofs.Common.{◌≡◌, ℕ, ◌+◌, ◌<◌, ◌≤◌, ◌⊎◌, inl, inr, Bool, true, false, cond, List, length, take, get_or}
-use Rattle.std.proofs.Common.{Option, Some, None, refl, ap, ap₂, ◌∙◌, sym, subst, arith}
-use Rattle.std.specs.Prelude.{IfSome}
+use Rattle.std.proofs.Common.{Option, Some, None, refl, ap, ap₂, ◌∙◌, ◌++◌, ◌↔◌, sym, subst, arith}
+use Rattle.std.specs.Prelude.{IfSome, IsTrue, codes}
 use Rattle.std.proofs.Math.Nat.{mod-eq_of_lt}
 use Rattle.std.proofs.lemmas.Bool.{cases_lt}
 use Rattle.std.proofs.lemmas.List.{get_or-take, get_or_default, length-take-le}
 use Rattle.aes3_status.specs.declared.field.Field.{Field}
 use Rattle.aes3_status.specs.declared.setting.Setting.{Setting}
-use Rattle.aes3_status.specs.Settings.{is_for, under}
+use Rattle.aes3_status.specs.Bits.{number_at}
+use Rattle.aes3_status.specs.Settings.{is_for, place_of, set_by, under}
 use Rattle.aes3_status.proofs.SettingLemmas.{meaning-stays, setting-back, under-few}
-use Rattle.aes3_settings.specs.Settings.{code_text, IsCodeOf, IsSettingOf, IsNoSetting, IsShownThen}
+use Rattle.aes3_settings.specs.Names.{name_text}
+use Rattle.aes3_settings.specs.Settings.{code_text, shown_of, named_of, IsPrintedSo, IsCodeOf, IsSettingOf, IsNoSetting}
+use Rattle.aes3_settings.specs.Settings.{IsShownThen}
 
 -- one more field of which no code is printed so
 pub more-none : (text : List ℕ) (fields : List Field) (i : ℕ) (d : Field) → i < length fields
@@ -45,14 +48,40 @@ given : (b : Bool) (o : Option ℕ) (code : ℕ) → cond b o None ≡ Some code
 given true o code e = e
 given false o code e = cc
 
+-- how a code is printed that the line does not print so
+pub printed-second : (text : List ℕ) (f : Field) (under code : ℕ) (b : Bool)
+    → (code_text f under code ≡ codes " " ++ text → ⊥)
+    → (IsTrue b → name_text f code ≡ codes " " ++ text) → (name_text f code ≡ codes " " ++ text → IsTrue b)
+    → IsTrue b ↔ IsPrintedSo text f under code
+unfolding IsPrintedSo
+printed-second text f under code b not_shown named back = (λ h. inr (named h), one)
+  where
+    one : (code_text f under code ≡ codes " " ++ text) ⊎ (name_text f code ≡ codes " " ++ text) → IsTrue b
+    one (inl e) = absurd (not_shown e)
+    one (inr e) = back e
+
 shown-then : (text : List ℕ) (fields : List Field) (setting : Setting) → IsSettingOf text fields setting
     → IsShownThen text setting
-shown-then text fields setting is bytes code e h =
-    let f = setting.field in
-    let have = given (is_for f bytes) (get_or setting.codes (under f bytes) None) code h in
-    let printed = is.is (under f bytes) code (under-few f bytes) have in
-    ap₂ (code_text f) (meaning-stays setting bytes e).2 (setting-back setting bytes code e h ∙ mod-eq_of_lt printed.0)
-    ∙ printed.1
+unfolding IsPrintedSo
+shown-then text fields setting is bytes code e h = go printed.1
+  where
+    f : Field
+    f = setting.field
+
+    after : List ℕ
+    after = set_by setting bytes
+
+    printed : IsCodeOf text f (under f bytes) code
+    printed = is.is (under f bytes) code (under-few f bytes) (given (is_for f bytes)
+        (get_or setting.codes (under f bytes) None) code h)
+
+    back : number_at (place_of f) after ≡ code
+    back = setting-back setting bytes code e h ∙ mod-eq_of_lt printed.0
+
+    go : (code_text f (under f bytes) code ≡ codes " " ++ text) ⊎ (name_text f code ≡ codes " " ++ text)
+        → (shown_of f after ≡ codes " " ++ text) ⊎ (named_of f after ≡ codes " " ++ text)
+    go (inl p) = inl (ap₂ (code_text f) (meaning-stays setting bytes e).1 back ∙ p)
+    go (inr p) = inr (ap (name_text f) back ∙ p)
 
 pub all-shown : (text : List ℕ) (fields : List Field) (o : Option Setting) → IfSome o (IsSettingOf text fields)
     → IfSome o (IsShownThen text)

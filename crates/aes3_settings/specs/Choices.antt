@@ -4,16 +4,10 @@ use Rattle.std.specs.Prelude.{decimal}
 use Rattle.std.specs.List.{before_first, flat_map, list_any, range_with_len}
 use Rattle.std.specs.Str.{bytes_eq}
 use Rattle.aes3_status.specs.declared.field.Field.{Field}
-use Rattle.aes3_status.specs.declared.field.Field.TheVariants.{Professional, Consumer}
 use Rattle.aes3_status.specs.Settings.{place_of}
 use Rattle.aes3_settings.specs.Fields.{field_text}
-use Rattle.aes3_settings.specs.Professional.{pro_name}
-use Rattle.aes3_settings.specs.Consumer.{con_name}
+use Rattle.aes3_settings.specs.Names.{name_of, name_text}
 use Rattle.aes3_settings.specs.Settings.{code_text, consumer_fields, professional_fields}
-
-abbrev pub name_of : Field → List ℕ
-name_of (Professional f) = pro_name f
-name_of (Consumer f) = con_name f
 
 -- whether the text has the field's name: what stands before its first `=`, or all of it
 abbrev pub is_named : List ℕ → Field → Bool
@@ -56,9 +50,13 @@ code_choice f under code =
 abbrev pub code_choices : Field → ℕ → List ℕ
 code_choices f under = flat_map (code_choice f under) (below (code_count f))
 
+-- what is told of the codes that `show --names` has words for
+abbrev pub name_choices : Field → List ℕ
+name_choices f = flat_map (name_text f) (below (code_count f))
+
 -- what a field can be set to
 unfoldable pub field_choices : Field → List ℕ
-field_choices f = flat_map (code_choices f) (below 8)
+field_choices f = flat_map (code_choices f) (below 8) ++ name_choices f
 
 -- the same, if the text has the field's name
 abbrev pub named_choices : List ℕ → Field → List ℕ

@@ -1,11 +1,11 @@
 -- Fields of channel status by their names and the words that `show` prints.
-use Rattle.std.specs.Prelude.{ℕ, List, [], ◌++◌, Some, None, true, ◌≡◌, ◌≢◌, ◌⊎◌, ◌<◌, ◌≤◌, ◌+◌, ◌*◌, ◌^◌, codes}
+use Rattle.std.specs.Prelude.{ℕ, List, [], ◌∷◌, ◌++◌, Some, None, true, ◌≡◌, ◌≢◌, ◌⊎◌, ◌<◌, ◌≤◌, ◌+◌, ◌*◌, ◌^◌, codes}
 use Rattle.std.specs.Prelude.{decimal, length, map, take, drop, get_or, replicate}
 use Rattle.std.specs.List.{Contains, flat_map}
 use Rattle.aes3_status.specs.declared.check.Check.{Check}
 use Rattle.aes3_status.specs.declared.field.ConField.TheVariants as con
 use Rattle.aes3_status.specs.declared.field.Field.{Field}
-use Rattle.aes3_status.specs.declared.field.Field.TheVariants.{Professional, Consumer}
+use Rattle.aes3_status.specs.declared.field.Field.TheVariants.{Use, Professional, Consumer}
 use Rattle.aes3_status.specs.declared.setting.Setting.{Setting}
 use Rattle.aes3_status.specs.Professional as status
 use Rattle.aes3_status.specs.Consumer as consumer_status
@@ -17,9 +17,12 @@ use Rattle.aes3_settings.specs.declared.listed.SettingsFault.TheVariants.{Unknow
 use Rattle.aes3_settings.specs.Fields.{field_text, shown}
 use Rattle.aes3_settings.specs.Professional as professional
 use Rattle.aes3_settings.specs.Consumer as consumer
+use Rattle.aes3_settings.specs.Names.{name_text}
+use Rattle.aes3_settings.specs.Words.{use_words, word_for}
 
--- what `show` prints of a code of a field, where another field tells what its codes mean
+-- what `show` prints of a code of a field, where another field tells what its codes mean; of the use the word alone
 abbrev pub code_text : Field → ℕ → ℕ → List ℕ
+code_text Use under code = field_text (codes "use") (word_for use_words code)
 code_text (Professional f) under code = professional.pro_text f under code
 code_text (Consumer f) under code = consumer.con_text f under code
 
@@ -27,9 +30,17 @@ code_text (Consumer f) under code = consumer.con_text f under code
 abbrev pub shown_of : Field → List ℕ → List ℕ
 shown_of f bytes = code_text f (under f bytes) (number_at (place_of f) bytes)
 
--- a field's code that is printed as a text `NAME=WORD`
+-- what `show --names` prints of it behind the line
+abbrev pub named_of : Field → List ℕ → List ℕ
+named_of f bytes = name_text f (number_at (place_of f) bytes)
+
+-- a code of a field is printed as a text `NAME=WORD`: in the line of `show`, or behind it by `show --names`
+unfoldable pub IsPrintedSo : List ℕ → Field → ℕ → ℕ → Type 0
+IsPrintedSo text f under code = (code_text f under code ≡ codes " " ++ text) ⊎ (name_text f code ≡ codes " " ++ text)
+
+-- a field has a code that is printed so
 abbrev pub IsCodeOf : List ℕ → Field → ℕ → ℕ → Type 0
-IsCodeOf text f under code = (code < 2 ^ (place_of f).count) × (code_text f under code ≡ codes " " ++ text)
+IsCodeOf text f under code = (code < 2 ^ (place_of f).count) × IsPrintedSo text f under code
 
 -- the codes of a setting are printed as the text; some code is, and where one is, the setting has one
 pub record IsSettingOf (text : List ℕ) (fields : List Field) (setting : Setting) : Type 0 where
@@ -44,12 +55,12 @@ pub record IsSettingOf (text : List ℕ) (fields : List Field) (setting : Settin
 abbrev pub IsNoSetting : List ℕ → List Field → Type 0
 IsNoSetting text fields = (f : Field) (under code : ℕ) → Contains fields f → under < 8 → ¬ IsCodeOf text f under code
 
--- the fields in the order in which `show` prints them
+-- the fields that a status for each use has: the use itself, and the others in the order in which `show` prints them
 abbrev pub professional_fields : List Field
-professional_fields = map Professional status.pro_fields
+professional_fields = Use ∷ map Professional status.pro_fields
 
 abbrev pub consumer_fields : List Field
-consumer_fields = map Consumer consumer_status.con_fields
+consumer_fields = Use ∷ map Consumer consumer_status.con_fields
 
 -- the setting that leaves each status as it is
 abbrev pub nothing : Setting
@@ -80,10 +91,11 @@ IsSettingsFault texts (Unknown at) = (at < length texts) × IsUnknown (get_or te
     × ((k : ℕ) → k < at → ¬ IsUnknown (get_or texts k []))
 IsSettingsFault texts TooMany = 32 < length texts
 
--- where the setting has a code for a status, `show` then prints the text of it
+-- where the setting has a code for a status, `show` then prints the text of it, or `show --names` does
 abbrev pub IsShownThen : List ℕ → Setting → Type 0
 IsShownThen text setting = (bytes : List ℕ) (code : ℕ) → length bytes ≡ 24 → code_for setting bytes ≡ Some code
-    → shown_of setting.field (set_by setting bytes) ≡ codes " " ++ text
+    → (shown_of setting.field (set_by setting bytes) ≡ codes " " ++ text)
+    ⊎ (named_of setting.field (set_by setting bytes) ≡ codes " " ++ text)
 
 -- a setting leaves what `show` prints of each other field for the use of the status, unless the codes of that field
 -- have another meaning under the number that is set: of the sample word length under the use of the auxiliary bits or
@@ -99,12 +111,12 @@ shown_fields fields bytes = flat_map (λ f. shown_of f bytes) fields
 abbrev pub LineShowsFields : Type 0
 LineShowsFields = (bytes : List ℕ) (check : Check)
     → (consumer.consumer_text bytes
-    ≡ codes " consumer" ++ shown_fields consumer_fields bytes
+    ≡ codes " consumer" ++ shown_fields (drop 1 consumer_fields) bytes
     ++ field_text (codes "rest") (encode_lower (consumer_status.rest bytes)))
     × (professional.professional_text bytes check
-    ≡ codes " professional" ++ shown_fields (take 12 professional_fields) bytes
+    ≡ codes " professional" ++ shown_fields (drop 1 (take 13 professional_fields)) bytes
     ++ field_text (codes "origin") (map shown (status.origin bytes))
     ++ field_text (codes "destination") (map shown (status.destination bytes))
     ++ field_text (codes "local") (decimal (status.local bytes))
     ++ field_text (codes "time") (decimal (status.time bytes))
-    ++ shown_fields (drop 12 professional_fields) bytes ++ field_text (codes "check") (professional.check_word check))
+    ++ shown_fields (drop 13 professional_fields) bytes ++ field_text (codes "check") (professional.check_word check))

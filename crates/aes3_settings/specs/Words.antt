@@ -25,6 +25,10 @@ rows_of table = map (λ row. (row.0, row.1.now)) table
 abbrev pub are_within : ℕ → List (ℕ × Bor (List ℕ)) → Bool
 are_within most table = list_all (λ row. nat_le (length row.1.now) most) table
 
+-- byte 0 bit 0: the use
+abbrev pub use_words : Words
+use_words = (0, codes "consumer") ∷ (1, codes "professional") ∷ []
+
 -- byte 0 bit 1: what the sample words carry
 abbrev pub payload_words : Words
 payload_words = (0, codes "pcm") ∷ (1, codes "other") ∷ []

@@ -4,12 +4,14 @@ ghost use Rattle.std.specs.Prelude.{◌≡◌, ◌<◌, ◌++◌, [], ◌∷◌,
 ghost use Rattle.std.specs.List.{flat_map, list_any};
 ghost use Rattle.aes3_settings.specs.Choices.{below, choices, code_choice, code_choices, code_count};
 ghost use Rattle.aes3_settings.specs.Choices.{field_choices, has_name, has_word};
-ghost use Rattle.aes3_settings.specs.Choices.{is_known, is_named, is_printed, is_told, name_of};
-ghost use Rattle.aes3_settings.specs.Choices.{named_choices, names_of, use_choices};
+ghost use Rattle.aes3_settings.specs.Choices.{is_known, is_named, is_printed, is_told};
+ghost use Rattle.aes3_settings.specs.Choices.{name_choices, named_choices, names_of, use_choices};
+ghost use Rattle.aes3_settings.specs.Names.{name_of, name_text};
 ghost use Rattle.aes3_settings.specs.Settings.{code_text};
 
 use crate::line::Line;
-use crate::settings::{CONSUMER, PROFESSIONAL, name_of, put_code};
+use crate::names::{name_of, name_of_code};
+use crate::settings::{CONSUMER, PROFESSIONAL, put_code};
 use aes3_status::Field;
 use std::alloc::AllocError;
 
@@ -132,6 +134,29 @@ fn add_codes(text: &mut String, field: Field, under: u8) -> Result<(), AllocErro
     Ok(())
 }
 
+/// Appends the word of a code as a field, where `show --names` has one.
+fn add_code_name(text: &mut String, field: Field, code: u8) -> Result<(), AllocError>
+    ensures { IfOk result (λ _. text.new.bytes.items ≡ text.old.bytes.items ++ name_text field code) }
+{
+    if let Some(word) = name_of_code(field, code) {
+        text.push_str(" ")?;
+        text.push_str(name_of(field))?;
+        text.push_str("=")?;
+        text.push_str(word)?;
+    }
+    Ok(())
+}
+
+/// Appends the words of a field's codes that `show --names` has.
+fn add_code_names(text: &mut String, field: Field) -> Result<(), AllocError>
+    ensures { IfOk result (λ _. text.new.bytes.items ≡ text.old.bytes.items ++ name_choices field) }
+{
+    for code in 0..field.codes() {
+        add_code_name(text, field, code as u8)?;
+    }
+    Ok(())
+}
+
 /// Appends what a field can be set to.
 fn add_field(text: &mut String, field: Field) -> Result<(), AllocError>
     ensures { IfOk result (λ _. text.new.bytes.items ≡ text.old.bytes.items ++ field_choices field) }
@@ -139,7 +164,7 @@ fn add_field(text: &mut String, field: Field) -> Result<(), AllocError>
     for under in 0..8 {
         add_codes(text, field, under)?;
     }
-    Ok(())
+    add_code_names(text, field)
 }
 
 /// Appends what those of the fields with the name of a text `NAME=WORD` can be set to.

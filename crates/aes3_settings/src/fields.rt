@@ -11,7 +11,7 @@ use crate::line::{LINE_LEN, Line};
 use crate::words::{WORD_LEN, word_of};
 
 /// How many bytes the name of a field has at most.
-pub(crate) const NAME_LEN: usize = 11;
+pub const NAME_LEN: usize = 11;
 
 /// How many bytes a field has at most.
 pub(crate) const FIELD_LEN: usize = 40;

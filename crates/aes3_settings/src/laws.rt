@@ -1,11 +1,17 @@
 //! Laws of the lines of channel status and of the fields that they show.
 
 ghost use Rattle.aes3_settings.specs.Settings.{LineShowsFields, OtherWordsStay};
+ghost use Rattle.aes3_settings.specs.StatusTexts.{UseIsShown};
 
 /// The line of a channel status is made of what is printed of each field that can be set, in order,
 /// and of the others.
 pub fn line_shows_fields()
     ensures { LineShowsFields }
+{}
+
+/// What is printed of a channel status begins with the word by which its use is set.
+pub fn use_is_shown()
+    ensures { UseIsShown }
 {}
 
 /// A field that is set by name leaves what is printed of every other field, but where it tells what

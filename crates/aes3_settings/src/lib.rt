@@ -19,6 +19,8 @@ mod line;
 mod lines;
 /// The settings of several texts.
 mod listed;
+/// The words of codes that a line has as numbers.
+mod names;
 /// The fields of a status for professional use.
 mod professional;
 /// Fields by their names, and codes by the words that `show` prints.
@@ -32,9 +34,11 @@ mod words;
 
 pub use choices::add_choices;
 pub use detail::Detail;
+pub use fields::NAME_LEN;
 pub use line::{DIGITS, LINE_LEN, Line};
 pub use lines::Lines;
 pub use listed::{SettingsFault, settings_of_texts};
+pub use names::{name_of, name_of_code};
 pub use settings::{consumer_setting, professional_setting};
 pub use status::{STATUS_LEN, put_status};
 pub use style::{Notation, Style};

@@ -1,20 +1,24 @@
 //! Fields of channel status by their names and the words that `show` prints.
 
-ghost use Rattle.std.specs.Prelude.{◌≡◌, ◌≢◌, ◌<◌, ◌≤◌, ◌+◌, ◌++◌, ℕ, None, length, get_or, IfSome};
-ghost use Rattle.std.specs.Prelude.{IsFalse, IsTrue};
-ghost use Rattle.aes3_settings.specs.Choices.{name_of};
-ghost use Rattle.aes3_settings.specs.Settings.{IsCodeOf, IsNoSetting, IsSettingOf, IsShownThen};
+ghost use Rattle.std.specs.Prelude.{◌≡◌, ◌≢◌, ◌↔◌, ◌<◌, ◌≤◌, ◌+◌, ◌++◌, ℕ, None, length, get_or};
+ghost use Rattle.std.specs.Prelude.{IfSome, IsFalse, IsTrue};
+ghost use Rattle.aes3_settings.specs.Settings.{IsCodeOf, IsNoSetting, IsPrintedSo, IsSettingOf};
+ghost use Rattle.aes3_settings.specs.Settings.{IsShownThen};
 ghost use Rattle.aes3_settings.specs.Settings.{code_text};
 ghost use Rattle.aes3_settings.specs.Settings.{consumer_fields, professional_fields};
 
-use crate::consumer::{consumer_name, put_consumer_code};
-use crate::fields::{FIELD_LEN, NAME_LEN};
+use crate::consumer::put_consumer_code;
+use crate::fields::FIELD_LEN;
 use crate::line::{LINE_LEN, Line};
-use crate::professional::{professional_name, put_professional_code};
+use crate::names::put_name;
+use crate::professional::put_professional_code;
+use crate::words::USE;
 use aes3_status::{ConField, Field, ProField, Setting};
 
-/// The fields of professional status (AES3-2) that can be set, as `show` prints them.
+/// The fields of professional status (AES3-2) that can be set: its use, and the others as `show`
+/// prints them.
 pub(crate) const PROFESSIONAL: &[Field] = &[
+    Field::Use,
     Field::Professional(ProField::Payload),
     Field::Professional(ProField::Emphasis),
     Field::Professional(ProField::Unlocked),
@@ -31,8 +35,10 @@ pub(crate) const PROFESSIONAL: &[Field] = &[
     Field::Professional(ProField::B22low),
 ];
 
-/// The fields of consumer status (IEC 60958-3) that can be set, as `show` prints them.
+/// The fields of consumer status (IEC 60958-3) that can be set: its use, and the others as `show`
+/// prints them.
 pub(crate) const CONSUMER: &[Field] = &[
+    Field::Use,
     Field::Consumer(ConField::Payload),
     Field::Consumer(ConField::Copyright),
     Field::Consumer(ConField::Emphasis),
@@ -49,17 +55,6 @@ pub(crate) const CONSUMER: &[Field] = &[
     Field::Consumer(ConField::Original),
 ];
 
-/// The name of a field, as `show` prints it.
-pub(crate) fn name_of(field: Field) -> &'static str
-    ensures name { result.now ≡ name_of field }
-    ensures len { length result.now ≤ NAME_LEN }
-{
-    match field {
-        Field::Professional(field) => professional_name(field),
-        Field::Consumer(field) => consumer_name(field),
-    }
-}
-
 /// Appends a code of a field, where the number `under` tells what its codes mean.
 pub(crate) fn put_code(line: &mut Line, field: Field, under: u8, code: u8)
     requires { length line.old + FIELD_LEN ≤ LINE_LEN }
@@ -67,29 +62,42 @@ pub(crate) fn put_code(line: &mut Line, field: Field, under: u8, code: u8)
     ensures len { length line.new ≤ length line.old + FIELD_LEN }
 {
     match field {
+        Field::Use => line.word_field("use", USE, code),
         Field::Professional(field) => put_professional_code(line, field, under, code),
         Field::Consumer(field) => put_consumer_code(line, field, under, code),
     }
 }
 
-/// The first code of a field that `show` prints as this text, where the number `under` tells what
-/// its codes mean.
+/// Whether `show` prints a code of a field as this text, where the number `under` tells what its
+/// codes mean, or `show --names` does.
+fn is_printed_so(field: Field, under: u8, code: u8, text: &str) -> bool
+    ensures { IsTrue result ↔ IsPrintedSo text.now field under code }
+{
+    let mut line = Line::new();
+    put_code(&mut line, field, under, code);
+    if line.is_spaced(text) {
+        return true;
+    }
+    line.clear();
+    put_name(&mut line, field, code);
+    line.is_spaced(text)
+}
+
+/// The first code of a field that is printed as this text, where the number `under` tells what its
+/// codes mean.
 pub(crate) fn code_of(field: Field, under: u8, text: &str) -> Option<u8>
     ensures some { IfSome result (IsCodeOf text.now field under) }
     ensures none { result ≡ None → (code : ℕ) → ¬ IsCodeOf text.now field under code }
 {
-    let mut line = Line::new();
     for code in 0..field.codes() {
-        line.clear();
-        put_code(&mut line, field, under, code as u8);
-        if line.is_spaced(text) {
+        if is_printed_so(field, under, code as u8, text) {
             return Some(code as u8);
         }
     }
     None
 }
 
-/// The codes of a field that `show` prints as this text, by the number that tells what its codes
+/// The codes of a field that are printed as this text, by the number that tells what its codes
 /// mean.
 fn codes_of(field: Field, text: &str) -> [Option<u8>; 8]
     ensures len { length result ≡ 8 }
@@ -124,7 +132,7 @@ fn has_code(codes: &[Option<u8>; 8]) -> bool
     false
 }
 
-/// The setting of one of the fields that `show` prints as this text.
+/// The setting of one of the fields that is printed as this text.
 fn setting_in(fields: &[Field], text: &str) -> Option<Setting>
     ensures some { IfSome result (IsSettingOf text.now fields.now) }
     ensures none { result ≡ None → IsNoSetting text.now fields.now }
@@ -142,8 +150,8 @@ fn setting_in(fields: &[Field], text: &str) -> Option<Setting>
 }
 
 /// The setting of a field of professional status (AES3-2) by a text `NAME=WORD` as `show` prints
-/// it, a code without a word as `code` and its number; `None` where no code of such a field is
-/// printed so.
+/// it, a code without a word as `code` and its number, or as `show --names` tells it behind the
+/// line; `None` where no code of such a field is printed so.
 pub fn professional_setting(text: &str) -> Option<Setting>
     ensures some { IfSome result (IsSettingOf text.now professional_fields) }
     ensures shown { IfSome result (IsShownThen text.now) }

@@ -7,6 +7,9 @@ ghost use Rattle.aes3_settings.specs.Words.{are_within, rows_of, word_of};
 /// How many bytes a word has at most.
 pub const WORD_LEN: usize = 20;
 
+/// The use (AES3-2, IEC 60958-1, byte 0 bit 0).
+pub(crate) const USE: &[(u8, &str)] = &[(0, "consumer"), (1, "professional")];
+
 /// What the sample words carry (AES3-2, IEC 60958-3, byte 0 bit 1).
 pub(crate) const PAYLOAD: &[(u8, &str)] = &[(0, "pcm"), (1, "other")];
 

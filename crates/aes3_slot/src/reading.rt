@@ -152,9 +152,9 @@ pub fn take_subframe(before: Level, mark: Mark, cells: u64) -> Result<u32, Place
     ensures stops { IfErr result (λ place. ¬ IsLawfulFrontOf before mark
         (take (place.offset + 1) (word_cells cells))) }
 {
-    match take_either(before, mark, cells) {
-        Ok((payload, true)) => Ok(payload),
-        Ok((_, false)) => Err(Place { offset: LAST }),
-        Err(place) => Err(place),
+    let (payload, is_right) = take_either(before, mark, cells)?;
+    if !is_right {
+        return Err(Place { offset: LAST });
     }
+    Ok(payload)
 }

@@ -5,21 +5,22 @@ use Rattle.std.specs.Prelude.{◌==◌, ◌&&◌}
 use Rattle.std.proofs.lemmas.Bool.{eq-eqb, ne_eqb}
 use Rattle.aes3_level.specs.declared.level.Level.{Level}
 use Rattle.aes3_level.specs.Cells.{other}
-use Rattle.aes3_lock.specs.Damage.{changed, without}
+use Rattle.aes3_slot.specs.Rules.{at}
+use Rattle.aes3_lock.specs.Damage.{changed, without, inserted}
 use Rattle.aes3_spoil.specs.declared.errors.Errors.{Errors}
 use Rattle.aes3_spoil.specs.declared.kinds.ErrorKind.{ErrorKind}
 use Rattle.aes3_spoil.specs.declared.kinds.ErrorKind.TheVariants.{Changed, Inverted, Lost, Doubled}
 use Rattle.aes3_spoil.specs.Errors.{Clear, errors_at, errors_before, errors_of, same_kind}
 use Rattle.aes3_spoil.specs.SpoilLaws.{IsOne}
 use Rattle.aes3_spoil.specs.Spoiled.{is_odd, is_turned, level_turned, spoiled, spoiled_at, spoiled_from}
-use Rattle.aes3_spoil.proofs.SpoiledCells.{cell-clear, cells-clear, times-none, times-once}
+use Rattle.aes3_spoil.proofs.SpoiledCells.{cell-clear, cells-clear, times-none, times-once, times-twice}
 
 -- what stands at a cell
 no-errors : (e : Errors) → errors_of e ≡ [] → e.every ≡ None → (kind : ErrorKind) (i : ℕ) → errors_at e kind i ≡ 0
 unfolding errors_at
 no-errors e l v kind i = rw (l, v) refl
 
-no-before : (e : Errors) (kind : ErrorKind) (n : ℕ) → ((i : ℕ) → i < n → errors_at e kind i ≡ 0)
+pub no-before : (e : Errors) (kind : ErrorKind) (n : ℕ) → ((i : ℕ) → i < n → errors_at e kind i ≡ 0)
     → errors_before e kind n ≡ 0
 no-before e kind zero h = refl
 no-before e kind (suc n) h =
@@ -51,7 +52,7 @@ other-cells : (c : List Level) → map (level_turned true) c ≡ map other c
 other-cells [] = refl
 other-cells (x ∷ c) = ap (λ d. other x ∷ d) (other-cells c)
 
-from-same : (e : Errors) (i : ℕ) (c : List Level) → Clear e i (i + length c) → errors_before e Inverted i ≡ 0
+pub from-same : (e : Errors) (i : ℕ) (c : List Level) → Clear e i (i + length c) → errors_before e Inverted i ≡ 0
     → spoiled_from e i c ≡ c
 from-same e i c h b =
     cells-clear e i c h ∙ ap (λ n. map (level_turned (is_odd n)) c) b ∙ same-cells c
@@ -119,6 +120,23 @@ lost-from e (suc k) i (x ∷ c) h =
     let j : i + suc k ≡ suc i + k = omega arith in
     ap₂ ◌++◌ (step e Lost (i + suc k) h i x (omega arith)) (lost-from e k (suc i) c (subst (IsOne e Lost) j h))
 
+doubled-from : (e : Errors) (k i : ℕ) (c : List Level) → IsOne e Doubled (i + k) → k < length c
+    → spoiled_from e i c ≡ inserted k (at c k) c
+doubled-from e k i [] h l = absurd (omega arith)
+doubled-from e zero i (x ∷ c) h l =
+    let j : i + 0 ≡ i = omega arith in
+    let o : IsOne e Doubled i = subst (IsOne e Doubled) j h in
+    let two = one-here e Doubled i o Doubled in
+    ap₂ ◌++◌
+    (ap₂ (λ n b. replicate n (level_turned b x))
+    (sym (times-twice e i (one-here e Doubled i o Lost) (omega (arith, two))))
+    (turned-here e Doubled i o))
+    (rest e Doubled i o c ∙ ap (λ n. map (level_turned (is_odd n)) c) (before-next e Doubled i o) ∙ same-cells c)
+doubled-from e (suc k) i (x ∷ c) h l =
+    let j : i + suc k ≡ suc i + k = omega arith in
+    ap₂ ◌++◌ (step e Doubled (i + suc k) h i x (omega arith))
+    (doubled-from e k (suc i) c (subst (IsOne e Doubled) j h) (omega arith))
+
 inverted-from : (e : Errors) (k i : ℕ) (c : List Level) → IsOne e Inverted (i + k)
     → spoiled_from e i c ≡ take k c ++ map other (drop k c)
 inverted-from e zero i [] h = refl
@@ -151,3 +169,8 @@ pub inverted-one : (e : Errors) (k : ℕ) (c : List Level) → IsOne e Inverted 
     → spoiled e c ≡ take k c ++ map other (drop k c)
 unfolding spoiled
 inverted-one e k c h = inverted-from e k 0 c (start e Inverted k h)
+
+pub doubled-one : (e : Errors) (k : ℕ) (c : List Level) → IsOne e Doubled k → k < length c
+    → spoiled e c ≡ inserted k (at c k) c
+unfolding spoiled
+doubled-one e k c h l = doubled-from e k 0 c (start e Doubled k h) l

@@ -6,3 +6,8 @@ pub mod SpoiledCells
 pub mod Taking
 pub mod Writings
 mod Refuting
+mod Doubled
+mod EachError
+mod Parity
+mod ParityReports
+mod CheckByte

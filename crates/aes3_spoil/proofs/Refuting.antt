@@ -1,6 +1,6 @@
 -- Where a changed cell refutes a block, and what is told of one error.
-use Rattle.std.proofs.Common.{◌≡◌, ◌≢◌, ℕ, zero, suc, ◌+◌, ◌-◌, ◌*◌, ◌/◌, ◌%◌, ◌<◌, ◌≤◌, ◌⊎◌, inl, inr, List, [], ◌∷◌, Bool}
-use Rattle.std.proofs.Common.{true, false, cond, Some, refl, length, take, drop, ap, ◌∙◌, sym, subst, arith}
+use Rattle.std.proofs.Common.{◌≡◌, ◌≢◌, ℕ, zero, suc, ◌+◌, ◌-◌, ◌*◌, ◌/◌, ◌%◌, ◌<◌, ◌≤◌, ◌⊎◌, inl, inr, List, [], ◌∷◌}
+use Rattle.std.proofs.Common.{Bool, true, false, cond, Some, refl, length, take, drop, ap, ◌∙◌, sym, subst, arith}
 use Rattle.std.proofs.Common.{length-drop, true≢false, lt-ltb, le-ltb}
 use Rattle.std.specs.List.{Contains}
 use Rattle.std.proofs.lemmas.Bool.{cases_eq, cases_lt, cases_Bool, eq-eqb, ne_eqb}
@@ -18,7 +18,7 @@ use Rattle.aes3_lock.specs.declared.report.Report.TheVariants.{Fault}
 use Rattle.aes3_lock.specs.Candidates.{keeps, front}
 use Rattle.aes3_lock.specs.Damage.{changed}
 use Rattle.aes3_lock.specs.DamageLaws.{LiesInBlock}
-use Rattle.aes3_lock.specs.Outcomes.{fault, outcome, why_of}
+use Rattle.aes3_lock.specs.Outcomes.{Outcome, fault, outcome, why_of}
 use Rattle.aes3_lock.specs.Pieces.{IsPiece, given_blocks}
 use Rattle.aes3_lock.specs.Remains.{after_change, after_loss, place_of}
 use Rattle.aes3_lock.specs.Reports.{blocks, outcome_at, report_of, reports}
@@ -41,7 +41,7 @@ use Rattle.aes3_spoil.specs.Spoiled.{spoiled}
 use Rattle.aes3_spoil.proofs.Damaged.{changed-one, lost-one}
 
 -- cells behind a place, and before it
-drop-changed : (q k : ℕ) (c : List Level) → q ≤ k → drop q (changed k c) ≡ changed (k - q) (drop q c)
+pub drop-changed : (q k : ℕ) (c : List Level) → q ≤ k → drop q (changed k c) ≡ changed (k - q) (drop q c)
 drop-changed zero k c l = let e : k ≡ k - 0 = omega arith in ap (λ n. changed n c) e
 drop-changed (suc q) k [] l = refl
 drop-changed (suc q) zero (x ∷ c) l = absurd (omega arith)
@@ -133,7 +133,8 @@ module _ (b : List (List Bool)) (s : Level) (c : List Level) (h : StandsClosed b
       go : (x % 64 < 8) ⊎ (8 ≤ x % 64) → (x % 64 < 8) ⊎ (x % 2 ≡ 0) → ⊥
       go (inl a) u =
           let o = all-kept x high in
-          clash (k.preamble a ∙ ap (shape (mark_at (x / 64)) (x % 64)) (other-before (64 * (x / 64)) (λ q. omega (arith, q)))
+          clash (k.preamble a
+          ∙ ap (shape (mark_at (x / 64)) (x % 64)) (other-before (64 * (x / 64)) (λ q. omega (arith, q)))
           ∙ sym (o.preamble a))
       go (inr a) (inl u) = absurd (omega (arith, a, u))
       go (inr a) (inr u) =
@@ -273,16 +274,15 @@ module _ (b : List (List Bool)) (s : Level) (c : List Level) (h : StandsClosed b
   refuted-begun = begun
 
 -- the report of a place where a candidate has this outcome
-only-report : (c : List Level) (q f : ℕ) → outcome_at (drop q c) ≡ Some (outcome (drop q c))
-    → outcome (drop q c) ≡ fault f → IsTheReport c q (Fault q (q + f) (why_of f))
-only-report c q f begins is =
-    let e : outcome_at (drop q c) ≡ Some (fault f) = begins ∙ ap Some is in
+pub only-report : (c : List Level) (q : ℕ) (o : Outcome) → outcome_at (drop q c) ≡ Some o
+    → IsTheReport c q (report_of q o)
+only-report c q o e =
     record {
-      there = at-report c q (fault f) e;
+      there = at-report c q o e;
       only = λ r m n.
           let t = report-at c q r m n in
-          let y : Some t.0 ≡ Some (fault f) = sym t.1 ∙ e in
-          let z : t.0 ≡ fault f = cc in
+          let y : Some t.0 ≡ Some o = sym t.1 ∙ e in
+          let z : t.0 ≡ o = cc in
           t.2 ∙ ap (report_of q) z;
     }
 
@@ -301,8 +301,7 @@ fault-told errors k q c b s one stands lies there =
     let begins = refuted-begun b s (drop q c) stands (k - q) low high in
     subst (λ (d : List Level). IsTheReport d q (Fault q (q + refuted_at (k - q)) (why_of (refuted_at (k - q)))))
     (sym (changed-one errors k c one))
-    (only-report (changed k c) q (refuted_at (k - q))
-    (subst (λ (d : List Level). outcome_at d ≡ Some (outcome d)) (sym e) begins) (ap outcome e ∙ is))
+    (only-report (changed k c) q (fault (refuted_at (k - q))) (ap outcome_at e ∙ begins ∙ ap Some is))
 
 -- the laws of damage, of one error
 pub preamble-untold : (errors : Errors) (s : Level) (bs : List (List (List Bool))) (i j : ℕ) (c : List Level)

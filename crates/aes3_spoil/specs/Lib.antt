@@ -1,5 +1,7 @@
+pub mod EachLaws
 pub mod Errors
 pub mod ReportLaws
 pub mod SpoilLaws
 pub mod Spoiled
 pub mod Spoiling
+pub mod Subframes

@@ -1,11 +1,12 @@
 -- What no errors and one error make of cells.
-use Rattle.std.specs.Prelude.{ℕ, List, [], ◌∷◌, None, ◌≡◌, take, drop, map, ◌++◌}
+use Rattle.std.specs.Prelude.{ℕ, List, [], ◌∷◌, None, ◌≡◌, ◌<◌, length, take, drop, map, ◌++◌}
 use Rattle.aes3_level.specs.declared.level.Level.{Level}
 use Rattle.aes3_level.specs.Cells.{other}
-use Rattle.aes3_lock.specs.Damage.{changed, without}
+use Rattle.aes3_slot.specs.Rules.{at}
+use Rattle.aes3_lock.specs.Damage.{changed, without, inserted}
 use Rattle.aes3_spoil.specs.declared.errors.Errors.{Errors}
 use Rattle.aes3_spoil.specs.declared.kinds.ErrorKind.{ErrorKind}
-use Rattle.aes3_spoil.specs.declared.kinds.ErrorKind.TheVariants.{Changed, Inverted, Lost}
+use Rattle.aes3_spoil.specs.declared.kinds.ErrorKind.TheVariants.{Changed, Inverted, Lost, Doubled}
 use Rattle.aes3_spoil.specs.Errors.{errors_of}
 use Rattle.aes3_spoil.specs.Spoiled.{spoiled}
 
@@ -31,3 +32,9 @@ abbrev pub InvertedCellTurnsTheRest : Type 0
 InvertedCellTurnsTheRest =
     (errors : Errors) (k : ℕ) (c : List Level) → IsOne errors Inverted k
     → spoiled errors c ≡ take k c ++ map other (drop k c)
+
+-- one doubled cell is put in once more, before itself
+abbrev pub DoubledCellIsPutIn : Type 0
+DoubledCellIsPutIn =
+    (errors : Errors) (k : ℕ) (c : List Level) → IsOne errors Doubled k → k < length c
+    → spoiled errors c ≡ inserted k (at c k) c

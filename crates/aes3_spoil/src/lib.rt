@@ -17,5 +17,5 @@ mod subframe_errors;
 
 pub use errors::{ERRORS, Errors};
 pub use kinds::{CellError, ErrorKind, Every};
-pub use laws::{one_error_is_told, spoiled_cells_are_damaged};
+pub use laws::{each_error_is_told, one_error_is_told, spoiled_cells_are_damaged};
 pub use spoiling::spoil;

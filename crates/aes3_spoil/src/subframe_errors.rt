@@ -3,6 +3,7 @@
 
 ghost use Rattle.std.specs.Prelude.{◌≡◌, ◌+◌, ◌-◌, ◌*◌, ◌<◌, ◌≤◌, ◌^◌, ◌++◌, ◌∷◌, [], length};
 ghost use Rattle.aes3_spoil.specs.Errors.{errors_of};
+ghost use Rattle.aes3_spoil.specs.Subframes.{check_errors, parity_cell, preamble_cell, slot_cell};
 ghost use Rattle.aes3_spoil.specs.declared.kinds.ErrorKind.TheVariants.{Changed, Inverted};
 
 use crate::errors::{ERRORS, Errors};
@@ -35,7 +36,7 @@ impl Errors {
         requires room { length (errors_of self.old) < ERRORS }
         requires within { place < 2 ^ 63 }
         ensures list { errors_of self.new
-            ≡ errors_of self.old ++ record { place = place + 63; kind = Inverted } ∷ [] }
+            ≡ errors_of self.old ++ record { place = parity_cell place; kind = Inverted } ∷ [] }
         ensures every { self.new.every ≡ self.old.every }
     {
         self.add(place + (SUBFRAME_CELLS - 1), ErrorKind::Inverted);
@@ -49,7 +50,7 @@ impl Errors {
         requires first { 4 ≤ slot }
         requires last { slot ≤ 31 }
         ensures list { errors_of self.new ≡ errors_of self.old
-            ++ record { place = place + 8 + 2 * (slot - 4); kind = Changed } ∷ [] }
+            ++ record { place = slot_cell place slot; kind = Changed } ∷ [] }
         ensures every { self.new.every ≡ self.old.every }
     {
         let cell = PREAMBLE_CELLS + SLOT_CELLS * (u64::from(slot) - FIRST_SLOT);
@@ -62,7 +63,7 @@ impl Errors {
         requires room { length (errors_of self.old) < ERRORS }
         requires within { place < 2 ^ 63 }
         ensures list { errors_of self.new
-            ≡ errors_of self.old ++ record { place = place + 2; kind = Changed } ∷ [] }
+            ≡ errors_of self.old ++ record { place = preamble_cell place; kind = Changed } ∷ [] }
         ensures every { self.new.every ≡ self.old.every }
     {
         self.add(place + PREAMBLE_CELL, ErrorKind::Changed);
@@ -75,9 +76,7 @@ impl Errors {
     pub fn add_check_byte(&mut self, place: u64)
         requires room { length (errors_of self.old) + 1 < ERRORS }
         requires within { place < 2 ^ 63 }
-        ensures list { errors_of self.new ≡ errors_of self.old
-            ++ record { place = place + 64 * (2 * 184) + 61; kind = Changed }
-            ∷ record { place = place + 64 * (2 * 184) + 62; kind = Changed } ∷ [] }
+        ensures list { errors_of self.new ≡ errors_of self.old ++ check_errors place }
         ensures every { self.new.every ≡ self.old.every }
     {
         let subframe = SUBFRAME_CELLS * (2 * CHECK_FRAME);

@@ -1,6 +1,6 @@
 -- The definitions of the command line, step by step, and what they take.
-use Rattle.std.proofs.Common.{◌≡◌, ◌∙◌, ◌||◌, ◌<◌, ◌+◌, ◌++◌, ◌∷◌, ℕ, List, [], ap, ap₂, get_or, length, map, refl, subst}
-use Rattle.std.proofs.Common.{sym, take, true}
+use Rattle.std.proofs.Common.{◌≡◌, ◌∙◌, ◌||◌, ◌<◌, ◌+◌, ◌++◌, ◌∷◌, ℕ, List, [], ap, ap₂, get_or, length, map, refl}
+use Rattle.std.proofs.Common.{subst, sym, take, true}
 use Rattle.std.proofs.lemmas.List.{map-append, take_more}
 use Rattle.clap.specs.Built.{AddsArg}
 use Rattle.clap.specs.Faults.{is_simple_and_free}

@@ -54,7 +54,8 @@ kind_in text = if bytes_eq text (codes "cell") then Some Changed
 
 -- the errors that come again and again of which this is the value
 abbrev pub every_of_parts : List ℕ × List ℕ → Option Every
-every_of_parts parts = option_and_then (λ cells. option_map (λ kind. record { cells = cells; kind = kind }) (kind_in parts.1))
+every_of_parts parts = option_and_then
+    (λ cells. option_map (λ kind. record { cells = cells; kind = kind }) (kind_in parts.1))
     (number_in 1 most_cells parts.0)
 
 abbrev pub every_in : List ℕ → Option Every

@@ -1,6 +1,6 @@
 -- The laws of a code in a field.
-use Rattle.std.proofs.Common.{◌≡◌, ℕ, ◌+◌, ◌*◌, ◌<◌, ◌≤◌, inl, inr, eqb, List, Option, Some, None, length, take, drop}
-use Rattle.std.proofs.Common.{refl, ap, ◌∙◌, sym, arith}
+use Rattle.std.proofs.Common.{◌≡◌, ◌≢◌, ℕ, ◌+◌, ◌*◌, ◌<◌, ◌≤◌, inl, inr, eqb, List, Option, Some, None, length}
+use Rattle.std.proofs.Common.{take, drop, refl, ap, ◌∙◌, sym, arith}
 use Rattle.std.proofs.lemmas.List.{length-set}
 use Rattle.aes3_status.specs.declared.place.Place.{Place}
 use Rattle.aes3_status.specs.declared.field.ProField.{ProField}
@@ -8,15 +8,15 @@ use Rattle.aes3_status.specs.declared.field.ProField.TheVariants as pro
 use Rattle.aes3_status.specs.declared.field.ConField.{ConField}
 use Rattle.aes3_status.specs.declared.field.ConField.TheVariants as con
 use Rattle.aes3_status.specs.declared.field.Field.{Field}
-use Rattle.aes3_status.specs.declared.field.Field.TheVariants.{Professional, Consumer}
+use Rattle.aes3_status.specs.declared.field.Field.TheVariants.{Use, Professional, Consumer}
 use Rattle.aes3_bits.specs.Bits.{low_bits, number}
-use Rattle.aes3_status.specs.Bits.{status_bits, field, number_at}
+use Rattle.aes3_status.specs.Bits.{status_bits, field, number_at, place}
 use Rattle.aes3_status.specs.Consumer.{con_place}
 use Rattle.aes3_status.specs.Professional.{pro_place}
 use Rattle.aes3_status.specs.Statuses.{is_professional}
 use Rattle.aes3_status.specs.Settings.{with_bits, with_field, place_of, under, code_for, with_code}
 use Rattle.aes3_status.specs.SettingLaws.{IsPlace, first_bit, OnlyItsBitsChange, CodeIsReadBack, OtherFieldsStay}
-use Rattle.aes3_status.specs.SettingLaws.{MeaningStays, SettingIsReadBack}
+use Rattle.aes3_status.specs.SettingLaws.{MeaningStays, SettingIsReadBack, UseStays}
 use Rattle.aes3_bits.proofs.Bits.{length-low_bits}
 use Rattle.aes3_status.proofs.BitFields.{field-fits}
 use Rattle.aes3_status.proofs.Weights.{length-status_bits}
@@ -102,22 +102,28 @@ con-lies con.Greatest = lies _ (omega arith) (omega arith) (omega arith)
 con-lies con.Word = lies _ (omega arith) (omega arith) (omega arith)
 con-lies con.Original = lies _ (omega arith) (omega arith) (omega arith)
 
-field-lies : (f : Field) → Lies (place_of f)
-field-lies (Professional f) = pro-lies f
-field-lies (Consumer f) = con-lies f
+use-is : IsPlace (place 0 0 1)
+use-is = record { within = omega arith; inside = omega arith }
 
 pub field-is : (f : Field) → IsPlace (place_of f)
-field-is f = (field-lies f).is
+field-is Use = use-is
+field-is (Professional f) = (pro-lies f).is
+field-is (Consumer f) = (con-lies f).is
 
-use-stays : (f : Field) (code : ℕ) (bytes : List ℕ) → length bytes ≡ 24
+pub behind-use : (f : Field) → f ≢ Use → 1 ≤ first_bit (place_of f)
+behind-use Use other = absurd (other refl)
+behind-use (Professional f) other = (pro-lies f).behind
+behind-use (Consumer f) other = (con-lies f).behind
+
+use-stays : (f : Field) (code : ℕ) (bytes : List ℕ) → length bytes ≡ 24 → f ≢ Use
     → is_professional (with_field (place_of f) code bytes) ≡ is_professional bytes
-use-stays f code bytes e =
-    let l = field-lies f in
-    let b = l.behind in
-    ap (λ n. eqb n 1) (others-stay (place_of f) code bytes 0 0 1 l.is e (inl (omega arith)))
+use-stays f code bytes e other =
+    let b = behind-use f other in
+    ap (λ n. eqb n 1) (others-stay (place_of f) code bytes 0 0 1 (field-is f) e (inl (omega arith)))
 
 under-stays : (f : Field) (code : ℕ) (bytes : List ℕ) → length bytes ≡ 24
     → under f (with_field (place_of f) code bytes) ≡ under f bytes
+under-stays Use code bytes e = refl
 under-stays (Professional pro.Payload) code bytes e = refl
 under-stays (Professional pro.Emphasis) code bytes e = refl
 under-stays (Professional pro.Unlocked) code bytes e = refl
@@ -155,23 +161,30 @@ unfolding with_field
 length-with_field place code bytes = length-set bytes place.byte _
 
 code-stays : (f : Field) (o : Option ℕ) (bytes : List ℕ) → length bytes ≡ 24
-    → (length (with_code (place_of f) o bytes) ≡ 24)
-    × (is_professional (with_code (place_of f) o bytes) ≡ is_professional bytes)
-    × (under f (with_code (place_of f) o bytes) ≡ under f bytes)
-code-stays f None bytes e = (e, refl, refl)
+    → (length (with_code (place_of f) o bytes) ≡ 24) × (under f (with_code (place_of f) o bytes) ≡ under f bytes)
+code-stays f None bytes e = (e, refl)
 code-stays f (Some code) bytes e =
-    (length-with_field (place_of f) code bytes ∙ e, use-stays f code bytes e, under-stays f code bytes e)
+    (length-with_field (place_of f) code bytes ∙ e, under-stays f code bytes e)
 
 pub meaning-stays : MeaningStays
 meaning-stays setting bytes e = code-stays setting.field (code_for setting bytes) bytes e
 
+use-stays-with : (f : Field) (o : Option ℕ) (bytes : List ℕ) → length bytes ≡ 24 → f ≢ Use
+    → is_professional (with_code (place_of f) o bytes) ≡ is_professional bytes
+use-stays-with f None bytes e other = refl
+use-stays-with f (Some code) bytes e other = use-stays f code bytes e other
+
+pub use-kept : UseStays
+use-kept setting bytes e other = use-stays-with setting.field (code_for setting bytes) bytes e other
+
 pub setting-back : SettingIsReadBack
 setting-back setting bytes code e h =
     ap (λ o. number_at (place_of setting.field) (with_code (place_of setting.field) o bytes)) h
-    ∙ code-back (place_of setting.field) code bytes (field-lies setting.field).is e
+    ∙ code-back (place_of setting.field) code bytes (field-is setting.field) e
 
 -- the number that tells what the codes mean has three bits at most
 pub under-few : (f : Field) (bytes : List ℕ) → under f bytes < 8
+under-few Use bytes = omega arith
 under-few (Professional pro.Payload) bytes = omega arith
 under-few (Professional pro.Emphasis) bytes = omega arith
 under-few (Professional pro.Unlocked) bytes = omega arith

@@ -13,7 +13,7 @@ use Rattle.aes3_status.specs.declared.field.ProField.TheVariants as pro
 use Rattle.aes3_status.specs.declared.field.ConField.{ConField}
 use Rattle.aes3_status.specs.declared.field.ConField.TheVariants as con
 use Rattle.aes3_status.specs.declared.field.Field.{Field}
-use Rattle.aes3_status.specs.declared.field.Field.TheVariants.{Professional, Consumer}
+use Rattle.aes3_status.specs.declared.field.Field.TheVariants.{Use, Professional, Consumer}
 use Rattle.aes3_status.specs.declared.setting.Setting.{Setting}
 use Rattle.aes3_status.specs.Bits.{number_at}
 use Rattle.aes3_status.specs.Consumer.{con_fields, con_place}
@@ -21,7 +21,7 @@ use Rattle.aes3_status.specs.Professional.{pro_fields, pro_place}
 use Rattle.aes3_status.specs.Statuses.{is_professional}
 use Rattle.aes3_status.specs.Settings.{place_of, is_for, set_by, told_by, under, with_code, with_field}
 use Rattle.aes3_status.specs.SettingLaws.{first_bit, OtherCodesStay, OtherMeaningsStay}
-use Rattle.aes3_status.proofs.SettingLemmas.{field-is, others-stay}
+use Rattle.aes3_status.proofs.SettingLemmas.{behind-use, field-is, others-stay}
 
 -- one ends before the other begins
 abbrev apart : Place → Place → Bool
@@ -188,6 +188,11 @@ stays-apart f g code bytes e (inr h) =
 same-use : (f g : Field) (code : ℕ) (bytes : List ℕ) → length bytes ≡ 24 → is_for f bytes ≡ true
     → is_for g bytes ≡ true → g ≢ f
     → number_at (place_of g) (with_field (place_of f) code bytes) ≡ number_at (place_of g) bytes
+same-use Use g code bytes e h k other = stays-apart Use g code bytes e (inr (behind-use g other))
+same-use (Professional f) Use code bytes e h k other =
+    stays-apart (Professional f) Use code bytes e (inl (behind-use (Professional f) (λ s. cc)))
+same-use (Consumer f) Use code bytes e h k other =
+    stays-apart (Consumer f) Use code bytes e (inl (behind-use (Consumer f) (λ s. cc)))
 same-use (Professional f) (Professional g) code bytes e h k other =
     stays-apart (Professional f) (Professional g) code bytes e (pro-apart g f (λ s. other (ap Professional s)))
 same-use (Consumer f) (Consumer g) code bytes e h k other =
@@ -217,6 +222,7 @@ other-codes-stay setting f bytes e k other =
 
 -- ---- the field that tells what the codes of another mean is for the same use
 told-use : (f : Field) (bytes : List ℕ) → IfSome (told_by f) (λ g. is_for g bytes ≡ is_for f bytes)
+told-use Use bytes = tt
 told-use (Professional pro.Payload) bytes = tt
 told-use (Professional pro.Emphasis) bytes = tt
 told-use (Professional pro.Unlocked) bytes = tt

@@ -2,6 +2,7 @@
 use Rattle.std.specs.Prelude.{ℕ, List, Some, true, ◌≡◌, ◌≢◌, ◌≤◌, ◌<◌, ◌⊎◌, ◌+◌, ◌*◌, ◌%◌, ◌^◌, length}
 use Rattle.aes3_status.specs.declared.place.Place.{Place}
 use Rattle.aes3_status.specs.declared.field.Field.{Field}
+use Rattle.aes3_status.specs.declared.field.Field.TheVariants.{Use}
 use Rattle.aes3_status.specs.declared.setting.Setting.{Setting}
 use Rattle.aes3_bits.specs.Bits.{low_bits}
 use Rattle.aes3_status.specs.Bits.{status_bits, field, number_at}
@@ -34,11 +35,15 @@ OtherFieldsStay = (place : Place) (code : ℕ) (bytes : List ℕ) (byte bit coun
     → (8 * byte + bit + count ≤ first_bit place) ⊎ (first_bit place + place.count ≤ 8 * byte + bit)
     → field byte bit count (with_field place code bytes) ≡ field byte bit count bytes
 
--- a setting leaves the use of a status as it is, and what tells the meaning of its field's codes
+-- a setting of another field leaves the use of a status as it is
+abbrev pub UseStays : Type 0
+UseStays = (setting : Setting) (bytes : List ℕ) → length bytes ≡ 24 → setting.field ≢ Use
+    → is_professional (set_by setting bytes) ≡ is_professional bytes
+
+-- a setting leaves what tells the meaning of its field's codes
 abbrev pub MeaningStays : Type 0
 MeaningStays = (setting : Setting) (bytes : List ℕ) → length bytes ≡ 24
-    → (length (set_by setting bytes) ≡ 24) × (is_professional (set_by setting bytes) ≡ is_professional bytes)
-    × (under setting.field (set_by setting bytes) ≡ under setting.field bytes)
+    → (length (set_by setting bytes) ≡ 24) × (under setting.field (set_by setting bytes) ≡ under setting.field bytes)
 
 -- where it has a code for the status, the field has it then
 abbrev pub SettingIsReadBack : Type 0
@@ -46,7 +51,7 @@ SettingIsReadBack = (setting : Setting) (bytes : List ℕ) (code : ℕ) → leng
     → code_for setting bytes ≡ Some code
     → number_at (place_of setting.field) (set_by setting bytes) ≡ code % 2 ^ (place_of setting.field).count
 
--- a setting leaves the code of each other field, where the status is for that field's use
+-- a setting leaves the code of each other field that the status has
 abbrev pub OtherCodesStay : Type 0
 OtherCodesStay = (setting : Setting) (f : Field) (bytes : List ℕ) → length bytes ≡ 24 → is_for f bytes ≡ true
     → f ≢ setting.field

@@ -1,6 +1,6 @@
 -- Fields of channel status that get another code.
-use Rattle.std.specs.Prelude.{ℕ, List, ◌++◌, Bool, not, Option, Some, None, ◌+◌, length, take, drop, get_or, slice_set}
-use Rattle.std.specs.Prelude.{fold, if◌then◌else◌}
+use Rattle.std.specs.Prelude.{ℕ, List, ◌++◌, Bool, true, not, Option, Some, None, ◌+◌, length, take, drop, get_or}
+use Rattle.std.specs.Prelude.{slice_set, fold, if◌then◌else◌}
 use Rattle.std.specs.Option.{option_map_or}
 use Rattle.aes3_status.specs.declared.place.Place.{Place}
 use Rattle.aes3_status.specs.declared.field.ProField.{ProField}
@@ -8,10 +8,10 @@ use Rattle.aes3_status.specs.declared.field.ProField.TheVariants as pro
 use Rattle.aes3_status.specs.declared.field.ConField.{ConField}
 use Rattle.aes3_status.specs.declared.field.ConField.TheVariants as con
 use Rattle.aes3_status.specs.declared.field.Field.{Field}
-use Rattle.aes3_status.specs.declared.field.Field.TheVariants.{Professional, Consumer}
+use Rattle.aes3_status.specs.declared.field.Field.TheVariants.{Use, Professional, Consumer}
 use Rattle.aes3_status.specs.declared.setting.Setting.{Setting}
 use Rattle.aes3_bits.specs.Bits.{low_bits, number}
-use Rattle.aes3_status.specs.Bits.{byte_bits, number_at}
+use Rattle.aes3_status.specs.Bits.{byte_bits, number_at, place}
 use Rattle.aes3_status.specs.Statuses.{is_professional}
 use Rattle.aes3_status.specs.Professional as professional
 use Rattle.aes3_status.specs.Consumer as consumer
@@ -28,11 +28,13 @@ with_field place code bytes =
 
 -- where a field stands
 abbrev pub place_of : Field → Place
+place_of Use = place 0 0 1
 place_of (Professional f) = professional.pro_place f
 place_of (Consumer f) = consumer.con_place f
 
--- whether a status is for the field's use
+-- whether a status has the field: each has the one of its use, and the others those for its use
 abbrev pub is_for : Field → List ℕ → Bool
+is_for Use bytes = true
 is_for (Professional f) bytes = is_professional bytes
 is_for (Consumer f) bytes = not (is_professional bytes)
 
@@ -47,6 +49,7 @@ con_told_by con.Word = Some (Consumer con.Greatest)
 con_told_by f = None
 
 abbrev pub told_by : Field → Option Field
+told_by Use = None
 told_by (Professional f) = pro_told_by f
 told_by (Consumer f) = con_told_by f
 

@@ -47,9 +47,11 @@ pub enum ConField {
     Original,
 }
 
-/// A field of channel status for one of the two uses.
+/// A field of channel status: the use itself, or a field for one of the two uses.
 #[derive(Clone, Copy, PartialEq, Eq, Debug)]
 pub enum Field {
+    /// The use of a status: 1 professional, 0 consumer (AES3-2, IEC 60958-1, byte 0 bit 0).
+    Use,
     /// Of professional status (AES3-2).
     Professional(ProField),
     /// Of consumer status (IEC 60958-3).
@@ -140,6 +142,7 @@ impl Field {
         ensures inside { result.first + result.count ≤ 8 }
     {
         match self {
+            Field::Use => place(0, 0, 1),
             Field::Professional(field) => field.place(),
             Field::Consumer(field) => field.place(),
         }
@@ -153,13 +156,14 @@ impl Field {
         1 << self.place().count
     }
 
-    /// Whether the status is for the field's use: byte 0 bit 0 is 1 for professional, 0 for
-    /// consumer use.
+    /// Whether the status has the field: one for professional or consumer use only where byte 0 bit
+    /// 0 says so.
     pub(crate) fn is_for(self, bytes: &[u8; 24]) -> bool
         ensures { result ≡ is_for self bytes.now }
     {
         let professional = is_for_professional_use(bytes);
         match self {
+            Field::Use => true,
             Field::Professional(_) => professional,
             Field::Consumer(_) => !professional,
         }

@@ -3,7 +3,7 @@
 ghost use Rattle.aes3_status.specs.Laws.{OneFlipIsFound, TwoFlipsAreFound, WeightsArePowers};
 ghost use Rattle.aes3_status.specs.SettingLaws.{CodeIsReadBack, MeaningStays, OnlyItsBitsChange};
 ghost use Rattle.aes3_status.specs.SettingLaws.{OtherCodesStay, OtherFieldsStay, OtherMeaningsStay};
-ghost use Rattle.aes3_status.specs.SettingLaws.{SettingIsReadBack};
+ghost use Rattle.aes3_status.specs.SettingLaws.{SettingIsReadBack, UseStays};
 
 /// The check tells of one or two inverted bits, wherever they stand.
 pub fn flips_are_found()
@@ -24,14 +24,15 @@ pub fn codes_are_read_back()
     ensures others { OtherFieldsStay }
 {}
 
-/// A setting changes neither the use of a status nor what tells the meaning of its field's codes,
-/// and where it has a code for the status, the field has it then.
+/// A setting changes what tells the meaning of its field's codes never, and the use of a status
+/// only where that is its field; where it has a code for the status, the field has it then.
 pub fn settings_are_read_back()
+    ensures use_stays { UseStays }
     ensures meaning { MeaningStays }
     ensures code { SettingIsReadBack }
 {}
 
-/// No two fields for one use have a bit in common: a setting leaves the code of each other field as
+/// No two fields that a status has have a bit in common: a setting leaves the code of each other field as
 /// it is, and what tells the meaning of its codes too, unless this is the field that it sets.
 pub fn fields_are_apart()
     ensures codes { OtherCodesStay }

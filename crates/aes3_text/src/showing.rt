@@ -40,20 +40,16 @@ fn show_lines<S: Source, T: Sink>(
     ensures passed_on { IfOk result (λ _. T.passed sink.new ≡ T.taken sink.new) }
 {
     let mut taker = Locked::new(StatusLines::new(detail, changes));
-    match drive(source, sink, max_bytes, input, &mut taker) {
-        Ok((bytes, cells)) => {
-            let tally = &taker.reporter.tally;
-            Ok(Counts {
-                bytes,
-                cells,
-                blocks: tally.blocks,
-                faults: tally.faults,
-                unfinished: tally.unfinished,
-                marks: 0,
-            })
-        }
-        Err(error) => Err(error),
-    }
+    let (bytes, cells) = drive(source, sink, max_bytes, input, &mut taker)?;
+    let tally = &taker.reporter.tally;
+    Ok(Counts {
+        bytes,
+        cells,
+        blocks: tally.blocks,
+        faults: tally.faults,
+        unfinished: tally.unfinished,
+        marks: 0,
+    })
 }
 
 /// Reads cells from any cell on, and writes two lines for each block that stands whole and closed

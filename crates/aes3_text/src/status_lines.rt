@@ -148,13 +148,9 @@ impl Reporter for StatusLines {
     ghost finished = { λ k. Tallies k.tally.blocks k.tally.faults k.tally.unfinished };
 
     fn tell<T: Sink>(&mut self, sink: &mut T, lock: &Lock, ending: Ending) -> Result<(), Fault> {
-        match self.put(sink, lock, ending) {
-            Ok(()) => {
-                self.tally.count(lock, ending);
-                Ok(())
-            }
-            Err(fault) => Err(fault),
-        }
+        self.put(sink, lock, ending)?;
+        self.tally.count(lock, ending);
+        Ok(())
     }
 
     fn finish<T: Sink>(&mut self, _sink: &mut T) -> Result<(), Fault> {

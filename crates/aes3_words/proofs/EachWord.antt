@@ -5,7 +5,7 @@ use Rattle.std.proofs.lemmas.List.{length-append, length-take-le, length-drop, t
 use Rattle.std.proofs.lemmas.List.{take-append-le, drop-append-le}
 use Rattle.std.proofs.Math.Seq.{take-add}
 use borrow.Rule.Slice.PartMut.{put_mid}
-use Rattle.aes3_words.specs.Lists.{each_word, first_place, next, up_to}
+use Rattle.aes3_words.specs.Lists.{each_word, next}
 
 -- what is made of a word is a word
 pub record Fours (f : ℕ → ℕ → ℕ → ℕ → ℕ → List ℕ) : Type 0 where
@@ -53,29 +53,6 @@ pub each-cut : (f : ℕ → ℕ → ℕ → ℕ → ℕ → List ℕ) (p m : ℕ
 each-cut f p m v w h l s =
     each-append f p m v w h l ∙ ap (λ t. each_word f p v ++ t) (few-stay f ((p + m) % 384) w s)
 
--- words more before a place
-pub up-more : (f : ℕ → ℕ → ℕ → ℕ → ℕ → List ℕ) (p m : ℕ) (v w : List ℕ) → p < 384 → length w ≡ 4 * m
-    → up_to f ((p + m) % 384) (v ++ w) ≡ up_to f p v ++ each_word f p w
-up-more f p m v w h l =
-    let size = length-append v w in
-    let n = length v / 4 in
-    let r = length v % 4 in
-    let same : length (v ++ w) % 4 ≡ r = omega (arith, size, l) in
-    let words : length (v ++ w) / 4 ≡ n + m = omega (arith, size, l) in
-    let first : first_place ((p + m) % 384) (n + m) ≡ first_place p n = omega arith in
-    let left = length-drop r v in
-    let whole : length (drop r v) ≡ 4 * n = omega (arith, left) in
-    let at : (first_place p n + n) % 384 ≡ p = omega (arith, h) in
-    let below : first_place p n < 384 = omega arith in
-    ap₂ ◌++◌
-    (ap (λ k. take k (v ++ w)) same ∙ take-append-le r v w (omega arith))
-    (ap₂ (λ q k. each_word f q (drop k (v ++ w)))
-    (ap (first_place ((p + m) % 384)) words ∙ first) same
-    ∙ ap (each_word f (first_place p n)) (drop-append-le r v w (omega arith))
-    ∙ each-append f (first_place p n) n (drop r v) w below whole
-    ∙ ap (λ q. each_word f (first_place p n) (drop r v) ++ each_word f q w) at)
-    ∙ sym (append_assoc (take r v) (each_word f (first_place p n) (drop r v)) (each_word f p w))
-
 -- the words of a list before word n, and those from it on that are still to come
 front-words : (f : ℕ → ℕ → ℕ → ℕ → ℕ → List ℕ) → Fours f → (p n : ℕ) (xs now : List ℕ)
     → now ≡ each_word f p (take n xs) ++ drop n xs → n ≤ length xs
@@ -97,7 +74,8 @@ word-more f k p i q n m xs now ys e below is h s at made =
     ap₂ ◌++◌ r.0 (ap₂ ◌++◌
     (made ∙ ap₂ (λ a t. each_word f a (take 4 t)) at r.1)
     (ap₂ drop s r.1 ∙ drop-drop 4 n xs))
-    ∙ sym (append_assoc (each_word f p (take n xs)) (each_word f ((p + i) % 384) (take 4 (drop n xs))) (drop (n + 4) xs))
+    ∙ sym (append_assoc (each_word f p (take n xs))
+    (each_word f ((p + i) % 384) (take 4 (drop n xs))) (drop (n + 4) xs))
     ∙ ap (λ t. t ++ drop (n + 4) xs)
     (sym (each-append f p i (take n xs) (take 4 (drop n xs)) below (omega (arith, size, is)))
     ∙ ap (each_word f p) (sym (take-add n 4 xs)))

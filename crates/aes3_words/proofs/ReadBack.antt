@@ -1,20 +1,16 @@
 -- Words that were written in a form, read again, and words whose codes are wrong.
 use Rattle.std.proofs.Common.{◌≡◌, ◌<◌, ◌+◌, ◌*◌, ◌/◌, ◌%◌, ◌==◌, ℕ, suc, zero, inl, inr, Bool, true, false}
-use Rattle.std.proofs.Common.{List, [], ◌∷◌, ◌++◌, length, take, drop, get_or, refl, sym, ap, ◌∙◌, arith}
-use Rattle.std.proofs.Common.{append_assoc, take-append-drop, if◌then◌else◌, ◌||◌}
+use Rattle.std.proofs.Common.{List, [], ◌∷◌, ◌++◌, get_or, refl, sym, ap, ◌∙◌, arith}
+use Rattle.std.proofs.Common.{if◌then◌else◌, ◌||◌}
 use Rattle.std.specs.Prelude.{◌⊎◌, ◌↔◌}
 use Rattle.std.proofs.lemmas.Bool.{eq-eqb, ne_eqb}
-use Rattle.std.proofs.lemmas.List.{length-take-le, length-drop}
 use Rattle.aes3_words.specs.declared.form.Words.{Words}
 use Rattle.aes3_words.specs.declared.form.Words.TheVariants.{Own, Alsa, Am824}
 use Rattle.aes3_words.specs.Forms.{code, code_in, is_within, own_word, with_code, without_code}
 use Rattle.aes3_words.specs.Forms.{written_word}
-use Rattle.aes3_words.specs.Lists.{each_word, from_block, most_left_out, next, own_of, up_to, written_of}
-use Rattle.aes3_words.specs.Told.{own_ending}
+use Rattle.aes3_words.specs.Lists.{each_word, from_block, most_left_out, next, own_of, written_of}
 use Rattle.aes3_words.specs.Laws.{AreOctets, HaveNoCodes, IsRight}
-use Rattle.aes3_words.proofs.EachWord.{each-cut, up-more}
 use Rattle.aes3_words.proofs.OneWord.{am824-back, code-back, few-code}
-use Rattle.aes3_words.proofs.Reading.{ending-at}
 
 -- ALSA's codes are not 0
 pub coded-alsa : (p : ℕ) → 0 < code Alsa p
@@ -139,25 +135,3 @@ only-right Am824 p a b c d h =
         | inr e ↦ absurd cc
       ],
     )
-
--- octets behind others
-pub from-first : (form : Words) (m k : ℕ) (before octets : List ℕ) → length octets ≡ 4 * m + k → k < 4
-    → own_ending form (m % 384) k (before ++ octets)
-    ≡ up_to (own_word form) 0 before ++ each_word (own_word form) 0 octets
-from-first form m k before octets l h =
-    let f = own_word form in
-    let words = take (4 * m) octets in
-    let cut = drop (4 * m) octets in
-    let size = length-take-le (4 * m) octets (omega (arith, l)) in
-    let left = length-drop (4 * m) octets in
-    let few : length cut ≡ k = omega (arith, left, l) in
-    let at : m % 384 ≡ (0 + m) % 384 = omega arith in
-    let parts = take-append-drop (4 * m) octets in
-    ap (own_ending form (m % 384) k)
-    (ap (λ t. before ++ t) (sym parts) ∙ sym (append_assoc before words cut))
-    ∙ ending-at form (m % 384) k (before ++ words) cut few
-    ∙ ap (λ q. up_to f q (before ++ words) ++ cut) at
-    ∙ ap (λ t. t ++ cut) (up-more f 0 m before words (omega arith) size)
-    ∙ append_assoc (up_to f 0 before) (each_word f 0 words) cut
-    ∙ ap (λ t. up_to f 0 before ++ t)
-    (sym (each-cut f 0 m words cut (omega arith) size (omega (arith, few, h))) ∙ ap (each_word f 0) parts)

@@ -2,8 +2,6 @@
 use Rattle.std.specs.Prelude.{ℕ, List, [], ◌∷◌, Bool, false, ◌+◌, ◌-◌, ◌*◌, ◌/◌, ◌%◌, ◌==◌, ◌||◌, if◌then◌else◌}
 use Rattle.aes3_words.specs.declared.form.Words.{Words}
 use Rattle.aes3_words.specs.declared.form.Words.TheVariants.{Own, Alsa, Am824}
-use Rattle.aes3_words.specs.declared.form.Way.{Way}
-use Rattle.aes3_words.specs.declared.form.Way.TheVariants.{Read, Write}
 
 -- one of three codes, by the place of a subframe in its block: of Z, of X in the first subframe of a frame, else of Y
 abbrev pub by_place : ℕ → ℕ → ℕ → ℕ → ℕ
@@ -58,8 +56,3 @@ own_word Own place a b c d = a ∷ b ∷ c ∷ d ∷ []
 own_word Alsa place a b c d =
     (if a % 16 == 0 then a else without_code (code Alsa place) a) ∷ b ∷ c ∷ d ∷ []
 own_word Am824 place a b c d = unwritten_word Am824 place a b c d
-
--- read or written
-abbrev pub word_by : Way → Words → ℕ → ℕ → ℕ → ℕ → ℕ → List ℕ
-word_by Read form = own_word form
-word_by Write form = written_word form

@@ -1,10 +1,9 @@
 -- The laws of words in other forms.
-use Rattle.std.specs.Prelude.{ℕ, List, ◌++◌, ◌≡◌, ◌<◌, ◌+◌, ◌*◌, ◌%◌, ◌⊎◌, ◌↔◌, Option, get_or, length}
+use Rattle.std.specs.Prelude.{ℕ, List, ◌≡◌, ◌<◌, ◌*◌, ◌%◌, ◌⊎◌, ◌↔◌, get_or}
 use Rattle.aes3_words.specs.declared.form.Words.{Words}
 use Rattle.aes3_words.specs.declared.form.Words.TheVariants.{Alsa}
 use Rattle.aes3_words.specs.Forms.{code, code_in, own_word, written_word}
-use Rattle.aes3_words.specs.Lists.{each_word, own_of, up_to, written_of}
-use Rattle.aes3_words.specs.Told.{own_ending, passed_told, written_told}
+use Rattle.aes3_words.specs.Lists.{own_of, written_of}
 
 -- numbers that are octets
 pub record AreOctets (octets : List ℕ) : Type 0 where
@@ -32,16 +31,3 @@ IsRight form place octet = (code_in form octet ≡ code form place) ⊎ ((form �
 abbrev pub OnlyRightAreLawful : Type 0
 OnlyRightAreLawful = (form : Words) (place a b c d : ℕ) → a < 256
     → (get_or (own_word form place a b c d) 0 0 % 16 ≡ 0 ↔ IsRight form place a)
-
--- octets behind others are read as they are by themselves, the first word at the first place of a block; a word that is
--- begun at their end stays
-abbrev pub ReadFromTheFirst : Type 0
-ReadFromTheFirst = (form : Words) (m begun : ℕ) (before octets : List ℕ) → length octets ≡ 4 * m + begun → begun < 4
-    → own_ending form (m % 384) begun (before ++ octets)
-    ≡ up_to (own_word form) 0 before ++ each_word (own_word form) 0 octets
-
--- where a sink of words tells that all it took was passed on, the sink behind it passed on all that it took
-abbrev pub PassedOnIsTaken : Type 0
-PassedOnIsTaken = (form : Words) (place : ℕ) (waiting begun : List ℕ) (taken passed : Option (List ℕ))
-    → passed_told form place waiting begun taken passed ≡ written_told form place waiting begun taken
-    → passed ≡ taken

@@ -1,4 +1,4 @@
 pub mod Forms
 pub mod Lists
-pub mod Told
+pub mod Reading
 pub mod Laws

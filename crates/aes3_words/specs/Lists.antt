@@ -1,5 +1,5 @@
 -- Octets of many words in a form.
-use Rattle.std.specs.Prelude.{ℕ, List, [], ◌∷◌, ◌++◌, ◌+◌, ◌*◌, ◌/◌, ◌%◌, suc, zero, take, drop, length, if◌then◌else◌}
+use Rattle.std.specs.Prelude.{ℕ, List, [], ◌∷◌, ◌++◌, ◌+◌, ◌%◌, suc, zero, if◌then◌else◌}
 use Rattle.aes3_words.specs.declared.form.Words.{Words}
 use Rattle.aes3_words.specs.Forms.{is_within, own_word, written_word}
 
@@ -35,13 +35,3 @@ own_of form octets = each_word (own_word form) 0 (from_block form most_left_out 
 
 abbrev pub written_of : Words → List ℕ → List ℕ
 written_of form octets = each_word (written_word form) 0 octets
-
--- the place of the first of n words behind which the word at this place stands
-abbrev pub first_place : ℕ → ℕ → ℕ
-first_place place n = (place + 383 * n) % 384
-
--- the words before the word at this place, counted back from there, as `f` makes them; octets before the first stay
-abbrev pub up_to : (ℕ → ℕ → ℕ → ℕ → ℕ → List ℕ) → ℕ → List ℕ → List ℕ
-up_to f place octets =
-    take (length octets % 4) octets
-    ++ each_word f (first_place place (length octets / 4)) (drop (length octets % 4) octets)

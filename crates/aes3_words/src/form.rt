@@ -2,7 +2,8 @@
 
 ghost use Rattle.std.specs.Prelude.{◌≡◌, ◌<◌};
 ghost use Rattle.aes3_words.specs.Forms.{by_place, code, is_within, own_word, with_code};
-ghost use Rattle.aes3_words.specs.Forms.{without_code, word_by, written_word};
+ghost use Rattle.aes3_words.specs.Forms.{without_code, written_word};
+ghost use Rattle.aes3_words.specs.Lists.{each_word};
 
 /// The form of the 32-bit words that a subframe is in, slots 4 to 31 and a code of its preamble.
 #[derive(Clone, Copy, PartialEq, Eq)]
@@ -15,13 +16,6 @@ pub enum Words {
     /// AM824 of IEC 61883-6 and SMPTE ST 2110-31: the highest octet first, with 0, 0, B, F, P, C, U
     /// and V in it, and 24 bits of audio behind it.
     Am824,
-}
-
-/// Whether words are read in a form or written in it.
-#[derive(Clone, Copy)]
-pub(crate) enum Way {
-    Read,
-    Write,
 }
 
 /// One of the codes of Z, X and Y, by the place of a subframe in its block.
@@ -68,7 +62,7 @@ impl Words {
 
     /// Whether a word that begins with this octet says that no block begins with it: its code is
     /// that of X or of Y.
-    pub(crate) fn is_within(self, octet: u8) -> bool
+    pub fn is_within(self, octet: u8) -> bool
         ensures { result ≡ is_within self octet }
     {
         match self {
@@ -79,7 +73,7 @@ impl Words {
     }
 
     /// A word of a block file in this form.
-    fn written_word(self, place: usize, a: u8, b: u8, c: u8, d: u8) -> [u8; 4]
+    pub(crate) fn written_word(self, place: usize, a: u8, b: u8, c: u8, d: u8) -> [u8; 4]
         ensures { result ≡ written_word self place a b c d }
     {
         let coded = with_code(self.code(place), a);
@@ -113,13 +107,10 @@ impl Words {
         }
     }
 
-    /// A word that is read in this form or written in it.
-    pub(crate) fn word(self, way: Way, place: usize, a: u8, b: u8, c: u8, d: u8) -> [u8; 4]
-        ensures { result ≡ word_by way self place a b c d }
+    /// The word of a block file that one in this form is read as, at this place of its block.
+    pub fn read_word(self, place: usize, word: [u8; 4]) -> [u8; 4]
+        ensures { result ≡ each_word (own_word self) place word }
     {
-        match way {
-            Way::Read => self.own_word(place, a, b, c, d),
-            Way::Write => self.written_word(place, a, b, c, d),
-        }
+        self.own_word(place, word[0], word[1], word[2], word[3])
     }
 }

@@ -1,7 +1,6 @@
 //! Laws of words in other forms: the contract of each function is a law over all words or lists.
 
-ghost use Rattle.aes3_words.specs.Laws.{OnlyRightAreLawful, PassedOnIsTaken, ReadFromTheFirst, WrittenAreRead};
-ghost use Rattle.aes3_words.specs.Laws.{WrittenHaveCodes};
+ghost use Rattle.aes3_words.specs.Laws.{OnlyRightAreLawful, WrittenAreRead, WrittenHaveCodes};
 
 /// What is written in a form is read back from it, of words that have 0 in bits 0 to 3.
 pub fn written_are_read()
@@ -17,15 +16,4 @@ pub fn written_have_codes()
 /// one with another code stays unlawful there.
 pub fn only_right_are_lawful()
     ensures { OnlyRightAreLawful }
-{}
-
-/// What a [`crate::WordSource`] tells of octets behind others is what they are read as by themselves,
-/// the first word at the first place of a block.
-pub fn read_from_the_first()
-    ensures { ReadFromTheFirst }
-{}
-
-/// Where a [`crate::WordSink`] tells that it passed on all that it took, so did the sink behind it.
-pub fn passed_on_is_taken()
-    ensures { PassedOnIsTaken }
 {}

@@ -1,25 +1,16 @@
-//! The octets of many words, read in a form or written in it.
+//! The octets of many words, written in a form.
 
-ghost use Rattle.std.specs.Prelude.{◌≡◌, ◌<◌, ◌+◌, ◌%◌, ℕ, get_or, length};
-ghost use Rattle.aes3_words.specs.Forms.{word_by};
-ghost use Rattle.aes3_words.specs.Lists.{each_word};
+ghost use Rattle.std.specs.Prelude.{◌≡◌, ℕ, ◌<◌, get_or, length};
+ghost use Rattle.aes3_words.specs.Forms.{written_word};
+ghost use Rattle.aes3_words.specs.Lists.{each_word, written_of};
 
-use crate::form::{Way, Words};
+use crate::form::Words;
 
 /// How many subframes a block has.
 const BLOCK_WORDS: usize = 384;
 
 /// How many octets a word has.
-pub(crate) const WORD_LEN: usize = 4;
-
-/// The place that many words behind a place.
-pub(crate) fn place_behind(place: usize, words: usize) -> usize
-    requires within { place < BLOCK_WORDS }
-    ensures place { result ≡ (place + words) % BLOCK_WORDS }
-    ensures within { result < BLOCK_WORDS }
-{
-    (place + words % BLOCK_WORDS) % BLOCK_WORDS
-}
+const WORD_LEN: usize = 4;
 
 /// What octets are.
 #[inline(always)]
@@ -27,32 +18,28 @@ fn are_octets(octets: &[u8])
     ensures { (i : ℕ) → get_or octets.now i 0 < 256 }
 {}
 
-/// Puts each word into its form or takes it out of it, the first at this place of a block; octets at
-/// the end that fill no word stay.
-pub(crate) fn convert(octets: &mut [u8], way: Way, form: Words, place: usize)
-    requires { place < BLOCK_WORDS }
-    ensures words { octets.new ≡ each_word (word_by way form) place octets.old }
+/// Puts each word of a block file into this form; octets at the end that fill no word stay.
+pub fn write_words(octets: &mut [u8], form: Words)
+    ensures words { octets.new ≡ written_of form octets.old }
     ensures fits { (i : ℕ) → get_or octets.old i 0 < 256 }
 {
     are_octets(octets);
     let words = octets.len() / WORD_LEN;
     for i in 0..words {
-        let at = place_behind(place, i);
-        convert_one(
+        write_one(
             &mut octets[WORD_LEN * i..WORD_LEN * i + WORD_LEN],
-            way,
             form,
-            at,
+            i % BLOCK_WORDS,
         );
     }
 }
 
 /// The same of the octets of one word.
 #[inline(always)]
-fn convert_one(octets: &mut [u8], way: Way, form: Words, place: usize)
+fn write_one(octets: &mut [u8], form: Words, place: usize)
     requires { length octets.old ≡ WORD_LEN }
-    ensures { octets.new ≡ each_word (word_by way form) place octets.old }
+    ensures { octets.new ≡ each_word (written_word form) place octets.old }
 {
-    let word = form.word(way, place, octets[0], octets[1], octets[2], octets[3]);
+    let word = form.written_word(place, octets[0], octets[1], octets[2], octets[3]);
     octets.copy_from_slice(&word);
 }

@@ -1,4 +1,4 @@
-use Rattle.aes3_account_laws.proofs.AccountFronts.{account-stands}
+use Rattle.aes3_gaps.proofs.BegunAccounts.{account-stands}
 use Rattle.aes3_account_laws.proofs.Covering.{begun-covers, accounted-soon}
 use Rattle.aes3_account_laws.proofs.account_is_in_time.Goals as goal
 

@@ -38,6 +38,22 @@ pub struct aes3_report {
     pub why: u8,
 }
 
+/// What has been told of a lock's cells, in memory of its caller.
+#[repr(C)]
+#[derive(Clone, Copy)]
+pub struct aes3_account {
+    pub state: [u64; 2],
+}
+
+/// A gap: cells in a row that lie in no whole block.
+#[repr(C)]
+#[derive(Clone, Copy)]
+pub struct aes3_gap {
+    pub at: u64,
+    pub cells: u64,
+    pub counts: u8,
+}
+
 /// The fields of a status for professional use.
 #[repr(C)]
 #[derive(Clone, Copy, Debug, Default, PartialEq, Eq)]
@@ -108,6 +124,8 @@ pub struct aes3_capture {
 const _: () = {
     assert!(core::mem::size_of::<aes3_lock>() == 3104);
     assert!(core::mem::size_of::<aes3_report>() == 1560);
+    assert!(core::mem::size_of::<aes3_account>() == 16);
+    assert!(core::mem::size_of::<aes3_gap>() == 24);
     assert!(core::mem::size_of::<aes3_professional>() == 32);
     assert!(core::mem::size_of::<aes3_consumer>() == 33);
     assert!(core::mem::size_of::<aes3_capture>() == 80);
@@ -134,6 +152,10 @@ extern "C" {
         report: *mut aes3_report,
     ) -> usize;
     pub fn aes3_lock_finish(lock: *const aes3_lock, report: *mut aes3_report);
+    pub fn aes3_account_init(account: *mut aes3_account);
+    pub fn aes3_account_before(account: *mut aes3_account, report: *const aes3_report, gap: *mut aes3_gap) -> bool;
+    pub fn aes3_account_passed(account: *mut aes3_account, seen: u64, gap: *mut aes3_gap) -> bool;
+    pub fn aes3_account_end(account: *mut aes3_account, seen: u64, gap: *mut aes3_gap) -> bool;
     pub fn aes3_encode_block(words: *const u32, before: u8, cells: *mut u64) -> u32;
     pub fn aes3_block_status(words: *const u32, channel: u8, status: *mut u8) -> u32;
     pub fn aes3_block_validity(words: *const u32, channel: u8, bits: *mut u8) -> u32;

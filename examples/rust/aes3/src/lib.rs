@@ -16,6 +16,7 @@
 #![cfg_attr(not(feature = "std"), no_std)]
 #![warn(missing_docs)]
 
+mod account;
 mod block;
 mod capture;
 mod error;
@@ -23,6 +24,7 @@ mod lock;
 mod status;
 mod words;
 
+pub use account::{Account, Gap};
 pub use aes3_sys::{aes3_capture as Capture, aes3_consumer as Consumer, aes3_professional as Professional};
 pub use block::{Block, Channel, BLOCK_CELLS, BLOCK_WORDS};
 pub use capture::{cells_of_samples, room_for, Unit};

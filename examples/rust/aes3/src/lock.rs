@@ -62,6 +62,32 @@ impl Report {
     }
 }
 
+impl Report {
+    /// As the library tells it, but for the words of a block.
+    pub(crate) fn told(&self) -> sys::aes3_report {
+        let none = nothing();
+        match *self {
+            Report::Whole { at, before, .. } => {
+                sys::aes3_report { at, before: before.into(), kind: sys::AES3_WHOLE, ..none }
+            }
+            Report::Marked { at, before, wrong } => {
+                sys::aes3_report { at, before: before.into(), wrong, kind: sys::AES3_MARKED, ..none }
+            }
+            Report::Fault { at, cell, why } => {
+                let why = match why {
+                    Why::Preamble => sys::AES3_PREAMBLE,
+                    Why::Biphase => sys::AES3_BIPHASE,
+                    Why::Unclosed => sys::AES3_UNCLOSED,
+                };
+                sys::aes3_report { at, cell, why, kind: sys::AES3_FAULT, ..none }
+            }
+            Report::Unfinished { at, cells } => {
+                sys::aes3_report { at, cell: cells, kind: sys::AES3_UNFINISHED, ..none }
+            }
+        }
+    }
+}
+
 /// As a line of `aes3 check`.
 impl fmt::Display for Report {
     fn fmt(&self, to: &mut fmt::Formatter<'_>) -> fmt::Result {

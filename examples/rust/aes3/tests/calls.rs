@@ -1,6 +1,6 @@
 //! Each call, with answers that are known.
 
-use aes3::{Block, Channel, Check, Error, Lock, Report, Status, Why, BLOCK_CELLS, BLOCK_WORDS};
+use aes3::{Account, Block, Channel, Check, Error, Gap, Lock, Report, Status, Why, BLOCK_CELLS, BLOCK_WORDS};
 
 /// A word of a block with its parity.
 fn word(sample: u32, status: bool) -> u32 {
@@ -152,6 +152,33 @@ fn bits_beside_the_audio() {
     assert_eq!(other.status(Channel::Two), Ok(status));
     other.words[9] ^= 1;
     assert_eq!(other.set_user(Channel::One, &[0; 24]), Err(Error::Unlawful { word: 9 }));
+}
+
+#[test]
+fn gaps() {
+    let block_cells = BLOCK_CELLS as u64;
+    let mut account = Account::new();
+    let mut told = Vec::new();
+    account.passed(2 * block_cells, |gap| told.push(gap));
+    assert_eq!(told, [Gap { at: 0, cells: block_cells, counts: true }]);
+    account.before(&Report::Fault { at: 2 * block_cells - 1, cell: 2 * block_cells, why: Why::Biphase }, |gap| {
+        told.push(gap)
+    });
+    assert_eq!(told.len(), 1);
+    let whole = |at| Report::Whole { at, before: false, block: Block::silence() };
+    account.before(&whole(block_cells + 7), |gap| told.push(gap));
+    account.before(&whole(2 * block_cells + 9), |gap| told.push(gap));
+    account.clone().end(3 * block_cells + 9, |gap| panic!("{gap}"));
+    account.end(3 * block_cells + 10, |gap| told.push(gap));
+    assert_eq!(
+        told[1..],
+        [
+            Gap { at: block_cells, cells: 7, counts: false },
+            Gap { at: 2 * block_cells + 7, cells: 2, counts: true },
+            Gap { at: 3 * block_cells + 9, cells: 1, counts: false },
+        ]
+    );
+    assert_eq!(told[1].to_string(), "gap at 24576 cells 7");
 }
 
 #[test]

@@ -95,10 +95,10 @@ to_bits-requires-clause-channel c =
     c.in-text-3.is
 
 pub returns-in-encode-clause-job : goal.returns-in-encode-clause-job
-returns-in-encode-clause-job c = (c.in-encode.is, c.form-output.ensures)
+returns-in-encode-clause-job c = (c.in-encode.is, c.form-output.ensures, c.words.ensures)
 
 pub returns-in-decode-clause-job : goal.returns-in-decode-clause-job
-returns-in-decode-clause-job c = (c.in-decode.is, c.input_form-input.ensures)
+returns-in-decode-clause-job c = (c.in-decode.is, c.input_form-input.ensures, c.words-in-decode.ensures)
 
 pub returns-in-normal-clause-job : goal.returns-in-normal-clause-job
 returns-in-normal-clause-job c = (c.in-normal.is, c.input_form-input.ensures, c.form-output.ensures)

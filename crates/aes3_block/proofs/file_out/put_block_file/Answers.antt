@@ -1,14 +1,5 @@
-use Rattle.std.proofs.Common.{arith, ◌∙◌}
 use Rattle.aes3_cell.proofs.Writing.{wrote-is}
-use Rattle.aes3_frame.proofs.BlockLemmas.{block_slots_384}
-use Rattle.aes3_frame.proofs.Files.{bytes-of-payloads}
 use Rattle.aes3_block.proofs.file_out.put_block_file.Goals as goal
 
 pub returns : goal.returns
-returns g c =
-    let n = block_slots_384 in
-    let k = c.words.ensures.count in
-    wrote-is (c.bytes_of_words.ensures.bytes
-    ∙ bytes-of-payloads c.words.result.now c.args.block.now c.words.ensures.payloads
-    (λ i h. c.bytes_of_words.ensures.fits i (omega arith))
-    (λ i h. c.words.ensures.lawful i (omega arith))) c.write_all.ensures
+returns g c = wrote-is c.bytes_of_block.ensures c.write_all.ensures

@@ -18,4 +18,5 @@ returns-clause-spread c = λ counts spread displaced narrow spreads.
 
 pub returns-clause-tolerance : goal.returns-clause-tolerance
 returns-clause-tolerance c = λ counts cell part displaced about enough spreads.
-    returns-clause-spread c counts (tolerance cell) displaced (tolerance-narrow c.args.bounds cell part about enough) spreads
+    returns-clause-spread c counts (tolerance cell) displaced
+    (tolerance-narrow c.args.bounds cell part about enough) spreads

@@ -1,5 +1,6 @@
 use Rattle.std.proofs.Common.{◌+◌, ◌∙◌, sym, ap, refl, arith, drop}
 use Rattle.std.specs.List.{flat_map}
+use Rattle.std.proofs.lemmas.Result.{err_from_is_err_and}
 use Rattle.aes3_level.specs.Words.{word_cells}
 use Rattle.aes3_cell.specs.Written.{bytes_of}
 use Rattle.aes3_cell.proofs.Growing.{grew-none, grew-join, grew-is, front-is, front-join, front-more}
@@ -13,22 +14,23 @@ loop-word-init g c = record { grew = grew-is (sym (bytes-nothing c.args.form)) (
 pub loop-word-preserved : goal.loop-word-preserved
 loop-word-preserved g c = record {
   grew = grew-is (bytes-words c.args.form c.args.words.now c.loop-word.word-index c.loop-word-test.true)
-      (grew-join c.loop-word.invariant.grew c.in-Ok.ensures.grew);
-  quiet = c.in-Ok.ensures.count ∙ c.loop-word.invariant.quiet;
+      (grew-join c.loop-word.invariant.grew c.in_ok-put_word.ensures.grew);
+  quiet = c.in_ok-put_word.ensures.count ∙ c.loop-word.invariant.quiet;
 }
 
-pub returns-in-Err : goal.returns-in-Err
-returns-in-Err g c =
+pub returns-in_err-put_word : goal.returns-in_err-put_word
+returns-in_err-put_word g c =
     let words = c.args.words.now in
     let i = c.loop-word.word-index in
-    record {
+    let error = err_from_is_err_and c.from_residual.result c.from_residual.ensures.1 in
+    rw error.1 (record {
       grew = tt;
       count = tt;
       err = (
-        c.in-Err.ensures.err.0 ∙ ap (λ n. n + 1) c.loop-word.invariant.quiet,
+        c.in_err-put_word.ensures.err.0 ∙ ap (λ n. n + 1) c.loop-word.invariant.quiet,
         front-is (bytes-split c.args.form words (i + 1) (omega arith))
             (front-more (front-is (bytes-words c.args.form words i c.loop-word-test.true)
-            (front-join c.loop-word.invariant.grew c.in-Err.ensures.err.1))
+            (front-join c.loop-word.invariant.grew c.in_err-put_word.ensures.err.1))
             (bytes_of c.args.form (flat_map word_cells (drop (i + 1) words)))),
       );
-    }
+    })

@@ -1,5 +1,6 @@
 use Rattle.std.proofs.Common.{◌+◌, ◌∙◌, ap, sym, refl, arith, length, drop, take, length-drop, append-nil}
 use Rattle.std.specs.List.{flat_map}
+use Rattle.std.proofs.lemmas.Result.{err_from_is_err_and}
 use Rattle.std.proofs.lemmas.Slice.{between_to_end}
 use Rattle.aes3_level.specs.Words.{word_cells}
 use Rattle.aes3_cell.specs.Written.{bytes_of}
@@ -30,17 +31,17 @@ loop-many-preserved g c =
       within = omega (arith, enough, l);
       grew = grew-is (bytes-block c.args.form words at 16 within)
           (grew-join c.loop-many.invariant.grew
-          (grew-is many (rw c.in-Ok-true.field-0-test at c.in-Ok-true.ensures.cells)));
-      quiet = c.in-Ok-true.ensures.count ∙ c.loop-many.invariant.quiet;
+          (grew-is many (rw c.if-not-branch.false at c.in_ok-put_many.ensures.cells)));
+      quiet = c.in_ok-put_many.ensures.count ∙ c.loop-many.invariant.quiet;
     }
 
-pub returns-in-Ok-false-clause-cells : goal.returns-in-Ok-false-clause-cells
-returns-in-Ok-false-clause-cells g c
+pub returns-then-not-branch-clause-cells : goal.returns-then-not-branch-clause-cells
+returns-then-not-branch-clause-cells g c
     = grew-is (append-nil _) (grew-join c.loop-many.invariant.grew
-    (rw c.in-Ok-false.field-0-test at c.in-Ok-false.ensures.cells))
+    (rw c.if-not-branch.true at c.in_ok-put_many.ensures.cells))
 
-pub returns-in-Err-clause-err : goal.returns-in-Err-clause-err
-returns-in-Err-clause-err g c =
+pub returns-in_err-put_many-clause-err : goal.returns-in_err-put_many-clause-err
+returns-in_err-put_many-clause-err g c =
     let words = c.args.words.now in
     let at = c.loop-many.at in
     let within = c.loop-many.invariant.within in
@@ -48,11 +49,13 @@ returns-in-Err-clause-err g c =
     let enough = c.in-Some.ensures.cases.enough in
     let l = ap length rest ∙ length-drop at words in
     let many = ap (λ w. bytes_of c.args.form (flat_map word_cells w)) (c.in-Some.ensures.cases.same ∙ ap (take 16) rest)
-    in (
-      c.in-Err.ensures.err.0 ∙ ap (λ n. n + 1) c.loop-many.invariant.quiet,
+    in
+    let error = err_from_is_err_and c.from_residual.result c.from_residual.ensures.1 in
+    rw error.1 (
+      c.in_err-put_many.ensures.err.0 ∙ ap (λ n. n + 1) c.loop-many.invariant.quiet,
       front-is (bytes-split c.args.form words (at + 16) (omega (arith, enough, l)))
           (front-more (front-is (bytes-block c.args.form words at 16 within)
-          (front-join c.loop-many.invariant.grew (front-is many c.in-Err.ensures.err.1)))
+          (front-join c.loop-many.invariant.grew (front-is many c.in_err-put_many.ensures.err.1)))
           (bytes_of c.args.form (flat_map word_cells (drop (at + 16) words)))),
     )
 
@@ -62,8 +65,8 @@ returns-in_default-clause-cells g c = c.loop-many.invariant.grew
 pub returns-in_default-clause-count : goal.returns-in_default-clause-count
 returns-in_default-clause-count g c = c.loop-many.invariant.quiet
 
-pub returns-in-Ok-false-clause-count : goal.returns-in-Ok-false-clause-count
-returns-in-Ok-false-clause-count g c = c.in-Ok-false.ensures.count ∙ c.loop-many.invariant.quiet
+pub returns-then-not-branch-clause-count : goal.returns-then-not-branch-clause-count
+returns-then-not-branch-clause-count g c = c.in_ok-put_many.ensures.count ∙ c.loop-many.invariant.quiet
 
 pub put_many-requires : goal.put_many-requires
 put_many-requires g c = let quiet = c.loop-many.invariant.quiet in record { room = omega (arith, quiet, c.requires) }

@@ -7,11 +7,12 @@ use Rattle.aes3_cell.proofs.ManyWords.{bytes-split}
 use Rattle.aes3_cell.proofs.Writing.{wrote-is, wrote-behind}
 use Rattle.aes3_cell.proofs.written.put_words.Goals as goal
 
-pub returns-in-Ok : goal.returns-in-Ok
-returns-in-Ok g c =
+pub returns : goal.returns
+returns g c =
     let words = c.args.words.now in
-    let n = c.in-Ok.written in
+    let n = c.in_ok-written.written in
     let rest = ap (λ w. bytes_of c.args.form (flat_map word_cells w))
     (between_to_end words n (length words) (omega arith)) in
-    wrote-is (bytes-split c.args.form words n c.in-Ok.ensures.within)
-    (wrote-behind c.put_each.result c.in-Ok.ensures.count c.in-Ok.ensures.cells (wrote-is rest c.put_each.ensures))
+    wrote-is (bytes-split c.args.form words n c.in_ok-written.ensures.within)
+    (wrote-behind c.put_each.result c.in_ok-written.ensures.count c.in_ok-written.ensures.cells
+    (wrote-is rest c.put_each.ensures))

@@ -1,5 +1,6 @@
 use Rattle.std.proofs.Common.{rules, ◌≡◌, ◌+◌, ◌-◌, arith, refl, ap, ◌∙◌, [], length, take}
 use Rattle.std.proofs.lemmas.List.{length-take-le}
+use Rattle.std.proofs.lemmas.Result.{err_from_is_err_and}
 use Rattle.aes3_cell.proofs.Growing.{grew-none, grew-is}
 use Rattle.aes3_input.proofs.Feeding.{fed-none, fed-is}
 use Rattle.aes3_input.proofs.Pieces.{allowed-within, upto-more, ran-read, ran-end, ran-end_err, ran-piece, ran-long}
@@ -22,45 +23,50 @@ returns-in-Err-clause-run g c =
     (g.I.Input.state c.pieces.input c.pieces.taker) _ (g.S.Source.has_ended c.read_piece.new.source) _ _ _ _ _
     v.upto c.requires.start v.short v.quiet_source v.quiet_sink c.in-Err.ensures.err.0 c.in-Err.ensures.err.1
 
-pub returns-in-Ok-finish-clause-run : goal.returns-in-Ok-finish-clause-run
-returns-in-Ok-finish-clause-run g c =
+pub returns-then-n-eq0-clause-run : goal.returns-then-n-eq0-clause-run
+returns-then-n-eq0-clause-run g c =
     let v = c.pieces.invariant in
     ran-end c.args.max_bytes (g.I.Input.state c.args.input.now c.args.taker.now)
-    (g.I.Input.state c.pieces.input c.pieces.taker) (g.I.Input.state c.finish.new.input c.finish.new.taker) _ _ _ _ _ _ _
+    (g.I.Input.state c.pieces.input c.pieces.taker)
+    (g.I.Input.state c.finish.new.input c.finish.new.taker) _ _ _ _ _ _ _
     v.upto c.requires.start v.short (c.in-Ok.ensures.count ∙ v.quiet_source) v.quiet_sink
     (grew-is (ap (λ z. take z c.read_piece.new.piece) c.if-n-eq0.true) c.in-Ok.ensures.bytes)
-    (c.in-Ok.ensures.end.0 c.if-n-eq0.true) c.in-Ok-finish.ensures.ran
+    (c.in-Ok.ensures.end.0 c.if-n-eq0.true) c.in_ok-finish.ensures.ran
 
-pub returns-in-Err-finish-clause-run : goal.returns-in-Err-finish-clause-run
-returns-in-Err-finish-clause-run g c =
+pub returns-in_err-finish-clause-run : goal.returns-in_err-finish-clause-run
+returns-in_err-finish-clause-run g c =
     let v = c.pieces.invariant in
-    ran-end_err c.args.max_bytes (g.I.Input.state c.args.input.now c.args.taker.now)
-    (g.I.Input.state c.pieces.input c.pieces.taker) (g.I.Input.state c.finish.new.input c.finish.new.taker) _ _ _ _ _ _ _ c.in-Err-finish.error
+    let error = err_from_is_err_and c.from_residual.result c.from_residual.ensures.1 in
+    rw (error.1, error.2) (ran-end_err c.args.max_bytes (g.I.Input.state c.args.input.now c.args.taker.now)
+    (g.I.Input.state c.pieces.input c.pieces.taker)
+    (g.I.Input.state c.finish.new.input c.finish.new.taker) _ _ _ _ _ _ _ _
     v.upto c.requires.start v.short (c.in-Ok.ensures.count ∙ v.quiet_source) v.quiet_sink
     (grew-is (ap (λ z. take z c.read_piece.new.piece) c.if-n-eq0.true) c.in-Ok.ensures.bytes)
-    (c.in-Ok.ensures.end.0 c.if-n-eq0.true) c.in-Err-finish.ensures.ran
+    (c.in-Ok.ensures.end.0 c.if-n-eq0.true) c.in_err-finish.ensures.ran)
 
-pub returns-in-Err-feed-clause-run : goal.returns-in-Err-feed-clause-run
-returns-in-Err-feed-clause-run g c =
+pub returns-in_err-feed-clause-run : goal.returns-in_err-feed-clause-run
+returns-in_err-feed-clause-run g c =
     let v = c.pieces.invariant in
     let room = c.args.max_bytes + 1 - c.pieces.seen in
-    ran-piece c.args.max_bytes (g.I.Input.state c.args.input.now c.args.taker.now)
+    let error = err_from_is_err_and c.from_residual-in_err-feed.result c.from_residual-in_err-feed.ensures.1 in
+    rw (error.1, error.2) (ran-piece c.args.max_bytes (g.I.Input.state c.args.input.now c.args.taker.now)
     (g.I.Input.state c.pieces.input c.pieces.taker) (g.I.Input.state c.feed.new.input c.feed.new.taker) _ _ _ _ _ _ _
-    c.in-Ok.n c.allowed_of-allowed.result room c.read_piece.new.piece c.in-Err-feed.error
+    c.in-Ok.n c.allowed_of-allowed.result room c.read_piece.new.piece _
     v.upto c.requires.start v.short (c.in-Ok.ensures.count ∙ v.quiet_source) v.quiet_sink
     c.in-Ok.ensures.bytes refl c.in-Ok.ensures.bound.1 c.in-Ok.ensures.bound.0 c.allowed_of-allowed.ensures.last
-    c.allowed_of-allowed.ensures.all c.in-Err-feed.ensures.ran
+    c.allowed_of-allowed.ensures.all c.in_err-feed.ensures.ran)
 
 pub returns-then-seen-max_bytes-clause-run : goal.returns-then-seen-max_bytes-clause-run
 returns-then-seen-max_bytes-clause-run g c =
     let v = c.pieces.invariant in
     let room = c.args.max_bytes + 1 - c.pieces.seen in
     ran-long c.args.max_bytes (g.I.Input.state c.args.input.now c.args.taker.now)
-    (g.I.Input.state c.pieces.input c.pieces.taker) (g.I.Input.state c.feed.new.input c.feed.new.taker) (g.S.Source.has_ended c.read_piece.new.source) _ _ _ _ _
+    (g.I.Input.state c.pieces.input c.pieces.taker)
+    (g.I.Input.state c.feed.new.input c.feed.new.taker) (g.S.Source.has_ended c.read_piece.new.source) _ _ _ _ _
     c.in-Ok.n c.allowed_of-allowed.result room c.read_piece.new.piece
-    v.upto c.requires.start v.short (c.in-Ok.ensures.count ∙ v.quiet_source) v.quiet_sink c.in-Ok-feed.ensures.ran.1
+    v.upto c.requires.start v.short (c.in-Ok.ensures.count ∙ v.quiet_source) v.quiet_sink c.in_ok-feed.ensures.ran.1
     c.in-Ok.ensures.bytes refl c.in-Ok.ensures.bound.1 c.in-Ok.ensures.bound.0 c.allowed_of-allowed.ensures.last
-    c.allowed_of-allowed.ensures.all (omega arith) c.in-Ok-feed.ensures.ran.0
+    c.allowed_of-allowed.ensures.all (omega arith) c.in_ok-feed.ensures.ran.0
 
 pub pieces-preserved : goal.pieces-preserved
 pieces-preserved g c =
@@ -68,15 +74,15 @@ pieces-preserved g c =
     let b = c.read_piece.new.piece in
     let n = c.in-Ok.n in
     let e : c.allowed_of-allowed.result ≡ n = c.allowed_of-allowed.ensures.all (omega arith) in
-    let d = fed-is (ap (λ z. take z b) e) c.in-Ok-feed.ensures.ran.0 in
+    let d = fed-is (ap (λ z. take z b) e) c.in_ok-feed.ensures.ran.0 in
     let k : length (take n b) ≡ n = length-take-le n b c.in-Ok.ensures.bound.0 in
     let u = upto-more v.upto c.in-Ok.ensures.bytes d in
     record {
       upto = rw k at u;
       short = omega arith;
       quiet_source = c.in-Ok.ensures.count ∙ v.quiet_source;
-      quiet_sink = c.in-Ok-feed.ensures.ran.1 ∙ v.quiet_sink;
-      passed = λ _. c.in-Ok-feed.ensures.passed_on;
+      quiet_sink = c.in_ok-feed.ensures.ran.1 ∙ v.quiet_sink;
+      passed = λ _. c.in_ok-feed.ensures.passed_on;
       buffer = search rules;
     }
 
@@ -104,19 +110,19 @@ feed-requires-clause-following g c =
 pub returns-in-Err-clause-passed_before : goal.returns-in-Err-clause-passed_before
 returns-in-Err-clause-passed_before g c = λ e h. c.pieces.invariant.passed h
 
-pub returns-in-Ok-finish-clause-passed_on : goal.returns-in-Ok-finish-clause-passed_on
-returns-in-Ok-finish-clause-passed_on g c = c.in-Ok-finish.ensures.passed_on
+pub returns-then-n-eq0-clause-passed_on : goal.returns-then-n-eq0-clause-passed_on
+returns-then-n-eq0-clause-passed_on g c = c.in_ok-finish.ensures.passed_on
 
-pub returns-in-Ok-finish-clause-passed_before : goal.returns-in-Ok-finish-clause-passed_before
-returns-in-Ok-finish-clause-passed_before g c = λ e h. c.in-Ok-finish.ensures.passed_on
+pub returns-then-n-eq0-clause-passed_before : goal.returns-then-n-eq0-clause-passed_before
+returns-then-n-eq0-clause-passed_before g c = λ e h. c.in_ok-finish.ensures.passed_on
 
-pub returns-in-Err-finish-clause-passed_before : goal.returns-in-Err-finish-clause-passed_before
-returns-in-Err-finish-clause-passed_before g c =
+pub returns-in_err-finish-clause-passed_before : goal.returns-in_err-finish-clause-passed_before
+returns-in_err-finish-clause-passed_before g c =
     λ e h. absurd (let q = c.in-Ok.ensures.count ∙ c.pieces.invariant.quiet_source in omega arith)
 
-pub returns-in-Err-feed-clause-passed_before : goal.returns-in-Err-feed-clause-passed_before
-returns-in-Err-feed-clause-passed_before g c =
+pub returns-in_err-feed-clause-passed_before : goal.returns-in_err-feed-clause-passed_before
+returns-in_err-feed-clause-passed_before g c =
     λ e h. absurd (let q = c.in-Ok.ensures.count ∙ c.pieces.invariant.quiet_source in omega arith)
 
 pub returns-then-seen-max_bytes-clause-passed_before : goal.returns-then-seen-max_bytes-clause-passed_before
-returns-then-seen-max_bytes-clause-passed_before g c = λ e h. c.in-Ok-feed.ensures.passed_on
+returns-then-seen-max_bytes-clause-passed_before g c = λ e h. c.in_ok-feed.ensures.passed_on

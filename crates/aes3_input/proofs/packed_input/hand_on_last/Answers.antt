@@ -1,4 +1,5 @@
 use Rattle.std.proofs.Common.{◌+◌, ◌^◌, ◌≤◌, ◌++◌, length, length-append, arith}
+use Rattle.std.proofs.lemmas.Result.{err_from_is_err_and}
 use Rattle.aes3_cell.proofs.Growing.{front-more}
 use Rattle.aes3_input.specs.Forms.{octet_front}
 use Rattle.aes3_input.proofs.PackedLemmas.{length-front, ended}
@@ -12,17 +13,20 @@ finish-requires-clause-following g c =
     let n = length-append q.0 d in
     let k = length-front c.args.used c.args.octet c.requires.few in
     let u = c.requires.few in
-    (q.0 ++ d, omega arith, c.in-Ok.ensures.1 q.0 q.2)
+    (q.0 ++ d, omega arith, c.in_ok-hand_on.ensures.1 q.0 q.2)
 
-pub returns-in-Ok : goal.returns-in-Ok
-returns-in-Ok g c =
+pub returns : goal.returns
+returns g c =
     ended (g.K.Taker.state c.args.taker.now) (g.K.Taker.state c.hand_on.new.taker) (g.K.Taker.state c.finish.new.self)
     (octet_front c.args.used c.args.octet) (g.T.Sink.taken c.args.sink.now) (g.T.Sink.taken c.hand_on.new.sink)
     (g.T.Sink.taken c.finish.new.sink)
     (g.T.Sink.failed c.args.sink.now) (g.T.Sink.failed c.hand_on.new.sink) (g.T.Sink.failed c.finish.new.sink)
     c.finish.result
-    c.in-Ok.ensures c.finish.ensures.done c.finish.ensures.grew c.finish.ensures.count c.finish.ensures.err_count
-    c.finish.ensures.err_grew
+    c.in_ok-hand_on.ensures c.finish.ensures.done c.finish.ensures.grew c.finish.ensures.count
+    c.finish.ensures.err_count c.finish.ensures.err_grew
 
-pub returns-in-Err : goal.returns-in-Err
-returns-in-Err g c = (c.in-Err.ensures.0, λ b h. front-more (c.in-Err.ensures.1 b h) _)
+pub returns-in_err-hand_on : goal.returns-in_err-hand_on
+returns-in_err-hand_on g c =
+    let r = c.in_err-hand_on.ensures in
+    let error = err_from_is_err_and c.from_residual.result c.from_residual.ensures.1 in
+    rw error.1 (r.0, λ b h. front-more (r.1 b h) _)

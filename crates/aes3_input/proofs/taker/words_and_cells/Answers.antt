@@ -1,5 +1,6 @@
 use Rattle.std.proofs.Common.{◌+◌, ◌*◌, ◌^◌, ◌≤◌, ◌++◌, length, arith, length-append}
 use Rattle.std.specs.List.{flat_map}
+use Rattle.std.proofs.lemmas.Result.{err_from_is_err_and}
 use Rattle.aes3_level.specs.Words.{low_cells, word_cells}
 use Rattle.aes3_input.proofs.Handing.{cells-ran-behind, front-of-more, length-words}
 use Rattle.aes3_input.proofs.taker.words_and_cells.Goals as goal
@@ -17,10 +18,10 @@ cells-requires-clause-following g c =
     let l : length q.0 + 64 * length ws + c.args.len ≤ 2 ^ 43 = q.1 in
     let n = length-append q.0 (flat_map word_cells ws) in
     let k = length-words ws in
-    (q.0 ++ flat_map word_cells ws, omega arith, c.in-Ok.ensures.ran.1 q.0 q.2)
+    (q.0 ++ flat_map word_cells ws, omega arith, c.in_ok-words.ensures.ran.1 q.0 q.2)
 
-pub returns-in-Ok : goal.returns-in-Ok
-returns-in-Ok g c =
+pub returns : goal.returns
+returns g c =
     let st = g.K.Taker.state in
     let ta = g.T.Sink.taken in
     let fa = g.T.Sink.failed in
@@ -29,14 +30,15 @@ returns-in-Ok g c =
           (flat_map word_cells c.args.words.now) (low_cells c.args.len c.args.word) (ta c.args.sink.now)
           (ta c.words.new.sink) (ta c.cells.new.sink)
           (fa c.args.sink.now) (fa c.words.new.sink) (fa c.cells.new.sink)
-          c.cells.result c.in-Ok.ensures.ran c.cells.ensures.ran;
+          c.cells.result c.in_ok-words.ensures.ran c.cells.ensures.ran;
     }
 
-pub returns-in-Err : goal.returns-in-Err
-returns-in-Err g c =
-    let r = c.in-Err.ensures.ran in
+pub returns-in_err-words : goal.returns-in_err-words
+returns-in_err-words g c =
+    let r = c.in_err-words.ensures.ran in
+    let error = err_from_is_err_and c.from_residual.result c.from_residual.ensures.1 in
     record {
-      ran = (
+      ran = rw error.1 (
         r.0,
         front-of-more (g.K.Taker.state c.args.taker.now).writes (g.K.Taker.state c.args.taker.now).follows
             (g.T.Sink.taken c.args.sink.now) (g.T.Sink.taken c.words.new.sink)

@@ -1,12 +1,18 @@
+use Rattle.std.proofs.lemmas.Result.{err_from_is_err_and}
 use Rattle.aes3_input.proofs.TextRuns.{starts, text-ok, text-err}
 use Rattle.aes3_input.proofs.text_input.drive_text.Goals as goal
 
-pub returns-in-Ok-clause-ran : goal.returns-in-Ok-clause-ran
-returns-in-Ok-clause-ran g c = text-ok (g.K.Taker.state c.args.taker.now) (g.K.Taker.state c.convert.new.taker) c.in-Ok.ensures.run
+pub returns-clause-ran : goal.returns-clause-ran
+returns-clause-ran g c =
+    text-ok (g.K.Taker.state c.args.taker.now) (g.K.Taker.state c.convert.new.taker) c.in_ok-bytes.ensures.run
 
-pub returns-in-Err-clause-ran : goal.returns-in-Err-clause-ran
-returns-in-Err-clause-ran g c = text-err (g.K.Taker.state c.args.taker.now) (g.K.Taker.state c.convert.new.taker) c.in-Err.ensures.run
+pub returns-in_err-bytes-clause-ran : goal.returns-in_err-bytes-clause-ran
+returns-in_err-bytes-clause-ran g c =
+    let error = err_from_is_err_and c.from_residual.result c.from_residual.ensures.1 in
+    rw (error.1, error.2) (text-err (g.K.Taker.state c.args.taker.now)
+    (g.K.Taker.state c.convert.new.taker) c.in_err-bytes.ensures.run)
 
 pub convert-requires-clause-start : goal.convert-requires-clause-start
 convert-requires-clause-start g c
-    = starts (g.K.Taker.state c.args.taker.now).follows c.new-input.ensures.text c.new-input.ensures.cells c.requires.start
+    = starts (g.K.Taker.state c.args.taker.now).follows c.new-input.ensures.text c.new-input.ensures.cells
+    c.requires.start

@@ -4,10 +4,10 @@ use Rattle.aes3_level.specs.Words.{low_cells}
 use Rattle.aes3_input.proofs.TextReads.{read-is, read-front}
 use Rattle.aes3_input.proofs.text_words.feed_cells.Goals as goal
 
-pub returns-in-Ok-clause-read : goal.returns-in-Ok-clause-read
-returns-in-Ok-clause-read c =
+pub returns-clause-read : goal.returns-clause-read
+returns-clause-read c =
     let xs = c.args.piece.now in
-    let at = c.in-Ok.taken in
-    read-is refl (append-nil (low_cells c.in-Ok.cells.len c.in-Ok.cells.word))
+    let at = c.in_ok-taken.taken in
+    read-is refl (append-nil (low_cells c.in_ok-taken.cells.len c.in_ok-taken.cells.word))
     (read-front xs (take (length xs - at) (drop at xs)) at c.skip_separators-separators.result (take_rest xs at)
-    c.in-Ok.ensures.read c.skip_separators-separators.ensures.read)
+    c.in_ok-taken.ensures.read c.skip_separators-separators.ensures.read)

@@ -6,7 +6,7 @@ use Rattle.aes3_input.proofs.text_words.feed_some.Goals as goal
 pub loop-at-preserved : goal.loop-at-preserved
 loop-at-preserved c =
     let v = c.loop-at.invariant in
-    let q = c.in-Ok-with_byte.ensures in
+    let q = c.in-Ok.ensures in
     record {
       some = omega arith;
       within = omega arith;

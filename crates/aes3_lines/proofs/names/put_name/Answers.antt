@@ -10,6 +10,7 @@ returns-in-Some-clause-name c =
       c.word-in-Some.ensures.word,
       c.text.ensures.text,
       c.word.ensures.word,
+      c.name_of.ensures.name,
       sym c.in-Some.ensures.word,
     )
     (simp append_assoc)

@@ -6,8 +6,6 @@ use Rattle.aes3_lock.specs.Outcomes.{why_of}
 use Rattle.aes3_lock.specs.Reports.{ending_report, report_of}
 use Rattle.aes3_lock.proofs.Codes.{ended-block, ended-early, ended-unclosed, same-differs}
 use Rattle.aes3_lock.proofs.outcome.ending_at.Goals as goal
-use Rattle.aes3_lock.proofs.outcome.ending_at.Goals.{else-offset-ge-BLOCK_CELLS-via-then-offset-ge-BLOCK_CELLS+else-turns}
-use Rattle.aes3_lock.proofs.outcome.ending_at.Goals.{else-offset-ge-BLOCK_CELLS-via-else-offset-ge-BLOCK_CELLS}
 
 pub returns-then-turns : goal.returns-then-turns
 returns-then-turns c =
@@ -24,11 +22,11 @@ returns-else-offset-ge-BLOCK_CELLS c =
     ∙ ap (λ o. Fault c.args.candidate.at (c.args.candidate.at + c.args.offset) (why_of o))
     (let e : c.args.candidate.at + c.args.offset - c.args.candidate.at ≡ c.args.offset = omega arith in e)
     ∙ ap (report_of c.args.candidate.at) (elim c.else-offset-ge-BLOCK_CELLS.branch [
-      | else-offset-ge-BLOCK_CELLS-via-then-offset-ge-BLOCK_CELLS+else-turns w ↦
+      | goal.else-offset-ge-BLOCK_CELLS-via-then-offset-ge-BLOCK_CELLS+else-turns w ↦
           sym (ended-unclosed c.args.candidate.before c.args.offset (same c.args.cell c.args.previous)
           (read_words c.args.words.now) (omega arith)
           (same-differs c.args.cell c.args.previous ∙ ap not (sym w.turns.ensures ∙ w.if-turns.false)))
-      | else-offset-ge-BLOCK_CELLS-via-else-offset-ge-BLOCK_CELLS w ↦
+      | goal.else-offset-ge-BLOCK_CELLS-via-else-offset-ge-BLOCK_CELLS w ↦
           sym (ended-early c.args.candidate.before c.args.offset (same c.args.cell c.args.previous)
           (read_words c.args.words.now) (omega arith))
     ])

@@ -4,9 +4,6 @@ use Rattle.aes3_slot.specs.Rules.{at, rule}
 use Rattle.aes3_frame.specs.Blocks.{mark_at}
 use Rattle.aes3_lock.proofs.OnePlace.{walk-inside, walk-whole, walk-same, walk-full, walk-stops, walk-all}
 use Rattle.aes3_lock.proofs.slow.go_through.Goals as goal
-use Rattle.aes3_lock.proofs.slow.go_through.Goals.{then-offset-eq-BLOCK_CELLS-via-then-offset-eq-BLOCK_CELLS}
-use Rattle.aes3_lock.proofs.slow.go_through.Goals.{then-offset-eq-BLOCK_CELLS-via-else-offset-eq-BLOCK_CELLS+then-not-may_stand}
-use Rattle.aes3_lock.proofs.slow.go_through.Goals.{then-len, else-len}
 use Rattle.aes3_frame.proofs.BlockLemmas.{block_slots_384}
 use Rattle.aes3_frame.proofs.CellLaws.{block_len_24576}
 
@@ -14,10 +11,10 @@ pub returns-then-offset-eq-BLOCK_CELLS-clause-front : goal.returns-then-offset-e
 returns-then-offset-eq-BLOCK_CELLS-clause-front c =
     let i = c.loop-cell.invariant.count in
     elim c.then-offset-eq-BLOCK_CELLS.branch [
-      | then-offset-eq-BLOCK_CELLS-via-then-offset-eq-BLOCK_CELLS w ↦
+      | goal.then-offset-eq-BLOCK_CELLS-via-then-offset-eq-BLOCK_CELLS w ↦
           walk-full _ _ _ _ _ _ c.loop-cell.offset c.loop-cell.invariant.walked
           (omega arith) w.if-offset-eq-BLOCK_CELLS.true
-      | then-offset-eq-BLOCK_CELLS-via-else-offset-eq-BLOCK_CELLS+then-not-may_stand w ↦
+      | goal.then-offset-eq-BLOCK_CELLS-via-else-offset-eq-BLOCK_CELLS+then-not-may_stand w ↦
           walk-stops _ _ _ _ _ _ c.loop-cell.offset c.loop-cell.invariant.walked (omega arith)
           (ap (λ k. rule mark_at c.loop-cell.offset (at c.args.cells.now k) c.loop-cell.level c.loop-cell.previous) i
           ∙ sym w.may_stand.ensures ∙ w.if-not-may_stand.true)
@@ -44,14 +41,14 @@ loop-cell-preserved c =
     record {
       count = ap (λ k. k + 1) i;
       walked = elim c.if-len.branch [
-        | then-len w ↦
+        | goal.then-len w ↦
             walk-same _ _
             _ (walk-whole c.args.level_before c.args.cells.now c.loop-cell.subframe c.with_next-subframe.result
             c.loop-cell.words c.loop-cell.level c.loop-cell.previous c.loop-cell.offset
             c.loop-cell.invariant.walked (omega arith) (omega arith) right cells (omega arith) (let e = w.if-len.true in
             omega arith))
             w.subframe-is w.words-is (w.level-is ∙ sym here) (sym here)
-        | else-len w ↦
+        | goal.else-len w ↦
             walk-same _ _
             _ (walk-inside c.args.level_before c.args.cells.now c.loop-cell.subframe c.with_next-subframe.result
             c.loop-cell.words c.loop-cell.level c.loop-cell.previous c.loop-cell.offset

@@ -2,10 +2,10 @@ use Rattle.aes3_runner.proofs.Flushes.{run-of, sums-of}
 use Rattle.aes3_runner.proofs.job_run.run_job.Goals as goal
 
 pub returns-in-Encode-clause-ran : goal.returns-in-Encode-clause-ran
-returns-in-Encode-clause-ran g c = run-of c.in-Encode.is c.encode.ensures.run
+returns-in-Encode-clause-ran g c = run-of c.in-Encode.is c.encode_words.ensures.run
 
 pub returns-in-Decode-clause-ran : goal.returns-in-Decode-clause-ran
-returns-in-Decode-clause-ran g c = run-of c.in-Decode.is c.decode.ensures.run
+returns-in-Decode-clause-ran g c = run-of c.in-Decode.is c.decode_words.ensures.run
 
 pub returns-in-Normal-clause-ran : goal.returns-in-Normal-clause-ran
 returns-in-Normal-clause-ran g c = run-of c.in-Normal.is c.normalise.ensures.run
@@ -41,7 +41,7 @@ pub returns-in-ToFilledPcm-clause-ran : goal.returns-in-ToFilledPcm-clause-ran
 returns-in-ToFilledPcm-clause-ran g c = run-of c.in-ToFilledPcm.is c.to_filled_pcm.ensures.run
 
 pub returns-in-FromPcm-clause-ran : goal.returns-in-FromPcm-clause-ran
-returns-in-FromPcm-clause-ran g c = run-of c.in-FromPcm.is c.from_pcm.ensures.run
+returns-in-FromPcm-clause-ran g c = run-of c.in-FromPcm.is c.from_pcm_words.ensures.run
 
 pub returns-in-ToBits-clause-ran : goal.returns-in-ToBits-clause-ran
 returns-in-ToBits-clause-ran g c = run-of c.in-ToBits.is c.to_bits.ensures.run

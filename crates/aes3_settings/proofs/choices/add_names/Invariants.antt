@@ -1,7 +1,7 @@
 use Rattle.std.proofs.Common.{◌≡◌, ◌++◌, take}
 use Rattle.std.specs.List.{flat_map}
 use Rattle.std.specs.Prelude.{codes}
-use Rattle.aes3_settings.specs.Choices.{name_of}
+use Rattle.aes3_settings.specs.Names.{name_of}
 use Rattle.aes3_settings.proofs.choices.add_names.Given as goal
 
 abbrev pub invariant-loop-field : goal.invariant-loop-field

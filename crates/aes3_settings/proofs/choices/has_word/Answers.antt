@@ -1,7 +1,7 @@
 use Rattle.std.proofs.Common.{◌∙◌, ◌++◌, ap, ap₂, append_assoc}
 use Rattle.std.specs.Prelude.{codes, decimal, not}
 use Rattle.std.specs.Str.{bytes_eq}
-use Rattle.aes3_settings.specs.Choices.{name_of}
+use Rattle.aes3_settings.specs.Names.{name_of}
 use Rattle.aes3_settings.specs.Fields.{field_text}
 use Rattle.aes3_settings.specs.Settings.{code_text}
 use Rattle.aes3_settings.proofs.choices.has_word.Goals as goal

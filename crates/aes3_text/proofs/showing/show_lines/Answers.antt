@@ -1,4 +1,5 @@
 use Rattle.std.proofs.Common.{◌≡◌, Bool, [], sym, subst, ap, ap₂, ◌∙◌}
+use Rattle.std.proofs.lemmas.Result.{err_from_is_err_and}
 use Rattle.aes3_lock.specs.Reports.{decided, reports}
 use Rattle.aes3_input.proofs.CellRuns.{drove-ok, drove-err}
 use Rattle.aes3_runs.specs.ReportRuns.{counts_of}
@@ -25,8 +26,8 @@ kept-changes e h = ap (λ (v : StatusLines). v.changes) e ∙ h
 kept-detail : {j k : StatusLines} {detail : Detail} → k ≡ j → j.detail ≡ detail → k.detail ≡ detail
 kept-detail e h = ap (λ (v : StatusLines). v.detail) e ∙ h
 
-pub returns-in-Ok-clause-run : goal.returns-in-Ok-clause-run
-returns-in-Ok-clause-run g c =
+pub returns-clause-run : goal.returns-clause-run
+returns-clause-run g c =
     let k = c.new-taker.result.reporter in
     let t = c.drive.new.taker.reporter.tally in
     let p = kept-changes c.new-taker.ensures.reporter c.new.ensures.changes in
@@ -34,8 +35,8 @@ returns-in-Ok-clause-run g c =
     drove-ok (λ d. details_from c.args.changes c.args.detail [] (reports d))
     (λ d. details_from c.args.changes c.args.detail [] (decided d)) (counts_of c.args.input)
     (record {
-      bytes = c.in-Ok.bytes;
-      cells = c.in-Ok.cells;
+      bytes = c.in_ok-bytes.bytes;
+      cells = c.in_ok-bytes.cells;
       blocks = t.blocks;
       faults = t.faults;
       unfinished
@@ -44,16 +45,17 @@ returns-in-Ok-clause-run g c =
     })
     (λ d. with-cells k.changes k.detail d ∙ ap₂ (λ u v. details_from u v [] (reports d)) p q)
     (λ d. before-cells k.changes k.detail d ∙ ap₂ (λ u v. details_from u v [] (decided d)) p q)
-    (λ b e f h. counted c.args.input b c.in-Ok.bytes c.in-Ok.cells t.blocks t.faults t.unfinished e f h)
-    c.in-Ok.ensures.ran
+    (λ b e f h. counted c.args.input b c.in_ok-bytes.bytes c.in_ok-bytes.cells t.blocks t.faults t.unfinished e f h)
+    c.in_ok-bytes.ensures.ran
 
-pub returns-in-Err-clause-run : goal.returns-in-Err-clause-run
-returns-in-Err-clause-run g c =
+pub returns-in_err-bytes-clause-run : goal.returns-in_err-bytes-clause-run
+returns-in_err-bytes-clause-run g c =
     let k = c.new-taker.result.reporter in
     let p = kept-changes c.new-taker.ensures.reporter c.new.ensures.changes in
     let q = kept-detail c.new-taker.ensures.reporter c.new.ensures.detail in
-    drove-err (λ d. details_from c.args.changes c.args.detail [] (reports d))
+    let error = err_from_is_err_and c.from_residual.result c.from_residual.ensures.1 in
+    rw (error.1, error.2) (drove-err (λ d. details_from c.args.changes c.args.detail [] (reports d))
     (λ d. details_from c.args.changes c.args.detail [] (decided d)) (counts_of c.args.input)
     (λ d. with-cells k.changes k.detail d ∙ ap₂ (λ u v. details_from u v [] (reports d)) p q)
     (λ d. before-cells k.changes k.detail d ∙ ap₂ (λ u v. details_from u v [] (decided d)) p q)
-    c.in-Err.ensures.ran
+    c.in_err-bytes.ensures.ran)

@@ -1,25 +1,57 @@
-use Rattle.std.proofs.Common.{refl}
-use Rattle.aes3_lock.proofs.Deciding.{block_len_24576}
-use Rattle.aes3_account.proofs.GapLemmas.{full-lost-ok}
+use Rattle.std.proofs.Common.{◌+◌, ◌∷◌, [], length, ltb, ap, ◌∙◌, arith}
+use Rattle.std.specs.List.{filter}
+use Rattle.std.proofs.lemmas.Result.{err_from_is_err_and}
+use Rattle.aes3_cell.proofs.Growing.{front-is}
+use Rattle.aes3_slot.specs.ReadWords.{read_words}
+use Rattle.aes3_lock.specs.Following.{report_in}
+use Rattle.aes3_lock.specs.Outcomes.{payloads_of}
+use Rattle.aes3_lock.specs.Reports.{wholes}
+use Rattle.aes3_gaps.specs.Gaps.{is_lost}
+use Rattle.aes3_account.specs.GapLines.{account_lines}
+use Rattle.aes3_account.proofs.GapWrites.{due-of, due-place, due-report, ending-with}
 use Rattle.aes3_account.proofs.ledger.Ledger.tell_before.Goals as goal
 
-pub returns-in_ok-tell_gaps-in-Whole-clause-place : goal.returns-in_ok-tell_gaps-in-Whole-clause-place
-returns-in_ok-tell_gaps-in-Whole-clause-place g c = rw (c.in-Whole.is, block_len_24576) refl
-
-pub returns-in-Marked-clause-lost : goal.returns-in-Marked-clause-lost
-returns-in-Marked-clause-lost g c =
+pub tell_gaps-requires-clause-few : goal.tell_gaps-requires-clause-few
+tell_gaps-requires-clause-few g c =
     let k = c.args.self.now in
-    let t = c.tell_full in
-    rw c.in-Marked.is (full-lost-ok t.result k.place _ k.lost t.new.self.lost t.ensures.lost)
+    let x = report_in c.args.lock.now c.args.ending in
+    let d = c.before_report.result in
+    let t = due-place k.account.found x d
+    (due-of (read_words c.args.lock.now.words) k.account.found c.args.ending d c.before_report.ensures) in
+    let r = c.requires.few in
+    omega arith
 
-pub returns-in-Fault-clause-lost : goal.returns-in-Fault-clause-lost
-returns-in-Fault-clause-lost g c =
+pub returns-in_err-tell_gaps-clause-wrote : goal.returns-in_err-tell_gaps-clause-wrote
+returns-in_err-tell_gaps-clause-wrote g c =
     let k = c.args.self.now in
-    let t = c.tell_full-in-Fault in
-    rw c.in-Fault.is (full-lost-ok t.result k.place _ k.lost t.new.self.lost t.ensures.lost)
+    let x = report_in c.args.lock.now c.args.ending in
+    let d = c.before_report.result in
+    let p = err_from_is_err_and c.from_residual.result c.from_residual.ensures.1 in
+    let f = c.in_err-tell_gaps.ensures.wrote.err in
+    rw p.1 (record {
+      grew = tt;
+      count = tt;
+      err = (
+        f.0,
+        front-is (ap (account_lines k.lines) (due-report k.tally.blocks k.account.place k.account.found x d
+            (due-of (read_words c.args.lock.now.words) k.account.found c.args.ending d c.before_report.ensures)
+            c.requires.found)) f.1,
+      );
+    })
 
-pub returns-in-Unfinished-clause-lost : goal.returns-in-Unfinished-clause-lost
-returns-in-Unfinished-clause-lost g c =
+pub returns-clause-found : goal.returns-clause-found
+returns-clause-found g c =
     let k = c.args.self.now in
-    let t = c.tell_full-in-Unfinished in
-    rw c.in-Unfinished.is (full-lost-ok t.result k.place _ k.lost t.new.self.lost t.ensures.lost)
+    let slots = read_words c.args.lock.now.words in
+    c.take.ensures.found (payloads_of slots) k.tally.blocks (c.tell_gaps.ensures.found ∙ c.requires.found)
+    ∙ ap (λ x. ltb 0 (k.tally.blocks + length (wholes (x ∷ [])))) (ending-with slots c.args.ending)
+
+pub returns-clause-lost : goal.returns-clause-lost
+returns-clause-lost g c =
+    let k = c.args.self.now in
+    let x = report_in c.args.lock.now c.args.ending in
+    let d = c.before_report.result in
+    c.in_ok-tell_gaps.ensures.lost
+    ∙ ap (λ z. k.lost + length (filter is_lost z)) (due-report k.tally.blocks k.account.place k.account.found x d
+    (due-of (read_words c.args.lock.now.words) k.account.found c.args.ending d c.before_report.ensures)
+    c.requires.found)

@@ -9,12 +9,12 @@ use Rattle.aes3_cell.proofs.buffered.BufferedSink.drain.Goals as goal
 pub loop-self-preserved : goal.loop-self-preserved
 loop-self-preserved g c =
     let b = c.loop-self.self in
-    let n = c.in-Ok.n in
+    let n = c.in_ok-self.field-0 in
     let given = ap (λ s. take (b.end - b.start) (drop b.start s)) c.as_slice.ensures.value
     ∙ between_is b.bytes.items b.start b.end in
     record {
       taken = ap (followed_by (g.T.Sink.taken c.write.new.self)) (sym (drop-drop n b.start (take b.end b.bytes.items)))
-          ∙ handed-on _ _ n (held b.start b.end b.bytes.items) c.in-Ok.ensures.tells
-          (grew-is (ap (take n) given) c.in-Ok.ensures.bytes) ∙ c.loop-self.invariant.taken;
-      quiet = c.in-Ok.ensures.count ∙ c.loop-self.invariant.quiet;
+          ∙ handed-on _ _ n (held b.start b.end b.bytes.items) c.in_ok-self.ensures.tells
+          (grew-is (ap (take n) given) c.in_ok-self.ensures.bytes) ∙ c.loop-self.invariant.taken;
+      quiet = c.in_ok-self.ensures.count ∙ c.loop-self.invariant.quiet;
     }

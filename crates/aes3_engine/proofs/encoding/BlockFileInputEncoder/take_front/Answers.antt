@@ -45,5 +45,6 @@ pub returns-in-None : goal.returns-in-None
 returns-in-None g c =
     let n = c.take_few.new in
     subst (λ (f : FileReader). FrontRan (encoding_state c.args.encoder.now.output f c.args.encoder.now.blocks)
-    (encoding_state n.encoder.output n.file n.encoder.blocks) c.args.piece.now (movement_of g.T.Sink.taken g.T.Sink.failed c.args.sink.now n.sink) c.take_few.result)
+    (encoding_state n.encoder.output n.file n.encoder.blocks) c.args.piece.now
+    (movement_of g.T.Sink.taken g.T.Sink.failed c.args.sink.now n.sink) c.take_few.result)
     (c.feed_block.ensures.same c.in-None.is) c.take_few.ensures

@@ -8,7 +8,7 @@ use Rattle.aes3_engine.proofs.sampling.SampleInputInputChange.finish.Goals as go
 pub returns-then-left-gt0 : goal.returns-then-left-gt0
 returns-then-left-gt0 g c =
     let s = c.args.self.now in (
-      end-refused s.exact c.args.change.now s.seen s.begun (omega arith) _ (g.T.Sink.taken c.args.sink.now)
+      end-refused s.exact s.words c.args.change.now s.seen s.begun (omega arith) _ (g.T.Sink.taken c.args.sink.now)
           (λ b. tt) c.if-left-gt0.true,
       refl,
     )
@@ -18,7 +18,8 @@ returns-then-at-eq0 g c =
     let s = c.args.self.now in
     let p = c.place-at.ensures in
     let q = c.if-left-gt0.false in (
-      end-none s.exact c.args.change.now s.seen s.begun (omega arith) _ (g.T.Sink.taken c.args.sink.now) (λ b. tt)
+      end-none s.exact s.words c.args.change.now s.seen s.begun (omega arith) _ (g.T.Sink.taken c.args.sink.now)
+          (λ b. tt)
           (omega arith) (sym p ∙ c.if-at-eq0.true),
       refl,
     )
@@ -39,9 +40,9 @@ returns-in-Ok g c =
     let whole = put-whole c.place-at.result (1536 - c.place-at.result) s.begun c.fill.new.self (omega arith)
     (omega arith)
     ∙ ap₂ (λ a ys. take a s.begun ++ ys) p (f ∙ ap (λ a. replicate (1536 - a) 0) p) in (
-      end-tail s.exact c.args.change.now s.seen s.begun (omega arith) _ (g.T.Sink.taken c.args.sink.now)
+      end-tail s.exact s.words c.args.change.now s.seen s.begun (omega arith) _ (g.T.Sink.taken c.args.sink.now)
           (g.T.Sink.taken c.put_samples.new.sink) (λ b. tt) (omega arith) (omega arith)
-          (grew-is (block-made c.args.change.now _ (take at s.begun ++ replicate
+          (grew-is (block-made s.words c.args.change.now _ (take at s.begun ++ replicate
           (1536 - at) 0) whole j) c.in-Ok.ensures.bytes),
       c.in-Ok.ensures.count,
     )
@@ -62,9 +63,9 @@ returns-in-Err g c =
     let whole = put-whole c.place-at.result (1536 - c.place-at.result) s.begun c.fill.new.self (omega arith)
     (omega arith)
     ∙ ap₂ (λ a ys. take a s.begun ++ ys) p (f ∙ ap (λ a. replicate (1536 - a) 0) p) in (
-      end-part s.exact c.args.change.now s.seen s.begun (omega arith) (g.T.Sink.taken c.args.sink.now)
+      end-part s.exact s.words c.args.change.now s.seen s.begun (omega arith) (g.T.Sink.taken c.args.sink.now)
           (g.T.Sink.taken c.put_samples.new.sink) (omega arith) (omega arith)
-          (front-is (block-made c.args.change.now _ (take at s.begun ++ replicate
+          (front-is (block-made s.words c.args.change.now _ (take at s.begun ++ replicate
           (1536 - at) 0) whole j) c.in-Err.ensures.err.1),
       c.in-Err.ensures.err.0,
     )

@@ -1,4 +1,5 @@
 use Rattle.std.proofs.Common.{◌+◌, ◌-◌, ◌/◌, ◌^◌, ◌≤◌, ◌++◌, [], length, sym, ap, ◌∙◌, arith, append-nil, length-append}
+use Rattle.std.proofs.lemmas.Result.{err_from_is_err_and}
 use Rattle.aes3_level.specs.Words.{low_cells}
 use Rattle.aes3_level.proofs.WordCells.{length-low_cells, low_cells-add}
 use Rattle.aes3_input.proofs.Handing.{handed-cells, handed-cells-front, cells-parted}
@@ -19,8 +20,8 @@ take_front-requires-clause-following g c =
 pub loop-taken-preserved : goal.loop-taken-preserved
 loop-taken-preserved g c =
     let v = c.loop-taken.invariant in
-    let r = c.in-Ok.ensures.ran in
-    let n = c.in-Ok.more in
+    let r = c.in_ok-taken.ensures.ran in
+    let n = c.in_ok-taken.field-0 in
     let i = c.loop-taken.taken in
     record {
       within = let w = r.1 in let o = v.within in omega arith;
@@ -29,14 +30,15 @@ loop-taken-preserved g c =
       quiet = r.2.3 ∙ v.quiet;
     }
 
-pub returns-in-Err : goal.returns-in-Err
-returns-in-Err g c =
+pub returns-in_err-taken : goal.returns-in_err-taken
+returns-in_err-taken g c =
     let v = c.loop-taken.invariant in
-    let r = c.in-Err.ensures.ran in
+    let r = c.in_err-taken.ensures.ran in
     let i = c.loop-taken.taken in
     let b = low_cells (c.args.len - i) (c.args.word / 2 ^ i) in
+    let error = err_from_is_err_and c.from_residual.result c.from_residual.ensures.1 in
     record {
-      ran = (
+      ran = rw error.1 (
         r.0 ∙ ap (λ k. k + 1) v.quiet,
         handed-cells-front b [] (cells-parted c.args.word i c.args.len v.within)
             (sym (append-nil (low_cells c.args.len c.args.word))) v.handed r.1,

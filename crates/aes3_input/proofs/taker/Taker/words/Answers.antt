@@ -1,6 +1,7 @@
 use Rattle.std.proofs.Common.{◌+◌, ◌*◌, ◌^◌, ◌≤◌, ◌≡◌, ◌++◌, length, take, drop, get_or, ap, ◌∙◌, arith, length-append}
 use Rattle.std.specs.List.{flat_map}
 use Rattle.std.proofs.lemmas.List.{length-take-le}
+use Rattle.std.proofs.lemmas.Result.{err_from_is_err_and}
 use Rattle.aes3_level.specs.Words.{word_len, word_cells}
 use Rattle.aes3_input.proofs.Handing.{handed-cells, handed-cells-front, length-words, words-more, words-parted}
 use Rattle.aes3_input.proofs.taker.Taker.words.Goals as goal
@@ -21,7 +22,7 @@ pub loop-word-preserved : goal.loop-word-preserved
 unfolding word_cells word_len
 loop-word-preserved g c =
     let v = c.loop-word.invariant in
-    let r = c.in-Ok.ensures.ran in
+    let r = c.in_ok-cells.ensures.ran in
     let ws = c.args.words.now in
     let i = c.loop-word.word-index in
     record {
@@ -29,15 +30,16 @@ loop-word-preserved g c =
       quiet = r.3 ∙ v.quiet;
     }
 
-pub returns-in-Err : goal.returns-in-Err
+pub returns-in_err-cells : goal.returns-in_err-cells
 unfolding word_cells word_len
-returns-in-Err g c =
+returns-in_err-cells g c =
     let v = c.loop-word.invariant in
-    let r = c.in-Err.ensures.ran in
+    let r = c.in_err-cells.ensures.ran in
     let ws = c.args.words.now in
     let i = c.loop-word.word-index in
+    let error = err_from_is_err_and c.from_residual.result c.from_residual.ensures.1 in
     record {
-      ran = (
+      ran = rw error.1 (
         r.0 ∙ ap (λ k. k + 1) v.quiet,
         handed-cells-front (word_cells (get_or ws i 0)) (flat_map word_cells (drop (i + 1) ws))
             (words-more ws i (omega arith)) (words-parted ws (i + 1)) v.handed r.1,

@@ -8,8 +8,6 @@ use Rattle.aes3_lock.specs.Reports.{open_at}
 use Rattle.aes3_lock.specs.Following.{LockState, Follows}
 use Rattle.aes3_lock.proofs.TakenWords.{word-next, word-room, word-fits}
 use Rattle.aes3_lock.proofs.lock.Lock.take_word.Goals as goal
-use Rattle.aes3_lock.proofs.lock.Lock.take_word.Goals.{then-not-begins_subframe-via-then-not-begins_subframe}
-use Rattle.aes3_lock.proofs.lock.Lock.take_word.Goals.{then-not-begins_subframe-via-else-not-begins_subframe+then-not-begins_subframe-2}
 use Rattle.std.proofs.lemmas.Option.{same_Some}
 use Rattle.aes3_frame.proofs.CellLaws.{block_len_24576}
 
@@ -38,11 +36,11 @@ returns-then-not-begins_subframe-clause-stops c = λ r l f t s.
       few = c.rest_of-rest.ensures.few;
     }) o in
     elim c.then-not-begins_subframe.branch [
-      | then-not-begins_subframe-via-then-not-begins_subframe w ↦
+      | goal.then-not-begins_subframe-via-then-not-begins_subframe w ↦
           c.begins_subframe.ensures.no w.if-not-begins_subframe.true
           (subst (λ m. IsFrontOf c.in-Some.candidate.level m (take 64 (word_cells c.completed-cells.result)))
           (sym c.mark_of.ensures) z.whole)
-      | then-not-begins_subframe-via-else-not-begins_subframe+then-not-begins_subframe-2 w ↦
+      | goal.then-not-begins_subframe-via-else-not-begins_subframe+then-not-begins_subframe-2 w ↦
           w.begins_subframe-else-not-begins_subframe.ensures.no w.if-not-begins_subframe-2.true
           (subst (λ m. IsFrontOf c.last_of-level.result m
           (take ((c.self.inside.seen - c.in-Some.candidate.at) % 64) (word_cells c.rest_of-rest.result)))

@@ -31,12 +31,13 @@ returns-in-Ok-clause-told g c = λ setting level done many w turns.
     let begun = c.begin.ensures in
     let u = after level done in
     let within = c.requires.within in
-    let turned : level_if old.line.edges.high ≡ other (after u runs) = turns ∙ ap other (after-append level done runs) in
+    let turned : level_if old.line.edges.high ≡ other (after u runs) =
+    turns ∙ ap other (after-append level done runs) in
     let long : 128 ≤ length runs
     = let all = length-take-le c.args.count old.runs (omega (arith, within)) in omega (arith, all, many) in
     ok-map c.release-in-Ok.result _ _
-    (λ t. told-measured old mid new c.args.sink.now c.begin.new.sink c.release-in-Ok.new.sink setting level done runs w long
-    c.in-Ok.ensures.again
+    (λ t. told-measured old mid new c.args.sink.now c.begin.new.sink c.release-in-Ok.new.sink setting level done runs
+    w long c.in-Ok.ensures.again
     (λ f. subst (λ (x : Follower). Gave g.T.Sink.taken old.line mid.line c.args.sink.now c.begin.new.sink
     (replicate (min (65536 * old.held) (2 ^ 64 - 1) / x.period) u)) (sym begun.follower)
     (c.in-Ok.ensures.first u f turned))
@@ -44,5 +45,6 @@ returns-in-Ok-clause-told g c = λ setting level done many w turns.
     (take c.args.count l)) begun.runs t) k.found_is (k.known_is ∙ begun.known)
     (subst (λ (x : Follower). IsMeasured setting.known runs x) (sym begun.follower)
     (subst (λ (k : Option ℕ). IsMeasured k runs c.in-Some.follower) w.known_is c.in-Some.ensures)))
-    (c.release-in-Ok.ensures.told u (subst (λ (l : List ℕ). level_if mid.line.edges.high ≡ other (after u (take c.args.count l)))
+    (c.release-in-Ok.ensures.told u
+    (subst (λ (l : List ℕ). level_if mid.line.edges.high ≡ other (after u (take c.args.count l)))
     (sym begun.runs) (ap (λ e. level_if e.high) begun.edges ∙ turned)))

@@ -13,7 +13,8 @@ returns-in-Following-clause-stands g c = λ setting level done past h turns flip
     let new = c.follow.new.self in
     let k = c.follow.ensures.keeps in
     let found = h.order.followed c.in-Following.is in
-    stands-run g.T.Sink.taken old new c.args.sink.now c.follow.new.sink c.follow.result setting level done past c.args.run c.args.high
+    stands-run g.T.Sink.taken old new c.args.sink.now c.follow.new.sink c.follow.result setting level done past
+    c.args.run c.args.high
     (h.order.none_wait (λ m. apart (sym c.in-Following.is ∙ m))) h.told_is turns flips
     (λ e. tell-ok old new c.args.sink.now c.follow.new.sink c.follow.result (after level done) (level_if c.args.high)
     c.args.run found e c.follow.ensures.told) k (λ f. k.found_is ∙ found)
@@ -25,7 +26,8 @@ pub returns-in-Still-clause-stands : goal.returns-in-Still-clause-stands
 returns-in-Still-clause-stands g c = λ setting level done past h turns flips.
     let old = c.args.self.now in
     let new = c.tell.new.self in
-    stands-run g.T.Sink.taken _ new c.args.sink.now c.tell.new.sink c.tell.result setting level done past c.args.run c.args.high
+    stands-run g.T.Sink.taken _ new c.args.sink.now c.tell.new.sink c.tell.result setting level done past
+    c.args.run c.args.high
     (h.order.none_wait (λ m. apart (sym c.in-Still.is ∙ m)))
     (told-keeps (g.T.Sink.taken c.args.sink.now) setting level done past old _ h.told_is refl refl refl refl refl refl)
     turns flips (c.tell.ensures.told (after level done)) c.tell.ensures.keeps

@@ -14,13 +14,15 @@ returns-in-Ok-finish-clause-ended g c = λ setting level done past w turns.
     let taken = c.take_waiting-run.ensures in
     let high : level_if c.is_high-high.result ≡ other (after level done)
     = ap level_if (c.is_high-high.ensures ∙ taken.level) ∙ turns in
-    let told : AreTold (g.T.Sink.taken c.tell.new.sink) setting level (done ++ (past + c.take_waiting-run.result) ∷ []) 0 new
+    let told : AreTold (g.T.Sink.taken c.tell.new.sink) setting level
+    (done ++ (past + c.take_waiting-run.result) ∷ []) 0 new
     = told-more _ new c.args.sink.now c.tell.new.sink setting level done past c.take_waiting-run.result []
     (told-keeps (g.T.Sink.taken c.args.sink.now) setting level done past old _ w refl refl refl refl taken.queue
     taken.follower)
     (c.in-Ok.ensures.told (after level done) high) k.found_is k.known_is k.measured_is in
     let all : AreTold (g.T.Sink.taken c.tell.new.sink) setting level (done ++ (past + old.line.edges.run) ∷ []) 0 new
-    = subst (λ n. AreTold (g.T.Sink.taken c.tell.new.sink) setting level (done ++ (past + n) ∷ []) 0 new) taken.all told in
+    = subst (λ n. AreTold (g.T.Sink.taken c.tell.new.sink) setting level (done ++ (past + n) ∷ []) 0 new)
+    taken.all told in
     ended-ok setting level (done ++ (past + old.line.edges.run) ∷ []) new c.tell.new.sink c.finish.new.sink
     c.in-Ok-finish.field-0 (g.T.Sink.taken c.flush.new.self) c.flush.result all c.in-Ok-finish.ensures.cells
     c.flush.ensures.bytes

@@ -1,4 +1,5 @@
-use Rattle.std.proofs.Common.{◌++◌, length, ap, sym, subst, arith, length-append}
+use Rattle.std.proofs.Common.{Result, Ok, Err, OnOk, ◌++◌, length, ap, sym, subst, arith, length-append}
+use Rattle.std.proofs.lemmas.Result.{on_ok_weaker, on_err_weaker}
 use Rattle.aes3_level.specs.Words.{word_cells}
 use Rattle.aes3_cell.proofs.Growing.{front-is}
 use Rattle.aes3_slot.proofs.ReadSubframes.{length-word}
@@ -29,20 +30,30 @@ tell_all-requires-clause-few g c =
     let e = length-append (marks q.0) f.result in
     omega (arith, l, s, m, n, a, b, e)
 
-pub returns-in-Ok-clause-next : goal.returns-in-Ok-clause-next
-returns-in-Ok-clause-next g c = λ d h.
-    let f = c.take_word-found in
-    subst (λ k. Scanned k c.tell_all.new.self.marks (d ++ word_cells c.args.word)) (sym c.in-Ok.ensures.scan)
-    (scanned-marks (word_cells c.args.word) f.result h (f.ensures.follows d h.follows) (f.ensures.marks d h.follows)
-    c.in-Ok.ensures.marks)
+-- what follows from two clauses of a call that ended well
+from-both : {R E A B C : Type 0} (r : Result R E) → OnOk r A → OnOk r B → (A → B → C) → OnOk r C
+from-both (Ok v) a b f = f a b
+from-both (Err e) a b f = tt
 
-pub returns-in-Ok-clause-wrote : goal.returns-in-Ok-clause-wrote
-returns-in-Ok-clause-wrote g c = λ d h.
+pub returns-clause-next : goal.returns-clause-next
+returns-clause-next g c =
     let f = c.take_word-found in
-    held-is (sym (marks-behind d (word_cells c.args.word) f.result (f.ensures.marks d h.follows))) c.in-Ok.ensures.wrote
+    from-both c.tell_all.result c.tell_all.ensures.scan c.tell_all.ensures.marks (λ s m d h.
+    subst (λ k. Scanned k c.tell_all.new.self.marks (d ++ word_cells c.args.word)) (sym s)
+    (scanned-marks (word_cells c.args.word) f.result h (f.ensures.follows d h.follows)
+    (f.ensures.marks d h.follows) m))
 
-pub returns-in-Err-clause-err_grew : goal.returns-in-Err-clause-err_grew
-returns-in-Err-clause-err_grew g c = λ d h.
+pub returns-clause-wrote : goal.returns-clause-wrote
+returns-clause-wrote g c =
     let f = c.take_word-found in
+    on_ok_weaker c.tell_all.result (λ w d h.
+    held-is (sym (marks-behind d (word_cells c.args.word) f.result (f.ensures.marks d h.follows))) w)
+    c.tell_all.ensures.wrote
+
+pub returns-clause-err_grew : goal.returns-clause-err_grew
+returns-clause-err_grew g c =
+    let f = c.take_word-found in
+    on_err_weaker c.tell_all.result (λ e d h.
     front-is (ap (λ z. c.args.self.now.lines ++ z)
-    (sym (marks-behind d (word_cells c.args.word) f.result (f.ensures.marks d h.follows)))) c.in-Err.ensures.err.1
+    (sym (marks-behind d (word_cells c.args.word) f.result (f.ensures.marks d h.follows)))) e.1)
+    c.tell_all.ensures.err

@@ -1,5 +1,6 @@
 use Rattle.std.proofs.Common.{rules, ◌≡◌, ◌+◌, ◌++◌, None, refl, ap, ◌∙◌, arith}
 use Rattle.std.specs.Prelude.{option_to_list}
+use Rattle.std.proofs.lemmas.Result.{err_from_is_err_and}
 use Rattle.aes3_lines.proofs.Gathering.{telling-starts, telling-next, telling-few, telling-fails, telling-ends}
 use Rattle.aes3_reports.proofs.scanning.MarkLines.tell_all.Goals as goal
 
@@ -18,18 +19,21 @@ loop-mark-preserved g c =
     let v = c.loop-mark.invariant in
     let e = c.take_next.ensures.next ∙ ap (λ o. option_to_list o ++ c.take_next.new.self) c.in-Some.is in
     record {
-      telling = telling-next c.in-Some.mark c.take_next.new.self v.telling e c.tell.ensures.marks c.in-Ok.ensures.wrote;
+      telling = telling-next c.in-Some.mark c.take_next.new.self v.telling e
+          c.tell.ensures.marks c.in_ok-tell.ensures.wrote;
       scan = c.tell.ensures.scan ∙ v.scan;
-      fits = c.in-Ok.ensures.fits;
-      quiet = c.in-Ok.ensures.count ∙ v.quiet;
+      fits = c.in_ok-tell.ensures.fits;
+      quiet = c.in_ok-tell.ensures.count ∙ v.quiet;
     }
 
-pub returns-in-Err-clause-err : goal.returns-in-Err-clause-err
-returns-in-Err-clause-err g c =
+pub returns-in_err-tell-clause-err : goal.returns-in_err-tell-clause-err
+returns-in_err-tell-clause-err g c =
     let v = c.loop-mark.invariant in
-    let e = c.take_next.ensures.next ∙ ap (λ o. option_to_list o ++ c.take_next.new.self) c.in-Some.is in (
-      c.in-Err.ensures.err.0 ∙ ap (λ n. n + 1) v.quiet,
-      telling-fails c.in-Some.mark c.take_next.new.self v.telling e c.in-Err.ensures.err.1,
+    let e = c.take_next.ensures.next ∙ ap (λ o. option_to_list o ++ c.take_next.new.self) c.in-Some.is in
+    let error = err_from_is_err_and c.from_residual.result c.from_residual.ensures.1 in
+    rw error.1 (
+      c.in_err-tell.ensures.err.0 ∙ ap (λ n. n + 1) v.quiet,
+      telling-fails c.in-Some.mark c.take_next.new.self v.telling e c.in_err-tell.ensures.err.1,
     )
 
 pub returns-clause-wrote : goal.returns-clause-wrote

@@ -1,5 +1,6 @@
 use Rattle.std.proofs.Common.{◌-◌, ◌/◌, ◌^◌, ◌++◌, refl, sym, ap, subst, ◌∙◌, arith}
 use Rattle.std.specs.Prelude.{option_to_list}
+use Rattle.std.proofs.lemmas.Result.{err_from_is_err_and}
 use Rattle.aes3_level.specs.Words.{low_cells}
 use Rattle.aes3_cell.proofs.Growing.{front-is, front-more}
 use Rattle.aes3_lock.specs.Preambles.{marks}
@@ -25,8 +26,8 @@ tell_alone-requires-clause-few g c =
     let n = few-marks q.0 in
     omega arith
 
-pub returns-in-Ok : goal.returns-in-Ok
-returns-in-Ok g c =
+pub returns-in_ok-tell_alone-in-Some : goal.returns-in_ok-tell_alone-in-Some
+returns-in_ok-tell_alone-in-Some g c =
     let p = c.next_in-taken.ensures in
     let b = low_cells c.next_in-taken.result.0 c.args.word in
     record {
@@ -36,33 +37,36 @@ returns-in-Ok g c =
         (
           refl,
           (λ d h. (
-            c.in-Ok.ensures.none,
+            c.in_ok-tell_alone-in-Some.ensures.none,
             subst (λ k. Scanned k c.tell_alone.new.self.marks (d ++ b)) (sym c.tell_alone.ensures.scan)
                 (subst (λ m. Scanned c.next_in-taken.new.self m (d ++ b)) (sym c.tell_alone.ensures.marks)
                 (scanned-mark b c.in-Some.found h.1 (p.follows d h.1.follows)
                 (p.mark d h.1.follows ∙ ap (λ o. marks d ++ option_to_list o) c.in-Some.is))),
           )),
           (λ d h. told-grew _ _ d b c.in-Some.found
-              (p.mark d h.1.follows ∙ ap (λ o. marks d ++ option_to_list o) c.in-Some.is) c.in-Ok.ensures.wrote.grew),
-          c.in-Ok.ensures.wrote.count,
+              (p.mark d h.1.follows ∙ ap (λ o. marks d ++ option_to_list o) c.in-Some.is)
+              c.in_ok-tell_alone-in-Some.ensures.wrote.grew),
+          c.in_ok-tell_alone-in-Some.ensures.wrote.count,
         ),
       );
     }
 
-pub returns-in-Err : goal.returns-in-Err
-returns-in-Err g c =
+pub returns-in_err-tell_alone-in-Some : goal.returns-in_err-tell_alone-in-Some
+returns-in_err-tell_alone-in-Some g c =
     let p = c.next_in-taken.ensures in
     let n = c.next_in-taken.result.0 in
     let b = low_cells n c.args.word in
     let rest = low_cells (c.args.len - n) (c.args.word / 2 ^ n) in
+    let error = err_from_is_err_and c.from_residual.result c.from_residual.ensures.1 in
     record {
-      ran = (
-        c.in-Err.ensures.wrote.err.0,
+      ran = rw error.1 (
+        c.in_err-tell_alone-in-Some.ensures.wrote.err.0,
         (λ d h.
             front-is (sym (ap (λ z. behind marking d z) (cells-parted c.args.word n c.args.len p.within)
             ∙ items-join marking d b rest))
             (front-more (told-front _ _ d b c.in-Some.found
-            (p.mark d h.1.follows ∙ ap (λ o. marks d ++ option_to_list o) c.in-Some.is) c.in-Err.ensures.wrote.err.1)
+            (p.mark d h.1.follows ∙ ap (λ o. marks d ++ option_to_list o) c.in-Some.is)
+            c.in_err-tell_alone-in-Some.ensures.wrote.err.1)
             _)),
       );
     }

@@ -1,14 +1,19 @@
 use Rattle.std.proofs.Common.{◌≡◌, ◌+◌, ◌*◌, ◌^◌, ◌<◌, ◌≤◌, [], ◌++◌, List, Option, ℕ, length, take, drop, get_or, refl}
-use Rattle.std.proofs.Common.{sym, ap, ◌∙◌, subst, arith, append_assoc, length-append}
+use Rattle.std.proofs.Common.{Result, Ok, Err, OnOk, OnErr, sym, ap, ◌∙◌, subst, arith, append_assoc, length-append}
 use Rattle.std.specs.List.{flat_map}
 use Rattle.std.proofs.lemmas.List.{length-take-le, take_all}
+use Rattle.std.proofs.lemmas.Result.{err_from_is_err_and}
 use Rattle.aes3_level.specs.declared.level.Level.{Level}
 use Rattle.aes3_level.specs.Words.{word_cells}
+use Rattle.aes3_cell.specs.declared.ends.Fault.{Fault}
 use Rattle.aes3_cell.proofs.Growing.{front-is, front-more}
-use Rattle.aes3_input.specs.Taking.{behind}
+use Rattle.aes3_input.specs.Forms.{CellsRan}
+use Rattle.aes3_input.specs.Running.{Movement, movement_of}
+use Rattle.aes3_input.specs.Taking.{TakerState, behind}
 use Rattle.aes3_input.proofs.Items.{items-join}
 use Rattle.aes3_input.proofs.Handing.{length-words, words-more, words-parted}
 use Rattle.aes3_lines.specs.Gathering.{AllButHeld}
+use Rattle.aes3_lock.specs.Following.{ScanState}
 use Rattle.aes3_reports.specs.Scanning.{Scanned, marking}
 use Rattle.aes3_lines.proofs.Gathering.{held-is, held-join, held-front, all-handed, front-handed}
 use Rattle.aes3_reports.proofs.scanning.MarkLinesTaker.words.Goals as goal
@@ -37,7 +42,7 @@ more d ws i h =
 pub loop-word-preserved : goal.loop-word-preserved
 loop-word-preserved g c =
     let v = c.loop-word.invariant in
-    let r = c.in-Ok.ensures in
+    let r = c.in_ok-take_word.ensures in
     let ws = c.args.words.now in
     let i = c.loop-word.word-index in
     let f = flat_map word_cells (take i ws) in
@@ -51,16 +56,17 @@ loop-word-preserved g c =
       quiet = r.count ∙ v.quiet;
     }
 
-pub returns-in-Err : goal.returns-in-Err
-returns-in-Err g c =
+pub returns-in_err-take_word : goal.returns-in_err-take_word
+returns-in_err-take_word g c =
     let v = c.loop-word.invariant in
-    let r = c.in-Err.ensures in
+    let r = c.in_err-take_word.ensures in
     let ws = c.args.words.now in
     let i = c.loop-word.word-index in
     let f = flat_map word_cells (take i ws) in
     let rest = flat_map word_cells (drop (i + 1) ws) in
+    let error = err_from_is_err_and c.from_residual.result c.from_residual.ensures.1 in
     record {
-      ran = (
+      ran = rw error.1 (
         r.err_count ∙ ap (λ k. k + 1) v.quiet,
         (λ d h.
             front-is
@@ -83,34 +89,45 @@ all {t} {t'} {h} {k} d ws i l e x =
     subst (λ z. AllButHeld t t' z k (behind marking d (flat_map word_cells ws))) e
     (held-is (ap (λ z. behind marking d (flat_map word_cells z)) (take_all i ws l)) x)
 
-pub returns-in-Ok-hand_on : goal.returns-in-Ok-hand_on
-returns-in-Ok-hand_on g c =
-    let v = c.loop-word.invariant in
-    let r = c.in-Ok-hand_on.ensures in
-    let ws = c.args.words.now in
-    let i = c.loop-word.word-index in
-    record {
-      ran = (
-        refl,
-        (λ d h. (
-          r.none,
-          subst (λ z. Scanned c.loop-word.self.scan c.loop-word.self.marks (d ++ flat_map word_cells z))
-              (take_all i ws (omega arith)) (v.next d h.1),
-        )),
-        (λ d h. all-handed (all d ws i (omega arith) h.0 (v.held d h.1)) r.wrote.grew),
-        r.wrote.count ∙ v.quiet,
-      );
-    }
+-- a taker that holds these lines
+abbrev state-of : List ℕ → ScanState → ℕ → TakerState Level
+state-of lines scan count = record {
+  writes = marking;
+  follows = λ c. (lines ≡ []) × Scanned scan count c;
+  finished = Scanned scan count;
+}
 
-pub returns-in-Err-hand_on : goal.returns-in-Err-hand_on
-returns-in-Err-hand_on g c =
+-- what the last call answers is answered
+ran-by : (old new : TakerState Level) (d : List Level) (sink : Movement) {A B C D : Type 0}
+    (r : Result (Unit {0}) Fault) → OnOk r A → OnOk r B → OnOk r C → OnErr r D
+    → (A → B → C → CellsRan old new d sink (Ok tt)) → (D → (x : Fault) → CellsRan old new d sink (Err x))
+    → CellsRan old new d sink r
+ran-by old new d sink (Ok u) a b c e f k = f a b c
+ran-by old new d sink (Err x) a b c e f k = k e x
+
+pub returns : goal.returns
+returns g c =
     let v = c.loop-word.invariant in
-    let r = c.in-Err-hand_on.ensures in
+    let r = c.hand_on.ensures in
     let ws = c.args.words.now in
     let i = c.loop-word.word-index in
     record {
-      ran = (
-        r.wrote.err.0 ∙ ap (λ k. k + 1) v.quiet,
-        (λ d h. front-handed (all d ws i (omega arith) h.0 (v.held d h.1)) r.wrote.err.1),
-      );
+      ran = ran-by (state-of c.args.self.now.lines c.args.self.now.scan c.args.self.now.marks)
+          (state-of c.hand_on.new.self c.loop-word.self.scan c.loop-word.self.marks) (flat_map word_cells ws)
+          (movement_of g.T.Sink.taken g.T.Sink.failed c.args.sink.now c.hand_on.new.sink)
+          c.hand_on.result r.none r.wrote.grew r.wrote.count r.wrote.err
+          (λ none grew count. (
+            refl,
+            (λ d h. (
+              none,
+              subst (λ z. Scanned c.loop-word.self.scan c.loop-word.self.marks (d ++ flat_map word_cells z))
+                  (take_all i ws (omega arith)) (v.next d h.1),
+            )),
+            (λ d h. all-handed (all d ws i (omega arith) h.0 (v.held d h.1)) grew),
+            count ∙ v.quiet,
+          ))
+          (λ e x. (
+            e.0 ∙ ap (λ k. k + 1) v.quiet,
+            (λ d h. front-handed (all d ws i (omega arith) h.0 (v.held d h.1)) e.1),
+          ));
     }

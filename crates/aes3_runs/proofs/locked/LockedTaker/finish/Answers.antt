@@ -1,4 +1,5 @@
 use Rattle.std.proofs.Common.{◌++◌, ◌∷◌, [], arith, sym, length-append}
+use Rattle.std.proofs.lemmas.Result.{err_from_is_err_and}
 use Rattle.aes3_lock.specs.Following.{Follows, report_in}
 use Rattle.aes3_lock.specs.Reports.{decided}
 use Rattle.aes3_cell.proofs.Growing.{front-more, front-is}
@@ -23,7 +24,7 @@ finish-requires-clause-following g c =
     let n = length-append (decided h.0) (report_in c.args.self.now.lock c.in-Some.ending ∷ []) in (
       decided h.0 ++ report_in c.args.self.now.lock c.in-Some.ending ∷ [],
       omega arith,
-      c.in-Ok.ensures.next
+      c.in_ok-tell-in-Some.ensures.next
           (decided h.0) h.2.1,
     )
 
@@ -34,31 +35,33 @@ finish-requires-in-None-clause-following g c =
     let f = few-decided h.0 in
     (decided h.0, omega arith, h.2.1)
 
-pub returns-in-Ok-clause-grew : goal.returns-in-Ok-clause-grew
-returns-in-Ok-clause-grew g c =
+pub returns-in_ok-tell-in-Some-clause-grew : goal.returns-in_ok-tell-in-Some-clause-grew
+returns-in_ok-tell-in-Some-clause-grew g c =
     ok-last c.finish.result (g.T.Sink.taken c.finish.new.sink)
     (record {
-      same = c.in-Ok.ensures.same;
+      same = c.in_ok-tell-in-Some.ensures.same;
       last = λ d h. c.in-Some.ensures d h;
-      next = c.in-Ok.ensures.next;
-      grew = c.in-Ok.ensures.grew;
+      next = c.in_ok-tell-in-Some.ensures.next;
+      grew = c.in_ok-tell-in-Some.ensures.grew;
     }) c.finish.ensures.grew
 
-pub returns-in-Ok-clause-err_grew : goal.returns-in-Ok-clause-err_grew
-returns-in-Ok-clause-err_grew g c =
+pub returns-in_ok-tell-in-Some-clause-err_grew : goal.returns-in_ok-tell-in-Some-clause-err_grew
+returns-in_ok-tell-in-Some-clause-err_grew g c =
     err-last c.finish.result (g.T.Sink.taken c.finish.new.sink)
     (record {
-      same = c.in-Ok.ensures.same;
+      same = c.in_ok-tell-in-Some.ensures.same;
       last = λ d h. c.in-Some.ensures d h;
-      next = c.in-Ok.ensures.next;
-      grew = c.in-Ok.ensures.grew;
+      next = c.in_ok-tell-in-Some.ensures.next;
+      grew = c.in_ok-tell-in-Some.ensures.grew;
     }) c.finish.ensures.err_grew
 
-pub returns-in-Err-clause-err_grew : goal.returns-in-Err-clause-err_grew
-returns-in-Err-clause-err_grew g c = λ d h.
+pub returns-in_err-tell-in-Some-clause-err_grew : goal.returns-in_err-tell-in-Some-clause-err_grew
+returns-in_err-tell-in-Some-clause-err_grew g c =
+    let error = err_from_is_err_and c.from_residual.result c.from_residual.ensures.1 in
+    rw error.1 (λ d h.
     let w = g.R.Reporter.writes c.args.self.now.reporter in
     front-is (sym (ends-one w d (report_in c.args.self.now.lock c.in-Some.ending) (c.in-Some.ensures d h.0)))
-    (front-more (c.in-Err.ensures.err_grew (decided d) h.1) _)
+    (front-more (c.in_err-tell-in-Some.ensures.err_grew (decided d) h.1) _))
 
 pub returns-in-None-clause-grew : goal.returns-in-None-clause-grew
 returns-in-None-clause-grew g c =

@@ -2,6 +2,7 @@ use Rattle.std.proofs.Common.{◌≡◌, ◌+◌, ◌-◌, ◌*◌, ◌^◌, ◌
 use Rattle.std.proofs.Common.{length-append, length-drop}
 use Rattle.std.specs.List.{flat_map}
 use Rattle.std.proofs.lemmas.List.{length-take-le, take_rest, take_all}
+use Rattle.std.proofs.lemmas.Result.{err_from_is_err_and}
 use Rattle.aes3_level.specs.Words.{word_len, word_cells}
 use Rattle.aes3_input.proofs.Handing.{handed-is, handed-cells, handed-cells-front, length-words, words-more}
 use Rattle.aes3_input.proofs.Handing.{words-parted}
@@ -63,7 +64,7 @@ loop-at-preserved g c =
     let at = c.loop-at.at in
     let v = c.loop-at.invariant in
     let n = c.take_words-at.result in
-    let r = c.in-Ok.ensures.ran in
+    let r = c.in_ok-cells.ensures.ran in
     let h =
     handed-quiet (g.R.Reporter.writes c.loop-at.self.reporter) c.loop-at.self.lock c.take_words-at.new.self
     (g.R.Reporter.follows c.loop-at.self.reporter)
@@ -75,21 +76,22 @@ loop-at-preserved g c =
       quiet = r.3 ∙ v.quiet;
     }
 
-pub returns-in-Err : goal.returns-in-Err
+pub returns-in_err-cells : goal.returns-in_err-cells
 unfolding word_cells word_len
-returns-in-Err g c =
+returns-in_err-cells g c =
     let ws = c.args.words.now in
     let at = c.loop-at.at in
     let v = c.loop-at.invariant in
     let n = c.take_words-at.result in
-    let r = c.in-Err.ensures.ran in
+    let r = c.in_err-cells.ensures.ran in
     let h =
     handed-quiet (g.R.Reporter.writes c.loop-at.self.reporter) c.loop-at.self.lock c.take_words-at.new.self
     (g.R.Reporter.follows c.loop-at.self.reporter)
     ws (take (length ws - at) (drop at ws)) at n
     (take_rest ws at) v.handed c.take_words-at.ensures.follows c.take_words-at.ensures.none in
+    let error = err_from_is_err_and c.from_residual.result c.from_residual.ensures.1 in
     record {
-      ran = (
+      ran = rw error.1 (
         r.0 ∙ ap (λ k. k + 1) v.quiet,
         handed-cells-front (word_cells (get_or ws (at + n) 0)) (flat_map word_cells (drop (at + n + 1) ws))
             (words-more ws (at + n) (omega arith)) (words-parted ws (at + n + 1)) h r.1,

@@ -1,0 +1,17 @@
+use Rattle.std.proofs.Common.{refl}
+use Rattle.aes3_input.proofs.InputRuns.{run-ok, run-err}
+use Rattle.aes3_engine.proofs.WordRuns.{starts-words, words-counted, words-gives}
+use Rattle.aes3_engine.proofs.word_encoding.encode_other.Goals as goal
+
+pub convert-requires-clause-start : goal.convert-requires-clause-start
+convert-requires-clause-start g c =
+    starts-words c.args.words c.new-file.result c.new-file.ensures.seen c.new-file.ensures.words
+    c.new-file.ensures.bytes c.new-file.ensures.open _ refl
+
+pub returns-in-Ok-clause-run : goal.returns-in-Ok-clause-run
+returns-in-Ok-clause-run g c =
+    run-ok (words-gives c.args.words c.args.output _) (λ b i h. words-counted b c.in-Ok.bytes h.1)
+    c.in-Ok.ensures.run.run
+
+pub returns-in-Err-clause-run : goal.returns-in-Err-clause-run
+returns-in-Err-clause-run g c = run-err (words-gives c.args.words c.args.output _) c.in-Err.ensures.run.run

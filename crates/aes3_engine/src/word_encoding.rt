@@ -1,0 +1,264 @@
+//! Block files whose words are in the form of another program, to cells.
+
+ghost use Rattle.std.specs.Prelude.{◌≡◌, ℕ, ◌+◌, ◌<◌, ◌≤◌, ◌^◌, List, [], ◌∷◌, take, length, IfOk};
+ghost use Rattle.std.specs.Prelude.{IfSome, IsTrue};
+ghost use Rattle.aes3_cell.specs.Ends.{Grew, Told};
+ghost use Rattle.aes3_cell.specs.Written.{written};
+ghost use Rattle.aes3_level.specs.declared.level.Level.{Level};
+ghost use Rattle.aes3_lock.specs.Reports.{blocks, normal};
+ghost use Rattle.aes3_input.specs.Running.{FrontRan, InputRun, PieceRan, movement_of};
+ghost use Rattle.aes3_words.specs.Reading.{is_left_out};
+ghost use Rattle.aes3_engine.specs.Words.{TakesWords, WordRan, encoded_other, encoded_words, words_file};
+ghost use Rattle.aes3_engine.specs.Words.{words_state};
+
+use crate::encoding::{Encoder, blank_cells, encode};
+use aes3_block::{BLOCK_BYTES, BlockFile, SLOTS};
+use aes3_cell::{Counts, Form, RunError, Sink, Source, put_ending};
+use aes3_input::{Input, convert, feed_fronts};
+use aes3_words::Words;
+
+/// How many octets a word has.
+const WORD_LEN: usize = 4;
+
+/// How many words of a block stand before the next one at most.
+const MOST_LEFT_OUT: usize = SLOTS - 1;
+
+/// Reads words as a block file's: those before the first that may begin a block are left out, as many
+/// as a block has behind its first.
+#[derive(Drop)]
+struct WordReader {
+    file: BlockFile,
+    words: Words,
+    /// How many words may still be left out before the first block.
+    left: usize,
+    has_begun: bool,
+}
+
+impl WordReader {
+    /// Whether the next word is left out, which begins with this octet.
+    fn is_left_out(&self, octet: u8) -> bool
+        ensures { result ≡ is_left_out self.now.has_begun self.now.words self.now.left octet }
+    {
+        !self.has_begun && self.left > 0 && self.words.is_within(octet)
+    }
+
+    /// Takes a word, and writes the block that it ends.
+    fn take_word<T: Sink>(
+        &mut self,
+        encoder: &mut Encoder,
+        sink: &mut T,
+        word: [u8; WORD_LEN],
+    ) -> Result<(), RunError>
+        requires room { T.failed sink.old + 1 < 2 ^ 64 }
+        requires following { (begun b : List ℕ) × (length b + 4 ≤ 2 ^ 40 + length begun)
+            × TakesWords self.old.words self.old.file encoder.old.blocks self.old.left
+            self.old.has_begun begun b }
+        ensures { WordRan (words_state self.old.words encoder.old.output self.old.file
+            encoder.old.blocks self.old.left self.old.has_begun)
+            (words_state self.new.words encoder.new.output self.new.file encoder.new.blocks
+            self.new.left self.new.has_begun []) word
+            (movement_of T.taken T.failed sink.old sink.new) result }
+    {
+        if self.is_left_out(word[0]) {
+            self.left -= 1;
+            return Ok(());
+        }
+        self.has_begun = true;
+        let place = (self.file.seen() / WORD_LEN as u64 % SLOTS as u64) as usize;
+        let own = self.words.read_word(place, word);
+        feed_fronts(&mut self.file, encoder, sink, &own)
+    }
+}
+
+/// Words as they come, in pieces of any size.
+#[derive(Drop)]
+struct WordFile {
+    reader: WordReader,
+    /// The octets of the word that is begun, and how many they are.
+    begun: [u8; WORD_LEN],
+    len: usize,
+    ghost few: { len < 4 },
+}
+
+impl WordFile {
+    /// The word that a piece begins with, where none is begun.
+    fn whole_word(&self, piece: &[u8]) -> Option<[u8; WORD_LEN]>
+        ensures none_begun { IfSome result (λ _. self.now.len ≡ 0) }
+        ensures enough { IfSome result (λ _. WORD_LEN ≤ length piece.now) }
+        ensures word { IfSome result (λ word. word ≡ take WORD_LEN piece.now) }
+    {
+        if self.len > 0 {
+            return None;
+        }
+        match piece.first_chunk() {
+            Some(word) => Some(*word),
+            None => None,
+        }
+    }
+
+    /// Takes an octet, and with it the word that it ends.
+    fn take_octet<T: Sink>(
+        &mut self,
+        encoder: &mut Encoder,
+        sink: &mut T,
+        octet: u8,
+    ) -> Result<(), RunError>
+        requires room { T.failed sink.old + 1 < 2 ^ 64 }
+        requires following { (b : List ℕ) × (length b + 1 ≤ 2 ^ 40) × TakesWords self.old.reader.words
+            self.old.reader.file encoder.old.blocks self.old.reader.left self.old.reader.has_begun
+            (take self.old.len self.old.begun) b }
+        ensures { PieceRan (words_state self.old.reader.words encoder.old.output self.old.reader.file
+            encoder.old.blocks self.old.reader.left self.old.reader.has_begun
+            (take self.old.len self.old.begun))
+            (words_state self.new.reader.words encoder.new.output self.new.reader.file
+            encoder.new.blocks self.new.reader.left self.new.reader.has_begun
+            (take self.new.len self.new.begun)) (octet ∷ [])
+            (movement_of T.taken T.failed sink.old sink.new) result }
+    {
+        let mut begun = self.begun;
+        begun[self.len] = octet;
+        self.begun = begun;
+        let count = self.len + 1;
+        if count < WORD_LEN {
+            self.len = count;
+            return Ok(());
+        }
+        self.len = 0;
+        self.reader.take_word(encoder, sink, begun)
+    }
+}
+
+impl Input<Encoder> for WordFile {
+    ghost state = { λ w encoder. words_state w.reader.words encoder.output w.reader.file
+        encoder.blocks w.reader.left w.reader.has_begun (take w.len w.begun) };
+
+    /// Takes a word where none is begun, else an octet.
+    fn take_front<T: Sink>(
+        &mut self,
+        encoder: &mut Encoder,
+        sink: &mut T,
+        piece: &[u8],
+    ) -> Result<usize, RunError> {
+        if let Some(word) = self.whole_word(piece) {
+            return match self.reader.take_word(encoder, sink, word) {
+                Ok(()) => Ok(WORD_LEN),
+                Err(error) => Err(error),
+            };
+        }
+        match self.take_octet(encoder, sink, piece[0]) {
+            Ok(()) => Ok(1),
+            Err(error) => Err(error),
+        }
+    }
+
+    fn finish<T: Sink>(&mut self, encoder: &mut Encoder, sink: &mut T) -> Result<(), RunError> {
+        let left = (self.reader.file.seen() + self.len as u64) % BLOCK_BYTES as u64;
+        if left > 0 {
+            return Err(RunError::BadLength { left });
+        }
+        match put_ending(encoder.output, sink) {
+            Ok(()) => Ok(()),
+            Err(_) => Err(RunError::Write),
+        }
+    }
+}
+
+/// Does what [`encode_words`] does, of words in a form that is not their own.
+fn encode_other<S: Source, T: Sink>(
+    source: &mut S,
+    sink: &mut T,
+    max_bytes: u64,
+    output: Form,
+    words: Words,
+) -> Result<Counts, RunError>
+    requires source_room { S.failed source.old + 1 < 2 ^ 64 }
+    requires sink_room { T.failed sink.old + 1 < 2 ^ 64 }
+    requires limit { max_bytes ≤ 2 ^ 40 }
+    ensures run { InputRun (encoded_other words output) max_bytes (S.has_ended source.new)
+        (movement_of S.given S.failed source.old source.new)
+        (movement_of T.taken T.failed sink.old sink.new) result }
+    ensures passed_on { IfOk result (λ _. T.passed sink.new ≡ T.taken sink.new) }
+{
+    let file = BlockFile::new();
+    let reader = WordReader {
+        file,
+        words,
+        left: MOST_LEFT_OUT,
+        has_begun: false,
+    };
+    let mut input = WordFile {
+        reader,
+        begun: [0; WORD_LEN],
+        len: 0,
+    };
+    let mut encoder = Encoder {
+        output,
+        blocks: 0,
+        cells: blank_cells(),
+    };
+    match convert(source, sink, max_bytes, &mut input, &mut encoder) {
+        Ok(bytes) => Ok(Counts {
+            bytes,
+            cells: 0,
+            blocks: 0,
+            faults: 0,
+            unfinished: 0,
+            marks: 0,
+        }),
+        Err(error) => Err(error),
+    }
+}
+
+/// Does what [`encode_words`] does.
+fn encode_in<S: Source, T: Sink>(
+    source: &mut S,
+    sink: &mut T,
+    max_bytes: u64,
+    output: Form,
+    words: Words,
+) -> Result<Counts, RunError>
+    requires source_room { S.failed source.old + 1 < 2 ^ 64 }
+    requires sink_room { T.failed sink.old + 1 < 2 ^ 64 }
+    requires limit { max_bytes ≤ 2 ^ 40 }
+    ensures run { InputRun (encoded_words words output) max_bytes (S.has_ended source.new)
+        (movement_of S.given S.failed source.old source.new)
+        (movement_of T.taken T.failed sink.old sink.new) result }
+    ensures passed_on { IfOk result (λ _. T.passed sink.new ≡ T.taken sink.new) }
+{
+    match words {
+        Words::Own => encode(source, sink, max_bytes, output),
+        Words::Alsa => encode_other(source, sink, max_bytes, output, Words::Alsa),
+        Words::Am824 => encode_other(source, sink, max_bytes, output, Words::Am824),
+    }
+}
+
+/// Does what `encode` does, of a block file whose words are in this form: words of another than its
+/// own that stand before the first block are left out, 383 at most, and refusals count words from
+/// the first block on. Of such words it counts the bytes alone.
+///
+/// # Errors
+/// Those of `encode`.
+pub fn encode_words<S: Source, T: Sink>(
+    source: &mut S,
+    sink: &mut T,
+    max_bytes: u64,
+    output: Form,
+    words: Words,
+) -> Result<Counts, RunError>
+    requires source_room { S.failed source.old + 1 < 2 ^ 64 }
+    requires sink_room { T.failed sink.old + 1 < 2 ^ 64 }
+    requires limit { max_bytes ≤ 2 ^ 40 }
+
+    // What `decode_words` writes of cells gives what `normalise` writes of them.
+    ensures decoded { IfOk result (λ _. (c : List Level)
+        → Told (S.given source.old) (S.given source.new) (words_file words (blocks c))
+        → Grew (T.taken sink.old) (T.taken sink.new) (written output (normal c))) }
+
+    // What it answers to every input, and has written then.
+    ensures run { InputRun (encoded_words words output) max_bytes (S.has_ended source.new)
+        (movement_of S.given S.failed source.old source.new)
+        (movement_of T.taken T.failed sink.old sink.new) result }
+    ensures passed_on { IfOk result (λ _. T.passed sink.new ≡ T.taken sink.new) }
+{
+    encode_in(source, sink, max_bytes, output, words)
+}
