@@ -10,6 +10,7 @@ use aes3_job::Job;
 use aes3_lines::Detail;
 use aes3_runner::run_job;
 use aes3_text::Lines;
+use aes3_words::Words;
 use std::alloc::{AllocError, Global};
 
 const TEXT: Form = Form::Text;
