@@ -49,6 +49,7 @@ impl Ledger {
     ///
     /// # Errors
     /// The sink's fault; then it has taken a front of its line.
+    #[inline(never)]
     fn tell_gap<T: Sink>(&mut self, sink: &mut T, gap: Gap) -> Result<(), Fault>
         requires room { T.failed sink.old + 1 < 2 ^ 64 }
         requires few { self.old.lost + 1 < 2 ^ 64 }
@@ -70,6 +71,7 @@ impl Ledger {
     ///
     /// # Errors
     /// The sink's fault; then it has taken a front of their lines.
+    #[inline(always)]
     fn tell_gaps<T: Sink>(&mut self, sink: &mut T, due: Due) -> Result<(), Fault>
         requires room { T.failed sink.old + 1 < 2 ^ 64 }
         requires few { self.old.lost + due.to < 2 ^ 64 }
@@ -94,6 +96,7 @@ impl Ledger {
     ///
     /// # Errors
     /// The sink's fault; then it has taken a front of their lines.
+    #[inline(always)]
     fn tell_before<T: Sink>(
         &mut self,
         sink: &mut T,
@@ -129,6 +132,7 @@ impl Ledger {
     ///
     /// # Errors
     /// The sink's fault; then it has taken a front of their lines.
+    #[inline(always)]
     fn tell<T: Sink>(&mut self, sink: &mut T, lock: &Lock, ending: Ending) -> Result<(), Fault>
         requires room { T.failed sink.old + 1 < 2 ^ 64 }
         requires few { self.old.lost + place_of (report_in lock.now ending) + 1 < 2 ^ 64 }
@@ -166,11 +170,13 @@ impl CellReporter for Ledger {
 
     ghost finished = { IsClosedLedgerOf };
 
+    #[inline(always)]
     fn pass<T: Sink>(&mut self, sink: &mut T, seen: u64) -> Result<(), Fault> {
         self.tell_gaps(sink, Due::passed(seen))?;
         Ok(())
     }
 
+    #[inline(always)]
     fn take<T: Sink>(
         &mut self,
         sink: &mut T,

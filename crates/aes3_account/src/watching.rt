@@ -36,6 +36,7 @@ const BLOCK_CELLS: u64 = 24_576;
 ///
 /// # Errors
 /// The sink's fault; then it has taken a front of the lines.
+#[inline(always)]
 pub(crate) fn put_events<T: Sink>(
     style: &Style,
     events: &[Event],
@@ -66,6 +67,7 @@ impl Watched {
 
     /// Whether nothing is left to tell of the cells up to cell `to`, before which no whole block
     /// begins.
+    #[inline(always)]
     fn is_told(&self, to: u64) -> bool
         ensures { result ≡ is_told self.now to }
     {
@@ -89,6 +91,7 @@ impl Watched {
     }
 
     /// Goes on to cell `to`, before which no whole block begins.
+    #[inline(always)]
     fn up_to(self, to: u64) -> Self
         requires few { self.losses + 1 < 2 ^ 64 }
         ensures { result ≡ up_to self to }
@@ -122,6 +125,7 @@ impl Watched {
     }
 
     /// Adds the event of cells up to cell `to` where they are to be told as lost.
+    #[inline(always)]
     fn add_loss(&self, events: &mut ArrayVec<Event, EVENTS>, to: u64)
         requires { array_vec_len events.old + 1 ≤ EVENTS }
         ensures events { events.new.items ≡ events.old.items ++ loss_events self.now to }
@@ -197,6 +201,7 @@ impl Watcher {
     }
 
     /// Goes on to cell `to`, before which no whole block begins.
+    #[inline(always)]
     pub(crate) fn go_on(&mut self, events: &mut ArrayVec<Event, EVENTS>, to: u64)
         requires few { self.old.state.losses + 1 < 2 ^ 64 }
         requires room { array_vec_len events.old + 1 ≤ EVENTS }
@@ -214,6 +219,7 @@ impl Watcher {
     }
 
     /// Goes on to a lock's whole block at cell `at`, and behind it.
+    #[inline(never)]
     fn take_whole(
         &mut self,
         events: &mut ArrayVec<Event, EVENTS>,
@@ -245,6 +251,7 @@ impl Watcher {
     }
 
     /// Goes on to a report.
+    #[inline(always)]
     pub(crate) fn take_report(
         &mut self,
         events: &mut ArrayVec<Event, EVENTS>,
@@ -298,12 +305,14 @@ impl CellReporter for Watcher {
 
     ghost finished = { λ k. Ended k.state.losses k.tally.blocks k.tally.faults k.tally.unfinished };
 
+    #[inline(always)]
     fn pass<T: Sink>(&mut self, sink: &mut T, seen: u64) -> Result<(), Fault> {
         let mut events = ArrayVec::new();
         self.go_on(&mut events, seen.saturating_sub(BLOCK_CELLS));
         put_events(&self.style, &events, sink)
     }
 
+    #[inline(always)]
     fn take<T: Sink>(
         &mut self,
         sink: &mut T,
