@@ -51,7 +51,8 @@ pub fill-ok : {max : ℕ} {form : Form} (pcm : SampleFormat) (fill : Fill) {g : 
     → FillRun max form pcm fill ended source sink
     (Ok (record { bytes = bytes; cells = cells; blocks = blocks; faults = faults; unfinished = unfinished; marks = 0 }))
 fill-ok {form} pcm fill {blocks = k} {faults = u} {unfinished = v} {bytes = n} {cells = m} r =
-    drove-ok (λ c. narrowed pcm (filled fill (placed (reports c)))) (λ c. narrowed pcm (filled fill (placed (decided c)))) (counts_of form)
+    drove-ok (λ c. narrowed pcm (filled fill (placed (reports c))))
+    (λ c. narrowed pcm (filled fill (placed (decided c)))) (counts_of form)
     (record { bytes = n; cells = m; blocks = k; faults = u; unfinished = v; marks = 0 })
     (with-cells pcm fill) (before-cells pcm fill) (λ b p q t. counted form b n m k u v p q t) r
 
@@ -59,7 +60,8 @@ pub fill-err : {max : ℕ} {form : Form} (pcm : SampleFormat) (fill : Fill) {g z
     → Type 0} {ended : Bool} {source sink : Movement} {x : RunError}
     → Drive max form (reporting (fill_writing pcm fill)) g z ended source sink (Err x)
     → FillRun max form pcm fill ended source sink (Err x)
-fill-err {form} pcm fill r = drove-err (λ c. narrowed pcm (filled fill (placed (reports c)))) (λ c. narrowed pcm (filled fill (placed (decided c))))
+fill-err {form} pcm fill r = drove-err (λ c. narrowed pcm (filled fill (placed (reports c))))
+    (λ c. narrowed pcm (filled fill (placed (decided c))))
     (counts_of form) (with-cells pcm fill) (before-cells pcm fill) r
 
 pub fill-same : {max : ℕ} (form : Form) {p q : SampleFormat} {f h : Fill} {ended : Bool} {source sink : Movement}
@@ -79,7 +81,8 @@ pub run-row : {max : ℕ} (input : Form) (pcm : SampleFormat) (fill : Fill) {end
     (r : Result Counts RunError)
     → FillRun max input pcm fill ended source sink r
     → IfOk r (λ (n : Counts). (b : List ℕ) (p : ℕ) → Told source.old source.new b
-    → InRow p (placed (reports (cells_of input b))) → Grew sink.old sink.new (narrowed pcm (samples (blocks (cells_of input b)))))
+    → InRow p (placed (reports (cells_of input b)))
+    → Grew sink.old sink.new (narrowed pcm (samples (blocks (cells_of input b)))))
 run-row input pcm fill (Ok n) run =
     λ b p t h. grew-is (ap (narrowed pcm) (row-samples fill p (cells_of input b) h)) (run-wrote (Ok n) run b t)
 run-row input pcm fill (Err e) run = tt

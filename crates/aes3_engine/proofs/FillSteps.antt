@@ -1,5 +1,6 @@
 -- Samples that keep time, made block by block.
-use Rattle.std.proofs.Common.{◌≡◌, ℕ, zero, suc, ◌+◌, ◌-◌, ◌/◌, ◌%◌, ◌<◌, length, length-drop, List, [], ◌∷◌, ◌++◌, Bool, Option, Some, drop}
+use Rattle.std.proofs.Common.{◌≡◌, ℕ, zero, suc, ◌+◌, ◌-◌, ◌/◌, ◌%◌, ◌<◌, length, length-drop, List, [], ◌∷◌, ◌++◌}
+use Rattle.std.proofs.Common.{Bool, Option, Some, drop}
 use Rattle.std.proofs.Common.{replicate, refl, sym, ap, ap₂, ◌∙◌, arith, append-nil, append_assoc}
 use Rattle.std.specs.List.{flat_map}
 use Rattle.std.proofs.lemmas.Grind.{flat_map-append}

@@ -1,5 +1,6 @@
 -- Runs that read cells and write samples in a form.
-use Rattle.std.proofs.Common.{◌≡◌, ℕ, ◌%◌, List, [], ◌∷◌, ◌++◌, Bool, Result, Ok, Err, IfOk, length, map, refl, sym, ap, ◌∙◌}
+use Rattle.std.proofs.Common.{◌≡◌, ℕ, ◌%◌, List, [], ◌∷◌, ◌++◌, Bool, Result, Ok, Err, IfOk, length, map, refl, sym}
+use Rattle.std.proofs.Common.{ap, ◌∙◌}
 use Rattle.std.proofs.Common.{arith, length-append}
 use Rattle.std.specs.List.{flat_map, All}
 use Rattle.aes3_level.specs.declared.level.Level.{Level}
@@ -40,7 +41,8 @@ unfolding valid_block_samples
 valid-whole b = bytes-whole (map valid_sample b)
 
 -- blocks whose bytes g are whole samples, in a form
-module _ (pcm : SampleFormat) (g : List (List Bool) → List ℕ) (whole : (b : List (List Bool)) → length (g b) % 4 ≡ 0) where
+module _ (pcm : SampleFormat) (g : List (List Bool) → List ℕ)
+    (whole : (b : List (List Bool)) → length (g b) % 4 ≡ 0) where
   abbrev one : List (List Bool) → List ℕ
   one b = narrowed pcm (g b)
 

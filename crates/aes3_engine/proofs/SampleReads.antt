@@ -79,7 +79,8 @@ made-one pcm form change q h =
 more-join : (a d : List ℕ) → more_of a (a ++ d) ≡ d
 more-join a d = drop_at a d (length a) refl
 
-pub made-more : (pcm : SampleFormat) (form : Words) (change : Change) (p h d : List ℕ) → length p % block_len pcm ≡ 0 → length h < block_len pcm
+pub made-more : (pcm : SampleFormat) (form : Words) (change : Change) (p h d : List ℕ) → length p % block_len pcm ≡ 0
+    → length h < block_len pcm
     → made pcm form change (p ++ h ++ d) ≡ made pcm form change (p ++ h) ++ made pcm form change (h ++ d)
 made-more pcm form change p h d w l =
     ap (made pcm form change) (append_assoc p h d) ∙ made-behind pcm form change p (h ++ d) w
@@ -175,25 +176,31 @@ fault-some true w n e h = inl (refl, sym (same_Some _ _ h))
 abbrev with_byte : List ℕ → ℕ → Bool
 with_byte b x = begins_wave (b ++ x ∷ [])
 
-pub clean-byte : (pcm : SampleFormat) (exact : Bool) (form : Words) (change : Change) (b : List ℕ) (x : ℕ) → (asks_exact pcm exact ≡ true
+pub clean-byte : (pcm : SampleFormat) (exact : Bool) (form : Words) (change : Change) (b : List ℕ) (x : ℕ)
+    → (asks_exact pcm exact ≡ true
     → length b % 4 ≡ 0 → x ≡ 0)
     → begins_wave (b ++ x ∷ []) ≡ false
     → (sampling pcm exact form change).fault b x ≡ None
 unfolding sampling
-clean-byte pcm exact form change b x h w = ap₂ (λ s t. fault-of s t (length b)) (low-false (asks_exact pcm exact) b x h) w
+clean-byte pcm exact form change b x h w = ap₂ (λ s t. fault-of s t (length b))
+    (low-false (asks_exact pcm exact) b x h) w
 
-wave-byte : (pcm : SampleFormat) (exact : Bool) (form : Words) (change : Change) (b : List ℕ) (x : ℕ) → (asks_exact pcm exact ≡ true → length b % 4 ≡ 0
+wave-byte : (pcm : SampleFormat) (exact : Bool) (form : Words) (change : Change) (b : List ℕ) (x : ℕ)
+    → (asks_exact pcm exact ≡ true → length b % 4 ≡ 0
     → x ≡ 0)
     → begins_wave (b ++ x ∷ []) ≡ true
     → (sampling pcm exact form change).fault b x ≡ Some WaveHeader
 unfolding sampling
-wave-byte pcm exact form change b x h w = ap₂ (λ s t. fault-of s t (length b)) (low-false (asks_exact pcm exact) b x h) w
+wave-byte pcm exact form change b x h w = ap₂ (λ s t. fault-of s t (length b))
+    (low-false (asks_exact pcm exact) b x h) w
 
-pub bad-byte : (pcm : SampleFormat) (exact : Bool) (form : Words) (change : Change) (b : List ℕ) (x : ℕ) → asks_exact pcm exact ≡ true
+pub bad-byte : (pcm : SampleFormat) (exact : Bool) (form : Words) (change : Change) (b : List ℕ) (x : ℕ)
+    → asks_exact pcm exact ≡ true
     → length b % 4 ≡ 0 → x ≢ 0
     → (sampling pcm exact form change).fault b x ≡ Some (BadSample (length b))
 unfolding sampling
-bad-byte pcm exact form change b x e q n = ap (λ t. fault-of t (with_byte b x) (length b)) (low-true (asks_exact pcm exact) b x e q n)
+bad-byte pcm exact form change b x e q n = ap (λ t. fault-of t (with_byte b x) (length b))
+    (low-true (asks_exact pcm exact) b x e q n)
 
 pub byte-clean : (pcm : SampleFormat) (exact : Bool) (form : Words) (change : Change) (b : List ℕ) (x : ℕ)
     → (sampling pcm exact form change).fault b x ≡ None
@@ -219,8 +226,10 @@ pub byte-bad : (pcm : SampleFormat) (exact : Bool) (form : Words) (change : Chan
     → (sampling pcm exact form change).fault b x ≡ Some e
     → LowByte (asks_exact pcm exact) b x e ⊎ HeaderByte (asks_exact pcm exact) b x e
 unfolding sampling
-byte-bad pcm exact form change b x e h = elim (fault-some (is_low (asks_exact pcm exact) b x) (with_byte b x) (length b) e h) [
-  | inl q ↦ let r = from-true (asks_exact pcm exact) b x q.0 in inl (record { is = q.1; asked = r.0; lowest = r.1; some = r.2 })
+byte-bad pcm exact form change b x e h = elim (fault-some (is_low (asks_exact pcm exact) b x) (with_byte b x)
+    (length b) e h) [
+  | inl q ↦ let r = from-true (asks_exact pcm exact) b x q.0 in inl
+      (record { is = q.1; asked = r.0; lowest = r.1; some = r.2 })
   | inr q ↦ inr (record { is = q.2; bits = from-false (asks_exact pcm exact) b x q.0; header = q.1 })
 ]
 
@@ -248,19 +257,22 @@ pub record CleanBehind (exact : Bool) (b d : List ℕ) : Type 0 where
 pub one-more : (b d : List ℕ) (x : ℕ) → begins_wave ((b ++ x ∷ []) ++ d) ≡ begins_wave (b ++ x ∷ d)
 one-more b d x = ap begins_wave (append_assoc b (x ∷ []) d)
 
-pub exact-clean : (pcm : SampleFormat) (exact : Bool) (form : Words) (change : Change) (b d : List ℕ) → CleanBehind (asks_exact pcm exact) b d
+pub exact-clean : (pcm : SampleFormat) (exact : Bool) (form : Words) (change : Change) (b d : List ℕ)
+    → CleanBehind (asks_exact pcm exact) b d
     → fault_behind (sampling pcm exact form change) b d ≡ None
 exact-clean pcm exact form change b [] h = refl
 exact-clean pcm exact form change b (x ∷ d) h =
     let w = one-more b d x ∙ h.samples in
     ap (λ o. or_else o (fault_behind (sampling pcm exact form change) (b ++ x ∷ []) d))
-    (clean-byte pcm exact form change b x (behind-head (asks_exact pcm exact) (length b) x d h.bits) (wave-front (b ++ x ∷ []) d w))
+    (clean-byte pcm exact form change b x (behind-head (asks_exact pcm exact) (length b) x d h.bits)
+    (wave-front (b ++ x ∷ []) d w))
     ∙ exact-clean pcm exact form change (b ++ x ∷ []) d (record {
       bits = behind-tail (asks_exact pcm exact) (length b) x d (length (b ++ x ∷ [])) (length-append b (x ∷ [])) h.bits;
       samples = w;
     })
 
-pub clean-exact : (pcm : SampleFormat) (exact : Bool) (form : Words) (change : Change) (b d : List ℕ) → begins_wave b ≡ false
+pub clean-exact : (pcm : SampleFormat) (exact : Bool) (form : Words) (change : Change) (b d : List ℕ)
+    → begins_wave b ≡ false
     → fault_behind (sampling pcm exact form change) b d ≡ None
     → CleanBehind (asks_exact pcm exact) b d
 clean-exact pcm exact form change b [] w h =
@@ -275,20 +287,25 @@ clean-exact pcm exact form change b (x ∷ d) w h =
         → CleanBehind (asks_exact pcm exact) b (x ∷ d)
     go (Some e) q h next = absurd cc
     go None q h next = let c = byte-clean pcm exact form change b x q in let n = next c.1 h in record {
-      bits = behind-cons (asks_exact pcm exact) (length b) x d (length (b ++ x ∷ [])) (length-append b (x ∷ [])) c.0 n.bits;
+      bits = behind-cons (asks_exact pcm exact) (length b) x d (length (b ++ x ∷ []))
+          (length-append b (x ∷ [])) c.0 n.bits;
       samples = sym (one-more b d x) ∙ n.samples;
     }
 
 -- the header of a WAV file that ends in d
-wave-found : (pcm : SampleFormat) (exact : Bool) (form : Words) (change : Change) (b d : List ℕ) → ExactBehind (asks_exact pcm exact) (length b) d
+wave-found : (pcm : SampleFormat) (exact : Bool) (form : Words) (change : Change) (b d : List ℕ)
+    → ExactBehind (asks_exact pcm exact) (length b) d
     → begins_wave b ≡ false → begins_wave (b ++ d) ≡ true
     → fault_behind (sampling pcm exact form change) b d ≡ Some WaveHeader
 wave-found pcm exact form change b [] h w e = absurd (let q = ap begins_wave (append-nil b) in cc)
 wave-found pcm exact form change b (x ∷ d) h w e = elim (cases_Bool (with_byte b x)) [
-  | inl q ↦ ap (λ o. or_else o more) (wave-byte pcm exact form change b x (behind-head (asks_exact pcm exact) (length b) x d h) q)
-  | inr q ↦ ap (λ o. or_else o more) (clean-byte pcm exact form change b x (behind-head (asks_exact pcm exact) (length b) x d h) q)
+  | inl q ↦ ap (λ o. or_else o more) (wave-byte pcm exact form change b x
+      (behind-head (asks_exact pcm exact) (length b) x d h) q)
+  | inr q ↦ ap (λ o. or_else o more) (clean-byte pcm exact form change b x
+      (behind-head (asks_exact pcm exact) (length b) x d h) q)
       ∙ wave-found pcm exact form change (b ++ x ∷ []) d
-      (behind-tail (asks_exact pcm exact) (length b) x d (length (b ++ x ∷ [])) (length-append b (x ∷ [])) h) q (one-more b d x ∙ e)
+      (behind-tail (asks_exact pcm exact) (length b) x d (length (b ++ x ∷ [])) (length-append b (x ∷ [])) h) q
+      (one-more b d x ∙ e)
 ]
   where
     more : Option RunError
@@ -376,19 +393,23 @@ words-stop S16 exact b x d e h l = absurd (let q = l.asked in cc)
 
 begun-none : (pcm : SampleFormat) (exact : Bool) (form : Words) (change : Change) (b : List ℕ) → begins_wave b ≡ true
     → begun_pcm pcm exact form change b ≡ []
-begun-none pcm exact form change b w = ap (λ t. cond {A = List ℕ} t [] (sample_file form change (sample_words pcm exact b))) w
+begun-none pcm exact form change b w = ap (λ t. cond {A = List ℕ} t []
+    (sample_file form change (sample_words pcm exact b))) w
 
 begun-some : (pcm : SampleFormat) (exact : Bool) (form : Words) (change : Change) (b : List ℕ) → begins_wave b ≡ false
     → begun_pcm pcm exact form change b ≡ sample_file form change (sample_words pcm exact b)
-begun-some pcm exact form change b w = ap (λ t. cond {A = List ℕ} t [] (sample_file form change (sample_words pcm exact b))) w
+begun-some pcm exact form change b w = ap (λ t. cond {A = List ℕ} t []
+    (sample_file form change (sample_words pcm exact b))) w
 
-pub begun-all : (pcm : SampleFormat) (exact : Bool) (form : Words) (change : Change) (b : List ℕ) → AreSamples (asks_exact pcm exact) b
+pub begun-all : (pcm : SampleFormat) (exact : Bool) (form : Words) (change : Change) (b : List ℕ)
+    → AreSamples (asks_exact pcm exact) b
     → begun_pcm pcm exact form change b ≡ made pcm form change b
 begun-all pcm exact form change b h = begun-some pcm exact form change b h.samples
     ∙ ap (sample_file form change) (words-all pcm exact b h.bits)
 
 -- nothing of a header is written
-begun-few : (pcm : SampleFormat) (exact : Bool) (form : Words) (change : Change) (b d : List ℕ) → AreSamples (asks_exact pcm exact) b
+begun-few : (pcm : SampleFormat) (exact : Bool) (form : Words) (change : Change) (b d : List ℕ)
+    → AreSamples (asks_exact pcm exact) b
     → begins_wave (b ++ d) ≡ true
     → begun_pcm pcm exact form change (b ++ d) ≡ begun_pcm pcm exact form change b
 begun-few pcm exact form change b d h w =
@@ -396,7 +417,8 @@ begun-few pcm exact form change b d h w =
     begun-none pcm exact form change (b ++ d) w ∙ sym (begun-all pcm exact form change b h
     ∙ made-short pcm form change b (header-short pcm (length b) l))
 
-begun-stop : (pcm : SampleFormat) (exact : Bool) (form : Words) (change : Change) (b : List ℕ) (x : ℕ) (d : List ℕ) (e : RunError)
+begun-stop : (pcm : SampleFormat) (exact : Bool) (form : Words) (change : Change) (b : List ℕ) (x : ℕ) (d : List ℕ)
+    (e : RunError)
     → AreSamples (asks_exact pcm exact) b
     → LowByte (asks_exact pcm exact) b x e
     → begun_pcm pcm exact form change (b ++ x ∷ d) ≡ begun_pcm pcm exact form change b
@@ -445,44 +467,53 @@ out-samples pcm exact form change = out-is (sampling pcm exact form change) (beg
           (sym (one-more b d x) ∙ wave-more (b ++ x ∷ []) d r.header)
     ]
 
-first-clean : (pcm : SampleFormat) (exact : Bool) (form : Words) (change : Change) (b : List ℕ) → AreSamples (asks_exact pcm exact) b
+first-clean : (pcm : SampleFormat) (exact : Bool) (form : Words) (change : Change) (b : List ℕ)
+    → AreSamples (asks_exact pcm exact) b
     → fault_behind (sampling pcm exact form change) [] b ≡ None
 first-clean pcm exact form change b h =
-    exact-clean pcm exact form change [] b (record { bits = all-behind (asks_exact pcm exact) b h.bits; samples = h.samples })
+    exact-clean pcm exact form change [] b (record { bits = all-behind
+        (asks_exact pcm exact) b h.bits; samples = h.samples })
 
 -- a header of which the bytes b are the beginning writes nothing
-wave-writes : (pcm : SampleFormat) (exact : Bool) (form : Words) (change : Change) (b d : List ℕ) → AreSamples (asks_exact pcm exact) b
+wave-writes : (pcm : SampleFormat) (exact : Bool) (form : Words) (change : Change) (b d : List ℕ)
+    → AreSamples (asks_exact pcm exact) b
     → begins_wave (b ++ d) ≡ true
     → out_behind (sampling pcm exact form change) b d ≡ []
 unfolding out
 wave-writes pcm exact form change b d h w =
     let l = wave-short b d h.samples w in
     let s : out (sampling pcm exact form change) b ≡ [] =
-    out-samples pcm exact form change b ∙ begun-all pcm exact form change b h ∙ made-short pcm form change b (header-short pcm (length b) l) in
+    out-samples pcm exact form change b ∙ begun-all pcm exact form change b h
+    ∙ made-short pcm form change b (header-short pcm (length b) l) in
     ap (λ v. v ++ out_behind (sampling pcm exact form change) b d) (sym s)
     ∙ sym (behind-clean (sampling pcm exact form change) [] b d (first-clean pcm exact form change b h))
     ∙ out-samples pcm exact form change (b ++ d) ∙ begun-none pcm exact form change (b ++ d) w
 
 -- what clean bytes write behind clean bytes
-pub behind-made : (pcm : SampleFormat) (exact : Bool) (form : Words) (change : Change) (b d : List ℕ) → AreSamples (asks_exact pcm exact) b
+pub behind-made : (pcm : SampleFormat) (exact : Bool) (form : Words) (change : Change) (b d : List ℕ)
+    → AreSamples (asks_exact pcm exact) b
     → CleanBehind (asks_exact pcm exact) b d
     → made pcm form change (b ++ d) ≡ made pcm form change b ++ out_behind (sampling pcm exact form change) b d
 unfolding first_fault out
 behind-made pcm exact form change b d h t =
-    sym (begun-all pcm exact form change (b ++ d) (clean-more (asks_exact pcm exact) b d h t)) ∙ sym (out-samples pcm exact form change (b ++ d))
+    sym (begun-all pcm exact form change (b ++ d) (clean-more (asks_exact pcm exact) b d h t))
+    ∙ sym (out-samples pcm exact form change (b ++ d))
     ∙ behind-clean (sampling pcm exact form change) [] b d (first-clean pcm exact form change b h)
     ∙ ap (λ z. z ++ out_behind (sampling pcm exact form change) b d) (out-samples pcm exact form change b
     ∙ begun-all pcm exact form change b h)
 
 -- ---- the end
 
-pub end-whole : (pcm : SampleFormat) (exact : Bool) (form : Words) (k : Change) (b : List ℕ) → length b % frame_len pcm ≡ 0
+pub end-whole : (pcm : SampleFormat) (exact : Bool) (form : Words) (k : Change) (b : List ℕ)
+    → length b % frame_len pcm ≡ 0
     → (sampling pcm exact form k).end_fault b ≡ None
 unfolding sampling
-end-whole pcm exact form k b h = ap (λ t. cond {A = Option RunError} t None (Some (BadLength (length b % frame_len pcm))))
+end-whole pcm exact form k b h = ap (λ t. cond {A = Option RunError} t None
+    (Some (BadLength (length b % frame_len pcm))))
     (eq-eqb (length b % frame_len pcm) 0 h)
 
-pub end-left : (pcm : SampleFormat) (exact : Bool) (form : Words) (k : Change) (b : List ℕ) (left : ℕ) → left ≡ length b % frame_len pcm
+pub end-left : (pcm : SampleFormat) (exact : Bool) (form : Words) (k : Change) (b : List ℕ) (left : ℕ)
+    → left ≡ length b % frame_len pcm
     → 0 < left
     → (sampling pcm exact form k).end_fault b ≡ Some (BadLength left)
 unfolding sampling
@@ -519,17 +550,20 @@ module _ (pcm : SampleFormat) (exact : Bool) (form : Words) (change : Change) (s
       let z : length h.before ≡ 0 = none-before pcm (length h.before) w (omega arith) in
       h.bytes ∙ ap (λ p. p ++ held) (nil_from_length h.before z)
 
-  still : (b d : List ℕ) → Samples pcm exact seen at begun b → (seen < wave_header_len → begins_wave (held ++ d) ≡ false)
+  still : (b d : List ℕ) → Samples pcm exact seen at begun b
+      → (seen < wave_header_len → begins_wave (held ++ d) ≡ false)
       → begins_wave (b ++ d) ≡ false
   still b d h w = elim (cases_lt seen wave_header_len) [
     | inl l ↦ ap (λ v. begins_wave (v ++ d)) (held-all b h l) ∙ w l
     | inr l ↦ wave-settled b d (let c = h.count in omega arith) ∙ h.clean.samples
   ]
 
-  at-place : (b d : List ℕ) → Samples pcm exact seen at begun b → ExactBehind (asks_exact pcm exact) seen d → ExactBehind (asks_exact pcm exact) (length b) d
+  at-place : (b d : List ℕ) → Samples pcm exact seen at begun b → ExactBehind (asks_exact pcm exact) seen d
+      → ExactBehind (asks_exact pcm exact) (length b) d
   at-place b d h t = place-behind (asks_exact pcm exact) (length b) seen d h.count t
 
-  behind : (b d : List ℕ) → Samples pcm exact seen at begun b → CleanHere (asks_exact pcm exact) seen held d → CleanBehind (asks_exact pcm exact) b d
+  behind : (b d : List ℕ) → Samples pcm exact seen at begun b → CleanHere (asks_exact pcm exact) seen held d
+      → CleanBehind (asks_exact pcm exact) b d
   behind b d h t = record { bits = at-place b d h t.bits; samples = still b d h t.samples }
 
   -- what clean bytes write behind those that were taken
@@ -593,15 +627,18 @@ module _ (pcm : SampleFormat) (exact : Bool) (form : Words) (change : Change) (s
     grew = λ b h. grew-is (writes b d h (behind b d h x)) g;
   }
 
-  pub front-part : (d rest xs : List ℕ) (t t' : Option (List ℕ)) → CleanHere (asks_exact pcm exact) seen held d → d ++ rest ≡ xs
+  pub front-part : (d rest xs : List ℕ) (t t' : Option (List ℕ)) → CleanHere (asks_exact pcm exact) seen held d
+      → d ++ rest ≡ xs
       → GrewFront t t' (made pcm form change (held ++ d))
-      → (b : List ℕ) → Samples pcm exact seen at begun b → GrewFront t t' (out_behind (sampling pcm exact form change) b xs)
+      → (b : List ℕ) → Samples pcm exact seen at begun b
+      → GrewFront t t' (out_behind (sampling pcm exact form change) b xs)
   front-part d rest xs t t' x e g b h = front-longer (sampling pcm exact form change) b d rest xs e (front-is
       (writes b d h (behind b d h x)) g)
 
   -- the header of a WAV file that ends in the bytes d
   pub front-header : (s : List ℕ → Type 0) (d rest xs : List ℕ) (t : Option (List ℕ)) → ((b : List ℕ) → s b)
-      → ExactBehind (asks_exact pcm exact) seen d → d ++ rest ≡ xs → seen < wave_header_len → begins_wave (held ++ d) ≡ true
+      → ExactBehind (asks_exact pcm exact) seen d → d ++ rest ≡ xs → seen < wave_header_len
+      → begins_wave (held ++ d) ≡ true
       → Stopped (sampling pcm exact form change) (Samples pcm exact seen at begun) s t t xs WaveHeader
   front-header s d rest xs t any x e l w = record {
     fault = λ b h. ap (fault_behind (sampling pcm exact form change) b) (sym e)
@@ -625,12 +662,14 @@ module _ (pcm : SampleFormat) (exact : Bool) (form : Words) (change : Change) (s
       → Stopped (sampling pcm exact form change) (Samples pcm exact seen at begun) s t t xs (BadSample (seen + i))
   front-stopped s i xs t any e w f m n first = record {
     fault = λ b h. ap (fault_behind (sampling pcm exact form change) b) (sym parts)
-        ∙ fault-clean (sampling pcm exact form change) b d (x ∷ rest) (exact-clean pcm exact form change b d (clean b h))
+        ∙ fault-clean (sampling pcm exact form change) b d (x ∷ rest)
+        (exact-clean pcm exact form change b d (clean b h))
         ∙ ap (λ o. or_else o (fault_behind (sampling pcm exact form change) ((b ++ d) ++ x ∷ []) rest)) (here b h);
     left = λ b h. any _;
     grew = λ b h. grew-is
         (sym (ap (out_behind (sampling pcm exact form change) b) (sym parts)
-        ∙ behind-clean (sampling pcm exact form change) b d (x ∷ rest) (exact-clean pcm exact form change b d (clean b h))
+        ∙ behind-clean (sampling pcm exact form change) b d (x ∷ rest)
+        (exact-clean pcm exact form change b d (clean b h))
         ∙ ap (λ v. v ++ out_behind (sampling pcm exact form change) (b ++ d) (x ∷ rest)) (sym (writes b d h (clean b h))
         ∙ made-short pcm form change (held ++ d) short)
         ∙ ap (λ o. unless o

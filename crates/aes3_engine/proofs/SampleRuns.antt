@@ -34,7 +34,8 @@ use Rattle.std.proofs.lemmas.Option.{none-some, same_Some}
 -- the end
 end-cases : (pcm : SampleFormat) (exact : Bool) (form : Words) (k : change.Change) (b : List ℕ)
     → (((sampling pcm exact form k).end_fault b ≡ None) × (length b % frame_len pcm ≡ 0))
-    ⊎ (((sampling pcm exact form k).end_fault b ≡ Some (BadLength (length b % frame_len pcm))) × (0 < length b % frame_len pcm))
+    ⊎ (((sampling pcm exact form k).end_fault b ≡ Some (BadLength (length b % frame_len pcm)))
+    × (0 < length b % frame_len pcm))
 end-cases pcm exact form k b = elim (cases_eq (length b % frame_len pcm) 0) [
   | inl q ↦ inl (end-whole pcm exact form k b q, q)
   | inr q ↦ inr (end-left pcm exact form k b (length b % frame_len pcm) refl (omega arith), omega arith)
@@ -46,7 +47,8 @@ ends-is : (pcm : SampleFormat) (exact : Bool) (form : Words) (k : change.Change)
 unfolding sampling
 ends-is pcm exact form k b = refl
 
-whole-samples : (pcm : SampleFormat) (exact : Bool) (form : Words) (k : change.Change) (b : List ℕ) → AreSamples (asks_exact pcm exact) b
+whole-samples : (pcm : SampleFormat) (exact : Bool) (form : Words) (k : change.Change) (b : List ℕ)
+    → AreSamples (asks_exact pcm exact) b
     → whole (sampling pcm exact form k) b ≡ pcm_words pcm form k b
 unfolding whole
 whole-samples pcm exact form k b h =
@@ -142,7 +144,8 @@ low-here exact b x d e w r = let z : length b ≡ length b + 0 = omega arith in 
   samples = ap begins_wave (append-nil b) ∙ w;
 }
 
-cause-behind : (pcm : SampleFormat) (exact : Bool) (form : Words) (k : change.Change) (b d : List ℕ) (e : RunError) → begins_wave b ≡ false
+cause-behind : (pcm : SampleFormat) (exact : Bool) (form : Words) (k : change.Change) (b d : List ℕ) (e : RunError)
+    → begins_wave b ≡ false
     → fault_behind (sampling pcm exact form k) b d ≡ Some e
     → LowBehind (asks_exact pcm exact) b d e ⊎ HeaderBehind (asks_exact pcm exact) b d e
 cause-behind pcm exact form k b [] e w h = absurd cc
@@ -206,7 +209,8 @@ cause-of pcm exact form k b e h = elim (cause-behind pcm exact form k [] b e ref
 ]
 
 -- where neither the bytes nor the end can be refused so
-no-cause : (pcm : SampleFormat) (exact : Bool) (form : Words) (k : change.Change) (max : ℕ) (b : List ℕ) (ended : Bool) (e : RunError)
+no-cause : (pcm : SampleFormat) (exact : Bool) (form : Words) (k : change.Change) (max : ℕ) (b : List ℕ) (ended : Bool)
+    (e : RunError)
     → ((n : ℕ) → e ≡ BadSample n → ⊥) → (e ≡ WaveHeader → ⊥) → ((n : ℕ) → e ≡ BadLength n → ⊥)
     → (first_fault (sampling pcm exact form k) (take max b) ≡ Some e)
     ⊎ (CleanEnd max (sampling pcm exact form k) b ended × ((sampling pcm exact form k).end_fault b ≡ Some e)) → ⊥
@@ -273,7 +277,8 @@ wave-cause pcm exact form k b h = elim (cause-of pcm exact form k b WaveHeader h
   | inr r ↦ r.cause
 ]
 
-fault-cause : (pcm : SampleFormat) (exact : Bool) (form : Words) (k : change.Change) (max : ℕ) (b : List ℕ) (ended : Bool) (e : RunError)
+fault-cause : (pcm : SampleFormat) (exact : Bool) (form : Words) (k : change.Change) (max : ℕ) (b : List ℕ)
+    (ended : Bool) (e : RunError)
     → IsFault (sampling pcm exact form k) max b ended e → IsPcmCause pcm exact max b ended e
 fault-cause pcm exact form k max b ended Read h = (clean-all pcm exact form k b h.clean, h.short)
 fault-cause pcm exact form k max b ended Write h = h
@@ -289,7 +294,8 @@ fault-cause pcm exact form k max b ended WaveHeader h = elim h [
 fault-cause pcm exact form k max b ended (BadLength left) h = elim h [
   | inl q ↦ absurd (not-length pcm exact form k (take max b) left q)
   | inr q ↦ let c = length-cause pcm exact form k b left q.1 in
-      (record { clean = clean-all pcm exact form k b q.0.clean.clean; count = c.0; some = c.1 }, q.0.clean.short, q.0.end)
+      (record { clean = clean-all pcm exact form k b q.0.clean.clean; count = c.0; some = c.1 }, q.0.clean.short,
+      q.0.end)
 ]
 fault-cause pcm exact form k max b ended (BadCell at) h = no-cause pcm exact form k max b ended (BadCell at)
     (λ n e. cc) (λ e. cc) (λ n e. cc) h
@@ -314,7 +320,8 @@ clean-pcm pcm exact form k b c e = record { whole = whole; clean = clean-all pcm
     whole = elim (end-cases pcm exact form k b) [ inl q ↦ q.1 | inr q ↦ absurd (none-some _ (sym e ∙ q.0)) ]
 
 -- samples that fit have no cause
-pub no-pcm-cause : (pcm : SampleFormat) (exact : Bool) (max : ℕ) (b : List ℕ) (ended : Bool) → IsPcm pcm exact b → length b ≤ max
+pub no-pcm-cause : (pcm : SampleFormat) (exact : Bool) (max : ℕ) (b : List ℕ) (ended : Bool) → IsPcm pcm exact b
+    → length b ≤ max
     → (e : RunError) → e ≢ Read → e ≢ Write → IsPcmCause pcm exact max b ended e → ⊥
 no-pcm-cause pcm exact max b ended i l Read r w h = r refl
 no-pcm-cause pcm exact max b ended i l Write r w h = w refl

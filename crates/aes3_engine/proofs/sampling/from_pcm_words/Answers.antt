@@ -10,7 +10,8 @@ pub returns-in-Ok-clause-run : goal.returns-in-Ok-clause-run
 returns-in-Ok-clause-run g c =
     let r = c.in-Ok.ensures.run.run in
     let q = sampling-gives c.args.format c.args.exact c.args.words c.args.change.now _ in
-    run-ok q (λ b i h. pcm-counted c.args.format b c.in-Ok.bytes c.div_ceil.result c.block_len-block_len.result h.1 (q.input b i).whole
+    run-ok q (λ b i h. pcm-counted c.args.format b c.in-Ok.bytes c.div_ceil.result c.block_len-block_len.result h.1
+    (q.input b i).whole
     c.block_len-block_len.ensures.len c.div_ceil.ensures) r
 
 pub returns-in-Ok-clause-file : goal.returns-in-Ok-clause-file
