@@ -300,9 +300,9 @@ to_pcm_known = record {
   sound =
       also (flag_sound _ _ (codes "true") refl refl refl refl)
       (also (flag_sound _ _ (codes "true") refl refl refl refl)
-      (also (flag_sound _ _ (codes "true") refl refl refl refl)
       (also (flag_sound _ _ (codes "true") refl refl refl refl) (also (value_sound _ _ refl refl refl)
-      (also (value_sound _ _ refl refl refl) (also (help_sound _ _ refl refl) tt))))));
+      (also (flag_sound _ _ (codes "true") refl refl refl refl) (also (value_sound _ _ refl refl refl)
+      (also (value_sound _ _ refl refl refl) (also (help_sound _ _ refl refl) tt)))))));
   numbers = λ rows name fit passed. other_name (codes "to-pcm") refl name;
 }
 
@@ -324,7 +324,8 @@ from_pcm_known = record {
       (also (values_sound _ _ refl refl refl) (also (values_sound _ _ refl refl refl)
       (also (flag_sound _ _ (codes "true") refl refl refl refl)
       (also (flag_sound _ _ (codes "true") refl refl refl refl) (also (value_sound _ _ refl refl refl)
-      (also (value_sound _ _ refl refl refl) (also (help_sound _ _ refl refl) tt))))))));
+      (also (value_sound _ _ refl refl refl) (also (value_sound _ _ refl refl refl)
+      (also (help_sound _ _ refl refl) tt)))))))));
   numbers = λ rows name fit passed. other_name (codes "from-pcm") refl name;
 }
 

@@ -36,6 +36,8 @@ use Rattle.aes3_settings.specs.declared.lines.Lines.TheVariants as lines
 use Rattle.aes3_settings.specs.declared.style.Notation.{Notation}
 use Rattle.aes3_settings.specs.declared.style.Notation.TheVariants as notation
 use Rattle.aes3_settings.specs.declared.style.Style.{Style}
+use Rattle.aes3_pcm.specs.declared.format.SampleFormat.{SampleFormat}
+use Rattle.aes3_pcm.specs.declared.format.SampleFormat.TheVariants as format
 use Rattle.aes3_words.specs.declared.form.Words.{Words}
 use Rattle.aes3_words.specs.declared.form.Words.TheVariants as word_form
 use Rattle.aes3_commands.specs.CommandLine.{command_line, most_cells, most_frames, most_seconds}
@@ -47,7 +49,7 @@ use Rattle.aes3_arguments.specs.declared.layout.Octets.{Octets}
 use Rattle.aes3_arguments.specs.declared.misuse.Misuse.{Misuse}
 use Rattle.aes3_arguments.specs.declared.misuse.Misuse.TheVariants.{TwoForms, NoCellsPacked, TwoPeriods, NoRate}
 use Rattle.aes3_arguments.specs.declared.misuse.Misuse.TheVariants.{UnknownBits, UnknownFilling, FillsValidSamples}
-use Rattle.aes3_arguments.specs.declared.misuse.Misuse.TheVariants.{TwoDetails, UnknownWords}
+use Rattle.aes3_arguments.specs.declared.misuse.Misuse.TheVariants.{TwoDetails, UnknownWords, UnknownFormat}
 use Rattle.aes3_arguments.specs.declared.job.LineFault.{LineFault}
 use Rattle.aes3_arguments.specs.declared.job.LineFault.TheVariants as fault
 
@@ -191,6 +193,24 @@ or_own None = word_form.Own
 abbrev pub words_by : Options → Words
 words_by options = or_own (words_named options)
 
+-- the form of samples of this name, and the one that the options give them: 32 bits where none is named
+abbrev pub format_in : Text → Option SampleFormat
+format_in text = if bytes_eq text (codes "s32") then Some format.S32
+    else if bytes_eq text (codes "s24") then Some format.S24
+    else if bytes_eq text (codes "s24in32") then Some format.S24In32
+    else if bytes_eq text (codes "s16") then Some format.S16
+    else None
+
+abbrev pub format_named : Options → Option SampleFormat
+format_named options = option_and_then format_in (first_of (codes "pcm") options)
+
+abbrev pub or_s32 : Option SampleFormat → SampleFormat
+or_s32 (Some pcm) = pcm
+or_s32 None = format.S32
+
+abbrev pub format_by : Options → SampleFormat
+format_by options = or_s32 (format_named options)
+
 -- the number of a channel
 abbrev pub number_of : Channel → ℕ
 number_of First = 1
@@ -285,14 +305,15 @@ AsksFor name options (job.Cut input output first count) =
 AsksFor name options (job.Rewrite input output change) =
     (name ≡ codes "rewrite") × (input ≡ input_by options)
     × (output ≡ form_by options (codes "packed-out")) × IsChange options change
-AsksFor name options (job.ToPcm input valid) =
-    (name ≡ codes "to-pcm") × (input ≡ input_by options) × (valid ≡ is_set options (codes "valid"))
-    × (fill_by options ≡ None)
-AsksFor name options (job.ToFilledPcm input fill) =
-    (name ≡ codes "to-pcm") × (input ≡ input_by options) × (fill_by options ≡ Some fill)
-AsksFor name options (job.FromPcm exact change form) =
-    (name ≡ codes "from-pcm") × (exact ≡ is_set options (codes "exact")) × IsChange options change
-    × (form ≡ words_by options)
+AsksFor name options (job.ToPcm input pcm valid) =
+    (name ≡ codes "to-pcm") × (input ≡ input_by options) × (pcm ≡ format_by options)
+    × (valid ≡ is_set options (codes "valid")) × (fill_by options ≡ None)
+AsksFor name options (job.ToFilledPcm input pcm fill) =
+    (name ≡ codes "to-pcm") × (input ≡ input_by options) × (pcm ≡ format_by options)
+    × (fill_by options ≡ Some fill)
+AsksFor name options (job.FromPcm pcm exact change form) =
+    (name ≡ codes "from-pcm") × (pcm ≡ format_by options) × (exact ≡ is_set options (codes "exact"))
+    × IsChange options change × (form ≡ words_by options)
 AsksFor name options (job.ToBits input bits channel) =
     (name ≡ codes "to-bits") × (input ≡ input_by options)
     × (bits_by options ≡ Some bits) × IsNumber options (codes "CHANNEL") (number_of channel)
@@ -353,6 +374,11 @@ abbrev pub has_unknown_words : Options → Bool
 has_unknown_words options =
     option_map_or (λ text. not (is_some (words_in text))) (first_of (codes "words") options) false
 
+-- a form of samples is named that there is none of
+abbrev pub has_unknown_format : Options → Bool
+has_unknown_format options =
+    option_map_or (λ text. not (is_some (format_in text))) (first_of (codes "pcm") options) false
+
 -- what is wrong with options, of more the first
 abbrev pub misuse_by : Options → Option Misuse
 misuse_by options =
@@ -365,6 +391,7 @@ misuse_by options =
     else if fills_valid_samples options then Some FillsValidSamples
     else if has_two_details options then Some TwoDetails
     else if has_unknown_words options then Some UnknownWords
+    else if has_unknown_format options then Some UnknownFormat
     else None
 
 -- ---- the octets of packed cells
@@ -483,6 +510,8 @@ misuse_line FillsValidSamples = codes "error: the argument '--fill <zero|hold>' 
 misuse_line TwoDetails = codes "error: the argument '--names' cannot be used with '--at' or '--more'"
 misuse_line UnknownWords =
     codes "error: invalid value for '--words <own|alsa|am824>': it is 'own', 'alsa' or 'am824'"
+misuse_line UnknownFormat =
+    codes "error: invalid value for '--pcm <s32|s24|s24in32|s16>': it is 's32', 's24', 's24in32' or 's16'"
 
 abbrev pub misuse_end : Text
 misuse_end = (10 ∷ 10 ∷ codes "Usage: aes3 COMMAND [OPTIONS] < INPUT > OUTPUT")

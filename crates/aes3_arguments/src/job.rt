@@ -11,6 +11,7 @@ ghost use Rattle.aes3_arguments.specs.declared.job.LineFault.TheVariants.{Refuse
 ghost use Rattle.aes3_cell.specs.declared.refusal.RunError.TheVariants.{BadStatusText, Memory};
 
 use crate::carried::to_bits;
+use crate::format::format;
 use crate::refusals::settings_refused;
 use crate::samples::to_pcm;
 use crate::show::show;
@@ -145,6 +146,7 @@ fn from_pcm(alloc: Global, options: &ArgMatches<'_>) -> Result<Job, LineFault>
 {
     match change(alloc, options, help::FROM_PCM.usage) {
         Ok(change) => Ok(Job::FromPcm {
+            format: format(options),
             exact: flag(options, "exact"),
             change,
             words: words(options),

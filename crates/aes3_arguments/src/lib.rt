@@ -8,6 +8,8 @@ mod carried;
 mod explain;
 /// The file that a command's options name.
 mod file;
+/// The form of samples.
+mod format;
 /// The job that a command with its options asks for.
 mod job;
 /// How the octets of packed cells are laid out.

@@ -7,6 +7,7 @@ ghost use Rattle.aes3_arguments.specs.Jobs.{fills_valid_samples, has_two_details
 ghost use Rattle.aes3_arguments.specs.Jobs.{misuse_line, misuse_text, options_of};
 
 use crate::carried::bits_of_text;
+use crate::format::has_unknown_format;
 use crate::job::LineFault;
 use crate::samples::{fill, has_unknown_filling};
 use crate::style::rate;
@@ -37,6 +38,8 @@ pub(crate) enum Misuse {
     TwoDetails,
     /// `--words` of a form that there is none of.
     UnknownWords,
+    /// `--pcm` of a form that there is none of.
+    UnknownFormat,
 }
 
 /// What stands behind the line that says what is wrong, as `clap` tells of words that it doesn't
@@ -71,6 +74,8 @@ pub(crate) fn misuse_of_options(options: &ArgMatches<'_>) -> Option<Misuse>
         Some(Misuse::TwoDetails)
     } else if has_unknown_words(options) {
         Some(Misuse::UnknownWords)
+    } else if has_unknown_format(options) {
+        Some(Misuse::UnknownFormat)
     } else {
         None
     }
@@ -185,6 +190,9 @@ fn misuse_line(misuse: Misuse) -> &'static str
         }
         Misuse::UnknownWords => {
             "error: invalid value for '--words <own|alsa|am824>': it is 'own', 'alsa' or 'am824'"
+        }
+        Misuse::UnknownFormat => {
+            "error: invalid value for '--pcm <s32|s24|s24in32|s16>': it is 's32', 's24', 's24in32' or 's16'"
         }
     }
 }

@@ -4,6 +4,7 @@ ghost use Rattle.std.specs.Prelude.{◌≡◌, codes};
 ghost use Rattle.aes3_arguments.specs.Jobs.{AreTaken, AsksFor, fill_by, fill_in, has_unknown_filling};
 ghost use Rattle.aes3_arguments.specs.Jobs.{input_by, options_of};
 
+use crate::format::format;
 use crate::value::flag;
 use aes3_cell::Form;
 use aes3_frame::Fill;
@@ -17,9 +18,14 @@ pub(crate) fn to_pcm(options: &ArgMatches<'_>, input: Form) -> Job
     ensures { AsksFor (codes "to-pcm") (options_of options.now) result }
 {
     match fill(options) {
-        Some(fill) => Job::ToFilledPcm { input, fill },
+        Some(fill) => Job::ToFilledPcm {
+            input,
+            format: format(options),
+            fill,
+        },
         None => Job::ToPcm {
             input,
+            format: format(options),
             valid: flag(options, "valid"),
         },
     }

@@ -13,7 +13,7 @@ use Rattle.aes3_commands.specs.declared.argument.Argument.TheVariants.{LsbFirst,
 use Rattle.aes3_commands.specs.declared.argument.Argument.TheVariants.{Json, Rate, Every, EverySeconds}
 use Rattle.aes3_commands.specs.declared.argument.Argument.TheVariants.{Status1, Status2, Set1, Set2, MendCheck, Exact}
 use Rattle.aes3_commands.specs.declared.argument.Argument.TheVariants.{Valid1, Valid2, ClearUser1, ClearUser2, Valid}
-use Rattle.aes3_commands.specs.declared.argument.Argument.TheVariants.{Fill, Bits, Channel, Words, File}
+use Rattle.aes3_commands.specs.declared.argument.Argument.TheVariants.{Fill, Bits, Channel, Pcm, Words, File}
 use Rattle.aes3_commands.specs.declared.definitions.Name.{Name}
 use Rattle.aes3_commands.specs.declared.definitions.Name.TheVariants.{Encode, Decode, Normal, Check, Watch, Show, Scan}
 use Rattle.aes3_commands.specs.declared.definitions.Name.TheVariants.{Cut, Rewrite, ToPcm, FromPcm, ToBits}
@@ -87,6 +87,10 @@ lsb_first = flag (codes "lsb-first")
 abbrev pub words : Rule
 words = text_option (codes "words")
 
+-- the form of the samples that it reads or writes
+abbrev pub pcm : Rule
+pcm = text_option (codes "pcm")
+
 -- the options and values by their names
 abbrev pub rule : Argument → Rule
 rule PackedIn = packed_in
@@ -117,6 +121,7 @@ rule ClearUser2 = flag (codes "clear-user2")
 rule Valid = flag (codes "valid")
 rule Fill = text_option (codes "fill")
 rule Exact = flag (codes "exact")
+rule Pcm = pcm
 rule Words = words
 rule Bits = word (codes "BITS")
 rule Channel = number (codes "CHANNEL") 1 2
@@ -168,13 +173,13 @@ rewrite = command (codes "rewrite")
     ∷ flag (codes "clear-user1") ∷ flag (codes "clear-user2") ∷ file ∷ [])
 
 abbrev pub to_pcm : Shape
-to_pcm = reader_with (codes "to-pcm") (flag (codes "valid") ∷ text_option (codes "fill") ∷ file ∷ [])
+to_pcm = reader_with (codes "to-pcm") (pcm ∷ flag (codes "valid") ∷ text_option (codes "fill") ∷ file ∷ [])
 
 abbrev pub from_pcm : Shape
 from_pcm = command (codes "from-pcm")
     (text_option (codes "status1") ∷ text_option (codes "status2")
     ∷ settings_option (codes "set1") ∷ settings_option (codes "set2")
-    ∷ flag (codes "mend-check") ∷ flag (codes "exact") ∷ words ∷ file ∷ [])
+    ∷ flag (codes "mend-check") ∷ flag (codes "exact") ∷ pcm ∷ words ∷ file ∷ [])
 
 abbrev pub to_bits : Shape
 to_bits = reader_with (codes "to-bits") (word (codes "BITS") ∷ number (codes "CHANNEL") 1 2 ∷ file ∷ [])

@@ -75,6 +75,8 @@ pub(crate) enum Argument {
     Fill,
     /// `--exact` of `from-pcm`.
     Exact,
+    /// `--pcm s32|s24|s24in32|s16`: the form of samples.
+    Pcm,
     /// `--words own|alsa|am824`: the form of the words of a block file.
     Words,
     /// Which bits `to-bits` writes.
@@ -198,6 +200,12 @@ impl Argument {
                 "Keep time: fill what no whole block gives with zeros, or with the last frame",
             ),
             Argument::Exact => flag(alloc, "exact", "Refuse samples of more than 24 bits"),
+            Argument::Pcm => text(
+                alloc,
+                "pcm",
+                "s32|s24|s24in32|s16",
+                "The samples are of 32 bits, of 24 in 3 or 4 bytes, or of 16",
+            ),
             Argument::Words => text(
                 alloc,
                 "words",

@@ -156,8 +156,10 @@ impl Name {
                 PackedIn, RawIn, PackedOut, LsbFirst, Status1, Status2, Set1, Set2, MendCheck,
                 Valid1, Valid2, ClearUser1, ClearUser2, File,
             ],
-            Name::ToPcm => &[PackedIn, RawIn, LsbFirst, Valid, Fill, File],
-            Name::FromPcm => &[Status1, Status2, Set1, Set2, MendCheck, Exact, Words, File],
+            Name::ToPcm => &[PackedIn, RawIn, LsbFirst, Pcm, Valid, Fill, File],
+            Name::FromPcm => &[
+                Status1, Status2, Set1, Set2, MendCheck, Exact, Pcm, Words, File,
+            ],
             Name::ToBits => &[PackedIn, RawIn, LsbFirst, Bits, Channel, File],
         }
     }

@@ -107,17 +107,20 @@ Examples:
 
 pub const TO_PCM: Texts<'static> = Texts {
     about: "Write the samples of the whole blocks",
-    usage: "aes3 to-pcm [--packed-in|--raw-in] [--lsb-first] [--valid|--fill zero|hold] [FILE] > PCM",
+    usage: "aes3 to-pcm [OPTIONS] [FILE] > PCM",
     more: "Reads cells, begun anywhere and in either polarity.
 Writes the samples of the whole blocks that stand in them: of each frame channel 1 and
 then channel 2, 4 bytes each, lowest first, the 24 bits of the sample in the highest
-ones (S32LE: `ffmpeg -f s32le`, `sox -t raw -e signed -b 32 -L`, ALSA's S32_LE). V, U
-and C are left out, as is what is cut or damaged, and nothing is told of it: `aes3
-check` tells it. With --valid a sample whose validity bit is 1, which says that it can't
-be taken as it is, is written as zero. With --fill the samples keep time: what no whole
-block gives between two of them is filled with frames of zeros (`zero`) or with the last
-frame before it (`hold`), so many that each block stands to half a frame where its cells
-do, counted from the first block.
+ones (S32LE: `ffmpeg -f s32le`, `sox -t raw -e signed -b 32 -L`, ALSA's S32_LE). With
+--pcm s24 they have 3 bytes each (`ffmpeg -f s24le`, ALSA's S24_3LE), with --pcm s24in32
+4 bytes with the 24 bits in the lowest ones and their sign above (ALSA's S24_LE), and with
+--pcm s16 2 bytes (`ffmpeg -f s16le`, ALSA's S16_LE): then the lowest 8 of the 24 bits are
+dropped. V, U and C are left out, as is what is cut or damaged, and nothing is told of it:
+`aes3 check` tells it. With --valid a sample whose validity bit is 1, which says that it
+can't be taken as it is, is written as zero. With --fill the samples keep time: what no
+whole block gives between two of them is filled with frames of zeros (`zero`) or with the
+last frame before it (`hold`), so many that each block stands to half a frame where its
+cells do, counted from the first block.
 
 Exit status: 0 done, also where no block was found; 3 refused: 1 a byte is no cell, 10
 packed cells end wrongly; or as for every command.
@@ -126,6 +129,7 @@ Examples:
     aes3 to-pcm < line.txt > line.s32
     aes3 to-pcm --valid < line.txt | cmp - line.s32
     aes3 to-pcm --fill hold < line.txt | cmp - line.s32
+    aes3 to-pcm --pcm s24 < line.txt > line.s24
     aes3 to-pcm < line.txt | sox -t raw -r 48000 -e signed -b 32 -c 2 -L - -b 24 line.wav",
 };
 
@@ -135,9 +139,10 @@ pub const FROM_PCM: Texts<'static> = Texts {
     more: "Reads samples as `aes3 to-pcm` writes them: of each frame channel 1 and then channel 2,
 4 bytes each, lowest first (S32LE: `ffmpeg -f s32le`, `sox -t raw -e signed -b 32 -L`,
 ALSA's S32_LE). The header of a WAV file before them is refused (`sox FILE -t s32 -`
-leaves it off). The 24 highest bits of each are the sample, the lowest 8
-are dropped; with --exact they have to be zero. Samples that are zero fill up the last
-block.
+leaves it off). The 24 highest bits of each are the sample, the lowest 8 are dropped;
+with --exact they have to be zero. With --pcm s24, s24in32 or s16 they are in that form, as
+`aes3 to-pcm` has it, and none is refused: the highest byte of s24in32 does not count, and
+the 8 bits that s16 lacks are zero. Samples that are zero fill up the last block.
 Writes a block file with V and U 0 and the channel status that the options give, as `aes3
 rewrite` has them, else zeros: that is consumer status, whose fields --set1 NAME=WORD and
 --set2 NAME=WORD then set. With --words alsa or am824 its words are in that form, as `aes3
@@ -149,6 +154,7 @@ with the header of a WAV file; or as for every command.
 
 Examples:
     aes3 from-pcm --exact < line.s32 | aes3 encode | aes3 to-pcm | cmp - line.s32
+    aes3 from-pcm --pcm s24 < line.s24 | aes3 encode | aes3 to-pcm | cmp - line.s32
     aes3 from-pcm --set1 rate=48000 --set2 rate=48000 < line.s32 > consumer.block
     status=85022c0000004a4154480000000000000000000000000000
     aes3 from-pcm --status1 $status --status2 $status --mend-check < line.s32 > new.block",

@@ -1,5 +1,5 @@
 -- The run that writes samples that keep time.
-use Rattle.std.proofs.Common.{◌≡◌, ℕ, List, [], Bool, Result, Ok, Err, IfOk, Option, None, ◌∙◌, subst}
+use Rattle.std.proofs.Common.{◌≡◌, ℕ, List, [], Bool, Result, Ok, Err, IfOk, Option, None, ap, ◌∙◌, subst}
 use Rattle.aes3_level.specs.declared.level.Level.{Level}
 use Rattle.aes3_cell.specs.declared.form.Form.{Form}
 use Rattle.aes3_cell.specs.declared.refusal.RunError.{RunError}
@@ -8,6 +8,8 @@ use Rattle.aes3_cell.specs.Ends.{Grew, Told}
 use Rattle.aes3_cell.proofs.Growing.{grew-is}
 use Rattle.aes3_frame.specs.declared.fill.Fill.{Fill}
 use Rattle.aes3_frame.specs.Samples.{samples}
+use Rattle.aes3_pcm.specs.declared.format.SampleFormat.{SampleFormat}
+use Rattle.aes3_pcm.specs.Formats.{narrowed}
 use Rattle.aes3_lock.specs.Reports.{reports, decided, blocks}
 use Rattle.aes3_lock.specs.Tallies.{Tallies}
 use Rattle.aes3_input.specs.Running.{Movement}
@@ -26,45 +28,48 @@ use Rattle.aes3_engine.specs.FillSteps.{fill_writing, progress_of}
 use Rattle.aes3_engine.proofs.FillSteps.{before-filled, with-filled}
 use Rattle.aes3_engine.proofs.FillTimes.{row-samples, filled-in-time}
 
-abbrev pub FillRun : ℕ → Form → Fill → Bool → Movement → Movement → Result Counts RunError → Type 0
-FillRun max form fill = CellRun max form (record {
-  whole = λ c. filled fill (placed (reports c));
-  begun = λ c. filled fill (placed (decided c));
+abbrev pub FillRun : ℕ → Form → SampleFormat → Fill → Bool → Movement → Movement → Result Counts RunError → Type 0
+FillRun max form pcm fill = CellRun max form (record {
+  whole = λ c. narrowed pcm (filled fill (placed (reports c)));
+  begun = λ c. narrowed pcm (filled fill (placed (decided c)));
   counts = counts_of form;
 })
 
 -- what cells write through their reports
-before-cells : (fill : Fill) (c : List Level)
-    → before_end (reporting (fill_writing fill)) c ≡ filled fill (placed (decided c))
-before-cells fill c = before-reports (fill_writing fill) c ∙ before-filled fill (decided c)
+before-cells : (pcm : SampleFormat) (fill : Fill) (c : List Level)
+    → before_end (reporting (fill_writing pcm fill)) c ≡ narrowed pcm (filled fill (placed (decided c)))
+before-cells pcm fill c = before-reports (fill_writing pcm fill) c ∙ before-filled pcm fill (decided c)
 
-with-cells : (fill : Fill) (c : List Level)
-    → with_end (reporting (fill_writing fill)) c ≡ filled fill (placed (reports c))
-with-cells fill c = with-reports (fill_writing fill) c ∙ with-filled fill (reports c)
+with-cells : (pcm : SampleFormat) (fill : Fill) (c : List Level)
+    → with_end (reporting (fill_writing pcm fill)) c ≡ narrowed pcm (filled fill (placed (reports c)))
+with-cells pcm fill c = with-reports (fill_writing pcm fill) c ∙ with-filled pcm fill (reports c)
 
-pub fill-ok : {max : ℕ} {form : Form} (fill : Fill) {g : List Level
+pub fill-ok : {max : ℕ} {form : Form} (pcm : SampleFormat) (fill : Fill) {g : List Level
     → Type 0} {blocks faults unfinished : ℕ} {ended : Bool} {source sink : Movement} {bytes cells : ℕ}
-    → Drive max form (reporting (fill_writing fill)) g
+    → Drive max form (reporting (fill_writing pcm fill)) g
     (λ c. Tallies blocks faults unfinished (reports c)) ended source sink (Ok (bytes, cells))
-    → FillRun max form fill ended source sink
+    → FillRun max form pcm fill ended source sink
     (Ok (record { bytes = bytes; cells = cells; blocks = blocks; faults = faults; unfinished = unfinished; marks = 0 }))
-fill-ok {form} fill {blocks = k} {faults = u} {unfinished = v} {bytes = n} {cells = m} r =
-    drove-ok (λ c. filled fill (placed (reports c))) (λ c. filled fill (placed (decided c))) (counts_of form)
+fill-ok {form} pcm fill {blocks = k} {faults = u} {unfinished = v} {bytes = n} {cells = m} r =
+    drove-ok (λ c. narrowed pcm (filled fill (placed (reports c))))
+    (λ c. narrowed pcm (filled fill (placed (decided c)))) (counts_of form)
     (record { bytes = n; cells = m; blocks = k; faults = u; unfinished = v; marks = 0 })
-    (with-cells fill) (before-cells fill) (λ b p q t. counted form b n m k u v p q t) r
+    (with-cells pcm fill) (before-cells pcm fill) (λ b p q t. counted form b n m k u v p q t) r
 
-pub fill-err : {max : ℕ} {form : Form} (fill : Fill) {g z : List Level
+pub fill-err : {max : ℕ} {form : Form} (pcm : SampleFormat) (fill : Fill) {g z : List Level
     → Type 0} {ended : Bool} {source sink : Movement} {x : RunError}
-    → Drive max form (reporting (fill_writing fill)) g z ended source sink (Err x)
-    → FillRun max form fill ended source sink (Err x)
-fill-err {form} fill r = drove-err (λ c. filled fill (placed (reports c))) (λ c. filled fill (placed (decided c)))
-    (counts_of form) (with-cells fill) (before-cells fill) r
+    → Drive max form (reporting (fill_writing pcm fill)) g z ended source sink (Err x)
+    → FillRun max form pcm fill ended source sink (Err x)
+fill-err {form} pcm fill r = drove-err (λ c. narrowed pcm (filled fill (placed (reports c))))
+    (λ c. narrowed pcm (filled fill (placed (decided c))))
+    (counts_of form) (with-cells pcm fill) (before-cells pcm fill) r
 
-pub fill-same : {max : ℕ} (form : Form) {f h : Fill} {ended : Bool} {source sink : Movement}
-    {r : Result Counts RunError} → f ≡ h → FillRun max form f ended source sink r
-    → FillRun max form h ended source sink r
-fill-same {max} form {ended = ended} {source = source} {sink = sink} {r = r} e run =
-    subst (λ (v : Fill). FillRun max form v ended source sink r) e run
+pub fill-same : {max : ℕ} (form : Form) {p q : SampleFormat} {f h : Fill} {ended : Bool} {source sink : Movement}
+    {r : Result Counts RunError} → p ≡ q → f ≡ h → FillRun max form p f ended source sink r
+    → FillRun max form q h ended source sink r
+fill-same {max} form {p} {q} {f} {h} {ended} {source} {sink} {r} d e run =
+    subst (λ (v : SampleFormat). FillRun max form v h ended source sink r) d
+    (subst (λ (v : Fill). FillRun max form p v ended source sink r) e run)
 
 -- a reporter of no report
 pub nothing-reached : (fill : Fill) {k : Option Progress} → k ≡ None → k ≡ progress_of fill (placed (decided []))
@@ -72,23 +77,24 @@ unfolding decided
 nothing-reached fill e = e
 
 -- its clauses
-pub run-row : {max : ℕ} (input : Form) (fill : Fill) {ended : Bool} {source sink : Movement}
+pub run-row : {max : ℕ} (input : Form) (pcm : SampleFormat) (fill : Fill) {ended : Bool} {source sink : Movement}
     (r : Result Counts RunError)
-    → FillRun max input fill ended source sink r
+    → FillRun max input pcm fill ended source sink r
     → IfOk r (λ (n : Counts). (b : List ℕ) (p : ℕ) → Told source.old source.new b
-    → InRow p (placed (reports (cells_of input b))) → Grew sink.old sink.new (samples (blocks (cells_of input b))))
-run-row input fill (Ok n) run =
-    λ b p t h. grew-is (row-samples fill p (cells_of input b) h) (run-wrote (Ok n) run b t)
-run-row input fill (Err e) run = tt
+    → InRow p (placed (reports (cells_of input b)))
+    → Grew sink.old sink.new (narrowed pcm (samples (blocks (cells_of input b)))))
+run-row input pcm fill (Ok n) run =
+    λ b p t h. grew-is (ap (narrowed pcm) (row-samples fill p (cells_of input b) h)) (run-wrote (Ok n) run b t)
+run-row input pcm fill (Err e) run = tt
 
-pub run-in-time : {max : ℕ} (input : Form) (fill : Fill) {ended : Bool} {source sink : Movement}
-    (r : Result Counts RunError) → FillRun max input fill ended source sink r
+pub run-in-time : {max : ℕ} (input : Form) (pcm : SampleFormat) (fill : Fill) {ended : Bool} {source sink : Movement}
+    (r : Result Counts RunError) → FillRun max input pcm fill ended source sink r
     → IfOk r (λ (n : Counts). (b : List ℕ) → Told source.old source.new b
-    → (o : List ℕ) × Grew sink.old sink.new o × KeepsTime o (placed (reports (cells_of input b))))
-run-in-time input fill (Ok n) run =
+    → (o : List ℕ) × Grew sink.old sink.new (narrowed pcm o) × KeepsTime o (placed (reports (cells_of input b))))
+run-in-time input pcm fill (Ok n) run =
     λ b t. (
       filled fill (placed (reports (cells_of input b))),
       run-wrote (Ok n) run b t,
       filled-in-time fill (cells_of input b),
     )
-run-in-time input fill (Err e) run = tt
+run-in-time input pcm fill (Err e) run = tt

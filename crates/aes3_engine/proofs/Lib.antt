@@ -5,10 +5,12 @@ pub mod WordRuns
 pub mod WordsBack
 pub mod RewrittenBlocks
 pub mod WaveHeaders
+pub mod PcmWords
 pub mod SampleReads
 pub mod SampleRuns
 pub mod SamplesBack
 pub mod BitsAt
+pub mod PcmRuns
 pub mod ValidSamples
 pub mod BitsBack
 pub mod FillSteps

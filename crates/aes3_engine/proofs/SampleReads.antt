@@ -9,6 +9,8 @@ use Rattle.std.proofs.lemmas.Bool.{cases_Bool, cases_eq, cases_lt}
 use Rattle.std.proofs.lemmas.Grind.{flat_map-append}
 use Rattle.std.proofs.lemmas.List.{append_cancel_left, drop_at, drop_all, map-append, get_or-append_right}
 use Rattle.std.proofs.lemmas.List.{get_or_append_left, take-append-drop, length-take-le, length-drop, drop_more}
+use Rattle.std.proofs.Math.Seq.{take-append-add}
+use Rattle.std.proofs.lemmas.List.{take-replicate}
 use Rattle.std.proofs.lemmas.List.{drop-drop, get_or-take, get_or_past, nil_from_length}
 use Rattle.aes3_cell.specs.declared.refusal.RunError.{RunError}
 use Rattle.aes3_cell.specs.declared.refusal.RunError.TheVariants.{BadLength, BadSample, WaveHeader}
@@ -17,27 +19,32 @@ use Rattle.aes3_cell.specs.Wave.{begins_wave}
 use Rattle.aes3_cell.proofs.Growing.{grew-none, grew-is, front-is}
 use Rattle.aes3_frame.specs.Blocks.{block_slots}
 use Rattle.aes3_frame.specs.Files.{bytes_number, words_of}
-use Rattle.aes3_frame.specs.Sampled.{payload_of_sample, sampled, filled}
-use Rattle.aes3_frame.proofs.SampleBlocks.{words-join, words-zeros, sampled-join, sampled-short, sampled-one}
-use Rattle.aes3_frame.proofs.Words.{length-words}
+use Rattle.aes3_frame.specs.Sampled.{payload_of_sample, sampled}
+use Rattle.aes3_frame.proofs.SampleBlocks.{sampled-join, sampled-short, sampled-one}
 use Rattle.aes3_input.specs.Converting.{or_else, unless, fault_behind, out_behind, first_fault, out}
 use Rattle.aes3_input.specs.Running.{Fed, Stopped}
 use Rattle.aes3_input.proofs.Feeding.{front-longer}
 use Rattle.aes3_input.proofs.Outputs.{out-is, behind-clean, fault-clean, fault-first}
 use Rattle.aes3_words.specs.declared.form.Words.{Words}
+use Rattle.aes3_pcm.specs.declared.format.SampleFormat.{SampleFormat}
+use Rattle.aes3_pcm.specs.declared.format.SampleFormat.TheVariants.{S32, S24, S24In32, S16}
+use Rattle.aes3_pcm.specs.Formats.{asks_exact, block_len, frame_len, sample_len}
 use Rattle.aes3_status.specs.declared.change.Change.{Change}
 use Rattle.aes3_engine.specs.Rewriting.{rewritten, rewritten_blocks}
 use Rattle.aes3_engine.specs.Words.{block_words, words_file}
 use Rattle.aes3_engine.specs.Sampling.{sample_file, exact_words, pcm_words, begun_pcm, sample_words, AllExact, is_low}
-use Rattle.aes3_engine.specs.Sampling.{more_of}
-use Rattle.aes3_engine.specs.Sampling.{sampling, Samples, AreSamples, block_bytes_len, frame_len, wave_header_len}
+use Rattle.aes3_engine.specs.Sampling.{more_of, words_in}
+use Rattle.aes3_engine.specs.Sampling.{sampling, Samples, AreSamples, wave_header_len}
+use Rattle.aes3_engine.proofs.PcmWords.{all-words, few-words, filled-in, header-short, in-join, in-more, no-byte}
+use Rattle.aes3_engine.proofs.PcmWords.{none-before, one-block, pad-is, pad-none, pad-words, pad_of, whole-samples}
+use Rattle.aes3_engine.proofs.PcmWords.{whole-words, zero-whole}
 use Rattle.aes3_engine.proofs.WaveHeaders.{wave-front, wave-more, wave-settled, wave-short, wave-head}
 use Rattle.aes3_frame.proofs.BlockLemmas.{count-within}
 use Rattle.std.proofs.lemmas.Option.{none-some, same_Some}
 
 -- the block file of the samples in bytes, as far as they are whole blocks
-abbrev pub made : Words → Change → List ℕ → List ℕ
-made form change b = sample_file form change (words_of b)
+abbrev pub made : SampleFormat → Words → Change → List ℕ → List ℕ
+made pcm form change b = sample_file form change (words_in pcm b)
 
 made-join : (form : Words) (change : Change) (ws vs : List ℕ) → length ws % block_slots ≡ 0
     → sample_file form change (ws ++ vs) ≡ sample_file form change ws ++ sample_file form change vs
@@ -47,46 +54,39 @@ made-join form change ws vs h =
     ∙ ap (words_file form) (map-append (rewritten change) (sampled ws) (sampled vs))
     ∙ flat_map-append (block_words form) (rewritten_blocks change (sampled ws)) (rewritten_blocks change (sampled vs))
 
-whole-words : (b : List ℕ) → length b % block_bytes_len ≡ 0 → length (words_of b) % block_slots ≡ 0
-unfolding block_slots block_bytes_len
-whole-words b h = let l = length-words b in omega arith
-
-whole-four : (n : ℕ) → n % block_bytes_len ≡ 0 → n % 4 ≡ 0
-unfolding block_bytes_len
-whole-four n h = omega arith
-
 -- behind whole blocks
-pub made-behind : (form : Words) (change : Change) (p q : List ℕ) → length p % block_bytes_len ≡ 0
-    → made form change (p ++ q) ≡ made form change p ++ made form change q
-made-behind form change p q h =
-    ap (sample_file form change) (words-join p q (whole-four (length p) h))
-    ∙ made-join form change (words_of p) (words_of q) (whole-words p h)
+pub made-behind : (pcm : SampleFormat) (form : Words) (change : Change) (p q : List ℕ)
+    → length p % block_len pcm ≡ 0
+    → made pcm form change (p ++ q) ≡ made pcm form change p ++ made pcm form change q
+made-behind pcm form change p q h =
+    ap (sample_file form change) (in-join pcm p q (whole-samples pcm (length p) h))
+    ∙ made-join form change (words_in pcm p) (words_in pcm q) (whole-words pcm p h)
 
-pub made-short : (form : Words) (change : Change) (q : List ℕ) → length q < 1536 → made form change q ≡ []
-unfolding sample_file block_slots
-made-short form change q h =
-    ap (λ bs. words_file form (rewritten_blocks change bs)) (sampled-short (words_of q)
-    (let l = length-words q in omega arith))
+pub made-short : (pcm : SampleFormat) (form : Words) (change : Change) (q : List ℕ) → length q < block_len pcm
+    → made pcm form change q ≡ []
+unfolding sample_file
+made-short pcm form change q h =
+    ap (λ bs. words_file form (rewritten_blocks change bs)) (sampled-short (words_in pcm q) (few-words pcm q h))
 
-pub made-one : (form : Words) (change : Change) (q : List ℕ) → length q ≡ 1536
-    → made form change q ≡ block_words form (rewritten change (map payload_of_sample (words_of q)))
-unfolding sample_file block_slots
-made-one form change q h =
-    ap (λ bs. words_file form (rewritten_blocks change bs)) (sampled-one (words_of q)
-    (let l = length-words q in omega arith))
-    ∙ append-nil (block_words form (rewritten change (map payload_of_sample (words_of q))))
+pub made-one : (pcm : SampleFormat) (form : Words) (change : Change) (q : List ℕ) → length q ≡ block_len pcm
+    → made pcm form change q ≡ block_words form (rewritten change (map payload_of_sample (words_in pcm q)))
+unfolding sample_file
+made-one pcm form change q h =
+    ap (λ bs. words_file form (rewritten_blocks change bs)) (sampled-one (words_in pcm q) (all-words pcm q h))
+    ∙ append-nil (block_words form (rewritten change (map payload_of_sample (words_in pcm q))))
 
 -- what is written of a front stays
 more-join : (a d : List ℕ) → more_of a (a ++ d) ≡ d
 more-join a d = drop_at a d (length a) refl
 
-pub made-more : (form : Words) (change : Change) (p h d : List ℕ) → length p % block_bytes_len ≡ 0 → length h < 1536
-    → made form change (p ++ h ++ d) ≡ made form change (p ++ h) ++ made form change (h ++ d)
-made-more form change p h d w l =
-    ap (made form change) (append_assoc p h d) ∙ made-behind form change p (h ++ d) w
-    ∙ ap (λ z. z ++ made form change (h ++ d))
-    (sym (made-behind form change p h w ∙ ap (λ z. made form change p ++ z) (made-short form change h l)
-    ∙ append-nil (made form change p)))
+pub made-more : (pcm : SampleFormat) (form : Words) (change : Change) (p h d : List ℕ) → length p % block_len pcm ≡ 0
+    → length h < block_len pcm
+    → made pcm form change (p ++ h ++ d) ≡ made pcm form change (p ++ h) ++ made pcm form change (h ++ d)
+made-more pcm form change p h d w l =
+    ap (made pcm form change) (append_assoc p h d) ∙ made-behind pcm form change p (h ++ d) w
+    ∙ ap (λ z. z ++ made pcm form change (h ++ d))
+    (sym (made-behind pcm form change p h w ∙ ap (λ z. made pcm form change p ++ z) (made-short pcm form change h l)
+    ∙ append-nil (made pcm form change p)))
 
 count-rest : (n : ℕ) → n - block_slots * (n / block_slots) < block_slots
 unfolding block_slots
@@ -122,22 +122,14 @@ file-more form change ws vs =
     (sym (ap (more_of (sample_file form change ws)) m ∙ more-join (sample_file form change ws)
     (sample_file form change (h ++ vs))))
 
--- one more byte ends a word or none
-words-more : (b d : List ℕ) → (vs : List ℕ) × (words_of (b ++ d) ≡ words_of b ++ vs)
-words-more [] d = (words_of d, refl)
-words-more (x ∷ []) d = (words_of (x ∷ d), refl)
-words-more (x ∷ y ∷ []) d = (words_of (x ∷ y ∷ d), refl)
-words-more (x ∷ y ∷ z ∷ []) d = (words_of (x ∷ y ∷ z ∷ d), refl)
-words-more (x ∷ y ∷ z ∷ w ∷ b) d = let r = words-more b d in
-    (r.0, ap (λ ws. bytes_number (x ∷ y ∷ z ∷ w ∷ []) ∷ ws) r.1)
-
-pub any-more : (form : Words) (change : Change) (b d : List ℕ)
-    → made form change (b ++ d) ≡ made form change b ++ more_of (made form change b) (made form change (b ++ d))
-any-more form change b d =
-    let r = words-more b d in
-    subst (λ (ws : List ℕ). sample_file form change ws ≡ made form change b ++ more_of (made form change b)
+pub any-more : (pcm : SampleFormat) (form : Words) (change : Change) (b d : List ℕ)
+    → made pcm form change (b ++ d) ≡ made pcm form change b ++ more_of (made pcm form change b)
+    (made pcm form change (b ++ d))
+any-more pcm form change b d =
+    let r = in-more pcm b d in
+    subst (λ (ws : List ℕ). sample_file form change ws ≡ made pcm form change b ++ more_of (made pcm form change b)
     (sample_file form change ws))
-    (sym r.1) (file-more form change (words_of b) r.0)
+    (sym r.1) (file-more form change (words_in pcm b) r.0)
 
 -- ---- faults
 
@@ -184,33 +176,39 @@ fault-some true w n e h = inl (refl, sym (same_Some _ _ h))
 abbrev with_byte : List ℕ → ℕ → Bool
 with_byte b x = begins_wave (b ++ x ∷ [])
 
-pub clean-byte : (exact : Bool) (form : Words) (change : Change) (b : List ℕ) (x : ℕ) → (exact ≡ true
+pub clean-byte : (pcm : SampleFormat) (exact : Bool) (form : Words) (change : Change) (b : List ℕ) (x : ℕ)
+    → (asks_exact pcm exact ≡ true
     → length b % 4 ≡ 0 → x ≡ 0)
     → begins_wave (b ++ x ∷ []) ≡ false
-    → (sampling exact form change).fault b x ≡ None
+    → (sampling pcm exact form change).fault b x ≡ None
 unfolding sampling
-clean-byte exact form change b x h w = ap₂ (λ s t. fault-of s t (length b)) (low-false exact b x h) w
+clean-byte pcm exact form change b x h w = ap₂ (λ s t. fault-of s t (length b))
+    (low-false (asks_exact pcm exact) b x h) w
 
-wave-byte : (exact : Bool) (form : Words) (change : Change) (b : List ℕ) (x : ℕ) → (exact ≡ true → length b % 4 ≡ 0
+wave-byte : (pcm : SampleFormat) (exact : Bool) (form : Words) (change : Change) (b : List ℕ) (x : ℕ)
+    → (asks_exact pcm exact ≡ true → length b % 4 ≡ 0
     → x ≡ 0)
     → begins_wave (b ++ x ∷ []) ≡ true
-    → (sampling exact form change).fault b x ≡ Some WaveHeader
+    → (sampling pcm exact form change).fault b x ≡ Some WaveHeader
 unfolding sampling
-wave-byte exact form change b x h w = ap₂ (λ s t. fault-of s t (length b)) (low-false exact b x h) w
+wave-byte pcm exact form change b x h w = ap₂ (λ s t. fault-of s t (length b))
+    (low-false (asks_exact pcm exact) b x h) w
 
-pub bad-byte : (exact : Bool) (form : Words) (change : Change) (b : List ℕ) (x : ℕ) → exact ≡ true
+pub bad-byte : (pcm : SampleFormat) (exact : Bool) (form : Words) (change : Change) (b : List ℕ) (x : ℕ)
+    → asks_exact pcm exact ≡ true
     → length b % 4 ≡ 0 → x ≢ 0
-    → (sampling exact form change).fault b x ≡ Some (BadSample (length b))
+    → (sampling pcm exact form change).fault b x ≡ Some (BadSample (length b))
 unfolding sampling
-bad-byte exact form change b x e q n = ap (λ t. fault-of t (with_byte b x) (length b)) (low-true exact b x e q n)
+bad-byte pcm exact form change b x e q n = ap (λ t. fault-of t (with_byte b x) (length b))
+    (low-true (asks_exact pcm exact) b x e q n)
 
-pub byte-clean : (exact : Bool) (form : Words) (change : Change) (b : List ℕ) (x : ℕ)
-    → (sampling exact form change).fault b x ≡ None
-    → (exact ≡ true → length b % 4 ≡ 0 → x ≡ 0) × (begins_wave (b ++ x ∷ []) ≡ false)
+pub byte-clean : (pcm : SampleFormat) (exact : Bool) (form : Words) (change : Change) (b : List ℕ) (x : ℕ)
+    → (sampling pcm exact form change).fault b x ≡ None
+    → (asks_exact pcm exact ≡ true → length b % 4 ≡ 0 → x ≡ 0) × (begins_wave (b ++ x ∷ []) ≡ false)
 unfolding sampling
-byte-clean exact form change b x h =
-    let q = fault-none (is_low exact b x) (with_byte b x) (length b) h in
-    (from-false exact b x q.0, q.1)
+byte-clean pcm exact form change b x h =
+    let q = fault-none (is_low (asks_exact pcm exact) b x) (with_byte b x) (length b) h in
+    (from-false (asks_exact pcm exact) b x q.0, q.1)
 
 -- a byte that is refused: the lowest of a sample, or the last of a header
 pub record LowByte (exact : Bool) (b : List ℕ) (x : ℕ) (e : RunError) : Type 0 where
@@ -224,14 +222,16 @@ pub record HeaderByte (exact : Bool) (b : List ℕ) (x : ℕ) (e : RunError) : T
   pub bits : exact ≡ true → length b % 4 ≡ 0 → x ≡ 0
   pub header : begins_wave (b ++ x ∷ []) ≡ true
 
-pub byte-bad : (exact : Bool) (form : Words) (change : Change) (b : List ℕ) (x : ℕ) (e : RunError)
-    → (sampling exact form change).fault b x ≡ Some e
-    → LowByte exact b x e ⊎ HeaderByte exact b x e
+pub byte-bad : (pcm : SampleFormat) (exact : Bool) (form : Words) (change : Change) (b : List ℕ) (x : ℕ) (e : RunError)
+    → (sampling pcm exact form change).fault b x ≡ Some e
+    → LowByte (asks_exact pcm exact) b x e ⊎ HeaderByte (asks_exact pcm exact) b x e
 unfolding sampling
-byte-bad exact form change b x e h = elim (fault-some (is_low exact b x) (with_byte b x) (length b) e h) [
-  | inl q ↦ let r = from-true exact b x q.0 in inl (record { is = q.1; asked = r.0; lowest = r.1; some = r.2 })
-  | inr q ↦ inr (record { is = q.2; bits = from-false exact b x q.0; header = q.1 })
-]
+byte-bad pcm exact form change b x e h = elim (fault-some (is_low (asks_exact pcm exact) b x) (with_byte b x)
+    (length b) e h) [
+      | inl q ↦ let r = from-true (asks_exact pcm exact) b x q.0 in inl
+          (record { is = q.1; asked = r.0; lowest = r.1; some = r.2 })
+      | inr q ↦ inr (record { is = q.2; bits = from-false (asks_exact pcm exact) b x q.0; header = q.1 })
+    ]
 
 -- no lowest byte of a sample of d behind b is set
 abbrev pub ExactBehind : Bool → ℕ → List ℕ → Type 0
@@ -257,51 +257,59 @@ pub record CleanBehind (exact : Bool) (b d : List ℕ) : Type 0 where
 pub one-more : (b d : List ℕ) (x : ℕ) → begins_wave ((b ++ x ∷ []) ++ d) ≡ begins_wave (b ++ x ∷ d)
 one-more b d x = ap begins_wave (append_assoc b (x ∷ []) d)
 
-pub exact-clean : (exact : Bool) (form : Words) (change : Change) (b d : List ℕ) → CleanBehind exact b d
-    → fault_behind (sampling exact form change) b d ≡ None
-exact-clean exact form change b [] h = refl
-exact-clean exact form change b (x ∷ d) h =
+pub exact-clean : (pcm : SampleFormat) (exact : Bool) (form : Words) (change : Change) (b d : List ℕ)
+    → CleanBehind (asks_exact pcm exact) b d
+    → fault_behind (sampling pcm exact form change) b d ≡ None
+exact-clean pcm exact form change b [] h = refl
+exact-clean pcm exact form change b (x ∷ d) h =
     let w = one-more b d x ∙ h.samples in
-    ap (λ o. or_else o (fault_behind (sampling exact form change) (b ++ x ∷ []) d))
-    (clean-byte exact form change b x (behind-head exact (length b) x d h.bits) (wave-front (b ++ x ∷ []) d w))
-    ∙ exact-clean exact form change (b ++ x ∷ []) d (record {
-      bits = behind-tail exact (length b) x d (length (b ++ x ∷ [])) (length-append b (x ∷ [])) h.bits;
+    ap (λ o. or_else o (fault_behind (sampling pcm exact form change) (b ++ x ∷ []) d))
+    (clean-byte pcm exact form change b x (behind-head (asks_exact pcm exact) (length b) x d h.bits)
+    (wave-front (b ++ x ∷ []) d w))
+    ∙ exact-clean pcm exact form change (b ++ x ∷ []) d (record {
+      bits = behind-tail (asks_exact pcm exact) (length b) x d (length (b ++ x ∷ [])) (length-append b (x ∷ [])) h.bits;
       samples = w;
     })
 
-pub clean-exact : (exact : Bool) (form : Words) (change : Change) (b d : List ℕ) → begins_wave b ≡ false
-    → fault_behind (sampling exact form change) b d ≡ None
-    → CleanBehind exact b d
-clean-exact exact form change b [] w h =
+pub clean-exact : (pcm : SampleFormat) (exact : Bool) (form : Words) (change : Change) (b d : List ℕ)
+    → begins_wave b ≡ false
+    → fault_behind (sampling pcm exact form change) b d ≡ None
+    → CleanBehind (asks_exact pcm exact) b d
+clean-exact pcm exact form change b [] w h =
     record { bits = λ e i r. refl; samples = ap begins_wave (append-nil b) ∙ w }
-clean-exact exact form change b (x ∷ d) w h =
-    go ((sampling exact form change).fault b x) refl h (clean-exact exact form change (b ++ x ∷ []) d)
+clean-exact pcm exact form change b (x ∷ d) w h =
+    go ((sampling pcm exact form change).fault b x) refl h (clean-exact pcm exact form change (b ++ x ∷ []) d)
   where
-    go : (o : Option RunError) → (sampling exact form change).fault b x ≡ o
-        → or_else o (fault_behind (sampling exact form change) (b ++ x ∷ []) d) ≡ None
-        → (begins_wave (b ++ x ∷ []) ≡ false → fault_behind (sampling exact form change) (b ++ x ∷ []) d ≡ None
-        → CleanBehind exact (b ++ x ∷ []) d)
-        → CleanBehind exact b (x ∷ d)
+    go : (o : Option RunError) → (sampling pcm exact form change).fault b x ≡ o
+        → or_else o (fault_behind (sampling pcm exact form change) (b ++ x ∷ []) d) ≡ None
+        → (begins_wave (b ++ x ∷ []) ≡ false → fault_behind (sampling pcm exact form change) (b ++ x ∷ []) d ≡ None
+        → CleanBehind (asks_exact pcm exact) (b ++ x ∷ []) d)
+        → CleanBehind (asks_exact pcm exact) b (x ∷ d)
     go (Some e) q h next = absurd cc
-    go None q h next = let c = byte-clean exact form change b x q in let n = next c.1 h in record {
-      bits = behind-cons exact (length b) x d (length (b ++ x ∷ [])) (length-append b (x ∷ [])) c.0 n.bits;
+    go None q h next = let c = byte-clean pcm exact form change b x q in let n = next c.1 h in record {
+      bits = behind-cons (asks_exact pcm exact) (length b) x d (length (b ++ x ∷ []))
+          (length-append b (x ∷ [])) c.0 n.bits;
       samples = sym (one-more b d x) ∙ n.samples;
     }
 
 -- the header of a WAV file that ends in d
-wave-found : (exact : Bool) (form : Words) (change : Change) (b d : List ℕ) → ExactBehind exact (length b) d
+wave-found : (pcm : SampleFormat) (exact : Bool) (form : Words) (change : Change) (b d : List ℕ)
+    → ExactBehind (asks_exact pcm exact) (length b) d
     → begins_wave b ≡ false → begins_wave (b ++ d) ≡ true
-    → fault_behind (sampling exact form change) b d ≡ Some WaveHeader
-wave-found exact form change b [] h w e = absurd (let q = ap begins_wave (append-nil b) in cc)
-wave-found exact form change b (x ∷ d) h w e = elim (cases_Bool (with_byte b x)) [
-  | inl q ↦ ap (λ o. or_else o more) (wave-byte exact form change b x (behind-head exact (length b) x d h) q)
-  | inr q ↦ ap (λ o. or_else o more) (clean-byte exact form change b x (behind-head exact (length b) x d h) q)
-      ∙ wave-found exact form change (b ++ x ∷ []) d
-      (behind-tail exact (length b) x d (length (b ++ x ∷ [])) (length-append b (x ∷ [])) h) q (one-more b d x ∙ e)
+    → fault_behind (sampling pcm exact form change) b d ≡ Some WaveHeader
+wave-found pcm exact form change b [] h w e = absurd (let q = ap begins_wave (append-nil b) in cc)
+wave-found pcm exact form change b (x ∷ d) h w e = elim (cases_Bool (with_byte b x)) [
+  | inl q ↦ ap (λ o. or_else o more) (wave-byte pcm exact form change b x
+      (behind-head (asks_exact pcm exact) (length b) x d h) q)
+  | inr q ↦ ap (λ o. or_else o more) (clean-byte pcm exact form change b x
+      (behind-head (asks_exact pcm exact) (length b) x d h) q)
+      ∙ wave-found pcm exact form change (b ++ x ∷ []) d
+      (behind-tail (asks_exact pcm exact) (length b) x d (length (b ++ x ∷ [])) (length-append b (x ∷ [])) h) q
+      (one-more b d x ∙ e)
 ]
   where
     more : Option RunError
-    more = fault_behind (sampling exact form change) (b ++ x ∷ []) d
+    more = fault_behind (sampling pcm exact form change) (b ++ x ∷ []) d
 
 -- the whole input
 pub all-exact : (exact : Bool) (b : List ℕ) → ExactBehind exact 0 b → AllExact exact b
@@ -310,12 +318,12 @@ all-exact exact b h e i r = h e i (ap (λ k. k % 4) (let z : 0 + i ≡ i = omega
 pub all-behind : (exact : Bool) (b : List ℕ) → AllExact exact b → ExactBehind exact 0 b
 all-behind exact b h e i r = h e i (ap (λ k. k % 4) (let z : i ≡ 0 + i = omega arith in z) ∙ r)
 
-pub clean-all : (exact : Bool) (form : Words) (change : Change) (b : List ℕ)
-    → first_fault (sampling exact form change) b ≡ None
-    → AreSamples exact b
+pub clean-all : (pcm : SampleFormat) (exact : Bool) (form : Words) (change : Change) (b : List ℕ)
+    → first_fault (sampling pcm exact form change) b ≡ None
+    → AreSamples (asks_exact pcm exact) b
 unfolding first_fault
-clean-all exact form change b h = let c = clean-exact exact form change [] b refl h in
-    record { bits = all-exact exact b c.bits; samples = c.samples }
+clean-all pcm exact form change b h = let c = clean-exact pcm exact form change [] b refl h in
+    record { bits = all-exact (asks_exact pcm exact) b c.bits; samples = c.samples }
 
 -- more bytes
 pub all-more : (exact : Bool) (b d : List ℕ) → AllExact exact b → ExactBehind exact (length b) d
@@ -366,53 +374,66 @@ exact-stop (a ∷ b ∷ c ∷ e ∷ rest) x d h l n =
     word : ℕ
     word = bytes_number (a ∷ b ∷ c ∷ e ∷ [])
 
-words-all : (exact : Bool) (b : List ℕ) → AllExact exact b → sample_words exact b ≡ words_of b
-words-all false b h = refl
-words-all true b h = exact-all b (h refl)
+words-all : (pcm : SampleFormat) (exact : Bool) (b : List ℕ) → AllExact (asks_exact pcm exact) b
+    → sample_words pcm exact b ≡ words_in pcm b
+words-all S32 false b h = refl
+words-all S32 true b h = exact-all b (h refl)
+words-all S24 exact b h = refl
+words-all S24In32 exact b h = refl
+words-all S16 exact b h = refl
 
-words-stop : (exact : Bool) (b : List ℕ) (x : ℕ) (d : List ℕ) (e : RunError) → AllExact exact b → LowByte exact b x e
-    → sample_words exact (b ++ x ∷ d) ≡ words_of b
-words-stop false b x d e h l = absurd (let q = l.asked in cc)
-words-stop true b x d e h l = exact-stop b x d (h refl) l.lowest l.some
+words-stop : (pcm : SampleFormat) (exact : Bool) (b : List ℕ) (x : ℕ) (d : List ℕ) (e : RunError)
+    → AllExact (asks_exact pcm exact) b → LowByte (asks_exact pcm exact) b x e
+    → sample_words pcm exact (b ++ x ∷ d) ≡ words_in pcm b
+words-stop S32 false b x d e h l = absurd (let q = l.asked in cc)
+words-stop S32 true b x d e h l = exact-stop b x d (h refl) l.lowest l.some
+words-stop S24 exact b x d e h l = absurd (let q = l.asked in cc)
+words-stop S24In32 exact b x d e h l = absurd (let q = l.asked in cc)
+words-stop S16 exact b x d e h l = absurd (let q = l.asked in cc)
 
-begun-none : (exact : Bool) (form : Words) (change : Change) (b : List ℕ) → begins_wave b ≡ true
-    → begun_pcm exact form change b ≡ []
-begun-none exact form change b w = ap (λ t. cond {A = List ℕ} t [] (sample_file form change (sample_words exact b))) w
+begun-none : (pcm : SampleFormat) (exact : Bool) (form : Words) (change : Change) (b : List ℕ) → begins_wave b ≡ true
+    → begun_pcm pcm exact form change b ≡ []
+begun-none pcm exact form change b w = ap (λ t. cond {A = List ℕ} t []
+    (sample_file form change (sample_words pcm exact b))) w
 
-begun-some : (exact : Bool) (form : Words) (change : Change) (b : List ℕ) → begins_wave b ≡ false
-    → begun_pcm exact form change b ≡ sample_file form change (sample_words exact b)
-begun-some exact form change b w = ap (λ t. cond {A = List ℕ} t [] (sample_file form change (sample_words exact b))) w
+begun-some : (pcm : SampleFormat) (exact : Bool) (form : Words) (change : Change) (b : List ℕ) → begins_wave b ≡ false
+    → begun_pcm pcm exact form change b ≡ sample_file form change (sample_words pcm exact b)
+begun-some pcm exact form change b w = ap (λ t. cond {A = List ℕ} t []
+    (sample_file form change (sample_words pcm exact b))) w
 
-pub begun-all : (exact : Bool) (form : Words) (change : Change) (b : List ℕ) → AreSamples exact b
-    → begun_pcm exact form change b ≡ made form change b
-begun-all exact form change b h = begun-some exact form change b h.samples
-    ∙ ap (sample_file form change) (words-all exact b h.bits)
+pub begun-all : (pcm : SampleFormat) (exact : Bool) (form : Words) (change : Change) (b : List ℕ)
+    → AreSamples (asks_exact pcm exact) b
+    → begun_pcm pcm exact form change b ≡ made pcm form change b
+begun-all pcm exact form change b h = begun-some pcm exact form change b h.samples
+    ∙ ap (sample_file form change) (words-all pcm exact b h.bits)
 
 -- nothing of a header is written
-begun-few : (exact : Bool) (form : Words) (change : Change) (b d : List ℕ) → AreSamples exact b
+begun-few : (pcm : SampleFormat) (exact : Bool) (form : Words) (change : Change) (b d : List ℕ)
+    → AreSamples (asks_exact pcm exact) b
     → begins_wave (b ++ d) ≡ true
-    → begun_pcm exact form change (b ++ d) ≡ begun_pcm exact form change b
-begun-few exact form change b d h w =
+    → begun_pcm pcm exact form change (b ++ d) ≡ begun_pcm pcm exact form change b
+begun-few pcm exact form change b d h w =
     let l = wave-short b d h.samples w in
-    begun-none exact form change (b ++ d) w ∙ sym (begun-all exact form change b h
-    ∙ made-short form change b (omega arith))
+    begun-none pcm exact form change (b ++ d) w ∙ sym (begun-all pcm exact form change b h
+    ∙ made-short pcm form change b (header-short pcm (length b) l))
 
-begun-stop : (exact : Bool) (form : Words) (change : Change) (b : List ℕ) (x : ℕ) (d : List ℕ) (e : RunError)
-    → AreSamples exact b
-    → LowByte exact b x e
-    → begun_pcm exact form change (b ++ x ∷ d) ≡ begun_pcm exact form change b
-begun-stop exact form change b x d e h l = elim (cases_Bool (begins_wave (b ++ x ∷ d))) [
-  | inl w ↦ begun-few exact form change b (x ∷ d) h w
-  | inr w ↦ begun-some exact form change (b ++ x ∷ d) w
-      ∙ ap (sample_file form change) (words-stop exact b x d e h.bits l)
-      ∙ sym (begun-all exact form change b h)
+begun-stop : (pcm : SampleFormat) (exact : Bool) (form : Words) (change : Change) (b : List ℕ) (x : ℕ) (d : List ℕ)
+    (e : RunError)
+    → AreSamples (asks_exact pcm exact) b
+    → LowByte (asks_exact pcm exact) b x e
+    → begun_pcm pcm exact form change (b ++ x ∷ d) ≡ begun_pcm pcm exact form change b
+begun-stop pcm exact form change b x d e h l = elim (cases_Bool (begins_wave (b ++ x ∷ d))) [
+  | inl w ↦ begun-few pcm exact form change b (x ∷ d) h w
+  | inr w ↦ begun-some pcm exact form change (b ++ x ∷ d) w
+      ∙ ap (sample_file form change) (words-stop pcm exact b x d e h.bits l)
+      ∙ sym (begun-all pcm exact form change b h)
 ]
 
 -- what the conversion writes
-adds-is : (exact : Bool) (form : Words) (change : Change) (b : List ℕ) (x : ℕ)
-    → (sampling exact form change).adds b x ≡ more_of (made form change b) (made form change (b ++ x ∷ []))
+adds-is : (pcm : SampleFormat) (exact : Bool) (form : Words) (change : Change) (b : List ℕ) (x : ℕ)
+    → (sampling pcm exact form change).adds b x ≡ more_of (made pcm form change b) (made pcm form change (b ++ x ∷ []))
 unfolding sampling
-adds-is exact form change b x = refl
+adds-is pcm exact form change b x = refl
 
 one-behind : (exact : Bool) (b : List ℕ) (x : ℕ) → (exact ≡ true → length b % 4 ≡ 0 → x ≡ 0)
     → begins_wave (b ++ x ∷ []) ≡ false
@@ -420,227 +441,242 @@ one-behind : (exact : Bool) (b : List ℕ) (x : ℕ) → (exact ≡ true → len
 one-behind exact b x h w =
     record { bits = behind-cons exact (length b) x [] (length b + 1) refl h (λ e i r. refl); samples = w }
 
-pub out-samples : (exact : Bool) (form : Words) (change : Change) (b : List ℕ)
-    → out (sampling exact form change) b ≡ begun_pcm exact form change b
-out-samples exact form change = out-is (sampling exact form change) (begun_pcm exact form change)
-    (begun-all exact form change [] (record { bits = λ e i r. refl; samples = refl })
-    ∙ made-short form change [] (omega arith)) more stays
+pub out-samples : (pcm : SampleFormat) (exact : Bool) (form : Words) (change : Change) (b : List ℕ)
+    → out (sampling pcm exact form change) b ≡ begun_pcm pcm exact form change b
+out-samples pcm exact form change = out-is (sampling pcm exact form change) (begun_pcm pcm exact form change)
+    (begun-all pcm exact form change [] (record { bits = λ e i r. refl; samples = refl })
+    ∙ made-short pcm form change [] (no-byte pcm)) more stays
   where
-    more : (b : List ℕ) (x : ℕ) → first_fault (sampling exact form change) b ≡ None
-        → (sampling exact form change).fault b x ≡ None
-        → begun_pcm exact form change (b ++ x ∷ []) ≡ begun_pcm exact form change b ++
-        (sampling exact form change).adds b x
+    more : (b : List ℕ) (x : ℕ) → first_fault (sampling pcm exact form change) b ≡ None
+        → (sampling pcm exact form change).fault b x ≡ None
+        → begun_pcm pcm exact form change (b ++ x ∷ []) ≡ begun_pcm pcm exact form change b ++
+        (sampling pcm exact form change).adds b x
     more b x c e =
-        let h = clean-all exact form change b c in
-        let q = byte-clean exact form change b x e in
-        let k = clean-more exact b (x ∷ []) h (one-behind exact b x q.0 q.1) in
-        begun-all exact form change (b ++ x ∷ []) k ∙ any-more form change b (x ∷ [])
-        ∙ ap₂ ◌++◌ (sym (begun-all exact form change b h)) (sym (adds-is exact form change b x))
+        let h = clean-all pcm exact form change b c in
+        let q = byte-clean pcm exact form change b x e in
+        let k = clean-more (asks_exact pcm exact) b (x ∷ []) h (one-behind (asks_exact pcm exact) b x q.0 q.1) in
+        begun-all pcm exact form change (b ++ x ∷ []) k ∙ any-more pcm form change b (x ∷ [])
+        ∙ ap₂ ◌++◌ (sym (begun-all pcm exact form change b h)) (sym (adds-is pcm exact form change b x))
 
-    stays : (b : List ℕ) (x : ℕ) (d : List ℕ) (e : RunError) → first_fault (sampling exact form change) b ≡ None
-        → (sampling exact form change).fault b x ≡ Some e
-        → begun_pcm exact form change (b ++ x ∷ d) ≡ begun_pcm exact form change b
-    stays b x d e c q = elim (byte-bad exact form change b x e q) [
-      | inl r ↦ begun-stop exact form change b x d e (clean-all exact form change b c) r
-      | inr r ↦ begun-few exact form change b (x ∷ d) (clean-all exact form change b c)
+    stays : (b : List ℕ) (x : ℕ) (d : List ℕ) (e : RunError) → first_fault (sampling pcm exact form change) b ≡ None
+        → (sampling pcm exact form change).fault b x ≡ Some e
+        → begun_pcm pcm exact form change (b ++ x ∷ d) ≡ begun_pcm pcm exact form change b
+    stays b x d e c q = elim (byte-bad pcm exact form change b x e q) [
+      | inl r ↦ begun-stop pcm exact form change b x d e (clean-all pcm exact form change b c) r
+      | inr r ↦ begun-few pcm exact form change b (x ∷ d) (clean-all pcm exact form change b c)
           (sym (one-more b d x) ∙ wave-more (b ++ x ∷ []) d r.header)
     ]
 
-first-clean : (exact : Bool) (form : Words) (change : Change) (b : List ℕ) → AreSamples exact b
-    → fault_behind (sampling exact form change) [] b ≡ None
-first-clean exact form change b h =
-    exact-clean exact form change [] b (record { bits = all-behind exact b h.bits; samples = h.samples })
+first-clean : (pcm : SampleFormat) (exact : Bool) (form : Words) (change : Change) (b : List ℕ)
+    → AreSamples (asks_exact pcm exact) b
+    → fault_behind (sampling pcm exact form change) [] b ≡ None
+first-clean pcm exact form change b h =
+    exact-clean pcm exact form change [] b (record {
+      bits = all-behind
+          (asks_exact pcm exact) b h.bits;
+      samples = h.samples;
+    })
 
 -- a header of which the bytes b are the beginning writes nothing
-wave-writes : (exact : Bool) (form : Words) (change : Change) (b d : List ℕ) → AreSamples exact b
+wave-writes : (pcm : SampleFormat) (exact : Bool) (form : Words) (change : Change) (b d : List ℕ)
+    → AreSamples (asks_exact pcm exact) b
     → begins_wave (b ++ d) ≡ true
-    → out_behind (sampling exact form change) b d ≡ []
+    → out_behind (sampling pcm exact form change) b d ≡ []
 unfolding out
-wave-writes exact form change b d h w =
+wave-writes pcm exact form change b d h w =
     let l = wave-short b d h.samples w in
-    let s : out (sampling exact form change) b ≡ [] =
-    out-samples exact form change b ∙ begun-all exact form change b h ∙ made-short form change b (omega arith) in
-    ap (λ v. v ++ out_behind (sampling exact form change) b d) (sym s)
-    ∙ sym (behind-clean (sampling exact form change) [] b d (first-clean exact form change b h))
-    ∙ out-samples exact form change (b ++ d) ∙ begun-none exact form change (b ++ d) w
+    let s : out (sampling pcm exact form change) b ≡ [] =
+    out-samples pcm exact form change b ∙ begun-all pcm exact form change b h
+    ∙ made-short pcm form change b (header-short pcm (length b) l) in
+    ap (λ v. v ++ out_behind (sampling pcm exact form change) b d) (sym s)
+    ∙ sym (behind-clean (sampling pcm exact form change) [] b d (first-clean pcm exact form change b h))
+    ∙ out-samples pcm exact form change (b ++ d) ∙ begun-none pcm exact form change (b ++ d) w
 
 -- what clean bytes write behind clean bytes
-pub behind-made : (exact : Bool) (form : Words) (change : Change) (b d : List ℕ) → AreSamples exact b
-    → CleanBehind exact b d
-    → made form change (b ++ d) ≡ made form change b ++ out_behind (sampling exact form change) b d
+pub behind-made : (pcm : SampleFormat) (exact : Bool) (form : Words) (change : Change) (b d : List ℕ)
+    → AreSamples (asks_exact pcm exact) b
+    → CleanBehind (asks_exact pcm exact) b d
+    → made pcm form change (b ++ d) ≡ made pcm form change b ++ out_behind (sampling pcm exact form change) b d
 unfolding first_fault out
-behind-made exact form change b d h t =
-    sym (begun-all exact form change (b ++ d) (clean-more exact b d h t)) ∙ sym (out-samples exact form change (b ++ d))
-    ∙ behind-clean (sampling exact form change) [] b d (first-clean exact form change b h)
-    ∙ ap (λ z. z ++ out_behind (sampling exact form change) b d) (out-samples exact form change b
-    ∙ begun-all exact form change b h)
+behind-made pcm exact form change b d h t =
+    sym (begun-all pcm exact form change (b ++ d) (clean-more (asks_exact pcm exact) b d h t))
+    ∙ sym (out-samples pcm exact form change (b ++ d))
+    ∙ behind-clean (sampling pcm exact form change) [] b d (first-clean pcm exact form change b h)
+    ∙ ap (λ z. z ++ out_behind (sampling pcm exact form change) b d) (out-samples pcm exact form change b
+    ∙ begun-all pcm exact form change b h)
 
 -- ---- the end
 
-pub end-whole : (exact : Bool) (form : Words) (k : Change) (b : List ℕ) → length b % frame_len ≡ 0
-    → (sampling exact form k).end_fault b ≡ None
+pub end-whole : (pcm : SampleFormat) (exact : Bool) (form : Words) (k : Change) (b : List ℕ)
+    → length b % frame_len pcm ≡ 0
+    → (sampling pcm exact form k).end_fault b ≡ None
 unfolding sampling
-end-whole exact form k b h = ap (λ t. cond {A = Option RunError} t None (Some (BadLength (length b % frame_len))))
-    (eq-eqb (length b % frame_len) 0 h)
+end-whole pcm exact form k b h = ap (λ t. cond {A = Option RunError} t None
+    (Some (BadLength (length b % frame_len pcm))))
+    (eq-eqb (length b % frame_len pcm) 0 h)
 
-pub end-left : (exact : Bool) (form : Words) (k : Change) (b : List ℕ) (left : ℕ) → left ≡ length b % frame_len
+pub end-left : (pcm : SampleFormat) (exact : Bool) (form : Words) (k : Change) (b : List ℕ) (left : ℕ)
+    → left ≡ length b % frame_len pcm
     → 0 < left
-    → (sampling exact form k).end_fault b ≡ Some (BadLength left)
+    → (sampling pcm exact form k).end_fault b ≡ Some (BadLength left)
 unfolding sampling
-end-left exact form k b left e h =
-    ap (λ t. cond {A = Option RunError} t None (Some (BadLength (length b % frame_len))))
-    (ne_eqb (length b % frame_len) 0 (λ q. omega arith))
+end-left pcm exact form k b left e h =
+    ap (λ t. cond {A = Option RunError} t None (Some (BadLength (length b % frame_len pcm))))
+    (ne_eqb (length b % frame_len pcm) 0 (λ q. omega arith))
     ∙ ap (λ n. Some (BadLength n)) (sym e)
-
-pad-words : (b : List ℕ) → length b % 8 ≡ 0
-    → filled (words_of b) ≡ words_of (b ++ replicate ((1536 - length b % 1536) % 1536) 0)
-unfolding block_slots
-pad-words b h =
-    let l = length-words b in
-    let n = (384 - length (words_of b) % 384) % 384 in
-    let e : (1536 - length b % 1536) % 1536 ≡ 4 * n = omega arith in
-    sym (ap (λ k. words_of (b ++ replicate k 0)) e ∙ words-join b (replicate (4 * n) 0) (omega arith)
-    ∙ ap (λ v. words_of b ++ v) (words-zeros n))
 
 -- ---- a front of a piece
 
--- the same from the place in the block
-place-behind : (exact : Bool) (n k : ℕ) (d : List ℕ) → k ≡ n % 1536 → ExactBehind exact k d → ExactBehind exact n d
-place-behind exact n k d e h t i r = h t i (omega arith)
+-- the same from the place in a sample
+place-behind : (exact : Bool) (n k : ℕ) (d : List ℕ) → k ≡ n → ExactBehind exact k d → ExactBehind exact n d
+place-behind exact n k d e h t i r = h t i (ap (λ j. (j + i) % 4) e ∙ r)
 
--- what is known of the bytes d, which begin at this place of a block: nothing of them is refused
+-- what is known of the bytes d that come next: nothing of them is refused
 pub record CleanHere (exact : Bool) (seen : ℕ) (held d : List ℕ) : Type 0 where
-  pub bits : ExactBehind exact (seen % 1536) d
+  pub bits : ExactBehind exact seen d
   pub samples : seen < wave_header_len → begins_wave (held ++ d) ≡ false
 
-module _ (exact : Bool) (form : Words) (change : Change) (seen : ℕ) (begun : List ℕ) (size : length begun ≡ 1536) where
-  abbrev at : ℕ
-  at = seen % 1536
-
+module _ (pcm : SampleFormat) (exact : Bool) (form : Words) (change : Change) (seen at : ℕ) (begun : List ℕ)
+    (size : length begun ≡ 1536) (few : at < block_len pcm) (room : block_len pcm ≤ 1536) where
   abbrev held : List ℕ
   held = take at begun
 
   held-length : length held ≡ at
-  held-length = length-take-le at begun (omega (arith, size))
+  held-length = length-take-le at begun (omega (arith, size, few, room))
 
   -- while they are fewer than a header has, they are all held
-  held-all : (b : List ℕ) → Samples exact seen begun b → seen < wave_header_len → b ≡ held
-  unfolding block_bytes_len
+  held-all : (b : List ℕ) → Samples pcm exact seen at begun b → seen < wave_header_len → b ≡ held
   held-all b h l =
       let c = h.count in
       let w = h.whole in
       let n : length b ≡ length h.before + length held = ap length h.bytes ∙ length-append h.before held in
-      let z : length h.before ≡ 0 = omega arith in
+      let z : length h.before ≡ 0 = none-before pcm (length h.before) w (omega arith) in
       h.bytes ∙ ap (λ p. p ++ held) (nil_from_length h.before z)
 
-  still : (b d : List ℕ) → Samples exact seen begun b → (seen < wave_header_len → begins_wave (held ++ d) ≡ false)
+  still : (b d : List ℕ) → Samples pcm exact seen at begun b
+      → (seen < wave_header_len → begins_wave (held ++ d) ≡ false)
       → begins_wave (b ++ d) ≡ false
   still b d h w = elim (cases_lt seen wave_header_len) [
     | inl l ↦ ap (λ v. begins_wave (v ++ d)) (held-all b h l) ∙ w l
     | inr l ↦ wave-settled b d (let c = h.count in omega arith) ∙ h.clean.samples
   ]
 
-  at-place : (b d : List ℕ) → Samples exact seen begun b → ExactBehind exact at d → ExactBehind exact (length b) d
-  at-place b d h t = place-behind exact (length b) at d (ap (λ n. n % 1536) h.count) t
+  at-place : (b d : List ℕ) → Samples pcm exact seen at begun b → ExactBehind (asks_exact pcm exact) seen d
+      → ExactBehind (asks_exact pcm exact) (length b) d
+  at-place b d h t = place-behind (asks_exact pcm exact) (length b) seen d h.count t
 
-  behind : (b d : List ℕ) → Samples exact seen begun b → CleanHere exact seen held d → CleanBehind exact b d
+  behind : (b d : List ℕ) → Samples pcm exact seen at begun b → CleanHere (asks_exact pcm exact) seen held d
+      → CleanBehind (asks_exact pcm exact) b d
   behind b d h t = record { bits = at-place b d h t.bits; samples = still b d h t.samples }
 
   -- what clean bytes write behind those that were taken
-  writes : (b d : List ℕ) → Samples exact seen begun b → CleanBehind exact b d
-      → made form change (held ++ d) ≡ out_behind (sampling exact form change) b d
-  unfolding block_bytes_len
+  writes : (b d : List ℕ) → Samples pcm exact seen at begun b → CleanBehind (asks_exact pcm exact) b d
+      → made pcm form change (held ++ d) ≡ out_behind (sampling pcm exact form change) b d
   writes b d h t =
       let p = h.before in
       let e : b ≡ p ++ held = h.bytes in
-      append_cancel_left (made form change b) (made form change (held ++ d)) (out_behind
-      (sampling exact form change) b d)
-      (sym (ap (λ v. made form change (v ++ d)) e ∙ made-more form change p held d h.whole
-      (let l = held-length in omega arith)
-      ∙ ap (λ v. made form change v ++ made form change (held ++ d)) (sym e))
-      ∙ behind-made exact form change b d h.clean t)
+      append_cancel_left (made pcm form change b) (made pcm form change (held ++ d)) (out_behind
+      (sampling pcm exact form change) b d)
+      (sym (ap (λ v. made pcm form change (v ++ d)) e ∙ made-more pcm form change p held d h.whole
+      (subst (λ n. n < block_len pcm) (sym held-length) few)
+      ∙ ap (λ v. made pcm form change v ++ made pcm form change (held ++ d)) (sym e))
+      ∙ behind-made pcm exact form change b d h.clean t)
 
-  next : (b d new : List ℕ) (n : ℕ) → length d ≡ n → Samples exact seen begun b → CleanBehind exact b d → at + n ≤ 1536
-      → take (at + n) new ≡ held ++ d
-      → Samples exact (seen + n) new (b ++ d)
-  unfolding block_bytes_len
-  next b d new n q h t l e = elim (cases_lt (at + n) 1536) [
+  -- with the bytes d the block is not yet whole, or it is
+  abbrev NextAt : ℕ → ℕ → Type 0
+  NextAt n next_at = ((at + n < block_len pcm) × (next_at ≡ at + n)) ⊎ ((at + n ≡ block_len pcm) × (next_at ≡ 0))
+
+  next : (b d new : List ℕ) (n next_at : ℕ) → length d ≡ n → Samples pcm exact seen at begun b
+      → CleanBehind (asks_exact pcm exact) b d → NextAt n next_at → take (at + n) new ≡ held ++ d
+      → Samples pcm exact (seen + n) next_at new (b ++ d)
+  next b d new n next_at q h t l e = elim l [
     | inl r ↦ record {
       before = h.before;
       whole = h.whole;
       bytes = ap (λ v. v ++ d) h.bytes ∙ append_assoc h.before held d
-          ∙ ap (λ v. h.before ++ v)
-          (sym e ∙ ap (λ k. take k new) (let f : at + n ≡ (seen + n) % 1536 = omega arith in f));
+          ∙ ap (λ v. h.before ++ v) (sym e ∙ ap (λ k. take k new) (sym r.1));
       count = count;
-      clean = clean-more exact b d h.clean t;
+      clean = clean-more (asks_exact pcm exact) b d h.clean t;
     }
     | inr r ↦ record {
       before = b ++ d;
-      whole = (let c = count in omega arith);
-      bytes = sym (append-nil (b ++ d))
-          ∙ ap (λ k. b ++ d ++ take k new) (let f : 0 ≡ (seen + n) % 1536 = omega arith in f);
+      whole = one-block pcm (length h.before) (length (b ++ d)) h.whole (let k = size_of in let m = r.0 in omega arith);
+      bytes = sym (append-nil (b ++ d)) ∙ ap (λ k. b ++ d ++ take k new) (sym r.1);
       count = count;
-      clean = clean-more exact b d h.clean t;
+      clean = clean-more (asks_exact pcm exact) b d h.clean t;
     }
   ]
     where
       count : seen + n ≡ length (b ++ d)
       count = ap₂ ◌+◌ h.count (sym q) ∙ sym (length-append b d)
 
-  pub front-fed : (d new : List ℕ) (n : ℕ) (t t' : Option (List ℕ)) → length d ≡ n → CleanHere exact seen held d
-      → at + n ≤ 1536 → take (at + n) new ≡ held ++ d
-      → Grew t t' (made form change (held ++ d))
-      → Fed (sampling exact form change) (sampling exact form change) (Samples exact seen begun)
-      (Samples exact (seen + n) new) t t' d
-  front-fed d new n t t' q x l e g = record {
+      size_of : length (b ++ d) ≡ length h.before + (at + n)
+      size_of =
+          let l = length-append b d in
+          let k = ap length h.bytes ∙ length-append h.before held in
+          let m = held-length in
+          omega arith
+
+  pub front-fed : (d new : List ℕ) (n next_at : ℕ) (t t' : Option (List ℕ)) → length d ≡ n
+      → CleanHere (asks_exact pcm exact) seen held d
+      → NextAt n next_at → take (at + n) new ≡ held ++ d
+      → Grew t t' (made pcm form change (held ++ d))
+      → Fed (sampling pcm exact form change) (sampling pcm exact form change) (Samples pcm exact seen at begun)
+      (Samples pcm exact (seen + n) next_at new) t t' d
+  front-fed d new n next_at t t' q x l e g = record {
     same = refl;
-    clean = λ b h. exact-clean exact form change b d (behind b d h x);
-    follows = λ b h. next b d new n q h (behind b d h x) l e;
+    clean = λ b h. exact-clean pcm exact form change b d (behind b d h x);
+    follows = λ b h. next b d new n next_at q h (behind b d h x) l e;
     grew = λ b h. grew-is (writes b d h (behind b d h x)) g;
   }
 
-  pub front-part : (d rest xs : List ℕ) (t t' : Option (List ℕ)) → CleanHere exact seen held d → d ++ rest ≡ xs
-      → GrewFront t t' (made form change (held ++ d))
-      → (b : List ℕ) → Samples exact seen begun b → GrewFront t t' (out_behind (sampling exact form change) b xs)
-  front-part d rest xs t t' x e g b h = front-longer (sampling exact form change) b d rest xs e (front-is
+  pub front-part : (d rest xs : List ℕ) (t t' : Option (List ℕ)) → CleanHere (asks_exact pcm exact) seen held d
+      → d ++ rest ≡ xs
+      → GrewFront t t' (made pcm form change (held ++ d))
+      → (b : List ℕ) → Samples pcm exact seen at begun b
+      → GrewFront t t' (out_behind (sampling pcm exact form change) b xs)
+  front-part d rest xs t t' x e g b h = front-longer (sampling pcm exact form change) b d rest xs e (front-is
       (writes b d h (behind b d h x)) g)
 
   -- the header of a WAV file that ends in the bytes d
   pub front-header : (s : List ℕ → Type 0) (d rest xs : List ℕ) (t : Option (List ℕ)) → ((b : List ℕ) → s b)
-      → ExactBehind exact at d → d ++ rest ≡ xs → seen < wave_header_len → begins_wave (held ++ d) ≡ true
-      → Stopped (sampling exact form change) (Samples exact seen begun) s t t xs WaveHeader
+      → ExactBehind (asks_exact pcm exact) seen d → d ++ rest ≡ xs → seen < wave_header_len
+      → begins_wave (held ++ d) ≡ true
+      → Stopped (sampling pcm exact form change) (Samples pcm exact seen at begun) s t t xs WaveHeader
   front-header s d rest xs t any x e l w = record {
-    fault = λ b h. ap (fault_behind (sampling exact form change) b) (sym e)
-        ∙ fault-first (sampling exact form change) b d rest WaveHeader
-        (wave-found exact form change b d (at-place b d h x) h.clean.samples (ends b h));
+    fault = λ b h. ap (fault_behind (sampling pcm exact form change) b) (sym e)
+        ∙ fault-first (sampling pcm exact form change) b d rest WaveHeader
+        (wave-found pcm exact form change b d (at-place b d h x) h.clean.samples (ends b h));
     left = λ b h. any _;
     grew = λ b h. grew-is
-        (sym (ap (out_behind (sampling exact form change) b) (sym e)
-        ∙ wave-writes exact form change b (d ++ rest) h.clean
+        (sym (ap (out_behind (sampling pcm exact form change) b) (sym e)
+        ∙ wave-writes pcm exact form change b (d ++ rest) h.clean
         (ap begins_wave (sym (append_assoc b d rest)) ∙ wave-more (b ++ d) rest (ends b h))))
         (grew-none refl);
   }
     where
-      ends : (b : List ℕ) → Samples exact seen begun b → begins_wave (b ++ d) ≡ true
+      ends : (b : List ℕ) → Samples pcm exact seen at begun b → begins_wave (b ++ d) ≡ true
       ends b h = ap (λ v. begins_wave (v ++ d)) (held-all b h l) ∙ w
 
   -- the first byte that is refused
   pub front-stopped : (s : List ℕ → Type 0) (i : ℕ) (xs : List ℕ) (t : Option (List ℕ)) → ((b : List ℕ) → s b)
-      → exact ≡ true → i < length xs → at + i < 1536 → (at + i) % 4 ≡ 0
-      → get_or xs i 0 ≢ 0 → ((j : ℕ) → j < i → (at + j) % 4 ≡ 0 → get_or xs j 0 ≡ 0)
-      → Stopped (sampling exact form change) (Samples exact seen begun) s t t xs (BadSample (seen + i))
+      → asks_exact pcm exact ≡ true → i < length xs → at + i < block_len pcm → (seen + i) % 4 ≡ 0
+      → get_or xs i 0 ≢ 0 → ((j : ℕ) → j < i → (seen + j) % 4 ≡ 0 → get_or xs j 0 ≡ 0)
+      → Stopped (sampling pcm exact form change) (Samples pcm exact seen at begun) s t t xs (BadSample (seen + i))
   front-stopped s i xs t any e w f m n first = record {
-    fault = λ b h. ap (fault_behind (sampling exact form change) b) (sym parts)
-        ∙ fault-clean (sampling exact form change) b d (x ∷ rest) (exact-clean exact form change b d (clean b h))
-        ∙ ap (λ o. or_else o (fault_behind (sampling exact form change) ((b ++ d) ++ x ∷ []) rest)) (here b h);
+    fault = λ b h. ap (fault_behind (sampling pcm exact form change) b) (sym parts)
+        ∙ fault-clean (sampling pcm exact form change) b d (x ∷ rest)
+        (exact-clean pcm exact form change b d (clean b h))
+        ∙ ap (λ o. or_else o (fault_behind (sampling pcm exact form change) ((b ++ d) ++ x ∷ []) rest)) (here b h);
     left = λ b h. any _;
     grew = λ b h. grew-is
-        (sym (ap (out_behind (sampling exact form change) b) (sym parts)
-        ∙ behind-clean (sampling exact form change) b d (x ∷ rest) (exact-clean exact form change b d (clean b h))
-        ∙ ap (λ v. v ++ out_behind (sampling exact form change) (b ++ d) (x ∷ rest)) (sym (writes b d h (clean b h))
-        ∙ made-short form change (held ++ d) short)
+        (sym (ap (out_behind (sampling pcm exact form change) b) (sym parts)
+        ∙ behind-clean (sampling pcm exact form change) b d (x ∷ rest)
+        (exact-clean pcm exact form change b d (clean b h))
+        ∙ ap (λ v. v ++ out_behind (sampling pcm exact form change) (b ++ d) (x ∷ rest)) (sym (writes b d h (clean b h))
+        ∙ made-short pcm form change (held ++ d) short)
         ∙ ap (λ o. unless o
-        ((sampling exact form change).adds (b ++ d) x ++ out_behind (sampling exact form change)
+        ((sampling pcm exact form change).adds (b ++ d) x ++ out_behind (sampling pcm exact form change)
         ((b ++ d) ++ x ∷ []) rest))
         (here b h)))
         (grew-none refl);
@@ -661,114 +697,130 @@ module _ (exact : Bool) (form : Words) (change : Change) (seen : ℕ) (begun : L
       count : length d ≡ i
       count = length-take-le i xs (omega arith)
 
-      before : ExactBehind exact at d
+      before : ExactBehind (asks_exact pcm exact) seen d
       before q j r = elim (cases_lt j i) [
         | inl l ↦ get_or-take i xs j 0 l ∙ first j l r
         | inr l ↦ get_or_past d j 0 (let c = count in omega arith)
       ]
 
-      clean : (b : List ℕ) → Samples exact seen begun b → CleanBehind exact b d
+      clean : (b : List ℕ) → Samples pcm exact seen at begun b → CleanBehind (asks_exact pcm exact) b d
       clean b h = let k = at-place b d h before in record {
         bits = k;
-        samples = exact-none exact (b ++ d) e (all-more exact b d h.clean.bits k);
+        samples = exact-none (asks_exact pcm exact) (b ++ d) e (all-more (asks_exact pcm exact) b d h.clean.bits k);
       }
 
-      short : length (held ++ d) < 1536
+      short : length (held ++ d) < block_len pcm
       short = let l = length-append held d in let h = held-length in let c = count in omega arith
 
-      here : (b : List ℕ) → Samples exact seen begun b
-          → (sampling exact form change).fault (b ++ d) x ≡ Some (BadSample (seen + i))
+      here : (b : List ℕ) → Samples pcm exact seen at begun b
+          → (sampling pcm exact form change).fault (b ++ d) x ≡ Some (BadSample (seen + i))
       here b h =
           let l = length-append b d in
           let c = count in
           let k = h.count in
           let p : length (b ++ d) ≡ seen + i = omega arith in
-          bad-byte exact form change (b ++ d) x e (omega arith) n ∙ ap (λ v. Some (BadSample v)) p
+          bad-byte pcm exact form change (b ++ d) x e (ap (λ v. v % 4) p ∙ m) n ∙ ap (λ v. Some (BadSample v)) p
 
   -- what the end writes
-  ends-tail : (b : List ℕ) → Samples exact seen begun b → seen % 8 ≡ 0 → 0 < at
-      → (sampling exact form change).ends b ≡ made form change (held ++ replicate (1536 - at) 0)
-  unfolding sampling block_bytes_len
+  ends-tail : (b : List ℕ) → Samples pcm exact seen at begun b → seen % frame_len pcm ≡ 0 → 0 < at
+      → (sampling pcm exact form change).ends b ≡ made pcm form change (held ++ replicate (block_len pcm - at) 0)
+  unfolding sampling
   ends-tail b h e w =
-      let z : List ℕ = replicate (1536 - at) 0 in
-      let c : seen ≡ length b = h.count in
+      let z : List ℕ = replicate (block_len pcm - at) 0 in
       let q : b ≡ h.before ++ held = h.bytes in
-      let k : (1536 - length b % 1536) % 1536 ≡ 1536 - at = omega arith in
-      let l : length b % 8 ≡ 0 = omega arith in
-      let f : pcm_words form change b ≡ made form change b ++ made form change (held ++ z) =
-      ap (sample_file form change) (pad-words b l) ∙ ap (λ n. made form change (b ++ replicate n 0)) k
-      ∙ ap (λ v. made form change (v ++ z)) q
-      ∙ made-more form change h.before held z h.whole (let m = held-length in omega arith)
-      ∙ ap (λ v. made form change v ++ made form change (held ++ z)) (sym q) in
-      ap (more_of (made form change b)) f ∙ more-join (made form change b) (made form change (held ++ z))
+      let l : length b % frame_len pcm ≡ 0 = ap (λ n. n % frame_len pcm) (sym h.count) ∙ e in
+      let s : length b ≡ length h.before + at = ap length q ∙ length-append h.before held
+      ∙ ap (λ n. length h.before + n) held-length in
+      let k : sample_len pcm * pad_of pcm (length b) ≡ block_len pcm - at = sym (pad-is pcm (length b) (length h.before)
+      at l h.whole s few w) in
+      let f : pcm_words pcm form change b ≡ made pcm form change b ++ made pcm form change (held ++ z) =
+      ap (sample_file form change) (pad-words pcm b l) ∙ ap (λ n. made pcm form change (b ++ replicate n 0)) k
+      ∙ ap (λ v. made pcm form change (v ++ z)) q
+      ∙ made-more pcm form change h.before held z h.whole (subst (λ n. n < block_len pcm) (sym held-length) few)
+      ∙ ap (λ v. made pcm form change v ++ made pcm form change (held ++ z)) (sym q) in
+      ap (more_of (made pcm form change b)) f ∙ more-join (made pcm form change b) (made pcm form change (held ++ z))
 
-  ends-none : (b : List ℕ) → Samples exact seen begun b → seen % 8 ≡ 0 → at ≡ 0
-      → (sampling exact form change).ends b ≡ []
+  ends-none : (b : List ℕ) → Samples pcm exact seen at begun b → seen % frame_len pcm ≡ 0 → at ≡ 0
+      → (sampling pcm exact form change).ends b ≡ []
   unfolding sampling
   ends-none b h e w =
-      let c : seen ≡ length b = h.count in
-      let k : (1536 - length b % 1536) % 1536 ≡ 0 = omega arith in
-      let l : length b % 8 ≡ 0 = omega arith in
-      let f : pcm_words form change b ≡ made form change b ++ [] =
-      ap (sample_file form change) (pad-words b l) ∙ ap (λ n. made form change (b ++ replicate n 0)) k
-      ∙ ap (made form change) (append-nil b) ∙ sym (append-nil (made form change b)) in
-      ap (more_of (made form change b)) f ∙ more-join (made form change b) []
+      let l : length b % frame_len pcm ≡ 0 = ap (λ n. n % frame_len pcm) (sym h.count) ∙ e in
+      let p : b ≡ h.before = h.bytes ∙ ap (λ n. h.before ++ take n begun) w ∙ append-nil h.before in
+      let k : pad_of pcm (length b) ≡ 0 = pad-none pcm (length b) (ap (λ v. length v % block_len pcm) p ∙ h.whole) in
+      let f : pcm_words pcm form change b ≡ made pcm form change b ++ [] =
+      ap (sample_file form change) (filled-in pcm b)
+      ∙ ap (λ n. sample_file form change (words_in pcm b ++ replicate n 0)) k
+      ∙ ap (sample_file form change) (append-nil (words_in pcm b)) ∙ sym (append-nil (made pcm form change b)) in
+      ap (more_of (made pcm form change b)) f ∙ more-join (made pcm form change b) []
 
-  frames : (b : List ℕ) → Samples exact seen begun b → seen % 8 ≡ 0 → (sampling exact form change).end_fault b ≡ None
-  frames b h e = end-whole exact form change b (ap (λ n. n % 8) (sym h.count) ∙ e)
+  frames : (b : List ℕ) → Samples pcm exact seen at begun b → seen % frame_len pcm ≡ 0
+      → (sampling pcm exact form change).end_fault b ≡ None
+  frames b h e = end-whole pcm exact form change b (ap (λ n. n % frame_len pcm) (sym h.count) ∙ e)
 
-  pub end-none : (z : List ℕ → Type 0) (t : Option (List ℕ)) → ((b : List ℕ) → z b) → seen % 8 ≡ 0 → at ≡ 0
-      → (b : List ℕ) → Samples exact seen begun b → ((sampling exact form change).end_fault b ≡ None) × z b
-      × Grew t t ((sampling exact form change).ends b)
+  pub end-none : (z : List ℕ → Type 0) (t : Option (List ℕ)) → ((b : List ℕ) → z b) → seen % frame_len pcm ≡ 0
+      → at ≡ 0
+      → (b : List ℕ) → Samples pcm exact seen at begun b
+      → ((sampling pcm exact form change).end_fault b ≡ None) × z b
+      × Grew t t ((sampling pcm exact form change).ends b)
   end-none z t any e w b h = (frames b h e, any b, grew-is (sym (ends-none b h e w)) (grew-none refl))
 
-  pub end-tail : (z : List ℕ → Type 0) (t t' : Option (List ℕ)) → ((b : List ℕ) → z b) → seen % 8 ≡ 0 → 0 < at
-      → Grew t t' (made form change (held ++ replicate (1536 - at) 0))
-      → (b : List ℕ) → Samples exact seen begun b → ((sampling exact form change).end_fault b ≡ None) × z b
-      × Grew t t' ((sampling exact form change).ends b)
+  pub end-tail : (z : List ℕ → Type 0) (t t' : Option (List ℕ)) → ((b : List ℕ) → z b) → seen % frame_len pcm ≡ 0
+      → 0 < at → Grew t t' (made pcm form change (held ++ replicate (block_len pcm - at) 0))
+      → (b : List ℕ) → Samples pcm exact seen at begun b
+      → ((sampling pcm exact form change).end_fault b ≡ None) × z b
+      × Grew t t' ((sampling pcm exact form change).ends b)
   end-tail z t t' any e w g b h = (frames b h e, any b, grew-is (sym (ends-tail b h e w)) g)
 
-  pub end-part : (t t' : Option (List ℕ)) → seen % 8 ≡ 0 → 0 < at
-      → GrewFront t t' (made form change (held ++ replicate (1536 - at) 0))
-      → (b : List ℕ) → Samples exact seen begun b → ((sampling exact form change).end_fault b ≡ None)
-      × GrewFront t t' ((sampling exact form change).ends b)
+  pub end-part : (t t' : Option (List ℕ)) → seen % frame_len pcm ≡ 0 → 0 < at
+      → GrewFront t t' (made pcm form change (held ++ replicate (block_len pcm - at) 0))
+      → (b : List ℕ) → Samples pcm exact seen at begun b
+      → ((sampling pcm exact form change).end_fault b ≡ None)
+      × GrewFront t t' ((sampling pcm exact form change).ends b)
   end-part t t' e w g b h = (frames b h e, front-is (sym (ends-tail b h e w)) g)
 
-  pub end-refused : (s : List ℕ → Type 0) (t : Option (List ℕ)) → ((b : List ℕ) → s b) → 0 < seen % 8
-      → (b : List ℕ) → Samples exact seen begun b → ((sampling exact form change).end_fault b
-      ≡ Some (BadLength (seen % 8)))
+  pub end-refused : (s : List ℕ → Type 0) (t : Option (List ℕ)) (left : ℕ) → ((b : List ℕ) → s b)
+      → left ≡ seen % frame_len pcm → 0 < left
+      → (b : List ℕ) → Samples pcm exact seen at begun b
+      → ((sampling pcm exact form change).end_fault b ≡ Some (BadLength left))
       × s b × Grew t t []
-  end-refused s t any w b h = (
-    end-left exact form change b (seen % 8) (ap
-        (λ n. n % 8) h.count) w,
+  end-refused s t left any e w b h = (
+    end-left pcm exact form change b left (e ∙ ap (λ n. n % frame_len pcm) h.count) w,
     any b,
     grew-none refl,
   )
 
--- a block of which bytes were put behind those that were held
-pub put-whole : (n k : ℕ) (begun ys : List ℕ) → length begun ≡ 1536 → n + k ≡ 1536
-    → put_mid n k begun ys ≡ take n begun ++ ys
-put-whole n k begun ys l e =
+-- zeros put behind the bytes that were held, up to the end of a block
+pub fill-front : (n len k : ℕ) (begun ys : List ℕ) → length begun ≡ 1536 → n ≤ len → len ≤ 1536
+    → k ≡ 1536 - n → ys ≡ replicate k 0
+    → take len (put_mid n k begun ys) ≡ take n begun ++ replicate (len - n) 0
+fill-front n len k begun ys l le room e z =
+    let h : length (take n begun) ≡ n = length-take-le n begun (omega arith) in
+    let w : put_mid n k begun ys ≡ take n begun ++ ys =
     ap (λ v. take n begun ++ (ys ++ v)) (drop-drop k n begun ∙ drop_all (n + k) begun (omega arith))
-    ∙ ap (λ v. take n begun ++ v) (append-nil ys)
+    ∙ ap (λ v. take n begun ++ v) (append-nil ys) in
+    ap (take len) w
+    ∙ ap (λ m. take m (take n begun ++ ys)) (let q : len ≡ length (take n begun) + (len - n) = omega arith in q)
+    ∙ take-append-add (take n begun) ys (len - n)
+    ∙ ap (λ v. take n begun ++ v) (ap (take (len - n)) z ∙ take-replicate (len - n) k 0 (omega arith))
 
-pub block-made : (form : Words) (change : Change) (new whole : List ℕ) → new ≡ whole → length whole ≡ 1536
-    → block_words form (rewritten change (map payload_of_sample (words_of new))) ≡ made form change whole
-block-made form change new whole e l = ap (λ v. block_words form (rewritten change (map payload_of_sample
-    (words_of v)))) e
-    ∙ sym (made-one form change whole l)
+-- a block of which its first bytes are these
+pub block-made : (pcm : SampleFormat) (form : Words) (change : Change) (new whole : List ℕ)
+    → take (block_len pcm) new ≡ whole → length whole ≡ block_len pcm
+    → block_words form (rewritten change (map payload_of_sample (words_in pcm (take (block_len pcm) new))))
+    ≡ made pcm form change whole
+block-made pcm form change new whole e l =
+    ap (λ v. block_words form (rewritten change (map payload_of_sample (words_in pcm v)))) e
+    ∙ sym (made-one pcm form change whole l)
 
 -- an input that has taken nothing
-pub starts : (exact : Bool) (begun : List ℕ) → Samples exact 0 begun []
-unfolding block_bytes_len
-starts exact begun = record {
+pub starts : (pcm : SampleFormat) (exact : Bool) (begun : List ℕ) → Samples pcm exact 0 0 begun []
+starts pcm exact begun = record {
   before = [];
-  whole = refl;
+  whole = zero-whole pcm;
   bytes = refl;
   count = refl;
   clean = record {
-    bits = λ e i r.
-        refl;
+    bits = λ e i r. refl;
     samples = refl;
   };
 }

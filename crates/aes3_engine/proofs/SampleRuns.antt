@@ -14,17 +14,16 @@ use Rattle.aes3_cell.specs.declared.refusal.RunError.TheVariants.{WaveHeader}
 use Rattle.aes3_cell.specs.Wave.{begins_wave}
 use Rattle.aes3_cell.specs.declared.counts.Counts.{Counts}
 use Rattle.aes3_frame.specs.Blocks.{block_slots}
-use Rattle.aes3_frame.specs.Files.{words_of}
-use Rattle.aes3_frame.specs.Sampled.{sampled, filled}
-use Rattle.aes3_frame.proofs.SampleBlocks.{length-sampled, length-filled}
-use Rattle.aes3_frame.proofs.Words.{length-words}
 use Rattle.aes3_input.specs.Converting.{or_else, fault_behind, first_fault, whole}
 use Rattle.aes3_input.specs.Running.{CleanEnd, IsFault, converted}
 use Rattle.aes3_input.proofs.InputRuns.{Gives}
 use Rattle.aes3_words.specs.declared.form.Words.{Words}
 use Rattle.aes3_status.specs.declared.change.Change as change
-use Rattle.aes3_engine.specs.Sampling.{pcm_words, frame_len, AllExact, AreSamples, IsPcm, BadSampleAt, IsPcmCause}
-use Rattle.aes3_engine.specs.Sampling.{IsWave, wave_header_len}
+use Rattle.aes3_pcm.specs.declared.format.SampleFormat.{SampleFormat}
+use Rattle.aes3_pcm.specs.Formats.{asks_exact, block_len, frame_len}
+use Rattle.aes3_engine.specs.Sampling.{pcm_words, AllExact, AreSamples, IsPcm, BadSampleAt, IsPcmCause}
+use Rattle.aes3_engine.specs.Sampling.{IsWave, wave_header_len, words_in}
+use Rattle.aes3_engine.proofs.PcmWords.{count-blocks}
 use Rattle.aes3_engine.specs.Sampling.{pcm_counts, more_of, sampled_words, sampling}
 use Rattle.aes3_engine.proofs.SampleReads.{made, file-more, begun-all, out-samples, byte-clean, byte-bad, clean-all}
 use Rattle.aes3_engine.proofs.SampleReads.{end-whole, end-left, LowByte, HeaderByte, ExactBehind, behind-cons, one-more}
@@ -33,27 +32,29 @@ use Rattle.aes3_engine.proofs.WaveHeaders.{wave-more, wave-long, wave-short}
 use Rattle.std.proofs.lemmas.Option.{none-some, same_Some}
 
 -- the end
-end-cases : (exact : Bool) (form : Words) (k : change.Change) (b : List ℕ)
-    → (((sampling exact form k).end_fault b ≡ None) × (length b % frame_len ≡ 0))
-    ⊎ (((sampling exact form k).end_fault b ≡ Some (BadLength (length b % frame_len))) × (0 < length b % frame_len))
-end-cases exact form k b = elim (cases_eq (length b % frame_len) 0) [
-  | inl q ↦ inl (end-whole exact form k b q, q)
-  | inr q ↦ inr (end-left exact form k b (length b % frame_len) refl (omega arith), omega arith)
+end-cases : (pcm : SampleFormat) (exact : Bool) (form : Words) (k : change.Change) (b : List ℕ)
+    → (((sampling pcm exact form k).end_fault b ≡ None) × (length b % frame_len pcm ≡ 0))
+    ⊎ (((sampling pcm exact form k).end_fault b ≡ Some (BadLength (length b % frame_len pcm)))
+    × (0 < length b % frame_len pcm))
+end-cases pcm exact form k b = elim (cases_eq (length b % frame_len pcm) 0) [
+  | inl q ↦ inl (end-whole pcm exact form k b q, q)
+  | inr q ↦ inr (end-left pcm exact form k b (length b % frame_len pcm) refl (omega arith), omega arith)
 ]
 
 -- what the conversion writes
-ends-is : (exact : Bool) (form : Words) (k : change.Change) (b : List ℕ)
-    → (sampling exact form k).ends b ≡ more_of (made form k b) (pcm_words form k b)
+ends-is : (pcm : SampleFormat) (exact : Bool) (form : Words) (k : change.Change) (b : List ℕ)
+    → (sampling pcm exact form k).ends b ≡ more_of (made pcm form k b) (pcm_words pcm form k b)
 unfolding sampling
-ends-is exact form k b = refl
+ends-is pcm exact form k b = refl
 
-whole-samples : (exact : Bool) (form : Words) (k : change.Change) (b : List ℕ) → AreSamples exact b
-    → whole (sampling exact form k) b ≡ pcm_words form k b
+whole-samples : (pcm : SampleFormat) (exact : Bool) (form : Words) (k : change.Change) (b : List ℕ)
+    → AreSamples (asks_exact pcm exact) b
+    → whole (sampling pcm exact form k) b ≡ pcm_words pcm form k b
 unfolding whole
-whole-samples exact form k b h =
-    ap₂ ◌++◌ (out-samples exact form k b ∙ begun-all exact form k b h) (ends-is exact form k b)
-    ∙ sym (file-more form k (words_of b) (replicate ((block_slots - length
-    (words_of b) % block_slots) % block_slots) 0))
+whole-samples pcm exact form k b h =
+    ap₂ ◌++◌ (out-samples pcm exact form k b ∙ begun-all pcm exact form k b h) (ends-is pcm exact form k b)
+    ∙ sym (file-more form k (words_in pcm b) (replicate ((block_slots - length
+    (words_in pcm b) % block_slots) % block_slots) 0))
 
 -- the first fault of bytes d behind the bytes b: a sample's lowest byte, or the last of a header
 record LowBehind (exact : Bool) (b d : List ℕ) (e : RunError) : Type 0 where
@@ -143,25 +144,26 @@ low-here exact b x d e w r = let z : length b ≡ length b + 0 = omega arith in 
   samples = ap begins_wave (append-nil b) ∙ w;
 }
 
-cause-behind : (exact : Bool) (form : Words) (k : change.Change) (b d : List ℕ) (e : RunError) → begins_wave b ≡ false
-    → fault_behind (sampling exact form k) b d ≡ Some e
-    → LowBehind exact b d e ⊎ HeaderBehind exact b d e
-cause-behind exact form k b [] e w h = absurd cc
-cause-behind exact form k b (x ∷ d) e w h =
-    go ((sampling exact form k).fault b x) refl h (λ v q. cause-behind exact form k (b ++ x ∷ []) d e v q)
+cause-behind : (pcm : SampleFormat) (exact : Bool) (form : Words) (k : change.Change) (b d : List ℕ) (e : RunError)
+    → begins_wave b ≡ false
+    → fault_behind (sampling pcm exact form k) b d ≡ Some e
+    → LowBehind (asks_exact pcm exact) b d e ⊎ HeaderBehind (asks_exact pcm exact) b d e
+cause-behind pcm exact form k b [] e w h = absurd cc
+cause-behind pcm exact form k b (x ∷ d) e w h =
+    go ((sampling pcm exact form k).fault b x) refl h (λ v q. cause-behind pcm exact form k (b ++ x ∷ []) d e v q)
   where
-    go : (o : Option RunError) → (sampling exact form k).fault b x ≡ o
-        → or_else o (fault_behind (sampling exact form k) (b ++ x ∷ []) d) ≡ Some e
-        → (begins_wave (b ++ x ∷ []) ≡ false → fault_behind (sampling exact form k) (b ++ x ∷ []) d ≡ Some e
-        → LowBehind exact (b ++ x ∷ []) d e ⊎ HeaderBehind exact (b ++ x ∷ []) d e)
-        → LowBehind exact b (x ∷ d) e ⊎ HeaderBehind exact b (x ∷ d) e
-    go None q h next = let c = byte-clean exact form k b x q in elim (next c.1 h) [
-      | inl r ↦ inl (low-behind exact b x d e c.0 r)
-      | inr r ↦ inr (header-behind exact b x d e c.0 r)
+    go : (o : Option RunError) → (sampling pcm exact form k).fault b x ≡ o
+        → or_else o (fault_behind (sampling pcm exact form k) (b ++ x ∷ []) d) ≡ Some e
+        → (begins_wave (b ++ x ∷ []) ≡ false → fault_behind (sampling pcm exact form k) (b ++ x ∷ []) d ≡ Some e
+        → LowBehind (asks_exact pcm exact) (b ++ x ∷ []) d e ⊎ HeaderBehind (asks_exact pcm exact) (b ++ x ∷ []) d e)
+        → LowBehind (asks_exact pcm exact) b (x ∷ d) e ⊎ HeaderBehind (asks_exact pcm exact) b (x ∷ d) e
+    go None q h next = let c = byte-clean pcm exact form k b x q in elim (next c.1 h) [
+      | inl r ↦ inl (low-behind (asks_exact pcm exact) b x d e c.0 r)
+      | inr r ↦ inr (header-behind (asks_exact pcm exact) b x d e c.0 r)
     ]
-    go (Some f) q h next = elim (byte-bad exact form k b x e (q ∙ h)) [
-      | inl r ↦ inl (low-here exact b x d e w r)
-      | inr r ↦ inr (header-here exact b x d e w r)
+    go (Some f) q h next = elim (byte-bad pcm exact form k b x e (q ∙ h)) [
+      | inl r ↦ inl (low-here (asks_exact pcm exact) b x d e w r)
+      | inr r ↦ inr (header-here (asks_exact pcm exact) b x d e w r)
     ]
 
 record LowCause (exact : Bool) (b : List ℕ) (e : RunError) : Type 0 where
@@ -197,42 +199,43 @@ header-cause exact b e r = record {
   };
 }
 
-cause-of : (exact : Bool) (form : Words) (k : change.Change) (b : List ℕ) (e : RunError)
-    → first_fault (sampling exact form k) b ≡ Some e
-    → LowCause exact b e ⊎ HeaderCause exact b e
+cause-of : (pcm : SampleFormat) (exact : Bool) (form : Words) (k : change.Change) (b : List ℕ) (e : RunError)
+    → first_fault (sampling pcm exact form k) b ≡ Some e
+    → LowCause (asks_exact pcm exact) b e ⊎ HeaderCause (asks_exact pcm exact) b e
 unfolding first_fault
-cause-of exact form k b e h = elim (cause-behind exact form k [] b e refl h) [
-  | inl r ↦ inl (low-cause exact b e r)
-  | inr r ↦ inr (header-cause exact b e r)
+cause-of pcm exact form k b e h = elim (cause-behind pcm exact form k [] b e refl h) [
+  | inl r ↦ inl (low-cause (asks_exact pcm exact) b e r)
+  | inr r ↦ inr (header-cause (asks_exact pcm exact) b e r)
 ]
 
 -- where neither the bytes nor the end can be refused so
-no-cause : (exact : Bool) (form : Words) (k : change.Change) (max : ℕ) (b : List ℕ) (ended : Bool) (e : RunError)
+no-cause : (pcm : SampleFormat) (exact : Bool) (form : Words) (k : change.Change) (max : ℕ) (b : List ℕ) (ended : Bool)
+    (e : RunError)
     → ((n : ℕ) → e ≡ BadSample n → ⊥) → (e ≡ WaveHeader → ⊥) → ((n : ℕ) → e ≡ BadLength n → ⊥)
-    → (first_fault (sampling exact form k) (take max b) ≡ Some e)
-    ⊎ (CleanEnd max (sampling exact form k) b ended × ((sampling exact form k).end_fault b ≡ Some e)) → ⊥
-no-cause exact form k max b ended e p w q h = elim h [
-  | inl g ↦ elim (cause-of exact form k (take max b) e g) [ inl r ↦ p r.at r.is | inr r ↦ w r.is ]
-  | inr g ↦ elim (end-cases exact form k b) [
+    → (first_fault (sampling pcm exact form k) (take max b) ≡ Some e)
+    ⊎ (CleanEnd max (sampling pcm exact form k) b ended × ((sampling pcm exact form k).end_fault b ≡ Some e)) → ⊥
+no-cause pcm exact form k max b ended e p w q h = elim h [
+  | inl g ↦ elim (cause-of pcm exact form k (take max b) e g) [ inl r ↦ p r.at r.is | inr r ↦ w r.is ]
+  | inr g ↦ elim (end-cases pcm exact form k b) [
     | inl r ↦ none-some _ (sym r.0 ∙ g.1)
-    | inr r ↦ q (length b % frame_len) (same_Some _ _ (sym g.1 ∙ r.0))
+    | inr r ↦ q (length b % frame_len pcm) (same_Some _ _ (sym g.1 ∙ r.0))
   ]
 ]
 
-length-cause : (exact : Bool) (form : Words) (k : change.Change) (b : List ℕ) (left : ℕ)
-    → (sampling exact form k).end_fault b ≡ Some (BadLength left) → (left ≡ length b % frame_len) × (0 < left)
-length-cause exact form k b left q = elim (end-cases exact form k b) [
+length-cause : (pcm : SampleFormat) (exact : Bool) (form : Words) (k : change.Change) (b : List ℕ) (left : ℕ)
+    → (sampling pcm exact form k).end_fault b ≡ Some (BadLength left) → (left ≡ length b % frame_len pcm) × (0 < left)
+length-cause pcm exact form k b left q = elim (end-cases pcm exact form k b) [
   | inl r ↦ absurd (none-some _ (sym r.0 ∙ q))
-  | inr r ↦ let e : left ≡ length b % frame_len = same (length b % frame_len) (sym q ∙ r.0) in
+  | inr r ↦ let e : left ≡ length b % frame_len pcm = same (length b % frame_len pcm) (sym q ∙ r.0) in
       (e, (let h = r.1 in omega arith))
 ]
   where
     same : (n : ℕ) → Some (BadLength left) ≡ Some (BadLength n) → left ≡ n
     same n q = cc
 
-no-sample-end : (exact : Bool) (form : Words) (k : change.Change) (b : List ℕ) (at : ℕ)
-    → (sampling exact form k).end_fault b ≡ Some (BadSample at) → ⊥
-no-sample-end exact form k b at q = elim (end-cases exact form k b) [
+no-sample-end : (pcm : SampleFormat) (exact : Bool) (form : Words) (k : change.Change) (b : List ℕ) (at : ℕ)
+    → (sampling pcm exact form k).end_fault b ≡ Some (BadSample at) → ⊥
+no-sample-end pcm exact form k b at q = elim (end-cases pcm exact form k b) [
   | inl r ↦ none-some _ (sym r.0 ∙ q)
   | inr r ↦ other (sym r.0 ∙ q)
 ]
@@ -240,26 +243,26 @@ no-sample-end exact form k b at q = elim (end-cases exact form k b) [
     other : {n : ℕ} → Some (BadLength n) ≡ Some (BadSample at) → ⊥
     other q = cc
 
-sample-cause : (exact : Bool) (form : Words) (k : change.Change) (b : List ℕ) (at : ℕ)
-    → first_fault (sampling exact form k) b ≡ Some (BadSample at) → BadSampleAt exact b at
-sample-cause exact form k b at h = elim (cause-of exact form k b (BadSample at) h) [
-  | inl r ↦ subst (BadSampleAt exact b) (sym (same r.is)) r.cause
+sample-cause : (pcm : SampleFormat) (exact : Bool) (form : Words) (k : change.Change) (b : List ℕ) (at : ℕ)
+    → first_fault (sampling pcm exact form k) b ≡ Some (BadSample at) → BadSampleAt (asks_exact pcm exact) b at
+sample-cause pcm exact form k b at h = elim (cause-of pcm exact form k b (BadSample at) h) [
+  | inl r ↦ subst (BadSampleAt (asks_exact pcm exact) b) (sym (same r.is)) r.cause
   | inr r ↦ absurd (let q = r.is in cc)
 ]
   where
     same : {n : ℕ} → ◌≡◌ {A = RunError} (BadSample at) (BadSample n) → at ≡ n
     same q = cc
 
-not-length : (exact : Bool) (form : Words) (k : change.Change) (b : List ℕ) (left : ℕ)
-    → first_fault (sampling exact form k) b ≡ Some (BadLength left) → ⊥
-not-length exact form k b left h = elim (cause-of exact form k b (BadLength left) h) [
+not-length : (pcm : SampleFormat) (exact : Bool) (form : Words) (k : change.Change) (b : List ℕ) (left : ℕ)
+    → first_fault (sampling pcm exact form k) b ≡ Some (BadLength left) → ⊥
+not-length pcm exact form k b left h = elim (cause-of pcm exact form k b (BadLength left) h) [
   | inl r ↦ let q = r.is in cc
   | inr r ↦ let q = r.is in cc
 ]
 
-no-header-end : (exact : Bool) (form : Words) (k : change.Change) (b : List ℕ)
-    → (sampling exact form k).end_fault b ≡ Some WaveHeader → ⊥
-no-header-end exact form k b q = elim (end-cases exact form k b) [
+no-header-end : (pcm : SampleFormat) (exact : Bool) (form : Words) (k : change.Change) (b : List ℕ)
+    → (sampling pcm exact form k).end_fault b ≡ Some WaveHeader → ⊥
+no-header-end pcm exact form k b q = elim (end-cases pcm exact form k b) [
   | inl r ↦ none-some _ (sym r.0 ∙ q)
   | inr r ↦ other (sym r.0 ∙ q)
 ]
@@ -267,97 +270,93 @@ no-header-end exact form k b q = elim (end-cases exact form k b) [
     other : {n : ℕ} → Some (BadLength n) ≡ Some WaveHeader → ⊥
     other q = cc
 
-wave-cause : (exact : Bool) (form : Words) (k : change.Change) (b : List ℕ)
-    → first_fault (sampling exact form k) b ≡ Some WaveHeader → IsWave exact b
-wave-cause exact form k b h = elim (cause-of exact form k b WaveHeader h) [
+wave-cause : (pcm : SampleFormat) (exact : Bool) (form : Words) (k : change.Change) (b : List ℕ)
+    → first_fault (sampling pcm exact form k) b ≡ Some WaveHeader → IsWave (asks_exact pcm exact) b
+wave-cause pcm exact form k b h = elim (cause-of pcm exact form k b WaveHeader h) [
   | inl r ↦ absurd (let q = r.is in cc)
   | inr r ↦ r.cause
 ]
 
-fault-cause : (exact : Bool) (form : Words) (k : change.Change) (max : ℕ) (b : List ℕ) (ended : Bool) (e : RunError)
-    → IsFault (sampling exact form k) max b ended e → IsPcmCause exact max b ended e
-fault-cause exact form k max b ended Read h = (clean-all exact form k b h.clean, h.short)
-fault-cause exact form k max b ended Write h = h
-fault-cause exact form k max b ended TooLong h = (clean-all exact form k (take max b) h.0.clean, h.1)
-fault-cause exact form k max b ended (BadSample at) h = elim h [
-  | inl q ↦ sample-cause exact form k (take max b) at q
-  | inr q ↦ absurd (no-sample-end exact form k b at q.1)
+fault-cause : (pcm : SampleFormat) (exact : Bool) (form : Words) (k : change.Change) (max : ℕ) (b : List ℕ)
+    (ended : Bool) (e : RunError)
+    → IsFault (sampling pcm exact form k) max b ended e → IsPcmCause pcm exact max b ended e
+fault-cause pcm exact form k max b ended Read h = (clean-all pcm exact form k b h.clean, h.short)
+fault-cause pcm exact form k max b ended Write h = h
+fault-cause pcm exact form k max b ended TooLong h = (clean-all pcm exact form k (take max b) h.0.clean, h.1)
+fault-cause pcm exact form k max b ended (BadSample at) h = elim h [
+  | inl q ↦ sample-cause pcm exact form k (take max b) at q
+  | inr q ↦ absurd (no-sample-end pcm exact form k b at q.1)
 ]
-fault-cause exact form k max b ended WaveHeader h = elim h [
-  | inl q ↦ wave-cause exact form k (take max b) q
-  | inr q ↦ absurd (no-header-end exact form k b q.1)
+fault-cause pcm exact form k max b ended WaveHeader h = elim h [
+  | inl q ↦ wave-cause pcm exact form k (take max b) q
+  | inr q ↦ absurd (no-header-end pcm exact form k b q.1)
 ]
-fault-cause exact form k max b ended (BadLength left) h = elim h [
-  | inl q ↦ absurd (not-length exact form k (take max b) left q)
-  | inr q ↦ let c = length-cause exact form k b left q.1 in
-      (record { clean = clean-all exact form k b q.0.clean.clean; count = c.0; some = c.1 }, q.0.clean.short, q.0.end)
+fault-cause pcm exact form k max b ended (BadLength left) h = elim h [
+  | inl q ↦ absurd (not-length pcm exact form k (take max b) left q)
+  | inr q ↦ let c = length-cause pcm exact form k b left q.1 in (
+    record { clean = clean-all pcm exact form k b q.0.clean.clean; count = c.0; some = c.1 },
+    q.0.clean.short,
+    q.0.end,
+  )
 ]
-fault-cause exact form k max b ended (BadCell at) h = no-cause exact form k max b ended (BadCell at)
+fault-cause pcm exact form k max b ended (BadCell at) h = no-cause pcm exact form k max b ended (BadCell at)
     (λ n e. cc) (λ e. cc) (λ n e. cc) h
-fault-cause exact form k max b ended (BadCode at) h = no-cause exact form k max b ended (BadCode at)
+fault-cause pcm exact form k max b ended (BadCode at) h = no-cause pcm exact form k max b ended (BadCode at)
     (λ n e. cc) (λ e. cc) (λ n e. cc) h
-fault-cause exact form k max b ended (BadParity at) h = no-cause exact form k max b ended (BadParity at)
+fault-cause pcm exact form k max b ended (BadParity at) h = no-cause pcm exact form k max b ended (BadParity at)
     (λ n e. cc) (λ e. cc) (λ n e. cc) h
-fault-cause exact form k max b ended Memory h = no-cause exact form k max b ended Memory
+fault-cause pcm exact form k max b ended Memory h = no-cause pcm exact form k max b ended Memory
     (λ n e. cc) (λ e. cc) (λ n e. cc) h
-fault-cause exact form k max b ended BadStatusText h = no-cause exact form k max b ended BadStatusText
+fault-cause pcm exact form k max b ended BadStatusText h = no-cause pcm exact form k max b ended BadStatusText
     (λ n e. cc) (λ e. cc) (λ n e. cc) h
-fault-cause exact form k max b ended (BadPadding at) h = no-cause exact form k max b ended (BadPadding at)
+fault-cause pcm exact form k max b ended (BadPadding at) h = no-cause pcm exact form k max b ended (BadPadding at)
     (λ n e. cc) (λ e. cc) (λ n e. cc) h
 
 -- samples that have no fault
-clean-pcm : (exact : Bool) (form : Words) (k : change.Change) (b : List ℕ)
-    → first_fault (sampling exact form k) b ≡ None
-    → (sampling exact form k).end_fault b ≡ None → IsPcm exact b
-clean-pcm exact form k b c e = record { whole = whole; clean = clean-all exact form k b c }
+clean-pcm : (pcm : SampleFormat) (exact : Bool) (form : Words) (k : change.Change) (b : List ℕ)
+    → first_fault (sampling pcm exact form k) b ≡ None
+    → (sampling pcm exact form k).end_fault b ≡ None → IsPcm pcm exact b
+clean-pcm pcm exact form k b c e = record { whole = whole; clean = clean-all pcm exact form k b c }
   where
-    whole : length b % frame_len ≡ 0
-    whole = elim (end-cases exact form k b) [ inl q ↦ q.1 | inr q ↦ absurd (none-some _ (sym e ∙ q.0)) ]
+    whole : length b % frame_len pcm ≡ 0
+    whole = elim (end-cases pcm exact form k b) [ inl q ↦ q.1 | inr q ↦ absurd (none-some _ (sym e ∙ q.0)) ]
 
 -- samples that fit have no cause
-pub no-pcm-cause : (exact : Bool) (max : ℕ) (b : List ℕ) (ended : Bool) → IsPcm exact b → length b ≤ max
-    → (e : RunError) → e ≢ Read → e ≢ Write → IsPcmCause exact max b ended e → ⊥
-no-pcm-cause exact max b ended i l Read r w h = r refl
-no-pcm-cause exact max b ended i l Write r w h = w refl
-no-pcm-cause exact max b ended i l TooLong r w h = let n = h.1 in omega arith
-no-pcm-cause exact max b ended i l (BadSample at) r w h =
+pub no-pcm-cause : (pcm : SampleFormat) (exact : Bool) (max : ℕ) (b : List ℕ) (ended : Bool) → IsPcm pcm exact b
+    → length b ≤ max
+    → (e : RunError) → e ≢ Read → e ≢ Write → IsPcmCause pcm exact max b ended e → ⊥
+no-pcm-cause pcm exact max b ended i l Read r w h = r refl
+no-pcm-cause pcm exact max b ended i l Write r w h = w refl
+no-pcm-cause pcm exact max b ended i l TooLong r w h = let n = h.1 in omega arith
+no-pcm-cause pcm exact max b ended i l (BadSample at) r w h =
     let e = take_all max b l in
     h.some (ap (λ v. get_or v at 0) e ∙ i.clean.bits h.asked at h.lowest)
-no-pcm-cause exact max b ended i l WaveHeader r w h = absurd
+no-pcm-cause pcm exact max b ended i l WaveHeader r w h = absurd
     (let e = ap begins_wave (take_all max b l) in let f = i.clean.samples in let t = h.header in cc)
-no-pcm-cause exact max b ended i l (BadLength n) r w h = let z = i.whole in let c = h.0.count in
+no-pcm-cause pcm exact max b ended i l (BadLength n) r w h = let z = i.whole in let c = h.0.count in
     let s = h.0.some in omega arith
-no-pcm-cause exact max b ended i l (BadCell n) r w h = h
-no-pcm-cause exact max b ended i l (BadCode n) r w h = h
-no-pcm-cause exact max b ended i l (BadParity n) r w h = h
-no-pcm-cause exact max b ended i l Memory r w h = h
-no-pcm-cause exact max b ended i l BadStatusText r w h = h
-no-pcm-cause exact max b ended i l (BadPadding n) r w h = h
+no-pcm-cause pcm exact max b ended i l (BadCell n) r w h = h
+no-pcm-cause pcm exact max b ended i l (BadCode n) r w h = h
+no-pcm-cause pcm exact max b ended i l (BadParity n) r w h = h
+no-pcm-cause pcm exact max b ended i l Memory r w h = h
+no-pcm-cause pcm exact max b ended i l BadStatusText r w h = h
+no-pcm-cause pcm exact max b ended i l (BadPadding n) r w h = h
 
 -- the counts of a run
-count-blocks : (b : List ℕ) → length b % frame_len ≡ 0
-    → div_ceil (length b) 1536 ≡ length (sampled (filled (words_of b)))
-count-blocks b h =
-    let s = length-sampled (filled (words_of b)) in
-    let f = length-filled (words_of b) in
-    let w = length-words b in
-    elim (cases_eq (length b % 1536) 0) [
-      | inl q ↦ omega arith
-      | inr q ↦ omega arith
-    ]
-
-pub pcm-counted : (b : List ℕ) (n blocks : ℕ) → n ≡ length b → length b % frame_len ≡ 0 → blocks ≡ div_ceil n 1536
+pub pcm-counted : (pcm : SampleFormat) (b : List ℕ) (n blocks len : ℕ) → n ≡ length b
+    → length b % frame_len pcm ≡ 0 → len ≡ block_len pcm → blocks ≡ div_ceil n len
     → ◌≡◌ {A = Counts} (record { bytes = n; cells = 0; blocks = blocks; faults = 0; unfinished = 0; marks = 0 })
-    (pcm_counts b)
+    (pcm_counts pcm b)
 unfolding pcm_counts
-pcm-counted b n blocks e h d = rw (e, d ∙ ap (λ k. div_ceil k 1536) e ∙ count-blocks b h) refl
+pcm-counted pcm b n blocks len e h q d =
+    rw (e, d ∙ ap₂ div_ceil e q ∙ count-blocks pcm b h) refl
 
 -- the run
-pub sampling-gives : (exact : Bool) (form : Words) (k : change.Change) (z : List ℕ → Type 0)
-    → Gives (converted (sampling exact form k) z) (sampled_words exact form k)
-sampling-gives exact form k z = record {
-  input = λ b h. clean-pcm exact form k b h.clean h.end_clean;
-  whole = λ b h. whole-samples exact form k b (clean-pcm exact form k b h.clean h.end_clean).clean;
-  begun = out-samples exact form k;
-  cause = fault-cause exact form k;
+pub sampling-gives : (pcm : SampleFormat) (exact : Bool) (form : Words) (k : change.Change) (z : List ℕ → Type 0)
+    → Gives (converted (sampling pcm exact form k) z) (sampled_words pcm exact form k)
+sampling-gives pcm exact form k z = record {
+  input = λ b h. clean-pcm pcm exact form k b h.clean h.end_clean;
+  whole = λ b h. whole-samples pcm exact form k b (clean-pcm pcm exact form k b h.clean h.end_clean).clean;
+  begun = out-samples pcm exact form k;
+  cause = fault-cause pcm exact form k;
 }

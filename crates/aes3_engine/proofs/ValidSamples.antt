@@ -17,13 +17,15 @@ use Rattle.aes3_frame.specs.Files.{word_bytes}
 use Rattle.aes3_frame.specs.Samples.{block_samples, sample_of, samples}
 use Rattle.aes3_frame.specs.Subframes.{audio_len, bits_of}
 use Rattle.aes3_frame.proofs.StatusBits.{validity-get}
+use Rattle.aes3_pcm.specs.declared.format.SampleFormat.{SampleFormat}
+use Rattle.aes3_pcm.specs.Formats.{narrowed}
+use Rattle.aes3_engine.proofs.PcmRuns.{narrowed-whole, valid-whole}
 use Rattle.aes3_lock.specs.Reports.{blocks}
 use Rattle.aes3_input.specs.Inputs.{cells_of}
 use Rattle.aes3_input.specs.Running.{Movement}
 use Rattle.aes3_input.proofs.InputRuns.{run-wrote}
 use Rattle.aes3_runs.specs.ReportRuns.{ReportRun}
 use Rattle.aes3_runs.specs.BlockRuns.{report_bytes}
-use Rattle.aes3_runs.proofs.BlockRuns.{alike-whole}
 use Rattle.aes3_engine.specs.ValidSamples.{IsAllValid, silenced, valid_block_samples, valid_sample, valid_samples}
 use Rattle.aes3_engine.specs.ValidSamples.{validity_bit}
 
@@ -60,14 +62,16 @@ all-valid [] h = refl
 all-valid (b ∷ bs) h =
     ap₂ ◌++◌ (valid-block b (h 0 [] (omega arith))) (all-valid bs (λ k d l. h (suc k) d (omega arith)))
 
-pub run-all-valid : {max : ℕ} (input : Form) {ended : Bool} {source sink : Movement} (r : Result Counts RunError)
-    → ReportRun max input (report_bytes (λ n b. valid_block_samples b)) [] ended source sink r
+pub run-all-valid : {max : ℕ} (pcm : SampleFormat) (input : Form) {ended : Bool} {source sink : Movement}
+    (r : Result Counts RunError)
+    → ReportRun max input (report_bytes (λ n b. narrowed pcm (valid_block_samples b))) [] ended source sink r
     → IfOk r (λ (n : Counts). (b : List ℕ) → Told source.old source.new b → All IsAllValid (blocks (cells_of input b))
-    → Grew sink.old sink.new (samples (blocks (cells_of input b))))
-run-all-valid input (Ok n) run = λ b t h.
-    grew-is (alike-whole valid_block_samples (cells_of input b) ∙ all-valid (blocks (cells_of input b)) h)
+    → Grew sink.old sink.new (narrowed pcm (samples (blocks (cells_of input b)))))
+run-all-valid pcm input (Ok n) run = λ b t h.
+    grew-is (narrowed-whole pcm valid_block_samples valid-whole (cells_of input b)
+    ∙ ap (narrowed pcm) (all-valid (blocks (cells_of input b)) h))
     (run-wrote (Ok n) run b t)
-run-all-valid input (Err e) run = tt
+run-all-valid pcm input (Err e) run = tt
 
 -- the payload of a subframe without its audio
 low-zero : low_bits audio_len 0 ≡ replicate audio_len false

@@ -4,6 +4,8 @@ use Rattle.aes3_frame.specs.declared.fill.Fill.{Fill}
 use Rattle.aes3_frame.specs.Samples.{block_samples}
 use Rattle.aes3_lock.specs.declared.report.Report.{Report}
 use Rattle.aes3_input.specs.Taking.{Writing}
+use Rattle.aes3_pcm.specs.declared.format.SampleFormat.{SampleFormat}
+use Rattle.aes3_pcm.specs.Formats.{narrowed}
 use Rattle.aes3_engine.specs.declared.filling.Progress.{Progress}
 use Rattle.aes3_engine.specs.Filling.{Placed, placed, block_frames, frames_between, filling, repeated, filled_behind}
 use Rattle.aes3_engine.specs.Filling.{filled}
@@ -18,8 +20,11 @@ abbrev pub behind_blocks : Fill → List Placed → List Placed → List ℕ
 behind_blocks fill [] ys = filled fill ys
 behind_blocks fill (x ∷ xs) ys = filled_behind fill x.place (last_of x xs) ys
 
-unfoldable pub fill_writing : Fill → Writing Report
-fill_writing fill = record { adds = λ r x. behind_blocks fill (placed r) (placed (x ∷ [])); ends = λ r. [] }
+unfoldable pub fill_writing : SampleFormat → Fill → Writing Report
+fill_writing format fill = record {
+  adds = λ r x. narrowed format (behind_blocks fill (placed r) (placed (x ∷ [])));
+  ends = λ r. [];
+}
 
 -- how far samples have come with block y, of which the first block is at place p; and with all blocks
 abbrev pub reached : Fill → ℕ → Placed → Progress
@@ -47,8 +52,8 @@ abbrev pub progress_behind : Fill → Option Progress → List Placed → Option
 progress_behind fill k [] = k
 progress_behind fill k (y ∷ more) = progress_behind fill (Some (reached fill (first_of k y.place) y)) more
 
-abbrev pub bytes_behind : Fill → Option Progress → List Placed → List ℕ
-bytes_behind fill k [] = []
-bytes_behind fill k (y ∷ more) =
-    filling_before k y.place ++ block_samples y.block
-    ++ bytes_behind fill (Some (reached fill (first_of k y.place) y)) more
+abbrev pub bytes_behind : SampleFormat → Fill → Option Progress → List Placed → List ℕ
+bytes_behind format fill k [] = []
+bytes_behind format fill k (y ∷ more) =
+    narrowed format (filling_before k y.place) ++ narrowed format (block_samples y.block)
+    ++ bytes_behind format fill (Some (reached fill (first_of k y.place) y)) more

@@ -11,16 +11,19 @@ ghost use Rattle.aes3_lock.specs.Tallies.{IsTallyOf};
 ghost use Rattle.aes3_input.specs.Inputs.{cells_of};
 ghost use Rattle.aes3_input.specs.Driving.{CellRun};
 ghost use Rattle.aes3_input.specs.Running.{movement_of};
+ghost use Rattle.aes3_pcm.specs.Formats.{narrowed};
 ghost use Rattle.aes3_runs.specs.ReportRuns.{counts_of};
 ghost use Rattle.aes3_engine.specs.Filling.{InRow, KeepsTime, block_frames, filled, filling};
 ghost use Rattle.aes3_engine.specs.Filling.{frame_bytes, frames_between, placed, repeated};
 ghost use Rattle.aes3_engine.specs.FillSteps.{bytes_behind, fill_writing, filling_before, first_of};
 ghost use Rattle.aes3_engine.specs.FillSteps.{progress_behind, progress_of, reached};
 
+use crate::samples::put_narrowed;
 use aes3_block::{BLOCK_BYTES, Block, samples_of_block};
 use aes3_cell::{Counts, Fault, Form, RunError, Sink, Source, write_all};
 use aes3_frame::Fill;
 use aes3_lock::{Ending, Lock, Tally};
+use aes3_pcm::SampleFormat;
 use aes3_runs::{Locked, Reporter, drive};
 
 /// How many cells a frame has, how many bytes its samples, and how many frames a block has (AES3-3).
@@ -30,7 +33,7 @@ const FRAME_BYTES: usize = 8;
 
 const BLOCK_FRAMES: u64 = 192;
 
-/// How far samples have come.
+/// How far samples of 32 bits have come.
 #[derive(Clone, Copy)]
 struct Progress {
     /// The place of the first block.
@@ -66,7 +69,7 @@ fn filling(fill: Fill, samples: &[u8; BLOCK_BYTES]) -> [u8; FRAME_BYTES]
 ///
 /// # Errors
 /// The sink's fault; then it has taken a front of the bytes.
-fn put_frames<T: Sink>(sink: &mut T, frame: &[u8; FRAME_BYTES], count: u64) -> Result<(), Fault>
+fn put_frames<T: Sink>(sink: &mut T, frame: &[u8], count: u64) -> Result<(), Fault>
     requires room { T.failed sink.old + 1 < 2 ^ 64 }
     ensures { Wrote T.taken T.failed sink.old sink.new (repeated count frame.now) result }
 {
@@ -79,23 +82,44 @@ fn put_frames<T: Sink>(sink: &mut T, frame: &[u8; FRAME_BYTES], count: u64) -> R
     Ok(())
 }
 
+/// Writes a frame of samples of 32 bits in this form so many times.
+///
+/// # Errors
+/// The sink's fault; then it has taken a front of the bytes.
+fn put_narrowed_frames<T: Sink>(
+    sink: &mut T,
+    frame: [u8; FRAME_BYTES],
+    format: SampleFormat,
+    count: u64,
+) -> Result<(), Fault>
+    requires room { T.failed sink.old + 1 < 2 ^ 64 }
+    ensures { Wrote T.taken T.failed sink.old sink.new (narrowed format (repeated count frame)) result }
+{
+    let mut frame = frame;
+    let len = format.narrow(&mut frame);
+    put_frames(sink, &frame[..len], count)
+}
+
 /// Writes the samples of blocks, and what fills the time between them.
 #[derive(Drop)]
 struct FilledBlocks {
     fill: Fill,
+    format: SampleFormat,
     progress: Option<Progress>,
     tally: Tally,
 }
 
 impl FilledBlocks {
     /// A reporter that has taken no report.
-    fn new(fill: Fill) -> Self
+    fn new(fill: Fill, format: SampleFormat) -> Self
         ensures fill { result.fill ≡ fill }
+        ensures format { result.format ≡ format }
         ensures progress { result.progress ≡ None }
         ensures tally { IsTallyOf result.tally [] }
     {
         FilledBlocks {
             fill,
+            format,
             progress: None,
             tally: Tally::new(),
         }
@@ -108,13 +132,13 @@ impl FilledBlocks {
     fn put_filling<T: Sink>(&self, sink: &mut T, at: u64) -> Result<(), Fault>
         requires room { T.failed sink.old + 1 < 2 ^ 64 }
         ensures { Wrote T.taken T.failed sink.old sink.new
-            (filling_before self.now.progress at) result }
+            (narrowed self.now.format (filling_before self.now.progress at)) result }
     {
         match self.progress {
             None => Ok(()),
             Some(progress) => {
                 let frames = frames_between(progress.first, at).saturating_sub(progress.frames);
-                put_frames(sink, &progress.frame, frames)
+                put_narrowed_frames(sink, progress.frame, self.format, frames)
             }
         }
     }
@@ -122,6 +146,7 @@ impl FilledBlocks {
     /// Takes note that the samples of a block at a place are written.
     fn note(&mut self, at: u64, samples: &[u8; BLOCK_BYTES])
         ensures fill { self.new.fill ≡ self.old.fill }
+        ensures format { self.new.format ≡ self.old.format }
         ensures tally { self.new.tally ≡ self.old.tally }
         ensures progress { (b : List (List Bool)) → samples.now ≡ block_samples b
             → self.new.progress ≡ Some (reached self.old.fill (first_of self.old.progress at)
@@ -145,18 +170,20 @@ impl FilledBlocks {
     fn put_block<T: Sink>(&mut self, sink: &mut T, at: u64, block: &Block) -> Result<(), Fault>
         requires room { T.failed sink.old + 1 < 2 ^ 64 }
         ensures fill { IfOk result (λ _. self.new.fill ≡ self.old.fill) }
+        ensures format { IfOk result (λ _. self.new.format ≡ self.old.format) }
         ensures tally { IfOk result (λ _. self.new.tally ≡ self.old.tally) }
         ensures progress { IfOk result (λ _. self.new.progress
             ≡ Some (reached self.old.fill (first_of self.old.progress at)
             (record { place = at; block = block.now }))) }
         ensures wrote { Wrote T.taken T.failed sink.old sink.new
-            (filling_before self.old.progress at ++ block_samples block.now) result }
+            (narrowed self.old.format (filling_before self.old.progress at)
+            ++ narrowed self.old.format (block_samples block.now)) result }
     {
         match self.put_filling(sink, at) {
             Ok(()) => {
                 let samples = samples_of_block(block);
                 self.note(at, &samples);
-                write_all(sink, &samples)
+                put_narrowed(samples, self.format, sink)
             }
             Err(fault) => Err(fault),
         }
@@ -169,11 +196,13 @@ impl FilledBlocks {
     fn put<T: Sink>(&mut self, sink: &mut T, lock: &Lock, ending: Ending) -> Result<(), Fault>
         requires room { T.failed sink.old + 1 < 2 ^ 64 }
         ensures fill { IfOk result (λ _. self.new.fill ≡ self.old.fill) }
+        ensures format { IfOk result (λ _. self.new.format ≡ self.old.format) }
         ensures tally { IfOk result (λ _. self.new.tally ≡ self.old.tally) }
         ensures progress { IfOk result (λ _. self.new.progress ≡ progress_behind self.old.fill
             self.old.progress (placed (report_in lock.now ending ∷ []))) }
         ensures wrote { Wrote T.taken T.failed sink.old sink.new
-            (bytes_behind self.old.fill self.old.progress (placed (report_in lock.now ending ∷ []))) result }
+            (bytes_behind self.old.format self.old.fill self.old.progress
+            (placed (report_in lock.now ending ∷ []))) result }
     {
         match ending {
             Ending::Whole { at, .. } => self.put_block(sink, at, &lock.gathered().block()),
@@ -187,7 +216,7 @@ impl FilledBlocks {
 impl Reporter for FilledBlocks {
     ghost follows = { λ k r. IsTallyOf k.tally r × (k.progress ≡ progress_of k.fill (placed r)) };
 
-    ghost writes = { λ k. fill_writing k.fill };
+    ghost writes = { λ k. fill_writing k.format k.fill };
 
     ghost finished = { λ k. IsTallyOf k.tally };
 
@@ -219,6 +248,7 @@ pub fn to_filled_pcm<S: Source, T: Sink>(
     sink: &mut T,
     max_bytes: u64,
     input: Form,
+    format: SampleFormat,
     fill: Fill,
 ) -> Result<Counts, RunError>
     requires source_room { S.failed source.old + 1 < 2 ^ 64 }
@@ -230,28 +260,29 @@ pub fn to_filled_pcm<S: Source, T: Sink>(
     ensures samples { IfOk result (λ _. (b : List ℕ)
         → Told (S.given source.old) (S.given source.new) b
         → Grew (T.taken sink.old) (T.taken sink.new)
-        (filled fill (placed (reports (cells_of input b))))) }
+        (narrowed format (filled fill (placed (reports (cells_of input b)))))) }
     // Where these blocks stand in a row, these are the samples that `to_pcm` writes.
     ensures row { IfOk result (λ _. (b : List ℕ) (p : ℕ)
         → Told (S.given source.old) (S.given source.new) b
         → InRow p (placed (reports (cells_of input b)))
-        → Grew (T.taken sink.old) (T.taken sink.new) (samples (blocks (cells_of input b)))) }
+        → Grew (T.taken sink.old) (T.taken sink.new)
+        (narrowed format (samples (blocks (cells_of input b))))) }
     // Each block's samples stand in time, to half a frame; behind those of the last is nothing.
     ensures time { IfOk result (λ _. (b : List ℕ)
         → Told (S.given source.old) (S.given source.new) b
-        → (o : List ℕ) × Grew (T.taken sink.old) (T.taken sink.new) o
+        → (o : List ℕ) × Grew (T.taken sink.old) (T.taken sink.new) (narrowed format o)
         × KeepsTime o (placed (reports (cells_of input b)))) }
     // It is a run over cells: Ok is owed, a refusal has its cause, and what was decided before it
     // is written.
     ensures run { CellRun max_bytes input (record {
-      whole = λ c. filled fill (placed (reports c));
-      begun = λ c. filled fill (placed (decided c));
+      whole = λ c. narrowed format (filled fill (placed (reports c)));
+      begun = λ c. narrowed format (filled fill (placed (decided c)));
       counts = counts_of input;
     }) (S.has_ended source.new) (movement_of S.given S.failed source.old source.new)
         (movement_of T.taken T.failed sink.old sink.new) result }
     ensures passed_on { IfOk result (λ _. T.passed sink.new ≡ T.taken sink.new) }
 {
-    let mut taker = Locked::new(FilledBlocks::new(fill));
+    let mut taker = Locked::new(FilledBlocks::new(fill, format));
     match drive(source, sink, max_bytes, input, &mut taker) {
         Ok((bytes, cells)) => Ok(Counts {
             bytes,

@@ -3,7 +3,8 @@
 ghost use Rattle.aes3_engine.specs.Carrying.{BitsComeBack};
 ghost use Rattle.aes3_engine.specs.SampleLaws.{SamplesComeBack};
 
-/// Samples of 24 bits come back through `from_pcm`, `encode` and `to_pcm`.
+/// Samples of 24 bits come back in any form through `from_pcm_words`, `encode` and `to_pcm`, and of 16
+/// bits in that of 16.
 pub fn samples_come_back()
     ensures { SamplesComeBack }
 {}

@@ -3,32 +3,55 @@
 ghost use Rattle.std.specs.Prelude.{◌≡◌, ℕ, ◌+◌, ◌<◌, ◌≤◌, ◌^◌, List, [], Bool, IfOk};
 ghost use Rattle.std.specs.List.{All};
 ghost use Rattle.aes3_cell.specs.Ends.{Grew, Told};
+ghost use Rattle.aes3_cell.specs.Writes.{Wrote};
 ghost use Rattle.aes3_cell.specs.Written.{written};
 ghost use Rattle.aes3_level.specs.declared.level.Level.{Level};
 ghost use Rattle.aes3_frame.specs.Blocks.{IsBlock};
-ghost use Rattle.aes3_frame.specs.Samples.{samples};
+ghost use Rattle.aes3_frame.specs.Samples.{block_samples, samples};
 ghost use Rattle.aes3_lock.specs.Reports.{blocks, normal};
 ghost use Rattle.aes3_input.specs.Inputs.{cells_of};
 ghost use Rattle.aes3_input.specs.Driving.{CellRun};
 ghost use Rattle.aes3_input.specs.Running.{movement_of};
-ghost use Rattle.aes3_runs.specs.BlockRuns.{decided_blocks, sample_block, written_stream};
+ghost use Rattle.aes3_pcm.specs.Formats.{narrowed};
+ghost use Rattle.aes3_runs.specs.BlockRuns.{decided_blocks, written_stream};
 ghost use Rattle.aes3_runs.specs.ReportRuns.{counts_of};
 
-use aes3_block::{GatheredCells, put_block_samples};
-use aes3_cell::{Counts, Fault, Form, RunError, Sink, Source};
+use aes3_block::{BLOCK_BYTES, GatheredCells, samples_of_block};
+use aes3_cell::{Counts, Fault, Form, RunError, Sink, Source, write_all};
+use aes3_pcm::SampleFormat;
 use aes3_runs::{BlockWriter, run_blocks};
 
-/// Writes blocks as their samples.
+/// Writes samples of a block, which are of 32 bits, in this form; handed on as one buffer.
+///
+/// # Errors
+/// The sink's fault; then it has taken a front of the bytes.
+#[inline(always)]
+pub(crate) fn put_narrowed<T: Sink>(
+    samples: [u8; BLOCK_BYTES],
+    format: SampleFormat,
+    sink: &mut T,
+) -> Result<(), Fault>
+    requires room { T.failed sink.old + 1 < 2 ^ 64 }
+    ensures { Wrote T.taken T.failed sink.old sink.new (narrowed format samples) result }
+{
+    let mut samples = samples;
+    let len = format.narrow(&mut samples);
+    write_all(sink, &samples[..len])
+}
+
+/// Writes blocks as their samples in a form.
 #[derive(Drop)]
-struct SampleBlocks;
+struct SampleBlocks {
+    format: SampleFormat,
+}
 
 impl BlockWriter for SampleBlocks {
-    ghost writes = { λ _. sample_block };
+    ghost writes = { λ w n b. narrowed w.format (block_samples b) };
 
     ghost ends = { λ _. [] };
 
     fn put<T: Sink>(&self, sink: &mut T, _number: u64, cells: &GatheredCells) -> Result<(), Fault> {
-        put_block_samples(&cells.block(), sink)
+        put_narrowed(samples_of_block(&cells.block()), self.format, sink)
     }
 
     fn put_end<T: Sink>(&self, _sink: &mut T) -> Result<(), Fault> {
@@ -37,8 +60,8 @@ impl BlockWriter for SampleBlocks {
 }
 
 /// Reads cells from any cell on, and writes the samples of the blocks that stand whole and closed
-/// in them: of each frame that of channel 1 and that of channel 2, words of 32 bits, lowest byte
-/// first, with the 24 audio bits in the highest ones (AES3-1, IEC 60958-1).
+/// in them: of each frame that of channel 1 and that of channel 2, in this form, lowest byte first,
+/// of the 24 audio bits (AES3-1, IEC 60958-1). With 16 bits the lowest 8 of them are dropped.
 ///
 /// # Errors
 /// Those of `normalise`; then the samples are written of the blocks that were decided before, and
@@ -48,6 +71,7 @@ pub fn to_pcm<S: Source, T: Sink>(
     sink: &mut T,
     max_bytes: u64,
     input: Form,
+    format: SampleFormat,
 ) -> Result<Counts, RunError>
     requires source_room { S.failed source.old + 1 < 2 ^ 64 }
     requires sink_room { T.failed sink.old + 1 < 2 ^ 64 }
@@ -57,28 +81,30 @@ pub fn to_pcm<S: Source, T: Sink>(
     // as their samples.
     ensures samples { IfOk result (λ _. (b : List ℕ)
         → Told (S.given source.old) (S.given source.new) b
-        → Grew (T.taken sink.old) (T.taken sink.new) (samples (blocks (cells_of input b)))) }
+        → Grew (T.taken sink.old) (T.taken sink.new)
+        (narrowed format (samples (blocks (cells_of input b))))) }
     // They are those of the blocks alone: of any line with the same blocks.
     ensures alone { IfOk result (λ _. (b : List ℕ) (bs : List (List (List Bool)))
         → Told (S.given source.old) (S.given source.new) b
-        → blocks (cells_of input b) ≡ bs → Grew (T.taken sink.old) (T.taken sink.new) (samples bs)) }
+        → blocks (cells_of input b) ≡ bs
+        → Grew (T.taken sink.old) (T.taken sink.new) (narrowed format (samples bs))) }
     // What `normalise` writes of cells gives the samples of the cells.
     ensures normal { IfOk result (λ _. (c : List Level)
         → Told (S.given source.old) (S.given source.new) (written input (normal c))
-        → Grew (T.taken sink.old) (T.taken sink.new) (samples (blocks c))) }
+        → Grew (T.taken sink.old) (T.taken sink.new) (narrowed format (samples (blocks c)))) }
     // What `encode` writes of blocks gives their samples.
     ensures back { IfOk result (λ _. (bs : List (List (List Bool))) → All IsBlock bs
         → Told (S.given source.old) (S.given source.new) (written_stream input bs)
-        → Grew (T.taken sink.old) (T.taken sink.new) (samples bs)) }
+        → Grew (T.taken sink.old) (T.taken sink.new) (narrowed format (samples bs))) }
     // It is a run over cells: Ok is owed, a refusal has its cause, and what was decided before it
     // is written.
     ensures run { CellRun max_bytes input (record {
-      whole = λ c. samples (blocks c);
-      begun = λ c. samples (decided_blocks c);
+      whole = λ c. narrowed format (samples (blocks c));
+      begun = λ c. narrowed format (samples (decided_blocks c));
       counts = counts_of input;
     }) (S.has_ended source.new) (movement_of S.given S.failed source.old source.new)
         (movement_of T.taken T.failed sink.old sink.new) result }
     ensures passed_on { IfOk result (λ _. T.passed sink.new ≡ T.taken sink.new) }
 {
-    run_blocks(source, sink, max_bytes, input, SampleBlocks)
+    run_blocks(source, sink, max_bytes, input, SampleBlocks { format })
 }

@@ -5,12 +5,13 @@ ghost use Rattle.std.specs.Prelude.{true, false, None, Err, get_or, length, map,
 ghost use Rattle.std.specs.Prelude.{IfSome, IsOk, OnErr, IsTrue};
 ghost use Rattle.aes3_cell.specs.Ends.{Grew, GrewFront, Told};
 ghost use Rattle.aes3_cell.specs.Wave.{begins_wave};
-ghost use Rattle.aes3_frame.specs.Files.{words_of};
 ghost use Rattle.aes3_frame.specs.Sampled.{payload_of_sample};
 ghost use Rattle.aes3_input.specs.Running.{InputRun, movement_of};
+ghost use Rattle.aes3_pcm.specs.declared.format.SampleFormat.TheVariants.{S32};
+ghost use Rattle.aes3_pcm.specs.Formats.{asks_exact, block_len};
 ghost use Rattle.aes3_engine.specs.Rewriting.{rewritten};
 ghost use Rattle.aes3_engine.specs.Sampling.{IsPcm, pcm_file, pcm_words, sampled_file, sampled_words};
-ghost use Rattle.aes3_engine.specs.Sampling.{sampling_state};
+ghost use Rattle.aes3_engine.specs.Sampling.{sampling_state, words_in};
 ghost use Rattle.aes3_engine.specs.Words.{block_words};
 
 use crate::rewriting::rewrite_block;
@@ -18,11 +19,12 @@ use crate::words::put_block_words;
 use aes3_block::{BLOCK_BYTES, Block};
 use aes3_cell::{Counts, Fault, RunError, Sink, Source, begins_wave};
 use aes3_input::{Input, convert};
+use aes3_pcm::SampleFormat;
 use aes3_status::Change;
 use aes3_words::Words;
 
-/// How many bytes a frame of two samples has.
-const FRAME_BYTES: u64 = 8;
+/// How many bytes a sample of 32 bits has.
+const SAMPLE_BYTES: u64 = 4;
 
 /// How many bytes of a WAV file's header are looked at.
 const WAVE_HEADER_BYTES: u64 = 12;
@@ -30,17 +32,22 @@ const WAVE_HEADER_BYTES: u64 = 12;
 /// Samples as they come, and the bytes of the block that they have begun.
 #[derive(Drop)]
 struct SampleInput {
+    format: SampleFormat,
     exact: bool,
     /// The form of the words that are written.
     words: Words,
     seen: u64,
     begun: [u8; BLOCK_BYTES],
+    /// How many bytes of it were taken.
+    at: usize,
+    ghost few: { at < block_len format },
+    ghost room: { at < 1536 },
 }
 
-/// Where in a piece that begins at byte `at` of a block a sample's lowest byte first isn't zero;
+/// Where in a piece that begins at byte `at` of a sample a sample's lowest byte first isn't zero;
 /// looked for only where it is refused.
 fn low_bits_in(exact: bool, piece: &[u8], at: usize) -> Option<usize>
-    requires { at + length piece.now ≤ BLOCK_BYTES }
+    requires { at + length piece.now < 2 ^ 64 }
     ensures none { result ≡ None → exact ≡ true → (i : ℕ) → (at + i) % 4 ≡ 0
         → get_or piece.now i 0 ≡ 0 }
     ensures asked { IfSome result (λ _. exact ≡ true) }
@@ -61,9 +68,22 @@ fn low_bits_in(exact: bool, piece: &[u8], at: usize) -> Option<usize>
     None
 }
 
+/// The block of the samples that these bytes begin with.
+fn block_of(format: SampleFormat, bytes: &[u8; BLOCK_BYTES]) -> Block
+    ensures { result ≡ map payload_of_sample (words_in format (take (block_len format) bytes.now)) }
+{
+    match format {
+        SampleFormat::S32 => Block::of_samples(bytes),
+        SampleFormat::S24 => Block::of_samples(&format.widen(bytes)),
+        SampleFormat::S24In32 => Block::of_samples(&format.widen(bytes)),
+        SampleFormat::S16 => Block::of_samples(&format.widen(bytes)),
+    }
+}
+
 /// Writes the block of samples with its channel status, as a block file has it whose words are in
 /// this form.
 fn put_samples<T: Sink>(
+    format: SampleFormat,
     samples: &[u8; BLOCK_BYTES],
     change: &Change,
     words: Words,
@@ -71,19 +91,22 @@ fn put_samples<T: Sink>(
 ) -> Result<(), Fault>
     requires room { T.failed sink.old + 1 < 2 ^ 64 }
     ensures bytes { IfOk result (λ _. Grew (T.taken sink.old) (T.taken sink.new)
-        (block_words words (rewritten change.now (map payload_of_sample (words_of samples.now))))) }
+        (block_words words (rewritten change.now
+        (map payload_of_sample (words_in format (take (block_len format) samples.now)))))) }
     ensures count { IfOk result (λ _. T.failed sink.new ≡ T.failed sink.old) }
     ensures err { OnErr result ((T.failed sink.new ≡ T.failed sink.old + 1)
         × GrewFront (T.taken sink.old) (T.taken sink.new)
-        (block_words words (rewritten change.now (map payload_of_sample (words_of samples.now))))) }
+        (block_words words (rewritten change.now
+        (map payload_of_sample (words_in format (take (block_len format) samples.now)))))) }
 {
-    let mut block = Block::of_samples(samples);
+    let mut block = block_of(format, samples);
     rewrite_block(&mut block, change);
     put_block_words(&block, words, sink)
 }
 
 impl Input<Change> for SampleInput {
-    ghost state = { λ input change. sampling_state input.exact input.words input.seen input.begun change };
+    ghost state = { λ input change. sampling_state input.format input.exact
+        input.words input.seen input.at input.begun change };
 
     /// Takes what a piece has of the block that is begun.
     fn take_front<T: Sink>(
@@ -92,9 +115,10 @@ impl Input<Change> for SampleInput {
         sink: &mut T,
         piece: &[u8],
     ) -> Result<usize, RunError> {
-        let at = self.place();
-        let len = piece.len().min(BLOCK_BYTES - at);
-        match low_bits_in(self.exact, &piece[..len], at) {
+        let at = self.at;
+        let block_len = self.format.block_len();
+        let len = piece.len().min(block_len - at);
+        match self.low_bits_in(&piece[..len]) {
             Some(i) => {
                 return Err(RunError::BadSample {
                     at: self.seen + i as u64,
@@ -107,10 +131,12 @@ impl Input<Change> for SampleInput {
             return Err(RunError::WaveHeader);
         }
         self.seen += len as u64;
-        if at + len < BLOCK_BYTES {
+        if at + len < block_len {
+            self.at = at + len;
             return Ok(len);
         }
-        match put_samples(&self.begun, change, self.words, sink) {
+        self.at = 0;
+        match put_samples(self.format, &self.begun, change, self.words, sink) {
             Ok(()) => Ok(len),
             Err(_) => Err(RunError::Write),
         }
@@ -118,16 +144,15 @@ impl Input<Change> for SampleInput {
 
     /// Fills the block that is begun up with zero samples.
     fn finish<T: Sink>(&mut self, change: &mut Change, sink: &mut T) -> Result<(), RunError> {
-        let left = self.seen % FRAME_BYTES;
+        let left = self.seen % self.format.frame_len() as u64;
         if left > 0 {
             return Err(RunError::BadLength { left });
         }
-        let at = self.place();
-        if at == 0 {
+        if self.at == 0 {
             return Ok(());
         }
-        self.begun[at..].fill(0);
-        match put_samples(&self.begun, change, self.words, sink) {
+        self.begun[self.at..].fill(0);
+        match put_samples(self.format, &self.begun, change, self.words, sink) {
             Ok(()) => Ok(()),
             Err(_) => Err(RunError::Write),
         }
@@ -135,11 +160,20 @@ impl Input<Change> for SampleInput {
 }
 
 impl SampleInput {
-    /// How many bytes of the block that is begun were taken.
-    fn place(&self) -> usize
-        ensures { result ≡ self.now.seen % BLOCK_BYTES }
+    /// Where in the next bytes a sample's lowest byte isn't zero, where that is refused.
+    fn low_bits_in(&self, piece: &[u8]) -> Option<usize>
+        requires { length piece.now ≤ BLOCK_BYTES }
+        ensures none { result ≡ None → asks_exact self.now.format self.now.exact ≡ true → (i : ℕ)
+            → (self.now.seen + i) % SAMPLE_BYTES ≡ 0 → get_or piece.now i 0 ≡ 0 }
+        ensures asked { IfSome result (λ _. asks_exact self.now.format self.now.exact ≡ true) }
+        ensures within { IfSome result (λ i. i < length piece.now) }
+        ensures lowest { IfSome result (λ i. (self.now.seen + i) % SAMPLE_BYTES ≡ 0) }
+        ensures some { IfSome result (λ i. get_or piece.now i 0 ≢ 0) }
+        ensures first { IfSome result (λ i. (j : ℕ) → j < i → (self.now.seen + j) % SAMPLE_BYTES ≡ 0
+            → get_or piece.now j 0 ≡ 0) }
     {
-        (self.seen % BLOCK_BYTES as u64) as usize
+        let at = (self.seen % SAMPLE_BYTES) as usize;
+        low_bits_in(self.format.asks_exact(self.exact), piece, at)
     }
 
     /// Whether the header of a WAV file ends in these first bytes of a block, of which no more than
@@ -185,7 +219,7 @@ pub fn from_pcm<S: Source, T: Sink>(
 
     // It owes Ok where the input is whole frames, of 24 bits where that is asked, and no WAV file,
     // and fits, and neither end failed.
-    ensures owed { (b : List ℕ) → Told (S.given source.old) (S.given source.new) b → IsPcm exact b
+    ensures owed { (b : List ℕ) → Told (S.given source.old) (S.given source.new) b → IsPcm S32 exact b
         → length b ≤ max_bytes
         → S.failed source.new ≡ S.failed source.old → T.failed sink.new ≡ T.failed sink.old
         → IsOk result }
@@ -195,10 +229,20 @@ pub fn from_pcm<S: Source, T: Sink>(
         (movement_of S.given S.failed source.old source.new)
         (movement_of T.taken T.failed sink.old sink.new) result }
 {
-    from_pcm_words(source, sink, max_bytes, exact, change, Words::Own)
+    from_pcm_words(
+        source,
+        sink,
+        max_bytes,
+        SampleFormat::S32,
+        exact,
+        change,
+        Words::Own,
+    )
 }
 
-/// Does what `from_pcm` does, and writes a block file whose words are in this form.
+/// Does what `from_pcm` does, of samples in this form, and writes a block file whose words are in
+/// this form: the bits of an audio word that a sample in its form has not are 0. A sample that has 24 bits at
+/// most is never refused.
 ///
 /// # Errors
 /// Those of `from_pcm`.
@@ -206,6 +250,7 @@ pub fn from_pcm_words<S: Source, T: Sink>(
     source: &mut S,
     sink: &mut T,
     max_bytes: u64,
+    format: SampleFormat,
     exact: bool,
     change: &Change,
     words: Words,
@@ -217,33 +262,36 @@ pub fn from_pcm_words<S: Source, T: Sink>(
     // Where it answers Ok, the block file of the samples is written, filled up with zero samples to
     // whole blocks.
     ensures file { IfOk result (λ _. (b : List ℕ) → Told (S.given source.old) (S.given source.new) b
-        → Grew (T.taken sink.old) (T.taken sink.new) (pcm_words words change.now b)) }
+        → Grew (T.taken sink.old) (T.taken sink.new) (pcm_words format words change.now b)) }
     ensures passed_on { IfOk result (λ _. T.passed sink.new ≡ T.taken sink.new) }
 
     // It owes Ok where the input is whole frames, of 24 bits where that is asked, and no WAV file,
     // and fits, and neither end failed.
-    ensures owed { (b : List ℕ) → Told (S.given source.old) (S.given source.new) b → IsPcm exact b
+    ensures owed { (b : List ℕ) → Told (S.given source.old) (S.given source.new) b → IsPcm format exact b
         → length b ≤ max_bytes
         → S.failed source.new ≡ S.failed source.old → T.failed sink.new ≡ T.failed sink.old
         → IsOk result }
 
     // What it answers to every input, and has written then.
-    ensures run { InputRun (sampled_words exact words change.now) max_bytes (S.has_ended source.new)
+    ensures run { InputRun (sampled_words format exact words change.now) max_bytes (S.has_ended source.new)
         (movement_of S.given S.failed source.old source.new)
         (movement_of T.taken T.failed sink.old sink.new) result }
 {
     let mut input = SampleInput {
+        format,
         exact,
         words,
         seen: 0,
         begun: [0; BLOCK_BYTES],
+        at: 0,
     };
+    let block_len = format.block_len() as u64;
     let mut change = *change;
     match convert(source, sink, max_bytes, &mut input, &mut change) {
         Ok(bytes) => Ok(Counts {
             bytes,
             cells: 0,
-            blocks: bytes.div_ceil(BLOCK_BYTES as u64),
+            blocks: bytes.div_ceil(block_len),
             faults: 0,
             unfinished: 0,
             marks: 0,

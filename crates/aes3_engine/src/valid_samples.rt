@@ -10,13 +10,16 @@ ghost use Rattle.aes3_lock.specs.Reports.{blocks};
 ghost use Rattle.aes3_input.specs.Inputs.{cells_of};
 ghost use Rattle.aes3_input.specs.Driving.{CellRun};
 ghost use Rattle.aes3_input.specs.Running.{movement_of};
+ghost use Rattle.aes3_pcm.specs.Formats.{narrowed};
 ghost use Rattle.aes3_runs.specs.BlockRuns.{decided_blocks, written_stream};
 ghost use Rattle.aes3_runs.specs.ReportRuns.{counts_of};
 ghost use Rattle.aes3_engine.specs.ValidSamples.{IsAllValid, silenced, valid_block_samples};
 ghost use Rattle.aes3_engine.specs.ValidSamples.{valid_samples};
 
-use aes3_block::{Block, Frame, GatheredCells, Subframe, put_block_samples};
+use crate::samples::put_narrowed;
+use aes3_block::{Block, Frame, GatheredCells, Subframe, samples_of_block};
 use aes3_cell::{Counts, Fault, Form, RunError, Sink, Source};
+use aes3_pcm::SampleFormat;
 use aes3_runs::{BlockWriter, run_blocks};
 
 /// A subframe with zero audio where its validity bit is 1.
@@ -48,19 +51,21 @@ fn silence(block: &mut Block)
     }
 }
 
-/// Writes blocks as their samples, with zero in place of each that is not valid.
+/// Writes blocks as their samples in a form, with zero in place of each that is not valid.
 #[derive(Drop)]
-struct ValidSampleBlocks;
+struct ValidSampleBlocks {
+    format: SampleFormat,
+}
 
 impl BlockWriter for ValidSampleBlocks {
-    ghost writes = { λ _ n b. valid_block_samples b };
+    ghost writes = { λ w n b. narrowed w.format (valid_block_samples b) };
 
     ghost ends = { λ _. [] };
 
     fn put<T: Sink>(&self, sink: &mut T, _number: u64, cells: &GatheredCells) -> Result<(), Fault> {
         let mut block = cells.block();
         silence(&mut block);
-        put_block_samples(&block, sink)
+        put_narrowed(samples_of_block(&block), self.format, sink)
     }
 
     fn put_end<T: Sink>(&self, _sink: &mut T) -> Result<(), Fault> {
@@ -79,6 +84,7 @@ pub fn to_valid_pcm<S: Source, T: Sink>(
     sink: &mut T,
     max_bytes: u64,
     input: Form,
+    format: SampleFormat,
 ) -> Result<Counts, RunError>
     requires source_room { S.failed source.old + 1 < 2 ^ 64 }
     requires sink_room { T.failed sink.old + 1 < 2 ^ 64 }
@@ -89,24 +95,25 @@ pub fn to_valid_pcm<S: Source, T: Sink>(
     ensures samples { IfOk result (λ _. (b : List ℕ)
         → Told (S.given source.old) (S.given source.new) b
         → Grew (T.taken sink.old) (T.taken sink.new)
-        (valid_samples (blocks (cells_of input b)))) }
+        (narrowed format (valid_samples (blocks (cells_of input b))))) }
     // Where no V bit of theirs is 1, these are the samples that `to_pcm` writes.
     ensures all { IfOk result (λ _. (b : List ℕ) → Told (S.given source.old) (S.given source.new) b
         → All IsAllValid (blocks (cells_of input b))
-        → Grew (T.taken sink.old) (T.taken sink.new) (samples (blocks (cells_of input b)))) }
+        → Grew (T.taken sink.old) (T.taken sink.new)
+        (narrowed format (samples (blocks (cells_of input b))))) }
     // What `encode` writes of blocks gives their valid samples.
     ensures back { IfOk result (λ _. (bs : List (List (List Bool))) → All IsBlock bs
         → Told (S.given source.old) (S.given source.new) (written_stream input bs)
-        → Grew (T.taken sink.old) (T.taken sink.new) (valid_samples bs)) }
+        → Grew (T.taken sink.old) (T.taken sink.new) (narrowed format (valid_samples bs))) }
     // It is a run over cells: Ok is owed, a refusal has its cause, and what was decided before it
     // is written.
     ensures run { CellRun max_bytes input (record {
-      whole = λ c. valid_samples (blocks c);
-      begun = λ c. valid_samples (decided_blocks c);
+      whole = λ c. narrowed format (valid_samples (blocks c));
+      begun = λ c. narrowed format (valid_samples (decided_blocks c));
       counts = counts_of input;
     }) (S.has_ended source.new) (movement_of S.given S.failed source.old source.new)
         (movement_of T.taken T.failed sink.old sink.new) result }
     ensures passed_on { IfOk result (λ _. T.passed sink.new ≡ T.taken sink.new) }
 {
-    run_blocks(source, sink, max_bytes, input, ValidSampleBlocks)
+    run_blocks(source, sink, max_bytes, input, ValidSampleBlocks { format })
 }

@@ -34,9 +34,9 @@ writes_packed (ShowChanges input detail) = false
 writes_packed (Scan input) = false
 writes_packed (Cut input output from count) = is_packed output
 writes_packed (Rewrite input output change) = is_packed output
-writes_packed (ToPcm input valid) = false
-writes_packed (ToFilledPcm input fill) = false
-writes_packed (FromPcm exact change words) = false
+writes_packed (ToPcm input format valid) = false
+writes_packed (ToFilledPcm input format fill) = false
+writes_packed (FromPcm format exact change words) = false
 writes_packed (ToBits input bits channel) = false
 
 -- whether the job reads packed cells
@@ -53,9 +53,9 @@ reads_packed (ShowChanges input detail) = is_packed input
 reads_packed (Scan input) = is_packed input
 reads_packed (Cut input output from count) = is_packed input
 reads_packed (Rewrite input output change) = is_packed input
-reads_packed (ToPcm input valid) = is_packed input
-reads_packed (ToFilledPcm input fill) = is_packed input
-reads_packed (FromPcm exact change words) = false
+reads_packed (ToPcm input format valid) = is_packed input
+reads_packed (ToFilledPcm input format fill) = is_packed input
+reads_packed (FromPcm format exact change words) = false
 reads_packed (ToBits input bits channel) = is_packed input
 
 -- what is told before a job where standard input, or output, is a terminal or isn't

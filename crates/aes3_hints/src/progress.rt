@@ -36,7 +36,8 @@ impl Unit {
     /// Those that the job's input has.
     fn of_job(job: &Job) -> Self {
         match job {
-            Job::Encode { .. } | Job::FromPcm { .. } => Unit::Bytes(BLOCK_FILE_LEN),
+            Job::Encode { .. } => Unit::Bytes(BLOCK_FILE_LEN),
+            Job::FromPcm { format, .. } => Unit::Bytes(format.block_len() as u64),
             job if reads_packed(job) => Unit::Bytes(PACKED_LEN),
             _ => Unit::Cells,
         }

@@ -2,6 +2,7 @@
 
 use aes3_cell::Form;
 use aes3_frame::{Channel, Fill};
+use aes3_pcm::SampleFormat;
 use aes3_settings::{Detail, Lines, Style};
 use aes3_status::{CarriedBits, Change};
 use aes3_words::Words;
@@ -75,20 +76,24 @@ pub enum Job {
         output: Form,
         change: Change,
     },
-    /// Cells to the samples of their blocks; where `valid`, with zero for those that are not.
+    /// Cells to the samples of their blocks, in this form; where `valid`, with zero for those that
+    /// are not.
     ToPcm {
         input: Form,
+        format: SampleFormat,
         valid: bool,
     },
-    /// Cells to the samples of their blocks, with frames between them that fill the time which no
-    /// block gives.
+    /// Cells to the samples of their blocks, in this form, with frames between them that fill the
+    /// time which no block gives.
     ToFilledPcm {
         input: Form,
+        format: SampleFormat,
         fill: Fill,
     },
-    /// Samples to a block file, with channel status, its words in this form; where `exact`, of 24
-    /// bits alone.
+    /// Samples in a form to a block file, with channel status, its words in this form; where
+    /// `exact`, of 24 bits alone.
     FromPcm {
+        format: SampleFormat,
         exact: bool,
         change: Change,
         words: Words,

@@ -6,6 +6,7 @@ use aes3_engine::Change;
 use aes3_frame::Channel;
 use aes3_job::Job;
 use aes3_lines::{Detail, Lines, Notation, Style};
+use aes3_pcm::SampleFormat;
 use aes3_status::CarriedBits;
 use std::alloc::Global;
 
@@ -105,6 +106,7 @@ const SHOW: Job = Job::Show {
 
 const TO_PCM: Job = Job::ToPcm {
     input: Form::Packed,
+    format: SampleFormat::S16,
     valid: true,
 };
 
@@ -136,7 +138,7 @@ fn is_each_asked_for(alloc: Global) -> bool {
         && asks_for(alloc, &["show", "--at", "--more"], SHOW)
         && asks_for(
             alloc,
-            &["to-pcm", "--valid", "--packed-in", "--lsb-first"],
+            &["to-pcm", "--valid", "--packed-in", "--pcm", "s16"],
             TO_PCM,
         )
         && asks_for(alloc, &["to-bits", "validity", "2"], TO_BITS)

@@ -4,6 +4,7 @@ use crate::bytes::{Bytes, bytes_of};
 use aes3_cell::{Form, MemorySink, MemorySource};
 use aes3_engine::Change;
 use aes3_job::{Job, Nobody};
+use aes3_pcm::SampleFormat;
 use aes3_runner::{finish_job, run_job};
 use aes3_text::Lines;
 use aes3_words::Words;
@@ -183,6 +184,7 @@ fn is_heard(alloc: Global, form: Form, file: &[u8], samples: &[u8]) -> bool {
     let is_written = run_job(&encode, &mut MemorySource::new(file, 4_096), &mut line).is_ok();
     let to_pcm = Job::ToPcm {
         input: form,
+        format: SampleFormat::S32,
         valid: false,
     };
     let mut pcm = MemorySink::new(alloc);

@@ -8,6 +8,7 @@ use aes3_cell::{FailingSink, FailingSource, Form, MemorySink, MemorySource, RunE
 use aes3_engine::Change;
 use aes3_job::Job;
 use aes3_lines::Detail;
+use aes3_pcm::SampleFormat;
 use aes3_runner::run_job;
 use aes3_text::Lines;
 use aes3_words::Words;
@@ -410,15 +411,18 @@ const DECODE_PACKED: Job = Job::Decode {
 
 const TO_PCM: Job = Job::ToPcm {
     input: TEXT,
+    format: SampleFormat::S32,
     valid: false,
 };
 
 const TO_VALID_PCM: Job = Job::ToPcm {
     input: TEXT,
+    format: SampleFormat::S32,
     valid: true,
 };
 
 const FROM_PCM: Job = Job::FromPcm {
+    format: SampleFormat::S32,
     exact: true,
     change: AS_IT_IS,
     words: Words::Own,

@@ -36,9 +36,9 @@ few (ShowChanges i d) n = omega arith
 few (Scan i) n = omega arith
 few (Cut i o f c) n = omega arith
 few (Rewrite i o c) n = omega arith
-few (ToPcm i v) n = omega arith
-few (ToFilledPcm i fill) n = omega arith
-few (FromPcm e c w) n = omega arith
+few (ToPcm i p v) n = omega arith
+few (ToFilledPcm i p fill) n = omega arith
+few (FromPcm p e c w) n = omega arith
 few (ToBits i b c) n = omega arith
 
 -- of a job's answer

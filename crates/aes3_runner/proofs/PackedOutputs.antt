@@ -63,7 +63,7 @@ can-be-turned (Cut i o from count) h b =
 can-be-turned (Rewrite i o change) h b =
     of-blocks o (rewritten_blocks change (blocks (cells_of i b))) h
     (each-blocks change (blocks (cells_of i b)) (blocks27 (cells_of i b)))
-can-be-turned (ToPcm i valid) h b = absurd cc
-can-be-turned (ToFilledPcm i fill) h b = absurd cc
-can-be-turned (FromPcm exact change words) h b = absurd cc
+can-be-turned (ToPcm i format valid) h b = absurd cc
+can-be-turned (ToFilledPcm i format fill) h b = absurd cc
+can-be-turned (FromPcm format exact change words) h b = absurd cc
 can-be-turned (ToBits i bits channel) h b = absurd cc

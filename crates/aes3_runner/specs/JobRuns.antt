@@ -11,6 +11,7 @@ use Rattle.aes3_lock.specs.Preambles.{marks}
 use Rattle.aes3_lock.specs.Reports.{blocks, decided, normal, reports}
 use Rattle.aes3_input.specs.Running.{Movement, Promise, InputRun, Quiet, Failed}
 use Rattle.aes3_input.specs.Driving.{counted_cells}
+use Rattle.aes3_pcm.specs.Formats.{narrowed}
 use Rattle.aes3_engine.specs.Words.{encoded_words, words_file}
 use Rattle.aes3_runs.specs.ReportRuns.{counts_of}
 use Rattle.aes3_runs.specs.BlockRuns.{begun_stream, written_stream, cut_blocks, decided_blocks}
@@ -78,12 +79,22 @@ promise_of (Rewrite i o change) =
     (λ c. written_stream o (rewritten_blocks change (blocks c)))
     (λ c. begun_stream o (rewritten_blocks change (decided_blocks c)))
     (counts_of i)
-promise_of (ToPcm i true) =
-    counted_cells i (λ c. valid_samples (blocks c)) (λ c. valid_samples (decided_blocks c)) (counts_of i)
-promise_of (ToPcm i false) = counted_cells i (λ c. samples (blocks c)) (λ c. samples (decided_blocks c)) (counts_of i)
-promise_of (ToFilledPcm i fill) =
-    counted_cells i (λ c. filled fill (placed (reports c))) (λ c. filled fill (placed (decided c))) (counts_of i)
-promise_of (FromPcm exact change words) = sampled_words exact words change
+promise_of (ToPcm i format true) =
+    counted_cells i
+    (λ c. narrowed format (valid_samples (blocks c)))
+    (λ c. narrowed format (valid_samples (decided_blocks c)))
+    (counts_of i)
+promise_of (ToPcm i format false) =
+    counted_cells i
+    (λ c. narrowed format (samples (blocks c)))
+    (λ c. narrowed format (samples (decided_blocks c)))
+    (counts_of i)
+promise_of (ToFilledPcm i format fill) =
+    counted_cells i
+    (λ c. narrowed format (filled fill (placed (reports c))))
+    (λ c. narrowed format (filled fill (placed (decided c))))
+    (counts_of i)
+promise_of (FromPcm format exact change words) = sampled_words format exact words change
 promise_of (ToBits i bits channel) =
     counted_cells i
     (λ c. all_carried bits channel (blocks c))
@@ -108,9 +119,9 @@ status_by (ShowChanges i detail) n = 0
 status_by (Scan i) n = 0
 status_by (Cut i o from count) n = 0
 status_by (Rewrite i o change) n = 0
-status_by (ToPcm i valid) n = 0
-status_by (ToFilledPcm i fill) n = 0
-status_by (FromPcm exact change words) n = 0
+status_by (ToPcm i format valid) n = 0
+status_by (ToFilledPcm i format fill) n = 0
+status_by (FromPcm format exact change words) n = 0
 status_by (ToBits i bits channel) n = 0
 
 -- a refusal behind which the sink was flushed: it stays what it was, or that failed

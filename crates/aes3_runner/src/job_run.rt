@@ -12,6 +12,7 @@ use aes3_engine::{
     to_pcm, to_valid_pcm,
 };
 use aes3_job::Job;
+use aes3_pcm::SampleFormat;
 use aes3_text::{check, scan, show_changes, show_detail};
 
 /// How many bytes an input may have.
@@ -51,19 +52,20 @@ fn run_samples<S: Source, T: Sink>(
     source: &mut S,
     sink: &mut T,
     input: Form,
+    format: SampleFormat,
     valid: bool,
 ) -> Result<Counts, RunError>
     requires source_room { S.failed source.old + 1 < 2 ^ 64 }
     requires sink_room { T.failed sink.old + 1 < 2 ^ 64 }
-    ensures ran { RunRan (ToPcm input valid) (S.has_ended source.new)
+    ensures ran { RunRan (ToPcm input format valid) (S.has_ended source.new)
         (movement_of S.given S.failed source.old source.new)
         (movement_of T.taken T.failed sink.old sink.new) result }
     ensures passed_on { IfOk result (λ _. T.passed sink.new ≡ T.taken sink.new) }
 {
     if valid {
-        to_valid_pcm(source, sink, MAX_BYTES, input)
+        to_valid_pcm(source, sink, MAX_BYTES, input, format)
     } else {
-        to_pcm(source, sink, MAX_BYTES, input)
+        to_pcm(source, sink, MAX_BYTES, input, format)
     }
 }
 
@@ -109,13 +111,22 @@ pub fn run_job<S: Source, T: Sink>(
             output,
             change,
         } => rewrite(source, sink, MAX_BYTES, input, output, &change),
-        Job::ToPcm { input, valid } => run_samples(source, sink, input, valid),
-        Job::ToFilledPcm { input, fill } => to_filled_pcm(source, sink, MAX_BYTES, input, fill),
+        Job::ToPcm {
+            input,
+            format,
+            valid,
+        } => run_samples(source, sink, input, format, valid),
+        Job::ToFilledPcm {
+            input,
+            format,
+            fill,
+        } => to_filled_pcm(source, sink, MAX_BYTES, input, format, fill),
         Job::FromPcm {
+            format,
             exact,
             change,
             words,
-        } => from_pcm_words(source, sink, MAX_BYTES, exact, &change, words),
+        } => from_pcm_words(source, sink, MAX_BYTES, format, exact, &change, words),
         Job::ToBits {
             input,
             bits,

@@ -5,8 +5,6 @@ use Rattle.aes3_level.specs.declared.level.Level.TheVariants.{Low}
 use Rattle.aes3_cell.specs.declared.form.Form.{Form}
 use Rattle.aes3_cell.specs.Written.{bytes_of, written}
 use Rattle.aes3_frame.specs.Blocks.{block_cells, stream}
-use Rattle.aes3_frame.specs.Files.{block_bytes}
-use Rattle.aes3_frame.specs.Samples.{block_samples}
 use Rattle.aes3_lock.specs.declared.report.Report.{Report}
 use Rattle.aes3_lock.specs.declared.report.Report.TheVariants.{Whole, Marked, Fault, Unfinished}
 use Rattle.aes3_lock.specs.Reports.{decided, wholes}
@@ -27,15 +25,9 @@ abbrev pub numbered : (ℕ → List (List Bool) → List ℕ) → ℕ → List (
 numbered f n [] = []
 numbered f n (b ∷ bs) = f n b ++ numbered f (suc n) bs
 
--- in the normal polarity, in a block file, as samples, and in the normal polarity from block `from` on, `count` at most
+-- in the normal polarity, and in the normal polarity from block `from` on, `count` at most
 abbrev pub normal_block : Form → ℕ → List (List Bool) → List ℕ
 normal_block form n b = bytes_of form (block_cells Low b)
-
-abbrev pub file_block : ℕ → List (List Bool) → List ℕ
-file_block n b = block_bytes b
-
-abbrev pub sample_block : ℕ → List (List Bool) → List ℕ
-sample_block n b = block_samples b
 
 abbrev pub cut_block : Form → ℕ → ℕ → ℕ → List (List Bool) → List ℕ
 cut_block form from count n b = if nat_le from n && nat_lt (n - from) count then normal_block form n b else []

@@ -18,19 +18,21 @@ drive-requires-clause-start g c = (
 
 pub returns-in-Ok-clause-run : goal.returns-in-Ok-clause-run
 returns-in-Ok-clause-run g c =
-    fill-same c.args.input (ap (λ k. k.fill) c.new-taker.ensures.reporter ∙ c.new.ensures.fill)
-    (fill-ok c.new-taker.result.reporter.fill c.in-Ok.ensures.ran)
+    fill-same c.args.input (ap (λ k. k.format) c.new-taker.ensures.reporter ∙ c.new.ensures.format)
+    (ap (λ k. k.fill) c.new-taker.ensures.reporter ∙ c.new.ensures.fill)
+    (fill-ok c.new-taker.result.reporter.format c.new-taker.result.reporter.fill c.in-Ok.ensures.ran)
 
 pub returns-in-Err-clause-run : goal.returns-in-Err-clause-run
 returns-in-Err-clause-run g c =
-    fill-same c.args.input (ap (λ k. k.fill) c.new-taker.ensures.reporter ∙ c.new.ensures.fill)
-    (fill-err c.new-taker.result.reporter.fill c.in-Err.ensures.ran)
+    fill-same c.args.input (ap (λ k. k.format) c.new-taker.ensures.reporter ∙ c.new.ensures.format)
+    (ap (λ k. k.fill) c.new-taker.ensures.reporter ∙ c.new.ensures.fill)
+    (fill-err c.new-taker.result.reporter.format c.new-taker.result.reporter.fill c.in-Err.ensures.ran)
 
 pub returns-in-Ok-clause-samples : goal.returns-in-Ok-clause-samples
 returns-in-Ok-clause-samples g c = run-wrote (Ok _) (returns-in-Ok-clause-run g c)
 
 pub returns-in-Ok-clause-row : goal.returns-in-Ok-clause-row
-returns-in-Ok-clause-row g c = run-row c.args.input c.args.fill (Ok _) (returns-in-Ok-clause-run g c)
+returns-in-Ok-clause-row g c = run-row c.args.input c.args.format c.args.fill (Ok _) (returns-in-Ok-clause-run g c)
 
 pub returns-in-Ok-clause-time : goal.returns-in-Ok-clause-time
-returns-in-Ok-clause-time g c = run-in-time c.args.input c.args.fill (Ok _) (returns-in-Ok-clause-run g c)
+returns-in-Ok-clause-time g c = run-in-time c.args.input c.args.format c.args.fill (Ok _) (returns-in-Ok-clause-run g c)

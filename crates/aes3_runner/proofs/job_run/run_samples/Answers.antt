@@ -5,8 +5,8 @@ use Rattle.aes3_runner.proofs.job_run.run_samples.Goals as goal
 
 pub returns-then-valid-clause-ran : goal.returns-then-valid-clause-ran
 returns-then-valid-clause-ran g c =
-    run-of (ap (λ (v : Bool). ToPcm c.args.input v) c.if-valid.true) c.to_valid_pcm.ensures.run
+    run-of (ap (λ (v : Bool). ToPcm c.args.input c.args.format v) c.if-valid.true) c.to_valid_pcm.ensures.run
 
 pub returns-else-valid-clause-ran : goal.returns-else-valid-clause-ran
 returns-else-valid-clause-ran g c =
-    run-of (ap (λ (v : Bool). ToPcm c.args.input v) c.if-valid.false) c.to_pcm.ensures.run
+    run-of (ap (λ (v : Bool). ToPcm c.args.input c.args.format v) c.if-valid.false) c.to_pcm.ensures.run

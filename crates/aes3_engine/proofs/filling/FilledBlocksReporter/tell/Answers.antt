@@ -15,10 +15,12 @@ returns-in-Ok-clause-next g c = λ r h. (
 
 pub returns-in-Ok-clause-grew : goal.returns-in-Ok-clause-grew
 returns-in-Ok-clause-grew g c = λ r h.
-    grew-is (adds-is c.args.self.now.fill c.args.self.now.progress r (report_in c.args.lock.now c.args.ending) h.1)
+    grew-is (adds-is c.args.self.now.format c.args.self.now.fill c.args.self.now.progress r
+    (report_in c.args.lock.now c.args.ending) h.1)
     c.in-Ok.ensures.wrote.grew
 
 pub returns-in-Err-clause-err_grew : goal.returns-in-Err-clause-err_grew
 returns-in-Err-clause-err_grew g c = λ r h.
-    front-is (adds-is c.args.self.now.fill c.args.self.now.progress r (report_in c.args.lock.now c.args.ending) h.1)
+    front-is (adds-is c.args.self.now.format c.args.self.now.fill c.args.self.now.progress r
+    (report_in c.args.lock.now c.args.ending) h.1)
     c.in-Err.ensures.wrote.err.1
