@@ -163,7 +163,7 @@ aes3: byte 0 is neither cell nor separator (line 1, column 1): this is a WAV fil
     at_terminal "nothing of it where the input is no file" "" "cat '$speech' | $program encode | $waiting"
     { cat "$speech" && printf x; } > "$folder/longer"
     at_terminal "it makes room for a refusal" "aes3: 68 %, 0 MB/s, 170 blocks$erase${erase}aes3: refused 2 at 1
-aes3: the input ends 1 bytes into a block or a frame: cut the file to a multiple of 1,536 bytes, samples to one of 8, or fill them up" \
+aes3: the input ends 1 bytes into a block or a frame: cut the file to a multiple of 1,536 bytes, samples to whole frames, or fill them up" \
         "$program encode < '$folder/longer' | $waiting"
     "$program" encode < "$speech" 2> "$folder/errors" | { sleep 2; cat > /dev/null; }
     status=0

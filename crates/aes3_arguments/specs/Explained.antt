@@ -36,7 +36,7 @@ IsExplanation texts (fault.Refused error) = error ≡ Memory
 abbrev pub advice_of : ℕ → Text
 advice_of n =
     if n == 1 then codes "are these packed cells (`--packed-in`), or a block file (`encode`)?"
-    else if n == 2 then codes "cut the file to a multiple of 1,536 bytes, samples to one of 8, or fill them up"
+    else if n == 2 then codes "cut the file to a multiple of 1,536 bytes, samples to whole frames, or fill them up"
     else if n == 3 then codes "are these ALSA's words (`--words alsa`)? else clear them"
     else if n == 4 then codes "is the file big-endian, or are samples not in bits 4 to 27?"
     else if n == 5 then codes "a folder, a closed input, a broken disk?"

@@ -31,7 +31,7 @@ pub fn advice(number: u8) -> &'static str
 {
     match number {
         1 => "are these packed cells (`--packed-in`), or a block file (`encode`)?",
-        2 => "cut the file to a multiple of 1,536 bytes, samples to one of 8, or fill them up",
+        2 => "cut the file to a multiple of 1,536 bytes, samples to whole frames, or fill them up",
         3 => "are these ALSA's words (`--words alsa`)? else clear them",
         4 => "is the file big-endian, or are samples not in bits 4 to 27?",
         5 => "a folder, a closed input, a broken disk?",
