@@ -2,6 +2,7 @@ pub mod Bits
 pub mod Professional
 pub mod Consumer
 pub mod Statuses
+pub mod Wide
 pub mod Settings
 pub mod SettingLaws
 pub mod Check

@@ -10,11 +10,13 @@ use Rattle.aes3_status.specs.declared.field.ConField.TheVariants as con
 use Rattle.aes3_status.specs.declared.field.Field.{Field}
 use Rattle.aes3_status.specs.declared.field.Field.TheVariants.{Use, Professional, Consumer}
 use Rattle.aes3_status.specs.declared.setting.Setting.{Setting}
+use Rattle.aes3_status.specs.declared.setting.Settings.{Settings}
 use Rattle.aes3_bits.specs.Bits.{low_bits, number}
 use Rattle.aes3_status.specs.Bits.{byte_bits, number_at, place}
 use Rattle.aes3_status.specs.Statuses.{is_professional}
 use Rattle.aes3_status.specs.Professional as professional
 use Rattle.aes3_status.specs.Consumer as consumer
+use Rattle.aes3_status.specs.Wide.{set_wide}
 
 -- these bits with the new ones in place of as many from place `at` on
 abbrev pub with_bits : ℕ → List Bool → List Bool → List Bool
@@ -73,3 +75,7 @@ set_by setting bytes = with_code (place_of setting.field) (code_for setting byte
 -- one setting after the other
 unfoldable pub set_in_turn : List Setting → List ℕ → List ℕ
 set_in_turn settings bytes = fold (λ status setting. set_by setting status) bytes settings
+
+-- a status with settings: their codes, and then what the fields of four bytes get
+unfoldable pub set_all : Settings → List ℕ → List ℕ
+set_all settings bytes = set_wide settings.wide (set_in_turn settings.codes bytes)

@@ -1,6 +1,6 @@
 //! What the channel status, the validity bits and the user bits of a stream are changed to.
 
-use crate::setting::{SETTINGS, Setting};
+use crate::setting::Settings;
 
 /// New channel status for each block of a stream (AES3-2, IEC 60958-3), and new validity and user
 /// bits (AES3-1, IEC 60958-1).
@@ -12,10 +12,10 @@ pub struct Change {
     pub status2: Option<[u8; 24]>,
     /// The fields that are then set in the status of channel 1, one after the other; `None` sets
     /// none.
-    pub settings1: Option<[Setting; SETTINGS]>,
+    pub settings1: Option<Settings>,
     /// The fields that are then set in the status of channel 2, one after the other; `None` sets
     /// none.
-    pub settings2: Option<[Setting; SETTINGS]>,
+    pub settings2: Option<Settings>,
     /// What the validity bit of each subframe of channel 1 gets; `None` leaves it as it is.
     pub validity1: Option<bool>,
     /// What the validity bit of each subframe of channel 2 gets; `None` leaves it as it is.

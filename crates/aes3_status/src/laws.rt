@@ -4,6 +4,7 @@ ghost use Rattle.aes3_status.specs.Laws.{OneFlipIsFound, TwoFlipsAreFound, Weigh
 ghost use Rattle.aes3_status.specs.SettingLaws.{CodeIsReadBack, MeaningStays, OnlyItsBitsChange};
 ghost use Rattle.aes3_status.specs.SettingLaws.{OtherCodesStay, OtherFieldsStay, OtherMeaningsStay};
 ghost use Rattle.aes3_status.specs.SettingLaws.{SettingIsReadBack, UseStays};
+ghost use Rattle.aes3_status.specs.Wide.{OtherBytesStay, WideIsReadBack};
 
 /// The check tells of one or two inverted bits, wherever they stand.
 pub fn flips_are_found()
@@ -37,4 +38,11 @@ pub fn settings_are_read_back()
 pub fn fields_are_apart()
     ensures codes { OtherCodesStay }
     ensures meanings { OtherMeaningsStay }
+{}
+
+/// What the fields of four bytes are given is read back from professional status, and all other bytes
+/// stay.
+pub fn wide_fields_are_read_back()
+    ensures fields { WideIsReadBack }
+    ensures others { OtherBytesStay }
 {}

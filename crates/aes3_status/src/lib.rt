@@ -24,6 +24,8 @@ mod professional;
 mod setting;
 /// Channel status for either use.
 mod status;
+/// The fields for professional use that have four bytes.
+mod wide;
 
 pub use carried::CarriedBits;
 pub use change::Change;
@@ -31,5 +33,6 @@ pub use check::{Check, check_byte, check_state, with_check};
 pub use consumer::Con;
 pub use field::{ConField, Field, ProField};
 pub use professional::Pro;
-pub use setting::{SETTINGS, Setting, set_fields};
+pub use setting::{SETTINGS, Setting, Settings, set_fields};
 pub use status::Status;
+pub use wide::{WideField, WideSettings};

@@ -1,10 +1,11 @@
 //! Codes for the fields of channel status.
 
 ghost use Rattle.std.specs.Prelude.{◌≡◌};
-ghost use Rattle.aes3_status.specs.Settings.{code_for, set_by, set_in_turn};
+ghost use Rattle.aes3_status.specs.Settings.{code_for, set_all, set_by, set_in_turn};
 
 use crate::field::{ConField, Field};
 use crate::place::put_code;
+use crate::wide::{WideSettings, set_wide};
 
 /// How many settings a channel gets at most.
 pub const SETTINGS: usize = 64;
@@ -29,6 +30,16 @@ impl Setting {
     };
 }
 
+/// What a channel status gets: codes for fields within a byte, one after the other, and then what
+/// its fields of four bytes get.
+#[derive(Clone, Copy, PartialEq, Eq)]
+pub struct Settings {
+    /// The codes; those that are not needed are `Setting::NOTHING`.
+    pub codes: [Setting; SETTINGS],
+    /// What the fields of four bytes get.
+    pub wide: WideSettings,
+}
+
 /// The code that a setting has for a status.
 fn code_for(bytes: &[u8; 24], setting: &Setting) -> Option<u8>
     ensures { result ≡ code_for setting.now bytes.now }
@@ -51,11 +62,21 @@ fn set_field(bytes: &mut [u8; 24], setting: &Setting)
     }
 }
 
-/// Writes one setting after the other.
-pub fn set_fields(bytes: &mut [u8; 24], settings: &[Setting])
+/// Writes one code after the other.
+fn set_codes(bytes: &mut [u8; 24], settings: &[Setting; SETTINGS])
     ensures { bytes.new ≡ set_in_turn settings.now bytes.old }
 {
     for setting in settings {
         set_field(bytes, setting);
     }
+}
+
+/// Writes the codes one after the other, and then the fields of four bytes, which a status for
+/// consumer use has not.
+#[tactic(auto, unfolding(crate::specs::Settings::set_all))]
+pub fn set_fields(bytes: &mut [u8; 24], settings: &Settings)
+    ensures { bytes.new ≡ set_all settings.now bytes.old }
+{
+    set_codes(bytes, &settings.codes);
+    set_wide(bytes, &settings.wide);
 }

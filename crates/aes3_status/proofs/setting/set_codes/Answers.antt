@@ -3,7 +3,7 @@ use Rattle.std.proofs.lemmas.List.Sums.{fold_more}
 use Rattle.aes3_status.specs.declared.field.Field.TheVariants.{Use}
 use Rattle.aes3_status.specs.declared.setting.Setting.{Setting}
 use Rattle.aes3_status.specs.Settings.{set_in_turn, set_by}
-use Rattle.aes3_status.proofs.setting.set_fields.Goals as goal
+use Rattle.aes3_status.proofs.setting.set_codes.Goals as goal
 
 pub loop-setting-init : goal.loop-setting-init
 unfolding set_in_turn
