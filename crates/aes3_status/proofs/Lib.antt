@@ -1,5 +1,6 @@
 pub mod BitFields
 pub mod SetFields
+pub mod WideFields
 pub mod SettingLemmas
 pub mod SettingsApart
 pub mod Polynomials

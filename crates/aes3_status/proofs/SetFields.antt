@@ -1,5 +1,5 @@
 -- Bits of a byte, and with it of a status, replaced.
-use Rattle.std.proofs.Common.{◌≡◌, ℕ, zero, suc, ◌+◌, ◌-◌, ◌*◌, ◌/◌, ◌%◌, ◌^◌, ◌<◌, ◌≤◌, Bool, true, false, List, []}
+use Rattle.std.proofs.Common.{◌≡◌, ℕ, zero, suc, ◌+◌, ◌-◌, ◌*◌, ◌/◌, ◌%◌, ◌^◌, ◌<◌, ◌≤◌, Bool, List, []}
 use Rattle.std.proofs.Common.{◌∷◌, ◌++◌, length, take, drop, get_or, set, refl, ap, ap₂, ◌∙◌, sym, arith, append_assoc}
 use Rattle.std.proofs.Common.{length-append, length-drop}
 use Rattle.std.proofs.Math.Nat.{mod-eq_of_lt, mul_assoc, mul_comm, mul-add, pow-le-pow_right}
@@ -8,23 +8,23 @@ use Rattle.std.proofs.lemmas.List.{take-append-le, drop-append-le, drop-drop, dr
 use Rattle.std.proofs.lemmas.List.{take-append-drop}
 use Rattle.std.proofs.lemmas.Nat.{pow-add}
 use Rattle.aes3_bits.specs.Bits.{low_bits, number}
-use Rattle.aes3_status.specs.Bits.{byte_bits, status_bits}
+use Rattle.aes3_status.specs.Bits.{byte_bits, status_bits, with_part}
 use Rattle.aes3_status.specs.Settings.{with_bits}
 use Rattle.aes3_bits.proofs.Bits.{length-low_bits, low_bits-number, number-append, number-drop, number-low, number-lt}
 use Rattle.aes3_bits.proofs.Bits.{number-take}
 use Rattle.aes3_status.proofs.BitFields.{length-byte_bits}
 
 -- ---- a byte
-length-with_bits : (at : ℕ) (new bits : List Bool) → at + length new ≤ length bits
-    → length (with_bits at new bits) ≡ length bits
-length-with_bits at new bits h =
-    length-append (take at bits) (new ++ drop (at + length new) bits)
+pub length-with_part : {T : Type 0} (at : ℕ) (new items : List T) → at + length new ≤ length items
+    → length (with_part at new items) ≡ length items
+length-with_part at new items h =
+    length-append (take at items) (new ++ drop (at + length new) items)
     ∙ omega (
       arith,
-      length-take-le at bits (omega arith),
-      length-append new (drop (at + length new) bits),
+      length-take-le at items (omega arith),
+      length-append new (drop (at + length new) items),
       length-drop
-          (at + length new) bits,
+          (at + length new) items,
     )
 
 regrouped : (p q a d : ℕ) → p * (a + q * d) ≡ a * p + d * (p * q)
@@ -52,7 +52,7 @@ replaced-number n first count code h g =
 length-replaced : (n first count code : ℕ) → first + count ≤ 8
     → length (with_bits first (low_bits count code) (byte_bits n)) ≡ 8
 length-replaced n first count code g =
-    length-with_bits first (low_bits count code) (byte_bits n)
+    length-with_part first (low_bits count code) (byte_bits n)
     (omega (arith, length-low_bits count code, length-byte_bits n)) ∙ length-byte_bits n
 
 replaced-fits : (n first count code : ℕ) → first + count ≤ 8
@@ -103,7 +103,7 @@ status-set (x ∷ bytes) zero first new h g =
     let l = length-byte_bits x in
     let e : 8 * zero + first ≡ first = omega arith in
     ap (λ b. b ++ status_bits bytes)
-    (byte-bits-of (with_bits first new (byte_bits x)) (length-with_bits first new (byte_bits x) (omega arith) ∙ l))
+    (byte-bits-of (with_bits first new (byte_bits x)) (length-with_part first new (byte_bits x) (omega arith) ∙ l))
     ∙ append_assoc (take first (byte_bits x)) (new ++ drop (first + length new) (byte_bits x)) (status_bits bytes)
     ∙ ap₂ (λ a b. a ++ b) (sym (take-append-le first (byte_bits x) (status_bits bytes) (omega arith)))
     (append_assoc new (drop (first + length new) (byte_bits x)) (status_bits bytes)
@@ -121,43 +121,43 @@ status-set (x ∷ bytes) (suc byte) first new h g =
     ∙ ap (λ k. drop k (byte_bits x ++ status_bits bytes)) (sym d))
     ∙ ap (λ k. with_bits k new (byte_bits x ++ status_bits bytes)) (sym e)
 
--- ---- bits from another place
-pub new-back : (at : ℕ) (new bits : List Bool) → at + length new ≤ length bits
-    → take (length new) (drop at (with_bits at new bits)) ≡ new
-new-back at new bits h =
-    let l = length-take-le at bits (omega arith) in
-    let e : at ≡ length (take at bits) + 0 = omega arith in
+-- ---- what stands at another place
+pub new-back : {T : Type 0} (at : ℕ) (new items : List T) → at + length new ≤ length items
+    → take (length new) (drop at (with_part at new items)) ≡ new
+new-back at new items h =
+    let l = length-take-le at items (omega arith) in
+    let e : at ≡ length (take at items) + 0 = omega arith in
     let k : length new ≡ length new + 0 = omega arith in
-    ap (take (length new)) (ap (λ n. drop n (with_bits at new bits)) e
-    ∙ drop-append-add (take at bits) (new ++ drop (at + length new) bits) 0)
-    ∙ ap (λ n. take n (new ++ drop (at + length new) bits)) k
-    ∙ take-append-add new (drop (at + length new) bits) 0
+    ap (take (length new)) (ap (λ n. drop n (with_part at new items)) e
+    ∙ drop-append-add (take at items) (new ++ drop (at + length new) items) 0)
+    ∙ ap (λ n. take n (new ++ drop (at + length new) items)) k
+    ∙ take-append-add new (drop (at + length new) items) 0
     ∙ simp append-nil-take
   where
     append-nil-take : {X : Type 0} (xs ys : List X) → xs ++ take 0 ys ≡ xs
     append-nil-take [] ys = refl
     append-nil-take (x ∷ xs) ys = ap (λ zs. x ∷ zs) (append-nil-take xs ys)
 
-pub before-stays : (at from count : ℕ) (new bits : List Bool) → at + length new ≤ length bits → from + count ≤ at
-    → take count (drop from (with_bits at new bits)) ≡ take count (drop from bits)
-before-stays at from count new bits h g =
-    sym (drop-take from count (with_bits at new bits))
+pub before-stays : {T : Type 0} (at from count : ℕ) (new items : List T) → at + length new ≤ length items
+    → from + count ≤ at → take count (drop from (with_part at new items)) ≡ take count (drop from items)
+before-stays at from count new items h g =
+    sym (drop-take from count (with_part at new items))
     ∙ ap (drop from)
-    (take-append-le (from + count) (take at bits) (new ++ drop (at + length new) bits)
-    (omega (arith, length-take-le at bits (omega arith)))
-    ∙ sym (take-append-le (from + count) (take at bits) (drop at bits)
-    (omega (arith, length-take-le at bits (omega arith))))
-    ∙ ap (take (from + count)) (take-append-drop at bits))
-    ∙ drop-take from count bits
+    (take-append-le (from + count) (take at items) (new ++ drop (at + length new) items)
+    (omega (arith, length-take-le at items (omega arith)))
+    ∙ sym (take-append-le (from + count) (take at items) (drop at items)
+    (omega (arith, length-take-le at items (omega arith))))
+    ∙ ap (take (from + count)) (take-append-drop at items))
+    ∙ drop-take from count items
 
-pub behind-stays : (at from : ℕ) (new bits : List Bool) → at + length new ≤ length bits → at + length new ≤ from
-    → drop from (with_bits at new bits) ≡ drop from bits
-behind-stays at from new bits h g =
-    let l = length-take-le at bits (omega arith) in
-    let e : from ≡ length (take at bits) + (length new + (from - (at + length new))) = omega arith in
+pub behind-stays : {T : Type 0} (at from : ℕ) (new items : List T) → at + length new ≤ length items
+    → at + length new ≤ from → drop from (with_part at new items) ≡ drop from items
+behind-stays at from new items h g =
+    let l = length-take-le at items (omega arith) in
+    let e : from ≡ length (take at items) + (length new + (from - (at + length new))) = omega arith in
     let d : at + length new + (from - (at + length new)) ≡ from = omega arith in
-    ap (λ n. drop n (with_bits at new bits)) e
-    ∙ drop-append-add (take at bits) (new ++ drop (at + length new) bits) (length new + (from - (at + length new)))
-    ∙ drop-append-add new (drop (at + length new) bits) (from - (at + length new))
-    ∙ drop-drop (from - (at + length new)) (at + length new) bits
-    ∙ ap (λ n. drop n bits) d
+    ap (λ n. drop n (with_part at new items)) e
+    ∙ drop-append-add (take at items) (new ++ drop (at + length new) items) (length new + (from - (at + length new)))
+    ∙ drop-append-add new (drop (at + length new) items) (from - (at + length new))
+    ∙ drop-drop (from - (at + length new)) (at + length new) items
+    ∙ ap (λ n. drop n items) d

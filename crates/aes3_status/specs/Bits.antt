@@ -1,5 +1,5 @@
 -- The bits of a channel status in order of transmission, and the numbers that they stand for.
-use Rattle.std.specs.Prelude.{ℕ, zero, suc, List, [], ◌∷◌, ◌++◌, Bool, cond, take, drop, ◌+◌, ◌*◌, ◌%◌, ◌/◌, ◌==◌}
+use Rattle.std.specs.Prelude.{ℕ, zero, suc, List, [], ◌∷◌, ◌++◌, Bool, cond, length, take, drop, ◌+◌, ◌*◌, ◌%◌, ◌/◌, ◌==◌}
 use Rattle.aes3_status.specs.declared.place.Place.{Place}
 
 -- the lowest bits of a number, the one of weight 1 first
@@ -28,6 +28,10 @@ field byte bit count bytes = number (take count (drop (8 * byte + bit) (status_b
 -- a field of whole bytes: `count` bytes from byte `byte` on
 unfoldable pub bytes_field : ℕ → ℕ → List ℕ → List ℕ
 bytes_field byte count bytes = take count (drop byte bytes)
+
+-- these items in place of as many from place `at` on
+abbrev pub with_part : {T : Type 0} → ℕ → List T → List T → List T
+with_part at new items = take at items ++ (new ++ drop (at + length new) items)
 
 -- `count` bits from bit `first` of byte `byte` on
 abbrev pub place : ℕ → ℕ → ℕ → Place

@@ -1,5 +1,5 @@
 -- Fields of channel status that get another code.
-use Rattle.std.specs.Prelude.{ℕ, List, ◌++◌, Bool, true, not, Option, Some, None, ◌+◌, length, take, drop, get_or}
+use Rattle.std.specs.Prelude.{ℕ, List, Bool, true, not, Option, Some, None, get_or}
 use Rattle.std.specs.Prelude.{slice_set, fold, if◌then◌else◌}
 use Rattle.std.specs.Option.{option_map_or}
 use Rattle.aes3_status.specs.declared.place.Place.{Place}
@@ -12,7 +12,7 @@ use Rattle.aes3_status.specs.declared.field.Field.TheVariants.{Use, Professional
 use Rattle.aes3_status.specs.declared.setting.Setting.{Setting}
 use Rattle.aes3_status.specs.declared.setting.Settings.{Settings}
 use Rattle.aes3_bits.specs.Bits.{low_bits, number}
-use Rattle.aes3_status.specs.Bits.{byte_bits, number_at, place}
+use Rattle.aes3_status.specs.Bits.{byte_bits, number_at, place, with_part}
 use Rattle.aes3_status.specs.Statuses.{is_professional}
 use Rattle.aes3_status.specs.Professional as professional
 use Rattle.aes3_status.specs.Consumer as consumer
@@ -20,7 +20,7 @@ use Rattle.aes3_status.specs.Wide.{set_wide}
 
 -- these bits with the new ones in place of as many from place `at` on
 abbrev pub with_bits : ℕ → List Bool → List Bool → List Bool
-with_bits at new bits = take at bits ++ (new ++ drop (at + length new) bits)
+with_bits at new bits = with_part at new bits
 
 -- a status with the lowest bits of a number in a field within one byte
 unfoldable pub with_field : Place → ℕ → List ℕ → List ℕ

@@ -1,11 +1,11 @@
 -- The fields of professional channel status that have four whole bytes (AES3-2), set as a whole.
-use Rattle.std.specs.Prelude.{ℕ, List, ◌++◌, Option, Some, None, true, ◌≡◌, ◌+◌, length, take, drop}
+use Rattle.std.specs.Prelude.{ℕ, List, Option, Some, None, true, ◌≡◌, length, take, drop}
 use Rattle.std.specs.Prelude.{if◌then◌else◌}
 use Rattle.std.specs.Option.{unwrap_or}
 use Rattle.aes3_status.specs.declared.wide.WideField.{WideField}
 use Rattle.aes3_status.specs.declared.wide.WideField.TheVariants.{Origin, Destination, Local, Time}
 use Rattle.aes3_status.specs.declared.wide.WideSettings.{WideSettings}
-use Rattle.aes3_status.specs.Bits.{bytes_field}
+use Rattle.aes3_status.specs.Bits.{bytes_field, with_part}
 use Rattle.aes3_status.specs.Statuses.{is_professional}
 
 -- the first byte of a field
@@ -25,7 +25,7 @@ wide_given wide Time = wide.time
 -- these bytes in place of as many from byte `at` on, where some are given
 abbrev pub set_four : ℕ → Option (List ℕ) → List ℕ → List ℕ
 set_four at None bytes = bytes
-set_four at (Some four) bytes = take at bytes ++ (four ++ drop (at + length four) bytes)
+set_four at (Some four) bytes = with_part at four bytes
 
 -- professional status with them; consumer status stays
 unfoldable pub set_wide : WideSettings → List ℕ → List ℕ
