@@ -24,7 +24,7 @@ CATEGORIES = {
     0x08 | 0x70: "other-solid-state", 0x40: "experimental",
 }  # fmt: skip
 # The fields of a line that can't be set by name.
-UNSET = ("origin", "destination", "local", "time", "check", "rest")
+UNSET = ("check", "rest")
 ORIGINALS = "not-indicated 192000 12000 176400 - 96000 8000 88200 16000 24000 11025 22050 32000 48000 - 44100".split()
 CAUSES = ("preamble", "biphase", "unclosed")
 ROOT = os.path.dirname(os.path.dirname(os.path.realpath(__file__)))

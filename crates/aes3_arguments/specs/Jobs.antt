@@ -24,7 +24,7 @@ use Rattle.aes3_frame.specs.declared.status.Channel.TheVariants.{First, Second}
 use Rattle.aes3_status.specs.declared.carried.CarriedBits.{CarriedBits}
 use Rattle.aes3_status.specs.declared.carried.CarriedBits.TheVariants.{Validity, User, Status}
 use Rattle.aes3_status.specs.declared.change.Change.{Change}
-use Rattle.aes3_status.specs.declared.setting.Setting.{Setting}
+use Rattle.aes3_status.specs.declared.setting.Settings.{Settings}
 use Rattle.aes3_settings.specs.Choices.{choices}
 use Rattle.aes3_settings.specs.Settings.{AreSettingsOf, IsSettingsFault}
 use Rattle.aes3_settings.specs.declared.listed.SettingsFault.{SettingsFault}
@@ -225,12 +225,12 @@ abbrev pub IsStatus : Options → Text → Option (List ℕ) → Type 0
 IsStatus options name bytes = HasStatus (first_of name options) bytes
 
 -- the settings that an option's texts name; none where the option is left out
-abbrev pub HaveSettings : Option (List Text) → Option (List Setting) → Type 0
+abbrev pub HaveSettings : Option (List Text) → Option Settings → Type 0
 HaveSettings None settings = settings ≡ None
 HaveSettings (Some texts) None = ⊥
 HaveSettings (Some texts) (Some settings) = AreSettingsOf texts settings
 
-abbrev pub AreSettings : Options → Text → Option (List Setting) → Type 0
+abbrev pub AreSettings : Options → Text → Option Settings → Type 0
 AreSettings options name settings = HaveSettings (all_of name options) settings
 
 abbrev pub IsChange : Options → Change → Type 0
@@ -435,8 +435,8 @@ HasBadStatus options =
 
 -- what the options set of both channels can be set
 abbrev pub HaveAllSettings : Options → Type 0
-HaveAllSettings options = ((settings : Option (List Setting)) × AreSettings options (codes "set1") settings)
-    × ((settings : Option (List Setting)) × AreSettings options (codes "set2") settings)
+HaveAllSettings options = ((settings : Option Settings) × AreSettings options (codes "set1") settings)
+    × ((settings : Option Settings) × AreSettings options (codes "set2") settings)
 
 -- a status text is none, and nothing else is wrong
 abbrev pub IsStatusRefused : Options → Type 0

@@ -23,7 +23,7 @@ use aes3_cell::{Form, RunError};
 use aes3_commands::help;
 use aes3_job::Job;
 use aes3_settings::{Lines, SettingsFault, settings_of_texts};
-use aes3_status::{Change, SETTINGS, Setting};
+use aes3_status::{Change, Settings};
 use clap::ArgMatches;
 use std::alloc::{AllocError, Global};
 
@@ -221,7 +221,7 @@ fn settings(
     options: &ArgMatches<'_>,
     name: &str,
     usage: &str,
-) -> Result<Option<[Setting; SETTINGS]>, LineFault>
+) -> Result<Option<Settings>, LineFault>
     ensures settings { IfOk result (AreSettings (options_of options.now) name.now) }
     ensures fault { IfErr result (IsSettingsFaultOf (options_of options.now) name.now usage.now) }
 {

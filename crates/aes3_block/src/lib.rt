@@ -22,4 +22,4 @@ pub use cells_out::{put_block, put_block_cells};
 pub use file::{BlockFile, FileFault};
 pub use file_out::{bytes_of_block, put_block_file};
 pub use read_cells::put_read_block;
-pub use samples_out::{put_block_samples, samples_of_block};
+pub use samples_out::samples_of_block;

@@ -1,13 +1,11 @@
 //! Samples as they are written for sound programs.
 
-ghost use Rattle.std.specs.Prelude.{◌≡◌, ◌<◌, ◌+◌, ◌^◌, map};
+ghost use Rattle.std.specs.Prelude.{◌≡◌, map};
 ghost use Rattle.std.specs.List.{flat_map};
-ghost use Rattle.aes3_cell.specs.Writes.{Wrote};
 ghost use Rattle.aes3_frame.specs.Files.{payload_of, word_bytes};
 ghost use Rattle.aes3_frame.specs.Samples.{block_samples, sample_of};
 
 use crate::file_out::blank_bytes;
-use aes3_cell::{Fault, Sink, write_all};
 use aes3_frame::{AUDIO_LIMIT, BLOCK_BYTES, Block, SLOTS, payload_of_word};
 
 /// The sample in a word of a block file, in the highest 24 of 32 bits.
@@ -35,15 +33,4 @@ pub fn samples_of_block(block: &Block) -> [u8; BLOCK_BYTES]
     ensures { result ≡ block_samples block.now }
 {
     bytes_of_samples(block.words())
-}
-
-/// Writes the samples of a block, as `samples_of_block` says; handed on as one buffer.
-///
-/// # Errors
-/// The sink's fault; then it has taken a front of the bytes.
-pub fn put_block_samples<T: Sink>(block: &Block, sink: &mut T) -> Result<(), Fault>
-    requires room { T.failed sink.old + 1 < 2 ^ 64 }
-    ensures { Wrote T.taken T.failed sink.old sink.new (block_samples block.now) result }
-{
-    write_all(sink, &samples_of_block(block))
 }

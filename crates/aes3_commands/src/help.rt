@@ -141,8 +141,8 @@ pub const FROM_PCM: Texts<'static> = Texts {
 ALSA's S32_LE). The header of a WAV file before them is refused (`sox FILE -t s32 -`
 leaves it off). The 24 highest bits of each are the sample, the lowest 8 are dropped;
 with --exact they have to be zero. With --pcm s24, s24in32 or s16 they are in that form, as
-`aes3 to-pcm` has it, and none is refused: the highest byte of s24in32 does not count, and
-the 8 bits that s16 lacks are zero. Samples that are zero fill up the last block.
+`aes3 to-pcm` has it, and --exact refuses none: the highest byte of s24in32 does not count,
+and the 8 bits that s16 lacks are zero. Samples that are zero fill up the last block.
 Writes a block file with V and U 0 and the channel status that the options give, as `aes3
 rewrite` has them, else zeros: that is consumer status, whose fields --set1 NAME=WORD and
 --set2 NAME=WORD then set. With --words alsa or am824 its words are in that form, as `aes3
@@ -313,13 +313,14 @@ Writes what it would, with the channel status of each block set as the options a
 HEX48 is the 24 bytes of a channel's status as 48 hexadecimal digits, byte 0 first. Then
 --set1 NAME=WORD and --set2 NAME=WORD set fields, by the names and words that `aes3 show`
 prints, with --names too, and use=professional or use=consumer sets the use; each may
-stand 32 times, and they are set in that order. A status for the use that has no such
-field stays as it is, and so does one in which the word has no code, as a consumer one for
-word=24 without greatest=24 before it. With --mend-check byte 23 of each channel whose
-status is professional then becomes its check byte. --valid1 0 and --valid2 0 make V of
-all subframes of a channel 0, which says that their samples can be taken as they are; with
-1 it says that they can't. --clear-user1 and --clear-user2 make U of all of them 0.
-Without any option the blocks are as they were.
+stand 32 times, and they are set in that order, origin=, destination=, local= and time=
+behind the others. A status for the use that has no such field stays as it is, and so does
+one in which the word has no code, as a consumer one for word=24 without greatest=24
+before it. With --mend-check byte 23 of each channel whose status is professional then
+becomes its check byte. --valid1 0 and --valid2 0 make V of all subframes of a channel 0,
+which says that their samples can be taken as they are; with 1 it says that they can't.
+--clear-user1 and --clear-user2 make U of all of them 0. Without any option the blocks are
+as they were.
 
 Exit status: 0 done, also where no block was found; 3 refused: 9 a status is not 48
 hexadecimal digits, and nothing is read, 1 a byte is no cell, 10 packed cells end
@@ -329,6 +330,7 @@ Examples:
     aes3 rewrite --mend-check < line.txt > mended.txt
     aes3 rewrite --valid1 0 --valid2 0 --clear-user1 --clear-user2 < line.txt > clear.txt
     aes3 rewrite --set1 rate=48000 --set1 emphasis=none --mend-check < line.txt > new.txt
+    aes3 rewrite --set1 origin=JATH --set1 local=0 --mend-check < line.txt > named.txt
     aes3 rewrite --status2 040000020b00000000000000000000000000000000000000 < line.txt > new.txt",
 };
 

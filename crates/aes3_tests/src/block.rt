@@ -1,9 +1,7 @@
 //! Where a block carries channel status, its samples, and block files read by words.
 
 use crate::status::with_byte;
-use aes3_block::{Block, BlockFile, Channel, FileFault, Frame, Subframe, put_block_samples};
-use aes3_cell::MemorySink;
-use std::alloc::Global;
+use aes3_block::{Block, BlockFile, Channel, FileFault, Frame, Subframe, samples_of_block};
 
 /// Whether of all first payloads of a block that of one frame alone has a bit, the last but one, and
 /// no second payload has any.
@@ -112,16 +110,15 @@ fn with_last_frame() -> Option<Block> {
 }
 
 /// Whether the samples of a block are zeros but for the last two, which are these.
-fn ends_in_samples(alloc: Global, block: &Block, last: &[u8; 8]) -> bool {
-    let mut sink = MemorySink::new(alloc);
+fn ends_in_samples(block: &Block, last: &[u8; 8]) -> bool {
     let mut samples = [0; 1_536];
     samples[1_528..].copy_from_slice(last);
-    put_block_samples(block, &mut sink).is_ok() && sink.bytes() == samples.as_slice()
+    samples_of_block(block) == samples
 }
 
 #[test]
 fn samples_of_the_last_frame(rt: HostRuntime) {
     let block = with_last_frame().expect(&rt, "audio of 24 bits");
     let last = [0, 0x56, 0x34, 0x12, 0, 0x01, 0, 0x80];
-    assert!(rt; ends_in_samples(rt.alloc(), &block, &last));
+    assert!(rt; ends_in_samples(&block, &last));
 }

@@ -6,7 +6,7 @@ use aes3_block::{Block, Channel};
 use aes3_cell::{Level, MemorySink};
 use aes3_lock::{Report, Why};
 use aes3_slot::Mark;
-use aes3_status::{SETTINGS, Setting, set_fields};
+use aes3_status::{SETTINGS, Setting, Settings, WideSettings, set_fields};
 use aes3_text::{
     Detail, consumer_setting, line_of_mark, line_of_report, line_of_status, line_of_status_with,
     professional_setting, text_of_detail,
@@ -331,12 +331,16 @@ fn details_of_status_lines(rt: HostRuntime) {
     );
 }
 
-/// A rate for each use of channel status.
-fn rates() -> Option<[Setting; SETTINGS]> {
-    let mut settings = [Setting::NOTHING; SETTINGS];
-    settings[0] = professional_setting("rate=32000")?;
-    settings[1] = consumer_setting("rate=32000")?;
-    Some(settings)
+/// A rate for each use of channel status, and an origin.
+fn rates() -> Option<Settings> {
+    let mut codes = [Setting::NOTHING; SETTINGS];
+    codes[0] = professional_setting("rate=32000")?;
+    codes[1] = consumer_setting("rate=32000")?;
+    let wide = WideSettings {
+        origin: Some(*b"JATH"),
+        ..WideSettings::NOTHING
+    };
+    Some(Settings { codes, wide })
 }
 
 /// Fields that are set by name are shown by name, in the code of each use.
@@ -349,4 +353,5 @@ fn fields_set_by_name(rt: HostRuntime) {
     set_fields(&mut consumer, &settings);
     let is_unknown = professional_setting("rate=96000").is_none();
     assert!(rt; (professional[0], consumer[3], is_unknown) == (0xC1, 0x03, true));
+    assert!(rt; professional[6..10] == *b"JATH" && consumer[6..10] == [0; 4]);
 }
