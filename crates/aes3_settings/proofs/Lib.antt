@@ -3,3 +3,4 @@ pub mod SettingTexts
 pub mod SettingLists
 pub mod SettingLines
 pub mod ChoiceTexts
+pub mod WideNumbers

@@ -1,18 +1,20 @@
 -- Settings by the texts of their codes.
 use Rattle.std.proofs.Common.{◌≡◌, ℕ, ◌+◌, ◌<◌, ◌≤◌, ◌⊎◌, inl, inr, Bool, true, false, cond, List, length, take, get_or}
 use Rattle.std.proofs.Common.{Option, Some, None, refl, ap, ap₂, ◌∙◌, ◌++◌, ◌↔◌, sym, subst, arith}
-use Rattle.std.specs.Prelude.{IfSome, IsTrue, codes}
+use Rattle.std.specs.Prelude.{IfSome, IsTrue, codes, is_some}
 use Rattle.std.proofs.Math.Nat.{mod-eq_of_lt}
 use Rattle.std.proofs.lemmas.Bool.{cases_lt}
 use Rattle.std.proofs.lemmas.List.{get_or-take, get_or_default, length-take-le}
 use Rattle.aes3_status.specs.declared.field.Field.{Field}
 use Rattle.aes3_status.specs.declared.setting.Setting.{Setting}
+use Rattle.aes3_status.specs.declared.wide.WideField.{WideField}
 use Rattle.aes3_status.specs.Bits.{number_at}
 use Rattle.aes3_status.specs.Settings.{is_for, place_of, set_by, under}
 use Rattle.aes3_status.proofs.SettingLemmas.{meaning-stays, setting-back, under-few}
 use Rattle.aes3_settings.specs.Names.{name_text}
 use Rattle.aes3_settings.specs.Settings.{code_text, shown_of, named_of, IsPrintedSo, IsCodeOf, IsSettingOf, IsNoSetting}
-use Rattle.aes3_settings.specs.Settings.{IsShownThen}
+use Rattle.aes3_settings.specs.Settings.{IsShownThen, IsUnknown, consumer_fields, professional_fields}
+use Rattle.aes3_settings.specs.WideTexts.{wide_in}
 
 -- one more field of which no code is printed so
 pub more-none : (text : List ℕ) (fields : List Field) (i : ℕ) (d : Field) → i < length fields
@@ -96,3 +98,24 @@ is-known text fields setting is none = go (get_or setting.codes is.some.0 None) 
     go : (o : Option ℕ) → get_or setting.codes is.some.0 None ≡ o → ⊥
     go None e = is.some.2 e
     go (Some code) e = none setting.field is.some.0 code is.field is.some.1 (is.is is.some.0 code is.some.1 e)
+
+none-found : (text : List ℕ) (fields : List Field) (o : Option Setting) → IfSome o (IsSettingOf text fields)
+    → IsNoSetting text fields → is_some o ≡ false
+none-found text fields None found none = refl
+none-found text fields (Some setting) found none = absurd (is-known text fields setting found none)
+
+apart : (b : Bool) → b ≡ false → b ≡ true → ⊥
+apart true e h = cc
+apart false e h = cc
+
+-- a text that sets something is known
+pub known-by : (text : List ℕ) (professional consumer : Option Setting) (wide : Option (WideField × List ℕ))
+    → IfSome professional (IsSettingOf text professional_fields)
+    → IfSome consumer (IsSettingOf text consumer_fields) → wide ≡ wide_in text
+    → (is_some professional ≡ true) ⊎ (is_some consumer ≡ true) ⊎ (is_some wide ≡ true) → ¬ IsUnknown text
+known-by text professional consumer wide found also is (inl some) unknown =
+    apart (is_some professional) (none-found text professional_fields professional found unknown.0) some
+known-by text professional consumer wide found also is (inr (inl some)) unknown =
+    apart (is_some consumer) (none-found text consumer_fields consumer also unknown.1) some
+known-by text professional consumer wide found also is (inr (inr some)) unknown =
+    apart (is_some wide) (ap is_some (is ∙ unknown.2)) some

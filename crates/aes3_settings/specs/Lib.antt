@@ -3,6 +3,7 @@ pub mod Fields
 pub mod Professional
 pub mod Consumer
 pub mod Names
+pub mod WideTexts
 pub mod Settings
 pub mod StatusTexts
 pub mod Choices

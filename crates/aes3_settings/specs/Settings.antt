@@ -7,6 +7,7 @@ use Rattle.aes3_status.specs.declared.field.ConField.TheVariants as con
 use Rattle.aes3_status.specs.declared.field.Field.{Field}
 use Rattle.aes3_status.specs.declared.field.Field.TheVariants.{Use, Professional, Consumer}
 use Rattle.aes3_status.specs.declared.setting.Setting.{Setting}
+use Rattle.aes3_status.specs.declared.setting.Settings.{Settings}
 use Rattle.aes3_status.specs.Professional as status
 use Rattle.aes3_status.specs.Consumer as consumer_status
 use Rattle.aes3_status.specs.Bits.{number_at}
@@ -18,6 +19,7 @@ use Rattle.aes3_settings.specs.Fields.{field_text, shown}
 use Rattle.aes3_settings.specs.Professional as professional
 use Rattle.aes3_settings.specs.Consumer as consumer
 use Rattle.aes3_settings.specs.Names.{name_text}
+use Rattle.aes3_settings.specs.WideTexts.{wide_in, wide_of_texts}
 use Rattle.aes3_settings.specs.Words.{use_words, word_for}
 
 -- what `show` prints of a code of a field, where another field tells what its codes mean; of the use the word alone
@@ -70,20 +72,22 @@ nothing = record { field = Consumer con.Payload; codes = replicate 8 None }
 abbrev pub IsSetBy : List ℕ → List Field → Setting → Type 0
 IsSetBy text fields setting = IsSettingOf text fields setting ⊎ ((setting ≡ nothing) × IsNoSetting text fields)
 
--- no code of a field is printed as the text, for either use
+-- no code of a field is printed as the text, for either use, and it sets no field of four bytes
 abbrev pub IsUnknown : List ℕ → Type 0
-IsUnknown text = IsNoSetting text professional_fields × IsNoSetting text consumer_fields
+IsUnknown text =
+    IsNoSetting text professional_fields × IsNoSetting text consumer_fields × (wide_in text ≡ None)
 
--- what texts set, in their order: of text `k` that of professional status at `2 k`, that of consumer status behind it;
--- each sets something
-pub record AreSettingsOf (texts : List (List ℕ)) (settings : List Setting) : Type 0 where
+-- what texts set, in their order: of text `k` that of professional status at `2 k`, that of consumer status behind it,
+-- and apart from them the fields of four bytes; each sets something
+pub record AreSettingsOf (texts : List (List ℕ)) (settings : Settings) : Type 0 where
   pub few : length texts ≤ 32
   pub known : (k : ℕ) → k < length texts → ¬ IsUnknown (get_or texts k [])
   pub professional : (k : ℕ) → k < length texts
-      → IsSetBy (get_or texts k []) professional_fields (get_or settings (2 * k) nothing)
+      → IsSetBy (get_or texts k []) professional_fields (get_or settings.codes (2 * k) nothing)
   pub consumer : (k : ℕ) → k < length texts
-      → IsSetBy (get_or texts k []) consumer_fields (get_or settings (2 * k + 1) nothing)
-  pub rest : (k : ℕ) → 2 * length texts ≤ k → get_or settings k nothing ≡ nothing
+      → IsSetBy (get_or texts k []) consumer_fields (get_or settings.codes (2 * k + 1) nothing)
+  pub rest : (k : ℕ) → 2 * length texts ≤ k → get_or settings.codes k nothing ≡ nothing
+  pub wide : settings.wide ≡ wide_of_texts texts
 
 -- why texts have no settings: the first that is unknown, or that there are more than may stand
 abbrev pub IsSettingsFault : List (List ℕ) → SettingsFault → Type 0

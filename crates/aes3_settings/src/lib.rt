@@ -29,6 +29,8 @@ mod settings;
 mod status;
 /// How the lines of events are written.
 mod style;
+/// The fields that have four whole bytes, by their names.
+mod wide;
 /// The words that the codes of a field are printed as.
 mod words;
 

@@ -1,7 +1,8 @@
-use Rattle.std.proofs.Common.{◌≡◌, ℕ, List, [], length, map, Bor, arith, sym, subst}
+use Rattle.std.proofs.Common.{◌≡◌, ℕ, List, [], length, map, Bor, ◌∙◌, ap, arith, sym, subst}
 use Rattle.std.proofs.Math.ListN.{get_or-map}
 use Rattle.std.proofs.lemmas.List.{length-map}
 use Rattle.aes3_settings.specs.Settings.{IsSetBy, IsUnknown, consumer_fields, professional_fields}
+use Rattle.aes3_settings.specs.WideTexts.{wide_in, with_wide}
 use Rattle.aes3_settings.proofs.SettingLists.{none-set, one-more, all-set}
 use Rattle.aes3_settings.proofs.listed.settings_of_texts.Goals as goal
 
@@ -17,10 +18,11 @@ loop-at-preserved c =
     (get_or-map (λ (text : Bor (List ℕ)). text.now) c.args.texts.now c.loop-at.at
     (record { ref_ptr = (0, 0); now = [] })) in
     one-more texts c.loop-at.at c.loop-at.settings c.in-Some.pair.professional c.in-Some.pair.consumer
-    (omega (arith, len)) (omega (arith, len)) c.loop-at.invariant
+    c.take_wide.new.wide (omega (arith, len)) (omega (arith, len)) c.loop-at.invariant
     (subst (λ text. ¬ IsUnknown text) at c.in-Some.ensures.known)
     (subst (λ text. IsSetBy text professional_fields c.in-Some.pair.professional) at c.in-Some.ensures.professional)
     (subst (λ text. IsSetBy text consumer_fields c.in-Some.pair.consumer) at c.in-Some.ensures.consumer)
+    (c.take_wide.ensures ∙ ap (λ o. with_wide o c.loop-at.settings.wide) (c.in-Some.ensures.wide ∙ ap wide_in at))
 
 pub returns-clause-settings : goal.returns-clause-settings
 returns-clause-settings c =
