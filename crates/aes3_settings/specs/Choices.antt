@@ -2,16 +2,24 @@
 use Rattle.std.specs.Prelude.{ℕ, List, [], ◌∷◌, ◌++◌, Bool, not, ◌&&◌, ◌||◌, ◌==◌, ◌^◌, nat_lt, if◌then◌else◌, codes}
 use Rattle.std.specs.Prelude.{decimal}
 use Rattle.std.specs.List.{before_first, flat_map, list_any, range_with_len}
+use Rattle.std.specs.Option.{option_map_or}
 use Rattle.std.specs.Str.{bytes_eq}
 use Rattle.aes3_status.specs.declared.field.Field.{Field}
+use Rattle.aes3_status.specs.declared.wide.WideField.{WideField}
+use Rattle.aes3_status.specs.declared.wide.WideField.TheVariants.{Origin, Destination, Local, Time}
 use Rattle.aes3_status.specs.Settings.{place_of}
 use Rattle.aes3_settings.specs.Fields.{field_text}
 use Rattle.aes3_settings.specs.Names.{name_of, name_text}
 use Rattle.aes3_settings.specs.Settings.{code_text, consumer_fields, professional_fields}
+use Rattle.aes3_settings.specs.WideTexts.{is_equals, wide_name, wide_named}
 
--- whether the text has the field's name: what stands before its first `=`, or all of it
+-- the name in a text: what stands before its first `=`, or all of it
+abbrev pub name_in : List ℕ → List ℕ
+name_in text = before_first is_equals text
+
+-- whether the text has the field's name
 abbrev pub is_named : List ℕ → Field → Bool
-is_named text f = bytes_eq (before_first (λ byte. byte == 61) text) (name_of f)
+is_named text f = bytes_eq (name_in text) (name_of f)
 
 -- the numbers from 0 on below this one
 abbrev pub below : ℕ → List ℕ
@@ -73,15 +81,34 @@ abbrev pub names_of : List Field → List ℕ
 names_of fields = flat_map (λ f. codes " " ++ name_of f) fields
 
 -- the line of the fields for one use: what those of the name can be set to, or if there is none for either use the
--- names of all
-unfoldable pub use_choices : List ℕ → List Field → List ℕ → List ℕ
-use_choices head fields text =
+-- names of all, and more of them behind these
+unfoldable pub use_choices : List ℕ → List Field → List ℕ → List ℕ → List ℕ
+use_choices head fields more text =
     if is_known text
     then (if has_name fields text then head ++ flat_map (named_choices text) fields ++ 10 ∷ [] else [])
-    else head ++ names_of fields ++ 10 ∷ []
+    else head ++ names_of fields ++ more ++ 10 ∷ []
 
--- what could stand in place of the text, a line for each use
+-- the names of the fields of four bytes
+abbrev pub wide_names : List ℕ
+wide_names = codes " origin destination local time"
+
+-- a line for each use
+unfoldable pub both_choices : List ℕ → List ℕ
+both_choices text =
+    use_choices (codes "  professional:") professional_fields wide_names text
+    ++ use_choices (codes "  consumer:") consumer_fields [] text
+
+-- what a field of four bytes can be set to
+abbrev pub wide_word : WideField → List ℕ
+wide_word Origin = codes "four characters from ! to ~"
+wide_word Destination = codes "four characters from ! to ~"
+wide_word Local = codes "a number below 4294967296"
+wide_word Time = codes "a number below 4294967296"
+
+-- the line of a field of four bytes
+abbrev pub wide_choice : WideField → List ℕ
+wide_choice f = codes "  professional: " ++ wide_name f ++ codes "= and " ++ wide_word f ++ 10 ∷ []
+
+-- what could stand in place of the text: where it names a field of four bytes its line, else a line for each use
 unfoldable pub choices : List ℕ → List ℕ
-choices text =
-    use_choices (codes "  professional:") professional_fields text
-    ++ use_choices (codes "  consumer:") consumer_fields text
+choices text = option_map_or wide_choice (wide_named (name_in text)) (both_choices text)

@@ -1,5 +1,5 @@
 -- Texts `NAME=WORD` of the fields of professional channel status that have four whole bytes (AES3-2).
-use Rattle.std.specs.Prelude.{ℕ, List, [], ◌∷◌, Bool, ◌&&◌, ◌==◌, Option, Some, None, ◌^◌, codes, length, fold}
+use Rattle.std.specs.Prelude.{ℕ, List, Bool, ◌&&◌, ◌==◌, Option, Some, None, ◌^◌, codes, length, fold}
 use Rattle.std.specs.Prelude.{nat_le, nat_lt, option_and_then, option_map, if◌then◌else◌}
 use Rattle.std.specs.Char.{digit_value}
 use Rattle.std.specs.Int.{to_le_bytes, w32}

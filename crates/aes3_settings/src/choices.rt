@@ -5,28 +5,39 @@ ghost use Rattle.std.specs.List.{flat_map, list_any};
 ghost use Rattle.aes3_settings.specs.Choices.{below, choices, code_choice, code_choices, code_count};
 ghost use Rattle.aes3_settings.specs.Choices.{field_choices, has_name, has_word};
 ghost use Rattle.aes3_settings.specs.Choices.{is_known, is_named, is_printed, is_told};
-ghost use Rattle.aes3_settings.specs.Choices.{name_choices, named_choices, names_of, use_choices};
+ghost use Rattle.aes3_settings.specs.Choices.{name_choices, name_in, named_choices, names_of};
+ghost use Rattle.aes3_settings.specs.Choices.{use_choices, wide_choice};
 ghost use Rattle.aes3_settings.specs.Names.{name_of, name_text};
 ghost use Rattle.aes3_settings.specs.Settings.{code_text};
 
 use crate::line::Line;
 use crate::names::{name_of, name_of_code};
 use crate::settings::{CONSUMER, PROFESSIONAL, put_code};
-use aes3_status::Field;
+use crate::wide::wide_named;
+use aes3_status::{Field, WideField};
 use std::alloc::AllocError;
 
 /// How many codes a byte has.
 const BYTE_CODES: u32 = 256;
 
+/// The names of the fields of four bytes, as they stand behind the others.
+const WIDE_NAMES: &str = " origin destination local time";
+
+/// The name in a text `NAME=WORD`: what stands before its first `=`, or all of it.
+fn name_in(setting: &str) -> &str
+    ensures { result.now ≡ name_in setting.now }
+{
+    match setting.split_once('=') {
+        Some((name, _)) => name,
+        None => setting,
+    }
+}
+
 /// Whether a text `NAME=WORD` has the field's name.
 fn is_named(setting: &str, field: Field) -> bool
     ensures { result ≡ is_named setting.now field }
 {
-    let name = match setting.split_once('=') {
-        Some((name, _)) => name,
-        None => setting,
-    };
-    name == name_of(field)
+    name_in(setting) == name_of(field)
 }
 
 /// Whether one of the fields has the name of a text `NAME=WORD`.
@@ -207,25 +218,37 @@ fn add_named_line(
     text.push_str("\n")
 }
 
-/// Appends a line of the names of the fields.
-fn add_names_line(text: &mut String, head: &str, fields: &[Field]) -> Result<(), AllocError>
+/// Appends a line of the names of the fields, and of more behind them.
+fn add_names_line(
+    text: &mut String,
+    head: &str,
+    fields: &[Field],
+    more: &str,
+) -> Result<(), AllocError>
     ensures { IfOk result (λ _. text.new.bytes.items
-        ≡ text.old.bytes.items ++ (head.now ++ names_of fields.now ++ 10 ∷ [])) }
+        ≡ text.old.bytes.items ++ (head.now ++ names_of fields.now ++ more.now ++ 10 ∷ [])) }
 {
     text.push_str(head)?;
     add_names(text, fields)?;
+    text.push_str(more)?;
     text.push_str("\n")
 }
 
 /// Appends the line of the fields for one use: what those with the name of a text `NAME=WORD` can
-/// be set to, or, where no field for either use has it, the names of all.
+/// be set to, or, where no field for either use has it, the names of all, and more behind them.
 #[tactic(auto, unfolding(crate::specs::Choices::use_choices))]
-fn add_use(text: &mut String, head: &str, fields: &[Field], setting: &str) -> Result<(), AllocError>
+fn add_use(
+    text: &mut String,
+    head: &str,
+    fields: &[Field],
+    more: &str,
+    setting: &str,
+) -> Result<(), AllocError>
     ensures { IfOk result (λ _. text.new.bytes.items
-        ≡ text.old.bytes.items ++ use_choices head.now fields.now setting.now) }
+        ≡ text.old.bytes.items ++ use_choices head.now fields.now more.now setting.now) }
 {
     if !is_known(setting) {
-        return add_names_line(text, head, fields);
+        return add_names_line(text, head, fields, more);
     }
     if !has_name(fields, setting) {
         return Ok(());
@@ -233,15 +256,37 @@ fn add_use(text: &mut String, head: &str, fields: &[Field], setting: &str) -> Re
     add_named_line(text, head, fields, setting)
 }
 
-/// Appends what can be set in place of a text `NAME=WORD` that sets nothing, a line for each use:
-/// where a field has the name what it can be set to, else the names of the fields. Codes without a
-/// word are left out.
+/// The line of what a field of four bytes can be set to.
+fn wide_line(field: WideField) -> &'static str
+    ensures { result.now ≡ wide_choice field }
+{
+    match field {
+        WideField::Origin => "  professional: origin= and four characters from ! to ~\n",
+        WideField::Destination => "  professional: destination= and four characters from ! to ~\n",
+        WideField::Local => "  professional: local= and a number below 4294967296\n",
+        WideField::Time => "  professional: time= and a number below 4294967296\n",
+    }
+}
+
+/// Appends the line of what a field of four bytes can be set to.
+fn add_wide_line(text: &mut String, field: WideField) -> Result<(), AllocError>
+    ensures { IfOk result (λ _. text.new.bytes.items ≡ text.old.bytes.items ++ wide_choice field) }
+{
+    text.push_str(wide_line(field))
+}
+
+/// Appends what can be set in place of a text `NAME=WORD` that sets nothing: where a field of four
+/// bytes has the name its words, else a line for each use of what a field of the name can be set
+/// to, or of the names of the fields. Codes without a word are left out.
 ///
 /// # Errors
 /// Memory was refused.
 pub fn add_choices(text: &mut String, setting: &str) -> Result<(), AllocError>
     ensures { IfOk result (λ _. text.new.bytes.items ≡ text.old.bytes.items ++ choices setting.now) }
 {
-    add_use(text, "  professional:", PROFESSIONAL, setting)?;
-    add_use(text, "  consumer:", CONSUMER, setting)
+    if let Some(field) = wide_named(name_in(setting)) {
+        return add_wide_line(text, field);
+    }
+    add_use(text, "  professional:", PROFESSIONAL, WIDE_NAMES, setting)?;
+    add_use(text, "  consumer:", CONSUMER, "", setting)
 }
