@@ -17,8 +17,8 @@ use Rattle.aes3_status.specs.declared.change.Change.{Change}
 use Rattle.aes3_runs.specs.ReportRuns.{output}
 use Rattle.aes3_runs.specs.BlockRuns.{decided_blocks, report_bytes, numbered, normal_block, begun_stream}
 use Rattle.aes3_runs.specs.BlockRuns.{written_stream}
-use Rattle.aes3_status.specs.declared.setting.Setting.{Setting}
-use Rattle.aes3_status.specs.Settings.{set_in_turn}
+use Rattle.aes3_status.specs.declared.setting.Settings.{Settings}
+use Rattle.aes3_status.specs.Settings.{set_all}
 use Rattle.aes3_engine.specs.Rewriting.{all_bits, cleared, set_validity, set_user, with_bits_given, set_status}
 use Rattle.aes3_engine.specs.Rewriting.{set_settings, checked, mended, changed, rewritten, rewritten_block}
 use Rattle.aes3_engine.specs.Rewriting.{rewritten_blocks}
@@ -33,10 +33,10 @@ module _ (P : List (List Bool) → Type 0) (keeps : (channel : Channel) (b : Lis
   set-keeps channel None b h = h
   set-keeps channel (Some status) b h = keeps channel b status h
 
-  settings-keep : (channel : Channel) (settings : Option (List Setting)) (b : List (List Bool)) → P b
+  settings-keep : (channel : Channel) (settings : Option Settings) (b : List (List Bool)) → P b
       → P (set_settings channel settings b)
   settings-keep channel None b h = h
-  settings-keep channel (Some settings) b h = keeps channel b (set_in_turn settings (status_of b channel)) h
+  settings-keep channel (Some settings) b h = keeps channel b (set_all settings (status_of b channel)) h
 
   changed-keeps : (change : Change) (b : List (List Bool)) → P (with_bits_given change b) → P (changed change b)
   changed-keeps change b h =

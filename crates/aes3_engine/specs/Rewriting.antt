@@ -7,8 +7,8 @@ use Rattle.aes3_frame.specs.declared.status.Channel.TheVariants.{First, Second}
 use Rattle.aes3_frame.specs.Statuses.{status_len, status_of, with_status, with_user, with_validity}
 use Rattle.aes3_status.specs.Statuses.{is_professional}
 use Rattle.aes3_status.specs.Check.{check_byte_of}
-use Rattle.aes3_status.specs.declared.setting.Setting.{Setting}
-use Rattle.aes3_status.specs.Settings.{set_in_turn}
+use Rattle.aes3_status.specs.declared.setting.Settings.{Settings}
+use Rattle.aes3_status.specs.Settings.{set_all}
 use Rattle.aes3_status.specs.declared.change.Change.{Change}
 use Rattle.aes3_runs.specs.BlockRuns.{normal_block}
 
@@ -41,9 +41,9 @@ set_status channel None b = b
 set_status channel (Some status) b = with_status b channel status
 
 -- fields set in the status of a channel, where some are given
-abbrev pub set_settings : Channel → Option (List Setting) → List (List Bool) → List (List Bool)
+abbrev pub set_settings : Channel → Option Settings → List (List Bool) → List (List Bool)
 set_settings channel None b = b
-set_settings channel (Some settings) b = with_status b channel (set_in_turn settings (status_of b channel))
+set_settings channel (Some settings) b = with_status b channel (set_all settings (status_of b channel))
 
 -- professional status with the check byte of its bytes 0 to 22; consumer status stays
 abbrev pub checked : List ℕ → List ℕ

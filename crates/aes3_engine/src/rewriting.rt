@@ -16,7 +16,7 @@ ghost use Rattle.aes3_engine.specs.Rewriting.{set_user, set_validity, with_bits_
 use aes3_block::{Block, Channel, GatheredCells, put_block};
 use aes3_cell::{Counts, Fault, Form, Level, RunError, Sink, Source, put_ending};
 use aes3_runs::{BlockWriter, run_blocks};
-use aes3_status::{Change, SETTINGS, Setting, Status, set_fields, with_check};
+use aes3_status::{Change, Settings, Status, set_fields, with_check};
 
 /// The bytes of a channel's bits that are all this one.
 #[tactic(auto, unfolding(aes3_frame::specs::Statuses::status_len))]
@@ -64,7 +64,7 @@ fn set_status(block: &mut Block, channel: Channel, status: &Option<[u8; 24]>)
 }
 
 /// Sets fields in the status of a channel, where some are given.
-fn set_settings(block: &mut Block, channel: Channel, settings: &Option<[Setting; SETTINGS]>)
+fn set_settings(block: &mut Block, channel: Channel, settings: &Option<Settings>)
     ensures { block.new ≡ set_settings channel settings.now block.old }
 {
     if let Some(settings) = settings {
