@@ -4,3 +4,4 @@ pub mod SettingLists
 pub mod SettingLines
 pub mod ChoiceTexts
 pub mod WideNumbers
+pub mod WideShown

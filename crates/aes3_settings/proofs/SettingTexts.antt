@@ -3,7 +3,7 @@ use Rattle.std.proofs.Common.{◌≡◌, ℕ, ◌+◌, ◌<◌, ◌≤◌, ◌�
 use Rattle.std.proofs.Common.{Option, Some, None, refl, ap, ap₂, ◌∙◌, ◌++◌, ◌↔◌, sym, subst, arith}
 use Rattle.std.specs.Prelude.{IfSome, IsTrue, codes, is_some}
 use Rattle.std.proofs.Math.Nat.{mod-eq_of_lt}
-use Rattle.std.proofs.lemmas.Bool.{cases_lt}
+use Rattle.std.proofs.lemmas.Bool.{cases_lt, false≢true}
 use Rattle.std.proofs.lemmas.List.{get_or-take, get_or_default, length-take-le}
 use Rattle.aes3_status.specs.declared.field.Field.{Field}
 use Rattle.aes3_status.specs.declared.setting.Setting.{Setting}
@@ -91,7 +91,7 @@ all-shown text fields None h = h
 all-shown text fields (Some setting) h = shown-then text fields setting h
 
 -- a text of a setting is known
-pub is-known : (text : List ℕ) (fields : List Field) (setting : Setting) → IsSettingOf text fields setting
+is-known : (text : List ℕ) (fields : List Field) (setting : Setting) → IsSettingOf text fields setting
     → ¬ IsNoSetting text fields
 is-known text fields setting is none = go (get_or setting.codes is.some.0 None) refl
   where
@@ -104,18 +104,14 @@ none-found : (text : List ℕ) (fields : List Field) (o : Option Setting) → If
 none-found text fields None found none = refl
 none-found text fields (Some setting) found none = absurd (is-known text fields setting found none)
 
-apart : (b : Bool) → b ≡ false → b ≡ true → ⊥
-apart true e h = cc
-apart false e h = cc
-
 -- a text that sets something is known
 pub known-by : (text : List ℕ) (professional consumer : Option Setting) (wide : Option (WideField × List ℕ))
     → IfSome professional (IsSettingOf text professional_fields)
     → IfSome consumer (IsSettingOf text consumer_fields) → wide ≡ wide_in text
     → (is_some professional ≡ true) ⊎ (is_some consumer ≡ true) ⊎ (is_some wide ≡ true) → ¬ IsUnknown text
 known-by text professional consumer wide found also is (inl some) unknown =
-    apart (is_some professional) (none-found text professional_fields professional found unknown.0) some
+    false≢true (sym (none-found text professional_fields professional found unknown.0) ∙ some)
 known-by text professional consumer wide found also is (inr (inl some)) unknown =
-    apart (is_some consumer) (none-found text consumer_fields consumer also unknown.1) some
+    false≢true (sym (none-found text consumer_fields consumer also unknown.1) ∙ some)
 known-by text professional consumer wide found also is (inr (inr some)) unknown =
-    apart (is_some wide) (ap is_some (is ∙ unknown.2)) some
+    false≢true (sym (ap is_some (is ∙ unknown.2)) ∙ some)

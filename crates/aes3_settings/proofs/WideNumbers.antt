@@ -1,7 +1,7 @@
 -- Addresses of 32 bits that words write.
 use Rattle.std.proofs.Common.{◌≡◌, ◌∙◌, ◌<◌, ◌^◌, ◌&&◌, ℕ, Bool, List, [], ◌∷◌, Some, None, true, false, cond, refl, ap}
 use Rattle.std.proofs.Common.{sym, length, nat_lt}
-use Rattle.std.proofs.lemmas.Bool.{lt-ltb, ltb-true}
+use Rattle.std.proofs.lemmas.Bool.{and_parts, lt-ltb, ltb-true}
 use Rattle.std.specs.Char.{digit_value}
 use Rattle.std.specs.Int.{to_le_bytes, w32}
 use Rattle.std.specs.List.{list_all}
@@ -12,11 +12,6 @@ use Rattle.aes3_settings.specs.WideTexts.{address_in, is_numeral, written}
 abbrev Writes : List ℕ → Type 0
 Writes word = IsNumeral 10 (without_leading_plus word) × (written word < 2 ^ 32)
 
-both : (a b : Bool) → (a && b) ≡ true → (a ≡ true) × (b ≡ true)
-both true true h = (refl, refl)
-both true false h = cc
-both false b h = cc
-
 digits-pass : (digits : List ℕ) → AllDigits 10 digits → list_all (λ digit. nat_lt (digit_value digit) 10) digits ≡ true
 digits-pass [] h = refl
 digits-pass (digit ∷ digits) h = rw (lt-ltb (digit_value digit) 10 h.0) (digits-pass digits h.1)
@@ -25,7 +20,7 @@ passing-digits : (digits : List ℕ) → list_all (λ digit. nat_lt (digit_value
     → AllDigits 10 digits
 passing-digits [] h = tt
 passing-digits (digit ∷ digits) h =
-    let e = both (nat_lt (digit_value digit) 10) (list_all (λ d. nat_lt (digit_value d) 10) digits) h in
+    let e = and_parts (nat_lt (digit_value digit) 10) (list_all (λ d. nat_lt (digit_value d) 10) digits) h in
     (ltb-true (digit_value digit) 10 e.0, passing-digits digits e.1)
 
 pub addressed : (word : List ℕ) (n : ℕ) → Writes word × (n ≡ written word)
@@ -46,8 +41,8 @@ unaddressed word never = go (is_numeral digits && nat_lt (written word) (2 ^ 32)
     go : (b : Bool) → (is_numeral digits && nat_lt (written word) (2 ^ 32)) ≡ b
         → None ≡ cond b (Some (to_le_bytes w32 (written word))) None
     go true passed =
-        let parts = both (is_numeral digits) (nat_lt (written word) (2 ^ 32)) passed in
-        let numeral = both (nat_lt 0 (length digits)) (list_all (λ d. nat_lt (digit_value d) 10) digits) parts.0 in
+        let parts = and_parts (is_numeral digits) (nat_lt (written word) (2 ^ 32)) passed in
+        let numeral = and_parts (nat_lt 0 (length digits)) (list_all (λ d. nat_lt (digit_value d) 10) digits) parts.0 in
         absurd (never (
           (ltb-true 0 (length digits) numeral.0, passing-digits digits numeral.1),
           ltb-true (written word) (2 ^ 32) parts.1,

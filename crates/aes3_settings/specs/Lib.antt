@@ -7,3 +7,4 @@ pub mod WideTexts
 pub mod Settings
 pub mod StatusTexts
 pub mod Choices
+pub mod WideShown

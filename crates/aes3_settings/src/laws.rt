@@ -2,6 +2,7 @@
 
 ghost use Rattle.aes3_settings.specs.Settings.{LineShowsFields, OtherWordsStay};
 ghost use Rattle.aes3_settings.specs.StatusTexts.{UseIsShown};
+ghost use Rattle.aes3_settings.specs.WideShown.{WideIsShown, WideTextsAreFours};
 
 /// The line of a channel status is made of what is printed of each field that can be set, in order,
 /// and of the others.
@@ -18,4 +19,10 @@ pub fn use_is_shown()
 /// the other's codes mean.
 pub fn other_words_stay()
     ensures { OtherWordsStay }
+{}
+
+/// A field of four bytes that a text sets is printed as the text, of a number as its decimal digits.
+pub fn wide_texts_are_shown()
+    ensures four { WideTextsAreFours }
+    ensures shown { WideIsShown }
 {}

@@ -1,0 +1,8 @@
+use Rattle.aes3_settings.proofs.WideShown.{is-shown, texts-are-fours}
+use Rattle.aes3_settings.proofs.laws.wide_texts_are_shown.Goals as goal
+
+pub returns-clause-four : goal.returns-clause-four
+returns-clause-four c = texts-are-fours
+
+pub returns-clause-shown : goal.returns-clause-shown
+returns-clause-shown c = is-shown
