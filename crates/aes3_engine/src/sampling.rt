@@ -5,6 +5,8 @@ ghost use Rattle.std.specs.Prelude.{true, false, None, Err, get_or, length, map,
 ghost use Rattle.std.specs.Prelude.{IfSome, IsOk, OnErr, IsTrue};
 ghost use Rattle.aes3_cell.specs.Ends.{Grew, GrewFront, Told};
 ghost use Rattle.aes3_cell.specs.Wave.{begins_wave};
+ghost use Rattle.aes3_cell.specs.Writes.{Wrote};
+ghost use Rattle.aes3_frame.specs.Files.{words_of};
 ghost use Rattle.aes3_frame.specs.Sampled.{payload_of_sample};
 ghost use Rattle.aes3_input.specs.Running.{InputRun, movement_of};
 ghost use Rattle.aes3_pcm.specs.declared.format.SampleFormat.TheVariants.{S32};
@@ -68,20 +70,25 @@ fn low_bits_in(exact: bool, piece: &[u8], at: usize) -> Option<usize>
     None
 }
 
-/// The block of the samples that these bytes begin with.
-fn block_of(format: SampleFormat, bytes: &[u8; BLOCK_BYTES]) -> Block
-    ensures { result ≡ map payload_of_sample (words_in format (take (block_len format) bytes.now)) }
+/// Writes the block of samples of 32 bits with its channel status, as a block file has it whose
+/// words are in this form. It is called once for each block, so that none is copied on its way.
+#[inline(never)]
+fn put_wide<T: Sink>(
+    samples: &[u8; BLOCK_BYTES],
+    change: &Change,
+    words: Words,
+    sink: &mut T,
+) -> Result<(), Fault>
+    requires room { T.failed sink.old + 1 < 2 ^ 64 }
+    ensures { Wrote T.taken T.failed sink.old sink.new (block_words words (rewritten change.now
+        (map payload_of_sample (words_of samples.now)))) result }
 {
-    match format {
-        SampleFormat::S32 => Block::of_samples(bytes),
-        SampleFormat::S24 => Block::of_samples(&format.widen(bytes)),
-        SampleFormat::S24In32 => Block::of_samples(&format.widen(bytes)),
-        SampleFormat::S16 => Block::of_samples(&format.widen(bytes)),
-    }
+    let mut block = Block::of_samples(samples);
+    rewrite_block(&mut block, change);
+    put_block_words(&block, words, sink)
 }
 
-/// Writes the block of samples with its channel status, as a block file has it whose words are in
-/// this form.
+/// Writes the block of samples in a form, likewise.
 fn put_samples<T: Sink>(
     format: SampleFormat,
     samples: &[u8; BLOCK_BYTES],
@@ -99,9 +106,12 @@ fn put_samples<T: Sink>(
         (block_words words (rewritten change.now
         (map payload_of_sample (words_in format (take (block_len format) samples.now)))))) }
 {
-    let mut block = block_of(format, samples);
-    rewrite_block(&mut block, change);
-    put_block_words(&block, words, sink)
+    match format {
+        SampleFormat::S32 => put_wide(samples, change, words, sink),
+        SampleFormat::S24 => put_wide(&format.widen(samples), change, words, sink),
+        SampleFormat::S24In32 => put_wide(&format.widen(samples), change, words, sink),
+        SampleFormat::S16 => put_wide(&format.widen(samples), change, words, sink),
+    }
 }
 
 impl Input<Change> for SampleInput {

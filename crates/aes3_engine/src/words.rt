@@ -12,6 +12,7 @@ use aes3_words::{Words, write_words};
 
 /// Writes a block as 1,536 bytes of a block file whose words are in this form, handed on as one
 /// buffer.
+#[inline(always)]
 pub(crate) fn put_block_words<T: Sink>(
     block: &Block,
     words: Words,
