@@ -8,7 +8,6 @@ use Rattle.aes3_level.specs.declared.level.Level.{Level}
 use Rattle.aes3_frame.specs.declared.fill.Fill.{Fill}
 use Rattle.aes3_frame.specs.declared.fill.Fill.TheVariants.{Zero, Hold}
 use Rattle.aes3_frame.specs.Blocks.{block_len, block_slots, IsBlock}
-use Rattle.aes3_frame.specs.Files.{word_bytes}
 use Rattle.aes3_frame.specs.Samples.{block_samples, samples, sample_of}
 use Rattle.aes3_frame.proofs.BlockLemmas.{block_slots_384}
 use Rattle.aes3_lock.specs.declared.report.Report.{Report}
@@ -19,6 +18,7 @@ use Rattle.aes3_lock.proofs.NormalStreams.{blocks-lawful}
 use Rattle.aes3_lock.proofs.ReportPlaces.{Spaced, spaced-weaker, spaced-reports}
 use Rattle.aes3_engine.specs.Filling.{Placed, placed, frame_cells, frame_bytes, block_frames, frames_between, filling}
 use Rattle.aes3_engine.specs.Filling.{repeated, between, filled_behind, filled, InRow, StandsInTime, KeepsTime}
+use Rattle.aes3_engine.proofs.WordsBack.{length-bytes}
 
 -- blocks have their subframes, and each stands behind all of the one before it
 abbrev pub Sized : List Placed → Type 0
@@ -80,14 +80,10 @@ length-repeated (suc n) frame h =
     let l = length-repeated n frame h in
     omega arith
 
-length-words : (ws : List ℕ) → length (flat_map word_bytes ws) ≡ 4 * length ws
-length-words [] = refl
-length-words (w ∷ ws) = let l = length-words ws in omega arith
-
 length-block : (b : List (List Bool)) → length b ≡ block_slots → length (block_samples b) ≡ frame_bytes * block_frames
 unfolding block_samples frame_bytes block_frames
 length-block b h =
-    let l = length-words (map sample_of b) in
+    let l = length-bytes (map sample_of b) in
     let m = length-map b sample_of in
     let n = block_slots_384 in
     omega arith

@@ -48,7 +48,7 @@ codes-words (w ∷ ws) h (suc i) =
     let e : 4 * suc i ≡ suc (suc (suc (suc (4 * i)))) = omega arith in
     ap (λ n. get_or (flat_map word_bytes (w ∷ ws)) n 0 % 16) e ∙ codes-words ws (λ j. h (suc j)) i
 
-length-bytes : (ws : List ℕ) → length (flat_map word_bytes ws) ≡ 4 * length ws
+pub length-bytes : (ws : List ℕ) → length (flat_map word_bytes ws) ≡ 4 * length ws
 length-bytes [] = refl
 length-bytes (w ∷ ws) = let h = length-bytes ws in omega (arith, h)
 
