@@ -88,7 +88,7 @@ places-append n (u ∷ c) [] r l = absurd (omega arith)
 places-append n (u ∷ c) (v ∷ d) r l =
     ap (λ xs. cond (differs u v) (n ∷ xs) xs) (places-append (suc n) c d r (omega arith))
 
-take-changed : (n x : ℕ) (c : List Level) → take n (changed x c) ≡ changed x (take n c)
+pub take-changed : (n x : ℕ) (c : List Level) → take n (changed x c) ≡ changed x (take n c)
 take-changed zero x c = refl
 take-changed (suc n) x [] = refl
 take-changed (suc n) zero (u ∷ c) = refl

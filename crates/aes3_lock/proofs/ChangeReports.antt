@@ -37,6 +37,7 @@ use Rattle.aes3_lock.proofs.Fronts.{front-is, keeps-from-kept}
 use Rattle.aes3_lock.proofs.LawfulPieces.{stream-length}
 use Rattle.aes3_lock.proofs.PlaceBlocks.{block_here, here-some, whole-len}
 use Rattle.aes3_lock.proofs.PieceBounds.{length-piece, both-true}
+use Rattle.aes3_lock.proofs.ReportPlaces.{place-report}
 use Rattle.aes3_lock.proofs.StandingBlocks.{first-mark, whole-standing}
 
 -- each report is that of the candidate at its place, and each candidate's report is there
@@ -74,12 +75,6 @@ reports-all p (x ∷ c) (suc k) o e =
     subst (λ n. Contains (reports_from p (x ∷ c)) (report_of n o)) z
     (Contains-append_right (told p (outcome_at (x ∷ c))) (reports_from (suc p) c) (report_of (suc p + k) o)
     (reports-all (suc p) c k o e))
-
-pub place-report : (p : ℕ) (o : Outcome) → place_of (report_of p o) ≡ p
-place-report p (whole s b) = refl
-place-report p (marked s n) = refl
-place-report p (fault f) = refl
-place-report p (unfinished n) = refl
 
 -- the report at a place, where a candidate begins there
 pub report-at : (c : List Level) (q : ℕ) (r : Report) → Contains (reports c) r → place_of r ≡ q

@@ -24,7 +24,8 @@ use Rattle.aes3_lock.proofs.Apart.{apart-self}
 use Rattle.aes3_lock.proofs.Damaged.{piece-window, near}
 use Rattle.aes3_lock.proofs.Distances.{off-subframes, off-blocks, off-frames, off-level}
 use Rattle.aes3_lock.proofs.Exchanged.{between-true, true-between, exchanged-block, exchanged-cells}
-use Rattle.aes3_lock.proofs.ChangeReports.{report-at, at-report, place-report, change-outcome, change-covered}
+use Rattle.aes3_lock.proofs.ChangeReports.{report-at, at-report, change-outcome, change-covered}
+use Rattle.aes3_lock.proofs.ReportPlaces.{place-report}
 use Rattle.aes3_lock.proofs.ChangeReports.{change-none}
 use Rattle.aes3_lock.proofs.OwnPlace.{pair-two, blocks-pair, pair-exchanged, equal-blocks}
 use Rattle.aes3_lock.proofs.PieceBounds.{length-piece}

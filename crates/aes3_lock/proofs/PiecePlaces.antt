@@ -7,10 +7,10 @@ use Rattle.aes3_frame.specs.Blocks.{block_len, block_cells, stream}
 use Rattle.aes3_frame.proofs.FileLaws.{EachBlock}
 use Rattle.aes3_frame.proofs.CellLaws.{length-block_cells, stream-cons, block_len_24576}
 use Rattle.aes3_lock.specs.Pieces.{given_within}
-use Rattle.aes3_lock.proofs.Places.{gather, spaced, gather-within, Sparse, gather-spaced}
+use Rattle.aes3_lock.proofs.Places.{gather, spaced, Sparse, gather-spaced}
 use Rattle.aes3_lock.proofs.LawfulPieces.{stream-length}
 use Rattle.aes3_lock.proofs.PlaceBlocks.{whole-len}
-use Rattle.aes3_lock.proofs.PieceBounds.{both-true, first-false, second-false}
+use Rattle.aes3_lock.proofs.PieceBounds.{both-true, first-false, second-false, inside, gather-inside}
 
 -- what is gathered from other places that give the same
 pub gather-same : {A : Type 0} (f g : ℕ → List A) (a b n : ℕ) → ((q : ℕ) → q < n → f (a + q) ≡ g (b + q))
@@ -35,7 +35,7 @@ module _ (s : Level) (bs : List (List (List Bool))) (h : EachBlock bs) (i j : �
     → drop p (stream s bs) ≡ stream s (b ∷ more) → f p ≡ given p b) where
   -- at places where a block lies whole in the piece
   here : ℕ → List (List (List Bool))
-  here p = cond (leb i p && leb (p + block_len) j) (f p) []
+  here = inside block_len i j f
 
   here-in : (q : ℕ) → q < j - i → f (i + q) ≡ here (i + q)
   unfolding here
@@ -47,13 +47,10 @@ module _ (s : Level) (bs : List (List (List Bool))) (h : EachBlock bs) (i j : �
           ∙ sym (second-false i (i + q) (i + q + block_len) j (f (i + q)) [] o)
       go (inr o) = sym (both-true i (i + q) (i + q + block_len) j (f (i + q)) [] (omega arith) o)
 
-  here-before : (q : ℕ) → q < i → here q ≡ []
+  here-within : gather here 0 (length (stream s bs)) ≡ gather here i (j - i)
   unfolding here
-  here-before q l = first-false i q (q + block_len) j (f q) [] l
-
-  here-behind : (q : ℕ) → j ≤ q → here q ≡ []
-  unfolding here
-  here-behind q l = let n = block_len_24576 in second-false i q (q + block_len) j (f q) [] (omega arith)
+  here-within = let m = block_len_24576 in
+      gather-inside block_len i j (length (stream s bs)) f (omega arith) order within
 
   here-between : (q : ℕ) → 0 < q % 24576 → here q ≡ []
   unfolding here
@@ -99,7 +96,7 @@ module _ (s : Level) (bs : List (List (List Bool))) (h : EachBlock bs) (i j : �
       let l = stream-length s bs h in
       let m = block_len_24576 in
       gather-same f here i i (j - i) (λ q o. here-in q o)
-      ∙ sym (gather-within here i j (length (stream s bs)) order within here-before here-behind)
+      ∙ sym here-within
       ∙ ap (gather here 0) (l ∙ whole-len (length bs))
       ∙ gather-spaced here block_len 0 (length bs) (omega arith) (here-sparse 0 (length bs) refl)
       ∙ spaced-given 0 bs h refl

@@ -1,7 +1,8 @@
 -- The cells of a word taken part by part.
-use Rattle.std.proofs.Common.{◌≡◌, ℕ, ◌+◌, ◌/◌, ◌^◌, ◌<◌, ◌≤◌, List, ◌++◌, length, take, drop, get_or, append-nil, ap}
+use Rattle.std.proofs.Common.{◌≡◌, ℕ, ◌+◌, ◌/◌, ◌^◌, ◌<◌, ◌≤◌, false, refl, List, [], ◌++◌, length, take, drop, get_or, append-nil, ap}
 use Rattle.std.proofs.Common.{◌∙◌, sym, subst, arith, append_assoc}
-use Rattle.std.specs.Prelude.{Option, None, option_map, option_to_list}
+use Rattle.std.specs.Prelude.{Option, Some, None, option_map, option_to_list}
+use Rattle.std.specs.Option.{is_some}
 use Rattle.std.specs.List.{flat_map}
 use Rattle.std.proofs.lemmas.Grind.{flat_map-append}
 use Rattle.std.proofs.lemmas.List.{flat_map_more, take_more}
@@ -25,6 +26,12 @@ pub none-told : (report : Ending → Report) (c : List Level) (w n n' : ℕ) (o 
 none-told report c w n n' o e z g =
     ap (λ m. decided (c ++ low_cells m w)) e ∙ g ∙ sym (append-nil (decided c))
     ∙ ap (λ v. decided c ++ option_to_list (option_map report v)) (sym z)
+
+-- no ending has no report
+pub no-ending : (report : Ending → Report) (o : Option Ending) → is_some o ≡ false
+    → option_to_list (option_map report o) ≡ []
+no-ending report None e = refl
+no-ending report (Some x) e = cc
 
 -- some more cells of a word
 pub more-follows : (k k' : LockState) (c : List Level) (a b w : ℕ)

@@ -76,19 +76,19 @@ spaced-front p [] b s = tt
 spaced-front p (x ∷ a) b s = (s.0, spaced-front (next_place x) a b s.1)
 
 -- of one place
-place-is : (p : ℕ) (o : Outcome) → place_of (report_of p o) ≡ p
-place-is p (whole s b) = refl
-place-is p (marked s wrong) = refl
-place-is p (fault f) = refl
-place-is p (unfinished n) = refl
+pub place-report : (p : ℕ) (o : Outcome) → place_of (report_of p o) ≡ p
+place-report p (whole s b) = refl
+place-report p (marked s wrong) = refl
+place-report p (fault f) = refl
+place-report p (unfinished n) = refl
 
 told-from : (p q : ℕ) (o : Option Outcome) → p ≤ q → From p (told q o)
 told-from p q None h = tt
-told-from p q (Some o) h = (let e = place-is q o in omega arith, tt)
+told-from p q (Some o) h = (let e = place-report q o in omega arith, tt)
 
 told-upto : (p q : ℕ) (o : Option Outcome) → q ≤ p → UpTo p (told q o)
 told-upto p q None h = tt
-told-upto p q (Some o) h = (let e = place-is q o in omega arith, tt)
+told-upto p q (Some o) h = (let e = place-report q o in omega arith, tt)
 
 -- of all
 decided-own : (p : ℕ) (c : List Level) → From p (decided_from p c)

@@ -19,8 +19,9 @@ use Rattle.aes3_lock.specs.Preambles.{first_mark, placed, marks_from, marks}
 use Rattle.aes3_lock.specs.Pieces.{IsPiece, marks_within, true_marks}
 use Rattle.aes3_slot.proofs.Beginnings.{begins-stands, stands-begins, stands-entry, stands-once, stands-drop}
 use Rattle.aes3_slot.proofs.Beginnings.{drop-stands}
-use Rattle.aes3_lock.proofs.Places.{collect, gather, spaced, collect-gather, gather-within, Sparse, gather-spaced}
-use Rattle.aes3_lock.proofs.PieceBounds.{piece-rest, length-piece, both-true, second-false, first-false}
+use Rattle.aes3_lock.proofs.Places.{collect, gather, spaced, collect-gather, Sparse, gather-spaced}
+use Rattle.aes3_lock.proofs.PieceBounds.{piece-rest, length-piece, both-true, second-false, inside}
+use Rattle.aes3_lock.proofs.PieceBounds.{gather-inside}
 use Rattle.aes3_lock.proofs.LawfulPieces.{stream_marks, stream-length, stream-stands, stream-aligned}
 
 -- the preamble at the start
@@ -82,7 +83,7 @@ module _ (s : Level) (bs : List (List (List Bool))) (h : EachBlock bs) (i j : �
     (within : j ≤ length (stream s bs)) where
   -- what stands at a place of the stream, where the piece has all of it
   given : ℕ → List (ℕ × Mark × Level)
-  given q = cond (leb i q && leb (q + 8) j) (mark_here (q - i) (drop q (stream s bs))) []
+  given = inside 8 i j (λ q. mark_here (q - i) (drop q (stream s bs)))
 
   given-here : (q : ℕ) → q < j - i → mark_here (0 + q) (drop q (take (j - i) (drop i (stream s bs)))) ≡ given (i + q)
   unfolding given
@@ -110,13 +111,10 @@ module _ (s : Level) (bs : List (List (List Bool))) (h : EachBlock bs) (i j : �
           omega (arith, n, r)))
           ∙ sym (second-false i (i + q) (i + q + 8) j (mark_here (i + q - i) (drop (i + q) (stream s bs))) [] o)
 
-  given-before : (q : ℕ) → q < i → given q ≡ []
+  given-within : gather given 0 (length (stream s bs)) ≡ gather given i (j - i)
   unfolding given
-  given-before q l = first-false i q (q + 8) j (mark_here (q - i) (drop q (stream s bs))) [] l
-
-  given-behind : (q : ℕ) → j ≤ q → given q ≡ []
-  unfolding given
-  given-behind q l = second-false i q (q + 8) j (mark_here (q - i) (drop q (stream s bs))) [] (omega arith)
+  given-within =
+      gather-inside 8 i j (length (stream s bs)) (λ q. mark_here (q - i) (drop q (stream s bs))) (lit< tt) order within
 
   -- between the starts of subframes nothing stands
   given-between : (q : ℕ) → (q % 64 ≡ 0 → ⊥) → given q ≡ []
@@ -164,7 +162,7 @@ module _ (s : Level) (bs : List (List (List Bool))) (h : EachBlock bs) (i j : �
       marks-collect 0 c
       ∙ collect-gather mark_here given 0 i c (λ q o. given-here q (omega (arith, n, o)))
       ∙ ap (gather given i) n
-      ∙ sym (gather-within given i j (length (stream s bs)) order within given-before given-behind)
+      ∙ sym given-within
       ∙ ap (gather given 0) (l ∙ e)
       ∙ gather-spaced given 64 0 (block_slots * length bs) (lit< tt) (given-sparse 0 (block_slots * length bs) refl)
       ∙ spaced-marks (block_slots * length bs) 0 (omega arith)
