@@ -125,7 +125,7 @@ run-other : (n : ℕ) (s : Level) → map other (replicate n s) ≡ replicate n 
 run-other zero s = refl
 run-other (suc n) s = ap (λ t. other s ∷ t) (run-other n s)
 
-line-other : (s : Level) (runs : List ℕ) → map other (line s runs) ≡ line (other s) runs
+pub line-other : (s : Level) (runs : List ℕ) → map other (line s runs) ≡ line (other s) runs
 line-other s [] = refl
 line-other s (n ∷ runs) = map-append other (replicate n (other s)) (line (other s) runs)
     ∙ ap₂ ◌++◌ (run-other n (other s)) (line-other (other s) runs)
