@@ -1,6 +1,6 @@
 -- What is told of a block that stands closed with a wrong check byte: two changed cells next to each other.
 use Rattle.std.proofs.Common.{◌≡◌, ℕ, zero, suc, ◌+◌, ◌-◌, ◌*◌, ◌<◌, List, [], ◌∷◌, ◌++◌, Bool}
-use Rattle.std.proofs.Common.{true, false, cond, None, Some, refl, map, take, drop, replicate, ap, ap₂, ◌∙◌, sym}
+use Rattle.std.proofs.Common.{true, false, cond, None, Some, refl, map, drop, replicate, ap, ap₂, ◌∙◌, sym}
 use Rattle.std.proofs.Common.{subst, arith}
 use Rattle.std.specs.Prelude.{◌==◌, ◌&&◌}
 use Rattle.std.proofs.lemmas.Bool.{eq-eqb, ne_eqb}
@@ -15,6 +15,7 @@ use Rattle.aes3_lock.specs.Damage.{changed, exchanged, inverted_in}
 use Rattle.aes3_lock.specs.Outcomes.{whole}
 use Rattle.aes3_lock.specs.Reports.{outcome_at}
 use Rattle.aes3_lock.specs.Standing.{StandsClosed}
+use Rattle.aes3_lock.proofs.AnyChanges.{take-changed}
 use Rattle.aes3_lock.proofs.Apart.{at-others, length-changed}
 use Rattle.aes3_lock.proofs.DamageLaws.{exchanged-is}
 use Rattle.aes3_lock.proofs.Ends.{outcome_at-some}
@@ -114,12 +115,6 @@ two-changed e k c h =
     let z : k ≡ 0 + k = omega arith in
     two-from e k 0 c (subst (λ n. ChangeTwo e n (suc n)) z h)
 
-take-of-changed : (n x : ℕ) (c : List Level) → take n (changed x c) ≡ changed x (take n c)
-take-of-changed zero x c = refl
-take-of-changed (suc n) x [] = refl
-take-of-changed (suc n) zero (y ∷ c) = refl
-take-of-changed (suc n) (suc x) (y ∷ c) = ap (λ d. y ∷ d) (take-of-changed n x c)
-
 -- the block that stands then, of two changed cells before its last subframe
 exchanged-stands : (b : List (List Bool)) (s : Level) (d : List Level) → StandsClosed b s d
     → StandsClosed (exchanged 23613 b) s (changed 23614 (changed 23613 d))
@@ -130,8 +125,8 @@ exchanged-stands b s d h =
     let o = length-changed 23613 d in
     record {
       block = x.0;
-      cells = take-of-changed block_len 23614 (changed 23613 d)
-          ∙ ap (changed 23614) (take-of-changed block_len 23613 d ∙ ap (changed 23613) h.cells) ∙ sym x.1;
+      cells = take-changed block_len 23614 (changed 23613 d)
+          ∙ ap (changed 23614) (take-changed block_len 23613 d ∙ ap (changed 23613) h.cells) ∙ sym x.1;
       closed = record {
         turns = λ more e.
             h.closed.turns (omega (arith, more, n, o))

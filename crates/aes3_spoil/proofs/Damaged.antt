@@ -1,6 +1,6 @@
 -- What no errors and one error make of cells.
 use Rattle.std.proofs.Common.{◌≡◌, ℕ, zero, suc, ◌+◌, ◌<◌, List, [], ◌∷◌, ◌++◌, length, map, take, drop, refl, sym}
-use Rattle.std.proofs.Common.{ap, ap₂, ◌∙◌, arith, replicate, true, false, cond, None, subst, zero-add}
+use Rattle.std.proofs.Common.{ap, ap₂, ◌∙◌, arith, replicate, cond, None, subst, zero-add}
 use Rattle.std.specs.Prelude.{◌==◌, ◌&&◌}
 use Rattle.std.proofs.lemmas.Bool.{eq-eqb, ne_eqb}
 use Rattle.aes3_level.specs.declared.level.Level.{Level}
@@ -13,7 +13,7 @@ use Rattle.aes3_spoil.specs.declared.kinds.ErrorKind.TheVariants.{Changed, Inver
 use Rattle.aes3_spoil.specs.Errors.{Clear, errors_at, errors_before, errors_of, same_kind}
 use Rattle.aes3_spoil.specs.SpoilLaws.{IsOne}
 use Rattle.aes3_spoil.specs.Spoiled.{is_odd, is_turned, level_turned, spoiled, spoiled_at, spoiled_from}
-use Rattle.aes3_spoil.proofs.SpoiledCells.{cell-clear, cells-clear, times-none, times-once, times-twice}
+use Rattle.aes3_spoil.proofs.SpoiledCells.{cell-clear, cells-clear, times-none, times-once, times-twice, same-cells, other-cells}
 
 -- what stands at a cell
 no-errors : (e : Errors) → errors_of e ≡ [] → e.every ≡ None → (kind : ErrorKind) (i : ℕ) → errors_at e kind i ≡ 0
@@ -44,14 +44,6 @@ one-here e kind k h other =
     one-at e kind k h other k ∙ ap (λ b. cond {A = ℕ} (b && same_kind kind other) 1 0) (eq-eqb k k refl)
 
 -- cells at which no error stands and behind no turn
-same-cells : (c : List Level) → map (level_turned false) c ≡ c
-same-cells [] = refl
-same-cells (x ∷ c) = ap (λ d. x ∷ d) (same-cells c)
-
-other-cells : (c : List Level) → map (level_turned true) c ≡ map other c
-other-cells [] = refl
-other-cells (x ∷ c) = ap (λ d. other x ∷ d) (other-cells c)
-
 pub from-same : (e : Errors) (i : ℕ) (c : List Level) → Clear e i (i + length c) → errors_before e Inverted i ≡ 0
     → spoiled_from e i c ≡ c
 from-same e i c h b =

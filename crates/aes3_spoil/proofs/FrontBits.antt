@@ -1,16 +1,15 @@
 -- The lowest bits of a word.
 use Rattle.std.proofs.Common.{◌≡◌, ℕ, zero, suc, ◌+◌, ◌-◌, ◌*◌, ◌/◌, ◌%◌, ◌^◌}
-use Rattle.std.proofs.Common.{◌<◌, ◌≤◌, List, [], ◌∷◌, Bool, true, false, cond, map}
+use Rattle.std.proofs.Common.{◌<◌, ◌≤◌, Bool, true, false, cond, map}
 use Rattle.std.proofs.Common.{refl, sym, ap, ◌∙◌, arith}
 use Rattle.std.specs.Prelude.{bit_and, ◌==◌, not}
 use Rattle.std.proofs.lemmas.Nat.{and_mask, mod_below, pow-add, pow_pos}
-use Rattle.aes3_level.specs.declared.level.Level.{Level}
-use Rattle.aes3_level.specs.Cells.{other}
 use Rattle.aes3_level.specs.Words.{level_of, low_cells}
 use Rattle.aes3_recovery.specs.Endings.{level_if}
 use Rattle.aes3_recovery.proofs.WordBits.{low_cells-low-bits}
 use Rattle.aes3_slot.proofs.Turns.{low_cells-not}
 use Rattle.aes3_spoil.specs.Spoiled.{is_odd, level_turned}
+use Rattle.aes3_spoil.proofs.SpoiledCells.{same-cells, other-cells}
 
 over : (q d r : ℕ) → r < d → (q * d + r) / d ≡ q
 over q d r h = grind (arith, h)
@@ -36,14 +35,6 @@ front-below n w h = rw (front n w h) (mod_below w (2 ^ n) (pow_pos n))
 
 pub front-cells : (n w : ℕ) → n ≤ 64 → low_cells n (bit_and w (18446744073709551615 / 2 ^ (64 - n))) ≡ low_cells n w
 front-cells n w h = ap (low_cells n) (front n w h) ∙ low_cells-low-bits n w
-
-same-cells : (c : List Level) → map (level_turned false) c ≡ c
-same-cells [] = refl
-same-cells (x ∷ c) = ap (λ d. x ∷ d) (same-cells c)
-
-other-cells : (c : List Level) → map (level_turned true) c ≡ map other c
-other-cells [] = refl
-other-cells (x ∷ c) = ap (λ d. other x ∷ d) (other-cells c)
 
 pub front-same : (n w : ℕ) → n ≤ 64
     → low_cells n (bit_and w (18446744073709551615 / 2 ^ (64 - n))) ≡ map (level_turned false) (low_cells n w)

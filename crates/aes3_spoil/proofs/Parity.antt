@@ -1,10 +1,10 @@
 -- What is told of a block that stands closed, where the last cell of one of its subframes and all behind have the other
 -- level.
 use Rattle.std.proofs.Common.{◌≡◌, ℕ, zero, suc, ◌+◌, ◌-◌, ◌*◌, ◌<◌, ◌≤◌, List, [], ◌∷◌, ◌++◌, Bool, true, false, not}
-use Rattle.std.proofs.Common.{Some, refl, length, map, take, drop, replicate, ap, ap₂, ◌∙◌, sym, subst, arith}
+use Rattle.std.proofs.Common.{Some, refl, length, map, take, drop, ap, ap₂, ◌∙◌, sym, subst, arith}
 use Rattle.std.proofs.Common.{append_assoc, append-nil}
 use Rattle.std.proofs.lemmas.Grind.{flat_map-append}
-use Rattle.std.proofs.lemmas.List.{length-map, map-append, take-map}
+use Rattle.std.proofs.lemmas.List.{length-map, take-map}
 use Rattle.aes3_level.specs.declared.level.Level.{Level}
 use Rattle.aes3_level.specs.declared.level.Level.TheVariants.{Low, High}
 use Rattle.aes3_level.specs.Cells.{line, other, after}
@@ -21,6 +21,7 @@ use Rattle.aes3_frame.specs.Blocks.{mark_at, block_len, block_slots}
 use Rattle.aes3_frame.proofs.BlockLemmas.{block_slots_384}
 use Rattle.aes3_frame.proofs.CellLaws.{block_len_24576, each28}
 use Rattle.aes3_frame.proofs.Each.{each-payload}
+use Rattle.aes3_frame.proofs.GatheredWords.{line-other}
 use Rattle.aes3_frame.proofs.Runs.{Each27}
 use Rattle.aes3_lock.specs.declared.report.Report.TheVariants.{Marked}
 use Rattle.aes3_lock.specs.Outcomes.{marked, wrong_parities}
@@ -83,17 +84,6 @@ turned-append (x ∷ a) b zero k e = absurd (omega arith)
 turned-append (x ∷ a) b (suc n) k e =
     let z : suc n + k ≡ suc (n + k) = omega arith in
     ap (λ i. turned_from i (x ∷ (a ++ b))) z ∙ ap (λ d. x ∷ d) (turned-append a b n k (omega (arith, e)))
-
--- a line with each cell at the other level
-run-other : (n : ℕ) (s : Level) → map other (replicate n s) ≡ replicate n (other s)
-run-other zero s = refl
-run-other (suc n) s = ap (λ c. other s ∷ c) (run-other n s)
-
-pub line-other : (s : Level) (runs : List ℕ) → map other (line s runs) ≡ line (other s) runs
-line-other s [] = refl
-line-other s (n ∷ runs) =
-    map-append other (replicate n (other s)) (line (other s) runs)
-    ∙ ap₂ ◌++◌ (run-other n (other s)) (line-other (other s) runs)
 
 -- a bit of which the second cell and all behind have the other level is the other bit
 bit-turned : (u : Level) (y : Bool) (rest : List ℕ)

@@ -21,6 +21,7 @@ use Rattle.aes3_frame.specs.Blocks.{mark_at, block_cells, block_len, block_runs,
 use Rattle.aes3_frame.proofs.BlockLemmas.{block_slots_384}
 use Rattle.aes3_frame.proofs.CellLaws.{block_len_24576}
 use Rattle.aes3_frame.proofs.FileLaws.{EachBlock, each-block}
+use Rattle.aes3_frame.proofs.GatheredWords.{line-other}
 use Rattle.aes3_lock.specs.declared.report.Report.{Report}
 use Rattle.aes3_lock.specs.Outcomes.{Outcome, whole, marked, unfinished}
 use Rattle.aes3_lock.specs.Pieces.{IsPiece}
@@ -44,7 +45,7 @@ use Rattle.aes3_spoil.specs.SpoilLaws.{IsOne}
 use Rattle.aes3_spoil.specs.Spoiled.{spoiled}
 use Rattle.aes3_spoil.specs.Subframes.{parity_cell}
 use Rattle.aes3_spoil.proofs.Damaged.{inverted-one}
-use Rattle.aes3_spoil.proofs.Parity.{at-other, at-turned, drop-turned, length-turned, line-other, take-turned}
+use Rattle.aes3_spoil.proofs.Parity.{at-other, at-turned, drop-turned, length-turned, take-turned}
 use Rattle.aes3_spoil.proofs.Parity.{turned_from, wrong-outcome}
 
 -- cells before the one from which on they are turned, and behind it

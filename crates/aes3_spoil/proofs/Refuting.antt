@@ -7,11 +7,11 @@ use Rattle.std.proofs.lemmas.Bool.{cases_eq, cases_lt, cases_Bool, eq-eqb, ne_eq
 use Rattle.aes3_level.specs.declared.level.Level.{Level}
 use Rattle.aes3_level.specs.Cells.{other}
 use Rattle.aes3_level.proofs.Runs.{other_ne}
-use Rattle.aes3_slot.specs.declared.mark.Mark.{Mark}
-use Rattle.aes3_slot.specs.declared.mark.Mark.TheVariants.{X, Y, Z}
+use Rattle.aes3_slot.specs.declared.mark.Mark.TheVariants.{Z}
 use Rattle.aes3_slot.specs.Rules.{at, before, shape, StandsMark, Kept}
 use Rattle.aes3_slot.specs.Preambles.{entry}
 use Rattle.aes3_slot.proofs.Beginnings.{stands-begins, stands-entry}
+use Rattle.aes3_slot.proofs.OwnPreambles.{shape-first}
 use Rattle.aes3_frame.specs.Blocks.{mark_at, block_len}
 use Rattle.aes3_lock.specs.declared.report.Report.{Report}
 use Rattle.aes3_lock.specs.declared.report.Report.TheVariants.{Fault}
@@ -54,12 +54,6 @@ take-changed zero x c l = refl
 take-changed (suc n) x [] l = refl
 take-changed (suc n) zero (y ∷ c) l = absurd (omega arith)
 take-changed (suc n) (suc x) (y ∷ c) l = ap (λ d. y ∷ d) (take-changed n x c (omega arith))
-
--- the first cell of a preamble
-mark-first : (m : Mark) (u : Level) → shape m 0 u ≡ other u
-mark-first X u = refl
-mark-first Y u = refl
-mark-first Z u = refl
 
 -- which cells are determined
 determined : (x : ℕ) → is_determined x ≡ true → (x % 64 < 8) ⊎ (x % 2 ≡ 0)
@@ -167,11 +161,11 @@ module _ (b : List (List Bool)) (s : Level) (c : List Level) (h : StandsClosed b
           let w : 64 * (suc x / 64) ≡ suc x = omega (arith, z) in
           let new : at (changed x c) (suc x) ≡ other (at (changed x c) x) =
           k.preamble a ∙ ap (λ n. shape (mark_at (suc x / 64)) n (before s (changed x c) (64 * (suc x / 64)))) z
-          ∙ mark-first (mark_at (suc x / 64)) (before s (changed x c) (64 * (suc x / 64)))
+          ∙ shape-first (mark_at (suc x / 64)) (before s (changed x c) (64 * (suc x / 64)))
           ∙ ap (λ n. other (before s (changed x c) n)) w in
           let old : at c (suc x) ≡ other (at c x) =
           o.preamble a ∙ ap (λ n. shape (mark_at (suc x / 64)) n (before s c (64 * (suc x / 64)))) z
-          ∙ mark-first (mark_at (suc x / 64)) (before s c (64 * (suc x / 64)))
+          ∙ shape-first (mark_at (suc x / 64)) (before s c (64 * (suc x / 64)))
           ∙ ap (λ n. other (before s c n)) w in
           clash (sym new ∙ same ∙ old)
       go (inr a) =

@@ -1,10 +1,11 @@
 -- Cells with errors, joined, and where no error stands.
 use Rattle.std.proofs.Common.{◌≡◌, ℕ, zero, suc, ◌+◌, ◌%◌, ◌<◌, List, [], ◌∷◌, ◌++◌, length, map, refl, sym}
-use Rattle.std.proofs.Common.{ap, ap₂, ◌∙◌, arith, append_assoc, append-nil, replicate, cond}
+use Rattle.std.proofs.Common.{ap, ap₂, ◌∙◌, arith, append_assoc, append-nil, replicate, cond, true, false}
 use Rattle.std.proofs.Common.{zero-add}
 use Rattle.std.proofs.lemmas.Bool.{lt-ltb}
 use Rattle.std.specs.Prelude.{not, ◌==◌}
 use Rattle.aes3_level.specs.declared.level.Level.{Level}
+use Rattle.aes3_level.specs.Cells.{other}
 use Rattle.aes3_spoil.specs.declared.errors.Errors.{Errors}
 use Rattle.aes3_spoil.specs.declared.kinds.ErrorKind.{ErrorKind}
 use Rattle.aes3_spoil.specs.declared.kinds.ErrorKind.TheVariants.{Changed, Inverted, Lost, Doubled}
@@ -33,6 +34,15 @@ spoiled-join e c d =
 
 pub spoiled-one : (e : Errors) (i : ℕ) (x : Level) → spoiled_from e i (x ∷ []) ≡ spoiled_at e i x
 spoiled-one e i x = append-nil (spoiled_at e i x)
+
+-- all cells as they are, and all turned
+pub same-cells : (c : List Level) → map (level_turned false) c ≡ c
+same-cells [] = refl
+same-cells (x ∷ c) = ap (λ d. x ∷ d) (same-cells c)
+
+pub other-cells : (c : List Level) → map (level_turned true) c ≡ map other c
+other-cells [] = refl
+other-cells (x ∷ c) = ap (λ d. other x ∷ d) (other-cells c)
 
 -- a cell at which no error stands
 pub turned-clear : (e : Errors) (i : ℕ) → errors_at e Changed i ≡ 0 → errors_at e Inverted i ≡ 0
