@@ -1,6 +1,6 @@
 -- Gaps between two places, in two parts, and the account of more reports.
-use Rattle.std.proofs.Common.{◌≡◌, ℕ, zero, suc, ◌+◌, ◌-◌, ◌*◌, ◌/◌, ◌≤◌, Bool, true, false, cond, ltb, List, []}
-use Rattle.std.proofs.Common.{◌∷◌, ◌++◌, length, refl, sym, ap, ap₂, ◌∙◌, arith, append_assoc, length-append}
+use Rattle.std.proofs.Common.{◌≡◌, ℕ, zero, suc, ◌+◌, ◌-◌, ◌*◌, ◌/◌, ◌<◌, ◌≤◌, Bool, true, false, cond, ltb, List}
+use Rattle.std.proofs.Common.{[], ◌∷◌, ◌++◌, length, refl, sym, ap, ap₂, ◌∙◌, arith, append_assoc, length-append}
 use Rattle.std.specs.List.{filter}
 use Rattle.std.proofs.lemmas.List.Elements.{filter-append}
 use Rattle.aes3_frame.specs.Blocks.{block_len}
@@ -106,6 +106,13 @@ lost-rest counts p q = go counts (ltb p q)
     go false true = omega arith
     go k false = omega arith
 
+pub lost-cut : (p q : ℕ) → length (filter is_lost (rest_gap false p q)) ≡ 0
+lost-cut p q = go (ltb p q)
+  where
+    go : (b : Bool) → length (filter is_lost (cond b (kind false p (q - p) ∷ []) [])) ≡ 0
+    go true = refl
+    go false = refl
+
 pub behind-near : (p q : ℕ) → p ≤ q → behind_full p q ≤ q
 unfolding behind_full full_count
 behind-near p q h = rw block_len_24576 (omega arith)
@@ -125,6 +132,10 @@ behind-most p q m h g = rw block_len_24576 (omega arith)
 pub count-few : (p q : ℕ) → full_count p q ≤ q
 unfolding full_count
 count-few p q = rw block_len_24576 (omega arith)
+
+pub count-near : (p q : ℕ) → q < p + block_len → full_count p q ≡ 0
+unfolding full_count
+count-near p q h = rw block_len_24576 (let b = block_len_24576 in omega arith)
 
 pub count-is : (p q s k : ℕ) → s ≡ q - p → k ≡ s / 24576 → k ≡ full_count p q
 unfolding full_count

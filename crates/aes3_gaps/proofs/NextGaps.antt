@@ -12,6 +12,7 @@ use Rattle.aes3_gaps.specs.Gaps.{Entry, reported, lost, full_gaps, full_count, b
 use Rattle.aes3_gaps.specs.Gaps.{gaps_before, behind_report}
 use Rattle.aes3_gaps.specs.Told.{behind_entry, due_gaps, gaps_up_to, reports_in}
 use Rattle.aes3_gaps.proofs.GapLemmas.{behind-join, full-join, gaps-join, before-join, report-join, behind-none}
+use Rattle.aes3_gaps.proofs.GapLemmas.{count-near}
 
 -- a gap of a block's length
 one : (p : ℕ) → full_count p (p + block_len) ≡ 1
@@ -51,18 +52,14 @@ due-next p d h = go d.short
     go (Some counts) = gaps-next counts p d.to h
 
 -- none of it
-none : (p q : ℕ) → q < p + block_len → full_count p q ≡ 0
-unfolding full_count
-none p q h = rw block_len_24576 (let b = block_len_24576 in omega arith)
-
 pub full-none : (p q : ℕ) → q < p + block_len → full_gaps p (full_count p q) ≡ []
-full-none p q h = ap (full_gaps p) (none p q h)
+full-none p q h = ap (full_gaps p) (count-near p q h)
 
 pub full-behind : (p q : ℕ) → q < p + block_len → behind_full p q ≡ p
-full-behind p q h = behind-none p q (none p q h)
+full-behind p q h = behind-none p q (count-near p q h)
 
 rest-only : (counts : Bool) (p q : ℕ) → q < p + block_len → gaps counts p q ≡ rest_gap counts p q
-rest-only counts p q h = ap₂ (λ n m. full_gaps p n ++ rest_gap counts m q) (none p q h) (full-behind p q h)
+rest-only counts p q h = ap₂ (λ n m. full_gaps p n ++ rest_gap counts m q) (count-near p q h) (full-behind p q h)
 
 rest-is : (counts : Bool) (p q : ℕ) → p < q → rest_gap counts p q ≡ kind counts p (q - p) ∷ []
 rest-is counts p q h = ap (λ b. cond b (kind counts p (q - p) ∷ []) []) (lt-ltb p q h)

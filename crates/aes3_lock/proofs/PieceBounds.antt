@@ -1,6 +1,6 @@
 -- Cells from place i up to, but without, place j of a list, and the test of whether something lies in them.
-use Rattle.std.proofs.Common.{◌≡◌, ℕ, ◌+◌, ◌-◌, ◌<◌, ◌≤◌, List, [], Bool, true, false, ◌&&◌, cond, leb, refl, length, take}
-use Rattle.std.proofs.Common.{drop, ap, ◌∙◌, arith, length-take, length-drop, drop-drop}
+use Rattle.std.proofs.Common.{◌≡◌, ℕ, ◌+◌, ◌-◌, ◌<◌, ◌≤◌, List, [], Bool, true, false, ◌&&◌, cond, leb, refl, length}
+use Rattle.std.proofs.Common.{take, drop, ap, ◌∙◌, arith, length-take, length-drop, drop-drop}
 use Rattle.std.proofs.lemmas.Bool.{le-leb, lt-leb}
 use Rattle.std.proofs.lemmas.List.{drop-take}
 use Rattle.aes3_level.specs.declared.level.Level.{Level}

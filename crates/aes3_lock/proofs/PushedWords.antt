@@ -1,6 +1,6 @@
 -- The cells of a word taken part by part.
-use Rattle.std.proofs.Common.{◌≡◌, ℕ, ◌+◌, ◌/◌, ◌^◌, ◌<◌, ◌≤◌, false, refl, List, [], ◌++◌, length, take, drop, get_or, append-nil, ap}
-use Rattle.std.proofs.Common.{◌∙◌, sym, subst, arith, append_assoc}
+use Rattle.std.proofs.Common.{◌≡◌, ℕ, ◌+◌, ◌/◌, ◌^◌, ◌<◌, ◌≤◌, false, refl, List, [], ◌++◌, length, take, drop, get_or}
+use Rattle.std.proofs.Common.{append-nil, ap, ◌∙◌, sym, subst, arith, append_assoc}
 use Rattle.std.specs.Prelude.{Option, Some, None, option_map, option_to_list}
 use Rattle.std.specs.Option.{is_some}
 use Rattle.std.specs.List.{flat_map}

@@ -13,7 +13,8 @@ use Rattle.aes3_spoil.specs.declared.kinds.ErrorKind.TheVariants.{Changed, Inver
 use Rattle.aes3_spoil.specs.Errors.{Clear, errors_at, errors_before, errors_of, same_kind}
 use Rattle.aes3_spoil.specs.SpoilLaws.{IsOne}
 use Rattle.aes3_spoil.specs.Spoiled.{is_odd, is_turned, level_turned, spoiled, spoiled_at, spoiled_from}
-use Rattle.aes3_spoil.proofs.SpoiledCells.{cell-clear, cells-clear, times-none, times-once, times-twice, same-cells, other-cells}
+use Rattle.aes3_spoil.proofs.SpoiledCells.{cell-clear, cells-clear, times-none, times-once, times-twice}
+use Rattle.aes3_spoil.proofs.SpoiledCells.{same-cells, other-cells}
 
 -- what stands at a cell
 no-errors : (e : Errors) → errors_of e ≡ [] → e.every ≡ None → (kind : ErrorKind) (i : ℕ) → errors_at e kind i ≡ 0
