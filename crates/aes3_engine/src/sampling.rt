@@ -71,7 +71,8 @@ fn low_bits_in(exact: bool, piece: &[u8], at: usize) -> Option<usize>
 }
 
 /// Writes the block of samples of 32 bits with its channel status, as a block file has it whose
-/// words are in this form. It is called once for each block, so that none is copied on its way.
+/// words are in this form.
+// One place for all forms of samples: where each form makes its own block, that is copied once more.
 #[inline(never)]
 fn put_wide<T: Sink>(
     samples: &[u8; BLOCK_BYTES],
