@@ -74,7 +74,7 @@ fn low_bits_in(exact: bool, piece: &[u8], at: usize) -> Option<usize>
 /// words are in this form.
 // One place for all forms of samples: where each form makes its own block, that is copied once more.
 #[inline(never)]
-fn put_wide<T: Sink>(
+fn put_widened<T: Sink>(
     samples: &[u8; BLOCK_BYTES],
     change: &Change,
     words: Words,
@@ -108,10 +108,10 @@ fn put_samples<T: Sink>(
         (map payload_of_sample (words_in format (take (block_len format) samples.now)))))) }
 {
     match format {
-        SampleFormat::S32 => put_wide(samples, change, words, sink),
-        SampleFormat::S24 => put_wide(&format.widen(samples), change, words, sink),
-        SampleFormat::S24In32 => put_wide(&format.widen(samples), change, words, sink),
-        SampleFormat::S16 => put_wide(&format.widen(samples), change, words, sink),
+        SampleFormat::S32 => put_widened(samples, change, words, sink),
+        SampleFormat::S24 => put_widened(&format.widen(samples), change, words, sink),
+        SampleFormat::S24In32 => put_widened(&format.widen(samples), change, words, sink),
+        SampleFormat::S16 => put_widened(&format.widen(samples), change, words, sink),
     }
 }
 
