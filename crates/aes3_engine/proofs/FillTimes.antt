@@ -18,7 +18,7 @@ use Rattle.aes3_lock.proofs.NormalStreams.{blocks-lawful}
 use Rattle.aes3_lock.proofs.ReportPlaces.{Spaced, spaced-weaker, spaced-reports}
 use Rattle.aes3_engine.specs.Filling.{Placed, placed, frame_cells, frame_bytes, block_frames, frames_between, filling}
 use Rattle.aes3_engine.specs.Filling.{repeated, between, filled_behind, filled, InRow, StandsInTime, KeepsTime}
-use Rattle.aes3_engine.proofs.WordsBack.{length-bytes}
+use Rattle.aes3_frame.proofs.FileLaws.{length-bytes}
 
 -- blocks have their subframes, and each stands behind all of the one before it
 abbrev pub Sized : List Placed → Type 0

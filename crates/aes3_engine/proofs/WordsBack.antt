@@ -20,7 +20,7 @@ use Rattle.aes3_level.specs.declared.level.Level.{Level}
 use Rattle.aes3_level.specs.declared.level.Level.TheVariants.{Low}
 use Rattle.aes3_frame.specs.Blocks.{stream}
 use Rattle.aes3_frame.specs.Files.{file_blocks}
-use Rattle.aes3_frame.proofs.FileLaws.{file_blocks-file}
+use Rattle.aes3_frame.proofs.FileLaws.{file_blocks-file, length-bytes}
 use Rattle.aes3_cell.specs.declared.counts.Counts.{Counts}
 use Rattle.aes3_cell.specs.declared.refusal.RunError.{RunError}
 use Rattle.aes3_cell.specs.Ends.{Grew, Told}
@@ -47,10 +47,6 @@ codes-words (w ∷ ws) h zero = let z = h 0 in omega (arith, z)
 codes-words (w ∷ ws) h (suc i) =
     let e : 4 * suc i ≡ suc (suc (suc (suc (4 * i)))) = omega arith in
     ap (λ n. get_or (flat_map word_bytes (w ∷ ws)) n 0 % 16) e ∙ codes-words ws (λ j. h (suc j)) i
-
-pub length-bytes : (ws : List ℕ) → length (flat_map word_bytes ws) ≡ 4 * length ws
-length-bytes [] = refl
-length-bytes (w ∷ ws) = let h = length-bytes ws in omega (arith, h)
 
 no-codes : (slots : List (List Bool)) (j : ℕ) → get_or (map word_of slots) j 0 % 16 ≡ 0
 no-codes [] j = refl

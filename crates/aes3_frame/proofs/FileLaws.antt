@@ -97,7 +97,7 @@ count-words (b ∷ bs) h =
     let n = count-words bs h.1 in
     omega arith
 
-length-bytes : (ws : List ℕ) → length (flat_map word_bytes ws) ≡ 4 * length ws
+pub length-bytes : (ws : List ℕ) → length (flat_map word_bytes ws) ≡ 4 * length ws
 length-bytes [] = refl
 length-bytes (w ∷ ws) = let e = length-append (word_bytes w) (flat_map word_bytes ws) in
     let i = length-bytes ws in omega arith
