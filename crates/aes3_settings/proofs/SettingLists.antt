@@ -3,7 +3,8 @@ use Rattle.std.proofs.Common.{◌≡◌, ◌≢◌, ◌∙◌, ℕ, ◌+◌, ◌
 use Rattle.std.proofs.Common.{ap, sym, subst, take, arith}
 use Rattle.std.proofs.Math.ListN.{set}
 use Rattle.std.proofs.lemmas.Bool.{cases_lt}
-use Rattle.std.proofs.lemmas.List.{get_or-set_same, get_or-set_other, get_or-replicate, length-set, get_or_past, take_all}
+use Rattle.std.proofs.lemmas.List.{get_or-set_same, get_or-set_other, get_or-replicate, length-set, get_or_past}
+use Rattle.std.proofs.lemmas.List.{take_all}
 use Rattle.std.proofs.lemmas.List.Sums.{fold_more}
 use Rattle.aes3_status.specs.declared.setting.Setting.{Setting}
 use Rattle.aes3_status.specs.declared.setting.Settings.{Settings}
@@ -37,7 +38,8 @@ none-set texts = record { len = refl; own = λ k e. absurd (omega (arith, e)); r
 pub one-more : (texts : List (List ℕ)) (n : ℕ) (settings : Settings) (professional consumer : Setting)
     (wide : WideSettings) → n < length texts → length texts ≤ 32 → SetUpTo texts n settings
     → ¬ IsUnknown (get_or texts n []) → IsSetBy (get_or texts n []) professional_fields professional
-    → IsSetBy (get_or texts n []) consumer_fields consumer → wide ≡ with_wide (wide_in (get_or texts n [])) settings.wide
+    → IsSetBy (get_or texts n []) consumer_fields consumer
+    → wide ≡ with_wide (wide_in (get_or texts n [])) settings.wide
     → SetUpTo texts (n + 1)
     (record { codes = set (set settings.codes (2 * n) professional) (2 * n + 1) consumer; wide = wide })
 one-more texts n settings professional consumer wide within few before known for_professional for_consumer taken =

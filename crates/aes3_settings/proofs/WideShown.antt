@@ -1,7 +1,7 @@
 -- Fields of four bytes, from the texts that set them to what is printed of them.
 use Rattle.std.proofs.Common.{◌≡◌, ◌∙◌, ◌<◌, ◌≤◌, ◌+◌, ◌^◌, ℕ, zero, suc, Bool, true, false, cond, List, []}
-use Rattle.std.proofs.Common.{◌∷◌, ◌++◌, Option, Some, None, length, take, drop, get_or, map, refl, ap, ap₂, append_assoc, subst, sym, arith}
-use Rattle.std.proofs.Common.{nat_lt, eqb-true}
+use Rattle.std.proofs.Common.{◌∷◌, ◌++◌, Option, Some, None, length, take, drop, get_or, map, refl, ap, ap₂}
+use Rattle.std.proofs.Common.{append_assoc, subst, sym, arith, nat_lt, eqb-true}
 use Rattle.std.proofs.Math.Seq.{drop-cons}
 use Rattle.std.proofs.lemmas.Bool.{and_parts, ltb-true}
 use Rattle.std.proofs.lemmas.List.{take-append-drop}
@@ -103,8 +103,8 @@ parts-are text h =
     ∙ ap₂ (λ x xs. x ∷ xs) (eqb-true (get_or text k 0) 61 (passes_at_first is_equals text 0 h))
     (ap (λ n. drop n text) next))
 
-worded : (f g : WideField) (four : List ℕ) (o : Option (List ℕ)) → option_map {U = WideField × List ℕ} (λ x. (g, x)) o ≡ Some (f, four)
-    → (g ≡ f) × (o ≡ Some four)
+worded : (f g : WideField) (four : List ℕ) (o : Option (List ℕ))
+    → option_map {U = WideField × List ℕ} (λ x. (g, x)) o ≡ Some (f, four) → (g ≡ f) × (o ≡ Some four)
 worded f g four None e = cc
 worded f g four (Some x) e = (
   ap (λ (p : Option (WideField × List ℕ)). (unwrap_or p (g, x)).0) e,
