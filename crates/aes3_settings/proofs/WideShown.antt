@@ -1,14 +1,14 @@
 -- Fields of four bytes, from the texts that set them to what is printed of them.
 use Rattle.std.proofs.Common.{◌≡◌, ◌∙◌, ◌<◌, ◌≤◌, ◌+◌, ◌^◌, ℕ, zero, suc, Bool, true, false, cond, List, []}
 use Rattle.std.proofs.Common.{◌∷◌, ◌++◌, Option, Some, None, length, take, drop, get_or, map, refl, ap, ap₂}
-use Rattle.std.proofs.Common.{append_assoc, subst, sym, arith, nat_lt, eqb-true}
+use Rattle.std.proofs.Common.{◌≢◌, append_assoc, subst, sym, arith, nat_lt, eqb-true}
 use Rattle.std.proofs.Math.Seq.{drop-cons}
 use Rattle.std.proofs.lemmas.Bool.{and_parts, ltb-true}
 use Rattle.std.proofs.lemmas.List.{take-append-drop}
-use Rattle.std.proofs.lemmas.List.Sums.{passes_at_first}
+use Rattle.std.proofs.lemmas.List.Sums.{fold-append, passes_at_first}
 use Rattle.std.proofs.lemmas.Slice.Eq.{bytes_eq-Decides}
 use Rattle.std.specs.Int.{to_le_bytes, w32}
-use Rattle.std.specs.List.{after_first, before_first, list_all, position_or_len}
+use Rattle.std.specs.List.{after_first, before_first, Contains, list_all, position_or_len}
 use Rattle.std.specs.Prelude.{codes, decimal, fold, option_and_then, option_map, ◌==◌, ◌&&◌}
 use Rattle.std.specs.Option.{unwrap_or}
 use Rattle.std.specs.Str.{bytes_eq}
@@ -21,9 +21,10 @@ use Rattle.aes3_status.specs.Wide.{AreFours, set_wide, wide_bytes, wide_given}
 use Rattle.aes3_status.proofs.BitFields.{drop-bytes, four-bytes, take-four}
 use Rattle.aes3_status.proofs.WideFields.{others-stay, wide-back}
 use Rattle.aes3_settings.specs.Fields.{field_text, shown}
-use Rattle.aes3_settings.specs.WideShown.{WideIsShown, WideTextsAreFours, wide_shown, wide_text}
+use Rattle.aes3_settings.specs.WideShown.{LastTextCounts, WideIsShown, WideTextsAreFours, wide_shown, wide_text}
 use Rattle.aes3_settings.specs.WideTexts.{address_in, characters_in, four_in, is_character, is_equals, is_numeral}
-use Rattle.aes3_settings.specs.WideTexts.{no_wide, wide_in, wide_name, wide_named, wide_of_parts, with_four, with_wide}
+use Rattle.aes3_settings.specs.WideTexts.{no_wide, wide_in, wide_name, wide_named, wide_of_parts}
+use Rattle.aes3_settings.specs.WideTexts.{wide_of_texts, with_four, with_wide}
 use Rattle.aes3_settings.specs.WideTexts.{written}
 
 -- ---- a number of four bytes
@@ -227,6 +228,55 @@ none Time x e = cc
 
 pub texts-are-fours : WideTextsAreFours
 texts-are-fours texts = more texts no_wide none
+
+-- the field then has the bytes
+given-four : (f : WideField) (four : List ℕ) (wide : WideSettings) → wide_given (with_four f four wide) f ≡ Some four
+given-four Origin four wide = refl
+given-four Destination four wide = refl
+given-four Local four wide = refl
+given-four Time four wide = refl
+
+-- what is set of another field leaves it
+other-four : (f g : WideField) (four : List ℕ) (wide : WideSettings) → (g ≡ f → ⊥)
+    → wide_given (with_four g four wide) f ≡ wide_given wide f
+other-four Origin Origin four wide n = absurd (n refl)
+other-four Origin Destination four wide n = refl
+other-four Origin Local four wide n = refl
+other-four Origin Time four wide n = refl
+other-four Destination Destination four wide n = absurd (n refl)
+other-four Destination Origin four wide n = refl
+other-four Destination Local four wide n = refl
+other-four Destination Time four wide n = refl
+other-four Local Local four wide n = absurd (n refl)
+other-four Local Origin four wide n = refl
+other-four Local Destination four wide n = refl
+other-four Local Time four wide n = refl
+other-four Time Time four wide n = absurd (n refl)
+other-four Time Origin four wide n = refl
+other-four Time Destination four wide n = refl
+other-four Time Local four wide n = refl
+
+one-stays : (text : List ℕ) (f : WideField) (o : Option (WideField × List ℕ)) (wide : WideSettings)
+    → ((four : List ℕ) → o ≢ Some (f, four)) → wide_given (with_wide o wide) f ≡ wide_given wide f
+one-stays text f None wide n = refl
+one-stays text f (Some set) wide n =
+    other-four f set.0 set.1 wide (λ e. n set.1 (ap (λ (g : WideField). Some (g, set.1)) e))
+
+all-stay : (texts : List (List ℕ)) (f : WideField) (wide : WideSettings)
+    → ((other four : List ℕ) → Contains texts other → wide_in other ≢ Some (f, four))
+    → wide_given (fold (λ old text. with_wide (wide_in text) old) wide texts) f ≡ wide_given wide f
+all-stay [] f wide n = refl
+all-stay (text ∷ texts) f wide n =
+    all-stay texts f (with_wide (wide_in text) wide)
+    (λ other four among. n other four (suc among.0, omega (arith, among.1), among.2))
+    ∙ one-stays text f (wide_in text) wide (λ four. n text four (0, omega arith, refl))
+
+pub last-counts : LastTextCounts
+last-counts before behind text f four e n =
+    let old = wide_of_texts before in
+    ap (λ w. wide_given w f) (fold-append (λ wide t. with_wide (wide_in t) wide) no_wide before (text ∷ behind))
+    ∙ all-stay behind f (with_wide (wide_in text) old) n
+    ∙ ap (λ o. wide_given (with_wide o old) f) e ∙ given-four f four old
 
 -- ---- what is printed
 characters-shown : (name text word four bytes : List ℕ) → text ≡ name ++ 61 ∷ word → AreCharacters word four

@@ -1,6 +1,6 @@
 -- What `show` prints of a field of four bytes that a text sets.
-use Rattle.std.specs.Prelude.{ℕ, List, ◌++◌, Some, true, ◌≡◌, codes, decimal, length, map}
-use Rattle.std.specs.List.{after_first}
+use Rattle.std.specs.Prelude.{ℕ, List, ◌++◌, Some, true, ◌≡◌, ◌≢◌, ◌∷◌, codes, decimal, length, map}
+use Rattle.std.specs.List.{Contains, after_first}
 use Rattle.aes3_status.specs.declared.wide.WideField.{WideField}
 use Rattle.aes3_status.specs.declared.wide.WideField.TheVariants.{Origin, Destination, Local, Time}
 use Rattle.aes3_status.specs.declared.wide.WideSettings.{WideSettings}
@@ -33,3 +33,10 @@ abbrev pub WideIsShown : Type 0
 WideIsShown = (text : List ℕ) (f : WideField) (four bytes : List ℕ) (wide : WideSettings) → length bytes ≡ 24
     → is_professional bytes ≡ true → AreFours wide → wide_in text ≡ Some (f, four) → wide_given wide f ≡ Some four
     → wide_shown f (set_wide wide bytes) ≡ wide_text f text
+
+-- of the texts for a field the last counts
+abbrev pub LastTextCounts : Type 0
+LastTextCounts = (before behind : List (List ℕ)) (text : List ℕ) (f : WideField) (four : List ℕ)
+    → wide_in text ≡ Some (f, four)
+    → ((other other_four : List ℕ) → Contains behind other → wide_in other ≢ Some (f, other_four))
+    → wide_given (wide_of_texts (before ++ text ∷ behind)) f ≡ Some four

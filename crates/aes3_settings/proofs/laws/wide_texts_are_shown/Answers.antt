@@ -1,4 +1,4 @@
-use Rattle.aes3_settings.proofs.WideShown.{is-shown, texts-are-fours}
+use Rattle.aes3_settings.proofs.WideShown.{is-shown, last-counts, texts-are-fours}
 use Rattle.aes3_settings.proofs.laws.wide_texts_are_shown.Goals as goal
 
 pub returns-clause-four : goal.returns-clause-four
@@ -6,3 +6,6 @@ returns-clause-four c = texts-are-fours
 
 pub returns-clause-shown : goal.returns-clause-shown
 returns-clause-shown c = is-shown
+
+pub returns-clause-last : goal.returns-clause-last
+returns-clause-last c = last-counts
