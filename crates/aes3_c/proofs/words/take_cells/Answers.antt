@@ -1,20 +1,12 @@
-use Rattle.std.proofs.Common.{◌≡◌, ◌+◌, ◌-◌, ◌++◌, [], false, Option, Some, None, refl, sym, ap, ◌∙◌, arith, append-nil}
-use Rattle.std.specs.Prelude.{option_map, option_to_list}
-use Rattle.std.specs.Option.{is_some}
+use Rattle.std.proofs.Common.{◌≡◌, ◌+◌, ◌-◌, ◌++◌, [], sym, ap, ◌∙◌, arith, append-nil}
 use Rattle.std.specs.List.{flat_map}
 use Rattle.aes3_level.specs.Words.{word_cells}
-use Rattle.aes3_lock.specs.declared.report.Ending.{Ending}
-use Rattle.aes3_lock.specs.declared.report.Report.{Report}
 use Rattle.aes3_lock.specs.Reports.{decided}
 use Rattle.aes3_lock.specs.Following.{report_in}
+use Rattle.aes3_lock.proofs.PushedWords.{no-ending}
 use Rattle.aes3_c.specs.Octets.{cells_in}
 use Rattle.aes3_c.proofs.OctetCells.{more-follows, more-reports}
 use Rattle.aes3_c.proofs.words.take_cells.Goals as goal
-
-no-ending : (report : Ending → Report) (o : Option Ending) → is_some o ≡ false
-    → option_to_list (option_map report o) ≡ []
-no-ending report None e = refl
-no-ending report (Some x) e = cc
 
 -- some more cells tell nothing
 pub loop-taken-preserved : goal.loop-taken-preserved
