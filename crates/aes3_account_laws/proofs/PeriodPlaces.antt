@@ -27,7 +27,7 @@ use Rattle.aes3_account.specs.Signals.{validity_events}
 use Rattle.aes3_account.specs.Sums.{change_of, changes_in, counted_report, says, with_lost, with_whole}
 use Rattle.aes3_account.specs.Watching.{behind_reports, events_from, is_told, loss_events, next, told_events, up_to}
 use Rattle.aes3_account.specs.Watching.{whole_events}
-use Rattle.aes3_gaps.proofs.GapLemmas.{behind-near}
+use Rattle.aes3_gaps.proofs.GapLemmas.{behind-near, count-near}
 use Rattle.aes3_lock.proofs.ReportPlaces.{Spaced, next_place, spaced-weaker}
 use Rattle.aes3_account.proofs.WatchedCells.{either, loss-told, or-false, up-is-told}
 use Rattle.aes3_account_laws.specs.PeriodLaws.{counts_at, figures_of, in_64_bits, lost_cells, told_at}
@@ -73,16 +73,12 @@ full-before q p (suc n) m e h =
       full-before q (p + block_len) n m (omega arith) h,
     )
 
-count-none : (p q : ℕ) → q ≤ p → full_count p q ≡ 0
-unfolding full_count
-count-none p q h = rw block_len_24576 (omega arith)
-
 pub chunk-before : (p q : ℕ) → AllBefore counts_at q (full_gaps p (full_count p q))
 unfolding behind_full
 chunk-before p q = go (cases_lt q p)
   where
     go : (q < p) ⊎ (p ≤ q) → AllBefore counts_at q (full_gaps p (full_count p q))
-    go (inl l) = subst (λ n. AllBefore counts_at q (full_gaps p n)) (sym (count-none p q (omega arith))) tt
+    go (inl l) = subst (λ n. AllBefore counts_at q (full_gaps p n)) (sym (count-near p q (omega arith))) tt
     go (inr l) = full-before q p (full_count p q) (behind_full p q) refl (behind-near p q l)
 
 pub behind-past : (p q : ℕ) → q < behind_full p q + block_len

@@ -25,7 +25,7 @@ use Rattle.aes3_lock.proofs.PieceBounds.{length-piece}
 use Rattle.aes3_gaps.specs.Gaps.{reported, full_gaps, full_count, behind_full, kind, rest_gap, gaps, account_from}
 use Rattle.aes3_gaps.specs.Gaps.{reached_from, account, is_lost}
 use Rattle.aes3_account_laws.specs.GapLaws.{InRow, LosesNothing}
-use Rattle.aes3_gaps.proofs.GapLemmas.{lost-append, lost-full}
+use Rattle.aes3_gaps.proofs.GapLemmas.{behind-none, count-near, lost-append, lost-cut, lost-full}
 use Rattle.aes3_account_laws.proofs.LostGaps.{length-blocks, row-first}
 use Rattle.aes3_lock.proofs.ReportPlaces.{Spaced, UpTo, near-reports, next_place, spaced-weaker, spaced-reports}
 
@@ -251,34 +251,17 @@ spaced-all p (y ∷ r) x s (suc k, l, e)
     next-behind (Fault at cell why) = omega arith
     next-behind (Unfinished at n) = omega arith
 
-near-none : (p q : ℕ) → q < p + block_len → full_count p q ≡ 0
-unfolding full_count
-near-none p q l =
-    let m : q < p + 24576 = subst (λ (v : ℕ). q < p + v) block_len_24576 l in
-    ap (λ (v : ℕ). (q - p) / v) block_len_24576 ∙ omega arith
-
-cut-none : (p q : ℕ) → length (filter is_lost (rest_gap false p q)) ≡ 0
-cut-none p q = go (ltb p q)
-  where
-    go : (b : Bool) → length (filter is_lost (cond b (kind false p (q - p) ∷ []) [])) ≡ 0
-    go true = refl
-    go false = refl
-
 last-none : (p q : ℕ) → q < p + block_len → length (filter is_lost (gaps false p q)) ≡ 0
 last-none p q l =
     let a = lost-append (full_gaps p (full_count p q)) (rest_gap false (behind_full p q) q) in
     let f = lost-full p (full_count p q) in
-    let n = near-none p q l in
-    let c = cut-none (behind_full p q) q in
+    let n = count-near p q l in
+    let c = lost-cut (behind_full p q) q in
     omega arith
 
 -- a report that no whole block follows is near the end, and one that a whole block follows is before it
 full-none : (p at : ℕ) → full_count p at ≡ 0 → length (filter is_lost (full_gaps p (full_count p at))) ≡ 0
 full-none p at e = lost-full p (full_count p at) ∙ e
-
-behind-near : (p at : ℕ) → full_count p at ≡ 0 → behind_full p at ≡ p
-unfolding behind_full
-behind-near p at e = ap (λ z. p + block_len * z) e ∙ rw block_len_24576 (omega arith)
 
 -- of reports behind a whole block
 abbrev NoneLost : ℕ → ℕ → ℕ → List Report → Type 0
@@ -293,8 +276,8 @@ none-more m n p at x r e h =
     let f = full-none p at e in
     let z : n + 0 ≡ n = omega arith in
     let b = ap (λ v. length (filter is_lost (account_from v (behind_full p at) r))) z in
-    let c = ap (λ v. length (filter is_lost (account_from n v r))) (behind-near p at e) in
-    let d = ap (λ v. length (filter is_lost (gaps false (reached_from v r) m))) (behind-near p at e) in
+    let c = ap (λ v. length (filter is_lost (account_from n v r))) (behind-none p at e) in
+    let d = ap (λ v. length (filter is_lost (gaps false (reached_from v r) m))) (behind-none p at e) in
     omega arith
 
 -- the place of a report that is not whole, where those behind it stand in a row from the place up to which all is
@@ -302,7 +285,7 @@ none-more m n p at x r e h =
 before-end : (m p at : ℕ) (r : List Report) → p ≤ at → at ≤ m → Spaced (suc at) r → InRow p r
     → m < p + block_len * (length (wholes r) + 1) → full_count p at ≡ 0
 before-end m p at r h l s w e = elim (row-first p r w) [
-  | inl n ↦ near-none p at (let z = ap length n in let y : m < p + block_len
+  | inl n ↦ count-near p at (let z = ap length n in let y : m < p + block_len
       = ends-near m p (length (wholes r)) z e in omega arith)
   | inr f ↦ absurd (let y = spaced-all (suc at) r (Whole p f.0 f.1) s f.2 in omega arith)
 ]
@@ -320,10 +303,10 @@ one-less m p w l =
 -- gaps between a place and itself
 same-none : (counts : Bool) (p : ℕ) → length (filter is_lost (gaps counts p p)) ≡ 0
 same-none counts p =
-    let n = near-none p p (let k = block_len_24576 in omega arith) in
+    let n = count-near p p (let k = block_len_24576 in omega arith) in
     let a = lost-append (full_gaps p (full_count p p)) (rest_gap counts (behind_full p p) p) in
     let f = full-none p p n in
-    let b = behind-near p p n in
+    let b = behind-none p p n in
     let r : length (filter is_lost (rest_gap counts (behind_full p p) p))
     ≡ length (filter is_lost (rest_gap counts p p)) = ap (λ v. length (filter is_lost (rest_gap counts v p))) b in
     let z = nothing counts (ltb p p) (le-ltb p p (omega arith)) in
@@ -364,7 +347,7 @@ before-first : (a at : ℕ) (r : List Report) → a < block_len → Spaced (suc 
     → full_count 0 at ≡ 0
 before-first a at r l s w some = elim (row-first a r w) [
   | inl n ↦ absurd (some n)
-  | inr f ↦ near-none 0 at (let y = spaced-all (suc at) r (Whole a f.0 f.1) s f.2 in omega arith)
+  | inr f ↦ count-near 0 at (let y = spaced-all (suc at) r (Whole a f.0 f.1) s f.2 in omega arith)
 ]
 
 first-row : (m a : ℕ) (r : List Report) → a < block_len → Spaced 0 r → UpTo m r → InRow a r

@@ -16,7 +16,7 @@ use Rattle.aes3_account.specs.Signals.{signals_of}
 use Rattle.aes3_account.specs.Kept.{Signals}
 use Rattle.aes3_account.specs.Kept.{Watched}
 use Rattle.aes3_account.specs.Watching.{unwatched, is_told, up_to, slips, behind_whole, next, behind_reports, ended}
-use Rattle.aes3_gaps.proofs.GapLemmas.{behind-none, lost-append, lost-full}
+use Rattle.aes3_gaps.proofs.GapLemmas.{behind-none, count-near, lost-append, lost-cut, lost-full}
 use Rattle.aes3_account.proofs.WatchedCells.{either, up-losses, up-told}
 
 abbrev count : List Entry → ℕ
@@ -31,11 +31,7 @@ more : {a b m : ℕ} → 0 < a → m < b → Same a b m
 more h g = record { one = λ e. omega arith; other = λ e. omega arith }
 
 near-none : (p q : ℕ) → ltb (q - p) block_len ≡ true → full_count p q ≡ 0
-unfolding full_count
-near-none p q e = let l = ltb-true (q - p) block_len e in let m = block_len_24576 in go l
-  where
-    go : q - p < block_len → full_count p q ≡ 0
-    go h = rw block_len_24576 (let g : q - p < 24576 = subst (λ n. q - p < n) block_len_24576 h in omega arith)
+near-none p q e = let l = ltb-true (q - p) block_len e in count-near p q (omega arith)
 
 far-some : (p q : ℕ) → ltb (q - p) block_len ≡ false → 0 < full_count p q
 unfolding full_count
@@ -79,13 +75,6 @@ up-far : {w : Watched} {n p : ℕ} (q : ℕ) → Even w n p → ltb (q - p) bloc
 up-far {w} q h e = ap (λ v. v.losses) (up-told w q false (told-by q false h e))
 
 -- how many gaps count
-cut-none : (p q : ℕ) → count (rest_gap false p q) ≡ 0
-cut-none p q = go (ltb p q)
-  where
-    go : (b : Bool) → count (cond b (kind false p (q - p) ∷ []) []) ≡ 0
-    go true = refl
-    go false = refl
-
 gaps-count : (k : Bool) (p q : ℕ) → count (gaps k p q) ≡ full_count p q + count (rest_gap k (behind_full p q) q)
 gaps-count k p q = lost-append (full_gaps p (full_count p q)) (rest_gap k (behind_full p q) q)
     ∙ ap (λ m. m + count (rest_gap k (behind_full p q) q)) (lost-full p (full_count p q))
@@ -97,7 +86,7 @@ at-end w n p q h = go (either (ltb (q - p) block_len))
         → Same (count (gaps false p q)) (up_to w q).losses w.losses
     go (inl e) = record {
       one = λ z. ap (λ v. v.losses) (up-near q h e);
-      other = λ z. let a = gaps-count false p q in let b = near-none p q e in let d = cut-none (behind_full p q)
+      other = λ z. let a = gaps-count false p q in let b = near-none p q e in let d = lost-cut (behind_full p q)
           q in omega arith;
     }
     go (inr e) = let a = gaps-count false p q in let f = far-some p q e in let u = up-far q h e in more (omega arith)
