@@ -37,6 +37,10 @@ _aes3_setting() {
         b5=*) _aes3_words b5={0..255} ;;
         unreliable=*) _aes3_words unreliable={0000,1000,0100,1100,0010,1010,0110,1110,0001,1001,0101,1101,0011,1011,0111,1111} ;;
         b22low=*) _aes3_words b22low={0,1,2,3,4,5,6,7,8,9,10,11,12,13,14,15} ;;
+        origin=*) ;;
+        destination=*) ;;
+        local=*) ;;
+        time=*) ;;
         copyright=*) _aes3_words copyright={asserted,not-asserted} ;;
         category=*) _aes3_words category={general,cd,dat,pcm-coder,dab-japan,synthesizer,adc,solid-state-recorder,non-iec908-cd,video-recorder,dab-europe,microphone,mixer,adc-copyright,dvd,rate-converter,magnetic-disc,sampler,iec62105,sound-processor,experimental,dcc,software-delivery,mini-disc,dab-usa,other-adc,other-adc-copyright,other-solid-state,other-laser-optical,other-converter,other-magnetic,other-broadcast,other-musical} ;;
         generation=*) _aes3_words generation={0,1} ;;
@@ -46,7 +50,7 @@ _aes3_setting() {
         b3high=*) _aes3_words b3high={0,1,2,3} ;;
         greatest=*) _aes3_words greatest={20,24} ;;
         original=*) _aes3_words original={0,1,2,3,4,5,6,7,8,9,10,11,12,13,14,15,not-indicated,192000,12000,176400,96000,8000,88200,16000,24000,11025,22050,32000,48000,44100} ;;
-        *) compopt -o nospace; _aes3_words use= payload= emphasis= unlocked= rate= mode= user= aux= word= b2high= b3= b4= b5= unreliable= b22low= copyright= category= generation= source= number= accuracy= b3high= greatest= original= ;;
+        *) compopt -o nospace; _aes3_words use= payload= emphasis= unlocked= rate= mode= user= aux= word= b2high= b3= b4= b5= unreliable= b22low= origin= destination= local= time= copyright= category= generation= source= number= accuracy= b3high= greatest= original= ;;
     esac
 }
 

@@ -31,6 +31,10 @@ function __aes3_setting
             printf 'unreliable=%s\n' 0000 1000 0100 1100 0010 1010 0110 1110 0001 1001 0101 1101 0011 1011 0111 1111
         case 'b22low=*'
             printf 'b22low=%s\n' 0 1 2 3 4 5 6 7 8 9 10 11 12 13 14 15
+        case 'origin=*'
+        case 'destination=*'
+        case 'local=*'
+        case 'time=*'
         case 'copyright=*'
             printf 'copyright=%s\n' asserted not-asserted
         case 'category=*'
@@ -50,7 +54,7 @@ function __aes3_setting
         case 'original=*'
             printf 'original=%s\n' 0 1 2 3 4 5 6 7 8 9 10 11 12 13 14 15 not-indicated 192000 12000 176400 96000 8000 88200 16000 24000 11025 22050 32000 48000 44100
         case '*'
-            printf '%s=\n' use payload emphasis unlocked rate mode user aux word b2high b3 b4 b5 unreliable b22low copyright category generation source number accuracy b3high greatest original
+            printf '%s=\n' use payload emphasis unlocked rate mode user aux word b2high b3 b4 b5 unreliable b22low origin destination local time copyright category generation source number accuracy b3high greatest original
     end
 end
 complete -c aes3 -f

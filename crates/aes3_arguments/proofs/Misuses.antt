@@ -1,7 +1,7 @@
 -- Options that are misused.
 use Rattle.std.proofs.Common.{◌≡◌, Bool, Option, Some, None, true, false, not, refl, sym, ap, cond, is_some, true≢false}
 use Rattle.aes3_arguments.specs.Jobs.{Options, has_no_cells_packed, has_no_rate, has_two_forms, has_two_periods}
-use Rattle.aes3_arguments.specs.Jobs.{fills_valid_samples, has_unknown_bits, has_unknown_filling, misuse_by}
+use Rattle.aes3_arguments.specs.Jobs.{has_unknown_bits, misuse_by}
 use Rattle.aes3_arguments.specs.declared.misuse.Misuse.{Misuse}
 
 -- what is told first of two

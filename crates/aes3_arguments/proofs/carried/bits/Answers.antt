@@ -1,4 +1,4 @@
-use Rattle.std.proofs.Common.{◌≡◌, ◌∙◌, codes, sym, ap}
+use Rattle.std.proofs.Common.{◌∙◌, codes, sym, ap}
 use Rattle.std.specs.Prelude.{option_and_then}
 use Rattle.aes3_arguments.specs.Jobs.{bits_in}
 use Rattle.aes3_arguments.proofs.OptionReads.{text_is}

@@ -1,4 +1,4 @@
-use Rattle.std.proofs.Common.{◌≡◌, ◌∙◌, codes, true, false, sym, ap}
+use Rattle.std.proofs.Common.{codes, true, false, sym, ap}
 use Rattle.std.specs.Prelude.{option_and_then}
 use Rattle.aes3_arguments.specs.Jobs.{named_file, options_of}
 use Rattle.aes3_arguments.proofs.Files.{file_is}

@@ -1,4 +1,4 @@
-use Rattle.std.proofs.Common.{◌≡◌, ◌∙◌, Option, codes, false, not, is_some, sym, ap}
+use Rattle.std.proofs.Common.{◌∙◌, Option, codes, false, not, is_some, sym, ap}
 use Rattle.std.specs.Option.{option_map_or}
 use Rattle.aes3_pcm.specs.declared.format.SampleFormat.{SampleFormat}
 use Rattle.aes3_arguments.specs.Jobs.{format_in}

@@ -1,4 +1,4 @@
-use Rattle.std.proofs.Common.{◌≡◌, ◌∙◌, Some, None, Option, refl, sym, subst}
+use Rattle.std.proofs.Common.{◌∙◌, Some, None, Option, refl, sym, subst}
 use Rattle.clap.specs.Walk.{Text}
 use Rattle.aes3_arguments.specs.Jobs.{HasStatus}
 use Rattle.aes3_arguments.proofs.OptionReads.{text_is}
