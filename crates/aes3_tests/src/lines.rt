@@ -353,5 +353,11 @@ fn fields_set_by_name(rt: HostRuntime) {
     set_fields(&mut consumer, &settings);
     let is_unknown = professional_setting("rate=96000").is_none();
     assert!(rt; (professional[0], consumer[3], is_unknown) == (0xC1, 0x03, true));
-    assert!(rt; professional[6..10] == *b"JATH" && consumer[6..10] == [0; 4]);
+    let origin = [
+        professional[6],
+        professional[7],
+        professional[8],
+        professional[9],
+    ];
+    assert!(rt; (origin, consumer[6]) == (*b"JATH", 0));
 }
