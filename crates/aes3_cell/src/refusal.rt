@@ -20,7 +20,7 @@ pub struct BadPadding {
     pub at: u64,
 }
 
-/// The twelve refusals of a run or a command line.
+/// The thirteen refusals of a run or a command line.
 #[derive(Clone, Copy, PartialEq, Eq, Error)]
 pub enum RunError {
     #[error("byte {at} is neither cell nor separator")]
@@ -47,6 +47,8 @@ pub enum RunError {
     BadSample { at: u64 },
     #[error("the samples begin with the header of a WAV file")]
     WaveHeader,
+    #[error("the block that begins at cell {at} can't be given exactly as it is asked for")]
+    Inexact { at: u64 },
 }
 
 /// Its sentence.
@@ -57,7 +59,7 @@ impl Debug for RunError {
 }
 
 impl RunError {
-    /// The refusal's number, 1 to 12, as the program prints it.
+    /// The refusal's number, 1 to 13, as the program prints it.
     pub fn number(&self) -> u8
         ensures { result ≡ number_of self.now }
     {
@@ -74,10 +76,11 @@ impl RunError {
             RunError::BadPadding { .. } => 10,
             RunError::BadSample { .. } => 11,
             RunError::WaveHeader => 12,
+            RunError::Inexact { .. } => 13,
         }
     }
 
-    /// Where the fault stands, in bytes, words or octets from 0; for `BadLength` how many bytes are
+    /// Where the fault stands, in bytes, words, octets or cells from 0; for `BadLength` how many bytes are
     /// left over.
     pub fn place(&self) -> Option<u64>
         ensures { result ≡ place_of self.now }
@@ -87,7 +90,8 @@ impl RunError {
             | RunError::BadCode { at }
             | RunError::BadParity { at }
             | RunError::BadPadding { at }
-            | RunError::BadSample { at } => Some(at),
+            | RunError::BadSample { at }
+            | RunError::Inexact { at } => Some(at),
             RunError::BadLength { left } => Some(left),
             RunError::WaveHeader => Some(0),
             _ => None,

@@ -14,5 +14,6 @@ pub mod PcmRuns
 pub mod ValidSamples
 pub mod BitsBack
 pub mod FillSteps
+pub mod ExactSamples
 pub mod FillTimes
 pub mod FillRuns

@@ -10,7 +10,7 @@ use Rattle.std.proofs.lemmas.List.{take_all}
 use Rattle.aes3_cell.specs.declared.refusal.RunError.{RunError}
 use Rattle.aes3_cell.specs.declared.refusal.RunError.TheVariants.{BadCell, BadLength, BadCode, BadParity, Read, Write}
 use Rattle.aes3_cell.specs.declared.refusal.RunError.TheVariants.{TooLong, Memory, BadStatusText, BadPadding, BadSample}
-use Rattle.aes3_cell.specs.declared.refusal.RunError.TheVariants.{WaveHeader}
+use Rattle.aes3_cell.specs.declared.refusal.RunError.TheVariants.{WaveHeader, Inexact}
 use Rattle.aes3_cell.specs.Wave.{begins_wave}
 use Rattle.aes3_cell.specs.declared.counts.Counts.{Counts}
 use Rattle.aes3_frame.specs.Blocks.{block_slots}
@@ -311,6 +311,8 @@ fault-cause pcm exact form k max b ended BadStatusText h = no-cause pcm exact fo
     (λ n e. cc) (λ e. cc) (λ n e. cc) h
 fault-cause pcm exact form k max b ended (BadPadding at) h = no-cause pcm exact form k max b ended (BadPadding at)
     (λ n e. cc) (λ e. cc) (λ n e. cc) h
+fault-cause pcm exact form k max b ended (Inexact at) h = no-cause pcm exact form k max b ended (Inexact at)
+    (λ n e. cc) (λ e. cc) (λ n e. cc) h
 
 -- samples that have no fault
 clean-pcm : (pcm : SampleFormat) (exact : Bool) (form : Words) (k : change.Change) (b : List ℕ)
@@ -341,6 +343,7 @@ no-pcm-cause pcm exact max b ended i l (BadParity n) r w h = h
 no-pcm-cause pcm exact max b ended i l Memory r w h = h
 no-pcm-cause pcm exact max b ended i l BadStatusText r w h = h
 no-pcm-cause pcm exact max b ended i l (BadPadding n) r w h = h
+no-pcm-cause pcm exact max b ended i l (Inexact n) r w h = h
 
 -- the counts of a run
 pub pcm-counted : (pcm : SampleFormat) (b : List ℕ) (n blocks len : ℕ) → n ≡ length b

@@ -1,7 +1,7 @@
 -- A whole run over a block file in other words.
-use Rattle.std.proofs.Common.{◌≡◌, ℕ, ◌+◌, ◌*◌, ◌/◌, ◌%◌, ◌<◌, ◌≤◌, ◌⊎◌, inl, inr, List, [], ◌∷◌, ◌++◌, Bool, Option}
+use Rattle.std.proofs.Common.{◌≡◌, ℕ, ◌+◌, ◌*◌, ◌/◌, ◌%◌, ◌<◌, ◌≤◌, inl, inr, List, [], ◌∷◌, ◌++◌, Bool}
 use Rattle.std.proofs.Common.{Some}
-use Rattle.std.proofs.Common.{None, length, take, drop, get_or, refl, sym, ap, ap₂, ◌∙◌, subst, arith, append-nil}
+use Rattle.std.proofs.Common.{None, length, take, drop, get_or, refl, sym, ap, ◌∙◌, subst, arith, append-nil}
 use Rattle.std.proofs.Common.{take-append-drop, length-append, false}
 use Rattle.std.proofs.lemmas.List.{length-drop}
 use Rattle.std.proofs.lemmas.Option.{none-some}
@@ -11,19 +11,19 @@ use Rattle.aes3_cell.specs.declared.form.Form.{Form}
 use Rattle.aes3_cell.specs.declared.refusal.RunError.{RunError}
 use Rattle.aes3_cell.specs.declared.refusal.RunError.TheVariants.{BadCell, BadLength, BadCode, BadParity, Read, Write}
 use Rattle.aes3_cell.specs.declared.refusal.RunError.TheVariants.{TooLong, Memory, BadStatusText, BadPadding, BadSample}
-use Rattle.aes3_cell.specs.declared.refusal.RunError.TheVariants.{WaveHeader}
+use Rattle.aes3_cell.specs.declared.refusal.RunError.TheVariants.{WaveHeader, Inexact}
 use Rattle.aes3_cell.specs.Written.{bytes_of, ending, written}
 use Rattle.aes3_level.specs.declared.level.Level.TheVariants.{Low}
 use Rattle.aes3_words.specs.declared.form.Words.{Words}
 use Rattle.aes3_words.specs.Lists.{own_of}
-use Rattle.aes3_words.specs.Reading.{read_more, read_whole, whole_of}
+use Rattle.aes3_words.specs.Reading.{read_whole, whole_of}
 use Rattle.aes3_words.proofs.Ahead.{length-own, length-own-le, own-cut, whole-length}
 use Rattle.aes3_block.specs.Readers.{FileReader}
 use Rattle.aes3_frame.specs.Blocks.{block_slots, stream}
 use Rattle.aes3_frame.specs.Files.{IsBlockFile, blocks_in, file_blocks, has_code, has_parity, is_lawful, lawful_words}
 use Rattle.aes3_frame.specs.Files.{words_of}
 use Rattle.aes3_frame.proofs.SampleBlocks.{words-join}
-use Rattle.aes3_input.specs.Converting.{fault_behind, first_fault, out, out_behind, whole}
+use Rattle.aes3_input.specs.Converting.{first_fault, out, whole}
 use Rattle.aes3_input.specs.Running.{IsFault, converted}
 use Rattle.aes3_input.proofs.InputRuns.{Gives}
 use Rattle.aes3_engine.specs.Encoding.{AllLawful, BadCodeAt, BadParityAt, encoded, encoding}
@@ -203,6 +203,12 @@ module _ (form : Words) (output : Form) (max : ℕ) (b : List ℕ) (ended : Bool
         no-fault-cause output (read_whole form (take max b)) WaveHeader (λ k e. cc) (λ k e. cc)
         (first-of WaveHeader q)
     | inr q ↦ no-end-cause output (own_of form b) WaveHeader (λ k e. cc) (end-of WaveHeader q.1)
+  ]
+  words-cause (Inexact at) h = elim h [
+    | inl q ↦
+        no-fault-cause output (read_whole form (take max b)) (Inexact at) (λ k e. cc) (λ k e. cc)
+        (first-of (Inexact at) q)
+    | inr q ↦ no-end-cause output (own_of form b) (Inexact at) (λ k e. cc) (end-of (Inexact at) q.1)
   ]
 
 -- the counts of a run

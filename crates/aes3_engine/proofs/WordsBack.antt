@@ -1,5 +1,5 @@
 -- Block files that were written in other words, read again.
-use Rattle.std.proofs.Common.{◌≡◌, ℕ, zero, suc, ◌+◌, ◌*◌, ◌/◌, ◌%◌, ◌<◌, List, [], ◌∷◌, ◌++◌, Bool, length, get_or}
+use Rattle.std.proofs.Common.{◌≡◌, ℕ, zero, suc, ◌*◌, ◌%◌, ◌<◌, List, [], ◌∷◌, ◌++◌, Bool, length, get_or}
 use Rattle.std.proofs.Common.{map}
 use Rattle.std.proofs.Common.{refl, sym, ap, ◌∙◌, arith, subst, IfOk, Result, Ok, Err}
 use Rattle.std.specs.List.{flat_map, All}
@@ -11,7 +11,7 @@ use Rattle.aes3_words.specs.Forms.{written_word}
 use Rattle.aes3_words.specs.Lists.{each_word, next, own_of, written_of}
 use Rattle.aes3_words.proofs.EachWord.{each-append}
 use Rattle.aes3_words.proofs.ReadBack.{read-back}
-use Rattle.aes3_frame.specs.Blocks.{IsBlock, block_slots}
+use Rattle.aes3_frame.specs.Blocks.{IsBlock}
 use Rattle.aes3_frame.specs.Files.{block_bytes, file, word_bytes, word_of}
 use Rattle.aes3_frame.proofs.BlockLemmas.{block_slots_384}
 use Rattle.aes3_cell.specs.declared.form.Form.{Form}

@@ -6,4 +6,5 @@ pub mod SampleLaws
 pub mod Carrying
 pub mod ValidSamples
 pub mod Filling
+pub mod ExactSamples
 pub mod FillSteps

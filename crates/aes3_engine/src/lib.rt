@@ -5,6 +5,8 @@
 mod carrying;
 /// From a block file to cells.
 mod encoding;
+/// From cells to samples, up to the first block that would lose bits.
+mod exact_samples;
 /// From cells to samples that keep time.
 mod filling;
 /// The laws that samples and bits come back.
@@ -32,6 +34,7 @@ pub use aes3_runs::{
 pub use aes3_status::{CarriedBits, Change};
 pub use carrying::to_bits;
 pub use encoding::encode;
+pub use exact_samples::{Exact, to_exact_pcm};
 pub use filling::to_filled_pcm;
 pub use reading::{cut, decode, decode_words, normalise};
 pub use rewriting::rewrite;

@@ -7,7 +7,7 @@ use Rattle.aes3_cell.specs.declared.form.Form.TheVariants.{Text, Packed}
 use Rattle.aes3_cell.specs.declared.refusal.RunError.{RunError}
 use Rattle.aes3_cell.specs.declared.refusal.RunError.TheVariants.{BadCell, BadLength, BadCode, BadParity, Read, Write}
 use Rattle.aes3_cell.specs.declared.refusal.RunError.TheVariants.{TooLong, Memory, BadStatusText, BadPadding, BadSample}
-use Rattle.aes3_cell.specs.declared.refusal.RunError.TheVariants.{WaveHeader}
+use Rattle.aes3_cell.specs.declared.refusal.RunError.TheVariants.{WaveHeader, Inexact}
 use Rattle.aes3_cell.specs.declared.counts.Counts.{Counts}
 use Rattle.aes3_cell.specs.CellText.{good}
 use Rattle.aes3_input.specs.Running.{Movement}
@@ -17,7 +17,7 @@ use Rattle.aes3_input.specs.Driving.{IsCause, Drive, CellRun, over_cells}
 use Rattle.aes3_input.proofs.InputRuns.{Gives, run-ok, run-err, run-is}
 
 -- the same said of what cells write in other words
-cells-give : {A B : Type 0} (form : Form) {whole begun : List Level → List ℕ} {answer : List ℕ → A → Type 0}
+pub cells-give : {A B : Type 0} (form : Form) {whole begun : List Level → List ℕ} {answer : List ℕ → A → Type 0}
     (g h : List Level → List ℕ) {answer' : List ℕ → B → Type 0}
     → ((c : List Level) → whole c ≡ g c) → ((c : List Level) → begun c ≡ h c)
     → Gives (over_cells form whole begun answer) (over_cells form g h answer')
@@ -82,3 +82,4 @@ no-cell-cause form max b ended i l Memory r w h = h
 no-cell-cause form max b ended i l BadStatusText r w h = h
 no-cell-cause form max b ended i l (BadSample n) r w h = h
 no-cell-cause form max b ended i l WaveHeader r w h = h
+no-cell-cause form max b ended i l (Inexact n) r w h = h

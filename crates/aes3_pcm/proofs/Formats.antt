@@ -1,5 +1,5 @@
 -- Samples in other forms, one behind the other.
-use Rattle.std.proofs.Common.{◌≡◌, ℕ, zero, suc, ◌+◌, ◌*◌, ◌/◌, ◌%◌, ◌<◌, ◌≤◌, List, [], ◌∷◌, ◌++◌, length, take}
+use Rattle.std.proofs.Common.{rules, ◌≡◌, ◌≢◌, ◌==◌, ◌&&◌, true, false, ℕ, zero, suc, ◌+◌, ◌*◌, ◌/◌, ◌%◌, ◌<◌, ◌≤◌, List, [], ◌∷◌, ◌++◌, length, take}
 use Rattle.std.proofs.Common.{drop, replicate, get_or, refl, sym, ap, ap₂, ◌∙◌, arith, append_assoc}
 use borrow.Rule.Slice.PartMut.{put_mid}
 use Rattle.std.proofs.lemmas.List.{drop_more, drop_all, drop-drop, get_or-drop, get_or-take, take_all, length-take}
@@ -7,9 +7,9 @@ use Rattle.std.proofs.lemmas.List.{length-take-le}
 use Rattle.std.proofs.lemmas.Slice.{drop-put_mid, take-put_mid}
 use Rattle.aes3_pcm.specs.declared.format.SampleFormat.{SampleFormat}
 use Rattle.aes3_pcm.specs.declared.format.SampleFormat.TheVariants.{S32, S24, S24In32, S16}
-use Rattle.aes3_pcm.specs.Formats.{block_len, fours, narrow_one, narrowed, sample_len, wide_threes}
+use Rattle.aes3_pcm.specs.Formats.{block_len, fits, fours, narrow_one, narrowed, sample_len, seconds_are_zero, wide_threes}
 use Rattle.aes3_pcm.specs.Formats.{wide_twos, widened}
-use Rattle.aes3_pcm.specs.Laws.{AreSigned, HaveSigns}
+use Rattle.aes3_pcm.specs.Laws.{AreSigned, HaveLowZeros, HaveSigns}
 
 -- ---- fours
 
@@ -333,3 +333,67 @@ narrowed-s24in32 f b e = rw e refl
 
 pub narrowed-s16 : (f : SampleFormat) (b : List ℕ) → f ≡ S16 → fours (narrow_one f) b ≡ narrowed f b
 narrowed-s16 f b e = rw e refl
+
+-- ---- samples that lose nothing
+
+zeros-of : (b : ℕ) (rest : List ℕ) → (b == 0) && seconds_are_zero rest ≡ true
+    → (b ≡ 0) × (seconds_are_zero rest ≡ true)
+zeros-of b rest h = (search rules, search rules)
+
+back-24 : (b : List ℕ) → length b % 4 ≡ 0 → HaveLowZeros b → wide_threes (fours (narrow_one S24) b) ≡ b
+back-24 [] h z = refl
+back-24 (a ∷ []) h z = absurd (omega arith)
+back-24 (a ∷ b ∷ []) h z = absurd (omega arith)
+back-24 (a ∷ b ∷ c ∷ []) h z = absurd (omega arith)
+back-24 (a ∷ b ∷ c ∷ d ∷ rest) h z =
+    ap₂ (λ (u : ℕ) (v : List ℕ). u ∷ b ∷ c ∷ d ∷ v) (sym z.0) (back-24 rest (omega arith) z.1)
+
+back-24in32 : (b : List ℕ) → length b % 4 ≡ 0 → HaveLowZeros b
+    → fours (λ a b c d. 0 ∷ a ∷ b ∷ c ∷ []) (fours (narrow_one S24In32) b) ≡ b
+back-24in32 [] h z = refl
+back-24in32 (a ∷ []) h z = absurd (omega arith)
+back-24in32 (a ∷ b ∷ []) h z = absurd (omega arith)
+back-24in32 (a ∷ b ∷ c ∷ []) h z = absurd (omega arith)
+back-24in32 (a ∷ b ∷ c ∷ d ∷ rest) h z =
+    ap₂ (λ (u : ℕ) (v : List ℕ). u ∷ b ∷ c ∷ d ∷ v) (sym z.0) (back-24in32 rest (omega arith) z.1)
+
+back-16 : (b : List ℕ) → length b % 4 ≡ 0 → HaveLowZeros b → seconds_are_zero b ≡ true
+    → wide_twos (fours (narrow_one S16) b) ≡ b
+back-16 [] h z f = refl
+back-16 (a ∷ []) h z f = absurd (omega arith)
+back-16 (a ∷ b ∷ []) h z f = absurd (omega arith)
+back-16 (a ∷ b ∷ c ∷ []) h z f = absurd (omega arith)
+back-16 (a ∷ b ∷ c ∷ d ∷ rest) h z f =
+    let s = zeros-of b rest f in
+    ap₂ (λ (u : ℕ) (v : List ℕ). u ∷ 0 ∷ c ∷ d ∷ v) (sym z.0) (back-16 rest (omega arith) z.1 s.1)
+    ∙ ap (λ u. a ∷ u ∷ c ∷ d ∷ rest) (sym s.0)
+
+pub fitting-back : (f : SampleFormat) (b : List ℕ) → length b % 4 ≡ 0 → HaveLowZeros b → fits f b ≡ true
+    → widened f (narrowed f b) ≡ b
+fitting-back S32 b h z f = refl
+fitting-back S24 b h z f = back-24 b h z
+fitting-back S24In32 b h z f = back-24in32 b h z
+fitting-back S16 b h z f = back-16 b h z f
+
+-- one more sample whose second octet is zero, and one whose is not
+pub zeros-next : (xs : List ℕ) (i : ℕ) → i < length xs / 4 → get_or xs (4 * i + 1) 0 ≡ 0
+    → seconds_are_zero (drop (4 * i) xs) ≡ seconds_are_zero (drop (4 * (i + 1)) xs)
+zeros-next xs i h z =
+    ap seconds_are_zero (four-at xs (4 * i) (omega arith))
+    ∙ ap (λ n. (n == 0) && seconds_are_zero (drop (4 * i + 4) xs)) z
+    ∙ ap (λ n. seconds_are_zero (drop n xs)) (let e : 4 * i + 4 ≡ 4 * (i + 1) = omega arith in e)
+
+pub zeros-not : (xs : List ℕ) (i : ℕ) → i < length xs / 4 → get_or xs (4 * i + 1) 0 ≢ 0
+    → seconds_are_zero (drop (4 * i) xs) ≡ false
+zeros-not xs i h z =
+    ap seconds_are_zero (four-at xs (4 * i) (omega arith)) ∙ not-zero (get_or xs (4 * i + 1) 0) z
+  where
+    not-zero : (n : ℕ) → n ≢ 0 → (n == 0) && seconds_are_zero (drop (4 * i + 4) xs) ≡ false
+    not-zero n z = search rules
+
+pub zeros-short : (xs : List ℕ) → length xs < 4 → seconds_are_zero xs ≡ true
+zeros-short [] h = refl
+zeros-short (a ∷ []) h = refl
+zeros-short (a ∷ b ∷ []) h = refl
+zeros-short (a ∷ b ∷ c ∷ []) h = refl
+zeros-short (a ∷ b ∷ c ∷ d ∷ xs) h = absurd (omega arith)

@@ -1,6 +1,6 @@
 -- Samples in the forms of sound programs, the lowest octet first; those of 32 bits have the 24 bits of a sample in the
 -- highest ones.
-use Rattle.std.specs.Prelude.{ℕ, ◌*◌, List, [], ◌∷◌, ◌++◌, Bool, false, nat_lt, if◌then◌else◌}
+use Rattle.std.specs.Prelude.{ℕ, ◌*◌, List, [], ◌∷◌, ◌++◌, Bool, true, false, nat_lt, ◌==◌, ◌&&◌, if◌then◌else◌}
 use Rattle.aes3_pcm.specs.declared.format.SampleFormat.{SampleFormat}
 use Rattle.aes3_pcm.specs.declared.format.SampleFormat.TheVariants.{S32, S24, S24In32, S16}
 
@@ -46,6 +46,18 @@ narrowed S32 b = b
 narrowed S24 b = fours (narrow_one S24) b
 narrowed S24In32 b = fours (narrow_one S24In32) b
 narrowed S16 b = fours (narrow_one S16) b
+
+-- whether each sample of 32 bits has the second octet 0
+abbrev pub seconds_are_zero : List ℕ → Bool
+seconds_are_zero (a ∷ b ∷ c ∷ d ∷ rest) = (b == 0) && seconds_are_zero rest
+seconds_are_zero _ = true
+
+-- whether samples whose lowest octets are 0 lose nothing in a form
+abbrev pub fits : SampleFormat → List ℕ → Bool
+fits S32 b = true
+fits S24 b = true
+fits S24In32 b = true
+fits S16 b = seconds_are_zero b
 
 -- the whole samples that octets in a form have, as samples of 32 bits
 abbrev pub wide_threes : List ℕ → List ℕ

@@ -1,6 +1,8 @@
 //! Samples in the forms of sound programs: how the 24 bits of each stand in octets.
 #![tactic(auto)]
 
+/// Samples that lose nothing when they are put into a form.
+mod fitting;
 /// The forms of samples.
 mod format;
 /// The laws of these forms.

@@ -6,7 +6,7 @@ ghost use Rattle.aes3_pcm.specs.Formats.{narrow_one, narrowed, sample_len, sign_
 use crate::format::SampleFormat;
 
 /// How many octets a sample of 32 bits has.
-const SAMPLE_BYTES: usize = 4;
+pub(crate) const SAMPLE_BYTES: usize = 4;
 
 /// The sign of a number whose highest octet is `d`, in an octet above it.
 fn sign_octet(d: u8) -> u8

@@ -1,4 +1,4 @@
-use Rattle.std.proofs.Common.{◌≡◌, ◌∙◌, ◌+◌, ◌∷◌, [], ◌++◌, take, length, ap, refl, sym, arith, length-append}
+use Rattle.std.proofs.Common.{◌≡◌, ◌∙◌, ◌+◌, ◌∷◌, [], take, length, ap, refl, sym, arith, length-append}
 use Rattle.std.proofs.lemmas.List.{length-take-le, length-set, take_all, take_more_set}
 use Rattle.aes3_engine.proofs.WordReads.{octet-fed}
 use Rattle.aes3_engine.proofs.word_encoding.WordFile.take_octet.Goals as goal

@@ -1,4 +1,4 @@
-use Rattle.std.proofs.Common.{◌≡◌, sym, ◌∙◌, refl, arith, take, length}
+use Rattle.std.proofs.Common.{◌≡◌, sym, refl, arith, take, length}
 use Rattle.std.proofs.lemmas.List.{length-take-le}
 use Rattle.aes3_cell.proofs.Growing.{grew-is, grew-none, front-is}
 use Rattle.aes3_engine.proofs.WordRuns.{end-begun, end-whole, ends-is, seen-few}

@@ -1,6 +1,6 @@
 use Rattle.std.proofs.Common.{◌≡◌, ◌∷◌, [], ◌++◌, take, drop, get_or, length, arith, sym, refl, ap, ◌∙◌}
 use Rattle.std.proofs.Common.{take-append-drop, Ok, Err}
-use Rattle.std.proofs.lemmas.List.{take_more, length-take-le}
+use Rattle.std.proofs.lemmas.List.{take_more}
 use Rattle.std.proofs.Math.Seq.{drop-cons}
 use Rattle.aes3_input.specs.Running.{movement_of}
 use Rattle.aes3_input.proofs.Feeding.{fed-is, fed-none, ran-join}

@@ -1,4 +1,4 @@
-use Rattle.std.proofs.Common.{◌≡◌, ◌∙◌, ◌-◌, ◌++◌, ◌/◌, ◌%◌, [], refl, sym, ap, subst, length}
+use Rattle.std.proofs.Common.{◌∙◌, ◌-◌, ◌++◌, ◌/◌, ◌%◌, [], refl, sym, ap, length}
 use Rattle.std.proofs.Common.{length-append, arith, rules, Ok}
 use Rattle.aes3_words.specs.Forms.{own_word}
 use Rattle.aes3_words.specs.Lists.{each_word, own_of}

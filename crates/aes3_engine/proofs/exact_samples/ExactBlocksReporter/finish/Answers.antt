@@ -1,0 +1,8 @@
+use Rattle.std.proofs.Common.{refl}
+use Rattle.aes3_cell.proofs.Growing.{grew-none}
+use Rattle.aes3_engine.specs.ExactSamples.{exact_writing}
+use Rattle.aes3_engine.proofs.exact_samples.ExactBlocksReporter.finish.Goals as goal
+
+pub returns-clause-grew : goal.returns-clause-grew
+unfolding exact_writing
+returns-clause-grew g c = λ r h. grew-none refl

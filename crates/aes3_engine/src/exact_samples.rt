@@ -1,0 +1,211 @@
+//! Cells to the samples of their blocks, up to the first block that would lose bits.
+
+ghost use Rattle.std.specs.Prelude.{◌≡◌, ℕ, ◌+◌, ◌<◌, ◌≤◌, ◌^◌, List, [], ◌∷◌, IfOk, None, ◌≢◌};
+ghost use Rattle.aes3_cell.specs.Ends.{Grew, Told};
+ghost use Rattle.aes3_cell.specs.Writes.{Wrote};
+ghost use Rattle.aes3_frame.specs.Samples.{samples};
+ghost use Rattle.aes3_lock.specs.Following.{report_in};
+ghost use Rattle.aes3_lock.specs.Reports.{blocks};
+ghost use Rattle.aes3_lock.specs.Tallies.{IsTallyOf};
+ghost use Rattle.aes3_input.specs.Inputs.{cells_of};
+ghost use Rattle.aes3_input.specs.Running.{InputRun, movement_of};
+ghost use Rattle.aes3_pcm.specs.declared.format.SampleFormat.TheVariants.{S16};
+ghost use Rattle.aes3_pcm.specs.Formats.{narrowed};
+ghost use Rattle.aes3_engine.specs.ExactSamples.{exact_cells, exact_samples, exact_writing, first_unfit};
+ghost use Rattle.aes3_engine.specs.ExactSamples.{refused_behind, unless_refused};
+ghost use Rattle.aes3_engine.specs.Filling.{placed};
+
+use crate::samples::{put_narrowed, to_pcm};
+use aes3_block::{Block, samples_of_block};
+use aes3_cell::{Counts, Fault, Form, RunError, Sink, Source};
+use aes3_lock::{Ending, Lock, Tally};
+use aes3_pcm::SampleFormat;
+use aes3_runs::{Locked, Reporter, drive};
+
+/// What a run answers that gives samples exactly.
+#[derive(Clone, Copy)]
+pub struct Exact {
+    /// What it counted, of the blocks behind the first that it did not give too.
+    pub counts: Counts,
+    /// The place of the first block that would have lost bits: it is not written, and nothing behind
+    /// it is.
+    pub refused: Option<u64>,
+}
+
+/// Writes the samples of blocks in 16 bits, up to the first that would lose bits. It has no other
+/// form, so that what it found tells of no form that it might have had.
+#[derive(Drop)]
+struct ExactBlocks {
+    refused: Option<u64>,
+    tally: Tally,
+}
+
+impl ExactBlocks {
+    /// A reporter that has taken no report.
+    fn new() -> Self
+        ensures refused { result.refused ≡ None }
+        ensures tally { IsTallyOf result.tally [] }
+    {
+        ExactBlocks {
+            refused: None,
+            tally: Tally::new(),
+        }
+    }
+
+    /// Writes the samples of a block at a place where they lose nothing, and nothing has before.
+    ///
+    /// # Errors
+    /// The sink's fault; then it has taken a front of the bytes.
+    fn put_block<T: Sink>(&mut self, sink: &mut T, at: u64, block: &Block) -> Result<(), Fault>
+        requires room { T.failed sink.old + 1 < 2 ^ 64 }
+        ensures tally { IfOk result (λ _. self.new.tally ≡ self.old.tally) }
+        ensures refused { IfOk result (λ _. self.new.refused ≡ refused_behind S16 self.old.refused
+            (record { place = at; block = block.now } ∷ [])) }
+        ensures wrote { Wrote T.taken T.failed sink.old sink.new (unless_refused self.old.refused
+            (exact_samples S16 (record { place = at; block = block.now } ∷ []))) result }
+    {
+        if self.refused.is_some() {
+            return Ok(());
+        }
+        let samples = samples_of_block(block);
+        if SampleFormat::S16.fits(&samples) {
+            return put_narrowed(samples, SampleFormat::S16, sink);
+        }
+        self.refused = Some(at);
+        Ok(())
+    }
+
+    /// Writes what a report gives.
+    ///
+    /// # Errors
+    /// The sink's fault; then it has taken a front of the bytes.
+    fn put<T: Sink>(&mut self, sink: &mut T, lock: &Lock, ending: Ending) -> Result<(), Fault>
+        requires room { T.failed sink.old + 1 < 2 ^ 64 }
+        ensures tally { IfOk result (λ _. self.new.tally ≡ self.old.tally) }
+        ensures refused { IfOk result (λ _. self.new.refused ≡ refused_behind S16 self.old.refused
+            (placed (report_in lock.now ending ∷ []))) }
+        ensures wrote { Wrote T.taken T.failed sink.old sink.new (unless_refused self.old.refused
+            (exact_samples S16 (placed (report_in lock.now ending ∷ [])))) result }
+    {
+        match ending {
+            Ending::Whole { at, .. } => self.put_block(sink, at, &lock.gathered().block()),
+            Ending::Marked { .. } => Ok(()),
+            Ending::Fault { .. } => Ok(()),
+            Ending::Unfinished { .. } => Ok(()),
+        }
+    }
+}
+
+impl Reporter for ExactBlocks {
+    ghost follows = { λ k r. IsTallyOf k.tally r × (k.refused ≡ first_unfit S16 (placed r)) };
+
+    ghost writes = { λ _. exact_writing S16 };
+
+    ghost finished = { λ k r. IsTallyOf k.tally r × (k.refused ≡ first_unfit S16 (placed r)) };
+
+    fn tell<T: Sink>(&mut self, sink: &mut T, lock: &Lock, ending: Ending) -> Result<(), Fault> {
+        match self.put(sink, lock, ending) {
+            Ok(()) => {
+                self.tally.count(lock, ending);
+                Ok(())
+            }
+            Err(fault) => Err(fault),
+        }
+    }
+
+    fn finish<T: Sink>(&mut self, _sink: &mut T) -> Result<(), Fault> {
+        Ok(())
+    }
+}
+
+/// Does what [`to_exact_pcm`] does, in 16 bits.
+fn to_exact_16<S: Source, T: Sink>(
+    source: &mut S,
+    sink: &mut T,
+    max_bytes: u64,
+    input: Form,
+) -> Result<Exact, RunError>
+    requires source_room { S.failed source.old + 1 < 2 ^ 64 }
+    requires sink_room { T.failed sink.old + 1 < 2 ^ 64 }
+    requires limit { max_bytes ≤ 2 ^ 40 }
+    ensures run { InputRun (exact_cells input S16) max_bytes (S.has_ended source.new)
+        (movement_of S.given S.failed source.old source.new)
+        (movement_of T.taken T.failed sink.old sink.new) result }
+    ensures passed_on { IfOk result (λ _. T.passed sink.new ≡ T.taken sink.new) }
+{
+    let mut taker = Locked::new(ExactBlocks::new());
+    match drive(source, sink, max_bytes, input, &mut taker) {
+        Ok((bytes, cells)) => Ok(Exact {
+            counts: Counts {
+                bytes,
+                cells,
+                blocks: taker.reporter.tally.blocks,
+                faults: taker.reporter.tally.faults,
+                unfinished: taker.reporter.tally.unfinished,
+                marks: 0,
+            },
+            refused: taker.reporter.refused,
+        }),
+        Err(error) => Err(error),
+    }
+}
+
+/// Does what [`to_exact_pcm`] does, in a form that holds 24 bits, where no sample loses any.
+fn to_exact_24<S: Source, T: Sink>(
+    source: &mut S,
+    sink: &mut T,
+    max_bytes: u64,
+    input: Form,
+    format: SampleFormat,
+) -> Result<Exact, RunError>
+    requires source_room { S.failed source.old + 1 < 2 ^ 64 }
+    requires sink_room { T.failed sink.old + 1 < 2 ^ 64 }
+    requires limit { max_bytes ≤ 2 ^ 40 }
+    requires wide { format ≢ S16 }
+    ensures run { InputRun (exact_cells input format) max_bytes (S.has_ended source.new)
+        (movement_of S.given S.failed source.old source.new)
+        (movement_of T.taken T.failed sink.old sink.new) result }
+    ensures passed_on { IfOk result (λ _. T.passed sink.new ≡ T.taken sink.new) }
+{
+    match to_pcm(source, sink, max_bytes, input, format) {
+        Ok(counts) => Ok(Exact {
+            counts,
+            refused: None,
+        }),
+        Err(error) => Err(error),
+    }
+}
+
+/// Reads cells from any cell on, and writes the samples of the blocks that stand whole and closed
+/// in them as `to_pcm` does, but only up to the first block whose samples would lose bits in this
+/// form, which is told at the end: in 16 bits one of more than 16. The input is read to its end.
+///
+/// # Errors
+/// Those of `to_pcm`.
+pub fn to_exact_pcm<S: Source, T: Sink>(
+    source: &mut S,
+    sink: &mut T,
+    max_bytes: u64,
+    input: Form,
+    format: SampleFormat,
+) -> Result<Exact, RunError>
+    requires source_room { S.failed source.old + 1 < 2 ^ 64 }
+    requires sink_room { T.failed sink.old + 1 < 2 ^ 64 }
+    requires limit { max_bytes ≤ 2 ^ 40 }
+
+    // Where it refuses no block, the samples of all blocks are written, as by `to_pcm`.
+    ensures all { IfOk result (λ exact. (b : List ℕ) → exact.refused ≡ None
+        → Told (S.given source.old) (S.given source.new) b
+        → Grew (T.taken sink.old) (T.taken sink.new)
+        (narrowed format (samples (blocks (cells_of input b))))) }
+    // What it answers to every input, and has written then.
+    ensures run { InputRun (exact_cells input format) max_bytes (S.has_ended source.new)
+        (movement_of S.given S.failed source.old source.new)
+        (movement_of T.taken T.failed sink.old sink.new) result }
+    ensures passed_on { IfOk result (λ _. T.passed sink.new ≡ T.taken sink.new) }
+{
+    match format {
+        SampleFormat::S16 => to_exact_16(source, sink, max_bytes, input),
+        _ => to_exact_24(source, sink, max_bytes, input, format),
+    }
+}
