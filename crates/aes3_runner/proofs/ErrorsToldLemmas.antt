@@ -1,5 +1,5 @@
 -- What standard error is told of a line, by what ran.
-use Rattle.std.proofs.Common.{◌≤◌, ◌==◌, ◌&&◌, ℕ, inl, inr, Bool, true, false, Result, Ok, Err, arith}
+use Rattle.std.proofs.Common.{◌≡◌, ◌≤◌, ◌==◌, ◌&&◌, ℕ, List, inl, inr, Bool, true, false, IsFalse, Result, Ok, Err, arith}
 use Rattle.std.proofs.Common.{if◌then◌else◌}
 use Rattle.aes3_cell.specs.declared.counts.Counts.{Counts}
 use Rattle.aes3_cell.specs.declared.refusal.RunError.{RunError}
@@ -13,9 +13,11 @@ use Rattle.aes3_job.specs.declared.job.Job.{Job}
 use Rattle.aes3_job.specs.declared.job.Job.TheVariants.{Encode, Decode, Normal, Check, Account, Watch, WatchSums}
 use Rattle.aes3_job.specs.declared.job.Job.TheVariants.{Show, ShowChanges, Scan, Cut, Rewrite, ToPcm, FromPcm, ToBits}
 use Rattle.aes3_job.specs.declared.job.Job.TheVariants.{ToFilledPcm}
-use Rattle.aes3_runner.specs.JobRuns.{AnswerTold, status_by}
+use Rattle.aes3_runner.specs.declared.outcome.Outcome.{Outcome}
+use Rattle.aes3_runner.specs.declared.outcome.Remark.TheVariants.{Nothing}
+use Rattle.aes3_runner.specs.JobRuns.{AnswerTold, JobRan, RunRan, promise_of, status_by}
 use Rattle.aes3_runner.specs.OctetRuns.{FirstFailed, PackedRan, RawBy, as_raw, written_by}
-use Rattle.aes3_runner.specs.StandardErrors.{ErrorsTold}
+use Rattle.aes3_runner.specs.StandardErrors.{ErrorsTold, remarks}
 use Rattle.aes3_runner.specs.WordRuns.{LineRan}
 
 -- a status of a test is 0 or 1
@@ -41,18 +43,44 @@ few (ToFilledPcm i p fill) n = omega arith
 few (FromPcm p e c w) n = omega arith
 few (ToBits i b c) n = omega arith
 
+-- there is no remark on a job of which none is told
+of-job-remark : (job : Job) (b : List ℕ) (n : Outcome) → (promise_of job).answer b n → IsFalse (remarks job)
+    → n.remark ≡ Nothing
+of-job-remark (Encode o w) b n h s = h.1
+of-job-remark (Decode i w) b n h s = h.1
+of-job-remark (Normal i o) b n h s = h.1
+of-job-remark (Check i l) b n h s = h.1
+of-job-remark (Account i l) b n h s = h.1
+of-job-remark (Watch i l) b n h s = h.1
+of-job-remark (WatchSums i l e) b n h s = h.1
+of-job-remark (Show i d) b n h s = h.1
+of-job-remark (ShowChanges i d) b n h s = h.1
+of-job-remark (Scan i) b n h s = h.1
+of-job-remark (Cut i o f c) b n h s = h.1
+of-job-remark (Rewrite i o c) b n h s = h.1
+of-job-remark (ToPcm i p true) b n h s = h.1
+of-job-remark (ToPcm i p false) b n h s = h.1
+of-job-remark (ToFilledPcm i p fill) b n h s = absurd cc
+of-job-remark (FromPcm p e c w) b n h s = h.1
+of-job-remark (ToBits i b' c) b n h s = h.1
+
 -- of a job's answer
-of-answer : (line : CommandLine) (job : Job) (answer : Result Counts RunError) (failed : ℕ) (sink errors : Movement)
-    (status : ℕ) → AnswerTold job answer failed sink errors status → ErrorsTold (Ok line) errors status
-of-answer line job (Ok n) failed sink errors status t =
-    let small = few job n in
+of-answer : (line : CommandLine) (ended : Bool) (source before : Movement) (answer : Result Outcome RunError)
+    (failed : ℕ) (sink errors : Movement) (status : ℕ) → RunRan line.job ended source before answer
+    → AnswerTold line.job answer failed sink errors status → ErrorsTold (Ok line) errors status
+of-answer line ended source before (Ok n) failed sink errors status run t =
+    let small = few line.job n.counts in
     record {
       known = omega (arith, t.0, small);
-      done = λ s. t.2;
+      done = λ s. record {
+        remark = n.remark;
+        asked = of-job-remark line.job run.bytes n run.ran.1;
+        told = t.2;
+      };
       usage = λ s. absurd (omega (arith, t.0, small, s));
       refusal = λ s. absurd (omega (arith, t.0, small, s));
     }
-of-answer line job (Err error) failed sink errors status t = record {
+of-answer line ended source before (Err error) failed sink errors status run t = record {
   known = omega (arith, t.0);
   done = λ s. absurd (omega (arith, t.0, s));
   usage = λ s. absurd (omega (arith, t.0, s));
@@ -77,29 +105,31 @@ of-first line source sink errors status r =
       ];
     }
 
-of-packed : (line : CommandLine) (turned : Bool) (job : Job) (ended : Bool) (source sink errors : Movement) (status : ℕ)
-    → PackedRan turned job ended source sink errors status → ErrorsTold (Ok line) errors status
-of-packed line true job ended source sink errors status r = elim r [
-  | inl k ↦ of-answer line job k.ran.ran.answer k.ran.ran.failed sink errors status k.ran.ran.told
+of-run : (line : CommandLine) {ended : Bool} {source sink errors : Movement} {status : ℕ}
+    → JobRan line.job ended source sink errors status → ErrorsTold (Ok line) errors status
+of-run line {sink = sink} {errors} {status} r = of-answer line _ _ _ r.answer r.failed sink errors status r.run r.told
+
+of-packed : (line : CommandLine) (turned : Bool) (ended : Bool) (source sink errors : Movement) (status : ℕ)
+    → PackedRan turned line.job ended source sink errors status → ErrorsTold (Ok line) errors status
+of-packed line true ended source sink errors status r = elim r [
+  | inl k ↦ of-run line k.ran.ran
   | inr k ↦ of-first line source sink errors status k
 ]
-of-packed line false job ended source sink errors status r
-    = of-answer line job r.answer r.failed sink errors status r.told
+of-packed line false ended source sink errors status r = of-run line r
 
-of-job : (line : CommandLine) (raw turned : Bool) (job : Job) (ended : Bool) (source sink errors : Movement)
-    (status : ℕ)
-    → RawBy raw (λ ended source. PackedRan turned job ended source sink errors status) ended source
+of-job : (line : CommandLine) (raw turned : Bool) (ended : Bool) (source sink errors : Movement) (status : ℕ)
+    → RawBy raw (λ ended source. PackedRan turned line.job ended source sink errors status) ended source
     → ErrorsTold (Ok line) errors status
-of-job line true turned job ended source sink errors status r
-    = of-packed line turned job r.told_end (as_raw r.counted source) sink errors status r.ran
-of-job line false turned job ended source sink errors status r
-    = of-packed line turned job ended source sink errors status r
+of-job line true turned ended source sink errors status r
+    = of-packed line turned r.told_end (as_raw r.counted source) sink errors status r.ran
+of-job line false turned ended source sink errors status r
+    = of-packed line turned ended source sink errors status r
 
 -- of a line
 pub errors-told : (line : Result CommandLine LineFault) (ended : Bool) (source sink errors : Movement) (status : ℕ)
     → LineRan line ended source sink errors status → ErrorsTold line errors status
 errors-told (Ok line) ended source sink errors status r
-    = of-job line line.octets.raw_in (line.octets.lsb_first && reads_packed line.job) line.job ended source
+    = of-job line line.octets.raw_in (line.octets.lsb_first && reads_packed line.job) ended source
     (written_by (line.octets.lsb_first && writes_packed line.job) sink) errors status r
 errors-told (Err (Usage text)) ended source sink errors status r =
     let s = r.2.0 in

@@ -5,8 +5,8 @@ use Rattle.aes3_cell.specs.Ends.{Grew}
 use Rattle.aes3_cell.specs.declared.refusal.RunError.{RunError}
 use Rattle.aes3_cell.specs.declared.refusal.RunError.TheVariants.{Read, Write}
 use Rattle.aes3_cell.specs.declared.counts.Counts.{Counts}
-use Rattle.aes3_input.specs.Running.{InputRun, Movement, Quiet}
-use Rattle.aes3_input.proofs.InputRuns.{run-write, run-sink_quiet}
+use Rattle.aes3_input.specs.Running.{InputRun, Movement, Promise, Quiet}
+use Rattle.aes3_input.proofs.InputRuns.{Gives, run-err, run-ok, run-write, run-sink_quiet}
 use Rattle.aes3_job.specs.declared.job.Job.{Job}
 use Rattle.aes3_job.specs.declared.job.Job.TheVariants.{WatchSums}
 use Rattle.aes3_cell.specs.declared.form.Form.{Form}
@@ -16,18 +16,41 @@ use Rattle.aes3_account.specs.Watching.{watch_counts}
 use Rattle.aes3_input.specs.Driving.{counted_cells}
 use Rattle.aes3_runner.specs.JobRuns.{Flushed, JobRan, RunRan, most, period, status_by}
 use Rattle.aes3_runner.specs.OctetRuns.{ReadRefused}
+use Rattle.aes3_runner.specs.declared.outcome.Outcome.{Outcome}
 use Rattle.aes3_runner.specs.Lines.{refusal_line}
+use Rattle.aes3_runner.specs.Outcomes.{RemarkTold, plain, unremarked}
 
 -- a run of a job, by what the job is
-pub run-of : {job job' : Job} {ended : Bool} {source sink : Movement} {r : Result Counts RunError} → job ≡ job'
+pub run-of : {job job' : Job} {ended : Bool} {source sink : Movement} {r : Result Outcome RunError} → job ≡ job'
     → RunRan job' ended source sink r → RunRan job ended source sink r
 run-of {ended = ended} {source} {sink} {r} e run = subst (λ (j : Job). RunRan j ended source sink r) (sym e) run
+
+-- a run of which nothing is told
+gives-plain : (p : Promise Counts) → Gives p (unremarked p)
+gives-plain p = record {
+  input = λ b h. h;
+  whole = λ b h. refl;
+  begun = λ b. refl;
+  cause = λ max b ended e h. h;
+}
+
+plain-of : {p : Promise Counts} {ended : Bool} {source sink : Movement} (r : Result Counts RunError)
+    → InputRun p most ended source sink r → InputRun (unremarked p) most ended source sink (plain r)
+plain-of {p = p} (Ok n) run = run-ok (gives-plain p) (λ b i h. (h, refl)) run
+plain-of {p = p} (Err e) run = run-err (gives-plain p) run
+
+pub plain-ran : {p : Promise Counts} {ended : Bool} {source sink : Movement} {r : Result Counts RunError}
+    {o : Result Outcome RunError} → o ≡ plain r
+    → InputRun p most ended source sink r → InputRun (unremarked p) most ended source sink o
+plain-ran {p = p} {ended} {source} {sink} {r} e run =
+    subst (λ (v : Result Outcome RunError). InputRun (unremarked p) most ended source sink v) (sym e) (plain-of r run)
 
 -- a run that tells sums, after so many cells as the job says
 pub sums-of : (i : Form) (style : Style) (every n : ℕ) {ended : Bool} {source sink : Movement}
     {r : Result Counts RunError} → n ≡ period every
     → InputRun (counted_cells i (sum_lines style n) (begun_sums style n) (watch_counts i)) most ended source sink r
-    → RunRan (WatchSums i style every) ended source sink r
+    → InputRun (counted_cells i (sum_lines style (period every)) (begun_sums style (period every)) (watch_counts i)) most
+    ended source sink r
 sums-of i style every n {ended} {source} {sink} {r} e run =
     subst (λ (k : ℕ). InputRun (counted_cells i (sum_lines style k) (begun_sums style k) (watch_counts i)) most
     ended source sink r) e run
@@ -68,16 +91,16 @@ passed-on job {f₀ = f₀} {f₁} {f₂} {x} r f p h =
     let v : f₁ ≡ f₀ = run-sink_quiet (Err x) r (λ e. n (error-is e)) in
     p (omega arith) n
   where
-    error-is : {x y : RunError} → ◌≡◌ {A = Result Counts RunError} (Err x) (Err y) → x ≡ y
+    error-is : {x y : RunError} → ◌≡◌ {A = Result Outcome RunError} (Err x) (Err y) → x ≡ y
     error-is e = cc
 
 -- a run that ended well
 pub done : (job : Job) {ended : Bool} {source errors : Movement} {t₀ t₁ : Option (List ℕ)} {f₀ f₁ : ℕ} {status : ℕ}
-    {counts : Counts}
-    → RunRan job ended source (record { old = t₀; new = t₁; failed_old = f₀; failed_new = f₁ }) (Ok counts)
-    → status ≡ status_by job counts → Grew errors.old errors.new []
+    {n : Outcome}
+    → RunRan job ended source (record { old = t₀; new = t₁; failed_old = f₀; failed_new = f₁ }) (Ok n)
+    → status ≡ status_by job n.counts → RemarkTold n.remark errors
     → JobRan job ended source (record { old = t₀; new = t₁; failed_old = f₀; failed_new = f₁ }) errors status
-done job {f₁ = f₁} {counts = counts} r s l = record { answer = Ok counts; failed = f₁; run = r; told = (s, refl, l) }
+done job {f₁ = f₁} {n = n} r s l = record { answer = Ok n; failed = f₁; run = r; told = (s, refl, l) }
 
 -- a refusal before anything was run
 pub read-refused : {sink errors : Movement} {status : ℕ} {told : RunError} → Flushed Read sink told → status ≡ 3

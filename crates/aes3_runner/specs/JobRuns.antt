@@ -1,7 +1,9 @@
 -- What the program does for a job.
-use Rattle.std.specs.Prelude.{ℕ, [], Bool, true, false, Result, Ok, Err, ◌≡◌, ◌≢◌, ◌+◌, ◌^◌, ◌==◌, ◌⊎◌, if◌then◌else◌}
+use Rattle.std.specs.Prelude.{ℕ, List, [], Bool, true, false, Result, Ok, Err, ◌≡◌, ◌≢◌, ◌+◌, ◌^◌, ◌==◌, ◌⊎◌, if◌then◌else◌}
 use Rattle.std.specs.Prelude.{max, min}
+use Rattle.aes3_level.specs.declared.level.Level.{Level}
 use Rattle.aes3_cell.specs.declared.counts.Counts.{Counts}
+use Rattle.aes3_cell.specs.declared.form.Form.{Form}
 use Rattle.aes3_cell.specs.declared.refusal.RunError.{RunError}
 use Rattle.aes3_cell.specs.declared.refusal.RunError.TheVariants as refusal
 use Rattle.aes3_cell.specs.Ends.{Grew}
@@ -33,7 +35,9 @@ use Rattle.aes3_job.specs.declared.job.Job.{Job}
 use Rattle.aes3_job.specs.declared.job.Job.TheVariants.{Encode, Decode, Normal, Check, Account, Watch, WatchSums}
 use Rattle.aes3_job.specs.declared.job.Job.TheVariants.{Show, ShowChanges, Scan, Cut, Rewrite, ToPcm, FromPcm, ToBits}
 use Rattle.aes3_job.specs.declared.job.Job.TheVariants.{ToFilledPcm}
+use Rattle.aes3_runner.specs.declared.outcome.Outcome.{Outcome}
 use Rattle.aes3_runner.specs.Lines.{refusal_line}
+use Rattle.aes3_runner.specs.Outcomes.{RemarkTold, unremarked}
 
 -- how many bytes an input may have
 abbrev pub most : ℕ
@@ -43,66 +47,71 @@ most = 2 ^ 40
 abbrev pub period : ℕ → ℕ
 period every = min (max every 1) most
 
+-- what a job over cells promises on which nothing is remarked
+abbrev pub plain_cells : Form → (List Level → List ℕ) → (List Level → List ℕ) → (List ℕ → Counts) → Promise Outcome
+plain_cells form whole begun counts = unremarked (counted_cells form whole begun counts)
+
 -- what a job promises: its input, what it writes of one, what of bytes behind which more may come, what it counts, and
 -- why it is refused
-abbrev pub promise_of : Job → Promise Counts
-promise_of (Encode o words) = encoded_words words o
+abbrev pub promise_of : Job → Promise Outcome
+promise_of (Encode o words) = unremarked (encoded_words words o)
 promise_of (Decode i words) =
-    counted_cells i
+    plain_cells i
     (λ c. words_file words (blocks c))
     (λ c. words_file words (decided_blocks c))
     (counts_of i)
 promise_of (Normal i o) =
-    counted_cells i (λ c. written o (normal c)) (λ c. begun_stream o (decided_blocks c)) (counts_of i)
+    plain_cells i (λ c. written o (normal c)) (λ c. begun_stream o (decided_blocks c)) (counts_of i)
 promise_of (Check i lines) =
-    counted_cells i (λ c. report_lines lines (reports c)) (λ c. report_lines lines (decided c)) (counts_of i)
+    plain_cells i (λ c. report_lines lines (reports c)) (λ c. report_lines lines (decided c)) (counts_of i)
 promise_of (Account i lines) =
-    counted_cells i
+    plain_cells i
     (λ c. account_lines lines (account c))
     (λ c. account_lines lines (begun_account c))
     (account_counts i)
-promise_of (Watch i style) = counted_cells i (watch_lines style) (begun_watch style) (watch_counts i)
+promise_of (Watch i style) = plain_cells i (watch_lines style) (begun_watch style) (watch_counts i)
 promise_of (WatchSums i style every) =
-    counted_cells i (sum_lines style (period every)) (begun_sums style (period every)) (watch_counts i)
+    plain_cells i (sum_lines style (period every)) (begun_sums style (period every)) (watch_counts i)
 promise_of (Show i detail) =
-    counted_cells i (λ c. detail_lines detail (reports c)) (λ c. detail_lines detail (decided c)) (counts_of i)
+    plain_cells i (λ c. detail_lines detail (reports c)) (λ c. detail_lines detail (decided c)) (counts_of i)
 promise_of (ShowChanges i detail) =
-    counted_cells i (λ c. change_details detail (reports c)) (λ c. change_details detail (decided c)) (counts_of i)
-promise_of (Scan i) = counted_cells i (λ c. mark_lines (marks c)) (λ c. mark_lines (marks c)) (scan_counts i)
+    plain_cells i (λ c. change_details detail (reports c)) (λ c. change_details detail (decided c)) (counts_of i)
+promise_of (Scan i) =
+    plain_cells i (λ c. mark_lines (marks c)) (λ c. mark_lines (marks c)) (scan_counts i)
 promise_of (Cut i o from count) =
-    counted_cells i
+    plain_cells i
     (λ c. written_stream o (cut_blocks from count (blocks c)))
     (λ c. begun_stream o (cut_blocks from count (decided_blocks c)))
     (counts_of i)
 promise_of (Rewrite i o change) =
-    counted_cells i
+    plain_cells i
     (λ c. written_stream o (rewritten_blocks change (blocks c)))
     (λ c. begun_stream o (rewritten_blocks change (decided_blocks c)))
     (counts_of i)
 promise_of (ToPcm i format true) =
-    counted_cells i
+    plain_cells i
     (λ c. narrowed format (valid_samples (blocks c)))
     (λ c. narrowed format (valid_samples (decided_blocks c)))
     (counts_of i)
 promise_of (ToPcm i format false) =
-    counted_cells i
+    plain_cells i
     (λ c. narrowed format (samples (blocks c)))
     (λ c. narrowed format (samples (decided_blocks c)))
     (counts_of i)
 promise_of (ToFilledPcm i format fill) =
-    counted_cells i
+    plain_cells i
     (λ c. narrowed format (filled fill (placed (reports c))))
     (λ c. narrowed format (filled fill (placed (decided c))))
     (counts_of i)
-promise_of (FromPcm format exact change words) = sampled_words format exact words change
+promise_of (FromPcm format exact change words) = unremarked (sampled_words format exact words change)
 promise_of (ToBits i bits channel) =
-    counted_cells i
+    plain_cells i
     (λ c. all_carried bits channel (blocks c))
     (λ c. all_carried bits channel (decided_blocks c))
     (counts_of i)
 
 -- a run of a job
-abbrev pub RunRan : Job → Bool → Movement → Movement → Result Counts RunError → Type 0
+abbrev pub RunRan : Job → Bool → Movement → Movement → Result Outcome RunError → Type 0
 RunRan job = InputRun (promise_of job) most
 
 -- its exit status: 1 where `check` finds faults, with gaps or without, or `watch` does, else 0
@@ -138,11 +147,11 @@ before_flush sink failed = record { old = sink.old; new = sink.new; failed_old =
 abbrev pub IsTold : Movement → RunError → Type 0
 IsTold errors error = Quiet errors → Grew errors.old errors.new (refusal_line error)
 
--- what is told of a run's answer, and the exit status: nothing of one that ended well; of a refusal its line, or that
+-- what is told of a run's answer, and the exit status: of one that ended well its remark; of a refusal its line, or that
 -- of `Write` where the flush behind it failed
-abbrev pub AnswerTold : Job → Result Counts RunError → ℕ → Movement → Movement → ℕ → Type 0
-AnswerTold job (Ok counts) failed sink errors status =
-    (status ≡ status_by job counts) × (sink.failed_new ≡ failed) × Grew errors.old errors.new []
+abbrev pub AnswerTold : Job → Result Outcome RunError → ℕ → Movement → Movement → ℕ → Type 0
+AnswerTold job (Ok n) failed sink errors status =
+    (status ≡ status_by job n.counts) × (sink.failed_new ≡ failed) × RemarkTold n.remark errors
 AnswerTold job (Err error) failed sink errors status =
     (status ≡ 3)
     × (((sink.failed_new ≡ failed) × IsTold errors error)
@@ -150,7 +159,7 @@ AnswerTold job (Err error) failed sink errors status =
 
 -- a job: what its run answered, how often the sink had failed then, and what is told of that
 pub record JobRan (job : Job) (ended : Bool) (source sink errors : Movement) (status : ℕ) : Type 0 where
-  pub answer : Result Counts RunError
+  pub answer : Result Outcome RunError
   pub failed : ℕ
   pub run : RunRan job ended source (before_flush sink failed) answer
   pub told : AnswerTold job answer failed sink errors status

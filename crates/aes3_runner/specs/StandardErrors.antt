@@ -1,12 +1,17 @@
 -- What standard error is told of a command line where nobody sits at a terminal.
-use Rattle.std.specs.Prelude.{ℕ, [], Result, Ok, Err, ◌≡◌, ◌≤◌}
+use Rattle.std.specs.Prelude.{ℕ, [], Bool, true, false, Result, Ok, Err, IsFalse, ◌≡◌, ◌≤◌}
 use Rattle.aes3_cell.specs.Ends.{Grew}
 use Rattle.aes3_cell.specs.declared.refusal.RunError.{RunError}
 use Rattle.aes3_input.specs.Running.{Movement, Quiet}
 use Rattle.aes3_arguments.specs.declared.job.LineFault.{LineFault}
 use Rattle.aes3_arguments.specs.declared.job.LineFault.TheVariants.{Usage, Help, Refused}
 use Rattle.aes3_arguments.specs.declared.line.CommandLine.{CommandLine}
+use Rattle.aes3_job.specs.declared.job.Job.{Job}
+use Rattle.aes3_job.specs.declared.job.Job.TheVariants.{ToFilledPcm}
+use Rattle.aes3_runner.specs.declared.outcome.Remark.{Remark}
+use Rattle.aes3_runner.specs.declared.outcome.Remark.TheVariants.{Nothing}
 use Rattle.aes3_runner.specs.Lines.{refusal_line}
+use Rattle.aes3_runner.specs.Outcomes.{RemarkTold}
 
 -- the line of a refusal, and nothing else
 pub record RefusalTold (errors : Movement) : Type 0 where
@@ -20,10 +25,25 @@ UsageTold (Err (Usage text)) errors = Grew errors.old errors.new text.bytes.item
 UsageTold (Err (Help text)) errors = ⊥
 UsageTold (Err (Refused error)) errors = ⊥
 
--- nothing of a line that was run to its end, at status 0 and 1; at 2 why its words are no command; at 3 the line of a
+-- whether there can be anything to remark on a job: only where a command line asks for what tells it
+abbrev pub remarks : Job → Bool
+remarks (ToFilledPcm i format fill) = true
+remarks job = false
+
+-- of a line that was run to its end a remark, and nothing else, and nothing at all of a job on which there is none
+pub record RemarkOf (job : Job) (errors : Movement) : Type 0 where
+  pub remark : Remark
+  pub asked : IsFalse (remarks job) → remark ≡ Nothing
+  pub told : RemarkTold remark errors
+
+abbrev pub EndTold : Result CommandLine LineFault → Movement → Type 0
+EndTold (Ok line) errors = RemarkOf line.job errors
+EndTold (Err fault) errors = Grew errors.old errors.new []
+
+-- the remark on a line that was run to its end, at status 0 and 1; at 2 why its words are no command; at 3 the line of a
 -- refusal
 pub record ErrorsTold (line : Result CommandLine LineFault) (errors : Movement) (status : ℕ) : Type 0 where
   pub known : status ≤ 3
-  pub done : status ≤ 1 → Grew errors.old errors.new []
+  pub done : status ≤ 1 → EndTold line errors
   pub usage : status ≡ 2 → Quiet errors → UsageTold line errors
   pub refusal : status ≡ 3 → Quiet errors → RefusalTold errors

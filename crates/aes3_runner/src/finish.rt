@@ -6,6 +6,7 @@ ghost use Rattle.aes3_runner.specs.OctetRuns.{ReadRefused};
 ghost use Rattle.aes3_input.specs.Running.{movement_of};
 
 use crate::job_run::{exit_status, run_job};
+use crate::outcome::tell_remark;
 use crate::refusal::refuse;
 use aes3_cell::{RunError, Sink, Source};
 use aes3_job::{Job, Observer};
@@ -30,8 +31,8 @@ fn flushed<T: Sink>(error: RunError, sink: &mut T) -> RunError
 
 /// Runs a job, and answers the exit status: 0 done, 1 where `check` found faults, 3 for a refusal.
 /// Unless the sink failed, it has passed on all that it took, also behind a refusal. A refusal is
-/// told on `errors`, which are flushed then and whose own faults change nothing. The observer is told
-/// too; one that is silent writes nothing.
+/// told on `errors`, and of a job that ended well what there is to remark; they are flushed then, and
+/// their own faults change nothing. The observer is told too; one that is silent writes nothing.
 pub fn finish_job<S: Source, T: Sink, E: Sink, O: Observer>(
     job: &Job,
     source: &mut S,
@@ -82,7 +83,10 @@ pub(crate) fn finish_begun<S: Source, T: Sink, E: Sink, O: Observer>(
     ensures same { O.is_silent observer.new ≡ O.is_silent observer.old }
 {
     match run_job(job, source, sink) {
-        Ok(counts) => exit_status(job, &counts),
+        Ok(outcome) => {
+            tell_remark(outcome.remark, errors);
+            exit_status(job, &outcome.counts)
+        }
         Err(error) => refuse(flushed(error, sink), errors, observer),
     }
 }

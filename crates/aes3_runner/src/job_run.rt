@@ -5,6 +5,7 @@ ghost use Rattle.aes3_input.specs.Running.{movement_of};
 ghost use Rattle.aes3_job.specs.declared.job.Job.TheVariants.{ToPcm};
 ghost use Rattle.aes3_runner.specs.JobRuns.{RunRan, period, status_by};
 
+use crate::outcome::{Outcome, plain};
 use aes3_account::{account, watch, watch_sums};
 use aes3_cell::{Counts, Form, RunError, Sink, Source};
 use aes3_engine::{
@@ -54,7 +55,7 @@ fn run_samples<S: Source, T: Sink>(
     input: Form,
     format: SampleFormat,
     valid: bool,
-) -> Result<Counts, RunError>
+) -> Result<Outcome, RunError>
     requires source_room { S.failed source.old + 1 < 2 ^ 64 }
     requires sink_room { T.failed sink.old + 1 < 2 ^ 64 }
     ensures ran { RunRan (ToPcm input format valid) (S.has_ended source.new)
@@ -63,9 +64,9 @@ fn run_samples<S: Source, T: Sink>(
     ensures passed_on { IfOk result (λ _. T.passed sink.new ≡ T.taken sink.new) }
 {
     if valid {
-        to_valid_pcm(source, sink, MAX_BYTES, input, format)
+        plain(to_valid_pcm(source, sink, MAX_BYTES, input, format))
     } else {
-        to_pcm(source, sink, MAX_BYTES, input, format)
+        plain(to_pcm(source, sink, MAX_BYTES, input, format))
     }
 }
 
@@ -77,7 +78,7 @@ pub fn run_job<S: Source, T: Sink>(
     job: &Job,
     source: &mut S,
     sink: &mut T,
-) -> Result<Counts, RunError>
+) -> Result<Outcome, RunError>
     requires source_room { S.failed source.old + 1 < 2 ^ 64 }
     requires sink_room { T.failed sink.old + 1 < 2 ^ 64 }
     ensures ran { RunRan job.now (S.has_ended source.new)
@@ -86,31 +87,35 @@ pub fn run_job<S: Source, T: Sink>(
     ensures passed_on { IfOk result (λ _. T.passed sink.new ≡ T.taken sink.new) }
 {
     match *job {
-        Job::Encode { output, words } => encode_words(source, sink, MAX_BYTES, output, words),
-        Job::Decode { input, words } => decode_words(source, sink, MAX_BYTES, input, words),
-        Job::Normal { input, output } => normalise(source, sink, MAX_BYTES, input, output),
-        Job::Check { input, lines } => check(source, sink, MAX_BYTES, input, lines),
-        Job::Account { input, lines } => account(source, sink, MAX_BYTES, input, lines),
-        Job::Watch { input, style } => watch(source, sink, MAX_BYTES, input, style),
+        Job::Encode { output, words } => plain(encode_words(
+            source, sink, MAX_BYTES, output, words,
+        )),
+        Job::Decode { input, words } => plain(decode_words(source, sink, MAX_BYTES, input, words)),
+        Job::Normal { input, output } => plain(normalise(source, sink, MAX_BYTES, input, output)),
+        Job::Check { input, lines } => plain(check(source, sink, MAX_BYTES, input, lines)),
+        Job::Account { input, lines } => plain(account(source, sink, MAX_BYTES, input, lines)),
+        Job::Watch { input, style } => plain(watch(source, sink, MAX_BYTES, input, style)),
         Job::WatchSums {
             input,
             style,
             every,
-        } => watch_sums(source, sink, MAX_BYTES, input, style, period(every)),
-        Job::Show { input, detail } => show_detail(source, sink, MAX_BYTES, input, detail),
-        Job::ShowChanges { input, detail } => show_changes(source, sink, MAX_BYTES, input, detail),
-        Job::Scan { input } => scan(source, sink, MAX_BYTES, input),
+        } => plain(watch_sums(source, sink, MAX_BYTES, input, style, period(every))),
+        Job::Show { input, detail } => plain(show_detail(source, sink, MAX_BYTES, input, detail)),
+        Job::ShowChanges { input, detail } => plain(show_changes(
+            source, sink, MAX_BYTES, input, detail,
+        )),
+        Job::Scan { input } => plain(scan(source, sink, MAX_BYTES, input)),
         Job::Cut {
             input,
             output,
             from,
             count,
-        } => cut(source, sink, MAX_BYTES, input, output, from, count),
+        } => plain(cut(source, sink, MAX_BYTES, input, output, from, count)),
         Job::Rewrite {
             input,
             output,
             change,
-        } => rewrite(source, sink, MAX_BYTES, input, output, &change),
+        } => plain(rewrite(source, sink, MAX_BYTES, input, output, &change)),
         Job::ToPcm {
             input,
             format,
@@ -120,17 +125,17 @@ pub fn run_job<S: Source, T: Sink>(
             input,
             format,
             fill,
-        } => to_filled_pcm(source, sink, MAX_BYTES, input, format, fill),
+        } => plain(to_filled_pcm(source, sink, MAX_BYTES, input, format, fill)),
         Job::FromPcm {
             format,
             exact,
             change,
             words,
-        } => from_pcm_words(source, sink, MAX_BYTES, format, exact, &change, words),
+        } => plain(from_pcm_words(source, sink, MAX_BYTES, format, exact, &change, words)),
         Job::ToBits {
             input,
             bits,
             channel,
-        } => to_bits(source, sink, MAX_BYTES, input, bits, channel),
+        } => plain(to_bits(source, sink, MAX_BYTES, input, bits, channel)),
     }
 }

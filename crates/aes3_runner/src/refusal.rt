@@ -14,14 +14,14 @@ use itoa::Buffer;
 /// The exit status of a refused run.
 pub const REFUSED: u8 = 3;
 
-/// How many bytes a refusal line has at most.
-const LINE_LEN: usize = 128;
+/// How many bytes such a line has at most, and that of a remark.
+pub(crate) const LINE_LEN: usize = 128;
 
 /// How many bytes a number in a line has at most.
 const DIGITS: usize = 40;
 
 /// Appends the bytes, which there is room for.
-fn append(line: &mut ArrayVec<u8, LINE_LEN>, bytes: &[u8])
+pub(crate) fn append(line: &mut ArrayVec<u8, LINE_LEN>, bytes: &[u8])
     requires { array_vec_len line.old + length bytes.now ≤ LINE_LEN }
     ensures bytes { line.new.items ≡ line.old.items ++ bytes.now }
     ensures len { array_vec_len line.new ≡ array_vec_len line.old + length bytes.now }
@@ -30,7 +30,7 @@ fn append(line: &mut ArrayVec<u8, LINE_LEN>, bytes: &[u8])
 }
 
 /// Appends a number in decimal.
-fn append_number(line: &mut ArrayVec<u8, LINE_LEN>, number: u64)
+pub(crate) fn append_number(line: &mut ArrayVec<u8, LINE_LEN>, number: u64)
     requires { array_vec_len line.old + DIGITS ≤ LINE_LEN }
     ensures digits { line.new.items ≡ line.old.items ++ decimal number }
     ensures len { array_vec_len line.new ≤ array_vec_len line.old + DIGITS }
