@@ -1,7 +1,7 @@
 -- Samples that keep time: as those of blocks in a row, and in time.
 use Rattle.std.proofs.Common.{◌≡◌, ℕ, zero, suc, ◌+◌, ◌-◌, ◌*◌, ◌/◌, ◌<◌, ◌≤◌, List, [], ◌∷◌, ◌++◌, Bool, length}
 use Rattle.std.proofs.Common.{replicate, refl, sym, ap, ap₂, ◌∙◌, subst, arith, append_assoc, length-append}
-use Rattle.std.proofs.Common.{length-drop, map}
+use Rattle.std.proofs.Common.{length-drop, map, Some, None}
 use Rattle.std.specs.List.{All, flat_map}
 use Rattle.std.proofs.lemmas.List.{length-replicate, length-map}
 use Rattle.aes3_level.specs.declared.level.Level.{Level}
@@ -18,6 +18,9 @@ use Rattle.aes3_lock.proofs.NormalStreams.{blocks-lawful}
 use Rattle.aes3_lock.proofs.ReportPlaces.{Spaced, spaced-weaker, spaced-reports}
 use Rattle.aes3_engine.specs.Filling.{Placed, placed, frame_cells, frame_bytes, block_frames, frames_between, filling}
 use Rattle.aes3_engine.specs.Filling.{repeated, between, filled_behind, filled, InRow, StandsInTime, KeepsTime}
+use Rattle.aes3_engine.specs.Filling.{frames_filled_behind, frames_filled}
+use Rattle.aes3_engine.specs.declared.filling.Progress.{Progress}
+use Rattle.aes3_engine.specs.FillSteps.{last_of, reached, progress_of}
 use Rattle.aes3_frame.proofs.FileLaws.{length-bytes}
 
 -- blocks have their subframes, and each stands behind all of the one before it
@@ -220,6 +223,82 @@ keeps-time fill p (x ∷ more) s q = go
           not_early = not-early x.place y.place;
           last = last-nothing fill x.place y b;
         }
+
+-- all blocks with their filling are as many frames as stand before the last and in it
+placed-count : (r : List Report) → length (placed r) ≡ length (wholes r)
+placed-count [] = refl
+placed-count (Whole at s b ∷ r) = ap suc (placed-count r)
+placed-count (Marked at s wrong ∷ r) = placed-count r
+placed-count (Fault at cell why ∷ r) = placed-count r
+placed-count (Unfinished at cells ∷ r) = placed-count r
+
+frames-behind : (p : ℕ) (x : Placed) (more : List Placed) → p ≤ x.place → Apart (x.place + block_len) more
+    → frames_between p (last_of x more).place
+    ≡ frames_between p x.place + 192 * length more + frames_filled_behind p x more
+unfolding block_frames
+frames-behind p x [] h q = omega arith
+frames-behind p x (y ∷ more) h q =
+    let l = between-later p x.place y.place h q.0 in
+    let g = q.0 in
+    let t = frames-behind p y more (omega arith) q.1 in
+    omega arith
+
+frames-placed : (fill : Fill) (xs : List Placed) (k : Progress) → Apart 0 xs → Some k ≡ progress_of fill xs
+    → k.frames ≡ 192 * length xs + frames_filled xs
+unfolding block_frames
+frames-placed fill [] k q e = cc
+frames-placed fill (x ∷ more) k q e =
+    let t = frames-behind x.place x more (omega arith) q.1 in
+    let z = between-first x.place in
+    let f : k ≡ reached fill x.place (last_of x more) = cc in
+    let n = ap (λ (v : Progress). v.frames) f in
+    omega arith
+
+pub frames-told : (fill : Fill) (c : List Level) (k : Progress) (n : ℕ) → Some k ≡ progress_of fill (placed (reports c))
+    → n ≡ length (wholes (reports c)) → k.frames ≡ block_frames * n + frames_filled (placed (reports c))
+unfolding block_frames
+frames-told fill c k n e m =
+    let t = frames-placed fill (placed (reports c)) k (apart-of c) e in
+    let l = placed-count (reports c) in
+    omega arith
+
+pub no-frames : (fill : Fill) (xs : List Placed) → None ≡ progress_of fill xs → 0 ≡ frames_filled xs
+no-frames fill [] e = refl
+no-frames fill (x ∷ more) e = cc
+
+-- and so many frames long
+length-behind : (fill : Fill) (p : ℕ) (x : Placed) (more : List Placed) → Sized (x ∷ more)
+    → length (filled_behind fill p x more) ≡ 8 * (192 * length more + frames_filled_behind p x more)
+unfolding frame_bytes block_frames
+length-behind fill p x [] s = refl
+length-behind fill p x (y ∷ more) s =
+    let i = between fill p x y in
+    let j = block_samples y.block in
+    let a = length-append (i ++ j) (filled_behind fill p y more) in
+    let d = length-append i j in
+    let n = length-between fill p x y s.0 in
+    let k = length-block y.block s.1.0 in
+    let t = length-behind fill p y more s.1 in
+    omega arith
+
+length-placed : (fill : Fill) (xs : List Placed) → Sized xs
+    → length (filled fill xs) ≡ 8 * (192 * length xs + frames_filled xs)
+unfolding frame_bytes block_frames
+length-placed fill [] s = refl
+length-placed fill (x ∷ more) s =
+    let a = length-append (block_samples x.block) (filled_behind fill x.place x more) in
+    let k = length-block x.block s.0 in
+    let t = length-behind fill x.place x more s in
+    omega arith
+
+pub length-filled : (fill : Fill) (c : List Level)
+    → length (filled fill (placed (reports c)))
+    ≡ frame_bytes * (block_frames * length (blocks c) + frames_filled (placed (reports c)))
+unfolding frame_bytes block_frames blocks
+length-filled fill c =
+    let t = length-placed fill (placed (reports c)) (sized-of c) in
+    let l = placed-count (reports c) in
+    omega arith
 
 pub filled-in-time : (fill : Fill) (c : List Level) → KeepsTime (filled fill (placed (reports c))) (placed (reports c))
 filled-in-time fill c = keeps-time fill 0 (placed (reports c)) (sized-of c) (apart-of c)

@@ -45,11 +45,14 @@ filling Hold b = drop (frame_bytes * (block_frames - 1)) (block_samples b)
 unfoldable pub repeated : ℕ → List ℕ → List ℕ
 repeated n frame = flat_map (λ f. f) (replicate n frame)
 
--- the filling between block x and the next block y, where the first block is at place p: the frames that are still
--- missing before y
+-- how many frames are missing between block x and the next block y, where the first block is at place p: as many as
+-- stand before y, less those that stand up to behind x
+abbrev pub missing : ℕ → Placed → Placed → ℕ
+missing p x y = frames_between p y.place - (frames_between p x.place + block_frames)
+
+-- the filling between them
 abbrev pub between : Fill → ℕ → Placed → Placed → List ℕ
-between fill p x y =
-    repeated (frames_between p y.place - (frames_between p x.place + block_frames)) (filling fill x.block)
+between fill p x y = repeated (missing p x y) (filling fill x.block)
 
 -- the samples of the blocks behind block x, with the filling before each, and those of all blocks
 abbrev pub filled_behind : Fill → ℕ → Placed → List Placed → List ℕ
@@ -59,6 +62,15 @@ filled_behind fill p x (y ∷ more) = between fill p x y ++ block_samples y.bloc
 abbrev pub filled : Fill → List Placed → List ℕ
 filled fill [] = []
 filled fill (x ∷ more) = block_samples x.block ++ filled_behind fill x.place x more
+
+-- how many frames of filling stand behind block x, and how many among all blocks
+abbrev pub frames_filled_behind : ℕ → Placed → List Placed → ℕ
+frames_filled_behind p x [] = 0
+frames_filled_behind p x (y ∷ more) = missing p x y + frames_filled_behind p y more
+
+abbrev pub frames_filled : List Placed → ℕ
+frames_filled [] = 0
+frames_filled (x ∷ more) = frames_filled_behind x.place x more
 
 -- blocks stand in a row, the first at place p and each directly behind the one before it
 abbrev pub InRow : ℕ → List Placed → Type 0

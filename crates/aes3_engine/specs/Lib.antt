@@ -8,3 +8,4 @@ pub mod ValidSamples
 pub mod Filling
 pub mod ExactSamples
 pub mod FillSteps
+pub mod FillRuns

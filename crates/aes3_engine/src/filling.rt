@@ -4,17 +4,18 @@ ghost use Rattle.std.specs.Prelude.{◌≡◌, ℕ, ◌+◌, ◌-◌, ◌*◌, �
 ghost use Rattle.std.specs.Prelude.{IfOk, Some, None, drop};
 ghost use Rattle.aes3_cell.specs.Ends.{Grew, Told};
 ghost use Rattle.aes3_cell.specs.Writes.{Wrote};
+ghost use Rattle.aes3_level.specs.declared.level.Level.{Level};
 ghost use Rattle.aes3_frame.specs.Samples.{block_samples, samples};
 ghost use Rattle.aes3_lock.specs.Following.{report_in};
-ghost use Rattle.aes3_lock.specs.Reports.{blocks, decided, reports};
+ghost use Rattle.aes3_lock.specs.Reports.{blocks, reports};
 ghost use Rattle.aes3_lock.specs.Tallies.{IsTallyOf};
 ghost use Rattle.aes3_input.specs.Inputs.{cells_of};
-ghost use Rattle.aes3_input.specs.Driving.{CellRun};
-ghost use Rattle.aes3_input.specs.Running.{movement_of};
+ghost use Rattle.aes3_input.specs.Running.{InputRun, movement_of};
 ghost use Rattle.aes3_pcm.specs.Formats.{narrowed};
-ghost use Rattle.aes3_runs.specs.ReportRuns.{counts_of};
 ghost use Rattle.aes3_engine.specs.Filling.{InRow, KeepsTime, block_frames, filled, filling};
-ghost use Rattle.aes3_engine.specs.Filling.{frame_bytes, frames_between, placed, repeated};
+ghost use Rattle.aes3_engine.specs.Filling.{frame_bytes, frames_between, frames_filled, placed};
+ghost use Rattle.aes3_engine.specs.Filling.{repeated};
+ghost use Rattle.aes3_engine.specs.FillRuns.{WroteFrames, filled_cells};
 ghost use Rattle.aes3_engine.specs.FillSteps.{bytes_behind, fill_writing, filling_before, first_of};
 ghost use Rattle.aes3_engine.specs.FillSteps.{progress_behind, progress_of, reached};
 
@@ -32,6 +33,15 @@ const FRAME_CELLS: u64 = 128;
 const FRAME_BYTES: usize = 8;
 
 const BLOCK_FRAMES: u64 = 192;
+
+/// What a run has counted that fills time between blocks.
+#[derive(Clone, Copy)]
+pub struct Filled {
+    /// The counts of any run over cells.
+    pub counts: Counts,
+    /// Frames that stand between blocks, where none gives the time.
+    pub frames: u64,
+}
 
 /// How far samples of 32 bits have come.
 #[derive(Clone, Copy)]
@@ -51,6 +61,13 @@ fn frames_between(first: u64, at: u64) -> u64
 {
     let cells = at.saturating_sub(first);
     cells / FRAME_CELLS + cells % FRAME_CELLS / (FRAME_CELLS / 2)
+}
+
+/// How many frames are beside those of so many blocks.
+fn beside_blocks(frames: u64, blocks: u64) -> u64
+    ensures { (beside : ℕ) → frames ≡ block_frames * blocks + beside → result ≡ beside }
+{
+    frames.saturating_sub(BLOCK_FRAMES.saturating_mul(blocks))
 }
 
 /// The samples of a frame that fills the time behind the samples of a block.
@@ -122,6 +139,19 @@ impl FilledBlocks {
             format,
             progress: None,
             tally: Tally::new(),
+        }
+    }
+
+    /// How many frames fill the time between the blocks so far: of all frames those that are of no
+    /// block.
+    fn frames(&self) -> u64
+        ensures { (c : List Level) → IsTallyOf self.now.tally (reports c)
+            → self.now.progress ≡ progress_of self.now.fill (placed (reports c))
+            → result ≡ frames_filled (placed (reports c)) }
+    {
+        match self.progress {
+            None => 0,
+            Some(progress) => beside_blocks(progress.frames, self.tally.blocks),
         }
     }
 
@@ -218,7 +248,7 @@ impl Reporter for FilledBlocks {
 
     ghost writes = { λ k. fill_writing k.format k.fill };
 
-    ghost finished = { λ k. IsTallyOf k.tally };
+    ghost finished = { λ k r. IsTallyOf k.tally r × (k.progress ≡ progress_of k.fill (placed r)) };
 
     fn tell<T: Sink>(&mut self, sink: &mut T, lock: &Lock, ending: Ending) -> Result<(), Fault> {
         match self.put(sink, lock, ending) {
@@ -239,7 +269,8 @@ impl Reporter for FilledBlocks {
 /// whole and closed in them, as `to_pcm` does, and before each but the first as many frames as bring
 /// the frames from the first block on to the whole number nearest to its cells from there over 128,
 /// a half going up. Each is zero, or the last frame of the block before. Behind the last block
-/// nothing is written, as no block tells that time goes on.
+/// nothing is written, as no block tells that time goes on. It answers how many frames it has
+/// written that are of no block, too.
 ///
 /// # Errors
 /// Those of `to_pcm`.
@@ -250,7 +281,7 @@ pub fn to_filled_pcm<S: Source, T: Sink>(
     input: Form,
     format: SampleFormat,
     fill: Fill,
-) -> Result<Counts, RunError>
+) -> Result<Filled, RunError>
     requires source_room { S.failed source.old + 1 < 2 ^ 64 }
     requires sink_room { T.failed sink.old + 1 < 2 ^ 64 }
     requires limit { max_bytes ≤ 2 ^ 40 }
@@ -272,25 +303,28 @@ pub fn to_filled_pcm<S: Source, T: Sink>(
         → Told (S.given source.old) (S.given source.new) b
         → (o : List ℕ) × Grew (T.taken sink.old) (T.taken sink.new) (narrowed format o)
         × KeepsTime o (placed (reports (cells_of input b)))) }
+    // The frames that are written are those of the blocks and those that it tells as filled.
+    ensures frames { IfOk result (λ n. WroteFrames format n
+        (movement_of T.taken T.failed sink.old sink.new)) }
     // It is a run over cells: Ok is owed, a refusal has its cause, and what was decided before it
     // is written.
-    ensures run { CellRun max_bytes input (record {
-      whole = λ c. narrowed format (filled fill (placed (reports c)));
-      begun = λ c. narrowed format (filled fill (placed (decided c)));
-      counts = counts_of input;
-    }) (S.has_ended source.new) (movement_of S.given S.failed source.old source.new)
+    ensures run { InputRun (filled_cells input format fill) max_bytes (S.has_ended source.new)
+        (movement_of S.given S.failed source.old source.new)
         (movement_of T.taken T.failed sink.old sink.new) result }
     ensures passed_on { IfOk result (λ _. T.passed sink.new ≡ T.taken sink.new) }
 {
     let mut taker = Locked::new(FilledBlocks::new(fill, format));
     match drive(source, sink, max_bytes, input, &mut taker) {
-        Ok((bytes, cells)) => Ok(Counts {
-            bytes,
-            cells,
-            blocks: taker.reporter.tally.blocks,
-            faults: taker.reporter.tally.faults,
-            unfinished: taker.reporter.tally.unfinished,
-            marks: 0,
+        Ok((bytes, cells)) => Ok(Filled {
+            counts: Counts {
+                bytes,
+                cells,
+                blocks: taker.reporter.tally.blocks,
+                faults: taker.reporter.tally.faults,
+                unfinished: taker.reporter.tally.unfinished,
+                marks: 0,
+            },
+            frames: taker.reporter.frames(),
         }),
         Err(error) => Err(error),
     }

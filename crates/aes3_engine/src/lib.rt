@@ -35,7 +35,7 @@ pub use aes3_status::{CarriedBits, Change};
 pub use carrying::to_bits;
 pub use encoding::encode;
 pub use exact_samples::{Exact, to_exact_pcm};
-pub use filling::to_filled_pcm;
+pub use filling::{Filled, to_filled_pcm};
 pub use reading::{cut, decode, decode_words, normalise};
 pub use rewriting::rewrite;
 pub use samples::to_pcm;
