@@ -290,8 +290,9 @@ rewrite_known = record {
       (also (values_sound _ _ refl refl refl) (also (flag_sound _ _ (codes "true") refl refl refl refl)
       (also (value_sound _ _ refl refl refl) (also (value_sound _ _ refl refl refl)
       (also (flag_sound _ _ (codes "true") refl refl refl refl)
+      (also (flag_sound _ _ (codes "true") refl refl refl refl)
       (also (flag_sound _ _ (codes "true") refl refl refl refl) (also (value_sound _ _ refl refl refl)
-      (also (help_sound _ _ refl refl) tt))))))))))))));
+      (also (help_sound _ _ refl refl) tt)))))))))))))));
   numbers = λ rows name fit passed. other_name (codes "rewrite") refl name;
 }
 
@@ -302,7 +303,9 @@ to_pcm_known = record {
       (also (flag_sound _ _ (codes "true") refl refl refl refl)
       (also (flag_sound _ _ (codes "true") refl refl refl refl) (also (value_sound _ _ refl refl refl)
       (also (flag_sound _ _ (codes "true") refl refl refl refl) (also (value_sound _ _ refl refl refl)
-      (also (value_sound _ _ refl refl refl) (also (help_sound _ _ refl refl) tt)))))));
+      (also (flag_sound _ _ (codes "true") refl refl refl refl)
+      (also (flag_sound _ _ (codes "true") refl refl refl refl) (also (value_sound _ _ refl refl refl)
+      (also (help_sound _ _ refl refl) tt)))))))));
   numbers = λ rows name fit passed. other_name (codes "to-pcm") refl name;
 }
 

@@ -84,8 +84,11 @@ names_flags = (tt, (tt, (tt, (tt, (tt, (refl, (tt, (tt, (tt, (tt, (tt, (tt, tt))
 valid_flags : EachShape (HasFlag (codes "valid")) (built command_line).subs
 valid_flags = (tt, (tt, (tt, (tt, (tt, (tt, (tt, (tt, (tt, (refl, (tt, (tt, tt))))))))))))
 
+marked_flags : EachShape (HasFlag (codes "marked")) (built command_line).subs
+marked_flags = (tt, (tt, (tt, (tt, (tt, (tt, (tt, (tt, (tt, (refl, (tt, (tt, tt))))))))))))
+
 exact_flags : EachShape (HasFlag (codes "exact")) (built command_line).subs
-exact_flags = (tt, (tt, (tt, (tt, (tt, (tt, (tt, (tt, (tt, (tt, (refl, (tt, tt))))))))))))
+exact_flags = (tt, (tt, (tt, (tt, (tt, (tt, (tt, (tt, (refl, (refl, (refl, (tt, tt))))))))))))
 
 mend_check_flags : EachShape (HasFlag (codes "mend-check")) (built command_line).subs
 mend_check_flags = (tt, (tt, (tt, (tt, (tt, (tt, (tt, (tt, (refl, (tt, (refl, (tt, tt))))))))))))
@@ -129,6 +132,7 @@ options_taken words name options stands = record {
   more = flag_stands words name options (codes "more") more_flags stands;
   names = flag_stands words name options (codes "names") names_flags stands;
   valid = flag_stands words name options (codes "valid") valid_flags stands;
+  marked = flag_stands words name options (codes "marked") marked_flags stands;
   exact = flag_stands words name options (codes "exact") exact_flags stands;
   mend_check = flag_stands words name options (codes "mend-check") mend_check_flags stands;
   valid1 = number_stands words name options (codes "valid1") 0 1 valid1_numbers stands;

@@ -7,9 +7,9 @@ use Rattle.aes3_cell.specs.declared.refusal.RunError.TheVariants.{Memory}
 use Rattle.aes3_arguments.specs.declared.job.LineFault.{LineFault}
 use Rattle.aes3_arguments.specs.declared.job.LineFault.TheVariants as fault
 
--- the text writes the number of a refusal, from 1 to 12
+-- the text writes the number of a refusal, from 1 to 13
 abbrev pub IsRefusalNumber : Text → ℕ → Type 0
-IsRefusalNumber text n = (0 < n) × (n ≤ 12) × (text ≡ decimal n)
+IsRefusalNumber text n = (0 < n) × (n ≤ 13) × (text ≡ decimal n)
 
 -- the words ask what refusals mean
 abbrev pub asks_to_explain : List Text → Bool
@@ -48,4 +48,6 @@ advice_of n =
     "the last octet counts the unused cells before it, 0 to 7, and these are 0: `printf '\\0' >> FILE` adds it where there are none"
     else if n == 11 then codes "leave `--exact` out to drop them, or make samples of 24 bits first (`sox IN -b 24 OUT`)"
     else if n == 12 then codes "`sox FILE -t s32 - | aes3 from-pcm` takes its samples"
+    else if n == 13 then codes
+    "leave `--exact` out to drop them, or set first what gives the setting its code (`greatest=24` before `word=24`)"
     else []

@@ -48,7 +48,8 @@ use Rattle.aes3_job.specs.declared.job.Job.TheVariants as job
 use Rattle.aes3_arguments.specs.declared.layout.Octets.{Octets}
 use Rattle.aes3_arguments.specs.declared.misuse.Misuse.{Misuse}
 use Rattle.aes3_arguments.specs.declared.misuse.Misuse.TheVariants.{TwoForms, NoCellsPacked, TwoPeriods, NoRate}
-use Rattle.aes3_arguments.specs.declared.misuse.Misuse.TheVariants.{UnknownBits, UnknownFilling, FillsValidSamples}
+use Rattle.aes3_arguments.specs.declared.misuse.Misuse.TheVariants.{UnknownBits, UnknownFilling, FillsValidSamples, ExactAndOthers}
+use Rattle.aes3_arguments.specs.declared.misuse.Misuse.TheVariants.{MarkedUnfilled}
 use Rattle.aes3_arguments.specs.declared.misuse.Misuse.TheVariants.{TwoDetails, UnknownWords, UnknownFormat}
 use Rattle.aes3_arguments.specs.declared.job.LineFault.{LineFault}
 use Rattle.aes3_arguments.specs.declared.job.LineFault.TheVariants as fault
@@ -261,6 +262,7 @@ pub record AreTaken (options : Options) : Type 0 where
   pub more : MayBeFlag options (codes "more")
   pub names : MayBeFlag options (codes "names")
   pub valid : MayBeFlag options (codes "valid")
+  pub marked : MayBeFlag options (codes "marked")
   pub exact : MayBeFlag options (codes "exact")
   pub mend_check : MayBeFlag options (codes "mend-check")
   pub valid1 : MayBeWithin 0 1 options (codes "valid1")
@@ -302,15 +304,20 @@ AsksFor name options (job.Cut input output first count) =
     (name ≡ codes "cut") × (input ≡ input_by options)
     × (output ≡ form_by options (codes "packed-out"))
     × IsNumber options (codes "FROM") first × IsNumber options (codes "COUNT") count
-AsksFor name options (job.Rewrite input output change) =
+AsksFor name options (job.Rewrite input output change exact) =
     (name ≡ codes "rewrite") × (input ≡ input_by options)
     × (output ≡ form_by options (codes "packed-out")) × IsChange options change
+    × (exact ≡ is_set options (codes "exact"))
 AsksFor name options (job.ToPcm input pcm valid) =
     (name ≡ codes "to-pcm") × (input ≡ input_by options) × (pcm ≡ format_by options)
     × (valid ≡ is_set options (codes "valid")) × (fill_by options ≡ None)
-AsksFor name options (job.ToFilledPcm input pcm fill) =
+    × (is_set options (codes "exact") ≡ false)
+AsksFor name options (job.ToExactPcm input pcm) =
     (name ≡ codes "to-pcm") × (input ≡ input_by options) × (pcm ≡ format_by options)
-    × (fill_by options ≡ Some fill)
+    × (fill_by options ≡ None) × (is_set options (codes "exact") ≡ true)
+AsksFor name options (job.ToFilledPcm input pcm fill marked) =
+    (name ≡ codes "to-pcm") × (input ≡ input_by options) × (pcm ≡ format_by options)
+    × (fill_by options ≡ Some fill) × (marked ≡ is_set options (codes "marked"))
 AsksFor name options (job.FromPcm pcm exact change form) =
     (name ≡ codes "from-pcm") × (pcm ≡ format_by options) × (exact ≡ is_set options (codes "exact"))
     × IsChange options change × (form ≡ words_by options)
@@ -364,6 +371,15 @@ has_unknown_filling options =
 abbrev pub fills_valid_samples : Options → Bool
 fills_valid_samples options = is_some (fill_by options) && is_set options (codes "valid")
 
+-- marked blocks are to be given, and nothing says what fills them
+abbrev pub has_marked_unfilled : Options → Bool
+has_marked_unfilled options = is_set options (codes "marked") && not (is_some (fill_by options))
+
+-- samples are to be given as they are, and others in the place of some
+abbrev pub has_exact_and_others : Options → Bool
+has_exact_and_others options =
+    is_set options (codes "exact") && (is_some (fill_by options) || is_set options (codes "valid"))
+
 -- words of codes are to stand behind a line of channel status, and the place of its block too
 abbrev pub has_two_details : Options → Bool
 has_two_details options =
@@ -389,6 +405,8 @@ misuse_by options =
     else if has_unknown_bits options then Some UnknownBits
     else if has_unknown_filling options then Some UnknownFilling
     else if fills_valid_samples options then Some FillsValidSamples
+    else if has_marked_unfilled options then Some MarkedUnfilled
+    else if has_exact_and_others options then Some ExactAndOthers
     else if has_two_details options then Some TwoDetails
     else if has_unknown_words options then Some UnknownWords
     else if has_unknown_format options then Some UnknownFormat
@@ -507,6 +525,9 @@ misuse_line NoRate = codes "error: the argument '--every-seconds <N>' needs '--r
 misuse_line UnknownBits = codes "error: invalid value for '<BITS>': it is 'user', 'validity' or 'status'"
 misuse_line UnknownFilling = codes "error: invalid value for '--fill <zero|hold>': it is 'zero' or 'hold'"
 misuse_line FillsValidSamples = codes "error: the argument '--fill <zero|hold>' cannot be used with '--valid'"
+misuse_line MarkedUnfilled = codes "error: the argument '--marked' needs '--fill <zero|hold>'"
+misuse_line ExactAndOthers =
+    codes "error: the argument '--exact' cannot be used with '--valid' or '--fill <zero|hold>'"
 misuse_line TwoDetails = codes "error: the argument '--names' cannot be used with '--at' or '--more'"
 misuse_line UnknownWords =
     codes "error: invalid value for '--words <own|alsa|am824>': it is 'own', 'alsa' or 'am824'"

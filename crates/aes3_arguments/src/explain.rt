@@ -9,7 +9,7 @@ use itoa::Buffer;
 use std::alloc::{AllocError, Global};
 
 /// How many refusals there are.
-const REFUSALS: u8 = 12;
+const REFUSALS: u8 = 13;
 
 /// The word that asks for them.
 const EXPLAIN: &str = "--explain";
@@ -18,7 +18,7 @@ const EXPLAIN: &str = "--explain";
 const EXPLAIN_NUMBER: &str = "--explain=";
 
 /// What is told of words behind it that are no number of a refusal.
-const UNKNOWN: &str = "error: the refusals have the numbers 1 to 12
+const UNKNOWN: &str = "error: the refusals have the numbers 1 to 13
 
 Usage: aes3 --explain [NUMBER]
 
@@ -44,6 +44,9 @@ pub fn advice(number: u8) -> &'static str
         11 =>
             "leave `--exact` out to drop them, or make samples of 24 bits first (`sox IN -b 24 OUT`)",
         12 => "`sox FILE -t s32 - | aes3 from-pcm` takes its samples",
+        13 => {
+            "leave `--exact` out to drop them, or set first what gives the setting its code (`greatest=24` before `word=24`)"
+        }
         _ => "",
     }
 }
@@ -65,6 +68,9 @@ fn wrong(number: u8) -> &'static str {
         11 =>
             "with `--exact`, the sample word that begins at byte PLACE has bits below the highest 24",
         12 => "the input of `from-pcm` begins with the header of a WAV file, and not with samples",
+        13 => {
+            "with `--exact`, the block that begins at cell PLACE would lose bits of its samples, or leaves out a setting"
+        }
         _ => "",
     }
 }

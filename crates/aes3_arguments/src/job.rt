@@ -168,11 +168,13 @@ fn rewrite(
     ensures job { IfOk result (AsksFor (codes "rewrite") (options_of options.now)) }
     ensures fault { IfErr result (IsBadOptionOf (codes "rewrite") (options_of options.now)) }
 {
+    let exact = flag(options, "exact");
     match change(alloc, options, help::REWRITE.usage) {
         Ok(change) => Ok(Job::Rewrite {
             input,
             output,
             change,
+            exact,
         }),
         Err(fault) => Err(fault),
     }

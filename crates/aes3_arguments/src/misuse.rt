@@ -3,7 +3,8 @@
 ghost use Rattle.std.specs.Prelude.{◌≡◌, IfOk};
 ghost use Rattle.aes3_arguments.specs.Jobs.{AreTaken, TellsMisuse, has_no_cells_packed, has_no_rate};
 ghost use Rattle.aes3_arguments.specs.Jobs.{has_two_forms, has_two_periods, has_unknown_bits, misuse_by};
-ghost use Rattle.aes3_arguments.specs.Jobs.{fills_valid_samples, has_two_details};
+ghost use Rattle.aes3_arguments.specs.Jobs.{fills_valid_samples, has_exact_and_others, has_two_details};
+ghost use Rattle.aes3_arguments.specs.Jobs.{has_marked_unfilled};
 ghost use Rattle.aes3_arguments.specs.Jobs.{misuse_line, misuse_text, options_of};
 
 use crate::carried::bits_of_text;
@@ -34,6 +35,10 @@ pub(crate) enum Misuse {
     UnknownFilling,
     /// `--fill` beside `--valid`.
     FillsValidSamples,
+    /// `--marked` without `--fill`.
+    MarkedUnfilled,
+    /// `--exact` beside `--valid` or `--fill`.
+    ExactAndOthers,
     /// `--names` beside `--at` or `--more`.
     TwoDetails,
     /// `--words` of a form that there is none of.
@@ -70,6 +75,10 @@ pub(crate) fn misuse_of_options(options: &ArgMatches<'_>) -> Option<Misuse>
         Some(Misuse::UnknownFilling)
     } else if fills_valid_samples(options) {
         Some(Misuse::FillsValidSamples)
+    } else if has_marked_unfilled(options) {
+        Some(Misuse::MarkedUnfilled)
+    } else if has_exact_and_others(options) {
+        Some(Misuse::ExactAndOthers)
     } else if has_two_details(options) {
         Some(Misuse::TwoDetails)
     } else if has_unknown_words(options) {
@@ -135,6 +144,22 @@ fn fills_valid_samples(options: &ArgMatches<'_>) -> bool
     fill(options).is_some() && flag(options, "valid")
 }
 
+/// Whether marked blocks are to be given, and nothing says what fills them.
+fn has_marked_unfilled(options: &ArgMatches<'_>) -> bool
+    requires { AreTaken (options_of options.now) }
+    ensures { result ≡ has_marked_unfilled (options_of options.now) }
+{
+    flag(options, "marked") && fill(options).is_none()
+}
+
+/// Whether samples are to be given as they are, and others in the place of some.
+fn has_exact_and_others(options: &ArgMatches<'_>) -> bool
+    requires { AreTaken (options_of options.now) }
+    ensures { result ≡ has_exact_and_others (options_of options.now) }
+{
+    flag(options, "exact") && (fill(options).is_some() || flag(options, "valid"))
+}
+
 /// Whether words of codes are to stand behind a line, and the place of its block too.
 fn has_two_details(options: &ArgMatches<'_>) -> bool
     requires { AreTaken (options_of options.now) }
@@ -184,6 +209,10 @@ fn misuse_line(misuse: Misuse) -> &'static str
         }
         Misuse::FillsValidSamples => {
             "error: the argument '--fill <zero|hold>' cannot be used with '--valid'"
+        }
+        Misuse::MarkedUnfilled => "error: the argument '--marked' needs '--fill <zero|hold>'",
+        Misuse::ExactAndOthers => {
+            "error: the argument '--exact' cannot be used with '--valid' or '--fill <zero|hold>'"
         }
         Misuse::TwoDetails => {
             "error: the argument '--names' cannot be used with '--at' or '--more'"

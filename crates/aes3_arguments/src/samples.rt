@@ -22,6 +22,11 @@ pub(crate) fn to_pcm(options: &ArgMatches<'_>, input: Form) -> Job
             input,
             format: format(options),
             fill,
+            marked: flag(options, "marked"),
+        },
+        None if flag(options, "exact") => Job::ToExactPcm {
+            input,
+            format: format(options),
         },
         None => Job::ToPcm {
             input,

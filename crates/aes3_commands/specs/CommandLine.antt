@@ -12,6 +12,7 @@ use Rattle.aes3_commands.specs.declared.argument.Argument.TheVariants.{PackedIn,
 use Rattle.aes3_commands.specs.declared.argument.Argument.TheVariants.{LsbFirst, Changes, At, More, Names, From, Count}
 use Rattle.aes3_commands.specs.declared.argument.Argument.TheVariants.{Json, Rate, Every, EverySeconds}
 use Rattle.aes3_commands.specs.declared.argument.Argument.TheVariants.{Status1, Status2, Set1, Set2, MendCheck, Exact}
+use Rattle.aes3_commands.specs.declared.argument.Argument.TheVariants.{ExactSamples, ExactSettings, Marked}
 use Rattle.aes3_commands.specs.declared.argument.Argument.TheVariants.{Valid1, Valid2, ClearUser1, ClearUser2, Valid}
 use Rattle.aes3_commands.specs.declared.argument.Argument.TheVariants.{Fill, Bits, Channel, Pcm, Words, File}
 use Rattle.aes3_commands.specs.declared.definitions.Name.{Name}
@@ -120,7 +121,10 @@ rule ClearUser1 = flag (codes "clear-user1")
 rule ClearUser2 = flag (codes "clear-user2")
 rule Valid = flag (codes "valid")
 rule Fill = text_option (codes "fill")
+rule Marked = flag (codes "marked")
 rule Exact = flag (codes "exact")
+rule ExactSamples = flag (codes "exact")
+rule ExactSettings = flag (codes "exact")
 rule Pcm = pcm
 rule Words = words
 rule Bits = word (codes "BITS")
@@ -170,10 +174,11 @@ rewrite = command (codes "rewrite")
     ∷ text_option (codes "status1") ∷ text_option (codes "status2")
     ∷ settings_option (codes "set1") ∷ settings_option (codes "set2") ∷ flag (codes "mend-check")
     ∷ number_option (codes "valid1") 0 1 ∷ number_option (codes "valid2") 0 1
-    ∷ flag (codes "clear-user1") ∷ flag (codes "clear-user2") ∷ file ∷ [])
+    ∷ flag (codes "clear-user1") ∷ flag (codes "clear-user2") ∷ flag (codes "exact") ∷ file ∷ [])
 
 abbrev pub to_pcm : Shape
-to_pcm = reader_with (codes "to-pcm") (pcm ∷ flag (codes "valid") ∷ text_option (codes "fill") ∷ file ∷ [])
+to_pcm = reader_with (codes "to-pcm")
+    (pcm ∷ flag (codes "valid") ∷ text_option (codes "fill") ∷ flag (codes "marked") ∷ flag (codes "exact") ∷ file ∷ [])
 
 abbrev pub from_pcm : Shape
 from_pcm = command (codes "from-pcm")

@@ -73,8 +73,14 @@ pub(crate) enum Argument {
     Valid,
     /// `--fill zero|hold` of `to-pcm`.
     Fill,
+    /// `--marked` of `to-pcm`.
+    Marked,
     /// `--exact` of `from-pcm`.
     Exact,
+    /// `--exact` of `to-pcm`.
+    ExactSamples,
+    /// `--exact` of `rewrite`.
+    ExactSettings,
     /// `--pcm s32|s24|s24in32|s16`: the form of samples.
     Pcm,
     /// `--words own|alsa|am824`: the form of the words of a block file.
@@ -199,7 +205,18 @@ impl Argument {
                 "zero|hold",
                 "Keep time: fill what no whole block gives with zeros, or with the last frame",
             ),
+            Argument::Marked => flag(
+                alloc,
+                "marked",
+                "With --fill: give blocks with wrong parity too, and fill those subframes",
+            ),
             Argument::Exact => flag(alloc, "exact", "Refuse samples of more than 24 bits"),
+            Argument::ExactSamples => flag(alloc, "exact", "Refuse blocks that would lose bits"),
+            Argument::ExactSettings => flag(
+                alloc,
+                "exact",
+                "Refuse blocks that leave out what --set1 or --set2 sets",
+            ),
             Argument::Pcm => text(
                 alloc,
                 "pcm",

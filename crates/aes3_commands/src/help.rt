@@ -46,7 +46,7 @@ Exit status:
   2  the words are no command line; why is told on standard error
   3  refused; standard error has one line, `aes3: refused NUMBER at PLACE`, or no place
 
-Refusals have the numbers 1 to 12; PLACE counts bytes, words or octets from 0. `aes3
+Refusals have the numbers 1 to 13; PLACE counts bytes, words, octets or cells from 0. `aes3
 --explain` prints what was wrong and what to do, with a NUMBER of that refusal alone.
 
 Examples, three tasks with examples/speech.block of the sources:
@@ -120,15 +120,21 @@ dropped. V, U and C are left out, as is what is cut or damaged, and nothing is t
 can't be taken as it is, is written as zero. With --fill the samples keep time: what no
 whole block gives between two of them is filled with frames of zeros (`zero`) or with the
 last frame before it (`hold`), so many that each block stands to half a frame where its
-cells do, counted from the first block.
+cells do, counted from the first block; standard error has how many at the end, as
+`aes3: filled 192 frames`. With --marked too, a block of which only parity bits are wrong
+is given as well, and each subframe whose parity bit is wrong is filled likewise. With
+--exact a block with a sample that would lose bits, in 16 bits one of more than 16, is
+refused with its place, and neither it nor any behind it is written; the input is read to
+its end first.
 
 Exit status: 0 done, also where no block was found; 3 refused: 1 a byte is no cell, 10
-packed cells end wrongly; or as for every command.
+packed cells end wrongly, 13 with --exact a block would lose bits; or as for every command.
 
 Examples:
     aes3 to-pcm < line.txt > line.s32
     aes3 to-pcm --valid < line.txt | cmp - line.s32
     aes3 to-pcm --fill hold < line.txt | cmp - line.s32
+    aes3 to-pcm --fill hold --marked < line.txt | cmp - line.s32
     aes3 to-pcm --pcm s24 < line.txt > line.s24
     aes3 to-pcm < line.txt | sox -t raw -r 48000 -e signed -b 32 -c 2 -L - -b 24 line.wav",
 };
@@ -316,7 +322,9 @@ prints, with --names too, and use=professional or use=consumer sets the use; eac
 stand 32 times, and they are set in that order, origin=, destination=, local= and time=
 behind the others. A status for the use that has no such field stays as it is, and so does
 one in which the word has no code, as a consumer one for word=24 without greatest=24
-before it. With --mend-check byte 23 of each channel whose status is professional then
+before it. What no block took is told on standard error at the end; with --exact a block
+that does not take all of it is refused with its place, and neither it nor any behind it
+is written; the input is read to its end first. With --mend-check byte 23 of each channel whose status is professional then
 becomes its check byte. --valid1 0 and --valid2 0 make V of all subframes of a channel 0,
 which says that their samples can be taken as they are; with 1 it says that they can't.
 --clear-user1 and --clear-user2 make U of all of them 0. Without any option the blocks are
@@ -324,7 +332,7 @@ as they were.
 
 Exit status: 0 done, also where no block was found; 3 refused: 9 a status is not 48
 hexadecimal digits, and nothing is read, 1 a byte is no cell, 10 packed cells end
-wrongly; or as for every command.
+wrongly, 13 with --exact a block does not take a setting; or as for every command.
 
 Examples:
     aes3 rewrite --mend-check < line.txt > mended.txt

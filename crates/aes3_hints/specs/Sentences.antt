@@ -13,7 +13,7 @@ use Rattle.aes3_hints.specs.declared.hints.Terminals.{Terminals}
 use Rattle.aes3_job.specs.declared.job.Job.{Job}
 use Rattle.aes3_job.specs.declared.job.Job.TheVariants.{Encode, Decode, Normal, Check, Account, Watch, WatchSums}
 use Rattle.aes3_job.specs.declared.job.Job.TheVariants.{Show, ShowChanges, Scan, Cut, Rewrite, ToPcm, FromPcm, ToBits}
-use Rattle.aes3_job.specs.declared.job.Job.TheVariants.{ToFilledPcm}
+use Rattle.aes3_job.specs.declared.job.Job.TheVariants.{ToExactPcm, ToFilledPcm}
 
 -- whether it is the packed form
 abbrev pub is_packed : Form → Bool
@@ -33,9 +33,10 @@ writes_packed (Show input detail) = false
 writes_packed (ShowChanges input detail) = false
 writes_packed (Scan input) = false
 writes_packed (Cut input output from count) = is_packed output
-writes_packed (Rewrite input output change) = is_packed output
+writes_packed (Rewrite input output change exact) = is_packed output
 writes_packed (ToPcm input format valid) = false
-writes_packed (ToFilledPcm input format fill) = false
+writes_packed (ToExactPcm input format) = false
+writes_packed (ToFilledPcm input format fill marked) = false
 writes_packed (FromPcm format exact change words) = false
 writes_packed (ToBits input bits channel) = false
 
@@ -52,9 +53,10 @@ reads_packed (Show input detail) = is_packed input
 reads_packed (ShowChanges input detail) = is_packed input
 reads_packed (Scan input) = is_packed input
 reads_packed (Cut input output from count) = is_packed input
-reads_packed (Rewrite input output change) = is_packed input
+reads_packed (Rewrite input output change exact) = is_packed input
 reads_packed (ToPcm input format valid) = is_packed input
-reads_packed (ToFilledPcm input format fill) = is_packed input
+reads_packed (ToExactPcm input format) = is_packed input
+reads_packed (ToFilledPcm input format fill marked) = is_packed input
 reads_packed (FromPcm format exact change words) = false
 reads_packed (ToBits input bits channel) = is_packed input
 

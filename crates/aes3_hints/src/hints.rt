@@ -348,6 +348,7 @@ pub fn reads_packed(job: &Job) -> bool
         | Job::Cut { input, .. }
         | Job::Rewrite { input, .. }
         | Job::ToPcm { input, .. }
+        | Job::ToExactPcm { input, .. }
         | Job::ToFilledPcm { input, .. }
         | Job::ToBits { input, .. } => matches!(input, Form::Packed),
     }

@@ -70,11 +70,12 @@ pub enum Job {
         count: u64,
     },
     /// Cells to the normal stream of their blocks, with other channel status, validity and user
-    /// bits.
+    /// bits; where `exact`, up to the first block whose status leaves out a setting.
     Rewrite {
         input: Form,
         output: Form,
         change: Change,
+        exact: bool,
     },
     /// Cells to the samples of their blocks, in this form; where `valid`, with zero for those that
     /// are not.
@@ -83,12 +84,19 @@ pub enum Job {
         format: SampleFormat,
         valid: bool,
     },
+    /// Cells to the samples of their blocks, in this form, up to the first that would lose bits.
+    ToExactPcm {
+        input: Form,
+        format: SampleFormat,
+    },
     /// Cells to the samples of their blocks, in this form, with frames between them that fill the
-    /// time which no block gives.
+    /// time which no block gives; where `marked`, of blocks with wrong parity bits too, and these
+    /// subframes are filled.
     ToFilledPcm {
         input: Form,
         format: SampleFormat,
         fill: Fill,
+        marked: bool,
     },
     /// Samples in a form to a block file, with channel status, its words in this form; where
     /// `exact`, of 24 bits alone.

@@ -1,10 +1,11 @@
 -- What standard error is told of a line, by what ran.
-use Rattle.std.proofs.Common.{◌≡◌, ◌≤◌, ◌==◌, ◌&&◌, ℕ, List, inl, inr, Bool, true, false, IsFalse, Result, Ok, Err, arith}
+use Rattle.std.proofs.Common.{◌≡◌, ◌≤◌, ◌==◌, ◌&&◌, ℕ, List, inl, inr, Bool, true, false, IsFalse, Result, Ok, Err, refl, ap, ◌∙◌, arith}
 use Rattle.std.proofs.Common.{if◌then◌else◌}
 use Rattle.aes3_cell.specs.declared.counts.Counts.{Counts}
 use Rattle.aes3_cell.specs.declared.refusal.RunError.{RunError}
 use Rattle.aes3_cell.specs.declared.refusal.RunError.TheVariants as refusal
 use Rattle.aes3_input.specs.Running.{Movement}
+use Rattle.aes3_cell.proofs.Growing.{grew-is}
 use Rattle.aes3_arguments.specs.declared.job.LineFault.{LineFault}
 use Rattle.aes3_arguments.specs.declared.job.LineFault.TheVariants.{Usage, Help, Refused}
 use Rattle.aes3_arguments.specs.declared.line.CommandLine.{CommandLine}
@@ -12,10 +13,13 @@ use Rattle.aes3_hints.specs.Sentences.{reads_packed, writes_packed}
 use Rattle.aes3_job.specs.declared.job.Job.{Job}
 use Rattle.aes3_job.specs.declared.job.Job.TheVariants.{Encode, Decode, Normal, Check, Account, Watch, WatchSums}
 use Rattle.aes3_job.specs.declared.job.Job.TheVariants.{Show, ShowChanges, Scan, Cut, Rewrite, ToPcm, FromPcm, ToBits}
-use Rattle.aes3_job.specs.declared.job.Job.TheVariants.{ToFilledPcm}
+use Rattle.aes3_job.specs.declared.job.Job.TheVariants.{ToExactPcm, ToFilledPcm}
 use Rattle.aes3_runner.specs.declared.outcome.Outcome.{Outcome}
-use Rattle.aes3_runner.specs.declared.outcome.Remark.TheVariants.{Nothing}
-use Rattle.aes3_runner.specs.JobRuns.{AnswerTold, JobRan, RunRan, promise_of, status_by}
+use Rattle.aes3_runner.specs.declared.outcome.Remark.{Remark}
+use Rattle.aes3_runner.specs.declared.outcome.Remark.TheVariants.{Nothing, Filled, Inexact}
+use Rattle.aes3_runner.specs.Lines.{remark_line}
+use Rattle.aes3_runner.specs.Outcomes.{RemarkTold}
+use Rattle.aes3_runner.specs.JobRuns.{AnswerTold, JobRan, RunRan, end_status, promise_of, status_by, status_for}
 use Rattle.aes3_runner.specs.OctetRuns.{FirstFailed, PackedRan, RawBy, as_raw, written_by}
 use Rattle.aes3_runner.specs.StandardErrors.{ErrorsTold, remarks}
 use Rattle.aes3_runner.specs.WordRuns.{LineRan}
@@ -37,49 +41,73 @@ few (Show i d) n = omega arith
 few (ShowChanges i d) n = omega arith
 few (Scan i) n = omega arith
 few (Cut i o f c) n = omega arith
-few (Rewrite i o c) n = omega arith
+few (Rewrite i o c x) n = omega arith
 few (ToPcm i p v) n = omega arith
-few (ToFilledPcm i p fill) n = omega arith
+few (ToExactPcm i p) n = omega arith
+few (ToFilledPcm i p fill marked) n = omega arith
 few (FromPcm p e c w) n = omega arith
 few (ToBits i b c) n = omega arith
 
 -- there is no remark on a job of which none is told
 of-job-remark : (job : Job) (b : List ℕ) (n : Outcome) → (promise_of job).answer b n → IsFalse (remarks job)
     → n.remark ≡ Nothing
-of-job-remark (Encode o w) b n h s = h.1
-of-job-remark (Decode i w) b n h s = h.1
-of-job-remark (Normal i o) b n h s = h.1
-of-job-remark (Check i l) b n h s = h.1
-of-job-remark (Account i l) b n h s = h.1
-of-job-remark (Watch i l) b n h s = h.1
-of-job-remark (WatchSums i l e) b n h s = h.1
-of-job-remark (Show i d) b n h s = h.1
-of-job-remark (ShowChanges i d) b n h s = h.1
-of-job-remark (Scan i) b n h s = h.1
-of-job-remark (Cut i o f c) b n h s = h.1
-of-job-remark (Rewrite i o c) b n h s = h.1
-of-job-remark (ToPcm i p true) b n h s = h.1
-of-job-remark (ToPcm i p false) b n h s = h.1
-of-job-remark (ToFilledPcm i p fill) b n h s = absurd cc
-of-job-remark (FromPcm p e c w) b n h s = h.1
-of-job-remark (ToBits i b' c) b n h s = h.1
+of-job-remark (Encode o w) b n h s = ap (λ (o : Outcome). o.remark) h.2
+of-job-remark (Decode i w) b n h s = ap (λ (o : Outcome). o.remark) h.2
+of-job-remark (Normal i o) b n h s = ap (λ (o : Outcome). o.remark) h.2
+of-job-remark (Check i l) b n h s = ap (λ (o : Outcome). o.remark) h.2
+of-job-remark (Account i l) b n h s = ap (λ (o : Outcome). o.remark) h.2
+of-job-remark (Watch i l) b n h s = ap (λ (o : Outcome). o.remark) h.2
+of-job-remark (WatchSums i l e) b n h s = ap (λ (o : Outcome). o.remark) h.2
+of-job-remark (Show i d) b n h s = ap (λ (o : Outcome). o.remark) h.2
+of-job-remark (ShowChanges i d) b n h s = ap (λ (o : Outcome). o.remark) h.2
+of-job-remark (Scan i) b n h s = ap (λ (o : Outcome). o.remark) h.2
+of-job-remark (Cut i o f c) b n h s = ap (λ (o : Outcome). o.remark) h.2
+of-job-remark (Rewrite i o c x) b n h s = ap (λ (o : Outcome). o.remark) h.2
+of-job-remark (ToPcm i p true) b n h s = ap (λ (o : Outcome). o.remark) h.2
+of-job-remark (ToPcm i p false) b n h s = ap (λ (o : Outcome). o.remark) h.2
+of-job-remark (ToExactPcm i p) b n h s = absurd cc
+of-job-remark (ToFilledPcm i p fill marked) b n h s = absurd cc
+of-job-remark (FromPcm p e c w) b n h s = ap (λ (o : Outcome). o.remark) h.2
+of-job-remark (ToBits i b' c) b n h s = ap (λ (o : Outcome). o.remark) h.2
+
+-- of a job that read its input to the end and is not refused
+of-done : (line : CommandLine) (b : List ℕ) (n : Outcome) (errors : Movement) (status : ℕ)
+    → (promise_of line.job).answer b n → status ≡ status_by line.job n.counts → RemarkTold n.remark errors
+    → ErrorsTold (Ok line) errors status
+of-done line b n errors status a s r =
+    let small = few line.job n.counts in
+    record {
+      known = omega (arith, s, small);
+      done = λ h. record { remark = n.remark; asked = of-job-remark line.job b n a; told = r };
+      usage = λ h. absurd (omega (arith, s, small, h));
+      refusal = λ h. absurd (omega (arith, s, small, h));
+    }
 
 -- of a job's answer
 of-answer : (line : CommandLine) (ended : Bool) (source before : Movement) (answer : Result Outcome RunError)
     (failed : ℕ) (sink errors : Movement) (status : ℕ) → RunRan line.job ended source before answer
     → AnswerTold line.job answer failed sink errors status → ErrorsTold (Ok line) errors status
-of-answer line ended source before (Ok n) failed sink errors status run t =
-    let small = few line.job n.counts in
-    record {
-      known = omega (arith, t.0, small);
-      done = λ s. record {
-        remark = n.remark;
-        asked = of-job-remark line.job run.bytes n run.ran.1;
-        told = t.2;
-      };
-      usage = λ s. absurd (omega (arith, t.0, small, s));
-      refusal = λ s. absurd (omega (arith, t.0, small, s));
-    }
+of-answer line ended source before (Ok n) failed sink errors status run t = go n.remark refl t.0 t.2
+  where
+    go : (remark : Remark) → n.remark ≡ remark → status ≡ end_status line.job n → RemarkTold n.remark errors
+        → ErrorsTold (Ok line) errors status
+    go Nothing e s r =
+        of-done line run.bytes n errors status run.ran.1
+        (s ∙ ap (λ (v : Remark). status_for v (status_by line.job n.counts)) e) r
+    go (Filled frames) e s r =
+        of-done line run.bytes n errors status run.ran.1
+        (s ∙ ap (λ (v : Remark). status_for v (status_by line.job n.counts)) e) r
+    go (Inexact at) e s r =
+        let k : status ≡ 3 = s ∙ ap (λ (v : Remark). status_for v (status_by line.job n.counts)) e in
+        record {
+          known = omega (arith, k);
+          done = λ h. absurd (omega (arith, k, h));
+          usage = λ h. absurd (omega (arith, k, h));
+          refusal = λ h q. record {
+            error = refusal.Inexact at;
+            line = grew-is (ap remark_line e) (r.line q);
+          };
+        }
 of-answer line ended source before (Err error) failed sink errors status run t = record {
   known = omega (arith, t.0);
   done = λ s. absurd (omega (arith, t.0, s));

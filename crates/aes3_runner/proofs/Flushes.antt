@@ -14,36 +14,37 @@ use Rattle.aes3_settings.specs.declared.style.Style.{Style}
 use Rattle.aes3_account.specs.Sums.{begun_sums, sum_lines}
 use Rattle.aes3_account.specs.Watching.{watch_counts}
 use Rattle.aes3_input.specs.Driving.{counted_cells}
-use Rattle.aes3_runner.specs.JobRuns.{Flushed, JobRan, RunRan, most, period, status_by}
+use Rattle.aes3_runner.specs.JobRuns.{Flushed, JobRan, RunRan, end_status, most, period}
 use Rattle.aes3_runner.specs.OctetRuns.{ReadRefused}
 use Rattle.aes3_runner.specs.declared.outcome.Outcome.{Outcome}
 use Rattle.aes3_runner.specs.Lines.{refusal_line}
-use Rattle.aes3_runner.specs.Outcomes.{RemarkTold, plain, unremarked}
+use Rattle.aes3_runner.specs.Outcomes.{RemarkTold, answer_as, told_as}
 
 -- a run of a job, by what the job is
 pub run-of : {job job' : Job} {ended : Bool} {source sink : Movement} {r : Result Outcome RunError} → job ≡ job'
     → RunRan job' ended source sink r → RunRan job ended source sink r
 run-of {ended = ended} {source} {sink} {r} e run = subst (λ (j : Job). RunRan j ended source sink r) (sym e) run
 
--- a run of which nothing is told
-gives-plain : (p : Promise Counts) → Gives p (unremarked p)
-gives-plain p = record {
+-- a run as what a job answers
+gives-told : {A : Type 0} (f : A → Outcome) (p : Promise A) → Gives p (told_as f p)
+gives-told f p = record {
   input = λ b h. h;
   whole = λ b h. refl;
   begun = λ b. refl;
   cause = λ max b ended e h. h;
 }
 
-plain-of : {p : Promise Counts} {ended : Bool} {source sink : Movement} (r : Result Counts RunError)
-    → InputRun p most ended source sink r → InputRun (unremarked p) most ended source sink (plain r)
-plain-of {p = p} (Ok n) run = run-ok (gives-plain p) (λ b i h. (h, refl)) run
-plain-of {p = p} (Err e) run = run-err (gives-plain p) run
+told-of : {A : Type 0} (f : A → Outcome) {p : Promise A} {ended : Bool} {source sink : Movement}
+    (r : Result A RunError)
+    → InputRun p most ended source sink r → InputRun (told_as f p) most ended source sink (answer_as f r)
+told-of f {p} (Ok n) run = run-ok (gives-told f p) (λ b i h. (n, h, refl)) run
+told-of f {p} (Err e) run = run-err (gives-told f p) run
 
-pub plain-ran : {p : Promise Counts} {ended : Bool} {source sink : Movement} {r : Result Counts RunError}
-    {o : Result Outcome RunError} → o ≡ plain r
-    → InputRun p most ended source sink r → InputRun (unremarked p) most ended source sink o
-plain-ran {p = p} {ended} {source} {sink} {r} e run =
-    subst (λ (v : Result Outcome RunError). InputRun (unremarked p) most ended source sink v) (sym e) (plain-of r run)
+pub told-ran : {A : Type 0} (f : A → Outcome) {p : Promise A} {ended : Bool} {source sink : Movement}
+    {r : Result A RunError} {o : Result Outcome RunError} → o ≡ answer_as f r
+    → InputRun p most ended source sink r → InputRun (told_as f p) most ended source sink o
+told-ran f {p} {ended} {source} {sink} {r} e run =
+    subst (λ (v : Result Outcome RunError). InputRun (told_as f p) most ended source sink v) (sym e) (told-of f r run)
 
 -- a run that tells sums, after so many cells as the job says
 pub sums-of : (i : Form) (style : Style) (every n : ℕ) {ended : Bool} {source sink : Movement}
@@ -98,7 +99,7 @@ passed-on job {f₀ = f₀} {f₁} {f₂} {x} r f p h =
 pub done : (job : Job) {ended : Bool} {source errors : Movement} {t₀ t₁ : Option (List ℕ)} {f₀ f₁ : ℕ} {status : ℕ}
     {n : Outcome}
     → RunRan job ended source (record { old = t₀; new = t₁; failed_old = f₀; failed_new = f₁ }) (Ok n)
-    → status ≡ status_by job n.counts → RemarkTold n.remark errors
+    → status ≡ end_status job n → RemarkTold n.remark errors
     → JobRan job ended source (record { old = t₀; new = t₁; failed_old = f₀; failed_new = f₁ }) errors status
 done job {f₁ = f₁} {n = n} r s l = record { answer = Ok n; failed = f₁; run = r; told = (s, refl, l) }
 

@@ -23,7 +23,7 @@ use Rattle.aes3_hints.specs.Sentences.{is_packed, writes_packed}
 use Rattle.aes3_job.specs.declared.job.Job.{Job}
 use Rattle.aes3_job.specs.declared.job.Job.TheVariants.{Encode, Decode, Normal, Check, Account, Watch, WatchSums}
 use Rattle.aes3_job.specs.declared.job.Job.TheVariants.{Show, ShowChanges, Scan, Cut, Rewrite, ToPcm, FromPcm, ToBits}
-use Rattle.aes3_job.specs.declared.job.Job.TheVariants.{ToFilledPcm}
+use Rattle.aes3_job.specs.declared.job.Job.TheVariants.{ToExactPcm, ToFilledPcm}
 use Rattle.aes3_runner.specs.JobRuns.{promise_of}
 use Rattle.aes3_runner.specs.OctetRuns.{PackBoth}
 
@@ -60,10 +60,11 @@ can-be-turned (Scan i) h b = absurd cc
 can-be-turned (Cut i o from count) h b =
     of-blocks o (cut_blocks from count (blocks (cells_of i b))) h
     (cut-each from count (blocks (cells_of i b)) (blocks27 (cells_of i b)))
-can-be-turned (Rewrite i o change) h b =
+can-be-turned (Rewrite i o change exact) h b =
     of-blocks o (rewritten_blocks change (blocks (cells_of i b))) h
     (each-blocks change (blocks (cells_of i b)) (blocks27 (cells_of i b)))
 can-be-turned (ToPcm i format valid) h b = absurd cc
-can-be-turned (ToFilledPcm i format fill) h b = absurd cc
+can-be-turned (ToExactPcm i format) h b = absurd cc
+can-be-turned (ToFilledPcm i format fill marked) h b = absurd cc
 can-be-turned (FromPcm format exact change words) h b = absurd cc
 can-be-turned (ToBits i bits channel) h b = absurd cc

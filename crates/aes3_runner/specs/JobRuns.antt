@@ -20,7 +20,8 @@ use Rattle.aes3_runs.specs.BlockRuns.{begun_stream, written_stream, cut_blocks, 
 use Rattle.aes3_engine.specs.Rewriting.{rewritten_blocks}
 use Rattle.aes3_engine.specs.Sampling.{sampled_words}
 use Rattle.aes3_engine.specs.Carrying.{all_carried}
-use Rattle.aes3_engine.specs.Filling.{filled, placed}
+use Rattle.aes3_engine.specs.ExactSamples.{exact_cells}
+use Rattle.aes3_engine.specs.FillRuns.{filled_cells}
 use Rattle.aes3_engine.specs.ValidSamples.{valid_samples}
 use Rattle.aes3_lines.specs.MarkLines.{mark_lines}
 use Rattle.aes3_gaps.specs.Gaps.{account, begun_account}
@@ -34,10 +35,12 @@ use Rattle.aes3_account.specs.Watching.{begun_watch, watch_counts, watch_lines}
 use Rattle.aes3_job.specs.declared.job.Job.{Job}
 use Rattle.aes3_job.specs.declared.job.Job.TheVariants.{Encode, Decode, Normal, Check, Account, Watch, WatchSums}
 use Rattle.aes3_job.specs.declared.job.Job.TheVariants.{Show, ShowChanges, Scan, Cut, Rewrite, ToPcm, FromPcm, ToBits}
-use Rattle.aes3_job.specs.declared.job.Job.TheVariants.{ToFilledPcm}
+use Rattle.aes3_job.specs.declared.job.Job.TheVariants.{ToExactPcm, ToFilledPcm}
 use Rattle.aes3_runner.specs.declared.outcome.Outcome.{Outcome}
 use Rattle.aes3_runner.specs.Lines.{refusal_line}
-use Rattle.aes3_runner.specs.Outcomes.{RemarkTold, unremarked}
+use Rattle.aes3_runner.specs.declared.outcome.Remark.{Remark}
+use Rattle.aes3_runner.specs.declared.outcome.Remark.TheVariants.{Nothing, Filled, Inexact}
+use Rattle.aes3_runner.specs.Outcomes.{RemarkTold, of_counts, of_exact, of_filled, told_as}
 
 -- how many bytes an input may have
 abbrev pub most : ℕ
@@ -49,12 +52,12 @@ period every = min (max every 1) most
 
 -- what a job over cells promises on which nothing is remarked
 abbrev pub plain_cells : Form → (List Level → List ℕ) → (List Level → List ℕ) → (List ℕ → Counts) → Promise Outcome
-plain_cells form whole begun counts = unremarked (counted_cells form whole begun counts)
+plain_cells form whole begun counts = told_as of_counts (counted_cells form whole begun counts)
 
 -- what a job promises: its input, what it writes of one, what of bytes behind which more may come, what it counts, and
 -- why it is refused
 abbrev pub promise_of : Job → Promise Outcome
-promise_of (Encode o words) = unremarked (encoded_words words o)
+promise_of (Encode o words) = told_as of_counts (encoded_words words o)
 promise_of (Decode i words) =
     plain_cells i
     (λ c. words_file words (blocks c))
@@ -83,7 +86,7 @@ promise_of (Cut i o from count) =
     (λ c. written_stream o (cut_blocks from count (blocks c)))
     (λ c. begun_stream o (cut_blocks from count (decided_blocks c)))
     (counts_of i)
-promise_of (Rewrite i o change) =
+promise_of (Rewrite i o change exact) =
     plain_cells i
     (λ c. written_stream o (rewritten_blocks change (blocks c)))
     (λ c. begun_stream o (rewritten_blocks change (decided_blocks c)))
@@ -98,12 +101,9 @@ promise_of (ToPcm i format false) =
     (λ c. narrowed format (samples (blocks c)))
     (λ c. narrowed format (samples (decided_blocks c)))
     (counts_of i)
-promise_of (ToFilledPcm i format fill) =
-    plain_cells i
-    (λ c. narrowed format (filled fill (placed (reports c))))
-    (λ c. narrowed format (filled fill (placed (decided c))))
-    (counts_of i)
-promise_of (FromPcm format exact change words) = unremarked (sampled_words format exact words change)
+promise_of (ToExactPcm i format) = told_as of_exact (exact_cells i format)
+promise_of (ToFilledPcm i format fill marked) = told_as of_filled (filled_cells i format fill)
+promise_of (FromPcm format exact change words) = told_as of_counts (sampled_words format exact words change)
 promise_of (ToBits i bits channel) =
     plain_cells i
     (λ c. all_carried bits channel (blocks c))
@@ -114,7 +114,7 @@ promise_of (ToBits i bits channel) =
 abbrev pub RunRan : Job → Bool → Movement → Movement → Result Outcome RunError → Type 0
 RunRan job = InputRun (promise_of job) most
 
--- its exit status: 1 where `check` finds faults, with gaps or without, or `watch` does, else 0
+-- its exit status where it is not refused: 1 where `check` finds faults, with gaps or without, or `watch` does, else 0
 abbrev pub status_by : Job → Counts → ℕ
 status_by (Encode o words) n = 0
 status_by (Decode i words) n = 0
@@ -127,11 +127,21 @@ status_by (Show i detail) n = 0
 status_by (ShowChanges i detail) n = 0
 status_by (Scan i) n = 0
 status_by (Cut i o from count) n = 0
-status_by (Rewrite i o change) n = 0
+status_by (Rewrite i o change exact) n = 0
 status_by (ToPcm i format valid) n = 0
-status_by (ToFilledPcm i format fill) n = 0
+status_by (ToExactPcm i format) n = 0
+status_by (ToFilledPcm i format fill marked) n = 0
 status_by (FromPcm format exact change words) n = 0
 status_by (ToBits i bits channel) n = 0
+
+-- the status of a job that read its input to the end: 3 where it is refused then
+abbrev pub status_for : Remark → ℕ → ℕ
+status_for Nothing status = status
+status_for (Filled frames) status = status
+status_for (Inexact at) status = 3
+
+abbrev pub end_status : Job → Outcome → ℕ
+end_status job n = status_for n.remark (status_by job n.counts)
 
 -- a refusal behind which the sink was flushed: it stays what it was, or that failed
 abbrev pub Flushed : RunError → Movement → RunError → Type 0
@@ -147,11 +157,11 @@ before_flush sink failed = record { old = sink.old; new = sink.new; failed_old =
 abbrev pub IsTold : Movement → RunError → Type 0
 IsTold errors error = Quiet errors → Grew errors.old errors.new (refusal_line error)
 
--- what is told of a run's answer, and the exit status: of one that ended well its remark; of a refusal its line, or that
--- of `Write` where the flush behind it failed
+-- what is told of a run's answer, and the exit status: of one that read its input to the end its remark; of a refusal its
+-- line, or that of `Write` where the flush behind it failed
 abbrev pub AnswerTold : Job → Result Outcome RunError → ℕ → Movement → Movement → ℕ → Type 0
 AnswerTold job (Ok n) failed sink errors status =
-    (status ≡ status_by job n.counts) × (sink.failed_new ≡ failed) × RemarkTold n.remark errors
+    (status ≡ end_status job n) × (sink.failed_new ≡ failed) × RemarkTold n.remark errors
 AnswerTold job (Err error) failed sink errors status =
     (status ≡ 3)
     × (((sink.failed_new ≡ failed) × IsTold errors error)

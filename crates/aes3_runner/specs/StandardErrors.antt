@@ -7,7 +7,7 @@ use Rattle.aes3_arguments.specs.declared.job.LineFault.{LineFault}
 use Rattle.aes3_arguments.specs.declared.job.LineFault.TheVariants.{Usage, Help, Refused}
 use Rattle.aes3_arguments.specs.declared.line.CommandLine.{CommandLine}
 use Rattle.aes3_job.specs.declared.job.Job.{Job}
-use Rattle.aes3_job.specs.declared.job.Job.TheVariants.{ToFilledPcm}
+use Rattle.aes3_job.specs.declared.job.Job.TheVariants.{ToExactPcm, ToFilledPcm}
 use Rattle.aes3_runner.specs.declared.outcome.Remark.{Remark}
 use Rattle.aes3_runner.specs.declared.outcome.Remark.TheVariants.{Nothing}
 use Rattle.aes3_runner.specs.Lines.{refusal_line}
@@ -27,7 +27,8 @@ UsageTold (Err (Refused error)) errors = ⊥
 
 -- whether there can be anything to remark on a job: only where a command line asks for what tells it
 abbrev pub remarks : Job → Bool
-remarks (ToFilledPcm i format fill) = true
+remarks (ToExactPcm i format) = true
+remarks (ToFilledPcm i format fill marked) = true
 remarks job = false
 
 -- of a line that was run to its end a remark, and nothing else, and nothing at all of a job on which there is none

@@ -5,12 +5,12 @@ ghost use Rattle.aes3_input.specs.Running.{movement_of};
 ghost use Rattle.aes3_job.specs.declared.job.Job.TheVariants.{ToPcm};
 ghost use Rattle.aes3_runner.specs.JobRuns.{RunRan, period, status_by};
 
-use crate::outcome::{Outcome, plain};
+use crate::outcome::{Outcome, exact, filled, plain};
 use aes3_account::{account, watch, watch_sums};
 use aes3_cell::{Counts, Form, RunError, Sink, Source};
 use aes3_engine::{
-    cut, decode_words, encode_words, from_pcm_words, normalise, rewrite, to_bits, to_filled_pcm,
-    to_pcm, to_valid_pcm,
+    cut, decode_words, encode_words, from_pcm_words, normalise, rewrite, to_bits, to_exact_pcm,
+    to_filled_pcm, to_pcm, to_valid_pcm,
 };
 use aes3_job::Job;
 use aes3_pcm::SampleFormat;
@@ -115,6 +115,7 @@ pub fn run_job<S: Source, T: Sink>(
             input,
             output,
             change,
+            exact: _,
         } => plain(rewrite(source, sink, MAX_BYTES, input, output, &change)),
         Job::ToPcm {
             input,
@@ -125,7 +126,11 @@ pub fn run_job<S: Source, T: Sink>(
             input,
             format,
             fill,
-        } => plain(to_filled_pcm(source, sink, MAX_BYTES, input, format, fill)),
+            marked: _,
+        } => filled(to_filled_pcm(source, sink, MAX_BYTES, input, format, fill)),
+        Job::ToExactPcm { input, format } => {
+            exact(to_exact_pcm(source, sink, MAX_BYTES, input, format))
+        }
         Job::FromPcm {
             format,
             exact,

@@ -2,7 +2,7 @@ use Rattle.aes3_runner.proofs.Flushes.{done, passed-on, refused-flushed}
 use Rattle.aes3_runner.proofs.finish.finish_begun.Goals as goal
 
 pub returns-in-Ok-clause-ran : goal.returns-in-Ok-clause-ran
-returns-in-Ok-clause-ran g c = done c.args.job.now c.in-Ok.ensures.ran c.exit_status.ensures c.tell_remark.ensures.told
+returns-in-Ok-clause-ran g c = done c.args.job.now c.in-Ok.ensures.ran c.tell_outcome.ensures.status c.tell_outcome.ensures.told
 
 pub returns-in-Err-clause-ran : goal.returns-in-Err-clause-ran
 returns-in-Err-clause-ran g c
