@@ -3,6 +3,8 @@ pub mod SetFields
 pub mod WideFields
 pub mod SettingLemmas
 pub mod SettingsApart
+pub mod StatusKinds
+pub mod TakenKinds
 pub mod Polynomials
 pub mod Weights
 pub mod ShiftRegister

@@ -45,7 +45,7 @@ same-or-apart number place f g = eqb (number f) (number g) || apart (place f) (p
 abbrev pairs-apart : {F : Type 0} → (F → ℕ) → (F → Place) → List F → Bool
 pairs-apart number place fields = list_all (λ f. list_all (same-or-apart number place f) fields) fields
 
-passes : {F : Type 0} (p : F → Bool) (xs : List F) (i : ℕ) (d : F) → i < length xs → list_all p xs ≡ true
+pub passes : {F : Type 0} (p : F → Bool) (xs : List F) (i : ℕ) (d : F) → i < length xs → list_all p xs ≡ true
     → p (get_or xs i d) ≡ true
 passes p xs i d l h = go (p (get_or xs i d)) refl
   where

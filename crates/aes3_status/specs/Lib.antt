@@ -5,6 +5,7 @@ pub mod Statuses
 pub mod Wide
 pub mod Settings
 pub mod SettingLaws
+pub mod Taken
 pub mod Check
 pub mod Register
 pub mod Laws

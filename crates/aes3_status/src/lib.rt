@@ -24,6 +24,8 @@ mod professional;
 mod setting;
 /// Channel status for either use.
 mod status;
+/// Which settings statuses take.
+mod taken;
 /// The fields for professional use that have four bytes.
 mod wide;
 
@@ -35,4 +37,5 @@ pub use field::{ConField, Field, ProField};
 pub use professional::Pro;
 pub use setting::{SETTINGS, Setting, Settings, set_fields};
 pub use status::Status;
+pub use taken::{Kinds, TELLING_BITS, Taken};
 pub use wide::{WideField, WideSettings};

@@ -1,0 +1,120 @@
+//! Which settings statuses take.
+
+ghost use Rattle.std.specs.Prelude.{◌≡◌, ◌<◌, ◌++◌, ℕ, List, [], ◌∷◌, Bool, length};
+ghost use Rattle.std.specs.List.{All};
+ghost use Rattle.aes3_bits.specs.Bits.{number};
+ghost use Rattle.aes3_status.specs.Taken.{AreKindsOf, example_of, has_code, taken_by, telling_bits};
+
+use crate::bits::is_for_professional_use;
+use crate::setting::{SETTINGS, Setting, Settings, code_for, set_field};
+
+/// How many bits of a status tell which settings it takes.
+pub const TELLING_BITS: usize = 6;
+
+/// How many kinds of status there are.
+const KINDS: usize = 64;
+
+/// Which settings were taken by a status: those that had a code for it where it was their turn.
+#[derive(Clone, Copy, PartialEq, Eq)]
+pub struct Taken {
+    /// Of each of the codes, whether it was written.
+    pub codes: [bool; SETTINGS],
+    /// Whether the fields of four bytes were set: behind the codes, a status was professional.
+    pub wide: bool,
+}
+
+impl Taken {
+    /// What no status takes.
+    pub const NOTHING: Taken = Taken {
+        codes: [false; SETTINGS],
+        wide: false,
+    };
+
+    /// What one more status takes.
+    pub fn add(&mut self, status: &[u8; 24], settings: &Settings)
+        ensures { (statuses : List (List ℕ)) → self.old ≡ taken_by settings.now statuses
+            → self.new ≡ taken_by settings.now (statuses ++ status.now ∷ []) }
+    {
+        let mut left = *status;
+        for i in 0..SETTINGS {
+            self.codes[i] |= has_code(&left, &settings.codes[i]);
+            set_field(&mut left, &settings.codes[i]);
+        }
+        self.wide |= is_for_professional_use(&left);
+    }
+}
+
+/// Whether a setting has a code for a status.
+fn has_code(bytes: &[u8; 24], setting: &Setting) -> bool
+    ensures { result ≡ has_code setting.now bytes.now }
+{
+    code_for(bytes, setting).is_some()
+}
+
+/// The number of bits that tell, the first of weight 1.
+fn number_of(bits: [bool; TELLING_BITS]) -> usize
+    ensures value { result ≡ number bits }
+    ensures few { result < 64 }
+{
+    usize::from(bits[0])
+        + 2 * usize::from(bits[1])
+        + 4 * usize::from(bits[2])
+        + 8 * usize::from(bits[3])
+        + 16 * usize::from(bits[4])
+        + 32 * usize::from(bits[5])
+}
+
+/// A status of a kind.
+fn example(kind: usize) -> [u8; 24]
+    requires { kind < 64 }
+    ensures { result ≡ example_of kind }
+{
+    let mut status = [0; 24];
+    status[0] = (kind % 4) as u8;
+    status[2] = (kind / 4 % 8) as u8;
+    status[4] = (kind / 32) as u8;
+    status
+}
+
+/// Which kinds of status were met. Those of a kind take the same settings, whatever these are: the
+/// bits that tell it are the use of the status, what its sample words carry, and what tells the
+/// meaning of its sample word length, the use of the auxiliary bits or the greatest length (AES3-2,
+/// IEC 60958-3).
+#[derive(Clone, Copy, PartialEq, Eq)]
+pub struct Kinds {
+    met: [bool; KINDS],
+}
+
+impl Kinds {
+    /// Those of no status.
+    pub fn new() -> Self
+        ensures { AreKindsOf result [] }
+    {
+        Kinds {
+            met: [false; KINDS],
+        }
+    }
+
+    /// Takes note of one more status, of which these bits are known: 0 and 1 of byte 0, 0 to 2 of
+    /// byte 2, and 0 of byte 4.
+    pub fn add(&mut self, bits: [bool; TELLING_BITS])
+        ensures { (statuses : List (List ℕ)) (status : List ℕ) → telling_bits status ≡ bits
+            → AreKindsOf self.old statuses → AreKindsOf self.new (statuses ++ status ∷ []) }
+    {
+        self.met[number_of(bits)] = true;
+    }
+
+    /// What the statuses that were met take of settings.
+    pub fn taken_by(&self, settings: &Settings) -> Taken
+        ensures { (statuses : List (List ℕ)) → All (λ status. length status ≡ 24) statuses
+            → AreKindsOf self.now statuses → result ≡ taken_by settings.now statuses }
+    {
+        let mut taken = Taken::NOTHING;
+        for kind in 0..KINDS {
+            if self.met[kind] {
+                taken.add(&example(kind), settings);
+            }
+        }
+        taken
+    }
+}
