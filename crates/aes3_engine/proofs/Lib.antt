@@ -4,6 +4,8 @@ pub mod WordReads
 pub mod WordRuns
 pub mod WordsBack
 pub mod RewrittenBlocks
+pub mod StatusTells
+pub mod RewritingRuns
 pub mod WaveHeaders
 pub mod PcmWords
 pub mod SampleReads

@@ -1,6 +1,7 @@
 pub mod Encoding
 pub mod Words
 pub mod Rewriting
+pub mod RewritingRuns
 pub mod Sampling
 pub mod SampleLaws
 pub mod Carrying

@@ -13,8 +13,10 @@ mod filling;
 pub mod laws;
 /// From cells to cells and block files: `normalise`, `decode` and `cut`.
 mod reading;
-/// From cells to cells with other channel status, validity bits and user bits.
+/// Blocks with other channel status, validity bits and user bits.
 mod rewriting;
+/// From cells to cells of such blocks.
+mod rewriting_runs;
 /// From cells to samples.
 mod samples;
 /// From samples to a block file.
@@ -31,13 +33,13 @@ pub use aes3_runs::{
     BlockWriter, Input, Locked, ReportWriter, Reporter, Taker, Tally, cell, convert, drive,
     run_blocks, run_reports, word,
 };
-pub use aes3_status::{CarriedBits, Change};
+pub use aes3_status::{CarriedBits, Change, Taken};
 pub use carrying::to_bits;
 pub use encoding::encode;
 pub use exact_samples::{Exact, to_exact_pcm};
 pub use filling::{Filled, to_filled_pcm};
 pub use reading::{cut, decode, decode_words, normalise};
-pub use rewriting::rewrite;
+pub use rewriting_runs::{Rewritten, rewrite};
 pub use samples::to_pcm;
 pub use sampling::{from_pcm, from_pcm_words};
 pub use valid_samples::to_valid_pcm;

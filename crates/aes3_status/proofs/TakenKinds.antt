@@ -21,7 +21,7 @@ use Rattle.aes3_status.specs.declared.setting.Settings.{Settings}
 use Rattle.aes3_status.specs.declared.taken.Taken.{Taken}
 use Rattle.aes3_status.specs.Bits.{byte_bits}
 use Rattle.aes3_status.specs.Settings.{code_for, set_by, set_in_turn}
-use Rattle.aes3_status.specs.Taken.{example_of, has_code, kind_of, taken_by, takes, takes_wide, telling_bits}
+use Rattle.aes3_status.specs.Taken.{example_of, has_code, kind_of, nothing_taken, taken_by, takes, takes_wide, telling_bits}
 use Rattle.aes3_status.proofs.StatusKinds.{takes-same, wide-same}
 use Rattle.aes3_status.proofs.SettingsApart.{passes}
 
@@ -81,9 +81,9 @@ taken-more settings statuses status old new l h w e =
     (w ∙ ap (λ b. b || takes_wide settings status) (ap (λ (t : Taken). t.wide) e)))
 
 pub nothing-taken : (settings : Settings)
-    → ◌≡◌ {A = Taken} (record { codes = replicate 64 false; wide = false }) (taken_by settings [])
+    → nothing_taken ≡ taken_by settings []
 nothing-taken settings =
-    taken-of settings [] (record { codes = replicate 64 false; wide = false }) refl
+    taken-of settings [] nothing_taken refl
     (λ k l. get_or-replicate 64 k false false l) refl
 
 -- ---- what was met
@@ -282,7 +282,7 @@ any-met p met statuses same long h =
 
 -- what is taken by the examples
 pub none-taken : (settings : Settings) (met : List Bool)
-    → ◌≡◌ {A = Taken} (record { codes = replicate 64 false; wide = false }) (taken_by settings (examples met 0))
+    → nothing_taken ≡ taken_by settings (examples met 0)
 unfolding examples
 none-taken settings met = nothing-taken settings
 
@@ -295,6 +295,13 @@ wide-of : (settings : Settings) (statuses : List (List ℕ))
     → (taken_by settings statuses).wide ≡ list_any (takes_wide settings) statuses
 unfolding taken_by
 wide-of settings statuses = refl
+
+pub same-taken : (settings : Settings) (xs ys : List (List ℕ))
+    → ((p : List ℕ → Bool) → list_any p xs ≡ list_any p ys) → taken_by settings xs ≡ taken_by settings ys
+same-taken settings xs ys h =
+    taken-of settings ys (taken_by settings xs) (length-taken settings xs)
+    (λ k l. codes-of settings xs (taken_by settings xs) k l refl ∙ h (λ bytes. takes settings.codes bytes k))
+    (wide-of settings xs ∙ h (takes_wide settings))
 
 pub kinds-taken : (settings : Settings) (met : List Bool) (statuses : List (List ℕ))
     → All (λ status. length status ≡ 24) statuses

@@ -25,7 +25,10 @@ takes settings bytes i =
 abbrev pub takes_wide : Settings → List ℕ → Bool
 takes_wide settings bytes = is_professional (set_in_turn settings.codes bytes)
 
--- which settings some of these statuses takes
+-- what no status takes, and which settings some of these statuses takes
+abbrev pub nothing_taken : Taken
+nothing_taken = record { codes = replicate 64 false; wide = false }
+
 unfoldable pub taken_by : Settings → List (List ℕ) → Taken
 taken_by settings statuses = record {
   codes = map (λ i. list_any (λ bytes. takes settings.codes bytes i) statuses) (range_with_len 0 64);

@@ -1,0 +1,149 @@
+-- The run that writes changed blocks, and what it tells of their settings.
+use Rattle.std.proofs.Common.{◌≡◌, ℕ, ◌<◌, List, [], ◌∷◌, ◌++◌, Bool, true, false, Ok, Err, Some}
+use Rattle.std.proofs.Common.{◌||◌, append-nil, length, refl, ap, ap₂, ◌∙◌, sym, subst, arith, map}
+use Rattle.std.specs.List.{All, list_any}
+use Rattle.std.proofs.lemmas.List.{get_or-map, length-map}
+use Rattle.aes3_level.specs.declared.level.Level.{Level}
+use Rattle.aes3_cell.specs.declared.form.Form.{Form}
+use Rattle.aes3_cell.specs.declared.refusal.RunError.{RunError}
+use Rattle.aes3_cell.specs.declared.counts.Counts.{Counts}
+use Rattle.aes3_cell.specs.Written.{ending}
+use Rattle.aes3_frame.specs.declared.status.Channel.{Channel}
+use Rattle.aes3_frame.specs.declared.status.Channel.TheVariants.{First, Second}
+use Rattle.aes3_frame.specs.Statuses.{status_of}
+use Rattle.aes3_frame.proofs.StatusBits.{status_len_24}
+use Rattle.aes3_block.proofs.StatusLaws.{length-status_of}
+use Rattle.aes3_lock.specs.declared.report.Report.{Report}
+use Rattle.aes3_lock.specs.declared.report.Report.TheVariants.{Whole, Marked, Fault, Unfinished}
+use Rattle.aes3_lock.specs.Reports.{blocks, reports, decided, wholes}
+use Rattle.aes3_lock.proofs.AllStanding.{wholes-append}
+use Rattle.aes3_status.specs.declared.change.Change.{Change}
+use Rattle.aes3_status.specs.declared.setting.Settings.{Settings}
+use Rattle.aes3_status.specs.declared.taken.Taken.{Taken}
+use Rattle.aes3_status.specs.Taken.{nothing_taken, taken_by}
+use Rattle.aes3_status.proofs.TakenKinds.{nothing-taken, same-taken}
+use Rattle.aes3_input.specs.Running.{Movement, InputRun}
+use Rattle.aes3_input.specs.Taking.{Writing}
+use Rattle.aes3_input.specs.Inputs.{cells_of}
+use Rattle.aes3_input.specs.Driving.{Drive, driven}
+use Rattle.aes3_input.proofs.InputRuns.{Gives, run-ok, run-err}
+use Rattle.aes3_runs.specs.Reporting.{reporting}
+use Rattle.aes3_runs.specs.ReportRuns.{counts_of, report_writing}
+use Rattle.aes3_runs.specs.BlockRuns.{report_bytes}
+use Rattle.aes3_runs.proofs.Reports.{before-reports, with-reports}
+use Rattle.aes3_runs.proofs.ReportLemmas.{before-output, with-output}
+use Rattle.aes3_engine.specs.declared.rewriting_runs.MetKinds.{MetKinds}
+use Rattle.aes3_engine.specs.declared.rewriting_runs.Rewritten.{Rewritten}
+use Rattle.aes3_engine.specs.Rewriting.{rewritten_block}
+use Rattle.aes3_engine.specs.RewritingRuns.{AreMet, met_statuses, rewritten_answer, rewritten_cells, statuses_of}
+use Rattle.aes3_engine.specs.RewritingRuns.{taken_of}
+use Rattle.aes3_engine.proofs.RewrittenBlocks.{rewritten-whole, rewritten-begun}
+
+-- ---- the statuses that were met, with one more report
+pub met-whole : (met : MetKinds) (r : List Report) (x : Report) {at : ℕ} {s : Level} {b : List (List Bool)}
+    → x ≡ Whole at s b → AreMet met (wholes r ++ b ∷ []) → AreMet met (wholes (r ++ x ∷ []))
+met-whole met r x e h =
+    subst (AreMet met) (sym (wholes-append r (x ∷ []) ∙ ap (λ (v : Report). wholes r ++ wholes (v ∷ [])) e)) h
+
+pub met-other : (met : MetKinds) (r : List Report) (x : Report) → wholes (x ∷ []) ≡ [] → AreMet met (wholes r)
+    → AreMet met (wholes (r ++ x ∷ []))
+met-other met r x e h =
+    subst (AreMet met) (sym (wholes-append r (x ∷ []) ∙ ap (λ v. wholes r ++ v) e ∙ append-nil (wholes r))) h
+
+-- a block's bytes are the same whatever its number
+pub same-bytes : (form : Form) (change : Change) (n : ℕ) (x : Report)
+    → report_bytes (rewritten_block form change) 0 x ≡ report_bytes (rewritten_block form change) n x
+same-bytes form change n (Whole at s b) = refl
+same-bytes form change n (Marked at s wrong) = refl
+same-bytes form change n (Fault at cell why) = refl
+same-bytes form change n (Unfinished at cells) = refl
+
+-- ---- what is taken
+pub statuses-long : (channel : Channel) (bs : List (List (List Bool)))
+    → All (λ status. length status ≡ 24) (statuses_of channel bs)
+statuses-long channel bs = λ k d l.
+    ap length (get_or-map (λ b. status_of b channel) bs k [] d (omega (arith, length-map bs (λ b. status_of b channel))))
+    ∙ length-status_of _ channel ∙ status_len_24
+
+any-again : {X : Type 0} (p : List ℕ → Bool) (status : List ℕ) (bs : List X)
+    → (p status || list_any p (map (λ b. status) bs)) ≡ (p status || false)
+any-again p status [] = refl
+any-again p status (b ∷ bs) = again (p status) (list_any p (map (λ b. status) bs)) ∙ any-again p status bs
+  where
+    again : (a c : Bool) → (a || (a || c)) ≡ (a || c)
+    again true c = refl
+    again false c = refl
+
+pub one-stands : (settings : Settings) (status : List ℕ) (channel : Channel) (bs : List (List (List Bool)))
+    → 0 < length bs → taken_by settings (status ∷ []) ≡ taken_by settings (met_statuses (Some status) channel bs)
+one-stands settings status channel [] h = absurd (omega arith)
+one-stands settings status channel (b ∷ bs) h =
+    same-taken settings (status ∷ []) (met_statuses (Some status) channel (b ∷ bs)) (λ p. sym (any-again p status bs))
+
+pub none-stands : (settings : Settings) (status : List ℕ) (channel : Channel) (bs : List (List (List Bool)))
+    → length bs ≡ 0 → nothing_taken ≡ taken_by settings (met_statuses (Some status) channel bs)
+none-stands settings status channel [] h = nothing-taken settings
+none-stands settings status channel (b ∷ bs) h = absurd (omega arith)
+
+-- ---- the run
+abbrev pub writes : Form → Change → Writing Report
+writes output change = report_writing (report_bytes (rewritten_block output change)) (ending output)
+
+gives : (input output : Form) (change : Change) (z : List Level → Type 0)
+    → Gives (driven input (reporting (writes output change)) z) (rewritten_cells input output change)
+gives input output change z =
+    let f = report_bytes (rewritten_block output change) in
+    record {
+      input = λ b i. i;
+      whole = λ b i. with-reports (writes output change) (cells_of input b)
+          ∙ with-output f (ending output) (reports (cells_of input b))
+          ∙ rewritten-whole output change (cells_of input b);
+      begun = λ b. before-reports (writes output change) _ ∙ before-output f (ending output) (decided _)
+          ∙ rewritten-begun output change _;
+      cause = λ max b ended e c. c;
+    }
+
+pub rewrite-ok : {max : ℕ} {input : Form} {o output : Form} {h change : Change} {g z : List Level → Type 0}
+    {ended : Bool} {source sink : Movement} {bytes cells : ℕ} {n : Rewritten} → o ≡ output → h ≡ change
+    → ((b : List ℕ) → z (cells_of input b) → bytes ≡ length b → cells ≡ length (cells_of input b)
+    → n ≡ rewritten_answer input change b)
+    → Drive max input (reporting (writes o h)) g z ended source sink (Ok (bytes, cells))
+    → InputRun (rewritten_cells input output change) max ended source sink (Ok n)
+rewrite-ok {max} {input} {o} {output} {h} {change} {g} {z} {ended} {source} {sink} {bytes} {cells} {n} p q k r =
+    let s = subst (λ (v : Form). Drive max input (reporting (writes v h)) g z ended source sink (Ok (bytes, cells))) p r
+    in
+    let t = subst (λ (v : Change). Drive max input (reporting (writes output v)) g z ended source sink
+    (Ok (bytes, cells))) q s in
+    run-ok (gives input output change z) (λ b i d. k b d.0 d.1 d.2) t.run
+
+pub rewrite-err : {max : ℕ} {input : Form} {o output : Form} {h change : Change} {g z : List Level → Type 0}
+    {ended : Bool} {source sink : Movement} {x : RunError} → o ≡ output → h ≡ change
+    → Drive max input (reporting (writes o h)) g z ended source sink (Err x)
+    → InputRun (rewritten_cells input output change) max ended source sink (Err x)
+rewrite-err {max} {input} {o} {output} {h} {change} {g} {z} {ended} {source} {sink} {x} p q r =
+    let s = subst (λ (v : Form). Drive max input (reporting (writes v h)) g z ended source sink (Err x)) p r in
+    let t = subst (λ (v : Change). Drive max input (reporting (writes output v)) g z ended source sink (Err x)) q s in
+    run-err (gives input output change z) t.run
+
+-- a reporter of no report
+pub none-met : {met old : MetKinds} → met ≡ old → AreMet old [] → AreMet met (wholes (decided []))
+unfolding decided
+none-met e h = subst (λ (v : MetKinds). AreMet v []) (sym e) h
+
+-- ---- the answer
+pub met-blocks : {met : MetKinds} (c : List Level) → AreMet met (wholes (reports c)) → AreMet met (blocks c)
+unfolding blocks
+met-blocks c h = h
+
+pub blocks-count : {n : ℕ} (c : List Level) → n ≡ length (wholes (reports c)) → n ≡ length (blocks c)
+unfolding blocks
+blocks-count c e = e
+
+pub answer-is : (form : Form) (change : Change) (b : List ℕ) {counts : Counts} {first second : Taken}
+    → counts ≡ counts_of form b
+    → first ≡ taken_of change.settings1 (met_statuses change.status1 First (blocks (cells_of form b)))
+    → second ≡ taken_of change.settings2 (met_statuses change.status2 Second (blocks (cells_of form b)))
+    → ◌≡◌ {A = Rewritten} (record { counts = counts; first = first; second = second }) (rewritten_answer form change b)
+answer-is form change b {counts} {first} {second} p q r =
+    ap (λ (v : Counts). record { counts = v; first = first; second = second }) p
+    ∙ ap₂ (λ (v w : Taken). record { counts = counts_of form b; first = v; second = w }) q r

@@ -1,0 +1,14 @@
+use Rattle.aes3_frame.specs.declared.status.Channel.TheVariants.{First, Second}
+use Rattle.aes3_lock.specs.Reports.{blocks}
+use Rattle.aes3_input.specs.Inputs.{cells_of}
+use Rattle.aes3_runs.proofs.ReportRuns.{counted}
+use Rattle.aes3_engine.proofs.RewritingRuns.{answer-is, blocks-count, met-blocks}
+use Rattle.aes3_engine.proofs.rewriting_runs.answer.Goals as goal
+
+pub returns : goal.returns
+returns c = λ form b n m t h.
+    let count = blocks-count (cells_of form b) t.blocks_is in
+    let met = met-blocks (cells_of form b) h in
+    answer-is form c.args.change.now b (counted form b _ _ _ _ _ n m t)
+    (c.taken_in.ensures First (blocks (cells_of form b)) count met.first)
+    (c.taken_in-2.ensures Second (blocks (cells_of form b)) count met.second)

@@ -1,0 +1,300 @@
+//! Cells to the normal stream of their blocks, with other channel status, V and U bits.
+
+ghost use Rattle.std.specs.Prelude.{◌≡◌, ℕ, ◌+◌, ◌<◌, ◌≤◌, ◌^◌, ◌++◌, List, [], ◌∷◌, Bool, false};
+ghost use Rattle.std.specs.Prelude.{IfOk, get_or, length};
+ghost use Rattle.aes3_cell.specs.Ends.{Grew, Told};
+ghost use Rattle.aes3_cell.specs.Writes.{Wrote};
+ghost use Rattle.aes3_cell.specs.Written.{ending};
+ghost use Rattle.aes3_frame.specs.Statuses.{status_bits, status_of};
+ghost use Rattle.aes3_status.specs.Taken.{AreKindsOf, telling_bits};
+ghost use Rattle.aes3_lock.specs.declared.report.Report.{Report};
+ghost use Rattle.aes3_lock.specs.Following.{report_in};
+ghost use Rattle.aes3_lock.specs.Reports.{blocks, reports, wholes};
+ghost use Rattle.aes3_lock.specs.Tallies.{IsTallyOf};
+ghost use Rattle.aes3_input.specs.Inputs.{cells_of};
+ghost use Rattle.aes3_input.specs.Running.{InputRun, movement_of};
+ghost use Rattle.aes3_runs.specs.BlockRuns.{normal_block, report_bytes, written_stream};
+ghost use Rattle.aes3_runs.specs.ReportRuns.{report_writing};
+ghost use Rattle.aes3_engine.specs.Rewriting.{rewritten, rewritten_block, rewritten_blocks};
+ghost use Rattle.aes3_engine.specs.RewritingRuns.{AreMet, met_statuses, rewritten_answer};
+ghost use Rattle.aes3_engine.specs.RewritingRuns.{rewritten_cells, statuses_of, taken_of};
+
+use crate::rewriting::rewrite_block;
+use aes3_block::{Block, Channel, put_block};
+use aes3_cell::{Counts, Fault, Form, Level, RunError, Sink, Source, put_ending};
+use aes3_lock::{Ending, Lock, Tally};
+use aes3_runs::{Locked, Reporter, drive};
+use aes3_status::{Change, Kinds, Settings, TELLING_BITS, Taken};
+
+/// Writes a block with a change as cells in the normal polarity.
+///
+/// # Errors
+/// The sink's fault; then it has taken a front of the cells.
+fn put_rewritten<T: Sink>(
+    sink: &mut T,
+    output: Form,
+    change: &Change,
+    block: Block,
+) -> Result<(), Fault>
+    requires room { T.failed sink.old + 1 < 2 ^ 64 }
+    ensures { Wrote T.taken T.failed sink.old sink.new
+        (normal_block output 0 (rewritten change.now block)) result }
+{
+    let mut block = block;
+    rewrite_block(&mut block, change);
+    put_block(output, Level::Low, &block, sink)
+}
+
+/// The bit of a channel's status in a frame.
+#[inline(always)]
+fn status_bit(block: &Block, channel: Channel, frame: usize) -> bool
+    requires { frame < 192 }
+    ensures { result ≡ get_or (status_bits block.now channel) frame false }
+{
+    let frame = block.frame(frame);
+    match channel {
+        Channel::First => frame.first.c,
+        Channel::Second => frame.second.c,
+    }
+}
+
+/// The bits of a channel's status that tell which settings it takes.
+#[inline(always)]
+fn bits_that_tell(block: &Block, channel: Channel) -> [bool; TELLING_BITS]
+    ensures { result ≡ telling_bits (status_of block.now channel) }
+{
+    [
+        status_bit(block, channel, 0),
+        status_bit(block, channel, 1),
+        status_bit(block, channel, 16),
+        status_bit(block, channel, 17),
+        status_bit(block, channel, 18),
+        status_bit(block, channel, 32),
+    ]
+}
+
+/// Which kinds of status the blocks of a run have.
+#[derive(Clone, Copy)]
+struct MetKinds {
+    first: Kinds,
+    second: Kinds,
+}
+
+impl MetKinds {
+    /// Those of no block.
+    fn new() -> Self
+        ensures { AreMet result [] }
+    {
+        MetKinds {
+            first: Kinds::new(),
+            second: Kinds::new(),
+        }
+    }
+
+    /// Takes note of one more block.
+    fn add(&mut self, block: &Block)
+        ensures { (bs : List (List (List Bool))) → AreMet self.old bs
+            → AreMet self.new (bs ++ block.now ∷ []) }
+    {
+        self.first.add(bits_that_tell(block, Channel::First));
+        self.second.add(bits_that_tell(block, Channel::Second));
+    }
+}
+
+/// Writes changed blocks as cells in the normal polarity, and takes note of the statuses that they
+/// have before. What a run takes of its settings is told from these behind it.
+#[derive(Drop)]
+struct RewrittenBlocks {
+    output: Form,
+    change: Change,
+    tally: Tally,
+    met: MetKinds,
+}
+
+impl RewrittenBlocks {
+    /// A reporter that has taken no report.
+    fn new(output: Form, change: &Change) -> Self
+        ensures output { result.output ≡ output }
+        ensures change { result.change ≡ change.now }
+        ensures tally { IsTallyOf result.tally [] }
+        ensures met { AreMet result.met [] }
+    {
+        RewrittenBlocks {
+            output,
+            change: *change,
+            tally: Tally::new(),
+            met: MetKinds::new(),
+        }
+    }
+
+    /// Writes a block, and takes note of its statuses.
+    ///
+    /// # Errors
+    /// The sink's fault; then it has taken a front of the cells.
+    #[inline(always)]
+    fn put_block<T: Sink>(&mut self, sink: &mut T, block: Block) -> Result<(), Fault>
+        requires room { T.failed sink.old + 1 < 2 ^ 64 }
+        ensures output { self.new.output ≡ self.old.output }
+        ensures change { self.new.change ≡ self.old.change }
+        ensures tally { self.new.tally ≡ self.old.tally }
+        ensures met { (bs : List (List (List Bool))) → AreMet self.old.met bs
+            → AreMet self.new.met (bs ++ block ∷ []) }
+        ensures wrote { Wrote T.taken T.failed sink.old sink.new
+            (normal_block self.old.output 0 (rewritten self.old.change block)) result }
+    {
+        self.met.add(&block);
+        put_rewritten(sink, self.output, &self.change, block)
+    }
+
+    /// Writes what a report gives.
+    ///
+    /// # Errors
+    /// The sink's fault; then it has taken a front of the cells.
+    #[inline(always)]
+    fn put<T: Sink>(&mut self, sink: &mut T, lock: &Lock, ending: Ending) -> Result<(), Fault>
+        requires room { T.failed sink.old + 1 < 2 ^ 64 }
+        ensures output { self.new.output ≡ self.old.output }
+        ensures change { self.new.change ≡ self.old.change }
+        ensures tally { self.new.tally ≡ self.old.tally }
+        ensures met { (r : List Report) → AreMet self.old.met (wholes r)
+            → AreMet self.new.met (wholes (r ++ report_in lock.now ending ∷ [])) }
+        ensures wrote { Wrote T.taken T.failed sink.old sink.new
+            (report_bytes (rewritten_block self.old.output self.old.change) 0
+            (report_in lock.now ending)) result }
+    {
+        match ending {
+            Ending::Whole { .. } => self.put_block(sink, lock.gathered().block()),
+            Ending::Marked { .. } => Ok(()),
+            Ending::Fault { .. } => Ok(()),
+            Ending::Unfinished { .. } => Ok(()),
+        }
+    }
+}
+
+impl Reporter for RewrittenBlocks {
+    ghost follows = { λ k r. IsTallyOf k.tally r × AreMet k.met (wholes r) };
+
+    ghost writes = { λ k. report_writing (report_bytes (rewritten_block k.output k.change))
+        (ending k.output) };
+
+    ghost finished = { λ k r. IsTallyOf k.tally r × AreMet k.met (wholes r) };
+
+    #[inline(always)]
+    fn tell<T: Sink>(&mut self, sink: &mut T, lock: &Lock, ending: Ending) -> Result<(), Fault> {
+        match self.put(sink, lock, ending) {
+            Ok(()) => {
+                self.tally.count(lock, ending);
+                Ok(())
+            }
+            Err(fault) => Err(fault),
+        }
+    }
+
+    fn finish<T: Sink>(&mut self, sink: &mut T) -> Result<(), Fault> {
+        put_ending(self.output, sink)
+    }
+}
+
+/// What a run with a change answers.
+#[derive(Clone, Copy, PartialEq, Eq)]
+pub struct Rewritten {
+    /// What it counts.
+    pub counts: Counts,
+    /// Which settings of channel 1 some block took.
+    pub first: Taken,
+    /// Which settings of channel 2 some block took.
+    pub second: Taken,
+}
+
+/// What blocks take of the settings of a channel, where some are given: of so many blocks with
+/// these kinds of status, which another may stand in for.
+fn taken_in(
+    kinds: &Kinds,
+    blocks: u64,
+    status: &Option<[u8; 24]>,
+    settings: &Option<Settings>,
+) -> Taken
+    ensures { (channel : Channel) (bs : List (List (List Bool))) → blocks ≡ length bs
+        → AreKindsOf kinds.now (statuses_of channel bs)
+        → result ≡ taken_of settings.now (met_statuses status.now channel bs) }
+{
+    match (settings, status) {
+        (None, _) => Taken::NOTHING,
+        (Some(settings), None) => kinds.taken_by(settings),
+        (Some(settings), Some(status)) => {
+            let mut taken = Taken::NOTHING;
+            if blocks > 0 {
+                taken.add(status, settings);
+            }
+            taken
+        }
+    }
+}
+
+/// What a run answers that has read so many bytes and cells.
+fn answer(reporter: &RewrittenBlocks, change: &Change, bytes: u64, cells: u64) -> Rewritten
+    ensures { (form : Form) (b : List ℕ) → bytes ≡ length b → cells ≡ length (cells_of form b)
+        → IsTallyOf reporter.now.tally (reports (cells_of form b))
+        → AreMet reporter.now.met (wholes (reports (cells_of form b)))
+        → result ≡ rewritten_answer form change.now b }
+{
+    let tally = &reporter.tally;
+    let met = &reporter.met;
+    Rewritten {
+        counts: Counts {
+            bytes,
+            cells,
+            blocks: tally.blocks,
+            faults: tally.faults,
+            unfinished: tally.unfinished,
+            marks: 0,
+        },
+        first: taken_in(&met.first, tally.blocks, &change.status1, &change.settings1),
+        second: taken_in(
+            &met.second,
+            tally.blocks,
+            &change.status2,
+            &change.settings2,
+        ),
+    }
+}
+
+/// Reads cells from any cell on, and writes the blocks that stand whole and closed in them as
+/// `normalise` does, each with the change: its validity bits and user bits are set (AES3-1, IEC
+/// 60958-1), then its statuses, then its fields, then, where it asks for that, professional status
+/// gets its check byte (AES3-2). Consumer status is never mended, and nothing else of a block
+/// changes. It answers which of the fields' settings some block took: those that no block took had
+/// no code for any status that met them, as fields for the other use have none.
+///
+/// # Errors
+/// Those of `normalise`.
+pub fn rewrite<S: Source, T: Sink>(
+    source: &mut S,
+    sink: &mut T,
+    max_bytes: u64,
+    input: Form,
+    output: Form,
+    change: &Change,
+) -> Result<Rewritten, RunError>
+    requires source_room { S.failed source.old + 1 < 2 ^ 64 }
+    requires sink_room { T.failed sink.old + 1 < 2 ^ 64 }
+    requires limit { max_bytes ≤ 2 ^ 40 }
+
+    // Where it answers Ok, exactly the changed blocks are written, as their normal stream.
+    ensures rewritten { IfOk result (λ _. (b : List ℕ)
+        → Told (S.given source.old) (S.given source.new) b
+        → Grew (T.taken sink.old) (T.taken sink.new)
+        (written_stream output (rewritten_blocks change.now (blocks (cells_of input b))))) }
+    // It is a run over cells: Ok is owed and tells what the blocks take of the settings, a refusal
+    // has its cause, and what was decided before it is written.
+    ensures run { InputRun (rewritten_cells input output change.now) max_bytes
+        (S.has_ended source.new) (movement_of S.given S.failed source.old source.new)
+        (movement_of T.taken T.failed sink.old sink.new) result }
+    ensures passed_on { IfOk result (λ _. T.passed sink.new ≡ T.taken sink.new) }
+{
+    let mut taker = Locked::new(RewrittenBlocks::new(output, change));
+    match drive(source, sink, max_bytes, input, &mut taker) {
+        Ok((bytes, cells)) => Ok(answer(&taker.reporter, change, bytes, cells)),
+        Err(error) => Err(error),
+    }
+}
