@@ -8,3 +8,4 @@ pub mod Settings
 pub mod StatusTexts
 pub mod Choices
 pub mod WideShown
+pub mod Untaken

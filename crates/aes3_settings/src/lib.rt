@@ -29,6 +29,8 @@ mod settings;
 mod status;
 /// How the lines of events are written.
 mod style;
+/// Settings that no block took, as lines.
+mod untaken;
 /// The fields that have four whole bytes, by their names.
 mod wide;
 /// The words that the codes of a field are printed as.
@@ -44,4 +46,5 @@ pub use names::{name_of, name_of_code};
 pub use settings::{consumer_setting, professional_setting};
 pub use status::{STATUS_LEN, put_status};
 pub use style::{Notation, Style};
+pub use untaken::{UNTAKEN_LINES, untaken_line};
 pub use words::{WORD_LEN, word_of};

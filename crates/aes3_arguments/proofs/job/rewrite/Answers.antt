@@ -1,12 +1,12 @@
 use Rattle.std.proofs.Common.{inl, refl}
 use Rattle.aes3_arguments.proofs.job.rewrite.Goals as goal
 
-pub flag-requires : goal.flag-requires
-flag-requires c = c.requires.taken.exact
+pub flag-exact-requires : goal.flag-exact-requires
+flag-exact-requires c = c.requires.taken.exact
 
 pub returns-in-Ok-clause-job : goal.returns-in-Ok-clause-job
 returns-in-Ok-clause-job c =
-    (refl, c.requires.input, c.requires.output, c.in-Ok.ensures.change, c.flag.ensures)
+    (refl, c.requires.input, c.requires.output, c.in-Ok.ensures.change, c.flag-exact.ensures)
 
 pub returns-in-Err-clause-fault : goal.returns-in-Err-clause-fault
 returns-in-Err-clause-fault c = inl (refl, c.in-Err.ensures.fault)
