@@ -2,7 +2,7 @@
 use Rattle.std.proofs.Common.{◌≡◌, ℕ, ◌+◌, ◌*◌, ◌/◌, ◌%◌, ◌<◌, ◌≤◌, inl, inr, List, [], ◌∷◌, ◌++◌, Bool}
 use Rattle.std.proofs.Common.{Some}
 use Rattle.std.proofs.Common.{None, length, take, drop, get_or, refl, sym, ap, ◌∙◌, subst, arith, append-nil}
-use Rattle.std.proofs.Common.{take-append-drop, length-append, false}
+use Rattle.std.proofs.Common.{take-append-drop, length-append, true, false, suc, zero, if◌then◌else◌}
 use Rattle.std.proofs.lemmas.List.{length-drop}
 use Rattle.std.proofs.lemmas.Option.{none-some}
 use Rattle.std.specs.Prelude.{take_while}
@@ -15,8 +15,12 @@ use Rattle.aes3_cell.specs.declared.refusal.RunError.TheVariants.{WaveHeader, In
 use Rattle.aes3_cell.specs.Written.{bytes_of, ending, written}
 use Rattle.aes3_level.specs.declared.level.Level.TheVariants.{Low}
 use Rattle.aes3_words.specs.declared.form.Words.{Words}
-use Rattle.aes3_words.specs.Lists.{own_of}
+use Rattle.aes3_words.specs.declared.form.Words.TheVariants.{Own}
+use Rattle.aes3_words.specs.Forms.{is_within, own_word}
+use Rattle.aes3_words.specs.Lists.{from_block, most_left_out, own_of}
 use Rattle.aes3_words.specs.Reading.{read_whole, whole_of}
+use Rattle.aes3_words.proofs.EachWord.{length-each}
+use Rattle.aes3_words.proofs.OneWord.{own-fours}
 use Rattle.aes3_words.proofs.Ahead.{length-own, length-own-le, own-cut, whole-length}
 use Rattle.aes3_block.specs.Readers.{FileReader}
 use Rattle.aes3_frame.specs.Blocks.{block_slots, stream}
@@ -26,8 +30,9 @@ use Rattle.aes3_frame.proofs.SampleBlocks.{words-join}
 use Rattle.aes3_input.specs.Converting.{first_fault, out, whole}
 use Rattle.aes3_input.specs.Running.{IsFault, converted}
 use Rattle.aes3_input.proofs.InputRuns.{Gives}
-use Rattle.aes3_engine.specs.Encoding.{AllLawful, BadCodeAt, BadParityAt, encoded, encoding}
-use Rattle.aes3_engine.specs.Words.{IsWordsCause, TakesWords, encoded_other, words_counts, words_reading}
+use Rattle.aes3_engine.specs.Encoding.{AllLawful, BadCodeAt, BadParityAt, encoded, encoded_file, encoding}
+use Rattle.aes3_engine.specs.Words.{IsWordsCause, TakesWords, encoded_other, with_left_out, words_counts}
+use Rattle.aes3_engine.specs.Words.{words_left_out, words_reading}
 use Rattle.aes3_engine.proofs.EncodeRuns.{clean-lawful, code-cause, end-cases, length-cause, no-end-cause}
 use Rattle.aes3_engine.proofs.EncodeRuns.{no-fault-cause, out-encoded, parity-cause, starts, whole-encoded}
 use Rattle.aes3_engine.proofs.EncodingLemmas.{encodes-seen}
@@ -121,7 +126,7 @@ clean-words : (form : Words) (output : Form) (b : List ℕ)
 clean-words form output b h =
     all-same form b (clean-lawful output (read_whole form b) (sym (first-same form output b) ∙ h))
 
-whole-file : (form : Words) (output : Form) (b : List ℕ)
+pub whole-file : (form : Words) (output : Form) (b : List ℕ)
     → first_fault (words_reading form (encoding output)) b ≡ None
     → (words_reading form (encoding output)).end_fault b ≡ None → IsBlockFile (own_of form b)
 whole-file form output b c e = record { whole = whole; lawful = (clean-words form output b c).is }
@@ -212,14 +217,75 @@ module _ (form : Words) (output : Form) (max : ℕ) (b : List ℕ) (ended : Bool
   ]
 
 -- the counts of a run
-pub words-counted : (b : List ℕ) (n : ℕ) → n ≡ length b
+pub words-counted : (b : List ℕ) (n : ℕ) → length b ≡ n
     → ◌≡◌ {A = Counts}
     (record { bytes = n; cells = 0; blocks = 0; faults = 0; unfinished = 0; marks = 0 }) (words_counts b)
-words-counted b n e = rw e refl
+words-counted b n e = rw (sym e) refl
+
+-- so many words are left out, of n that may be
+record LeftOut (form : Words) (n : ℕ) (v : List ℕ) : Type 0 where
+  pub count : ℕ
+  pub few : count ≤ n
+  pub parts : length v ≡ 4 * count + length (from_block form n v)
+
+none-out : (form : Words) (n : ℕ) (v : List ℕ) → from_block form n v ≡ v → LeftOut form n v
+none-out form n v e = record { count = 0; few = omega arith; parts = (let l = ap length e in omega (arith, l)) }
+
+left-out : (form : Words) (n : ℕ) (v : List ℕ) → LeftOut form n v
+left-out form zero v = none-out form zero v refl
+left-out form (suc n) [] = none-out form (suc n) [] refl
+left-out form (suc n) (a ∷ []) = none-out form (suc n) (a ∷ []) refl
+left-out form (suc n) (a ∷ b ∷ []) = none-out form (suc n) (a ∷ b ∷ []) refl
+left-out form (suc n) (a ∷ b ∷ c ∷ []) = none-out form (suc n) (a ∷ b ∷ c ∷ []) refl
+left-out form (suc n) (a ∷ b ∷ c ∷ d ∷ v) = go (is_within form a) refl (left-out form n v)
+  where
+    front : (t : Bool) → is_within form a ≡ t → from_block form (suc n) (a ∷ b ∷ c ∷ d ∷ v)
+        ≡ (if t then from_block form n v else a ∷ b ∷ c ∷ d ∷ v)
+    front t w = ap (λ s. if s then from_block form n v else a ∷ b ∷ c ∷ d ∷ v) w
+
+    go : (t : Bool) → is_within form a ≡ t → LeftOut form n v → LeftOut form (suc n) (a ∷ b ∷ c ∷ d ∷ v)
+    go true w h = record {
+      count = suc h.count;
+      few = (let f = h.few in omega (arith, f));
+      parts = (let e = ap length (front true w) in let p = h.parts in omega (arith, e, p));
+    }
+    go false w h = none-out form (suc n) (a ∷ b ∷ c ∷ d ∷ v) (front false w)
+
+-- what is left of the bytes beside whole blocks is left out
+pub left-out-is : (form : Words) (b : List ℕ) (n : ℕ) → length b ≡ n → IsBlockFile (own_of form b)
+    → n % 1536 / 4 ≡ words_left_out form b
+unfolding block_slots
+left-out-is form b n e file =
+    let h = left-out form most_left_out b in
+    let few = h.few in
+    let parts = h.parts in
+    let size = length-each (own_word form) (own-fours form) 0 (from_block form most_left_out b) in
+    let whole = file.whole in
+    omega (arith, e, few, parts, size, whole)
+
+-- of a block file's own words none
+own-stays : (n : ℕ) (v : List ℕ) → from_block Own n v ≡ v
+own-stays zero v = refl
+own-stays (suc n) [] = refl
+own-stays (suc n) (a ∷ []) = refl
+own-stays (suc n) (a ∷ b ∷ []) = refl
+own-stays (suc n) (a ∷ b ∷ c ∷ []) = refl
+own-stays (suc n) (a ∷ b ∷ c ∷ d ∷ v) = refl
+
+pub none-left-out : (b : List ℕ) → 0 ≡ words_left_out Own b
+none-left-out b = let e = ap length (own-stays most_left_out b) in omega (arith, e)
 
 -- the run
+pub own-gives : (output : Form) → Gives (encoded_file output) (with_left_out Own (encoded_file output))
+own-gives output = record {
+  input = λ b h. h;
+  whole = λ b h. refl;
+  begun = λ b. refl;
+  cause = λ max b ended e h. h;
+}
+
 pub words-gives : (form : Words) (output : Form) (z : List ℕ → Type 0)
-    → Gives (converted (words_reading form (encoding output)) z) (encoded_other form output)
+    → Gives (converted (words_reading form (encoding output)) z) (with_left_out form (encoded_other form output))
 words-gives form output z = record {
   input = λ b h. whole-file form output b h.clean h.end_clean;
   whole = λ b h. whole-words form output b;

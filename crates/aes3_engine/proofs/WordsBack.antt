@@ -21,7 +21,6 @@ use Rattle.aes3_level.specs.declared.level.Level.TheVariants.{Low}
 use Rattle.aes3_frame.specs.Blocks.{stream}
 use Rattle.aes3_frame.specs.Files.{file_blocks}
 use Rattle.aes3_frame.proofs.FileLaws.{file_blocks-file, length-bytes}
-use Rattle.aes3_cell.specs.declared.counts.Counts.{Counts}
 use Rattle.aes3_cell.specs.declared.refusal.RunError.{RunError}
 use Rattle.aes3_cell.specs.Ends.{Grew, Told}
 use Rattle.aes3_cell.proofs.Growing.{grew-is}
@@ -29,7 +28,8 @@ use Rattle.aes3_input.specs.Running.{InputRun, Movement}
 use Rattle.aes3_input.proofs.InputRuns.{run-told}
 use Rattle.aes3_lock.specs.Reports.{blocks, normal}
 use Rattle.aes3_lock.proofs.NormalStreams.{blocks-lawful}
-use Rattle.aes3_engine.specs.Words.{encoded_words, words_file}
+use Rattle.aes3_engine.specs.declared.word_encoding.EncodedWords.{EncodedWords}
+use Rattle.aes3_engine.specs.Words.{encoded_words, told_words, words_file}
 
 -- bytes of words
 octets-words : (ws : List ℕ) (i : ℕ) → get_or (flat_map word_bytes ws) i 0 < 256
@@ -131,17 +131,17 @@ whole-back Am824 output c = of-file (words-back Am824 (blocks c) (blocks-lawful 
         ∙ ap (λ bs. written output (stream Low bs)) (file_blocks-file (blocks c) (blocks-lawful c))
 
 pub decoded-back : (form : Words) (output : Form) {max : ℕ} {ended : Bool} {source sink : Movement}
-    (r : Result Counts RunError) → InputRun (encoded_words form output) max ended source sink r
-    → IfOk r (λ (n : Counts). (c : List Level) → Told source.old source.new (words_file form (blocks c))
+    (r : Result EncodedWords RunError) → InputRun (told_words form output) max ended source sink r
+    → IfOk r (λ (n : EncodedWords). (c : List Level) → Told source.old source.new (words_file form (blocks c))
     → Grew sink.old sink.new (written output (normal c)))
 decoded-back form output (Ok n) run = λ c t.
-    grew-is (whole-back form output c) (run-told {p = encoded_words form output} run (words_file form (blocks c)) t).4
+    grew-is (whole-back form output c) (run-told {p = told_words form output} run (words_file form (blocks c)) t).4
 decoded-back form output (Err e) run = tt
 
 -- the same of a form that is known
 pub words-is : {form form' : Words} (output : Form) {max : ℕ} {ended : Bool} {source sink : Movement}
-    {r : Result Counts RunError}
-    → form ≡ form' → InputRun (encoded_words form' output) max ended source sink r
-    → InputRun (encoded_words form output) max ended source sink r
+    {r : Result EncodedWords RunError}
+    → form ≡ form' → InputRun (told_words form' output) max ended source sink r
+    → InputRun (told_words form output) max ended source sink r
 words-is output {max} {ended} {source} {sink} {r} e run =
-    subst (λ (w : Words). InputRun (encoded_words w output) max ended source sink r) (sym e) run
+    subst (λ (w : Words). InputRun (told_words w output) max ended source sink r) (sym e) run

@@ -1,5 +1,5 @@
 -- Block files whose words are in the form of another program.
-use Rattle.std.specs.Prelude.{ℕ, List, [], ◌∷◌, ◌++◌, Bool, Result, ◌≡◌, ◌<◌, ◌≤◌, ◌+◌, ◌*◌, IsTrue}
+use Rattle.std.specs.Prelude.{ℕ, List, [], ◌∷◌, ◌++◌, Bool, Result, ◌≡◌, ◌<◌, ◌≤◌, ◌+◌, ◌-◌, ◌*◌, ◌/◌, IsTrue}
 use Rattle.std.specs.Prelude.{length, take}
 use Rattle.std.specs.List.{flat_map}
 use Rattle.aes3_level.specs.declared.level.Level.TheVariants.{Low}
@@ -12,13 +12,14 @@ use Rattle.aes3_cell.specs.declared.refusal.RunError.TheVariants.{WaveHeader, In
 use Rattle.aes3_cell.specs.Written.{written}
 use Rattle.aes3_words.specs.declared.form.Words.{Words}
 use Rattle.aes3_words.specs.declared.form.Words.TheVariants.{Own, Alsa, Am824}
-use Rattle.aes3_words.specs.Lists.{own_of, written_of}
+use Rattle.aes3_words.specs.Lists.{from_block, most_left_out, own_of, written_of}
 use Rattle.aes3_words.specs.Reading.{AreAhead, read_more, read_whole}
 use Rattle.aes3_frame.specs.Blocks.{stream}
 use Rattle.aes3_frame.specs.Files.{IsBlockFile, block_bytes, file_blocks}
 use Rattle.aes3_input.specs.Converting.{Reading, fault_behind, out_behind}
 use Rattle.aes3_input.specs.Running.{InputState, Movement, PieceRan, Promise}
 use Rattle.aes3_block.specs.Readers.{FileReader}
+use Rattle.aes3_engine.specs.declared.word_encoding.EncodedWords.{EncodedWords}
 use Rattle.aes3_engine.specs.Encoding.{AllLawful, BadCodeAt, BadParityAt, Encodes, EndsInBlock}
 use Rattle.aes3_engine.specs.Encoding.{encoded, encoded_file, encoding}
 
@@ -73,6 +74,24 @@ abbrev pub encoded_words : Words → Form → Promise Counts
 encoded_words Own output = encoded_file output
 encoded_words Alsa output = encoded_other Alsa output
 encoded_words Am824 output = encoded_other Am824 output
+
+-- how many words stand before the first block and are left out, of four octets each
+abbrev pub words_left_out : Words → List ℕ → ℕ
+words_left_out form b = (length b - length (from_block form most_left_out b)) / 4
+
+-- a promise over words in this form, where it is also told how many of them are left out
+abbrev pub with_left_out : Words → Promise Counts → Promise EncodedWords
+with_left_out form p = record {
+  input = p.input;
+  whole = p.whole;
+  begun = p.begun;
+  answer = λ b n. p.answer b n.counts × (n.left_out ≡ words_left_out form b);
+  cause = p.cause;
+}
+
+-- what `encode_words` promises
+abbrev pub told_words : Words → Form → Promise EncodedWords
+told_words form output = with_left_out form (encoded_words form output)
 
 -- the same byte by byte: the octets of a word count once it is whole
 unfoldable pub words_reading : Words → Reading → Reading

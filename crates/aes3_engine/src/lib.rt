@@ -43,4 +43,4 @@ pub use rewriting_runs::{Rewritten, rewrite};
 pub use samples::to_pcm;
 pub use sampling::{from_pcm, from_pcm_words};
 pub use valid_samples::to_valid_pcm;
-pub use word_encoding::encode_words;
+pub use word_encoding::{EncodedWords, encode_words};

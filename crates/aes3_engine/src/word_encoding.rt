@@ -7,9 +7,12 @@ ghost use Rattle.aes3_cell.specs.Written.{written};
 ghost use Rattle.aes3_level.specs.declared.level.Level.{Level};
 ghost use Rattle.aes3_lock.specs.Reports.{blocks, normal};
 ghost use Rattle.aes3_input.specs.Running.{FrontRan, InputRun, PieceRan, movement_of};
+ghost use Rattle.aes3_frame.specs.Files.{IsBlockFile};
+ghost use Rattle.aes3_words.specs.declared.form.Words.{Words};
+ghost use Rattle.aes3_words.specs.Lists.{own_of};
 ghost use Rattle.aes3_words.specs.Reading.{is_left_out};
-ghost use Rattle.aes3_engine.specs.Words.{TakesWords, WordRan, encoded_other, encoded_words, words_file};
-ghost use Rattle.aes3_engine.specs.Words.{words_state};
+ghost use Rattle.aes3_engine.specs.Words.{TakesWords, WordRan, encoded_other, told_words, with_left_out};
+ghost use Rattle.aes3_engine.specs.Words.{words_counts, words_file, words_left_out, words_state};
 
 use crate::encoding::{Encoder, blank_cells, encode};
 use aes3_block::{BLOCK_BYTES, BlockFile, SLOTS};
@@ -22,6 +25,15 @@ const WORD_LEN: usize = 4;
 
 /// How many words of a block stand before the next one at most.
 const MOST_LEFT_OUT: usize = SLOTS - 1;
+
+/// What a run over a block file in words counts, and how many of these it has left out.
+#[derive(Clone, Copy)]
+pub struct EncodedWords {
+    /// The counts of any run over a block file.
+    pub counts: Counts,
+    /// Words that stand before the first block: none of a block file's own.
+    pub left_out: u64,
+}
 
 /// Reads words as a block file's: those before the first that may begin a block are left out, as many
 /// as a block has behind its first.
@@ -163,6 +175,26 @@ impl Input<Encoder> for WordFile {
     }
 }
 
+/// What is answered to an input of so many bytes. Behind the words that are left out stand whole
+/// blocks, and they are fewer than the words of a block: they are what is left of the bytes.
+fn answer_of(bytes: u64) -> EncodedWords
+    ensures counts { (b : List ℕ) → length b ≡ bytes → result.counts ≡ words_counts b }
+    ensures left_out { (form : Words) (b : List ℕ) → length b ≡ bytes → IsBlockFile (own_of form b)
+        → result.left_out ≡ words_left_out form b }
+{
+    EncodedWords {
+        counts: Counts {
+            bytes,
+            cells: 0,
+            blocks: 0,
+            faults: 0,
+            unfinished: 0,
+            marks: 0,
+        },
+        left_out: bytes % BLOCK_BYTES as u64 / WORD_LEN as u64,
+    }
+}
+
 /// Does what [`encode_words`] does, of words in a form that is not their own.
 fn encode_other<S: Source, T: Sink>(
     source: &mut S,
@@ -170,12 +202,12 @@ fn encode_other<S: Source, T: Sink>(
     max_bytes: u64,
     output: Form,
     words: Words,
-) -> Result<Counts, RunError>
+) -> Result<EncodedWords, RunError>
     requires source_room { S.failed source.old + 1 < 2 ^ 64 }
     requires sink_room { T.failed sink.old + 1 < 2 ^ 64 }
     requires limit { max_bytes ≤ 2 ^ 40 }
-    ensures run { InputRun (encoded_other words output) max_bytes (S.has_ended source.new)
-        (movement_of S.given S.failed source.old source.new)
+    ensures run { InputRun (with_left_out words (encoded_other words output)) max_bytes
+        (S.has_ended source.new) (movement_of S.given S.failed source.old source.new)
         (movement_of T.taken T.failed sink.old sink.new) result }
     ensures passed_on { IfOk result (λ _. T.passed sink.new ≡ T.taken sink.new) }
 {
@@ -197,14 +229,7 @@ fn encode_other<S: Source, T: Sink>(
         cells: blank_cells(),
     };
     match convert(source, sink, max_bytes, &mut input, &mut encoder) {
-        Ok(bytes) => Ok(Counts {
-            bytes,
-            cells: 0,
-            blocks: 0,
-            faults: 0,
-            unfinished: 0,
-            marks: 0,
-        }),
+        Ok(bytes) => Ok(answer_of(bytes)),
         Err(error) => Err(error),
     }
 }
@@ -216,17 +241,23 @@ fn encode_in<S: Source, T: Sink>(
     max_bytes: u64,
     output: Form,
     words: Words,
-) -> Result<Counts, RunError>
+) -> Result<EncodedWords, RunError>
     requires source_room { S.failed source.old + 1 < 2 ^ 64 }
     requires sink_room { T.failed sink.old + 1 < 2 ^ 64 }
     requires limit { max_bytes ≤ 2 ^ 40 }
-    ensures run { InputRun (encoded_words words output) max_bytes (S.has_ended source.new)
+    ensures run { InputRun (told_words words output) max_bytes (S.has_ended source.new)
         (movement_of S.given S.failed source.old source.new)
         (movement_of T.taken T.failed sink.old sink.new) result }
     ensures passed_on { IfOk result (λ _. T.passed sink.new ≡ T.taken sink.new) }
 {
     match words {
-        Words::Own => encode(source, sink, max_bytes, output),
+        Words::Own => match encode(source, sink, max_bytes, output) {
+            Ok(counts) => Ok(EncodedWords {
+                counts,
+                left_out: 0,
+            }),
+            Err(error) => Err(error),
+        },
         Words::Alsa => encode_other(source, sink, max_bytes, output, Words::Alsa),
         Words::Am824 => encode_other(source, sink, max_bytes, output, Words::Am824),
     }
@@ -234,7 +265,7 @@ fn encode_in<S: Source, T: Sink>(
 
 /// Does what `encode` does, of a block file whose words are in this form: words of another than its
 /// own that stand before the first block are left out, 383 at most, and refusals count words from
-/// the first block on. Of such words it counts the bytes alone.
+/// the first block on. Of such words it counts the bytes alone, and tells how many it has left out.
 ///
 /// # Errors
 /// Those of `encode`.
@@ -244,7 +275,7 @@ pub fn encode_words<S: Source, T: Sink>(
     max_bytes: u64,
     output: Form,
     words: Words,
-) -> Result<Counts, RunError>
+) -> Result<EncodedWords, RunError>
     requires source_room { S.failed source.old + 1 < 2 ^ 64 }
     requires sink_room { T.failed sink.old + 1 < 2 ^ 64 }
     requires limit { max_bytes ≤ 2 ^ 40 }
@@ -255,7 +286,7 @@ pub fn encode_words<S: Source, T: Sink>(
         → Grew (T.taken sink.old) (T.taken sink.new) (written output (normal c))) }
 
     // What it answers to every input, and has written then.
-    ensures run { InputRun (encoded_words words output) max_bytes (S.has_ended source.new)
+    ensures run { InputRun (told_words words output) max_bytes (S.has_ended source.new)
         (movement_of S.given S.failed source.old source.new)
         (movement_of T.taken T.failed sink.old sink.new) result }
     ensures passed_on { IfOk result (λ _. T.passed sink.new ≡ T.taken sink.new) }

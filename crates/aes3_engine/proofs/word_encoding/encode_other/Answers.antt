@@ -1,6 +1,6 @@
-use Rattle.std.proofs.Common.{refl}
+use Rattle.std.proofs.Common.{refl, sym}
 use Rattle.aes3_input.proofs.InputRuns.{run-ok, run-err}
-use Rattle.aes3_engine.proofs.WordRuns.{starts-words, words-counted, words-gives}
+use Rattle.aes3_engine.proofs.WordRuns.{starts-words, whole-file, words-gives}
 use Rattle.aes3_engine.proofs.word_encoding.encode_other.Goals as goal
 
 pub convert-requires-clause-start : goal.convert-requires-clause-start
@@ -10,7 +10,12 @@ convert-requires-clause-start g c =
 
 pub returns-in-Ok-clause-run : goal.returns-in-Ok-clause-run
 returns-in-Ok-clause-run g c =
-    run-ok (words-gives c.args.words c.args.output _) (λ b i h. words-counted b c.in-Ok.bytes h.1)
+    run-ok (words-gives c.args.words c.args.output _)
+    (λ b i h. (
+      c.answer_of.ensures.counts b (sym h.1),
+      c.answer_of.ensures.left_out c.args.words b (sym h.1)
+          (whole-file c.args.words c.args.output b i.clean i.end_clean),
+    ))
     c.in-Ok.ensures.run.run
 
 pub returns-in-Err-clause-run : goal.returns-in-Err-clause-run
