@@ -1,7 +1,7 @@
 //! Settings that no block took, as lines.
 
 ghost use Rattle.std.specs.Prelude.{◌≡◌, ◌≤◌, ◌<◌, ◌+◌, ◌*◌, ◌++◌, ℕ, Bool, length};
-ghost use Rattle.aes3_settings.specs.Untaken.{first_code, remedy, setting_text, told_code};
+ghost use Rattle.aes3_settings.specs.Untaken.{first_code, first_from, remedy, setting_text, told_code};
 ghost use Rattle.aes3_settings.specs.Untaken.{pair_text, untaken_line, untaken_text, untaken_wide};
 ghost use Rattle.aes3_settings.specs.Untaken.{name_if, wide_name_at};
 
@@ -21,16 +21,24 @@ const TEXTS: usize = 32;
 /// How many bytes a remedy has at most.
 const REMEDY_LEN: usize = 90;
 
+/// The first code of several, behind its place among them.
+fn first_of(codes: &[Option<u8>]) -> Option<(u8, u8)>
+    requires { length codes.now ≤ 8 }
+    ensures { result ≡ first_from 0 codes.now }
+{
+    for under in 0..codes.len() {
+        if let Some(code) = codes[under] {
+            return Some((under as u8, code));
+        }
+    }
+    None
+}
+
 /// The first code of a setting, behind the number that tells what its codes mean.
 fn first_code(setting: &Setting) -> Option<(u8, u8)>
     ensures { result ≡ first_code setting.now }
 {
-    for under in 0..8 {
-        if let Some(code) = setting.codes[usize::from(under)] {
-            return Some((under, code));
-        }
-    }
-    None
+    first_of(&setting.codes)
 }
 
 /// Appends a code of a field: what `show --names` tells of it, or else what `show` prints.
