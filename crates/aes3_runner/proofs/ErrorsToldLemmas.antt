@@ -1,5 +1,5 @@
 -- What standard error is told of a line, by what ran.
-use Rattle.std.proofs.Common.{◌≡◌, ◌≤◌, ◌==◌, ◌&&◌, ℕ, List, inl, inr, Bool, true, false, IsFalse, Result, Ok, Err, refl, ap, ◌∙◌, arith}
+use Rattle.std.proofs.Common.{◌≡◌, ◌≤◌, ◌==◌, ◌&&◌, ◌||◌, ◌++◌, ℕ, List, [], ◌∷◌, Option, Some, None, inl, inr, Bool, true, false, IsFalse, Result, Ok, Err, refl, sym, ap, ap₂, ◌∙◌, arith}
 use Rattle.std.proofs.Common.{if◌then◌else◌}
 use Rattle.aes3_cell.specs.declared.counts.Counts.{Counts}
 use Rattle.aes3_cell.specs.declared.refusal.RunError.{RunError}
@@ -16,12 +16,20 @@ use Rattle.aes3_job.specs.declared.job.Job.TheVariants.{Show, ShowChanges, Scan,
 use Rattle.aes3_job.specs.declared.job.Job.TheVariants.{ToExactPcm, ToFilledPcm}
 use Rattle.aes3_runner.specs.declared.outcome.Outcome.{Outcome}
 use Rattle.aes3_runner.specs.declared.outcome.Remark.{Remark}
-use Rattle.aes3_runner.specs.declared.outcome.Remark.TheVariants.{Nothing, Filled, Inexact}
-use Rattle.aes3_runner.specs.Lines.{remark_line}
-use Rattle.aes3_runner.specs.Outcomes.{RemarkTold}
+use Rattle.aes3_runner.specs.declared.outcome.Remark.TheVariants.{Nothing, Filled, LeftOut, Settings, Inexact}
+use Rattle.aes3_runner.specs.declared.outcome.Met.{Met}
+use Rattle.aes3_status.specs.declared.change.Change.{Change}
+use Rattle.aes3_status.specs.declared.setting.Settings.{Settings as GivenSettings}
+use Rattle.aes3_status.specs.declared.taken.Taken.{Taken}
+use Rattle.aes3_words.specs.declared.form.Words.TheVariants.{Own, Alsa, Am824}
+use Rattle.aes3_engine.specs.RewritingRuns.{taken_of}
+use Rattle.aes3_engine.proofs.WordRuns.{none-left-out}
+use Rattle.std.specs.Option.{is_some, option_map_or}
+use Rattle.aes3_runner.specs.Lines.{lines_before, met_lines, remark_line}
+use Rattle.aes3_runner.specs.Outcomes.{RemarkTold, met_by, sample_status}
 use Rattle.aes3_runner.specs.JobRuns.{AnswerTold, JobRan, RunRan, end_status, promise_of, status_by, status_for}
 use Rattle.aes3_runner.specs.OctetRuns.{FirstFailed, PackedRan, RawBy, as_raw, written_by}
-use Rattle.aes3_runner.specs.StandardErrors.{ErrorsTold, remarks}
+use Rattle.aes3_runner.specs.StandardErrors.{ErrorsTold, remarks, sets_fields}
 use Rattle.aes3_runner.specs.WordRuns.{LineRan}
 
 -- a status of a test is 0 or 1
@@ -48,31 +56,65 @@ few (ToFilledPcm i p fill marked) n = omega arith
 few (FromPcm p e c w) n = omega arith
 few (ToBits i b c) n = omega arith
 
--- there is no remark on a job of which none is told
+-- a change that sets no field by name has no line
+no-lines : (channel : ℕ) (met : Met) → met.settings ≡ None → met_lines channel met ≡ []
+no-lines channel met e =
+    ap (λ (s : Option GivenSettings). option_map_or (λ given. lines_before channel given met.taken 36) s []) e
+
+no-settings : {A : Type 0} (s t : Option A) → IsFalse (is_some s || is_some t) → (s ≡ None) × (t ≡ None)
+no-settings None None h = (refl, refl)
+no-settings None (Some t) h = absurd cc
+no-settings (Some s) t h = absurd cc
+
+unset : (empty : Bool) (change : Change) (first second : Taken) → IsFalse (sets_fields change)
+    → remark_line (if empty then Nothing else met_by change first second) ≡ []
+unset true change first second h = refl
+unset false change first second h =
+    let none = no-settings change.settings1 change.settings2 h in
+    ap₂ (λ (u v : List ℕ). u ++ v) (no-lines 1 (record { settings = change.settings1; taken = first }) none.0)
+    (no-lines 2 (record { settings = change.settings2; taken = second }) none.1)
+
+line-of : {n : Outcome} {o : Outcome} → n ≡ o → remark_line o.remark ≡ [] → remark_line n.remark ≡ []
+line-of e h = ap (λ (v : Outcome). remark_line v.remark) e ∙ h
+
+none-out : (n : ℕ) → n ≡ 0 → remark_line (if n == 0 then Nothing else LeftOut n) ≡ []
+none-out n e = ap (λ k. remark_line (if k == 0 then Nothing else LeftOut k)) e
+
+not-exact : (a b : Bool) → IsFalse (a || b) → IsFalse b
+not-exact true b h = absurd cc
+not-exact false b h = h
+
+-- there is no line on a job of which none is told
 of-job-remark : (job : Job) (b : List ℕ) (n : Outcome) → (promise_of job).answer b n → IsFalse (remarks job)
-    → n.remark ≡ Nothing
-of-job-remark (Encode o w) b n h s = ap (λ (o : Outcome). o.remark) h.2
-of-job-remark (Decode i w) b n h s = ap (λ (o : Outcome). o.remark) h.2
-of-job-remark (Normal i o) b n h s = ap (λ (o : Outcome). o.remark) h.2
-of-job-remark (Check i l) b n h s = ap (λ (o : Outcome). o.remark) h.2
-of-job-remark (Account i l) b n h s = ap (λ (o : Outcome). o.remark) h.2
-of-job-remark (Watch i l) b n h s = ap (λ (o : Outcome). o.remark) h.2
-of-job-remark (WatchSums i l e) b n h s = ap (λ (o : Outcome). o.remark) h.2
-of-job-remark (Show i d) b n h s = ap (λ (o : Outcome). o.remark) h.2
-of-job-remark (ShowChanges i d) b n h s = ap (λ (o : Outcome). o.remark) h.2
-of-job-remark (Scan i) b n h s = ap (λ (o : Outcome). o.remark) h.2
-of-job-remark (Cut i o f c) b n h s = ap (λ (o : Outcome). o.remark) h.2
-of-job-remark (Rewrite i o c x) b n h s = ap (λ (o : Outcome). o.remark) h.2
-of-job-remark (ToPcm i p true) b n h s = ap (λ (o : Outcome). o.remark) h.2
-of-job-remark (ToPcm i p false) b n h s = ap (λ (o : Outcome). o.remark) h.2
+    → remark_line n.remark ≡ []
+of-job-remark (Encode o Own) b n h s = line-of h.2 (none-out h.0.left_out (h.1.1 ∙ sym (none-left-out b)))
+of-job-remark (Encode o Alsa) b n h s = absurd cc
+of-job-remark (Encode o Am824) b n h s = absurd cc
+of-job-remark (Decode i w) b n h s = line-of h.2 refl
+of-job-remark (Normal i o) b n h s = line-of h.2 refl
+of-job-remark (Check i l) b n h s = line-of h.2 refl
+of-job-remark (Account i l) b n h s = line-of h.2 refl
+of-job-remark (Watch i l) b n h s = line-of h.2 refl
+of-job-remark (WatchSums i l e) b n h s = line-of h.2 refl
+of-job-remark (Show i d) b n h s = line-of h.2 refl
+of-job-remark (ShowChanges i d) b n h s = line-of h.2 refl
+of-job-remark (Scan i) b n h s = line-of h.2 refl
+of-job-remark (Cut i o f c) b n h s = line-of h.2 refl
+of-job-remark (Rewrite i o c x) b n h s =
+    line-of h.2 (unset (h.0.counts.blocks == 0) c h.0.first h.0.second (not-exact x (sets_fields c) s))
+of-job-remark (ToPcm i p true) b n h s = line-of h.2 refl
+of-job-remark (ToPcm i p false) b n h s = line-of h.2 refl
 of-job-remark (ToExactPcm i p) b n h s = absurd cc
 of-job-remark (ToFilledPcm i p fill marked) b n h s = absurd cc
-of-job-remark (FromPcm p e c w) b n h s = ap (λ (o : Outcome). o.remark) h.2
-of-job-remark (ToBits i b' c) b n h s = ap (λ (o : Outcome). o.remark) h.2
+of-job-remark (FromPcm p e c w) b n h s =
+    line-of h.2
+    (unset (h.0.bytes == 0) c (taken_of c.settings1 (sample_status c.status1 ∷ []))
+    (taken_of c.settings2 (sample_status c.status2 ∷ [])) s)
+of-job-remark (ToBits i b' c) b n h s = line-of h.2 refl
 
 -- of a job that read its input to the end and is not refused
 of-done : (line : CommandLine) (b : List ℕ) (n : Outcome) (errors : Movement) (status : ℕ)
-    → (promise_of line.job).answer b n → status ≡ status_by line.job n.counts → RemarkTold n.remark errors
+    → (promise_of line.job).answer b n → status ≡ status_by line.job n.counts → RemarkTold (remark_line n.remark) errors
     → ErrorsTold (Ok line) errors status
 of-done line b n errors status a s r =
     let small = few line.job n.counts in
@@ -89,12 +131,18 @@ of-answer : (line : CommandLine) (ended : Bool) (source before : Movement) (answ
     → AnswerTold line.job answer failed sink errors status → ErrorsTold (Ok line) errors status
 of-answer line ended source before (Ok n) failed sink errors status run t = go n.remark refl t.0 t.2
   where
-    go : (remark : Remark) → n.remark ≡ remark → status ≡ end_status line.job n → RemarkTold n.remark errors
+    go : (remark : Remark) → n.remark ≡ remark → status ≡ end_status line.job n → RemarkTold (remark_line n.remark) errors
         → ErrorsTold (Ok line) errors status
     go Nothing e s r =
         of-done line run.bytes n errors status run.ran.1
         (s ∙ ap (λ (v : Remark). status_for v (status_by line.job n.counts)) e) r
     go (Filled frames) e s r =
+        of-done line run.bytes n errors status run.ran.1
+        (s ∙ ap (λ (v : Remark). status_for v (status_by line.job n.counts)) e) r
+    go (LeftOut words) e s r =
+        of-done line run.bytes n errors status run.ran.1
+        (s ∙ ap (λ (v : Remark). status_for v (status_by line.job n.counts)) e) r
+    go (Settings first second) e s r =
         of-done line run.bytes n errors status run.ran.1
         (s ∙ ap (λ (v : Remark). status_for v (status_by line.job n.counts)) e) r
     go (Inexact at) e s r =
@@ -105,7 +153,7 @@ of-answer line ended source before (Ok n) failed sink errors status run t = go n
           usage = λ h. absurd (omega (arith, k, h));
           refusal = λ h q. record {
             error = refusal.Inexact at;
-            line = grew-is (ap remark_line e) (r.line q);
+            line = grew-is (ap remark_line e) (r.told q);
           };
         }
 of-answer line ended source before (Err error) failed sink errors status run t = record {

@@ -17,7 +17,7 @@ use Rattle.aes3_input.specs.Driving.{counted_cells}
 use Rattle.aes3_runner.specs.JobRuns.{Flushed, JobRan, RunRan, end_status, most, period}
 use Rattle.aes3_runner.specs.OctetRuns.{ReadRefused}
 use Rattle.aes3_runner.specs.declared.outcome.Outcome.{Outcome}
-use Rattle.aes3_runner.specs.Lines.{refusal_line}
+use Rattle.aes3_runner.specs.Lines.{refusal_line, remark_line}
 use Rattle.aes3_runner.specs.Outcomes.{RemarkTold, answer_as, told_as}
 
 -- a run of a job, by what the job is
@@ -99,7 +99,7 @@ passed-on job {f₀ = f₀} {f₁} {f₂} {x} r f p h =
 pub done : (job : Job) {ended : Bool} {source errors : Movement} {t₀ t₁ : Option (List ℕ)} {f₀ f₁ : ℕ} {status : ℕ}
     {n : Outcome}
     → RunRan job ended source (record { old = t₀; new = t₁; failed_old = f₀; failed_new = f₁ }) (Ok n)
-    → status ≡ end_status job n → RemarkTold n.remark errors
+    → status ≡ end_status job n → RemarkTold (remark_line n.remark) errors
     → JobRan job ended source (record { old = t₀; new = t₁; failed_old = f₀; failed_new = f₁ }) errors status
 done job {f₁ = f₁} {n = n} r s l = record { answer = Ok n; failed = f₁; run = r; told = (s, refl, l) }
 

@@ -2,3 +2,4 @@ mod PackedOutputs
 pub mod ErrorsToldLemmas
 pub mod Flushes
 pub mod RawRuns
+pub mod RemarkLines

@@ -14,10 +14,10 @@ use Rattle.aes3_lock.specs.Reports.{blocks, decided, normal, reports}
 use Rattle.aes3_input.specs.Running.{Movement, Promise, InputRun, Quiet, Failed}
 use Rattle.aes3_input.specs.Driving.{counted_cells}
 use Rattle.aes3_pcm.specs.Formats.{narrowed}
-use Rattle.aes3_engine.specs.Words.{encoded_words, words_file}
+use Rattle.aes3_engine.specs.Words.{told_words, words_file}
 use Rattle.aes3_runs.specs.ReportRuns.{counts_of}
 use Rattle.aes3_runs.specs.BlockRuns.{begun_stream, written_stream, cut_blocks, decided_blocks}
-use Rattle.aes3_engine.specs.Rewriting.{rewritten_blocks}
+use Rattle.aes3_engine.specs.RewritingRuns.{rewritten_cells}
 use Rattle.aes3_engine.specs.Sampling.{sampled_words}
 use Rattle.aes3_engine.specs.Carrying.{all_carried}
 use Rattle.aes3_engine.specs.ExactSamples.{exact_cells}
@@ -37,10 +37,11 @@ use Rattle.aes3_job.specs.declared.job.Job.TheVariants.{Encode, Decode, Normal, 
 use Rattle.aes3_job.specs.declared.job.Job.TheVariants.{Show, ShowChanges, Scan, Cut, Rewrite, ToPcm, FromPcm, ToBits}
 use Rattle.aes3_job.specs.declared.job.Job.TheVariants.{ToExactPcm, ToFilledPcm}
 use Rattle.aes3_runner.specs.declared.outcome.Outcome.{Outcome}
-use Rattle.aes3_runner.specs.Lines.{refusal_line}
+use Rattle.aes3_runner.specs.Lines.{refusal_line, remark_line}
 use Rattle.aes3_runner.specs.declared.outcome.Remark.{Remark}
-use Rattle.aes3_runner.specs.declared.outcome.Remark.TheVariants.{Nothing, Filled, Inexact}
-use Rattle.aes3_runner.specs.Outcomes.{RemarkTold, of_counts, of_exact, of_filled, told_as}
+use Rattle.aes3_runner.specs.declared.outcome.Remark.TheVariants.{Nothing, Filled, LeftOut, Settings, Inexact}
+use Rattle.aes3_runner.specs.Outcomes.{RemarkTold, of_counts, of_exact, of_filled, of_rewritten}
+use Rattle.aes3_runner.specs.Outcomes.{of_samples, of_words, told_as}
 
 -- how many bytes an input may have
 abbrev pub most : ℕ
@@ -57,7 +58,7 @@ plain_cells form whole begun counts = told_as of_counts (counted_cells form whol
 -- what a job promises: its input, what it writes of one, what of bytes behind which more may come, what it counts, and
 -- why it is refused
 abbrev pub promise_of : Job → Promise Outcome
-promise_of (Encode o words) = told_as of_counts (encoded_words words o)
+promise_of (Encode o words) = told_as of_words (told_words words o)
 promise_of (Decode i words) =
     plain_cells i
     (λ c. words_file words (blocks c))
@@ -86,11 +87,7 @@ promise_of (Cut i o from count) =
     (λ c. written_stream o (cut_blocks from count (blocks c)))
     (λ c. begun_stream o (cut_blocks from count (decided_blocks c)))
     (counts_of i)
-promise_of (Rewrite i o change exact) =
-    plain_cells i
-    (λ c. written_stream o (rewritten_blocks change (blocks c)))
-    (λ c. begun_stream o (rewritten_blocks change (decided_blocks c)))
-    (counts_of i)
+promise_of (Rewrite i o change exact) = told_as (of_rewritten change) (rewritten_cells i o change)
 promise_of (ToPcm i format true) =
     plain_cells i
     (λ c. narrowed format (valid_samples (blocks c)))
@@ -103,7 +100,8 @@ promise_of (ToPcm i format false) =
     (counts_of i)
 promise_of (ToExactPcm i format) = told_as of_exact (exact_cells i format)
 promise_of (ToFilledPcm i format fill marked) = told_as of_filled (filled_cells i format fill)
-promise_of (FromPcm format exact change words) = told_as of_counts (sampled_words format exact words change)
+promise_of (FromPcm format exact change words) =
+    told_as (of_samples change) (sampled_words format exact words change)
 promise_of (ToBits i bits channel) =
     plain_cells i
     (λ c. all_carried bits channel (blocks c))
@@ -138,6 +136,8 @@ status_by (ToBits i bits channel) n = 0
 abbrev pub status_for : Remark → ℕ → ℕ
 status_for Nothing status = status
 status_for (Filled frames) status = status
+status_for (LeftOut words) status = status
+status_for (Settings first second) status = status
 status_for (Inexact at) status = 3
 
 abbrev pub end_status : Job → Outcome → ℕ
@@ -161,7 +161,7 @@ IsTold errors error = Quiet errors → Grew errors.old errors.new (refusal_line 
 -- line, or that of `Write` where the flush behind it failed
 abbrev pub AnswerTold : Job → Result Outcome RunError → ℕ → Movement → Movement → ℕ → Type 0
 AnswerTold job (Ok n) failed sink errors status =
-    (status ≡ end_status job n) × (sink.failed_new ≡ failed) × RemarkTold n.remark errors
+    (status ≡ end_status job n) × (sink.failed_new ≡ failed) × RemarkTold (remark_line n.remark) errors
 AnswerTold job (Err error) failed sink errors status =
     (status ≡ 3)
     × (((sink.failed_new ≡ failed) × IsTold errors error)

@@ -1,5 +1,6 @@
 -- What standard error is told of a command line where nobody sits at a terminal.
-use Rattle.std.specs.Prelude.{ℕ, [], Bool, true, false, Result, Ok, Err, IsFalse, ◌≡◌, ◌≤◌}
+use Rattle.std.specs.Option.{is_some}
+use Rattle.std.specs.Prelude.{ℕ, [], Bool, true, false, Result, Ok, Err, IsFalse, ◌||◌, ◌≡◌, ◌≤◌}
 use Rattle.aes3_cell.specs.Ends.{Grew}
 use Rattle.aes3_cell.specs.declared.refusal.RunError.{RunError}
 use Rattle.aes3_input.specs.Running.{Movement, Quiet}
@@ -7,10 +8,11 @@ use Rattle.aes3_arguments.specs.declared.job.LineFault.{LineFault}
 use Rattle.aes3_arguments.specs.declared.job.LineFault.TheVariants.{Usage, Help, Refused}
 use Rattle.aes3_arguments.specs.declared.line.CommandLine.{CommandLine}
 use Rattle.aes3_job.specs.declared.job.Job.{Job}
-use Rattle.aes3_job.specs.declared.job.Job.TheVariants.{ToExactPcm, ToFilledPcm}
+use Rattle.aes3_job.specs.declared.job.Job.TheVariants.{Encode, Rewrite, ToExactPcm, ToFilledPcm, FromPcm}
+use Rattle.aes3_words.specs.declared.form.Words.TheVariants.{Own, Alsa, Am824}
 use Rattle.aes3_runner.specs.declared.outcome.Remark.{Remark}
-use Rattle.aes3_runner.specs.declared.outcome.Remark.TheVariants.{Nothing}
-use Rattle.aes3_runner.specs.Lines.{refusal_line}
+use Rattle.aes3_status.specs.declared.change.Change.{Change}
+use Rattle.aes3_runner.specs.Lines.{refusal_line, remark_line}
 use Rattle.aes3_runner.specs.Outcomes.{RemarkTold}
 
 -- the line of a refusal, and nothing else
@@ -25,8 +27,17 @@ UsageTold (Err (Usage text)) errors = Grew errors.old errors.new text.bytes.item
 UsageTold (Err (Help text)) errors = ⊥
 UsageTold (Err (Refused error)) errors = ⊥
 
+-- whether a change sets fields by name
+abbrev pub sets_fields : Change → Bool
+sets_fields change = is_some change.settings1 || is_some change.settings2
+
 -- whether there can be anything to remark on a job: only where a command line asks for what tells it
 abbrev pub remarks : Job → Bool
+remarks (Encode o Own) = false
+remarks (Encode o Alsa) = true
+remarks (Encode o Am824) = true
+remarks (Rewrite i o change exact) = exact || sets_fields change
+remarks (FromPcm format exact change words) = sets_fields change
 remarks (ToExactPcm i format) = true
 remarks (ToFilledPcm i format fill marked) = true
 remarks job = false
@@ -34,8 +45,8 @@ remarks job = false
 -- of a line that was run to its end a remark, and nothing else, and nothing at all of a job on which there is none
 pub record RemarkOf (job : Job) (errors : Movement) : Type 0 where
   pub remark : Remark
-  pub asked : IsFalse (remarks job) → remark ≡ Nothing
-  pub told : RemarkTold remark errors
+  pub asked : IsFalse (remarks job) → remark_line remark ≡ []
+  pub told : RemarkTold (remark_line remark) errors
 
 abbrev pub EndTold : Result CommandLine LineFault → Movement → Type 0
 EndTold (Ok line) errors = RemarkOf line.job errors

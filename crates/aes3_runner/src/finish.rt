@@ -6,7 +6,7 @@ ghost use Rattle.aes3_runner.specs.OctetRuns.{ReadRefused};
 ghost use Rattle.aes3_input.specs.Running.{movement_of};
 
 use crate::job_run::run_job;
-use crate::outcome::tell_outcome;
+use crate::remark::tell_outcome;
 use crate::refusal::refuse;
 use aes3_cell::{RunError, Sink, Source};
 use aes3_job::{Job, Observer};
@@ -83,7 +83,7 @@ pub(crate) fn finish_begun<S: Source, T: Sink, E: Sink, O: Observer>(
     ensures same { O.is_silent observer.new ≡ O.is_silent observer.old }
 {
     match run_job(job, source, sink) {
-        Ok(outcome) => tell_outcome(job, outcome, errors, observer),
+        Ok(outcome) => tell_outcome(job, &outcome, errors, observer),
         Err(error) => refuse(flushed(error, sink), errors, observer),
     }
 }

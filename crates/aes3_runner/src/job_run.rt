@@ -5,7 +5,7 @@ ghost use Rattle.aes3_input.specs.Running.{movement_of};
 ghost use Rattle.aes3_job.specs.declared.job.Job.TheVariants.{ToPcm};
 ghost use Rattle.aes3_runner.specs.JobRuns.{RunRan, period, status_by};
 
-use crate::outcome::{Outcome, exact, filled, plain};
+use crate::outcome::{Outcome, encoded, exact, filled, plain, rewritten, sampled};
 use aes3_account::{account, watch, watch_sums};
 use aes3_cell::{Counts, Form, RunError, Sink, Source};
 use aes3_engine::{
@@ -87,7 +87,7 @@ pub fn run_job<S: Source, T: Sink>(
     ensures passed_on { IfOk result (λ _. T.passed sink.new ≡ T.taken sink.new) }
 {
     match *job {
-        Job::Encode { output, words } => plain(encode_words(
+        Job::Encode { output, words } => encoded(encode_words(
             source, sink, MAX_BYTES, output, words,
         )),
         Job::Decode { input, words } => plain(decode_words(source, sink, MAX_BYTES, input, words)),
@@ -116,7 +116,7 @@ pub fn run_job<S: Source, T: Sink>(
             output,
             change,
             exact: _,
-        } => plain(rewrite(source, sink, MAX_BYTES, input, output, &change)),
+        } => rewritten(rewrite(source, sink, MAX_BYTES, input, output, &change), &change),
         Job::ToPcm {
             input,
             format,
@@ -136,7 +136,10 @@ pub fn run_job<S: Source, T: Sink>(
             exact,
             change,
             words,
-        } => plain(from_pcm_words(source, sink, MAX_BYTES, format, exact, &change, words)),
+        } => sampled(
+            from_pcm_words(source, sink, MAX_BYTES, format, exact, &change, words),
+            &change,
+        ),
         Job::ToBits {
             input,
             bits,

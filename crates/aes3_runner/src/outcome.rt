@@ -1,21 +1,23 @@
-//! What a job that ended well answers, and what standard error is told of it beside its output.
+//! What a job answers that read its input to the end.
 
-ghost use Rattle.std.specs.Prelude.{◌≡◌, ◌<◌, ◌≤◌, ◌+◌, ◌++◌, ◌^◌, decimal, length};
-ghost use Rattle.arrayvec.specs.ArrayVec.{array_vec_len};
-ghost use Rattle.aes3_cell.specs.Ends.{Grew};
-ghost use Rattle.aes3_cell.specs.Writes.{Wrote};
-ghost use Rattle.aes3_input.specs.Running.{movement_of};
-ghost use Rattle.aes3_runner.specs.JobRuns.{end_status};
-ghost use Rattle.aes3_runner.specs.Lines.{remark_line};
-ghost use Rattle.aes3_runner.specs.Outcomes.{RemarkTold, answer_as, exactness, of_counts, of_exact};
-ghost use Rattle.aes3_runner.specs.Outcomes.{of_filled};
+ghost use Rattle.std.specs.Prelude.{◌≡◌, [], ◌∷◌, replicate};
+ghost use Rattle.std.specs.Option.{unwrap_or};
+ghost use Rattle.aes3_engine.specs.RewritingRuns.{taken_of};
+ghost use Rattle.aes3_runner.specs.Outcomes.{answer_as, exactness, of_counts, of_exact, of_filled};
+ghost use Rattle.aes3_runner.specs.Outcomes.{of_rewritten, of_samples, of_words};
 
-use crate::job_run::exit_status;
-use crate::refusal::{LINE_LEN, append, append_number, refuse};
-use aes3_cell::{Counts, Fault, RunError, Sink, write_all};
-use aes3_engine::{Exact, Filled};
-use aes3_job::{Job, Observer};
-use arrayvec::ArrayVec;
+use aes3_cell::{Counts, RunError};
+use aes3_engine::{EncodedWords, Exact, Filled, Rewritten};
+use aes3_status::{Change, Settings, Taken};
+
+/// The settings of a channel, and which of them some block took.
+#[derive(Clone, Copy, PartialEq, Eq)]
+pub struct Met {
+    /// The settings, where some are given.
+    pub settings: Option<Settings>,
+    /// Which of them some block took.
+    pub taken: Taken,
+}
 
 /// What standard error is told of a job that read its input to the end.
 #[derive(Clone, Copy, PartialEq, Eq)]
@@ -24,6 +26,10 @@ pub enum Remark {
     Nothing,
     /// So many frames fill the time between blocks.
     Filled { frames: u64 },
+    /// So many words stand before the first block, and are left out.
+    LeftOut { words: u64 },
+    /// These settings were given for channel 1 and channel 2: those that no block took are told.
+    Settings { first: Met, second: Met },
     /// The block at this place could not be given exactly, and neither it nor what is behind it is:
     /// the job is refused.
     Inexact { at: u64 },
@@ -66,6 +72,25 @@ pub(crate) fn filled(ran: Result<Filled, RunError>) -> Result<Outcome, RunError>
     }
 }
 
+/// The answer of a job that reads words which may begin inside a block.
+pub(crate) fn encoded(ran: Result<EncodedWords, RunError>) -> Result<Outcome, RunError>
+    ensures { result ≡ answer_as of_words ran }
+{
+    match ran {
+        Ok(encoded) => Ok(Outcome {
+            counts: encoded.counts,
+            remark: if encoded.left_out == 0 {
+                Remark::Nothing
+            } else {
+                Remark::LeftOut {
+                    words: encoded.left_out,
+                }
+            },
+        }),
+        Err(error) => Err(error),
+    }
+}
+
 /// What is remarked on a job that gives blocks exactly, up to the first that it can't.
 fn exactness(refused: Option<u64>) -> Remark
     ensures { result ≡ exactness refused }
@@ -89,59 +114,64 @@ pub(crate) fn exact(ran: Result<Exact, RunError>) -> Result<Outcome, RunError>
     }
 }
 
-/// Writes the line of how many frames fill, as one buffer.
-///
-/// # Errors
-/// The sink's fault; then it has taken a front of the line.
-fn put_filled<T: Sink>(frames: u64, sink: &mut T) -> Result<(), Fault>
-    requires room { T.failed sink.old + 1 < 2 ^ 64 }
-    ensures { Wrote T.taken T.failed sink.old sink.new (remark_line (Remark.Filled frames)) result }
+/// The answer of a job that changes the channel status of blocks.
+pub(crate) fn rewritten(
+    ran: Result<Rewritten, RunError>,
+    change: &Change,
+) -> Result<Outcome, RunError>
+    ensures { result ≡ answer_as (of_rewritten change.now) ran }
 {
-    let mut line: ArrayVec<u8, LINE_LEN> = ArrayVec::new();
-    append(&mut line, b"aes3: filled ");
-    append_number(&mut line, frames);
-    append(&mut line, b" frames\n");
-    write_all(sink, line.as_slice())
-}
-
-/// Tells how many frames fill on `errors`, which are flushed and whose own faults change nothing.
-fn tell_filled<E: Sink>(frames: u64, errors: &mut E)
-    requires { E.failed errors.old + 1 < 2 ^ 64 }
-    ensures line { E.failed errors.new ≡ E.failed errors.old
-        → Grew (E.taken errors.old) (E.taken errors.new) (remark_line (Remark.Filled frames)) }
-    ensures errors { E.failed errors.new ≤ E.failed errors.old + 1 }
-    ensures left { E.failed errors.new ≡ E.failed errors.old
-        → E.passed errors.new ≡ E.taken errors.new }
-{
-    if put_filled(frames, errors).is_ok() {
-        let _ = errors.flush();
+    match ran {
+        Ok(rewritten) if rewritten.counts.blocks == 0 => plain(Ok(rewritten.counts)),
+        Ok(rewritten) => Ok(Outcome {
+            counts: rewritten.counts,
+            remark: Remark::Settings {
+                first: Met {
+                    settings: change.settings1,
+                    taken: rewritten.first,
+                },
+                second: Met {
+                    settings: change.settings2,
+                    taken: rewritten.second,
+                },
+            },
+        }),
+        Err(error) => Err(error),
     }
 }
 
-/// Tells on `errors` what there is to remark on a job, or that it is refused after all, which the
-/// observer is told too, and answers its exit status.
-pub(crate) fn tell_outcome<E: Sink, O: Observer>(
-    job: &Job,
-    outcome: Outcome,
-    errors: &mut E,
-    observer: &mut O,
-) -> u8
-    requires { E.failed errors.old + 1 < 2 ^ 64 }
-    ensures status { result ≡ end_status job.now outcome }
-    ensures told { RemarkTold outcome.remark
-        (movement_of E.taken E.failed errors.old errors.new) }
-    ensures errors { E.failed errors.new ≤ E.failed errors.old + 1 }
-    ensures left { E.passed errors.old ≡ E.taken errors.old
-        → E.failed errors.new ≡ E.failed errors.old → E.passed errors.new ≡ E.taken errors.new }
-    ensures silent { O.told observer.new ≡ O.told observer.old }
-    ensures same { O.is_silent observer.new ≡ O.is_silent observer.old }
+/// What the status that blocks of samples have takes of settings, where some are given.
+fn taken_of(status: &Option<[u8; 24]>, settings: &Option<Settings>) -> Taken
+    ensures { result ≡ taken_of settings.now
+        (unwrap_or status.now (replicate 24 0) ∷ []) }
 {
-    match outcome.remark {
-        Remark::Nothing => exit_status(job, &outcome.counts),
-        Remark::Filled { frames } => {
-            tell_filled(frames, errors);
-            exit_status(job, &outcome.counts)
-        }
-        Remark::Inexact { at } => refuse(RunError::Inexact { at }, errors, observer),
+    let Some(settings) = settings else {
+        return Taken::NOTHING;
+    };
+    let mut taken = Taken::NOTHING;
+    taken.add(&status.unwrap_or([0; 24]), settings);
+    taken
+}
+
+/// The answer of a job that makes blocks of samples: their status is the same in all.
+pub(crate) fn sampled(ran: Result<Counts, RunError>, change: &Change) -> Result<Outcome, RunError>
+    ensures { result ≡ answer_as (of_samples change.now) ran }
+{
+    match ran {
+        Ok(counts) if counts.bytes == 0 => plain(Ok(counts)),
+        Ok(counts) => Ok(Outcome {
+            counts,
+            remark: Remark::Settings {
+                first: Met {
+                    settings: change.settings1,
+                    taken: taken_of(&change.status1, &change.settings1),
+                },
+                second: Met {
+                    settings: change.settings2,
+                    taken: taken_of(&change.status2, &change.settings2),
+                },
+            },
+        }),
+        Err(error) => Err(error),
     }
 }

@@ -1,12 +1,12 @@
-use Rattle.aes3_runner.specs.Outcomes.{of_counts, of_exact, of_filled}
+use Rattle.aes3_runner.specs.Outcomes.{of_counts, of_exact, of_filled, of_rewritten, of_samples, of_words}
 use Rattle.aes3_runner.proofs.Flushes.{run-of, sums-of, told-ran}
 use Rattle.aes3_runner.proofs.job_run.run_job.Goals as goal
 
 pub returns-in-Encode-clause-ran : goal.returns-in-Encode-clause-ran
-returns-in-Encode-clause-ran g c = run-of c.in-Encode.is (told-ran of_counts c.plain.ensures c.encode_words.ensures.run)
+returns-in-Encode-clause-ran g c = run-of c.in-Encode.is (told-ran of_words c.encoded.ensures c.encode_words.ensures.run)
 
 pub returns-in-Decode-clause-ran : goal.returns-in-Decode-clause-ran
-returns-in-Decode-clause-ran g c = run-of c.in-Decode.is (told-ran of_counts c.plain-in-Decode.ensures c.decode_words.ensures.run)
+returns-in-Decode-clause-ran g c = run-of c.in-Decode.is (told-ran of_counts c.plain.ensures c.decode_words.ensures.run)
 
 pub returns-in-Normal-clause-ran : goal.returns-in-Normal-clause-ran
 returns-in-Normal-clause-ran g c = run-of c.in-Normal.is (told-ran of_counts c.plain-in-Normal.ensures c.normalise.ensures.run)
@@ -33,7 +33,7 @@ pub returns-in-Cut-clause-ran : goal.returns-in-Cut-clause-ran
 returns-in-Cut-clause-ran g c = run-of c.in-Cut.is (told-ran of_counts c.plain-in-Cut.ensures c.cut.ensures.run)
 
 pub returns-in-Rewrite-clause-ran : goal.returns-in-Rewrite-clause-ran
-returns-in-Rewrite-clause-ran g c = run-of c.in-Rewrite.is (told-ran of_counts c.plain-in-Rewrite.ensures c.rewrite.ensures.run)
+returns-in-Rewrite-clause-ran g c = run-of c.in-Rewrite.is (told-ran (of_rewritten c.in-Rewrite.change) c.rewritten.ensures c.rewrite.ensures.run)
 
 pub returns-in-ToPcm-clause-ran : goal.returns-in-ToPcm-clause-ran
 returns-in-ToPcm-clause-ran g c = run-of c.in-ToPcm.is c.run_samples.ensures.ran
@@ -47,7 +47,7 @@ returns-in-ToExactPcm-clause-ran g c =
     run-of c.in-ToExactPcm.is (told-ran of_exact c.exact.ensures c.to_exact_pcm.ensures.run)
 
 pub returns-in-FromPcm-clause-ran : goal.returns-in-FromPcm-clause-ran
-returns-in-FromPcm-clause-ran g c = run-of c.in-FromPcm.is (told-ran of_counts c.plain-in-FromPcm.ensures c.from_pcm_words.ensures.run)
+returns-in-FromPcm-clause-ran g c = run-of c.in-FromPcm.is (told-ran (of_samples c.in-FromPcm.change) c.sampled.ensures c.from_pcm_words.ensures.run)
 
 pub returns-in-ToBits-clause-ran : goal.returns-in-ToBits-clause-ran
 returns-in-ToBits-clause-ran g c = run-of c.in-ToBits.is (told-ran of_counts c.plain-in-ToBits.ensures c.to_bits.ensures.run)

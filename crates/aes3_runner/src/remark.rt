@@ -1,0 +1,142 @@
+//! What standard error is told of a job that read its input to the end.
+
+ghost use Rattle.std.specs.Prelude.{◌≡◌, ◌<◌, ◌≤◌, ◌+◌, ◌++◌, ◌^◌, decimal, length};
+ghost use Rattle.arrayvec.specs.ArrayVec.{array_vec_len};
+ghost use Rattle.aes3_cell.specs.Writes.{Wrote};
+ghost use Rattle.aes3_input.specs.Running.{movement_of};
+ghost use Rattle.aes3_runner.specs.JobRuns.{end_status};
+ghost use Rattle.aes3_runner.specs.Lines.{filled_line, left_out_line, met_lines, remark_line};
+ghost use Rattle.aes3_runner.specs.Outcomes.{RemarkTold};
+
+use crate::job_run::exit_status;
+use crate::outcome::{Met, Outcome, Remark};
+use crate::refusal::{LINE_LEN, append, append_number, put_refusal, refuse};
+use aes3_cell::{Fault, RunError, Sink, write_all};
+use aes3_job::{Job, Observer};
+use aes3_settings::{UNTAKEN_LINES, untaken_line};
+use arrayvec::ArrayVec;
+
+/// Writes the line of how many frames fill, as one buffer.
+///
+/// # Errors
+/// The sink's fault; then it has taken a front of the line.
+fn put_filled<T: Sink>(frames: u64, sink: &mut T) -> Result<(), Fault>
+    requires room { T.failed sink.old + 1 < 2 ^ 64 }
+    ensures { Wrote T.taken T.failed sink.old sink.new (filled_line frames) result }
+{
+    let mut line: ArrayVec<u8, LINE_LEN> = ArrayVec::new();
+    append(&mut line, b"aes3: filled ");
+    append_number(&mut line, frames);
+    append(&mut line, b" frames\n");
+    write_all(sink, line.as_slice())
+}
+
+/// Writes the line of how many words are left out, as one buffer.
+///
+/// # Errors
+/// The sink's fault; then it has taken a front of the line.
+fn put_left_out<T: Sink>(words: u64, sink: &mut T) -> Result<(), Fault>
+    requires room { T.failed sink.old + 1 < 2 ^ 64 }
+    ensures { Wrote T.taken T.failed sink.old sink.new (left_out_line words) result }
+{
+    let mut line: ArrayVec<u8, LINE_LEN> = ArrayVec::new();
+    append(&mut line, b"aes3: left out ");
+    append_number(&mut line, words);
+    append(&mut line, b" words before the first block\n");
+    write_all(sink, line.as_slice())
+}
+
+/// Writes the lines of a channel's settings that no block took.
+///
+/// # Errors
+/// The sink's fault; then it has taken a front of the lines.
+fn put_untaken<T: Sink>(channel: u8, met: &Met, sink: &mut T) -> Result<(), Fault>
+    requires room { T.failed sink.old + 1 < 2 ^ 64 }
+    ensures { Wrote T.taken T.failed sink.old sink.new (met_lines channel met.now) result }
+{
+    let Some(settings) = &met.settings else {
+        return Ok(());
+    };
+    'lines: for at in 0..UNTAKEN_LINES {
+        let line = untaken_line(channel, settings, &met.taken, at);
+        match write_all(sink, line.as_bytes()) {
+            Ok(()) => {}
+            Err(fault) => return Err(fault),
+        }
+    }
+    Ok(())
+}
+
+/// Writes those of both channels.
+///
+/// # Errors
+/// The sink's fault; then it has taken a front of the lines.
+fn put_settings<T: Sink>(first: &Met, second: &Met, sink: &mut T) -> Result<(), Fault>
+    requires room { T.failed sink.old + 1 < 2 ^ 64 }
+    ensures { Wrote T.taken T.failed sink.old sink.new
+        (met_lines 1 first.now ++ met_lines 2 second.now) result }
+{
+    match put_untaken(1, first, sink) {
+        Ok(()) => put_untaken(2, second, sink),
+        Err(fault) => Err(fault),
+    }
+}
+
+/// Writes what there is to remark.
+///
+/// # Errors
+/// The sink's fault; then it has taken a front of the lines.
+fn put_remark<T: Sink>(remark: &Remark, sink: &mut T) -> Result<(), Fault>
+    requires room { T.failed sink.old + 1 < 2 ^ 64 }
+    ensures { Wrote T.taken T.failed sink.old sink.new (remark_line remark.now) result }
+{
+    match remark {
+        Remark::Nothing => Ok(()),
+        Remark::Filled { frames } => put_filled(*frames, sink),
+        Remark::LeftOut { words } => put_left_out(*words, sink),
+        Remark::Settings { first, second } => put_settings(first, second, sink),
+        Remark::Inexact { at } => put_refusal(RunError::Inexact { at: *at }, sink),
+    }
+}
+
+/// Tells what there is to remark on `errors`, which are flushed and whose own faults change nothing.
+fn tell_remark<E: Sink>(remark: &Remark, errors: &mut E)
+    requires { E.failed errors.old + 1 < 2 ^ 64 }
+    ensures told { RemarkTold (remark_line remark.now)
+        (movement_of E.taken E.failed errors.old errors.new) }
+    ensures errors { E.failed errors.new ≤ E.failed errors.old + 1 }
+    ensures left { E.failed errors.new ≡ E.failed errors.old
+        → E.passed errors.new ≡ E.taken errors.new }
+{
+    if put_remark(remark, errors).is_ok() {
+        let _ = errors.flush();
+    }
+}
+
+/// Tells on `errors` what there is to remark on a job, or that it is refused after all, which the
+/// observer is told too, and answers its exit status.
+pub(crate) fn tell_outcome<E: Sink, O: Observer>(
+    job: &Job,
+    outcome: &Outcome,
+    errors: &mut E,
+    observer: &mut O,
+) -> u8
+    requires { E.failed errors.old + 1 < 2 ^ 64 }
+    ensures status { result ≡ end_status job.now outcome.now }
+    ensures told { RemarkTold (remark_line outcome.now.remark)
+        (movement_of E.taken E.failed errors.old errors.new) }
+    ensures errors { E.failed errors.new ≤ E.failed errors.old + 1 }
+    ensures left { E.passed errors.old ≡ E.taken errors.old
+        → E.failed errors.new ≡ E.failed errors.old → E.passed errors.new ≡ E.taken errors.new }
+    ensures silent { O.told observer.new ≡ O.told observer.old }
+    ensures same { O.is_silent observer.new ≡ O.is_silent observer.old }
+{
+    match outcome.remark {
+        Remark::Nothing => exit_status(job, &outcome.counts),
+        Remark::Inexact { at } => refuse(RunError::Inexact { at }, errors, observer),
+        _ => {
+            tell_remark(&outcome.remark, errors);
+            exit_status(job, &outcome.counts)
+        }
+    }
+}
