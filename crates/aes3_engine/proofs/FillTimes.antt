@@ -20,17 +20,13 @@ use Rattle.aes3_engine.specs.Filling.{Placed, placed, frame_cells, frame_bytes, 
 use Rattle.aes3_engine.specs.Filling.{repeated, between, filled_behind, filled, InRow, StandsInTime, KeepsTime}
 use Rattle.aes3_engine.specs.Filling.{frames_filled_behind, frames_filled}
 use Rattle.aes3_engine.specs.declared.filling.Progress.{Progress}
-use Rattle.aes3_engine.specs.FillSteps.{last_of, reached, progress_of}
+use Rattle.aes3_engine.specs.FillSteps.{last_of, Apart, reached, progress_of}
 use Rattle.aes3_frame.proofs.FileLaws.{length-bytes}
 
--- blocks have their subframes, and each stands behind all of the one before it
+-- blocks have their subframes
 abbrev pub Sized : List Placed → Type 0
 Sized [] = Unit {0}
 Sized (x ∷ more) = (length x.block ≡ block_slots) × Sized more
-
-abbrev pub Apart : ℕ → List Placed → Type 0
-Apart p [] = Unit {0}
-Apart p (x ∷ more) = (p ≤ x.place) × Apart (x.place + block_len) more
 
 sized : (r : List Report) → All IsBlock (wholes r) → Sized (placed r)
 sized [] h = tt
@@ -46,11 +42,11 @@ apart p (Marked at t wrong ∷ r) s = let h = s.0 in apart p r (spaced-weaker p 
 apart p (Fault at cell why ∷ r) s = let h = s.0 in apart p r (spaced-weaker p (suc at) r (omega arith) s.1)
 apart p (Unfinished at cells ∷ r) s = let h = s.0 in apart p r (spaced-weaker p (suc at) r (omega arith) s.1)
 
-sized-of : (c : List Level) → Sized (placed (reports c))
+pub sized-of : (c : List Level) → Sized (placed (reports c))
 unfolding blocks
 sized-of c = sized (reports c) (blocks-lawful c)
 
-apart-of : (c : List Level) → Apart 0 (placed (reports c))
+pub apart-of : (c : List Level) → Apart 0 (placed (reports c))
 apart-of c = apart 0 (reports c) (spaced-reports c)
 
 -- how many frames there are
@@ -180,7 +176,7 @@ front fill p x y (z ∷ a) b h s q =
 last-nothing : (fill : Fill) (p : ℕ) (y : Placed) (b : List Placed) → b ≡ [] → filled_behind fill p y b ≡ []
 last-nothing fill p y b e = ap (filled_behind fill p y) e
 
-keeps-time : (fill : Fill) (p : ℕ) (xs : List Placed) → Sized xs → Apart p xs → KeepsTime (filled fill xs) xs
+pub keeps-time : (fill : Fill) (p : ℕ) (xs : List Placed) → Sized xs → Apart p xs → KeepsTime (filled fill xs) xs
 unfolding frame_bytes
 keeps-time fill p [] s q = refl
 keeps-time fill p (x ∷ more) s q = go
@@ -225,7 +221,7 @@ keeps-time fill p (x ∷ more) s q = go
         }
 
 -- all blocks with their filling are as many frames as stand before the last and in it
-placed-count : (r : List Report) → length (placed r) ≡ length (wholes r)
+pub placed-count : (r : List Report) → length (placed r) ≡ length (wholes r)
 placed-count [] = refl
 placed-count (Whole at s b ∷ r) = ap suc (placed-count r)
 placed-count (Marked at s wrong ∷ r) = placed-count r
@@ -254,13 +250,10 @@ frames-placed fill (x ∷ more) k q e =
     let n = ap (λ (v : Progress). v.frames) f in
     omega arith
 
-pub frames-told : (fill : Fill) (c : List Level) (k : Progress) (n : ℕ) → Some k ≡ progress_of fill (placed (reports c))
-    → n ≡ length (wholes (reports c)) → k.frames ≡ block_frames * n + frames_filled (placed (reports c))
+pub frames-told : (fill : Fill) (xs : List Placed) (k : Progress) (n : ℕ) → Apart 0 xs → Some k ≡ progress_of fill xs
+    → n ≡ length xs → k.frames ≡ block_frames * n + frames_filled xs
 unfolding block_frames
-frames-told fill c k n e m =
-    let t = frames-placed fill (placed (reports c)) k (apart-of c) e in
-    let l = placed-count (reports c) in
-    omega arith
+frames-told fill xs k n q e m = let t = frames-placed fill xs k q e in omega arith
 
 pub no-frames : (fill : Fill) (xs : List Placed) → None ≡ progress_of fill xs → 0 ≡ frames_filled xs
 no-frames fill [] e = refl
@@ -281,24 +274,12 @@ length-behind fill p x (y ∷ more) s =
     let t = length-behind fill p y more s.1 in
     omega arith
 
-length-placed : (fill : Fill) (xs : List Placed) → Sized xs
-    → length (filled fill xs) ≡ 8 * (192 * length xs + frames_filled xs)
+pub length-filled : (fill : Fill) (xs : List Placed) → Sized xs
+    → length (filled fill xs) ≡ frame_bytes * (block_frames * length xs + frames_filled xs)
 unfolding frame_bytes block_frames
-length-placed fill [] s = refl
-length-placed fill (x ∷ more) s =
+length-filled fill [] s = refl
+length-filled fill (x ∷ more) s =
     let a = length-append (block_samples x.block) (filled_behind fill x.place x more) in
     let k = length-block x.block s.0 in
     let t = length-behind fill x.place x more s in
     omega arith
-
-pub length-filled : (fill : Fill) (c : List Level)
-    → length (filled fill (placed (reports c)))
-    ≡ frame_bytes * (block_frames * length (blocks c) + frames_filled (placed (reports c)))
-unfolding frame_bytes block_frames blocks
-length-filled fill c =
-    let t = length-placed fill (placed (reports c)) (sized-of c) in
-    let l = placed-count (reports c) in
-    omega arith
-
-pub filled-in-time : (fill : Fill) (c : List Level) → KeepsTime (filled fill (placed (reports c))) (placed (reports c))
-filled-in-time fill c = keeps-time fill 0 (placed (reports c)) (sized-of c) (apart-of c)

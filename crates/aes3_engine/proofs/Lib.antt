@@ -18,4 +18,6 @@ pub mod BitsBack
 pub mod FillSteps
 pub mod ExactSamples
 pub mod FillTimes
+pub mod GivenBlocks
+pub mod MendedSteps
 pub mod FillRuns

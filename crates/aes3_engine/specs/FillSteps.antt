@@ -1,6 +1,7 @@
 -- What a block adds behind others where samples keep time, and what has to be known of those for it.
-use Rattle.std.specs.Prelude.{ℕ, List, [], ◌∷◌, ◌++◌, Option, Some, None, ◌+◌, ◌-◌}
+use Rattle.std.specs.Prelude.{ℕ, List, [], ◌∷◌, ◌++◌, Option, Some, None, ◌+◌, ◌-◌, ◌≤◌}
 use Rattle.aes3_frame.specs.declared.fill.Fill.{Fill}
+use Rattle.aes3_frame.specs.Blocks.{block_len}
 use Rattle.aes3_frame.specs.Samples.{block_samples}
 use Rattle.aes3_lock.specs.declared.report.Report.{Report}
 use Rattle.aes3_input.specs.Taking.{Writing}
@@ -14,6 +15,11 @@ use Rattle.aes3_engine.specs.Filling.{filled}
 abbrev pub last_of : Placed → List Placed → Placed
 last_of x [] = x
 last_of x (y ∷ more) = last_of y more
+
+-- each block stands behind all of the one before it, and the first at place p or behind it
+abbrev pub Apart : ℕ → List Placed → Type 0
+Apart p [] = Unit {0}
+Apart p (x ∷ more) = (p ≤ x.place) × Apart (x.place + block_len) more
 
 -- what the blocks ys write behind the blocks xs
 abbrev pub behind_blocks : Fill → List Placed → List Placed → List ℕ

@@ -1,9 +1,13 @@
 -- Samples that keep time: the blocks' samples, with frames between them that fill the time that no block gives.
-use Rattle.std.specs.Prelude.{ℕ, List, [], ◌∷◌, ◌++◌, Bool, ◌+◌, ◌-◌, ◌*◌, ◌/◌, ◌≡◌, ◌<◌, ◌≤◌, length, drop, replicate}
-use Rattle.std.specs.List.{flat_map}
+use Rattle.std.specs.Prelude.{ℕ, List, [], ◌∷◌, ◌++◌, Bool, true, false, ◌+◌, ◌-◌, ◌*◌, ◌/◌, ◌≡◌, ◌<◌, ◌≤◌, length}
+use Rattle.std.specs.Prelude.{drop, replicate}
+use Rattle.std.specs.List.{filter, flat_map}
+use Rattle.aes3_level.specs.declared.level.Level.{Level}
+use Rattle.aes3_slot.specs.Reading.{read_slots}
 use Rattle.aes3_frame.specs.declared.fill.Fill.{Fill}
 use Rattle.aes3_frame.specs.declared.fill.Fill.TheVariants.{Zero, Hold}
-use Rattle.aes3_frame.specs.Blocks.{block_len}
+use Rattle.aes3_frame.specs.Blocks.{block_len, block_slots, zero_block}
+use Rattle.aes3_frame.specs.Mending.{mended}
 use Rattle.aes3_frame.specs.Samples.{block_samples}
 use Rattle.aes3_lock.specs.declared.report.Report.{Report}
 use Rattle.aes3_lock.specs.declared.report.Report.TheVariants.{Whole, Marked, Fault, Unfinished}
@@ -20,6 +24,33 @@ placed (Whole at s b ∷ r) = record { place = at; block = b } ∷ placed r
 placed (Marked at s wrong ∷ r) = placed r
 placed (Fault at cell why ∷ r) = placed r
 placed (Unfinished at cells ∷ r) = placed r
+
+-- the same with the marked blocks in order among them, read from the cells, their subframes of wrong parity filled
+-- behind the block before; the first behind block b
+abbrev pub mended_from : Fill → List Level → List (List Bool) → List Report → List Placed
+mended_from fill c b [] = []
+mended_from fill c b (Whole at s own ∷ r) = record { place = at; block = own } ∷ mended_from fill c own r
+mended_from fill c b (Marked at s wrong ∷ r) =
+    record { place = at; block = mended fill b (read_slots block_slots (drop at c)) }
+    ∷ mended_from fill c (mended fill b (read_slots block_slots (drop at c))) r
+mended_from fill c b (Fault at cell why ∷ r) = mended_from fill c b r
+mended_from fill c b (Unfinished at cells ∷ r) = mended_from fill c b r
+
+-- the blocks that are given of the reports on cells, with the marked ones or without; before the first stand zeros
+abbrev pub given : Bool → Fill → List Level → List Report → List Placed
+given true fill c r = mended_from fill c zero_block r
+given false fill c r = placed r
+
+-- how many marked blocks are given
+abbrev pub is_marked : Report → Bool
+is_marked (Whole at s b) = false
+is_marked (Marked at s wrong) = true
+is_marked (Fault at cell why) = false
+is_marked (Unfinished at cells) = false
+
+abbrev pub marked_given : Bool → List Report → ℕ
+marked_given true r = length (filter is_marked r)
+marked_given false r = 0
 
 -- how many cells and how many bytes of samples a frame has, and how many frames a block
 unfoldable pub frame_cells : ℕ

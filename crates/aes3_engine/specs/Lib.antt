@@ -9,4 +9,5 @@ pub mod ValidSamples
 pub mod Filling
 pub mod ExactSamples
 pub mod FillSteps
+pub mod MendSteps
 pub mod FillRuns

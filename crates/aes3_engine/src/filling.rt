@@ -1,7 +1,7 @@
 //! Cells to samples that keep time: frames between whole blocks fill the time that no block gives.
 
 ghost use Rattle.std.specs.Prelude.{◌≡◌, ℕ, ◌+◌, ◌-◌, ◌*◌, ◌/◌, ◌<◌, ◌≤◌, ◌^◌, ◌++◌, List, [], ◌∷◌, Bool};
-ghost use Rattle.std.specs.Prelude.{IfOk, Some, None, drop};
+ghost use Rattle.std.specs.Prelude.{IfOk, Some, None, drop, false, length};
 ghost use Rattle.aes3_cell.specs.Ends.{Grew, Told};
 ghost use Rattle.aes3_cell.specs.Writes.{Wrote};
 ghost use Rattle.aes3_level.specs.declared.level.Level.{Level};
@@ -12,13 +12,14 @@ ghost use Rattle.aes3_lock.specs.Tallies.{IsTallyOf};
 ghost use Rattle.aes3_input.specs.Inputs.{cells_of};
 ghost use Rattle.aes3_input.specs.Running.{InputRun, movement_of};
 ghost use Rattle.aes3_pcm.specs.Formats.{narrowed};
-ghost use Rattle.aes3_engine.specs.Filling.{InRow, KeepsTime, block_frames, filled, filling};
-ghost use Rattle.aes3_engine.specs.Filling.{frame_bytes, frames_between, frames_filled, placed};
-ghost use Rattle.aes3_engine.specs.Filling.{repeated};
+ghost use Rattle.aes3_engine.specs.Filling.{InRow, KeepsTime, Placed, block_frames, filled, filling};
+ghost use Rattle.aes3_engine.specs.Filling.{frame_bytes, frames_between, frames_filled, given};
+ghost use Rattle.aes3_engine.specs.Filling.{marked_given, placed, repeated};
 ghost use Rattle.aes3_engine.specs.FillRuns.{WroteFrames, filled_cells};
-ghost use Rattle.aes3_engine.specs.FillSteps.{bytes_behind, fill_writing, filling_before, first_of};
+ghost use Rattle.aes3_engine.specs.FillSteps.{Apart, bytes_behind, fill_writing, filling_before, first_of};
 ghost use Rattle.aes3_engine.specs.FillSteps.{progress_behind, progress_of, reached};
 
+use crate::mended::fill_mended;
 use crate::samples::put_narrowed;
 use aes3_block::{BLOCK_BYTES, Block, samples_of_block};
 use aes3_cell::{Counts, Fault, Form, RunError, Sink, Source, write_all};
@@ -41,6 +42,29 @@ pub struct Filled {
     pub counts: Counts,
     /// Frames that stand between blocks, where none gives the time.
     pub frames: u64,
+    /// Marked blocks that are given.
+    pub marked: u64,
+}
+
+/// The counts of a run over cells that shows no preamble.
+pub(crate) fn counts_of(bytes: u64, cells: u64, tally: Tally) -> Counts
+    ensures { result ≡ record {
+      bytes = bytes;
+      cells = cells;
+      blocks = tally.blocks;
+      faults = tally.faults;
+      unfinished = tally.unfinished;
+      marks = 0;
+    } }
+{
+    Counts {
+        bytes,
+        cells,
+        blocks: tally.blocks,
+        faults: tally.faults,
+        unfinished: tally.unfinished,
+        marks: 0,
+    }
 }
 
 /// How far samples of 32 bits have come.
@@ -63,11 +87,14 @@ fn frames_between(first: u64, at: u64) -> u64
     cells / FRAME_CELLS + cells % FRAME_CELLS / (FRAME_CELLS / 2)
 }
 
-/// How many frames are beside those of so many blocks.
-fn beside_blocks(frames: u64, blocks: u64) -> u64
-    ensures { (beside : ℕ) → frames ≡ block_frames * blocks + beside → result ≡ beside }
+/// How many frames are beside those of so many blocks, and of so many marked ones.
+fn beside_blocks(frames: u64, blocks: u64, marked: u64) -> u64
+    ensures { (beside : ℕ) → frames ≡ block_frames * (blocks + marked) + beside
+        → result ≡ beside }
 {
-    frames.saturating_sub(BLOCK_FRAMES.saturating_mul(blocks))
+    frames
+        .saturating_sub(BLOCK_FRAMES.saturating_mul(blocks))
+        .saturating_sub(BLOCK_FRAMES.saturating_mul(marked))
 }
 
 /// The samples of a frame that fills the time behind the samples of a block.
@@ -119,16 +146,16 @@ fn put_narrowed_frames<T: Sink>(
 
 /// Writes the samples of blocks, and what fills the time between them.
 #[derive(Drop)]
-struct FilledBlocks {
-    fill: Fill,
-    format: SampleFormat,
+pub(crate) struct FilledBlocks {
+    pub(crate) fill: Fill,
+    pub(crate) format: SampleFormat,
     progress: Option<Progress>,
-    tally: Tally,
+    pub(crate) tally: Tally,
 }
 
 impl FilledBlocks {
     /// A reporter that has taken no report.
-    fn new(fill: Fill, format: SampleFormat) -> Self
+    pub(crate) fn new(fill: Fill, format: SampleFormat) -> Self
         ensures fill { result.fill ≡ fill }
         ensures format { result.format ≡ format }
         ensures progress { result.progress ≡ None }
@@ -142,16 +169,16 @@ impl FilledBlocks {
         }
     }
 
-    /// How many frames fill the time between the blocks so far: of all frames those that are of no
-    /// block.
-    fn frames(&self) -> u64
-        ensures { (c : List Level) → IsTallyOf self.now.tally (reports c)
-            → self.now.progress ≡ progress_of self.now.fill (placed (reports c))
-            → result ≡ frames_filled (placed (reports c)) }
+    /// How many frames fill the time between the blocks that it has written, of which so many are
+    /// marked: of all frames those that are of no block.
+    pub(crate) fn frames(&self, marked: u64) -> u64
+        ensures { (xs : List Placed) → Apart 0 xs
+            → self.now.progress ≡ progress_of self.now.fill xs
+            → self.now.tally.blocks + marked ≡ length xs → result ≡ frames_filled xs }
     {
         match self.progress {
             None => 0,
-            Some(progress) => beside_blocks(progress.frames, self.tally.blocks),
+            Some(progress) => beside_blocks(progress.frames, self.tally.blocks, marked),
         }
     }
 
@@ -197,7 +224,12 @@ impl FilledBlocks {
     ///
     /// # Errors
     /// The sink's fault; then it has taken a front of the bytes.
-    fn put_block<T: Sink>(&mut self, sink: &mut T, at: u64, block: &Block) -> Result<(), Fault>
+    pub(crate) fn put_block<T: Sink>(
+        &mut self,
+        sink: &mut T,
+        at: u64,
+        block: &Block,
+    ) -> Result<(), Fault>
         requires room { T.failed sink.old + 1 < 2 ^ 64 }
         ensures fill { IfOk result (λ _. self.new.fill ≡ self.old.fill) }
         ensures format { IfOk result (λ _. self.new.format ≡ self.old.format) }
@@ -265,16 +297,8 @@ impl Reporter for FilledBlocks {
     }
 }
 
-/// Reads cells from any cell on, and writes samples that keep time: those of the blocks that stand
-/// whole and closed in them, as `to_pcm` does, and before each but the first as many frames as bring
-/// the frames from the first block on to the whole number nearest to its cells from there over 128,
-/// a half going up. Each is zero, or the last frame of the block before. Behind the last block
-/// nothing is written, as no block tells that time goes on. It answers how many frames it has
-/// written that are of no block, too.
-///
-/// # Errors
-/// Those of `to_pcm`.
-pub fn to_filled_pcm<S: Source, T: Sink>(
+/// Reads cells as `to_filled_pcm` does, and gives no marked block.
+fn fill_whole<S: Source, T: Sink>(
     source: &mut S,
     sink: &mut T,
     max_bytes: u64,
@@ -285,16 +309,90 @@ pub fn to_filled_pcm<S: Source, T: Sink>(
     requires source_room { S.failed source.old + 1 < 2 ^ 64 }
     requires sink_room { T.failed sink.old + 1 < 2 ^ 64 }
     requires limit { max_bytes ≤ 2 ^ 40 }
+    ensures run { InputRun (filled_cells input format fill false) max_bytes
+        (S.has_ended source.new) (movement_of S.given S.failed source.old source.new)
+        (movement_of T.taken T.failed sink.old sink.new) result }
+    ensures passed_on { IfOk result (λ _. T.passed sink.new ≡ T.taken sink.new) }
+{
+    let mut taker = Locked::new(FilledBlocks::new(fill, format));
+    match drive(source, sink, max_bytes, input, &mut taker) {
+        Ok((bytes, cells)) => Ok(Filled {
+            counts: counts_of(bytes, cells, taker.reporter.tally),
+            frames: taker.reporter.frames(0),
+            marked: 0,
+        }),
+        Err(error) => Err(error),
+    }
+}
 
-    // Where it answers Ok, exactly the blocks that stand whole and closed in the input are written,
-    // as their samples, with what fills the time between them.
+/// Reads cells as `to_filled_pcm` does.
+fn fill_given<S: Source, T: Sink>(
+    source: &mut S,
+    sink: &mut T,
+    max_bytes: u64,
+    input: Form,
+    format: SampleFormat,
+    fill: Fill,
+    marked: bool,
+) -> Result<Filled, RunError>
+    requires source_room { S.failed source.old + 1 < 2 ^ 64 }
+    requires sink_room { T.failed sink.old + 1 < 2 ^ 64 }
+    requires limit { max_bytes ≤ 2 ^ 40 }
+    ensures run { InputRun (filled_cells input format fill marked) max_bytes
+        (S.has_ended source.new) (movement_of S.given S.failed source.old source.new)
+        (movement_of T.taken T.failed sink.old sink.new) result }
+    ensures passed_on { IfOk result (λ _. T.passed sink.new ≡ T.taken sink.new) }
+{
+    if marked {
+        fill_mended(source, sink, max_bytes, input, format, fill)
+    } else {
+        fill_whole(source, sink, max_bytes, input, format, fill)
+    }
+}
+
+/// Reads cells from any cell on, and writes samples that keep time: those of the blocks that stand
+/// whole and closed in them, as `to_pcm` does, and before each but the first as many frames as bring
+/// the frames from the first block on to the whole number nearest to its cells from there over 128,
+/// a half going up. Each is zero, or the last frame of the block before. Behind the last block
+/// nothing is written, as no block tells that time goes on. It answers how many frames it has
+/// written that are of no block, too.
+///
+/// Where `marked` says so, a marked block is given as a whole one is, but each of its subframes of
+/// wrong parity is filled as time is: its sample is zero, or the one that stands before it in its
+/// channel.
+///
+/// # Errors
+/// Those of `to_pcm`.
+pub fn to_filled_pcm<S: Source, T: Sink>(
+    source: &mut S,
+    sink: &mut T,
+    max_bytes: u64,
+    input: Form,
+    format: SampleFormat,
+    fill: Fill,
+    marked: bool,
+) -> Result<Filled, RunError>
+    requires source_room { S.failed source.old + 1 < 2 ^ 64 }
+    requires sink_room { T.failed sink.old + 1 < 2 ^ 64 }
+    requires limit { max_bytes ≤ 2 ^ 40 }
+
+    // Where it answers Ok, exactly the blocks that are given of the input are written, as their
+    // samples, with what fills the time between them.
     ensures samples { IfOk result (λ _. (b : List ℕ)
         → Told (S.given source.old) (S.given source.new) b
         → Grew (T.taken sink.old) (T.taken sink.new)
+        (narrowed format (filled fill (given marked fill (cells_of input b)
+        (reports (cells_of input b)))))) }
+    // Where no marked block is given, they are those that stand whole and closed in it.
+    ensures whole { IfOk result (λ n. (b : List ℕ)
+        → Told (S.given source.old) (S.given source.new) b
+        → marked_given marked (reports (cells_of input b)) ≡ 0
+        → Grew (T.taken sink.old) (T.taken sink.new)
         (narrowed format (filled fill (placed (reports (cells_of input b)))))) }
-    // Where these blocks stand in a row, these are the samples that `to_pcm` writes.
+    // Where these blocks stand in a row, too, these are the samples that `to_pcm` writes.
     ensures row { IfOk result (λ _. (b : List ℕ) (p : ℕ)
         → Told (S.given source.old) (S.given source.new) b
+        → marked_given marked (reports (cells_of input b)) ≡ 0
         → InRow p (placed (reports (cells_of input b)))
         → Grew (T.taken sink.old) (T.taken sink.new)
         (narrowed format (samples (blocks (cells_of input b))))) }
@@ -302,30 +400,16 @@ pub fn to_filled_pcm<S: Source, T: Sink>(
     ensures time { IfOk result (λ _. (b : List ℕ)
         → Told (S.given source.old) (S.given source.new) b
         → (o : List ℕ) × Grew (T.taken sink.old) (T.taken sink.new) (narrowed format o)
-        × KeepsTime o (placed (reports (cells_of input b)))) }
+        × KeepsTime o (given marked fill (cells_of input b) (reports (cells_of input b)))) }
     // The frames that are written are those of the blocks and those that it tells as filled.
     ensures frames { IfOk result (λ n. WroteFrames format n
         (movement_of T.taken T.failed sink.old sink.new)) }
     // It is a run over cells: Ok is owed, a refusal has its cause, and what was decided before it
     // is written.
-    ensures run { InputRun (filled_cells input format fill) max_bytes (S.has_ended source.new)
-        (movement_of S.given S.failed source.old source.new)
+    ensures run { InputRun (filled_cells input format fill marked) max_bytes
+        (S.has_ended source.new) (movement_of S.given S.failed source.old source.new)
         (movement_of T.taken T.failed sink.old sink.new) result }
     ensures passed_on { IfOk result (λ _. T.passed sink.new ≡ T.taken sink.new) }
 {
-    let mut taker = Locked::new(FilledBlocks::new(fill, format));
-    match drive(source, sink, max_bytes, input, &mut taker) {
-        Ok((bytes, cells)) => Ok(Filled {
-            counts: Counts {
-                bytes,
-                cells,
-                blocks: taker.reporter.tally.blocks,
-                faults: taker.reporter.tally.faults,
-                unfinished: taker.reporter.tally.unfinished,
-                marks: 0,
-            },
-            frames: taker.reporter.frames(),
-        }),
-        Err(error) => Err(error),
-    }
+    fill_given(source, sink, max_bytes, input, format, fill, marked)
 }

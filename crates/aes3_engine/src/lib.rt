@@ -11,6 +11,8 @@ mod exact_samples;
 mod filling;
 /// The laws that samples and bits come back.
 pub mod laws;
+/// From cells to samples that keep time, with the marked blocks among them.
+mod mended;
 /// From cells to cells and block files: `normalise`, `decode` and `cut`.
 mod reading;
 /// Blocks with other channel status, validity bits and user bits.

@@ -30,7 +30,7 @@ pub zeros-payloads : (words : List ℕ) → words ≡ replicate block_slots 0 �
 unfolding zero_block payload_len
 zeros-payloads words e = ap (map payload_of) e ∙ map-replicate payload_of block_slots 0
 
-zero-lawful : is_lawful 0 ≡ true
+pub zero-lawful : is_lawful 0 ≡ true
 unfolding slots_len
 zero-lawful = refl
 

@@ -17,3 +17,4 @@ pub mod ReadCells
 pub mod GatheredWords
 pub mod FourWords
 pub mod FourCells
+pub mod MendedBlocks

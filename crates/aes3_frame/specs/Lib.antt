@@ -9,3 +9,4 @@ pub use Rattle.aes3_level.specs.Cells
 pub use Rattle.aes3_level.specs.Words
 pub use Rattle.aes3_bits.specs.Bits
 pub use Rattle.aes3_slot.specs.Slots
+pub mod Mending

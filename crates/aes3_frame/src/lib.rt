@@ -14,6 +14,8 @@ mod fill;
 mod frame;
 /// The cells of subframes as they are gathered from a line, and the block that they make.
 mod gathered;
+/// Blocks of which some subframes have a wrong parity bit.
+mod mending;
 /// Blocks made of samples.
 mod samples_in;
 /// The words of subframes read from their cells, and how many have odd parity.

@@ -14,12 +14,12 @@ use Rattle.aes3_frame.specs.Blocks.{block_len}
 use Rattle.aes3_lock.specs.declared.report.Report.{Report}
 use Rattle.aes3_lock.specs.declared.report.Report.TheVariants.{Whole, Marked, Fault, Unfinished}
 use Rattle.aes3_lock.specs.Candidates.{begins_block}
-use Rattle.aes3_lock.specs.Outcomes.{Outcome, whole, marked, fault, unfinished}
+use Rattle.aes3_lock.specs.Outcomes.{Outcome, whole, marked, fault, unfinished, wrong_parities}
 use Rattle.aes3_lock.specs.Reports.{told, outcome_at, reports_from, reports, wholes, blocks}
-use Rattle.aes3_lock.specs.Standing.{StandsClosed}
+use Rattle.aes3_lock.specs.Standing.{IsClosed, StandsClosed, SubframesStand}
 use Rattle.aes3_lock.specs.Laws.{PlacedBlock, AreAllBlocks}
 use Rattle.aes3_lock.proofs.StandingBlocks.{block-stands, standing-begins, standing-room, standing-whole}
-use Rattle.aes3_lock.proofs.StandingBlocks.{whole-standing}
+use Rattle.aes3_lock.proofs.StandingBlocks.{whole-standing, marked-standing}
 use Rattle.aes3_lock.proofs.Ends.{outcome_at-none, outcome_at-some}
 use Rattle.aes3_frame.proofs.CellLaws.{block_len_24576}
 
@@ -35,6 +35,15 @@ at-standing b s c e = go (cases_Bool (begins_block c))
     go : (begins_block c ≡ true) ⊎ (begins_block c ≡ false) → StandsClosed b s c
     go (inl t) = whole-standing b s c (same_Some _ _ (sym (outcome_at-some c t) ∙ e))
     go (inr t) = let q : None ≡ Some (whole s b) = sym (outcome_at-none c t) ∙ e in cc
+
+pub at-marked : (s : Level) (n : ℕ) (c : List Level) → outcome_at c ≡ Some (marked s n)
+    → IsClosed c × (0 < n) × ((slots : List (List Bool)) × SubframesStand slots s c × (wrong_parities slots ≡ n))
+at-marked s n c e = go (cases_Bool (begins_block c))
+  where
+    go : (begins_block c ≡ true) ⊎ (begins_block c ≡ false)
+        → IsClosed c × (0 < n) × ((slots : List (List Bool)) × SubframesStand slots s c × (wrong_parities slots ≡ n))
+    go (inl t) = marked-standing s n c (same_Some _ _ (sym (outcome_at-some c t) ∙ e))
+    go (inr t) = let q : None ≡ Some (marked s n) = sym (outcome_at-none c t) ∙ e in cc
 
 pub closed-room : (b : List (List Bool)) (s : Level) (c : List Level) → StandsClosed b s c → block_len ≤ length c
 closed-room b s c h = standing-room (map with_parity b) s c (block-stands b s c h)

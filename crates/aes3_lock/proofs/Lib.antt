@@ -62,3 +62,4 @@ pub mod FrameBlocks
 pub mod Frames
 pub mod Losses
 pub mod ReportPlaces
+pub mod HeldBlocks

@@ -10,7 +10,7 @@ use Rattle.aes3_slot.specs.Rules.{at, AllKept, StandsMark}
 use Rattle.aes3_slot.proofs.OwnPreambles.{only-Z, three, stands-at, stands-room}
 use Rattle.aes3_slot.proofs.Distance.{stands-from}
 use Rattle.aes3_frame.specs.Blocks.{mark_at, block_len}
-use Rattle.aes3_lock.specs.Standing.{IsViable, StandsClosed}
+use Rattle.aes3_lock.specs.Standing.{IsClosed, IsViable, StandsClosed, SubframesStand}
 use Rattle.aes3_lock.proofs.Deciding.{later-marks}
 use Rattle.aes3_lock.proofs.Viability.{viable-kept}
 use Rattle.aes3_lock.proofs.StandingBlocks.{block-stands, standing-kept, standing-mark, standing-room}
@@ -41,17 +41,17 @@ pub viable-stands : (s : Level) (c : List Level) → IsViable s c → 8 ≤ leng
 viable-stands s c v h p t e f =
     subst (StandsMark Z t c) (sym e) (subst (λ u. StandsMark Z u c 0) (sym f) (viable-begins s c v h))
 
--- no Z begins within a block that stands closed
-module _ (b : List (List Bool)) (s : Level) (c : List Level) (h : StandsClosed b s c) (r : ℕ) (t : Level)
-    (z : StandsMark Z t c r) where
+-- no Z begins within subframes of a block that stand closed
+module _ (slots : List (List Bool)) (s : Level) (c : List Level) (h : SubframesStand slots s c) (closed : IsClosed c)
+    (r : ℕ) (t : Level) (z : StandsMark Z t c r) where
   room : r + 8 ≤ length c
   room = stands-room Z t c r z
 
   own : length (take block_len c) ≡ block_len
-  own = length-take-le block_len c (standing-room (map with_parity b) s c (block-stands b s c h))
+  own = length-take-le block_len c (standing-room slots s c h)
 
   k : AllKept mark_at s (take block_len c)
-  k = standing-kept (map with_parity b) s c (block-stands b s c h)
+  k = standing-kept slots s c h
 
   cell : (i : ℕ) → i < block_len → at (take block_len c) i ≡ at c i
   cell i l = get_or-take block_len c i Low l
@@ -91,14 +91,14 @@ module _ (b : List (List Bool)) (s : Level) (c : List Level) (h : StandsClosed b
       let e0 : r + 0 ≡ block_len - 1 = omega arith in
       let e1 : r + 1 ≡ block_len = omega arith in
       let o = room in
-      h.closed.turns (omega arith) (ap (at c) (sym e1) ∙ b ∙ sym a ∙ ap (at c) e0)
+      closed.turns (omega arith) (ap (at c) (sym e1) ∙ b ∙ sym a ∙ ap (at c) e0)
   closing (suc zero) g e =
       let a = stands-at Z t c r 1 (lit< tt) z in
       let b = stands-at Z t c r 2 (lit< tt) z in
       let e0 : r + 1 ≡ block_len - 1 = omega arith in
       let e1 : r + 2 ≡ block_len = omega arith in
       let o = room in
-      h.closed.turns (omega arith) (ap (at c) (sym e1) ∙ b ∙ sym a ∙ ap (at c) e0)
+      closed.turns (omega arith) (ap (at c) (sym e1) ∙ b ∙ sym a ∙ ap (at c) e0)
   closing (suc (suc j)) g e = absurd (omega arith)
 
   pub no-Z-within : 0 < r → block_len ≤ r
@@ -124,5 +124,6 @@ no-overlap b d s t c p q l x y =
     let f : q + 0 ≡ p + (q - p) = omega arith in
     let w : StandsMark Z t (drop p c) (q - p) =
     drop-stands Z t c p (q - p) (subst (StandsMark Z t c) f (stands-drop Z t c q 0 z)) in
-    let g = no-Z-within b s (drop p c) x (q - p) t w (omega arith) in
+    let g = no-Z-within (map with_parity b) s (drop p c) (block-stands b s (drop p c) x) x.closed (q - p) t w
+    (omega arith) in
     omega arith

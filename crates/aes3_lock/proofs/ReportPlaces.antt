@@ -1,11 +1,12 @@
 -- Where the reports on cells stand.
 use Rattle.std.proofs.Common.{◌≡◌, ℕ, zero, suc, ◌+◌, ◌-◌, ◌<◌, ◌≤◌, ◌⊎◌, inl, inr, Bool, true, false, cond, List, []}
-use Rattle.std.proofs.Common.{◌∷◌, ◌++◌, Option, Some, None, length, drop, refl, sym, ap, ◌∙◌, subst, arith}
+use Rattle.std.proofs.Common.{◌∷◌, ◌++◌, Option, Some, None, length, drop, map, refl, sym, ap, ◌∙◌, subst, arith}
 use Rattle.std.proofs.Common.{append_assoc}
 use Rattle.std.proofs.lemmas.Bool.{cases_lt}
 use Rattle.std.proofs.lemmas.List.{append_cancel_left}
 use Rattle.aes3_level.specs.declared.level.Level.{Level}
 use Rattle.aes3_slot.specs.declared.mark.Mark.TheVariants.{Z}
+use Rattle.aes3_slot.specs.Slots.{with_parity}
 use Rattle.aes3_slot.specs.Preambles.{entry}
 use Rattle.aes3_slot.proofs.Beginnings.{begins-stands, begins-append, stands-drop}
 use Rattle.aes3_frame.specs.Blocks.{block_len}
@@ -19,9 +20,11 @@ use Rattle.aes3_lock.proofs.Fronts.{front-is}
 use Rattle.aes3_lock.proofs.Deciding.{decided-from, decided-stays, none-from-begins, block_len_24576}
 use Rattle.aes3_lock.proofs.Ends.{final, outcome_at-none, reports-split}
 use Rattle.aes3_lock.proofs.Opens.{is-open, open-room}
-use Rattle.aes3_lock.proofs.AllStanding.{at-standing}
+use Rattle.aes3_lock.proofs.AllStanding.{at-standing, at-marked}
+use Rattle.aes3_lock.proofs.StandingBlocks.{block-stands, standing-room}
 use Rattle.aes3_lock.proofs.Overlap.{no-Z-within}
 use Rattle.aes3_lock.specs.Remains.{place_of}
+use Rattle.aes3_lock.specs.Standing.{IsClosed, SubframesStand}
 
 -- all reports stand at place p or behind it; at place p or before it
 abbrev pub From : ℕ → List Report → Type 0
@@ -42,6 +45,17 @@ next_place (Unfinished at cells) = suc at
 abbrev pub Spaced : ℕ → List Report → Type 0
 Spaced p [] = Unit {0}
 Spaced p (x ∷ r) = (p ≤ place_of x) × Spaced (next_place x) r
+
+-- the same where a marked block is a block too, all of whose cells are among the first n
+abbrev pub behind_block : Report → ℕ
+behind_block (Whole at s b) = at + block_len
+behind_block (Marked at s wrong) = at + block_len
+behind_block (Fault at cell why) = suc at
+behind_block (Unfinished at cells) = suc at
+
+abbrev pub Parted : ℕ → ℕ → List Report → Type 0
+Parted n p [] = Unit {0}
+Parted n p (x ∷ r) = (p ≤ place_of x) × (behind_block x ≤ n) × Parted n (behind_block x) r
 
 pub from-weaker : (p q : ℕ) (r : List Report) → p ≤ q → From q r → From p r
 from-weaker p q [] h f = tt
@@ -67,13 +81,21 @@ pub spaced-weaker : (p q : ℕ) (r : List Report) → p ≤ q → Spaced q r →
 spaced-weaker p q [] h s = tt
 spaced-weaker p q (x ∷ r) h s = (let a = s.0 in omega arith, s.1)
 
-spaced-later : (p q : ℕ) (r : List Report) → From p r → Spaced q r → Spaced p r
-spaced-later p q [] f s = tt
-spaced-later p q (x ∷ r) f s = (f.0, s.1)
-
 pub spaced-front : (p : ℕ) (a b : List Report) → Spaced p (a ++ b) → Spaced p a
 spaced-front p [] b s = tt
 spaced-front p (x ∷ a) b s = (s.0, spaced-front (next_place x) a b s.1)
+
+pub parted-weaker : (n p q : ℕ) (r : List Report) → p ≤ q → Parted n q r → Parted n p r
+parted-weaker n p q [] h t = tt
+parted-weaker n p q (x ∷ r) h t = (let a = t.0 in omega arith, t.1, t.2)
+
+parted-later : (n p q : ℕ) (r : List Report) → From p r → Parted n q r → Parted n p r
+parted-later n p q [] f t = tt
+parted-later n p q (x ∷ r) f t = (f.0, t.1, t.2)
+
+parted-front : (n p : ℕ) (a b : List Report) → Parted n p (a ++ b) → Parted n p a
+parted-front n p [] b t = tt
+parted-front n p (x ∷ a) b t = (t.0, t.1, parted-front n (behind_block x) a b t.2)
 
 -- of one place
 pub place-report : (p : ℕ) (o : Outcome) → place_of (report_of p o) ≡ p
@@ -136,43 +158,68 @@ none-before (suc k) q (x ∷ c) h =
     let f = from-weaker (q + suc k) (suc q + k) (reports_from (suc q) c) (omega arith) r in
     from-join (q + suc k) (told q (outcome_at (x ∷ c))) (reports_from (suc q) c) (rw e tt) f
 
--- behind a whole block the next report is behind all of it
-behind-whole : (b : List (List Bool)) (s : Level) (x : Level) (c : List Level) → outcome_at (x ∷ c) ≡ Some (whole s b)
-    → (i : ℕ) → i < block_len - 1 → begins_block (drop i c) ≡ false
-behind-whole b s x c e i l = go (begins_block (drop i c)) refl
+-- behind a block, whole or marked, the next report is behind all of it
+none-within : (slots : List (List Bool)) (s : Level) (x : Level) (c : List Level) → SubframesStand slots s (x ∷ c)
+    → IsClosed (x ∷ c) → (i : ℕ) → i < block_len - 1 → begins_block (drop i c) ≡ false
+none-within slots s x c stand closed i l = go (begins_block (drop i c)) refl
   where
     go : (k : Bool) → begins_block (drop i c) ≡ k → begins_block (drop i c) ≡ false
     go false q = q
     go true q =
         let z = stands-drop Z (entry (drop i c)) (x ∷ c) (suc i) 0 (begins-stands Z (drop i c) q) in
-        let w = no-Z-within b s (x ∷ c) (at-standing b s (x ∷ c) e) (suc i + 0) (entry (drop i c)) z (omega arith) in
+        let w = no-Z-within slots s (x ∷ c) stand closed (suc i + 0) (entry (drop i c)) z (omega arith) in
         absurd (omega arith)
 
-spaced-from : (p : ℕ) (c : List Level) → Spaced p (reports_from p c)
-spaced-from p [] = tt
-spaced-from p (x ∷ c) = go (outcome_at (x ∷ c)) refl (spaced-from (suc p) c)
+parted-from : (n p : ℕ) (c : List Level) → p + length c ≤ n → Parted n p (reports_from p c)
+parted-from n p [] h = tt
+parted-from n p (x ∷ c) h = go (outcome_at (x ∷ c)) refl (parted-from n (suc p) c (omega arith))
   where
-    go : (o : Option Outcome) → outcome_at (x ∷ c) ≡ o → Spaced (suc p) (reports_from (suc p) c)
-        → Spaced p (told p o ++ reports_from (suc p) c)
-    go None e s = spaced-weaker p (suc p) (reports_from (suc p) c) (omega arith) s
-    go (Some (whole t b)) e s =
-        let f = none-before (block_len - 1) (suc p) c (behind-whole b t x c e) in
-        let m = block_len_24576 in (
+    behind : (slots : List (List Bool)) (s : Level) → SubframesStand slots s (x ∷ c) → IsClosed (x ∷ c)
+        → Parted n (suc p) (reports_from (suc p) c)
+        → (p ≤ p) × (p + block_len ≤ n) × Parted n (p + block_len) (reports_from (suc p) c)
+    behind slots s stand closed t =
+        let f = none-before (block_len - 1) (suc p) c (none-within slots s x c stand closed) in
+        let m = block_len_24576 in
+        let r = standing-room slots s (x ∷ c) stand in (
           omega arith,
-          spaced-later (p + block_len) (suc p) (reports_from (suc p) c)
-              (from-weaker (p + block_len) (suc p + (block_len - 1)) (reports_from (suc p) c) (omega arith) f) s,
+          omega arith,
+          parted-later n (p + block_len) (suc p) (reports_from (suc p) c)
+              (from-weaker (p + block_len) (suc p + (block_len - 1)) (reports_from (suc p) c) (omega arith) f) t,
         )
-    go (Some (marked t wrong)) e s = (omega arith, s)
-    go (Some (fault f)) e s = (omega arith, s)
-    go (Some (unfinished n)) e s = (omega arith, s)
 
-pub spaced-reports : (c : List Level) → Spaced 0 (reports c)
-unfolding reports
-spaced-reports c = spaced-from 0 c
+    go : (o : Option Outcome) → outcome_at (x ∷ c) ≡ o → Parted n (suc p) (reports_from (suc p) c)
+        → Parted n p (told p o ++ reports_from (suc p) c)
+    go None e t = parted-weaker n p (suc p) (reports_from (suc p) c) (omega arith) t
+    go (Some (whole s b)) e t =
+        let h = at-standing b s (x ∷ c) e in
+        behind (map with_parity b) s (block-stands b s (x ∷ c) h) h.closed t
+    go (Some (marked s wrong)) e t = let h = at-marked s wrong (x ∷ c) e in behind h.2.0 s h.2.1 h.0 t
+    go (Some (fault f)) e t = (omega arith, omega arith, t)
+    go (Some (unfinished k)) e t = (omega arith, omega arith, t)
 
 pub split-reports : (c : List Level) → reports c ≡ decided c ++ final 0 c
 unfolding reports decided
 split-reports c = reports-split 0 c
+
+pub parted-reports : (c : List Level) → Parted (length c) 0 (reports c)
+unfolding reports
+parted-reports c = parted-from (length c) 0 c (omega arith)
+
+pub parted-decided : (c : List Level) → Parted (length c) 0 (decided c)
+parted-decided c =
+    parted-front (length c) 0 (decided c) (final 0 c) (subst (Parted (length c) 0) (split-reports c) (parted-reports c))
+
+spaced-parted : (n p : ℕ) (r : List Report) → Parted n p r → Spaced p r
+spaced-parted n p [] t = tt
+spaced-parted n p (Whole at s b ∷ r) t = (t.0, spaced-parted n (at + block_len) r t.2)
+spaced-parted n p (Marked at s wrong ∷ r) t =
+    let m = block_len_24576 in
+    (t.0, spaced-weaker (suc at) (at + block_len) r (omega arith) (spaced-parted n (at + block_len) r t.2))
+spaced-parted n p (Fault at cell why ∷ r) t = (t.0, spaced-parted n (suc at) r t.2)
+spaced-parted n p (Unfinished at cells ∷ r) t = (t.0, spaced-parted n (suc at) r t.2)
+
+pub spaced-reports : (c : List Level) → Spaced 0 (reports c)
+spaced-reports c = spaced-parted (length c) 0 (reports c) (parted-reports c)
 
 pub spaced-decided : (c : List Level) → Spaced 0 (decided c)
 spaced-decided c = spaced-front 0 (decided c) (final 0 c) (subst (Spaced 0) (split-reports c) (spaced-reports c))

@@ -1,15 +1,17 @@
 -- Which lists of cells a lock and a scan follow.
 use Rattle.std.specs.Prelude.{ℕ, List, true, false, length, ◌≡◌, ◌<◌, ◌≤◌, ◌+◌, ◌-◌, ◌*◌, ◌/◌, ◌%◌, ◌^◌, Some, drop}
-use Rattle.std.specs.Prelude.{take, get_or, MatchOption, Option}
+use Rattle.std.specs.Prelude.{take, get_or, MatchOption, Option, None}
 use Rattle.aes3_level.specs.declared.level.Level.{Level}
 use Rattle.aes3_level.specs.Words.{low_cells, word_cells}
 use Rattle.aes3_slot.specs.Rules.{at, before, rule}
+use Rattle.aes3_slot.specs.Reading.{read_slots}
 use Rattle.aes3_slot.specs.ReadWords.{read_words}
 use Rattle.aes3_frame.specs.Blocks.{block_slots, block_len, mark_at}
 use Rattle.aes3_lock.specs.declared.candidate.Candidate.{Candidate}
 use Rattle.aes3_slot.specs.Preambles.{entry}
 use Rattle.aes3_lock.specs.Candidates.{begins_block}
 use Rattle.aes3_lock.specs.declared.report.Ending.{Ending}
+use Rattle.aes3_lock.specs.declared.report.Ending.TheVariants.{Whole, Marked, Fault, Unfinished}
 use Rattle.aes3_lock.specs.declared.report.Report.{Report}
 use Rattle.aes3_lock.specs.Reports.{open_at, ending_report}
 use Rattle.aes3_lock.specs.Steps.{last_eight}
@@ -66,6 +68,14 @@ pub record BeginsIn (c : List Level) : Type 0 where
 -- the report of an ending that a lock answers, with the block that it holds
 abbrev pub report_in : LockState → Ending → Report
 report_in k e = ending_report (read_words k.words) e
+
+-- where an ending is of a block, whole or marked, the words have the bits of its subframes in these cells
+abbrev pub HeldBlock : List ℕ → List Level → Option Ending → Type 0
+HeldBlock words c None = Unit {0}
+HeldBlock words c (Some (Whole at s)) = read_words words ≡ read_slots block_slots (drop at c)
+HeldBlock words c (Some (Marked at s wrong)) = read_words words ≡ read_slots block_slots (drop at c)
+HeldBlock words c (Some (Fault at cell why)) = Unit {0}
+HeldBlock words c (Some (Unfinished at cells)) = Unit {0}
 
 -- this cell does not go on with the candidate in hand
 pub record Stops (k : LockState) (l : Level) : Type 0 where

@@ -50,7 +50,7 @@ ghost use Rattle.std.specs.Prelude.{◌≡◌, ◌≤◌, List, [], ◌++◌, op
 ghost use Rattle.std.specs.Option.{ForSome};
 ghost use Rattle.aes3_level.specs.declared.level.Level.{Level};
 ghost use Rattle.aes3_lock.specs.Reports.{decided, reports};
-ghost use Rattle.aes3_lock.specs.Following.{Follows, report_in};
+ghost use Rattle.aes3_lock.specs.Following.{Follows, HeldBlock, report_in};
 ghost use Rattle.aes3_lock.specs.Parts.{parts_state};
 
 impl Lock {
@@ -114,8 +114,8 @@ impl Lock {
     }
 
     /// The cells of the subframes of the last candidate that are whole, a word each, the earliest
-    /// cell in bit 0. Where an ending was `Whole` they are those of its block, until more cells are
-    /// taken.
+    /// cell in bit 0. Where an ending was `Whole` or `Marked` they are those of its block, until
+    /// more cells are taken.
     pub fn words(&self) -> &[u64; SLOTS]
         ensures { result.now ≡ self.now.words }
     {
@@ -131,9 +131,11 @@ impl Lock {
 
     /// What the end of the cells makes of the candidate in hand, if there is one.
     pub fn end(&self) -> Option<Ending>
-        ensures { (cells : List Level) → Follows self.now cells
+        ensures report { (cells : List Level) → Follows self.now cells
             → reports cells ≡ decided cells
             ++ option_to_list (option_map (report_in self.now) result) }
+        ensures held { (cells : List Level) → Follows self.now cells
+            → HeldBlock self.now.words cells result }
     {
         let Some(candidate) = self.candidate else {
             return None;

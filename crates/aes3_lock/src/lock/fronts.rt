@@ -4,7 +4,7 @@ ghost use Rattle.std.specs.Prelude.{List, [], ◌∷◌, ◌++◌, drop, length,
 ghost use Rattle.aes3_level.specs.declared.level.Level.{Level};
 ghost use Rattle.aes3_level.specs.Words.{low_cells, word_cells};
 ghost use Rattle.aes3_lock.specs.Reports.{decided};
-ghost use Rattle.aes3_lock.specs.Following.{Follows, Stops, report_in};
+ghost use Rattle.aes3_lock.specs.Following.{Follows, HeldBlock, Stops, report_in};
 ghost use Rattle.aes3_lock.specs.Outcomes.{why_of};
 ghost use Rattle.aes3_lock.specs.Steps.{begun};
 ghost use Rattle.aes3_lock.specs.declared.report.Ending.TheVariants.{Fault};
@@ -69,6 +69,8 @@ impl Lock {
             → Follows self.new (cells ++ cell ∷ []) }
         ensures report { (cells : List Level) → Follows self.old cells → Stops self.old cell
             → decided (cells ++ cell ∷ []) ≡ decided cells ++ report_in self.new result ∷ [] }
+        ensures held { (cells : List Level) → Follows self.old cells
+            → HeldBlock self.new.words (cells ++ cell ∷ []) (Some result) }
     {
         let Some(candidate) = self.candidate else {
             unreachable!();
@@ -129,6 +131,8 @@ impl Lock {
             ++ option_to_list (option_map (report_in self.new) result.ending) }
         ensures last { result.ending ≢ None → (cells : List Level) → Follows self.old cells
             → decided (cells ++ low_cells (result.taken - 1) word) ≡ decided cells }
+        ensures held { (cells : List Level) → Follows self.old cells
+            → HeldBlock self.new.words (cells ++ low_cells result.taken word) result.ending }
     {
         let offset = self.seen - candidate.at;
         if offset >= BLOCK_CELLS {
@@ -176,6 +180,8 @@ impl Lock {
             ++ option_to_list (option_map (report_in self.new) result.ending) }
         ensures last { result.ending ≢ None → (cells : List Level) → Follows self.old cells
             → decided (cells ++ low_cells (result.taken - 1) word) ≡ decided cells }
+        ensures held { (cells : List Level) → Follows self.old cells
+            → HeldBlock self.new.words (cells ++ low_cells result.taken word) result.ending }
     {
         match self.candidate {
             None => Pushed::quiet(self.search(word, len)),
@@ -205,6 +211,8 @@ impl Lock {
             ++ option_to_list (option_map (report_in self.new) result.ending) }
         ensures last { result.ending ≢ None → (cells : List Level) → Follows self.old cells
             → decided (cells ++ low_cells (result.taken - 1) word) ≡ decided cells }
+        ensures held { (cells : List Level) → Follows self.old cells
+            → HeldBlock self.new.words (cells ++ low_cells result.taken word) result.ending }
     {
         let mut taken = 0;
         while taken < len {

@@ -7,10 +7,11 @@ use Rattle.aes3_level.specs.Words.{low_cells}
 use Rattle.aes3_lock.specs.declared.report.Report.TheVariants.{Fault}
 use Rattle.aes3_lock.specs.Outcomes.{why_of}
 use Rattle.aes3_lock.specs.Reports.{decided}
-use Rattle.aes3_lock.specs.Following.{LockState, Follows, Stops, report_in}
+use Rattle.aes3_lock.specs.Following.{LockState, Follows, HeldBlock, Stops, report_in}
 use Rattle.aes3_lock.proofs.Following.{past-stops}
 use Rattle.aes3_lock.proofs.PartWords.{Begun, all-right, next-wrong, part-next, part-whole, part-refuted}
 use Rattle.aes3_lock.proofs.PushedWords.{none-told}
+use Rattle.aes3_lock.proofs.HeldBlocks.{none-held, fault-held}
 use Rattle.aes3_lock.proofs.lock.Lock.go_on.Goals as goal
 use Rattle.aes3_lock.proofs.lock.Lock.go_on.Goals.{After-one, After-refute, After-quiet, After-quiet-2}
 use Rattle.aes3_frame.proofs.CellLaws.{block_len_24576}
@@ -206,3 +207,27 @@ returns-clause-report c = λ l f.
     none-told (report_in
     (whole c)) l c.args.word c.min-taken.result c.quiet-2.result.taken c.quiet-2.result.ending
     c.quiet-2.ensures.taken c.quiet-2.ensures.ending (goes-whole c l f).1
+
+-- what is held of a block that ends
+pub returns-then-offset-ge-BLOCK_CELLS-clause-held : goal.returns-then-offset-ge-BLOCK_CELLS-clause-held
+returns-then-offset-ge-BLOCK_CELLS-clause-held c = λ l f.
+    let k = c.stop-ending.new.self in
+    subst (HeldBlock k.words (l ++ low_cells c.one.result.taken c.args.word)) (sym c.one.ensures.ending)
+    (subst (λ m. HeldBlock k.words (l ++ low_cells m c.args.word) (Some c.stop-ending.result)) (sym c.one.ensures.taken)
+    (subst (λ x. HeldBlock k.words (l ++ x ∷ []) (Some c.stop-ending.result)) c.first_cell.ensures
+    (c.stop-ending.ensures.held l f)))
+
+pub returns-then-right-taken-clause-held : goal.returns-then-right-taken-clause-held
+returns-then-right-taken-clause-held c = λ l f.
+    fault-held c.refute.new.self.words (l ++ low_cells c.refute.result.taken c.args.word) c.refute.result.ending _ _ _
+    c.refute.ensures.ending
+
+pub returns-then-end-lt-SUBFRAME_CELLS-clause-held : goal.returns-then-end-lt-SUBFRAME_CELLS-clause-held
+returns-then-end-lt-SUBFRAME_CELLS-clause-held c = λ l f.
+    none-held (next c).words (l ++ low_cells c.quiet.result.taken c.args.word) c.quiet.result.ending
+    c.quiet.ensures.ending
+
+pub returns-clause-held : goal.returns-clause-held
+returns-clause-held c = λ l f.
+    none-held (whole c).words (l ++ low_cells c.quiet-2.result.taken c.args.word) c.quiet-2.result.ending
+    c.quiet-2.ensures.ending

@@ -2,6 +2,7 @@ use Rattle.std.proofs.Common.{◌≡◌, ◌+◌, ◌-◌, ◌++◌, sym, ap, �
 use Rattle.aes3_level.specs.Words.{low_cells}
 use Rattle.aes3_lock.specs.Reports.{decided}
 use Rattle.aes3_lock.specs.Following.{report_in}
+use Rattle.aes3_lock.proofs.HeldBlocks.{more-held, none-held}
 use Rattle.aes3_lock.proofs.PushedWords.{more-follows, more-none, more-reports, no-ending}
 use Rattle.aes3_lock.proofs.lock.Lock.push_front.Goals as goal
 
@@ -42,3 +43,14 @@ returns-then-is_some-clause-last c = λ ended l f.
     ap (λ i. decided (l ++ low_cells i c.args.word)) (let e : n + m - 1 ≡ n + (m - 1) = omega (arith, s) in e)
     ∙ more-none c.loop-taken.self l n (m - 1) c.args.word (c.step-pushed.ensures.last ended)
     (c.loop-taken.invariant.follows l f) (c.loop-taken.invariant.none l f)
+
+pub returns-then-is_some-clause-held : goal.returns-then-is_some-clause-held
+returns-then-is_some-clause-held c = λ l f.
+    more-held c.step-pushed.new.self.words l c.loop-taken.taken c.step-pushed.result.taken c.args.word
+    c.step-pushed.result.ending
+    (c.step-pushed.ensures.held (l ++ low_cells c.loop-taken.taken c.args.word) (c.loop-taken.invariant.follows l f))
+
+pub returns-clause-held : goal.returns-clause-held
+returns-clause-held c = λ l f.
+    none-held c.loop-taken.self.words (l ++ low_cells c.quiet.result.taken c.args.word) c.quiet.result.ending
+    c.quiet.ensures.ending

@@ -8,6 +8,7 @@ use Rattle.aes3_lock.specs.Reports.{report_of, decided}
 use Rattle.aes3_lock.specs.Steps.{ended}
 use Rattle.aes3_lock.specs.Following.{Follows, Stops}
 use Rattle.aes3_lock.proofs.Following.{push-last}
+use Rattle.aes3_lock.proofs.HeldBlocks.{held-last}
 use Rattle.aes3_lock.proofs.lock.Lock.stop.Goals as goal
 use Rattle.std.proofs.lemmas.Option.{same_Some}
 
@@ -47,3 +48,8 @@ returns-clause-report c = λ l f p.
     (ended c.in-Some.candidate.before (c.self.inside.seen - c.in-Some.candidate.at) (same c.args.cell p)
     (read_words c.self.inside.words)))
     c.last_cell-previous.ensures))
+
+pub returns-clause-held : goal.returns-clause-held
+returns-clause-held c = λ l f.
+    held-last _ c.in-Some.candidate l (subst (λ k. Follows k l) (sym c.self.view_is) f) c.self.invariant.1 c.in-Some.is
+    c.args.cell c.ending_at-ending.result (same c.args.cell c.last_cell-previous.result) c.ending_at-ending.ensures

@@ -40,7 +40,7 @@ returns-in_ok-tell-in-Some-clause-grew g c =
     ok-last c.finish.result (g.T.Sink.taken c.finish.new.sink)
     (record {
       same = c.in_ok-tell-in-Some.ensures.same;
-      last = λ d h. c.in-Some.ensures d h;
+      last = λ d h. c.in-Some.ensures.report d h;
       next = c.in_ok-tell-in-Some.ensures.next;
       grew = c.in_ok-tell-in-Some.ensures.grew;
     }) c.finish.ensures.grew
@@ -50,7 +50,7 @@ returns-in_ok-tell-in-Some-clause-err_grew g c =
     err-last c.finish.result (g.T.Sink.taken c.finish.new.sink)
     (record {
       same = c.in_ok-tell-in-Some.ensures.same;
-      last = λ d h. c.in-Some.ensures d h;
+      last = λ d h. c.in-Some.ensures.report d h;
       next = c.in_ok-tell-in-Some.ensures.next;
       grew = c.in_ok-tell-in-Some.ensures.grew;
     }) c.finish.ensures.err_grew
@@ -60,7 +60,7 @@ returns-in_err-tell-in-Some-clause-err_grew g c =
     let error = err_from_is_err_and c.from_residual.result c.from_residual.ensures.1 in
     rw error.1 (λ d h.
     let w = g.R.Reporter.writes c.args.self.now.reporter in
-    front-is (sym (ends-one w d (report_in c.args.self.now.lock c.in-Some.ending) (c.in-Some.ensures d h.0)))
+    front-is (sym (ends-one w d (report_in c.args.self.now.lock c.in-Some.ending) (c.in-Some.ensures.report d h.0)))
     (front-more (c.in_err-tell-in-Some.ensures.err_grew (decided d) h.1) _))
 
 pub returns-in-None-clause-grew : goal.returns-in-None-clause-grew
@@ -68,11 +68,11 @@ returns-in-None-clause-grew g c =
     let w = g.R.Reporter.writes c.args.self.now.reporter in
     ok-grew c.finish-in-None.result (Follows c.args.self.now.lock) (g.R.Reporter.follows c.args.self.now.reporter)
     (g.T.Sink.taken c.args.sink.now) (g.T.Sink.taken c.finish-in-None.new.sink)
-    w.ends (reporting w).ends (λ d h. ends-none w d (c.in-None.ensures d h)) c.finish-in-None.ensures.grew
+    w.ends (reporting w).ends (λ d h. ends-none w d (c.in-None.ensures.report d h)) c.finish-in-None.ensures.grew
 
 pub returns-in-None-clause-err_grew : goal.returns-in-None-clause-err_grew
 returns-in-None-clause-err_grew g c =
     let w = g.R.Reporter.writes c.args.self.now.reporter in
     err-grew c.finish-in-None.result (Follows c.args.self.now.lock) (g.R.Reporter.follows c.args.self.now.reporter)
     (g.T.Sink.taken c.args.sink.now) (g.T.Sink.taken c.finish-in-None.new.sink)
-    w.ends (reporting w).ends (λ d h. ends-none w d (c.in-None.ensures d h)) c.finish-in-None.ensures.err_grew
+    w.ends (reporting w).ends (λ d h. ends-none w d (c.in-None.ensures.report d h)) c.finish-in-None.ensures.err_grew

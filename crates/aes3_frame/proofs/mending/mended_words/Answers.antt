@@ -1,0 +1,41 @@
+use Rattle.std.proofs.Common.{ap, ◌∙◌, refl, arith, length, length-set}
+use Rattle.std.proofs.lemmas.List.{length-replicate, drop_all}
+use Rattle.aes3_frame.specs.Blocks.{block_slots}
+use Rattle.aes3_frame.proofs.BlockLemmas.{zeros-lawful, block_slots_384}
+use Rattle.aes3_frame.proofs.MendedBlocks.{made-more, made-all}
+use Rattle.aes3_frame.proofs.SlotWords.{lawful-more}
+use Rattle.aes3_frame.proofs.mending.mended_words.Goals as goal
+
+pub loop-slot-init : goal.loop-slot-init
+loop-slot-init c = record {
+  len = ap length c.zero_words-words.ensures ∙ length-replicate block_slots 0 ∙ block_slots_384;
+  lawful = zeros-lawful c.zero_words-words.result c.zero_words-words.ensures;
+  held = c.requires.held;
+  other = c.requires.other;
+  made = refl;
+}
+
+pub mended_word-word-requires : goal.mended_word-word-requires
+mended_word-word-requires c = c.loop-slot.invariant.held
+
+pub loop-slot-preserved : goal.loop-slot-preserved
+loop-slot-preserved c =
+    let i = c.loop-slot.invariant in
+    let word = c.mended_word-word.result in
+    record {
+      len = length-set c.loop-slot.words c.loop-slot.slot word ∙ i.len;
+      lawful = λ k. lawful-more c.loop-slot.words c.loop-slot.slot word k (omega arith)
+          c.mended_word-word.ensures.lawful (i.lawful k);
+      held = i.other;
+      other = c.mended_word-word.ensures.lawful;
+      made = made-more c.args.fill c.loop-slot.held c.loop-slot.other word c.loop-slot.words c.args.cells.now
+          c.loop-slot.slot _ (omega arith) (omega arith) c.mended_word-word.ensures.payload i.made;
+    }
+
+pub returns-clause-lawful : goal.returns-clause-lawful
+returns-clause-lawful c = λ k h. c.loop-slot.invariant.lawful k
+
+pub returns-clause-payloads : goal.returns-clause-payloads
+returns-clause-payloads c =
+    made-all c.args.fill c.loop-slot.held c.loop-slot.other c.loop-slot.words c.args.cells.now c.loop-slot.slot _
+    (omega arith) (drop_all c.loop-slot.slot c.args.cells.now (omega arith)) c.loop-slot.invariant.made
