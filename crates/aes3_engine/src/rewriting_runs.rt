@@ -1,7 +1,9 @@
 //! Cells to the normal stream of their blocks, with other channel status, V and U bits.
 
 ghost use Rattle.std.specs.Prelude.{◌≡◌, ℕ, ◌+◌, ◌<◌, ◌≤◌, ◌^◌, ◌++◌, List, [], ◌∷◌, Bool, false};
-ghost use Rattle.std.specs.Prelude.{IfOk, get_or, length};
+ghost use Rattle.std.specs.Prelude.{IfOk, get_or, length, map, take};
+ghost use Rattle.aes3_slot.specs.ReadWords.{read_words};
+ghost use Rattle.aes3_slot.specs.Slots.{payload_len};
 ghost use Rattle.aes3_cell.specs.Ends.{Grew, Told};
 ghost use Rattle.aes3_cell.specs.Writes.{Wrote};
 ghost use Rattle.aes3_cell.specs.Written.{ending};
@@ -20,30 +22,11 @@ ghost use Rattle.aes3_engine.specs.RewritingRuns.{AreMet, met_statuses, rewritte
 ghost use Rattle.aes3_engine.specs.RewritingRuns.{rewritten_cells, statuses_of, taken_of};
 
 use crate::rewriting::rewrite_block;
-use aes3_block::{Block, Channel, put_block};
+use aes3_block::{Block, Channel, GatheredCells, put_block};
 use aes3_cell::{Counts, Fault, Form, Level, RunError, Sink, Source, put_ending};
 use aes3_lock::{Ending, Lock, Tally};
 use aes3_runs::{Locked, Reporter, drive};
 use aes3_status::{Change, Kinds, Settings, TELLING_BITS, Taken};
-
-/// Writes a block with a change as cells in the normal polarity.
-///
-/// # Errors
-/// The sink's fault; then it has taken a front of the cells.
-fn put_rewritten<T: Sink>(
-    sink: &mut T,
-    output: Form,
-    change: &Change,
-    block: Block,
-) -> Result<(), Fault>
-    requires room { T.failed sink.old + 1 < 2 ^ 64 }
-    ensures { Wrote T.taken T.failed sink.old sink.new
-        (normal_block output 0 (rewritten change.now block)) result }
-{
-    let mut block = block;
-    rewrite_block(&mut block, change);
-    put_block(output, Level::Low, &block, sink)
-}
 
 /// The bit of a channel's status in a frame.
 #[inline(always)]
@@ -127,30 +110,31 @@ impl RewrittenBlocks {
         }
     }
 
-    /// Writes a block, and takes note of its statuses.
+    /// Writes the block of these cells, and takes note of its statuses.
     ///
     /// # Errors
     /// The sink's fault; then it has taken a front of the cells.
-    #[inline(always)]
-    fn put_block<T: Sink>(&mut self, sink: &mut T, block: Block) -> Result<(), Fault>
+    fn put_cells<T: Sink>(&mut self, sink: &mut T, cells: &GatheredCells) -> Result<(), Fault>
         requires room { T.failed sink.old + 1 < 2 ^ 64 }
         ensures output { self.new.output ≡ self.old.output }
         ensures change { self.new.change ≡ self.old.change }
         ensures tally { self.new.tally ≡ self.old.tally }
         ensures met { (bs : List (List (List Bool))) → AreMet self.old.met bs
-            → AreMet self.new.met (bs ++ block ∷ []) }
+            → AreMet self.new.met (bs ++ map (take payload_len) (read_words cells.now) ∷ []) }
         ensures wrote { Wrote T.taken T.failed sink.old sink.new
-            (normal_block self.old.output 0 (rewritten self.old.change block)) result }
+            (normal_block self.old.output 0 (rewritten self.old.change
+            (map (take payload_len) (read_words cells.now)))) result }
     {
+        let mut block = cells.block();
         self.met.add(&block);
-        put_rewritten(sink, self.output, &self.change, block)
+        rewrite_block(&mut block, &self.change);
+        put_block(self.output, Level::Low, &block, sink)
     }
 
     /// Writes what a report gives.
     ///
     /// # Errors
     /// The sink's fault; then it has taken a front of the cells.
-    #[inline(always)]
     fn put<T: Sink>(&mut self, sink: &mut T, lock: &Lock, ending: Ending) -> Result<(), Fault>
         requires room { T.failed sink.old + 1 < 2 ^ 64 }
         ensures output { self.new.output ≡ self.old.output }
@@ -163,7 +147,7 @@ impl RewrittenBlocks {
             (report_in lock.now ending)) result }
     {
         match ending {
-            Ending::Whole { .. } => self.put_block(sink, lock.gathered().block()),
+            Ending::Whole { .. } => self.put_cells(sink, lock.gathered()),
             Ending::Marked { .. } => Ok(()),
             Ending::Fault { .. } => Ok(()),
             Ending::Unfinished { .. } => Ok(()),

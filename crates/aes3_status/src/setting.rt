@@ -41,6 +41,7 @@ pub struct Settings {
 }
 
 /// The code that a setting has for a status.
+#[inline(always)]
 pub(crate) fn code_for(bytes: &[u8; 24], setting: &Setting) -> Option<u8>
     ensures { result ≡ code_for setting.now bytes.now }
 {
@@ -53,6 +54,7 @@ pub(crate) fn code_for(bytes: &[u8; 24], setting: &Setting) -> Option<u8>
 
 /// Writes the setting's code to its field, and leaves all other bits as they were. A status for the
 /// other use than the field's stays as it is, and so does one that the setting has no code for.
+#[inline(always)]
 pub(crate) fn set_field(bytes: &mut [u8; 24], setting: &Setting)
     ensures { bytes.new ≡ set_by setting.now bytes.old }
 {

@@ -10,11 +10,11 @@ use Rattle.aes3_engine.proofs.rewriting_runs.RewrittenBlocks.put.Goals as goal
 
 pub returns-in-Whole-clause-met : goal.returns-in-Whole-clause-met
 returns-in-Whole-clause-met g c = λ r h.
-    met-whole c.put_block.new.self.met r (report_in c.args.lock.now c.args.ending)
+    met-whole c.put_cells.new.self.met r (report_in c.args.lock.now c.args.ending)
     (ap (λ (e : Ending). report_in c.args.lock.now e) c.in-Whole.is)
-    (subst (λ b. AreMet c.put_block.new.self.met (wholes r ++ b ∷ []))
-    (c.block.ensures
-    ∙ ap (λ (words : List ℕ). map (take payload_len) (read_words words)) c.gathered.ensures) (c.put_block.ensures.met (wholes r) h))
+    (subst (λ (words : List ℕ). AreMet c.put_cells.new.self.met
+    (wholes r ++ map (take payload_len) (read_words words) ∷ [])) c.gathered.ensures
+    (c.put_cells.ensures.met (wholes r) h))
 
 pub returns-in-Marked-clause-met : goal.returns-in-Marked-clause-met
 returns-in-Marked-clause-met g c = λ r h.
