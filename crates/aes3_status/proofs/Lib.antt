@@ -5,6 +5,8 @@ pub mod SettingLemmas
 pub mod SettingsApart
 pub mod StatusKinds
 pub mod TakenKinds
+pub mod TakingAll
+pub mod FirstPlaces
 pub mod Polynomials
 pub mod Weights
 pub mod ShiftRegister

@@ -1,7 +1,7 @@
 -- What statuses take, by the kinds of them that were met.
 use Rattle.std.proofs.Common.{◌≡◌, ◌≢◌, ℕ, zero, suc, ◌+◌, ◌<◌, ◌≤◌, ◌⊎◌, inl, inr, Bool, ◌||◌}
 use Rattle.std.proofs.Common.{true, false, cond, eqb, eq-eqb, List, [], ◌∷◌, ◌++◌, length, get_or, set, refl, ap, ap₂}
-use Rattle.std.proofs.Common.{◌∙◌, sym, arith, ne_eqb, replicate}
+use Rattle.std.proofs.Common.{◌∙◌, sym, arith, ne_eqb}
 use Rattle.std.specs.Prelude.{option_and_then}
 use Rattle.std.specs.Option.{is_some}
 use Rattle.std.proofs.Common.{add-one, append-nil, take}
@@ -248,7 +248,7 @@ both-ways true b f g = sym (f refl)
 both-ways false true f g = g refl
 both-ways false false f g = refl
 
-kind-few : (bytes : List ℕ) → kind_of bytes < 64
+pub kind-few : (bytes : List ℕ) → kind_of bytes < 64
 unfolding kind_of telling_bits
 kind-few bytes = number-lt (telling_bits bytes)
 
@@ -313,3 +313,13 @@ kinds-taken settings met statuses long h =
     (λ k l. codes-of settings xs (taken_by settings xs) k l refl
     ∙ any-met (λ bytes. takes settings.codes bytes k) met statuses (takes-same settings.codes k) long h)
     (wide-of settings xs ∙ any-met (takes_wide settings) met statuses (wide-same settings) long h)
+
+-- what a status takes, another of its kind does
+pub kind-taken : (settings : Settings) (s t : List ℕ) → length s ≡ 24 → length t ≡ 24 → kind_of s ≡ kind_of t
+    → taken_by settings (s ∷ []) ≡ taken_by settings (t ∷ [])
+kind-taken settings s t l m e =
+    let xs = s ∷ [] in
+    taken-of settings (t ∷ []) (taken_by settings xs) (length-taken settings xs)
+    (λ k n. codes-of settings xs (taken_by settings xs) k n refl
+    ∙ ap (λ b. b || false) (takes-same settings.codes k s t l m e))
+    (wide-of settings xs ∙ ap (λ b. b || false) (wide-same settings s t l m e))

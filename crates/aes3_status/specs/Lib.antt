@@ -6,6 +6,8 @@ pub mod Wide
 pub mod Settings
 pub mod SettingLaws
 pub mod Taken
+pub mod TakingAll
+pub mod KindPlaces
 pub mod Check
 pub mod Register
 pub mod Laws

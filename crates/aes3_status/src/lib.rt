@@ -14,6 +14,8 @@ mod check;
 mod consumer;
 /// The fields that a code can be written to.
 mod field;
+/// Where statuses of each kind are met first.
+mod kind_places;
 /// Laws of the check byte and of fields that are set.
 pub mod laws;
 /// Where a field stands within a byte, and a code written there.
@@ -26,6 +28,8 @@ mod setting;
 mod status;
 /// Which settings statuses take.
 mod taken;
+/// Whether a status takes all settings.
+mod taking_all;
 /// The fields for professional use that have four bytes.
 mod wide;
 
@@ -34,8 +38,10 @@ pub use change::Change;
 pub use check::{Check, check_byte, check_state, with_check};
 pub use consumer::Con;
 pub use field::{ConField, Field, ProField};
+pub use kind_places::{KindPlaces, earlier};
 pub use professional::Pro;
 pub use setting::{SETTINGS, Setting, Settings, set_fields};
 pub use status::Status;
 pub use taken::{Kinds, TELLING_BITS, Taken};
+pub use taking_all::takes_all;
 pub use wide::{WideField, WideSettings};

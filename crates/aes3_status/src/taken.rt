@@ -12,7 +12,7 @@ use crate::setting::{SETTINGS, Setting, Settings, code_for, set_field};
 pub const TELLING_BITS: usize = 6;
 
 /// How many kinds of status there are.
-const KINDS: usize = 64;
+pub(crate) const KINDS: usize = 64;
 
 /// Which settings were taken by a status: those that had a code for it where it was their turn.
 #[derive(Clone, Copy, PartialEq, Eq)]
@@ -52,7 +52,7 @@ fn has_code(bytes: &[u8; 24], setting: &Setting) -> bool
 }
 
 /// The number of bits that tell, the first of weight 1.
-fn number_of(bits: [bool; TELLING_BITS]) -> usize
+pub(crate) fn number_of(bits: [bool; TELLING_BITS]) -> usize
     ensures value { result ≡ number bits }
     ensures few { result < 64 }
 {
@@ -65,7 +65,7 @@ fn number_of(bits: [bool; TELLING_BITS]) -> usize
 }
 
 /// A status of a kind.
-fn example(kind: usize) -> [u8; 24]
+pub(crate) fn example(kind: usize) -> [u8; 24]
     requires { kind < 64 }
     ensures { result ≡ example_of kind }
 {
