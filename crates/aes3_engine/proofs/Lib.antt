@@ -21,3 +21,4 @@ pub mod FillTimes
 pub mod GivenBlocks
 pub mod MendedSteps
 pub mod FillRuns
+pub mod RewritingExactly

@@ -11,3 +11,4 @@ pub mod ExactSamples
 pub mod FillSteps
 pub mod MendSteps
 pub mod FillRuns
+pub mod RewritingExactly

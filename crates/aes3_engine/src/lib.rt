@@ -17,6 +17,8 @@ mod mended;
 mod reading;
 /// Blocks with other channel status, validity bits and user bits.
 mod rewriting;
+/// From cells to cells of such blocks, up to the first that does not take all settings.
+mod rewriting_exactly;
 /// From cells to cells of such blocks.
 mod rewriting_runs;
 /// From cells to samples.
@@ -41,6 +43,7 @@ pub use encoding::encode;
 pub use exact_samples::{Exact, to_exact_pcm};
 pub use filling::{Filled, to_filled_pcm};
 pub use reading::{cut, decode, decode_words, normalise};
+pub use rewriting_exactly::{ExactlyRewritten, rewrite_exactly};
 pub use rewriting_runs::{Rewritten, rewrite};
 pub use samples::to_pcm;
 pub use sampling::{from_pcm, from_pcm_words};

@@ -43,7 +43,7 @@ fn status_bit(block: &Block, channel: Channel, frame: usize) -> bool
 
 /// The bits of a channel's status that tell which settings it takes.
 #[inline(always)]
-fn bits_that_tell(block: &Block, channel: Channel) -> [bool; TELLING_BITS]
+pub(crate) fn bits_that_tell(block: &Block, channel: Channel) -> [bool; TELLING_BITS]
     ensures { result ≡ telling_bits (status_of block.now channel) }
 {
     [
