@@ -3,7 +3,7 @@
 
 Each case (40 where no number is given) is some blocks of the speech with V and U bits turned, as cells that are then turned, lost, put in
 and cut. Of these the sums of `watch --every` are compared with the lines of `check --gaps`; `to-bits`, `show --more`, `to-pcm --valid`,
-`to-pcm --fill` and `rewrite` with the block file of `decode`; `show --names` with the codes of alsa/asoundef.h, and what it prints with what `rewrite` sets by it; and `--lsb-first` with octets that are packed here. The last line is `N passed, M failed`.
+`to-pcm --fill`, `to-pcm --exact` and `rewrite` with the block file of `decode`, `to-pcm --marked` with the cells, and each with what standard error has; `show --names` with the codes of alsa/asoundef.h, and what it prints with what `rewrite` sets by it; and `--lsb-first` with octets that are packed here. The last line is `N passed, M failed`.
 """
 
 import os
@@ -11,7 +11,7 @@ import random
 import subprocess
 import sys
 
-BLOCK_BYTES, CELLS, FRAMES = 1536, 24_576, 192
+BLOCK_BYTES, CELLS, FRAMES, SLOT = 1536, 24_576, 192, 64
 PLACES = {"validity": 28, "user": 29, "status": 30}
 # The words of codes by alsa/asoundef.h: category codes of consumer use, original sampling frequencies from code 0 on.
 CATEGORIES = {
@@ -33,6 +33,11 @@ ROOT = os.path.dirname(os.path.dirname(os.path.realpath(__file__)))
 def run(program, words, given):
     ran = subprocess.run([program, *words], input=given, stdout=subprocess.PIPE, stderr=subprocess.DEVNULL, check=False)
     return ran.returncode, ran.stdout
+
+
+def run_and_told(program, words, given):
+    ran = subprocess.run([program, *words], input=given, capture_output=True, check=False)
+    return ran.returncode, ran.stdout, ran.stderr.decode()
 
 
 def told(program, words, cells):
@@ -60,6 +65,9 @@ def line_of(program, chance, speech):
         at = chance.randrange(len(words))
         words[at] = with_parity(words[at] ^ 1 << chance.choice([28, 29]))
     cells = bytearray(run(program, ["encode"], bytes_of(words))[1].replace(b"\n", b""))
+    for _ in range(chance.choice([0, 0, 1, 4])):
+        at = SLOT * chance.randrange(len(cells) // SLOT) + 9 + 2 * chance.randrange(28)
+        cells[at:] = bytes(cell ^ 1 for cell in cells[at:])
     for _ in range(chance.choice([0, 0, 1, 2, 5])):
         at, kind = chance.randrange(len(cells)), chance.randrange(4)
         if kind == 0:
@@ -174,8 +182,22 @@ def judged(program, cells, every, statuses):
     yield "rewrite by what show prints", list(map(settings, again)) == list(map(settings, lines))
     samples = b"".join((0 if word >> 28 & 1 else (word >> 4 & 0xFFFFFF) << 8).to_bytes(4, "little") for word in words)
     yield "to-pcm --valid", run(program, ["to-pcm", "--valid"], cells)[1] == samples
+    blocks = [(int(at), subframes(words[2 * FRAMES * i : 2 * FRAMES * (i + 1)])) for i, at in enumerate(wholes)]
+    given = [int(line[2]) for line in told(program, ["check"], cells) if line[0] in ("whole", "marked")]
     for fill in ("zero", "hold"):
-        yield f"to-pcm --fill {fill}", run(program, ["to-pcm", "--fill", fill], cells)[1] == filled(words, [int(at) for at in wholes], fill)
+        yield f"to-pcm --fill {fill}", run_and_told(program, ["to-pcm", "--fill", fill], cells) == filled(blocks, fill)
+        wanted = filled([(at, read(cells, at)) for at in given], fill)
+        yield f"to-pcm --fill {fill} --marked", run_and_told(program, ["to-pcm", "--fill", fill, "--marked"], cells) == wanted
+    for pcm, octets in (("s16", 2), ("s24", 3), ("s32", 4)):
+        yield f"to-pcm --exact --pcm {pcm}", run_and_told(program, ["to-pcm", "--exact", "--pcm", pcm], cells) == exact(blocks, octets)
+    statuses = [octets_of(bits)[0] & 1 for bits in bits_of(words, PLACES["status"], 0)]
+    for fields in ({"copyright=asserted": 0}, {"reference=grade1": 1}, {"copyright=asserted": 0, "reference=grade1": 1}):
+        typed = [word for field in fields for word in ("--set1", field)]
+        yield f"rewrite {typed}", run_and_told(program, ["rewrite", *typed], cells)[2] == untaken(fields, statuses)
+        first = next((i for i, use in enumerate(statuses) if any(use != wanted for wanted in fields.values())), len(blocks))
+        status, out, err = run_and_told(program, ["rewrite", "--exact", *typed], cells)
+        yield f"rewrite --exact {typed}", out == b"".join(run(program, ["rewrite", *typed], cells)[1].splitlines(True)[: 2 * FRAMES * first])
+        yield f"what rewrite --exact {typed} tells", (status, err) == refused(blocks, first)
     again = run(program, ["rewrite", "--valid2", "1", "--clear-user1"], cells)[1]
     wanted = bytes_of(changed(word, i % 2) for i, word in enumerate(words))
     yield "rewrite of V and U", run(program, ["decode"], again)[1] == wanted
@@ -185,16 +207,54 @@ def judged(program, cells, every, statuses):
     yield "normal --lsb-first", run(program, ["normal", "--packed-out", "--lsb-first"], cells)[1] == packed(out)
 
 
-def filled(words, wholes, fill):
-    """The samples of blocks at these places, and frames before each but the first, until it stands in its time."""
-    blocks = [words[i : i + 2 * FRAMES] for i in range(0, len(words), 2 * FRAMES)]
-    out, frames = [], 0
-    for at, block in zip(wholes, blocks):
-        missing = round_up_half(at - wholes[0], CELLS // FRAMES) - frames
+def subframes(words):
+    """The sample of each word, and that it stands."""
+    return [(word >> 4 & 0xFFFFFF, True) for word in words]
+
+
+def read(cells, at):
+    """The sample of each subframe of the block at a place, by the cells, and whether it has right parity."""
+    found = []
+    for begin in range(at, at + CELLS, SLOT):
+        bits = [cells[place] != cells[place + 1] for place in range(begin + 8, begin + SLOT, 2)]
+        found.append((sum(bit << i for i, bit in enumerate(bits[:24])), sum(bits) % 2 == 0))
+    return found
+
+
+def filled(blocks, fill):
+    """The samples of blocks by their places, of wrong parity filled, and frames before each but the first, until it stands in its time."""
+    out, frames, told = [], 0, 0
+    for at, block in blocks:
+        missing = round_up_half(at - blocks[0][0], CELLS // FRAMES) - frames
         out += missing * ([0, 0] if fill == "zero" else out[-2:])
-        out += [word >> 4 & 0xFFFFFF for word in block]
+        for sample, stands in block:
+            out.append(sample if stands else 0 if fill == "zero" or len(out) < 2 else out[-2])
         frames += missing + FRAMES
-    return b"".join((sample << 8).to_bytes(4, "little") for sample in out)
+        told += missing
+    return 0, b"".join((sample << 8).to_bytes(4, "little") for sample in out), f"aes3: filled {told} frames\n"
+
+
+def exact(blocks, octets):
+    """The samples of blocks in their highest octets, up to the first that has more."""
+    lost = (1 << 8 * max(3 - octets, 0)) - 1
+    first = next((i for i, (_, block) in enumerate(blocks) if any(sample & lost for sample, _ in block)), len(blocks))
+    out = [sample << 8 for _, block in blocks[:first] for sample, _ in block]
+    return refused(blocks, first)[0], b"".join(it.to_bytes(4, "little")[4 - octets :] for it in out), refused(blocks, first)[1]
+
+
+def refused(blocks, first):
+    """The status and what is told where blocks from one on are refused."""
+    return (0, "") if first == len(blocks) else (3, f"aes3: refused 13 at {blocks[first][0]}\n")
+
+
+def untaken(fields, uses):
+    """What is told of fields by their use, of blocks by theirs."""
+    name = {0: "consumer", 1: "professional"}
+    lacking = {field: use for field, use in fields.items() if uses and use not in uses}
+    return "".join(
+        f"aes3: no block took --set1 {field}: it is for {name[use]} use, which use={name[use]} before it sets\n"
+        for field, use in lacking.items()
+    )
 
 
 def round_up_half(number, by):

@@ -10,7 +10,8 @@
 #   to FILE         this file as output, of which nothing is compared
 #   run WORDS       the words of a command line, as the shell reads them
 #   out RECIPE      the output; `any` where it must only not be empty. With no such line: nothing
-#   err TEXT        the line on standard error behind `aes3: `; `any` where it must not be empty nor a refusal. Else: nothing
+#   err TEXT        the line on standard error behind `aes3: `; `any` where it must not be empty nor a refusal. Else: nothing; more than one: as many
+#                   lines
 #   status N        the exit status. With no such line: 0
 #   unread          the program leaves its input unread
 #
@@ -34,6 +35,9 @@ here=$(dirname "$(realpath "$0")")
 . "$here/recipes.sh"
 # shellcheck disable=SC2034 # for the recipes of rows
 examples=$here/../examples
+
+newline='
+'
 
 aes3() { "$program" "$@" 2>/dev/null; }
 sum() { :; }
@@ -104,7 +108,7 @@ read_row() {
     to) to=$value ;;
     run) begin_run "$value" ;;
     out) out=$value ;;
-    err) err=$value ;;
+    err) err=${err:+$err${newline}aes3: }$value ;;
     status) status=$value ;;
     unread) unread=yes ;;
     *)

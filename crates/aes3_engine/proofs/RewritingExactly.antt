@@ -37,20 +37,22 @@ use Rattle.aes3_runs.specs.BlockRuns.{begun_stream, normal_block, numbered, writ
 use Rattle.aes3_runs.specs.Reporting.{reporting}
 use Rattle.aes3_runs.proofs.BlockRuns.{blocks27, decided27, normal-numbered, stream-ended}
 use Rattle.aes3_runs.proofs.Reports.{before-reports, with-reports}
-use Rattle.aes3_engine.specs.declared.rewriting_exactly.ExactlyRewritten.{ExactlyRewritten}
+use Rattle.aes3_engine.specs.declared.exact_samples.Exact.{Exact}
 use Rattle.aes3_engine.specs.declared.rewriting_exactly.MetPlaces.{MetPlaces}
 use Rattle.aes3_engine.specs.Filling.{Placed, placed}
+use Rattle.aes3_engine.specs.FillSteps.{Apart}
 use Rattle.aes3_engine.specs.Rewriting.{rewritten, rewritten_blocks}
-use Rattle.aes3_engine.specs.RewritingExactly.{AnswersExactly, AreMetAt, begun_exactly, exactly_rewritten_cells, exactly_writing}
+use Rattle.aes3_engine.specs.RewritingExactly.{AnswersExactly, AreMetAt, begun_exactly, exactly_rewritten_cells}
 use Rattle.aes3_engine.specs.RewritingExactly.{first_refused, first_refused_in, met_of, takes_change, takes_in, taking}
-use Rattle.aes3_engine.specs.RewritingExactly.{taking_bytes, unless, written_exactly}
+use Rattle.aes3_engine.specs.RewritingExactly.{exactly_writing, taking_bytes, unless, written_exactly}
 use Rattle.aes3_engine.proofs.FillSteps.{placed-append}
-use Rattle.aes3_engine.proofs.FillTimes.{Apart, apart-of}
+use Rattle.aes3_engine.proofs.FillTimes.{apart-of}
 use Rattle.aes3_engine.proofs.RewrittenBlocks.{each-blocks}
 
 -- ---- more blocks behind others
 pub refused-append : (change : Change) (xs ys : List Placed)
-    → is_some (first_refused change (xs ++ ys)) ≡ (is_some (first_refused change xs) || is_some (first_refused change ys))
+    → is_some (first_refused change (xs ++ ys))
+    ≡ (is_some (first_refused change xs) || is_some (first_refused change ys))
 refused-append change [] ys = refl
 refused-append change (x ∷ xs) ys = go (takes_change change x.block) (refused-append change xs ys)
   where
@@ -95,10 +97,9 @@ before-exactly form change r =
 
 with-exactly : (form : Form) (change : Change) (r : List Report)
     → with_end (exactly_writing form change) r
-    ≡ taking_bytes form change (placed r) ++ unless (is_some (first_refused change (placed r))) (ending form)
+    ≡ taking_bytes form change (placed r) ++ ending form
 unfolding with_end exactly_writing
-with-exactly form change r =
-    ap (λ v. v ++ unless (is_some (first_refused change (placed r))) (ending form)) (before-exactly form change r)
+with-exactly form change r = ap (λ v. v ++ ending form) (before-exactly form change r)
 
 -- as one stream
 bytes-numbered : (form : Form) (change : Change) (n : ℕ) (bs : List (List (List Bool)))
@@ -131,6 +132,10 @@ reports27 : (c : List Level) → EachBlock27 (wholes (reports c))
 unfolding blocks
 reports27 c = blocks27 c
 
+pub taken27 : (change : Change) (c : List Level) → EachBlock27 (rewritten_blocks change (taking change (placed (reports c))))
+taken27 change c =
+    each-blocks change (taking change (placed (reports c))) (taking27 change (reports c) (reports27 c))
+
 -- ---- one more report
 pub refused-next : {old new : Bool} (change : Change) (r : List Report) (x : Report)
     → new ≡ (old || is_some (first_refused change (placed (x ∷ []))))
@@ -146,13 +151,13 @@ pub adds-is : {old : Bool} (form : Form) (change : Change) (r : List Report) (x 
 unfolding exactly_writing
 adds-is form change r x e = ap (λ b. unless b (taking_bytes form change (placed (x ∷ [])))) e
 
-pub ends-is : {old : Bool} (form : Form) (change : Change) (r : List Report) (v : Bool) → old ≡ v
-    → old ≡ is_some (first_refused change (placed r)) → unless v (ending form) ≡ (exactly_writing form change).ends r
+pub ends-is : (form : Form) (change : Change) (r : List Report) → ending form ≡ (exactly_writing form change).ends r
 unfolding exactly_writing
-ends-is form change r v p q = ap (λ b. unless b (ending form)) (sym p ∙ q)
+ends-is form change r = refl
 
 pub met-whole : (met : MetPlaces) (xs : List Placed) (x : Report) {at : ℕ} {s : Level} {b : List (List Bool)}
-    → x ≡ Whole at s b → AreMetAt met (xs ++ record { place = at; block = b } ∷ []) → AreMetAt met (xs ++ placed (x ∷ []))
+    → x ≡ Whole at s b → AreMetAt met (xs ++ record { place = at; block = b } ∷ [])
+    → AreMetAt met (xs ++ placed (x ∷ []))
 met-whole met xs x e h = subst (AreMetAt met) (sym (ap (λ (v : Report). xs ++ placed (v ∷ [])) e)) h
 
 pub met-next : (met : MetPlaces) (r : List Report) (x : Report) → AreMetAt met (placed r ++ placed (x ∷ []))
@@ -246,7 +251,8 @@ both-refused change xs r e f =
     let first = λ (x : Placed). takes_in First change.status1 change.settings1 x.block in
     let second = λ (x : Placed). takes_in Second change.status2 change.settings2 x.block in
     ap₂ earlier e f
-    ∙ sym (first-either (λ (x : Placed). x.place) (λ (x : Placed). not (first x)) (λ (x : Placed). not (second x)) 0 xs r)
+    ∙ sym (first-either (λ (x : Placed). x.place) (λ (x : Placed). not (first x))
+    (λ (x : Placed). not (second x)) 0 xs r)
     ∙ first-same (λ (x : Placed). x.place) (λ (x : Placed). not (first x) || not (second x))
     (λ (x : Placed). not (first x && second x)) xs (λ (x : Placed). not-both (first x) (second x))
 
@@ -258,15 +264,15 @@ gives input output change z =
       input = λ b i. i;
       whole = λ b i. let c = cells_of input b in
           with-reports (exactly_writing output change) c ∙ with-exactly output change (reports c)
-          ∙ ap (λ v. v ++ unless (is_some (first_refused change (placed (reports c)))) (ending output))
-          (bytes-stream output change (reports c) (reports27 c));
+          ∙ ap (λ v. v ++ ending output) (bytes-stream output change (reports c) (reports27 c))
+          ∙ stream-ended output (rewritten_blocks change (taking change (placed (reports c)))) (taken27 change c);
       begun = λ b. before-reports (exactly_writing output change) _ ∙ before-exactly output change (decided _)
           ∙ bytes-stream output change (decided _) (decided27 _);
       cause = λ max b ended e c. c;
     }
 
 pub exactly-ok : {max : ℕ} {input : Form} {o output : Form} {h change : Change} {g z : List Level → Type 0}
-    {ended : Bool} {source sink : Movement} {bytes cells : ℕ} {n : ExactlyRewritten} → o ≡ output → h ≡ change
+    {ended : Bool} {source sink : Movement} {bytes cells : ℕ} {n : Exact} → o ≡ output → h ≡ change
     → ((b : List ℕ) → z (cells_of input b) → bytes ≡ length b → cells ≡ length (cells_of input b)
     → AnswersExactly input change b n)
     → Drive max input (reporting (exactly_writing o h)) g z ended source sink (Ok (bytes, cells))
@@ -307,15 +313,12 @@ all-written : (form : Form) (change : Change) (c : List Level) → first_refused
     → written_exactly form change (placed (reports c)) ≡ written_stream form (rewritten_blocks change (blocks c))
 unfolding blocks
 all-written form change c h =
-    let bs = wholes (reports c) in
-    ap₂ (λ (v : List (List (List Bool))) (k : Option ℕ). begun_stream form (rewritten_blocks change v)
-    ++ unless (is_some k) (ending form)) (none-left change (reports c) h) h
-    ∙ stream-ended form (rewritten_blocks change bs) (each-blocks change bs (blocks27 c))
+    ap (λ (v : List (List (List Bool))). written_stream form (rewritten_blocks change v)) (none-left change (reports c) h)
 
 pub exactly-all : {max : ℕ} (input output : Form) (change : Change) {ended : Bool} {source sink : Movement}
-    (r : Result ExactlyRewritten RunError)
+    (r : Result Exact RunError)
     → InputRun (exactly_rewritten_cells input output change) max ended source sink r
-    → IfOk r (λ (n : ExactlyRewritten). (b : List ℕ) → n.refused ≡ None → Told source.old source.new b
+    → IfOk r (λ (n : Exact). (b : List ℕ) → n.refused ≡ None → Told source.old source.new b
     → Grew sink.old sink.new (written_stream output (rewritten_blocks change (blocks (cells_of input b)))))
 exactly-all input output change (Ok n) run = λ b e t.
     let ran = run-told run b t in
@@ -327,6 +330,7 @@ pub none-met-yet : {met old : MetPlaces} → met ≡ old → AreMetAt old [] →
 unfolding decided
 none-met-yet e h = subst (λ (v : MetPlaces). AreMetAt v []) (sym e) h
 
-pub none-refused-yet : {k : Bool} (change : Change) → k ≡ false → k ≡ is_some (first_refused change (placed (decided [])))
+pub none-refused-yet : {k : Bool} (change : Change) → k ≡ false
+    → k ≡ is_some (first_refused change (placed (decided [])))
 unfolding decided
 none-refused-yet change e = e

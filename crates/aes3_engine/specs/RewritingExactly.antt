@@ -1,5 +1,6 @@
 -- Blocks with a change, up to the first that does not take all settings of it.
-use Rattle.std.specs.Prelude.{ℕ, List, [], ◌∷◌, ◌++◌, Bool, true, not, ◌&&◌, Option, Some, None, ◌≡◌, map, if◌then◌else◌}
+use Rattle.std.specs.Prelude.{ℕ, List, [], ◌∷◌, Bool, true, not, ◌&&◌, Option, Some, None, ◌≡◌, map}
+use Rattle.std.specs.Prelude.{if◌then◌else◌}
 use Rattle.std.specs.List.{flat_map}
 use Rattle.std.specs.Option.{is_some, unwrap_or}
 use Rattle.aes3_cell.specs.declared.form.Form.{Form}
@@ -17,9 +18,9 @@ use Rattle.aes3_input.specs.Inputs.{cells_of}
 use Rattle.aes3_input.specs.Running.{Promise}
 use Rattle.aes3_input.specs.Driving.{over_cells}
 use Rattle.aes3_input.specs.Taking.{Writing}
-use Rattle.aes3_runs.specs.BlockRuns.{begun_stream, normal_block}
+use Rattle.aes3_runs.specs.BlockRuns.{begun_stream, normal_block, written_stream}
 use Rattle.aes3_runs.specs.ReportRuns.{counts_of}
-use Rattle.aes3_engine.specs.declared.rewriting_exactly.ExactlyRewritten.{ExactlyRewritten}
+use Rattle.aes3_engine.specs.declared.exact_samples.Exact.{Exact}
 use Rattle.aes3_engine.specs.declared.rewriting_exactly.MetPlaces.{MetPlaces}
 use Rattle.aes3_engine.specs.Filling.{Placed, placed}
 use Rattle.aes3_engine.specs.Rewriting.{rewritten, rewritten_blocks}
@@ -52,25 +53,24 @@ abbrev pub taking : Change → List Placed → List (List (List Bool))
 taking change [] = []
 taking change (x ∷ more) = if takes_change change x.block then x.block ∷ taking change more else []
 
--- nothing where a block was refused
+-- nothing behind a block that was refused
 abbrev pub unless : Bool → List ℕ → List ℕ
 unless refused bytes = if refused then [] else bytes
 
--- these blocks as they are written, before the ending, and with it: that stands there only where no block is refused
+-- these blocks as they are written, before the ending, and with it
 abbrev pub begun_exactly : Form → Change → List Placed → List ℕ
 begun_exactly form change xs = begun_stream form (rewritten_blocks change (taking change xs))
 
 abbrev pub written_exactly : Form → Change → List Placed → List ℕ
-written_exactly form change xs =
-    begun_exactly form change xs ++ unless (is_some (first_refused change xs)) (ending form)
+written_exactly form change xs = written_stream form (rewritten_blocks change (taking change xs))
 
 -- what a run answers to an input: what it counts, and the place of the first block that is refused
-abbrev pub AnswersExactly : Form → Change → List ℕ → ExactlyRewritten → Type 0
+abbrev pub AnswersExactly : Form → Change → List ℕ → Exact → Type 0
 AnswersExactly form change b n =
     (n.counts ≡ counts_of form b) × (n.refused ≡ first_refused change (placed (reports (cells_of form b))))
 
 -- what it promises: it writes the blocks before that, and answers so
-abbrev pub exactly_rewritten_cells : Form → Form → Change → Promise ExactlyRewritten
+abbrev pub exactly_rewritten_cells : Form → Form → Change → Promise Exact
 exactly_rewritten_cells input output change =
     over_cells input (λ c. written_exactly output change (placed (reports c)))
     (λ c. begun_exactly output change (placed (decided c)))
@@ -93,5 +93,5 @@ taking_bytes form change xs = flat_map (λ b. normal_block form 0 (rewritten cha
 unfoldable pub exactly_writing : Form → Change → Writing Report
 exactly_writing form change = record {
   adds = λ r x. unless (is_some (first_refused change (placed r))) (taking_bytes form change (placed (x ∷ [])));
-  ends = λ r. unless (is_some (first_refused change (placed r))) (ending form);
+  ends = λ r. ending form;
 }

@@ -22,13 +22,13 @@ use aes3_lock::{Ending, Lock, Tally};
 use aes3_pcm::SampleFormat;
 use aes3_runs::{Locked, Reporter, drive};
 
-/// What a run answers that gives samples exactly.
+/// What a run answers that gives blocks exactly.
 #[derive(Clone, Copy)]
 pub struct Exact {
     /// What it counted, of the blocks behind the first that it did not give too.
     pub counts: Counts,
-    /// The place of the first block that would have lost bits: it is not written, and nothing behind
-    /// it is.
+    /// The place of the first block that would have lost something, bits of its samples or settings
+    /// for its status: it is not written, and nothing behind it is.
     pub refused: Option<u64>,
 }
 

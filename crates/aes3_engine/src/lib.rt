@@ -43,7 +43,7 @@ pub use encoding::encode;
 pub use exact_samples::{Exact, to_exact_pcm};
 pub use filling::{Filled, to_filled_pcm};
 pub use reading::{cut, decode, decode_words, normalise};
-pub use rewriting_exactly::{ExactlyRewritten, rewrite_exactly};
+pub use rewriting_exactly::rewrite_exactly;
 pub use rewriting_runs::{Rewritten, rewrite};
 pub use samples::to_pcm;
 pub use sampling::{from_pcm, from_pcm_words};

@@ -20,6 +20,7 @@ ghost use Rattle.aes3_engine.specs.RewritingExactly.{exactly_writing, first_refu
 ghost use Rattle.aes3_engine.specs.RewritingExactly.{first_refused_in, met_of, takes_change};
 ghost use Rattle.aes3_engine.specs.RewritingExactly.{takes_in, taking_bytes, unless};
 
+use crate::exact_samples::Exact;
 use crate::rewriting::rewrite_block;
 use crate::rewriting_runs::bits_that_tell;
 use aes3_block::{Block, Channel, put_block};
@@ -27,16 +28,6 @@ use aes3_cell::{Counts, Fault, Form, Level, RunError, Sink, Source, put_ending};
 use aes3_lock::{Ending, Lock, Tally};
 use aes3_runs::{Locked, Reporter, drive};
 use aes3_status::{Change, KindPlaces, Settings, earlier, takes_all};
-
-/// What a run answers that writes blocks with a change exactly.
-#[derive(Clone, Copy, PartialEq, Eq)]
-pub struct ExactlyRewritten {
-    /// What it counted, of the blocks behind the last that it wrote too.
-    pub counts: Counts,
-    /// The place of the first block that does not take all settings of the change: it is not
-    /// written, and nothing behind it is.
-    pub refused: Option<u64>,
-}
 
 /// Whether a block takes all settings of a channel, where some are given. The status that is given
 /// meets them, or else its own.
@@ -248,27 +239,19 @@ impl Reporter for ExactlyRewrittenBlocks {
     }
 
     fn finish<T: Sink>(&mut self, sink: &mut T) -> Result<(), Fault> {
-        if self.refused {
-            return Ok(());
-        }
         put_ending(self.output, sink)
     }
 }
 
 /// What a run answers that has read so many bytes and cells.
-fn answer(
-    reporter: &ExactlyRewrittenBlocks,
-    change: &Change,
-    bytes: u64,
-    cells: u64,
-) -> ExactlyRewritten
+fn answer(reporter: &ExactlyRewrittenBlocks, change: &Change, bytes: u64, cells: u64) -> Exact
     ensures { (form : Form) (b : List ℕ) → bytes ≡ length b → cells ≡ length (cells_of form b)
         → IsTallyOf reporter.now.tally (reports (cells_of form b))
         → AreMetAt reporter.now.met (placed (reports (cells_of form b)))
         → AnswersExactly form change.now b result }
 {
     let tally = &reporter.tally;
-    ExactlyRewritten {
+    Exact {
         counts: Counts {
             bytes,
             cells,
@@ -283,8 +266,7 @@ fn answer(
 
 /// Reads cells from any cell on, and writes the blocks that stand whole and closed in them as
 /// `rewrite` does, but only up to the first block that does not take all settings of the change,
-/// whose place it answers: neither that block nor what is behind it is written, and packed output
-/// gets no ending then. The input is read to its end. A block takes all settings of a channel if
+/// whose place it answers: neither that block nor what is behind it is written. The input is read to its end. A block takes all settings of a channel if
 /// its status, or the one that it is given, takes one of the two settings of each text, and those
 /// of four bytes where it is professional behind them.
 ///
@@ -297,7 +279,7 @@ pub fn rewrite_exactly<S: Source, T: Sink>(
     input: Form,
     output: Form,
     change: &Change,
-) -> Result<ExactlyRewritten, RunError>
+) -> Result<Exact, RunError>
     requires source_room { S.failed source.old + 1 < 2 ^ 64 }
     requires sink_room { T.failed sink.old + 1 < 2 ^ 64 }
     requires limit { max_bytes ≤ 2 ^ 40 }

@@ -60,6 +60,7 @@ const REWRITE: Job = Job::Rewrite {
         clear_user2: false,
         mend: true,
     },
+    exact: false,
 };
 
 const WATCH_SUMS: Job = Job::WatchSums {
@@ -85,6 +86,7 @@ const VALID: Job = Job::Rewrite {
         clear_user2: true,
         mend: false,
     },
+    exact: false,
 };
 
 fn asks_for(alloc: Global, words: &[&str], job: Job) -> bool {

@@ -53,6 +53,7 @@ const MENDED: Job = Job::Rewrite {
         clear_user2: false,
         mend: true,
     },
+    exact: false,
 };
 
 /// An input of a job, its output, the line of its refusal and the exit status.

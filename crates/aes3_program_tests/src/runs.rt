@@ -247,6 +247,7 @@ const REWRITE: Job = Job::Rewrite {
         clear_user2: false,
         mend: true,
     },
+    exact: false,
 };
 
 /// A line of cells.

@@ -80,10 +80,6 @@ line-of e h = ap (λ (v : Outcome). remark_line v.remark) e ∙ h
 none-out : (n : ℕ) → n ≡ 0 → remark_line (if n == 0 then Nothing else LeftOut n) ≡ []
 none-out n e = ap (λ k. remark_line (if k == 0 then Nothing else LeftOut k)) e
 
-not-exact : (a b : Bool) → IsFalse (a || b) → IsFalse b
-not-exact true b h = absurd cc
-not-exact false b h = h
-
 -- there is no line on a job of which none is told
 of-job-remark : (job : Job) (b : List ℕ) (n : Outcome) → (promise_of job).answer b n → IsFalse (remarks job)
     → remark_line n.remark ≡ []
@@ -100,8 +96,9 @@ of-job-remark (Show i d) b n h s = line-of h.2 refl
 of-job-remark (ShowChanges i d) b n h s = line-of h.2 refl
 of-job-remark (Scan i) b n h s = line-of h.2 refl
 of-job-remark (Cut i o f c) b n h s = line-of h.2 refl
-of-job-remark (Rewrite i o c x) b n h s =
-    line-of h.2 (unset (h.0.counts.blocks == 0) c h.0.first h.0.second (not-exact x (sets_fields c) s))
+of-job-remark (Rewrite i o c true) b n h s = absurd cc
+of-job-remark (Rewrite i o c false) b n h s =
+    line-of h.2 (unset (h.0.counts.blocks == 0) c h.0.first h.0.second s)
 of-job-remark (ToPcm i p true) b n h s = line-of h.2 refl
 of-job-remark (ToPcm i p false) b n h s = line-of h.2 refl
 of-job-remark (ToExactPcm i p) b n h s = absurd cc

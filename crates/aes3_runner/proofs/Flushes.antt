@@ -1,5 +1,5 @@
 -- A run that is flushed: what is told of it where it was refused, or where that failed.
-use Rattle.std.proofs.Common.{◌≡◌, ◌≢◌, ℕ, ◌+◌, inl, inr, Bool, List, [], Option, Result, Ok, Err, refl, sym, ap, subst}
+use Rattle.std.proofs.Common.{◌≡◌, ◌≢◌, ℕ, ◌+◌, inl, inr, Bool, List, Option, Result, Ok, Err, refl, sym, ap, subst}
 use Rattle.std.proofs.Common.{arith}
 use Rattle.aes3_cell.specs.Ends.{Grew}
 use Rattle.aes3_cell.specs.declared.refusal.RunError.{RunError}
@@ -8,7 +8,6 @@ use Rattle.aes3_cell.specs.declared.counts.Counts.{Counts}
 use Rattle.aes3_input.specs.Running.{InputRun, Movement, Promise, Quiet}
 use Rattle.aes3_input.proofs.InputRuns.{Gives, run-err, run-ok, run-write, run-sink_quiet}
 use Rattle.aes3_job.specs.declared.job.Job.{Job}
-use Rattle.aes3_job.specs.declared.job.Job.TheVariants.{WatchSums}
 use Rattle.aes3_cell.specs.declared.form.Form.{Form}
 use Rattle.aes3_settings.specs.declared.style.Style.{Style}
 use Rattle.aes3_account.specs.Sums.{begun_sums, sum_lines}

@@ -1,5 +1,5 @@
 -- What jobs write as packed cells is whole octets of them.
-use Rattle.std.proofs.Common.{◌≡◌, ◌%◌, ℕ, Bool, List, length, IsTrue, arith, ap, sym, ◌∙◌}
+use Rattle.std.proofs.Common.{◌≡◌, ◌%◌, ℕ, Bool, true, false, List, length, IsTrue, arith, ap, sym, ◌∙◌}
 use Rattle.aes3_level.specs.declared.level.Level.{Level}
 use Rattle.aes3_level.specs.declared.level.Level.TheVariants.{Low}
 use Rattle.aes3_level.proofs.WordCells.{word_len_64}
@@ -13,12 +13,15 @@ use Rattle.aes3_words.specs.Lists.{own_of}
 use Rattle.aes3_frame.specs.Blocks.{stream}
 use Rattle.aes3_frame.specs.Files.{file_blocks}
 use Rattle.aes3_frame.proofs.Streams.{EachBlock27, each27-whole}
-use Rattle.aes3_lock.specs.Reports.{blocks, normal}
+use Rattle.aes3_lock.specs.Reports.{blocks, normal, reports}
 use Rattle.aes3_input.specs.Inputs.{cells_of}
 use Rattle.aes3_runs.specs.BlockRuns.{cut_blocks, written_stream}
 use Rattle.aes3_runs.proofs.BlockRuns.{blocks27, cut-each, lines}
+use Rattle.aes3_engine.specs.Filling.{placed}
 use Rattle.aes3_engine.specs.Rewriting.{rewritten_blocks}
+use Rattle.aes3_engine.specs.RewritingExactly.{taking}
 use Rattle.aes3_engine.proofs.RewrittenBlocks.{each-blocks}
+use Rattle.aes3_engine.proofs.RewritingExactly.{taken27}
 use Rattle.aes3_hints.specs.Sentences.{is_packed, writes_packed}
 use Rattle.aes3_job.specs.declared.job.Job.{Job}
 use Rattle.aes3_job.specs.declared.job.Job.TheVariants.{Encode, Decode, Normal, Check, Account, Watch, WatchSums}
@@ -60,7 +63,10 @@ can-be-turned (Scan i) h b = absurd cc
 can-be-turned (Cut i o from count) h b =
     of-blocks o (cut_blocks from count (blocks (cells_of i b))) h
     (cut-each from count (blocks (cells_of i b)) (blocks27 (cells_of i b)))
-can-be-turned (Rewrite i o change exact) h b =
+can-be-turned (Rewrite i o change true) h b =
+    of-blocks o (rewritten_blocks change (taking change (placed (reports (cells_of i b))))) h
+    (taken27 change (cells_of i b))
+can-be-turned (Rewrite i o change false) h b =
     of-blocks o (rewritten_blocks change (blocks (cells_of i b))) h
     (each-blocks change (blocks (cells_of i b)) (blocks27 (cells_of i b)))
 can-be-turned (ToPcm i format valid) h b = absurd cc

@@ -1,5 +1,5 @@
 -- What the program does for a job.
-use Rattle.std.specs.Prelude.{ℕ, List, [], Bool, true, false, Result, Ok, Err, ◌≡◌, ◌≢◌, ◌+◌, ◌^◌, ◌==◌, ◌⊎◌, if◌then◌else◌}
+use Rattle.std.specs.Prelude.{ℕ, List, Bool, true, false, Result, Ok, Err, ◌≡◌, ◌≢◌, ◌+◌, ◌^◌, ◌==◌, ◌⊎◌, if◌then◌else◌}
 use Rattle.std.specs.Prelude.{max, min}
 use Rattle.aes3_level.specs.declared.level.Level.{Level}
 use Rattle.aes3_cell.specs.declared.counts.Counts.{Counts}
@@ -17,6 +17,7 @@ use Rattle.aes3_pcm.specs.Formats.{narrowed}
 use Rattle.aes3_engine.specs.Words.{told_words, words_file}
 use Rattle.aes3_runs.specs.ReportRuns.{counts_of}
 use Rattle.aes3_runs.specs.BlockRuns.{begun_stream, written_stream, cut_blocks, decided_blocks}
+use Rattle.aes3_engine.specs.RewritingExactly.{exactly_rewritten_cells}
 use Rattle.aes3_engine.specs.RewritingRuns.{rewritten_cells}
 use Rattle.aes3_engine.specs.Sampling.{sampled_words}
 use Rattle.aes3_engine.specs.Carrying.{all_carried}
@@ -87,7 +88,8 @@ promise_of (Cut i o from count) =
     (λ c. written_stream o (cut_blocks from count (blocks c)))
     (λ c. begun_stream o (cut_blocks from count (decided_blocks c)))
     (counts_of i)
-promise_of (Rewrite i o change exact) = told_as (of_rewritten change) (rewritten_cells i o change)
+promise_of (Rewrite i o change true) = told_as of_exact (exactly_rewritten_cells i o change)
+promise_of (Rewrite i o change false) = told_as (of_rewritten change) (rewritten_cells i o change)
 promise_of (ToPcm i format true) =
     plain_cells i
     (λ c. narrowed format (valid_samples (blocks c)))
@@ -99,7 +101,7 @@ promise_of (ToPcm i format false) =
     (λ c. narrowed format (samples (decided_blocks c)))
     (counts_of i)
 promise_of (ToExactPcm i format) = told_as of_exact (exact_cells i format)
-promise_of (ToFilledPcm i format fill marked) = told_as of_filled (filled_cells i format fill)
+promise_of (ToFilledPcm i format fill marked) = told_as of_filled (filled_cells i format fill marked)
 promise_of (FromPcm format exact change words) =
     told_as (of_samples change) (sampled_words format exact words change)
 promise_of (ToBits i bits channel) =

@@ -6,8 +6,8 @@ ghost use Rattle.aes3_runner.specs.OctetRuns.{ReadRefused};
 ghost use Rattle.aes3_input.specs.Running.{movement_of};
 
 use crate::job_run::run_job;
-use crate::remark::tell_outcome;
 use crate::refusal::refuse;
+use crate::remark::tell_outcome;
 use aes3_cell::{RunError, Sink, Source};
 use aes3_job::{Job, Observer};
 

@@ -2,18 +2,19 @@
 
 ghost use Rattle.std.specs.Prelude.{◌≡◌, ◌<◌, ◌≤◌, ◌+◌, ◌^◌, IfOk};
 ghost use Rattle.aes3_input.specs.Running.{movement_of};
-ghost use Rattle.aes3_job.specs.declared.job.Job.TheVariants.{ToPcm};
+ghost use Rattle.aes3_job.specs.declared.job.Job.TheVariants.{Rewrite, ToPcm};
 ghost use Rattle.aes3_runner.specs.JobRuns.{RunRan, period, status_by};
 
 use crate::outcome::{Outcome, encoded, exact, filled, plain, rewritten, sampled};
 use aes3_account::{account, watch, watch_sums};
 use aes3_cell::{Counts, Form, RunError, Sink, Source};
 use aes3_engine::{
-    cut, decode_words, encode_words, from_pcm_words, normalise, rewrite, to_bits, to_exact_pcm,
-    to_filled_pcm, to_pcm, to_valid_pcm,
+    cut, decode_words, encode_words, from_pcm_words, normalise, rewrite, rewrite_exactly, to_bits,
+    to_exact_pcm, to_filled_pcm, to_pcm, to_valid_pcm,
 };
 use aes3_job::Job;
 use aes3_pcm::SampleFormat;
+use aes3_status::Change;
 use aes3_text::{check, scan, show_changes, show_detail};
 
 /// How many bytes an input may have.
@@ -70,6 +71,32 @@ fn run_samples<S: Source, T: Sink>(
     }
 }
 
+/// Runs `rewrite`: of all blocks, or up to the first that does not take all settings.
+fn run_change<S: Source, T: Sink>(
+    source: &mut S,
+    sink: &mut T,
+    input: Form,
+    output: Form,
+    change: &Change,
+    exactly: bool,
+) -> Result<Outcome, RunError>
+    requires source_room { S.failed source.old + 1 < 2 ^ 64 }
+    requires sink_room { T.failed sink.old + 1 < 2 ^ 64 }
+    ensures ran { RunRan (Rewrite input output change.now exactly) (S.has_ended source.new)
+        (movement_of S.given S.failed source.old source.new)
+        (movement_of T.taken T.failed sink.old sink.new) result }
+    ensures passed_on { IfOk result (λ _. T.passed sink.new ≡ T.taken sink.new) }
+{
+    if exactly {
+        exact(rewrite_exactly(source, sink, MAX_BYTES, input, output, change))
+    } else {
+        rewritten(
+            rewrite(source, sink, MAX_BYTES, input, output, change),
+            change,
+        )
+    }
+}
+
 /// Runs a job.
 ///
 /// # Errors
@@ -115,8 +142,8 @@ pub fn run_job<S: Source, T: Sink>(
             input,
             output,
             change,
-            exact: _,
-        } => rewritten(rewrite(source, sink, MAX_BYTES, input, output, &change), &change),
+            exact,
+        } => run_change(source, sink, input, output, &change, exact),
         Job::ToPcm {
             input,
             format,
@@ -126,8 +153,8 @@ pub fn run_job<S: Source, T: Sink>(
             input,
             format,
             fill,
-            marked: _,
-        } => filled(to_filled_pcm(source, sink, MAX_BYTES, input, format, fill)),
+            marked,
+        } => filled(to_filled_pcm(source, sink, MAX_BYTES, input, format, fill, marked)),
         Job::ToExactPcm { input, format } => {
             exact(to_exact_pcm(source, sink, MAX_BYTES, input, format))
         }

@@ -145,12 +145,14 @@ fn taken_of(status: &Option<[u8; 24]>, settings: &Option<Settings>) -> Taken
     ensures { result ≡ taken_of settings.now
         (unwrap_or status.now (replicate 24 0) ∷ []) }
 {
-    let Some(settings) = settings else {
-        return Taken::NOTHING;
-    };
-    let mut taken = Taken::NOTHING;
-    taken.add(&status.unwrap_or([0; 24]), settings);
-    taken
+    match settings {
+        None => Taken::NOTHING,
+        Some(settings) => {
+            let mut taken = Taken::NOTHING;
+            taken.add(&status.unwrap_or([0; 24]), settings);
+            taken
+        }
+    }
 }
 
 /// The answer of a job that makes blocks of samples: their status is the same in all.

@@ -5,7 +5,8 @@ ghost use Rattle.arrayvec.specs.ArrayVec.{array_vec_len};
 ghost use Rattle.aes3_cell.specs.Writes.{Wrote};
 ghost use Rattle.aes3_input.specs.Running.{movement_of};
 ghost use Rattle.aes3_runner.specs.JobRuns.{end_status};
-ghost use Rattle.aes3_runner.specs.Lines.{filled_line, left_out_line, met_lines, remark_line};
+ghost use Rattle.aes3_runner.specs.Lines.{filled_line, left_out_line, lines_before, met_lines};
+ghost use Rattle.aes3_runner.specs.Lines.{remark_line};
 ghost use Rattle.aes3_runner.specs.Outcomes.{RemarkTold};
 
 use crate::job_run::exit_status;
@@ -14,6 +15,7 @@ use crate::refusal::{LINE_LEN, append, append_number, put_refusal, refuse};
 use aes3_cell::{Fault, RunError, Sink, write_all};
 use aes3_job::{Job, Observer};
 use aes3_settings::{UNTAKEN_LINES, untaken_line};
+use aes3_status::{Settings, Taken};
 use arrayvec::ArrayVec;
 
 /// Writes the line of how many frames fill, as one buffer.
@@ -50,21 +52,38 @@ fn put_left_out<T: Sink>(words: u64, sink: &mut T) -> Result<(), Fault>
 ///
 /// # Errors
 /// The sink's fault; then it has taken a front of the lines.
-fn put_untaken<T: Sink>(channel: u8, met: &Met, sink: &mut T) -> Result<(), Fault>
+fn put_lines<T: Sink>(
+    channel: u8,
+    settings: &Settings,
+    taken: &Taken,
+    sink: &mut T,
+) -> Result<(), Fault>
     requires room { T.failed sink.old + 1 < 2 ^ 64 }
-    ensures { Wrote T.taken T.failed sink.old sink.new (met_lines channel met.now) result }
+    ensures { Wrote T.taken T.failed sink.old sink.new
+        (lines_before channel settings.now taken.now 36) result }
 {
-    let Some(settings) = &met.settings else {
-        return Ok(());
-    };
     'lines: for at in 0..UNTAKEN_LINES {
-        let line = untaken_line(channel, settings, &met.taken, at);
+        let line = untaken_line(channel, settings, taken, at);
         match write_all(sink, line.as_bytes()) {
             Ok(()) => {}
             Err(fault) => return Err(fault),
         }
     }
     Ok(())
+}
+
+/// Writes those of a channel's settings, where some are given.
+///
+/// # Errors
+/// The sink's fault; then it has taken a front of the lines.
+fn put_untaken<T: Sink>(channel: u8, met: &Met, sink: &mut T) -> Result<(), Fault>
+    requires room { T.failed sink.old + 1 < 2 ^ 64 }
+    ensures { Wrote T.taken T.failed sink.old sink.new (met_lines channel met.now) result }
+{
+    match &met.settings {
+        None => Ok(()),
+        Some(settings) => put_lines(channel, settings, &met.taken, sink),
+    }
 }
 
 /// Writes those of both channels.

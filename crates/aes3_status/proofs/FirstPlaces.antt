@@ -132,7 +132,8 @@ module _ (first : List (Option ℕ)) (met : List Met) (bits : List Bool) (status
   same kind s = eq-eqb (kind_of status) kind (is ∙ sym s)
 
   pub met-before : (k : ℕ) → get_or first n None ≡ Some k → (kind : ℕ) → kind < 64
-      → get_or first kind None ≡ first_met (λ s. eqb (kind_of s) kind) (met ++ record { place = at; status = status } ∷ [])
+      → get_or first kind None
+      ≡ first_met (λ s. eqb (kind_of s) kind) (met ++ record { place = at; status = status } ∷ [])
   unfolding x
   met-before k f kind l = go (cases_eq kind n)
     where
@@ -178,7 +179,8 @@ below-with kinds n status e = go (cases_lt k n) (cases_eq k n)
     go : (k < n) ⊎ (n ≤ k) → (k ≡ n) ⊎ (k ≡ n → ⊥)
         → ((nat_lt k n && get_or kinds k false) || eqb k n) ≡ (nat_lt k (n + 1) && get_or kinds k false)
     go (inl l) (inl s) = absurd (omega arith)
-    go (inl l) (inr o) = rw (lt-ltb k n l) (rw (lt-ltb k (n + 1) (omega arith)) (rw (ne_eqb k n o) (or-none (get_or kinds k false))))
+    go (inl l) (inr o) =
+        rw (lt-ltb k n l) (rw (lt-ltb k (n + 1) (omega arith)) (rw (ne_eqb k n o) (or-none (get_or kinds k false))))
       where
         or-none : (b : Bool) → (b || false) ≡ b
         or-none true = refl

@@ -1,5 +1,6 @@
 -- Where statuses of each kind are met first.
-use Rattle.std.specs.Prelude.{ℕ, List, [], ◌∷◌, Bool, Option, Some, None, ◌≡◌, ◌<◌, ◌≤◌, ◌==◌, get_or, min, if◌then◌else◌}
+use Rattle.std.specs.Prelude.{ℕ, List, [], ◌∷◌, Bool, Option, Some, None, ◌≡◌, ◌<◌, ◌≤◌, ◌==◌, get_or, min}
+use Rattle.std.specs.Prelude.{if◌then◌else◌}
 use Rattle.aes3_status.specs.declared.kind_places.KindPlaces.{KindPlaces}
 use Rattle.aes3_status.specs.Taken.{kind_of}
 

@@ -11,7 +11,8 @@ drive-requires-clause-start g c = (
         (ap (λ k. k.tally.faults) c.new-taker.ensures.reporter)
         (ap (λ k. k.tally.unfinished) c.new-taker.ensures.reporter) c.new.ensures.tally,
     none-met-yet (ap (λ k. k.met) c.new-taker.ensures.reporter) c.new.ensures.met,
-    none-refused-yet c.new-taker.result.reporter.change (ap (λ k. k.refused) c.new-taker.ensures.reporter ∙ c.new.ensures.refused),
+    none-refused-yet c.new-taker.result.reporter.change
+        (ap (λ k. k.refused) c.new-taker.ensures.reporter ∙ c.new.ensures.refused),
   ),
 )
 

@@ -1,4 +1,4 @@
-use Rattle.aes3_runner.specs.Outcomes.{of_counts, of_exact, of_filled, of_rewritten, of_samples, of_words}
+use Rattle.aes3_runner.specs.Outcomes.{of_counts, of_exact, of_filled, of_samples, of_words}
 use Rattle.aes3_runner.proofs.Flushes.{run-of, sums-of, told-ran}
 use Rattle.aes3_runner.proofs.job_run.run_job.Goals as goal
 
@@ -33,7 +33,7 @@ pub returns-in-Cut-clause-ran : goal.returns-in-Cut-clause-ran
 returns-in-Cut-clause-ran g c = run-of c.in-Cut.is (told-ran of_counts c.plain-in-Cut.ensures c.cut.ensures.run)
 
 pub returns-in-Rewrite-clause-ran : goal.returns-in-Rewrite-clause-ran
-returns-in-Rewrite-clause-ran g c = run-of c.in-Rewrite.is (told-ran (of_rewritten c.in-Rewrite.change) c.rewritten.ensures c.rewrite.ensures.run)
+returns-in-Rewrite-clause-ran g c = run-of c.in-Rewrite.is c.run_change.ensures.ran
 
 pub returns-in-ToPcm-clause-ran : goal.returns-in-ToPcm-clause-ran
 returns-in-ToPcm-clause-ran g c = run-of c.in-ToPcm.is c.run_samples.ensures.ran

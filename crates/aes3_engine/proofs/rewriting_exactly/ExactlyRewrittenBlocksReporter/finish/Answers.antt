@@ -1,18 +1,12 @@
-use Rattle.std.proofs.Common.{◌≡◌, List, true, false, refl}
+use Rattle.std.proofs.Common.{◌≡◌, List}
 use Rattle.std.specs.Option.{is_some}
 use Rattle.aes3_cell.specs.Written.{ending}
-use Rattle.aes3_cell.proofs.Growing.{grew-is, grew-none}
 use Rattle.aes3_lock.specs.declared.report.Report.{Report}
 use Rattle.aes3_lock.specs.Tallies.{IsTallyOf}
 use Rattle.aes3_engine.specs.Filling.{placed}
 use Rattle.aes3_engine.specs.RewritingExactly.{AreMetAt, exactly_writing, first_refused}
 use Rattle.aes3_engine.proofs.RewritingExactly.{end-front, end-grew, ends-is}
 use Rattle.aes3_engine.proofs.rewriting_exactly.ExactlyRewrittenBlocksReporter.finish.Goals as goal
-
-pub returns-then-self-clause-grew : goal.returns-then-self-clause-grew
-returns-then-self-clause-grew g c = λ r h.
-    let k = c.args.self.now in
-    grew-is (ends-is k.output k.change r true c.if-self.true h.2) (grew-none refl)
 
 pub returns-clause-grew : goal.returns-clause-grew
 returns-clause-grew g c =
@@ -21,7 +15,7 @@ returns-clause-grew g c =
     (λ (r : List Report). IsTallyOf k.tally r × AreMetAt k.met (placed r)
     × (k.refused ≡ is_some (first_refused k.change (placed r))))
     (λ (r : List Report). (exactly_writing k.output k.change).ends r) c.put_ending.result
-    (λ r h. ends-is k.output k.change r false c.if-self.false h.2) c.put_ending.ensures.grew
+    (λ r h. ends-is k.output k.change r) c.put_ending.ensures.grew
 
 pub returns-clause-err_grew : goal.returns-clause-err_grew
 returns-clause-err_grew g c =
@@ -30,4 +24,4 @@ returns-clause-err_grew g c =
     (λ (r : List Report). IsTallyOf k.tally r × AreMetAt k.met (placed r)
     × (k.refused ≡ is_some (first_refused k.change (placed r))))
     (λ (r : List Report). (exactly_writing k.output k.change).ends r) c.put_ending.result
-    (λ r h. ends-is k.output k.change r false c.if-self.false h.2) c.put_ending.ensures.err
+    (λ r h. ends-is k.output k.change r) c.put_ending.ensures.err
