@@ -1,7 +1,10 @@
 -- A taker that gives marked blocks too, step by step.
-use Rattle.std.proofs.Common.{◌≡◌, ◌+◌, ◌≤◌, List, [], ◌∷◌, ◌++◌, Bool, true, Option, Some, length}
+use Rattle.std.proofs.Common.{◌≡◌, ℕ, ◌+◌, ◌≤◌, List, [], ◌∷◌, ◌++◌, Bool, true, Option, Some, length, take, drop}
 use Rattle.std.proofs.Common.{refl, sym, ap, ◌∙◌, subst, arith, append-nil, Result, Ok, Err, IfOk, OnErr}
+use Rattle.std.specs.List.{flat_map}
 use Rattle.aes3_level.specs.declared.level.Level.{Level}
+use Rattle.aes3_level.specs.Words.{word_cells}
+use Rattle.aes3_cell.proofs.Growing.{grew-none, grew-is}
 use Rattle.aes3_frame.specs.declared.fill.Fill.{Fill}
 use Rattle.aes3_frame.specs.Blocks.{zero_block}
 use Rattle.aes3_lock.specs.declared.report.Ending.{Ending}
@@ -10,11 +13,12 @@ use Rattle.aes3_lock.specs.declared.report.Report.{Report}
 use Rattle.aes3_lock.specs.declared.report.Report.TheVariants.{Whole as Stood, Marked as Marred}
 use Rattle.aes3_lock.specs.declared.report.Report.TheVariants.{Fault as Refuted, Unfinished as Cut}
 use Rattle.aes3_lock.specs.declared.tally.Tally.{Tally}
-use Rattle.aes3_lock.specs.Following.{LockState, HeldBlock, report_in}
+use Rattle.aes3_lock.specs.Following.{LockState, Follows, HeldBlock, report_in}
 use Rattle.aes3_lock.specs.Reports.{decided, reports}
 use Rattle.aes3_lock.specs.Tallies.{IsTallyOf}
+use Rattle.aes3_input.specs.Taking.{Writing, behind}
+use Rattle.aes3_input.proofs.Handing.{Handed, handed-cells, words-further}
 use Rattle.aes3_pcm.specs.declared.format.SampleFormat.{SampleFormat}
-use Rattle.aes3_input.specs.Taking.{behind}
 use Rattle.aes3_pcm.specs.Formats.{narrowed}
 use Rattle.aes3_pcm.proofs.Formats.{narrowed-none}
 use Rattle.aes3_engine.specs.declared.filling.Progress.{Progress}
@@ -140,6 +144,27 @@ pub no-end-bytes : (pcm : SampleFormat) (fill : Fill) (c : List Level) → repor
     → (mend_writing pcm fill).ends c ≡ []
 no-end-bytes pcm fill c e =
     ends-mended pcm fill c [] (given-more fill c [] e) ∙ none-written pcm fill (begun fill c)
+
+-- words that decide no report, behind those that were handed on
+pub mended-quiet : {w₀ : Writing Level} {f₀ : List Level → Type 0} {t₀ t : Option (List ℕ)} (k : MendedBlocks)
+    (lock : LockState) (ws rest : List ℕ) (i n : ℕ) → rest ≡ drop i ws
+    → Handed w₀ (mend_writing k.blocks.format k.blocks.fill) f₀
+    (λ (c : List Level). Follows k.lock c × IsMendedOf k c (decided c)) t₀ t (flat_map word_cells (take i ws))
+    → ((c : List Level) → Follows k.lock c → Follows lock (c ++ flat_map word_cells (take n rest)))
+    → ((c : List Level) → Follows k.lock c → decided (c ++ flat_map word_cells (take n rest)) ≡ decided c)
+    → Handed w₀ (mend_writing k.blocks.format k.blocks.fill) f₀
+    (λ (c : List Level). Follows lock c
+    × IsMendedOf (record { lock = lock; blocks = k.blocks; before = k.before; marked = k.marked }) c (decided c)) t₀ t
+    (flat_map word_cells (take (i + n) ws))
+mended-quiet k lock ws rest i n e h next none =
+    let d = flat_map word_cells (take n rest) in
+    handed-cells d (words-further ws rest i n e) h refl
+    (λ c q. (
+      next c q.0,
+      subst (IsMendedOf (record { lock = lock; blocks = k.blocks; before = k.before; marked = k.marked }) (c ++ d))
+          (sym (none c q.0)) (mended-lock k lock (c ++ d) (decided c) (mended-later k c d q.1)),
+    ))
+    (λ c q. grew-is (sym (quiet-bytes k.blocks.format k.blocks.fill c d (none c q.0))) (grew-none refl))
 
 -- what holds of each list of cells, by what is answered
 pub ok-each : {R E : Type 0} (r : Result R E) (F G : List Level → Type 0)

@@ -156,6 +156,18 @@ impl Taker for MendedBlocks {
         }
     }
 
+    fn words<T: Sink>(&mut self, sink: &mut T, words: &[u64]) -> Result<(), Fault> {
+        let mut at = 0;
+        loop {
+            at += self.lock.take_words(&words[at..]);
+            if at == words.len() {
+                return Ok(());
+            }
+            self.cells(sink, words[at], u64::BITS)?;
+            at += 1;
+        }
+    }
+
     fn finish<T: Sink>(&mut self, sink: &mut T) -> Result<(), Fault> {
         match self.lock.end() {
             Some(ending) => self.tell(sink, ending),
