@@ -197,10 +197,6 @@ below-without kinds n status e = go (cases_lt k n) (cases_eq k n)
     k : ℕ
     k = kind_of status
 
-    and-none : (b : Bool) → false ≡ (b && false)
-    and-none true = refl
-    and-none false = refl
-
     go : (k < n) ⊎ (n ≤ k) → (k ≡ n) ⊎ (k ≡ n → ⊥)
         → (nat_lt k n && get_or kinds k false) ≡ (nat_lt k (n + 1) && get_or kinds k false)
     go (inl l) s = rw (lt-ltb k n l) (rw (lt-ltb k (n + 1) (omega arith)) refl)
