@@ -7,6 +7,7 @@ pub mod StatusKinds
 pub mod TakenKinds
 pub mod TakingAll
 pub mod FirstPlaces
+pub mod Untaken
 pub mod Polynomials
 pub mod Weights
 pub mod ShiftRegister

@@ -1,6 +1,6 @@
 -- Which settings statuses take.
 use Rattle.std.specs.Prelude.{ℕ, List, [], ◌∷◌, Bool, false, ◌≡◌, ◌<◌, ◌%◌, ◌/◌, ◌==◌, map, take, get_or, slice_get}
-use Rattle.std.specs.Prelude.{option_and_then, replicate, slice_set}
+use Rattle.std.specs.Prelude.{◌++◌, drop, option_and_then, replicate, slice_set, suc}
 use Rattle.std.specs.List.{list_any, range_with_len}
 use Rattle.std.specs.Option.{is_some}
 use Rattle.aes3_bits.specs.Bits.{number}
@@ -20,6 +20,11 @@ has_code setting bytes = is_some (code_for setting bytes)
 abbrev pub takes : List Setting → List ℕ → ℕ → Bool
 takes settings bytes i =
     is_some (option_and_then (λ setting. code_for setting (set_in_turn (take i settings) bytes)) (slice_get settings i))
+
+-- a setting that a status does not take can be left out of those that it meets
+abbrev pub UntakenCanGo : Type 0
+UntakenCanGo = (settings : List Setting) (i : ℕ) (bytes : List ℕ) → takes settings bytes i ≡ false
+    → set_in_turn (take i settings ++ drop (suc i) settings) bytes ≡ set_in_turn settings bytes
 
 -- whether the fields of four bytes are set: behind all codes the status is professional
 abbrev pub takes_wide : Settings → List ℕ → Bool

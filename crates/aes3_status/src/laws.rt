@@ -4,6 +4,7 @@ ghost use Rattle.aes3_status.specs.Laws.{OneFlipIsFound, TwoFlipsAreFound, Weigh
 ghost use Rattle.aes3_status.specs.SettingLaws.{CodeIsReadBack, MeaningStays, OnlyItsBitsChange};
 ghost use Rattle.aes3_status.specs.SettingLaws.{OtherCodesStay, OtherFieldsStay, OtherMeaningsStay};
 ghost use Rattle.aes3_status.specs.SettingLaws.{SettingIsReadBack, UseStays};
+ghost use Rattle.aes3_status.specs.Taken.{UntakenCanGo};
 ghost use Rattle.aes3_status.specs.Wide.{OtherBytesStay, WideIsReadBack};
 
 /// The check tells of one or two inverted bits, wherever they stand.
@@ -45,4 +46,10 @@ pub fn fields_are_apart()
 pub fn wide_fields_are_read_back()
     ensures fields { WideIsReadBack }
     ensures others { OtherBytesStay }
+{}
+
+/// A setting that a status does not take changes nothing of it: the others alone make the same of
+/// it.
+pub fn untaken_settings_can_go()
+    ensures { UntakenCanGo }
 {}
