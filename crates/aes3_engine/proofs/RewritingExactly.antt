@@ -33,7 +33,7 @@ use Rattle.aes3_input.specs.Inputs.{cells_of}
 use Rattle.aes3_input.specs.Driving.{Drive, driven}
 use Rattle.aes3_input.proofs.InputRuns.{Gives, run-err, run-ok, run-told}
 use Rattle.aes3_input.proofs.Items.{before-is}
-use Rattle.aes3_runs.specs.BlockRuns.{begun_stream, normal_block, numbered, written_stream}
+use Rattle.aes3_runs.specs.BlockRuns.{normal_block, numbered, written_stream}
 use Rattle.aes3_runs.specs.Reporting.{reporting}
 use Rattle.aes3_runs.proofs.BlockRuns.{blocks27, decided27, normal-numbered, stream-ended}
 use Rattle.aes3_runs.proofs.Reports.{before-reports, with-reports}

@@ -1,4 +1,4 @@
-use Rattle.std.proofs.Common.{ℕ, List, map, take, [], ◌∷◌, ◌++◌, ap, ◌∙◌, subst}
+use Rattle.std.proofs.Common.{ℕ, List, map, take, [], ◌∷◌, ◌++◌, ap, subst}
 use Rattle.aes3_slot.specs.ReadWords.{read_words}
 use Rattle.aes3_slot.specs.Slots.{payload_len}
 use Rattle.aes3_lock.specs.declared.report.Ending.{Ending}
