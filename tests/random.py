@@ -1,7 +1,7 @@
 #!/usr/bin/env python3
 """tests/random.py PROGRAM [CASES [SEED]]: random lines with random damage, and what is made of them in Python beside what PROGRAM makes.
 
-Each case (40 where no number is given) is some blocks of the speech with V and U bits turned, as cells that are then turned, lost, put in
+Each case (40 where no number is given) is some blocks of the speech with V and U bits turned, and some for professional use, as cells that are then turned, lost, put in
 and cut. Of these the sums of `watch --every` are compared with the lines of `check --gaps`; `to-bits`, `show --more`, `to-pcm --valid`,
 `to-pcm --fill`, `to-pcm --exact` and `rewrite` with the block file of `decode`, `to-pcm --marked` with the cells, and each with what standard error has; `show --names` with the codes of alsa/asoundef.h, and what it prints with what `rewrite` sets by it; and `--lsb-first` with octets that are packed here. The last line is `N passed, M failed`.
 """
@@ -64,6 +64,8 @@ def line_of(program, chance, speech):
     for _ in range(chance.choice([0, 3, 50])):
         at = chance.randrange(len(words))
         words[at] = with_parity(words[at] ^ 1 << chance.choice([28, 29]))
+    for at in range(0, len(words), 2 * FRAMES):
+        words[at] = with_parity(words[at] ^ chance.choice([0, 0, 1]) << 30)
     cells = bytearray(run(program, ["encode"], bytes_of(words))[1].replace(b"\n", b""))
     for _ in range(chance.choice([0, 0, 1, 4])):
         at = SLOT * chance.randrange(len(cells) // SLOT) + 9 + 2 * chance.randrange(28)
@@ -191,7 +193,7 @@ def judged(program, cells, every, statuses):
     for pcm, octets in (("s16", 2), ("s24", 3), ("s32", 4)):
         yield f"to-pcm --exact --pcm {pcm}", run_and_told(program, ["to-pcm", "--exact", "--pcm", pcm], cells) == exact(blocks, octets)
     statuses = [octets_of(bits)[0] & 1 for bits in bits_of(words, PLACES["status"], 0)]
-    for fields in ({"copyright=asserted": 0}, {"reference=grade1": 1}, {"copyright=asserted": 0, "reference=grade1": 1}):
+    for fields in ({"copyright=asserted": 0}, {"aux=audio": 1}, {"copyright=asserted": 0, "aux=audio": 1}):
         typed = [word for field in fields for word in ("--set1", field)]
         yield f"rewrite {typed}", run_and_told(program, ["rewrite", *typed], cells)[2] == untaken(fields, statuses)
         first = next((i for i, use in enumerate(statuses) if any(use != wanted for wanted in fields.values())), len(blocks))
