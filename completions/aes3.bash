@@ -76,7 +76,7 @@ _aes3() {
         --pcm) _aes3_words s32 s24 s24in32 s16; return ;;
         --fill) _aes3_words zero hold; return ;;
         --every | --every-seconds | --rate | --status1 | --status2) return ;;
-        --explain) _aes3_words 1 2 3 4 5 6 7 8 9 10 11 12; return ;;
+        --explain) _aes3_words 1 2 3 4 5 6 7 8 9 10 11 12 13; return ;;
     esac
     [ -z "$option" ] || return
     if [ "$COMP_CWORD" = 1 ]; then
@@ -98,8 +98,8 @@ _aes3() {
         show) _aes3_words --packed-in --raw-in --lsb-first --changes --at --more --names --help ;;
         scan) _aes3_words --packed-in --raw-in --lsb-first --help ;;
         cut) _aes3_words --packed-in --raw-in --packed-out --lsb-first --help ;;
-        rewrite) _aes3_words --packed-in --raw-in --packed-out --lsb-first --status1 --status2 --set1 --set2 --mend-check --valid1 --valid2 --clear-user1 --clear-user2 --help ;;
-        to-pcm) _aes3_words --packed-in --raw-in --lsb-first --pcm --valid --fill --help ;;
+        rewrite) _aes3_words --packed-in --raw-in --packed-out --lsb-first --status1 --status2 --set1 --set2 --mend-check --valid1 --valid2 --clear-user1 --clear-user2 --exact --help ;;
+        to-pcm) _aes3_words --packed-in --raw-in --lsb-first --pcm --valid --fill --marked --exact --help ;;
         from-pcm) _aes3_words --status1 --status2 --set1 --set2 --mend-check --exact --pcm --words --help ;;
         to-bits) _aes3_words --packed-in --raw-in --lsb-first --help ;;
     esac

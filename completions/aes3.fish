@@ -60,7 +60,7 @@ end
 complete -c aes3 -f
 complete -c aes3 -n __fish_use_subcommand -s h -l help -d 'Print help'
 complete -c aes3 -n __fish_use_subcommand -s V -l version -d 'Print version'
-complete -c aes3 -n __fish_use_subcommand -l explain -x -a '1 2 3 4 5 6 7 8 9 10 11 12' -d 'Print what the refusals mean, or the one of this NUMBER, and what to do'
+complete -c aes3 -n __fish_use_subcommand -l explain -x -a '1 2 3 4 5 6 7 8 9 10 11 12 13' -d 'Print what the refusals mean, or the one of this NUMBER, and what to do'
 complete -c aes3 -n __fish_use_subcommand -a encode -d 'Write the cells of a block file'
 complete -c aes3 -n __fish_use_subcommand -a decode -d 'Write the whole blocks as a block file'
 complete -c aes3 -n __fish_use_subcommand -a normal -d 'Write the whole blocks again, in the normal polarity'
@@ -138,6 +138,7 @@ complete -c aes3 -n '__fish_seen_subcommand_from rewrite' -l valid1 -x -a '0 1' 
 complete -c aes3 -n '__fish_seen_subcommand_from rewrite' -l valid2 -x -a '0 1' -d 'The validity bit of channel 2: 0 says that samples can be taken as they are'
 complete -c aes3 -n '__fish_seen_subcommand_from rewrite' -l clear-user1 -d 'Make the user bits of channel 1 0'
 complete -c aes3 -n '__fish_seen_subcommand_from rewrite' -l clear-user2 -d 'Make the user bits of channel 2 0'
+complete -c aes3 -n '__fish_seen_subcommand_from rewrite' -l exact -d 'Refuse blocks that leave out what --set1 or --set2 sets'
 complete -c aes3 -n '__fish_seen_subcommand_from rewrite' -l help -s h -d 'Print help'
 complete -c aes3 -n "__fish_seen_subcommand_from to-pcm; and not string match -q -- '-*' (commandline -ct)" -F
 complete -c aes3 -n '__fish_seen_subcommand_from to-pcm' -l packed-in -d 'Read packed cells, eight an octet'
@@ -146,6 +147,8 @@ complete -c aes3 -n '__fish_seen_subcommand_from to-pcm' -l lsb-first -d 'Packed
 complete -c aes3 -n '__fish_seen_subcommand_from to-pcm' -l pcm -x -a 's32 s24 s24in32 s16' -d 'The samples are of 32 bits, of 24 in 3 or 4 bytes, or of 16'
 complete -c aes3 -n '__fish_seen_subcommand_from to-pcm' -l valid -d 'Write zero for a sample whose validity bit is 1'
 complete -c aes3 -n '__fish_seen_subcommand_from to-pcm' -l fill -x -a 'zero hold' -d 'Keep time: fill what no whole block gives with zeros, or with the last frame'
+complete -c aes3 -n '__fish_seen_subcommand_from to-pcm' -l marked -d 'With --fill: give blocks with wrong parity too, and fill those subframes'
+complete -c aes3 -n '__fish_seen_subcommand_from to-pcm' -l exact -d 'Refuse blocks that would lose bits'
 complete -c aes3 -n '__fish_seen_subcommand_from to-pcm' -l help -s h -d 'Print help'
 complete -c aes3 -n "__fish_seen_subcommand_from from-pcm; and not string match -q -- '-*' (commandline -ct)" -F
 complete -c aes3 -n '__fish_seen_subcommand_from from-pcm' -l status1 -x -d 'The status of channel 1, in hexadecimal'

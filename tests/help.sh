@@ -1,6 +1,6 @@
 #!/bin/sh
 # tests/help.sh PROGRAM runs the examples that the program's help and that of each command show, in the order of the
-# program's own help first: each has to end with status 0 and to say nothing on standard error. Those that need sox are left
+# program's own help first: each has to end with status 0 and to say nothing on standard error but what is remarked on a job. Those that need sox are left
 # out, and told, where it isn't installed. What `--explain` prints has to stand in the README's table of refusals, word for word.
 #
 # The last line is `N passed, M failed`, and the status 0 where none failed.
@@ -29,11 +29,12 @@ done
 # One shell for all, since an example may set a variable for the next.
 cd "$work/here" || exit 2
 passed=0 failed=0
+remarks='^aes3: \(filled [0-9]* frames\|no block took .*\)$'
 while IFS= read -r line; do
     case $line in
     *'| sox '*) command -v sox >/dev/null || { printf 'left out: %s\n' "of help: $line (sox is not installed)"; continue; } ;;
     esac
-    eval "$line" >/dev/null 2>"$work/said" </dev/null && [ ! -s "$work/said" ] && { passed=$((passed + 1)); continue; }
+    eval "$line" >/dev/null 2>"$work/said" </dev/null && ! grep -qv "$remarks" "$work/said" && { passed=$((passed + 1)); continue; }
     failed=$((failed + 1))
     echo "$line" >&2
     cat "$work/said" >&2

@@ -173,7 +173,8 @@ else
 fi
 
 # Memory refused anywhere before the input is read: from a limit at which the program can't be loaded to one at which it
-# runs, each run is done, or it ends with refusal 8 and its line.
+# runs, each run is done, or it ends with refusal 8 and its line, or the system ends it without a word (127, 137), at some limits
+# as the stack can't grow (139), of which a program is not told.
 refused=0
 limit=2000
 while [ "$limit" -le 4000 ]; do
@@ -185,7 +186,7 @@ while [ "$limit" -le 4000 ]; do
     if [ "$status" = 3 ]; then
         refused=$((refused + 1))
         [ "$(cat "$folder/errors")" = "aes3: refused 8" ] || wrong "memory of $limit KiB: $(cat "$folder/errors")"
-    elif [ "$status" != 127 ] && [ "$status" != 0 ] && [ "$status" != 137 ]; then
+    elif [ "$status" != 127 ] && [ "$status" != 0 ] && [ "$status" != 137 ] && [ "$status" != 139 ]; then
         wrong "memory of $limit KiB: status $status"
     fi
     limit=$((limit + 20))
