@@ -1,7 +1,7 @@
 /* The plain program of this bench: the same work as aes3, a byte and a cell at a time.
  *
  * It is what one writes in an afternoon: right, in fixed memory, not tuned and not proved. It reads encode, decode,
- * normal, check and scan with --packed-in and --packed-out, and takes right input for granted; bench/run compares
+ * normal, check and scan with --packed-in and --packed-out, and takes right input for granted; bench/forms compares
  * its output with that of aes3.
  */
 #include <stdint.h>
