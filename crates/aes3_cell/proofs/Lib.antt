@@ -20,4 +20,5 @@ pub mod EightWords
 pub mod TextLines
 pub mod FedLists
 pub mod KeptCells
+pub mod ClosedGaps
 pub mod ScatteredText

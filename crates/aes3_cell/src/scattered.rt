@@ -75,6 +75,40 @@ fn together(kept: u64, levels: u64) -> SomeCells
     }
 }
 
+/// As many gaps as to take each out by itself costs less than the tables do.
+const FEW: u32 = 9;
+
+/// What `together` gives, for text with few separators, as in long lines: each gap is closed by
+/// itself, from the lowest on, by moving all above it down by one.
+#[inline(always)]
+fn closed_up(kept: u64, levels: u64) -> SomeCells
+    ensures { low_cells result.len result.word ≡ kept_cells 64 kept levels }
+{
+    let mut gaps = !kept;
+    let mut word = levels & kept;
+    let mut len = 64;
+    while gaps != 0 {
+        let others = gaps & (gaps - 1);
+        // What is below the gap is doubled first, so that it stays where it is.
+        word = (word + (word & (gaps ^ (gaps - 1)))) >> 1;
+        gaps = others >> 1;
+        len -= 1;
+    }
+    SomeCells { word, len }
+}
+
+/// The bits of `levels` at the ones of `kept`, as `together` gives them, by the shorter way.
+#[inline(always)]
+fn kept_together(kept: u64, levels: u64) -> SomeCells
+    ensures { low_cells result.len result.word ≡ kept_cells 64 kept levels }
+{
+    if kept.count_zeros() <= FEW {
+        closed_up(kept, levels)
+    } else {
+        together(kept, levels)
+    }
+}
+
 /// The cells of 64 bytes, each a cell or a separator; none where one is neither.
 #[inline(always)]
 pub(crate) fn cells_among(bytes: &[u8; 64]) -> Option<SomeCells>
@@ -87,7 +121,7 @@ pub(crate) fn cells_among(bytes: &[u8; 64]) -> Option<SomeCells>
     let cells = high | equal_to(bytes, b'0');
     let separators = equal_to(bytes, b'\n') | equal_to(bytes, b'\r') | equal_to(bytes, b' ');
     if cells | separators == u64::MAX {
-        Some(together(cells, high))
+        Some(kept_together(cells, high))
     } else {
         None
     }

@@ -8,7 +8,7 @@ returns-then-cells-separators-clause-cells c =
     c.equal_to-4.result c.told-bytes
     c.equal_to-high.ensures c.equal_to.ensures c.equal_to-2.ensures c.equal_to-3.ensures c.equal_to-4.ensures
     c.if-cells-separators.true
-    ∙ sym c.together.ensures
+    ∙ sym c.kept_together.ensures
 
 pub returns-then-cells-separators-clause-lawful : goal.returns-then-cells-separators-clause-lawful
 returns-then-cells-separators-clause-lawful c =
