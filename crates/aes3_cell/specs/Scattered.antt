@@ -1,5 +1,5 @@
 -- Cells that stand among other bytes, by a number's bits.
-use Rattle.std.specs.Prelude.{ℕ, zero, suc, List, [], ◌∷◌, ◌++◌, ◌≡◌, ◌<◌, ◌%◌, ◌/◌, ◌^◌, ◌==◌, length, if◌then◌else◌}
+use Rattle.std.specs.Prelude.{ℕ, zero, suc, List, [], ◌∷◌, ◌++◌, ◌≡◌, ◌<◌, ◌%◌, ◌/◌, ◌^◌, ◌==◌, ◌||◌, Bool, length, if◌then◌else◌}
 use Rattle.aes3_level.specs.declared.level.Level.{Level}
 use Rattle.aes3_level.specs.Words.{level_of, low_cells}
 
@@ -16,3 +16,7 @@ kept_cells (suc n) kept levels = cell_if (kept % 2) (levels % 2) ++ kept_cells n
 pub record Holds (cells : List Level) (word : ℕ) : Type 0 where
   pub cells_of : low_cells (length cells) word ≡ cells
   pub bound : word < 2 ^ length cells
+
+-- LF, CR and space
+abbrev pub is_separator : ℕ → Bool
+is_separator byte = byte == 10 || (byte == 13 || byte == 32)

@@ -1,10 +1,11 @@
 //! Cells among separators, 64 bytes at once.
 
 ghost use Rattle.std.specs.Prelude.{◌≡◌, ◌+◌, ◌*◌, ◌/◌, ◌%◌, ◌^◌, ◌<◌, ◌≤◌, ◌++◌, ℕ, List};
-ghost use Rattle.std.specs.Prelude.{IfNone, IfSome, OnSome, get_or, length};
+ghost use Rattle.std.specs.Prelude.{IfNone, IfSome, OnSome, get_or, length, if◌then◌else◌};
+ghost use Rattle.std.specs.Int.{bit_at};
 ghost use Rattle.aes3_level.specs.declared.level.Level.{Level};
 ghost use Rattle.aes3_cell.specs.CellText.{IsCellText, cells_of_text};
-ghost use Rattle.aes3_cell.specs.Scattered.{Holds, kept_cells};
+ghost use Rattle.aes3_cell.specs.Scattered.{Holds, is_separator, kept_cells};
 ghost use Rattle.aes3_level.specs.Words.{low_cells};
 
 use crate::text_words::SomeCells;
@@ -75,7 +76,7 @@ fn together(kept: u64, levels: u64) -> SomeCells
     }
 }
 
-/// As many gaps as to take each out by itself costs less than the tables do.
+/// Up to so many gaps it costs less to close each by itself than to look all up in the tables.
 const FEW: u32 = 9;
 
 /// What `together` gives, for text with few separators, as in long lines: each gap is closed by
@@ -97,7 +98,7 @@ fn closed_up(kept: u64, levels: u64) -> SomeCells
     SomeCells { word, len }
 }
 
-/// The bits of `levels` at the ones of `kept`, as `together` gives them, by the shorter way.
+/// What `together` gives, by the way that is shorter for so many gaps.
 #[inline(always)]
 fn kept_together(kept: u64, levels: u64) -> SomeCells
     ensures { low_cells result.len result.word ≡ kept_cells 64 kept levels }
@@ -107,6 +108,18 @@ fn kept_together(kept: u64, levels: u64) -> SomeCells
     } else {
         together(kept, levels)
     }
+}
+
+/// The bytes that are separators, each a one. Nobody asks which of the three kinds a separator is,
+/// so one word is made for all of them.
+#[inline(always)]
+fn separators_of(bytes: &[u8; 64]) -> u64
+    ensures { (i : ℕ) → i < 64 → bit_at result i
+        ≡ (if is_separator (get_or bytes.now i 0) then 1 else 0) }
+{
+    let bytes = u8x64::from_array(*bytes);
+    let ends = bytes.simd_eq(u8x64::splat(b'\n')) | bytes.simd_eq(u8x64::splat(b'\r'));
+    (ends | bytes.simd_eq(u8x64::splat(b' '))).to_bitmask()
 }
 
 /// The cells of 64 bytes, each a cell or a separator; none where one is neither.
@@ -119,7 +132,7 @@ pub(crate) fn cells_among(bytes: &[u8; 64]) -> Option<SomeCells>
 {
     let high = equal_to(bytes, b'1');
     let cells = high | equal_to(bytes, b'0');
-    let separators = equal_to(bytes, b'\n') | equal_to(bytes, b'\r') | equal_to(bytes, b' ');
+    let separators = separators_of(bytes);
     if cells | separators == u64::MAX {
         Some(kept_together(cells, high))
     } else {

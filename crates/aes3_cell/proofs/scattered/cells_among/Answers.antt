@@ -4,23 +4,19 @@ use Rattle.aes3_cell.proofs.scattered.cells_among.Goals as goal
 
 pub returns-then-cells-separators-clause-cells : goal.returns-then-cells-separators-clause-cells
 returns-then-cells-separators-clause-cells c =
-    scattered-cells c.args.bytes.now c.equal_to-high.result c.equal_to.result c.equal_to-2.result c.equal_to-3.result
-    c.equal_to-4.result c.told-bytes
-    c.equal_to-high.ensures c.equal_to.ensures c.equal_to-2.ensures c.equal_to-3.ensures c.equal_to-4.ensures
+    scattered-cells c.args.bytes.now c.equal_to-high.result c.equal_to.result c.separators_of-separators.result
+    c.told-bytes c.equal_to-high.ensures c.equal_to.ensures c.separators_of-separators.ensures
     c.if-cells-separators.true
     ∙ sym c.kept_together.ensures
 
 pub returns-then-cells-separators-clause-lawful : goal.returns-then-cells-separators-clause-lawful
 returns-then-cells-separators-clause-lawful c =
-    lawful c.args.bytes.now c.equal_to-high.result c.equal_to.result c.equal_to-2.result c.equal_to-3.result
-    c.equal_to-4.result c.told-bytes
-    c.equal_to-high.ensures c.equal_to.ensures c.equal_to-2.ensures c.equal_to-3.ensures c.equal_to-4.ensures
-    c.if-cells-separators.true
+    lawful c.args.bytes.now c.equal_to-high.result c.equal_to.result c.separators_of-separators.result c.told-bytes
+    c.equal_to-high.ensures c.equal_to.ensures c.separators_of-separators.ensures c.if-cells-separators.true
 
 pub returns-else-cells-separators-clause-owed : goal.returns-else-cells-separators-clause-owed
 returns-else-cells-separators-clause-owed c = λ t.
     c.if-cells-separators.false
-    (all-tell c.args.bytes.now c.equal_to-high.result c.equal_to.result c.equal_to-2.result c.equal_to-3.result
-    c.equal_to-4.result c.told-bytes
-    c.equal_to-high.ensures c.equal_to.ensures c.equal_to-2.ensures c.equal_to-3.ensures c.equal_to-4.ensures
-    c.equal_to-high.type_inv c.equal_to.type_inv c.equal_to-2.type_inv c.equal_to-3.type_inv c.equal_to-4.type_inv t)
+    (all-tell c.args.bytes.now c.equal_to-high.result c.equal_to.result c.separators_of-separators.result c.told-bytes
+    c.equal_to-high.ensures c.equal_to.ensures c.separators_of-separators.ensures c.equal_to-high.type_inv
+    c.equal_to.type_inv c.separators_of-separators.type_inv t)

@@ -1,0 +1,5 @@
+use Rattle.aes3_cell.proofs.ScatteredText.{separators-at}
+use Rattle.aes3_cell.proofs.scattered.separators_of.Goals as goal
+
+pub returns : goal.returns
+returns c = separators-at c.args.bytes.now c.told-bytes
