@@ -1,7 +1,7 @@
 -- Blocks kept as words.
-use Rattle.std.proofs.Common.{◌≡◌, ◌≢◌, ℕ, zero, suc, ◌*◌, ◌/◌, ◌%◌, ◌≤◌, List, ◌∷◌, Bool, true, cond, map, set, get_or}
-use Rattle.std.proofs.Common.{replicate, refl, ap, ap₂, ◌∙◌, arith, eq-eqb, ne_eqb}
-use Rattle.std.proofs.lemmas.List.{map-set}
+use Rattle.std.proofs.Common.{◌≡◌, ◌≢◌, ℕ, zero, suc, ◌*◌, ◌/◌, ◌%◌, ◌≤◌, ◌<◌, List, [], ◌∷◌, Bool, true, cond, map}
+use Rattle.std.proofs.Common.{length, set, get_or, replicate, refl, sym, ap, ap₂, ◌∙◌, arith, eq-eqb, ne_eqb}
+use Rattle.std.proofs.lemmas.List.{map-set, get_or-map}
 use Rattle.aes3_slot.specs.declared.mark.Mark.{Mark}
 use Rattle.aes3_slot.specs.declared.mark.Mark.TheVariants.{X, Y, Z}
 use Rattle.aes3_slot.specs.Slots.{payload_len, slots_len}
@@ -43,6 +43,18 @@ pub payloads-set : (words : List ℕ) (i j v w : ℕ) (x y : List Bool) → payl
 payloads-set words i j v w x y e f =
     map-set payload_of (set words i v) j w
     ∙ ap₂ (λ ws p. set ws j p) (map-set payload_of words i v ∙ ap (set (map payload_of words) i) e) f
+
+-- a payload read, and one bit of it written
+pub payload-at : (words : List ℕ) (b : List (List Bool)) (i : ℕ) → map payload_of words ≡ b → i < length words
+    → get_or b i [] ≡ payload_of (get_or words i 0)
+payload-at words b i e h = ap (λ x. get_or x i []) (sym e) ∙ get_or-map payload_of words i 0 [] h
+
+pub payload-set : (words : List ℕ) (b : List (List Bool)) (i w place : ℕ) (bit : Bool) → map payload_of words ≡ b
+    → i < length words → payload_of w ≡ set (payload_of (get_or words i 0)) place bit
+    → map payload_of (set words i w) ≡ set b i (set (get_or b i []) place bit)
+payload-set words b i w place bit e h f =
+    map-set payload_of words i w
+    ∙ ap₂ (λ x p. set x i p) e (f ∙ ap (λ p. set p place bit) (sym (payload-at words b i e h)))
 
 -- the preambles of a block
 pub mark_at-zero : (i : ℕ) → i ≡ 0 → mark_at i ≡ Z

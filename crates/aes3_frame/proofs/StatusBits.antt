@@ -10,15 +10,15 @@ use Rattle.std.specs.Option.{option_map}
 use Rattle.std.proofs.lemmas.Nat.{shl_whole}
 use Rattle.std.proofs.lemmas.Bool.{cases_lt}
 use Rattle.std.proofs.lemmas.List.{take_more, take_more_set, take_all, length-take-le, get_or-append-add}
-use Rattle.std.proofs.lemmas.List.{get_or_append_left, set-append_right, drop-drop}
+use Rattle.std.proofs.lemmas.List.{get_or_append_left, drop-drop}
 use Rattle.std.proofs.lemmas.Option.{slice_get-map, slice_get-get_or, slice_get_within, get_or_from_slice_get}
 use Rattle.aes3_bits.specs.Bits.{low_bits, number}
 use Rattle.aes3_bits.proofs.Bits.{length-low_bits, low_bits-at, number-lt, number-push}
-use Rattle.aes3_frame.specs.declared.subframe.Subframe.{Subframe}
 use Rattle.aes3_frame.specs.declared.status.Channel.{Channel}
 use Rattle.aes3_frame.specs.declared.status.Channel.TheVariants.{First, Second}
+use Rattle.aes3_frame.specs.declared.subframe.Subframe.{Subframe}
 use Rattle.aes3_frame.specs.Subframes.{audio_len, bits_of}
-use Rattle.aes3_frame.specs.Statuses.{of_channel, validity_place, user_place, status_place, bits_at, status_len}
+use Rattle.aes3_frame.specs.Statuses.{of_channel, validity_place, user_place, status_place, first_slot_of, bits_at, status_len}
 use Rattle.aes3_frame.specs.Statuses.{bytes_in, bits_of_bytes, with_bits_at}
 use Rattle.aes3_frame.proofs.BitLemmas.{bit-set}
 
@@ -26,8 +26,21 @@ pub status_len_24 : status_len ≡ 24
 unfolding status_len
 status_len_24 = refl
 
--- a bit of a subframe behind its audio, read and written
-pub behind-get : (s : Subframe) (k : ℕ)
+-- where the bits stand
+pub validity_place_24 : validity_place ≡ 24
+unfolding validity_place audio_len
+validity_place_24 = refl
+
+pub user_place_25 : user_place ≡ 25
+unfolding user_place audio_len
+user_place_25 = refl
+
+pub status_place_26 : status_place ≡ 26
+unfolding status_place audio_len
+status_place_26 = refl
+
+-- a bit of a subframe behind its audio
+behind-get : (s : Subframe) (k : ℕ)
     → get_or (bits_of s) (audio_len + k) false ≡ get_or (s.v ∷ s.u ∷ s.c ∷ []) k false
 behind-get s k =
     let low = low_bits audio_len s.audio in
@@ -35,43 +48,14 @@ behind-get s k =
     (sym (length-low_bits audio_len s.audio))
     ∙ get_or-append-add low (s.v ∷ s.u ∷ s.c ∷ []) k false
 
-behind-set : (s : Subframe) (k : ℕ) (bit : Bool)
-    → set (bits_of s) (audio_len + k) bit ≡ low_bits audio_len s.audio ++ set (s.v ∷ s.u ∷ s.c ∷ []) k bit
-behind-set s k bit =
-    let low = low_bits audio_len s.audio in
-    set-append_right low (s.v ∷ s.u ∷ s.c ∷ []) audio_len (audio_len + k) bit (length-low_bits audio_len s.audio)
-    (omega arith)
-    ∙ ap (λ n. low_bits audio_len s.audio ++ set (s.v ∷ s.u ∷ s.c ∷ []) n bit)
-    (let e : audio_len + k - audio_len ≡ k = omega arith in e)
-
 pub validity-get : (s : Subframe) → get_or (bits_of s) validity_place false ≡ s.v
 unfolding validity_place
 validity-get s = ap (λ n. get_or (bits_of s) n false) (let e : audio_len ≡ audio_len + 0 = omega arith in e)
     ∙ behind-get s 0
 
-pub user-get : (s : Subframe) → get_or (bits_of s) user_place false ≡ s.u
-unfolding user_place
-user-get s = behind-get s 1
-
 pub status-get : (s : Subframe) → get_or (bits_of s) status_place false ≡ s.c
 unfolding status_place
 status-get s = behind-get s 2
-
-pub validity-set : (s : Subframe) (bit : Bool)
-    → low_bits audio_len s.audio ++ bit ∷ s.u ∷ s.c ∷ [] ≡ set (bits_of s) validity_place bit
-unfolding validity_place
-validity-set s bit = sym (behind-set s 0 bit)
-    ∙ ap (λ n. set (bits_of s) n bit) (let e : audio_len + 0 ≡ audio_len = omega arith in e)
-
-pub user-set : (s : Subframe) (bit : Bool)
-    → low_bits audio_len s.audio ++ s.v ∷ bit ∷ s.c ∷ [] ≡ set (bits_of s) user_place bit
-unfolding user_place
-user-set s bit = sym (behind-set s 1 bit)
-
-pub status-set : (s : Subframe) (bit : Bool)
-    → low_bits audio_len s.audio ++ s.v ∷ s.u ∷ bit ∷ [] ≡ set (bits_of s) status_place bit
-unfolding status_place
-status-set s bit = sym (behind-set s 2 bit)
 
 -- the payloads of a channel by frames
 twice-suc : (i : ℕ) → 2 * suc i ≡ suc (suc (2 * i))
@@ -98,6 +82,21 @@ pub bits-get : (place : ℕ) (b : List (List Bool)) (channel : Channel) (i : ℕ
 bits-get place b channel i p bit e g =
     slice_get-map (λ q. get_or q place false) (of_channel channel b) i ∙ ap (option_map (λ q. get_or q place false)) e
     ∙ ap Some g
+
+-- of the payload at its number
+channel-get : (b : List (List Bool)) (channel : Channel) (i n : ℕ) → n ≡ 2 * i + first_slot_of channel → n < length b
+    → slice_get (of_channel channel b) i ≡ Some (get_or b n [])
+channel-get b First i n e h =
+    first-get b i (get_or b n []) (ap (slice_get b) (let f : 2 * i ≡ n = omega arith in f) ∙ slice_get-get_or b n [] h)
+channel-get b Second i n e h =
+    second-get b i (get_or b n []) (ap (slice_get b) (sym e) ∙ slice_get-get_or b n [] h)
+
+pub channel-bit : (place : ℕ) (b : List (List Bool)) (channel : Channel) (i n at : ℕ) (bit : Bool)
+    → n ≡ 2 * i + first_slot_of channel → n < length b → at ≡ place → get_or (get_or b n []) at false ≡ bit
+    → slice_get (bits_at place b channel) i ≡ Some bit
+channel-bit place b channel i n at bit e h p g =
+    bits-get place b channel i (get_or b n []) bit (channel-get b channel i n e h)
+    (ap (λ k. get_or (get_or b n []) k false) (sym p) ∙ g)
 
 pub slice_get-drop : {A : Type 0} (n : ℕ) (xs : List A) (j : ℕ) → slice_get (drop n xs) j ≡ slice_get xs (n + j)
 slice_get-drop zero xs j = ap (slice_get xs) (let e : j ≡ 0 + j = omega arith in e)
@@ -193,43 +192,42 @@ with_bits-none place channel [] = refl
 with_bits-none place First (p ∷ b) = refl
 with_bits-none place Second (p ∷ b) = ap (λ ps. p ∷ ps) (with_bits-none place First b)
 
-with_bits-push : (place : ℕ) (channel : Channel) (b : List (List Bool)) (bits : List Bool) (bit : Bool)
-    (x y u v : List Bool)
-    → slice_get (with_bits_at place channel b bits) (2 * length bits) ≡ Some x
-    → slice_get (with_bits_at place channel b bits) (suc (2 * length bits)) ≡ Some y
-    → u ∷ v ∷ [] ≡ with_bits_at place channel (x ∷ y ∷ []) (bit ∷ [])
-    → set (set (with_bits_at place channel b bits) (2 * length bits) u) (suc (2 * length bits)) v
-    ≡ with_bits_at place channel b (bits ++ bit ∷ [])
-with_bits-push place channel [] bits bit x y u v e f g = cc
-with_bits-push place First (p ∷ []) [] bit x y u v e f g = cc
-with_bits-push place Second (p ∷ []) [] bit x y u v e f g = cc
-with_bits-push place First (p ∷ q ∷ b) [] bit x y u v e f g = let n = with_bits-none place First b in cc
-with_bits-push place Second (p ∷ q ∷ b) [] bit x y u v e f g = let n = with_bits-none place Second b in cc
-with_bits-push place First (p ∷ []) (c ∷ bits) bit x y u v e f g
-    = let t = twice-suc (length bits) in let h = rw t at e in cc
-with_bits-push place Second (p ∷ []) (c ∷ bits) bit x y u v e f g
-    = let t = twice-suc (length bits) in let h = rw t at e in cc
-with_bits-push place First (p ∷ q ∷ b) (c ∷ bits) bit x y u v e f g =
+first-push : (place : ℕ) (b : List (List Bool)) (bits : List Bool) (bit : Bool)
+    → set (with_bits_at place First b bits) (2 * length bits)
+    (set (get_or (with_bits_at place First b bits) (2 * length bits) []) place bit)
+    ≡ with_bits_at place First b (bits ++ bit ∷ [])
+first-push place [] bits bit = refl
+first-push place (p ∷ b) [] bit = ap (λ ps. set p place bit ∷ ps) (sym (with_bits-none place Second b))
+first-push place (p ∷ []) (c ∷ bits) bit = let t = twice-suc (length bits) in rw t refl
+first-push place (p ∷ q ∷ b) (c ∷ bits) bit =
     let t = twice-suc (length bits) in
-    rw t (ap (λ ps. set p place c ∷ q ∷ ps) (with_bits-push place First b bits bit x y u v (rw t at e) (rw t at f) g))
-with_bits-push place Second (p ∷ q ∷ b) (c ∷ bits) bit x y u v e f g =
-    let t = twice-suc (length bits) in
-    rw t (ap (λ ps. p ∷ set q place c ∷ ps) (with_bits-push place Second b bits bit x y u v (rw t at e) (rw t at f) g))
+    rw t (ap (λ ps. set p place c ∷ q ∷ ps) (first-push place b bits bit))
 
-pub frames-push : (place : ℕ) (channel : Channel) (b now next : List (List Bool)) (bits : List Bool) (i : ℕ)
-    (bit : Bool) (x y u v : List Bool)
-    → now ≡ with_bits_at place channel b (take i bits) → slice_get bits i ≡ Some bit → slice_get now (2 * i) ≡ Some x
-    → slice_get now (2 * i + 1) ≡ Some y
-    → u ∷ v ∷ [] ≡ with_bits_at place channel (x ∷ y ∷ []) (bit ∷ []) → next ≡ set (set now (2 * i) u) (2 * i + 1) v
+with_bits-push : (place : ℕ) (channel : Channel) (b : List (List Bool)) (bits : List Bool) (bit : Bool) (n : ℕ)
+    → n ≡ 2 * length bits + first_slot_of channel
+    → set (with_bits_at place channel b bits) n (set (get_or (with_bits_at place channel b bits) n []) place bit)
+    ≡ with_bits_at place channel b (bits ++ bit ∷ [])
+with_bits-push place First b bits bit n e =
+    ap (λ n. set (with_bits_at place First b bits) n (set (get_or (with_bits_at place First b bits) n []) place bit))
+    (let f : n ≡ 2 * length bits = omega arith in f)
+    ∙ first-push place b bits bit
+with_bits-push place Second [] bits bit n e = refl
+with_bits-push place Second (p ∷ b) bits bit n e =
+    ap (λ n. set (with_bits_at place Second (p ∷ b) bits) n
+    (set (get_or (with_bits_at place Second (p ∷ b) bits) n []) place bit))
+    (let f : n ≡ suc (2 * length bits) = omega arith in f)
+    ∙ ap (λ ps. p ∷ ps) (first-push place b bits bit)
+
+pub frames-push : (place : ℕ) (channel : Channel) (b now next : List (List Bool)) (bits : List Bool) (i n at : ℕ)
+    (bit : Bool)
+    → now ≡ with_bits_at place channel b (take i bits) → slice_get bits i ≡ Some bit
+    → n ≡ 2 * i + first_slot_of channel → at ≡ place
+    → next ≡ set now n (set (get_or now n []) at bit)
     → next ≡ with_bits_at place channel b (take (i + 1) bits)
-frames-push place channel b now next bits i bit x y u v e g f s r q =
-    let n : length (take i bits) ≡ i = let w = slice_get_within bits i bit g in length-take-le i bits (omega arith) in
-    let k : 2 * i ≡ 2 * length (take i bits) = omega arith in
-    let m : 2 * i + 1 ≡ suc (2 * length (take i bits)) = omega arith in
-    q ∙ ap₂ (λ j o. set (set now j u) o v) k m
-    ∙ ap (λ z. set (set z (2 * length (take i bits)) u) (suc (2 * length (take i bits))) v) e
-    ∙ with_bits-push place channel b (take i bits) bit x y u v (ap₂ slice_get (sym e) (sym k) ∙ f)
-    (ap₂ slice_get (sym e) (sym m) ∙ s) r
+frames-push place channel b now next bits i n at bit e g k p q =
+    let l : length (take i bits) ≡ i = let w = slice_get_within bits i bit g in length-take-le i bits (omega arith) in
+    q ∙ ap₂ (λ x a. set x n (set (get_or x n []) a bit)) e p
+    ∙ with_bits-push place channel b (take i bits) bit n (omega arith)
     ∙ ap (with_bits_at place channel b) (sym (take-get bits i bit g))
 
 pub frames-all : (place : ℕ) (channel : Channel) (b now : List (List Bool)) (bytes : List ℕ) (i : ℕ) → i ≡ 192

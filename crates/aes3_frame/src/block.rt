@@ -35,14 +35,14 @@ impl Model for Block {
 }
 
 ghost use Rattle.std.specs.Prelude.{◌≡◌, ◌<◌, ◌+◌, ◌*◌, ℕ, IfErr, IfOk, Some, true, false, get_or};
-ghost use Rattle.std.specs.Prelude.{length, map, replicate, slice_get, slice_set};
+ghost use Rattle.std.specs.Prelude.{[], length, map, replicate, slice_get, slice_index_or, slice_set};
 ghost use Rattle.aes3_frame.specs.Blocks.{block_slots, zero_block};
 ghost use Rattle.aes3_frame.specs.Files.{is_lawful, payload_of};
 ghost use Rattle.aes3_frame.specs.Subframes.{bits_of};
 
 use crate::frame::Frame;
 use crate::subframe::Subframe;
-use crate::word::{has_right_code, has_right_parity, payload_of_word, word_of_payload};
+use crate::word::{has_right_code, has_right_parity, payload_of_word, with_bit, word_of_payload};
 
 /// Words of payloads that are 0.
 pub fn zero_words() -> [u32; SLOTS]
@@ -95,6 +95,17 @@ impl Block {
     {
         self.words[2 * i] = word_of_payload(frame.first.payload());
         self.words[2 * i + 1] = word_of_payload(frame.second.payload());
+    }
+
+    /// Sets the bit at `place` of payload `slot`, and no other.
+    #[inline(always)]
+    pub(crate) fn set_bit(&mut self, slot: usize, place: u32, value: bool)
+        requires slot { slot < SLOTS }
+        requires place { place < 27 }
+        ensures { self.new
+            ≡ slice_set self.old slot (slice_set (slice_index_or self.old slot []) place value) }
+    {
+        self.words[slot] = with_bit(self.words[slot], place, value);
     }
 
     /// The block of these words, as a block file has them.

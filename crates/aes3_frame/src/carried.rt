@@ -8,18 +8,15 @@ pub enum Carried {
     Status,
 }
 
-ghost use Rattle.std.specs.Prelude.{◌≡◌, ◌<◌, ◌*◌, [], ◌∷◌, Some, false, take, drop, slice_get};
-ghost use Rattle.std.specs.Prelude.{slice_index_or, slice_set};
+ghost use Rattle.std.specs.Prelude.{◌≡◌, ◌<◌, ◌*◌, Some, take, drop, slice_get};
 ghost use Rattle.aes3_bits.specs.Bits.{number};
-ghost use Rattle.aes3_frame.specs.Subframes.{bits_of};
 ghost use Rattle.aes3_frame.specs.Statuses.{bits_at, bits_of_bytes, bytes_in, place_of, status_len};
-ghost use Rattle.aes3_frame.specs.Statuses.{validity_of, user_of, with_bits_at, with_validity};
-ghost use Rattle.aes3_frame.specs.Statuses.{with_user, validity_place, user_place, status_place};
+ghost use Rattle.aes3_frame.specs.Statuses.{first_slot_of, validity_of, user_of, with_bits_at};
+ghost use Rattle.aes3_frame.specs.Statuses.{with_validity, with_user};
 
 use crate::block::{Block, FRAMES};
-use crate::frame::Frame;
 use crate::status::{Channel, STATUS_LEN};
-use crate::subframe::Subframe;
+use crate::word::bit_of_word;
 
 impl Block {
     /// The validity bits of a channel (AES3-1, IEC 60958-1): bit `i % 8` of byte `i / 8` is the V
@@ -72,9 +69,15 @@ impl Block {
         ensures { self.new ≡ with_bits_at (place_of bit) channel self.old
             (bits_of_bytes bytes.now) }
     {
-        for i in 0..FRAMES {
-            let frame = with_bit(self.frame(i), bit, channel, bit_of(bytes, i));
-            self.set_frame(i, frame);
+        let place = place_in_payload(bit);
+        let first = first_slot(channel);
+        // Byte by byte, so that each bit of a byte has a shift that is known when this is compiled;
+        // the frames are set in their order.
+        for k in 0..STATUS_LEN {
+            for j in 0..8 {
+                let i = 8 * k + j;
+                self.set_bit(2 * i + first, place, bit_of(bytes, i));
+            }
         }
     }
 
@@ -98,98 +101,41 @@ impl Block {
         requires { i < FRAMES }
         ensures { slice_get (bits_at (place_of bit) self.now channel) i ≡ Some result }
     {
-        let frame = self.frame(i);
-        match channel {
-            Channel::First => bit_in(frame.first, bit),
-            Channel::Second => bit_in(frame.second, bit),
-        }
+        bit_of_word(
+            self.words()[2 * i + first_slot(channel)],
+            place_in_payload(bit),
+        )
     }
 }
 
-/// The bit that a subframe carries.
+/// Where the bit stands in a payload.
 #[inline(always)]
-fn bit_in(subframe: Subframe, bit: Carried) -> bool
-    ensures { slice_index_or (bits_of subframe) (place_of bit) false ≡ result }
+fn place_in_payload(bit: Carried) -> u32
+    ensures place { result ≡ place_of bit }
+    ensures bound { result < 27 }
 {
     match bit {
-        Carried::Validity => subframe.v,
-        Carried::User => subframe.u,
-        Carried::Status => subframe.c,
+        Carried::Validity => 24,
+        Carried::User => 25,
+        Carried::Status => 26,
     }
 }
 
-/// A subframe with this V bit.
+/// The first payload of a channel; of its others each is two behind the one before.
 #[inline(always)]
-fn with_validity_bit(subframe: Subframe, value: bool) -> Subframe
-    ensures { bits_of result ≡ slice_set (bits_of subframe) validity_place value }
-{
-    Subframe {
-        audio: subframe.audio,
-        v: value,
-        u: subframe.u,
-        c: subframe.c,
-    }
-}
-
-/// A subframe with this U bit.
-#[inline(always)]
-fn with_user_bit(subframe: Subframe, value: bool) -> Subframe
-    ensures { bits_of result ≡ slice_set (bits_of subframe) user_place value }
-{
-    Subframe {
-        audio: subframe.audio,
-        v: subframe.v,
-        u: value,
-        c: subframe.c,
-    }
-}
-
-/// A subframe with this C bit.
-#[inline(always)]
-fn with_status_bit(subframe: Subframe, value: bool) -> Subframe
-    ensures { bits_of result ≡ slice_set (bits_of subframe) status_place value }
-{
-    Subframe {
-        audio: subframe.audio,
-        v: subframe.v,
-        u: subframe.u,
-        c: value,
-    }
-}
-
-/// A subframe that carries this bit.
-#[inline(always)]
-fn with_carried(subframe: Subframe, bit: Carried, value: bool) -> Subframe
-    ensures { bits_of result ≡ slice_set (bits_of subframe) (place_of bit) value }
-{
-    match bit {
-        Carried::Validity => with_validity_bit(subframe, value),
-        Carried::User => with_user_bit(subframe, value),
-        Carried::Status => with_status_bit(subframe, value),
-    }
-}
-
-/// A frame with this bit in the subframe of a channel.
-#[inline(always)]
-fn with_bit(frame: Frame, bit: Carried, channel: Channel, value: bool) -> Frame
-    ensures { bits_of result.first ∷ bits_of result.second ∷ []
-        ≡ with_bits_at (place_of bit) channel
-        (bits_of frame.first ∷ bits_of frame.second ∷ []) (value ∷ []) }
+fn first_slot(channel: Channel) -> usize
+    ensures slot { result ≡ first_slot_of channel }
+    ensures bound { result < 2 }
 {
     match channel {
-        Channel::First => Frame {
-            first: with_carried(frame.first, bit, value),
-            second: frame.second,
-        },
-        Channel::Second => Frame {
-            first: frame.first,
-            second: with_carried(frame.second, bit, value),
-        },
+        Channel::First => 0,
+        Channel::Second => 1,
     }
 }
 
 /// Bit `i` of bytes.
-pub(crate) fn bit_of(bytes: &[u8; STATUS_LEN], i: usize) -> bool
+#[inline(always)]
+fn bit_of(bytes: &[u8; STATUS_LEN], i: usize) -> bool
     requires { i < FRAMES }
     ensures { slice_get (bits_of_bytes bytes.now) i ≡ Some result }
 {

@@ -12,13 +12,11 @@ pub enum Channel {
 /// How many bytes the channel status of one channel has in a block.
 pub const STATUS_LEN: usize = 24;
 
-ghost use Rattle.std.specs.Prelude.{◌≡◌, [], ◌∷◌};
-ghost use Rattle.aes3_frame.specs.Subframes.{bits_of};
-ghost use Rattle.aes3_frame.specs.Statuses.{status_of, with_bits, with_status};
+ghost use Rattle.std.specs.Prelude.{◌≡◌};
+ghost use Rattle.aes3_frame.specs.Statuses.{status_of, with_status};
 
-use crate::block::{Block, FRAMES};
-use crate::carried::{Carried, bit_of};
-use crate::frame::Frame;
+use crate::block::Block;
+use crate::carried::Carried;
 
 impl Block {
     /// The channel status of a channel (AES3-2, IEC 60958-1): bit `i % 8` of byte `i / 8` is the C
@@ -34,23 +32,6 @@ impl Block {
     pub fn set_channel_status(&mut self, channel: Channel, status: &[u8; STATUS_LEN])
         ensures { self.new ≡ with_status self.old channel status.now }
     {
-        // Not by `set_bytes`, in which a channel that the caller knows is looked up for each frame.
-        for i in 0..FRAMES {
-            let frame = with_bit(self.frame(i), channel, bit_of(status, i));
-            self.set_frame(i, frame);
-        }
+        self.set_bytes(Carried::Status, channel, status);
     }
-}
-
-/// A frame with this C bit in the subframe of a channel.
-fn with_bit(frame: Frame, channel: Channel, bit: bool) -> Frame
-    ensures { bits_of result.first ∷ bits_of result.second ∷ []
-        ≡ with_bits channel (bits_of frame.first ∷ bits_of frame.second ∷ []) (bit ∷ []) }
-{
-    let mut frame = frame;
-    match channel {
-        Channel::First => frame.first.c = bit,
-        Channel::Second => frame.second.c = bit,
-    }
-    frame
 }

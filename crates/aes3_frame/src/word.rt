@@ -1,6 +1,6 @@
 //! Words of a block file: bit `n` is time slot `n`, slots 0 to 3 are zero.
 
-ghost use Rattle.std.specs.Prelude.{◌≡◌, ◌<◌, ◌^◌, ◌/◌, true};
+ghost use Rattle.std.specs.Prelude.{◌≡◌, ◌<◌, ◌^◌, ◌/◌, true, false, slice_index_or, slice_set};
 ghost use Rattle.aes3_slot.specs.Slots.{payload_bits, slots_bits};
 ghost use Rattle.aes3_frame.specs.Files.{has_code, has_parity, is_lawful, payload_of};
 
@@ -25,6 +25,30 @@ pub fn payload_of_word(word: u32) -> u32
     ensures bits { payload_bits result ≡ payload_of word }
 {
     (word >> 4) % PAYLOAD_LIMIT
+}
+
+/// Whether the bit at `place` of a word's payload is set.
+#[inline(always)]
+pub(crate) fn bit_of_word(word: u32, place: u32) -> bool
+    requires { place < 27 }
+    ensures { slice_index_or (payload_of word) place false ≡ result }
+{
+    word >> (4 + place) & 1 == 1
+}
+
+/// The lawful word of the same payload with another bit at `place`.
+#[inline(always)]
+pub(crate) fn with_bit(word: u32, place: u32, value: bool) -> u32
+    requires lawful { is_lawful word ≡ true }
+    requires place { place < 27 }
+    ensures lawful { is_lawful result ≡ true }
+    ensures payload { payload_of result ≡ slice_set (payload_of word) place value }
+{
+    // Where the bit changes so does the parity: turned without a count of ones, it is again that
+    // of the payload.
+    let slot = 4 + place;
+    let turned = (word ^ u32::from(value) << slot) & 1 << slot;
+    word ^ (turned | turned << (31 - slot))
 }
 
 /// The bits in slots 4 to 31 of a word, with its parity bit.

@@ -1,18 +1,19 @@
-use Rattle.std.proofs.Common.{◌∙◌, ap}
-use Rattle.std.specs.Prelude.{slice_get}
-use Rattle.aes3_frame.specs.Statuses.{place_of, bits_at}
-use Rattle.aes3_frame.specs.declared.status.Channel.TheVariants.{First, Second}
-use Rattle.aes3_frame.proofs.StatusBits.{first-get, second-get, bits-get}
+use Rattle.std.proofs.Common.{◌+◌, ◌*◌, ◌<◌, false, get_or, length, ap, ◌∙◌, arith}
+use Rattle.std.proofs.lemmas.List.{length-map}
+use Rattle.aes3_frame.specs.Files.{payload_of}
+use Rattle.aes3_frame.specs.Statuses.{place_of}
+use Rattle.aes3_frame.proofs.BlockLemmas.{block_slots_384, payload-at}
+use Rattle.aes3_frame.proofs.StatusBits.{channel-bit}
 use Rattle.aes3_frame.proofs.block.Block.bit.Goals as goal
 
-pub returns-in-First : goal.returns-in-First
-returns-in-First c =
-    ap (λ ch. slice_get (bits_at (place_of c.args.bit) c.args.self.now ch) c.args.i) c.in-First.is
-    ∙ bits-get (place_of c.args.bit) c.args.self.now First c.args.i _ c.bit_in.result
-    (first-get c.args.self.now c.args.i _ c.frame-frame.ensures.first) c.bit_in.ensures
-
-pub returns-in-Second : goal.returns-in-Second
-returns-in-Second c =
-    ap (λ ch. slice_get (bits_at (place_of c.args.bit) c.args.self.now ch) c.args.i) c.in-Second.is
-    ∙ bits-get (place_of c.args.bit) c.args.self.now Second c.args.i _ c.bit_in-in-Second.result
-    (second-get c.args.self.now c.args.i _ c.frame-frame.ensures.second) c.bit_in-in-Second.ensures
+pub returns : goal.returns
+returns c =
+    let n = 2 * c.args.i + c.first_slot.result in
+    let words = c.words.result.now in
+    let h : n < length words = omega (arith, block_slots_384) in
+    channel-bit (place_of c.args.bit) c.args.self.now c.args.channel c.args.i n c.place_in_payload.result
+    c.bit_of_word.result (ap (λ k. 2 * c.args.i + k) c.first_slot.ensures.slot)
+    (let l = ap length c.words.ensures.payloads in let m = length-map words payload_of in omega arith)
+    c.place_in_payload.ensures.place
+    (ap (λ p. get_or p c.place_in_payload.result false)
+    (payload-at words c.args.self.now n c.words.ensures.payloads h) ∙ c.bit_of_word.ensures)

@@ -1,23 +1,6 @@
-use Rattle.std.proofs.Common.{arith, sym}
-use Rattle.aes3_frame.specs.Statuses.{status_place, bits_of_bytes, with_status}
-use Rattle.aes3_frame.specs.Subframes.{bits_of}
-use Rattle.aes3_frame.proofs.StatusBits.{with_bits-none, frames-push, frames-all}
+use Rattle.aes3_frame.specs.Statuses.{with_status}
 use Rattle.aes3_frame.proofs.block.Block.set_channel_status.Goals as goal
-
-pub loop-i-init : goal.loop-i-init
-loop-i-init c = record { frames = sym (with_bits-none status_place c.args.channel c.args.self.now) }
-
-pub loop-i-preserved : goal.loop-i-preserved
-loop-i-preserved c = record {
-  frames = frames-push status_place c.args.channel c.args.self.now c.loop-i.self c.set_frame.new.self
-      (bits_of_bytes c.args.status.now) c.loop-i.i c.bit_of.result
-      (bits_of c.frame.result.first) (bits_of c.frame.result.second) (bits_of c.with_bit-frame.result.first)
-      (bits_of c.with_bit-frame.result.second)
-      c.loop-i.invariant.frames c.bit_of.ensures c.frame.ensures.first c.frame.ensures.second c.with_bit-frame.ensures
-      c.set_frame.ensures;
-}
 
 pub returns : goal.returns
 unfolding with_status
-returns c = frames-all status_place c.args.channel c.args.self.now c.loop-i.self c.args.status.now c.loop-i.i
-    (omega arith) (omega arith) c.loop-i.invariant.frames
+returns c = c.set_bytes.ensures
