@@ -1,6 +1,6 @@
 //! A follower of edges.
 
-ghost use Rattle.std.specs.Prelude.{◌≡◌, ◌+◌, ◌-◌, ◌*◌, ◌/◌, ◌%◌, ◌^◌, ◌<◌, ◌≤◌, min, max};
+ghost use Rattle.std.specs.Prelude.{◌≡◌, ◌+◌, ◌-◌, ◌*◌, ◌/◌, ◌%◌, ◌^◌, ◌<◌, ◌≤◌, ◌⊎◌, min, max};
 
 use crate::bounds::{Bounds, PARTS};
 
@@ -115,8 +115,9 @@ impl Follower {
         ensures line { Passes self.old samples result self.new }
     {
         let elapsed = self.elapsed + u64::from(samples) * PARTS;
-        self.elapsed = elapsed % self.period;
-        elapsed / self.period
+        let (cells, rest) = periods_in(elapsed, self.period);
+        self.elapsed = rest;
+        cells
     }
 
     /// Whether one more cell ends at an edge that comes now.
@@ -151,6 +152,42 @@ impl Follower {
         let told = self.pass(samples);
         told + u64::from(self.edge())
     }
+}
+
+/// How many whole periods have passed, and what is left of the time. Between two edges of a line lie one to three cells:
+/// comparisons tell them sooner than the division does that they stand for, and a longer time is divided.
+#[inline(always)]
+fn periods_in(time: u64, period: u64) -> (u64, u64)
+    requires some { 0 < period }
+    requires bound { period ≤ 2 ^ 30 }
+    ensures periods { result.0 ≡ time / period }
+    ensures rest { result.1 ≡ time % period }
+{
+    if time >= 4 * period {
+        return (time / period, time % period);
+    }
+    let count = few_periods_in(time, period);
+    (count, time - count * period)
+}
+
+/// How many whole periods have passed, where these are three at most. No jump depends on how many, since that can't be
+/// foreseen.
+#[inline(always)]
+fn few_periods_in(time: u64, period: u64) -> u64
+    requires bound { period ≤ 2 ^ 30 }
+    requires few { time < 4 * period }
+    ensures passed { result * period ≤ time }
+    ensures last { time < (result + 1) * period }
+{
+    one_if_passed(time, period) + one_if_passed(time, 2 * period) + one_if_passed(time, 3 * period)
+}
+
+/// 1 where so much time has passed, else 0.
+#[inline(always)]
+fn one_if_passed(time: u64, least: u64) -> u64
+    ensures { ((result ≡ 1) × (least ≤ time)) ⊎ ((result ≡ 0) × (time < least)) }
+{
+    if time >= least { 1 } else { 0 }
 }
 
 /// The place of an edge on its grid, once the grid has gone a part of the way to it.
