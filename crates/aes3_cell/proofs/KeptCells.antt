@@ -47,7 +47,7 @@ length-kept-le (suc n) k l =
     omega arith
 
 -- those of the lowest places, and those of the others
-kept-add : (m n k l : ℕ) → kept_cells (m + n) k l ≡ kept_cells m k l ++ kept_cells n (k / 2 ^ m) (l / 2 ^ m)
+pub kept-add : (m n k l : ℕ) → kept_cells (m + n) k l ≡ kept_cells m k l ++ kept_cells n (k / 2 ^ m) (l / 2 ^ m)
 unfolding kept_cells
 kept-add zero n k l =
     let a : zero + n ≡ n = omega arith in

@@ -20,5 +20,6 @@ pub mod EightWords
 pub mod TextLines
 pub mod FedLists
 pub mod KeptCells
+pub mod SecondCells
 pub mod ClosedGaps
 pub mod ScatteredText

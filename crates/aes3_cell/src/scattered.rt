@@ -10,6 +10,7 @@ ghost use Rattle.aes3_level.specs.Words.{low_cells};
 
 use crate::text_words::SomeCells;
 use crate::word::equal_to;
+use aes3_level::even_bits;
 use std::simd::prelude::*;
 
 /// The cells among four bytes, close together, the first in the lowest bit: by which of the four are
@@ -98,13 +99,35 @@ fn closed_up(kept: u64, levels: u64) -> SomeCells
     SomeCells { word, len }
 }
 
-/// What `together` gives, by the way that is shorter for so many gaps.
+/// Every second of 64 bytes, from the first on and from the second on.
+const FROM_FIRST: u64 = 0x5555_5555_5555_5555;
+
+const FROM_SECOND: u64 = 0xaaaa_aaaa_aaaa_aaaa;
+
+/// What `together` gives for every second byte, as where each cell has a line of its own: half of
+/// the bits, without a table.
+#[inline(always)]
+fn every_second(levels: u64) -> SomeCells
+    ensures { low_cells result.len result.word ≡ kept_cells 64 FROM_FIRST levels }
+{
+    SomeCells {
+        word: even_bits(levels),
+        len: 32,
+    }
+}
+
+/// What `together` gives, by the way that is shortest for these gaps.
 #[inline(always)]
 fn kept_together(kept: u64, levels: u64) -> SomeCells
     ensures { low_cells result.len result.word ≡ kept_cells 64 kept levels }
 {
     if kept.count_zeros() <= FEW {
-        closed_up(kept, levels)
+        return closed_up(kept, levels);
+    }
+    if kept == FROM_FIRST {
+        every_second(levels)
+    } else if kept == FROM_SECOND {
+        every_second(levels >> 1)
     } else {
         together(kept, levels)
     }

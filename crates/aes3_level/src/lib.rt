@@ -3,5 +3,8 @@
 
 /// The two levels of a line.
 mod level;
+/// Bits of a word.
+mod word;
 
 pub use level::Level;
+pub use word::even_bits;

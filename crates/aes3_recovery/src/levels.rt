@@ -4,6 +4,7 @@ ghost use Rattle.std.specs.Prelude.{ℕ, ◌*◌, ◌<◌, ◌≤◌, ◌≡◌,
 ghost use Rattle.std.specs.Int.{bit_at};
 ghost use Rattle.aes3_recovery.specs.Levels.{AreLevels, bits_of_sample};
 
+use aes3_level::even_bits;
 use std::simd::prelude::*;
 
 /// How the samples lie: octets of eight lines, or pairs of octets of sixteen, the lower lines first;
@@ -39,19 +40,6 @@ fn bits_of(octets: &[u8; 64], bit: u8) -> u64
     (u8x64::from_array(*octets) & u8x64::splat(1 << bit))
         .simd_ne(u8x64::splat(0))
         .to_bitmask()
-}
-
-/// The bits at even places, close together.
-#[inline(always)]
-fn even_bits(word: u64) -> u64
-    ensures { (i : ℕ) → i < 32 → bit_at result i ≡ bit_at word (2 * i) }
-{
-    let word = word & 0x5555_5555_5555_5555;
-    let word = (word | word >> 1) & 0x3333_3333_3333_3333;
-    let word = (word | word >> 2) & 0x0f0f_0f0f_0f0f_0f0f;
-    let word = (word | word >> 4) & 0x00ff_00ff_00ff_00ff;
-    let word = (word | word >> 8) & 0x0000_ffff_0000_ffff;
-    (word | word >> 16) & 0x0000_0000_ffff_ffff
 }
 
 /// The levels of the samples that 64 octets are, the first in the lowest bit, and how many samples

@@ -1,9 +1,9 @@
 use Rattle.std.proofs.Common.{refl, ◌∙◌, ◌*◌, ◌∷◌, [], arith}
 use Rattle.aes3_level.proofs.Moves.{gathers-itself, gathers-above, gathers-masked, gathers-at, any_of-one}
-use Rattle.aes3_recovery.proofs.levels.even_bits.Goals as goal
+use Rattle.aes3_level.proofs.word.even_bits.Goals as goal
 
-pub returns : goal.returns
-returns c = λ i h.
+pub returns-clause-bits : goal.returns-clause-bits
+returns-clause-bits c = λ i h.
     gathers-at (λ i. 2 * i ∷ []) 32
     (gathers-masked 4294967295 (gathers-above 16
     (gathers-masked 281470681808895 (gathers-above 8

@@ -1,0 +1,5 @@
+use Rattle.aes3_cell.proofs.SecondCells.{from-first}
+use Rattle.aes3_cell.proofs.scattered.every_second.Goals as goal
+
+pub returns : goal.returns
+returns c = from-first c.even_bits.result c.args.levels c.even_bits.ensures.bits
