@@ -1,7 +1,8 @@
 -- The line of a preamble, made in an array.
 use Rattle.std.proofs.Common.{◌≡◌, ℕ, ◌+◌, ◌*◌, ◌/◌, ◌%◌, ◌^◌, ◌<◌, ◌≤◌, List, [], ◌∷◌, ◌++◌, length, take, drop, refl}
-use Rattle.std.proofs.Common.{sym, ap, ap₂, ◌∙◌, arith, append_assoc, length-append, length-take}
-use Rattle.std.specs.Prelude.{codes, decimal}
+use Rattle.std.proofs.Common.{sym, ap, ap₂, ◌∙◌, arith, append_assoc, length-append, length-take, eqb, true, eqb-true}
+use Rattle.std.specs.Prelude.{bit_and, codes, decimal}
+use Rattle.std.proofs.lemmas.Bool.{agree_below_at}
 use Rattle.std.proofs.lemmas.List.{drop_at, take-append-drop, take-append-le}
 use Rattle.std.proofs.lemmas.Slice.{take-put_mid_below}
 use Rattle.std.proofs.Math.Seq.{take-add, take-append-add}
@@ -24,16 +25,15 @@ part-put x y a k n h g =
     ∙ ap₂ (λ u v. u ++ take n v) (front-put x y a k h) (drop_at (take a x) (y ++ post_of a k x) a (omega (arith, l, h)))
     ∙ ap (λ v. take a x ++ v) (take-append-le n y (post_of a k x) g)
 
--- ten bytes b, the first `len` of the bytes t, and p, q and e, each put behind the one before it
-pub made : (x y z u v b t p q e : List ℕ) (len : ℕ) → len ≤ 16 → length b ≡ 10 → length t ≡ 16
+-- ten bytes b, the first `len` of the bytes t, and p and e, each put behind the one before it
+pub made : (x y z v b t p e : List ℕ) (len : ℕ) → len ≤ 16 → length b ≡ 10 → length t ≡ 16
     → take 10 x ≡ b → take 26 y ≡ take 10 x ++ t
-    → take (10 + len + 2) z ≡ take (10 + len) y ++ p → take (10 + len + 2 + 2) u ≡ take (10 + len + 2) z ++ q
-    → take (10 + len + 4 + 10) v ≡ take (10 + len + 4) u ++ e
-    → take (10 + len + 14) v ≡ (b ++ take len t) ++ (p ++ (q ++ e))
-made x y z u v b t p q e len few lb lt first second third fourth fifth =
-    ap (λ n. take n v) (omega arith) ∙ fifth
-    ∙ ap (λ w. w ++ e) (ap (λ n. take n u) (omega arith) ∙ fourth ∙ ap (λ w. w ++ q) (third ∙ ap (λ w. w ++ p) begun))
-    ∙ append_assoc ((b ++ take len t) ++ p) q e ∙ append_assoc (b ++ take len t) p (q ++ e)
+    → take (10 + len + 4) z ≡ take (10 + len) y ++ p → take (10 + len + 4 + 10) v ≡ take (10 + len + 4) z ++ e
+    → take (10 + len + 14) v ≡ (b ++ take len t) ++ (p ++ e)
+made x y z v b t p e len few lb lt first second third fourth =
+    ap (λ n. take n v) (omega arith) ∙ fourth
+    ∙ ap (λ w. w ++ e) (third ∙ ap (λ w. w ++ p) begun)
+    ∙ append_assoc (b ++ take len t) p e
   where
     both : take 26 y ≡ b ++ t
     both = second ∙ ap (λ w. w ++ t) first
@@ -72,3 +72,10 @@ pub length-beginning : (m : Mark) → length (mark_beginning m) ≡ 10
 length-beginning X = refl
 length-beginning Y = refl
 length-beginning Z = refl
+
+-- the tens of both pairs of a number's last four digits
+pub tens-are : (n : ℕ) → n < 10000 → bit_and ((n / 100 + n % 100 * 65536 % 4294967296) * 103 / 1024) 983055
+    ≡ n / 100 / 10 + n % 100 / 10 * 65536
+tens-are n h =
+    eqb-true _ _ (agree_below_at (λ n. eqb (bit_and ((n / 100 + n % 100 * 65536 % 4294967296) * 103 / 1024) 983055)
+    (n / 100 / 10 + n % 100 / 10 * 65536)) (λ _. true) 10000 n refl h)

@@ -37,8 +37,6 @@ pub(crate) struct UpperDigits {
 
 impl UpperDigits {
     /// The digits of a number that has some before its last four.
-    #[cold]
-    #[inline(never)]
     pub(crate) fn new(number: u64) -> Self
         requires { 10000 ≤ number }
         ensures { result.number ≡ number / 10000 }
@@ -64,8 +62,19 @@ impl UpperDigits {
         ensures { self.new.number ≡ number / 10000 }
     {
         if number < self.first || number - self.first >= LONG {
-            *self = UpperDigits::new(number);
+            self.replace(number);
         }
+    }
+
+    /// Makes them those of a number with others than these.
+    // Not inlined, so that lines that share their digits have no room for new ones made.
+    #[cold]
+    #[inline(never)]
+    fn replace(&mut self, number: u64)
+        requires { 10000 ≤ number }
+        ensures { self.new.number ≡ number / 10000 }
+    {
+        *self = UpperDigits::new(number);
     }
 }
 
@@ -130,12 +139,17 @@ fn ending(before: Level) -> [u8; 10]
     [b' ', b'b', b'e', b'f', b'o', b'r', b'e', b' ', level, b'\n']
 }
 
-/// Two digits of a number.
-fn two_digits(number: u32) -> [u8; 2]
-    requires { number < 100 }
-    ensures { result ≡ (48 + number / 10) ∷ (48 + number % 10) ∷ [] }
+/// The digits of a number: those of its two pairs at once, each pair in its half of a word.
+fn four_digits(number: u32) -> [u8; 4]
+    requires { number < 10000 }
+    ensures { result ≡ (48 + number / 100 / 10) ∷ (48 + number / 100 % 10)
+        ∷ (48 + number % 100 / 10) ∷ (48 + number % 100 % 10) ∷ [] }
 {
-    [b'0' + (number / 10) as u8, b'0' + (number % 10) as u8]
+    let pairs = number / 100 + (number % 100 << 16);
+    // A tenth of each pair: 103 of 1024 are a tenth of all numbers below 100, rounded down.
+    let tens = pairs * 103 >> 10 & 0x000F_000F;
+    let digits = tens + (pairs - 10 * tens << 8);
+    (digits + 0x3030_3030).to_le_bytes()
 }
 
 /// Puts these bytes into the line, from place `at` of it on.
@@ -171,8 +185,7 @@ pub(crate) fn put_mark(
     let text = upper.text;
     put_at(line, 0, &beginning);
     put_at(line, 10, &text);
-    put_at(line, end, &two_digits(last / 100));
-    put_at(line, end + 2, &two_digits(last % 100));
+    put_at(line, end, &four_digits(last));
     put_at(line, end + 4, &ending(before));
     end + 14
 }
