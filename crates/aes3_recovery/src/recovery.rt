@@ -291,20 +291,24 @@ impl Recovery {
         ensures line { self.new.line ≡ self.old.line }
         ensures measured { self.new.figures.measured ≡ self.old.figures.measured }
         ensures keeps { KeepsRuns self.old self.new }
+        ensures lost { self.new.line.follower.period / 5 < self.new.spread
+            → self.new.state ≡ Measuring }
+        ensures kept { self.new.spread ≤ self.new.line.follower.period / 5
+            → (self.new.line.follower.same - self.new.line.follower.other)
+            + (self.new.line.follower.other - self.new.line.follower.same)
+            ≤ self.new.line.follower.bounds.low / 2 → self.new.state ≡ self.old.state }
     {
         let follower = self.line.follower();
         // The grid has gone a sixteenth of the way to it.
         let left = follower.distance() >> 8;
-        let distance = left.saturating_add(left / 15);
+        let distance = left + left / 15;
         self.figures.edges = self.figures.edges.saturating_add(1);
         self.figures.greatest = self.figures.greatest.max(distance);
-        let square = distance.saturating_mul(distance);
-        self.figures.squares = self.figures.squares.saturating_add(square);
-        self.spread = (self.spread - (self.spread >> 8))
-            .saturating_add(distance)
-            .min(1 << 32);
-        let lost = self.spread > follower.period() / 5 || follower.has_slipped();
-        self.state = if lost { State::Measuring } else { self.state };
+        self.figures.squares = self.figures.squares.saturating_add(distance * distance);
+        self.spread = (self.spread - (self.spread >> 8) + distance).min(1 << 32);
+        if 5 * self.spread > follower.period() || follower.has_slipped() {
+            self.state = State::Measuring;
+        }
     }
 
     /// Gathers a run of a line that is to be measured.
