@@ -1,4 +1,4 @@
-use Rattle.std.proofs.Common.{◌∙◌, ◌+◌, ◌-◌, ◌*◌, ◌/◌, ◌%◌, ◌≡◌, ◌∷◌, [], arith, ap, ap₂}
+use Rattle.std.proofs.Common.{◌∙◌, ◌∷◌, [], arith, ap, ap₂}
 use Rattle.aes3_lines.proofs.MarkTexts.{tens-are}
 use Rattle.aes3_lines.proofs.mark.four_digits.Goals as goal
 
