@@ -1,6 +1,6 @@
 //! The line of a report.
 
-ghost use Rattle.std.specs.Prelude.{◌≡◌, ◌<◌, ◌≤◌, ◌+◌, ◌^◌, ◌++◌, ◌∷◌, [], codes, length};
+ghost use Rattle.std.specs.Prelude.{◌≡◌, ◌<◌, ◌≤◌, ◌+◌, ◌^◌, ◌++◌, [], length};
 ghost use Rattle.aes3_cell.specs.Writes.{Wrote};
 ghost use Rattle.aes3_lock.specs.Reports.{ending_report};
 ghost use Rattle.aes3_reports.specs.Lines.{reason_word, report_line, told_line};
@@ -9,16 +9,16 @@ use aes3_cell::{Fault, Sink};
 use aes3_lines::{Lines, TAIL_LEN, Tail};
 use aes3_lock::{Ending, Report, Why};
 
-/// Puts why a cell refutes a candidate, in one word, as the end of a line.
+/// Puts why a cell refutes a candidate, in one word.
 fn put_reason(line: &mut Tail, why: Why)
-    requires { length line.old + 10 ≤ TAIL_LEN }
-    ensures reason { line.new ≡ (codes " " ++ reason_word why ++ 10 ∷ []) ++ line.old }
-    ensures len { length line.new ≤ 10 + length line.old }
+    requires { length line.old + 8 ≤ TAIL_LEN }
+    ensures reason { line.new ≡ reason_word why ++ line.old }
+    ensures len { length line.new ≤ 8 + length line.old }
 {
     match why {
-        Why::Preamble => line.text(b" preamble\n"),
-        Why::Biphase => line.text(b" biphase\n"),
-        Why::Unclosed => line.text(b" unclosed\n"),
+        Why::Preamble => line.text(b"preamble"),
+        Why::Biphase => line.text(b"biphase"),
+        Why::Unclosed => line.text(b"unclosed"),
     }
 }
 
@@ -30,16 +30,15 @@ fn put_ending(line: &mut Tail, ending: Ending)
     requires none { line.old ≡ [] }
     ensures { line.new ≡ report_line (ending_report [] ending) }
 {
+    line.text(b"\n");
     match ending {
         Ending::Whole { at, before } => {
-            line.text(b"\n");
             line.level(before);
             line.text(b" before ");
             line.number(at);
             line.text(b"whole at ");
         }
         Ending::Marked { at, before, wrong } => {
-            line.text(b"\n");
             line.number(u64::from(wrong));
             line.text(b" wrong ");
             line.level(before);
@@ -49,13 +48,13 @@ fn put_ending(line: &mut Tail, ending: Ending)
         }
         Ending::Fault { at, cell, why } => {
             put_reason(line, why);
+            line.text(b" ");
             line.number(cell);
             line.text(b" cell ");
             line.number(at);
             line.text(b"fault at ");
         }
         Ending::Unfinished { at, cells } => {
-            line.text(b"\n");
             line.number(cells);
             line.text(b" cells ");
             line.number(at);
