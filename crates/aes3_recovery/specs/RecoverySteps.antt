@@ -1,8 +1,9 @@
 -- The steps of a recovery.
-use Rattle.std.specs.Prelude.{ℕ, List, [], ◌++◌, ◌≡◌, ◌+◌, ◌-◌, ◌^◌, Option, true, false, min}
+use Rattle.std.specs.Prelude.{ℕ, List, [], ◌++◌, ◌≡◌, ◌+◌, ◌-◌, ◌/◌, ◌^◌, Option, true, false, min}
 use Rattle.aes3_level.specs.declared.level.Level.{Level}
 use Rattle.aes3_level.specs.Cells.{line}
-use Rattle.aes3_capture.specs.Following.{CountedAll}
+use Rattle.aes3_capture.specs.declared.follower.Follower.{Follower}
+use Rattle.aes3_capture.specs.Following.{CountedAll, middle_of}
 use Rattle.aes3_recovery.specs.Recovering.{samples_of}
 use Rattle.aes3_recovery.specs.Queues.{Queued, waiting}
 use Rattle.aes3_recovery.specs.declared.line_follower.LineFollower.{LineFollower}
@@ -55,3 +56,10 @@ pub record KeepsTold (old new : Recovery) : Type 0 where
   pub measured_is : new.figures.measured ≡ old.figures.measured
   pub queue_is : new.line.queue ≡ old.line.queue
   pub follower_is : new.line.follower ≡ old.line.follower
+
+-- how far the latest edge was from its place, in 256ths of a sample: the grid has gone a sixteenth of the way to it since
+abbrev pub left_of : Follower → ℕ
+left_of f = ((f.same - middle_of f.bounds) + (middle_of f.bounds - f.same)) / 256
+
+abbrev pub distance_of : Follower → ℕ
+distance_of f = left_of f + left_of f / 15

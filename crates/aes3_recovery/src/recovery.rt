@@ -1,7 +1,7 @@
 //! Cells recovered from the levels of samples.
 
 ghost use Rattle.std.specs.Prelude.{ℕ, List, [], ◌∷◌, ◌++◌, ◌+◌, ◌*◌, ◌/◌, ◌-◌, ◌%◌, ◌<◌, ◌≤◌, ◌^◌, ◌≡◌, ◌≢◌, Bool};
-ghost use Rattle.std.specs.Prelude.{Option, IfOk, OnErr, IfSome, Some, min, take, length, replicate, true, false};
+ghost use Rattle.std.specs.Prelude.{Option, IfOk, OnErr, IfSome, Some, min, max, take, length, replicate, true, false};
 ghost use Rattle.aes3_recovery.specs.Measuring.{IsAskedFor};
 
 use crate::edges::{Edges, Piece};
@@ -106,7 +106,7 @@ impl Recovery {
     ghost use Rattle.aes3_recovery.specs.Endings.{finished};
     ghost use Rattle.aes3_recovery.specs.Recovering.{AreEnded, AreRecovered, AreTold, Holds, Recovered, Setting};
     ghost use Rattle.aes3_recovery.specs.Recovering.{StandsOn, runs_waiting};
-    ghost use Rattle.aes3_recovery.specs.RecoverySteps.{Gave, KeepsRuns, KeepsTold, RunsTold};
+    ghost use Rattle.aes3_recovery.specs.RecoverySteps.{Gave, KeepsRuns, KeepsTold, RunsTold, distance_of};
     ghost use Rattle.aes3_recovery.specs.declared.recovery.State.TheVariants.{Following, Measuring, Still};
 
     /// A recovery of which nothing came. A cell is so many parts of a sample, where that is given.
@@ -291,7 +291,18 @@ impl Recovery {
         ensures line { self.new.line ≡ self.old.line }
         ensures measured { self.new.figures.measured ≡ self.old.figures.measured }
         ensures keeps { KeepsRuns self.old self.new }
+        ensures edges { self.new.figures.edges ≡ min (self.old.figures.edges + 1) (2 ^ 64 - 1) }
+        ensures greatest { self.new.figures.greatest
+            ≡ max self.old.figures.greatest (distance_of self.old.line.follower) }
+        ensures squares { self.new.figures.squares ≡ min (self.old.figures.squares
+            + distance_of self.old.line.follower * distance_of self.old.line.follower) (2 ^ 64 - 1) }
+        ensures spread { self.new.spread ≡ min (self.old.spread - self.old.spread / 256
+            + distance_of self.old.line.follower) (2 ^ 32) }
         ensures lost { self.new.line.follower.period / 5 < self.new.spread
+            → self.new.state ≡ Measuring }
+        ensures slipped { self.new.line.follower.bounds.low / 2
+            < (self.new.line.follower.same - self.new.line.follower.other)
+            + (self.new.line.follower.other - self.new.line.follower.same)
             → self.new.state ≡ Measuring }
         ensures kept { self.new.spread ≤ self.new.line.follower.period / 5
             → (self.new.line.follower.same - self.new.line.follower.other)
