@@ -77,7 +77,8 @@ fn together(kept: u64, levels: u64) -> SomeCells
     }
 }
 
-/// Up to so many gaps it costs less to close each by itself than to look all up in the tables.
+/// Up to so many gaps it costs less to close each by itself than to look all up in the tables, where
+/// lines are alike.
 const FEW: u32 = 9;
 
 /// What `together` gives, for text with few separators, as in long lines: each gap is closed by
@@ -99,9 +100,10 @@ fn closed_up(kept: u64, levels: u64) -> SomeCells
     SomeCells { word, len }
 }
 
-/// Every second of 64 bytes, from the first on and from the second on.
+/// Every second of 64 bytes, from the first on.
 const FROM_FIRST: u64 = 0x5555_5555_5555_5555;
 
+/// The same from the second on.
 const FROM_SECOND: u64 = 0xaaaa_aaaa_aaaa_aaaa;
 
 /// What `together` gives for every second byte, as where each cell has a line of its own: half of
