@@ -22,10 +22,18 @@ use digest::Digest;
 use jobs::run_workload;
 use std::env;
 
+const USAGE: &str = "usage: aes3_workloads NAME SEED ROUNDS\n\n\
+    Runs the workload NAME of bench/workloads.txt, which makes its input from the number SEED,\n\
+    ROUNDS times, and prints a digest of its output and the number of its bytes.";
+
 /// Runs the workload NAME from the number SEED, ROUNDS rounds of it, and prints its digest.
 fn main(rt: HostRuntime) -> Result<()> {
     let words: Vec<String> = env::args(&rt)?.skip(1).collect(rt.alloc())?;
-    let name = words.get(0).context("no workload is named")?;
+    let name = words.get(0).context(USAGE)?;
+    if name == "--help" {
+        println!(rt; "{USAGE}")?;
+        return Ok(());
+    }
     let seed: u32 = words.get(1).context("there is no seed")?.parse()?;
     let rounds: u32 = words
         .get(2)
