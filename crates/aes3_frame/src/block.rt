@@ -45,6 +45,7 @@ use crate::subframe::Subframe;
 use crate::word::{has_right_code, has_right_parity, payload_of_word, with_bit, word_of_payload};
 
 /// Words of payloads that are 0.
+#[tactic(auto, unfolding(crate::specs::Blocks::block_slots))]
 pub fn zero_words() -> [u32; SLOTS]
     ensures { result ≡ replicate block_slots 0 }
 {

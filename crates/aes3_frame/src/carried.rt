@@ -21,6 +21,7 @@ use crate::word::bit_of_word;
 impl Block {
     /// The validity bits of a channel (AES3-1, IEC 60958-1): bit `i % 8` of byte `i / 8` is the V
     /// bit of frame `i`, as in a channel status.
+    #[tactic(auto, unfolding(crate::specs::Statuses::validity_of))]
     pub fn validity(&self, channel: Channel) -> [u8; STATUS_LEN]
         ensures { result ≡ validity_of self.now channel }
     {
@@ -29,6 +30,7 @@ impl Block {
 
     /// Sets the validity bits of a channel, and changes nothing else but the parity bits that
     /// follow.
+    #[tactic(auto, unfolding(crate::specs::Statuses::with_validity))]
     pub fn set_validity(&mut self, channel: Channel, bytes: &[u8; STATUS_LEN])
         ensures { self.new ≡ with_validity self.old channel bytes.now }
     {
@@ -37,6 +39,7 @@ impl Block {
 
     /// The user data bits of a channel (AES3-1, IEC 60958-1): bit `i % 8` of byte `i / 8` is the U
     /// bit of frame `i`, as in a channel status.
+    #[tactic(auto, unfolding(crate::specs::Statuses::user_of))]
     pub fn user(&self, channel: Channel) -> [u8; STATUS_LEN]
         ensures { result ≡ user_of self.now channel }
     {
@@ -45,6 +48,7 @@ impl Block {
 
     /// Sets the user data bits of a channel, and changes nothing else but the parity bits that
     /// follow.
+    #[tactic(auto, unfolding(crate::specs::Statuses::with_user))]
     pub fn set_user(&mut self, channel: Channel, bytes: &[u8; STATUS_LEN])
         ensures { self.new ≡ with_user self.old channel bytes.now }
     {

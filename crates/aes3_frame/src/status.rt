@@ -21,6 +21,7 @@ use crate::carried::Carried;
 impl Block {
     /// The channel status of a channel (AES3-2, IEC 60958-1): bit `i % 8` of byte `i / 8` is the C
     /// bit of frame `i`.
+    #[tactic(auto, unfolding(crate::specs::Statuses::status_of))]
     pub fn channel_status(&self, channel: Channel) -> [u8; STATUS_LEN]
         ensures { result ≡ status_of self.now channel }
     {
@@ -29,6 +30,7 @@ impl Block {
 
     /// Sets the channel status of a channel, and changes nothing else but the parity bits that
     /// follow.
+    #[tactic(auto, unfolding(crate::specs::Statuses::with_status))]
     pub fn set_channel_status(&mut self, channel: Channel, status: &[u8; STATUS_LEN])
         ensures { self.new ≡ with_status self.old channel status.now }
     {

@@ -1,4 +1,4 @@
-use Rattle.std.proofs.Common.{ap, ◌∙◌, refl, arith, length, length-set}
+use Rattle.std.proofs.Common.{ap, ◌∙◌, refl, arith, rules, length, length-set}
 use Rattle.std.proofs.lemmas.List.{length-replicate, drop_all}
 use Rattle.aes3_frame.specs.Blocks.{block_slots}
 use Rattle.aes3_frame.proofs.BlockLemmas.{zeros-lawful, block_slots_384}
@@ -26,10 +26,10 @@ loop-slot-preserved c =
       len = length-set c.loop-slot.words c.loop-slot.slot word ∙ i.len;
       lawful = λ k. lawful-more c.loop-slot.words c.loop-slot.slot word k (omega arith)
           c.mended_word-word.ensures.lawful (i.lawful k);
-      held = i.other;
-      other = c.mended_word-word.ensures.lawful;
-      made = made-more c.args.fill c.loop-slot.held c.loop-slot.other word c.loop-slot.words c.args.cells.now
-          c.loop-slot.slot _ (omega arith) (omega arith) c.mended_word-word.ensures.payload i.made;
+      held = search (rules, i.other);
+      other = search (rules, c.mended_word-word.ensures.lawful);
+      made = search (rules, made-more c.args.fill c.loop-slot.held c.loop-slot.other word c.loop-slot.words c.args.cells.now
+          c.loop-slot.slot _ (omega arith) (omega arith) c.mended_word-word.ensures.payload i.made);
     }
 
 pub returns-clause-lawful : goal.returns-clause-lawful

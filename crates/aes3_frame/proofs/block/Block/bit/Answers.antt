@@ -1,4 +1,4 @@
-use Rattle.std.proofs.Common.{◌+◌, ◌*◌, ◌<◌, false, get_or, length, ap, ◌∙◌, arith}
+use Rattle.std.proofs.Common.{false, get_or, length, ap, ◌∙◌, arith}
 use Rattle.std.proofs.lemmas.List.{length-map}
 use Rattle.aes3_frame.specs.Files.{payload_of}
 use Rattle.aes3_frame.specs.Statuses.{place_of}
@@ -8,12 +8,10 @@ use Rattle.aes3_frame.proofs.block.Block.bit.Goals as goal
 
 pub returns : goal.returns
 returns c =
-    let n = 2 * c.args.i + c.first_slot.result in
     let words = c.words.result.now in
-    let h : n < length words = omega (arith, block_slots_384) in
-    channel-bit (place_of c.args.bit) c.args.self.now c.args.channel c.args.i n c.place_in_payload.result
-    c.bit_of_word.result (ap (λ k. 2 * c.args.i + k) c.first_slot.ensures.slot)
+    channel-bit (place_of c.args.bit) c.args.self.now c.args.channel c.args.i _ c.place_in_payload.result
+    c.bit_of_word.result (omega arith)
     (let l = ap length c.words.ensures.payloads in let m = length-map words payload_of in omega arith)
     c.place_in_payload.ensures.place
     (ap (λ p. get_or p c.place_in_payload.result false)
-    (payload-at words c.args.self.now n c.words.ensures.payloads h) ∙ c.bit_of_word.ensures)
+    (payload-at words c.args.self.now _ c.words.ensures.payloads (omega (arith, block_slots_384))) ∙ c.bit_of_word.ensures)

@@ -13,10 +13,14 @@ payload-at words b i p e h q =
 
 pub returns-clause-first : goal.returns-clause-first
 returns-clause-first c =
-    payload-at c.self.inside.words _ (2 * c.args.i) _ c.self.view_is (omega (arith, c.self.told))
-    (sym c.payload_of_word.ensures.bits ∙ sym c.of_payload.ensures)
+    let words = c.self.inside.words in
+    payload-at words _ (2 * c.args.i) _ c.self.view_is (omega (arith, c.self.told))
+    (ap (λ i. payload_of (get_or words i 0)) (omega arith)
+    ∙ sym c.payload_of_word.ensures.bits ∙ sym c.of_payload.ensures)
 
 pub returns-clause-second : goal.returns-clause-second
 returns-clause-second c =
-    payload-at c.self.inside.words _ (2 * c.args.i + 1) _ c.self.view_is (omega (arith, c.self.told))
-    (sym c.payload_of_word-2.ensures.bits ∙ sym c.of_payload-2.ensures)
+    let words = c.self.inside.words in
+    payload-at words _ (2 * c.args.i + 1) _ c.self.view_is (omega (arith, c.self.told))
+    (ap (λ i. payload_of (get_or words i 0)) (omega arith)
+    ∙ sym c.payload_of_word-2.ensures.bits ∙ sym c.of_payload-2.ensures)
