@@ -199,12 +199,12 @@ of-job line false turned ended source sink errors status r
     = of-packed line turned ended source sink errors status r
 
 -- of a line
-pub errors-told : (line : Result CommandLine LineFault) (ended : Bool) (source sink errors : Movement) (status : ℕ)
+pub errors_told : (line : Result CommandLine LineFault) (ended : Bool) (source sink errors : Movement) (status : ℕ)
     → LineRan line ended source sink errors status → ErrorsTold line errors status
-errors-told (Ok line) ended source sink errors status r
+errors_told (Ok line) ended source sink errors status r
     = of-job line line.octets.raw_in (line.octets.lsb_first && reads_packed line.job) ended source
     (written_by (line.octets.lsb_first && writes_packed line.job) sink) errors status r
-errors-told (Err (Usage text)) ended source sink errors status r =
+errors_told (Err (Usage text)) ended source sink errors status r =
     let s = r.2.0 in
     record {
       known = omega (arith, s);
@@ -212,7 +212,7 @@ errors-told (Err (Usage text)) ended source sink errors status r =
       usage = λ h q. r.2.2 q;
       refusal = λ h. absurd (omega (arith, s, h));
     }
-errors-told (Err (Help text)) ended source sink errors status r = elim r.2 [
+errors_told (Err (Help text)) ended source sink errors status r = elim r.2 [
   | inl k ↦ record {
     known = omega (arith, k.0);
     done = λ h. k.3;
@@ -226,7 +226,7 @@ errors-told (Err (Help text)) ended source sink errors status r = elim r.2 [
     refusal = λ h q. record { error = refusal.Write; line = k.2 q };
   }
 ]
-errors-told (Err (Refused error)) ended source sink errors status r =
+errors_told (Err (Refused error)) ended source sink errors status r =
     let s = r.2.0 in
     record {
       known = omega (arith, s);

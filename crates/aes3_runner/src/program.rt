@@ -29,6 +29,7 @@ pub fn file_of_line<'a>(line: &Result<CommandLine<'a>, LineFault>) -> Option<&'a
 /// Where standard error is no terminal, so that the hints write nothing, all that it gets is what
 /// `errors` get: nothing at status 0 and 1, why the words are no command at 2, the line of the
 /// refusal at 3.
+#[tactic(auto, using(crate::proofs::ErrorsToldLemmas::errors_told))]
 pub fn run_and_explain<
     'a,
     C: Clock + Drop,
