@@ -106,7 +106,7 @@ impl Recovery {
     ghost use Rattle.aes3_recovery.specs.Endings.{finished};
     ghost use Rattle.aes3_recovery.specs.Recovering.{AreEnded, AreRecovered, AreTold, Holds, Recovered, Setting};
     ghost use Rattle.aes3_recovery.specs.Recovering.{StandsOn, runs_waiting};
-    ghost use Rattle.aes3_recovery.specs.RecoverySteps.{Gave, KeepsRuns, KeepsTold, RunsTold, distance_of};
+    ghost use Rattle.aes3_recovery.specs.RecoverySteps.{Gave, KeepsRuns, KeepsTold, Noted, RunsTold};
     ghost use Rattle.aes3_recovery.specs.declared.recovery.State.TheVariants.{Following, Measuring, Still};
 
     /// A recovery of which nothing came. A cell is so many parts of a sample, where that is given.
@@ -226,6 +226,7 @@ impl Recovery {
             → self.old.figures.measured < self.new.figures.measured }
         ensures told { self.old.state ≡ Following → RunTold T.taken self.old.line self.new.line sink.old sink.new
             result run (level_if high) }
+        ensures noted { self.old.state ≡ Following → IfOk result (λ _. Noted self.old self.new) }
         ensures edges { self.new.line.edges ≡ self.old.line.edges }
         ensures samples { self.new.figures.samples ≡ self.old.figures.samples }
         ensures stands { (setting : Setting) (level : Level) (done : List ℕ) (past : ℕ)
@@ -272,6 +273,7 @@ impl Recovery {
         ensures err_count { OnErr result (T.failed sink.new ≡ T.failed sink.old + 1) }
         ensures told { RunTold T.taken self.old.line self.new.line sink.old sink.new result run
             (level_if high) }
+        ensures noted { IfOk result (λ _. Noted self.old self.new) }
         ensures measured { self.new.figures.measured ≡ self.old.figures.measured }
         ensures keeps { KeepsRuns self.old self.new }
     {
@@ -289,25 +291,7 @@ impl Recovery {
     #[inline(always)]
     fn note(&mut self)
         ensures line { self.new.line ≡ self.old.line }
-        ensures measured { self.new.figures.measured ≡ self.old.figures.measured }
-        ensures keeps { KeepsRuns self.old self.new }
-        ensures edges { self.new.figures.edges ≡ min (self.old.figures.edges + 1) (2 ^ 64 - 1) }
-        ensures greatest { self.new.figures.greatest
-            ≡ max self.old.figures.greatest (distance_of self.old.line.follower) }
-        ensures squares { self.new.figures.squares ≡ min (self.old.figures.squares
-            + distance_of self.old.line.follower * distance_of self.old.line.follower) (2 ^ 64 - 1) }
-        ensures spread { self.new.spread ≡ min (self.old.spread - self.old.spread / 256
-            + distance_of self.old.line.follower) (2 ^ 32) }
-        ensures lost { self.new.line.follower.period / 5 < self.new.spread
-            → self.new.state ≡ Measuring }
-        ensures slipped { self.new.line.follower.bounds.low / 2
-            < (self.new.line.follower.same - self.new.line.follower.other)
-            + (self.new.line.follower.other - self.new.line.follower.same)
-            → self.new.state ≡ Measuring }
-        ensures kept { self.new.spread ≤ self.new.line.follower.period / 5
-            → (self.new.line.follower.same - self.new.line.follower.other)
-            + (self.new.line.follower.other - self.new.line.follower.same)
-            ≤ self.new.line.follower.bounds.low / 2 → self.new.state ≡ self.old.state }
+        ensures noted { Noted self.old self.new }
     {
         let follower = self.line.follower();
         // The grid has gone a sixteenth of the way to it.
