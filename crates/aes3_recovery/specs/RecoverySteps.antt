@@ -88,4 +88,5 @@ pub record Noted (old new : Recovery) : Type 0 where
   pub period_is : new.figures.period ≡ old.figures.period
   pub dead_is : new.figures.dead ≡ old.figures.dead
   pub dead_at_is : new.figures.dead_at ≡ old.figures.dead_at
+  pub misses_are : new.figures.misses ≡ old.figures.misses
   pub keeps : KeepsRuns old new

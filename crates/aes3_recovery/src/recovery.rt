@@ -25,7 +25,7 @@ pub struct Figures {
     /// How many samples there are, and how many cells were recovered.
     pub samples: u64,
     pub cells: u64,
-    /// How long a cell was last, in parts of a sample; 0 where no line was found.
+    /// How long a cell was last, in parts of a sample; 0 where none was given or found.
     pub period: u64,
     /// How many edges were followed, the greatest distance of one from its place, and the sum of
     /// the squares of these, in 256ths of a sample.
@@ -37,6 +37,8 @@ pub struct Figures {
     pub dead: u64,
     pub dead_at: u64,
     pub measured: u64,
+    /// How often runs were measured and no line was found.
+    pub misses: u64,
 }
 
 /// How far a line is known.
@@ -143,6 +145,7 @@ impl Recovery {
     pub fn figures(&self) -> Figures
         ensures samples { result.samples ≡ self.now.figures.samples }
         ensures measured { result.measured ≡ self.now.figures.measured }
+        ensures misses { result.misses ≡ self.now.figures.misses }
     {
         let mut figures = self.figures;
         figures.cells = self.line.cells();
@@ -354,7 +357,10 @@ impl Recovery {
             (done ++ take count self.old.runs) 0 self.new) }
     {
         match follower_of_runs(&self.runs[..count], self.known) {
-            None => self.release(sink, count),
+            None => {
+                self.figures.misses = self.figures.misses.saturating_add(1);
+                self.release(sink, count)
+            }
             Some(follower) => match self.begin(sink, follower, count) {
                 Ok(()) => self.release(sink, count),
                 Err(fault) => Err(fault),
