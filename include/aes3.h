@@ -376,7 +376,7 @@ typedef struct aes3_capture {
     uint64_t octets;   /* octets of packed cells that were put */
     uint64_t samples;  /* samples taken */
     uint64_t cells;    /* cells recovered of them */
-    uint64_t period;   /* how long a cell was last, in 65,536ths of a sample; 0 where no line was found */
+    uint64_t period;   /* how long a cell was last, in 65,536ths of a sample; 0 where none was given or found */
     uint64_t edges;    /* edges followed */
     uint64_t greatest; /* the greatest distance of an edge from its place, in 256ths of a sample */
     uint64_t squares;  /* the sum of the squares of these distances */
@@ -389,10 +389,15 @@ AES3_SIZE(aes3_capture, 80);
 /*
  * Recovers the cells of a line from all samples of a capture, in `count` octets: of `unit` octets a
  * sample, 1 or 2, the lower first, of which bit `bit` is the line, 0 to 7 or 0 to 15. A cell is
- * `period` 65,536ths of a sample; where that is 0 it is measured. Puts the cells into cells[], packed
- * as `aes3-cells --packed-out` writes them, and what was found into *found. Answers whether they all
- * fitted into the `room` octets; where not, a front of them stands there. A quarter of `count`, and 64
- * octets, are room enough for any samples.
+ * `period` 65,536ths of a sample, 132,096 to 524,288,000 (2.015625 to 8,000 samples); where that is 0
+ * it is measured, within the same limits. Puts the cells into cells[], packed as `aes3-cells
+ * --packed-out` writes them, and what was found into *found. Answers whether they all fitted into the
+ * `room` octets; where not, a front of them stands there. A quarter of `count`, and 64 octets, are
+ * room enough for any samples.
+ *
+ * Where found->measured is 0, no line was found. If `period` is 0 or outside its limits, there are no
+ * cells then. Otherwise the cells are counted by `period` alone, and no measurement confirmed them: the
+ * samples are no line of that period, or too few edges came to check it. 129 up to the end are enough.
  */
 bool aes3_capture_cells(const uint8_t *samples, size_t count, uint8_t unit, uint8_t bit, uint64_t period,
                         uint8_t *cells, size_t room, aes3_capture *found);

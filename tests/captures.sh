@@ -49,6 +49,36 @@ refused() {
     "$program" >out 2>said_why
     [ $? = 1 ] && grep -q -e '--bit.*--unit.*--rate' said_why
 }
+# edges EDGES SAMPLES_A_CELL: a capture of a line with so many edges, and its cells in `sent`.
+edges() {
+    "$python" -c 'import itertools, math, sys
+edges, cell, cells = int(sys.argv[1]), float(sys.argv[2]), ""
+for number, run in zip(range(edges + 1), itertools.cycle((2, 1, 1, 3, 1, 2, 2, 1, 3, 3, 1))):
+    cells += str(number % 2) * run
+print("\n".join(cells[i : i + 64] for i in range(0, len(cells), 64)), file=open("sent", "w"))
+places = [math.ceil(i * cell) for i in range(len(cells) + 1)]
+open("capture", "wb").write(b"".join(bytes([int(cells[i])]) * (places[i + 1] - places[i]) for i in range(len(cells))))' "$1" "$2"
+}
+# known_line STATUS EDGES SAMPLES_A_CELL: the cells of such a line are all written, and this is the status.
+known_line() {
+    edges "$2" "$3"
+    # shellcheck disable=SC2086 # they are words
+    "$program" $options <capture >got 2>said_why
+    [ $? = "$1" ] && cmp sent got
+}
+# measured_line EDGES SAMPLES_A_CELL: such a line is found with no options, and its cells are written from the first edge on.
+measured_line() {
+    edges "$1" "$2"
+    "$program" <capture >got 2>said_why && [ "$(tr -d '\n' <sent | sed 's/^0*//')" = "$(tr -d '\n' <got | sed 's/^0*//')" ]
+}
+# unconfirmed WHY: standard input has no line of --rate and --at. Its cells are written and counted, and this is said of them.
+unconfirmed() {
+    # shellcheck disable=SC2086 # they are words
+    "$program" $options >out 2>said_why
+    [ $? = 1 ] && [ "$(cat said_why)" = "aes3-cells: $(tr -d '\n' <out | wc -c) cells were written by --rate and --at, and no measurement confirmed them: $1" ]
+}
+too_few="too few edges came to check them, which takes 129 up to the end, or 257 up to a dead stretch"
+other_line="no line of this rate was found in this bit: try another --bit, --unit 2 for sixteen channels, or another --at"
 wrong_words() { "$program" "$@" </dev/null >out 2>said_why; [ $? = 2 ] && [ ! -s out ] && [ -s said_why ]; }
 
 # A second of 48 kHz at 24 MHz: up to a sample either way; 0.3 rms; falling edges late. Then 192 kHz and 96 kHz at 100 MHz.
@@ -163,9 +193,54 @@ for seed in 2 13; do
     judge "noise $seed" refused <noise
 done
 judge "nothing" refused </dev/null
+
+# With --rate and --at cells are written all the same, and no more is said of them than is so. A line is measured from 129 edges at the end.
+options="--rate 24576000 --at 48000"
+for edges in 0 1 2 127 128; do
+    judge "$edges edges" known_line 1 $edges 4
+    judge "$edges edges confirm nothing" unconfirmed "$too_few" <capture
+done
+for edges in 129 130 255 256 257 258 1000; do
+    judge "$edges edges" known_line 0 $edges 4
+done
+for edges in 256 257; do
+    edges $edges 4
+    head -c 4000 /dev/zero >>capture
+    judge "$edges edges before a dead stretch" sh -c "'$program' $options <capture >out 2>said_why; [ \$? = $((edges == 256)) ]"
+done
+edges 256 4
+{ cat capture; head -c 4000 /dev/zero; cat capture; head -c 4000 /dev/zero; } >two
+judge "256 edges twice confirm nothing" unconfirmed "$too_few" <two
+judge "noise is no line of a rate" unconfirmed "$other_line" <noise
+edges 1000 5
+judge "a line of another rate" unconfirmed "$other_line" <capture
+judge "nothing by a rate" unconfirmed "$too_few" </dev/null
+judge "a dead line by a rate" unconfirmed "$too_few" <dead
+options=
+edges 128 4
+judge "128 edges and no rate" refused <capture
+judge "128 edges and no rate have no cells" [ ! -s out ]
+judge "129 edges and no rate" measured_line 129 4
+
+# The limits of a cell's samples are the same where they are given and where they are measured.
+for words in "258 --at 1" "1024000 --at 1" "18446744073709551615 --at 18446744073709551"; do
+    options="--rate $words"
+    judge "the words $options" unconfirmed "$too_few" </dev/null
+done
+options="--rate 1024000 --at 1"
+judge "a cell of 8000 samples" known_line 0 300 8000
+options=
+judge "a cell of 7990 samples" measured_line 300 7990
+edges 300 8010
+judge "a cell of 8010 samples" refused <capture
+edges 300 2
+judge "a cell of 2 samples" refused <capture
+"$program" --rate 0 </dev/null 2>said_why
+judge "what is wrong with --rate 0" grep -q -e "'0'.*--rate.* 0 is not in 1\.\.18446744073709551615" said_why
 told=$(head -c 3906250 /dev/zero | "$program" --rate 24000000 --at 48000 2>told | tr -d '\n' | wc -c)
 judge "$told cells of a dead line in the time of 1000000" [ "$told" -ge 999999 -a "$told" -le 1000001 ]
-for words in "--tell" "--tell --rate 0" "--bit 8" "--unit 3" "--unit 2 --bit 16" "--at 48000" "--rate 0 --at 48000" "--rate 48000 --at 48000" "--rate x" "--none" "file"; do
+for words in "--tell" "--tell --rate 0" "--bit 8" "--unit 3" "--unit 2 --bit 16" "--at 48000" "--rate 0" "--rate 0 --at 48000" "--rate 48000 --at 0" "--rate 48000 --at 48000" \
+    "--rate 257 --at 1" "--rate 1024001 --at 1" "--rate 1 --at 18446744073709551615" "--rate 18446744073709551615 --at 1" "--rate x" "--none" "file"; do
     # shellcheck disable=SC2086
     judge "the words $words" wrong_words $words
 done

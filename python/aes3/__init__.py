@@ -293,7 +293,7 @@ def cells_of_samples(samples, bit=0, unit=1, period=0):
     """The packed cells of the line in a bit of samples, as `aes3-cells --packed-out` writes them, and what was found of it.
 
     A sample has `unit` octets, 1 or 2, the lower first; a cell is `period` 65,536ths of a sample, or is measured. What was found is a
-    dict by the names of aes3.h: `measured` is 0 where no line was.
+    dict by the names of aes3.h: `measured` is 0 where no line was. The cells are then by `period` alone, if it was given, and unconfirmed.
     """
     if unit not in (1, 2) or bit not in range(8 * unit):
         raise ValueError("a sample has one octet and bits 0 to 7, or two and bits 0 to 15")

@@ -13,7 +13,7 @@ pub struct Aes3Capture {
     /// How many samples there were, and how many cells were recovered of them.
     pub samples: u64,
     pub cells: u64,
-    /// How long a cell was last, in 65,536ths of a sample; 0 where no line was found.
+    /// How long a cell was last, in 65,536ths of a sample; 0 where none was given or found.
     pub period: u64,
     /// How many edges were followed, the greatest distance of one from its place, and the sum of
     /// the squares of these, in 256ths of a sample.
@@ -35,7 +35,8 @@ const _: () = prove!(align_of::<Aes3Capture>() == 8);
 /// Recovers the cells of a line from all samples of a capture, of `unit` octets each, 1 or 2, the
 /// lower first, in whose bit `bit` the line is. A cell is `period` 65,536ths of a sample, or is
 /// measured where that is 0. Puts the packed cells, and what was found. Answers whether there was
-/// room for all of them; else a front of them stands there.
+/// room for all of them; else a front of them stands there. Where no line was found there are no
+/// cells, or with a period those of that alone, which no measurement confirmed.
 #[unsafe(no_mangle)]
 pub extern "C" fn aes3_capture_cells(
     samples: &[u8],

@@ -1,4 +1,4 @@
-//! The line that tells what was found.
+//! The lines that tell what was found, or that no line was.
 
 use aes3_recovery::Figures;
 use std::alloc::{AllocError, Global};
@@ -43,5 +43,26 @@ pub fn figures_line(
         "aes3-cells: {} cells, {length} samples a cell{frequency}, edges {rms} of a cell rms, \
             {most} at most, {} dead stretches{latest}, measured {} times\n",
         figures.cells, figures.dead, figures.measured
+    )
+}
+
+/// That no line was found, and what to try, for people. Where the samples a cell are given, that the
+/// cells were written by these alone, and whether enough edges came to find a line.
+pub fn no_line(alloc: Global, figures: Figures, period: Option<u64>) -> Result<String, AllocError> {
+    if period.is_none() {
+        return format!(in alloc;
+            "aes3-cells: no line was found in this bit: try another --bit, --unit 2 for sixteen \
+                channels, or --rate with --at\n"
+        );
+    }
+    let why = if figures.misses == 0 {
+        "too few edges came to check them, which takes 129 up to the end, or 257 up to a dead stretch"
+    } else {
+        "no line of this rate was found in this bit: try another --bit, --unit 2 for sixteen channels, \
+            or another --at"
+    };
+    format!(in alloc;
+        "aes3-cells: {} cells were written by --rate and --at, and no measurement confirmed them: {why}\n",
+        figures.cells
     )
 }

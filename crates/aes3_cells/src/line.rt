@@ -1,7 +1,7 @@
 //! The words of the command line.
 
 use aes3_cell::Form;
-use aes3_recovery::Unit;
+use aes3_recovery::{LONGEST_PERIOD, SHORTEST_PERIOD, Unit};
 use clap::error::ErrorKind;
 use clap::{Arg, ArgAction, ArgMatches, Command, Error, value_parser};
 use std::alloc::{AllocError, Global};
@@ -40,16 +40,17 @@ const USAGE: &str = "aes3-cells [OPTIONS] < SAMPLES > CELLS";
 
 const MORE: &str =
     "Reads the samples of a logic analyser or of a pin, one octet each or two, lowest first,
-and writes the cells of the line in one of their bits, as `aes3` reads them. How long
-a cell is is measured, and anew after each stretch without a line, unless --rate and
---at say it. At the end a line on standard error tells what was found: the samples a
-cell, the line's sampling frequency with --rate, how far edges lie from their places in
-parts of a cell, and how often the line was dead, with the sample at which it was so
-last. With --tell it comes every --rate samples too, and when the line dies.
+and writes the cells of the line in one of their bits, as `aes3` reads them. A cell has
+2.015625 to 8000 samples. How many is measured, and anew after each stretch without a
+line, unless --rate and --at say it: --rate / (128 * --at). At the end a line on standard
+error tells what was found: the samples a cell, the line's sampling frequency with
+--rate, how far edges lie from their places in parts of a cell, and how often the line
+was dead, with the sample at which it was so last. With --tell it comes every --rate
+samples too, and when the line dies.
 
 Exit status:
   0  done
-  1  no line was found
+  1  no line was found; cells by --rate and --at are written then too
   2  the words are no command line
   3  the input or the output failed
 ";
@@ -62,13 +63,8 @@ fn command_line<'a>(alloc: Global) -> Result<Command<'a>, AllocError> {
         .after_help(MORE)
         .no_binary_name(true)
         .version("0.1.0")
-        .arg(number(alloc, "rate", "HZ", "Samples a second"))?
-        .arg(number(
-            alloc,
-            "at",
-            "HZ",
-            "The line's sampling frequency; wants --rate",
-        ))?
+        .arg(frequency(alloc, "rate", "Samples a second"))?
+        .arg(frequency(alloc, "at", "The line's sampling frequency; wants --rate"))?
         .arg(number(
             alloc,
             "unit",
@@ -103,6 +99,11 @@ fn number<'a>(alloc: Global, name: &'a str, value: &'a str, help: &'a str) -> Ar
         .value_name(value)
         .value_parser(value_parser!(u64))
         .help(help)
+}
+
+/// The option `--name` with a frequency, which is not 0.
+fn frequency<'a>(alloc: Global, name: &'a str, help: &'a str) -> Arg<'a> {
+    number(alloc, name, "HZ", help).value_parser(value_parser!(u64).range(1..))
 }
 
 /// What the words ask for, without the program's name.
@@ -140,14 +141,14 @@ fn job_of_matches(alloc: Global, matches: &ArgMatches<'_>) -> Result<Job, LineFa
     if at.is_some() && rate.is_none() {
         return usage(alloc, "--at wants --rate");
     }
-    if matches.get_flag("tell") && rate.unwrap_or(0) == 0 {
+    if matches.get_flag("tell") && rate.is_none() {
         return usage(alloc, "--tell wants --rate");
     }
     let period = period_of(rate, at);
     if period.is_none() && at.is_some() {
         return usage(
             alloc,
-            "a cell has 3 to 8000 samples: --rate over 128 times --at",
+            "a cell has 2.015625 to 8000 samples: --rate over 128 times --at",
         );
     }
     let form = if matches.get_flag("packed-out") {
@@ -183,13 +184,13 @@ fn period_of(rate: Option<u64>, at: Option<u64>) -> Option<u64> {
     let (Some(rate), Some(at)) = (rate, at) else {
         return None;
     };
-    if at == 0 || rate > 1 << 40 || at > 1 << 40 {
+    if at == 0 {
         return None;
     }
-    let period = (rate * 512 + at / 2) / at;
-    if period < 3 << 16 || period > 8000 << 16 {
+    let period = (u128::from(rate) * 512 + u128::from(at / 2)) / u128::from(at);
+    if period < u128::from(SHORTEST_PERIOD) || period > u128::from(LONGEST_PERIOD) {
         None
     } else {
-        Some(period)
+        Some(period as u64)
     }
 }

@@ -11,7 +11,7 @@ ghost use Rattle.std.specs.Prelude.{◌+◌, ◌<◌, ◌≤◌, ◌^◌, ◌≡
 
 use aes3_cell::{BufferedSink, Sink, Source, StdSink, StdSource, write_all};
 use aes3_recovery::{Progress, Recovery, Refusal, recover};
-use figures::figures_line;
+use figures::{figures_line, no_line};
 use line::{Job, LineFault, job_of_words};
 use std::alloc::{AllocError, Global};
 use std::env;
@@ -125,12 +125,10 @@ fn run_job<E: Sink>(rt: &HostRuntime, errors: &mut E, job: Job) -> Result<u8, Al
     );
     let figures = recovery.figures();
     match end {
-        Ok(_) if figures.measured == 0 => Ok(tell(
-            errors,
-            "aes3-cells: no line was found in this bit: try another --bit, --unit 2 for sixteen \
-             channels, or --rate with --at\n",
-            NO_LINE,
-        )),
+        Ok(_) if figures.measured == 0 => {
+            let text = no_line(rt.alloc(), figures, job.period)?;
+            Ok(tell(errors, text.as_str(), NO_LINE))
+        }
         Ok(_) => {
             let text = figures_line(rt.alloc(), figures, job.rate)?;
             Ok(tell(errors, text.as_str(), 0))

@@ -78,8 +78,8 @@ pub record AreCells (known : Option ℕ) (level : Level) (runs : List ℕ) (cell
   pub counted : Recounted known start behind counts last
   pub cells_are : cells ≡ first_cells level before start ++ line (after level before) counts
 
--- The cells of these runs of samples, at the end: none where no line was found, as is told by how often one was
--- measured.
+-- The cells of these runs of samples, at the end. Where no period was asked for and no line was found, there are none, as
+-- is told by how often one was measured.
 abbrev pub AreEnded : Option ℕ → Level → List ℕ → List Level → Recovery → Type 0
 AreEnded known level runs cells now =
     ((cells ≡ []) × (now.found ≡ false) × (now.figures.measured ≡ 0)) ⊎ AreCells known level runs cells

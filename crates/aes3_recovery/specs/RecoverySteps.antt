@@ -1,5 +1,6 @@
 -- The steps of a recovery.
-use Rattle.std.specs.Prelude.{ℕ, List, [], ◌++◌, ◌≡◌, ◌+◌, ◌-◌, ◌/◌, ◌^◌, Option, true, false, min}
+use Rattle.std.specs.Prelude.{ℕ, List, [], ◌++◌, ◌≡◌, ◌<◌, ◌≤◌, ◌+◌, ◌-◌, ◌*◌, ◌/◌, ◌^◌}
+use Rattle.std.specs.Prelude.{Option, true, false, max, min}
 use Rattle.aes3_level.specs.declared.level.Level.{Level}
 use Rattle.aes3_level.specs.Cells.{line}
 use Rattle.aes3_capture.specs.declared.follower.Follower.{Follower}
@@ -8,6 +9,7 @@ use Rattle.aes3_recovery.specs.Recovering.{samples_of}
 use Rattle.aes3_recovery.specs.Queues.{Queued, waiting}
 use Rattle.aes3_recovery.specs.declared.line_follower.LineFollower.{LineFollower}
 use Rattle.aes3_recovery.specs.declared.recovery.Recovery.{Recovery}
+use Rattle.aes3_recovery.specs.declared.recovery.State.TheVariants.{Measuring}
 
 -- these cells were given behind all others
 pub record Gave {A : Type 0} (taken : A → Option (List ℕ)) (old new : LineFollower) (before after : A)
@@ -63,3 +65,28 @@ left_of f = ((f.same - middle_of f.bounds) + (middle_of f.bounds - f.same)) / 25
 
 abbrev pub distance_of : Follower → ℕ
 distance_of f = left_of f + left_of f / 15
+
+-- how far the places of rising and falling edges have moved apart
+abbrev pub apart_of : Follower → ℕ
+apart_of f = (f.same - f.other) + (f.other - f.same)
+
+-- The latest edge of a line that is followed was noted, by the follower that counted the run before it: how far the edge
+-- was from its place is in the figures and in the mean. Where that mean is more than a fifth of a cell, or rising and
+-- falling edges have slipped, the line is measured next; where not, the state stays. All else but the line is as it was.
+pub record Noted (old new : Recovery) : Type 0 where
+  pub edges : new.figures.edges ≡ min (old.figures.edges + 1) (2 ^ 64 - 1)
+  pub greatest : new.figures.greatest ≡ max old.figures.greatest (distance_of new.line.follower)
+  pub squares : new.figures.squares ≡ min (old.figures.squares
+      + distance_of new.line.follower * distance_of new.line.follower) (2 ^ 64 - 1)
+  pub spread : new.spread ≡ min (old.spread - old.spread / 256 + distance_of new.line.follower) (2 ^ 32)
+  pub lost : new.line.follower.period / 5 < new.spread → new.state ≡ Measuring
+  pub slipped : new.line.follower.bounds.low / 2 < apart_of new.line.follower → new.state ≡ Measuring
+  pub kept : new.spread ≤ new.line.follower.period / 5
+      → apart_of new.line.follower ≤ new.line.follower.bounds.low / 2 → new.state ≡ old.state
+  pub held_is : new.held ≡ old.held
+  pub cells_are : new.figures.cells ≡ old.figures.cells
+  pub period_is : new.figures.period ≡ old.figures.period
+  pub dead_is : new.figures.dead ≡ old.figures.dead
+  pub dead_at_is : new.figures.dead_at ≡ old.figures.dead_at
+  pub misses_are : new.figures.misses ≡ old.figures.misses
+  pub keeps : KeepsRuns old new

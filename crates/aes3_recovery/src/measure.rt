@@ -15,6 +15,12 @@ const FIRST: usize = 48;
 /// In so many runs there is a preamble's run of three cells.
 const GROUP: usize = 64;
 
+/// The shortest and the longest period that a line may have, in parts of a sample: 2 samples and a
+/// 64th, and 8,000.
+pub const SHORTEST_PERIOD: u64 = 2 * PARTS + PARTS / 64;
+
+pub const LONGEST_PERIOD: u64 = 8000 * PARTS;
+
 /// A quarter of a cell, where 2^32 is a cell.
 const QUARTER: u64 = 1 << 30;
 
@@ -160,7 +166,7 @@ pub(crate) fn bounds_around(period: u64) -> Option<Bounds>
     ensures longest { IfSome result (λ bounds. period ≤ bounds.high) }
     ensures shortest { IfSome result (λ bounds. bounds.low ≤ period) }
 {
-    if period < 2 * PARTS + PARTS / 64 || period > 8000 * PARTS {
+    if period < SHORTEST_PERIOD || period > LONGEST_PERIOD {
         return None;
     }
     Some(Bounds {

@@ -25,7 +25,7 @@ pub struct Figures {
     /// How many samples there are, and how many cells were recovered.
     pub samples: u64,
     pub cells: u64,
-    /// How long a cell was last, in parts of a sample; 0 where no line was found.
+    /// How long a cell was last, in parts of a sample; 0 where none was given or found.
     pub period: u64,
     /// How many edges were followed, the greatest distance of one from its place, and the sum of
     /// the squares of these, in 256ths of a sample.
@@ -37,6 +37,8 @@ pub struct Figures {
     pub dead: u64,
     pub dead_at: u64,
     pub measured: u64,
+    /// How often runs were measured and no line was found.
+    pub misses: u64,
 }
 
 /// How far a line is known.
@@ -106,7 +108,7 @@ impl Recovery {
     ghost use Rattle.aes3_recovery.specs.Endings.{finished};
     ghost use Rattle.aes3_recovery.specs.Recovering.{AreEnded, AreRecovered, AreTold, Holds, Recovered, Setting};
     ghost use Rattle.aes3_recovery.specs.Recovering.{StandsOn, runs_waiting};
-    ghost use Rattle.aes3_recovery.specs.RecoverySteps.{Gave, KeepsRuns, KeepsTold, RunsTold, distance_of};
+    ghost use Rattle.aes3_recovery.specs.RecoverySteps.{Gave, KeepsRuns, KeepsTold, Noted, RunsTold};
     ghost use Rattle.aes3_recovery.specs.declared.recovery.State.TheVariants.{Following, Measuring, Still};
 
     /// A recovery of which nothing came. A cell is so many parts of a sample, where that is given.
@@ -143,6 +145,7 @@ impl Recovery {
     pub fn figures(&self) -> Figures
         ensures samples { result.samples ≡ self.now.figures.samples }
         ensures measured { result.measured ≡ self.now.figures.measured }
+        ensures misses { result.misses ≡ self.now.figures.misses }
     {
         let mut figures = self.figures;
         figures.cells = self.line.cells();
@@ -226,6 +229,7 @@ impl Recovery {
             → self.old.figures.measured < self.new.figures.measured }
         ensures told { self.old.state ≡ Following → RunTold T.taken self.old.line self.new.line sink.old sink.new
             result run (level_if high) }
+        ensures noted { self.old.state ≡ Following → IfOk result (λ _. Noted self.old self.new) }
         ensures edges { self.new.line.edges ≡ self.old.line.edges }
         ensures samples { self.new.figures.samples ≡ self.old.figures.samples }
         ensures stands { (setting : Setting) (level : Level) (done : List ℕ) (past : ℕ)
@@ -272,6 +276,7 @@ impl Recovery {
         ensures err_count { OnErr result (T.failed sink.new ≡ T.failed sink.old + 1) }
         ensures told { RunTold T.taken self.old.line self.new.line sink.old sink.new result run
             (level_if high) }
+        ensures noted { IfOk result (λ _. Noted self.old self.new) }
         ensures measured { self.new.figures.measured ≡ self.old.figures.measured }
         ensures keeps { KeepsRuns self.old self.new }
     {
@@ -289,25 +294,7 @@ impl Recovery {
     #[inline(always)]
     fn note(&mut self)
         ensures line { self.new.line ≡ self.old.line }
-        ensures measured { self.new.figures.measured ≡ self.old.figures.measured }
-        ensures keeps { KeepsRuns self.old self.new }
-        ensures edges { self.new.figures.edges ≡ min (self.old.figures.edges + 1) (2 ^ 64 - 1) }
-        ensures greatest { self.new.figures.greatest
-            ≡ max self.old.figures.greatest (distance_of self.old.line.follower) }
-        ensures squares { self.new.figures.squares ≡ min (self.old.figures.squares
-            + distance_of self.old.line.follower * distance_of self.old.line.follower) (2 ^ 64 - 1) }
-        ensures spread { self.new.spread ≡ min (self.old.spread - self.old.spread / 256
-            + distance_of self.old.line.follower) (2 ^ 32) }
-        ensures lost { self.new.line.follower.period / 5 < self.new.spread
-            → self.new.state ≡ Measuring }
-        ensures slipped { self.new.line.follower.bounds.low / 2
-            < (self.new.line.follower.same - self.new.line.follower.other)
-            + (self.new.line.follower.other - self.new.line.follower.same)
-            → self.new.state ≡ Measuring }
-        ensures kept { self.new.spread ≤ self.new.line.follower.period / 5
-            → (self.new.line.follower.same - self.new.line.follower.other)
-            + (self.new.line.follower.other - self.new.line.follower.same)
-            ≤ self.new.line.follower.bounds.low / 2 → self.new.state ≡ self.old.state }
+        ensures noted { Noted self.old self.new }
     {
         let follower = self.line.follower();
         // The grid has gone a sixteenth of the way to it.
@@ -370,7 +357,10 @@ impl Recovery {
             (done ++ take count self.old.runs) 0 self.new) }
     {
         match follower_of_runs(&self.runs[..count], self.known) {
-            None => self.release(sink, count),
+            None => {
+                self.figures.misses = self.figures.misses.saturating_add(1);
+                self.release(sink, count)
+            }
             Some(follower) => match self.begin(sink, follower, count) {
                 Ok(()) => self.release(sink, count),
                 Err(fault) => Err(fault),

@@ -7,7 +7,7 @@ use Rattle.aes3_level.specs.Cells.{after, other}
 use Rattle.aes3_level.proofs.Runs.{after-append}
 use Rattle.aes3_recovery.specs.Endings.{level_if}
 use Rattle.aes3_recovery.specs.RecoverySteps.{Gave, RunsTold}
-use Rattle.aes3_recovery.proofs.Telling.{ok-map, told-all, told-measured}
+use Rattle.aes3_recovery.proofs.Telling.{ok-map, told-all, told-keeps, told-measured}
 use Rattle.aes3_recovery.proofs.recovery.Recovery.decide.Goals as goal
 
 pub returns-in-None-clause-told : goal.returns-in-None-clause-told
@@ -17,8 +17,9 @@ returns-in-None-clause-told g c = λ setting level done many w turns.
     let new = c.release.new.self in
     let k = c.release.ensures.keeps in
     ok-map c.release.result _ _
-    (λ t. told-all old new c.args.sink.now c.release.new.sink setting level done 0 runs w (λ some. refl) t k.found_is
-    k.known_is k.measured_is)
+    (λ t. told-all _ new c.args.sink.now c.release.new.sink setting level done 0 runs
+    (told-keeps (g.T.Sink.taken c.args.sink.now) setting level done 0 old _ w refl refl refl refl refl refl)
+    (λ some. refl) t k.found_is k.known_is k.measured_is)
     (c.release.ensures.told (after level done) (turns ∙ ap other (after-append level done runs)))
 
 pub returns-in-Ok-clause-told : goal.returns-in-Ok-clause-told

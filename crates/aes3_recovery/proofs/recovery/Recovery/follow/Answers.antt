@@ -6,7 +6,7 @@ returns-in-Ok-clause-told g c = rw c.note.ensures.line c.in-Ok.ensures.told
 
 pub returns-in-Ok-clause-keeps : goal.returns-in-Ok-clause-keeps
 returns-in-Ok-clause-keeps g c =
-    let k = c.note.ensures.keeps in
+    let k = c.note.ensures.noted.keeps in
     record {
       found_is = k.found_is;
       known_is = k.known_is;

@@ -8,6 +8,6 @@ returns c = record {
       let made = c.new-2.ensures in
       recovered-new setting _ (ap (λ e. e.high) made.edges ∙ c.new.ensures.high)
       (ap (λ e. e.run) made.edges ∙ c.new.ensures.none) made.none (made.form ∙ sym form) (sym known) refl
-      c.default.ensures.0 c.default.ensures.1.1.1.1.1.1.1.1 refl refl
+      c.default.ensures.0 c.default.ensures.1.1.1.1.1.1.1.1.0 refl refl
       (λ found. rw (known, made.follower) (asked found));
 }
