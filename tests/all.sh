@@ -83,6 +83,7 @@ part tests/help.sh "$program"
 part tests/readme.sh "$program"
 part_with cc tests/allocations.sh "$program"
 part_with python3 tests/random.py "$program"
+part_with python3 tests/thresholds.py "$program" "$root/crates/aes3_cells/out/aes3_cells"
 part_with python3 bin/make-manual --check "$program"
 part tests/manual.sh
 part_with python3 tests/completions.py "$program"
