@@ -124,8 +124,9 @@ impl<T: Sink + Drop> Hints<T> {
                 self.tell_refusal(RunError::Read, Some(Place::File(name)), Some(UNREAD));
             }
             (Some(error), _) => {
-                let told = advice_by_looks(error, looks_of(source.first()));
-                self.tell_refusal(error, place_of(error, words, source), told);
+                let looks = looks_of(source.first());
+                let told = advice_by_looks(error, looks);
+                self.tell_refusal(error, place_of(error, words, source, looks), told);
             }
             (None, _) => self.warn(words, source.first()),
         }
@@ -219,6 +220,7 @@ fn refused_text(alloc: Global, error: RunError, place: Option<Place<'_>>) -> Opt
         Some(Place::Option(name)) | Some(Place::File(name)) => {
             format!(in alloc; "{error} ({name}): ")
         }
+        Some(Place::SoundFile) => return Some(String::new(alloc)),
         None => format!(in alloc; "{error}: "),
     };
     text.ok()
@@ -248,6 +250,8 @@ enum Place<'a> {
     Option(&'static str),
     /// The file of this name.
     File(&'a str),
+    /// The input as a whole, a sound file: where in it the first sample is no matter.
+    SoundFile,
 }
 
 /// Where to look for what was refused.
@@ -255,8 +259,10 @@ fn place_of<S: Source + Drop>(
     error: RunError,
     words: &[&str],
     source: &Watched<S>,
+    looks: Looks,
 ) -> Option<Place<'static>> {
     match error {
+        RunError::BadSample { .. } if matches!(looks, Looks::Wave) => Some(Place::SoundFile),
         RunError::BadCell { at } => Some(Place::Byte(source.position(at)?)),
         RunError::BadStatusText => Some(Place::Option(bad_status_option(words)?)),
         _ => None,
