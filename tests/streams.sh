@@ -235,8 +235,33 @@ END
     else
         wrong "streams that are set not to wait: $(cat "$folder/output")"
     fi
+
+    # The cell after a block decides it. From a live line its report comes two octets after the octet of that cell, three with --lsb-first.
+    python3 - "$program" "$zero" > "$folder/output" << 'END'
+import os, select, subprocess, sys
+
+program, zero = sys.argv[1:]
+block = open(zero, "rb").read(1536)
+packed = subprocess.run([program, "encode", "--packed-out"], input=2 * block, stdout=subprocess.PIPE).stdout[:-1]
+for words in ["--raw-in"], ["--packed-in"], ["--raw-in", "--lsb-first"], ["--packed-in", "--lsb-first"]:
+    octets = bytes(int(f"{octet:08b}"[::-1], 2) for octet in packed) if "--lsb-first" in words else packed
+    child = subprocess.Popen([program, "check", *words], stdin=subprocess.PIPE, stdout=subprocess.PIPE, bufsize=0)
+    count = 3073
+    child.stdin.write(octets[:count])
+    while not select.select([child.stdout], [], [], 0.5)[0] and count < 3080:
+        child.stdin.write(octets[count : count + 1])
+        count += 1
+    print(*words, count - 3073)
+    child.stdin.close()
+    child.wait()
+END
+    if [ "$(cat "$folder/output")" = "$(printf -- '--raw-in 2\n--packed-in 2\n--raw-in --lsb-first 3\n--packed-in --lsb-first 3')" ]; then
+        well "how late a report comes from live octets"
+    else
+        wrong "how late a report comes from live octets: $(cat "$folder/output")"
+    fi
 else
-    echo "left out: streams that are set not to wait (python3 is not installed)"
+    echo "left out: streams that are set not to wait, and live octets (python3 is not installed)"
 fi
 
 echo "$passed passed, $failed failed"
