@@ -245,7 +245,7 @@ block = open(zero, "rb").read(1536)
 packed = subprocess.run([program, "encode", "--packed-out"], input=2 * block, stdout=subprocess.PIPE).stdout[:-1]
 for words in ["--raw-in"], ["--packed-in"], ["--raw-in", "--lsb-first"], ["--packed-in", "--lsb-first"]:
     octets = bytes(int(f"{octet:08b}"[::-1], 2) for octet in packed) if "--lsb-first" in words else packed
-    child = subprocess.Popen([program, "check", *words], stdin=subprocess.PIPE, stdout=subprocess.PIPE, bufsize=0)
+    child = subprocess.Popen([program, "check", *words], stdin=subprocess.PIPE, stdout=subprocess.PIPE, stderr=subprocess.DEVNULL, bufsize=0)
     count = 3073
     child.stdin.write(octets[:count])
     while not select.select([child.stdout], [], [], 0.5)[0] and count < 3080:
