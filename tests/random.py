@@ -193,7 +193,8 @@ def judged(program, cells, every, statuses):
     for pcm, octets in (("s16", 2), ("s24", 3), ("s32", 4)):
         yield f"to-pcm --exact --pcm {pcm}", run_and_told(program, ["to-pcm", "--exact", "--pcm", pcm], cells) == exact(blocks, octets)
     statuses = [octets_of(bits)[0] & 1 for bits in bits_of(words, PLACES["status"], 0)]
-    for fields in ({"copyright=asserted": 0}, {"aux=audio": 1}, {"copyright=asserted": 0, "aux=audio": 1}):
+    both = {"time=007": 1, "rate=code9": 0, "aux=audio": 1, "origin=JATH": 1}
+    for fields in ({"copyright=asserted": 0}, {"aux=audio": 1}, {"copyright=asserted": 0, "aux=audio": 1}, both):
         typed = [word for field in fields for word in ("--set1", field)]
         yield f"rewrite {typed}", run_and_told(program, ["rewrite", *typed], cells)[2] == untaken(fields, statuses)
         first = next((i for i, use in enumerate(statuses) if any(use != wanted for wanted in fields.values())), len(blocks))

@@ -1,8 +1,8 @@
 -- What the getters of a parse's matches read, by the options that the matches have.
-use Rattle.std.proofs.Common.{◌≡◌, ◌∙◌, ◌<◌, ◌≤◌, ◌^◌, arith, ℕ, Bool, List, map, Bor, Option, Some, None, Result, Ok}
+use Rattle.std.proofs.Common.{◌≡◌, ◌∙◌, ◌<◌, ◌≤◌, ◌^◌, arith, ℕ, Bool, List, [], map, Bor, Option, Some, None, Result, Ok}
 use Rattle.std.proofs.Common.{Err, inl, inr, true, false, codes, refl, sym, ap, cond, subst, is_some, true≢false}
 use Rattle.std.specs.Prelude.{option_and_then}
-use Rattle.std.specs.Option.{option_map, option_map_or}
+use Rattle.std.specs.Option.{option_map, option_map_or, unwrap_or}
 use Rattle.std.specs.Str.{bytes_eq}
 use Rattle.std.specs.Str.Parse.{ParsesUnsigned, digits_value, without_leading_plus}
 use Rattle.clap.specs.Matches.{ReadsOne, first_value, found_of, matched_of, one_text, raw_values}
@@ -14,7 +14,7 @@ use Rattle.clap.proofs.ValueTestLemmas.{Accepts-accepts, accepts-Accepts}
 use Rattle.clap.proofs.WalkLemmas.{first_value-rows, one_text-rows, raw_values-rows}
 use Rattle.aes3_commands.specs.CommandLine.{greatest, most_frames}
 use Rattle.aes3_arguments.specs.Jobs.{IsNumber, MayBeFlag, MayBeWithin, Options, is_set, number_by, number_in}
-use Rattle.aes3_arguments.specs.Jobs.{options_of}
+use Rattle.aes3_arguments.specs.Jobs.{options_of, texts_by}
 use Rattle.aes3_arguments.proofs.OptionRows.{some_inj}
 
 -- `get_flag` tells whether the flag stands
@@ -81,6 +81,21 @@ pub texts_are : (m : ArgMatches) (name : Text) (answer is : Option (Bor (List (B
     → texts_in answer ≡ option_map raw_values (matched_of (found_of m) name)
     → answer ≡ is → all_of name (options_of m) ≡ texts_in is
 texts_are m name answer is read same = sym (raw_values-rows (found_of m) name) ∙ (sym read ∙ ap texts_in same)
+
+-- where none are given, nothing stands in their place
+or_nothing : (o : Option (Bor (List (Bor Text)))) (none : Bor (List (Bor Text))) → none.now ≡ []
+    → map (λ (v : Bor Text). v.now) (unwrap_or o none).now ≡ unwrap_or (texts_in o) []
+or_nothing None none e = ap (map (λ (v : Bor Text). v.now)) e
+or_nothing (Some texts) none e = refl
+
+pub texts_given : (m : ArgMatches) (name : Text) (answer : Option (Bor (List (Bor Text))))
+    (none is : Bor (List (Bor Text)))
+    → texts_in answer ≡ option_map raw_values (matched_of (found_of m) name)
+    → none.now ≡ [] → is ≡ unwrap_or answer none
+    → map (λ (v : Bor Text). v.now) is.now ≡ texts_by (options_of m) name
+texts_given m name answer none is read e same =
+    ap (λ (s : Bor (List (Bor Text))). map (λ (v : Bor Text). v.now) s.now) same ∙ or_nothing answer none e
+    ∙ sym (ap (λ (o : Option (List Text)). unwrap_or o []) (texts_are m name answer answer read refl))
 
 -- a text within bounds writes a number, which is within them
 pub bounded_in : (least most : ℕ) (text : Text) → is_unsigned_in least most text ≡ true

@@ -1,8 +1,8 @@
 -- What a command line asks for, by what `clap` makes of its words.
 use Rattle.std.specs.Prelude.{ℕ, Bool, List, [], ◌∷◌, ◌++◌, ◌≡◌, ◌≢◌, ◌⊎◌, Option, Some, None, codes, get_or, true}
 use Rattle.std.specs.Prelude.{false}
-use Rattle.std.specs.Prelude.{if◌then◌else◌, option_and_then, option_map, is_some, not, ◌&&◌, ◌||◌, ◌*◌, ◌==◌}
-use Rattle.std.specs.Option.{option_map_or}
+use Rattle.std.specs.Prelude.{if◌then◌else◌, option_and_then, option_map, is_some, not, ◌&&◌, ◌||◌, ◌*◌, ◌==◌, take}
+use Rattle.std.specs.Option.{option_map_or, unwrap_or}
 use Rattle.std.specs.Str.{bytes_eq}
 use Rattle.std.specs.Str.Parse.{digits_value, without_leading_plus}
 use Rattle.clap.specs.ValueTests.{is_unsigned_in}
@@ -27,6 +27,8 @@ use Rattle.aes3_status.specs.declared.change.Change.{Change}
 use Rattle.aes3_status.specs.declared.setting.Settings.{Settings}
 use Rattle.aes3_settings.specs.Choices.{choices}
 use Rattle.aes3_settings.specs.Settings.{AreSettingsOf, IsSettingsFault}
+use Rattle.aes3_settings.specs.Untaken.{texts_of}
+use Rattle.aes3_settings.specs.declared.typed.TypedSettings.{TypedSettings}
 use Rattle.aes3_settings.specs.declared.listed.SettingsFault.{SettingsFault}
 use Rattle.aes3_settings.specs.declared.listed.SettingsFault.TheVariants.{Unknown, TooMany}
 use Rattle.aes3_settings.specs.declared.detail.Detail.{Detail}
@@ -411,6 +413,21 @@ misuse_by options =
     else if has_unknown_words options then Some UnknownWords
     else if has_unknown_format options then Some UnknownFormat
     else None
+
+-- ---- settings as they were typed
+
+-- the texts of an option, as they were typed, in their order; none where it is left out
+abbrev pub texts_by : Options → Text → List Text
+texts_by options name = unwrap_or (all_of name options) []
+
+-- the options type these for each channel: all of them where they are settings, which are 32 at most
+abbrev pub AreTyped : Options → TypedSettings → Type 0
+AreTyped options typed = (texts_of typed.first ≡ take 32 (texts_by options (codes "set1")))
+    × (texts_of typed.second ≡ take 32 (texts_by options (codes "set2")))
+
+-- the command that stands in the words has these
+abbrev pub HaveTyped : List Text → TypedSettings → Type 0
+HaveTyped words typed = (name : Text) × (options : Options) × StandsIn words name options × AreTyped options typed
 
 -- ---- the octets of packed cells
 

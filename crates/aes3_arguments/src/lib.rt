@@ -28,6 +28,8 @@ mod show;
 mod status_text;
 /// How lines of events are written.
 mod style;
+/// Settings as they were typed.
+mod typed;
 /// The values that the options of a command have.
 mod value;
 /// The job of `watch`.

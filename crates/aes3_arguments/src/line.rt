@@ -3,7 +3,8 @@
 ghost use Rattle.std.specs.Prelude.{◌≡◌, List, ℕ, None, IfOk, IfErr, IfSome, map};
 ghost use Rattle.std.specs.Option.{option_map};
 ghost use Rattle.clap.specs.Values.{kind_of};
-ghost use Rattle.aes3_arguments.specs.Jobs.{AreBadOptionsOf, AreOctets, AsksFor, HaveOctets, IsFaultOf, IsJobOf};
+ghost use Rattle.aes3_arguments.specs.Jobs.{AreBadOptionsOf, AreOctets, AreTyped, AsksFor, HaveOctets, HaveTyped};
+ghost use Rattle.aes3_arguments.specs.Jobs.{IsFaultOf, IsJobOf};
 ghost use Rattle.aes3_arguments.specs.Jobs.{IsLineFaultOf, IsLineOf, ReadsFile, StandsIn, Tells, file_by, options_of};
 ghost use Rattle.aes3_arguments.specs.Explained.{IsExplanation};
 
@@ -12,18 +13,22 @@ use crate::file::file;
 use crate::job::{LineFault, job_of_command};
 use crate::layout::{Octets, octets_of_options};
 use crate::misuse::{misuse_fault, misuse_of_options};
+use crate::typed::typed;
 use aes3_cell::RunError;
 use aes3_commands::command_line;
 use aes3_job::Job;
+use aes3_settings::TypedSettings;
 use clap::error::ErrorKind;
 use clap::{ArgMatches, Error};
 use std::alloc::Global;
 
 /// What a command line asks for.
-#[derive(Clone, Copy)]
+#[derive(Drop)]
 pub struct CommandLine<'a> {
     /// What is to be done.
     pub job: Job,
+    /// The settings of a change as they were typed.
+    pub typed: TypedSettings<'a>,
     /// How the octets are laid out that it reads and writes.
     pub octets: Octets,
     /// The name of the file that is read in place of standard input; none where the words name none,
@@ -40,6 +45,7 @@ pub struct CommandLine<'a> {
 /// taken, but a status text isn't 48 hexadecimal digits; `Memory` where memory was refused.
 pub fn line_of_words<'a>(alloc: Global, words: &'a [&'a str]) -> Result<CommandLine<'a>, LineFault>
     ensures job { IfOk result (λ line. IsJobOf (map (λ word. word.now) words.now) line.job) }
+    ensures typed { IfOk result (λ line. HaveTyped (map (λ word. word.now) words.now) line.typed) }
     ensures octets { IfOk result (λ line. HaveOctets (map (λ word. word.now) words.now) line.octets) }
     ensures file { IfOk result (λ line. IfSome line.file
         (λ name. ReadsFile (map (λ word. word.now) words.now) name.now)) }
@@ -83,6 +89,7 @@ fn explained(alloc: Global, words: &[&str]) -> LineFault
 /// What a command line that asks to explain nothing asks for.
 fn plain_line<'a>(alloc: Global, words: &'a [&'a str]) -> Result<CommandLine<'a>, LineFault>
     ensures job { IfOk result (λ line. IsLineOf (map (λ word. word.now) words.now) line.job) }
+    ensures typed { IfOk result (λ line. HaveTyped (map (λ word. word.now) words.now) line.typed) }
     ensures octets { IfOk result (λ line. HaveOctets (map (λ word. word.now) words.now) line.octets) }
     ensures file { IfOk result (λ line. IfSome line.file
         (λ name. ReadsFile (map (λ word. word.now) words.now) name.now)) }
@@ -122,6 +129,7 @@ fn line_of_command<'a>(
 ) -> Result<CommandLine<'a>, LineFault>
     requires { (words : List (List ℕ)) × StandsIn words name.now (options_of options.now) }
     ensures job { IfOk result (λ line. AsksFor name.now (options_of options.now) line.job) }
+    ensures typed { IfOk result (λ line. AreTyped (options_of options.now) line.typed) }
     ensures octets { IfOk result (λ line. AreOctets (options_of options.now) line.octets) }
     ensures file { IfOk result (λ line. option_map (λ name. name.now) line.file
         ≡ file_by (options_of options.now)) }
@@ -133,6 +141,7 @@ fn line_of_command<'a>(
     let job = job_of_command(alloc, name, options)?;
     Ok(CommandLine {
         job,
+        typed: typed(options),
         octets: octets_of_options(options),
         file: file(options),
     })

@@ -322,10 +322,11 @@ prints, with --names too, and use=professional or use=consumer sets the use; eac
 stand 32 times, and they are set in that order, origin=, destination=, local= and time=
 behind the others. A status for the use that has no such field stays as it is, and so does
 one in which the word has no code, as a consumer one for word=24 without greatest=24
-before it. What no block took is told on standard error at the end; with --exact a block
-that does not take all of it is refused with its place, and neither it nor any behind it
-is written; the input is read to its end first. With --mend-check byte 23 of each channel whose status is professional then
-becomes its check byte. --valid1 0 and --valid2 0 make V of all subframes of a channel 0,
+before it. At the end standard error lists, as they were typed, the settings that no block
+took. With --exact a block that does not take all of it is refused with its place, and
+neither it nor any behind it is written; the input is read to its end first. With
+--mend-check byte 23 of each channel whose status is professional then becomes its check
+byte. --valid1 0 and --valid2 0 make V of all subframes of a channel 0,
 which says that their samples can be taken as they are; with 1 it says that they can't.
 --clear-user1 and --clear-user2 make U of all of them 0. Without any option the blocks are
 as they were.

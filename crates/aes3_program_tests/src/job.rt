@@ -5,7 +5,7 @@ use aes3_cell::{Form, MemorySink, MemorySource};
 use aes3_engine::Change;
 use aes3_job::{Job, Nobody};
 use aes3_pcm::SampleFormat;
-use aes3_runner::{finish_job, run_job};
+use aes3_runner::{TypedSettings, finish_job, run_job};
 use aes3_text::Lines;
 use aes3_words::Words;
 use std::alloc::{AllocError, Global};
@@ -71,7 +71,8 @@ fn is_finished(
     let mut source = MemorySource::new(input, 100);
     let mut sink = MemorySink::new(alloc);
     let mut lines = MemorySink::new(alloc);
-    let answer = finish_job(job, &mut source, &mut sink, &mut lines, &mut Nobody);
+    let typed = TypedSettings::new(&[], &[]);
+    let answer = finish_job(job, &typed, &mut source, &mut sink, &mut lines, &mut Nobody);
     answer == status && sink.bytes() == output && lines.bytes() == errors
 }
 

@@ -25,7 +25,9 @@ use Rattle.aes3_words.specs.declared.form.Words.TheVariants.{Own, Alsa, Am824}
 use Rattle.aes3_engine.specs.RewritingRuns.{taken_of}
 use Rattle.aes3_engine.proofs.WordRuns.{none-left-out}
 use Rattle.std.specs.Option.{is_some, option_map_or}
-use Rattle.aes3_runner.specs.Lines.{lines_before, met_lines, remark_line}
+use Rattle.aes3_settings.specs.Untaken.{texts_of, untaken_lines}
+use Rattle.aes3_settings.specs.declared.typed.TypedSettings.{TypedSettings}
+use Rattle.aes3_runner.specs.Lines.{met_lines, remark_line}
 use Rattle.aes3_runner.specs.Outcomes.{RemarkTold, met_by, sample_status}
 use Rattle.aes3_runner.specs.JobRuns.{AnswerTold, JobRan, RunRan, end_status, promise_of, status_by, status_for}
 use Rattle.aes3_runner.specs.OctetRuns.{FirstFailed, PackedRan, RawBy, as_raw, written_by}
@@ -57,67 +59,69 @@ few (FromPcm p e c w) n = omega arith
 few (ToBits i b c) n = omega arith
 
 -- a change that sets no field by name has no line
-no-lines : (channel : ℕ) (met : Met) → met.settings ≡ None → met_lines channel met ≡ []
-no-lines channel met e =
-    ap (λ (s : Option GivenSettings). option_map_or (λ given. lines_before channel given met.taken 36) s []) e
+no-lines : (channel : ℕ) (texts : List (List ℕ)) (met : Met) → met.settings ≡ None → met_lines channel texts met ≡ []
+no-lines channel texts met e =
+    ap (λ (s : Option GivenSettings). option_map_or (λ given. untaken_lines channel given met.taken 0 texts) s []) e
 
 no-settings : {A : Type 0} (s t : Option A) → IsFalse (is_some s || is_some t) → (s ≡ None) × (t ≡ None)
 no-settings None None h = (refl, refl)
 no-settings None (Some t) h = absurd cc
 no-settings (Some s) t h = absurd cc
 
-unset : (empty : Bool) (change : Change) (first second : Taken) → IsFalse (sets_fields change)
-    → remark_line (if empty then Nothing else met_by change first second) ≡ []
-unset true change first second h = refl
-unset false change first second h =
+unset : (typed : TypedSettings) (empty : Bool) (change : Change) (first second : Taken) → IsFalse (sets_fields change)
+    → remark_line typed (if empty then Nothing else met_by change first second) ≡ []
+unset typed true change first second h = refl
+unset typed false change first second h =
     let none = no-settings change.settings1 change.settings2 h in
-    ap₂ (λ (u v : List ℕ). u ++ v) (no-lines 1 (record { settings = change.settings1; taken = first }) none.0)
-    (no-lines 2 (record { settings = change.settings2; taken = second }) none.1)
+    ap₂ (λ (u v : List ℕ). u ++ v)
+    (no-lines 1 (texts_of typed.first) (record { settings = change.settings1; taken = first }) none.0)
+    (no-lines 2 (texts_of typed.second) (record { settings = change.settings2; taken = second }) none.1)
 
-line-of : {n : Outcome} {o : Outcome} → n ≡ o → remark_line o.remark ≡ [] → remark_line n.remark ≡ []
-line-of e h = ap (λ (v : Outcome). remark_line v.remark) e ∙ h
+line-of : (typed : TypedSettings) {n : Outcome} {o : Outcome} → n ≡ o → remark_line typed o.remark ≡ []
+    → remark_line typed n.remark ≡ []
+line-of typed e h = ap (λ (v : Outcome). remark_line typed v.remark) e ∙ h
 
-none-out : (n : ℕ) → n ≡ 0 → remark_line (if n == 0 then Nothing else LeftOut n) ≡ []
-none-out n e = ap (λ k. remark_line (if k == 0 then Nothing else LeftOut k)) e
+none-out : (typed : TypedSettings) (n : ℕ) → n ≡ 0 → remark_line typed (if n == 0 then Nothing else LeftOut n) ≡ []
+none-out typed n e = ap (λ k. remark_line typed (if k == 0 then Nothing else LeftOut k)) e
 
 -- there is no line on a job of which none is told
-of-job-remark : (job : Job) (b : List ℕ) (n : Outcome) → (promise_of job).answer b n → IsFalse (remarks job)
-    → remark_line n.remark ≡ []
-of-job-remark (Encode o Own) b n h s = line-of h.2 (none-out h.0.left_out (h.1.1 ∙ sym (none-left-out b)))
-of-job-remark (Encode o Alsa) b n h s = absurd cc
-of-job-remark (Encode o Am824) b n h s = absurd cc
-of-job-remark (Decode i w) b n h s = line-of h.2 refl
-of-job-remark (Normal i o) b n h s = line-of h.2 refl
-of-job-remark (Check i l) b n h s = line-of h.2 refl
-of-job-remark (Account i l) b n h s = line-of h.2 refl
-of-job-remark (Watch i l) b n h s = line-of h.2 refl
-of-job-remark (WatchSums i l e) b n h s = line-of h.2 refl
-of-job-remark (Show i d) b n h s = line-of h.2 refl
-of-job-remark (ShowChanges i d) b n h s = line-of h.2 refl
-of-job-remark (Scan i) b n h s = line-of h.2 refl
-of-job-remark (Cut i o f c) b n h s = line-of h.2 refl
-of-job-remark (Rewrite i o c true) b n h s = absurd cc
-of-job-remark (Rewrite i o c false) b n h s =
-    line-of h.2 (unset (h.0.counts.blocks == 0) c h.0.first h.0.second s)
-of-job-remark (ToPcm i p true) b n h s = line-of h.2 refl
-of-job-remark (ToPcm i p false) b n h s = line-of h.2 refl
-of-job-remark (ToExactPcm i p) b n h s = absurd cc
-of-job-remark (ToFilledPcm i p fill marked) b n h s = absurd cc
-of-job-remark (FromPcm p e c w) b n h s =
-    line-of h.2
-    (unset (h.0.bytes == 0) c (taken_of c.settings1 (sample_status c.status1 ∷ []))
+of-job-remark : (typed : TypedSettings) (job : Job) (b : List ℕ) (n : Outcome) → (promise_of job).answer b n
+    → IsFalse (remarks job) → remark_line typed n.remark ≡ []
+of-job-remark typed (Encode o Own) b n h s = line-of typed h.2 (none-out typed h.0.left_out (h.1.1 ∙ sym (none-left-out b)))
+of-job-remark typed (Encode o Alsa) b n h s = absurd cc
+of-job-remark typed (Encode o Am824) b n h s = absurd cc
+of-job-remark typed (Decode i w) b n h s = line-of typed h.2 refl
+of-job-remark typed (Normal i o) b n h s = line-of typed h.2 refl
+of-job-remark typed (Check i l) b n h s = line-of typed h.2 refl
+of-job-remark typed (Account i l) b n h s = line-of typed h.2 refl
+of-job-remark typed (Watch i l) b n h s = line-of typed h.2 refl
+of-job-remark typed (WatchSums i l e) b n h s = line-of typed h.2 refl
+of-job-remark typed (Show i d) b n h s = line-of typed h.2 refl
+of-job-remark typed (ShowChanges i d) b n h s = line-of typed h.2 refl
+of-job-remark typed (Scan i) b n h s = line-of typed h.2 refl
+of-job-remark typed (Cut i o f c) b n h s = line-of typed h.2 refl
+of-job-remark typed (Rewrite i o c true) b n h s = absurd cc
+of-job-remark typed (Rewrite i o c false) b n h s =
+    line-of typed h.2 (unset typed (h.0.counts.blocks == 0) c h.0.first h.0.second s)
+of-job-remark typed (ToPcm i p true) b n h s = line-of typed h.2 refl
+of-job-remark typed (ToPcm i p false) b n h s = line-of typed h.2 refl
+of-job-remark typed (ToExactPcm i p) b n h s = absurd cc
+of-job-remark typed (ToFilledPcm i p fill marked) b n h s = absurd cc
+of-job-remark typed (FromPcm p e c w) b n h s =
+    line-of typed h.2
+    (unset typed (h.0.bytes == 0) c (taken_of c.settings1 (sample_status c.status1 ∷ []))
     (taken_of c.settings2 (sample_status c.status2 ∷ [])) s)
-of-job-remark (ToBits i b' c) b n h s = line-of h.2 refl
+of-job-remark typed (ToBits i b' c) b n h s = line-of typed h.2 refl
 
 -- of a job that read its input to the end and is not refused
 of-done : (line : CommandLine) (b : List ℕ) (n : Outcome) (errors : Movement) (status : ℕ)
-    → (promise_of line.job).answer b n → status ≡ status_by line.job n.counts → RemarkTold (remark_line n.remark) errors
+    → (promise_of line.job).answer b n → status ≡ status_by line.job n.counts → RemarkTold (remark_line line.typed n.remark) errors
     → ErrorsTold (Ok line) errors status
 of-done line b n errors status a s r =
     let small = few line.job n.counts in
     record {
       known = omega (arith, s, small);
-      done = λ h. record { remark = n.remark; asked = of-job-remark line.job b n a; told = r };
+      done = λ h. record { remark = n.remark; asked = of-job-remark line.typed line.job b n a; told = r };
       usage = λ h. absurd (omega (arith, s, small, h));
       refusal = λ h. absurd (omega (arith, s, small, h));
     }
@@ -125,10 +129,10 @@ of-done line b n errors status a s r =
 -- of a job's answer
 of-answer : (line : CommandLine) (ended : Bool) (source before : Movement) (answer : Result Outcome RunError)
     (failed : ℕ) (sink errors : Movement) (status : ℕ) → RunRan line.job ended source before answer
-    → AnswerTold line.job answer failed sink errors status → ErrorsTold (Ok line) errors status
+    → AnswerTold line.job line.typed answer failed sink errors status → ErrorsTold (Ok line) errors status
 of-answer line ended source before (Ok n) failed sink errors status run t = go n.remark refl t.0 t.2
   where
-    go : (remark : Remark) → n.remark ≡ remark → status ≡ end_status line.job n → RemarkTold (remark_line n.remark) errors
+    go : (remark : Remark) → n.remark ≡ remark → status ≡ end_status line.job n → RemarkTold (remark_line line.typed n.remark) errors
         → ErrorsTold (Ok line) errors status
     go Nothing e s r =
         of-done line run.bytes n errors status run.ran.1
@@ -150,7 +154,7 @@ of-answer line ended source before (Ok n) failed sink errors status run t = go n
           usage = λ h. absurd (omega (arith, k, h));
           refusal = λ h q. record {
             error = refusal.Inexact at;
-            line = grew-is (ap remark_line e) (r.told q);
+            line = grew-is (ap (remark_line line.typed) e) (r.told q);
           };
         }
 of-answer line ended source before (Err error) failed sink errors status run t = record {
@@ -179,11 +183,11 @@ of-first line source sink errors status r =
     }
 
 of-run : (line : CommandLine) {ended : Bool} {source sink errors : Movement} {status : ℕ}
-    → JobRan line.job ended source sink errors status → ErrorsTold (Ok line) errors status
+    → JobRan line.job line.typed ended source sink errors status → ErrorsTold (Ok line) errors status
 of-run line {sink = sink} {errors} {status} r = of-answer line _ _ _ r.answer r.failed sink errors status r.run r.told
 
 of-packed : (line : CommandLine) (turned : Bool) (ended : Bool) (source sink errors : Movement) (status : ℕ)
-    → PackedRan turned line.job ended source sink errors status → ErrorsTold (Ok line) errors status
+    → PackedRan turned line.job line.typed ended source sink errors status → ErrorsTold (Ok line) errors status
 of-packed line true ended source sink errors status r = elim r [
   | inl k ↦ of-run line k.ran.ran
   | inr k ↦ of-first line source sink errors status k
@@ -191,7 +195,7 @@ of-packed line true ended source sink errors status r = elim r [
 of-packed line false ended source sink errors status r = of-run line r
 
 of-job : (line : CommandLine) (raw turned : Bool) (ended : Bool) (source sink errors : Movement) (status : ℕ)
-    → RawBy raw (λ ended source. PackedRan turned line.job ended source sink errors status) ended source
+    → RawBy raw (λ ended source. PackedRan turned line.job line.typed ended source sink errors status) ended source
     → ErrorsTold (Ok line) errors status
 of-job line true turned ended source sink errors status r
     = of-packed line turned r.told_end (as_raw r.counted source) sink errors status r.ran

@@ -10,6 +10,7 @@ use Rattle.aes3_input.proofs.InputRuns.{Gives, run-err, run-ok, run-write, run-s
 use Rattle.aes3_job.specs.declared.job.Job.{Job}
 use Rattle.aes3_cell.specs.declared.form.Form.{Form}
 use Rattle.aes3_settings.specs.declared.style.Style.{Style}
+use Rattle.aes3_settings.specs.declared.typed.TypedSettings.{TypedSettings}
 use Rattle.aes3_account.specs.Sums.{begun_sums, sum_lines}
 use Rattle.aes3_account.specs.Watching.{watch_counts}
 use Rattle.aes3_input.specs.Driving.{counted_cells}
@@ -55,14 +56,14 @@ sums-of i style every n {ended} {source} {sink} {r} e run =
     subst (λ (k : ℕ). InputRun (counted_cells i (sum_lines style k) (begun_sums style k) (watch_counts i)) most
     ended source sink r) e run
 
-pub refused-flushed : (job : Job)
+pub refused-flushed : (job : Job) (typed : TypedSettings)
     {ended : Bool} {source : Movement} {t₀ t₁ t₂ : Option (List ℕ)} {f₀ f₁ f₂ : ℕ} {errors : Movement} {status : ℕ}
     {x told : RunError}
     → RunRan job ended source (record { old = t₀; new = t₁; failed_old = f₀; failed_new = f₁ }) (Err x)
     → Flushed x (record { old = t₁; new = t₂; failed_old = f₁; failed_new = f₂ }) told → status ≡ 3
     → (Quiet errors → Grew errors.old errors.new (refusal_line told))
-    → JobRan job ended source (record { old = t₀; new = t₂; failed_old = f₀; failed_new = f₂ }) errors status
-refused-flushed job {ended} {source} {t₀} {f₀ = f₀} {f₁} {errors = errors} {x = x} r f s l = record {
+    → JobRan job typed ended source (record { old = t₀; new = t₂; failed_old = f₀; failed_new = f₂ }) errors status
+refused-flushed job typed {ended} {source} {t₀} {f₀ = f₀} {f₁} {errors = errors} {x = x} r f s l = record {
   answer = Err x;
   failed = f₁;
   run = subst (λ v. RunRan job ended source (record { old = t₀; new = v; failed_old = f₀; failed_new = f₁ }) (Err x))
@@ -95,12 +96,12 @@ passed-on job {f₀ = f₀} {f₁} {f₂} {x} r f p h =
     error-is e = cc
 
 -- a run that ended well
-pub done : (job : Job) {ended : Bool} {source errors : Movement} {t₀ t₁ : Option (List ℕ)} {f₀ f₁ : ℕ} {status : ℕ}
+pub done : (job : Job) (typed : TypedSettings) {ended : Bool} {source errors : Movement} {t₀ t₁ : Option (List ℕ)} {f₀ f₁ : ℕ} {status : ℕ}
     {n : Outcome}
     → RunRan job ended source (record { old = t₀; new = t₁; failed_old = f₀; failed_new = f₁ }) (Ok n)
-    → status ≡ end_status job n → RemarkTold (remark_line n.remark) errors
-    → JobRan job ended source (record { old = t₀; new = t₁; failed_old = f₀; failed_new = f₁ }) errors status
-done job {f₁ = f₁} {n = n} r s l = record { answer = Ok n; failed = f₁; run = r; told = (s, refl, l) }
+    → status ≡ end_status job n → RemarkTold (remark_line typed n.remark) errors
+    → JobRan job typed ended source (record { old = t₀; new = t₁; failed_old = f₀; failed_new = f₁ }) errors status
+done job typed {f₁ = f₁} {n = n} r s l = record { answer = Ok n; failed = f₁; run = r; told = (s, refl, l) }
 
 -- a refusal before anything was run
 pub read-refused : {sink errors : Movement} {status : ℕ} {told : RunError} → Flushed Read sink told → status ≡ 3

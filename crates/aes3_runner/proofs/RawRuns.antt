@@ -3,6 +3,7 @@ use Rattle.std.proofs.Common.{◌≡◌, ◌&&◌, ℕ, Bool, true, false, List,
 use Rattle.std.specs.Prelude.{IsTrue}
 use Rattle.aes3_input.specs.Running.{Movement}
 use Rattle.aes3_octets.specs.Told.{raw_told, turned_told}
+use Rattle.aes3_settings.specs.declared.typed.TypedSettings.{TypedSettings}
 use Rattle.aes3_job.specs.declared.job.Job.{Job}
 use Rattle.aes3_runner.specs.JobRuns.{JobRan}
 use Rattle.aes3_arguments.specs.declared.layout.Octets.{Octets}
@@ -32,40 +33,40 @@ raw-ran Ran {t₀} {u₀} {t₁} {g₀ = g₀} {f₁} {counted = counted} {told_
       (record { old = raw_told b u₀; new = raw_told counted t₁; failed_old = g₀; failed_new = f₁ })) none ran));
 }
 
-pub behind-ran : (job : Job) {t₀ u₀ t₁ : Option (List ℕ)} {f₀ g₀ f₁ : ℕ} {start first held : Option ℕ}
+pub behind-ran : (job : Job) (typed : TypedSettings) {t₀ u₀ t₁ : Option (List ℕ)} {f₀ g₀ f₁ : ℕ} {start first held : Option ℕ}
     {told_end ended : Bool} {sink errors : Movement} {status : ℕ}
     → start ≡ first → u₀ ≡ t₀ → g₀ ≡ f₀ → (held ≡ None → IsTrue ended) → (IsTrue told_end → held ≡ None)
-    → JobRan job told_end (record {
+    → JobRan job typed told_end (record {
       old = turned_told start u₀;
       new = turned_told held t₁;
       failed_old = g₀;
       failed_new = f₁;
     }) sink errors status
-    → BehindRan first job ended (record { old = t₀; new = t₁; failed_old = f₀; failed_new = f₁ }) sink errors status
-behind-ran job {t₀} {u₀} {t₁} {g₀ = g₀} {f₁} {first = first} {held} {told_end} {sink = sink} {errors} {status} at old
+    → BehindRan first job typed ended (record { old = t₀; new = t₁; failed_old = f₀; failed_new = f₁ }) sink errors status
+behind-ran job typed {t₀} {u₀} {t₁} {g₀ = g₀} {f₁} {first = first} {held} {told_end} {sink = sink} {errors} {status} at old
     failed behind before ran = record {
       held = held;
       told_end = told_end;
       behind_all = behind;
       before_end = before;
-      ran = subst (λ (f : ℕ). JobRan job told_end
+      ran = subst (λ (f : ℕ). JobRan job typed told_end
           (record { old = turned_told first t₀; new = turned_told held t₁; failed_old = f; failed_new = f₁ })
           sink errors status) failed
-          (subst (λ (u : Option (List ℕ)). JobRan job told_end
+          (subst (λ (u : Option (List ℕ)). JobRan job typed told_end
           (record { old = turned_told first u; new = turned_told held t₁; failed_old = g₀; failed_new = f₁ })
           sink errors status) old
-          (subst (λ (h : Option ℕ). JobRan job told_end
+          (subst (λ (h : Option ℕ). JobRan job typed told_end
           (record { old = turned_told h u₀; new = turned_told held t₁; failed_old = g₀; failed_new = f₁ })
           sink errors status) at ran));
     }
 
 -- the same by the layout
-pub source-raw : (octets : Octets) (job : Job) {turned ended : Bool} {source : Movement} (sink errors : Movement)
+pub source-raw : (octets : Octets) (job : Job) (typed : TypedSettings) {turned ended : Bool} {source : Movement} (sink errors : Movement)
     (status : ℕ)
     → octets.raw_in ≡ true → turned ≡ (octets.lsb_first && reads_packed job)
-    → RawRan (λ ended source. PackedRan turned job ended source sink errors status) ended source
-    → SourceRan octets job ended source sink errors status
-source-raw octets job {turned} {ended} {source} sink errors status raw is ran =
+    → RawRan (λ ended source. PackedRan turned job typed ended source sink errors status) ended source
+    → SourceRan octets job typed ended source sink errors status
+source-raw octets job typed {turned} {ended} {source} sink errors status raw is ran =
     subst (λ (r : Bool). RawBy r (λ ended source.
-    PackedRan (octets.lsb_first && reads_packed job) job ended source sink errors status) ended source) (sym raw)
-    (subst (λ (t : Bool). RawRan (λ ended source. PackedRan t job ended source sink errors status) ended source) is ran)
+    PackedRan (octets.lsb_first && reads_packed job) job typed ended source sink errors status) ended source) (sym raw)
+    (subst (λ (t : Bool). RawRan (λ ended source. PackedRan t job typed ended source sink errors status) ended source) is ran)

@@ -1,7 +1,7 @@
 -- Remarks that are told: the lines of settings that no block took, one behind the other, and what could not be told whole.
-use Rattle.std.proofs.Common.{◌≡◌, ◌⊎◌, inl, inr, sym, ℕ, zero, suc, ◌+◌, ◌<◌, List, [], ◌∷◌, ◌++◌, false, refl, ap, ◌∙◌}
-use Rattle.std.proofs.Common.{append-nil, append_assoc, arith, Result, Ok, Err, OnErr}
-use Rattle.std.proofs.lemmas.Bool.{cases_eq}
+use Rattle.std.proofs.Common.{◌≡◌, sym, ℕ, suc, ◌+◌, ◌<◌, List, [], ◌∷◌, ◌++◌, length, get_or, take, drop, false, ap, ◌∙◌}
+use Rattle.std.proofs.Common.{append-nil, append_assoc, arith, Result, Ok, Err, OnErr, refl, codes, decimal}
+use Rattle.std.proofs.lemmas.List.{length-take-le, take-append-drop, take_more}
 use Rattle.std.specs.Result.{is_ok}
 use Rattle.aes3_cell.specs.declared.ends.Fault.{Fault}
 use Rattle.aes3_cell.specs.Ends.{GrewFront}
@@ -9,40 +9,59 @@ use Rattle.aes3_cell.proofs.Growing.{grew-is}
 use Rattle.aes3_input.specs.Running.{Movement}
 use Rattle.aes3_status.specs.declared.setting.Settings.{Settings}
 use Rattle.aes3_status.specs.declared.taken.Taken.{Taken}
-use Rattle.aes3_settings.specs.Untaken.{untaken_line}
-use Rattle.aes3_runner.specs.Lines.{lines_before}
+use Rattle.aes3_settings.specs.Untaken.{told_line, untaken_line, untaken_lines}
 use Rattle.aes3_runner.specs.Outcomes.{RemarkTold}
 
--- one line more
-pub lines-next : (channel : ℕ) (settings : Settings) (taken : Taken) (at : ℕ)
-    → lines_before channel settings taken at ++ untaken_line channel settings taken at
-    ≡ lines_before channel settings taken (at + 1)
-lines-next channel settings taken at =
-    let next : suc at ≡ at + 1 = omega arith in ap (λ k. lines_before channel settings taken k) next
+-- a line is its front and the rest
+pub line-joined : (channel : ℕ) (text remedy : List ℕ)
+    → (codes "aes3: no block took --set" ++ decimal channel ++ codes " ") ++ (text ++ remedy)
+    ≡ told_line channel text remedy
+line-joined channel text remedy =
+    sym (append_assoc (codes "aes3: no block took --set" ++ decimal channel ++ codes " ") text remedy)
 
--- what stands behind a line, up to the line of a later number
-pub lines-behind : (channel : ℕ) (settings : Settings) (taken : Taken) (at n : ℕ) → at < n
-    → (rest : List ℕ) × ((lines_before channel settings taken at ++ untaken_line channel settings taken at) ++ rest
-    ≡ lines_before channel settings taken n)
-lines-behind channel settings taken at zero l = absurd (omega arith)
-lines-behind channel settings taken at (suc n) l = elim (cases at n l) [
-  | inl e ↦ (
-    [],
-    append-nil (lines_before channel settings taken (suc at)) ∙ ap (λ k. lines_before channel settings taken (suc k)) e,
-  )
-  | inr h ↦
-      let more = lines-behind channel settings taken at n h in
-      let line = untaken_line channel settings taken n in (
-        more.0 ++ line,
-        sym (append_assoc (lines_before channel settings taken (suc at)) more.0 line) ∙ ap (λ v. v ++ line) more.1,
-      )
-]
-  where
-    cases : (at n : ℕ) → at < suc n → (at ≡ n) ⊎ (at < n)
-    cases at n l = elim (cases_eq at n) [
-      | inl e ↦ inl e
-      | inr o ↦ inr (omega arith)
-    ]
+-- the lines of texts behind others
+lines-behind : (channel : ℕ) (settings : Settings) (taken : Taken) (at : ℕ) (before behind : List (List ℕ))
+    → untaken_lines channel settings taken at (before ++ behind)
+    ≡ untaken_lines channel settings taken at before ++ untaken_lines channel settings taken (at + length before) behind
+lines-behind channel settings taken at [] behind =
+    let same : at ≡ at + 0 = omega arith in ap (λ k. untaken_lines channel settings taken k behind) same
+lines-behind channel settings taken at (text ∷ before) behind =
+    let line = untaken_line channel settings taken at text in
+    let next : suc at + length before ≡ at + suc (length before) = omega arith in
+    ap (λ lines. line ++ lines) (lines-behind channel settings taken (suc at) before behind)
+    ∙ sym (append_assoc line (untaken_lines channel settings taken (suc at) before)
+    (untaken_lines channel settings taken (suc at + length before) behind))
+    ∙ ap (λ k. (line ++ untaken_lines channel settings taken (suc at) before)
+    ++ untaken_lines channel settings taken k behind) next
+
+-- one line more
+pub lines-next : (channel : ℕ) (settings : Settings) (taken : Taken) (texts : List (List ℕ)) (at : ℕ)
+    → at < length texts
+    → untaken_lines channel settings taken 0 (take at texts) ++ untaken_line channel settings taken at (get_or texts at [])
+    ≡ untaken_lines channel settings taken 0 (take (at + 1) texts)
+lines-next channel settings taken texts at l =
+    let text = get_or texts at [] in
+    let before = untaken_lines channel settings taken 0 (take at texts) in
+    let few = length-take-le at texts (omega arith) in
+    let number : 0 + length (take at texts) ≡ at = omega (arith, few) in
+    sym (ap (untaken_lines channel settings taken 0) (take_more texts at [] l)
+    ∙ lines-behind channel settings taken 0 (take at texts) (text ∷ [])
+    ∙ ap (λ k. before ++ untaken_lines channel settings taken k (text ∷ [])) number
+    ∙ ap (λ line. before ++ line) (append-nil (untaken_line channel settings taken at text)))
+
+-- what stands behind a line, up to the last
+pub lines-rest : (channel : ℕ) (settings : Settings) (taken : Taken) (texts : List (List ℕ)) (at : ℕ)
+    → at < length texts
+    → (rest : List ℕ) × ((untaken_lines channel settings taken 0 (take at texts)
+    ++ untaken_line channel settings taken at (get_or texts at [])) ++ rest
+    ≡ untaken_lines channel settings taken 0 texts)
+lines-rest channel settings taken texts at l =
+    let rest = untaken_lines channel settings taken (0 + length (take (at + 1) texts)) (drop (at + 1) texts) in (
+      rest,
+      ap (λ lines. lines ++ rest) (lines-next channel settings taken texts at l)
+          ∙ sym (lines-behind channel settings taken 0 (take (at + 1) texts) (drop (at + 1) texts))
+          ∙ ap (untaken_lines channel settings taken 0) (take-append-drop (at + 1) texts),
+    )
 
 -- what is told of a remark that could not be told whole: of none nothing
 none-before : (part rest : List ℕ) → part ++ rest ≡ [] → part ≡ []

@@ -33,6 +33,7 @@ use Rattle.aes3_reports.specs.Lines.{report_lines}
 use Rattle.aes3_reports.specs.Scanning.{scan_counts}
 use Rattle.aes3_account.specs.Sums.{begun_sums, sum_lines}
 use Rattle.aes3_account.specs.Watching.{begun_watch, watch_counts, watch_lines}
+use Rattle.aes3_settings.specs.declared.typed.TypedSettings.{TypedSettings}
 use Rattle.aes3_job.specs.declared.job.Job.{Job}
 use Rattle.aes3_job.specs.declared.job.Job.TheVariants.{Encode, Decode, Normal, Check, Account, Watch, WatchSums}
 use Rattle.aes3_job.specs.declared.job.Job.TheVariants.{Show, ShowChanges, Scan, Cut, Rewrite, ToPcm, FromPcm, ToBits}
@@ -161,17 +162,18 @@ IsTold errors error = Quiet errors → Grew errors.old errors.new (refusal_line 
 
 -- what is told of a run's answer, and the exit status: of one that read its input to the end its remark; of a refusal its
 -- line, or that of `Write` where the flush behind it failed
-abbrev pub AnswerTold : Job → Result Outcome RunError → ℕ → Movement → Movement → ℕ → Type 0
-AnswerTold job (Ok n) failed sink errors status =
-    (status ≡ end_status job n) × (sink.failed_new ≡ failed) × RemarkTold (remark_line n.remark) errors
-AnswerTold job (Err error) failed sink errors status =
+abbrev pub AnswerTold : Job → TypedSettings → Result Outcome RunError → ℕ → Movement → Movement → ℕ → Type 0
+AnswerTold job typed (Ok n) failed sink errors status =
+    (status ≡ end_status job n) × (sink.failed_new ≡ failed) × RemarkTold (remark_line typed n.remark) errors
+AnswerTold job typed (Err error) failed sink errors status =
     (status ≡ 3)
     × (((sink.failed_new ≡ failed) × IsTold errors error)
     ⊎ ((error ≢ refusal.Write) × (sink.failed_new ≡ failed + 1) × IsTold errors refusal.Write))
 
 -- a job: what its run answered, how often the sink had failed then, and what is told of that
-pub record JobRan (job : Job) (ended : Bool) (source sink errors : Movement) (status : ℕ) : Type 0 where
+pub record JobRan (job : Job) (typed : TypedSettings) (ended : Bool) (source sink errors : Movement) (status : ℕ)
+    : Type 0 where
   pub answer : Result Outcome RunError
   pub failed : ℕ
   pub run : RunRan job ended source (before_flush sink failed) answer
-  pub told : AnswerTold job answer failed sink errors status
+  pub told : AnswerTold job typed answer failed sink errors status

@@ -1,15 +1,14 @@
 -- The lines that tell a refusal, a remark on a job that ended well, and words that can not be read.
 use Rattle.std.specs.Option.{option_map_or}
-use Rattle.std.specs.Prelude.{ℕ, zero, suc, List, [], ◌∷◌, ◌++◌, Option, Some, None, codes, decimal}
+use Rattle.std.specs.Prelude.{ℕ, List, [], ◌∷◌, ◌++◌, Option, Some, None, codes, decimal}
 use Rattle.aes3_cell.specs.declared.refusal.RunError.{RunError}
 use Rattle.aes3_cell.specs.declared.refusal.RunError.TheVariants as refusal
 use Rattle.aes3_cell.specs.Refusals.{number_of, place_of}
 use Rattle.aes3_runner.specs.declared.outcome.Remark.{Remark}
 use Rattle.aes3_runner.specs.declared.outcome.Remark.TheVariants.{Nothing, Filled, LeftOut, Settings, Inexact}
 use Rattle.aes3_runner.specs.declared.outcome.Met.{Met}
-use Rattle.aes3_status.specs.declared.setting.Settings.{Settings as GivenSettings}
-use Rattle.aes3_status.specs.declared.taken.Taken.{Taken}
-use Rattle.aes3_settings.specs.Untaken.{untaken_line}
+use Rattle.aes3_settings.specs.Untaken.{texts_of, untaken_lines}
+use Rattle.aes3_settings.specs.declared.typed.TypedSettings.{TypedSettings}
 
 -- ` at <place>`, where the refusal has a place
 abbrev pub place_text : Option ℕ → List ℕ
@@ -27,22 +26,19 @@ filled_line frames = codes "aes3: filled " ++ decimal frames ++ codes " frames" 
 abbrev pub left_out_line : ℕ → List ℕ
 left_out_line words = codes "aes3: left out " ++ decimal words ++ codes " words before the first block" ++ 10 ∷ []
 
--- the lines of a channel's settings that no block took, of those before number `at`, and of all
-abbrev pub lines_before : ℕ → GivenSettings → Taken → ℕ → List ℕ
-lines_before channel settings taken zero = []
-lines_before channel settings taken (suc at) =
-    lines_before channel settings taken at ++ untaken_line channel settings taken at
+-- the lines of the texts typed for a channel that no block took, where there are settings
+abbrev pub met_lines : ℕ → List (List ℕ) → Met → List ℕ
+met_lines channel texts met =
+    option_map_or (λ settings. untaken_lines channel settings met.taken 0 texts) met.settings []
 
-abbrev pub met_lines : ℕ → Met → List ℕ
-met_lines channel met = option_map_or (λ settings. lines_before channel settings met.taken 36) met.settings []
-
--- what is told of a job that read its input to the end
-abbrev pub remark_line : Remark → List ℕ
-remark_line Nothing = []
-remark_line (Filled frames) = filled_line frames
-remark_line (LeftOut words) = left_out_line words
-remark_line (Settings first second) = met_lines 1 first ++ met_lines 2 second
-remark_line (Inexact at) = refusal_line (refusal.Inexact at)
+-- what is told of a job that read its input to the end, where its settings were typed so
+abbrev pub remark_line : TypedSettings → Remark → List ℕ
+remark_line typed Nothing = []
+remark_line typed (Filled frames) = filled_line frames
+remark_line typed (LeftOut words) = left_out_line words
+remark_line typed (Settings first second) =
+    met_lines 1 (texts_of typed.first) first ++ met_lines 2 (texts_of typed.second) second
+remark_line typed (Inexact at) = refusal_line (refusal.Inexact at)
 
 -- what is told of words that are not UTF-8
 abbrev pub not_utf8_text : List ℕ

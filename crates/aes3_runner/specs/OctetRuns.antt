@@ -7,6 +7,7 @@ use Rattle.aes3_cell.specs.declared.refusal.RunError.TheVariants.{Read, Write}
 use Rattle.aes3_input.specs.Running.{Movement, Quiet, Failed}
 use Rattle.aes3_octets.specs.Octets.{PacksTurned, turned}
 use Rattle.aes3_octets.specs.Told.{all_turned, only, raw_told, turned_told}
+use Rattle.aes3_settings.specs.declared.typed.TypedSettings.{TypedSettings}
 use Rattle.aes3_job.specs.declared.job.Job.{Job}
 use Rattle.aes3_arguments.specs.declared.layout.Octets.{Octets}
 use Rattle.aes3_hints.specs.Sentences.{reads_packed, writes_packed}
@@ -54,20 +55,20 @@ pub record RawRan (Ran : Bool → Movement → Type 0) (ended : Bool) (source : 
 -- a job on packed cells with the first of each octet in the lowest bit, of which the first octet was read, if there is
 -- one: it is run on the octets turned, and the last, which counts, as it is. One octet is held back until the source
 -- has ended, and none once the job was told the end.
-pub record BehindRan (first : Option ℕ) (job : Job) (ended : Bool) (source sink errors : Movement) (status : ℕ) : Type 0
+pub record BehindRan (first : Option ℕ) (job : Job) (typed : TypedSettings) (ended : Bool) (source sink errors : Movement) (status : ℕ) : Type 0
   where
     pub held : Option ℕ
     pub told_end : Bool
     pub behind_all : held ≡ None → IsTrue ended
     pub before_end : IsTrue told_end → held ≡ None
-    pub ran : JobRan job told_end (as_turned first held source) sink errors status
+    pub ran : JobRan job typed told_end (as_turned first held source) sink errors status
 
 -- the same from the first octet on
-pub record TurnedRan (job : Job) (ended : Bool) (source sink errors : Movement) (status : ℕ) : Type 0 where
+pub record TurnedRan (job : Job) (typed : TypedSettings) (ended : Bool) (source sink errors : Movement) (status : ℕ) : Type 0 where
   pub first : Option ℕ
   pub begun : Option (List ℕ)
   pub read : Grew source.old begun (only first)
-  pub ran : BehindRan first job ended (record {
+  pub ran : BehindRan first job typed ended (record {
     old = begun;
     new = source.new;
     failed_old = source.failed_old;
@@ -87,10 +88,10 @@ pub record FirstFailed (source sink errors : Movement) (status : ℕ) : Type 0 w
   pub refused : ReadRefused sink errors status
 
 -- a job on packed cells whose octets are turned, or on input as it is
-abbrev pub PackedRan : Bool → Job → Bool → Movement → Movement → Movement → ℕ → Type 0
-PackedRan true job ended source sink errors status =
-    TurnedRan job ended source sink errors status ⊎ FirstFailed source sink errors status
-PackedRan false job ended source sink errors status = JobRan job ended source sink errors status
+abbrev pub PackedRan : Bool → Job → TypedSettings → Bool → Movement → Movement → Movement → ℕ → Type 0
+PackedRan true job typed ended source sink errors status =
+    TurnedRan job typed ended source sink errors status ⊎ FirstFailed source sink errors status
+PackedRan false job typed ended source sink errors status = JobRan job typed ended source sink errors status
 
 -- a run on octets that are raw, or on input as it is
 abbrev pub RawBy : Bool → (Bool → Movement → Type 0) → Bool → Movement → Type 0
@@ -98,17 +99,17 @@ RawBy true Ran ended source = RawRan Ran ended source
 RawBy false Ran ended source = Ran ended source
 
 -- a job on such octets, whose output is as it writes it
-abbrev pub SourceRan : Octets → Job → Bool → Movement → Movement → Movement → ℕ → Type 0
-SourceRan octets job ended source sink errors status =
+abbrev pub SourceRan : Octets → Job → TypedSettings → Bool → Movement → Movement → Movement → ℕ → Type 0
+SourceRan octets job typed ended source sink errors status =
     RawBy octets.raw_in
-    (λ ended source. PackedRan (octets.lsb_first && reads_packed job) job ended source sink errors status)
+    (λ ended source. PackedRan (octets.lsb_first && reads_packed job) job typed ended source sink errors status)
     ended source
 
 -- a job whose octets are laid out so: packed cells are turned where they are read and where they are written, and
 -- nothing else is
-abbrev pub OctetsRan : Octets → Job → Bool → Movement → Movement → Movement → ℕ → Type 0
-OctetsRan octets job ended source sink errors status =
-    SourceRan octets job ended source (written_by (octets.lsb_first && writes_packed job) sink) errors status
+abbrev pub OctetsRan : Octets → Job → TypedSettings → Bool → Movement → Movement → Movement → ℕ → Type 0
+OctetsRan octets job typed ended source sink errors status =
+    SourceRan octets job typed ended source (written_by (octets.lsb_first && writes_packed job) sink) errors status
 
 -- octets that pack cells, and turned with the last of them pack the same with the first of each octet in the lowest bit
 pub record PackBoth (octets : List ℕ) : Type 0 where

@@ -7,6 +7,7 @@ use Rattle.aes3_input.specs.Running.{Movement, Quiet}
 use Rattle.aes3_arguments.specs.declared.job.LineFault.{LineFault}
 use Rattle.aes3_arguments.specs.declared.job.LineFault.TheVariants.{Usage, Help, Refused}
 use Rattle.aes3_arguments.specs.declared.line.CommandLine.{CommandLine}
+use Rattle.aes3_settings.specs.declared.typed.TypedSettings.{TypedSettings}
 use Rattle.aes3_job.specs.declared.job.Job.{Job}
 use Rattle.aes3_job.specs.declared.job.Job.TheVariants.{Encode, Rewrite, ToExactPcm, ToFilledPcm, FromPcm}
 use Rattle.aes3_words.specs.declared.form.Words.TheVariants.{Own, Alsa, Am824}
@@ -43,13 +44,13 @@ remarks (ToFilledPcm i format fill marked) = true
 remarks job = false
 
 -- of a line that was run to its end a remark, and nothing else, and nothing at all of a job on which there is none
-pub record RemarkOf (job : Job) (errors : Movement) : Type 0 where
+pub record RemarkOf (job : Job) (typed : TypedSettings) (errors : Movement) : Type 0 where
   pub remark : Remark
-  pub asked : IsFalse (remarks job) → remark_line remark ≡ []
-  pub told : RemarkTold (remark_line remark) errors
+  pub asked : IsFalse (remarks job) → remark_line typed remark ≡ []
+  pub told : RemarkTold (remark_line typed remark) errors
 
 abbrev pub EndTold : Result CommandLine LineFault → Movement → Type 0
-EndTold (Ok line) errors = RemarkOf line.job errors
+EndTold (Ok line) errors = RemarkOf line.job line.typed errors
 EndTold (Err fault) errors = Grew errors.old errors.new []
 
 -- the remark on a line that was run to its end, at status 0 and 1; at 2 why its words are no command; at 3 the line of a

@@ -3,6 +3,7 @@ use Rattle.std.specs.Prelude.{ℕ, List, [], Bool, Result, Ok, Err, ◌≡◌, �
 use Rattle.aes3_cell.specs.Ends.{Grew}
 use Rattle.aes3_cell.specs.declared.refusal.RunError.TheVariants.{Memory, Write}
 use Rattle.aes3_input.specs.Running.{Movement, Quiet, Failed}
+use Rattle.aes3_settings.specs.declared.typed.TypedSettings.{TypedSettings}
 use Rattle.aes3_job.specs.declared.job.Job.{Job}
 use Rattle.aes3_arguments.specs.declared.job.LineFault.{LineFault}
 use Rattle.aes3_arguments.specs.declared.line.CommandLine.{CommandLine}
@@ -10,7 +11,7 @@ use Rattle.aes3_arguments.specs.declared.layout.Octets.{Octets}
 use Rattle.aes3_runner.specs.declared.run.Unread.{Unread}
 use Rattle.aes3_runner.specs.declared.run.Unread.TheVariants as unread
 use Rattle.aes3_arguments.specs.declared.job.LineFault.TheVariants.{Usage, Help, Refused}
-use Rattle.aes3_arguments.specs.Jobs.{HaveOctets, IsJobOf, IsFaultOf}
+use Rattle.aes3_arguments.specs.Jobs.{HaveOctets, HaveTyped, IsJobOf, IsFaultOf}
 use Rattle.aes3_runner.specs.JobRuns.{IsTold}
 use Rattle.aes3_runner.specs.OctetRuns.{OctetsRan}
 use Rattle.aes3_runner.specs.Lines.{not_utf8_text}
@@ -28,7 +29,7 @@ FaultRan (Refused error) sink errors status =
 -- a line that asks for a job, which is run; or for none, which is told and nothing is read
 abbrev pub LineRan : Result CommandLine LineFault → Bool → Movement → Movement → Movement → ℕ → Type 0
 LineRan (Ok line) ended source sink errors status =
-    OctetsRan line.octets line.job ended source sink errors status
+    OctetsRan line.octets line.job line.typed ended source sink errors status
 LineRan (Err fault) ended source sink errors status =
     Grew source.old source.new [] × Quiet source × FaultRan fault sink errors status
 
@@ -36,9 +37,11 @@ LineRan (Err fault) ended source sink errors status =
 pub record JobOfWords (words : List (List ℕ)) (ended : Bool) (source sink errors : Movement) (status : ℕ) : Type 0 where
   pub job : Job
   pub asked : IsJobOf words job
+  pub typed : TypedSettings
+  pub texts : HaveTyped words typed
   pub octets : Octets
   pub laid_out : HaveOctets words octets
-  pub ran : OctetsRan octets job ended source sink errors status
+  pub ran : OctetsRan octets job typed ended source sink errors status
 
 pub record FaultOfWords (words : List (List ℕ)) (source sink errors : Movement) (status : ℕ) : Type 0 where
   pub fault : LineFault

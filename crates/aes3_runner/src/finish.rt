@@ -10,6 +10,7 @@ use crate::refusal::refuse;
 use crate::remark::tell_outcome;
 use aes3_cell::{RunError, Sink, Source};
 use aes3_job::{Job, Observer};
+use aes3_settings::TypedSettings;
 
 /// The refusal of a run once the sink has passed on what it holds: `Write` where that failed, else
 /// the first one.
@@ -31,10 +32,11 @@ fn flushed<T: Sink>(error: RunError, sink: &mut T) -> RunError
 
 /// Runs a job, and answers the exit status: 0 done, 1 where `check` found faults, 3 for a refusal.
 /// Unless the sink failed, it has passed on all that it took, also behind a refusal. A refusal is
-/// told on `errors`, and of a job that ended well what there is to remark; they are flushed then, and
-/// their own faults change nothing. The observer is told too; one that is silent writes nothing.
+/// told on `errors`, and of a job that ended well what there is to remark, of settings as they were
+/// typed; they are flushed then, and their own faults change nothing. The observer is told too; one that is silent writes nothing.
 pub fn finish_job<S: Source, T: Sink, E: Sink, O: Observer>(
     job: &Job,
+    typed: &TypedSettings<'_>,
     source: &mut S,
     sink: &mut T,
     errors: &mut E,
@@ -43,7 +45,7 @@ pub fn finish_job<S: Source, T: Sink, E: Sink, O: Observer>(
     requires source_room { S.failed source.old + 1 < 2 ^ 64 }
     requires sink_room { T.failed sink.old + 1 < 2 ^ 64 }
     requires errors_room { E.failed errors.old + 1 < 2 ^ 64 }
-    ensures ran { JobRan job.now (S.has_ended source.new)
+    ensures ran { JobRan job.now typed.now (S.has_ended source.new)
         (movement_of S.given S.failed source.old source.new)
         (movement_of T.taken T.failed sink.old sink.new)
         (movement_of E.taken E.failed errors.old errors.new) result }
@@ -56,12 +58,13 @@ pub fn finish_job<S: Source, T: Sink, E: Sink, O: Observer>(
     ensures same { O.is_silent observer.new ≡ O.is_silent observer.old }
 {
     observer.begins(job);
-    finish_begun(job, source, sink, errors, observer)
+    finish_begun(job, typed, source, sink, errors, observer)
 }
 
 /// Does the same for a job of which the observer was told.
 pub(crate) fn finish_begun<S: Source, T: Sink, E: Sink, O: Observer>(
     job: &Job,
+    typed: &TypedSettings<'_>,
     source: &mut S,
     sink: &mut T,
     errors: &mut E,
@@ -70,7 +73,7 @@ pub(crate) fn finish_begun<S: Source, T: Sink, E: Sink, O: Observer>(
     requires source_room { S.failed source.old + 1 < 2 ^ 64 }
     requires sink_room { T.failed sink.old + 1 < 2 ^ 64 }
     requires errors_room { E.failed errors.old + 1 < 2 ^ 64 }
-    ensures ran { JobRan job.now (S.has_ended source.new)
+    ensures ran { JobRan job.now typed.now (S.has_ended source.new)
         (movement_of S.given S.failed source.old source.new)
         (movement_of T.taken T.failed sink.old sink.new)
         (movement_of E.taken E.failed errors.old errors.new) result }
@@ -83,7 +86,7 @@ pub(crate) fn finish_begun<S: Source, T: Sink, E: Sink, O: Observer>(
     ensures same { O.is_silent observer.new ≡ O.is_silent observer.old }
 {
     match run_job(job, source, sink) {
-        Ok(outcome) => tell_outcome(job, &outcome, errors, observer),
+        Ok(outcome) => tell_outcome(job, typed, &outcome, errors, observer),
         Err(error) => refuse(flushed(error, sink), errors, observer),
     }
 }

@@ -19,6 +19,7 @@ mod remark;
 /// A whole command line.
 mod run;
 
+pub use aes3_settings::TypedSettings;
 pub use finish::finish_job;
 pub use job_run::{DONE, FAULTY, run_job};
 pub use octets::{Ran, outputs_can_be_turned, run_octets};

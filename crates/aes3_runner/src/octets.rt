@@ -11,6 +11,7 @@ use aes3_cell::{Sink, Source};
 use aes3_hints::{reads_packed, writes_packed};
 use aes3_job::{Job, Observer};
 use aes3_octets::{RawSource, TurnedSink, TurnedSource, first_octet};
+use aes3_settings::TypedSettings;
 
 /// The exit status of a run, and the ends behind it.
 #[derive(Drop)]
@@ -25,6 +26,7 @@ pub struct Ran<S: Drop, T: Drop> {
 pub fn run_octets<S: Source + Drop, T: Sink + Drop, E: Sink, O: Observer>(
     octets: Octets,
     job: &Job,
+    typed: &TypedSettings<'_>,
     source: S,
     sink: T,
     errors: &mut E,
@@ -33,7 +35,7 @@ pub fn run_octets<S: Source + Drop, T: Sink + Drop, E: Sink, O: Observer>(
     requires source_room { S.failed source + 1 < 2 ^ 64 }
     requires sink_room { T.failed sink + 1 < 2 ^ 64 }
     requires errors_room { E.failed errors.old + 1 < 2 ^ 64 }
-    ensures ran { OctetsRan octets job.now (S.has_ended result.source)
+    ensures ran { OctetsRan octets job.now typed.now (S.has_ended result.source)
         (movement_of S.given S.failed source result.source)
         (movement_of T.taken T.failed sink result.sink)
         (movement_of E.taken E.failed errors.old errors.new) result.status }
@@ -46,14 +48,22 @@ pub fn run_octets<S: Source + Drop, T: Sink + Drop, E: Sink, O: Observer>(
     ensures same { O.is_silent observer.new ≡ O.is_silent observer.old }
 {
     if octets.lsb_first && writes_packed(job) {
-        let ran = run_source(octets, job, source, TurnedSink::new(sink), errors, observer);
+        let ran = run_source(
+            octets,
+            job,
+            typed,
+            source,
+            TurnedSink::new(sink),
+            errors,
+            observer,
+        );
         return Ran {
             status: ran.status,
             source: ran.source,
             sink: ran.sink.into_sink(),
         };
     }
-    run_source(octets, job, source, sink, errors, observer)
+    run_source(octets, job, typed, source, sink, errors, observer)
 }
 
 /// Whether octets that are laid out so are turned before the job reads them.
@@ -67,6 +77,7 @@ fn turns_input(octets: Octets, job: &Job) -> bool
 fn run_source<S: Source + Drop, T: Sink + Drop, E: Sink, O: Observer>(
     octets: Octets,
     job: &Job,
+    typed: &TypedSettings<'_>,
     source: S,
     sink: T,
     errors: &mut E,
@@ -75,7 +86,7 @@ fn run_source<S: Source + Drop, T: Sink + Drop, E: Sink, O: Observer>(
     requires source_room { S.failed source + 1 < 2 ^ 64 }
     requires sink_room { T.failed sink + 1 < 2 ^ 64 }
     requires errors_room { E.failed errors.old + 1 < 2 ^ 64 }
-    ensures ran { SourceRan octets job.now (S.has_ended result.source)
+    ensures ran { SourceRan octets job.now typed.now (S.has_ended result.source)
         (movement_of S.given S.failed source result.source)
         (movement_of T.taken T.failed sink result.sink)
         (movement_of E.taken E.failed errors.old errors.new) result.status }
@@ -90,20 +101,21 @@ fn run_source<S: Source + Drop, T: Sink + Drop, E: Sink, O: Observer>(
     let is_turned = turns_input(octets, job);
     if octets.raw_in {
         let raw = RawSource::new(source);
-        let ran = run_packed(is_turned, job, raw, sink, errors, observer);
+        let ran = run_packed(is_turned, job, typed, raw, sink, errors, observer);
         return Ran {
             status: ran.status,
             source: ran.source.into_source(),
             sink: ran.sink,
         };
     }
-    run_packed(is_turned, job, source, sink, errors, observer)
+    run_packed(is_turned, job, typed, source, sink, errors, observer)
 }
 
 /// Runs a job on packed cells whose octets are turned, or on input as it is.
 fn run_packed<S: Source + Drop, T: Sink + Drop, E: Sink, O: Observer>(
     is_turned: bool,
     job: &Job,
+    typed: &TypedSettings<'_>,
     source: S,
     sink: T,
     errors: &mut E,
@@ -112,7 +124,7 @@ fn run_packed<S: Source + Drop, T: Sink + Drop, E: Sink, O: Observer>(
     requires source_room { S.failed source + 1 < 2 ^ 64 }
     requires sink_room { T.failed sink + 1 < 2 ^ 64 }
     requires errors_room { E.failed errors.old + 1 < 2 ^ 64 }
-    ensures ran { PackedRan is_turned job.now (S.has_ended result.source)
+    ensures ran { PackedRan is_turned job.now typed.now (S.has_ended result.source)
         (movement_of S.given S.failed source result.source)
         (movement_of T.taken T.failed sink result.sink)
         (movement_of E.taken E.failed errors.old errors.new) result.status }
@@ -125,11 +137,11 @@ fn run_packed<S: Source + Drop, T: Sink + Drop, E: Sink, O: Observer>(
     ensures same { O.is_silent observer.new ≡ O.is_silent observer.old }
 {
     if is_turned {
-        return run_turned(job, source, sink, errors, observer);
+        return run_turned(job, typed, source, sink, errors, observer);
     }
     let mut source = source;
     let mut sink = sink;
-    let status = finish_job(job, &mut source, &mut sink, errors, observer);
+    let status = finish_job(job, typed, &mut source, &mut sink, errors, observer);
     Ran {
         status,
         source,
@@ -141,6 +153,7 @@ fn run_packed<S: Source + Drop, T: Sink + Drop, E: Sink, O: Observer>(
 /// read before the job is: where that fails, it is refused as the job would.
 fn run_turned<S: Source + Drop, T: Sink + Drop, E: Sink, O: Observer>(
     job: &Job,
+    typed: &TypedSettings<'_>,
     source: S,
     sink: T,
     errors: &mut E,
@@ -149,7 +162,7 @@ fn run_turned<S: Source + Drop, T: Sink + Drop, E: Sink, O: Observer>(
     requires source_room { S.failed source + 1 < 2 ^ 64 }
     requires sink_room { T.failed sink + 1 < 2 ^ 64 }
     requires errors_room { E.failed errors.old + 1 < 2 ^ 64 }
-    ensures ran { PackedRan true job.now (S.has_ended result.source)
+    ensures ran { PackedRan true job.now typed.now (S.has_ended result.source)
         (movement_of S.given S.failed source result.source)
         (movement_of T.taken T.failed sink result.sink)
         (movement_of E.taken E.failed errors.old errors.new) result.status }
@@ -164,7 +177,7 @@ fn run_turned<S: Source + Drop, T: Sink + Drop, E: Sink, O: Observer>(
     observer.begins(job);
     let mut source = source;
     match first_octet(&mut source) {
-        Ok(first) => run_behind(first, job, source, sink, errors, observer),
+        Ok(first) => run_behind(first, job, typed, source, sink, errors, observer),
         Err(_) => {
             let mut sink = sink;
             let status = refuse_unread(&mut sink, errors, observer);
@@ -181,6 +194,7 @@ fn run_turned<S: Source + Drop, T: Sink + Drop, E: Sink, O: Observer>(
 fn run_behind<S: Source + Drop, T: Sink + Drop, E: Sink, O: Observer>(
     first: Option<u8>,
     job: &Job,
+    typed: &TypedSettings<'_>,
     source: S,
     sink: T,
     errors: &mut E,
@@ -190,7 +204,7 @@ fn run_behind<S: Source + Drop, T: Sink + Drop, E: Sink, O: Observer>(
     requires sink_room { T.failed sink + 1 < 2 ^ 64 }
     requires errors_room { E.failed errors.old + 1 < 2 ^ 64 }
     requires end { first ≡ None → IsTrue (S.has_ended source) }
-    ensures ran { BehindRan first job.now (S.has_ended result.source)
+    ensures ran { BehindRan first job.now typed.now (S.has_ended result.source)
         (movement_of S.given S.failed source result.source)
         (movement_of T.taken T.failed sink result.sink)
         (movement_of E.taken E.failed errors.old errors.new) result.status }
@@ -204,7 +218,7 @@ fn run_behind<S: Source + Drop, T: Sink + Drop, E: Sink, O: Observer>(
 {
     let mut turned = TurnedSource::new(source, first);
     let mut sink = sink;
-    let status = finish_begun(job, &mut turned, &mut sink, errors, observer);
+    let status = finish_begun(job, typed, &mut turned, &mut sink, errors, observer);
     Ran {
         status,
         source: turned.into_source(),

@@ -1,12 +1,12 @@
 //! What standard error is told of a job that read its input to the end.
 
-ghost use Rattle.std.specs.Prelude.{◌≡◌, ◌<◌, ◌≤◌, ◌+◌, ◌++◌, ◌^◌, decimal, length};
+ghost use Rattle.std.specs.Prelude.{◌≡◌, ◌<◌, ◌≤◌, ◌+◌, ◌++◌, ◌^◌, codes, decimal, length, map};
 ghost use Rattle.arrayvec.specs.ArrayVec.{array_vec_len};
 ghost use Rattle.aes3_cell.specs.Writes.{Wrote};
 ghost use Rattle.aes3_input.specs.Running.{movement_of};
 ghost use Rattle.aes3_runner.specs.JobRuns.{end_status};
-ghost use Rattle.aes3_runner.specs.Lines.{filled_line, left_out_line, lines_before, met_lines};
-ghost use Rattle.aes3_runner.specs.Lines.{remark_line};
+ghost use Rattle.aes3_settings.specs.Untaken.{texts_of, told_line, untaken_line, untaken_lines};
+ghost use Rattle.aes3_runner.specs.Lines.{filled_line, left_out_line, met_lines, remark_line};
 ghost use Rattle.aes3_runner.specs.Outcomes.{RemarkTold};
 
 use crate::job_run::exit_status;
@@ -14,7 +14,7 @@ use crate::outcome::{Met, Outcome, Remark};
 use crate::refusal::{LINE_LEN, append, append_number, put_refusal, refuse};
 use aes3_cell::{Fault, RunError, Sink, write_all};
 use aes3_job::{Job, Observer};
-use aes3_settings::{UNTAKEN_LINES, untaken_line};
+use aes3_settings::{TEXTS, TypedSettings, untaken_remedy};
 use aes3_status::{Settings, Taken};
 use arrayvec::ArrayVec;
 
@@ -48,23 +48,93 @@ fn put_left_out<T: Sink>(words: u64, sink: &mut T) -> Result<(), Fault>
     write_all(sink, line.as_slice())
 }
 
-/// Writes the lines of a channel's settings that no block took.
+/// Writes the front of the line of a setting for a channel, as one buffer.
+///
+/// # Errors
+/// The sink's fault; then it has taken a front of this.
+fn put_head<T: Sink>(channel: u8, sink: &mut T) -> Result<(), Fault>
+    requires room { T.failed sink.old + 1 < 2 ^ 64 }
+    ensures { Wrote T.taken T.failed sink.old sink.new
+        (codes "aes3: no block took --set" ++ decimal channel ++ codes " ") result }
+{
+    let mut line: ArrayVec<u8, LINE_LEN> = ArrayVec::new();
+    append(&mut line, b"aes3: no block took --set");
+    append_number(&mut line, u64::from(channel));
+    append(&mut line, b" ");
+    write_all(sink, line.as_slice())
+}
+
+/// Writes a setting as it was typed, and the rest of its line.
+///
+/// # Errors
+/// The sink's fault; then it has taken a front of this.
+fn put_rest<T: Sink>(text: &str, remedy: &str, sink: &mut T) -> Result<(), Fault>
+    requires room { T.failed sink.old + 1 < 2 ^ 64 }
+    ensures { Wrote T.taken T.failed sink.old sink.new (text.now ++ remedy.now) result }
+{
+    match write_all(sink, text.as_bytes()) {
+        Ok(()) => write_all(sink, remedy.as_bytes()),
+        Err(fault) => Err(fault),
+    }
+}
+
+/// Writes the line of a setting for a channel.
+///
+/// # Errors
+/// The sink's fault; then it has taken a front of the line.
+fn put_line<T: Sink>(channel: u8, text: &str, remedy: &str, sink: &mut T) -> Result<(), Fault>
+    requires room { T.failed sink.old + 1 < 2 ^ 64 }
+    ensures { Wrote T.taken T.failed sink.old sink.new
+        (told_line channel text.now remedy.now) result }
+{
+    match put_head(channel, sink) {
+        Ok(()) => put_rest(text, remedy, sink),
+        Err(fault) => Err(fault),
+    }
+}
+
+/// Writes the line of text number `at` of a channel's settings, where no block took it.
+///
+/// # Errors
+/// The sink's fault; then it has taken a front of the line.
+fn put_if_untaken<T: Sink>(
+    channel: u8,
+    settings: &Settings,
+    taken: &Taken,
+    at: usize,
+    text: &str,
+    sink: &mut T,
+) -> Result<(), Fault>
+    requires room { T.failed sink.old + 1 < 2 ^ 64 }
+    requires within { at < TEXTS }
+    ensures { Wrote T.taken T.failed sink.old sink.new
+        (untaken_line channel settings.now taken.now at text.now) result }
+{
+    match untaken_remedy(settings, taken, at) {
+        Some(remedy) => put_line(channel, text, remedy, sink),
+        None => Ok(()),
+    }
+}
+
+/// Writes the lines of a channel's settings that no block took, in the order in which they were
+/// typed.
 ///
 /// # Errors
 /// The sink's fault; then it has taken a front of the lines.
 fn put_lines<T: Sink>(
     channel: u8,
+    texts: &[&str],
     settings: &Settings,
     taken: &Taken,
     sink: &mut T,
 ) -> Result<(), Fault>
     requires room { T.failed sink.old + 1 < 2 ^ 64 }
+    requires few { length texts.now ≤ TEXTS }
     ensures { Wrote T.taken T.failed sink.old sink.new
-        (lines_before channel settings.now taken.now 36) result }
+        (untaken_lines channel settings.now taken.now 0 (map (λ text. text.now) texts.now)) result }
 {
-    'lines: for at in 0..UNTAKEN_LINES {
-        let line = untaken_line(channel, settings, taken, at);
-        match write_all(sink, line.as_bytes()) {
+    'lines: for (at, text) in texts.iter().enumerate() {
+        match put_if_untaken(channel, settings, taken, at, text, sink) {
             Ok(()) => {}
             Err(fault) => return Err(fault),
         }
@@ -76,13 +146,15 @@ fn put_lines<T: Sink>(
 ///
 /// # Errors
 /// The sink's fault; then it has taken a front of the lines.
-fn put_untaken<T: Sink>(channel: u8, met: &Met, sink: &mut T) -> Result<(), Fault>
+fn put_untaken<T: Sink>(channel: u8, texts: &[&str], met: &Met, sink: &mut T) -> Result<(), Fault>
     requires room { T.failed sink.old + 1 < 2 ^ 64 }
-    ensures { Wrote T.taken T.failed sink.old sink.new (met_lines channel met.now) result }
+    requires few { length texts.now ≤ TEXTS }
+    ensures { Wrote T.taken T.failed sink.old sink.new
+        (met_lines channel (map (λ text. text.now) texts.now) met.now) result }
 {
     match &met.settings {
         None => Ok(()),
-        Some(settings) => put_lines(channel, settings, &met.taken, sink),
+        Some(settings) => put_lines(channel, texts, settings, &met.taken, sink),
     }
 }
 
@@ -90,13 +162,19 @@ fn put_untaken<T: Sink>(channel: u8, met: &Met, sink: &mut T) -> Result<(), Faul
 ///
 /// # Errors
 /// The sink's fault; then it has taken a front of the lines.
-fn put_settings<T: Sink>(first: &Met, second: &Met, sink: &mut T) -> Result<(), Fault>
+fn put_settings<T: Sink>(
+    typed: &TypedSettings<'_>,
+    first: &Met,
+    second: &Met,
+    sink: &mut T,
+) -> Result<(), Fault>
     requires room { T.failed sink.old + 1 < 2 ^ 64 }
     ensures { Wrote T.taken T.failed sink.old sink.new
-        (met_lines 1 first.now ++ met_lines 2 second.now) result }
+        (met_lines 1 (texts_of typed.now.first) first.now
+        ++ met_lines 2 (texts_of typed.now.second) second.now) result }
 {
-    match put_untaken(1, first, sink) {
-        Ok(()) => put_untaken(2, second, sink),
+    match put_untaken(1, typed.first.as_slice(), first, sink) {
+        Ok(()) => put_untaken(2, typed.second.as_slice(), second, sink),
         Err(fault) => Err(fault),
     }
 }
@@ -105,29 +183,34 @@ fn put_settings<T: Sink>(first: &Met, second: &Met, sink: &mut T) -> Result<(), 
 ///
 /// # Errors
 /// The sink's fault; then it has taken a front of the lines.
-fn put_remark<T: Sink>(remark: &Remark, sink: &mut T) -> Result<(), Fault>
+fn put_remark<T: Sink>(
+    remark: &Remark,
+    typed: &TypedSettings<'_>,
+    sink: &mut T,
+) -> Result<(), Fault>
     requires room { T.failed sink.old + 1 < 2 ^ 64 }
-    ensures { Wrote T.taken T.failed sink.old sink.new (remark_line remark.now) result }
+    ensures { Wrote T.taken T.failed sink.old sink.new
+        (remark_line typed.now remark.now) result }
 {
     match remark {
         Remark::Nothing => Ok(()),
         Remark::Filled { frames } => put_filled(*frames, sink),
         Remark::LeftOut { words } => put_left_out(*words, sink),
-        Remark::Settings { first, second } => put_settings(first, second, sink),
+        Remark::Settings { first, second } => put_settings(typed, first, second, sink),
         Remark::Inexact { at } => put_refusal(RunError::Inexact { at: *at }, sink),
     }
 }
 
 /// Tells what there is to remark on `errors`, which are flushed and whose own faults change nothing.
-fn tell_remark<E: Sink>(remark: &Remark, errors: &mut E)
+fn tell_remark<E: Sink>(remark: &Remark, typed: &TypedSettings<'_>, errors: &mut E)
     requires { E.failed errors.old + 1 < 2 ^ 64 }
-    ensures told { RemarkTold (remark_line remark.now)
+    ensures told { RemarkTold (remark_line typed.now remark.now)
         (movement_of E.taken E.failed errors.old errors.new) }
     ensures errors { E.failed errors.new ≤ E.failed errors.old + 1 }
     ensures left { E.failed errors.new ≡ E.failed errors.old
         → E.passed errors.new ≡ E.taken errors.new }
 {
-    if put_remark(remark, errors).is_ok() {
+    if put_remark(remark, typed, errors).is_ok() {
         let _ = errors.flush();
     }
 }
@@ -136,13 +219,14 @@ fn tell_remark<E: Sink>(remark: &Remark, errors: &mut E)
 /// observer is told too, and answers its exit status.
 pub(crate) fn tell_outcome<E: Sink, O: Observer>(
     job: &Job,
+    typed: &TypedSettings<'_>,
     outcome: &Outcome,
     errors: &mut E,
     observer: &mut O,
 ) -> u8
     requires { E.failed errors.old + 1 < 2 ^ 64 }
     ensures status { result ≡ end_status job.now outcome.now }
-    ensures told { RemarkTold (remark_line outcome.now.remark)
+    ensures told { RemarkTold (remark_line typed.now outcome.now.remark)
         (movement_of E.taken E.failed errors.old errors.new) }
     ensures errors { E.failed errors.new ≤ E.failed errors.old + 1 }
     ensures left { E.passed errors.old ≡ E.taken errors.old
@@ -154,7 +238,7 @@ pub(crate) fn tell_outcome<E: Sink, O: Observer>(
         Remark::Nothing => exit_status(job, &outcome.counts),
         Remark::Inexact { at } => refuse(RunError::Inexact { at }, errors, observer),
         _ => {
-            tell_remark(&outcome.remark, errors);
+            tell_remark(&outcome.remark, typed, errors);
             exit_status(job, &outcome.counts)
         }
     }

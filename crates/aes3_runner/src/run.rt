@@ -134,7 +134,15 @@ pub fn run_line<S: Source + Drop, T: Sink + Drop, E: Sink, O: Observer>(
     ensures same { O.is_silent observer.new ≡ O.is_silent observer.old }
 {
     match line {
-        Ok(line) => run_octets(line.octets, &line.job, source, sink, errors, observer),
+        Ok(line) => run_octets(
+            line.octets,
+            &line.job,
+            &line.typed,
+            source,
+            sink,
+            errors,
+            observer,
+        ),
         Err(fault) => {
             let mut sink = sink;
             let status = tell_fault(fault, &mut sink, errors, observer);

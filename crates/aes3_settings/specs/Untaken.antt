@@ -1,78 +1,61 @@
 -- The lines of settings that no block took.
-use Rattle.std.specs.Prelude.{ℕ, suc, List, [], ◌∷◌, ◌++◌, Bool, true, false, Option, Some, None, ◌-◌, ◌*◌, ◌+◌, ◌==◌, ◌||◌}
-use Rattle.std.specs.Prelude.{codes, decimal, get_or, nat_lt, if◌then◌else◌}
+use Rattle.std.specs.Prelude.{ℕ, suc, List, [], ◌∷◌, ◌++◌, Bool, true, false, Option, Some, None, ◌*◌, ◌+◌, ◌||◌}
+use Rattle.std.specs.Prelude.{codes, decimal, get_or, map, if◌then◌else◌}
+use Rattle.std.specs.Borrow.{Bor}
+use Rattle.std.specs.List.{list_any}
 use Rattle.std.specs.Option.{is_some, option_map_or}
-use Rattle.aes3_status.specs.declared.field.Field.{Field}
+use Rattle.arrayvec.specs.ArrayVec.{ArrayVec}
 use Rattle.aes3_status.specs.declared.setting.Setting.{Setting}
 use Rattle.aes3_status.specs.declared.setting.Settings.{Settings}
 use Rattle.aes3_status.specs.declared.taken.Taken.{Taken}
-use Rattle.aes3_status.specs.declared.wide.WideSettings.{WideSettings}
-use Rattle.aes3_settings.specs.Names.{code_names, name_text}
-use Rattle.aes3_settings.specs.Settings.{code_text, nothing}
-use Rattle.aes3_settings.specs.Words.{word_of}
+use Rattle.aes3_settings.specs.Settings.{nothing}
 
--- the first code of a setting, behind the number that tells what its codes mean
-abbrev pub first_from : ℕ → List (Option ℕ) → Option (ℕ × ℕ)
-first_from under [] = None
-first_from under (Some code ∷ rest) = Some (under, code)
-first_from under (None ∷ rest) = first_from (suc under) rest
+-- the texts of a channel, as they were typed
+abbrev pub texts_of : ArrayVec (Bor (List ℕ)) → List (List ℕ)
+texts_of texts = map (λ text. text.now) texts.items
 
-abbrev pub first_code : Setting → Option (ℕ × ℕ)
-first_code setting = first_from 0 setting.codes
+-- whether a setting has a code for some status
+abbrev pub has_code : Setting → Bool
+has_code setting = list_any is_some setting.codes
 
--- ` NAME=WORD` of a code: what `show --names` tells of it, or else what `show` prints
-abbrev pub told_code : Field → ℕ → ℕ → List ℕ
-told_code f under code = if is_some (word_of (code_names f) code) then name_text f code else code_text f under code
+-- what text `at` sets for professional and for consumer use
+abbrev pub professional_at : Settings → ℕ → Setting
+professional_at settings at = get_or settings.codes (2 * at) nothing
 
-abbrev pub setting_text : Setting → List ℕ
-setting_text setting = option_map_or (λ c. told_code setting.field c.0 c.1) (first_code setting) []
+abbrev pub consumer_at : Settings → ℕ → Setting
+consumer_at settings at = get_or settings.codes (2 * at + 1) nothing
 
--- what a status that takes none of a text's settings lacks, where there is one for professional use, and one for
--- consumer use
+-- whether a block took what text `at` sets: one of its codes, or, where it has none, the field of four bytes that it sets
+abbrev pub is_taken : Settings → Taken → ℕ → Bool
+is_taken settings taken at =
+    if has_code (professional_at settings at) || has_code (consumer_at settings at)
+    then get_or taken.codes (2 * at) false || get_or taken.codes (2 * at + 1) false
+    else taken.wide
+
+-- what a status lacks that takes nothing of a text, by whether this has a code for professional and for consumer use: a
+-- text with neither sets a field of four bytes, which are for professional use
 abbrev pub remedy : Bool → Bool → List ℕ
-remedy true true = codes ": before it stands what gives it a code, as greatest=24 or aux=audio for word=24"
-remedy true false = codes ": it is for professional use, which use=professional before it sets"
-remedy false true = codes ": it is for consumer use, which use=consumer before it sets"
-remedy false false = []
+remedy true true = codes ": before it stands what gives it a code, as greatest=24 or aux=audio for word=24" ++ 10 ∷ []
+remedy true false = codes ": it is for professional use, which use=professional before it sets" ++ 10 ∷ []
+remedy false true = codes ": it is for consumer use, which use=consumer before it sets" ++ 10 ∷ []
+remedy false false = codes ": it is for professional use, which use=professional before it sets" ++ 10 ∷ []
 
--- what the settings of one text set, the one for professional and the other for consumer use, and what gives them a code
-abbrev pub pair_text : Setting → Setting → List ℕ
-pair_text professional consumer =
-    setting_text (if is_some (first_code professional) then professional else consumer)
-    ++ remedy (is_some (first_code professional)) (is_some (first_code consumer))
+-- what stands behind text `at` in its line, with the line feed; none where a block took what it sets
+abbrev pub untaken_remedy : Settings → Taken → ℕ → Option (List ℕ)
+untaken_remedy settings taken at =
+    if is_taken settings taken at then None
+    else Some (remedy (has_code (professional_at settings at)) (has_code (consumer_at settings at)))
 
--- the name of a field of four bytes, where it is set
-abbrev pub name_if : Bool → List ℕ → List ℕ
-name_if set name = if set then name else []
+-- the line of a text as it was typed for a channel; none where a block took what it sets
+abbrev pub told_line : ℕ → List ℕ → List ℕ → List ℕ
+told_line channel text remedy = codes "aes3: no block took --set" ++ decimal channel ++ codes " " ++ text ++ remedy
 
-abbrev pub wide_name_at : WideSettings → ℕ → List ℕ
-wide_name_at wide at =
-    if at == 0 then name_if (is_some wide.origin) (codes " origin=")
-    else if at == 1 then name_if (is_some wide.destination) (codes " destination=")
-    else if at == 2 then name_if (is_some wide.local) (codes " local=")
-    else if at == 3 then name_if (is_some wide.time) (codes " time=")
-    else []
+abbrev pub untaken_line : ℕ → Settings → Taken → ℕ → List ℕ → List ℕ
+untaken_line channel settings taken at text =
+    option_map_or (told_line channel text) (untaken_remedy settings taken at) []
 
-abbrev pub with_remedy : List ℕ → List ℕ
-with_remedy [] = []
-with_remedy (x ∷ name) = (x ∷ name) ++ remedy true false
-
-abbrev pub untaken_wide : WideSettings → ℕ → List ℕ
-untaken_wide wide at = with_remedy (wide_name_at wide at)
-
--- what is told of text `at`, or behind the 32 texts of a field of four bytes, where nothing of it was taken
-abbrev pub untaken_text : Settings → Taken → ℕ → List ℕ
-untaken_text settings taken at =
-    if nat_lt at 32
-    then (if get_or taken.codes (2 * at) false || get_or taken.codes (2 * at + 1) false
-    then []
-    else pair_text (get_or settings.codes (2 * at) nothing) (get_or settings.codes (2 * at + 1) nothing))
-    else (if taken.wide then [] else untaken_wide settings.wide (at - 32))
-
--- its line; none where there is nothing to tell
-abbrev pub line_with : ℕ → List ℕ → List ℕ
-line_with channel [] = []
-line_with channel (x ∷ text) = codes "aes3: no block took --set" ++ decimal channel ++ (x ∷ text) ++ 10 ∷ []
-
-abbrev pub untaken_line : ℕ → Settings → Taken → ℕ → List ℕ
-untaken_line channel settings taken at = line_with channel (untaken_text settings taken at)
+-- the lines of texts typed for a channel, in their order, the first of which has number `at`
+abbrev pub untaken_lines : ℕ → Settings → Taken → ℕ → List (List ℕ) → List ℕ
+untaken_lines channel settings taken at [] = []
+untaken_lines channel settings taken at (text ∷ texts) =
+    untaken_line channel settings taken at text ++ untaken_lines channel settings taken (suc at) texts

@@ -29,7 +29,9 @@ mod settings;
 mod status;
 /// How the lines of events are written.
 mod style;
-/// Settings that no block took, as lines.
+/// Settings as they were typed.
+mod typed;
+/// Settings that no block took.
 mod untaken;
 /// The fields that have four whole bytes, by their names.
 mod wide;
@@ -41,10 +43,11 @@ pub use detail::Detail;
 pub use fields::NAME_LEN;
 pub use line::{DIGITS, LINE_LEN, Line};
 pub use lines::Lines;
-pub use listed::{SettingsFault, settings_of_texts};
+pub use listed::{SettingsFault, TEXTS, settings_of_texts};
 pub use names::{name_of, name_of_code};
 pub use settings::{consumer_setting, professional_setting};
 pub use status::{STATUS_LEN, put_status};
 pub use style::{Notation, Style};
-pub use untaken::{UNTAKEN_LINES, untaken_line};
+pub use typed::TypedSettings;
+pub use untaken::untaken_remedy;
 pub use words::{WORD_LEN, word_of};

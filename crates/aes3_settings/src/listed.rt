@@ -9,8 +9,8 @@ use crate::settings::{consumer_setting, professional_setting};
 use crate::wide::{take_wide, wide_of};
 use aes3_status::{SETTINGS, Setting, Settings, WideField, WideSettings};
 
-/// How many texts there are at most: each may set a field for each of the two uses.
-const TEXTS: usize = SETTINGS / 2;
+/// How many texts a channel has at most: each may set a field for each of the two uses.
+pub const TEXTS: usize = SETTINGS / 2;
 
 /// Why texts have no settings.
 #[derive(Clone, Copy)]

@@ -46,6 +46,12 @@ returns-in-Some-clause-job c =
     IfOk-weaker c.line_of_command.result _ _
     (λ line asks. (c.in-Some.name.now, options_of c.in-Some.options.now, stood c, asks)) c.line_of_command.ensures.job
 
+pub returns-in-Some-clause-typed : goal.returns-in-Some-clause-typed
+returns-in-Some-clause-typed c =
+    IfOk-weaker c.line_of_command.result _ _
+    (λ line are. (c.in-Some.name.now, options_of c.in-Some.options.now, stood c, are))
+    c.line_of_command.ensures.typed
+
 pub returns-in-Some-clause-octets : goal.returns-in-Some-clause-octets
 returns-in-Some-clause-octets c =
     IfOk-weaker c.line_of_command.result _ _

@@ -8,4 +8,4 @@ pub returns-else-is_ok-clause-told : goal.returns-else-is_ok-clause-told
 returns-else-is_ok-clause-told g c =
     told-front c.put_remark.result
     (movement_of g.E.Sink.taken g.E.Sink.failed c.args.errors.now c.put_remark.new.sink)
-    (remark_line c.args.remark.now) (sym c.is_ok.ensures.value ∙ c.if-is_ok.false) c.put_remark.ensures.err
+    (remark_line c.args.typed.now c.args.remark.now) (sym c.is_ok.ensures.value ∙ c.if-is_ok.false) c.put_remark.ensures.err
