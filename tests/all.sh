@@ -1,5 +1,5 @@
 #!/bin/sh
-# tests/all.sh [PROGRAM]: all that is run with a built program, with bin/aes3's where none is given: how bin/aes3 has it built, the worked rows, the machine's own
+# tests/all.sh [PROGRAM]: all that is run with a built program, with bin/aes3's where none is given: how bin/aes3 and bin/build have it built, the worked rows, the machine's own
 # streams, refused memory, the examples of help, README and tutorial, the manual page, the shells' completions, the pictures and
 # the figures of the books, captures with jitter, errors put in on purpose, round trips with other programs, the examples from C (also
 # for 64-bit ARM), C++, Python and Rust, and of the page in a browser, and the Debian packages in a root of their own.
@@ -77,6 +77,7 @@ library() {
 part_with rt library
 library=${running##* }
 part_with python3 web/test "$program"
+part_with python3 tests/build.sh
 part tests/launch.sh
 part tests/rows.sh "$program"
 part tests/streams.sh "$program"
