@@ -10,6 +10,9 @@
 # something failed.
 
 root=$(dirname "$(dirname "$(realpath "$0")")")
+# shellcheck source=examples/words.sh
+. "$root/examples/words.sh"
+take_words 0 1 "$@"
 cd "$root" || exit 2
 if [ $# -gt 0 ]; then
     program=$(realpath "$1") || exit 2
@@ -77,6 +80,7 @@ library() {
 part_with rt library
 library=${running##* }
 part_with python3 web/test "$program"
+part tests/words.sh
 part_with python3 tests/build.sh
 part tests/launch.sh
 part tests/rows.sh "$program"
@@ -94,6 +98,7 @@ part_with python3 bin/figures --check
 part_with python3 examples/pictures/make --check "$program"
 part_with python3 examples/neighbours/run "$program"
 part examples/many/run "$program" 20
+part tests/examples.sh "$program"
 part examples/spoil/run "$program"
 part_with python3 examples/watch/run "$program"
 part_with python3 examples/own/run
