@@ -6,6 +6,9 @@
 # The last line is `N passed, M failed`, and the status 0 where none failed.
 
 root=$(dirname "$(dirname "$(realpath "$0")")")
+# shellcheck source=examples/words.sh
+. "$root/examples/words.sh"
+take_words 0 0 "$@"
 # shellcheck source=tests/judging.sh
 . "$root/tests/judging.sh"
 command -v python3 >/dev/null || { echo "left out: tests/build.sh (python3 is not installed)" && tell; }
@@ -69,7 +72,7 @@ builds() {
     done
 }
 crates=$tree/crates
-says() { "$tree/bin/build" "$@" 2>&1 | grep '^bin/build: .* to be proved and built'; }
+says() { "$tree/bin/build" 2>&1 | grep '^bin/build: .* to be proved and built'; }
 
 on_processors="[1-9][0-9]* processors\{0,1\} with nothing else to do"
 says >"$work/told"
