@@ -82,6 +82,7 @@ library=${running##* }
 part_with python3 web/test "$program"
 part tests/words.sh
 part_with python3 tests/build.sh
+part_with rt tests/lemma.sh
 part tests/launch.sh
 part tests/rows.sh "$program"
 part tests/streams.sh "$program"
