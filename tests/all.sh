@@ -1,5 +1,5 @@
 #!/bin/sh
-# tests/all.sh [PROGRAM]: all that is run with a built program, with bin/aes3's where none is given: the worked rows, the machine's own
+# tests/all.sh [PROGRAM]: all that is run with a built program, with bin/aes3's where none is given: how bin/aes3 and bin/build have it built, the worked rows, the machine's own
 # streams, refused memory, the examples of help, README and tutorial, the manual page, the shells' completions, the pictures and
 # the figures of the books, captures with jitter, errors put in on purpose, round trips with other programs, the examples from C (also
 # for 64-bit ARM), C++, Python and Rust, and of the page in a browser, and the Debian packages in a root of their own.
@@ -10,6 +10,9 @@
 # something failed.
 
 root=$(dirname "$(dirname "$(realpath "$0")")")
+# shellcheck source=examples/words.sh
+. "$root/examples/words.sh"
+take_words 0 1 "$@"
 cd "$root" || exit 2
 if [ $# -gt 0 ]; then
     program=$(realpath "$1") || exit 2
@@ -77,6 +80,10 @@ library() {
 part_with rt library
 library=${running##* }
 part_with python3 web/test "$program"
+part tests/words.sh
+part_with python3 tests/build.sh
+part_with rt tests/lemma.sh
+part tests/launch.sh
 part tests/rows.sh "$program"
 part tests/streams.sh "$program"
 part tests/help.sh "$program"
@@ -93,6 +100,8 @@ part_with python3 bin/figures --check
 part_with python3 examples/pictures/make --check "$program"
 part_with python3 examples/neighbours/run "$program"
 part examples/many/run "$program" 20
+part tests/examples.sh "$program"
+part tests/machines.sh "$program"
 part examples/spoil/run "$program"
 part_with python3 examples/watch/run "$program"
 part_with python3 examples/own/run

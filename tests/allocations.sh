@@ -1,15 +1,14 @@
 #!/bin/sh
-# Refuses each allocation of some command lines in turn, by a malloc that is preloaded (refuse_allocation.c, built with cc).
-#
-#   tests/allocations.sh PROGRAM [TESTS NAME]..     prints a line for each wrong answer, and then `N passed, M failed`
+# tests/allocations.sh PROGRAM [TESTS NAME]..: refuses each allocation of some command lines in turn, by a malloc that is preloaded
+# (refuse_allocation.c, built with cc). It prints a line for each wrong answer, and then `N passed, M failed`.
 #
 # Each refused allocation must be told as refusal 8, with nothing written, or change nothing. Of a program of tests, as `rt test`
 # leaves it in a crate's out/, the test NAME must pass whichever allocation is refused.
 
-[ $# -gt 0 ] || {
-    sed -n '2,7s/^# \{0,1\}//p' "$0" >&2
-    exit 2
-}
+root=$(dirname "$(dirname "$(realpath "$0")")")
+# shellcheck source=examples/words.sh
+. "$root/examples/words.sh"
+take_words 1 100 "$@"
 program=$(realpath "$1") || exit 2
 shift
 here=$(dirname "$(realpath "$0")")

@@ -7,6 +7,9 @@
 # The last line is `N passed, M failed`, and the status 0 where none failed.
 
 root=$(dirname "$(dirname "$(realpath "$0")")")
+# shellcheck source=examples/words.sh
+. "$root/examples/words.sh"
+take_words 0 2 "$@"
 program=$(realpath -m "${1:-$root/crates/aes3_cells/out/aes3_cells}")
 aes3=$(realpath -m "${2:-$root/crates/aes3/out/aes3}")
 here=$root/tests/captures

@@ -8,6 +8,7 @@ each word of it and each refusal that it explains has to be completed, and a fil
 A shell that is not installed is left out, and told. The last line is `N passed, M failed`, and the status 1 where one failed.
 """
 
+import argparse
 import importlib.machinery
 import importlib.util
 import os
@@ -152,10 +153,9 @@ def asked_of_fish(wanted):
 
 
 def main():
-    if len(sys.argv) != 2:
-        print(__doc__, end="", file=sys.stderr)
-        return 2
-    wanted = cases(os.path.realpath(sys.argv[1]))
+    parser = argparse.ArgumentParser(description=__doc__, formatter_class=argparse.RawDescriptionHelpFormatter)
+    parser.add_argument("program", metavar="PROGRAM")
+    wanted = cases(os.path.realpath(parser.parse_args().program))
     passed = failed = 0
     for shell in [*STARTS, "fish"]:
         if not shutil.which(shell.split(",")[0]):

@@ -1,12 +1,14 @@
 #!/bin/sh
-# tests/help.sh PROGRAM runs the examples that the program's help and that of each command show, in the order of the
+# tests/help.sh PROGRAM: runs the examples that the program's help and that of each command show, in the order of the
 # program's own help first: each has to end with status 0 and to say nothing on standard error but what is remarked on a job. Those that need sox are left
 # out, and told, where it isn't installed. What `--explain` prints has to stand in the README's table of refusals, word for word.
 #
 # The last line is `N passed, M failed`, and the status 0 where none failed.
 
-[ $# = 1 ] || { sed -n '2,6s/^# \{0,1\}//p' "$0" >&2; exit 2; }
 root=$(dirname "$(dirname "$(realpath "$0")")")
+# shellcheck source=examples/words.sh
+. "$root/examples/words.sh"
+take_words 1 1 "$@"
 program=$(realpath "$1") || exit 2
 work=$(mktemp -d) || exit 2
 trap 'rm -rf "$work"' EXIT

@@ -1,5 +1,5 @@
 #!/bin/sh
-# tests/install.sh installs what is built in a scratch folder (bin/install --as-built), and there: the program and the header
+# tests/install.sh: installs what is built in a scratch folder (bin/install --as-built), and there: the program and the header
 # tell one version; the shared library has its soname and shows the calls of the header and no other name; a program in C
 # is built over it by pkg-config and by CMake, and tells of a damaged line what the installed program tells; a struct of another
 # size than the library's is refused by C11 and C++11; a prefix below DESTDIR is told without it, and libraries in another folder are found.
@@ -7,12 +7,15 @@
 # The last line is `N passed, M failed`, and the status 0 where none failed.
 
 root=$(dirname "$(dirname "$(realpath "$0")")")
+# shellcheck source=examples/words.sh
+. "$root/examples/words.sh"
+take_words 0 0 "$@"
 # shellcheck source=tests/judging.sh
 . "$root/tests/judging.sh"
 judge_not() {
     what=$1
     shift
-    if "$@" >/dev/null 2>&1; then judge "$what" false; else judge "$what" true; fi
+    if "$@" >"$work/said.last" 2>&1; then judge "$what" false; else judge "$what" true; fi
 }
 lacks() { ! command -v "$1" >/dev/null; }
 
@@ -24,6 +27,39 @@ while IFS= read -r file; do
     case $file in "$to"/*) judge "$file" test -e "$file" ;; esac
 done <"$work/files"
 version=$("$to/bin/aes3" --version | cut -d' ' -f2)
+
+# What was there before stays, and with it what is changed afterwards; all else of it goes.
+old="$work/an old place"
+mkdir -p "$old/share/man/man1" "$old/lib"
+echo other >"$old/share/man/man1/other.1"
+echo other >"$old/lib/libaes3.a"
+(cd "$old" && find . | sort) >"$work/before"
+judge "over what is there" "$root/bin/install" --as-built "$old"
+judge "once more" "$root/bin/install" --as-built "$old"
+echo changed >>"$old/share/man/man1/aes3.1"
+rm "$old/lib/libaes3.so" "$old/lib/libaes3_c.a"
+ln -s elsewhere "$old/lib/libaes3_c.a"
+judge_not "a file that has changed is told by the status" "$root/bin/install" --uninstall "$old"
+judge "it is named" grep -qx "left: $old/share/man/man1/aes3.1 (it has changed since)" "$work/said.last"
+judge "a link of another's" test "$(readlink "$old/lib/libaes3_c.a")" = elsewhere
+rm "$old/share/man/man1/aes3.1" "$old/lib/libaes3_c.a"
+echo other >"$old/lib/libaes3.a"
+(cd "$old" && find . | sort) >"$work/after"
+judge "what was there before is there" cmp "$work/before" "$work/after"
+judge_not "nothing is installed any more" "$root/bin/install" --uninstall "$old"
+judge "it says so" grep -q "^install: nothing is installed below $old: " "$work/said.last"
+new="$work/a new place"
+judge "below a new folder, with LIBDIR" env LIBDIR="lib/some where" "$root/bin/install" --as-built "$new"
+judge "the library there" test -e "$new/lib/some where/libaes3.a"
+judge "removed again" "$root/bin/install" --uninstall "$new"
+judge "the folder too" test ! -e "$new"
+mkdir "$work/here"
+judge "a name beside" sh -c 'cd "$1" && "$0" --as-built place && cd place && "$0" --uninstall "$PWD" && [ ! -e "$PWD" ]' "$root/bin/install" "$work/here"
+for words in --no-such-word "--as-built --uninstall" "--uninstall one two"; do
+    # shellcheck disable=SC2086 # they are words
+    judge "$words" sh -c '"$0" "$@" 2>&1 | grep -q "^usage: bin/install "' "$root/bin/install" $words
+done
+judge "no folder of such a name" test ! -e ./--no-such-word
 
 judge "a prefix below DESTDIR" env DESTDIR="$work/tree" "$root/bin/install" --as-built /opt/aes3
 judge "the prefix in aes3.pc" grep -qx 'prefix=/opt/aes3' "$work/tree/opt/aes3/lib/pkgconfig/aes3.pc"

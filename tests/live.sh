@@ -6,7 +6,10 @@
 # millisecond. The status is 0 where each report comes within 50 ms, in order and none is missing. It takes twice SECONDS, 3
 # where none are given, and is no part of tests/all.sh. A machine that is busy with other work shows its own delays here.
 
-[ $# -ge 1 ] && [ $# -le 2 ] || { sed -n '2,7s/^# \{0,1\}//p' "$0" >&2; exit 2; }
+root=$(dirname "$(dirname "$(realpath "$0")")")
+# shellcheck source=examples/words.sh
+. "$root/examples/words.sh"
+take_words 1 2 "$@"
 program=$(realpath "$1") || exit 2
 exec python3 - "$program" "${2:-3}" <<'PYTHON'
 import subprocess

@@ -5,6 +5,9 @@
 # The last line is `N passed, M failed`, and the status 0 where none failed.
 
 root=$(dirname "$(dirname "$(realpath "$0")")")
+# shellcheck source=examples/words.sh
+. "$root/examples/words.sh"
+take_words 0 0 "$@"
 page=$root/man/aes3.1
 # shellcheck source=tests/judging.sh
 . "$root/tests/judging.sh"

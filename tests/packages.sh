@@ -1,5 +1,5 @@
 #!/bin/sh
-# tests/packages.sh makes the Debian packages of what is built (bin/package --as-built), has lintian look at them, and installs them in
+# tests/packages.sh: makes the Debian packages of what is built (bin/package --as-built), has lintian look at them, and installs them in
 # a root made anew (mmdebstrap), with what they depend on and compilers, and nothing of this clone: there the program and its manual page,
 # the commands of README and tutorial over the examples that the package brought, the examples in C, C++, Python and Rust over the
 # packages, by pkg-config and CMake, the page for a browser and the links between the pages in HTML. Removed, they leave nothing.
@@ -8,6 +8,9 @@
 # wants a Debian, root's rights and a mirror of packages, and some minutes. The last line is `N passed, M failed`.
 
 root=$(dirname "$(dirname "$(realpath "$0")")")
+# shellcheck source=examples/words.sh
+. "$root/examples/words.sh"
+take_words 0 0 "$@"
 # shellcheck disable=SC1091
 release=$(. /etc/os-release && echo "${VERSION_CODENAME:-stable}")
 # shellcheck source=tests/judging.sh

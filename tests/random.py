@@ -6,6 +6,7 @@ and cut. Of these the sums of `watch --every` are compared with the lines of `ch
 `to-pcm --fill`, `to-pcm --exact` and `rewrite` with the block file of `decode`, `to-pcm --marked` with the cells, and each with what standard error has; `show --names` with the codes of alsa/asoundef.h, and what it prints with what `rewrite` sets by it; and `--lsb-first` with octets that are packed here. The last line is `N passed, M failed`.
 """
 
+import argparse
 import os
 import random
 import subprocess
@@ -265,11 +266,12 @@ def round_up_half(number, by):
 
 
 def main():
-    if not 2 <= len(sys.argv) <= 4:
-        sys.exit(__doc__)
-    program = os.path.realpath(sys.argv[1])
-    cases = int(sys.argv[2]) if len(sys.argv) > 2 else 40
-    seed = int(sys.argv[3]) if len(sys.argv) > 3 else 1
+    parser = argparse.ArgumentParser(description=__doc__, formatter_class=argparse.RawDescriptionHelpFormatter)
+    parser.add_argument("program", metavar="PROGRAM")
+    parser.add_argument("cases", metavar="CASES", nargs="?", type=int, default=40)
+    parser.add_argument("seed", metavar="SEED", nargs="?", type=int, default=1)
+    given = parser.parse_args()
+    program, cases, seed = os.path.realpath(given.program), given.cases, given.seed
     chance, passed, failed = random.Random(seed), 0, 0
     with open(f"{ROOT}/examples/speech.block", "rb") as file:
         speech = file.read()

@@ -1,5 +1,5 @@
 #!/bin/sh
-# tests/readme.sh PROGRAM [FILE..] runs the examples of README.md and docs/TUTORIAL.md, or of the FILEs, and compares
+# tests/readme.sh PROGRAM [FILE..]: runs the examples of README.md and docs/TUTORIAL.md, or of the FILEs, and compares
 # what they print with what stands there.
 #
 # An example is a line that begins with '$ ' in a block that begins with ```sh; what is expected, standard error with
@@ -10,8 +10,10 @@
 #
 # They may leave files in out/ alone. The last line is `N passed, M failed`, and the status 0 where each example printed what it should.
 
-[ $# -gt 0 ] || { sed -n '2,12s/^# \{0,1\}//p' "$0" >&2; exit 2; }
 root=$(dirname "$(dirname "$(realpath "$0")")")
+# shellcheck source=examples/words.sh
+. "$root/examples/words.sh"
+take_words 1 100 "$@"
 program=$(realpath "$1") || exit 2
 cells=$(realpath -m "${CELLS:-$root/crates/aes3_cells/out/aes3_cells}")
 spoil=$(realpath -m "${SPOIL:-$root/crates/aes3_spoil_program/out/aes3_spoil_program}")

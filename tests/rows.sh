@@ -1,7 +1,6 @@
 #!/bin/sh
-# Worked command lines: runs the program on the rows of tests/rows and compares all that it writes, byte for byte.
-#
-#   tests/rows.sh PROGRAM [FILE..]     prints a line for each row that fails, and then `N passed, M failed`
+# tests/rows.sh PROGRAM [FILE..]: worked command lines. Runs the program on the rows of tests/rows and compares all that it writes, byte for
+# byte. It prints a line for each row that fails, and then `N passed, M failed`.
 #
 # A row is a name, then indented lines, and ends at an empty line:
 #
@@ -19,10 +18,10 @@
 # lines from the line code, so that no expected value comes from the program. Where a recipe calls `aes3`, the row is a round
 # trip. `sum N LEN` as output gives the cksum and the length of the output, as an encoder of its own in Python made them.
 
-[ $# -gt 0 ] || {
-    sed -n '2,20s/^# \{0,1\}//p' "$0" >&2
-    exit 2
-}
+root=$(dirname "$(dirname "$(realpath "$0")")")
+# shellcheck source=examples/words.sh
+. "$root/examples/words.sh"
+take_words 1 100 "$@"
 program=$(realpath "$1") || exit 2
 shift
 here=$(dirname "$(realpath "$0")")

@@ -5,6 +5,7 @@ Each case (200 where no number is given) is some cells, 64 errors at most and pe
 ways of reading and writing cells. The last line is `N passed, M failed`.
 """
 
+import argparse
 import random
 import subprocess
 import sys
@@ -72,9 +73,12 @@ def spoiled(cells, errors):
 
 
 def main():
-    program = sys.argv[1]
-    cases = int(sys.argv[2]) if len(sys.argv) > 2 else 200
-    chance = random.Random(int(sys.argv[3]) if len(sys.argv) > 3 else 1)
+    parser = argparse.ArgumentParser(description=__doc__, formatter_class=argparse.RawDescriptionHelpFormatter)
+    parser.add_argument("program", metavar="PROGRAM")
+    parser.add_argument("cases", metavar="CASES", nargs="?", type=int, default=200)
+    parser.add_argument("seed", metavar="SEED", nargs="?", type=int, default=1)
+    given = parser.parse_args()
+    program, cases, chance = given.program, given.cases, random.Random(given.seed)
     passed = failed = 0
     for case in range(cases):
         count = chance.choice([0, 1, 63, 64, 65, 500, 5000, 30_000])

@@ -7,6 +7,9 @@
 # The last line is `N passed, M failed`, and the status 0 where none failed.
 
 root=$(dirname "$(dirname "$(realpath "$0")")")
+# shellcheck source=examples/words.sh
+. "$root/examples/words.sh"
+take_words 0 2 "$@"
 program=$(realpath -m "${1:-$root/crates/aes3_spoil_program/out/aes3_spoil_program}")
 aes3=$(realpath -m "${2:-$root/crates/aes3/out/aes3}")
 [ -x "$program" ] || {

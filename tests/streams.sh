@@ -3,8 +3,11 @@
 # the built program. The last line is `N passed, M failed`, and the status 0 where none failed. It needs /dev/full, and a shell
 # whose ulimit knows -v.
 
-program=$(realpath "$1") || exit 2
 root=$(dirname "$(dirname "$(realpath "$0")")")
+# shellcheck source=examples/words.sh
+. "$root/examples/words.sh"
+take_words 1 1 "$@"
+program=$(realpath "$1") || exit 2
 zero=$root/examples/zero.block
 folder=$(mktemp -d) || exit 1
 trap 'rm -rf "$folder"' EXIT

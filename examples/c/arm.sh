@@ -5,7 +5,10 @@
 # The last line is `N passed, M failed`; status 1 where one differs.
 here=$(dirname "$(realpath "$0")")
 root=$(realpath "$here/../..")
-program=$(realpath "${1:-$root/bin/aes3}") || exit 2
+# shellcheck source=examples/words.sh
+. "$here/../words.sh"
+take_words 0 1 "$@"
+find_program aes3 "${1:-$root/bin/aes3}"
 for tool in rt aarch64-linux-gnu-gcc qemu-aarch64; do
     command -v $tool >/dev/null || { echo "left out: the C library on 64-bit ARM ($tool is not installed)" && echo "0 passed, 0 failed" && exit 0; }
 done

@@ -4,7 +4,10 @@
 # that the header declares what the library has, and that each field stands where the header has it. PROGRAM is bin/aes3 where none is given, LIBRARY what `bin/build aes3_c` makes.
 # The last line is `N passed, M failed`; status 1 where one differs.
 here=$(dirname "$(realpath "$0")")
-program=$(realpath "${1:-$here/../../bin/aes3}") || exit 2
+# shellcheck source=examples/words.sh
+. "$here/../words.sh"
+take_words 0 2 "$@"
+find_program aes3 "${1:-$here/../../bin/aes3}"
 library=$(realpath "${2:-$here/../../crates/aes3_c/out/libaes3_c.a}") || exit 2
 [ -e "$library" ] || { echo "test: no $library; run bin/build aes3_c"; exit 2; }
 speech=$here/../speech.block

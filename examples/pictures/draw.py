@@ -8,6 +8,7 @@ COUNT cells from cell FROM on, with preambles (`scan`), time slots, their bits, 
 first words of the channel status of the block there (`show`) stand above.
 """
 
+import argparse
 import html
 import re
 import subprocess
@@ -22,7 +23,10 @@ COLOURS = {"preamble": "#cfe2ff", "sample": "#eef3ea", "V": "#fff1c9", "U": "#ff
 
 
 def told(program, command, text):
-    ran = subprocess.run([program, command], input=text, stdout=subprocess.PIPE, text=True)
+    try:
+        ran = subprocess.run([program, command], input=text, stdout=subprocess.PIPE, text=True)
+    except OSError as error:
+        sys.exit(f"draw.py: {program} can't be run: {error.strerror}")
     if ran.returncode > 1:
         sys.exit(ran.returncode)
     return ran.stdout.splitlines()
@@ -115,12 +119,21 @@ def draw_level(picture, cells):
 
 
 def main():
-    if len(sys.argv) != 4:
-        print(__doc__, file=sys.stderr)
-        return 2
-    program, first, count = sys.argv[1], int(sys.argv[2]), int(sys.argv[3])
-    text = sys.stdin.read()
+    parser = argparse.ArgumentParser(description=__doc__, formatter_class=argparse.RawDescriptionHelpFormatter)
+    parser.add_argument("program", metavar="PROGRAM")
+    parser.add_argument("first", metavar="FROM", type=int)
+    parser.add_argument("count", metavar="COUNT", type=int)
+    given = parser.parse_args()
+    program, first, count = given.program, given.first, given.count
+    if first < 0 or count < 1:
+        parser.error("FROM is a cell counted from 0, and COUNT at least 1")
+    try:
+        text = sys.stdin.read()
+    except UnicodeDecodeError:
+        sys.exit("draw.py: the input is no cell text")
     cells = re.sub(r"\s", "", text)
+    if first >= len(cells):
+        sys.exit(f"draw.py: the input has {len(cells):,} cells, and cell {first:,} is not among them")
     found = list(reports(told(program, "check", text)))
     marks = [line.split() for line in told(program, "scan", text)]
     marks = {int(it[3]): it[1] for it in marks}

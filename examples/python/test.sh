@@ -6,8 +6,12 @@
 # The last line is `N passed, M failed`; status 1 where one differs.
 here=$(dirname "$(realpath "$0")")
 root=$(realpath "$here/../..")
-program=$(realpath "${1:-$root/bin/aes3}") || exit 2
+# shellcheck source=examples/words.sh
+. "$here/../words.sh"
+take_words 0 2 "$@"
+find_program aes3 "${1:-$root/bin/aes3}"
 library=$(realpath "${2:-$root/crates/aes3_c/out/libaes3_c.a}") || exit 2
+[ -e "$library" ] || { echo "test: no $library; run bin/build aes3_c"; exit 2; }
 folder=$(mktemp -d) || exit 2
 trap 'rm -rf "$folder"' EXIT
 cd "$folder" || exit 2
@@ -91,7 +95,16 @@ shown() { # PYTHON
     "$1" shown.py >got && "$program" check <line.txt | cmp - got
 }
 
+# What each says of itself, and of a word that it does not know.
+rejects() { "$1" "$2" --no-such-word 2>said_why; [ $? = 2 ] && grep -q '^usage: ' said_why; }
+
 examples() { # PYTHON
+    for example in calls check user; do
+        judge "$example.py --help by $1" "$1" "$here/$example.py" --help
+        judge "$example.py with a word that it does not know by $1" rejects "$1" "$here/$example.py"
+    done
+    judge "user.py on a part of a block by $1" sh -c 'printf 12345 | "$0" "$1" user 2>said_why; [ $? = 1 ] && grep -q "^user.py: the input ends within a block" said_why' "$1" "$here/user.py"
+    judge "check.py on what is no cell text by $1" sh -c 'echo 012 | "$0" "$1" 2>said_why; [ $? = 1 ] && grep -q "^check.py: a character" said_why' "$1" "$here/check.py"
     judge "calls.py by $1" "$1" "$here/calls.py" "$speech" speech.packed "$version" "$check_byte"
     echo "run: $1, $(cat said)"
     judge "check.py by $1 on packed cells" tells "$1" speech.packed --packed-in

@@ -5,7 +5,10 @@
 # The last line is `N passed, M failed`; status 1 where one differs.
 here=$(dirname "$(realpath "$0")")
 root=$(realpath "$here/../..")
-program=$(realpath "${1:-$root/bin/aes3}") || exit 2
+# shellcheck source=examples/words.sh
+. "$here/../words.sh"
+take_words 0 2 "$@"
+find_program aes3 "${1:-$root/bin/aes3}"
 library=$(realpath "${2:-$root/crates/aes3_c/out/libaes3_c.a}") || exit 2
 [ -e "$library" ] || { echo "test: no $library; run bin/build aes3_c"; exit 2; }
 for tool in pkg-config cc; do

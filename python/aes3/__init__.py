@@ -2,7 +2,8 @@
 
 The library is that of the environment variable AES3_LIB, or the one that the system or this Python's prefix has (`bin/install`
 of the sources puts it there). Words come as any sequence of whole numbers, or without a copy as an array of numpy; where numpy
-is there, arrays are given back, of uint64 for cells and uint32 for a block's words, and else lists.
+is there, arrays are given back, of uint64 for cells, uint32 for a block's words and int32 for samples, and else lists. What is of another
+type is a TypeError, and a number out of range, or the wrong number of them, a ValueError.
 
     import aes3
 
@@ -15,6 +16,7 @@ Octets of a line that never ends need no words: `lock.take_octets(octets)` takes
 """
 
 import ctypes as c
+import operator
 import os
 import sys
 
@@ -106,7 +108,20 @@ _capture_cells = _declare(
 )
 
 
-# ---- arrays
+# ---- what calls are given
+
+
+class _Kind:
+    """Numbers in a row: what they are and one of them, the least and the greatest, how many octets an item of an array has at least."""
+
+    def __init__(self, what, name, least, greatest, octets, means):
+        self.what, self.name, self.least, self.greatest, self.octets = what, name, least, greatest, octets
+        self.wanted = f"{what} are whole numbers from {least:,} to {greatest:,} ({means})"
+
+
+_SAMPLES = _Kind("samples", "samples", -(2**31), 2**31 - 1, 4, "int32, the audio in the highest 24 bits: shift 16-bit samples left by 16")
+_BLOCK = _Kind("the words of a block", "words", 0, 2**32 - 1, 4, "uint32")
+_ROW = _Kind("words of cells", "words", 0, 2**64 - 1, 8, "uint64, 64 cells a word: take_octets takes octets")
 
 
 def _out(array):
@@ -114,37 +129,116 @@ def _out(array):
     return numpy.array(array) if numpy else list(array)
 
 
+def _named(value):
+    """What a message calls a value: its type, and that of the items of an array."""
+    items = getattr(value, "dtype", None) or getattr(value, "typecode", None)
+    name = type(value).__name__
+    return f"{name} of {items}" if items else name
+
+
+def _number(value, what, least, greatest, means=""):
+    """A whole number within bounds."""
+    wanted = f"{what} is {least} or {greatest}" if greatest == least + 1 else f"{what} is a whole number from {least:,} to {greatest:,}{means}"
+    try:
+        number = operator.index(value)
+    except TypeError:
+        raise TypeError(f"{wanted}, not {_named(value)}") from None
+    if not least <= number <= greatest:
+        raise ValueError(f"{wanted}, not {number:,}")
+    return number
+
+
+def _memory(values):
+    """The view of an array or other memory, or None of what is a plain sequence."""
+    try:
+        return memoryview(values)
+    except (TypeError, ValueError, BufferError):
+        return None
+
+
+def _check_items(values, kind):
+    """Memory has whole numbers of the size in one row, whatever they are."""
+    view = _memory(values)
+    if view is None and not hasattr(values, "dtype"):
+        return
+    if view is None or view.format[-1] not in "bBhHiIlLqQnN" or view.itemsize < kind.octets:
+        raise TypeError(f"{kind.wanted}, not {_named(values)}")
+    if view.ndim != 1:
+        raise ValueError(f"{kind.what} are one row, not {view.ndim} dimensions")
+
+
+def _numbers(values, kind):
+    """The list of the whole numbers of a sequence or an array, each of a kind."""
+    _check_items(values, kind)
+    numbers = []
+    try:
+        for value in values:
+            numbers.append(operator.index(value))
+    except TypeError:
+        wrong = value if hasattr(values, "__iter__") else values
+        raise TypeError(f"{kind.wanted}, not {_named(wrong)}") from None
+    for each in (min(numbers, default=0), max(numbers, default=0)):
+        if not kind.least <= each <= kind.greatest:
+            raise ValueError(f"{kind.wanted}, not {each:,}")
+    return numbers
+
+
+def _block_of(values, kind):
+    """The same where they are those of a block."""
+    numbers = _numbers(values, kind)
+    if len(numbers) != 384:
+        raise ValueError(f"a block has 384 {kind.name}, not {len(numbers):,}")
+    return numbers
+
+
 def _cells_in(words):
     """Words of cells in one piece of memory, as a ctypes array over it."""
-    if numpy:
-        array = numpy.ascontiguousarray(words, dtype=numpy.uint64)
-        if array.ndim != 1:
-            raise ValueError("words of cells are one row")
-        found = (c.c_uint64 * len(array)).from_address(array.ctypes.data) if len(array) else (c.c_uint64 * 0)()
-        found.owner = array
-        return found
-    return (c.c_uint64 * len(words))(*words)
+    _check_items(words, _ROW)
+    if not numpy or _memory(words) is None:
+        words = _numbers(words, _ROW)
+        return (c.c_uint64 * len(words))(*words)
+    words = numpy.asarray(words)
+    if words.dtype.kind == "i" and len(words) and words.min() < 0:
+        raise ValueError(f"{_ROW.wanted}, not {words.min():,}")
+    array = numpy.ascontiguousarray(words, dtype=numpy.uint64)
+    found = (c.c_uint64 * len(array)).from_address(array.ctypes.data) if len(array) else (c.c_uint64 * 0)()
+    found.owner = array
+    return found
 
 
-def _octets_in(octets):
+def _octets_in(octets, what="octets"):
     """Octets in one piece of memory: that memory, where it is, and how many they are."""
+    wanted = f"{what} are bytes, an array of uint8, or whole numbers from 0 to 255"
+    view = _memory(octets)
+    if view is None:
+        is_wrong = isinstance(octets, (int, str)) or hasattr(octets, "dtype")
+    else:
+        is_wrong = view.format[-1] not in "Bc" or view.ndim == 0
+    if is_wrong:
+        raise TypeError(f"{wanted}, not {_named(octets)}")
     if numpy and isinstance(octets, numpy.ndarray):
-        array = numpy.ascontiguousarray(octets, dtype=numpy.uint8)
+        array = numpy.ascontiguousarray(octets)
         return array, array.ctypes.data, array.size
-    octets = bytes(octets)
+    try:
+        octets = bytes(octets)
+    except (TypeError, ValueError) as error:
+        raise type(error)(f"{wanted}: {error}") from None
     return octets, octets, len(octets)
 
 
+def _bytes_in(octets, what):
+    return bytes(_octets_in(octets, what)[0])
+
+
 def _block_in(words):
-    if len(words) != 384:
-        raise ValueError("a block has 384 words")
-    return _Words(*map(int, words))
+    return _Words(*_block_of(words, _BLOCK))
 
 
-def _status_in(status):
-    if len(status) != 24:
-        raise ValueError("a channel status has 24 bytes")
-    return _Status(*status)
+def _status_in(status, what="a channel status"):
+    octets = _bytes_in(status, f"the 24 bytes of {what}")
+    if len(octets) != 24:
+        raise ValueError(f"{what} has 24 bytes, not {len(octets):,}")
+    return _Status(*octets)
 
 
 # ---- cells in other forms
@@ -160,7 +254,7 @@ def _words(cells, count):
 
 def words_of_text(text):
     """The words of 64 cells of a text of `0` and `1`, and the word and number of the cells left, as push takes them."""
-    text = text.encode() if isinstance(text, str) else bytes(text)
+    text = text.encode() if isinstance(text, str) else _bytes_in(text, "cells as text")
     text = text.translate(None, delete=b"\n\r ")
     if text.strip(b"01"):
         raise ValueError("a character that is no cell")
@@ -171,7 +265,7 @@ def words_of_text(text):
 
 def words_of_packed(octets):
     """The same of packed cells, eight an octet, of which the last octet counts the unused ones."""
-    octets = bytes(octets)
+    octets = _bytes_in(octets, "packed cells")
     if not octets or octets[-1] > 7 or (octets[-1] and len(octets) == 1):
         raise ValueError("packed cells end with the number of unused cells, 0 to 7")
     if octets[-1] and octets[-2] % (1 << octets[-1]):
@@ -205,9 +299,9 @@ def library_version():
 
 
 def encode_block(words, before=0):
-    """The 384 words of cells of a block of 384 words; ValueError where a word is not lawful."""
-    cells = _Cells()
-    _lawful(_encode_block(c.byref(_block_in(words)), before, c.byref(cells)))
+    """The 384 words of cells of a block of 384 words, behind a cell of the level 0 or 1; ValueError where a word is not lawful."""
+    block, before, cells = _block_in(words), _number(before, "the level before a block", 0, 1), _Cells()
+    _lawful(_encode_block(c.byref(block), before, c.byref(cells)))
     return _out(cells)
 
 
@@ -219,11 +313,9 @@ def block_samples(words):
 
 
 def block_of_samples(samples):
-    """The words of the block of such samples, whose lowest 8 bits don't count, with V, U and C 0."""
-    if len(samples) != 384:
-        raise ValueError("a block has 384 samples")
+    """The words of the block of such samples, int32, whose lowest 8 bits don't count, with V, U and C 0."""
     words = _Words()
-    _block_of_samples(c.byref(_Samples(*map(int, samples))), c.byref(words))
+    _block_of_samples(c.byref(_Samples(*_block_of(samples, _SAMPLES))), c.byref(words))
     return _out(words)
 
 
@@ -257,21 +349,16 @@ def with_user(words, channel, bits):
     return _with_bits("user", words, channel, bits)
 
 
-def _channel(number):
-    if number not in (1, 2):
-        raise ValueError("the channels are 1 and 2")
-    return number
-
-
 def _bits_of(name, words, channel):
-    bits = _Status()
-    _lawful(_bits[name, False](c.byref(_block_in(words)), _channel(channel), c.byref(bits)))
+    block, channel, bits = _block_in(words), _number(channel, "a channel", 1, 2), _Status()
+    _lawful(_bits[name, False](c.byref(block), channel, c.byref(bits)))
     return bytes(bits)
 
 
 def _with_bits(name, words, channel, bits):
-    block = _block_in(words)
-    _lawful(_bits[name, True](c.byref(block), _channel(channel), c.byref(_status_in(bits))))
+    block, channel = _block_in(words), _number(channel, "a channel", 1, 2)
+    bits = _status_in(bits, "a channel status" if name == "status" else f"a channel's {name}")
+    _lawful(_bits[name, True](c.byref(block), channel, c.byref(bits)))
     return _out(block)
 
 
@@ -295,9 +382,10 @@ def cells_of_samples(samples, bit=0, unit=1, period=0):
     A sample has `unit` octets, 1 or 2, the lower first; a cell is `period` 65,536ths of a sample, or is measured. What was found is a
     dict by the names of aes3.h: `measured` is 0 where no line was. The cells are then by `period` alone, if it was given, and unconfirmed.
     """
-    if unit not in (1, 2) or bit not in range(8 * unit):
-        raise ValueError("a sample has one octet and bits 0 to 7, or two and bits 0 to 15")
-    owner, at, count = _octets_in(samples)
+    unit = _number(unit, "the number of octets of a sample", 1, 2)
+    bit = _number(bit, "the bit of a sample", 0, 8 * unit - 1)
+    period = _number(period, "the period of a cell", 0, 2**64 - 1, ", in 65,536ths of a sample")
+    owner, at, count = _octets_in(samples, "the octets of samples")
     room, found = (c.c_uint8 * (count // 4 + 64))(), _Capture()
     if not _capture_cells(at, count, unit, bit, period, room, len(room), c.byref(found)):
         raise ValueError("the cells are more than samples can have")
@@ -367,9 +455,7 @@ class Lock:
 
     def push(self, word, count):
         """The list of the reports that the first `count` cells of a word decide."""
-        if not 0 <= count <= 64:
-            raise ValueError("a word has 64 cells")
-        word, reports = int(word), []
+        word, count, reports = _number(word, "a word of cells", 0, 2**64 - 1), _number(count, "the number of cells of a word", 0, 64), []
         while count:
             told = _Report()
             taken = _push(c.byref(self._lock), word, count, c.byref(told))
@@ -410,15 +496,20 @@ class Account:
 
     def before(self, report):
         """The list of the gaps before a report. Each report of the lock goes here in turn, and is told then."""
-        told = _Report(at=report.at, cell=report.cell, wrong=report.wrong, kind=report.kind, before=report.before, why=report.why)
+        if not isinstance(report, Report):
+            raise TypeError(f"a gap is before a Report of a lock, not before {_named(report)}")
+        place, cell = (_number(it, "a place", 0, 2**64 - 1) for it in (report.at, report.cell))
+        told = _Report(at=place, cell=cell, wrong=report.wrong, kind=report.kind, before=report.before, why=report.why)
         return self._gaps(lambda gap: _before(c.byref(self._account), c.byref(told), gap))
 
     def passed(self, seen):
         """The list of the gaps that stand whatever follows the `seen` cells, all of whose reports were told."""
+        seen = _number(seen, "the number of cells", 0, 2**64 - 1)
         return self._gaps(lambda gap: _passed(c.byref(self._account), seen, gap))
 
     def end(self, seen):
         """The list of all gaps that are left at the end of the `seen` cells, all of whose reports were told."""
+        seen = _number(seen, "the number of cells", 0, 2**64 - 1)
         return self._gaps(lambda gap: _end(c.byref(self._account), seen, gap))
 
     @staticmethod

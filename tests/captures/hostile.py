@@ -5,6 +5,7 @@ First runs of any length, from one sample to a dead line, with pieces of a line 
 end by itself, with 0, or with 1 where it finds no line, and to write no more cells than samples. Then runs of two cells and more at a given
 rate: each has to come back as so many cells as passed in its time, or one more or fewer. The last line is `N passed, M failed`.
 """
+import argparse
 import subprocess
 import sys
 
@@ -71,4 +72,8 @@ def main(program, count):
 
 
 if __name__ == "__main__":
-    sys.exit(main(sys.argv[1], int(sys.argv[2]) if len(sys.argv) > 2 else 10_000_000))
+    parser = argparse.ArgumentParser(description=__doc__, formatter_class=argparse.RawDescriptionHelpFormatter)
+    parser.add_argument("program", metavar="PROGRAM")
+    parser.add_argument("pieces", metavar="PIECES", nargs="?", type=int, default=10_000_000)
+    given = parser.parse_args()
+    sys.exit(main(given.program, given.pieces))

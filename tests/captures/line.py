@@ -11,7 +11,7 @@
     noise=1    the other bits are chance                                  seed=N     another chance (1)
     sent=FILE  the blocks of the line, as a block file                    silence=1  each bit is 0
 """
-import sys
+import argparse
 
 import numpy as np
 
@@ -72,4 +72,12 @@ def main(words):
 
 
 if __name__ == "__main__":
-    main(sys.argv[1:]) if len(sys.argv) > 2 else sys.exit(__doc__)
+    parser = argparse.ArgumentParser(description=__doc__, formatter_class=argparse.RawDescriptionHelpFormatter)
+    for name, count in (("SAMPLES_A_CELL", None), ("CAPTURE", None), ("NAME=VALUE", "*")):
+        parser.add_argument(name, nargs=count)
+    given = vars(parser.parse_args())
+    known = "blocks words rms uniform late drift sine lead bit unit noise seed sent silence".split()
+    unknown = [it for it in given["NAME=VALUE"] if it.partition("=")[0] not in known]
+    if unknown:
+        parser.error(f"nothing is called {unknown[0]}")
+    main([given["SAMPLES_A_CELL"], given["CAPTURE"], *given["NAME=VALUE"]])

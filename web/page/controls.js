@@ -16,16 +16,16 @@ function listenToFiles(page) {
     body.addEventListener("drop", event => {
         event.preventDefault();
         at("drop").className = "";
-        event.dataTransfer.files.length > 0 && page.open(event.dataTransfer.files[0]);
+        event.dataTransfer.files.length > 0 && page.choose(event.dataTransfer.files[0]);
     });
-    at("file").addEventListener("change", () => at("file").files.length > 0 && page.open(at("file").files[0]));
+    at("file").addEventListener("change", () => at("file").files.length > 0 && page.choose(at("file").files[0]));
     // So that the same file is read again where it was written anew.
     at("file").addEventListener("click", () => at("file").value = "");
     for (const id of ["form", "unit", "channel"]) {
         at(id).addEventListener("change", () => page.reopen());
     }
     at("rate").addEventListener("change", () => page.found && (page.showTimes(), page.levels(page.first)));
-    at("example").addEventListener("click", () => page.open(exampleFile(page.codec)));
+    at("example").addEventListener("click", () => page.choose(exampleFile(page.codec)));
     at("save-wav").addEventListener("click", () => saveWav(page));
     at("save-blocks").addEventListener("click", () => saveBlocks(page));
     at("save-account").addEventListener("click", () => saveAccount(page));

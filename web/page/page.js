@@ -26,11 +26,20 @@ const FORMS = { text: "text", packed: "packed", "packed-low": "packed, the lowes
 class Page {
     constructor(codec) {
         this.codec = codec;
-        this.found = null;
+        this.file = this.found = null;
         this.turns = new Turns();
         this.first = this.count = 0; // the first cell of the levels, and how many are shown
         this.most = MOST_FAULTS;
         listen(this);
+    }
+
+    /* Opens a file that was chosen. What the menu says of the form is so of the file that was open before, and this one's is looked for. */
+    choose(file) {
+        if (this.file) {
+            at("form").value = "look";
+            at("samples").hidden = true;
+        }
+        return this.open(file);
     }
 
     async open(file) {
