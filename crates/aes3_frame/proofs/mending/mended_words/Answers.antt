@@ -28,8 +28,11 @@ loop-slot-preserved c =
           c.mended_word-word.ensures.lawful (i.lawful k);
       held = search (rules, i.other);
       other = search (rules, c.mended_word-word.ensures.lawful);
-      made = search (rules, made-more c.args.fill c.loop-slot.held c.loop-slot.other word c.loop-slot.words c.args.cells.now
-          c.loop-slot.slot _ (omega arith) (omega arith) c.mended_word-word.ensures.payload i.made);
+      made = search (
+        rules,
+        made-more c.args.fill c.loop-slot.held c.loop-slot.other word c.loop-slot.words c.args.cells.now
+            c.loop-slot.slot _ (omega arith) (omega arith) c.mended_word-word.ensures.payload i.made,
+      );
     }
 
 pub returns-clause-lawful : goal.returns-clause-lawful
