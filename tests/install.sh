@@ -104,11 +104,17 @@ if [ -e "$to/lib/libaes3.so.1" ]; then
         judge "the soname" grep -q 'soname: \[libaes3.so.1\]' "$work/dynamic"
     fi
     cc -I"$to/include" -o "$work/version" "$work/version.c"
-    sed -n '/^```c$/,/^```$/p' "$root/README.md" | sed '/^```/d' >"$work/readme.c"
-    judge "the example of the README" cc -std=c99 -Wall -Wextra -pedantic -Werror -I"$to/include" -fsyntax-only "$work/readme.c"
-    # The first is a whole program; a later one is a part of one.
-    awk '/^```c$/ { inside = 1; next } /^```$/ && inside { exit } inside' "$root/docs/C.md" >"$work/c.c"
-    judge "the example of docs/C.md" cc -std=c99 -Wall -Wextra -pedantic -Werror -I"$to/include" -fsyntax-only "$work/c.c"
+    # Those that include the header are whole files; the others are parts of one.
+    awk -v to="$work/example" '
+        /^```c$/ { inside = 1; next }
+        /^```/ { inside = name = 0; next }
+        inside && /^#include "aes3.h"$/ { name = to (++count) ".c" }
+        name { print > name }
+    ' "$root/docs/C.md"
+    judge "docs/C.md has two examples that are whole files" test -e "$work/example2.c"
+    for example in "$work"/example*.c; do
+        judge "$(basename "$example") of docs/C.md" cc -std=c99 -Wall -Wextra -pedantic -Werror -I"$to/include" -fsyntax-only "$example"
+    done
     judge "the version of the header" test "$("$work/version")" = "$version $version"
     sed 's/state\[388\]/state[389]/' "$to/include/aes3.h" >"$work/aes3.h"
     echo '#include "aes3.h"' >"$work/size.c"
