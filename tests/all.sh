@@ -1,6 +1,6 @@
 #!/bin/sh
 # tests/all.sh [PROGRAM]: all that is run with a built program, with bin/aes3's where none is given: how bin/aes3 and bin/build have it built, the worked rows, the machine's own
-# streams, refused memory, the examples of help, README and tutorial, the manual page, the shells' completions, the pictures and
+# streams, refused memory, the examples of help, README, tutorial and docs/COMMANDS.md, the manual page, the shells' completions, the pictures and
 # the figures of the books, captures with jitter, errors put in on purpose, round trips with other programs, the examples from C (also
 # for 64-bit ARM), C++, Python and Rust, and of the page in a browser, and the Debian packages in a root of their own.
 #

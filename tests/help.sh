@@ -1,7 +1,7 @@
 #!/bin/sh
 # tests/help.sh PROGRAM: runs the examples that the program's help and that of each command show, in the order of the
 # program's own help first: each has to end with status 0 and to say nothing on standard error but what is remarked on a job. Those that need sox are left
-# out, and told, where it isn't installed. What `--explain` prints has to stand in the README's table of refusals, word for word.
+# out, and told, where it isn't installed. What `--explain` prints has to stand in the table of refusals of docs/COMMANDS.md, word for word.
 #
 # The last line is `N passed, M failed`, and the status 0 where none failed.
 
@@ -43,11 +43,11 @@ while IFS= read -r line; do
 done <"$work/all"
 aes3 --explain | sed 's/^[0-9]*: //; s/^ *//' >"$work/sentences"
 # In a table a bar is written so.
-sed 's/\\|/|/g' "$root/README.md" >"$work/readme"
+sed 's/\\|/|/g' "$root/docs/COMMANDS.md" >"$work/page"
 while IFS= read -r sentence; do
-    grep -qF -e "$sentence" "$work/readme" && { passed=$((passed + 1)); continue; }
+    grep -qF -e "$sentence" "$work/page" && { passed=$((passed + 1)); continue; }
     failed=$((failed + 1))
-    echo "not in the README: $sentence" >&2
+    echo "not in docs/COMMANDS.md: $sentence" >&2
 done <"$work/sentences"
 echo "$passed passed, $failed failed"
 [ "$failed" = 0 ] && [ "$passed" -gt 0 ]

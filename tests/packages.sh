@@ -1,7 +1,7 @@
 #!/bin/sh
 # tests/packages.sh: makes the Debian packages of what is built (bin/package --as-built), has lintian look at them, and installs them in
 # a root made anew (mmdebstrap), with what they depend on and compilers, and nothing of this clone: there the program and its manual page,
-# the commands of README and tutorial over the examples that the package brought, the examples in C, C++, Python and Rust over the
+# the commands of README, tutorial and docs/COMMANDS.md over the examples that the package brought, the examples in C, C++, Python and Rust over the
 # packages, by pkg-config and CMake, the page for a browser and the links between the pages in HTML. Removed, they leave nothing.
 #
 # With AES3_ROOT in the environment the root is that folder's, which has to be one that a run of this made with AES3_ROOT=FOLDER. It
@@ -62,7 +62,7 @@ judge "the linker knows the library" inside "ldconfig -p | grep -q libaes3.so.1"
 judge "the page for a browser" cmp "$place/usr/share/doc/aes3/aes3.html" "$root/web/aes3.html"
 
 # What the pages name is in the package: each file below examples/ that a command of them has.
-grep -ohE 'examples/[a-z]+/[a-z_.]+|examples/[a-z]+\.block' "$root/README.md" "$root/docs/TUTORIAL.md" | grep -v '^examples/own/' | sort -u >"$work/named"
+grep -ohE 'examples/[a-z]+/[a-z_.]+|examples/[a-z]+\.block' "$root/README.md" "$root/docs/TUTORIAL.md" "$root/docs/COMMANDS.md" | grep -v '^examples/own/' | sort -u >"$work/named"
 grep -ohE '`(many|watch|neighbours)/[a-z0-9_@.-]+' "$root/examples/README.md" | sed 's/^`/examples\//' | grep -v '/run$' | sort -u >>"$work/named"
 while IFS= read -r file; do
     judge "$file" test -e "$place/usr/share/doc/aes3/$file"
@@ -88,12 +88,12 @@ else
     inside "rm -f /usr/bin/parallel"
 fi
 
-# The commands of README and tutorial, over the package's examples.
+# The commands of README, tutorial and docs/COMMANDS.md, over the package's examples.
 cp "$root/README.md" "$place/walk"
-cp "$root/docs/TUTORIAL.md" "$place/walk/docs"
+cp "$root/docs/TUTORIAL.md" "$root/docs/COMMANDS.md" "$place/walk/docs"
 cp "$root/tests/readme.sh" "$place/walk/tests"
 cp -r "$place/usr/share/doc/aes3/examples" "$place/walk/examples"
-judge "the commands of README and tutorial" inside "CELLS=/usr/bin/aes3-cells SPOIL=/usr/bin/aes3-spoil sh tests/readme.sh /usr/bin/aes3"
+judge "the commands of README, tutorial and docs/COMMANDS.md" inside "CELLS=/usr/bin/aes3-cells SPOIL=/usr/bin/aes3-spoil sh tests/readme.sh /usr/bin/aes3"
 grep -aE '^left out: |passed' "$work/said" | sed 's/^left out: /left out, in a root of its own: /'
 
 brought=$place/usr/share/doc

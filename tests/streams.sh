@@ -200,7 +200,7 @@ else
     wrong "no limit at which memory was refused"
 fi
 
-# What the README says that a run needs is enough, for each command.
+# What docs/COMMANDS.md says that a run needs is enough, for each command.
 "$program" encode < "$zero" > "$folder/cells"
 for command in check 'check --gaps' watch normal decode show scan to-pcm 'cut 0 1' 'rewrite --mend-check'; do
     # shellcheck disable=SC2086 # a command is several words
