@@ -19,8 +19,11 @@ overflow_sub-len c =
 
 pub loop-gaps-preserved : goal.loop-gaps-preserved
 loop-gaps-preserved c =
-    search (rules, closing-more c.args.kept c.args.levels c.loop-gaps.gaps c.loop-gaps.word c.loop-gaps.len (omega arith)
-    c.loop-gaps.invariant)
+    search (
+      rules,
+      closing-more c.args.kept c.args.levels c.loop-gaps.gaps c.loop-gaps.word c.loop-gaps.len (omega arith)
+          c.loop-gaps.invariant,
+    )
 
 pub invariant_of-result : goal.invariant_of-result
 invariant_of-result c = record { few = c.loop-gaps.invariant.few; bound = c.loop-gaps.invariant.word_bound }

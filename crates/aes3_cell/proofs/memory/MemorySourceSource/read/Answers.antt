@@ -5,6 +5,9 @@ use Rattle.aes3_cell.proofs.memory.MemorySourceSource.read.Goals as goal
 
 pub returns-clause-bytes : goal.returns-clause-bytes
 returns-clause-bytes c =
-    search (rules, grew-take c.args.self.now.bytes.now c.args.self.now.at c.smallest-n.result
-    c.copy_from_slice.new.self (drop (length c.copy_from_slice.new.self) c.args.buf.now)
-    (c.copy_from_slice.ensures.after) (c.copy_from_slice.ensures.len ∙ length-take-le _ _ (omega arith)))
+    search (
+      rules,
+      grew-take c.args.self.now.bytes.now c.args.self.now.at c.smallest-n.result
+          c.copy_from_slice.new.self (drop (length c.copy_from_slice.new.self) c.args.buf.now)
+          (c.copy_from_slice.ensures.after) (c.copy_from_slice.ensures.len ∙ length-take-le _ _ (omega arith)),
+    )
