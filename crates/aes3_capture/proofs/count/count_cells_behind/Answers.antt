@@ -1,4 +1,4 @@
-use Rattle.std.proofs.Common.{arith, refl, sym, ◌∙◌}
+use Rattle.std.proofs.Common.{arith, refl, sym, ◌∙◌, rules}
 use Rattle.aes3_capture.proofs.Counts.{left-at, counted-all, captures-late}
 use Rattle.aes3_capture.proofs.count.count_cells_behind.Goals as goal
 
@@ -20,10 +20,13 @@ pub loop-i-preserved : goal.loop-i-preserved
 loop-i-preserved c = (
   c.run.ensures.bounds ∙ c.loop-i.invariant.0,
   λ counts same other displaced follows captures.
-      left-at c.loop-i.follower c.run.new.self c.args.follower.bounds c.loop-i.cells counts c.args.runs.now c.loop-i.i
-      c.run.result c.loop-i-test.true
-      (c.loop-i.auto.cells ∙ sym c.requires.room) c.loop-i.invariant.0 c.run.ensures.line
-      (c.loop-i.invariant.1 counts same other displaced follows captures),
+      search (
+        rules,
+        left-at c.loop-i.follower c.run.new.self c.args.follower.bounds c.loop-i.cells counts c.args.runs.now
+            c.loop-i.i c.run.result c.loop-i-test.true
+            (c.loop-i.auto.cells ∙ sym c.requires.room) c.loop-i.invariant.0 c.run.ensures.line
+            (c.loop-i.invariant.1 counts same other displaced follows captures),
+      ),
 )
 
 pub returns-clause-mean : goal.returns-clause-mean

@@ -1,4 +1,4 @@
-use Rattle.std.proofs.Common.{[], ◌∷◌, ◌++◌, ◌∙◌, sym, ap}
+use Rattle.std.proofs.Common.{[], ◌∷◌, ◌++◌, ◌∙◌, sym, ap, rules}
 use Rattle.aes3_level.specs.Words.{low_cells}
 use Rattle.aes3_level.proofs.WordCells.{low_cells-low, low_cells-high, with_bit-lt}
 use Rattle.aes3_cell.proofs.word.with_cell.Goals as goal
@@ -10,7 +10,7 @@ returns-in-Low-clause-cells c =
 
 pub returns-in-High-clause-cells : goal.returns-in-High-clause-cells
 returns-in-High-clause-cells c =
-    low_cells-high c.args.len c.args.word c.requires.few
+    search (rules, low_cells-high c.args.len c.args.word c.requires.few)
     ∙ ap (λ l. low_cells c.args.len c.args.word ++ l ∷ []) (sym c.in-High.is)
 
 pub returns-in-High-clause-bound : goal.returns-in-High-clause-bound

@@ -1,11 +1,11 @@
-use Rattle.std.proofs.Common.{ap, Some, arith}
+use Rattle.std.proofs.Common.{ap, Some, arith, rules}
 use Rattle.aes3_cell.proofs.TextWords.{cell-bytes, word-text, all-set, word-owed}
 use Rattle.aes3_cell.proofs.word.word_of_text.Goals as goal
 
 pub returns-then-high-low-clause-cells : goal.returns-then-high-low-clause-cells
 returns-then-high-low-clause-cells c =
     word-text c.args.bytes.now c.equal_to-high.result c.equal_to-low.result c.told-bytes c.equal_to-high.ensures
-    c.equal_to-low.ensures c.if-high-low.true
+    (search (rules, c.equal_to-low.ensures)) c.if-high-low.true
 
 pub returns-then-high-low-clause-owed : goal.returns-then-high-low-clause-owed
 returns-then-high-low-clause-owed c = λ w f e.
@@ -16,5 +16,5 @@ pub returns-else-high-low-clause-owed : goal.returns-else-high-low-clause-owed
 returns-else-high-low-clause-owed c = λ w f e.
     absurd (c.if-high-low.false
     (all-set c.args.bytes.now c.equal_to-high.result c.equal_to-low.result c.told-bytes c.equal_to-high.ensures
-    c.equal_to-low.ensures (omega arith) (omega arith)
+    (search (rules, c.equal_to-low.ensures)) (omega arith) (omega arith)
     (λ i g. cell-bytes c.args.bytes.now w i e g)))

@@ -1,5 +1,4 @@
-use borrow.Rule.Slice.PartMut.{mid_of}
-use Rattle.std.proofs.Common.{rules, arith, ◌≡◌, drop, take, length-drop, ap, sym, ◌∙◌}
+use Rattle.std.proofs.Common.{rules, arith, drop, length-drop, ap, sym, ◌∙◌}
 use Rattle.std.proofs.lemmas.List.{take_all}
 use Rattle.aes3_frame.specs.declared.fill.Fill.{Fill}
 use Rattle.aes3_engine.specs.Filling.{filling}
@@ -12,7 +11,6 @@ returns-in-Zero c = λ b e. zero-frame b ∙ sym (ap (λ (f : Fill). filling f b
 pub returns-in-Hold : goal.returns-in-Hold
 returns-in-Hold c = λ b e.
     let s = c.args.samples.now in
-    let m : mid_of 1528 8 s ≡ take 8 (drop 1528 s) = search rules in
     let n = length-drop 1528 s in
-    c.copy_from_slice.ensures.after ∙ m ∙ take_all 8 (drop 1528 s) (omega arith) ∙ ap (drop 1528) e ∙ last-frame b
+    c.copy_from_slice.ensures.after ∙ search rules ∙ take_all 8 (drop 1528 s) (omega arith) ∙ ap (drop 1528) e ∙ last-frame b
     ∙ sym (ap (λ (f : Fill). filling f b) c.in-Hold.is)

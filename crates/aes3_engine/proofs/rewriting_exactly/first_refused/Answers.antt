@@ -1,4 +1,4 @@
-use Rattle.std.proofs.Common.{◌∙◌}
+use Rattle.std.proofs.Common.{◌∙◌, rules}
 use Rattle.aes3_frame.specs.declared.status.Channel.TheVariants.{First, Second}
 use Rattle.aes3_engine.proofs.RewritingExactly.{both-refused, rising-met}
 use Rattle.aes3_engine.proofs.rewriting_exactly.first_refused.Goals as goal
@@ -7,4 +7,4 @@ pub returns : goal.returns
 returns c = λ xs r h.
     c.earlier.ensures
     ∙ both-refused c.args.change.now xs r (c.first_refused_in.ensures First xs (rising-met First 0 xs r) h.first)
-    (c.first_refused_in-2.ensures Second xs (rising-met Second 0 xs r) h.second)
+    (c.first_refused_in-2.ensures Second xs (search (rules, rising-met Second 0 xs r)) (search (rules, h.second)))

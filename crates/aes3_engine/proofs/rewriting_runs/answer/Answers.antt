@@ -1,3 +1,4 @@
+use Rattle.std.proofs.Common.{rules}
 use Rattle.aes3_frame.specs.declared.status.Channel.TheVariants.{First, Second}
 use Rattle.aes3_lock.specs.Reports.{blocks}
 use Rattle.aes3_input.specs.Inputs.{cells_of}
@@ -10,5 +11,5 @@ returns c = λ form b n m t h.
     let count = blocks-count (cells_of form b) t.blocks_is in
     let met = met-blocks (cells_of form b) h in
     answer-is form c.args.change.now b (counted form b _ _ _ _ _ n m t)
-    (c.taken_in.ensures First (blocks (cells_of form b)) count met.first)
-    (c.taken_in-2.ensures Second (blocks (cells_of form b)) count met.second)
+    (search (rules, c.taken_in.ensures First (blocks (cells_of form b)) count met.first))
+    (search (rules, c.taken_in-2.ensures Second (blocks (cells_of form b)) count met.second))

@@ -1,18 +1,19 @@
-use Rattle.std.proofs.Common.{◌∙◌, ◌*◌, drop, length-drop, sym, arith}
+use Rattle.std.proofs.Common.{◌∙◌, ◌*◌, drop, length-drop, sym, arith, rules}
 use Rattle.aes3_pcm.proofs.Formats.{zeros-next, zeros-not, zeros-short}
 use Rattle.aes3_pcm.proofs.fitting.seconds_are_zero.Goals as goal
 
 pub returns-then-samples-i-ne0 : goal.returns-then-samples-i-ne0
 returns-then-samples-i-ne0 c =
     let t = c.loop-i-test.true in
-    sym (c.loop-i.invariant.done ∙ zeros-not c.args.samples.now c.loop-i.i (omega arith) c.if-samples-i-ne0.true)
+    sym (c.loop-i.invariant.done ∙ zeros-not c.args.samples.now c.loop-i.i (omega arith)
+    (search (rules, c.if-samples-i-ne0.true)))
 
 pub loop-i-preserved : goal.loop-i-preserved
 loop-i-preserved c =
     let t = c.loop-i-test.true in
     record {
       done = c.loop-i.invariant.done
-          ∙ zeros-next c.args.samples.now c.loop-i.i (omega arith) c.if-samples-i-ne0.false;
+          ∙ zeros-next c.args.samples.now c.loop-i.i (omega arith) (search (rules, c.if-samples-i-ne0.false));
     }
 
 pub returns : goal.returns

@@ -1,4 +1,4 @@
-use Rattle.std.proofs.Common.{◌∙◌, ap, arith}
+use Rattle.std.proofs.Common.{◌∙◌, ap, arith, rules}
 use Rattle.std.specs.Prelude.{if◌then◌else◌}
 use Rattle.aes3_slot.specs.declared.mark.Mark.TheVariants.{X, Y, Z}
 use Rattle.aes3_slot.specs.Preambles.{unlike_at, with_seven}
@@ -13,8 +13,11 @@ returns-clause-x c = λ k h.
     record { is = c.unlike-sixth.ensures k h } in
     let g : Says c.unlike-seventh.result k (unlike_at (with_seven c.args.cells c.args.next) k 6) =
     record { is = c.unlike-seventh.ensures k h } in
-    (says-and (record { is = c.beginnings-begun.ensures k h })
-    (says-and e (says-and f (says-not (omega arith) h g)))).is
+    search (
+      rules,
+      (says-and (record { is = c.beginnings-begun.ensures k h })
+          (says-and e (says-and f (says-not (omega arith) h g)))).is,
+    )
     ∙ ap (λ b. if b then 1 else 0) (mark-begins c.args.cells c.args.next k h X)
 
 pub returns-clause-y : goal.returns-clause-y
@@ -25,8 +28,11 @@ returns-clause-y c = λ k h.
     record { is = c.unlike-sixth.ensures k h } in
     let g : Says c.unlike-seventh.result k (unlike_at (with_seven c.args.cells c.args.next) k 6) =
     record { is = c.unlike-seventh.ensures k h } in
-    (says-and (record { is = c.beginnings-begun.ensures k h })
-    (says-and e (says-and (says-not (omega arith) h f) g))).is
+    search (
+      rules,
+      (says-and (record { is = c.beginnings-begun.ensures k h })
+          (says-and e (says-and (says-not (omega arith) h f) g))).is,
+    )
     ∙ ap (λ b. if b then 1 else 0) (mark-begins c.args.cells c.args.next k h Y)
 
 pub returns-clause-z : goal.returns-clause-z
@@ -37,6 +43,9 @@ returns-clause-z c = λ k h.
     record { is = c.unlike-sixth.ensures k h } in
     let g : Says c.unlike-seventh.result k (unlike_at (with_seven c.args.cells c.args.next) k 6) =
     record { is = c.unlike-seventh.ensures k h } in
-    (says-and (record { is = c.beginnings-begun.ensures k h })
-    (says-and (says-not (omega arith) h e) (says-and f g))).is
+    search (
+      rules,
+      (says-and (record { is = c.beginnings-begun.ensures k h })
+          (says-and (says-not (omega arith) h e) (says-and f g))).is,
+    )
     ∙ ap (λ b. if b then 1 else 0) (mark-begins c.args.cells c.args.next k h Z)

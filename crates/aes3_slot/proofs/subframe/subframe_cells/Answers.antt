@@ -1,4 +1,4 @@
-use Rattle.std.proofs.Common.{ap, ◌∙◌, arith}
+use Rattle.std.proofs.Common.{ap, ◌∙◌, arith, rules}
 use Rattle.aes3_level.specs.Cells.{line}
 use Rattle.aes3_slot.specs.Slots.{payload_len, slot_runs, slots_len}
 use Rattle.aes3_bits.proofs.Bits.{low_bits-with_parity}
@@ -10,4 +10,4 @@ returns c =
     c.slots_cells.ensures
     ∙ ap (λ bits. line c.args.before (slot_runs c.args.mark bits))
     (low_bits-with_parity 27 32 c.args.payload c.from-parity.result c.payload_parity.result
-    (omega arith) c.requires c.from-parity.ensures c.payload_parity.ensures)
+    (omega arith) c.requires (search (rules, c.from-parity.ensures)) c.payload_parity.ensures)

@@ -1,4 +1,4 @@
-use Rattle.std.proofs.Common.{◌≡◌, length, take, get_or, ap, ◌∙◌, sym, arith}
+use Rattle.std.proofs.Common.{◌≡◌, length, take, get_or, ap, ◌∙◌, sym, arith, rules}
 use Rattle.std.proofs.lemmas.List.{take_all, length-take-le}
 use Rattle.aes3_status.specs.Bits.{byte_bits, status_bits}
 use Rattle.aes3_status.specs.Check.{remainder}
@@ -9,7 +9,7 @@ use Rattle.aes3_status.proofs.CheckBytes.{holds-from, check_byte-is, only-byte}
 use Rattle.aes3_status.proofs.check.check_byte.Goals as goal
 
 pub loop-byte-init : goal.loop-byte-init
-loop-byte-init c = record { fits = omega arith; shifted = polynomial-255 }
+loop-byte-init c = record { fits = omega arith; shifted = search (rules, polynomial-255) }
 
 pub loop-byte-preserved : goal.loop-byte-preserved
 loop-byte-preserved c = record {

@@ -1,4 +1,4 @@
-use Rattle.std.proofs.Common.{sym}
+use Rattle.std.proofs.Common.{sym, rules}
 use Rattle.aes3_status.proofs.CheckBytes.{state-good, state-absent, state-bad}
 use Rattle.aes3_status.proofs.Flips.{one-flip-state, two-flips-state}
 use Rattle.aes3_status.proofs.check.check_state.Goals as goal
@@ -20,8 +20,11 @@ returns-then-sent-check_byte-clause-two_flips c = λ before was flipped same.
 
 pub returns-then-sent-eq0-clause-state : goal.returns-then-sent-eq0-clause-state
 returns-then-sent-eq0-clause-state c =
-    sym (state-absent c.args.bytes.now c.check_byte.result c.told-bytes c.check_byte.ensures.only
-    (c.fits-bytes 23) c.if-sent-check_byte.false c.if-sent-eq0.true)
+    search (
+      rules,
+      sym (state-absent c.args.bytes.now c.check_byte.result c.told-bytes c.check_byte.ensures.only
+          (c.fits-bytes 23) c.if-sent-check_byte.false c.if-sent-eq0.true),
+    )
 
 pub returns-else-sent-eq0-clause-state : goal.returns-else-sent-eq0-clause-state
 returns-else-sent-eq0-clause-state c =

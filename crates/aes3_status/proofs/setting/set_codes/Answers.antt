@@ -1,4 +1,4 @@
-use Rattle.std.proofs.Common.{get_or, [], refl, ap, ◌∙◌, sym, arith}
+use Rattle.std.proofs.Common.{get_or, [], refl, ap, ◌∙◌, sym, arith, rules}
 use Rattle.std.proofs.lemmas.List.Sums.{fold_more}
 use Rattle.aes3_status.specs.declared.field.Field.TheVariants.{Use}
 use Rattle.aes3_status.specs.declared.setting.Setting.{Setting}
@@ -13,7 +13,7 @@ pub loop-setting-preserved : goal.loop-setting-preserved
 unfolding set_in_turn
 loop-setting-preserved c =
     let none : Setting = record { field = Use; codes = [] } in
-    c.set_field.ensures
+    search (rules, c.set_field.ensures)
     ∙ ap (set_by (get_or c.args.settings.now c.loop-setting.setting-index none)) c.loop-setting.invariant
     ∙ sym (fold_more
     (λ status setting. set_by setting status) c.args.bytes.now c.args.settings.now c.loop-setting.setting-index

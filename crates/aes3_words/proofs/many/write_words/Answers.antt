@@ -16,7 +16,9 @@ loop-i-preserved c =
     let at : i % 384 ≡ (0 + i) % 384 = omega arith in
     word-more f (written-fours c.args.form) 0 i (i % 384) (4 * i) (4 * i + 4 - 4 * i) xs c.loop-i.octets
     c.write_one.new.octets c.loop-i.invariant (omega arith) refl (omega (arith, within)) size at
-    (c.write_one.ensures ∙ ap (λ n. each_word f (i % 384) (take n (drop (4 * i) c.loop-i.octets))) size)
+    (c.write_one.ensures
+    ∙ ap (λ place. each_word f place (take (4 * i + 4 - 4 * i) (drop (4 * i) c.loop-i.octets))) (omega arith)
+    ∙ ap (λ n. each_word f (i % 384) (take n (drop (4 * i) c.loop-i.octets))) size)
     ∙ ap (λ n. each_word f 0 (take n xs) ++ drop n xs) next
 
 pub returns-clause-words : goal.returns-clause-words

@@ -1,4 +1,4 @@
-use Rattle.std.proofs.Common.{Bool, true, false, ap, refl, ◌+◌, ◌∙◌, ◌≡◌}
+use Rattle.std.proofs.Common.{Bool, true, false, ap, refl, ◌+◌, ◌∙◌, ◌≡◌, rules}
 use Rattle.std.specs.Prelude.{if◌then◌else◌}
 use mir.Val.{bool_byte}
 use Rattle.aes3_capture.proofs.Edges.{run-counts}
@@ -15,12 +15,12 @@ returns-clause-counted c = record {
   at = c.pass-told.new.self;
   passed = c.pass-told.ensures.passed;
   turned = c.edge.ensures.turned;
-  sum = ap (λ n. c.pass-told.result + n) (c.from.ensures ∙ byte-one c.edge.result);
+  sum = search (rules, ap (λ n. c.pass-told.result + n) (c.from.ensures ∙ byte-one c.edge.result));
 }
 
 pub returns-clause-line : goal.returns-clause-line
 returns-clause-line c =
     run-counts c.args.self.now c.pass-told.new.self c.edge.new.self c.args.samples c.pass-told.result
-    (c.pass-told.result + c.from.result) c.edge.result
+    _ c.edge.result
     c.pass-told.ensures.bounds c.pass-told.ensures.line c.edge.ensures.line
-    (ap (λ n. c.pass-told.result + n) (c.from.ensures ∙ byte-one c.edge.result))
+    (search (rules, ap (λ n. c.pass-told.result + n) (c.from.ensures ∙ byte-one c.edge.result)))

@@ -1,4 +1,4 @@
-use Rattle.std.proofs.Common.{◌≡◌, ◌+◌, ◌-◌, ◌++◌, ◌∙◌, length, drop, length-drop, ap, sym, arith}
+use Rattle.std.proofs.Common.{◌≡◌, ◌+◌, ◌-◌, ◌++◌, ◌∙◌, length, drop, length-drop, ap, sym, arith, rules}
 use Rattle.std.proofs.lemmas.List.{length-take-le}
 use Rattle.std.specs.List.{length_refill}
 use borrow.Rule.Slice.PartMut.{put_mid}
@@ -25,10 +25,13 @@ returns-clause-held g c =
     let after = c.fill_lines.ensures in
     let auto = c.fill_lines.auto.text in
     let len = c.as_mut_slice.ensures.len in
-    held-put b.start b.end end k b.bytes.len b.bytes.items s ys
-    (drop (length (put_mid b.end k s ys)) b.bytes.items) c.as_mut_slice.ensures.value
-    b.ordered b.within (omega (arith, auto)) (omega (arith, len))
-    ∙ ap (λ v. held b.start b.end b.bytes.items ++ v) after
+    search (
+      rules,
+      held-put b.start b.end end k b.bytes.len b.bytes.items s ys
+          (drop (length (put_mid b.end k s ys)) b.bytes.items) c.as_mut_slice.ensures.value
+          b.ordered b.within (omega (arith, auto)) (omega (arith, len))
+          ∙ ap (λ v. held b.start b.end b.bytes.items ++ v) after,
+    )
 
 pub invariant_of-self : goal.invariant_of-self
 invariant_of-self g c =

@@ -1,5 +1,5 @@
-use Rattle.std.proofs.Common.{refl}
+use Rattle.std.proofs.Common.{rules}
 use Rattle.aes3_cell.proofs.memory.MemorySink.new.Goals as goal
 
 pub returns-clause-fresh : goal.returns-clause-fresh
-returns-clause-fresh c = refl
+returns-clause-fresh c = search rules

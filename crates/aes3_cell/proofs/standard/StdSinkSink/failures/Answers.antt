@@ -1,5 +1,5 @@
-use Rattle.std.proofs.Common.{refl}
+use Rattle.std.proofs.Common.{rules}
 use Rattle.aes3_cell.proofs.standard.StdSinkSink.failures.Goals as goal
 
 pub returns : goal.returns
-returns g c = refl
+returns g c = search rules

@@ -56,7 +56,8 @@ returns-then-at-len g c =
           (s.at + n) (g.T.Sink.taken c.args.sink.now) (g.T.Sink.taken c.args.sink.now) l
           (record {
             bits = λ e i r. c.in-None.ensures.none refl e i r;
-            samples = λ l. ap begins_wave (sym front) ∙ c.has_header.ensures.no c.if-has_header.false l;
+            samples = λ l. ap begins_wave (sym front ∙ ap (λ len. take len new) (omega arith))
+                ∙ c.has_header.ensures.no c.if-has_header.false l;
           })
           (inl (q, refl))
           front
@@ -93,7 +94,8 @@ returns-in-Ok g c =
           0 (g.T.Sink.taken c.args.sink.now) (g.T.Sink.taken c.put_samples.new.sink) l
           (record {
             bits = λ e i r. c.in-None.ensures.none refl e i r;
-            samples = λ l. ap begins_wave (sym front) ∙ c.has_header.ensures.no c.if-has_header.false l;
+            samples = λ l. ap begins_wave (sym front ∙ ap (λ len. take len new) (omega arith))
+                ∙ c.has_header.ensures.no c.if-has_header.false l;
           })
           (inr (q, refl))
           front
@@ -128,7 +130,8 @@ returns-in-Err g c =
           (drop n xs) xs (g.T.Sink.taken c.args.sink.now) (g.T.Sink.taken c.put_samples.new.sink)
           (record {
             bits = λ e i r. c.in-None.ensures.none refl e i r;
-            samples = λ l. ap begins_wave (sym front) ∙ c.has_header.ensures.no c.if-has_header.false l;
+            samples = λ l. ap begins_wave (sym front ∙ ap (λ len. take len new) (omega arith))
+                ∙ c.has_header.ensures.no c.if-has_header.false l;
           })
           (take-append-drop n xs)
           (front-is (block-made s.format s.words c.args.change.now new (take s.at s.begun ++ take n xs)
@@ -158,6 +161,7 @@ returns-then-has_header g c =
       front-header s.format s.exact s.words c.args.change.now s.seen s.at s.begun (omega arith) few room _ (take n xs)
           (drop n xs) xs (g.T.Sink.taken c.args.sink.now) (λ b. tt)
           (λ e i r. c.in-None.ensures.none refl e i r)
-          (take-append-drop n xs) w.0 (ap begins_wave (sym front) ∙ w.1),
+          (take-append-drop n xs) w.0
+          (ap begins_wave (sym front ∙ ap (λ len. take len new) (omega arith)) ∙ w.1),
       refl,
     )

@@ -1,4 +1,4 @@
-use Rattle.std.proofs.Common.{◌∙◌, ◌-◌, ◌++◌, ◌/◌, ◌%◌, [], refl, sym, ap, length}
+use Rattle.std.proofs.Common.{◌∙◌, ◌-◌, ◌++◌, [], refl, sym, ap, length}
 use Rattle.std.proofs.Common.{length-append, arith, rules, Ok}
 use Rattle.aes3_words.specs.Forms.{own_word}
 use Rattle.aes3_words.specs.Lists.{each_word, own_of}
@@ -49,8 +49,8 @@ returns g c = λ begun piece e f.
           let r = next-own s.has_begun s.words s.left count words c.args.word a w (search rules)
           (sym c.is_left_out.ensures ∙ c.if-is_left_out.false) in
           let k = encodes-seen h in (
-            r.0 ∙ ap (λ t. own_of s.words words ++ t) (ap (λ p. each_word (own_word s.words) (p / 4 % 384) c.args.word)
-                (sym k ∙ sym c.seen.ensures) ∙ sym c.read_word-own.ensures),
+            r.0 ∙ ap (λ t. own_of s.words words ++ t) (ap (λ place. each_word (own_word s.words) place c.args.word)
+                (omega (arith, k, c.seen.ensures)) ∙ sym c.read_word-own.ensures),
             r.1,
           );
     }) (search rules) e _ _ c.feed_fronts.ensures

@@ -1,4 +1,4 @@
-use Rattle.std.proofs.Common.{Bool, List, [], ap, ap₂, arith, refl, ◌∙◌, ◌≡◌, take, ◌||◌}
+use Rattle.std.proofs.Common.{Bool, List, [], ap, ap₂, arith, refl, ◌∙◌, ◌≡◌, take, ◌||◌, rules}
 use Rattle.std.proofs.lemmas.List.{length-set, take_all}
 use Rattle.aes3_status.specs.declared.field.Field.TheVariants.{Use}
 use Rattle.aes3_status.specs.declared.setting.Setting.{Setting}
@@ -21,7 +21,7 @@ loop-i-preserved c =
       left = turned s c.args.status.now c.loop-i.left c.set_field.new.bytes c.loop-i.i none (omega arith) v.left
           c.set_field.ensures;
       before = taken-before s c.args.status.now c.loop-i.left c.args.self.now.codes c.loop-i.self.codes c.loop-i.i none
-          c.has_code.result (omega arith) (omega arith) v.left c.has_code.ensures v.before v.behind;
+          c.has_code.result (omega arith) (omega arith) v.left (search (rules, c.has_code.ensures)) v.before v.behind;
       behind = taken-behind c.args.self.now.codes c.loop-i.self.codes c.loop-i.i _ v.behind;
       wide = v.wide;
     }
