@@ -22,8 +22,8 @@ loop-at-preserved c =
       one-more texts c.loop-at.at c.loop-at.settings c.in-Some.pair.professional c.in-Some.pair.consumer
           c.take_wide.new.wide (omega (arith, len)) (omega (arith, len)) c.loop-at.invariant
           (subst (λ text. ¬ IsUnknown text) at c.in-Some.ensures.known)
-          (subst (λ text. IsSetBy text professional_fields c.in-Some.pair.professional) at c.in-Some.ensures.professional)
-          (subst (λ text. IsSetBy text consumer_fields c.in-Some.pair.consumer) at c.in-Some.ensures.consumer)
+          (subst (λ t. IsSetBy t professional_fields c.in-Some.pair.professional) at c.in-Some.ensures.professional)
+          (subst (λ t. IsSetBy t consumer_fields c.in-Some.pair.consumer) at c.in-Some.ensures.consumer)
           (c.take_wide.ensures ∙ ap (λ o. with_wide o c.loop-at.settings.wide) (c.in-Some.ensures.wide ∙ ap wide_in at)),
     )
 

@@ -1,4 +1,5 @@
-use Rattle.std.proofs.Common.{◌≡◌, ◌∙◌, ◌++◌, min, map, take, ℕ, List, length, Bor, Result, Ok, Err, IsOk, OnOk, sym, ap, arith}
+use Rattle.std.proofs.Common.{◌≡◌, min}
+use Rattle.std.proofs.Common.{◌∙◌, ◌++◌, map, take, ℕ, List, length, Bor, Result, Ok, Err, IsOk, OnOk, sym, ap, arith}
 use Rattle.std.proofs.lemmas.List.{length-take, take-map, take_min}
 use Rattle.aes3_settings.proofs.typed.kept.Goals as goal
 
