@@ -19,7 +19,7 @@ returns-after-bit-lt8-clause-levels c =
             ∙ low-bit (get_or octets (2 * i) 0) (get_or octets (2 * i + 1) 0) bit (omega (arith, w.if-bit-lt8))
         | else-bit-lt8 w ↦
             c.even_bits.ensures.bits i h ∙ ap (λ v. bit_at v (2 * i)) w.even_bits-is
-            ∙ sym (bit_at-suc c.bits_of-found.result (2 * i))
+            ∙ ap (λ v. bit_at v (2 * i)) (omega arith) ∙ sym (bit_at-suc c.bits_of-found.result (2 * i))
             ∙ ap (bit_at c.bits_of-found.result) (omega arith) ∙ c.bits_of-found.ensures (2 * i + 1) (omega (arith, h))
             ∙ high-bit (get_or octets (2 * i) 0) (get_or octets (2 * i + 1) 0) bit
             (omega (arith, c.fits-octets (2 * i))) (omega (arith, w.if-bit-lt8)) within

@@ -1,3 +1,5 @@
+use Rattle.std.proofs.Common.{ap, ◌∙◌, arith}
+use Rattle.aes3_runner.specs.JobRuns.{period}
 use Rattle.aes3_runner.specs.Outcomes.{of_counts, of_exact, of_filled, of_samples, of_words}
 use Rattle.aes3_runner.proofs.Flushes.{run-of, sums-of, told-ran}
 use Rattle.aes3_runner.proofs.job_run.run_job.Goals as goal
@@ -55,4 +57,4 @@ returns-in-ToBits-clause-ran g c = run-of c.in-ToBits.is (told-ran of_counts c.p
 pub returns-in-WatchSums-clause-ran : goal.returns-in-WatchSums-clause-ran
 returns-in-WatchSums-clause-ran g c =
     run-of c.in-WatchSums.is (told-ran of_counts c.plain-in-WatchSums.ensures (sums-of c.in-WatchSums.input c.in-WatchSums.style
-    c.in-WatchSums.every c.period.result c.period.ensures.period c.watch_sums.ensures.run))
+    c.in-WatchSums.every c.period.result (c.period.ensures.period ∙ ap period (omega arith)) c.watch_sums.ensures.run))

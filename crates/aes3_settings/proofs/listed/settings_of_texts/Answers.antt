@@ -1,4 +1,4 @@
-use Rattle.std.proofs.Common.{◌≡◌, ℕ, List, [], length, map, Bor, ◌∙◌, ap, arith, sym, subst}
+use Rattle.std.proofs.Common.{◌≡◌, ℕ, List, [], length, map, Bor, ◌∙◌, ap, arith, sym, subst, rules}
 use Rattle.std.proofs.Math.ListN.{get_or-map}
 use Rattle.std.proofs.lemmas.List.{length-map}
 use Rattle.aes3_settings.specs.Settings.{IsSetBy, IsUnknown, consumer_fields, professional_fields}
@@ -17,12 +17,15 @@ loop-at-preserved c =
     let at = sym
     (get_or-map (λ (text : Bor (List ℕ)). text.now) c.args.texts.now c.loop-at.at
     (record { ref_ptr = (0, 0); now = [] })) in
-    one-more texts c.loop-at.at c.loop-at.settings c.in-Some.pair.professional c.in-Some.pair.consumer
-    c.take_wide.new.wide (omega (arith, len)) (omega (arith, len)) c.loop-at.invariant
-    (subst (λ text. ¬ IsUnknown text) at c.in-Some.ensures.known)
-    (subst (λ text. IsSetBy text professional_fields c.in-Some.pair.professional) at c.in-Some.ensures.professional)
-    (subst (λ text. IsSetBy text consumer_fields c.in-Some.pair.consumer) at c.in-Some.ensures.consumer)
-    (c.take_wide.ensures ∙ ap (λ o. with_wide o c.loop-at.settings.wide) (c.in-Some.ensures.wide ∙ ap wide_in at))
+    search (
+      rules,
+      one-more texts c.loop-at.at c.loop-at.settings c.in-Some.pair.professional c.in-Some.pair.consumer
+          c.take_wide.new.wide (omega (arith, len)) (omega (arith, len)) c.loop-at.invariant
+          (subst (λ text. ¬ IsUnknown text) at c.in-Some.ensures.known)
+          (subst (λ t. IsSetBy t professional_fields c.in-Some.pair.professional) at c.in-Some.ensures.professional)
+          (subst (λ t. IsSetBy t consumer_fields c.in-Some.pair.consumer) at c.in-Some.ensures.consumer)
+          (c.take_wide.ensures ∙ ap (λ o. with_wide o c.loop-at.settings.wide) (c.in-Some.ensures.wide ∙ ap wide_in at)),
+    )
 
 pub returns-clause-settings : goal.returns-clause-settings
 returns-clause-settings c =

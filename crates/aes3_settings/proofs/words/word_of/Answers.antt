@@ -1,4 +1,4 @@
-use Rattle.std.proofs.Common.{sym, ◌∙◌, arith, length, nat_le, leb-true}
+use Rattle.std.proofs.Common.{sym, ◌∙◌, arith, length, nat_le, leb-true, rules}
 use Rattle.aes3_settings.proofs.Tables.{word_of-here, word_of-behind, word_of-end, test-get_or}
 use Rattle.aes3_settings.proofs.words.word_of.Goals as goal
 
@@ -9,8 +9,11 @@ loop-named-preserved c =
 
 pub returns-then-named-code-clause-word : goal.returns-then-named-code-clause-word
 returns-then-named-code-clause-word c =
-    sym (c.loop-named.invariant
-    ∙ word_of-here c.args.words.now c.loop-named.named-index _ c.args.code (omega arith) c.if-named-code.true)
+    search (
+      rules,
+      sym (c.loop-named.invariant
+          ∙ word_of-here c.args.words.now c.loop-named.named-index _ c.args.code (omega arith) c.if-named-code.true),
+    )
 
 pub returns-then-named-code-clause-len : goal.returns-then-named-code-clause-len
 returns-then-named-code-clause-len c =
