@@ -68,7 +68,7 @@ examples() { # HOW
 }
 
 # The example of docs/C.md, as a program.
-{ sed -n '/^```rust$/,/^```$/p' "$root/docs/C.md" | sed '/^```/d'; echo 'fn main() { tell_blocks(&[0; 4]).unwrap() }'; } >aes3/examples/shown.rs
+{ sed -n '/^## From Rust/,/^## From Rattle/p' "$root/docs/C.md" | sed -n '/^```rust$/,/^```$/p' | sed '/^```/d'; echo 'fn main() { tell_blocks(&[0; 4]).unwrap() }'; } >aes3/examples/shown.rs
 judge "the example of docs/C.md" env LD_LIBRARY_PATH="$to/lib" cargo run -q --example shown
 rm aes3/examples/shown.rs
 

@@ -30,7 +30,7 @@ const USAGE: &str = "usage: aes3_workloads NAME SEED ROUNDS\n\n\
 fn main(rt: HostRuntime) -> Result<()> {
     let words: Vec<String> = env::args(&rt)?.skip(1).collect(rt.alloc())?;
     let name = words.get(0).context(USAGE)?;
-    if name == "--help" {
+    if name.as_str() == "--help" {
         println!(rt; "{USAGE}")?;
         return Ok(());
     }
