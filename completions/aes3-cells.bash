@@ -7,7 +7,9 @@ _aes3_cells() {
         --at) words="32000 44100 48000 88200 96000 176400 192000" ;;
         --unit) words="1 2" ;;
         --bit) words="0 1 2 3 4 5 6 7 8 9 10 11 12 13 14 15" ;;
-        *) words="--rate --at --unit --bit --packed-out --tell --help --version" ;;
+        *)
+            [[ ${COMP_WORDS[COMP_CWORD]} == -* ]] || { compopt -o default; return; }
+            words="--rate --at --unit --bit --packed-out --tell --help --version" ;;
     esac
     mapfile -t COMPREPLY < <(compgen -W "$words" -- "${COMP_WORDS[COMP_CWORD]}")
 }

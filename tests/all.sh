@@ -95,6 +95,7 @@ part_with python3 bin/make-manual --check "$program"
 part tests/manual.sh
 part_with python3 tests/completions.py "$program"
 part tests/captures.sh "$root/crates/aes3_cells/out/aes3_cells" "$program"
+part tests/other_files.sh "$program" "$root/crates/aes3_cells/out/aes3_cells"
 part tests/spoil.sh "$root/crates/aes3_spoil_program/out/aes3_spoil_program" "$program"
 part_with python3 bin/figures --check
 part_with python3 examples/pictures/make --check "$program"

@@ -239,14 +239,58 @@ judge "a cell of 8010 samples" refused <capture
 edges 300 2
 judge "a cell of 2 samples" refused <capture
 "$program" --rate 0 </dev/null 2>said_why
-judge "what is wrong with --rate 0" grep -q -e "'0'.*--rate.* 0 is not in 1\.\.18446744073709551615" said_why
+judge "what is wrong with --rate 0" grep -q -e "^aes3-cells: --rate is a frequency in Hz from 1 on" said_why
 told=$(head -c 3906250 /dev/zero | "$program" --rate 24000000 --at 48000 2>told | tr -d '\n' | wc -c)
 judge "$told cells of a dead line in the time of 1000000" [ "$told" -ge 999999 -a "$told" -le 1000001 ]
 for words in "--tell" "--tell --rate 0" "--bit 8" "--unit 3" "--unit 2 --bit 16" "--at 48000" "--rate 0" "--rate 0 --at 48000" "--rate 48000 --at 0" "--rate 48000 --at 48000" \
-    "--rate 257 --at 1" "--rate 1024001 --at 1" "--rate 1 --at 18446744073709551615" "--rate 18446744073709551615 --at 1" "--rate x" "--none" "file"; do
+    "--rate 257 --at 1" "--rate 1024001 --at 1" "--rate 1 --at 18446744073709551615" "--rate 18446744073709551615 --at 1" "--rate x" "--rate 1.5" \
+    "--rate 1.0000001M" "--rate k" "--rate +1k" "--rate 24MHz" "--bit -1" "--bit x" "--none" "file file"; do
     # shellcheck disable=SC2086
     judge "the words $words" wrong_words $words
 done
+# Frequencies are written in several ways, and all mean the same.
+"$program" --rate 24000000 --at 44100 <one >sent 2>told
+for words in "24M --at 44.1k" "24m --at 44100" "24000k --at 0.0441M" "24000K --at 44.100k"; do
+    # shellcheck disable=SC2086
+    "$program" --rate $words <one >got 2>told_so
+    judge "the frequencies $words" eval 'cmp sent got && cmp told told_so'
+done
+
+# A file by its name; `-` is standard input. Where it can't be read, the system's reason is told.
+judge "a file by its name" eval '"$program" one 2>told | cmp - text'
+judge "- is standard input" eval '"$program" - <one 2>told | cmp - text'
+# unread FILE REASON
+unread() {
+    "$program" "$1" >out 2>said_why
+    [ $? = 3 ] && [ ! -s out ] && [ "$(cat said_why)" = "aes3-cells: the input failed
+aes3-cells: $1: $2" ]
+}
+judge "no such file" unread "$work/none" "No such file or directory (os error 2)"
+judge "a folder" unread "$work" "Is a directory (os error 21)"
+
+# Without --bit it takes the lowest bit with an AES3 line, and says which; bits without one are passed over: a clock, noise, and a
+# line that has no preambles.
+"$python" -c 'import random, sys
+one, clocked = open("one", "rb").read(), random.Random(2)
+capture = [(sample & 1) << 6 | (at >> 2 & 1) << 1 | clocked.getrandbits(1) << 2 | (at // 5 & 1) << 3 for at, sample in enumerate(one)]
+open("capture", "wb").write(bytes(capture))
+open("wide", "wb").write(b"".join(bytes((sample & 15, sample >> 6 << 2)) for sample in capture))'
+judge "the bit is found" eval '"$program" capture 2>told | cmp - text && [ "$(head -n 1 told)" = "aes3-cells: the line is in bit 6" ]'
+judge "the bit of sixteen is found" eval '"$program" --unit 2 wide 2>told | cmp - text && [ "$(head -n 1 told)" = "aes3-cells: the line is in bit 10" ]'
+judge "the bit that is asked for" eval '"$program" --bit 6 capture 2>told | cmp - text && [ "$(wc -l <told)" = 1 ]'
+{ head -c 900000 /dev/zero; cat capture; } >late
+judge "the bit of a line that begins late" eval '"$program" late 2>told >cells && [ "$(head -n 1 told)" = "aes3-cells: the line is in bit 6" ]'
+judge "pieces of any size where the bit is searched" eval '{ dd bs=7 count=1000; dd bs=4099; } <capture 2>/dev/null | "$program" 2>told | cmp - text'
+judge "cells before it waits where the bit is searched" eval '{ head -c 400000 capture; sleep 20; } | "$program" 2>told | timeout 10 head -c 100000 >live; head -c 100000 text | cmp - live'
+
+# What is likely to be wrong is said: edges near half a cell from their places, and a line that is measured again and again.
+# doubted SAID COUNT: a sentence with these words stands so often behind the figures of `capture`.
+doubted() { "$program" <capture 2>told >cells && [ "$(grep -c "$1" told)" = "$2" ]; }
+"$python" "$here/line.py" 4.069010416 capture blocks=20 rms=0.3 sent=sent
+judge "a line with little jitter" doubted "makes wrong cells\|likely to be wrong" 0
+"$python" "$here/line.py" 4.069010416 capture blocks=20 rms=0.6 sent=sent
+judge "a line with much jitter" doubted "makes wrong cells\|likely to be wrong" 1
+
 # Each option of its help stands in the manual page and in the completions.
 "$program" --help >help
 judge "its help" grep -q -e --packed-out help

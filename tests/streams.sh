@@ -142,10 +142,10 @@ aes3: byte 0 is neither cell nor separator (line 1, column 1): a session of sigr
         "$program check < '$folder/session'"
     printf 'RIFF1234WAVEfmt ' > "$folder/wave"
     at_terminal "a WAV file as samples" "aes3: refused 12 at 0
-aes3: the samples begin with the header of a WAV file: \`sox FILE -t s32 - | aes3 from-pcm\` takes its samples" \
+aes3: the samples begin with the header of a sound file: this is a WAV file: \`sox FILE -t s32 -c 2 - | aes3 from-pcm\` takes its samples" \
         "$program from-pcm < '$folder/wave' > '$folder/output'"
     at_terminal "a WAV file as cells" "aes3: refused 1 at 0
-aes3: byte 0 is neither cell nor separator (line 1, column 1): this is a WAV file: \`sox FILE -t s32 - | aes3 from-pcm\` takes its samples" \
+aes3: byte 0 is neither cell nor separator (line 1, column 1): this is a WAV file: \`sox FILE -t s32 -c 2 - | aes3 from-pcm\` takes its samples" \
         "$program check < '$folder/wave'"
     if command -v perl > /dev/null; then
         # It shows where runs of more than three cells stand in the first octets, as they do in these.

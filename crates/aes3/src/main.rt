@@ -2,16 +2,13 @@
 //! standard output.
 #![tactic(auto)]
 
-/// What the program reads.
-mod input;
-
 ghost use Rattle.std.specs.Prelude.{◌+◌, ◌<◌, ◌^◌, ◌≡◌, IfErr};
 
 use aes3_arguments::line_of_words;
 use aes3_cell::{BufferedSink, Sink, StdSink, StdSource};
+use aes3_files::Input;
 use aes3_hints::{Clearing, Hints, Terminals};
 use aes3_runner::{Unread, file_of_line, run_and_explain, tell_unread};
-use input::Input;
 use std::cell::Cell;
 use std::env;
 use std::io::ErrorKind;
@@ -70,7 +67,8 @@ fn run_buffered<E: Sink, H: Sink + Drop>(
     if file.is_some() {
         hints.reads_file();
     }
-    let input = Input::new(rt, file);
+    let trouble = Cell::new(None);
+    let input = Input::new(rt, file, &trouble);
     let len = if terminals.errors {
         input.len(rt)
     } else {
@@ -78,7 +76,11 @@ fn run_buffered<E: Sink, H: Sink + Drop>(
     };
     let watched = hints.watch(StdSource::new(input));
     let source = hints.follow(rt, watched, StdSink::new(rt.stderr()), shown, len, &line);
-    Ok(run_and_explain(line, &words, source, sink, errors, hints).status)
+    let status = run_and_explain(line, &words, source, sink, errors, hints).status;
+    if let (Some(name), Some(error)) = (file, trouble.get()) {
+        eprintln!(rt; "aes3: {name}: {error}").unwrap_or(());
+    }
+    Ok(status)
 }
 
 /// The words of the command line behind the program's name.

@@ -47,7 +47,7 @@ advice_of n =
     else if n == 10 then codes
     "the last octet counts the unused cells before it, 0 to 7, and these are 0: `printf '\\0' >> FILE` adds it where there are none"
     else if n == 11 then codes "leave `--exact` out to drop them, or make samples of 24 bits first (`sox IN -b 24 OUT`)"
-    else if n == 12 then codes "`sox FILE -t s32 - | aes3 from-pcm` takes its samples"
+    else if n == 12 then codes "`sox FILE -t s32 -c 2 - | aes3 from-pcm` takes its samples"
     else if n == 13 then codes
     "leave `--exact` out to drop them, or set first what gives the setting its code (`greatest=24` before `word=24`)"
     else []

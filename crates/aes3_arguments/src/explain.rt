@@ -43,7 +43,7 @@ pub fn advice(number: u8) -> &'static str
             "the last octet counts the unused cells before it, 0 to 7, and these are 0: `printf '\\0' >> FILE` adds it where there are none",
         11 =>
             "leave `--exact` out to drop them, or make samples of 24 bits first (`sox IN -b 24 OUT`)",
-        12 => "`sox FILE -t s32 - | aes3 from-pcm` takes its samples",
+        12 => "`sox FILE -t s32 -c 2 - | aes3 from-pcm` takes its samples",
         13 => {
             "leave `--exact` out to drop them, or set first what gives the setting its code (`greatest=24` before `word=24`)"
         }
@@ -67,7 +67,7 @@ fn wrong(number: u8) -> &'static str {
         10 => "packed cells end wrongly, at octet PLACE",
         11 =>
             "with `--exact`, the sample word that begins at byte PLACE has bits below the highest 24",
-        12 => "the input of `from-pcm` begins with the header of a WAV file, and not with samples",
+        12 => "the input of `from-pcm` is a sound file, and not samples alone",
         13 => {
             "with `--exact`, the block that begins at cell PLACE would lose bits of its samples, or leaves out a setting"
         }

@@ -15,4 +15,3 @@ pub mod PackedFeeding
 pub mod PackedPending
 pub mod Laws
 pub mod Written
-pub mod Wave

@@ -3,7 +3,7 @@ use Rattle.std.specs.Prelude.{ℕ, Option, Some, None}
 use Rattle.aes3_cell.specs.declared.refusal.RunError.{RunError}
 use Rattle.aes3_cell.specs.declared.refusal.RunError.TheVariants.{BadCell, BadLength, BadCode, BadParity, Read, Write}
 use Rattle.aes3_cell.specs.declared.refusal.RunError.TheVariants.{TooLong, Memory, BadStatusText, BadPadding, BadSample}
-use Rattle.aes3_cell.specs.declared.refusal.RunError.TheVariants.{WaveHeader, Inexact}
+use Rattle.aes3_cell.specs.declared.refusal.RunError.TheVariants.{SoundHeader, Inexact}
 
 abbrev pub number_of : RunError → ℕ
 number_of (BadCell at) = 1
@@ -17,7 +17,7 @@ number_of Memory = 8
 number_of BadStatusText = 9
 number_of (BadPadding at) = 10
 number_of (BadSample at) = 11
-number_of WaveHeader = 12
+number_of SoundHeader = 12
 number_of (Inexact at) = 13
 
 -- counted from 0 over the whole input; of a block file or of samples that are cut, the number of bytes that are left
@@ -33,5 +33,5 @@ place_of Memory = None
 place_of BadStatusText = None
 place_of (BadPadding at) = Some at
 place_of (BadSample at) = Some at
-place_of WaveHeader = Some 0
+place_of SoundHeader = Some 0
 place_of (Inexact at) = Some at

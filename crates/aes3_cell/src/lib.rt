@@ -44,8 +44,6 @@ mod text_in;
 mod text_out;
 /// Cell text as words of cells, many lines at once.
 mod text_words;
-/// The header of a WAV file.
-mod wave;
 /// Words of 64 cells, their line of text and their octets.
 mod word;
 /// Words of cells written in either form.
@@ -70,6 +68,5 @@ pub use standard::{StdSink, StdSource};
 pub use text_in::CellText;
 pub use text_out::TextOut;
 pub use text_words::SomeCells;
-pub use wave::begins_wave;
 pub use word::{LINE_LEN, line_of_word, octets_of_word, word_of_octets, word_of_text};
 pub use written::{put_ending, put_word, put_words};

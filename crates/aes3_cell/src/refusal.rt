@@ -45,8 +45,8 @@ pub enum RunError {
     BadPadding { at: u64 },
     #[error("the sample word that begins at byte {at} has bits below the highest 24")]
     BadSample { at: u64 },
-    #[error("the samples begin with the header of a WAV file")]
-    WaveHeader,
+    #[error("the samples begin with the header of a sound file")]
+    SoundHeader,
     #[error("the block that begins at cell {at} can't be given exactly as it is asked for")]
     Inexact { at: u64 },
 }
@@ -75,7 +75,7 @@ impl RunError {
             RunError::BadStatusText => 9,
             RunError::BadPadding { .. } => 10,
             RunError::BadSample { .. } => 11,
-            RunError::WaveHeader => 12,
+            RunError::SoundHeader => 12,
             RunError::Inexact { .. } => 13,
         }
     }
@@ -93,7 +93,7 @@ impl RunError {
             | RunError::BadSample { at }
             | RunError::Inexact { at } => Some(at),
             RunError::BadLength { left } => Some(left),
-            RunError::WaveHeader => Some(0),
+            RunError::SoundHeader => Some(0),
             _ => None,
         }
     }

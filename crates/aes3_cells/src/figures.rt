@@ -66,3 +66,31 @@ pub fn no_line(alloc: Global, figures: Figures, period: Option<u64>) -> Result<S
         figures.cells
     )
 }
+
+/// From which distance of an edge from its place on, in thousandths of a cell, others are likely to
+/// be half a cell away, and counted to the next cell.
+const DOUBTFUL_DISTANCE: u64 = 450;
+
+/// How many cells a line has at least each time that it is measured: those of a block.
+const CELLS_A_MEASUREMENT: u64 = 24_576;
+
+/// Why cells of a line that was found are likely to be wrong; an empty text where nothing speaks for it.
+pub fn doubt_of(alloc: Global, figures: Figures) -> Result<String, AllocError> {
+    let unit = figures.period.max(256) / 256;
+    if figures.measured > 2 && figures.cells / figures.measured < CELLS_A_MEASUREMENT {
+        return format!(in alloc;
+            "aes3-cells: the line was lost and measured anew {} times: these cells are likely to be \
+                wrong; is it an AES3 line, and sampled often enough?\n",
+            figures.measured
+        );
+    }
+    let distance = figures.greatest.saturating_mul(1000) / unit;
+    if distance >= DOUBTFUL_DISTANCE {
+        let text = thousandths(alloc, distance)?;
+        return format!(in alloc;
+            "aes3-cells: an edge was {text} of a cell from its place, and 0.5 makes wrong cells: take more \
+                samples a second\n"
+        );
+    }
+    Ok(String::new(alloc))
+}

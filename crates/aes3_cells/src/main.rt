@@ -4,18 +4,28 @@
 
 /// The line that tells what was found.
 mod figures;
+/// Frequencies as people write them.
+mod frequency;
 /// The words of the command line.
 mod line;
+/// What to do with a file that is no capture.
+mod other_file;
+/// The bit in which the line lies, where none is asked for.
+mod search;
 
 ghost use Rattle.std.specs.Prelude.{◌+◌, ◌<◌, ◌≤◌, ◌^◌, ◌≡◌, IfErr};
 
 use aes3_cell::{BufferedSink, Sink, Source, StdSink, StdSource, write_all};
-use aes3_recovery::{Progress, Recovery, Refusal, recover};
-use figures::{figures_line, no_line};
+use aes3_files::{Input, Preview};
+use aes3_recovery::{Progress, Recovery, Refusal, Unit, recover};
+use figures::{doubt_of, figures_line, no_line};
 use line::{Job, LineFault, job_of_words};
+use other_file::{FIRST_LEN, advice_on_other};
+use search::{line_bit, unit_of};
 use std::alloc::{AllocError, Global};
-use std::env;
+use std::cell::Cell;
 use std::process::ExitCode;
+use std::{env, io};
 
 /// The exit statuses, besides 0.
 const NO_LINE: u8 = 1;
@@ -38,8 +48,8 @@ fn main(rt: HostRuntime) -> ExitCode {
 
 /// Runs the command line between the standard streams.
 fn run_program<E: Sink>(rt: &HostRuntime, errors: &mut E) -> Result<u8, AllocError>
-    requires { E.failed errors.old + 2 < 2 ^ 64 }
-    ensures { IfErr result (λ _. E.failed errors.new ≤ E.failed errors.old + 1) }
+    requires { E.failed errors.old + 5 < 2 ^ 64 }
+    ensures { IfErr result (λ _. E.failed errors.new ≤ E.failed errors.old + 5) }
 {
     let Ok(words) = env::args(rt) else {
         return Ok(tell(errors, "aes3-cells: the words are not UTF-8\n", USAGE));
@@ -60,7 +70,8 @@ fn run_program<E: Sink>(rt: &HostRuntime, errors: &mut E) -> Result<u8, AllocErr
 /// Tells a text, and answers the exit status.
 fn tell<E: Sink>(errors: &mut E, text: &str, status: u8) -> u8
     requires { E.failed errors.old + 1 < 2 ^ 64 }
-    ensures { result ≡ status }
+    ensures status { result ≡ status }
+    ensures failed { E.failed errors.new ≤ E.failed errors.old + 1 }
 {
     let _ = write_all(errors, text.as_bytes());
     status
@@ -73,7 +84,8 @@ fn recover_telling<E: Sink, S: Source, T: Sink>(
     errors: &mut E,
     source: &mut S,
     sink: &mut T,
-    job: Job,
+    job: &Job<'_>,
+    unit: Unit,
     recovery: &mut Recovery,
 ) -> Result<Progress, Refusal>
     requires errors_room { E.failed errors.old + 1 < 2 ^ 64 }
@@ -83,20 +95,20 @@ fn recover_telling<E: Sink, S: Source, T: Sink>(
 {
     let mut until = job.tell_each;
     'tells: for _ in 0..u64::MAX {
-        match recover(source, sink, job.unit, recovery, until) {
+        match recover(source, sink, unit, recovery, until) {
             Ok(Progress::Paused) => {}
             end => return end,
         }
         let figures = recovery.figures();
         let Ok(text) = figures_line(alloc, figures, job.rate) else {
-            return recover(source, sink, job.unit, recovery, None);
+            return recover(source, sink, unit, recovery, None);
         };
         match write_all(errors, text.as_bytes()) {
             Ok(()) => until = next_telling(until, job.tell_each, figures.samples),
-            Err(_) => return recover(source, sink, job.unit, recovery, None),
+            Err(_) => return recover(source, sink, unit, recovery, None),
         }
     }
-    recover(source, sink, job.unit, recovery, None)
+    recover(source, sink, unit, recovery, None)
 }
 
 /// At how many samples it tells again, where it was to at `until` and so many have come.
@@ -107,13 +119,80 @@ fn next_telling(until: Option<u64>, each: Option<u64>, samples: u64) -> Option<u
     }
 }
 
-/// Recovers the cells, and tells what was found of the line.
-fn run_job<E: Sink>(rt: &HostRuntime, errors: &mut E, job: Job) -> Result<u8, AllocError>
-    requires { E.failed errors.old + 2 < 2 ^ 64 }
-    ensures { IfErr result (λ _. E.failed errors.new ≤ E.failed errors.old + 1) }
+/// Recovers the cells of what the job reads, if that can be a capture, and tells what was found.
+fn run_job<E: Sink>(rt: &HostRuntime, errors: &mut E, job: Job<'_>) -> Result<u8, AllocError>
+    requires { E.failed errors.old + 5 < 2 ^ 64 }
+    ensures { IfErr result (λ _. E.failed errors.new ≤ E.failed errors.old + 5) }
+{
+    let trouble = Cell::new(None);
+    let mut input = Preview::new(rt.alloc(), Input::new(rt, job.file, &trouble));
+    let asked = unit_of(job.octets, job.bit.unwrap_or(0));
+    if let Some(advice) = advice_on_other(input.first(FIRST_LEN)?, asked) {
+        let text = format!(in rt.alloc(); "aes3-cells: {advice}\n")?;
+        return Ok(tell(errors, text.as_str(), NO_LINE));
+    }
+    let found = match job.bit {
+        Some(_) => None,
+        None => line_bit(rt.alloc(), &mut input, job.octets, job.period)?,
+    };
+    let unit = match found {
+        Some(bit) => unit_of(job.octets, bit),
+        None => asked,
+    };
+    tell_bit(rt.alloc(), errors, found)?;
+    let status = run_line(rt, errors, &job, unit, input)?;
+    tell_trouble(rt.alloc(), errors, job.file, trouble.get())?;
+    Ok(status)
+}
+
+/// Tells in which bit the line was found, if it is not the lowest.
+fn tell_bit<E: Sink>(alloc: Global, errors: &mut E, found: Option<u8>) -> Result<(), AllocError>
+    requires { E.failed errors.old + 1 < 2 ^ 64 }
+    ensures { E.failed errors.new ≤ E.failed errors.old + 1 }
+{
+    match found {
+        None | Some(0) => Ok(()),
+        Some(bit) => {
+            let text = format!(in alloc; "aes3-cells: the line is in bit {bit}\n")?;
+            tell(errors, text.as_str(), 0);
+            Ok(())
+        }
+    }
+}
+
+/// Tells why the system did not read on in the file, if there is one and it did not.
+fn tell_trouble<E: Sink>(
+    alloc: Global,
+    errors: &mut E,
+    file: Option<&str>,
+    trouble: Option<io::Error>,
+) -> Result<(), AllocError>
+    requires { E.failed errors.old + 1 < 2 ^ 64 }
+    ensures { E.failed errors.new ≤ E.failed errors.old + 1 }
+{
+    match (file, trouble) {
+        (Some(name), Some(error)) => {
+            let text = format!(in alloc; "aes3-cells: {name}: {error}\n")?;
+            tell(errors, text.as_str(), FAILED);
+            Ok(())
+        }
+        _ => Ok(()),
+    }
+}
+
+/// Recovers the cells of the line in this bit, and tells what was found of it.
+fn run_line<E: Sink>(
+    rt: &HostRuntime,
+    errors: &mut E,
+    job: &Job<'_>,
+    unit: Unit,
+    input: Preview<Input<'_>>,
+) -> Result<u8, AllocError>
+    requires { E.failed errors.old + 3 < 2 ^ 64 }
+    ensures { E.failed errors.new ≤ E.failed errors.old + 3 }
 {
     let mut sink = BufferedSink::new(rt.alloc(), StdSink::new(rt.stdout().lock()))?;
-    let mut source = StdSource::new(rt.stdin().lock());
+    let mut source = StdSource::new(input);
     let mut recovery = Recovery::new(job.form, job.period);
     let end = recover_telling(
         rt.alloc(),
@@ -121,6 +200,7 @@ fn run_job<E: Sink>(rt: &HostRuntime, errors: &mut E, job: Job) -> Result<u8, Al
         &mut source,
         &mut sink,
         job,
+        unit,
         &mut recovery,
     );
     let figures = recovery.figures();
@@ -131,7 +211,9 @@ fn run_job<E: Sink>(rt: &HostRuntime, errors: &mut E, job: Job) -> Result<u8, Al
         }
         Ok(_) => {
             let text = figures_line(rt.alloc(), figures, job.rate)?;
-            Ok(tell(errors, text.as_str(), 0))
+            tell(errors, text.as_str(), 0);
+            let doubt = doubt_of(rt.alloc(), figures)?;
+            Ok(tell(errors, doubt.as_str(), 0))
         }
         Err(Refusal::Read) => Ok(tell(errors, "aes3-cells: the input failed\n", FAILED)),
         Err(Refusal::Write) => Ok(tell(errors, "aes3-cells: the output failed\n", FAILED)),

@@ -144,8 +144,9 @@ pub const FROM_PCM: Texts<'static> = Texts {
     usage: "aes3 from-pcm [OPTIONS] [FILE] > BLOCKFILE",
     more: "Reads samples as `aes3 to-pcm` writes them: of each frame channel 1 and then channel 2,
 4 bytes each, lowest first (S32LE: `ffmpeg -f s32le`, `sox -t raw -e signed -b 32 -L`,
-ALSA's S32_LE). The header of a WAV file before them is refused (`sox FILE -t s32 -`
-leaves it off). The 24 highest bits of each are the sample, the lowest 8 are dropped;
+ALSA's S32_LE). A sound file is refused, by its first 12 bytes: WAV, AIFF, Wave64, FLAC,
+CAF, Ogg, MP3 behind a tag of ID3v2, AU, MPEG-4 (`sox FILE -t s32 -c 2 -` gives the samples
+of each but the last). The 24 highest bits of each are the sample, the lowest 8 are dropped;
 with --exact they have to be zero. With --pcm s24, s24in32 or s16 they are in that form, as
 `aes3 to-pcm` has it, and --exact refuses none: the highest byte of s24in32 does not count,
 and the 8 bits that s16 lacks are zero. Samples that are zero fill up the last block.
@@ -155,8 +156,8 @@ rewrite` has them, else zeros: that is consumer status, whose fields --set1 NAME
 encode` reads them.
 
 Exit status: 0 done; 3 refused: 9 a status is not 48 hexadecimal digits, and nothing is
-read, 2 the samples end inside a frame, 11 a sample has more than 24 bits, 12 they begin
-with the header of a WAV file; or as for every command.
+read, 2 the samples end inside a frame, 11 a sample has more than 24 bits, 12 the input is
+a sound file; or as for every command.
 
 Examples:
     aes3 from-pcm --exact < line.s32 | aes3 encode | aes3 to-pcm | cmp - line.s32

@@ -7,7 +7,7 @@ use Rattle.aes3_level.specs.declared.level.Level.TheVariants.{Low}
 use Rattle.aes3_cell.specs.declared.refusal.RunError.{RunError}
 use Rattle.aes3_cell.specs.declared.refusal.RunError.TheVariants.{BadCell, BadLength, BadCode, BadParity, Read, Write}
 use Rattle.aes3_cell.specs.declared.refusal.RunError.TheVariants.{TooLong, Memory, BadStatusText, BadPadding, BadSample}
-use Rattle.aes3_cell.specs.declared.refusal.RunError.TheVariants.{WaveHeader, Inexact}
+use Rattle.aes3_cell.specs.declared.refusal.RunError.TheVariants.{SoundHeader, Inexact}
 use Rattle.aes3_cell.specs.declared.counts.Counts.{Counts}
 use Rattle.aes3_cell.specs.declared.form.Form.{Form}
 use Rattle.aes3_cell.specs.Written.{bytes_of, ending, written}
@@ -250,9 +250,9 @@ fault-cause form max b ended (BadSample at) h = elim h [
   | inl q ↦ no-fault-cause form (take max b) (BadSample at) (λ k e. cc) (λ k e. cc) q
   | inr q ↦ no-end-cause form b (BadSample at) (λ k e. cc) q.1
 ]
-fault-cause form max b ended WaveHeader h = elim h [
-  | inl q ↦ no-fault-cause form (take max b) WaveHeader (λ k e. cc) (λ k e. cc) q
-  | inr q ↦ no-end-cause form b WaveHeader (λ k e. cc) q.1
+fault-cause form max b ended SoundHeader h = elim h [
+  | inl q ↦ no-fault-cause form (take max b) SoundHeader (λ k e. cc) (λ k e. cc) q
+  | inr q ↦ no-end-cause form b SoundHeader (λ k e. cc) q.1
 ]
 fault-cause form max b ended (Inexact at) h = elim h [
   | inl q ↦ no-fault-cause form (take max b) (Inexact at) (λ k e. cc) (λ k e. cc) q
@@ -312,7 +312,7 @@ no-file-cause max b ended i l Memory r w h = h
 no-file-cause max b ended i l BadStatusText r w h = h
 no-file-cause max b ended i l (BadPadding n) r w h = h
 no-file-cause max b ended i l (BadSample n) r w h = h
-no-file-cause max b ended i l WaveHeader r w h = h
+no-file-cause max b ended i l SoundHeader r w h = h
 no-file-cause max b ended i l (Inexact n) r w h = h
 
 -- the run

@@ -6,7 +6,7 @@ pub mod WordsBack
 pub mod RewrittenBlocks
 pub mod StatusTells
 pub mod RewritingRuns
-pub mod WaveHeaders
+pub mod SoundHeads
 pub mod PcmWords
 pub mod SampleReads
 pub mod SampleRuns

@@ -14,7 +14,8 @@ use Rattle.aes3_pcm.specs.declared.format.SampleFormat.{SampleFormat}
 use Rattle.aes3_pcm.specs.declared.format.SampleFormat.TheVariants.{S32, S24, S24In32, S16}
 use Rattle.aes3_pcm.specs.Formats.{block_len, frame_len, sample_len, widened}
 use Rattle.aes3_pcm.proofs.Formats.{length-widened, widened-join, widened-more, widened-whole, widened-zeros}
-use Rattle.aes3_engine.specs.Sampling.{words_in, wave_header_len}
+use Rattle.aes3_engine.specs.Sampling.{words_in}
+use Rattle.aes3_files.specs.Sound.{sound_head_len}
 
 -- how many samples
 pub length-in : (pcm : SampleFormat) (b : List ℕ) → length (words_in pcm b) ≡ length b / sample_len pcm
@@ -85,14 +86,14 @@ pub all-words : (pcm : SampleFormat) (b : List ℕ) → length b ≡ block_len p
 all-words pcm b h = length-in pcm b ∙ ap (λ n. n / sample_len pcm) h ∙ all-slots pcm
 
 -- before the end of a header there is no whole block
-pub none-before : (pcm : SampleFormat) (n : ℕ) → n % block_len pcm ≡ 0 → n < wave_header_len → n ≡ 0
+pub none-before : (pcm : SampleFormat) (n : ℕ) → n % block_len pcm ≡ 0 → n < sound_head_len → n ≡ 0
 unfolding block_len
 none-before S32 n h l = omega arith
 none-before S24 n h l = omega arith
 none-before S24In32 n h l = omega arith
 none-before S16 n h l = omega arith
 
-pub header-short : (pcm : SampleFormat) (n : ℕ) → n < wave_header_len → n < block_len pcm
+pub header-short : (pcm : SampleFormat) (n : ℕ) → n < sound_head_len → n < block_len pcm
 unfolding block_len
 header-short S32 n l = omega arith
 header-short S24 n l = omega arith

@@ -13,9 +13,9 @@ use Rattle.std.proofs.Math.Seq.{take-append-add}
 use Rattle.std.proofs.lemmas.List.{take-replicate}
 use Rattle.std.proofs.lemmas.List.{drop-drop, get_or-take, get_or_past, nil_from_length}
 use Rattle.aes3_cell.specs.declared.refusal.RunError.{RunError}
-use Rattle.aes3_cell.specs.declared.refusal.RunError.TheVariants.{BadLength, BadSample, WaveHeader}
+use Rattle.aes3_cell.specs.declared.refusal.RunError.TheVariants.{BadLength, BadSample, SoundHeader}
 use Rattle.aes3_cell.specs.Ends.{Grew, GrewFront}
-use Rattle.aes3_cell.specs.Wave.{begins_wave}
+use Rattle.aes3_files.specs.Sound.{begins_sound}
 use Rattle.aes3_cell.proofs.Growing.{grew-none, grew-is, front-is}
 use Rattle.aes3_frame.specs.Blocks.{block_slots}
 use Rattle.aes3_frame.specs.Files.{bytes_number, words_of}
@@ -34,11 +34,12 @@ use Rattle.aes3_engine.specs.Rewriting.{rewritten, rewritten_blocks}
 use Rattle.aes3_engine.specs.Words.{block_words, words_file}
 use Rattle.aes3_engine.specs.Sampling.{sample_file, exact_words, pcm_words, begun_pcm, sample_words, AllExact, is_low}
 use Rattle.aes3_engine.specs.Sampling.{more_of, words_in}
-use Rattle.aes3_engine.specs.Sampling.{sampling, Samples, AreSamples, wave_header_len}
+use Rattle.aes3_engine.specs.Sampling.{sampling, Samples, AreSamples}
+use Rattle.aes3_files.specs.Sound.{sound_head_len}
 use Rattle.aes3_engine.proofs.PcmWords.{all-words, few-words, filled-in, header-short, in-join, in-more, no-byte}
 use Rattle.aes3_engine.proofs.PcmWords.{none-before, one-block, pad-is, pad-none, pad-words, pad_of, whole-samples}
 use Rattle.aes3_engine.proofs.PcmWords.{whole-words, zero-whole}
-use Rattle.aes3_engine.proofs.WaveHeaders.{wave-front, wave-more, wave-settled, wave-short, wave-head}
+use Rattle.aes3_engine.proofs.SoundHeads.{sound-none, sound-front, sound-more, sound-settled, sound-short, sound-head}
 use Rattle.aes3_frame.proofs.BlockLemmas.{count-within}
 use Rattle.std.proofs.lemmas.Option.{none-some, same_Some}
 
@@ -159,7 +160,7 @@ from-true true b x h = elim (cases_eq (length b % 4) 0) [
 ]
 
 abbrev fault-of : Bool → Bool → ℕ → Option RunError
-fault-of t w n = cond {A = Option RunError} t (Some (BadSample n)) (cond {A = Option RunError} w (Some WaveHeader) None)
+fault-of t w n = cond {A = Option RunError} t (Some (BadSample n)) (cond {A = Option RunError} w (Some SoundHeader) None)
 
 fault-none : (t w : Bool) (n : ℕ) → fault-of t w n ≡ None → (t ≡ false) × (w ≡ false)
 fault-none false false n h = (refl, refl)
@@ -167,31 +168,31 @@ fault-none false true n h = absurd (none-some _ (sym h))
 fault-none true w n h = absurd (none-some _ (sym h))
 
 fault-some : (t w : Bool) (n : ℕ) (e : RunError) → fault-of t w n ≡ Some e
-    → ((t ≡ true) × (e ≡ BadSample n)) ⊎ ((t ≡ false) × (w ≡ true) × (e ≡ WaveHeader))
+    → ((t ≡ true) × (e ≡ BadSample n)) ⊎ ((t ≡ false) × (w ≡ true) × (e ≡ SoundHeader))
 fault-some false false n e h = absurd (none-some _ h)
 fault-some false true n e h = inr (refl, refl, sym (same_Some _ _ h))
 fault-some true w n e h = inl (refl, sym (same_Some _ _ h))
 
--- with the byte x they end with the header of a WAV file
+-- with the byte x they end with the head of a sound file
 abbrev with_byte : List ℕ → ℕ → Bool
-with_byte b x = begins_wave (b ++ x ∷ [])
+with_byte b x = begins_sound (b ++ x ∷ [])
 
 pub clean-byte : (pcm : SampleFormat) (exact : Bool) (form : Words) (change : Change) (b : List ℕ) (x : ℕ)
     → (asks_exact pcm exact ≡ true
     → length b % 4 ≡ 0 → x ≡ 0)
-    → begins_wave (b ++ x ∷ []) ≡ false
+    → begins_sound (b ++ x ∷ []) ≡ false
     → (sampling pcm exact form change).fault b x ≡ None
 unfolding sampling
 clean-byte pcm exact form change b x h w = ap₂ (λ s t. fault-of s t (length b))
     (low-false (asks_exact pcm exact) b x h) w
 
-wave-byte : (pcm : SampleFormat) (exact : Bool) (form : Words) (change : Change) (b : List ℕ) (x : ℕ)
+sound-byte : (pcm : SampleFormat) (exact : Bool) (form : Words) (change : Change) (b : List ℕ) (x : ℕ)
     → (asks_exact pcm exact ≡ true → length b % 4 ≡ 0
     → x ≡ 0)
-    → begins_wave (b ++ x ∷ []) ≡ true
-    → (sampling pcm exact form change).fault b x ≡ Some WaveHeader
+    → begins_sound (b ++ x ∷ []) ≡ true
+    → (sampling pcm exact form change).fault b x ≡ Some SoundHeader
 unfolding sampling
-wave-byte pcm exact form change b x h w = ap₂ (λ s t. fault-of s t (length b))
+sound-byte pcm exact form change b x h w = ap₂ (λ s t. fault-of s t (length b))
     (low-false (asks_exact pcm exact) b x h) w
 
 pub bad-byte : (pcm : SampleFormat) (exact : Bool) (form : Words) (change : Change) (b : List ℕ) (x : ℕ)
@@ -204,7 +205,7 @@ bad-byte pcm exact form change b x e q n = ap (λ t. fault-of t (with_byte b x) 
 
 pub byte-clean : (pcm : SampleFormat) (exact : Bool) (form : Words) (change : Change) (b : List ℕ) (x : ℕ)
     → (sampling pcm exact form change).fault b x ≡ None
-    → (asks_exact pcm exact ≡ true → length b % 4 ≡ 0 → x ≡ 0) × (begins_wave (b ++ x ∷ []) ≡ false)
+    → (asks_exact pcm exact ≡ true → length b % 4 ≡ 0 → x ≡ 0) × (begins_sound (b ++ x ∷ []) ≡ false)
 unfolding sampling
 byte-clean pcm exact form change b x h =
     let q = fault-none (is_low (asks_exact pcm exact) b x) (with_byte b x) (length b) h in
@@ -218,9 +219,9 @@ pub record LowByte (exact : Bool) (b : List ℕ) (x : ℕ) (e : RunError) : Type
   pub some : x ≢ 0
 
 pub record HeaderByte (exact : Bool) (b : List ℕ) (x : ℕ) (e : RunError) : Type 0 where
-  pub is : e ≡ WaveHeader
+  pub is : e ≡ SoundHeader
   pub bits : exact ≡ true → length b % 4 ≡ 0 → x ≡ 0
-  pub header : begins_wave (b ++ x ∷ []) ≡ true
+  pub header : begins_sound (b ++ x ∷ []) ≡ true
 
 pub byte-bad : (pcm : SampleFormat) (exact : Bool) (form : Words) (change : Change) (b : List ℕ) (x : ℕ) (e : RunError)
     → (sampling pcm exact form change).fault b x ≡ Some e
@@ -252,10 +253,10 @@ behind-cons exact n x d k q h t e (suc i) r = t e i (ap (λ j. j % 4) (let z : k
 -- nothing of d behind b is refused
 pub record CleanBehind (exact : Bool) (b d : List ℕ) : Type 0 where
   pub bits : ExactBehind exact (length b) d
-  pub samples : begins_wave (b ++ d) ≡ false
+  pub samples : begins_sound (b ++ d) ≡ false
 
-pub one-more : (b d : List ℕ) (x : ℕ) → begins_wave ((b ++ x ∷ []) ++ d) ≡ begins_wave (b ++ x ∷ d)
-one-more b d x = ap begins_wave (append_assoc b (x ∷ []) d)
+pub one-more : (b d : List ℕ) (x : ℕ) → begins_sound ((b ++ x ∷ []) ++ d) ≡ begins_sound (b ++ x ∷ d)
+one-more b d x = ap begins_sound (append_assoc b (x ∷ []) d)
 
 pub exact-clean : (pcm : SampleFormat) (exact : Bool) (form : Words) (change : Change) (b d : List ℕ)
     → CleanBehind (asks_exact pcm exact) b d
@@ -265,24 +266,24 @@ exact-clean pcm exact form change b (x ∷ d) h =
     let w = one-more b d x ∙ h.samples in
     ap (λ o. or_else o (fault_behind (sampling pcm exact form change) (b ++ x ∷ []) d))
     (clean-byte pcm exact form change b x (behind-head (asks_exact pcm exact) (length b) x d h.bits)
-    (wave-front (b ++ x ∷ []) d w))
+    (sound-front (b ++ x ∷ []) d w))
     ∙ exact-clean pcm exact form change (b ++ x ∷ []) d (record {
       bits = behind-tail (asks_exact pcm exact) (length b) x d (length (b ++ x ∷ [])) (length-append b (x ∷ [])) h.bits;
       samples = w;
     })
 
 pub clean-exact : (pcm : SampleFormat) (exact : Bool) (form : Words) (change : Change) (b d : List ℕ)
-    → begins_wave b ≡ false
+    → begins_sound b ≡ false
     → fault_behind (sampling pcm exact form change) b d ≡ None
     → CleanBehind (asks_exact pcm exact) b d
 clean-exact pcm exact form change b [] w h =
-    record { bits = λ e i r. refl; samples = ap begins_wave (append-nil b) ∙ w }
+    record { bits = λ e i r. refl; samples = ap begins_sound (append-nil b) ∙ w }
 clean-exact pcm exact form change b (x ∷ d) w h =
     go ((sampling pcm exact form change).fault b x) refl h (clean-exact pcm exact form change (b ++ x ∷ []) d)
   where
     go : (o : Option RunError) → (sampling pcm exact form change).fault b x ≡ o
         → or_else o (fault_behind (sampling pcm exact form change) (b ++ x ∷ []) d) ≡ None
-        → (begins_wave (b ++ x ∷ []) ≡ false → fault_behind (sampling pcm exact form change) (b ++ x ∷ []) d ≡ None
+        → (begins_sound (b ++ x ∷ []) ≡ false → fault_behind (sampling pcm exact form change) (b ++ x ∷ []) d ≡ None
         → CleanBehind (asks_exact pcm exact) (b ++ x ∷ []) d)
         → CleanBehind (asks_exact pcm exact) b (x ∷ d)
     go (Some e) q h next = absurd cc
@@ -292,18 +293,18 @@ clean-exact pcm exact form change b (x ∷ d) w h =
       samples = sym (one-more b d x) ∙ n.samples;
     }
 
--- the header of a WAV file that ends in d
-wave-found : (pcm : SampleFormat) (exact : Bool) (form : Words) (change : Change) (b d : List ℕ)
+-- the head of a sound file that ends in d
+sound-found : (pcm : SampleFormat) (exact : Bool) (form : Words) (change : Change) (b d : List ℕ)
     → ExactBehind (asks_exact pcm exact) (length b) d
-    → begins_wave b ≡ false → begins_wave (b ++ d) ≡ true
-    → fault_behind (sampling pcm exact form change) b d ≡ Some WaveHeader
-wave-found pcm exact form change b [] h w e = absurd (let q = ap begins_wave (append-nil b) in cc)
-wave-found pcm exact form change b (x ∷ d) h w e = elim (cases_Bool (with_byte b x)) [
-  | inl q ↦ ap (λ o. or_else o more) (wave-byte pcm exact form change b x
+    → begins_sound b ≡ false → begins_sound (b ++ d) ≡ true
+    → fault_behind (sampling pcm exact form change) b d ≡ Some SoundHeader
+sound-found pcm exact form change b [] h w e = absurd (let q = ap begins_sound (append-nil b) in cc)
+sound-found pcm exact form change b (x ∷ d) h w e = elim (cases_Bool (with_byte b x)) [
+  | inl q ↦ ap (λ o. or_else o more) (sound-byte pcm exact form change b x
       (behind-head (asks_exact pcm exact) (length b) x d h) q)
   | inr q ↦ ap (λ o. or_else o more) (clean-byte pcm exact form change b x
       (behind-head (asks_exact pcm exact) (length b) x d h) q)
-      ∙ wave-found pcm exact form change (b ++ x ∷ []) d
+      ∙ sound-found pcm exact form change (b ++ x ∷ []) d
       (behind-tail (asks_exact pcm exact) (length b) x d (length (b ++ x ∷ [])) (length-append b (x ∷ [])) h) q
       (one-more b d x ∙ e)
 ]
@@ -322,7 +323,7 @@ pub clean-all : (pcm : SampleFormat) (exact : Bool) (form : Words) (change : Cha
     → first_fault (sampling pcm exact form change) b ≡ None
     → AreSamples (asks_exact pcm exact) b
 unfolding first_fault
-clean-all pcm exact form change b h = let c = clean-exact pcm exact form change [] b refl h in
+clean-all pcm exact form change b h = let c = clean-exact pcm exact form change [] b sound-none h in
     record { bits = all-exact (asks_exact pcm exact) b c.bits; samples = c.samples }
 
 -- more bytes
@@ -338,9 +339,9 @@ pub clean-more : (exact : Bool) (b d : List ℕ) → AreSamples exact b → Clea
 clean-more exact b d h t = record { bits = all-more exact b d h.bits t.bits; samples = t.samples }
 
 -- where only 24 bits are taken, no sample begins as that header does
-exact-none : (exact : Bool) (b : List ℕ) → exact ≡ true → AllExact exact b → begins_wave b ≡ false
-exact-none exact b e h = elim (cases_Bool (begins_wave b)) [
-  | inl q ↦ absurd (let r = wave-head b q in let z = h e 0 refl in omega arith)
+exact-none : (exact : Bool) (b : List ℕ) → exact ≡ true → AllExact exact b → begins_sound b ≡ false
+exact-none exact b e h = elim (cases_Bool (begins_sound b)) [
+  | inl q ↦ absurd (elim (sound-head b q) [ | inl n ↦ n (h e 0 refl) | inr n ↦ n (h e 4 refl) ])
   | inr q ↦ q
 ]
 
@@ -391,12 +392,12 @@ words-stop S24 exact b x d e h l = absurd (let q = l.asked in cc)
 words-stop S24In32 exact b x d e h l = absurd (let q = l.asked in cc)
 words-stop S16 exact b x d e h l = absurd (let q = l.asked in cc)
 
-begun-none : (pcm : SampleFormat) (exact : Bool) (form : Words) (change : Change) (b : List ℕ) → begins_wave b ≡ true
+begun-none : (pcm : SampleFormat) (exact : Bool) (form : Words) (change : Change) (b : List ℕ) → begins_sound b ≡ true
     → begun_pcm pcm exact form change b ≡ []
 begun-none pcm exact form change b w = ap (λ t. cond {A = List ℕ} t []
     (sample_file form change (sample_words pcm exact b))) w
 
-begun-some : (pcm : SampleFormat) (exact : Bool) (form : Words) (change : Change) (b : List ℕ) → begins_wave b ≡ false
+begun-some : (pcm : SampleFormat) (exact : Bool) (form : Words) (change : Change) (b : List ℕ) → begins_sound b ≡ false
     → begun_pcm pcm exact form change b ≡ sample_file form change (sample_words pcm exact b)
 begun-some pcm exact form change b w = ap (λ t. cond {A = List ℕ} t []
     (sample_file form change (sample_words pcm exact b))) w
@@ -410,10 +411,10 @@ begun-all pcm exact form change b h = begun-some pcm exact form change b h.sampl
 -- nothing of a header is written
 begun-few : (pcm : SampleFormat) (exact : Bool) (form : Words) (change : Change) (b d : List ℕ)
     → AreSamples (asks_exact pcm exact) b
-    → begins_wave (b ++ d) ≡ true
+    → begins_sound (b ++ d) ≡ true
     → begun_pcm pcm exact form change (b ++ d) ≡ begun_pcm pcm exact form change b
 begun-few pcm exact form change b d h w =
-    let l = wave-short b d h.samples w in
+    let l = sound-short b d h.samples w in
     begun-none pcm exact form change (b ++ d) w ∙ sym (begun-all pcm exact form change b h
     ∙ made-short pcm form change b (header-short pcm (length b) l))
 
@@ -422,7 +423,7 @@ begun-stop : (pcm : SampleFormat) (exact : Bool) (form : Words) (change : Change
     → AreSamples (asks_exact pcm exact) b
     → LowByte (asks_exact pcm exact) b x e
     → begun_pcm pcm exact form change (b ++ x ∷ d) ≡ begun_pcm pcm exact form change b
-begun-stop pcm exact form change b x d e h l = elim (cases_Bool (begins_wave (b ++ x ∷ d))) [
+begun-stop pcm exact form change b x d e h l = elim (cases_Bool (begins_sound (b ++ x ∷ d))) [
   | inl w ↦ begun-few pcm exact form change b (x ∷ d) h w
   | inr w ↦ begun-some pcm exact form change (b ++ x ∷ d) w
       ∙ ap (sample_file form change) (words-stop pcm exact b x d e h.bits l)
@@ -436,7 +437,7 @@ unfolding sampling
 adds-is pcm exact form change b x = refl
 
 one-behind : (exact : Bool) (b : List ℕ) (x : ℕ) → (exact ≡ true → length b % 4 ≡ 0 → x ≡ 0)
-    → begins_wave (b ++ x ∷ []) ≡ false
+    → begins_sound (b ++ x ∷ []) ≡ false
     → CleanBehind exact b (x ∷ [])
 one-behind exact b x h w =
     record { bits = behind-cons exact (length b) x [] (length b + 1) refl h (λ e i r. refl); samples = w }
@@ -444,7 +445,7 @@ one-behind exact b x h w =
 pub out-samples : (pcm : SampleFormat) (exact : Bool) (form : Words) (change : Change) (b : List ℕ)
     → out (sampling pcm exact form change) b ≡ begun_pcm pcm exact form change b
 out-samples pcm exact form change = out-is (sampling pcm exact form change) (begun_pcm pcm exact form change)
-    (begun-all pcm exact form change [] (record { bits = λ e i r. refl; samples = refl })
+    (begun-all pcm exact form change [] (record { bits = λ e i r. refl; samples = sound-none })
     ∙ made-short pcm form change [] (no-byte pcm)) more stays
   where
     more : (b : List ℕ) (x : ℕ) → first_fault (sampling pcm exact form change) b ≡ None
@@ -464,7 +465,7 @@ out-samples pcm exact form change = out-is (sampling pcm exact form change) (beg
     stays b x d e c q = elim (byte-bad pcm exact form change b x e q) [
       | inl r ↦ begun-stop pcm exact form change b x d e (clean-all pcm exact form change b c) r
       | inr r ↦ begun-few pcm exact form change b (x ∷ d) (clean-all pcm exact form change b c)
-          (sym (one-more b d x) ∙ wave-more (b ++ x ∷ []) d r.header)
+          (sym (one-more b d x) ∙ sound-more (b ++ x ∷ []) d r.header)
     ]
 
 first-clean : (pcm : SampleFormat) (exact : Bool) (form : Words) (change : Change) (b : List ℕ)
@@ -478,13 +479,13 @@ first-clean pcm exact form change b h =
     })
 
 -- a header of which the bytes b are the beginning writes nothing
-wave-writes : (pcm : SampleFormat) (exact : Bool) (form : Words) (change : Change) (b d : List ℕ)
+sound-writes : (pcm : SampleFormat) (exact : Bool) (form : Words) (change : Change) (b d : List ℕ)
     → AreSamples (asks_exact pcm exact) b
-    → begins_wave (b ++ d) ≡ true
+    → begins_sound (b ++ d) ≡ true
     → out_behind (sampling pcm exact form change) b d ≡ []
 unfolding out
-wave-writes pcm exact form change b d h w =
-    let l = wave-short b d h.samples w in
+sound-writes pcm exact form change b d h w =
+    let l = sound-short b d h.samples w in
     let s : out (sampling pcm exact form change) b ≡ [] =
     out-samples pcm exact form change b ∙ begun-all pcm exact form change b h
     ∙ made-short pcm form change b (header-short pcm (length b) l) in
@@ -534,7 +535,7 @@ place-behind exact n k d e h t i r = h t i (ap (λ j. (j + i) % 4) e ∙ r)
 -- what is known of the bytes d that come next: nothing of them is refused
 pub record CleanHere (exact : Bool) (seen : ℕ) (held d : List ℕ) : Type 0 where
   pub bits : ExactBehind exact seen d
-  pub samples : seen < wave_header_len → begins_wave (held ++ d) ≡ false
+  pub samples : seen < sound_head_len → begins_sound (held ++ d) ≡ false
 
 module _ (pcm : SampleFormat) (exact : Bool) (form : Words) (change : Change) (seen at : ℕ) (begun : List ℕ)
     (size : length begun ≡ 1536) (few : at < block_len pcm) (room : block_len pcm ≤ 1536) where
@@ -545,7 +546,7 @@ module _ (pcm : SampleFormat) (exact : Bool) (form : Words) (change : Change) (s
   held-length = length-take-le at begun (omega (arith, size, few, room))
 
   -- while they are fewer than a header has, they are all held
-  held-all : (b : List ℕ) → Samples pcm exact seen at begun b → seen < wave_header_len → b ≡ held
+  held-all : (b : List ℕ) → Samples pcm exact seen at begun b → seen < sound_head_len → b ≡ held
   held-all b h l =
       let c = h.count in
       let w = h.whole in
@@ -554,11 +555,11 @@ module _ (pcm : SampleFormat) (exact : Bool) (form : Words) (change : Change) (s
       h.bytes ∙ ap (λ p. p ++ held) (nil_from_length h.before z)
 
   still : (b d : List ℕ) → Samples pcm exact seen at begun b
-      → (seen < wave_header_len → begins_wave (held ++ d) ≡ false)
-      → begins_wave (b ++ d) ≡ false
-  still b d h w = elim (cases_lt seen wave_header_len) [
-    | inl l ↦ ap (λ v. begins_wave (v ++ d)) (held-all b h l) ∙ w l
-    | inr l ↦ wave-settled b d (let c = h.count in omega arith) ∙ h.clean.samples
+      → (seen < sound_head_len → begins_sound (held ++ d) ≡ false)
+      → begins_sound (b ++ d) ≡ false
+  still b d h w = elim (cases_lt seen sound_head_len) [
+    | inl l ↦ ap (λ v. begins_sound (v ++ d)) (held-all b h l) ∙ w l
+    | inr l ↦ sound-settled b d (let c = h.count in omega arith) ∙ h.clean.samples
   ]
 
   at-place : (b d : List ℕ) → Samples pcm exact seen at begun b → ExactBehind (asks_exact pcm exact) seen d
@@ -638,25 +639,25 @@ module _ (pcm : SampleFormat) (exact : Bool) (form : Words) (change : Change) (s
   front-part d rest xs t t' x e g b h = front-longer (sampling pcm exact form change) b d rest xs e (front-is
       (writes b d h (behind b d h x)) g)
 
-  -- the header of a WAV file that ends in the bytes d
+  -- the head of a sound file that ends in the bytes d
   pub front-header : (s : List ℕ → Type 0) (d rest xs : List ℕ) (t : Option (List ℕ)) → ((b : List ℕ) → s b)
-      → ExactBehind (asks_exact pcm exact) seen d → d ++ rest ≡ xs → seen < wave_header_len
-      → begins_wave (held ++ d) ≡ true
-      → Stopped (sampling pcm exact form change) (Samples pcm exact seen at begun) s t t xs WaveHeader
+      → ExactBehind (asks_exact pcm exact) seen d → d ++ rest ≡ xs → seen < sound_head_len
+      → begins_sound (held ++ d) ≡ true
+      → Stopped (sampling pcm exact form change) (Samples pcm exact seen at begun) s t t xs SoundHeader
   front-header s d rest xs t any x e l w = record {
     fault = λ b h. ap (fault_behind (sampling pcm exact form change) b) (sym e)
-        ∙ fault-first (sampling pcm exact form change) b d rest WaveHeader
-        (wave-found pcm exact form change b d (at-place b d h x) h.clean.samples (ends b h));
+        ∙ fault-first (sampling pcm exact form change) b d rest SoundHeader
+        (sound-found pcm exact form change b d (at-place b d h x) h.clean.samples (ends b h));
     left = λ b h. any _;
     grew = λ b h. grew-is
         (sym (ap (out_behind (sampling pcm exact form change) b) (sym e)
-        ∙ wave-writes pcm exact form change b (d ++ rest) h.clean
-        (ap begins_wave (sym (append_assoc b d rest)) ∙ wave-more (b ++ d) rest (ends b h))))
+        ∙ sound-writes pcm exact form change b (d ++ rest) h.clean
+        (ap begins_sound (sym (append_assoc b d rest)) ∙ sound-more (b ++ d) rest (ends b h))))
         (grew-none refl);
   }
     where
-      ends : (b : List ℕ) → Samples pcm exact seen at begun b → begins_wave (b ++ d) ≡ true
-      ends b h = ap (λ v. begins_wave (v ++ d)) (held-all b h l) ∙ w
+      ends : (b : List ℕ) → Samples pcm exact seen at begun b → begins_sound (b ++ d) ≡ true
+      ends b h = ap (λ v. begins_sound (v ++ d)) (held-all b h l) ∙ w
 
   -- the first byte that is refused
   pub front-stopped : (s : List ℕ → Type 0) (i : ℕ) (xs : List ℕ) (t : Option (List ℕ)) → ((b : List ℕ) → s b)
@@ -821,6 +822,6 @@ starts pcm exact begun = record {
   count = refl;
   clean = record {
     bits = λ e i r. refl;
-    samples = refl;
+    samples = sound-none;
   };
 }

@@ -10,8 +10,8 @@ use Rattle.std.proofs.lemmas.List.{take_all}
 use Rattle.aes3_cell.specs.declared.refusal.RunError.{RunError}
 use Rattle.aes3_cell.specs.declared.refusal.RunError.TheVariants.{BadCell, BadLength, BadCode, BadParity, Read, Write}
 use Rattle.aes3_cell.specs.declared.refusal.RunError.TheVariants.{TooLong, Memory, BadStatusText, BadPadding, BadSample}
-use Rattle.aes3_cell.specs.declared.refusal.RunError.TheVariants.{WaveHeader, Inexact}
-use Rattle.aes3_cell.specs.Wave.{begins_wave}
+use Rattle.aes3_cell.specs.declared.refusal.RunError.TheVariants.{SoundHeader, Inexact}
+use Rattle.aes3_files.specs.Sound.{begins_sound}
 use Rattle.aes3_cell.specs.declared.counts.Counts.{Counts}
 use Rattle.aes3_frame.specs.Blocks.{block_slots}
 use Rattle.aes3_input.specs.Converting.{or_else, fault_behind, first_fault, whole}
@@ -22,13 +22,14 @@ use Rattle.aes3_status.specs.declared.change.Change as change
 use Rattle.aes3_pcm.specs.declared.format.SampleFormat.{SampleFormat}
 use Rattle.aes3_pcm.specs.Formats.{asks_exact, block_len, frame_len}
 use Rattle.aes3_engine.specs.Sampling.{pcm_words, AllExact, AreSamples, IsPcm, BadSampleAt, IsPcmCause}
-use Rattle.aes3_engine.specs.Sampling.{IsWave, wave_header_len, words_in}
+use Rattle.aes3_engine.specs.Sampling.{IsSound, words_in}
+use Rattle.aes3_files.specs.Sound.{sound_head_len}
 use Rattle.aes3_engine.proofs.PcmWords.{count-blocks}
 use Rattle.aes3_engine.specs.Sampling.{pcm_counts, more_of, sampled_words, sampling}
 use Rattle.aes3_engine.proofs.SampleReads.{made, file-more, begun-all, out-samples, byte-clean, byte-bad, clean-all}
 use Rattle.aes3_engine.proofs.SampleReads.{end-whole, end-left, LowByte, HeaderByte, ExactBehind, behind-cons, one-more}
 use Rattle.aes3_engine.proofs.SampleReads.{all-exact}
-use Rattle.aes3_engine.proofs.WaveHeaders.{wave-more, wave-long, wave-short}
+use Rattle.aes3_engine.proofs.SoundHeads.{sound-none, sound-more, sound-long, sound-short}
 use Rattle.std.proofs.lemmas.Option.{none-some, same_Some}
 
 -- the end
@@ -65,16 +66,16 @@ record LowBehind (exact : Bool) (b d : List ℕ) (e : RunError) : Type 0 where
   pub lowest : (length b + at) % 4 ≡ 0
   pub some : get_or d at 0 ≢ 0
   pub first : (i : ℕ) → i < at → (length b + i) % 4 ≡ 0 → get_or d i 0 ≡ 0
-  pub samples : begins_wave (b ++ take at d) ≡ false
+  pub samples : begins_sound (b ++ take at d) ≡ false
 
 record HeaderBehind (exact : Bool) (b d : List ℕ) (e : RunError) : Type 0 where
   pub head : List ℕ
   pub rest : List ℕ
   pub parts : d ≡ head ++ rest
-  pub is : e ≡ WaveHeader
+  pub is : e ≡ SoundHeader
   pub bits : ExactBehind exact (length b) head
-  pub header : begins_wave (b ++ head) ≡ true
-  pub len : length (b ++ head) ≡ wave_header_len
+  pub header : begins_sound (b ++ head) ≡ true
+  pub len : length (b ++ head) ≡ sound_head_len
 
 low-behind : (exact : Bool) (b : List ℕ) (x : ℕ) (d : List ℕ) (e : RunError)
     → (exact ≡ true → length b % 4 ≡ 0 → x ≡ 0) → LowBehind exact (b ++ x ∷ []) d e → LowBehind exact b (x ∷ d) e
@@ -115,7 +116,7 @@ header-behind exact b x d e z r = record {
 }
 
 -- the byte x ends a header that began before it
-header-here : (exact : Bool) (b : List ℕ) (x : ℕ) (d : List ℕ) (e : RunError) → begins_wave b ≡ false
+header-here : (exact : Bool) (b : List ℕ) (x : ℕ) (d : List ℕ) (e : RunError) → begins_sound b ≡ false
     → HeaderByte exact b x e → HeaderBehind exact b (x ∷ d) e
 header-here exact b x d e w r = record {
   head = x ∷ [];
@@ -126,12 +127,12 @@ header-here exact b x d e w r = record {
   header = r.header;
   len =
       let l = length-append b (x ∷ []) in
-      let m = wave-long (b ++ x ∷ []) r.header in
-      let s = wave-short b (x ∷ []) w r.header in
+      let m = sound-long (b ++ x ∷ []) r.header in
+      let s = sound-short b (x ∷ []) w r.header in
       omega arith;
 }
 
-low-here : (exact : Bool) (b : List ℕ) (x : ℕ) (d : List ℕ) (e : RunError) → begins_wave b ≡ false
+low-here : (exact : Bool) (b : List ℕ) (x : ℕ) (d : List ℕ) (e : RunError) → begins_sound b ≡ false
     → LowByte exact b x e → LowBehind exact b (x ∷ d) e
 low-here exact b x d e w r = let z : length b ≡ length b + 0 = omega arith in record {
   at = 0;
@@ -141,11 +142,11 @@ low-here exact b x d e w r = let z : length b ≡ length b + 0 = omega arith in 
   lowest = ap (λ n. n % 4) (sym z) ∙ r.lowest;
   some = r.some;
   first = λ i w m. absurd (omega arith);
-  samples = ap begins_wave (append-nil b) ∙ w;
+  samples = ap begins_sound (append-nil b) ∙ w;
 }
 
 cause-behind : (pcm : SampleFormat) (exact : Bool) (form : Words) (k : change.Change) (b d : List ℕ) (e : RunError)
-    → begins_wave b ≡ false
+    → begins_sound b ≡ false
     → fault_behind (sampling pcm exact form k) b d ≡ Some e
     → LowBehind (asks_exact pcm exact) b d e ⊎ HeaderBehind (asks_exact pcm exact) b d e
 cause-behind pcm exact form k b [] e w h = absurd cc
@@ -154,7 +155,7 @@ cause-behind pcm exact form k b (x ∷ d) e w h =
   where
     go : (o : Option RunError) → (sampling pcm exact form k).fault b x ≡ o
         → or_else o (fault_behind (sampling pcm exact form k) (b ++ x ∷ []) d) ≡ Some e
-        → (begins_wave (b ++ x ∷ []) ≡ false → fault_behind (sampling pcm exact form k) (b ++ x ∷ []) d ≡ Some e
+        → (begins_sound (b ++ x ∷ []) ≡ false → fault_behind (sampling pcm exact form k) (b ++ x ∷ []) d ≡ Some e
         → LowBehind (asks_exact pcm exact) (b ++ x ∷ []) d e ⊎ HeaderBehind (asks_exact pcm exact) (b ++ x ∷ []) d e)
         → LowBehind (asks_exact pcm exact) b (x ∷ d) e ⊎ HeaderBehind (asks_exact pcm exact) b (x ∷ d) e
     go None q h next = let c = byte-clean pcm exact form k b x q in elim (next c.1 h) [
@@ -172,8 +173,8 @@ record LowCause (exact : Bool) (b : List ℕ) (e : RunError) : Type 0 where
   pub cause : BadSampleAt exact b at
 
 record HeaderCause (exact : Bool) (b : List ℕ) (e : RunError) : Type 0 where
-  pub is : e ≡ WaveHeader
-  pub cause : IsWave exact b
+  pub is : e ≡ SoundHeader
+  pub cause : IsSound exact b
 
 low-cause : (exact : Bool) (b : List ℕ) (e : RunError) → LowBehind exact [] b e → LowCause exact b e
 low-cause exact b e r = let z : 0 + r.at ≡ r.at = omega arith in record {
@@ -193,7 +194,7 @@ header-cause : (exact : Bool) (b : List ℕ) (e : RunError) → HeaderBehind exa
 header-cause exact b e r = record {
   is = r.is;
   cause = record {
-    header = ap begins_wave r.parts ∙ wave-more r.head r.rest r.header;
+    header = ap begins_sound r.parts ∙ sound-more r.head r.rest r.header;
     bits = subst (AllExact exact)
         (sym (ap₂ take (sym r.len) r.parts ∙ take-append_seam r.head r.rest)) (all-exact exact r.head r.bits);
   };
@@ -203,7 +204,7 @@ cause-of : (pcm : SampleFormat) (exact : Bool) (form : Words) (k : change.Change
     → first_fault (sampling pcm exact form k) b ≡ Some e
     → LowCause (asks_exact pcm exact) b e ⊎ HeaderCause (asks_exact pcm exact) b e
 unfolding first_fault
-cause-of pcm exact form k b e h = elim (cause-behind pcm exact form k [] b e refl h) [
+cause-of pcm exact form k b e h = elim (cause-behind pcm exact form k [] b e sound-none h) [
   | inl r ↦ inl (low-cause (asks_exact pcm exact) b e r)
   | inr r ↦ inr (header-cause (asks_exact pcm exact) b e r)
 ]
@@ -211,7 +212,7 @@ cause-of pcm exact form k b e h = elim (cause-behind pcm exact form k [] b e ref
 -- where neither the bytes nor the end can be refused so
 no-cause : (pcm : SampleFormat) (exact : Bool) (form : Words) (k : change.Change) (max : ℕ) (b : List ℕ) (ended : Bool)
     (e : RunError)
-    → ((n : ℕ) → e ≡ BadSample n → ⊥) → (e ≡ WaveHeader → ⊥) → ((n : ℕ) → e ≡ BadLength n → ⊥)
+    → ((n : ℕ) → e ≡ BadSample n → ⊥) → (e ≡ SoundHeader → ⊥) → ((n : ℕ) → e ≡ BadLength n → ⊥)
     → (first_fault (sampling pcm exact form k) (take max b) ≡ Some e)
     ⊎ (CleanEnd max (sampling pcm exact form k) b ended × ((sampling pcm exact form k).end_fault b ≡ Some e)) → ⊥
 no-cause pcm exact form k max b ended e p w q h = elim h [
@@ -261,18 +262,18 @@ not-length pcm exact form k b left h = elim (cause-of pcm exact form k b (BadLen
 ]
 
 no-header-end : (pcm : SampleFormat) (exact : Bool) (form : Words) (k : change.Change) (b : List ℕ)
-    → (sampling pcm exact form k).end_fault b ≡ Some WaveHeader → ⊥
+    → (sampling pcm exact form k).end_fault b ≡ Some SoundHeader → ⊥
 no-header-end pcm exact form k b q = elim (end-cases pcm exact form k b) [
   | inl r ↦ none-some _ (sym r.0 ∙ q)
   | inr r ↦ other (sym r.0 ∙ q)
 ]
   where
-    other : {n : ℕ} → Some (BadLength n) ≡ Some WaveHeader → ⊥
+    other : {n : ℕ} → Some (BadLength n) ≡ Some SoundHeader → ⊥
     other q = cc
 
-wave-cause : (pcm : SampleFormat) (exact : Bool) (form : Words) (k : change.Change) (b : List ℕ)
-    → first_fault (sampling pcm exact form k) b ≡ Some WaveHeader → IsWave (asks_exact pcm exact) b
-wave-cause pcm exact form k b h = elim (cause-of pcm exact form k b WaveHeader h) [
+sound-cause : (pcm : SampleFormat) (exact : Bool) (form : Words) (k : change.Change) (b : List ℕ)
+    → first_fault (sampling pcm exact form k) b ≡ Some SoundHeader → IsSound (asks_exact pcm exact) b
+sound-cause pcm exact form k b h = elim (cause-of pcm exact form k b SoundHeader h) [
   | inl r ↦ absurd (let q = r.is in cc)
   | inr r ↦ r.cause
 ]
@@ -287,8 +288,8 @@ fault-cause pcm exact form k max b ended (BadSample at) h = elim h [
   | inl q ↦ sample-cause pcm exact form k (take max b) at q
   | inr q ↦ absurd (no-sample-end pcm exact form k b at q.1)
 ]
-fault-cause pcm exact form k max b ended WaveHeader h = elim h [
-  | inl q ↦ wave-cause pcm exact form k (take max b) q
+fault-cause pcm exact form k max b ended SoundHeader h = elim h [
+  | inl q ↦ sound-cause pcm exact form k (take max b) q
   | inr q ↦ absurd (no-header-end pcm exact form k b q.1)
 ]
 fault-cause pcm exact form k max b ended (BadLength left) h = elim h [
@@ -333,8 +334,8 @@ no-pcm-cause pcm exact max b ended i l TooLong r w h = let n = h.1 in omega arit
 no-pcm-cause pcm exact max b ended i l (BadSample at) r w h =
     let e = take_all max b l in
     h.some (ap (λ v. get_or v at 0) e ∙ i.clean.bits h.asked at h.lowest)
-no-pcm-cause pcm exact max b ended i l WaveHeader r w h = absurd
-    (let e = ap begins_wave (take_all max b l) in let f = i.clean.samples in let t = h.header in cc)
+no-pcm-cause pcm exact max b ended i l SoundHeader r w h = absurd
+    (let e = ap begins_sound (take_all max b l) in let f = i.clean.samples in let t = h.header in cc)
 no-pcm-cause pcm exact max b ended i l (BadLength n) r w h = let z = i.whole in let c = h.0.count in
     let s = h.0.some in omega arith
 no-pcm-cause pcm exact max b ended i l (BadCell n) r w h = h

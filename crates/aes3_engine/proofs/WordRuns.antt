@@ -11,7 +11,7 @@ use Rattle.aes3_cell.specs.declared.form.Form.{Form}
 use Rattle.aes3_cell.specs.declared.refusal.RunError.{RunError}
 use Rattle.aes3_cell.specs.declared.refusal.RunError.TheVariants.{BadCell, BadLength, BadCode, BadParity, Read, Write}
 use Rattle.aes3_cell.specs.declared.refusal.RunError.TheVariants.{TooLong, Memory, BadStatusText, BadPadding, BadSample}
-use Rattle.aes3_cell.specs.declared.refusal.RunError.TheVariants.{WaveHeader, Inexact}
+use Rattle.aes3_cell.specs.declared.refusal.RunError.TheVariants.{SoundHeader, Inexact}
 use Rattle.aes3_cell.specs.Written.{bytes_of, ending, written}
 use Rattle.aes3_level.specs.declared.level.Level.TheVariants.{Low}
 use Rattle.aes3_words.specs.declared.form.Words.{Words}
@@ -203,11 +203,11 @@ module _ (form : Words) (output : Form) (max : ℕ) (b : List ℕ) (ended : Bool
         (first-of (BadSample at) q)
     | inr q ↦ no-end-cause output (own_of form b) (BadSample at) (λ k e. cc) (end-of (BadSample at) q.1)
   ]
-  words-cause WaveHeader h = elim h [
+  words-cause SoundHeader h = elim h [
     | inl q ↦
-        no-fault-cause output (read_whole form (take max b)) WaveHeader (λ k e. cc) (λ k e. cc)
-        (first-of WaveHeader q)
-    | inr q ↦ no-end-cause output (own_of form b) WaveHeader (λ k e. cc) (end-of WaveHeader q.1)
+        no-fault-cause output (read_whole form (take max b)) SoundHeader (λ k e. cc) (λ k e. cc)
+        (first-of SoundHeader q)
+    | inr q ↦ no-end-cause output (own_of form b) SoundHeader (λ k e. cc) (end-of SoundHeader q.1)
   ]
   words-cause (Inexact at) h = elim h [
     | inl q ↦

@@ -5,7 +5,7 @@ use Rattle.aes3_level.specs.declared.level.Level.TheVariants.{Low}
 use Rattle.aes3_cell.specs.declared.refusal.RunError.{RunError}
 use Rattle.aes3_cell.specs.declared.refusal.RunError.TheVariants.{BadCell, BadLength, BadCode, BadParity, Read, Write}
 use Rattle.aes3_cell.specs.declared.refusal.RunError.TheVariants.{TooLong, Memory, BadStatusText, BadPadding, BadSample}
-use Rattle.aes3_cell.specs.declared.refusal.RunError.TheVariants.{WaveHeader, Inexact}
+use Rattle.aes3_cell.specs.declared.refusal.RunError.TheVariants.{SoundHeader, Inexact}
 use Rattle.aes3_cell.specs.declared.counts.Counts.{Counts}
 use Rattle.aes3_block.specs.declared.file.FileFault.{FileFault}
 use Rattle.aes3_frame.specs.Blocks.{block_slots, block_len, block_cells, stream}
@@ -78,7 +78,7 @@ IsCauseOf max b ended Memory = ⊥
 IsCauseOf max b ended BadStatusText = ⊥
 IsCauseOf max b ended (BadPadding at) = ⊥
 IsCauseOf max b ended (BadSample at) = ⊥
-IsCauseOf max b ended WaveHeader = ⊥
+IsCauseOf max b ended SoundHeader = ⊥
 IsCauseOf max b ended (Inexact at) = ⊥
 
 -- what a run over a whole block file counts

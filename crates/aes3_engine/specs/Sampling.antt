@@ -5,8 +5,8 @@ use Rattle.std.specs.Prelude.{◌==◌, IsTrue, length, take, drop, get_or, if�
 use Rattle.aes3_cell.specs.declared.counts.Counts.{Counts}
 use Rattle.aes3_cell.specs.declared.refusal.RunError.{RunError}
 use Rattle.aes3_cell.specs.declared.refusal.RunError.TheVariants.{BadLength, BadSample, Read, Write, TooLong}
-use Rattle.aes3_cell.specs.declared.refusal.RunError.TheVariants.{WaveHeader}
-use Rattle.aes3_cell.specs.Wave.{begins_wave}
+use Rattle.aes3_cell.specs.declared.refusal.RunError.TheVariants.{SoundHeader}
+use Rattle.aes3_files.specs.Sound.{begins_sound, sound_head_len}
 use Rattle.aes3_frame.specs.Files.{bytes_number, words_of}
 use Rattle.aes3_frame.specs.Sampled.{sampled, filled}
 use Rattle.aes3_input.specs.Converting.{Reading}
@@ -44,7 +44,7 @@ abbrev pub pcm_words : SampleFormat → Words → Change → List ℕ → List �
 pcm_words pcm form change b = sample_file form change (filled (words_in pcm b))
 
 abbrev pub begun_pcm : SampleFormat → Bool → Words → Change → List ℕ → List ℕ
-begun_pcm pcm exact form change b = if begins_wave b then [] else sample_file form change (sample_words pcm exact b)
+begun_pcm pcm exact form change b = if begins_sound b then [] else sample_file form change (sample_words pcm exact b)
 
 -- the block file of samples of 32 bits in its own words
 abbrev pub pcm_file : Change → List ℕ → List ℕ
@@ -54,19 +54,15 @@ pcm_file change b = pcm_words S32 Own change b
 abbrev pub AllExact : Bool → List ℕ → Type 0
 AllExact exact b = exact ≡ true → (i : ℕ) → i % 4 ≡ 0 → get_or b i 0 ≡ 0
 
--- no sample is refused, and they don't begin with the header of a WAV file
+-- no sample is refused, and they don't begin with the head of a sound file
 pub record AreSamples (exact : Bool) (b : List ℕ) : Type 0 where
   pub bits : AllExact exact b
-  pub samples : begins_wave b ≡ false
-
--- how many bytes of that header are looked at
-abbrev pub wave_header_len : ℕ
-wave_header_len = 12
+  pub samples : begins_sound b ≡ false
 
 -- they begin with it, and no sample before its end is refused
-pub record IsWave (exact : Bool) (b : List ℕ) : Type 0 where
-  pub header : begins_wave b ≡ true
-  pub bits : AllExact exact (take wave_header_len b)
+pub record IsSound (exact : Bool) (b : List ℕ) : Type 0 where
+  pub header : begins_sound b ≡ true
+  pub bits : AllExact exact (take sound_head_len b)
 
 -- whole frames, of two samples each
 pub record IsPcm (pcm : SampleFormat) (exact : Bool) (b : List ℕ) : Type 0 where
@@ -80,7 +76,7 @@ pub record BadSampleAt (exact : Bool) (b : List ℕ) (at : ℕ) : Type 0 where
   pub lowest : at % 4 ≡ 0
   pub some : get_or b at 0 ≢ 0
   pub first : (i : ℕ) → i < at → i % 4 ≡ 0 → get_or b i 0 ≡ 0
-  pub samples : begins_wave (take at b) ≡ false
+  pub samples : begins_sound (take at b) ≡ false
 
 -- the bytes end inside a frame
 pub record EndsInFrame (pcm : SampleFormat) (exact : Bool) (b : List ℕ) (left : ℕ) : Type 0 where
@@ -92,7 +88,7 @@ pub record EndsInFrame (pcm : SampleFormat) (exact : Bool) (b : List ℕ) (left 
 abbrev pub IsPcmCause : SampleFormat → Bool → ℕ → List ℕ → Bool → RunError → Type 0
 IsPcmCause pcm exact max b ended (BadSample at) = BadSampleAt (asks_exact pcm exact) (take max b) at
 IsPcmCause pcm exact max b ended (BadLength left) = EndsInFrame pcm exact b left × (length b ≤ max) × IsTrue ended
-IsPcmCause pcm exact max b ended WaveHeader = IsWave (asks_exact pcm exact) (take max b)
+IsPcmCause pcm exact max b ended SoundHeader = IsSound (asks_exact pcm exact) (take max b)
 IsPcmCause pcm exact max b ended TooLong = AreSamples (asks_exact pcm exact) (take max b) × (length b ≡ max + 1)
 IsPcmCause pcm exact max b ended Read = AreSamples (asks_exact pcm exact) b × (length b ≤ max)
 IsPcmCause pcm exact max b ended Write = length b ≤ max + 1
@@ -133,7 +129,7 @@ unfoldable pub sampling : SampleFormat → Bool → Words → Change → Reading
 sampling pcm exact form change = record {
   fault = λ b x.
       if is_low (asks_exact pcm exact) b x then Some (BadSample (length b))
-      else if begins_wave (b ++ x ∷ []) then Some WaveHeader else None;
+      else if begins_sound (b ++ x ∷ []) then Some SoundHeader else None;
   adds = λ b x.
       more_of (sample_file form change (words_in pcm b)) (sample_file form change (words_in pcm (b ++ x ∷ [])));
   end_fault = λ b. if (length b % frame_len pcm) == 0 then None else Some (BadLength (length b % frame_len pcm));

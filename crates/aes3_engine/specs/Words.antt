@@ -8,7 +8,7 @@ use Rattle.aes3_cell.specs.declared.form.Form.{Form}
 use Rattle.aes3_cell.specs.declared.refusal.RunError.{RunError}
 use Rattle.aes3_cell.specs.declared.refusal.RunError.TheVariants.{BadCell, BadLength, BadCode, BadParity, Read, Write}
 use Rattle.aes3_cell.specs.declared.refusal.RunError.TheVariants.{TooLong, Memory, BadStatusText, BadPadding, BadSample}
-use Rattle.aes3_cell.specs.declared.refusal.RunError.TheVariants.{WaveHeader, Inexact}
+use Rattle.aes3_cell.specs.declared.refusal.RunError.TheVariants.{SoundHeader, Inexact}
 use Rattle.aes3_cell.specs.Written.{written}
 use Rattle.aes3_words.specs.declared.form.Words.{Words}
 use Rattle.aes3_words.specs.declared.form.Words.TheVariants.{Own, Alsa, Am824}
@@ -57,7 +57,7 @@ IsWordsCause form max b ended Memory = ⊥
 IsWordsCause form max b ended BadStatusText = ⊥
 IsWordsCause form max b ended (BadPadding at) = ⊥
 IsWordsCause form max b ended (BadSample at) = ⊥
-IsWordsCause form max b ended WaveHeader = ⊥
+IsWordsCause form max b ended SoundHeader = ⊥
 IsWordsCause form max b ended (Inexact at) = ⊥
 
 -- what `encode` promises of words in another form: what it does of the block file that they are read as

@@ -4,7 +4,7 @@ ghost use Rattle.std.specs.Prelude.{◌≡◌, ◌≢◌, ℕ, ◌+◌, ◌-◌,
 ghost use Rattle.std.specs.Prelude.{true, false, None, Err, get_or, length, map, take, IfErr, IfOk};
 ghost use Rattle.std.specs.Prelude.{IfSome, IsOk, OnErr, IsTrue};
 ghost use Rattle.aes3_cell.specs.Ends.{Grew, GrewFront, Told};
-ghost use Rattle.aes3_cell.specs.Wave.{begins_wave};
+ghost use Rattle.aes3_files.specs.Sound.{begins_sound};
 ghost use Rattle.aes3_cell.specs.Writes.{Wrote};
 ghost use Rattle.aes3_frame.specs.Files.{words_of};
 ghost use Rattle.aes3_frame.specs.Sampled.{payload_of_sample};
@@ -19,7 +19,8 @@ ghost use Rattle.aes3_engine.specs.Words.{block_words};
 use crate::rewriting::rewrite_block;
 use crate::words::put_block_words;
 use aes3_block::{BLOCK_BYTES, Block};
-use aes3_cell::{Counts, Fault, RunError, Sink, Source, begins_wave};
+use aes3_cell::{Counts, Fault, RunError, Sink, Source};
+use aes3_files::{SOUND_HEAD_LEN, SoundFile};
 use aes3_input::{Input, convert};
 use aes3_pcm::SampleFormat;
 use aes3_status::Change;
@@ -28,8 +29,8 @@ use aes3_words::Words;
 /// How many bytes a sample of 32 bits has.
 const SAMPLE_BYTES: u64 = 4;
 
-/// How many bytes of a WAV file's header are looked at.
-const WAVE_HEADER_BYTES: u64 = 12;
+/// How many bytes of a sound file's head are looked at.
+const SOUND_HEAD_BYTES: u64 = SOUND_HEAD_LEN as u64;
 
 /// Samples as they come, and the bytes of the block that they have begun.
 #[derive(Drop)]
@@ -139,7 +140,7 @@ impl Input<Change> for SampleInput {
         }
         self.begun[at..at + len].copy_from_slice(&piece[..len]);
         if self.has_header(at + len) {
-            return Err(RunError::WaveHeader);
+            return Err(RunError::SoundHeader);
         }
         self.seen += len as u64;
         if at + len < block_len {
@@ -187,16 +188,16 @@ impl SampleInput {
         low_bits_in(self.format.asks_exact(self.exact), piece, at)
     }
 
-    /// Whether the header of a WAV file ends in these first bytes of a block, of which no more than
+    /// Whether the head of a sound file ends in these first bytes of a block, of which no more than
     /// `seen` were taken before.
     fn has_header(&self, len: usize) -> bool
         requires { len ≤ BLOCK_BYTES }
-        ensures yes { result ≡ true → (self.now.seen < WAVE_HEADER_BYTES)
-            × (begins_wave (take len self.now.begun) ≡ true) }
-        ensures no { result ≡ false → self.now.seen < WAVE_HEADER_BYTES
-            → begins_wave (take len self.now.begun) ≡ false }
+        ensures yes { result ≡ true → (self.now.seen < SOUND_HEAD_BYTES)
+            × (begins_sound (take len self.now.begun) ≡ true) }
+        ensures no { result ≡ false → self.now.seen < SOUND_HEAD_BYTES
+            → begins_sound (take len self.now.begun) ≡ false }
     {
-        self.seen < WAVE_HEADER_BYTES && begins_wave(&self.begun[..len])
+        self.seen < SOUND_HEAD_BYTES && SoundFile::begins(&self.begun[..len])
     }
 }
 
@@ -207,7 +208,7 @@ impl SampleInput {
 ///
 /// # Errors
 /// `BadLength` where the input ends inside a frame, `BadSample` where `exact` is set and one of the
-/// lowest 8 bits of a word is too, `WaveHeader` where the input begins with the header of a WAV file
+/// lowest 8 bits of a word is too, `SoundHeader` where the input begins with the head of a sound file
 /// and no sample before its end was refused, `TooLong` where it has more than `max_bytes` bytes, `Read` and
 /// `Write` where an end failed. Then the blocks that were whole before are written, and after
 /// `Write` a front of the output.
@@ -228,7 +229,7 @@ pub fn from_pcm<S: Source, T: Sink>(
         → Grew (T.taken sink.old) (T.taken sink.new) (pcm_file change.now b)) }
     ensures passed_on { IfOk result (λ _. T.passed sink.new ≡ T.taken sink.new) }
 
-    // It owes Ok where the input is whole frames, of 24 bits where that is asked, and no WAV file,
+    // It owes Ok where the input is whole frames, of 24 bits where that is asked, and no sound file,
     // and fits, and neither end failed.
     ensures owed { (b : List ℕ) → Told (S.given source.old) (S.given source.new) b → IsPcm S32 exact b
         → length b ≤ max_bytes
@@ -276,7 +277,7 @@ pub fn from_pcm_words<S: Source, T: Sink>(
         → Grew (T.taken sink.old) (T.taken sink.new) (pcm_words format words change.now b)) }
     ensures passed_on { IfOk result (λ _. T.passed sink.new ≡ T.taken sink.new) }
 
-    // It owes Ok where the input is whole frames, of 24 bits where that is asked, and no WAV file,
+    // It owes Ok where the input is whole frames, of 24 bits where that is asked, and no sound file,
     // and fits, and neither end failed.
     ensures owed { (b : List ℕ) → Told (S.given source.old) (S.given source.new) b → IsPcm format exact b
         → length b ≤ max_bytes

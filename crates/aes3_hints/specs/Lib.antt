@@ -1,4 +1,3 @@
-pub mod LooksOf
 pub mod Places
 pub mod Progresses
 pub mod Sentences

@@ -74,7 +74,18 @@ greeting terminals job = reads_hint terminals.input ++ writes_hint terminals.out
 
 -- what can be told to do by what an input looks like, or where it is a file
 abbrev pub told_texts : List (List ℕ)
-told_texts = codes "this is a WAV file: `sox FILE -t s32 - | aes3 from-pcm` takes its samples"
+told_texts = codes "this is a WAV file: `sox FILE -t s32 -c 2 - | aes3 from-pcm` takes its samples"
+    ∷ codes "this is an AIFF file: `sox FILE -t s32 -c 2 - | aes3 from-pcm` takes its samples"
+    ∷ codes "this is a Wave64 file: `sox FILE -t s32 -c 2 - | aes3 from-pcm` takes its samples"
+    ∷ codes "this is a FLAC file: `sox FILE -t s32 -c 2 - | aes3 from-pcm` takes its samples"
+    ∷ codes "this is a CAF file: `sox FILE -t s32 -c 2 - | aes3 from-pcm` takes its samples"
+    ∷ codes "this is an Ogg file: `sox FILE -t s32 -c 2 - | aes3 from-pcm` takes its samples"
+    ∷ codes "this is an MP3 file: `sox FILE -t s32 -c 2 - | aes3 from-pcm` takes its samples"
+    ∷ codes "this is an AU file: `sox FILE -t s32 -c 2 - | aes3 from-pcm` takes its samples"
+    ∷ codes "this is an MPEG-4 file: `ffmpeg -i FILE -ac 2 -f s32le - | aes3 from-pcm` takes its samples"
+    ∷ codes
+    "this is a value change dump: `sigrok-cli -I vcd:downsample=10 -i FILE -O binary | aes3-cells` makes cells of it, at a time scale of 1 ns"
+    ∷ codes "this is a program"
     ∷ codes "a session of sigrok begins so: `sigrok-cli -i FILE -O binary | aes3-cells` makes cells of it"
     ∷ codes "these look like samples of a logic analyser: `aes3-cells < FILE` makes cells of them"
     ∷ codes "this file is compressed: take it apart first"

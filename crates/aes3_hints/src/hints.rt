@@ -8,11 +8,12 @@ ghost use Rattle.aes3_hints.specs.Sentences.{Explained, ExplainedBy, greeting, i
 ghost use Rattle.aes3_hints.specs.Sentences.{reads_packed};
 ghost use Rattle.aes3_hints.specs.Sentences.{writes_hint, writes_packed};
 
-use crate::looks::{Looks, advice_by_looks, are_turned, looks_of};
+use crate::looks::advice_by_looks;
 use crate::progress::{Progress, course_of};
 use crate::watched::{Position, Watched};
 use aes3_arguments::{CommandLine, LineFault, advice, status_of_text};
 use aes3_cell::{Form, RunError, Sink, Source, write_all};
+use aes3_files::{FileKind, are_turned};
 use aes3_job::{Job, Observer};
 use std::alloc::Global;
 use std::cell::Cell;
@@ -124,7 +125,7 @@ impl<T: Sink + Drop> Hints<T> {
                 self.tell_refusal(RunError::Read, Some(Place::File(name)), Some(UNREAD));
             }
             (Some(error), _) => {
-                let looks = looks_of(source.first());
+                let looks = FileKind::of(source.first());
                 let told = advice_by_looks(error, looks);
                 self.tell_refusal(error, place_of(error, words, source, looks), told);
             }
@@ -233,8 +234,8 @@ fn is_lsb_first(words: &[&str]) -> bool {
 
 /// What to do where the first bytes of an input look like another kind than this job takes.
 fn warning(job: Option<Job>, is_lsb_first: bool, first: &[u8]) -> Option<&'static str> {
-    match (job?, looks_of(first)) {
-        (job, Looks::Octets) if reads_packed(&job) && !is_lsb_first && are_turned(first) => {
+    match (job?, FileKind::of(first)) {
+        (job, FileKind::Octets) if reads_packed(&job) && !is_lsb_first && are_turned(first) => {
             Some("the cells look packed with the first in the lowest bit: try `--lsb-first`")
         }
         _ => None,
@@ -259,10 +260,10 @@ fn place_of<S: Source + Drop>(
     error: RunError,
     words: &[&str],
     source: &Watched<S>,
-    looks: Looks,
+    looks: FileKind,
 ) -> Option<Place<'static>> {
     match error {
-        RunError::BadSample { .. } if matches!(looks, Looks::Wave) => Some(Place::SoundFile),
+        RunError::BadSample { .. } if matches!(looks, FileKind::Sound(_)) => Some(Place::SoundFile),
         RunError::BadCell { at } => Some(Place::Byte(source.position(at)?)),
         RunError::BadStatusText => Some(Place::Option(bad_status_option(words)?)),
         _ => None,

@@ -7,7 +7,7 @@ use Rattle.aes3_cell.specs.declared.form.Form.TheVariants.{Text, Packed}
 use Rattle.aes3_cell.specs.declared.refusal.RunError.{RunError}
 use Rattle.aes3_cell.specs.declared.refusal.RunError.TheVariants.{BadCell, BadLength, BadCode, BadParity, Read, Write}
 use Rattle.aes3_cell.specs.declared.refusal.RunError.TheVariants.{TooLong, Memory, BadStatusText, BadPadding, BadSample}
-use Rattle.aes3_cell.specs.declared.refusal.RunError.TheVariants.{WaveHeader, Inexact}
+use Rattle.aes3_cell.specs.declared.refusal.RunError.TheVariants.{SoundHeader, Inexact}
 use Rattle.aes3_cell.specs.declared.counts.Counts.{Counts}
 use Rattle.aes3_cell.specs.CellText.{good}
 use Rattle.aes3_input.specs.Running.{Movement}
@@ -81,5 +81,5 @@ no-cell-cause form max b ended i l (BadParity n) r w h = h
 no-cell-cause form max b ended i l Memory r w h = h
 no-cell-cause form max b ended i l BadStatusText r w h = h
 no-cell-cause form max b ended i l (BadSample n) r w h = h
-no-cell-cause form max b ended i l WaveHeader r w h = h
+no-cell-cause form max b ended i l SoundHeader r w h = h
 no-cell-cause form max b ended i l (Inexact n) r w h = h

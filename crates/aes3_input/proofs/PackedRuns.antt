@@ -7,7 +7,7 @@ use Rattle.aes3_cell.specs.declared.form.Form.TheVariants.{Packed}
 use Rattle.aes3_cell.specs.declared.refusal.RunError.{RunError}
 use Rattle.aes3_cell.specs.declared.refusal.RunError.TheVariants.{Read, Write, TooLong, BadCell, BadLength, BadCode}
 use Rattle.aes3_cell.specs.declared.refusal.RunError.TheVariants.{BadParity, Memory, BadStatusText, BadPadding}
-use Rattle.aes3_cell.specs.declared.refusal.RunError.TheVariants.{BadSample, WaveHeader, Inexact}
+use Rattle.aes3_cell.specs.declared.refusal.RunError.TheVariants.{BadSample, SoundHeader, Inexact}
 use Rattle.aes3_cell.specs.Packed.{IsPacked, is_packed, last_place, cells_of_packed, whole_cells}
 use Rattle.aes3_cell.specs.PackedReading.{PackedReader, packed_reader_of, packed_answer, packed_end, answer_cells}
 use Rattle.aes3_cell.specs.PackedReading.{end_cells}
@@ -136,7 +136,7 @@ packed-cause w max b ended (BadParity n) r = absurd (let q = (bad-of max w b end
 packed-cause w max b ended Memory r = absurd (let q = (bad-of max w b ended Memory r).2 in cc)
 packed-cause w max b ended BadStatusText r = absurd (let q = (bad-of max w b ended BadStatusText r).2 in cc)
 packed-cause w max b ended (BadSample n) r = absurd (let q = (bad-of max w b ended (BadSample n) r).2 in cc)
-packed-cause w max b ended WaveHeader r = absurd (let q = (bad-of max w b ended WaveHeader r).2 in cc)
+packed-cause w max b ended SoundHeader r = absurd (let q = (bad-of max w b ended SoundHeader r).2 in cc)
 packed-cause w max b ended (Inexact n) r = absurd (let q = (bad-of max w b ended (Inexact n) r).2 in cc)
 
 -- the run

@@ -8,7 +8,7 @@ use Rattle.aes3_cell.specs.declared.form.Form.TheVariants.{Text}
 use Rattle.aes3_cell.specs.declared.refusal.RunError.{RunError}
 use Rattle.aes3_cell.specs.declared.refusal.RunError.TheVariants.{Read, Write, TooLong, BadCell, BadLength, BadCode}
 use Rattle.aes3_cell.specs.declared.refusal.RunError.TheVariants.{BadParity, Memory, BadStatusText, BadPadding}
-use Rattle.aes3_cell.specs.declared.refusal.RunError.TheVariants.{BadSample, WaveHeader, Inexact}
+use Rattle.aes3_cell.specs.declared.refusal.RunError.TheVariants.{BadSample, SoundHeader, Inexact}
 use Rattle.aes3_cell.specs.CellText.{is_good_byte, byte_cells, good_bytes, good, cells_of_text, IsCellText}
 use Rattle.aes3_cell.specs.TextReading.{TextReader, text_reader_of}
 use Rattle.aes3_cell.proofs.CellTexts.{good-join, good-bad, text-more, cells-more, cells-bad}
@@ -198,7 +198,7 @@ text-cause w max b ended Memory r = absurd (let q = (bad-of max w b ended Memory
 text-cause w max b ended BadStatusText r = absurd (let q = (bad-of max w b ended BadStatusText r).0 in cc)
 text-cause w max b ended (BadPadding n) r = absurd (let q = (bad-of max w b ended (BadPadding n) r).0 in cc)
 text-cause w max b ended (BadSample n) r = absurd (let q = (bad-of max w b ended (BadSample n) r).0 in cc)
-text-cause w max b ended WaveHeader r = absurd (let q = (bad-of max w b ended WaveHeader r).0 in cc)
+text-cause w max b ended SoundHeader r = absurd (let q = (bad-of max w b ended SoundHeader r).0 in cc)
 text-cause w max b ended (Inexact n) r = absurd (let q = (bad-of max w b ended (Inexact n) r).0 in cc)
 
 -- the run

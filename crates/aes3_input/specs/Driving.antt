@@ -6,7 +6,7 @@ use Rattle.aes3_cell.specs.declared.counts.Counts.{Counts}
 use Rattle.aes3_cell.specs.declared.refusal.RunError.{RunError}
 use Rattle.aes3_cell.specs.declared.refusal.RunError.TheVariants.{BadCell, BadLength, BadCode, BadParity, Read, Write}
 use Rattle.aes3_cell.specs.declared.refusal.RunError.TheVariants.{TooLong, Memory, BadStatusText, BadPadding, BadSample}
-use Rattle.aes3_cell.specs.declared.refusal.RunError.TheVariants.{WaveHeader, Inexact}
+use Rattle.aes3_cell.specs.declared.refusal.RunError.TheVariants.{SoundHeader, Inexact}
 use Rattle.aes3_input.specs.Running.{Movement, Promise, InputRun}
 use Rattle.aes3_input.specs.Taking.{Writing, before_end, with_end}
 use Rattle.aes3_input.specs.Inputs.{IsInput, cells_of, cells_before, NoBadByte, BadByteAt, BadEndAt}
@@ -24,7 +24,7 @@ IsCause form max b ended (BadParity at) = ⊥
 IsCause form max b ended Memory = ⊥
 IsCause form max b ended BadStatusText = ⊥
 IsCause form max b ended (BadSample at) = ⊥
-IsCause form max b ended WaveHeader = ⊥
+IsCause form max b ended SoundHeader = ⊥
 IsCause form max b ended (Inexact at) = ⊥
 
 -- what a run over cells promises, of which all write `whole` and cells behind which more may come `begun`

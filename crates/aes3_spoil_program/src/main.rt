@@ -5,8 +5,6 @@
 mod argument;
 /// What the program says of itself.
 mod help;
-/// What the program reads.
-mod input;
 /// What the words of a command line ask for.
 mod line;
 /// Errors by the options that ask for them.
@@ -19,10 +17,11 @@ mod value;
 ghost use Rattle.std.specs.Prelude.{◌≡◌, ◌<◌, ◌+◌, ◌^◌, IfErr};
 
 use aes3_cell::{BufferedSink, RunError, Sink, StdSink, StdSource, write_all};
-use input::Input;
+use aes3_files::Input;
 use line::{LineFault, job_of_words};
 use run::{DONE, REFUSED, USAGE, refuse, run_job, tell};
 use std::alloc::AllocError;
+use std::cell::Cell;
 use std::env;
 use std::io::ErrorKind;
 use std::process::ExitCode;
@@ -61,8 +60,13 @@ fn run_program<E: Sink>(rt: &HostRuntime, told: &mut E) -> Result<u8, AllocError
     let mut sink = BufferedSink::new(rt.alloc(), StdSink::new(rt.stdout().lock()))?;
     match job_of_words(rt.alloc(), &words) {
         Ok(job) => {
-            let mut source = StdSource::new(Input::new(rt, job.file));
-            Ok(run_job(rt.alloc(), &job, &mut source, &mut sink, told))
+            let trouble = Cell::new(None);
+            let mut source = StdSource::new(Input::new(rt, job.file, &trouble));
+            let status = run_job(rt.alloc(), &job, &mut source, &mut sink, told);
+            if let (Some(name), Some(error)) = (job.file, trouble.get()) {
+                eprintln!(rt; "aes3-spoil: {name}: {error}").unwrap_or(());
+            }
+            Ok(status)
         }
         Err(LineFault::Usage { text }) => Ok(tell(told, text.as_str(), USAGE)),
         Err(LineFault::Help { text }) => Ok(tell_help(rt, text.as_str(), &mut sink, told)),

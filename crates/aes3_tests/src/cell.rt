@@ -319,7 +319,7 @@ const REFUSALS: &[(RunError, u8, Option<u64>)] = &[
     (RunError::BadStatusText, 9, None),
     (RunError::BadPadding { at: 1 }, 10, Some(1)),
     (RunError::BadSample { at: 4 }, 11, Some(4)),
-    (RunError::WaveHeader, 12, Some(0)),
+    (RunError::SoundHeader, 12, Some(0)),
     (RunError::Inexact { at: 64 }, 13, Some(64)),
 ];
 

@@ -4,7 +4,7 @@ use borrow.Rule.Slice.PartMut.{put_mid}
 use Rattle.std.proofs.lemmas.List.{length-take-le, get_or-take, take-append-drop}
 use Rattle.std.proofs.lemmas.Slice.{take-put_mid}
 use Rattle.aes3_cell.proofs.Growing.{grew-none, grew-is, front-is}
-use Rattle.aes3_cell.specs.Wave.{begins_wave}
+use Rattle.aes3_files.specs.Sound.{begins_sound}
 use Rattle.aes3_pcm.specs.Formats.{block_len}
 use Rattle.aes3_engine.proofs.PcmWords.{block-room}
 use Rattle.aes3_engine.proofs.SampleReads.{made-short, front-fed, front-header, front-part, front-stopped, block-made}
@@ -56,7 +56,7 @@ returns-then-at-len g c =
           (s.at + n) (g.T.Sink.taken c.args.sink.now) (g.T.Sink.taken c.args.sink.now) l
           (record {
             bits = λ e i r. c.in-None.ensures.none refl e i r;
-            samples = λ l. ap begins_wave (sym front ∙ ap (λ len. take len new) (omega arith))
+            samples = λ l. ap begins_sound (sym front ∙ ap (λ len. take len new) (omega arith))
                 ∙ c.has_header.ensures.no c.if-has_header.false l;
           })
           (inl (q, refl))
@@ -94,7 +94,7 @@ returns-in-Ok g c =
           0 (g.T.Sink.taken c.args.sink.now) (g.T.Sink.taken c.put_samples.new.sink) l
           (record {
             bits = λ e i r. c.in-None.ensures.none refl e i r;
-            samples = λ l. ap begins_wave (sym front ∙ ap (λ len. take len new) (omega arith))
+            samples = λ l. ap begins_sound (sym front ∙ ap (λ len. take len new) (omega arith))
                 ∙ c.has_header.ensures.no c.if-has_header.false l;
           })
           (inr (q, refl))
@@ -130,7 +130,7 @@ returns-in-Err g c =
           (drop n xs) xs (g.T.Sink.taken c.args.sink.now) (g.T.Sink.taken c.put_samples.new.sink)
           (record {
             bits = λ e i r. c.in-None.ensures.none refl e i r;
-            samples = λ l. ap begins_wave (sym front ∙ ap (λ len. take len new) (omega arith))
+            samples = λ l. ap begins_sound (sym front ∙ ap (λ len. take len new) (omega arith))
                 ∙ c.has_header.ensures.no c.if-has_header.false l;
           })
           (take-append-drop n xs)
@@ -162,6 +162,6 @@ returns-then-has_header g c =
           (drop n xs) xs (g.T.Sink.taken c.args.sink.now) (λ b. tt)
           (λ e i r. c.in-None.ensures.none refl e i r)
           (take-append-drop n xs) w.0
-          (ap begins_wave (sym front ∙ ap (λ len. take len new) (omega arith)) ∙ w.1),
+          (ap begins_sound (sym front ∙ ap (λ len. take len new) (omega arith)) ∙ w.1),
       refl,
     )

@@ -1,0 +1,19 @@
+//! What a program reads: the file or standard input, and what kind of file its first octets begin.
+#![tactic(auto)]
+
+/// The file or standard input that a program reads.
+mod input;
+/// Kinds of file by their first octets.
+mod kind;
+/// Packed cells by their first octets.
+mod packed;
+/// A reader whose first octets are looked at before they are read.
+mod preview;
+/// The heads of sound files.
+mod sound;
+
+pub use input::Input;
+pub use kind::FileKind;
+pub use packed::{are_packed, are_turned};
+pub use preview::Preview;
+pub use sound::{SOUND_HEAD_LEN, SoundFile};

@@ -1,0 +1,36 @@
+//! Packed cells by their first octets.
+
+/// Whether four equal bits stand one behind the other in two octets, the highest first: cells have
+/// no more than three.
+fn has_long_run(first: u8, second: u8) -> bool {
+    let bits = u16::from(first) << 8 | u16::from(second);
+    for at in 0u32..13 {
+        if matches!(bits >> at & 15, 0 | 15) {
+            return true;
+        }
+    }
+    false
+}
+
+/// Whether the octets can be packed cells: no four equal bits stand one behind the other in them.
+pub fn are_packed(first: &[u8]) -> bool {
+    for at in 1..first.len() {
+        if has_long_run(first[at - 1], first[at]) {
+            return false;
+        }
+    }
+    first.len() > 1
+}
+
+/// Whether the octets can be packed cells only where the first cell stands in the lowest bit: two
+/// that follow one another have such a run, and none have one with the lowest bit of each first.
+pub fn are_turned(first: &[u8]) -> bool {
+    let mut is_long = false;
+    let mut is_long_turned = false;
+    for at in 1..first.len() {
+        let (before, octet) = (first[at - 1], first[at]);
+        is_long |= has_long_run(before, octet);
+        is_long_turned |= has_long_run(before.reverse_bits(), octet.reverse_bits());
+    }
+    is_long && !is_long_turned
+}
