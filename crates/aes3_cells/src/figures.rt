@@ -46,23 +46,28 @@ pub fn figures_line(
     )
 }
 
-/// That no line was found, and what to try, for people. Where the samples a cell are given, that the
-/// cells were written by these alone, and whether enough edges came to find a line.
-pub fn no_line(alloc: Global, figures: Figures, period: Option<u64>) -> Result<String, AllocError> {
+/// That no line was found, why, and what to try, for people. Where the samples a cell are given, that
+/// the cells were written by these alone, and whether enough edges came to find a line.
+pub fn no_line(
+    alloc: Global,
+    figures: Figures,
+    period: Option<u64>,
+    why: &str,
+) -> Result<String, AllocError> {
     if period.is_none() {
         return format!(in alloc;
-            "aes3-cells: no line was found in this bit: try another --bit, --unit 2 for sixteen \
-                channels, or --rate with --at\n"
+            "aes3-cells: no line was found, {why}: try another --bit, --unit 2 for sixteen channels, or \
+                --rate with --at\n"
         );
     }
-    let why = if figures.misses == 0 {
+    let reason = if figures.misses == 0 {
         "too few edges came to check them, which takes 129 up to the end, or 257 up to a dead stretch"
     } else {
         "no line of this rate was found in this bit: try another --bit, --unit 2 for sixteen channels, \
             or another --at"
     };
     format!(in alloc;
-        "aes3-cells: {} cells were written by --rate and --at, and no measurement confirmed them: {why}\n",
+        "aes3-cells: {} cells were written by --rate and --at, and no measurement confirmed them: {reason}\n",
         figures.cells
     )
 }

@@ -8,6 +8,8 @@ mod figures;
 mod frequency;
 /// The words of the command line.
 mod line;
+/// What the first samples tell where no line is found.
+mod look;
 /// What to do with a file that is no capture.
 mod other_file;
 /// The bit in which the line lies, where none is asked for.
@@ -20,6 +22,7 @@ use aes3_files::{Input, Preview};
 use aes3_recovery::{Progress, Recovery, Refusal, Unit, recover};
 use figures::{doubt_of, figures_line, no_line};
 use line::{Job, LineFault, job_of_words};
+use look::Look;
 use other_file::{FIRST_LEN, advice_on_other};
 use search::{line_bit, unit_of};
 use std::alloc::{AllocError, Global};
@@ -140,7 +143,8 @@ fn run_job<E: Sink>(rt: &HostRuntime, errors: &mut E, job: Job<'_>) -> Result<u8
         None => asked,
     };
     tell_bit(rt.alloc(), errors, found)?;
-    let status = run_line(rt, errors, &job, unit, input)?;
+    let look = Look::of(rt.alloc(), input.first(0)?, unit, found.is_none());
+    let status = run_line(rt, errors, &job, unit, &look, input)?;
     tell_trouble(rt.alloc(), errors, job.file, trouble.get())?;
     Ok(status)
 }
@@ -186,6 +190,7 @@ fn run_line<E: Sink>(
     errors: &mut E,
     job: &Job<'_>,
     unit: Unit,
+    look: &Look,
     input: Preview<Input<'_>>,
 ) -> Result<u8, AllocError>
     requires { E.failed errors.old + 3 < 2 ^ 64 }
@@ -206,7 +211,8 @@ fn run_line<E: Sink>(
     let figures = recovery.figures();
     match end {
         Ok(_) if figures.measured == 0 => {
-            let text = no_line(rt.alloc(), figures, job.period)?;
+            let why = look.why(rt.alloc())?;
+            let text = no_line(rt.alloc(), figures, job.period, why.as_str())?;
             Ok(tell(errors, text.as_str(), NO_LINE))
         }
         Ok(_) => {
