@@ -103,6 +103,7 @@ part_with python3 examples/neighbours/run "$program"
 part examples/many/run "$program" 20
 part tests/examples.sh "$program"
 part tests/machines.sh "$program"
+part_with rt tests/processors.sh "$program"
 part examples/spoil/run "$program"
 part_with python3 examples/watch/run "$program"
 part_with python3 examples/own/run

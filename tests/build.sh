@@ -143,6 +143,26 @@ judge "another archive" builds archive aes3 archive
 rm "$crates/middle/out/rlib/statements"
 judge "a library without its mark" builds "middle aes3 archive" aes3 archive
 
+# Programs are for the processor at hand, or for those that are asked for; the library is for any but where that is asked for.
+cpus() { printf '%s ' "$(cat "$crates/aes3/out/cpu")" "$(cat "$crates/archive/out/cpu")"; }
+"$tree/bin/build" aes3 archive 2>"$work/told"
+here=$(cat "$crates/aes3/out/cpu")
+case $here in x86-64-v[23]) ;; *) judge "the processor at hand, $here" false ;; esac
+judge "the library is for any" [ "$(cpus)" = "$here x86-64-v2 " ]
+for cpu in x86-64-v2 x86-64-v3 x86-64-v2; do
+    other=aes3
+    [ "$(cat "$crates/aes3/out/cpu")" != $cpu ] || other=
+    [ "$(cat "$crates/archive/out/cpu")" = $cpu ] || other="$other archive"
+    judge "the processors $cpu" builds "$other" --cpu $cpu aes3 archive
+    judge "they are noted: $cpu" [ "$(cpus)" = "$cpu $cpu " ]
+done
+judge "an edit for the processors that are asked for" eval 'later; echo edit >>"$crates/aes3/src/main.rt"; builds aes3 --cpu x86-64-v3'
+rm "$crates/aes3/out/cpu"
+judge "a program that rt itself built is for x86-64-v2" builds "" --cpu x86-64-v2
+! "$tree/bin/build" --cpu x86-64-v4 >"$work/told" 2>&1
+judge "processors that it does not know" grep -q "invalid choice: 'x86-64-v4'" "$work/told"
+"$tree/bin/build" aes3 archive 2>"$work/told"
+
 # rt itself has left a library with its proofs: those above it can't be used over it, and are built with theirs.
 later
 (cd "$crates/low" && ../../bin/rt lib)
