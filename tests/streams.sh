@@ -126,7 +126,8 @@ aes3: byte 0 is neither cell nor separator (line 1, column 1): these look like p
 aes3: the packed cells end wrongly at octet 0: the input is empty" \
         "$program check --packed-in < /dev/null"
     at_terminal "the name of a file that can't be read" "aes3: refused 5
-aes3: the input can't be read (no-such-file): is there such a file, may you read it, and is it no folder?" \
+aes3: the input can't be read (no-such-file): is there such a file, may you read it, and is it no folder?
+aes3: no-such-file: No such file or directory (os error 2)" \
         "$program check no-such-file"
     at_terminal "nothing of a terminal where a file is read" "" "$program check /dev/null"
     at_terminal "the option of a refused status" "aes3: refused 9
