@@ -88,8 +88,9 @@ head -c 30720 "$root/examples/speech.block" | "$program" encode >cells.txt
 head -c 30720 /dev/zero | "$program" encode --packed-out >silence.packed
 judge "cells as text" no_capture cells.txt "cells as text already"
 judge "packed cells" no_capture cells.packed "packed cells already"
-# Where the bit that is asked for stays as it is, there is no line in it.
-judge "packed cells of silence" no_capture silence.packed "aes3-cells: "
+# Of silence bit 0 stays as it is, so that there is no line in it.
+judge "packed cells of silence" eval '"$cells" silence.packed >out 2>said_why; [ $? = 1 ] && [ ! -s out ]'
+judge "packed cells of silence, another bit" eval '"$cells" --bit 3 silence.packed >out 2>said_why; [ $? = 1 ] && [ ! -s out ] && grep -q "packed cells already" said_why'
 # Octets that are letters and digits alone are a capture, where lines of other channels stay high.
 if "$root/examples/neighbours/samples.py" 3.90625 0.3 <cells.txt >capture; then
     tr '\000\001' '01' <capture >digits
