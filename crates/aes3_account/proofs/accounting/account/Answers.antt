@@ -1,4 +1,4 @@
-use Rattle.std.proofs.Common.{◌+◌, ap, ◌∙◌, arith}
+use Rattle.std.proofs.Common.{◌≡◌, ◌+◌, ap, ◌∙◌, arith, rules}
 use Rattle.std.proofs.lemmas.Result.{err_from_is_err_and}
 use Rattle.aes3_input.proofs.InputRuns.{run-told}
 use Rattle.aes3_input.proofs.CellRuns.{drove-ok, drove-err}
@@ -18,6 +18,8 @@ pub returns-clause-run : goal.returns-clause-run
 returns-clause-run g c =
     let t = c.drive.new.taker.reporter in
     let l = c.new-taker.result.reporter.lines in
+    let lines : l ≡ c.args.lines =
+    search (rules, ap (λ k. k.lines) c.new-taker.ensures.reporter ∙ c.new.ensures.lines) in
     drove-ok (λ d. account_lines c.args.lines (account d)) (λ d. account_lines c.args.lines (begun_account d))
     (account_counts c.args.input)
     (record {
@@ -29,10 +31,8 @@ returns-clause-run g c =
       unfinished = t.tally.unfinished;
       marks = 0;
     })
-    (λ d. with-account l d ∙ ap (λ v. account_lines v (account d))
-    (ap (λ k. k.lines) c.new-taker.ensures.reporter ∙ c.new.ensures.lines))
-    (λ d. before-account l d ∙ ap (λ v. account_lines v (begun_account d))
-    (ap (λ k. k.lines) c.new-taker.ensures.reporter ∙ c.new.ensures.lines))
+    (λ d. with-account l d ∙ ap (λ v. account_lines v (account d)) lines)
+    (λ d. before-account l d ∙ ap (λ v. account_lines v (begun_account d)) lines)
     (λ b e f h. counted c.args.input b c.in_ok-bytes.bytes c.in_ok-bytes.cells t.lost t.tally.blocks t.tally.faults
     t.tally.unfinished e f h) c.in_ok-bytes.ensures.ran
 
@@ -42,11 +42,11 @@ returns-clause-lines g c = λ b t. (run-told (returns-clause-run g c) b t).4
 pub returns-in_err-bytes-clause-run : goal.returns-in_err-bytes-clause-run
 returns-in_err-bytes-clause-run g c =
     let l = c.new-taker.result.reporter.lines in
+    let lines : l ≡ c.args.lines =
+    search (rules, ap (λ k. k.lines) c.new-taker.ensures.reporter ∙ c.new.ensures.lines) in
     let error = err_from_is_err_and c.from_residual.result c.from_residual.ensures.1 in
     rw (error.1, error.2) (drove-err (λ d. account_lines c.args.lines (account d))
     (λ d. account_lines c.args.lines (begun_account d))
     (account_counts c.args.input)
-    (λ d. with-account l d ∙ ap (λ v. account_lines v (account d))
-    (ap (λ k. k.lines) c.new-taker.ensures.reporter ∙ c.new.ensures.lines))
-    (λ d. before-account l d ∙ ap (λ v. account_lines v (begun_account d))
-    (ap (λ k. k.lines) c.new-taker.ensures.reporter ∙ c.new.ensures.lines)) c.in_err-bytes.ensures.ran)
+    (λ d. with-account l d ∙ ap (λ v. account_lines v (account d)) lines)
+    (λ d. before-account l d ∙ ap (λ v. account_lines v (begun_account d)) lines) c.in_err-bytes.ensures.ran)

@@ -1,4 +1,4 @@
-use Rattle.std.proofs.Common.{List, [], ℕ, ◌∷◌, ◌++◌, append_assoc, ap, ◌∙◌, ◌≡◌, sym}
+use Rattle.std.proofs.Common.{List, [], ℕ, ◌∷◌, ◌++◌, append_assoc, ap, ◌∙◌, ◌≡◌, sym, rules}
 use Rattle.std.specs.Prelude.{codes, decimal}
 use Rattle.aes3_cell.proofs.Writing.{wrote-is}
 use Rattle.aes3_account.proofs.gap.line_of_gap.Goals as goal
@@ -14,7 +14,8 @@ returns g c =
     let cells = decimal c.args.cells in
     let line = c.text.ensures.text ∙ ap (λ z. 10 ∷ z) c.new-line.ensures in
     let counted = c.number.ensures.digits ∙ ap (λ z. cells ++ z) line in
-    let named = c.text-2.ensures.text ∙ ap (λ z. codes " cells " ++ z) counted in
+    let said : c.text-2.new.self ≡ codes " cells " ++ c.number.new.self = search (rules, c.text-2.ensures.text) in
+    let named = said ∙ ap (λ z. codes " cells " ++ z) counted in
     let placed = c.number-2.ensures.digits ∙ ap (λ z. at ++ z) named in
     let all = c.text-3.ensures.text ∙ ap (λ z. codes "gap at " ++ z) placed in
     wrote-is (all ∙ joined (codes "gap at ") at (codes " cells ") cells (10 ∷ [])) c.hand_on.ensures

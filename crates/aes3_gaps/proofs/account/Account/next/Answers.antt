@@ -1,4 +1,4 @@
-use Rattle.std.proofs.Common.{◌+◌, ◌≡◌, ◌∷◌, ap, sym, ◌∙◌, arith}
+use Rattle.std.proofs.Common.{◌+◌, ◌≡◌, ◌∷◌, ap, ap₂, sym, ◌∙◌, arith}
 use Rattle.aes3_lock.proofs.Deciding.{block_len_24576}
 use Rattle.aes3_gaps.specs.declared.gap.Gap.{Gap}
 use Rattle.aes3_gaps.specs.Gaps.{behind_full, lost, gaps, kind}
@@ -11,7 +11,8 @@ returns-then-cells-ge-BLOCK_CELLS-clause-gap c = λ g e.
     let k = c.args.self.now in
     let b = block_len_24576 in
     told-one (λ (g : Gap). due_gaps k.place c.args.due ≡ gap_entry g ∷ due_gaps (k.place + 24576) c.args.due) _ g e
-    (due-next k.place c.args.due (omega arith) ∙ ap (λ n. lost k.place n ∷ due_gaps (k.place + n) c.args.due) b)
+    (due-next k.place c.args.due (omega arith)
+    ∙ ap₂ (λ m n. lost k.place m ∷ due_gaps (k.place + n) c.args.due) (omega (arith, b)) b)
 
 pub returns-then-cells-ge-BLOCK_CELLS-clause-behind : goal.returns-then-cells-ge-BLOCK_CELLS-clause-behind
 returns-then-cells-ge-BLOCK_CELLS-clause-behind c = λ _.

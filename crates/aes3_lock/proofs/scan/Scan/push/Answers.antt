@@ -1,7 +1,8 @@
-use Rattle.std.proofs.Common.{◌+◌, ◌++◌, refl, sym, ap, subst, ◌∙◌}
+use Rattle.std.proofs.Common.{◌+◌, ◌++◌, refl, sym, ap, subst, ◌∙◌, arith}
 use Rattle.std.specs.Prelude.{option_to_list}
 use Rattle.aes3_level.specs.Words.{low_cells}
 use Rattle.aes3_lock.specs.Preambles.{marks}
+use Rattle.aes3_lock.specs.Steps.{ended_mark}
 use Rattle.aes3_lock.specs.Following.{ScanFollows}
 use Rattle.aes3_lock.proofs.Scanning.{scan-next, scan-mark}
 use Rattle.aes3_lock.proofs.scan.Scan.push.Goals as goal
@@ -18,4 +19,5 @@ returns-clause-mark c = λ l f.
       recent = low_cells 8 c.with_cell-self-inside.result;
     }) l c.args.cell
     (subst (λ k. ScanFollows k l) (sym c.self.view_is) f) refl c.with_cell-self-inside.ensures
+    ∙ ap (λ n. marks l ++ option_to_list (ended_mark n (low_cells 8 c.with_cell-self-inside.result))) (omega arith)
     ∙ ap (λ r. marks l ++ option_to_list r) (sym c.mark_ending.ensures)

@@ -1,4 +1,4 @@
-use Rattle.std.proofs.Common.{◌+◌, ◌++◌, drop, sym, ap, ◌∙◌, arith}
+use Rattle.std.proofs.Common.{◌+◌, ◌++◌, drop, sym, ap, ◌∙◌, arith, rules}
 use Rattle.aes3_level.specs.Words.{word_cells, word_len}
 use Rattle.aes3_slot.proofs.ReadSubframes.{length-word}
 use Rattle.aes3_lock.specs.Following.{ScanState}
@@ -17,7 +17,10 @@ returns-clause-follows c = λ l f.
 pub returns-clause-marks : goal.returns-clause-marks
 returns-clause-marks c = λ l f.
     c.new-found.ensures l c.args.word (ap (λ (k : ScanState). k.seen) c.self.view_is ∙ f.seen)
-    (seven-before c.self.inside.recent c.from.result c.args.word c.completed-cells.result c.rest_of.result
-    c.from.ensures c.completed-cells.ensures c.rest_of.ensures.cells (omega arith)
-    ∙ ap (λ (k : ScanState). drop 1 k.recent ++ word_cells c.args.word) c.self.view_is
-    ∙ ap (λ r. drop 1 r ++ word_cells c.args.word) f.recent)
+    (search (
+      rules,
+      seven-before c.self.inside.recent c.from.result c.args.word c.completed-cells.result c.rest_of.result
+          c.from.ensures c.completed-cells.ensures c.rest_of.ensures.cells (omega arith)
+          ∙ ap (λ (k : ScanState). drop 1 k.recent ++ word_cells c.args.word) c.self.view_is
+          ∙ ap (λ r. drop 1 r ++ word_cells c.args.word) f.recent,
+    ))

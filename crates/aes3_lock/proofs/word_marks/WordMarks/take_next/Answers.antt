@@ -31,8 +31,8 @@ returns-clause-next c =
     (first-is s.cells s.next s.left s.x s.y s.seen t.result t.ensures.within t.ensures.is c.self.invariant.1)
     ∙ ap₂ (λ m v. led (s.seen + t.result - 7) m v (marks_left s.seen b w.result)) (sym c.mark_at.ensures)
     (sym c.level_before.ensures)
-    ∙ ap (λ k. led (s.seen + k - 7) c.mark_at.result c.level_before.result (marks_left s.seen b w.result))
-    (sym c.from.ensures)
+    ∙ ap (λ k. led k c.mark_at.result c.level_before.result (marks_left s.seen b w.result))
+    (omega (arith, c.from.ensures))
 
 pub returns-then-self-eq0-clause-next : goal.returns-then-self-eq0-clause-next
 returns-then-self-eq0-clause-next c = refl

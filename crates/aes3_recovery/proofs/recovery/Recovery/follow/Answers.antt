@@ -1,8 +1,8 @@
-use Rattle.std.proofs.Common.{◌∙◌, refl}
+use Rattle.std.proofs.Common.{◌∙◌, refl, rules}
 use Rattle.aes3_recovery.proofs.recovery.Recovery.follow.Goals as goal
 
 pub returns-in-Ok-clause-told : goal.returns-in-Ok-clause-told
-returns-in-Ok-clause-told g c = rw c.note.ensures.line c.in-Ok.ensures.told
+returns-in-Ok-clause-told g c = rw c.note.ensures.line (search (rules, c.in-Ok.ensures.told))
 
 pub returns-in-Ok-clause-keeps : goal.returns-in-Ok-clause-keeps
 returns-in-Ok-clause-keeps g c =
@@ -18,7 +18,7 @@ returns-in-Ok-clause-keeps g c =
     }
 
 pub returns-in-Err-clause-told : goal.returns-in-Err-clause-told
-returns-in-Err-clause-told g c = c.in-Err.ensures.told
+returns-in-Err-clause-told g c = search (rules, c.in-Err.ensures.told)
 
 pub returns-in-Err-clause-keeps : goal.returns-in-Err-clause-keeps
 returns-in-Err-clause-keeps g c = record {
