@@ -1,4 +1,4 @@
-use Rattle.std.proofs.Common.{sym, subst}
+use Rattle.std.proofs.Common.{sym, subst, rules}
 use Rattle.aes3_lock.specs.declared.report.Report.{Report}
 use Rattle.aes3_gaps.specs.Told.{ComesNext}
 use Rattle.aes3_c.proofs.GapCalls.{ending-told, none-told, report-kept, some-kind, tells-kept, tells-same}
@@ -15,7 +15,7 @@ returns-in-Some-next-clause-gap c = λ _ block x is cells e t n.
     tells-kept e c.keep_account.ensures c.put_gap.ensures.gap
     (c.before-next.ensures.gap c.in-Some-next.told c.in-Some-next.is block cells e
     (tells-same c.account_of-state.ensures t)
-    (subst (λ (y : Report). ComesNext cells e y) (sym same) n))
+    (search (rules, subst (λ (y : Report). ComesNext cells e y) (sym same) n)))
 
 pub returns-in-Some-next-clause-none : goal.returns-in-Some-next-clause-none
 returns-in-Some-next-clause-none c = λ k.
@@ -30,9 +30,9 @@ returns-in-None-clause-report c = λ _ block x is cells e t n.
     let same = ending-told block c.args.report.now x c.ending_of.result c.in-Some.ending
     (c.ending_of.ensures block) c.in-Some.is is in
     report-kept e c.keep_account.ensures same
-    (c.before-next.ensures.report c.in-None.is block cells e
+    (search (rules, c.before-next.ensures.report c.in-None.is block cells e
     (tells-same c.account_of-state.ensures t)
-    (subst (λ (y : Report). ComesNext cells e y) (sym same) n))
+    (search (rules, subst (λ (y : Report). ComesNext cells e y) (sym same) n))))
 
 pub returns-in-None-clause-same : goal.returns-in-None-clause-same
 returns-in-None-clause-same c = λ k.

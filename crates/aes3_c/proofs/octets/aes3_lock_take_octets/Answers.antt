@@ -26,7 +26,7 @@ returns-then-len-eq0-clause-codes c = coded-none c.put_ending.new.out _ (c.put_e
 pub returns-clause-all : goal.returns-clause-all
 returns-clause-all c = λ none.
     c.take_cells-taken.ensures.all (ending-told _ c.put_ending-2.new.out c.take_cells-taken.result.ending none
-    (c.put_ending-2.ensures.codes [])) ∙ c.most_cells-len.ensures
+    (c.put_ending-2.ensures.codes [])) ∙ omega (arith, c.most_cells-len.ensures)
 
 pub returns-clause-follows : goal.returns-clause-follows
 returns-clause-follows c = λ l f.

@@ -1,4 +1,4 @@
-use Rattle.std.proofs.Common.{◌≡◌, ℕ, List, [], ◌∷◌, ◌++◌, get_or, take, slice_set, refl, ap, ◌∙◌, sym, subst}
+use Rattle.std.proofs.Common.{◌≡◌, ℕ, List, [], ◌∷◌, ◌++◌, get_or, take, slice_set, refl, ap, ◌∙◌, sym, subst, rules}
 use Rattle.aes3_status.specs.Bits.{status_bits}
 use Rattle.aes3_status.specs.Check.{CheckHolds, check_state_of}
 use Rattle.aes3_status.specs.Statuses.{is_professional}
@@ -22,7 +22,7 @@ returns-clause-check c = λ _.
     subst (λ b. CheckHolds (status_bits (take 23 b ++ sent ∷ [])) → check_state_of (slice_set b 23 sent) ≡ Good)
     (sym c.bytes_of.ensures.bytes)
     (λ holds. state-good (slice_set (professional_bytes c.args.fields.now 0) 23 sent) sent refl holds refl)
-    c.check_byte.ensures.holds
+    (search (rules, c.check_byte.ensures.holds))
 
 pub returns-clause-only : goal.returns-clause-only
 returns-clause-only c = λ _ bytes len small kind same good.
@@ -31,5 +31,5 @@ returns-clause-only c = λ _ bytes len small kind same good.
     let is = bytes-back bytes len small kind ∙ ap (λ g. professional_bytes g sent) same in
     let holds = subst (λ (b : List ℕ). CheckHolds (status_bits b))
     (is ∙ sym (ap (λ b. take 23 b ++ sent ∷ []) c.bytes_of.ensures.bytes)) (good-holds bytes good) in
-    is ∙ ap (professional_bytes f) (c.check_byte.ensures.only sent (small 23) holds)
+    is ∙ ap (professional_bytes f) (c.check_byte.ensures.only sent (small 23) (search (rules, holds)))
     ∙ sym (ap (λ b. slice_set b 23 c.check_byte.result) c.bytes_of.ensures.bytes)

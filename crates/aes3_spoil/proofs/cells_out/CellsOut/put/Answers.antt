@@ -1,4 +1,4 @@
-use Rattle.std.proofs.Common.{◌+◌, ◌-◌, ◌*◌, ◌/◌, ◌%◌, ◌^◌, refl, sym, ap, ◌∙◌, arith}
+use Rattle.std.proofs.Common.{◌+◌, ◌-◌, ◌*◌, ◌/◌, ◌%◌, ◌^◌, ◌<◌, refl, sym, ap, ◌∙◌, arith, subst}
 use Rattle.std.specs.Prelude.{bit_or}
 use Rattle.aes3_level.specs.Words.{low_cells}
 use Rattle.aes3_level.proofs.WordCells.{length-low_cells}
@@ -41,9 +41,11 @@ invariant_of-self-2 g c =
     let full = c.if-all-lt64.false in
     let f = c.requires.few in
     let b = q.few in
+    let bound : c.rest_of-self.result < 2 ^ (q.len + c.args.len - 64) =
+    rw c.rest_of-self.ensures (split-bound c.args.cells q.len c.args.len q.few full c.requires.no_more) in
     record {
       few = omega (arith, f, b);
-      no_more = rw c.rest_of-self.ensures (split-bound c.args.cells q.len c.args.len q.few full c.requires.no_more);
+      no_more = subst (λ n. c.rest_of-self.result < 2 ^ n) (omega (arith, f, b)) bound;
     }
 
 -- the cells held and those that came are a word and the rest
@@ -71,5 +73,6 @@ returns-clause-held g c =
     let rest = low_cells (q.len + k - 64) (w / 2 ^ (64 - q.len)) in
     let l = length-low_cells (q.len + k - 64) (w / 2 ^ (64 - q.len)) in
     if-ok c.put_word.result
-    (ap (low_cells (q.len + k - 64)) c.rest_of-self.ensures ∙ sym (begun-word word rest (omega (arith, l, f, b)))
+    (ap (λ n. low_cells n c.rest_of-self.result) (omega (arith, f, b))
+    ∙ ap (low_cells (q.len + k - 64)) c.rest_of-self.ensures ∙ sym (begun-word word rest (omega (arith, l, f, b)))
     ∙ ap begun_cells (sym (cells-split q.word w q.len k (low_cells k w) q.few c.if-all-lt64.false q.no_more refl)))

@@ -1,4 +1,4 @@
-use Rattle.std.proofs.Common.{arith}
+use Rattle.std.proofs.Common.{◌+◌, ◌∙◌, ap, arith, set, take}
 use Rattle.std.proofs.lemmas.List.{take_more_set}
 use Rattle.aes3_spoil.specs.Errors.{errors_of}
 use Rattle.aes3_spoil.proofs.Listed.{count-errors}
@@ -24,4 +24,5 @@ returns-clause-list c =
     let e = c.args.self.now in
     let n = count-errors e (omega arith) e.within in
     let r = c.requires.room in
-    take_more_set e.list e.len _ (omega (arith, n, r))
+    ap (λ place. take (e.len + 1) (set e.list e.len (record { place = place; kind = c.args.kind }))) (omega arith)
+    ∙ take_more_set e.list e.len _ (omega (arith, n, r))

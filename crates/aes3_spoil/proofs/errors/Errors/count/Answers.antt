@@ -20,6 +20,7 @@ loop-error-preserved c =
 pub returns : goal.returns
 returns c =
     let e = c.args.self.now in
-    ap₂ ◌+◌ c.loop-error.invariant.count c.one_if_repeated.ensures
+    let r = c.one_if_repeated.ensures in
+    ap₂ ◌+◌ c.loop-error.invariant.count (omega (arith, r))
     ∙ sym (at-errors e c.args.kind c.args.place (take e.len e.list)
     c.loop-error.error-index c.loop-error-test.false refl)

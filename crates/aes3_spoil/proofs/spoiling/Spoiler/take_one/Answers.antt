@@ -1,7 +1,9 @@
-use Rattle.std.proofs.Common.{◌%◌, sym, ◌∙◌, ap, replicate, [], ◌∷◌, cond}
+use Rattle.std.proofs.Common.{◌%◌, sym, ◌∙◌, ap, arith, replicate, [], ◌∷◌, cond}
 use Rattle.std.specs.Prelude.{not}
 use Rattle.aes3_level.specs.Words.{level_of, low_cells}
 use Rattle.aes3_recovery.specs.Endings.{level_if}
+use Rattle.aes3_spoil.specs.Errors.{errors_at}
+use Rattle.aes3_spoil.specs.declared.kinds.ErrorKind.TheVariants.{Changed}
 use Rattle.aes3_spoil.proofs.Taking.{inverted-one, one-cell, one-stands, took, turned-one}
 use Rattle.aes3_spoil.proofs.spoiling.Spoiler.take_one.Goals as goal
 
@@ -17,7 +19,7 @@ returns g c =
     (c.differ-inverted.ensures
     ∙ ap (λ b. cond b (not s.inverted) s.inverted) c.is_odd.ensures) in
     let t = turned-one s d c.differ-inverted.result c.differ-turned.result c.count-changes.result h i
-    c.count-changes.ensures (c.differ-turned.ensures
+    (c.count-changes.ensures ∙ ap (errors_at s.errors Changed) (omega arith)) (c.differ-turned.ensures
     ∙ ap (λ b. cond b (not c.differ-inverted.result) c.differ-inverted.result) c.is_odd-2.ensures) in
     one-cell s d c.differ-turned.result n w h t c.times-times.ensures.times
     ∙ ap (λ b. replicate n (level_if b)) (sym (c.differ-high.ensures

@@ -1,4 +1,4 @@
-use Rattle.std.proofs.Common.{◌+◌, ◌++◌, ◌∙◌, ap, ap₂}
+use Rattle.std.proofs.Common.{◌+◌, ◌++◌, ◌∙◌, ap, ap₂, rules}
 use Rattle.std.proofs.lemmas.Result.{err_from_is_err_and}
 use Rattle.aes3_frame.specs.declared.status.Channel.TheVariants.{First, Second}
 use Rattle.aes3_cell.proofs.Growing.{grew-is, grew-join, front-is, front-join, front-more}
@@ -19,8 +19,8 @@ returns-in_err-put_line-clause-wrote g c =
             (ap₂ (λ u v. line_as k.changes k.detail k.tally.blocks c.args.at First c.args.block.now k.first u
             ++ line_as k.changes k.detail k.tally.blocks c.args.at Second c.args.block.now k.second v)
             c.channel_status-first.ensures c.channel_status-second.ensures)
-            (front-more f.1 (line_as k.changes k.detail k.tally.blocks c.args.at Second c.args.block.now k.second
-            c.channel_status-second.result)),
+            (front-more (search (rules, f.1)) (line_as k.changes k.detail k.tally.blocks c.args.at Second
+            c.args.block.now k.second c.channel_status-second.result)),
       );
     })
 
@@ -30,6 +30,8 @@ returns-in_err-put_line-2-clause-wrote g c =
     let p = err_from_is_err_and c.from_residual-in_err-put_line-2.result c.from_residual-in_err-put_line-2.ensures.1
     in
     let f = c.in_err-put_line-2.ensures.err in
+    let line = line_as k.changes k.detail k.tally.blocks c.args.at First c.args.block.now k.first
+    c.channel_status-first.result in
     rw p.1 (record {
       grew = tt;
       count = tt;
@@ -39,19 +41,21 @@ returns-in_err-put_line-2-clause-wrote g c =
             (ap₂ (λ u v. line_as k.changes k.detail k.tally.blocks c.args.at First c.args.block.now k.first u
             ++ line_as k.changes k.detail k.tally.blocks c.args.at Second c.args.block.now k.second v)
             c.channel_status-first.ensures c.channel_status-second.ensures)
-            (front-join c.in_ok-put_line.ensures.grew f.1),
+            (front-join {x = line} (search (rules, c.in_ok-put_line.ensures.grew)) f.1),
       );
     })
 
 pub returns-clause-wrote : goal.returns-clause-wrote
 returns-clause-wrote g c =
     let k = c.args.self.now in
+    let line = line_as k.changes k.detail k.tally.blocks c.args.at First c.args.block.now k.first
+    c.channel_status-first.result in
     record {
       grew = grew-is
           (ap₂ (λ u v. line_as k.changes k.detail k.tally.blocks c.args.at First c.args.block.now k.first u
           ++ line_as k.changes k.detail k.tally.blocks c.args.at Second c.args.block.now k.second v)
           c.channel_status-first.ensures c.channel_status-second.ensures)
-          (grew-join c.in_ok-put_line.ensures.grew c.in_ok-put_line-2.ensures.grew);
+          (grew-join {x = line} (search (rules, c.in_ok-put_line.ensures.grew)) c.in_ok-put_line-2.ensures.grew);
       count = c.in_ok-put_line-2.ensures.count ∙ c.in_ok-put_line.ensures.count;
       err = tt;
     }
