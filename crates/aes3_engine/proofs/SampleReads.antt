@@ -341,7 +341,7 @@ clean-more exact b d h t = record { bits = all-more exact b d h.bits t.bits; sam
 -- where only 24 bits are taken, no sample begins as that header does
 exact-none : (exact : Bool) (b : List ℕ) → exact ≡ true → AllExact exact b → begins_sound b ≡ false
 exact-none exact b e h = elim (cases_Bool (begins_sound b)) [
-  | inl q ↦ absurd (elim (sound-head b q) [ | inl n ↦ n (h e 0 refl) | inr n ↦ n (h e 4 refl) ])
+  | inl q ↦ absurd (elim (sound-head b q) [ inl n ↦ n (h e 0 refl) | inr n ↦ n (h e 4 refl) ])
   | inr q ↦ q
 ]
 

@@ -30,9 +30,12 @@ returns-in-None-clause-report c = λ _ block x is cells e t n.
     let same = ending-told block c.args.report.now x c.ending_of.result c.in-Some.ending
     (c.ending_of.ensures block) c.in-Some.is is in
     report-kept e c.keep_account.ensures same
-    (search (rules, c.before-next.ensures.report c.in-None.is block cells e
-    (tells-same c.account_of-state.ensures t)
-    (search (rules, subst (λ (y : Report). ComesNext cells e y) (sym same) n))))
+    (search (
+      rules,
+      c.before-next.ensures.report c.in-None.is block cells e
+          (tells-same c.account_of-state.ensures t)
+          (search (rules, subst (λ (y : Report). ComesNext cells e y) (sym same) n)),
+    ))
 
 pub returns-in-None-clause-same : goal.returns-in-None-clause-same
 returns-in-None-clause-same c = λ k.
