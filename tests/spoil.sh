@@ -140,8 +140,8 @@ judge "a wrong check byte: $(cat got)" [ "$(cat got)" = "1${lf}1" ]
 # ---- refusals, and words that are none
 printf '0101x' >in
 refused "1 at 4" aes3-spoil in
-refused "5" aes3-spoil /nonexistent
-refused "5" aes3-spoil .
+refused "5${lf}aes3-spoil: /nonexistent: No such file or directory (os error 2)" aes3-spoil /nonexistent
+refused "5${lf}aes3-spoil: .: Is a directory (os error 21)" aes3-spoil .
 octets 69 C0 >in
 refused "10 at 1" aes3-spoil --packed-in in
 blocks 1 >in
