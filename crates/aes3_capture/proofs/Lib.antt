@@ -3,3 +3,4 @@ pub mod Edges
 pub mod Counts
 pub mod Whole
 pub mod Tolerance
+mod Nearness

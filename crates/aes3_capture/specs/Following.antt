@@ -65,6 +65,25 @@ CountedAll old (run ∷ runs) [] new = ⊥
 CountedAll old (run ∷ runs) (n ∷ cells) new =
     (next : Follower) × Counted old run n next × CountedAll next runs cells new
 
+-- An edge comes behind so many samples, and ends so many cells, three at most; behind it the grids of both directions lie
+-- half of the shortest cell apart at most.
+pub record IsNear (old : Follower) (samples cells : ℕ) (new : Follower) : Type 0 where
+  pub counted : Counted old samples cells new
+  pub few : cells ≤ 3
+  pub bounds_is : new.bounds ≡ old.bounds
+  pub together : (new.same - new.other) + (new.other - new.same) ≤ new.bounds.low / 2
+
+-- A follower counts so many cells of each of these runs of samples, one run after the other, and the edge behind each is
+-- near its place: it lies there on the grid of its direction, once that has gone its way.
+abbrev pub Tracked : Follower → List ℕ → List ℕ → List ℕ → Follower → Type 0
+Tracked old [] [] [] new = new ≡ old
+Tracked old [] [] (place ∷ places) new = ⊥
+Tracked old [] (n ∷ cells) places new = ⊥
+Tracked old (run ∷ runs) [] places new = ⊥
+Tracked old (run ∷ runs) (n ∷ cells) [] new = ⊥
+Tracked old (run ∷ runs) (n ∷ cells) (place ∷ places) new =
+    (next : Follower) × IsNear old run n next × (next.same ≡ place) × Tracked next runs cells places new
+
 -- two places lie at most this apart
 pub record IsWithin (a b most : ℕ) : Type 0 where
   pub below : a ≤ b + most

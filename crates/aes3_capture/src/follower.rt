@@ -1,6 +1,7 @@
 //! A follower of edges.
 
-ghost use Rattle.std.specs.Prelude.{◌≡◌, ◌+◌, ◌-◌, ◌*◌, ◌/◌, ◌%◌, ◌^◌, ◌<◌, ◌≤◌, ◌⊎◌, min, max};
+ghost use Rattle.std.specs.Prelude.{◌≡◌, ◌+◌, ◌-◌, ◌*◌, ◌/◌, ◌%◌, ◌^◌, ◌<◌, ◌≤◌, ◌⊎◌, min, max, take, length};
+ghost use Rattle.std.specs.Prelude.{ℕ, ◌↔◌, IsTrue, IfSome};
 
 use crate::bounds::{Bounds, PARTS};
 
@@ -32,9 +33,8 @@ const GRID_SHIFT: u32 = 4;
 const PERIOD_SHIFT: u32 = 13;
 
 impl Follower {
-    ghost use Rattle.std.specs.Prelude.{ℕ, ◌↔◌, IsTrue};
     ghost use Rattle.aes3_capture.specs.Captures.{margin};
-    ghost use Rattle.aes3_capture.specs.Following.{Begins, Passed, Turned, Counted};
+    ghost use Rattle.aes3_capture.specs.Following.{Begins, Passed, Turned, Counted, IsNear, Tracked};
     ghost use Rattle.aes3_capture.specs.Following.{Follows, Passes, Ends, Counts, IsWithin, middle_of};
 
     /// A follower at the first edge of a line.
@@ -152,6 +152,122 @@ impl Follower {
         let told = self.pass(samples);
         told + u64::from(self.edge())
     }
+
+    /// Counts the cells of runs as `run` does, as long as each has as many as is told of it and its edge is near its place,
+    /// 32 runs at most; answers how many runs were counted, and writes where on its grid each edge lies.
+    ///
+    /// It takes a third of the time of `run`, since it compares where `run` divides and clamps.
+    pub fn track(
+        &mut self,
+        runs: &[u32],
+        cells: &[u32; TRACKED],
+        places: &mut [u32; TRACKED],
+    ) -> usize
+        ensures some { result ≤ length runs.now }
+        ensures few { result ≤ 32 }
+        ensures tracked { Tracked self.old (take result runs.now) (take result cells.now)
+            (take result places.new) self.new }
+    {
+        let count = runs.len().min(TRACKED);
+        let mut follower = *self;
+        for i in 0..count {
+            let Some(next) = follower.near(runs[i], cells[i]) else {
+                *self = follower;
+                return i;
+            };
+            follower = next;
+            places[i] = follower.same as u32;
+        }
+        *self = follower;
+        count
+    }
+
+    /// How many cells most likely lie between each of these places of edges and the next, in samples, where the first is that
+    /// of the latest edge. `track` compares, so nothing hangs on their being right.
+    pub fn guess(&self, places: &[u32; TRACKED + 1]) -> [u32; TRACKED] {
+        // Places in cells, a cell as 2^20, behind the last cell that ends before the latest edge.
+        let frequency = ((1u64 << 36) / self.period) as u32;
+        let behind = [
+            cells_of(self.other.saturating_sub(self.bounds.low), frequency),
+            cells_of(self.same.saturating_sub(self.bounds.low), frequency),
+        ];
+        let mut ends = [0; TRACKED + 1];
+        for i in 0..TRACKED {
+            let place = places[i + 1]
+                .wrapping_sub(places[0])
+                .wrapping_mul(frequency);
+            ends[i + 1] = place.wrapping_add(behind[i % 2]) >> CELL_SHIFT;
+        }
+        let mut cells = [0; TRACKED];
+        for i in 0..TRACKED {
+            cells[i] = ends[i + 1].wrapping_sub(ends[i]).clamp(1, 3);
+        }
+        cells
+    }
+
+    /// The follower behind an edge that comes behind these samples, where so many cells end there and the edge is near its
+    /// place: less than half of the shortest cell from it, and the time less than the shortest cell from that of the cells.
+    #[inline(always)]
+    fn near(&self, samples: u32, cells: u32) -> Option<Follower>
+        ensures { IfSome result (IsNear self.now samples cells) }
+    {
+        if self.elapsed > 0 || cells > 3 {
+            return None;
+        }
+        let low = self.bounds.low;
+        let middle = low + low / 2;
+        // From here on times and places count from the shortest cell before the cells told.
+        let time = u64::from(samples) * PARTS + low;
+        let told = u64::from(cells) * self.period;
+        if time < told || time - told >= 2 * low {
+            return None;
+        }
+        let since = time - told;
+        if !is_within(since + self.other, 2 * low, low) {
+            return None;
+        }
+        let place = since + self.other - low;
+        let same = place_nearer(self.bounds, place);
+        if !is_within(since + self.same + low / 2, low + same, 2 * (low / 2) + 1) {
+            return None;
+        }
+        let period = self.period + (place >> PERIOD_SHIFT) - (middle >> PERIOD_SHIFT);
+        if period < low || period > self.bounds.high {
+            return None;
+        }
+        Some(Follower {
+            bounds: self.bounds,
+            period,
+            elapsed: self.elapsed,
+            same,
+            other: since + self.same - low,
+        })
+    }
+}
+
+/// Whether a number is one of so many from the first on, by one comparison.
+#[inline(always)]
+fn is_within(number: u64, first: u64, count: u64) -> bool
+    requires number_bound { number < 2 ^ 62 }
+    requires first_bound { first < 2 ^ 62 }
+    requires count_bound { count < 2 ^ 62 }
+    ensures { IsTrue result ↔ ((first ≤ number) × (number < first + count)) }
+{
+    number.wrapping_sub(first) < count
+}
+
+/// How many runs are counted at once.
+pub const TRACKED: usize = 32;
+
+/// In places that are told in cells, a cell is 2 to this power.
+const CELL_SHIFT: u32 = 20;
+
+/// So many parts of a sample, in cells of which a sample has this many.
+#[inline(always)]
+fn cells_of(parts: u64, frequency: u32) -> u32
+    requires { parts < 2 ^ 32 }
+{
+    (parts * u64::from(frequency) >> 16).min(1 << 31) as u32
 }
 
 /// How many whole periods have passed, and what is left of the time. Between two edges of a line lie one to three cells:

@@ -1,4 +1,7 @@
 mod LaneBits
+mod SetBits
+mod DistanceSums
+pub mod Turning
 pub mod SameLevels
 pub mod RunsBehind
 pub mod RunsToEnd

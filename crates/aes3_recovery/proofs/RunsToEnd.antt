@@ -3,12 +3,12 @@ use Rattle.std.proofs.Common.{ℕ, zero, suc, List, [], ◌∷◌, ◌++◌, ◌
 use Rattle.std.proofs.Common.{arith}
 use Rattle.aes3_level.specs.declared.level.Level.{Level}
 use Rattle.aes3_level.specs.declared.level.Level.TheVariants.{Low, High}
-use Rattle.aes3_level.specs.Cells.{other, after}
-use Rattle.aes3_level.proofs.Runs.{after-append}
+use Rattle.aes3_level.specs.Cells.{line, other, after}
+use Rattle.aes3_level.proofs.Runs.{after-append, line-append}
 use Rattle.aes3_recovery.specs.Recovering.{runs_to_end}
 
 -- one more sample of the level
-end-one : (s : Level) (run : ℕ) (levels : List Level)
+pub end-one : (s : Level) (run : ℕ) (levels : List Level)
     → runs_to_end s run (s ∷ levels) ≡ runs_to_end s (suc run) levels
 end-one Low run levels = refl
 end-one High run levels = refl
@@ -42,3 +42,18 @@ after-as-many s (x ∷ xs) (y ∷ ys) e = after-as-many (other s) xs ys (omega (
 -- the level behind one more run
 pub after-more : (s : Level) (runs : List ℕ) (n : ℕ) → after s (runs ++ n ∷ []) ≡ other (after s runs)
 after-more s runs n = after-append s runs (n ∷ [])
+
+-- behind eight runs the level is as it was
+after-eight : (s : Level) → after s (0 ∷ 0 ∷ 0 ∷ 0 ∷ 0 ∷ 0 ∷ 0 ∷ 0 ∷ []) ≡ s
+after-eight Low = refl
+after-eight High = refl
+
+pub after-eight-more : (s : Level) (runs more : List ℕ) → length more ≡ 8 → after s runs ≡ s
+    → after s (runs ++ more) ≡ s
+after-eight-more s runs more eight was =
+    after-append s runs more ∙ ap (λ t. after t more) was
+    ∙ after-as-many s more (0 ∷ 0 ∷ 0 ∷ 0 ∷ 0 ∷ 0 ∷ 0 ∷ 0 ∷ []) eight ∙ after-eight s
+
+-- the cells of runs, and of more behind those that leave the level as it was
+pub line-more : (s : Level) (runs more : List ℕ) → after s runs ≡ s → line s (runs ++ more) ≡ line s runs ++ line s more
+line-more s runs more was = line-append s runs more ∙ ap (λ t. line s runs ++ line t more) was

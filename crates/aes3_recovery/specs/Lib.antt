@@ -1,3 +1,4 @@
+pub mod Distances
 pub mod Endings
 pub mod Levels
 pub mod LineFollowing
@@ -6,3 +7,4 @@ pub mod Queues
 pub mod Recovering
 pub mod RecoverySteps
 pub mod Runs
+pub mod Turns

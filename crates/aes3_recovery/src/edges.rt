@@ -46,6 +46,14 @@ impl Edges {
         Edges { high, run: 0 }
     }
 
+    /// A line of this level, of which so many samples came behind the latest edge and wait to be told.
+    pub(crate) fn standing(high: bool, run: u32) -> Self
+        ensures high { result.high ≡ high }
+        ensures run { result.run ≡ run }
+    {
+        Edges { high, run }
+    }
+
     /// Whether the line is high.
     pub(crate) fn is_high(&self) -> bool
         ensures { result ≡ self.now.high }

@@ -2,6 +2,8 @@
 //! from samples to cells.
 #![tactic(auto)]
 
+/// How far edges lie from their places.
+mod distances;
 /// The edges of a line among the levels of its samples.
 mod edges;
 /// The levels of a line among samples of many.
@@ -10,6 +12,8 @@ mod levels;
 mod line_follower;
 /// How long a cell is and where the grid of a line lies, measured from the samples between edges.
 mod measure;
+/// The places of edges among the levels of many samples, found before the edges are followed.
+mod places;
 /// Cells on their way to a sink.
 mod queue;
 /// Cells recovered from the levels of samples.

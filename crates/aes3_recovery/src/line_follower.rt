@@ -1,9 +1,9 @@
 //! A line followed from an edge on, from the levels of its samples to its cells.
 
-ghost use Rattle.std.specs.Prelude.{ℕ, ◌≡◌, ◌<◌, ◌≤◌, ◌+◌, ◌-◌, ◌/◌, ◌^◌, ◌++◌, [], List, Some, replicate};
+ghost use Rattle.std.specs.Prelude.{ℕ, ◌≡◌, ◌<◌, ◌≤◌, ◌+◌, ◌-◌, ◌/◌, ◌^◌, ◌++◌, [], List, Some, get_or, length, replicate};
 ghost use Rattle.std.specs.Prelude.{IfOk, OnErr, IfSome, IfNone};
 ghost use Rattle.aes3_level.specs.declared.level.Level.{Level};
-ghost use Rattle.aes3_level.specs.Cells.{other};
+ghost use Rattle.aes3_level.specs.Cells.{line, other};
 ghost use Rattle.aes3_level.specs.Words.{low_cells};
 ghost use Rattle.aes3_capture.specs.declared.follower.Follower.{Follower};
 ghost use Rattle.aes3_capture.specs.Captures.{Captures, IsBetween, SpreadsLate, margin, wander};
@@ -12,12 +12,15 @@ ghost use Rattle.aes3_recovery.specs.Endings.{level_if};
 ghost use Rattle.aes3_recovery.specs.Runs.{AreCaptured, levels_in};
 
 use crate::edges::{Edges, Piece};
-use crate::queue::CellQueue;
+use crate::queue::{CellQueue, bits_of_runs};
 use aes3_capture::{Follower, PARTS};
 use aes3_cell::{Fault, Form, Sink};
 
 /// After so many cells without an edge, those that are certain are told.
 const LONG: u64 = 64;
+
+/// The cells of so many runs are given at once.
+const EIGHT: usize = 8;
 
 /// Follows a line from an edge on, and gives its cells.
 #[derive(Drop)]
@@ -103,6 +106,16 @@ impl LineFollower {
         ensures queue { self.new.queue ≡ self.old.queue }
     {
         self.edges = Edges::new(high);
+    }
+
+    /// Stands at this level, with so many samples behind the latest edge that wait to be told.
+    pub(crate) fn stand(&mut self, high: bool, waiting: u32)
+        ensures high { self.new.edges.high ≡ high }
+        ensures run { self.new.edges.run ≡ waiting }
+        ensures follower { self.new.follower ≡ self.old.follower }
+        ensures queue { self.new.queue ≡ self.old.queue }
+    {
+        self.edges = Edges::standing(high, waiting);
     }
 
     /// Goes on to the next edge of a piece, as `Edges::next_edge`.
@@ -231,6 +244,56 @@ impl LineFollower {
     {
         self.cells = self.cells.saturating_add(cells);
         self.queue.put(sink, high, cells)
+    }
+
+    /// Gives the cells of some runs, the first of this level, each of three cells at most.
+    ///
+    /// # Errors
+    /// The sink's fault.
+    pub(crate) fn put_runs<T: Sink>(
+        &mut self,
+        sink: &mut T,
+        high: bool,
+        runs: &[u32],
+    ) -> Result<(), Fault>
+        requires short { (i : ℕ) → i < length runs.now → get_or runs.now i 0 ≤ 3 }
+        requires room { T.failed sink.old + 1 < 2 ^ 64 }
+        ensures count { IfOk result (λ _. T.failed sink.new ≡ T.failed sink.old) }
+        ensures err_count { OnErr result (T.failed sink.new ≡ T.failed sink.old + 1) }
+        ensures cells { (before : Level) → level_if high ≡ other before
+            → Puts T.taken self.old.queue self.new.queue sink.old sink.new result (line before runs.now) }
+        ensures edges { self.new.edges ≡ self.old.edges }
+        ensures follower { self.new.follower ≡ self.old.follower }
+    {
+        let mut at = 0;
+        while at + EIGHT <= runs.len() {
+            match self.put_some(sink, high, &runs[at..at + EIGHT]) {
+                Ok(()) => at += EIGHT,
+                Err(fault) => return Err(fault),
+            }
+        }
+        self.put_some(sink, high, &runs[at..])
+    }
+
+    /// Gives the cells of eight runs at most.
+    ///
+    /// # Errors
+    /// The sink's fault.
+    #[inline(always)]
+    fn put_some<T: Sink>(&mut self, sink: &mut T, high: bool, runs: &[u32]) -> Result<(), Fault>
+        requires few { length runs.now ≤ 8 }
+        requires short { (i : ℕ) → i < length runs.now → get_or runs.now i 0 ≤ 3 }
+        requires room { T.failed sink.old + 1 < 2 ^ 64 }
+        ensures count { IfOk result (λ _. T.failed sink.new ≡ T.failed sink.old) }
+        ensures err_count { OnErr result (T.failed sink.new ≡ T.failed sink.old + 1) }
+        ensures cells { (before : Level) → level_if high ≡ other before
+            → Puts T.taken self.old.queue self.new.queue sink.old sink.new result (line before runs.now) }
+        ensures edges { self.new.edges ≡ self.old.edges }
+        ensures follower { self.new.follower ≡ self.old.follower }
+    {
+        let (bits, len) = bits_of_runs(high, runs);
+        self.cells = self.cells.saturating_add(u64::from(len));
+        self.queue.put_bits(sink, bits, len)
     }
 
     /// Passes on the words of cells that are whole.

@@ -1,8 +1,9 @@
 //! Cells on their way to a sink.
 
-ghost use Rattle.std.specs.Prelude.{◌+◌, ◌<◌, ◌≤◌, ◌^◌, ◌≡◌, ◌++◌, [], List, take, replicate};
+ghost use Rattle.std.specs.Prelude.{ℕ, ◌+◌, ◌<◌, ◌≤◌, ◌^◌, ◌≡◌, ◌++◌, [], List, get_or, length, take, replicate};
 ghost use Rattle.std.specs.Prelude.{IfOk, OnErr};
 ghost use Rattle.aes3_level.specs.declared.level.Level.{Level};
+ghost use Rattle.aes3_level.specs.Cells.{line, other};
 ghost use Rattle.aes3_cell.specs.Packed.{octets_needed, packed_of};
 ghost use Rattle.aes3_cell.specs.Text.{line_text};
 ghost use Rattle.aes3_level.specs.Words.{low_cells, word_cells};
@@ -79,9 +80,29 @@ impl CellQueue {
         ensures cells { Puts T.taken self.old self.new sink.old sink.new result
             (replicate cells (level_if high)) }
     {
-        let bits = bits_of_cells(high, cells);
+        self.put_bits(sink, bits_of_cells(high, cells), cells)
+    }
+
+    /// Takes the cells that so many bits are, the first in the lowest bit.
+    ///
+    /// # Errors
+    /// The sink's fault.
+    #[inline(always)]
+    pub(crate) fn put_bits<T: Sink>(
+        &mut self,
+        sink: &mut T,
+        bits: u64,
+        count: u32,
+    ) -> Result<(), Fault>
+        requires few { count ≤ 32 }
+        requires no_more { bits < 2 ^ count }
+        requires room { T.failed sink.old + 1 < 2 ^ 64 }
+        ensures count { IfOk result (λ _. T.failed sink.new ≡ T.failed sink.old) }
+        ensures err_count { OnErr result (T.failed sink.new ≡ T.failed sink.old + 1) }
+        ensures cells { Puts T.taken self.old self.new sink.old sink.new result (low_cells count bits) }
+    {
         let word = self.word | bits << self.len;
-        let len = self.len + cells;
+        let len = self.len + count;
         if len < 64 {
             self.word = word;
             self.len = len;
@@ -183,6 +204,27 @@ pub fn bits_of_cells(high: bool, cells: u32) -> u64
     ensures no_more { result < 2 ^ cells }
 {
     if high { (1u64 << cells) - 1 } else { 0 }
+}
+
+/// The word whose lowest bits are the cells of eight runs at most, the first of this level and each of three cells at most,
+/// and how many cells these are.
+#[inline(always)]
+pub fn bits_of_runs(high: bool, runs: &[u32]) -> (u64, u32)
+    requires few { length runs.now ≤ 8 }
+    requires short { (i : ℕ) → i < length runs.now → get_or runs.now i 0 ≤ 3 }
+    ensures cells { (before : Level) → level_if high ≡ other before → low_cells result.1 result.0 ≡ line before runs.now }
+    ensures no_more { result.0 < 2 ^ result.1 }
+    ensures most { result.1 ≤ 24 }
+{
+    let mut bits = 0;
+    let mut len = 0;
+    let mut high = high;
+    for i in 0..runs.len() {
+        bits |= bits_of_cells(high, runs[i]) << len;
+        len += runs[i];
+        high = !high;
+    }
+    (bits, len)
 }
 
 /// The line of text of the cells left, in front.
