@@ -145,6 +145,7 @@ ascii-pro pro.B4 under code l = ascii-field (codes "b4") _ refl (ascii-number co
 ascii-pro pro.B5 under code l = ascii-field (codes "b5") _ refl (ascii-number code l)
 ascii-pro pro.Unreliable under code l = ascii-field (codes "unreliable") _ refl (ascii-bits code)
 ascii-pro pro.B22low under code l = ascii-field (codes "b22low") _ refl (ascii-number code l)
+ascii-pro pro.Frequency under code l = IsAscii-nil
 
 ascii-con : (f : ConField) (under code : ℕ) → code < 256 → IsAscii (consumer.con_text f under code)
 ascii-con con.Payload under code l = ascii-field (codes "payload") _ refl (ascii-word payload_words code refl l)

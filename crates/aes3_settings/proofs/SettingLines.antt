@@ -25,8 +25,8 @@ unfolding professional.signal_fields professional.mode_fields professional.name_
 line-shows bytes check = (simp (append_assoc, append-nil), simp (append_assoc, append-nil))
 
 pub other-words-stay : OtherWordsStay
-other-words-stay setting f bytes e k other told =
-    ap₂ (code_text f) (other-meanings-stay setting f bytes e k told) (other-codes-stay setting f bytes e k other)
+other-words-stay setting f bytes e k other none told =
+    ap₂ (code_text f) (other-meanings-stay setting f bytes e k told) (other-codes-stay setting f bytes e k other none)
 
 -- ---- the word of the use
 consumer-bit : (n : ℕ) → n < 2 → eqb n 1 ≡ false → n ≡ 0

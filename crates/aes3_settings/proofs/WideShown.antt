@@ -1,10 +1,10 @@
 -- Fields of four bytes, from the texts that set them to what is printed of them.
 use Rattle.std.proofs.Common.{◌≡◌, ◌∙◌, ◌<◌, ◌≤◌, ◌+◌, ◌^◌, ℕ, zero, suc, Bool, true, false, cond, List, []}
 use Rattle.std.proofs.Common.{◌∷◌, ◌++◌, Option, Some, None, length, take, drop, get_or, map, refl, ap, ap₂}
-use Rattle.std.proofs.Common.{◌≢◌, append_assoc, subst, sym, arith, nat_lt, eqb-true}
+use Rattle.std.proofs.Common.{◌≢◌, append_assoc, subst, sym, arith, nat_le, nat_lt, eqb-true, length-append, replicate}
 use Rattle.std.proofs.Math.Seq.{drop-cons}
-use Rattle.std.proofs.lemmas.Bool.{and_parts, ltb-true}
-use Rattle.std.proofs.lemmas.List.{take-append-drop}
+use Rattle.std.proofs.lemmas.Bool.{and_parts, leb-true, ltb-true}
+use Rattle.std.proofs.lemmas.List.{append-nil, length-drop, take-append-drop}
 use Rattle.std.proofs.lemmas.List.Sums.{fold-append, passes_at_first}
 use Rattle.std.proofs.lemmas.Slice.Eq.{bytes_eq-Decides}
 use Rattle.std.specs.Int.{to_le_bytes, w32}
@@ -21,8 +21,10 @@ use Rattle.aes3_status.specs.Wide.{AreFours, set_wide, wide_bytes, wide_given}
 use Rattle.aes3_status.proofs.BitFields.{drop-bytes, four-bytes, take-four}
 use Rattle.aes3_status.proofs.WideFields.{others-stay, wide-back}
 use Rattle.aes3_settings.specs.Fields.{field_text, shown}
-use Rattle.aes3_settings.specs.WideShown.{LastTextCounts, WideIsShown, WideTextsAreFours, wide_shown, wide_text}
-use Rattle.aes3_settings.specs.WideTexts.{address_in, characters_in, four_in, is_character, is_equals, is_numeral}
+use Rattle.aes3_settings.specs.WideShown.{FullLabelsStay, LastTextCounts, WideIsShown, WideTextsAreFours, has_characters}
+use Rattle.aes3_settings.specs.WideShown.{wide_shown, wide_text}
+use Rattle.aes3_settings.specs.WideTexts.{address_in, characters_in, four_in, is_character, is_equals, is_label, is_numeral, is_printable}
+use Rattle.aes3_settings.specs.WideTexts.{padded}
 use Rattle.aes3_settings.specs.WideTexts.{no_wide, wide_in, wide_name, wide_named, wide_of_parts}
 use Rattle.aes3_settings.specs.WideTexts.{wide_of_texts, with_four, with_wide}
 use Rattle.aes3_settings.specs.WideTexts.{written}
@@ -142,9 +144,8 @@ sets text f four = go (nat_lt (position_or_len is_equals text) (length text)) re
 
 -- ---- the four bytes of a word
 pub record AreCharacters (word four : List ℕ) : Type 0 where
-  pub is : four ≡ word
+  pub is : four ≡ padded word
   pub len : length four ≡ 4
-  pub shown : map shown four ≡ four
 
 as-shown : (word : List ℕ) → list_all is_character word ≡ true → map shown word ≡ word
 as-shown [] h = refl
@@ -152,20 +153,21 @@ as-shown (byte ∷ word) h =
     let e = and_parts (is_character byte) (list_all is_character word) h in
     ap₂ (λ x xs. x ∷ xs) (ap (λ (b : Bool). cond b byte 46) e.0) (as-shown word e.1)
 
+padded-len : (word : List ℕ) → length word ≤ 4 → length (padded word) ≡ 4
+padded-len word h =
+    let spaces : List ℕ = replicate 4 32 in
+    omega (arith, h, length-append word (drop (length word) spaces), length-drop (length word) spaces)
+
 pub characters : (word four : List ℕ) → characters_in word ≡ Some four → AreCharacters word four
-characters word four = go (length word == 4 && list_all is_character word) refl
+characters word four = go (is_label word) refl
   where
-    go : (b : Bool) → (length word == 4 && list_all is_character word) ≡ b → cond b (Some word) None ≡ Some four
-        → AreCharacters word four
+    go : (b : Bool) → is_label word ≡ b → cond b (Some (padded word)) None ≡ Some four → AreCharacters word four
     go false h e = cc
     go true h e =
-        let parts = and_parts (length word == 4) (list_all is_character word) h in
-        let is : word ≡ four = ap (λ o. unwrap_or o word) e in
-        record {
-          is = sym is;
-          len = ap length (sym is) ∙ eqb-true (length word) 4 parts.0;
-          shown = subst (λ (w : List ℕ). map shown w ≡ w) is (as-shown word parts.1);
-        }
+        let parts = and_parts (nat_le (length word) 4 && is_character (get_or word 0 32)) (list_all is_printable word) h in
+        let few = and_parts (nat_le (length word) 4) (is_character (get_or word 0 32)) parts.0 in
+        let is : padded word ≡ four = ap (λ o. unwrap_or o (padded word)) e in
+        record { is = sym is; len = ap length (sym is) ∙ padded-len word (leb-true (length word) 4 few.0) }
 
 pub address : (word four : List ℕ) → address_in word ≡ Some four
     → (to_le_bytes w32 (written word) ≡ four) × (written word < 2 ^ 32)
@@ -279,13 +281,29 @@ last-counts before behind text f four e n =
     ∙ ap (λ o. wide_given (with_wide o old) f) e ∙ given-four f four old
 
 -- ---- what is printed
-characters-shown : (name text word four bytes : List ℕ) → text ≡ name ++ 61 ∷ word → AreCharacters word four
-    → bytes ≡ four → field_text name (map shown bytes) ≡ codes " " ++ text
+characters-shown : (name word four bytes : List ℕ) → AreCharacters word four → bytes ≡ four
+    → field_text name (map shown bytes) ≡ field_text name (map shown (padded word))
+characters-shown name word four bytes are is = ap (λ v. field_text name (map shown v)) (is ∙ are.is)
+
+-- four characters that are no spaces
+full-shown : (name text word : List ℕ) → text ≡ name ++ 61 ∷ word → length word ≡ 4
+    → list_all is_character word ≡ true
+    → field_text name (map shown (padded word)) ≡ codes " " ++ text
 unfolding field_text
-characters-shown name text word four bytes whole are is =
-    ap (λ v. codes " " ++ name ++ codes "=" ++ v) (ap (map shown) is ∙ are.shown ∙ are.is)
+full-shown name text word whole len all =
+    let none : padded word ≡ word = ap (λ n. word ++ drop n (replicate 4 32)) len ∙ append-nil word in
+    ap (λ v. codes " " ++ name ++ codes "=" ++ v) (ap (map shown) none ∙ as-shown word all)
     ∙ append_assoc (codes " " ++ name) (codes "=") word ∙ append_assoc (codes " ") name (61 ∷ word)
     ∙ ap (λ t. codes " " ++ t) (sym whole)
+
+pub full-stays : FullLabelsStay
+full-stays text f four e has len all = go f (sets text f four e) has
+  where
+    go : (g : WideField) → Sets text g four → has_characters g ≡ true → wide_text g text ≡ codes " " ++ text
+    go Origin set has = full-shown (codes "origin") text (after_first is_equals text) set.whole len all
+    go Destination set has = full-shown (codes "destination") text (after_first is_equals text) set.whole len all
+    go Local set has = cc
+    go Time set has = cc
 
 number-shown : (at n : ℕ) (four bytes : List ℕ) → at + 4 ≤ length bytes
     → (to_le_bytes w32 n ≡ four) × (n < 2 ^ 32) → bytes_field at 4 bytes ≡ four → field at 0 32 bytes ≡ n
@@ -308,11 +326,9 @@ is-shown text f four bytes wide len professional fours e given =
 
     go : (g : WideField) → Sets text g four → wide_bytes g new ≡ four → wide_shown g new ≡ wide_text g text
     go Origin set back =
-        characters-shown (codes "origin") text word four (wide_bytes Origin new) set.whole
-        (characters word four set.word) back
+        characters-shown (codes "origin") word four (wide_bytes Origin new) (characters word four set.word) back
     go Destination set back =
-        characters-shown (codes "destination") text word four (wide_bytes Destination new) set.whole
-        (characters word four set.word) back
+        characters-shown (codes "destination") word four (wide_bytes Destination new) (characters word four set.word) back
     go Local set back =
         ap (λ n. field_text (codes "local") (decimal n))
         (number-shown 14 (written word) four new (omega (arith, long)) (address word four set.word) back)

@@ -1,6 +1,6 @@
 -- What is told in place of a text `NAME=WORD` that sets nothing: what could stand there.
 use Rattle.std.specs.Prelude.{ℕ, List, [], ◌∷◌, ◌++◌, Bool, not, ◌&&◌, ◌||◌, ◌==◌, ◌^◌, nat_lt, if◌then◌else◌, codes}
-use Rattle.std.specs.Prelude.{decimal}
+use Rattle.std.specs.Prelude.{decimal, take}
 use Rattle.std.specs.List.{before_first, flat_map, list_any, range_with_len}
 use Rattle.std.specs.Option.{option_map_or}
 use Rattle.std.specs.Str.{bytes_eq}
@@ -81,12 +81,12 @@ abbrev pub names_of : List Field → List ℕ
 names_of fields = flat_map (λ f. codes " " ++ name_of f) fields
 
 -- the line of the fields for one use: what those of the name can be set to, or if there is none for either use the
--- names of all, and more of them behind these
-unfoldable pub use_choices : List ℕ → List Field → List ℕ → List ℕ → List ℕ
-use_choices head fields more text =
+-- names of those that the line has, and more of them behind these
+unfoldable pub use_choices : List ℕ → List Field → List Field → List ℕ → List ℕ → List ℕ
+use_choices head fields in_line more text =
     if is_known text
     then (if has_name fields text then head ++ flat_map (named_choices text) fields ++ 10 ∷ [] else [])
-    else head ++ names_of fields ++ more ++ 10 ∷ []
+    else head ++ names_of in_line ++ more ++ 10 ∷ []
 
 -- the names of the fields of four bytes
 abbrev pub wide_names : List ℕ
@@ -95,13 +95,13 @@ wide_names = codes " origin destination local time"
 -- a line for each use
 unfoldable pub both_choices : List ℕ → List ℕ
 both_choices text =
-    use_choices (codes "  professional:") professional_fields wide_names text
-    ++ use_choices (codes "  consumer:") consumer_fields [] text
+    use_choices (codes "  professional:") professional_fields (take 15 professional_fields) wide_names text
+    ++ use_choices (codes "  consumer:") consumer_fields consumer_fields [] text
 
 -- what a field of four bytes can be set to
 abbrev pub wide_word : WideField → List ℕ
-wide_word Origin = codes "four characters from ! to ~"
-wide_word Destination = codes "four characters from ! to ~"
+wide_word Origin = codes "one to four characters, the first no space"
+wide_word Destination = codes "one to four characters, the first no space"
 wide_word Local = codes "a number below 4294967296"
 wide_word Time = codes "a number below 4294967296"
 

@@ -1,4 +1,5 @@
--- The words of codes that a line of channel status has as numbers (AES3-2, IEC 60958-3), by ALSA's `alsa/asoundef.h`.
+-- The words of codes that a line of channel status has as numbers (AES3-2, IEC 60958-3), by ALSA's `alsa/asoundef.h`
+-- but for the sampling frequencies of byte 4.
 use Rattle.std.specs.Prelude.{ℕ, List, [], ◌∷◌, codes}
 use Rattle.std.specs.Option.{option_map_or}
 use Rattle.aes3_status.specs.declared.field.ProField.{ProField}
@@ -15,6 +16,12 @@ use Rattle.aes3_settings.specs.Consumer.{con_name}
 -- professional use, byte 1 bits 0 to 3: the channel mode
 abbrev pub mode_names : Words
 mode_names = (15, codes "vector-to-byte-3") ∷ []
+
+-- professional use, byte 4 bits 3 to 6: the sampling frequency where byte 0 has no code for it (AES3-2)
+abbrev pub frequency_names : Words
+frequency_names =
+    (1, codes "24000") ∷ (2, codes "96000") ∷ (3, codes "192000") ∷ (9, codes "22050") ∷ (10, codes "88200")
+    ∷ (11, codes "176400") ∷ (15, codes "user-defined") ∷ []
 
 -- consumer use, byte 1 bits 0 to 6: the category code without its last bit
 unfoldable pub category_names : Words
@@ -49,6 +56,7 @@ name_of (Consumer f) = con_name f
 -- the words of a field's codes; none where no code of it has one
 abbrev pub pro_names : ProField → Words
 pro_names pro.Mode = mode_names
+pro_names pro.Frequency = frequency_names
 pro_names f = []
 
 abbrev pub con_names : ConField → Words

@@ -1,5 +1,5 @@
 -- The fields of a status line for professional use (AES3-2), and the words of their codes.
-use Rattle.std.specs.Prelude.{ℕ, List, [], ◌∷◌, ◌++◌, ◌==◌, ◌||◌, if◌then◌else◌, map, codes, decimal}
+use Rattle.std.specs.Prelude.{ℕ, Bool, true, false, List, [], ◌∷◌, ◌++◌, ◌==◌, ◌||◌, if◌then◌else◌, map, codes, decimal}
 use Rattle.aes3_status.specs.declared.check.Check.{Check}
 use Rattle.aes3_status.specs.declared.check.Check.TheVariants.{Good, Absent, Bad}
 use Rattle.aes3_status.specs.declared.field.ProField.{ProField}
@@ -58,6 +58,7 @@ pro_name pro.B4 = codes "b4"
 pro_name pro.B5 = codes "b5"
 pro_name pro.Unreliable = codes "unreliable"
 pro_name pro.B22low = codes "b22low"
+pro_name pro.Frequency = codes "rate"
 
 -- what `show` prints behind the name for each code of a field, where the number `under` tells what its codes mean
 abbrev pub pro_word : ProField → ℕ → ℕ → List ℕ
@@ -75,9 +76,15 @@ pro_word pro.B4 under code = decimal code
 pro_word pro.B5 under code = decimal code
 pro_word pro.Unreliable under code = four_bits code
 pro_word pro.B22low under code = decimal code
+pro_word pro.Frequency under code = decimal code
+
+-- whether the line has the field by itself: the sampling frequency of byte 4 stands in that of the whole byte
+abbrev pub is_in_line : ProField → Bool
+is_in_line pro.Frequency = false
+is_in_line field = true
 
 abbrev pub pro_text : ProField → ℕ → ℕ → List ℕ
-pro_text field under code = field_text (pro_name field) (pro_word field under code)
+pro_text field under code = if is_in_line field then field_text (pro_name field) (pro_word field under code) else []
 
 -- byte 23: how the status stands to its check byte
 abbrev pub check_word : Check → List ℕ

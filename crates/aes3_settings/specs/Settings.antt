@@ -1,5 +1,5 @@
 -- Fields of channel status by their names and the words that `show` prints.
-use Rattle.std.specs.Prelude.{ℕ, List, [], ◌∷◌, ◌++◌, Some, None, true, ◌≡◌, ◌≢◌, ◌⊎◌, ◌<◌, ◌≤◌, ◌+◌, ◌*◌, ◌^◌, codes}
+use Rattle.std.specs.Prelude.{ℕ, List, [], ◌∷◌, ◌++◌, Some, None, true, false, ◌≡◌, ◌≢◌, ◌⊎◌, ◌<◌, ◌≤◌, ◌+◌, ◌*◌, ◌^◌, codes}
 use Rattle.std.specs.Prelude.{decimal, length, map, take, drop, get_or, replicate}
 use Rattle.std.specs.List.{Contains, flat_map}
 use Rattle.aes3_status.specs.declared.check.Check.{Check}
@@ -11,6 +11,7 @@ use Rattle.aes3_status.specs.declared.setting.Settings.{Settings}
 use Rattle.aes3_status.specs.Professional as status
 use Rattle.aes3_status.specs.Consumer as consumer_status
 use Rattle.aes3_status.specs.Bits.{number_at}
+use Rattle.aes3_status.specs.SettingLaws.{share_bits}
 use Rattle.aes3_status.specs.Settings.{is_for, place_of, told_by, under, code_for, set_by}
 use Rattle.hex.specs.Hex.{encode_lower}
 use Rattle.aes3_settings.specs.declared.listed.SettingsFault.{SettingsFault}
@@ -57,7 +58,8 @@ pub record IsSettingOf (text : List ℕ) (fields : List Field) (setting : Settin
 abbrev pub IsNoSetting : List ℕ → List Field → Type 0
 IsNoSetting text fields = (f : Field) (under code : ℕ) → Contains fields f → under < 8 → ¬ IsCodeOf text f under code
 
--- the fields that a status for each use has: the use itself, and the others in the order in which `show` prints them
+-- the fields that a status for each use has: the use itself, the others in the order in which `show` prints them, and
+-- behind these the one that only `show --names` does
 abbrev pub professional_fields : List Field
 professional_fields = Use ∷ map Professional status.pro_fields
 
@@ -103,10 +105,11 @@ IsShownThen text setting = (bytes : List ℕ) (code : ℕ) → length bytes ≡ 
 
 -- a setting leaves what `show` prints of each other field for the use of the status, unless the codes of that field
 -- have another meaning under the number that is set: of the sample word length under the use of the auxiliary bits or
--- the greatest length, of the emphasis in consumer status under what the sample words carry
+-- the greatest length, of the emphasis in consumer status under what the sample words carry; or they have bits in
+-- common, as byte 4 and the sampling frequency in it
 abbrev pub OtherWordsStay : Type 0
 OtherWordsStay = (setting : Setting) (f : Field) (bytes : List ℕ) → length bytes ≡ 24 → is_for f bytes ≡ true
-    → f ≢ setting.field → told_by f ≢ Some setting.field → shown_of f (set_by setting bytes) ≡ shown_of f bytes
+    → f ≢ setting.field → share_bits f setting.field ≡ false → told_by f ≢ Some setting.field → shown_of f (set_by setting bytes) ≡ shown_of f bytes
 
 -- the line of `show` is made of these: the texts of the fields, with those of the fields that can't be set between them
 abbrev pub shown_fields : List Field → List ℕ → List ℕ

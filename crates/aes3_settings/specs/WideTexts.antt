@@ -1,6 +1,6 @@
 -- Texts `NAME=WORD` of the fields of professional channel status that have four whole bytes (AES3-2).
 use Rattle.std.specs.Prelude.{ℕ, List, Bool, ◌&&◌, ◌==◌, Option, Some, None, ◌^◌, codes, length, fold}
-use Rattle.std.specs.Prelude.{nat_le, nat_lt, option_and_then, option_map, if◌then◌else◌}
+use Rattle.std.specs.Prelude.{◌++◌, ◌||◌, drop, get_or, nat_le, nat_lt, option_and_then, option_map, replicate, if◌then◌else◌}
 use Rattle.std.specs.Char.{digit_value}
 use Rattle.std.specs.Int.{to_le_bytes, w32}
 use Rattle.std.specs.List.{after_first, before_first, list_all, position_or_len}
@@ -14,9 +14,22 @@ use Rattle.aes3_status.specs.declared.wide.WideSettings.{WideSettings}
 abbrev pub is_character : ℕ → Bool
 is_character byte = nat_le 33 byte && nat_le byte 126
 
--- the four characters that the word is
+-- whether it is one of these or a space
+abbrev pub is_printable : ℕ → Bool
+is_printable byte = is_character byte || byte == 32
+
+-- whether the word is one to four characters, of which the first is no space
+abbrev pub is_label : List ℕ → Bool
+is_label word =
+    (nat_le (length word) 4 && is_character (get_or word 0 32)) && list_all is_printable word
+
+-- the word with spaces behind it, four characters
+abbrev pub padded : List ℕ → List ℕ
+padded word = word ++ drop (length word) (replicate 4 32)
+
+-- the four characters that the word stands for
 abbrev pub characters_in : List ℕ → Option (List ℕ)
-characters_in word = if length word == 4 && list_all is_character word then Some word else None
+characters_in word = if is_label word then Some (padded word) else None
 
 -- whether these are decimal digits, one or more
 abbrev pub is_numeral : List ℕ → Bool

@@ -17,6 +17,10 @@ use crate::wide::wide_named;
 use aes3_status::{Field, WideField};
 use std::alloc::AllocError;
 
+/// How many of the fields for one use the line has by themselves, and so by names of their own: the
+/// use and fourteen others.
+const LINE_FIELDS: usize = 15;
+
 /// How many codes a byte has.
 const BYTE_CODES: u32 = 256;
 
@@ -235,20 +239,22 @@ fn add_names_line(
 }
 
 /// Appends the line of the fields for one use: what those with the name of a text `NAME=WORD` can
-/// be set to, or, where no field for either use has it, the names of all, and more behind them.
+/// be set to, or, where no field for either use has it, the names of those that the line has, and
+/// more behind them.
 #[tactic(auto, unfolding(crate::specs::Choices::use_choices))]
 fn add_use(
     text: &mut String,
     head: &str,
     fields: &[Field],
+    in_line: &[Field],
     more: &str,
     setting: &str,
 ) -> Result<(), AllocError>
     ensures { IfOk result (λ _. text.new.bytes.items
-        ≡ text.old.bytes.items ++ use_choices head.now fields.now more.now setting.now) }
+        ≡ text.old.bytes.items ++ use_choices head.now fields.now in_line.now more.now setting.now) }
 {
     if !is_known(setting) {
-        return add_names_line(text, head, fields, more);
+        return add_names_line(text, head, in_line, more);
     }
     if !has_name(fields, setting) {
         return Ok(());
@@ -261,8 +267,11 @@ fn wide_line(field: WideField) -> &'static str
     ensures { result.now ≡ wide_choice field }
 {
     match field {
-        WideField::Origin => "  professional: origin= and four characters from ! to ~\n",
-        WideField::Destination => "  professional: destination= and four characters from ! to ~\n",
+        WideField::Origin =>
+            "  professional: origin= and one to four characters, the first no space\n",
+        WideField::Destination => {
+            "  professional: destination= and one to four characters, the first no space\n"
+        }
         WideField::Local => "  professional: local= and a number below 4294967296\n",
         WideField::Time => "  professional: time= and a number below 4294967296\n",
     }
@@ -287,6 +296,14 @@ pub fn add_choices(text: &mut String, setting: &str) -> Result<(), AllocError>
     if let Some(field) = wide_named(name_in(setting)) {
         return add_wide_line(text, field);
     }
-    add_use(text, "  professional:", PROFESSIONAL, WIDE_NAMES, setting)?;
-    add_use(text, "  consumer:", CONSUMER, "", setting)
+    let in_line = &PROFESSIONAL[..LINE_FIELDS];
+    add_use(
+        text,
+        "  professional:",
+        PROFESSIONAL,
+        in_line,
+        WIDE_NAMES,
+        setting,
+    )?;
+    add_use(text, "  consumer:", CONSUMER, CONSUMER, "", setting)
 }

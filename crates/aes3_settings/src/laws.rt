@@ -2,7 +2,7 @@
 
 ghost use Rattle.aes3_settings.specs.Settings.{LineShowsFields, OtherWordsStay};
 ghost use Rattle.aes3_settings.specs.StatusTexts.{UseIsShown};
-ghost use Rattle.aes3_settings.specs.WideShown.{LastTextCounts, WideIsShown, WideTextsAreFours};
+ghost use Rattle.aes3_settings.specs.WideShown.{FullLabelsStay, LastTextCounts, WideIsShown, WideTextsAreFours};
 
 /// The line of a channel status is made of what is printed of each field that can be set, in order,
 /// and of the others.
@@ -21,10 +21,12 @@ pub fn other_words_stay()
     ensures { OtherWordsStay }
 {}
 
-/// A field of four bytes that a text sets is printed as the text, of a number as its decimal digits;
-/// of the texts for a field the last counts.
+/// A field of four bytes that a text sets is printed as the text, with a `.` for each space in it and
+/// behind it up to four characters, of a number as its decimal digits; of the texts for a field the
+/// last counts.
 pub fn wide_texts_are_shown()
     ensures four { WideTextsAreFours }
     ensures last { LastTextCounts }
     ensures shown { WideIsShown }
+    ensures full { FullLabelsStay }
 {}

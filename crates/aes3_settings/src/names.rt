@@ -1,7 +1,8 @@
 //! The words of codes that a line of channel status has as numbers (AES3-2, IEC 60958-3).
 //!
-//! The tables are those of ALSA's `alsa/asoundef.h` (`libasound2-dev` 1.2.8): a code that it does
-//! not name has no word here.
+//! The tables are those of ALSA's `alsa/asoundef.h` (`libasound2-dev` 1.2.8), but for the sampling
+//! frequencies of byte 4 of professional use, which it does not name: a code that has no name in
+//! them has no word here.
 
 ghost use Rattle.std.specs.Prelude.{◌≡◌, ◌≤◌, ◌+◌, ◌++◌, length, IfSome, IsTrue};
 ghost use Rattle.std.specs.Option.{option_copied};
@@ -18,6 +19,18 @@ use aes3_status::{ConField, Field, ProField};
 
 /// Channel modes of professional use (byte 1 bits 0 to 3; `IEC958_AES1_PRO_MODE`).
 const MODE: &[(u8, &str)] = &[(15, "vector-to-byte-3")];
+
+/// Sampling frequencies of professional use in hertz where byte 0 has no code for them (byte 4 bits 3
+/// to 6; AES3-2).
+const FREQUENCY: &[(u8, &str)] = &[
+    (1, "24000"),
+    (2, "96000"),
+    (3, "192000"),
+    (9, "22050"),
+    (10, "88200"),
+    (11, "176400"),
+    (15, "user-defined"),
+];
 
 /// Category codes of consumer use (byte 1 bits 0 to 6; `IEC958_AES1_CON`), by their groups: laser
 /// optical, converters, magnetic, broadcast, musical, with and without copyright information,
@@ -114,6 +127,7 @@ fn code_names(field: Field) -> &'static [(u8, &'static str)]
 {
     match field {
         Field::Professional(ProField::Mode) => MODE,
+        Field::Professional(ProField::Frequency) => FREQUENCY,
         Field::Consumer(ConField::Category) => category_names(),
         Field::Consumer(ConField::Rate) => RATE,
         Field::Consumer(ConField::Original) => original_names(),

@@ -3,8 +3,9 @@
 ghost use Rattle.std.specs.Prelude.{◌≡◌, ◌≤◌, ◌+◌, ◌*◌, ◌++◌, length, IsTrue};
 ghost use Rattle.aes3_settings.specs.Words.{are_within, rows_of};
 ghost use Rattle.aes3_settings.specs.Professional.{address_fields, check_word, length_words};
-ghost use Rattle.aes3_settings.specs.Professional.{mode_fields, name_fields, pro_name};
-ghost use Rattle.aes3_settings.specs.Professional.{pro_text, professional_text, signal_fields};
+ghost use Rattle.aes3_settings.specs.Fields.{field_text};
+ghost use Rattle.aes3_settings.specs.Professional.{is_in_line, mode_fields, name_fields, pro_name};
+ghost use Rattle.aes3_settings.specs.Professional.{pro_text, pro_word, professional_text, signal_fields};
 
 use crate::fields::{FIELD_LEN, NAME_LEN};
 use crate::line::{LINE_LEN, Line};
@@ -89,13 +90,37 @@ pub(crate) fn professional_name(field: ProField) -> &'static str
         ProField::B5 => "b5",
         ProField::Unreliable => "unreliable",
         ProField::B22low => "b22low",
+        ProField::Frequency => "rate",
     }
 }
 
-/// Appends a code of a field, where the number `under` tells what its codes mean.
+/// Whether the line has the field by itself: the sampling frequency of byte 4 stands in that of the
+/// whole byte.
+fn is_in_line(field: ProField) -> bool
+    ensures { result ≡ is_in_line field }
+{
+    match field {
+        ProField::Frequency => false,
+        _ => true,
+    }
+}
+
+/// Appends a code of a field, where the number `under` tells what its codes mean; nothing where the
+/// line does not have the field by itself.
 pub(crate) fn put_professional_code(line: &mut Line, field: ProField, under: u8, code: u8)
     requires { length line.old + FIELD_LEN ≤ LINE_LEN }
     ensures code { line.new ≡ line.old ++ pro_text field under code }
+    ensures len { length line.new ≤ length line.old + FIELD_LEN }
+{
+    if is_in_line(field) {
+        put_line_code(line, field, under, code);
+    }
+}
+
+/// Appends a code of a field with its name, likewise.
+fn put_line_code(line: &mut Line, field: ProField, under: u8, code: u8)
+    requires { length line.old + FIELD_LEN ≤ LINE_LEN }
+    ensures code { line.new ≡ line.old ++ field_text (pro_name field) (pro_word field under code) }
     ensures len { length line.new ≤ length line.old + FIELD_LEN }
 {
     let name = professional_name(field);
@@ -109,8 +134,12 @@ pub(crate) fn put_professional_code(line: &mut Line, field: ProField, under: u8,
         ProField::Aux => line.word_field(name, AUX, code),
         ProField::Word => line.word_field(name, length_words(under), code),
         ProField::Unreliable => line.bits_field(name, code),
-        ProField::B2high | ProField::B3 | ProField::B4 | ProField::B5 | ProField::B22low =>
-            line.number_field(name, u64::from(code)),
+        ProField::B2high
+        | ProField::B3
+        | ProField::B4
+        | ProField::B5
+        | ProField::B22low
+        | ProField::Frequency => line.number_field(name, u64::from(code)),
     }
 }
 

@@ -15,8 +15,8 @@ use crate::professional::put_professional_code;
 use crate::words::USE;
 use aes3_status::{ConField, Field, ProField, Setting};
 
-/// The fields of professional status (AES3-2) that can be set: its use, and the others as `show`
-/// prints them.
+/// The fields of professional status (AES3-2) that can be set: its use, the others as `show` prints
+/// them, and the sampling frequency of byte 4, which `show --names` prints behind the line.
 pub(crate) const PROFESSIONAL: &[Field] = &[
     Field::Use,
     Field::Professional(ProField::Payload),
@@ -33,6 +33,7 @@ pub(crate) const PROFESSIONAL: &[Field] = &[
     Field::Professional(ProField::B5),
     Field::Professional(ProField::Unreliable),
     Field::Professional(ProField::B22low),
+    Field::Professional(ProField::Frequency),
 ];
 
 /// The fields of consumer status (IEC 60958-3) that can be set: its use, and the others as `show`

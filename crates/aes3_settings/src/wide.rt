@@ -1,18 +1,65 @@
 //! Texts of the fields of professional channel status that have four whole bytes.
 
-ghost use Rattle.std.specs.Prelude.{◌≡◌};
-ghost use Rattle.aes3_settings.specs.WideTexts.{address_in, characters_in, four_in, wide_in};
+ghost use Rattle.std.specs.Prelude.{◌≡◌, ◌≤◌, get_or, length};
+ghost use Rattle.std.specs.List.{list_all};
+ghost use Rattle.aes3_settings.specs.WideTexts.{address_in, characters_in, four_in, is_character, is_label};
+ghost use Rattle.aes3_settings.specs.WideTexts.{is_printable, padded, wide_in};
 ghost use Rattle.aes3_settings.specs.WideTexts.{wide_named, with_wide};
 
 use aes3_status::{WideField, WideSettings};
 
-/// The four characters from `!` to `~` that a word is.
-fn characters_of(word: &str) -> Option<[u8; 4]>
+/// How many bytes a field has.
+const FIELD_BYTES: usize = 4;
+
+/// Whether the byte is a character from space to `~`.
+fn is_printable(byte: &u8) -> bool
+    ensures { result ≡ is_printable byte.now }
+{
+    byte.is_ascii_graphic() || *byte == b' '
+}
+
+/// Whether each of these is.
+fn are_printable(word: &[u8]) -> bool
+    ensures { result ≡ list_all is_printable word.now }
+{
+    word.iter().all(is_printable)
+}
+
+/// Whether these begin with a character from `!` to `~`.
+fn begins_graphic(word: &[u8]) -> bool
+    ensures { result ≡ is_character (get_or word.now 0 32) }
+{
+    match word.first() {
+        Some(first) => first.is_ascii_graphic(),
+        None => false,
+    }
+}
+
+/// Whether these are one to four characters, of which the first is no space.
+fn is_label(word: &[u8]) -> bool
+    ensures { result ≡ is_label word.now }
+{
+    (word.len() <= FIELD_BYTES) & begins_graphic(word) & are_printable(word)
+}
+
+/// These characters with spaces behind them.
+fn padded(word: &[u8]) -> [u8; FIELD_BYTES]
+    requires { length word.now ≤ FIELD_BYTES }
+    ensures { result ≡ padded word.now }
+{
+    let mut characters = [b' '; FIELD_BYTES];
+    characters[..word.len()].copy_from_slice(word);
+    characters
+}
+
+/// The four characters that a word of one to four stands for: spaces may stand in it, and are put
+/// behind it.
+fn characters_of(word: &str) -> Option<[u8; FIELD_BYTES]>
     ensures { result ≡ characters_in word.now }
 {
-    let characters: [u8; 4] = word.as_bytes().try_into().ok()?;
-    if characters.iter().all(u8::is_ascii_graphic) {
-        Some(characters)
+    let word = word.as_bytes();
+    if is_label(word) {
+        Some(padded(word))
     } else {
         None
     }

@@ -85,6 +85,7 @@ pro-lies pro.B4 = lies _ (omega arith) (omega arith) (omega arith)
 pro-lies pro.B5 = lies _ (omega arith) (omega arith) (omega arith)
 pro-lies pro.Unreliable = lies _ (omega arith) (omega arith) (omega arith)
 pro-lies pro.B22low = lies _ (omega arith) (omega arith) (omega arith)
+pro-lies pro.Frequency = lies _ (omega arith) (omega arith) (omega arith)
 
 con-lies : (f : ConField) → Lies (con_place f)
 con-lies con.Payload = lies _ (omega arith) (omega arith) (omega arith)
@@ -139,6 +140,7 @@ under-stays (Professional pro.B4) code bytes e = refl
 under-stays (Professional pro.B5) code bytes e = refl
 under-stays (Professional pro.Unreliable) code bytes e = refl
 under-stays (Professional pro.B22low) code bytes e = refl
+under-stays (Professional pro.Frequency) code bytes e = refl
 under-stays (Consumer con.Payload) code bytes e = refl
 under-stays (Consumer con.Copyright) code bytes e = refl
 under-stays (Consumer con.Emphasis) code bytes e = others-stay (con_place con.Emphasis) code bytes 0 1 1
@@ -199,6 +201,7 @@ under-few (Professional pro.B4) bytes = omega arith
 under-few (Professional pro.B5) bytes = omega arith
 under-few (Professional pro.Unreliable) bytes = omega arith
 under-few (Professional pro.B22low) bytes = omega arith
+under-few (Professional pro.Frequency) bytes = omega arith
 under-few (Consumer con.Payload) bytes = omega arith
 under-few (Consumer con.Copyright) bytes = omega arith
 under-few (Consumer con.Emphasis) bytes = omega (arith, field-fits 0 1 1 bytes)

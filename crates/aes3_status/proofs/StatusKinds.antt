@@ -172,6 +172,7 @@ under-same (Professional pro.B4) s t a = refl
 under-same (Professional pro.B5) s t a = refl
 under-same (Professional pro.Unreliable) s t a = refl
 under-same (Professional pro.B22low) s t a = refl
+under-same (Professional pro.Frequency) s t a = refl
 under-same (Consumer con.Payload) s t a = refl
 under-same (Consumer con.Copyright) s t a = refl
 under-same (Consumer con.Emphasis) s t a = one-same s t 0 1 a.long a.also (omega arith) a.payload_bit

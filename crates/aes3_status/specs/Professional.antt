@@ -1,5 +1,5 @@
 -- The fields of professional channel status (AES3-2), each by its byte, its first bit there and its number of bits.
-use Rattle.std.specs.Prelude.{ℕ, List, [], ◌∷◌}
+use Rattle.std.specs.Prelude.{ℕ, Bool, true, false, List, [], ◌∷◌}
 use Rattle.aes3_status.specs.declared.place.Place.{Place}
 use Rattle.aes3_status.specs.declared.field.ProField.{ProField}
 use Rattle.aes3_status.specs.declared.field.ProField.TheVariants as pro
@@ -9,7 +9,7 @@ use Rattle.aes3_status.specs.Bits.{field, bytes_field, number_at, place}
 abbrev pub pro_fields : List ProField
 pro_fields =
     pro.Payload ∷ pro.Emphasis ∷ pro.Unlocked ∷ pro.Rate ∷ pro.Mode ∷ pro.User ∷ pro.Aux ∷ pro.Word ∷ pro.B2high
-    ∷ pro.B3 ∷ pro.B4 ∷ pro.B5 ∷ pro.Unreliable ∷ pro.B22low ∷ []
+    ∷ pro.B3 ∷ pro.B4 ∷ pro.B5 ∷ pro.Unreliable ∷ pro.B22low ∷ pro.Frequency ∷ []
 
 -- where the fields within a byte stand: each by its byte, its first bit there and its number of bits
 abbrev pub pro_place : ProField → Place
@@ -27,6 +27,13 @@ pro_place pro.B4 = place 4 0 8
 pro_place pro.B5 = place 5 0 8
 pro_place pro.Unreliable = place 22 4 4
 pro_place pro.B22low = place 22 0 4
+pro_place pro.Frequency = place 4 3 4
+
+-- whether the two have bits in common: byte 4 as a whole, and the sampling frequency in it
+abbrev pub pro_share : ProField → ProField → Bool
+pro_share pro.B4 pro.Frequency = true
+pro_share pro.Frequency pro.B4 = true
+pro_share f g = false
 
 -- byte 0: linear PCM or other, pre-emphasis, lock, sampling frequency
 abbrev pub payload : List ℕ → ℕ
@@ -64,6 +71,10 @@ b3 = number_at (pro_place pro.B3)
 
 abbrev pub b4 : List ℕ → ℕ
 b4 = number_at (pro_place pro.B4)
+
+-- byte 4 bits 3 to 6: a sampling frequency that byte 0 has no code for
+abbrev pub frequency : List ℕ → ℕ
+frequency = number_at (pro_place pro.Frequency)
 
 abbrev pub b5 : List ℕ → ℕ
 b5 = number_at (pro_place pro.B5)

@@ -1,11 +1,12 @@
 -- What a code in a field does to a status of 24 bytes.
-use Rattle.std.specs.Prelude.{ℕ, List, Some, true, ◌≡◌, ◌≢◌, ◌≤◌, ◌<◌, ◌⊎◌, ◌+◌, ◌*◌, ◌%◌, ◌^◌, length}
+use Rattle.std.specs.Prelude.{ℕ, Bool, List, Some, true, false, ◌≡◌, ◌≢◌, ◌≤◌, ◌<◌, ◌⊎◌, ◌+◌, ◌*◌, ◌%◌, ◌^◌, length}
 use Rattle.aes3_status.specs.declared.place.Place.{Place}
 use Rattle.aes3_status.specs.declared.field.Field.{Field}
-use Rattle.aes3_status.specs.declared.field.Field.TheVariants.{Use}
+use Rattle.aes3_status.specs.declared.field.Field.TheVariants.{Use, Professional}
 use Rattle.aes3_status.specs.declared.setting.Setting.{Setting}
 use Rattle.aes3_bits.specs.Bits.{low_bits}
 use Rattle.aes3_status.specs.Bits.{status_bits, field, number_at}
+use Rattle.aes3_status.specs.Professional.{pro_share}
 use Rattle.aes3_status.specs.Statuses.{is_professional}
 use Rattle.aes3_status.specs.Settings.{with_bits, with_field, place_of, is_for, told_by, under, code_for, set_by}
 
@@ -51,10 +52,15 @@ SettingIsReadBack = (setting : Setting) (bytes : List ℕ) (code : ℕ) → leng
     → code_for setting bytes ≡ Some code
     → number_at (place_of setting.field) (set_by setting bytes) ≡ code % 2 ^ (place_of setting.field).count
 
--- a setting leaves the code of each other field that the status has
+-- whether two fields have bits in common
+abbrev pub share_bits : Field → Field → Bool
+share_bits (Professional f) (Professional g) = pro_share f g
+share_bits f g = false
+
+-- a setting leaves the code of each other field that the status has, where they have no bits in common
 abbrev pub OtherCodesStay : Type 0
 OtherCodesStay = (setting : Setting) (f : Field) (bytes : List ℕ) → length bytes ≡ 24 → is_for f bytes ≡ true
-    → f ≢ setting.field
+    → f ≢ setting.field → share_bits f setting.field ≡ false
     → number_at (place_of f) (set_by setting bytes) ≡ number_at (place_of f) bytes
 
 -- and what tells the meaning of its codes, unless this is the field that is set

@@ -26,6 +26,8 @@ pub enum ProField {
     B5,
     Unreliable,
     B22low,
+    /// A sampling frequency that byte 0 has no code for: bits 3 to 6 of byte 4, which `B4` has too.
+    Frequency,
 }
 
 /// A field of consumer channel status (IEC 60958-3), as `Con` reads it.
@@ -89,6 +91,7 @@ impl ProField {
             ProField::B5 => place(5, 0, 8),
             ProField::Unreliable => place(22, 4, 4),
             ProField::B22low => place(22, 0, 4),
+            ProField::Frequency => place(4, 3, 4),
         }
     }
 

@@ -34,8 +34,8 @@ pub fn settings_are_read_back()
     ensures code { SettingIsReadBack }
 {}
 
-/// No two fields that a status has have a bit in common: a setting leaves the code of each other field as
-/// it is, and what tells the meaning of its codes too, unless this is the field that it sets.
+/// No two fields that a status has have a bit in common but byte 4 as a whole and the sampling frequency
+/// in it: a setting leaves the code of each other field as it is, and what tells the meaning of its codes too, unless this is the field that it sets.
 pub fn fields_are_apart()
     ensures codes { OtherCodesStay }
     ensures meanings { OtherMeaningsStay }

@@ -25,7 +25,7 @@ impl Pro {
     ghost use Rattle.std.specs.Prelude.{◌≡◌};
     ghost use Rattle.aes3_status.specs.Professional.{payload, emphasis, unlocked, rate, mode, user};
     ghost use Rattle.aes3_status.specs.Professional.{aux, word, b2high, b3, b4, b5, origin};
-    ghost use Rattle.aes3_status.specs.Professional.{destination, local, time, b22low, unreliable};
+    ghost use Rattle.aes3_status.specs.Professional.{destination, frequency, local, time, b22low, unreliable};
 
     /// The status of these bytes.
     pub(crate) fn of_bytes(bytes: &[u8; 24]) -> Pro
@@ -117,6 +117,13 @@ impl Pro {
         ensures { result ≡ b4 self.now }
     {
         ProField::B4.number(&self.bytes)
+    }
+
+    /// A sampling frequency that `rate` has no code for (AES3-2, byte 4 bits 3 to 6).
+    pub fn frequency(&self) -> u8
+        ensures { result ≡ frequency self.now }
+    {
+        ProField::Frequency.number(&self.bytes)
     }
 
     /// Reserved (AES3-2, byte 5).

@@ -1,7 +1,7 @@
 use Rattle.std.proofs.Common.{◌∙◌, ◌++◌, [], ap, append_assoc, sym}
 use Rattle.std.proofs.lemmas.Result.{IfOk-weaker}
 use Rattle.std.specs.Option.{option_map_or}
-use Rattle.std.specs.Prelude.{codes}
+use Rattle.std.specs.Prelude.{codes, take}
 use Rattle.aes3_settings.specs.Choices.{both_choices, choices, use_choices, wide_choice, wide_names}
 use Rattle.aes3_settings.specs.Settings.{consumer_fields, professional_fields}
 use Rattle.aes3_settings.specs.WideTexts.{wide_named}
@@ -19,8 +19,8 @@ returns-in-Some c =
 pub returns : goal.returns
 unfolding choices both_choices
 returns c =
-    let first = use_choices (codes "  professional:") professional_fields wide_names c.args.setting.now in
-    let second = use_choices (codes "  consumer:") consumer_fields [] c.args.setting.now in
+    let first = use_choices (codes "  professional:") professional_fields (take 15 professional_fields) wide_names c.args.setting.now in
+    let second = use_choices (codes "  consumer:") consumer_fields consumer_fields [] c.args.setting.now in
     let named = ap wide_named (sym c.name_in.ensures) ∙ sym c.wide_named.ensures ∙ c.in_default.is in
     let lines = sym (ap (λ o. option_map_or wide_choice o (both_choices c.args.setting.now)) named) in
     IfOk-weaker c.add_use-2.result _ _

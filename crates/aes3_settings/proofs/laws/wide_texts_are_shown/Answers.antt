@@ -1,4 +1,4 @@
-use Rattle.aes3_settings.proofs.WideShown.{is-shown, last-counts, texts-are-fours}
+use Rattle.aes3_settings.proofs.WideShown.{full-stays, is-shown, last-counts, texts-are-fours}
 use Rattle.aes3_settings.proofs.laws.wide_texts_are_shown.Goals as goal
 
 pub returns-clause-four : goal.returns-clause-four
@@ -9,3 +9,6 @@ returns-clause-shown c = is-shown
 
 pub returns-clause-last : goal.returns-clause-last
 returns-clause-last c = last-counts
+
+pub returns-clause-full : goal.returns-clause-full
+returns-clause-full c = full-stays

@@ -3,7 +3,7 @@ use Rattle.aes3_status.specs.declared.field.ProField.{ProField}
 use Rattle.aes3_settings.specs.Fields.{field_text}
 use Rattle.aes3_settings.specs.Words.{word_for}
 use Rattle.aes3_settings.specs.Professional.{pro_name, pro_word, emphasis_words, mode_words, rate_words, user_words}
-use Rattle.aes3_settings.proofs.professional.put_professional_code.Goals as goal
+use Rattle.aes3_settings.proofs.professional.put_line_code.Goals as goal
 
 pub returns-in-Emphasis-clause-code : goal.returns-in-Emphasis-clause-code
 returns-in-Emphasis-clause-code c =
