@@ -58,6 +58,7 @@ uint32_t aes3_version(void);
 enum {
     AES3_BLOCK_WORDS = 384,   /* words of a block, and words of its cells */
     AES3_BLOCK_CELLS = 24576, /* cells of a block */
+    AES3_NO_CHANNEL = 385,    /* answered where a number is no channel's */
     AES3_STATUS_BYTES = 24,   /* bytes of a channel status */
     AES3_STATUS_TEXT = 800    /* characters of one, written, at most */
 };
@@ -223,7 +224,7 @@ uint32_t aes3_encode_block(const uint32_t words[384], uint8_t before, uint64_t c
 /*
  * Puts the channel status of a block's channel, 1 or 2, into status[]: bit i % 8 of byte i / 8 is
  * the C bit of frame i. Answers 384; or, where a word is not lawful, the number of the first that
- * is not, and leaves status[] as it was.
+ * is not; or AES3_NO_CHANNEL where the channel is another number. Then it leaves status[] as it was.
  */
 uint32_t aes3_block_status(const uint32_t words[384], uint8_t channel, uint8_t status[24]);
 
@@ -237,7 +238,8 @@ uint32_t aes3_block_user(const uint32_t words[384], uint8_t channel, uint8_t bit
 /*
  * Sets the channel status, the V bits or the U bits of a block's channel, 1 or 2, and with them the
  * parity bits, so that each word is lawful; all else stays. Answers 384; or, where a word is not
- * lawful, the number of the first that is not, and leaves words[] as they were.
+ * lawful, the number of the first that is not; or AES3_NO_CHANNEL where the channel is another
+ * number. Then it leaves words[] as they were.
  */
 uint32_t aes3_block_set_status(uint32_t words[384], uint8_t channel, const uint8_t status[24]);
 uint32_t aes3_block_set_validity(uint32_t words[384], uint8_t channel, const uint8_t bits[24]);

@@ -63,7 +63,8 @@ class account {
     }
 };
 
-// Of a block, and of its channel 1 or 2. Each answers 384, or the number of the first word that is not lawful.
+// Of a block, and of its channel 1 or 2. Each answers 384, the number of the first word that is not lawful, or
+// AES3_NO_CHANNEL where the channel is another number.
 inline uint32_t encode(const words &block, bool before, cells &to) { return aes3_encode_block(block, before, to); }
 inline uint32_t status_of(const words &block, uint8_t channel, status &to) { return aes3_block_status(block, channel, to); }
 inline uint32_t validity_of(const words &block, uint8_t channel, status &to) { return aes3_block_validity(block, channel, to); }

@@ -116,6 +116,25 @@ static void carried(void) {
     WANT(memcmp(block, words, sizeof block) == 0);
 }
 
+/* No number but 1 and 2 is a channel's: each call says so, and puts nothing. */
+static void channels(void) {
+    static const uint8_t none[] = {0, 3, 255};
+    static uint32_t block[AES3_BLOCK_WORDS];
+    uint8_t bits[AES3_STATUS_BYTES], before[AES3_STATUS_BYTES];
+    memcpy(block, words, sizeof block);
+    memset(bits, '#', sizeof bits);
+    memcpy(before, bits, sizeof before);
+    for (size_t i = 0; i < sizeof none; i++) {
+        WANT(aes3_block_status(block, none[i], bits) == AES3_NO_CHANNEL);
+        WANT(aes3_block_validity(block, none[i], bits) == AES3_NO_CHANNEL);
+        WANT(aes3_block_user(block, none[i], bits) == AES3_NO_CHANNEL);
+        WANT(aes3_block_set_status(block, none[i], sent) == AES3_NO_CHANNEL);
+        WANT(aes3_block_set_validity(block, none[i], sent) == AES3_NO_CHANNEL);
+        WANT(aes3_block_set_user(block, none[i], sent) == AES3_NO_CHANNEL);
+    }
+    WANT(memcmp(bits, before, sizeof bits) == 0 && memcmp(block, words, sizeof block) == 0);
+}
+
 /* Samples of 24 bits come back; the lowest 8 bits of one don't count. */
 static void sampled(void) {
     static int32_t samples[AES3_BLOCK_WORDS], back[AES3_BLOCK_WORDS];
@@ -374,6 +393,7 @@ int main(void) {
     WANT(aes3_version() == AES3_VERSION_NUMBER);
     statuses();
     carried();
+    channels();
     sampled();
     words[5] ^= 0x80000000;
     memset(cells, 0x55, sizeof cells);

@@ -1,5 +1,5 @@
 -- Numbers that stand for the variants of an enum.
-use Rattle.std.specs.Prelude.{ℕ, List, ◌∷◌, ◌+◌, ◌*◌, ◌^◌, ◌==◌, get_or, if◌then◌else◌}
+use Rattle.std.specs.Prelude.{ℕ, Bool, List, ◌∷◌, ◌+◌, ◌*◌, ◌^◌, ◌==◌, ◌||◌, get_or, if◌then◌else◌}
 use Rattle.aes3_frame.specs.declared.status.Channel.{Channel}
 use Rattle.aes3_frame.specs.declared.status.Channel.TheVariants.{First, Second}
 use Rattle.aes3_status.specs.declared.check.Check.{Check}
@@ -27,7 +27,10 @@ why_code Preamble = 0
 why_code Biphase = 1
 why_code Unclosed = 2
 
--- the channel of a number
+-- a number of a channel, and the channel of it
+abbrev pub is_channel : ℕ → Bool
+is_channel n = (n == 1) || (n == 2)
+
 abbrev pub channel_of : ℕ → Channel
 channel_of n = if n == 1 then First else Second
 

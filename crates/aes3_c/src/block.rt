@@ -6,7 +6,7 @@ ghost use Rattle.aes3_level.specs.Words.{level_of, word_cells};
 ghost use Rattle.aes3_frame.specs.Blocks.{block_cells};
 ghost use Rattle.aes3_frame.specs.Files.{is_lawful, payload_of};
 ghost use Rattle.aes3_frame.specs.Statuses.{status_of};
-ghost use Rattle.aes3_c.specs.Codes.{channel_of};
+ghost use Rattle.aes3_c.specs.Codes.{channel_of, is_channel};
 
 use crate::level::level_of_byte;
 use aes3_block::{Block, Channel, fill_block_cells};
@@ -33,6 +33,16 @@ pub extern "C" fn aes3_encode_block(words: &[u32; 384], before: u8, cells: &mut 
     }
 }
 
+/// What a call answers of a number that is no channel's.
+pub(crate) const NO_CHANNEL: u32 = 385;
+
+/// Whether the number is that of a channel, 1 or 2.
+pub(crate) fn is_channel(number: u8) -> bool
+    ensures { result ≡ is_channel number }
+{
+    number == 1 || number == 2
+}
+
 /// The channel of a number: 1 for the first, else the second.
 pub(crate) fn channel_of_number(number: u8) -> Channel
     ensures { result ≡ channel_of number }
@@ -45,17 +55,23 @@ pub(crate) fn channel_of_number(number: u8) -> Channel
 }
 
 /// Puts the 24 bytes of a channel's status, of the block of these words, into `status`. Answers
-/// 384, or the number of the first word that no block file may have; then no byte is put.
+/// 384, the number of the first word that no block file may have, or 385 where the channel is neither
+/// 1 nor 2; in both cases no byte is put.
 #[unsafe(no_mangle)]
 #[tactic(auto, unfolding(aes3_frame::specs::Blocks::block_slots))]
 pub extern "C" fn aes3_block_status(words: &[u32; 384], channel: u8, status: &mut [u8; 24]) -> u32
     ensures status { result ≡ 384 → status.new
         ≡ status_of (map payload_of words.now) (channel_of channel) }
-    ensures within { result ≤ 384 }
-    ensures lawful { (i : ℕ) → i < result → is_lawful (get_or words.now i 0) ≡ true }
-    ensures unlawful { result ≢ 384 → is_lawful (get_or words.now result 0) ≡ false }
+    ensures channel { is_channel channel ≡ false → result ≡ 385 }
+    ensures within { is_channel channel ≡ true → result ≤ 384 }
+    ensures lawful { is_channel channel ≡ true → (i : ℕ) → i < result → is_lawful (get_or words.now i 0) ≡ true }
+    ensures unlawful { is_channel channel ≡ true → result ≢ 384
+        → is_lawful (get_or words.now result 0) ≡ false }
     ensures left { result ≢ 384 → status.new ≡ status.old }
 {
+    if !is_channel(channel) {
+        return NO_CHANNEL;
+    }
     match Block::try_of_words(words) {
         Ok(block) => {
             *status = block.channel_status(channel_of_number(channel));

@@ -5,6 +5,7 @@
 pub const AES3_BLOCK_WORDS: usize = 384;
 pub const AES3_BLOCK_CELLS: usize = 24576;
 pub const AES3_STATUS_BYTES: usize = 24;
+pub const AES3_NO_CHANNEL: u32 = 385;
 
 /// A lock, in memory of its caller.
 #[repr(C)]
