@@ -2,13 +2,17 @@
 //! standard output.
 #![tactic(auto)]
 
+/// The form of a recording by its first octets.
+mod recognised;
+
 ghost use Rattle.std.specs.Prelude.{◌+◌, ◌<◌, ◌^◌, ◌≡◌, IfErr};
 
 use aes3_arguments::line_of_words;
 use aes3_cell::{BufferedSink, Sink, StdSink, StdSource};
-use aes3_files::Input;
+use aes3_files::{Input, Preview};
 use aes3_hints::{Clearing, Hints, Terminals};
 use aes3_runner::{Unread, file_of_line, run_and_explain, tell_unread};
+use recognised::recognise;
 use std::cell::Cell;
 use std::env;
 use std::io::ErrorKind;
@@ -62,7 +66,7 @@ fn run_buffered<E: Sink, H: Sink + Drop>(
     let output = StdSink::new(rt.stdout().lock());
     let output = Clearing::new(output, told, shown, terminals.output && terminals.errors);
     let sink = BufferedSink::new(rt.alloc(), output)?;
-    let line = line_of_words(rt.alloc(), &words);
+    let mut line = line_of_words(rt.alloc(), &words);
     let file = file_of_line(&line);
     if file.is_some() {
         hints.reads_file();
@@ -74,6 +78,8 @@ fn run_buffered<E: Sink, H: Sink + Drop>(
     } else {
         None
     };
+    let mut input = Preview::new(rt.alloc(), input);
+    recognise(&mut line, &mut input)?;
     let watched = hints.watch(StdSource::new(input));
     let source = hints.follow(rt, watched, StdSink::new(rt.stderr()), shown, len, &line);
     let status = run_and_explain(line, &words, source, sink, errors, hints).status;

@@ -16,7 +16,7 @@ use aes3_lock::{Ending, Lock};
 ///
 /// The contract speaks of the cells that have come (`follows`), of what cells write (`writes`), and
 /// of what holds after the end (`finished`). After a fault or the end it follows none.
-pub(crate) trait CellReporter {
+pub trait CellReporter {
     ghost follows: { Self → List Level → Type 0 };
 
     ghost writes: { Self → Writing Level };

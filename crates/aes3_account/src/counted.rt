@@ -11,14 +11,15 @@ use aes3_lock::Lock;
 /// Takes cells, and tells a reporter how far they have come and each report on them when it is
 /// decided.
 #[derive(Drop)]
-pub(crate) struct Counted<R> {
+pub struct Counted<R> {
     lock: Lock,
-    pub(crate) reporter: R,
+    /// Who is told of them.
+    pub reporter: R,
 }
 
 impl<R: CellReporter> Counted<R> {
     /// A taker that has taken no cell.
-    pub(crate) fn new(reporter: R) -> Self
+    pub fn new(reporter: R) -> Self
         ensures lock { Follows result.lock [] }
         ensures reporter { result.reporter ≡ reporter }
     {

@@ -24,6 +24,8 @@ mod watched;
 mod watching;
 
 pub use accounting::account;
+pub use cell_reporter::CellReporter;
+pub use counted::Counted;
 pub use gap::line_of_gap;
 pub use summing::watch_sums;
 pub use watching::watch;

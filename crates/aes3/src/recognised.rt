@@ -1,0 +1,42 @@
+//! The form of a recording by its first octets.
+
+ghost use Rattle.std.specs.Prelude.{◌≡◌, IfErr, IfOk};
+
+use aes3_arguments::{CommandLine, LineFault};
+use aes3_cell::Form;
+use aes3_files::{FileKind, Preview, are_turned};
+use aes3_job::Job;
+use std::alloc::AllocError;
+use std::io::Read;
+
+/// How many octets are looked at.
+const LOOKED_AT: usize = 4096;
+
+/// Where the page of a recording is asked for and no option says its form, takes the form that the
+/// first octets have: packed cells where they are no text and of no other kind of file.
+///
+/// # Errors
+/// Memory was refused.
+pub(crate) fn recognise<R: Read + Drop>(
+    line: &mut Result<CommandLine<'_>, LineFault>,
+    input: &mut Preview<R>,
+) -> Result<(), AllocError> {
+    let Ok(line) = line else {
+        return Ok(());
+    };
+    if let Job::Info {
+        input: Form::Text,
+        notation,
+    } = line.job
+    {
+        let first = input.first(LOOKED_AT)?;
+        if let FileKind::Octets = FileKind::of(first) {
+            line.job = Job::Info {
+                input: Form::Packed,
+                notation,
+            };
+            line.octets.lsb_first = are_turned(first);
+        }
+    }
+    Ok(())
+}

@@ -1,0 +1,5 @@
+pub mod Counting
+pub mod Magnitudes
+pub mod CountedGaps
+pub mod Inspecting
+pub mod LevelSteps

@@ -1,0 +1,5 @@
+pub mod Facts
+pub mod Levels
+pub mod Rates
+pub mod Pages
+pub mod Infos

@@ -1,0 +1,220 @@
+//! Cells that are counted as they come, and the page at their end.
+
+ghost use Rattle.std.specs.Prelude.{◌≡◌, ℕ, ◌+◌, ◌<◌, ◌≤◌, ◌^◌, ◌∷◌, ◌++◌, List, [], IfOk, false, length};
+ghost use Rattle.aes3_cell.specs.Ends.{Grew, Told};
+ghost use Rattle.aes3_input.specs.Driving.{CellRun};
+ghost use Rattle.aes3_input.specs.Inputs.{cells_of};
+ghost use Rattle.aes3_input.specs.Running.{movement_of};
+ghost use Rattle.aes3_lock.specs.declared.report.Report.{Report};
+ghost use Rattle.aes3_lock.specs.Following.{report_in};
+ghost use Rattle.aes3_lock.specs.Remains.{place_of};
+ghost use Rattle.aes3_lock.specs.Reports.{wholes};
+ghost use Rattle.aes3_gaps.specs.Gaps.{account_from, behind_report, gaps, gaps_before};
+ghost use Rattle.aes3_info.specs.Facts.{facts_of, facts_with, gap_facts, is_whole, most_count, total};
+ghost use Rattle.aes3_info.specs.Infos.{Behind, Inspects, info_counts, info_page, inspecting, no_page};
+ghost use Rattle.aes3_info.specs.Infos.{with_samples};
+
+use crate::channel::ChannelFacts;
+use crate::facts::Facts;
+use crate::gaps::{BLOCK_CELLS, GapFacts, behind_full};
+use crate::more::more;
+use crate::page::put_page;
+use crate::reports::ReportFacts;
+use aes3_account::{CellReporter, Counted};
+use aes3_block::Channel;
+use aes3_cell::{Counts, Fault, Form, RunError, Sink, Source};
+use aes3_input::drive;
+use aes3_lock::{Ending, Lock};
+use aes3_settings::Notation;
+
+/// What is known of a recording of which some cells have come.
+#[derive(Drop)]
+struct Inspector {
+    notation: Notation,
+    facts: Facts,
+    /// The reports account for the cells before it.
+    place: u64,
+}
+
+/// Nothing is known.
+fn no_facts() -> Facts
+    ensures { result ≡ facts_with 0 [] [] }
+{
+    Facts {
+        cells: 0,
+        reports: ReportFacts::none(),
+        gaps: GapFacts::none(),
+        first: ChannelFacts::none(Channel::First),
+        second: ChannelFacts::none(Channel::Second),
+    }
+}
+
+impl Inspector {
+    /// No cell has come.
+    fn new(notation: Notation) -> Self
+        ensures notation { result.notation ≡ notation }
+        ensures none { Inspects result.facts result.place [] }
+    {
+        Inspector {
+            notation,
+            facts: no_facts(),
+            place: 0,
+        }
+    }
+
+    /// The gaps before a report, that of an ending that a lock has just answered.
+    fn gaps_before(&self, _lock: &Lock, ending: Ending) -> GapFacts
+        ensures { (r : List Report) → self.now.facts.reports.whole ≡ total most_count is_whole r
+            → result ≡ gap_facts (gaps_before (length (wholes r)) self.now.place
+            (report_in _lock.now ending)) }
+    {
+        match ending {
+            Ending::Whole { at, .. } => GapFacts::all(self.facts.reports.whole > 0, self.place, at),
+            Ending::Marked { at, .. } => GapFacts::full(self.place, at),
+            Ending::Fault { at, .. } => GapFacts::full(self.place, at),
+            Ending::Unfinished { at, .. } => GapFacts::full(self.place, at),
+        }
+    }
+
+    /// The place before which a report accounts for the cells, that of an ending that a lock has just
+    /// answered.
+    fn place_behind(&self, _lock: &Lock, ending: Ending) -> u64
+        requires near { place_of (report_in _lock.now ending) ≤ 2 ^ 43 }
+        ensures { result ≡ behind_report self.now.place (report_in _lock.now ending) }
+    {
+        match ending {
+            Ending::Whole { at, .. } => at + BLOCK_CELLS,
+            Ending::Marked { at, .. } => behind_full(self.place, at),
+            Ending::Fault { at, .. } => behind_full(self.place, at),
+            Ending::Unfinished { at, .. } => behind_full(self.place, at),
+        }
+    }
+
+    /// Counts the samples of a whole block, where this ending is of one.
+    fn count_samples(&mut self, lock: &Lock, ending: Ending)
+        ensures notation { self.new.notation ≡ self.old.notation }
+        ensures place { self.new.place ≡ self.old.place }
+        ensures facts { self.new.facts ≡ with_samples self.old.facts (report_in lock.now ending) }
+    {
+        if let Ending::Whole { .. } = ending {
+            let block = lock.gathered().block();
+            self.facts.first.count(&block, Channel::First);
+            self.facts.second.count(&block, Channel::Second);
+        }
+    }
+
+    /// Counts a report, that of an ending that a lock has just answered, and the gaps before it.
+    fn count(&mut self, lock: &Lock, ending: Ending)
+        requires near { place_of (report_in lock.now ending) ≤ 2 ^ 43 }
+        ensures notation { self.new.notation ≡ self.old.notation }
+        ensures next { (r : List Report) → Behind self.old.facts self.old.place r
+            → Behind self.new.facts self.new.place (r ++ report_in lock.now ending ∷ []) }
+    {
+        let gaps = self.gaps_before(lock, ending);
+        self.facts.gaps = self.facts.gaps.and(gaps);
+        self.facts.reports.count(lock, ending);
+        self.count_samples(lock, ending);
+        self.place = self.place_behind(lock, ending);
+    }
+
+    /// Takes the end of `seen` cells: the gaps behind the last report.
+    fn end(&mut self, seen: u64)
+        ensures notation { self.new.notation ≡ self.old.notation }
+        ensures facts { (r : List Report) → Behind self.old.facts self.old.place r
+            → self.new.facts ≡ facts_with seen r (account_from 0 0 r ++ gaps false self.old.place seen) }
+    {
+        self.facts.gaps = self.facts.gaps.and(GapFacts::all(false, self.place, seen));
+        self.facts.cells = seen;
+    }
+}
+
+impl CellReporter for Inspector {
+    ghost follows = { λ k. Inspects k.facts k.place };
+
+    ghost writes = { λ k. inspecting k.notation };
+
+    ghost finished = { λ k c. k.facts ≡ facts_of c };
+
+    fn pass<T: Sink>(&mut self, _sink: &mut T, _seen: u64) -> Result<(), Fault> {
+        Ok(())
+    }
+
+    fn take<T: Sink>(
+        &mut self,
+        _sink: &mut T,
+        lock: &Lock,
+        ending: Ending,
+        _seen: u64,
+    ) -> Result<(), Fault> {
+        self.count(lock, ending);
+        Ok(())
+    }
+
+    fn close<T: Sink>(&mut self, sink: &mut T, seen: u64) -> Result<(), Fault> {
+        self.end(seen);
+        put_page(sink, self.notation, &self.facts)
+    }
+
+    fn close_with<T: Sink>(
+        &mut self,
+        sink: &mut T,
+        lock: &Lock,
+        ending: Ending,
+        seen: u64,
+    ) -> Result<(), Fault> {
+        self.count(lock, ending);
+        self.end(seen);
+        put_page(sink, self.notation, &self.facts)
+    }
+}
+
+/// Reads cells from any cell on, and writes one page about them at their end: how many cells,
+/// blocks, faults and gaps there are; the rate that the first whole block names in channel 1
+/// (AES3-2, IEC 60958-3), and how long the cells take at it; and of each channel its status, how
+/// often that changes, how many validity bits are 1, and the peak and the RMS of its samples.
+///
+/// Of a fault, a gap and a block it says what `account` does, in one number each. The counts have
+/// the gaps that count among the faults.
+///
+/// # Errors
+/// Those of `check`; then nothing is written, and after `Write` a front of the page.
+pub fn info<S: Source, T: Sink>(
+    source: &mut S,
+    sink: &mut T,
+    max_bytes: u64,
+    input: Form,
+    notation: Notation,
+) -> Result<Counts, RunError>
+    requires source_room { S.failed source.old + 1 < 2 ^ 64 }
+    requires sink_room { T.failed sink.old + 1 < 2 ^ 64 }
+    requires limit { max_bytes ≤ 2 ^ 40 }
+
+    // Where it answers Ok, exactly the page of the cells is written.
+    ensures page { IfOk result (λ _. (b : List ℕ)
+        → Told (S.given source.old) (S.given source.new) b
+        → Grew (T.taken sink.old) (T.taken sink.new) (info_page notation (cells_of input b))) }
+    // It is a run over cells: Ok is owed, a refusal has its cause, and nothing is written before
+    // the end.
+    ensures run { CellRun max_bytes input (record {
+      whole = info_page notation;
+      begun = no_page;
+      counts = info_counts input;
+    }) (S.has_ended source.new) (movement_of S.given S.failed source.old source.new)
+        (movement_of T.taken T.failed sink.old sink.new) result }
+    ensures passed_on { IfOk result (λ _. T.passed sink.new ≡ T.taken sink.new) }
+{
+    let mut taker = Counted::new(Inspector::new(notation));
+    let (bytes, cells) = drive(source, sink, max_bytes, input, &mut taker)?;
+    let facts = &taker.reporter.facts;
+    Ok(Counts {
+        bytes,
+        cells,
+        blocks: facts.reports.whole,
+        faults: more(
+            more(facts.reports.marked, facts.reports.fault),
+            facts.gaps.gaps,
+        ),
+        unfinished: facts.reports.unfinished,
+        marks: 0,
+    })
+}

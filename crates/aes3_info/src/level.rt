@@ -1,0 +1,58 @@
+//! Levels below full scale, in tenths of a decibel.
+
+ghost use Rattle.std.specs.Prelude.{◌≡◌, ◌<◌, ◌≤◌, ◌^◌};
+ghost use Rattle.aes3_info.specs.Levels.{decade, half_step, level_of, steps_below, times};
+
+/// What stands for 1 in the two powers below.
+const UNIT: u64 = 1 << 31;
+
+/// A level of half a tenth of a decibel less than full scale, as a power: 10^(-1/200).
+const HALF_STEP: u64 = 2_122_901_606;
+
+/// One of a tenth of a decibel less: 10^(-1/100).
+const STEP: u64 = 2_098_600_952;
+
+/// How many tenths of a decibel ten times the power are.
+const DECADE: u64 = 100;
+
+/// How many times ten times the power are tried.
+const DECADES: u64 = 30;
+
+/// A product, or the greatest number.
+#[tactic(auto, unfolding(crate::specs::Levels::times))]
+pub(crate) fn times(power: u128, factor: u64) -> u128
+    ensures { result ≡ times power factor }
+{
+    power.saturating_mul(u128::from(factor))
+}
+
+/// How many steps less than full scale a power is that is no decade less.
+fn steps_below(power: u128, full: u128) -> u64
+    ensures steps { result ≡ steps_below decade half_step power full }
+    ensures few { result ≤ DECADE }
+{
+    let power = times(power, UNIT);
+    let mut limit = HALF_STEP;
+    for steps in 0..DECADE {
+        if power >= times(full, limit) {
+            return steps;
+        }
+        limit = limit * STEP / UNIT;
+    }
+    DECADE
+}
+
+/// How many tenths of a decibel a power is less than a full one, to the nearest.
+pub(crate) fn level_of(power: u128, full: u128) -> u64
+    ensures { result ≡ level_of power full }
+{
+    let mut power = power;
+    for decade in 0..DECADES {
+        let more = times(power, 10);
+        if times(more, UNIT) >= times(full, HALF_STEP) {
+            return DECADE * decade + steps_below(power, full);
+        }
+        power = more;
+    }
+    DECADE * DECADES + steps_below(power, full)
+}
