@@ -6,5 +6,6 @@ mod LineWalks
 mod Misuses
 mod OptionReads
 mod OptionRows
+mod SettingTexts
 mod TakenLines
 mod TakenOptions

@@ -7,16 +7,16 @@ use Rattle.clap.specs.Kinds.{HasKind}
 use Rattle.clap.specs.Matches.{subcommand_name_of}
 use Rattle.clap.specs.Simple.{HasMatchesOf, is_simple, subcommand_rows_of}
 use Rattle.clap.specs.Values.{kind_of}
-use Rattle.clap.specs.Walk.{Row, Text, all_of}
+use Rattle.clap.specs.Walk.{Row, Text}
 use Rattle.clap.specs.declared.error.Error.{Error}
 use Rattle.clap.specs.declared.error.kind.ErrorKind.{ErrorKind}
 use Rattle.clap.specs.declared.parser.matches.ArgMatches.{ArgMatches}
 use Rattle.clap.specs.declared.parser.matches.ArgMatches.TheViews.{out-ArgMatches}
+use Rattle.aes3_cell.specs.declared.refusal.RunError.{RunError}
+use Rattle.aes3_cell.specs.declared.refusal.RunError.TheVariants.{Memory}
 use Rattle.aes3_commands.specs.CommandLine.{command_line}
-use Rattle.aes3_settings.specs.Settings.{IsSettingsFault}
-use Rattle.aes3_settings.specs.declared.listed.SettingsFault.{SettingsFault}
-use Rattle.aes3_arguments.specs.Jobs.{AreBadOptionsOf, IsLineFaultOf, IsSettingsFaultOf, Options, StandsIn, Tells}
-use Rattle.aes3_arguments.specs.Jobs.{TellsSettings, faults_in, refused_text}
+use Rattle.aes3_arguments.specs.Jobs.{AreBadOptionsOf, IsLineFaultOf, Options, StandsIn, Tells}
+use Rattle.aes3_arguments.specs.Jobs.{faults_in}
 use Rattle.aes3_arguments.specs.declared.job.LineFault.{LineFault}
 use Rattle.aes3_arguments.specs.declared.job.LineFault.TheVariants as fault
 use Rattle.aes3_arguments.proofs.OptionRows.{some_inj}
@@ -29,10 +29,10 @@ line_is_simple = refl
 
 -- what is told of an error of the parse
 pub error_told : (words : List Text) (e : Error) (told : LineFault) → HasKind (faults_in words) e
-    → Tells (kind_of e) told → IsLineFaultOf words told
+    → Tells words (kind_of e) told → IsLineFaultOf words told
 error_told words e (fault.Usage text) kind tells = elim kind [
   | inl memory ↦ absurd (tells.0 memory)
-  | inr among ↦ inl (kind_of e, among, tells.1, tells.2)
+  | inr among ↦ inl ((kind_of e, among, tells.1, tells.2), tells.3)
 ]
 error_told words e (fault.Help text) kind tells = elim kind [
   | inl memory ↦ elim tells [ inl help ↦ cc | inr version ↦ cc ]
@@ -43,27 +43,55 @@ error_told words e (fault.Help text) kind tells = elim kind [
 ]
 error_told words e (fault.Refused error) kind tells = inl tells
 
+-- the refusal that is told
+refused_of : LineFault → RunError
+refused_of (fault.Refused error) = error
+refused_of (fault.Usage text) = Memory
+refused_of (fault.Help text) = Memory
+
+refused_inj : (x y : RunError) → fault.Refused x ≡ fault.Refused y → x ≡ y
+unfolding refused_of
+refused_inj x y e = ap refused_of e
+
 -- a bad status is told, and so are bad settings and options that are misused
 pub bad_option_told : (words : List Text) (name : Text) (options : Options) (told : LineFault)
     → StandsIn words name options
     → AreBadOptionsOf name options told → IsLineFaultOf words told
-bad_option_told words name options (fault.Usage text) stands bad = inr (name, options, stands, bad)
+bad_option_told words name options (fault.Usage text) stands bad = elim bad [
+  | inl option ↦ elim option [
+    | inl rewrite ↦ inr (name, options, stands, inl (inl rewrite))
+    | inr (from_pcm, inl change) ↦ inr (name, options, stands, inl (inr (from_pcm, change)))
+    | inr (from_pcm, inr inexact) ↦ cc
+  ]
+  | inr (inl misuse) ↦ inr (name, options, stands, inr misuse)
+  | inr (inr memory) ↦ cc
+]
 bad_option_told words name options (fault.Help text) stands bad = elim bad [
-  | inl option ↦ elim option [ inl rewrite ↦ absurd rewrite.1 | inr from_pcm ↦ absurd from_pcm.1 ]
-  | inr misuse ↦ absurd misuse.2
+  | inl option ↦ elim option [
+    | inl rewrite ↦ absurd rewrite.1
+    | inr (from_pcm, inl change) ↦ absurd change
+    | inr (from_pcm, inr inexact) ↦ cc
+  ]
+  | inr (inl misuse) ↦ absurd misuse.2
+  | inr (inr memory) ↦ cc
 ]
 bad_option_told words name options (fault.Refused error) stands bad = elim bad [
   | inl option ↦ elim option [
     | inl rewrite ↦ elim rewrite.1 [
       | inl memory ↦ inl memory
-      | inr status ↦ inr (status.0, (name, options, stands, inl rewrite.0, status.1))
+      | inr status ↦ inr (inl (status.0, (name, options, stands, inl rewrite.0, status.1)))
     ]
     | inr from_pcm ↦ elim from_pcm.1 [
-      | inl memory ↦ inl memory
-      | inr status ↦ inr (status.0, (name, options, stands, inr from_pcm.0, status.1))
+      | inl (inl memory) ↦ inl memory
+      | inl (inr status) ↦ inr (inl (status.0, (name, options, stands, inr from_pcm.0, status.1)))
+      | inr inexact ↦ inr (inr (
+        refused_inj _ _ inexact.0,
+        (options, subst (λ n. StandsIn words n options) from_pcm.0 stands, inexact.1),
+      ))
     ]
   ]
-  | inr misuse ↦ inl misuse.2
+  | inr (inl misuse) ↦ inl misuse.2
+  | inr (inr memory) ↦ inl (refused_inj _ _ memory)
 ]
 
 both_parts : {X : Type 0} (f : X → Text) (g : X → List Row) (o : Option X) (name : Text) (options : List Row)
@@ -80,12 +108,3 @@ pub command_stands : (words : List Text) (m : ArgMatches) (name : Text) (options
     → StandsIn words name options
 command_stands words m name options none matches named rows =
     (none, sym (matches line_is_simple).1 ∙ both_parts _ _ (out-ArgMatches m).subcommand name options named rows)
-
--- what is told of settings that are none
-pub settings_told : (options : Options) (name usage : Text) (texts : List Text) (why : SettingsFault) (told : LineFault)
-    → TellsSettings (refused_text name usage texts why) told → all_of name options ≡ Some texts
-    → IsSettingsFault texts why
-    → IsSettingsFaultOf options name usage told
-settings_told options name usage texts why (fault.Usage text) tells given bad = (texts, why, given, bad, tells)
-settings_told options name usage texts why (fault.Help text) tells given bad = tells
-settings_told options name usage texts why (fault.Refused error) tells given bad = tells

@@ -19,7 +19,7 @@ use Rattle.clap.specs.Walk.{rows_after, stop_after}
 use Rattle.clap.specs.declared.builder.value_parser.ValueParser.{ValueParser}
 use Rattle.clap.specs.declared.builder.value_parser.ValueParser.TheVariants as vp
 use Rattle.aes3_commands.specs.CommandLine.{check, command_line, cut, decode, encode, from_pcm, normal, reader, rewrite}
-use Rattle.aes3_commands.specs.CommandLine.{greatest, show, to_bits, to_pcm, watch}
+use Rattle.aes3_commands.specs.CommandLine.{greatest, info, show, to_bits, to_pcm, watch}
 use Rattle.aes3_arguments.specs.Jobs.{IsNumber, MayBeFlag, Options, StandsIn, number_in}
 use Rattle.aes3_arguments.proofs.LineWalks.{level_checked, level_fits}
 use Rattle.aes3_arguments.proofs.OptionReads.{bounded_in}
@@ -238,6 +238,17 @@ watch_known = record {
   numbers = λ rows name fit passed. other_name (codes "watch") refl name;
 }
 
+info_known : IsKnown (leaf info)
+info_known = record {
+  sound =
+      also (flag_sound _ _ (codes "true") refl refl refl refl)
+      (also (flag_sound _ _ (codes "true") refl refl refl refl)
+      (also (flag_sound _ _ (codes "true") refl refl refl refl)
+      (also (flag_sound _ _ (codes "true") refl refl refl refl) (also (value_sound _ _ refl refl refl)
+      (also (help_sound _ _ refl refl) tt)))));
+  numbers = λ rows name fit passed. other_name (codes "info") refl name;
+}
+
 show_known : IsKnown (leaf show)
 show_known = record {
   sound =
@@ -286,13 +297,14 @@ rewrite_known = record {
       (also (flag_sound _ _ (codes "true") refl refl refl refl)
       (also (flag_sound _ _ (codes "true") refl refl refl refl)
       (also (flag_sound _ _ (codes "true") refl refl refl refl) (also (value_sound _ _ refl refl refl)
-      (also (value_sound _ _ refl refl refl) (also (values_sound _ _ refl refl refl)
+      (also (value_sound _ _ refl refl refl) (also (value_sound _ _ refl refl refl)
+      (also (values_sound _ _ refl refl refl) (also (values_sound _ _ refl refl refl)
       (also (values_sound _ _ refl refl refl) (also (flag_sound _ _ (codes "true") refl refl refl refl)
       (also (value_sound _ _ refl refl refl) (also (value_sound _ _ refl refl refl)
       (also (flag_sound _ _ (codes "true") refl refl refl refl)
       (also (flag_sound _ _ (codes "true") refl refl refl refl)
       (also (flag_sound _ _ (codes "true") refl refl refl refl) (also (value_sound _ _ refl refl refl)
-      (also (help_sound _ _ refl refl) tt)))))))))))))));
+      (also (help_sound _ _ refl refl) tt)))))))))))))))));
   numbers = λ rows name fit passed. other_name (codes "rewrite") refl name;
 }
 
@@ -324,19 +336,20 @@ from_pcm_known : IsKnown (leaf from_pcm)
 from_pcm_known = record {
   sound =
       also (value_sound _ _ refl refl refl) (also (value_sound _ _ refl refl refl)
-      (also (values_sound _ _ refl refl refl) (also (values_sound _ _ refl refl refl)
-      (also (flag_sound _ _ (codes "true") refl refl refl refl)
-      (also (flag_sound _ _ (codes "true") refl refl refl refl) (also (value_sound _ _ refl refl refl)
       (also (value_sound _ _ refl refl refl) (also (value_sound _ _ refl refl refl)
-      (also (help_sound _ _ refl refl) tt)))))))));
+      (also (values_sound _ _ refl refl refl) (also (values_sound _ _ refl refl refl)
+      (also (values_sound _ _ refl refl refl) (also (flag_sound _ _ (codes "true") refl refl refl refl)
+      (also (flag_sound _ _ (codes "true") refl refl refl refl) (also (value_sound _ _ refl refl refl)
+      (also (value_sound _ _ refl refl refl) (also (value_sound _ _ refl refl refl) (also (help_sound _ _ refl refl)
+      tt))))))))))));
   numbers = λ rows name fit passed. other_name (codes "from-pcm") refl name;
 }
 
 pub all_known : EachShape IsKnown (built command_line).subs
 all_known =
     also (encode_known) (also (decode_known) (also (normal_known) (also (check_known)
-    (also (watch_known) (also (show_known) (also (reader_known (codes "scan") refl) (also (cut_known)
-    (also (rewrite_known) (also (to_pcm_known) (also (from_pcm_known) (also (to_bits_known) tt)))))))))))
+    (also (watch_known) (also (info_known) (also (show_known) (also (reader_known (codes "scan") refl) (also (cut_known)
+    (also (rewrite_known) (also (to_pcm_known) (also (from_pcm_known) (also (to_bits_known) tt))))))))))))
 
 -- ---- the command that stands in the words
 

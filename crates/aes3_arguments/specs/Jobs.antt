@@ -1,6 +1,6 @@
 -- What a command line asks for, by what `clap` makes of its words.
 use Rattle.std.specs.Prelude.{ℕ, Bool, List, [], ◌∷◌, ◌++◌, ◌≡◌, ◌≢◌, ◌⊎◌, Option, Some, None, codes, get_or, true}
-use Rattle.std.specs.Prelude.{false}
+use Rattle.std.specs.Prelude.{◌%◌, false, length, nat_eq, nat_lt, replicate}
 use Rattle.std.specs.Prelude.{if◌then◌else◌, option_and_then, option_map, is_some, not, ◌&&◌, ◌||◌, ◌*◌, ◌==◌, take}
 use Rattle.std.specs.Option.{option_map_or, unwrap_or}
 use Rattle.std.specs.Str.{bytes_eq}
@@ -16,7 +16,7 @@ use Rattle.clap.specs.declared.error.kind.ErrorKind.{ErrorKind}
 use Rattle.clap.specs.declared.error.kind.ErrorKind.TheVariants.{DisplayHelp, DisplayVersion, OutOfMemory}
 use Rattle.aes3_cell.specs.declared.form.Form.{Form}
 use Rattle.aes3_cell.specs.declared.form.Form.TheVariants as form
-use Rattle.aes3_cell.specs.declared.refusal.RunError.TheVariants.{BadStatusText, Memory}
+use Rattle.aes3_cell.specs.declared.refusal.RunError.TheVariants.{BadStatusText, Inexact, Memory}
 use Rattle.aes3_frame.specs.declared.fill.Fill.{Fill}
 use Rattle.aes3_frame.specs.declared.fill.Fill.TheVariants.{Zero, Hold}
 use Rattle.aes3_frame.specs.declared.status.Channel.{Channel}
@@ -25,6 +25,8 @@ use Rattle.aes3_status.specs.declared.carried.CarriedBits.{CarriedBits}
 use Rattle.aes3_status.specs.declared.carried.CarriedBits.TheVariants.{Validity, User, Status}
 use Rattle.aes3_status.specs.declared.change.Change.{Change}
 use Rattle.aes3_status.specs.declared.setting.Settings.{Settings}
+use Rattle.aes3_status.specs.Settings.{set_all}
+use Rattle.aes3_status.specs.TakingAll.{takes_all}
 use Rattle.aes3_settings.specs.Choices.{choices}
 use Rattle.aes3_settings.specs.Settings.{AreSettingsOf, IsSettingsFault}
 use Rattle.aes3_settings.specs.Untaken.{texts_of}
@@ -43,6 +45,7 @@ use Rattle.aes3_pcm.specs.declared.format.SampleFormat.TheVariants as format
 use Rattle.aes3_words.specs.declared.form.Words.{Words}
 use Rattle.aes3_words.specs.declared.form.Words.TheVariants as word_form
 use Rattle.aes3_commands.specs.CommandLine.{command_line, most_cells, most_frames, most_seconds}
+use Rattle.aes3_commands.specs.Wording.{EndsWithUsage, usage_end, usage_of}
 use Rattle.aes3_arguments.specs.Explained.{AsksToExplain, IsExplanation}
 use Rattle.aes3_arguments.specs.StatusTexts.{status_in}
 use Rattle.aes3_job.specs.declared.job.Job.{Job}
@@ -52,7 +55,9 @@ use Rattle.aes3_arguments.specs.declared.misuse.Misuse.{Misuse}
 use Rattle.aes3_arguments.specs.declared.misuse.Misuse.TheVariants.{TwoForms, NoCellsPacked, TwoPeriods, NoRate}
 use Rattle.aes3_arguments.specs.declared.misuse.Misuse.TheVariants.{UnknownBits, UnknownFilling, FillsValidSamples, ExactAndOthers}
 use Rattle.aes3_arguments.specs.declared.misuse.Misuse.TheVariants.{MarkedUnfilled}
-use Rattle.aes3_arguments.specs.declared.misuse.Misuse.TheVariants.{TwoDetails, UnknownWords, UnknownFormat}
+use Rattle.aes3_arguments.specs.declared.preset.Beginning.{Beginning}
+use Rattle.aes3_arguments.specs.declared.preset.Beginning.TheVariants.{OfEachBlock, Unclaimed}
+use Rattle.aes3_arguments.specs.declared.misuse.Misuse.TheVariants.{TwoDetails, UnknownWords, UnknownFormat, UnknownPreset, UnknownRate}
 use Rattle.aes3_arguments.specs.declared.job.LineFault.{LineFault}
 use Rattle.aes3_arguments.specs.declared.job.LineFault.TheVariants as fault
 
@@ -219,33 +224,140 @@ abbrev pub number_of : Channel → ℕ
 number_of First = 1
 number_of Second = 2
 
--- the status bytes that an option's text has; none where the option is left out
-abbrev pub HasStatus : Option Text → Option (List ℕ) → Type 0
-HasStatus None bytes = bytes ≡ None
-HasStatus (Some text) bytes = (is_some bytes ≡ true) × (status_in text ≡ bytes)
+-- ---- the status of a channel and what is set of it
 
-abbrev pub IsStatus : Options → Text → Option (List ℕ) → Type 0
-IsStatus options name bytes = HasStatus (first_of name options) bytes
+-- the usual status of the use that a preset names (IEC 60958-3, AES3-2): for consumer use linear PCM, no copyright
+-- asserted, no sampling frequency indicated, words of 24 bits; for professional use linear PCM, no emphasis, two
+-- channels, words of 24 bits in which the auxiliary bits are audio
+abbrev pub consumer_status : List ℕ
+consumer_status = 4 ∷ 0 ∷ 0 ∷ 1 ∷ 11 ∷ replicate 19 0
 
--- the settings that an option's texts name; none where the option is left out
-abbrev pub HaveSettings : Option (List Text) → Option Settings → Type 0
-HaveSettings None settings = settings ≡ None
-HaveSettings (Some texts) None = ⊥
-HaveSettings (Some texts) (Some settings) = AreSettingsOf texts settings
+abbrev pub professional_status : List ℕ
+professional_status = 5 ∷ 8 ∷ 44 ∷ replicate 21 0
+
+-- the status of samples that nothing is known of: consumer use, no copyright asserted, no sampling frequency indicated,
+-- words of 24 bits at most
+abbrev pub unknown_status : List ℕ
+unknown_status = 4 ∷ 0 ∷ 0 ∷ 1 ∷ 1 ∷ replicate 19 0
+
+-- the same where this is set of it: if that makes the use professional, all bytes are 0 before, since those for consumer
+-- use mean something else then
+abbrev pub unknown_status_for : Option Settings → List ℕ
+unknown_status_for None = unknown_status
+unknown_status_for (Some settings) =
+    if nat_eq (get_or (set_all settings unknown_status) 0 0 % 2) 1 then replicate 24 0 else unknown_status
+
+-- the status that a channel begins with where neither a text nor a preset gives one, and this is set of it
+abbrev pub begun_with : Beginning → Option Settings → Option (List ℕ)
+begun_with OfEachBlock settings = None
+begun_with Unclaimed settings = Some (unknown_status_for settings)
+
+abbrev pub preset_in : Text → Option (List ℕ)
+preset_in text = if bytes_eq text (codes "consumer") then Some consumer_status
+    else if bytes_eq text (codes "professional") then Some professional_status
+    else None
+
+abbrev pub preset_by : Options → Option (List ℕ)
+preset_by options = option_and_then preset_in (first_of (codes "preset") options)
+
+-- the status that a channel begins with where no text gives one: that of the preset, or `other` where none is named
+abbrev pub or_other : Option (List ℕ) → Option (List ℕ) → Option (List ℕ)
+or_other other (Some status) = Some status
+or_other other None = other
+
+-- the status bytes that an option's text has; `other` where the option is left out
+abbrev pub HasStatus : Option (List ℕ) → Option Text → Option (List ℕ) → Type 0
+HasStatus other None bytes = bytes ≡ other
+HasStatus other (Some text) bytes = (is_some bytes ≡ true) × (status_in text ≡ bytes)
+
+abbrev pub IsStatus : Option (List ℕ) → Options → Text → Option (List ℕ) → Type 0
+IsStatus other options name bytes = HasStatus (or_other other (preset_by options)) (first_of name options) bytes
+
+-- the setting that a sampling frequency in hertz stands for, or in thousands of them: some status has a code for each
+abbrev pub rate_in : Text → Option Text
+rate_in text = if bytes_eq text (codes "22050") then Some (codes "rate=22050")
+    else if bytes_eq text (codes "22.05k") then Some (codes "rate=22050")
+    else if bytes_eq text (codes "24000") then Some (codes "rate=24000")
+    else if bytes_eq text (codes "24k") then Some (codes "rate=24000")
+    else if bytes_eq text (codes "32000") then Some (codes "rate=32000")
+    else if bytes_eq text (codes "32k") then Some (codes "rate=32000")
+    else if bytes_eq text (codes "44100") then Some (codes "rate=44100")
+    else if bytes_eq text (codes "44.1k") then Some (codes "rate=44100")
+    else if bytes_eq text (codes "48000") then Some (codes "rate=48000")
+    else if bytes_eq text (codes "48k") then Some (codes "rate=48000")
+    else if bytes_eq text (codes "88200") then Some (codes "rate=88200")
+    else if bytes_eq text (codes "88.2k") then Some (codes "rate=88200")
+    else if bytes_eq text (codes "96000") then Some (codes "rate=96000")
+    else if bytes_eq text (codes "96k") then Some (codes "rate=96000")
+    else if bytes_eq text (codes "176400") then Some (codes "rate=176400")
+    else if bytes_eq text (codes "176.4k") then Some (codes "rate=176400")
+    else if bytes_eq text (codes "192000") then Some (codes "rate=192000")
+    else if bytes_eq text (codes "192k") then Some (codes "rate=192000")
+    else if bytes_eq text (codes "768000") then Some (codes "rate=768000")
+    else if bytes_eq text (codes "768k") then Some (codes "rate=768000")
+    else None
+
+abbrev pub rate_named : Options → Option Text
+rate_named options = option_and_then rate_in (first_of (codes "hz") options)
+
+-- the text, or none
+abbrev pub if_any : Option Text → List Text
+if_any None = []
+if_any (Some text) = text ∷ []
+
+-- the texts of an option, as they were typed, in their order; none where it is left out
+abbrev pub texts_by : Options → Text → List Text
+texts_by options name = unwrap_or (all_of name options) []
+
+-- the texts that set fields of a channel, in the order in which they do: those for both channels, those of its own
+-- option, and the one that the sampling frequency stands for
+unfoldable pub texts_for : Options → Text → List Text
+texts_for options name = (texts_by options (codes "set") ++ texts_by options name) ++ if_any (rate_named options)
+
+-- the settings that texts name; none where there are no texts
+abbrev pub HaveSettings : List Text → Option Settings → Type 0
+HaveSettings texts None = texts ≡ []
+HaveSettings texts (Some settings) = (texts ≢ []) × AreSettingsOf texts settings
 
 abbrev pub AreSettings : Options → Text → Option Settings → Type 0
-AreSettings options name settings = HaveSettings (all_of name options) settings
+AreSettings options name settings = HaveSettings (texts_for options name) settings
 
-abbrev pub IsChange : Options → Change → Type 0
-IsChange options change = IsStatus options (codes "status1") change.status1
-    × IsStatus options (codes "status2") change.status2
+-- whether check bytes are written: where that is asked for, a preset is named, or a field is set
+abbrev pub mends : Options → Option Settings → Option Settings → Bool
+mends options first second =
+    is_set options (codes "mend-check") || (is_some (preset_by options) || (is_some first || is_some second))
+
+-- what the options change, where a channel without another status begins so
+abbrev pub IsChange : Beginning → Options → Change → Type 0
+IsChange beginning options change =
+    IsStatus (begun_with beginning change.settings1) options (codes "status1") change.status1
+    × IsStatus (begun_with beginning change.settings2) options (codes "status2") change.status2
     × AreSettings options (codes "set1") change.settings1
     × AreSettings options (codes "set2") change.settings2
     × (change.validity1 ≡ bit_by options (codes "valid1"))
     × (change.validity2 ≡ bit_by options (codes "valid2"))
     × (change.clear_user1 ≡ is_set options (codes "clear-user1"))
     × (change.clear_user2 ≡ is_set options (codes "clear-user2"))
-    × (change.mend ≡ is_set options (codes "mend-check"))
+    × (change.mend ≡ mends options change.settings1 change.settings2)
+
+-- whether the status that a channel is given takes all that is set of it
+abbrev pub takes_settings : Option (List ℕ) → Option Settings → Bool
+takes_settings (Some status) (Some settings) = takes_all settings status
+takes_settings (Some status) None = true
+takes_settings None settings = true
+
+abbrev pub takes_change : Change → Bool
+takes_change change =
+    takes_settings change.status1 change.settings1 && takes_settings change.status2 change.settings2
+
+-- what the options of `from-pcm` change
+abbrev pub IsSampleChange : Options → Change → Type 0
+IsSampleChange = IsChange Unclaimed
+
+-- what is set has to be taken, and is not
+abbrev pub IsInexact : Options → Type 0
+IsInexact options = (change : Change) × IsSampleChange options change
+    × (is_set options (codes "exact") ≡ true) × (takes_change change ≡ false)
 
 -- flags are flags among the options of a command, and numbers within their bounds
 pub record AreTaken (options : Options) : Type 0 where
@@ -294,6 +406,8 @@ AsksFor name options (job.Watch input style) =
 AsksFor name options (job.WatchSums input style every) =
     (name ≡ codes "watch") × (input ≡ input_by options) × (style ≡ style_by options)
     × (every_by options ≡ Some every)
+AsksFor name options (job.Info input style) =
+    (name ≡ codes "info") × (input ≡ input_by options) × (style ≡ notation_by options)
 AsksFor name options (job.Show input detail) =
     (name ≡ codes "show") × (input ≡ input_by options) × (detail ≡ detail_by options)
     × (is_set options (codes "changes") ≡ false)
@@ -308,7 +422,7 @@ AsksFor name options (job.Cut input output first count) =
     × IsNumber options (codes "FROM") first × IsNumber options (codes "COUNT") count
 AsksFor name options (job.Rewrite input output change exact) =
     (name ≡ codes "rewrite") × (input ≡ input_by options)
-    × (output ≡ form_by options (codes "packed-out")) × IsChange options change
+    × (output ≡ form_by options (codes "packed-out")) × IsChange OfEachBlock options change
     × (exact ≡ is_set options (codes "exact"))
 AsksFor name options (job.ToPcm input pcm valid) =
     (name ≡ codes "to-pcm") × (input ≡ input_by options) × (pcm ≡ format_by options)
@@ -322,7 +436,8 @@ AsksFor name options (job.ToFilledPcm input pcm fill marked) =
     × (fill_by options ≡ Some fill) × (marked ≡ is_set options (codes "marked"))
 AsksFor name options (job.FromPcm pcm exact change form) =
     (name ≡ codes "from-pcm") × (pcm ≡ format_by options) × (exact ≡ is_set options (codes "exact"))
-    × IsChange options change × (form ≡ words_by options)
+    × IsSampleChange options change × (form ≡ words_by options)
+    × (exact ≡ true → takes_change change ≡ true)
 AsksFor name options (job.ToBits input bits channel) =
     (name ≡ codes "to-bits") × (input ≡ input_by options)
     × (bits_by options ≡ Some bits) × IsNumber options (codes "CHANNEL") (number_of channel)
@@ -397,6 +512,16 @@ abbrev pub has_unknown_format : Options → Bool
 has_unknown_format options =
     option_map_or (λ text. not (is_some (format_in text))) (first_of (codes "pcm") options) false
 
+-- a preset is named that there is none of
+abbrev pub has_unknown_preset : Options → Bool
+has_unknown_preset options =
+    option_map_or (λ text. not (is_some (preset_in text))) (first_of (codes "preset") options) false
+
+-- a sampling frequency is named that no status has a code for
+abbrev pub has_unknown_rate : Options → Bool
+has_unknown_rate options =
+    option_map_or (λ text. not (is_some (rate_in text))) (first_of (codes "hz") options) false
+
 -- what is wrong with options, of more the first
 abbrev pub misuse_by : Options → Option Misuse
 misuse_by options =
@@ -412,18 +537,16 @@ misuse_by options =
     else if has_two_details options then Some TwoDetails
     else if has_unknown_words options then Some UnknownWords
     else if has_unknown_format options then Some UnknownFormat
+    else if has_unknown_preset options then Some UnknownPreset
+    else if has_unknown_rate options then Some UnknownRate
     else None
 
 -- ---- settings as they were typed
 
--- the texts of an option, as they were typed, in their order; none where it is left out
-abbrev pub texts_by : Options → Text → List Text
-texts_by options name = unwrap_or (all_of name options) []
-
 -- the options type these for each channel: all of them where they are settings, which are 32 at most
 abbrev pub AreTyped : Options → TypedSettings → Type 0
-AreTyped options typed = (texts_of typed.first ≡ take 32 (texts_by options (codes "set1")))
-    × (texts_of typed.second ≡ take 32 (texts_by options (codes "set2")))
+AreTyped options typed = (texts_of typed.first ≡ take 32 (texts_for options (codes "set1")))
+    × (texts_of typed.second ≡ take 32 (texts_for options (codes "set2")))
 
 -- the command that stands in the words has these
 abbrev pub HaveTyped : List Text → TypedSettings → Type 0
@@ -504,10 +627,17 @@ refused_text name usage texts why =
     fault_text name texts why ++ (10 ∷ codes "Usage: ") ++ usage
     ++ (10 ∷ 10 ∷ codes "For more information, try '--help'." ++ 10 ∷ [])
 
--- the option's texts have no settings, and this text tells why
+-- the option that has the text which is no setting: that for both channels, or the channel's own
+abbrev pub option_at : Options → Text → SettingsFault → Text
+option_at options name (Unknown at) =
+    if nat_lt at (length (texts_by options (codes "set"))) then codes "set" else name
+option_at options name TooMany = name
+
+-- the texts for a channel have no settings, and this text tells why
 abbrev pub TellsBadSettings : Options → Text → Text → Text → Type 0
-TellsBadSettings options name usage text = (texts : List Text) × (why : SettingsFault)
-    × (all_of name options ≡ Some texts) × IsSettingsFault texts why × (text ≡ refused_text name usage texts why)
+TellsBadSettings options name usage text = (why : SettingsFault)
+    × IsSettingsFault (texts_for options name) why
+    × (text ≡ refused_text (option_at options name why) usage (texts_for options name) why)
 
 -- the texts for one of the channels have none
 abbrev pub TellsABadSetting : Options → Text → Text → Type 0
@@ -531,7 +661,7 @@ TellsABadOption name options text =
     ((name ≡ codes "rewrite") × TellsABadSetting options rewrite_usage text)
     ⊎ ((name ≡ codes "from-pcm") × TellsABadSetting options from_pcm_usage text)
 
--- the line that says what is wrong with options, and what stands behind it
+-- the line that says what is wrong with options
 abbrev pub misuse_line : Misuse → Text
 misuse_line TwoForms = codes "error: the argument '--raw-in' cannot be used with '--packed-in'"
 misuse_line NoCellsPacked =
@@ -548,28 +678,36 @@ misuse_line ExactAndOthers =
 misuse_line TwoDetails = codes "error: the argument '--names' cannot be used with '--at' or '--more'"
 misuse_line UnknownWords =
     codes "error: invalid value for '--words <own|alsa|am824>': it is 'own', 'alsa' or 'am824'"
+misuse_line UnknownPreset =
+    codes "error: invalid value for '--preset <consumer|professional>': it is 'consumer' or 'professional'"
+misuse_line UnknownRate = codes "error: invalid value for '--rate <HZ>': a status tells 22050, 24000, 32000, 44100, 48000, 88200, 96000, 176400, 192000 or 768000, also as 48k"
 misuse_line UnknownFormat =
     codes "error: invalid value for '--pcm <s32|s24|s24in32|s16>': it is 's32', 's24', 's24in32' or 's16'"
 
-abbrev pub misuse_end : Text
-misuse_end = (10 ∷ 10 ∷ codes "Usage: aes3 COMMAND [OPTIONS] < INPUT > OUTPUT")
-    ++ (10 ∷ 10 ∷ codes "For more information, try '--help'.") ++ 10 ∷ []
+-- what is told of that, where the command is called by `usage`
+abbrev pub misuse_text : Text → Misuse → Text
+misuse_text usage misuse = misuse_line misuse ++ usage_end usage
 
--- what is told of that
-abbrev pub misuse_text : Misuse → Text
-misuse_text misuse = misuse_line misuse ++ misuse_end
-
--- the options are misused, and this text tells how
-abbrev pub TellsAMisuse : Options → Text → Type 0
-TellsAMisuse options text = (misuse : Misuse) × (misuse_by options ≡ Some misuse) × (text ≡ misuse_text misuse)
+-- the options of the command of this name are misused, and this text tells how, with its usage
+abbrev pub TellsAMisuse : Text → Options → Text → Type 0
+TellsAMisuse name options text = (misuse : Misuse) × (misuse_by options ≡ Some misuse)
+    × (text ≡ misuse_text (usage_of name) misuse)
 
 -- one of the options is a setting that is none, or they are misused, and this text tells why
 abbrev pub TellsBadOptions : Text → Options → Text → Type 0
-TellsBadOptions name options text = TellsABadOption name options text ⊎ TellsAMisuse options text
+TellsBadOptions name options text = TellsABadOption name options text ⊎ TellsAMisuse name options text
 
 -- the definitions do not take the words, and ask for no help and no version
 abbrev pub IsNotTaken : List Text → Type 0
 IsNotTaken words = (kind : _) × IsAmong kind (faults_in words) × (kind ≢ DisplayHelp) × (kind ≢ DisplayVersion)
+
+-- the first of the words, with which a command begins; empty where there is none
+abbrev pub first_word : List Text → Text
+first_word words = get_or words 0 []
+
+-- this text ends with the usage of the command that the words begin with, or of the program where they begin with none
+abbrev pub EndsWithUsageOf : List Text → Text → Type 0
+EndsWithUsageOf words text = EndsWithUsage (usage_of (first_word words)) text
 
 -- the words ask what refusals mean, and that is told
 abbrev pub IsExplained : List Text → LineFault → Type 0
@@ -577,24 +715,32 @@ IsExplained words told = (texts : List Text) × AsksToExplain words texts × IsE
 
 -- why the words are no job, where they ask to explain nothing
 abbrev pub IsLineFaultOf : List Text → LineFault → Type 0
-IsLineFaultOf words (fault.Usage text) = IsNotTaken words
+IsLineFaultOf words (fault.Usage text) = (IsNotTaken words × EndsWithUsageOf words text.bytes.items)
     ⊎ ((name : Text) × (options : Options) × StandsIn words name options
     × TellsBadOptions name options text.bytes.items)
 IsLineFaultOf words (fault.Help text) = IsAmong DisplayHelp (faults_in words) ⊎ IsAmong DisplayVersion (faults_in words)
 IsLineFaultOf words (fault.Refused error) =
-    (error ≡ Memory) ⊎ ((error ≡ BadStatusText) × ((name : Text) × (options : Options)
+    (error ≡ Memory) ⊎ (((error ≡ BadStatusText) × ((name : Text) × (options : Options)
     × StandsIn words name options × TakesStatus name × IsStatusRefused options))
+    ⊎ ((error ≡ Inexact 0) × ((options : Options) × StandsIn words (codes "from-pcm") options × IsInexact options)))
 
 -- why the words are no job: that is explained which they ask to explain, or else they have a fault
 abbrev pub IsFaultOf : List Text → LineFault → Type 0
 IsFaultOf words told = IsExplained words told
     ⊎ (AskNothing words × IsLineFaultOf words told)
 
--- what is told of an error of this kind
-abbrev pub Tells : ErrorKind → LineFault → Type 0
-Tells kind (fault.Usage text) = (kind ≢ OutOfMemory) × (kind ≢ DisplayHelp) × (kind ≢ DisplayVersion)
-Tells kind (fault.Help text) = (kind ≡ DisplayHelp) ⊎ (kind ≡ DisplayVersion)
-Tells kind (fault.Refused error) = error ≡ Memory
+-- what is told of an error of this kind in the words
+abbrev pub Tells : List Text → ErrorKind → LineFault → Type 0
+Tells words kind (fault.Usage text) = (kind ≢ OutOfMemory) × (kind ≢ DisplayHelp) × (kind ≢ DisplayVersion)
+    × EndsWithUsageOf words text.bytes.items
+Tells words kind (fault.Help text) = (kind ≡ DisplayHelp) ⊎ (kind ≡ DisplayVersion)
+Tells words kind (fault.Refused error) = error ≡ Memory
+
+-- a text with the usage of the command that the words begin with; or memory was refused
+abbrev pub TellsUsage : List Text → LineFault → Type 0
+TellsUsage words (fault.Usage text) = EndsWithUsageOf words text.bytes.items
+TellsUsage words (fault.Help text) = ⊥
+TellsUsage words (fault.Refused error) = error ≡ Memory
 
 -- what is told of settings that are none
 abbrev pub TellsSettings : Text → LineFault → Type 0
@@ -615,22 +761,28 @@ IsChangeFaultOf options usage (fault.Help text) = ⊥
 IsChangeFaultOf options usage (fault.Refused error) =
     (error ≡ Memory) ⊎ ((error ≡ BadStatusText) × IsStatusRefused options)
 
--- the words are taken and have a bad status or bad settings
+-- why the options of `from-pcm` give no job: they give no change, or one that leaves out a setting
+abbrev pub IsSampleFaultOf : Options → LineFault → Type 0
+IsSampleFaultOf options told = IsChangeFaultOf options from_pcm_usage told
+    ⊎ ((told ≡ fault.Refused (Inexact 0)) × IsInexact options)
+
+-- the words are taken and have a bad status or bad settings, or leave out a setting
 abbrev pub IsBadOptionOf : Text → Options → LineFault → Type 0
 IsBadOptionOf name options told =
     ((name ≡ codes "rewrite") × IsChangeFaultOf options rewrite_usage told)
-    ⊎ ((name ≡ codes "from-pcm") × IsChangeFaultOf options from_pcm_usage told)
+    ⊎ ((name ≡ codes "from-pcm") × IsSampleFaultOf options told)
 
--- what is told of options that are misused; or memory was refused
-abbrev pub TellsMisuse : Misuse → LineFault → Type 0
-TellsMisuse misuse (fault.Usage text) = text.bytes.items ≡ misuse_text misuse
-TellsMisuse misuse (fault.Help text) = ⊥
-TellsMisuse misuse (fault.Refused error) = error ≡ Memory
+-- what is told of options of the command of this name that are misused; or memory was refused
+abbrev pub TellsMisuse : Text → Misuse → LineFault → Type 0
+TellsMisuse name misuse (fault.Usage text) = text.bytes.items ≡ misuse_text (usage_of name) misuse
+TellsMisuse name misuse (fault.Help text) = ⊥
+TellsMisuse name misuse (fault.Refused error) = error ≡ Memory
 
 -- the options are misused, and that is told
-abbrev pub IsMisuseOf : Options → LineFault → Type 0
-IsMisuseOf options told = (misuse : Misuse) × (misuse_by options ≡ Some misuse) × TellsMisuse misuse told
+abbrev pub IsMisuseOf : Text → Options → LineFault → Type 0
+IsMisuseOf name options told = (misuse : Misuse) × (misuse_by options ≡ Some misuse) × TellsMisuse name misuse told
 
--- the words are taken, and an option is wrong or they are misused
+-- the words are taken, and an option is wrong or they are misused; or memory was refused
 abbrev pub AreBadOptionsOf : Text → Options → LineFault → Type 0
-AreBadOptionsOf name options told = IsBadOptionOf name options told ⊎ IsMisuseOf options told
+AreBadOptionsOf name options told =
+    IsBadOptionOf name options told ⊎ (IsMisuseOf name options told ⊎ (told ≡ fault.Refused Memory))

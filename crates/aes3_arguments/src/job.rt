@@ -6,16 +6,20 @@ ghost use Rattle.aes3_arguments.specs.Jobs.{AreSettings, AsksFor, HasStatus, IsB
 ghost use Rattle.aes3_arguments.specs.Jobs.{AreTaken, IsChange, IsChangeFaultOf, misuse_by};
 ghost use Rattle.aes3_arguments.specs.Jobs.{IsSettingsFaultOf, IsStatus, MayBeFlag, StandsIn};
 ghost use Rattle.aes3_arguments.specs.Jobs.{TellsSettings, form_by, input_by, is_set, lines_by, options_of};
-ghost use Rattle.aes3_arguments.specs.Jobs.{refused_text};
+ghost use Rattle.aes3_arguments.specs.Jobs.{IsInexact, IsSampleChange, mends, option_at, refused_text, takes_change};
+ghost use Rattle.aes3_arguments.specs.Jobs.{takes_settings};
 ghost use Rattle.aes3_arguments.specs.declared.job.LineFault.TheVariants.{Refused};
-ghost use Rattle.aes3_cell.specs.declared.refusal.RunError.TheVariants.{BadStatusText, Memory};
+ghost use Rattle.aes3_cell.specs.declared.refusal.RunError.TheVariants.{BadStatusText, Inexact, Memory};
 
 use crate::carried::to_bits;
 use crate::format::format;
+use crate::preset::{Beginning, preset, preset_or};
 use crate::refusals::settings_refused;
 use crate::samples::to_pcm;
 use crate::show::show;
 use crate::status_text::status_of_text;
+use crate::style::notation;
+use crate::typed::texts_for;
 use crate::value::{bit, flag, number};
 use crate::watch::watch;
 use crate::words::words;
@@ -23,7 +27,7 @@ use aes3_cell::{Form, RunError};
 use aes3_commands::help;
 use aes3_job::Job;
 use aes3_settings::{Lines, SettingsFault, settings_of_texts};
-use aes3_status::{Change, Settings};
+use aes3_status::{Change, Settings, takes_all};
 use clap::ArgMatches;
 use std::alloc::{AllocError, Global};
 
@@ -71,6 +75,10 @@ pub(crate) fn job_of_command(
         "normal" => Ok(Job::Normal { input, output }),
         "check" => Ok(check(options, input)),
         "watch" => Ok(watch(options, input)),
+        "info" => Ok(Job::Info {
+            input,
+            notation: notation(options),
+        }),
         "show" => Ok(show(options, input)),
         "scan" => Ok(Job::Scan { input }),
         "to-pcm" => Ok(to_pcm(options, input)),
@@ -144,15 +152,51 @@ fn from_pcm(alloc: Global, options: &ArgMatches<'_>) -> Result<Job, LineFault>
     ensures job { IfOk result (AsksFor (codes "from-pcm") (options_of options.now)) }
     ensures fault { IfErr result (IsBadOptionOf (codes "from-pcm") (options_of options.now)) }
 {
-    match change(alloc, options, help::FROM_PCM.usage) {
-        Ok(change) => Ok(Job::FromPcm {
-            format: format(options),
-            exact: flag(options, "exact"),
-            change,
-            words: words(options),
-        }),
+    match change(alloc, options, Beginning::Unclaimed, help::FROM_PCM.usage) {
+        Ok(change) => sampling(options, change),
         Err(fault) => Err(fault),
     }
+}
+
+/// The job of `from-pcm` with this change. Where the status has to take all settings and leaves one
+/// out, that of each block does, and the first is refused.
+fn sampling(options: &ArgMatches<'_>, change: Change) -> Result<Job, LineFault>
+    requires taken { AreTaken (options_of options.now) }
+    requires change { IsSampleChange (options_of options.now) change }
+    ensures job { IfOk result (AsksFor (codes "from-pcm") (options_of options.now)) }
+    ensures fault { IfErr result (λ fault. (fault ≡ Refused (Inexact 0))
+        × IsInexact (options_of options.now)) }
+{
+    let exact = flag(options, "exact");
+    let takes = takes_change(&change);
+    if exact && !takes {
+        return Err(LineFault::Refused(RunError::Inexact { at: 0 }));
+    }
+    Ok(Job::FromPcm {
+        format: format(options),
+        exact,
+        change,
+        words: words(options),
+    })
+}
+
+/// Whether the status that a channel is given takes all that is set of it.
+fn takes_settings(status: &Option<[u8; 24]>, settings: &Option<Settings>) -> bool
+    ensures { result ≡ takes_settings status.now settings.now }
+{
+    match (status, settings) {
+        (Some(status), Some(settings)) => takes_all(status, settings),
+        (Some(_), None) => true,
+        (None, _) => true,
+    }
+}
+
+/// Whether the statuses of a change take all that is set of them.
+fn takes_change(change: &Change) -> bool
+    ensures { result ≡ takes_change change.now }
+{
+    takes_settings(&change.status1, &change.settings1)
+        & takes_settings(&change.status2, &change.settings2)
 }
 
 /// The job of `rewrite` with its options.
@@ -169,7 +213,7 @@ fn rewrite(
     ensures fault { IfErr result (IsBadOptionOf (codes "rewrite") (options_of options.now)) }
 {
     let exact = flag(options, "exact");
-    match change(alloc, options, help::REWRITE.usage) {
+    match change(alloc, options, Beginning::OfEachBlock, help::REWRITE.usage) {
         Ok(change) => Ok(Job::Rewrite {
             input,
             output,
@@ -180,36 +224,64 @@ fn rewrite(
     }
 }
 
-/// The change that the options of `rewrite` and `from-pcm` ask for; `usage` says how the command is
-/// called. A text that is no setting is told before a status that is none.
-fn change(alloc: Global, options: &ArgMatches<'_>, usage: &str) -> Result<Change, LineFault>
+/// The change that the options of `rewrite` and `from-pcm` ask for, where a channel without another
+/// status begins so; `usage` says how the command is called. A text that is no setting is told before
+/// a status that is none.
+fn change(
+    alloc: Global,
+    options: &ArgMatches<'_>,
+    beginning: Beginning,
+    usage: &str,
+) -> Result<Change, LineFault>
     requires { AreTaken (options_of options.now) }
-    ensures change { IfOk result (IsChange (options_of options.now)) }
+    ensures change { IfOk result (IsChange beginning (options_of options.now)) }
     ensures fault { IfErr result (IsChangeFaultOf (options_of options.now) usage.now) }
 {
     let settings1 = settings(alloc, options, "set1", usage)?;
     let settings2 = settings(alloc, options, "set2", usage)?;
+    let mend = mends(options, &settings1, &settings2);
+    let other1 = beginning.status(&settings1);
+    let other2 = beginning.status(&settings2);
     Ok(Change {
-        status1: status(options, "status1")?,
-        status2: status(options, "status2")?,
+        status1: status(options, "status1", other1)?,
+        status2: status(options, "status2", other2)?,
         settings1,
         settings2,
         validity1: bit(options, "valid1"),
         validity2: bit(options, "valid2"),
         clear_user1: flag(options, "clear-user1"),
         clear_user2: flag(options, "clear-user2"),
-        mend: flag(options, "mend-check"),
+        mend,
     })
 }
 
-/// The channel status that an option gives.
-fn status(options: &ArgMatches<'_>, name: &str) -> Result<Option<[u8; 24]>, LineFault>
-    ensures status { IfOk result (IsStatus (options_of options.now) name.now) }
+/// Whether check bytes are written: where that is asked for, a preset is named, or a field is set.
+fn mends(
+    options: &ArgMatches<'_>,
+    settings1: &Option<Settings>,
+    settings2: &Option<Settings>,
+) -> bool
+    requires { MayBeFlag (options_of options.now) (codes "mend-check") }
+    ensures { result ≡ mends (options_of options.now) settings1.now settings2.now }
+{
+    flag(options, "mend-check")
+        || preset(options).is_some()
+        || settings1.is_some()
+        || settings2.is_some()
+}
+
+/// The channel status that an option gives, else that of the preset, else `other`.
+fn status(
+    options: &ArgMatches<'_>,
+    name: &str,
+    other: Option<[u8; 24]>,
+) -> Result<Option<[u8; 24]>, LineFault>
+    ensures status { IfOk result (IsStatus other (options_of options.now) name.now) }
     ensures fault { IfErr result (λ fault. (fault ≡ Refused BadStatusText)
         × IsBadStatus (options_of options.now) name.now) }
 {
     let Some(text) = options.get_str(name) else {
-        return Ok(None);
+        return Ok(preset_or(options, other));
     };
     match status_of_text(text) {
         Some(status) => Ok(Some(status)),
@@ -217,7 +289,8 @@ fn status(options: &ArgMatches<'_>, name: &str) -> Result<Option<[u8; 24]>, Line
     }
 }
 
-/// The settings that the texts of an option name; `usage` says how the command is called.
+/// The settings that the texts for the channel with this option name; `usage` says how the command
+/// is called.
 fn settings(
     alloc: Global,
     options: &ArgMatches<'_>,
@@ -227,12 +300,28 @@ fn settings(
     ensures settings { IfOk result (AreSettings (options_of options.now) name.now) }
     ensures fault { IfErr result (IsSettingsFaultOf (options_of options.now) name.now usage.now) }
 {
-    let Some(texts) = options.get_strs(name) else {
+    let texts = texts_for(alloc, options, name)?;
+    if texts.is_empty() {
         return Ok(None);
-    };
-    match settings_of_texts(texts) {
+    }
+    match settings_of_texts(texts.as_slice()) {
         Ok(settings) => Ok(Some(settings)),
-        Err(fault) => Err(settings_fault(alloc, name, usage, texts, fault)),
+        Err(fault) => {
+            let name = option_at(options, name, fault);
+            Err(settings_fault(alloc, name, usage, texts.as_slice(), fault))
+        }
+    }
+}
+
+/// The option that has the text which is no setting: that for both channels, or the channel's own.
+fn option_at<'a>(options: &ArgMatches<'_>, name: &'a str, fault: SettingsFault) -> &'a str
+    ensures { result.now ≡ option_at (options_of options.now) name.now fault }
+{
+    let both = options.get_strs("set").unwrap_or(&[]);
+    match fault {
+        SettingsFault::Unknown { at } if at < both.len() => "set",
+        SettingsFault::Unknown { .. } => name,
+        SettingsFault::TooMany => name,
     }
 }
 

@@ -10,6 +10,8 @@ mod explain;
 mod file;
 /// The form of samples.
 mod format;
+/// The sampling frequency that a status is to tell.
+mod frequency;
 /// The job that a command with its options asks for.
 mod job;
 /// How the octets of packed cells are laid out.
@@ -18,6 +20,8 @@ mod layout;
 mod line;
 /// What is wrong with options that the command takes each by itself.
 mod misuse;
+/// The status that a channel begins with.
+mod preset;
 /// What is told of settings that are none.
 mod refusals;
 /// The job of `to-pcm`.

@@ -5,7 +5,8 @@ ghost use Rattle.std.specs.Option.{option_map};
 ghost use Rattle.clap.specs.Values.{kind_of};
 ghost use Rattle.aes3_arguments.specs.Jobs.{AreBadOptionsOf, AreOctets, AreTyped, AsksFor, HaveOctets, HaveTyped};
 ghost use Rattle.aes3_arguments.specs.Jobs.{IsFaultOf, IsJobOf};
-ghost use Rattle.aes3_arguments.specs.Jobs.{IsLineFaultOf, IsLineOf, ReadsFile, StandsIn, Tells, file_by, options_of};
+ghost use Rattle.aes3_arguments.specs.Jobs.{IsLineFaultOf, IsLineOf, ReadsFile, StandsIn, Tells, TellsUsage, file_by};
+ghost use Rattle.aes3_arguments.specs.Jobs.{first_word, options_of};
 ghost use Rattle.aes3_arguments.specs.Explained.{IsExplanation};
 
 use crate::explain::{asks_to_explain, explained_number, explanation};
@@ -16,6 +17,7 @@ use crate::misuse::{misuse_fault, misuse_of_options};
 use crate::typed::typed;
 use aes3_cell::RunError;
 use aes3_commands::command_line;
+use aes3_commands::wording::{own_text, usage_of};
 use aes3_job::Job;
 use aes3_settings::TypedSettings;
 use clap::error::ErrorKind;
@@ -40,9 +42,10 @@ pub struct CommandLine<'a> {
 ///
 /// # Errors
 /// `Usage` where the definitions of the command line don't take the words, no command stands in
-/// them, options are misused, or a text of `--set1` or `--set2` is no setting; `Help` where `--help` or `--version`
-/// stands in them; either where `--explain` is the first of them; `BadStatusText` where they are
-/// taken, but a status text isn't 48 hexadecimal digits; `Memory` where memory was refused.
+/// them, options are misused, or a text of `--set`, `--set1` or `--set2` is no setting; `Help` where `--help` or
+/// `--version` stands in them; either where `--explain` is the first of them; `BadStatusText` where they are
+/// taken, but a status text isn't 48 hexadecimal digits; `Inexact` where `from-pcm` with `--exact` is given a
+/// setting that the status does not take; `Memory` where memory was refused.
 pub fn line_of_words<'a>(alloc: Global, words: &'a [&'a str]) -> Result<CommandLine<'a>, LineFault>
     ensures job { IfOk result (λ line. IsJobOf (map (λ word. word.now) words.now) line.job) }
     ensures typed { IfOk result (λ line. HaveTyped (map (λ word. word.now) words.now) line.typed) }
@@ -103,13 +106,13 @@ fn plain_line<'a>(alloc: Global, words: &'a [&'a str]) -> Result<CommandLine<'a>
             Some((name, options)) => line_of_command(alloc, name, options),
             None => unreachable!(),
         },
-        Err(error) => Err(fault_of(alloc, &error)),
+        Err(error) => Err(fault_of(alloc, words, &error)),
     }
 }
 
-/// What `clap` tells of words that give no matches.
-fn fault_of(alloc: Global, error: &Error) -> LineFault
-    ensures { Tells (kind_of error.now) result }
+/// What is told of words that give no matches, which `clap` told so.
+fn fault_of(alloc: Global, words: &[&str], error: &Error) -> LineFault
+    ensures { Tells (map (λ word. word.now) words.now) (kind_of error.now) result }
 {
     let Ok(text) = error.to_string(alloc) else {
         return LineFault::Refused(RunError::Memory);
@@ -117,7 +120,27 @@ fn fault_of(alloc: Global, error: &Error) -> LineFault
     match error.kind() {
         ErrorKind::OutOfMemory => LineFault::Refused(RunError::Memory),
         ErrorKind::DisplayHelp | ErrorKind::DisplayVersion => LineFault::Help { text },
-        _ => LineFault::Usage { text },
+        _ => usage_fault(alloc, words, &text),
+    }
+}
+
+/// What is told of words that are no command line, where `clap` tells this.
+fn usage_fault(alloc: Global, words: &[&str], text: &str) -> LineFault
+    ensures { TellsUsage (map (λ word. word.now) words.now) result }
+{
+    match own_text(alloc, text, usage_of(first_word(words))) {
+        Ok(text) => LineFault::Usage { text },
+        Err(_) => LineFault::Refused(RunError::Memory),
+    }
+}
+
+/// The first word, with which a command begins; an empty one where there is none.
+fn first_word<'a>(words: &[&'a str]) -> &'a str
+    ensures { result.now ≡ first_word (map (λ word. word.now) words.now) }
+{
+    match words.first() {
+        Some(word) => word,
+        None => "",
     }
 }
 
@@ -136,12 +159,13 @@ fn line_of_command<'a>(
     ensures fault { IfErr result (AreBadOptionsOf name.now (options_of options.now)) }
 {
     if let Some(misuse) = misuse_of_options(options) {
-        return Err(misuse_fault(alloc, misuse));
+        return Err(misuse_fault(alloc, name, misuse));
     }
     let job = job_of_command(alloc, name, options)?;
+    let typed = typed(alloc, options)?;
     Ok(CommandLine {
         job,
-        typed: typed(options),
+        typed,
         octets: octets_of_options(options),
         file: file(options),
     })

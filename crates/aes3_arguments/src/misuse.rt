@@ -9,12 +9,15 @@ ghost use Rattle.aes3_arguments.specs.Jobs.{misuse_line, misuse_text, options_of
 
 use crate::carried::bits_of_text;
 use crate::format::has_unknown_format;
+use crate::frequency::has_unknown_rate;
 use crate::job::LineFault;
+use crate::preset::has_unknown_preset;
 use crate::samples::{fill, has_unknown_filling};
 use crate::style::rate;
 use crate::value::{flag, number_if_given};
 use crate::words::has_unknown_words;
 use aes3_cell::RunError;
+use aes3_commands::wording::{add_usage, usage_of};
 use clap::ArgMatches;
 use std::alloc::{AllocError, Global};
 
@@ -45,16 +48,11 @@ pub(crate) enum Misuse {
     UnknownWords,
     /// `--pcm` of a form that there is none of.
     UnknownFormat,
+    /// `--preset` of a use that there is none of.
+    UnknownPreset,
+    /// `--rate` of `from-pcm` with a frequency that no status tells.
+    UnknownRate,
 }
-
-/// What stands behind the line that says what is wrong, as `clap` tells of words that it doesn't
-/// take.
-const END: &str = "
-
-Usage: aes3 COMMAND [OPTIONS] < INPUT > OUTPUT
-
-For more information, try '--help'.
-";
 
 /// What is wrong with the options, the first of it where there is more.
 pub(crate) fn misuse_of_options(options: &ArgMatches<'_>) -> Option<Misuse>
@@ -85,6 +83,10 @@ pub(crate) fn misuse_of_options(options: &ArgMatches<'_>) -> Option<Misuse>
         Some(Misuse::UnknownWords)
     } else if has_unknown_format(options) {
         Some(Misuse::UnknownFormat)
+    } else if has_unknown_preset(options) {
+        Some(Misuse::UnknownPreset)
+    } else if has_unknown_rate(options) {
+        Some(Misuse::UnknownRate)
     } else {
         None
     }
@@ -168,23 +170,24 @@ fn has_two_details(options: &ArgMatches<'_>) -> bool
     flag(options, "names") && (flag(options, "at") || flag(options, "more"))
 }
 
-/// What is told of it.
-pub(crate) fn misuse_fault(alloc: Global, misuse: Misuse) -> LineFault
-    ensures { TellsMisuse misuse result }
+/// What is told of it, where the options are those of the command of this name.
+pub(crate) fn misuse_fault(alloc: Global, name: &str, misuse: Misuse) -> LineFault
+    ensures { TellsMisuse name.now misuse result }
 {
-    match told_misuse(alloc, misuse) {
+    match told_misuse(alloc, usage_of(name), misuse) {
         Ok(text) => LineFault::Usage { text },
         Err(_) => LineFault::Refused(RunError::Memory),
     }
 }
 
-/// The text that tells of it.
-fn told_misuse(alloc: Global, misuse: Misuse) -> Result<String, AllocError>
-    ensures { IfOk result (λ text. text.bytes.items ≡ misuse_text misuse) }
+/// The text that tells of it, as `clap` tells of words that it doesn't take; `usage` says how the
+/// command is called.
+fn told_misuse(alloc: Global, usage: &str, misuse: Misuse) -> Result<String, AllocError>
+    ensures { IfOk result (λ text. text.bytes.items ≡ misuse_text usage.now misuse) }
 {
     let mut text = String::new(alloc);
     text.push_str(misuse_line(misuse))?;
-    text.push_str(END)?;
+    add_usage(&mut text, usage)?;
     Ok(text)
 }
 
@@ -219,6 +222,12 @@ fn misuse_line(misuse: Misuse) -> &'static str
         }
         Misuse::UnknownWords => {
             "error: invalid value for '--words <own|alsa|am824>': it is 'own', 'alsa' or 'am824'"
+        }
+        Misuse::UnknownPreset => {
+            "error: invalid value for '--preset <consumer|professional>': it is 'consumer' or 'professional'"
+        }
+        Misuse::UnknownRate => {
+            "error: invalid value for '--rate <HZ>': a status tells 22050, 24000, 32000, 44100, 48000, 88200, 96000, 176400, 192000 or 768000, also as 48k"
         }
         Misuse::UnknownFormat => {
             "error: invalid value for '--pcm <s32|s24|s24in32|s16>': it is 's32', 's24', 's24in32' or 's16'"

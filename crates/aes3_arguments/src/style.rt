@@ -7,7 +7,7 @@ use aes3_settings::{Notation, Style};
 use clap::ArgMatches;
 
 /// As words or as JSON objects.
-fn notation(options: &ArgMatches<'_>) -> Notation
+pub(crate) fn notation(options: &ArgMatches<'_>) -> Notation
     requires { MayBeFlag (options_of options.now) (codes "json") }
     ensures { result ≡ notation_by (options_of options.now) }
 {

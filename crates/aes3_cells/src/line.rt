@@ -2,6 +2,7 @@
 
 use crate::frequency::frequency_of_text;
 use aes3_cell::Form;
+use aes3_commands::wording::{add_usage, own_text};
 use aes3_recovery::{LONGEST_PERIOD, SHORTEST_PERIOD};
 use clap::error::ErrorKind;
 use clap::{Arg, ArgAction, ArgMatches, Command, Error};
@@ -123,7 +124,7 @@ pub fn job_of_words<'a>(alloc: Global, words: &'a [&'a str]) -> Result<Job<'a>, 
     }
 }
 
-/// What `clap` tells of words that are no command line.
+/// What is told of words that are no command line, which `clap` told so.
 fn fault_of(alloc: Global, error: &Error) -> LineFault {
     let Ok(text) = error.to_string(alloc) else {
         return LineFault::Memory;
@@ -131,7 +132,10 @@ fn fault_of(alloc: Global, error: &Error) -> LineFault {
     match error.kind() {
         ErrorKind::OutOfMemory => LineFault::Memory,
         ErrorKind::DisplayHelp | ErrorKind::DisplayVersion => LineFault::Help(text),
-        _ => LineFault::Usage(text),
+        _ => match own_text(alloc, &text, USAGE) {
+            Ok(text) => LineFault::Usage(text),
+            Err(_) => LineFault::Memory,
+        },
     }
 }
 
@@ -193,9 +197,12 @@ fn frequency(
     };
     match frequency_of_text(text) {
         Some(frequency) => Ok(Some(frequency)),
-        None => Err(LineFault::Usage(format!(in alloc;
-            "aes3-cells: --{name} is a frequency in Hz from 1 on, as 24000000, 24M, 24000k or 44.1k\n"
-        )?)),
+        None => {
+            let why = format!(in alloc;
+                "--{name} is a frequency in Hz from 1 on, as 24000000, 24M, 24000k or 44.1k"
+            )?;
+            usage(alloc, &why)
+        }
     }
 }
 
@@ -210,8 +217,10 @@ fn bit_of_text(text: &str, octets: usize) -> Option<u8> {
 }
 
 /// A command line that is refused for this.
-fn usage<'a>(alloc: Global, why: &str) -> Result<Job<'a>, LineFault> {
-    Err(LineFault::Usage(format!(in alloc; "aes3-cells: {why}\n")?))
+fn usage<T: Drop>(alloc: Global, why: &str) -> Result<T, LineFault> {
+    let mut text = format!(in alloc; "aes3-cells: {why}")?;
+    add_usage(&mut text, USAGE)?;
+    Err(LineFault::Usage(text))
 }
 
 /// How long a cell is, in parts of a sample: 128 cells make a frame.

@@ -11,7 +11,7 @@ use Rattle.aes3_commands.specs.CommandLine.{IsDefinedAs, IsOption, app_with, com
 use Rattle.aes3_commands.specs.declared.argument.Argument.{Argument}
 use Rattle.aes3_commands.specs.declared.definitions.Name.{Name}
 use Rattle.aes3_commands.specs.declared.definitions.Name.TheVariants.{Encode, Decode, Normal, Check, Watch, Show, Scan}
-use Rattle.aes3_commands.specs.declared.definitions.Name.TheVariants.{Cut, Rewrite, ToPcm, FromPcm, ToBits}
+use Rattle.aes3_commands.specs.declared.definitions.Name.TheVariants.{Cut, Info, Rewrite, ToPcm, FromPcm, ToBits}
 
 -- one more argument
 with_option : (app : App) (r : Rule) (old new : Command) (argument : Arg) → AddsArg old argument new
@@ -74,6 +74,7 @@ shape-is Decode = refl
 shape-is Normal = refl
 shape-is Check = refl
 shape-is Watch = refl
+shape-is Info = refl
 shape-is Show = refl
 shape-is Scan = refl
 shape-is Cut = refl

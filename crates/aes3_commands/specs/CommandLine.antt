@@ -12,11 +12,13 @@ use Rattle.aes3_commands.specs.declared.argument.Argument.TheVariants.{PackedIn,
 use Rattle.aes3_commands.specs.declared.argument.Argument.TheVariants.{LsbFirst, Changes, At, More, Names, From, Count}
 use Rattle.aes3_commands.specs.declared.argument.Argument.TheVariants.{Json, Rate, Every, EverySeconds}
 use Rattle.aes3_commands.specs.declared.argument.Argument.TheVariants.{Status1, Status2, Set1, Set2, MendCheck, Exact}
+use Rattle.aes3_commands.specs.declared.argument.Argument.TheVariants.{Preset, SampleRate, Set}
 use Rattle.aes3_commands.specs.declared.argument.Argument.TheVariants.{ExactSamples, ExactSettings, Marked}
 use Rattle.aes3_commands.specs.declared.argument.Argument.TheVariants.{Valid1, Valid2, ClearUser1, ClearUser2, Valid}
 use Rattle.aes3_commands.specs.declared.argument.Argument.TheVariants.{Fill, Bits, Channel, Pcm, Words, File}
 use Rattle.aes3_commands.specs.declared.definitions.Name.{Name}
 use Rattle.aes3_commands.specs.declared.definitions.Name.TheVariants.{Encode, Decode, Normal, Check, Watch, Show, Scan}
+use Rattle.aes3_commands.specs.declared.definitions.Name.TheVariants.{Info}
 use Rattle.aes3_commands.specs.declared.definitions.Name.TheVariants.{Cut, Rewrite, ToPcm, FromPcm, ToBits}
 
 -- `--name`, which stands or does not
@@ -26,6 +28,10 @@ flag name = record (new_rule name) { long = Some name; action = Some SetTrue }
 -- `--name TEXT`, which may be left out
 abbrev pub text_option : Text → Rule
 text_option name = record (new_rule name) { long = Some name; value_names = 1 }
+
+-- the same whose values are found by `id`
+abbrev pub named_option : Text → Text → Rule
+named_option id name = record (new_rule id) { long = Some name; value_names = 1 }
 
 -- `--name TEXT`, which may be left out or stand more than once
 abbrev pub settings_option : Text → Rule
@@ -112,6 +118,9 @@ rule From = number (codes "FROM") 0 greatest
 rule Count = number (codes "COUNT") 0 greatest
 rule Status1 = text_option (codes "status1")
 rule Status2 = text_option (codes "status2")
+rule Preset = text_option (codes "preset")
+rule SampleRate = named_option (codes "hz") (codes "rate")
+rule Set = settings_option (codes "set")
 rule Set1 = settings_option (codes "set1")
 rule Set2 = settings_option (codes "set2")
 rule MendCheck = flag (codes "mend-check")
@@ -156,6 +165,9 @@ watch = reader_with (codes "watch")
     (flag (codes "json") ∷ number_option (codes "rate") 1 most_frames
     ∷ number_option (codes "every") 1 most_cells ∷ number_option (codes "every-seconds") 1 most_seconds ∷ file ∷ [])
 
+abbrev pub info : Shape
+info = reader_with (codes "info") (flag (codes "json") ∷ file ∷ [])
+
 abbrev pub show : Shape
 show = reader_with (codes "show")
     (flag (codes "changes") ∷ flag (codes "at") ∷ flag (codes "more") ∷ flag (codes "names") ∷ file ∷ [])
@@ -171,8 +183,8 @@ cut = command (codes "cut")
 abbrev pub rewrite : Shape
 rewrite = command (codes "rewrite")
     (packed_in ∷ raw_in ∷ packed_out ∷ lsb_first
-    ∷ text_option (codes "status1") ∷ text_option (codes "status2")
-    ∷ settings_option (codes "set1") ∷ settings_option (codes "set2") ∷ flag (codes "mend-check")
+    ∷ text_option (codes "status1") ∷ text_option (codes "status2") ∷ text_option (codes "preset")
+    ∷ settings_option (codes "set") ∷ settings_option (codes "set1") ∷ settings_option (codes "set2") ∷ flag (codes "mend-check")
     ∷ number_option (codes "valid1") 0 1 ∷ number_option (codes "valid2") 0 1
     ∷ flag (codes "clear-user1") ∷ flag (codes "clear-user2") ∷ flag (codes "exact") ∷ file ∷ [])
 
@@ -182,8 +194,9 @@ to_pcm = reader_with (codes "to-pcm")
 
 abbrev pub from_pcm : Shape
 from_pcm = command (codes "from-pcm")
-    (text_option (codes "status1") ∷ text_option (codes "status2")
-    ∷ settings_option (codes "set1") ∷ settings_option (codes "set2")
+    (text_option (codes "status1") ∷ text_option (codes "status2") ∷ text_option (codes "preset")
+    ∷ named_option (codes "hz") (codes "rate")
+    ∷ settings_option (codes "set") ∷ settings_option (codes "set1") ∷ settings_option (codes "set2")
     ∷ flag (codes "mend-check") ∷ flag (codes "exact") ∷ pcm ∷ words ∷ file ∷ [])
 
 abbrev pub to_bits : Shape
@@ -196,6 +209,7 @@ shape Decode = decode
 shape Normal = normal
 shape Check = check
 shape Watch = watch
+shape Info = info
 shape Show = show
 shape Scan = reader (codes "scan")
 shape Cut = cut
@@ -227,7 +241,7 @@ command_line = record {
     has_version = true;
   };
   subs = encode ∷ decode ∷ normal ∷ check
-      ∷ watch ∷ show ∷ reader (codes "scan") ∷ cut ∷ rewrite
+      ∷ watch ∷ info ∷ show ∷ reader (codes "scan") ∷ cut ∷ rewrite
       ∷ to_pcm ∷ from_pcm ∷ to_bits ∷ [];
 }
 

@@ -1,7 +1,7 @@
 //! The options and values that commands take, each with the line that help tells of it.
 
 ghost use Rattle.aes3_commands.specs.CommandLine.{IsOption, flag, number, rule, settings_option};
-ghost use Rattle.aes3_commands.specs.CommandLine.{file_name, number_option, text_option, word};
+ghost use Rattle.aes3_commands.specs.CommandLine.{file_name, named_option, number_option, text_option, word};
 
 use clap::builder::ValueParser;
 use clap::{Arg, ArgAction};
@@ -55,6 +55,12 @@ pub(crate) enum Argument {
     Status1,
     /// `--status2 HEX48`: the status of channel 2.
     Status2,
+    /// `--preset consumer|professional`: the usual status of a use.
+    Preset,
+    /// `--rate HZ` of `from-pcm`: the sampling frequency that the status tells.
+    SampleRate,
+    /// `--set NAME=WORD`: a field of both channels.
+    Set,
     /// `--set1 NAME=WORD`: a field of channel 1.
     Set1,
     /// `--set2 NAME=WORD`: a field of channel 2.
@@ -167,6 +173,24 @@ impl Argument {
                 "HEX48",
                 "The status of channel 2, in hexadecimal",
             ),
+            Argument::Preset => text(
+                alloc,
+                "preset",
+                "consumer|professional",
+                "Begin with the usual status of this use",
+            ),
+            Argument::SampleRate => named_text(
+                alloc,
+                "hz",
+                "rate",
+                "HZ",
+                "The sampling frequency that the status tells, as 48000 or 48k",
+            ),
+            Argument::Set => settings(
+                alloc,
+                "set",
+                "A field of both channels as `show` prints it; may be repeated",
+            ),
             Argument::Set1 => settings(
                 alloc,
                 "set1",
@@ -210,12 +234,16 @@ impl Argument {
                 "marked",
                 "With --fill: give blocks with wrong parity too, and fill those subframes",
             ),
-            Argument::Exact => flag(alloc, "exact", "Refuse samples of more than 24 bits"),
+            Argument::Exact => flag(
+                alloc,
+                "exact",
+                "Refuse samples of more than 24 bits, and settings that no block takes",
+            ),
             Argument::ExactSamples => flag(alloc, "exact", "Refuse blocks that would lose bits"),
             Argument::ExactSettings => flag(
                 alloc,
                 "exact",
-                "Refuse blocks that leave out what --set1 or --set2 sets",
+                "Refuse blocks that leave out what --set, --set1 or --set2 sets",
             ),
             Argument::Pcm => text(
                 alloc,
@@ -258,6 +286,19 @@ fn text<'a>(alloc: Global, name: &'a str, value: &'a str, help: &'a str) -> Arg<
         .long(name)
         .value_name(value)
         .help(help)
+}
+
+/// The option `--name` with a text, as help calls it, whose values are found by `id`.
+fn named_text<'a>(
+    alloc: Global,
+    id: &'a str,
+    name: &'a str,
+    value: &'a str,
+    help: &'a str,
+) -> Arg<'a>
+    ensures { IsOption (named_option id.now name.now) result }
+{
+    Arg::new(alloc, id).long(name).value_name(value).help(help)
 }
 
 /// The option `--name` with a setting, which may stand more than once.

@@ -22,6 +22,8 @@ pub(crate) enum Name {
     Check,
     /// `watch`
     Watch,
+    /// `info`
+    Info,
     /// `show`
     Show,
     /// `scan`
@@ -39,12 +41,13 @@ pub(crate) enum Name {
 }
 
 /// The commands, in the order in which help lists them.
-const NAMES: [Name; 12] = [
+const NAMES: [Name; 13] = [
     Name::Encode,
     Name::Decode,
     Name::Normal,
     Name::Check,
     Name::Watch,
+    Name::Info,
     Name::Show,
     Name::Scan,
     Name::Cut,
@@ -101,6 +104,7 @@ impl Name {
             Name::Normal => "normal",
             Name::Check => "check",
             Name::Watch => "watch",
+            Name::Info => "info",
             Name::Show => "show",
             Name::Scan => "scan",
             Name::Cut => "cut",
@@ -119,6 +123,7 @@ impl Name {
             Name::Normal => &help::NORMAL,
             Name::Check => &help::CHECK,
             Name::Watch => &help::WATCH,
+            Name::Info => &help::INFO,
             Name::Show => &help::SHOW,
             Name::Scan => &help::SCAN,
             Name::Cut => &help::CUT,
@@ -149,6 +154,7 @@ impl Name {
                 EverySeconds,
                 File,
             ],
+            Name::Info => &[PackedIn, RawIn, LsbFirst, Json, File],
             Name::Show => &[PackedIn, RawIn, LsbFirst, Changes, At, More, Names, File],
             Name::Scan => &[PackedIn, RawIn, LsbFirst, File],
             Name::Cut => &[PackedIn, RawIn, PackedOut, LsbFirst, From, Count],
@@ -159,6 +165,8 @@ impl Name {
                 LsbFirst,
                 Status1,
                 Status2,
+                Preset,
+                Set,
                 Set1,
                 Set2,
                 MendCheck,
@@ -181,7 +189,8 @@ impl Name {
                 File,
             ],
             Name::FromPcm => &[
-                Status1, Status2, Set1, Set2, MendCheck, Exact, Pcm, Words, File,
+                Status1, Status2, Preset, SampleRate, Set, Set1, Set2, MendCheck, Exact, Pcm,
+                Words, File,
             ],
             Name::ToBits => &[PackedIn, RawIn, LsbFirst, Bits, Channel, File],
         }

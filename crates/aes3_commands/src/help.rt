@@ -42,7 +42,7 @@ Forms of input and output:
 
 Exit status:
   0  done, or help or the version was asked for
-  1  `check` or `watch` is done and found faults
+  1  `check`, `watch` or `info` is done and found faults
   2  the words are no command line; why is told on standard error
   3  refused; standard error has one line, `aes3: refused NUMBER at PLACE`, or no place
 
@@ -151,18 +151,22 @@ with --exact they have to be zero. With --pcm s24, s24in32 or s16 they are in th
 `aes3 to-pcm` has it, and --exact refuses none: the highest byte of s24in32 does not count,
 and the 8 bits that s16 lacks are zero. Samples that are zero fill up the last block.
 Writes a block file with V and U 0 and the channel status that the options give, as `aes3
-rewrite` has them, else zeros: that is consumer status, whose fields --set1 NAME=WORD and
---set2 NAME=WORD then set. With --words alsa or am824 its words are in that form, as `aes3
-encode` reads them.
+rewrite` has them. Without them the status claims nothing: consumer use, no copyright, no
+sampling frequency, words of at most 24 bits. --rate HZ sets the sampling frequency of both
+channels after all other fields: 48000 or 48k. With --exact a setting that the status does
+not take is refused before anything is read. With --words alsa or am824 the words of the
+block file are in that form, as `aes3 encode` reads them.
 
-Exit status: 0 done; 3 refused: 9 a status is not 48 hexadecimal digits, and nothing is
-read, 2 the samples end inside a frame, 11 a sample has more than 24 bits, 12 the input is
-a sound file; or as for every command.
+Exit status: 0 done; 3 refused: 9 a status is not 48 hexadecimal digits, 13 with --exact
+the status does not take a setting, and with both nothing is read, 2 the samples end inside
+a frame, 11 a sample has more than 24 bits, 12 the input is a sound file; or as for every
+command.
 
 Examples:
+    aes3 from-pcm --preset consumer --rate 48k < line.s32 > consumer.block
+    aes3 from-pcm --preset professional --rate 48k --set origin=JATH < line.s32 > pro.block
     aes3 from-pcm --exact < line.s32 | aes3 encode | aes3 to-pcm | cmp - line.s32
     aes3 from-pcm --pcm s24 < line.s24 | aes3 encode | aes3 to-pcm | cmp - line.s32
-    aes3 from-pcm --set1 rate=48000 --set2 rate=48000 < line.s32 > consumer.block
     status=85022c0000004a4154480000000000000000000000000000
     aes3 from-pcm --status1 $status --status2 $status --mend-check < line.s32 > new.block",
 };
@@ -226,7 +230,8 @@ where its status is not that of the block before. With --at ` at=P` stands behin
 line: P is the cell at which the block begins, counted from 0. With --more ` v=N u=N at=P`
 does: how many of the channel's 192 validity bits are 1, and how many of its user bits.
 With --names ` NAME=WORD` does for each code that the line has as a number and that has a
-name: `category`, `rate` and `original` of consumer use, `mode` of professional use.
+name: `category`, `rate` and `original` of consumer use, `mode` of professional use, and
+its `rate` where byte 4 tells it, as 96000.
 
 Exit status: 0 done, also where no block was found; 3 refused: 1 a byte is no cell, 10
 packed cells end wrongly; or as for every command.
@@ -279,6 +284,44 @@ Examples:
     aes3 watch --rate 48000 --every-seconds 1 < line.txt",
 };
 
+pub const INFO: Texts<'static> = Texts {
+    about: "Print one page about a recording: faults, rate, length, status and level",
+    usage: "aes3 info [--packed-in|--raw-in] [--lsb-first] [--json] [FILE]",
+    more: "Reads cells, begun anywhere and in either polarity, to their end. Without --packed-in and
+--raw-in the first octets decide: what is cell text is read as text, octets of no other
+kind of file as packed cells.
+Writes a page at the end, `NAME VALUE` a line:
+  cells, rate, seconds   how many cells; the sampling frequency in Hz that the status of
+                         channel 1 names in the first whole block; how long the cells take
+                         at it. `unknown` where it names none
+  whole, marked          how many blocks `check` prints as `whole` and as `marked`
+  fault                  how many lines `fault`; by their causes `preamble`, `biphase` and
+                         `unclosed`
+  unfinished             how many blocks the end cuts
+  gaps, lost, cut        how many gaps of `check --gaps` count; the cells in them; and the
+                         cells in the others, where the recording is cut
+and of channel 1, and then of channel 2, with the number behind the name:
+  status1                the status in the first whole block, as `show` prints it
+  changes1               how many whole blocks have another status than the one before
+  invalid1               how many subframes have V 1
+  peak1, peak_dbfs1      the greatest magnitude of a sample of 24 bits, also in dBFS
+  rms_dbfs1              the RMS of the samples: a sine that just reaches full scale has
+                         -3.0
+  silent1                `yes` where each sample is zero
+The samples are those of all whole blocks. A level of no power is `-inf`. With --json the
+page is one JSON object with the same names: a status is 48 hexadecimal digits there, and
+`null` stands for `unknown` and `-inf`.
+
+Exit status: 0 no fault; 1 there are marked blocks, faults, or gaps that count; 3 refused:
+1 a byte is no cell, 10 packed cells end wrongly; or as for every command. Where it is
+refused nothing is written.
+
+Examples:
+    aes3 info line.txt
+    aes3 encode < speech.block | sed '48200s/^1/0/' | aes3 info | grep lost
+    aes3 info --json line.txt",
+};
+
 pub const SCAN: Texts<'static> = Texts {
     about: "Print each preamble",
     usage: "aes3 scan [--packed-in|--raw-in] [--lsb-first] [FILE]",
@@ -316,21 +359,25 @@ pub const REWRITE: Texts<'static> = Texts {
     about: "Write the whole blocks with new channel status, V or U",
     usage: "aes3 rewrite [OPTIONS] [FILE] > CELLS",
     more: "Reads cells as `aes3 normal` does.
-Writes what it would, with the channel status of each block set as the options ask.
-HEX48 is the 24 bytes of a channel's status as 48 hexadecimal digits, byte 0 first. Then
---set1 NAME=WORD and --set2 NAME=WORD set fields, by the names and words that `aes3 show`
-prints, with --names too, and use=professional or use=consumer sets the use; each may
-stand 32 times, and they are set in that order, origin=, destination=, local= and time=
-behind the others. A status for the use that has no such field stays as it is, and so does
-one in which the word has no code, as a consumer one for word=24 without greatest=24
-before it. At the end standard error lists, as they were typed, the settings that no block
-took. With --exact a block that does not take all of it is refused with its place, and
-neither it nor any behind it is written; the input is read to its end first. With
---mend-check byte 23 of each channel whose status is professional then becomes its check
-byte. --valid1 0 and --valid2 0 make V of all subframes of a channel 0,
-which says that their samples can be taken as they are; with 1 it says that they can't.
---clear-user1 and --clear-user2 make U of all of them 0. Without any option the blocks are
-as they were.
+Writes what it would, with the channel status of each block set as the options ask. HEX48
+is the 24 bytes of a channel's status as 48 hexadecimal digits, byte 0 first. A channel
+without it begins with the status of --preset, where that is given: `consumer` is linear
+PCM, no copyright, words of 24 bits; `professional` is linear PCM, no emphasis, two
+channels, words of 24 bits. Then --set NAME=WORD sets a field of both channels, --set1
+and --set2 one of channel 1 or 2, by the names and words that `aes3 show` prints, with
+--names too, and use=professional or use=consumer sets the use. A channel has 32 of them
+at most: those of --set, then those of its own option, each in the order in which they
+are typed, but origin=, destination=, local= and time= behind the others. A status for
+the use that has no such field stays as it is, and so does one in which the word has no
+code, as a consumer one for word=24 without greatest=24 before it. At the end standard
+error lists, as they were typed, the settings that no block took, those of --set as
+--set1 and --set2. With --exact a block that does not take all of it is refused with its
+place, and neither it nor any behind it is written; the input is read to its end first.
+Where a field is set, or --preset or --mend-check is given, byte 23 of each channel whose
+status is professional then becomes its check byte. --valid1 0 and --valid2 0 make V of
+all subframes of a channel 0, which says that their samples can be taken as they are;
+with 1 it says that they can't. --clear-user1 and --clear-user2 make U of all of them 0.
+Without any option the blocks are as they were.
 
 Exit status: 0 done, also where no block was found; 3 refused: 9 a status is not 48
 hexadecimal digits, and nothing is read, 1 a byte is no cell, 10 packed cells end
@@ -339,8 +386,9 @@ wrongly, 13 with --exact a block does not take a setting; or as for every comman
 Examples:
     aes3 rewrite --mend-check < line.txt > mended.txt
     aes3 rewrite --valid1 0 --valid2 0 --clear-user1 --clear-user2 < line.txt > clear.txt
-    aes3 rewrite --set1 rate=48000 --set1 emphasis=none --mend-check < line.txt > new.txt
-    aes3 rewrite --set1 origin=JATH --set1 local=0 --mend-check < line.txt > named.txt
+    aes3 rewrite --set rate=48000 --set emphasis=none < line.txt > new.txt
+    aes3 rewrite --set1 origin=JATH --set1 local=0 < line.txt > named.txt
+    aes3 rewrite --preset professional --set rate=48000 < line.txt > pro.txt
     aes3 rewrite --status2 040000020b00000000000000000000000000000000000000 < line.txt > new.txt",
 };
 

@@ -1,5 +1,5 @@
 //! The command line of the program `aes3`: its commands and what each takes, as definitions for
-//! `clap`, with the texts of its help.
+//! `clap`, with the texts of its help and of its errors.
 #![tactic(auto)]
 
 /// What a command takes behind its name.
@@ -8,5 +8,7 @@ mod argument;
 mod definitions;
 /// The texts of `--help` and `--version`.
 pub mod help;
+/// What is told of words that are no command line.
+pub mod wording;
 
 pub use definitions::command_line;

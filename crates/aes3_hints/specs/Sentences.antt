@@ -13,7 +13,7 @@ use Rattle.aes3_hints.specs.declared.hints.Terminals.{Terminals}
 use Rattle.aes3_job.specs.declared.job.Job.{Job}
 use Rattle.aes3_job.specs.declared.job.Job.TheVariants.{Encode, Decode, Normal, Check, Account, Watch, WatchSums}
 use Rattle.aes3_job.specs.declared.job.Job.TheVariants.{Show, ShowChanges, Scan, Cut, Rewrite, ToPcm, FromPcm, ToBits}
-use Rattle.aes3_job.specs.declared.job.Job.TheVariants.{ToExactPcm, ToFilledPcm}
+use Rattle.aes3_job.specs.declared.job.Job.TheVariants.{Info, ToExactPcm, ToFilledPcm}
 
 -- whether it is the packed form
 abbrev pub is_packed : Form → Bool
@@ -29,6 +29,7 @@ writes_packed (Check input lines) = false
 writes_packed (Account input lines) = false
 writes_packed (Watch input style) = false
 writes_packed (WatchSums input style every) = false
+writes_packed (Info input notation) = false
 writes_packed (Show input detail) = false
 writes_packed (ShowChanges input detail) = false
 writes_packed (Scan input) = false
@@ -49,6 +50,7 @@ reads_packed (Check input lines) = is_packed input
 reads_packed (Account input lines) = is_packed input
 reads_packed (Watch input style) = is_packed input
 reads_packed (WatchSums input style every) = is_packed input
+reads_packed (Info input notation) = is_packed input
 reads_packed (Show input detail) = is_packed input
 reads_packed (ShowChanges input detail) = is_packed input
 reads_packed (Scan input) = is_packed input
@@ -91,6 +93,13 @@ told_texts = codes "this is a WAV file: `sox FILE -t s32 -c 2 - | aes3 from-pcm`
     ∷ codes "this file is compressed: take it apart first"
     ∷ codes "a block file begins so: `aes3 encode` makes cells of it"
     ∷ codes "these look like packed cells: try `--packed-in`"
+    ∷ codes "these look like packed cells: try `--packed-in --lsb-first`"
+    ∷ codes "these look like packed cells: `aes3 decode --packed-in` makes a block file of them"
+    ∷ codes "these cells have no last octet that counts: try `--raw-in`"
+    ∷ codes "these look like samples of 16 bits: try `--pcm s16`"
+    ∷ codes "these look like samples of 24 bits in 3 bytes: try `--pcm s24`"
+    ∷ codes "these look like samples of 24 bits in 4 bytes: try `--pcm s24in32`"
+    ∷ codes "these look like samples of 32 bits: leave `--pcm` out"
     ∷ codes "the input is empty"
     ∷ codes "these are cells as text: leave `--packed-in` out"
     ∷ codes "these are cells as text: `aes3 decode` makes a block file of them"

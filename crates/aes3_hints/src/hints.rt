@@ -1,6 +1,6 @@
 //! Sentences for whoever sits at a terminal.
 
-ghost use Rattle.std.specs.Prelude.{◌≡◌, ◌<◌, ◌≤◌, IfSome, IsFalse, IsTrue, None, Some, length, not};
+ghost use Rattle.std.specs.Prelude.{◌≡◌, ◌<◌, ◌≤◌, ◌||◌, IfSome, IsFalse, IsTrue, None, Some, length, not};
 ghost use Rattle.aes3_cell.specs.Ends.{Grew};
 ghost use Rattle.aes3_cell.specs.Refusals.{number_of};
 ghost use Rattle.aes3_arguments.specs.Explained.{advice_of};
@@ -8,12 +8,12 @@ ghost use Rattle.aes3_hints.specs.Sentences.{Explained, ExplainedBy, greeting, i
 ghost use Rattle.aes3_hints.specs.Sentences.{reads_packed};
 ghost use Rattle.aes3_hints.specs.Sentences.{writes_hint, writes_packed};
 
-use crate::looks::advice_by_looks;
+use crate::looks::{advice_by_looks, advice_on_taken};
 use crate::progress::{Progress, course_of};
 use crate::watched::{Position, Watched};
 use aes3_arguments::{CommandLine, LineFault, advice, status_of_text};
 use aes3_cell::{Form, RunError, Sink, Source, write_all};
-use aes3_files::{FileKind, are_turned};
+use aes3_files::FileKind;
 use aes3_job::{Job, Observer};
 use std::alloc::Global;
 use std::cell::Cell;
@@ -40,12 +40,14 @@ impl Terminals {
 }
 
 /// Tells on standard error, where it is a terminal, what the program waits for and what a refusal
-/// means. Once that has failed it tells nothing more.
+/// means; and where it is none, but the words name a file, what that looks like. Once that has failed
+/// it tells nothing more.
 #[derive(Drop)]
 pub struct Hints<T: Drop> {
     alloc: Global,
     sink: T,
     terminals: Terminals,
+    names_file: bool,
     job: Option<Job>,
     refusal: Option<RunError>,
 }
@@ -60,6 +62,7 @@ impl<T: Sink + Drop> Hints<T> {
             alloc,
             sink,
             terminals,
+            names_file: false,
             job: None,
             refusal: None,
         }
@@ -72,13 +75,15 @@ impl<T: Sink + Drop> Hints<T> {
         ensures errors { self.new.terminals.errors ≡ self.old.terminals.errors }
     {
         self.terminals.input = false;
+        self.names_file = true;
     }
 
-    /// Watches this source for them, where there is a person to tell.
+    /// Watches this source for them, where there is a person to tell or a file is named.
     pub fn watch<S: Source + Drop>(&self, source: S) -> Watched<S>
         ensures { result.source ≡ source }
     {
-        Watched::new(self.alloc, source, self.terminals.errors)
+        let is_on = self.terminals.errors || self.names_file;
+        Watched::new(self.alloc, source, is_on, self.terminals.errors)
     }
 
     /// Tells to `sink`, which is standard error, how far this source has been read, where there is a
@@ -107,29 +112,33 @@ impl<T: Sink + Drop> Hints<T> {
 
     /// Says in a sentence what was refused of these words or their input, if anything was, and what
     /// to do; or that the input looks like another kind than it was taken for. Where it is a file,
-    /// this is its name.
+    /// this is its name. Where standard error is no terminal it says only what the input looks like.
     pub fn explain<S: Source + Drop>(
         &mut self,
         words: &[&str],
         file: Option<&str>,
         source: &Watched<S>,
     )
-        ensures silent { IsFalse self.old.terminals.errors
+        ensures silent { IsFalse (self.old.terminals.errors || self.old.names_file)
             → T.taken self.new.sink ≡ T.taken self.old.sink }
         ensures told { IsTrue self.old.terminals.errors → T.failed self.new.sink ≡ 0
             → IfSome self.old.refusal (λ error. Explained error (T.taken self.old.sink)
             (T.taken self.new.sink)) }
     {
+        if !self.terminals.errors {
+            self.tell_looks(words, source);
+            return;
+        }
         match (self.refusal, file) {
             (Some(RunError::Read), Some(name)) => {
                 self.tell_refusal(RunError::Read, Some(Place::File(name)), Some(UNREAD));
             }
             (Some(error), _) => {
                 let looks = FileKind::of(source.first());
-                let told = advice_by_looks(error, looks);
+                let told = advice_by_looks(error, self.job, source.head(), source.first());
                 self.tell_refusal(error, place_of(error, words, source, looks), told);
             }
-            (None, _) => self.warn(words, source.first()),
+            (None, _) => self.tell_looks(words, source),
         }
     }
 
@@ -181,15 +190,27 @@ impl<T: Sink + Drop> Hints<T> {
         self.tell("\n");
     }
 
-    /// Tells of an input that a job took, if its first bytes look like another kind.
-    fn warn(&mut self, words: &[&str], first: &[u8])
-        ensures silent { IsFalse self.old.terminals.errors
+    /// Tells what the input looks like, if that is another kind than it was taken for.
+    fn tell_looks<S: Source + Drop>(&mut self, words: &[&str], source: &Watched<S>)
+        ensures silent { IsFalse (self.old.terminals.errors || self.old.names_file)
             → T.taken self.new.sink ≡ T.taken self.old.sink }
     {
-        if let Some(told) = warning(self.job, is_lsb_first(words), first) {
-            self.tell("aes3: ");
-            self.tell(told);
-            self.tell("\n");
+        if let Some(told) = looks_of(self.refusal, self.job, words, source) {
+            self.hint("aes3: ");
+            self.hint(told);
+            self.hint("\n");
+        }
+    }
+
+    /// Tells a text, where standard error is a terminal or a file is named.
+    fn hint(&mut self, text: &str)
+        ensures silent { IsFalse (self.old.terminals.errors || self.old.names_file)
+            → T.taken self.new.sink ≡ T.taken self.old.sink }
+        ensures terminals { self.new.terminals ≡ self.old.terminals }
+        ensures named { self.new.names_file ≡ self.old.names_file }
+    {
+        if (self.terminals.errors || self.names_file) && self.sink.failures() == 0 {
+            let _ = write_all(&mut self.sink, text.as_bytes());
         }
     }
 
@@ -201,6 +222,7 @@ impl<T: Sink + Drop> Hints<T> {
             → Grew (T.taken self.old.sink) (T.taken self.new.sink) text.now }
         ensures failed { T.failed self.old.sink ≤ T.failed self.new.sink }
         ensures terminals { self.new.terminals ≡ self.old.terminals }
+        ensures named { self.new.names_file ≡ self.old.names_file }
         ensures job { self.new.job ≡ self.old.job }
     {
         if self.terminals.errors && self.sink.failures() == 0 {
@@ -227,18 +249,18 @@ fn refused_text(alloc: Global, error: RunError, place: Option<Place<'_>>) -> Opt
     text.ok()
 }
 
-/// Whether the words say that the first cell of each octet stands in its lowest bit.
-fn is_lsb_first(words: &[&str]) -> bool {
-    words.contains(&"--lsb-first")
-}
-
-/// What to do where the first bytes of an input look like another kind than this job takes.
-fn warning(job: Option<Job>, is_lsb_first: bool, first: &[u8]) -> Option<&'static str> {
-    match (job?, FileKind::of(first)) {
-        (job, FileKind::Octets) if reads_packed(&job) && !is_lsb_first && are_turned(first) => {
-            Some("the cells look packed with the first in the lowest bit: try `--lsb-first`")
-        }
-        _ => None,
+/// What to do with an input that looks like another kind than it was taken for, which was refused so
+/// or taken.
+fn looks_of<S: Source + Drop>(
+    refusal: Option<RunError>,
+    job: Option<Job>,
+    words: &[&str],
+    source: &Watched<S>,
+) -> Option<&'static str> {
+    match (refusal, job) {
+        (Some(error), _) => advice_by_looks(error, job, source.head(), source.first()),
+        (None, Some(job)) => advice_on_taken(&job, words, source.head(), source.first()),
+        (None, None) => None,
     }
 }
 
@@ -349,6 +371,7 @@ pub fn reads_packed(job: &Job) -> bool
         | Job::Account { input, .. }
         | Job::Watch { input, .. }
         | Job::WatchSums { input, .. }
+        | Job::Info { input, .. }
         | Job::Show { input, .. }
         | Job::ShowChanges { input, .. }
         | Job::Scan { input }
@@ -364,12 +387,15 @@ pub fn reads_packed(job: &Job) -> bool
 impl<T: Sink + Drop> Observer for Hints<T> {
     ghost told = { λ h. T.taken h.sink };
 
-    ghost is_silent = { λ h. not h.terminals.errors };
+    ghost is_silent = { λ h. not (h.terminals.errors || h.names_file) };
 
     fn begins(&mut self, job: &Job)
-        ensures silent { IsTrue (not self.old.terminals.errors)
+        ensures silent { IsTrue (not (self.old.terminals.errors || self.old.names_file))
             → T.taken self.new.sink ≡ T.taken self.old.sink }
-        ensures same { not self.new.terminals.errors ≡ not self.old.terminals.errors }
+        ensures same { not (self.new.terminals.errors || self.new.names_file)
+            ≡ not (self.old.terminals.errors || self.old.names_file) }
+        ensures no_terminal { IsFalse self.old.terminals.errors
+            → T.taken self.new.sink ≡ T.taken self.old.sink }
         ensures told { IsTrue self.old.terminals.errors → T.failed self.new.sink ≡ 0
             → Grew (T.taken self.old.sink) (T.taken self.new.sink)
             (greeting self.old.terminals job.now) }
@@ -382,7 +408,8 @@ impl<T: Sink + Drop> Observer for Hints<T> {
 
     fn refused(&mut self, error: RunError)
         ensures told { T.taken self.new.sink ≡ T.taken self.old.sink }
-        ensures same { not self.new.terminals.errors ≡ not self.old.terminals.errors }
+        ensures same { not (self.new.terminals.errors || self.new.names_file)
+            ≡ not (self.old.terminals.errors || self.old.names_file) }
         ensures refusal { self.new.refusal ≡ Some error }
     {
         self.refusal = Some(error);

@@ -1,5 +1,5 @@
-//! What whoever sits at a terminal is told: what the program waits for, how far it has read a file,
-//! what a refusal means and what to do.
+//! What a person is told: what the program waits for, how far it has read a file, what a refusal
+//! means and what to do.
 #![tactic(auto)]
 
 /// What is written where a line of progress may stand.
@@ -12,6 +12,8 @@ mod looks;
 mod progress;
 /// What has to be known of the input.
 mod watched;
+/// Whether samples look like those of another form.
+mod widths;
 
 pub use clearing::Clearing;
 pub use hints::{Hints, Terminals, reads_packed, writes_packed};

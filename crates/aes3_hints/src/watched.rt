@@ -7,15 +7,20 @@ use aes3_cell::{Fault, Source};
 use std::alloc::Global;
 
 /// How many of the first bytes are kept.
+pub(crate) const HEAD_LEN: usize = 65_536;
+
+/// How many of them tell a kind of file.
 const FIRST_LEN: usize = 64;
 
-/// A source that keeps what a person at a terminal has to be told of its bytes. Where nobody is
-/// there it keeps nothing.
+/// A source that keeps what a person has to be told of its bytes. Where nobody is told it keeps
+/// nothing.
 #[derive(Drop)]
 pub struct Watched<S: Drop> {
     source: S,
     is_on: bool,
-    first: Vec<u8>,
+    /// Whether it keeps where a byte stands in a text too, which takes a look at each.
+    has_places: bool,
+    head: Vec<u8>,
     /// The last bytes that the source gave.
     piece: Vec<u8>,
     /// How many bytes it gave before these, and where the first of these stands.
@@ -64,24 +69,31 @@ impl Position {
 }
 
 impl<S: Source + Drop> Watched<S> {
-    /// Watches this source where it `is_on`.
-    pub fn new(alloc: Global, source: S, is_on: bool) -> Self
+    /// Watches this source where it `is_on`, and keeps where its bytes stand if it `has_places`.
+    pub fn new(alloc: Global, source: S, is_on: bool, has_places: bool) -> Self
         ensures source { result.source ≡ source }
         ensures on { result.is_on ≡ is_on }
+        ensures places { result.has_places ≡ has_places }
     {
         Watched {
             source,
             is_on,
-            first: Vec::new(alloc),
+            has_places,
+            head: Vec::new(alloc),
             piece: Vec::new(alloc),
             before: 0,
             start: Position::FIRST,
         }
     }
 
-    /// The first bytes.
+    /// The first bytes, up to [`HEAD_LEN`].
+    pub(crate) fn head(&self) -> &[u8] {
+        &self.head
+    }
+
+    /// Those of them that tell what kind of file it is.
     pub(crate) fn first(&self) -> &[u8] {
-        &self.first
+        &self.head[..self.head.len().min(FIRST_LEN)]
     }
 
     /// Where the byte of this number stands in the text, if it was among the last that were given.
@@ -105,8 +117,15 @@ impl<S: Source + Drop> Watched<S> {
         self.start = self.start.behind_all(&self.piece);
         self.piece.clear();
         let _ = self.piece.extend_from_slice(bytes);
-        let more = bytes.len().min(FIRST_LEN.saturating_sub(self.first.len()));
-        let _ = self.first.extend_from_slice(&bytes[..more]);
+    }
+
+    /// Keeps the bytes that were given if they are among the first. Where memory for them is refused it
+    /// keeps none.
+    fn keep_first(&mut self, bytes: &[u8])
+        ensures source { self.new.source ≡ self.old.source }
+    {
+        let more = bytes.len().min(HEAD_LEN.saturating_sub(self.head.len()));
+        let _ = self.head.extend_from_slice(&bytes[..more]);
     }
 }
 
@@ -122,7 +141,10 @@ impl<S: Source + Drop> Source for Watched<S> {
         if let Ok(n) = answer
             && self.is_on
         {
-            self.keep(&buf[..n]);
+            self.keep_first(&buf[..n]);
+            if self.has_places {
+                self.keep(&buf[..n]);
+            }
         }
         answer
     }

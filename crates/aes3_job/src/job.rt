@@ -3,7 +3,7 @@
 use aes3_cell::Form;
 use aes3_frame::{Channel, Fill};
 use aes3_pcm::SampleFormat;
-use aes3_settings::{Detail, Lines, Style};
+use aes3_settings::{Detail, Lines, Notation, Style};
 use aes3_status::{CarriedBits, Change};
 use aes3_words::Words;
 
@@ -46,6 +46,11 @@ pub enum Job {
         input: Form,
         style: Style,
         every: u64,
+    },
+    /// One page about a recording, in this notation.
+    Info {
+        input: Form,
+        notation: Notation,
     },
     /// Two lines of channel status for each block, with this behind them.
     Show {

@@ -35,6 +35,11 @@ fn put_professional_names(text: &mut Tail, status: &Pro)
     requires { length text.old + 3 * FIELD_LEN ≤ TAIL_LEN }
     ensures { text.new ≡ names_in professional_fields status.now ++ text.old }
 {
+    put_name(
+        text,
+        Field::Professional(ProField::Frequency),
+        status.frequency(),
+    );
     put_name(text, Field::Professional(ProField::Mode), status.mode());
 }
 

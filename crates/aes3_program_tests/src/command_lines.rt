@@ -8,6 +8,7 @@ use aes3_job::Job;
 use aes3_lines::{Detail, Lines, Notation, Style};
 use aes3_pcm::SampleFormat;
 use aes3_status::CarriedBits;
+use aes3_words::Words;
 use std::alloc::Global;
 
 const TEXT: Form = Form::Text;
@@ -63,6 +64,35 @@ const REWRITE: Job = Job::Rewrite {
     exact: false,
 };
 
+/// The usual status for professional use, and that of samples of which nothing is known.
+const PROFESSIONAL: [u8; 24] = [
+    0x05, 0x08, 0x2C, 0, 0, 0, 0, 0, 0, 0, 0, 0, 0, 0, 0, 0, 0, 0, 0, 0, 0, 0, 0, 0,
+];
+
+const UNKNOWN: [u8; 24] = [
+    0x04, 0, 0, 0x01, 0x01, 0, 0, 0, 0, 0, 0, 0, 0, 0, 0, 0, 0, 0, 0, 0, 0, 0, 0, 0,
+];
+
+/// Samples whose channels have these statuses.
+fn samples(status1: [u8; 24], status2: [u8; 24], mend: bool) -> Job {
+    Job::FromPcm {
+        format: SampleFormat::S32,
+        exact: false,
+        change: Change {
+            status1: Some(status1),
+            status2: Some(status2),
+            settings1: None,
+            settings2: None,
+            validity1: None,
+            validity2: None,
+            clear_user1: false,
+            clear_user2: false,
+            mend,
+        },
+        words: Words::Own,
+    }
+}
+
 const WATCH_SUMS: Job = Job::WatchSums {
     input: TEXT,
     style: Style {
@@ -70,6 +100,11 @@ const WATCH_SUMS: Job = Job::WatchSums {
         rate: Some(48_000),
     },
     every: 12_288_000,
+};
+
+const INFO: Job = Job::Info {
+    input: TEXT,
+    notation: Notation::Json,
 };
 
 const VALID: Job = Job::Rewrite {
@@ -137,6 +172,13 @@ fn is_each_asked_for(alloc: Global) -> bool {
             &["watch", "--every-seconds", "2", "--rate", "48000"],
             WATCH_SUMS,
         )
+        && asks_for(alloc, &["from-pcm"], samples(UNKNOWN, UNKNOWN, false))
+        && asks_for(
+            alloc,
+            &["from-pcm", "--preset=professional", "--status1", STATUS],
+            samples(STATUS_BYTES, PROFESSIONAL, true),
+        )
+        && asks_for(alloc, &["info", "--json"], INFO)
         && asks_for(alloc, &["show", "--at", "--more"], SHOW)
         && asks_for(
             alloc,
@@ -163,6 +205,17 @@ const NO_JOBS: &[(&[&str], Told)] = &[
     (
         &["rewrite", "--status1", "0"],
         Told::Refused(RunError::BadStatusText),
+    ),
+    (&["from-pcm", "--preset", "studio"], Told::Usage),
+    (&["from-pcm", "--rate", "47999"], Told::Usage),
+    (&["rewrite", "--set", "rate=47999"], Told::Usage),
+    (
+        &["from-pcm", "--rate", "48k", "--set", "word=24"],
+        Told::Job,
+    ),
+    (
+        &["from-pcm", "--exact", "--set2", "origin=BBC"],
+        Told::Refused(RunError::Inexact { at: 0 }),
     ),
 ];
 

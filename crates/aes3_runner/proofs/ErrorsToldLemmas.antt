@@ -13,7 +13,7 @@ use Rattle.aes3_hints.specs.Sentences.{reads_packed, writes_packed}
 use Rattle.aes3_job.specs.declared.job.Job.{Job}
 use Rattle.aes3_job.specs.declared.job.Job.TheVariants.{Encode, Decode, Normal, Check, Account, Watch, WatchSums}
 use Rattle.aes3_job.specs.declared.job.Job.TheVariants.{Show, ShowChanges, Scan, Cut, Rewrite, ToPcm, FromPcm, ToBits}
-use Rattle.aes3_job.specs.declared.job.Job.TheVariants.{ToExactPcm, ToFilledPcm}
+use Rattle.aes3_job.specs.declared.job.Job.TheVariants.{Info, ToExactPcm, ToFilledPcm}
 use Rattle.aes3_runner.specs.declared.outcome.Outcome.{Outcome}
 use Rattle.aes3_runner.specs.declared.outcome.Remark.{Remark}
 use Rattle.aes3_runner.specs.declared.outcome.Remark.TheVariants.{Nothing, Filled, LeftOut, Settings, Inexact}
@@ -47,6 +47,7 @@ few (Check i l) n = few-of (n.faults == 0)
 few (Account i l) n = few-of (n.faults == 0)
 few (Watch i l) n = few-of (n.faults == 0)
 few (WatchSums i l e) n = few-of (n.faults == 0)
+few (Info i t) n = few-of (n.faults == 0)
 few (Show i d) n = omega arith
 few (ShowChanges i d) n = omega arith
 few (Scan i) n = omega arith
@@ -96,6 +97,7 @@ of-job-remark typed (Check i l) b n h s = line-of typed h.2 refl
 of-job-remark typed (Account i l) b n h s = line-of typed h.2 refl
 of-job-remark typed (Watch i l) b n h s = line-of typed h.2 refl
 of-job-remark typed (WatchSums i l e) b n h s = line-of typed h.2 refl
+of-job-remark typed (Info i t) b n h s = line-of typed h.2 refl
 of-job-remark typed (Show i d) b n h s = line-of typed h.2 refl
 of-job-remark typed (ShowChanges i d) b n h s = line-of typed h.2 refl
 of-job-remark typed (Scan i) b n h s = line-of typed h.2 refl

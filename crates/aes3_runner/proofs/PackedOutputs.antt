@@ -26,7 +26,7 @@ use Rattle.aes3_hints.specs.Sentences.{is_packed, writes_packed}
 use Rattle.aes3_job.specs.declared.job.Job.{Job}
 use Rattle.aes3_job.specs.declared.job.Job.TheVariants.{Encode, Decode, Normal, Check, Account, Watch, WatchSums}
 use Rattle.aes3_job.specs.declared.job.Job.TheVariants.{Show, ShowChanges, Scan, Cut, Rewrite, ToPcm, FromPcm, ToBits}
-use Rattle.aes3_job.specs.declared.job.Job.TheVariants.{ToExactPcm, ToFilledPcm}
+use Rattle.aes3_job.specs.declared.job.Job.TheVariants.{Info, ToExactPcm, ToFilledPcm}
 use Rattle.aes3_runner.specs.JobRuns.{promise_of}
 use Rattle.aes3_runner.specs.OctetRuns.{PackBoth}
 
@@ -57,6 +57,7 @@ can-be-turned (Check i told) h b = absurd cc
 can-be-turned (Account i told) h b = absurd cc
 can-be-turned (Watch i style) h b = absurd cc
 can-be-turned (WatchSums i style every) h b = absurd cc
+can-be-turned (Info i notation) h b = absurd cc
 can-be-turned (Show i detail) h b = absurd cc
 can-be-turned (ShowChanges i detail) h b = absurd cc
 can-be-turned (Scan i) h b = absurd cc

@@ -33,11 +33,12 @@ use Rattle.aes3_reports.specs.Lines.{report_lines}
 use Rattle.aes3_reports.specs.Scanning.{scan_counts}
 use Rattle.aes3_account.specs.Sums.{begun_sums, sum_lines}
 use Rattle.aes3_account.specs.Watching.{begun_watch, watch_counts, watch_lines}
+use Rattle.aes3_info.specs.Infos.{info_counts, info_page, no_page}
 use Rattle.aes3_settings.specs.declared.typed.TypedSettings.{TypedSettings}
 use Rattle.aes3_job.specs.declared.job.Job.{Job}
 use Rattle.aes3_job.specs.declared.job.Job.TheVariants.{Encode, Decode, Normal, Check, Account, Watch, WatchSums}
 use Rattle.aes3_job.specs.declared.job.Job.TheVariants.{Show, ShowChanges, Scan, Cut, Rewrite, ToPcm, FromPcm, ToBits}
-use Rattle.aes3_job.specs.declared.job.Job.TheVariants.{ToExactPcm, ToFilledPcm}
+use Rattle.aes3_job.specs.declared.job.Job.TheVariants.{Info, ToExactPcm, ToFilledPcm}
 use Rattle.aes3_runner.specs.declared.outcome.Outcome.{Outcome}
 use Rattle.aes3_runner.specs.Lines.{refusal_line, remark_line}
 use Rattle.aes3_runner.specs.declared.outcome.Remark.{Remark}
@@ -78,6 +79,7 @@ promise_of (Account i lines) =
 promise_of (Watch i style) = plain_cells i (watch_lines style) (begun_watch style) (watch_counts i)
 promise_of (WatchSums i style every) =
     plain_cells i (sum_lines style (period every)) (begun_sums style (period every)) (watch_counts i)
+promise_of (Info i notation) = plain_cells i (info_page notation) no_page (info_counts i)
 promise_of (Show i detail) =
     plain_cells i (λ c. detail_lines detail (reports c)) (λ c. detail_lines detail (decided c)) (counts_of i)
 promise_of (ShowChanges i detail) =
@@ -115,7 +117,8 @@ promise_of (ToBits i bits channel) =
 abbrev pub RunRan : Job → Bool → Movement → Movement → Result Outcome RunError → Type 0
 RunRan job = InputRun (promise_of job) most
 
--- its exit status where it is not refused: 1 where `check` finds faults, with gaps or without, or `watch` does, else 0
+-- its exit status where it is not refused: 1 where `check` finds faults, with gaps or without, or `watch` or `info` does, else
+-- 0
 abbrev pub status_by : Job → Counts → ℕ
 status_by (Encode o words) n = 0
 status_by (Decode i words) n = 0
@@ -124,6 +127,7 @@ status_by (Check i lines) n = if n.faults == 0 then 0 else 1
 status_by (Account i lines) n = if n.faults == 0 then 0 else 1
 status_by (Watch i style) n = if n.faults == 0 then 0 else 1
 status_by (WatchSums i style every) n = if n.faults == 0 then 0 else 1
+status_by (Info i notation) n = if n.faults == 0 then 0 else 1
 status_by (Show i detail) n = 0
 status_by (ShowChanges i detail) n = 0
 status_by (Scan i) n = 0

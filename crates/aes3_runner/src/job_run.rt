@@ -12,6 +12,7 @@ use aes3_engine::{
     cut, decode_words, encode_words, from_pcm_words, normalise, rewrite, rewrite_exactly, to_bits,
     to_exact_pcm, to_filled_pcm, to_pcm, to_valid_pcm,
 };
+use aes3_info::info;
 use aes3_job::Job;
 use aes3_pcm::SampleFormat;
 use aes3_status::Change;
@@ -23,7 +24,7 @@ const MAX_BYTES: u64 = 1 << 40;
 /// The exit status of a run that was not refused.
 pub const DONE: u8 = 0;
 
-/// The exit status of `check` and `watch` where they found faults.
+/// The exit status of `check`, `watch` and `info` where they found faults.
 pub const FAULTY: u8 = 1;
 
 /// The exit status of a job that ended well.
@@ -35,6 +36,7 @@ pub(crate) fn exit_status(job: &Job, counts: &Counts) -> u8
         Job::Account { .. } if counts.faults > 0 => FAULTY,
         Job::Watch { .. } if counts.faults > 0 => FAULTY,
         Job::WatchSums { .. } if counts.faults > 0 => FAULTY,
+        Job::Info { .. } if counts.faults > 0 => FAULTY,
         _ => DONE,
     }
 }
@@ -127,6 +129,7 @@ pub fn run_job<S: Source, T: Sink>(
             style,
             every,
         } => plain(watch_sums(source, sink, MAX_BYTES, input, style, period(every))),
+        Job::Info { input, notation } => plain(info(source, sink, MAX_BYTES, input, notation)),
         Job::Show { input, detail } => plain(show_detail(source, sink, MAX_BYTES, input, detail)),
         Job::ShowChanges { input, detail } => plain(show_changes(
             source, sink, MAX_BYTES, input, detail,

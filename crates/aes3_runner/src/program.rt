@@ -1,6 +1,6 @@
 //! A whole command line, and what whoever sits at a terminal is told behind it.
 
-ghost use Rattle.std.specs.Prelude.{◌≡◌, ◌<◌, ◌≤◌, ◌+◌, ◌^◌, IfOk, IfErr, None, IsFalse};
+ghost use Rattle.std.specs.Prelude.{◌≡◌, ◌<◌, ◌≤◌, ◌+◌, ◌^◌, ◌||◌, IfOk, IfErr, None, IsFalse};
 ghost use Rattle.aes3_input.specs.Running.{movement_of};
 ghost use Rattle.aes3_runner.specs.StandardErrors.{ErrorsTold};
 ghost use Rattle.aes3_runner.specs.WordRuns.{LineRan};
@@ -26,9 +26,9 @@ pub fn file_of_line<'a>(line: &Result<CommandLine<'a>, LineFault>) -> Option<&'a
 /// Runs a line, as [`run_line`] does, takes away what was told of its progress, and has the hints
 /// say in a sentence what was refused of these words or of their input.
 ///
-/// Where standard error is no terminal, so that the hints write nothing, all that it gets is what
-/// `errors` get: nothing at status 0 and 1, why the words are no command at 2, the line of the
-/// refusal at 3.
+/// Where standard error is no terminal and the words name no file, so that the hints write nothing, all
+/// that it gets is what `errors` get: nothing at status 0 and 1, why the words are no command at 2, the
+/// line of the refusal at 3.
 #[tactic(auto, using(crate::proofs::ErrorsToldLemmas::errors_told))]
 pub fn run_and_explain<
     'a,
@@ -56,7 +56,7 @@ pub fn run_and_explain<
         (movement_of E.taken E.failed errors.old errors.new) result.status }
     ensures told { ErrorsTold line.entry
         (movement_of E.taken E.failed errors.old errors.new) result.status }
-    ensures silent { IsFalse hints.old.terminals.errors
+    ensures silent { IsFalse (hints.old.terminals.errors || hints.old.names_file)
         → H.taken hints.new.sink ≡ H.taken hints.old.sink }
     ensures errors { E.failed errors.new ≤ E.failed errors.old + 1 }
     ensures left { E.passed errors.old ≡ E.taken errors.old

@@ -15,6 +15,7 @@ use crate::help::{ABOUT, MORE, USAGE, VERSION};
 use crate::named::{NAMED, NamedError};
 use crate::value::{every_of_text, spot_of_text};
 use aes3_cell::Form;
+use aes3_commands::wording::{add_usage, own_text};
 use aes3_spoil::Errors;
 use clap::error::ErrorKind;
 use clap::{ArgMatches, Command, Error};
@@ -96,7 +97,7 @@ pub fn job_of_words<'a>(alloc: Global, words: &'a [&'a str]) -> Result<Job<'a>, 
     }
 }
 
-/// What `clap` tells of words that are no command line.
+/// What is told of words that are no command line, which `clap` told so.
 fn fault_of(alloc: Global, error: &Error) -> LineFault {
     let Ok(text) = error.to_string(alloc) else {
         return LineFault::Memory;
@@ -104,7 +105,10 @@ fn fault_of(alloc: Global, error: &Error) -> LineFault {
     match error.kind() {
         ErrorKind::OutOfMemory => LineFault::Memory,
         ErrorKind::DisplayHelp | ErrorKind::DisplayVersion => LineFault::Help { text },
-        _ => LineFault::Usage { text },
+        _ => match own_text(alloc, &text, USAGE) {
+            Ok(text) => LineFault::Usage { text },
+            Err(_) => LineFault::Memory,
+        },
     }
 }
 
@@ -251,9 +255,7 @@ fn wrong_text(alloc: Global, wrong: Wrong<'_>) -> Result<String, AllocError> {
             "error: more than 64 errors, of which --check-byte is two: run aes3-spoil twice, or use --every",
         )?,
     };
-    text.push_str("\n\nUsage: ")?;
-    text.push_str(USAGE)?;
-    text.push_str("\n\nFor more information, try '--help'.\n")?;
+    add_usage(&mut text, USAGE)?;
     Ok(text)
 }
 

@@ -7,6 +7,8 @@ mod argument;
 mod help;
 /// What the words of a command line ask for.
 mod line;
+/// What to do with an input that was refused.
+mod looks;
 /// Errors by the options that ask for them.
 mod named;
 /// A job between its streams, and the line of a refusal.
@@ -17,13 +19,14 @@ mod value;
 ghost use Rattle.std.specs.Prelude.{◌≡◌, ◌<◌, ◌+◌, ◌^◌, IfErr};
 
 use aes3_cell::{BufferedSink, RunError, Sink, StdSink, StdSource, write_all};
-use aes3_files::Input;
-use line::{LineFault, job_of_words};
+use aes3_files::{Input, Preview};
+use line::{Job, LineFault, job_of_words};
+use looks::{FIRST_LEN, advice_by_looks};
 use run::{DONE, REFUSED, USAGE, refuse, run_job, tell};
 use std::alloc::AllocError;
 use std::cell::Cell;
 use std::env;
-use std::io::ErrorKind;
+use std::io::{ErrorKind, IsTerminal, Read};
 use std::process::ExitCode;
 
 /// What is told of words that are not UTF-8.
@@ -61,16 +64,35 @@ fn run_program<E: Sink>(rt: &HostRuntime, told: &mut E) -> Result<u8, AllocError
     match job_of_words(rt.alloc(), &words) {
         Ok(job) => {
             let trouble = Cell::new(None);
-            let mut source = StdSource::new(Input::new(rt, job.file, &trouble));
+            let mut input = Preview::new(rt.alloc(), Input::new(rt, job.file, &trouble));
+            let advice = advice_on(rt, &job, &mut input)?;
+            let mut source = StdSource::new(input);
             let status = run_job(rt.alloc(), &job, &mut source, &mut sink, told);
             if let (Some(name), Some(error)) = (job.file, trouble.get()) {
                 eprintln!(rt; "aes3-spoil: {name}: {error}").unwrap_or(());
+            }
+            if let (REFUSED, Some(advice)) = (status, advice) {
+                eprintln!(rt; "aes3-spoil: {advice}").unwrap_or(());
             }
             Ok(status)
         }
         Err(LineFault::Usage { text }) => Ok(tell(told, text.as_str(), USAGE)),
         Err(LineFault::Help { text }) => Ok(tell_help(rt, text.as_str(), &mut sink, told)),
         Err(LineFault::Memory) => Err(AllocError),
+    }
+}
+
+/// What to do with the input of this job if it is refused, where a file is named or standard error is a
+/// terminal. Of another input nothing is read ahead.
+fn advice_on<R: Read + Drop>(
+    rt: &HostRuntime,
+    job: &Job<'_>,
+    input: &mut Preview<R>,
+) -> Result<Option<&'static str>, AllocError> {
+    if job.file.is_some() || rt.stderr().is_terminal() {
+        Ok(advice_by_looks(job.input, input.first(FIRST_LEN)?))
+    } else {
+        Ok(None)
     }
 }
 

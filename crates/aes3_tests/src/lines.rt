@@ -351,7 +351,7 @@ fn fields_set_by_name(rt: HostRuntime) {
     let mut consumer = [0; 24];
     set_fields(&mut professional, &settings);
     set_fields(&mut consumer, &settings);
-    let is_unknown = professional_setting("rate=96000").is_none();
+    let is_unknown = professional_setting("rate=768000").is_none();
     assert!(rt; (professional[0], consumer[3], is_unknown) == (0xC1, 0x03, true));
     let origin = [
         professional[6],

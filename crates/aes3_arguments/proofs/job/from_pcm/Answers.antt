@@ -1,11 +1,10 @@
-use Rattle.std.proofs.Common.{inr, refl}
+use Rattle.std.proofs.Common.{inl, inr, refl}
+use Rattle.std.proofs.lemmas.Result.{IfErr-weaker}
 use Rattle.aes3_arguments.proofs.job.from_pcm.Goals as goal
 
-pub flag-requires : goal.flag-requires
-flag-requires c = c.requires.exact
-
-pub returns-in-Ok-clause-job : goal.returns-in-Ok-clause-job
-returns-in-Ok-clause-job c = (refl, c.format.ensures, c.flag.ensures, c.in-Ok.ensures.change, c.words.ensures)
+pub returns-in-Ok-clause-fault : goal.returns-in-Ok-clause-fault
+returns-in-Ok-clause-fault c =
+    IfErr-weaker c.sampling.result _ _ (λ told inexact. inr (refl, inr inexact)) c.sampling.ensures.fault
 
 pub returns-in-Err-clause-fault : goal.returns-in-Err-clause-fault
-returns-in-Err-clause-fault c = inr (refl, c.in-Err.ensures.fault)
+returns-in-Err-clause-fault c = inr (refl, inl c.in-Err.ensures.fault)

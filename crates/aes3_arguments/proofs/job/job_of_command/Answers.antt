@@ -38,6 +38,13 @@ pub returns-in-watch-clause-job : goal.returns-in-watch-clause-job
 returns-in-watch-clause-job c
     = subst (λ n. AsksFor n (options_of c.args.options.now) c.watch.result) (sym c.in-watch.is) c.watch.ensures
 
+pub notation-requires : goal.notation-requires
+notation-requires c =
+    (options_taken c.requires.stands.0 c.args.name.now (options_of c.args.options.now) c.requires.stands.1).json
+
+pub returns-in-info-clause-job : goal.returns-in-info-clause-job
+returns-in-info-clause-job c = (c.in-info.is, c.input_form-input.ensures, c.notation.ensures)
+
 pub show-requires-clause-taken : goal.show-requires-clause-taken
 show-requires-clause-taken c =
     options_taken c.requires.stands.0 c.args.name.now (options_of c.args.options.now) c.requires.stands.1

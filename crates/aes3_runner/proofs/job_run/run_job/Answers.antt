@@ -22,6 +22,9 @@ returns-in-Account-clause-ran g c = run-of c.in-Account.is (told-ran of_counts c
 pub returns-in-Watch-clause-ran : goal.returns-in-Watch-clause-ran
 returns-in-Watch-clause-ran g c = run-of c.in-Watch.is (told-ran of_counts c.plain-in-Watch.ensures c.watch.ensures.run)
 
+pub returns-in-Info-clause-ran : goal.returns-in-Info-clause-ran
+returns-in-Info-clause-ran g c = run-of c.in-Info.is (told-ran of_counts c.plain-in-Info.ensures c.info.ensures.run)
+
 pub returns-in-Show-clause-ran : goal.returns-in-Show-clause-ran
 returns-in-Show-clause-ran g c = run-of c.in-Show.is (told-ran of_counts c.plain-in-Show.ensures c.show_detail.ensures.run)
 
