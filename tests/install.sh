@@ -2,7 +2,8 @@
 # tests/install.sh: installs what is built in a scratch folder (bin/install --as-built), and there: the program and the header
 # tell one version; the shared library has its soname and shows the calls of the header and no other name; a program in C
 # is built over it by pkg-config and by CMake, and tells of a damaged line what the installed program tells; a struct of another
-# size than the library's is refused by C11 and C++11; a prefix below DESTDIR is told without it, and libraries in another folder are found.
+# size than the library's is refused by C11 and C++11; a prefix below DESTDIR is told without it, and libraries in another folder are found;
+# the loader takes the library for x86-64-v3 on such a processor.
 #
 # The last line is `N passed, M failed`, and the status 0 where none failed.
 
@@ -18,9 +19,12 @@ judge_not() {
     if "$@" >"$work/said.last" 2>&1; then judge "$what" false; else judge "$what" true; fi
 }
 lacks() { ! command -v "$1" >/dev/null; }
+# The processors that the programs here are built for.
+cpu=$(cat "$root/crates/aes3/out/cpu" 2>/dev/null || echo x86-64-v2)
+if [ "$cpu" = x86-64-v2 ]; then other=x86-64-v3; else other=x86-64-v2; fi
 
 to=$work/to
-judge "bin/install" "$root/bin/install" --as-built "$to"
+judge "bin/install" "$root/bin/install" --as-built --cpu "$cpu" "$to"
 cp "$work/said" "$work/files"
 grep '^left out: ' "$work/files"
 while IFS= read -r file; do
@@ -28,14 +32,18 @@ while IFS= read -r file; do
 done <"$work/files"
 version=$("$to/bin/aes3" --version | cut -d' ' -f2)
 
+judge_not "programs for other processors than are asked for" "$root/bin/install" --as-built --cpu "$other" "$work/none"
+judge "it says so" grep -q "^install: aes3 is built for $cpu: bin/build --cpu $other aes3$" "$work/said.last"
+judge "nothing is installed" test ! -e "$work/none"
+
 # What was there before stays, and with it what is changed afterwards; all else of it goes.
 old="$work/an old place"
 mkdir -p "$old/share/man/man1" "$old/lib"
 echo other >"$old/share/man/man1/other.1"
 echo other >"$old/lib/libaes3.a"
 (cd "$old" && find . | sort) >"$work/before"
-judge "over what is there" "$root/bin/install" --as-built "$old"
-judge "once more" "$root/bin/install" --as-built "$old"
+judge "over what is there" "$root/bin/install" --as-built --cpu "$cpu" "$old"
+judge "once more" "$root/bin/install" --as-built --cpu "$cpu" "$old"
 echo changed >>"$old/share/man/man1/aes3.1"
 rm "$old/lib/libaes3.so" "$old/lib/libaes3_c.a"
 ln -s elsewhere "$old/lib/libaes3_c.a"
@@ -49,21 +57,22 @@ judge "what was there before is there" cmp "$work/before" "$work/after"
 judge_not "nothing is installed any more" "$root/bin/install" --uninstall "$old"
 judge "it says so" grep -q "^install: nothing is installed below $old: " "$work/said.last"
 new="$work/a new place"
-judge "below a new folder, with LIBDIR" env LIBDIR="lib/some where" "$root/bin/install" --as-built "$new"
+judge "below a new folder, with LIBDIR" env LIBDIR="lib/some where" "$root/bin/install" --as-built --cpu "$cpu" "$new"
 judge "the library there" test -e "$new/lib/some where/libaes3.a"
 judge "removed again" "$root/bin/install" --uninstall "$new"
 judge "the folder too" test ! -e "$new"
 mkdir "$work/here"
-judge "a name beside" sh -c 'cd "$1" && "$0" --as-built place && cd place && "$0" --uninstall "$PWD" && [ ! -e "$PWD" ]' "$root/bin/install" "$work/here"
-for words in --no-such-word "--as-built --uninstall" "--uninstall one two"; do
+judge "a name beside" sh -c 'cd "$1" && "$0" --as-built --cpu "$2" place && cd place && "$0" --uninstall "$PWD" && [ ! -e "$PWD" ]' \
+    "$root/bin/install" "$work/here" "$cpu"
+for words in --no-such-word "--as-built --uninstall" "--uninstall one two" --cpu "--cpu x86-64-v4"; do
     # shellcheck disable=SC2086 # they are words
     judge "$words" sh -c '"$0" "$@" 2>&1 | grep -q "^usage: bin/install "' "$root/bin/install" $words
 done
 judge "no folder of such a name" test ! -e ./--no-such-word
 
-judge "a prefix below DESTDIR" env DESTDIR="$work/tree" "$root/bin/install" --as-built /opt/aes3
+judge "a prefix below DESTDIR" env DESTDIR="$work/tree" "$root/bin/install" --as-built --cpu "$cpu" /opt/aes3
 judge "the prefix in aes3.pc" grep -qx 'prefix=/opt/aes3' "$work/tree/opt/aes3/lib/pkgconfig/aes3.pc"
-judge "LIBDIR" env LIBDIR=lib/some/where "$root/bin/install" --as-built "$work/other"
+judge "LIBDIR" env LIBDIR=lib/some/where "$root/bin/install" --as-built --cpu "$cpu" "$work/other"
 judge "the folder in aes3.pc" grep -qx 'libdir=${prefix}/lib/some/where' "$work/other/lib/some/where/pkgconfig/aes3.pc"
 
 cat >"$work/version.c" <<'C'
@@ -134,6 +143,25 @@ if [ -e "$to/lib/libaes3.so.1" ]; then
         cc -o "$work/check" "$root/examples/c/check.c" $(pkg-config --cflags --libs aes3)
         judge "a program by pkg-config" tells "$work/check"
         judge "it wants the shared library" sh -c "readelf -d '$work/check' | grep -q 'libaes3.so.1'"
+    fi
+    # The loader takes the library for the processor at hand; with a mask of x86-64-v2, or on such a processor, the other.
+    newer=$to/lib/glibc-hwcaps/x86-64-v3/libaes3.so.1
+    loader=$(readelf -l "$work/version" 2>/dev/null | sed -n 's/.*interpreter: \(.*\)]$/\1/p')
+    loaded() { LD_DEBUG=libs "$@" 2>&1 >/dev/null <"$work/line.txt" | sed -n 's/.*calling init: \(.*libaes3\.so\.1\)$/\1/p'; }
+    if [ ! -e "$newer" ]; then
+        echo "left out: the library for x86-64-v3 (it is not installed beside the other)"
+    elif ! "$loader" --help 2>/dev/null | grep -q -e --glibc-hwcaps-mask; then
+        echo "left out: the library for x86-64-v3 (this loader is not that of glibc 2.33 or later)"
+    else
+        cc -o "$work/beside" "$root/examples/c/check.c" -I"$to/include" -L"$to/lib" -laes3
+        if "$loader" --help | grep -q 'x86-64-v3 (supported'; then wanted=$newer; else wanted=$to/lib/libaes3.so.1; fi
+        judge "the loader takes $wanted" test "$(loaded "$work/beside")" = "$wanted"
+        judge "a program over it" tells "$work/beside"
+        judge "with a mask it takes the other" test "$(loaded "$loader" --glibc-hwcaps-mask x86-64-v2 "$work/beside")" = "$to/lib/libaes3.so.1"
+        judge "a program over the other" tells "$loader" --glibc-hwcaps-mask x86-64-v2 "$work/beside"
+        judge "the one for x86-64-v3 has its instructions" sh -c 'objdump -d "$1" | grep -q "%ymm"' - "$newer"
+        judge "the other has none of them" sh -c '! objdump -d "$1" | grep -q "%ymm"' - "$to/lib/libaes3.so.1"
+        judge "both show the same names" sh -c 'nm -D --defined-only "$1" | cut -d" " -f3 >one && nm -D --defined-only "$2" | cut -d" " -f3 | cmp - one' - "$newer" "$to/lib/libaes3.so.1"
     fi
     if lacks cmake; then
         echo "left out: a program by CMake (it is not installed)"

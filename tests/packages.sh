@@ -26,11 +26,27 @@ for tool in dpkg-deb cc python3 pandoc; do
     fi
 done
 mkdir "$work/debs"
-judge "bin/package" "$root/bin/package" --as-built "$work/debs"
-for package in aes3 libaes3-1 libaes3-dev python3-aes3; do
+# Packages of programs that are built for x86-64-v3 are called so.
+cpu=$(cat "$root/crates/aes3/out/cpu" 2>/dev/null || echo x86-64-v2)
+only=''
+[ "$cpu" = x86-64-v2 ] || only=-$cpu
+judge "bin/package" "$root/bin/package" --as-built --cpu "$cpu" "$work/debs"
+packages="aes3$only libaes3-1$only libaes3-dev$only python3-aes3"
+for package in $packages; do
     judge "the package $package" test -e "$work"/debs/${package}_*.deb
 done
-if lacks lintian; then
+judge "and no other" test "$(find "$work/debs" -name '*.deb' | wc -l)" = 4
+if [ -n "$only" ]; then
+    judge "aes3$only looks at the processor first" sh -c 'dpkg-deb --ctrl-tarfile "$1" | tar -xO ./preinst | grep -q "for feature in .* avx2 .* bmi2 "' - "$work"/debs/aes3${only}_*.deb
+    judge "it takes the place of aes3" sh -c 'dpkg-deb -f "$1" Conflicts Replaces Provides | grep -c "aes3" | grep -qx 3' - "$work"/debs/aes3${only}_*.deb
+elif [ -e "$root/crates/aes3_c/out/x86-64-v3/libaes3_c.a" ]; then
+    judge "the library for x86-64-v3" sh -c 'dpkg-deb -c "$1" | grep -q "/glibc-hwcaps/x86-64-v3/libaes3.so.1$"' - "$work"/debs/libaes3-1_*.deb
+else
+    echo "left out: the library for x86-64-v3 in the packages (it is not built: bin/library-for x86-64-v3)"
+fi
+if [ -n "$only" ]; then
+    echo "left out: lintian (it knows no packages for some processors alone)"
+elif lacks lintian; then
     echo "left out: lintian (it is not installed)"
 else
     judge "lintian" lintian --fail-on error,warning "$work"/debs/*.deb
@@ -114,6 +130,9 @@ tells() { inside "{ $1 <line.txt || [ \$? = 1 ]; } >got && cmp got want"; }
 tells_packed() { inside "$1 <line.packed >got && cmp got want.packed"; }
 judge "a program in C" inside 'cc -o check src/check.c $(pkg-config --cflags --libs aes3)'
 judge "a program in C, run" tells ./check
+if [ -z "$only" ] && grep -q '^flags.* avx2\b' /proc/cpuinfo && [ -e "$place$(inside "ldconfig -p" | sed -n 's/.*hwcap.*x86-64-v3.*=> \(.*libaes3\.so\.1\)$/\1/p')" ]; then
+    judge "over the library for x86-64-v3" inside "LD_DEBUG=libs ./check <line.txt 2>&1 >/dev/null | grep -q 'calling init: .*/glibc-hwcaps/x86-64-v3/libaes3.so.1$'"
+fi
 if inside "command -v aes3-cells" >/dev/null; then
     judge "a capture in C" inside 'cc -o capture src/capture.c $(pkg-config --cflags --libs aes3)
         examples/neighbours/samples.py 3.90625 0.3 <line.txt >samples.bin
@@ -140,6 +159,6 @@ else
     echo "left out: Rust over the packages (no /proc can be mounted in their root)"
 fi
 
-judge "the packages removed" inside "dpkg -P python3-aes3 libaes3-dev libaes3-1 aes3"
+judge "the packages removed" inside "dpkg -P python3-aes3 libaes3-dev$only libaes3-1$only aes3$only"
 judge "what is left of them" test -z "$(find "$place/usr" "$place/etc" -name '*aes3*' | head -n 1)"
 tell
