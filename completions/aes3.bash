@@ -26,7 +26,7 @@ _aes3_setting() {
         payload=*) _aes3_words payload={pcm,other} ;;
         emphasis=*) _aes3_words emphasis={not-indicated,none,50/15,j17} ;;
         unlocked=*) _aes3_words unlocked={no,yes} ;;
-        rate=*) _aes3_words rate={not-indicated,44100,48000,32000,22050,24000,88200,96000,176400,192000,768000} ;;
+        rate=*) _aes3_words rate={not-indicated,44100,48000,32000,24000,96000,192000,22050,88200,176400,user-defined,768000} ;;
         mode=*) _aes3_words mode={not-indicated,stereophonic,single,two-channel,primary-secondary,vector-to-byte-3,0,1,2,3} ;;
         user=*) _aes3_words user={not-indicated,block192,user} ;;
         aux=*) _aes3_words aux={undefined,coordination,audio,user} ;;
@@ -70,8 +70,9 @@ _aes3() {
         *'<' | *'>') compopt -o default; return ;;
     esac
     case ${words[-1]} in
-        --set1 | --set2) _aes3_setting; return ;;
+        --set | --set1 | --set2) _aes3_setting; return ;;
         --valid1 | --valid2) _aes3_words 0 1; return ;;
+        --preset) _aes3_words consumer professional; return ;;
         --words) _aes3_words own alsa am824; return ;;
         --pcm) _aes3_words s32 s24 s24in32 s16; return ;;
         --fill) _aes3_words zero hold; return ;;
@@ -80,14 +81,14 @@ _aes3() {
     esac
     [ -z "$option" ] || return
     if [ "$COMP_CWORD" = 1 ]; then
-        _aes3_words encode decode normal check watch show scan cut rewrite to-pcm from-pcm to-bits --help --version --explain
+        _aes3_words encode decode normal check watch info show scan cut rewrite to-pcm from-pcm to-bits --help --version --explain
         return
     fi
     case ${COMP_WORDS[1]} in
         to-bits) [[ $typed != -* ]] && _aes3_due 'user validity status' '1 2' && return ;;
     esac
     case ${COMP_WORDS[1]} in
-        decode | normal | check | watch | show | scan | rewrite | to-pcm | from-pcm | to-bits) [[ $typed == -* ]] || { compopt -o default; return; } ;;
+        decode | normal | check | watch | info | show | scan | rewrite | to-pcm | from-pcm | to-bits) [[ $typed == -* ]] || { compopt -o default; return; } ;;
     esac
     case ${COMP_WORDS[1]} in
         encode) _aes3_words --packed-out --lsb-first --words --help ;;
@@ -95,12 +96,13 @@ _aes3() {
         normal) _aes3_words --packed-in --raw-in --packed-out --lsb-first --help ;;
         check) _aes3_words --packed-in --raw-in --lsb-first --faults --gaps --help ;;
         watch) _aes3_words --packed-in --raw-in --lsb-first --json --rate --every --every-seconds --help ;;
+        info) _aes3_words --packed-in --raw-in --lsb-first --json --help ;;
         show) _aes3_words --packed-in --raw-in --lsb-first --changes --at --more --names --help ;;
         scan) _aes3_words --packed-in --raw-in --lsb-first --help ;;
         cut) _aes3_words --packed-in --raw-in --packed-out --lsb-first --help ;;
-        rewrite) _aes3_words --packed-in --raw-in --packed-out --lsb-first --status1 --status2 --set1 --set2 --mend-check --valid1 --valid2 --clear-user1 --clear-user2 --exact --help ;;
+        rewrite) _aes3_words --packed-in --raw-in --packed-out --lsb-first --status1 --status2 --preset --set --set1 --set2 --mend-check --valid1 --valid2 --clear-user1 --clear-user2 --exact --help ;;
         to-pcm) _aes3_words --packed-in --raw-in --lsb-first --pcm --valid --fill --marked --exact --help ;;
-        from-pcm) _aes3_words --status1 --status2 --set1 --set2 --mend-check --exact --pcm --words --help ;;
+        from-pcm) _aes3_words --status1 --status2 --preset --rate --set --set1 --set2 --mend-check --exact --pcm --words --help ;;
         to-bits) _aes3_words --packed-in --raw-in --lsb-first --help ;;
     esac
 }

@@ -10,7 +10,7 @@ function __aes3_setting
         case 'unlocked=*'
             printf 'unlocked=%s\n' no yes
         case 'rate=*'
-            printf 'rate=%s\n' not-indicated 44100 48000 32000 22050 24000 88200 96000 176400 192000 768000
+            printf 'rate=%s\n' not-indicated 44100 48000 32000 24000 96000 192000 22050 88200 176400 user-defined 768000
         case 'mode=*'
             printf 'mode=%s\n' not-indicated stereophonic single two-channel primary-secondary vector-to-byte-3 0 1 2 3
         case 'user=*'
@@ -66,6 +66,7 @@ complete -c aes3 -n __fish_use_subcommand -a decode -d 'Write the whole blocks a
 complete -c aes3 -n __fish_use_subcommand -a normal -d 'Write the whole blocks again, in the normal polarity'
 complete -c aes3 -n __fish_use_subcommand -a check -d 'Print each whole block and each fault'
 complete -c aes3 -n __fish_use_subcommand -a watch -d 'Print where a line locks, is lost, comes back, slips or changes'
+complete -c aes3 -n __fish_use_subcommand -a info -d 'Print one page about a recording: faults, rate, length, status and level'
 complete -c aes3 -n __fish_use_subcommand -a show -d 'Print the channel status of each whole block'
 complete -c aes3 -n __fish_use_subcommand -a scan -d 'Print each preamble'
 complete -c aes3 -n __fish_use_subcommand -a cut -d 'Write COUNT of the whole blocks, from number FROM on'
@@ -105,6 +106,12 @@ complete -c aes3 -n '__fish_seen_subcommand_from watch' -l rate -x -d 'Tell time
 complete -c aes3 -n '__fish_seen_subcommand_from watch' -l every -x -d 'Tell sums after each CELLS cells'
 complete -c aes3 -n '__fish_seen_subcommand_from watch' -l every-seconds -x -d 'Tell sums after each N seconds, by --rate'
 complete -c aes3 -n '__fish_seen_subcommand_from watch' -l help -s h -d 'Print help'
+complete -c aes3 -n "__fish_seen_subcommand_from info; and not string match -q -- '-*' (commandline -ct)" -F
+complete -c aes3 -n '__fish_seen_subcommand_from info' -l packed-in -d 'Read packed cells, eight an octet'
+complete -c aes3 -n '__fish_seen_subcommand_from info' -l raw-in -d 'Read packed cells with no last octet that counts'
+complete -c aes3 -n '__fish_seen_subcommand_from info' -l lsb-first -d 'Packed cells have the first of eight in the lowest bit'
+complete -c aes3 -n '__fish_seen_subcommand_from info' -l json -d 'Write JSON objects in place of words'
+complete -c aes3 -n '__fish_seen_subcommand_from info' -l help -s h -d 'Print help'
 complete -c aes3 -n "__fish_seen_subcommand_from show; and not string match -q -- '-*' (commandline -ct)" -F
 complete -c aes3 -n '__fish_seen_subcommand_from show' -l packed-in -d 'Read packed cells, eight an octet'
 complete -c aes3 -n '__fish_seen_subcommand_from show' -l raw-in -d 'Read packed cells with no last octet that counts'
@@ -131,6 +138,8 @@ complete -c aes3 -n '__fish_seen_subcommand_from rewrite' -l packed-out -d 'Writ
 complete -c aes3 -n '__fish_seen_subcommand_from rewrite' -l lsb-first -d 'Packed cells have the first of eight in the lowest bit'
 complete -c aes3 -n '__fish_seen_subcommand_from rewrite' -l status1 -x -d 'The status of channel 1, in hexadecimal'
 complete -c aes3 -n '__fish_seen_subcommand_from rewrite' -l status2 -x -d 'The status of channel 2, in hexadecimal'
+complete -c aes3 -n '__fish_seen_subcommand_from rewrite' -l preset -x -a 'consumer professional' -d 'Begin with the usual status of this use'
+complete -c aes3 -n '__fish_seen_subcommand_from rewrite' -l set -x -a '(__aes3_setting)' -d 'A field of both channels as `show` prints it; may be repeated'
 complete -c aes3 -n '__fish_seen_subcommand_from rewrite' -l set1 -x -a '(__aes3_setting)' -d 'A field of channel 1 as `show` prints it; may be repeated'
 complete -c aes3 -n '__fish_seen_subcommand_from rewrite' -l set2 -x -a '(__aes3_setting)' -d 'A field of channel 2 as `show` prints it; may be repeated'
 complete -c aes3 -n '__fish_seen_subcommand_from rewrite' -l mend-check -d 'Write the check byte that professional status asks for'
@@ -138,7 +147,7 @@ complete -c aes3 -n '__fish_seen_subcommand_from rewrite' -l valid1 -x -a '0 1' 
 complete -c aes3 -n '__fish_seen_subcommand_from rewrite' -l valid2 -x -a '0 1' -d 'The validity bit of channel 2: 0 says that samples can be taken as they are'
 complete -c aes3 -n '__fish_seen_subcommand_from rewrite' -l clear-user1 -d 'Make the user bits of channel 1 0'
 complete -c aes3 -n '__fish_seen_subcommand_from rewrite' -l clear-user2 -d 'Make the user bits of channel 2 0'
-complete -c aes3 -n '__fish_seen_subcommand_from rewrite' -l exact -d 'Refuse blocks that leave out what --set1 or --set2 sets'
+complete -c aes3 -n '__fish_seen_subcommand_from rewrite' -l exact -d 'Refuse blocks that leave out what --set, --set1 or --set2 sets'
 complete -c aes3 -n '__fish_seen_subcommand_from rewrite' -l help -s h -d 'Print help'
 complete -c aes3 -n "__fish_seen_subcommand_from to-pcm; and not string match -q -- '-*' (commandline -ct)" -F
 complete -c aes3 -n '__fish_seen_subcommand_from to-pcm' -l packed-in -d 'Read packed cells, eight an octet'
@@ -153,10 +162,13 @@ complete -c aes3 -n '__fish_seen_subcommand_from to-pcm' -l help -s h -d 'Print 
 complete -c aes3 -n "__fish_seen_subcommand_from from-pcm; and not string match -q -- '-*' (commandline -ct)" -F
 complete -c aes3 -n '__fish_seen_subcommand_from from-pcm' -l status1 -x -d 'The status of channel 1, in hexadecimal'
 complete -c aes3 -n '__fish_seen_subcommand_from from-pcm' -l status2 -x -d 'The status of channel 2, in hexadecimal'
+complete -c aes3 -n '__fish_seen_subcommand_from from-pcm' -l preset -x -a 'consumer professional' -d 'Begin with the usual status of this use'
+complete -c aes3 -n '__fish_seen_subcommand_from from-pcm' -l rate -x -d 'The sampling frequency that the status tells, as 48000 or 48k'
+complete -c aes3 -n '__fish_seen_subcommand_from from-pcm' -l set -x -a '(__aes3_setting)' -d 'A field of both channels as `show` prints it; may be repeated'
 complete -c aes3 -n '__fish_seen_subcommand_from from-pcm' -l set1 -x -a '(__aes3_setting)' -d 'A field of channel 1 as `show` prints it; may be repeated'
 complete -c aes3 -n '__fish_seen_subcommand_from from-pcm' -l set2 -x -a '(__aes3_setting)' -d 'A field of channel 2 as `show` prints it; may be repeated'
 complete -c aes3 -n '__fish_seen_subcommand_from from-pcm' -l mend-check -d 'Write the check byte that professional status asks for'
-complete -c aes3 -n '__fish_seen_subcommand_from from-pcm' -l exact -d 'Refuse samples of more than 24 bits'
+complete -c aes3 -n '__fish_seen_subcommand_from from-pcm' -l exact -d 'Refuse samples of more than 24 bits, and settings that no block takes'
 complete -c aes3 -n '__fish_seen_subcommand_from from-pcm' -l pcm -x -a 's32 s24 s24in32 s16' -d 'The samples are of 32 bits, of 24 in 3 or 4 bytes, or of 16'
 complete -c aes3 -n '__fish_seen_subcommand_from from-pcm' -l words -x -a 'own alsa am824' -d 'The words of the block file are ours, ALSA'\''s or those of AM824'
 complete -c aes3 -n '__fish_seen_subcommand_from from-pcm' -l help -s h -d 'Print help'

@@ -73,8 +73,9 @@ tell() {
     failed=$((failed + wrong))
 }
 
+# With that for x86-64-v3, which is installed and packed beside it.
 library() {
-    bin/build aes3_c && echo "1 passed, 0 failed"
+    bin/library-for x86-64-v3 && echo "1 passed, 0 failed"
 }
 
 part_with rt library
@@ -86,10 +87,12 @@ part_with rt tests/lemma.sh
 part tests/launch.sh
 part tests/rows.sh "$program"
 part tests/streams.sh "$program"
+part_with python3 tests/messages.sh "$program"
 part tests/help.sh "$program"
 part tests/readme.sh "$program"
 part_with cc tests/allocations.sh "$program"
 part_with python3 tests/random.py "$program"
+part_with python3 tests/info.py "$program"
 part_with python3 tests/thresholds.py "$program" "$root/crates/aes3_cells/out/aes3_cells"
 part_with python3 bin/make-manual --check "$program"
 part tests/manual.sh

@@ -26,6 +26,7 @@ CATEGORIES = {
 }  # fmt: skip
 # The fields of a line that can't be set by name.
 UNSET = ("check", "rest")
+FREQUENCIES = {1: "24000", 2: "96000", 3: "192000", 9: "22050", 10: "88200", 11: "176400", 15: "user-defined"}
 ORIGINALS = "not-indicated 192000 12000 176400 - 96000 8000 88200 16000 24000 11025 22050 32000 48000 - 44100".split()
 CAUSES = ("preamble", "biphase", "unclosed")
 ROOT = os.path.dirname(os.path.dirname(os.path.realpath(__file__)))
@@ -145,7 +146,7 @@ def changed(word, channel):
 def named(status):
     """What `show --names` tells behind the line of a status."""
     if status[0] & 1:
-        found = {"mode": "vector-to-byte-3" if status[1] & 15 == 15 else None}
+        found = {"mode": "vector-to-byte-3" if status[1] & 15 == 15 else None, "rate": FREQUENCIES.get(status[4] >> 3 & 15)}
     else:
         found = {"category": CATEGORIES.get(status[1] & 127), "rate": "768000" if status[3] & 15 == 9 else None}
         found["original"] = ORIGINALS[status[4] >> 4].strip("-")

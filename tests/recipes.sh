@@ -147,6 +147,28 @@ status_file() {
     done
 }
 
+# Filter of a block file without status: each block with these statuses in channel 1 and in channel 2, of 48 hexadecimal digits
+# each. A set bit turns bit 30 of a word, and parity with it.
+stamped() {
+    octets=$(od -An -v -to1 -w4 | awk -v first="$1" -v second="$2" '
+        function bit(status, n) {
+            return int((index("0123456789abcdef", tolower(substr(status, 2 * int(n / 8) + (n % 8 < 4 ? 2 : 1), 1))) - 1) / 2 ^ (n % 4)) % 2
+        }
+        {
+            if (bit(NR % 2 ? first : second, int((NR - 1) % 384 / 2))) $4 = (3 - substr($4, 1, 1)) substr($4, 2)
+            printf "\\%s\\%s\\%s\\%s", $1, $2, $3, $4
+        }')
+    # shellcheck disable=SC2059 # the format is the octets
+    printf "$octets"
+}
+
+# The same with the status that claims nothing: no copyright, no sampling frequency, words of 24 bits at most.
+unknown=040000010100000000000000000000000000000000000000
+unclaimed() { stamped $unknown $unknown; }
+
+# A status of zeros.
+no_status=000000000000000000000000000000000000000000000000
+
 # Lines of text, one an argument.
 say() { [ $# = 0 ] || printf '%s\n' "$@"; }
 
@@ -182,6 +204,11 @@ speech_blocks() {
     awk -v at="$1" -v blocks="$2" -v level="$3" 'BEGIN {
         for (i = 0; i < blocks; i++) printf "whole at %d before %s\n", at + 24576 * i, level
     }'
+}
+
+# What the page of zero blocks tells of a channel.
+info_channel() {
+    say "status$1 $consumer" "changes$1 0" "invalid$1 0" "peak$1 0" "peak_dbfs$1 -inf" "rms_dbfs$1 -inf" "silent$1 yes"
 }
 
 # What is shown of so many blocks of the speech: consumer use, no copyright asserted, 48 kHz, 24 bits, on both channels.
