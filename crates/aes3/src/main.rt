@@ -10,7 +10,8 @@ ghost use Rattle.std.specs.Prelude.{◌+◌, ◌<◌, ◌^◌, ◌≡◌, IfErr}
 use aes3_arguments::line_of_words;
 use aes3_cell::{BufferedSink, Sink, StdSink, StdSource};
 use aes3_files::{Input, Preview};
-use aes3_hints::{Clearing, Hints, Terminals};
+use aes3_hints::{Hints, Terminals};
+use aes3_progress::Clearing;
 use aes3_runner::{Unread, file_of_line, run_and_explain, tell_unread};
 use recognised::recognise;
 use std::cell::Cell;

@@ -19,6 +19,7 @@ ghost use Rattle.std.specs.Prelude.{◌+◌, ◌<◌, ◌≤◌, ◌^◌, ◌≡
 
 use aes3_cell::{BufferedSink, Sink, Source, StdSink, StdSource, write_all};
 use aes3_files::{Input, Preview};
+use aes3_progress::{Clearing, Course, Progress as Followed};
 use aes3_recovery::{Progress, Recovery, Refusal, Unit, recover};
 use figures::{doubt_of, figures_line, no_line};
 use line::{Job, LineFault, job_of_words};
@@ -27,8 +28,9 @@ use other_file::{FIRST_LEN, advice_on_other};
 use search::{line_bit, unit_of};
 use std::alloc::{AllocError, Global};
 use std::cell::Cell;
+use std::io::{self, IsTerminal};
 use std::process::ExitCode;
-use std::{env, io};
+use std::env;
 
 /// The exit statuses, besides 0.
 const NO_LINE: u8 = 1;
@@ -38,8 +40,11 @@ const USAGE: u8 = 2;
 const FAILED: u8 = 3;
 
 fn main(rt: HostRuntime) -> ExitCode {
-    let mut errors = StdSink::new(rt.stderr());
-    let status = match run_program(&rt, &mut errors) {
+    let shown = Cell::new(false);
+    let is_told = rt.stderr().is_terminal();
+    let told = StdSink::new(rt.stderr());
+    let mut errors = Clearing::new(StdSink::new(rt.stderr()), told, &shown, is_told);
+    let status = match run_program(&rt, &shown, &mut errors) {
         Ok(status) => status,
         Err(_) => {
             let _ = write_all(&mut errors, b"aes3-cells: memory was refused\n");
@@ -49,8 +54,13 @@ fn main(rt: HostRuntime) -> ExitCode {
     ExitCode::from(status)
 }
 
-/// Runs the command line between the standard streams.
-fn run_program<E: Sink>(rt: &HostRuntime, errors: &mut E) -> Result<u8, AllocError>
+/// Runs the command line between the standard streams. Whether a line of progress stands on standard
+/// error is in `shown`.
+fn run_program<E: Sink>(
+    rt: &HostRuntime,
+    shown: &Cell<bool>,
+    errors: &mut E,
+) -> Result<u8, AllocError>
     requires { E.failed errors.old + 5 < 2 ^ 64 }
     ensures { IfErr result (λ _. E.failed errors.new ≤ E.failed errors.old + 5) }
 {
@@ -60,7 +70,7 @@ fn run_program<E: Sink>(rt: &HostRuntime, errors: &mut E) -> Result<u8, AllocErr
     let words: Vec<String> = words.skip(1).collect(rt.alloc())?;
     let words: Vec<&str> = words.iter().map(|word| word.as_str()).collect(rt.alloc())?;
     match job_of_words(rt.alloc(), &words) {
-        Ok(job) => run_job(rt, errors, job),
+        Ok(job) => run_job(rt, shown, errors, job),
         Err(LineFault::Usage(text)) => Ok(tell(errors, text.as_str(), USAGE)),
         Err(LineFault::Help(text)) => {
             print!(rt; "{text}").unwrap_or(());
@@ -123,12 +133,19 @@ fn next_telling(until: Option<u64>, each: Option<u64>, samples: u64) -> Option<u
 }
 
 /// Recovers the cells of what the job reads, if that can be a capture, and tells what was found.
-fn run_job<E: Sink>(rt: &HostRuntime, errors: &mut E, job: Job<'_>) -> Result<u8, AllocError>
+fn run_job<E: Sink>(
+    rt: &HostRuntime,
+    shown: &Cell<bool>,
+    errors: &mut E,
+    job: Job<'_>,
+) -> Result<u8, AllocError>
     requires { E.failed errors.old + 5 < 2 ^ 64 }
     ensures { IfErr result (λ _. E.failed errors.new ≤ E.failed errors.old + 5) }
 {
     let trouble = Cell::new(None);
-    let mut input = Preview::new(rt.alloc(), Input::new(rt, job.file, &trouble));
+    let input = Input::new(rt, job.file, &trouble);
+    let course = course_of(rt, &input);
+    let mut input = Preview::new(rt.alloc(), input);
     let asked = unit_of(job.octets, job.bit.unwrap_or(0));
     if let Some(advice) = advice_on_other(input.first(FIRST_LEN)?, asked) {
         let text = format!(in rt.alloc(); "aes3-cells: {advice}\n")?;
@@ -144,9 +161,24 @@ fn run_job<E: Sink>(rt: &HostRuntime, errors: &mut E, job: Job<'_>) -> Result<u8
     };
     tell_bit(rt.alloc(), errors, found)?;
     let look = Look::of(rt.alloc(), input.first(0)?, unit, found.is_none());
-    let status = run_line(rt, errors, &job, unit, &look, input)?;
+    let told = StdSink::new(rt.stderr());
+    let input = StdSource::new(input);
+    let mut source = Followed::new(rt.alloc(), rt, input, told, shown, course);
+    let told = StdSink::new(rt.stderr());
+    let is_shown = rt.stdout().is_terminal();
+    let output = Clearing::new(StdSink::new(rt.stdout().lock()), told, shown, is_shown);
+    let mut sink = BufferedSink::new(rt.alloc(), output)?;
+    let status = run_line(rt.alloc(), errors, &job, unit, &look, &mut source, &mut sink)?;
     tell_trouble(rt.alloc(), errors, job.file, trouble.get())?;
     Ok(status)
+}
+
+/// How far the input has been read, from now on, where there is a person to tell and it is a file.
+fn course_of(rt: &HostRuntime, input: &Input<'_>) -> Option<Course> {
+    if !rt.stderr().is_terminal() {
+        return None;
+    }
+    Course::new(rt, "aes3-cells", input.len(rt)?, None)
 }
 
 /// Tells in which bit the line was found, if it is not the lowest.
@@ -185,40 +217,33 @@ fn tell_trouble<E: Sink>(
 }
 
 /// Recovers the cells of the line in this bit, and tells what was found of it.
-fn run_line<E: Sink>(
-    rt: &HostRuntime,
+fn run_line<E: Sink, S: Source, T: Sink>(
+    alloc: Global,
     errors: &mut E,
     job: &Job<'_>,
     unit: Unit,
     look: &Look,
-    input: Preview<Input<'_>>,
+    source: &mut S,
+    sink: &mut T,
 ) -> Result<u8, AllocError>
     requires { E.failed errors.old + 3 < 2 ^ 64 }
+    requires source_room { S.failed source.old + 1 < 2 ^ 64 }
+    requires sink_room { T.failed sink.old + 1 < 2 ^ 64 }
     ensures { E.failed errors.new ≤ E.failed errors.old + 3 }
 {
-    let mut sink = BufferedSink::new(rt.alloc(), StdSink::new(rt.stdout().lock()))?;
-    let mut source = StdSource::new(input);
     let mut recovery = Recovery::new(job.form, job.period);
-    let end = recover_telling(
-        rt.alloc(),
-        errors,
-        &mut source,
-        &mut sink,
-        job,
-        unit,
-        &mut recovery,
-    );
+    let end = recover_telling(alloc, errors, source, sink, job, unit, &mut recovery);
     let figures = recovery.figures();
     match end {
         Ok(_) if figures.measured == 0 => {
-            let why = look.why(rt.alloc())?;
-            let text = no_line(rt.alloc(), figures, job.period, why.as_str())?;
+            let why = look.why(alloc)?;
+            let text = no_line(alloc, figures, job.period, why.as_str())?;
             Ok(tell(errors, text.as_str(), NO_LINE))
         }
         Ok(_) => {
-            let text = figures_line(rt.alloc(), figures, job.rate)?;
+            let text = figures_line(alloc, figures, job.rate)?;
             tell(errors, text.as_str(), 0);
-            let doubt = doubt_of(rt.alloc(), figures)?;
+            let doubt = doubt_of(alloc, figures)?;
             Ok(tell(errors, doubt.as_str(), 0))
         }
         Err(Refusal::Read) => Ok(tell(errors, "aes3-cells: the input failed\n", FAILED)),

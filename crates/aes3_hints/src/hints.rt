@@ -9,12 +9,12 @@ ghost use Rattle.aes3_hints.specs.Sentences.{reads_packed};
 ghost use Rattle.aes3_hints.specs.Sentences.{writes_hint, writes_packed};
 
 use crate::looks::{advice_by_looks, advice_on_taken};
-use crate::progress::{Progress, course_of};
 use crate::watched::{Position, Watched};
 use aes3_arguments::{CommandLine, LineFault, advice, status_of_text};
 use aes3_cell::{Form, RunError, Sink, Source, write_all};
 use aes3_files::FileKind;
 use aes3_job::{Job, Observer};
+use aes3_progress::{Course, Progress, Unit};
 use std::alloc::Global;
 use std::cell::Cell;
 use std::io::IsTerminal;
@@ -104,7 +104,9 @@ impl<T: Sink + Drop> Hints<T> {
         ensures no_file { len ≡ None → result.course ≡ None }
     {
         let course = match (self.terminals.errors, len, line) {
-            (true, Some(len), Ok(line)) => course_of(&clock, len, &line.job),
+            (true, Some(len), Ok(line)) => {
+                Course::new(&clock, "aes3", len, Some(unit_of(&line.job)))
+            }
             _ => None,
         };
         Progress::new(self.alloc, clock, source, sink, shown, course)
@@ -321,6 +323,22 @@ fn text_of_option<'a>(words: &[&'a str], at: usize, name: &str) -> Option<&'a st
     match words[at].strip_prefix(name)? {
         "" => words.get(at + 1).copied(),
         rest => rest.strip_prefix("="),
+    }
+}
+
+/// How many bytes of a block file make a block.
+const BLOCK_FILE_LEN: u64 = 1536;
+
+/// How many of packed cells do.
+const PACKED_LEN: u64 = 3072;
+
+/// What makes a block of the job's input.
+fn unit_of(job: &Job) -> Unit {
+    match job {
+        Job::Encode { .. } => Unit::Bytes(BLOCK_FILE_LEN),
+        Job::FromPcm { format, .. } => Unit::Bytes(format.block_len() as u64),
+        job if reads_packed(job) => Unit::Bytes(PACKED_LEN),
+        _ => Unit::Cells,
     }
 }
 

@@ -9,7 +9,8 @@ use crate::octets::Ran;
 use crate::run::run_line;
 use aes3_arguments::{CommandLine, LineFault};
 use aes3_cell::{Sink, Source};
-use aes3_hints::{Hints, Progress, Watched};
+use aes3_hints::{Hints, Watched};
+use aes3_progress::Progress;
 use std::time::Clock;
 
 /// The file that a line reads in place of standard input; none where it is refused.

@@ -2,66 +2,16 @@
 
 ghost use Rattle.std.specs.Prelude.{◌≡◌, ◌≤◌, ◌<◌, ◌+◌, ◌^◌, ◌↔◌, IsTrue, IfOk, OnErr, None, length, take};
 ghost use Rattle.aes3_cell.specs.Ends.{Grew};
-ghost use Rattle.aes3_hints.specs.Progresses.{percent, rate};
+ghost use Rattle.aes3_progress.specs.Progresses.{percent, rate};
 
-use crate::hints::reads_packed;
+use crate::unit::Unit;
 use aes3_cell::{Fault, Sink, Source, write_all};
-use aes3_job::Job;
 use std::alloc::Global;
 use std::cell::Cell;
 use std::time::{Clock, Instant};
 
-/// How many bytes of a block file, or of samples, make a block.
-const BLOCK_FILE_LEN: u64 = 1536;
-
-/// How many bytes of packed cells do.
-const PACKED_LEN: u64 = 3072;
-
-/// How many bytes of cell text do, which are cells.
-const CELLS: u64 = 24_576;
-
 /// What takes away the rest of a terminal's line, from where the cursor stands on.
 pub(crate) const ERASE: &[u8] = b"\x1B[K";
-
-/// Bytes that count in a form of input.
-#[derive(Clone, Copy)]
-enum Unit {
-    /// All of them, so many a block.
-    Bytes(u64),
-    /// The cells among them.
-    Cells,
-}
-
-impl Unit {
-    /// Those that the job's input has.
-    fn of_job(job: &Job) -> Self {
-        match job {
-            Job::Encode { .. } => Unit::Bytes(BLOCK_FILE_LEN),
-            Job::FromPcm { format, .. } => Unit::Bytes(format.block_len() as u64),
-            job if reads_packed(job) => Unit::Bytes(PACKED_LEN),
-            _ => Unit::Cells,
-        }
-    }
-
-    /// How many of these bytes count.
-    fn count(self, bytes: &[u8]) -> u64 {
-        match self {
-            Unit::Bytes(_) => bytes.len() as u64,
-            Unit::Cells => bytes
-                .iter()
-                .filter(|byte| matches!(**byte, b'0' | b'1'))
-                .count() as u64,
-        }
-    }
-
-    /// How many make a block.
-    fn block_len(self) -> u64 {
-        match self {
-            Unit::Bytes(len) => len,
-            Unit::Cells => CELLS,
-        }
-    }
-}
 
 /// How many hundredths of a file of `len` bytes are read with its first `bytes`.
 fn percent(bytes: u64, len: u64) -> u128
@@ -79,10 +29,13 @@ fn rate(bytes: u64, micros: u128) -> u128
 
 /// How far a file has been read that is told of.
 #[derive(Clone, Copy)]
-pub(crate) struct Course {
+pub struct Course {
+    /// The program that tells it.
+    program: &'static str,
     begun: Instant,
     len: u64,
-    unit: Unit,
+    /// What makes a block of it, if it has blocks.
+    unit: Option<Unit>,
     /// How many bytes were read, and how many of them count.
     bytes: u64,
     counted: u64,
@@ -91,11 +44,35 @@ pub(crate) struct Course {
 }
 
 impl Course {
+    /// That of a file of `len` bytes, begun now, which `program` reads; `unit` makes a block of it, if
+    /// it has blocks. Where there is no clock there is none.
+    pub fn new(
+        clock: &impl Clock,
+        program: &'static str,
+        len: u64,
+        unit: Option<Unit>,
+    ) -> Option<Self> {
+        let begun = Instant::now(clock).ok()?;
+        Some(Course {
+            program,
+            begun,
+            len,
+            unit,
+            bytes: 0,
+            counted: 0,
+            second: 0,
+        })
+    }
+
     /// The course with these bytes behind the others.
     fn with(self, bytes: &[u8]) -> Self {
+        let counted = match self.unit {
+            Some(unit) => unit.count(bytes),
+            None => 0,
+        };
         Course {
             bytes: self.bytes.saturating_add(bytes.len() as u64),
-            counted: self.counted.saturating_add(self.unit.count(bytes)),
+            counted: self.counted.saturating_add(counted),
             ..self
         }
     }
@@ -103,10 +80,17 @@ impl Course {
     /// The line that tells it; the cursor then stands where it began. Where memory for it is refused
     /// there is none.
     fn line(self, alloc: Global, micros: u128) -> Option<String> {
+        let program = self.program;
         let percent = percent(self.bytes, self.len);
         let rate = rate(self.bytes, micros);
-        let blocks = self.counted / self.unit.block_len().max(1);
-        format!(in alloc; "aes3: {percent} %, {rate} MB/s, {blocks} blocks\x1B[K\r").ok()
+        let line = match self.unit {
+            Some(unit) => {
+                let blocks = unit.blocks(self.counted);
+                format!(in alloc; "{program}: {percent} %, {rate} MB/s, {blocks} blocks\x1B[K\r")
+            }
+            None => format!(in alloc; "{program}: {percent} %, {rate} MB/s\x1B[K\r"),
+        };
+        line.ok()
     }
 }
 
@@ -125,7 +109,7 @@ pub struct Progress<'a, C: Drop, S: Drop, T: Drop> {
 impl<'a, C: Clock + Drop, S: Source + Drop, T: Sink + Drop> Progress<'a, C, S, T> {
     /// Tells to `sink`, which is standard error, of this source, if it is in such a course. Whether a
     /// line stands there is in `shown`.
-    pub(crate) fn new(
+    pub fn new(
         alloc: Global,
         clock: C,
         source: S,
@@ -197,20 +181,6 @@ impl<'a, C: Clock + Drop, S: Source + Drop, T: Sink + Drop> Progress<'a, C, S, T
             let _ = write_all(&mut self.sink, bytes);
         }
     }
-}
-
-/// The course of a file of so many bytes that the job reads, begun now. Where there is no clock there
-/// is none.
-pub(crate) fn course_of(clock: &impl Clock, len: u64, job: &Job) -> Option<Course> {
-    let begun = Instant::now(clock).ok()?;
-    Some(Course {
-        begun,
-        len,
-        unit: Unit::of_job(job),
-        bytes: 0,
-        counted: 0,
-        second: 0,
-    })
 }
 
 impl<C: Clock + Drop, S: Source + Drop, T: Sink + Drop> Source for Progress<'_, C, S, T> {
