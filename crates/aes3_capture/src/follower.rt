@@ -4,6 +4,7 @@ ghost use Rattle.std.specs.Prelude.{◌≡◌, ◌+◌, ◌-◌, ◌*◌, ◌/�
 ghost use Rattle.std.specs.Prelude.{ℕ, ◌↔◌, IsTrue, IfSome};
 
 use crate::bounds::{Bounds, PARTS};
+use std::simd::prelude::*;
 
 /// Follows the edges of a line: how long a cell is, and where its grid lies. Rising and falling
 /// edges have a grid of their own, as a line may be later in one direction; both have one period.
@@ -187,16 +188,14 @@ impl Follower {
     pub fn guess(&self, places: &[u32; TRACKED + 1]) -> [u32; TRACKED] {
         // Places in cells, a cell as 2^20, behind the last cell that ends before the latest edge.
         let frequency = ((1u64 << 36) / self.period) as u32;
-        let behind = [
-            cells_of(self.other.saturating_sub(self.bounds.low), frequency),
-            cells_of(self.same.saturating_sub(self.bounds.low), frequency),
-        ];
+        let other = cells_of(self.other.saturating_sub(self.bounds.low), frequency);
+        let same = cells_of(self.same.saturating_sub(self.bounds.low), frequency);
+        let behind = u32x8::from_array([other, same, other, same, other, same, other, same]);
         let mut ends = [0; TRACKED + 1];
-        for i in 0..TRACKED {
-            let place = places[i + 1]
-                .wrapping_sub(places[0])
-                .wrapping_mul(frequency);
-            ends[i + 1] = place.wrapping_add(behind[i % 2]) >> CELL_SHIFT;
+        for i in 0..TRACKED / 8 {
+            let since = u32x8::from_slice(&places[8 * i + 1..]) - u32x8::splat(places[0]);
+            let cells = (since * u32x8::splat(frequency) + behind) >> u32x8::splat(CELL_SHIFT);
+            cells.copy_to_slice(&mut ends[8 * i + 1..]);
         }
         let mut cells = [0; TRACKED];
         for i in 0..TRACKED {

@@ -28,9 +28,9 @@ use other_file::{FIRST_LEN, advice_on_other};
 use search::{line_bit, unit_of};
 use std::alloc::{AllocError, Global};
 use std::cell::Cell;
+use std::env;
 use std::io::{self, IsTerminal};
 use std::process::ExitCode;
-use std::env;
 
 /// The exit statuses, besides 0.
 const NO_LINE: u8 = 1;
@@ -168,7 +168,15 @@ fn run_job<E: Sink>(
     let is_shown = rt.stdout().is_terminal();
     let output = Clearing::new(StdSink::new(rt.stdout().lock()), told, shown, is_shown);
     let mut sink = BufferedSink::new(rt.alloc(), output)?;
-    let status = run_line(rt.alloc(), errors, &job, unit, &look, &mut source, &mut sink)?;
+    let status = run_line(
+        rt.alloc(),
+        errors,
+        &job,
+        unit,
+        &look,
+        &mut source,
+        &mut sink,
+    )?;
     tell_trouble(rt.alloc(), errors, job.file, trouble.get())?;
     Ok(status)
 }

@@ -1,9 +1,9 @@
 -- Sums of distances, one more at a time.
-use Rattle.std.proofs.Common.{ℕ, List, [], ◌∷◌, ◌++◌, ◌≡◌, ◌<◌, ◌≤◌, ◌+◌, ◌-◌, ◌*◌, ◌/◌, ◌^◌, max, map, take, get_or, set}
-use Rattle.std.proofs.Common.{length, sym, ap, ap₂, ◌∙◌, arith}
+use Rattle.std.proofs.Common.{ℕ, zero, suc, List, [], ◌∷◌, ◌++◌, ◌≡◌, ◌<◌, ◌≤◌, ◌+◌, ◌-◌, ◌*◌, ◌/◌, ◌^◌, max, min, map, take, get_or, set}
+use Rattle.std.proofs.Common.{length, refl, sym, ap, ◌∙◌, arith}
 use Rattle.std.proofs.lemmas.List.{take_more, take_more_set, map-append}
 use Rattle.std.proofs.Math.Nat.{mul-le-mul_left}
-use Rattle.aes3_recovery.specs.Distances.{distance_at, greatest, squares, total}
+use Rattle.aes3_recovery.specs.Distances.{distance_at, greatest, spread_after, squares, total}
 
 greatest-more : (numbers : List ℕ) (n : ℕ) → greatest (numbers ++ n ∷ []) ≡ max (greatest numbers) n
 greatest-more [] n = omega arith
@@ -48,3 +48,43 @@ all-more middle places i n within is =
 -- the square of a distance is small
 pub square-small : (n : ℕ) → n ≤ 2 ^ 25 → n * n ≤ 2 ^ 50
 square-small n few = let a : n * n ≤ n * 2 ^ 25 = mul-le-mul_left n few in omega (arith, a, few)
+
+total-none : (i : ℕ) → total (take i []) ≡ 0
+total-none zero = refl
+total-none (suc i) = refl
+
+-- a part of them has no greater sum
+pub total-part : (numbers : List ℕ) (i j : ℕ) → i ≤ j → total (take i numbers) ≤ total (take j numbers)
+total-part [] i j least = let a = total-none i in let b = total-none j in omega (arith, a, b)
+total-part (n ∷ numbers) zero j least = omega arith
+total-part (n ∷ numbers) (suc i) zero least = absurd (omega (arith, least))
+total-part (n ∷ numbers) (suc i) (suc j) least =
+    let e = total-part numbers i j (omega (arith, least)) in omega (arith, e)
+
+-- the mean behind one distance more
+spread-more : (spread : ℕ) (numbers : List ℕ) (n : ℕ) → spread_after spread (numbers ++ n ∷ [])
+    ≡ min (spread_after spread numbers - spread_after spread numbers / 256 + n) (2 ^ 32)
+spread-more spread [] n = refl
+spread-more spread (m ∷ numbers) n = spread-more (min (spread - spread / 256 + m) (2 ^ 32)) numbers n
+
+-- the mean is no greater than all of them together
+pub spread-most : (spread : ℕ) (numbers : List ℕ) → spread_after spread numbers ≤ spread + total numbers
+spread-most spread [] = omega arith
+spread-most spread (m ∷ numbers) =
+    let e = spread-most (min (spread - spread / 256 + m) (2 ^ 32)) numbers in omega (arith, e)
+
+-- the mean behind one of these more, where all together are few
+pub spread-next : (spread : ℕ) (each : List ℕ) (i count n : ℕ) → i < count → i < length each
+    → spread + total (take count each) ≤ 2 ^ 32 → n ≡ get_or each i 0
+    → spread_after spread (take (i + 1) each)
+    ≡ spread_after spread (take i each) - spread_after spread (take i each) / 256 + n
+spread-next spread each i count n below within near is =
+    let next : take (i + 1) each ≡ take i each ++ n ∷ []
+    = take_more each i 0 within ∙ ap (λ x. take i each ++ x ∷ []) (sym is) in
+    let mean = spread_after spread (take i each) in
+    let behind : spread_after spread (take (i + 1) each) ≡ min (mean - mean / 256 + n) (2 ^ 32)
+    = ap (spread_after spread) next ∙ spread-more spread (take i each) n in
+    let most = spread-most spread (take i each) in
+    let sum : total (take (i + 1) each) ≡ total (take i each) + n = ap total next ∙ total-more (take i each) n in
+    let part = total-part each (i + 1) count (omega (arith, below)) in
+    omega (arith, behind, most, sum, part, near)

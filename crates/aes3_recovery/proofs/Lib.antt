@@ -1,3 +1,6 @@
+mod Words
+mod FollowedAhead
+mod Ahead
 mod LaneBits
 mod SetBits
 mod DistanceSums

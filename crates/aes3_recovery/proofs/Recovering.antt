@@ -37,6 +37,7 @@ holds-keeps told setting level done past old new k state h = record {
     none_wait = λ other. k.count_is ∙ h.order.none_wait (λ m. other (state ∙ m));
     none_past = λ m. h.order.none_past (sym state ∙ m);
     followed = λ f. k.found_is ∙ h.order.followed (sym state ∙ f);
+    none_followed = λ f. h.order.none_followed (sym state ∙ f);
   };
   told_is = told-keeps told setting level done past old new h.told_is k.found_is k.known_is k.held_is k.measured_is
       k.queue_is k.follower_is;
@@ -375,6 +376,7 @@ recovered-gave {taken = taken} setting seen old new a b gave edges follower foun
             none_wait = λ other. count ∙ s.holds.order.none_wait (λ m. other (state ∙ m));
             none_past = λ m. s.holds.order.none_past (sym state ∙ m);
             followed = λ f. found ∙ s.holds.order.followed (sym state ∙ f);
+            none_followed = λ f. s.holds.order.none_followed (sym state ∙ f);
           };
           told_is = told-gave old new a b setting w.level s.done s.past gave s.holds.told_is found known held
               (ap (λ f. f.measured) figures) follower;
@@ -442,6 +444,7 @@ recovered-new setting now high run none form known held samples measured count s
         none_wait = λ other. count;
         none_past = λ m. absurd (differ (sym state ∙ m));
         followed = λ f. absurd (unlike (sym state ∙ f));
+        none_followed = λ f. absurd (unlike (sym state ∙ f));
       };
       told_is = told-new setting now.found now refl none form known held measured asked;
     };

@@ -85,7 +85,7 @@ none-given at f (suc k) p =
     absurd (omega (arith, product, time, told))
 
 -- the cells of runs behind a run of which some were given
-cells-runs : (v : Level) (front cells : List Level) (g n : ℕ) (ns : List ℕ)
+pub cells-runs : (v : Level) (front cells : List Level) (g n : ℕ) (ns : List ℕ)
     → (front ++ (cells ++ replicate g (other v))) ++ line v (n ∷ ns) ≡ front ++ (cells ++ line v ((g + n) ∷ ns))
 cells-runs v front cells g n ns =
     append_assoc front (cells ++ replicate g (other v)) (line v (n ∷ ns))
@@ -96,7 +96,7 @@ cells-runs v front cells g n ns =
     ∙ ap (λ c. c ++ line (other v) ns) (replicate-append-replicate g n (other v))))
 
 -- the same as one line
-line-runs : (u v t : Level) (front : List Level) (cs ns : List ℕ) → after u cs ≡ v
+pub line-runs : (u v t : Level) (front : List Level) (cs ns : List ℕ) → after u cs ≡ v
     → front ++ (line u cs ++ line v ns) ≡ front ++ (line u (cs ++ ns) ++ replicate 0 t)
 line-runs u v t front cs ns is =
     ap (λ c. front ++ c)
@@ -377,7 +377,7 @@ told-keeps told setting level done past old new w found known held measured queu
 }
 
 -- cells given behind others
-gave-chain : {A : Type 0} {taken : A → Option (List ℕ)} (old mid new : LineFollower) (a b d : A) (xs ys : List Level)
+pub gave-chain : {A : Type 0} {taken : A → Option (List ℕ)} (old mid new : LineFollower) (a b d : A) (xs ys : List Level)
     → Gave taken old mid a b xs → Gave taken mid new b d ys → Gave taken old new a d (xs ++ ys)
 gave-chain {taken = taken} old mid new a b d xs ys p q = record {
   form_is = q.form_is ∙ p.form_is;
@@ -402,7 +402,7 @@ gave-puts old new a b v added p = record {
   each = λ begun all w. queued-more old new a b v begun added all (all ++ added) p w refl;
 }
 
-counted-many : (f g : Follower) (xs cs : List ℕ) → CountedAll f xs cs g → length cs ≡ length xs
+pub counted-many : (f g : Follower) (xs cs : List ℕ) → CountedAll f xs cs g → length cs ≡ length xs
 counted-many f g [] [] a = refl
 counted-many f g [] (c ∷ cs) a = absurd a
 counted-many f g (x ∷ xs) [] a = absurd a
@@ -624,7 +624,12 @@ stands-told told setting level done now none turns w follows = record {
   samples_are = omega arith;
   turns = turns;
   holds = record {
-    order = record { none_wait = λ other. none; none_past = λ m. refl; followed = follows };
+    order = record {
+      none_wait = λ other. none;
+      none_past = λ m. refl;
+      followed = follows;
+      none_followed = λ f. refl;
+    };
     told_is = w;
   };
 }
@@ -727,6 +732,7 @@ stands-still taken old mid told new a b d r setting level runs behind count s fo
           none_wait = λ other. empty;
           none_past = λ m. absurd (differ (sym still ∙ m));
           followed = λ f. absurd (unlike (sym still ∙ f));
+          none_followed = λ f. absurd (unlike (sym still ∙ f));
         };
         told_is = w;
       };
@@ -759,6 +765,7 @@ stands-waiting told setting level old new done run w few turns found known held 
       none_wait = λ other. absurd (other measuring);
       none_past = λ m. refl;
       followed = λ f. absurd (unlike (sym measuring ∙ f));
+      none_followed = λ f. refl;
     };
     told_is = told-keeps told setting level done 0 old new w found known held measured (ap (λ l. l.queue) line)
         (ap (λ l. l.follower) line);

@@ -1,7 +1,7 @@
 -- The places at which levels turn, of words and of the runs between them.
 use Rattle.std.proofs.Common.{ℕ, zero, suc, ◌≡◌, ◌+◌, ◌-◌, ◌*◌, ◌/◌, ◌%◌, ◌^◌, ◌<◌, ◌≤◌, ◌⊎◌, inl, inr, nat_eq, Bool, true, false}
 use Rattle.std.proofs.Common.{List, [], ◌∷◌, ◌++◌, length, take, get_or, set, refl, sym, ap, ap₂, ◌∙◌, arith, if◌then◌else◌}
-use Rattle.std.proofs.Common.{append_assoc, append-nil, length-append, cond}
+use Rattle.std.proofs.Common.{append-nil}
 use mir.Val.{bool_byte}
 use Rattle.std.specs.Int.{bit_at}
 use Rattle.std.specs.List.{flat_map}
@@ -10,7 +10,7 @@ use Rattle.std.proofs.lemmas.List.{take_more, take_more_set, take_all, get_or-ta
 use Rattle.aes3_level.proofs.WordCells.{word_len_64}
 use Rattle.aes3_cell.proofs.ManyWords.{length-words}
 use Rattle.aes3_recovery.specs.Endings.{level_if}
-use Rattle.std.specs.Int.Bits.{bit_or, bit_xor, or_step, or_zero_r}
+use Rattle.std.specs.Int.Bits.{bit_or, bit_xor}
 use Rattle.std.proofs.lemmas.Nat.Bits.{bit_at_lowest, bit_at-suc, bit_at_xor, bit_at_or, bit_at-zero}
 use Rattle.aes3_level.specs.declared.level.Level.{Level}
 use Rattle.aes3_level.specs.declared.level.Level.TheVariants.{Low, High}

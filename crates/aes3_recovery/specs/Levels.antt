@@ -28,3 +28,13 @@ pub record AreLevels (unit : Unit) (octets : List ℕ) (word len : ℕ) : Type 0
   pub count : len ≡ samples_in unit (length octets)
   pub each : bit_of_line unit < bits_of_sample unit → (i : ℕ) → i < len
       → bit_at word i ≡ bit_at (sample_of unit octets i) (bit_of_line unit)
+
+-- bit j of word i is the level of the line in sample 64 i + j
+abbrev pub IsWord : Unit → List ℕ → ℕ → ℕ → Type 0
+IsWord unit octets i word = bit_of_line unit < bits_of_sample unit → (j : ℕ) → j < 64
+    → bit_at word j ≡ bit_at (sample_of unit octets (64 * i + j)) (bit_of_line unit)
+
+-- so many words have the levels of the line in all samples, 64 each
+pub record AreWords (unit : Unit) (octets words : List ℕ) (count : ℕ) : Type 0 where
+  pub count_is : 64 * count ≡ samples_in unit (length octets)
+  pub each : (i : ℕ) → i < count → IsWord unit octets i (get_or words i 0)

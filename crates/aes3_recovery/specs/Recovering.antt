@@ -133,11 +133,12 @@ abbrev pub runs_waiting : Recovery → List ℕ
 runs_waiting now = take now.count now.runs
 
 -- Runs wait only while a line is measured, and then no sample of the run behind them was told. A line that is followed
--- was found.
+-- was found, and no sample behind its latest edge was told.
 pub record IsInOrder (past : ℕ) (now : Recovery) : Type 0 where
   pub none_wait : (now.state ≡ Measuring → ⊥) → now.count ≡ 0
   pub none_past : now.state ≡ Measuring → past ≡ 0
   pub followed : now.state ≡ Following → now.found ≡ true
+  pub none_followed : now.state ≡ Following → past ≡ 0
 
 -- what was told so far
 pub record Holds (told : Option (List ℕ)) (setting : Setting) (level : Level) (done : List ℕ)
@@ -155,6 +156,14 @@ pub record StandsOn (told : Option (List ℕ)) (setting : Setting) (level : Leve
   pub samples_are : past + now.line.edges.run ≡ samples
   pub turns : level_if now.line.edges.high ≡ other (after level runs)
   pub holds : Holds told setting level done past now
+
+-- These runs were ended by edges, behind a sample of this level, and nothing of what came behind the last of them was
+-- told: each run was told once and in order, but for those that wait to be measured.
+pub record StandsBehind (told : Option (List ℕ)) (setting : Setting) (level : Level) (runs : List ℕ)
+    (now : Recovery) : Type 0 where
+  pub done : List ℕ
+  pub runs_are : done ++ runs_waiting now ≡ runs
+  pub holds : Holds told setting level done 0 now
 
 -- what a recovery has told of samples with these levels, of which `left` are still to be taken
 pub record Recovered (told : Option (List ℕ)) (setting : Setting) (levels left : List Level)

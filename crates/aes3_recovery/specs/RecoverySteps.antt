@@ -1,13 +1,15 @@
 -- The steps of a recovery.
 use Rattle.std.specs.Prelude.{ℕ, List, [], ◌++◌, ◌≡◌, ◌<◌, ◌≤◌, ◌+◌, ◌-◌, ◌*◌, ◌/◌, ◌^◌}
-use Rattle.std.specs.Prelude.{Option, true, false, max, min}
+use Rattle.std.specs.Prelude.{Option, true, false, max, min, take}
 use Rattle.aes3_level.specs.declared.level.Level.{Level}
 use Rattle.aes3_level.specs.Cells.{line}
 use Rattle.aes3_capture.specs.declared.follower.Follower.{Follower}
 use Rattle.aes3_capture.specs.Following.{CountedAll, middle_of}
+use Rattle.aes3_recovery.specs.Distances.{spread_after}
 use Rattle.aes3_recovery.specs.Recovering.{samples_of}
 use Rattle.aes3_recovery.specs.Queues.{Queued, waiting}
 use Rattle.aes3_recovery.specs.declared.line_follower.LineFollower.{LineFollower}
+use Rattle.aes3_recovery.specs.declared.distances.Distances.{Distances}
 use Rattle.aes3_recovery.specs.declared.recovery.Recovery.{Recovery}
 use Rattle.aes3_recovery.specs.declared.recovery.State.TheVariants.{Measuring}
 
@@ -83,6 +85,23 @@ pub record Noted (old new : Recovery) : Type 0 where
   pub slipped : new.line.follower.bounds.low / 2 < apart_of new.line.follower → new.state ≡ Measuring
   pub kept : new.spread ≤ new.line.follower.period / 5
       → apart_of new.line.follower ≤ new.line.follower.bounds.low / 2 → new.state ≡ old.state
+  pub held_is : new.held ≡ old.held
+  pub cells_are : new.figures.cells ≡ old.figures.cells
+  pub period_is : new.figures.period ≡ old.figures.period
+  pub dead_is : new.figures.dead ≡ old.figures.dead
+  pub dead_at_is : new.figures.dead_at ≡ old.figures.dead_at
+  pub misses_are : new.figures.misses ≡ old.figures.misses
+  pub keeps : KeepsRuns old new
+
+-- So many edges of a line that is followed were noted, with how far each was from its place: the figures and the mean are
+-- what they are when each is noted behind the one before it, and all else is as it was.
+pub record NotedAll (distances : Distances) (count : ℕ) (old new : Recovery) : Type 0 where
+  pub edges : new.figures.edges ≡ min (old.figures.edges + count) (2 ^ 64 - 1)
+  pub greatest : new.figures.greatest ≡ max old.figures.greatest distances.greatest
+  pub squares : new.figures.squares ≡ min (old.figures.squares + distances.squares) (2 ^ 64 - 1)
+  pub spread : new.spread ≡ spread_after old.spread (take count distances.each)
+  pub line_is : new.line ≡ old.line
+  pub state_is : new.state ≡ old.state
   pub held_is : new.held ≡ old.held
   pub cells_are : new.figures.cells ≡ old.figures.cells
   pub period_is : new.figures.period ≡ old.figures.period

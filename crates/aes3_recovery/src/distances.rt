@@ -1,7 +1,7 @@
 //! How far edges lie from their places.
 
-ghost use Rattle.std.specs.Prelude.{◌≡◌, ◌≤◌, map, take};
-ghost use Rattle.aes3_recovery.specs.Distances.{distance_at, greatest, squares, total};
+ghost use Rattle.std.specs.Prelude.{◌≡◌, ◌≤◌, ◌+◌, ◌^◌, map, take};
+ghost use Rattle.aes3_recovery.specs.Distances.{distance_at, greatest, spread_after, squares, total};
 
 use aes3_capture::TRACKED;
 
@@ -25,19 +25,38 @@ pub fn distances_of(places: &[u32; TRACKED], count: usize, middle: u32) -> Dista
     ensures sum { result.sum ≡ total (map (distance_at middle) (take count places.now)) }
     ensures squares { result.squares ≡ squares (map (distance_at middle) (take count places.now)) }
 {
-    let mut distances = Distances {
-        each: [0; TRACKED],
-        greatest: 0,
-        sum: 0,
-        squares: 0,
-    };
+    // They are numbers of their own until the end, so that LLVM takes several edges at once.
+    let mut each = [0; TRACKED];
+    let mut greatest = 0;
+    let mut sum = 0;
+    let mut squares = 0;
     for i in 0..count {
         let left = places[i].abs_diff(middle) >> 8;
         let distance = left + left / 15;
-        distances.each[i] = distance;
-        distances.greatest = distances.greatest.max(distance);
-        distances.sum += distance;
-        distances.squares += u64::from(distance) * u64::from(distance);
+        each[i] = distance;
+        greatest = distance.max(greatest);
+        sum += distance;
+        squares += u64::from(distance) * u64::from(distance);
     }
-    distances
+    Distances {
+        each,
+        greatest,
+        sum,
+        squares,
+    }
+}
+
+/// The mean distance behind so many of these, of which each weighs a 256th.
+#[inline(always)]
+pub fn spread_behind(spread: u64, distances: &Distances, count: usize) -> u64
+    requires few { count ≤ 32 }
+    requires near { spread + total (take count distances.now.each) ≤ 2 ^ 32 }
+    ensures behind { result ≡ spread_after spread (take count distances.now.each) }
+    ensures most { result ≤ 2 ^ 32 }
+{
+    let mut behind = spread;
+    for i in 0..count {
+        behind = behind - (behind >> 8) + u64::from(distances.each[i]);
+    }
+    behind
 }

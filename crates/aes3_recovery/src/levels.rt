@@ -1,9 +1,10 @@
 //! The levels of a line among samples of many.
 
-ghost use Rattle.std.specs.Prelude.{ℕ, ◌*◌, ◌<◌, ◌≤◌, ◌≡◌, get_or};
+ghost use Rattle.std.specs.Prelude.{ℕ, ◌+◌, ◌*◌, ◌<◌, ◌≤◌, ◌≡◌, ◌^◌, drop, get_or, take};
 ghost use Rattle.std.specs.Int.{bit_at};
-ghost use Rattle.aes3_recovery.specs.Levels.{AreLevels, bits_of_sample};
+ghost use Rattle.aes3_recovery.specs.Levels.{AreLevels, AreWords, IsWord, bits_of_sample, samples_in};
 
+use crate::places::WORDS;
 use aes3_level::even_bits;
 use std::simd::prelude::*;
 
@@ -48,6 +49,7 @@ fn bits_of(octets: &[u8; 64], bit: u8) -> u64
 pub fn levels_of(unit: Unit, octets: &[u8; 64]) -> (u64, u32)
     ensures few { result.1 ≤ 64 }
     ensures levels { AreLevels unit octets.now result.0 result.1 }
+    ensures bound { result.0 < 2 ^ result.1 }
 {
     match unit {
         Unit::Octets(bit) => (bits_of(octets, bit % 8), 64),
@@ -56,4 +58,49 @@ pub fn levels_of(unit: Unit, octets: &[u8; 64]) -> (u64, u32)
             (even_bits(if bit < 8 { found } else { found >> 1 }), 32)
         }
     }
+}
+
+/// How many octets are searched for edges at once.
+pub(crate) const BLOCK: usize = 4096;
+
+/// The levels of the samples that a block of octets is, as words of 64 of them, the first in the lowest bit; and how many words
+/// these are.
+pub fn words_of(unit: Unit, block: &[u8; BLOCK]) -> ([u64; WORDS], usize)
+    ensures few { result.1 ≤ 64 }
+    ensures levels { AreWords unit block.now result.0 result.1 }
+{
+    let mut words = [0; WORDS];
+    let count = WORDS / unit.len();
+    for i in 0..count {
+        words[i] = word_at(unit, block, i);
+    }
+    (words, count)
+}
+
+/// The levels of the 64 samples of a block that are word number `i`.
+#[inline(always)]
+fn word_at(unit: Unit, block: &[u8; BLOCK], i: usize) -> u64
+    requires { bits_of_sample unit * (i + 1) ≤ 512 }
+    ensures { IsWord unit block.now i result }
+{
+    match unit {
+        Unit::Octets(_) => levels_at(unit, block, 64 * i),
+        Unit::Pairs(_) => {
+            let first = levels_at(unit, block, 128 * i);
+            let second = levels_at(unit, block, 128 * i + 64);
+            first + (second << 32)
+        }
+    }
+}
+
+/// The levels of the samples that 64 octets of a block are, from one on.
+#[inline(always)]
+fn levels_at(unit: Unit, block: &[u8; BLOCK], at: usize) -> u64
+    requires { at + 64 ≤ 4096 }
+    ensures levels { AreLevels unit (take 64 (drop at block.now)) result (samples_in unit 64) }
+    ensures bound { result < 2 ^ samples_in unit 64 }
+{
+    let mut octets = [0; 64];
+    octets.copy_from_slice(&block[at..at + 64]);
+    levels_of(unit, &octets).0
 }

@@ -1,6 +1,6 @@
 //! The places of edges among the levels of many samples, found before the edges are followed.
 
-ghost use Rattle.std.specs.Prelude.{ℕ, List, ◌≡◌, ◌+◌, ◌-◌, ◌*◌, ◌<◌, ◌≤◌, ◌^◌, ◌∷◌, ◌++◌, drop, get_or, length, take};
+ghost use Rattle.std.specs.Prelude.{ℕ, List, ◌≡◌, ◌+◌, ◌-◌, ◌*◌, ◌<◌, ◌≤◌, ◌^◌, ◌∷◌, ◌++◌, [], drop, length, take};
 ghost use Rattle.std.specs.List.{flat_map};
 ghost use Rattle.aes3_level.specs.Words.{word_cells};
 ghost use Rattle.aes3_recovery.specs.Endings.{level_if};
@@ -24,6 +24,7 @@ pub struct Places {
     places: [u32; EDGES + 65],
     /// How many samples lie between each place and the next.
     runs: [u32; EDGES],
+    ghost many: { length runs ≡ 4096 },
 }
 
 impl Places {
@@ -86,7 +87,7 @@ impl Places {
     /// The run that edge number `at` ends.
     pub fn run(&self, at: usize) -> u32
         requires within { at < 4096 }
-        ensures { result ≡ get_or self.now.runs at 0 }
+        ensures { take 1 (drop at self.now.runs) ≡ result ∷ [] }
     {
         self.runs[at]
     }

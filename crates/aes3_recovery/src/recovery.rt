@@ -1,13 +1,18 @@
 //! Cells recovered from the levels of samples.
 
 ghost use Rattle.std.specs.Prelude.{ℕ, List, [], ◌∷◌, ◌++◌, ◌+◌, ◌*◌, ◌/◌, ◌-◌, ◌%◌, ◌<◌, ◌≤◌, ◌^◌, ◌≡◌, ◌≢◌, Bool};
-ghost use Rattle.std.specs.Prelude.{Option, IfOk, OnErr, IfSome, Some, min, max, take, length, replicate, true, false};
+ghost use Rattle.std.specs.Prelude.{Option, IfOk, OnErr, IfSome, Some, min, max, take, drop, length, replicate, true, false, if◌then◌else◌};
+ghost use Rattle.aes3_level.specs.declared.level.Level.{Level};
+ghost use Rattle.aes3_level.specs.Cells.{after, other};
+ghost use Rattle.aes3_recovery.specs.Endings.{level_if};
 ghost use Rattle.aes3_recovery.specs.Measuring.{IsAskedFor};
 
+use crate::distances::{Distances, distances_of, spread_behind};
 use crate::edges::{Edges, Piece};
 use crate::line_follower::LineFollower;
 use crate::measure::{RUNS, bounds_around, follower_of_runs};
-use aes3_capture::{Bounds, Follower, PARTS};
+use crate::places::{BEGIN, Places, WORDS};
+use aes3_capture::{Bounds, Follower, PARTS, TRACKED};
 use aes3_cell::{Fault, Form, Sink};
 
 /// How many cells without an edge are a dead stretch.
@@ -18,6 +23,12 @@ const ANY_PERIOD: u64 = 1 << 29;
 
 /// So few runs are not measured.
 const FEW: usize = 128;
+
+/// Where the shortest cell is longer, edges are so rare that finding them first gains nothing.
+const SHORT: u64 = 42 * PARTS;
+
+/// So many edges are taken alone behind one that is far from its place.
+const ALONE: u32 = 8;
 
 /// What was found of a line.
 #[derive(Clone, Copy, Default)]
@@ -95,20 +106,37 @@ fn any_follower() -> Follower {
     Follower::new(bounds, 2 * PARTS)
 }
 
+/// How many edges are to be taken alone yet, behind some that were taken.
+fn alone_behind(alone: u32, some: usize) -> u32 {
+    match (alone, some) {
+        (0, 1) => ALONE,
+        (0, _) => 0,
+        (more, _) => more - 1,
+    }
+}
+
+/// The level behind so many runs, of which the first has this level: they take turns.
+#[inline(always)]
+fn level_behind(high: bool, count: usize) -> bool
+    ensures { (before : Level) (runs : List ℕ) → length runs ≡ count → level_if high ≡ other before
+        → level_if result ≡ other (after before runs) }
+{
+    if count % 2 == 1 { !high } else { high }
+}
+
 impl Recovery {
-    ghost use Rattle.aes3_level.specs.declared.level.Level.{Level};
-    ghost use Rattle.aes3_level.specs.Words.{level_of, low_cells};
+    ghost use Rattle.std.specs.List.{flat_map};
+    ghost use Rattle.aes3_level.specs.Words.{level_of, low_cells, word_cells};
     ghost use Rattle.aes3_capture.specs.declared.follower.Follower.{Follower};
-    ghost use Rattle.aes3_capture.specs.Captures.{Captures};
+    ghost use Rattle.aes3_capture.specs.Captures.{Captures, IsBetween, SpreadsLate, margin, wander};
     ghost use Rattle.aes3_capture.specs.Following.{Follows};
-    ghost use Rattle.aes3_recovery.specs.Endings.{level_if};
     ghost use Rattle.aes3_recovery.specs.Runs.{AreCaptured};
-    ghost use Rattle.aes3_level.specs.Cells.{after, other};
     ghost use Rattle.aes3_recovery.specs.LineFollowing.{Followed, Gives, RunTold, SomeTold};
     ghost use Rattle.aes3_recovery.specs.Endings.{finished};
     ghost use Rattle.aes3_recovery.specs.Recovering.{AreEnded, AreRecovered, AreTold, Holds, Recovered, Setting};
-    ghost use Rattle.aes3_recovery.specs.Recovering.{StandsOn, runs_waiting};
-    ghost use Rattle.aes3_recovery.specs.RecoverySteps.{Gave, KeepsRuns, KeepsTold, Noted, RunsTold};
+    ghost use Rattle.aes3_recovery.specs.Distances.{total};
+    ghost use Rattle.aes3_recovery.specs.Recovering.{StandsBehind, StandsOn, runs_waiting};
+    ghost use Rattle.aes3_recovery.specs.RecoverySteps.{Gave, KeepsRuns, KeepsTold, Noted, NotedAll, RunsCounted, RunsTold};
     ghost use Rattle.aes3_recovery.specs.declared.recovery.State.TheVariants.{Following, Measuring, Still};
 
     /// A recovery of which nothing came. A cell is so many parts of a sample, where that is given.
@@ -181,6 +209,20 @@ impl Recovery {
             → AreCaptured (Captures first.bounds same other_mean displaced) before cells
             (seen ++ low_cells len levels)
             → IfOk result (λ _. Gives (T.taken sink.new) begun front self.new.line cells) }
+        ensures late { self.old.state ≡ Following → self.new.state ≡ Following
+            → self.new.figures.measured ≡ self.old.figures.measured
+            → self.old.figures.measured + 1 < 2 ^ 64 → 1 ≤ self.old.figures.samples
+            → (begun : List ℕ) (front : List Level) (first : Follower) (before : Level) (seen : List Level)
+            (same other_mean displaced spread late later : ℕ) (cells : List Level)
+            → Followed (T.taken sink.old) begun front self.old.line first before seen []
+            → Follows first same other_mean displaced 0 0
+            → spread < first.bounds.low / 2 - margin first.bounds
+            → late + spread < later + (first.bounds.low - wander first.bounds)
+            → later + spread < late + (first.bounds.low - wander first.bounds)
+            → IsBetween late same spread → IsBetween later other_mean spread
+            → AreCaptured (SpreadsLate first.bounds spread late later displaced) before cells
+            (seen ++ low_cells len levels)
+            → IfOk result (λ _. Gives (T.taken sink.new) begun front self.new.line cells) }
         ensures recovered { (setting : Setting) (seen : List Level)
             → Recovered (T.taken sink.old) setting seen [] self.old
             → IfOk result (λ _. Recovered (T.taken sink.new) setting (seen ++ low_cells len levels) [] self.new) }
@@ -195,6 +237,249 @@ impl Recovery {
             }
         }
         self.rest(sink)
+    }
+
+    /// Takes words of the levels of 64 samples each, the first in the lowest bit, if the line is one whose edges can be
+    /// found first; answers whether it did. It tells what [`Recovery::take`] tells of each word: this is the fast way, in
+    /// which most edges wait for no other. What `places` has counts for nothing.
+    ///
+    /// # Errors
+    /// The sink's fault.
+    pub(crate) fn take_words<T: Sink>(
+        &mut self,
+        sink: &mut T,
+        words: &[u64],
+        places: &mut Places,
+    ) -> Result<bool, Fault>
+        requires few { length words.now ≤ 64 }
+        requires room { T.failed sink.old + 1 < 2 ^ 64 }
+        ensures count { IfOk result (λ _. T.failed sink.new ≡ T.failed sink.old) }
+        ensures err_count { OnErr result (T.failed sink.new ≡ T.failed sink.old + 1) }
+        ensures follows { self.old.state ≡ Following → self.new.state ≡ Following
+            → self.new.figures.measured ≡ self.old.figures.measured
+            → self.old.figures.measured + 1 < 2 ^ 64
+            → (begun : List ℕ) (front : List Level) (first : Follower) (before : Level) (seen : List Level)
+            → Followed (T.taken sink.old) begun front self.old.line first before seen []
+            → IfOk result (λ taken. Followed (T.taken sink.new) begun front self.new.line first before
+            (if taken then seen ++ flat_map word_cells words.now else seen) []) }
+        ensures mean { self.old.state ≡ Following → self.new.state ≡ Following
+            → self.new.figures.measured ≡ self.old.figures.measured
+            → self.old.figures.measured + 1 < 2 ^ 64
+            → (begun : List ℕ) (front : List Level) (first : Follower) (before : Level) (seen : List Level)
+            (same other_mean displaced : ℕ) (cells : List Level)
+            → Followed (T.taken sink.old) begun front self.old.line first before seen []
+            → Follows first same other_mean displaced 0 0
+            → AreCaptured (Captures first.bounds same other_mean displaced) before cells
+            (seen ++ flat_map word_cells words.now)
+            → IfOk result (λ taken. taken ≡ true → Gives (T.taken sink.new) begun front self.new.line cells) }
+        ensures late { self.old.state ≡ Following → self.new.state ≡ Following
+            → self.new.figures.measured ≡ self.old.figures.measured
+            → self.old.figures.measured + 1 < 2 ^ 64
+            → (begun : List ℕ) (front : List Level) (first : Follower) (before : Level) (seen : List Level)
+            (same other_mean displaced spread late later : ℕ) (cells : List Level)
+            → Followed (T.taken sink.old) begun front self.old.line first before seen []
+            → Follows first same other_mean displaced 0 0
+            → spread < first.bounds.low / 2 - margin first.bounds
+            → late + spread < later + (first.bounds.low - wander first.bounds)
+            → later + spread < late + (first.bounds.low - wander first.bounds)
+            → IsBetween late same spread → IsBetween later other_mean spread
+            → AreCaptured (SpreadsLate first.bounds spread late later displaced) before cells
+            (seen ++ flat_map word_cells words.now)
+            → IfOk result (λ taken. taken ≡ true → Gives (T.taken sink.new) begun front self.new.line cells) }
+        ensures recovered { (setting : Setting) (seen : List Level)
+            → Recovered (T.taken sink.old) setting seen [] self.old
+            → IfOk result (λ taken. Recovered (T.taken sink.new) setting
+            (if taken then seen ++ flat_map word_cells words.now else seen) [] self.new) }
+    {
+        if !self.is_quick() {
+            return Ok(false);
+        }
+        let high = self.line.is_high();
+        let waiting = self.line.waiting();
+        let count = places.find(words, high, waiting);
+        let longest = places.measure(count);
+        let behind = places.behind(count, words.len());
+        if longest.max(behind) >= BEGIN {
+            return Ok(false);
+        }
+        match self.follow_edges(sink, high, places, count) {
+            Ok(high) => {
+                self.line.stand(high, behind);
+                let samples = self.figures.samples;
+                self.figures.samples = samples.saturating_add(64 * words.len() as u64);
+                Ok(true)
+            }
+            Err(fault) => Err(fault),
+        }
+    }
+
+    /// Whether the line is followed, and its edges can be found first.
+    #[inline(always)]
+    pub(crate) fn is_quick(&self) -> bool
+        ensures following { result ≡ true → self.now.state ≡ Following }
+        ensures some { result ≡ true → 1 ≤ self.now.figures.samples }
+        ensures waiting { result ≡ true → self.now.line.edges.run ≤ 128 }
+    {
+        self.state == State::Following
+            && self.figures.samples > 0
+            && self.line.waiting() <= BEGIN
+            && self.line.follower().bounds().low <= SHORT
+    }
+
+    /// Takes so many edges that were found, the first behind a run of the other level than this; answers the level behind
+    /// the last.
+    fn follow_edges<T: Sink>(
+        &mut self,
+        sink: &mut T,
+        high: bool,
+        places: &Places,
+        count: usize,
+    ) -> Result<bool, Fault>
+        requires few { count ≤ 4096 }
+        requires room { T.failed sink.old + 1 < 2 ^ 64 }
+        ensures count { IfOk result (λ _. T.failed sink.new ≡ T.failed sink.old) }
+        ensures err_count { OnErr result (T.failed sink.new ≡ T.failed sink.old + 1) }
+        ensures up { self.old.figures.measured ≤ self.new.figures.measured }
+        ensures counted { self.old.state ≡ Following → self.new.state ≡ Following
+            → self.new.figures.measured ≡ self.old.figures.measured
+            → self.old.figures.measured + 1 < 2 ^ 64 → (before : Level) → level_if high ≡ other before
+            → IfOk result (λ _. RunsCounted T.taken self.old.line self.new.line sink.old sink.new before
+            (take count places.now.runs)) }
+        ensures level { (before : Level) → level_if high ≡ other before
+            → IfOk result (λ high. level_if high ≡ other (after before (take count places.now.runs))) }
+        ensures samples { self.new.figures.samples ≡ self.old.figures.samples }
+        ensures told { (setting : Setting) (level : Level) (runs : List ℕ)
+            → StandsBehind (T.taken sink.old) setting level runs self.old
+            → level_if high ≡ other (after level runs)
+            → IfOk result (λ _. StandsBehind (T.taken sink.new) setting level
+            (runs ++ take count places.now.runs) self.new) }
+    {
+        let mut high = high;
+        let mut at = 0;
+        let mut alone = 0;
+        while at < count {
+            match self.take_edges(sink, high, places, at, count, alone == 0) {
+                Ok(some) => {
+                    at += some;
+                    high = level_behind(high, some);
+                    alone = alone_behind(alone, some);
+                }
+                Err(fault) => return Err(fault),
+            }
+        }
+        Ok(high)
+    }
+
+    /// Takes some of the edges that were found, from number `at` on, where the line has this level before the first: all that
+    /// are near their places, if they are taken `together`, or else one.
+    #[inline(always)]
+    fn take_edges<T: Sink>(
+        &mut self,
+        sink: &mut T,
+        high: bool,
+        places: &Places,
+        at: usize,
+        count: usize,
+        together: bool,
+    ) -> Result<usize, Fault>
+        requires within { at < count }
+        requires few { count ≤ 4096 }
+        requires room { T.failed sink.old + 1 < 2 ^ 64 }
+        ensures count { IfOk result (λ _. T.failed sink.new ≡ T.failed sink.old) }
+        ensures err_count { OnErr result (T.failed sink.new ≡ T.failed sink.old + 1) }
+        ensures some { IfOk result (λ n. 1 ≤ n) }
+        ensures most { IfOk result (λ n. n ≤ count - at) }
+        ensures up { self.old.figures.measured ≤ self.new.figures.measured }
+        ensures begun { self.old.state ≢ Following → self.new.state ≡ Following
+            → self.old.figures.measured + 1 < 2 ^ 64
+            → self.old.figures.measured < self.new.figures.measured }
+        ensures counted { self.old.state ≡ Following → (before : Level) → level_if high ≡ other before
+            → IfOk result (λ n. RunsCounted T.taken self.old.line self.new.line sink.old sink.new before
+            (take n (drop at places.now.runs))) }
+        ensures samples { self.new.figures.samples ≡ self.old.figures.samples }
+        ensures told { (setting : Setting) (level : Level) (runs : List ℕ)
+            → StandsBehind (T.taken sink.old) setting level runs self.old
+            → level_if high ≡ other (after level runs)
+            → IfOk result (λ n. StandsBehind (T.taken sink.new) setting level
+            (runs ++ take n (drop at places.now.runs)) self.new) }
+    {
+        if together {
+            match self.track(sink, high, places, at, count) {
+                Ok(0) => {}
+                tracked => return tracked,
+            }
+        }
+        let run = places.run(at);
+        self.line.stand(!high, 1);
+        match self.edge(sink, high, run) {
+            Ok(()) => Ok(1),
+            Err(fault) => Err(fault),
+        }
+    }
+
+    /// Takes edges from number `at` on as long as they are near their places, 32 at most; answers how many.
+    #[inline(always)]
+    fn track<T: Sink>(
+        &mut self,
+        sink: &mut T,
+        high: bool,
+        places: &Places,
+        at: usize,
+        count: usize,
+    ) -> Result<usize, Fault>
+        requires within { at < count }
+        requires few { count ≤ 4096 }
+        requires room { T.failed sink.old + 1 < 2 ^ 64 }
+        ensures count { IfOk result (λ _. T.failed sink.new ≡ T.failed sink.old) }
+        ensures err_count { OnErr result (T.failed sink.new ≡ T.failed sink.old + 1) }
+        ensures most { IfOk result (λ n. n ≤ count - at) }
+        ensures none { IfOk result (λ n. n ≡ 0 → (self.new ≡ self.old) × (sink.new ≡ sink.old)) }
+        ensures same { self.new.state ≡ self.old.state }
+        ensures measured { self.new.figures.measured ≡ self.old.figures.measured }
+        ensures counted { (before : Level) → level_if high ≡ other before
+            → IfOk result (λ n. RunsCounted T.taken self.old.line self.new.line sink.old sink.new before
+            (take n (drop at places.now.runs))) }
+        ensures samples { self.new.figures.samples ≡ self.old.figures.samples }
+        ensures told { (setting : Setting) (level : Level) (runs : List ℕ)
+            → StandsBehind (T.taken sink.old) setting level runs self.old
+            → level_if high ≡ other (after level runs)
+            → IfOk result (λ n. StandsBehind (T.taken sink.new) setting level
+            (runs ++ take n (drop at places.now.runs)) self.new) }
+    {
+        if self.state != State::Following {
+            return Ok(0);
+        }
+        let mut follower = self.line.follower();
+        let low = follower.bounds().low;
+        let cells = follower.guess(&places.near(at));
+        let mut grid = [0; TRACKED];
+        let some = follower.track(places.runs(at, count), &cells, &mut grid);
+        let distances = distances_of(&grid, some, (low + low / 2) as u32);
+        // With all of them the mean distance would still be less than a fifth of a cell.
+        if some == 0 || 5 * (self.spread + u64::from(distances.sum)) > low {
+            return Ok(0);
+        }
+        match self.line.put_runs(sink, high, &cells[..some]) {
+            Ok(()) => {
+                self.line.follow(follower);
+                self.note_all(&distances, some);
+                Ok(some)
+            }
+            Err(fault) => Err(fault),
+        }
+    }
+
+    /// Notes how far so many edges are from their places, as `note` does of each.
+    #[inline(always)]
+    fn note_all(&mut self, distances: &Distances, count: usize)
+        requires few { count ≤ 32 }
+        requires near { self.old.spread + total (take count distances.now.each) ≤ 2 ^ 32 }
+        ensures noted { NotedAll distances.now count self.old self.new }
+    {
+        self.figures.edges = self.figures.edges.saturating_add(count as u64);
+        self.figures.greatest = self.figures.greatest.max(u64::from(distances.greatest));
+        self.figures.squares = self.figures.squares.saturating_add(distances.squares);
+        self.spread = spread_behind(self.spread, distances, count);
     }
 
     /// Counts samples; the first of all says at which level the line begins.

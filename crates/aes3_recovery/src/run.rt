@@ -3,7 +3,8 @@
 ghost use Rattle.std.specs.Prelude.{◌+◌, ◌<◌, ◌≤◌, ◌^◌, ◌≡◌};
 ghost use Rattle.std.specs.Prelude.{IfOk, OnErr, length};
 
-use crate::levels::{Unit, levels_of};
+use crate::levels::{BLOCK, Unit, levels_of, words_of};
+use crate::places::Places;
 use crate::recovery::{Figures, Recovery};
 use aes3_cell::{Fault, Form, Sink, Source};
 
@@ -31,7 +32,7 @@ const PIECE_LEN: usize = 131_072;
 /// How many octets are taken at once.
 const CHUNK: usize = 64;
 
-/// Takes a piece of whole samples, 64 octets at once, and the rest.
+/// Takes a piece of whole samples.
 ///
 /// # Errors
 /// The sink's fault.
@@ -46,12 +47,54 @@ pub fn feed<T: Sink>(
     ensures err_count { OnErr result (T.failed sink.new ≡ T.failed sink.old + 1) }
 {
     let mut at = 0;
+    if piece.len() >= BLOCK {
+        let mut places = Places::new();
+        while let Some(block) = piece[at..].first_chunk() {
+            feed_block(recovery, sink, unit, block, &mut places)?;
+            at += BLOCK;
+        }
+    }
+    feed_chunks(recovery, sink, unit, &piece[at..])
+}
+
+/// Takes a block of samples: its edges are found first, where the line is one of which they can be.
+#[inline(always)]
+fn feed_block<T: Sink>(
+    recovery: &mut Recovery,
+    sink: &mut T,
+    unit: Unit,
+    block: &[u8; BLOCK],
+    places: &mut Places,
+) -> Result<(), Fault>
+    requires room { T.failed sink.old + 1 < 2 ^ 64 }
+    ensures count { IfOk result (λ _. T.failed sink.new ≡ T.failed sink.old) }
+    ensures err_count { OnErr result (T.failed sink.new ≡ T.failed sink.old + 1) }
+{
+    if recovery.is_quick() {
+        let (words, count) = words_of(unit, block);
+        if recovery.take_words(sink, &words[..count], places)? {
+            return Ok(());
+        }
+    }
+    feed_chunks(recovery, sink, unit, block)
+}
+
+/// Takes samples, 64 octets at once, and the rest.
+fn feed_chunks<T: Sink>(
+    recovery: &mut Recovery,
+    sink: &mut T,
+    unit: Unit,
+    piece: &[u8],
+) -> Result<(), Fault>
+    requires room { T.failed sink.old + 1 < 2 ^ 64 }
+    ensures count { IfOk result (λ _. T.failed sink.new ≡ T.failed sink.old) }
+    ensures err_count { OnErr result (T.failed sink.new ≡ T.failed sink.old + 1) }
+{
+    let mut at = 0;
     while let Some(octets) = piece[at..].first_chunk() {
         let (levels, len) = levels_of(unit, octets);
-        match recovery.take(sink, levels, len) {
-            Ok(()) => at += CHUNK,
-            Err(fault) => return Err(fault),
-        }
+        recovery.take(sink, levels, len)?;
+        at += CHUNK;
     }
     let rest = &piece[at..];
     let mut octets = [0; CHUNK];

@@ -23,11 +23,11 @@ loop-i-preserved c =
     let greatest_is = v.greatest in
     let sum_few = v.few in
     let squares_few = v.slim in
-    let most = c.max.ensures in
+    let most = c.max-greatest.ensures in
     let long = v.long in
     record {
-      long = length-set c.loop-i.distances.each c.loop-i.i distance ∙ long;
-      each = each-more c.args.middle c.args.places.now c.loop-i.distances.each c.loop-i.i distance
+      long = length-set c.loop-i.each c.loop-i.i distance ∙ long;
+      each = each-more c.args.middle c.args.places.now c.loop-i.each c.loop-i.i distance
           (omega (arith, below, few)) (omega (arith, below, few, long)) is v.each;
       greatest = let g = all.0 in omega (arith, g, greatest_is, most);
       sum = let s = all.1 in omega (arith, s, sum_is);

@@ -1,14 +1,14 @@
-use Rattle.std.proofs.Common.{ℕ, ◌≡◌, ◌≤◌, ◌<◌, ◌*◌, ◌^◌, length, map, take}
+use Rattle.std.proofs.Common.{◌≡◌, ◌≤◌, ◌*◌, ◌^◌, length, map, take}
 use Rattle.aes3_recovery.specs.Distances.{distance_at, greatest, squares, total}
 use Rattle.aes3_recovery.proofs.distances.distances_of.Given as goal
 
 abbrev pub invariant-loop-i : goal.invariant-loop-i
 invariant-loop-i l = record {
-  long : length l.distances.each ≡ 32;
-  each : take l.i l.distances.each ≡ map (distance_at l.middle) (take l.i l.places);
-  greatest : l.distances.greatest ≡ greatest (map (distance_at l.middle) (take l.i l.places));
-  sum : l.distances.sum ≡ total (map (distance_at l.middle) (take l.i l.places));
-  squares : l.distances.squares ≡ squares (map (distance_at l.middle) (take l.i l.places));
-  few : l.distances.sum ≤ l.i * 2 ^ 25;
-  slim : l.distances.squares ≤ l.i * 2 ^ 50;
+  long : length l.each ≡ 32;
+  each : take l.i l.each ≡ map (distance_at l.middle) (take l.i l.places);
+  greatest : l.greatest ≡ greatest (map (distance_at l.middle) (take l.i l.places));
+  sum : l.sum ≡ total (map (distance_at l.middle) (take l.i l.places));
+  squares : l.squares ≡ squares (map (distance_at l.middle) (take l.i l.places));
+  few : l.sum ≤ l.i * 2 ^ 25;
+  slim : l.squares ≤ l.i * 2 ^ 50;
 }

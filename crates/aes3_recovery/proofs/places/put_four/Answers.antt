@@ -1,4 +1,4 @@
-use Rattle.std.proofs.Common.{◌∙◌, ◌+◌, ◌≡◌, arith}
+use Rattle.std.proofs.Common.{◌∙◌, ◌+◌, arith}
 use Rattle.std.proofs.lemmas.List.{length-set}
 use Rattle.aes3_recovery.proofs.SetBits.{put-one}
 use Rattle.aes3_recovery.proofs.places.put_four.Goals as goal

@@ -1,4 +1,4 @@
-use Rattle.std.proofs.Common.{◌∙◌, ◌+◌, ◌-◌, ◌≡◌, arith, refl, take, sym, ap, get_or}
+use Rattle.std.proofs.Common.{◌∙◌, ◌+◌, ◌-◌, ◌≡◌, arith, take, sym, ap, get_or}
 use Rattle.aes3_recovery.specs.Turns.{gaps}
 use Rattle.aes3_recovery.proofs.Turning.{gaps-all, gaps-at}
 use Rattle.aes3_recovery.proofs.places.Places.measure.Goals as goal

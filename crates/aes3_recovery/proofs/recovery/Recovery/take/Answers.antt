@@ -2,7 +2,7 @@ use Rattle.std.proofs.Common.{◌≡◌, ◌<◌, ◌+◌, ◌^◌, ◌++◌, in
 use Rattle.aes3_level.specs.Words.{low_cells}
 use Rattle.aes3_recovery.specs.Runs.{levels_in}
 use Rattle.aes3_recovery.specs.declared.recovery.State.TheVariants.{Following}
-use Rattle.aes3_recovery.proofs.Followed.{followed-begins, followed-edge, followed-rest, gives-ok}
+use Rattle.aes3_recovery.proofs.Followed.{captured-late, followed-begins, followed-edge, followed-rest, gives-ok}
 use Rattle.aes3_recovery.proofs.Recovering.{recovered-edge, recovered-rest-ok, recovered-word, turned-ended}
 use Rattle.aes3_recovery.proofs.States.{following-or}
 use Rattle.aes3_recovery.proofs.recovery.Recovery.take.Goals as goal
@@ -82,6 +82,14 @@ returns-clause-mean g c =
     gives-ok c.rest.result (g.T.Sink.taken c.rest.new.sink) begun front c.rest.new.self.line first before
     (seen ++ low_cells c.args.len c.args.levels) same other_mean displaced cells
     (returns-clause-follows g c was is equal room some begun front first before seen w) follows captured
+
+pub returns-clause-late : goal.returns-clause-late
+returns-clause-late g c =
+    λ was is equal room some begun front first before seen same other_mean displaced spread late later cells w follows narrow
+    above below s o captured.
+    returns-clause-mean g c was is equal room some begun front first before seen same other_mean displaced cells w follows
+    (captured-late first before cells (seen ++ low_cells c.args.len c.args.levels) same other_mean displaced spread late later
+    narrow above below s o captured)
 
 pub returns-clause-recovered : goal.returns-clause-recovered
 returns-clause-recovered g c = λ setting seen w.
