@@ -41,6 +41,9 @@ fn put_found(figures: Figures, octets: usize, found: &mut Aes3Capture)
     };
 }
 
+/// How many octets are taken at once: fewer than a block of samples whose edges are found first, which takes 33 KB of stack.
+const PIECE: usize = 4032;
+
 /// Recovers the cells of a line from all its samples.
 fn recover_all(
     recovery: &mut Recovery,
@@ -50,7 +53,9 @@ fn recover_all(
 ) -> Result<(), Fault>
     requires { sink.old.failures ≡ 0 }
 {
-    feed(recovery, sink, unit, samples)?;
+    for piece in samples.chunks(PIECE) {
+        feed(recovery, sink, unit, piece)?;
+    }
     recovery.finish(sink)
 }
 

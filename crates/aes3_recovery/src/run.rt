@@ -46,15 +46,35 @@ pub fn feed<T: Sink>(
     ensures count { IfOk result (λ _. T.failed sink.new ≡ T.failed sink.old) }
     ensures err_count { OnErr result (T.failed sink.new ≡ T.failed sink.old + 1) }
 {
+    let taken = if piece.len() < BLOCK {
+        0
+    } else {
+        feed_blocks(recovery, sink, unit, piece)?
+    };
+    feed_chunks(recovery, sink, unit, &piece[taken..])
+}
+
+/// Takes the whole blocks of a piece; answers how many octets these are. It is a function of its own, so that a caller who gives
+/// less than a block needs no stack for the places of edges, which are 33 KB.
+#[inline(never)]
+fn feed_blocks<T: Sink>(
+    recovery: &mut Recovery,
+    sink: &mut T,
+    unit: Unit,
+    piece: &[u8],
+) -> Result<usize, Fault>
+    requires room { T.failed sink.old + 1 < 2 ^ 64 }
+    ensures count { IfOk result (λ _. T.failed sink.new ≡ T.failed sink.old) }
+    ensures err_count { OnErr result (T.failed sink.new ≡ T.failed sink.old + 1) }
+    ensures within { IfOk result (λ taken. taken ≤ length piece.now) }
+{
+    let mut places = Places::new();
     let mut at = 0;
-    if piece.len() >= BLOCK {
-        let mut places = Places::new();
-        while let Some(block) = piece[at..].first_chunk() {
-            feed_block(recovery, sink, unit, block, &mut places)?;
-            at += BLOCK;
-        }
+    while let Some(block) = piece[at..].first_chunk() {
+        feed_block(recovery, sink, unit, block, &mut places)?;
+        at += BLOCK;
     }
-    feed_chunks(recovery, sink, unit, &piece[at..])
+    Ok(at)
 }
 
 /// Takes a block of samples: its edges are found first, where the line is one of which they can be.
