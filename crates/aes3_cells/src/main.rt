@@ -234,7 +234,7 @@ fn run_line<E: Sink, S: Source, T: Sink>(
     source: &mut S,
     sink: &mut T,
 ) -> Result<u8, AllocError>
-    requires { E.failed errors.old + 3 < 2 ^ 64 }
+    requires errors_room { E.failed errors.old + 3 < 2 ^ 64 }
     requires source_room { S.failed source.old + 1 < 2 ^ 64 }
     requires sink_room { T.failed sink.old + 1 < 2 ^ 64 }
     ensures { E.failed errors.new ≤ E.failed errors.old + 3 }
