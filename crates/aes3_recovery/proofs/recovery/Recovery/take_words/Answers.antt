@@ -1,4 +1,4 @@
-use Rattle.std.proofs.Common.{◌≡◌, ◌++◌, ◌∷◌, ◌+◌, ◌-◌, ◌*◌, ap, ◌∙◌, sym, refl, arith, length, take, Bool, Ok, true}
+use Rattle.std.proofs.Common.{◌≡◌, ◌++◌, ◌∷◌, ◌+◌, ◌-◌, ◌*◌, ap, ◌∙◌, sym, refl, arith, length, take, Bool, Ok, true, rules}
 use Rattle.aes3_level.specs.Cells.{after, other}
 use Rattle.aes3_level.proofs.Runs.{after-append, other-other}
 use Rattle.std.specs.List.{flat_map}
@@ -53,7 +53,7 @@ returns-in-Ok-clause-recovered g c = λ setting seen w.
       queue_is = c.stand.ensures.queue;
       follower_is = c.stand.ensures.follower;
     })
-    refl c.stand.ensures.high run (omega (arith, run, longest, short))
+    refl (search (rules, c.stand.ensures.high)) run (omega (arith, run, longest, short))
     (let sum = c.saturating_add-self.ensures in
     let kept = c.follow_edges.ensures.samples in
     omega (arith, sum, kept, many)) w
@@ -85,7 +85,7 @@ returns-in-Ok-clause-follows g c = λ was is same room begun front first before 
     (c.behind-behind.ensures from places placed ∙ ap (λ n. (128 + n) - last_place from places) (sym many))
     (c.in-Ok.ensures.counted was is same room (other (level_if old.line.edges.high)) high)
     (c.in-Ok.ensures.level (other (level_if old.line.edges.high)) high)
-    c.stand.ensures.follower c.stand.ensures.queue c.stand.ensures.high run (omega (arith, run, longest, short)) w
+    c.stand.ensures.follower c.stand.ensures.queue (search (rules, c.stand.ensures.high)) run (omega (arith, run, longest, short)) w
 
 pub returns-in-Ok-clause-mean : goal.returns-in-Ok-clause-mean
 returns-in-Ok-clause-mean g c =
