@@ -294,17 +294,17 @@ judge "a line with much jitter" doubted "makes wrong cells\|likely to be wrong" 
 # At a terminal it tells how much of a file it has read. The cells are not read for two seconds, and the next piece of the file comes behind them.
 if command -v script >/dev/null; then
     "$python" "$here/line.py" 8 capture blocks=40
-    erase=$(printf '\033[K')
+    erase="$(printf '\033')\\[K"
     waiting='{ sleep 2; cat >/dev/null; }'
     script -qec "'$program' capture | $waiting" /dev/null </dev/null | tr -d '\r' >told
-    judge "how much of a capture has been read" grep -q "^aes3-cells: [1-9][0-9]* %, [0-9]* MB/s$erase${erase}aes3-cells: 8\.[0-9]* samples a cell" told
+    judge "how much of a capture has been read" grep -q "^aes3-cells: [1-9][0-9]* %, [0-9]* MB/s$erase${erase}aes3-cells: [0-9]* cells, 8\.[0-9]* samples a cell" told
     judge "and nothing of it is left" test "$(wc -l <told)" = 1
     script -qec "'$program' <capture | $waiting" /dev/null </dev/null | tr -d '\r' >told
     judge "standard input that is a file too" grep -q "^aes3-cells: [1-9][0-9]* %, " told
     script -qec "cat capture | '$program' | $waiting" /dev/null </dev/null | tr -d '\r' >told
-    judge "nothing of it where the input is no file" grep -q "^aes3-cells: 8\.[0-9]* samples a cell" told
+    judge "nothing of it where the input is no file" grep -q "^aes3-cells: [0-9]* cells, 8\.[0-9]* samples a cell" told
     { "$program" capture 2>told; } | { sleep 2; cat >/dev/null; }
-    judge "nothing of it where standard error is no terminal" grep -q "^aes3-cells: 8\.[0-9]* samples a cell" told
+    judge "nothing of it where standard error is no terminal" grep -q "^aes3-cells: [0-9]* cells, 8\.[0-9]* samples a cell" told
 else
     leave_out "how much of a capture has been read" "script is not installed"
 fi
