@@ -7,14 +7,19 @@
   place are made together.
 - CELLS (aes3-cells; left out where it is not given): a run of 56 to 90 samples in a line with 16 samples a cell becomes the number of
   cells nearest to its length. Up to four periods are counted by comparisons, more by a division.
+- CELLS: a capture that is read whole gives the cells and the figures that it gives in pieces of less than 4,096 octets, as whole blocks of so many
+  go another way: lines of 2.02 to 100 samples a cell, around 42; single edges 0.25 to 0.55 of a cell from their places; runs of 120 to 136 samples;
+  falling edges late; lines that stop; noise; and lengths around that of a block.
 
 The last line is `N passed, M failed`, and the status 1 where one failed.
 """
 
 import argparse
 import random
+import socket
 import subprocess
 import sys
+import tempfile
 
 SUBFRAMES = 384
 
@@ -91,6 +96,78 @@ def run_cases(program, cells_program, chance):
         yield f"a run of {samples} samples", said == wanted
 
 
+def levels_of(runs, low=0, high=1):
+    return b"".join(bytes([high if number % 2 else low]) * run for number, run in enumerate(runs))
+
+
+def runs_of(chance, cells, period, rms, late=0.0, far=0.0):
+    """The runs of samples of these cells, each edge displaced; falling ones are late, and each 97th is far from its place."""
+    edges = [at for at in range(1, len(cells)) if cells[at] != cells[at - 1]]
+    places = []
+    for number, at in enumerate(edges):
+        place = at * period + chance.gauss(0, rms) + (late if number % 2 else 0)
+        if number % 97 == 96:
+            place += far * chance.choice((-1, 1))
+        places.append(max(round(place), places[-1] + 1 if places else 1))
+    return [b - a for a, b in zip([0, *places], places)]
+
+
+def captures(program, chance):
+    """Captures, each with its name and the words for aes3-cells."""
+    cells = cells_of_blocks(program, chance, 2)
+    for period in (2.02, 2.3, 3, 4.07, 8, 17.7, 41, 41.9, 42, 42.1, 43, 100):
+        few = cells[: 49_152 if period < 20 else 12_000]
+        runs = runs_of(chance, few, period, 0.05 * period)
+        yield f"{period} samples a cell", levels_of(runs), []
+        octets = levels_of(runs, 0x5A, 0xDA)
+        yield f"{period} samples a cell, in bit 15 of pairs", b"".join(bytes([octet ^ 0x33, octet]) for octet in octets), ["--unit", "2", "--bit", "15"]
+    few = cells[:20_000]
+    for far in range(25, 56, 2):
+        yield f"edges {far} hundredths of a cell away", levels_of(runs_of(chance, few, 16, 0.3, 0, far * 0.16)), []
+    for late in range(10, 71, 10):
+        yield f"falling edges {late} hundredths of a cell late", levels_of(runs_of(chance, few, 16, 0.3, late * 0.16)), []
+    for long in range(120, 137):
+        runs = runs_of(chance, few, 32, 0.5)
+        for at in range(600, len(runs), 300):
+            runs[at] = long
+        yield f"runs of {long} samples", levels_of(runs), []
+    line = runs_of(chance, few, 4.07, 0.2)
+    octets = levels_of(line)
+    for size in (1, 63, 64, 65, 4095, 4096, 4097, 8191, 8192, 8193, 12_288, 20_000):
+        yield f"{size} octets", octets[:size], []
+    for dead in (100, 200, 400, 4000, 4096, 9000):
+        yield f"a line that stops for {dead} samples", octets[:50_001] + bytes(dead) + octets[50_001:], []
+    noise = bytes(chance.randrange(256) for _ in range(60_000))
+    yield "noise", noise, []
+    yield "noise within a line", octets[:40_000] + noise + octets[40_000:], []
+    yield "every sample another level", bytes([0, 1]) * 10_000 + octets, []
+
+
+def in_pieces(chance, program, words, octets):
+    """What a program answers that is given so many octets a read, fewer than 4,096."""
+    ours, its = socket.socketpair(socket.AF_UNIX, socket.SOCK_SEQPACKET)
+    with tempfile.TemporaryFile() as said, tempfile.TemporaryFile() as told:
+        with subprocess.Popen([program, *words], stdin=its, stdout=said, stderr=told) as ran:
+            its.close()
+            at = 0
+            while at < len(octets):
+                piece = octets[at : at + chance.choice((1, 7, 64, 4000, 4095))]
+                ours.send(piece)
+                at += len(piece)
+            ours.close()
+        said.seek(0)
+        told.seek(0)
+        return ran.returncode, said.read(), told.read()
+
+
+def way_cases(program, cells_program, chance):
+    for what, octets, words in captures(program, chance):
+        for form in ([], ["--packed-out"]):
+            ran = subprocess.run([cells_program, *words, *form], input=octets, stdout=subprocess.PIPE, stderr=subprocess.PIPE, check=False)
+            whole = ran.returncode, ran.stdout, ran.stderr
+            yield f"{what} {' '.join(form)}", in_pieces(chance, cells_program, [*words, *form], octets) == whole
+
+
 def main():
     parser = argparse.ArgumentParser(description=__doc__, formatter_class=argparse.RawDescriptionHelpFormatter)
     parser.add_argument("program")
@@ -101,6 +178,7 @@ def main():
     cases = [text_cases(given.program, chance), place_cases(given.program, chance)]
     if given.cells:
         cases.append(run_cases(given.program, given.cells, chance))
+        cases.append(way_cases(given.program, given.cells, chance))
     else:
         print("left out: runs of samples in tests/thresholds.py (no aes3-cells is named)")
     for part in cases:

@@ -19,7 +19,7 @@ ghost use Rattle.std.specs.Prelude.{◌+◌, ◌<◌, ◌≤◌, ◌^◌, ◌≡
 
 use aes3_cell::{BufferedSink, Sink, Source, StdSink, StdSource, write_all};
 use aes3_files::{Input, Preview};
-use aes3_progress::{Clearing, Course, Progress as Followed};
+use aes3_progress::{Clearing, Course, Progress as Followed, Unit as Counted};
 use aes3_recovery::{Progress, Recovery, Refusal, Unit, recover};
 use figures::{doubt_of, figures_line, no_line};
 use line::{Job, LineFault, job_of_words};
@@ -186,7 +186,7 @@ fn course_of(rt: &HostRuntime, input: &Input<'_>) -> Option<Course> {
     if !rt.stderr().is_terminal() {
         return None;
     }
-    Course::new(rt, "aes3-cells", input.len(rt)?, None)
+    Course::new(rt, input.len(rt)?, Counted::Samples)
 }
 
 /// Tells in which bit the line was found, if it is not the lowest.

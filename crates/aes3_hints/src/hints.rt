@@ -104,9 +104,7 @@ impl<T: Sink + Drop> Hints<T> {
         ensures no_file { len ≡ None → result.course ≡ None }
     {
         let course = match (self.terminals.errors, len, line) {
-            (true, Some(len), Ok(line)) => {
-                Course::new(&clock, "aes3", len, Some(unit_of(&line.job)))
-            }
+            (true, Some(len), Ok(line)) => Course::new(&clock, len, unit_of(&line.job)),
             _ => None,
         };
         Progress::new(self.alloc, clock, source, sink, shown, course)

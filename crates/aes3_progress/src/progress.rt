@@ -30,12 +30,9 @@ fn rate(bytes: u64, micros: u128) -> u128
 /// How far a file has been read that is told of.
 #[derive(Clone, Copy)]
 pub struct Course {
-    /// The program that tells it.
-    program: &'static str,
     begun: Instant,
     len: u64,
-    /// What makes a block of it, if it has blocks.
-    unit: Option<Unit>,
+    unit: Unit,
     /// How many bytes were read, and how many of them count.
     bytes: u64,
     counted: u64,
@@ -44,17 +41,10 @@ pub struct Course {
 }
 
 impl Course {
-    /// That of a file of `len` bytes, begun now, which `program` reads; `unit` makes a block of it, if
-    /// it has blocks. Where there is no clock there is none.
-    pub fn new(
-        clock: &impl Clock,
-        program: &'static str,
-        len: u64,
-        unit: Option<Unit>,
-    ) -> Option<Self> {
+    /// That of a file of `len` bytes, begun now. Where there is no clock there is none.
+    pub fn new(clock: &impl Clock, len: u64, unit: Unit) -> Option<Self> {
         let begun = Instant::now(clock).ok()?;
         Some(Course {
-            program,
             begun,
             len,
             unit,
@@ -66,13 +56,9 @@ impl Course {
 
     /// The course with these bytes behind the others.
     fn with(self, bytes: &[u8]) -> Self {
-        let counted = match self.unit {
-            Some(unit) => unit.count(bytes),
-            None => 0,
-        };
         Course {
             bytes: self.bytes.saturating_add(bytes.len() as u64),
-            counted: self.counted.saturating_add(counted),
+            counted: self.counted.saturating_add(self.unit.count(bytes)),
             ..self
         }
     }
@@ -80,15 +66,14 @@ impl Course {
     /// The line that tells it; the cursor then stands where it began. Where memory for it is refused
     /// there is none.
     fn line(self, alloc: Global, micros: u128) -> Option<String> {
-        let program = self.program;
         let percent = percent(self.bytes, self.len);
         let rate = rate(self.bytes, micros);
         let line = match self.unit {
-            Some(unit) => {
+            Unit::Samples => format!(in alloc; "aes3-cells: {percent} %, {rate} MB/s\x1B[K\r"),
+            unit => {
                 let blocks = unit.blocks(self.counted);
-                format!(in alloc; "{program}: {percent} %, {rate} MB/s, {blocks} blocks\x1B[K\r")
+                format!(in alloc; "aes3: {percent} %, {rate} MB/s, {blocks} blocks\x1B[K\r")
             }
-            None => format!(in alloc; "{program}: {percent} %, {rate} MB/s\x1B[K\r"),
         };
         line.ok()
     }

@@ -1,22 +1,24 @@
-//! Bytes of a file that count.
+//! What a file has, and which of its bytes count.
 
 /// How many cells make a block.
 const CELLS: u64 = 24_576;
 
-/// How many bytes of a file make a block.
+/// What a file has.
 #[derive(Clone, Copy)]
 pub enum Unit {
-    /// So many.
+    /// Blocks of so many bytes, which `aes3` reads.
     Bytes(u64),
-    /// As many of cell text as have the cells of one: line ends don't count.
+    /// Cells as text, which `aes3` reads; line ends don't count.
     Cells,
+    /// Samples of a capture, which `aes3-cells` reads: how many blocks these are is not known.
+    Samples,
 }
 
 impl Unit {
     /// How many of these bytes count.
     pub(crate) fn count(self, bytes: &[u8]) -> u64 {
         match self {
-            Unit::Bytes(_) => bytes.len() as u64,
+            Unit::Bytes(_) | Unit::Samples => bytes.len() as u64,
             Unit::Cells => bytes
                 .iter()
                 .filter(|byte| matches!(**byte, b'0' | b'1'))
@@ -28,7 +30,7 @@ impl Unit {
     pub(crate) fn blocks(self, counted: u64) -> u64 {
         let block_len = match self {
             Unit::Bytes(len) => len,
-            Unit::Cells => CELLS,
+            Unit::Cells | Unit::Samples => CELLS,
         };
         counted / block_len.max(1)
     }
