@@ -185,7 +185,9 @@ impl Follower {
 
     /// How many cells most likely lie between each of these places of edges and the next, in samples, where the first is that
     /// of the latest edge. `track` compares, so nothing hangs on their being right.
-    pub fn guess(&self, places: &[u32; TRACKED + 1]) -> [u32; TRACKED] {
+    pub fn guess(&self, places: &[u32]) -> [u32; TRACKED]
+        requires { length places.now ≡ 33 }
+    {
         // Places in cells, a cell as 2^20, behind the last cell that ends before the latest edge.
         let frequency = ((1u64 << 36) / self.period) as u32;
         let other = cells_of(self.other.saturating_sub(self.bounds.low), frequency);

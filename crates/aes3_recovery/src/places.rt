@@ -102,12 +102,11 @@ impl Places {
     }
 
     /// The place of the edge before number `at`, and those of 32 edges from it on.
-    pub fn near(&self, at: usize) -> [u32; TRACKED + 1]
+    pub fn near(&self, at: usize) -> &[u32]
         requires within { at < 4096 }
+        ensures { length result.now ≡ 33 }
     {
-        let mut near = [0; TRACKED + 1];
-        near.copy_from_slice(&self.places[at..at + TRACKED + 1]);
-        near
+        &self.places[at..at + TRACKED + 1]
     }
 }
 

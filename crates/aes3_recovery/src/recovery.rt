@@ -451,7 +451,7 @@ impl Recovery {
         }
         let mut follower = self.line.follower();
         let low = follower.bounds().low;
-        let cells = follower.guess(&places.near(at));
+        let cells = follower.guess(places.near(at));
         let mut grid = [0; TRACKED];
         let some = follower.track(places.runs(at, count), &cells, &mut grid);
         let distances = distances_of(&grid, some, (low + low / 2) as u32);
