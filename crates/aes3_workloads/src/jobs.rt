@@ -179,7 +179,21 @@ impl<'a> Workload<'a> {
         for _ in 0..BLOCKS {
             samples.push(samples_of_block(alloc, &mut self.numbers)?)?;
         }
-        let status = ["from-pcm", "--set1", "rate=48000", "--set2", "rate=48000"];
+        let status = [
+            "from-pcm",
+            "--set1",
+            "rate=48000",
+            "--set1",
+            "copyright=asserted",
+            "--set1",
+            "greatest=20",
+            "--set2",
+            "rate=48000",
+            "--set2",
+            "copyright=asserted",
+            "--set2",
+            "greatest=20",
+        ];
         self.text(&status, samples.as_slice(), 600)?;
         let files = blocks(alloc, &mut self.numbers, BLOCKS)?;
         self.text(&["encode", "--packed-out"], files.as_slice(), 600)?;
