@@ -4,3 +4,5 @@ pub mod Counts
 pub mod Whole
 pub mod Tolerance
 mod Nearness
+mod Leaping
+mod Leapt

@@ -1,7 +1,9 @@
 -- An edge near its place, behind as many cells as were told of it.
 use Rattle.std.proofs.Common.{ℕ, List, [], ◌∷◌, ◌++◌, length, take, get_or, set, zero, suc, Bool, true, false, ◌≡◌, ◌<◌, ◌≤◌, ◌+◌, ◌-◌, ◌*◌, ◌/◌, ◌⊎◌, inl, inr, refl, sym, arith}
 use Rattle.std.specs.Prelude.{nat_le}
-use Rattle.std.proofs.lemmas.List.{take_more, take_more_set}
+use Rattle.std.specs.List.{between}
+use Rattle.std.proofs.lemmas.List.{take_more, take_more_set, take-append-drop, take-take}
+use Rattle.std.proofs.lemmas.Slice.{between_is}
 use Rattle.std.proofs.lemmas.Bool.{cases_lt, le-leb, lt-leb}
 use Rattle.aes3_capture.specs.declared.follower.Follower.{Follower}
 use Rattle.aes3_capture.specs.Following.{Counted, IsNear, Tracked, Turned, ends_cell, last_cell, middle_of, place_of}
@@ -165,12 +167,32 @@ tracked-more (r ∷ runs) (m ∷ cells) (q ∷ places) old at new run n place tr
   tracked-more runs cells places tracked.0 at new run n place tracked.3 near is_place,
 )
 
+-- some more of them
+pub tracked-append : (runs cells places more many most : List ℕ) (old at new : Follower)
+    → Tracked old runs cells places at → Tracked at more many most new
+    → Tracked old (runs ++ more) (cells ++ many) (places ++ most) new
+tracked-append [] [] [] more many most old at new tracked rest = rw (sym tracked) rest
+tracked-append [] [] (q ∷ places) more many most old at new tracked rest = absurd tracked
+tracked-append [] (m ∷ cells) places more many most old at new tracked rest = absurd tracked
+tracked-append (r ∷ runs) [] places more many most old at new tracked rest = absurd tracked
+tracked-append (r ∷ runs) (m ∷ cells) [] more many most old at new tracked rest = absurd tracked
+tracked-append (r ∷ runs) (m ∷ cells) (q ∷ places) more many most old at new tracked rest = (
+  tracked.0,
+  tracked.1,
+  tracked.2,
+  tracked-append runs cells places more many most tracked.0 at new tracked.3 rest,
+)
+
+-- a list up to a place behind another
+pub take-on : (xs : List ℕ) (i j : ℕ) → i ≤ j → take j xs ≡ take i xs ++ between i j xs
+take-on xs i j ordered = rw (between_is xs i j, sym (take-take i j xs ordered)) (sym (take-append-drop i (take j xs)))
+
 -- the next of the runs, once it is tracked
-pub tracked-at : (runs cells places : List ℕ) (old at new : Follower) (i : ℕ) → i < length runs → i < length cells
+pub tracked-at : (runs cells places : List ℕ) (old at new : Follower) (i place : ℕ) → i < length runs → i < length cells
     → i < length places → Tracked old (take i runs) (take i cells) (take i places) at
-    → IsNear at (get_or runs i 0) (get_or cells i 0) new
-    → Tracked old (take (i + 1) runs) (take (i + 1) cells) (take (i + 1) (set places i new.same)) new
-tracked-at runs cells places old at new i a b c tracked near =
-    rw (take_more runs i 0 a, take_more cells i 0 b, take_more_set places i new.same c)
-    (tracked-more (take i runs) (take i cells) (take i places) old at new (get_or runs i 0) (get_or cells i 0) new.same
-    tracked near refl)
+    → IsNear at (get_or runs i 0) (get_or cells i 0) new → new.same ≡ place
+    → Tracked old (take (i + 1) runs) (take (i + 1) cells) (take (i + 1) (set places i place)) new
+tracked-at runs cells places old at new i place a b c tracked near is =
+    rw (take_more runs i 0 a, take_more cells i 0 b, take_more_set places i place c)
+    (tracked-more (take i runs) (take i cells) (take i places) old at new (get_or runs i 0) (get_or cells i 0) place
+    tracked near is)

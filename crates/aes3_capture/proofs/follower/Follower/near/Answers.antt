@@ -29,8 +29,8 @@ returns c =
             same_is = omega (arith, behind, within, samples, cells, same);
             other_is = omega (arith, behind, within, apart, samples, cells, same);
             period_is = omega (arith, behind, within, samples, cells, least);
-            least = least;
-            most = most;
+            least = omega (arith, least);
+            most = omega (arith, most);
             other_bound = omega (arith, behind, within, apart, samples, cells, same);
           });
       few = omega arith;
