@@ -117,9 +117,9 @@ take-on-from [] (suc i) (suc n) (suc m) is = refl
 take-on-from (x ∷ xs) (suc i) n zero is = absurd (omega (arith, is))
 take-on-from (x ∷ xs) (suc i) n (suc m) is = ap (λ l. x ∷ l) (take-on-from xs i n m (omega (arith, is)))
 
-pub take-on : (runs xs : List ℕ) (i n : ℕ) → (runs ++ take i xs) ++ take n (drop i xs) ≡ runs ++ take (i + n) xs
-take-on runs xs i n =
-    append_assoc runs (take i xs) (take n (drop i xs)) ∙ ap (λ l. runs ++ l) (take-on-from xs i n (i + n) refl)
+pub take-on : (runs xs : List ℕ) (i n j : ℕ) → j ≡ i + n → (runs ++ take i xs) ++ take n (drop i xs) ≡ runs ++ take j xs
+take-on runs xs i n j is =
+    append_assoc runs (take i xs) (take n (drop i xs)) ∙ ap (λ l. runs ++ l) (take-on-from xs i n j is)
 
 -- how many some from a place on are
 pub length-some : (xs : List ℕ) (i n : ℕ) → i + n ≤ length xs → length (take n (drop i xs)) ≡ n

@@ -1,5 +1,5 @@
 -- How far edges lie from their places.
-use Rattle.std.specs.Prelude.{ℕ, List, [], ◌∷◌, ◌+◌, ◌-◌, ◌*◌, ◌/◌, ◌^◌, max, min}
+use Rattle.std.specs.Prelude.{ℕ, List, [], ◌∷◌, ◌+◌, ◌-◌, ◌*◌, ◌/◌, ◌^◌, ◌≡◌, map, max, min}
 
 -- how far an edge was from its place, in 256ths of a sample, once the grid has gone a sixteenth of the way to it, where it
 -- then lies so far behind the one that `middle` tells
@@ -26,3 +26,10 @@ squares (n ∷ numbers) = n * n + squares numbers
 abbrev pub spread_after : ℕ → List ℕ → ℕ
 spread_after spread [] = spread
 spread_after spread (n ∷ numbers) = spread_after (min (spread - spread / 256 + n) (2 ^ 32)) numbers
+
+-- the distances of edges from their places, the greatest of them, their sum and that of their squares
+pub record AreDistances (middle : ℕ) (places each : List ℕ) (most sum sum_of_squares : ℕ) : Type 0 where
+  pub each_is : each ≡ map (distance_at middle) places
+  pub most_is : most ≡ greatest (map (distance_at middle) places)
+  pub sum_is : sum ≡ total (map (distance_at middle) places)
+  pub squares_is : sum_of_squares ≡ squares (map (distance_at middle) places)

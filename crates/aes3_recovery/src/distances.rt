@@ -1,7 +1,7 @@
 //! How far edges lie from their places.
 
 ghost use Rattle.std.specs.Prelude.{◌≡◌, ◌≤◌, ◌+◌, ◌^◌, map, take};
-ghost use Rattle.aes3_recovery.specs.Distances.{distance_at, greatest, spread_after, squares, total};
+ghost use Rattle.aes3_recovery.specs.Distances.{AreDistances, distance_at, greatest, spread_after, squares, total};
 
 use aes3_capture::TRACKED;
 
@@ -17,6 +17,9 @@ pub struct Distances {
     pub squares: u64,
 }
 
+/// Distances that are no greater are summed up in 32 bits.
+const SMALL: u32 = (1 << 13) - 1;
+
 /// How far so many edges lie from the middle of their grid, where the grid has gone a sixteenth of the way to each.
 pub fn distances_of(places: &[u32; TRACKED], count: usize, middle: u32) -> Distances
     requires few { count ≤ 32 }
@@ -25,6 +28,12 @@ pub fn distances_of(places: &[u32; TRACKED], count: usize, middle: u32) -> Dista
     ensures sum { result.sum ≡ total (map (distance_at middle) (take count places.now)) }
     ensures squares { result.squares ≡ squares (map (distance_at middle) (take count places.now)) }
 {
+    if count == TRACKED {
+        let all = small_distances(places, middle);
+        if all.greatest <= SMALL {
+            return all;
+        }
+    }
     // They are numbers of their own until the end, so that LLVM takes several edges at once.
     let mut each = [0; TRACKED];
     let mut greatest = 0;
@@ -43,6 +52,35 @@ pub fn distances_of(places: &[u32; TRACKED], count: usize, middle: u32) -> Dista
         greatest,
         sum,
         squares,
+    }
+}
+
+/// How far all 32 edges lie from the middle of their grid, as `distances_of` tells it, if no distance is greater than `SMALL`.
+///
+/// It uses 32 bits and a fixed number of edges, so that LLVM takes several of them at once.
+#[inline(always)]
+fn small_distances(places: &[u32; TRACKED], middle: u32) -> Distances
+    ensures { result.greatest ≤ 8191 → AreDistances middle (take 32 places.now) (take 32 result.each) result.greatest result.sum
+        result.squares }
+{
+    let mut each = [0; TRACKED];
+    let mut greatest = 0;
+    let mut sum = 0;
+    let mut squares = 0u32;
+    for i in 0..TRACKED {
+        let left = places[i].abs_diff(middle) >> 8;
+        // A fifteenth more.
+        let distance = left + (left.wrapping_mul(34_953) >> 19);
+        each[i] = distance;
+        greatest = distance.max(greatest);
+        sum += distance;
+        squares = squares.wrapping_add(distance.wrapping_mul(distance));
+    }
+    Distances {
+        each,
+        greatest,
+        sum,
+        squares: u64::from(squares),
     }
 }
 

@@ -1,8 +1,8 @@
 //! The levels of a line among samples of many.
 
-ghost use Rattle.std.specs.Prelude.{ℕ, ◌+◌, ◌*◌, ◌<◌, ◌≤◌, ◌≡◌, ◌^◌, drop, get_or, take};
+ghost use Rattle.std.specs.Prelude.{ℕ, ◌+◌, ◌*◌, ◌<◌, ◌≤◌, ◌≡◌, ◌^◌, get_or};
 ghost use Rattle.std.specs.Int.{bit_at};
-ghost use Rattle.aes3_recovery.specs.Levels.{AreLevels, AreWords, IsWord, bits_of_sample, samples_in};
+ghost use Rattle.aes3_recovery.specs.Levels.{AreLevels, AreWords, IsWord, bits_of_sample};
 
 use crate::places::WORDS;
 use aes3_level::even_bits;
@@ -84,23 +84,35 @@ fn word_at(unit: Unit, block: &[u8; BLOCK], i: usize) -> u64
     ensures { IsWord unit block.now i result }
 {
     match unit {
-        Unit::Octets(_) => levels_at(unit, block, 64 * i),
-        Unit::Pairs(_) => {
-            let first = levels_at(unit, block, 128 * i);
-            let second = levels_at(unit, block, 128 * i + 64);
-            first + (second << 32)
-        }
+        Unit::Octets(bit) => levels_at(block, 64 * i, bit % 8),
+        Unit::Pairs(bit) => levels_of_pairs_at(block, 128 * i, bit % 16),
     }
 }
 
-/// The levels of the samples that 64 octets of a block are, from one on.
+/// This bit of 64 octets of a block, from one on, that of the first in the lowest bit.
 #[inline(always)]
-fn levels_at(unit: Unit, block: &[u8; BLOCK], at: usize) -> u64
-    requires { at + 64 ≤ 4096 }
-    ensures levels { AreLevels unit (take 64 (drop at block.now)) result (samples_in unit 64) }
-    ensures bound { result < 2 ^ samples_in unit 64 }
+fn levels_at(block: &[u8; BLOCK], at: usize, bit: u8) -> u64
+    requires within { at + 64 ≤ 4096 }
+    requires bit { bit < 8 }
+    ensures { (j : ℕ) → j < 64 → bit_at result j ≡ bit_at (get_or block.now (at + j) 0) bit }
 {
     let mut octets = [0; 64];
     octets.copy_from_slice(&block[at..at + 64]);
-    levels_of(unit, &octets).0
+    bits_of(&octets, bit)
+}
+
+/// This bit of 64 pairs of octets of a block, from one on, each with the lower octet first, that of the first in the lowest bit.
+#[inline(always)]
+fn levels_of_pairs_at(block: &[u8; BLOCK], at: usize, bit: u8) -> u64
+    requires within { at + 128 ≤ 4096 }
+    requires bit { bit < 16 }
+    ensures { (j : ℕ) → j < 64 → bit_at result j
+        ≡ bit_at (get_or block.now (at + 2 * j) 0 + 256 * get_or block.now (at + 2 * j + 1) 0) bit }
+{
+    let mut levels = [0; 64];
+    for j in 0..64 {
+        let sample = u16::from(block[at + 2 * j]) + 256 * u16::from(block[at + 2 * j + 1]);
+        levels[j] = (sample >> bit & 1) as u8;
+    }
+    bits_of(&levels, 0)
 }

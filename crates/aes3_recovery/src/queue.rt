@@ -208,6 +208,8 @@ pub fn bits_of_cells(high: bool, cells: u32) -> u64
 
 /// The word whose lowest bits are the cells of eight runs at most, the first of this level and each of three cells at most,
 /// and how many cells these are.
+///
+/// It inverts all later cells at the end of each run, which takes fewer steps than placing the cells of each.
 #[inline(always)]
 pub fn bits_of_runs(high: bool, runs: &[u32]) -> (u64, u32)
     requires few { length runs.now ≤ 8 }
@@ -216,15 +218,13 @@ pub fn bits_of_runs(high: bool, runs: &[u32]) -> (u64, u32)
     ensures no_more { result.0 < 2 ^ result.1 }
     ensures most { result.1 ≤ 24 }
 {
-    let mut bits = 0;
+    let mut levels = if high { u64::MAX } else { 0 };
     let mut len = 0;
-    let mut high = high;
     for i in 0..runs.len() {
-        bits |= bits_of_cells(high, runs[i]) << len;
         len += runs[i];
-        high = !high;
+        levels ^= u64::MAX << len;
     }
-    (bits, len)
+    (levels & ((1u64 << len) - 1), len)
 }
 
 /// The line of text of the cells left, in front.

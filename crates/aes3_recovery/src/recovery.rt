@@ -479,7 +479,12 @@ impl Recovery {
         self.figures.edges = self.figures.edges.saturating_add(count as u64);
         self.figures.greatest = self.figures.greatest.max(u64::from(distances.greatest));
         self.figures.squares = self.figures.squares.saturating_add(distances.squares);
-        self.spread = spread_behind(self.spread, distances, count);
+        // Both are the same. LLVM unrolls the first, whose count it knows.
+        self.spread = if count == TRACKED {
+            spread_behind(self.spread, distances, TRACKED)
+        } else {
+            spread_behind(self.spread, distances, count)
+        };
     }
 
     /// Counts samples; the first of all says at which level the line begins.

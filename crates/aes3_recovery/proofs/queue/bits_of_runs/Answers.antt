@@ -1,7 +1,8 @@
-use Rattle.std.proofs.Common.{arith}
-use Rattle.std.proofs.lemmas.List.{take_more}
-use Rattle.aes3_recovery.proofs.WordBits.{fit-bound, runs-fit}
+use Rattle.std.proofs.Common.{arith, refl, sym}
+use Rattle.std.proofs.lemmas.List.{take_all, take_more}
+use Rattle.aes3_recovery.proofs.TurnedRuns.{cells-alone, turned-more, turned-none}
 use Rattle.aes3_recovery.proofs.queue.bits_of_runs.Goals as goal
+use Rattle.aes3_recovery.proofs.queue.bits_of_runs.Goals.{then-high, else-high}
 
 pub loop-i-preserved : goal.loop-i-preserved
 loop-i-preserved c =
@@ -11,12 +12,26 @@ loop-i-preserved c =
     let short = c.requires.short c.loop-i.i below in
     let most = v.most in
     record {
-      cells = λ before e.
-          let w = v.cells before e in
-          runs-fit c.loop-i.bits c.bits_of_cells.result c.loop-i.len _ before c.loop-i.high _ _
-          (take_more c.args.runs.now c.loop-i.i 0 below) (omega (arith, most, short, below, few)) v.no_more
-          c.bits_of_cells.ensures.no_more c.bits_of_cells.ensures.cells w.0 w.1;
-      no_more = fit-bound c.loop-i.bits c.bits_of_cells.result c.loop-i.len _ (omega (arith, most, short, below, few))
-          v.no_more c.bits_of_cells.ensures.no_more;
+      turned = λ before level. turned-more c.loop-i.levels c.loop-i.len _ _ _ before _ _
+          (take_more c.args.runs.now c.loop-i.i 0 below) (omega arith) (omega (arith, most, short, below, few)) refl (v.turned before level);
       most = omega (arith, most, short);
     }
+
+pub loop-i-init : goal.loop-i-init
+loop-i-init c = record {
+  turned = λ before level. turned-none c.args.high c.if-high.levels before level
+      (elim c.if-high.branch [ then-high w ↦ rw w.if-high.true w.levels-is | else-high w ↦ rw w.if-high.false w.levels-is ]);
+  most = omega arith;
+}
+
+pub returns-clause-cells : goal.returns-clause-cells
+returns-clause-cells c before level =
+    let v = c.loop-i.invariant in
+    let all = c.loop-i-test.false in
+    let last = c.loop-i.auto.i-end in
+    let few = c.requires.few in
+    let most = v.most in
+    rw (
+      cells-alone c.loop-i.levels c.loop-i.len (omega (arith, most, last, few)),
+      sym (take_all c.loop-i.i c.args.runs.now all),
+    ) (v.turned before level).cells

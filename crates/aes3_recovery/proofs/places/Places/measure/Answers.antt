@@ -10,9 +10,10 @@ loop-i-preserved c =
       c.loop-i.invariant.0,
       λ first more are.
           gaps-at first c.args.count more c.args.self.now.places c.loop-i.self.runs c.loop-i.i
-          c.saturating_sub-run.result below are (omega (arith, few)) (omega (arith, below, few))
-          (c.saturating_sub-run.ensures
-          ∙ ap (λ l. get_or l (c.loop-i.i + 1) 0 - get_or l c.loop-i.i 0) c.loop-i.invariant.0)
+          _ below are (omega (arith, few)) (omega (arith, below, few))
+          (let run = c.saturating_sub-run.ensures
+          ∙ ap (λ l. get_or l (c.loop-i.i + 1) 0 - get_or l c.loop-i.i 0) c.loop-i.invariant.0 in
+          omega (arith, run))
           (c.loop-i.invariant.1 first more are),
     )
 

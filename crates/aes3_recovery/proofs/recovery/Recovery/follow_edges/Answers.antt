@@ -31,8 +31,8 @@ loop-at-preserved g c =
     let all = c.args.places.now.runs in
     let some = take c.in-Ok.some (drop c.loop-at.at all) in
     let until = take c.loop-at.at all in
-    let on : until ++ some ≡ take (c.loop-at.at + c.in-Ok.some) all
-    = take-on-from all c.loop-at.at c.in-Ok.some (c.loop-at.at + c.in-Ok.some) refl in
+    let on : (next : ℕ) → next ≡ c.loop-at.at + c.in-Ok.some → until ++ some ≡ take next all
+    = λ next is. take-on-from all c.loop-at.at c.in-Ok.some next is in
     let up1 = v.up in
     let up2 = c.take_edges.ensures.up in
     record {
@@ -44,7 +44,7 @@ loop-at-preserved g c =
           c.level_behind-high.ensures (after before until) some
           (length-some all c.loop-at.at c.in-Ok.some (omega (arith, most, below, few, c.args.places.now.many)))
           (v.level before turns)
-          ∙ ap other (sym (after-append before until some)) ∙ ap (λ x. other (after before x)) on;
+          ∙ ap other (sym (after-append before until some)) ∙ ap (λ x. other (after before x)) (on _ (omega arith));
       counted = λ was is same room before turns.
           let kept : c.loop-at.self.figures.measured ≡ c.args.self.now.figures.measured
           = omega (arith, up1, up2, same) in
@@ -54,13 +54,13 @@ loop-at-preserved g c =
             | inr n ↦ let more = c.take_edges.ensures.begun n is room2 in absurd (omega (arith, more, same, kept))
           ] in
           subst (λ (x : List ℕ). RunsCounted g.T.Sink.taken c.args.self.now.line c.take_edges.new.self.line
-          c.args.sink.now c.take_edges.new.sink before x) on
+          c.args.sink.now c.take_edges.new.sink before x) (on _ (omega arith))
           (runs-chain c.args.self.now.line c.loop-at.self.line c.take_edges.new.self.line c.args.sink.now c.loop-at.sink
           c.take_edges.new.sink before until some (v.counted was follows kept room before turns)
           (c.in-Ok.ensures.counted follows (after before until) (v.level before turns)));
       told = λ setting level runs w turns.
           subst (λ (x : List ℕ). StandsBehind (g.T.Sink.taken c.take_edges.new.sink) setting level x c.take_edges.new.self)
-          (take-on runs all c.loop-at.at c.in-Ok.some)
+          (take-on runs all c.loop-at.at c.in-Ok.some _ (omega arith))
           (c.in-Ok.ensures.told setting level (runs ++ until) (v.told setting level runs w turns)
           (v.level (after level runs) turns ∙ ap other (sym (after-append level runs until))));
     }
