@@ -123,8 +123,8 @@ last frame before it (`hold`), so many that each block stands to half a frame wh
 cells do, counted from the first block; standard error has how many at the end, as
 `aes3: filled 192 frames`. With --marked too, a block of which only parity bits are wrong
 is given as well, and each subframe whose parity bit is wrong is filled likewise. With
---exact a block with a sample that would lose bits, in 16 bits one of more than 16, is
-refused with its place, and neither it nor any behind it is written; the input is read to
+--exact a sample that would lose bits (with s16, one of more than 16 bits) is an error that
+names its block's place. That block and all after it are not written. The input is read to
 its end first.
 
 Exit status: 0 done, also where no block was found; 3 refused: 1 a byte is no cell, 10
@@ -229,9 +229,9 @@ use is `good`, `bad`, or `absent` where it does not hold and byte 23 is zero. Wi
 where its status is not that of the block before. With --at ` at=P` stands behind each
 line: P is the cell at which the block begins, counted from 0. With --more ` v=N u=N at=P`
 does: how many of the channel's 192 validity bits are 1, and how many of its user bits.
-With --names ` NAME=WORD` does for each code that the line has as a number and that has a
-name: `category`, `rate` and `original` of consumer use, `mode` of professional use, and
-its `rate` where byte 4 tells it, as 96000.
+With --names the meanings of codes printed as numbers follow, each as ` NAME=WORD`:
+`category`, `rate` and `original` of consumer use, `mode` of professional use, and its
+`rate` if byte 4 has it, as 96000.
 
 Exit status: 0 done, also where no block was found; 3 refused: 1 a byte is no cell, 10
 packed cells end wrongly; or as for every command.
@@ -300,7 +300,7 @@ Writes a page at the end, `NAME VALUE` a line:
   unfinished             how many blocks the end cuts
   gaps, lost, cut        how many gaps of `check --gaps` count; the cells in them; and the
                          cells in the others, where the recording is cut
-and of channel 1, and then of channel 2, with the number behind the name:
+and then these lines for channel 1 and for channel 2, whose number ends the name:
   status1                the status in the first whole block, as `show` prints it
   changes1               how many whole blocks have another status than the one before
   invalid1               how many subframes have V 1
@@ -310,7 +310,7 @@ and of channel 1, and then of channel 2, with the number behind the name:
   silent1                `yes` where each sample is zero
 The samples are those of all whole blocks. A level of no power is `-inf`. With --json the
 page is one JSON object with the same names: a status is 48 hexadecimal digits there, and
-`null` stands for `unknown` and `-inf`.
+`unknown` and `-inf` are `null`.
 
 Exit status: 0 no fault; 1 there are marked blocks, faults, or gaps that count; 3 refused:
 1 a byte is no cell, 10 packed cells end wrongly; or as for every command. Where it is
@@ -365,14 +365,14 @@ without it begins with the status of --preset, where that is given: `consumer` i
 PCM, no copyright, words of 24 bits; `professional` is linear PCM, no emphasis, two
 channels, words of 24 bits. Then --set NAME=WORD sets a field of both channels, --set1
 and --set2 one of channel 1 or 2, by the names and words that `aes3 show` prints, with
---names too, and use=professional or use=consumer sets the use. A channel has 32 of them
-at most: those of --set, then those of its own option, each in the order in which they
-are typed, but origin=, destination=, local= and time= behind the others. A status for
-the use that has no such field stays as it is, and so does one in which the word has no
-code, as a consumer one for word=24 without greatest=24 before it. At the end standard
-error lists, as they were typed, the settings that no block took, those of --set as
---set1 and --set2. With --exact a block that does not take all of it is refused with its
-place, and neither it nor any behind it is written; the input is read to its end first.
+--names too, and use=professional or use=consumer sets the use. A channel has 32 settings at
+most: first those of --set, then those of its own option, each in the order typed.
+origin=, destination=, local= and time= come last. A setting that does not apply is
+skipped: its field belongs to the other use, or its word has no code, as word=24 of a
+consumer status without greatest=24 before it. At the end standard error lists, as they
+were typed, the settings that no block took, those of --set as --set1 and --set2. With
+--exact a block that can't take all of them is an error that names its place. That block
+and all after it are not written. The input is read to its end first.
 Where a field is set, or --preset or --mend-check is given, byte 23 of each channel whose
 status is professional then becomes its check byte. --valid1 0 and --valid2 0 make V of
 all subframes of a channel 0, which says that their samples can be taken as they are;
