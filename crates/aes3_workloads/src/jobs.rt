@@ -5,8 +5,8 @@ ghost use Rattle.std.specs.Prelude.{◌≡◌, ◌+◌, ◌<◌, ◌≤◌, ◌^
 use crate::captures::{Sampling, captures, still};
 use crate::digest::Digest;
 use crate::line::{
-    Layout, blocks, dense_preambles, noise, packed_cells, samples_of_block, slipped, text_cells,
-    with_turned_cells,
+    Layout, NO_STATUS, blocks, dense_preambles, noise, packed_cells, samples_of_block, slipped,
+    text_cells, with_turned_cells,
 };
 use crate::numbers::Numbers;
 use crate::runs::{run_capture, run_command, some_of};
@@ -181,18 +181,14 @@ impl<'a> Workload<'a> {
         }
         let status = [
             "from-pcm",
+            "--status1",
+            NO_STATUS,
+            "--status2",
+            NO_STATUS,
             "--set1",
             "rate=48000",
-            "--set1",
-            "copyright=asserted",
-            "--set1",
-            "greatest=20",
             "--set2",
             "rate=48000",
-            "--set2",
-            "copyright=asserted",
-            "--set2",
-            "greatest=20",
         ];
         self.text(&status, samples.as_slice(), 600)?;
         let files = blocks(alloc, &mut self.numbers, BLOCKS)?;

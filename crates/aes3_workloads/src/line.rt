@@ -9,6 +9,9 @@ use std::alloc::{AllocError, Global};
 /// How many frames a block has.
 const FRAMES: u32 = 192;
 
+/// The status of 24 zero bytes, in which fields are set.
+pub const NO_STATUS: &str = "000000000000000000000000000000000000000000000000";
+
 /// Samples of a block, as `from-pcm` reads them: two channels of 24 bits, of the loudness of music.
 pub fn samples_of_block(alloc: Global, numbers: &mut Numbers) -> Result<Vec<u8>, AllocError> {
     let mut samples = Vec::new(alloc);
@@ -35,6 +38,10 @@ fn block(alloc: Global, numbers: &mut Numbers, tells_time: bool) -> Result<Vec<u
     };
     let words = [
         "from-pcm",
+        "--status1",
+        NO_STATUS,
+        "--status2",
+        NO_STATUS,
         "--set1",
         "use=professional",
         "--set1",
@@ -43,10 +50,6 @@ fn block(alloc: Global, numbers: &mut Numbers, tells_time: bool) -> Result<Vec<u
         "origin=JATH",
         "--set2",
         "rate=48000",
-        "--set2",
-        "copyright=asserted",
-        "--set2",
-        "greatest=20",
         "--set1",
         last,
         "--mend-check",
