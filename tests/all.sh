@@ -80,7 +80,6 @@ library() {
 
 part_with rt library
 library=${running##* }
-part_with python3 web/test "$program"
 part tests/words.sh
 part_with python3 tests/build.sh
 part_with rt tests/lemma.sh
@@ -113,6 +112,7 @@ part_with python3 examples/own/run
 
 # Behind the C library those over it; for 64-bit ARM it is proved anew, and the packages wait for a mirror.
 [ -z "$library" ] || wait "$library"
+part_with python3 web/test "$program" # it compares the page with the library, if that is there
 if [ -e crates/aes3_c/out/libaes3_c.a ]; then
     part tests/packages.sh
     part examples/c/arm.sh "$program"
