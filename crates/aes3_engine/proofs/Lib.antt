@@ -22,3 +22,4 @@ pub mod GivenBlocks
 pub mod MendedSteps
 pub mod FillRuns
 pub mod RewritingExactly
+pub mod ChangedStatus

@@ -1,6 +1,7 @@
 -- Blocks with other channel status, and with other V and U bits.
 use Rattle.std.specs.Prelude.{ℕ, List, Bool, false, Option, Some, None, map, take, replicate, slice_set}
-use Rattle.std.specs.Prelude.{if◌then◌else◌}
+use Rattle.std.specs.Prelude.{if◌then◌else◌, ◌≡◌, All, length}
+use Rattle.aes3_block.specs.Laws.{IsByte}
 use Rattle.aes3_cell.specs.declared.form.Form.{Form}
 use Rattle.aes3_frame.specs.declared.status.Channel.{Channel}
 use Rattle.aes3_frame.specs.declared.status.Channel.TheVariants.{First, Second}
@@ -52,6 +53,20 @@ checked status = slice_set status 23 (check_byte_of (take 23 status))
 abbrev pub mended : Channel → List (List Bool) → List (List Bool)
 mended channel b =
     if is_professional (status_of b channel) then with_status b channel (checked (status_of b channel)) else b
+
+-- 24 bytes
+pub record IsStatus (bytes : List ℕ) : Type 0 where
+  pub long : length bytes ≡ 24
+  pub fit : All IsByte bytes
+
+abbrev pub mended_status : List ℕ → List ℕ
+mended_status status = if is_professional status then checked status else status
+
+-- what a change sets in the status of one channel
+abbrev pub with_status_changed : Channel → Option (List ℕ) → Option Settings → Bool → List (List Bool)
+    → List (List Bool)
+with_status_changed channel status settings mend b =
+    let c = set_settings channel settings (set_status channel status b) in if mend then mended channel c else c
 
 -- the V and the U bits of a change set, then its statuses, then its fields
 abbrev pub changed : Change → List (List Bool) → List (List Bool)

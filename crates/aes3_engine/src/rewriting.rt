@@ -1,9 +1,11 @@
 //! Blocks with other channel status, V and U bits.
 
-ghost use Rattle.std.specs.Prelude.{◌≡◌};
-ghost use Rattle.aes3_engine.specs.Rewriting.{mended, rewritten};
-ghost use Rattle.aes3_engine.specs.Rewriting.{all_bits, cleared, set_settings, set_status};
-ghost use Rattle.aes3_engine.specs.Rewriting.{set_user, set_validity, with_bits_given};
+ghost use Rattle.std.specs.Prelude.{◌≡◌, length};
+ghost use Rattle.aes3_frame.specs.Blocks.{IsBlock};
+ghost use Rattle.aes3_frame.specs.Statuses.{status_of};
+ghost use Rattle.aes3_engine.specs.Rewriting.{IsStatus, all_bits, cleared, mended_status};
+ghost use Rattle.aes3_engine.specs.Rewriting.{rewritten, set_user, set_validity};
+ghost use Rattle.aes3_engine.specs.Rewriting.{with_bits_given, with_status_changed};
 
 use aes3_block::{Block, Channel};
 use aes3_status::{Change, Settings, Status, set_fields, with_check};
@@ -44,34 +46,58 @@ fn set_bits(block: &mut Block, change: &Change)
     clear_user(block, Channel::Second, change.clear_user2);
 }
 
-/// Sets the status of a channel, where one is given.
-fn set_status(block: &mut Block, channel: Channel, status: &Option<[u8; 24]>)
-    ensures { block.new ≡ set_status channel status.now block.old }
+/// The channel status of a channel. With it a contract learns that a block is whole.
+fn channel_status(block: &Block, channel: Channel) -> [u8; 24]
+    ensures status { result ≡ status_of block.now channel }
+    ensures whole { IsBlock block.now }
 {
-    if let Some(status) = status {
-        block.set_channel_status(channel, status);
-    }
+    let _words = block.words();
+    block.channel_status(channel)
 }
 
-/// Sets fields in the status of a channel, where some are given.
-fn set_settings(block: &mut Block, channel: Channel, settings: &Option<Settings>)
-    ensures { block.new ≡ set_settings channel settings.now block.old }
-{
-    if let Some(settings) = settings {
-        let mut status = block.channel_status(channel);
-        set_fields(&mut status, settings);
-        block.set_channel_status(channel, &status);
-    }
-}
+/// Tells a contract what the type of a status says. It does nothing.
+fn know_status(status: &[u8])
+    requires { length status.now ≡ 24 }
+    ensures { IsStatus status.now }
+{}
 
-/// Sets the check byte of a channel's professional status.
-fn mend(block: &mut Block, channel: Channel)
-    ensures { block.new ≡ mended channel block.old }
+/// A status with the right check byte, if it is for professional use.
+fn mended_status(status: [u8; 24]) -> [u8; 24]
+    ensures { result ≡ mended_status status }
 {
-    let status = block.channel_status(channel);
     match Status::read(&status) {
-        Status::Professional(_) => block.set_channel_status(channel, &with_check(status)),
-        Status::Consumer(_) => {}
+        Status::Professional(_) => with_check(status),
+        Status::Consumer(_) => status,
+    }
+}
+
+/// Changes the status of a channel. It is read and written once, whatever is set in it, and not
+/// written if it is right.
+fn change_status(
+    block: &mut Block,
+    channel: Channel,
+    status: &Option<[u8; 24]>,
+    settings: &Option<Settings>,
+    mend: bool,
+)
+    ensures { block.new
+        ≡ with_status_changed channel status.now settings.now mend block.old }
+{
+    if status.is_none() && settings.is_none() && !mend {
+        return;
+    }
+    let old = channel_status(block, channel);
+    let mut new = status.unwrap_or(old);
+    know_status(&new);
+    if let Some(settings) = settings {
+        set_fields(&mut new, settings);
+    }
+    know_status(&new);
+    if mend {
+        new = mended_status(new);
+    }
+    if new != old {
+        block.set_channel_status(channel, &new);
     }
 }
 
@@ -80,12 +106,18 @@ pub(crate) fn rewrite_block(block: &mut Block, change: &Change)
     ensures { block.new ≡ rewritten change.now block.old }
 {
     set_bits(block, change);
-    set_status(block, Channel::First, &change.status1);
-    set_status(block, Channel::Second, &change.status2);
-    set_settings(block, Channel::First, &change.settings1);
-    set_settings(block, Channel::Second, &change.settings2);
-    if change.mend {
-        mend(block, Channel::First);
-        mend(block, Channel::Second);
-    }
+    change_status(
+        block,
+        Channel::First,
+        &change.status1,
+        &change.settings1,
+        change.mend,
+    );
+    change_status(
+        block,
+        Channel::Second,
+        &change.status2,
+        &change.settings2,
+        change.mend,
+    );
 }
