@@ -77,6 +77,19 @@ impl Follower {
         }
     }
 
+    /// The follower at its latest edge of the same samples in reverse: what lay after a place lies before it. Its period is given.
+    pub fn turned(&self, period: u64) -> Self
+        requires longest { period ≤ self.now.bounds.high }
+        requires shortest { self.now.bounds.low ≤ period }
+        ensures bounds { result.bounds ≡ self.now.bounds }
+        ensures begins { Begins result self.now.bounds period (2 * middle_of self.now.bounds - self.now.same)
+            (2 * middle_of self.now.bounds - self.now.other) }
+    {
+        let turn = 2 * (self.bounds.low + self.bounds.low / 2);
+        let same = turn.saturating_sub(self.same);
+        Follower::at(self.bounds, period, same, turn.saturating_sub(self.other))
+    }
+
     /// How long a cell may be.
     pub fn bounds(&self) -> Bounds
         ensures { result ≡ self.now.bounds }
