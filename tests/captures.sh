@@ -54,10 +54,11 @@ refused() {
 }
 # edges EDGES SAMPLES_A_CELL: a capture of a line with so many edges, and its cells in `sent`.
 edges() {
-    "$python" -c 'import itertools, math, sys
-edges, cell, cells = int(sys.argv[1]), float(sys.argv[2]), ""
-for number, run in zip(range(edges + 1), itertools.cycle((2, 1, 1, 3, 1, 2, 2, 1, 3, 3, 1))):
-    cells += str(number % 2) * run
+    PYTHONDONTWRITEBYTECODE=1 PYTHONPATH=$here "$python" -c 'import line, math, sys
+import numpy as np
+edges, cell = int(sys.argv[1]), float(sys.argv[2])
+places = line.edges(*line.subframes({"blocks": 1}, np.random.default_rng(1)))[: edges + 2]
+cells = "".join(str(number % 2) * int(run) for number, run in enumerate(np.diff(places)))
 print("\n".join(cells[i : i + 64] for i in range(0, len(cells), 64)), file=open("sent", "w"))
 places = [math.ceil(i * cell) for i in range(len(cells) + 1)]
 open("capture", "wb").write(b"".join(bytes([int(cells[i])]) * (places[i + 1] - places[i]) for i in range(len(cells))))' "$1" "$2"
@@ -103,6 +104,12 @@ row 5 40.3 blocks=5 rms=4 late=8
 row 2 410.7 blocks=2 rms=30 late=-60
 row 20 3.90625 silence=1 rms=0.3 late=0.9
 
+# Near whole numbers of samples a cell, and at the usual pairs of frequencies, each block of a clean line comes back from the first edge on.
+for cell in 2.02 2.03 2.1 2.2 2.96 3.005 3.995 4.98 5.01 6.02 7.97 9.96 11.99 15.98 20.02 31.97 39.9 \
+    4.2517 3.90625 2.0345 4.4288 4.0690 2.5431 17.7154 20.3451 10.1725 5.0863; do
+    row 3 $cell blocks=3
+done
+
 # The jitter that AES3 asks a receiver to bear: 10 unit intervals from peak to peak at 200 Hz, down to 0.25 from 8 kHz on.
 for sine in 200:5 1000:1 2000:0.5 4000:0.25 8000:0.125 100000:0.125; do
     row 20 4 sine=$sine
@@ -133,12 +140,20 @@ judge "$cells cells in the time of $spent" [ $((cells - spent)) -ge -40 -a $((ce
 { cat one; head -c 200000 /dev/urandom; cat two; } >capture
 judge "noise between two lines" sent_back 19
 
-# Packed cells are those of the text; pieces of any size are one capture; what is decided leaves before it waits.
+# Packed cells are those of the text; pieces of any size are one capture.
 "$program" <one 2>told >text
 "$program" --packed-out <one 2>told >packed
 judge "packed cells" sh -c "'$aes3' check <text >a; '$aes3' check --packed-in <packed >b; test -s a && cmp a b"
 judge "pieces of any size" sh -c "{ dd bs=7 count=1000; dd bs=4099; } <one 2>/dev/null | '$program' 2>told | cmp - text"
-judge "cells before it waits" sh -c "{ head -c 400000 one; sleep 20; } | '$program' 2>told | timeout 10 head -c 100000 >live; head -c 100000 text | cmp - live"
+
+# Cells leave before it waits. Where the input or the output fails within a block of octets, that is told, and what came before is written.
+judge "cells of each piece before the next comes" "$python" "$here/live.py" "$program" one text
+judge "a source that fails within a block" "$python" "$here/live.py" --fail "$program" one text
+if [ -w /dev/full ]; then
+    judge "a sink that fails within a block" eval '! "$program" <one >/dev/full 2>told && [ "$(cat told)" = "aes3-cells: the output failed" ]'
+else
+    leave_out "a sink that fails within a block" "there is no /dev/full"
+fi
 
 # With --tell a line comes each second too, of which `one` has two and a half, and when the line dies; the cells stay as they are.
 told_in_time() {
@@ -281,7 +296,7 @@ judge "the bit that is asked for" eval '"$program" --bit 6 capture 2>told | cmp 
 { head -c 900000 /dev/zero; cat capture; } >late
 judge "the bit of a line that begins late" eval '"$program" late 2>told >cells && [ "$(head -n 1 told)" = "aes3-cells: the line is in bit 6" ]'
 judge "pieces of any size where the bit is searched" eval '{ dd bs=7 count=1000; dd bs=4099; } <capture 2>/dev/null | "$program" 2>told | cmp - text'
-judge "cells before it waits where the bit is searched" eval '{ head -c 400000 capture; sleep 20; } | "$program" 2>told | timeout 10 head -c 100000 >live; head -c 100000 text | cmp - live'
+judge "cells of each piece before the next comes, where the bit is searched" "$python" "$here/live.py" --measured 20000 "$program" capture text
 
 # What is likely to be wrong is said: edges near half a cell from their places, and a line that is measured again and again.
 # doubted SAID COUNT: a sentence with these words stands so often behind the figures of `capture`.
@@ -297,7 +312,7 @@ if command -v script >/dev/null; then
     erase="$(printf '\033')\\[K"
     waiting='{ sleep 2; cat >/dev/null; }'
     script -qec "'$program' capture | $waiting" /dev/null </dev/null | tr -d '\r' >told
-    judge "how much of a capture has been read" grep -q "^aes3-cells: [1-9][0-9]* %, [0-9]* MB/s$erase${erase}aes3-cells: [0-9]* cells, 8\.[0-9]* samples a cell" told
+    judge "how much of a capture has been read" grep -q "^\(aes3-cells: [1-9][0-9]* %, [0-9]* MB/s$erase\)\+${erase}aes3-cells: [0-9]* cells, 8\.[0-9]* samples a cell" told
     judge "and nothing of it is left" test "$(wc -l <told)" = 1
     script -qec "'$program' <capture | $waiting" /dev/null </dev/null | tr -d '\r' >told
     judge "standard input that is a file too" grep -q "^aes3-cells: [1-9][0-9]* %, " told
@@ -332,4 +347,5 @@ judge "the samples that it takes" eval '"$aes3" to-pcm sent.txt | tail -c 3072 |
 judge "its version" test "$("$program" --version)" = "aes3-cells $("$aes3" --version | cut -d' ' -f2)"
 
 judge "runs that are no line" "$python" "$here/hostile.py" "$program"
+judge "signals that are no line" "$python" "$here/other_signals.py" "$program"
 tell

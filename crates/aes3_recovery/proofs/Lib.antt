@@ -9,6 +9,8 @@ pub mod SameLevels
 pub mod RunsBehind
 pub mod RunsToEnd
 pub mod Telling
+mod Lines
+mod Preambles
 mod SmallDistances
 mod TurnedRuns
 pub mod Recovering

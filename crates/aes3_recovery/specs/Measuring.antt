@@ -1,6 +1,6 @@
 -- A follower that was measured from runs of samples.
-use Rattle.std.specs.Prelude.{ℕ, List, [], ◌∷◌, Option, Some, None, ◌≡◌, ◌≤◌, ◌+◌, ◌-◌, ◌*◌, ◌/◌, ◌&&◌, if◌then◌else◌}
-use Rattle.std.specs.Prelude.{nat_le, length}
+use Rattle.std.specs.Prelude.{ℕ, List, [], ◌∷◌, Option, Some, None, ◌≡◌, ◌≤◌, ◌+◌, ◌-◌, ◌*◌, ◌/◌, ◌%◌, Bool, ◌&&◌, if◌then◌else◌}
+use Rattle.std.specs.Prelude.{nat_eq, nat_le, nat_lt, get_or, length, take}
 use Rattle.aes3_capture.specs.declared.bounds.Bounds.{Bounds}
 use Rattle.aes3_capture.specs.declared.follower.Follower.{Follower}
 use Rattle.aes3_capture.specs.Following.{Begins, CountedAll, middle_of}
@@ -34,10 +34,44 @@ pub record IsSteady (follower : Follower) (runs : List ℕ) : Type 0 where
   pub counted : CountedAll follower runs cells behind
   pub most : 7 * length runs ≤ 8 * runs_of_a_line cells
 
+-- four runs of cells that are a preamble's: 3, 3, 1, 1 or 3, 2, 1, 2 or 3, 1, 1, 3
+abbrev pub are_preamble : ℕ → ℕ → ℕ → ℕ → Bool
+are_preamble first second third fourth =
+    nat_eq first 3 && nat_eq third 1 && nat_le 1 second && nat_le second 3 && nat_eq fourth (4 - second)
+
+-- Places that are whole subframes apart, where the first run of these begins so many cells behind one: at how many of them
+-- begins a run, or lie cells inside of one
+abbrev pub places_from : ℕ → List ℕ → ℕ
+places_from place [] = 0
+places_from place (n ∷ cells) = (if nat_eq place 0 && nat_le 1 n then 1 else 0) + (if nat_lt 64 (place + n) then 1 else 0)
+    + places_from ((place + n) % 64) cells
+
+-- and at how many of them a preamble begins
+abbrev pub preambles_from : ℕ → List ℕ → ℕ
+preambles_from place [] = 0
+preambles_from place (n ∷ cells) = (if nat_eq place 0 && are_preamble n (get_or cells 0 0) (get_or cells 1 0) (get_or cells 2 0) then 1 else 0)
+    + preambles_from ((place + n) % 64) cells
+
+-- Of some places that are whole subframes apart, three in four begin a preamble, and two do at least. The last three runs, behind
+-- which a preamble may be cut, are not looked at.
+pub record HavePreambles (cells : List ℕ) : Type 0 where
+  pub place : ℕ
+  pub some : 2 ≤ preambles_from place cells
+  pub many : length cells / 64 ≤ preambles_from place cells + 1
+  pub most : 3 * places_from place (take (length cells - 3) cells) ≤ 4 * preambles_from place cells
+
+-- a follower at an edge, with these bounds, that counts the cells of a line of these runs of samples
+pub record IsLine (bounds : Bounds) (runs : List ℕ) (follower : Follower) : Type 0 where
+  pub bounds_is : follower.bounds ≡ bounds
+  pub at_an_edge : follower.elapsed ≡ 0
+  pub steady : IsSteady follower runs
+  pub preambles : HavePreambles steady.cells
+
 -- a follower of the line that these runs of samples are, from the edge before the first of them on
 pub record IsMeasured (known : Option ℕ) (runs : List ℕ) (follower : Follower) : Type 0 where
   pub placed : IsPlaced known follower
   pub steady : IsSteady follower runs
+  pub preambles : HavePreambles steady.cells
 
 -- the follower of a period that was asked for, which counts from the first sample on
 pub record IsAskedFor (known : Option ℕ) (follower : Follower) : Type 0 where

@@ -1,19 +1,23 @@
-//! How long a cell is and where the grid of a line lies, measured from the samples between edges.
+//! Finds a line by its preambles: how long a cell is, and where its edges lie.
 
-ghost use Rattle.std.specs.Prelude.{◌^◌, ◌<◌, ◌≤◌};
+ghost use Rattle.std.specs.Prelude.{ℕ, ◌^◌, ◌+◌, ◌<◌, ◌≤◌, ◌≡◌, ◌&&◌, if◌then◌else◌, nat_eq, nat_le, nat_lt, get_or, length, take};
 ghost use Rattle.std.specs.Prelude.{IsTrue, IfSome};
-ghost use Rattle.aes3_recovery.specs.Measuring.{IsAround, IsMeasured, IsPlaced, IsSteady};
+ghost use Rattle.aes3_recovery.specs.declared.measure.Anchor.{Anchor};
+ghost use Rattle.aes3_recovery.specs.Measuring.{HavePreambles, IsAround, IsLine, IsMeasured, IsSteady, are_preamble};
 
 use aes3_capture::{Bounds, Follower, PARTS};
 
-/// How many runs of samples are measured at once, and how many of them find about how long a cell
-/// is.
+/// How many runs of samples are measured at once.
 pub(crate) const RUNS: usize = 256;
 
-const FIRST: usize = 48;
-
-/// In so many runs there is a preamble's run of three cells.
+/// A subframe has at most 60 runs, so 64 in a row have the first run of a preamble.
 const GROUP: usize = 64;
+
+/// How many groups the runs are at most.
+const GROUPS: usize = RUNS / GROUP;
+
+/// How many edges at each end of the runs give the period: as many rising as falling ones.
+const ENDS: usize = 16;
 
 /// The shortest and the longest period that a line may have, in parts of a sample: 2 samples and a
 /// 64th, and 8,000.
@@ -21,143 +25,181 @@ pub const SHORTEST_PERIOD: u64 = 2 * PARTS + PARTS / 64;
 
 pub const LONGEST_PERIOD: u64 = 8000 * PARTS;
 
-/// A quarter of a cell, where 2^32 is a cell.
-const QUARTER: u64 = 1 << 30;
-
-/// Where edges of one direction lie on a grid: how far they are from whole cells in all, and how far
-/// from a quarter of a cell behind them.
-#[derive(Clone, Copy, Default)]
-struct Places {
-    near: u64,
-    late: u64,
-    count: u64,
+/// Two runs in a row: how many samples they have, and the number of the first.
+#[derive(Clone, Copy)]
+struct Pair {
+    samples: u32,
+    at: usize,
 }
 
-/// How far a place is from a whole cell.
-#[inline(always)]
-fn from_whole(at: u32) -> u64
+/// Which runs can be the first of a preamble.
+#[derive(Clone, Copy, PartialEq, Eq)]
+enum Side {
+    /// Those of one direction: every second run, the first or the second of all included.
+    Of(usize),
+    /// All.
+    Both,
+}
+
+/// The first run of a preamble: its number, and how many samples and subframes lie before it.
+#[derive(Clone, Copy, Default)]
+struct Anchor {
+    run: usize,
+    samples: u64,
+    subframes: u64,
+}
+
+/// How many samples a run has; 0 where there is none.
+fn run_at(runs: &[u32], i: usize) -> u64
     ensures { result < 2 ^ 32 }
 {
-    u64::from(at.min(at.wrapping_neg()))
+    match runs.get(i) {
+        Some(run) => u64::from(*run),
+        None => 0,
+    }
 }
 
-impl Places {
-    /// These and one more.
-    #[inline(always)]
-    fn with(self, at: u32) -> Places {
-        Places {
-            near: self.near.wrapping_add(from_whole(at)),
-            late: self.late.wrapping_add(from_whole(at.wrapping_add(1 << 30))),
-            count: self.count.wrapping_add(1),
+/// The longest pair of those whose first run is one of these.
+fn longest_pair(runs: &[u32], from: usize, to: usize) -> Pair
+    requires within { to < length runs.now }
+    requires ordered { from ≤ to }
+{
+    let mut longest = Pair {
+        samples: 0,
+        at: from,
+    };
+    for i in from..to {
+        let samples = runs[i].saturating_add(runs[i + 1]);
+        if samples > longest.samples {
+            longest = Pair { samples, at: i };
         }
     }
+    longest
+}
 
-    /// What the sums would be by chance.
-    fn chance(self) -> u64 {
-        self.count.wrapping_mul(QUARTER)
+/// Whether pairs are like those of a line whose longest pair has six cells. Seven in eight have at least a quarter of that, since
+/// none has less than two cells; and seven in eight have at most four fifths, since few have more than four.
+fn are_likely(runs: &[u32], longest: u32) -> bool {
+    let least = longest.div_ceil(4);
+    let most = longest - longest / 5;
+    let mut short = 0;
+    let mut long = 0;
+    for i in 1..runs.len() {
+        let pair = runs[i - 1].saturating_add(runs[i]);
+        short += usize::from(pair < least);
+        long += usize::from(pair > most);
     }
+    let few = runs.len() / 8;
+    short <= few && long <= few
+}
 
-    /// How far the sums are from chance.
-    fn sharpness(self) -> u64 {
-        self.near
-            .abs_diff(self.chance())
-            .saturating_add(self.late.abs_diff(self.chance()))
+/// How likely a run is the first of a preamble whose longest pair has so many samples. Of runs of one direction it is the longest. Of
+/// all it is the one with the largest sum of twice itself, the next and the third after it, in which a direction that is
+/// late makes no difference. A run of more than four cells belongs to no preamble.
+fn score(runs: &[u32], i: usize, longest: u64, side: Side) -> u64
+    requires few { i < 2 ^ 32 }
+    requires short { longest < 2 ^ 32 }
+{
+    let run = run_at(runs, i);
+    if 3 * run > 2 * longest {
+        return 0;
     }
-
-    /// The mean place.
-    fn mean(self) -> u32 {
-        let late = (self.late.abs_diff(self.chance()) >> 16).min(QUARTER);
-        let quarter = late * QUARTER / (self.sharpness() >> 16).max(1);
-        let quarter = quarter.min(QUARTER) as u32;
-        let ahead = if self.late < self.chance() {
-            quarter.wrapping_neg()
-        } else {
-            quarter
-        };
-        if self.near <= self.chance() {
-            ahead
-        } else {
-            (1u32 << 31).wrapping_sub(ahead)
-        }
+    match side {
+        Side::Of(side) if i % 2 == side => run,
+        Side::Of(_) => 0,
+        Side::Both => 2 * run + run_at(runs, i + 1) + run_at(runs, i + 3),
     }
 }
 
-/// The edges behind these runs on a grid of so many 2^32ths of a cell a sample: those of the
-/// direction of the edge before the first run, and the others.
-fn places_of_runs(runs: &[u32], frequency: u32) -> (Places, Places) {
-    let mut at = 0u32;
-    let mut same = Places::default();
-    let mut other = Places::default();
-    for run in runs.iter() {
-        at = at.wrapping_add(run.wrapping_mul(frequency));
-        let next = other.with(at);
-        other = same;
-        same = next;
+/// How many samples lie before a run.
+fn samples_before(runs: &[u32], run: usize) -> u64
+    requires few { length runs.now ≤ 256 }
+    requires within { run ≤ length runs.now }
+    ensures { result < 2 ^ 40 }
+{
+    let mut samples = 0;
+    for i in 0..run {
+        samples += u64::from(runs[i]);
     }
-    if runs.len() % 2 == 0 {
-        (same, other)
-    } else {
-        (other, same)
-    }
+    samples
 }
 
-/// How near the edges behind these runs are to the grids of their directions.
-fn sharpness(runs: &[u32], frequency: u32) -> u64 {
-    let (same, other) = places_of_runs(runs, frequency);
-    same.sharpness().saturating_add(other.sharpness())
-}
-
-/// The frequency of the sharpest grid, of `count` from `first` on.
-fn sharpest(runs: &[u32], first: u32, step: u32, count: u32) -> u32 {
+/// The likeliest first run of a preamble in a group of runs.
+fn likeliest(runs: &[u32], begin: usize, longest: u64, side: Side) -> usize
+    requires few { length runs.now ≤ 256 }
+    requires within { begin + 64 ≤ length runs.now }
+    requires short { longest < 2 ^ 32 }
+    ensures { result < length runs.now }
+{
     let mut best = 0;
-    let mut found = first;
-    for k in 0..count {
-        let frequency = first.wrapping_add(k.wrapping_mul(step));
-        let sharp = sharpness(runs, frequency);
-        if sharp > best {
-            best = sharp;
-            found = frequency;
+    let mut found = begin;
+    for i in begin..begin + GROUP {
+        let now = score(runs, i, longest, side);
+        if now > best {
+            best = now;
+            found = i;
         }
     }
     found
 }
 
-/// The longest of some runs.
-fn longest(runs: &[u32]) -> u32 {
-    let mut longest = 0;
-    for run in runs.iter() {
-        longest = longest.max(*run);
-    }
-    longest
+/// How many subframes most likely lie between two preambles that are so many samples apart: 64 cells are 32/3 of the longest pair.
+fn subframes_in(samples: u64, longest: u64) -> u64
+    requires samples { samples < 2 ^ 40 }
+    requires some { 0 < longest }
+    requires short { longest < 2 ^ 32 }
+    ensures { result < 2 ^ 48 }
+{
+    (12 * samples + 64 * longest) / (128 * longest)
 }
 
-/// How many samples the longest runs of the groups have together but for the longest of all, which
-/// may be none of the line's; and how many cells these are, as each is a preamble's three.
-fn longest_runs(runs: &[u32]) -> (u64, u64) {
-    let mut samples = 0u64;
-    let mut largest = 0;
-    let mut cells = 0u64;
-    for group in runs.chunks_exact(GROUP) {
-        let run = u64::from(longest(group));
-        samples = samples.saturating_add(run);
-        largest = largest.max(run);
-        cells = cells.saturating_add(3);
+/// The preambles that seem to begin in each group of runs, of which the last ends with the runs; and how many groups there are.
+fn anchors(runs: &[u32], longest: u64, side: Side) -> ([Anchor; GROUPS], usize)
+    requires few { length runs.now ≤ 256 }
+    requires some { 128 ≤ length runs.now }
+    requires long { 0 < longest }
+    requires short { longest < 2 ^ 32 }
+    ensures count { result.1 ≤ 4 }
+    ensures within { (i : ℕ) (other : Anchor) → i < result.1 → (get_or result.0 i other).run < length runs.now }
+{
+    let count = runs.len().div_ceil(GROUP);
+    let mut found = [Anchor::default(); GROUPS];
+    let mut before = Anchor::default();
+    for g in 0..count {
+        let begin = (g * GROUP).min(runs.len() - GROUP);
+        let run = likeliest(runs, begin, longest, side);
+        let samples = samples_before(runs, run);
+        let distance = samples.saturating_sub(before.samples);
+        let more = if g == 0 {
+            0
+        } else {
+            subframes_in(distance, longest)
+        };
+        let subframes = before.subframes.saturating_add(more);
+        before = Anchor {
+            run,
+            samples,
+            subframes,
+        };
+        found[g] = before;
     }
-    (samples.saturating_sub(largest), cells.saturating_sub(3))
+    (found, count)
 }
 
-/// A frequency near that of a line with these runs.
-fn estimate(runs: &[u32]) -> Option<u32> {
-    let (samples, cells) = longest_runs(runs);
-    if cells == 0 || cells > 1 << 16 || samples < 2 * cells || samples > 8192 * cells {
+/// The bounds of cells of about this period, which may change by so small a part.
+fn bounds_within(period: u64, part: u64) -> Option<Bounds>
+    requires part { 512 ≤ part }
+    ensures longest { IfSome result (λ bounds. period ≤ bounds.high) }
+    ensures shortest { IfSome result (λ bounds. bounds.low ≤ period) }
+    ensures around { part ≡ 1024 → IfSome result (λ bounds. IsAround bounds period) }
+{
+    if period < SHORTEST_PERIOD || period > LONGEST_PERIOD {
         return None;
     }
-    let centre = ((cells << 32) / samples).min(1 << 31) as u32;
-    // The longest of some runs has jitter on its side. Neither 4/5 of a cell nor 4/3 of one is
-    // tried, which a line of zeros has too.
-    let first = centre - centre / 16;
-    let some = &runs[..runs.len().min(FIRST)];
-    Some(sharpest(some, first, (centre / 6 + centre / 16) / 96, 96))
+    Some(Bounds {
+        low: period - period / part,
+        high: period + period / part,
+    })
 }
 
 /// The bounds of cells of about this period: it may change by a 1024th.
@@ -166,80 +208,268 @@ pub(crate) fn bounds_around(period: u64) -> Option<Bounds>
     ensures longest { IfSome result (λ bounds. period ≤ bounds.high) }
     ensures shortest { IfSome result (λ bounds. bounds.low ≤ period) }
 {
-    if period < SHORTEST_PERIOD || period > LONGEST_PERIOD {
-        return None;
-    }
-    Some(Bounds {
-        low: period - period / 1024,
-        high: period + period / 1024,
-    })
+    bounds_within(period, 1024)
 }
 
-/// A place, and the place of an edge so far behind it, where 2^32 is a cell.
-fn behind(place: u64, mean: u32, period: u64) -> u64
-    requires place { place ≤ 2 ^ 40 }
-    requires period { period ≤ 2 ^ 30 }
+/// Whether a preamble may begin with a run, if a cell is so long: its four runs have eight cells within one, and the first has
+/// more than one cell more than the third. One that the end cuts may.
+fn may_begin(runs: &[u32], run: usize, period: u64) -> bool
+    requires few { run < 2 ^ 32 }
+    requires short { period < 2 ^ 60 }
 {
-    if mean < 1 << 31 {
-        place.saturating_sub(u64::from(mean) * period >> 32)
-    } else {
-        place + (u64::from(mean.wrapping_neg()) * period >> 32)
+    if runs.len() < run + 4 {
+        return true;
     }
+    let first = run_at(runs, run);
+    let third = run_at(runs, run + 2);
+    let four = first + run_at(runs, run + 1) + third + run_at(runs, run + 3);
+    (four * PARTS).abs_diff(8 * period) <= period && first.saturating_sub(third) * PARTS > period
 }
 
-/// A follower of the line with these runs, from the edge before them on; none where these are not
-/// those of a line. `known` is its period, where that is given, in parts of a sample.
-pub fn follower_of_runs(runs: &[u32], known: Option<u64>) -> Option<Follower>
-    ensures { IfSome result (λ follower. IsMeasured known runs.now follower) }
+/// The follower at the first edge, found from the end of an anchor, whose first run has three cells, by following the runs before
+/// it in reverse.
+fn at_first(runs: &[u32], anchor: usize, bounds: Bounds, measured: u64) -> Follower
+    requires within { anchor < length runs.now }
+    ensures bounds { result.bounds ≡ bounds }
+    ensures quiet { result.elapsed ≡ 0 }
 {
-    let near = match known {
-        Some(period) => ((1u64 << 48) / period.max(2 * PARTS)) as u32,
-        None => match estimate(runs) {
-            Some(near) => near,
-            None => return None,
-        },
-    };
-    let step = (near / 12_800).max(1);
-    let found = sharpest(runs, near.wrapping_sub(step.wrapping_mul(32)), step, 64).max(1);
-    // Chance gives a sixth or so.
-    if sharpness(runs, found) / QUARTER < runs.len() as u64 / 8 * 3 {
-        return None;
+    let period = measured.clamp(bounds.low, bounds.high);
+    let middle = bounds.low + bounds.low / 2;
+    let run = u64::from(runs[anchor]) * PARTS;
+    let other = (middle + 3 * period).saturating_sub(run);
+    let mut follower = Follower::at(bounds, period, middle, other.min(3 * bounds.low));
+    for i in 0..anchor + 1 {
+        follower.run(runs[anchor - i]);
     }
-    match placed(runs, found, known) {
-        Some(follower) if is_steady(follower, runs) => Some(follower),
-        _ => None,
-    }
+    follower.turned(period)
 }
 
-/// Whether a follower counts one to three cells of most of these runs, as a line has: chance gives
-/// three in ten that have none or more.
-fn is_steady(follower: Follower, runs: &[u32]) -> bool
-    ensures { IsTrue result → IsSteady follower runs.now }
+/// Whether four runs of cells are a preamble: 3, 3, 1, 1 or 3, 2, 1, 2 or 3, 1, 1, 3.
+fn is_preamble(first: u32, second: u32, third: u32, fourth: u32) -> bool
+    ensures { result ≡ are_preamble first second third fourth }
+{
+    first == 3 && third == 1 && 1 <= second && second <= 3 && fourth == 4 - second
+}
+
+/// Counts the cells of runs by a follower of their line; answers whether seven runs in eight have one to three, as a line has.
+fn count_runs(follower: Follower, runs: &[u32], cells: &mut [u32; RUNS]) -> bool
+    requires few { length runs.now ≤ 256 }
+    requires quiet { follower.elapsed ≡ 0 }
+    ensures { IsTrue result → (steady : IsSteady follower runs.now) × (steady.cells ≡ take (length runs.now) cells.new) }
 {
     let mut follower = follower;
     let mut steady = 0;
     for i in 0..runs.len() {
-        let cells = follower.run(runs[i]);
-        if 1 <= cells && cells <= 3 {
+        let count = follower.run(runs[i]);
+        cells[i] = count as u32;
+        if 1 <= count && count <= 3 {
             steady += 1;
         }
     }
     steady >= runs.len() - runs.len() / 8
 }
 
-/// A follower of the line with these runs, whose edges lie on grids of this frequency.
-fn placed(runs: &[u32], found: u32, known: Option<u64>) -> Option<Follower>
-    ensures { IfSome result (λ follower. IsPlaced known follower) }
+/// How many cells these runs have, less whole subframes.
+fn cells_before(cells: &[u32; RUNS], run: usize) -> u64
+    requires within { run ≤ 256 }
+    ensures { result < 64 }
 {
-    let measured = (1u64 << 48) / u64::from(found.max(1));
-    let bounds = match bounds_around(known.unwrap_or(measured)) {
-        Some(bounds) => bounds,
-        None => return None,
+    let mut place = 0;
+    for i in 0..run {
+        place = (place + u64::from(cells[i])) % 64;
+    }
+    place
+}
+
+/// 1 if a preamble begins with these four runs at a place that is a whole subframe, else 0.
+fn preamble_at(place: u64, first: u32, second: u32, third: u32, fourth: u32) -> u32
+    ensures { result ≡ (if nat_eq place 0 && are_preamble first second third fourth then 1 else 0) }
+{
+    if place == 0 && is_preamble(first, second, third, fourth) {
+        1
+    } else {
+        0
+    }
+}
+
+/// How many places that are whole subframes lie at the beginning of a run of cells and inside of it, where none but the first
+/// cells count.
+fn places_at(place: u64, cells: u32) -> u32
+    requires within { place < 64 }
+    ensures { result ≡ (if nat_eq place 0 && nat_le 1 cells then 1 else 0) + (if nat_lt 64 (place + cells) then 1 else 0) }
+{
+    let begins = if place == 0 && cells >= 1 { 1 } else { 0 };
+    let inside = if place + u64::from(cells) > 64 { 1 } else { 0 };
+    begins + inside
+}
+
+/// Whether preambles begin at three in four of the places that are whole subframes from the beginning of a run, and at enough of them.
+fn have_preambles(cells: &[u32; RUNS], count: usize, run: usize) -> bool
+    requires few { count ≤ 256 }
+    requires many { 128 ≤ count }
+    requires within { run < 256 }
+    ensures { IsTrue result → HavePreambles (take count cells.now) }
+{
+    let mut place = (64 - cells_before(cells, run)) % 64;
+    let mut due = 0;
+    let mut found = 0;
+    for i in 0..count - 3 {
+        found += preamble_at(place, cells[i], cells[i + 1], cells[i + 2], cells[i + 3]);
+        due += places_at(place, cells[i]);
+        place = (place + u64::from(cells[i])) % 64;
+    }
+    if (found as usize) < (count / 64 - 1).max(2) {
+        return false;
+    }
+    4 * found >= 3 * due
+}
+
+/// The period, from the mean places of the first and of the last edges.
+fn period_of(runs: &[u32], cells: &[u32; RUNS]) -> u64
+    requires few { length runs.now ≤ 256 }
+    requires many { 128 ≤ length runs.now }
+{
+    let mut at = 0u64;
+    let mut cell = 0u64;
+    let mut time = 0u64;
+    let mut count = 0u64;
+    for i in 0..runs.len() {
+        if i < ENDS {
+            time = time.wrapping_sub(at);
+            count = count.wrapping_sub(cell);
+        }
+        at = at.wrapping_add(u64::from(runs[i]));
+        cell = cell.wrapping_add(u64::from(cells[i]));
+        if i >= runs.len() - ENDS {
+            time = time.wrapping_add(at);
+            count = count.wrapping_add(cell);
+        }
+    }
+    time.wrapping_mul(PARTS) / count.max(1)
+}
+
+/// The follower at the first edge whose cells are so long, if it counts those of a line; writes these.
+fn start(
+    runs: &[u32],
+    anchor: usize,
+    bounds: Bounds,
+    measured: u64,
+    cells: &mut [u32; RUNS],
+) -> Option<Follower>
+    requires few { length runs.now ≤ 256 }
+    requires many { 128 ≤ length runs.now }
+    requires within { anchor < length runs.now }
+    ensures { IfSome result (IsLine bounds runs.now) }
+{
+    let follower = at_first(runs, anchor, bounds, measured);
+    if count_runs(follower, runs, cells) && have_preambles(cells, runs.len(), anchor) {
+        Some(follower)
+    } else {
+        None
+    }
+}
+
+/// A follower from the first edge on, by the first runs of two preambles; none if the cells that it counts are not those of a line.
+fn by_anchors(runs: &[u32], known: Option<u64>, first: Anchor, last: Anchor) -> Option<Follower>
+    requires few { length runs.now ≤ 256 }
+    requires many { 128 ≤ length runs.now }
+    requires first_within { first.run < length runs.now }
+    requires last_within { last.run < length runs.now }
+    ensures { IfSome result (λ follower. IsMeasured known runs.now follower) }
+{
+    let subframes = last.subframes.saturating_sub(first.subframes);
+    if subframes == 0 || subframes > 64 {
+        return None;
+    }
+    let samples = last.samples.saturating_sub(first.samples);
+    let measured = samples.min(1 << 40) * PARTS / (64 * subframes);
+    if !may_begin(runs, first.run, measured) || !may_begin(runs, last.run, measured) {
+        return None;
+    }
+    // Jitter moves the period of few subframes further than that of many.
+    let part = match known {
+        Some(_) => 1024,
+        None => (128 * (subframes + 3)).min(1024),
     };
-    let period = measured.clamp(bounds.low, bounds.high);
-    let (same, other) = places_of_runs(runs, found);
-    let middle = bounds.low + bounds.low / 2;
-    let first = behind(middle, same.mean(), period).min(3 * bounds.low);
-    let second = behind(first, other.mean().wrapping_sub(same.mean()), period);
-    Some(Follower::at(bounds, period, first, second.min(3 * bounds.low)))
+    let mut cells = [0; RUNS];
+    let Some(bounds) = bounds_within(known.unwrap_or(measured), part) else {
+        return None;
+    };
+    if start(runs, last.run, bounds, measured, &mut cells).is_none() {
+        return None;
+    }
+    // The same once more, with the period of all these cells.
+    let measured = period_of(runs, &cells);
+    let Some(bounds) = bounds_around(known.unwrap_or(measured)) else {
+        return None;
+    };
+    start(runs, last.run, bounds, measured, &mut cells)
+}
+
+/// A follower by the length of the longest pair: six cells, the first three of which begin a preamble.
+fn by_pair(runs: &[u32], known: Option<u64>, longest: u32, side: Side) -> Option<Follower>
+    requires few { length runs.now ≤ 256 }
+    requires many { 128 ≤ length runs.now }
+    requires long { 0 < longest }
+    ensures { IfSome result (λ follower. IsMeasured known runs.now follower) }
+{
+    let (anchors, count) = anchors(runs, u64::from(longest), side);
+    let tries = [(0, 1), (0, 2), (1, 1), (1, 2)];
+    for k in 0..4 {
+        let (first, last) = tries[k];
+        if first + last < count {
+            let found = by_anchors(runs, known, anchors[first], anchors[count - last]);
+            if found.is_some() {
+                return found;
+            }
+        }
+    }
+    None
+}
+
+/// A follower by the longest pair, if pairs are like those of a line. On a clean line its first run begins a preamble. The other
+/// two tries are for lines of wrong parity and for damage.
+fn by_longest(runs: &[u32], known: Option<u64>, longest: Pair) -> Option<Follower>
+    requires few { length runs.now ≤ 256 }
+    requires many { 128 ≤ length runs.now }
+    ensures { IfSome result (λ follower. IsMeasured known runs.now follower) }
+{
+    // Six cells have 12 samples at least, and at most 2^16.
+    if longest.samples < 12 || longest.samples > 1 << 16 || !are_likely(runs, longest.samples) {
+        return None;
+    }
+    let side = longest.at % 2;
+    let found = by_pair(runs, known, longest.samples, Side::Of(side));
+    if found.is_some() {
+        return found;
+    }
+    let found = by_pair(runs, known, longest.samples, Side::Of(1 - side));
+    if found.is_some() {
+        return found;
+    }
+    by_pair(runs, known, longest.samples, Side::Both)
+}
+
+/// A follower of the line with these runs, 128 to 256 of them, from the edge before them on; none if they are not those of a line.
+/// `known` is its period, where that is given, in parts of a sample.
+pub fn follower_of_runs(runs: &[u32], known: Option<u64>) -> Option<Follower>
+    ensures { IfSome result (λ follower. IsMeasured known runs.now follower) }
+{
+    let half = runs.len() / 2;
+    if half < GROUP || runs.len() > RUNS {
+        return None;
+    }
+    let front = longest_pair(runs, 0, half);
+    let rear = longest_pair(runs, half, runs.len() - 1);
+    let (longer, other) = if front.samples >= rear.samples {
+        (front, rear)
+    } else {
+        (rear, front)
+    };
+    let found = by_longest(runs, known, longer);
+    // One half may have a run that is none of the line's.
+    if found.is_some() || longer.samples - longer.samples / 9 <= other.samples {
+        return found;
+    }
+    by_longest(runs, known, other)
 }

@@ -1,0 +1,47 @@
+-- Followers of lines.
+use Rattle.std.proofs.Common.{ℕ, List, ◌≡◌, ◌<◌, ◌≤◌, ◌+◌, ◌⊎◌, inl, inr, Option, Some, None, IfSome, arith, get_or, length, set}
+use Rattle.std.proofs.lemmas.Bool.{cases_lt}
+use Rattle.std.proofs.lemmas.List.{get_or-set_other, get_or-set_same}
+use Rattle.std.specs.Option.{unwrap_or}
+use Rattle.aes3_recovery.specs.declared.measure.Anchor.{Anchor}
+use Rattle.aes3_capture.specs.declared.bounds.Bounds.{Bounds}
+use Rattle.aes3_capture.specs.declared.follower.Follower.{Follower}
+use Rattle.aes3_recovery.specs.Measuring.{IsAround, IsAsked, IsLine, IsMeasured}
+
+-- a follower of a line whose cells lie around the period that was asked for, or around a measured one
+line-measured : (known : Option ℕ) (runs : List ℕ) (period : ℕ) (bounds : Bounds) (follower : Follower)
+    → IsAsked known period → IsAround bounds period → IsLine bounds runs follower → IsMeasured known runs follower
+line-measured known runs period bounds follower asked around line = record {
+  placed = record {
+    period = period;
+    asked = asked;
+    around = rw line.bounds_is around;
+    at_an_edge = line.at_an_edge;
+  };
+  steady = line.steady;
+  preambles = line.preambles;
+}
+
+asked-period : (known : Option ℕ) (measured period : ℕ) → period ≡ unwrap_or known measured → IsAsked known period
+asked-period None measured period is = record {}
+asked-period (Some given) measured period is = is
+
+pub measured-line : (known : Option ℕ) (runs : List ℕ) (measured period : ℕ) (bounds : Bounds) (result : Option Follower)
+    → period ≡ unwrap_or known measured → IsAround bounds period → IfSome result (IsLine bounds runs)
+    → IfSome result (λ follower. IsMeasured known runs follower)
+measured-line known runs measured period bounds None asked around line = line
+measured-line known runs measured period bounds (Some follower) is around line =
+    line-measured known runs period bounds follower (asked-period known measured period is) around line
+
+-- one anchor more among the runs
+pub anchors-more : (found : List Anchor) (g limit : ℕ) (value : Anchor) → g < length found → value.run < limit
+    → ((i : ℕ) (other : Anchor) → i < g → (get_or found i other).run < limit)
+    → (i : ℕ) (other : Anchor) → i < g + 1 → (get_or (set found g value) i other).run < limit
+anchors-more found g limit value within last before i other below = by (cases_lt i g)
+  where
+    by : (i < g) ⊎ (g ≤ i) → (get_or (set found g value) i other).run < limit
+    by (inl earlier) = rw (get_or-set_other found g i value other (omega (arith, earlier))) (before i other earlier)
+    by (inr past) = at (omega (arith, below, past))
+      where
+        at : i ≡ g → (get_or (set found g value) i other).run < limit
+        at same = rw (same, get_or-set_same found g value other within) last

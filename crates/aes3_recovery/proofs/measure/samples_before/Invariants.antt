@@ -1,0 +1,5 @@
+use Rattle.std.proofs.Common.{◌≤◌, ◌*◌}
+use Rattle.aes3_recovery.proofs.measure.samples_before.Given as goal
+
+abbrev pub invariant-loop-i : goal.invariant-loop-i
+invariant-loop-i l = l.samples ≤ l.i * 4294967295
