@@ -107,10 +107,10 @@ class Typed:
             return []
 
     def complete(self, text):
-        """The line after a tab behind the text, or None where the shell is silent for ten seconds."""
+        """The line after a tab behind the text, or None where the shell is silent for a minute."""
         count = len(self.told())
         self.write(text + "\t\x18p")
-        end = time.monotonic() + 10
+        end = time.monotonic() + 60
         while len(self.told()) == count:
             if time.monotonic() > end:
                 return None

@@ -182,7 +182,7 @@ judge "help" sh -c 'aes3-spoil --help | grep -q -e --check-byte'
 judge "its version" test "$(aes3-spoil --version)" = "aes3-spoil $(aes3 --version | cut -d' ' -f2)"
 
 # ---- what is decided leaves before it waits: all but what makes no whole word
-judge "live" sh -c "{ printf '%0200d' 0; sleep 20; } | aes3-spoil --cell 3 --drop 100 | timeout 10 head -n 3 >live; printf '%s\n' 0001\$(printf '%060d' 0) \$(printf '%064d' 0) \$(printf '%064d' 0) | cmp - live"
+judge "live" sh -c "{ printf '%0200d' 0; for _ in \$(seq 600); do [ -s live ] && exit; sleep 0.1; done; : >late; } | aes3-spoil --cell 3 --drop 100 | head -n 3 >live; printf '%s\n' 0001\$(printf '%060d' 0) \$(printf '%064d' 0) \$(printf '%064d' 0) | cmp - live && [ ! -e late ]"
 
 # ---- with little memory it is refused, and does not end otherwise
 for size in 900 1200 1600 2000 2400 3000; do

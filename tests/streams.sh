@@ -250,12 +250,14 @@ packed = subprocess.run([program, "encode", "--packed-out"], input=2 * block, st
 for words in ["--raw-in"], ["--packed-in"], ["--raw-in", "--lsb-first"], ["--packed-in", "--lsb-first"]:
     octets = bytes(int(f"{octet:08b}"[::-1], 2) for octet in packed) if "--lsb-first" in words else packed
     child = subprocess.Popen([program, "check", *words], stdin=subprocess.PIPE, stdout=subprocess.PIPE, stderr=subprocess.DEVNULL, bufsize=0)
-    count = 3073
+    told = lambda seconds: select.select([child.stdout], [], [], seconds)[0]
+    count, late = 3073, 3 if "--lsb-first" in words else 2
     child.stdin.write(octets[:count])
-    while not select.select([child.stdout], [], [], 0.5)[0] and count < 3080:
-        child.stdin.write(octets[count : count + 1])
-        count += 1
-    print(*words, count - 3073)
+    early = False
+    for octet in octets[count : count + late]:
+        early = early or told(0.3)
+        child.stdin.write(bytes([octet]))
+    print(*words, "early" if early else late if told(20) else "later")
     child.stdin.close()
     child.wait()
 END
