@@ -207,10 +207,10 @@ for command in check 'check --gaps' watch normal decode show scan to-pcm 'cut 0 
     # shellcheck disable=SC2086 # a command is several words
     "$program" $command < "$folder/cells" > "$folder/expected" 2>&1
     # shellcheck disable=SC2086
-    if (ulimit -s 512 && ulimit -v 4096 && exec "$program" $command) < "$folder/cells" 2>&1 | cmp -s - "$folder/expected"; then
+    if (ulimit -s 512 && ulimit -v 5120 && exec "$program" $command) < "$folder/cells" 2>&1 | cmp -s - "$folder/expected"; then
         well "$command in little memory"
     else
-        wrong "$command in 4 MB of address space, with 512 KB of stack"
+        wrong "$command in 5 MB of address space, with 512 KB of stack"
     fi
 done
 
