@@ -104,10 +104,10 @@ int main() {
     for (int i = 0; i < 4 * AES3_BLOCK_CELLS; i++)
         samples[i] = static_cast<std::uint8_t>((cells[i / 256] >> (i / 4 % 64) & 1) << 2);
     aes3_capture capture;
-    // No edge tells where the first run began: it is a cell shorter.
-    bool came = aes3::recover(samples, 1, 2, packed, capture) && capture.cells == AES3_BLOCK_CELLS - 1;
-    for (int i = 0; i < 8 * AES3_BLOCK_WORDS - 1; i++)
-        came &= packed[i] == static_cast<std::uint8_t>(octets[i] << 1 | octets[i + 1] >> 7);
+    // No edge tells where the first run began, so its cells are counted by the period of those behind it.
+    bool came = aes3::recover(samples, 1, 2, packed, capture) && capture.cells == AES3_BLOCK_CELLS;
+    for (int i = 0; i < 8 * AES3_BLOCK_WORDS; i++)
+        came &= packed[i] == octets[i];
     judge("recover", came && capture.octets == 8 * AES3_BLOCK_WORDS + 1);
 
     block[7] = 1u << 28;

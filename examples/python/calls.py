@@ -56,9 +56,9 @@ bits = "".join(f"{it:08b}" for it in packed[: 2 * 24576 // 8])
 levels = [int(it) for it in bits for _ in range(5)]
 for unit, bit, octets in (1, 2, [it << 2 for it in levels]), (2, 9, [it for level in levels for it in (0, level << 1)]):
     cells_found, figures = aes3.cells_of_samples(bytes(octets), bit, unit)
-    # No edge tells where the first run began: it is a cell shorter.
-    assert "".join(f"{it:08b}" for it in cells_found[:-1])[:-1] == bits[1:] and cells_found[-1] == 1
-    assert figures["cells"] == len(bits) - 1 and figures["period"] >> 8 == 5 << 8
+    # No edge tells where the first run began, so its cells are counted by the period of those behind it.
+    assert "".join(f"{it:08b}" for it in cells_found[:-1]) == bits and cells_found[-1] == 0
+    assert figures["cells"] == len(bits) and figures["period"] >> 8 == 5 << 8
 assert aes3.cells_of_samples(bytes(1000))[1]["measured"] == 0
 
 
