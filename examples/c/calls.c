@@ -337,9 +337,11 @@ static void captures(void) {
         WANT(found.samples == SAMPLES && found.cells == CELLS && found.octets == PACKED && packed[PACKED - 1] == 0);
         WANT(found.period >> 7 == 4 << 9 && found.measured == 1 && found.dead == 0 && found.greatest < 32 && found.edges > 0);
         aes3_lock_init(&lock);
-        aes3_lock_take_octets(&lock, packed, AES3_BLOCK_CELLS / 8, 0, &report);
-        aes3_lock_take_octets(&lock, packed + AES3_BLOCK_CELLS / 8, AES3_BLOCK_CELLS / 8 - 1, 0, &report);
-        aes3_lock_push(&lock, aes3_word_of_octets(packed + PACKED - 9) >> 56, 8, &report);
+        size_t at = 0;
+        do {
+            at += aes3_lock_take_octets(&lock, packed, CELLS / 8, at, &report);
+            WANT(report.kind == AES3_NONE || (report.kind == AES3_WHOLE && report.at == 0));
+        } while (report.kind != AES3_NONE);
         aes3_lock_finish(&lock, &report);
         WANT(report.kind == AES3_WHOLE && report.at == AES3_BLOCK_CELLS && memcmp(report.words, words, sizeof words) == 0);
         WANT(packed[PACKED] == 0x5A);
