@@ -194,7 +194,7 @@ while [ "$limit" -le 4000 ]; do
         wrong "memory of $limit KiB: status $status"
     fi
     limit=$((limit + 20))
-done
+done 2> /dev/null # the shell's own word of an end by a signal, which is no failure
 if [ "$refused" -gt 0 ]; then
     well "refused memory, at $refused limits"
 else
