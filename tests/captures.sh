@@ -148,7 +148,11 @@ judge "pieces of any size" sh -c "{ dd bs=7 count=1000; dd bs=4099; } <one 2>/de
 
 # Cells leave before it waits. Where the input or the output fails within a block of octets, that is told, and what came before is written.
 judge "cells of each piece before the next comes" "$python" "$here/live.py" "$program" one text
-judge "a source that fails within a block" "$python" "$here/live.py" --fail "$program" one text
+if "$python" -c 'open("/proc/self/mem", "rb", 0).close()' 2>/dev/null; then
+    judge "a source that fails within a block" "$python" "$here/live.py" --fail "$program" one text
+else
+    leave_out "a source that fails within a block" "/proc/self/mem can't be opened"
+fi
 if [ -w /dev/full ]; then
     judge "a sink that fails within a block" eval '! "$program" <one >/dev/full 2>told && [ "$(cat told)" = "aes3-cells: the output failed" ]'
 else
