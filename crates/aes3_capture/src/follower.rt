@@ -238,26 +238,34 @@ impl Follower {
         })
     }
 
+    /// How many cells a sample has, a cell as 2^20.
+    pub fn frequency(&self) -> u32 {
+        ((1u64 << 36) / self.period) as u32
+    }
+
     /// How many cells most likely lie between each of these places of edges and the next, in samples, where the first is that
-    /// of the latest edge. `track` compares, so nothing hangs on their being right.
-    pub fn guess(&self, places: &[u32]) -> [u32; TRACKED]
+    /// of the latest edge. The frequency may be that of an earlier edge. `track` compares, so nothing hangs on their being right.
+    pub fn guess(&self, places: &[u32], frequency: u32) -> [u32; TRACKED]
         requires { length places.now ≡ 33 }
     {
-        // Places in cells, a cell as 2^20, behind the last cell that ends before the latest edge.
-        let frequency = ((1u64 << 36) / self.period) as u32;
+        // Places in cells, a cell as 2^20, after the last cell that ends before the latest edge.
         let other = cells_of(self.other.saturating_sub(self.bounds.low), frequency);
         let same = cells_of(self.same.saturating_sub(self.bounds.low), frequency);
-        let behind = u32x8::from_array([other, same, other, same, other, same, other, same]);
-        let before = u32x8::from_array([same, other, same, other, same, other, same, other]);
+        let grids = u32x8::from_array([other, same, other, same, other, same, other, same]);
         let from = u32x8::splat(places[0]);
         let frequency = u32x8::splat(frequency);
+        // How many cells end before each edge.
+        let mut ended = [0; TRACKED + 1];
+        ended[0] = same >> CELL_SHIFT;
+        for i in 0..TRACKED / 8 {
+            let places = u32x8::from_slice(&places[8 * i + 1..]) - from;
+            ((places * frequency + grids) >> u32x8::splat(CELL_SHIFT)).copy_to_slice(
+                &mut ended[8 * i + 1..],
+            );
+        }
         let mut cells = [0; TRACKED];
         for i in 0..TRACKED / 8 {
-            let first = u32x8::from_slice(&places[8 * i..]) - from;
-            let last = u32x8::from_slice(&places[8 * i + 1..]) - from;
-            let begun = (first * frequency + before) >> u32x8::splat(CELL_SHIFT);
-            let ended = (last * frequency + behind) >> u32x8::splat(CELL_SHIFT);
-            (ended - begun)
+            (u32x8::from_slice(&ended[8 * i + 1..]) - u32x8::from_slice(&ended[8 * i..]))
                 .simd_clamp(u32x8::splat(1), u32x8::splat(3))
                 .copy_to_slice(&mut cells[8 * i..]);
         }

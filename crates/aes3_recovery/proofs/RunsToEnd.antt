@@ -43,16 +43,16 @@ after-as-many s (x ∷ xs) (y ∷ ys) e = after-as-many (other s) xs ys (omega (
 pub after-more : (s : Level) (runs : List ℕ) (n : ℕ) → after s (runs ++ n ∷ []) ≡ other (after s runs)
 after-more s runs n = after-append s runs (n ∷ [])
 
--- behind eight runs the level is as it was
-after-eight : (s : Level) → after s (0 ∷ 0 ∷ 0 ∷ 0 ∷ 0 ∷ 0 ∷ 0 ∷ 0 ∷ []) ≡ s
-after-eight Low = refl
-after-eight High = refl
+-- after sixteen runs the level is as it was
+after-sixteen : (s : Level) → after s (0 ∷ 0 ∷ 0 ∷ 0 ∷ 0 ∷ 0 ∷ 0 ∷ 0 ∷ 0 ∷ 0 ∷ 0 ∷ 0 ∷ 0 ∷ 0 ∷ 0 ∷ 0 ∷ []) ≡ s
+after-sixteen Low = refl
+after-sixteen High = refl
 
-pub after-eight-more : (s : Level) (runs more : List ℕ) → length more ≡ 8 → after s runs ≡ s
+pub after-sixteen-more : (s : Level) (runs more : List ℕ) → length more ≡ 16 → after s runs ≡ s
     → after s (runs ++ more) ≡ s
-after-eight-more s runs more eight was =
+after-sixteen-more s runs more sixteen was =
     after-append s runs more ∙ ap (λ t. after t more) was
-    ∙ after-as-many s more (0 ∷ 0 ∷ 0 ∷ 0 ∷ 0 ∷ 0 ∷ 0 ∷ 0 ∷ []) eight ∙ after-eight s
+    ∙ after-as-many s more (0 ∷ 0 ∷ 0 ∷ 0 ∷ 0 ∷ 0 ∷ 0 ∷ 0 ∷ 0 ∷ 0 ∷ 0 ∷ 0 ∷ 0 ∷ 0 ∷ 0 ∷ 0 ∷ []) sixteen ∙ after-sixteen s
 
 -- the cells of runs, and of more behind those that leave the level as it was
 pub line-more : (s : Level) (runs more : List ℕ) → after s runs ≡ s → line s (runs ++ more) ≡ line s runs ++ line s more

@@ -20,7 +20,7 @@ use aes3_cell::{Fault, Form, Sink};
 const LONG: u64 = 64;
 
 /// The cells of so many runs are given at once.
-const EIGHT: usize = 8;
+const TOGETHER: usize = 16;
 
 /// Follows a line from an edge on, and gives its cells.
 #[derive(Drop)]
@@ -266,22 +266,22 @@ impl LineFollower {
         ensures follower { self.new.follower ≡ self.old.follower }
     {
         let mut at = 0;
-        while at + EIGHT <= runs.len() {
-            match self.put_some(sink, high, &runs[at..at + EIGHT]) {
-                Ok(()) => at += EIGHT,
+        while at + TOGETHER <= runs.len() {
+            match self.put_some(sink, high, &runs[at..at + TOGETHER]) {
+                Ok(()) => at += TOGETHER,
                 Err(fault) => return Err(fault),
             }
         }
         self.put_some(sink, high, &runs[at..])
     }
 
-    /// Gives the cells of eight runs at most.
+    /// Gives the cells of sixteen runs at most.
     ///
     /// # Errors
     /// The sink's fault.
     #[inline(always)]
     fn put_some<T: Sink>(&mut self, sink: &mut T, high: bool, runs: &[u32]) -> Result<(), Fault>
-        requires few { length runs.now ≤ 8 }
+        requires few { length runs.now ≤ 16 }
         requires short { (i : ℕ) → i < length runs.now → get_or runs.now i 0 ≤ 3 }
         requires room { T.failed sink.old + 1 < 2 ^ 64 }
         ensures count { IfOk result (λ _. T.failed sink.new ≡ T.failed sink.old) }

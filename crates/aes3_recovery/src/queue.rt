@@ -94,7 +94,7 @@ impl CellQueue {
         bits: u64,
         count: u32,
     ) -> Result<(), Fault>
-        requires few { count ≤ 32 }
+        requires few { count ≤ 48 }
         requires no_more { bits < 2 ^ count }
         requires room { T.failed sink.old + 1 < 2 ^ 64 }
         ensures count { IfOk result (λ _. T.failed sink.new ≡ T.failed sink.old) }
@@ -206,17 +206,17 @@ pub fn bits_of_cells(high: bool, cells: u32) -> u64
     if high { (1u64 << cells) - 1 } else { 0 }
 }
 
-/// The word whose lowest bits are the cells of eight runs at most, the first of this level and each of three cells at most,
+/// The word whose lowest bits are the cells of sixteen runs at most, the first of this level and each of three cells at most,
 /// and how many cells these are.
 ///
 /// It inverts all later cells at the end of each run, which takes fewer steps than placing the cells of each.
 #[inline(always)]
 pub fn bits_of_runs(high: bool, runs: &[u32]) -> (u64, u32)
-    requires few { length runs.now ≤ 8 }
+    requires few { length runs.now ≤ 16 }
     requires short { (i : ℕ) → i < length runs.now → get_or runs.now i 0 ≤ 3 }
     ensures cells { (before : Level) → level_if high ≡ other before → low_cells result.1 result.0 ≡ line before runs.now }
     ensures no_more { result.0 < 2 ^ result.1 }
-    ensures most { result.1 ≤ 24 }
+    ensures most { result.1 ≤ 48 }
 {
     let mut levels = if high { u64::MAX } else { 0 };
     let mut len = 0;

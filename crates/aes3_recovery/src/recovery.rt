@@ -354,11 +354,12 @@ impl Recovery {
             → IfOk result (λ _. StandsBehind (T.taken sink.new) setting level
             (runs ++ take count places.now.runs) self.new) }
     {
+        let frequency = self.line.follower().frequency();
         let mut high = high;
         let mut at = 0;
         let mut alone = 0;
         while at < count {
-            match self.take_edges(sink, high, places, at, count, alone == 0) {
+            match self.take_edges(sink, high, places, at, count, frequency, alone == 0) {
                 Ok(some) => {
                     at += some;
                     high = level_behind(high, some);
@@ -380,6 +381,7 @@ impl Recovery {
         places: &Places,
         at: usize,
         count: usize,
+        frequency: u32,
         together: bool,
     ) -> Result<usize, Fault>
         requires within { at < count }
@@ -404,7 +406,7 @@ impl Recovery {
             (runs ++ take n (drop at places.now.runs)) self.new) }
     {
         if together {
-            match self.track(sink, high, places, at, count) {
+            match self.track(sink, high, places, at, count, frequency) {
                 Ok(0) => {}
                 tracked => return tracked,
             }
@@ -426,6 +428,7 @@ impl Recovery {
         places: &Places,
         at: usize,
         count: usize,
+        frequency: u32,
     ) -> Result<usize, Fault>
         requires within { at < count }
         requires few { count ≤ 4096 }
@@ -451,7 +454,7 @@ impl Recovery {
         }
         let mut follower = self.line.follower();
         let low = follower.bounds().low;
-        let cells = follower.guess(places.near(at));
+        let cells = follower.guess(places.near(at), frequency);
         let mut grid = [0; TRACKED];
         let some = follower.track(places.runs(at, count), &cells, &mut grid);
         let distances = distances_of(&grid, some, (low + low / 2) as u32);

@@ -46,35 +46,48 @@ pub fn feed<T: Sink>(
     ensures count { IfOk result (λ _. T.failed sink.new ≡ T.failed sink.old) }
     ensures err_count { OnErr result (T.failed sink.new ≡ T.failed sink.old + 1) }
 {
-    let taken = if piece.len() < BLOCK {
-        0
+    if piece.len() < BLOCK {
+        feed_chunks(recovery, sink, unit, piece)
     } else {
-        feed_blocks(recovery, sink, unit, piece)?
-    };
-    feed_chunks(recovery, sink, unit, &piece[taken..])
+        feed_long(recovery, sink, unit, piece)
+    }
 }
 
-/// Takes the whole blocks of a piece; answers how many octets these are. It is a function of its own, so that a caller who gives
-/// less than a block needs no stack for the places of edges, which are 33 KB.
+/// Takes a piece of a block and more. It is a function of its own, so that a caller who gives less than a block needs no stack for
+/// the places of edges, which are 33 KB.
 #[inline(never)]
+fn feed_long<T: Sink>(
+    recovery: &mut Recovery,
+    sink: &mut T,
+    unit: Unit,
+    piece: &[u8],
+) -> Result<(), Fault>
+    requires room { T.failed sink.old + 1 < 2 ^ 64 }
+    ensures count { IfOk result (λ _. T.failed sink.new ≡ T.failed sink.old) }
+    ensures err_count { OnErr result (T.failed sink.new ≡ T.failed sink.old + 1) }
+{
+    feed_blocks(recovery, sink, unit, piece, &mut Places::new())
+}
+
+/// Takes a piece: its whole blocks, and then the rest. What `places` has before counts for nothing. It is 33 KB long, so a run makes
+/// it once and not for each piece.
 fn feed_blocks<T: Sink>(
     recovery: &mut Recovery,
     sink: &mut T,
     unit: Unit,
     piece: &[u8],
-) -> Result<usize, Fault>
+    places: &mut Places,
+) -> Result<(), Fault>
     requires room { T.failed sink.old + 1 < 2 ^ 64 }
     ensures count { IfOk result (λ _. T.failed sink.new ≡ T.failed sink.old) }
     ensures err_count { OnErr result (T.failed sink.new ≡ T.failed sink.old + 1) }
-    ensures within { IfOk result (λ taken. taken ≤ length piece.now) }
 {
-    let mut places = Places::new();
     let mut at = 0;
     while let Some(block) = piece[at..].first_chunk() {
-        feed_block(recovery, sink, unit, block, &mut places)?;
+        feed_block(recovery, sink, unit, block, places)?;
         at += BLOCK;
     }
-    Ok(at)
+    feed_chunks(recovery, sink, unit, &piece[at..])
 }
 
 /// Takes a block of samples: its edges are found first, where the line is one of which they can be.
@@ -161,6 +174,7 @@ pub fn recover<S: Source, T: Sink>(
 {
     let dead = recovery.figures().dead;
     let mut piece = [0; PIECE_LEN];
+    let mut places = Places::new();
     let mut kept = 0;
     'pieces: for _ in 0..u64::MAX {
         let left = until
@@ -179,7 +193,7 @@ pub fn recover<S: Source, T: Sink>(
         let whole = kept + n;
         kept = whole % unit.len();
         let len = whole - kept;
-        match feed(recovery, sink, unit, &piece[..len]) {
+        match feed_blocks(recovery, sink, unit, &piece[..len], &mut places) {
             Ok(()) => {}
             Err(_) => return Err(Refusal::Write),
         }

@@ -4,7 +4,7 @@ use Rattle.std.proofs.lemmas.List.{length-drop, length-take-le, take-append-drop
 use Rattle.aes3_level.specs.Cells.{after, line}
 use Rattle.aes3_level.proofs.Runs.{line-append}
 use Rattle.aes3_recovery.proofs.Queueing.{put-is, puts-chain, puts-is, puts-stop}
-use Rattle.aes3_recovery.proofs.RunsToEnd.{after-eight-more, line-more}
+use Rattle.aes3_recovery.proofs.RunsToEnd.{after-sixteen-more, line-more}
 use Rattle.aes3_recovery.proofs.line_follower.LineFollower.put_runs.Goals as goal
 
 pub loop-at-preserved : goal.loop-at-preserved
@@ -13,13 +13,13 @@ loop-at-preserved g c =
     let runs = c.args.runs.now in
     let at = c.loop-at.at in
     let room = c.loop-at-test.true in
-    let n : at + 8 - at ≡ 8 = omega arith in
-    let part = take (at + 8 - at) (drop at runs) in
-    let split : take (at + 8) runs ≡ take at runs ++ part
-    = take-add at 8 runs ∙ ap (λ k. take at runs ++ take k (drop at runs)) (sym n) in
+    let n : at + 16 - at ≡ 16 = omega arith in
+    let part = take (at + 16 - at) (drop at runs) in
+    let split : take (at + 16) runs ≡ take at runs ++ part
+    = take-add at 16 runs ∙ ap (λ k. take at runs ++ take k (drop at runs)) (sym n) in
     let left = length-drop at runs in
-    let eight : length part ≡ 8
-    = length-take-le (at + 8 - at) (drop at runs) (omega (arith, left, room)) ∙ n in
+    let sixteen : length part ≡ 16
+    = length-take-le (at + 16 - at) (drop at runs) (omega (arith, left, room)) ∙ n in
     record {
       quiet = c.in-Ok.ensures.count ∙ v.quiet;
       within = room;
@@ -27,7 +27,7 @@ loop-at-preserved g c =
           puts-is (sym (line-more before (take at runs) part (v.after before)) ∙ ap (line before) (sym split))
           (puts-chain c.args.self.now.queue c.loop-at.self.queue c.put_some.new.self.queue c.args.sink.now c.loop-at.sink
           c.put_some.new.sink _ _ _ (v.cells before e) (put-is c.in-Ok.field-0 (c.in-Ok.ensures.cells before e)));
-      after = λ before. ap (after before) split ∙ after-eight-more before (take at runs) part eight (v.after before);
+      after = λ before. ap (after before) split ∙ after-sixteen-more before (take at runs) part sixteen (v.after before);
       edges = c.in-Ok.ensures.edges ∙ v.edges;
       follower = c.in-Ok.ensures.follower ∙ v.follower;
     }
@@ -37,16 +37,16 @@ returns-in-Err-clause-cells g c = λ before e.
     let v = c.loop-at.invariant in
     let runs = c.args.runs.now in
     let at = c.loop-at.at in
-    let n : at + 8 - at ≡ 8 = omega arith in
-    let part = take (at + 8 - at) (drop at runs) in
+    let n : at + 16 - at ≡ 16 = omega arith in
+    let part = take (at + 16 - at) (drop at runs) in
     let front = take at runs ++ part in
-    let all : front ++ drop (at + 8) runs ≡ runs
-    = ap (λ k. (take at runs ++ take k (drop at runs)) ++ drop (at + 8) runs) n
-    ∙ ap (λ x. x ++ drop (at + 8) runs) (sym (take-add at 8 runs)) ∙ take-append-drop (at + 8) runs in
+    let all : front ++ drop (at + 16) runs ≡ runs
+    = ap (λ k. (take at runs ++ take k (drop at runs)) ++ drop (at + 16) runs) n
+    ∙ ap (λ x. x ++ drop (at + 16) runs) (sym (take-add at 16 runs)) ∙ take-append-drop (at + 16) runs in
     puts-is
-    (ap (λ x. x ++ line (after before front) (drop (at + 8) runs))
+    (ap (λ x. x ++ line (after before front) (drop (at + 16) runs))
     (sym (line-more before (take at runs) part (v.after before)))
-    ∙ sym (line-append before front (drop (at + 8) runs)) ∙ ap (line before) all)
+    ∙ sym (line-append before front (drop (at + 16) runs)) ∙ ap (line before) all)
     (puts-stop c.args.self.now.queue c.put_some.new.self.queue c.args.sink.now c.put_some.new.sink c.in-Err.fault
     c.in-Err.fault _ _
     (puts-chain c.args.self.now.queue c.loop-at.self.queue c.put_some.new.self.queue c.args.sink.now c.loop-at.sink
