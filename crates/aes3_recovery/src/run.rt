@@ -130,6 +130,9 @@ fn feed_chunks<T: Sink>(
         at += CHUNK;
     }
     let rest = &piece[at..];
+    if rest.is_empty() {
+        return Ok(());
+    }
     let mut octets = [0; CHUNK];
     octets[..rest.len()].copy_from_slice(rest);
     let samples = rest.len() / unit.len();
