@@ -6,3 +6,5 @@ pub mod Tolerance
 mod Nearness
 mod Leaping
 mod Leapt
+pub mod Mirror
+pub mod Telescope

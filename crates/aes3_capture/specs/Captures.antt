@@ -1,6 +1,7 @@
 -- A capture of a line: how long the samples lay between one edge and the next, against the cells that the line has
 -- there. Each length is in parts of a sample, 65536 to one.
-use Rattle.std.specs.Prelude.{ℕ, List, [], ◌∷◌, ◌≡◌, ◌<◌, ◌≤◌, ◌+◌, ◌-◌, ◌*◌, ◌/◌, ◌⊎◌}
+use Rattle.std.specs.Prelude.{ℕ, zero, suc, List, [], ◌∷◌, ◌≡◌, ◌<◌, ◌≤◌, ◌+◌, ◌-◌, ◌*◌, ◌/◌, ◌%◌, ◌⊎◌, get_or, length, nat_eq}
+use Rattle.std.specs.Prelude.{if◌then◌else◌}
 use Rattle.aes3_capture.specs.declared.bounds.Bounds.{Bounds}
 
 -- how far three cells of unknown length can carry an edge
@@ -74,6 +75,24 @@ SpreadsLate bounds spread late later before (n ∷ cells) (run ∷ runs) =
     (displaced : ℕ) × IsBetween late before spread × IsBetween later displaced spread
     × IsPlaced bounds before n (65536 * run) displaced
     × SpreadsLate bounds spread later late displaced cells runs
+
+-- the sum of the first `i` of these
+abbrev pub sum_to : List ℕ → ℕ → ℕ
+sum_to xs zero = 0
+sum_to [] (suc i) = 0
+sum_to (x ∷ xs) (suc i) = x + sum_to xs i
+
+-- by how much an edge is late as a whole, by its number: those of one direction have even numbers
+abbrev pub lateness : ℕ → ℕ → ℕ → ℕ
+lateness late later i = if nat_eq (i % 2) 0 then late else later
+
+-- The same by numbers: `places` has the displacement of the edge before each run, and of the one behind the last.
+pub record AreDisplaced (bounds : Bounds) (spread late later : ℕ) (places cells runs : List ℕ) : Type 0 where
+  pub places_count : length places ≡ length runs + 1
+  pub cells_count : length cells ≡ length runs
+  pub placed : (i : ℕ) → i < length runs
+      → IsPlaced bounds (get_or places i 0) (get_or cells i 0) (65536 * get_or runs i 0) (get_or places (i + 1) 0)
+  pub side : (i : ℕ) → i ≤ length runs → IsBetween (lateness late later i) (get_or places i 0) spread
 
 -- cells may be so much longer or shorter than a period: one part in `part` of it
 pub record IsAbout (bounds : Bounds) (period part : ℕ) : Type 0 where

@@ -1,3 +1,4 @@
 pub mod Captures
 pub mod Following
 pub mod Leaps
+pub mod Directions
