@@ -158,7 +158,7 @@ stands-single told told' old mid new setting level runs more run k state w one e
     }
 
 -- all edges among more samples, taken ahead
-pub recovered-ahead : (told told' : Option (List ℕ)) (setting : Setting) (seen levels : List Level) (old mid new : Recovery)
+unfoldable pub recovered-ahead : (told told' : Option (List ℕ)) (setting : Setting) (seen levels : List Level) (old mid new : Recovery)
     (high : Bool) (runs : List ℕ) (from behind : ℕ)
     → old.state ≡ Following → 1 ≤ old.figures.samples → from + old.line.edges.run ≡ 128
     → runs ≡ gaps from (turns (level_if old.line.edges.high) 128 levels)

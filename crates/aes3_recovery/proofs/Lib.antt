@@ -1,4 +1,7 @@
 mod Words
+pub mod Beginning
+pub mod Awaiting
+pub mod Joining
 mod FollowedAhead
 mod Ahead
 mod LaneBits
@@ -20,3 +23,10 @@ pub mod WordBits
 pub mod EndBytes
 pub mod Queueing
 pub mod States
+pub mod Periods
+mod Captured
+mod Firsts
+mod LongPairs
+mod NearPeriods
+mod TwoPeriods
+mod Found

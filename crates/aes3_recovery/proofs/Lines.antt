@@ -1,12 +1,22 @@
 -- Followers of lines.
-use Rattle.std.proofs.Common.{ℕ, List, ◌≡◌, ◌<◌, ◌≤◌, ◌+◌, ◌⊎◌, inl, inr, Option, Some, None, IfSome, arith, get_or, length, set}
+use Rattle.std.proofs.Common.{true, false}
+use Rattle.std.proofs.Common.{ℕ, List, ◌≡◌, ◌<◌, ◌≤◌, ◌+◌, ◌⊎◌, inl, inr, Option, Some, None, IfSome, is_some, arith, get_or, length, set}
 use Rattle.std.proofs.lemmas.Bool.{cases_lt}
 use Rattle.std.proofs.lemmas.List.{get_or-set_other, get_or-set_same}
 use Rattle.std.specs.Option.{unwrap_or}
+use Rattle.std.specs.Prelude.{Bool, IsTrue, nat_le}
 use Rattle.aes3_recovery.specs.declared.measure.Anchor.{Anchor}
 use Rattle.aes3_capture.specs.declared.bounds.Bounds.{Bounds}
 use Rattle.aes3_capture.specs.declared.follower.Follower.{Follower}
+use Rattle.aes3_recovery.specs.Finding.{IsFound}
 use Rattle.aes3_recovery.specs.Measuring.{IsAround, IsAsked, IsLine, IsMeasured}
+
+pub is-at-most : (a b : ℕ) → a ≤ b → IsTrue (nat_le a b)
+is-at-most a b h = grind (arith, h)
+
+pub not-both : (b : Bool) → IsTrue b → b ≡ false → ⊥
+not-both true is e = cc
+not-both false is e = cc
 
 -- a follower of a line whose cells lie around the period that was asked for, or around a measured one
 line-measured : (known : Option ℕ) (runs : List ℕ) (period : ℕ) (bounds : Bounds) (follower : Follower)
@@ -45,3 +55,9 @@ anchors-more found g limit value within last before i other below = by (cases_lt
       where
         at : i ≡ g → (get_or (set found g value) i other).run < limit
         at same = rw (same, get_or-set_same found g value other within) last
+
+-- what is found is there
+pub found-is-some : (narrow : Bounds) (spread late later : ℕ) (places : List ℕ) (result : Option Follower) → IsFound narrow spread late later places result
+    → is_some result ≡ false → ⊥
+found-is-some narrow spread late later places None found e = found
+found-is-some narrow spread late later places (Some follower) found e = cc

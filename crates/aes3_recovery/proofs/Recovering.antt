@@ -43,11 +43,11 @@ holds-keeps told setting level done past old new k state h = record {
       k.queue_is k.follower_is;
 }
 
-waits-keep : (old new : Recovery) → KeepsTold old new → runs_waiting new ≡ runs_waiting old
+pub waits-keep : (old new : Recovery) → KeepsTold old new → runs_waiting new ≡ runs_waiting old
 waits-keep old new k = rw (k.count_is, k.runs_are) refl
 
 -- more samples to be taken
-pub recovered-more : (told : Option (List ℕ)) (setting : Setting) (sample : Level) (seen levels : List Level)
+unfoldable pub recovered-more : (told : Option (List ℕ)) (setting : Setting) (sample : Level) (seen levels : List Level)
     (old new : Recovery) → KeepsTold old new → new.state ≡ old.state → new.line.edges ≡ old.line.edges
     → new.figures.samples ≡ min (old.figures.samples + length levels) (2 ^ 64 - 1)
     → Recovered told setting (sample ∷ seen) [] old
@@ -76,7 +76,7 @@ recovered-more told setting sample seen levels old new k state edges samples w =
     }
 
 -- two lists that are nothing joined
-nothing : (xs ys : List ℕ) → xs ++ ys ≡ [] → (xs ≡ []) × (ys ≡ [])
+pub nothing : (xs ys : List ℕ) → xs ++ ys ≡ [] → (xs ≡ []) × (ys ≡ [])
 nothing [] ys e = (refl, e)
 nothing (x ∷ xs) ys e = cc
 
@@ -123,7 +123,7 @@ found-none told setting level u now w =
     (subst (λ b. Starts setting.known [] b w.start) none.1
     (subst (λ b. Starts setting.known b w.behind w.start) none.0 w.starts))
 
-told-none : (told : Option (List ℕ)) (setting : Setting) (level u : Level) (now : Recovery)
+pub told-none : (told : Option (List ℕ)) (setting : Setting) (level u : Level) (now : Recovery)
     → AreTold told setting level [] 0 now → AreTold told setting u [] 0 now
 told-none told setting level u now w = record {
   form_is = w.form_is;
@@ -135,13 +135,13 @@ told-none told setting level u now w = record {
 }
 
 -- no run is behind nothing
-only-one : (runs : List ℕ) (behind : ℕ) → 0 ∷ [] ≡ runs ++ behind ∷ [] → (runs ≡ []) × (behind ≡ 0)
+pub only-one : (runs : List ℕ) (behind : ℕ) → 0 ∷ [] ≡ runs ++ behind ∷ [] → (runs ≡ []) × (behind ≡ 0)
 only-one [] behind e = (refl, cc)
 only-one (x ∷ []) behind e = cc
 only-one (x ∷ y ∷ runs) behind e = cc
 
 -- the first samples
-pub recovered-first : (told : Option (List ℕ)) (setting : Setting) (levels : List Level) (sample : Level)
+unfoldable pub recovered-first : (told : Option (List ℕ)) (setting : Setting) (levels : List Level) (sample : Level)
     (old new : Recovery) → KeepsTold old new → new.state ≡ old.state
     → level_if new.line.edges.high ≡ sample → new.line.edges.run ≡ 0
     → new.figures.samples ≡ min (old.figures.samples + length levels) (2 ^ 64 - 1)
@@ -185,7 +185,7 @@ recovered-first told setting levels sample old new k state high run samples is w
     }
 
 -- samples that come
-pub recovered-begins : (told : Option (List ℕ)) (setting : Setting) (seen levels : List Level) (old new : Recovery)
+unfoldable pub recovered-begins : (told : Option (List ℕ)) (setting : Setting) (seen levels : List Level) (old new : Recovery)
     → KeepsTold old new → new.state ≡ old.state
     → new.figures.samples ≡ min (old.figures.samples + length levels) (2 ^ 64 - 1)
     → (1 ≤ old.figures.samples → new.line ≡ old.line) → (length levels ≡ 0 → new.line ≡ old.line)
@@ -223,7 +223,7 @@ recovered-begins told setting (l ∷ seen) levels old new k state samples same n
     (ap (λ f. f.edges) (same (omega (arith, was)))) samples w
 
 -- an edge that comes
-pub recovered-edge : (told told' : Option (List ℕ)) (setting : Setting) (seen : List Level) (piece left : Piece)
+unfoldable pub recovered-edge : (told told' : Option (List ℕ)) (setting : Setting) (seen : List Level) (piece left : Piece)
     (run : ℕ) (old mid new : Recovery) → piece.len ≤ 64 → EdgeCame old.line.edges piece run mid.line.edges left
     → KeepsTold old mid → mid.state ≡ old.state → new.line.edges ≡ mid.line.edges
     → new.figures.samples ≡ old.figures.samples
@@ -270,7 +270,7 @@ recovered-edge told told' setting seen piece left run old mid new few e k state 
     }
 
 -- the end of a piece
-pub recovered-rest : (told told' : Option (List ℕ)) (setting : Setting) (seen : List Level) (piece : Piece)
+unfoldable pub recovered-rest : (told told' : Option (List ℕ)) (setting : Setting) (seen : List Level) (piece : Piece)
     (old mid new : Recovery) → piece.len ≤ 64 → NoEdgeCame old.line.edges piece mid.line.edges
     → KeepsTold old mid → mid.state ≡ old.state → new.line.edges.high ≡ mid.line.edges.high
     → new.figures.samples ≡ old.figures.samples → new.line.edges.run < 2 ^ 31
@@ -348,7 +348,7 @@ ended-recovered told setting seen old new cells w e =
     (subst (λ x. AreEnded setting.known x (w.runs ++ w.behind ∷ []) cells new) first e)
 
 -- words passed on
-pub recovered-gave : {A : Type 0} {taken : A → Option (List ℕ)} (setting : Setting) (seen : List Level)
+unfoldable pub recovered-gave : {A : Type 0} {taken : A → Option (List ℕ)} (setting : Setting) (seen : List Level)
     (old new : Recovery) (a b : A) → Gave taken old.line new.line a b [] → new.line.edges ≡ old.line.edges
     → new.line.follower ≡ old.line.follower → new.found ≡ old.found → new.known ≡ old.known → new.held ≡ old.held
     → new.figures ≡ old.figures → new.runs ≡ old.runs → new.count ≡ old.count → new.state ≡ old.state
@@ -384,7 +384,7 @@ recovered-gave {taken = taken} setting seen old new a b gave edges follower foun
       };
     }
 
-told-new : (setting : Setting) (found : Bool) (now : Recovery) → now.found ≡ found
+pub told-new : (setting : Setting) (found : Bool) (now : Recovery) → now.found ≡ found
     → waiting now.line.queue ≡ [] → now.line.queue.form ≡ setting.form → now.known ≡ setting.known
     → now.held ≡ 0 → now.figures.measured ≡ 0 → (found ≡ true → IsAskedFor setting.known now.line.follower)
     → AreTold (Some setting.begun) setting High [] 0 now
@@ -420,7 +420,7 @@ told-new setting true now is none form known held measured asked = record {
 }
 
 -- where nothing came
-pub recovered-new : (setting : Setting) (now : Recovery) → now.line.edges.high ≡ false → now.line.edges.run ≡ 0
+unfoldable pub recovered-new : (setting : Setting) (now : Recovery) → now.line.edges.high ≡ false → now.line.edges.run ≡ 0
     → waiting now.line.queue ≡ [] → now.line.queue.form ≡ setting.form → now.known ≡ setting.known
     → now.held ≡ 0 → now.figures.samples ≡ 0 → now.figures.measured ≡ 0 → now.count ≡ 0 → now.state ≡ Still
     → (now.found ≡ true → IsAskedFor setting.known now.line.follower)
@@ -489,11 +489,11 @@ ended-recovered-ok told setting seen old new told' (Ok v) w n is p = (
 )
 
 -- the first level of samples that come in a word
-first-of-word : (len levels : ℕ) → 1 ≤ len → first_level (low_cells len levels) ≡ level_of (levels % 2)
+pub first-of-word : (len levels : ℕ) → 1 ≤ len → first_level (low_cells len levels) ≡ level_of (levels % 2)
 first-of-word zero levels some = absurd (omega (arith, some))
 first-of-word (suc len) levels some = refl
 
-pub recovered-word : (told : Option (List ℕ)) (setting : Setting) (seen : List Level) (len levels : ℕ)
+unfoldable pub recovered-word : (told : Option (List ℕ)) (setting : Setting) (seen : List Level) (len levels : ℕ)
     (old new : Recovery) → KeepsTold old new → new.state ≡ old.state
     → new.figures.samples ≡ min (old.figures.samples + len) (2 ^ 64 - 1)
     → (1 ≤ old.figures.samples → new.line ≡ old.line) → (len ≡ 0 → new.line ≡ old.line)

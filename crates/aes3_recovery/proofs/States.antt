@@ -13,3 +13,9 @@ differs e = cc
 
 pub apart : (s : State) → s ≡ Still → s ≡ Following → ⊥
 apart s a b = differs (sym a ∙ b)
+
+unlike : Measuring ≡ Following → ⊥
+unlike e = cc
+
+pub measuring-apart : (s : State) → s ≡ Measuring → s ≡ Following → ⊥
+measuring-apart s a b = unlike (sym a ∙ b)

@@ -1,3 +1,4 @@
+pub mod Beginning
 pub mod Distances
 pub mod Endings
 pub mod Levels
@@ -8,3 +9,4 @@ pub mod Recovering
 pub mod RecoverySteps
 pub mod Runs
 pub mod Turns
+pub mod Finding

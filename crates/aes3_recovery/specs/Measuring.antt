@@ -1,5 +1,5 @@
 -- A follower that was measured from runs of samples.
-use Rattle.std.specs.Prelude.{ℕ, List, [], ◌∷◌, Option, Some, None, ◌≡◌, ◌≤◌, ◌+◌, ◌-◌, ◌*◌, ◌/◌, ◌%◌, Bool, ◌&&◌, if◌then◌else◌}
+use Rattle.std.specs.Prelude.{ℕ, zero, suc, List, [], ◌∷◌, Option, Some, None, ◌≡◌, ◌≤◌, ◌+◌, ◌-◌, ◌*◌, ◌/◌, ◌%◌, Bool, ◌&&◌, if◌then◌else◌}
 use Rattle.std.specs.Prelude.{nat_eq, nat_le, nat_lt, get_or, length, take}
 use Rattle.aes3_capture.specs.declared.bounds.Bounds.{Bounds}
 use Rattle.aes3_capture.specs.declared.follower.Follower.{Follower}
@@ -38,6 +38,12 @@ pub record IsSteady (follower : Follower) (runs : List ℕ) : Type 0 where
 abbrev pub are_preamble : ℕ → ℕ → ℕ → ℕ → Bool
 are_preamble first second third fourth =
     nat_eq first 3 && nat_eq third 1 && nat_le 1 second && nat_le second 3 && nat_eq fourth (4 - second)
+
+-- The place in its subframe at which run `i` of these begins, where the first begins so many cells behind the beginning of one.
+abbrev pub place_at : ℕ → List ℕ → ℕ → ℕ
+place_at place cells zero = place
+place_at place [] (suc i) = place
+place_at place (n ∷ cells) (suc i) = place_at ((place + n) % 64) cells i
 
 -- Places that are whole subframes apart, where the first run of these begins so many cells behind one: at how many of them
 -- begins a run, or lie cells inside of one

@@ -1,9 +1,16 @@
 //! Finds a line by its preambles: how long a cell is, and where its edges lie.
 
 ghost use Rattle.std.specs.Prelude.{ℕ, ◌^◌, ◌+◌, ◌<◌, ◌≤◌, ◌≡◌, ◌&&◌, if◌then◌else◌, nat_eq, nat_le, nat_lt, get_or, length, take};
-ghost use Rattle.std.specs.Prelude.{IsTrue, IfSome};
+ghost use Rattle.std.specs.Prelude.{IsTrue, IfSome, IsSomeAnd, List, ◌-◌, ◌*◌, ◌/◌, ◌%◌, max};
+ghost use Rattle.aes3_capture.specs.declared.bounds.Bounds.{Bounds};
+ghost use Rattle.aes3_capture.specs.Captures.{AreDisplaced, IsAbout, sum_to};
+ghost use Rattle.aes3_capture.specs.Directions.{IsAt};
+ghost use Rattle.aes3_recovery.specs.Finding.{CountsLine, IsACapture};
+ghost use Rattle.aes3_recovery.specs.Finding.{AllowsCells, AreCapturedRuns, AreEnds, AreOfALine, AreOfManySubframes, AreOfSubframes, IsFound, IsLikeAPreamble, IsSix, IsTolerable, long_pairs, pair_at, sums_to};
 ghost use Rattle.aes3_recovery.specs.declared.measure.Anchor.{Anchor};
-ghost use Rattle.aes3_recovery.specs.Measuring.{HavePreambles, IsAround, IsLine, IsMeasured, IsSteady, are_preamble};
+ghost use Rattle.aes3_recovery.specs.declared.measure.Side.{Side};
+ghost use Rattle.aes3_recovery.specs.declared.measure.Side.TheVariants.{Of};
+ghost use Rattle.aes3_recovery.specs.Measuring.{HavePreambles, IsAround, IsLine, IsMeasured, IsSteady, are_preamble, place_at};
 
 use aes3_capture::{Bounds, Follower, PARTS};
 
@@ -18,6 +25,11 @@ const GROUPS: usize = RUNS / GROUP;
 
 /// How many edges at each end of the runs give the period: as many rising as falling ones.
 const ENDS: usize = 16;
+
+/// How many samples the longest pair, of six cells, has at least and at most.
+const SHORTEST_PAIR: u32 = 12;
+
+const LONGEST_PAIR: u32 = 1 << 16;
 
 /// The shortest and the longest period that a line may have, in parts of a sample: 2 samples and a
 /// 64th, and 8,000.
@@ -51,7 +63,8 @@ struct Anchor {
 
 /// How many samples a run has; 0 where there is none.
 fn run_at(runs: &[u32], i: usize) -> u64
-    ensures { result < 2 ^ 32 }
+    ensures bound { result < 2 ^ 32 }
+    ensures value { result ≡ get_or runs.now i 0 }
 {
     match runs.get(i) {
         Some(run) => u64::from(*run),
@@ -63,6 +76,8 @@ fn run_at(runs: &[u32], i: usize) -> u64
 fn longest_pair(runs: &[u32], from: usize, to: usize) -> Pair
     requires within { to < length runs.now }
     requires ordered { from ≤ to }
+    ensures most { (i : ℕ) → from ≤ i → i < to → pair_at runs.now i ≤ result.samples }
+    ensures value { 0 < result.samples → (result.at < to) × (result.samples ≡ pair_at runs.now result.at) }
 {
     let mut longest = Pair {
         samples: 0,
@@ -77,9 +92,34 @@ fn longest_pair(runs: &[u32], from: usize, to: usize) -> Pair
     longest
 }
 
+/// The longest pair of the first half and that of the second, the longer first.
+fn longest_pairs(runs: &[u32]) -> (Pair, Pair)
+    requires some { 2 ≤ length runs.now }
+
+    // The first is the longest of all.
+    ensures most { (i : ℕ) → i + 1 < length runs.now → pair_at runs.now i ≤ result.0.samples }
+    ensures value { 0 < result.0.samples
+        → (result.0.at + 1 < length runs.now) × (result.0.samples ≡ pair_at runs.now result.0.at) }
+{
+    let half = runs.len() / 2;
+    let front = longest_pair(runs, 0, half);
+    let rear = longest_pair(runs, half, runs.len() - 1);
+    if front.samples >= rear.samples {
+        (front, rear)
+    } else {
+        (rear, front)
+    }
+}
+
 /// Whether pairs are like those of a line whose longest pair has six cells. Seven in eight have at least a quarter of that, since
 /// none has less than two cells; and seven in eight have at most four fifths, since few have more than four.
-fn are_likely(runs: &[u32], longest: u32) -> bool {
+fn are_likely(runs: &[u32], longest: u32) -> bool
+    // They are if no pair is too short, and none too long but those of five and six cells of a line, which are few.
+    ensures found { (line : List ℕ) → ((i : ℕ) → i + 1 < length runs.now → longest ≤ 4 * pair_at runs.now i)
+        → ((i : ℕ) → i + 1 < length runs.now → get_or line i 0 + get_or line (i + 1) 0 ≤ 4
+        → pair_at runs.now i ≤ longest - longest / 5)
+        → long_pairs line (length runs.now - 1) ≤ length runs.now / 8 → IsTrue result }
+{
     let least = longest.div_ceil(4);
     let most = longest - longest / 5;
     let mut short = 0;
@@ -99,6 +139,8 @@ fn are_likely(runs: &[u32], longest: u32) -> bool {
 fn score(runs: &[u32], i: usize, longest: u64, side: Side) -> u64
     requires few { i < 2 ^ 32 }
     requires short { longest < 2 ^ 32 }
+    ensures value { (s : ℕ) → side ≡ Of s → i % 2 ≡ s → 3 * get_or runs.now i 0 ≤ 2 * longest → result ≡ get_or runs.now i 0 }
+    ensures side { (s : ℕ) → side ≡ Of s → 0 < result → (i % 2 ≡ s) × (result ≡ get_or runs.now i 0) }
 {
     let run = run_at(runs, i);
     if 3 * run > 2 * longest {
@@ -115,7 +157,8 @@ fn score(runs: &[u32], i: usize, longest: u64, side: Side) -> u64
 fn samples_before(runs: &[u32], run: usize) -> u64
     requires few { length runs.now ≤ 256 }
     requires within { run ≤ length runs.now }
-    ensures { result < 2 ^ 40 }
+    ensures bound { result < 2 ^ 40 }
+    ensures value { result ≡ sum_to runs.now run }
 {
     let mut samples = 0;
     for i in 0..run {
@@ -129,7 +172,12 @@ fn likeliest(runs: &[u32], begin: usize, longest: u64, side: Side) -> usize
     requires few { length runs.now ≤ 256 }
     requires within { begin + 64 ≤ length runs.now }
     requires short { longest < 2 ^ 32 }
-    ensures { result < length runs.now }
+    ensures within { result < length runs.now }
+
+    // Of one side it is the longest of those that are not too long, if there is one.
+    ensures longest { (s i : ℕ) → side ≡ Of s → begin ≤ i → i < begin + 64 → i % 2 ≡ s → 0 < get_or runs.now i 0
+        → 3 * get_or runs.now i 0 ≤ 2 * longest
+        → (begin ≤ result) × (result < begin + 64) × (result % 2 ≡ s) × (get_or runs.now i 0 ≤ get_or runs.now result 0) }
 {
     let mut best = 0;
     let mut found = begin;
@@ -148,7 +196,8 @@ fn subframes_in(samples: u64, longest: u64) -> u64
     requires samples { samples < 2 ^ 40 }
     requires some { 0 < longest }
     requires short { longest < 2 ^ 32 }
-    ensures { result < 2 ^ 48 }
+    ensures bound { result < 2 ^ 48 }
+    ensures value { result ≡ (12 * samples + 64 * longest) / (128 * longest) }
 {
     (12 * samples + 64 * longest) / (128 * longest)
 }
@@ -161,6 +210,11 @@ fn anchors(runs: &[u32], longest: u64, side: Side) -> ([Anchor; GROUPS], usize)
     requires short { longest < 2 ^ 32 }
     ensures count { result.1 ≤ 4 }
     ensures within { (i : ℕ) (other : Anchor) → i < result.1 → (get_or result.0 i other).run < length runs.now }
+
+    // The first and the last of these of a capture are first runs of preambles, with as many subframes between them as their cells are.
+    ensures found { (narrow : Bounds) (spread late later place s : ℕ) (places line : List ℕ) (other : Anchor)
+        → AreCapturedRuns narrow spread late later place s places line runs.now → IsSix narrow spread longest → side ≡ Of s
+        → (result.1 ≡ 4) × AreEnds place line runs.now (get_or result.0 0 other) (get_or result.0 3 other) }
 {
     let count = runs.len().div_ceil(GROUP);
     let mut found = [Anchor::default(); GROUPS];
@@ -175,7 +229,7 @@ fn anchors(runs: &[u32], longest: u64, side: Side) -> ([Anchor; GROUPS], usize)
         } else {
             subframes_in(distance, longest)
         };
-        let subframes = before.subframes.saturating_add(more);
+        let subframes = before.subframes + more;
         before = Anchor {
             run,
             samples,
@@ -192,6 +246,7 @@ fn bounds_within(period: u64, part: u64) -> Option<Bounds>
     ensures longest { IfSome result (λ bounds. period ≤ bounds.high) }
     ensures shortest { IfSome result (λ bounds. bounds.low ≤ period) }
     ensures around { part ≡ 1024 → IfSome result (λ bounds. IsAround bounds period) }
+    ensures about { 132096 ≤ period → period ≤ 524288000 → IsSomeAnd result (λ bounds. IsAbout bounds period part) }
 {
     if period < SHORTEST_PERIOD || period > LONGEST_PERIOD {
         return None;
@@ -207,6 +262,7 @@ pub(crate) fn bounds_around(period: u64) -> Option<Bounds>
     ensures around { IfSome result (λ bounds. IsAround bounds period) }
     ensures longest { IfSome result (λ bounds. period ≤ bounds.high) }
     ensures shortest { IfSome result (λ bounds. bounds.low ≤ period) }
+    ensures about { 132096 ≤ period → period ≤ 524288000 → IsSomeAnd result (λ bounds. IsAbout bounds period 1024) }
 {
     bounds_within(period, 1024)
 }
@@ -216,6 +272,7 @@ pub(crate) fn bounds_around(period: u64) -> Option<Bounds>
 fn may_begin(runs: &[u32], run: usize, period: u64) -> bool
     requires few { run < 2 ^ 32 }
     requires short { period < 2 ^ 60 }
+    ensures begins { (run + 4 ≤ length runs.now → IsLikeAPreamble runs.now run period) → IsTrue result }
 {
     if runs.len() < run + 4 {
         return true;
@@ -232,6 +289,11 @@ fn at_first(runs: &[u32], anchor: usize, bounds: Bounds, measured: u64) -> Follo
     requires within { anchor < length runs.now }
     ensures bounds { result.bounds ≡ bounds }
     ensures quiet { result.elapsed ≡ 0 }
+
+    // It follows the line whose runs these are, if the anchor has three cells.
+    ensures found { (narrow : Bounds) (spread late later : ℕ) (places cells : List ℕ)
+        → AreOfALine narrow bounds spread late later places cells runs.now → get_or cells anchor 0 ≡ 3
+        → IsAt result spread late later places 0 }
 {
     let period = measured.clamp(bounds.low, bounds.high);
     let middle = bounds.low + bounds.low / 2;
@@ -255,7 +317,12 @@ fn is_preamble(first: u32, second: u32, third: u32, fourth: u32) -> bool
 fn count_runs(follower: Follower, runs: &[u32], cells: &mut [u32; RUNS]) -> bool
     requires few { length runs.now ≤ 256 }
     requires quiet { follower.elapsed ≡ 0 }
-    ensures { IsTrue result → (steady : IsSteady follower runs.now) × (steady.cells ≡ take (length runs.now) cells.new) }
+    ensures steady { IsTrue result → (steady : IsSteady follower runs.now) × (steady.cells ≡ take (length runs.now) cells.new) }
+
+    // If the follower follows the line whose runs these are, these are its cells.
+    ensures found { (narrow : Bounds) (spread late later : ℕ) (places line : List ℕ)
+        → AreOfALine narrow follower.bounds spread late later places line runs.now → IsAt follower spread late later places 0
+        → IsTrue result × (take (length runs.now) cells.new ≡ line) }
 {
     let mut follower = follower;
     let mut steady = 0;
@@ -272,7 +339,8 @@ fn count_runs(follower: Follower, runs: &[u32], cells: &mut [u32; RUNS]) -> bool
 /// How many cells these runs have, less whole subframes.
 fn cells_before(cells: &[u32; RUNS], run: usize) -> u64
     requires within { run ≤ 256 }
-    ensures { result < 64 }
+    ensures bound { result < 64 }
+    ensures value { result ≡ place_at 0 cells.now run }
 {
     let mut place = 0;
     for i in 0..run {
@@ -308,7 +376,11 @@ fn have_preambles(cells: &[u32; RUNS], count: usize, run: usize) -> bool
     requires few { count ≤ 256 }
     requires many { 128 ≤ count }
     requires within { run < 256 }
-    ensures { IsTrue result → HavePreambles (take count cells.now) }
+    ensures some { IsTrue result → HavePreambles (take count cells.now) }
+
+    // They do on a line, if one begins with that run.
+    ensures found { (place : ℕ) → AreOfSubframes place (take count cells.now) → place_at place (take count cells.now) run ≡ 0
+        → run < count → IsTrue result }
 {
     let mut place = (64 - cells_before(cells, run)) % 64;
     let mut due = 0;
@@ -328,24 +400,28 @@ fn have_preambles(cells: &[u32; RUNS], count: usize, run: usize) -> bool
 fn period_of(runs: &[u32], cells: &[u32; RUNS]) -> u64
     requires few { length runs.now ≤ 256 }
     requires many { 128 ≤ length runs.now }
+    ensures { result ≡ (sums_to runs.now (length runs.now - 15) 16 - sums_to runs.now 0 16) * 65536
+        / max (sums_to cells.now (length runs.now - 15) 16 - sums_to cells.now 0 16) 1 }
 {
     let mut at = 0u64;
     let mut cell = 0u64;
-    let mut time = 0u64;
-    let mut count = 0u64;
+    let mut early = 0u64;
+    let mut early_cells = 0u64;
+    let mut late = 0u64;
+    let mut late_cells = 0u64;
     for i in 0..runs.len() {
         if i < ENDS {
-            time = time.wrapping_sub(at);
-            count = count.wrapping_sub(cell);
+            early += at;
+            early_cells += cell;
         }
-        at = at.wrapping_add(u64::from(runs[i]));
-        cell = cell.wrapping_add(u64::from(cells[i]));
+        at += u64::from(runs[i]);
+        cell += u64::from(cells[i]);
         if i >= runs.len() - ENDS {
-            time = time.wrapping_add(at);
-            count = count.wrapping_add(cell);
+            late += at;
+            late_cells += cell;
         }
     }
-    time.wrapping_mul(PARTS) / count.max(1)
+    late.saturating_sub(early) * PARTS / late_cells.saturating_sub(early_cells).max(1)
 }
 
 /// The follower at the first edge whose cells are so long, if it counts those of a line; writes these.
@@ -359,7 +435,13 @@ fn start(
     requires few { length runs.now ≤ 256 }
     requires many { 128 ≤ length runs.now }
     requires within { anchor < length runs.now }
-    ensures { IfSome result (IsLine bounds runs.now) }
+    ensures line { IfSome result (IsLine bounds runs.now) }
+
+    // It is found if these are the runs of a line, and the anchor the first of a preamble; then its cells are written.
+    ensures found { (narrow : Bounds) (spread late later place : ℕ) (places line : List ℕ)
+        → AreOfALine narrow bounds spread late later places line runs.now → AreOfSubframes place line
+        → get_or line anchor 0 ≡ 3 → place_at place line anchor ≡ 0
+        → IsFound narrow spread late later places result × (take (length runs.now) cells.new ≡ line) }
 {
     let follower = at_first(runs, anchor, bounds, measured);
     if count_runs(follower, runs, cells) && have_preambles(cells, runs.len(), anchor) {
@@ -375,7 +457,12 @@ fn by_anchors(runs: &[u32], known: Option<u64>, first: Anchor, last: Anchor) -> 
     requires many { 128 ≤ length runs.now }
     requires first_within { first.run < length runs.now }
     requires last_within { last.run < length runs.now }
-    ensures { IfSome result (λ follower. IsMeasured known runs.now follower) }
+    ensures measured { IfSome result (λ follower. IsMeasured known runs.now follower) }
+
+    // It is found by the first runs of the first preamble and of the last.
+    ensures found { (narrow : Bounds) (spread late later place side : ℕ) (places line : List ℕ)
+        → AreCapturedRuns narrow spread late later place side places line runs.now → AreEnds place line runs.now first last
+        → AllowsCells known narrow → IsFound narrow spread late later places result }
 {
     let subframes = last.subframes.saturating_sub(first.subframes);
     if subframes == 0 || subframes > 64 {
@@ -411,7 +498,12 @@ fn by_pair(runs: &[u32], known: Option<u64>, longest: u32, side: Side) -> Option
     requires few { length runs.now ≤ 256 }
     requires many { 128 ≤ length runs.now }
     requires long { 0 < longest }
-    ensures { IfSome result (λ follower. IsMeasured known runs.now follower) }
+    ensures measured { IfSome result (λ follower. IsMeasured known runs.now follower) }
+
+    // It is found if this is a pair of six cells, and preambles begin on this side.
+    ensures found { (narrow : Bounds) (spread late later place s : ℕ) (places line : List ℕ)
+        → AreCapturedRuns narrow spread late later place s places line runs.now → IsSix narrow spread longest → side ≡ Of s
+        → AllowsCells known narrow → IsFound narrow spread late later places result }
 {
     let (anchors, count) = anchors(runs, u64::from(longest), side);
     let tries = [(0, 1), (0, 2), (1, 1), (1, 2)];
@@ -432,10 +524,19 @@ fn by_pair(runs: &[u32], known: Option<u64>, longest: u32, side: Side) -> Option
 fn by_longest(runs: &[u32], known: Option<u64>, longest: Pair) -> Option<Follower>
     requires few { length runs.now ≤ 256 }
     requires many { 128 ≤ length runs.now }
-    ensures { IfSome result (λ follower. IsMeasured known runs.now follower) }
+    ensures measured { IfSome result (λ follower. IsMeasured known runs.now follower) }
+
+    // It is found if no pair is longer.
+    ensures found { (narrow : Bounds) (spread late later place side : ℕ) (places line : List ℕ)
+        → AreCapturedRuns narrow spread late later place side places line runs.now
+        → ((i : ℕ) → i + 1 < length runs.now → pair_at runs.now i ≤ longest.samples)
+        → (0 < longest.samples → (longest.at + 1 < length runs.now) × (longest.samples ≡ pair_at runs.now longest.at))
+        → AllowsCells known narrow → IsFound narrow spread late later places result }
 {
-    // Six cells have 12 samples at least, and at most 2^16.
-    if longest.samples < 12 || longest.samples > 1 << 16 || !are_likely(runs, longest.samples) {
+    if longest.samples < SHORTEST_PAIR
+        || longest.samples > LONGEST_PAIR
+        || !are_likely(runs, longest.samples)
+    {
         return None;
     }
     let side = longest.at % 2;
@@ -453,19 +554,28 @@ fn by_longest(runs: &[u32], known: Option<u64>, longest: Pair) -> Option<Followe
 /// A follower of the line with these runs, 128 to 256 of them, from the edge before them on; none if they are not those of a line.
 /// `known` is its period, where that is given, in parts of a sample.
 pub fn follower_of_runs(runs: &[u32], known: Option<u64>) -> Option<Follower>
-    ensures { IfSome result (λ follower. IsMeasured known runs.now follower) }
+    ensures measured { IfSome result (λ follower. IsMeasured known runs.now follower) }
+
+    // It is found if these are 256 runs of a line in which it can be, and follows that line from its first edge on.
+    ensures found { (narrow : Bounds) (spread late later place side : ℕ) (places line : List ℕ)
+        → AreCapturedRuns narrow spread late later place side places line runs.now → AllowsCells known narrow
+        → IsFound narrow spread late later places result }
+
+    // So it is where edges lie near their places and cells are of one length but for one part in 32,768.
+    ensures tolerance { (narrow : Bounds) (cell spread late later place side : ℕ) (places line : List ℕ)
+        → AreDisplaced narrow spread late later places line runs.now → AreOfManySubframes place side line
+        → IsAbout narrow cell 65536 → IsTolerable cell spread late later → AllowsCells known narrow
+        → IsFound narrow spread late later places result }
+
+    // All cells that it counts are those of the line, of these runs and of as many more as there are.
+    ensures cells { (narrow : Bounds) (spread late later place side displaced : ℕ) (line all : List ℕ)
+        → IsACapture narrow spread late later place side displaced line all → runs.now ≡ take 256 all → AllowsCells known narrow
+        → IsSomeAnd result (CountsLine line all) }
 {
-    let half = runs.len() / 2;
-    if half < GROUP || runs.len() > RUNS {
+    if runs.len() < 2 * GROUP || runs.len() > RUNS {
         return None;
     }
-    let front = longest_pair(runs, 0, half);
-    let rear = longest_pair(runs, half, runs.len() - 1);
-    let (longer, other) = if front.samples >= rear.samples {
-        (front, rear)
-    } else {
-        (rear, front)
-    };
+    let (longer, other) = longest_pairs(runs);
     let found = by_longest(runs, known, longer);
     // One half may have a run that is none of the line's.
     if found.is_some() || longer.samples - longer.samples / 9 <= other.samples {

@@ -1,7 +1,7 @@
 //! Cells recovered from the levels of samples.
 
 ghost use Rattle.std.specs.Prelude.{ℕ, List, [], ◌∷◌, ◌++◌, ◌+◌, ◌*◌, ◌/◌, ◌-◌, ◌%◌, ◌<◌, ◌≤◌, ◌^◌, ◌≡◌, ◌≢◌, Bool};
-ghost use Rattle.std.specs.Prelude.{Option, IfOk, OnErr, IfSome, Some, min, max, take, drop, length, replicate, true, false, if◌then◌else◌};
+ghost use Rattle.std.specs.Prelude.{Option, IfOk, OnErr, IfSome, None, Some, min, max, take, drop, length, replicate, true, false, if◌then◌else◌};
 ghost use Rattle.aes3_level.specs.declared.level.Level.{Level};
 ghost use Rattle.aes3_level.specs.Cells.{after, other};
 ghost use Rattle.aes3_recovery.specs.Endings.{level_if};
@@ -132,6 +132,9 @@ impl Recovery {
     ghost use Rattle.aes3_capture.specs.Following.{Follows};
     ghost use Rattle.aes3_recovery.specs.Runs.{AreCaptured};
     ghost use Rattle.aes3_recovery.specs.LineFollowing.{Followed, Gives, RunTold, SomeTold};
+    ghost use Rattle.aes3_recovery.specs.Beginning.{AreFindable, Awaits, Began, BeginsWith, Begun, EndsWith, FollowsFrom, GivesLine};
+    ghost use Rattle.aes3_recovery.specs.Beginning.{IsLineBehind};
+    ghost use Rattle.aes3_recovery.specs.Recovering.{first_level};
     ghost use Rattle.aes3_recovery.specs.Endings.{finished};
     ghost use Rattle.aes3_recovery.specs.Recovering.{AreEnded, AreRecovered, AreTold, Holds, Recovered, Setting};
     ghost use Rattle.aes3_recovery.specs.Distances.{total};
@@ -143,6 +146,10 @@ impl Recovery {
     pub fn new(form: Form, known: Option<u64>) -> Self
         ensures recovered { (setting : Setting) → setting.form ≡ form → setting.known ≡ known
             → Recovered (Some setting.begun) setting [] [] result }
+        ensures unfound { known ≡ None → result.found ≡ false }
+        ensures awaits { (setting : Setting) → setting.form ≡ form → setting.known ≡ known → known ≡ None
+            → Awaits (Some setting.begun) setting [] [] result }
+        ensures unmeasured { result.figures.measured ≡ 0 }
     {
         match known_follower(known) {
             Some(follower) => Recovery::with_follower(form, known, follower, true),
@@ -155,6 +162,9 @@ impl Recovery {
         ensures recovered { (setting : Setting) → setting.form ≡ form → setting.known ≡ known
             → (found ≡ true → IsAskedFor known follower)
             → Recovered (Some setting.begun) setting [] [] result }
+        ensures found { result.found ≡ found }
+        ensures unmeasured { result.figures.measured ≡ 0 }
+        ensures none { (result.state ≡ Still) × (result.count ≡ 0) }
     {
         Recovery {
             line: LineFollower::new(form, follower, Edges::new(false)),
@@ -226,6 +236,39 @@ impl Recovery {
         ensures recovered { (setting : Setting) (seen : List Level)
             → Recovered (T.taken sink.old) setting seen [] self.old
             → IfOk result (λ _. Recovered (T.taken sink.new) setting (seen ++ low_cells len levels) [] self.new) }
+        ensures unfound { self.old.figures.measured + 1 < 2 ^ 64
+            → self.new.figures.measured ≡ self.old.figures.measured → self.new.found ≡ self.old.found }
+
+        // Where no line was found before these samples, and one was found in them and is followed, that is from the first
+        // edge of the runs in which it was found.
+        ensures begins { self.old.found ≡ false → self.new.state ≡ Following → self.new.figures.measured ≡ 1
+            → (setting : Setting) (seen : List Level) → Recovered (T.taken sink.old) setting seen [] self.old
+            → IfOk result (λ _. Began (T.taken sink.new) setting (seen ++ low_cells len levels) [] self.new) }
+
+        // If 256 runs behind the first one are a capture in which a line can be found, then one was found, and from these
+        // on it is followed, while it is not measured anew.
+        ensures awaits { (setting : Setting) (seen : List Level) → Awaits (T.taken sink.old) setting seen [] self.old
+            → IfOk result (λ _. Awaits (T.taken sink.new) setting (seen ++ low_cells len levels) [] self.new) }
+        ensures finds { (setting : Setting) (seen : List Level) (first : ℕ) (window : List ℕ)
+            → Awaits (T.taken sink.old) setting seen [] self.old
+            → BeginsWith setting.known (seen ++ low_cells len levels) first window
+            → IfOk result (λ _. 1 ≤ self.new.figures.measured) }
+        ensures starts { (setting : Setting) (seen : List Level) (first : ℕ) (window : List ℕ)
+            → Awaits (T.taken sink.old) setting seen [] self.old
+            → EndsWith setting.known (seen ++ low_cells len levels) first window
+            → IfOk result (λ _. (self.new.state ≡ Following) × (self.new.figures.measured ≡ 1)) }
+        ensures joins { self.new.state ≡ Following → self.new.figures.measured ≡ 1
+            → (setting : Setting) (seen : List Level) (first : ℕ) (window : List ℕ)
+            → Awaits (T.taken sink.old) setting seen [] self.old
+            → BeginsWith setting.known (seen ++ low_cells len levels) first window
+            → IfOk result (λ _. FollowsFrom (T.taken sink.new) setting (other (first_level (seen ++ low_cells len levels)))
+            (first ∷ []) window (seen ++ low_cells len levels) [] self.new) }
+        ensures joined { self.new.state ≡ Following → self.new.figures.measured ≡ 1
+            → (setting : Setting) (seen : List Level) (first : ℕ) (counts : List ℕ)
+            → Awaits (T.taken sink.old) setting seen [] self.old
+            → IsLineBehind setting.known (seen ++ low_cells len levels) first counts
+            → IfOk result (λ _. GivesLine (T.taken sink.new) setting (seen ++ low_cells len levels) first counts
+            self.new) }
     {
         self.count_samples(levels, len);
         let mut piece = Piece::new(levels, len);
@@ -290,6 +333,10 @@ impl Recovery {
             → Recovered (T.taken sink.old) setting seen [] self.old
             → IfOk result (λ taken. Recovered (T.taken sink.new) setting
             (if taken then seen ++ flat_map word_cells words.now else seen) [] self.new) }
+        ensures awaits { (setting : Setting) (seen : List Level)
+            → Awaits (T.taken sink.old) setting seen [] self.old
+            → IfOk result (λ taken. Awaits (T.taken sink.new) setting
+            (if taken then seen ++ flat_map word_cells words.now else seen) [] self.new) }
     {
         if !self.is_quick() {
             return Ok(false);
@@ -353,6 +400,8 @@ impl Recovery {
             → level_if high ≡ other (after level runs)
             → IfOk result (λ _. StandsBehind (T.taken sink.new) setting level
             (runs ++ take count places.now.runs) self.new) }
+        ensures none { count ≡ 0 → (self.new.state ≡ self.old.state)
+            × (self.new.figures.measured ≡ self.old.figures.measured) }
     {
         let frequency = self.line.follower().frequency();
         let mut high = high;
@@ -531,6 +580,24 @@ impl Recovery {
             → level_if self.old.line.edges.high ≡ other (level_if high)
             → IfOk result (λ _. StandsOn (T.taken sink.new) setting level
             ((done ++ runs_waiting self.old) ++ (past + run) ∷ []) self.new.line.edges.run self.new) }
+        ensures unfound { self.old.figures.measured + 1 < 2 ^ 64
+            → self.new.figures.measured ≡ self.old.figures.measured → self.new.found ≡ self.old.found }
+        ensures begins { self.old.found ≡ false → self.new.state ≡ Following
+            → (setting : Setting) (level : Level) (done : List ℕ) (past : ℕ)
+            → Holds (T.taken sink.old) setting level done past self.old
+            → level_if high ≡ other (after level (done ++ runs_waiting self.old))
+            → level_if self.old.line.edges.high ≡ other (level_if high)
+            → IfOk result (λ _. Begun (T.taken sink.new) setting level done
+            (runs_waiting self.old ++ (past + run) ∷ []) self.new) }
+        ensures within { self.old.count ≤ length self.old.runs }
+        ensures still { self.old.state ≡ Still → (self.new.state ≡ Measuring) × (self.new.count ≡ self.old.count)
+            × (self.new.found ≡ self.old.found) }
+        ensures gathers { self.old.state ≡ Measuring → self.old.count + 1 < 256
+            → (self.new.state ≡ Measuring) × (self.new.count ≡ self.old.count + 1)
+            × (self.new.found ≡ self.old.found) }
+        ensures starts { self.old.state ≡ Measuring → self.old.count + 1 ≡ 256 → self.old.figures.measured ≡ 0
+            → AreFindable self.old.known (runs_waiting self.old ++ run ∷ [])
+            → (self.new.state ≡ Following) × (self.new.figures.measured ≡ 1) }
     {
         match self.state {
             State::Following => self.follow(sink, high, run),
@@ -618,6 +685,20 @@ impl Recovery {
             → level_if self.old.line.edges.high ≡ after level (done ++ runs_waiting self.old)
             → IfOk result (λ _. StandsOn (T.taken sink.new) setting level
             ((done ++ runs_waiting self.old) ++ run ∷ []) self.new.line.edges.run self.new) }
+        ensures unfound { self.old.figures.measured + 1 < 2 ^ 64
+            → self.new.figures.measured ≡ self.old.figures.measured → self.new.found ≡ self.old.found }
+        ensures begins { self.old.found ≡ false → self.old.state ≡ Measuring → self.new.state ≡ Following
+            → (setting : Setting) (level : Level) (done : List ℕ)
+            → AreTold (T.taken sink.old) setting level done 0 self.old
+            → level_if self.old.line.edges.high ≡ after level (done ++ runs_waiting self.old)
+            → IfOk result (λ _. Begun (T.taken sink.new) setting level done
+            (runs_waiting self.old ++ run ∷ []) self.new) }
+        ensures gathers { self.old.state ≡ Measuring → self.old.count + 1 < 256
+            → (self.new.state ≡ Measuring) × (self.new.count ≡ self.old.count + 1)
+            × (self.new.found ≡ self.old.found) }
+        ensures starts { self.old.state ≡ Measuring → self.old.count + 1 ≡ 256 → self.old.figures.measured ≡ 0
+            → AreFindable self.old.known (runs_waiting self.old ++ run ∷ [])
+            → (self.new.state ≡ Following) × (self.new.figures.measured ≡ 1) }
     {
         self.runs[self.count] = run;
         if self.count + 1 < RUNS {
@@ -648,6 +729,15 @@ impl Recovery {
             → level_if self.old.line.edges.high ≡ other (after level (done ++ take count self.old.runs))
             → IfOk result (λ _. AreTold (T.taken sink.new) setting level
             (done ++ take count self.old.runs) 0 self.new) }
+        ensures unfound { self.old.figures.measured + 1 < 2 ^ 64
+            → self.new.figures.measured ≡ self.old.figures.measured → self.new.found ≡ self.old.found }
+        ensures begins { self.old.found ≡ false → self.old.state ≡ Measuring → self.new.state ≡ Following → count ≡ 256
+            → (setting : Setting) (level : Level) (done : List ℕ)
+            → AreTold (T.taken sink.old) setting level done 0 self.old
+            → level_if self.old.line.edges.high ≡ other (after level (done ++ take count self.old.runs))
+            → IfOk result (λ _. Begun (T.taken sink.new) setting level done (take count self.old.runs) self.new) }
+        ensures starts { self.old.figures.measured ≡ 0 → AreFindable self.old.known (take count self.old.runs)
+            → (self.new.state ≡ Following) × (self.new.figures.measured ≡ 1) }
     {
         match follower_of_runs(&self.runs[..count], self.known) {
             None => {
@@ -681,6 +771,8 @@ impl Recovery {
         ensures runs { self.new.runs ≡ self.old.runs }
         ensures known { self.new.known ≡ self.old.known }
         ensures found { self.new.found ≡ true }
+        ensures state { self.new.state ≡ Following }
+        ensures once { self.old.figures.measured ≡ 0 → self.new.figures.measured ≡ 1 }
         ensures follower { self.new.line.follower ≡ follower }
         ensures again { self.old.found ≡ true
             → IfOk result (λ _. Gave T.taken self.old.line self.new.line sink.old sink.new []) }
@@ -747,7 +839,9 @@ impl Recovery {
     /// How long a cell is taken to be, in parts of a sample.
     #[inline(always)]
     fn period(&self) -> u64
-        ensures { result ≤ 2 ^ 30 }
+        ensures most { result ≤ 2 ^ 30 }
+        ensures least { 2 ^ 17 ≤ result }
+        ensures any { self.now.found ≡ false → result ≡ 2 ^ 29 }
     {
         if self.found {
             self.line.follower().period()
@@ -763,6 +857,12 @@ impl Recovery {
         ensures count { IfOk result (λ _. T.failed sink.new ≡ T.failed sink.old) }
         ensures err_count { OnErr result (T.failed sink.new ≡ T.failed sink.old + 1) }
         ensures measured { self.new.figures.measured ≡ self.old.figures.measured }
+        ensures found { self.new.found ≡ self.old.found }
+        ensures alive { self.old.found ≡ false → self.old.line.edges.run < 524288
+            → (self.new.state ≡ self.old.state) × (self.new.count ≡ self.old.count) }
+        ensures near { self.old.line.edges.run ≤ 64 → self.new.state ≡ self.old.state }
+        ensures still { self.old.state ≡ Still → self.old.count ≡ 0
+            → (self.new.state ≡ Still) × (self.new.count ≡ 0) }
         ensures state { self.new.state ≡ Following → self.old.state ≡ Following }
         ensures told { self.new.state ≡ Following
             → SomeTold T.taken self.old.line self.new.line sink.old sink.new result }
@@ -785,7 +885,9 @@ impl Recovery {
         ensures count { IfOk result (λ _. T.failed sink.new ≡ T.failed sink.old) }
         ensures err_count { OnErr result (T.failed sink.new ≡ T.failed sink.old + 1) }
         ensures state { self.new.state ≡ Still }
+        ensures none { self.new.count ≡ 0 }
         ensures measured { self.new.figures.measured ≡ self.old.figures.measured }
+        ensures found { self.new.found ≡ self.old.found }
         ensures high { self.new.line.edges.high ≡ self.old.line.edges.high }
         ensures samples { self.new.figures.samples ≡ self.old.figures.samples }
         ensures short { IfOk result (λ _. self.new.line.edges.run ≡ 0) }
@@ -830,6 +932,7 @@ impl Recovery {
         ensures all { self.new.line.edges.run ≡ 0 }
         ensures samples { self.new.figures.samples ≡ self.old.figures.samples }
         ensures count_is { self.new.count ≡ self.old.count }
+        ensures found { self.new.found ≡ self.old.found }
         ensures told { (setting : Setting) (level : Level) (done : List ℕ) (past : ℕ)
             → AreTold (T.taken sink.old) setting level done past self.old
             → level_if self.old.line.edges.high ≡ other (after level done)
@@ -857,6 +960,10 @@ impl Recovery {
         ensures recovered { (setting : Setting) (seen : List Level)
             → Recovered (T.taken sink.old) setting seen [] self.old
             → IfOk result (λ _. Recovered (T.taken sink.new) setting seen [] self.new) }
+        ensures found { self.new.found ≡ self.old.found }
+        ensures measured { self.new.figures.measured ≡ self.old.figures.measured }
+        ensures awaits { (setting : Setting) (seen : List Level) → Awaits (T.taken sink.old) setting seen [] self.old
+            → IfOk result (λ _. Awaits (T.taken sink.new) setting seen [] self.new) }
     {
         match self.line.pass_on(sink) {
             Ok(()) => sink.flush(),

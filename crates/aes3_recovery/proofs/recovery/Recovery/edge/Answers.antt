@@ -1,9 +1,12 @@
-use Rattle.std.proofs.Common.{refl, sym, ap, ◌∙◌, ◌++◌, ◌∷◌, [], ◌≡◌, ◌+◌, arith, subst}
+use Rattle.std.proofs.Common.{refl, sym, ap, ◌∙◌, ◌++◌, ◌∷◌, [], ◌≡◌, ◌+◌, arith, subst, IfOk}
 use Rattle.aes3_level.specs.Cells.{after, other}
 use Rattle.aes3_level.proofs.Runs.{other-other}
 use Rattle.aes3_recovery.specs.Endings.{level_if}
-use Rattle.aes3_recovery.specs.Recovering.{Holds, StandsOn, runs_waiting}
+use Rattle.aes3_recovery.specs.Beginning.{Begun}
+use Rattle.aes3_recovery.specs.Recovering.{AreTold, Holds, StandsOn, runs_waiting}
 use Rattle.aes3_recovery.specs.declared.recovery.State.TheVariants.{Following, Measuring, Still}
+use Rattle.aes3_recovery.proofs.Beginning.{not-both}
+use Rattle.aes3_recovery.proofs.States.{measuring-apart}
 use Rattle.aes3_recovery.proofs.Telling.{ok-map, stands-run, tell-ok, told-keeps}
 use Rattle.aes3_recovery.proofs.recovery.Recovery.edge.Goals as goal
 
@@ -50,4 +53,23 @@ returns-in-Measuring-clause-stands g c = λ setting level done past h turns flip
     new.line.edges.run new) (let z : c.args.run ≡ past + c.args.run = omega (arith, none) in z) w)
     (c.gather.ensures.stands setting level done c.in-Measuring.is
     (subst (λ n. Holds (g.T.Sink.taken c.args.sink.now) setting level done n old) none h)
+    (flips ∙ ap other turns ∙ other-other (after level (done ++ waits))))
+
+pub returns-in-Following-clause-begins : goal.returns-in-Following-clause-begins
+returns-in-Following-clause-begins g c = λ none is setting level done past h turns flips.
+    absurd (not-both c.args.self.now.found (h.order.followed c.in-Following.is) none)
+
+pub returns-in-Still-clause-begins : goal.returns-in-Still-clause-begins
+returns-in-Still-clause-begins g c = λ none is setting level done past h turns flips.
+    absurd (measuring-apart c.tell.new.self.state c.tell.ensures.state is)
+
+pub returns-in-Measuring-clause-begins : goal.returns-in-Measuring-clause-begins
+returns-in-Measuring-clause-begins g c = λ none is setting level done past h turns flips.
+    let old = c.args.self.now in
+    let none_past = h.order.none_past c.in-Measuring.is in
+    let waits = runs_waiting old in
+    subst (λ n. IfOk c.gather.result (λ x. Begun (g.T.Sink.taken c.gather.new.sink) setting level done (waits ++ n ∷ [])
+    c.gather.new.self)) (let z : c.args.run ≡ past + c.args.run = omega (arith, none_past) in z)
+    (c.gather.ensures.begins none c.in-Measuring.is is setting level done
+    (subst (λ n. AreTold (g.T.Sink.taken c.args.sink.now) setting level done n old) none_past h.told_is)
     (flips ∙ ap other turns ∙ other-other (after level (done ++ waits))))

@@ -17,6 +17,7 @@ loop-at-init g c = record {
   up = omega arith;
   level = λ before turns. turns;
   counted = λ was is same room before turns. runs-none c.args.self.now.line c.args.sink.now before;
+  none = λ e. (refl, refl);
   told = λ setting level runs w turns. subst
       (λ (x : List ℕ). StandsBehind (g.T.Sink.taken c.args.sink.now) setting level x c.args.self.now)
       (sym (append-nil runs)) w;
@@ -58,9 +59,14 @@ loop-at-preserved g c =
           (runs-chain c.args.self.now.line c.loop-at.self.line c.take_edges.new.self.line c.args.sink.now c.loop-at.sink
           c.take_edges.new.sink before until some (v.counted was follows kept room before turns)
           (c.in-Ok.ensures.counted follows (after before until) (v.level before turns)));
+      none = λ e. let some = c.in-Ok.ensures.some in absurd (omega (arith, e, some));
       told = λ setting level runs w turns.
           subst (λ (x : List ℕ). StandsBehind (g.T.Sink.taken c.take_edges.new.sink) setting level x c.take_edges.new.self)
           (take-on runs all c.loop-at.at c.in-Ok.some _ (omega arith))
           (c.in-Ok.ensures.told setting level (runs ++ until) (v.told setting level runs w turns)
           (v.level (after level runs) turns ∙ ap other (sym (after-append level runs until))));
     }
+
+pub returns-clause-none : goal.returns-clause-none
+returns-clause-none g c = λ e. let within = c.loop-at.invariant.within in
+    c.loop-at.invariant.none (omega (arith, e, within))

@@ -19,6 +19,8 @@ invariant-loop-at g l = record {
       → l.self.figures.measured ≡ l.fn.self.figures.measured → l.fn.self.figures.measured + 1 < 2 ^ 64
       → (before : Level) → level_if l.fn.high ≡ other before
       → RunsCounted g.T.Sink.taken l.fn.self.line l.self.line l.fn.sink l.sink before (take l.at l.fn.places.runs);
+  none : l.at ≡ 0 → (l.self.state ≡ l.fn.self.state)
+      × (l.self.figures.measured ≡ l.fn.self.figures.measured);
   told : (setting : Setting) (level : Level) (runs : List ℕ)
       → StandsBehind (g.T.Sink.taken l.fn.sink) setting level runs l.fn.self
       → level_if l.fn.high ≡ other (after level runs)

@@ -1,4 +1,5 @@
 use Rattle.std.proofs.Common.{refl}
+use Rattle.aes3_recovery.proofs.Awaiting.{awaits-gave}
 use Rattle.aes3_recovery.proofs.Recovering.{recovered-gave}
 use Rattle.aes3_recovery.proofs.Telling.{gave-puts, ok-const}
 use Rattle.aes3_recovery.proofs.recovery.Recovery.pass_on.Goals as goal
@@ -10,3 +11,11 @@ returns-in-Ok-clause-recovered g c = λ setting seen w.
     (gave-puts c.args.self.now.line c.pass_on.new.self c.args.sink.now c.pass_on.new.sink c.in-Ok.field-0 _
     c.in-Ok.ensures.cells)
     c.pass_on.ensures.edges c.pass_on.ensures.follower refl refl refl refl refl refl refl w))
+
+pub returns-in-Ok-clause-awaits : goal.returns-in-Ok-clause-awaits
+returns-in-Ok-clause-awaits g c = λ setting seen a.
+    ok-const c.flush.result _ (rw c.flush.ensures.bytes
+    (awaits-gave setting seen c.args.self.now _ c.args.sink.now c.pass_on.new.sink
+    (gave-puts c.args.self.now.line c.pass_on.new.self c.args.sink.now c.pass_on.new.sink c.in-Ok.field-0 _
+    c.in-Ok.ensures.cells)
+    c.pass_on.ensures.edges c.pass_on.ensures.follower refl refl refl refl refl refl refl a))

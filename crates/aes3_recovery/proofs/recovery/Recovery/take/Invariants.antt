@@ -1,7 +1,8 @@
-use Rattle.std.proofs.Common.{ℕ, List, [], ◌++◌, ◌≡◌, ◌≤◌, ◌<◌, ◌+◌, ◌^◌}
+use Rattle.std.proofs.Common.{ℕ, List, [], ◌++◌, ◌≡◌, ◌≤◌, ◌<◌, ◌+◌, ◌^◌, false}
 use Rattle.aes3_level.specs.declared.level.Level.{Level}
 use Rattle.aes3_level.specs.Words.{low_cells}
 use Rattle.aes3_capture.specs.declared.follower.Follower.{Follower}
+use Rattle.aes3_recovery.specs.Beginning.{Awaits, Began}
 use Rattle.aes3_recovery.specs.Runs.{levels_in}
 use Rattle.aes3_recovery.specs.LineFollowing.{Followed}
 use Rattle.aes3_recovery.specs.Recovering.{Recovered, Setting}
@@ -21,6 +22,13 @@ invariant-loop-run g l = record {
       (seen ++ low_cells l.fn.len l.fn.levels) (levels_in l.piece);
   recovered : (setting : Setting) (seen : List Level) → Recovered (g.T.Sink.taken l.fn.sink) setting seen [] l.fn.self
       → Recovered (g.T.Sink.taken l.sink) setting (seen ++ low_cells l.fn.len l.fn.levels) (levels_in l.piece) l.self;
+  unfound : l.fn.self.figures.measured + 1 < 2 ^ 64 → l.self.figures.measured ≡ l.fn.self.figures.measured
+      → l.self.found ≡ l.fn.self.found;
+  begins : l.fn.self.found ≡ false → l.self.state ≡ Following → l.self.figures.measured ≡ 1
+      → (setting : Setting) (seen : List Level) → Recovered (g.T.Sink.taken l.fn.sink) setting seen [] l.fn.self
+      → Began (g.T.Sink.taken l.sink) setting (seen ++ low_cells l.fn.len l.fn.levels) (levels_in l.piece) l.self;
+  awaits : (setting : Setting) (seen : List Level) → Awaits (g.T.Sink.taken l.fn.sink) setting seen [] l.fn.self
+      → Awaits (g.T.Sink.taken l.sink) setting (seen ++ low_cells l.fn.len l.fn.levels) (levels_in l.piece) l.self;
 }
 
 abbrev pub decreases-loop-run : goal.decreases-loop-run

@@ -10,4 +10,7 @@ returns c = record {
       (ap (λ e. e.run) made.edges ∙ c.new.ensures.none) made.none (made.form ∙ sym form) (sym known) refl
       c.default.ensures.0 c.default.ensures.1.1.1.1.1.1.1.1.0 refl refl
       (λ found. rw (known, made.follower) (asked found));
+  found = refl;
+  unmeasured = c.default.ensures.1.1.1.1.1.1.1.1.0;
+  none = (refl, refl);
 }
