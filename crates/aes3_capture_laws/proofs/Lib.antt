@@ -1,0 +1,7 @@
+pub mod SubframeRuns
+pub mod LineRuns
+pub mod LineWindows
+pub mod Beginnings
+pub mod LongPairs
+pub mod FoundPreambles
+pub mod Streams
