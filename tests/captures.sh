@@ -126,8 +126,8 @@ row 20 3.90625 rms=0.3 unit=2 bit=3 noise=1 lead=100000
 options=
 
 # Two lines of other rates with a dead one between them, whose cells pass as time does.
-"$python" "$here/line.py" 3.90625 one blocks=10 rms=0.3 sent=sent
-"$python" "$here/line.py" 5.3 two blocks=10 rms=0.3 sent=more seed=2
+"$python" "$here/line.py" 3.90625 one blocks=10 rms=0.2 sent=sent
+"$python" "$here/line.py" 5.3 two blocks=10 rms=0.2 sent=more seed=2
 cat more >>sent
 { cat one; head -c 390625 /dev/zero; cat two; } >capture
 judge "two lines of other rates" sent_back 20
@@ -305,8 +305,10 @@ judge "cells of each piece before the next comes, where the bit is searched" "$p
 # What is likely to be wrong is said: edges near half a cell from their places, and a line that is measured again and again.
 # doubted SAID COUNT: a sentence with these words stands so often behind the figures of `capture`.
 doubted() { "$program" <capture 2>told >cells && [ "$(grep -c "$1" told)" = "$2" ]; }
-"$python" "$here/line.py" 4.069010416 capture blocks=20 rms=0.3 sent=sent
+"$python" "$here/line.py" 4.069010416 capture blocks=20 rms=0.2 sent=sent
 judge "a line with little jitter" doubted "makes wrong cells\|likely to be wrong" 0
+"$python" "$here/line.py" 4.069010416 capture blocks=20 rms=0.3 sent=sent
+judge "edges 0.4 of a cell from their places" doubted "makes wrong cells" 1
 "$python" "$here/line.py" 4.069010416 capture blocks=20 rms=0.6 sent=sent
 judge "a line with much jitter" doubted "makes wrong cells\|likely to be wrong" 1
 

@@ -66,7 +66,7 @@ make_inputs() {
     aes3 decode --words alsa line.txt >words.alsa
     aes3 decode --words am824 line.txt >words.am824
     aes3 to-pcm line.txt >audio.s32
-    aes3 cut 100 5 <line.txt | "$root/examples/neighbours/samples.py" 3.90625 0.3 >capture.bin
+    aes3 cut 100 5 <line.txt | "$root/examples/neighbours/samples.py" 3.90625 0.2 >capture.bin
     if command -v sigrok-cli >/dev/null; then
         sigrok-cli -I binary:numchannels=8:samplerate=24000000 -i capture.bin -o capture.sr
         sigrok-cli -i capture.sr -O vcd >capture.vcd

@@ -74,7 +74,7 @@ pub fn no_line(
 
 /// From which distance of an edge from its place on, in thousandths of a cell, others are likely to
 /// be half a cell away, and counted to the next cell.
-const DOUBTFUL_DISTANCE: u64 = 450;
+const DOUBTFUL_DISTANCE: u64 = 400;
 
 /// How many cells a line has at least each time that it is measured: those of a block.
 const CELLS_A_MEASUREMENT: u64 = 24_576;
