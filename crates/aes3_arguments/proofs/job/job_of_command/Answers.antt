@@ -1,4 +1,4 @@
-use Rattle.std.proofs.Common.{IfErr, IfOk, sym, subst}
+use Rattle.std.proofs.Common.{IfErr, IfOk, rules, sym, subst}
 use Rattle.aes3_arguments.specs.Jobs.{AsksFor, IsBadOptionOf, options_of}
 use Rattle.aes3_arguments.proofs.CarriedOptions.{bits_stand, channel_stands}
 use Rattle.aes3_arguments.proofs.Misuses.{no_unknown_bits}
@@ -43,7 +43,7 @@ notation-requires c =
     (options_taken c.requires.stands.0 c.args.name.now (options_of c.args.options.now) c.requires.stands.1).json
 
 pub returns-in-info-clause-job : goal.returns-in-info-clause-job
-returns-in-info-clause-job c = (c.in-info.is, c.input_form-input.ensures, c.notation.ensures)
+returns-in-info-clause-job c = (c.in-info.is, c.input_form-input.ensures, search (rules, c.notation.ensures))
 
 pub show-requires-clause-taken : goal.show-requires-clause-taken
 show-requires-clause-taken c =

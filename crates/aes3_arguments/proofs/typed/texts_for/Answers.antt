@@ -1,4 +1,4 @@
-use Rattle.std.proofs.Common.{◌∙◌, codes, refl, sym, ap, Bor, List, ℕ, Vec, Global}
+use Rattle.std.proofs.Common.{◌∙◌, codes, refl, sym, ap, Bor, List, ℕ, Vec, Global, rules}
 use Rattle.aes3_arguments.specs.Jobs.{options_of}
 use Rattle.aes3_arguments.proofs.OptionReads.{texts_given}
 use Rattle.aes3_arguments.proofs.SettingTexts.{joined, read, with_rate, without_rate}
@@ -12,8 +12,10 @@ returns c =
     c.get_strs.ensures refl c.unwrap_or-both.ensures in
     let second = texts_given c.args.options.now c.args.name.now c.get_strs-2.result _ c.unwrap_or-own.result
     c.get_strs-2.ensures refl c.unwrap_or-own.ensures in
-    let both = joined _ _ _ c.unwrap_or-both.result.now c.unwrap_or-own.result.now c.new-texts.ensures.items
-    c.in_ok-extend_from_slice.ensures.items c.in_ok-extend_from_slice-2.ensures.items in
+    let both = joined c.new-texts.result.items c.extend_from_slice.new.self.items
+    c.extend_from_slice-2.new.self.items c.unwrap_or-both.result.now c.unwrap_or-own.result.now
+    c.new-texts.ensures.items (search (rules, c.in_ok-extend_from_slice.ensures.items))
+    (search (rules, c.in_ok-extend_from_slice-2.ensures.items)) in
     elim c.match-rate_setting.branch [
       | in-Some+in_ok-push-in-Some w ↦
           with_rate options c.args.name.now c.extend_from_slice-2.new.self.items c.unwrap_or-both.result.now

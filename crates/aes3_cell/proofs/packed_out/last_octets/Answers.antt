@@ -9,8 +9,8 @@ returns c =
     let n = c.args.len in
     let w = c.args.word in
     let k = c.div_ceil-needed.result in
-    packed-end n w c.if-len-eq0.filled k (8 * k - n) c.copy_from_slice.new.self _ c.requires.few moved
-    (c.copy_from_slice.ensures.after ∙ c.to_be_bytes.ensures) (c.div_ceil-needed.ensures ∙ omega arith) refl refl
+    packed-end n w c.if-len-eq0.filled k _ c.copy_from_slice.new.self _ c.requires.few moved
+    (c.copy_from_slice.ensures.after ∙ c.to_be_bytes.ensures) (c.div_ceil-needed.ensures ∙ omega arith) (omega arith) refl
   where
     moved : c.if-len-eq0.filled ≡ c.args.word * 2 ^ (64 - c.args.len)
     moved = elim c.if-len-eq0.branch [

@@ -4,8 +4,11 @@ use Rattle.aes3_cell.proofs.word.word_of_text.Goals as goal
 
 pub returns-then-high-low-clause-cells : goal.returns-then-high-low-clause-cells
 returns-then-high-low-clause-cells c =
-    word-text c.args.bytes.now c.equal_to-high.result c.equal_to-low.result c.told-bytes c.equal_to-high.ensures
-    (search (rules, c.equal_to-low.ensures)) c.if-high-low.true
+    search (
+      rules,
+      word-text c.args.bytes.now c.equal_to-high.result c.equal_to-low.result c.told-bytes c.equal_to-high.ensures
+          (search (rules, c.equal_to-low.ensures)) c.if-high-low.true,
+    )
 
 pub returns-then-high-low-clause-owed : goal.returns-then-high-low-clause-owed
 returns-then-high-low-clause-owed c = λ w f e.

@@ -1,4 +1,4 @@
-use Rattle.std.proofs.Common.{refl, ap, ◌∙◌, false}
+use Rattle.std.proofs.Common.{refl, ap, ◌∙◌, false, arith}
 use Rattle.aes3_runs.proofs.ReportRuns.{tally-is}
 use Rattle.aes3_engine.proofs.FillRuns.{nothing-reached, fill-ok, fill-err, fill-same}
 use Rattle.aes3_engine.proofs.filling.fill_whole.Goals as goal
@@ -20,7 +20,7 @@ returns-in-Ok-clause-run g c =
     fill-same c.args.input false (ap (λ k. k.format) c.new-taker.ensures.reporter ∙ c.new.ensures.format)
     (ap (λ k. k.fill) c.new-taker.ensures.reporter ∙ c.new.ensures.fill)
     (fill-ok c.new-taker.result.reporter.format c.new-taker.result.reporter.fill c.drive.new.taker.reporter.fill _
-    c.counts_of.ensures c.frames.ensures refl c.in-Ok.ensures.ran)
+    c.counts_of.ensures (λ xs a p n. omega (arith, c.frames.ensures xs a p n)) refl c.in-Ok.ensures.ran)
 
 pub returns-in-Err-clause-run : goal.returns-in-Err-clause-run
 returns-in-Err-clause-run g c =

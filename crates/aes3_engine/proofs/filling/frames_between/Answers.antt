@@ -3,4 +3,5 @@ use Rattle.aes3_engine.proofs.FillSteps.{nearest}
 use Rattle.aes3_engine.proofs.filling.frames_between.Goals as goal
 
 pub returns-clause-count : goal.returns-clause-count
-returns-clause-count c = nearest c.args.first c.args.at c.saturating_sub-cells.result (omega arith)
+returns-clause-count c =
+    omega (arith, nearest c.args.first c.args.at c.saturating_sub-cells.result (omega arith))

@@ -1,4 +1,4 @@
-use Rattle.std.proofs.Common.{◌≡◌, ◌%◌, length, ap, ◌∙◌, arith}
+use Rattle.std.proofs.Common.{◌≡◌, ◌%◌, length, ap, ◌∙◌, arith, rules}
 use Rattle.aes3_cell.proofs.Writing.{wrote-is}
 use Rattle.aes3_engine.specs.Filling.{repeated}
 use Rattle.aes3_engine.proofs.FillSteps.{narrowed-frames}
@@ -8,4 +8,5 @@ pub returns : goal.returns
 returns g c =
     let w : length c.args.frame % 4 ≡ 0 = omega arith in
     wrote-is (ap (repeated c.args.count) c.narrow-len.ensures.octets
-    ∙ narrowed-frames c.args.format c.args.count c.args.frame w) c.put_frames.ensures
+    ∙ narrowed-frames c.args.format c.args.count c.args.frame w)
+    (search (rules, c.put_frames.ensures))

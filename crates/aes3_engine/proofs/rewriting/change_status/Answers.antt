@@ -1,4 +1,5 @@
 use Rattle.std.proofs.Common.{◌≡◌, ◌∙◌, sym, ap, refl, cond, true, false, rules}
+use Rattle.std.specs.Option.{unwrap_or}
 use Rattle.aes3_frame.specs.Statuses.{with_status}
 use Rattle.aes3_block.proofs.StatusLaws.{status-stays}
 use Rattle.aes3_engine.specs.Rewriting.{mended_status}
@@ -8,7 +9,8 @@ use Rattle.aes3_engine.proofs.rewriting.change_status.Goals.{in-Some, in_default
 
 pub returns-then-ne : goal.returns-then-ne
 returns-then-ne c =
-    let s = c.unwrap_or-new.ensures in
+    let s : c.unwrap_or-new.result ≡ unwrap_or c.args.status.now c.channel_status-old.result =
+    search (rules, c.unwrap_or-new.ensures) in
     let t : c.match-settings.new ≡ of-settings c.args.settings.now c.unwrap_or-new.result =
     elim c.match-settings.branch [ in-Some w ↦ search (rules, w.new-is, w.set_fields.ensures, w.in-Some.is) | in_default w ↦ search (rules, w.new-is, w.in_default.is) ] in
     let u : c.if-mend.new ≡ cond c.args.mend (mended_status c.match-settings.new) c.match-settings.new =
@@ -19,7 +21,8 @@ returns-then-ne c =
 
 pub returns-else-ne : goal.returns-else-ne
 returns-else-ne c =
-    let s = c.unwrap_or-new.ensures in
+    let s : c.unwrap_or-new.result ≡ unwrap_or c.args.status.now c.channel_status-old.result =
+    search (rules, c.unwrap_or-new.ensures) in
     let t : c.match-settings.new ≡ of-settings c.args.settings.now c.unwrap_or-new.result =
     elim c.match-settings.branch [ in-Some w ↦ search (rules, w.new-is, w.set_fields.ensures, w.in-Some.is) | in_default w ↦ search (rules, w.new-is, w.in_default.is) ] in
     let u : c.if-mend.new ≡ cond c.args.mend (mended_status c.match-settings.new) c.match-settings.new =

@@ -1,11 +1,11 @@
-use Rattle.std.proofs.Common.{sym, ◌∙◌}
+use Rattle.std.proofs.Common.{sym, ◌∙◌, rules}
 use Rattle.aes3_engine.specs.RewritingExactly.{met_of}
 use Rattle.aes3_engine.proofs.RewritingExactly.{given-refused, given-taken, long-met, none-refused, own-refused}
 use Rattle.aes3_engine.proofs.rewriting_exactly.first_refused_in.Goals as goal
 
 pub returns-in-None-default : goal.returns-in-None-default
 returns-in-None-default c = λ channel xs r h.
-    none-refused channel c.args.status.now c.args.settings.now xs c.in-None-default.is-0
+    search (rules, none-refused channel c.args.status.now c.args.settings.now xs c.in-None-default.is-0)
 
 pub returns-in-Some-None : goal.returns-in-Some-None
 returns-in-Some-None c = λ channel xs r h.

@@ -1,4 +1,4 @@
-use Rattle.std.proofs.Common.{rules}
+use Rattle.std.proofs.Common.{arith, rules}
 use Rattle.aes3_frame.specs.declared.status.Channel.TheVariants.{First, Second}
 use Rattle.aes3_lock.specs.Reports.{blocks}
 use Rattle.aes3_input.specs.Inputs.{cells_of}
@@ -8,8 +8,10 @@ use Rattle.aes3_engine.proofs.rewriting_runs.answer.Goals as goal
 
 pub returns : goal.returns
 returns c = λ form b n m t h.
+    let tally = c.args.reporter.now.tally in
     let count = blocks-count (cells_of form b) t.blocks_is in
     let met = met-blocks (cells_of form b) h in
-    answer-is form c.args.change.now b (counted form b _ _ _ _ _ n m t)
-    (search (rules, c.taken_in.ensures First (blocks (cells_of form b)) count met.first))
-    (search (rules, c.taken_in-2.ensures Second (blocks (cells_of form b)) count met.second))
+    answer-is form c.args.change.now b
+    (search (rules, counted form b c.args.bytes c.args.cells tally.blocks tally.faults tally.unfinished n m t))
+    (search (rules, c.taken_in.ensures First (blocks (cells_of form b)) (omega (arith, count)) met.first))
+    (search (rules, c.taken_in-2.ensures Second (blocks (cells_of form b)) (omega (arith, count)) met.second))

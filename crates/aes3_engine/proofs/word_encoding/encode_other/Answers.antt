@@ -1,12 +1,15 @@
-use Rattle.std.proofs.Common.{refl, sym}
+use Rattle.std.proofs.Common.{[], refl, rules, sym}
 use Rattle.aes3_input.proofs.InputRuns.{run-ok, run-err}
 use Rattle.aes3_engine.proofs.WordRuns.{starts-words, whole-file, words-gives}
 use Rattle.aes3_engine.proofs.word_encoding.encode_other.Goals as goal
 
 pub convert-requires-clause-start : goal.convert-requires-clause-start
 convert-requires-clause-start g c =
-    starts-words c.args.words c.new-file.result c.new-file.ensures.seen c.new-file.ensures.words
-    c.new-file.ensures.bytes c.new-file.ensures.open _ refl
+    search (
+      rules,
+      starts-words c.args.words c.new-file.result c.new-file.ensures.seen c.new-file.ensures.words
+          c.new-file.ensures.bytes c.new-file.ensures.open [] refl,
+    )
 
 pub returns-in-Ok-clause-run : goal.returns-in-Ok-clause-run
 returns-in-Ok-clause-run g c =

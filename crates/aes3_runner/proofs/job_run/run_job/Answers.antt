@@ -1,4 +1,4 @@
-use Rattle.std.proofs.Common.{ap, ◌∙◌, arith}
+use Rattle.std.proofs.Common.{ap, ◌∙◌, arith, rules}
 use Rattle.aes3_runner.specs.JobRuns.{period}
 use Rattle.aes3_runner.specs.Outcomes.{of_counts, of_exact, of_filled, of_samples, of_words}
 use Rattle.aes3_runner.proofs.Flushes.{run-of, sums-of, told-ran}
@@ -41,7 +41,7 @@ pub returns-in-Rewrite-clause-ran : goal.returns-in-Rewrite-clause-ran
 returns-in-Rewrite-clause-ran g c = run-of c.in-Rewrite.is c.run_change.ensures.ran
 
 pub returns-in-ToPcm-clause-ran : goal.returns-in-ToPcm-clause-ran
-returns-in-ToPcm-clause-ran g c = run-of c.in-ToPcm.is c.run_samples.ensures.ran
+returns-in-ToPcm-clause-ran g c = run-of c.in-ToPcm.is (search (rules, c.run_samples.ensures.ran))
 
 pub returns-in-ToFilledPcm-clause-ran : goal.returns-in-ToFilledPcm-clause-ran
 returns-in-ToFilledPcm-clause-ran g c =

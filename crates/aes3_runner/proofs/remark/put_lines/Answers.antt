@@ -1,4 +1,4 @@
-use Rattle.std.proofs.Common.{◌≡◌, ℕ, ◌+◌, List, [], Bor, map, length, take, refl, ap, sym, ◌∙◌, arith}
+use Rattle.std.proofs.Common.{◌≡◌, ℕ, ◌+◌, List, [], Bor, map, length, take, refl, ap, sym, ◌∙◌, arith, rules}
 use Rattle.std.proofs.Math.ListN.{get_or-map}
 use Rattle.std.proofs.lemmas.List.{length-map, take_all}
 use Rattle.aes3_cell.proofs.Growing.{grew-none, grew-is, grew-join, front-is, front-join, front-more}
@@ -21,7 +21,7 @@ lines-preserved g c =
       grew = grew-is (lines-next c.args.channel c.args.settings.now c.args.taken.now texts c.lines.at (omega (arith, len)))
           (grew-join {x = before} c.lines.invariant.grew
           (grew-is (ap (untaken_line c.args.channel c.args.settings.now c.args.taken.now c.lines.at) text)
-          c.in-Ok.ensures.grew));
+          (search (rules, c.in-Ok.ensures.grew))));
       quiet = c.in-Ok.ensures.count ∙ c.lines.invariant.quiet;
     }
 
@@ -41,7 +41,7 @@ returns-in-Err g c =
         front-is more.1
             (front-more (front-join c.lines.invariant.grew
             (front-is (ap (untaken_line c.args.channel c.args.settings.now c.args.taken.now c.lines.at) text)
-            c.in-Err.ensures.err.1)) more.0),
+            (search (rules, c.in-Err.ensures.err.1)))) more.0),
       );
     }
 

@@ -1,4 +1,4 @@
-use Rattle.std.proofs.Common.{◌++◌, ap, ap₂, Bor, List, ℕ, map}
+use Rattle.std.proofs.Common.{◌++◌, ap, ap₂, Bor, List, ℕ, map, rules}
 use Rattle.aes3_cell.proofs.Growing.{front-is, front-more}
 use Rattle.aes3_cell.proofs.Writing.{wrote-behind, wrote-is}
 use Rattle.aes3_settings.specs.Untaken.{texts_of}
@@ -10,7 +10,7 @@ returns-in-Ok g c =
     wrote-is (ap₂ (λ (first second : List (Bor (List ℕ))).
     met_lines 1 (map (λ text. text.now) first) c.args.first.now
     ++ met_lines 2 (map (λ text. text.now) second) c.args.second.now)
-    c.as_slice.ensures.value c.as_slice-in-Ok.ensures.value)
+    c.as_slice.ensures.value (search (rules, c.as_slice-in-Ok.ensures.value)))
     (wrote-behind c.put_untaken-in-Ok.result c.in-Ok.ensures.count c.in-Ok.ensures.grew c.put_untaken-in-Ok.ensures)
 
 pub returns-in-Err : goal.returns-in-Err

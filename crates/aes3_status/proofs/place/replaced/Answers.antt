@@ -12,6 +12,9 @@ overflow_cast-result c =
 
 pub returns : goal.returns
 returns c =
-    replaced-sum c.from-byte.result c.args.first c.args.count c.from.result (omega arith) c.requires
-    ∙ ap₂ (λ byte code. number
-    (with_bits c.args.first (low_bits c.args.count code) (byte_bits byte))) c.from-byte.ensures c.from.ensures
+    omega (
+      arith,
+      replaced-sum c.from-byte.result c.args.first c.args.count c.from.result (omega arith) c.requires
+          ∙ ap₂ (λ byte code. number (with_bits c.args.first (low_bits c.args.count code) (byte_bits byte)))
+          c.from-byte.ensures c.from.ensures,
+    )

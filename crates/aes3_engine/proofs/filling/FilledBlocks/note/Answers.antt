@@ -1,4 +1,4 @@
-use Rattle.std.proofs.Common.{◌≡◌, Option, ap, sym, ◌∙◌}
+use Rattle.std.proofs.Common.{◌≡◌, Option, ap, sym, ◌∙◌, rules}
 use Rattle.aes3_engine.specs.declared.filling.Progress.{Progress}
 use Rattle.aes3_engine.specs.FillSteps.{first_of}
 use Rattle.aes3_engine.proofs.FillSteps.{progress-is}
@@ -13,4 +13,5 @@ returns-clause-progress c = λ b e.
       | in-None w ↦ w.first-is ∙ sym (ap (λ (v : Option Progress). first_of v c.args.at) w.in-None.is)
       | in-Some w ↦ w.first-is ∙ sym (ap (λ (v : Option Progress). first_of v c.args.at) w.in-Some.is)
     ] in
-    progress-is c.args.self.now.fill k c.args.at b first c.frames_between.ensures.count (c.filling.ensures b e)
+    progress-is c.args.self.now.fill k c.args.at b first
+    (search (rules, c.frames_between.ensures.count)) (c.filling.ensures b e)

@@ -1,4 +1,4 @@
-use Rattle.std.proofs.Common.{◌≡◌, ◌-◌, ◌%◌, ◌++◌, ℕ, length, take, replicate, refl, sym, ap, ◌∙◌, arith}
+use Rattle.std.proofs.Common.{◌≡◌, ◌-◌, ◌%◌, ◌++◌, ℕ, length, take, replicate, refl, sym, ap, ◌∙◌, arith, rules}
 use Rattle.std.proofs.Common.{length-append}
 use Rattle.std.proofs.lemmas.List.{length-take-le, length-replicate}
 use Rattle.aes3_cell.proofs.Growing.{grew-is, front-is}
@@ -12,7 +12,7 @@ returns-then-left-gt0 g c =
     let s = c.args.self.now in (
       end-refused s.format s.exact s.words c.args.change.now s.seen s.at s.begun (omega arith) s.few
           (block-room s.format) _ (g.T.Sink.taken c.args.sink.now) _
-          (λ b. tt) (ap (λ n. s.seen % n) c.frame_len.ensures.len) c.if-left-gt0.true,
+          (λ b. tt) (search (rules, ap (λ n. s.seen % n) c.frame_len.ensures.len)) c.if-left-gt0.true,
       refl,
     )
 

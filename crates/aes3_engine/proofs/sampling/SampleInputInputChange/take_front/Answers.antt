@@ -1,4 +1,4 @@
-use Rattle.std.proofs.Common.{◌≡◌, ◌+◌, ◌-◌, ◌<◌, ◌++◌, inl, inr, length, take, drop, refl, sym, ap, ◌∙◌, arith}
+use Rattle.std.proofs.Common.{◌≡◌, ◌+◌, ◌-◌, ◌<◌, ◌++◌, inl, inr, length, take, drop, refl, sym, ap, ◌∙◌, arith, rules}
 use Rattle.std.proofs.Common.{length-append}
 use borrow.Rule.Slice.PartMut.{put_mid}
 use Rattle.std.proofs.lemmas.List.{length-take-le, get_or-take, take-append-drop}
@@ -158,10 +158,14 @@ returns-then-has_header g c =
     take-put_mid s.at k s.begun c.copy_from_slice.new.self (s.at + n) (omega arith) (omega arith)
     ∙ ap (λ v. take s.at s.begun ++ v) d in
     let w = c.has_header.ensures.yes c.if-has_header.true in (
-      front-header s.format s.exact s.words c.args.change.now s.seen s.at s.begun (omega arith) few room _ (take n xs)
-          (drop n xs) xs (g.T.Sink.taken c.args.sink.now) (λ b. tt)
-          (λ e i r. c.in-None.ensures.none refl e i r)
-          (take-append-drop n xs) w.0
-          (ap begins_sound (sym front ∙ ap (λ len. take len new) (omega arith)) ∙ w.1),
+      search (
+        rules,
+        front-header s.format s.exact s.words c.args.change.now s.seen s.at s.begun (omega arith) few room
+            (λ b. Unit {0}) (take n xs)
+            (drop n xs) xs (g.T.Sink.taken c.args.sink.now) (λ b. tt)
+            (λ e i r. c.in-None.ensures.none refl e i r)
+            (take-append-drop n xs) w.0
+            (ap begins_sound (sym front ∙ ap (λ len. take len new) (omega arith)) ∙ w.1),
+      ),
       refl,
     )

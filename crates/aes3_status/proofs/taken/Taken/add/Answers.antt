@@ -1,4 +1,4 @@
-use Rattle.std.proofs.Common.{Bool, List, [], ap, ap₂, arith, refl, ◌∙◌, ◌≡◌, take, ◌||◌, rules}
+use Rattle.std.proofs.Common.{List, [], ap, arith, refl, ◌∙◌, ◌≡◌, take, rules}
 use Rattle.std.proofs.lemmas.List.{length-set, take_all}
 use Rattle.aes3_status.specs.declared.field.Field.TheVariants.{Use}
 use Rattle.aes3_status.specs.declared.setting.Setting.{Setting}
@@ -20,8 +20,12 @@ loop-i-preserved c =
       long = length-set c.loop-i.self.codes c.loop-i.i _ ∙ v.long;
       left = turned s c.args.status.now c.loop-i.left c.set_field.new.bytes c.loop-i.i none (omega arith) v.left
           c.set_field.ensures;
-      before = taken-before s c.args.status.now c.loop-i.left c.args.self.now.codes c.loop-i.self.codes c.loop-i.i none
-          c.has_code.result (omega arith) (omega arith) v.left (search (rules, c.has_code.ensures)) v.before v.behind;
+      before = search (
+        rules,
+        taken-before s c.args.status.now c.loop-i.left c.args.self.now.codes c.loop-i.self.codes
+            c.loop-i.i none c.has_code.result (omega arith) (omega arith) v.left (search (rules, c.has_code.ensures))
+            v.before v.behind,
+      );
       behind = taken-behind c.args.self.now.codes c.loop-i.self.codes c.loop-i.i _ v.behind;
       wide = v.wide;
     }
@@ -32,9 +36,12 @@ returns c = λ statuses e.
     let i : c.loop-i.i ≡ 64 = omega arith in
     let s = c.args.settings.now.codes in
     let all : take c.loop-i.i s ≡ s = take_all c.loop-i.i s (omega arith) in
-    taken-more c.args.settings.now statuses c.args.status.now c.args.self.now
-    (record { codes = c.loop-i.self.codes; wide = c.loop-i.self.wide || c.is_for_professional_use.result })
-    v.long (λ k l. v.before k (omega arith))
-    (ap₂ (λ (a b : Bool). a || b) v.wide
-    (c.is_for_professional_use.ensures ∙ ap is_professional (v.left
-    ∙ ap (λ (codes : List Setting). set_in_turn codes c.args.status.now) all))) e
+    let told : c.is_for_professional_use.result ≡ is_professional (set_in_turn s c.args.status.now) =
+    search (
+      rules,
+      c.is_for_professional_use.ensures,
+      ap is_professional (v.left
+          ∙ ap (λ (codes : List Setting). set_in_turn codes c.args.status.now) all),
+    ) in
+    taken-more c.args.settings.now statuses c.args.status.now c.args.self.now _ v.long (λ k l. v.before k (omega arith))
+    (search (rules, v.wide, told)) e
