@@ -103,6 +103,18 @@ row 20 3 rms=0.1
 row 5 40.3 blocks=5 rms=4 late=8
 row 2 410.7 blocks=2 rms=30 late=-60
 row 20 3.90625 silence=1 rms=0.3 late=0.9
+row 20 3.90625 full=1 rms=0.3 late=0.9
+
+# Falling edges a quarter of a cell late, from few samples a cell to many.
+for cell in 2.5 4.069010416 8.138020833 16.3 33; do
+    row 3 $cell blocks=3 late="$(awk "BEGIN { print $cell / 4 }")"
+done
+
+# A line whose parity bits are all wrong is found all the same.
+for cell in 2.2 3.90625 8.138020833 20.02; do
+    "$python" "$here/line.py" $cell capture blocks=3 odd=1
+    judge "wrong parity at $cell samples a cell" eval '[ "$("$program" <capture 2>/dev/null | "$aes3" check | grep -c "^marked")" = 3 ]'
+done
 
 # Near whole numbers of samples a cell, and at the usual pairs of frequencies, each block of a clean line comes back from the first edge on.
 for cell in 2.02 2.03 2.1 2.2 2.96 3.005 3.995 4.98 5.01 6.02 7.97 9.96 11.99 15.98 20.02 31.97 39.9 \

@@ -10,6 +10,7 @@
     bit=B      the line is in this bit of a sample (0)                    unit=U     octets in a sample (1)
     noise=1    the other bits are chance                                  seed=N     another chance (1)
     sent=FILE  the blocks of the line, as a block file                    silence=1  each bit is 0
+    full=1     each bit is 1                                              odd=1    each parity bit is wrong
 """
 import argparse
 
@@ -25,12 +26,12 @@ def subframes(have, chance):
         words = np.fromfile(have["words"], dtype="<u4")
         return words >> 4, np.select([words & 15 == 8, words & 15 == 2], ["Z", "X"], "Y")
     count = 384 * int(have.get("blocks", 20)) + 8
-    bits = chance.integers(0, 1 << 27, count, dtype=np.uint32) * ("silence" not in have)
+    bits = chance.integers(0, 1 << 27, count, dtype=np.uint32) * ("silence" not in have) | ((1 << 27) - 1) * ("full" in have)
     parity = bits.copy()
     for shift in (16, 8, 4, 2, 1):
         parity ^= parity >> shift
     number = np.arange(count)
-    return bits | (parity & 1) << 27, np.select([number % 384 == 0, number % 2 == 0], ["Z", "X"], "Y")
+    return bits | ((parity & 1) ^ ("odd" in have)) << 27, np.select([number % 384 == 0, number % 2 == 0], ["Z", "X"], "Y")
 
 
 def edges(bits, preambles):
@@ -76,7 +77,7 @@ if __name__ == "__main__":
     for name, count in (("SAMPLES_A_CELL", None), ("CAPTURE", None), ("NAME=VALUE", "*")):
         parser.add_argument(name, nargs=count)
     given = vars(parser.parse_args())
-    known = "blocks words rms uniform late drift sine lead bit unit noise seed sent silence".split()
+    known = "blocks words rms uniform late drift sine lead bit unit noise seed sent silence full odd".split()
     unknown = [it for it in given["NAME=VALUE"] if it.partition("=")[0] not in known]
     if unknown:
         parser.error(f"nothing is called {unknown[0]}")
