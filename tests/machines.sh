@@ -29,7 +29,7 @@ port=$(python3 -c 'import socket
 free = socket.socket()
 free.bind(("127.0.0.1", 0))
 print(free.getsockname()[1])')
-# What a command finds there: this PATH and no other, and its files of a moment in a folder of its own.
+# What a command finds there: this PATH and no other, its files of a moment in a folder of its own, and no ~/.bashrc, which bash reads where SHLVL is 0.
 cat >"$work/server/config" <<CONFIG
 Port $port
 ListenAddress 127.0.0.1
@@ -42,7 +42,7 @@ PasswordAuthentication no
 KbdInteractiveAuthentication no
 PermitRootLogin prohibit-password
 MaxStartups 100
-SetEnv PATH=$work/there:/usr/bin:/bin TMPDIR=$work/there/tmp
+SetEnv PATH=$work/there:/usr/bin:/bin TMPDIR=$work/there/tmp SHLVL=1
 CONFIG
 mkdir "$work/there/tmp"
 [ "$(id -u)" != 0 ] || mkdir -p /run/sshd
