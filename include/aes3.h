@@ -18,7 +18,7 @@
  * time slot n: bits 0 to 3 are zero, 4 to 27 the audio sample, 28 V, 29 U, 30 C, and 31 P, which
  * makes the ones in bits 4 to 31 even in number. A word that is so is lawful.
  *
- * Stack in bytes that a call used (examples/c/stack.c, x86-64): aes3_lock_push 4,960,
+ * Stack in bytes that a call used (examples/c/stack.c, x86-64): aes3_lock_push 5,064,
  * aes3_lock_finish 4,792, aes3_lock_take_octets 3,976, aes3_lock_take_cells 3,432,
  * aes3_lock_take_words 3,304, aes3_capture_cells 5,480, aes3_block_of_samples 3,096,
  * aes3_block_status, aes3_block_validity and aes3_block_user 1,592, aes3_encode_block,

@@ -8,8 +8,9 @@
 - CELLS (aes3-cells; left out where it is not given): a run of 56 to 90 samples in a line with 16 samples a cell becomes the number of
   cells nearest to its length. Up to four periods are counted by comparisons, more by a division.
 - CELLS: a capture that is read whole gives the cells and the figures that it gives in pieces of less than 4,096 octets, as whole blocks of so many
-  go another way: lines of 2.02 to 100 samples a cell, around 42; single edges 0.25 to 0.55 of a cell from their places; runs of 120 to 136 samples;
-  falling edges late; lines that stop; noise; and lengths around that of a block.
+  go another way: lines of 2.02 to 100 samples a cell, around 32 and 42; single edges 0.25 to 0.55 of a cell from their places; runs of 120 to 136 samples;
+  falling edges late; lines that stop; noise; lengths around that of a block; and no signal, up to the last sample of a block, the first or the
+  second of the next one, at both levels.
 
 The last line is `N passed, M failed`, and the status 1 where one failed.
 """
@@ -115,7 +116,7 @@ def runs_of(chance, cells, period, rms, late=0.0, far=0.0):
 def captures(program, chance):
     """Captures, each with its name and the words for aes3-cells."""
     cells = cells_of_blocks(program, chance, 2)
-    for period in (2.02, 2.3, 3, 4.07, 8, 17.7, 41, 41.9, 42, 42.1, 43, 100):
+    for period in (2.02, 2.3, 3, 4.07, 8, 17.7, 31.9, 32, 32.1, 33, 41, 41.9, 42, 42.1, 43, 100):
         few = cells[: 49_152 if period < 20 else 12_000]
         runs = runs_of(chance, few, period, 0.05 * period)
         yield f"{period} samples a cell", levels_of(runs), []
@@ -137,6 +138,20 @@ def captures(program, chance):
         yield f"{size} octets", octets[:size], []
     for dead in (100, 200, 400, 4000, 4096, 9000):
         yield f"a line that stops for {dead} samples", octets[:50_001] + bytes(dead) + octets[50_001:], []
+    for level in (0, 1):
+        yield f"no signal, level {level}", bytes([level]) * 50_000, []
+        signal = bytes(octet ^ level ^ 1 for octet in octets)
+        for more in (-1, 0, 1):
+            still = bytes([level]) * (5 * 4096 + more)
+            between = bytes([level]) * (4 * 4096 - 50_001 % 4096 + more)
+            what = f"level {level} for {more} samples more than blocks"
+            yield f"{what}, then a line", still + signal, []
+            yield f"{what}, then one edge", still + bytes([level ^ 1]) * 50_000, []
+            yield f"{what}, within a line", octets[:50_001] + between + signal, []
+            pairs = b"".join(bytes([octet * 255, 0]) for octet in octets[:50_001] + between + signal)
+            yield f"{what}, within a line of pairs", pairs, ["--unit", "2", "--bit", "3"]
+            slow = levels_of(runs_of(chance, few[:3000], 229, 9), level ^ 1, level)
+            yield f"{what}, then a slow line", still + slow + still, []
     noise = bytes(chance.randrange(256) for _ in range(60_000))
     yield "noise", noise, []
     yield "noise within a line", octets[:40_000] + noise + octets[40_000:], []

@@ -7,12 +7,13 @@ mod recognised;
 
 ghost use Rattle.std.specs.Prelude.{◌+◌, ◌<◌, ◌^◌, ◌≡◌, IfErr};
 
-use aes3_arguments::line_of_words;
+use aes3_arguments::{file_of_line, line_of_words};
 use aes3_cell::{BufferedSink, Sink, StdSink, StdSource};
 use aes3_files::{Input, Preview};
 use aes3_hints::{Hints, Terminals};
 use aes3_progress::Clearing;
-use aes3_runner::{Unread, file_of_line, run_and_explain, tell_unread};
+use aes3_runner::Unread;
+use aes3_terminal::{report_unread, run_and_explain};
 use recognised::recognise;
 use std::cell::Cell;
 use std::env;
@@ -42,11 +43,7 @@ fn run_program<E: Sink, H: Sink + Drop>(
 {
     match run_buffered(rt, terminals, shown, errors, hints) {
         Ok(status) => status,
-        Err(fault) => {
-            let status = tell_unread(fault, errors, hints);
-            hints.explain_unread();
-            status
-        }
+        Err(fault) => report_unread(fault, errors, hints),
     }
 }
 

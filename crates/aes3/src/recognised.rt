@@ -5,7 +5,7 @@ ghost use Rattle.std.specs.Prelude.{◌≡◌, IfErr, IfOk};
 use aes3_arguments::{CommandLine, LineFault};
 use aes3_cell::Form;
 use aes3_files::{FileKind, Preview, are_turned};
-use aes3_job::Job;
+use aes3_job::{Job, ReadWork};
 use std::alloc::AllocError;
 use std::io::Read;
 
@@ -24,16 +24,16 @@ pub(crate) fn recognise<R: Read + Drop>(
     let Ok(line) = line else {
         return Ok(());
     };
-    if let Job::Info {
+    if let Job::Read {
         input: Form::Text,
-        notation,
+        work: ReadWork::Info { notation },
     } = line.job
     {
         let first = input.first(LOOKED_AT)?;
         if let FileKind::Octets = FileKind::of(first) {
-            line.job = Job::Info {
+            line.job = Job::Read {
                 input: Form::Packed,
-                notation,
+                work: ReadWork::Info { notation },
             };
             line.octets.lsb_first = are_turned(first);
         }

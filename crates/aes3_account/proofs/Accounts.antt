@@ -1,7 +1,7 @@
 -- The account of cells, as they come.
 use Rattle.std.proofs.Common.{◌≡◌, ℕ, ◌+◌, ◌-◌, ◌*◌, ◌^◌, ◌<◌, ◌≤◌, ◌⊎◌, inl, inr, Bool, false, ltb}
-use Rattle.std.proofs.Common.{List, [], ◌∷◌, ◌++◌, Ok, length, drop, refl, sym, ap, ap₂, ◌∙◌, subst}
-use Rattle.std.proofs.Common.{arith, append-nil, length-append}
+use Rattle.std.proofs.Common.{List, [], ◌∷◌, ◌++◌, length, drop, refl, sym, ap, ap₂, ◌∙◌, subst}
+use Rattle.std.proofs.Common.{arith, length-append}
 use Rattle.std.specs.List.{filter}
 use Rattle.std.proofs.lemmas.Grind.{flat_map-append}
 use Rattle.std.proofs.lemmas.List.{append_cancel_left, drop_at}
@@ -11,14 +11,16 @@ use Rattle.aes3_cell.specs.declared.counts.Counts.{Counts}
 use Rattle.aes3_frame.specs.Blocks.{block_len, block_slots}
 use Rattle.aes3_lock.specs.declared.report.Report.{Report}
 use Rattle.aes3_lock.specs.declared.report.Report.TheVariants.{Whole, Marked, Fault, Unfinished}
-use Rattle.aes3_lock.specs.Reports.{reports, decided, wholes, blocks}
+use Rattle.aes3_lock.specs.Reports.{reports, decided, wholes}
 use Rattle.aes3_lock.proofs.Deciding.{block_len_24576}
+use Rattle.aes3_lock.proofs.AllStanding.{wholes-append}
 use Rattle.aes3_lock.proofs.Ends.{final}
-use Rattle.aes3_input.specs.Running.{Movement}
-use Rattle.aes3_input.specs.Taking.{Writing, behind, before_end, with_end}
+use Rattle.aes3_input.specs.Taking.{behind, before_end, with_end}
 use Rattle.aes3_input.specs.Inputs.{cells_of}
-use Rattle.aes3_input.specs.Driving.{Drive}
-use Rattle.aes3_lock.specs.Tallies.{is_faulty, is_unfinished, Tallies}
+use Rattle.aes3_input.specs.Driving.{counted_cells}
+use Rattle.aes3_input.proofs.CellRuns.{cells-give}
+use Rattle.aes3_input.proofs.InputRuns.{Gives}
+use Rattle.aes3_runs.specs.ReportRuns.{counts_of, heard_cells}
 use Rattle.aes3_lock.proofs.Tallies.{tallies-few, few-decided}
 use Rattle.aes3_input.proofs.Items.{before-is, before-join as end-join}
 use Rattle.aes3_settings.specs.declared.lines.Lines.{Lines}
@@ -36,11 +38,15 @@ use Rattle.aes3_gaps.proofs.BegunAccounts.{account-closed, account-closed_with, 
 use Rattle.aes3_gaps.proofs.BegunAccounts.{accounted-taken, begun-more, begun-passed, begun-taken, closed}
 use Rattle.aes3_gaps.proofs.BegunAccounts.{closed_with, one-final, passed, taken, with_report}
 
-pub starts : {p b f u : ℕ} → p ≡ 0 → Tallies b f u [] → Accounts p 0 b f u []
+pub starts : {p : ℕ} → p ≡ 0 → Accounts p 0 []
 unfolding accounted begun_account behind_full full_count decided block_len block_slots
-starts e t = record { place_is = e; lost_is = refl; tally = t }
+starts e = record { place_is = e; lost_is = refl }
 
--- what the taker of an account writes
+pub starts-found : {found : Bool} → found ≡ ltb 0 (length (wholes [])) → found ≡ ltb 0 (length (wholes (decided [])))
+unfolding decided
+starts-found e = e
+
+-- what the listener of an account writes
 adds-is : (lines : Lines) (c : List Level) (l : Level)
     → account_lines lines (drop (length (begun_account c)) (begun_account (c ++ l ∷ []))) ≡ (accounting lines).adds c l
 unfolding accounting
@@ -103,11 +109,11 @@ pass-lines lines p s c d e f q =
     ap₂ (λ x y. account_lines lines (full_gaps x (full_count x y))) e f
     ∙ sym (behind-account lines c d (passed c d) (begun-passed c d q))
 
-pub pass-accounts : {p l b f u : ℕ} (p' l' s : ℕ) (c d : List Level) → Accounts p l b f u c
+pub pass-accounts : {p l : ℕ} (p' l' s : ℕ) (c d : List Level) → Accounts p l c
     → decided (c ++ d) ≡ decided c → s ≡ length (c ++ d) - block_len
-    → p' ≡ behind_full p s → l' ≡ l + full_count p s → Accounts p' l' b f u (c ++ d)
+    → p' ≡ behind_full p s → l' ≡ l + full_count p s → Accounts p' l' (c ++ d)
 unfolding passed
-pass-accounts {p} {l} {b} {f} {u} p' l' s c d h q e g k =
+pass-accounts {p} {l} p' l' s c d h q e g k =
     let a = ap (λ z. length (filter is_lost z)) (begun-passed c d q) in
     let w = lost-append (begun_account c) (passed c d) in
     let x = lost-full (accounted c) (full_count (accounted c) (length (c ++ d) - block_len)) in
@@ -115,7 +121,6 @@ pass-accounts {p} {l} {b} {f} {u} p' l' s c d h q e g k =
     let z = h.lost_is in record {
       place_is = g ∙ ap₂ behind_full h.place_is e ∙ sym (accounted-passed c d q);
       lost_is = omega arith;
-      tally = subst (Tallies b f u) (sym q) h.tally;
     }
 
 -- of a report, and of cells behind it
@@ -136,13 +141,21 @@ take-lines lines p' s c d x e f q =
     ∙ ap₂ (λ y z. account_lines lines (with_report c x ++ full_gaps y (full_count y z))) e f
     ∙ sym (behind-account lines c d (taken c d x) (begun-taken c d x q))
 
-pub take-accounts : {p l b f u b' f' u' : ℕ} (p' l' p'' l'' s : ℕ) (c d : List Level) (x : Report)
-    → Accounts p l b f u c → decided (c ++ d) ≡ decided c ++ x ∷ [] → s ≡ length (c ++ d) - block_len
+pub more-wholes : {n : ℕ} (c d : List Level) (x : Report) → n ≡ length (wholes (decided c))
+    → decided (c ++ d) ≡ decided c ++ x ∷ [] → n + length (wholes (x ∷ [])) ≡ length (wholes (decided (c ++ d)))
+more-wholes c d x e q =
+    let w = ap length (wholes-append (decided c) (x ∷ [])) in
+    let l = length-append (wholes (decided c)) (wholes (x ∷ [])) in
+    let p = ap (λ r. length (wholes r)) q in
+    omega (arith, e, w, l, p)
+
+pub take-accounts : {p l b : ℕ} (p' l' p'' l'' s : ℕ) (c d : List Level) (x : Report)
+    → Accounts p l c → decided (c ++ d) ≡ decided c ++ x ∷ [] → s ≡ length (c ++ d) - block_len
     → p' ≡ behind_report p x → l' ≡ l + length (filter is_lost (gaps_before b p x))
-    → Tallies b' f' u' (decided c ++ x ∷ [])
-    → p'' ≡ behind_full p' s → l'' ≡ l' + full_count p' s → Accounts p'' l'' b' f' u' (c ++ d)
+    → b ≡ length (wholes (decided c))
+    → p'' ≡ behind_full p' s → l'' ≡ l' + full_count p' s → Accounts p'' l'' (c ++ d)
 unfolding taken with_report
-take-accounts {p} {l} {b} {f} {u} {b'} {f'} {u'} p' l' p'' l'' s c d x h q e g k t g' k' =
+take-accounts {p} {l} {b} p' l' p'' l'' s c d x h q e g k t g' k' =
     let w = length (wholes (decided c)) in
     let r = accounted c in
     let m = behind_report r x in
@@ -155,11 +168,10 @@ take-accounts {p} {l} {b} {f} {u} {b'} {f'} {u'} p' l' p'' l'' s c d x h q e g k
     let v = lost-full m (full_count m (length (c ++ d) - block_len)) in
     let y : full_count p' s ≡ full_count m (length (c ++ d) - block_len) = ap₂ full_count j e in
     let z : length (filter is_lost (gaps_before b p x)) ≡ length (filter is_lost (gaps_before w r x))
-    = ap₂ (λ α β. length (filter is_lost (gaps_before α β x))) h.tally.blocks_is h.place_is in
+    = ap₂ (λ α β. length (filter is_lost (gaps_before α β x))) t h.place_is in
     let z' = h.lost_is in record {
       place_is = g' ∙ ap₂ behind_full j e ∙ sym (accounted-taken c d x q);
       lost_is = omega arith;
-      tally = subst (Tallies b' f' u') (sym q) t;
     }
 
 -- of the end
@@ -170,11 +182,11 @@ unfolding closed
 close-lines lines p n c e f q
     = ap₂ (λ x y. account_lines lines (gaps false x y)) e f ∙ sym (ends-account lines c (closed c) (account-closed c q))
 
-pub close-accounts : {p l b f u : ℕ} (l' n : ℕ) (c : List Level) → Accounts p l b f u c → reports c ≡ decided c ++ []
+pub close-accounts : {p l : ℕ} (l' n : ℕ) (c : List Level) → Accounts p l c → reports c ≡ decided c ++ []
     → n ≡ length c → n ≤ 2 ^ 43
-    → l' ≡ l + length (filter is_lost (gaps false p n)) → Accounted l' b f u c
+    → l' ≡ l + length (filter is_lost (gaps false p n)) → Accounted l' c
 unfolding closed
-close-accounts {p} {l} {b} {f} {u} l' n c h q e s k =
+close-accounts {p} {l} l' n c h q e s k =
     let a = ap (λ z. length (filter is_lost z)) (account-closed c q) in
     let w = lost-append (begun_account c) (closed c) in
     let y : length (filter is_lost (gaps false p n)) ≡ length (filter is_lost (gaps false (accounted c) (length c)))
@@ -182,7 +194,6 @@ close-accounts {p} {l} {b} {f} {u} l' n c h q e s k =
     let z = h.lost_is in record {
       short = omega arith;
       lost_is = omega arith;
-      tally = subst (Tallies b f u) (sym (q ∙ append-nil (decided c))) h.tally;
     }
 
 pub close_with-lines : (lines : Lines) (p' n : ℕ) (c : List Level) (x : Report) → p' ≡ behind_report (accounted c) x
@@ -194,13 +205,13 @@ close_with-lines lines p' n c x e f q =
     ∙ ap₂ (λ y z. account_lines lines (with_report c x ++ gaps false y z)) e f
     ∙ sym (ends-account lines c (closed_with c x) (account-closed_with c x q))
 
-pub close_with-accounts : {p l b f u b' f' u' : ℕ} (p' l' l'' n : ℕ) (c : List Level) (x : Report)
-    → Accounts p l b f u c → reports c ≡ decided c ++ x ∷ [] → n ≡ length c → n ≤ 2 ^ 43
+pub close_with-accounts : {p l b : ℕ} (p' l' l'' n : ℕ) (c : List Level) (x : Report)
+    → Accounts p l c → reports c ≡ decided c ++ x ∷ [] → n ≡ length c → n ≤ 2 ^ 43
     → p' ≡ behind_report p x → l' ≡ l + length (filter is_lost (gaps_before b p x))
-    → Tallies b' f' u' (decided c ++ x ∷ [])
-    → l'' ≡ l' + length (filter is_lost (gaps false p' n)) → Accounted l'' b' f' u' c
+    → b ≡ length (wholes (decided c))
+    → l'' ≡ l' + length (filter is_lost (gaps false p' n)) → Accounted l'' c
 unfolding closed_with with_report
-close_with-accounts {p} {l} {b} {f} {u} {b'} {f'} {u'} p' l' l'' n c x h q e s g k t k' =
+close_with-accounts {p} {l} {b} p' l' l'' n c x h q e s g k t k' =
     let w = length (wholes (decided c)) in
     let r = accounted c in
     let m = behind_report r x in
@@ -212,14 +223,13 @@ close_with-accounts {p} {l} {b} {f} {u} {b'} {f'} {u'} p' l' l'' n c x h q e s g
     let y : length (filter is_lost (gaps false p' n)) ≡ length (filter is_lost (gaps false m (length c)))
     = ap₂ (λ α β. length (filter is_lost (gaps false α β))) j e in
     let z : length (filter is_lost (gaps_before b p x)) ≡ length (filter is_lost (gaps_before w r x))
-    = ap₂ (λ α β. length (filter is_lost (gaps_before α β x))) h.tally.blocks_is h.place_is in
+    = ap₂ (λ α β. length (filter is_lost (gaps_before α β x))) t h.place_is in
     let z' = h.lost_is in record {
       short = omega arith;
       lost_is = omega arith;
-      tally = subst (Tallies b' f' u') (sym q) t;
     }
 
-pub reached-is : {p l b f u : ℕ} (p' : ℕ) (c : List Level) (x : Report) → Accounts p l b f u c → p' ≡ behind_report p x
+pub reached-is : {p l : ℕ} (p' : ℕ) (c : List Level) (x : Report) → Accounts p l c → p' ≡ behind_report p x
     → p' ≡ behind_report (accounted c) x
 reached-is p' c x h e = e ∙ ap (λ v. behind_report v x) h.place_is
 
@@ -279,7 +289,7 @@ few-lost c =
     omega arith
 
 -- so the counters do not run over
-pub lost-room : {p l b f u : ℕ} (c d : List Level) (n : ℕ) → Accounts p l b f u c → n ≡ length (c ++ d) → n ≤ 2 ^ 43
+pub lost-room : {p l : ℕ} (c d : List Level) (n : ℕ) → Accounts p l c → n ≡ length (c ++ d) → n ≤ 2 ^ 43
     → l ≤ 2 ^ 43 + 24576
 lost-room c d n h e s =
     let a = h.lost_is in
@@ -324,51 +334,48 @@ all-lost c =
     omega arith
 
 -- the counts of a run
-sum-room : {l b f u : ℕ} (c : List Level) → Accounted l b f u c → f + l < 2 ^ 64
-sum-room c h =
+pub few-faults : (form : Form) (b : List ℕ) {n : Counts} → n ≡ counts_of form b
+    → n.faults ≤ length (cells_of form b) + 1
+unfolding counts_of
+few-faults form b e =
+    let r = reports (cells_of form b) in
+    let n = ap (λ (v : Counts). v.faults) e in
+    let f = (tallies-few {r = r} (record { blocks_is = refl; faults_is = refl; unfinished_is = refl })).few_faults in
+    let l = few-reports (cells_of form b) in
+    omega (arith, n, f, l)
+
+pub sum-room : (form : Form) (b : List ℕ) {n : Counts} {l : ℕ} → n ≡ counts_of form b
+    → Accounted l (cells_of form b) → n.faults + l < 2 ^ 64
+sum-room form b e h =
     let s = h.short in
     let l = h.lost_is in
-    let a = all-lost c in
-    let f = (tallies-few h.tally).few_faults in
-    let r = few-reports c in
+    let a = all-lost (cells_of form b) in
+    let f = few-faults form b e in
     let m = block_len_24576 in
     omega arith
 
-pub drive-room : {max : ℕ} {form : Form} {w : Writing Level} {g : List Level → Type 0} (l b f u : ℕ)
-    {ended : Bool} {source sink : Movement} {bytes cells : ℕ}
-    → Drive max form w g (λ c. Accounted l b f u c) ended source sink (Ok (bytes, cells)) → f + l < 2 ^ 64
-drive-room {form = form} l b f u r = sum-room (cells_of form r.run.bytes) r.run.ran.1.0
+-- with so many losses among the faults
+abbrev pub with_losses : Counts → ℕ → Counts
+with_losses n l = record {
+  bytes = n.bytes;
+  cells = n.cells;
+  blocks = n.blocks;
+  faults = n.faults + l;
+  unfinished = n.unfinished;
+  marks = n.marks;
+}
 
--- what a run counts that tells reports and, as faults too, so many losses
-pub counts-are : (bytes cells : ℕ) (r : List Report) (n c l k f u losses : ℕ) → n ≡ bytes → c ≡ cells → Tallies k f u r
-    → l ≡ losses
-    → ◌≡◌ {A = Counts} (record { bytes = n; cells = c; blocks = k; faults = f + l; unfinished = u; marks = 0 })
-    (record {
-      bytes = bytes;
-      cells = cells;
-      blocks = length (wholes r);
-      faults = length (filter is_faulty r) + losses;
-      unfinished = length (filter is_unfinished r);
-      marks = 0;
-    })
-counts-are bytes cells r n c l k f u losses e d t g =
-    let s : f + l ≡ length (filter is_faulty r) + losses = ap₂ (λ x y. x + y) t.faults_is g in
-    ap₂ (λ (x y : ℕ). record { bytes = x; cells = y; blocks = k; faults = f + l; unfinished = u; marks = 0 }) e d
-    ∙ ap₂ (λ (x y : ℕ). record { bytes = bytes; cells = cells; blocks = x; faults = y; unfinished = u; marks = 0 })
-    t.blocks_is s
-    ∙ ap (λ (x : ℕ). record {
-      bytes = bytes;
-      cells = cells;
-      blocks = length (wholes r);
-      faults = length (filter is_faulty r) + losses;
-      unfinished = x;
-      marks = 0;
-    }) t.unfinished_is
+pub counted : (form : Form) (b : List ℕ) {n : Counts} {l : ℕ} → n ≡ counts_of form b
+    → Accounted l (cells_of form b) → with_losses n l ≡ account_counts form b
+unfolding account_counts counts_of
+counted form b {n} {l} e t =
+    ap (λ (v : Counts). with_losses v l) e ∙ ap (λ (k : ℕ). with_losses (counts_of form b) k) t.lost_is
 
-pub counted : (form : Form) (b : List ℕ) (bytes cells l k f u : ℕ) → bytes ≡ length b → cells ≡ length (cells_of form b)
-    → Accounted l k f u (cells_of form b)
-    → ◌≡◌ {A = Counts} (record { bytes = bytes; cells = cells; blocks = k; faults = f + l; unfinished = u; marks = 0 })
-    (account_counts form b)
-unfolding account_counts blocks
-counted form b n c l k f u e d t =
-    counts-are _ _ (reports (cells_of form b)) n c l k f u _ e d t.tally t.lost_is
+-- the run
+pub gives-account : {A : Type 0} (form : Form) {l lines : Lines} (z : A → List Level → Type 0) → l ≡ lines
+    → Gives (heard_cells form (accounting l) z) (counted_cells form (λ c. account_lines lines (account c))
+    (λ c. account_lines lines (begun_account c)) (account_counts form))
+gives-account form {l} {lines} z e =
+    cells-give form (λ c. account_lines lines (account c)) (λ c. account_lines lines (begun_account c))
+    (λ c. with-account l c ∙ ap (λ v. account_lines v (account c)) e)
+    (λ c. before-account l c ∙ ap (λ v. account_lines v (begun_account c)) e)

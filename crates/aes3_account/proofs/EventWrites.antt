@@ -1,5 +1,5 @@
 -- Events that are written.
-use Rattle.std.proofs.Common.{◌≡◌, ℕ, zero, suc, ◌<◌, List, [], ◌∷◌, ◌++◌, Result, Ok, Err, IfOk, OnErr, length}
+use Rattle.std.proofs.Common.{◌≡◌, ℕ, zero, suc, ◌<◌, List, [], ◌∷◌, ◌++◌, Result, Ok, Err, IfOk, length}
 use Rattle.std.proofs.Common.{take, drop, get_or, refl, sym, ap, ◌∙◌, ◌+◌, append-nil, append_assoc, arith}
 use Rattle.std.proofs.lemmas.Grind.{flat_map-append}
 use Rattle.std.proofs.lemmas.List.{take_more}
@@ -8,18 +8,11 @@ use Rattle.aes3_settings.specs.declared.style.Style.{Style}
 use Rattle.aes3_lines.specs.Events.{event_line}
 use Rattle.aes3_account.specs.Watching.{event_lines}
 
--- what follows from a call's answer
-pub if-ok : {R E A B : Type 0} (r : Result R E) → (A → B) → IfOk r (λ (_ : R). A) → IfOk r (λ (_ : R). B)
-if-ok (Ok v) f h = f h
-if-ok (Err e) f h = tt
-
-pub if-err : {R E A B : Type 0} (r : Result R E) → (A → B) → OnErr r A → OnErr r B
-if-err (Ok v) f h = tt
-if-err (Err e) f h = f h
-
-pub if-any : {R E B : Type 0} (r : Result R E) → B → IfOk r (λ (_ : R). B)
-if-any (Ok v) b = b
-if-any (Err e) b = tt
+-- what follows from two facts of a call's answer
+pub if-both : {R E A B C : Type 0} (r : Result R E) → (A → B → C) → IfOk r (λ (_ : R). A) → IfOk r (λ (_ : R). B)
+    → IfOk r (λ (_ : R). C)
+if-both (Ok v) f a b = f a b
+if-both (Err e) f a b = tt
 
 -- lines before an event, its own, and those behind it
 pub split-lines : (style : Style) (es : List Event) (k : ℕ) (d : Event) → k < length es

@@ -1,31 +1,34 @@
 -- What is kept and written of a line of which sums are told, as its cells come.
-use Rattle.std.proofs.Common.{◌≡◌, ℕ, ◌-◌, ◌^◌, ◌<◌, ◌≤◌, List, [], ◌∷◌, ◌++◌, length, sym, ap, ap₂, ◌∙◌, subst}
+use Rattle.std.proofs.Common.{◌≡◌, ℕ, ◌-◌, ◌^◌, ◌<◌, ◌≤◌, List, [], ◌∷◌, ◌++◌, length, sym, ap, ap₂, ◌∙◌, subst, arith}
 use Rattle.aes3_level.specs.declared.level.Level.{Level}
+use Rattle.aes3_cell.specs.declared.form.Form.{Form}
 use Rattle.aes3_frame.specs.Blocks.{block_len, block_slots}
 use Rattle.aes3_lock.specs.declared.report.Report.{Report}
-use Rattle.aes3_lock.specs.declared.tally.Tally.{Tally}
 use Rattle.aes3_lock.specs.Reports.{reports, decided}
-use Rattle.aes3_lock.specs.Tallies.{Tallies}
 use Rattle.aes3_input.specs.Taking.{behind}
+use Rattle.aes3_input.specs.Driving.{counted_cells}
+use Rattle.aes3_input.proofs.CellRuns.{cells-give}
+use Rattle.aes3_input.proofs.InputRuns.{Gives}
+use Rattle.aes3_runs.specs.ReportRuns.{heard_cells}
 use Rattle.aes3_settings.specs.declared.style.Style.{Style}
-use Rattle.aes3_account.specs.Watching.{IsKept, Watches}
+use Rattle.aes3_account.specs.Watching.{IsKept, watch_counts, Watches}
 use Rattle.aes3_account.specs.declared.summed.Summed.{Summed}
-use Rattle.aes3_account.specs.Sums.{all_told, go_to, next_sum, notice_lines, report_told, summed, summing}
+use Rattle.aes3_account.specs.Sums.{all_told, begun_sums, go_to, sum_lines, next_sum, notice_lines, report_told, summed, summing}
 use Rattle.aes3_account.specs.Sums.{more, no_figures, on_to, periods, summed_by, Sums, told_to, unsummed}
 use Rattle.aes3_gaps.specs.Gaps.{behind_full, full_count}
 use Rattle.aes3_account.specs.declared.watched.Watched.{Watched}
 use Rattle.aes3_lines.specs.declared.sum.Figures.{Figures}
-use Rattle.aes3_account.proofs.WatchedCells.{pass-watches, same-watches, take-watches}
-use Rattle.aes3_account.proofs.Sums.{behind-lines, ends-lines, go-at, lines-join, next-at, notices-closed}
+use Rattle.aes3_account.proofs.WatchedCells.{pass-watches, take-watches}
+use Rattle.aes3_account.proofs.Sums.{before-sums, behind-lines, ends-lines, with-sums, go-at, lines-join, next-at, notices-closed}
 use Rattle.aes3_account.proofs.Sums.{notices-closed_with, notices-passed, notices-taken, none-before, summed-known}
 use Rattle.aes3_account.proofs.Sums.{summed-passed, summed-taken}
 
 -- cells that decide no report
-pub passed-sums : {every : ℕ} {u : Summed} {lasts : List ℕ} {b f k : ℕ} (v : Summed) (s : ℕ) (c d : List Level)
-    → Sums every u lasts b f k c
+pub passed-sums : {every : ℕ} {u : Summed} {lasts : List ℕ} (v : Summed) (s : ℕ) (c d : List Level)
+    → Sums every u lasts c
     → decided (c ++ d) ≡ decided c → s ≡ length (c ++ d) - block_len → v ≡ go_to every u s
-    → Sums every v lasts b f k (c ++ d)
-passed-sums {every} {u} {lasts} {b} {f} {k} v s c d h q e g = record {
+    → Sums every v lasts (c ++ d)
+passed-sums {every} {u} v s c d h q e g = record {
   some = h.some;
   few = h.few;
   state_is = g ∙ ap₂ (go_to every) h.state_is e ∙ sym (summed-passed every c d h.some q);
@@ -41,18 +44,18 @@ passed-lines style every u s c d h e f q =
     (notices-passed every c d h q)
 
 -- a report, and cells behind it
-pub taken-sums : {every : ℕ} {u : Summed} {lasts : List ℕ} {b f k : ℕ} {lasts' : List ℕ} {b' f' k' : ℕ} (v w : Summed)
+pub taken-sums : {every : ℕ} {u : Summed} {lasts : List ℕ} {lasts' : List ℕ} (v w : Summed)
     (s : ℕ) (c d : List Level) (x : Report)
-    → Sums every u lasts b f k c
+    → Sums every u lasts c
     → decided (c ++ d) ≡ decided c ++ x ∷ [] → s ≡ length (c ++ d) - block_len → v ≡ next_sum every u x
-    → IsKept v.watched.latest lasts' → Tallies b' f' k' (decided c ++ x ∷ []) → w ≡ go_to every v s
-    → Sums every w lasts' b' f' k' (c ++ d)
-taken-sums {every} {u} {lasts} {b} {f} {k} {lasts'} {b'} {f'} {k'} v w s c d x h q e g m t l = record {
+    → IsKept v.watched.latest lasts' → w ≡ go_to every v s
+    → Sums every w lasts' (c ++ d)
+taken-sums {every} {u} v w s c d x h q e g m l = record {
   some = h.some;
   few = h.few;
   state_is = l ∙ ap₂ (go_to every) (g ∙ ap (λ y. next_sum every y x) h.state_is) e
       ∙ sym (summed-taken every c d x h.some q);
-  watches = take-watches v.watched w.watched s c d x h.watches q e (next-at every u v x h.some g) m t
+  watches = take-watches v.watched w.watched s c d x h.watches q e (next-at every u v x h.some g) m
       (go-at every v w s h.some l);
 }
 
@@ -89,27 +92,20 @@ closed_with-lines style every u v n c x h e g f q =
     ++ all_told every (next_sum every (summed every c) x) (length c)) (notices-closed_with every c x h q)
 
 -- the same of what is kept behind calls that leave some of it as it was
-pub same-sums : (every every' : ℕ) (v : Summed) (lasts lasts' : List ℕ) (t t' : Tally) (c : List Level)
-    → every' ≡ every → lasts' ≡ lasts → t' ≡ t
-    → Sums every v lasts t.blocks t.faults t.unfinished c → Sums every' v lasts' t'.blocks t'.faults t'.unfinished c
-same-sums every every' v lasts lasts' t t' c a e f h =
-    subst (λ n. Sums n v lasts' t'.blocks t'.faults t'.unfinished c) (sym a)
-    (record {
-      some = h.some;
-      few = h.few;
-      state_is = h.state_is;
-      watches = same-watches v.watched lasts lasts' t t' c e f h.watches;
-    })
+pub same-sums : (every every' : ℕ) (v : Summed) (lasts lasts' : List ℕ) (c : List Level) → every' ≡ every
+    → lasts' ≡ lasts → Sums every v lasts c → Sums every' v lasts' c
+same-sums every every' v lasts lasts' c a e h =
+    subst (λ n. Sums n v lasts' c) (sym a) (subst (λ l. Sums every v l c) (sym e) h)
 
 -- no cell
 start-sums : (every : ℕ) → summed every [] ≡ unsummed
 unfolding summed decided go_to behind_full full_count more block_len block_slots
 start-sums every = ap (λ n. on_to (periods every n unsummed) 0) (none-before every)
 
-pub begins-sums : (every : ℕ) (w : Watched) (figures : Figures) (lasts : List ℕ) (b f k : ℕ) → 0 < every
-    → every ≤ 2 ^ 40 → figures ≡ no_figures → Watches w lasts b f k []
-    → Sums every (summed_by w 0 0 figures) lasts b f k []
-begins-sums every w figures lasts b f k h l e v = record {
+pub begins-sums : (every : ℕ) (w : Watched) (figures : Figures) (lasts : List ℕ) → 0 < every
+    → every ≤ 2 ^ 40 → figures ≡ no_figures → Watches w lasts []
+    → Sums every (summed_by w 0 0 figures) lasts []
+begins-sums every w figures lasts h l e v = record {
   some = h;
   few = l;
   state_is =
@@ -118,3 +114,14 @@ begins-sums every w figures lasts b f k h l e v = record {
       ∙ sym (start-sums every);
   watches = v;
 }
+
+-- the run
+pub gives-sums : {A : Type 0} (form : Form) {s style : Style} {n every : ℕ} (z : A → List Level → Type 0) → 0 < every
+    → s ≡ style → n ≡ every
+    → Gives (heard_cells form (summing s n) z) (counted_cells form (sum_lines style every) (begun_sums style every)
+    (watch_counts form))
+gives-sums form {s} {style} {n} {every} z h e f =
+    let some : 0 < n = omega (arith, h, f) in
+    cells-give form (sum_lines style every) (begun_sums style every)
+    (λ c. with-sums s n c some ∙ ap₂ (λ v m. sum_lines v m c) e f)
+    (λ c. before-sums s n c some ∙ ap₂ (λ v m. begun_sums v m c) e f)

@@ -1,6 +1,6 @@
 -- A line watched, as its cells come.
 use Rattle.std.proofs.Common.{◌≡◌, ℕ, ◌+◌, ◌-◌, ◌*◌, ◌^◌, ◌<◌, ◌≤◌, ◌⊎◌, inl, inr, Bool, true, false, cond, ltb, List}
-use Rattle.std.proofs.Common.{[], ◌∷◌, ◌++◌, Some, Ok, length, drop, refl, sym, ap, ap₂, ◌∙◌, subst}
+use Rattle.std.proofs.Common.{[], ◌∷◌, ◌++◌, Some, length, drop, refl, sym, ap, ap₂, ◌∙◌, subst}
 use Rattle.std.proofs.Common.{arith, append-nil, append_assoc, length-append}
 use Rattle.std.specs.Prelude.{◌||◌, nat_lt}
 use Rattle.std.proofs.lemmas.Bool.{ltb-false, le-ltb}
@@ -12,18 +12,18 @@ use Rattle.aes3_cell.specs.declared.counts.Counts.{Counts}
 use Rattle.aes3_frame.specs.Blocks.{block_len, block_slots}
 use Rattle.aes3_lock.specs.declared.report.Report.{Report}
 use Rattle.aes3_lock.specs.declared.report.Report.TheVariants.{Whole, Marked, Fault, Unfinished}
-use Rattle.aes3_lock.specs.Reports.{reports, decided, blocks}
+use Rattle.aes3_lock.specs.Reports.{reports, decided}
 use Rattle.aes3_lock.specs.Remains.{place_of}
 use Rattle.aes3_lock.proofs.Deciding.{answer, block_len_24576}
 use Rattle.aes3_lock.proofs.Ends.{final}
-use Rattle.aes3_input.specs.Running.{Movement}
-use Rattle.aes3_input.specs.Taking.{Writing, behind, before_end, with_end}
+use Rattle.aes3_input.specs.Taking.{behind, before_end, with_end}
 use Rattle.aes3_input.specs.Inputs.{cells_of}
-use Rattle.aes3_input.specs.Driving.{Drive}
+use Rattle.aes3_input.specs.Driving.{counted_cells}
+use Rattle.aes3_input.proofs.CellRuns.{cells-give}
+use Rattle.aes3_input.proofs.InputRuns.{Gives}
 use Rattle.aes3_input.proofs.Items.{before-is, before-join}
-use Rattle.aes3_lock.specs.declared.tally.Tally.{Tally}
-use Rattle.aes3_lock.specs.Tallies.{Tallies}
-use Rattle.aes3_lock.proofs.Tallies.{tallies-few, few-decided}
+use Rattle.aes3_lock.proofs.Tallies.{few-decided}
+use Rattle.aes3_runs.specs.ReportRuns.{counts_of, heard_cells}
 use Rattle.aes3_lines.specs.declared.event.Event.{Event}
 use Rattle.aes3_lines.specs.declared.event.Event.TheVariants.{Lost, End}
 use Rattle.aes3_settings.specs.declared.style.Style.{Style}
@@ -37,7 +37,7 @@ use Rattle.aes3_account.specs.Watching.{is_locked, ended, watch_events, event_li
 use Rattle.aes3_account.specs.Watching.{watch_counts, watching, IsKept, Watches, Ended}
 use Rattle.aes3_lock.proofs.ReportPlaces.{split-reports, late-decided, late-reports}
 use Rattle.aes3_gaps.proofs.BegunAccounts.{one-answer, one-final, decided-more, shorter}
-use Rattle.aes3_account.proofs.Accounts.{counts-are, few-reports}
+use Rattle.aes3_account.proofs.Accounts.{few-faults, few-reports, with_losses}
 
 -- what the code computes
 pub told-is : (w : Watched) (q s : ℕ) → s ≡ q - w.place → w.lost ≡ false → nat_lt s 24576 ≡ is_told w q
@@ -355,13 +355,12 @@ pass-lines style w s c d e f q =
     ap (event_lines style) (ap₂ loss_events e f)
     ∙ behind-watch style c d (loss_events (watched c) (length (c ++ d) - block_len)) (begun-passed c d q)
 
-pub pass-watches : {w : Watched} {words : List ℕ} {b f u : ℕ} (w' : Watched) (s : ℕ) (c d : List Level)
-    → Watches w words b f u c
-    → decided (c ++ d) ≡ decided c → s ≡ length (c ++ d) - block_len → w' ≡ up_to w s → Watches w' words b f u (c ++ d)
-pass-watches {w} {words} {b} {f} {u} w' s c d h q e g = record {
+pub pass-watches : {w : Watched} {words : List ℕ} (w' : Watched) (s : ℕ) (c d : List Level)
+    → Watches w words c
+    → decided (c ++ d) ≡ decided c → s ≡ length (c ++ d) - block_len → w' ≡ up_to w s → Watches w' words (c ++ d)
+pass-watches {w} {words} w' s c d h q e g = record {
   state_is = g ∙ ap₂ up_to h.state_is e ∙ sym (watched-passed c d q);
   kept = subst (λ v. IsKept v.latest words) (sym g) (kept-up w s words h.kept);
-  tally = subst (Tallies b f u) (sym q) h.tally;
 }
 
 -- a report, and cells behind it
@@ -375,15 +374,14 @@ take-lines style w w' s c d x e g f q =
     ∙ behind-watch style c d (told_events (watched c) x
     ++ loss_events (next (watched c) x) (length (c ++ d) - block_len)) (begun-taken c d x q)
 
-pub take-watches : {w : Watched} {words : List ℕ} {b f u : ℕ} {words' : List ℕ} {b' f' u' : ℕ} (w' w'' : Watched)
+pub take-watches : {w : Watched} {words : List ℕ} {words' : List ℕ} (w' w'' : Watched)
     (s : ℕ) (c d : List Level) (x : Report)
-    → Watches w words b f u c
+    → Watches w words c
     → decided (c ++ d) ≡ decided c ++ x ∷ [] → s ≡ length (c ++ d) - block_len → w' ≡ next w x → IsKept w'.latest words'
-    → Tallies b' f' u' (decided c ++ x ∷ []) → w'' ≡ up_to w' s → Watches w'' words' b' f' u' (c ++ d)
-take-watches {w} {words} {b} {f} {u} {words'} {b'} {f'} {u'} w' w'' s c d x h q e g m t k = record {
+    → w'' ≡ up_to w' s → Watches w'' words' (c ++ d)
+take-watches {w} {words} {words'} w' w'' s c d x h q e g m k = record {
   state_is = k ∙ ap₂ up_to (g ∙ ap (λ v. next v x) h.state_is) e ∙ sym (watched-taken c d x q);
   kept = subst (λ v. IsKept v.latest words') (sym k) (kept-up w' s words' m);
-  tally = subst (Tallies b' f' u') (sym q) t;
 }
 
 -- the end
@@ -394,13 +392,12 @@ close-lines style w n c e f q
     = ap (event_lines style) (ap₂ last_events e f)
     ∙ ends-watch style c (last_events (watched c) (length c)) (all-closed c q)
 
-pub close-ended : {w : Watched} {words : List ℕ} {b f u : ℕ} (w' : Watched) (n : ℕ) (c : List Level)
-    → Watches w words b f u c → reports c ≡ decided c ++ []
-    → n ≡ length c → n ≤ 2 ^ 43 → w' ≡ up_to w n → Ended w'.losses b f u c
-close-ended {w} {words} {b} {f} {u} w' n c h q e s k = record {
+pub close-ended : {w : Watched} {words : List ℕ} (w' : Watched) (n : ℕ) (c : List Level)
+    → Watches w words c → reports c ≡ decided c ++ []
+    → n ≡ length c → n ≤ 2 ^ 43 → w' ≡ up_to w n → Ended w'.losses c
+close-ended {w} {words} w' n c h q e s k = record {
   short = omega arith;
   losses_is = ap (λ v. v.losses) (k ∙ ap₂ up_to h.state_is e ∙ sym (ended-closed c q));
-  tally = subst (Tallies b f u) (sym (q ∙ append-nil (decided c))) h.tally;
 }
 
 pub close_with-lines : (style : Style) (w w' : Watched) (n : ℕ) (c : List Level) (x : Report) → w ≡ watched c
@@ -413,37 +410,24 @@ close_with-lines style w w' n c x e g f q =
     ∙ ends-watch style c (told_events (watched c) x ++ last_events (next (watched c) x) (length c))
     (all-closed_with c x q)
 
-pub close_with-ended : {w : Watched} {words : List ℕ} {b f u b' f' u' : ℕ} (w' w'' : Watched) (n : ℕ) (c : List Level)
-    (x : Report) → Watches w words b f u c
+pub close_with-ended : {w : Watched} {words : List ℕ} (w' w'' : Watched) (n : ℕ) (c : List Level)
+    (x : Report) → Watches w words c
     → reports c ≡ decided c ++ x ∷ [] → n ≡ length c → n ≤ 2 ^ 43 → w' ≡ next w x
-    → Tallies b' f' u' (decided c ++ x ∷ []) → w'' ≡ up_to w' n
-    → Ended w''.losses b' f' u' c
-close_with-ended {w} {words} {b} {f} {u} {b'} {f'} {u'} w' w'' n c x h q e s g t k = record {
+    → w'' ≡ up_to w' n
+    → Ended w''.losses c
+close_with-ended {w} {words} w' w'' n c x h q e s g k = record {
   short = omega arith;
   losses_is = ap (λ v. v.losses) (k ∙ ap₂ up_to (g ∙ ap (λ v. next v x) h.state_is) e ∙ sym (ended-closed_with c x q));
-  tally = subst (Tallies b' f' u') (sym q) t;
 }
 
-pub begins-watched : {w : Watched} {words : List ℕ} {b f u : ℕ} → w ≡ unwatched → Tallies b f u []
-    → Watches w words b f u []
+pub begins-watched : {w : Watched} {words : List ℕ} → w ≡ unwatched → Watches w words []
 unfolding watched decided block_len block_slots
-begins-watched {words = words} e t
-    = record { state_is = e; kept = subst (λ v. IsKept v.latest words) (sym e) tt; tally = t }
+begins-watched {words = words} e = record { state_is = e; kept = subst (λ v. IsKept v.latest words) (sym e) tt }
 
 -- the same of what is kept behind calls that leave some of it as it was
-pub same-watches : (w : Watched) (words words' : List ℕ) (t t' : Tally) (c : List Level) → words' ≡ words → t' ≡ t
-    → Watches w words t.blocks t.faults t.unfinished c → Watches w words' t'.blocks t'.faults t'.unfinished c
-same-watches w words words' t t' c e f h =
-    subst (λ v. Watches w v t'.blocks t'.faults t'.unfinished c) (sym e)
-    (subst (λ (v : Tally). Watches w words v.blocks v.faults v.unfinished c) (sym f) h)
-
-pub same-ended : (l : ℕ) (t t' : Tally) (c : List Level) → t' ≡ t → Ended l t.blocks t.faults t.unfinished c
-    → Ended l t'.blocks t'.faults t'.unfinished c
-same-ended l t t' c f h = subst (λ (v : Tally). Ended l v.blocks v.faults v.unfinished c) (sym f) h
-
-pub same-tally : (t t' : Tally) (r : List Report) → t' ≡ t → Tallies t.blocks t.faults t.unfinished r
-    → Tallies t'.blocks t'.faults t'.unfinished r
-same-tally t t' r f h = subst (λ (v : Tally). Tallies v.blocks v.faults v.unfinished r) (sym f) h
+pub same-watches : (w : Watched) (words words' : List ℕ) (c : List Level) → words' ≡ words → Watches w words c
+    → Watches w words' c
+same-watches w words words' c e h = subst (λ v. Watches w v c) (sym e) h
 
 -- cells are not told as lost more often than there are cells
 pub few-up : (w : Watched) (q : ℕ) → (up_to w q).losses ≤ w.losses + 1
@@ -488,7 +472,7 @@ few-ended c =
     let f = few-reports c in
     omega arith
 
-pub loss-room : {w : Watched} {words : List ℕ} {b f u : ℕ} (c d : List Level) (n : ℕ) → Watches w words b f u c
+pub loss-room : {w : Watched} {words : List ℕ} (c d : List Level) (n : ℕ) → Watches w words c
     → n ≡ length (c ++ d) → n ≤ 2 ^ 43 → w.losses ≤ 2 ^ 44 + 1
 loss-room {w} c d n h e s =
     let a : w.losses ≡ (watched c).losses = ap (λ v. v.losses) h.state_is in
@@ -496,24 +480,25 @@ loss-room {w} c d n h e s =
     let k = length-append c d in
     omega arith
 
-sum-room : {l b f u : ℕ} (c : List Level) → Ended l b f u c → f + l < 2 ^ 64
-sum-room c h =
+pub watch-room : (form : Form) (b : List ℕ) {n : Counts} {l : ℕ} → n ≡ counts_of form b → Ended l (cells_of form b)
+    → n.faults + l < 2 ^ 64
+watch-room form b e h =
     let s = h.short in
     let l = h.losses_is in
-    let a = few-ended c in
-    let f = (tallies-few h.tally).few_faults in
-    let r = few-reports c in
+    let a = few-ended (cells_of form b) in
+    let f = few-faults form b e in
     omega arith
 
-pub watch-room : {max : ℕ} {form : Form} {w : Writing Level} {g : List Level → Type 0} (l b f u : ℕ)
-    {ended : Bool} {source sink : Movement} {bytes cells : ℕ}
-    → Drive max form w g (λ c. Ended l b f u c) ended source sink (Ok (bytes, cells)) → f + l < 2 ^ 64
-watch-room {form = form} l b f u r = sum-room (cells_of form r.run.bytes) r.run.ran.1.0
+pub watch-counted : (form : Form) (b : List ℕ) {n : Counts} {l : ℕ} → n ≡ counts_of form b → Ended l (cells_of form b)
+    → with_losses n l ≡ watch_counts form b
+unfolding watch_counts counts_of
+watch-counted form b {n} {l} e t =
+    ap (λ (v : Counts). with_losses v l) e ∙ ap (λ (k : ℕ). with_losses (counts_of form b) k) t.losses_is
 
-pub watch-counted : (form : Form) (b : List ℕ) (bytes cells l k f u : ℕ) → bytes ≡ length b
-    → cells ≡ length (cells_of form b) → Ended l k f u (cells_of form b)
-    → ◌≡◌ {A = Counts} (record { bytes = bytes; cells = cells; blocks = k; faults = f + l; unfinished = u; marks = 0 })
-    (watch_counts form b)
-unfolding watch_counts blocks
-watch-counted form b n c l k f u e d t =
-    counts-are _ _ (reports (cells_of form b)) n c l k f u _ e d t.tally t.losses_is
+-- the run
+pub gives-watch : {A : Type 0} (form : Form) {s style : Style} (z : A → List Level → Type 0) → s ≡ style
+    → Gives (heard_cells form (watching s) z) (counted_cells form (watch_lines style) (begun_watch style)
+    (watch_counts form))
+gives-watch form {s} {style} z e =
+    cells-give form (watch_lines style) (begun_watch style) (λ c. with-watch s c ∙ ap (λ v. watch_lines v c) e)
+    (λ c. before-watch s c ∙ ap (λ v. begun_watch v c) e)

@@ -4,8 +4,8 @@ use Rattle.std.specs.List.{filter}
 use Rattle.aes3_level.specs.declared.level.Level.{Level}
 use Rattle.aes3_cell.specs.declared.form.Form.{Form}
 use Rattle.aes3_cell.specs.declared.counts.Counts.{Counts}
-use Rattle.aes3_lock.specs.Reports.{blocks, decided, reports}
-use Rattle.aes3_lock.specs.Tallies.{is_faulty, is_unfinished, Tallies}
+use Rattle.aes3_lock.specs.Reports.{blocks, decided, reports, wholes}
+use Rattle.aes3_lock.specs.Tallies.{is_faulty, is_unfinished}
 use Rattle.aes3_input.specs.Taking.{Writing}
 use Rattle.aes3_input.specs.Inputs.{cells_of}
 use Rattle.aes3_settings.specs.declared.lines.Lines.{Lines}
@@ -33,20 +33,18 @@ accounting lines = record {
 }
 
 -- the counters of what stands whatever cells follow the cells c, and of all
-pub record Accounts (place lost blocks faults unfinished : ℕ) (c : List Level) : Type 0 where
+pub record Accounts (place lost : ℕ) (c : List Level) : Type 0 where
   pub place_is : place ≡ accounted c
   pub lost_is : lost ≡ length (filter is_lost (begun_account c))
-  pub tally : Tallies blocks faults unfinished (decided c)
 
-pub record Accounted (lost blocks faults unfinished : ℕ) (c : List Level) : Type 0 where
+pub record Accounted (lost : ℕ) (c : List Level) : Type 0 where
   pub short : length c ≤ 2 ^ 43
   pub lost_is : lost ≡ length (filter is_lost (account c))
-  pub tally : Tallies blocks faults unfinished (reports c)
 
 -- a ledger of the cells c, and one that has taken their end
 pub record IsLedgerOf (k : Ledger) (c : List Level) : Type 0 where
-  pub accounts : Accounts k.account.place k.lost k.tally.blocks k.tally.faults k.tally.unfinished c
-  pub found_is : k.account.found ≡ nat_lt 0 k.tally.blocks
+  pub accounts : Accounts k.account.place k.lost c
+  pub found_is : k.account.found ≡ nat_lt 0 (length (wholes (decided c)))
 
 abbrev pub IsClosedLedgerOf : Ledger → List Level → Type 0
-IsClosedLedgerOf k c = Accounted k.lost k.tally.blocks k.tally.faults k.tally.unfinished c
+IsClosedLedgerOf k c = Accounted k.lost c

@@ -1,5 +1,4 @@
 pub mod GapLines
-pub mod CellReports
 pub mod Accounting
 pub mod Signals
 pub mod Watching

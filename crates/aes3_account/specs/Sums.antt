@@ -297,9 +297,9 @@ summing style every = record {
 }
 
 -- what is kept of a line whose cells c have come
-pub record Sums (every : ℕ) (state : Summed) (lasts : List ℕ) (blocks faults unfinished : ℕ) (c : List Level) : Type 0
+pub record Sums (every : ℕ) (state : Summed) (lasts : List ℕ) (c : List Level) : Type 0
   where
     pub some : 0 < every
     pub few : every ≤ 2 ^ 40
     pub state_is : state ≡ summed every c
-    pub watches : Watches state.watched lasts blocks faults unfinished c
+    pub watches : Watches state.watched lasts c

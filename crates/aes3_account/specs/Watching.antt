@@ -14,7 +14,7 @@ use Rattle.aes3_lock.specs.Outcomes.{payloads_of}
 use Rattle.aes3_lock.specs.Reports.{blocks, decided, reports}
 use Rattle.aes3_input.specs.Inputs.{cells_of}
 use Rattle.aes3_input.specs.Taking.{Writing}
-use Rattle.aes3_lock.specs.Tallies.{is_faulty, is_unfinished, Tallies}
+use Rattle.aes3_lock.specs.Tallies.{is_faulty, is_unfinished}
 use Rattle.aes3_lines.specs.declared.event.Event.{Event}
 use Rattle.aes3_lines.specs.declared.event.Event.TheVariants.{Locked, Lost, Back, Slipped, End}
 use Rattle.aes3_settings.specs.declared.style.Style.{Style}
@@ -149,12 +149,10 @@ abbrev pub IsKept : Option Signals → List ℕ → Type 0
 IsKept latest lasts = IfSome latest (λ now. SaysSo lasts now)
 
 -- what is kept of a line whose cells c have come, and of one that has ended
-pub record Watches (state : Watched) (lasts : List ℕ) (blocks faults unfinished : ℕ) (c : List Level) : Type 0 where
+pub record Watches (state : Watched) (lasts : List ℕ) (c : List Level) : Type 0 where
   pub state_is : state ≡ watched c
   pub kept : IsKept state.latest lasts
-  pub tally : Tallies blocks faults unfinished (decided c)
 
-pub record Ended (losses blocks faults unfinished : ℕ) (c : List Level) : Type 0 where
+pub record Ended (losses : ℕ) (c : List Level) : Type 0 where
   pub short : length c ≤ 2 ^ 43
   pub losses_is : losses ≡ (ended c).losses
-  pub tally : Tallies blocks faults unfinished (reports c)

@@ -9,11 +9,10 @@ ghost use Rattle.aes3_gaps.specs.Gaps.{account, begun_account};
 ghost use Rattle.aes3_account.specs.Accounting.{account_counts};
 ghost use Rattle.aes3_account.specs.GapLines.{account_lines};
 
-use crate::counted::Counted;
 use crate::ledger::Ledger;
 use aes3_cell::{Counts, Fault, Form, RunError, Sink, Source};
-use aes3_input::drive;
 use aes3_lines::Lines;
+use aes3_runs::run_cells;
 
 /// Reads cells from any cell on, and accounts for all of them: writes a line for each report on
 /// them, or each but those of whole blocks, and between these a line for each gap, cells that lie
@@ -53,15 +52,9 @@ pub fn account<S: Source, T: Sink>(
         (movement_of T.taken T.failed sink.old sink.new) result }
     ensures passed_on { IfOk result (λ _. T.passed sink.new ≡ T.taken sink.new) }
 {
-    let mut taker = Counted::new(Ledger::new(lines));
-    let (bytes, cells) = drive(source, sink, max_bytes, input, &mut taker)?;
-    let told = &taker.reporter;
+    let (counts, ledger) = run_cells(source, sink, max_bytes, input, Ledger::new(lines))?;
     Ok(Counts {
-        bytes,
-        cells,
-        blocks: told.tally.blocks,
-        faults: told.tally.faults + told.lost,
-        unfinished: told.tally.unfinished,
-        marks: 0,
+        faults: counts.faults + ledger.lost,
+        ..counts
     })
 }

@@ -4,23 +4,21 @@ ghost use Rattle.std.specs.Prelude.{◌≡◌, ◌+◌, ◌<◌, ◌≤◌, ◌^
 ghost use Rattle.std.specs.Prelude.{IfOk, None, nat_lt};
 ghost use Rattle.std.specs.List.{filter};
 ghost use Rattle.aes3_cell.specs.Writes.{Wrote};
-ghost use Rattle.aes3_lock.specs.declared.report.Report.{Report};
 ghost use Rattle.aes3_lock.specs.Following.{report_in};
 ghost use Rattle.aes3_lock.specs.Remains.{place_of};
-ghost use Rattle.aes3_lock.specs.Tallies.{IsTallyOf};
 ghost use Rattle.aes3_lock.specs.Reports.{wholes};
 ghost use Rattle.aes3_gaps.specs.Gaps.{behind_full, behind_report, gaps_before, is_lost, reported};
 ghost use Rattle.aes3_gaps.specs.Told.{due_gaps, gap_entry};
 ghost use Rattle.aes3_account.specs.Accounting.{IsClosedLedgerOf, IsLedgerOf, accounting};
 ghost use Rattle.aes3_account.specs.GapLines.{account_lines};
 
-use crate::cell_reporter::CellReporter;
 use crate::gap::line_of_gap;
 use aes3_cell::{Fault, Sink};
 use aes3_gaps::{Account, Due, Gap};
 use aes3_lines::Lines;
-use aes3_lock::{Ending, Lock, Tally};
+use aes3_lock::{Ending, Lock};
 use aes3_reports::tell_ending;
+use aes3_runs::Listener;
 
 /// What is accounted for, and how many gaps of it count.
 #[derive(Drop)]
@@ -28,7 +26,6 @@ pub(crate) struct Ledger {
     pub(crate) lines: Lines,
     pub(crate) account: Account,
     pub(crate) lost: u64,
-    pub(crate) tally: Tally,
 }
 
 impl Ledger {
@@ -41,7 +38,6 @@ impl Ledger {
             lines,
             account: Account::new(),
             lost: 0,
-            tally: Tally::new(),
         }
     }
 
@@ -55,7 +51,6 @@ impl Ledger {
         requires few { self.old.lost + 1 < 2 ^ 64 }
         ensures lines { self.new.lines ≡ self.old.lines }
         ensures account { self.new.account ≡ self.old.account }
-        ensures tally { self.new.tally ≡ self.old.tally }
         ensures lost { self.new.lost
             ≡ self.old.lost + length (filter is_lost (gap_entry gap ∷ [])) }
         ensures wrote { Wrote T.taken T.failed sink.old sink.new
@@ -76,7 +71,6 @@ impl Ledger {
         requires room { T.failed sink.old + 1 < 2 ^ 64 }
         requires few { self.old.lost + due.to < 2 ^ 64 }
         ensures lines { self.new.lines ≡ self.old.lines }
-        ensures tally { self.new.tally ≡ self.old.tally }
         ensures found { self.new.account.found ≡ self.old.account.found }
         ensures place { IfOk result (λ _. due.short ≡ None
             → self.new.account.place ≡ behind_full self.old.account.place due.to) }
@@ -100,27 +94,27 @@ impl Ledger {
     fn tell_before<T: Sink>(
         &mut self,
         sink: &mut T,
+        _blocks: u64,
         lock: &Lock,
         ending: Ending,
     ) -> Result<(), Fault>
         requires room { T.failed sink.old + 1 < 2 ^ 64 }
         requires few { self.old.lost + place_of (report_in lock.now ending) + 1 < 2 ^ 64 }
         requires near { place_of (report_in lock.now ending) ≤ 2 ^ 43 }
-        requires found { self.old.account.found ≡ nat_lt 0 self.old.tally.blocks }
+        requires found { self.old.account.found ≡ nat_lt 0 _blocks }
         ensures lines { self.new.lines ≡ self.old.lines }
-        ensures tally { self.new.tally ≡ self.old.tally }
         ensures found { IfOk result (λ _. self.new.account.found ≡ nat_lt 0
-            (self.old.tally.blocks + length (wholes (report_in lock.now ending ∷ [])))) }
+            (_blocks + length (wholes (report_in lock.now ending ∷ [])))) }
         ensures place { IfOk result (λ _. self.new.account.place
             ≡ behind_report self.old.account.place (report_in lock.now ending)) }
         ensures lost { IfOk result (λ _. self.new.lost
             ≡ self.old.lost + length (filter is_lost
-            (gaps_before self.old.tally.blocks self.old.account.place
+            (gaps_before _blocks self.old.account.place
             (report_in lock.now ending)))) }
         ensures few { IfOk result (λ _. self.new.lost ≤ self.old.lost + place_of (report_in lock.now ending) + 1) }
         ensures wrote { Wrote T.taken T.failed sink.old sink.new
             (account_lines self.old.lines
-            (gaps_before self.old.tally.blocks self.old.account.place
+            (gaps_before _blocks self.old.account.place
             (report_in lock.now ending))) result }
     {
         self.tell_gaps(sink, Due::before_report(ending, self.account.found))?;
@@ -128,42 +122,44 @@ impl Ledger {
         Ok(())
     }
 
-    /// Writes a report behind the gaps before it, and counts it.
+    /// Writes a report behind the gaps before it.
     ///
     /// # Errors
     /// The sink's fault; then it has taken a front of their lines.
     #[inline(always)]
-    fn tell<T: Sink>(&mut self, sink: &mut T, lock: &Lock, ending: Ending) -> Result<(), Fault>
+    fn tell<T: Sink>(
+        &mut self,
+        sink: &mut T,
+        blocks: u64,
+        lock: &Lock,
+        ending: Ending,
+    ) -> Result<(), Fault>
         requires room { T.failed sink.old + 1 < 2 ^ 64 }
         requires few { self.old.lost + place_of (report_in lock.now ending) + 1 < 2 ^ 64 }
         requires near { place_of (report_in lock.now ending) ≤ 2 ^ 43 }
-        requires tally { (r : List Report) × (length r + 1 < 2 ^ 44) × IsTallyOf self.old.tally r }
-        requires found { self.old.account.found ≡ nat_lt 0 self.old.tally.blocks }
+        requires found { self.old.account.found ≡ nat_lt 0 blocks }
         ensures lines { self.new.lines ≡ self.old.lines }
-        ensures found { IfOk result (λ _. self.new.account.found ≡ nat_lt 0 self.new.tally.blocks) }
-        ensures tally { IfOk result (λ _. (r : List Report) → IsTallyOf self.old.tally r
-            → IsTallyOf self.new.tally (r ++ (report_in lock.now ending) ∷ [])) }
+        ensures found { IfOk result (λ _. self.new.account.found ≡ nat_lt 0
+            (blocks + length (wholes (report_in lock.now ending ∷ [])))) }
         ensures place { IfOk result (λ _. self.new.account.place
             ≡ behind_report self.old.account.place (report_in lock.now ending)) }
         ensures lost { IfOk result (λ _. self.new.lost
             ≡ self.old.lost + length (filter is_lost
-            (gaps_before self.old.tally.blocks self.old.account.place
+            (gaps_before blocks self.old.account.place
             (report_in lock.now ending)))) }
         ensures few { IfOk result (λ _. self.new.lost ≤ self.old.lost + place_of (report_in lock.now ending) + 1) }
         ensures wrote { Wrote T.taken T.failed sink.old sink.new
             (account_lines self.old.lines
-            (gaps_before self.old.tally.blocks self.old.account.place
+            (gaps_before blocks self.old.account.place
             (report_in lock.now ending)
             ++ reported (report_in lock.now ending) ∷ [])) result }
     {
-        self.tell_before(sink, lock, ending)?;
-        tell_ending(self.lines, ending, sink)?;
-        self.tally.count(lock, ending);
-        Ok(())
+        self.tell_before(sink, blocks, lock, ending)?;
+        tell_ending(self.lines, ending, sink)
     }
 }
 
-impl CellReporter for Ledger {
+impl Listener for Ledger {
     ghost follows = { IsLedgerOf };
 
     ghost writes = { λ k. accounting k.lines };
@@ -171,38 +167,35 @@ impl CellReporter for Ledger {
     ghost finished = { IsClosedLedgerOf };
 
     #[inline(always)]
-    fn pass<T: Sink>(&mut self, sink: &mut T, seen: u64) -> Result<(), Fault> {
-        self.tell_gaps(sink, Due::passed(seen))?;
-        Ok(())
-    }
-
-    #[inline(always)]
-    fn take<T: Sink>(
+    fn hear<T: Sink>(
         &mut self,
         sink: &mut T,
         lock: &Lock,
-        ending: Ending,
-        seen: u64,
+        blocks: u64,
+        ending: Option<Ending>,
     ) -> Result<(), Fault> {
-        self.tell(sink, lock, ending)?;
-        self.tell_gaps(sink, Due::passed(seen))?;
-        Ok(())
+        match ending {
+            Some(ending) => {
+                self.tell(sink, blocks, lock, ending)?;
+                self.tell_gaps(sink, Due::passed(lock.seen()))
+            }
+            None => self.tell_gaps(sink, Due::passed(lock.seen())),
+        }
     }
 
-    fn close<T: Sink>(&mut self, sink: &mut T, seen: u64) -> Result<(), Fault> {
-        self.tell_gaps(sink, Due::end(seen))?;
-        Ok(())
-    }
-
-    fn close_with<T: Sink>(
+    fn end<T: Sink>(
         &mut self,
         sink: &mut T,
         lock: &Lock,
-        ending: Ending,
-        seen: u64,
+        blocks: u64,
+        ending: Option<Ending>,
     ) -> Result<(), Fault> {
-        self.tell(sink, lock, ending)?;
-        self.tell_gaps(sink, Due::end(seen))?;
-        Ok(())
+        match ending {
+            Some(ending) => {
+                self.tell(sink, blocks, lock, ending)?;
+                self.tell_gaps(sink, Due::end(lock.seen()))
+            }
+            None => self.tell_gaps(sink, Due::end(lock.seen())),
+        }
     }
 }

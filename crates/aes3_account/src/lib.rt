@@ -4,10 +4,6 @@
 
 /// The account of all cells, line by line.
 mod accounting;
-/// Who is told of the reports on cells, and of how far the cells have come.
-mod cell_reporter;
-/// Cells that are counted as they go through a lock.
-mod counted;
 /// The line of a gap.
 mod gap;
 /// What is accounted for of all cells.
@@ -24,8 +20,6 @@ mod watched;
 mod watching;
 
 pub use accounting::account;
-pub use cell_reporter::CellReporter;
-pub use counted::Counted;
 pub use gap::line_of_gap;
 pub use summing::watch_sums;
 pub use watching::watch;

@@ -20,14 +20,12 @@ ghost use Rattle.aes3_account.specs.Sums.{on_to, period_told, periods, periods_t
 ghost use Rattle.aes3_account.specs.Sums.{sum_lines, summed_by, summing, take_report, all_told, counted_report};
 ghost use Rattle.aes3_account.specs.Sums.{is_whole, told_to, with_fault, with_lost, with_marked, with_whole};
 
-use crate::cell_reporter::CellReporter;
-use crate::counted::Counted;
 use crate::signals::Signals;
 use crate::watching::{Watcher, put_events};
 use aes3_cell::{Counts, Fault, Form, RunError, Sink, Source};
-use aes3_input::drive;
 use aes3_lines::{Event, Figures, Style, Sum, line_of_sum};
 use aes3_lock::{Ending, Lock, Why};
+use aes3_runs::{Listener, run_cells};
 use arrayvec::ArrayVec;
 
 /// How many cells a block has (AES3-3).
@@ -162,8 +160,7 @@ impl Summer {
         ensures style { result.watcher.style ≡ style }
         ensures every { result.every ≡ every }
         ensures none { Sums result.every (summed_by result.watcher.state result.from result.place
-            result.figures) result.watcher.lasts result.watcher.tally.blocks
-            result.watcher.tally.faults result.watcher.tally.unfinished [] }
+            result.figures) result.watcher.lasts [] }
     {
         Summer {
             watcher: Watcher::new(style),
@@ -197,7 +194,6 @@ impl Summer {
         requires few { self.old.watcher.state.losses + 1 < 2 ^ 64 }
         ensures style { self.new.watcher.style ≡ self.old.watcher.style }
         ensures lasts { self.new.watcher.lasts ≡ self.old.watcher.lasts }
-        ensures tally { self.new.watcher.tally ≡ self.old.watcher.tally }
         ensures every { self.new.every ≡ self.old.every }
         ensures few { self.new.watcher.state.losses ≤ self.old.watcher.state.losses + 1 }
         ensures state { summed_by self.new.watcher.state self.new.from self.new.place self.new.figures
@@ -242,7 +238,6 @@ impl Summer {
         requires near { self.old.from + self.old.every < 2 ^ 64 }
         ensures style { self.new.watcher.style ≡ self.old.watcher.style }
         ensures lasts { self.new.watcher.lasts ≡ self.old.watcher.lasts }
-        ensures tally { self.new.watcher.tally ≡ self.old.watcher.tally }
         ensures every { self.new.every ≡ self.old.every }
         ensures state { IfOk result (λ _.
             summed_by self.new.watcher.state self.new.from self.new.place self.new.figures
@@ -270,7 +265,6 @@ impl Summer {
         requires some { 0 < self.old.every }
         ensures style { self.new.watcher.style ≡ self.old.watcher.style }
         ensures lasts { self.new.watcher.lasts ≡ self.old.watcher.lasts }
-        ensures tally { self.new.watcher.tally ≡ self.old.watcher.tally }
         ensures every { self.new.every ≡ self.old.every }
         ensures few { IfOk result (λ _.
             self.new.watcher.state.losses ≤ self.old.watcher.state.losses + 1) }
@@ -302,7 +296,6 @@ impl Summer {
         requires some { 0 < self.old.every }
         ensures style { self.new.watcher.style ≡ self.old.watcher.style }
         ensures lasts { self.new.watcher.lasts ≡ self.old.watcher.lasts }
-        ensures tally { self.new.watcher.tally ≡ self.old.watcher.tally }
         ensures every { self.new.every ≡ self.old.every }
         ensures few { IfOk result (λ _.
             self.new.watcher.state.losses ≤ self.old.watcher.state.losses + 2) }
@@ -368,7 +361,6 @@ impl Summer {
         requires near { place_of (report_in lock.now ending) ≤ 2 ^ 43 }
         requires kept { IsKept self.old.watcher.state.latest self.old.watcher.lasts }
         ensures style { self.new.watcher.style ≡ self.old.watcher.style }
-        ensures tally { self.new.watcher.tally ≡ self.old.watcher.tally }
         ensures every { self.new.every ≡ self.old.every }
         ensures few { IfOk result (λ _.
             self.new.watcher.state.losses ≤ self.old.watcher.state.losses + 4) }
@@ -407,15 +399,14 @@ impl Summer {
         self.tell(sink, seen)
     }
 
-    /// Takes the end of `seen` cells.
+    /// Goes on to the end of `seen` cells.
     ///
     /// # Errors
     /// The sink's fault; then it has taken a front of the lines.
-    fn end<T: Sink>(&mut self, sink: &mut T, seen: u64) -> Result<(), Fault>
+    fn go_to_end<T: Sink>(&mut self, sink: &mut T, seen: u64) -> Result<(), Fault>
         requires room { T.failed sink.old + 1 < 2 ^ 64 }
         requires few { self.old.watcher.state.losses + 4 < 2 ^ 64 }
         requires some { 0 < self.old.every }
-        ensures tally { self.new.watcher.tally ≡ self.old.watcher.tally }
         ensures state { IfOk result (λ _.
             self.new.watcher.state ≡ up_to self.old.watcher.state seen) }
         ensures wrote { Wrote T.taken T.failed sink.old sink.new
@@ -426,55 +417,50 @@ impl Summer {
         self.go_to(sink, seen)?;
         self.tell_last(sink, seen)?;
         let mut events = ArrayVec::new();
-        self.watcher.end(&mut events, seen);
+        self.watcher.go_to_end(&mut events, seen);
         put_events(&self.watcher.style, &events, sink)?;
         Ok(())
     }
 }
 
-impl CellReporter for Summer {
+impl Listener for Summer {
     ghost follows = { λ k. Sums k.every (summed_by k.watcher.state k.from k.place k.figures)
-        k.watcher.lasts k.watcher.tally.blocks k.watcher.tally.faults k.watcher.tally.unfinished };
+        k.watcher.lasts };
 
     ghost writes = { λ k. summing k.watcher.style k.every };
 
-    ghost finished = { λ k. Ended k.watcher.state.losses k.watcher.tally.blocks
-        k.watcher.tally.faults k.watcher.tally.unfinished };
+    ghost finished = { λ k. Ended k.watcher.state.losses };
 
-    fn pass<T: Sink>(&mut self, sink: &mut T, seen: u64) -> Result<(), Fault> {
-        self.go_to(sink, seen.saturating_sub(BLOCK_CELLS))?;
-        Ok(())
-    }
-
-    fn take<T: Sink>(
+    fn hear<T: Sink>(
         &mut self,
         sink: &mut T,
         lock: &Lock,
-        ending: Ending,
-        seen: u64,
+        _blocks: u64,
+        ending: Option<Ending>,
     ) -> Result<(), Fault> {
-        self.take_report(sink, lock, ending)?;
-        self.watcher.tally.count(lock, ending);
-        self.go_to(sink, seen.saturating_sub(BLOCK_CELLS))?;
-        Ok(())
+        match ending {
+            Some(ending) => {
+                self.take_report(sink, lock, ending)?;
+                self.go_to(sink, lock.seen().saturating_sub(BLOCK_CELLS))
+            }
+            None => self.go_to(sink, lock.seen().saturating_sub(BLOCK_CELLS)),
+        }
     }
 
-    fn close<T: Sink>(&mut self, sink: &mut T, seen: u64) -> Result<(), Fault> {
-        self.end(sink, seen)?;
-        Ok(())
-    }
-
-    fn close_with<T: Sink>(
+    fn end<T: Sink>(
         &mut self,
         sink: &mut T,
         lock: &Lock,
-        ending: Ending,
-        seen: u64,
+        _blocks: u64,
+        ending: Option<Ending>,
     ) -> Result<(), Fault> {
-        self.take_report(sink, lock, ending)?;
-        self.watcher.tally.count(lock, ending);
-        self.end(sink, seen)?;
-        Ok(())
+        match ending {
+            Some(ending) => {
+                self.take_report(sink, lock, ending)?;
+                self.go_to_end(sink, lock.seen())
+            }
+            None => self.go_to_end(sink, lock.seen()),
+        }
     }
 }
 
@@ -518,15 +504,10 @@ pub fn watch_sums<S: Source, T: Sink>(
         (movement_of T.taken T.failed sink.old sink.new) result }
     ensures passed_on { IfOk result (λ _. T.passed sink.new ≡ T.taken sink.new) }
 {
-    let mut taker = Counted::new(Summer::new(style, every));
-    let (bytes, cells) = drive(source, sink, max_bytes, input, &mut taker)?;
-    let told = &taker.reporter.watcher;
+    let summer = Summer::new(style, every);
+    let (counts, summer) = run_cells(source, sink, max_bytes, input, summer)?;
     Ok(Counts {
-        bytes,
-        cells,
-        blocks: told.tally.blocks,
-        faults: told.tally.faults + told.state.losses,
-        unfinished: told.tally.unfinished,
-        marks: 0,
+        faults: counts.faults + summer.watcher.state.losses,
+        ..counts
     })
 }

@@ -18,15 +18,13 @@ ghost use Rattle.aes3_account.specs.Watching.{event_lines, is_locked, is_told, l
 ghost use Rattle.aes3_account.specs.Watching.{slips, told_events, unwatched, up_to, watch_counts};
 ghost use Rattle.aes3_account.specs.Watching.{watch_lines, watching, whole_events};
 
-use crate::cell_reporter::CellReporter;
-use crate::counted::Counted;
 use crate::signals::{EVENTS, Signals, add_changes, carry_the_same, last_cells_of, no_cells};
 use crate::watched::Watched;
 use aes3_block::SLOTS;
 use aes3_cell::{Counts, Fault, Form, Level, RunError, Sink, Source};
-use aes3_input::drive;
 use aes3_lines::{Event, Style, line_of_event};
-use aes3_lock::{Ending, Lock, Tally};
+use aes3_lock::{Ending, Lock};
+use aes3_runs::{Listener, run_cells};
 use arrayvec::ArrayVec;
 
 /// How many cells a block has (AES3-3).
@@ -162,21 +160,18 @@ pub(crate) struct Watcher {
     /// The last eight cells of each subframe of a whole block that says the same of its samples as
     /// the last one.
     pub(crate) lasts: [u8; SLOTS],
-    pub(crate) tally: Tally,
 }
 
 impl Watcher {
     /// No cell has come.
     pub(crate) fn new(style: Style) -> Self
-        ensures state { Watches result.state result.lasts result.tally.blocks result.tally.faults
-            result.tally.unfinished [] }
+        ensures state { Watches result.state result.lasts [] }
         ensures style { result.style ≡ style }
     {
         Watcher {
             style,
             state: Watched::new(),
             lasts: no_cells(),
-            tally: Tally::new(),
         }
     }
 
@@ -188,7 +183,6 @@ impl Watcher {
         ensures kept { SaysSo self.new.lasts result }
         ensures style { self.new.style ≡ self.old.style }
         ensures state { self.new.state ≡ self.old.state }
-        ensures tally { self.new.tally ≡ self.old.tally }
     {
         let words = lock.words();
         match self.state.latest {
@@ -207,7 +201,6 @@ impl Watcher {
         requires room { array_vec_len events.old + 1 ≤ EVENTS }
         ensures style { self.new.style ≡ self.old.style }
         ensures lasts { self.new.lasts ≡ self.old.lasts }
-        ensures tally { self.new.tally ≡ self.old.tally }
         ensures state { self.new.state ≡ up_to self.old.state to }
         ensures few { self.new.state.losses ≤ self.old.state.losses + 1 }
         ensures latest { self.new.state.latest ≡ self.old.state.latest }
@@ -232,7 +225,6 @@ impl Watcher {
         requires kept { IsKept self.old.state.latest self.old.lasts }
         requires room { array_vec_len events.old + 6 ≤ EVENTS }
         ensures style { self.new.style ≡ self.old.style }
-        ensures tally { self.new.tally ≡ self.old.tally }
         ensures kept { IsKept self.new.state.latest self.new.lasts }
         ensures state { self.new.state ≡ behind_whole (up_to self.old.state at) at
             (signals_of (payloads_of (read_words lock.now.words))) }
@@ -263,7 +255,6 @@ impl Watcher {
         requires kept { IsKept self.old.state.latest self.old.lasts }
         requires room { array_vec_len events.old + 6 ≤ EVENTS }
         ensures style { self.new.style ≡ self.old.style }
-        ensures tally { self.new.tally ≡ self.old.tally }
         ensures kept { IsKept self.new.state.latest self.new.lasts }
         ensures state { self.new.state ≡ next self.old.state (report_in lock.now ending) }
         ensures few { self.new.state.losses ≤ self.old.state.losses + 2 }
@@ -280,11 +271,10 @@ impl Watcher {
     }
 
     /// Goes on to the end of `seen` cells.
-    pub(crate) fn end(&mut self, events: &mut ArrayVec<Event, EVENTS>, seen: u64)
+    pub(crate) fn go_to_end(&mut self, events: &mut ArrayVec<Event, EVENTS>, seen: u64)
         requires few { self.old.state.losses + 1 < 2 ^ 64 }
         requires room { array_vec_len events.old + 2 ≤ EVENTS }
         ensures style { self.new.style ≡ self.old.style }
-        ensures tally { self.new.tally ≡ self.old.tally }
         ensures state { self.new.state ≡ up_to self.old.state seen }
         ensures events { events.new.items ≡ events.old.items ++ (loss_events self.old.state seen
             ++ End seen (is_locked (up_to self.old.state seen)) ∷ []) }
@@ -297,54 +287,54 @@ impl Watcher {
     }
 }
 
-impl CellReporter for Watcher {
-    ghost follows = { λ k.
-        Watches k.state k.lasts k.tally.blocks k.tally.faults k.tally.unfinished };
+impl Listener for Watcher {
+    ghost follows = { λ k. Watches k.state k.lasts };
 
     ghost writes = { λ k. watching k.style };
 
-    ghost finished = { λ k. Ended k.state.losses k.tally.blocks k.tally.faults k.tally.unfinished };
+    ghost finished = { λ k. Ended k.state.losses };
 
     #[inline(always)]
-    fn pass<T: Sink>(&mut self, sink: &mut T, seen: u64) -> Result<(), Fault> {
-        let mut events = ArrayVec::new();
-        self.go_on(&mut events, seen.saturating_sub(BLOCK_CELLS));
-        put_events(&self.style, &events, sink)
-    }
-
-    #[inline(always)]
-    fn take<T: Sink>(
+    fn hear<T: Sink>(
         &mut self,
         sink: &mut T,
         lock: &Lock,
-        ending: Ending,
-        seen: u64,
+        _blocks: u64,
+        ending: Option<Ending>,
     ) -> Result<(), Fault> {
         let mut events = ArrayVec::new();
-        self.take_report(&mut events, lock, ending);
-        self.tally.count(lock, ending);
-        self.go_on(&mut events, seen.saturating_sub(BLOCK_CELLS));
-        put_events(&self.style, &events, sink)
+        match ending {
+            Some(ending) => {
+                self.take_report(&mut events, lock, ending);
+                self.go_on(&mut events, lock.seen().saturating_sub(BLOCK_CELLS));
+                put_events(&self.style, &events, sink)
+            }
+            None => {
+                self.go_on(&mut events, lock.seen().saturating_sub(BLOCK_CELLS));
+                put_events(&self.style, &events, sink)
+            }
+        }
     }
 
-    fn close<T: Sink>(&mut self, sink: &mut T, seen: u64) -> Result<(), Fault> {
-        let mut events = ArrayVec::new();
-        self.end(&mut events, seen);
-        put_events(&self.style, &events, sink)
-    }
-
-    fn close_with<T: Sink>(
+    fn end<T: Sink>(
         &mut self,
         sink: &mut T,
         lock: &Lock,
-        ending: Ending,
-        seen: u64,
+        _blocks: u64,
+        ending: Option<Ending>,
     ) -> Result<(), Fault> {
         let mut events = ArrayVec::new();
-        self.take_report(&mut events, lock, ending);
-        self.tally.count(lock, ending);
-        self.end(&mut events, seen);
-        put_events(&self.style, &events, sink)
+        match ending {
+            Some(ending) => {
+                self.take_report(&mut events, lock, ending);
+                self.go_to_end(&mut events, lock.seen());
+                put_events(&self.style, &events, sink)
+            }
+            None => {
+                self.go_to_end(&mut events, lock.seen());
+                put_events(&self.style, &events, sink)
+            }
+        }
     }
 }
 
@@ -387,15 +377,9 @@ pub fn watch<S: Source, T: Sink>(
         (movement_of T.taken T.failed sink.old sink.new) result }
     ensures passed_on { IfOk result (λ _. T.passed sink.new ≡ T.taken sink.new) }
 {
-    let mut taker = Counted::new(Watcher::new(style));
-    let (bytes, cells) = drive(source, sink, max_bytes, input, &mut taker)?;
-    let told = &taker.reporter;
+    let (counts, watcher) = run_cells(source, sink, max_bytes, input, Watcher::new(style))?;
     Ok(Counts {
-        bytes,
-        cells,
-        blocks: told.tally.blocks,
-        faults: told.tally.faults + told.state.losses,
-        unfinished: told.tally.unfinished,
-        marks: 0,
+        faults: counts.faults + watcher.state.losses,
+        ..counts
     })
 }

@@ -50,6 +50,10 @@ use Rattle.aes3_arguments.specs.Explained.{AsksToExplain, IsExplanation}
 use Rattle.aes3_arguments.specs.StatusTexts.{status_in}
 use Rattle.aes3_job.specs.declared.job.Job.{Job}
 use Rattle.aes3_job.specs.declared.job.Job.TheVariants as job
+use Rattle.aes3_job.specs.declared.work.ReadWork.{ReadWork}
+use Rattle.aes3_job.specs.declared.work.ReadWork.TheVariants as read
+use Rattle.aes3_job.specs.declared.work.StreamWork.{StreamWork}
+use Rattle.aes3_job.specs.declared.work.StreamWork.TheVariants as stream
 use Rattle.aes3_arguments.specs.declared.layout.Octets.{Octets}
 use Rattle.aes3_arguments.specs.declared.misuse.Misuse.{Misuse}
 use Rattle.aes3_arguments.specs.declared.misuse.Misuse.TheVariants.{TwoForms, NoCellsPacked, TwoPeriods, NoRate}
@@ -386,61 +390,55 @@ pub record AreTaken (options : Options) : Type 0 where
 
 -- ---- jobs
 
--- the command of this name, with these options, asks for the job
+-- the command of this name, with these options, asks for such a stream of blocks
+abbrev pub AsksToStream : Text → Options → StreamWork → Type 0
+AsksToStream name options stream.Normal = name ≡ codes "normal"
+AsksToStream name options (stream.Cut first count) =
+    (name ≡ codes "cut") × IsNumber options (codes "FROM") first × IsNumber options (codes "COUNT") count
+AsksToStream name options (stream.Rewrite change exact) =
+    (name ≡ codes "rewrite") × IsChange OfEachBlock options change × (exact ≡ is_set options (codes "exact"))
+
+-- it asks for cells to be read so
+abbrev pub AsksToRead : Text → Options → ReadWork → Type 0
+AsksToRead name options (read.Decode form) = (name ≡ codes "decode") × (form ≡ words_by options)
+AsksToRead name options (read.Check told) =
+    (name ≡ codes "check") × (told ≡ lines_by options) × (is_set options (codes "gaps") ≡ false)
+AsksToRead name options (read.Account told) =
+    (name ≡ codes "check") × (told ≡ lines_by options) × (is_set options (codes "gaps") ≡ true)
+AsksToRead name options (read.Watch style) =
+    (name ≡ codes "watch") × (style ≡ style_by options) × (every_by options ≡ None)
+AsksToRead name options (read.WatchSums style every) =
+    (name ≡ codes "watch") × (style ≡ style_by options) × (every_by options ≡ Some every)
+AsksToRead name options (read.Info style) = (name ≡ codes "info") × (style ≡ notation_by options)
+AsksToRead name options (read.Show detail) =
+    (name ≡ codes "show") × (detail ≡ detail_by options) × (is_set options (codes "changes") ≡ false)
+AsksToRead name options (read.ShowChanges detail) =
+    (name ≡ codes "show") × (detail ≡ detail_by options) × (is_set options (codes "changes") ≡ true)
+AsksToRead name options read.Scan = name ≡ codes "scan"
+AsksToRead name options (read.ToPcm pcm valid) =
+    (name ≡ codes "to-pcm") × (pcm ≡ format_by options) × (valid ≡ is_set options (codes "valid"))
+    × (fill_by options ≡ None) × (is_set options (codes "exact") ≡ false)
+AsksToRead name options (read.ToExactPcm pcm) =
+    (name ≡ codes "to-pcm") × (pcm ≡ format_by options) × (fill_by options ≡ None)
+    × (is_set options (codes "exact") ≡ true)
+AsksToRead name options (read.ToFilledPcm pcm fill marked) =
+    (name ≡ codes "to-pcm") × (pcm ≡ format_by options) × (fill_by options ≡ Some fill)
+    × (marked ≡ is_set options (codes "marked"))
+AsksToRead name options (read.ToBits bits channel) =
+    (name ≡ codes "to-bits") × (bits_by options ≡ Some bits)
+    × IsNumber options (codes "CHANNEL") (number_of channel)
+
+-- it asks for the job
 abbrev pub AsksFor : Text → Options → Job → Type 0
 AsksFor name options (job.Encode output form) =
     (name ≡ codes "encode") × (output ≡ form_by options (codes "packed-out")) × (form ≡ words_by options)
-AsksFor name options (job.Decode input form) =
-    (name ≡ codes "decode") × (input ≡ input_by options) × (form ≡ words_by options)
-AsksFor name options (job.Normal input output) =
-    (name ≡ codes "normal") × (input ≡ input_by options)
-    × (output ≡ form_by options (codes "packed-out"))
-AsksFor name options (job.Check input told) =
-    (name ≡ codes "check") × (input ≡ input_by options)
-    × (told ≡ lines_by options) × (is_set options (codes "gaps") ≡ false)
-AsksFor name options (job.Account input told) =
-    (name ≡ codes "check") × (input ≡ input_by options)
-    × (told ≡ lines_by options) × (is_set options (codes "gaps") ≡ true)
-AsksFor name options (job.Watch input style) =
-    (name ≡ codes "watch") × (input ≡ input_by options) × (style ≡ style_by options) × (every_by options ≡ None)
-AsksFor name options (job.WatchSums input style every) =
-    (name ≡ codes "watch") × (input ≡ input_by options) × (style ≡ style_by options)
-    × (every_by options ≡ Some every)
-AsksFor name options (job.Info input style) =
-    (name ≡ codes "info") × (input ≡ input_by options) × (style ≡ notation_by options)
-AsksFor name options (job.Show input detail) =
-    (name ≡ codes "show") × (input ≡ input_by options) × (detail ≡ detail_by options)
-    × (is_set options (codes "changes") ≡ false)
-AsksFor name options (job.ShowChanges input detail) =
-    (name ≡ codes "show") × (input ≡ input_by options) × (detail ≡ detail_by options)
-    × (is_set options (codes "changes") ≡ true)
-AsksFor name options (job.Scan input) =
-    (name ≡ codes "scan") × (input ≡ input_by options)
-AsksFor name options (job.Cut input output first count) =
-    (name ≡ codes "cut") × (input ≡ input_by options)
-    × (output ≡ form_by options (codes "packed-out"))
-    × IsNumber options (codes "FROM") first × IsNumber options (codes "COUNT") count
-AsksFor name options (job.Rewrite input output change exact) =
-    (name ≡ codes "rewrite") × (input ≡ input_by options)
-    × (output ≡ form_by options (codes "packed-out")) × IsChange OfEachBlock options change
-    × (exact ≡ is_set options (codes "exact"))
-AsksFor name options (job.ToPcm input pcm valid) =
-    (name ≡ codes "to-pcm") × (input ≡ input_by options) × (pcm ≡ format_by options)
-    × (valid ≡ is_set options (codes "valid")) × (fill_by options ≡ None)
-    × (is_set options (codes "exact") ≡ false)
-AsksFor name options (job.ToExactPcm input pcm) =
-    (name ≡ codes "to-pcm") × (input ≡ input_by options) × (pcm ≡ format_by options)
-    × (fill_by options ≡ None) × (is_set options (codes "exact") ≡ true)
-AsksFor name options (job.ToFilledPcm input pcm fill marked) =
-    (name ≡ codes "to-pcm") × (input ≡ input_by options) × (pcm ≡ format_by options)
-    × (fill_by options ≡ Some fill) × (marked ≡ is_set options (codes "marked"))
+AsksFor name options (job.Stream input output work) =
+    (input ≡ input_by options) × (output ≡ form_by options (codes "packed-out")) × AsksToStream name options work
+AsksFor name options (job.Read input work) = (input ≡ input_by options) × AsksToRead name options work
 AsksFor name options (job.FromPcm pcm exact change form) =
     (name ≡ codes "from-pcm") × (pcm ≡ format_by options) × (exact ≡ is_set options (codes "exact"))
     × IsSampleChange options change × (form ≡ words_by options)
     × (exact ≡ true → takes_change change ≡ true)
-AsksFor name options (job.ToBits input bits channel) =
-    (name ≡ codes "to-bits") × (input ≡ input_by options)
-    × (bits_by options ≡ Some bits) × IsNumber options (codes "CHANNEL") (number_of channel)
 
 -- the definitions take the words, and the command that stands in them asks for the job
 abbrev pub IsLineOf : List Text → Job → Type 0

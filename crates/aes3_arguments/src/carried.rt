@@ -1,28 +1,25 @@
-//! The job of `to-bits`.
+//! What `to-bits` does.
 
 ghost use Rattle.std.specs.Prelude.{◌≡◌, Some, codes};
 ghost use Rattle.aes3_frame.specs.declared.status.Channel.{Channel};
 ghost use Rattle.aes3_status.specs.declared.carried.CarriedBits.{CarriedBits};
-ghost use Rattle.aes3_arguments.specs.Jobs.{AsksFor, IsNumber, bits_by, bits_in, input_by, number_of};
+ghost use Rattle.aes3_arguments.specs.Jobs.{AsksToRead, IsNumber, bits_by, bits_in, number_of};
 ghost use Rattle.aes3_arguments.specs.Jobs.{options_of};
 
 use crate::value::number;
-use aes3_cell::Form;
 use aes3_frame::Channel;
-use aes3_job::Job;
+use aes3_job::ReadWork;
 use aes3_status::CarriedBits;
 use clap::ArgMatches;
 
-/// The job of `to-bits` with its options.
-pub(crate) fn to_bits(options: &ArgMatches<'_>, input: Form) -> Job
+/// What `to-bits` does, with its options.
+pub(crate) fn to_bits(options: &ArgMatches<'_>) -> ReadWork
     requires bits { (bits : CarriedBits) × (bits_by (options_of options.now) ≡ Some bits) }
     requires channel { (channel : Channel)
         × IsNumber (options_of options.now) (codes "CHANNEL") (number_of channel) }
-    requires form { input ≡ input_by (options_of options.now) }
-    ensures { AsksFor (codes "to-bits") (options_of options.now) result }
+    ensures { AsksToRead (codes "to-bits") (options_of options.now) result }
 {
-    Job::ToBits {
-        input,
+    ReadWork::ToBits {
         bits: bits(options).unwrap(),
         channel: channel(options),
     }

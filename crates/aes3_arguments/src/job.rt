@@ -2,7 +2,8 @@
 
 ghost use Rattle.std.specs.Prelude.{◌≡◌, ℕ, List, None, codes, IfOk, IfErr, map};
 ghost use Rattle.clap.specs.Walk.{first_of};
-ghost use Rattle.aes3_arguments.specs.Jobs.{AreSettings, AsksFor, HasStatus, IsBadOptionOf, IsBadStatus};
+ghost use Rattle.aes3_arguments.specs.Jobs.{AreSettings, AsksFor, AsksToRead, AsksToStream, HasStatus};
+ghost use Rattle.aes3_arguments.specs.Jobs.{IsBadOptionOf, IsBadStatus};
 ghost use Rattle.aes3_arguments.specs.Jobs.{AreTaken, IsChange, IsChangeFaultOf, misuse_by};
 ghost use Rattle.aes3_arguments.specs.Jobs.{IsSettingsFaultOf, IsStatus, MayBeFlag, StandsIn};
 ghost use Rattle.aes3_arguments.specs.Jobs.{TellsSettings, form_by, input_by, is_set, lines_by, options_of};
@@ -25,7 +26,7 @@ use crate::watch::watch;
 use crate::words::words;
 use aes3_cell::{Form, RunError};
 use aes3_commands::help;
-use aes3_job::Job;
+use aes3_job::{Job, ReadWork, StreamWork};
 use aes3_settings::{Lines, SettingsFault, settings_of_texts};
 use aes3_status::{Change, Settings, takes_all};
 use clap::ArgMatches;
@@ -68,29 +69,57 @@ pub(crate) fn job_of_command(
             output,
             words: words(options),
         }),
-        "decode" => Ok(Job::Decode {
+        "decode" => Ok(Job::Read {
             input,
-            words: words(options),
+            work: ReadWork::Decode {
+                words: words(options),
+            },
         }),
-        "normal" => Ok(Job::Normal { input, output }),
-        "check" => Ok(check(options, input)),
-        "watch" => Ok(watch(options, input)),
-        "info" => Ok(Job::Info {
-            input,
-            notation: notation(options),
-        }),
-        "show" => Ok(show(options, input)),
-        "scan" => Ok(Job::Scan { input }),
-        "to-pcm" => Ok(to_pcm(options, input)),
-        "from-pcm" => from_pcm(alloc, options),
-        "cut" => Ok(Job::Cut {
+        "normal" => Ok(Job::Stream {
             input,
             output,
-            from: number(options, "FROM"),
-            count: number(options, "COUNT"),
+            work: StreamWork::Normal,
+        }),
+        "check" => Ok(Job::Read {
+            input,
+            work: check(options),
+        }),
+        "watch" => Ok(Job::Read {
+            input,
+            work: watch(options),
+        }),
+        "info" => Ok(Job::Read {
+            input,
+            work: ReadWork::Info {
+                notation: notation(options),
+            },
+        }),
+        "show" => Ok(Job::Read {
+            input,
+            work: show(options),
+        }),
+        "scan" => Ok(Job::Read {
+            input,
+            work: ReadWork::Scan,
+        }),
+        "to-pcm" => Ok(Job::Read {
+            input,
+            work: to_pcm(options),
+        }),
+        "from-pcm" => from_pcm(alloc, options),
+        "cut" => Ok(Job::Stream {
+            input,
+            output,
+            work: StreamWork::Cut {
+                from: number(options, "FROM"),
+                count: number(options, "COUNT"),
+            },
         }),
         "rewrite" => rewrite(alloc, options, input, output),
-        "to-bits" => Ok(to_bits(options, input)),
+        "to-bits" => Ok(Job::Read {
+            input,
+            work: to_bits(options),
+        }),
         _ => unreachable!(),
     }
 }
@@ -131,18 +160,17 @@ fn lines(options: &ArgMatches<'_>) -> Lines
     }
 }
 
-/// The job of `check` with its options.
-fn check(options: &ArgMatches<'_>, input: Form) -> Job
+/// What `check` does, with its options.
+fn check(options: &ArgMatches<'_>) -> ReadWork
     requires faults { MayBeFlag (options_of options.now) (codes "faults") }
     requires gaps { MayBeFlag (options_of options.now) (codes "gaps") }
-    requires form { input ≡ input_by (options_of options.now) }
-    ensures { AsksFor (codes "check") (options_of options.now) result }
+    ensures { AsksToRead (codes "check") (options_of options.now) result }
 {
     let lines = lines(options);
     if options.get_flag("gaps") {
-        Job::Account { input, lines }
+        ReadWork::Account { lines }
     } else {
-        Job::Check { input, lines }
+        ReadWork::Check { lines }
     }
 }
 
@@ -214,11 +242,10 @@ fn rewrite(
 {
     let exact = flag(options, "exact");
     match change(alloc, options, Beginning::OfEachBlock, help::REWRITE.usage) {
-        Ok(change) => Ok(Job::Rewrite {
+        Ok(change) => Ok(Job::Stream {
             input,
             output,
-            change,
-            exact,
+            work: StreamWork::Rewrite { change, exact },
         }),
         Err(fault) => Err(fault),
     }

@@ -2,7 +2,7 @@
 //! none.
 #![tactic(auto)]
 
-/// The job of `to-bits`.
+/// What `to-bits` does.
 mod carried;
 /// What refusals mean, the texts of `--explain`.
 mod explain;
@@ -24,9 +24,9 @@ mod misuse;
 mod preset;
 /// What is told of settings that are none.
 mod refusals;
-/// The job of `to-pcm`.
+/// What `to-pcm` does.
 mod samples;
-/// The job of `show`.
+/// What `show` does.
 mod show;
 /// Channel status in hexadecimal.
 mod status_text;
@@ -36,12 +36,13 @@ mod style;
 mod typed;
 /// The values that the options of a command have.
 mod value;
-/// The job of `watch`.
+/// What `watch` does.
 mod watch;
 /// The form of a block file's words.
 mod words;
 
 pub use explain::{advice, asks_to_explain, explanation};
+pub use file::file_of_line;
 pub use job::LineFault;
 pub use layout::Octets;
 pub use line::{CommandLine, job_of_words, line_of_words};

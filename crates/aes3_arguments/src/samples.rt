@@ -1,35 +1,30 @@
-//! The job of `to-pcm`.
+//! What `to-pcm` does.
 
 ghost use Rattle.std.specs.Prelude.{◌≡◌, codes};
-ghost use Rattle.aes3_arguments.specs.Jobs.{AreTaken, AsksFor, fill_by, fill_in, has_unknown_filling};
-ghost use Rattle.aes3_arguments.specs.Jobs.{input_by, options_of};
+ghost use Rattle.aes3_arguments.specs.Jobs.{AreTaken, AsksToRead, fill_by, fill_in, has_unknown_filling};
+ghost use Rattle.aes3_arguments.specs.Jobs.{options_of};
 
 use crate::format::format;
 use crate::value::flag;
-use aes3_cell::Form;
 use aes3_frame::Fill;
-use aes3_job::Job;
+use aes3_job::ReadWork;
 use clap::ArgMatches;
 
-/// The job of `to-pcm` with its options.
-pub(crate) fn to_pcm(options: &ArgMatches<'_>, input: Form) -> Job
-    requires taken { AreTaken (options_of options.now) }
-    requires form { input ≡ input_by (options_of options.now) }
-    ensures { AsksFor (codes "to-pcm") (options_of options.now) result }
+/// What `to-pcm` does, with its options.
+pub(crate) fn to_pcm(options: &ArgMatches<'_>) -> ReadWork
+    requires { AreTaken (options_of options.now) }
+    ensures { AsksToRead (codes "to-pcm") (options_of options.now) result }
 {
     match fill(options) {
-        Some(fill) => Job::ToFilledPcm {
-            input,
+        Some(fill) => ReadWork::ToFilledPcm {
             format: format(options),
             fill,
             marked: flag(options, "marked"),
         },
-        None if flag(options, "exact") => Job::ToExactPcm {
-            input,
+        None if flag(options, "exact") => ReadWork::ToExactPcm {
             format: format(options),
         },
-        None => Job::ToPcm {
-            input,
+        None => ReadWork::ToPcm {
             format: format(options),
             valid: flag(options, "valid"),
         },

@@ -1,25 +1,23 @@
-//! The job of `show`.
+//! What `show` does.
 
 ghost use Rattle.std.specs.Prelude.{◌≡◌, codes};
-ghost use Rattle.aes3_arguments.specs.Jobs.{AreTaken, AsksFor, detail_by, input_by, options_of};
+ghost use Rattle.aes3_arguments.specs.Jobs.{AreTaken, AsksToRead, detail_by, options_of};
 
 use crate::value::flag;
-use aes3_cell::Form;
-use aes3_job::Job;
+use aes3_job::ReadWork;
 use aes3_settings::Detail;
 use clap::ArgMatches;
 
-/// The job of `show` with its options.
-pub(crate) fn show(options: &ArgMatches<'_>, input: Form) -> Job
-    requires taken { AreTaken (options_of options.now) }
-    requires form { input ≡ input_by (options_of options.now) }
-    ensures { AsksFor (codes "show") (options_of options.now) result }
+/// What `show` does, with its options.
+pub(crate) fn show(options: &ArgMatches<'_>) -> ReadWork
+    requires { AreTaken (options_of options.now) }
+    ensures { AsksToRead (codes "show") (options_of options.now) result }
 {
     let detail = detail(options);
     if flag(options, "changes") {
-        Job::ShowChanges { input, detail }
+        ReadWork::ShowChanges { detail }
     } else {
-        Job::Show { input, detail }
+        ReadWork::Show { detail }
     }
 }
 

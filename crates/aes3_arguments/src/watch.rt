@@ -1,31 +1,25 @@
-//! The job of `watch`.
+//! What `watch` does.
 
 ghost use Rattle.std.specs.Prelude.{◌≡◌, codes};
-ghost use Rattle.aes3_arguments.specs.Jobs.{AreTaken, AsksFor, every_by, input_by, options_of};
+ghost use Rattle.aes3_arguments.specs.Jobs.{AreTaken, AsksToRead, every_by, options_of};
 
 use crate::style::{rate, style};
 use crate::value::number_if_given;
-use aes3_cell::Form;
-use aes3_job::Job;
+use aes3_job::ReadWork;
 use clap::ArgMatches;
 
 /// How many cells a frame has.
 const FRAME_CELLS: u64 = 128;
 
-/// The job of `watch` with its options.
-pub(crate) fn watch(options: &ArgMatches<'_>, input: Form) -> Job
-    requires taken { AreTaken (options_of options.now) }
-    requires form { input ≡ input_by (options_of options.now) }
-    ensures { AsksFor (codes "watch") (options_of options.now) result }
+/// What `watch` does, with its options.
+pub(crate) fn watch(options: &ArgMatches<'_>) -> ReadWork
+    requires { AreTaken (options_of options.now) }
+    ensures { AsksToRead (codes "watch") (options_of options.now) result }
 {
     let style = style(options);
     match every(options) {
-        Some(every) => Job::WatchSums {
-            input,
-            style,
-            every,
-        },
-        None => Job::Watch { input, style },
+        Some(every) => ReadWork::WatchSums { style, every },
+        None => ReadWork::Watch { style },
     }
 }
 

@@ -3,5 +3,6 @@ pub mod States
 pub mod Professional
 pub mod Consumer
 pub mod Octets
+pub mod Taking
 pub mod Room
 pub mod Accounts

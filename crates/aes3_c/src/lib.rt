@@ -33,6 +33,8 @@ mod room;
 mod samples;
 /// Channel status: its use and its check byte.
 mod status;
+/// Cells of words as a lock takes them, with their number.
+mod taking;
 /// Channel status as text.
 mod text;
 /// The version of the library.

@@ -1,19 +1,21 @@
 //! The lock, kept by its caller.
 
 ghost use Rattle.std.specs.Prelude.{◌≡◌, ◌≢◌, ◌+◌, ◌<◌, ◌≤◌, ◌^◌, None, List, [], ◌++◌, length, take};
-ghost use Rattle.std.specs.Prelude.{◌*◌, ◌-◌, ◌/◌, get_or, map, min, option_map, option_to_list};
+ghost use Rattle.std.specs.Prelude.{◌*◌, ◌-◌, ◌/◌, drop, get_or, map, min, option_map, option_to_list};
 ghost use Rattle.std.specs.List.{flat_map};
 ghost use Rattle.aes3_level.specs.declared.level.Level.{Level};
 ghost use Rattle.aes3_level.specs.Words.{low_cells, word_cells};
 ghost use Rattle.aes3_lock.specs.Reports.{decided, reports};
 ghost use Rattle.aes3_lock.specs.Following.{Follows, report_in};
+ghost use Rattle.aes3_c.specs.Taking.{TookFirst};
 ghost use Rattle.aes3_frame.specs.Files.{payload_of, word_of};
 ghost use Rattle.aes3_c.specs.States.{Coded, HasBlock, StopsAt, block_in, candidate_in, state_of};
 ghost use Rattle.aes3_c.specs.States.{told_in};
 
 use crate::level::{byte_of_level, level_of_byte};
 use crate::report::{Aes3Report, put_block, put_ending, put_report};
-use aes3_lock::{Candidate, Ending, Lock, LockParts, Pushed};
+use crate::taking::{Took, take_first};
+use aes3_lock::{Candidate, Ending, Lock, LockParts};
 
 /// A lock as plain numbers. Its fields are nobody's but the functions' here.
 #[repr(C)]
@@ -110,28 +112,19 @@ fn most_of(seen: u64, count: u32) -> u32
     u64::from(count.min(64)).min(MOST - seen) as u32
 }
 
-/// `Lock::push_front` of a lock that is kept.
+/// `Lock::take` of a lock that is kept.
 // A call of its own, so that the lock is off the stack where a block is put. So is `end_of`.
 #[inline(never)]
-fn push_front(lock: &mut Aes3Lock, word: u64, len: u32) -> Pushed
+pub(crate) fn take_cells(lock: &mut Aes3Lock, words: &[u64], first: usize, len: usize) -> Took
+    requires within { first + len ≤ 64 * length words.now }
     requires room { lock.old.seen + len ≤ 2 ^ 43 }
-    requires len { len ≤ 64 }
-    ensures within { result.taken ≤ len }
-    ensures all { result.ending ≡ None → result.taken ≡ len }
-    ensures seen { lock.new.seen ≡ lock.old.seen + result.taken }
-    ensures follows { (cells : List Level) → Follows (state_of lock.old) cells
-        → Follows (state_of lock.new) (cells ++ low_cells result.taken word) }
-    ensures report { (cells : List Level) → Follows (state_of lock.old) cells
-        → decided (cells ++ low_cells result.taken word) ≡ decided cells
-        ++ option_to_list (option_map (report_in (state_of lock.new)) result.ending) }
-    ensures last { result.ending ≢ None → (cells : List Level)
-        → Follows (state_of lock.old) cells
-        → decided (cells ++ low_cells (result.taken - 1) word) ≡ decided cells }
+    ensures { TookFirst (state_of lock.old) (state_of lock.new)
+        (drop first (flat_map word_cells words.now)) len result }
 {
     let mut state = lock_of(lock);
-    let pushed = state.push_front(word, len);
+    let taken = take_first(&mut state, words, first, len);
     keep(&state, lock);
-    pushed
+    taken
 }
 
 /// Takes the first cells of a word, the earliest in bit 0, up to the first that decides a report
@@ -165,9 +158,9 @@ pub extern "C" fn aes3_lock_push(
         put_ending(None, report);
         return 0;
     }
-    let pushed = push_front(lock, word, most);
-    put_report(&lock.words, pushed.ending, report);
-    pushed.taken
+    let taken = take_cells(lock, &[word], 0, most as usize);
+    put_report(&lock.words, taken.ending, report);
+    taken.cells as u32
 }
 
 /// How many words of 64 cells a lock that has seen so many takes at most.

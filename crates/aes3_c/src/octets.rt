@@ -1,18 +1,19 @@
 //! Cells in octets, many at once.
 
 ghost use Rattle.std.specs.Prelude.{◌≡◌, ◌≢◌, ◌+◌, ◌-◌, ◌*◌, ◌%◌, ◌<◌, ◌≤◌, ◌^◌, ◌++◌, ℕ, None};
-ghost use Rattle.std.specs.Prelude.{List, length, min, option_map, option_to_list, take};
+ghost use Rattle.std.specs.Prelude.{List, drop, length, min, option_to_list};
 ghost use Rattle.aes3_level.specs.declared.level.Level.{Level};
 ghost use Rattle.aes3_cell.specs.Packed.{cells_of_octets};
 ghost use Rattle.aes3_level.specs.Words.{low_cells};
 ghost use Rattle.aes3_lock.specs.Reports.{decided};
-ghost use Rattle.aes3_lock.specs.Following.{Follows, report_in};
+ghost use Rattle.aes3_lock.specs.Following.{Follows};
+ghost use Rattle.aes3_c.specs.Taking.{TookFirst};
 ghost use Rattle.aes3_c.specs.Octets.{cells_from};
 ghost use Rattle.aes3_c.specs.States.{Coded, block_in, state_of, told_of};
 
 use crate::lock::{Aes3Lock, MOST, keep, lock_of};
 use crate::report::{Aes3Report, put_ending};
-use crate::words::{Taken, take_whole};
+use crate::taking::{Took, take_first};
 use aes3_cell::{word_of_octets, words_of_octets};
 use aes3_lock::Lock;
 
@@ -47,45 +48,29 @@ fn word_from(octets: &[u8], at: usize) -> u64
 
 /// Takes the cells of octets by whole words, or as far as the first that decides a report, and that
 /// one too.
-fn take_words_of(state: &mut Lock, octets: &[u8]) -> Taken
-    requires some { 0 < length octets.now }
+fn take_words_of(state: &mut Lock, octets: &[u8]) -> Took
     requires whole { length octets.now % 8 ≡ 0 }
     requires few { length octets.now ≤ 8 * WORDS }
     requires room { state.old.seen + 8 * length octets.now ≤ 2 ^ 43 }
-    ensures some { 0 < result.cells }
-    ensures within { result.cells ≤ 8 * length octets.now }
-    ensures seen { state.new.seen ≡ state.old.seen + result.cells }
-    ensures follows { (cells : List Level) → Follows state.old cells
-        → Follows state.new (cells ++ take result.cells (cells_of_octets octets.now)) }
-    ensures report { (cells : List Level) → Follows state.old cells
-        → decided (cells ++ take result.cells (cells_of_octets octets.now)) ≡ decided cells
-        ++ option_to_list (option_map (report_in state.new) result.ending) }
-    ensures last { result.ending ≢ None → (cells : List Level) → Follows state.old cells
-        → decided (cells ++ take (result.cells - 1) (cells_of_octets octets.now))
-        ≡ decided cells }
+    ensures { TookFirst state.old state.new (cells_of_octets octets.now)
+        (8 * length octets.now) result }
 {
     let mut memory = [0; WORDS];
     let words = &mut memory[..octets.len() / 8];
     words_of_octets(octets, words);
-    take_whole(state, words)
+    take_first(state, words, 0, 8 * octets.len())
 }
 
 /// Takes some of `len` cells of octets from cell `at` on, up to the first that decides a report and
 /// with it.
-fn take_some(state: &mut Lock, octets: &[u8], at: usize, len: usize) -> Taken
+fn take_some(state: &mut Lock, octets: &[u8], at: usize, len: usize) -> Took
     requires some { 0 < len }
     requires within { at + len ≤ 8 * length octets.now }
     requires room { state.old.seen + len ≤ 2 ^ 43 }
     ensures some { 0 < result.cells }
     ensures within { result.cells ≤ len }
-    ensures seen { state.new.seen ≡ state.old.seen + result.cells }
-    ensures follows { (cells : List Level) → Follows state.old cells
-        → Follows state.new (cells ++ cells_from octets.now at result.cells) }
-    ensures report { (cells : List Level) → Follows state.old cells
-        → decided (cells ++ cells_from octets.now at result.cells) ≡ decided cells
-        ++ option_to_list (option_map (report_in state.new) result.ending) }
-    ensures last { result.ending ≢ None → (cells : List Level) → Follows state.old cells
-        → decided (cells ++ cells_from octets.now at (result.cells - 1)) ≡ decided cells }
+    ensures took { TookFirst state.old state.new (drop at (cells_of_octets octets.now))
+        result.cells result }
 {
     if at % 8 == 0 && len >= 64 {
         let begun = at / 8;
@@ -93,42 +78,29 @@ fn take_some(state: &mut Lock, octets: &[u8], at: usize, len: usize) -> Taken
         return take_words_of(state, &octets[begun..begun + 8 * count]);
     }
     let most = len.min(64 - at % 8);
-    let pushed = state.push_front(word_from(octets, at), most as u32);
-    Taken {
-        cells: pushed.taken as usize,
-        ending: pushed.ending,
-    }
+    take_first(state, &[word_from(octets, at)], 0, most)
 }
 
 /// Takes `len` cells of octets from cell `first` on, or as far as the first that decides a report,
 /// and that one too.
-fn take_cells(state: &mut Lock, octets: &[u8], first: usize, len: usize) -> Taken
+fn take_cells(state: &mut Lock, octets: &[u8], first: usize, len: usize) -> Took
     requires within { first + len ≤ 8 * length octets.now }
     requires fits { first + len < 2 ^ 64 }
     requires room { state.old.seen + len ≤ 2 ^ 43 }
-    ensures within { result.cells ≤ len }
-    ensures all { result.ending ≡ None → result.cells ≡ len }
-    ensures seen { state.new.seen ≡ state.old.seen + result.cells }
-    ensures follows { (cells : List Level) → Follows state.old cells
-        → Follows state.new (cells ++ cells_from octets.now first result.cells) }
-    ensures report { (cells : List Level) → Follows state.old cells
-        → decided (cells ++ cells_from octets.now first result.cells) ≡ decided cells
-        ++ option_to_list (option_map (report_in state.new) result.ending) }
-    ensures last { result.ending ≢ None → (cells : List Level) → Follows state.old cells
-        → decided (cells ++ cells_from octets.now first (result.cells - 1)) ≡ decided cells }
+    ensures { TookFirst state.old state.new (drop first (cells_of_octets octets.now)) len result }
 {
     let mut taken = 0;
     while taken < len {
         let more = take_some(state, octets, first + taken, len - taken);
         taken += more.cells;
         if more.ending.is_some() {
-            return Taken {
+            return Took {
                 cells: taken,
                 ending: more.ending,
             };
         }
     }
-    Taken {
+    Took {
         cells: taken,
         ending: None,
     }

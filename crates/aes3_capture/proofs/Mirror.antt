@@ -1,12 +1,12 @@
 -- A line followed in the other direction, from an edge back to the first.
-use Rattle.std.specs.Prelude.{min, if◌then◌else◌, nat_eq, ◌%◌, Bool}
-use Rattle.std.proofs.Common.{zero, suc, List, [], ◌∷◌, length, get_or, refl, ap, ◌∙◌, sym, true, false, cond, add-one}
+use Rattle.std.specs.Prelude.{min}
+use Rattle.std.proofs.Common.{zero, suc, List, [], ◌∷◌, length, get_or, refl, ap}
 use Rattle.std.proofs.Common.{ℕ, ◌≡◌, ◌<◌, ◌≤◌, ◌+◌, ◌-◌, ◌*◌, ◌/◌, arith}
 use Rattle.aes3_capture.specs.declared.bounds.Bounds.{Bounds}
 use Rattle.aes3_capture.specs.declared.follower.Follower.{Follower}
-use Rattle.aes3_capture.specs.Captures.{AreDisplaced, IsBetween, IsCloser, SpreadsLate, lateness, IsPlaced, IsRun, margin, mean_with, wander}
+use Rattle.aes3_capture.specs.Captures.{AreDisplaced, IsBetween, SpreadsLate, lateness, IsPlaced, IsRun, margin, mean_with, wander}
 use Rattle.aes3_capture.specs.Directions.{IsAt, IsBehind, IsBorne, IsWider}
-use Rattle.aes3_capture.specs.Following.{Begins, Counts, Follows, IsWithin, middle_of}
+use Rattle.aes3_capture.specs.Following.{Begins, Counts, Follows, middle_of}
 
 -- A follower that is turned follows the line in the other direction: what was displaced by so much less than `most` is
 -- displaced by so much more.

@@ -1,8 +1,7 @@
 -- How far edges of a line lie apart.
-use Rattle.std.proofs.Common.{ℕ, zero, suc, List, [], ◌∷◌, ◌≡◌, ◌<◌, ◌≤◌, ◌+◌, ◌-◌, ◌*◌, length, get_or, refl, ap, ◌∙◌, sym, arith}
+use Rattle.std.proofs.Common.{ℕ, zero, suc, List, [], ◌∷◌, ◌≡◌, ◌<◌, ◌≤◌, ◌+◌, ◌*◌, length, get_or, arith}
 use Rattle.aes3_capture.specs.declared.bounds.Bounds.{Bounds}
-use Rattle.aes3_capture.specs.Captures.{AreDisplaced, IsBetween, IsPlaced, lateness, sum_to}
-use Rattle.aes3_capture.proofs.Mirror.{lateness-again}
+use Rattle.aes3_capture.specs.Captures.{AreDisplaced, sum_to}
 
 -- one more of a sum
 pub sum-next : (xs : List ℕ) (i : ℕ) → i < length xs → sum_to xs (i + 1) ≡ sum_to xs i + get_or xs i 0

@@ -13,7 +13,7 @@ use crate::written::{LINES_LEN, MANY, fill_lines, octets_of_words};
 use std::alloc::{AllocError, Global};
 
 /// How many bytes are held at most.
-const BUFFER_LEN: usize = 131_072;
+const BUFFER_LEN: usize = 65_536;
 
 /// Holds the bytes that it takes until there is no room for more or it is flushed, and hands them
 /// to the sink behind it.
@@ -26,7 +26,7 @@ pub struct BufferedSink<T: Drop> {
     end: usize,
     ghost ordered: { start ≤ end },
     ghost within: { end ≤ length bytes.items },
-    ghost size: { length bytes.items ≡ 131072 },
+    ghost size: { length bytes.items ≡ 65536 },
 }
 
 impl<T: Sink + Drop> BufferedSink<T> {

@@ -1,7 +1,6 @@
 -- Runs that write samples up to the first block that would lose some of them.
 use Rattle.std.proofs.Common.{◌≡◌, ◌≢◌, ℕ, List, [], ◌∷◌, ◌++◌, Bool, true, false, Option, Some, None, Result, Ok, Err}
 use Rattle.std.proofs.Common.{IfOk, map, refl, sym, ap, ◌∙◌, subst, append-nil, append_assoc, if◌then◌else◌}
-use Rattle.aes3_level.specs.declared.level.Level.{Level}
 use Rattle.aes3_cell.specs.declared.form.Form.{Form}
 use Rattle.aes3_cell.specs.declared.refusal.RunError.{RunError}
 use Rattle.aes3_cell.specs.declared.counts.Counts.{Counts}
@@ -11,11 +10,10 @@ use Rattle.aes3_frame.specs.Samples.{block_samples, samples}
 use Rattle.aes3_lock.specs.declared.report.Report.{Report}
 use Rattle.aes3_lock.specs.declared.report.Report.TheVariants.{Whole, Marked, Fault, Unfinished}
 use Rattle.aes3_lock.specs.Reports.{blocks, decided, reports, wholes}
-use Rattle.aes3_lock.specs.Tallies.{Tallies}
 use Rattle.aes3_input.specs.Running.{InputRun, Movement}
 use Rattle.aes3_input.specs.Taking.{before_end, with_end}
 use Rattle.aes3_input.specs.Inputs.{cells_of}
-use Rattle.aes3_input.specs.Driving.{CellRun, Drive}
+use Rattle.aes3_input.specs.Driving.{CellRun}
 use Rattle.aes3_input.proofs.CellRuns.{cells-give}
 use Rattle.aes3_input.proofs.InputRuns.{run-err, run-ok, run-told}
 use Rattle.aes3_input.proofs.Items.{before-is}
@@ -24,11 +22,9 @@ use Rattle.aes3_pcm.specs.declared.format.SampleFormat.TheVariants.{S32, S24, S2
 use Rattle.aes3_pcm.specs.Formats.{fits, narrowed}
 use Rattle.aes3_pcm.proofs.Formats.{narrowed-join, narrowed-none}
 use Rattle.aes3_runs.specs.BlockRuns.{decided_blocks}
-use Rattle.aes3_runs.specs.Reporting.{reporting}
-use Rattle.aes3_runs.specs.ReportRuns.{counts_of}
-use Rattle.aes3_runs.proofs.Reports.{before-reports, with-reports}
-use Rattle.aes3_runs.proofs.ReportRuns.{counted}
+use Rattle.aes3_runs.specs.ReportRuns.{counts_of, told_reports}
 use Rattle.aes3_engine.specs.declared.exact_samples.Exact.{Exact}
+use Rattle.aes3_engine.specs.declared.exact_samples.ExactBlocks.{ExactBlocks}
 use Rattle.aes3_engine.specs.Filling.{Placed, placed}
 use Rattle.aes3_engine.specs.ExactSamples.{block_fits, exact_cells, exact_samples, exact_writing, first_unfit, fitting}
 use Rattle.aes3_engine.specs.ExactSamples.{refused_behind, unless_refused}
@@ -95,11 +91,6 @@ pub adds-is : (k : Option ℕ) (r : List Report) (x : Report) → k ≡ first_un
 unfolding exact_writing
 adds-is k r x e = ap (λ (v : Option ℕ). unless_refused v (exact_samples S16 (placed (x ∷ [])))) e
 
--- a reporter of no report
-pub none-refused-yet : {k : Option ℕ} → k ≡ None → k ≡ first_unfit S16 (placed (decided []))
-unfolding decided
-none-refused-yet e = e
-
 -- one block
 pub block-fits : (at : ℕ) (b : List (List Bool)) → block_fits S16 b ≡ true
     → narrowed S16 (block_samples b) ≡ exact_samples S16 (record { place = at; block = b } ∷ [])
@@ -155,32 +146,24 @@ none-refused f h (x ∷ xs) =
     ∙ none-refused f h xs
 
 -- the run in 16 bits
-pub exact-ok : {max : ℕ} (form : Form) {g : List Level → Type 0} {blocks faults unfinished : ℕ} {refused : Option ℕ}
-    {ended : Bool} {source sink : Movement} {bytes cells : ℕ}
-    → Drive max form (reporting (exact_writing S16)) g
-    (λ c. Tallies blocks faults unfinished (reports c) × (refused ≡ first_unfit S16 (placed (reports c)))) ended source
-    sink (Ok (bytes, cells))
-    → InputRun (exact_cells form S16) max ended source sink (Ok (record {
-      counts
-          = record { bytes = bytes; cells = cells; blocks = blocks; faults = faults; unfinished = unfinished; marks = 0 };
-      refused = refused;
-    }))
-exact-ok form {blocks = k} {faults = u} {unfinished = v} {bytes = n} {cells = m} r =
+abbrev ExactRun : ℕ → Form → Bool → Movement → Movement → Result (Counts × ExactBlocks) RunError → Type 0
+ExactRun max form = InputRun (told_reports form (exact_writing S16)
+    (λ (k : ExactBlocks) r. k.refused ≡ first_unfit S16 (placed r))) max
+
+pub exact-ok : {max : ℕ} (form : Form) {n : Counts} {k : ExactBlocks} {ended : Bool} {source sink : Movement}
+    → ExactRun max form ended source sink (Ok (n, k))
+    → InputRun (exact_cells form S16) max ended source sink (Ok (record { counts = n; refused = k.refused }))
+exact-ok form r =
     run-ok
     (cells-give form (λ c. exact_samples S16 (placed (reports c))) (λ c. exact_samples S16 (placed (decided c)))
-    (λ c. with-reports (exact_writing S16) c ∙ with-exact S16 (reports c))
-    (λ c. before-reports (exact_writing S16) c ∙ before-exact S16 (decided c)))
-    (λ b i h. (counted form b n m k u v h.1 h.2 h.0.0, h.0.1)) r.run
+    (λ c. with-exact S16 (reports c)) (λ c. before-exact S16 (decided c))) (λ b i h. h) r
 
-pub exact-err : {max : ℕ} (form : Form) {g z : List Level → Type 0} {ended : Bool} {source sink : Movement}
-    {x : RunError}
-    → Drive max form (reporting (exact_writing S16)) g z ended source sink (Err x)
-    → InputRun (exact_cells form S16) max ended source sink (Err x)
+pub exact-err : {max : ℕ} (form : Form) {ended : Bool} {source sink : Movement} {x : RunError}
+    → ExactRun max form ended source sink (Err x) → InputRun (exact_cells form S16) max ended source sink (Err x)
 exact-err form r =
     run-err
     (cells-give form (λ c. exact_samples S16 (placed (reports c))) (λ c. exact_samples S16 (placed (decided c)))
-    (λ c. with-reports (exact_writing S16) c ∙ with-exact S16 (reports c))
-    (λ c. before-reports (exact_writing S16) c ∙ before-exact S16 (decided c))) r.run
+    (λ c. with-exact S16 (reports c)) (λ c. before-exact S16 (decided c))) r
 
 -- the run in another form
 module _ (form : Form) (f : SampleFormat) (wide : f ≢ S16) where

@@ -1,10 +1,7 @@
 -- A taker that gives marked blocks too, step by step.
-use Rattle.std.proofs.Common.{◌≡◌, ℕ, ◌+◌, ◌≤◌, List, [], ◌∷◌, ◌++◌, Bool, true, Option, Some, length, take, drop}
-use Rattle.std.proofs.Common.{refl, sym, ap, ◌∙◌, subst, arith, append-nil, Result, Ok, Err, IfOk, OnErr}
-use Rattle.std.specs.List.{flat_map}
+use Rattle.std.proofs.Common.{◌≡◌, ◌+◌, ◌≤◌, List, [], ◌∷◌, ◌++◌, Bool, true, Option, Some, length}
+use Rattle.std.proofs.Common.{refl, sym, ap, ◌∙◌, arith, append-nil}
 use Rattle.aes3_level.specs.declared.level.Level.{Level}
-use Rattle.aes3_level.specs.Words.{word_cells}
-use Rattle.aes3_cell.proofs.Growing.{grew-none, grew-is}
 use Rattle.aes3_frame.specs.declared.fill.Fill.{Fill}
 use Rattle.aes3_frame.specs.Blocks.{zero_block}
 use Rattle.aes3_lock.specs.declared.report.Ending.{Ending}
@@ -12,12 +9,9 @@ use Rattle.aes3_lock.specs.declared.report.Ending.TheVariants.{Whole, Marked, Fa
 use Rattle.aes3_lock.specs.declared.report.Report.{Report}
 use Rattle.aes3_lock.specs.declared.report.Report.TheVariants.{Whole as Stood, Marked as Marred}
 use Rattle.aes3_lock.specs.declared.report.Report.TheVariants.{Fault as Refuted, Unfinished as Cut}
-use Rattle.aes3_lock.specs.declared.tally.Tally.{Tally}
-use Rattle.aes3_lock.specs.Following.{LockState, Follows, HeldBlock, report_in}
+use Rattle.aes3_lock.specs.Following.{LockState, HeldBlock, report_in}
 use Rattle.aes3_lock.specs.Reports.{decided, reports}
-use Rattle.aes3_lock.specs.Tallies.{IsTallyOf}
-use Rattle.aes3_input.specs.Taking.{Writing, behind}
-use Rattle.aes3_input.proofs.Handing.{Handed, handed-cells, words-further}
+use Rattle.aes3_input.specs.Taking.{behind}
 use Rattle.aes3_pcm.specs.declared.format.SampleFormat.{SampleFormat}
 use Rattle.aes3_pcm.specs.Formats.{narrowed}
 use Rattle.aes3_pcm.proofs.Formats.{narrowed-none}
@@ -48,44 +42,36 @@ few-marked (Marred at s wrong ∷ r) = let n = few-marked r in omega arith
 few-marked (Refuted at cell why ∷ r) = let n = few-marked r in omega arith
 few-marked (Cut at cells ∷ r) = let n = few-marked r in omega arith
 
-module _ (k : MendedBlocks) (c : List Level) (r : List Report) (e : Ending) (h : IsMendedOf k c r)
-    (held : HeldBlock k.lock.words c (Some e)) where
+module _ (k : MendedBlocks) (lock : LockState) (c : List Level) (r : List Report) (e : Ending) (h : IsMendedOf k c r)
+    (held : HeldBlock lock.words c (Some e)) where
   abbrev all : List Placed
   all = given true k.blocks.fill c r
 
   abbrev more : List Placed
-  more = given_in k.blocks.fill k.lock.words k.before e
+  more = given_in k.blocks.fill lock.words k.before e
 
   -- what the report gives
-  own : mended_from k.blocks.fill c (block_before zero_block all) (report_in k.lock e ∷ []) ≡ more
+  own : mended_from k.blocks.fill c (block_before zero_block all) (report_in lock e ∷ []) ≡ more
   own =
-      ap (λ (b : List (List Bool)). mended_from k.blocks.fill c b (report_in k.lock e ∷ [])) (sym h.before)
-      ∙ given-in k.blocks.fill k.lock c k.before e held
+      ap (λ (b : List (List Bool)). mended_from k.blocks.fill c b (report_in lock e ∷ [])) (sym h.before)
+      ∙ given-in k.blocks.fill lock c k.before e held
 
   pub bytes-given : bytes_behind k.blocks.format k.blocks.fill k.blocks.progress more
       ≡ narrowed k.blocks.format (behind_blocks k.blocks.fill all
-      (mended_from k.blocks.fill c (block_before zero_block all) (report_in k.lock e ∷ [])))
+      (mended_from k.blocks.fill c (block_before zero_block all) (report_in lock e ∷ [])))
   bytes-given =
       ap (λ (v : Option Progress). bytes_behind k.blocks.format k.blocks.fill v more) h.progress
       ∙ bytes-behind k.blocks.format k.blocks.fill all more
       ∙ ap (λ v. narrowed k.blocks.format (behind_blocks k.blocks.fill all v)) (sym own)
 
-  next-all : given true k.blocks.fill c (r ++ report_in k.lock e ∷ []) ≡ all ++ more
-  next-all = mended-append k.blocks.fill c zero_block r (report_in k.lock e ∷ []) ∙ ap (λ v. all ++ v) own
+  next-all : given true k.blocks.fill c (r ++ report_in lock e ∷ []) ≡ all ++ more
+  next-all = mended-append k.blocks.fill c zero_block r (report_in lock e ∷ []) ∙ ap (λ v. all ++ v) own
 
-  pub next-mended : (m : MendedBlocks) (t : Tally) → TookBlocks k m more (marked_in e)
-      → IsTallyOf t (r ++ report_in m.lock e ∷ [])
-      → IsMendedOf (record {
-        lock = m.lock;
-        blocks = record { fill = m.blocks.fill; format = m.blocks.format; progress = m.blocks.progress; tally = t };
-        before = m.before;
-        marked = m.marked;
-      }) c (r ++ report_in k.lock e ∷ [])
-  next-mended m t took tally =
-      let x = r ++ report_in k.lock e ∷ [] in
+  pub next-mended : (m : MendedBlocks) → TookBlocks k m more (marked_in e) → IsMendedOf m c (r ++ report_in lock e ∷ [])
+  next-mended m took =
+      let x = r ++ report_in lock e ∷ [] in
       let f = k.blocks.fill in
       record {
-        tally = subst (λ (l : LockState). IsTallyOf t (r ++ report_in l e ∷ [])) took.lock tally;
         progress = took.progress ∙ ap (λ (v : Option Progress). progress_behind f v more) h.progress
             ∙ progress-append f all more ∙ ap (progress_of f) (sym next-all)
             ∙ ap (λ (v : Fill). progress_of v (given true v c x)) (sym took.fill);
@@ -93,7 +79,7 @@ module _ (k : MendedBlocks) (c : List Level) (r : List Report) (e : Ending) (h :
             ∙ sym (block-append zero_block all more) ∙ ap (block_before zero_block) (sym next-all)
             ∙ ap (λ (v : Fill). block_before zero_block (given true v c x)) (sym took.fill);
         marked = took.marked ∙ ap (λ n. n + marked_in e) h.marked
-            ∙ ap (λ n. marked_given true r + n) (sym (marked-one k.lock e)) ∙ sym (marked-push r (report_in k.lock e));
+            ∙ ap (λ n. marked_given true r + n) (sym (marked-one lock e)) ∙ sym (marked-push r (report_in lock e));
       }
 
 -- more cells that decide nothing
@@ -102,16 +88,10 @@ pub mended-later : (k : MendedBlocks) (c d : List Level) → IsMendedOf k c (dec
 mended-later k c d h =
     let s = sym (begun-stays k.blocks.fill c d) in
     record {
-      tally = h.tally;
       progress = h.progress ∙ ap (progress_of k.blocks.fill) s;
       before = h.before ∙ ap (block_before zero_block) s;
       marked = h.marked;
     }
-
--- a lock that has gone on
-pub mended-lock : (k : MendedBlocks) (lock : LockState) (c : List Level) (r : List Report) → IsMendedOf k c r
-    → IsMendedOf (record { lock = lock; blocks = k.blocks; before = k.before; marked = k.marked }) c r
-mended-lock k lock c r h = record { tally = h.tally; progress = h.progress; before = h.before; marked = h.marked }
 
 -- what cells write that decide a report, and none; and what their end does
 pub told-bytes : (pcm : SampleFormat) (fill : Fill) (c d : List Level) (x : Report)
@@ -144,35 +124,3 @@ pub no-end-bytes : (pcm : SampleFormat) (fill : Fill) (c : List Level) → repor
     → (mend_writing pcm fill).ends c ≡ []
 no-end-bytes pcm fill c e =
     ends-mended pcm fill c [] (given-more fill c [] e) ∙ none-written pcm fill (begun fill c)
-
--- words that decide no report, behind those that were handed on
-pub mended-quiet : {w₀ : Writing Level} {f₀ : List Level → Type 0} {t₀ t : Option (List ℕ)} (k : MendedBlocks)
-    (lock : LockState) (ws rest : List ℕ) (i n : ℕ) → rest ≡ drop i ws
-    → Handed w₀ (mend_writing k.blocks.format k.blocks.fill) f₀
-    (λ (c : List Level). Follows k.lock c × IsMendedOf k c (decided c)) t₀ t (flat_map word_cells (take i ws))
-    → ((c : List Level) → Follows k.lock c → Follows lock (c ++ flat_map word_cells (take n rest)))
-    → ((c : List Level) → Follows k.lock c → decided (c ++ flat_map word_cells (take n rest)) ≡ decided c)
-    → Handed w₀ (mend_writing k.blocks.format k.blocks.fill) f₀
-    (λ (c : List Level). Follows lock c
-    × IsMendedOf (record { lock = lock; blocks = k.blocks; before = k.before; marked = k.marked }) c (decided c)) t₀ t
-    (flat_map word_cells (take (i + n) ws))
-mended-quiet k lock ws rest i n e h next none =
-    let d = flat_map word_cells (take n rest) in
-    handed-cells d (words-further ws rest i n e) h refl
-    (λ c q. (
-      next c q.0,
-      subst (IsMendedOf (record { lock = lock; blocks = k.blocks; before = k.before; marked = k.marked }) (c ++ d))
-          (sym (none c q.0)) (mended-lock k lock (c ++ d) (decided c) (mended-later k c d q.1)),
-    ))
-    (λ c q. grew-is (sym (quiet-bytes k.blocks.format k.blocks.fill c d (none c q.0))) (grew-none refl))
-
--- what holds of each list of cells, by what is answered
-pub ok-each : {R E : Type 0} (r : Result R E) (F G : List Level → Type 0)
-    → ((c : List Level) → F c → IfOk r (λ (u : R). G c)) → IfOk r (λ (u : R). (c : List Level) → F c → G c)
-ok-each (Ok v) F G h = h
-ok-each (Err e) F G h = tt
-
-pub err-each : {R E : Type 0} (r : Result R E) (F G : List Level → Type 0)
-    → ((c : List Level) → F c → OnErr r (G c)) → OnErr r ((c : List Level) → F c → G c)
-err-each (Ok v) F G h = tt
-err-each (Err e) F G h = h

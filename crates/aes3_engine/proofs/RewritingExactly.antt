@@ -1,6 +1,6 @@
 -- Runs that write changed blocks up to the first that does not take all settings.
 use Rattle.std.proofs.Common.{◌≡◌, ℕ, suc, ◌+◌, List, [], ◌∷◌, ◌++◌, Bool, true, false, not, ◌&&◌, ◌||◌}
-use Rattle.std.proofs.Common.{Option, Some, None, Result, Ok, Err, IfOk, OnErr, refl, sym, ap, ap₂, ◌∙◌, subst}
+use Rattle.std.proofs.Common.{Option, Some, None, Result, Ok, Err, IfOk, refl, sym, ap, ap₂, ◌∙◌, subst}
 use Rattle.std.proofs.Common.{append_assoc, if◌then◌else◌, length, arith}
 use Rattle.std.specs.List.{All, flat_map}
 use Rattle.std.specs.Option.{is_some}
@@ -8,10 +8,10 @@ use Rattle.std.proofs.lemmas.List.{get_or-map, length-map}
 use Rattle.aes3_level.specs.declared.level.Level.{Level}
 use Rattle.aes3_cell.specs.declared.form.Form.{Form}
 use Rattle.aes3_cell.specs.declared.refusal.RunError.{RunError}
-use Rattle.aes3_cell.specs.declared.ends.Fault as device
-use Rattle.aes3_cell.specs.Ends.{Grew, GrewFront, Told}
+use Rattle.aes3_cell.specs.declared.counts.Counts.{Counts}
+use Rattle.aes3_cell.specs.Ends.{Grew, Told}
 use Rattle.aes3_cell.specs.Written.{ending}
-use Rattle.aes3_cell.proofs.Growing.{front-is, grew-is}
+use Rattle.aes3_cell.proofs.Growing.{grew-is}
 use Rattle.aes3_frame.specs.declared.status.Channel.{Channel}
 use Rattle.aes3_frame.specs.declared.status.Channel.TheVariants.{First, Second}
 use Rattle.aes3_frame.specs.Blocks.{block_len}
@@ -30,14 +30,13 @@ use Rattle.aes3_status.proofs.FirstPlaces.{first-either, first-none, first-same,
 use Rattle.aes3_input.specs.Running.{InputRun, Movement}
 use Rattle.aes3_input.specs.Taking.{before_end, with_end}
 use Rattle.aes3_input.specs.Inputs.{cells_of}
-use Rattle.aes3_input.specs.Driving.{Drive, driven}
 use Rattle.aes3_input.proofs.InputRuns.{Gives, run-err, run-ok, run-told}
 use Rattle.aes3_input.proofs.Items.{before-is}
 use Rattle.aes3_runs.specs.BlockRuns.{normal_block, numbered, written_stream}
-use Rattle.aes3_runs.specs.Reporting.{reporting}
+use Rattle.aes3_runs.specs.ReportRuns.{counts_of, told_reports}
 use Rattle.aes3_runs.proofs.BlockRuns.{blocks27, decided27, normal-numbered, stream-ended}
-use Rattle.aes3_runs.proofs.Reports.{before-reports, with-reports}
 use Rattle.aes3_engine.specs.declared.exact_samples.Exact.{Exact}
+use Rattle.aes3_engine.specs.declared.rewriting_exactly.ExactlyRewrittenBlocks.{ExactlyRewrittenBlocks}
 use Rattle.aes3_engine.specs.declared.rewriting_exactly.MetPlaces.{MetPlaces}
 use Rattle.aes3_engine.specs.Filling.{Placed, placed}
 use Rattle.aes3_engine.specs.FillSteps.{Apart}
@@ -164,21 +163,6 @@ pub met-next : (met : MetPlaces) (r : List Report) (x : Report) → AreMetAt met
     → AreMetAt met (placed (r ++ x ∷ []))
 met-next met r x h = subst (AreMetAt met) (sym (placed-append r (x ∷ []))) h
 
--- the end
-pub end-grew : (t t' : Option (List ℕ)) (e : List ℕ) (follows : List Report → Type 0) (ends : List Report → List ℕ)
-    (result : Result (Unit {0}) device.Fault) → ((r : List Report) → follows r → e ≡ ends r)
-    → IfOk result (λ (x : Unit {0}). Grew t t' e)
-    → IfOk result (λ (x : Unit {0}). (r : List Report) → follows r → Grew t t' (ends r))
-end-grew t t' e follows ends (Ok x) q h = λ r k. grew-is (q r k) h
-end-grew t t' e follows ends (Err x) q h = tt
-
-pub end-front : (t t' : Option (List ℕ)) (e : List ℕ) (n m : ℕ) (follows : List Report → Type 0)
-    (ends : List Report → List ℕ) (result : Result (Unit {0}) device.Fault)
-    → ((r : List Report) → follows r → e ≡ ends r) → OnErr result ((m ≡ n + 1) × GrewFront t t' e)
-    → OnErr result ((r : List Report) → follows r → GrewFront t t' (ends r))
-end-front t t' e n m follows ends (Ok x) q h = tt
-end-front t t' e n m follows ends (Err x) q h = λ r k. front-is (q r k) h.1
-
 -- ---- where the first stands
 placed-met : (test : List ℕ → Bool) (channel : Channel) (xs : List Placed)
     → first_met test (met_of channel xs)
@@ -257,42 +241,47 @@ both-refused change xs r e f =
     (λ (x : Placed). not (first x && second x)) xs (λ (x : Placed). not-both (first x) (second x))
 
 -- ---- the run
-gives : (input output : Form) (change : Change) (z : List Level → Type 0)
-    → Gives (driven input (reporting (exactly_writing output change)) z) (exactly_rewritten_cells input output change)
-gives input output change z =
+abbrev follows : ExactlyRewrittenBlocks → List Report → Type 0
+follows k r = AreMetAt k.met (placed r) × (k.refused ≡ is_some (first_refused k.change (placed r)))
+
+abbrev TellRun : ℕ → Form → Form → Change → Bool → Movement → Movement → Result (Counts × ExactlyRewrittenBlocks) RunError
+    → Type 0
+TellRun max input output change = InputRun (told_reports input (exactly_writing output change) follows) max
+
+gives : (input output : Form) (change : Change)
+    → Gives (told_reports input (exactly_writing output change) follows) (exactly_rewritten_cells input output change)
+gives input output change =
     record {
       input = λ b i. i;
       whole = λ b i. let c = cells_of input b in
-          with-reports (exactly_writing output change) c ∙ with-exactly output change (reports c)
+          with-exactly output change (reports c)
           ∙ ap (λ v. v ++ ending output) (bytes-stream output change (reports c) (reports27 c))
           ∙ stream-ended output (rewritten_blocks change (taking change (placed (reports c)))) (taken27 change c);
-      begun = λ b. before-reports (exactly_writing output change) _ ∙ before-exactly output change (decided _)
-          ∙ bytes-stream output change (decided _) (decided27 _);
+      begun = λ b. before-exactly output change (decided _) ∙ bytes-stream output change (decided _) (decided27 _);
       cause = λ max b ended e c. c;
     }
 
-pub exactly-ok : {max : ℕ} {input : Form} {o output : Form} {h change : Change} {g z : List Level → Type 0}
-    {ended : Bool} {source sink : Movement} {bytes cells : ℕ} {n : Exact} → o ≡ output → h ≡ change
-    → ((b : List ℕ) → z (cells_of input b) → bytes ≡ length b → cells ≡ length (cells_of input b)
-    → AnswersExactly input change b n)
-    → Drive max input (reporting (exactly_writing o h)) g z ended source sink (Ok (bytes, cells))
-    → InputRun (exactly_rewritten_cells input output change) max ended source sink (Ok n)
-exactly-ok {max} {input} {o} {output} {h} {change} {g} {z} {ended} {source} {sink} {bytes} {cells} {n} p q k r =
-    let s = subst (λ (v : Form). Drive max input (reporting (exactly_writing v h)) g z ended source sink
-    (Ok (bytes, cells))) p r in
-    let t = subst (λ (v : Change). Drive max input (reporting (exactly_writing output v)) g z ended source sink
-    (Ok (bytes, cells))) q s in
-    run-ok (gives input output change z) (λ b i d. k b d.0 d.1 d.2) t.run
+same-run : {max : ℕ} (input : Form) {o output : Form} {h change : Change} {ended : Bool} {source sink : Movement}
+    {r : Result (Counts × ExactlyRewrittenBlocks) RunError} → o ≡ output → h ≡ change
+    → TellRun max input o h ended source sink r → TellRun max input output change ended source sink r
+same-run {max} input {o} {output} {h} {change} {ended} {source} {sink} {r} p q run =
+    subst (λ (v : Change). TellRun max input output v ended source sink r) q
+    (subst (λ (v : Form). TellRun max input v h ended source sink r) p run)
 
-pub exactly-err : {max : ℕ} {input : Form} {o output : Form} {h change : Change} {g z : List Level → Type 0}
-    {ended : Bool} {source sink : Movement} {x : RunError} → o ≡ output → h ≡ change
-    → Drive max input (reporting (exactly_writing o h)) g z ended source sink (Err x)
+pub exactly-ok : {max : ℕ} (input : Form) {o output : Form} {h change : Change} {n : Counts}
+    {k : ExactlyRewrittenBlocks} {m : Exact} {ended : Bool} {source sink : Movement} → o ≡ output → h ≡ change
+    → ((b : List ℕ) → n ≡ counts_of input b → AreMetAt k.met (placed (reports (cells_of input b)))
+    → AnswersExactly input change b m)
+    → TellRun max input o h ended source sink (Ok (n, k))
+    → InputRun (exactly_rewritten_cells input output change) max ended source sink (Ok m)
+exactly-ok input {output = output} {change = change} p q t r =
+    run-ok (gives input output change) (λ b i d. t b d.0 d.1.0) (same-run input p q r)
+
+pub exactly-err : {max : ℕ} (input : Form) {o output : Form} {h change : Change} {ended : Bool}
+    {source sink : Movement} {x : RunError} → o ≡ output → h ≡ change → TellRun max input o h ended source sink (Err x)
     → InputRun (exactly_rewritten_cells input output change) max ended source sink (Err x)
-exactly-err {max} {input} {o} {output} {h} {change} {g} {z} {ended} {source} {sink} {x} p q r =
-    let s = subst (λ (v : Form). Drive max input (reporting (exactly_writing v h)) g z ended source sink (Err x)) p r in
-    let t = subst (λ (v : Change). Drive max input (reporting (exactly_writing output v)) g z ended source sink (Err x))
-    q s in
-    run-err (gives input output change z) t.run
+exactly-err input {output = output} {change = change} p q r =
+    run-err (gives input output change) (same-run input p q r)
 
 -- ---- where no block is refused
 none-left : (change : Change) (r : List Report) → first_refused change (placed r) ≡ None
@@ -324,13 +313,3 @@ exactly-all input output change (Ok n) run = λ b e t.
     let ran = run-told run b t in
     grew-is (all-written output change (cells_of input b) (sym ran.1.1 ∙ e)) ran.4
 exactly-all input output change (Err e) run = tt
-
--- ---- a reporter of no report
-pub none-met-yet : {met old : MetPlaces} → met ≡ old → AreMetAt old [] → AreMetAt met (placed (decided []))
-unfolding decided
-none-met-yet e h = subst (λ (v : MetPlaces). AreMetAt v []) (sym e) h
-
-pub none-refused-yet : {k : Bool} (change : Change) → k ≡ false
-    → k ≡ is_some (first_refused change (placed (decided [])))
-unfolding decided
-none-refused-yet change e = e

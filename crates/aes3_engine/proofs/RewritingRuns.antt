@@ -1,5 +1,5 @@
 -- The run that writes changed blocks, and what it tells of their settings.
-use Rattle.std.proofs.Common.{◌≡◌, ℕ, ◌<◌, List, [], ◌∷◌, ◌++◌, Bool, true, false, Ok, Err, Some}
+use Rattle.std.proofs.Common.{◌≡◌, ℕ, ◌<◌, List, [], ◌∷◌, ◌++◌, Bool, true, false, Result, Ok, Err, Some}
 use Rattle.std.proofs.Common.{◌||◌, append-nil, length, refl, ap, ap₂, ◌∙◌, sym, subst, arith, map}
 use Rattle.std.specs.List.{All, list_any}
 use Rattle.std.proofs.lemmas.List.{get_or-map, length-map}
@@ -25,15 +25,13 @@ use Rattle.aes3_status.proofs.TakenKinds.{nothing-taken, same-taken}
 use Rattle.aes3_input.specs.Running.{Movement, InputRun}
 use Rattle.aes3_input.specs.Taking.{Writing}
 use Rattle.aes3_input.specs.Inputs.{cells_of}
-use Rattle.aes3_input.specs.Driving.{Drive, driven}
 use Rattle.aes3_input.proofs.InputRuns.{Gives, run-ok, run-err}
-use Rattle.aes3_runs.specs.Reporting.{reporting}
-use Rattle.aes3_runs.specs.ReportRuns.{counts_of, report_writing}
+use Rattle.aes3_runs.specs.ReportRuns.{counts_of, report_writing, told_reports}
 use Rattle.aes3_runs.specs.BlockRuns.{report_bytes}
-use Rattle.aes3_runs.proofs.Reports.{before-reports, with-reports}
 use Rattle.aes3_runs.proofs.ReportLemmas.{before-output, with-output}
 use Rattle.aes3_engine.specs.declared.rewriting_runs.MetKinds.{MetKinds}
 use Rattle.aes3_engine.specs.declared.rewriting_runs.Rewritten.{Rewritten}
+use Rattle.aes3_engine.specs.declared.rewriting_runs.RewrittenBlocks.{RewrittenBlocks}
 use Rattle.aes3_engine.specs.Rewriting.{rewritten_block}
 use Rattle.aes3_engine.specs.RewritingRuns.{AreMet, met_statuses, rewritten_answer, rewritten_cells, statuses_of}
 use Rattle.aes3_engine.specs.RewritingRuns.{taken_of}
@@ -89,55 +87,56 @@ none-stands settings status channel (b ∷ bs) h = absurd (omega arith)
 abbrev pub writes : Form → Change → Writing Report
 writes output change = report_writing (report_bytes (rewritten_block output change)) (ending output)
 
-gives : (input output : Form) (change : Change) (z : List Level → Type 0)
-    → Gives (driven input (reporting (writes output change)) z) (rewritten_cells input output change)
-gives input output change z =
+abbrev follows : RewrittenBlocks → List Report → Type 0
+follows k r = AreMet k.met (wholes r)
+
+abbrev TellRun : ℕ → Form → Form → Change → Bool → Movement → Movement → Result (Counts × RewrittenBlocks) RunError
+    → Type 0
+TellRun max input output change = InputRun (told_reports input (writes output change) follows) max
+
+gives : (input output : Form) (change : Change)
+    → Gives (told_reports input (writes output change) follows) (rewritten_cells input output change)
+gives input output change =
     let f = report_bytes (rewritten_block output change) in
     record {
       input = λ b i. i;
-      whole = λ b i. with-reports (writes output change) (cells_of input b)
-          ∙ with-output f (ending output) (reports (cells_of input b))
+      whole = λ b i. with-output f (ending output) (reports (cells_of input b))
           ∙ rewritten-whole output change (cells_of input b);
-      begun = λ b. before-reports (writes output change) _ ∙ before-output f (ending output) (decided _)
-          ∙ rewritten-begun output change _;
+      begun = λ b. before-output f (ending output) (decided _) ∙ rewritten-begun output change _;
       cause = λ max b ended e c. c;
     }
 
-pub rewrite-ok : {max : ℕ} {input : Form} {o output : Form} {h change : Change} {g z : List Level → Type 0}
-    {ended : Bool} {source sink : Movement} {bytes cells : ℕ} {n : Rewritten} → o ≡ output → h ≡ change
-    → ((b : List ℕ) → z (cells_of input b) → bytes ≡ length b → cells ≡ length (cells_of input b)
-    → n ≡ rewritten_answer input change b)
-    → Drive max input (reporting (writes o h)) g z ended source sink (Ok (bytes, cells))
-    → InputRun (rewritten_cells input output change) max ended source sink (Ok n)
-rewrite-ok {max} {input} {o} {output} {h} {change} {g} {z} {ended} {source} {sink} {bytes} {cells} {n} p q k r =
-    let s = subst (λ (v : Form). Drive max input (reporting (writes v h)) g z ended source sink (Ok (bytes, cells))) p r
-    in
-    let t = subst (λ (v : Change). Drive max input (reporting (writes output v)) g z ended source sink
-    (Ok (bytes, cells))) q s in
-    run-ok (gives input output change z) (λ b i d. k b d.0 d.1 d.2) t.run
+same-run : {max : ℕ} (input : Form) {o output : Form} {h change : Change} {ended : Bool} {source sink : Movement}
+    {r : Result (Counts × RewrittenBlocks) RunError} → o ≡ output → h ≡ change
+    → TellRun max input o h ended source sink r → TellRun max input output change ended source sink r
+same-run {max} input {o} {output} {h} {change} {ended} {source} {sink} {r} p q run =
+    subst (λ (v : Change). TellRun max input output v ended source sink r) q
+    (subst (λ (v : Form). TellRun max input v h ended source sink r) p run)
 
-pub rewrite-err : {max : ℕ} {input : Form} {o output : Form} {h change : Change} {g z : List Level → Type 0}
-    {ended : Bool} {source sink : Movement} {x : RunError} → o ≡ output → h ≡ change
-    → Drive max input (reporting (writes o h)) g z ended source sink (Err x)
+pub rewrite-ok : {max : ℕ} (input : Form) {o output : Form} {h change : Change} {n : Counts} {k : RewrittenBlocks}
+    {m : Rewritten} {ended : Bool} {source sink : Movement} → o ≡ output → h ≡ change
+    → ((b : List ℕ) → n ≡ counts_of input b → AreMet k.met (wholes (reports (cells_of input b)))
+    → m ≡ rewritten_answer input change b)
+    → TellRun max input o h ended source sink (Ok (n, k))
+    → InputRun (rewritten_cells input output change) max ended source sink (Ok m)
+rewrite-ok input {output = output} {change = change} p q t r =
+    run-ok (gives input output change) (λ b i d. t b d.0 d.1) (same-run input p q r)
+
+pub rewrite-err : {max : ℕ} (input : Form) {o output : Form} {h change : Change} {ended : Bool}
+    {source sink : Movement} {x : RunError} → o ≡ output → h ≡ change → TellRun max input o h ended source sink (Err x)
     → InputRun (rewritten_cells input output change) max ended source sink (Err x)
-rewrite-err {max} {input} {o} {output} {h} {change} {g} {z} {ended} {source} {sink} {x} p q r =
-    let s = subst (λ (v : Form). Drive max input (reporting (writes v h)) g z ended source sink (Err x)) p r in
-    let t = subst (λ (v : Change). Drive max input (reporting (writes output v)) g z ended source sink (Err x)) q s in
-    run-err (gives input output change z) t.run
-
--- a reporter of no report
-pub none-met : {met old : MetKinds} → met ≡ old → AreMet old [] → AreMet met (wholes (decided []))
-unfolding decided
-none-met e h = subst (λ (v : MetKinds). AreMet v []) (sym e) h
+rewrite-err input {output = output} {change = change} p q r =
+    run-err (gives input output change) (same-run input p q r)
 
 -- ---- the answer
 pub met-blocks : {met : MetKinds} (c : List Level) → AreMet met (wholes (reports c)) → AreMet met (blocks c)
 unfolding blocks
 met-blocks c h = h
 
-pub blocks-count : {n : ℕ} (c : List Level) → n ≡ length (wholes (reports c)) → n ≡ length (blocks c)
-unfolding blocks
-blocks-count c e = e
+pub blocks-count : (form : Form) (b : List ℕ) {n : Counts} → n ≡ counts_of form b
+    → n.blocks ≡ length (blocks (cells_of form b))
+unfolding counts_of
+blocks-count form b e = ap (λ (v : Counts). v.blocks) e
 
 pub answer-is : (form : Form) (change : Change) (b : List ℕ) {counts : Counts} {first second : Taken}
     → counts ≡ counts_of form b

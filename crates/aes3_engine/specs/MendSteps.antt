@@ -10,7 +10,6 @@ use Rattle.aes3_lock.specs.declared.report.Ending.TheVariants.{Whole, Marked, Fa
 use Rattle.aes3_lock.specs.declared.report.Report.{Report}
 use Rattle.aes3_lock.specs.Outcomes.{payloads_of}
 use Rattle.aes3_lock.specs.Reports.{decided, reports}
-use Rattle.aes3_lock.specs.Tallies.{IsTallyOf}
 use Rattle.aes3_input.specs.Taking.{Writing}
 use Rattle.aes3_pcm.specs.declared.format.SampleFormat.{SampleFormat}
 use Rattle.aes3_pcm.specs.Formats.{narrowed}
@@ -49,19 +48,16 @@ marked_in (Marked at s wrong) = 1
 marked_in (Fault at cell why) = 0
 marked_in (Unfinished at cells) = 0
 
--- a taker that has taken the reports r on the cells c
+-- a listener that has heard of the reports r on the cells c
 pub record IsMendedOf (k : MendedBlocks) (c : List Level) (r : List Report) : Type 0 where
-  pub tally : IsTallyOf k.blocks.tally r
   pub progress : k.blocks.progress ≡ progress_of k.blocks.fill (given true k.blocks.fill c r)
   pub before : k.before ≡ block_before zero_block (given true k.blocks.fill c r)
   pub marked : k.marked ≡ marked_given true r
 
--- a taker has written some more blocks, of which n are marked
+-- a listener has written some more blocks, of which n are marked
 pub record TookBlocks (old new : MendedBlocks) (xs : List Placed) (n : ℕ) : Type 0 where
-  pub lock : new.lock ≡ old.lock
   pub fill : new.blocks.fill ≡ old.blocks.fill
   pub format : new.blocks.format ≡ old.blocks.format
-  pub tally : new.blocks.tally ≡ old.blocks.tally
   pub progress : new.blocks.progress ≡ progress_behind old.blocks.fill old.blocks.progress xs
   pub before : new.before ≡ block_before old.before xs
   pub marked : new.marked ≡ old.marked + n

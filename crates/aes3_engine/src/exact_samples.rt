@@ -6,7 +6,6 @@ ghost use Rattle.aes3_cell.specs.Writes.{Wrote};
 ghost use Rattle.aes3_frame.specs.Samples.{samples};
 ghost use Rattle.aes3_lock.specs.Following.{report_in};
 ghost use Rattle.aes3_lock.specs.Reports.{blocks};
-ghost use Rattle.aes3_lock.specs.Tallies.{IsTallyOf};
 ghost use Rattle.aes3_input.specs.Inputs.{cells_of};
 ghost use Rattle.aes3_input.specs.Running.{InputRun, movement_of};
 ghost use Rattle.aes3_pcm.specs.declared.format.SampleFormat.TheVariants.{S16};
@@ -18,9 +17,9 @@ ghost use Rattle.aes3_engine.specs.Filling.{placed};
 use crate::samples::{put_narrowed, to_pcm};
 use aes3_block::{Block, samples_of_block};
 use aes3_cell::{Counts, Fault, Form, RunError, Sink, Source};
-use aes3_lock::{Ending, Lock, Tally};
+use aes3_lock::{Ending, Lock};
 use aes3_pcm::SampleFormat;
-use aes3_runs::{Locked, Reporter, drive};
+use aes3_runs::{Reporter, run_reports};
 
 /// What a run answers that gives blocks exactly.
 #[derive(Clone, Copy)]
@@ -37,19 +36,14 @@ pub struct Exact {
 #[derive(Drop)]
 struct ExactBlocks {
     refused: Option<u64>,
-    tally: Tally,
 }
 
 impl ExactBlocks {
     /// A reporter that has taken no report.
     fn new() -> Self
-        ensures refused { result.refused ≡ None }
-        ensures tally { IsTallyOf result.tally [] }
+        ensures { result.refused ≡ None }
     {
-        ExactBlocks {
-            refused: None,
-            tally: Tally::new(),
-        }
+        ExactBlocks { refused: None }
     }
 
     /// Writes the samples of a block at a place where they lose nothing, and nothing has before.
@@ -58,7 +52,6 @@ impl ExactBlocks {
     /// The sink's fault; then it has taken a front of the bytes.
     fn put_block<T: Sink>(&mut self, sink: &mut T, at: u64, block: &Block) -> Result<(), Fault>
         requires room { T.failed sink.old + 1 < 2 ^ 64 }
-        ensures tally { IfOk result (λ _. self.new.tally ≡ self.old.tally) }
         ensures refused { IfOk result (λ _. self.new.refused ≡ refused_behind S16 self.old.refused
             (record { place = at; block = block.now } ∷ [])) }
         ensures wrote { Wrote T.taken T.failed sink.old sink.new (unless_refused self.old.refused
@@ -81,7 +74,6 @@ impl ExactBlocks {
     /// The sink's fault; then it has taken a front of the bytes.
     fn put<T: Sink>(&mut self, sink: &mut T, lock: &Lock, ending: Ending) -> Result<(), Fault>
         requires room { T.failed sink.old + 1 < 2 ^ 64 }
-        ensures tally { IfOk result (λ _. self.new.tally ≡ self.old.tally) }
         ensures refused { IfOk result (λ _. self.new.refused ≡ refused_behind S16 self.old.refused
             (placed (report_in lock.now ending ∷ []))) }
         ensures wrote { Wrote T.taken T.failed sink.old sink.new (unless_refused self.old.refused
@@ -97,23 +89,21 @@ impl ExactBlocks {
 }
 
 impl Reporter for ExactBlocks {
-    ghost follows = { λ k r. IsTallyOf k.tally r × (k.refused ≡ first_unfit S16 (placed r)) };
+    ghost follows = { λ k r. k.refused ≡ first_unfit S16 (placed r) };
 
     ghost writes = { λ _. exact_writing S16 };
 
-    ghost finished = { λ k r. IsTallyOf k.tally r × (k.refused ≡ first_unfit S16 (placed r)) };
-
-    fn tell<T: Sink>(&mut self, sink: &mut T, lock: &Lock, ending: Ending) -> Result<(), Fault> {
-        match self.put(sink, lock, ending) {
-            Ok(()) => {
-                self.tally.count(lock, ending);
-                Ok(())
-            }
-            Err(fault) => Err(fault),
-        }
+    fn tell<T: Sink>(
+        &mut self,
+        sink: &mut T,
+        _blocks: u64,
+        lock: &Lock,
+        ending: Ending,
+    ) -> Result<(), Fault> {
+        self.put(sink, lock, ending)
     }
 
-    fn finish<T: Sink>(&mut self, _sink: &mut T) -> Result<(), Fault> {
+    fn finish<T: Sink>(&self, _sink: &mut T) -> Result<(), Fault> {
         Ok(())
     }
 }
@@ -133,21 +123,11 @@ fn to_exact_16<S: Source, T: Sink>(
         (movement_of T.taken T.failed sink.old sink.new) result }
     ensures passed_on { IfOk result (λ _. T.passed sink.new ≡ T.taken sink.new) }
 {
-    let mut taker = Locked::new(ExactBlocks::new());
-    match drive(source, sink, max_bytes, input, &mut taker) {
-        Ok((bytes, cells)) => Ok(Exact {
-            counts: Counts {
-                bytes,
-                cells,
-                blocks: taker.reporter.tally.blocks,
-                faults: taker.reporter.tally.faults,
-                unfinished: taker.reporter.tally.unfinished,
-                marks: 0,
-            },
-            refused: taker.reporter.refused,
-        }),
-        Err(error) => Err(error),
-    }
+    let (counts, blocks) = run_reports(source, sink, max_bytes, input, ExactBlocks::new())?;
+    Ok(Exact {
+        counts,
+        refused: blocks.refused,
+    })
 }
 
 /// Does what [`to_exact_pcm`] does, in a form that holds 24 bits, where no sample loses any.

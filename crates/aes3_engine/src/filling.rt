@@ -8,7 +8,6 @@ ghost use Rattle.aes3_level.specs.declared.level.Level.{Level};
 ghost use Rattle.aes3_frame.specs.Samples.{block_samples, samples};
 ghost use Rattle.aes3_lock.specs.Following.{report_in};
 ghost use Rattle.aes3_lock.specs.Reports.{blocks, reports};
-ghost use Rattle.aes3_lock.specs.Tallies.{IsTallyOf};
 ghost use Rattle.aes3_input.specs.Inputs.{cells_of};
 ghost use Rattle.aes3_input.specs.Running.{InputRun, movement_of};
 ghost use Rattle.aes3_pcm.specs.Formats.{narrowed};
@@ -24,9 +23,9 @@ use crate::samples::put_narrowed;
 use aes3_block::{BLOCK_BYTES, Block, samples_of_block};
 use aes3_cell::{Counts, Fault, Form, RunError, Sink, Source, write_all};
 use aes3_frame::Fill;
-use aes3_lock::{Ending, Lock, Tally};
+use aes3_lock::{Ending, Lock};
 use aes3_pcm::SampleFormat;
-use aes3_runs::{Locked, Reporter, drive};
+use aes3_runs::{Reporter, run_reports};
 
 /// How many cells a frame has, how many bytes its samples, and how many frames a block has (AES3-3).
 const FRAME_CELLS: u64 = 128;
@@ -44,27 +43,6 @@ pub struct Filled {
     pub frames: u64,
     /// Marked blocks that are given.
     pub marked: u64,
-}
-
-/// The counts of a run over cells that shows no preamble.
-pub(crate) fn counts_of(bytes: u64, cells: u64, tally: Tally) -> Counts
-    ensures { result ≡ record {
-      bytes = bytes;
-      cells = cells;
-      blocks = tally.blocks;
-      faults = tally.faults;
-      unfinished = tally.unfinished;
-      marks = 0;
-    } }
-{
-    Counts {
-        bytes,
-        cells,
-        blocks: tally.blocks,
-        faults: tally.faults,
-        unfinished: tally.unfinished,
-        marks: 0,
-    }
 }
 
 /// How far samples of 32 bits have come.
@@ -150,7 +128,6 @@ pub(crate) struct FilledBlocks {
     pub(crate) fill: Fill,
     pub(crate) format: SampleFormat,
     progress: Option<Progress>,
-    pub(crate) tally: Tally,
 }
 
 impl FilledBlocks {
@@ -159,26 +136,24 @@ impl FilledBlocks {
         ensures fill { result.fill ≡ fill }
         ensures format { result.format ≡ format }
         ensures progress { result.progress ≡ None }
-        ensures tally { IsTallyOf result.tally [] }
     {
         FilledBlocks {
             fill,
             format,
             progress: None,
-            tally: Tally::new(),
         }
     }
 
-    /// How many frames fill the time between the blocks that it has written, of which so many are
-    /// marked: of all frames those that are of no block.
-    pub(crate) fn frames(&self, marked: u64) -> u64
+    /// How many frames fill the time between the blocks that it has written, so many whole and so
+    /// many marked ones: of all frames those that are of no block.
+    pub(crate) fn frames(&self, blocks: u64, marked: u64) -> u64
         ensures { (xs : List Placed) → Apart 0 xs
             → self.now.progress ≡ progress_of self.now.fill xs
-            → self.now.tally.blocks + marked ≡ length xs → result ≡ frames_filled xs }
+            → blocks + marked ≡ length xs → result ≡ frames_filled xs }
     {
         match self.progress {
             None => 0,
-            Some(progress) => beside_blocks(progress.frames, self.tally.blocks, marked),
+            Some(progress) => beside_blocks(progress.frames, blocks, marked),
         }
     }
 
@@ -204,7 +179,6 @@ impl FilledBlocks {
     fn note(&mut self, at: u64, samples: &[u8; BLOCK_BYTES])
         ensures fill { self.new.fill ≡ self.old.fill }
         ensures format { self.new.format ≡ self.old.format }
-        ensures tally { self.new.tally ≡ self.old.tally }
         ensures progress { (b : List (List Bool)) → samples.now ≡ block_samples b
             → self.new.progress ≡ Some (reached self.old.fill (first_of self.old.progress at)
             (record { place = at; block = b })) }
@@ -231,9 +205,8 @@ impl FilledBlocks {
         block: &Block,
     ) -> Result<(), Fault>
         requires room { T.failed sink.old + 1 < 2 ^ 64 }
-        ensures fill { IfOk result (λ _. self.new.fill ≡ self.old.fill) }
-        ensures format { IfOk result (λ _. self.new.format ≡ self.old.format) }
-        ensures tally { IfOk result (λ _. self.new.tally ≡ self.old.tally) }
+        ensures fill { self.new.fill ≡ self.old.fill }
+        ensures format { self.new.format ≡ self.old.format }
         ensures progress { IfOk result (λ _. self.new.progress
             ≡ Some (reached self.old.fill (first_of self.old.progress at)
             (record { place = at; block = block.now }))) }
@@ -257,9 +230,8 @@ impl FilledBlocks {
     /// The sink's fault; then it has taken a front of the bytes.
     fn put<T: Sink>(&mut self, sink: &mut T, lock: &Lock, ending: Ending) -> Result<(), Fault>
         requires room { T.failed sink.old + 1 < 2 ^ 64 }
-        ensures fill { IfOk result (λ _. self.new.fill ≡ self.old.fill) }
-        ensures format { IfOk result (λ _. self.new.format ≡ self.old.format) }
-        ensures tally { IfOk result (λ _. self.new.tally ≡ self.old.tally) }
+        ensures fill { self.new.fill ≡ self.old.fill }
+        ensures format { self.new.format ≡ self.old.format }
         ensures progress { IfOk result (λ _. self.new.progress ≡ progress_behind self.old.fill
             self.old.progress (placed (report_in lock.now ending ∷ []))) }
         ensures wrote { Wrote T.taken T.failed sink.old sink.new
@@ -276,23 +248,21 @@ impl FilledBlocks {
 }
 
 impl Reporter for FilledBlocks {
-    ghost follows = { λ k r. IsTallyOf k.tally r × (k.progress ≡ progress_of k.fill (placed r)) };
+    ghost follows = { λ k r. k.progress ≡ progress_of k.fill (placed r) };
 
     ghost writes = { λ k. fill_writing k.format k.fill };
 
-    ghost finished = { λ k r. IsTallyOf k.tally r × (k.progress ≡ progress_of k.fill (placed r)) };
-
-    fn tell<T: Sink>(&mut self, sink: &mut T, lock: &Lock, ending: Ending) -> Result<(), Fault> {
-        match self.put(sink, lock, ending) {
-            Ok(()) => {
-                self.tally.count(lock, ending);
-                Ok(())
-            }
-            Err(fault) => Err(fault),
-        }
+    fn tell<T: Sink>(
+        &mut self,
+        sink: &mut T,
+        _blocks: u64,
+        lock: &Lock,
+        ending: Ending,
+    ) -> Result<(), Fault> {
+        self.put(sink, lock, ending)
     }
 
-    fn finish<T: Sink>(&mut self, _sink: &mut T) -> Result<(), Fault> {
+    fn finish<T: Sink>(&self, _sink: &mut T) -> Result<(), Fault> {
         Ok(())
     }
 }
@@ -314,15 +284,13 @@ fn fill_whole<S: Source, T: Sink>(
         (movement_of T.taken T.failed sink.old sink.new) result }
     ensures passed_on { IfOk result (λ _. T.passed sink.new ≡ T.taken sink.new) }
 {
-    let mut taker = Locked::new(FilledBlocks::new(fill, format));
-    match drive(source, sink, max_bytes, input, &mut taker) {
-        Ok((bytes, cells)) => Ok(Filled {
-            counts: counts_of(bytes, cells, taker.reporter.tally),
-            frames: taker.reporter.frames(0),
-            marked: 0,
-        }),
-        Err(error) => Err(error),
-    }
+    let blocks = FilledBlocks::new(fill, format);
+    let (counts, blocks) = run_reports(source, sink, max_bytes, input, blocks)?;
+    Ok(Filled {
+        counts,
+        frames: blocks.frames(counts.blocks, 0),
+        marked: 0,
+    })
 }
 
 /// Reads cells as `to_filled_pcm` does.

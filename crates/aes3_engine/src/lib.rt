@@ -34,8 +34,8 @@ mod words;
 
 pub use aes3_frame::Fill;
 pub use aes3_runs::{
-    BlockWriter, Input, Locked, ReportWriter, Reporter, Taker, Tally, cell, convert, drive,
-    run_blocks, run_reports, word,
+    BlockWriter, Followed, Input, Listener, Reporter, Taker, Tally, cell, convert, drive,
+    run_blocks, run_cells, run_reports, word,
 };
 pub use aes3_status::{CarriedBits, Change, Taken};
 pub use carrying::to_bits;

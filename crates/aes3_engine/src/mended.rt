@@ -1,35 +1,27 @@
 //! Cells to samples that keep time, with the marked blocks among them.
 
-ghost use Rattle.std.specs.Prelude.{◌≡◌, ℕ, ◌+◌, ◌<◌, ◌≤◌, ◌^◌, ◌++◌, List, [], ◌∷◌, IfOk, None, Some};
-ghost use Rattle.std.specs.Prelude.{length, true};
-ghost use Rattle.aes3_level.specs.declared.level.Level.{Level};
+ghost use Rattle.std.specs.Prelude.{◌≡◌, ℕ, ◌+◌, ◌<◌, ◌≤◌, ◌^◌, [], ◌∷◌, IfOk, None, true};
 ghost use Rattle.aes3_cell.specs.Writes.{Wrote};
 ghost use Rattle.aes3_frame.specs.Blocks.{zero_block};
-ghost use Rattle.aes3_lock.specs.declared.report.Report.{Report};
-ghost use Rattle.aes3_lock.specs.Following.{Follows, HeldBlock, report_in};
 ghost use Rattle.aes3_lock.specs.Reports.{decided, reports};
-ghost use Rattle.aes3_lock.specs.Tallies.{IsTallyOf};
 ghost use Rattle.aes3_input.specs.Running.{InputRun, movement_of};
-ghost use Rattle.aes3_engine.specs.Filling.{given, mended_from};
-ghost use Rattle.aes3_engine.specs.FillSteps.{behind_blocks, bytes_behind};
+ghost use Rattle.aes3_engine.specs.FillSteps.{bytes_behind};
 ghost use Rattle.aes3_engine.specs.FillRuns.{filled_cells};
-ghost use Rattle.aes3_engine.specs.MendSteps.{IsMendedOf, TookBlocks, block_before, given_in};
-ghost use Rattle.aes3_engine.specs.MendSteps.{marked_in, mend_writing};
-ghost use Rattle.aes3_pcm.specs.Formats.{narrowed};
+ghost use Rattle.aes3_engine.specs.MendSteps.{IsMendedOf, TookBlocks, given_in, marked_in};
+ghost use Rattle.aes3_engine.specs.MendSteps.{mend_writing};
 
-use crate::filling::{Filled, FilledBlocks, counts_of};
+use crate::filling::{Filled, FilledBlocks};
 use aes3_block::Block;
 use aes3_cell::{Fault, Form, RunError, Sink, Source};
 use aes3_frame::Fill;
 use aes3_lock::{Ending, Lock};
 use aes3_pcm::SampleFormat;
-use aes3_runs::{Taker, drive};
+use aes3_runs::{Listener, run_cells};
 
-/// Takes cells, and writes the samples of the whole and the marked blocks on them, and what fills
+/// Hears of cells, and writes the samples of the whole and the marked blocks on them, and what fills
 /// the time between.
 #[derive(Drop)]
 pub(crate) struct MendedBlocks {
-    lock: Lock,
     blocks: FilledBlocks,
     /// The last block, or that of zeros.
     before: Block,
@@ -38,18 +30,15 @@ pub(crate) struct MendedBlocks {
 }
 
 impl MendedBlocks {
-    /// A taker that has taken no cell.
+    /// A listener that has heard of no cell.
     fn new(fill: Fill, format: SampleFormat) -> Self
-        ensures lock { Follows result.lock [] }
         ensures fill { result.blocks.fill ≡ fill }
         ensures format { result.blocks.format ≡ format }
         ensures progress { result.blocks.progress ≡ None }
-        ensures tally { IsTallyOf result.blocks.tally [] }
         ensures before { result.before ≡ zero_block }
         ensures marked { result.marked ≡ 0 }
     {
         MendedBlocks {
-            lock: Lock::new(),
             blocks: FilledBlocks::new(fill, format),
             before: Block::zero(),
             marked: 0,
@@ -77,27 +66,27 @@ impl MendedBlocks {
         }
     }
 
-    /// Writes what an ending gives that the lock has just answered.
+    /// Writes what an ending gives that a lock has just answered.
     ///
     /// # Errors
     /// The sink's fault; then it has taken a front of the bytes.
-    fn put<T: Sink>(&mut self, sink: &mut T, ending: Ending) -> Result<(), Fault>
+    fn put<T: Sink>(&mut self, sink: &mut T, lock: &Lock, ending: Ending) -> Result<(), Fault>
         requires room { T.failed sink.old + 1 < 2 ^ 64 }
         requires few { self.old.marked + 1 < 2 ^ 64 }
         ensures took { IfOk result (λ _. TookBlocks self.old self.new
-            (given_in self.old.blocks.fill self.old.lock.words self.old.before ending)
+            (given_in self.old.blocks.fill lock.now.words self.old.before ending)
             (marked_in ending)) }
         ensures wrote { Wrote T.taken T.failed sink.old sink.new
             (bytes_behind self.old.blocks.format self.old.blocks.fill self.old.blocks.progress
-            (given_in self.old.blocks.fill self.old.lock.words self.old.before ending)) result }
+            (given_in self.old.blocks.fill lock.now.words self.old.before ending)) result }
     {
         match ending {
             Ending::Whole { at, .. } => {
-                let block = self.lock.gathered().block();
+                let block = lock.gathered().block();
                 self.put_block(sink, at, block)
             }
             Ending::Marked { at, .. } => {
-                let block = self.lock.gathered().mended(self.blocks.fill, &self.before);
+                let block = lock.gathered().mended(self.blocks.fill, &self.before);
                 self.marked += 1;
                 self.put_block(sink, at, block)
             }
@@ -105,72 +94,37 @@ impl MendedBlocks {
             Ending::Unfinished { .. } => Ok(()),
         }
     }
-
-    /// Takes an ending that the lock has just answered.
-    ///
-    /// # Errors
-    /// The sink's fault; then it has taken a front of the bytes.
-    fn tell<T: Sink>(&mut self, sink: &mut T, ending: Ending) -> Result<(), Fault>
-        requires room { T.failed sink.old + 1 < 2 ^ 64 }
-        requires following { (c : List Level) × (r : List Report) × (length r + 1 < 2 ^ 44)
-            × IsMendedOf self.old c r }
-        ensures lock { IfOk result (λ _. self.new.lock ≡ self.old.lock) }
-        ensures same { IfOk result (λ _. mend_writing self.new.blocks.format self.new.blocks.fill
-            ≡ mend_writing self.old.blocks.format self.old.blocks.fill) }
-        ensures next { IfOk result (λ _. (c : List Level) (r : List Report)
-            → IsMendedOf self.old c r → HeldBlock self.old.lock.words c (Some ending)
-            → IsMendedOf self.new c (r ++ report_in self.old.lock ending ∷ [])) }
-        ensures wrote { (c : List Level) (r : List Report)
-            → IsMendedOf self.old c r → HeldBlock self.old.lock.words c (Some ending)
-            → Wrote T.taken T.failed sink.old sink.new (narrowed self.old.blocks.format
-            (behind_blocks self.old.blocks.fill (given true self.old.blocks.fill c r)
-            (mended_from self.old.blocks.fill c
-            (block_before zero_block (given true self.old.blocks.fill c r))
-            (report_in self.old.lock ending ∷ [])))) result }
-    {
-        match self.put(sink, ending) {
-            Ok(()) => {
-                self.blocks.tally.count(&self.lock, ending);
-                Ok(())
-            }
-            Err(fault) => Err(fault),
-        }
-    }
 }
 
-impl Taker for MendedBlocks {
-    ghost state = { λ k. record {
-      writes = mend_writing k.blocks.format k.blocks.fill;
-      follows = λ c. Follows k.lock c × IsMendedOf k c (decided c);
-      finished = λ c. IsMendedOf k c (reports c);
-    } };
+impl Listener for MendedBlocks {
+    ghost follows = { λ k c. IsMendedOf k c (decided c) };
 
-    fn take_front<T: Sink>(&mut self, sink: &mut T, word: u64, len: u32) -> Result<u32, Fault> {
-        let pushed = self.lock.push_front(word, len);
-        match pushed.ending {
-            Some(ending) => match self.tell(sink, ending) {
-                Ok(()) => Ok(pushed.taken),
-                Err(fault) => Err(fault),
-            },
-            None => Ok(pushed.taken),
+    ghost writes = { λ k. mend_writing k.blocks.format k.blocks.fill };
+
+    ghost finished = { λ k c. IsMendedOf k c (reports c) };
+
+    fn hear<T: Sink>(
+        &mut self,
+        sink: &mut T,
+        lock: &Lock,
+        _blocks: u64,
+        ending: Option<Ending>,
+    ) -> Result<(), Fault> {
+        match ending {
+            Some(ending) => self.put(sink, lock, ending),
+            None => Ok(()),
         }
     }
 
-    fn words<T: Sink>(&mut self, sink: &mut T, words: &[u64]) -> Result<(), Fault> {
-        let mut at = 0;
-        loop {
-            at += self.lock.take_words(&words[at..]);
-            if at == words.len() {
-                return Ok(());
-            }
-            self.cells(sink, words[at], u64::BITS)?;
-            at += 1;
-        }
-    }
-
-    fn finish<T: Sink>(&mut self, sink: &mut T) -> Result<(), Fault> {
-        match self.lock.end() {
-            Some(ending) => self.tell(sink, ending),
+    fn end<T: Sink>(
+        &mut self,
+        sink: &mut T,
+        lock: &Lock,
+        _blocks: u64,
+        ending: Option<Ending>,
+    ) -> Result<(), Fault> {
+        match ending {
+            Some(ending) => self.put(sink, lock, ending),
             None => Ok(()),
         }
     }
@@ -193,13 +147,11 @@ pub(crate) fn fill_mended<S: Source, T: Sink>(
         (movement_of T.taken T.failed sink.old sink.new) result }
     ensures passed_on { IfOk result (λ _. T.passed sink.new ≡ T.taken sink.new) }
 {
-    let mut taker = MendedBlocks::new(fill, format);
-    match drive(source, sink, max_bytes, input, &mut taker) {
-        Ok((bytes, cells)) => Ok(Filled {
-            counts: counts_of(bytes, cells, taker.blocks.tally),
-            frames: taker.blocks.frames(taker.marked),
-            marked: taker.marked,
-        }),
-        Err(error) => Err(error),
-    }
+    let blocks = MendedBlocks::new(fill, format);
+    let (counts, blocks) = run_cells(source, sink, max_bytes, input, blocks)?;
+    Ok(Filled {
+        counts,
+        frames: blocks.blocks.frames(counts.blocks, blocks.marked),
+        marked: blocks.marked,
+    })
 }

@@ -9,10 +9,10 @@ ghost use Rattle.aes3_cell.specs.Writes.{Wrote};
 ghost use Rattle.aes3_status.specs.KindPlaces.{AreFirstsOf, Met, Rising};
 ghost use Rattle.aes3_lock.specs.Following.{report_in};
 ghost use Rattle.aes3_lock.specs.Reports.{blocks, reports};
-ghost use Rattle.aes3_lock.specs.Tallies.{IsTallyOf};
 ghost use Rattle.aes3_input.specs.Inputs.{cells_of};
 ghost use Rattle.aes3_input.specs.Running.{InputRun, movement_of};
 ghost use Rattle.aes3_runs.specs.BlockRuns.{normal_block, written_stream};
+ghost use Rattle.aes3_runs.specs.ReportRuns.{counts_of};
 ghost use Rattle.aes3_engine.specs.Filling.{Placed, placed};
 ghost use Rattle.aes3_engine.specs.Rewriting.{rewritten, rewritten_blocks};
 ghost use Rattle.aes3_engine.specs.RewritingExactly.{AnswersExactly, AreMetAt, exactly_rewritten_cells};
@@ -25,8 +25,8 @@ use crate::rewriting::rewrite_block;
 use crate::rewriting_runs::bits_that_tell;
 use aes3_block::{Block, Channel, put_block};
 use aes3_cell::{Counts, Fault, Form, Level, RunError, Sink, Source, put_ending};
-use aes3_lock::{Ending, Lock, Tally};
-use aes3_runs::{Locked, Reporter, drive};
+use aes3_lock::{Ending, Lock};
+use aes3_runs::{Reporter, run_reports};
 use aes3_status::{Change, KindPlaces, Settings, earlier, takes_all};
 
 /// Whether a block takes all settings of a channel, where some are given. The status that is given
@@ -144,7 +144,6 @@ struct ExactlyRewrittenBlocks {
     output: Form,
     change: Change,
     refused: bool,
-    tally: Tally,
     met: MetPlaces,
 }
 
@@ -154,14 +153,12 @@ impl ExactlyRewrittenBlocks {
         ensures output { result.output ≡ output }
         ensures change { result.change ≡ change.now }
         ensures refused { result.refused ≡ false }
-        ensures tally { IsTallyOf result.tally [] }
         ensures met { AreMetAt result.met [] }
     {
         ExactlyRewrittenBlocks {
             output,
             change: *change,
             refused: false,
-            tally: Tally::new(),
             met: MetPlaces::new(),
         }
     }
@@ -175,7 +172,6 @@ impl ExactlyRewrittenBlocks {
         requires room { T.failed sink.old + 1 < 2 ^ 64 }
         ensures output { self.new.output ≡ self.old.output }
         ensures change { self.new.change ≡ self.old.change }
-        ensures tally { self.new.tally ≡ self.old.tally }
         ensures refused { self.new.refused ≡ (self.old.refused || is_some (first_refused
             self.old.change (record { place = at; block = block } ∷ []))) }
         ensures met { (xs : List Placed) → AreMetAt self.old.met xs
@@ -201,7 +197,6 @@ impl ExactlyRewrittenBlocks {
         requires room { T.failed sink.old + 1 < 2 ^ 64 }
         ensures output { self.new.output ≡ self.old.output }
         ensures change { self.new.change ≡ self.old.change }
-        ensures tally { self.new.tally ≡ self.old.tally }
         ensures refused { self.new.refused ≡ (self.old.refused || is_some (first_refused
             self.old.change (placed (report_in lock.now ending ∷ [])))) }
         ensures met { (xs : List Placed) → AreMetAt self.old.met xs
@@ -220,47 +215,36 @@ impl ExactlyRewrittenBlocks {
 }
 
 impl Reporter for ExactlyRewrittenBlocks {
-    ghost follows = { λ k r. IsTallyOf k.tally r × AreMetAt k.met (placed r)
+    ghost follows = { λ k r. AreMetAt k.met (placed r)
         × (k.refused ≡ is_some (first_refused k.change (placed r))) };
 
     ghost writes = { λ k. exactly_writing k.output k.change };
 
-    ghost finished = { λ k r. IsTallyOf k.tally r × AreMetAt k.met (placed r) };
-
     #[inline(always)]
-    fn tell<T: Sink>(&mut self, sink: &mut T, lock: &Lock, ending: Ending) -> Result<(), Fault> {
-        match self.put(sink, lock, ending) {
-            Ok(()) => {
-                self.tally.count(lock, ending);
-                Ok(())
-            }
-            Err(fault) => Err(fault),
-        }
+    fn tell<T: Sink>(
+        &mut self,
+        sink: &mut T,
+        _blocks: u64,
+        lock: &Lock,
+        ending: Ending,
+    ) -> Result<(), Fault> {
+        self.put(sink, lock, ending)
     }
 
-    fn finish<T: Sink>(&mut self, sink: &mut T) -> Result<(), Fault> {
+    fn finish<T: Sink>(&self, sink: &mut T) -> Result<(), Fault> {
         put_ending(self.output, sink)
     }
 }
 
-/// What a run answers that has read so many bytes and cells.
-fn answer(reporter: &ExactlyRewrittenBlocks, change: &Change, bytes: u64, cells: u64) -> Exact
-    ensures { (form : Form) (b : List ℕ) → bytes ≡ length b → cells ≡ length (cells_of form b)
-        → IsTallyOf reporter.now.tally (reports (cells_of form b))
-        → AreMetAt reporter.now.met (placed (reports (cells_of form b)))
+/// What a run answers that has counted so, over blocks that first have a status of each kind here.
+fn answer(met: &MetPlaces, change: &Change, counts: Counts) -> Exact
+    ensures { (form : Form) (b : List ℕ) → counts ≡ counts_of form b
+        → AreMetAt met.now (placed (reports (cells_of form b)))
         → AnswersExactly form change.now b result }
 {
-    let tally = &reporter.tally;
     Exact {
-        counts: Counts {
-            bytes,
-            cells,
-            blocks: tally.blocks,
-            faults: tally.faults,
-            unfinished: tally.unfinished,
-            marks: 0,
-        },
-        refused: first_refused(&reporter.met, change),
+        counts,
+        refused: first_refused(met, change),
     }
 }
 
@@ -295,9 +279,7 @@ pub fn rewrite_exactly<S: Source, T: Sink>(
         (movement_of T.taken T.failed sink.old sink.new) result }
     ensures passed_on { IfOk result (λ _. T.passed sink.new ≡ T.taken sink.new) }
 {
-    let mut taker = Locked::new(ExactlyRewrittenBlocks::new(output, change));
-    match drive(source, sink, max_bytes, input, &mut taker) {
-        Ok((bytes, cells)) => Ok(answer(&taker.reporter, change, bytes, cells)),
-        Err(error) => Err(error),
-    }
+    let blocks = ExactlyRewrittenBlocks::new(output, change);
+    let (counts, blocks) = run_reports(source, sink, max_bytes, input, blocks)?;
+    Ok(answer(&blocks.met, change, counts))
 }

@@ -12,11 +12,10 @@ ghost use Rattle.aes3_status.specs.Taken.{AreKindsOf, telling_bits};
 ghost use Rattle.aes3_lock.specs.declared.report.Report.{Report};
 ghost use Rattle.aes3_lock.specs.Following.{report_in};
 ghost use Rattle.aes3_lock.specs.Reports.{blocks, reports, wholes};
-ghost use Rattle.aes3_lock.specs.Tallies.{IsTallyOf};
 ghost use Rattle.aes3_input.specs.Inputs.{cells_of};
 ghost use Rattle.aes3_input.specs.Running.{InputRun, movement_of};
 ghost use Rattle.aes3_runs.specs.BlockRuns.{normal_block, report_bytes, written_stream};
-ghost use Rattle.aes3_runs.specs.ReportRuns.{report_writing};
+ghost use Rattle.aes3_runs.specs.ReportRuns.{counts_of, report_writing};
 ghost use Rattle.aes3_engine.specs.Rewriting.{rewritten, rewritten_block, rewritten_blocks};
 ghost use Rattle.aes3_engine.specs.RewritingRuns.{AreMet, met_statuses, rewritten_answer};
 ghost use Rattle.aes3_engine.specs.RewritingRuns.{rewritten_cells, statuses_of, taken_of};
@@ -24,8 +23,8 @@ ghost use Rattle.aes3_engine.specs.RewritingRuns.{rewritten_cells, statuses_of, 
 use crate::rewriting::rewrite_block;
 use aes3_block::{Block, Channel, GatheredCells, put_block};
 use aes3_cell::{Counts, Fault, Form, Level, RunError, Sink, Source, put_ending};
-use aes3_lock::{Ending, Lock, Tally};
-use aes3_runs::{Locked, Reporter, drive};
+use aes3_lock::{Ending, Lock};
+use aes3_runs::{Reporter, run_reports};
 use aes3_status::{Change, Kinds, Settings, TELLING_BITS, Taken};
 
 /// The bit of a channel's status in a frame.
@@ -90,7 +89,6 @@ impl MetKinds {
 struct RewrittenBlocks {
     output: Form,
     change: Change,
-    tally: Tally,
     met: MetKinds,
 }
 
@@ -99,13 +97,11 @@ impl RewrittenBlocks {
     fn new(output: Form, change: &Change) -> Self
         ensures output { result.output ≡ output }
         ensures change { result.change ≡ change.now }
-        ensures tally { IsTallyOf result.tally [] }
         ensures met { AreMet result.met [] }
     {
         RewrittenBlocks {
             output,
             change: *change,
-            tally: Tally::new(),
             met: MetKinds::new(),
         }
     }
@@ -118,7 +114,6 @@ impl RewrittenBlocks {
         requires room { T.failed sink.old + 1 < 2 ^ 64 }
         ensures output { self.new.output ≡ self.old.output }
         ensures change { self.new.change ≡ self.old.change }
-        ensures tally { self.new.tally ≡ self.old.tally }
         ensures met { (bs : List (List (List Bool))) → AreMet self.old.met bs
             → AreMet self.new.met (bs ++ map (take payload_len) (read_words cells.now) ∷ []) }
         ensures wrote { Wrote T.taken T.failed sink.old sink.new
@@ -139,7 +134,6 @@ impl RewrittenBlocks {
         requires room { T.failed sink.old + 1 < 2 ^ 64 }
         ensures output { self.new.output ≡ self.old.output }
         ensures change { self.new.change ≡ self.old.change }
-        ensures tally { self.new.tally ≡ self.old.tally }
         ensures met { (r : List Report) → AreMet self.old.met (wholes r)
             → AreMet self.new.met (wholes (r ++ report_in lock.now ending ∷ [])) }
         ensures wrote { Wrote T.taken T.failed sink.old sink.new
@@ -156,25 +150,23 @@ impl RewrittenBlocks {
 }
 
 impl Reporter for RewrittenBlocks {
-    ghost follows = { λ k r. IsTallyOf k.tally r × AreMet k.met (wholes r) };
+    ghost follows = { λ k r. AreMet k.met (wholes r) };
 
     ghost writes = { λ k. report_writing (report_bytes (rewritten_block k.output k.change))
         (ending k.output) };
 
-    ghost finished = { λ k r. IsTallyOf k.tally r × AreMet k.met (wholes r) };
-
     #[inline(always)]
-    fn tell<T: Sink>(&mut self, sink: &mut T, lock: &Lock, ending: Ending) -> Result<(), Fault> {
-        match self.put(sink, lock, ending) {
-            Ok(()) => {
-                self.tally.count(lock, ending);
-                Ok(())
-            }
-            Err(fault) => Err(fault),
-        }
+    fn tell<T: Sink>(
+        &mut self,
+        sink: &mut T,
+        _blocks: u64,
+        lock: &Lock,
+        ending: Ending,
+    ) -> Result<(), Fault> {
+        self.put(sink, lock, ending)
     }
 
-    fn finish<T: Sink>(&mut self, sink: &mut T) -> Result<(), Fault> {
+    fn finish<T: Sink>(&self, sink: &mut T) -> Result<(), Fault> {
         put_ending(self.output, sink)
     }
 }
@@ -215,28 +207,23 @@ fn taken_in(
     }
 }
 
-/// What a run answers that has read so many bytes and cells.
-fn answer(reporter: &RewrittenBlocks, change: &Change, bytes: u64, cells: u64) -> Rewritten
-    ensures { (form : Form) (b : List ℕ) → bytes ≡ length b → cells ≡ length (cells_of form b)
-        → IsTallyOf reporter.now.tally (reports (cells_of form b))
-        → AreMet reporter.now.met (wholes (reports (cells_of form b)))
+/// What a run answers that has counted so, over blocks with these kinds of status.
+fn answer(met: &MetKinds, change: &Change, counts: Counts) -> Rewritten
+    ensures { (form : Form) (b : List ℕ) → counts ≡ counts_of form b
+        → AreMet met.now (wholes (reports (cells_of form b)))
         → result ≡ rewritten_answer form change.now b }
 {
-    let tally = &reporter.tally;
-    let met = &reporter.met;
     Rewritten {
-        counts: Counts {
-            bytes,
-            cells,
-            blocks: tally.blocks,
-            faults: tally.faults,
-            unfinished: tally.unfinished,
-            marks: 0,
-        },
-        first: taken_in(&met.first, tally.blocks, &change.status1, &change.settings1),
+        counts,
+        first: taken_in(
+            &met.first,
+            counts.blocks,
+            &change.status1,
+            &change.settings1,
+        ),
         second: taken_in(
             &met.second,
-            tally.blocks,
+            counts.blocks,
             &change.status2,
             &change.settings2,
         ),
@@ -276,9 +263,7 @@ pub fn rewrite<S: Source, T: Sink>(
         (movement_of T.taken T.failed sink.old sink.new) result }
     ensures passed_on { IfOk result (λ _. T.passed sink.new ≡ T.taken sink.new) }
 {
-    let mut taker = Locked::new(RewrittenBlocks::new(output, change));
-    match drive(source, sink, max_bytes, input, &mut taker) {
-        Ok((bytes, cells)) => Ok(answer(&taker.reporter, change, bytes, cells)),
-        Err(error) => Err(error),
-    }
+    let blocks = RewrittenBlocks::new(output, change);
+    let (counts, blocks) = run_reports(source, sink, max_bytes, input, blocks)?;
+    Ok(answer(&blocks.met, change, counts))
 }

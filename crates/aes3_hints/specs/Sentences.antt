@@ -1,66 +1,15 @@
 -- What is told at a terminal: before a job, and of a refusal.
-use Rattle.std.specs.Prelude.{ℕ, Bool, true, false, List, [], ◌∷◌, ◌++◌, Option, ◌≡◌, ◌⊎◌, ◌&&◌, if◌then◌else◌, codes}
+use Rattle.std.specs.Prelude.{ℕ, Bool, List, [], ◌∷◌, ◌++◌, Option, ◌≡◌, ◌⊎◌, ◌&&◌, if◌then◌else◌, codes}
 use Rattle.std.specs.Prelude.{IsTrue}
 use Rattle.std.specs.List.{list_any}
 use Rattle.std.specs.Str.{bytes_eq}
 use Rattle.aes3_cell.specs.Ends.{Grew}
-use Rattle.aes3_cell.specs.declared.form.Form.{Form}
-use Rattle.aes3_cell.specs.declared.form.Form.TheVariants.{Text, Packed}
 use Rattle.aes3_cell.specs.declared.refusal.RunError.{RunError}
 use Rattle.aes3_cell.specs.Refusals.{number_of}
 use Rattle.aes3_arguments.specs.Explained.{advice_of}
 use Rattle.aes3_hints.specs.declared.hints.Terminals.{Terminals}
+use Rattle.aes3_job.specs.Forms.{writes_packed}
 use Rattle.aes3_job.specs.declared.job.Job.{Job}
-use Rattle.aes3_job.specs.declared.job.Job.TheVariants.{Encode, Decode, Normal, Check, Account, Watch, WatchSums}
-use Rattle.aes3_job.specs.declared.job.Job.TheVariants.{Show, ShowChanges, Scan, Cut, Rewrite, ToPcm, FromPcm, ToBits}
-use Rattle.aes3_job.specs.declared.job.Job.TheVariants.{Info, ToExactPcm, ToFilledPcm}
-
--- whether it is the packed form
-abbrev pub is_packed : Form → Bool
-is_packed Text = false
-is_packed Packed = true
-
--- whether the job writes packed cells
-abbrev pub writes_packed : Job → Bool
-writes_packed (Encode output words) = is_packed output
-writes_packed (Decode input words) = false
-writes_packed (Normal input output) = is_packed output
-writes_packed (Check input lines) = false
-writes_packed (Account input lines) = false
-writes_packed (Watch input style) = false
-writes_packed (WatchSums input style every) = false
-writes_packed (Info input notation) = false
-writes_packed (Show input detail) = false
-writes_packed (ShowChanges input detail) = false
-writes_packed (Scan input) = false
-writes_packed (Cut input output from count) = is_packed output
-writes_packed (Rewrite input output change exact) = is_packed output
-writes_packed (ToPcm input format valid) = false
-writes_packed (ToExactPcm input format) = false
-writes_packed (ToFilledPcm input format fill marked) = false
-writes_packed (FromPcm format exact change words) = false
-writes_packed (ToBits input bits channel) = false
-
--- whether the job reads packed cells
-abbrev pub reads_packed : Job → Bool
-reads_packed (Encode output words) = false
-reads_packed (Decode input words) = is_packed input
-reads_packed (Normal input output) = is_packed input
-reads_packed (Check input lines) = is_packed input
-reads_packed (Account input lines) = is_packed input
-reads_packed (Watch input style) = is_packed input
-reads_packed (WatchSums input style every) = is_packed input
-reads_packed (Info input notation) = is_packed input
-reads_packed (Show input detail) = is_packed input
-reads_packed (ShowChanges input detail) = is_packed input
-reads_packed (Scan input) = is_packed input
-reads_packed (Cut input output from count) = is_packed input
-reads_packed (Rewrite input output change exact) = is_packed input
-reads_packed (ToPcm input format valid) = is_packed input
-reads_packed (ToExactPcm input format) = is_packed input
-reads_packed (ToFilledPcm input format fill marked) = is_packed input
-reads_packed (FromPcm format exact change words) = false
-reads_packed (ToBits input bits channel) = is_packed input
 
 -- what is told before a job where standard input, or output, is a terminal or isn't
 abbrev pub reads_hint : Bool → List ℕ

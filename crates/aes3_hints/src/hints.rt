@@ -5,13 +5,13 @@ ghost use Rattle.aes3_cell.specs.Ends.{Grew};
 ghost use Rattle.aes3_cell.specs.Refusals.{number_of};
 ghost use Rattle.aes3_arguments.specs.Explained.{advice_of};
 ghost use Rattle.aes3_hints.specs.Sentences.{Explained, ExplainedBy, greeting, is_told, reads_hint};
-ghost use Rattle.aes3_hints.specs.Sentences.{reads_packed};
-ghost use Rattle.aes3_hints.specs.Sentences.{writes_hint, writes_packed};
+ghost use Rattle.aes3_hints.specs.Sentences.{writes_hint};
+ghost use Rattle.aes3_job.specs.Hearing.{Hearing};
 
 use crate::looks::{advice_by_looks, advice_on_taken};
 use crate::watched::{Position, Watched};
 use aes3_arguments::{CommandLine, LineFault, advice, status_of_text};
-use aes3_cell::{Form, RunError, Sink, Source, write_all};
+use aes3_cell::{RunError, Sink, Source, write_all};
 use aes3_files::FileKind;
 use aes3_job::{Job, Observer};
 use aes3_progress::{Course, Progress, Unit};
@@ -57,6 +57,8 @@ impl<T: Sink + Drop> Hints<T> {
     pub fn new(alloc: Global, sink: T, terminals: Terminals) -> Self
         ensures sink { result.sink ≡ sink }
         ensures terminals { result.terminals ≡ terminals }
+        ensures job { result.job ≡ None }
+        ensures refusal { result.refusal ≡ None }
     {
         Hints {
             alloc,
@@ -73,6 +75,8 @@ impl<T: Sink + Drop> Hints<T> {
         ensures sink { self.new.sink ≡ self.old.sink }
         ensures input { IsFalse self.new.terminals.input }
         ensures errors { self.new.terminals.errors ≡ self.old.terminals.errors }
+        ensures job { self.new.job ≡ self.old.job }
+        ensures refusal { self.new.refusal ≡ self.old.refusal }
     {
         self.terminals.input = false;
         self.names_file = true;
@@ -124,6 +128,7 @@ impl<T: Sink + Drop> Hints<T> {
         ensures told { IsTrue self.old.terminals.errors → T.failed self.new.sink ≡ 0
             → IfSome self.old.refusal (λ error. Explained error (T.taken self.old.sink)
             (T.taken self.new.sink)) }
+        ensures job { self.new.job ≡ self.old.job }
     {
         if !self.terminals.errors {
             self.tell_looks(words, source);
@@ -168,6 +173,7 @@ impl<T: Sink + Drop> Hints<T> {
             → T.taken self.new.sink ≡ T.taken self.old.sink }
         ensures told { IsTrue self.old.terminals.errors → T.failed self.new.sink ≡ 0
             → Explained error (T.taken self.old.sink) (T.taken self.new.sink) }
+        ensures job { self.new.job ≡ self.old.job }
     {
         match told {
             Some(told) => self.tell_advice(error, place, told),
@@ -182,6 +188,7 @@ impl<T: Sink + Drop> Hints<T> {
             → T.taken self.new.sink ≡ T.taken self.old.sink }
         ensures told { IsTrue self.old.terminals.errors → T.failed self.new.sink ≡ 0
             → ExplainedBy advice.now (T.taken self.old.sink) (T.taken self.new.sink) }
+        ensures job { self.new.job ≡ self.old.job }
     {
         let what = refused_text(self.alloc, error, place).unwrap_or(String::new(self.alloc));
         self.tell("aes3: ");
@@ -194,6 +201,7 @@ impl<T: Sink + Drop> Hints<T> {
     fn tell_looks<S: Source + Drop>(&mut self, words: &[&str], source: &Watched<S>)
         ensures silent { IsFalse (self.old.terminals.errors || self.old.names_file)
             → T.taken self.new.sink ≡ T.taken self.old.sink }
+        ensures job { self.new.job ≡ self.old.job }
     {
         if let Some(told) = looks_of(self.refusal, self.job, words, source) {
             self.hint("aes3: ");
@@ -208,6 +216,7 @@ impl<T: Sink + Drop> Hints<T> {
             → T.taken self.new.sink ≡ T.taken self.old.sink }
         ensures terminals { self.new.terminals ≡ self.old.terminals }
         ensures named { self.new.names_file ≡ self.old.names_file }
+        ensures job { self.new.job ≡ self.old.job }
     {
         if (self.terminals.errors || self.names_file) && self.sink.failures() == 0 {
             let _ = write_all(&mut self.sink, text.as_bytes());
@@ -224,6 +233,7 @@ impl<T: Sink + Drop> Hints<T> {
         ensures terminals { self.new.terminals ≡ self.old.terminals }
         ensures named { self.new.names_file ≡ self.old.names_file }
         ensures job { self.new.job ≡ self.old.job }
+        ensures refusal { self.new.refusal ≡ self.old.refusal }
     {
         if self.terminals.errors && self.sink.failures() == 0 {
             let _ = write_all(&mut self.sink, text.as_bytes());
@@ -324,32 +334,11 @@ fn text_of_option<'a>(words: &[&'a str], at: usize, name: &str) -> Option<&'a st
     }
 }
 
-/// How many bytes of a block file make a block.
-const BLOCK_FILE_LEN: u64 = 1536;
-
-/// How many of packed cells do.
-const PACKED_LEN: u64 = 3072;
-
 /// What makes a block of the job's input.
 fn unit_of(job: &Job) -> Unit {
-    match job {
-        Job::Encode { .. } => Unit::Bytes(BLOCK_FILE_LEN),
-        Job::FromPcm { format, .. } => Unit::Bytes(format.block_len() as u64),
-        job if reads_packed(job) => Unit::Bytes(PACKED_LEN),
-        _ => Unit::Cells,
-    }
-}
-
-/// Whether the job writes packed cells.
-pub fn writes_packed(job: &Job) -> bool
-    ensures { result ≡ writes_packed job.now }
-{
-    match job {
-        Job::Encode { output, .. }
-        | Job::Normal { output, .. }
-        | Job::Cut { output, .. }
-        | Job::Rewrite { output, .. } => matches!(output, Form::Packed),
-        _ => false,
+    match job.block_len() {
+        Some(len) => Unit::Bytes(len),
+        None => Unit::Cells,
     }
 }
 
@@ -368,35 +357,10 @@ fn reads_hint(is_terminal: bool) -> &'static str
 fn writes_hint(is_terminal: bool, job: &Job) -> &'static str
     ensures { result.now ≡ writes_hint is_terminal job.now }
 {
-    if is_terminal && writes_packed(job) {
+    if is_terminal && job.writes_packed() {
         "aes3: writes packed cells to the terminal; to a file by > FILE\n"
     } else {
         ""
-    }
-}
-
-/// Whether the job reads packed cells.
-pub fn reads_packed(job: &Job) -> bool
-    ensures { result ≡ reads_packed job.now }
-{
-    match job {
-        Job::Encode { .. } | Job::FromPcm { .. } => false,
-        Job::Decode { input, .. }
-        | Job::Normal { input, .. }
-        | Job::Check { input, .. }
-        | Job::Account { input, .. }
-        | Job::Watch { input, .. }
-        | Job::WatchSums { input, .. }
-        | Job::Info { input, .. }
-        | Job::Show { input, .. }
-        | Job::ShowChanges { input, .. }
-        | Job::Scan { input }
-        | Job::Cut { input, .. }
-        | Job::Rewrite { input, .. }
-        | Job::ToPcm { input, .. }
-        | Job::ToExactPcm { input, .. }
-        | Job::ToFilledPcm { input, .. }
-        | Job::ToBits { input, .. } => matches!(input, Form::Packed),
     }
 }
 
@@ -404,6 +368,9 @@ impl<T: Sink + Drop> Observer for Hints<T> {
     ghost told = { λ h. T.taken h.sink };
 
     ghost is_silent = { λ h. not (h.terminals.errors || h.names_file) };
+
+    ghost heard = { λ h hearing. (h.job ≡ hearing.job) × (h.refusal ≡ hearing.refusal)
+        × (h.terminals.errors ≡ hearing.terminal) };
 
     fn begins(&mut self, job: &Job)
         ensures silent { IsTrue (not (self.old.terminals.errors || self.old.names_file))
@@ -416,6 +383,10 @@ impl<T: Sink + Drop> Observer for Hints<T> {
             → Grew (T.taken self.old.sink) (T.taken self.new.sink)
             (greeting self.old.terminals job.now) }
         ensures job { self.new.job ≡ Some job.now }
+        ensures heard { (hearing : Hearing) → (self.old.job ≡ hearing.job)
+            × (self.old.refusal ≡ hearing.refusal) × (self.old.terminals.errors ≡ hearing.terminal)
+            → (self.new.job ≡ Some job.now) × (self.new.refusal ≡ hearing.refusal)
+            × (self.new.terminals.errors ≡ hearing.terminal) }
     {
         self.job = Some(*job);
         self.tell(reads_hint(self.terminals.input));
@@ -427,6 +398,10 @@ impl<T: Sink + Drop> Observer for Hints<T> {
         ensures same { not (self.new.terminals.errors || self.new.names_file)
             ≡ not (self.old.terminals.errors || self.old.names_file) }
         ensures refusal { self.new.refusal ≡ Some error }
+        ensures heard { (hearing : Hearing) → (self.old.job ≡ hearing.job)
+            × (self.old.refusal ≡ hearing.refusal) × (self.old.terminals.errors ≡ hearing.terminal)
+            → (self.new.job ≡ hearing.job) × (self.new.refusal ≡ Some error)
+            × (self.new.terminals.errors ≡ hearing.terminal) }
     {
         self.refusal = Some(error);
     }

@@ -10,5 +10,5 @@ mod watched;
 /// Whether samples look like those of another form.
 mod widths;
 
-pub use hints::{Hints, Terminals, reads_packed, writes_packed};
+pub use hints::{Hints, Terminals};
 pub use watched::Watched;

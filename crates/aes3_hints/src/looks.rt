@@ -3,12 +3,11 @@
 ghost use Rattle.std.specs.Prelude.{IfSome, IsTrue};
 ghost use Rattle.aes3_hints.specs.Sentences.{is_told};
 
-use crate::hints::reads_packed;
 use crate::watched::HEAD_LEN;
 use crate::widths::advice_on_width;
 use aes3_cell::{Form, RunError};
 use aes3_files::{FileKind, SoundFile, are_packed, are_turned};
-use aes3_job::Job;
+use aes3_job::{Job, ReadWork};
 use aes3_pcm::SampleFormat;
 
 /// What to do with a sound file.
@@ -159,8 +158,10 @@ pub(crate) fn advice_on_taken(
 ) -> Option<&'static str> {
     let looks = FileKind::of(first);
     match job {
-        Job::Watch { input, .. } | Job::WatchSums { input, .. }
-            if has_no_cell(*input, words, head) => {
+        Job::Read {
+            input,
+            work: ReadWork::Watch { .. } | ReadWork::WatchSums { .. },
+        } if has_no_cell(*input, words, head) => {
             Some("no cell came: does the program run that writes the cells?")
         }
         Job::FromPcm { format, .. } => match looks {
@@ -169,7 +170,7 @@ pub(crate) fn advice_on_taken(
             }
             _ => advice_on_width(*format, head),
         },
-        job if reads_packed(job) => advice_on_packed(words, looks, first),
+        job if job.reads_packed() => advice_on_packed(words, looks, first),
         _ => None,
     }
 }

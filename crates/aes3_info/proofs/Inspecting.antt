@@ -1,7 +1,6 @@
 -- What is known of cells, as they come.
 use Rattle.std.proofs.Common.{◌≡◌, ℕ, false, List, [], ◌∷◌, ◌++◌}
-use Rattle.std.proofs.Common.{Result, Ok, Err, IfOk, append_assoc, length, refl, sym, ap, ap₂, ◌∙◌}
-use Rattle.std.specs.Prelude.{OnErr}
+use Rattle.std.proofs.Common.{append_assoc, length, refl, sym, ap, ap₂, ◌∙◌}
 use Rattle.aes3_level.specs.declared.level.Level.{Level}
 use Rattle.aes3_cell.specs.declared.form.Form.{Form}
 use Rattle.aes3_cell.specs.declared.counts.Counts.{Counts}
@@ -13,6 +12,10 @@ use Rattle.aes3_gaps.specs.Gaps.{account, account_from, behind_report, gaps, gap
 use Rattle.aes3_gaps.proofs.GapLemmas.{reached-push}
 use Rattle.aes3_input.specs.Inputs.{cells_of}
 use Rattle.aes3_input.specs.Taking.{behind, before_end, with_end}
+use Rattle.aes3_input.specs.Driving.{counted_cells}
+use Rattle.aes3_input.proofs.CellRuns.{cells-give}
+use Rattle.aes3_input.proofs.InputRuns.{Gives}
+use Rattle.aes3_runs.specs.ReportRuns.{counts_of, heard_cells}
 use Rattle.aes3_settings.specs.declared.style.Notation.{Notation}
 use Rattle.aes3_info.specs.declared.facts.Facts.{Facts}
 use Rattle.aes3_info.specs.declared.gaps.GapFacts.{GapFacts}
@@ -129,44 +132,34 @@ unfolding with_end inspecting
 with-page notation c = ap (λ z. z ++ info_page notation c) (before-page notation c)
 
 -- what is counted
-pub info-counted : (form : Form) (b : List ℕ) (bytes cells : ℕ) (f : Facts) → bytes ≡ length b
-    → cells ≡ length (cells_of form b) → f ≡ facts_of (cells_of form b)
+pub info-counted : (form : Form) (b : List ℕ) {n : Counts} (f : Facts) → n ≡ counts_of form b
+    → f ≡ facts_of (cells_of form b)
     → ◌≡◌ {A = Counts} (record {
-      bytes = bytes;
-      cells = cells;
+      bytes = n.bytes;
+      cells = n.cells;
       blocks = f.reports.whole;
       faults = faults_in f;
       unfinished = f.reports.unfinished;
       marks = 0;
     }) (info_counts form b)
-unfolding info_counts
-info-counted form b bytes cells f e k h =
-    ap₂ (λ (x y : ℕ). record {
-      bytes = x;
-      cells = y;
-      blocks = f.reports.whole;
-      faults = faults_in f;
-      unfinished = f.reports.unfinished;
-      marks = 0;
-    }) e k
-    ∙ ap (λ (z : Facts). record {
-      bytes = length b;
-      cells = length (cells_of form b);
+unfolding info_counts counts_of
+info-counted form b f e h =
+    ap₂ (λ (v : Counts) (z : Facts). record {
+      bytes = v.bytes;
+      cells = v.cells;
       blocks = z.reports.whole;
       faults = faults_in z;
       unfinished = z.reports.unfinished;
       marks = 0;
-    }) h
+    }) e h
 
--- what stands where a call answers Ok, and where it answers an error
-pub ok-then : {R E P Q : Type 0} (r : Result R E) → IfOk r (λ _. P) → (P → Q) → IfOk r (λ _. Q)
-ok-then (Ok v) p f = f p
-ok-then (Err e) p f = tt
+-- the run
+pub gives-page : {A : Type 0} (form : Form) {m notation : Notation} (z : A → List Level → Type 0) → m ≡ notation
+    → Gives (heard_cells form (inspecting m) z) (counted_cells form (info_page notation) no_page (info_counts form))
+gives-page form {m} {notation} z e =
+    cells-give form (info_page notation) no_page (λ c. with-page m c ∙ ap (λ v. info_page v c) e) (before-page m)
 
-pub err-then : {R E P Q : Type 0} (r : Result R E) → OnErr r P → (P → Q) → OnErr r Q
-err-then (Ok v) p f = tt
-err-then (Err e) p f = f p
-
+-- the lines of a page, one behind the other
 pub four-parts : (h a b z : List ℕ) → ((h ++ a) ++ b) ++ z ≡ h ++ (a ++ (b ++ z))
 four-parts h a b z = append_assoc (h ++ a) b z ∙ append_assoc h a (b ++ z)
 

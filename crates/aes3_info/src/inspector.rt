@@ -20,11 +20,10 @@ use crate::gaps::{BLOCK_CELLS, GapFacts, behind_full};
 use crate::more::more;
 use crate::page::put_page;
 use crate::reports::ReportFacts;
-use aes3_account::{CellReporter, Counted};
 use aes3_block::Channel;
 use aes3_cell::{Counts, Fault, Form, RunError, Sink, Source};
-use aes3_input::drive;
 use aes3_lock::{Ending, Lock};
+use aes3_runs::{Listener, run_cells};
 use aes3_settings::Notation;
 
 /// What is known of a recording of which some cells have come.
@@ -117,8 +116,8 @@ impl Inspector {
         self.place = self.place_behind(lock, ending);
     }
 
-    /// Takes the end of `seen` cells: the gaps behind the last report.
-    fn end(&mut self, seen: u64)
+    /// Counts the gaps behind the last report, up to the end of `seen` cells.
+    fn count_rest(&mut self, seen: u64)
         ensures notation { self.new.notation ≡ self.old.notation }
         ensures facts { (r : List Report) → Behind self.old.facts self.old.place r
             → self.new.facts ≡ facts_with seen r (account_from 0 0 r ++ gaps false self.old.place seen) }
@@ -128,43 +127,47 @@ impl Inspector {
     }
 }
 
-impl CellReporter for Inspector {
+impl Listener for Inspector {
     ghost follows = { λ k. Inspects k.facts k.place };
 
     ghost writes = { λ k. inspecting k.notation };
 
     ghost finished = { λ k c. k.facts ≡ facts_of c };
 
-    fn pass<T: Sink>(&mut self, _sink: &mut T, _seen: u64) -> Result<(), Fault> {
-        Ok(())
-    }
-
-    fn take<T: Sink>(
+    fn hear<T: Sink>(
         &mut self,
         _sink: &mut T,
         lock: &Lock,
-        ending: Ending,
-        _seen: u64,
+        _blocks: u64,
+        ending: Option<Ending>,
     ) -> Result<(), Fault> {
-        self.count(lock, ending);
-        Ok(())
+        match ending {
+            Some(ending) => {
+                self.count(lock, ending);
+                Ok(())
+            }
+            None => Ok(()),
+        }
     }
 
-    fn close<T: Sink>(&mut self, sink: &mut T, seen: u64) -> Result<(), Fault> {
-        self.end(seen);
-        put_page(sink, self.notation, &self.facts)
-    }
-
-    fn close_with<T: Sink>(
+    fn end<T: Sink>(
         &mut self,
         sink: &mut T,
         lock: &Lock,
-        ending: Ending,
-        seen: u64,
+        _blocks: u64,
+        ending: Option<Ending>,
     ) -> Result<(), Fault> {
-        self.count(lock, ending);
-        self.end(seen);
-        put_page(sink, self.notation, &self.facts)
+        match ending {
+            Some(ending) => {
+                self.count(lock, ending);
+                self.count_rest(lock.seen());
+                put_page(sink, self.notation, &self.facts)
+            }
+            None => {
+                self.count_rest(lock.seen());
+                put_page(sink, self.notation, &self.facts)
+            }
+        }
     }
 }
 
@@ -203,12 +206,12 @@ pub fn info<S: Source, T: Sink>(
         (movement_of T.taken T.failed sink.old sink.new) result }
     ensures passed_on { IfOk result (λ _. T.passed sink.new ≡ T.taken sink.new) }
 {
-    let mut taker = Counted::new(Inspector::new(notation));
-    let (bytes, cells) = drive(source, sink, max_bytes, input, &mut taker)?;
-    let facts = &taker.reporter.facts;
+    let inspector = Inspector::new(notation);
+    let (counts, inspector) = run_cells(source, sink, max_bytes, input, inspector)?;
+    let facts = &inspector.facts;
     Ok(Counts {
-        bytes,
-        cells,
+        bytes: counts.bytes,
+        cells: counts.cells,
         blocks: facts.reports.whole,
         faults: more(
             more(facts.reports.marked, facts.reports.fault),

@@ -1,11 +1,10 @@
 -- What the two forms of cells make of an input's bytes.
-use Rattle.std.specs.Prelude.{ℕ, List, ◌++◌, Some, None, Result, Ok, Err, ◌≡◌, ◌+◌, ◌<◌, ◌≤◌, length, take}
+use Rattle.std.specs.Prelude.{ℕ, List, ◌++◌, Some, None, Result, Ok, Err, ◌≡◌, ◌+◌, ◌<◌, length, take}
 use Rattle.std.specs.Prelude.{if◌then◌else◌}
 use Rattle.aes3_level.specs.declared.level.Level.{Level}
 use Rattle.aes3_cell.specs.declared.refusal.RunError.TheVariants.{BadCell, BadPadding}
 use Rattle.aes3_cell.specs.declared.ends.Fault.{Fault}
 use Rattle.aes3_cell.specs.Ends.{Grew, GrewFront}
-use Rattle.aes3_level.specs.Words.{low_cells}
 use Rattle.aes3_cell.specs.Packed.{octet_cells, is_packed, last_place, cells_of_packed, whole_cells}
 use Rattle.aes3_cell.specs.PackedReading.{PackedReader, packed_reader_of, packed_answer, packed_end, answer_cells}
 use Rattle.aes3_cell.specs.PackedReading.{end_cells}
@@ -88,12 +87,13 @@ CellsRan old new d sink (Ok u) =
 CellsRan old new d sink (Err x) =
     Failed sink × ((c : List Level) → old.follows c → GrewFront sink.old sink.new (behind old.writes c d))
 
--- of the first cells of a word, as many as told and one at least; where the sink failed, a front of what they write was
--- taken
-abbrev pub FirstCellsRan : TakerState Level → TakerState Level → ℕ → ℕ → Movement → Result ℕ Fault → Type 0
-FirstCellsRan old new len word sink (Ok n) =
-    (0 < n) × (n ≤ len) × CellsRan old new (low_cells n word) sink (Ok tt)
-FirstCellsRan old new len word sink (Err x) = CellsRan old new (low_cells len word) sink (Err x)
+-- a taker took the first of the cells `line`, one at least, so that `rest` is left; where the sink failed, a front of what
+-- all of them write was taken
+abbrev pub SomeCellsRan : TakerState Level → TakerState Level → List Level → List Level → Movement
+    → Result (Unit {0}) Fault → Type 0
+SomeCellsRan old new line rest sink (Ok u) =
+    (front : List Level) × (line ≡ front ++ rest) × (0 < length front) × CellsRan old new front sink (Ok u)
+SomeCellsRan old new line rest sink (Err x) = CellsRan old new line sink (Err x)
 
 -- what cells write that come, and the end behind them
 abbrev pub ending : Writing Level → List Level → List Level → List ℕ

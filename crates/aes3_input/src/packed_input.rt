@@ -14,7 +14,7 @@ ghost use Rattle.aes3_input.specs.Forms.{octet_front, packed_reading};
 ghost use Rattle.aes3_input.specs.Running.{FrontRan, PieceRan, movement_of};
 
 use crate::conversion::{Input, convert};
-use crate::taker::Taker;
+use crate::taker::{Taker, cells, take_all};
 use aes3_cell::{Fault, PackedIn, RunError, Sink, Source};
 
 /// How many words are handed on at once: enough that the calls for them cost next to nothing.
@@ -62,7 +62,7 @@ fn hand_on<T: Sink, K: Taker>(taker: &mut K, sink: &mut T, octet: u8, used: u8) 
     ensures { CellsRan (K.state taker.old) (K.state taker.new) (octet_front used octet)
         (movement_of T.taken T.failed sink.old sink.new) result }
 {
-    taker.cells(sink, word_of_octet(octet), u32::from(used))
+    cells(taker, sink, word_of_octet(octet), u32::from(used))
 }
 
 /// Hands the first `used` cells of an octet to the taker, and then the end.
@@ -186,7 +186,7 @@ impl<K: Taker> Input<K> for PackedInput {
         if count == 0 {
             return take_first(self, taker, sink, piece);
         }
-        match taker.words(sink, &self.words[..count]) {
+        match take_all(taker, sink, &self.words, 64 * count) {
             Ok(()) => {
                 self.cells += 64 * count as u64;
                 Ok(8 * count)

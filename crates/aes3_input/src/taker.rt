@@ -5,12 +5,14 @@ ghost use Rattle.std.specs.Prelude.{IfOk, OnErr};
 ghost use Rattle.std.specs.List.{flat_map};
 ghost use Rattle.aes3_level.specs.declared.level.Level.{Level};
 ghost use Rattle.aes3_cell.specs.Ends.{Grew, GrewFront};
-ghost use Rattle.aes3_level.specs.Words.{low_cells, word_cells};
-ghost use Rattle.aes3_input.specs.Forms.{CellsRan, FirstCellsRan};
+ghost use Rattle.aes3_level.specs.Remaining.{all_of};
+ghost use Rattle.aes3_level.specs.Words.{cells_in, low_cells, word_cells};
+ghost use Rattle.aes3_input.specs.Forms.{CellsRan, SomeCellsRan};
 ghost use Rattle.aes3_input.specs.Taking.{TakerState};
 ghost use Rattle.aes3_input.specs.Running.{movement_of};
 
 use aes3_cell::{Fault, Level, Sink};
+use aes3_level::Cells;
 
 /// Takes the cells of an input, in runs of words or in one word with fewer cells, and their end.
 ///
@@ -20,19 +22,17 @@ use aes3_cell::{Fault, Level, Sink};
 pub trait Taker {
     ghost state: { Self → TakerState Level };
 
-    /// Takes at least one more cell and at most `len`, the first in the lowest bit of `word`, and
-    /// answers how many it took.
+    /// Takes the first of the cells, one or more.
     ///
     /// # Errors
-    /// The sink's fault; then it has taken a front of what `len` cells write.
-    fn take_front<T: Sink>(&mut self, sink: &mut T, word: u64, len: u32) -> Result<u32, Fault>
-        requires some { 0 < len }
-        requires few { len ≤ 64 }
+    /// The sink's fault; then it has taken a front of what all the cells write.
+    fn take<T: Sink>(&mut self, sink: &mut T, cells: &mut Cells<'_>) -> Result<(), Fault>
+        requires some { 0 < length (all_of cells.old) }
         requires room { T.failed sink.old + 1 < 2 ^ 64 }
-        requires following { (c : List Level) × (length c + len ≤ 2 ^ 43)
+        requires following { (c : List Level) × (length c + length (all_of cells.old) ≤ 2 ^ 43)
             × (state self.old).follows c }
-        ensures ran { FirstCellsRan (state self.old) (state self.new) len word
-            (movement_of T.taken T.failed sink.old sink.new) result };
+        ensures ran { SomeCellsRan (state self.old) (state self.new) (all_of cells.old)
+            (all_of cells.new) (movement_of T.taken T.failed sink.old sink.new) result };
 
     /// Takes the end of the cells.
     ///
@@ -49,45 +49,67 @@ pub trait Taker {
         ensures err_count { OnErr result (T.failed sink.new ≡ T.failed sink.old + 1) }
         ensures err_grew { OnErr result ((c : List Level) → (state self.old).follows c
             → GrewFront (T.taken sink.old) (T.taken sink.new) ((state self.old).writes.ends c)) };
-
-    /// Takes `len` more cells, the first in the lowest bit of `word`.
-    ///
-    /// # Errors
-    /// The sink's fault; then it has taken a front of what the cells write.
-    fn cells<T: Sink>(&mut self, sink: &mut T, word: u64, len: u32) -> Result<(), Fault>
-        requires few { len ≤ 64 }
-        requires room { T.failed sink.old + 1 < 2 ^ 64 }
-        requires following { (c : List Level) × (length c + len ≤ 2 ^ 43)
-            × (state self.old).follows c }
-        ensures ran { CellsRan (state self.old) (state self.new) (low_cells len word)
-            (movement_of T.taken T.failed sink.old sink.new) result }
-    {
-        let mut taken = 0;
-        while taken < len {
-            taken += self.take_front(sink, word >> taken, len - taken)?;
-        }
-        Ok(())
-    }
-
-    /// Takes 64 more cells for each word, the first in its lowest bit.
-    ///
-    /// # Errors
-    /// The sink's fault; then it has taken a front of what the cells write.
-    fn words<T: Sink>(&mut self, sink: &mut T, words: &[u64]) -> Result<(), Fault>
-        requires room { T.failed sink.old + 1 < 2 ^ 64 }
-        requires following { (c : List Level) × (length c + 64 * length words.now ≤ 2 ^ 43)
-            × (state self.old).follows c }
-        ensures ran { CellsRan (state self.old) (state self.new) (flat_map word_cells words.now)
-            (movement_of T.taken T.failed sink.old sink.new) result }
-    {
-        for word in words.iter() {
-            self.cells(sink, *word, u64::BITS)?;
-        }
-        Ok(())
-    }
 }
 
-/// Takes 64 more cells for each word, and `len` of one more word behind them.
+/// Takes the first `len` cells of words, 64 a word, the first in the lowest bit.
+///
+/// # Errors
+/// The sink's fault; then it has taken a front of what the cells write.
+pub(crate) fn take_all<K: Taker, T: Sink>(
+    taker: &mut K,
+    sink: &mut T,
+    words: &[u64],
+    len: usize,
+) -> Result<(), Fault>
+    requires within { len ≤ 64 * length words.now }
+    requires room { T.failed sink.old + 1 < 2 ^ 64 }
+    requires following { (c : List Level) × (length c + len ≤ 2 ^ 43)
+        × (K.state taker.old).follows c }
+    ensures ran { CellsRan (K.state taker.old) (K.state taker.new) (cells_in words.now 0 len)
+        (movement_of T.taken T.failed sink.old sink.new) result }
+{
+    let mut cells = Cells::of_words(words, 0, len);
+    while !cells.is_empty() {
+        taker.take(sink, &mut cells)?;
+    }
+    Ok(())
+}
+
+/// Takes `len` more cells, the first in the lowest bit of `word`.
+///
+/// # Errors
+/// The sink's fault; then it has taken a front of what the cells write.
+pub(crate) fn cells<K: Taker, T: Sink>(
+    taker: &mut K,
+    sink: &mut T,
+    word: u64,
+    len: u32,
+) -> Result<(), Fault>
+    requires few { len ≤ 64 }
+    requires room { T.failed sink.old + 1 < 2 ^ 64 }
+    requires following { (c : List Level) × (length c + len ≤ 2 ^ 43)
+        × (K.state taker.old).follows c }
+    ensures ran { CellsRan (K.state taker.old) (K.state taker.new) (low_cells len word)
+        (movement_of T.taken T.failed sink.old sink.new) result }
+{
+    take_all(taker, sink, &[word], len as usize)
+}
+
+/// Takes 64 more cells for each word.
+///
+/// # Errors
+/// The sink's fault; then it has taken a front of what the cells write.
+fn whole_words<K: Taker, T: Sink>(taker: &mut K, sink: &mut T, words: &[u64]) -> Result<(), Fault>
+    requires room { T.failed sink.old + 1 < 2 ^ 64 }
+    requires following { (c : List Level) × (length c + 64 * length words.now ≤ 2 ^ 43)
+        × (K.state taker.old).follows c }
+    ensures ran { CellsRan (K.state taker.old) (K.state taker.new) (flat_map word_cells words.now)
+        (movement_of T.taken T.failed sink.old sink.new) result }
+{
+    take_all(taker, sink, words, 64 * words.len())
+}
+
+/// Takes 64 more cells for each word, and then `len` of one more word.
 ///
 /// # Errors
 /// The sink's fault; then it has taken a front of what the cells write.
@@ -106,8 +128,8 @@ pub(crate) fn words_and_cells<K: Taker, T: Sink>(
         (flat_map word_cells words.now ++ low_cells len word)
         (movement_of T.taken T.failed sink.old sink.new) result }
 {
-    taker.words(sink, words)?;
-    taker.cells(sink, word, len)
+    whole_words(taker, sink, words)?;
+    cells(taker, sink, word, len)
 }
 
 /// Takes one more cell.
@@ -129,7 +151,7 @@ pub fn cell<K: Taker, T: Sink>(taker: &mut K, sink: &mut T, level: Level) -> Res
         → GrewFront (T.taken sink.old) (T.taken sink.new)
         ((K.state taker.old).writes.adds c level)) }
 {
-    taker.cells(sink, word_of_cell(level), 1)
+    cells(taker, sink, word_of_cell(level), 1)
 }
 
 /// Takes 64 more cells, the first in the lowest bit of `word`.
@@ -143,7 +165,7 @@ pub fn word<K: Taker, T: Sink>(taker: &mut K, sink: &mut T, word: u64) -> Result
     ensures ran { CellsRan (K.state taker.old) (K.state taker.new) (word_cells word)
         (movement_of T.taken T.failed sink.old sink.new) result }
 {
-    taker.cells(sink, word, u64::BITS)
+    cells(taker, sink, word, u64::BITS)
 }
 
 /// The word of one cell.

@@ -1,11 +1,19 @@
 //! What the program is asked to do.
 
+ghost use Rattle.std.specs.Prelude.{◌≡◌};
+ghost use Rattle.aes3_job.specs.Forms.{block_len, cells_len, finds_faults, reads_packed, writes_packed};
+
+use crate::work::{ReadWork, StreamWork};
 use aes3_cell::Form;
-use aes3_frame::{Channel, Fill};
 use aes3_pcm::SampleFormat;
-use aes3_settings::{Detail, Lines, Notation, Style};
-use aes3_status::{CarriedBits, Change};
+use aes3_status::Change;
 use aes3_words::Words;
+
+/// How many bytes of a block file make a block: 384 words of four.
+const BLOCK_FILE_LEN: u64 = 1536;
+
+/// How many bytes of packed cells do: 24,576 cells, eight a byte.
+const PACKED_LEN: u64 = 3072;
 
 /// What the program is asked to do.
 #[derive(Clone, Copy, PartialEq, Eq)]
@@ -15,93 +23,16 @@ pub enum Job {
         output: Form,
         words: Words,
     },
-    /// Cells to a block file, its words in this form.
-    Decode {
-        input: Form,
-        words: Words,
-    },
-    /// Cells to the normal stream of their blocks.
-    Normal {
+    /// Cells to the normal stream of blocks of theirs.
+    Stream {
         input: Form,
         output: Form,
+        work: StreamWork,
     },
-    /// A line for each block and each fault, or for each fault.
-    Check {
+    /// Cells to something other than cells: lines, samples, a block file or bits.
+    Read {
         input: Form,
-        lines: Lines,
-    },
-    /// The same, and a line for each gap, cells that lie in no whole block.
-    Account {
-        input: Form,
-        lines: Lines,
-    },
-    /// A line where what is known of a line changes: locked, lost, back, slipped and its end, in
-    /// this style.
-    Watch {
-        input: Form,
-        style: Style,
-    },
-    /// The same, and a line of what was counted so far for each `every` cells, from 1 to 2^40.
-    WatchSums {
-        input: Form,
-        style: Style,
-        every: u64,
-    },
-    /// One page about a recording, in this notation.
-    Info {
-        input: Form,
-        notation: Notation,
-    },
-    /// Two lines of channel status for each block, with this behind them.
-    Show {
-        input: Form,
-        detail: Detail,
-    },
-    /// Those of them whose status differs from that of the block before.
-    ShowChanges {
-        input: Form,
-        detail: Detail,
-    },
-    /// A line for each preamble.
-    Scan {
-        input: Form,
-    },
-    /// Cells to the normal stream of `count` of their blocks, the first of which has the number
-    /// `from`.
-    Cut {
-        input: Form,
-        output: Form,
-        from: u64,
-        count: u64,
-    },
-    /// Cells to the normal stream of their blocks, with other channel status, validity and user
-    /// bits; where `exact`, up to the first block whose status leaves out a setting.
-    Rewrite {
-        input: Form,
-        output: Form,
-        change: Change,
-        exact: bool,
-    },
-    /// Cells to the samples of their blocks, in this form; where `valid`, with zero for those that
-    /// are not.
-    ToPcm {
-        input: Form,
-        format: SampleFormat,
-        valid: bool,
-    },
-    /// Cells to the samples of their blocks, in this form, up to the first that would lose bits.
-    ToExactPcm {
-        input: Form,
-        format: SampleFormat,
-    },
-    /// Cells to the samples of their blocks, in this form, with frames between them that fill the
-    /// time which no block gives; where `marked`, of blocks with wrong parity bits too, and these
-    /// subframes are filled.
-    ToFilledPcm {
-        input: Form,
-        format: SampleFormat,
-        fill: Fill,
-        marked: bool,
+        work: ReadWork,
     },
     /// Samples in a form to a block file, with channel status, its words in this form; where
     /// `exact`, of 24 bits alone.
@@ -111,10 +42,60 @@ pub enum Job {
         change: Change,
         words: Words,
     },
-    /// Cells to bits that the subframes of a channel carry behind their audio.
-    ToBits {
-        input: Form,
-        bits: CarriedBits,
-        channel: Channel,
-    },
+}
+
+/// How many bytes of cells in this form make a block; none of text, whose line ends don't count.
+fn cells_len(form: Form) -> Option<u64>
+    ensures { result ≡ cells_len form }
+{
+    match form {
+        Form::Text => None,
+        Form::Packed => Some(PACKED_LEN),
+    }
+}
+
+impl Job {
+    /// Whether it reads packed cells.
+    pub fn reads_packed(&self) -> bool
+        ensures { result ≡ reads_packed self.now }
+    {
+        match self {
+            Job::Stream { input, .. } | Job::Read { input, .. } => matches!(input, Form::Packed),
+            Job::Encode { .. } | Job::FromPcm { .. } => false,
+        }
+    }
+
+    /// Whether it writes packed cells.
+    pub fn writes_packed(&self) -> bool
+        ensures { result ≡ writes_packed self.now }
+    {
+        match self {
+            Job::Encode { output, .. } | Job::Stream { output, .. } => {
+                matches!(output, Form::Packed)
+            }
+            Job::Read { .. } | Job::FromPcm { .. } => false,
+        }
+    }
+
+    /// How many bytes of its input make a block; none of cells as text.
+    pub fn block_len(&self) -> Option<u64>
+        ensures { result ≡ block_len self.now }
+    {
+        match self {
+            Job::Encode { .. } => Some(BLOCK_FILE_LEN),
+            Job::Stream { input, .. } | Job::Read { input, .. } => cells_len(*input),
+            Job::FromPcm { format, .. } => Some(format.block_len() as u64),
+        }
+    }
+
+    /// Whether it looks for faults, so that its exit status is 1 if it finds any: `check`, `watch` and
+    /// `info` do.
+    pub fn finds_faults(&self) -> bool
+        ensures { result ≡ finds_faults self.now }
+    {
+        match self {
+            Job::Read { work, .. } => work.finds_faults(),
+            Job::Encode { .. } | Job::Stream { .. } | Job::FromPcm { .. } => false,
+        }
+    }
 }

@@ -5,6 +5,9 @@
 mod job;
 /// Whoever is told how a job goes on.
 mod observer;
+/// What is done with the cells that a job reads.
+mod work;
 
 pub use job::Job;
 pub use observer::{Nobody, Observer};
+pub use work::{ReadWork, StreamWork};

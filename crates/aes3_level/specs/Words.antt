@@ -1,5 +1,6 @@
 -- Cells in a number, the earliest in the lowest bit.
-use Rattle.std.specs.Prelude.{ℕ, zero, suc, List, [], ◌∷◌, ◌%◌, ◌/◌, ◌==◌, cond}
+use Rattle.std.specs.Prelude.{ℕ, zero, suc, List, [], ◌∷◌, ◌%◌, ◌/◌, ◌==◌, cond, drop, take}
+use Rattle.std.specs.List.{flat_map}
 use Rattle.aes3_level.specs.declared.level.Level.{Level}
 use Rattle.aes3_level.specs.declared.level.Level.TheVariants.{Low, High}
 
@@ -23,3 +24,7 @@ word_len = 64
 -- the 64 cells of a word
 unfoldable pub word_cells : ℕ → List Level
 word_cells word = low_cells word_len word
+
+-- `n` cells of words from cell `first` on
+abbrev pub cells_in : List ℕ → ℕ → ℕ → List Level
+cells_in words first n = take n (drop first (flat_map word_cells words))

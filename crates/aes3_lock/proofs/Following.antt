@@ -1,7 +1,7 @@
 -- A lock goes on following the cells, and answers what each decides.
 use Rattle.std.proofs.Common.{◌≡◌, ℕ, ◌+◌, ◌-◌, ◌*◌, ◌/◌, ◌%◌, ◌^◌, ◌<◌, ◌≤◌, ◌⊎◌, inl, inr, List, [], ◌∷◌, ◌++◌, Bool}
 use Rattle.std.proofs.Common.{true, false, cond, leb, ltb, ◌&&◌, Option, Some, None, MatchOption, refl, length, drop}
-use Rattle.std.proofs.Common.{ap, ap₂, ◌∙◌, sym, subst, arith, length-append, length-drop, append-nil, le-leb, lt-ltb}
+use Rattle.std.proofs.Common.{ap, ap₂, ◌∙◌, sym, subst, arith, length-append, length-drop, le-leb, lt-ltb}
 use Rattle.std.proofs.Common.{le-ltb, true≢false}
 use Rattle.std.proofs.lemmas.List.{drop-append-le}
 use Rattle.std.proofs.lemmas.Bool.{cases_eq, cases_lt, lt-leb, false_from_ne_true, cases_Bool}
@@ -20,7 +20,6 @@ use Rattle.aes3_lock.specs.Steps.{last_eight, eight_with, begun, ended, left}
 use Rattle.aes3_lock.specs.Following.{LockState, Gathered, Follows, OpenAt, NoneOpen, Stops}
 use Rattle.aes3_slot.proofs.Beginnings.{entry-append}
 use Rattle.aes3_lock.proofs.Deciding.{decided-push, block_len_64, outcome_by, outcome_is, read_slots-append}
-use Rattle.aes3_lock.proofs.Fronts.{keeps-append, front-is}
 use Rattle.aes3_lock.proofs.Ends.{reports-split, final-none, final-open}
 use Rattle.aes3_lock.proofs.Opens.{IsOpen, is-open, open-room, answer-none, answer-open, keeps-new, open-ends}
 use Rattle.aes3_lock.proofs.Opens.{open-decides, open-eight, none-after, open-only, open-cells}

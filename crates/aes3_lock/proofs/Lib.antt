@@ -14,6 +14,7 @@ pub mod PartWords
 pub mod Codes
 pub mod Spacing
 pub mod PushedWords
+pub mod TakenCells
 pub mod EightWords
 pub mod Scanning
 pub mod QuietScans

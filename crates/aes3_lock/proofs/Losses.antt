@@ -1,5 +1,5 @@
 -- A piece of a lawful stream of which up to three cells are lost: what stands in it stood in the piece.
-use Rattle.std.proofs.Common.{◌≡◌, ℕ, zero, suc, ◌+◌, ◌-◌, ◌*◌, ◌/◌, ◌%◌, ◌<◌, ◌≤◌, ◌⊎◌, inl, inr, List, [], ◌∷◌, Bool}
+use Rattle.std.proofs.Common.{◌≡◌, ℕ, zero, suc, ◌+◌, ◌-◌, ◌*◌, ◌%◌, ◌<◌, ◌≤◌, ◌⊎◌, inl, inr, List, [], ◌∷◌, Bool}
 use Rattle.std.proofs.Common.{map, refl, length, take, drop, get_or, ap, ◌∙◌, sym, subst, arith, length-take-le}
 use Rattle.std.proofs.Common.{length-drop, get_or-take, get_or-drop, ext_get_or, lit<}
 use Rattle.std.proofs.lemmas.Bool.{cases_lt}

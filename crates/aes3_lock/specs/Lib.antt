@@ -5,6 +5,7 @@ pub mod Tallies
 pub mod Preambles
 pub mod Steps
 pub mod Following
+pub mod Taking
 pub mod MarkBits
 pub mod Standing
 pub mod Pieces

@@ -4,7 +4,7 @@ use aes3_arguments::{LineFault, job_of_words, status_of_text};
 use aes3_cell::{Form, RunError};
 use aes3_engine::Change;
 use aes3_frame::Channel;
-use aes3_job::Job;
+use aes3_job::{Job, ReadWork, StreamWork};
 use aes3_lines::{Detail, Lines, Notation, Style};
 use aes3_pcm::SampleFormat;
 use aes3_status::CarriedBits;
@@ -40,28 +40,29 @@ fn answered(alloc: Global, words: &[&str]) -> Told {
     }
 }
 
-const CUT: Job = Job::Cut {
+const CUT: Job = Job::Stream {
     input: TEXT,
     output: Form::Packed,
-    from: 1,
-    count: 7,
+    work: StreamWork::Cut { from: 1, count: 7 },
 };
 
-const REWRITE: Job = Job::Rewrite {
+const REWRITE: Job = Job::Stream {
     input: TEXT,
     output: TEXT,
-    change: Change {
-        status1: Some(STATUS_BYTES),
-        status2: None,
-        settings1: None,
-        settings2: None,
-        validity1: None,
-        validity2: None,
-        clear_user1: false,
-        clear_user2: false,
-        mend: true,
+    work: StreamWork::Rewrite {
+        change: Change {
+            status1: Some(STATUS_BYTES),
+            status2: None,
+            settings1: None,
+            settings2: None,
+            validity1: None,
+            validity2: None,
+            clear_user1: false,
+            clear_user2: false,
+            mend: true,
+        },
+        exact: false,
     },
-    exact: false,
 };
 
 /// The usual status for professional use, and that of samples of which nothing is known.
@@ -93,35 +94,41 @@ fn samples(status1: [u8; 24], status2: [u8; 24], mend: bool) -> Job {
     }
 }
 
-const WATCH_SUMS: Job = Job::WatchSums {
+const WATCH_SUMS: Job = Job::Read {
     input: TEXT,
-    style: Style {
-        notation: Notation::Words,
-        rate: Some(48_000),
+    work: ReadWork::WatchSums {
+        style: Style {
+            notation: Notation::Words,
+            rate: Some(48_000),
+        },
+        every: 12_288_000,
     },
-    every: 12_288_000,
 };
 
-const INFO: Job = Job::Info {
+const INFO: Job = Job::Read {
     input: TEXT,
-    notation: Notation::Json,
+    work: ReadWork::Info {
+        notation: Notation::Json,
+    },
 };
 
-const VALID: Job = Job::Rewrite {
+const VALID: Job = Job::Stream {
     input: TEXT,
     output: TEXT,
-    change: Change {
-        status1: None,
-        status2: None,
-        settings1: None,
-        settings2: None,
-        validity1: Some(false),
-        validity2: Some(true),
-        clear_user1: false,
-        clear_user2: true,
-        mend: false,
+    work: StreamWork::Rewrite {
+        change: Change {
+            status1: None,
+            status2: None,
+            settings1: None,
+            settings2: None,
+            validity1: Some(false),
+            validity2: Some(true),
+            clear_user1: false,
+            clear_user2: true,
+            mend: false,
+        },
+        exact: false,
     },
-    exact: false,
 };
 
 fn asks_for(alloc: Global, words: &[&str], job: Job) -> bool {
@@ -131,26 +138,32 @@ fn asks_for(alloc: Global, words: &[&str], job: Job) -> bool {
     }
 }
 
-const CHECK: Job = Job::Check {
+const CHECK: Job = Job::Read {
     input: TEXT,
-    lines: Lines::All,
+    work: ReadWork::Check { lines: Lines::All },
 };
 
-const SHOW: Job = Job::Show {
+const SHOW: Job = Job::Read {
     input: TEXT,
-    detail: Detail::Carried,
+    work: ReadWork::Show {
+        detail: Detail::Carried,
+    },
 };
 
-const TO_PCM: Job = Job::ToPcm {
+const TO_PCM: Job = Job::Read {
     input: Form::Packed,
-    format: SampleFormat::S16,
-    valid: true,
+    work: ReadWork::ToPcm {
+        format: SampleFormat::S16,
+        valid: true,
+    },
 };
 
-const TO_BITS: Job = Job::ToBits {
+const TO_BITS: Job = Job::Read {
     input: TEXT,
-    bits: CarriedBits::Validity,
-    channel: Channel::Second,
+    work: ReadWork::ToBits {
+        bits: CarriedBits::Validity,
+        channel: Channel::Second,
+    },
 };
 
 /// Whether each line asks for its job; `tests/rows` has the others, for the program.

@@ -3,7 +3,7 @@
 use crate::bytes::{Bytes, bytes_of};
 use aes3_cell::{Form, MemorySink, MemorySource};
 use aes3_engine::Change;
-use aes3_job::{Job, Nobody};
+use aes3_job::{Job, Nobody, ReadWork, StreamWork};
 use aes3_pcm::SampleFormat;
 use aes3_runner::{TypedSettings, finish_job, run_job};
 use aes3_text::Lines;
@@ -17,43 +17,48 @@ const ENCODE: Job = Job::Encode {
     words: Words::Own,
 };
 
-const DECODE: Job = Job::Decode {
+const DECODE: Job = Job::Read {
     input: TEXT,
-    words: Words::Own,
+    work: ReadWork::Decode { words: Words::Own },
 };
 
-const NORMAL: Job = Job::Normal {
+const NORMAL: Job = Job::Stream {
     input: TEXT,
     output: TEXT,
+    work: StreamWork::Normal,
 };
 
-const CHECK: Job = Job::Check {
+const CHECK: Job = Job::Read {
     input: TEXT,
-    lines: Lines::All,
+    work: ReadWork::Check { lines: Lines::All },
 };
 
-const CUT: Job = Job::Cut {
-    input: TEXT,
-    output: TEXT,
-    from: 1,
-    count: u64::MAX,
-};
-
-const MENDED: Job = Job::Rewrite {
+const CUT: Job = Job::Stream {
     input: TEXT,
     output: TEXT,
-    change: Change {
-        status1: None,
-        status2: None,
-        settings1: None,
-        settings2: None,
-        validity1: None,
-        validity2: None,
-        clear_user1: false,
-        clear_user2: false,
-        mend: true,
+    work: StreamWork::Cut {
+        from: 1,
+        count: u64::MAX,
     },
-    exact: false,
+};
+
+const MENDED: Job = Job::Stream {
+    input: TEXT,
+    output: TEXT,
+    work: StreamWork::Rewrite {
+        change: Change {
+            status1: None,
+            status2: None,
+            settings1: None,
+            settings2: None,
+            validity1: None,
+            validity2: None,
+            clear_user1: false,
+            clear_user2: false,
+            mend: true,
+        },
+        exact: false,
+    },
 };
 
 /// An input of a job, its output, the line of its refusal and the exit status.
@@ -184,10 +189,12 @@ fn is_heard(alloc: Global, form: Form, file: &[u8], samples: &[u8]) -> bool {
     };
     let mut line = MemorySink::new(alloc);
     let is_written = run_job(&encode, &mut MemorySource::new(file, 4_096), &mut line).is_ok();
-    let to_pcm = Job::ToPcm {
+    let to_pcm = Job::Read {
         input: form,
-        format: SampleFormat::S32,
-        valid: false,
+        work: ReadWork::ToPcm {
+            format: SampleFormat::S32,
+            valid: false,
+        },
     };
     let mut pcm = MemorySink::new(alloc);
     let is_read = run_job(

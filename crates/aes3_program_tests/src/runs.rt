@@ -6,7 +6,7 @@ ghost use Rattle.std.specs.Prelude.{◌<◌};
 use crate::bytes::{Bytes, bytes_of};
 use aes3_cell::{FailingSink, FailingSource, Form, MemorySink, MemorySource, RunError, ShortSink};
 use aes3_engine::Change;
-use aes3_job::Job;
+use aes3_job::{Job, ReadWork, StreamWork};
 use aes3_lines::Detail;
 use aes3_pcm::SampleFormat;
 use aes3_runner::run_job;
@@ -207,16 +207,16 @@ const ONE_FILE: Bytes = Bytes::File(b"", 1_536);
 
 const TWO_FILE: Bytes = Bytes::File(b"", 3_072);
 
-const NORMAL: Job = Job::Normal {
+const NORMAL: Job = Job::Stream {
     input: TEXT,
     output: TEXT,
+    work: StreamWork::Normal,
 };
 
-const CUT: Job = Job::Cut {
+const CUT: Job = Job::Stream {
     input: TEXT,
     output: TEXT,
-    from: 0,
-    count: 1,
+    work: StreamWork::Cut { from: 0, count: 1 },
 };
 
 const AS_IT_IS: Change = Change {
@@ -231,23 +231,25 @@ const AS_IT_IS: Change = Change {
     mend: false,
 };
 
-const REWRITE: Job = Job::Rewrite {
+const REWRITE: Job = Job::Stream {
     input: TEXT,
     output: TEXT,
-    change: Change {
-        status1: Some([
-            1, 0, 0, 0, 0, 0, 0, 0, 0, 0, 0, 0, 0, 0, 0, 0, 0, 0, 0, 0, 0, 0, 0, 0,
-        ]),
-        status2: None,
-        settings1: None,
-        settings2: None,
-        validity1: None,
-        validity2: None,
-        clear_user1: false,
-        clear_user2: false,
-        mend: true,
+    work: StreamWork::Rewrite {
+        change: Change {
+            status1: Some([
+                1, 0, 0, 0, 0, 0, 0, 0, 0, 0, 0, 0, 0, 0, 0, 0, 0, 0, 0, 0, 0, 0, 0, 0,
+            ]),
+            status2: None,
+            settings1: None,
+            settings2: None,
+            validity1: None,
+            validity2: None,
+            clear_user1: false,
+            clear_user2: false,
+            mend: true,
+        },
+        exact: false,
     },
-    exact: false,
 };
 
 /// A line of cells.
@@ -281,19 +283,19 @@ fn cells_of_cells(rt: HostRuntime) {
     assert!(rt; are_right(rt.alloc(), REWRITE, REWRITTEN));
 }
 
-const CHECK: Job = Job::Check {
+const CHECK: Job = Job::Read {
     input: TEXT,
-    lines: Lines::All,
+    work: ReadWork::Check { lines: Lines::All },
 };
 
-const CHECK_PACKED: Job = Job::Check {
+const CHECK_PACKED: Job = Job::Read {
     input: PACKED,
-    lines: Lines::All,
+    work: ReadWork::Check { lines: Lines::All },
 };
 
-const ACCOUNT: Job = Job::Account {
+const ACCOUNT: Job = Job::Read {
     input: TEXT,
-    lines: Lines::All,
+    work: ReadWork::Account { lines: Lines::All },
 };
 
 const WHOLES: Bytes = Bytes::Just(b"whole at 0 before 0\nwhole at 24576 before 0\n");
@@ -324,24 +326,36 @@ fn reports_of_cells(rt: HostRuntime) {
     assert!(rt; are_right(rt.alloc(), ACCOUNT, COUNTED));
 }
 
-const SHOW: Job = Job::Show {
+const SHOW: Job = Job::Read {
     input: TEXT,
-    detail: Detail::Plain,
+    work: ReadWork::Show {
+        detail: Detail::Plain,
+    },
 };
 
-const SHOW_PACKED: Job = Job::Show {
+const SHOW_PACKED: Job = Job::Read {
     input: PACKED,
-    detail: Detail::Plain,
+    work: ReadWork::Show {
+        detail: Detail::Plain,
+    },
 };
 
-const SHOW_CHANGES: Job = Job::ShowChanges {
+const SHOW_CHANGES: Job = Job::Read {
     input: TEXT,
-    detail: Detail::Plain,
+    work: ReadWork::ShowChanges {
+        detail: Detail::Plain,
+    },
 };
 
-const SCAN: Job = Job::Scan { input: TEXT };
+const SCAN: Job = Job::Read {
+    input: TEXT,
+    work: ReadWork::Scan,
+};
 
-const SCAN_PACKED: Job = Job::Scan { input: PACKED };
+const SCAN_PACKED: Job = Job::Read {
+    input: PACKED,
+    work: ReadWork::Scan,
+};
 
 const SHOWN: &[Row] = &[
     (
@@ -400,26 +414,30 @@ fn preambles_of_cells(rt: HostRuntime) {
     assert!(rt; are_right(rt.alloc(), SCAN_PACKED, SCANNED_PACKED));
 }
 
-const DECODE: Job = Job::Decode {
+const DECODE: Job = Job::Read {
     input: TEXT,
-    words: Words::Own,
+    work: ReadWork::Decode { words: Words::Own },
 };
 
-const DECODE_PACKED: Job = Job::Decode {
+const DECODE_PACKED: Job = Job::Read {
     input: PACKED,
-    words: Words::Own,
+    work: ReadWork::Decode { words: Words::Own },
 };
 
-const TO_PCM: Job = Job::ToPcm {
+const TO_PCM: Job = Job::Read {
     input: TEXT,
-    format: SampleFormat::S32,
-    valid: false,
+    work: ReadWork::ToPcm {
+        format: SampleFormat::S32,
+        valid: false,
+    },
 };
 
-const TO_VALID_PCM: Job = Job::ToPcm {
+const TO_VALID_PCM: Job = Job::Read {
     input: TEXT,
-    format: SampleFormat::S32,
-    valid: true,
+    work: ReadWork::ToPcm {
+        format: SampleFormat::S32,
+        valid: true,
+    },
 };
 
 const FROM_PCM: Job = Job::FromPcm {
@@ -469,9 +487,10 @@ const PACK: Job = Job::Encode {
     words: Words::Own,
 };
 
-const NORMAL_PACKED: Job = Job::Normal {
+const NORMAL_PACKED: Job = Job::Stream {
     input: PACKED,
     output: PACKED,
+    work: StreamWork::Normal,
 };
 
 /// A subframe of packed cells.

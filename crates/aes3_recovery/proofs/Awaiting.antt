@@ -24,11 +24,11 @@ use Rattle.aes3_recovery.specs.declared.recovery.State.TheVariants.{Following, M
 use Rattle.aes3_recovery.proofs.Beginning.{before-last, begun-edge, behind-to-end, follows-on, none-measured}
 use Rattle.aes3_recovery.proofs.Followed.{followed-begins}
 use Rattle.aes3_recovery.proofs.Recovering.{first-of-word, nothing, only-one, recovered-begins, recovered-edge, recovered-gave}
-use Rattle.aes3_recovery.proofs.Recovering.{recovered-first, recovered-more, recovered-rest, waits-keep}
+use Rattle.aes3_recovery.proofs.Recovering.{recovered-first, recovered-level, recovered-more, recovered-rest, waits-keep}
 use Rattle.aes3_recovery.proofs.RunsToEnd.{end-none}
 use Rattle.aes3_recovery.proofs.Ahead.{recovered-ahead}
 use Rattle.aes3_recovery.specs.Turns.{gaps, last_place, turns}
-use Rattle.aes3_recovery.proofs.States.{apart, following-or, measuring-apart}
+use Rattle.aes3_recovery.proofs.States.{apart, following-or, measuring-apart, still-apart}
 
 -- short runs
 shorter : (runs : List ℕ) (a b : ℕ) (more : List ℕ) → a ≤ b → AreShort (runs ++ b ∷ more) → AreShort (runs ++ a ∷ [])
@@ -347,6 +347,75 @@ awaits-rest-ok told told' setting seen piece old mid new (Ok v) few e k state hi
     awaits-rest told told' setting seen piece old mid new few e k state high same short rest alive still near found measured
     follows a
 
+-- no edge comes of a line that is still
+awaits-level : (told told' : Option (List ℕ)) (setting : Setting) (seen : List Level) (n : ℕ)
+    (old mid new : Recovery) (some : 1 ≤ old.figures.samples) (few : n ≤ 4096)
+    (same : mid.line.edges.high ≡ old.line.edges.high) (run : mid.line.edges.run ≡ min (old.line.edges.run + n) (2 ^ 32 - 1))
+    (k : KeepsTold old mid) (state : mid.state ≡ old.state) (high : new.line.edges.high ≡ mid.line.edges.high)
+    (samples : new.figures.samples ≡ min (old.figures.samples + n) (2 ^ 64 - 1)) (short : new.line.edges.run < 2 ^ 31)
+    (rest : (level : Level) (runs : List ℕ) (behind : ℕ) → StandsOn told setting level runs behind mid
+    → StandsOn told' setting level runs behind new)
+    → old.state ≡ Still → (mid.state ≡ Still → mid.count ≡ 0 → (new.state ≡ Still) × (new.count ≡ 0))
+    → new.found ≡ mid.found → new.figures.measured ≡ mid.figures.measured
+    → (new.state ≡ Following → mid.state ≡ Following)
+    → Awaits told setting seen [] old
+    → Awaits told' setting (seen ++ replicate n (level_if old.line.edges.high)) [] new
+unfolding recovered-level
+awaits-level told told' setting [] n old mid new some few same run k state high samples short rest is still found measured
+    follows a =
+    let was = a.recovered.samples in
+    absurd (omega (arith, some, was))
+awaits-level told told' setting (x ∷ seen) n old mid new some few same run k state high samples short rest is still found
+    measured follows a =
+    let w = a.recovered in
+    let m : new.figures.measured ≡ old.figures.measured = measured ∙ k.measured_is in
+    record {
+      recovered = recovered-level told told' setting (x ∷ seen) n old mid new some few same run k state high samples short
+          rest w;
+      waits = λ h long. waiting-still w.runs w.behind (w.behind + n) old new (omega arith) is a.waits
+          (λ none. still (state ∙ is) (k.count_is ∙ none)) (found ∙ k.found_is) h long;
+      finds = λ first window more e f. let was = a.finds first window more e f in omega (arith, was, m);
+      starts = λ first window e f near. let was = a.starts first window e f (omega (arith, near)) in
+          absurd (apart old.state is was.0);
+      joins = λ now one first window more runs f. absurd (apart old.state is (sym state ∙ follows now));
+    }
+  where
+    waiting-still : (runs : List ℕ) (behind n : ℕ) (old new : Recovery) → behind ≤ n → old.state ≡ Still
+        → (AreShort (drop 1 (runs ++ behind ∷ [])) → length runs ≤ 256 → IsWaiting runs old)
+        → (old.count ≡ 0 → (new.state ≡ Still) × (new.count ≡ 0)) → new.found ≡ old.found
+        → AreShort (drop 1 (runs ++ n ∷ [])) → length runs ≤ 256 → IsWaiting runs new
+    waiting-still [] behind n old new few is waits still found short long =
+        let w = waits tt long in
+        let was = w.none refl in
+        record {
+          unfound = found ∙ w.unfound;
+          none = λ e. still was.1;
+          some = λ some. absurd (omega (arith, some));
+        }
+    waiting-still (r ∷ runs) behind n old new few is waits still found short long =
+        let w = waits (shorter runs behind n [] few short) long in
+        let was = w.some (omega arith) in
+        absurd (still-apart old.state is was.0)
+
+pub awaits-level-ok : {R E : Type 0} (told told' : Option (List ℕ)) (setting : Setting) (seen : List Level) (n : ℕ)
+    (old mid new : Recovery) (r : Result R E) → 1 ≤ old.figures.samples → n ≤ 4096
+    → mid.line.edges.high ≡ old.line.edges.high → mid.line.edges.run ≡ min (old.line.edges.run + n) (2 ^ 32 - 1)
+    → KeepsTold old mid → mid.state ≡ old.state → new.line.edges.high ≡ mid.line.edges.high
+    → new.figures.samples ≡ min (old.figures.samples + n) (2 ^ 64 - 1) → IfOk r (λ x. new.line.edges.run < 2 ^ 31)
+    → ((level : Level) (runs : List ℕ) (behind : ℕ) → StandsOn told setting level runs behind mid
+    → IfOk r (λ x. StandsOn told' setting level runs behind new))
+    → old.state ≡ Still → (mid.state ≡ Still → mid.count ≡ 0 → (new.state ≡ Still) × (new.count ≡ 0))
+    → new.found ≡ mid.found → new.figures.measured ≡ mid.figures.measured
+    → (new.state ≡ Following → mid.state ≡ Following)
+    → Awaits told setting seen [] old
+    → IfOk r (λ x. Awaits told' setting (seen ++ replicate n (level_if old.line.edges.high)) [] new)
+awaits-level-ok told told' setting seen n old mid new (Err e) some few same run k state high samples short rest is still found
+    measured follows a = tt
+awaits-level-ok told told' setting seen n old mid new (Ok v) some few same run k state high samples short rest is still found
+    measured follows a =
+    awaits-level told told' setting seen n old mid new some few same run k state high samples short rest is still found
+    measured follows a
+
 -- samples that come
 same-waits : (runs : List ℕ) (old new : Recovery) → KeepsTold old new → new.state ≡ old.state → IsWaiting runs old
     → IsWaiting runs new
@@ -537,7 +606,7 @@ awaits-starts told setting levels now first window e a =
     a.starts first window (before-last w.runs (first ∷ window) w.behind e.behind all) e.findable (omega (arith, last, few))
 
 -- words passed on
-followed-gave : {A : Type 0} {taken : A → Option (List ℕ)} (begun : List ℕ) (front : List Level) (old new : LineFollower)
+pub followed-gave : {A : Type 0} {taken : A → Option (List ℕ)} (begun : List ℕ) (front : List Level) (old new : LineFollower)
     (first : Follower) (before : Level) (levels : List Level) (a b : A) → Gave taken old new a b []
     → new.edges ≡ old.edges → new.follower ≡ old.follower
     → Followed (taken a) begun front old first before levels [] → Followed (taken b) begun front new first before levels []

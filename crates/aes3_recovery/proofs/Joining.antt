@@ -73,7 +73,7 @@ line-captured : (known : Option ℕ) (levels : List Level) (first : ℕ) (counts
     → AreCapturedRuns l.narrow l.spread l.late l.later l.place l.side d.places (take 256 counts) l.window
 line-captured known levels first counts l d = record { displaced = d.are; many = l.many; findable = l.findable }
 
-begins-line : (known : Option ℕ) (levels : List Level) (first : ℕ) (counts : List ℕ)
+pub begins-line : (known : Option ℕ) (levels : List Level) (first : ℕ) (counts : List ℕ)
     → (l : IsLineBehind known levels first counts) → BeginsWith known levels first l.window
 begins-line known levels first counts l =
     let d = line-displaced known levels first counts l in

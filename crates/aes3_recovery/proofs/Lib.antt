@@ -1,4 +1,9 @@
 mod Words
+mod StillWords
+pub mod SampleLevels
+pub mod Taking
+mod Reading
+mod Writing
 pub mod Beginning
 pub mod Awaiting
 pub mod Joining

@@ -2,6 +2,7 @@
 use Rattle.std.proofs.Common.{ℕ, zero, suc, List, [], ◌∷◌, ◌++◌, ◌≡◌, ◌≤◌, ◌<◌, ◌+◌, ◌/◌, ◌^◌, ◌-◌, ◌%◌, inl, inr}
 use Rattle.std.proofs.Common.{Option, Some, Result, Ok, Err, Bool, true, false, IfOk, not, refl, sym, ap, ap₂, ◌∙◌}
 use Rattle.std.proofs.Common.{subst, arith, append_assoc, append-nil, length, length-append, replicate, min, take}
+use Rattle.std.proofs.lemmas.List.{length-replicate}
 use Rattle.aes3_level.specs.declared.level.Level.{Level}
 use Rattle.aes3_level.specs.declared.level.Level.TheVariants.{High}
 use Rattle.aes3_level.specs.Cells.{line, other, after}
@@ -305,6 +306,62 @@ recovered-rest told told' setting seen piece old mid new few e k state high same
       short = few';
       stands = rest w.level w.runs (w.behind + piece.len) stood;
     }
+
+-- samples of the level that the line has, behind others
+unfoldable pub recovered-level : (told told' : Option (List ℕ)) (setting : Setting) (seen : List Level) (n : ℕ)
+    (old mid new : Recovery) → 1 ≤ old.figures.samples → n ≤ 4096
+    → mid.line.edges.high ≡ old.line.edges.high → mid.line.edges.run ≡ min (old.line.edges.run + n) (2 ^ 32 - 1)
+    → KeepsTold old mid → mid.state ≡ old.state → new.line.edges.high ≡ mid.line.edges.high
+    → new.figures.samples ≡ min (old.figures.samples + n) (2 ^ 64 - 1) → new.line.edges.run < 2 ^ 31
+    → ((level : Level) (runs : List ℕ) (behind : ℕ) → StandsOn told setting level runs behind mid
+    → StandsOn told' setting level runs behind new)
+    → Recovered told setting seen [] old
+    → Recovered told' setting (seen ++ replicate n (level_if old.line.edges.high)) [] new
+recovered-level told told' setting [] n old mid new some few same run k state high samples short rest w =
+    let was = w.samples in
+    absurd (omega (arith, some, was))
+recovered-level told told' setting (x ∷ seen) n old mid new some few same run k state high samples short rest w =
+    let s = w.stands in
+    let was = w.samples in
+    let was_short = w.short in
+    let sum = s.samples_are in
+    let u : Level = level_if old.line.edges.high in
+    let stood : StandsOn told setting w.level w.runs (w.behind + n) mid = record {
+      done = s.done;
+      past = s.past;
+      runs_are = ap (λ x. s.done ++ x) (waits-keep old mid k) ∙ s.runs_are;
+      samples_are = omega (arith, few, was_short, run, sum);
+      turns = ap level_if same ∙ s.turns;
+      holds = holds-keeps told setting w.level s.done s.past old mid k state s.holds;
+    } in
+    record {
+      level = w.level;
+      runs = w.runs;
+      behind = w.behind + n;
+      split = λ more.
+          ap (runs_to_end (other w.level) 0) (append_assoc (x ∷ seen) (replicate n u) more)
+          ∙ w.split (replicate n u ++ more)
+          ∙ ap (λ l. w.runs ++ l)
+          (end-same u w.behind n more ∙ ap (λ l. runs_to_end l (w.behind + n) more) (sym (ap level_if (high ∙ same))));
+      first = w.first;
+      samples = let both = length-append (x ∷ seen) (replicate n u) in
+          let many = length-replicate n u in omega (arith, samples, was, both, many);
+      short = short;
+      stands = rest w.level w.runs (w.behind + n) stood;
+    }
+
+pub recovered-level-ok : {R E : Type 0} (told told' : Option (List ℕ)) (setting : Setting) (seen : List Level) (n : ℕ)
+    (old mid new : Recovery) (r : Result R E) → 1 ≤ old.figures.samples → n ≤ 4096
+    → mid.line.edges.high ≡ old.line.edges.high → mid.line.edges.run ≡ min (old.line.edges.run + n) (2 ^ 32 - 1)
+    → KeepsTold old mid → mid.state ≡ old.state → new.line.edges.high ≡ mid.line.edges.high
+    → new.figures.samples ≡ min (old.figures.samples + n) (2 ^ 64 - 1) → IfOk r (λ x. new.line.edges.run < 2 ^ 31)
+    → ((level : Level) (runs : List ℕ) (behind : ℕ) → StandsOn told setting level runs behind mid
+    → IfOk r (λ x. StandsOn told' setting level runs behind new))
+    → Recovered told setting seen [] old
+    → IfOk r (λ x. Recovered told' setting (seen ++ replicate n (level_if old.line.edges.high)) [] new)
+recovered-level-ok told told' setting seen n old mid new (Err e) some few same run k state high samples short rest w = tt
+recovered-level-ok told told' setting seen n old mid new (Ok v) some few same run k state high samples short rest w =
+    recovered-level told told' setting seen n old mid new some few same run k state high samples short rest w
 
 -- what was told at the end
 pub ended-told : (told : Option (List ℕ)) (setting : Setting) (level : Level) (done : List ℕ) (now : Recovery)

@@ -1,6 +1,9 @@
 -- The levels of one line among samples of many.
-use Rattle.std.specs.Prelude.{ℕ, List, ◌+◌, ◌*◌, ◌/◌, ◌<◌, ◌≡◌, get_or, length}
+use Rattle.std.specs.Prelude.{ℕ, List, ◌+◌, ◌*◌, ◌/◌, ◌%◌, ◌<◌, ◌≡◌, get_or, length, map}
 use Rattle.std.specs.Int.{bit_at}
+use Rattle.std.specs.List.{range_with_len}
+use Rattle.aes3_level.specs.declared.level.Level.{Level}
+use Rattle.aes3_level.specs.Words.{level_of}
 use Rattle.aes3_recovery.specs.declared.levels.Unit.{Unit}
 use Rattle.aes3_recovery.specs.declared.levels.Unit.TheVariants.{Octets, Pairs}
 
@@ -22,6 +25,18 @@ bit_of_line (Pairs bit) = bit
 abbrev pub bits_of_sample : Unit → ℕ
 bits_of_sample (Octets bit) = 8
 bits_of_sample (Pairs bit) = 16
+
+-- so many octets are whole samples
+abbrev pub AreWhole : Unit → ℕ → Type 0
+AreWhole unit n = 8 * n % bits_of_sample unit ≡ 0
+
+-- the level of the line in sample i, and its levels in all whole samples, in their order: a part of a sample at the end
+-- has none
+abbrev pub level_in : Unit → List ℕ → ℕ → Level
+level_in unit octets i = level_of (bit_at (sample_of unit octets i) (bit_of_line unit))
+
+unfoldable pub levels_of_samples : Unit → List ℕ → List Level
+levels_of_samples unit octets = map (level_in unit octets) (range_with_len 0 (samples_in unit (length octets)))
 
 -- bit i of a word is the level of the line in sample i, and there is one for each sample
 pub record AreLevels (unit : Unit) (octets : List ℕ) (word len : ℕ) : Type 0 where

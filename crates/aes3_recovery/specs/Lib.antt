@@ -9,4 +9,6 @@ pub mod Recovering
 pub mod RecoverySteps
 pub mod Runs
 pub mod Turns
+pub mod Taking
+pub mod Reading
 pub mod Finding

@@ -49,3 +49,8 @@ pub record Finishes {A R E : Type 0} (taken : A → Option (List ℕ)) (old : Ce
       → IfOk result (λ _. taken after ≡ Some (begun ++ finished old.form all))
   pub err : (begun : List ℕ) (all : List Level) → Queued (taken before) begun old.form (waiting old) all
       → OnErr result (ToldFront (taken after) begun (finished old.form all))
+
+-- a sink tells `begun` and then cells as they are written at the end, which begin with these
+pub record Writes (told : Option (List ℕ)) (begun : List ℕ) (form : Form) (cells : List Level) : Type 0 where
+  pub more : List Level
+  pub tells : told ≡ Some (begun ++ finished form (cells ++ more))

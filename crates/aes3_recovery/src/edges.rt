@@ -1,9 +1,10 @@
 //! The edges of a line among the levels of its samples.
 
-ghost use Rattle.std.specs.Prelude.{ℕ, ◌≡◌, ◌<◌, ◌≤◌, ◌^◌, replicate};
+ghost use Rattle.std.specs.Prelude.{ℕ, ◌≡◌, ◌<◌, ◌≤◌, ◌*◌, ◌^◌, length, replicate, true};
 ghost use Rattle.std.specs.Int.{bit_at};
+ghost use Rattle.std.specs.List.{flat_map};
 ghost use Rattle.aes3_level.specs.Cells.{other};
-ghost use Rattle.aes3_level.specs.Words.{level_of, low_cells};
+ghost use Rattle.aes3_level.specs.Words.{level_of, low_cells, word_cells};
 ghost use Rattle.aes3_recovery.specs.Endings.{level_if};
 
 /// Levels of samples that are still to be taken, the first in the lowest bit.
@@ -113,4 +114,16 @@ fn same_levels(levels: u64, high: bool) -> u32
     } else {
         levels.trailing_zeros()
     }
+}
+
+/// Whether each level of these words is this one.
+pub(crate) fn are_same(words: &[u64], high: bool) -> bool
+    ensures { result ≡ true → flat_map word_cells words.now ≡ replicate (64 * length words.now) (level_if high) }
+{
+    for i in 0..words.len() {
+        if same_levels(words[i], high) < 64 {
+            return false;
+        }
+    }
+    true
 }

@@ -1,6 +1,6 @@
 //! The places of edges among the levels of many samples, found before the edges are followed.
 
-ghost use Rattle.std.specs.Prelude.{ℕ, List, ◌≡◌, ◌+◌, ◌-◌, ◌*◌, ◌<◌, ◌≤◌, ◌^◌, ◌∷◌, ◌++◌, [], drop, length, take};
+ghost use Rattle.std.specs.Prelude.{ℕ, List, ◌≡◌, ◌+◌, ◌-◌, ◌*◌, ◌%◌, ◌<◌, ◌≤◌, ◌^◌, ◌∷◌, ◌++◌, [], drop, length, take};
 ghost use Rattle.std.specs.List.{flat_map};
 ghost use Rattle.aes3_level.specs.Words.{word_cells};
 ghost use Rattle.aes3_recovery.specs.Endings.{level_if};
@@ -37,8 +37,8 @@ impl Places {
     }
 
     /// Finds the edges of words, where the line has this level before them and an edge lies so many samples before the
-    /// first; answers how many there are.
-    pub fn find(&mut self, words: &[u64], high: bool, waiting: u32) -> usize
+    /// first; answers how many there are. `sparse` says that few words have more than two, which costs less then.
+    pub fn find(&mut self, words: &[u64], high: bool, waiting: u32, sparse: bool) -> usize
         requires few { length words.now ≤ 64 }
         requires near { waiting ≤ 128 }
         ensures most { result ≤ 64 * length words.now }
@@ -52,7 +52,8 @@ impl Places {
         for i in 0..words.len() {
             let word = words[i];
             let changes = word ^ (word << 1 | before);
-            count = put_places(&mut self.places, count + 1, BEGIN + 64 * i as u32, changes) - 1;
+            let base = BEGIN + 64 * i as u32;
+            count = put_places(&mut self.places, count + 1, base, changes, sparse) - 1;
             before = word >> 63;
         }
         count
@@ -110,12 +111,13 @@ impl Places {
     }
 }
 
-/// Puts the places of a word's bits that are set, the lowest first; answers behind how many places the last stands.
+/// Puts the places of a word's bits that are set, the lowest first; answers how many places there are then.
 ///
-/// Four are put at once, since how many there are can't be foreseen; what is put behind the last counts for nothing.
+/// Four are put at once, or two of a sparse word, since how many there are can't be foreseen; what is put after the last counts for
+/// nothing.
 #[inline(always)]
-fn put_places(places: &mut [u32], from: usize, base: u32, bits: u64) -> usize
-    requires room { from + 64 ≤ length places.old }
+fn put_places(places: &mut [u32], from: usize, base: u32, bits: u64, sparse: bool) -> usize
+    requires room { from + 66 ≤ length places.old }
     requires base_bound { base + 64 < 2 ^ 32 }
     ensures written { take result places.new ≡ take from places.old ++ set_bits 64 base bits }
     ensures least { from ≤ result }
@@ -123,25 +125,43 @@ fn put_places(places: &mut [u32], from: usize, base: u32, bits: u64) -> usize
     ensures length { length places.new ≡ length places.old }
 {
     let count = bits.count_ones() as usize;
-    let mut rest = put_four(places, from, base, bits);
-    let mut at = 4;
+    let (mut rest, mut at) = put_first(places, from, base, bits, sparse);
     while at < count {
-        rest = put_four(places, from + at, base, rest);
+        rest = put_some(places, from + at, base, rest, 4);
         at += 4;
     }
     from + count
 }
 
-/// Puts the places of the four lowest bits that are set, and answers the others.
+/// Puts the places of the two or four lowest bits that are set; answers the others, and how many places it put.
 #[inline(always)]
-fn put_four(places: &mut [u32], at: usize, base: u32, bits: u64) -> u64
+fn put_first(places: &mut [u32], at: usize, base: u32, bits: u64, sparse: bool) -> (u64, usize)
     requires room { at + 4 ≤ length places.old }
     requires base_bound { base + 64 < 2 ^ 32 }
-    ensures put { (wanted : List ℕ) → Put wanted base places.old at bits → Put wanted base places.new (at + 4) result }
+    ensures put { (wanted : List ℕ) → Put wanted base places.old at bits
+        → Put wanted base places.new (at + result.1) result.0 }
+    ensures even { result.1 % 2 ≡ 0 }
+    ensures most { result.1 ≤ 4 }
+    ensures length { length places.new ≡ length places.old }
+{
+    if sparse {
+        (put_some(places, at, base, bits, 2), 2)
+    } else {
+        (put_some(places, at, base, bits, 4), 4)
+    }
+}
+
+/// Puts the places of so many of the lowest bits that are set, and answers the others.
+#[inline(always)]
+fn put_some(places: &mut [u32], at: usize, base: u32, bits: u64, count: usize) -> u64
+    requires room { at + count ≤ length places.old }
+    requires base_bound { base + 64 < 2 ^ 32 }
+    ensures put { (wanted : List ℕ) → Put wanted base places.old at bits
+        → Put wanted base places.new (at + count) result }
     ensures length { length places.new ≡ length places.old }
 {
     let mut rest = bits;
-    for i in 0..4 {
+    for i in 0..count {
         places[at + i] = base + rest.trailing_zeros();
         rest &= rest.wrapping_sub(1);
     }

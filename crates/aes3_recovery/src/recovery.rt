@@ -8,7 +8,7 @@ ghost use Rattle.aes3_recovery.specs.Endings.{level_if};
 ghost use Rattle.aes3_recovery.specs.Measuring.{IsAskedFor};
 
 use crate::distances::{Distances, distances_of, spread_behind};
-use crate::edges::{Edges, Piece};
+use crate::edges::{Edges, Piece, are_same};
 use crate::line_follower::LineFollower;
 use crate::measure::{RUNS, bounds_around, follower_of_runs};
 use crate::places::{BEGIN, Places, WORDS};
@@ -26,6 +26,9 @@ const FEW: usize = 128;
 
 /// Where the shortest cell is longer, edges are so rare that finding them first gains nothing.
 const SHORT: u64 = 42 * PARTS;
+
+/// Where the shortest cell is longer, 64 samples have two edges at most.
+const SPARSE: u64 = 32 * PARTS;
 
 /// So many edges are taken alone behind one that is far from its place.
 const ALONE: u32 = 8;
@@ -138,6 +141,7 @@ impl Recovery {
     ghost use Rattle.aes3_recovery.specs.Endings.{finished};
     ghost use Rattle.aes3_recovery.specs.Recovering.{AreEnded, AreRecovered, AreTold, Holds, Recovered, Setting};
     ghost use Rattle.aes3_recovery.specs.Distances.{total};
+    ghost use Rattle.aes3_recovery.specs.Queues.{Queued, Writes, waiting};
     ghost use Rattle.aes3_recovery.specs.Recovering.{StandsBehind, StandsOn, runs_waiting};
     ghost use Rattle.aes3_recovery.specs.RecoverySteps.{Gave, KeepsRuns, KeepsTold, Noted, NotedAll, RunsCounted, RunsTold};
     ghost use Rattle.aes3_recovery.specs.declared.recovery.State.TheVariants.{Following, Measuring, Still};
@@ -184,6 +188,11 @@ impl Recovery {
         ensures samples { result.samples ≡ self.now.figures.samples }
         ensures measured { result.measured ≡ self.now.figures.measured }
         ensures misses { result.misses ≡ self.now.figures.misses }
+        ensures edges { (result.edges ≡ self.now.figures.edges) × (result.greatest ≡ self.now.figures.greatest)
+            × (result.squares ≡ self.now.figures.squares) }
+        ensures dead { (result.dead ≡ self.now.figures.dead) × (result.dead_at ≡ self.now.figures.dead_at) }
+        ensures cells { result.cells ≡ self.now.line.cells }
+        ensures period { self.now.found ≡ true → result.period ≡ self.now.line.follower.period }
     {
         let mut figures = self.figures;
         figures.cells = self.line.cells();
@@ -269,6 +278,10 @@ impl Recovery {
             → IsLineBehind setting.known (seen ++ low_cells len levels) first counts
             → IfOk result (λ _. GivesLine (T.taken sink.new) setting (seen ++ low_cells len levels) first counts
             self.new) }
+        ensures up { IfOk result (λ _. self.old.figures.measured ≤ self.new.figures.measured) }
+        ensures some { 1 ≤ self.old.figures.samples → IfOk result (λ _. 1 ≤ self.new.figures.samples) }
+        ensures begun { self.old.state ≢ Following → self.new.state ≡ Following → self.old.figures.measured + 1 < 2 ^ 64
+            → IfOk result (λ _. self.old.figures.measured < self.new.figures.measured) }
     {
         self.count_samples(levels, len);
         let mut piece = Piece::new(levels, len);
@@ -283,8 +296,8 @@ impl Recovery {
     }
 
     /// Takes words of the levels of 64 samples each, the first in the lowest bit, if the line is one whose edges can be
-    /// found first; answers whether it did. It tells what [`Recovery::take`] tells of each word: this is the fast way, in
-    /// which most edges wait for no other. What `places` has counts for nothing.
+    /// found first, or if it is still and there is no edge in them; answers whether it did. It tells what [`Recovery::take`]
+    /// tells of each word: this is the fast way, in which most edges wait for no other. What `places` has counts for nothing.
     ///
     /// # Errors
     /// The sink's fault.
@@ -337,13 +350,20 @@ impl Recovery {
             → Awaits (T.taken sink.old) setting seen [] self.old
             → IfOk result (λ taken. Awaits (T.taken sink.new) setting
             (if taken then seen ++ flat_map word_cells words.now else seen) [] self.new) }
+        ensures up { IfOk result (λ _. self.old.figures.measured ≤ self.new.figures.measured) }
+        ensures some { 1 ≤ self.old.figures.samples → IfOk result (λ _. 1 ≤ self.new.figures.samples) }
+        ensures begun { IfOk result (λ _. self.old.state ≢ Following → self.new.state ≢ Following) }
     {
+        if self.is_still() {
+            return self.take_still(sink, words);
+        }
         if !self.is_quick() {
             return Ok(false);
         }
         let high = self.line.is_high();
         let waiting = self.line.waiting();
-        let count = places.find(words, high, waiting);
+        let sparse = self.line.follower().bounds().low >= SPARSE;
+        let count = places.find(words, high, waiting, sparse);
         let longest = places.measure(count);
         let behind = places.behind(count, words.len());
         if longest.max(behind) >= BEGIN {
@@ -371,6 +391,102 @@ impl Recovery {
             && self.figures.samples > 0
             && self.line.waiting() <= BEGIN
             && self.line.follower().bounds().low <= SHORT
+    }
+
+    /// Whether samples came, but no edge for long.
+    #[inline(always)]
+    pub(crate) fn is_still(&self) -> bool
+        ensures still { result ≡ true → self.now.state ≡ Still }
+        ensures some { result ≡ true → 1 ≤ self.now.figures.samples }
+    {
+        self.state == State::Still && self.figures.samples > 0
+    }
+
+    /// Takes words of a line that is still, if there is no edge in them; answers whether it did. Most blocks of a capture without
+    /// a signal are such, and after each of them all is as after 64 calls of [`Recovery::take`], one for each 64 octets.
+    #[inline(never)]
+    fn take_still<T: Sink>(&mut self, sink: &mut T, words: &[u64]) -> Result<bool, Fault>
+        requires few { length words.now ≤ 64 }
+        requires room { T.failed sink.old + 1 < 2 ^ 64 }
+        requires still { self.old.state ≡ Still }
+        requires some { 1 ≤ self.old.figures.samples }
+        ensures count { IfOk result (λ _. T.failed sink.new ≡ T.failed sink.old) }
+        ensures err_count { OnErr result (T.failed sink.new ≡ T.failed sink.old + 1) }
+        ensures recovered { (setting : Setting) (seen : List Level)
+            → Recovered (T.taken sink.old) setting seen [] self.old
+            → IfOk result (λ taken. Recovered (T.taken sink.new) setting
+            (if taken then seen ++ flat_map word_cells words.now else seen) [] self.new) }
+        ensures awaits { (setting : Setting) (seen : List Level)
+            → Awaits (T.taken sink.old) setting seen [] self.old
+            → IfOk result (λ taken. Awaits (T.taken sink.new) setting
+            (if taken then seen ++ flat_map word_cells words.now else seen) [] self.new) }
+        ensures state { IfOk result (λ _. self.new.state ≢ Following) }
+        ensures measured { IfOk result (λ _. self.new.figures.measured ≡ self.old.figures.measured) }
+        ensures samples { IfOk result (λ _. 1 ≤ self.new.figures.samples) }
+    {
+        if !are_same(words, self.line.is_high()) {
+            return Ok(false);
+        }
+        let all = 64 * words.len() as u32;
+        let last = self.last_waiting(words.len() as u32);
+        match self.wait_on(sink, all - last) {
+            Ok(()) => {}
+            Err(fault) => return Err(fault),
+        }
+        match self.wait_on(sink, last) {
+            Ok(()) => Ok(true),
+            Err(fault) => Err(fault),
+        }
+    }
+
+    /// How many of the next samples wait at the end, if 64 pieces of this length come and no edge: after each piece `rest` tells
+    /// all that waits, if that is long.
+    fn last_waiting(&self, piece: u32) -> u32
+        requires few { piece ≤ 64 }
+        ensures { result ≤ 64 * piece }
+    {
+        let period = self.period();
+        let mut waiting = self.line.waiting();
+        let mut left = 64 * piece;
+        let mut last = left;
+        'pieces: for _ in 0..64 {
+            waiting = waiting.saturating_add(piece);
+            left = left.saturating_sub(piece);
+            if u64::from(waiting) * PARTS / DEAD >= period {
+                waiting = 0;
+                last = left;
+            }
+        }
+        last
+    }
+
+    /// Takes so many samples of the line's level, after at least one that came before.
+    #[inline(always)]
+    fn wait_on<T: Sink>(&mut self, sink: &mut T, samples: u32) -> Result<(), Fault>
+        requires few { samples ≤ 4096 }
+        requires room { T.failed sink.old + 1 < 2 ^ 64 }
+        ensures count { IfOk result (λ _. T.failed sink.new ≡ T.failed sink.old) }
+        ensures err_count { OnErr result (T.failed sink.new ≡ T.failed sink.old + 1) }
+        ensures high { self.new.line.edges.high ≡ self.old.line.edges.high }
+        ensures samples { self.new.figures.samples ≡ min (self.old.figures.samples + samples) (2 ^ 64 - 1) }
+        ensures still { self.old.state ≡ Still → self.old.count ≡ 0 → self.new.state ≡ Still }
+        ensures recovered { 1 ≤ self.old.figures.samples → (setting : Setting) (seen : List Level)
+            → Recovered (T.taken sink.old) setting seen [] self.old
+            → IfOk result (λ _. Recovered (T.taken sink.new) setting
+            (seen ++ replicate samples (level_if self.old.line.edges.high)) [] self.new) }
+        ensures awaits { 1 ≤ self.old.figures.samples → self.old.state ≡ Still → (setting : Setting) (seen : List Level)
+            → Awaits (T.taken sink.old) setting seen [] self.old
+            → IfOk result (λ _. Awaits (T.taken sink.new) setting
+            (seen ++ replicate samples (level_if self.old.line.edges.high)) [] self.new) }
+        ensures state { self.new.state ≡ Following → self.old.state ≡ Following }
+        ensures measured { self.new.figures.measured ≡ self.old.figures.measured }
+    {
+        let before = self.figures.samples;
+        self.figures.samples = before.saturating_add(u64::from(samples));
+        let high = self.line.is_high();
+        let waiting = self.line.waiting();
+        self.line.stand(high, waiting.saturating_add(samples));
+        self.rest(sink)
     }
 
     /// Takes so many edges that were found, the first behind a run of the other level than this; answers the level behind
@@ -964,6 +1080,11 @@ impl Recovery {
         ensures measured { self.new.figures.measured ≡ self.old.figures.measured }
         ensures awaits { (setting : Setting) (seen : List Level) → Awaits (T.taken sink.old) setting seen [] self.old
             → IfOk result (λ _. Awaits (T.taken sink.new) setting seen [] self.new) }
+        ensures state { self.new.state ≡ self.old.state }
+        ensures samples { self.new.figures.samples ≡ self.old.figures.samples }
+        ensures follows { (begun : List ℕ) (front : List Level) (first : Follower) (before : Level) (seen : List Level)
+            → Followed (T.taken sink.old) begun front self.old.line first before seen []
+            → IfOk result (λ _. Followed (T.taken sink.new) begun front self.new.line first before seen []) }
     {
         match self.line.pass_on(sink) {
             Ok(()) => sink.flush(),
@@ -984,6 +1105,15 @@ impl Recovery {
             → Recovered (T.taken sink.old) setting seen [] self.old
             → IfOk result (λ _. (cells : List Level) × AreRecovered setting.known seen cells self.new
             × (T.taken sink.new ≡ Some (setting.begun ++ finished setting.form cells))) }
+        ensures samples { self.new.figures.samples ≡ self.old.figures.samples }
+        ensures up { IfOk result (λ _. self.old.figures.measured ≤ self.new.figures.measured) }
+        ensures begun { self.old.state ≢ Following → self.new.state ≡ Following → self.old.figures.measured + 1 < 2 ^ 64
+            → IfOk result (λ _. self.old.figures.measured < self.new.figures.measured) }
+
+        // Where no run waits and a line was found, what was given stands at the beginning of what is written.
+        ensures writes { self.old.found ≡ true → self.old.count ≡ 0 → (begun : List ℕ) (all : List Level)
+            → Queued (T.taken sink.old) begun self.old.line.queue.form (waiting self.old.line.queue) all
+            → IfOk result (λ _. Writes (T.taken sink.new) begun self.old.line.queue.form all) }
     {
         let count = self.count;
         self.count = 0;
@@ -1006,6 +1136,14 @@ impl Recovery {
             → level_if self.old.line.edges.high ≡ other (after level (done ++ take count self.old.runs))
             → IfOk result (λ _. AreTold (T.taken sink.new) setting level
             (done ++ take count self.old.runs) past self.new) }
+        ensures samples { self.new.figures.samples ≡ self.old.figures.samples }
+        ensures up { self.old.figures.measured ≤ self.new.figures.measured }
+        ensures begun { self.old.state ≢ Following → self.new.state ≡ Following
+            → self.old.figures.measured + 1 < 2 ^ 64
+            → self.old.figures.measured < self.new.figures.measured }
+        ensures found { count ≡ 0 → self.new.found ≡ self.old.found }
+        ensures none { count ≡ 0 → self.old.found ≡ true
+            → IfOk result (λ _. Gave T.taken self.old.line self.new.line sink.old sink.new []) }
     {
         if count < FEW {
             self.release(sink, count)
@@ -1026,6 +1164,12 @@ impl Recovery {
             → IfOk result (λ _. (cells : List Level)
             × AreEnded setting.known level (done ++ (past + self.old.line.edges.run) ∷ []) cells self.new
             × (T.taken sink.new ≡ Some (setting.begun ++ finished setting.form cells))) }
+        ensures samples { self.new.figures.samples ≡ self.old.figures.samples }
+        ensures state { self.new.state ≡ self.old.state }
+        ensures measured { self.new.figures.measured ≡ self.old.figures.measured }
+        ensures writes { self.old.found ≡ true → (begun : List ℕ) (all : List Level)
+            → Queued (T.taken sink.old) begun self.old.line.queue.form (waiting self.old.line.queue) all
+            → IfOk result (λ _. Writes (T.taken sink.new) begun self.old.line.queue.form all) }
     {
         let run = self.line.take_waiting();
         let high = self.line.is_high();

@@ -1,7 +1,22 @@
 //! The run from samples to cells.
 
-ghost use Rattle.std.specs.Prelude.{◌+◌, ◌<◌, ◌≤◌, ◌^◌, ◌≡◌};
-ghost use Rattle.std.specs.Prelude.{IfOk, OnErr, length};
+ghost use Rattle.std.specs.Prelude.{ℕ, List, [], ◌+◌, ◌*◌, ◌++◌, ◌<◌, ◌≤◌, ◌^◌, ◌≡◌, ◌↔◌};
+ghost use Rattle.std.specs.Prelude.{None, Some, IfErr, IfOk, IsTrue, OnErr, drop, false, length, take};
+ghost use Rattle.aes3_recovery.specs.Levels.{bit_of_line, bits_of_sample, levels_of_samples};
+ghost use Rattle.aes3_recovery.specs.Reading.{FailedAt, ReadSamples};
+ghost use Rattle.aes3_recovery.specs.Taking.{Took, TookAll};
+ghost use Rattle.aes3_level.specs.declared.level.Level.{Level};
+ghost use Rattle.aes3_capture.specs.declared.follower.Follower.{Follower};
+ghost use Rattle.aes3_capture.specs.Captures.{Captures};
+ghost use Rattle.aes3_capture.specs.Following.{Follows};
+ghost use Rattle.aes3_recovery.specs.Beginning.{Awaits, GivesLine, IsLineBehind};
+ghost use Rattle.aes3_recovery.specs.LineFollowing.{Followed, Gives};
+ghost use Rattle.aes3_recovery.specs.Recovering.{Setting};
+ghost use Rattle.aes3_recovery.specs.Runs.{AreCaptured};
+ghost use Rattle.aes3_recovery.specs.declared.recovery.State.TheVariants.{Following};
+ghost use Rattle.aes3_recovery.specs.declared.run.Progress.TheVariants.{Ended};
+ghost use Rattle.aes3_recovery.specs.declared.run.Refusal.TheVariants.{Write};
+ghost use Rattle.aes3_cell.specs.Ends.{Grew};
 
 use crate::levels::{BLOCK, Unit, levels_of, words_of};
 use crate::places::Places;
@@ -45,6 +60,25 @@ pub fn feed<T: Sink>(
     requires room { T.failed sink.old + 1 < 2 ^ 64 }
     ensures count { IfOk result (λ _. T.failed sink.new ≡ T.failed sink.old) }
     ensures err_count { OnErr result (T.failed sink.new ≡ T.failed sink.old + 1) }
+    ensures took { bit_of_line unit < bits_of_sample unit → IfOk result (λ _. Took T.taken recovery.old recovery.new
+        sink.old sink.new (levels_of_samples unit piece.now)) }
+    ensures mean { bit_of_line unit < bits_of_sample unit → recovery.old.state ≡ Following → recovery.new.state ≡ Following
+        → recovery.new.figures.measured ≡ recovery.old.figures.measured
+        → recovery.old.figures.measured + 1 < 2 ^ 64 → 1 ≤ recovery.old.figures.samples
+        → (begun : List ℕ) (front : List Level) (first : Follower) (before : Level) (seen : List Level)
+        (same other_mean displaced : ℕ) (cells : List Level)
+        → Followed (T.taken sink.old) begun front recovery.old.line first before seen []
+        → Follows first same other_mean displaced 0 0
+        → AreCaptured (Captures first.bounds same other_mean displaced) before cells
+        (seen ++ levels_of_samples unit piece.now)
+        → IfOk result (λ _. Gives (T.taken sink.new) begun front recovery.new.line cells) }
+    ensures joined { bit_of_line unit < bits_of_sample unit → recovery.new.state ≡ Following
+        → recovery.new.figures.measured ≡ 1
+        → (setting : Setting) (seen : List Level) (first : ℕ) (counts : List ℕ)
+        → Awaits (T.taken sink.old) setting seen [] recovery.old
+        → IsLineBehind setting.known (seen ++ levels_of_samples unit piece.now) first counts
+        → IfOk result (λ _. GivesLine (T.taken sink.new) setting (seen ++ levels_of_samples unit piece.now) first counts
+        recovery.new) }
 {
     if piece.len() < BLOCK {
         feed_chunks(recovery, sink, unit, piece)
@@ -65,6 +99,8 @@ fn feed_long<T: Sink>(
     requires room { T.failed sink.old + 1 < 2 ^ 64 }
     ensures count { IfOk result (λ _. T.failed sink.new ≡ T.failed sink.old) }
     ensures err_count { OnErr result (T.failed sink.new ≡ T.failed sink.old + 1) }
+    ensures took { bit_of_line unit < bits_of_sample unit → IfOk result (λ _. Took T.taken recovery.old recovery.new
+        sink.old sink.new (levels_of_samples unit piece.now)) }
 {
     feed_blocks(recovery, sink, unit, piece, &mut Places::new())
 }
@@ -81,6 +117,8 @@ fn feed_blocks<T: Sink>(
     requires room { T.failed sink.old + 1 < 2 ^ 64 }
     ensures count { IfOk result (λ _. T.failed sink.new ≡ T.failed sink.old) }
     ensures err_count { OnErr result (T.failed sink.new ≡ T.failed sink.old + 1) }
+    ensures took { bit_of_line unit < bits_of_sample unit → IfOk result (λ _. Took T.taken recovery.old recovery.new
+        sink.old sink.new (levels_of_samples unit piece.now)) }
 {
     let mut at = 0;
     while let Some(block) = piece[at..].first_chunk() {
@@ -90,7 +128,7 @@ fn feed_blocks<T: Sink>(
     feed_chunks(recovery, sink, unit, &piece[at..])
 }
 
-/// Takes a block of samples: its edges are found first, where the line is one of which they can be.
+/// Takes a block of samples: its edges are found first, where the line is one of which they can be, or there is none in it.
 #[inline(always)]
 fn feed_block<T: Sink>(
     recovery: &mut Recovery,
@@ -102,8 +140,10 @@ fn feed_block<T: Sink>(
     requires room { T.failed sink.old + 1 < 2 ^ 64 }
     ensures count { IfOk result (λ _. T.failed sink.new ≡ T.failed sink.old) }
     ensures err_count { OnErr result (T.failed sink.new ≡ T.failed sink.old + 1) }
+    ensures took { bit_of_line unit < bits_of_sample unit → IfOk result (λ _. Took T.taken recovery.old recovery.new
+        sink.old sink.new (levels_of_samples unit block.now)) }
 {
-    if recovery.is_quick() {
+    if recovery.is_quick() || recovery.is_still() {
         let (words, count) = words_of(unit, block);
         if recovery.take_words(sink, &words[..count], places)? {
             return Ok(());
@@ -122,6 +162,8 @@ fn feed_chunks<T: Sink>(
     requires room { T.failed sink.old + 1 < 2 ^ 64 }
     ensures count { IfOk result (λ _. T.failed sink.new ≡ T.failed sink.old) }
     ensures err_count { OnErr result (T.failed sink.new ≡ T.failed sink.old + 1) }
+    ensures took { bit_of_line unit < bits_of_sample unit → IfOk result (λ _. Took T.taken recovery.old recovery.new
+        sink.old sink.new (levels_of_samples unit piece.now)) }
 {
     let mut at = 0;
     while let Some(octets) = piece[at..].first_chunk() {
@@ -142,7 +184,7 @@ fn feed_chunks<T: Sink>(
 
 /// How many octets a piece has at most where so many samples are still to come.
 fn piece_len(unit: Unit, left: u64) -> usize
-    ensures some { 1 ≤ result }
+    ensures some { bits_of_sample unit ≤ 8 * result }
     ensures most { result ≤ 131072 }
 {
     let samples = left.clamp(1, 131_072) as usize;
@@ -150,16 +192,63 @@ fn piece_len(unit: Unit, left: u64) -> usize
 }
 
 /// Whether a run is to pause: at so many samples, or where another stretch was dead.
-fn is_due(figures: Figures, dead: u64, until: Option<u64>) -> bool {
+fn is_due(figures: Figures, dead: u64, until: Option<u64>) -> bool
+    ensures { until ≡ None → result ≡ false }
+{
     match until {
         Some(until) => figures.samples >= until || figures.dead != dead,
         None => false,
     }
 }
 
+/// A piece of which nothing was read.
+fn blank_piece() -> [u8; PIECE_LEN]
+    ensures { length result ≡ PIECE_LEN }
+{
+    [0; PIECE_LEN]
+}
+
+/// Reads octets of a piece from `from` up to `to`, and answers how many.
+fn read_some<S: Source>(
+    source: &mut S,
+    piece: &mut [u8; PIECE_LEN],
+    from: usize,
+    to: usize,
+) -> Result<usize, Fault>
+    requires failures { S.failed source.old + 1 < 2 ^ 64 }
+    requires some { from < to }
+    requires within { to ≤ 131072 }
+    ensures bound { IfOk result (λ n. from + n ≤ to) }
+    ensures front { take from piece.new ≡ take from piece.old }
+    ensures octets { IfOk result (λ n. Grew (S.given source.old) (S.given source.new)
+        (take n (drop from piece.new))) }
+    ensures end { IfOk result (λ n. n ≡ 0 ↔ IsTrue (S.has_ended source.new)) }
+    ensures count { IfOk result (λ _. S.failed source.new ≡ S.failed source.old) }
+    ensures err { OnErr result ((S.failed source.new ≡ S.failed source.old + 1)
+        × (S.given source.new ≡ S.given source.old)) }
+{
+    source.read(&mut piece[from..to])
+}
+
+/// Takes the end of the samples.
+fn end<T: Sink>(recovery: &mut Recovery, sink: &mut T) -> Result<Progress, Refusal>
+    requires room { T.failed sink.old + 1 < 2 ^ 64 }
+    ensures ended { IfOk result (λ progress. progress ≡ Ended) }
+    ensures count { IfOk result (λ _. T.failed sink.new ≡ T.failed sink.old) }
+    ensures err { IfErr result (λ refusal. (refusal ≡ Write) × (T.failed sink.new ≡ T.failed sink.old + 1)) }
+    ensures took { IfOk result (λ _. TookAll T.taken recovery.old recovery.new sink.old sink.new []) }
+    ensures passed { IfOk result (λ _. T.passed sink.new ≡ T.taken sink.new) }
+{
+    match recovery.finish(sink) {
+        Ok(()) => Ok(Progress::Ended),
+        Err(_) => Err(Refusal::Write),
+    }
+}
+
 /// Reads samples to their end, and writes the cells of the line among them. With `until` it pauses
 /// where so many samples have come in all, and behind the piece in which the line dies, and goes
-/// on when it is called again.
+/// on when it is called again. It pauses behind a whole sample. A part of one at the end, or before
+/// the source failed, counts for nothing.
 ///
 /// # Errors
 /// Which end failed.
@@ -174,24 +263,31 @@ pub fn recover<S: Source, T: Sink>(
     requires sink_room { T.failed sink.old + 1 < 2 ^ 64 }
     ensures source_count { IfOk result (λ _. S.failed source.new ≡ S.failed source.old) }
     ensures sink_count { IfOk result (λ _. T.failed sink.new ≡ T.failed sink.old) }
+    ensures err_count { IfErr result (λ refusal. FailedAt refusal (S.failed source.old) (S.failed source.new)
+        (T.failed sink.old) (T.failed sink.new)) }
+    ensures read { ReadSamples unit (S.given source.old) (S.given source.new) (S.has_ended source.new) T.taken
+        recovery.old recovery.new sink.old sink.new result }
+    ensures to_the_end { until ≡ None → IfOk result (λ progress. progress ≡ Ended) }
+
+    // At Ok the sink has passed on all that it took, and so it had before a read that failed.
+    ensures passed { IfOk result (λ _. T.passed sink.new ≡ T.taken sink.new) }
+    ensures passed_before { S.failed source.new ≡ S.failed source.old + 1
+        → T.passed sink.old ≡ T.taken sink.old → T.passed sink.new ≡ T.taken sink.new }
 {
     let dead = recovery.figures().dead;
-    let mut piece = [0; PIECE_LEN];
+    let mut piece = blank_piece();
     let mut places = Places::new();
     let mut kept = 0;
-    'pieces: for _ in 0..u64::MAX {
+    'pieces: for _reads in 0..u64::MAX {
         let left = until
             .unwrap_or(u64::MAX)
             .saturating_sub(recovery.figures().samples);
-        let n = match source.read(&mut piece[kept..piece_len(unit, left)]) {
+        let n = match read_some(source, &mut piece, kept, piece_len(unit, left)) {
             Ok(n) => n,
             Err(_) => return Err(Refusal::Read),
         };
         if n == 0 {
-            return match recovery.finish(sink) {
-                Ok(()) => Ok(Progress::Ended),
-                Err(_) => Err(Refusal::Write),
-            };
+            return end(recovery, sink);
         }
         let whole = kept + n;
         kept = whole % unit.len();
@@ -210,5 +306,5 @@ pub fn recover<S: Source, T: Sink>(
             return Ok(Progress::Paused);
         }
     }
-    Ok(Progress::Ended)
+    end(recovery, sink)
 }

@@ -1,5 +1,6 @@
 -- The lines of preambles, as cells come.
 use Rattle.std.proofs.Common.{◌≡◌, ℕ, suc, ◌+◌, ◌≤◌, List, [], ◌∷◌, ◌++◌, Option, Some, None, length, drop, refl, sym}
+use Rattle.std.proofs.Common.{Result, Ok, Err, IfOk, OnErr, subst}
 use Rattle.std.proofs.Common.{ap, ap₂, ◌∙◌, arith, append-nil, length-append}
 use Rattle.std.specs.Prelude.{option_to_list, option_map}
 use Rattle.std.proofs.lemmas.Grind.{flat_map-append}
@@ -13,11 +14,14 @@ use Rattle.aes3_cell.proofs.Growing.{grew-none, grew-is, front-is}
 use Rattle.aes3_lock.specs.Preambles.{first_mark, placed, marks_from, marks}
 use Rattle.aes3_lock.proofs.Scanning.{ending, marks-push}
 use Rattle.aes3_lock.specs.Following.{ScanState, ScanFollows}
+use Rattle.aes3_cell.specs.declared.ends.Fault.{Fault}
+use Rattle.aes3_input.specs.Forms.{CellsRan}
+use Rattle.aes3_input.specs.Running.{Failed, Movement, Quiet}
 use Rattle.aes3_input.specs.Taking.{behind, before_end, with_end}
 use Rattle.aes3_input.specs.Inputs.{cells_of}
 use Rattle.aes3_input.proofs.Items.{before-is, before-join}
 use Rattle.aes3_lines.specs.MarkLines.{line_of, mark_line, mark_lines}
-use Rattle.aes3_reports.specs.Scanning.{marks_by, marking, scan_counts, Scanned}
+use Rattle.aes3_reports.specs.Scanning.{mark_state, marks_by, marking, scan_counts, Scanned}
 
 -- the preambles of all cells before are those of all cells
 marks-by : (c : List Level) (l : Level) (m : List (ℕ × Mark × Level)) → marks (c ++ l ∷ []) ≡ marks c ++ m
@@ -137,3 +141,41 @@ told-front t t' c d m e g = front-is (sym (append-nil (line_of m)) ∙ sym (mark
 pub none-grew : {t t' : Option (List ℕ)} (c d : List Level) → marks (c ++ d) ≡ marks c ++ [] → t' ≡ t
     → Grew t t' (behind marking c d)
 none-grew c d e g = grew-is (sym (marks-behind c d [] e)) (grew-none g)
+
+-- cells of which the last ends a preamble, whose line was written; and cells that end none
+pub mark-ran : (lines lines' : List ℕ) (scan scan' : ScanState) (count count' : ℕ) (d : List Level)
+    (m : ℕ × Mark × Level) (sink : Movement) (r : Result (Unit {0}) Fault)
+    → ((c : List Level) → ScanFollows scan c → ScanFollows scan' (c ++ d))
+    → ((c : List Level) → ScanFollows scan c → marks (c ++ d) ≡ marks c ++ m ∷ [])
+    → count' ≡ count + 1
+    → IfOk r (λ _. lines' ≡ [])
+    → IfOk r (λ _. Grew sink.old sink.new (mark_line m.0 m.1 m.2))
+    → IfOk r (λ _. Quiet sink)
+    → OnErr r (Failed sink × GrewFront sink.old sink.new (mark_line m.0 m.1 m.2))
+    → CellsRan (mark_state lines scan count) (mark_state lines' scan' count') d sink r
+mark-ran lines lines' scan scan' count count' d m sink (Ok u) next mark more none grew quiet err = (
+  refl,
+  (λ c h. (
+    none,
+    subst (λ n. Scanned scan' n (c ++ d)) (sym more)
+        (scanned-mark d m h.1 (next c h.1.follows) (mark c h.1.follows)),
+  )),
+  (λ c h. told-grew sink.old sink.new c d m (mark c h.1.follows) grew),
+  quiet,
+)
+mark-ran lines lines' scan scan' count count' d m sink (Err x) next mark more none grew quiet err = (
+  err.0,
+  (λ c h. told-front sink.old sink.new c d m (mark c h.1.follows) err.1),
+)
+
+pub none-ran : (lines : List ℕ) (scan scan' : ScanState) (count : ℕ) (d : List Level) (sink : Movement)
+    → ((c : List Level) → ScanFollows scan c → ScanFollows scan' (c ++ d))
+    → ((c : List Level) → ScanFollows scan c → marks (c ++ d) ≡ marks c ++ [])
+    → sink.new ≡ sink.old → Quiet sink
+    → CellsRan (mark_state lines scan count) (mark_state lines scan' count) d sink (Ok tt)
+none-ran lines scan scan' count d sink next none same quiet = (
+  refl,
+  (λ c h. (h.0, scanned-none d h.1 (next c h.1.follows) (none c h.1.follows))),
+  (λ c h. none-grew c d (none c h.1.follows) same),
+  quiet,
+)

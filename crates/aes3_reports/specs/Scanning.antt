@@ -6,7 +6,7 @@ use Rattle.aes3_cell.specs.declared.counts.Counts.{Counts}
 use Rattle.aes3_slot.specs.declared.mark.Mark.{Mark}
 use Rattle.aes3_lock.specs.Preambles.{marks}
 use Rattle.aes3_lock.specs.Following.{ScanState, ScanFollows}
-use Rattle.aes3_input.specs.Taking.{Writing}
+use Rattle.aes3_input.specs.Taking.{TakerState, Writing}
 use Rattle.aes3_input.specs.Inputs.{cells_of}
 use Rattle.aes3_lines.specs.MarkLines.{mark_lines}
 
@@ -32,3 +32,11 @@ marking = record { adds = λ c l. mark_lines (marks_by c l); ends = λ c. [] }
 pub record Scanned (scan : ScanState) (count : ℕ) (c : List Level) : Type 0 where
   pub follows : ScanFollows scan c
   pub count_is : count ≡ length (marks c)
+
+-- a taker of these, with the lines that it holds
+abbrev pub mark_state : List ℕ → ScanState → ℕ → TakerState Level
+mark_state lines scan count = record {
+  writes = marking;
+  follows = λ c. (lines ≡ []) × Scanned scan count c;
+  finished = Scanned scan count;
+}

@@ -1,22 +1,26 @@
 //! Preambles, line by line.
 
-ghost use Rattle.std.specs.Prelude.{◌≡◌, ℕ, ◌+◌, ◌<◌, ◌≤◌, ◌^◌, ◌++◌, List, [], length, IfOk};
+ghost use Rattle.std.specs.Prelude.{◌≡◌, ℕ, ◌+◌, ◌*◌, ◌<◌, ◌≤◌, ◌^◌, ◌++◌, List, [], length, IfOk};
 ghost use Rattle.std.specs.Prelude.{OnErr};
+ghost use Rattle.std.specs.List.{flat_map};
 ghost use Rattle.aes3_cell.specs.Ends.{Grew, GrewFront, Told};
+ghost use Rattle.aes3_level.specs.Remaining.{all_of};
 ghost use Rattle.aes3_level.specs.Words.{word_cells};
 ghost use Rattle.aes3_cell.specs.Writes.{Wrote};
 ghost use Rattle.aes3_level.specs.declared.level.Level.{Level};
 ghost use Rattle.aes3_lock.specs.Preambles.{marks};
 ghost use Rattle.aes3_input.specs.Driving.{CellRun};
+ghost use Rattle.aes3_input.specs.Forms.{CellsRan, SomeCellsRan};
 ghost use Rattle.aes3_input.specs.Inputs.{cells_of};
 ghost use Rattle.aes3_input.specs.Running.{movement_of};
 ghost use Rattle.aes3_input.specs.Taking.{behind};
 ghost use Rattle.aes3_lines.specs.Gathering.{AllButHeld};
 ghost use Rattle.aes3_lines.specs.MarkLines.{mark_line, mark_lines};
-ghost use Rattle.aes3_reports.specs.Scanning.{Scanned, marking, scan_counts};
+ghost use Rattle.aes3_reports.specs.Scanning.{Scanned, mark_state, marking, scan_counts};
 
 use aes3_cell::{Counts, Fault, Form, Level, RunError, Sink, Source};
 use aes3_input::{Taker, drive};
+use aes3_level::Cells;
 use aes3_lines::{GATHERED_LEN, GatheredLines, MARK_LEN};
 use aes3_lock::{Scan, WordMarks};
 use aes3_slot::Mark;
@@ -147,31 +151,58 @@ impl MarkLines {
         let found = self.scan.take_word(word);
         self.tell_all(sink, found)
     }
-}
 
-impl Taker for MarkLines {
-    ghost state = { λ k. record {
-      writes = marking;
-      follows = λ c. (k.lines ≡ []) × Scanned k.scan k.marks c;
-      finished = Scanned k.scan k.marks;
-    } };
-
-    fn take_front<T: Sink>(&mut self, sink: &mut T, word: u64, len: u32) -> Result<u32, Fault> {
-        let (taken, found) = self.scan.next_in(word, len);
+    /// Takes cells of the word that was begun, up to the next preamble.
+    ///
+    /// # Errors
+    /// The sink's fault; then it has taken a front of the lines.
+    fn take_next<T: Sink>(&mut self, sink: &mut T, cells: &mut Cells<'_>) -> Result<(), Fault>
+        requires some { 0 < length cells.old.here }
+        requires room { T.failed sink.old + 1 < 2 ^ 64 }
+        requires following { (c : List Level) × (length c + length (all_of cells.old) ≤ 2 ^ 43)
+            × (self.old.lines ≡ []) × Scanned self.old.scan self.old.marks c }
+        ensures ran { SomeCellsRan (mark_state self.old.lines self.old.scan self.old.marks)
+            (mark_state self.new.lines self.new.scan self.new.marks) (all_of cells.old)
+            (all_of cells.new) (movement_of T.taken T.failed sink.old sink.new) result }
+    {
+        let (taken, found) = self.scan.next_in(cells.word(), cells.here());
+        cells.skip(taken);
         match found {
-            Some(found) => {
-                self.tell_alone(sink, found)?;
-                Ok(taken)
-            }
-            None => Ok(taken),
+            Some(found) => self.tell_alone(sink, found),
+            None => Ok(()),
         }
     }
 
-    fn words<T: Sink>(&mut self, sink: &mut T, words: &[u64]) -> Result<(), Fault> {
+    /// Takes the cells of words.
+    ///
+    /// # Errors
+    /// The sink's fault; then it has taken a front of the lines.
+    fn take_words<T: Sink>(&mut self, sink: &mut T, words: &[u64]) -> Result<(), Fault>
+        requires room { T.failed sink.old + 1 < 2 ^ 64 }
+        requires following { (c : List Level) × (length c + 64 * length words.now ≤ 2 ^ 43)
+            × (self.old.lines ≡ []) × Scanned self.old.scan self.old.marks c }
+        ensures ran { CellsRan (mark_state self.old.lines self.old.scan self.old.marks)
+            (mark_state self.new.lines self.new.scan self.new.marks) (flat_map word_cells words.now)
+            (movement_of T.taken T.failed sink.old sink.new) result }
+    {
         for word in words.iter() {
             self.take_word(sink, *word)?;
         }
         self.lines.hand_on(sink)
+    }
+}
+
+impl Taker for MarkLines {
+    ghost state = { λ k. mark_state k.lines k.scan k.marks };
+
+    fn take<T: Sink>(&mut self, sink: &mut T, cells: &mut Cells<'_>) -> Result<(), Fault> {
+        let words = cells.words();
+        if cells.here() == 0 && !words.is_empty() {
+            cells.skip_words(words.len());
+            return self.take_words(sink, words);
+        }
+        cells.begin_word();
+        self.take_next(sink, cells)
     }
 
     fn finish<T: Sink>(&mut self, _sink: &mut T) -> Result<(), Fault> {

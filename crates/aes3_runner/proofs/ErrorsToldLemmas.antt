@@ -1,7 +1,8 @@
 -- What standard error is told of a line, by what ran.
-use Rattle.std.proofs.Common.{◌≡◌, ◌≤◌, ◌==◌, ◌&&◌, ◌||◌, ◌++◌, ℕ, List, [], ◌∷◌, Option, Some, None, inl, inr, Bool, true, false, IsFalse, Result, Ok, Err, refl, sym, ap, ap₂, ◌∙◌, arith}
-use Rattle.std.proofs.Common.{if◌then◌else◌}
+use Rattle.std.proofs.Common.{◌≡◌, ◌≤◌, ◌==◌, ◌&&◌, ◌||◌, ◌++◌, ℕ, List, [], ◌∷◌, Option, Some, None, inl, inr, Bool, true, false, IsFalse, Result, Ok, Err, refl, subst, sym, ap, ap₂, ◌∙◌, arith}
+use Rattle.std.proofs.Common.{if◌then◌else◌, nat_lt}
 use Rattle.aes3_cell.specs.declared.counts.Counts.{Counts}
+use Rattle.aes3_cell.specs.declared.form.Form.{Form}
 use Rattle.aes3_cell.specs.declared.refusal.RunError.{RunError}
 use Rattle.aes3_cell.specs.declared.refusal.RunError.TheVariants as refusal
 use Rattle.aes3_input.specs.Running.{Movement}
@@ -9,11 +10,14 @@ use Rattle.aes3_cell.proofs.Growing.{grew-is}
 use Rattle.aes3_arguments.specs.declared.job.LineFault.{LineFault}
 use Rattle.aes3_arguments.specs.declared.job.LineFault.TheVariants.{Usage, Help, Refused}
 use Rattle.aes3_arguments.specs.declared.line.CommandLine.{CommandLine}
-use Rattle.aes3_hints.specs.Sentences.{reads_packed, writes_packed}
+use Rattle.aes3_job.specs.Forms.{finds_faults, reads_packed, writes_packed}
 use Rattle.aes3_job.specs.declared.job.Job.{Job}
-use Rattle.aes3_job.specs.declared.job.Job.TheVariants.{Encode, Decode, Normal, Check, Account, Watch, WatchSums}
-use Rattle.aes3_job.specs.declared.job.Job.TheVariants.{Show, ShowChanges, Scan, Cut, Rewrite, ToPcm, FromPcm, ToBits}
-use Rattle.aes3_job.specs.declared.job.Job.TheVariants.{Info, ToExactPcm, ToFilledPcm}
+use Rattle.aes3_job.specs.declared.job.Job.TheVariants.{Encode, Stream, Read, FromPcm}
+use Rattle.aes3_job.specs.declared.work.ReadWork.{ReadWork}
+use Rattle.aes3_job.specs.declared.work.ReadWork.TheVariants.{Decode, Check, Account, Watch, WatchSums, Info, Show}
+use Rattle.aes3_job.specs.declared.work.ReadWork.TheVariants.{ShowChanges, Scan, ToPcm, ToExactPcm, ToFilledPcm, ToBits}
+use Rattle.aes3_job.specs.declared.work.StreamWork.{StreamWork}
+use Rattle.aes3_job.specs.declared.work.StreamWork.TheVariants.{Normal, Cut, Rewrite}
 use Rattle.aes3_runner.specs.declared.outcome.Outcome.{Outcome}
 use Rattle.aes3_runner.specs.declared.outcome.Remark.{Remark}
 use Rattle.aes3_runner.specs.declared.outcome.Remark.TheVariants.{Nothing, Filled, LeftOut, Settings, Inexact}
@@ -29,35 +33,18 @@ use Rattle.aes3_settings.specs.Untaken.{texts_of, untaken_lines}
 use Rattle.aes3_settings.specs.declared.typed.TypedSettings.{TypedSettings}
 use Rattle.aes3_runner.specs.Lines.{met_lines, remark_line}
 use Rattle.aes3_runner.specs.Outcomes.{RemarkTold, met_by, sample_status}
-use Rattle.aes3_runner.specs.JobRuns.{AnswerTold, JobRan, RunRan, end_status, promise_of, status_by, status_for}
-use Rattle.aes3_runner.specs.OctetRuns.{FirstFailed, PackedRan, RawBy, as_raw, written_by}
-use Rattle.aes3_runner.specs.StandardErrors.{ErrorsTold, remarks, sets_fields}
-use Rattle.aes3_runner.specs.WordRuns.{LineRan}
+use Rattle.aes3_runner.specs.JobRuns.{AnswerTold, JobRan, RunRan, end_status, promise_of, read_promise, status_by, status_for, stream_promise}
+use Rattle.aes3_runner.specs.OctetRuns.{FirstFailed, OctetsRan, PackedRan, RawBy, as_raw, written_by}
+use Rattle.aes3_runner.specs.StandardErrors.{ErrorsTold, read_remarks, remarks, sets_fields, stream_remarks}
+use Rattle.aes3_runner.specs.WordRuns.{FaultRan}
 
--- a status of a test is 0 or 1
-few-of : (b : Bool) → (if b then 0 else 1) ≤ 1
+-- the status of a test is 0 or 1
+few-of : (b : Bool) → (if b then 1 else 0) ≤ 1
 few-of true = omega arith
 few-of false = omega arith
 
-few : (job : Job) (n : Counts) → status_by job n ≤ 1
-few (Encode o w) n = omega arith
-few (Decode i w) n = omega arith
-few (Normal i o) n = omega arith
-few (Check i l) n = few-of (n.faults == 0)
-few (Account i l) n = few-of (n.faults == 0)
-few (Watch i l) n = few-of (n.faults == 0)
-few (WatchSums i l e) n = few-of (n.faults == 0)
-few (Info i t) n = few-of (n.faults == 0)
-few (Show i d) n = omega arith
-few (ShowChanges i d) n = omega arith
-few (Scan i) n = omega arith
-few (Cut i o f c) n = omega arith
-few (Rewrite i o c x) n = omega arith
-few (ToPcm i p v) n = omega arith
-few (ToExactPcm i p) n = omega arith
-few (ToFilledPcm i p fill marked) n = omega arith
-few (FromPcm p e c w) n = omega arith
-few (ToBits i b c) n = omega arith
+pub few : (job : Job) (n : Counts) → status_by job n ≤ 1
+few job n = few-of (finds_faults job && nat_lt 0 n.faults)
 
 -- a change that sets no field by name has no line
 no-lines : (channel : ℕ) (texts : List (List ℕ)) (met : Met) → met.settings ≡ None → met_lines channel texts met ≡ []
@@ -86,34 +73,42 @@ none-out : (typed : TypedSettings) (n : ℕ) → n ≡ 0 → remark_line typed (
 none-out typed n e = ap (λ k. remark_line typed (if k == 0 then Nothing else LeftOut k)) e
 
 -- there is no line on a job of which none is told
+of-stream-remark : (typed : TypedSettings) (i o : Form) (work : StreamWork) (b : List ℕ) (n : Outcome)
+    → (stream_promise i o work).answer b n → IsFalse (stream_remarks work) → remark_line typed n.remark ≡ []
+of-stream-remark typed i o Normal b n h s = line-of typed h.2 refl
+of-stream-remark typed i o (Cut f c) b n h s = line-of typed h.2 refl
+of-stream-remark typed i o (Rewrite c true) b n h s = absurd cc
+of-stream-remark typed i o (Rewrite c false) b n h s =
+    line-of typed h.2 (unset typed (h.0.counts.blocks == 0) c h.0.first h.0.second s)
+
+of-read-remark : (typed : TypedSettings) (i : Form) (work : ReadWork) (b : List ℕ) (n : Outcome)
+    → (read_promise i work).answer b n → IsFalse (read_remarks work) → remark_line typed n.remark ≡ []
+of-read-remark typed i (Decode w) b n h s = line-of typed h.2 refl
+of-read-remark typed i (Check l) b n h s = line-of typed h.2 refl
+of-read-remark typed i (Account l) b n h s = line-of typed h.2 refl
+of-read-remark typed i (Watch l) b n h s = line-of typed h.2 refl
+of-read-remark typed i (WatchSums l e) b n h s = line-of typed h.2 refl
+of-read-remark typed i (Info t) b n h s = line-of typed h.2 refl
+of-read-remark typed i (Show d) b n h s = line-of typed h.2 refl
+of-read-remark typed i (ShowChanges d) b n h s = line-of typed h.2 refl
+of-read-remark typed i Scan b n h s = line-of typed h.2 refl
+of-read-remark typed i (ToPcm p true) b n h s = line-of typed h.2 refl
+of-read-remark typed i (ToPcm p false) b n h s = line-of typed h.2 refl
+of-read-remark typed i (ToExactPcm p) b n h s = absurd cc
+of-read-remark typed i (ToFilledPcm p fill marked) b n h s = absurd cc
+of-read-remark typed i (ToBits b' c) b n h s = line-of typed h.2 refl
+
 of-job-remark : (typed : TypedSettings) (job : Job) (b : List ℕ) (n : Outcome) → (promise_of job).answer b n
     → IsFalse (remarks job) → remark_line typed n.remark ≡ []
 of-job-remark typed (Encode o Own) b n h s = line-of typed h.2 (none-out typed h.0.left_out (h.1.1 ∙ sym (none-left-out b)))
 of-job-remark typed (Encode o Alsa) b n h s = absurd cc
 of-job-remark typed (Encode o Am824) b n h s = absurd cc
-of-job-remark typed (Decode i w) b n h s = line-of typed h.2 refl
-of-job-remark typed (Normal i o) b n h s = line-of typed h.2 refl
-of-job-remark typed (Check i l) b n h s = line-of typed h.2 refl
-of-job-remark typed (Account i l) b n h s = line-of typed h.2 refl
-of-job-remark typed (Watch i l) b n h s = line-of typed h.2 refl
-of-job-remark typed (WatchSums i l e) b n h s = line-of typed h.2 refl
-of-job-remark typed (Info i t) b n h s = line-of typed h.2 refl
-of-job-remark typed (Show i d) b n h s = line-of typed h.2 refl
-of-job-remark typed (ShowChanges i d) b n h s = line-of typed h.2 refl
-of-job-remark typed (Scan i) b n h s = line-of typed h.2 refl
-of-job-remark typed (Cut i o f c) b n h s = line-of typed h.2 refl
-of-job-remark typed (Rewrite i o c true) b n h s = absurd cc
-of-job-remark typed (Rewrite i o c false) b n h s =
-    line-of typed h.2 (unset typed (h.0.counts.blocks == 0) c h.0.first h.0.second s)
-of-job-remark typed (ToPcm i p true) b n h s = line-of typed h.2 refl
-of-job-remark typed (ToPcm i p false) b n h s = line-of typed h.2 refl
-of-job-remark typed (ToExactPcm i p) b n h s = absurd cc
-of-job-remark typed (ToFilledPcm i p fill marked) b n h s = absurd cc
+of-job-remark typed (Stream i o work) b n h s = of-stream-remark typed i o work b n h s
+of-job-remark typed (Read i work) b n h s = of-read-remark typed i work b n h s
 of-job-remark typed (FromPcm p e c w) b n h s =
     line-of typed h.2
     (unset typed (h.0.bytes == 0) c (taken_of c.settings1 (sample_status c.status1 ∷ []))
     (taken_of c.settings2 (sample_status c.status2 ∷ [])) s)
-of-job-remark typed (ToBits i b' c) b n h s = line-of typed h.2 refl
 
 -- of a job that read its input to the end and is not refused
 of-done : (line : CommandLine) (b : List ℕ) (n : Outcome) (errors : Movement) (status : ℕ)
@@ -204,21 +199,28 @@ of-job line true turned ended source sink errors status r
 of-job line false turned ended source sink errors status r
     = of-packed line turned ended source sink errors status r
 
--- of a line
-pub errors_told : (line : Result CommandLine LineFault) (ended : Bool) (source sink errors : Movement) (status : ℕ)
-    → LineRan line ended source sink errors status → ErrorsTold line errors status
-errors_told (Ok line) ended source sink errors status r
-    = of-job line line.octets.raw_in (line.octets.lsb_first && reads_packed line.job) ended source
-    (written_by (line.octets.lsb_first && writes_packed line.job) sink) errors status r
-errors_told (Err (Usage text)) ended source sink errors status r =
-    let s = r.2.0 in
+-- of a line that asks for a job
+pub line_told : {asked : Result CommandLine LineFault} {line : CommandLine} (ended : Bool) (source sink errors : Movement)
+    (status : ℕ)
+    → asked ≡ Ok line → OctetsRan line.octets line.job line.typed ended source sink errors status
+    → ErrorsTold asked errors status
+line_told {line = line} ended source sink errors status e r =
+    subst (λ (v : Result CommandLine LineFault). ErrorsTold v errors status) (sym e)
+    (of-job line line.octets.raw_in (line.octets.lsb_first && reads_packed line.job) ended source
+    (written_by (line.octets.lsb_first && writes_packed line.job) sink) errors status r)
+
+-- of one that asks for none
+of-fault : (fault : LineFault) (sink errors : Movement) (status : ℕ) → FaultRan fault sink errors status
+    → ErrorsTold (Err fault) errors status
+of-fault (Usage text) sink errors status r =
+    let s = r.0 in
     record {
       known = omega (arith, s);
       done = λ h. absurd (omega (arith, s, h));
-      usage = λ h q. r.2.2 q;
+      usage = λ h q. r.2 q;
       refusal = λ h. absurd (omega (arith, s, h));
     }
-errors_told (Err (Help text)) ended source sink errors status r = elim r.2 [
+of-fault (Help text) sink errors status r = elim r [
   | inl k ↦ record {
     known = omega (arith, k.0);
     done = λ h. k.3;
@@ -232,11 +234,17 @@ errors_told (Err (Help text)) ended source sink errors status r = elim r.2 [
     refusal = λ h q. record { error = refusal.Write; line = k.2 q };
   }
 ]
-errors_told (Err (Refused error)) ended source sink errors status r =
-    let s = r.2.0 in
+of-fault (Refused error) sink errors status r =
+    let s = r.0 in
     record {
       known = omega (arith, s);
       done = λ h. absurd (omega (arith, s, h));
       usage = λ h. absurd (omega (arith, s, h));
-      refusal = λ h q. record { error = error; line = r.2.2 q };
+      refusal = λ h q. record { error = error; line = r.2 q };
     }
+
+pub fault_told : {asked : Result CommandLine LineFault} {fault : LineFault} (sink errors : Movement) (status : ℕ)
+    → asked ≡ Err fault → FaultRan fault sink errors status → ErrorsTold asked errors status
+fault_told {fault = fault} sink errors status e r =
+    subst (λ (v : Result CommandLine LineFault). ErrorsTold v errors status) (sym e)
+    (of-fault fault sink errors status r)

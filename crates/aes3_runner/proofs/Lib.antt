@@ -1,5 +1,6 @@
 mod PackedOutputs
 pub mod ErrorsToldLemmas
 pub mod Flushes
+pub mod HeardEnds
 pub mod RawRuns
 pub mod RemarkLines

@@ -22,12 +22,12 @@ use Rattle.aes3_engine.specs.Rewriting.{rewritten_blocks}
 use Rattle.aes3_engine.specs.RewritingExactly.{taking}
 use Rattle.aes3_engine.proofs.RewrittenBlocks.{each-blocks}
 use Rattle.aes3_engine.proofs.RewritingExactly.{taken27}
-use Rattle.aes3_hints.specs.Sentences.{is_packed, writes_packed}
+use Rattle.aes3_job.specs.Forms.{is_packed, writes_packed}
 use Rattle.aes3_job.specs.declared.job.Job.{Job}
-use Rattle.aes3_job.specs.declared.job.Job.TheVariants.{Encode, Decode, Normal, Check, Account, Watch, WatchSums}
-use Rattle.aes3_job.specs.declared.job.Job.TheVariants.{Show, ShowChanges, Scan, Cut, Rewrite, ToPcm, FromPcm, ToBits}
-use Rattle.aes3_job.specs.declared.job.Job.TheVariants.{Info, ToExactPcm, ToFilledPcm}
-use Rattle.aes3_runner.specs.JobRuns.{promise_of}
+use Rattle.aes3_job.specs.declared.job.Job.TheVariants.{Encode, Stream, Read, FromPcm}
+use Rattle.aes3_job.specs.declared.work.StreamWork.{StreamWork}
+use Rattle.aes3_job.specs.declared.work.StreamWork.TheVariants.{Normal, Cut, Rewrite}
+use Rattle.aes3_runner.specs.JobRuns.{promise_of, stream_promise}
 use Rattle.aes3_runner.specs.OctetRuns.{PackBoth}
 
 -- blocks one behind the other are
@@ -46,32 +46,24 @@ of-normal : (form : Form) (c : List Level) → IsTrue (is_packed form) → PackB
 unfolding normal
 of-normal form c h = of-blocks form (blocks c) h (blocks27 c)
 
+of-stream : (i o : Form) (work : StreamWork) → IsTrue (is_packed o) → (bytes : List ℕ)
+    → PackBoth ((stream_promise i o work).whole bytes)
+of-stream i o Normal h b = of-normal o (cells_of i b) h
+of-stream i o (Cut from count) h b =
+    of-blocks o (cut_blocks from count (blocks (cells_of i b))) h
+    (cut-each from count (blocks (cells_of i b)) (blocks27 (cells_of i b)))
+of-stream i o (Rewrite change true) h b =
+    of-blocks o (rewritten_blocks change (taking change (placed (reports (cells_of i b))))) h
+    (taken27 change (cells_of i b))
+of-stream i o (Rewrite change false) h b =
+    of-blocks o (rewritten_blocks change (blocks (cells_of i b))) h
+    (each-blocks change (blocks (cells_of i b)) (blocks27 (cells_of i b)))
+
 pub can-be-turned : (job : Job) → IsTrue (writes_packed job) → (bytes : List ℕ)
     → PackBoth ((promise_of job).whole bytes)
 can-be-turned (Encode o Own) h b = of-blocks o (file_blocks b) h (each27-whole b)
 can-be-turned (Encode o Alsa) h b = of-blocks o (file_blocks (own_of Alsa b)) h (each27-whole (own_of Alsa b))
 can-be-turned (Encode o Am824) h b = of-blocks o (file_blocks (own_of Am824 b)) h (each27-whole (own_of Am824 b))
-can-be-turned (Decode i words) h b = absurd cc
-can-be-turned (Normal i o) h b = of-normal o (cells_of i b) h
-can-be-turned (Check i told) h b = absurd cc
-can-be-turned (Account i told) h b = absurd cc
-can-be-turned (Watch i style) h b = absurd cc
-can-be-turned (WatchSums i style every) h b = absurd cc
-can-be-turned (Info i notation) h b = absurd cc
-can-be-turned (Show i detail) h b = absurd cc
-can-be-turned (ShowChanges i detail) h b = absurd cc
-can-be-turned (Scan i) h b = absurd cc
-can-be-turned (Cut i o from count) h b =
-    of-blocks o (cut_blocks from count (blocks (cells_of i b))) h
-    (cut-each from count (blocks (cells_of i b)) (blocks27 (cells_of i b)))
-can-be-turned (Rewrite i o change true) h b =
-    of-blocks o (rewritten_blocks change (taking change (placed (reports (cells_of i b))))) h
-    (taken27 change (cells_of i b))
-can-be-turned (Rewrite i o change false) h b =
-    of-blocks o (rewritten_blocks change (blocks (cells_of i b))) h
-    (each-blocks change (blocks (cells_of i b)) (blocks27 (cells_of i b)))
-can-be-turned (ToPcm i format valid) h b = absurd cc
-can-be-turned (ToExactPcm i format) h b = absurd cc
-can-be-turned (ToFilledPcm i format fill marked) h b = absurd cc
+can-be-turned (Stream i o work) h b = of-stream i o work h b
+can-be-turned (Read i work) h b = absurd cc
 can-be-turned (FromPcm format exact change words) h b = absurd cc
-can-be-turned (ToBits i bits channel) h b = absurd cc

@@ -4,10 +4,10 @@ use Rattle.std.specs.Prelude.{IsTrue}
 use Rattle.aes3_input.specs.Running.{Movement}
 use Rattle.aes3_octets.specs.Told.{raw_told, turned_told}
 use Rattle.aes3_settings.specs.declared.typed.TypedSettings.{TypedSettings}
+use Rattle.aes3_job.specs.Forms.{reads_packed}
 use Rattle.aes3_job.specs.declared.job.Job.{Job}
 use Rattle.aes3_runner.specs.JobRuns.{JobRan}
 use Rattle.aes3_arguments.specs.declared.layout.Octets.{Octets}
-use Rattle.aes3_hints.specs.Sentences.{reads_packed}
 use Rattle.aes3_runner.specs.OctetRuns.{BehindRan, PackedRan, RawBy, RawRan, SourceRan}
 
 pub raw-ran : (Ran : Bool → Movement → Type 0) {t₀ u₀ t₁ : Option (List ℕ)} {f₀ g₀ f₁ : ℕ}

@@ -1,6 +1,6 @@
 -- What the program does for a job.
-use Rattle.std.specs.Prelude.{ℕ, List, Bool, true, false, Result, Ok, Err, ◌≡◌, ◌≢◌, ◌+◌, ◌^◌, ◌==◌, ◌⊎◌, if◌then◌else◌}
-use Rattle.std.specs.Prelude.{max, min}
+use Rattle.std.specs.Prelude.{ℕ, List, Bool, true, false, Result, Ok, Err, ◌≡◌, ◌≢◌, ◌+◌, ◌^◌, ◌&&◌, ◌⊎◌, if◌then◌else◌}
+use Rattle.std.specs.Prelude.{max, min, nat_lt}
 use Rattle.aes3_level.specs.declared.level.Level.{Level}
 use Rattle.aes3_cell.specs.declared.counts.Counts.{Counts}
 use Rattle.aes3_cell.specs.declared.form.Form.{Form}
@@ -35,10 +35,14 @@ use Rattle.aes3_account.specs.Sums.{begun_sums, sum_lines}
 use Rattle.aes3_account.specs.Watching.{begun_watch, watch_counts, watch_lines}
 use Rattle.aes3_info.specs.Infos.{info_counts, info_page, no_page}
 use Rattle.aes3_settings.specs.declared.typed.TypedSettings.{TypedSettings}
+use Rattle.aes3_job.specs.Forms.{finds_faults}
 use Rattle.aes3_job.specs.declared.job.Job.{Job}
-use Rattle.aes3_job.specs.declared.job.Job.TheVariants.{Encode, Decode, Normal, Check, Account, Watch, WatchSums}
-use Rattle.aes3_job.specs.declared.job.Job.TheVariants.{Show, ShowChanges, Scan, Cut, Rewrite, ToPcm, FromPcm, ToBits}
-use Rattle.aes3_job.specs.declared.job.Job.TheVariants.{Info, ToExactPcm, ToFilledPcm}
+use Rattle.aes3_job.specs.declared.job.Job.TheVariants.{Encode, Stream, Read, FromPcm}
+use Rattle.aes3_job.specs.declared.work.ReadWork.{ReadWork}
+use Rattle.aes3_job.specs.declared.work.ReadWork.TheVariants.{Decode, Check, Account, Watch, WatchSums, Info, Show}
+use Rattle.aes3_job.specs.declared.work.ReadWork.TheVariants.{ShowChanges, Scan, ToPcm, ToExactPcm, ToFilledPcm, ToBits}
+use Rattle.aes3_job.specs.declared.work.StreamWork.{StreamWork}
+use Rattle.aes3_job.specs.declared.work.StreamWork.TheVariants.{Normal, Cut, Rewrite}
 use Rattle.aes3_runner.specs.declared.outcome.Outcome.{Outcome}
 use Rattle.aes3_runner.specs.Lines.{refusal_line, remark_line}
 use Rattle.aes3_runner.specs.declared.outcome.Remark.{Remark}
@@ -58,86 +62,76 @@ period every = min (max every 1) most
 abbrev pub plain_cells : Form → (List Level → List ℕ) → (List Level → List ℕ) → (List ℕ → Counts) → Promise Outcome
 plain_cells form whole begun counts = told_as of_counts (counted_cells form whole begun counts)
 
--- what a job promises: its input, what it writes of one, what of bytes behind which more may come, what it counts, and
--- why it is refused
-abbrev pub promise_of : Job → Promise Outcome
-promise_of (Encode o words) = told_as of_words (told_words words o)
-promise_of (Decode i words) =
-    plain_cells i
-    (λ c. words_file words (blocks c))
-    (λ c. words_file words (decided_blocks c))
-    (counts_of i)
-promise_of (Normal i o) =
+-- what a job promises that writes the normal stream of blocks of its cells
+abbrev pub stream_promise : Form → Form → StreamWork → Promise Outcome
+stream_promise i o Normal =
     plain_cells i (λ c. written o (normal c)) (λ c. begun_stream o (decided_blocks c)) (counts_of i)
-promise_of (Check i lines) =
-    plain_cells i (λ c. report_lines lines (reports c)) (λ c. report_lines lines (decided c)) (counts_of i)
-promise_of (Account i lines) =
-    plain_cells i
-    (λ c. account_lines lines (account c))
-    (λ c. account_lines lines (begun_account c))
-    (account_counts i)
-promise_of (Watch i style) = plain_cells i (watch_lines style) (begun_watch style) (watch_counts i)
-promise_of (WatchSums i style every) =
-    plain_cells i (sum_lines style (period every)) (begun_sums style (period every)) (watch_counts i)
-promise_of (Info i notation) = plain_cells i (info_page notation) no_page (info_counts i)
-promise_of (Show i detail) =
-    plain_cells i (λ c. detail_lines detail (reports c)) (λ c. detail_lines detail (decided c)) (counts_of i)
-promise_of (ShowChanges i detail) =
-    plain_cells i (λ c. change_details detail (reports c)) (λ c. change_details detail (decided c)) (counts_of i)
-promise_of (Scan i) =
-    plain_cells i (λ c. mark_lines (marks c)) (λ c. mark_lines (marks c)) (scan_counts i)
-promise_of (Cut i o from count) =
+stream_promise i o (Cut from count) =
     plain_cells i
     (λ c. written_stream o (cut_blocks from count (blocks c)))
     (λ c. begun_stream o (cut_blocks from count (decided_blocks c)))
     (counts_of i)
-promise_of (Rewrite i o change true) = told_as of_exact (exactly_rewritten_cells i o change)
-promise_of (Rewrite i o change false) = told_as (of_rewritten change) (rewritten_cells i o change)
-promise_of (ToPcm i format true) =
+stream_promise i o (Rewrite change true) = told_as of_exact (exactly_rewritten_cells i o change)
+stream_promise i o (Rewrite change false) = told_as (of_rewritten change) (rewritten_cells i o change)
+
+-- what a job promises that reads cells, and writes none
+abbrev pub read_promise : Form → ReadWork → Promise Outcome
+read_promise i (Decode words) =
+    plain_cells i
+    (λ c. words_file words (blocks c))
+    (λ c. words_file words (decided_blocks c))
+    (counts_of i)
+read_promise i (Check lines) =
+    plain_cells i (λ c. report_lines lines (reports c)) (λ c. report_lines lines (decided c)) (counts_of i)
+read_promise i (Account lines) =
+    plain_cells i
+    (λ c. account_lines lines (account c))
+    (λ c. account_lines lines (begun_account c))
+    (account_counts i)
+read_promise i (Watch style) = plain_cells i (watch_lines style) (begun_watch style) (watch_counts i)
+read_promise i (WatchSums style every) =
+    plain_cells i (sum_lines style (period every)) (begun_sums style (period every)) (watch_counts i)
+read_promise i (Info notation) = plain_cells i (info_page notation) no_page (info_counts i)
+read_promise i (Show detail) =
+    plain_cells i (λ c. detail_lines detail (reports c)) (λ c. detail_lines detail (decided c)) (counts_of i)
+read_promise i (ShowChanges detail) =
+    plain_cells i (λ c. change_details detail (reports c)) (λ c. change_details detail (decided c)) (counts_of i)
+read_promise i Scan =
+    plain_cells i (λ c. mark_lines (marks c)) (λ c. mark_lines (marks c)) (scan_counts i)
+read_promise i (ToPcm format true) =
     plain_cells i
     (λ c. narrowed format (valid_samples (blocks c)))
     (λ c. narrowed format (valid_samples (decided_blocks c)))
     (counts_of i)
-promise_of (ToPcm i format false) =
+read_promise i (ToPcm format false) =
     plain_cells i
     (λ c. narrowed format (samples (blocks c)))
     (λ c. narrowed format (samples (decided_blocks c)))
     (counts_of i)
-promise_of (ToExactPcm i format) = told_as of_exact (exact_cells i format)
-promise_of (ToFilledPcm i format fill marked) = told_as of_filled (filled_cells i format fill marked)
-promise_of (FromPcm format exact change words) =
-    told_as (of_samples change) (sampled_words format exact words change)
-promise_of (ToBits i bits channel) =
+read_promise i (ToExactPcm format) = told_as of_exact (exact_cells i format)
+read_promise i (ToFilledPcm format fill marked) = told_as of_filled (filled_cells i format fill marked)
+read_promise i (ToBits bits channel) =
     plain_cells i
     (λ c. all_carried bits channel (blocks c))
     (λ c. all_carried bits channel (decided_blocks c))
     (counts_of i)
 
+-- what a job promises: its input, what it writes of one, what of bytes behind which more may come, what it counts, and
+-- why it is refused
+abbrev pub promise_of : Job → Promise Outcome
+promise_of (Encode o words) = told_as of_words (told_words words o)
+promise_of (Stream i o work) = stream_promise i o work
+promise_of (Read i work) = read_promise i work
+promise_of (FromPcm format exact change words) =
+    told_as (of_samples change) (sampled_words format exact words change)
+
 -- a run of a job
 abbrev pub RunRan : Job → Bool → Movement → Movement → Result Outcome RunError → Type 0
 RunRan job = InputRun (promise_of job) most
 
--- its exit status where it is not refused: 1 where `check` finds faults, with gaps or without, or `watch` or `info` does, else
--- 0
+-- its exit status if it is not refused: 1 if it looks for faults and found any, else 0
 abbrev pub status_by : Job → Counts → ℕ
-status_by (Encode o words) n = 0
-status_by (Decode i words) n = 0
-status_by (Normal i o) n = 0
-status_by (Check i lines) n = if n.faults == 0 then 0 else 1
-status_by (Account i lines) n = if n.faults == 0 then 0 else 1
-status_by (Watch i style) n = if n.faults == 0 then 0 else 1
-status_by (WatchSums i style every) n = if n.faults == 0 then 0 else 1
-status_by (Info i notation) n = if n.faults == 0 then 0 else 1
-status_by (Show i detail) n = 0
-status_by (ShowChanges i detail) n = 0
-status_by (Scan i) n = 0
-status_by (Cut i o from count) n = 0
-status_by (Rewrite i o change exact) n = 0
-status_by (ToPcm i format valid) n = 0
-status_by (ToExactPcm i format) n = 0
-status_by (ToFilledPcm i format fill marked) n = 0
-status_by (FromPcm format exact change words) n = 0
-status_by (ToBits i bits channel) n = 0
+status_by job n = if finds_faults job && nat_lt 0 n.faults then 1 else 0
 
 -- the status of a job that read its input to the end: 3 where it is refused then
 abbrev pub status_for : Remark → ℕ → ℕ

@@ -1,3 +1,4 @@
+pub mod Hearings
 pub mod JobRuns
 pub mod Lines
 pub mod OctetRuns

@@ -8,9 +8,9 @@ use Rattle.aes3_input.specs.Running.{Movement, Quiet, Failed}
 use Rattle.aes3_octets.specs.Octets.{PacksTurned, turned}
 use Rattle.aes3_octets.specs.Told.{all_turned, only, raw_told, turned_told}
 use Rattle.aes3_settings.specs.declared.typed.TypedSettings.{TypedSettings}
+use Rattle.aes3_job.specs.Forms.{reads_packed, writes_packed}
 use Rattle.aes3_job.specs.declared.job.Job.{Job}
 use Rattle.aes3_arguments.specs.declared.layout.Octets.{Octets}
-use Rattle.aes3_hints.specs.Sentences.{reads_packed, writes_packed}
 use Rattle.aes3_runner.specs.JobRuns.{IsTold, JobRan, promise_of}
 
 -- how a source of raw octets moved, as the job reads them: with the octet that counts behind all of them, or without it

@@ -9,7 +9,11 @@ use Rattle.aes3_arguments.specs.declared.job.LineFault.TheVariants.{Usage, Help,
 use Rattle.aes3_arguments.specs.declared.line.CommandLine.{CommandLine}
 use Rattle.aes3_settings.specs.declared.typed.TypedSettings.{TypedSettings}
 use Rattle.aes3_job.specs.declared.job.Job.{Job}
-use Rattle.aes3_job.specs.declared.job.Job.TheVariants.{Encode, Rewrite, ToExactPcm, ToFilledPcm, FromPcm}
+use Rattle.aes3_job.specs.declared.job.Job.TheVariants.{Encode, Stream, Read, FromPcm}
+use Rattle.aes3_job.specs.declared.work.ReadWork.{ReadWork}
+use Rattle.aes3_job.specs.declared.work.ReadWork.TheVariants.{ToExactPcm, ToFilledPcm}
+use Rattle.aes3_job.specs.declared.work.StreamWork.{StreamWork}
+use Rattle.aes3_job.specs.declared.work.StreamWork.TheVariants.{Normal, Cut, Rewrite}
 use Rattle.aes3_words.specs.declared.form.Words.TheVariants.{Own, Alsa, Am824}
 use Rattle.aes3_runner.specs.declared.outcome.Remark.{Remark}
 use Rattle.aes3_status.specs.declared.change.Change.{Change}
@@ -33,15 +37,23 @@ abbrev pub sets_fields : Change → Bool
 sets_fields change = is_some change.settings1 || is_some change.settings2
 
 -- whether there can be anything to remark on a job: only where a command line asks for what tells it
+abbrev pub stream_remarks : StreamWork → Bool
+stream_remarks Normal = false
+stream_remarks (Cut from count) = false
+stream_remarks (Rewrite change exact) = exact || sets_fields change
+
+abbrev pub read_remarks : ReadWork → Bool
+read_remarks (ToExactPcm format) = true
+read_remarks (ToFilledPcm format fill marked) = true
+read_remarks work = false
+
 abbrev pub remarks : Job → Bool
 remarks (Encode o Own) = false
 remarks (Encode o Alsa) = true
 remarks (Encode o Am824) = true
-remarks (Rewrite i o change exact) = exact || sets_fields change
+remarks (Stream i o work) = stream_remarks work
+remarks (Read i work) = read_remarks work
 remarks (FromPcm format exact change words) = sets_fields change
-remarks (ToExactPcm i format) = true
-remarks (ToFilledPcm i format fill marked) = true
-remarks job = false
 
 -- of a line that was run to its end a remark, and nothing else, and nothing at all of a job on which there is none
 pub record RemarkOf (job : Job) (typed : TypedSettings) (errors : Movement) : Type 0 where

@@ -4,6 +4,8 @@ ghost use Rattle.std.specs.Prelude.{◌≡◌, ◌≢◌, ◌<◌, ◌≤◌, �
 ghost use Rattle.aes3_runner.specs.JobRuns.{Flushed, JobRan};
 ghost use Rattle.aes3_runner.specs.OctetRuns.{ReadRefused};
 ghost use Rattle.aes3_input.specs.Running.{movement_of};
+ghost use Rattle.aes3_job.specs.Hearing.{Hearing, with_job};
+ghost use Rattle.aes3_runner.specs.Hearings.{HeardEnd};
 
 use crate::job_run::run_job;
 use crate::refusal::refuse;
@@ -56,6 +58,9 @@ pub fn finish_job<S: Source, T: Sink, E: Sink, O: Observer>(
         → E.failed errors.new ≡ E.failed errors.old → E.passed errors.new ≡ E.taken errors.new }
     ensures silent { IsTrue (O.is_silent observer.old) → O.told observer.new ≡ O.told observer.old }
     ensures same { O.is_silent observer.new ≡ O.is_silent observer.old }
+    ensures heard { (before : Hearing) → O.heard observer.old before
+        → HeardEnd (O.heard observer.new) (with_job job.now before)
+        (movement_of E.taken E.failed errors.old errors.new) result }
 {
     observer.begins(job);
     finish_begun(job, typed, source, sink, errors, observer)
@@ -84,6 +89,9 @@ pub(crate) fn finish_begun<S: Source, T: Sink, E: Sink, O: Observer>(
         → E.failed errors.new ≡ E.failed errors.old → E.passed errors.new ≡ E.taken errors.new }
     ensures silent { IsTrue (O.is_silent observer.old) → O.told observer.new ≡ O.told observer.old }
     ensures same { O.is_silent observer.new ≡ O.is_silent observer.old }
+    ensures heard { (before : Hearing) → O.heard observer.old before
+        → HeardEnd (O.heard observer.new) before
+        (movement_of E.taken E.failed errors.old errors.new) result }
 {
     match run_job(job, source, sink) {
         Ok(outcome) => tell_outcome(job, typed, &outcome, errors, observer),
@@ -108,6 +116,9 @@ pub(crate) fn refuse_unread<T: Sink, E: Sink, O: Observer>(
         → E.failed errors.new ≡ E.failed errors.old → E.passed errors.new ≡ E.taken errors.new }
     ensures silent { O.told observer.new ≡ O.told observer.old }
     ensures same { O.is_silent observer.new ≡ O.is_silent observer.old }
+    ensures heard { (before : Hearing) → O.heard observer.old before
+        → HeardEnd (O.heard observer.new) before
+        (movement_of E.taken E.failed errors.old errors.new) result }
 {
     refuse(flushed(RunError::Read, sink), errors, observer)
 }

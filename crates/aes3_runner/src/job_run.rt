@@ -2,7 +2,9 @@
 
 ghost use Rattle.std.specs.Prelude.{◌≡◌, ◌<◌, ◌≤◌, ◌+◌, ◌^◌, IfOk};
 ghost use Rattle.aes3_input.specs.Running.{movement_of};
-ghost use Rattle.aes3_job.specs.declared.job.Job.TheVariants.{Rewrite, ToPcm};
+ghost use Rattle.aes3_job.specs.declared.job.Job.TheVariants.{Read, Stream};
+ghost use Rattle.aes3_job.specs.declared.work.ReadWork.TheVariants.{ToPcm};
+ghost use Rattle.aes3_job.specs.declared.work.StreamWork.TheVariants.{Rewrite};
 ghost use Rattle.aes3_runner.specs.JobRuns.{RunRan, period, status_by};
 
 use crate::outcome::{Outcome, encoded, exact, filled, plain, rewritten, sampled};
@@ -13,7 +15,7 @@ use aes3_engine::{
     to_exact_pcm, to_filled_pcm, to_pcm, to_valid_pcm,
 };
 use aes3_info::info;
-use aes3_job::Job;
+use aes3_job::{Job, ReadWork, StreamWork};
 use aes3_pcm::SampleFormat;
 use aes3_status::Change;
 use aes3_text::{check, scan, show_changes, show_detail};
@@ -31,13 +33,10 @@ pub const FAULTY: u8 = 1;
 pub(crate) fn exit_status(job: &Job, counts: &Counts) -> u8
     ensures { result ≡ status_by job.now counts.now }
 {
-    match job {
-        Job::Check { .. } if counts.faults > 0 => FAULTY,
-        Job::Account { .. } if counts.faults > 0 => FAULTY,
-        Job::Watch { .. } if counts.faults > 0 => FAULTY,
-        Job::WatchSums { .. } if counts.faults > 0 => FAULTY,
-        Job::Info { .. } if counts.faults > 0 => FAULTY,
-        _ => DONE,
+    if job.finds_faults() && counts.faults > 0 {
+        FAULTY
+    } else {
+        DONE
     }
 }
 
@@ -61,7 +60,7 @@ fn run_samples<S: Source, T: Sink>(
 ) -> Result<Outcome, RunError>
     requires source_room { S.failed source.old + 1 < 2 ^ 64 }
     requires sink_room { T.failed sink.old + 1 < 2 ^ 64 }
-    ensures ran { RunRan (ToPcm input format valid) (S.has_ended source.new)
+    ensures ran { RunRan (Read input (ToPcm format valid)) (S.has_ended source.new)
         (movement_of S.given S.failed source.old source.new)
         (movement_of T.taken T.failed sink.old sink.new) result }
     ensures passed_on { IfOk result (λ _. T.passed sink.new ≡ T.taken sink.new) }
@@ -84,7 +83,7 @@ fn run_change<S: Source, T: Sink>(
 ) -> Result<Outcome, RunError>
     requires source_room { S.failed source.old + 1 < 2 ^ 64 }
     requires sink_room { T.failed sink.old + 1 < 2 ^ 64 }
-    ensures ran { RunRan (Rewrite input output change.now exactly) (S.has_ended source.new)
+    ensures ran { RunRan (Stream input output (Rewrite change.now exactly)) (S.has_ended source.new)
         (movement_of S.given S.failed source.old source.new)
         (movement_of T.taken T.failed sink.old sink.new) result }
     ensures passed_on { IfOk result (λ _. T.passed sink.new ≡ T.taken sink.new) }
@@ -96,6 +95,75 @@ fn run_change<S: Source, T: Sink>(
             rewrite(source, sink, MAX_BYTES, input, output, change),
             change,
         )
+    }
+}
+
+/// Runs a job that writes the normal stream of blocks of its cells.
+fn run_stream<S: Source, T: Sink>(
+    source: &mut S,
+    sink: &mut T,
+    input: Form,
+    output: Form,
+    work: &StreamWork,
+) -> Result<Outcome, RunError>
+    requires source_room { S.failed source.old + 1 < 2 ^ 64 }
+    requires sink_room { T.failed sink.old + 1 < 2 ^ 64 }
+    ensures ran { RunRan (Stream input output work.now) (S.has_ended source.new)
+        (movement_of S.given S.failed source.old source.new)
+        (movement_of T.taken T.failed sink.old sink.new) result }
+    ensures passed_on { IfOk result (λ _. T.passed sink.new ≡ T.taken sink.new) }
+{
+    match *work {
+        StreamWork::Normal => plain(normalise(source, sink, MAX_BYTES, input, output)),
+        StreamWork::Cut { from, count } => {
+            plain(cut(source, sink, MAX_BYTES, input, output, from, count))
+        }
+        StreamWork::Rewrite { change, exact } => {
+            run_change(source, sink, input, output, &change, exact)
+        }
+    }
+}
+
+/// Runs a job that reads cells, and writes none.
+fn run_read<S: Source, T: Sink>(
+    source: &mut S,
+    sink: &mut T,
+    input: Form,
+    work: &ReadWork,
+) -> Result<Outcome, RunError>
+    requires source_room { S.failed source.old + 1 < 2 ^ 64 }
+    requires sink_room { T.failed sink.old + 1 < 2 ^ 64 }
+    ensures ran { RunRan (Read input work.now) (S.has_ended source.new)
+        (movement_of S.given S.failed source.old source.new)
+        (movement_of T.taken T.failed sink.old sink.new) result }
+    ensures passed_on { IfOk result (λ _. T.passed sink.new ≡ T.taken sink.new) }
+{
+    match *work {
+        ReadWork::Decode { words } => plain(decode_words(source, sink, MAX_BYTES, input, words)),
+        ReadWork::Check { lines } => plain(check(source, sink, MAX_BYTES, input, lines)),
+        ReadWork::Account { lines } => plain(account(source, sink, MAX_BYTES, input, lines)),
+        ReadWork::Watch { style } => plain(watch(source, sink, MAX_BYTES, input, style)),
+        ReadWork::WatchSums { style, every } => {
+            plain(watch_sums(source, sink, MAX_BYTES, input, style, period(every)))
+        }
+        ReadWork::Info { notation } => plain(info(source, sink, MAX_BYTES, input, notation)),
+        ReadWork::Show { detail } => plain(show_detail(source, sink, MAX_BYTES, input, detail)),
+        ReadWork::ShowChanges { detail } => {
+            plain(show_changes(source, sink, MAX_BYTES, input, detail))
+        }
+        ReadWork::Scan => plain(scan(source, sink, MAX_BYTES, input)),
+        ReadWork::ToPcm { format, valid } => run_samples(source, sink, input, format, valid),
+        ReadWork::ToExactPcm { format } => {
+            exact(to_exact_pcm(source, sink, MAX_BYTES, input, format))
+        }
+        ReadWork::ToFilledPcm {
+            format,
+            fill,
+            marked,
+        } => filled(to_filled_pcm(source, sink, MAX_BYTES, input, format, fill, marked)),
+        ReadWork::ToBits { bits, channel } => {
+            plain(to_bits(source, sink, MAX_BYTES, input, bits, channel))
+        }
     }
 }
 
@@ -119,48 +187,12 @@ pub fn run_job<S: Source, T: Sink>(
         Job::Encode { output, words } => encoded(encode_words(
             source, sink, MAX_BYTES, output, words,
         )),
-        Job::Decode { input, words } => plain(decode_words(source, sink, MAX_BYTES, input, words)),
-        Job::Normal { input, output } => plain(normalise(source, sink, MAX_BYTES, input, output)),
-        Job::Check { input, lines } => plain(check(source, sink, MAX_BYTES, input, lines)),
-        Job::Account { input, lines } => plain(account(source, sink, MAX_BYTES, input, lines)),
-        Job::Watch { input, style } => plain(watch(source, sink, MAX_BYTES, input, style)),
-        Job::WatchSums {
-            input,
-            style,
-            every,
-        } => plain(watch_sums(source, sink, MAX_BYTES, input, style, period(every))),
-        Job::Info { input, notation } => plain(info(source, sink, MAX_BYTES, input, notation)),
-        Job::Show { input, detail } => plain(show_detail(source, sink, MAX_BYTES, input, detail)),
-        Job::ShowChanges { input, detail } => plain(show_changes(
-            source, sink, MAX_BYTES, input, detail,
-        )),
-        Job::Scan { input } => plain(scan(source, sink, MAX_BYTES, input)),
-        Job::Cut {
+        Job::Stream {
             input,
             output,
-            from,
-            count,
-        } => plain(cut(source, sink, MAX_BYTES, input, output, from, count)),
-        Job::Rewrite {
-            input,
-            output,
-            change,
-            exact,
-        } => run_change(source, sink, input, output, &change, exact),
-        Job::ToPcm {
-            input,
-            format,
-            valid,
-        } => run_samples(source, sink, input, format, valid),
-        Job::ToFilledPcm {
-            input,
-            format,
-            fill,
-            marked,
-        } => filled(to_filled_pcm(source, sink, MAX_BYTES, input, format, fill, marked)),
-        Job::ToExactPcm { input, format } => {
-            exact(to_exact_pcm(source, sink, MAX_BYTES, input, format))
-        }
+            work,
+        } => run_stream(source, sink, input, output, &work),
+        Job::Read { input, work } => run_read(source, sink, input, &work),
         Job::FromPcm {
             format,
             exact,
@@ -170,10 +202,5 @@ pub fn run_job<S: Source, T: Sink>(
             from_pcm_words(source, sink, MAX_BYTES, format, exact, &change, words),
             &change,
         ),
-        Job::ToBits {
-            input,
-            bits,
-            channel,
-        } => plain(to_bits(source, sink, MAX_BYTES, input, bits, channel)),
     }
 }

@@ -10,8 +10,6 @@ mod job_run;
 mod octets;
 /// What a job answers that read its input to the end.
 mod outcome;
-/// A whole command line, and what is told at a terminal behind it.
-mod program;
 /// The line of a refusal.
 mod refusal;
 /// What is told of a job that read its input to the end.
@@ -24,6 +22,5 @@ pub use finish::finish_job;
 pub use job_run::{DONE, FAULTY, run_job};
 pub use octets::{Ran, outputs_can_be_turned, run_octets};
 pub use outcome::{Met, Outcome, Remark};
-pub use program::{file_of_line, run_and_explain};
 pub use refusal::{REFUSED, put_refusal, refuse};
 pub use run::{USAGE, Unread, run_line, run_words, tell_unread};

@@ -1,14 +1,15 @@
 //! A job between ends whose octets are laid out in other ways than the job reads and writes them.
 
 ghost use Rattle.std.specs.Prelude.{◌≡◌, ◌&&◌, ◌<◌, ◌≤◌, ◌+◌, ◌^◌, IsTrue, None, true};
-ghost use Rattle.aes3_hints.specs.Sentences.{reads_packed};
 ghost use Rattle.aes3_input.specs.Running.{movement_of};
+ghost use Rattle.aes3_job.specs.Forms.{reads_packed};
+ghost use Rattle.aes3_job.specs.Hearing.{Hearing, with_job};
+ghost use Rattle.aes3_runner.specs.Hearings.{HeardEnd};
 ghost use Rattle.aes3_runner.specs.OctetRuns.{BehindRan, OctetsRan, OutputsCanBeTurned, PackedRan, SourceRan};
 
 use crate::finish::{finish_begun, finish_job, refuse_unread};
 use aes3_arguments::Octets;
 use aes3_cell::{Sink, Source};
-use aes3_hints::{reads_packed, writes_packed};
 use aes3_job::{Job, Observer};
 use aes3_octets::{RawSource, TurnedSink, TurnedSource, first_octet};
 use aes3_settings::TypedSettings;
@@ -46,8 +47,11 @@ pub fn run_octets<S: Source + Drop, T: Sink + Drop, E: Sink, O: Observer>(
         → E.failed errors.new ≡ E.failed errors.old → E.passed errors.new ≡ E.taken errors.new }
     ensures silent { IsTrue (O.is_silent observer.old) → O.told observer.new ≡ O.told observer.old }
     ensures same { O.is_silent observer.new ≡ O.is_silent observer.old }
+    ensures heard { (before : Hearing) → O.heard observer.old before
+        → HeardEnd (O.heard observer.new) (with_job job.now before)
+        (movement_of E.taken E.failed errors.old errors.new) result.status }
 {
-    if octets.lsb_first && writes_packed(job) {
+    if octets.lsb_first && job.writes_packed() {
         let ran = run_source(
             octets,
             job,
@@ -70,7 +74,7 @@ pub fn run_octets<S: Source + Drop, T: Sink + Drop, E: Sink, O: Observer>(
 fn turns_input(octets: Octets, job: &Job) -> bool
     ensures { result ≡ octets.lsb_first && reads_packed job.now }
 {
-    octets.lsb_first && reads_packed(job)
+    octets.lsb_first && job.reads_packed()
 }
 
 /// Runs a job that reads octets laid out so, and writes its output as it is.
@@ -97,6 +101,9 @@ fn run_source<S: Source + Drop, T: Sink + Drop, E: Sink, O: Observer>(
         → E.failed errors.new ≡ E.failed errors.old → E.passed errors.new ≡ E.taken errors.new }
     ensures silent { IsTrue (O.is_silent observer.old) → O.told observer.new ≡ O.told observer.old }
     ensures same { O.is_silent observer.new ≡ O.is_silent observer.old }
+    ensures heard { (before : Hearing) → O.heard observer.old before
+        → HeardEnd (O.heard observer.new) (with_job job.now before)
+        (movement_of E.taken E.failed errors.old errors.new) result.status }
 {
     let is_turned = turns_input(octets, job);
     if octets.raw_in {
@@ -135,6 +142,9 @@ fn run_packed<S: Source + Drop, T: Sink + Drop, E: Sink, O: Observer>(
         → E.failed errors.new ≡ E.failed errors.old → E.passed errors.new ≡ E.taken errors.new }
     ensures silent { IsTrue (O.is_silent observer.old) → O.told observer.new ≡ O.told observer.old }
     ensures same { O.is_silent observer.new ≡ O.is_silent observer.old }
+    ensures heard { (before : Hearing) → O.heard observer.old before
+        → HeardEnd (O.heard observer.new) (with_job job.now before)
+        (movement_of E.taken E.failed errors.old errors.new) result.status }
 {
     if is_turned {
         return run_turned(job, typed, source, sink, errors, observer);
@@ -173,6 +183,9 @@ fn run_turned<S: Source + Drop, T: Sink + Drop, E: Sink, O: Observer>(
         → E.failed errors.new ≡ E.failed errors.old → E.passed errors.new ≡ E.taken errors.new }
     ensures silent { IsTrue (O.is_silent observer.old) → O.told observer.new ≡ O.told observer.old }
     ensures same { O.is_silent observer.new ≡ O.is_silent observer.old }
+    ensures heard { (before : Hearing) → O.heard observer.old before
+        → HeardEnd (O.heard observer.new) (with_job job.now before)
+        (movement_of E.taken E.failed errors.old errors.new) result.status }
 {
     observer.begins(job);
     let mut source = source;
@@ -215,6 +228,9 @@ fn run_behind<S: Source + Drop, T: Sink + Drop, E: Sink, O: Observer>(
         → E.failed errors.new ≡ E.failed errors.old → E.passed errors.new ≡ E.taken errors.new }
     ensures silent { IsTrue (O.is_silent observer.old) → O.told observer.new ≡ O.told observer.old }
     ensures same { O.is_silent observer.new ≡ O.is_silent observer.old }
+    ensures heard { (before : Hearing) → O.heard observer.old before
+        → HeardEnd (O.heard observer.new) before
+        (movement_of E.taken E.failed errors.old errors.new) result.status }
 {
     let mut turned = TurnedSource::new(source, first);
     let mut sink = sink;

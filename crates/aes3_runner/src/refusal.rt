@@ -1,9 +1,10 @@
 //! The line of a refusal, and its exit status.
 
-ghost use Rattle.std.specs.Prelude.{◌≡◌, ◌<◌, ◌≤◌, ◌+◌, ◌++◌, ◌^◌, decimal, length};
+ghost use Rattle.std.specs.Prelude.{◌≡◌, ◌<◌, ◌≤◌, ◌+◌, ◌++◌, ◌^◌, Some, decimal, length};
 ghost use Rattle.arrayvec.specs.ArrayVec.{array_vec_len};
 ghost use Rattle.aes3_cell.specs.Ends.{Grew};
 ghost use Rattle.aes3_cell.specs.Writes.{Wrote};
+ghost use Rattle.aes3_job.specs.Hearing.{Hearing, with_refusal};
 ghost use Rattle.aes3_runner.specs.Lines.{place_text, refusal_line};
 
 use aes3_cell::{Fault, RunError, Sink, write_all};
@@ -78,6 +79,8 @@ pub fn refuse<E: Sink, O: Observer>(error: RunError, errors: &mut E, observer: &
         → E.passed errors.new ≡ E.taken errors.new }
     ensures silent { O.told observer.new ≡ O.told observer.old }
     ensures same { O.is_silent observer.new ≡ O.is_silent observer.old }
+    ensures heard { (before : Hearing) → O.heard observer.old before
+        → O.heard observer.new (with_refusal (Some error) before) }
 {
     if put_refusal(error, errors).is_ok() {
         let _ = errors.flush();

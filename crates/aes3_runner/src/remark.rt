@@ -4,6 +4,8 @@ ghost use Rattle.std.specs.Prelude.{◌≡◌, ◌<◌, ◌≤◌, ◌+◌, ◌+
 ghost use Rattle.arrayvec.specs.ArrayVec.{array_vec_len};
 ghost use Rattle.aes3_cell.specs.Writes.{Wrote};
 ghost use Rattle.aes3_input.specs.Running.{movement_of};
+ghost use Rattle.aes3_job.specs.Hearing.{Hearing};
+ghost use Rattle.aes3_runner.specs.Hearings.{HeardEnd};
 ghost use Rattle.aes3_runner.specs.JobRuns.{end_status};
 ghost use Rattle.aes3_settings.specs.Untaken.{texts_of, told_line, untaken_line, untaken_lines};
 ghost use Rattle.aes3_runner.specs.Lines.{filled_line, left_out_line, met_lines, remark_line};
@@ -233,6 +235,9 @@ pub(crate) fn tell_outcome<E: Sink, O: Observer>(
         → E.failed errors.new ≡ E.failed errors.old → E.passed errors.new ≡ E.taken errors.new }
     ensures silent { O.told observer.new ≡ O.told observer.old }
     ensures same { O.is_silent observer.new ≡ O.is_silent observer.old }
+    ensures heard { (before : Hearing) → O.heard observer.old before
+        → HeardEnd (O.heard observer.new) before
+        (movement_of E.taken E.failed errors.old errors.new) result }
 {
     match outcome.remark {
         Remark::Nothing => exit_status(job, &outcome.counts),

@@ -2,8 +2,11 @@
 
 ghost use Rattle.std.specs.Prelude.{◌≡◌, ◌<◌, ◌≤◌, ◌+◌, ◌^◌, IfOk, OnErr, IsTrue, map};
 ghost use Rattle.aes3_cell.specs.Ends.{Grew};
+ghost use Rattle.aes3_runner.specs.StandardErrors.{ErrorsTold};
 ghost use Rattle.aes3_runner.specs.WordRuns.{FaultRan, LineRan, UnreadTold, WordsRan};
 ghost use Rattle.aes3_input.specs.Running.{movement_of};
+ghost use Rattle.aes3_job.specs.Hearing.{Hearing};
+ghost use Rattle.aes3_runner.specs.Hearings.{HeardEnd, HeardWords, begun_by};
 
 use crate::job_run::DONE;
 use crate::octets::{Ran, run_octets};
@@ -58,6 +61,9 @@ fn tell_fault<T: Sink, E: Sink, O: Observer>(
         → E.failed errors.new ≡ E.failed errors.old → E.passed errors.new ≡ E.taken errors.new }
     ensures silent { O.told observer.new ≡ O.told observer.old }
     ensures same { O.is_silent observer.new ≡ O.is_silent observer.old }
+    ensures heard { (before : Hearing) → O.heard observer.old before
+        → HeardEnd (O.heard observer.new) before
+        (movement_of E.taken E.failed errors.old errors.new) result }
 {
     match fault {
         LineFault::Usage { text } => {
@@ -96,6 +102,9 @@ pub fn tell_unread<E: Sink, O: Observer>(fault: Unread, errors: &mut E, observer
         (movement_of E.taken E.failed errors.old errors.new) result }
     ensures silent { O.told observer.new ≡ O.told observer.old }
     ensures same { O.is_silent observer.new ≡ O.is_silent observer.old }
+    ensures heard { (before : Hearing) → O.heard observer.old before
+        → HeardEnd (O.heard observer.new) before
+        (movement_of E.taken E.failed errors.old errors.new) result }
 {
     match fault {
         Unread::NotUtf8 => {
@@ -111,6 +120,9 @@ pub fn tell_unread<E: Sink, O: Observer>(fault: Unread, errors: &mut E, observer
 /// source is what the line reads. A sink that held nothing before and did not fail has passed on all
 /// that it took, and so have the errors. Refusals are told on `errors`, whose own faults change
 /// nothing. The observer is told how it goes on; one that is silent writes nothing.
+///
+/// All that the errors get is, at status 0 and 1, the remark on the job, or nothing if there is none; at 2
+/// why the words are no command; at 3 the line of the refusal.
 pub fn run_line<S: Source + Drop, T: Sink + Drop, E: Sink, O: Observer>(
     line: Result<CommandLine<'_>, LineFault>,
     source: S,
@@ -125,6 +137,8 @@ pub fn run_line<S: Source + Drop, T: Sink + Drop, E: Sink, O: Observer>(
         (movement_of S.given S.failed source result.source)
         (movement_of T.taken T.failed sink result.sink)
         (movement_of E.taken E.failed errors.old errors.new) result.status }
+    ensures told { ErrorsTold line.entry
+        (movement_of E.taken E.failed errors.old errors.new) result.status }
     ensures passed_on { T.passed sink ≡ T.taken sink → T.failed result.sink ≡ T.failed sink
         → T.passed result.sink ≡ T.taken result.sink }
     ensures errors { E.failed errors.new ≤ E.failed errors.old + 1 }
@@ -132,6 +146,9 @@ pub fn run_line<S: Source + Drop, T: Sink + Drop, E: Sink, O: Observer>(
         → E.failed errors.new ≡ E.failed errors.old → E.passed errors.new ≡ E.taken errors.new }
     ensures silent { IsTrue (O.is_silent observer.old) → O.told observer.new ≡ O.told observer.old }
     ensures same { O.is_silent observer.new ≡ O.is_silent observer.old }
+    ensures heard { (before : Hearing) → O.heard observer.old before
+        → HeardEnd (O.heard observer.new) (begun_by line.entry before)
+        (movement_of E.taken E.failed errors.old errors.new) result.status }
 {
     match line {
         Ok(line) => run_octets(
@@ -178,6 +195,9 @@ pub fn run_words<S: Source + Drop, T: Sink + Drop, E: Sink, O: Observer>(
         → E.failed errors.new ≡ E.failed errors.old → E.passed errors.new ≡ E.taken errors.new }
     ensures silent { IsTrue (O.is_silent observer.old) → O.told observer.new ≡ O.told observer.old }
     ensures same { O.is_silent observer.new ≡ O.is_silent observer.old }
+    ensures heard { (before : Hearing) → O.heard observer.old before
+        → HeardWords (map (λ word. word.now) words.now) (O.heard observer.new) before
+        (movement_of E.taken E.failed errors.old errors.new) result.status }
 {
     let line = line_of_words(alloc, words);
     run_line(line, source, sink, errors, observer)

@@ -1,5 +1,5 @@
 pub mod Reports
-pub mod Locking
+pub mod Listening
 pub mod ReportLemmas
 pub mod ReportRuns
 pub mod BlockRuns

@@ -1,10 +1,6 @@
 -- What reports write.
 use Rattle.std.proofs.Common.{◌≡◌, ℕ, ◌+◌, List, [], ◌∷◌, ◌++◌, Bool, length, refl, sym}
-use Rattle.std.proofs.Common.{ap, ◌∙◌, arith, append-nil, append_assoc, length-append, add-one, Option, Result}
-use Rattle.std.proofs.Common.{Ok, Err, IfOk, OnErr}
-use Rattle.aes3_cell.specs.declared.ends.Fault as device
-use Rattle.aes3_cell.specs.Ends.{Grew, GrewFront}
-use Rattle.aes3_cell.proofs.Growing.{grew-is, front-is}
+use Rattle.std.proofs.Common.{ap, ◌∙◌, arith, append-nil, append_assoc, length-append, add-one}
 use Rattle.aes3_lock.specs.declared.report.Report.{Report}
 use Rattle.aes3_lock.specs.declared.report.Report.TheVariants.{Whole, Marked, Fault, Unfinished}
 use Rattle.aes3_lock.specs.Reports.{wholes}
@@ -64,17 +60,3 @@ blocks-output f n (Whole at s b ∷ r) =
 blocks-output f n (Marked at s wrong ∷ r) = blocks-output f (n + 0) r ∙ ap (λ k. numbered f k (wholes r)) (sym none)
 blocks-output f n (Fault at cell why ∷ r) = blocks-output f (n + 0) r ∙ ap (λ k. numbered f k (wholes r)) (sym none)
 blocks-output f n (Unfinished at cells ∷ r) = blocks-output f (n + 0) r ∙ ap (λ k. numbered f k (wholes r)) (sym none)
-
-pub end-grew : (w : ℕ → Report → List ℕ) (e : List ℕ) (follows : List Report → Type 0) (t t' : Option (List ℕ))
-    (result : Result (Unit {0}) device.Fault)
-    → IfOk result (λ (x : Unit {0}). Grew t t' e)
-    → IfOk result (λ (x : Unit {0}). (r : List Report) → follows r → Grew t t' ((report_writing w e).ends r))
-end-grew w e follows t t' (Ok x) h = λ r k. grew-is (ends-is w e r) h
-end-grew w e follows t t' (Err x) h = tt
-
-pub end-front : (w : ℕ → Report → List ℕ) (e : List ℕ) (follows : List Report → Type 0) (t t' : Option (List ℕ))
-    (k k' : ℕ) (result : Result (Unit {0}) device.Fault)
-    → OnErr result ((k' ≡ k + 1) × GrewFront t t' e)
-    → OnErr result ((r : List Report) → follows r → GrewFront t t' ((report_writing w e).ends r))
-end-front w e follows t t' k k' (Ok x) h = tt
-end-front w e follows t t' k k' (Err x) h = λ r q. front-is (ends-is w e r) h.1

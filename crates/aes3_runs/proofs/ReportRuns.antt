@@ -1,31 +1,24 @@
 -- Runs that read cells and write something of each report.
-use Rattle.std.proofs.Common.{◌≡◌, ℕ, Bool, List, [], ◌++◌, length, Result, Ok, Err, ap, ap₂, ◌∙◌, subst}
+use Rattle.std.proofs.Common.{◌≡◌, ℕ, Bool, List, [], ◌++◌, length, Ok, Err, ap, ap₂, ◌∙◌}
 use Rattle.std.specs.List.{filter}
 use Rattle.aes3_level.specs.declared.level.Level.{Level}
 use Rattle.aes3_cell.specs.declared.form.Form.{Form}
 use Rattle.aes3_cell.specs.declared.refusal.RunError.{RunError}
 use Rattle.aes3_cell.specs.declared.counts.Counts.{Counts}
 use Rattle.aes3_lock.specs.declared.report.Report.{Report}
+use Rattle.aes3_lock.specs.declared.tally.Tally.{Tally}
 use Rattle.aes3_lock.specs.Reports.{reports, decided, wholes, blocks}
-use Rattle.aes3_lock.specs.Tallies.{is_faulty, Tallies}
-use Rattle.aes3_input.specs.Running.{Movement}
-use Rattle.aes3_input.specs.Taking.{before_end, with_end}
+use Rattle.aes3_lock.specs.Tallies.{is_faulty, IsTallyOf, Tallies}
+use Rattle.aes3_input.specs.Running.{InputRun, Movement}
+use Rattle.aes3_input.specs.Taking.{Writing, before_end, with_end}
 use Rattle.aes3_input.specs.Inputs.{cells_of}
-use Rattle.aes3_input.specs.Driving.{Drive}
-use Rattle.aes3_input.proofs.CellRuns.{drove-ok, drove-err}
+use Rattle.aes3_input.specs.Driving.{counted_cells, Drive, over_cells}
+use Rattle.aes3_input.proofs.CellRuns.{cells-give}
+use Rattle.aes3_input.proofs.InputRuns.{Gives, run-ok, run-err}
 use Rattle.aes3_runs.specs.Reporting.{reporting}
-use Rattle.aes3_runs.specs.ReportRuns.{counts_of, output, report_writing, ReportRun}
+use Rattle.aes3_runs.specs.ReportRuns.{counts_of, heard_cells, output, report_writing, ReportRun, told_reports}
 use Rattle.aes3_runs.proofs.Reports.{before-reports, with-reports}
 use Rattle.aes3_runs.proofs.ReportLemmas.{before-output, with-output}
-
--- what cells write through their reports
-before-cells : (f : ℕ → Report → List ℕ) (e : List ℕ) (c : List Level)
-    → before_end (reporting (report_writing f e)) c ≡ output f (decided c)
-before-cells f e c = before-reports (report_writing f e) c ∙ before-output f e (decided c)
-
-with-cells : (f : ℕ → Report → List ℕ) (e : List ℕ) (c : List Level)
-    → with_end (reporting (report_writing f e)) c ≡ output f (reports c) ++ e
-with-cells f e c = with-reports (report_writing f e) c ∙ with-output f e (reports c)
 
 -- the counts
 pub counted : (form : Form) (b : List ℕ) (bytes cells blocks faults unfinished : ℕ) → bytes ≡ length b
@@ -59,36 +52,57 @@ counted form b n c k f u e d t =
       marks = 0;
     }) t.unfinished_is
 
--- the run
-pub run-ok : {max : ℕ} {form : Form} (f : ℕ → Report → List ℕ) (e : List ℕ) {g : List Level
-    → Type 0} {blocks faults unfinished : ℕ} {ended : Bool} {source sink : Movement} {bytes cells : ℕ}
-    → Drive max form (reporting (report_writing f e)) g
-    (λ c. Tallies blocks faults unfinished (reports c)) ended source sink (Ok (bytes, cells))
-    → ReportRun max form f e ended source sink
-    (Ok (record { bytes = bytes; cells = cells; blocks = blocks; faults = faults; unfinished = unfinished; marks = 0 }))
-run-ok {form} f e {blocks = k} {faults = u} {unfinished = v} {bytes = n} {cells = m} r =
-    drove-ok (λ c. output f (reports c) ++ e) (λ c. output f (decided c)) (counts_of form)
-    (record { bytes = n; cells = m; blocks = k; faults = u; unfinished = v; marks = 0 })
-    (with-cells f e) (before-cells f e) (λ b p q t. counted form b n m k u v p q t) r
-
-pub run-err : {max : ℕ} {form : Form} (f : ℕ → Report → List ℕ) (e : List ℕ) {g z : List Level
-    → Type 0} {ended : Bool} {source sink : Movement} {x : RunError}
-    → Drive max form (reporting (report_writing f e)) g z ended source sink (Err x)
-    → ReportRun max form f e ended source sink (Err x)
-run-err {form} f e r = drove-err (λ c. output f (reports c) ++ e) (λ c. output f (decided c)) (counts_of form)
-    (with-cells f e) (before-cells f e) r
-
-pub run-same : {max : ℕ} (form : Form) (f h : ℕ → Report
-    → List ℕ) (e k : List ℕ) {ended : Bool} {source sink : Movement} {r : Result Counts RunError}
-    → f ≡ h → e ≡ k → ReportRun max form f e ended source sink r → ReportRun max form h k ended source sink r
-run-same {max} form f h e k {ended} {source} {sink} {r} p q run =
-    subst (λ (v : List ℕ). ReportRun max form h v ended source sink r) q
-    (subst (λ (v : ℕ → Report → List ℕ). ReportRun max form v e ended source sink r) p run)
-
-pub tally-is : {n f u n' f' u' : ℕ} → n' ≡ n → f' ≡ f → u' ≡ u → Tallies n f u [] → Tallies n' f' u' (decided [])
+-- the run of a listener
+pub none-counted : {t : Tally} → IsTallyOf t [] → IsTallyOf t (decided [])
 unfolding decided
-tally-is a b c t = record {
-  blocks_is = a ∙ t.blocks_is;
-  faults_is = b ∙ t.faults_is;
-  unfinished_is = c ∙ t.unfinished_is;
-}
+none-counted h = h
+
+gives-same : {A B : Type 0} (form : Form) {w v : Writing Level} {answer : List ℕ → A → Type 0}
+    {answer' : List ℕ → B → Type 0} → w ≡ v
+    → Gives (over_cells form (with_end w) (before_end w) answer) (over_cells form (with_end v) (before_end v) answer')
+gives-same form {v = v} e = cells-give form (with_end v) (before_end v)
+    (λ c. ap (λ (u : Writing Level). with_end u c) e) (λ c. ap (λ (u : Writing Level). before_end u c) e)
+
+pub heard-ok : {A : Type 0} {max : ℕ} {form : Form} {w v : Writing Level} {f : List Level → Type 0}
+    (z : A → List Level → Type 0) {t : Tally} {m : A} {n : Counts} {ended : Bool} {source sink : Movement}
+    {bytes cells : ℕ} → w ≡ v
+    → ((b : List ℕ) → bytes ≡ length b → cells ≡ length (cells_of form b)
+    → IsTallyOf t (reports (cells_of form b)) → n ≡ counts_of form b)
+    → Drive max form w f (λ c. IsTallyOf t (reports c) × z m c) ended source sink (Ok (bytes, cells))
+    → InputRun (heard_cells form v z) max ended source sink (Ok (n, m))
+heard-ok {form = form} z e k r = run-ok (gives-same form e) (λ b i h. (k b h.1 h.2 h.0.0, h.0.1)) r.run
+
+pub heard-err : {A : Type 0} {max : ℕ} {form : Form} {w v : Writing Level} {f y : List Level → Type 0}
+    (z : A → List Level → Type 0) {ended : Bool} {source sink : Movement} {x : RunError} → w ≡ v
+    → Drive max form w f y ended source sink (Err x)
+    → InputRun (heard_cells form v z) max ended source sink (Err x)
+heard-err {form = form} z e r = run-err (gives-same form e) r.run
+
+-- that of a reporter
+pub none-told : (follows : List Report → Type 0) → follows [] → follows (decided [])
+unfolding decided
+none-told follows h = h
+
+pub gives-told : {A B : Type 0} (form : Form) (w : Writing Report) (y : A → List Level → Type 0)
+    (z : B → List Report → Type 0) → Gives (heard_cells form (reporting w) y) (told_reports form w z)
+gives-told form w y z = cells-give form (λ c. with_end w (reports c)) (λ c. before_end w (decided c))
+    (with-reports w) (before-reports w)
+
+-- one that gives each report its bytes
+gives-bytes : {A : Type 0} (form : Form) (f : ℕ → Report → List ℕ) (e : List ℕ) (z : A → List Report → Type 0)
+    → Gives (told_reports form (report_writing f e) z) (counted_cells form (λ c. output f (reports c) ++ e)
+    (λ c. output f (decided c)) (counts_of form))
+gives-bytes form f e z = cells-give form (λ c. output f (reports c) ++ e) (λ c. output f (decided c))
+    (λ c. with-output f e (reports c)) (λ c. before-output f e (decided c))
+
+pub told-ok : {A : Type 0} {max : ℕ} (form : Form) (f : ℕ → Report → List ℕ) (e : List ℕ)
+    (z : A → List Report → Type 0) {m : A} {n : Counts} {ended : Bool} {source sink : Movement}
+    → InputRun (told_reports form (report_writing f e) z) max ended source sink (Ok (n, m))
+    → ReportRun max form f e ended source sink (Ok n)
+told-ok form f e z r = run-ok (gives-bytes form f e z) (λ b i h. h.0) r
+
+pub told-err : {A : Type 0} {max : ℕ} (form : Form) (f : ℕ → Report → List ℕ) (e : List ℕ)
+    (z : A → List Report → Type 0) {ended : Bool} {source sink : Movement} {x : RunError}
+    → InputRun (told_reports form (report_writing f e) z) max ended source sink (Err x)
+    → ReportRun max form f e ended source sink (Err x)
+told-err form f e z r = run-err (gives-bytes form f e z) r

@@ -1,3 +1,4 @@
 pub mod Reporting
+pub mod Listening
 pub mod ReportRuns
 pub mod BlockRuns

@@ -5,10 +5,10 @@ ghost use Rattle.aes3_cell.specs.Writes.{Wrote};
 ghost use Rattle.aes3_slot.specs.ReadWords.{read_words};
 ghost use Rattle.aes3_slot.specs.Slots.{payload_len};
 ghost use Rattle.aes3_input.specs.Running.{movement_of};
-ghost use Rattle.aes3_runs.specs.ReportRuns.{ReportRun};
+ghost use Rattle.aes3_runs.specs.ReportRuns.{ReportRun, report_writing};
 ghost use Rattle.aes3_runs.specs.BlockRuns.{report_bytes};
 
-use crate::report_runs::{ReportWriter, run_reports};
+use crate::reporter::{Reporter, run_reports};
 use aes3_block::GatheredCells;
 use aes3_cell::{Counts, Fault, Form, RunError, Sink, Source};
 use aes3_lock::{Ending, Lock};
@@ -44,13 +44,13 @@ struct Blocks<W> {
     writer: W,
 }
 
-impl<W: BlockWriter> ReportWriter for Blocks<W> {
-    ghost writes = { λ k. report_bytes (W.writes k.writer) };
+impl<W: BlockWriter> Reporter for Blocks<W> {
+    ghost follows = { λ _ _. Unit {0} };
 
-    ghost ends = { λ k. W.ends k.writer };
+    ghost writes = { λ k. report_writing (report_bytes (W.writes k.writer)) (W.ends k.writer) };
 
     fn tell<T: Sink>(
-        &self,
+        &mut self,
         sink: &mut T,
         blocks: u64,
         lock: &Lock,
@@ -64,7 +64,7 @@ impl<W: BlockWriter> ReportWriter for Blocks<W> {
         }
     }
 
-    fn put_end<T: Sink>(&self, sink: &mut T) -> Result<(), Fault> {
+    fn finish<T: Sink>(&self, sink: &mut T) -> Result<(), Fault> {
         self.writer.put_end(sink)
     }
 }
@@ -89,5 +89,6 @@ pub fn run_blocks<S: Source, T: Sink, W: BlockWriter + Drop>(
         (movement_of T.taken T.failed sink.old sink.new) result }
     ensures passed_on { IfOk result (λ _. T.passed sink.new ≡ T.taken sink.new) }
 {
-    run_reports(source, sink, max_bytes, input, Blocks { writer })
+    let (counts, _blocks) = run_reports(source, sink, max_bytes, input, Blocks { writer })?;
+    Ok(counts)
 }

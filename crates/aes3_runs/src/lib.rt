@@ -3,16 +3,16 @@
 
 /// Runs that write something of each block.
 mod blocks;
-/// A taker that hands cells to a lock, and its reports on.
-mod locked;
-/// Runs that write something of each report.
-mod report_runs;
-/// Who takes the reports of a lock.
+/// The taker that hands cells to a lock, counts the reports, and lets a listener hear of both.
+mod followed;
+/// Who hears of cells that go through a lock.
+mod listener;
+/// Who is told of the reports of a lock, and runs that write something of each.
 mod reporter;
 
 pub use aes3_input::{Input, Taker, cell, convert, drive, word};
 pub use aes3_lock::Tally;
 pub use blocks::{BlockWriter, run_blocks};
-pub use locked::Locked;
-pub use report_runs::{ReportWriter, run_reports};
-pub use reporter::Reporter;
+pub use followed::{Followed, run_cells};
+pub use listener::Listener;
+pub use reporter::{Reporter, run_reports};

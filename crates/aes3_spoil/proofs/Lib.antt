@@ -11,3 +11,4 @@ mod EachError
 mod Parity
 mod ParityReports
 mod CheckByte
+mod ReadBack

@@ -1,5 +1,6 @@
 pub mod EachLaws
 pub mod Errors
+pub mod ReadBack
 pub mod ReportLaws
 pub mod SpoilLaws
 pub mod Spoiled

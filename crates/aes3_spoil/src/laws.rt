@@ -7,9 +7,16 @@ ghost use Rattle.aes3_spoil.specs.EachLaws.{DoubledCellTakesItsBlock};
 ghost use Rattle.aes3_spoil.specs.EachLaws.{FirstPreambleErrorEndsTheCandidate};
 ghost use Rattle.aes3_spoil.specs.EachLaws.{PreambleErrorIsTheFault, WrongParityIsMarked};
 ghost use Rattle.aes3_spoil.specs.EachLaws.{WrongParityMarksItsBlock};
+ghost use Rattle.aes3_spoil.specs.ReadBack.{WrittenCellsAreReadBack};
 ghost use Rattle.aes3_spoil.specs.SpoilLaws.{ChangedCellIsChanged, DoubledCellIsPutIn};
 ghost use Rattle.aes3_spoil.specs.SpoilLaws.{InvertedCellTurnsTheRest, LostCellIsLost};
 ghost use Rattle.aes3_spoil.specs.SpoilLaws.{NoErrorsNoChange};
+
+/// Cells that a run writes up to its end, in either form and however many they are, are read again as
+/// the same cells.
+pub fn written_cells_are_read_back()
+    ensures { WrittenCellsAreReadBack }
+{}
 
 /// No errors leave cells as they are; one changed cell is changed and no other; one lost cell is
 /// missing and no other; one doubled cell is put in once more, before itself. So the laws of damage

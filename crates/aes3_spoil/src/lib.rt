@@ -17,5 +17,7 @@ mod subframe_errors;
 
 pub use errors::{ERRORS, Errors};
 pub use kinds::{CellError, ErrorKind, Every};
-pub use laws::{each_error_is_told, one_error_is_told, spoiled_cells_are_damaged};
+pub use laws::{
+    each_error_is_told, one_error_is_told, spoiled_cells_are_damaged, written_cells_are_read_back,
+};
 pub use spoiling::spoil;

@@ -20,6 +20,7 @@ use crate::errors::Errors;
 use crate::kinds::ErrorKind;
 use aes3_cell::{Counts, Fault, Form, RunError, Sink, Source};
 use aes3_input::{Taker, drive};
+use aes3_level::Cells;
 use aes3_recovery::bits_of_cells;
 
 /// Writes the cells that it takes, with errors.
@@ -136,18 +137,16 @@ impl Spoiler {
 impl Taker for Spoiler {
     ghost state = { spoiler_state };
 
-    fn take_front<T: Sink>(&mut self, sink: &mut T, word: u64, len: u32) -> Result<u32, Fault> {
-        let clear = self.clear.min(u64::from(len)) as u32;
+    fn take<T: Sink>(&mut self, sink: &mut T, cells: &mut Cells<'_>) -> Result<(), Fault> {
+        cells.begin_word();
+        let word = cells.word();
+        let clear = self.clear.min(u64::from(cells.here())) as u32;
         if clear > 0 {
-            match self.take_clear(sink, word, clear) {
-                Ok(()) => Ok(clear),
-                Err(fault) => Err(fault),
-            }
+            cells.skip(clear);
+            self.take_clear(sink, word, clear)
         } else {
-            match self.take_one(sink, word) {
-                Ok(()) => Ok(1),
-                Err(fault) => Err(fault),
-            }
+            cells.skip(1);
+            self.take_one(sink, word)
         }
     }
 

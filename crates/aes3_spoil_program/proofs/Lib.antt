@@ -2,3 +2,5 @@ mod Adding
 mod Lines
 mod Numbers
 mod Options
+mod Reported
+mod Wrongs

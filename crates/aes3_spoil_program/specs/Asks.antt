@@ -1,10 +1,11 @@
 -- What a command line asks for, by what `clap` makes of its words.
 use Rattle.std.specs.Prelude.{ℕ, List, [], ◌∷◌, ◌≡◌, Option, Some, None, codes, if◌then◌else◌, option_and_then}
-use Rattle.std.specs.Prelude.{unwrap_or}
-use Rattle.std.specs.List.{flat_map}
+use Rattle.std.specs.Prelude.{IfSome, is_some, true, unwrap_or}
+use Rattle.std.specs.List.{All, flat_map}
 use Rattle.std.specs.Option.{option_map}
 use Rattle.std.specs.Str.{bytes_eq}
 use Rattle.clap.specs.Faults.{fault_of}
+use Rattle.clap.specs.Kinds.{Kinds}
 use Rattle.clap.specs.Simple.{matches_of}
 use Rattle.clap.specs.Walk.{Row, Text, all_of, first_of, one_of, rows_of}
 use Rattle.clap.specs.Matches.{found_of}
@@ -49,27 +50,53 @@ errors_at_spot error (Some spot) = errors_named error spot.0 spot.1
 abbrev pub errors_in : NamedError → Text → List CellError
 errors_in error text = errors_at_spot error (spot_in error text)
 
--- those of all values of an option, in the order in which they stand
+-- the values of an option that names errors, in their order
+abbrev pub values_by : Options → NamedError → List Text
+values_by options error = unwrap_or (all_of (name_of error) options) []
+
+-- the errors of all of them
 abbrev pub errors_by : Options → NamedError → List CellError
-errors_by options error = flat_map (errors_in error) (unwrap_or (all_of (name_of error) options) [])
+errors_by options error = flat_map (errors_in error) (values_by options error)
 
 -- the options that name errors
 abbrev pub named_errors : List NamedError
 named_errors = Cell ∷ Invert ∷ Lost ∷ Double ∷ Parity ∷ Biphase ∷ Preamble ∷ CheckByte ∷ []
 
+-- the errors of all of these options
+abbrev pub all_errors : Options → List CellError
+all_errors options = flat_map (errors_by options) named_errors
+
 -- the errors that come again and again
 abbrev pub every_by : Options → Option Every
 every_by options = option_and_then every_in (first_of (codes "every") options)
 
--- the options ask for the job
+-- the text is a value of the option that names the error; the texts of all of these options are
+abbrev pub IsValue : NamedError → Text → Type 0
+IsValue error text = is_some (spot_in error text) ≡ true
+
+abbrev pub AreValues : Options → NamedError → Type 0
+AreValues options error = All (IsValue error) (values_by options error)
+
+-- the text is a value of `--every`
+abbrev pub IsEvery : Text → Type 0
+IsEvery text = is_some (every_in text) ≡ true
+
+-- the options ask for the job, and each of their values is one
 pub record AsksFor (options : Options) (job : Job) : Type 0 where
   pub input : IsFormOf options (codes "packed-in") job.input
   pub output : IsFormOf options (codes "packed-out") job.output
-  pub list : errors_of job.errors ≡ flat_map (errors_by options) named_errors
+  pub values : All (AreValues options) named_errors
+  pub list : errors_of job.errors ≡ all_errors options
+  pub every_value : IfSome (first_of (codes "every") options) IsEvery
   pub every : job.errors.every ≡ every_by options
   pub file : option_map (λ name. name.now) job.file ≡ file_by options
 
+-- why the definitions do not take the words: `--help` or `--version` is among them, or a fault; empty where they
+-- take them
+abbrev pub faults_in : List Text → Kinds
+faults_in words = fault_of spoil_line words
+
 -- the definitions take the words, and their options ask for the job
 pub record IsJobOf (words : List Text) (job : Job) : Type 0 where
-  pub taken : fault_of spoil_line words ≡ []
+  pub taken : faults_in words ≡ []
   pub asked : AsksFor (matches_of spoil_line words) job

@@ -1,7 +1,9 @@
 //! The options and values that the program takes, each with its line of help.
 
 ghost use Rattle.aes3_commands.specs.CommandLine.{IsOption, file_name, flag, settings_option, text_option};
+ghost use Rattle.aes3_spoil_program.specs.Faults.{value_name};
 ghost use Rattle.aes3_spoil_program.specs.SpoilLine.{rule};
+ghost use Rattle.std.specs.Prelude.{◌≡◌};
 
 use crate::named::NamedError;
 use clap::{Arg, ArgAction};
@@ -82,7 +84,9 @@ fn places<'a>(alloc: Global, name: &'a str, value: &'a str, help: &'a str) -> Ar
 }
 
 /// What help calls the option's value.
-pub(crate) fn value_name<'a>(named: NamedError) -> &'a str {
+pub(crate) fn value_name<'a>(named: NamedError) -> &'a str
+    ensures { result.now ≡ value_name named }
+{
     match named {
         NamedError::Biphase => "P:SLOT",
         _ => "P",

@@ -1,21 +1,27 @@
 //! What the words of a command line ask for.
 
-ghost use Rattle.std.specs.Prelude.{◌≡◌, ◌++◌, [], IfOk, None, is_some, map, true};
-ghost use Rattle.std.specs.List.{flat_map};
+ghost use Rattle.std.specs.Prelude.{◌≡◌, ◌++◌, [], IfErr, IfOk, IfSome, None, codes, map};
+ghost use Rattle.std.specs.List.{All, flat_map};
 ghost use Rattle.std.specs.Option.{option_map};
+ghost use Rattle.clap.specs.Values.{kind_of};
+ghost use Rattle.clap.specs.Walk.{first_of};
 ghost use Rattle.aes3_commands.specs.CommandLine.{IsDefinedAs};
 ghost use Rattle.aes3_spoil.specs.Errors.{errors_of};
-ghost use Rattle.aes3_spoil_program.specs.Asks.{AsksFor, IsFormOf, IsJobOf, errors_by, errors_in, every_by, file_by};
+ghost use Rattle.aes3_spoil_program.specs.Asks.{AreValues, AsksFor, IsEvery, IsFormOf, IsJobOf, IsValue};
+ghost use Rattle.aes3_spoil_program.specs.Asks.{all_errors, errors_by, errors_in, every_by, file_by};
 ghost use Rattle.aes3_spoil_program.specs.Asks.{named_errors, options_of};
+ghost use Rattle.aes3_spoil_program.specs.Faults.{IsFaultBy, IsFaultOf, IsOptionFault, IsUsage, IsWrongAfter};
+ghost use Rattle.aes3_spoil_program.specs.Faults.{IsWrongAt, IsWrongIn, IsWrongWith};
 ghost use Rattle.aes3_spoil_program.specs.SpoilLine.{line_with, spoil_line};
-ghost use Rattle.aes3_spoil_program.specs.Values.{spot_in};
+ghost use Rattle.aes3_spoil_program.specs.declared.line.LineFault.TheVariants.{Memory};
 
-use crate::argument::{ARGUMENTS, value_name};
+use crate::argument::ARGUMENTS;
 use crate::help::{ABOUT, MORE, USAGE, VERSION};
 use crate::named::{NAMED, NamedError};
 use crate::value::{every_of_text, spot_of_text};
+use crate::wrong::{Wrong, wrong_fault};
 use aes3_cell::Form;
-use aes3_commands::wording::{add_usage, own_text};
+use aes3_commands::wording::own_text;
 use aes3_spoil::Errors;
 use clap::error::ErrorKind;
 use clap::{ArgMatches, Command, Error};
@@ -32,31 +38,24 @@ pub struct Job<'a> {
     pub file: Option<&'a str>,
 }
 
-/// Why words are no job: the text is told.
+/// Why words ask for no job.
 #[derive(Drop)]
 pub enum LineFault {
+    /// The definitions of the command line don't take the words, or a value among them is wrong; the
+    /// text says why.
     Usage { text: String },
+    /// The words ask for help or for the version, which the text is.
     Help { text: String },
+    /// Memory was refused.
     Memory,
 }
 
 impl From<AllocError> for LineFault {
+    ghost from_gives = { λ _ fault. fault ≡ Memory };
+
     fn from(_error: AllocError) -> LineFault {
         LineFault::Memory
     }
-}
-
-/// What is wrong with the values of options.
-#[derive(Clone, Copy)]
-pub(crate) enum Wrong<'a> {
-    /// A value that is none.
-    Value {
-        name: &'a str,
-        value: &'a str,
-        text: &'a str,
-    },
-    /// More errors than there is room for.
-    TooMany,
 }
 
 /// The command line.
@@ -82,13 +81,15 @@ fn program<'a>(alloc: Global) -> Command<'a>
         .version(VERSION)
 }
 
-/// What the words ask for, without the program's name.
+/// What the words ask for, without the program's name. It reads no input.
 ///
 /// # Errors
-/// `Usage` where the words are no command line, `Help` where they ask for help or the version, and
+/// `Usage` where the definitions of the command line don't take the words, a value among them is
+/// wrong or they name more than 64 errors, `Help` where they ask for help or the version, and
 /// `Memory` where memory was refused.
 pub fn job_of_words<'a>(alloc: Global, words: &'a [&'a str]) -> Result<Job<'a>, LineFault>
-    ensures { IfOk result (IsJobOf (map (λ word. word.now) words.now)) }
+    ensures job { IfOk result (IsJobOf (map (λ word. word.now) words.now)) }
+    ensures fault { IfErr result (IsFaultOf (map (λ word. word.now) words.now)) }
 {
     let command = command_line(alloc)?;
     match command.try_get_matches_from(words) {
@@ -97,33 +98,57 @@ pub fn job_of_words<'a>(alloc: Global, words: &'a [&'a str]) -> Result<Job<'a>, 
     }
 }
 
-/// What is told of words that are no command line, which `clap` told so.
-fn fault_of(alloc: Global, error: &Error) -> LineFault {
+/// Why words ask for no job that `clap` doesn't take, or that ask it for help.
+fn fault_of(alloc: Global, error: &Error) -> LineFault
+    ensures { IsFaultBy (kind_of error.now) result }
+{
     let Ok(text) = error.to_string(alloc) else {
         return LineFault::Memory;
     };
     match error.kind() {
         ErrorKind::OutOfMemory => LineFault::Memory,
         ErrorKind::DisplayHelp | ErrorKind::DisplayVersion => LineFault::Help { text },
-        _ => match own_text(alloc, &text, USAGE) {
-            Ok(text) => LineFault::Usage { text },
-            Err(_) => LineFault::Memory,
-        },
+        _ => usage_fault(alloc, &text),
     }
 }
 
-/// The job of words that are a command line.
+/// The usage error for words of which `clap` says this.
+fn usage_fault(alloc: Global, text: &str) -> LineFault
+    ensures { IsUsage result }
+{
+    match own_text(alloc, text, USAGE) {
+        Ok(text) => LineFault::Usage { text },
+        Err(_) => LineFault::Memory,
+    }
+}
+
+/// The job that options ask for.
+///
+/// # Errors
+/// `Usage` where a value of them is wrong or they name more than 64 errors, and `Memory` where memory
+/// was refused.
 fn job_of_options<'a>(alloc: Global, options: &ArgMatches<'a>) -> Result<Job<'a>, LineFault>
-    ensures { IfOk result (AsksFor (options_of options.now)) }
+    ensures job { IfOk result (AsksFor (options_of options.now)) }
+    ensures fault { IfErr result (IsOptionFault (options_of options.now)) }
 {
     match errors_of_options(options) {
-        Ok(errors) => Ok(Job {
-            input: form(options, "packed-in"),
-            output: form(options, "packed-out"),
-            errors,
-            file: file(options),
-        }),
+        Ok(errors) => Ok(job_with(options, errors)),
         Err(wrong) => Err(wrong_fault(alloc, wrong)),
+    }
+}
+
+/// The job with these errors, in the forms and of the file that the options name.
+fn job_with<'a>(options: &ArgMatches<'a>, errors: Errors) -> Job<'a>
+    ensures errors { result.errors ≡ errors }
+    ensures input { IsFormOf (options_of options.now) (codes "packed-in") result.input }
+    ensures output { IsFormOf (options_of options.now) (codes "packed-out") result.output }
+    ensures file { option_map (λ name. name.now) result.file ≡ file_by (options_of options.now) }
+{
+    Job {
+        input: form(options, "packed-in"),
+        output: form(options, "packed-out"),
+        errors,
+        file: file(options),
     }
 }
 
@@ -148,11 +173,28 @@ fn file<'a>(options: &ArgMatches<'a>) -> Option<&'a str>
     if name == "-" { None } else { Some(name) }
 }
 
+/// The file that a line's job reads in place of standard input; none where the line asks for no job.
+pub fn file_of_line<'a>(line: &Result<Job<'a>, LineFault>) -> Option<&'a str>
+    ensures job { IfOk line.now (λ job. result ≡ job.file) }
+    ensures fault { IfErr line.now (λ _. result ≡ None) }
+{
+    match line {
+        Ok(job) => job.file,
+        Err(_) => None,
+    }
+}
+
 /// The errors that the options ask for.
+///
+/// # Errors
+/// What is wrong with their values.
 fn errors_of_options<'a>(options: &ArgMatches<'a>) -> Result<Errors, Wrong<'a>>
-    ensures list { IfOk result (λ errors. errors_of errors
-        ≡ flat_map (errors_by (options_of options.now)) named_errors) }
+    ensures values { IfOk result (λ _. All (AreValues (options_of options.now)) named_errors) }
+    ensures list { IfOk result (λ errors. errors_of errors ≡ all_errors (options_of options.now)) }
+    ensures every_value { IfOk result (λ _. IfSome
+        (first_of (codes "every") (options_of options.now)) IsEvery) }
     ensures every { IfOk result (λ errors. errors.every ≡ every_by (options_of options.now)) }
+    ensures wrong { IfErr result (IsWrongWith (options_of options.now)) }
 {
     let mut errors = Errors::new();
     for named in NAMED.iter() {
@@ -163,14 +205,19 @@ fn errors_of_options<'a>(options: &ArgMatches<'a>) -> Result<Errors, Wrong<'a>>
 }
 
 /// Adds the errors that an option asks for.
+///
+/// # Errors
+/// What is wrong with its values.
 fn add_option<'a>(
     errors: &mut Errors,
     named: NamedError,
     options: &ArgMatches<'a>,
 ) -> Result<(), Wrong<'a>>
+    ensures values { IfOk result (λ _. AreValues (options_of options.now) named) }
     ensures list { IfOk result (λ _. errors_of errors.new
         ≡ errors_of errors.old ++ errors_by (options_of options.now) named) }
     ensures every { errors.new.every ≡ errors.old.every }
+    ensures wrong { IfErr result (IsWrongIn (errors_of errors.old) (options_of options.now) named) }
 {
     match options.get_strs(named.name()) {
         Some(texts) => add_texts(errors, named, texts),
@@ -179,10 +226,16 @@ fn add_option<'a>(
 }
 
 /// Adds the errors of an option's values.
+///
+/// # Errors
+/// What is wrong with them.
 fn add_texts<'a>(errors: &mut Errors, named: NamedError, texts: &[&'a str]) -> Result<(), Wrong<'a>>
+    ensures values { IfOk result (λ _. All (IsValue named) (map (λ text. text.now) texts.now)) }
     ensures list { IfOk result (λ _. errors_of errors.new
         ≡ errors_of errors.old ++ flat_map (errors_in named) (map (λ text. text.now) texts.now)) }
     ensures every { errors.new.every ≡ errors.old.every }
+    ensures wrong { IfErr result (IsWrongAfter (errors_of errors.old) named
+        (map (λ text. text.now) texts.now)) }
 {
     for text in texts.iter() {
         add_text(errors, named, *text)?;
@@ -191,18 +244,18 @@ fn add_texts<'a>(errors: &mut Errors, named: NamedError, texts: &[&'a str]) -> R
 }
 
 /// Adds the error of one of them.
+///
+/// # Errors
+/// What is wrong with it.
 fn add_text<'a>(errors: &mut Errors, named: NamedError, text: &'a str) -> Result<(), Wrong<'a>>
     ensures list { IfOk result (λ _. errors_of errors.new
         ≡ errors_of errors.old ++ errors_in named text.now) }
-    ensures value { IfOk result (λ _. is_some (spot_in named text.now) ≡ true) }
+    ensures value { IfOk result (λ _. IsValue named text.now) }
     ensures every { errors.new.every ≡ errors.old.every }
+    ensures wrong { IfErr result (IsWrongAt (errors_of errors.old) named text.now) }
 {
     let Some(spot) = spot_of_text(named, text) else {
-        return Err(Wrong::Value {
-            name: named.name(),
-            value: value_name(named),
-            text,
-        });
+        return Err(Wrong::Value { error: named, text });
     };
     if named.add(errors, spot) {
         Ok(())
@@ -212,10 +265,16 @@ fn add_text<'a>(errors: &mut Errors, named: NamedError, text: &'a str) -> Result
 }
 
 /// Sets the errors that come again and again, where the options ask for some.
+///
+/// # Errors
+/// What is wrong with the value.
 fn set_every<'a>(errors: &mut Errors, options: &ArgMatches<'a>) -> Result<(), Wrong<'a>>
     requires { errors.old.every ≡ None }
+    ensures value { IfOk result (λ _. IfSome
+        (first_of (codes "every") (options_of options.now)) IsEvery) }
     ensures list { errors_of errors.new ≡ errors_of errors.old }
     ensures every { IfOk result (λ _. errors.new.every ≡ every_by (options_of options.now)) }
+    ensures wrong { IfErr result (IsWrongWith (options_of options.now)) }
 {
     let Some(text) = options.get_str("every") else {
         return Ok(());
@@ -225,45 +284,6 @@ fn set_every<'a>(errors: &mut Errors, options: &ArgMatches<'a>) -> Result<(), Wr
             errors.set_every(every.cells, every.kind);
             Ok(())
         }
-        None => Err(Wrong::Value {
-            name: "every",
-            value: "N:KIND",
-            text,
-        }),
-    }
-}
-
-/// What is told of values that are wrong.
-fn wrong_fault(alloc: Global, wrong: Wrong<'_>) -> LineFault {
-    match wrong_text(alloc, wrong) {
-        Ok(text) => LineFault::Usage { text },
-        Err(_) => LineFault::Memory,
-    }
-}
-
-/// The text that tells it, as `clap` tells of words that it doesn't take.
-fn wrong_text(alloc: Global, wrong: Wrong<'_>) -> Result<String, AllocError> {
-    let mut text = match wrong {
-        Wrong::Value { name, value, text } => {
-            format!(in alloc;
-                "error: invalid value '{text}' for '--{name} <{value}>': {}",
-                expected(value)
-            )?
-        }
-        Wrong::TooMany => String::from_str(
-            alloc,
-            "error: more than 64 errors, of which --check-byte is two: run aes3-spoil twice, or use --every",
-        )?,
-    };
-    add_usage(&mut text, USAGE)?;
-    Ok(text)
-}
-
-/// What the value should be that help calls so.
-fn expected(value: &str) -> &'static str {
-    match value {
-        "P:SLOT" => "the first cell of a subframe, a colon and a time slot from 4 to 31",
-        "N:KIND" => "a number of cells from 1, a colon, and cell, invert, drop or double",
-        _ => "the number of a cell, from 0 to 8796093022208",
+        None => Err(Wrong::Every { text }),
     }
 }

@@ -1,13 +1,17 @@
 //! What to do with an input that was refused, by what its first octets look like.
 
+use crate::line::{Job, LineFault};
+use crate::refusal::REFUSED;
 use aes3_cell::Form;
-use aes3_files::FileKind;
+use aes3_files::{FileKind, Preview};
+use std::alloc::AllocError;
+use std::io::{self, IsTerminal, Read};
 
 /// How many of the first octets are looked at.
-pub const FIRST_LEN: usize = 64;
+const FIRST_LEN: usize = 64;
 
-/// What to do with an input that begins so and was read as cells in this form, if its looks tell.
-pub fn advice_by_looks(form: Form, first: &[u8]) -> Option<&'static str> {
+/// What to do with an input that begins so and was read as cells in this form, if its looks say so.
+fn advice_by_looks(form: Form, first: &[u8]) -> Option<&'static str> {
     let first = &first[..first.len().min(FIRST_LEN)];
     match (form, FileKind::of(first)) {
         (Form::Text, FileKind::Octets) => Some("these look like packed cells: try `--packed-in`"),
@@ -21,5 +25,42 @@ pub fn advice_by_looks(form: Form, first: &[u8]) -> Option<&'static str> {
             "these look like samples of a logic analyser: `aes3-cells FILE` makes cells of them",
         ),
         _ => None,
+    }
+}
+
+/// What to do with the input of this line's job if it is refused, where a file is named or standard
+/// error is a terminal. Of another input nothing is read ahead.
+///
+/// # Errors
+/// Memory was refused.
+pub fn advice_on<R: Read + Drop>(
+    rt: &HostRuntime,
+    line: &Result<Job<'_>, LineFault>,
+    input: &mut Preview<R>,
+) -> Result<Option<&'static str>, AllocError> {
+    let Ok(job) = line else {
+        return Ok(None);
+    };
+    if job.file.is_some() || rt.stderr().is_terminal() {
+        Ok(advice_by_looks(job.input, input.first(FIRST_LEN)?))
+    } else {
+        Ok(None)
+    }
+}
+
+/// Writes on standard error why the system did not read on in the file, and what to do with an input
+/// that was refused.
+pub fn say_more(
+    rt: &HostRuntime,
+    file: Option<&str>,
+    trouble: Option<io::Error>,
+    status: u8,
+    advice: Option<&str>,
+) {
+    if let (Some(name), Some(error)) = (file, trouble) {
+        eprintln!(rt; "aes3-spoil: {name}: {error}").unwrap_or(());
+    }
+    if let (REFUSED, Some(advice)) = (status, advice) {
+        eprintln!(rt; "aes3-spoil: {advice}").unwrap_or(());
     }
 }

@@ -11,102 +11,63 @@ mod line;
 mod looks;
 /// Errors by the options that ask for them.
 mod named;
-/// A job between its streams, and the line of a refusal.
+/// The line of a refusal.
+mod refusal;
+/// A job between its streams, and what is reported of it.
 mod run;
 /// The values of options.
 mod value;
+/// What is wrong with the values of options.
+mod wrong;
 
 ghost use Rattle.std.specs.Prelude.{◌≡◌, ◌<◌, ◌+◌, ◌^◌, IfErr};
 
-use aes3_cell::{BufferedSink, RunError, Sink, StdSink, StdSource, write_all};
+use aes3_cell::{BufferedSink, Sink, StdSink, StdSource};
 use aes3_files::{Input, Preview};
-use line::{Job, LineFault, job_of_words};
-use looks::{FIRST_LEN, advice_by_looks};
-use run::{DONE, REFUSED, USAGE, refuse, run_job, tell};
-use std::alloc::AllocError;
+use line::{file_of_line, job_of_words};
+use looks::{advice_on, say_more};
+use run::{Unread, report_unread, run_line};
 use std::cell::Cell;
 use std::env;
-use std::io::{ErrorKind, IsTerminal, Read};
+use std::io::ErrorKind;
 use std::process::ExitCode;
 
-/// What is told of words that are not UTF-8.
-const NOT_UTF8: &str = "error: the words are not UTF-8
-
-Usage: aes3-spoil [OPTIONS] [FILE] > CELLS
-
-For more information, try '--help'.
-";
-
 fn main(rt: HostRuntime) -> ExitCode {
-    let mut told = StdSink::new(rt.stderr());
-    let status = match run_program(&rt, &mut told) {
+    let mut messages = StdSink::new(rt.stderr());
+    let status = match run_program(&rt, &mut messages) {
         Ok(status) => status,
-        Err(_) => refuse(rt.alloc(), RunError::Memory, &mut told),
+        Err(fault) => report_unread(fault, &mut messages),
     };
     ExitCode::from(status)
 }
 
-/// Runs the command line between what it reads and standard output, both buffered.
-fn run_program<E: Sink>(rt: &HostRuntime, told: &mut E) -> Result<u8, AllocError>
-    requires { E.failed told.old + 1 < 2 ^ 64 }
-    ensures { IfErr result (λ _. E.failed told.new ≡ E.failed told.old) }
+/// Runs the command line between what it reads and standard output, both buffered, and answers the
+/// exit status.
+fn run_program<E: Sink>(rt: &HostRuntime, messages: &mut E) -> Result<u8, Unread>
+    requires { E.failed messages.old + 1 < 2 ^ 64 }
+    ensures { IfErr result (λ _. E.failed messages.new ≡ E.failed messages.old) }
 {
-    let words = match env::args(rt) {
-        Ok(words) => words.skip(1),
-        Err(error) => match error.kind() {
-            ErrorKind::OutOfMemory => return Err(AllocError),
-            _ => return Ok(tell(told, NOT_UTF8, USAGE)),
-        },
-    };
-    let words: Vec<String> = words.collect(rt.alloc())?;
+    let words = words_of_line(rt)?;
     let words: Vec<&str> = words.iter().map(|word| word.as_str()).collect(rt.alloc())?;
     let mut sink = BufferedSink::new(rt.alloc(), StdSink::new(rt.stdout().lock()))?;
-    match job_of_words(rt.alloc(), &words) {
-        Ok(job) => {
-            let trouble = Cell::new(None);
-            let mut input = Preview::new(rt.alloc(), Input::new(rt, job.file, &trouble));
-            let advice = advice_on(rt, &job, &mut input)?;
-            let mut source = StdSource::new(input);
-            let status = run_job(rt.alloc(), &job, &mut source, &mut sink, told);
-            if let (Some(name), Some(error)) = (job.file, trouble.get()) {
-                eprintln!(rt; "aes3-spoil: {name}: {error}").unwrap_or(());
-            }
-            if let (REFUSED, Some(advice)) = (status, advice) {
-                eprintln!(rt; "aes3-spoil: {advice}").unwrap_or(());
-            }
-            Ok(status)
-        }
-        Err(LineFault::Usage { text }) => Ok(tell(told, text.as_str(), USAGE)),
-        Err(LineFault::Help { text }) => Ok(tell_help(rt, text.as_str(), &mut sink, told)),
-        Err(LineFault::Memory) => Err(AllocError),
-    }
+    let line = job_of_words(rt.alloc(), &words);
+    let file = file_of_line(&line);
+    let trouble = Cell::new(None);
+    let mut input = Preview::new(rt.alloc(), Input::new(rt, file, &trouble));
+    let advice = advice_on(rt, &line, &mut input)?;
+    let mut source = StdSource::new(input);
+    let status = run_line(line, &mut source, &mut sink, messages);
+    say_more(rt, file, trouble.get(), status, advice);
+    Ok(status)
 }
 
-/// What to do with the input of this job if it is refused, where a file is named or standard error is a
-/// terminal. Of another input nothing is read ahead.
-fn advice_on<R: Read + Drop>(
-    rt: &HostRuntime,
-    job: &Job<'_>,
-    input: &mut Preview<R>,
-) -> Result<Option<&'static str>, AllocError> {
-    if job.file.is_some() || rt.stderr().is_terminal() {
-        Ok(advice_by_looks(job.input, input.first(FIRST_LEN)?))
-    } else {
-        Ok(None)
-    }
-}
-
-/// Writes the text of help, and answers the exit status.
-fn tell_help<T: Sink, E: Sink>(rt: &HostRuntime, text: &str, sink: &mut T, told: &mut E) -> u8
-    requires sink_room { T.failed sink.old + 1 < 2 ^ 64 }
-    requires errors_room { E.failed told.old + 1 < 2 ^ 64 }
-{
-    let written = match write_all(sink, text.as_bytes()) {
-        Ok(()) => sink.flush(),
-        Err(fault) => Err(fault),
-    };
-    match written {
-        Ok(()) => DONE,
-        Err(_) => refuse(rt.alloc(), RunError::Write, told),
+/// The words of the command line after the program's name.
+fn words_of_line(rt: &HostRuntime) -> Result<Vec<String>, Unread> {
+    match env::args(rt) {
+        Ok(words) => Ok(words.skip(1).collect(rt.alloc())?),
+        Err(error) => match error.kind() {
+            ErrorKind::OutOfMemory => Err(Unread::Memory),
+            _ => Err(Unread::NotUtf8),
+        },
     }
 }

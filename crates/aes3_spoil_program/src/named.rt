@@ -1,6 +1,6 @@
 //! Errors by the options that ask for them.
 
-ghost use Rattle.std.specs.Prelude.{◌≡◌, ◌≤◌, ◌<◌, ◌^◌, ◌++◌, length, true, IsTrue};
+ghost use Rattle.std.specs.Prelude.{◌≡◌, ◌≤◌, ◌<◌, ◌+◌, ◌^◌, ◌++◌, length, true, IsFalse, IsTrue};
 ghost use Rattle.aes3_spoil.specs.Errors.{errors_of};
 ghost use Rattle.aes3_spoil_program.specs.Named.{errors_named, name_of, places_named};
 
@@ -82,6 +82,8 @@ impl NamedError {
     pub fn add(self, errors: &mut Errors, spot: Spot) -> bool
         ensures list { IsTrue result → errors_of errors.new
             ≡ errors_of errors.old ++ errors_named self spot.cell spot.slot }
+        ensures full { IsFalse result → 64 < length (errors_of errors.old)
+            + length (errors_named self spot.cell spot.slot) }
         ensures every { errors.new.every ≡ errors.old.every }
     {
         if errors.room() < self.places() {

@@ -240,7 +240,7 @@ fn passes_on_all(alloc: Global) -> Result<bool, AllocError> {
 fn tells_the_second_write(alloc: Global) -> Result<bool, AllocError> {
     let mut sink = BufferedSink::new(alloc, FailingSink::new(alloc, 2))?;
     let answer = put_through(&mut sink);
-    Ok(answer == Err(Fault) && are_lines(sink.sink().bytes(), 2_016))
+    Ok(answer == Err(Fault) && are_lines(sink.sink().bytes(), 1_008))
 }
 
 #[test]

@@ -1,13 +1,11 @@
 -- The lines of channel status, one behind the other.
-use Rattle.std.proofs.Common.{◌≡◌, ℕ, suc, ◌+◌, List, [], ◌∷◌, ◌++◌, Bool, true, false, length, Option, Some, None}
+use Rattle.std.proofs.Common.{◌≡◌, ℕ, suc, List, [], ◌∷◌, ◌++◌, Bool, true, false, length, Option, Some, None}
 use Rattle.std.proofs.Common.{refl, sym, ap}
 use Rattle.std.proofs.Common.{ap₂, ◌∙◌, subst, arith, append-nil, append_assoc, length-append, Result, Ok, Err, IfOk}
-use Rattle.std.proofs.Common.{OnErr}
 use Rattle.std.specs.List.{last_or}
 use Rattle.aes3_level.specs.declared.level.Level.{Level}
 use Rattle.aes3_cell.specs.declared.ends.Fault as device
-use Rattle.aes3_cell.specs.Ends.{Grew, GrewFront}
-use Rattle.aes3_cell.proofs.Growing.{grew-is, front-is}
+use Rattle.aes3_cell.specs.declared.form.Form.{Form}
 use Rattle.aes3_frame.specs.declared.status.Channel.{Channel}
 use Rattle.aes3_frame.specs.declared.status.Channel.TheVariants.{First, Second}
 use Rattle.aes3_frame.specs.Statuses.{status_of}
@@ -22,16 +20,17 @@ use Rattle.aes3_lock.specs.Reports.{blocks, decided, reports, wholes}
 use Rattle.aes3_lock.proofs.AllStanding.{wholes-append}
 use Rattle.aes3_input.specs.Taking.{before_end, with_end}
 use Rattle.aes3_input.proofs.Items.{before-is}
-use Rattle.aes3_runs.specs.Reporting.{reporting}
+use Rattle.aes3_input.specs.Driving.{counted_cells}
+use Rattle.aes3_input.proofs.CellRuns.{cells-give}
+use Rattle.aes3_input.proofs.InputRuns.{Gives}
 use Rattle.aes3_runs.specs.BlockRuns.{numbered}
-use Rattle.aes3_lock.specs.Tallies.{Tallies}
-use Rattle.aes3_runs.proofs.Reports.{before-reports, with-reports}
+use Rattle.aes3_runs.specs.ReportRuns.{counts_of, told_reports}
 use Rattle.aes3_settings.specs.declared.detail.Detail.{Detail}
 use Rattle.aes3_settings.specs.declared.detail.Detail.TheVariants.{Plain}
 use Rattle.aes3_settings.specs.StatusTexts.{status_text}
 use Rattle.aes3_lines.specs.StatusLines.{detail_text, head_text, status_line_with}
 use Rattle.aes3_text.specs.DetailLaws.{Behind}
-use Rattle.aes3_text.specs.Runs.{AreLast, Shows, block_changes, block_details, change_details, change_line}
+use Rattle.aes3_text.specs.Runs.{AreLast, block_changes, block_details, change_details, change_line}
 use Rattle.aes3_text.specs.Runs.{change_lines}
 use Rattle.aes3_text.specs.Runs.{changes_from, channel_line, channel_lines, detail_line, detail_lines, details_from}
 use Rattle.aes3_text.specs.Runs.{report_details, showing, status_in, status_lines, told}
@@ -66,19 +65,15 @@ with-shown : (ch : Bool) (d : Detail) (r : List Report) → with_end (showing ch
 unfolding with_end showing
 with-shown ch d r = ap (λ o. o ++ []) (before-shown ch d r) ∙ append-nil (details_from ch d [] r)
 
--- what cells write
-pub before-cells : (ch : Bool) (d : Detail) (c : List Level)
-    → before_end (reporting (showing ch d)) c ≡ details_from ch d [] (decided c)
-before-cells ch d c = before-reports (showing ch d) c ∙ before-shown ch d (decided c)
-
-pub with-cells : (ch : Bool) (d : Detail) (c : List Level)
-    → with_end (reporting (showing ch d)) c ≡ details_from ch d [] (reports c)
-with-cells ch d c = with-reports (showing ch d) c ∙ with-shown ch d (reports c)
-
--- before any cell there is no report
-pub nothing-decided : (P : List Report → Type 0) → P [] → P (decided [])
-unfolding decided
-nothing-decided P h = h
+-- the run
+pub gives-shown : {A : Type 0} (form : Form) {ch ch' : Bool} {d d' : Detail} (z : A → List Report → Type 0) → ch ≡ ch'
+    → d ≡ d'
+    → Gives (told_reports form (showing ch d) z) (counted_cells form (λ c. details_from ch' d' [] (reports c))
+    (λ c. details_from ch' d' [] (decided c)) (counts_of form))
+gives-shown form {ch} {ch'} {d} {d'} z p q =
+    cells-give form (λ c. details_from ch' d' [] (reports c)) (λ c. details_from ch' d' [] (decided c))
+    (λ c. with-shown ch d (reports c) ∙ ap₂ (λ u v. details_from u v [] (reports c)) p q)
+    (λ c. before-shown ch d (decided c) ∙ ap₂ (λ u v. details_from u v [] (decided c)) p q)
 
 -- the report of a lock's whole block
 pub told-whole : (k : LockState) {e : Ending} {at : ℕ} {l : Level} {words : List ℕ} {b : List (List Bool)}
@@ -116,7 +111,7 @@ abbrev pub shown : Bool → Detail → ℕ → ℕ → Option (List ℕ) → Opt
 shown ch d n at f s b =
     line_as ch d n at First b f (status_of b First) ++ line_as ch d n at Second b s (status_of b Second)
 
-whole-is : (ch : Bool) (d : Detail) {f s : Option (List ℕ)} {n : ℕ} (x : Report) {at : ℕ} {l : Level}
+pub whole-is : (ch : Bool) (d : Detail) {f s : Option (List ℕ)} {n : ℕ} (x : Report) {at : ℕ} {l : Level}
     {b : List (List Bool)}
     (bs : List (List (List Bool))) → x ≡ Whole at l b → AreLast f s bs → n ≡ length bs
     → shown ch d n at f s b ≡ report_details ch d bs x
@@ -125,24 +120,6 @@ whole-is ch d {f} {s} {n} x {at} {l} {b} bs e h k =
     ap (λ v. shown ch d v at f s b) k
     ∙ ap₂ (λ u v. shown ch d (length bs) at u v b) h.first_is h.second_is
     ∙ ap (report_details ch d bs) (sym e)
-
-pub whole-grew : (ch : Bool) (d : Detail) (result : Result (Unit {0}) device.Fault) (x : Report) {at : ℕ} {l : Level}
-    {b : List (List Bool)}
-    (f s : Option (List ℕ)) (n : ℕ) (t t' : Option (List ℕ)) → x ≡ Whole at l b
-    → IfOk result (λ (u : Unit {0}). Grew t t' (shown ch d n at f s b))
-    → IfOk result (λ (u : Unit {0}). (bs : List (List (List Bool))) → AreLast f s bs → n ≡ length bs
-    → Grew t t' (report_details ch d bs x))
-whole-grew ch d (Ok u) x f s n t t' e g = λ bs h k. grew-is (whole-is ch d x bs e h k) g
-whole-grew ch d (Err v) x f s n t t' e g = tt
-
-pub whole-front : (ch : Bool) (d : Detail) (result : Result (Unit {0}) device.Fault) (x : Report) {at : ℕ} {l : Level}
-    {b : List (List Bool)}
-    (f s : Option (List ℕ)) (n i j : ℕ) (t t' : Option (List ℕ)) → x ≡ Whole at l b
-    → OnErr result ((j ≡ i + 1) × GrewFront t t' (shown ch d n at f s b))
-    → OnErr result ((bs : List (List (List Bool))) → AreLast f s bs → n ≡ length bs
-    → GrewFront t t' (report_details ch d bs x))
-whole-front ch d (Ok u) x f s n i j t t' e g = tt
-whole-front ch d (Err v) x f s n i j t t' e g = λ bs h k. front-is (whole-is ch d x bs e h k) g.1
 
 -- what a report writes
 pub adds-is : (ch : Bool) (d : Detail) (r : List Report) (x : Report)
@@ -155,10 +132,9 @@ unfolding showing
 no-ends ch d r = refl
 
 -- one report more
-pub next-shown : {f' s' : Option (List ℕ)} {n' k' u' : ℕ} (r : List Report) (x : Report)
-    → AreLast f' s' (wholes r ++ wholes (x ∷ [])) → Tallies n' k' u' (r ++ x ∷ [])
-    → Shows f' s' n' k' u' (r ++ x ∷ [])
-next-shown {f'} {s'} r x h t = record { last = subst (AreLast f' s') (sym (wholes-append r (x ∷ []))) h; tally = t }
+pub next-last : {f s : Option (List ℕ)} (r : List Report) (x : Report) → AreLast f s (wholes r ++ wholes (x ∷ []))
+    → AreLast f s (wholes (r ++ x ∷ []))
+next-last {f} {s} r x h = subst (AreLast f s) (sym (wholes-append r (x ∷ []))) h
 
 -- with no detail the lines are those of blocks alone
 one-more : (bs : List (List (List Bool))) (b : List (List Bool)) → length (bs ++ b ∷ []) ≡ suc (length bs)

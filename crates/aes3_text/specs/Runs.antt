@@ -10,7 +10,6 @@ use Rattle.aes3_frame.specs.Statuses.{status_of}
 use Rattle.aes3_lock.specs.declared.report.Report.{Report}
 use Rattle.aes3_lock.specs.declared.report.Report.TheVariants.{Whole, Marked, Fault, Unfinished}
 use Rattle.aes3_lock.specs.Reports.{wholes}
-use Rattle.aes3_lock.specs.Tallies.{Tallies}
 use Rattle.aes3_input.specs.Taking.{Writing}
 use Rattle.aes3_runs.specs.BlockRuns.{numbered}
 use Rattle.aes3_settings.specs.declared.detail.Detail.{Detail}
@@ -91,11 +90,7 @@ change_details detail r = details_from true detail [] r
 unfoldable pub showing : Bool → Detail → Writing Report
 showing changes detail = record { adds = λ r x. report_details changes detail (wholes r) x; ends = λ r. [] }
 
--- the statuses of the last of blocks, if there is one; and with them the counters of the reports r
+-- the statuses of the last of blocks, if there is one
 pub record AreLast (first second : Option (List ℕ)) (bs : List (List (List Bool))) : Type 0 where
   pub first_is : first ≡ status_in First (last_or None bs)
   pub second_is : second ≡ status_in Second (last_or None bs)
-
-pub record Shows (first second : Option (List ℕ)) (blocks faults unfinished : ℕ) (r : List Report) : Type 0 where
-  pub last : AreLast first second (wholes r)
-  pub tally : Tallies blocks faults unfinished r

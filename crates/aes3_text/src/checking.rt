@@ -6,7 +6,7 @@ ghost use Rattle.aes3_lock.specs.Reports.{decided, reports};
 ghost use Rattle.aes3_input.specs.Driving.{CellRun};
 ghost use Rattle.aes3_input.specs.Inputs.{cells_of};
 ghost use Rattle.aes3_input.specs.Running.{movement_of};
-ghost use Rattle.aes3_runs.specs.ReportRuns.{counts_of};
+ghost use Rattle.aes3_runs.specs.ReportRuns.{counts_of, report_writing};
 ghost use Rattle.aes3_reports.specs.Lines.{told_line};
 ghost use Rattle.aes3_reports.specs.Lines.{report_lines};
 
@@ -14,7 +14,7 @@ use aes3_cell::{Counts, Fault, Form, RunError, Sink, Source};
 use aes3_lines::Lines;
 use aes3_lock::{Ending, Lock};
 use aes3_reports::tell_ending;
-use aes3_runs::{ReportWriter, run_reports};
+use aes3_runs::{Reporter, run_reports};
 
 /// Writes the line of each report that gets one.
 #[derive(Drop)]
@@ -22,14 +22,14 @@ struct ReportLines {
     lines: Lines,
 }
 
-impl ReportWriter for ReportLines {
-    ghost writes = { λ k _. told_line k.lines };
+impl Reporter for ReportLines {
+    ghost follows = { λ _ _. Unit {0} };
 
-    ghost ends = { λ _. [] };
+    ghost writes = { λ k. report_writing (λ _. told_line k.lines) [] };
 
     #[inline(always)]
     fn tell<T: Sink>(
-        &self,
+        &mut self,
         sink: &mut T,
         _blocks: u64,
         _lock: &Lock,
@@ -38,7 +38,7 @@ impl ReportWriter for ReportLines {
         tell_ending(self.lines, ending, sink)
     }
 
-    fn put_end<T: Sink>(&self, _sink: &mut T) -> Result<(), Fault> {
+    fn finish<T: Sink>(&self, _sink: &mut T) -> Result<(), Fault> {
         Ok(())
     }
 }
@@ -78,5 +78,6 @@ pub fn check<S: Source, T: Sink>(
         (movement_of T.taken T.failed sink.old sink.new) result }
     ensures passed_on { IfOk result (λ _. T.passed sink.new ≡ T.taken sink.new) }
 {
-    run_reports(source, sink, max_bytes, input, ReportLines { lines })
+    let (counts, _lines) = run_reports(source, sink, max_bytes, input, ReportLines { lines })?;
+    Ok(counts)
 }

@@ -12,9 +12,8 @@ ghost use Rattle.aes3_text.specs.Runs.{change_details, detail_lines, details_fro
 
 use crate::status_lines::StatusLines;
 use aes3_cell::{Counts, Form, RunError, Sink, Source};
-use aes3_input::drive;
 use aes3_lines::Detail;
-use aes3_runs::Locked;
+use aes3_runs::run_reports;
 
 /// Reads cells, and writes the lines of the blocks: all of them, or those of changes.
 ///
@@ -39,17 +38,9 @@ fn show_lines<S: Source, T: Sink>(
         (movement_of T.taken T.failed sink.old sink.new) result }
     ensures passed_on { IfOk result (λ _. T.passed sink.new ≡ T.taken sink.new) }
 {
-    let mut taker = Locked::new(StatusLines::new(detail, changes));
-    let (bytes, cells) = drive(source, sink, max_bytes, input, &mut taker)?;
-    let tally = &taker.reporter.tally;
-    Ok(Counts {
-        bytes,
-        cells,
-        blocks: tally.blocks,
-        faults: tally.faults,
-        unfinished: tally.unfinished,
-        marks: 0,
-    })
+    let lines = StatusLines::new(detail, changes);
+    let (counts, _lines) = run_reports(source, sink, max_bytes, input, lines)?;
+    Ok(counts)
 }
 
 /// Reads cells from any cell on, and writes two lines for each block that stands whole and closed

@@ -1,24 +1,29 @@
 //! A reporter that writes the channel status of blocks.
 
 ghost use Rattle.std.specs.Prelude.{◌≡◌, ◌+◌, ◌<◌, ◌^◌, ◌++◌, List, [], ◌∷◌, Bool, Some, length};
-ghost use Rattle.std.specs.Prelude.{IfOk, OnErr};
-ghost use Rattle.aes3_cell.specs.Ends.{Grew, GrewFront};
+ghost use Rattle.std.specs.Prelude.{IfOk};
 ghost use Rattle.aes3_cell.specs.Writes.{Wrote};
 ghost use Rattle.aes3_frame.specs.Statuses.{status_of};
 ghost use Rattle.aes3_frame.specs.declared.status.Channel.TheVariants as channel;
 ghost use Rattle.aes3_lines.specs.StatusLines.{detail_text, status_line_with};
 ghost use Rattle.aes3_lock.specs.Following.{report_in};
 ghost use Rattle.aes3_lock.specs.Reports.{wholes};
-ghost use Rattle.aes3_lock.specs.Tallies.{Tallies};
-ghost use Rattle.aes3_text.specs.Runs.{AreLast, Shows, report_details, showing, told};
+ghost use Rattle.aes3_text.specs.Runs.{AreLast, report_details, showing, told};
 
 use aes3_block::{Block, Channel};
 use aes3_cell::{Fault, Sink};
 use aes3_lines::{Detail, line_of_status_with, text_of_detail};
-use aes3_lock::{Ending, Lock, Tally};
+use aes3_lock::{Ending, Lock};
 use aes3_runs::Reporter;
 
-/// Writes the channel status of blocks, and counts reports.
+/// Where a block stands: its number, of blocks from 0, and the cell at which it begins.
+#[derive(Clone, Copy)]
+pub(crate) struct Place {
+    pub(crate) number: u64,
+    pub(crate) at: u64,
+}
+
+/// Writes the channel status of blocks.
 #[derive(Drop)]
 pub(crate) struct StatusLines {
     /// What stands behind a line.
@@ -28,7 +33,6 @@ pub(crate) struct StatusLines {
     /// The statuses of the block before, if there is one.
     pub(crate) first: Option<[u8; 24]>,
     pub(crate) second: Option<[u8; 24]>,
-    pub(crate) tally: Tally,
 }
 
 impl StatusLines {
@@ -36,27 +40,25 @@ impl StatusLines {
     pub(crate) fn new(detail: Detail, changes: bool) -> Self
         ensures detail { result.detail ≡ detail }
         ensures changes { result.changes ≡ changes }
-        ensures begun { Shows result.first result.second result.tally.blocks result.tally.faults
-            result.tally.unfinished [] }
+        ensures begun { AreLast result.first result.second [] }
     {
         StatusLines {
             detail,
             changes,
             first: None,
             second: None,
-            tally: Tally::new(),
         }
     }
 
-    /// Writes the line of a channel's status in a block at cell `at`, unless it is left out behind
-    /// the one before it.
+    /// Writes the line of a channel's status in a block, unless it is left out behind the one before
+    /// it.
     ///
     /// # Errors
     /// The sink's fault; then it has taken a front of the line.
     fn put_line<T: Sink>(
         &self,
         sink: &mut T,
-        at: u64,
+        place: Place,
         channel: Channel,
         block: &Block,
         before: Option<[u8; 24]>,
@@ -65,8 +67,8 @@ impl StatusLines {
         requires room { T.failed sink.old + 1 < 2 ^ 64 }
         ensures { Wrote T.taken T.failed sink.old sink.new
             (told self.now.changes before status.now
-            (status_line_with self.now.tally.blocks channel status.now
-            (detail_text self.now.detail channel at block.now))) result }
+            (status_line_with place.number channel status.now
+            (detail_text self.now.detail channel place.at block.now))) result }
     {
         if self.changes
             && let Some(before) = before
@@ -74,17 +76,16 @@ impl StatusLines {
         {
             return Ok(());
         }
-        let text = text_of_detail(self.detail, channel, at, block);
-        line_of_status_with(self.tally.blocks, channel, status, &text, sink)
+        let text = text_of_detail(self.detail, channel, place.at, block);
+        line_of_status_with(place.number, channel, status, &text, sink)
     }
 
-    /// Writes the lines of a block at cell `at`, and keeps its statuses.
+    /// Writes the lines of a block, and keeps its statuses.
     ///
     /// # Errors
     /// The sink's fault; then it has taken a front of the lines.
-    fn put_block<T: Sink>(&mut self, sink: &mut T, at: u64, block: &Block) -> Result<(), Fault>
+    fn put_block<T: Sink>(&mut self, sink: &mut T, place: Place, block: &Block) -> Result<(), Fault>
         requires room { T.failed sink.old + 1 < 2 ^ 64 }
-        ensures tally { self.new.tally ≡ self.old.tally }
         ensures detail { self.new.detail ≡ self.old.detail }
         ensures changes { self.new.changes ≡ self.old.changes }
         ensures first { IfOk result (λ _. self.new.first ≡ Some (status_of block.now channel.First)) }
@@ -92,16 +93,16 @@ impl StatusLines {
             ≡ Some (status_of block.now channel.Second)) }
         ensures wrote { Wrote T.taken T.failed sink.old sink.new
             (told self.old.changes self.old.first (status_of block.now channel.First)
-            (status_line_with self.old.tally.blocks channel.First (status_of block.now channel.First)
-            (detail_text self.old.detail channel.First at block.now))
+            (status_line_with place.number channel.First (status_of block.now channel.First)
+            (detail_text self.old.detail channel.First place.at block.now))
             ++ told self.old.changes self.old.second (status_of block.now channel.Second)
-            (status_line_with self.old.tally.blocks channel.Second (status_of block.now channel.Second)
-            (detail_text self.old.detail channel.Second at block.now))) result }
+            (status_line_with place.number channel.Second (status_of block.now channel.Second)
+            (detail_text self.old.detail channel.Second place.at block.now))) result }
     {
         let first = block.channel_status(Channel::First);
         let second = block.channel_status(Channel::Second);
-        self.put_line(sink, at, Channel::First, block, self.first, &first)?;
-        self.put_line(sink, at, Channel::Second, block, self.second, &second)?;
+        self.put_line(sink, place, Channel::First, block, self.first, &first)?;
+        self.put_line(sink, place, Channel::Second, block, self.second, &second)?;
         self.first = Some(first);
         self.second = Some(second);
         Ok(())
@@ -111,27 +112,29 @@ impl StatusLines {
     ///
     /// # Errors
     /// The sink's fault; then it has taken a front of the lines.
-    fn put<T: Sink>(&mut self, sink: &mut T, lock: &Lock, ending: Ending) -> Result<(), Fault>
+    fn put<T: Sink>(
+        &mut self,
+        sink: &mut T,
+        blocks: u64,
+        lock: &Lock,
+        ending: Ending,
+    ) -> Result<(), Fault>
         requires room { T.failed sink.old + 1 < 2 ^ 64 }
-        ensures tally { self.new.tally ≡ self.old.tally }
         ensures detail { self.new.detail ≡ self.old.detail }
         ensures changes { self.new.changes ≡ self.old.changes }
         ensures last { IfOk result (λ _. (bs : List (List (List Bool)))
             → AreLast self.old.first self.old.second bs
             → AreLast self.new.first self.new.second (bs ++ wholes (report_in lock.now ending ∷ []))) }
-        ensures lines { IfOk result (λ _. (bs : List (List (List Bool)))
-            → AreLast self.old.first self.old.second bs → self.old.tally.blocks ≡ length bs
-            → Grew (T.taken sink.old) (T.taken sink.new)
-            (report_details self.old.changes self.old.detail bs (report_in lock.now ending))) }
-        ensures count { IfOk result (λ _. T.failed sink.new ≡ T.failed sink.old) }
-        ensures err_count { OnErr result (T.failed sink.new ≡ T.failed sink.old + 1) }
-        ensures err_lines { OnErr result ((bs : List (List (List Bool)))
-            → AreLast self.old.first self.old.second bs → self.old.tally.blocks ≡ length bs
-            → GrewFront (T.taken sink.old) (T.taken sink.new)
-            (report_details self.old.changes self.old.detail bs (report_in lock.now ending))) }
+        ensures wrote { (bs : List (List (List Bool)))
+            → AreLast self.old.first self.old.second bs → blocks ≡ length bs
+            → Wrote T.taken T.failed sink.old sink.new
+            (report_details self.old.changes self.old.detail bs (report_in lock.now ending)) result }
     {
         match ending {
-            Ending::Whole { at, .. } => self.put_block(sink, at, &lock.gathered().block()),
+            Ending::Whole { at, .. } => {
+                let place = Place { number: blocks, at };
+                self.put_block(sink, place, &lock.gathered().block())
+            }
             Ending::Marked { .. } => Ok(()),
             Ending::Fault { .. } => Ok(()),
             Ending::Unfinished { .. } => Ok(()),
@@ -140,20 +143,21 @@ impl StatusLines {
 }
 
 impl Reporter for StatusLines {
-    ghost follows = { λ k.
-        Shows k.first k.second k.tally.blocks k.tally.faults k.tally.unfinished };
+    ghost follows = { λ k r. AreLast k.first k.second (wholes r) };
 
     ghost writes = { λ k. showing k.changes k.detail };
 
-    ghost finished = { λ k. Tallies k.tally.blocks k.tally.faults k.tally.unfinished };
-
-    fn tell<T: Sink>(&mut self, sink: &mut T, lock: &Lock, ending: Ending) -> Result<(), Fault> {
-        self.put(sink, lock, ending)?;
-        self.tally.count(lock, ending);
-        Ok(())
+    fn tell<T: Sink>(
+        &mut self,
+        sink: &mut T,
+        blocks: u64,
+        lock: &Lock,
+        ending: Ending,
+    ) -> Result<(), Fault> {
+        self.put(sink, blocks, lock, ending)
     }
 
-    fn finish<T: Sink>(&mut self, _sink: &mut T) -> Result<(), Fault> {
+    fn finish<T: Sink>(&self, _sink: &mut T) -> Result<(), Fault> {
         Ok(())
     }
 }

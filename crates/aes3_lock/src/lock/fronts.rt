@@ -166,7 +166,7 @@ impl Lock {
 
     /// Takes the first cells of a word, at most `len`, as far as `search` or `go_on` does.
     #[inline(always)]
-    fn step(&mut self, word: u64, len: u32) -> Pushed
+    pub(crate) fn step(&mut self, word: u64, len: u32) -> Pushed
         requires room { self.old.seen + len ≤ 2 ^ 43 }
         requires len { len ≤ 64 }
         requires some { 0 < len }

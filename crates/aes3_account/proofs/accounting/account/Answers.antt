@@ -1,52 +1,29 @@
-use Rattle.std.proofs.Common.{◌≡◌, ◌+◌, ap, ◌∙◌, arith, rules}
+use Rattle.std.proofs.Common.{Ok, arith, rules}
 use Rattle.std.proofs.lemmas.Result.{err_from_is_err_and}
-use Rattle.aes3_input.proofs.InputRuns.{run-told}
-use Rattle.aes3_input.proofs.CellRuns.{drove-ok, drove-err}
-use Rattle.aes3_gaps.specs.Gaps.{account, begun_account}
-use Rattle.aes3_account.specs.Accounting.{account_counts}
-use Rattle.aes3_account.specs.GapLines.{account_lines}
-use Rattle.aes3_account.proofs.Accounts.{before-account, with-account, counted, drive-room}
+use Rattle.aes3_input.proofs.InputRuns.{run-err, run-ok, run-wrote}
+use Rattle.aes3_account.specs.Accounting.{IsClosedLedgerOf}
+use Rattle.aes3_account.proofs.Accounts.{counted, gives-account, sum-room}
 use Rattle.aes3_account.proofs.accounting.account.Goals as goal
+
+pub run_cells-requires-clause-start : goal.run_cells-requires-clause-start
+run_cells-requires-clause-start g c = c.new.ensures.none
 
 pub overflow_add-result : goal.overflow_add-result
 overflow_add-result g c =
-    let t = c.drive.new.taker.reporter in
-    let r = drive-room t.lost t.tally.blocks t.tally.faults t.tally.unfinished c.in_ok-bytes.ensures.ran in
-    omega arith
+    let r = c.in_ok-counts.ensures.ran in
+    let l = sum-room c.args.input r.bytes r.ran.1.0 r.ran.1.1 in
+    omega (arith, l)
 
 pub returns-clause-run : goal.returns-clause-run
 returns-clause-run g c =
-    let t = c.drive.new.taker.reporter in
-    let l = c.new-taker.result.reporter.lines in
-    let lines : l ≡ c.args.lines =
-    search (rules, ap (λ k. k.lines) c.new-taker.ensures.reporter ∙ c.new.ensures.lines) in
-    drove-ok (λ d. account_lines c.args.lines (account d)) (λ d. account_lines c.args.lines (begun_account d))
-    (account_counts c.args.input)
-    (record {
-      bytes = c.in_ok-bytes.bytes;
-      cells = c.in_ok-bytes.cells;
-      blocks = t.tally.blocks;
-      faults
-          = t.tally.faults + t.lost;
-      unfinished = t.tally.unfinished;
-      marks = 0;
-    })
-    (λ d. with-account l d ∙ ap (λ v. account_lines v (account d)) lines)
-    (λ d. before-account l d ∙ ap (λ v. account_lines v (begun_account d)) lines)
-    (λ b e f h. counted c.args.input b c.in_ok-bytes.bytes c.in_ok-bytes.cells t.lost t.tally.blocks t.tally.faults
-    t.tally.unfinished e f h) c.in_ok-bytes.ensures.ran
+    run-ok (gives-account c.args.input IsClosedLedgerOf (search (rules, c.new.ensures.lines)))
+    (λ b i h. search (rules, counted c.args.input b h.0 h.1)) c.in_ok-counts.ensures.ran
 
 pub returns-clause-lines : goal.returns-clause-lines
-returns-clause-lines g c = λ b t. (run-told (returns-clause-run g c) b t).4
+returns-clause-lines g c = run-wrote (Ok _) (returns-clause-run g c)
 
-pub returns-in_err-bytes-clause-run : goal.returns-in_err-bytes-clause-run
-returns-in_err-bytes-clause-run g c =
-    let l = c.new-taker.result.reporter.lines in
-    let lines : l ≡ c.args.lines =
-    search (rules, ap (λ k. k.lines) c.new-taker.ensures.reporter ∙ c.new.ensures.lines) in
+pub returns-in_err-counts-clause-run : goal.returns-in_err-counts-clause-run
+returns-in_err-counts-clause-run g c =
     let error = err_from_is_err_and c.from_residual.result c.from_residual.ensures.1 in
-    rw (error.1, error.2) (drove-err (λ d. account_lines c.args.lines (account d))
-    (λ d. account_lines c.args.lines (begun_account d))
-    (account_counts c.args.input)
-    (λ d. with-account l d ∙ ap (λ v. account_lines v (account d)) lines)
-    (λ d. before-account l d ∙ ap (λ v. account_lines v (begun_account d)) lines) c.in_err-bytes.ensures.ran)
+    rw (error.1, error.2) (run-err (gives-account c.args.input IsClosedLedgerOf (search (rules, c.new.ensures.lines)))
+    c.in_err-counts.ensures.ran)

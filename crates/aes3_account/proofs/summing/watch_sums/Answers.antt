@@ -1,54 +1,31 @@
-use Rattle.std.proofs.Common.{◌+◌, ◌≡◌, ◌<◌, ◌∙◌, ap, ap₂, arith}
+use Rattle.std.proofs.Common.{Ok, arith, rules}
 use Rattle.std.proofs.lemmas.Result.{err_from_is_err_and}
-use Rattle.aes3_input.proofs.InputRuns.{run-told}
-use Rattle.aes3_input.proofs.CellRuns.{drove-ok, drove-err}
-use Rattle.aes3_account.specs.Sums.{begun_sums, sum_lines}
-use Rattle.aes3_account.specs.Watching.{watch_counts}
+use Rattle.aes3_input.proofs.InputRuns.{run-err, run-ok, run-wrote}
+use Rattle.aes3_account.specs.Watching.{Ended}
 use Rattle.aes3_account.proofs.WatchedCells.{watch-counted, watch-room}
-use Rattle.aes3_account.proofs.Sums.{before-sums, with-sums}
+use Rattle.aes3_account.proofs.SumWrites.{gives-sums}
 use Rattle.aes3_account.proofs.summing.watch_sums.Goals as goal
+
+pub run_cells-requires-clause-start : goal.run_cells-requires-clause-start
+run_cells-requires-clause-start g c = c.new-summer.ensures.none
 
 pub overflow_add-result : goal.overflow_add-result
 overflow_add-result g c =
-    let t = c.drive.new.taker.reporter.watcher in
-    let r = watch-room t.state.losses t.tally.blocks t.tally.faults t.tally.unfinished c.in_ok-bytes.ensures.ran in
-    omega arith
+    let r = c.in_ok-counts.ensures.ran in
+    let l = watch-room c.args.input r.bytes r.ran.1.0 r.ran.1.1 in
+    omega (arith, l)
 
 pub returns-clause-run : goal.returns-clause-run
 returns-clause-run g c =
-    let t = c.drive.new.taker.reporter.watcher in
-    let r = c.new-taker.result.reporter in
-    let l = t.state.losses in
-    let style = ap (λ k. k.watcher.style) c.new-taker.ensures.reporter ∙ c.new.ensures.style in
-    let every : r.every ≡ c.args.every = ap (λ k. k.every) c.new-taker.ensures.reporter ∙ c.new.ensures.every in
-    let some : 0 < r.every = let h = c.requires.some in omega arith in
-    drove-ok (sum_lines c.args.style c.args.every) (begun_sums c.args.style c.args.every) (watch_counts c.args.input)
-    (record {
-      bytes = c.in_ok-bytes.bytes;
-      cells = c.in_ok-bytes.cells;
-      blocks = t.tally.blocks;
-      faults
-          = t.tally.faults + l;
-      unfinished = t.tally.unfinished;
-      marks = 0;
-    })
-    (λ d. with-sums r.watcher.style r.every d some ∙ ap₂ (λ v n. sum_lines v n d) style every)
-    (λ d. before-sums r.watcher.style r.every d some ∙ ap₂ (λ v n. begun_sums v n d) style every)
-    (λ b e f h. watch-counted c.args.input b c.in_ok-bytes.bytes c.in_ok-bytes.cells l t.tally.blocks t.tally.faults
-    t.tally.unfinished e f h) c.in_ok-bytes.ensures.ran
+    run-ok (gives-sums c.args.input (λ k. Ended k.watcher.state.losses) c.requires.some c.new-summer.ensures.style
+    c.new-summer.ensures.every) (λ b i h. search (rules, watch-counted c.args.input b h.0 h.1))
+    c.in_ok-counts.ensures.ran
 
 pub returns-clause-lines : goal.returns-clause-lines
-returns-clause-lines g c = λ b t. (run-told (returns-clause-run g c) b t).4
+returns-clause-lines g c = run-wrote (Ok _) (returns-clause-run g c)
 
-pub returns-in_err-bytes-clause-run : goal.returns-in_err-bytes-clause-run
-returns-in_err-bytes-clause-run g c =
-    let r = c.new-taker.result.reporter in
-    let style = ap (λ k. k.watcher.style) c.new-taker.ensures.reporter ∙ c.new.ensures.style in
-    let every : r.every ≡ c.args.every = ap (λ k. k.every) c.new-taker.ensures.reporter ∙ c.new.ensures.every in
-    let some : 0 < r.every = let h = c.requires.some in omega arith in
+pub returns-in_err-counts-clause-run : goal.returns-in_err-counts-clause-run
+returns-in_err-counts-clause-run g c =
     let error = err_from_is_err_and c.from_residual.result c.from_residual.ensures.1 in
-    rw (error.1, error.2) (drove-err (sum_lines c.args.style c.args.every)
-    (begun_sums c.args.style c.args.every) (watch_counts c.args.input)
-    (λ d. with-sums r.watcher.style r.every d some ∙ ap₂ (λ v n. sum_lines v n d) style every)
-    (λ d. before-sums r.watcher.style r.every d some ∙ ap₂ (λ v n. begun_sums v n d) style every)
-    c.in_err-bytes.ensures.ran)
+    rw (error.1, error.2) (run-err (gives-sums c.args.input (λ k. Ended k.watcher.state.losses) c.requires.some
+    c.new-summer.ensures.style c.new-summer.ensures.every) c.in_err-counts.ensures.ran)

@@ -1,5 +1,5 @@
 use Rattle.std.proofs.Common.{IfErr, IfOk, rules, sym, subst}
-use Rattle.aes3_arguments.specs.Jobs.{AsksFor, IsBadOptionOf, options_of}
+use Rattle.aes3_arguments.specs.Jobs.{AsksFor, AsksToRead, IsBadOptionOf, options_of}
 use Rattle.aes3_arguments.proofs.CarriedOptions.{bits_stand, channel_stands}
 use Rattle.aes3_arguments.proofs.Misuses.{no_unknown_bits}
 use Rattle.aes3_arguments.proofs.TakenLines.{numbers_stand}
@@ -28,30 +28,30 @@ check-requires-clause-gaps c =
 
 pub returns-in-check-clause-job : goal.returns-in-check-clause-job
 returns-in-check-clause-job c
-    = subst (λ n. AsksFor n (options_of c.args.options.now) c.check.result) (sym c.in-check.is) c.check.ensures
+    = (c.input_form-input.ensures, subst (λ n. AsksToRead n (options_of c.args.options.now) c.check.result) (sym c.in-check.is) c.check.ensures)
 
-pub watch-requires-clause-taken : goal.watch-requires-clause-taken
-watch-requires-clause-taken c =
+pub watch-requires : goal.watch-requires
+watch-requires c =
     options_taken c.requires.stands.0 c.args.name.now (options_of c.args.options.now) c.requires.stands.1
 
 pub returns-in-watch-clause-job : goal.returns-in-watch-clause-job
 returns-in-watch-clause-job c
-    = subst (λ n. AsksFor n (options_of c.args.options.now) c.watch.result) (sym c.in-watch.is) c.watch.ensures
+    = (c.input_form-input.ensures, subst (λ n. AsksToRead n (options_of c.args.options.now) c.watch.result) (sym c.in-watch.is) c.watch.ensures)
 
 pub notation-requires : goal.notation-requires
 notation-requires c =
     (options_taken c.requires.stands.0 c.args.name.now (options_of c.args.options.now) c.requires.stands.1).json
 
 pub returns-in-info-clause-job : goal.returns-in-info-clause-job
-returns-in-info-clause-job c = (c.in-info.is, c.input_form-input.ensures, search (rules, c.notation.ensures))
+returns-in-info-clause-job c = (c.input_form-input.ensures, (c.in-info.is, search (rules, c.notation.ensures)))
 
-pub show-requires-clause-taken : goal.show-requires-clause-taken
-show-requires-clause-taken c =
+pub show-requires : goal.show-requires
+show-requires c =
     options_taken c.requires.stands.0 c.args.name.now (options_of c.args.options.now) c.requires.stands.1
 
 pub returns-in-show-clause-job : goal.returns-in-show-clause-job
 returns-in-show-clause-job c
-    = subst (λ n. AsksFor n (options_of c.args.options.now) c.show.result) (sym c.in-show.is) c.show.ensures
+    = (c.input_form-input.ensures, subst (λ n. AsksToRead n (options_of c.args.options.now) c.show.result) (sym c.in-show.is) c.show.ensures)
 
 pub number-requires : goal.number-requires
 number-requires c = (numbers_stand c.requires.stands.0 c.args.name.now (options_of c.args.options.now)
@@ -61,8 +61,8 @@ pub number-requires-in-cut : goal.number-requires-in-cut
 number-requires-in-cut c = (numbers_stand c.requires.stands.0 c.args.name.now (options_of c.args.options.now)
     c.requires.stands.1 c.in-cut.is).1
 
-pub to_pcm-requires-clause-taken : goal.to_pcm-requires-clause-taken
-to_pcm-requires-clause-taken c =
+pub to_pcm-requires : goal.to_pcm-requires
+to_pcm-requires c =
     options_taken c.requires.stands.0 c.args.name.now (options_of c.args.options.now) c.requires.stands.1
 
 pub from_pcm-requires : goal.from_pcm-requires
@@ -105,22 +105,22 @@ pub returns-in-encode-clause-job : goal.returns-in-encode-clause-job
 returns-in-encode-clause-job c = (c.in-encode.is, c.form-output.ensures, c.words.ensures)
 
 pub returns-in-decode-clause-job : goal.returns-in-decode-clause-job
-returns-in-decode-clause-job c = (c.in-decode.is, c.input_form-input.ensures, c.words-in-decode.ensures)
+returns-in-decode-clause-job c = (c.input_form-input.ensures, (c.in-decode.is, c.words-in-decode.ensures))
 
 pub returns-in-normal-clause-job : goal.returns-in-normal-clause-job
-returns-in-normal-clause-job c = (c.in-normal.is, c.input_form-input.ensures, c.form-output.ensures)
+returns-in-normal-clause-job c = (c.input_form-input.ensures, c.form-output.ensures, c.in-normal.is)
 
 pub returns-in-scan-clause-job : goal.returns-in-scan-clause-job
-returns-in-scan-clause-job c = (c.in-scan.is, c.input_form-input.ensures)
+returns-in-scan-clause-job c = (c.input_form-input.ensures, c.in-scan.is)
 
 pub returns-in-text-clause-job : goal.returns-in-text-clause-job
 returns-in-text-clause-job c =
-    subst (λ n. AsksFor n (options_of c.args.options.now) c.to_pcm.result) (sym c.in-text.is) c.to_pcm.ensures
+    (c.input_form-input.ensures, subst (λ n. AsksToRead n (options_of c.args.options.now) c.to_pcm.result) (sym c.in-text.is) c.to_pcm.ensures)
 
 pub returns-in-cut-clause-job : goal.returns-in-cut-clause-job
 returns-in-cut-clause-job c =
-    (c.in-cut.is, c.input_form-input.ensures, c.form-output.ensures, c.number.ensures, c.number-in-cut.ensures)
+    (c.input_form-input.ensures, c.form-output.ensures, (c.in-cut.is, c.number.ensures, c.number-in-cut.ensures))
 
 pub returns-in-text-3-clause-job : goal.returns-in-text-3-clause-job
 returns-in-text-3-clause-job c =
-    subst (λ n. AsksFor n (options_of c.args.options.now) c.to_bits.result) (sym c.in-text-3.is) c.to_bits.ensures
+    (c.input_form-input.ensures, subst (λ n. AsksToRead n (options_of c.args.options.now) c.to_bits.result) (sym c.in-text-3.is) c.to_bits.ensures)

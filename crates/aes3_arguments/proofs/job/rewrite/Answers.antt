@@ -6,7 +6,7 @@ flag-exact-requires c = c.requires.taken.exact
 
 pub returns-in-Ok-clause-job : goal.returns-in-Ok-clause-job
 returns-in-Ok-clause-job c =
-    (refl, c.requires.input, c.requires.output, c.in-Ok.ensures.change, c.flag-exact.ensures)
+    (c.requires.input, c.requires.output, (refl, c.in-Ok.ensures.change, c.flag-exact.ensures))
 
 pub returns-in-Err-clause-fault : goal.returns-in-Err-clause-fault
 returns-in-Err-clause-fault c = inl (refl, c.in-Err.ensures.fault)

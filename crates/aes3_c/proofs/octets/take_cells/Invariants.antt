@@ -1,18 +1,12 @@
-use Rattle.std.proofs.Common.{◌≡◌, ◌+◌, ◌-◌, ◌≤◌, ◌++◌, List}
-use Rattle.aes3_level.specs.declared.level.Level.{Level}
-use Rattle.aes3_lock.specs.Reports.{decided}
-use Rattle.aes3_lock.specs.Following.{Follows}
-use Rattle.aes3_c.specs.Octets.{cells_from}
+use Rattle.std.proofs.Common.{◌-◌, ◌≤◌, drop}
+use Rattle.aes3_cell.specs.Packed.{cells_of_octets}
+use Rattle.aes3_c.specs.Taking.{TookQuiet}
 use Rattle.aes3_c.proofs.octets.take_cells.Given as goal
 
 abbrev pub invariant-loop-taken : goal.invariant-loop-taken
 invariant-loop-taken l = record {
   within : l.taken ≤ l.len;
-  seen : l.state.seen ≡ l.fn.state.seen + l.taken;
-  follows : (cells : List Level) → Follows l.fn.state cells
-      → Follows l.state (cells ++ cells_from l.octets l.first l.taken);
-  none : (cells : List Level) → Follows l.fn.state cells
-      → decided (cells ++ cells_from l.octets l.first l.taken) ≡ decided cells;
+  quiet : TookQuiet l.fn.state l.state (drop l.first (cells_of_octets l.octets)) l.taken;
 }
 
 abbrev pub decreases-loop-taken : goal.decreases-loop-taken

@@ -1,12 +1,11 @@
-use Rattle.std.proofs.Common.{◌≡◌, ℕ, ◌+◌, ◌-◌, ◌*◌, ◌/◌, ◌%◌, ◌≤◌, ◌++◌, List, length, take, drop, subst, arith, sym}
-use Rattle.std.proofs.Common.{ap, ◌∙◌}
-use Rattle.std.specs.List.{between}
+use Rattle.std.proofs.Common.{◌≡◌, ℕ, ◌+◌, ◌*◌, ◌/◌, ◌%◌, ◌<◌, ◌≤◌, [], ◌∷◌, List, length, take, drop, arith, ap, ◌∙◌}
+use Rattle.std.specs.List.{between, flat_map}
 use Rattle.std.proofs.lemmas.List.{drop-take, length-drop, length-take-le}
 use Rattle.std.proofs.lemmas.Slice.{between_is}
-use Rattle.aes3_level.specs.declared.level.Level.{Level}
+use Rattle.aes3_level.specs.Words.{word_cells}
+use Rattle.aes3_level.proofs.CellsIn.{front-from}
 use Rattle.aes3_cell.specs.Packed.{cells_of_octets}
-use Rattle.aes3_lock.specs.Reports.{decided}
-use Rattle.aes3_lock.specs.Following.{Follows}
+use Rattle.aes3_c.proofs.TakenFronts.{took-same}
 use Rattle.aes3_c.specs.Octets.{cells_from}
 use Rattle.aes3_c.proofs.OctetCells.{cells-of-front}
 use Rattle.aes3_c.proofs.octets.take_some.Goals as goal
@@ -24,30 +23,45 @@ len-here octets i m h =
     let d = length-drop i octets in
     ap length (between_is octets i (i + m) ∙ drop-take i m octets) ∙ length-take-le m (drop i octets) (omega (arith, d))
 
-pub returns-then-len-ge64-clause-follows : goal.returns-then-len-ge64-clause-follows
-returns-then-len-ge64-clause-follows c = λ l f.
+pub returns-then-len-ge64-clause-some : goal.returns-then-len-ge64-clause-some
+returns-then-len-ge64-clause-some c =
     let count = c.min-count.ensures in
-    let m = 8 * c.min-count.result in
-    let w = c.take_words_of.ensures.within in
-    let n = len-here c.args.octets.now (c.args.at / 8) m (omega (arith, count)) in
-    subst (λ (d : List Level). Follows c.take_words_of.new.state (l ++ d))
-    (here c.args.octets.now c.args.at m c.take_words_of.result.cells c.if-at-eq0.true (omega (arith, count))
-    (omega (arith, w, n))) (c.take_words_of.ensures.follows l f)
+    let n = len-here c.args.octets.now (c.args.at / 8) (8 * c.min-count.result) (omega (arith, count)) in
+    c.take_words_of.ensures.some (omega (arith, count, n))
 
-pub returns-then-len-ge64-clause-report : goal.returns-then-len-ge64-clause-report
-returns-then-len-ge64-clause-report c = λ l f.
+pub returns-then-len-ge64-clause-within : goal.returns-then-len-ge64-clause-within
+returns-then-len-ge64-clause-within c =
     let count = c.min-count.ensures in
-    let m = 8 * c.min-count.result in
     let w = c.take_words_of.ensures.within in
-    let n = len-here c.args.octets.now (c.args.at / 8) m (omega (arith, count)) in
-    ap (λ d. decided (l ++ d)) (sym (here c.args.octets.now c.args.at m c.take_words_of.result.cells c.if-at-eq0.true
-    (omega (arith, count)) (omega (arith, w, n)))) ∙ c.take_words_of.ensures.report l f
+    let n = len-here c.args.octets.now (c.args.at / 8) (8 * c.min-count.result) (omega (arith, count)) in
+    omega (arith, count, w, n)
 
-pub returns-then-len-ge64-clause-last : goal.returns-then-len-ge64-clause-last
-returns-then-len-ge64-clause-last c = λ ended l f.
+pub returns-then-len-ge64-clause-took : goal.returns-then-len-ge64-clause-took
+returns-then-len-ge64-clause-took c =
+    let octets = c.args.octets.now in
     let count = c.min-count.ensures in
     let m = 8 * c.min-count.result in
-    let w = c.take_words_of.ensures.within in
-    let n = len-here c.args.octets.now (c.args.at / 8) m (omega (arith, count)) in
-    ap (λ d. decided (l ++ d)) (sym (here c.args.octets.now c.args.at m (c.take_words_of.result.cells - 1)
-    c.if-at-eq0.true (omega (arith, count)) (omega (arith, w, n)))) ∙ c.take_words_of.ensures.last ended l f
+    let len = len-here octets (c.args.at / 8) m (omega (arith, count)) in
+    took-same c.args.state.now c.take_words_of.new.state _ (drop c.args.at (cells_of_octets octets)) _
+    c.take_words_of.result c.take_words_of.ensures
+    (λ n few. here octets c.args.at m n c.if-at-eq0.true (omega (arith, count)) (omega (arith, few, len)))
+
+pub returns-clause-some : goal.returns-clause-some
+returns-clause-some c =
+    let most = c.min-most.ensures in
+    c.take_first.ensures.some (omega (arith, most))
+
+pub returns-clause-within : goal.returns-clause-within
+returns-clause-within c =
+    let most = c.min-most.ensures in
+    let w = c.take_first.ensures.within in
+    omega (arith, most, w)
+
+pub returns-clause-took : goal.returns-clause-took
+returns-clause-took c =
+    let most = c.min-most.ensures in
+    let w = c.word_from.result in
+    took-same c.args.state.now c.take_first.new.state (flat_map word_cells (w ∷ []))
+    (drop c.args.at (cells_of_octets c.args.octets.now)) c.min-most.result c.take_first.result c.take_first.ensures
+    (λ n few. front-from (w ∷ []) 0 n (let h : 0 < 1 = omega arith in h) (omega (arith, most, few))
+    ∙ c.word_from.ensures n (omega (arith, most, few)) (omega (arith, most, few)))

@@ -3,13 +3,13 @@ use Rattle.std.proofs.Common.{◌∙◌}
 use Rattle.std.specs.Prelude.{Option, option_to_list}
 use Rattle.std.proofs.lemmas.Slice.{between_to_end}
 use Rattle.aes3_level.specs.declared.level.Level.{Level}
+use Rattle.aes3_level.specs.Words.{cells_in}
+use Rattle.aes3_level.proofs.CellsIn.{words-behind}
 use Rattle.aes3_slot.specs.ReadWords.{read_words}
 use Rattle.aes3_lock.specs.Reports.{decided}
 use Rattle.aes3_lock.specs.declared.report.Report.{Report}
-use Rattle.aes3_lock.specs.Following.{Follows, LockState}
-use Rattle.aes3_c.specs.Octets.{cells_in}
-use Rattle.aes3_c.specs.States.{Coded, block_in, told_of}
-use Rattle.aes3_c.proofs.OctetCells.{words-behind}
+use Rattle.aes3_lock.specs.Following.{Follows}
+use Rattle.aes3_c.specs.States.{Coded, state_of}
 use Rattle.aes3_c.proofs.Told.{coded-none, ending-told, none-told-of}
 use Rattle.aes3_c.proofs.words.aes3_lock_take_cells.Goals as goal
 
@@ -37,10 +37,8 @@ returns-clause-follows c = λ l f.
     let some = c.if-len-eq0.false in
     let rest = between_to_end words (first / 64) (length words) (omega arith) in
     let path = ap (λ o. cells_in o (first % 64) n) rest ∙ there words first n (omega (arith, len, some)) in
-    let before = subst (λ (k : LockState). Follows k l) (sym c.lock_of-state.ensures) f in
-    subst (λ (k : LockState). Follows k (l ++ cells_in words first n)) (sym c.keep.ensures)
-    (subst (λ (d : List Level). Follows c.take_cells-taken.new.state (l ++ d)) path
-    (c.take_cells-taken.ensures.follows l before))
+    subst (λ (d : List Level). Follows (state_of c.take_cells-taken.new.lock) (l ++ d)) path
+    (c.take_cells-taken.ensures.follows l f)
 
 pub returns-clause-report : goal.returns-clause-report
 returns-clause-report c = λ l f.
@@ -51,12 +49,9 @@ returns-clause-report c = λ l f.
     let some = c.if-len-eq0.false in
     let rest = between_to_end words (first / 64) (length words) (omega arith) in
     let path = ap (λ o. cells_in o (first % 64) n) rest ∙ there words first n (omega (arith, len, some)) in
-    let before = subst (λ (k : LockState). Follows k l) (sym c.lock_of-state.ensures) f in
-    let slots = read_words c.take_cells-taken.new.state.words in
-    let told = ap (λ (k : LockState). told_of (block_in k) c.put_ending-2.new.out) c.keep.ensures
-    ∙ c.put_ending-2.ensures.told slots in
-    ap (λ d. decided (l ++ d)) (sym path) ∙ c.take_cells-taken.ensures.report l before
-    ∙ ap (λ o. decided l ++ option_to_list o) (sym told)
+    ap (λ d. decided (l ++ d)) (sym path) ∙ c.take_cells-taken.ensures.report l f
+    ∙ ap (λ o. decided l ++ option_to_list o) (sym (c.put_ending-2.ensures.told
+    (read_words c.take_cells-taken.new.lock.words)))
 
 pub returns-clause-last : goal.returns-clause-last
 returns-clause-last c = λ told l f.
@@ -67,14 +62,12 @@ returns-clause-last c = λ told l f.
     let some = c.if-len-eq0.false in
     let rest = between_to_end words (first / 64) (length words) (omega arith) in
     let path = ap (λ o. cells_in o (first % 64) n) rest ∙ there words first n (omega (arith, len, some)) in
-    let before = subst (λ (k : LockState). Follows k l) (sym c.lock_of-state.ensures) f in
     let ended = none-told-of _ c.put_ending-2.new.out c.take_cells-taken.result.ending told
     (c.put_ending-2.ensures.codes []) in
-    ap (λ d. decided (l ++ d)) (sym path) ∙ c.take_cells-taken.ensures.last ended l before
+    ap (λ d. decided (l ++ d)) (sym path) ∙ c.take_cells-taken.ensures.last ended l f
 
 pub returns-clause-codes : goal.returns-clause-codes
 returns-clause-codes c =
-    let slots = read_words c.take_cells-taken.new.state.words in
-    let told = ap (λ (k : LockState). told_of (block_in k) c.put_ending-2.new.out) c.keep.ensures
-    ∙ c.put_ending-2.ensures.told slots in
-    subst (λ (o : Option Report). Coded o c.put_ending-2.new.out) (sym told) (c.put_ending-2.ensures.codes slots)
+    let slots = read_words c.take_cells-taken.new.lock.words in
+    subst (λ (o : Option Report). Coded o c.put_ending-2.new.out) (sym (c.put_ending-2.ensures.told slots))
+    (c.put_ending-2.ensures.codes slots)

@@ -1,29 +1,20 @@
-use Rattle.std.proofs.Common.{refl, ap, ◌∙◌, false, arith}
-use Rattle.aes3_runs.proofs.ReportRuns.{tally-is}
-use Rattle.aes3_engine.proofs.FillRuns.{nothing-reached, fill-ok, fill-err, fill-same}
+use Rattle.std.proofs.Common.{arith, false}
+use Rattle.std.proofs.lemmas.Result.{err_from_is_err_and}
+use Rattle.aes3_engine.proofs.FillRuns.{fill-ok, fill-err, fill-same}
 use Rattle.aes3_engine.proofs.filling.fill_whole.Goals as goal
 
-pub drive-requires-clause-start : goal.drive-requires-clause-start
-drive-requires-clause-start g c = (
-  c.new-taker.ensures.lock,
-  (
-    tally-is (ap (λ k. k.tally.blocks) c.new-taker.ensures.reporter)
-        (ap (λ k. k.tally.faults) c.new-taker.ensures.reporter)
-        (ap (λ k. k.tally.unfinished) c.new-taker.ensures.reporter) c.new.ensures.tally,
-    nothing-reached c.new-taker.result.reporter.fill
-        (ap (λ k. k.progress) c.new-taker.ensures.reporter ∙ c.new.ensures.progress),
-  ),
-)
+pub run_reports-requires-clause-start : goal.run_reports-requires-clause-start
+run_reports-requires-clause-start g c = c.new-blocks.ensures.progress
 
-pub returns-in-Ok-clause-run : goal.returns-in-Ok-clause-run
-returns-in-Ok-clause-run g c =
-    fill-same c.args.input false (ap (λ k. k.format) c.new-taker.ensures.reporter ∙ c.new.ensures.format)
-    (ap (λ k. k.fill) c.new-taker.ensures.reporter ∙ c.new.ensures.fill)
-    (fill-ok c.new-taker.result.reporter.format c.new-taker.result.reporter.fill c.drive.new.taker.reporter.fill _
-    c.counts_of.ensures (λ xs a p n. omega (arith, c.frames.ensures xs a p n)) refl c.in-Ok.ensures.ran)
+pub returns-clause-run : goal.returns-clause-run
+returns-clause-run g c =
+    let k = c.new-blocks.result in
+    fill-same c.args.input false c.new-blocks.ensures.format c.new-blocks.ensures.fill
+    (fill-ok c.args.input k.format k.fill (λ xs a p n. omega (arith, c.frames.ensures xs a p n)) c.in_ok-counts.ensures.ran)
 
-pub returns-in-Err-clause-run : goal.returns-in-Err-clause-run
-returns-in-Err-clause-run g c =
-    fill-same c.args.input false (ap (λ k. k.format) c.new-taker.ensures.reporter ∙ c.new.ensures.format)
-    (ap (λ k. k.fill) c.new-taker.ensures.reporter ∙ c.new.ensures.fill)
-    (fill-err c.new-taker.result.reporter.format c.new-taker.result.reporter.fill c.in-Err.ensures.ran)
+pub returns-in_err-counts-clause-run : goal.returns-in_err-counts-clause-run
+returns-in_err-counts-clause-run g c =
+    let k = c.new-blocks.result in
+    let error = err_from_is_err_and c.from_residual.result c.from_residual.ensures.1 in
+    rw (error.1, error.2) (fill-same c.args.input false c.new-blocks.ensures.format c.new-blocks.ensures.fill
+    (fill-err c.args.input k.format k.fill c.in_err-counts.ensures.ran))

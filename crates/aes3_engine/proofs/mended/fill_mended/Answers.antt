@@ -1,21 +1,21 @@
-use Rattle.std.proofs.Common.{true, arith}
+use Rattle.std.proofs.Common.{arith, true}
+use Rattle.std.proofs.lemmas.Result.{err_from_is_err_and}
 use Rattle.aes3_engine.proofs.FillRuns.{nothing-mended, mend-ok, mend-err, fill-same}
 use Rattle.aes3_engine.proofs.mended.fill_mended.Goals as goal
 
-pub drive-requires-clause-start : goal.drive-requires-clause-start
-drive-requires-clause-start g c = (
-  c.new-taker.ensures.lock,
-  nothing-mended c.new-taker.result c.new-taker.ensures.tally c.new-taker.ensures.progress c.new-taker.ensures.before
-      c.new-taker.ensures.marked,
-)
+pub run_cells-requires-clause-start : goal.run_cells-requires-clause-start
+run_cells-requires-clause-start g c =
+    let e = c.new-blocks.ensures in nothing-mended c.new-blocks.result e.progress e.before e.marked
 
-pub returns-in-Ok-clause-run : goal.returns-in-Ok-clause-run
-returns-in-Ok-clause-run g c =
-    fill-same c.args.input true c.new-taker.ensures.format c.new-taker.ensures.fill
-    (mend-ok c.new-taker.result.blocks.format c.new-taker.result.blocks.fill c.drive.new.taker _ c.counts_of.ensures
-    c.frames.ensures (omega arith) c.in-Ok.ensures.ran)
+pub returns-clause-run : goal.returns-clause-run
+returns-clause-run g c =
+    let k = c.new-blocks.result.blocks in
+    fill-same c.args.input true c.new-blocks.ensures.format c.new-blocks.ensures.fill
+    (mend-ok c.args.input k.format k.fill (λ xs a p n. omega (arith, c.frames.ensures xs a p n)) (omega arith) c.in_ok-counts.ensures.ran)
 
-pub returns-in-Err-clause-run : goal.returns-in-Err-clause-run
-returns-in-Err-clause-run g c =
-    fill-same c.args.input true c.new-taker.ensures.format c.new-taker.ensures.fill
-    (mend-err c.new-taker.result.blocks.format c.new-taker.result.blocks.fill c.in-Err.ensures.ran)
+pub returns-in_err-counts-clause-run : goal.returns-in_err-counts-clause-run
+returns-in_err-counts-clause-run g c =
+    let k = c.new-blocks.result.blocks in
+    let error = err_from_is_err_and c.from_residual.result c.from_residual.ensures.1 in
+    rw (error.1, error.2) (fill-same c.args.input true c.new-blocks.ensures.format c.new-blocks.ensures.fill
+    (mend-err c.args.input k.format k.fill c.in_err-counts.ensures.ran))

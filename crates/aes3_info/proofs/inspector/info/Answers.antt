@@ -1,50 +1,34 @@
-use Rattle.std.proofs.Common.{◌≡◌, ◌∙◌, ℕ, ap}
+use Rattle.std.proofs.Common.{◌≡◌, Ok, ◌∙◌, ℕ, ap}
 use Rattle.std.proofs.lemmas.Result.{err_from_is_err_and}
-use Rattle.aes3_input.proofs.InputRuns.{run-told}
-use Rattle.aes3_input.proofs.CellRuns.{drove-ok, drove-err}
-use Rattle.aes3_info.specs.Facts.{more}
-use Rattle.aes3_info.specs.Infos.{info_counts, info_page, no_page}
-use Rattle.aes3_info.proofs.Inspecting.{before-page, info-counted, with-page}
+use Rattle.aes3_input.proofs.InputRuns.{run-err, run-ok, run-wrote}
+use Rattle.aes3_info.specs.Facts.{facts_of, more}
+use Rattle.aes3_info.proofs.Inspecting.{gives-page, info-counted}
 use Rattle.aes3_info.proofs.inspector.info.Goals as goal
+
+pub run_cells-requires-clause-start : goal.run_cells-requires-clause-start
+run_cells-requires-clause-start g c = c.new-inspector.ensures.none
 
 pub returns-clause-run : goal.returns-clause-run
 returns-clause-run g c =
-    let f = c.drive.new.taker.reporter.facts in
-    let r = c.new-taker.result.reporter in
-    let notation : r.notation ≡ c.args.notation
-    = ap (λ k. k.notation) c.new-taker.ensures.reporter ∙ c.new.ensures.notation in
-    drove-ok (info_page c.args.notation) no_page (info_counts c.args.input)
-    (record {
-      bytes = c.in_ok-bytes.bytes;
-      cells = c.in_ok-bytes.cells;
+    let n = c.in_ok-counts.counts in
+    let f = c.in_ok-counts.inspector.facts in
+    run-ok (gives-page c.args.input (λ k d. k.facts ≡ facts_of d) c.new-inspector.ensures.notation)
+    (λ b i h.
+    ap (λ (v : ℕ). record {
+      bytes = n.bytes;
+      cells = n.cells;
       blocks = f.reports.whole;
-      faults = c.more-2.result;
+      faults = v;
       unfinished = f.reports.unfinished;
       marks = 0;
-    })
-    (λ d. with-page r.notation d ∙ ap (λ v. info_page v d) notation)
-    (λ d. before-page r.notation d)
-    (λ b e k h.
-    ap (λ (n : ℕ). record {
-      bytes = c.in_ok-bytes.bytes;
-      cells = c.in_ok-bytes.cells;
-      blocks = f.reports.whole;
-      faults = n;
-      unfinished = f.reports.unfinished;
-      marks = 0;
-    }) (c.more-2.ensures ∙ ap (λ n. more n f.gaps.gaps) c.more.ensures)
-    ∙ info-counted c.args.input b c.in_ok-bytes.bytes c.in_ok-bytes.cells f e k h)
-    c.in_ok-bytes.ensures.ran
+    }) (c.more-2.ensures ∙ ap (λ v. more v f.gaps.gaps) c.more.ensures)
+    ∙ info-counted c.args.input b f h.0 h.1) c.in_ok-counts.ensures.ran
 
 pub returns-clause-page : goal.returns-clause-page
-returns-clause-page g c = λ b t. (run-told (returns-clause-run g c) b t).4
+returns-clause-page g c = run-wrote (Ok _) (returns-clause-run g c)
 
-pub returns-in_err-bytes-clause-run : goal.returns-in_err-bytes-clause-run
-returns-in_err-bytes-clause-run g c =
-    let r = c.new-taker.result.reporter in
-    let notation : r.notation ≡ c.args.notation
-    = ap (λ k. k.notation) c.new-taker.ensures.reporter ∙ c.new.ensures.notation in
+pub returns-in_err-counts-clause-run : goal.returns-in_err-counts-clause-run
+returns-in_err-counts-clause-run g c =
     let error = err_from_is_err_and c.from_residual.result c.from_residual.ensures.1 in
-    rw (error.1, error.2) (drove-err (info_page c.args.notation) no_page (info_counts c.args.input)
-    (λ d. with-page r.notation d ∙ ap (λ v. info_page v d) notation)
-    (λ d. before-page r.notation d) c.in_err-bytes.ensures.ran)
+    rw (error.1, error.2) (run-err (gives-page c.args.input (λ k d. k.facts ≡ facts_of d)
+    c.new-inspector.ensures.notation) c.in_err-counts.ensures.ran)

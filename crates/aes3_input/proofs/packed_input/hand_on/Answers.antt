@@ -11,7 +11,7 @@ returns g c =
     let w = c.word_of_octet.result in
     let n = c.args.used in
     let e : n + (8 - n) ≡ 8 = (let h = c.requires.few in omega arith) in
-    cells-ran-is (g.K.Taker.state c.args.taker.now) (g.K.Taker.state c.cells.new.self)
+    cells-ran-is (g.K.Taker.state c.args.taker.now) (g.K.Taker.state c.cells.new.taker)
     (low_cells c.from.result w) (octet_front n c.args.octet)
     (record {
       old = g.T.Sink.taken c.args.sink.now;

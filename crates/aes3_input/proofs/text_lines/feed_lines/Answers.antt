@@ -5,7 +5,7 @@ use Rattle.aes3_cell.specs.CellText.{cells_of_text, IsCellText}
 use Rattle.aes3_level.specs.Words.{word_cells}
 use Rattle.aes3_cell.proofs.CellTexts.{text-read}
 use Rattle.aes3_level.proofs.WordCells.{word_len_64}
-use Rattle.aes3_input.proofs.Handing.{length-words}
+use Rattle.aes3_level.proofs.CellsIn.{length-words}
 use Rattle.aes3_input.proofs.text_lines.feed_lines.Goals as goal
 
 pub returns-clause-read : goal.returns-clause-read

@@ -1,4 +1,4 @@
-use Rattle.std.proofs.Common.{◌≡◌, ℕ, List, Option, Some, None, IfSome, IsTrue, Bool, true, take, map, length, sym, ◌∙◌}
+use Rattle.std.proofs.Common.{◌≡◌, ℕ, List, Option, Some, None, IfSome, IsTrue, take, map, length, sym, ◌∙◌}
 use Rattle.std.proofs.Common.{ap, rules}
 use Rattle.std.specs.Option.{is_some}
 use Rattle.aes3_level.specs.Words.{word_cells}

@@ -9,11 +9,12 @@ use Rattle.aes3_recovery.proofs.places.put_places.Goals as goal
 pub loop-at-init : goal.loop-at-init
 loop-at-init c =
     let a = c.args in
+    let few = c.put_first-rest.ensures.most in
     let wanted = take a.from a.places.now ++ set_bits 64 a.base a.bits in (
-      c.put_four-rest.ensures.put wanted (record { more = []; both = sym (append-nil _); none = λ h. refl }),
-      refl,
-      omega arith,
-      c.put_four-rest.ensures.length,
+      c.put_first-rest.ensures.put wanted (record { more = []; both = sym (append-nil _); none = λ h. refl }),
+      c.put_first-rest.ensures.even,
+      omega (arith, few),
+      c.put_first-rest.ensures.length,
     )
 
 pub loop-at-preserved : goal.loop-at-preserved
@@ -25,11 +26,11 @@ loop-at-preserved c =
     let four = l.invariant.1 in
     let below = c.loop-at-test.true in
     let e : a.from + l.at + 4 ≡ a.from + (l.at + 4) = omega arith in (
-      subst (λ n. Put wanted a.base c.put_four-rest-in-loop-at.new.places n c.put_four-rest-in-loop-at.result) e
-          (c.put_four-rest-in-loop-at.ensures.put wanted l.invariant.0),
+      subst (λ n. Put wanted a.base c.put_some-rest.new.places n c.put_some-rest.result) e
+          (c.put_some-rest.ensures.put wanted l.invariant.0),
       omega (arith, four),
       omega (arith, four, below, few),
-      c.put_four-rest-in-loop-at.ensures.length ∙ l.invariant.3,
+      c.put_some-rest.ensures.length ∙ l.invariant.3,
     )
 
 pub returns-clause-written : goal.returns-clause-written

@@ -4,7 +4,7 @@ use Rattle.aes3_recovery.proofs.places.put_places.Given as goal
 
 abbrev pub invariant-loop-at : goal.invariant-loop-at
 invariant-loop-at l = Put (take l.from l.fn.places ++ set_bits 64 l.base l.bits) l.base l.places (l.from + l.at) l.rest
-    × (l.at % 4 ≡ 0) × (l.at ≤ 64) × (length l.places ≡ length l.fn.places)
+    × (l.at % 2 ≡ 0) × (l.at ≤ 66) × (length l.places ≡ length l.fn.places)
 
 abbrev pub decreases-loop-at : goal.decreases-loop-at
-decreases-loop-at l = 64 - l.at
+decreases-loop-at l = 66 - l.at

@@ -1,7 +1,7 @@
 use Rattle.std.proofs.Common.{◌≡◌, ◌++◌, map, take}
-use Rattle.std.specs.List.{flat_map}
+use Rattle.std.specs.List.{All, flat_map}
 use Rattle.aes3_spoil.specs.Errors.{errors_of}
-use Rattle.aes3_spoil_program.specs.Asks.{errors_in}
+use Rattle.aes3_spoil_program.specs.Asks.{IsValue, errors_in}
 use Rattle.aes3_spoil_program.proofs.line.add_texts.Given as goal
 
 abbrev pub invariant-loop-text : goal.invariant-loop-text
@@ -9,3 +9,4 @@ invariant-loop-text l =
     (errors_of l.errors
     ≡ errors_of l.fn.errors ++ flat_map (errors_in l.named) (map (λ t. t.now) (take l.text-index l.texts)))
     × (l.errors.every ≡ l.fn.errors.every)
+    × All (λ t. IsValue l.named t.now) (take l.text-index l.texts)

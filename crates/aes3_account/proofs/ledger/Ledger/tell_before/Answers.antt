@@ -33,7 +33,7 @@ returns-in_err-tell_gaps-clause-wrote g c =
       count = tt;
       err = (
         f.0,
-        front-is (ap (account_lines k.lines) (due-report k.tally.blocks k.account.place k.account.found x d
+        front-is (ap (account_lines k.lines) (due-report c.args._blocks k.account.place k.account.found x d
             (due-of (read_words c.args.lock.now.words) k.account.found c.args.ending d c.before_report.ensures)
             c.requires.found)) f.1,
       );
@@ -43,8 +43,8 @@ pub returns-clause-found : goal.returns-clause-found
 returns-clause-found g c =
     let k = c.args.self.now in
     let slots = read_words c.args.lock.now.words in
-    c.take.ensures.found (payloads_of slots) k.tally.blocks (c.tell_gaps.ensures.found ∙ c.requires.found)
-    ∙ ap (λ x. ltb 0 (k.tally.blocks + length (wholes (x ∷ [])))) (ending-with slots c.args.ending)
+    c.take.ensures.found (payloads_of slots) c.args._blocks (c.tell_gaps.ensures.found ∙ c.requires.found)
+    ∙ ap (λ x. ltb 0 (c.args._blocks + length (wholes (x ∷ [])))) (ending-with slots c.args.ending)
 
 pub returns-clause-lost : goal.returns-clause-lost
 returns-clause-lost g c =
@@ -52,6 +52,6 @@ returns-clause-lost g c =
     let x = report_in c.args.lock.now c.args.ending in
     let d = c.before_report.result in
     c.in_ok-tell_gaps.ensures.lost
-    ∙ ap (λ z. k.lost + length (filter is_lost z)) (due-report k.tally.blocks k.account.place k.account.found x d
+    ∙ ap (λ z. k.lost + length (filter is_lost z)) (due-report c.args._blocks k.account.place k.account.found x d
     (due-of (read_words c.args.lock.now.words) k.account.found c.args.ending d c.before_report.ensures)
     c.requires.found)

@@ -14,7 +14,6 @@ loop-gap-preserved g c =
       told = rw t.account (gaps-next _ c.next.new.self.place c.tell_gap.new.self.lost x v.told (n.gap x e)
           (n.further x e) (n.within x e) n.behind t.lost (rw v.lines at c.in_ok-tell_gap.ensures.wrote.grew));
       lines = t.lines ∙ v.lines;
-      tally = t.tally ∙ v.tally;
       found = ap (λ a. a.found) t.account ∙ n.found ∙ v.found;
       quiet = c.in_ok-tell_gap.ensures.wrote.count ∙ v.quiet;
     }

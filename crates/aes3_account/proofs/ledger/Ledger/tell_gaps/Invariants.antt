@@ -7,7 +7,6 @@ invariant-loop-gap g l = record {
   told : ToldGaps (g.T.Sink.taken l.fn.sink) (g.T.Sink.taken l.sink)
       l.fn.self.lines l.fn.self.account.place l.self.account.place l.fn.self.lost l.self.lost l.due;
   lines : l.self.lines ≡ l.fn.self.lines;
-  tally : l.self.tally ≡ l.fn.self.tally;
   found : l.self.account.found ≡ l.fn.self.account.found;
   quiet : g.T.Sink.failed l.sink ≡ g.T.Sink.failed l.fn.sink;
 }

@@ -55,7 +55,6 @@ ending-preserved g c =
     record {
       style = r.style ∙ v.style;
       lasts = r.lasts ∙ v.lasts;
-      tally = r.tally ∙ v.tally;
       every = r.every ∙ v.every;
       state = c.in_ok-end_period.ensures.state ∙ next-is v.every v.state ∙ sym (periods-more k.every c.ending._told u);
       grew = grew-is (ended-lines k.watcher.style k.every c.ending._told u)

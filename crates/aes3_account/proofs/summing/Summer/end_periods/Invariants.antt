@@ -7,7 +7,6 @@ abbrev pub invariant-ending : goal.invariant-ending
 invariant-ending g l = record {
   style : l.self.watcher.style ≡ l.fn.self.watcher.style;
   lasts : l.self.watcher.lasts ≡ l.fn.self.watcher.lasts;
-  tally : l.self.watcher.tally ≡ l.fn.self.watcher.tally;
   every : l.self.every ≡ l.fn.self.every;
   state : summed_by l.self.watcher.state l.self.from l.self.place l.self.figures
       ≡ periods l.fn.self.every l._told

@@ -4,5 +4,5 @@ use Rattle.aes3_account.proofs.summing.Summer.new.Goals as goal
 pub returns-clause-none : goal.returns-clause-none
 returns-clause-none c =
     let w = c.new.result in
-    begins-sums c.args.every w.state c.no_figures.result w.lasts w.tally.blocks w.tally.faults w.tally.unfinished
-    c.requires.some c.requires.few c.no_figures.ensures c.new.ensures.state
+    begins-sums c.args.every w.state c.no_figures.result w.lasts c.requires.some c.requires.few c.no_figures.ensures
+    c.new.ensures.state

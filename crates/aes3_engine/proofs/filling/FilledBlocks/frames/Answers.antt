@@ -9,5 +9,5 @@ returns-in-None c = λ xs q e n. no-frames c.args.self.now.fill xs (sym c.in-Non
 pub returns-in-Some : goal.returns-in-Some
 returns-in-Some c = λ xs q e n.
     c.beside_blocks.ensures (frames_filled xs)
-    (frames-told c.args.self.now.fill xs c.in-Some.progress (c.args.self.now.tally.blocks + c.args.marked) q
+    (frames-told c.args.self.now.fill xs c.in-Some.progress (c.args.blocks + c.args.marked) q
     (sym c.in-Some.is ∙ e) n)

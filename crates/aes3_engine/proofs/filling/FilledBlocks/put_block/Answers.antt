@@ -6,15 +6,6 @@ use Rattle.aes3_pcm.specs.declared.format.SampleFormat.{SampleFormat}
 use Rattle.aes3_pcm.specs.Formats.{narrowed}
 use Rattle.aes3_engine.proofs.filling.FilledBlocks.put_block.Goals as goal
 
-pub returns-in-Ok-clause-fill : goal.returns-in-Ok-clause-fill
-returns-in-Ok-clause-fill g c = ok-always c.put_narrowed.result c.note.ensures.fill
-
-pub returns-in-Ok-clause-format : goal.returns-in-Ok-clause-format
-returns-in-Ok-clause-format g c = ok-always c.put_narrowed.result c.note.ensures.format
-
-pub returns-in-Ok-clause-tally : goal.returns-in-Ok-clause-tally
-returns-in-Ok-clause-tally g c = ok-always c.put_narrowed.result c.note.ensures.tally
-
 pub returns-in-Ok-clause-progress : goal.returns-in-Ok-clause-progress
 returns-in-Ok-clause-progress g c =
     ok-always c.put_narrowed.result (c.note.ensures.progress c.args.block.now c.samples_of_block-samples.ensures)

@@ -3,6 +3,6 @@ use Rattle.aes3_cell.proofs.Growing.{grew-none}
 use Rattle.aes3_engine.specs.FillSteps.{fill_writing}
 use Rattle.aes3_engine.proofs.filling.FilledBlocksReporter.finish.Goals as goal
 
-pub returns-clause-grew : goal.returns-clause-grew
+pub returns : goal.returns
 unfolding fill_writing
-returns-clause-grew g c = λ r h. grew-none refl
+returns g c = λ r h. record { grew = grew-none refl; count = refl; err = tt }

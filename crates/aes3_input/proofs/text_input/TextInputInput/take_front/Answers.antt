@@ -11,7 +11,7 @@ use Rattle.aes3_level.proofs.WordCells.{length-low_cells}
 use Rattle.aes3_input.specs.Forms.{text_state}
 use Rattle.aes3_input.proofs.TextLemmas.{taken-seen, byte-bad}
 use Rattle.aes3_input.proofs.Feeding.{fed-none, ran-join}
-use Rattle.aes3_input.proofs.Handing.{length-words}
+use Rattle.aes3_level.proofs.CellsIn.{length-words}
 use Rattle.aes3_input.proofs.Fronts.{text-front, text-part}
 use Rattle.aes3_input.proofs.text_input.TextInputInput.take_front.Goals as goal
 

@@ -1,5 +1,7 @@
-use Rattle.std.proofs.Common.{refl, ap, ◌∙◌, ◌+◌, ◌++◌, ◌∷◌, [], ◌≡◌, subst}
+use Rattle.std.proofs.Common.{refl, ap, sym, ◌∙◌, ◌+◌, ◌++◌, ◌∷◌, [], ◌≡◌, subst}
 use Rattle.aes3_level.specs.Cells.{after, other}
+use Rattle.aes3_level.proofs.Runs.{other-other}
+use Rattle.aes3_recovery.proofs.Writing.{writes-end}
 use Rattle.aes3_recovery.specs.Endings.{level_if}
 use Rattle.aes3_recovery.specs.Recovering.{AreTold}
 use Rattle.aes3_recovery.proofs.Recovering.{ended-ok}
@@ -26,3 +28,11 @@ returns-in-Ok-finish-clause-ended g c = λ setting level done past w turns.
     ended-ok setting level (done ++ (past + old.line.edges.run) ∷ []) new c.tell.new.sink c.finish.new.sink
     c.in-Ok-finish.field-0 (g.T.Sink.taken c.flush.new.self) c.flush.result all c.in-Ok-finish.ensures.cells
     c.flush.ensures.bytes
+
+pub returns-in-Ok-finish-clause-writes : goal.returns-in-Ok-finish-clause-writes
+returns-in-Ok-finish-clause-writes g c = λ found begun all w.
+    let level = other (level_if c.is_high-high.result) in
+    let told = c.in-Ok.ensures.told level (sym (other-other (level_if c.is_high-high.result))) in
+    writes-end level c.take_waiting-run.result c.take_waiting-run.new.self c.tell.new.self.line c.args.self.now.line.queue c.args.sink.now c.tell.new.sink
+    c.finish.new.sink c.in-Ok-finish.field-0 (g.T.Sink.taken c.flush.new.self) c.flush.result begun all
+    c.take_waiting-run.ensures.queue (told.found found) c.in-Ok-finish.ensures.cells c.flush.ensures.bytes w

@@ -1,9 +1,10 @@
-use Rattle.std.proofs.Common.{refl, sym, ap, ◌∙◌, ◌+◌, ◌≡◌, subst}
+use Rattle.std.proofs.Common.{arith, refl, sym, ap, ◌∙◌, ◌+◌, ◌≡◌, subst}
 use Rattle.aes3_level.specs.Cells.{after, other}
 use Rattle.aes3_recovery.specs.Endings.{level_if}
 use Rattle.aes3_recovery.specs.Recovering.{AreTold}
 use Rattle.aes3_recovery.proofs.Recovering.{ended-recovered-ok}
-use Rattle.aes3_recovery.proofs.Telling.{none-past, told-keeps}
+use Rattle.aes3_recovery.proofs.Telling.{none-past, ok-const, told-keeps}
+use Rattle.aes3_recovery.proofs.Writing.{writes-on}
 use Rattle.aes3_recovery.proofs.recovery.Recovery.finish.Goals as goal
 
 pub returns-in-Ok-clause-recovered : goal.returns-in-Ok-clause-recovered
@@ -22,3 +23,21 @@ returns-in-Ok-clause-recovered g c = λ setting seen w.
     ended-recovered-ok (g.T.Sink.taken c.args.sink.now) setting seen old c.end.new.self
     (g.T.Sink.taken c.end.new.sink) c.end.result w (s.past + new.line.edges.run) run
     (c.end.ensures.ended setting w.level w.runs s.past whole (ap (λ e. level_if e.high) edges ∙ s.turns))
+
+pub returns-in-Ok-clause-up : goal.returns-in-Ok-clause-up
+returns-in-Ok-clause-up g c =
+    let before = c.tell_gathered.ensures.up in
+    let kept = c.end.ensures.measured in
+    ok-const c.end.result _ (omega (arith, before, kept))
+
+pub returns-in-Ok-clause-begun : goal.returns-in-Ok-clause-begun
+returns-in-Ok-clause-begun g c = λ none is room.
+    let before = c.tell_gathered.ensures.begun none (sym c.end.ensures.state ∙ is) room in
+    let kept = c.end.ensures.measured in
+    ok-const c.end.result _ (omega (arith, before, kept))
+
+pub returns-in-Ok-clause-writes : goal.returns-in-Ok-clause-writes
+returns-in-Ok-clause-writes g c = λ found none begun all w.
+    writes-on c.args.self.now.line c.tell_gathered.new.self.line c.args.sink.now c.tell_gathered.new.sink
+    (g.T.Sink.taken c.end.new.sink) c.end.result begun all (c.in-Ok.ensures.none none found)
+    (c.end.ensures.writes (c.tell_gathered.ensures.found none ∙ found) begun) w

@@ -1,5 +1,5 @@
 use Rattle.std.proofs.Common.{refl}
-use Rattle.aes3_recovery.proofs.Awaiting.{awaits-gave}
+use Rattle.aes3_recovery.proofs.Awaiting.{awaits-gave, followed-gave}
 use Rattle.aes3_recovery.proofs.Recovering.{recovered-gave}
 use Rattle.aes3_recovery.proofs.Telling.{gave-puts, ok-const}
 use Rattle.aes3_recovery.proofs.recovery.Recovery.pass_on.Goals as goal
@@ -19,3 +19,11 @@ returns-in-Ok-clause-awaits g c = λ setting seen a.
     (gave-puts c.args.self.now.line c.pass_on.new.self c.args.sink.now c.pass_on.new.sink c.in-Ok.field-0 _
     c.in-Ok.ensures.cells)
     c.pass_on.ensures.edges c.pass_on.ensures.follower refl refl refl refl refl refl refl a))
+
+pub returns-in-Ok-clause-follows : goal.returns-in-Ok-clause-follows
+returns-in-Ok-clause-follows g c = λ begun front first before seen w.
+    ok-const c.flush.result _ (rw c.flush.ensures.bytes
+    (followed-gave begun front c.args.self.now.line _ first before seen c.args.sink.now c.pass_on.new.sink
+    (gave-puts c.args.self.now.line c.pass_on.new.self c.args.sink.now c.pass_on.new.sink c.in-Ok.field-0 _
+    c.in-Ok.ensures.cells)
+    c.pass_on.ensures.edges c.pass_on.ensures.follower w))

@@ -3,18 +3,20 @@ use Rattle.aes3_level.specs.Words.{low_cells}
 use Rattle.aes3_recovery.specs.Runs.{levels_in}
 use Rattle.aes3_recovery.specs.declared.recovery.State.TheVariants.{Following}
 use Rattle.aes3_recovery.proofs.Awaiting.{awaits-edge, awaits-finds, awaits-joins, awaits-rest-ok, awaits-starts, awaits-word, measured-once}
-use Rattle.aes3_recovery.proofs.Telling.{ok-map}
+use Rattle.aes3_recovery.proofs.Telling.{ok-const, ok-map}
 use Rattle.aes3_recovery.proofs.Beginning.{began-edge, began-ok, began-on, found-or, none-measured, none-or, not-begun, not-both}
 use Rattle.aes3_recovery.proofs.Followed.{captured-late, followed-begins, followed-edge, followed-rest, gives-ok}
 use Rattle.aes3_recovery.proofs.Joining.{joined-gives}
 use Rattle.aes3_recovery.proofs.Recovering.{recovered-edge, recovered-rest-ok, recovered-word, turned-ended}
-use Rattle.aes3_recovery.proofs.States.{following-or}
+use Rattle.aes3_recovery.proofs.States.{begun-more, following-or}
 use Rattle.aes3_recovery.proofs.recovery.Recovery.take.Goals as goal
 
 pub loop-run-init : goal.loop-run-init
 loop-run-init g c = record {
   quiet = refl;
   up = omega (arith, c.count_samples.ensures.measured);
+  some = λ was. let counted = c.count_samples.ensures.samples in omega (arith, was, counted);
+  begun = λ none is room. absurd (none (sym c.count_samples.ensures.state ∙ is));
   followed = λ was is same room some begun front first before seen w.
       followed-begins (g.T.Sink.taken c.args.sink.now) begun front c.args.self.now.line c.count_samples.new.self.line
       first before seen (low_cells c.args.len c.args.levels) (levels_in c.new-piece.result)
@@ -44,6 +46,13 @@ loop-run-preserved g c =
     record {
       quiet = c.in-Ok.ensures.count ∙ c.loop-run.invariant.quiet;
       up = omega (arith, up1, up2);
+      some = λ was. let before = c.loop-run.invariant.some was in
+          let kept = c.edge.ensures.samples in omega (arith, before, kept);
+      begun = λ none is room. elim (following-or c.loop-run.self.state) [
+        | inl was ↦ let more = c.loop-run.invariant.begun none was room in omega (arith, more, up2)
+        | inr n ↦ begun-more c.args.self.now.figures.measured c.loop-run.self.figures.measured c.edge.new.self.figures.measured
+            up1 up2 room (c.edge.ensures.begun n is)
+      ];
       followed = λ was is same room some begun front first before seen w.
           let kept : c.loop-run.self.figures.measured ≡ c.args.self.now.figures.measured
           = omega (arith, up1, up2, same) in
@@ -275,3 +284,21 @@ returns-clause-starts g c = λ setting seen first window a e.
     (awaits-starts (g.T.Sink.taken c.rest.new.sink) setting (seen ++ low_cells c.args.len c.args.levels) c.rest.new.self
     first window e)
     (returns-clause-awaits g c setting seen a)
+
+pub returns-clause-up : goal.returns-clause-up
+returns-clause-up g c =
+    let before = c.loop-run.invariant.up in
+    let kept = c.rest.ensures.measured in
+    ok-const c.rest.result _ (omega (arith, before, kept))
+
+pub returns-clause-some : goal.returns-clause-some
+returns-clause-some g c = λ was.
+    let before = c.loop-run.invariant.some was in
+    let kept = c.rest.ensures.samples in
+    ok-const c.rest.result _ (omega (arith, before, kept))
+
+pub returns-clause-begun : goal.returns-clause-begun
+returns-clause-begun g c = λ none is room.
+    let before = c.loop-run.invariant.begun none (c.rest.ensures.state is) room in
+    let kept = c.rest.ensures.measured in
+    ok-const c.rest.result _ (omega (arith, before, kept))

@@ -13,6 +13,9 @@ abbrev pub invariant-loop-run : goal.invariant-loop-run
 invariant-loop-run g l = record {
   quiet : g.T.Sink.failed l.sink ≡ g.T.Sink.failed l.fn.sink;
   up : l.fn.self.figures.measured ≤ l.self.figures.measured;
+  some : 1 ≤ l.fn.self.figures.samples → 1 ≤ l.self.figures.samples;
+  begun : (l.fn.self.state ≡ Following → ⊥) → l.self.state ≡ Following → l.fn.self.figures.measured + 1 < 2 ^ 64
+      → l.fn.self.figures.measured < l.self.figures.measured;
   followed : l.fn.self.state ≡ Following → l.self.state ≡ Following
       → l.self.figures.measured ≡ l.fn.self.figures.measured → l.fn.self.figures.measured + 1 < 2 ^ 64
       → 1 ≤ l.fn.self.figures.samples

@@ -16,10 +16,10 @@ returns-in_err-put_line-clause-wrote g c =
       err = (
         f.0,
         front-is
-            (ap₂ (λ u v. line_as k.changes k.detail k.tally.blocks c.args.at First c.args.block.now k.first u
-            ++ line_as k.changes k.detail k.tally.blocks c.args.at Second c.args.block.now k.second v)
+            (ap₂ (λ u v. line_as k.changes k.detail c.args.place.number c.args.place.at First c.args.block.now k.first u
+            ++ line_as k.changes k.detail c.args.place.number c.args.place.at Second c.args.block.now k.second v)
             c.channel_status-first.ensures c.channel_status-second.ensures)
-            (front-more (search (rules, f.1)) (line_as k.changes k.detail k.tally.blocks c.args.at Second
+            (front-more (search (rules, f.1)) (line_as k.changes k.detail c.args.place.number c.args.place.at Second
             c.args.block.now k.second c.channel_status-second.result)),
       );
     })
@@ -30,7 +30,7 @@ returns-in_err-put_line-2-clause-wrote g c =
     let p = err_from_is_err_and c.from_residual-in_err-put_line-2.result c.from_residual-in_err-put_line-2.ensures.1
     in
     let f = c.in_err-put_line-2.ensures.err in
-    let line = line_as k.changes k.detail k.tally.blocks c.args.at First c.args.block.now k.first
+    let line = line_as k.changes k.detail c.args.place.number c.args.place.at First c.args.block.now k.first
     c.channel_status-first.result in
     rw p.1 (record {
       grew = tt;
@@ -38,8 +38,8 @@ returns-in_err-put_line-2-clause-wrote g c =
       err = (
         f.0 ∙ ap (λ n. n + 1) c.in_ok-put_line.ensures.count,
         front-is
-            (ap₂ (λ u v. line_as k.changes k.detail k.tally.blocks c.args.at First c.args.block.now k.first u
-            ++ line_as k.changes k.detail k.tally.blocks c.args.at Second c.args.block.now k.second v)
+            (ap₂ (λ u v. line_as k.changes k.detail c.args.place.number c.args.place.at First c.args.block.now k.first u
+            ++ line_as k.changes k.detail c.args.place.number c.args.place.at Second c.args.block.now k.second v)
             c.channel_status-first.ensures c.channel_status-second.ensures)
             (front-join {x = line} (search (rules, c.in_ok-put_line.ensures.grew)) f.1),
       );
@@ -48,12 +48,12 @@ returns-in_err-put_line-2-clause-wrote g c =
 pub returns-clause-wrote : goal.returns-clause-wrote
 returns-clause-wrote g c =
     let k = c.args.self.now in
-    let line = line_as k.changes k.detail k.tally.blocks c.args.at First c.args.block.now k.first
+    let line = line_as k.changes k.detail c.args.place.number c.args.place.at First c.args.block.now k.first
     c.channel_status-first.result in
     record {
       grew = grew-is
-          (ap₂ (λ u v. line_as k.changes k.detail k.tally.blocks c.args.at First c.args.block.now k.first u
-          ++ line_as k.changes k.detail k.tally.blocks c.args.at Second c.args.block.now k.second v)
+          (ap₂ (λ u v. line_as k.changes k.detail c.args.place.number c.args.place.at First c.args.block.now k.first u
+          ++ line_as k.changes k.detail c.args.place.number c.args.place.at Second c.args.block.now k.second v)
           c.channel_status-first.ensures c.channel_status-second.ensures)
           (grew-join {x = line} (search (rules, c.in_ok-put_line.ensures.grew)) c.in_ok-put_line-2.ensures.grew);
       count = c.in_ok-put_line-2.ensures.count ∙ c.in_ok-put_line.ensures.count;

@@ -1,0 +1,125 @@
+-- What is wrong with one of several values, with the options that have them, and with the words.
+use Rattle.std.proofs.Common.{◌≡◌, ◌∙◌, ◌<◌, ◌+◌, ◌++◌, arith, ℕ, List, [], ap, get_or, length, map, refl, subst, sym, take}
+use Rattle.std.proofs.Common.{append_assoc, inl, inr, None, Some}
+use Rattle.std.proofs.lemmas.List.{get_or-map, length-append, length-map, take-map}
+use Rattle.std.proofs.lemmas.List.Elements.{All-contains_itself}
+use Rattle.std.proofs.lemmas.List.Folds.{length-flat_map-take}
+use Rattle.std.specs.List.{Contains, flat_map}
+use Rattle.clap.specs.Kinds.{HasKind, IsAmong}
+use Rattle.clap.specs.Simple.{matches_of}
+use Rattle.clap.specs.Values.{kind_of}
+use Rattle.clap.specs.Walk.{Text}
+use Rattle.clap.specs.declared.error.Error.{Error}
+use Rattle.clap.specs.declared.error.kind.ErrorKind.{ErrorKind}
+use Rattle.aes3_spoil.specs.declared.kinds.CellError.{CellError}
+use Rattle.aes3_spoil_program.specs.Asks.{Options, errors_at_spot, errors_by, errors_in, faults_in, named_errors}
+use Rattle.aes3_spoil_program.specs.Asks.{values_by}
+use Rattle.aes3_spoil_program.specs.Faults.{IsFaultBy, IsFaultOf, IsOptionFault, IsWrongAfter, IsWrongAt, IsWrongIn}
+use Rattle.aes3_spoil_program.specs.Faults.{IsWrongWith, SaysWrong}
+use Rattle.aes3_spoil_program.specs.Named.{errors_named, places_named}
+use Rattle.aes3_spoil_program.specs.SpoilLine.{spoil_line}
+use Rattle.aes3_spoil_program.specs.Values.{spot_in}
+use Rattle.aes3_spoil_program.specs.declared.line.LineFault.{LineFault}
+use Rattle.aes3_spoil_program.specs.declared.line.LineFault.TheVariants as fault
+use Rattle.aes3_spoil_program.specs.declared.named.NamedError.{NamedError}
+use Rattle.aes3_spoil_program.specs.declared.named.NamedError.TheVariants as named
+use Rattle.aes3_spoil_program.specs.declared.wrong.Wrong.{Wrong}
+use Rattle.aes3_spoil_program.specs.declared.wrong.Wrong.TheVariants as wrong
+
+-- eight texts joined from the last and from the first
+pub eight_joined : (a b c d e f g h : List ℕ)
+    → a ++ (b ++ (c ++ (d ++ (e ++ (f ++ (g ++ h)))))) ≡ a ++ b ++ c ++ d ++ e ++ f ++ g ++ h
+eight_joined a b c d e f g h =
+    sym (append_assoc a b _) ∙ sym (append_assoc (a ++ b) c _) ∙ sym (append_assoc (a ++ b ++ c) d _)
+    ∙ sym (append_assoc (a ++ b ++ c ++ d) e _) ∙ sym (append_assoc (a ++ b ++ c ++ d ++ e) f _)
+    ∙ sym (append_assoc (a ++ b ++ c ++ d ++ e ++ f) g h)
+
+-- how many errors an option names at a spot
+pub named_places : (error : NamedError) (cell slot : ℕ) → length (errors_named error cell slot) ≡ places_named error
+named_places named.Cell cell slot = refl
+named_places named.Invert cell slot = refl
+named_places named.Lost cell slot = refl
+named_places named.Double cell slot = refl
+named_places named.Parity cell slot = refl
+named_places named.Biphase cell slot = refl
+named_places named.Preamble cell slot = refl
+named_places named.CheckByte cell slot = refl
+
+-- there is no room for the errors that an option names at a spot, and none for those of a text that says this spot
+pub no_room : (error : NamedError) (cell slot len room : ℕ) → len + room ≡ 64 → room < places_named error
+    → 64 < len + length (errors_named error cell slot)
+no_room error cell slot len room all few = let n = named_places error cell slot in omega arith
+
+pub too_many : (before : List CellError) (error : NamedError) (text : Text) (cell slot : ℕ)
+    → spot_in error text ≡ Some (cell, slot) → 64 < length before + length (errors_named error cell slot)
+    → 64 < length (before ++ errors_in error text)
+too_many before error text cell slot at full =
+    let is = ap (λ o. length (errors_at_spot error o)) at in
+    let all = length-append before (errors_in error text) in
+    omega arith
+
+-- one of an option's texts is wrong, after the errors of those before it
+wrong_after : (base mid : List CellError) (error : NamedError) (texts : List Text) (i : ℕ) (d : Text) (what : Wrong)
+    → i < length texts → mid ≡ base ++ flat_map (errors_in error) (take i texts)
+    → IsWrongAt mid error (get_or texts i d) what → IsWrongAfter base error texts what
+wrong_after base mid error texts i d (wrong.Value named text) below old w = (
+  w.0,
+  subst (Contains texts) (sym w.1) (All-contains_itself texts i d below),
+  subst (λ t. spot_in error t ≡ None) (sym w.1) w.2,
+)
+wrong_after base mid error texts i d (wrong.Every text) below old w = absurd w
+wrong_after base mid error texts i d wrong.TooMany below old w =
+    let fits = length-flat_map-take (errors_in error) texts i d below in
+    let here = length-append mid (errors_in error (get_or texts i d)) in
+    let before = ap length old ∙ length-append base (flat_map (errors_in error) (take i texts)) in
+    let all = length-append base (flat_map (errors_in error) texts) in
+    let many = w in
+    omega arith
+
+pub one_wrong : {X : Type 0} (g : X → Text) (base mid : List CellError) (error : NamedError) (xs : List X) (i : ℕ) (d : X)
+    (what : Wrong) → i < length xs → mid ≡ base ++ flat_map (errors_in error) (map g (take i xs))
+    → IsWrongAt mid error (g (get_or xs i d)) what → IsWrongAfter base error (map g xs) what
+one_wrong g base mid error xs i d what below old w =
+    wrong_after base mid error (map g xs) i (g d) what (let len = length-map xs g in omega arith)
+    (old ∙ ap (λ texts. base ++ flat_map (errors_in error) texts) (sym (take-map g i xs)))
+    (subst (λ t. IsWrongAt mid error t what) (sym (get_or-map g xs i d (g d) below)) w)
+
+-- one of the options is wrong, after the errors of those before it
+pub option_wrong : (options : Options) (mid : List CellError) (i : ℕ) (d : NamedError) (what : Wrong)
+    → i < length named_errors → mid ≡ flat_map (errors_by options) (take i named_errors)
+    → IsWrongIn mid options (get_or named_errors i d) what → IsWrongWith options what
+option_wrong options mid i d (wrong.Value error text) below old w = (
+  subst (λ e. Contains (values_by options e) text.now) (sym w.0) w.1,
+  subst (λ e. spot_in e text.now ≡ None) (sym w.0) w.2,
+)
+option_wrong options mid i d (wrong.Every text) below old w = absurd w
+option_wrong options mid i d wrong.TooMany below old w =
+    let fits = length-flat_map-take (errors_by options) named_errors i d below in
+    let here = length-append mid (errors_by options (get_or named_errors i d)) in
+    let before = ap length old in
+    let many = w in
+    omega arith
+
+-- what is said of an error that `clap` found
+pub error_said : (words : List Text) (e : Error) (said : LineFault) → HasKind (faults_in words) e
+    → IsFaultBy (kind_of e) said → IsFaultOf words said
+error_said words e (fault.Usage text) kind says = elim kind [
+  | inl memory ↦ absurd (says.0 memory)
+  | inr among ↦ inl ((kind_of e, among, says.1, says.2), says.3)
+]
+error_said words e (fault.Help text) kind says = elim kind [
+  | inl memory ↦ elim says [ inl help ↦ cc | inr version ↦ cc ]
+  | inr among ↦ elim says [
+    | inl help ↦ inl (subst (λ (k : ErrorKind). IsAmong k (faults_in words)) help among)
+    | inr version ↦ inr (subst (λ (k : ErrorKind). IsAmong k (faults_in words)) version among)
+  ]
+]
+error_said words e fault.Memory kind says = tt
+
+-- what is said of options that have a wrong value
+pub option_said : (words : List Text) (options : Options) (said : LineFault) → faults_in words ≡ []
+    → options ≡ matches_of spoil_line words → IsOptionFault options said → IsFaultOf words said
+option_said words options (fault.Usage text) none is says =
+    inr (none, subst (λ (o : Options). SaysWrong o text.bytes.items) is says)
+option_said words options (fault.Help text) none is says = absurd says
+option_said words options fault.Memory none is says = tt

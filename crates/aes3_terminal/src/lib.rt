@@ -1,0 +1,7 @@
+//! A command line run for a person at a terminal: its progress, and a sentence about what was refused.
+#![tactic(auto)]
+
+/// A line, and what is explained after it.
+mod explained;
+
+pub use explained::{report_unread, run_and_explain};
