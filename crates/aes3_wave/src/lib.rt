@@ -1,0 +1,32 @@
+//! WAV files: the header that is read and the one that is written, and the samples after it (RIFF/WAVE;
+//! RF64 of EBU Tech 3306 and BW64 of ITU-R BS.2088).
+#![tactic(auto)]
+
+/// What the chunks before the samples say.
+mod chunk;
+/// Why a header is refused.
+mod error;
+/// The format of the samples.
+mod format;
+/// The laws of headers.
+pub mod laws;
+/// Numbers in octets.
+mod octets;
+/// The reader of a header.
+mod reader;
+/// The samples of frames.
+mod samples;
+/// The octets of a file that are its samples.
+mod span;
+/// What the reader keeps.
+mod state;
+/// The header that is written.
+mod written;
+
+pub use chunk::WaveHeader;
+pub use error::{Cause, HeaderError};
+pub use format::{Container, WaveFormat, Width};
+pub use samples::Channels;
+pub use span::SampleSpan;
+pub use state::HeaderReader;
+pub use written::{Depth, HeaderOctets, header_of};

@@ -1,0 +1,202 @@
+//! The reader of a header.
+
+ghost use Rattle.std.specs.Prelude.{◌≡◌, ◌<◌, ◌≤◌, ◌+◌, ◌^◌, List, ℕ, [], None, Ok, length, IfOk};
+ghost use Rattle.aes3_wave.specs.Following.{Decided, Follows, TookFront, TookOctet, TookPiece};
+ghost use Rattle.aes3_wave.specs.Following.{header_of};
+ghost use Rattle.aes3_wave.specs.Headers.{judged, judged_at_end};
+
+use crate::chunk::{FIRST_LEN, HEAD_LEN, Known, MOST_HEAD, Step, WaveHeader, chunk_len, is_data};
+use crate::error::{Cause, HeaderError};
+use crate::state::{HeaderReader, Stage};
+
+impl Known {
+    /// What the first octets of a chunk at place `at` decide.
+    ///
+    /// # Errors
+    /// What is wrong with it, and where in the file.
+    fn step(&self, at: u64, front: &[u8]) -> Result<Step, HeaderError>
+        requires few { length front.now ≤ MOST_HEAD }
+        requires room { at + MOST_HEAD < 2 ^ 64 }
+        ensures { Decided (Stage.Chunks self.now) at front.now result }
+    {
+        if front.len() < HEAD_LEN {
+            return Ok(Step::More);
+        }
+        if is_data(front) {
+            return match self.header(at, front) {
+                Ok(header) => Ok(Step::Samples(header)),
+                Err(error) => Err(error),
+            };
+        }
+        let head_len = self.head_len(front);
+        if front.len() < head_len {
+            return Ok(Step::More);
+        }
+        match self.with(&front[..head_len]) {
+            Ok(known) => Ok(Step::Next {
+                known,
+                len: chunk_len(front),
+            }),
+            Err(error) => Err(error.behind(at)),
+        }
+    }
+}
+
+/// What the first octets of a file decide.
+///
+/// # Errors
+/// `NotRiff` and `NotWave`.
+fn first_step(front: &[u8]) -> Result<Step, HeaderError>
+    requires { length front.now ≤ MOST_HEAD }
+    ensures { (at : ℕ) → Decided Stage.First at front.now result }
+{
+    if front.len() < FIRST_LEN {
+        return Ok(Step::More);
+    }
+    match Known::of_first(&front[..FIRST_LEN]) {
+        Ok(known) => Ok(Step::Next {
+            known,
+            len: FIRST_LEN as u64,
+        }),
+        Err(error) => Err(error),
+    }
+}
+
+impl HeaderReader {
+    /// A reader that has taken nothing.
+    pub fn new() -> Self
+        ensures { Follows result [] }
+    {
+        HeaderReader {
+            seen: 0,
+            stage: Stage::First,
+            at: 0,
+            held: [0; MOST_HEAD],
+            len: 0,
+            left: 0,
+        }
+    }
+
+    /// The header, once it is whole: the next octet is the first one of the samples then.
+    pub fn header(&self) -> Option<WaveHeader>
+        ensures stage { result ≡ header_of self.now.stage }
+        ensures judged { (b : List ℕ) → Follows self.now b → judged b ≡ Ok result }
+    {
+        match self.stage {
+            Stage::First => None,
+            Stage::Chunks(_) => None,
+            Stage::Whole(header) => Some(header),
+        }
+    }
+
+    /// Takes the end of the file.
+    ///
+    /// # Errors
+    /// `Ended` where the header is not whole.
+    pub fn end(&self) -> Result<WaveHeader, HeaderError>
+        ensures { (b : List ℕ) → Follows self.now b → result ≡ judged_at_end b }
+    {
+        match self.header() {
+            Some(header) => Ok(header),
+            None => Err(HeaderError {
+                cause: Cause::Ended,
+                at: self.seen,
+            }),
+        }
+    }
+
+    /// What the octets decide that it would hold with the next one.
+    fn decide(&self, front: &[u8]) -> Result<Step, HeaderError>
+        requires few { length front.now ≤ MOST_HEAD }
+        requires room { self.now.at + MOST_HEAD < 2 ^ 64 }
+        ensures { header_of self.now.stage ≡ None
+            → Decided self.now.stage self.now.at front.now result }
+    {
+        match self.stage {
+            Stage::First => first_step(front),
+            Stage::Chunks(known) => known.step(self.at, front),
+            Stage::Whole(header) => Ok(Step::Samples(header)),
+        }
+    }
+
+    /// Takes an octet of a header that is not whole, where none is left out.
+    fn take_octet(&mut self, octet: u8) -> Result<(), HeaderError>
+        requires room { self.old.seen < 2 ^ 63 }
+        requires open { header_of self.old.stage ≡ None }
+        requires none { self.old.left ≡ 0 }
+        ensures took { (b : List ℕ) → Follows self.old b → TookOctet self.new b octet result }
+        ensures seen { IfOk result (λ _. self.new.seen ≡ self.old.seen + 1) }
+    {
+        let mut held = self.held;
+        held[self.len] = octet;
+        let len = self.len + 1;
+        match self.decide(&held[..len]) {
+            Ok(Step::More) => {
+                self.seen += 1;
+                self.held = held;
+                self.len = len;
+            }
+            Ok(Step::Next { known, len: part }) => {
+                self.seen += 1;
+                self.stage = Stage::Chunks(known);
+                self.len = 0;
+                self.left = part.saturating_sub(len as u64);
+                self.at = self.seen + self.left;
+            }
+            Ok(Step::Samples(header)) => {
+                self.seen += 1;
+                self.stage = Stage::Whole(header);
+                self.len = 0;
+                self.at = self.seen;
+            }
+            Err(error) => return Err(error),
+        }
+        Ok(())
+    }
+
+    /// Takes a front of a piece, at least one octet of it, where the header is not whole.
+    fn take_front(&mut self, piece: &[u8]) -> Result<usize, HeaderError>
+        requires some { 0 < length piece.now }
+        requires room { self.old.seen + length piece.now ≤ 2 ^ 63 }
+        requires open { header_of self.old.stage ≡ None }
+        ensures took { (b : List ℕ) → Follows self.old b → TookFront self.new b piece.now result }
+        ensures some { IfOk result (λ n. 0 < n) }
+        ensures within { IfOk result (λ n. n ≤ length piece.now) }
+        ensures seen { IfOk result (λ n. self.new.seen ≡ self.old.seen + n) }
+    {
+        if self.left == 0 {
+            return match self.take_octet(piece[0]) {
+                Ok(()) => Ok(1),
+                Err(error) => Err(error),
+            };
+        }
+        let n = self.left.min(piece.len() as u64);
+        self.seen += n;
+        self.left -= n;
+        Ok(n as usize)
+    }
+
+    /// Takes octets of a file up to its samples, and answers how many they are: all, if the header is
+    /// not whole with them. Where it answers an error, it can't be used any more.
+    ///
+    /// # Errors
+    /// What is wrong with the header, and where.
+    pub fn take(&mut self, piece: &[u8]) -> Result<usize, HeaderError>
+        requires { self.old.seen + length piece.now ≤ 2 ^ 63 }
+        ensures took { (b : List ℕ) → Follows self.old b → TookPiece self.new b piece.now result }
+        ensures within { IfOk result (λ n. n ≤ length piece.now) }
+        ensures seen { IfOk result (λ n. self.new.seen ≡ self.old.seen + n) }
+    {
+        let mut at = 0;
+        while at < piece.len() {
+            if self.header().is_some() {
+                return Ok(at);
+            }
+            match self.take_front(&piece[at..]) {
+                Ok(n) => at += n,
+                Err(error) => return Err(error),
+            }
+        }
+        Ok(at)
+    }
+}

@@ -1,0 +1,94 @@
+//! The samples of frames.
+
+ghost use Rattle.std.specs.Prelude.{◌≡◌, ◌≤◌, ◌<◌, ◌+◌, length};
+ghost use Rattle.aes3_wave.specs.Formats.{container_len, frame_len};
+ghost use Rattle.aes3_wave.specs.Samples.{counted, sample_at, sample_of, signed, two_samples};
+ghost use Rattle.aes3_wave.specs.Samples.{usual_channels, wide};
+
+use crate::format::{Container, WaveFormat, Width};
+
+/// How many octets a sample of 32 bits has.
+const SAMPLE_LEN: usize = 4;
+
+/// How many octets two of them have.
+const FRAME_LEN: usize = 8;
+
+/// The channels of a frame whose samples are taken; the first one is 0.
+#[derive(Clone, Copy, PartialEq, Eq)]
+pub struct Channels {
+    pub first: u16,
+    pub second: u16,
+}
+
+/// The highest octet of a number with a sign, of one that has 128 for its zero.
+fn signed(octet: u8) -> u8
+    ensures { result ≡ signed octet }
+{
+    if octet < 128 {
+        octet + 128
+    } else {
+        octet - 128
+    }
+}
+
+/// A sample of 32 bits with those bits 0 that don't count.
+fn counted(width: Width, sample: [u8; SAMPLE_LEN]) -> [u8; SAMPLE_LEN]
+    ensures { result ≡ counted width sample }
+{
+    let [a, b, c, d] = sample;
+    match width {
+        Width::Bits8 => [0, 0, 0, d],
+        Width::Bits16 => [0, 0, c, d],
+        Width::Bits20 => [0, b / 16 * 16, c, d],
+        Width::Bits24 => [0, b, c, d],
+        Width::Bits32 => [a, b, c, d],
+    }
+}
+
+impl WaveFormat {
+    /// The sample whose octets begin at place `at`, as one of 32 bits.
+    fn sample_at(self, frame: &[u8], at: usize) -> [u8; SAMPLE_LEN]
+        requires { at + container_len self.container ≤ length frame.now }
+        ensures { result ≡ sample_at self at frame.now }
+    {
+        let wide = match self.container {
+            Container::Octets1 => [0, 0, 0, signed(frame[at])],
+            Container::Octets2 => [0, 0, frame[at], frame[at + 1]],
+            Container::Octets3 => [0, frame[at], frame[at + 1], frame[at + 2]],
+            Container::Octets4 => [frame[at], frame[at + 1], frame[at + 2], frame[at + 3]],
+        };
+        counted(self.width, wide)
+    }
+
+    /// That of a channel.
+    fn sample_of(self, frame: &[u8], channel: u16) -> [u8; SAMPLE_LEN]
+        requires frame { length frame.now ≡ frame_len self }
+        requires channel { channel < self.channels }
+        ensures { result ≡ sample_of self channel frame.now }
+    {
+        self.sample_at(frame, channel as usize * self.container.len())
+    }
+
+    /// The samples of two channels of a frame, each as one of 32 bits with the lowest octet first: the
+    /// bits that it has count most, and those that don't count are 0.
+    pub fn two_samples(self, channels: Channels, frame: &[u8]) -> [u8; FRAME_LEN]
+        requires frame { length frame.now ≡ frame_len self }
+        requires first { channels.first < self.channels }
+        requires second { channels.second < self.channels }
+        ensures { result ≡ two_samples self channels frame.now }
+    {
+        let [a, b, c, d] = self.sample_of(frame, channels.first);
+        let [e, f, g, h] = self.sample_of(frame, channels.second);
+        [a, b, c, d, e, f, g, h]
+    }
+
+    /// The channels that are taken where none are chosen: the first two, or of one that one twice.
+    pub fn usual_channels(self) -> Channels
+        ensures { result ≡ usual_channels self }
+    {
+        Channels {
+            first: 0,
+            second: if self.channels < 2 { 0 } else { 1 },
+        }
+    }
+}
