@@ -12,8 +12,8 @@ ghost use Rattle.aes3_slot.specs.Slots.{payload_len, subframe_runs};
 ghost use Rattle.aes3_frame.specs.Blocks.{block_cells};
 
 use aes3_cell::{Fault, Form, Level, Sink, put_words};
-use aes3_frame::{GatheredCells, PAYLOAD_LIMIT, SLOTS, mark_of, wrong_in};
-use aes3_slot::{Mark, slot_bits, subframe_cells};
+use aes3_frame::{GatheredCells, PAYLOAD_LIMIT, SLOTS, wrong_in};
+use aes3_slot::{Mark, mark_of, slot_bits, subframe_cells};
 
 /// A subframe's cells, or all of them inverted.
 fn turned(inverted: bool, cells: u64) -> u64

@@ -1,11 +1,9 @@
 -- Blocks kept as words.
-use Rattle.std.proofs.Common.{◌≡◌, ◌≢◌, ℕ, zero, suc, ◌*◌, ◌/◌, ◌%◌, ◌≤◌, ◌<◌, List, [], ◌∷◌, Bool, true, cond, map}
-use Rattle.std.proofs.Common.{length, set, get_or, replicate, refl, sym, ap, ap₂, ◌∙◌, arith, eq-eqb, ne_eqb}
+use Rattle.std.proofs.Common.{◌≡◌, ℕ, zero, suc, ◌*◌, ◌/◌, ◌%◌, ◌≤◌, ◌<◌, List, [], ◌∷◌, Bool, true, map}
+use Rattle.std.proofs.Common.{length, set, get_or, replicate, refl, sym, ap, ap₂, ◌∙◌, arith}
 use Rattle.std.proofs.lemmas.List.{map-set, get_or-map}
-use Rattle.aes3_slot.specs.declared.mark.Mark.{Mark}
-use Rattle.aes3_slot.specs.declared.mark.Mark.TheVariants.{X, Y, Z}
 use Rattle.aes3_slot.specs.Slots.{payload_len, slots_len}
-use Rattle.aes3_frame.specs.Blocks.{block_slots, zero_block, mark_at}
+use Rattle.aes3_frame.specs.Blocks.{block_slots, zero_block}
 use Rattle.aes3_frame.specs.Files.{is_lawful, payload_of}
 
 pub block_slots_384 : block_slots ≡ 384
@@ -55,21 +53,6 @@ pub payload-set : (words : List ℕ) (b : List (List Bool)) (i w place : ℕ) (b
 payload-set words b i w place bit e h f =
     map-set payload_of words i w
     ∙ ap₂ (λ x p. set x i p) e (f ∙ ap (λ p. set p place bit) (sym (payload-at words b i e h)))
-
--- the preambles of a block
-pub mark_at-zero : (i : ℕ) → i ≡ 0 → mark_at i ≡ Z
-unfolding mark_at
-mark_at-zero i e = ap mark_at e
-
-pub mark_at-odd : (i : ℕ) → i % 2 ≡ 1 → mark_at i ≡ Y
-unfolding mark_at
-mark_at-odd zero e = absurd (omega arith)
-mark_at-odd (suc j) e = ap (λ b. cond {A = Mark} b Y X) (eq-eqb (j % 2) 0 (omega arith))
-
-pub mark_at-even : (i : ℕ) → i ≢ 0 → i % 2 ≢ 1 → mark_at i ≡ X
-unfolding mark_at
-mark_at-even zero n e = absurd (n refl)
-mark_at-even (suc j) n e = ap (λ b. cond {A = Mark} b Y X) (ne_eqb (j % 2) 0 (λ q. e (omega arith)))
 
 -- whole blocks of words and of bytes
 pub slots-whole : (n : ℕ) → block_slots * n / block_slots ≡ n

@@ -15,7 +15,7 @@ use Rattle.aes3_slot.specs.declared.mark.Mark.TheVariants.{X, Y, Z}
 use Rattle.aes3_slot.specs.Slots.{slot_runs, slots_bits, subframe_runs}
 use Rattle.aes3_frame.specs.Blocks.{mark_at}
 use Rattle.aes3_frame.specs.Files.{has_code, has_parity, is_lawful, payload_of}
-use Rattle.aes3_frame.proofs.BlockLemmas.{mark_at-zero, mark_at-odd, mark_at-even}
+use Rattle.aes3_slot.proofs.Marks.{mark_at-zero, mark_at-odd, mark_at-even}
 use Rattle.aes3_frame.proofs.Runs.{cells-word}
 
 -- four words of a part to a block's end

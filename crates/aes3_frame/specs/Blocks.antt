@@ -1,17 +1,10 @@
 -- Blocks of 192 frames, as their 384 payloads in order of transmission.
-use Rattle.std.specs.Prelude.{ℕ, zero, suc, List, Bool, false, length, ◌≡◌, ◌*◌, ◌%◌, ◌==◌, map, replicate}
-use Rattle.std.specs.Prelude.{if◌then◌else◌}
+use Rattle.std.specs.Prelude.{ℕ, List, Bool, false, length, ◌≡◌, ◌*◌, map, replicate}
 use Rattle.std.specs.List.{flat_map, All}
 use Rattle.aes3_level.specs.declared.level.Level.{Level}
 use Rattle.aes3_level.specs.Cells.{line}
-use Rattle.aes3_slot.specs.declared.mark.Mark.{Mark}
-use Rattle.aes3_slot.specs.declared.mark.Mark.TheVariants.{X, Y, Z}
 use Rattle.aes3_slot.specs.Slots.{payload_len, IsPayload, with_parity, runs_of}
-
--- the preamble of a block's subframe by its number: Z and Y in frame 0, X and Y in the frames behind it
-unfoldable pub mark_at : ℕ → Mark
-mark_at zero = Z
-mark_at (suc j) = if (j % 2) == 0 then Y else X
+pub use Rattle.aes3_slot.specs.Slots.{mark_at}
 
 -- how many subframes and how many cells a block has
 unfoldable pub block_slots : ℕ

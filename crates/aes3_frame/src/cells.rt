@@ -3,26 +3,13 @@
 ghost use Rattle.std.specs.Prelude.{◌≡◌};
 ghost use Rattle.std.specs.List.{flat_map};
 ghost use Rattle.aes3_level.specs.Words.{word_cells};
-ghost use Rattle.aes3_frame.specs.Blocks.{block_cells, mark_at};
+ghost use Rattle.aes3_frame.specs.Blocks.{block_cells};
 
 use crate::block::{Block, SLOTS};
 use crate::word::slots_of_word;
 use aes3_level::Level;
 use aes3_slot::{Mark, slots_cells, slots_cells_of_four};
 use std::simd::prelude::*;
-
-/// The preamble of a block's subframe, given its number from 0 on (AES3-3; IEC 60958-1).
-pub fn mark_of(slot: u64) -> Mark
-    ensures { result ≡ mark_at slot }
-{
-    if slot == 0 {
-        Mark::Z
-    } else if slot % 2 == 1 {
-        Mark::Y
-    } else {
-        Mark::X
-    }
-}
 
 /// Puts the cells of a block after the level `before` into `cells`, a word a subframe, the earliest
 /// cell in bit 0.

@@ -1,6 +1,7 @@
 //! The cells of a block's subframes as they are gathered from a line.
 use crate::block::{Block, SLOTS, zero_words};
 use aes3_level::Level;
+use aes3_slot::mark_of;
 use std::marker::Model;
 use std::simd::prelude::*;
 
@@ -39,7 +40,6 @@ ghost use Rattle.aes3_frame.specs.Blocks.{block_cells, block_slots, mark_at};
 ghost use Rattle.aes3_frame.specs.Files.{is_lawful, payload_of};
 ghost use Rattle.aes3_frame.specs.Gathered.{IsRight, with_first};
 
-use crate::cells::mark_of;
 use crate::slots::wrong_parities;
 use crate::word::{payload_of_word, word_of_payload};
 use crate::wrong_cells::wrong_in;

@@ -30,7 +30,8 @@ mod word;
 mod wrong_cells;
 
 pub use block::{BLOCK_BYTES, BLOCK_CELLS, Block, SLOTS, zero_words};
-pub use cells::{fill_block_cells, mark_of};
+pub use aes3_slot::mark_of;
+pub use cells::fill_block_cells;
 pub use fill::Fill;
 pub use frame::Frame;
 pub use gathered::GatheredCells;

@@ -23,7 +23,8 @@ use Rattle.aes3_lock.proofs.Deciding.{later-marks}
 use Rattle.aes3_lock.proofs.LawfulPieces.{stream_marks, stream-kept, stream-length, stream-level, runs-level}
 use Rattle.aes3_lock.proofs.StandingBlocks.{first-mark}
 use Rattle.aes3_slot.proofs.OwnPreambles.{shape-first}
-use Rattle.aes3_frame.proofs.BlockLemmas.{mark_at-odd, block_slots_384}
+use Rattle.aes3_slot.proofs.Marks.{mark_at-odd}
+use Rattle.aes3_frame.proofs.BlockLemmas.{block_slots_384}
 
 -- a block by the rule, and the level before each of its subframes
 pub block-kept : (t : Level) (d : List (List Bool)) → IsBlock d → AllKept mark_at t (block_cells t d)

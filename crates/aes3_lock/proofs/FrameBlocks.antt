@@ -28,7 +28,8 @@ use Rattle.aes3_lock.proofs.LawfulPieces.{payloads_in, each27-in, length-in, str
 use Rattle.aes3_lock.proofs.LawfulPieces.{stream-length, stream-level}
 use Rattle.aes3_lock.proofs.PlacesApart.{Has}
 use Rattle.aes3_lock.proofs.StandingBlocks.{first-mark}
-use Rattle.aes3_frame.proofs.BlockLemmas.{mark_at-odd, block_slots_384}
+use Rattle.aes3_slot.proofs.Marks.{mark_at-odd}
+use Rattle.aes3_frame.proofs.BlockLemmas.{block_slots_384}
 use Rattle.aes3_frame.proofs.CellLaws.{block_len_24576}
 
 -- behind its preamble a subframe's cells are told by its payload

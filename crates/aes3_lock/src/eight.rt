@@ -10,9 +10,8 @@ ghost use Rattle.aes3_frame.specs.Gathered.{IsRight};
 ghost use Rattle.aes3_lock.specs.Eights.{begun_before};
 
 use crate::subframe::completed;
-use aes3_frame::mark_of;
 use aes3_level::Level;
-use aes3_slot::wrong_cells_of_eight;
+use aes3_slot::{mark_of, wrong_cells_of_eight};
 use std::simd::prelude::*;
 
 /// The cells with which the eight subframes begin that eight words make whole: the `len` cells of

@@ -6,9 +6,8 @@ ghost use Rattle.aes3_slot.specs.Reading.{differs};
 ghost use Rattle.aes3_frame.specs.Blocks.{mark_at};
 
 use crate::recent::PREAMBLE_CELLS;
-use aes3_frame::mark_of;
 use aes3_level::Level;
-use aes3_slot::{Mark, SUBFRAME_CELLS, mark_cells};
+use aes3_slot::{Mark, SUBFRAME_CELLS, mark_cells, mark_of};
 
 /// Cell `k` of a preamble after the level `before`.
 fn preamble_cell(mark: Mark, k: u64, before: Level) -> Level

@@ -1,5 +1,6 @@
 pub mod Turns
 pub mod Subframes
+pub mod Marks
 pub mod Index
 pub mod Bridge
 pub mod Unique

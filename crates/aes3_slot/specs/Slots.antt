@@ -1,5 +1,6 @@
 -- The runs of a subframe: its preamble, its 27 bits, and the parity bit that makes their ones even.
-use Rattle.std.specs.Prelude.{ℕ, suc, List, [], ◌∷◌, ◌++◌, Bool, true, false, length, ◌≡◌}
+use Rattle.std.specs.Prelude.{ℕ, zero, suc, List, [], ◌∷◌, ◌++◌, Bool, true, false, length, ◌≡◌, ◌%◌, ◌==◌}
+use Rattle.std.specs.Prelude.{if◌then◌else◌}
 use Rattle.std.specs.List.{flat_map}
 use Rattle.aes3_slot.specs.declared.mark.Mark.{Mark}
 use Rattle.aes3_slot.specs.declared.mark.Mark.TheVariants.{X, Y, Z}
@@ -10,6 +11,11 @@ abbrev pub mark_runs : Mark → List ℕ
 mark_runs X = 3 ∷ 3 ∷ 1 ∷ 1 ∷ []
 mark_runs Y = 3 ∷ 2 ∷ 1 ∷ 2 ∷ []
 mark_runs Z = 3 ∷ 1 ∷ 1 ∷ 3 ∷ []
+
+-- the preamble of a block's subframe by its number: Z and Y in frame 0, X and Y in the frames after it
+unfoldable pub mark_at : ℕ → Mark
+mark_at zero = Z
+mark_at (suc j) = if (j % 2) == 0 then Y else X
 
 -- biphase-mark: bit 0 is one run of two cells, bit 1 is two runs of one
 abbrev pub bit_runs : Bool → List ℕ

@@ -3,7 +3,7 @@
 
 /// The cells of the time slots of four subframes at once.
 mod four;
-/// The three preambles X, Y and Z.
+/// The three preambles X, Y and Z, and which of them a subframe of a block has.
 mod mark;
 /// The eight cells of a preamble, and the preamble that eight cells are.
 mod preamble;
@@ -15,7 +15,7 @@ mod search;
 mod subframe;
 
 pub use four::slots_cells_of_four;
-pub use mark::Mark;
+pub use mark::{Mark, mark_of};
 pub use preamble::{mark_cells, match_mark};
 pub use reading::{
     Place, begins_subframe, slot_bits, take_either, take_subframe, wrong_cells,

@@ -15,9 +15,9 @@ use crate::outcome::{ending_at, refutation};
 use crate::recent::{PREAMBLE_CELLS, candidate_in, last_cell, with_cell};
 use crate::report::{Ending, Pushed, Report};
 use crate::subframe::{completed, first_cell, first_of, last_behind, last_of, rest_of, with_next};
-use aes3_frame::{BLOCK_CELLS, mark_of};
+use aes3_frame::BLOCK_CELLS;
 use aes3_level::Level;
-use aes3_slot::{SUBFRAME_CELLS, block_preambles, wrong_cells};
+use aes3_slot::{SUBFRAME_CELLS, block_preambles, mark_of, wrong_cells};
 use arrayvec::ArrayVec;
 
 impl Lock {

@@ -13,8 +13,8 @@ use crate::eight::{are_subframes, eight_completed};
 use crate::lock::Lock;
 use crate::recent::PREAMBLE_CELLS;
 use crate::subframe::{completed, last_octet, last_of, rest_of};
-use aes3_frame::{BLOCK_CELLS, mark_of};
-use aes3_slot::{SUBFRAME_CELLS, begins_subframe, block_preambles};
+use aes3_frame::BLOCK_CELLS;
+use aes3_slot::{SUBFRAME_CELLS, begins_subframe, block_preambles, mark_of};
 
 impl Lock {
     /// Takes the 64 cells of a word where no candidate is in hand and no preamble of a block ends
