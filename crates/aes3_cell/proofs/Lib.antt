@@ -23,3 +23,6 @@ pub mod KeptCells
 pub mod SecondCells
 pub mod ClosedGaps
 pub mod ScatteredText
+pub mod TextReads
+mod CellBytes
+mod Chunks

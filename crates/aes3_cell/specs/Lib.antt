@@ -10,6 +10,7 @@ pub mod Refusals
 pub mod Memory
 pub mod Pending
 pub mod TextReading
+pub mod TextLines
 pub mod PackedReading
 pub mod PackedFeeding
 pub mod PackedPending

@@ -1,8 +1,8 @@
 -- Cell text read byte by byte.
-use Rattle.std.specs.Prelude.{ℕ, List, length, Option, Some, None, Result, Ok, Err, ◌+◌}
+use Rattle.std.specs.Prelude.{ℕ, List, length, Option, Some, None, Result, Ok, Err, ◌≡◌, ◌+◌}
 use Rattle.aes3_level.specs.declared.level.Level.{Level}
 use Rattle.aes3_cell.specs.declared.refusal.BadCell.{BadCell}
-use Rattle.aes3_cell.specs.CellText.{Kind, cell, separator, bad, kind_of}
+use Rattle.aes3_cell.specs.CellText.{Kind, cell, separator, bad, kind_of, cells_of_text, IsCellText}
 
 -- how many bytes a reader has taken
 pub record TextReader : Type 0 where
@@ -29,3 +29,9 @@ kind_next reader bad = reader
 
 abbrev pub text_next : TextReader → ℕ → TextReader
 text_next reader byte = kind_next reader (kind_of byte)
+
+-- a reader of text took the bytes d, which are the cells c and separators
+pub record TextRead (old new : TextReader) (d : List ℕ) (c : List Level) : Type 0 where
+  pub lawful : IsCellText d
+  pub cells : cells_of_text d ≡ c
+  pub seen : new.seen ≡ old.seen + length d

@@ -36,13 +36,17 @@ mod refusal;
 mod scattered;
 /// A sink over memory that takes few bytes a call, for tests.
 mod short;
+/// A few cells.
+mod some_cells;
 /// Ends over std's readers and writers.
 mod standard;
 /// Cell text as it is read.
 mod text_in;
+/// Lines of cell text.
+mod text_lines;
 /// Cell text as it is written.
 mod text_out;
-/// Cell text as words of cells, many lines at once.
+/// The words of cells that text begins with, whatever its lines.
 mod text_words;
 /// Words of 64 cells, their line of text and their octets.
 mod word;
@@ -64,9 +68,11 @@ pub use packed_out::PackedOut;
 pub use packed_words::words_of_octets;
 pub use refusal::{BadCell, BadPadding, RunError};
 pub use short::ShortSink;
+pub use some_cells::SomeCells;
 pub use standard::{StdSink, StdSource};
 pub use text_in::CellText;
+pub use text_lines::LINES;
 pub use text_out::TextOut;
-pub use text_words::SomeCells;
+pub use text_words::TextFront;
 pub use word::{LINE_LEN, line_of_word, octets_of_word, word_of_octets, word_of_text};
 pub use written::{put_ending, put_word, put_words};

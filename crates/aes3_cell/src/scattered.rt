@@ -8,7 +8,7 @@ ghost use Rattle.aes3_cell.specs.CellText.{IsCellText, cells_of_text};
 ghost use Rattle.aes3_cell.specs.Scattered.{Holds, is_separator, kept_cells};
 ghost use Rattle.aes3_level.specs.Words.{low_cells};
 
-use crate::text_words::SomeCells;
+use crate::some_cells::SomeCells;
 use crate::word::equal_to;
 use aes3_level::even_bits;
 use std::simd::prelude::*;

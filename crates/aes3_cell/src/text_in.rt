@@ -17,17 +17,20 @@ impl Model for CellText {
     ghost view = { λ t. record { seen = t.seen } };
 }
 
-ghost use Rattle.std.specs.Prelude.{◌≡◌, ◌≢◌, ◌+◌, ◌*◌, ◌<◌, ◌≤◌, ◌^◌, ℕ, [], drop, length, map};
-ghost use Rattle.std.specs.Prelude.{slice_index_or, take, IfSome, OnSome, IfNone};
+ghost use Rattle.std.specs.Prelude.{◌≡◌, ◌≢◌, ◌+◌, ◌++◌, ◌*◌, ◌<◌, ◌≤◌, ◌^◌, ℕ, [], drop, length, map};
+ghost use Rattle.std.specs.Prelude.{slice_index, slice_index_or, take, Err, IfErr, IfNone, IfOk, IfSome};
+ghost use Rattle.std.specs.Prelude.{OnErr, OnSome};
 ghost use Rattle.std.specs.List.{flat_map};
 ghost use Rattle.aes3_cell.specs.CellText.{IsCellText, cells_of_text};
 ghost use Rattle.aes3_cell.specs.Text.{byte_of, line_text, text_of, IsCellByte};
 ghost use Rattle.aes3_level.specs.Words.{low_cells, word_cells};
-ghost use Rattle.aes3_cell.specs.TextReading.{text_answer, text_next, text_reader_of};
+ghost use Rattle.aes3_cell.specs.TextReading.{TextRead, text_answer, text_next, text_reader_of};
 
 use crate::refusal::BadCell;
 use crate::scattered::cells_among;
-use crate::text_words::{SomeCells, words_of_lines};
+use crate::some_cells::SomeCells;
+use crate::text_lines::{LINES, words_of_lines};
+use crate::text_words::{TextFront, fill};
 use crate::word::{LINE_LEN, word_of_text};
 use aes3_level::Level;
 
@@ -117,5 +120,31 @@ impl CellText {
         let cells = cells_among(bytes)?;
         self.seen += bytes.len() as u64;
         Some(cells)
+    }
+
+    /// Takes a front of a piece: lines of 64 cells, as many as come first and as there are words, or
+    /// chunks of cells and separators, or at least one byte. Answers how many bytes it has, how many
+    /// words its cells make, and the cells after these.
+    ///
+    /// # Errors
+    /// The place of the first byte, where it is neither a cell nor a separator. Nothing is taken then.
+    pub fn take_front(
+        &mut self,
+        piece: &[u8],
+        words: &mut [u64; LINES],
+    ) -> Result<TextFront, BadCell>
+        requires some { 0 < length piece.now }
+        requires room { self.old.seen + length piece.now ≤ 2 ^ 40 }
+        ensures within { IfOk result (λ taken. (0 < taken.bytes) × (taken.bytes ≤ length piece.now)) }
+        ensures few { IfOk result (λ taken. taken.count ≤ 64) }
+        ensures len { length words.new ≡ 64 }
+        ensures read { IfOk result (λ taken. TextRead self.old self.new (take taken.bytes piece.now)
+            (flat_map word_cells (take taken.count words.new)
+            ++ low_cells taken.rest.len taken.rest.word)) }
+        ensures fault { IfErr result (λ fault. Err fault
+            ≡ text_answer self.old (slice_index piece.now 0)) }
+        ensures same { OnErr result (self.new ≡ self.old) }
+    {
+        fill(self, piece, words)
     }
 }

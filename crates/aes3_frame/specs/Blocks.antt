@@ -4,7 +4,7 @@ use Rattle.std.specs.List.{flat_map, All}
 use Rattle.aes3_level.specs.declared.level.Level.{Level}
 use Rattle.aes3_level.specs.Cells.{line}
 use Rattle.aes3_slot.specs.Slots.{payload_len, IsPayload, with_parity, runs_of}
-pub use Rattle.aes3_slot.specs.Slots.{mark_at}
+unfoldable pub use Rattle.aes3_slot.specs.Slots.{mark_at}
 
 -- how many subframes and how many cells a block has
 unfoldable pub block_slots : ℕ

@@ -5,7 +5,7 @@ use Rattle.std.proofs.lemmas.List.{append_cancel_left}
 use Rattle.aes3_level.specs.declared.level.Level.{Level}
 use Rattle.aes3_cell.specs.Ends.{Grew, GrewFront}
 use Rattle.aes3_cell.specs.CellText.{cells_of_text, IsCellText}
-use Rattle.aes3_cell.specs.TextReading.{TextReader, text_reader_of}
+use Rattle.aes3_cell.specs.TextReading.{TextRead, TextReader, text_reader_of}
 use Rattle.aes3_cell.specs.Packed.{whole_cells}
 use Rattle.aes3_cell.specs.PackedReading.{PackedReader, packed_reader_of}
 use Rattle.aes3_cell.proofs.Growing.{grew-is, front-is}
@@ -13,7 +13,7 @@ use Rattle.aes3_cell.proofs.CellTexts.{cells-join, text-join}
 use Rattle.aes3_input.specs.Converting.{Reading, fault_behind, out_behind, first_fault, out}
 use Rattle.aes3_input.specs.Running.{Fed}
 use Rattle.aes3_input.specs.Taking.{Writing, behind, before_end}
-use Rattle.aes3_input.specs.Forms.{TextRead, text_reading, TextTaken, packed_reading, PackedTaken}
+use Rattle.aes3_input.specs.Forms.{text_reading, TextTaken, packed_reading, PackedTaken}
 use Rattle.aes3_input.proofs.Outputs.{behind-clean}
 use Rattle.aes3_input.proofs.Feeding.{front-longer}
 use Rattle.aes3_input.proofs.Items.{before-join}

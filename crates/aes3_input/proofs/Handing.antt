@@ -1,11 +1,10 @@
 -- Cells handed to a taker, one behind the other.
-use Rattle.std.proofs.Common.{◌≡◌, ℕ, ◌+◌, ◌-◌, ◌/◌, ◌^◌, ◌<◌, ◌≤◌, Result, Ok, Err, List, ◌++◌, Option, length, take, drop, refl, sym, ap, ap₂, ◌∙◌}
+use Rattle.std.proofs.Common.{◌≡◌, ℕ, ◌+◌, ◌<◌, ◌≤◌, Result, Ok, Err, List, ◌++◌, Option, length, take, drop, refl, sym, ap, ap₂, ◌∙◌}
 use Rattle.std.proofs.Common.{subst, arith, append_assoc}
 use Rattle.std.proofs.lemmas.List.{length-take-le}
 use Rattle.aes3_level.specs.declared.level.Level.{Level}
 use Rattle.aes3_cell.specs.Ends.{Grew, GrewFront}
 use Rattle.aes3_level.specs.Words.{low_cells}
-use Rattle.aes3_level.proofs.WordCells.{low_cells-add}
 use Rattle.aes3_level.proofs.Remaining.{front-here, here-parts}
 use Rattle.aes3_cell.proofs.Growing.{grew-is, grew-join, front-is, front-join, front-more}
 use Rattle.aes3_cell.specs.declared.ends.Fault.{Fault}
@@ -51,10 +50,6 @@ pub front-of-more : (w₀ : Writing Level) (f₀ : List Level → Type 0) (t₀ 
     → GrewFront t₀ t (behind w₀ c (a ++ more))
 front-of-more w₀ f₀ t₀ t a more g c q
     = front-is (sym (items-join w₀ c a more)) (front-more (g c q) (behind w₀ (c ++ a) more))
-
--- the first cells of a word, and the others
-pub cells-parted : (w i n : ℕ) → i ≤ n → low_cells n w ≡ low_cells i w ++ low_cells (n - i) (w / 2 ^ i)
-cells-parted w i n h = ap (λ k. low_cells k w) (let e : n ≡ i + (n - i) = omega arith in e) ∙ low_cells-add i (n - i) w
 
 -- a front of what some of them write is one of what all do
 some-failed : (w₀ : Writing Level) (f₀ : List Level → Type 0) (t₀ t : Option (List ℕ)) (line front rest : List Level)

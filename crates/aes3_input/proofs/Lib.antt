@@ -5,12 +5,9 @@ pub mod Flushing
 pub mod InputRuns
 pub mod Items
 pub mod Handing
-pub mod TextReads
 pub mod TextLemmas
 pub mod TextRuns
 pub mod PackedLemmas
 pub mod PackedRuns
 pub mod Fronts
-pub mod CellBytes
-pub mod Chunks
 pub mod CellRuns

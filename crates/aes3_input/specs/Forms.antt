@@ -40,12 +40,6 @@ text_state text cells taker = record {
   finished = TextTaken text cells taker.finished;
 }
 
--- a reader of text took the bytes d, which are the cells c and separators
-pub record TextRead (old new : TextReader) (d : List ℕ) (c : List Level) : Type 0 where
-  pub lawful : IsCellText d
-  pub cells : cells_of_text d ≡ c
-  pub seen : new.seen ≡ old.seen + length d
-
 -- the first n cells of an octet
 unfoldable pub octet_front : ℕ → ℕ → List Level
 octet_front n octet = take n (octet_cells octet)

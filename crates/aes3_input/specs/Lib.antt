@@ -1,7 +1,6 @@
 pub mod Converting
 pub mod Running
 pub mod Taking
-pub mod TextLines
 pub mod Forms
 pub mod Inputs
 pub mod Driving

@@ -12,10 +12,6 @@ mod packed_input;
 mod taker;
 /// Cell text as an input.
 mod text_input;
-/// The lines of 64 cells that text begins with.
-mod text_lines;
-/// The words of cells that text begins with, whatever its lines.
-mod text_words;
 
 pub use conversion::{Input, convert, feed_fronts};
 pub use driver::drive;

@@ -8,9 +8,7 @@ ghost use Rattle.aes3_input.specs.Running.{movement_of};
 
 use crate::conversion::{Input, convert};
 use crate::taker::{Taker, words_and_cells};
-use crate::text_lines::LINES;
-use crate::text_words::fill;
-use aes3_cell::{CellText, Form, RunError, Sink, Source};
+use aes3_cell::{CellText, Form, LINES, RunError, Sink, Source};
 
 /// Reads cell text, and counts its cells.
 #[derive(Drop)]
@@ -66,7 +64,7 @@ impl<K: Taker> Input<K> for TextInput {
         sink: &mut T,
         piece: &[u8],
     ) -> Result<usize, RunError> {
-        match fill(&mut self.text, piece, &mut self.words) {
+        match self.text.take_front(piece, &mut self.words) {
             Ok(taken) => {
                 let words = &self.words[..taken.count];
                 match words_and_cells(taker, sink, words, taken.rest.word, taken.rest.len) {

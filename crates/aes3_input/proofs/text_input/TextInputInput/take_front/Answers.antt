@@ -15,8 +15,8 @@ use Rattle.aes3_level.proofs.CellsIn.{length-words}
 use Rattle.aes3_input.proofs.Fronts.{text-front, text-part}
 use Rattle.aes3_input.proofs.text_input.TextInputInput.take_front.Goals as goal
 
-pub fill-requires-clause-room : goal.fill-requires-clause-room
-fill-requires-clause-room g c = let h = c.requires.following in let l = h.1 in let e = taken-seen h.2 in omega arith
+pub take_front-requires-clause-room : goal.take_front-requires-clause-room
+take_front-requires-clause-room g c = let h = c.requires.following in let l = h.1 in let e = taken-seen h.2 in omega arith
 
 pub words_and_cells-requires-clause-following : goal.words_and_cells-requires-clause-following
 words_and_cells-requires-clause-following g c =
@@ -26,8 +26,8 @@ words_and_cells-requires-clause-following g c =
     let q = c.in-Ok.ensures.few in
     let n = length-cells_of_text h.0 in
     let r = t.rest.few in
-    let m : length (take t.count c.fill.new.words) ≡ t.count
-    = length-take-le t.count c.fill.new.words (let e = c.in-Ok.ensures.len in omega arith) in
+    let m : length (take t.count c.take_front.new.words) ≡ t.count
+    = length-take-le t.count c.take_front.new.words (let e = c.in-Ok.ensures.len in omega arith) in
     (cells_of_text h.0, omega arith, h.2.taker)
 
 pub overflow_add-self-in-Ok-words_and_cells : goal.overflow_add-self-in-Ok-words_and_cells
@@ -46,10 +46,10 @@ returns-in-Ok-words_and_cells g c =
     let r = c.in-Ok-words_and_cells.ensures.ran in
     let q = c.in-Ok.ensures in
     let t = c.in-Ok.taken in
-    let ws = take t.count c.fill.new.words in
+    let ws = take t.count c.take_front.new.words in
     let d = low_cells t.rest.len t.rest.word in
     let m : length ws ≡ t.count
-    = length-take-le t.count c.fill.new.words (let e = q.len in let f = q.few in omega arith) in
+    = length-take-le t.count c.take_front.new.words (let e = q.len in let f = q.few in omega arith) in
     let n : length (flat_map word_cells ws ++ d) ≡ 64 * t.count + c.from.result =
     length-append (flat_map word_cells ws) d
     ∙ ap₂ ◌+◌ (length-words ws ∙ ap (λ k. 64 * k) m) (length-low_cells t.rest.len t.rest.word ∙ sym c.from.ensures) in (
@@ -57,7 +57,7 @@ returns-in-Ok-words_and_cells g c =
       q.within.1,
       text-front (g.K.Taker.state c.args.taker.now).writes (g.K.Taker.state c.words_and_cells.new.taker).writes
           (g.K.Taker.state c.args.taker.now).follows (g.K.Taker.state c.words_and_cells.new.taker).follows
-          c.args.self.now.text c.fill.new.text c.args.self.now.cells (64 * t.count + c.from.result)
+          c.args.self.now.text c.take_front.new.self c.args.self.now.cells (64 * t.count + c.from.result)
           (take t.bytes c.args.piece.now) (flat_map word_cells ws ++ d)
           (g.T.Sink.taken c.args.sink.now) (g.T.Sink.taken c.words_and_cells.new.sink) q.read n r.0 r.1 r.2,
       r.3,
@@ -70,7 +70,7 @@ returns-in-Err g c =
     let taker = g.K.Taker.state c.args.taker.now in
     let start = text_state c.args.self.now.text c.args.self.now.cells taker in
     let t = g.T.Sink.taken c.args.sink.now in
-    ran-join start start (text_state c.fill.new.text c.args.self.now.cells taker) t
+    ran-join start start (text_state c.take_front.new.self c.args.self.now.cells taker) t
     (g.T.Sink.failed c.args.sink.now)
     (get_or xs 0 0 ∷ []) (drop 1 xs) xs (BadCell c.in-Err.fault.at)
     (fed-none start.reads start.follows t) refl
@@ -88,9 +88,9 @@ returns-in-Err-words_and_cells g c =
     let xs = c.args.piece.now in (
       r.0,
       text-part (g.K.Taker.state c.args.taker.now).writes (g.K.Taker.state c.args.taker.now).follows
-          c.args.self.now.text c.fill.new.text c.args.self.now.cells
+          c.args.self.now.text c.take_front.new.self c.args.self.now.cells
           (take t.bytes xs) (drop t.bytes xs) xs
-          (flat_map word_cells (take t.count c.fill.new.words) ++ low_cells t.rest.len t.rest.word)
+          (flat_map word_cells (take t.count c.take_front.new.words) ++ low_cells t.rest.len t.rest.word)
           (g.T.Sink.taken c.args.sink.now) (g.T.Sink.taken c.words_and_cells.new.sink) (take-append-drop t.bytes xs)
           q.read r.1,
     )

@@ -1,0 +1,219 @@
+//! Lines of cell text.
+
+ghost use Rattle.std.specs.Prelude.{◌≡◌, ◌≢◌, ◌+◌, ◌*◌, ◌<◌, ◌≤◌, ◌^◌, ℕ, [], drop, length, map};
+ghost use Rattle.std.specs.Prelude.{slice_index_or, take, IfNone, IfSome, IsTrue, OnSome, ◌↔◌};
+ghost use Rattle.std.specs.List.{flat_map};
+ghost use Rattle.aes3_level.specs.declared.level.Level.{Level};
+ghost use Rattle.aes3_level.specs.Words.{low_cells, word_cells};
+ghost use Rattle.aes3_cell.specs.CellText.{cells_of_text, kind_of, separator};
+ghost use Rattle.aes3_cell.specs.Text.{byte_of, line_text, text_of, IsCellByte};
+ghost use Rattle.aes3_cell.specs.TextLines.{LineBegins};
+ghost use Rattle.aes3_cell.specs.TextReading.{TextRead};
+
+use crate::text_in::CellText;
+use crate::word::{LINE_LEN, word_of_text};
+
+/// How many lines become words at once.
+pub const LINES: usize = 64;
+
+/// How many cells a line has as it is written.
+const LINE_CELLS: usize = 64;
+
+/// Eight cells of text that all are `0`.
+const CELL_BYTES: u64 = 0x3030_3030_3030_3030;
+
+/// The bits in which cells of text differ.
+const LEVEL_BITS: u64 = 0x0101_0101_0101_0101;
+
+/// The word of the line of 64 cells that text begins with.
+#[inline(always)]
+fn front_line(text: &[u8]) -> Option<u64>
+    ensures bound { OnSome result (65 ≤ length text.now) }
+    ensures cells { IfSome result (λ word. take 65 text.now ≡ line_text (word_cells word)) }
+    ensures owed { (word : ℕ) → word < 2 ^ 64 → take 65 text.now ≡ line_text (word_cells word)
+        → result ≡ Some word }
+{
+    if text.len() < LINE_LEN || text[64] != b'\n' {
+        return None;
+    }
+    word_of_text(text.first_chunk()?)
+}
+
+/// Makes words of the lines of 64 cells that text begins with, as many as come first and as there
+/// are words; answers how many.
+pub(crate) fn words_of_lines(text: &[u8], words: &mut [u64]) -> usize
+    ensures len { length words.new ≡ length words.old }
+    ensures room { result ≤ length words.new }
+    ensures within { 65 * result ≤ length text.now }
+    ensures lines { take (65 * result) text.now
+        ≡ text_of (flat_map word_cells (take result words.new)) }
+    ensures stops { result < length words.new → (word : ℕ) → word < 2 ^ 64
+        → take 65 (drop (65 * result) text.now) ≢ line_text (word_cells word) }
+{
+    for i in 0..words.len() {
+        match front_line(&text[LINE_LEN * i..]) {
+            Some(word) => words[i] = word,
+            None => return i,
+        }
+    }
+    words.len()
+}
+
+/// Whether a byte separates cells, as at the end of a line.
+#[tactic(auto, unfolding(crate::specs::CellText::kind_of))]
+fn is_separator(byte: u8) -> bool
+    ensures { IsTrue result ↔ kind_of byte ≡ separator }
+{
+    matches!(byte, b'\n' | b'\r' | b' ')
+}
+
+/// Takes the separators that a piece begins with, and answers how many they are.
+pub(crate) fn skip_separators(text: &mut CellText, piece: &[u8]) -> usize
+    requires { text.old.seen + length piece.now ≤ 2 ^ 40 }
+    ensures within { result ≤ length piece.now }
+    ensures read { TextRead text.old text.new (take result piece.now) [] }
+{
+    for (i, byte) in piece.iter().enumerate() {
+        if !is_separator(*byte) {
+            return i;
+        }
+        let _ = text.feed_byte(*byte);
+    }
+    piece.len()
+}
+
+/// Takes the 64 bytes that a piece begins with as a word, where they are all cells; else none.
+fn feed_front(text: &mut CellText, piece: &[u8]) -> Option<u64>
+    requires { text.old.seen + length piece.now ≤ 2 ^ 40 }
+    ensures bound { OnSome result (64 ≤ length piece.now) }
+    ensures cells { IfSome result (λ word. take 64 piece.now ≡ map byte_of (word_cells word)) }
+    ensures seen { OnSome result (text.new.seen ≡ text.old.seen + 64) }
+    ensures same { IfNone result (text.new ≡ text.old) }
+{
+    match piece.first_chunk() {
+        Some(bytes) => text.feed_word(bytes),
+        None => None,
+    }
+}
+
+/// Takes the 64 cells that a piece begins with as a word, where it begins with so many, and the
+/// separators behind them. Answers how many bytes these are, and the word.
+fn feed_line(text: &mut CellText, piece: &[u8]) -> Option<(usize, u64)>
+    requires { text.old.seen + length piece.now ≤ 2 ^ 40 }
+    ensures within { IfSome result (λ line. (64 ≤ line.0) × (line.0 ≤ length piece.now)) }
+    ensures read { IfSome result (λ line. TextRead text.old text.new (take line.0 piece.now)
+        (word_cells line.1)) }
+    ensures same { IfNone result (text.new ≡ text.old) }
+{
+    match feed_front(text, piece) {
+        Some(word) => {
+            let separators = skip_separators(text, &piece[64..]);
+            Some((64 + separators, word))
+        }
+        None => None,
+    }
+}
+
+/// Takes the lines of 64 cells that a piece begins with, with what separators there are behind
+/// each, as many as there are and as make words; answers how many bytes and how many words these
+/// are.
+fn feed_any_lines(text: &mut CellText, piece: &[u8], words: &mut [u64; LINES]) -> (usize, usize)
+    requires { text.old.seen + length piece.now ≤ 2 ^ 40 }
+    ensures within { result.0 ≤ length piece.now }
+    ensures few { result.1 ≤ 64 }
+    ensures len { length words.new ≡ 64 }
+    ensures read { TextRead text.old text.new (take result.0 piece.now)
+        (flat_map word_cells (take result.1 words.new)) }
+    ensures same { result.0 ≡ 0 → text.new ≡ text.old }
+{
+    let mut at = 0;
+    for count in 0..LINES {
+        match feed_line(text, &piece[at..]) {
+            Some((bytes, word)) => {
+                words[count] = word;
+                at += bytes;
+            }
+            None => return (at, count),
+        }
+    }
+    (at, LINES)
+}
+
+/// Takes the lines of 64 cells that a piece begins with: those that end with one line feed, if
+/// there are such, else those with what separators there are behind each. Answers how many bytes
+/// and how many words these are.
+pub(crate) fn feed_lines(
+    text: &mut CellText,
+    piece: &[u8],
+    words: &mut [u64; LINES],
+) -> (usize, usize)
+    requires { text.old.seen + length piece.now ≤ 2 ^ 40 }
+    ensures within { result.0 ≤ length piece.now }
+    ensures few { result.1 ≤ 64 }
+    ensures len { length words.new ≡ 64 }
+    ensures read { TextRead text.old text.new (take result.0 piece.now)
+        (flat_map word_cells (take result.1 words.new)) }
+    ensures same { result.0 ≡ 0 → text.new ≡ text.old }
+{
+    let count = text.feed_lines(piece, words);
+    if count == 0 {
+        return feed_any_lines(text, piece, words);
+    }
+    (LINE_LEN * count, count)
+}
+
+/// Whether text begins with eight cells: where it doesn't, there is no need to look at 64. Most
+/// text in short lines never does, so the jump that depends on it is foreseen.
+fn begins_with_cells(text: &[u8]) -> bool {
+    match text.first_chunk() {
+        Some(bytes) => u64::from_le_bytes(*bytes) & !LEVEL_BITS == CELL_BYTES,
+        None => false,
+    }
+}
+
+/// Whether text begins with 64 cells.
+fn is_line(text: &[u8]) -> bool
+    ensures { IsTrue result → length (cells_of_text (take 64 text.now)) ≡ 64 }
+{
+    match text.first_chunk() {
+        Some(bytes) => word_of_text(bytes).is_some(),
+        None => false,
+    }
+}
+
+/// Whether a line of 64 cells begins at a place of a piece: a line feed stands before it, and a
+/// separator behind it. Where chunks end there, the lines behind are read as lines. Chunks of 64
+/// bytes and lines of 65 meet within 65 chunks.
+#[inline(always)]
+pub(crate) fn begins_line(piece: &[u8], at: usize) -> bool
+    requires within { at ≤ length piece.now }
+    ensures { IsTrue result → LineBegins piece.now at }
+{
+    at > 0
+        && piece.len() - at > LINE_CELLS
+        && (piece[at - 1] == b'\n') & begins_with_cells(&piece[at..])
+        && is_separator(piece[at + LINE_CELLS])
+        && is_line(&piece[at..])
+}
+
+/// Where two lines of 64 cells begin, one behind the other, behind the first line feed of a text and
+/// at most a line from its beginning: no more than up to there is then read byte by byte. Where
+/// lines of 64 and others come in turn there is no such place.
+pub(crate) fn two_lines_behind(text: &[u8]) -> Option<usize>
+    ensures first { IfSome result (λ at. LineBegins text.now at) }
+    ensures second { IfSome result (λ at. LineBegins text.now (at + 65)) }
+{
+    for (i, byte) in text.iter().enumerate() {
+        if *byte == b'\n' {
+            let at = i + 1;
+            let both = text.len() >= at + LINE_LEN
+                && begins_line(text, at)
+                && begins_line(text, at + LINE_LEN);
+            return both.then_some(at);
+        }
+        if i == LINE_CELLS {
+            return None;
+        }
+    }
+    None
+}
