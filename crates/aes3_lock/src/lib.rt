@@ -33,7 +33,7 @@ mod word_marks;
 pub use candidate::Candidate;
 pub use lock::Lock;
 pub use parts::LockParts;
-pub use report::{Ending, Pushed, Report, Why};
+pub use report::{Ending, Report, Why};
 pub use scan::Scan;
 pub use slow::reports_of;
 pub use tally::Tally;

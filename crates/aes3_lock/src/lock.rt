@@ -2,6 +2,8 @@
 
 /// Fronts of words up to the first cell that decides a report.
 mod fronts;
+/// Cells one by one, and a word at a time.
+mod one_by_one;
 /// Cells of words, from any of them on, up to the first that decides a report.
 mod taking;
 /// Whole words that decide no report.

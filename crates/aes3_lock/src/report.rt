@@ -61,11 +61,11 @@ pub enum Ending {
 
 /// What a lock took of the front of a word.
 #[derive(Clone, Copy)]
-pub struct Pushed {
+pub(crate) struct Pushed {
     /// How many cells it took.
-    pub taken: u32,
+    pub(crate) taken: u32,
     /// What the last of them made of the candidate that it ended, if it ended one.
-    pub ending: Option<Ending>,
+    pub(crate) ending: Option<Ending>,
 }
 
 ghost use Rattle.std.specs.Prelude.{◌≡◌, None, Some};
