@@ -289,7 +289,7 @@ begun_sums style every c = notice_lines style (begun_notices every c)
 abbrev pub sum_lines : Style → ℕ → List Level → List ℕ
 sum_lines style every c = notice_lines style (notices every c)
 
--- a taker that writes so
+-- the sums that one more cell completes, and those that the end does
 unfoldable pub summing : Style → ℕ → Writing Level
 summing style every = record {
   adds = λ c l. notice_lines style (drop (length (begun_notices every c)) (begun_notices every (c ++ l ∷ [])));

@@ -133,7 +133,7 @@ watch_counts form b = record {
   marks = 0;
 }
 
--- a taker that writes so
+-- the events that one more cell decides, and those that the end does
 unfoldable pub watching : Style → Writing Level
 watching style = record {
   adds = λ c l. event_lines style (drop (length (begun_events c)) (begun_events (c ++ l ∷ [])));

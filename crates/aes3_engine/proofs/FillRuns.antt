@@ -80,7 +80,7 @@ HearRun max form pcm fill = InputRun (heard_cells form (mend_writing pcm fill)
 
 pub mend-ok : {max : ℕ} (form : Form) (pcm : SampleFormat) (fill : Fill) {n : Counts} {k : MendedBlocks} {frames marked : ℕ}
     {ended : Bool} {source sink : Movement}
-    → ((xs : List Placed) → Apart 0 xs → k.blocks.progress ≡ progress_of k.blocks.fill xs
+    → ((xs : List Placed) → Apart 0 xs → k.filled.progress ≡ progress_of k.filled.fill xs
     → n.blocks + k.marked ≡ length xs → frames ≡ frames_filled xs)
     → marked ≡ k.marked
     → HearRun max form pcm fill ended source sink (Ok (n, k))
@@ -91,7 +91,7 @@ mend-ok form pcm fill {k = k} t z r =
     (λ c. narrowed pcm (filled fill (given true fill c (decided c)))) (with-mended pcm fill) (before-mended pcm fill))
     (λ b i h.
     let c = cells_of form b in
-    let own = k.blocks.fill in
+    let own = k.filled.fill in
     let q = count-mended own c (reports c) in
     let d = whole-count form b h.0 in
     let v = h.1.marked in (
@@ -119,7 +119,7 @@ fill-same {max} form marked {p} {q} {f} {h} {ended} {source} {sink} {r} d e run 
     (subst (λ (v : Fill). FillRun max form p v marked ended source sink r) e run)
 
 -- a listener of no cell
-pub nothing-mended : (k : MendedBlocks) → k.blocks.progress ≡ None → k.before ≡ zero_block → k.marked ≡ 0
+pub nothing-mended : (k : MendedBlocks) → k.filled.progress ≡ None → k.before ≡ zero_block → k.marked ≡ 0
     → IsMendedOf k [] (decided [])
 unfolding decided
 nothing-mended k p b m = record { progress = p; before = b; marked = m }

@@ -45,32 +45,32 @@ few-marked (Cut at cells ∷ r) = let n = few-marked r in omega arith
 module _ (k : MendedBlocks) (lock : LockState) (c : List Level) (r : List Report) (e : Ending) (h : IsMendedOf k c r)
     (held : HeldBlock lock.words c (Some e)) where
   abbrev all : List Placed
-  all = given true k.blocks.fill c r
+  all = given true k.filled.fill c r
 
   abbrev more : List Placed
-  more = given_in k.blocks.fill lock.words k.before e
+  more = given_in k.filled.fill lock.words k.before e
 
   -- what the report gives
-  own : mended_from k.blocks.fill c (block_before zero_block all) (report_in lock e ∷ []) ≡ more
+  own : mended_from k.filled.fill c (block_before zero_block all) (report_in lock e ∷ []) ≡ more
   own =
-      ap (λ (b : List (List Bool)). mended_from k.blocks.fill c b (report_in lock e ∷ [])) (sym h.before)
-      ∙ given-in k.blocks.fill lock c k.before e held
+      ap (λ (b : List (List Bool)). mended_from k.filled.fill c b (report_in lock e ∷ [])) (sym h.before)
+      ∙ given-in k.filled.fill lock c k.before e held
 
-  pub bytes-given : bytes_behind k.blocks.format k.blocks.fill k.blocks.progress more
-      ≡ narrowed k.blocks.format (behind_blocks k.blocks.fill all
-      (mended_from k.blocks.fill c (block_before zero_block all) (report_in lock e ∷ [])))
+  pub bytes-given : bytes_behind k.filled.format k.filled.fill k.filled.progress more
+      ≡ narrowed k.filled.format (behind_blocks k.filled.fill all
+      (mended_from k.filled.fill c (block_before zero_block all) (report_in lock e ∷ [])))
   bytes-given =
-      ap (λ (v : Option Progress). bytes_behind k.blocks.format k.blocks.fill v more) h.progress
-      ∙ bytes-behind k.blocks.format k.blocks.fill all more
-      ∙ ap (λ v. narrowed k.blocks.format (behind_blocks k.blocks.fill all v)) (sym own)
+      ap (λ (v : Option Progress). bytes_behind k.filled.format k.filled.fill v more) h.progress
+      ∙ bytes-behind k.filled.format k.filled.fill all more
+      ∙ ap (λ v. narrowed k.filled.format (behind_blocks k.filled.fill all v)) (sym own)
 
-  next-all : given true k.blocks.fill c (r ++ report_in lock e ∷ []) ≡ all ++ more
-  next-all = mended-append k.blocks.fill c zero_block r (report_in lock e ∷ []) ∙ ap (λ v. all ++ v) own
+  next-all : given true k.filled.fill c (r ++ report_in lock e ∷ []) ≡ all ++ more
+  next-all = mended-append k.filled.fill c zero_block r (report_in lock e ∷ []) ∙ ap (λ v. all ++ v) own
 
   pub next-mended : (m : MendedBlocks) → TookBlocks k m more (marked_in e) → IsMendedOf m c (r ++ report_in lock e ∷ [])
   next-mended m took =
       let x = r ++ report_in lock e ∷ [] in
-      let f = k.blocks.fill in
+      let f = k.filled.fill in
       record {
         progress = took.progress ∙ ap (λ (v : Option Progress). progress_behind f v more) h.progress
             ∙ progress-append f all more ∙ ap (progress_of f) (sym next-all)
@@ -86,9 +86,9 @@ module _ (k : MendedBlocks) (lock : LockState) (c : List Level) (r : List Report
 pub mended-later : (k : MendedBlocks) (c d : List Level) → IsMendedOf k c (decided c)
     → IsMendedOf k (c ++ d) (decided c)
 mended-later k c d h =
-    let s = sym (begun-stays k.blocks.fill c d) in
+    let s = sym (begun-stays k.filled.fill c d) in
     record {
-      progress = h.progress ∙ ap (progress_of k.blocks.fill) s;
+      progress = h.progress ∙ ap (progress_of k.filled.fill) s;
       before = h.before ∙ ap (block_before zero_block) s;
       marked = h.marked;
     }

@@ -50,14 +50,14 @@ marked_in (Unfinished at cells) = 0
 
 -- a listener that has heard of the reports r on the cells c
 pub record IsMendedOf (k : MendedBlocks) (c : List Level) (r : List Report) : Type 0 where
-  pub progress : k.blocks.progress ≡ progress_of k.blocks.fill (given true k.blocks.fill c r)
-  pub before : k.before ≡ block_before zero_block (given true k.blocks.fill c r)
+  pub progress : k.filled.progress ≡ progress_of k.filled.fill (given true k.filled.fill c r)
+  pub before : k.before ≡ block_before zero_block (given true k.filled.fill c r)
   pub marked : k.marked ≡ marked_given true r
 
 -- a listener has written some more blocks, of which n are marked
 pub record TookBlocks (old new : MendedBlocks) (xs : List Placed) (n : ℕ) : Type 0 where
-  pub fill : new.blocks.fill ≡ old.blocks.fill
-  pub format : new.blocks.format ≡ old.blocks.format
-  pub progress : new.blocks.progress ≡ progress_behind old.blocks.fill old.blocks.progress xs
+  pub fill : new.filled.fill ≡ old.filled.fill
+  pub format : new.filled.format ≡ old.filled.format
+  pub progress : new.filled.progress ≡ progress_behind old.filled.fill old.filled.progress xs
   pub before : new.before ≡ block_before old.before xs
   pub marked : new.marked ≡ old.marked + n

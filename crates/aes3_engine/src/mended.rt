@@ -22,24 +22,24 @@ use aes3_runs::{Listener, run_cells};
 /// the time between.
 #[derive(Drop)]
 pub(crate) struct MendedBlocks {
-    blocks: FilledBlocks,
+    filled: FilledBlocks,
     /// The last block, or that of zeros.
     before: Block,
-    /// How many of them are marked.
+    /// How many of the blocks are marked.
     marked: u64,
 }
 
 impl MendedBlocks {
     /// A listener that has heard of no cell.
     fn new(fill: Fill, format: SampleFormat) -> Self
-        ensures fill { result.blocks.fill ≡ fill }
-        ensures format { result.blocks.format ≡ format }
-        ensures progress { result.blocks.progress ≡ None }
+        ensures fill { result.filled.fill ≡ fill }
+        ensures format { result.filled.format ≡ format }
+        ensures progress { result.filled.progress ≡ None }
         ensures before { result.before ≡ zero_block }
         ensures marked { result.marked ≡ 0 }
     {
         MendedBlocks {
-            blocks: FilledBlocks::new(fill, format),
+            filled: FilledBlocks::new(fill, format),
             before: Block::zero(),
             marked: 0,
         }
@@ -54,10 +54,10 @@ impl MendedBlocks {
         ensures took { IfOk result (λ _. TookBlocks self.old self.new
             (record { place = at; block = block } ∷ []) 0) }
         ensures wrote { Wrote T.taken T.failed sink.old sink.new
-            (bytes_behind self.old.blocks.format self.old.blocks.fill self.old.blocks.progress
+            (bytes_behind self.old.filled.format self.old.filled.fill self.old.filled.progress
             (record { place = at; block = block } ∷ [])) result }
     {
-        match self.blocks.put_block(sink, at, &block) {
+        match self.filled.put_block(sink, at, &block) {
             Ok(()) => {
                 self.before = block;
                 Ok(())
@@ -74,11 +74,11 @@ impl MendedBlocks {
         requires room { T.failed sink.old + 1 < 2 ^ 64 }
         requires few { self.old.marked + 1 < 2 ^ 64 }
         ensures took { IfOk result (λ _. TookBlocks self.old self.new
-            (given_in self.old.blocks.fill lock.now.words self.old.before ending)
+            (given_in self.old.filled.fill lock.now.words self.old.before ending)
             (marked_in ending)) }
         ensures wrote { Wrote T.taken T.failed sink.old sink.new
-            (bytes_behind self.old.blocks.format self.old.blocks.fill self.old.blocks.progress
-            (given_in self.old.blocks.fill lock.now.words self.old.before ending)) result }
+            (bytes_behind self.old.filled.format self.old.filled.fill self.old.filled.progress
+            (given_in self.old.filled.fill lock.now.words self.old.before ending)) result }
     {
         match ending {
             Ending::Whole { at, .. } => {
@@ -86,7 +86,7 @@ impl MendedBlocks {
                 self.put_block(sink, at, block)
             }
             Ending::Marked { at, .. } => {
-                let block = lock.gathered().mended(self.blocks.fill, &self.before);
+                let block = lock.gathered().mended(self.filled.fill, &self.before);
                 self.marked += 1;
                 self.put_block(sink, at, block)
             }
@@ -99,7 +99,7 @@ impl MendedBlocks {
 impl Listener for MendedBlocks {
     ghost follows = { λ k c. IsMendedOf k c (decided c) };
 
-    ghost writes = { λ k. mend_writing k.blocks.format k.blocks.fill };
+    ghost writes = { λ k. mend_writing k.filled.format k.filled.fill };
 
     ghost finished = { λ k c. IsMendedOf k c (reports c) };
 
@@ -147,11 +147,11 @@ pub(crate) fn fill_mended<S: Source, T: Sink>(
         (movement_of T.taken T.failed sink.old sink.new) result }
     ensures passed_on { IfOk result (λ _. T.passed sink.new ≡ T.taken sink.new) }
 {
-    let blocks = MendedBlocks::new(fill, format);
-    let (counts, blocks) = run_cells(source, sink, max_bytes, input, blocks)?;
+    let mended = MendedBlocks::new(fill, format);
+    let (counts, mended) = run_cells(source, sink, max_bytes, input, mended)?;
     Ok(Filled {
         counts,
-        frames: blocks.blocks.frames(counts.blocks, blocks.marked),
-        marked: blocks.marked,
+        frames: mended.filled.frames(counts.blocks, mended.marked),
+        marked: mended.marked,
     })
 }

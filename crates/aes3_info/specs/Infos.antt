@@ -37,7 +37,7 @@ info_counts form b = record {
   marks = 0;
 }
 
--- a taker that writes so
+-- cells write nothing, and their end the page
 unfoldable pub inspecting : Notation → Writing Level
 inspecting notation = record { adds = λ c l. []; ends = info_page notation }
 

@@ -32,7 +32,7 @@ output_from f n (x ∷ r) = f n x ++ output_from f (n + length (wholes (x ∷ []
 abbrev pub output : (ℕ → Report → List ℕ) → List Report → List ℕ
 output f r = output_from f 0 r
 
--- a taker that writes so, and at the end an ending
+-- what each report writes, and the end
 unfoldable pub report_writing : (ℕ → Report → List ℕ) → List ℕ → Writing Report
 report_writing f ending = record { adds = λ r x. f (length (wholes r)) x; ends = λ r. ending }
 

@@ -34,7 +34,7 @@ returns-in-Some-clause-wrote g c =
     let lock = c.args.lock.now in
     λ d h f.
     wrote-is (bytes-given k lock d (decided d) c.in-Some.ending f (subst (HeldBlock lock.words d) c.in-Some.is h.held)
-    ∙ end-bytes k.blocks.format k.blocks.fill d (report_in lock c.in-Some.ending)
+    ∙ end-bytes k.filled.format k.filled.fill d (report_in lock c.in-Some.ending)
     (end-one c.in-Some.is h)) c.put.ensures.wrote
 
 pub returns-in-None-clause-done : goal.returns-in-None-clause-done
@@ -46,7 +46,7 @@ pub returns-in-None-clause-wrote : goal.returns-in-None-clause-wrote
 returns-in-None-clause-wrote g c =
     let k = c.args.self.now in
     λ d h f. record {
-      grew = grew-is (sym (no-end-bytes k.blocks.format k.blocks.fill d (end-none c.in-None.is h)))
+      grew = grew-is (sym (no-end-bytes k.filled.format k.filled.fill d (end-none c.in-None.is h)))
           (grew-none refl);
       count = refl;
       err = tt;

@@ -40,7 +40,7 @@ returns-in-Some-clause-wrote g c =
     λ d e h f.
     wrote-is (bytes-given k lock (d ++ e) (decided d) c.in-Some.ending (mended-later k d e f)
     (subst (HeldBlock lock.words (d ++ e)) c.in-Some.is h.held)
-    ∙ told-bytes k.blocks.format k.blocks.fill d e (report_in lock c.in-Some.ending)
+    ∙ told-bytes k.filled.format k.filled.fill d e (report_in lock c.in-Some.ending)
     (told-one c.in-Some.is h)) c.put.ensures.wrote
 
 pub returns-in-None-clause-next : goal.returns-in-None-clause-next
@@ -54,7 +54,7 @@ pub returns-in-None-clause-wrote : goal.returns-in-None-clause-wrote
 returns-in-None-clause-wrote g c =
     let k = c.args.self.now in
     λ d e h f. record {
-      grew = grew-is (sym (quiet-bytes k.blocks.format k.blocks.fill d e
+      grew = grew-is (sym (quiet-bytes k.filled.format k.filled.fill d e
           (told-none c.in-None.is h))) (grew-none refl);
       count = refl;
       err = tt;
