@@ -38,8 +38,10 @@ fn bits_of(octets: &[u8; 64], bit: u8) -> u64
     requires within { bit < 8 }
     ensures { (i : ℕ) → i < 64 → bit_at result i ≡ bit_at (get_or octets.now i 0) bit }
 {
-    (u8x64::from_array(*octets) & u8x64::splat(1 << bit))
-        .simd_ne(u8x64::splat(0))
+    let mask = u8x64::splat(1 << bit);
+    // Where zeros are compared with, each mask has to be inverted.
+    (u8x64::from_array(*octets) & mask)
+        .simd_eq(mask)
         .to_bitmask()
 }
 
