@@ -4,7 +4,7 @@ use Rattle.std.proofs.Common.{None, Some, length, refl, sym, ap, ap₂, ◌∙�
 use Rattle.std.specs.List.{filter}
 use Rattle.std.proofs.lemmas.Grind.{flat_map-append}
 use Rattle.aes3_cell.specs.Ends.{Grew, GrewFront}
-use Rattle.aes3_cell.proofs.Growing.{front-is, front-join, front-more, grew-is, grew-join, grew-none}
+use Rattle.aes3_cell.proofs.Growing.{front-is, front-join, front-more, grew-is, grew-join}
 use Rattle.aes3_lock.specs.declared.report.Ending.{Ending}
 use Rattle.aes3_lock.specs.declared.report.Ending.TheVariants.{Whole as EndsWhole, Marked as EndsMarked}
 use Rattle.aes3_lock.specs.declared.report.Ending.TheVariants.{Fault as EndsFault, Unfinished as EndsUnfinished}
@@ -16,23 +16,15 @@ use Rattle.aes3_lock.specs.Reports.{ending_report}
 use Rattle.aes3_settings.specs.declared.lines.Lines.{Lines}
 use Rattle.aes3_gaps.specs.declared.gap.Due.{Due}
 use Rattle.aes3_gaps.specs.declared.gap.Gap.{Gap}
-use Rattle.aes3_gaps.specs.Gaps.{Entry, reported, kind, full_gaps, full_count, behind_full, gaps_before, behind_report}
+use Rattle.aes3_gaps.specs.Gaps.{Entry, kind, full_gaps, full_count, behind_full, gaps_before}
 use Rattle.aes3_gaps.specs.Gaps.{gaps, is_lost}
-use Rattle.aes3_gaps.specs.Told.{behind_entry, due_before, due_gaps, gap_entry, gaps_up_to, report_with}
+use Rattle.aes3_gaps.specs.Told.{due_before, due_gaps, gap_entry, gaps_up_to, report_with}
 use Rattle.aes3_gaps.proofs.GapLemmas.{behind-none, lost-append}
-use Rattle.aes3_account.specs.GapLines.{entry_line, gap_line, account_lines}
+use Rattle.aes3_account.specs.GapLines.{entry_line, account_lines}
 
 pub lines-append : (lines : Lines) (a b : List Entry)
     → account_lines lines (a ++ b) ≡ account_lines lines a ++ account_lines lines b
 lines-append lines a b = flat_map-append (entry_line lines) a b
-
--- one gap
-pub gap-lines : (lines : Lines) (g : Gap) → gap_line g.at g.cells ≡ account_lines lines (gap_entry g ∷ [])
-gap-lines lines g = go g.counts
-  where
-    go : (b : Bool) → gap_line g.at g.cells ≡ account_lines lines (kind b g.at g.cells ∷ [])
-    go true = sym (append-nil (gap_line g.at g.cells))
-    go false = sym (append-nil (gap_line g.at g.cells))
 
 pub gap-few : (g : Gap) → length (filter is_lost (gap_entry g ∷ [])) ≤ 1
 gap-few g = go g.counts
@@ -50,17 +42,6 @@ pub record ToldGaps (t t' : Option (List ℕ)) (lines : Lines) (p q l l' : ℕ) 
   pub spent : l' + p ≤ l + q
   pub most : l' ≤ l + d.to
   pub behind : d.short ≡ None → behind_full p d.to ≡ behind_full q d.to
-
-pub gaps-start : (t : Option (List ℕ)) (lines : Lines) (p l : ℕ) (d : Due) → ToldGaps t t lines p p l l d
-gaps-start t lines p l d = record {
-  done = [];
-  parts = refl;
-  lost = omega arith;
-  grew = grew-none refl;
-  spent = omega arith;
-  most = omega arith;
-  behind = λ _. refl;
-}
 
 next-parts : (p q q' : ℕ) (d : Due) (done : List Entry) (g : Gap) → due_gaps p d ≡ done ++ due_gaps q d
     → due_gaps q d ≡ gap_entry g ∷ due_gaps q' d → due_gaps p d ≡ (done ++ gap_entry g ∷ []) ++ due_gaps q' d
@@ -97,18 +78,10 @@ gaps-fail {lines = lines} {p} {q} {d = d} t'' q' g v e f =
     (front-more (front-is (sym (lines-append lines v.done (gap_entry g ∷ []))) (front-join v.grew f))
     (account_lines lines (due_gaps q' d)))
 
-pub gaps-room : {t t' : Option (List ℕ)} {lines : Lines} {p q l l' : ℕ} {d : Due} (q' : ℕ)
-    → ToldGaps t t' lines p q l l' d → q < q' → q' ≤ d.to → l' + 1 ≤ l + d.to
-gaps-room q' v further within = let s = v.spent in omega arith
-
 -- none is left
 none-parts : {t t' : Option (List ℕ)} {lines : Lines} {p q l l' : ℕ} {d : Due} (v : ToldGaps t t' lines p q l l' d)
     → due_gaps q d ≡ [] → v.done ≡ due_gaps p d
 none-parts v e = sym (v.parts ∙ ap (λ z. v.done ++ z) e ∙ append-nil v.done)
-
-pub gaps-grew : {t t' : Option (List ℕ)} {lines : Lines} {p q l l' : ℕ} {d : Due} → ToldGaps t t' lines p q l l' d
-    → due_gaps q d ≡ [] → Grew t t' (account_lines lines (due_gaps p d))
-gaps-grew {lines = lines} v e = grew-is (ap (account_lines lines) (none-parts v e)) v.grew
 
 pub gaps-lost : {t t' : Option (List ℕ)} {lines : Lines} {p q l l' : ℕ} {d : Due} → ToldGaps t t' lines p q l l' d
     → due_gaps q d ≡ [] → l' ≡ l + length (filter is_lost (due_gaps p d))
@@ -159,10 +132,3 @@ due-place k x d e = ap (λ u. u.to) e ∙ go x
     go (Marked at s wrong) = refl
     go (Fault at cell why) = refl
     go (Unfinished at cells) = refl
-
-pub due-behind : (k : Bool) (p q : ℕ) (x : Report) (d : Due) → d ≡ due_before k x
-    → (d.short ≡ None → q ≡ behind_full p d.to) → behind_entry q (reported x) ≡ behind_report p x
-due-behind k p q (Whole at s b) d e h = refl
-due-behind k p q (Marked at s wrong) d e h = h (ap (λ u. u.short) e) ∙ ap (λ u. behind_full p u.to) e
-due-behind k p q (Fault at cell why) d e h = h (ap (λ u. u.short) e) ∙ ap (λ u. behind_full p u.to) e
-due-behind k p q (Unfinished at cells) d e h = h (ap (λ u. u.short) e) ∙ ap (λ u. behind_full p u.to) e

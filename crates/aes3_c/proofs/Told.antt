@@ -1,5 +1,5 @@
 -- Reports told as numbers.
-use Rattle.std.proofs.Common.{◌≡◌, ◌≢◌, ℕ, List, [], Bool, Option, Some, None, false, map, refl, ap, ◌∙◌, sym, subst}
+use Rattle.std.proofs.Common.{◌≡◌, ◌≢◌, ℕ, List, Bool, Option, Some, None, false, map, refl, ap, ◌∙◌, sym, subst}
 use Rattle.std.proofs.Common.{arith, ne_eqb}
 use Rattle.std.specs.Prelude.{◌==◌, if◌then◌else◌, option_map}
 use Rattle.aes3_level.specs.declared.level.Level.{Level}
@@ -69,19 +69,6 @@ told-without r a b o h e = told-otherwise r b a (ne_eqb r.kind 1 h) ∙ e
 pub no-block : (r : Aes3Report) (o : Option Report) (at : ℕ) (before : Level) (block : List (List Bool)) → r.kind ≢ 1
     → Coded o r → o ≡ Some (Whole at before block) → r.words ≡ map word_of block
 no-block r o at before block h c e = absurd (h (subst (λ (o : Option Report). Coded o r) e c).0)
-
--- one with a whole block has its words
-block-of : Option Report → List (List Bool)
-block-of (Some (Whole at before block)) = block
-block-of (Some (Marked at before wrong)) = []
-block-of (Some (Fault at cell why)) = []
-block-of (Some (Unfinished at cells)) = []
-block-of None = []
-
-pub block-told : (r : Aes3Report) (b block : List (List Bool)) (o : Option Report) (at : ℕ) (before : Level)
-    → r.kind ≡ 1 → told_of b r ≡ o → o ≡ Some (Whole at before block) → b ≡ block
-unfolding by-kind block-of
-block-told r b block o at before h t e = sym (ap (λ k. block-of (by-kind b r k)) h) ∙ ap block-of (t ∙ e)
 
 pub coded-words : (o : Option Report) (r : Aes3Report) (words : List ℕ) → Coded o r
     → Coded o (record {

@@ -1,13 +1,10 @@
 -- What a device met, tried again and again.
-use Rattle.std.proofs.Common.{◌≡◌, ◌+◌, ℕ, List, [], ◌∷◌, ◌++◌, Option, Some, replicate, sym, ap, ◌∙◌}
+use Rattle.std.proofs.Common.{◌≡◌, ◌+◌, ℕ, List, [], ◌∷◌, ◌++◌, Option, Some, replicate, ap, ◌∙◌}
 use Rattle.std.proofs.Common.{append_assoc, append-nil}
 use Rattle.std.proofs.lemmas.List.{replicate_more}
 use Rattle.aes3_cell.specs.Attempts.{Met}
 use Rattle.aes3_cell.specs.declared.attempts.Trouble.{Trouble}
 use Rattle.aes3_cell.specs.declared.attempts.Trouble.TheVariants.{Interrupted}
-
-pub met-none : (a : Option (List Trouble)) → Met a a []
-met-none a = record { by = λ xs h. h ∙ ap Some (sym (append-nil xs)) }
 
 pub met-join : {a b d : Option (List Trouble)} {x y : List Trouble} → Met a b x → Met b d y → Met a d (x ++ y)
 met-join {x} {y} g h = record { by = λ xs e. h.by (xs ++ x) (g.by xs e) ∙ ap Some (append_assoc xs x y) }

@@ -91,24 +91,6 @@ pub adds-is : (k : Option ℕ) (r : List Report) (x : Report) → k ≡ first_un
 unfolding exact_writing
 adds-is k r x e = ap (λ (v : Option ℕ). unless_refused v (exact_samples S16 (placed (x ∷ [])))) e
 
--- one block
-pub block-fits : (at : ℕ) (b : List (List Bool)) → block_fits S16 b ≡ true
-    → narrowed S16 (block_samples b) ≡ exact_samples S16 (record { place = at; block = b } ∷ [])
-block-fits at b h =
-    ap (narrowed S16) (sym (append-nil (block_samples b)))
-    ∙ ap (λ (v : Bool). narrowed S16 (samples (if v then b ∷ [] else []))) (sym h)
-
-pub block-unfit : (at : ℕ) (b : List (List Bool)) → block_fits S16 b ≡ false
-    → exact_samples S16 (record { place = at; block = b } ∷ []) ≡ []
-block-unfit at b h = ap (λ (v : Bool). narrowed S16 (samples (if v then b ∷ [] else []))) h
-
-pub refused-is : (at : ℕ) (b : List (List Bool)) (v : Bool) → block_fits S16 b ≡ v
-    → ◌≡◌ {A = Option ℕ} (first_unfit S16 (record { place = at; block = b } ∷ [])) (if v then None else Some at)
-refused-is at b v h = ap (λ (w : Bool). if_none at w) h
-  where
-    if_none : ℕ → Bool → Option ℕ
-    if_none at w = if w then None else Some at
-
 -- blocks of which none is refused
 none-unfit : (f : SampleFormat) (xs : List Placed) → first_unfit f xs ≡ None
     → fitting f xs ≡ map (λ (x : Placed). x.block) xs

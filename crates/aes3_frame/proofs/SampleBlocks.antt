@@ -15,7 +15,7 @@ use Rattle.aes3_frame.specs.Blocks.{block_slots, IsBlock}
 use Rattle.aes3_frame.specs.Files.{bytes_number, words_of, word_bytes}
 use Rattle.aes3_frame.specs.Samples.{sample_of, block_samples, samples}
 use Rattle.aes3_frame.specs.Sampled.{IsSample, payload_of_sample, sample_blocks, sampled, filled}
-use Rattle.aes3_frame.specs.Statuses.{status_place, bits_of_bytes, with_bits, with_status}
+use Rattle.aes3_frame.specs.Statuses.{status_place, with_bits}
 use Rattle.aes3_frame.specs.Subframes.{audio_len}
 use Rattle.aes3_frame.proofs.Bytes.{bytes_number-low_bytes}
 use Rattle.aes3_frame.proofs.Each.{all-nil, all-cons, all-payloads}
@@ -225,8 +225,3 @@ samples-bits First (p ∷ b) [] = refl
 samples-bits First (p ∷ b) (c ∷ bits) =
     ap₂ (λ x xs. 256 * number x ∷ xs) (take-set-le audio_len p status_place c place-behind) (samples-bits Second b bits)
 samples-bits Second (p ∷ b) bits = ap (λ xs. sample_of p ∷ xs) (samples-bits First b bits)
-
-pub samples-status : (channel : Channel) (status : List ℕ) (b : List (List Bool))
-    → map sample_of (with_status b channel status) ≡ map sample_of b
-unfolding with_status
-samples-status channel status b = samples-bits channel b (bits_of_bytes status)

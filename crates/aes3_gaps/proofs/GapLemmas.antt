@@ -25,9 +25,6 @@ full-add p (suc m) k =
     ap (full_gaps p) a ∙ ap (λ z. lost p block_len ∷ z)
     (full-add (p + block_len) m k ∙ ap (λ z. full_gaps (p + block_len) m ++ full_gaps z k) b)
 
-pub full-more : (p m : ℕ) → full_gaps p (m + 1) ≡ full_gaps p m ++ lost (p + block_len * m) block_len ∷ []
-full-more p m = full-add p m 1
-
 pub count-add : (p a b : ℕ) → a ≤ b → full_count p b ≡ full_count p a + full_count (behind_full p a) b
 unfolding full_count behind_full
 count-add p a b h = rw block_len_24576 (omega arith)

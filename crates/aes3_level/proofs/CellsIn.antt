@@ -4,7 +4,7 @@ use Rattle.std.proofs.Common.{ap, ◌∙◌, sym, arith, length-append}
 use Rattle.std.specs.List.{flat_map}
 use Rattle.std.proofs.lemmas.Grind.{flat_map-append}
 use Rattle.std.proofs.lemmas.List.{drop-drop, drop_at, drop_more, length-drop, length-take-le}
-use Rattle.std.proofs.lemmas.List.{take-append-drop, take-append-le, take-take, take_at}
+use Rattle.std.proofs.lemmas.List.{take-append-drop, take-append-le, take_at}
 use Rattle.std.proofs.Math.Seq.{take-add}
 use Rattle.aes3_level.specs.declared.level.Level.{Level}
 use Rattle.aes3_level.specs.Words.{low_cells, word_cells, word_len, cells_in}
@@ -45,14 +45,6 @@ pub words-behind : (ws : List ℕ) (k s n : ℕ) → k ≤ length ws → cells_i
 words-behind ws k s n h =
     ap (λ c. take n (drop s c)) (sym (drop-words ws k h))
     ∙ ap (take n) (drop-drop s (64 * k) (flat_map word_cells ws))
-
-pub words-of-front : (ws : List ℕ) (k m n : ℕ) → k + m ≤ length ws → n ≤ 64 * m
-    → take n (flat_map word_cells (take m (drop k ws))) ≡ cells_in ws (64 * k) n
-words-of-front ws k m n h l =
-    let d = length-drop k ws in
-    ap (take n) (sym (cells-of-words (drop k ws) m (omega (arith, d))))
-    ∙ take-take n (64 * m) (flat_map word_cells (drop k ws)) l
-    ∙ ap (take n) (sym (drop-words ws k (omega arith)))
 
 -- the first of a word
 front-of-word : (w n : ℕ) (more : List Level) → n ≤ 64 → take n (word_cells w ++ more) ≡ low_cells n w

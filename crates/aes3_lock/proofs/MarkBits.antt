@@ -75,18 +75,6 @@ module _ (p : ℕ) (c : List Level) (m m' t : ℕ) (low : (j : ℕ) → j < t �
   unfolding marks_left
   first-left h = from-first 0 64 (omega arith) (omega (arith, h)) (omega arith)
 
-  pub left-still : {x y : ℕ} → MarksLeft p m x y c → MarksLeft p m' x y c
-  left-still l = record {
-    begun = λ k h e. l.begun k h (was k h e (cases_eq k t));
-    behind = λ k h e. l.behind k h (was k h e (cases_eq k t));
-    x_is = l.x_is;
-    y_is = l.y_is;
-  }
-    where
-      was : (k : ℕ) → k < 64 → bit_at m' k ≡ 1 → (k ≡ t) ⊎ (k ≡ t → ⊥) → bit_at m k ≡ 1
-      was k h e (inl q) = absurd (let z = ap (bit_at m') q ∙ gone in omega (arith, e, z))
-      was k h e (inr q) = sym (others k h q) ∙ e
-
 -- where a preamble begins that is told, and not before cell 0
 both-true : (n b : Bool) → ◌≡◌ {A = ℕ} (if n then (if b then 1 else 0) else 0) 1 → (n ≡ true) × (b ≡ true)
 both-true true true e = (refl, refl)

@@ -8,7 +8,7 @@ use Rattle.std.proofs.Math.Seq.{take-add}
 use Rattle.aes3_cell.specs.Ends.{Grew}
 use Rattle.aes3_cell.proofs.Growing.{grew-is, grew-join, grew-none}
 use Rattle.aes3_recovery.specs.Levels.{AreWhole, bit_of_line, bits_of_sample, level_in, levels_of_samples, samples_in}
-use Rattle.aes3_recovery.specs.Reading.{FailedAt, ReadSamples, SamplesRan}
+use Rattle.aes3_recovery.specs.Reading.{ReadSamples, SamplesRan}
 use Rattle.aes3_recovery.specs.Taking.{Took, TookAll}
 use Rattle.aes3_recovery.specs.declared.levels.Unit.{Unit}
 use Rattle.aes3_recovery.specs.declared.levels.Unit.TheVariants.{Octets, Pairs}
@@ -233,12 +233,3 @@ run-ended {unit = unit} {taken = taken} {old = old} {now = now} {before = before
         (far end, λ bit. took-all (upto-levels u bit) all)
     ran (Err refusal) is e all =
         subst (λ (r : Refusal). SamplesRan unit u.octets ended taken old new before after (Err r)) (sym e.0) tt
-
--- which end failed at the end
-pub end-failed : (result : Result Progress Refusal) (source source_now first sink sink_now : ℕ) → source_now ≡ source
-    → sink ≡ first → IfErr result (λ refusal. (refusal ≡ Write) × (sink_now ≡ sink + 1))
-    → IfErr result (λ refusal. FailedAt refusal source source_now first sink_now)
-end-failed (Ok progress) source source_now first sink sink_now quiet same err = tt
-end-failed (Err refusal) source source_now first sink sink_now quiet same err =
-    subst (λ (r : Refusal). FailedAt r source source_now first sink_now) (sym err.0)
-    (quiet, err.1 ∙ ap (λ n. n + 1) same)

@@ -220,19 +220,3 @@ pub took-nothing : {A : Type 0} (taken : A → Option (List ℕ)) (old new : Rec
 took-nothing taken old new before after recovered awaits measured samples state follows =
     took-some taken old new before after [] false recovered awaits (omega (arith, measured))
     (λ was. omega (arith, was, samples)) (λ none is. none (sym state ∙ is)) (λ was is same room. follows)
-
--- the end, by what a call answers
-pub took-end-ok : {A R E : Type 0} (taken : A → Option (List ℕ)) (old new : Recovery) (before after : A) (result : Result R E)
-    → new.figures.samples ≡ old.figures.samples
-    → ((setting : Setting) (seen : List Level) → Recovered (taken before) setting seen [] old
-    → IfOk result (λ x. (cells : List Level) × AreRecovered setting.known seen cells new
-    × (taken after ≡ Some (setting.begun ++ finished setting.form cells))))
-    → IfOk result (λ x. old.figures.measured ≤ new.figures.measured)
-    → ((old.state ≡ Following → ⊥) → new.state ≡ Following → old.figures.measured + 1 < 2 ^ 64
-    → IfOk result (λ x. old.figures.measured < new.figures.measured))
-    → (old.found ≡ true → old.count ≡ 0 → (begun : List ℕ) (all : List Level)
-    → Queued (taken before) begun old.line.queue.form (waiting old.line.queue) all
-    → IfOk result (λ x. Writes (taken after) begun old.line.queue.form all))
-    → IfOk result (λ x. TookAll taken old new before after [])
-took-end-ok taken old new before after (Ok x) same ended up begun writes = took-end taken old new before after same ended up begun writes
-took-end-ok taken old new before after (Err e) same ended up begun writes = tt

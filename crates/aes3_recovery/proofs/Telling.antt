@@ -323,17 +323,6 @@ found-passes {taken = taken} old new a b r setting level done past w t none turn
           ∙ cells-told s front cells w.given t.cells);
     }
 
-pub unfound-passes : (told told' : Option (List ℕ)) (old new : Recovery) (begun done : List ℕ) (past : ℕ)
-    → IsUnfound told begun done past old → new.found ≡ false → new.figures.measured ≡ old.figures.measured
-    → new.held ≡ min (old.held + old.line.edges.run) (2 ^ 64 - 1) → new.line.queue ≡ old.line.queue → told' ≡ told
-    → IsUnfound told' begun done (past + old.line.edges.run) new
-unfound-passes told told' old new begun done past w found measured held queue same = record {
-  found_is = found;
-  none = measured ∙ w.none;
-  held = let was = w.held in omega (arith, was, held);
-  cells = rw (same, queue) w.cells;
-}
-
 -- what one level says of that before runs: they take turns
 pub after-even : (s : Level) (runs : List ℕ) → length runs % 2 ≡ 0 → after s runs ≡ s
 after-even s [] e = refl
@@ -473,20 +462,6 @@ told-run {R = R} {E = E} {taken = taken} old new a b v level told run found is t
     differ : true ≡ false → ⊥
     differ e = cc
 
-pub held-run : {A : Type 0} {taken : A → Option (List ℕ)} (old new : Recovery) (a b : A) (level : Level) (run : ℕ)
-    → old.found ≡ false → new.held ≡ min (old.held + run) (2 ^ 64 - 1) → new.line.queue ≡ old.line.queue
-    → taken b ≡ taken a → RunsTold taken old new a b level (run ∷ [])
-held-run old new a b level run found held queue same = record {
-  found = λ f. absurd (differ (sym f ∙ found));
-  unfound = λ f. record {
-    held = omega (arith, held);
-    gave = gave-none old.line new.line a b queue same;
-  };
-}
-  where
-    differ : true ≡ false → ⊥
-    differ e = cc
-
 -- what holds of all runs told holds of what is answered
 pub ok-map : {R E : Type 0} (r : Result R E) (P Q : Type 0) → (P → Q) → IfOk r (λ x. P) → IfOk r (λ x. Q)
 ok-map (Ok v) P Q f p = f p
@@ -511,23 +486,6 @@ passes-ok old new a b (Ok v) setting level done past found w t none turns same k
   either = elim w.either [
     | inl u ↦ absurd (differ (sym found ∙ u.found_is))
     | inr f ↦ inr (found-passes old new a b v setting level done past f t none turns (same ∙ found))
-  ];
-}
-  where
-    differ : true ≡ false → ⊥
-    differ e = cc
-
-pub passes-held : (told told' : Option (List ℕ)) (setting : Setting) (level : Level) (old new : Recovery)
-    (done : List ℕ) (past : ℕ) → old.found ≡ false → AreTold told setting level done past old → new.found ≡ old.found
-    → new.known ≡ old.known → new.figures.measured ≡ old.figures.measured
-    → new.held ≡ min (old.held + old.line.edges.run) (2 ^ 64 - 1) → new.line.queue ≡ old.line.queue → told' ≡ told
-    → AreTold told' setting level done (past + old.line.edges.run) new
-passes-held told told' setting level old new done past found w same known measured held queue t = record {
-  form_is = ap (λ q. q.form) queue ∙ w.form_is;
-  known_is = known ∙ w.known_is;
-  either = elim w.either [
-    | inl u ↦ inl (unfound-passes told told' old new setting.begun done past u (same ∙ found) measured held queue t)
-    | inr f ↦ absurd (differ (sym f.found_is ∙ found))
   ];
 }
   where

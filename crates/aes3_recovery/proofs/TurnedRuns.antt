@@ -2,7 +2,7 @@
 use Rattle.std.proofs.Common.{◌≡◌, ℕ, zero, suc, ◌+◌, ◌-◌, ◌*◌, ◌/◌, ◌%◌, ◌^◌, ◌<◌, ◌≤◌, List, [], ◌∷◌, ◌++◌, append-nil}
 use Rattle.std.proofs.Common.{replicate, refl, sym, ap, ap₂, ◌∙◌, arith}
 use Rattle.std.specs.Prelude.{Bool, true, false, if◌then◌else◌, bit_and, bit_xor}
-use Rattle.std.proofs.lemmas.Nat.{and_mask, one_shl, pow_pos}
+use Rattle.std.proofs.lemmas.Nat.{and_mask, one_shl}
 use Rattle.std.specs.Int.{bit_at}
 use Rattle.std.proofs.lemmas.Nat.Bits.{bit_at-lt, bit_at-suc, bit_at-zero, bit_at_lowest, bit_at_mask_below, bit_at_mask_inside, bit_at_ones, bit_at_xor, ones_shl}
 use Rattle.aes3_level.specs.declared.level.Level.{Level}
@@ -81,9 +81,3 @@ turned-none false word before level is = record {
 pub cells-alone : (word len : ℕ) → len < 64 → low_cells len (bit_and word (1 * 2 ^ len % 2 ^ 64 - 1)) ≡ low_cells len word
 cells-alone word len h = ap (λ m. low_cells len (bit_and word (m - 1))) (one_shl len 64 h)
     ∙ ap (low_cells len) (and_mask word len) ∙ low_cells-low-bits len word
-
-pub bits-alone : (word len : ℕ) → len < 64 → bit_and word (1 * 2 ^ len % 2 ^ 64 - 1) < 2 ^ len
-bits-alone word len h = rw (one_shl len 64 h, and_mask word len) (under word (2 ^ len) (pow_pos len))
-  where
-    under : (n d : ℕ) → 0 < d → n % d < d
-    under n d some = omega (arith, some)

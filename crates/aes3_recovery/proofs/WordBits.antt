@@ -1,6 +1,6 @@
 -- The bits of a word that cells are put into.
 use Rattle.std.proofs.Common.{◌≡◌, ℕ, zero, suc, ◌+◌, ◌-◌, ◌*◌, ◌/◌, ◌%◌, ◌^◌, ◌<◌, ◌≤◌, List, [], ◌∷◌, ◌++◌, length}
-use Rattle.std.proofs.Common.{Bool, append-nil, map, not, take, set, replicate, refl, sym, ap, ap₂, ◌∙◌, arith, append_assoc, length-append}
+use Rattle.std.proofs.Common.{map, take, set, replicate, refl, sym, ap, ap₂, ◌∙◌, arith, append_assoc, length-append}
 use Rattle.std.specs.Prelude.{bit_or}
 use Rattle.std.specs.Int.{bit_at}
 use Rattle.std.specs.Int.Bits.{or_shifted_r}
@@ -17,11 +17,7 @@ use Rattle.aes3_cell.specs.Packed.{first_octets, octets_needed, octets_of, packe
 use Rattle.aes3_level.proofs.WordCells.{length-low_cells, length-word_cells, low_cells-add, low_cells-same}
 use Rattle.aes3_cell.proofs.PackedCells.{first_octets-fill, take-first_octets, length-first_octets}
 use Rattle.aes3_level.proofs.WordCells.{word_len_64}
-use Rattle.aes3_level.specs.Cells.{after, line, other}
-use Rattle.aes3_level.proofs.Runs.{line-append}
-use Rattle.aes3_recovery.specs.Endings.{level_if}
-use Rattle.aes3_recovery.proofs.RunsToEnd.{after-more}
-use Rattle.aes3_recovery.proofs.SameLevels.{level-not}
+use Rattle.aes3_level.specs.Cells.{line}
 
 pub low_cells-none : (n : ℕ) → low_cells n 0 ≡ replicate n Low
 low_cells-none zero = refl
@@ -172,17 +168,3 @@ octets-end n w k last front xs h few ef ek el ex =
     (take-append-le k front (0 ∷ []) (omega arith) ∙ ap (take k) f ∙ take-first_octets k 8 c (omega arith)
     ∙ ap (λ q. first_octets q c) (ek ∙ ap octets_needed (sym i)))
     (el ∙ ap₂ (λ a b. 8 * a - b) (ek ∙ ap octets_needed (sym i)) (sym i))
-
--- the cells of runs, and those of one run more
-pub runs-fit : (w bits n k : ℕ) (before : Level) (high : Bool) (runs more : List ℕ) → more ≡ runs ++ k ∷ []
-    → n + k < 64 → w < 2 ^ n → bits < 2 ^ k → low_cells k bits ≡ replicate k (level_if high)
-    → low_cells n w ≡ line before runs → level_if high ≡ other (after before runs)
-    → (low_cells (n + k) (bit_or w (bits * 2 ^ n % 2 ^ 64)) ≡ line before more)
-    × (level_if (not high) ≡ other (after before more))
-runs-fit w bits n k before high runs more is room few small cells was level = (
-  cells-fit w bits n k (replicate k (level_if high)) room few small cells
-      ∙ ap₂ (λ a s. a ++ replicate k s) was level
-      ∙ ap (λ x. line before runs ++ x) (sym (append-nil (replicate k (other (after before runs)))))
-      ∙ sym (line-append before runs (k ∷ [])) ∙ ap (line before) (sym is),
-  level-not high ∙ ap other (level ∙ sym (after-more before runs k) ∙ ap (after before) (sym is)),
-)

@@ -1,14 +1,13 @@
 -- A job on octets laid out in other ways, by what it is told of them.
-use Rattle.std.proofs.Common.{◌≡◌, ◌&&◌, ℕ, Bool, true, false, List, Option, None, subst, sym}
+use Rattle.std.proofs.Common.{◌≡◌, ◌&&◌, ℕ, Bool, true, false, List, Option, subst, sym}
 use Rattle.std.specs.Prelude.{IsTrue}
 use Rattle.aes3_input.specs.Running.{Movement}
-use Rattle.aes3_octets.specs.Told.{raw_told, turned_told}
+use Rattle.aes3_octets.specs.Told.{raw_told}
 use Rattle.aes3_settings.specs.declared.typed.TypedSettings.{TypedSettings}
 use Rattle.aes3_job.specs.Forms.{reads_packed}
 use Rattle.aes3_job.specs.declared.job.Job.{Job}
-use Rattle.aes3_runner.specs.JobRuns.{JobRan}
 use Rattle.aes3_arguments.specs.declared.layout.Octets.{Octets}
-use Rattle.aes3_runner.specs.OctetRuns.{BehindRan, PackedRan, RawBy, RawRan, SourceRan}
+use Rattle.aes3_runner.specs.OctetRuns.{PackedRan, RawBy, RawRan, SourceRan}
 
 pub raw-ran : (Ran : Bool → Movement → Type 0) {t₀ u₀ t₁ : Option (List ℕ)} {f₀ g₀ f₁ : ℕ}
     {first counted told_end ended : Bool}
@@ -32,33 +31,6 @@ raw-ran Ran {t₀} {u₀} {t₁} {g₀ = g₀} {f₁} {counted = counted} {told_
       (subst (λ (b : Bool). Ran told_end
       (record { old = raw_told b u₀; new = raw_told counted t₁; failed_old = g₀; failed_new = f₁ })) none ran));
 }
-
-pub behind-ran : (job : Job) (typed : TypedSettings) {t₀ u₀ t₁ : Option (List ℕ)} {f₀ g₀ f₁ : ℕ} {start first held : Option ℕ}
-    {told_end ended : Bool} {sink errors : Movement} {status : ℕ}
-    → start ≡ first → u₀ ≡ t₀ → g₀ ≡ f₀ → (held ≡ None → IsTrue ended) → (IsTrue told_end → held ≡ None)
-    → JobRan job typed told_end (record {
-      old = turned_told start u₀;
-      new = turned_told held t₁;
-      failed_old = g₀;
-      failed_new = f₁;
-    }) sink errors status
-    → BehindRan first job typed ended (record { old = t₀; new = t₁; failed_old = f₀; failed_new = f₁ }) sink errors status
-behind-ran job typed {t₀} {u₀} {t₁} {g₀ = g₀} {f₁} {first = first} {held} {told_end} {sink = sink} {errors} {status} at old
-    failed behind before ran = record {
-      held = held;
-      told_end = told_end;
-      behind_all = behind;
-      before_end = before;
-      ran = subst (λ (f : ℕ). JobRan job typed told_end
-          (record { old = turned_told first t₀; new = turned_told held t₁; failed_old = f; failed_new = f₁ })
-          sink errors status) failed
-          (subst (λ (u : Option (List ℕ)). JobRan job typed told_end
-          (record { old = turned_told first u; new = turned_told held t₁; failed_old = g₀; failed_new = f₁ })
-          sink errors status) old
-          (subst (λ (h : Option ℕ). JobRan job typed told_end
-          (record { old = turned_told h u₀; new = turned_told held t₁; failed_old = g₀; failed_new = f₁ })
-          sink errors status) at ran));
-    }
 
 -- the same by the layout
 pub source-raw : (octets : Octets) (job : Job) (typed : TypedSettings) {turned ended : Bool} {source : Movement} (sink errors : Movement)

@@ -69,31 +69,6 @@ module _ (marks own : ℕ → Mark) (s t : Level) (d e : List Level) (kd : AllKe
           let w = aligned marks s d kd (own j) (before t e (64 * j)) (p + 64 * j) z in
           absurd (off (omega (arith, w)))
 
-  -- so at least three cells differ
-  pub three-apart : p + 136 ≤ length d → 136 ≤ length e
-      → (i j k : ℕ) × (i < j) × (j < k) × (k < 136) × (at d (p + i) ≢ at e i) × (at d (p + j) ≢ at e j)
-      × (at d (p + k) ≢ at e k)
-  three-apart rd re =
-      let a = preamble-apart 0 (omega arith) (omega arith) in
-      let b = preamble-apart 1 (omega arith) (omega arith) in
-      let c = preamble-apart 2 (omega arith) (omega arith) in
-      let ah = a.1 in
-      let bh = b.1 in
-      let ch = c.1 in
-      let move = λ (j k : ℕ) (n : at d (p + 64 * j + k) ≡ at e (64 * j + k)
-      → ⊥) (q : at d (p + (64 * j + k)) ≡ at e (64 * j + k)).
-      n (ap (at d) (let y : p + 64 * j + k ≡ p + (64 * j + k) = omega arith in y) ∙ q) in (
-        64 * 0 + a.0,
-        64 * 1 + b.0,
-        64 * 2 + c.0,
-        omega arith,
-        omega arith,
-        omega arith,
-        move 0 a.0 a.2,
-        move 1 b.0 b.2,
-        move 2 c.0 c.2,
-      )
-
 -- the cells of two different preambles differ in two places at least, whatever the levels
 pub two-apart : (m n : Mark) (t u : Level) → (m ≡ n → ⊥) → (i j : ℕ) × (i < j) × (j < 8) × (shape m i t ≢ shape n i u)
     × (shape m j t ≢ shape n j u)

@@ -1,6 +1,6 @@
 -- What is wrong with one of several values, with the options that have them, and with the words.
-use Rattle.std.proofs.Common.{◌≡◌, ◌∙◌, ◌<◌, ◌+◌, ◌++◌, arith, ℕ, List, [], ap, get_or, length, map, refl, subst, sym, take}
-use Rattle.std.proofs.Common.{append_assoc, inl, inr, None, Some}
+use Rattle.std.proofs.Common.{◌≡◌, ◌∙◌, ◌<◌, ◌+◌, ◌++◌, arith, ℕ, List, [], ap, get_or, length, map, subst, sym, take}
+use Rattle.std.proofs.Common.{append_assoc, inl, inr, None}
 use Rattle.std.proofs.lemmas.List.{get_or-map, length-append, length-map, take-map}
 use Rattle.std.proofs.lemmas.List.Elements.{All-contains_itself}
 use Rattle.std.proofs.lemmas.List.Folds.{length-flat_map-take}
@@ -12,11 +12,10 @@ use Rattle.clap.specs.Walk.{Text}
 use Rattle.clap.specs.declared.error.Error.{Error}
 use Rattle.clap.specs.declared.error.kind.ErrorKind.{ErrorKind}
 use Rattle.aes3_spoil.specs.declared.kinds.CellError.{CellError}
-use Rattle.aes3_spoil_program.specs.Asks.{Options, errors_at_spot, errors_by, errors_in, faults_in, named_errors}
+use Rattle.aes3_spoil_program.specs.Asks.{Options, errors_by, errors_in, faults_in, named_errors}
 use Rattle.aes3_spoil_program.specs.Asks.{values_by}
 use Rattle.aes3_spoil_program.specs.Faults.{IsFaultBy, IsFaultOf, IsOptionFault, IsWrongAfter, IsWrongAt, IsWrongIn}
 use Rattle.aes3_spoil_program.specs.Faults.{IsWrongWith, SaysWrong}
-use Rattle.aes3_spoil_program.specs.Named.{errors_named, places_named}
 use Rattle.aes3_spoil_program.specs.SpoilLine.{spoil_line}
 use Rattle.aes3_spoil_program.specs.Values.{spot_in}
 use Rattle.aes3_spoil_program.specs.declared.line.LineFault.{LineFault}
@@ -33,30 +32,6 @@ eight_joined a b c d e f g h =
     sym (append_assoc a b _) ∙ sym (append_assoc (a ++ b) c _) ∙ sym (append_assoc (a ++ b ++ c) d _)
     ∙ sym (append_assoc (a ++ b ++ c ++ d) e _) ∙ sym (append_assoc (a ++ b ++ c ++ d ++ e) f _)
     ∙ sym (append_assoc (a ++ b ++ c ++ d ++ e ++ f) g h)
-
--- how many errors an option names at a spot
-pub named_places : (error : NamedError) (cell slot : ℕ) → length (errors_named error cell slot) ≡ places_named error
-named_places named.Cell cell slot = refl
-named_places named.Invert cell slot = refl
-named_places named.Lost cell slot = refl
-named_places named.Double cell slot = refl
-named_places named.Parity cell slot = refl
-named_places named.Biphase cell slot = refl
-named_places named.Preamble cell slot = refl
-named_places named.CheckByte cell slot = refl
-
--- there is no room for the errors that an option names at a spot, and none for those of a text that says this spot
-pub no_room : (error : NamedError) (cell slot len room : ℕ) → len + room ≡ 64 → room < places_named error
-    → 64 < len + length (errors_named error cell slot)
-no_room error cell slot len room all few = let n = named_places error cell slot in omega arith
-
-pub too_many : (before : List CellError) (error : NamedError) (text : Text) (cell slot : ℕ)
-    → spot_in error text ≡ Some (cell, slot) → 64 < length before + length (errors_named error cell slot)
-    → 64 < length (before ++ errors_in error text)
-too_many before error text cell slot at full =
-    let is = ap (λ o. length (errors_at_spot error o)) at in
-    let all = length-append before (errors_in error text) in
-    omega arith
 
 -- one of an option's texts is wrong, after the errors of those before it
 wrong_after : (base mid : List CellError) (error : NamedError) (texts : List Text) (i : ℕ) (d : Text) (what : Wrong)

@@ -1,21 +1,13 @@
 -- Statuses that take all settings.
-use Rattle.std.proofs.Common.{◌≡◌, ℕ, ◌+◌, ◌<◌, Bool, true, false, ◌&&◌, List, [], ◌∷◌, length, get_or, refl, ap}
+use Rattle.std.proofs.Common.{◌≡◌, ℕ, ◌+◌, Bool, true, false, ◌&&◌, List, [], ◌∷◌, length, refl, ap}
 use Rattle.std.proofs.Common.{◌∙◌, sym, arith, map}
 use Rattle.std.specs.List.{list_all, range_with_len}
-use Rattle.std.specs.Option.{option_map_or}
-use Rattle.std.proofs.lemmas.Option.{slice_get-get_or}
 use Rattle.std.proofs.lemmas.List.Folds.{list_all-append, list_all-map}
 use Rattle.std.proofs.lemmas.List.FromFn.{map-range_with_len_more}
-use Rattle.aes3_status.specs.declared.setting.Setting.{Setting}
 use Rattle.aes3_status.specs.declared.setting.Settings.{Settings}
 use Rattle.aes3_status.specs.Taken.{kind_of}
-use Rattle.aes3_status.specs.TakingAll.{asks, asks_at, is_all, takes_all}
+use Rattle.aes3_status.specs.TakingAll.{is_all, takes_all}
 use Rattle.aes3_status.proofs.TakenKinds.{kind-taken}
-
--- a setting in its place
-pub asks-here : (settings : List Setting) (i : ℕ) (d : Setting) → i < length settings
-    → asks (get_or settings i d) ≡ asks_at settings i
-asks-here settings i d l = ap (λ o. option_map_or asks o false) (sym (slice_get-get_or settings i d l))
 
 -- one more number that passes a test
 and-last : (a b : Bool) → (a && (b && true)) ≡ (a && b)

@@ -49,16 +49,9 @@ pub head_len-append : (k : Known) (b c : List ℕ) → 8 ≤ length b → head_l
 head_len-append k b c h =
     ap₂ head_by (ap₂ (λ s t. s || t) (format-append k b c h) (sizes-append k b c h)) (content-append b c h)
 
-head_by-least : (t : Bool) (n : ℕ) → 8 ≤ head_by t n
-head_by-least true n = omega arith
-head_by-least false n = omega arith
-
 head_by-most : (t : Bool) (n : ℕ) → head_by t n ≤ 8 + n
 head_by-most true n = omega arith
 head_by-most false n = omega arith
-
-pub head_len-least : (k : Known) (b : List ℕ) → 8 ≤ head_len k b
-head_len-least k b = head_by-least (is_format k b || is_sizes k b) (content_len b)
 
 pub head_len-most : (k : Known) (b : List ℕ) → head_len k b ≤ chunk_len b
 head_len-most k b = let h = head_by-most (is_format k b || is_sizes k b) (content_len b) in omega arith

@@ -177,10 +177,6 @@ pub take-one : (p : List ℕ) (d : ℕ) → 0 < length p → take 1 p ≡ get_or
 take-one [] d h = absurd (omega arith)
 take-one (x ∷ p) d h = refl
 
-pub front-octet : (seen : ℕ) (stage : Stage) (at : ℕ) (f : List ℕ) (left : ℕ) (b p : List ℕ) (x : ℕ)
-    → take 1 p ≡ x ∷ [] → FollowsAt seen stage at f left (b ++ x ∷ []) → FollowsAt seen stage at f left (b ++ take 1 p)
-front-octet seen stage at f left b p x e w = subst (λ v. FollowsAt seen stage at f left (b ++ v)) (sym e) w
-
 pub front-refused : (b p : List ℕ) (x : ℕ) (e : HeaderError) → 0 < length p → take 1 p ≡ x ∷ [] → IsRefusedOctet b x e
     → IsRefused b p e
 front-refused b p x e h q r = record {
