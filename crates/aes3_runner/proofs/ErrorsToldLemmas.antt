@@ -34,8 +34,9 @@ use Rattle.aes3_settings.specs.declared.typed.TypedSettings.{TypedSettings}
 use Rattle.aes3_runner.specs.Lines.{met_lines, remark_line}
 use Rattle.aes3_runner.specs.Outcomes.{RemarkTold, met_by, sample_status}
 use Rattle.aes3_runner.specs.JobRuns.{AnswerTold, JobRan, RunRan, end_status, promise_of, read_promise, status_by, status_for, stream_promise}
-use Rattle.aes3_runner.specs.OctetRuns.{FirstFailed, OctetsRan, PackedRan, RawBy, as_raw, written_by}
+use Rattle.aes3_runner.specs.OctetRuns.{FirstFailed, OctetsRan, PackedRan, RawBy, as_raw, read_as, written_by}
 use Rattle.aes3_runner.specs.StandardErrors.{ErrorsTold, read_remarks, remarks, sets_fields, stream_remarks}
+use Rattle.aes3_runner.specs.Streams.{Streams}
 use Rattle.aes3_runner.specs.WordRuns.{FaultRan}
 
 -- the status of a test is 0 or 1
@@ -43,7 +44,7 @@ few-of : (b : Bool) → (if b then 1 else 0) ≤ 1
 few-of true = omega arith
 few-of false = omega arith
 
-pub few : (job : Job) (n : Counts) → status_by job n ≤ 1
+few : (job : Job) (n : Counts) → status_by job n ≤ 1
 few job n = few-of (finds_faults job && nat_lt 0 n.faults)
 
 -- a change that sets no field by name has no line
@@ -165,9 +166,9 @@ of-answer line ended source before (Err error) failed sink errors status run t =
 }
 
 -- of a job whose first octet could not be read
-of-first : (line : CommandLine) (source sink errors : Movement) (status : ℕ) → FirstFailed source sink errors status
-    → ErrorsTold (Ok line) errors status
-of-first line source sink errors status r =
+of-first : (line : CommandLine) (streams : Streams) (status : ℕ) → FirstFailed streams status
+    → ErrorsTold (Ok line) streams.errors status
+of-first line streams status r =
     let k = r.refused.refused in
     record {
       known = omega (arith, k);
@@ -179,35 +180,32 @@ of-first line source sink errors status r =
       ];
     }
 
-of-run : (line : CommandLine) {ended : Bool} {source sink errors : Movement} {status : ℕ}
-    → JobRan line.job line.typed ended source sink errors status → ErrorsTold (Ok line) errors status
-of-run line {sink = sink} {errors} {status} r = of-answer line _ _ _ r.answer r.failed sink errors status r.run r.told
+of-run : (line : CommandLine) {streams : Streams} {status : ℕ} → JobRan line.job line.typed streams status
+    → ErrorsTold (Ok line) streams.errors status
+of-run line {streams} {status} r = of-answer line _ _ _ r.answer r.failed streams.sink streams.errors status r.run r.told
 
-of-packed : (line : CommandLine) (turned : Bool) (ended : Bool) (source sink errors : Movement) (status : ℕ)
-    → PackedRan turned line.job line.typed ended source sink errors status → ErrorsTold (Ok line) errors status
-of-packed line true ended source sink errors status r = elim r [
+of-packed : (line : CommandLine) (turned : Bool) (streams : Streams) (status : ℕ)
+    → PackedRan turned line.job line.typed streams status → ErrorsTold (Ok line) streams.errors status
+of-packed line true streams status r = elim r [
   | inl k ↦ of-run line k.ran.ran
-  | inr k ↦ of-first line source sink errors status k
+  | inr k ↦ of-first line streams status k
 ]
-of-packed line false ended source sink errors status r = of-run line r
+of-packed line false streams status r = of-run line r
 
-of-job : (line : CommandLine) (raw turned : Bool) (ended : Bool) (source sink errors : Movement) (status : ℕ)
-    → RawBy raw (λ ended source. PackedRan turned line.job line.typed ended source sink errors status) ended source
-    → ErrorsTold (Ok line) errors status
-of-job line true turned ended source sink errors status r
-    = of-packed line turned r.told_end (as_raw r.counted source) sink errors status r.ran
-of-job line false turned ended source sink errors status r
-    = of-packed line turned ended source sink errors status r
+of-job : (line : CommandLine) (raw turned : Bool) (streams : Streams) (status : ℕ)
+    → RawBy raw (λ streams. PackedRan turned line.job line.typed streams status) streams
+    → ErrorsTold (Ok line) streams.errors status
+of-job line true turned streams status r =
+    of-packed line turned (read_as r.told_end (as_raw r.counted streams.source) streams) status r.ran
+of-job line false turned streams status r = of-packed line turned streams status r
 
 -- of a line that asks for a job
-pub line_told : {asked : Result CommandLine LineFault} {line : CommandLine} (ended : Bool) (source sink errors : Movement)
-    (status : ℕ)
-    → asked ≡ Ok line → OctetsRan line.octets line.job line.typed ended source sink errors status
-    → ErrorsTold asked errors status
-line_told {line = line} ended source sink errors status e r =
-    subst (λ (v : Result CommandLine LineFault). ErrorsTold v errors status) (sym e)
-    (of-job line line.octets.raw_in (line.octets.lsb_first && reads_packed line.job) ended source
-    (written_by (line.octets.lsb_first && writes_packed line.job) sink) errors status r)
+pub line_told : {asked : Result CommandLine LineFault} {line : CommandLine} (streams : Streams) (status : ℕ)
+    → asked ≡ Ok line → OctetsRan line.octets line.job line.typed streams status → ErrorsTold asked streams.errors status
+line_told {line = line} streams status e r =
+    subst (λ (v : Result CommandLine LineFault). ErrorsTold v streams.errors status) (sym e)
+    (of-job line line.octets.raw_in (line.octets.lsb_first && reads_packed line.job)
+    (record streams { sink = written_by (line.octets.lsb_first && writes_packed line.job) streams.sink }) status r)
 
 -- of one that asks for none
 of-fault : (fault : LineFault) (sink errors : Movement) (status : ℕ) → FaultRan fault sink errors status

@@ -1,11 +1,10 @@
 -- A run that is flushed: what is told of it where it was refused, or where that failed.
-use Rattle.std.proofs.Common.{◌≡◌, ◌≢◌, ℕ, ◌+◌, inl, inr, Bool, List, Option, Result, Ok, Err, refl, sym, ap, subst}
+use Rattle.std.proofs.Common.{◌≡◌, ◌≢◌, ℕ, ◌+◌, inl, inr, Bool, List, Option, Some, Result, Ok, Err, refl, sym, ap, subst}
 use Rattle.std.proofs.Common.{arith}
-use Rattle.aes3_cell.specs.Ends.{Grew}
 use Rattle.aes3_cell.specs.declared.refusal.RunError.{RunError}
 use Rattle.aes3_cell.specs.declared.refusal.RunError.TheVariants.{Read, Write}
 use Rattle.aes3_cell.specs.declared.counts.Counts.{Counts}
-use Rattle.aes3_input.specs.Running.{InputRun, Movement, Promise, Quiet}
+use Rattle.aes3_input.specs.Running.{InputRun, Movement, Promise}
 use Rattle.aes3_input.proofs.InputRuns.{Gives, run-err, run-ok, run-write, run-sink_quiet}
 use Rattle.aes3_job.specs.declared.job.Job.{Job}
 use Rattle.aes3_cell.specs.declared.form.Form.{Form}
@@ -14,11 +13,13 @@ use Rattle.aes3_settings.specs.declared.typed.TypedSettings.{TypedSettings}
 use Rattle.aes3_account.specs.Sums.{begun_sums, sum_lines}
 use Rattle.aes3_account.specs.Watching.{watch_counts}
 use Rattle.aes3_input.specs.Driving.{counted_cells}
-use Rattle.aes3_runner.specs.JobRuns.{Flushed, JobRan, RunRan, end_status, most, period}
+use Rattle.aes3_runner.specs.Asides.{RefusedAt}
+use Rattle.aes3_runner.specs.JobRuns.{Flushed, IsTold, JobRan, RunRan, end_status, most, period}
 use Rattle.aes3_runner.specs.OctetRuns.{ReadRefused}
 use Rattle.aes3_runner.specs.declared.outcome.Outcome.{Outcome}
-use Rattle.aes3_runner.specs.Lines.{refusal_line, remark_line}
+use Rattle.aes3_runner.specs.Lines.{remark_line}
 use Rattle.aes3_runner.specs.Outcomes.{RemarkTold, answer_as, told_as}
+use Rattle.aes3_runner.specs.Streams.{Streams}
 
 -- a run of a job, by what the job is
 pub run-of : {job job' : Job} {ended : Bool} {source sink : Movement} {r : Result Outcome RunError} → job ≡ job'
@@ -56,23 +57,21 @@ sums-of i style every n {ended} {source} {sink} {r} e run =
     subst (λ (k : ℕ). InputRun (counted_cells i (sum_lines style k) (begun_sums style k) (watch_counts i)) most
     ended source sink r) e run
 
-pub refused-flushed : (job : Job) (typed : TypedSettings)
-    {ended : Bool} {source : Movement} {t₀ t₁ t₂ : Option (List ℕ)} {f₀ f₁ f₂ : ℕ} {errors : Movement} {status : ℕ}
+pub refused-flushed : {job : Job} {typed : TypedSettings} {streams : Streams} {status : ℕ} {t : Option (List ℕ)} {f : ℕ}
     {x told : RunError}
-    → RunRan job ended source (record { old = t₀; new = t₁; failed_old = f₀; failed_new = f₁ }) (Err x)
-    → Flushed x (record { old = t₁; new = t₂; failed_old = f₁; failed_new = f₂ }) told → status ≡ 3
-    → (Quiet errors → Grew errors.old errors.new (refusal_line told))
-    → JobRan job typed ended source (record { old = t₀; new = t₂; failed_old = f₀; failed_new = f₂ }) errors status
-refused-flushed job typed {ended} {source} {t₀} {f₀ = f₀} {f₁} {errors = errors} {x = x} r f s l = record {
+    → RunRan job streams.ended streams.source (record streams.sink { new = t; failed_new = f }) (Err x)
+    → Flushed x (record streams.sink { old = t; failed_old = f }) told → RefusedAt (Some told) streams.errors status
+    → JobRan job typed streams status
+refused-flushed {job} {streams = streams} {f = f} {x = x} run flushed refused = record {
   answer = Err x;
-  failed = f₁;
-  run = subst (λ v. RunRan job ended source (record { old = t₀; new = v; failed_old = f₀; failed_new = f₁ }) (Err x))
-      (sym f.0) r;
+  failed = f;
+  run = subst (λ v. RunRan job streams.ended streams.source (record streams.sink { new = v; failed_new = f }) (Err x))
+      (sym flushed.0) run;
   told = (
-    s,
-    elim f.1 [
-      | inl k ↦ inl (k.1, λ q. subst (λ v. Grew errors.old errors.new (refusal_line v)) k.0 (l q))
-      | inr k ↦ inr (k.0, k.2, λ q. subst (λ v. Grew errors.old errors.new (refusal_line v)) k.1 (l q))
+    refused.0,
+    elim flushed.1 [
+      | inl k ↦ inl (k.1, subst (IsTold streams.errors) k.0 refused.1)
+      | inr k ↦ inr (k.0, k.2, subst (IsTold streams.errors) k.1 refused.1)
     ],
   );
 }
@@ -96,21 +95,24 @@ passed-on job {f₀ = f₀} {f₁} {f₂} {x} r f p h =
     error-is e = cc
 
 -- a run that ended well
-pub done : (job : Job) (typed : TypedSettings) {ended : Bool} {source errors : Movement} {t₀ t₁ : Option (List ℕ)} {f₀ f₁ : ℕ} {status : ℕ}
-    {n : Outcome}
-    → RunRan job ended source (record { old = t₀; new = t₁; failed_old = f₀; failed_new = f₁ }) (Ok n)
-    → status ≡ end_status job n → RemarkTold (remark_line typed n.remark) errors
-    → JobRan job typed ended source (record { old = t₀; new = t₁; failed_old = f₀; failed_new = f₁ }) errors status
-done job typed {f₁ = f₁} {n = n} r s l = record { answer = Ok n; failed = f₁; run = r; told = (s, refl, l) }
+pub done : {job : Job} {typed : TypedSettings} {streams : Streams} {status : ℕ} {n : Outcome}
+    → RunRan job streams.ended streams.source streams.sink (Ok n) → status ≡ end_status job n
+    → RemarkTold (remark_line typed n.remark) streams.errors → JobRan job typed streams status
+done {streams = streams} {n = n} run ends told = record {
+  answer = Ok n;
+  failed = streams.sink.failed_new;
+  run = run;
+  told = (ends, refl, told);
+}
 
 -- a refusal before anything was run
-pub read-refused : {sink errors : Movement} {status : ℕ} {told : RunError} → Flushed Read sink told → status ≡ 3
-    → (Quiet errors → Grew errors.old errors.new (refusal_line told)) → ReadRefused sink errors status
-read-refused {errors = errors} f s l = record {
-  refused = s;
-  nothing = f.0;
-  told = elim f.1 [
-    | inl k ↦ inl (k.1, λ q. subst (λ v. Grew errors.old errors.new (refusal_line v)) k.0 (l q))
-    | inr k ↦ inr (k.2, λ q. subst (λ v. Grew errors.old errors.new (refusal_line v)) k.1 (l q))
+pub read-refused : {sink errors : Movement} {status : ℕ} {told : RunError} → Flushed Read sink told
+    → RefusedAt (Some told) errors status → ReadRefused sink errors status
+read-refused {errors = errors} flushed refused = record {
+  refused = refused.0;
+  nothing = flushed.0;
+  told = elim flushed.1 [
+    | inl k ↦ inl (k.1, subst (IsTold errors) k.0 refused.1)
+    | inr k ↦ inr (k.2, subst (IsTold errors) k.1 refused.1)
   ];
 }

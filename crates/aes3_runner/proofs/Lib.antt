@@ -1,6 +1,5 @@
 mod PackedOutputs
 pub mod ErrorsToldLemmas
 pub mod Flushes
-pub mod HeardEnds
 pub mod RawRuns
 pub mod RemarkLines

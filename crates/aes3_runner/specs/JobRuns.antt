@@ -49,6 +49,7 @@ use Rattle.aes3_runner.specs.declared.outcome.Remark.{Remark}
 use Rattle.aes3_runner.specs.declared.outcome.Remark.TheVariants.{Nothing, Filled, LeftOut, Settings, Inexact}
 use Rattle.aes3_runner.specs.Outcomes.{RemarkTold, of_counts, of_exact, of_filled, of_rewritten}
 use Rattle.aes3_runner.specs.Outcomes.{of_samples, of_words, told_as}
+use Rattle.aes3_runner.specs.Streams.{Streams}
 
 -- how many bytes an input may have
 abbrev pub most : ℕ
@@ -169,9 +170,8 @@ AnswerTold job typed (Err error) failed sink errors status =
     ⊎ ((error ≢ refusal.Write) × (sink.failed_new ≡ failed + 1) × IsTold errors refusal.Write))
 
 -- a job: what its run answered, how often the sink had failed then, and what is told of that
-pub record JobRan (job : Job) (typed : TypedSettings) (ended : Bool) (source sink errors : Movement) (status : ℕ)
-    : Type 0 where
+pub record JobRan (job : Job) (typed : TypedSettings) (streams : Streams) (status : ℕ) : Type 0 where
   pub answer : Result Outcome RunError
   pub failed : ℕ
-  pub run : RunRan job ended source (before_flush sink failed) answer
-  pub told : AnswerTold job typed answer failed sink errors status
+  pub run : RunRan job streams.ended streams.source (before_flush streams.sink failed) answer
+  pub told : AnswerTold job typed answer failed streams.sink streams.errors status

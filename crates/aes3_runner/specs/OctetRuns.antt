@@ -12,6 +12,7 @@ use Rattle.aes3_job.specs.Forms.{reads_packed, writes_packed}
 use Rattle.aes3_job.specs.declared.job.Job.{Job}
 use Rattle.aes3_arguments.specs.declared.layout.Octets.{Octets}
 use Rattle.aes3_runner.specs.JobRuns.{IsTold, JobRan, promise_of}
+use Rattle.aes3_runner.specs.Streams.{Streams}
 
 -- how a source of raw octets moved, as the job reads them: with the octet that counts behind all of them, or without it
 -- so far
@@ -43,37 +44,35 @@ written_by true sink = record {
 }
 written_by false sink = sink
 
+-- the same streams, with what the job was told of the source
+abbrev pub read_as : Bool → Movement → Streams → Streams
+read_as told_end source streams = record streams { ended = told_end; source = source }
+
 -- a run on raw octets: it is one on their packed form. The octet that counts came only once the source had ended, and
 -- before the end was told.
-pub record RawRan (Ran : Bool → Movement → Type 0) (ended : Bool) (source : Movement) : Type 0 where
+pub record RawRan (Ran : Streams → Type 0) (streams : Streams) : Type 0 where
   pub counted : Bool
   pub told_end : Bool
-  pub behind_all : IsTrue counted → IsTrue ended
+  pub behind_all : IsTrue counted → IsTrue streams.ended
   pub before_end : IsTrue told_end → IsTrue counted
-  pub ran : Ran told_end (as_raw counted source)
+  pub ran : Ran (read_as told_end (as_raw counted streams.source) streams)
 
 -- a job on packed cells with the first of each octet in the lowest bit, of which the first octet was read, if there is
 -- one: it is run on the octets turned, and the last, which counts, as it is. One octet is held back until the source
 -- has ended, and none once the job was told the end.
-pub record BehindRan (first : Option ℕ) (job : Job) (typed : TypedSettings) (ended : Bool) (source sink errors : Movement) (status : ℕ) : Type 0
-  where
-    pub held : Option ℕ
-    pub told_end : Bool
-    pub behind_all : held ≡ None → IsTrue ended
-    pub before_end : IsTrue told_end → held ≡ None
-    pub ran : JobRan job typed told_end (as_turned first held source) sink errors status
+pub record BehindRan (first : Option ℕ) (job : Job) (typed : TypedSettings) (streams : Streams) (status : ℕ) : Type 0 where
+  pub held : Option ℕ
+  pub told_end : Bool
+  pub behind_all : held ≡ None → IsTrue streams.ended
+  pub before_end : IsTrue told_end → held ≡ None
+  pub ran : JobRan job typed (read_as told_end (as_turned first held streams.source) streams) status
 
 -- the same from the first octet on
-pub record TurnedRan (job : Job) (typed : TypedSettings) (ended : Bool) (source sink errors : Movement) (status : ℕ) : Type 0 where
+pub record TurnedRan (job : Job) (typed : TypedSettings) (streams : Streams) (status : ℕ) : Type 0 where
   pub first : Option ℕ
   pub begun : Option (List ℕ)
-  pub read : Grew source.old begun (only first)
-  pub ran : BehindRan first job typed ended (record {
-    old = begun;
-    new = source.new;
-    failed_old = source.failed_old;
-    failed_new = source.failed_new;
-  }) sink errors status
+  pub read : Grew streams.source.old begun (only first)
+  pub ran : BehindRan first job typed (read_as streams.ended (record streams.source { old = begun }) streams) status
 
 -- that the input can't be read is refused, or that the sink failed at its flush then; nothing is written
 pub record ReadRefused (sink errors : Movement) (status : ℕ) : Type 0 where
@@ -82,34 +81,33 @@ pub record ReadRefused (sink errors : Movement) (status : ℕ) : Type 0 where
   pub told : (Quiet sink × IsTold errors Read) ⊎ (Failed sink × IsTold errors Write)
 
 -- the source failed at its first octet
-pub record FirstFailed (source sink errors : Movement) (status : ℕ) : Type 0 where
-  pub failed : Failed source
-  pub unread : Grew source.old source.new []
-  pub refused : ReadRefused sink errors status
+pub record FirstFailed (streams : Streams) (status : ℕ) : Type 0 where
+  pub failed : Failed streams.source
+  pub unread : Grew streams.source.old streams.source.new []
+  pub refused : ReadRefused streams.sink streams.errors status
 
 -- a job on packed cells whose octets are turned, or on input as it is
-abbrev pub PackedRan : Bool → Job → TypedSettings → Bool → Movement → Movement → Movement → ℕ → Type 0
-PackedRan true job typed ended source sink errors status =
-    TurnedRan job typed ended source sink errors status ⊎ FirstFailed source sink errors status
-PackedRan false job typed ended source sink errors status = JobRan job typed ended source sink errors status
+abbrev pub PackedRan : Bool → Job → TypedSettings → Streams → ℕ → Type 0
+PackedRan true job typed streams status = TurnedRan job typed streams status ⊎ FirstFailed streams status
+PackedRan false job typed streams status = JobRan job typed streams status
 
 -- a run on octets that are raw, or on input as it is
-abbrev pub RawBy : Bool → (Bool → Movement → Type 0) → Bool → Movement → Type 0
-RawBy true Ran ended source = RawRan Ran ended source
-RawBy false Ran ended source = Ran ended source
+abbrev pub RawBy : Bool → (Streams → Type 0) → Streams → Type 0
+RawBy true Ran streams = RawRan Ran streams
+RawBy false Ran streams = Ran streams
 
 -- a job on such octets, whose output is as it writes it
-abbrev pub SourceRan : Octets → Job → TypedSettings → Bool → Movement → Movement → Movement → ℕ → Type 0
-SourceRan octets job typed ended source sink errors status =
+abbrev pub SourceRan : Octets → Job → TypedSettings → Streams → ℕ → Type 0
+SourceRan octets job typed streams status =
     RawBy octets.raw_in
-    (λ ended source. PackedRan (octets.lsb_first && reads_packed job) job typed ended source sink errors status)
-    ended source
+    (λ streams. PackedRan (octets.lsb_first && reads_packed job) job typed streams status) streams
 
 -- a job whose octets are laid out so: packed cells are turned where they are read and where they are written, and
 -- nothing else is
-abbrev pub OctetsRan : Octets → Job → TypedSettings → Bool → Movement → Movement → Movement → ℕ → Type 0
-OctetsRan octets job typed ended source sink errors status =
-    SourceRan octets job typed ended source (written_by (octets.lsb_first && writes_packed job) sink) errors status
+abbrev pub OctetsRan : Octets → Job → TypedSettings → Streams → ℕ → Type 0
+OctetsRan octets job typed streams status =
+    SourceRan octets job typed
+    (record streams { sink = written_by (octets.lsb_first && writes_packed job) streams.sink }) status
 
 -- octets that pack cells, and turned with the last of them pack the same with the first of each octet in the lowest bit
 pub record PackBoth (octets : List ℕ) : Type 0 where

@@ -1,5 +1,5 @@
 -- What the program does for a command line.
-use Rattle.std.specs.Prelude.{ℕ, List, [], Bool, Result, Ok, Err, ◌≡◌, ◌⊎◌}
+use Rattle.std.specs.Prelude.{ℕ, List, [], Result, Ok, Err, ◌≡◌, ◌⊎◌}
 use Rattle.aes3_cell.specs.Ends.{Grew}
 use Rattle.aes3_cell.specs.declared.refusal.RunError.TheVariants.{Memory, Write}
 use Rattle.aes3_input.specs.Running.{Movement, Quiet, Failed}
@@ -15,6 +15,7 @@ use Rattle.aes3_arguments.specs.Jobs.{HaveOctets, HaveTyped, IsJobOf, IsFaultOf}
 use Rattle.aes3_runner.specs.JobRuns.{IsTold}
 use Rattle.aes3_runner.specs.OctetRuns.{OctetsRan}
 use Rattle.aes3_runner.specs.Lines.{not_utf8_text}
+use Rattle.aes3_runner.specs.Streams.{Streams}
 
 -- a line that is no job: why not is told among the errors, and help in the output
 abbrev pub FaultRan : LineFault → Movement → Movement → ℕ → Type 0
@@ -27,32 +28,31 @@ FaultRan (Refused error) sink errors status =
     (status ≡ 3) × Grew sink.old sink.new [] × IsTold errors error
 
 -- a line that asks for a job, which is run; or for none, which is told and nothing is read
-abbrev pub LineRan : Result CommandLine LineFault → Bool → Movement → Movement → Movement → ℕ → Type 0
-LineRan (Ok line) ended source sink errors status =
-    OctetsRan line.octets line.job line.typed ended source sink errors status
-LineRan (Err fault) ended source sink errors status =
-    Grew source.old source.new [] × Quiet source × FaultRan fault sink errors status
+abbrev pub LineRan : Result CommandLine LineFault → Streams → ℕ → Type 0
+LineRan (Ok line) streams status = OctetsRan line.octets line.job line.typed streams status
+LineRan (Err fault) streams status =
+    Grew streams.source.old streams.source.new [] × Quiet streams.source
+    × FaultRan fault streams.sink streams.errors status
 
 -- the words ask for a job, which is run; or they ask for none, which is told and nothing is read
-pub record JobOfWords (words : List (List ℕ)) (ended : Bool) (source sink errors : Movement) (status : ℕ) : Type 0 where
+pub record JobOfWords (words : List (List ℕ)) (streams : Streams) (status : ℕ) : Type 0 where
   pub job : Job
   pub asked : IsJobOf words job
   pub typed : TypedSettings
   pub texts : HaveTyped words typed
   pub octets : Octets
   pub laid_out : HaveOctets words octets
-  pub ran : OctetsRan octets job typed ended source sink errors status
+  pub ran : OctetsRan octets job typed streams status
 
-pub record FaultOfWords (words : List (List ℕ)) (source sink errors : Movement) (status : ℕ) : Type 0 where
+pub record FaultOfWords (words : List (List ℕ)) (streams : Streams) (status : ℕ) : Type 0 where
   pub fault : LineFault
   pub told : IsFaultOf words fault
-  pub unread : Grew source.old source.new []
-  pub quiet : Quiet source
-  pub ran : FaultRan fault sink errors status
+  pub unread : Grew streams.source.old streams.source.new []
+  pub quiet : Quiet streams.source
+  pub ran : FaultRan fault streams.sink streams.errors status
 
-abbrev pub WordsRan : List (List ℕ) → Bool → Movement → Movement → Movement → ℕ → Type 0
-WordsRan words ended source sink errors status =
-    JobOfWords words ended source sink errors status ⊎ FaultOfWords words source sink errors status
+abbrev pub WordsRan : List (List ℕ) → Streams → ℕ → Type 0
+WordsRan words streams status = JobOfWords words streams status ⊎ FaultOfWords words streams status
 
 -- words that could not be read: what is told of that
 abbrev pub UnreadTold : Unread → Movement → ℕ → Type 0

@@ -1,11 +1,10 @@
 //! A job, its last flush and its exit status.
 
-ghost use Rattle.std.specs.Prelude.{◌≡◌, ◌≢◌, ◌<◌, ◌≤◌, ◌+◌, ◌^◌, IsTrue};
+ghost use Rattle.std.specs.Prelude.{◌≡◌, ◌≢◌, ◌<◌, ◌+◌, ◌^◌, None, Some};
+ghost use Rattle.aes3_runner.specs.Asides.{AsideOfRun};
 ghost use Rattle.aes3_runner.specs.JobRuns.{Flushed, JobRan};
 ghost use Rattle.aes3_runner.specs.OctetRuns.{ReadRefused};
-ghost use Rattle.aes3_input.specs.Running.{movement_of};
-ghost use Rattle.aes3_job.specs.Hearing.{Hearing, with_job};
-ghost use Rattle.aes3_runner.specs.Hearings.{HeardEnd};
+ghost use Rattle.aes3_runner.specs.Streams.{HasPassed, PassesOn, moved, streams_of};
 
 use crate::job_run::run_job;
 use crate::refusal::refuse;
@@ -18,10 +17,9 @@ use aes3_settings::TypedSettings;
 /// the first one.
 fn flushed<T: Sink>(error: RunError, sink: &mut T) -> RunError
     requires room { error ≢ RunError.Write → T.failed sink.old + 1 < 2 ^ 64 }
-    ensures told { Flushed error
-        (movement_of T.taken T.failed sink.old sink.new) result }
+    ensures told { Flushed error (moved T.Sink sink.old sink.new) result }
     ensures passed_on { T.failed sink.new ≡ T.failed sink.old → error ≢ RunError.Write
-        → T.passed sink.new ≡ T.taken sink.new }
+        → HasPassed T.Sink sink.new }
 {
     match error {
         RunError::Write => error,
@@ -47,20 +45,11 @@ pub fn finish_job<S: Source, T: Sink, E: Sink, O: Observer>(
     requires source_room { S.failed source.old + 1 < 2 ^ 64 }
     requires sink_room { T.failed sink.old + 1 < 2 ^ 64 }
     requires errors_room { E.failed errors.old + 1 < 2 ^ 64 }
-    ensures ran { JobRan job.now typed.now (S.has_ended source.new)
-        (movement_of S.given S.failed source.old source.new)
-        (movement_of T.taken T.failed sink.old sink.new)
-        (movement_of E.taken E.failed errors.old errors.new) result }
-    ensures passed_on { T.failed sink.new ≡ T.failed sink.old
-        → T.passed sink.new ≡ T.taken sink.new }
-    ensures errors { E.failed errors.new ≤ E.failed errors.old + 1 }
-    ensures left { E.passed errors.old ≡ E.taken errors.old
-        → E.failed errors.new ≡ E.failed errors.old → E.passed errors.new ≡ E.taken errors.new }
-    ensures silent { IsTrue (O.is_silent observer.old) → O.told observer.new ≡ O.told observer.old }
-    ensures same { O.is_silent observer.new ≡ O.is_silent observer.old }
-    ensures heard { (before : Hearing) → O.heard observer.old before
-        → HeardEnd (O.heard observer.new) (with_job job.now before)
-        (movement_of E.taken E.failed errors.old errors.new) result }
+    ensures ran { JobRan job.now typed.now (streams_of S.Source source.old source.new
+        T.Sink sink.old sink.new E.Sink errors.old errors.new) result }
+    ensures passed_on { PassesOn T.Sink sink.old sink.new }
+    ensures aside { AsideOfRun (Some job.now) E.Sink errors.old errors.new
+        O.Observer observer.old observer.new result }
 {
     observer.begins(job);
     finish_begun(job, typed, source, sink, errors, observer)
@@ -78,20 +67,11 @@ pub(crate) fn finish_begun<S: Source, T: Sink, E: Sink, O: Observer>(
     requires source_room { S.failed source.old + 1 < 2 ^ 64 }
     requires sink_room { T.failed sink.old + 1 < 2 ^ 64 }
     requires errors_room { E.failed errors.old + 1 < 2 ^ 64 }
-    ensures ran { JobRan job.now typed.now (S.has_ended source.new)
-        (movement_of S.given S.failed source.old source.new)
-        (movement_of T.taken T.failed sink.old sink.new)
-        (movement_of E.taken E.failed errors.old errors.new) result }
-    ensures passed_on { T.failed sink.new ≡ T.failed sink.old
-        → T.passed sink.new ≡ T.taken sink.new }
-    ensures errors { E.failed errors.new ≤ E.failed errors.old + 1 }
-    ensures left { E.passed errors.old ≡ E.taken errors.old
-        → E.failed errors.new ≡ E.failed errors.old → E.passed errors.new ≡ E.taken errors.new }
-    ensures silent { IsTrue (O.is_silent observer.old) → O.told observer.new ≡ O.told observer.old }
-    ensures same { O.is_silent observer.new ≡ O.is_silent observer.old }
-    ensures heard { (before : Hearing) → O.heard observer.old before
-        → HeardEnd (O.heard observer.new) before
-        (movement_of E.taken E.failed errors.old errors.new) result }
+    ensures ran { JobRan job.now typed.now (streams_of S.Source source.old source.new
+        T.Sink sink.old sink.new E.Sink errors.old errors.new) result }
+    ensures passed_on { PassesOn T.Sink sink.old sink.new }
+    ensures aside { AsideOfRun None E.Sink errors.old errors.new
+        O.Observer observer.old observer.new result }
 {
     match run_job(job, source, sink) {
         Ok(outcome) => tell_outcome(job, typed, &outcome, errors, observer),
@@ -107,18 +87,11 @@ pub(crate) fn refuse_unread<T: Sink, E: Sink, O: Observer>(
 ) -> u8
     requires sink_room { T.failed sink.old + 1 < 2 ^ 64 }
     requires errors_room { E.failed errors.old + 1 < 2 ^ 64 }
-    ensures refused { ReadRefused (movement_of T.taken T.failed sink.old sink.new)
-        (movement_of E.taken E.failed errors.old errors.new) result }
-    ensures passed_on { T.failed sink.new ≡ T.failed sink.old
-        → T.passed sink.new ≡ T.taken sink.new }
-    ensures errors { E.failed errors.new ≤ E.failed errors.old + 1 }
-    ensures left { E.passed errors.old ≡ E.taken errors.old
-        → E.failed errors.new ≡ E.failed errors.old → E.passed errors.new ≡ E.taken errors.new }
-    ensures silent { O.told observer.new ≡ O.told observer.old }
-    ensures same { O.is_silent observer.new ≡ O.is_silent observer.old }
-    ensures heard { (before : Hearing) → O.heard observer.old before
-        → HeardEnd (O.heard observer.new) before
-        (movement_of E.taken E.failed errors.old errors.new) result }
+    ensures refused { ReadRefused (moved T.Sink sink.old sink.new)
+        (moved E.Sink errors.old errors.new) result }
+    ensures passed_on { PassesOn T.Sink sink.old sink.new }
+    ensures aside { AsideOfRun None E.Sink errors.old errors.new
+        O.Observer observer.old observer.new result }
 {
     refuse(flushed(RunError::Read, sink), errors, observer)
 }

@@ -1,11 +1,10 @@
 //! A job between ends whose octets are laid out in other ways than the job reads and writes them.
 
-ghost use Rattle.std.specs.Prelude.{◌≡◌, ◌&&◌, ◌<◌, ◌≤◌, ◌+◌, ◌^◌, IsTrue, None, true};
-ghost use Rattle.aes3_input.specs.Running.{movement_of};
+ghost use Rattle.std.specs.Prelude.{◌≡◌, ◌&&◌, ◌<◌, ◌+◌, ◌^◌, IsTrue, None, Some, true};
 ghost use Rattle.aes3_job.specs.Forms.{reads_packed};
-ghost use Rattle.aes3_job.specs.Hearing.{Hearing, with_job};
-ghost use Rattle.aes3_runner.specs.Hearings.{HeardEnd};
+ghost use Rattle.aes3_runner.specs.Asides.{AsideOfRun};
 ghost use Rattle.aes3_runner.specs.OctetRuns.{BehindRan, OctetsRan, OutputsCanBeTurned, PackedRan, SourceRan};
+ghost use Rattle.aes3_runner.specs.Streams.{PassesOn, streams_of};
 
 use crate::finish::{finish_begun, finish_job, refuse_unread};
 use aes3_arguments::Octets;
@@ -36,20 +35,11 @@ pub fn run_octets<S: Source + Drop, T: Sink + Drop, E: Sink, O: Observer>(
     requires source_room { S.failed source + 1 < 2 ^ 64 }
     requires sink_room { T.failed sink + 1 < 2 ^ 64 }
     requires errors_room { E.failed errors.old + 1 < 2 ^ 64 }
-    ensures ran { OctetsRan octets job.now typed.now (S.has_ended result.source)
-        (movement_of S.given S.failed source result.source)
-        (movement_of T.taken T.failed sink result.sink)
-        (movement_of E.taken E.failed errors.old errors.new) result.status }
-    ensures passed_on { T.failed result.sink ≡ T.failed sink
-        → T.passed result.sink ≡ T.taken result.sink }
-    ensures errors { E.failed errors.new ≤ E.failed errors.old + 1 }
-    ensures left { E.passed errors.old ≡ E.taken errors.old
-        → E.failed errors.new ≡ E.failed errors.old → E.passed errors.new ≡ E.taken errors.new }
-    ensures silent { IsTrue (O.is_silent observer.old) → O.told observer.new ≡ O.told observer.old }
-    ensures same { O.is_silent observer.new ≡ O.is_silent observer.old }
-    ensures heard { (before : Hearing) → O.heard observer.old before
-        → HeardEnd (O.heard observer.new) (with_job job.now before)
-        (movement_of E.taken E.failed errors.old errors.new) result.status }
+    ensures ran { OctetsRan octets job.now typed.now (streams_of S.Source source result.source
+        T.Sink sink result.sink E.Sink errors.old errors.new) result.status }
+    ensures passed_on { PassesOn T.Sink sink result.sink }
+    ensures aside { AsideOfRun (Some job.now) E.Sink errors.old errors.new
+        O.Observer observer.old observer.new result.status }
 {
     if octets.lsb_first && job.writes_packed() {
         let ran = run_source(
@@ -90,20 +80,11 @@ fn run_source<S: Source + Drop, T: Sink + Drop, E: Sink, O: Observer>(
     requires source_room { S.failed source + 1 < 2 ^ 64 }
     requires sink_room { T.failed sink + 1 < 2 ^ 64 }
     requires errors_room { E.failed errors.old + 1 < 2 ^ 64 }
-    ensures ran { SourceRan octets job.now typed.now (S.has_ended result.source)
-        (movement_of S.given S.failed source result.source)
-        (movement_of T.taken T.failed sink result.sink)
-        (movement_of E.taken E.failed errors.old errors.new) result.status }
-    ensures passed_on { T.failed result.sink ≡ T.failed sink
-        → T.passed result.sink ≡ T.taken result.sink }
-    ensures errors { E.failed errors.new ≤ E.failed errors.old + 1 }
-    ensures left { E.passed errors.old ≡ E.taken errors.old
-        → E.failed errors.new ≡ E.failed errors.old → E.passed errors.new ≡ E.taken errors.new }
-    ensures silent { IsTrue (O.is_silent observer.old) → O.told observer.new ≡ O.told observer.old }
-    ensures same { O.is_silent observer.new ≡ O.is_silent observer.old }
-    ensures heard { (before : Hearing) → O.heard observer.old before
-        → HeardEnd (O.heard observer.new) (with_job job.now before)
-        (movement_of E.taken E.failed errors.old errors.new) result.status }
+    ensures ran { SourceRan octets job.now typed.now (streams_of S.Source source result.source
+        T.Sink sink result.sink E.Sink errors.old errors.new) result.status }
+    ensures passed_on { PassesOn T.Sink sink result.sink }
+    ensures aside { AsideOfRun (Some job.now) E.Sink errors.old errors.new
+        O.Observer observer.old observer.new result.status }
 {
     let is_turned = turns_input(octets, job);
     if octets.raw_in {
@@ -131,20 +112,11 @@ fn run_packed<S: Source + Drop, T: Sink + Drop, E: Sink, O: Observer>(
     requires source_room { S.failed source + 1 < 2 ^ 64 }
     requires sink_room { T.failed sink + 1 < 2 ^ 64 }
     requires errors_room { E.failed errors.old + 1 < 2 ^ 64 }
-    ensures ran { PackedRan is_turned job.now typed.now (S.has_ended result.source)
-        (movement_of S.given S.failed source result.source)
-        (movement_of T.taken T.failed sink result.sink)
-        (movement_of E.taken E.failed errors.old errors.new) result.status }
-    ensures passed_on { T.failed result.sink ≡ T.failed sink
-        → T.passed result.sink ≡ T.taken result.sink }
-    ensures errors { E.failed errors.new ≤ E.failed errors.old + 1 }
-    ensures left { E.passed errors.old ≡ E.taken errors.old
-        → E.failed errors.new ≡ E.failed errors.old → E.passed errors.new ≡ E.taken errors.new }
-    ensures silent { IsTrue (O.is_silent observer.old) → O.told observer.new ≡ O.told observer.old }
-    ensures same { O.is_silent observer.new ≡ O.is_silent observer.old }
-    ensures heard { (before : Hearing) → O.heard observer.old before
-        → HeardEnd (O.heard observer.new) (with_job job.now before)
-        (movement_of E.taken E.failed errors.old errors.new) result.status }
+    ensures ran { PackedRan is_turned job.now typed.now (streams_of S.Source source result.source
+        T.Sink sink result.sink E.Sink errors.old errors.new) result.status }
+    ensures passed_on { PassesOn T.Sink sink result.sink }
+    ensures aside { AsideOfRun (Some job.now) E.Sink errors.old errors.new
+        O.Observer observer.old observer.new result.status }
 {
     if is_turned {
         return run_turned(job, typed, source, sink, errors, observer);
@@ -172,20 +144,11 @@ fn run_turned<S: Source + Drop, T: Sink + Drop, E: Sink, O: Observer>(
     requires source_room { S.failed source + 1 < 2 ^ 64 }
     requires sink_room { T.failed sink + 1 < 2 ^ 64 }
     requires errors_room { E.failed errors.old + 1 < 2 ^ 64 }
-    ensures ran { PackedRan true job.now typed.now (S.has_ended result.source)
-        (movement_of S.given S.failed source result.source)
-        (movement_of T.taken T.failed sink result.sink)
-        (movement_of E.taken E.failed errors.old errors.new) result.status }
-    ensures passed_on { T.failed result.sink ≡ T.failed sink
-        → T.passed result.sink ≡ T.taken result.sink }
-    ensures errors { E.failed errors.new ≤ E.failed errors.old + 1 }
-    ensures left { E.passed errors.old ≡ E.taken errors.old
-        → E.failed errors.new ≡ E.failed errors.old → E.passed errors.new ≡ E.taken errors.new }
-    ensures silent { IsTrue (O.is_silent observer.old) → O.told observer.new ≡ O.told observer.old }
-    ensures same { O.is_silent observer.new ≡ O.is_silent observer.old }
-    ensures heard { (before : Hearing) → O.heard observer.old before
-        → HeardEnd (O.heard observer.new) (with_job job.now before)
-        (movement_of E.taken E.failed errors.old errors.new) result.status }
+    ensures ran { PackedRan true job.now typed.now (streams_of S.Source source result.source
+        T.Sink sink result.sink E.Sink errors.old errors.new) result.status }
+    ensures passed_on { PassesOn T.Sink sink result.sink }
+    ensures aside { AsideOfRun (Some job.now) E.Sink errors.old errors.new
+        O.Observer observer.old observer.new result.status }
 {
     observer.begins(job);
     let mut source = source;
@@ -217,20 +180,11 @@ fn run_behind<S: Source + Drop, T: Sink + Drop, E: Sink, O: Observer>(
     requires sink_room { T.failed sink + 1 < 2 ^ 64 }
     requires errors_room { E.failed errors.old + 1 < 2 ^ 64 }
     requires end { first ≡ None → IsTrue (S.has_ended source) }
-    ensures ran { BehindRan first job.now typed.now (S.has_ended result.source)
-        (movement_of S.given S.failed source result.source)
-        (movement_of T.taken T.failed sink result.sink)
-        (movement_of E.taken E.failed errors.old errors.new) result.status }
-    ensures passed_on { T.failed result.sink ≡ T.failed sink
-        → T.passed result.sink ≡ T.taken result.sink }
-    ensures errors { E.failed errors.new ≤ E.failed errors.old + 1 }
-    ensures left { E.passed errors.old ≡ E.taken errors.old
-        → E.failed errors.new ≡ E.failed errors.old → E.passed errors.new ≡ E.taken errors.new }
-    ensures silent { IsTrue (O.is_silent observer.old) → O.told observer.new ≡ O.told observer.old }
-    ensures same { O.is_silent observer.new ≡ O.is_silent observer.old }
-    ensures heard { (before : Hearing) → O.heard observer.old before
-        → HeardEnd (O.heard observer.new) before
-        (movement_of E.taken E.failed errors.old errors.new) result.status }
+    ensures ran { BehindRan first job.now typed.now (streams_of S.Source source result.source
+        T.Sink sink result.sink E.Sink errors.old errors.new) result.status }
+    ensures passed_on { PassesOn T.Sink sink result.sink }
+    ensures aside { AsideOfRun None E.Sink errors.old errors.new
+        O.Observer observer.old observer.new result.status }
 {
     let mut turned = TurnedSource::new(source, first);
     let mut sink = sink;

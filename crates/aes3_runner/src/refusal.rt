@@ -1,11 +1,11 @@
 //! The line of a refusal, and its exit status.
 
-ghost use Rattle.std.specs.Prelude.{◌≡◌, ◌<◌, ◌≤◌, ◌+◌, ◌++◌, ◌^◌, Some, decimal, length};
+ghost use Rattle.std.specs.Prelude.{◌≡◌, ◌<◌, ◌≤◌, ◌+◌, ◌++◌, ◌^◌, None, Some, decimal, length};
 ghost use Rattle.arrayvec.specs.ArrayVec.{array_vec_len};
-ghost use Rattle.aes3_cell.specs.Ends.{Grew};
 ghost use Rattle.aes3_cell.specs.Writes.{Wrote};
-ghost use Rattle.aes3_job.specs.Hearing.{Hearing, with_refusal};
+ghost use Rattle.aes3_runner.specs.Asides.{Aside};
 ghost use Rattle.aes3_runner.specs.Lines.{place_text, refusal_line};
+ghost use Rattle.aes3_runner.specs.Streams.{PassesOn};
 
 use aes3_cell::{Fault, RunError, Sink, write_all};
 use aes3_job::Observer;
@@ -71,16 +71,9 @@ pub fn put_refusal<T: Sink>(error: RunError, sink: &mut T) -> Result<(), Fault>
 /// observer, and answers its exit status.
 pub fn refuse<E: Sink, O: Observer>(error: RunError, errors: &mut E, observer: &mut O) -> u8
     requires { E.failed errors.old + 1 < 2 ^ 64 }
-    ensures status { result ≡ 3 }
-    ensures line { E.failed errors.new ≡ E.failed errors.old
-        → Grew (E.taken errors.old) (E.taken errors.new) (refusal_line error) }
-    ensures errors { E.failed errors.new ≤ E.failed errors.old + 1 }
-    ensures left { E.failed errors.new ≡ E.failed errors.old
-        → E.passed errors.new ≡ E.taken errors.new }
-    ensures silent { O.told observer.new ≡ O.told observer.old }
-    ensures same { O.is_silent observer.new ≡ O.is_silent observer.old }
-    ensures heard { (before : Hearing) → O.heard observer.old before
-        → O.heard observer.new (with_refusal (Some error) before) }
+    ensures aside { Aside None (Some error) E.Sink errors.old errors.new
+        O.Observer observer.old observer.new result }
+    ensures passed_on { PassesOn E.Sink errors.old errors.new }
 {
     if put_refusal(error, errors).is_ok() {
         let _ = errors.flush();

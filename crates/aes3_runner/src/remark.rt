@@ -1,15 +1,13 @@
 //! What standard error is told of a job that read its input to the end.
 
-ghost use Rattle.std.specs.Prelude.{◌≡◌, ◌<◌, ◌≤◌, ◌+◌, ◌++◌, ◌^◌, codes, decimal, length, map};
-ghost use Rattle.arrayvec.specs.ArrayVec.{array_vec_len};
+ghost use Rattle.std.specs.Prelude.{◌≡◌, ◌<◌, ◌≤◌, ◌+◌, ◌++◌, ◌^◌, None, codes, decimal, length, map};
 ghost use Rattle.aes3_cell.specs.Writes.{Wrote};
-ghost use Rattle.aes3_input.specs.Running.{movement_of};
-ghost use Rattle.aes3_job.specs.Hearing.{Hearing};
-ghost use Rattle.aes3_runner.specs.Hearings.{HeardEnd};
+ghost use Rattle.aes3_runner.specs.Asides.{AsideOfRun, ErrorsLeft};
 ghost use Rattle.aes3_runner.specs.JobRuns.{end_status};
 ghost use Rattle.aes3_settings.specs.Untaken.{texts_of, told_line, untaken_line, untaken_lines};
 ghost use Rattle.aes3_runner.specs.Lines.{filled_line, left_out_line, met_lines, remark_line};
 ghost use Rattle.aes3_runner.specs.Outcomes.{RemarkTold};
+ghost use Rattle.aes3_runner.specs.Streams.{PassesOn, moved};
 
 use crate::job_run::exit_status;
 use crate::outcome::{Met, Outcome, Remark};
@@ -207,10 +205,9 @@ fn put_remark<T: Sink>(
 fn tell_remark<E: Sink>(remark: &Remark, typed: &TypedSettings<'_>, errors: &mut E)
     requires { E.failed errors.old + 1 < 2 ^ 64 }
     ensures told { RemarkTold (remark_line typed.now remark.now)
-        (movement_of E.taken E.failed errors.old errors.new) }
-    ensures errors { E.failed errors.new ≤ E.failed errors.old + 1 }
-    ensures left { E.failed errors.new ≡ E.failed errors.old
-        → E.passed errors.new ≡ E.taken errors.new }
+        (moved E.Sink errors.old errors.new) }
+    ensures errors { ErrorsLeft E.Sink errors.old errors.new }
+    ensures passed_on { PassesOn E.Sink errors.old errors.new }
 {
     if put_remark(remark, typed, errors).is_ok() {
         let _ = errors.flush();
@@ -229,15 +226,9 @@ pub(crate) fn tell_outcome<E: Sink, O: Observer>(
     requires { E.failed errors.old + 1 < 2 ^ 64 }
     ensures status { result ≡ end_status job.now outcome.now }
     ensures told { RemarkTold (remark_line typed.now outcome.now.remark)
-        (movement_of E.taken E.failed errors.old errors.new) }
-    ensures errors { E.failed errors.new ≤ E.failed errors.old + 1 }
-    ensures left { E.passed errors.old ≡ E.taken errors.old
-        → E.failed errors.new ≡ E.failed errors.old → E.passed errors.new ≡ E.taken errors.new }
-    ensures silent { O.told observer.new ≡ O.told observer.old }
-    ensures same { O.is_silent observer.new ≡ O.is_silent observer.old }
-    ensures heard { (before : Hearing) → O.heard observer.old before
-        → HeardEnd (O.heard observer.new) before
-        (movement_of E.taken E.failed errors.old errors.new) result }
+        (moved E.Sink errors.old errors.new) }
+    ensures aside { AsideOfRun None E.Sink errors.old errors.new
+        O.Observer observer.old observer.new result }
 {
     match outcome.remark {
         Remark::Nothing => exit_status(job, &outcome.counts),

@@ -1,12 +1,11 @@
 //! Everything but the machine's own streams.
 
-ghost use Rattle.std.specs.Prelude.{◌≡◌, ◌<◌, ◌≤◌, ◌+◌, ◌^◌, IfOk, OnErr, IsTrue, map};
+ghost use Rattle.std.specs.Prelude.{◌≡◌, ◌<◌, ◌+◌, ◌^◌, IfOk, None, OnErr, map};
 ghost use Rattle.aes3_cell.specs.Ends.{Grew};
+ghost use Rattle.aes3_runner.specs.Asides.{AsideOfRun, AsideOfWords, job_of};
 ghost use Rattle.aes3_runner.specs.StandardErrors.{ErrorsTold};
+ghost use Rattle.aes3_runner.specs.Streams.{HasPassed, PassesOn, moved, streams_of};
 ghost use Rattle.aes3_runner.specs.WordRuns.{FaultRan, LineRan, UnreadTold, WordsRan};
-ghost use Rattle.aes3_input.specs.Running.{movement_of};
-ghost use Rattle.aes3_job.specs.Hearing.{Hearing};
-ghost use Rattle.aes3_runner.specs.Hearings.{HeardEnd, HeardWords, begun_by};
 
 use crate::job_run::DONE;
 use crate::octets::{Ran, run_octets};
@@ -34,7 +33,7 @@ For more information, try '--help'.
 fn put_text<T: Sink>(text: &str, sink: &mut T) -> Result<(), Fault>
     requires room { T.failed sink.old + 1 < 2 ^ 64 }
     ensures text { IfOk result (λ _. Grew (T.taken sink.old) (T.taken sink.new) text.now) }
-    ensures passed_on { IfOk result (λ _. T.passed sink.new ≡ T.taken sink.new) }
+    ensures passed_on { IfOk result (λ _. HasPassed T.Sink sink.new) }
     ensures count { IfOk result (λ _. T.failed sink.new ≡ T.failed sink.old) }
     ensures err { OnErr result (T.failed sink.new ≡ T.failed sink.old + 1) }
 {
@@ -51,19 +50,11 @@ fn tell_fault<T: Sink, E: Sink, O: Observer>(
 ) -> u8
     requires sink_room { T.failed sink.old + 1 < 2 ^ 64 }
     requires errors_room { E.failed errors.old + 1 < 2 ^ 64 }
-    ensures told { FaultRan fault
-        (movement_of T.taken T.failed sink.old sink.new)
-        (movement_of E.taken E.failed errors.old errors.new) result }
-    ensures passed_on { T.passed sink.old ≡ T.taken sink.old → T.failed sink.new ≡ T.failed sink.old
-        → T.passed sink.new ≡ T.taken sink.new }
-    ensures errors { E.failed errors.new ≤ E.failed errors.old + 1 }
-    ensures left { E.passed errors.old ≡ E.taken errors.old
-        → E.failed errors.new ≡ E.failed errors.old → E.passed errors.new ≡ E.taken errors.new }
-    ensures silent { O.told observer.new ≡ O.told observer.old }
-    ensures same { O.is_silent observer.new ≡ O.is_silent observer.old }
-    ensures heard { (before : Hearing) → O.heard observer.old before
-        → HeardEnd (O.heard observer.new) before
-        (movement_of E.taken E.failed errors.old errors.new) result }
+    ensures told { FaultRan fault (moved T.Sink sink.old sink.new)
+        (moved E.Sink errors.old errors.new) result }
+    ensures passed_on { HasPassed T.Sink sink.old → PassesOn T.Sink sink.old sink.new }
+    ensures aside { AsideOfRun None E.Sink errors.old errors.new
+        O.Observer observer.old observer.new result }
 {
     match fault {
         LineFault::Usage { text } => {
@@ -98,13 +89,9 @@ impl From<AllocError> for Unread {
 /// Tells why the words could not be read, and answers the exit status.
 pub fn tell_unread<E: Sink, O: Observer>(fault: Unread, errors: &mut E, observer: &mut O) -> u8
     requires { E.failed errors.old + 1 < 2 ^ 64 }
-    ensures told { UnreadTold fault
-        (movement_of E.taken E.failed errors.old errors.new) result }
-    ensures silent { O.told observer.new ≡ O.told observer.old }
-    ensures same { O.is_silent observer.new ≡ O.is_silent observer.old }
-    ensures heard { (before : Hearing) → O.heard observer.old before
-        → HeardEnd (O.heard observer.new) before
-        (movement_of E.taken E.failed errors.old errors.new) result }
+    ensures told { UnreadTold fault (moved E.Sink errors.old errors.new) result }
+    ensures aside { AsideOfRun None E.Sink errors.old errors.new
+        O.Observer observer.old observer.new result }
 {
     match fault {
         Unread::NotUtf8 => {
@@ -133,22 +120,12 @@ pub fn run_line<S: Source + Drop, T: Sink + Drop, E: Sink, O: Observer>(
     requires source_room { S.failed source + 1 < 2 ^ 64 }
     requires sink_room { T.failed sink + 1 < 2 ^ 64 }
     requires errors_room { E.failed errors.old + 1 < 2 ^ 64 }
-    ensures ran { LineRan line.entry (S.has_ended result.source)
-        (movement_of S.given S.failed source result.source)
-        (movement_of T.taken T.failed sink result.sink)
-        (movement_of E.taken E.failed errors.old errors.new) result.status }
-    ensures told { ErrorsTold line.entry
-        (movement_of E.taken E.failed errors.old errors.new) result.status }
-    ensures passed_on { T.passed sink ≡ T.taken sink → T.failed result.sink ≡ T.failed sink
-        → T.passed result.sink ≡ T.taken result.sink }
-    ensures errors { E.failed errors.new ≤ E.failed errors.old + 1 }
-    ensures left { E.passed errors.old ≡ E.taken errors.old
-        → E.failed errors.new ≡ E.failed errors.old → E.passed errors.new ≡ E.taken errors.new }
-    ensures silent { IsTrue (O.is_silent observer.old) → O.told observer.new ≡ O.told observer.old }
-    ensures same { O.is_silent observer.new ≡ O.is_silent observer.old }
-    ensures heard { (before : Hearing) → O.heard observer.old before
-        → HeardEnd (O.heard observer.new) (begun_by line.entry before)
-        (movement_of E.taken E.failed errors.old errors.new) result.status }
+    ensures ran { LineRan line.entry (streams_of S.Source source result.source
+        T.Sink sink result.sink E.Sink errors.old errors.new) result.status }
+    ensures told { ErrorsTold line.entry (moved E.Sink errors.old errors.new) result.status }
+    ensures passed_on { HasPassed T.Sink sink → PassesOn T.Sink sink result.sink }
+    ensures aside { AsideOfRun (job_of line.entry) E.Sink errors.old errors.new
+        O.Observer observer.old observer.new result.status }
 {
     match line {
         Ok(line) => run_octets(
@@ -184,20 +161,12 @@ pub fn run_words<S: Source + Drop, T: Sink + Drop, E: Sink, O: Observer>(
     requires source_room { S.failed source + 1 < 2 ^ 64 }
     requires sink_room { T.failed sink + 1 < 2 ^ 64 }
     requires errors_room { E.failed errors.old + 1 < 2 ^ 64 }
-    ensures ran { WordsRan (map (λ word. word.now) words.now) (S.has_ended result.source)
-        (movement_of S.given S.failed source result.source)
-        (movement_of T.taken T.failed sink result.sink)
-        (movement_of E.taken E.failed errors.old errors.new) result.status }
-    ensures passed_on { T.passed sink ≡ T.taken sink → T.failed result.sink ≡ T.failed sink
-        → T.passed result.sink ≡ T.taken result.sink }
-    ensures errors { E.failed errors.new ≤ E.failed errors.old + 1 }
-    ensures left { E.passed errors.old ≡ E.taken errors.old
-        → E.failed errors.new ≡ E.failed errors.old → E.passed errors.new ≡ E.taken errors.new }
-    ensures silent { IsTrue (O.is_silent observer.old) → O.told observer.new ≡ O.told observer.old }
-    ensures same { O.is_silent observer.new ≡ O.is_silent observer.old }
-    ensures heard { (before : Hearing) → O.heard observer.old before
-        → HeardWords (map (λ word. word.now) words.now) (O.heard observer.new) before
-        (movement_of E.taken E.failed errors.old errors.new) result.status }
+    ensures ran { WordsRan (map (λ word. word.now) words.now)
+        (streams_of S.Source source result.source
+        T.Sink sink result.sink E.Sink errors.old errors.new) result.status }
+    ensures passed_on { HasPassed T.Sink sink → PassesOn T.Sink sink result.sink }
+    ensures aside { AsideOfWords (map (λ word. word.now) words.now)
+        E.Sink errors.old errors.new O.Observer observer.old observer.new result.status }
 {
     let line = line_of_words(alloc, words);
     run_line(line, source, sink, errors, observer)

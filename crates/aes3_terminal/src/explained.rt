@@ -1,8 +1,9 @@
 //! A whole command line, and what a person at a terminal is told after it.
 
-ghost use Rattle.std.specs.Prelude.{◌≡◌, ◌<◌, ◌≤◌, ◌+◌, ◌^◌, ◌||◌, IfOk, IsFalse, IsTrue, None, Some};
-ghost use Rattle.aes3_input.specs.Running.{movement_of};
+ghost use Rattle.std.specs.Prelude.{◌≡◌, ◌<◌, ◌+◌, ◌^◌, ◌||◌, IfOk, IsFalse, IsTrue, None, Some};
+ghost use Rattle.aes3_runner.specs.Asides.{ErrorsLeft};
 ghost use Rattle.aes3_runner.specs.StandardErrors.{ErrorsTold};
+ghost use Rattle.aes3_runner.specs.Streams.{HasPassed, PassesOn, moved, streams_of};
 ghost use Rattle.aes3_runner.specs.WordRuns.{LineRan, UnreadTold};
 ghost use Rattle.aes3_terminal.specs.Sentences.{RefusalExplained};
 
@@ -38,24 +39,18 @@ pub fn run_and_explain<
     requires source_room { S.failed source.source.source + 1 < 2 ^ 64 }
     requires sink_room { T.failed sink + 1 < 2 ^ 64 }
     requires errors_room { E.failed errors.old + 1 < 2 ^ 64 }
-    ensures ran { LineRan line.entry (S.has_ended result.source.source.source)
-        (movement_of S.given S.failed source.entry.source.source
-        result.source.source.source)
-        (movement_of T.taken T.failed sink result.sink)
-        (movement_of E.taken E.failed errors.old errors.new) result.status }
-    ensures told { ErrorsTold line.entry
-        (movement_of E.taken E.failed errors.old errors.new) result.status }
+    ensures ran { LineRan line.entry (streams_of
+        S.Source source.entry.source.source result.source.source.source
+        T.Sink sink result.sink E.Sink errors.old errors.new) result.status }
+    ensures told { ErrorsTold line.entry (moved E.Sink errors.old errors.new) result.status }
     ensures silent { IsFalse (hints.old.terminals.errors || hints.old.names_file)
         → H.taken hints.new.sink ≡ H.taken hints.old.sink }
     ensures explained { IsTrue hints.old.terminals.errors → hints.old.refusal ≡ None
         → H.failed hints.new.sink ≡ 0 → result.status ≡ 3
-        → RefusalExplained (movement_of E.taken E.failed errors.old errors.new) (H.taken hints.new.sink) }
+        → RefusalExplained (moved E.Sink errors.old errors.new) (H.taken hints.new.sink) }
     ensures begun { IfOk line.entry (λ line. hints.new.job ≡ Some line.job) }
-    ensures errors { E.failed errors.new ≤ E.failed errors.old + 1 }
-    ensures left { E.passed errors.old ≡ E.taken errors.old
-        → E.failed errors.new ≡ E.failed errors.old → E.passed errors.new ≡ E.taken errors.new }
-    ensures passed_on { T.passed sink ≡ T.taken sink → T.failed result.sink ≡ T.failed sink
-        → T.passed result.sink ≡ T.taken result.sink }
+    ensures errors { ErrorsLeft E.Sink errors.old errors.new }
+    ensures passed_on { HasPassed T.Sink sink → PassesOn T.Sink sink result.sink }
 {
     let file = file_of_line(&line);
     let mut ran = run_line(line, source, sink, errors, hints);
@@ -72,13 +67,13 @@ pub fn report_unread<E: Sink, H: Sink + Drop>(
     hints: &mut Hints<H>,
 ) -> u8
     requires { E.failed errors.old + 1 < 2 ^ 64 }
-    ensures told { UnreadTold fault
-        (movement_of E.taken E.failed errors.old errors.new) result }
+    ensures told { UnreadTold fault (moved E.Sink errors.old errors.new) result }
+    ensures errors { ErrorsLeft E.Sink errors.old errors.new }
     ensures silent { IsFalse (hints.old.terminals.errors || hints.old.names_file)
         → H.taken hints.new.sink ≡ H.taken hints.old.sink }
     ensures explained { IsTrue hints.old.terminals.errors → hints.old.refusal ≡ None
         → H.failed hints.new.sink ≡ 0 → result ≡ 3
-        → RefusalExplained (movement_of E.taken E.failed errors.old errors.new) (H.taken hints.new.sink) }
+        → RefusalExplained (moved E.Sink errors.old errors.new) (H.taken hints.new.sink) }
 {
     let status = tell_unread(fault, errors, hints);
     hints.explain_unread();

@@ -2,12 +2,10 @@ use Rattle.aes3_runner.proofs.Flushes.{done, passed-on, refused-flushed}
 use Rattle.aes3_runner.proofs.finish.finish_begun.Goals as goal
 
 pub returns-in-Ok-clause-ran : goal.returns-in-Ok-clause-ran
-returns-in-Ok-clause-ran g c = done c.args.job.now c.args.typed.now c.in-Ok.ensures.ran c.tell_outcome.ensures.status c.tell_outcome.ensures.told
+returns-in-Ok-clause-ran g c = done c.in-Ok.ensures.ran c.tell_outcome.ensures.status c.tell_outcome.ensures.told
 
 pub returns-in-Err-clause-ran : goal.returns-in-Err-clause-ran
-returns-in-Err-clause-ran g c
-    = refused-flushed c.args.job.now c.args.typed.now c.in-Err.ensures.ran c.flushed.ensures.told c.refuse.ensures.status
-    c.refuse.ensures.line
+returns-in-Err-clause-ran g c = refused-flushed c.in-Err.ensures.ran c.flushed.ensures.told c.refuse.ensures.aside.refusal
 
 pub returns-in-Err-clause-passed_on : goal.returns-in-Err-clause-passed_on
 returns-in-Err-clause-passed_on g c

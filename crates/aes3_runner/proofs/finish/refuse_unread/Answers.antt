@@ -4,5 +4,4 @@ use Rattle.aes3_runner.proofs.finish.refuse_unread.Goals as goal
 
 pub returns-clause-refused : goal.returns-clause-refused
 returns-clause-refused g c =
-    read-refused {told = c.flushed.result} (search (rules, c.flushed.ensures.told)) c.refuse.ensures.status
-    c.refuse.ensures.line
+    read-refused {told = c.flushed.result} (search (rules, c.flushed.ensures.told)) c.refuse.ensures.aside.refusal

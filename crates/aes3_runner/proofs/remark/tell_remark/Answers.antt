@@ -1,11 +1,11 @@
 use Rattle.std.proofs.Common.{sym, ◌∙◌}
-use Rattle.aes3_input.specs.Running.{movement_of}
 use Rattle.aes3_runner.specs.Lines.{remark_line}
+use Rattle.aes3_runner.specs.Streams.{moved}
 use Rattle.aes3_runner.proofs.RemarkLines.{told-front}
 use Rattle.aes3_runner.proofs.remark.tell_remark.Goals as goal
 
 pub returns-else-is_ok-clause-told : goal.returns-else-is_ok-clause-told
 returns-else-is_ok-clause-told g c =
     told-front c.put_remark.result
-    (movement_of g.E.Sink.taken g.E.Sink.failed c.args.errors.now c.put_remark.new.sink)
+    (moved g.E.Sink c.args.errors.now c.put_remark.new.sink)
     (remark_line c.args.typed.now c.args.remark.now) (sym c.is_ok.ensures.value ∙ c.if-is_ok.false) c.put_remark.ensures.err

@@ -5,11 +5,7 @@ use Rattle.aes3_runner.specs.Lines.{not_utf8_text}
 use Rattle.aes3_runner.specs.WordRuns.{UnreadTold}
 use Rattle.aes3_runner.specs.declared.run.Unread.{Unread}
 use Rattle.aes3_runner.specs.declared.run.Unread.TheVariants.{NotUtf8, Memory}
-use Rattle.aes3_runner.proofs.HeardEnds.{not-refused}
 use Rattle.aes3_runner.proofs.run.tell_unread.Goals as goal
-
-pub returns-in-NotUtf8-clause-heard : goal.returns-in-NotUtf8-clause-heard
-returns-in-NotUtf8-clause-heard g c = λ before h. not-refused (λ three. omega (arith, three)) h
 
 pub returns-in-NotUtf8-clause-told : goal.returns-in-NotUtf8-clause-told
 returns-in-NotUtf8-clause-told g c

@@ -7,6 +7,8 @@ pub returns-clause-explained : goal.returns-clause-explained
 returns-clause-explained g c = λ on none quiet three.
     let hints = c.args.hints.now in
     let before : Hearing = record { job = hints.job; refusal = hints.refusal; terminal = hints.terminals.errors } in
-    let end = c.tell_unread-status.ensures.heard before (refl, refl, refl) in
-    let still = subst (λ (b : Bool). IsTrue b) (sym end.known.2) on in
-    explained _ _ (λ hearing known. known.1) end three (advised _ _ _ (c.explain_unread.ensures.told still quiet))
+    let told = c.tell_unread-status.ensures.aside in
+    let heard = told.aside.observed.heard before (refl, refl, refl) in
+    let still = subst (λ (b : Bool). IsTrue b) (sym heard.2) on in
+    explained told.refused hints.refusal _ _ heard.1 told.aside.refusal three
+    (advised _ _ _ (c.explain_unread.ensures.told still quiet))
