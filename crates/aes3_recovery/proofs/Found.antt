@@ -1,9 +1,9 @@
 -- What was found in the first runs of a capture counts the cells of all.
-use Rattle.std.proofs.Common.{ℕ, zero, suc, List, [], ◌∷◌, ◌≡◌, ◌*◌, Option, Some, None, get_or, take}
+use Rattle.std.proofs.Common.{ℕ, zero, suc, List, [], ◌∷◌, ◌≡◌, ◌≤◌, ◌*◌, Option, Some, None, get_or, length, take, arith}
 use Rattle.std.specs.Prelude.{IsSomeAnd}
 use Rattle.aes3_capture.specs.declared.bounds.Bounds.{Bounds}
 use Rattle.aes3_capture.specs.declared.follower.Follower.{Follower}
-use Rattle.aes3_capture.specs.Captures.{SpreadsLate}
+use Rattle.aes3_capture.specs.Captures.{IsBetween, SpreadsLate}
 use Rattle.aes3_capture.specs.Directions.{IsWider}
 use Rattle.aes3_capture.specs.Following.{Follows}
 use Rattle.aes3_capture.proofs.Counts.{captures-late}
@@ -36,6 +36,14 @@ spreads-wider narrow wide spread late later before (m ∷ cells) (run ∷ runs) 
   spreads-wider narrow wide spread later late s.0 cells runs w s.4,
 )
 
+-- its first edge is displaced by no more than the others
+pub spreads-first : (bounds : Bounds) (spread late later displaced : ℕ) (counts runs : List ℕ) → 1 ≤ length runs
+    → SpreadsLate bounds spread late later displaced counts runs → IsBetween late displaced spread
+spreads-first bounds spread late later displaced [] [] some s = absurd (omega (arith, some))
+spreads-first bounds spread late later displaced (n ∷ counts) [] some s = absurd s
+spreads-first bounds spread late later displaced [] (x ∷ xs) some s = absurd s
+spreads-first bounds spread late later displaced (n ∷ counts) (x ∷ xs) some s = s.1
+
 pub numbered : (narrow : Bounds) (spread late later place side displaced : ℕ) (line all : List ℕ)
     → IsACapture narrow spread late later place side displaced line all
     → Displaced narrow spread late later displaced (take 256 line) (take 256 all)
@@ -53,20 +61,20 @@ captured-of narrow spread late later place side displaced line all capture = rec
   findable = capture.findable;
 }
 
-counts-line : (narrow : Bounds) (spread late later displaced : ℕ) (places line all : List ℕ) (follower : Follower)
-    → FollowsLine narrow spread late later places follower → get_or places 0 0 ≡ displaced
+counts-line : (known : Option ℕ) (narrow : Bounds) (spread late later displaced : ℕ) (places line all : List ℕ) (follower : Follower)
+    → FollowsLine known narrow spread late later places follower → get_or places 0 0 ≡ displaced
     → SpreadsLate narrow spread late later displaced line all → CountsLine line all follower
-counts-line narrow spread late later displaced places line all follower f first spreads = λ cells behind counted.
-    let at = f.at in
-    let borne = f.borne in
+counts-line known narrow spread late later displaced places line all follower f first spreads = λ cells behind counted.
+    let at = f.starts.at in
+    let borne = f.starts.borne in
     let follows : Follows follower at.first at.second displaced 0 0 = rw first at at.follows in
     let captures = captures-late follower.bounds spread late later at.first at.second displaced line all borne.narrow borne.above borne.below
-    at.first_side at.second_side (spreads-wider narrow follower.bounds spread late later displaced line all f.wide spreads) in
+    at.first_side at.second_side (spreads-wider narrow follower.bounds spread late later displaced line all f.starts.wide spreads) in
     counted-line follower behind all cells line at.first at.second displaced counted follows captures
 
-pub found-counts : (narrow : Bounds) (spread late later displaced : ℕ) (places line all : List ℕ) (result : Option Follower)
-    → IsFound narrow spread late later places result → get_or places 0 0 ≡ displaced
+pub found-counts : (known : Option ℕ) (narrow : Bounds) (spread late later displaced : ℕ) (places line all : List ℕ) (result : Option Follower)
+    → IsFound known narrow spread late later places result → get_or places 0 0 ≡ displaced
     → SpreadsLate narrow spread late later displaced line all → IsSomeAnd result (CountsLine line all)
-found-counts narrow spread late later displaced places line all None found first spreads = found
-found-counts narrow spread late later displaced places line all (Some follower) found first spreads =
-    counts-line narrow spread late later displaced places line all follower found first spreads
+found-counts known narrow spread late later displaced places line all None found first spreads = found
+found-counts known narrow spread late later displaced places line all (Some follower) found first spreads =
+    counts-line known narrow spread late later displaced places line all follower found first spreads

@@ -21,6 +21,7 @@ use Rattle.aes3_recovery.specs.declared.recovery.State.TheVariants.{Following}
 use Rattle.aes3_recovery.proofs.Awaiting.{awaits-joins}
 use Rattle.aes3_recovery.proofs.Beginning.{heads, tails}
 use Rattle.aes3_recovery.proofs.Followed.{followed-gives}
+use Rattle.aes3_recovery.proofs.Found.{spreads-first, spreads-wider}
 use Rattle.aes3_recovery.proofs.RunsBehind.{behind-same}
 
 -- a capture begins with one of the first runs
@@ -32,28 +33,6 @@ spreads-front bounds spread late later displaced (n ∷ counts) [] ys s = tt
 spreads-front bounds spread late later displaced [] (x ∷ xs) ys s = absurd s
 spreads-front bounds spread late later displaced (n ∷ counts) (x ∷ xs) ys s =
     (s.0, s.1, s.2, s.3, spreads-front bounds spread later late s.0 counts xs ys s.4)
-
--- and is one where cells may differ more
-spreads-wider : (narrow wide : Bounds) (spread late later displaced : ℕ) (counts runs : List ℕ) → IsWider wide narrow
-    → SpreadsLate narrow spread late later displaced counts runs
-    → SpreadsLate wide spread late later displaced counts runs
-spreads-wider narrow wide spread late later displaced [] [] w s = tt
-spreads-wider narrow wide spread late later displaced [] (x ∷ xs) w s = absurd s
-spreads-wider narrow wide spread late later displaced (n ∷ counts) [] w s = absurd s
-spreads-wider narrow wide spread late later displaced (n ∷ counts) (x ∷ xs) w s = (
-  s.0,
-  s.1,
-  s.2,
-  placed-wider narrow wide displaced n (65536 * x) s.0 w.low w.high s.3,
-  spreads-wider narrow wide spread later late s.0 counts xs w s.4,
-)
-
-spreads-first : (bounds : Bounds) (spread late later displaced : ℕ) (counts runs : List ℕ) → 1 ≤ length runs
-    → SpreadsLate bounds spread late later displaced counts runs → IsBetween late displaced spread
-spreads-first bounds spread late later displaced [] [] some s = absurd (omega (arith, some))
-spreads-first bounds spread late later displaced (n ∷ counts) [] some s = absurd s
-spreads-first bounds spread late later displaced [] (x ∷ xs) some s = absurd s
-spreads-first bounds spread late later displaced (n ∷ counts) (x ∷ xs) some s = s.1
 
 line-displaced : (known : Option ℕ) (levels : List Level) (first : ℕ) (counts : List ℕ)
     → (l : IsLineBehind known levels first counts)
@@ -137,12 +116,12 @@ joined-gives told setting levels now first counts is one l a =
     let d = line-displaced setting.known levels first counts l in
     let found = f.found.found l.narrow l.spread l.late l.later l.place l.side d.places (take 256 counts)
     (line-captured setting.known levels first counts l d) l.allows in
-    let at = found.at in
-    let borne = found.borne in
+    let at = found.starts.at in
+    let borne = found.starts.borne in
     let follows : Follows f.start at.first at.second l.displaced 0 0
     = subst (λ n. Follows f.start at.first at.second n 0 0) d.first at.follows in
     let wide = spreads-wider l.narrow f.start.bounds l.spread l.late l.later l.displaced counts (l.window ++ l.more)
-    found.wide l.captured in
+    found.starts.wide l.captured in
     let captures = captures-late f.start.bounds l.spread l.late l.later at.first at.second l.displaced counts
     (l.window ++ l.more) borne.narrow borne.above borne.below at.first_side at.second_side wide in
     let since : runs_behind (other (other (other s))) 0 f.since ≡ l.window ++ l.more

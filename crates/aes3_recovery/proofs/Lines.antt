@@ -8,7 +8,8 @@ use Rattle.std.specs.Prelude.{Bool, IsTrue, nat_le}
 use Rattle.aes3_recovery.specs.declared.measure.Anchor.{Anchor}
 use Rattle.aes3_capture.specs.declared.bounds.Bounds.{Bounds}
 use Rattle.aes3_capture.specs.declared.follower.Follower.{Follower}
-use Rattle.aes3_recovery.specs.Finding.{IsFound}
+use Rattle.aes3_capture.specs.Captures.{IsAbout}
+use Rattle.aes3_recovery.specs.Finding.{IsFound, IsPeriodOf, IsStarted}
 use Rattle.aes3_recovery.specs.Measuring.{IsAround, IsAsked, IsLine, IsMeasured}
 
 pub is-at-most : (a b : ℕ) → a ≤ b → IsTrue (nat_le a b)
@@ -57,7 +58,25 @@ anchors-more found g limit value within last before i other below = by (cases_lt
         at same = rw (same, get_or-set_same found g value other within) last
 
 -- what is found is there
-pub found-is-some : (narrow : Bounds) (spread late later : ℕ) (places : List ℕ) (result : Option Follower) → IsFound narrow spread late later places result
-    → is_some result ≡ false → ⊥
-found-is-some narrow spread late later places None found e = found
-found-is-some narrow spread late later places (Some follower) found e = cc
+pub found-is-some : (known : Option ℕ) (narrow : Bounds) (spread late later : ℕ) (places : List ℕ) (result : Option Follower)
+    → IsFound known narrow spread late later places result → is_some result ≡ false → ⊥
+found-is-some known narrow spread late later places None found e = found
+found-is-some known narrow spread late later places (Some follower) found e = cc
+
+pub started-is-some : (narrow : Bounds) (spread late later : ℕ) (places : List ℕ) (result : Option Follower)
+    → IsStarted narrow spread late later places result → is_some result ≡ false → ⊥
+started-is-some narrow spread late later places None started e = started
+started-is-some narrow spread late later places (Some follower) started e = cc
+
+-- a follower that was started with bounds by the period that was measured
+pub found-measured : (known : Option ℕ) (narrow bounds : Bounds) (spread late later : ℕ) (places runs : List ℕ) (period asked : ℕ)
+    (result : Option Follower) → IsStarted narrow spread late later places result → IfSome result (IsLine bounds runs)
+    → IsPeriodOf narrow spread 253 period → asked ≡ unwrap_or known period → IsAbout bounds asked 1024
+    → IsFound known narrow spread late later places result
+found-measured known narrow bounds spread late later places runs period asked None started line measured is about = started
+found-measured known narrow bounds spread late later places runs period asked (Some follower) started line measured is about = record {
+  starts = started;
+  period = asked;
+  about = rw line.bounds_is about;
+  measured = λ none. rw (is, none) measured;
+}

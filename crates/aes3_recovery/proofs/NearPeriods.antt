@@ -8,13 +8,8 @@ use Rattle.aes3_capture.specs.declared.bounds.Bounds.{Bounds}
 use Rattle.aes3_capture.specs.Captures.{IsAbout}
 use Rattle.aes3_capture.specs.Directions.{IsBorne, IsWider}
 use Rattle.aes3_capture.proofs.Telescope.{apart}
-use Rattle.aes3_recovery.specs.Finding.{HasCells, IsFindable, IsTolerable}
+use Rattle.aes3_recovery.specs.Finding.{HasCells, IsFindable, IsPeriodOf, IsTolerable}
 use Rattle.aes3_recovery.proofs.Captured.{IsLong, fewer}
-
--- a period that was measured from so many cells
-pub record IsNear (bounds : Bounds) (spread cells period : ℕ) : Type 0 where
-  pub most : cells * period ≤ cells * bounds.high + spread
-  pub least : cells * bounds.low < cells * period + cells + spread
 
 -- a period measured from more cells is one measured from fewer
 more-times : (n d k : ℕ) → k ≤ n → k * d ≤ n * d
@@ -57,8 +52,8 @@ fewer-least n k p a spread h least some = by (cases_lt p a)
         let less = more-times n (a - p - 1) k h in
         omega (arith, f, g, fs, gs, ft, gt, less, least)
 
-pub near-fewer : (bounds : Bounds) (spread n k period : ℕ) → k ≤ n → 0 < k → IsNear bounds spread n period
-    → IsNear bounds spread k period
+pub near-fewer : (bounds : Bounds) (spread n k period : ℕ) → k ≤ n → 0 < k → IsPeriodOf bounds spread n period
+    → IsPeriodOf bounds spread k period
 near-fewer bounds spread n k period h some near = record {
   most = fewer-most n k period bounds.high spread h near.most;
   least = fewer-least n k period bounds.low spread h near.least some;
@@ -88,7 +83,7 @@ quotient-least x y some = by (cases_lt x (y * (x / y) + y))
         absurd (omega (arith, least))
 
 pub near-of : (bounds : Bounds) (spread cells samples period : ℕ) → IsLong bounds spread cells samples → 0 < cells
-    → period ≡ samples * 65536 / cells → IsNear bounds spread cells period
+    → period ≡ samples * 65536 / cells → IsPeriodOf bounds spread cells period
 near-of bounds spread cells samples period long some is =
     let most = quotient-most (samples * 65536) cells in
     let least = quotient-least (samples * 65536) cells some in
@@ -126,7 +121,7 @@ fits-of bounds narrow spread late later period part about less low high middle l
     }
 
 pub fits-192 : (bounds narrow : Bounds) (spread late later period : ℕ) → IsFindable narrow spread late later
-    → IsNear narrow spread 192 period → IsAbout bounds period 768 → Fits bounds narrow spread late later
+    → IsPeriodOf narrow spread 192 period → IsAbout bounds period 768 → Fits bounds narrow spread late later
 fits-192 bounds narrow spread late later period f near about =
     let n = f.near in
     let o = f.ordered in
@@ -138,7 +133,7 @@ fits-192 bounds narrow spread late later period f near about =
     (omega (arith, n, o, a, s, m, l)) f.late_half f.later_half (omega (arith, n, o, a, s, m, l))
 
 pub fits-256 : (bounds narrow : Bounds) (spread late later period : ℕ) → IsFindable narrow spread late later
-    → IsNear narrow spread 256 period → IsAbout bounds period 896 → Fits bounds narrow spread late later
+    → IsPeriodOf narrow spread 256 period → IsAbout bounds period 896 → Fits bounds narrow spread late later
 fits-256 bounds narrow spread late later period f near about =
     let n = f.near in
     let o = f.ordered in
@@ -150,7 +145,7 @@ fits-256 bounds narrow spread late later period f near about =
     (omega (arith, n, o, a, s, m, l)) f.late_half f.later_half (omega (arith, n, o, a, s, m, l))
 
 pub fits-320 : (bounds narrow : Bounds) (spread late later period : ℕ) → IsFindable narrow spread late later
-    → IsNear narrow spread 320 period → IsAbout bounds period 1024 → Fits bounds narrow spread late later
+    → IsPeriodOf narrow spread 320 period → IsAbout bounds period 1024 → Fits bounds narrow spread late later
 fits-320 bounds narrow spread late later period f near about =
     let n = f.near in
     let o = f.ordered in
@@ -162,7 +157,7 @@ fits-320 bounds narrow spread late later period f near about =
     (omega (arith, n, o, a, s, m, l)) f.late_half f.later_half (omega (arith, n, o, a, s, m, l))
 
 pub fits-253 : (bounds narrow : Bounds) (spread late later period : ℕ) → IsFindable narrow spread late later
-    → IsNear narrow spread 253 period → IsAbout bounds period 1024 → Fits bounds narrow spread late later
+    → IsPeriodOf narrow spread 253 period → IsAbout bounds period 1024 → Fits bounds narrow spread late later
 fits-253 bounds narrow spread late later period f near about =
     let n = f.near in
     let o = f.ordered in
@@ -175,7 +170,7 @@ fits-253 bounds narrow spread late later period f near about =
 
 -- by three subframes or more
 pub fits-first : (bounds narrow : Bounds) (spread late later period m part : ℕ) → IsFindable narrow spread late later
-    → IsNear narrow spread (64 * m) period → 3 ≤ m → part ≡ min (128 * (m + 3)) 1024 → IsAbout bounds period part
+    → IsPeriodOf narrow spread (64 * m) period → 3 ≤ m → part ≡ min (128 * (m + 3)) 1024 → IsAbout bounds period part
     → Fits bounds narrow spread late later
 fits-first bounds narrow spread late later period zero part f near some is about = absurd (omega (arith, some))
 fits-first bounds narrow spread late later period (suc zero) part f near some is about = absurd (omega (arith, some))
@@ -203,7 +198,7 @@ fits-known bounds narrow spread late later period f has about =
 
 -- such periods are possible
 pub in-range-192 : (narrow : Bounds) (spread late later period : ℕ) → IsFindable narrow spread late later
-    → IsNear narrow spread 192 period → (132096 ≤ period) × (period ≤ 524288000)
+    → IsPeriodOf narrow spread 192 period → (132096 ≤ period) × (period ≤ 524288000)
 in-range-192 narrow spread late later period f near =
     let s = f.shortest in
     let l = f.longest in
@@ -212,7 +207,7 @@ in-range-192 narrow spread late later period f near =
     (omega (arith, s, n0), omega (arith, l, n1))
 
 pub in-range-253 : (narrow : Bounds) (spread late later period : ℕ) → IsFindable narrow spread late later
-    → IsNear narrow spread 253 period → (132096 ≤ period) × (period ≤ 524288000)
+    → IsPeriodOf narrow spread 253 period → (132096 ≤ period) × (period ≤ 524288000)
 in-range-253 narrow spread late later period f near =
     let s = f.shortest in
     let l = f.longest in

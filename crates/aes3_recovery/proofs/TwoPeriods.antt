@@ -7,18 +7,18 @@ use Rattle.aes3_capture.specs.declared.bounds.Bounds.{Bounds}
 use Rattle.aes3_capture.specs.Captures.{AreDisplaced, IsAbout, sum_to}
 use Rattle.aes3_capture.proofs.Telescope.{apart}
 use Rattle.aes3_recovery.specs.declared.measure.Anchor.{Anchor}
-use Rattle.aes3_recovery.specs.Finding.{AllowsCells, AreCapturedRuns, AreEnds, AreOfALine, IsFirst, IsLikeAPreamble, sums_to}
+use Rattle.aes3_recovery.specs.Finding.{AllowsCells, AreCapturedRuns, AreEnds, AreOfALine, IsFirst, IsLikeAPreamble, IsPeriodOf, sums_to}
 use Rattle.aes3_recovery.proofs.Captured.{IsLong, between-edges, fewer, four-long, run-long, same-lateness}
 use Rattle.aes3_recovery.proofs.Firsts.{sum-grows}
-use Rattle.aes3_recovery.proofs.NearPeriods.{IsNear, fits-253, fits-first, fits-known, near-fewer, near-of}
+use Rattle.aes3_recovery.proofs.NearPeriods.{fits-253, fits-first, fits-known, near-fewer, near-of}
 use Rattle.aes3_recovery.proofs.Periods.{sums-next, sums-none}
 
 -- from the first preamble to the last
 pub record IsFirstPeriod (bounds : Bounds) (spread subframes period : ℕ) : Type 0 where
   pub some : 3 ≤ subframes
   pub few : subframes ≤ 9
-  pub near : IsNear bounds spread (64 * subframes) period
-  pub near_192 : IsNear bounds spread 192 period
+  pub near : IsPeriodOf bounds spread (64 * subframes) period
+  pub near_192 : IsPeriodOf bounds spread 192 period
 
 pub first-period : (bounds : Bounds) (spread late later place side : ℕ) (places line runs : List ℕ) (first last : Anchor)
     (subframes samples least period : ℕ) → AreCapturedRuns bounds spread late later place side places line runs
@@ -73,7 +73,7 @@ first-period bounds spread late later place side places line runs first last sub
 -- a preamble's first four runs are like those of a preamble
 pub like-a-preamble : (bounds : Bounds) (spread late later place side : ℕ) (places line runs : List ℕ) (from run samples period : ℕ)
     → AreCapturedRuns bounds spread late later place side places line runs → IsFirst place line runs from run samples
-    → IsNear bounds spread 192 period → run + 4 ≤ length runs → IsLikeAPreamble runs run period
+    → IsPeriodOf bounds spread 192 period → run + 4 ≤ length runs → IsLikeAPreamble runs run period
 like-a-preamble bounds spread late later place side places line runs from run samples period captured is near within =
     let many = captured.many in
     let displaced = captured.displaced in
@@ -189,7 +189,7 @@ difference x a n b e = grind (arith, e)
 pub second-period : (bounds : Bounds) (spread late later place side : ℕ) (places line runs : List ℕ) (period : ℕ)
     → AreCapturedRuns bounds spread late later place side places line runs
     → period ≡ (sums_to runs 241 16 - sums_to runs 0 16) * 65536 / max (sums_to line 241 16 - sums_to line 0 16) 1
-    → IsNear bounds spread 253 period
+    → IsPeriodOf bounds spread 253 period
 second-period bounds spread late later place side places line runs period captured is =
     let many = captured.many in
     let displaced = captured.displaced in
@@ -226,7 +226,7 @@ pub second-period-of : (bounds : Bounds) (spread late later place side : ℕ) (p
     → AreCapturedRuns bounds spread late later place side places line runs → length cells ≡ 256 → take (length runs) cells ≡ line
     → period ≡ (sums_to runs (length runs - 15) 16 - sums_to runs 0 16) * 65536
     / max (sums_to cells (length runs - 15) 16 - sums_to cells 0 16) 1
-    → IsNear bounds spread 253 period
+    → IsPeriodOf bounds spread 253 period
 second-period-of bounds spread late later place side places line runs cells period captured long front is =
     let line_count = captured.many.count in
     let cells_count = captured.displaced.cells_count in
@@ -261,7 +261,7 @@ first-line narrow bounds spread late later place side places line runs (Some kno
     record { displaced = captured.displaced; wide = fits.wide; borne = fits.borne }
 
 pub second-line : (narrow bounds : Bounds) (spread late later place side : ℕ) (places line runs : List ℕ) (known : Option ℕ)
-    (period asked : ℕ) → AreCapturedRuns narrow spread late later place side places line runs → IsNear narrow spread 253 period
+    (period asked : ℕ) → AreCapturedRuns narrow spread late later place side places line runs → IsPeriodOf narrow spread 253 period
     → AllowsCells known narrow → asked ≡ unwrap_or known period → IsAbout bounds asked 1024
     → AreOfALine narrow bounds spread late later places line runs
 second-line narrow bounds spread late later place side places line runs None period asked captured near allows is about =

@@ -22,7 +22,7 @@ pub record IsFoundIn (known : Option ℕ) (window : List ℕ) (start : Follower)
   pub measured : IsMeasured known window start
   pub found : (narrow : Bounds) (spread late later place side : ℕ) (places cells : List ℕ)
       → AreCapturedRuns narrow spread late later place side places cells window → AllowsCells known narrow
-      → FollowsLine narrow spread late later places start
+      → FollowsLine known narrow spread late later places start
 
 -- A recovery found its line in the runs `window`, behind the runs `before`: it gave the cells of `before`, and then those
 -- that the follower which it found counts of `window`.

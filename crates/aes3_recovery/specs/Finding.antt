@@ -2,7 +2,7 @@
 use Rattle.std.specs.Prelude.{ℕ, zero, suc, List, Option, Some, None, ◌≡◌, ◌<◌, ◌≤◌, ◌+◌, ◌-◌, ◌*◌, ◌/◌, ◌%◌, ◌^◌, min, nat_le, if◌then◌else◌, get_or, length, take}
 use Rattle.aes3_capture.specs.declared.bounds.Bounds.{Bounds}
 use Rattle.aes3_capture.specs.declared.follower.Follower.{Follower}
-use Rattle.aes3_capture.specs.Captures.{AreDisplaced, IsBetween, SpreadsLate, sum_to}
+use Rattle.aes3_capture.specs.Captures.{AreDisplaced, IsAbout, IsBetween, SpreadsLate, sum_to}
 use Rattle.aes3_capture.specs.Directions.{IsAt, IsBorne, IsWider}
 use Rattle.aes3_capture.specs.Following.{CountedAll}
 use Rattle.aes3_recovery.specs.declared.measure.Anchor.{Anchor}
@@ -22,14 +22,32 @@ pub record AreOfSubframes (place : ℕ) (line : List ℕ) : Type 0 where
   pub enough : 3 ≤ preambles_from place line
 
 -- A follower of the line from its first edge on, which bears it for as long as its cells and its edges stay as they are.
-pub record FollowsLine (narrow : Bounds) (spread late later : ℕ) (places : List ℕ) (follower : Follower) : Type 0 where
+pub record StartsLine (narrow : Bounds) (spread late later : ℕ) (places : List ℕ) (follower : Follower) : Type 0 where
   pub at : IsAt follower spread late later places 0
   pub wide : IsWider follower.bounds narrow
   pub borne : IsBorne follower.bounds spread late later
 
-abbrev pub IsFound : Bounds → ℕ → ℕ → ℕ → List ℕ → Option Follower → Type 0
-IsFound narrow spread late later places None = ⊥
-IsFound narrow spread late later places (Some follower) = FollowsLine narrow spread late later places follower
+abbrev pub IsStarted : Bounds → ℕ → ℕ → ℕ → List ℕ → Option Follower → Type 0
+IsStarted narrow spread late later places None = ⊥
+IsStarted narrow spread late later places (Some follower) = StartsLine narrow spread late later places follower
+
+-- a period that was measured from so many cells, by edges within such a spread
+pub record IsPeriodOf (narrow : Bounds) (spread cells period : ℕ) : Type 0 where
+  pub most : cells * period ≤ cells * narrow.high + spread
+  pub least : cells * narrow.low < cells * period + cells + spread
+
+-- So it follows the line, and its cells may be a 1024th longer or shorter than a period: where none was asked for, that is measured
+-- from 253 cells of the line.
+pub record FollowsLine (known : Option ℕ) (narrow : Bounds) (spread late later : ℕ) (places : List ℕ) (follower : Follower)
+    : Type 0 where
+  pub starts : StartsLine narrow spread late later places follower
+  pub period : ℕ
+  pub about : IsAbout follower.bounds period 1024
+  pub measured : known ≡ None → IsPeriodOf narrow spread 253 period
+
+abbrev pub IsFound : Option ℕ → Bounds → ℕ → ℕ → ℕ → List ℕ → Option Follower → Type 0
+IsFound known narrow spread late later places None = ⊥
+IsFound known narrow spread late later places (Some follower) = FollowsLine known narrow spread late later places follower
 
 -- the sum of `k` sums: of the first `i` of these, of the first `i + 1`, and so on
 unfoldable pub sums_to : List ℕ → ℕ → ℕ → ℕ
@@ -100,6 +118,13 @@ pub record IsTolerable (cell spread late later : ℕ) : Type 0 where
   pub near : 64 * spread ≤ 15 * cell
   pub late_third : 3 * late ≤ 3 * later + cell
   pub later_third : 3 * later ≤ 3 * late + cell
+
+-- A line that was found lasts: it is never taken for lost, by how long its cells are and how far its edges lie from their places. That
+-- is at most 0.0969 of a cell within one direction, less where cells change, and about a seventh between the directions.
+pub record IsLasting (narrow : Bounds) (spread late later : ℕ) : Type 0 where
+  pub near : 547 * spread + 49201 * narrow.high + 211000 ≤ 49254 * narrow.low
+  pub above : 64 * late + 111 * spread + 11724 * narrow.high + 19000 ≤ 64 * later + 11743 * narrow.low
+  pub below : 64 * later + 111 * spread + 11724 * narrow.high + 19000 ≤ 64 * late + 11743 * narrow.low
 
 -- These 256 runs of samples are a capture of subframes with these runs of cells, in which a line can be found.
 pub record AreCapturedRuns (narrow : Bounds) (spread late later place side : ℕ) (places line runs : List ℕ) : Type 0 where

@@ -6,7 +6,7 @@ ghost use Rattle.aes3_capture.specs.declared.bounds.Bounds.{Bounds};
 ghost use Rattle.aes3_capture.specs.Captures.{AreDisplaced, IsAbout, sum_to};
 ghost use Rattle.aes3_capture.specs.Directions.{IsAt};
 ghost use Rattle.aes3_recovery.specs.Finding.{CountsLine, IsACapture};
-ghost use Rattle.aes3_recovery.specs.Finding.{AllowsCells, AreCapturedRuns, AreEnds, AreOfALine, AreOfManySubframes, AreOfSubframes, IsFound, IsLikeAPreamble, IsSix, IsTolerable, long_pairs, pair_at, sums_to};
+ghost use Rattle.aes3_recovery.specs.Finding.{AllowsCells, AreCapturedRuns, AreEnds, AreOfALine, AreOfManySubframes, AreOfSubframes, IsFound, IsLikeAPreamble, IsStarted, IsSix, IsTolerable, long_pairs, pair_at, sums_to};
 ghost use Rattle.aes3_recovery.specs.declared.measure.Anchor.{Anchor};
 ghost use Rattle.aes3_recovery.specs.declared.measure.Side.{Side};
 ghost use Rattle.aes3_recovery.specs.declared.measure.Side.TheVariants.{Of};
@@ -441,7 +441,7 @@ fn start(
     ensures found { (narrow : Bounds) (spread late later place : ℕ) (places line : List ℕ)
         → AreOfALine narrow bounds spread late later places line runs.now → AreOfSubframes place line
         → get_or line anchor 0 ≡ 3 → place_at place line anchor ≡ 0
-        → IsFound narrow spread late later places result × (take (length runs.now) cells.new ≡ line) }
+        → IsStarted narrow spread late later places result × (take (length runs.now) cells.new ≡ line) }
 {
     let follower = at_first(runs, anchor, bounds, measured);
     if count_runs(follower, runs, cells) && have_preambles(cells, runs.len(), anchor) {
@@ -462,7 +462,7 @@ fn by_anchors(runs: &[u32], known: Option<u64>, first: Anchor, last: Anchor) -> 
     // It is found by the first runs of the first preamble and of the last.
     ensures found { (narrow : Bounds) (spread late later place side : ℕ) (places line : List ℕ)
         → AreCapturedRuns narrow spread late later place side places line runs.now → AreEnds place line runs.now first last
-        → AllowsCells known narrow → IsFound narrow spread late later places result }
+        → AllowsCells known narrow → IsFound known narrow spread late later places result }
 {
     let subframes = last.subframes.saturating_sub(first.subframes);
     if subframes == 0 || subframes > 64 {
@@ -503,7 +503,7 @@ fn by_pair(runs: &[u32], known: Option<u64>, longest: u32, side: Side) -> Option
     // It is found if this is a pair of six cells, and preambles begin on this side.
     ensures found { (narrow : Bounds) (spread late later place s : ℕ) (places line : List ℕ)
         → AreCapturedRuns narrow spread late later place s places line runs.now → IsSix narrow spread longest → side ≡ Of s
-        → AllowsCells known narrow → IsFound narrow spread late later places result }
+        → AllowsCells known narrow → IsFound known narrow spread late later places result }
 {
     let (anchors, count) = anchors(runs, u64::from(longest), side);
     let tries = [(0, 1), (0, 2), (1, 1), (1, 2)];
@@ -531,7 +531,7 @@ fn by_longest(runs: &[u32], known: Option<u64>, longest: Pair) -> Option<Followe
         → AreCapturedRuns narrow spread late later place side places line runs.now
         → ((i : ℕ) → i + 1 < length runs.now → pair_at runs.now i ≤ longest.samples)
         → (0 < longest.samples → (longest.at + 1 < length runs.now) × (longest.samples ≡ pair_at runs.now longest.at))
-        → AllowsCells known narrow → IsFound narrow spread late later places result }
+        → AllowsCells known narrow → IsFound known narrow spread late later places result }
 {
     if longest.samples < SHORTEST_PAIR
         || longest.samples > LONGEST_PAIR
@@ -559,13 +559,13 @@ pub fn follower_of_runs(runs: &[u32], known: Option<u64>) -> Option<Follower>
     // It is found if these are 256 runs of a line in which it can be, and follows that line from its first edge on.
     ensures found { (narrow : Bounds) (spread late later place side : ℕ) (places line : List ℕ)
         → AreCapturedRuns narrow spread late later place side places line runs.now → AllowsCells known narrow
-        → IsFound narrow spread late later places result }
+        → IsFound known narrow spread late later places result }
 
     // So it is where edges lie near their places and cells are of one length but for one part in 32,768.
     ensures tolerance { (narrow : Bounds) (cell spread late later place side : ℕ) (places line : List ℕ)
         → AreDisplaced narrow spread late later places line runs.now → AreOfManySubframes place side line
         → IsAbout narrow cell 65536 → IsTolerable cell spread late later → AllowsCells known narrow
-        → IsFound narrow spread late later places result }
+        → IsFound known narrow spread late later places result }
 
     // All cells that it counts are those of the line, of these runs and of as many more as there are.
     ensures cells { (narrow : Bounds) (spread late later place side displaced : ℕ) (line all : List ℕ)

@@ -1,6 +1,6 @@
 use Rattle.std.proofs.Common.{◌*◌, ◌/◌, ◌∙◌, arith, refl}
 use Rattle.aes3_capture.specs.Captures.{IsAbout}
-use Rattle.aes3_recovery.proofs.Lines.{found-is-some, measured-line, not-both}
+use Rattle.aes3_recovery.proofs.Lines.{found-measured, measured-line, not-both, started-is-some}
 use Rattle.aes3_recovery.proofs.NearPeriods.{in-range-192, in-range-253}
 use Rattle.aes3_recovery.proofs.TwoPeriods.{IsPart, asked-in-range, first-line, first-period, like-a-preamble, second-line, second-period-of}
 use Rattle.aes3_recovery.proofs.measure.by_anchors.Goals.{in-Some, in-None, then-not-may_begin-via-then-not-may_begin}
@@ -75,7 +75,7 @@ returns-then-is_none-clause-found c = λ narrow spread late later place side pla
     part about in
     let last = ends.last_is in
     let started = c.start.ensures.found narrow spread late later place places line first_line captured.many.subframes last.three last.begins in
-    found-is-some narrow spread late later places c.start.result started.0 c.if-is_none.ensures
+    started-is-some narrow spread late later places c.start.result started.0 c.if-is_none.ensures
 
 pub returns-in_default-bounds_around-clause-found : goal.returns-in_default-bounds_around-clause-found
 returns-in_default-bounds_around-clause-found c = λ narrow spread late later place side places line captured ends allows.
@@ -134,4 +134,6 @@ returns-clause-found c = λ narrow spread late later place side places line capt
     let second_line = second-line narrow c.in-Some-bounds_around.bounds spread late later place side places line c.args.runs.now
     c.args.known c.period_of-measured.result c.unwrap_or-2.result captured second allows c.unwrap_or-2.ensures second_about in
     let again = c.start-2.ensures.found narrow spread late later place places line second_line captured.many.subframes last.three last.begins in
-    again.0
+    found-measured c.args.known narrow c.in-Some-bounds_around.bounds spread late later places c.args.runs.now
+    c.period_of-measured.result c.unwrap_or-2.result c.start-2.result again.0 c.start-2.ensures.line second c.unwrap_or-2.ensures
+    second_about

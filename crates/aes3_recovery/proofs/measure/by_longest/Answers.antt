@@ -37,11 +37,11 @@ returns-then-is_some-2-clause-found c = λ narrow spread late later place side p
     let is = longest-is-six narrow spread late later place side places line c.args.runs.now c.args.longest.samples c.args.longest.at
     captured most value in
     let found = c.by_pair-found.ensures.found narrow spread late later place side places line captured is.six (ap Of is.side_is) allows in
-    absurd (found-is-some narrow spread late later places c.by_pair-found.result found (sym c.is_some.ensures ∙ c.if-is_some.false))
+    absurd (found-is-some c.args.known narrow spread late later places c.by_pair-found.result found (sym c.is_some.ensures ∙ c.if-is_some.false))
 
 pub returns-clause-found : goal.returns-clause-found
 returns-clause-found c = λ narrow spread late later place side places line captured most value allows.
     let is = longest-is-six narrow spread late later place side places line c.args.runs.now c.args.longest.samples c.args.longest.at
     captured most value in
     let found = c.by_pair-found.ensures.found narrow spread late later place side places line captured is.six (ap Of is.side_is) allows in
-    absurd (found-is-some narrow spread late later places c.by_pair-found.result found (sym c.is_some.ensures ∙ c.if-is_some.false))
+    absurd (found-is-some c.args.known narrow spread late later places c.by_pair-found.result found (sym c.is_some.ensures ∙ c.if-is_some.false))

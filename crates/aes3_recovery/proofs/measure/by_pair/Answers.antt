@@ -12,7 +12,7 @@ loop-k-preserved c = λ narrow spread late later place s places line captured si
     elim c.if-first-last.branch [
       | then-first-last+else-is_some w ↦
           let found = (rw (zero, four) at w.by_anchors-found.ensures.found) narrow spread late later place s places line captured a.1 allows in
-          absurd (found-is-some narrow spread late later places w.by_anchors-found.result found (sym w.is_some.ensures ∙ w.if-is_some.false))
+          absurd (found-is-some c.args.known narrow spread late later places w.by_anchors-found.result found (sym w.is_some.ensures ∙ w.if-is_some.false))
       | else-first-last w ↦
           let past = (rw (zero, four) at w.if-first-last.false) in
           absurd (omega (arith, past))
