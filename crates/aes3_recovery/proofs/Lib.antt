@@ -22,6 +22,9 @@ mod Preambles
 mod SmallDistances
 mod TurnedRuns
 pub mod Recovering
+mod Keeping
+mod OnLine
+mod OnLineAhead
 pub mod Followed
 pub mod Steady
 pub mod WordBits

@@ -2,6 +2,7 @@ pub mod Beginning
 pub mod Distances
 pub mod Endings
 pub mod Levels
+pub mod Keeping
 pub mod LineFollowing
 pub mod Measuring
 pub mod Queues

@@ -130,6 +130,7 @@ fn level_behind(high: bool, count: usize) -> bool
 impl Recovery {
     ghost use Rattle.std.specs.List.{flat_map};
     ghost use Rattle.aes3_level.specs.Words.{level_of, low_cells, word_cells};
+    ghost use Rattle.aes3_capture.specs.declared.bounds.Bounds.{Bounds};
     ghost use Rattle.aes3_capture.specs.declared.follower.Follower.{Follower};
     ghost use Rattle.aes3_capture.specs.Captures.{Captures, IsBetween, SpreadsLate, margin, wander};
     ghost use Rattle.aes3_capture.specs.Following.{Follows};
@@ -139,6 +140,7 @@ impl Recovery {
     ghost use Rattle.aes3_recovery.specs.Beginning.{IsLineBehind};
     ghost use Rattle.aes3_recovery.specs.Recovering.{first_level};
     ghost use Rattle.aes3_recovery.specs.Endings.{finished};
+    ghost use Rattle.aes3_recovery.specs.Keeping.{IsKept, IsOnLine, StaysKept, StaysOnLine};
     ghost use Rattle.aes3_recovery.specs.Recovering.{AreEnded, AreRecovered, AreTold, Holds, Recovered, Setting};
     ghost use Rattle.aes3_recovery.specs.Distances.{total};
     ghost use Rattle.aes3_recovery.specs.Queues.{Queued, Writes, waiting};
@@ -282,6 +284,11 @@ impl Recovery {
         ensures some { 1 ≤ self.old.figures.samples → IfOk result (λ _. 1 ≤ self.new.figures.samples) }
         ensures begun { self.old.state ≢ Following → self.new.state ≡ Following → self.old.figures.measured + 1 < 2 ^ 64
             → IfOk result (λ _. self.old.figures.measured < self.new.figures.measured) }
+
+        // A line that is followed and goes on in these samples is followed behind them, and was not measured.
+        ensures stays { (narrow : Bounds) (spread : ℕ) (more : List Level)
+            → IsOnLine narrow spread (low_cells len levels ++ more) self.old
+            → IfOk result (λ _. StaysOnLine narrow spread more self.old self.new) }
     {
         self.count_samples(levels, len);
         let mut piece = Piece::new(levels, len);
@@ -353,6 +360,10 @@ impl Recovery {
         ensures up { IfOk result (λ _. self.old.figures.measured ≤ self.new.figures.measured) }
         ensures some { 1 ≤ self.old.figures.samples → IfOk result (λ _. 1 ≤ self.new.figures.samples) }
         ensures begun { IfOk result (λ _. self.old.state ≢ Following → self.new.state ≢ Following) }
+        ensures stays { (narrow : Bounds) (spread : ℕ) (more : List Level)
+            → IsOnLine narrow spread (flat_map word_cells words.now ++ more) self.old
+            → IfOk result (λ taken. StaysOnLine narrow spread
+            (if taken then more else flat_map word_cells words.now ++ more) self.old self.new) }
     {
         if self.is_still() {
             return self.take_still(sink, words);
@@ -518,6 +529,9 @@ impl Recovery {
             (runs ++ take count places.now.runs) self.new) }
         ensures none { count ≡ 0 → (self.new.state ≡ self.old.state)
             × (self.new.figures.measured ≡ self.old.figures.measured) }
+        ensures stays { self.old.state ≡ Following → (narrow : Bounds) (spread : ℕ) (more : List ℕ)
+            → IsKept self.old.line.follower self.old.spread narrow spread (take count places.now.runs ++ more)
+            → IfOk result (λ _. StaysKept narrow spread more self.old self.new) }
     {
         let frequency = self.line.follower().frequency();
         let mut high = high;
@@ -569,6 +583,10 @@ impl Recovery {
             → level_if high ≡ other (after level runs)
             → IfOk result (λ n. StandsBehind (T.taken sink.new) setting level
             (runs ++ take n (drop at places.now.runs)) self.new) }
+        ensures stays { self.old.state ≡ Following → (narrow : Bounds) (spread : ℕ) (more : List ℕ)
+            → IsKept self.old.line.follower self.old.spread narrow spread (drop at (take count places.now.runs) ++ more)
+            → IfOk result (λ n. StaysKept narrow spread (drop (at + n) (take count places.now.runs) ++ more)
+            self.old self.new) }
     {
         if together {
             match self.track(sink, high, places, at, count, frequency) {
@@ -613,6 +631,10 @@ impl Recovery {
             → level_if high ≡ other (after level runs)
             → IfOk result (λ n. StandsBehind (T.taken sink.new) setting level
             (runs ++ take n (drop at places.now.runs)) self.new) }
+        ensures stays { self.old.state ≡ Following → (narrow : Bounds) (spread : ℕ) (more : List ℕ)
+            → IsKept self.old.line.follower self.old.spread narrow spread (drop at (take count places.now.runs) ++ more)
+            → IfOk result (λ n. StaysKept narrow spread (drop (at + n) (take count places.now.runs) ++ more)
+            self.old self.new) }
     {
         if self.state != State::Following {
             return Ok(0);
@@ -666,6 +688,7 @@ impl Recovery {
         ensures begins { self.old.figures.samples ≡ 0 → 1 ≤ len
             → (level_if self.new.line.edges.high ≡ level_of (levels % 2)) × (self.new.line.edges.run ≡ 0) }
         ensures others { KeepsTold self.old self.new }
+        ensures distance { self.new.spread ≡ self.old.spread }
     {
         let before = self.figures.samples;
         self.figures.samples = before.saturating_add(u64::from(len));
@@ -688,6 +711,9 @@ impl Recovery {
         ensures told { self.old.state ≡ Following → RunTold T.taken self.old.line self.new.line sink.old sink.new
             result run (level_if high) }
         ensures noted { self.old.state ≡ Following → IfOk result (λ _. Noted self.old self.new) }
+        ensures stays { self.old.state ≡ Following → (narrow : Bounds) (spread : ℕ) (ahead : List ℕ)
+            → IsKept self.old.line.follower self.old.spread narrow spread (run ∷ ahead)
+            → IfOk result (λ _. StaysKept narrow spread ahead self.old self.new) }
         ensures edges { self.new.line.edges ≡ self.old.line.edges }
         ensures samples { self.new.figures.samples ≡ self.old.figures.samples }
         ensures stands { (setting : Setting) (level : Level) (done : List ℕ) (past : ℕ)
@@ -753,6 +779,9 @@ impl Recovery {
         ensures told { RunTold T.taken self.old.line self.new.line sink.old sink.new result run
             (level_if high) }
         ensures noted { IfOk result (λ _. Noted self.old self.new) }
+        ensures stays { self.old.state ≡ Following → (narrow : Bounds) (spread : ℕ) (ahead : List ℕ)
+            → IsKept self.old.line.follower self.old.spread narrow spread (run ∷ ahead)
+            → IfOk result (λ _. StaysKept narrow spread ahead self.old self.new) }
         ensures measured { self.new.figures.measured ≡ self.old.figures.measured }
         ensures keeps { KeepsRuns self.old self.new }
     {
@@ -958,6 +987,7 @@ impl Recovery {
         ensures most { result ≤ 2 ^ 30 }
         ensures least { 2 ^ 17 ≤ result }
         ensures any { self.now.found ≡ false → result ≡ 2 ^ 29 }
+        ensures cell { self.now.line.follower.bounds.low ≤ result }
     {
         if self.found {
             self.line.follower().period()
@@ -977,6 +1007,7 @@ impl Recovery {
         ensures alive { self.old.found ≡ false → self.old.line.edges.run < 524288
             → (self.new.state ≡ self.old.state) × (self.new.count ≡ self.old.count) }
         ensures near { self.old.line.edges.run ≤ 64 → self.new.state ≡ self.old.state }
+        ensures awake { 1024 * self.old.line.edges.run < self.old.line.follower.bounds.low → self.new ≡ self.old }
         ensures still { self.old.state ≡ Still → self.old.count ≡ 0
             → (self.new.state ≡ Still) × (self.new.count ≡ 0) }
         ensures state { self.new.state ≡ Following → self.old.state ≡ Following }

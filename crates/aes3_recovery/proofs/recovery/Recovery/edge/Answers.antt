@@ -6,7 +6,7 @@ use Rattle.aes3_recovery.specs.Beginning.{Begun}
 use Rattle.aes3_recovery.specs.Recovering.{AreTold, Holds, StandsOn, runs_waiting}
 use Rattle.aes3_recovery.specs.declared.recovery.State.TheVariants.{Following, Measuring, Still}
 use Rattle.aes3_recovery.proofs.Beginning.{not-both}
-use Rattle.aes3_recovery.proofs.States.{measuring-apart}
+use Rattle.aes3_recovery.proofs.States.{apart, measuring-apart}
 use Rattle.aes3_recovery.proofs.Telling.{ok-map, stands-run, tell-ok, told-keeps}
 use Rattle.aes3_recovery.proofs.recovery.Recovery.edge.Goals as goal
 
@@ -73,3 +73,10 @@ returns-in-Measuring-clause-begins g c = λ none is setting level done past h tu
     (c.gather.ensures.begins none c.in-Measuring.is is setting level done
     (subst (λ n. AreTold (g.T.Sink.taken c.args.sink.now) setting level done n old) none_past h.told_is)
     (flips ∙ ap other turns ∙ other-other (after level (done ++ waits))))
+
+pub returns-in-Still-clause-stays : goal.returns-in-Still-clause-stays
+returns-in-Still-clause-stays g c = λ is narrow spread ahead k. absurd (apart c.args.self.now.state c.in-Still.is is)
+
+pub returns-in-Measuring-clause-stays : goal.returns-in-Measuring-clause-stays
+returns-in-Measuring-clause-stays g c = λ is narrow spread ahead k.
+    absurd (measuring-apart c.args.self.now.state c.in-Measuring.is is)

@@ -1,4 +1,7 @@
-use Rattle.std.proofs.Common.{◌∙◌, refl, rules}
+use Rattle.std.proofs.Common.{◌∙◌, refl, rules, subst, sym}
+use Rattle.aes3_capture.specs.Following.{Counted}
+use Rattle.aes3_recovery.specs.declared.line_follower.LineFollower.{LineFollower}
+use Rattle.aes3_recovery.proofs.OnLine.{stays-noted}
 use Rattle.aes3_recovery.proofs.recovery.Recovery.follow.Goals as goal
 
 pub returns-in-Ok-clause-told : goal.returns-in-Ok-clause-told
@@ -16,6 +19,14 @@ returns-in-Ok-clause-keeps g c =
       measured_is = k.measured_is;
       edges_are = k.edges_are ∙ c.in-Ok.ensures.told.edges;
     }
+
+pub returns-in-Ok-clause-stays : goal.returns-in-Ok-clause-stays
+returns-in-Ok-clause-stays g c = λ is narrow spread ahead k.
+    let old = c.args.self.now in
+    let told = c.in-Ok.ensures.told in
+    stays-noted old _ c.note.new.self c.args.run told.cells narrow spread ahead is
+    (subst (λ (l : LineFollower). Counted old.line.follower c.args.run told.cells l.follower) (sym c.note.ensures.line) told.counted)
+    c.note.ensures.noted refl refl refl k
 
 pub returns-in-Err-clause-told : goal.returns-in-Err-clause-told
 returns-in-Err-clause-told g c = search (rules, c.in-Err.ensures.told)

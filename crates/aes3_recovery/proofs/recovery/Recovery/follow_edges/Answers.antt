@@ -1,4 +1,5 @@
-use Rattle.std.proofs.Common.{◌≡◌, ◌++◌, ◌+◌, ◌<◌, ◌^◌, inl, inr, ap, ◌∙◌, sym, take, drop, refl, append-nil, arith, subst, List, ℕ}
+use Rattle.std.proofs.Common.{◌≡◌, ◌++◌, ◌+◌, ◌<◌, ◌≤◌, ◌^◌, inl, inr, ap, ◌∙◌, sym, take, drop, refl, append-nil, arith, subst, List, ℕ, length}
+use Rattle.std.proofs.lemmas.List.{drop_all, length-take-le}
 use Rattle.aes3_level.specs.Cells.{after, other}
 use Rattle.aes3_level.proofs.Runs.{after-append}
 use Rattle.aes3_recovery.specs.Recovering.{StandsBehind}
@@ -6,6 +7,8 @@ use Rattle.aes3_recovery.specs.RecoverySteps.{RunsCounted}
 use Rattle.aes3_recovery.specs.declared.recovery.State.TheVariants.{Following}
 use Rattle.aes3_recovery.proofs.Ahead.{length-some, take-on, take-on-from}
 use Rattle.aes3_recovery.proofs.FollowedAhead.{runs-chain, runs-none}
+use Rattle.aes3_recovery.specs.Keeping.{StaysKept}
+use Rattle.aes3_recovery.proofs.OnLineAhead.{stays-chain, stays-none}
 use Rattle.aes3_recovery.proofs.States.{following-or}
 use Rattle.aes3_recovery.proofs.recovery.Recovery.follow_edges.Goals as goal
 
@@ -21,6 +24,8 @@ loop-at-init g c = record {
   told = λ setting level runs w turns. subst
       (λ (x : List ℕ). StandsBehind (g.T.Sink.taken c.args.sink.now) setting level x c.args.self.now)
       (sym (append-nil runs)) w;
+  stays = λ is narrow spread more k.
+      stays-none c.args.self.now narrow spread (take c.args.count c.args.places.now.runs ++ more) is k;
 }
 
 pub loop-at-preserved : goal.loop-at-preserved
@@ -65,8 +70,25 @@ loop-at-preserved g c =
           (take-on runs all c.loop-at.at c.in-Ok.some _ (omega arith))
           (c.in-Ok.ensures.told setting level (runs ++ until) (v.told setting level runs w turns)
           (v.level (after level runs) turns ∙ ap other (sym (after-append level runs until))));
+      stays = λ is narrow spread more k.
+          let before = v.stays is narrow spread more k in
+          let left = take c.args.count all in
+          let step = c.in-Ok.ensures.stays before.state narrow spread more before.kept in
+          stays-chain c.args.self.now c.loop-at.self c.take_edges.new.self narrow spread (drop c.loop-at.at left ++ more) _
+          before step;
     }
 
 pub returns-clause-none : goal.returns-clause-none
 returns-clause-none g c = λ e. let within = c.loop-at.invariant.within in
     c.loop-at.invariant.none (omega (arith, e, within))
+
+pub returns-clause-stays : goal.returns-clause-stays
+returns-clause-stays g c = λ is narrow spread more k.
+    let left = take c.args.count c.args.places.now.runs in
+    let within = c.loop-at.invariant.within in
+    let end = c.loop-at-test.false in
+    let long : length left ≤ c.loop-at.at
+    = let most = length-take-le c.args.count c.args.places.now.runs (omega (arith, c.requires.few, c.args.places.now.many)) in
+    omega (arith, most, end) in
+    subst (λ (l : List ℕ). StaysKept narrow spread (l ++ more) c.args.self.now c.loop-at.self) (drop_all c.loop-at.at left long)
+    (c.loop-at.invariant.stays is narrow spread more k)

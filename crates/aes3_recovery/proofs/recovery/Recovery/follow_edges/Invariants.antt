@@ -1,7 +1,9 @@
-use Rattle.std.proofs.Common.{ℕ, List, ◌++◌, ◌≡◌, ◌≤◌, ◌<◌, ◌+◌, ◌^◌, ◌-◌, take}
+use Rattle.std.proofs.Common.{ℕ, List, ◌++◌, ◌≡◌, ◌≤◌, ◌<◌, ◌+◌, ◌^◌, ◌-◌, take, drop}
 use Rattle.aes3_level.specs.declared.level.Level.{Level}
 use Rattle.aes3_level.specs.Cells.{after, other}
+use Rattle.aes3_capture.specs.declared.bounds.Bounds.{Bounds}
 use Rattle.aes3_recovery.specs.Endings.{level_if}
+use Rattle.aes3_recovery.specs.Keeping.{IsKept, StaysKept}
 use Rattle.aes3_recovery.specs.Recovering.{Setting, StandsBehind}
 use Rattle.aes3_recovery.specs.RecoverySteps.{RunsCounted}
 use Rattle.aes3_recovery.specs.declared.recovery.State.TheVariants.{Following}
@@ -25,6 +27,9 @@ invariant-loop-at g l = record {
       → StandsBehind (g.T.Sink.taken l.fn.sink) setting level runs l.fn.self
       → level_if l.fn.high ≡ other (after level runs)
       → StandsBehind (g.T.Sink.taken l.sink) setting level (runs ++ take l.at l.fn.places.runs) l.self;
+  stays : l.fn.self.state ≡ Following → (narrow : Bounds) (spread : ℕ) (more : List ℕ)
+      → IsKept l.fn.self.line.follower l.fn.self.spread narrow spread (take l.count l.fn.places.runs ++ more)
+      → StaysKept narrow spread (drop l.at (take l.count l.fn.places.runs) ++ more) l.fn.self l.self;
 }
 
 abbrev pub decreases-loop-at : goal.decreases-loop-at

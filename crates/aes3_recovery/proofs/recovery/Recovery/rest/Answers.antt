@@ -21,3 +21,7 @@ returns-clause-alive g c = λ none short.
 pub returns-clause-near : goal.returns-clause-near
 returns-clause-near g c = λ near.
     absurd (omega (arith, c.if-from-period.false, c.from.ensures, c.waiting.ensures, c.period.ensures.least, near))
+
+pub returns-clause-awake : goal.returns-clause-awake
+returns-clause-awake g c = λ alive.
+    absurd (omega (arith, c.if-from-period.false, c.from.ensures, c.waiting.ensures, c.period.ensures.cell, alive))

@@ -7,6 +7,7 @@ use Rattle.aes3_recovery.proofs.Telling.{ok-const, ok-map}
 use Rattle.aes3_recovery.proofs.Beginning.{began-edge, began-ok, began-on, found-or, none-measured, none-or, not-begun, not-both}
 use Rattle.aes3_recovery.proofs.Followed.{captured-late, followed-begins, followed-edge, followed-rest, gives-ok}
 use Rattle.aes3_recovery.proofs.Joining.{joined-gives}
+use Rattle.aes3_recovery.proofs.OnLine.{on-line-edge, on-line-end, on-line-same}
 use Rattle.aes3_recovery.proofs.Recovering.{recovered-edge, recovered-rest-ok, recovered-word, turned-ended}
 use Rattle.aes3_recovery.proofs.States.{begun-more, following-or}
 use Rattle.aes3_recovery.proofs.recovery.Recovery.take.Goals as goal
@@ -37,6 +38,15 @@ loop-run-init g c = record {
       rw c.new-piece.ensures
       (awaits-word (g.T.Sink.taken c.args.sink.now) setting seen c.args.len c.args.levels c.args.self.now
       c.count_samples.new.self counted.others counted.state counted.samples counted.line counted.none counted.begins a);
+  stays = λ narrow spread more w.
+      let counted = c.count_samples.ensures in
+      let some = w.some in
+      let samples = counted.samples in
+      rw c.new-piece.ensures (record {
+        on = on-line-same c.args.self.now c.count_samples.new.self narrow spread (low_cells c.args.len c.args.levels ++ more)
+            (counted.line some) counted.distance counted.state (omega (arith, some, samples)) w;
+        measured = counted.measured;
+      });
 }
 
 pub loop-run-preserved : goal.loop-run-preserved
@@ -169,6 +179,12 @@ loop-run-preserved g c =
           c.next_edge.ensures.follower c.next_edge.ensures.queue
           (not c.is_high-high.result) (ap not c.is_high-high.ensures) (c.in-Ok.ensures.told follows) f)
           (c.loop-run.invariant.awaits setting seen a);
+      stays = λ narrow spread more w.
+          let before = c.loop-run.invariant.stays narrow spread more w in
+          let next = on-line-edge c.loop-run.self _ c.edge.new.self c.loop-run.piece c.next_edge.new.piece c.in-Some.run' narrow
+          spread more c.loop-run.piece.few c.in-Some.ensures.edge c.next_edge.ensures.follower refl refl c.edge.ensures.edges
+          c.edge.ensures.samples (λ ahead k. c.in-Ok.ensures.stays before.on.state narrow spread ahead k) before.on in
+          record { on = next.on; measured = next.measured ∙ before.measured };
     }
 
 pub returns-clause-follows : goal.returns-clause-follows
@@ -302,3 +318,9 @@ returns-clause-begun g c = λ none is room.
     let before = c.loop-run.invariant.begun none (c.rest.ensures.state is) room in
     let kept = c.rest.ensures.measured in
     ok-const c.rest.result _ (omega (arith, before, kept))
+
+pub returns-clause-stays : goal.returns-clause-stays
+returns-clause-stays g c = λ narrow spread more w.
+    on-line-end c.rest.result c.args.self.now c.loop-run.self _ c.rest.new.self c.loop-run.piece narrow spread more
+    c.loop-run.piece.few c.in_default.ensures.rest c.next_edge.ensures.follower refl refl refl c.rest.ensures.awake
+    (c.loop-run.invariant.stays narrow spread more w)

@@ -1,8 +1,10 @@
 use Rattle.std.proofs.Common.{ℕ, List, [], ◌++◌, ◌≡◌, ◌≤◌, ◌<◌, ◌+◌, ◌^◌, false}
 use Rattle.aes3_level.specs.declared.level.Level.{Level}
 use Rattle.aes3_level.specs.Words.{low_cells}
+use Rattle.aes3_capture.specs.declared.bounds.Bounds.{Bounds}
 use Rattle.aes3_capture.specs.declared.follower.Follower.{Follower}
 use Rattle.aes3_recovery.specs.Beginning.{Awaits, Began}
+use Rattle.aes3_recovery.specs.Keeping.{IsOnLine, StaysOnLine}
 use Rattle.aes3_recovery.specs.Runs.{levels_in}
 use Rattle.aes3_recovery.specs.LineFollowing.{Followed}
 use Rattle.aes3_recovery.specs.Recovering.{Recovered, Setting}
@@ -32,6 +34,9 @@ invariant-loop-run g l = record {
       → Began (g.T.Sink.taken l.sink) setting (seen ++ low_cells l.fn.len l.fn.levels) (levels_in l.piece) l.self;
   awaits : (setting : Setting) (seen : List Level) → Awaits (g.T.Sink.taken l.fn.sink) setting seen [] l.fn.self
       → Awaits (g.T.Sink.taken l.sink) setting (seen ++ low_cells l.fn.len l.fn.levels) (levels_in l.piece) l.self;
+  stays : (narrow : Bounds) (spread : ℕ) (more : List Level)
+      → IsOnLine narrow spread (low_cells l.fn.len l.fn.levels ++ more) l.fn.self
+      → StaysOnLine narrow spread (levels_in l.piece ++ more) l.fn.self l.self;
 }
 
 abbrev pub decreases-loop-run : goal.decreases-loop-run

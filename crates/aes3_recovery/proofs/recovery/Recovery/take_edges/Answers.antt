@@ -1,10 +1,11 @@
-use Rattle.std.proofs.Common.{◌≡◌, ◌∷◌, [], ap, ◌∙◌, sym, take, drop, refl}
+use Rattle.std.proofs.Common.{◌≡◌, ◌∷◌, [], ap, ◌∙◌, sym, take, drop, refl, arith}
 use Rattle.aes3_level.specs.Cells.{after, other}
 use Rattle.aes3_recovery.specs.Endings.{level_if}
 use Rattle.aes3_recovery.specs.Recovering.{StandsBehind}
 use Rattle.aes3_recovery.specs.RecoverySteps.{RunsCounted}
 use Rattle.aes3_recovery.proofs.Ahead.{stands-single}
 use Rattle.aes3_recovery.proofs.FollowedAhead.{run-counted, runs-same}
+use Rattle.aes3_recovery.proofs.OnLineAhead.{stays-single}
 use Rattle.aes3_recovery.proofs.SameLevels.{level-not}
 use Rattle.aes3_recovery.proofs.recovery.Recovery.take_edges.Goals.{then-together+in-Ok-eq0, else-together}
 use Rattle.aes3_recovery.proofs.recovery.Recovery.take_edges.Goals as goal
@@ -54,3 +55,15 @@ returns-in-Ok-clause-told g c = λ setting level runs w turns.
     c.run-run.ensures
     (λ done h all. c.in-Ok.ensures.stands setting level done 0 h (turns ∙ ap (λ x. other (after level x)) (sym all))
     (ap level_if c.stand.ensures.high ∙ level-not c.args.high))
+
+pub returns-in-Ok-clause-stays : goal.returns-in-Ok-clause-stays
+returns-in-Ok-clause-stays g c = λ is narrow spread more k.
+    let same : c.if-together.self ≡ c.args.self.now
+    = elim c.if-together.branch [
+      | then-together+in-Ok-eq0 x ↦ let e = x.in-Ok-eq0.ensures.none x.in-Ok-eq0.field-0-test in x.self-is ∙ e.0
+      | else-together x ↦ x.self-is
+    ] in
+    stays-single c.args.self.now _ c.edge.new.self narrow spread c.args.at c.args.count c.run-run.result
+    c.args.places.now.runs more (c.stand.ensures.follower ∙ ap (λ s. s.line.follower) same) (ap (λ s. s.spread) same)
+    (ap (λ s. s.figures.measured) same) c.requires.within (omega (arith, c.requires.few, c.args.places.now.many)) c.run-run.ensures
+    (λ ahead kept. c.in-Ok.ensures.stays (ap (λ s. s.state) same ∙ is) narrow spread ahead kept) k

@@ -12,6 +12,7 @@ use Rattle.aes3_recovery.proofs.Ahead.{recovered-ahead}
 use Rattle.aes3_recovery.proofs.Awaiting.{awaits-ahead}
 use Rattle.aes3_recovery.proofs.Followed.{captured-late, gives-ok}
 use Rattle.aes3_recovery.proofs.FollowedAhead.{followed-ahead}
+use Rattle.aes3_recovery.proofs.OnLineAhead.{on-line-ahead}
 use Rattle.aes3_recovery.proofs.recovery.Recovery.take_words.Goals as goal
 
 pub returns-in-Ok-clause-recovered : goal.returns-in-Ok-clause-recovered
@@ -158,3 +159,31 @@ returns-in-Ok-clause-late g c =
     returns-in-Ok-clause-mean g c was is equal room begun front first before seen same other_mean displaced cells w follows
     (captured-late first before cells (seen ++ flat_map word_cells c.args.words.now) same other_mean displaced spread late
     later narrow above below s o captured) taken
+
+pub returns-in-Ok-clause-stays : goal.returns-in-Ok-clause-stays
+returns-in-Ok-clause-stays g c = λ narrow spread more w.
+    let old = c.args.self.now in
+    let levels = flat_map word_cells c.args.words.now in
+    let count = c.find-count.result in
+    let waits = c.waiting-waiting.ensures in
+    let near = c.is_quick.ensures.waiting c.if-not-is_quick.false in
+    let from = 128 - c.waiting-waiting.result in
+    let places = turns (level_if old.line.edges.high) 128 levels in
+    let found : take (count + 1) c.find-count.new.self.places ≡ from ∷ places
+    = c.find-count.ensures.places ∙ ap (λ b. from ∷ turns (level_if b) 128 levels) c.is_high-high.ensures in
+    let placed : take (count + 1) c.measure-longest.new.self.places ≡ from ∷ places
+    = ap (take (count + 1)) c.measure-longest.ensures.places ∙ found in
+    let many : length levels ≡ 64 * length c.args.words.now
+    = length-words c.args.words.now ∙ ap (λ n. length c.args.words.now * n) word_len_64
+    ∙ (let n = length c.args.words.now in let e : n * 64 ≡ 64 * n = omega arith in e) in
+    let high : level_if c.is_high-high.result ≡ other (other (level_if old.line.edges.high))
+    = ap level_if c.is_high-high.ensures ∙ sym (other-other (level_if old.line.edges.high)) in
+    let sum = c.saturating_add-self.ensures in
+    let kept = c.follow_edges.ensures.samples in
+    let some = w.some in
+    on-line-ahead old c.follow_edges.new.self _ narrow spread levels more (take count c.measure-longest.new.self.runs) from
+    c.behind-behind.result (omega (arith, waits, near)) (c.measure-longest.ensures.runs from places found)
+    (c.behind-behind.ensures from places placed ∙ ap (λ n. (128 + n) - last_place from places) (sym many))
+    (ap level_if (search (rules, c.stand.ensures.high)) ∙ c.in-Ok.ensures.level (other (level_if old.line.edges.high)) high)
+    c.stand.ensures.run c.stand.ensures.follower refl refl refl (omega (arith, sum, kept, some))
+    (λ ahead k. c.in-Ok.ensures.stays w.state narrow spread ahead k) w

@@ -1,8 +1,9 @@
 use Rattle.std.proofs.Common.{◌≡◌, ◌-◌, ap, ◌∙◌, sym, subst, take, drop, length, List, ℕ, arith, rules}
 use Rattle.std.proofs.lemmas.List.{length-take, take-take}
 use Rattle.aes3_level.specs.Cells.{after}
-use Rattle.aes3_capture.specs.Following.{Tracked}
+use Rattle.aes3_capture.specs.Following.{Tracked, middle_of}
 use Rattle.aes3_recovery.proofs.Ahead.{runs-tracked, stands-counted, tracked-short}
+use Rattle.aes3_recovery.proofs.OnLineAhead.{stays-tracked, stays-untracked}
 use Rattle.aes3_recovery.proofs.recovery.Recovery.track.Goals as goal
 
 pub put_runs-requires-clause-short : goal.put_runs-requires-clause-short
@@ -43,3 +44,22 @@ returns-in-Ok-clause-told g c = λ setting level runs w turns.
     (take c.track-some.result (drop c.args.at c.args.places.now.runs))
     (search (rules, c.ne.ensures, c.if-ne.false, c.if-ne.ensures)) w
     (returns-in-Ok-clause-counted g c (after level runs) turns) k.found_is k.known_is k.measured_is k.count_is
+
+pub returns-in-Ok-clause-stays : goal.returns-in-Ok-clause-stays
+returns-in-Ok-clause-stays g c = λ is narrow spread more k.
+    let old = c.args.self.now in
+    let new = c.note_all.new.self in
+    let n = c.track-some.result in
+    let noted = c.note_all.ensures.noted in
+    let counts = take n c.guess-cells.result in
+    let grid = take n c.track-some.new.places in
+    let follower : new.line.follower ≡ c.track-some.new.self
+    = ap (λ l. l.follower) noted.line_is ∙ c.follow.ensures.follower in
+    let from : Tracked old.line.follower (take n c.runs.result.now) counts grid c.track-some.new.self
+    = subst (λ f. Tracked f (take n c.runs.result.now) counts grid c.track-some.new.self)
+    c.follower-follower.ensures c.track-some.ensures.tracked in
+    stays-tracked old new narrow spread _ c.args.at c.args.count n c.args.places.now.runs c.runs.result.now counts grid
+    (take n c.distances_of-distances.result.each) more is noted.state_is noted.keeps.measured_is (omega (arith, c.requires.within))
+    c.runs.ensures (subst (λ f. Tracked old.line.follower (take n c.runs.result.now) counts grid f) (sym follower) from)
+    (ap middle_of (c.bounds-low.ensures ∙ ap (λ f. f.bounds) c.follower-follower.ensures)) c.distances_of-distances.ensures.each
+    noted.spread k
