@@ -180,10 +180,8 @@ fn from_pcm(alloc: Global, options: &ArgMatches<'_>) -> Result<Job, LineFault>
     ensures job { IfOk result (AsksFor (codes "from-pcm") (options_of options.now)) }
     ensures fault { IfErr result (IsBadOptionOf (codes "from-pcm") (options_of options.now)) }
 {
-    match change(alloc, options, Beginning::Unclaimed, help::FROM_PCM.usage) {
-        Ok(change) => sampling(options, change),
-        Err(fault) => Err(fault),
-    }
+    let change = change(alloc, options, Beginning::Unclaimed, help::FROM_PCM.usage)?;
+    sampling(options, change)
 }
 
 /// The job of `from-pcm` with this change. Where the status has to take all settings and leaves one
@@ -241,14 +239,12 @@ fn rewrite(
     ensures fault { IfErr result (IsBadOptionOf (codes "rewrite") (options_of options.now)) }
 {
     let exact = flag(options, "exact");
-    match change(alloc, options, Beginning::OfEachBlock, help::REWRITE.usage) {
-        Ok(change) => Ok(Job::Stream {
-            input,
-            output,
-            work: StreamWork::Rewrite { change, exact },
-        }),
-        Err(fault) => Err(fault),
-    }
+    let change = change(alloc, options, Beginning::OfEachBlock, help::REWRITE.usage)?;
+    Ok(Job::Stream {
+        input,
+        output,
+        work: StreamWork::Rewrite { change, exact },
+    })
 }
 
 /// The change that the options of `rewrite` and `from-pcm` ask for, where a channel without another

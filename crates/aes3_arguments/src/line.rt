@@ -73,10 +73,8 @@ pub fn job_of_words<'a>(alloc: Global, words: &'a [&'a str]) -> Result<Job, Line
     ensures job { IfOk result (IsJobOf (map (λ word. word.now) words.now)) }
     ensures fault { IfErr result (IsFaultOf (map (λ word. word.now) words.now)) }
 {
-    match line_of_words(alloc, words) {
-        Ok(line) => Ok(line.job),
-        Err(fault) => Err(fault),
-    }
+    let line = line_of_words(alloc, words)?;
+    Ok(line.job)
 }
 
 /// What words behind `--explain` are told.
