@@ -195,14 +195,11 @@ impl Known {
         ensures near { IfErr result (λ e. e.at ≤ MOST_HEAD) }
     {
         if self.is_format(head) {
-            return match format_of(head) {
-                Ok(format) => Ok(Known {
-                    is_long: self.is_long,
-                    sizes: self.sizes,
-                    format: Some(format),
-                }),
-                Err(error) => Err(error),
-            };
+            return Ok(Known {
+                is_long: self.is_long,
+                sizes: self.sizes,
+                format: Some(format_of(head)?),
+            });
         }
         if self.is_sizes(head) {
             return self.with_sizes(head);

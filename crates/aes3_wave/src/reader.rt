@@ -23,10 +23,7 @@ impl Known {
             return Ok(Step::More);
         }
         if is_data(front) {
-            return match self.header(at, front) {
-                Ok(header) => Ok(Step::Samples(header)),
-                Err(error) => Err(error),
-            };
+            return Ok(Step::Samples(self.header(at, front)?));
         }
         let head_len = self.head_len(front);
         if front.len() < head_len {
@@ -53,13 +50,10 @@ fn first_step(front: &[u8]) -> Result<Step, HeaderError>
     if front.len() < FIRST_LEN {
         return Ok(Step::More);
     }
-    match Known::of_first(&front[..FIRST_LEN]) {
-        Ok(known) => Ok(Step::Next {
-            known,
-            len: FIRST_LEN as u64,
-        }),
-        Err(error) => Err(error),
-    }
+    Ok(Step::Next {
+        known: Known::of_first(&front[..FIRST_LEN])?,
+        len: FIRST_LEN as u64,
+    })
 }
 
 impl HeaderReader {
@@ -130,26 +124,25 @@ impl HeaderReader {
         let mut held = self.held;
         held[self.len] = octet;
         let len = self.len + 1;
-        match self.decide(&held[..len]) {
-            Ok(Step::More) => {
+        match self.decide(&held[..len])? {
+            Step::More => {
                 self.seen += 1;
                 self.held = held;
                 self.len = len;
             }
-            Ok(Step::Next { known, len: part }) => {
+            Step::Next { known, len: part } => {
                 self.seen += 1;
                 self.stage = Stage::Chunks(known);
                 self.len = 0;
                 self.left = part.saturating_sub(len as u64);
                 self.at = self.seen + self.left;
             }
-            Ok(Step::Samples(header)) => {
+            Step::Samples(header) => {
                 self.seen += 1;
                 self.stage = Stage::Whole(header);
                 self.len = 0;
                 self.at = self.seen;
             }
-            Err(error) => return Err(error),
         }
         Ok(())
     }
@@ -165,10 +158,8 @@ impl HeaderReader {
         ensures seen { IfOk result (λ n. self.new.seen ≡ self.old.seen + n) }
     {
         if self.left == 0 {
-            return match self.take_octet(piece[0]) {
-                Ok(()) => Ok(1),
-                Err(error) => Err(error),
-            };
+            self.take_octet(piece[0])?;
+            return Ok(1);
         }
         let n = self.left.min(piece.len() as u64);
         self.seen += n;
@@ -192,10 +183,7 @@ impl HeaderReader {
             if self.header().is_some() {
                 return Ok(at);
             }
-            match self.take_front(&piece[at..]) {
-                Ok(n) => at += n,
-                Err(error) => return Err(error),
-            }
+            at += self.take_front(&piece[at..])?;
         }
         Ok(at)
     }

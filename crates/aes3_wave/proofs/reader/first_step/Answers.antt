@@ -1,9 +1,12 @@
 use Rattle.std.proofs.Common.{arith}
+use Rattle.std.proofs.lemmas.Result.{err_from_is_err_and}
 use Rattle.aes3_wave.proofs.Steps.{first-next, first-refused}
 use Rattle.aes3_wave.proofs.reader.first_step.Goals as goal
 
-pub returns-in-Ok : goal.returns-in-Ok
-returns-in-Ok c = λ at. first-next at c.args.front.now c.in-Ok.known (omega arith) c.in-Ok.ensures.known
+pub returns : goal.returns
+returns c = λ at. first-next at c.args.front.now c.in_ok-of_first.field-0 (omega arith) c.in_ok-of_first.ensures.known
 
-pub returns-in-Err : goal.returns-in-Err
-returns-in-Err c = λ _. first-refused c.args.front.now c.in-Err.error (omega arith) c.in-Err.ensures.known
+pub returns-in_err-of_first : goal.returns-in_err-of_first
+returns-in_err-of_first c =
+    let p = err_from_is_err_and c.from_residual.result c.from_residual.ensures.1 in
+    rw (p.1, p.2) (λ _. first-refused c.args.front.now _ (omega arith) c.in_err-of_first.ensures.known)
