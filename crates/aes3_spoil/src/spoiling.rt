@@ -191,15 +191,13 @@ pub fn spoil<S: Source, T: Sink>(
     ensures passed_on { IfOk result (λ _. T.passed sink.new ≡ T.taken sink.new) }
 {
     let mut taker = Spoiler::new(output, errors);
-    match drive(source, sink, max_bytes, input, &mut taker) {
-        Ok((bytes, cells)) => Ok(Counts {
-            bytes,
-            cells,
-            blocks: 0,
-            faults: 0,
-            unfinished: 0,
-            marks: 0,
-        }),
-        Err(error) => Err(error),
-    }
+    let (bytes, cells) = drive(source, sink, max_bytes, input, &mut taker)?;
+    Ok(Counts {
+        bytes,
+        cells,
+        blocks: 0,
+        faults: 0,
+        unfinished: 0,
+        marks: 0,
+    })
 }
