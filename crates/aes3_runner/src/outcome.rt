@@ -48,47 +48,40 @@ pub struct Outcome {
 pub(crate) fn plain(ran: Result<Counts, RunError>) -> Result<Outcome, RunError>
     ensures { result ≡ answer_as of_counts ran }
 {
-    match ran {
-        Ok(counts) => Ok(Outcome {
-            counts,
-            remark: Remark::Nothing,
-        }),
-        Err(error) => Err(error),
-    }
+    Ok(Outcome {
+        counts: ran?,
+        remark: Remark::Nothing,
+    })
 }
 
 /// The answer of a job that fills time.
 pub(crate) fn filled(ran: Result<Filled, RunError>) -> Result<Outcome, RunError>
     ensures { result ≡ answer_as of_filled ran }
 {
-    match ran {
-        Ok(filled) => Ok(Outcome {
-            counts: filled.counts,
-            remark: Remark::Filled {
-                frames: filled.frames,
-            },
-        }),
-        Err(error) => Err(error),
-    }
+    let filled = ran?;
+    Ok(Outcome {
+        counts: filled.counts,
+        remark: Remark::Filled {
+            frames: filled.frames,
+        },
+    })
 }
 
 /// The answer of a job that reads words which may begin inside a block.
 pub(crate) fn encoded(ran: Result<EncodedWords, RunError>) -> Result<Outcome, RunError>
     ensures { result ≡ answer_as of_words ran }
 {
-    match ran {
-        Ok(encoded) => Ok(Outcome {
-            counts: encoded.counts,
-            remark: if encoded.left_out == 0 {
-                Remark::Nothing
-            } else {
-                Remark::LeftOut {
-                    words: encoded.left_out,
-                }
-            },
-        }),
-        Err(error) => Err(error),
-    }
+    let encoded = ran?;
+    Ok(Outcome {
+        counts: encoded.counts,
+        remark: if encoded.left_out == 0 {
+            Remark::Nothing
+        } else {
+            Remark::LeftOut {
+                words: encoded.left_out,
+            }
+        },
+    })
 }
 
 /// What is remarked on a job that gives blocks exactly, up to the first that it can't.
@@ -105,13 +98,11 @@ fn exactness(refused: Option<u64>) -> Remark
 pub(crate) fn exact(ran: Result<Exact, RunError>) -> Result<Outcome, RunError>
     ensures { result ≡ answer_as of_exact ran }
 {
-    match ran {
-        Ok(exact) => Ok(Outcome {
-            counts: exact.counts,
-            remark: exactness(exact.refused),
-        }),
-        Err(error) => Err(error),
-    }
+    let exact = ran?;
+    Ok(Outcome {
+        counts: exact.counts,
+        remark: exactness(exact.refused),
+    })
 }
 
 /// The answer of a job that changes the channel status of blocks.
@@ -121,23 +112,23 @@ pub(crate) fn rewritten(
 ) -> Result<Outcome, RunError>
     ensures { result ≡ answer_as (of_rewritten change.now) ran }
 {
-    match ran {
-        Ok(rewritten) if rewritten.counts.blocks == 0 => plain(Ok(rewritten.counts)),
-        Ok(rewritten) => Ok(Outcome {
-            counts: rewritten.counts,
-            remark: Remark::Settings {
-                first: Met {
-                    settings: change.settings1,
-                    taken: rewritten.first,
-                },
-                second: Met {
-                    settings: change.settings2,
-                    taken: rewritten.second,
-                },
-            },
-        }),
-        Err(error) => Err(error),
+    let rewritten = ran?;
+    if rewritten.counts.blocks == 0 {
+        return plain(Ok(rewritten.counts));
     }
+    Ok(Outcome {
+        counts: rewritten.counts,
+        remark: Remark::Settings {
+            first: Met {
+                settings: change.settings1,
+                taken: rewritten.first,
+            },
+            second: Met {
+                settings: change.settings2,
+                taken: rewritten.second,
+            },
+        },
+    })
 }
 
 /// What the status that blocks of samples have takes of settings, where some are given.
@@ -159,21 +150,21 @@ fn taken_of(status: &Option<[u8; 24]>, settings: &Option<Settings>) -> Taken
 pub(crate) fn sampled(ran: Result<Counts, RunError>, change: &Change) -> Result<Outcome, RunError>
     ensures { result ≡ answer_as (of_samples change.now) ran }
 {
-    match ran {
-        Ok(counts) if counts.bytes == 0 => plain(Ok(counts)),
-        Ok(counts) => Ok(Outcome {
-            counts,
-            remark: Remark::Settings {
-                first: Met {
-                    settings: change.settings1,
-                    taken: taken_of(&change.status1, &change.settings1),
-                },
-                second: Met {
-                    settings: change.settings2,
-                    taken: taken_of(&change.status2, &change.settings2),
-                },
-            },
-        }),
-        Err(error) => Err(error),
+    let counts = ran?;
+    if counts.bytes == 0 {
+        return plain(Ok(counts));
     }
+    Ok(Outcome {
+        counts,
+        remark: Remark::Settings {
+            first: Met {
+                settings: change.settings1,
+                taken: taken_of(&change.status1, &change.settings1),
+            },
+            second: Met {
+                settings: change.settings2,
+                taken: taken_of(&change.status2, &change.settings2),
+            },
+        },
+    })
 }

@@ -72,10 +72,8 @@ fn put_rest<T: Sink>(text: &str, remedy: &str, sink: &mut T) -> Result<(), Fault
     requires room { T.failed sink.old + 1 < 2 ^ 64 }
     ensures { Wrote T.taken T.failed sink.old sink.new (text.now ++ remedy.now) result }
 {
-    match write_all(sink, text.as_bytes()) {
-        Ok(()) => write_all(sink, remedy.as_bytes()),
-        Err(fault) => Err(fault),
-    }
+    write_all(sink, text.as_bytes())?;
+    write_all(sink, remedy.as_bytes())
 }
 
 /// Writes the line of a setting for a channel.
@@ -87,10 +85,8 @@ fn put_line<T: Sink>(channel: u8, text: &str, remedy: &str, sink: &mut T) -> Res
     ensures { Wrote T.taken T.failed sink.old sink.new
         (told_line channel text.now remedy.now) result }
 {
-    match put_head(channel, sink) {
-        Ok(()) => put_rest(text, remedy, sink),
-        Err(fault) => Err(fault),
-    }
+    put_head(channel, sink)?;
+    put_rest(text, remedy, sink)
 }
 
 /// Writes the line of text number `at` of a channel's settings, where no block took it.
@@ -134,10 +130,7 @@ fn put_lines<T: Sink>(
         (untaken_lines channel settings.now taken.now 0 (map (λ text. text.now) texts.now)) result }
 {
     'lines: for (at, text) in texts.iter().enumerate() {
-        match put_if_untaken(channel, settings, taken, at, text, sink) {
-            Ok(()) => {}
-            Err(fault) => return Err(fault),
-        }
+        put_if_untaken(channel, settings, taken, at, text, sink)?;
     }
     Ok(())
 }
@@ -173,10 +166,8 @@ fn put_settings<T: Sink>(
         (met_lines 1 (texts_of typed.now.first) first.now
         ++ met_lines 2 (texts_of typed.now.second) second.now) result }
 {
-    match put_untaken(1, typed.first.as_slice(), first, sink) {
-        Ok(()) => put_untaken(2, typed.second.as_slice(), second, sink),
-        Err(fault) => Err(fault),
-    }
+    put_untaken(1, typed.first.as_slice(), first, sink)?;
+    put_untaken(2, typed.second.as_slice(), second, sink)
 }
 
 /// Writes what there is to remark.

@@ -1,6 +1,7 @@
 use Rattle.std.proofs.Common.{◌≡◌, ℕ, ◌+◌, List, [], Bor, map, length, take, refl, ap, sym, ◌∙◌, arith, rules}
 use Rattle.std.proofs.Math.ListN.{get_or-map}
 use Rattle.std.proofs.lemmas.List.{length-map, take_all}
+use Rattle.std.proofs.lemmas.Result.{err_from_is_err_and}
 use Rattle.aes3_cell.proofs.Growing.{grew-none, grew-is, grew-join, front-is, front-join, front-more}
 use Rattle.aes3_settings.specs.Untaken.{untaken_line, untaken_lines}
 use Rattle.aes3_runner.proofs.RemarkLines.{lines-next, lines-rest}
@@ -21,29 +22,31 @@ lines-preserved g c =
       grew = grew-is (lines-next c.args.channel c.args.settings.now c.args.taken.now texts c.lines.at (omega (arith, len)))
           (grew-join {x = before} c.lines.invariant.grew
           (grew-is (ap (untaken_line c.args.channel c.args.settings.now c.args.taken.now c.lines.at) text)
-          (search (rules, c.in-Ok.ensures.grew))));
-      quiet = c.in-Ok.ensures.count ∙ c.lines.invariant.quiet;
+          (search (rules, c.in_ok-put_if_untaken.ensures.grew))));
+      quiet = c.in_ok-put_if_untaken.ensures.count ∙ c.lines.invariant.quiet;
     }
 
-pub returns-in-Err : goal.returns-in-Err
-returns-in-Err g c =
+pub returns-in_err-put_if_untaken : goal.returns-in_err-put_if_untaken
+returns-in_err-put_if_untaken g c =
     let texts : List (List ℕ) = map (λ text. text.now) c.args.texts.now in
     let len : length texts ≡ length c.args.texts.now =
     length-map c.args.texts.now (λ (text : Bor (List ℕ)). text.now) in
     let text = sym (get_or-map (λ (text : Bor (List ℕ)). text.now) c.args.texts.now c.lines.at
     (record { ref_ptr = (0, 0); now = [] })) in
     let more = lines-rest c.args.channel c.args.settings.now c.args.taken.now texts c.lines.at (omega (arith, len)) in
-    record {
+    let p = err_from_is_err_and c.from_residual.result c.from_residual.ensures.1 in
+    let f = c.in_err-put_if_untaken.ensures.err in
+    rw p.1 (record {
       grew = tt;
       count = tt;
       err = (
-        c.in-Err.ensures.err.0 ∙ ap (λ n. n + 1) c.lines.invariant.quiet,
+        f.0 ∙ ap (λ n. n + 1) c.lines.invariant.quiet,
         front-is more.1
             (front-more (front-join c.lines.invariant.grew
             (front-is (ap (untaken_line c.args.channel c.args.settings.now c.args.taken.now c.lines.at) text)
-            (search (rules, c.in-Err.ensures.err.1)))) more.0),
+            (search (rules, f.1)))) more.0),
       );
-    }
+    })
 
 pub returns : goal.returns
 returns g c =
