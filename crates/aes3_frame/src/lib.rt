@@ -29,8 +29,8 @@ mod word;
 /// Which cells of a subframe are not those of its payload.
 mod wrong_cells;
 
-pub use block::{BLOCK_BYTES, BLOCK_CELLS, Block, SLOTS, zero_words};
 pub use aes3_slot::mark_of;
+pub use block::{BLOCK_BYTES, BLOCK_CELLS, Block, SLOTS, zero_words};
 pub use cells::fill_block_cells;
 pub use fill::Fill;
 pub use frame::Frame;
